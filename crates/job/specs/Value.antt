@@ -1,0 +1,63 @@
+-- The job as a value of the program, and the job of document 01 that it stands for.
+use Prim.Native.Nat.{ℕ, zero, suc, _+_, _≤_}
+use mathlib.Core.Bool.{Bool, false, cond}
+use mathlib.Core.List.{List, [], _∷_, map}
+use lib.ListN.{getD, take, replicate}
+use lib.Dec.{eqb}
+use Rattle.definition.specs.Job as paper
+use Rattle.job.specs.declared.Layout.{Layout}
+use Rattle.job.specs.declared.Cell.{Cell}
+use Rattle.job.specs.declared.Header.{Header}
+use Rattle.job.specs.declared.Job.{Job}
+
+abbrev pub emptyLayout : Layout
+emptyLayout = record { width = 0; heights = replicate 8 0 }
+
+abbrev pub emptyCell : Cell
+emptyCell = record { row = 0; given = 0; mirrorable = false; layouts = 0; first = emptyLayout; second = emptyLayout }
+
+abbrev pub emptyHeader : Header
+emptyHeader = record { rows = 0; sites = 0; displacement = 0; reordering = 0; step = 0; shift = 0; mirror = 0; swap = 0 }
+
+abbrev pub emptyJob : Job
+emptyJob = record { header = emptyHeader; count = 0; cells = replicate 64 emptyCell }
+
+-- what the logic reads past the end of an array of cells
+abbrev pub noLayout : Layout
+noLayout = record { width = 0; heights = [] }
+
+abbrev pub noCell : Cell
+noCell = record { row = 0; given = 0; mirrorable = false; layouts = 0; first = noLayout; second = noLayout }
+
+abbrev pub cellAt : Job → ℕ → Cell
+cellAt j k = getD (j .cells) k noCell
+
+-- ---- what a value stands for
+
+-- a cell of one row has 4 heights, a tall one 8
+abbrev pub heightCount : ℕ → ℕ
+heightCount row = cond (eqb row 2) 8 4
+
+abbrev pub layoutOf : ℕ → Layout → paper.Layout
+layoutOf row l = record { width = l .width; heights = take (heightCount row) (l .heights) }
+
+abbrev pub layoutsOf : Cell → List paper.Layout
+layoutsOf c = take (c .layouts) (layoutOf (c .row) (c .first) ∷ layoutOf (c .row) (c .second) ∷ [])
+
+unfoldable pub cellOf : Cell → paper.Cell
+cellOf c = record { row = c .row; given = c .given; mirrorable = c .mirrorable; layouts = layoutsOf c }
+
+unfoldable pub headerOf : Header → paper.Header
+headerOf h = record {
+  rows = h .rows;
+  sites = h .sites;
+  displacement = h .displacement;
+  reordering = h .reordering;
+  stepWeight = h .step;
+  shiftWeight = h .shift;
+  mirrorWeight = h .mirror;
+  swapWeight = h .swap;
+}
+
+unfoldable pub jobOf : Job → paper.Job
+jobOf j = record { header = headerOf (j .header); cells = map cellOf (take (j .count) (j .cells)) }

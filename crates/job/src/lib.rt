@@ -1,0 +1,101 @@
+// The job as a value: what the reader hands on, and its limits.
+ghost use mathlib.Core.Path.{_≡_};
+ghost use Rattle.job.specs.Value.{emptyLayout, emptyCell, emptyHeader, emptyJob};
+
+// A width and eight heights: left P, left N, right P, right N of row 0 (or of the single cell's row), then of row 1.
+pub struct Layout {
+    pub width: u32,
+    pub heights: [u32; 8],
+}
+
+// Row is 0, 1, or 2 for a tall cell; `layouts` is how many of the two are there.
+pub struct Cell {
+    pub row: u32,
+    pub given: u32,
+    pub mirrorable: bool,
+    pub layouts: u32,
+    pub first: Layout,
+    pub second: Layout,
+}
+
+pub struct Header {
+    pub rows: u32,
+    pub sites: u32,
+    pub displacement: u32,
+    pub reordering: u32,
+    pub step: u32,
+    pub shift: u32,
+    pub mirror: u32,
+    pub swap: u32,
+}
+
+// The first `count` cells are the job's, in file order.
+pub struct Job {
+    pub header: Header,
+    pub count: usize,
+    pub cells: [Cell; 64],
+}
+
+impl Layout {
+    pub fn empty() -> Layout
+        ensures { λ r. ⌜ r ≡ emptyLayout ⌝ }
+    {
+        Layout {
+            width: 0,
+            heights: [0u32; 8],
+        }
+    }
+}
+
+impl Cell {
+    pub fn empty() -> Cell
+        ensures { λ r. ⌜ r ≡ emptyCell ⌝ }
+    {
+        let l = Layout::empty();
+        Cell {
+            row: 0,
+            given: 0,
+            mirrorable: false,
+            layouts: 0,
+            first: l,
+            second: l,
+        }
+    }
+}
+
+impl Header {
+    pub fn empty() -> Header
+        ensures { λ r. ⌜ r ≡ emptyHeader ⌝ }
+    {
+        Header {
+            rows: 0,
+            sites: 0,
+            displacement: 0,
+            reordering: 0,
+            step: 0,
+            shift: 0,
+            mirror: 0,
+            swap: 0,
+        }
+    }
+}
+
+impl Job {
+    pub const MAX_CELLS: usize = 64;
+
+    pub const MAX_TALL: usize = 24;
+
+    pub const MAX_REORDERING: u32 = 1;
+
+    pub fn empty() -> Job
+        ensures { λ r. ⌜ r ≡ emptyJob ⌝ }
+    {
+        let h = Header::empty();
+        let c = Cell::empty();
+        Job {
+            header: h,
+            count: 0,
+            cells: [c; Job::MAX_CELLS],
+        }
+    }
+}
