@@ -1,14 +1,17 @@
--- The job as a value of the program, and the job of document 01 that it stands for.
+-- The job and a placement as values of the program, and those of document 01 that they stand for.
 use Prim.Native.Nat.{ℕ, zero, suc, _+_, _≤_}
 use mathlib.Core.Bool.{Bool, false, cond}
 use mathlib.Core.List.{List, [], _∷_, map}
 use lib.ListN.{getD, take, replicate}
 use lib.Dec.{eqb}
 use Rattle.definition.specs.Job as paper
+use Rattle.definition.specs.Placement as text
 use Rattle.job.specs.declared.Layout.{Layout}
 use Rattle.job.specs.declared.Cell.{Cell}
 use Rattle.job.specs.declared.Header.{Header}
 use Rattle.job.specs.declared.Job.{Job}
+use Rattle.job.specs.declared.Pose.{Pose}
+use Rattle.job.specs.declared.Placement.{Placement}
 
 abbrev pub emptyLayout : Layout
 emptyLayout = record { width = 0; heights = replicate 8 0 }
@@ -61,3 +64,20 @@ headerOf h = record {
 
 unfoldable pub jobOf : Job → paper.Job
 jobOf j = record { header = headerOf (j .header); cells = map cellOf (take (j .count) (j .cells)) }
+
+-- ---- a placement
+
+abbrev pub emptyPose : Pose
+emptyPose = record { site = 0; layout = 0; mark = 0 }
+
+abbrev pub emptyPlacement : Placement
+emptyPlacement = record { count = 0; poses = replicate 64 emptyPose }
+
+abbrev pub poseAt : Placement → ℕ → Pose
+poseAt P k = getD (P .poses) k emptyPose
+
+abbrev pub poseOf : Pose → text.Pose
+poseOf p = record { site = p .site; layout = p .layout; mark = p .mark }
+
+unfoldable pub placementOf : Placement → text.Placement
+placementOf P = map poseOf (take (P .count) (P .poses))

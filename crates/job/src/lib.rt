@@ -1,6 +1,6 @@
-// The job as a value: what the reader hands on, and its limits.
+// The job and a placement as values: what the reader hands on, and their limits.
 ghost use mathlib.Core.Path.{_≡_};
-ghost use Rattle.job.specs.Value.{emptyLayout, emptyCell, emptyHeader, emptyJob};
+ghost use Rattle.job.specs.Value.{emptyLayout, emptyCell, emptyHeader, emptyJob, emptyPose, emptyPlacement};
 
 // A width and eight heights: left P, left N, right P, right N of row 0 (or of the single cell's row), then of row 1.
 pub struct Layout {
@@ -96,6 +96,43 @@ impl Job {
             header: h,
             count: 0,
             cells: [c; Job::MAX_CELLS],
+        }
+    }
+}
+
+// Where a cell stands: its left site, its layout number and its mirror mark.
+pub struct Pose {
+    pub site: u32,
+    pub layout: u32,
+    pub mark: u32,
+}
+
+// The first `count` poses are the placement's, in file order.
+pub struct Placement {
+    pub count: usize,
+    pub poses: [Pose; 64],
+}
+
+impl Pose {
+    pub fn empty() -> Pose
+        ensures { λ r. ⌜ r ≡ emptyPose ⌝ }
+    {
+        Pose {
+            site: 0,
+            layout: 0,
+            mark: 0,
+        }
+    }
+}
+
+impl Placement {
+    pub fn empty() -> Placement
+        ensures { λ r. ⌜ r ≡ emptyPlacement ⌝ }
+    {
+        let p = Pose::empty();
+        Placement {
+            count: 0,
+            poses: [p; Job::MAX_CELLS],
         }
     }
 }
