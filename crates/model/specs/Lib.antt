@@ -1,0 +1,4 @@
+pub mod Steps
+pub mod Stages
+pub mod Matched
+pub mod Back
