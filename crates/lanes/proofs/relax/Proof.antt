@@ -1,0 +1,88 @@
+use Rattle.lanes.proofs.relax.Statement.{statement}
+use Rattle.lanes.proofs.relax.Tie as tie
+use Rattle.lanes.proofs.relax.Reads as reads
+use Rattle.lanes.proofs.relax.Lts as lts
+use Rattle.lanes.proofs.least.Reads as least-reads
+
+abbrev Inv-loop : tie.InvT-loop
+Inv-loop acc₀ row at charge lanes l₀ acc l = ?
+
+abbrev μ-loop : tie.MeasureT-loop
+μ-loop acc₀ row at charge lanes l₀ acc l = ?
+
+-- src/lib.rt:24:5
+loop-holds : tie.Need-loop-holds Inv-loop μ-loop
+loop-holds c = ?
+
+-- src/lib.rt:25:24
+mul-least : tie.Need-mul-least Inv-loop μ-loop
+mul-least c = ?
+
+-- src/lib.rt:25:24
+element-copy-out-least : tie.Need-element-copy-out-least Inv-loop μ-loop
+element-copy-out-least c = ?
+
+-- src/lib.rt:25:36
+add-least : tie.Need-add-least Inv-loop μ-loop
+add-least c = ?
+
+-- src/lib.rt:25:32
+mul-least-2 : tie.Need-mul-least-2 Inv-loop μ-loop
+mul-least-2 c = ?
+
+-- src/lib.rt:25:32
+shared-slice-read-least : tie.Need-shared-slice-read-least Inv-loop μ-loop
+shared-slice-read-least c = ?
+
+-- src/lib.rt:25:32
+add-least-2 : tie.Need-add-least-2 Inv-loop μ-loop
+add-least-2 c = ?
+
+-- src/lib.rt:25:18
+least-requires : tie.Need-least-requires Inv-loop μ-loop
+least-requires c κs = ?
+
+-- src/lib.rt:25:9
+mul-acc : tie.Need-mul-acc Inv-loop μ-loop
+mul-acc c = ?
+
+-- src/lib.rt:25:9
+element-write-acc : tie.Need-element-write-acc Inv-loop μ-loop
+element-write-acc c = ?
+
+-- src/lib.rt:26:9
+add-l : tie.Need-add-l Inv-loop μ-loop
+add-l c = ?
+
+-- src/lib.rt:24:5
+loop-less : tie.Need-loop-less Inv-loop μ-loop
+loop-less c = ?
+
+-- src/lib.rt:24:5
+loop-again : tie.Need-loop-again Inv-loop μ-loop
+loop-again c = ?
+
+-- src/lib.rt:19:1
+returns : tie.Need-returns Inv-loop μ-loop
+returns c = ?
+
+pub relax-spec : {M : Type 1} → statement M
+relax-spec =
+    tie.close
+    (tie.spec
+    Inv-loop
+    μ-loop
+    loop-holds
+    mul-least
+    element-copy-out-least
+    add-least
+    mul-least-2
+    shared-slice-read-least
+    add-least-2
+    least-requires
+    mul-acc
+    element-write-acc
+    add-l
+    loop-less
+    loop-again
+    returns)
