@@ -1,49 +1,55 @@
+-- Each turn writes one word more. Assumes nothing.
+use Prim.Native.Nat.{ℕ, suc, _+_, _*_, _-_, _≤_, _<_, min}
+use mathlib.Core.Path.{_≡_, refl, sym, ap, _∙_}
+use native.Mathlib.Omega.{arith}
+use lib.ListN.{length, getD}
+use borrow.Author.Needs.{needs}
+use Rattle.lanes.specs.Lanes.{always}
+use Rattle.lanes.specs.Store.{Written}
+use Rattle.lanes.specs.Laws.{written-none, written-more}
 use Rattle.lanes.proofs.fill.Statement.{statement}
 use Rattle.lanes.proofs.fill.Tie as tie
-use Rattle.lanes.proofs.fill.Reads as reads
-use Rattle.lanes.proofs.fill.Lts as lts
 
 abbrev Inv-loop : tie.InvT-loop
-Inv-loop store₀ at count x k₀ store k = ?
+Inv-loop store₀ at count x k₀ store k =
+    (k ≤ count) × Written (always x) at k store₀ store
 
 abbrev μ-loop : tie.MeasureT-loop
-μ-loop store₀ at count x k₀ store k = ?
+μ-loop store₀ at count x k₀ store k =
+    count - k
 
--- src/lib.rt:48:5
 loop-holds : tie.Need-loop-holds Inv-loop μ-loop
-loop-holds c = ?
+loop-holds c =
+    (omega arith, written-none _ _ (c .pre .2))
 
--- src/lib.rt:49:15
 add-store : tie.Need-add-store Inv-loop μ-loop
-add-store c = ?
+add-store c = search needs
 
--- src/lib.rt:49:9
 mul-store : tie.Need-mul-store Inv-loop μ-loop
-mul-store c = ?
+mul-store c = search needs
 
--- src/lib.rt:49:9
 slice-write-store : tie.Need-slice-write-store Inv-loop μ-loop
-slice-write-store c = ?
+slice-write-store c = search needs
 
--- src/lib.rt:50:9
 add-k : tie.Need-add-k Inv-loop μ-loop
-add-k c = ?
+add-k c = search needs
 
--- src/lib.rt:48:5
 loop-less : tie.Need-loop-less Inv-loop μ-loop
-loop-less c = ?
+loop-less c = search needs
 
--- src/lib.rt:48:5
 loop-again : tie.Need-loop-again Inv-loop μ-loop
-loop-again c = ?
+loop-again c =
+    let k = c .before .before in
+    let l = c .before .loop in
+    (omega arith, written-more (l .k) (k .args .x) (l .inv .1) (omega arith) refl (omega arith))
 
--- src/lib.rt:43:1
 same-length : tie.Need-same-length Inv-loop μ-loop
-same-length c = ?
+same-length c = search needs
 
--- src/lib.rt:43:1
 returns : tie.Need-returns Inv-loop μ-loop
-returns c = ?
+returns c =
+    let e : c .before .loop .k ≡ c .before .before .args .count = omega arith in
+    rw e at (c .before .loop .inv .1)
 
 pub fill-spec : {M : Type 1} → statement M
 fill-spec =

@@ -1,66 +1,69 @@
+-- Each turn writes one lane more. Assumes nothing.
+use Prim.Native.Nat.{ℕ, suc, _+_, _*_, _-_, _≤_, _<_, min}
+use mathlib.Core.Path.{_≡_, refl, sym, ap, _∙_}
+use native.Mathlib.Omega.{arith}
+use lib.ListN.{length, getD}
+use borrow.Author.Needs.{needs}
+use Rattle.model.specs.Steps.{B}
+use Rattle.lanes.specs.Lanes.{withOwn}
+use Rattle.lanes.specs.Store.{Written}
+use Rattle.lanes.specs.Laws.{written-none, written-more}
 use Rattle.lanes.proofs.put.Statement.{statement}
 use Rattle.lanes.proofs.put.Tie as tie
-use Rattle.lanes.proofs.put.Reads as reads
-use Rattle.lanes.proofs.put.Lts as lts
-use Rattle.lanes.proofs.least.Reads as least-reads
 
 abbrev Inv-loop : tie.InvT-loop
-Inv-loop store₀ at acc own lanes l₀ store l = ?
+Inv-loop store₀ at acc own lanes l₀ store l =
+    (l ≤ lanes) × Written (withOwn own acc) at l store₀ store
 
 abbrev μ-loop : tie.MeasureT-loop
-μ-loop store₀ at acc own lanes l₀ store l = ?
+μ-loop store₀ at acc own lanes l₀ store l =
+    lanes - l
 
--- src/lib.rt:36:5
 loop-holds : tie.Need-loop-holds Inv-loop μ-loop
-loop-holds c = ?
+loop-holds c =
+    (omega arith, written-none _ _ (c .before .pre .4))
 
--- src/lib.rt:37:37
 mul-least : tie.Need-mul-least Inv-loop μ-loop
-mul-least c = ?
+mul-least c = search needs
 
--- src/lib.rt:37:37
 element-copy-out-least : tie.Need-element-copy-out-least Inv-loop μ-loop
-element-copy-out-least c = ?
+element-copy-out-least c = search needs
 
--- src/lib.rt:37:31
 add-least : tie.Need-add-least Inv-loop μ-loop
-add-least c = ?
+add-least c =
+    omega (arith, c .before .before .before .before .pre .5 (c .before .before .loop .l))
 
--- src/lib.rt:37:25
 least-requires : tie.Need-least-requires Inv-loop μ-loop
-least-requires c κs = ?
+least-requires c κs = search needs
 
--- src/lib.rt:37:15
 add-store : tie.Need-add-store Inv-loop μ-loop
-add-store c = ?
+add-store c = search needs
 
--- src/lib.rt:37:9
 mul-store : tie.Need-mul-store Inv-loop μ-loop
-mul-store c = ?
+mul-store c = search needs
 
--- src/lib.rt:37:9
 slice-write-store : tie.Need-slice-write-store Inv-loop μ-loop
-slice-write-store c = ?
+slice-write-store c = search needs
 
--- src/lib.rt:38:9
 add-l : tie.Need-add-l Inv-loop μ-loop
-add-l c = ?
+add-l c = search needs
 
--- src/lib.rt:36:5
 loop-less : tie.Need-loop-less Inv-loop μ-loop
-loop-less c = ?
+loop-less c = search needs
 
--- src/lib.rt:36:5
 loop-again : tie.Need-loop-again Inv-loop μ-loop
-loop-again c = ?
+loop-again c =
+    let k = c .before .before .before .before .before in
+    let l = c .before .before .before .loop in
+    (omega arith, written-more (l .l) (c .least .result) (l .inv .1) (omega arith) (c .least .ensures) (omega (arith, c .least .ensures)))
 
--- src/lib.rt:31:1
 same-length : tie.Need-same-length Inv-loop μ-loop
-same-length c = ?
+same-length c = search needs
 
--- src/lib.rt:31:1
 returns : tie.Need-returns Inv-loop μ-loop
-returns c = ?
+returns c =
+    let e : c .before .loop .l ≡ c .before .before .before .args .lanes = omega arith in
+    rw e at (c .before .loop .inv .1)
 
 pub put-spec : {M : Type 1} → statement M
 put-spec =
