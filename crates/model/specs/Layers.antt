@@ -19,7 +19,7 @@ use Rattle.model.specs.Steps.{B, Deck, pairCount, marks, before, lastAt,
 use Rattle.model.specs.Matched.{Matched}
 use Rattle.model.specs.Pairs.{pair-at}
 use Rattle.model.specs.Lowest.{lowest-member, lowest-above, loop-member, loop-above}
-use Rattle.model.specs.Spots.{stateOf, Spot, and-both, both-and, is-there, there-is, spot-is, is-spot, entry-move, pose-offer, into-spot, move-code, open-code}
+use Rattle.model.specs.Spots.{stateOf, Spot, and-both, both-and, cond-yes, cond-no, cond-and, cond-none, is-there, there-is, spot-is, is-spot, entry-move, pose-offer, into-spot, move-code, open-code}
 
 -- the layer f, with i cells, is j moves on from the first move from s
 pub record Right {A : Type 0} (R : ℕ) (siteOf : A → ℕ) (L : Line A) (D : Deck) (pose : ℕ → ℕ → A) (offered : ℕ → ℕ → Bool) (s : State A) (j i : ℕ) (f : Layer) : Type 0 where
@@ -61,7 +61,7 @@ module _ {A : Type 0} (R : ℕ) (siteOf : A → ℕ) (L : Line A) (D : Deck) (po
           let x = lowest-member B (inner k a) (goodMarks R) (in-goodMarks R (marks R q) .1 (pair .good)) in
           let y = lowest-member B (λ a. lowest B (inner k a) (goodMarks R)) (L .options k) (pose-offer R siteOf L D pose offered M k b (omega arith) (p .pose) (p .offer)) in
           let z = lowest-member B (λ k. cond (L .tall k) B (lowest B (λ a. lowest B (inner k a) (goodMarks R)) (L .options k))) (from (i - suc R) (suc (2 * R))) (from-in k (i - suc R) (suc (2 * R)) (omega arith) (omega arith)) in
-          let w = ap (λ t. cond t B (lowest B (λ a. lowest B (inner k a) (goodMarks R)) (L .options k))) n in
+          let w = cond-no B (lowest B (λ a. lowest B (inner k a) (goodMarks R)) (L .options k)) n in
           omega (arith, loops)
 
       pub next-above : Good R (s .1) → (x : ℕ) → x ≤ B → ((q b : ℕ) → Spot D R offered i q b → L .tall (lastAt R i q) ≡ false → x ≤ by q b) → x ≤ entry B R siteOf L s (suc j) t
@@ -100,16 +100,8 @@ module _ {A : Type 0} (R : ℕ) (siteOf : A → ℕ) (L : Line A) (D : Deck) (po
           let k = lastAt R i q in
           let size = M .size in
           let x = there-is D R i q z .1 in
-          w-none q a (M .own k a (omega arith) l ∙ ap (λ t. cond t (L .own k (pose k a)) B) y)
+          w-none q a (M .own k a (omega arith) l ∙ cond-no _ _ y)
       go q a h l false o z y = refl
-
-  cond-and : (t u : Bool) (x : ℕ) → cond (t && u) x B ≡ cond t (cond u x B) B
-  cond-and true u x = refl
-  cond-and false u x = refl
-
-  cond-none : (t : Bool) (x : ℕ) → x ≡ B → cond t x B ≡ B
-  cond-none true x e = e
-  cond-none false x e = refl
 
   -- the first layer after a cell placed
   pub after-right : (i m k b : ℕ) → Good R m → k < D .size → b < D .poses → offered k b ≡ true → Is (i, m, some (k, pose k b)) 0 (suc i) (firstAfter D R i m k b)
@@ -146,10 +138,10 @@ module _ {A : Type 0} (R : ℕ) (siteOf : A → ℕ) (L : Line A) (D : Deck) (po
 
   module _ (s : State A) (j i : ℕ) (f : Layer) (r : Is s j i f) where
     pub right-at : (q a : ℕ) → Spot D R offered i q a → f q a ≡ entry B R siteOf L s j (stateOf R pose i q a)
-    right-at q a p = r .price q a (p .pair) (p .pose) ∙ ap (λ t. cond t (entry B R siteOf L s j (stateOf R pose i q a)) B) (spot-is D R i q offered a p)
+    right-at q a p = r .price q a (p .pair) (p .pose) ∙ cond-yes _ _ (spot-is D R i q offered a p)
 
     pub right-none : (q a : ℕ) → q < pairCount R → a < D .poses → (isThere D R i q && offered (lastAt R i q) a) ≡ false → f q a ≡ B
-    right-none q a h l e = r .price q a h l ∙ ap (λ t. cond t (entry B R siteOf L s j (stateOf R pose i q a)) B) e
+    right-none q a h l e = r .price q a h l ∙ cond-no _ _ e
 
     module _ (g : Good R (s .1)) (q a : ℕ) (p : Spot D R offered (suc i) q a) where
       abbrev to : ℕ
@@ -176,15 +168,13 @@ module _ {A : Type 0} (R : ℕ) (siteOf : A → ℕ) (L : Line A) (D : Deck) (po
               let x : ℕ → ℕ = λ q′. cond (isSource D R i q q′) (via D R f i q′ to a) B in
               let y : isSource D R i q q′ ≡ true = both-and (is-there D R i q′ (p′ .low) h) (both-and (ap not single) e) in
               let z₀ = loop-member B x (pairCount R) q′ (p′ .pair) in
-              let z₁ : x q′ ≡ via D R f i q′ to a = ap (λ t. cond t (via D R f i q′ to a) B) y in
+              let z₁ : x q′ ≡ via D R f i q′ to a = cond-yes _ _ y in
               let z₂ = loop-member B (λ b. f q′ b + D .toll k b to a) (D .poses) b (p′ .pose) in
-              let c₀ = on q′ b p′ in
-              let c₁ = ap (λ t. cond t (min (D .own to a + D .toll k b to a) B) B) e in
+              let c = on q′ b p′ ∙ cond-yes _ _ e in
               let z₃ = right-at q′ b p′ in
               omega arith
           go q′ b p′ n false e =
-              let c₀ = on q′ b p′ in
-              let c₁ = ap (λ t. cond t (min (D .own to a + D .toll (lastAt R i q′) b to a) B) B) e in
+              let c = on q′ b p′ ∙ cond-no _ _ e in
               omega arith
 
       least-high : entry B R siteOf L s (suc j) goal ≤ min (D .own to a + reached D R f i q a) B
@@ -208,9 +198,8 @@ module _ {A : Type 0} (R : ℕ) (siteOf : A → ℕ) (L : Line A) (D : Deck) (po
               let i₀ = p′ .inside in
               let single : L .tall k ≡ false = sym (M .tall k (omega arith)) ∙ not-true (D .tall k) (e₁ .0) in
               let y = next-below s j i goal (r .placed) q′ b p′ single in
-              let c₀ = on q′ b p′ in
-              let c₁ = ap (λ t. cond t (min (D .own to a + D .toll k b to a) B) B) (e₁ .1) in
-              let c₂ = right-at q′ b p′ in
+              let c₀ = on q′ b p′ ∙ cond-yes _ _ (e₁ .1) in
+              let c₁ = right-at q′ b p′ in
               omega arith
           at q′ h e b l false z = let y = right-none q′ b h l z in let c = entry-low R siteOf L s (suc j) goal in omega arith
 

@@ -6,3 +6,5 @@ pub mod Pairs
 pub mod Lowest
 pub mod Spots
 pub mod Layers
+pub mod PricesRight
+pub mod StagesRight

@@ -41,6 +41,20 @@ and-both false u e = absurd (let z : _≡_ {A = ℕ} 0 1 = cc in omega arith)
 pub both-and : {t u : Bool} → t ≡ true → u ≡ true → (t && u) ≡ true
 both-and e z = ap₂ _&&_ e z
 
+pub cond-yes : {t : Bool} (x y : ℕ) → t ≡ true → cond t x y ≡ x
+cond-yes x y e = ap (λ t. cond t x y) e
+
+pub cond-no : {t : Bool} (x y : ℕ) → t ≡ false → cond t x y ≡ y
+cond-no x y e = ap (λ t. cond t x y) e
+
+pub cond-and : (t u : Bool) (x : ℕ) → cond (t && u) x B ≡ cond t (cond u x B) B
+cond-and true u x = refl
+cond-and false u x = refl
+
+pub cond-none : (t : Bool) (x : ℕ) → x ≡ B → cond t x B ≡ B
+cond-none true x e = e
+cond-none false x e = refl
+
 module _ (D : Deck) (R i q : ℕ) where
   pub is-there : suc R ≤ i + offset R q → lastAt R i q < D .size → isThere D R i q ≡ true
   is-there l h = both-and (le-leb (suc R) (i + offset R q) l) (lt-ltb (lastAt R i q) (D .size) h)
@@ -154,7 +168,7 @@ module _ {A : Type 0} (R : ℕ) (siteOf : A → ℕ) (L : Line A) (D : Deck) (po
         let h = p .inside in
         let size = M .size in
         let k = lastAt R (suc (u .0)) q in
-        M .own k a (omega arith) (p .pose) ∙ ap (λ t. cond t (L .own k (pose k a)) B) (p .offer)
+        M .own k a (omega arith) (p .pose) ∙ cond-yes _ _ (p .offer)
 
   module _ (i m k b q a : ℕ) (g : Good R m) (h : k < D .size) (l : b < D .poses) (o : offered k b ≡ true) (p : Spot D R offered (suc i) q a) where
     pub move-code : coded B (move R siteOf L (i, m, some (k, pose k b)) (stateOf R pose (suc i) q a))
