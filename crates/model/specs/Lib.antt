@@ -8,3 +8,6 @@ pub mod Spots
 pub mod Layers
 pub mod PricesRight
 pub mod StagesRight
+pub mod CaseStates
+pub mod CasesRight
+pub mod LeastCost
