@@ -1,1 +1,4 @@
 pub mod Paired
+pub mod Tests
+pub mod Poses
+pub mod Offers
