@@ -2,3 +2,5 @@ pub mod Paired
 pub mod Tests
 pub mod Poses
 pub mod Offers
+pub mod Words
+pub mod Row
