@@ -4,3 +4,4 @@ pub mod Poses
 pub mod Offers
 pub mod Words
 pub mod Row
+pub mod RowRules

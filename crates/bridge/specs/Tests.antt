@@ -63,3 +63,20 @@ any-row f = (λ e. each (any-false f bothRows .0 e), λ g. or-false (f 0) (f 1 |
     each : ((x : ℕ) → In x bothRows → f x ≡ false) → (s : Side) → f (rowOf s) ≡ false
     each h row₀ = h 0 (here refl)
     each h row₁ = h 1 (there (here refl))
+
+pub some-row : (f : ℕ → Bool) → any f bothRows ≡ true ↔ ((s : Side) × (f (rowOf s) ≡ true))
+some-row f = (to (f 0) (f 1) refl refl, λ p. back (p .0) (p .1))
+  where
+    to : (a b : Bool) → f 0 ≡ a → f 1 ≡ b → (a || (b || false)) ≡ true → (s : Side) × (f (rowOf s) ≡ true)
+    to true b p q e = (row₀, p)
+    to false true p q e = (row₁, q)
+    to false false p q e = absurd (false≢true e)
+
+    second : (a b : Bool) → b ≡ true → (a || (b || false)) ≡ true
+    second true b e = refl
+    second false true e = refl
+    second false false e = e
+
+    back : (s : Side) → f (rowOf s) ≡ true → (f 0 || (f 1 || false)) ≡ true
+    back row₀ e = ap (λ t. t || (f 1 || false)) e
+    back row₁ e = second (f 0) (f 1) e
