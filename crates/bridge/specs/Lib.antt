@@ -5,3 +5,5 @@ pub mod Offers
 pub mod Words
 pub mod Row
 pub mod RowRules
+pub mod Legal
+pub mod Total

@@ -1,5 +1,5 @@
 -- A row of a job, in the definitions and in the pair's theory: the same cells in file order, and the same order from left to right. Assumes nothing.
-use mathlib.Core.Path.{_≡_, refl, sym, ap, ap₂, _∙_}
+use mathlib.Core.Path.{_≡_, refl, sym, ap, _∙_, subst}
 use mathlib.Core.Logic.{_↔_}
 use mathlib.Core.Bool.{Bool, true, false, cond, _||_}
 use mathlib.Core.List.{List, [], _∷_, List·Memᴰ as In}
@@ -15,6 +15,7 @@ use Rattle.definition.specs.Rules.{cellAt, poseAt, siteAt, cellsOf, rowCells}
 use Rattle.definition.specs.Rules as rules
 use Rattle.definition.specs.Sound.{Sound}
 use Rattle.rows.specs.Lists.{from, in-from, from-in}
+use Rattle.rows.specs.Order.{sort-in}
 use Rattle.pair.specs.Pick.{pick-in, in-pick}
 use Rattle.pair.specs.Cells.{Side, row₀, row₁, Kind, one, both, inRow, isTall, members, rowOrder}
 use Rattle.bridge.specs.Paired.{kindOf, rowOf, siteOf, pairJob}
@@ -60,6 +61,12 @@ module _ (j : Job) (sound : Sound j) where
   pub cells-same : cellsOf j ≡ from 0 (length (j .cells))
   cells-same = from-same 0 (length (j .cells))
 
+  pub in-cells : (k : ℕ) → In k (cellsOf j) ↔ (k < length (j .cells))
+  in-cells k = (
+    λ m. let h = in-from 0 (length (j .cells)) (subst (λ l. In k l) cells-same m) in omega arith,
+    λ h. subst (λ l. In k l) (sym cells-same) (from-in k 0 (length (j .cells)) (omega arith) (omega arith)),
+  )
+
   pub members-same : (s : Side) → rowCells j (rowOf s) ≡ members (pairJob j) s
   unfolding members
   members-same s =
@@ -86,3 +93,7 @@ module _ (j : Job) (sound : Sound j) where
   order-same P f g s =
       ap (rules.sort (siteAt P)) (members-same s)
       ∙ sort-same (siteAt P) (λ k. siteOf (f k)) (members (pairJob j) s) (λ k m. ap siteOf (g k (member s k .0 m .0)))
+
+  pub ordered-below : (P : Placement) (f : ℕ → Pose) → Gives P (length (j .cells)) f → (s : Side) (k : ℕ) → In k (rules.order j P (rowOf s)) → k < length (j .cells)
+  ordered-below P f g s k m =
+      member s k .0 (sort-in (λ k. siteOf (f k)) (members (pairJob j) s) (subst (λ l. In k l) (order-same P f g s) m)) .0

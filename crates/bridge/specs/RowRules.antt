@@ -13,14 +13,14 @@ use Rattle.definition.specs.Job.{Job, shareRow, inRow}
 use Rattle.definition.specs.Placement.{Pose, Placement}
 use Rattle.definition.specs.Rules.{Holds, cellAt, poseAt, siteAt, layoutAt, endAt, cellsOf, rowCells, apart, order, gap, overlap, breaks4, breaks5, breaks6, besideOneSite, outOfPlace, placeIn}
 use Rattle.definition.specs.Sound.{Sound}
-use Rattle.rows.specs.Lists.{from, in-from, from-in, Chain, Le?, low, high, le?}
-use Rattle.rows.specs.Order.{sort, sort-in, place}
+use Rattle.rows.specs.Lists.{Chain, Le?, low, high, le?}
+use Rattle.rows.specs.Order.{place}
 use Rattle.rows.specs.Rules.{Clear, NoGapOne}
 use Rattle.pair.specs.Cells.{Side, members, site, width, rowOrder}
 use Rattle.bridge.specs.Paired.{rowOf, siteOf, widthOf, layoutOf, pairJob}
 use Rattle.bridge.specs.Tests.{and-true, and-false, or-false, not-false, any-false, any-row, some-row}
 use Rattle.bridge.specs.Words.{place-same}
-use Rattle.bridge.specs.Row.{Gives, cells-same, members-same, member, order-same}
+use Rattle.bridge.specs.Row.{Gives, in-cells, members-same, member, order-same, ordered-below}
 
 -- ---- a test of neighbours that each of the two fails, and a statement of neighbours
 
@@ -64,12 +64,6 @@ module _ (j : Job) (sound : Sound j) (P : Placement) (f : ℕ → Pose) (g : Giv
   unfolding widthOf
   end-at k h = ap (λ p. p .site + layoutOf j k p .width) (g k h)
 
-  in-cells : (k : ℕ) → k < n → In k (cellsOf j)
-  in-cells k h = subst (λ l. In k l) (sym (cells-same j sound)) (from-in k 0 n (omega arith) (omega arith))
-
-  cells-in : (k : ℕ) → In k (cellsOf j) → k < n
-  cells-in k m = let h = in-from 0 n (subst (λ l. In k l) (cells-same j sound) m) in omega arith
-
   -- ---- rule 4
 
   abbrev pub Apart : Type 0
@@ -110,13 +104,13 @@ module _ (j : Job) (sound : Sound j) (P : Placement) (f : ℕ → Pose) (g : Giv
       to h s a b ma mb d =
           let p = member j sound s a .0 ma in
           let q = member j sound s b .0 mb in
-          let z = any-false (test a) (cellsOf j) .0 (h a (p .0)) b (in-cells b (q .0)) in
+          let z = any-false (test a) (cellsOf j) .0 (h a (p .0)) b (in-cells j sound b .1 (q .0)) in
           overlap-apart a b (p .0) (q .0)
           (some-row (rowed a b) .1 (s, and-true (inRow (rowOf s) (cellAt j a)) (inRow (rowOf s) (cellAt j b)) .1 (p .1, q .1)))
           (and-false (not (eqb b a)) (overlap j P a b) .0 z (ap not (ne-eqb b a (λ e. d (sym e)))))
 
       back : Apart → Holds j (breaks4 j P)
-      back c k h = any-false (test k) (cellsOf j) .1 (λ b m. and-false (not (eqb b k)) (overlap j P k b) .1 (λ e. apart-overlap k b h (cells-in b m) (both b (cells-in b m) e)))
+      back c k h = any-false (test k) (cellsOf j) .1 (λ b m. and-false (not (eqb b k)) (overlap j P k b) .1 (λ e. apart-overlap k b h (in-cells j sound b .0 m) (both b (in-cells j sound b .0 m) e)))
         where
           both : (b : ℕ) → b < n → not (eqb b k) ≡ true → together k b ≡ true → Clear S W k b ⊎ Clear S W b k
           both b l e t =
@@ -129,9 +123,6 @@ module _ (j : Job) (sound : Sound j) (P : Placement) (f : ℕ → Pose) (g : Giv
   abbrev pub Gapped : Type 0
   Gapped = (s : Side) → Chain (NoGapOne S W) (rowOrder siteOf (pairJob j) f s)
 
-  ordered-below : (s : Side) (k : ℕ) → In k (order j P (rowOf s)) → k < n
-  ordered-below s k m = member j sound s k .0 (sort-in S (members (pairJob j) s) (subst (λ l. In k l) (order-same j sound P f g s) m)) .0
-
   pub rule5-same : Holds j (breaks5 j P) ↔ Gapped
   unfolding breaks5 besideOneSite
   rule5-same = (to, back)
@@ -141,20 +132,20 @@ module _ (j : Job) (sound : Sound j) (P : Placement) (f : ℕ → Pose) (g : Giv
 
       none-is : (s : Side) (a b : ℕ) → In a (order j P (rowOf s)) → In b (order j P (rowOf s)) → one a b ≡ false → NoGapOne S W a b
       none-is s a b ma mb e q =
-          let x = end-at a (ordered-below s a ma) in
-          let y = site-at b (ordered-below s b mb) in
+          let x = end-at a (ordered-below j sound P f g s a ma) in
+          let y = site-at b (ordered-below j sound P f g s b mb) in
           eqb-false (gap j P a b) 1 e (omega arith)
 
       is-none : (s : Side) (a b : ℕ) → In a (order j P (rowOf s)) → In b (order j P (rowOf s)) → NoGapOne S W a b → one a b ≡ false
       is-none s a b ma mb d =
-          let x = end-at a (ordered-below s a ma) in
-          let y = site-at b (ordered-below s b mb) in
+          let x = end-at a (ordered-below j sound P f g s a ma) in
+          let y = site-at b (ordered-below j sound P f g s b mb) in
           ne-eqb (gap j P a b) 1 (λ e. d (omega arith))
 
       to : Holds j (breaks5 j P) → Gapped
       to h s =
           subst (Chain (NoGapOne S W)) (order-same j sound P f g s)
-          (test-chain one (NoGapOne S W) (order j P (rowOf s)) (none-is s) (λ k m. any-row (λ row. besideOneSite j P row k) .0 (h k (ordered-below s k m)) s))
+          (test-chain one (NoGapOne S W) (order j P (rowOf s)) (none-is s) (λ k m. any-row (λ row. besideOneSite j P row k) .0 (h k (ordered-below j sound P f g s k m)) s))
 
       back : Gapped → Holds j (breaks5 j P)
       back c k h =
