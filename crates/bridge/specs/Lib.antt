@@ -7,3 +7,4 @@ pub mod Row
 pub mod RowRules
 pub mod Legal
 pub mod Total
+pub mod Small
