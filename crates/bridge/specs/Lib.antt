@@ -8,3 +8,4 @@ pub mod RowRules
 pub mod Legal
 pub mod Total
 pub mod Small
+pub mod Reached

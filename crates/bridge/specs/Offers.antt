@@ -145,7 +145,7 @@ module _ (j : Job) (sound : Sound j) (k : ℕ) where
   no-cell : ¬ (k < length (j .cells)) → cellAt j k ≡ noCell
   no-cell n = List·getD-eq-default (j .cells) noCell (omega arith)
 
-  few-layouts : length (cellAt j k .layouts) ≤ 2
+  pub few-layouts : length (cellAt j k .layouts) ≤ 2
   few-layouts = go (decLt k (length (j .cells)))
     where
       go : Dec (k < length (j .cells)) → length (cellAt j k .layouts) ≤ 2
