@@ -1,7 +1,7 @@
 -- A placement is legal just if it is legal in the pair's theory. Assumes nothing.
-use mathlib.Core.Path.{_≡_, refl, sym, ap, _∙_, subst}
+use mathlib.Core.Path.{_≡_, sym, ap, _∙_, subst}
 use mathlib.Core.Logic.{_↔_}
-use mathlib.Core.Bool.{Bool, true, false, _&&_, _||_}
+use mathlib.Core.Bool.{Bool, true, _&&_}
 use mathlib.Core.List.{List·Memᴰ as In}
 use Prim.Native.Nat.{ℕ, _≤_, _<_}
 use native.Mathlib.Omega.{arith}
@@ -12,9 +12,9 @@ use Rattle.definition.specs.Lists.{any}
 use Rattle.definition.specs.Job.{Job}
 use Rattle.definition.specs.Job as job
 use Rattle.definition.specs.Placement.{Pose, Placement}
-use Rattle.definition.specs.Rules.{Legal, Holds, cellAt, poseAt, siteAt, cellsOf, wrongSide, breaks7}
+use Rattle.definition.specs.Rules.{Legal, Holds, cellAt, siteAt, cellsOf, wrongSide, breaks7}
 use Rattle.definition.specs.Sound.{Sound}
-use Rattle.pair.specs.Cells.{Side, isTall, LegalPair}
+use Rattle.pair.specs.Cells.{isTall, LegalPair}
 use Rattle.bridge.specs.Paired.{siteOf, offersOf, pairJob}
 use Rattle.bridge.specs.Tests.{and-false, or-false, any-false}
 use Rattle.bridge.specs.Offers.{Keeps, offered-rules}

@@ -36,8 +36,8 @@ unfoldable pub widthOf : Job → ℕ → Pose → ℕ
 widthOf j k p = layoutOf j k p .width
 
 -- how many pose numbers there are: the sites from given - D to given + D, two layouts at each, two marks for each
-abbrev pub numbers : Job → ℕ
-numbers j = 4 * (2 * j .header .displacement + 1)
+abbrev pub poseNumbers : Job → ℕ
+poseNumbers j = 4 * (2 * j .header .displacement + 1)
 
 -- pose number a
 unfoldable pub poseNumber : Job → ℕ → ℕ → Pose
@@ -52,7 +52,7 @@ isOffered j k a =
     && leb (poseNumber j k a .site + widthOf j k (poseNumber j k a)) (j .header .sites)
 
 unfoldable pub offersOf : Job → ℕ → List Pose
-offersOf j k = map (poseNumber j k) (pick (isOffered j k) (from 0 (numbers j)))
+offersOf j k = map (poseNumber j k) (pick (isOffered j k) (from 0 (poseNumbers j)))
 
 -- ---- what it costs
 

@@ -2,13 +2,13 @@
 use mathlib.Core.Path.{_≡_, refl, sym, ap, _∙_, subst}
 use mathlib.Core.Logic.{_↔_}
 use mathlib.Core.Bool.{Bool, true, false, cond, _||_}
-use mathlib.Core.List.{List, [], _∷_, List·Memᴰ as In}
-use Prim.Native.Nat.{ℕ, zero, suc, _+_, _≤_, _<_}
+use mathlib.Core.List.{List·Memᴰ as In}
+use Prim.Native.Nat.{ℕ, zero, suc, _≤_, _<_}
 use native.Mathlib.Omega.{arith}
 use lib.ListN.{length}
 use lib.Dec.{eqb}
 use Rattle.definition.specs.Lists as lists
-use Rattle.definition.specs.Job.{Cell, Job}
+use Rattle.definition.specs.Job.{Job}
 use Rattle.definition.specs.Job as job
 use Rattle.definition.specs.Placement.{Pose, Placement}
 use Rattle.definition.specs.Rules.{cellAt, poseAt, siteAt, cellsOf, rowCells}
@@ -17,7 +17,7 @@ use Rattle.definition.specs.Sound.{Sound}
 use Rattle.rows.specs.Lists.{from, in-from, from-in}
 use Rattle.rows.specs.Order.{sort-in}
 use Rattle.pair.specs.Pick.{pick-in, in-pick}
-use Rattle.pair.specs.Cells.{Side, row₀, row₁, Kind, one, both, inRow, isTall, members, rowOrder}
+use Rattle.pair.specs.Cells.{Side, row₀, row₁, inRow, isTall, members, rowOrder}
 use Rattle.bridge.specs.Paired.{kindOf, rowOf, siteOf, pairJob}
 use Rattle.bridge.specs.Words.{from-same, keep-pick, sort-same}
 
