@@ -1,10 +1,12 @@
 // A stage joined: the prices of both rows on top of one case table make the next, with the source of each case.
 ghost use mathlib.Core.Path.{_≡_};
-ghost use Prim.Native.Nat.{ℕ, suc, _+_, _*_, _/_, _%_, _≤_, _<_};
-ghost use lib.ListN.{length, getD};
+ghost use Prim.Native.Nat.{ℕ, suc, _+_, _*_, _≤_, _<_};
+ghost use lib.ListN.{length};
+ghost use Rattle.rows.specs.Lists.{from};
+ghost use Rattle.pair.specs.Coded.{lowest};
 ghost use Rattle.lanes.specs.Store.{Low};
-ghost use Rattle.model.specs.Steps.{B, joinPose, nextCases};
-ghost use Rattle.join.specs.Tables.{casesAt, sourcesAt, pricesAt, casesIn, pricesIn, Least, Way, Joined};
+ghost use Rattle.model.specs.Steps.{B};
+ghost use Rattle.join.specs.Tables.{casesAt, pricesAt, Table, Better, Least, LaneOf, laneSum, PairsIn, WayIn, nextIn, pairIn, Part, Joined};
 
 // The least of some costs, and a code of where it is.
 pub struct Best {
@@ -16,8 +18,26 @@ pub const CASES: usize = 148992;
 pub const SOURCES: usize = 388608;
 pub const PRICES: usize = 628224;
 
+// Where the row of case (q0, q1) of table i begins.
+pub fn case_at(i: usize, q0: usize, q1: usize) -> usize
+    requires { ⌜ (i ≤ 25) × (q0 ≤ 12) × (q1 ≤ 12) ⌝ }
+    ensures { λ r. ⌜ r ≡ casesAt i + q0 * 768 + q1 * 64 ⌝ }
+{
+    CASES + i * 9216 + q0 * 768 + q1 * 64
+}
+
+// Where the prices of start pair s to pair q in pose a begin, in a row.
+pub fn price_at(row: usize, s: usize, q: usize, a: usize) -> usize
+    requires { ⌜ (row ≤ 1) × (s ≤ 12) × (q ≤ 12) × (a ≤ 64) ⌝ }
+    ensures { λ r. ⌜ r ≡ pricesAt row s + q * 4096 + a * 64 ⌝ }
+{
+    PRICES + s * 98304 + row * 49152 + q * 4096 + a * 64
+}
+
 // The lower of two, the first if they are equal.
-fn better(x: Best, value: u32, code: u32) -> Best {
+fn better(x: Best, value: u32, code: u32) -> Best
+    ensures { λ b. ⌜ Better (x .value) (x .code) value code (b .value) (b .code) ⌝ }
+{
     let old = x.value;
     if value < old {
         return Best { value, code };
@@ -25,40 +45,84 @@ fn better(x: Best, value: u32, code: u32) -> Best {
     x
 }
 
-// Over the lanes of three rows: a case row, and a price row of each of the two rows.
-fn join_pose(store: &[u32], at: usize, p0: usize, p1: usize, lanes: usize, code: u32) -> Best {
-    let mut best = Best {
-        value: lanes::NONE,
-        code: 0,
-    };
+// A lane of three rows together: of a case row, and of a price row of each row.
+fn lane_sum(store: &[u32], at: usize, p0: usize, p1: usize, l: usize) -> u32
+    requires { ⌜ Low (now store) × (at + l < length (now store)) × (p0 + l < length (now store)) × (p1 + l < length (now store)) ⌝ }
+    ensures { λ r. ⌜ r ≡ laneSum (now (store .entry)) at p0 p1 l ⌝ }
+{
+    store[at + l] + (store[p0 + l] + store[p1 + l])
+}
+
+// The least over the lanes.
+fn least_lane(store: &[u32], at: usize, p0: usize, p1: usize, lanes: usize) -> u32
+    requires { ⌜ Low (now store) × (at + lanes ≤ length (now store)) × (p0 + lanes ≤ length (now store)) × (p1 + lanes ≤ length (now store)) ⌝ }
+    ensures { λ r. ⌜ r ≡ lowest B (laneSum (now (store .entry)) at p0 p1) (from 0 lanes) ⌝ }
+{
+    let mut best = lanes::NONE;
     let mut l: usize = 0;
     while l < lanes {
-        best = better(best, store[at + l] + (store[p0 + l] + store[p1 + l]), code + l as u32);
+        best = lanes::least(best, lane_sum(store, at, p0, p1, l));
         l += 1;
     }
     best
 }
 
+// The first lane with that sum; 0 where there is none.
+fn lane_of(store: &[u32], at: usize, p0: usize, p1: usize, lanes: usize, sum: u32) -> usize
+    requires { ⌜ Low (now store) × (at + lanes ≤ length (now store)) × (p0 + lanes ≤ length (now store)) × (p1 + lanes ≤ length (now store)) ⌝ }
+    ensures { λ r. ⌜ LaneOf (laneSum (now (store .entry)) at p0 p1) lanes sum r ⌝ }
+{
+    let mut l: usize = 0;
+    while l < lanes {
+        if lane_sum(store, at, p0, p1, l) == sum {
+            return l;
+        }
+        l += 1;
+    }
+    0
+}
+
 // Over the pairs t of row 1.
-fn join_pair(store: &[u32], i: usize, starts: usize, lanes: usize, s: usize, q0: usize, q1: usize, a: usize) -> Best {
+fn join_pair(
+    store: &[u32],
+    i: usize,
+    starts: usize,
+    lanes: usize,
+    s: usize,
+    q0: usize,
+    q1: usize,
+    a: usize,
+) -> Best
+    requires { ⌜ Table starts lanes i (now store) × (s < starts) × (q0 < 12) × (q1 < 12) × (a < 60) ⌝ }
+    ensures { λ b. ⌜ Least (pairIn starts lanes i (now (store .entry)) q0 q1 a s) (PairsIn starts lanes i (now (store .entry)) q0 q1 a) (b .value) (b .code) ⌝ }
+{
     let mut best = Best {
         value: lanes::NONE,
         code: 0,
     };
+    let p0 = price_at(0, s, q0, a);
     let mut t: usize = 0;
     while t < starts {
-        let at = CASES + i * 9216 + s * 768 + t * 64;
-        let p0 = PRICES + s * 98304 + q0 * 4096 + a * 64;
-        let p1 = PRICES + t * 98304 + 49152 + q1 * 4096 + a * 64;
-        let one = join_pose(store, at, p0, p1, lanes, (s * 768 + t * 64) as u32);
-        best = better(best, one.value, one.code);
+        let sum = least_lane(store, case_at(i, s, t), p0, price_at(1, t, q1, a), lanes);
+        best = better(best, sum, (s * 768 + t * 64) as u32);
         t += 1;
     }
     best
 }
 
 // Over the pairs s of row 0.
-fn join_case(store: &[u32], i: usize, starts: usize, lanes: usize, q0: usize, q1: usize, a: usize) -> Best {
+fn join_pairs(
+    store: &[u32],
+    i: usize,
+    starts: usize,
+    lanes: usize,
+    q0: usize,
+    q1: usize,
+    a: usize,
+) -> Best
+    requires { ⌜ Table starts lanes i (now store) × (q0 < 12) × (q1 < 12) × (a < 60) ⌝ }
+    ensures { λ b. ⌜ Least (nextIn starts lanes i (now (store .entry)) q0 q1 a) (PairsIn starts lanes i (now (store .entry)) q0 q1 a) (b .value) (b .code) ⌝ }
+{
     let mut best = Best {
         value: lanes::NONE,
         code: 0,
@@ -70,4 +134,32 @@ fn join_case(store: &[u32], i: usize, starts: usize, lanes: usize, q0: usize, q1
         s += 1;
     }
     best
+}
+
+// A case: the least over pairs and lanes, and the code of a way to it.
+fn join_case(
+    store: &[u32],
+    i: usize,
+    starts: usize,
+    lanes: usize,
+    q0: usize,
+    q1: usize,
+    a: usize,
+) -> Best
+    requires { ⌜ Table starts lanes i (now store) × (q0 < 12) × (q1 < 12) × (a < 60) ⌝ }
+    ensures { λ b. ⌜ Least (nextIn starts lanes i (now (store .entry)) q0 q1 a) (WayIn starts lanes i (now (store .entry)) q0 q1 a) (b .value) (b .code) ⌝ }
+{
+    let best = join_pairs(store, i, starts, lanes, q0, q1, a);
+    let value = best.value;
+    if value == lanes::NONE {
+        return Best { value, code: 0 };
+    }
+    let code = best.code as usize;
+    let s = code / 768;
+    let t = code % 768 / 64;
+    let lane = lane_of(store, case_at(i, s, t), price_at(0, s, q0, a), price_at(1, t, q1, a), lanes, value);
+    Best {
+        value,
+        code: (code + lane) as u32,
+    }
 }
