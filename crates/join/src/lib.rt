@@ -163,3 +163,81 @@ fn join_case(
         code: (code + lane) as u32,
     }
 }
+
+// Case (q0, q1, a) of table i + 1, and its source.
+fn put_case(
+    store: &mut [u32],
+    i: usize,
+    starts: usize,
+    lanes: usize,
+    q0: usize,
+    q1: usize,
+    a: usize,
+)
+    requires { ⌜ Table starts lanes i (now store) × (q0 < 12) × (q1 < 12) × (a < 60) ⌝ }
+    ensures { λ _. ⌜ Part starts lanes 12 64 i (q0 * 768 + q1 * 64 + a) (q0 * 768 + q1 * 64 + a + 1) (now (store .entry)) (now (store .exit)) ⌝ }
+{
+    let best = join_case(store, i, starts, lanes, q0, q1, a);
+    let at = case_at(i + 1, q0, q1) + a;
+    store[at] = best.value;
+    store[at + (SOURCES - CASES)] = best.code;
+}
+
+// The cases of two pairs, for every pose.
+fn case_row(
+    store: &mut [u32],
+    i: usize,
+    starts: usize,
+    lanes: usize,
+    q0: usize,
+    q1: usize,
+    poses: usize,
+)
+    requires { ⌜ Table starts lanes i (now store) × (q0 < 12) × (q1 < 12) × (poses ≤ 60) ⌝ }
+    ensures { λ _. ⌜ Part starts lanes 12 poses i (q0 * 768 + q1 * 64) (q0 * 768 + q1 * 64 + 64) (now (store .entry)) (now (store .exit)) ⌝ }
+{
+    let mut a: usize = 0;
+    while a < poses {
+        put_case(store, i, starts, lanes, q0, q1, a);
+        a += 1;
+    }
+}
+
+// The cases of a pair of row 0, for every pair of row 1.
+fn case_block(
+    store: &mut [u32],
+    i: usize,
+    starts: usize,
+    lanes: usize,
+    q0: usize,
+    ends: usize,
+    poses: usize,
+)
+    requires { ⌜ Table starts lanes i (now store) × (q0 < 12) × (ends ≤ 12) × (poses ≤ 60) ⌝ }
+    ensures { λ _. ⌜ Part starts lanes ends poses i (q0 * 768) (q0 * 768 + 768) (now (store .entry)) (now (store .exit)) ⌝ }
+{
+    let mut q1: usize = 0;
+    while q1 < ends {
+        case_row(store, i, starts, lanes, q0, q1, poses);
+        q1 += 1;
+    }
+}
+
+// Case table i + 1 from case table i and the prices of a stage.
+pub fn join_stage(
+    store: &mut [u32],
+    i: usize,
+    starts: usize,
+    lanes: usize,
+    ends: usize,
+    poses: usize,
+)
+    requires { ⌜ Table starts lanes i (now store) × (ends ≤ 12) × (poses ≤ 60) ⌝ }
+    ensures { λ _. ⌜ Joined starts lanes ends poses i (now (store .entry)) (now (store .exit)) ⌝ }
+{
+    let mut q0: usize = 0;
+    while q0 < ends {
+        case_block(store, i, starts, lanes, q0, ends, poses);
+        q0 += 1;
+    }
+}
