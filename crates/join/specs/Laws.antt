@@ -11,7 +11,26 @@ use Rattle.pair.specs.Coded.{lowest, lowest-from, lowest-low}
 use Rattle.model.specs.Steps.{B, Cases, Prices, joinPose, nextCases}
 use Rattle.lanes.specs.Store.{Low}
 use Rattle.join.specs.Tables.{
-  casesAt, sourcesAt, pricesAt, casesIn, sourcesIn, pricesIn, Table, Better, Least, LaneOf, laneSum, Pairs, Way, PairsIn, WayIn, nextIn, poseIn, pairIn, Part, Joined
+  casesAt,
+  sourcesAt,
+  pricesAt,
+  casesIn,
+  sourcesIn,
+  pricesIn,
+  Table,
+  Better,
+  Least,
+  LaneOf,
+  laneSum,
+  Pairs,
+  Way,
+  PairsIn,
+  WayIn,
+  nextIn,
+  poseIn,
+  pairIn,
+  Part,
+  Joined,
 }
 
 -- ---- loops
@@ -125,8 +144,7 @@ lane-way starts lanes I st q₀ q₁ a at p₀ p₁ {value} {code} {r} w b few e
     let z = w .bare in
     let i : (code + r) / 768 ≡ s = omega (arith, f .0) in
     let j : (code + r) % 768 / 64 ≡ t = omega (arith, f .0) in
-    let g : (code + r) % 64 ≡ r = omega (arith, f .0) in
-    (
+    let g : (code + r) % 64 ≡ r = omega (arith, f .0) in (
       record {
         pair₀ = omega (arith, w .pair₀);
         pair₁ = omega (arith, w .pair₁);

@@ -13,7 +13,19 @@ use Rattle.model.specs.Steps.{B, Cases, Prices, joinPose, nextCases}
 use Rattle.lanes.specs.Store.{Low}
 use Rattle.lanes.specs.Laws.{low-set}
 use Rattle.join.specs.Tables.{
-  casesAt, sourcesAt, pricesAt, casesIn, sourcesIn, pricesIn, Table, Least, Way, WayIn, nextIn, Part, Joined
+  casesAt,
+  sourcesAt,
+  pricesAt,
+  casesIn,
+  sourcesIn,
+  pricesIn,
+  Table,
+  Least,
+  Way,
+  WayIn,
+  nextIn,
+  Part,
+  Joined,
 }
 use Rattle.join.specs.Laws.{lowest-ext, next-low}
 
@@ -75,10 +87,10 @@ module _ (starts lanes ends poses I : ℕ) where
         done = λ o h g j l. ⊎-elim
             (λ w. rw (q .below (casesAt (suc I) + o) (omega arith), q .between (sourcesAt (suc I) + o) (omega arith) (omega arith)) (p .done o h w j l))
             (λ w. least-ext starts lanes _ _ _ _ _ _ (o / 768) (o % 768 / 64) (o % 64)
-              (λ s t l h g k. p .below (casesAt I + s * 768 + t * 64 + l) (omega arith))
-              (λ s l h k. p .above (pricesAt 0 s + o / 768 * 4096 + o % 64 * 64 + l) (omega arith))
-              (λ s l h k. p .above (pricesAt 1 s + o % 768 / 64 * 4096 + o % 64 * 64 + l) (omega arith))
-              (q .done o (omega arith) (hi-of o g j l) j l))
+            (λ s t l h g k. p .below (casesAt I + s * 768 + t * 64 + l) (omega arith))
+            (λ s l h k. p .above (pricesAt 0 s + o / 768 * 4096 + o % 64 * 64 + l) (omega arith))
+            (λ s l h k. p .above (pricesAt 1 s + o % 768 / 64 * 4096 + o % 64 * 64 + l) (omega arith))
+            (q .done o (omega arith) (hi-of o g j l) j l))
             (side o);
       }
     where
@@ -88,6 +100,7 @@ module _ (starts lanes ends poses I : ℕ) where
           go : Dec (o < mid) → (o < mid) ⊎ (mid ≤ o)
           go (yes h) = inl h
           go (no h) = inr (omega arith)
+
       hi-of : (o : ℕ) → o < end → o % 768 / 64 < ends → o % 64 < poses → o < hi
       hi-of o g j l = go (decLt o hi)
         where
@@ -132,7 +145,7 @@ module _ (starts lanes ends poses I : ℕ) where
       let n : length y ≡ length st = length-set st at v in
       let long : at + 239616 < length st = omega (arith, t .long) in
       let other : (k : ℕ) → (k ≡ at → ⊥) → (k ≡ at + 239616 → ⊥) → getD (set y (at + 239616) c) k 0 ≡ getD st k 0 =
-          λ k p q. getD-set-other y (at + 239616) k c 0 q ∙ getD-set-other st at k v 0 p in
+      λ k p q. getD-set-other y (at + 239616) k c 0 q ∙ getD-set-other st at k v 0 p in
       record {
         long = length-set y (at + 239616) c ∙ n;
         low = low-set (at + 239616) c (low-set at v (t .low) (omega arith) (omega (arith, w .right, next-low starts lanes I st q₀ q₁ a))) (omega arith) (omega (arith, w .small));
@@ -140,12 +153,12 @@ module _ (starts lanes ends poses I : ℕ) where
         between = λ k l m. other k (omega arith) (omega arith);
         above = λ k l. other k (omega arith) (omega arith);
         done = λ u l m p q.
-          let z : u ≡ o = omega arith in
-          let z₀ : casesAt (suc I) + o ≡ at = omega arith in
-          let z₁ : sourcesAt (suc I) + o ≡ at + 239616 = omega arith in
-          let d₀ : getD (set y (at + 239616) c) at 0 ≡ v = getD-set-other y (at + 239616) at c 0 (omega arith) ∙ getD-set-same st at v 0 (omega arith) in
-          let d₁ : getD (set y (at + 239616) c) (at + 239616) 0 ≡ c = getD-set-same y (at + 239616) c 0 (omega arith) in
-          rw (z, z₀, z₁, d₀, d₁, i, j, k) w;
+            let z : u ≡ o = omega arith in
+            let z₀ : casesAt (suc I) + o ≡ at = omega arith in
+            let z₁ : sourcesAt (suc I) + o ≡ at + 239616 = omega arith in
+            let d₀ : getD (set y (at + 239616) c) at 0 ≡ v = getD-set-other y (at + 239616) at c 0 (omega arith) ∙ getD-set-same st at v 0 (omega arith) in
+            let d₁ : getD (set y (at + 239616) c) (at + 239616) 0 ≡ c = getD-set-same y (at + 239616) c 0 (omega arith) in
+            rw (z, z₀, z₁, d₀, d₁, i, j, k) w;
       }
 
   -- all of it
@@ -160,12 +173,12 @@ module _ (starts lanes ends poses I : ℕ) where
         between = λ k h g. p .between k (omega arith) (omega arith);
         above = λ k h. p .above k (omega arith);
         done = λ q₀ q₁ a h g f.
-          let o = q₀ * 768 + q₁ * 64 + a in
-          let i : o / 768 ≡ q₀ = omega arith in
-          let j : o % 768 / 64 ≡ q₁ = omega arith in
-          let k : o % 64 ≡ a = omega arith in
-          let z₀ : casesAt (suc I) + o ≡ casesAt (suc I) + q₀ * 768 + q₁ * 64 + a = omega arith in
-          let z₁ : sourcesAt (suc I) + o ≡ sourcesAt (suc I) + q₀ * 768 + q₁ * 64 + a = omega arith in
-          let w = p .done o (omega arith) (omega arith) (omega arith) (omega arith) in
-          rw (z₀, z₁, i, j, k) at w;
+            let o = q₀ * 768 + q₁ * 64 + a in
+            let i : o / 768 ≡ q₀ = omega arith in
+            let j : o % 768 / 64 ≡ q₁ = omega arith in
+            let k : o % 64 ≡ a = omega arith in
+            let z₀ : casesAt (suc I) + o ≡ casesAt (suc I) + q₀ * 768 + q₁ * 64 + a = omega arith in
+            let z₁ : sourcesAt (suc I) + o ≡ sourcesAt (suc I) + q₀ * 768 + q₁ * 64 + a = omega arith in
+            let w = p .done o (omega arith) (omega arith) (omega arith) (omega arith) in
+            rw (z₀, z₁, i, j, k) at w;
       }

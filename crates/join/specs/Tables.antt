@@ -103,10 +103,10 @@ pub record Part (starts lanes ends poses I lo hi : ℕ) (old new : List ℕ) : T
   pub above : (k : ℕ) → sourcesAt (suc I) + hi ≤ k → getD new k 0 ≡ getD old k 0
   pub done : (o : ℕ) → lo ≤ o → o < hi → o % 768 / 64 < ends → o % 64 < poses
       → Least
-        (nextIn starts lanes I old (o / 768) (o % 768 / 64) (o % 64))
-        (WayIn starts lanes I old (o / 768) (o % 768 / 64) (o % 64))
-        (getD new (casesAt (suc I) + o) 0)
-        (getD new (sourcesAt (suc I) + o) 0)
+      (nextIn starts lanes I old (o / 768) (o % 768 / 64) (o % 64))
+      (WayIn starts lanes I old (o / 768) (o % 768 / 64) (o % 64))
+      (getD new (casesAt (suc I) + o) 0)
+      (getD new (sourcesAt (suc I) + o) 0)
 
 -- the whole of it, for the ends and poses asked for
 pub record Joined (starts lanes ends poses I : ℕ) (old new : List ℕ) : Type 0 where
@@ -118,7 +118,7 @@ pub record Joined (starts lanes ends poses I : ℕ) (old new : List ℕ) : Type 
   pub above : (k : ℕ) → sourcesAt (suc (suc I)) ≤ k → getD new k 0 ≡ getD old k 0
   pub done : (q₀ q₁ a : ℕ) → q₀ < ends → q₁ < ends → a < poses
       → Least
-        (nextIn starts lanes I old q₀ q₁ a)
-        (WayIn starts lanes I old q₀ q₁ a)
-        (casesIn new (suc I) q₀ q₁ a)
-        (sourcesIn new (suc I) q₀ q₁ a)
+      (nextIn starts lanes I old q₀ q₁ a)
+      (WayIn starts lanes I old q₀ q₁ a)
+      (casesIn new (suc I) q₀ q₁ a)
+      (sourcesIn new (suc I) q₀ q₁ a)

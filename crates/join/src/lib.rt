@@ -15,7 +15,9 @@ pub struct Best {
 }
 
 pub const CASES: usize = 148992;
+
 pub const SOURCES: usize = 388608;
+
 pub const PRICES: usize = 628224;
 
 // Where the row of case (q0, q1) of table i begins.
@@ -157,7 +159,14 @@ fn join_case(
     let code = best.code as usize;
     let s = code / 768;
     let t = code % 768 / 64;
-    let lane = lane_of(store, case_at(i, s, t), price_at(0, s, q0, a), price_at(1, t, q1, a), lanes, value);
+    let lane = lane_of(
+        store,
+        case_at(i, s, t),
+        price_at(0, s, q0, a),
+        price_at(1, t, q1, a),
+        lanes,
+        value,
+    );
     Best {
         value,
         code: (code + lane) as u32,

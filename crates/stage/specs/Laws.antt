@@ -16,7 +16,7 @@ use Rattle.model.specs.Pairs.{count-0, count-1, count-2}
 use Rattle.lanes.specs.Store.{Low}
 use Rattle.join.specs.Tables.{casesAt, sourcesAt, pricesAt, casesIn, sourcesIn, pricesIn, Table, Least, Way, Joined, nextIn, WayIn}
 use Rattle.join.specs.Parts.{least-ext}
-use Rattle.stage.specs.Stage.{wide, priceOf, tableOf, Right, Staged, StageDone, StagesDone, Priced, BothPriced, StoreGiven}
+use Rattle.stage.specs.Stage.{wide, priceOf, tableOf, Right, Staged, StageDone, StagesDone, RowPriced, BothPriced, StoreGiven}
 
 -- ---- counts
 
@@ -95,16 +95,17 @@ module _ (D₀ D₁ : Deck) (R talls : ℕ) (pos₀ pos₁ : ℕ → ℕ) where
             let m = wide-pairs I in
             let n = wide-poses I in
             p .kept (casesAt I + s * 768 + t * 64 + l) (omega arith) (omega arith) ∙ r .word s t l a b c
+
         go : (q₀ q₁ a : ℕ) → q₀ < wide talls (suc I) (pairCount R) → q₁ < wide talls (suc I) (pairCount R) → a < wide talls (suc I) (D₀ .poses)
             → Least
-              (tableOf D₀ D₁ R talls pos₀ pos₁ (suc I) q₀ q₁ a)
-              (Way (wide talls I (pairCount R)) (wide talls I (D₀ .poses)) (tableOf D₀ D₁ R talls pos₀ pos₁ I) (priceOf D₀ R talls pos₀ I) (priceOf D₁ R talls pos₁ I) q₀ q₁ a)
-              (casesIn new (suc I) q₀ q₁ a)
-              (sourcesIn new (suc I) q₀ q₁ a)
+            (tableOf D₀ D₁ R talls pos₀ pos₁ (suc I) q₀ q₁ a)
+            (Way (wide talls I (pairCount R)) (wide talls I (D₀ .poses)) (tableOf D₀ D₁ R talls pos₀ pos₁ I) (priceOf D₀ R talls pos₀ I) (priceOf D₁ R talls pos₁ I) q₀ q₁ a)
+            (casesIn new (suc I) q₀ q₁ a)
+            (sourcesIn new (suc I) q₀ q₁ a)
         go q₀ q₁ a x y z =
             let w = least-ext (wide talls I (pairCount R)) (wide talls I (D₀ .poses)) (casesIn mid I) (tableOf D₀ D₁ R talls pos₀ pos₁ I)
-                (pricesIn mid 0) (pricesIn mid 1) (priceOf D₀ R talls pos₀ I) (priceOf D₁ R talls pos₁ I) q₀ q₁ a same
-                (λ s l b c. p .right₀ s b q₀ a l x z c) (λ s l b c. p .right₁ s b q₁ a l y z c) (j .done q₀ q₁ a x y z) in
+            (pricesIn mid 0) (pricesIn mid 1) (priceOf D₀ R talls pos₀ I) (priceOf D₁ R talls pos₁ I) q₀ q₁ a same
+            (λ s l b c. p .right₀ s b q₀ a l x z c) (λ s l b c. p .right₁ s b q₁ a l y z c) (j .done q₀ q₁ a x y z) in
             record { right = w .right ∙ table-step I q₀ q₁ a h; found = w .found; small = w .small }
 
     -- the stages before are kept
@@ -112,13 +113,13 @@ module _ (D₀ D₁ : Deck) (R talls : ℕ) (pos₀ pos₁ : ℕ → ℕ) where
         → Staged D₀ D₁ R talls pos₀ pos₁ J old → Staged D₀ D₁ R talls pos₀ pos₁ J new
     unfolding casesIn sourcesIn
     staged-kept J I h d w = record {
-          case = λ q₀ q₁ a x y z.
-            let m = wide-pairs (suc J) in
-            let n = wide-poses (suc J) in
-            let e = d .cases (casesAt (suc J) + q₀ * 768 + q₁ * 64 + a) (omega arith) (omega arith) in
-            let f = d .sources (sourcesAt (suc J) + q₀ * 768 + q₁ * 64 + a) (omega arith) (omega arith) in
-            rw (e, f) (w .case q₀ q₁ a x y z);
-        }
+      case = λ q₀ q₁ a x y z.
+          let m = wide-pairs (suc J) in
+          let n = wide-poses (suc J) in
+          let e = d .cases (casesAt (suc J) + q₀ * 768 + q₁ * 64 + a) (omega arith) (omega arith) in
+          let f = d .sources (sourcesAt (suc J) + q₀ * 768 + q₁ * 64 + a) (omega arith) (omega arith) in
+          rw (e, f) (w .case q₀ q₁ a x y z);
+    }
 
   -- all stages
   pub stages-done : {old new : List ℕ} → length new ≡ length old → Low new → ((I : ℕ) → I < suc talls → Staged D₀ D₁ R talls pos₀ pos₁ I new)
@@ -130,9 +131,9 @@ module _ (D₀ D₁ : Deck) (R talls : ℕ) (pos₀ pos₁ : ℕ → ℕ) where
         low = w;
         right = λ I q₀ q₁ a h x y z. s I (omega arith) .case q₀ q₁ a x y z .right;
         way = λ I q₀ q₁ a h x y z b.
-          let c = s (suc I) (omega arith) .case q₀ q₁ a x y z in
-          let g = c .found (omega (arith, c .right)) in
-          rw (wide-all talls I (pairCount R) (omega arith), wide-all talls I (D₀ .poses) (omega arith), c .right) at g;
+            let c = s (suc I) (omega arith) .case q₀ q₁ a x y z in
+            let g = c .found (omega (arith, c .right)) in
+            rw (wide-all talls I (pairCount R) (omega arith), wide-all talls I (D₀ .poses) (omega arith), c .right) at g;
       }
 
 -- ---- the prices of one start pair more
@@ -143,7 +144,7 @@ both-none x₀ x₁ lanes ends poses w =
 
 pub both-more : (x₀ x₁ : Prices) {lanes ends poses : ℕ} (s : ℕ) {old mid one new : List ℕ}
     → lanes ≤ 64 → ends ≤ 12 → poses ≤ 64
-    → BothPriced x₀ x₁ lanes ends poses s old mid → Priced (λ l q a. x₀ s l q a) lanes ends poses 0 s mid one → Priced (λ l q a. x₁ s l q a) lanes ends poses 1 s one new
+    → BothPriced x₀ x₁ lanes ends poses s old mid → RowPriced (λ l q a. x₀ s l q a) lanes ends poses 0 s mid one → RowPriced (λ l q a. x₁ s l q a) lanes ends poses 1 s one new
     → BothPriced x₀ x₁ lanes ends poses (s + 1) old new
 unfolding pricesIn
 both-more x₀ x₁ {lanes} {ends} {poses} s {old} {mid} {one} {new} n e m b p₀ p₁ =

@@ -42,10 +42,10 @@ module _ (D₀ D₁ : Deck) (R talls : ℕ) (pos₀ pos₁ : ℕ → ℕ) where
   pub record Staged (I : ℕ) (st : List ℕ) : Type 0 where
     pub case : (q₀ q₁ a : ℕ) → q₀ < wide talls (suc I) (pairCount R) → q₁ < wide talls (suc I) (pairCount R) → a < wide talls (suc I) (D₀ .poses)
         → Least
-          (tableOf (suc I) q₀ q₁ a)
-          (Way (wide talls I (pairCount R)) (wide talls I (D₀ .poses)) (tableOf I) (priceOf D₀ R talls pos₀ I) (priceOf D₁ R talls pos₁ I) q₀ q₁ a)
-          (casesIn st (suc I) q₀ q₁ a)
-          (sourcesIn st (suc I) q₀ q₁ a)
+        (tableOf (suc I) q₀ q₁ a)
+        (Way (wide talls I (pairCount R)) (wide talls I (D₀ .poses)) (tableOf I) (priceOf D₀ R talls pos₀ I) (priceOf D₁ R talls pos₁ I) q₀ q₁ a)
+        (casesIn st (suc I) q₀ q₁ a)
+        (sourcesIn st (suc I) q₀ q₁ a)
 
   -- what stage I does to the store; tables up to number I and their sources are kept
   pub record StageDone (I : ℕ) (old new : List ℕ) : Type 0 where
@@ -66,21 +66,21 @@ module _ (D₀ D₁ : Deck) (R talls : ℕ) (pos₀ pos₁ : ℕ → ℕ) where
     pub way : (I q₀ q₁ a : ℕ) → I < talls → q₀ < wide talls (suc (suc I)) (pairCount R) → q₁ < wide talls (suc (suc I)) (pairCount R) → a < wide talls (suc (suc I)) (D₀ .poses)
         → caseTable D₀ D₁ R talls pos₀ pos₁ (suc I) q₀ q₁ a < B
         → Way
-          (pairCount R)
-          (D₀ .poses)
-          (caseTable D₀ D₁ R talls pos₀ pos₁ I)
-          (stagePrice D₀ R talls pos₀ I)
-          (stagePrice D₁ R talls pos₁ I)
-          q₀
-          q₁
-          a
-          (caseTable D₀ D₁ R talls pos₀ pos₁ (suc I) q₀ q₁ a)
-          (sourcesIn new (suc (suc I)) q₀ q₁ a)
+        (pairCount R)
+        (D₀ .poses)
+        (caseTable D₀ D₁ R talls pos₀ pos₁ I)
+        (stagePrice D₀ R talls pos₀ I)
+        (stagePrice D₁ R talls pos₁ I)
+        q₀
+        q₁
+        a
+        (caseTable D₀ D₁ R talls pos₀ pos₁ (suc I) q₀ q₁ a)
+        (sourcesIn new (suc (suc I)) q₀ q₁ a)
 
 -- ---- the prices of a stage in the store
 
 -- the prices F, lane by lane, of one start pair in one row; the tables, and the prices before them, are kept
-pub record Priced (F : ℕ → Layer) (lanes ends poses row s : ℕ) (old new : List ℕ) : Type 0 where
+pub record RowPriced (F : ℕ → Layer) (lanes ends poses row s : ℕ) (old new : List ℕ) : Type 0 where
   pub long : length new ≡ length old
   pub low : Low new
   pub kept : (k : ℕ) → 98304 ≤ k → k < pricesAt row s → getD new k 0 ≡ getD old k 0

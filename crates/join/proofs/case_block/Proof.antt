@@ -36,11 +36,10 @@ loop-again c =
     let a = k .args in
     let l = c .before .before .before .before .before .loop in
     let b = a .q0 * 768 in
-    let one = part-fewer (a .starts) (a .lanes) (a .ends) (a .poses) (a .i) (c .before .before .case-row .ensures) (λ o h g. (omega arith, omega arith)) in
-    (
+    let one = part-fewer (a .starts) (a .lanes) (a .ends) (a .poses) (a .i) (c .before .before .case-row .ensures) (λ o h g. (omega arith, omega arith)) in (
       omega arith,
       part-then _ _ _ _ _ b (b + l .q1 * 64) (b + l .q1 * 64) (b + l .q1 * 64 + 64) (b + (l .q1 + 1) * 64) (k .pre .0) (l .inv .1) one
-        (omega arith) (omega arith) (omega arith) (omega arith) (omega arith) (λ o h g j m. omega arith),
+          (omega arith) (omega arith) (omega arith) (omega arith) (omega arith) (λ o h g j m. omega arith),
     )
 
 same-length : tie.Need-same-length Inv-loop μ-loop

@@ -36,11 +36,10 @@ loop-again c =
     let a = k .args in
     let l = c .before .before .before .before .before .loop in
     let b = a .q0 * 768 + a .q1 * 64 in
-    let one = part-fewer (a .starts) (a .lanes) 12 (a .poses) (a .i) (c .before .before .put-case .ensures) (λ o h g. (omega arith, omega arith)) in
-    (
+    let one = part-fewer (a .starts) (a .lanes) 12 (a .poses) (a .i) (c .before .before .put-case .ensures) (λ o h g. (omega arith, omega arith)) in (
       omega arith,
       part-then _ _ _ _ _ b (b + l .a) (b + l .a) (b + l .a + 1) (b + (l .a + 1)) (k .pre .0) (l .inv .1) one
-        (omega arith) (omega arith) (omega arith) (omega arith) (omega arith) (λ o h g j m. omega arith),
+          (omega arith) (omega arith) (omega arith) (omega arith) (omega arith) (λ o h g j m. omega arith),
     )
 
 same-length : tie.Need-same-length Inv-loop μ-loop

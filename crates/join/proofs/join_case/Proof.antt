@@ -37,7 +37,7 @@ add-t15 c =
     let a = k .args in
     let met = least-met (next-low (a .starts) (a .lanes) (a .i) (a .store .now) (a .q0) (a .q1) (a .a)) (c .before .before .before .before .before .before .join-pairs .ensures) (c .before .before .before .before .before .if1 .left) in
     let way = lane-way (a .starts) (a .lanes) (a .i) (a .store .now) (a .q0) (a .q1) (a .a) _ _ _ (met .0) (met .1) (omega arith)
-        (c .before .before .before .case-at .ensures) (c .before .before .price-at .ensures) (c .before .price-at2 .ensures) (c .lane-of .ensures) in
+    (c .before .before .before .case-at .ensures) (c .before .before .price-at .ensures) (c .before .price-at2 .ensures) (c .lane-of .ensures) in
     omega (arith, way .1, met .0 .pair₀)
 
 cast-t18 : tie.Need-cast-t18
@@ -46,7 +46,7 @@ cast-t18 c =
     let a = k .args in
     let met = least-met (next-low (a .starts) (a .lanes) (a .i) (a .store .now) (a .q0) (a .q1) (a .a)) (c .before .before .before .before .before .before .join-pairs .ensures) (c .before .before .before .before .before .if1 .left) in
     let way = lane-way (a .starts) (a .lanes) (a .i) (a .store .now) (a .q0) (a .q1) (a .a) _ _ _ (met .0) (met .1) (omega arith)
-        (c .before .before .before .case-at .ensures) (c .before .before .price-at .ensures) (c .before .price-at2 .ensures) (c .lane-of .ensures) in
+    (c .before .before .before .case-at .ensures) (c .before .before .price-at .ensures) (c .before .price-at2 .ensures) (c .lane-of .ensures) in
     omega (arith, way .1, met .0 .pair₀)
 
 returns-2 : tie.Need-returns-2
@@ -55,7 +55,7 @@ returns-2 c =
     let a = k .args in
     let met = least-met (next-low (a .starts) (a .lanes) (a .i) (a .store .now) (a .q0) (a .q1) (a .a)) (c .before .before .before .before .before .before .join-pairs .ensures) (c .before .before .before .before .before .if1 .left) in
     let way = lane-way (a .starts) (a .lanes) (a .i) (a .store .now) (a .q0) (a .q1) (a .a) _ _ _ (met .0) (met .1) (omega arith)
-        (c .before .before .before .case-at .ensures) (c .before .before .price-at .ensures) (c .before .price-at2 .ensures) (c .lane-of .ensures) in
+    (c .before .before .before .case-at .ensures) (c .before .before .price-at .ensures) (c .before .price-at2 .ensures) (c .lane-of .ensures) in
     let w = c .before .before .before .before .before .before .join-pairs .ensures in
     record { right = w .right; found = λ h. way .0; small = omega (arith, way .1, way .0 .pair₀) }
 

@@ -61,13 +61,12 @@ loop-again c =
     let t = c .before .before .before .before .before .loop .t in
     let lane = c .before .before .before in
     let e = c .before .least-lane .ensures
-        ∙ pose-lanes (a .store .now) (a .i) (a .s) t (a .q0) (a .q1) (a .a) _ _ _ (lane .case-at .ensures) (c .before .before .before .before .before .before .price-at .ensures)
-          (c .before .before .price-at2 .ensures) (a .lanes) in
-    (
+    ∙ pose-lanes (a .store .now) (a .i) (a .s) t (a .q0) (a .q1) (a .a) _ _ _ (lane .case-at .ensures) (c .before .before .before .before .before .before .price-at .ensures)
+    (c .before .before .price-at2 .ensures) (a .lanes) in (
       omega arith,
       least-more _ _ (c .before .before .before .before .before .loop .inv .1)
-        (pairs-way (a .starts) (a .lanes) (a .i) (a .store .now) (a .q0) (a .q1) (a .a) (a .s) t (omega arith) (omega arith) (omega arith) e)
-        (c .better .ensures),
+          (pairs-way (a .starts) (a .lanes) (a .i) (a .store .now) (a .q0) (a .q1) (a .a) (a .s) t (omega arith) (omega arith) (omega arith) e)
+          (c .better .ensures),
     )
 
 returns : tie.Need-returns Inv-loop μ-loop

@@ -33,11 +33,10 @@ loop-less c = search needs
 loop-again : tie.Need-loop-again Inv-loop μ-loop
 loop-again c =
     let k = c .before .before .before .before .before .before .before in
-    let l = c .before .before .before .before .before .loop in
-    (
+    let l = c .before .before .before .before .before .loop in (
       omega arith,
       part-then _ _ _ _ _ 0 (l .q0 * 768) (l .q0 * 768) (l .q0 * 768 + 768) ((l .q0 + 1) * 768) (k .pre .0) (l .inv .1) (c .before .before .case-block .ensures)
-        (omega arith) (omega arith) (omega arith) (omega arith) (omega arith) (λ o h g j m. omega arith),
+          (omega arith) (omega arith) (omega arith) (omega arith) (omega arith) (λ o h g j m. omega arith),
     )
 
 same-length : tie.Need-same-length Inv-loop μ-loop
