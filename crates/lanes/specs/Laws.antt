@@ -142,6 +142,13 @@ pair-more {F} {g} {lanes} {to} {q} {new = new} a n k s w e =
           (λ l r. w .words l r ∙ sym (e l r));
     }
 
+-- the same by another name
+pub pair-ext :
+    {F G : ℕ → Layer} {lanes to q m : ℕ} {old new : List ℕ}
+    → FilledPair G lanes to q m old new → ((a l : ℕ) → F l q a ≡ G l q a)
+    → FilledPair F lanes to q m old new
+pair-ext w e = record { frame = w .frame; low = w .low; right = λ a p l r. w .right a p l r ∙ sym (e a l) }
+
 -- the same word everywhere in a pair's block
 pub pair-always :
     {F : ℕ → Layer} {x lanes to q m : ℕ} {old new : List ℕ}
