@@ -16,7 +16,7 @@ use Rattle.model.specs.Pairs.{count-0, count-1, count-2}
 use Rattle.lanes.specs.Store.{Low}
 use Rattle.join.specs.Tables.{casesAt, sourcesAt, pricesAt, casesIn, sourcesIn, pricesIn, Table, Least, Way, Joined, nextIn, WayIn}
 use Rattle.join.specs.Parts.{least-ext}
-use Rattle.stage.specs.Stage.{wide, priceOf, tableOf, Right, Staged, StageDone, StagesDone, RowPriced, BothPriced, StoreGiven}
+use Rattle.stage.specs.Stage.{wide, priceOf, tableOf, Right, Staged, StageDone, StagesDone, RowPriced, BothPriced}
 
 -- ---- counts
 
@@ -144,7 +144,7 @@ both-none x₀ x₁ lanes ends poses w =
 
 pub both-more : (x₀ x₁ : Prices) {lanes ends poses : ℕ} (s : ℕ) {old mid one new : List ℕ}
     → lanes ≤ 64 → ends ≤ 12 → poses ≤ 64
-    → BothPriced x₀ x₁ lanes ends poses s old mid → RowPriced (λ l q a. x₀ s l q a) lanes ends poses 0 s mid one → RowPriced (λ l q a. x₁ s l q a) lanes ends poses 1 s one new
+    → BothPriced x₀ x₁ lanes ends poses s old mid → RowPriced (x₀ s) lanes ends poses (pricesAt 0 s) mid one → RowPriced (x₁ s) lanes ends poses (pricesAt 1 s) one new
     → BothPriced x₀ x₁ lanes ends poses (s + 1) old new
 unfolding pricesIn
 both-more x₀ x₁ {lanes} {ends} {poses} s {old} {mid} {one} {new} n e m b p₀ p₁ =

@@ -6,7 +6,7 @@ use mathlib.Core.List.{List}
 use lib.ListN.{length, getD}
 use lib.Dec.{ltb}
 use Rattle.model.specs.Steps.{B, Deck, Layer, Cases, Prices, pairCount}
-use Rattle.model.specs.Stages.{openPrice, stagePrice, caseTable}
+use Rattle.model.specs.Stages.{stageEnd, openPrice, stagePrice, caseTable}
 use Rattle.lanes.specs.Store.{Low, layerIn}
 use Rattle.deck.specs.Words.{Ground, deckOf}
 use Rattle.join.specs.Tables.{casesAt, sourcesAt, pricesAt, casesIn, sourcesIn, pricesIn, Least, Way}
@@ -17,7 +17,7 @@ wide talls zero x = 1
 wide talls (suc I) x = cond (ltb I talls) x 1
 
 -- where a row's tall cells stand
-abbrev pub posIn : List ℕ → ℕ → ℕ
+unfoldable pub posIn : List ℕ → ℕ → ℕ
 posIn places I = getD places I 0
 
 -- ---- what a stage goes by
@@ -79,12 +79,16 @@ module _ (D₀ D₁ : Deck) (R talls : ℕ) (pos₀ pos₁ : ℕ → ℕ) where
 
 -- ---- the prices of a stage in the store
 
--- the prices F, lane by lane, of one start pair in one row; the tables, and the prices before them, are kept
-pub record RowPriced (F : ℕ → Layer) (lanes ends poses row s : ℕ) (old new : List ℕ) : Type 0 where
+-- the prices F, lane by lane, in the block at `prices`; the tables, and the prices before it, are kept
+pub record RowPriced (F : ℕ → Layer) (lanes ends poses prices : ℕ) (old new : List ℕ) : Type 0 where
   pub long : length new ≡ length old
   pub low : Low new
-  pub kept : (k : ℕ) → 98304 ≤ k → k < pricesAt row s → getD new k 0 ≡ getD old k 0
-  pub right : (q a l : ℕ) → q < ends → a < poses → l < lanes → pricesIn new row s l q a ≡ F l q a
+  pub kept : (k : ℕ) → 98304 ≤ k → k < prices → getD new k 0 ≡ getD old k 0
+  pub right : (q a l : ℕ) → q < ends → a < poses → l < lanes → layerIn new prices l q a ≡ F l q a
+
+-- stage I on from the layer in block 0, which has i cells
+abbrev pub endFrom : Deck → ℕ → ℕ → (ℕ → ℕ) → ℕ → List ℕ → ℕ → ℕ → Layer
+endFrom D R talls pos I st i l q a = stageEnd D R talls pos I (layerIn st 0 l) i q a
 
 -- the prices of both rows for the start pairs below m; the tables are kept
 pub record BothPriced (x₀ x₁ : Prices) (lanes ends poses m : ℕ) (old new : List ℕ) : Type 0 where
@@ -103,7 +107,9 @@ pub record RowGiven (line pairs places : List ℕ) (R n poses count talls : ℕ)
   pub long : talls ≤ length places
   pub inside : (I : ℕ) → I < talls → posIn places I < n
 
--- the store: room for all, and no word over B
-pub record StoreGiven (count : ℕ) (st : List ℕ) : Type 0 where
+-- both rows, and the store: room for all, and no word over B
+pub record StagesGiven (line₀ line₁ pairs places₀ places₁ st : List ℕ) (R n₀ n₁ poses count talls : ℕ) : Type 0 where
+  pub row₀ : RowGiven line₀ pairs places₀ R n₀ poses count talls
+  pub row₁ : RowGiven line₁ pairs places₁ R n₁ poses count talls
   pub long : 628224 + count * 98304 ≤ length st
   pub low : Low st
