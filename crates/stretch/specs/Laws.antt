@@ -87,6 +87,9 @@ outside-layers p f h = record { long = f .long; below = λ k x y. f .high k (ome
 pub outside-prices : {prices wide a b : ℕ} {old new : List ℕ} → Frame a b old new → prices ≤ a → b ≤ prices + wide → Outside prices wide old new
 outside-prices f p q = record { long = f .long; below = λ k x y. f .low k (omega arith); above = λ k x. f .high k (omega arith) }
 
+pub outside-widen : {prices wide more : ℕ} {old new : List ℕ} → Outside prices wide old new → wide ≤ more → Outside prices more old new
+outside-widen f h = record { long = f .long; below = f .below; above = λ k x. f .above k (omega arith) }
+
 -- ---- prices, as far as the layers have come
 
 module _ (D : Deck) (R : ℕ) (f : Layer) (i p : ℕ) where
