@@ -62,8 +62,8 @@ fn stage_end(
         );
         return;
     }
-    stretch::stretch_to(
-        store, line, pairs, n, poses, r, count, lanes, cells, 0, prices,
+    finish::stretch_end(
+        store, line, pairs, n, poses, r, count, lanes, cells, prices,
     );
 }
 
