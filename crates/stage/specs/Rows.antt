@@ -28,9 +28,9 @@ module _ (D : Deck) (R talls : ℕ) (pos : ℕ → ℕ) where
         low = w .low;
         kept = w .outside .below;
         right = λ q a l x y z.
-          let v = w .right q a l (omega arith) (omega arith) z in
-          let f = stage-tall D R talls pos (layerIn old 0 l) I i q a h in
-          rw (e) at v ∙ sym f;
+            let v = w .right q a l (omega arith) (omega arith) z in
+            let f = stage-tall D R talls pos (layerIn old 0 l) I i q a h in
+            rw (e) at v ∙ sym f;
       }
 
   -- to the row's end
@@ -45,7 +45,7 @@ module _ (D : Deck) (R talls : ℕ) (pos : ℕ → ℕ) where
         low = w .low;
         kept = w .outside .below;
         right = λ q a l x y z.
-          ap (λ (k : ℕ). getD new k 0) (omega arith) ∙ w .first l z ∙ sym (stage-last D R talls pos (layerIn old 0 l) I i q a h (omega arith) (omega arith));
+            ap (λ (k : ℕ). getD new k 0) (omega arith) ∙ w .first l z ∙ sym (stage-last D R talls pos (layerIn old 0 l) I i q a h (omega arith) (omega arith));
       }
 
   -- after the first layer in block 0
@@ -69,7 +69,7 @@ module _ (D : Deck) (R talls : ℕ) (pos : ℕ → ℕ) where
   unfolding priceOf openPrice wide
   row-open count s {mid = mid} e n f w =
       let v : RowPriced (priceOf D R talls pos 0 s) 1 (wide talls 1 count) (wide talls 1 (D .poses)) _ _ _ = row-from 0 1 (f .frame) w
-          (λ q a l x y z. stage-ext D R (layerIn mid 0 l) (firstOpen D R) (λ q a v u. f .right q (omega arith) a l u z) talls pos 0 1 q a (rw n at x) y) in
+      (λ q a l x y z. stage-ext D R (layerIn mid 0 l) (firstOpen D R) (λ q a v u. f .right q (omega arith) a l u z) talls pos 0 1 q a (rw n at x) y) in
       rw e v
 
   -- the stage after tall cell I, which stands as pair s

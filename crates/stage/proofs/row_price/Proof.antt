@@ -16,8 +16,7 @@ stage-end-requires : tie.Need-stage-end-requires
 stage-end-requires c κs =
     let k = c .before .before .before .before .before .before .before .before .before .before in
     let f = c .before .before .before .open-layer .ensures in
-    let r = k .pre .2 in
-    (
+    let r = k .pre .2 in (
       k .pre .0,
       record { ground = k .pre .0 .ground; low = f .low; narrow = omega arith; early = omega arith; room = omega (arith, r .over, r .room, f .frame .long) },
       record { over = r .over; room = omega (arith, r .room, f .frame .long) },
@@ -50,8 +49,7 @@ first-layer-requires c κs =
     let g = k .pre .0 .ground in
     let s = start-pair (k .args .talls) (k .args .i) (k .args .count) (k .args .s) (k .pre .4) (c .before .before .before .if1 .left) (k .pre .3) in
     let p = start-place (k .args .i) (c .before .before .word .result) (k .pre .0) (c .before .before .before .if1 .left) (k .pre .3) (c .before .before .word .ensures) in
-    let r = k .pre .2 in
-    (
+    let r = k .pre .2 in (
       record { ground = g; low = k .pre .1; narrow = g .few; early = omega (arith, c .before .placed-with .ensures, g .coded .reorder); room = omega (arith, r .over, r .room) },
       p,
       omega (arith, g .few),
@@ -70,8 +68,7 @@ stage-end-requires-2 c κs =
     let g = k .pre .0 .ground in
     let p = start-place (k .args .i) (c .before .before .before .before .before .before .word .result) (k .pre .0) (c .before .before .before .before .before .before .before .if1 .left) (k .pre .3) (c .before .before .before .before .before .before .word .ensures) in
     let f = c .before .before .before .first-layer .ensures in
-    let r = k .pre .2 in
-    (
+    let r = k .pre .2 in (
       k .pre .0,
       record { ground = g; low = f .low; narrow = g .few; early = omega (arith, c .before .before .before .before .before .placed-with .ensures, g .coded .reorder); room = omega (arith, r .over, r .room, f .frame .long) },
       record { over = r .over; room = omega (arith, r .room, f .frame .long) },
@@ -86,8 +83,8 @@ returns-2 c =
     let k = c .before .before .before .before .before .before .before .before .before .before .before .before .before .before .before in
     let a = k .args in
     row-after (deckOf (a .line .now) (a .n) (a .poses)) (a .r) (a .talls) (posIn (a .places .now)) (a .i) (a .i - 1) (a .count) (a .s)
-        (c .before .before .before .before .before .before .before .before .before .word .result) (c .before .before .before .before .before .before .before .before .placed-with .result) (omega (arith, c .before .before .before .before .before .before .before .before .before .before .if1 .left)) (k .pre .3) (k .pre .0 .ground .all)
-        (c .before .before .before .before .before .before .before .before .before .word .ensures) (c .before .before .before .before .before .before .before .before .placed-with .ensures) (c .before .before .before .before .before .before .first-layer .ensures) (c .before .before .stage-end2 .ensures)
+    (c .before .before .before .before .before .before .before .before .before .word .result) (c .before .before .before .before .before .before .before .before .placed-with .result) (omega (arith, c .before .before .before .before .before .before .before .before .before .before .if1 .left)) (k .pre .3) (k .pre .0 .ground .all)
+    (c .before .before .before .before .before .before .before .before .before .word .ensures) (c .before .before .before .before .before .before .before .before .placed-with .ensures) (c .before .before .before .before .before .before .first-layer .ensures) (c .before .before .stage-end2 .ensures)
 
 pub row-price-spec : {M : Type 1} → statement M
 row-price-spec =
