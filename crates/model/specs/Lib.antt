@@ -2,3 +2,12 @@ pub mod Steps
 pub mod Stages
 pub mod Matched
 pub mod Back
+pub mod Pairs
+pub mod Lowest
+pub mod Spots
+pub mod Layers
+pub mod PricesRight
+pub mod StagesRight
+pub mod CaseStates
+pub mod CasesRight
+pub mod LeastCost
