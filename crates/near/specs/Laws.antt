@@ -17,7 +17,7 @@ use Rattle.deck.specs.Words.{wordOf, variant, siteIn, endIn, differIn, tollAt, 
 use Rattle.deck.specs.Laws.{differ-low, pay-low}
 use Rattle.near.specs.Loops.{lowest-cap, lowest-same, lowest-min, lowest-swap, lowest-none, lowest-more}
 use Rattle.near.specs.Gaps.{paying, paying-low, Toll, pays, free, barred, toll?}
-use Rattle.near.specs.Rows.{inRow, found, endRow, payOf, payIn, onePose, byPoses, byPairs}
+use Rattle.near.specs.Rows.{inRow, found, endRow, payOf, payIn, onePose, byPoses, onePair, byPairs}
 
 -- ---- one source in row r
 
@@ -169,7 +169,7 @@ via-found line n poses R f i p m a =
 -- by way of all sources
 pub reached-found : (line : List ℕ) (n poses R : ℕ) (f : Layer) (i q a : ℕ)
     → reached (deckOf line n poses) R f i q a ≡ found (byPairs line (deckOf line n poses) R f i q (pairCount R)) a
-unfolding reached byPairs
+unfolding reached byPairs onePair
 reached-found line n poses R f i q a =
     let src : ℕ → Bool = isSource (deckOf line n poses) R i q in
     let plane : ℕ → ℕ → ℕ → ℕ = λ p. byPoses line (lastAt R i p) (lastAt R (suc i) q) (f p) poses in

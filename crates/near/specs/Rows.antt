@@ -4,19 +4,16 @@ use Prim.Native.Nat.{ℕ, zero, suc, _+_, _*_, _-_, _/_, _%_, _≤_, _<_, min}
 use mathlib.Core.Path.{_≡_}
 use mathlib.Core.Bool.{Bool, cond}
 use mathlib.Core.List.{List}
-use lib.Dec.{leb, ltb, eqb}
+use lib.Dec.{ltb, eqb}
 use Rattle.rows.specs.Lists.{from}
 use Rattle.pair.specs.Coded.{lowest}
 use Rattle.model.specs.Steps.{B, Deck, Layer, lastAt, isSource}
 use Rattle.deck.specs.Words.{wordOf, variant, endIn, differIn}
 use Rattle.near.specs.Gaps.{paying}
 
--- what a source in row r that costs c is in row t, and in the rows up to t
+-- what a source in row r that costs c is in row t
 abbrev pub inRow : ℕ → ℕ → ℕ → ℕ
 inRow r t c = cond (eqb r t) c B
-
-abbrev pub upTo : ℕ → ℕ → ℕ → ℕ
-upTo r t c = cond (leb r t) c B
 
 -- a plane has a cost for each row; what pose a finds in the planes: in its variant's plane the rows of the gaps that pay, in plane 4 all rows that end
 -- four sites or more left of it
@@ -47,6 +44,10 @@ onePose line k m b c v t = inRow (endRow line k b m) t (c + payIn line k b m v)
 unfoldable pub byPoses : List ℕ → ℕ → ℕ → (ℕ → ℕ) → ℕ → ℕ → ℕ → ℕ
 byPoses line k m f n v t = lowest B (λ b. onePose line k m b (f b) v t) (from 0 n)
 
--- by way of the pairs below n of the layer f, which has i cells, that are sources of pair q
+-- by way of pair p of the layer f, which has i cells, if it is a source of pair q
+unfoldable pub onePair : List ℕ → Deck → ℕ → Layer → ℕ → ℕ → ℕ → ℕ → ℕ → ℕ
+onePair line D R f i q p v t = cond (isSource D R i q p) (byPoses line (lastAt R i p) (lastAt R (suc i) q) (f p) (D .poses) v t) B
+
+-- by way of the pairs below n
 unfoldable pub byPairs : List ℕ → Deck → ℕ → Layer → ℕ → ℕ → ℕ → ℕ → ℕ → ℕ
-byPairs line D R f i q n v t = lowest B (λ p. cond (isSource D R i q p) (byPoses line (lastAt R i p) (lastAt R (suc i) q) (f p) (D .poses) v t) B) (from 0 n)
+byPairs line D R f i q n v t = lowest B (λ p. onePair line D R f i q p v t) (from 0 n)

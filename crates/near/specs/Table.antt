@@ -7,9 +7,9 @@ use Rattle.rows.specs.Lists.{from}
 use Rattle.pair.specs.Coded.{lowest}
 use Rattle.model.specs.Steps.{B, Deck, Layer}
 use Rattle.lanes.specs.Store.{Frame, Low, layerIn}
-use Rattle.deck.specs.Words.{LineWords}
+use Rattle.deck.specs.Words.{wordOf, LineWords}
 use Rattle.near.specs.Gaps.{paying}
-use Rattle.near.specs.Rows.{inRow, payIn, onePose, byPoses, byPairs}
+use Rattle.near.specs.Rows.{inRow, payIn, onePose, byPoses, onePair, byPairs, found}
 
 -- the planes of lane l
 abbrev pub wordAt : List ℕ → ℕ → ℕ → ℕ → ℕ
@@ -71,7 +71,11 @@ poseIn st line at k m b l = onePose line k m b (rowIn st at l b)
 abbrev pub posesIn : List ℕ → List ℕ → ℕ → ℕ → ℕ → ℕ → ℕ → ℕ → ℕ → ℕ
 posesIn st line at k m n l = byPoses line k m (rowIn st at l) n
 
--- the pairs below n of the layer in the block at `at`, which has i cells, that are sources of pair q
+-- pair p of the layer in the block at `at`, which has i cells, if it is a source of pair q
+abbrev pub pairIn : List ℕ → List ℕ → Deck → ℕ → ℕ → ℕ → ℕ → ℕ → ℕ → ℕ → ℕ → ℕ
+pairIn st line D R at i q p l = onePair line D R (layerIn st at l) i q p
+
+-- the pairs below n
 abbrev pub pairsIn : List ℕ → List ℕ → Deck → ℕ → ℕ → ℕ → ℕ → ℕ → ℕ → ℕ → ℕ → ℕ
 pairsIn st line D R at i q n l = byPairs line D R (layerIn st at l) i q n
 
@@ -89,6 +93,28 @@ pub record RunUp (rows lanes : ℕ) (old new : List ℕ) : Type 0 where
   pub far : (l t : ℕ) → l < lanes → t < rows → wordAt new l 4 t ≡ lowest B (wordAt old l 4) (from 0 (suc t))
   pub rest : (l t : ℕ) → l < lanes → rows ≤ t → t < 19 → wordAt new l 4 t ≡ wordAt old l 4 t
 
+-- what every pose finds is what it finds in the planes
+pub record Ready (plane : ℕ → ℕ → ℕ → ℕ) (lanes : ℕ) (table : List ℕ) : Type 0 where
+  pub long : length table ≡ 6080
+  pub low : Low table
+  pub right : (a l : ℕ) → a < 60 → l < lanes → foundIn table a l ≡ found (plane l) a
+
 -- a cell's own cost with what its pose finds, capped
 abbrev pub foundRow : List ℕ → ℕ → ℕ → ℕ → ℕ
 foundRow table own a l = min (own + foundIn table a l) B
+
+-- pose a of the cell at position k, and all its rows
+abbrev pub foundRowOf : List ℕ → List ℕ → ℕ → ℕ → ℕ → ℕ
+foundRowOf line table k a l = foundRow table (wordOf line k a) a l
+
+abbrev pub foundRows : List ℕ → List ℕ → ℕ → ℕ → Layer
+foundRows line table k l q a = foundRowOf line table k a l
+
+-- rows to be written from a table
+pub record ToRows (st line table : List ℕ) (k lanes : ℕ) : Type 0 where
+  pub words : LineWords line
+  pub low : Low st
+  pub tableLow : Low table
+  pub tableLong : length table ≡ 6080
+  pub narrow : lanes ≤ 60
+  pub cell : k < 64

@@ -2,23 +2,25 @@
 use Prim.Native.Nat.{ℕ, zero, suc, _+_, _*_, _-_, _/_, _%_, _≤_, _<_, min}
 use mathlib.Core.Path.{_≡_, refl, sym, ap, ap₂, _∙_}
 use mathlib.Core.Logic.{_≢_}
+use mathlib.Core.Bool.{true, false, cond}
 use mathlib.Core.List.{List}
 use native.Mathlib.Omega.{arith}
 use native.Mathlib.Decide.{ℕ-discrete, decLt}
 use borrow.Author.Count.{below-more}
-use lib.ListN.{length, getD, set, length-set}
+use lib.ListN.{length, getD, set, length-set, replicate, length-replicate}
 use lib.Seq.{getD-set-same, getD-set-other}
-use Rattle.model.specs.Steps.{B}
+use Rattle.model.specs.Steps.{B, Deck, Layer, lastAt, isSource}
 use Rattle.rows.specs.Lists.{from}
-use Rattle.pair.specs.Coded.{lowest, lowest-from}
+use Rattle.pair.specs.Coded.{lowest, lowest-low, lowest-from}
 use Rattle.lanes.specs.Lanes.{wordsFrom}
 use Rattle.lanes.specs.Store.{Frame, Low}
-use Rattle.lanes.specs.Laws.{frame-refl, frame-set}
+use Rattle.lanes.specs.Laws.{frame-refl, frame-set, nones-at}
 use Rattle.deck.specs.Words.{LineWords}
-use Rattle.near.specs.Loops.{lowest-none, lowest-more}
-use Rattle.near.specs.Rows.{inRow, endRow, payIn, onePose, byPoses}
-use Rattle.near.specs.Laws.{row-hit, row-miss, pay-same, pay-small}
-use Rattle.near.specs.Table.{wordAt, LoweredAt, Gathered, Spread, Pays, PaysLow, Source, RunUp, foundIn}
+use Rattle.near.specs.Loops.{lowest-none, lowest-more, lowest-same}
+use Rattle.near.specs.Gaps.{paying, paying-low}
+use Rattle.near.specs.Rows.{inRow, endRow, found, payIn, onePose, byPoses, onePair, byPairs}
+use Rattle.near.specs.Laws.{row-hit, row-miss, pay-same, pay-small, found-none, found-ext}
+use Rattle.near.specs.Table.{wordAt, LoweredAt, Gathered, Spread, Pays, PaysLow, Source, RunUp, foundIn, Ready, ToRows}
 
 -- ---- one row
 
@@ -200,6 +202,29 @@ module _ (line : List ℕ) (k m : ℕ) (f : ℕ → ℕ) where
   unfolding byPoses
   poses-more n v t = lowest-more _ n
 
+-- the pairs below n
+module _ (line : List ℕ) (D : Deck) (R : ℕ) (f : Layer) (i q : ℕ) where
+  pub pair-in : (p v t : ℕ) → isSource D R i q p ≡ true
+      → onePair line D R f i q p v t ≡ byPoses line (lastAt R i p) (lastAt R (suc i) q) (f p) (D .poses) v t
+  unfolding onePair
+  pair-in p v t e = ap (λ z. cond z (byPoses line (lastAt R i p) (lastAt R (suc i) q) (f p) (D .poses) v t) B) e
+
+  pub pair-out : (p v t : ℕ) → isSource D R i q p ≡ false → onePair line D R f i q p v t ≡ B
+  unfolding onePair
+  pair-out p v t e = ap (λ z. cond z (byPoses line (lastAt R i p) (lastAt R (suc i) q) (f p) (D .poses) v t) B) e
+
+  pub pairs-none : (v t : ℕ) → byPairs line D R f i q 0 v t ≡ B
+  unfolding byPairs
+  pairs-none v t = lowest-none _
+
+  pub pairs-more : (n v t : ℕ) → byPairs line D R f i q (n + 1) v t ≡ min (byPairs line D R f i q n v t) (onePair line D R f i q n v t)
+  unfolding byPairs
+  pairs-more n v t = lowest-more _ n
+
+  pub pairs-low : (n v t : ℕ) → byPairs line D R f i q n v t ≤ B
+  unfolding byPairs
+  pairs-low n v t = lowest-low B _ (from 0 n)
+
 -- no source, or none that lowers anything
 pub gathered-none :
     {plane : ℕ → ℕ → ℕ → ℕ} (lanes : ℕ) {table : List ℕ}
@@ -242,3 +267,39 @@ source-on g w =
       left = g .left;
       right = g .right;
     }
+
+pub rows-on : {st st′ line table : List ℕ} {k lanes : ℕ} → ToRows st line table k lanes → Low st′ → ToRows st′ line table k lanes
+rows-on g w = record { words = g .words; low = w; tableLow = g .tableLow; tableLong = g .tableLong; narrow = g .narrow; cell = g .cell }
+
+-- ---- from a table of NONE alone
+
+module _
+    {plane : ℕ → ℕ → ℕ → ℕ} {lanes : ℕ} {table : List ℕ} (narrow : lanes ≤ 64) (low : (l v t : ℕ) → plane l v t ≤ B) (w : Gathered plane lanes (replicate 6080 B) table)
+  where
+    -- it has the planes
+    planes : (l v t : ℕ) → l < lanes → v < 5 → t < 19 → 4 ≤ v + 4 * t → wordAt table l v t ≡ plane l v t
+    planes l v t i j k g = omega (arith, w .done l v t i j k g, nones-at 6080 (v * 1216 + t * 64 + l) (omega arith), low l v t)
+
+    -- and once plane 4 ran up, what is found in them
+    pub ready : {table′ : List ℕ} → RunUp 15 lanes table table′ → Ready plane lanes table′
+    unfolding found
+    ready {table′} u =
+        record {
+          long = u .long ∙ w .long ∙ length-replicate 6080 B;
+          low = u .low;
+          right = λ a l h i.
+              ap₂ min
+              (lowest-same (λ gap. wordAt table′ l (a % 4) (a / 4 + 4 - gap)) (λ gap. wordAt table l (a % 4) (a / 4 + 4 - gap)) paying
+              (λ gap g. let b = paying-low gap g in u .near l (a % 4) (a / 4 + 4 - gap) i (omega arith) (omega arith)))
+              (u .far l (a / 4) i (omega arith))
+              ∙ found-ext (wordAt table l) (plane l) a h (λ v t j k g. planes l v t i j k g);
+        }
+
+    -- if nothing lowered it, nothing is found
+    pub unused : table ≡ replicate 6080 B → (a l : ℕ) → a < 60 → l < lanes → found (plane l) a ≡ B
+    unused e a l h i =
+        found-ext (plane l) (λ v t. B) a h
+        (λ v t j k g.
+        let z : wordAt table l v t ≡ wordAt (replicate 6080 B) l v t = ap (λ (s : List ℕ). wordAt s l v t) e in
+        omega (arith, planes l v t i j k g, nones-at 6080 (v * 1216 + t * 64 + l) (omega arith)))
+        ∙ found-none a

@@ -7,10 +7,10 @@ ghost use Prim.Native.Nat.{ℕ, suc, _+_, _*_, _≤_, _<_};
 ghost use lib.ListN.{length, getD};
 ghost use Rattle.model.specs.Steps.{B};
 ghost use Rattle.lanes.specs.Lanes.{charged, wordsFrom};
-ghost use Rattle.lanes.specs.Store.{Low, Written};
+ghost use Rattle.lanes.specs.Store.{Low, Written, FilledPair};
 ghost use Rattle.deck.specs.Words.{LineWords};
 ghost use Rattle.near.specs.Rows.{endRow, payIn};
-ghost use Rattle.near.specs.Table.{LoweredAt, Gathered, chargedBy, Spread, Pays, PaysLow, Source, poseIn, posesIn, RunUp, foundIn, foundRow};
+ghost use Rattle.near.specs.Table.{LoweredAt, Gathered, chargedBy, Spread, Pays, PaysLow, Source, poseIn, posesIn, RunUp, foundIn, foundRow, foundRowOf, foundRows, ToRows};
 
 // The row in which pose b of the cell at position k counts for the cell at position m.
 pub fn end_row(line: &[u32], k: usize, b: usize, m: usize) -> usize
@@ -199,5 +199,47 @@ pub fn put_row(store: &mut [u32], at: usize, table: &[u32; 6080], a: usize, own:
     while l < lanes {
         store[at + l] = lanes::least(own + found_lane(table, a, l), lanes::NONE);
         l += 1;
+    }
+}
+
+// The row of pose a of the cell at position k: NONE where the pose is not offered.
+fn put_pose(
+    store: &mut [u32],
+    line: &[u32],
+    table: &[u32; 6080],
+    at: usize,
+    k: usize,
+    a: usize,
+    lanes: usize,
+)
+    requires { ⌜ ToRows (now store) (now line) (now table) k lanes × (at + lanes ≤ length (now store)) × (a < 60) ⌝ }
+    ensures { λ _. ⌜ Written (foundRowOf (now (line .entry)) (now (table .entry)) k a) at lanes (now (store .entry)) (now (store .exit)) ⌝ }
+{
+    let own = line[k * 128 + a];
+    if own >= lanes::NONE {
+        lanes::fill(store, at, lanes, lanes::NONE);
+        return;
+    }
+    put_row(store, at, table, a, own, lanes);
+}
+
+// The rows of pair q, whose cell stands at position k.
+pub fn put_rows(
+    store: &mut [u32],
+    line: &[u32],
+    table: &[u32; 6080],
+    to: usize,
+    q: usize,
+    k: usize,
+    poses: usize,
+    lanes: usize,
+)
+    requires { ⌜ ToRows (now store) (now line) (now table) k lanes × (to + 49152 ≤ length (now store)) × (q < 12) × (poses ≤ 60) ⌝ }
+    ensures { λ _. ⌜ FilledPair (foundRows (now (line .entry)) (now (table .entry)) k) lanes to q poses (now (store .entry)) (now (store .exit)) ⌝ }
+{
+    let mut a: usize = 0;
+    while a < poses {
+        put_pose(store, line, table, to + q * 4096 + a * 64, k, a, lanes);
+        a += 1;
     }
 }
