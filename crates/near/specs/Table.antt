@@ -1,6 +1,7 @@
 -- The planes in a table of 6080 words: 5 planes of 19 rows of 64 lanes. What is given, and what the loops leave.
 use Prim.Native.Nat.{ℕ, suc, _+_, _*_, _-_, _/_, _%_, _≤_, _<_, min}
 use mathlib.Core.Path.{_≡_}
+use mathlib.Core.Logic.{_⊎_}
 use mathlib.Core.List.{List}
 use lib.ListN.{length, getD}
 use Rattle.rows.specs.Lists.{from}
@@ -26,12 +27,14 @@ pub record Gathered (plane : ℕ → ℕ → ℕ → ℕ) (lanes : ℕ) (old new
   pub low : Low new
   pub done : (l v t : ℕ) → l < lanes → v < 5 → t < 19 → 4 ≤ v + 4 * t → wordAt new l v t ≡ min (wordAt old l v t) (plane l v t)
 
--- the same in the planes below `last`, by one source in row t, whose cost in plane v and lane l is f v l; the other planes are as they were
-pub record Spread (f : ℕ → ℕ → ℕ) (t last lanes : ℕ) (old new : List ℕ) : Type 0 where
+-- the same in the planes below `last`, so many lanes from `first` on, by one source in row t, whose cost in plane v and the j-th of these lanes is f v j;
+-- the other planes and lanes are as they were
+pub record Spread (f : ℕ → ℕ → ℕ) (t last first lanes : ℕ) (old new : List ℕ) : Type 0 where
   pub long : length new ≡ length old
   pub low : Low new
-  pub done : (l v s : ℕ) → l < lanes → v < last → s < 19 → 4 ≤ v + 4 * s → wordAt new l v s ≡ min (wordAt old l v s) (inRow t s (f v l))
-  pub rest : (l v s : ℕ) → l < lanes → last ≤ v → v < 5 → s < 19 → wordAt new l v s ≡ wordAt old l v s
+  pub done : (j v s : ℕ) → j < lanes → v < last → s < 19 → 4 ≤ v + 4 * s → wordAt new (first + j) v s ≡ min (wordAt old (first + j) v s) (inRow t s (f v j))
+  pub rest : (j v s : ℕ) → j < lanes → last ≤ v → v < 5 → s < 19 → wordAt new (first + j) v s ≡ wordAt old (first + j) v s
+  pub other : (l v s : ℕ) → l < 64 → (l < first) ⊎ (first + lanes ≤ l) → s < 19 → wordAt new l v s ≡ wordAt old l v s
 
 -- what each variant of the cell at position k pays in each plane of the cell at position m: the words below n of 20
 pub record Pays (line : List ℕ) (k m n : ℕ) (pays : List ℕ) : Type 0 where

@@ -1,7 +1,7 @@
 -- Laws of the table: what one lowered row, one source and one more of each loop make of it. Assumes nothing.
 use Prim.Native.Nat.{ℕ, zero, suc, _+_, _*_, _-_, _/_, _%_, _≤_, _<_, min}
 use mathlib.Core.Path.{_≡_, refl, sym, ap, ap₂, _∙_}
-use mathlib.Core.Logic.{_≢_}
+use mathlib.Core.Logic.{_≢_, ⊎-elim}
 use mathlib.Core.Bool.{true, false, cond}
 use mathlib.Core.List.{List}
 use native.Mathlib.Omega.{arith}
@@ -92,44 +92,68 @@ pose-spread {line} {pays} {k} {m} b v s x p e h =
 -- ---- one source
 
 -- the planes below the first one that counts
-pub spread-none : (f : ℕ → ℕ → ℕ) (t last lanes : ℕ) {table : List ℕ} → Low table → ((v s : ℕ) → v < last → 4 ≤ v + 4 * s → t ≢ s) → Spread f t last lanes table table
-spread-none f t last lanes {table} w h =
+pub spread-none :
+    (f : ℕ → ℕ → ℕ) (t last first lanes : ℕ) {table : List ℕ}
+    → Low table → ((v s : ℕ) → v < last → 4 ≤ v + 4 * s → t ≢ s)
+    → Spread f t last first lanes table table
+spread-none f t last first lanes {table} w h =
     record {
       long = refl;
       low = w;
-      done = λ l v s i j k c. omega (arith, w .word (v * 1216 + s * 64 + l), row-miss t s (f v l) (h v s j c));
+      done = λ l v s i j k c. omega (arith, w .word (v * 1216 + s * 64 + (first + l)), row-miss t s (f v l) (h v s j c));
       rest = λ l v s i j k c. refl;
+      other = λ l v s i j k. refl;
     }
 
 -- one plane more
 pub spread-more :
-    {f : ℕ → ℕ → ℕ} {t lanes : ℕ} {old mid new : List ℕ} (v : ℕ)
-    → lanes ≤ 64 → t < 19 → v < 5 → Low old → Spread f t v lanes old mid → LoweredAt (f v) (v * 1216 + t * 64) lanes mid new
-    → Spread f t (v + 1) lanes old new
-spread-more {f} {t} {lanes} {old} {mid} {new} v n h c b s w =
+    {f : ℕ → ℕ → ℕ} {t first lanes : ℕ} {old mid new : List ℕ} (v : ℕ)
+    → first + lanes ≤ 64 → t < 19 → v < 5 → Low old → Spread f t v first lanes old mid → LoweredAt (f v) (v * 1216 + t * 64 + first) lanes mid new
+    → Spread f t (v + 1) first lanes old new
+spread-more {f} {t} {first} {lanes} {old} {mid} {new} v n h c b s w =
     record {
       long = w .frame .long ∙ s .long;
       low = lowered-at-low w (s .low);
       done = λ l u r i j k g. go l u r i j k g (ℕ-discrete u v) (ℕ-discrete r t);
-      rest = λ l u r i j k g. away l u r i (λ e. omega arith) ∙ s .rest l u r i (omega arith) k g;
+      rest = λ l u r i j k g. away (first + l) u r (λ e. omega arith) ∙ s .rest l u r i (omega arith) k g;
+      other = λ l u r i j k. away l u r (⊎-elim (λ p e. omega arith) (λ p e. omega arith) j) ∙ s .other l u r i j k;
     }
   where
-    away : (l u r : ℕ) → l < lanes → (v * 1216 + t * 64 ≤ u * 1216 + r * 64 + l → v * 1216 + t * 64 + lanes ≤ u * 1216 + r * 64 + l) → wordAt new l u r ≡ wordAt mid l u r
-    away l u r i e = frame-other (u * 1216 + r * 64 + l) (w .frame) e
+    away :
+        (l u r : ℕ) → (v * 1216 + t * 64 + first ≤ u * 1216 + r * 64 + l → v * 1216 + t * 64 + first + lanes ≤ u * 1216 + r * 64 + l)
+        → wordAt new l u r ≡ wordAt mid l u r
+    away l u r e = frame-other (u * 1216 + r * 64 + l) (w .frame) e
 
-    go : (l u r : ℕ) → l < lanes → u < v + 1 → r < 19 → 4 ≤ u + 4 * r → Dec (u ≡ v) → Dec (r ≡ t) → wordAt new l u r ≡ min (wordAt old l u r) (inRow t r (f u l))
-    go l u r i j k g (no d) x = away l u r i (λ e. omega arith) ∙ s .done l u r i (omega arith) k g
+    go : (l u r : ℕ) → l < lanes → u < v + 1 → r < 19 → 4 ≤ u + 4 * r → Dec (u ≡ v) → Dec (r ≡ t)
+        → wordAt new (first + l) u r ≡ min (wordAt old (first + l) u r) (inRow t r (f u l))
+    go l u r i j k g (no d) x = away (first + l) u r (λ e. omega arith) ∙ s .done l u r i (omega arith) k g
     go l u r i j k g (yes e) (no d) =
-        omega (arith, away l u r i (λ z. omega arith), s .rest l u r i (omega arith) (omega arith) k, row-miss t r (f u l) (λ z. omega arith), b .word (u * 1216 + r * 64 + l))
+        omega (
+          arith,
+          away (first + l) u r (λ z. omega arith),
+          s .rest l u r i (omega arith) (omega arith) k,
+          row-miss t r (f u l) (λ z. omega arith),
+          b .word (u * 1216 + r * 64 + (first + l)),
+        )
     go l u r i j k g (yes e) (yes d) =
+        let z : getD new (v * 1216 + t * 64 + (first + l)) 0 ≡ getD new (v * 1216 + t * 64 + first + l) 0 = ap (λ (k : ℕ). getD new k 0) (omega arith) in
+        let y : getD mid (v * 1216 + t * 64 + (first + l)) 0 ≡ getD mid (v * 1216 + t * 64 + first + l) 0 = ap (λ (k : ℕ). getD mid k 0) (omega arith) in
         rw (e, d) (omega (arith, w .done l i, s .rest l v t i (omega arith) (omega arith) h, row-hit t t (f v l) refl))
 
--- all planes: the source is gathered
+-- all planes, in all lanes: the source is gathered
 pub spread-all :
     {f : ℕ → ℕ → ℕ} {plane : ℕ → ℕ → ℕ → ℕ} {t lanes : ℕ} {old new : List ℕ}
-    → Spread f t 5 lanes old new → ((l v s : ℕ) → l < lanes → v < 5 → plane l v s ≡ inRow t s (f v l))
+    → Spread f t 5 0 lanes old new → ((l v s : ℕ) → l < lanes → v < 5 → plane l v s ≡ inRow t s (f v l))
     → Gathered plane lanes old new
-spread-all s e = record { long = s .long; low = s .low; done = λ l v r i j k g. omega (arith, s .done l v r i j k g, e l v r i j) }
+spread-all {old = old} {new = new} s e =
+    record {
+      long = s .long;
+      low = s .low;
+      done = λ l v r i j k g.
+          let z : 0 + l ≡ l = omega arith in
+          let d = rw z at (s .done l v r i j k g) in
+          omega (arith, e l v r i j);
+    }
 
 -- ---- what is found
 

@@ -78,25 +78,33 @@ fn lower(table: &mut [u32; 6080], to: usize, row: &[u32], at: usize, charge: u32
     }
 }
 
-// A source row to row t of every plane, or of plane 4 alone if t is 0; u is the source's variant.
-fn spread(
+// A source row, so many lanes to those from `lane` on, to row t of every plane, or of plane 4 alone if t is 0; u is the source's variant.
+pub fn spread(
     table: &mut [u32; 6080],
     row: &[u32],
     at: usize,
     pays: &[u32; 20],
     u: usize,
     t: usize,
+    lane: usize,
     lanes: usize,
 )
-    requires { ⌜ Low (now table) × (length (now table) ≡ 6080) × Low (now row) × (at + lanes ≤ length (now row)) × PaysLow (now pays) × (u < 4) × (t < 19) × (lanes ≤ 60) ⌝ }
-    ensures { λ _. ⌜ Spread (chargedBy (now (row .entry)) at (now (pays .entry)) u) t 5 lanes (now (table .entry)) (now (table .exit)) ⌝ }
+    requires { ⌜ Low (now table) × (length (now table) ≡ 6080) × Low (now row) × (at + lanes ≤ length (now row)) × PaysLow (now pays) × (u < 4) × (t < 19) × (lane + lanes ≤ 64) ⌝ }
+    ensures { λ _. ⌜ Spread (chargedBy (now (row .entry)) at (now (pays .entry)) u) t 5 lane lanes (now (table .entry)) (now (table .exit)) ⌝ }
 {
     let mut v: usize = 0;
     if t == 0 {
         v = 4;
     }
     while v < 5 {
-        lower(table, v * 1216 + t * 64, row, at, pays[u * 5 + v], lanes);
+        lower(
+            table,
+            v * 1216 + t * 64 + lane,
+            row,
+            at,
+            pays[u * 5 + v],
+            lanes,
+        );
         v += 1;
     }
 }
@@ -123,7 +131,7 @@ fn from_pose(
     if common(store, at + b * 64, lanes) >= lanes::NONE {
         return false;
     }
-    spread(table, store, at + b * 64, pays, b % 4, t, lanes);
+    spread(table, store, at + b * 64, pays, b % 4, t, 0, lanes);
     true
 }
 

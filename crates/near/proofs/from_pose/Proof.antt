@@ -51,7 +51,7 @@ spread-requires : tie.Need-spread-requires
 spread-requires c κs =
     let k = c .before .before .before .before .before .before .before in
     let g = k .pre .0 in
-    (g .tableLow, g .tableLong, g .low, omega (arith, g .room, g .narrow), pays-low (g .words) (k .pre .1), omega arith, omega arith, g .narrow)
+    (g .tableLow, g .tableLong, g .low, omega (arith, g .room, g .narrow), pays-low (g .words) (k .pre .1), omega arith, omega arith, omega (arith, g .narrow))
 
 returns-3 : tie.Need-returns-3
 returns-3 c =

@@ -10,17 +10,17 @@ use Rattle.near.proofs.spread.Statement.{statement}
 use Rattle.near.proofs.spread.Tie as tie
 
 abbrev Inv-loop : tie.InvT-loop
-Inv-loop table₀ row at pays u t lanes v₀ table v =
-    (v ≤ 5) × Spread (chargedBy row at pays u) t v lanes table₀ table
+Inv-loop table₀ row at pays u t lane lanes v₀ table v =
+    (v ≤ 5) × Spread (chargedBy row at pays u) t v lane lanes table₀ table
 
 abbrev μ-loop : tie.MeasureT-loop
-μ-loop table₀ row at pays u t lanes v₀ table v = 5 - v
+μ-loop table₀ row at pays u t lane lanes v₀ table v = 5 - v
 
 loop-holds : tie.Need-loop-holds Inv-loop μ-loop
 loop-holds c =
     let k = c .before .before in (
       ⊎-elim (λ w. omega arith) (λ w. omega arith) (c .if1 .came),
-      spread-none _ _ _ _ (k .pre .0) (⊎-elim (λ w v s h g e. omega arith) (λ w v s h g e. omega arith) (c .if1 .came)),
+      spread-none _ _ _ _ _ (k .pre .0) (⊎-elim (λ w v s h g e. omega arith) (λ w v s h g e. omega arith) (c .if1 .came)),
     )
 
 mul-lower : tie.Need-mul-lower Inv-loop μ-loop
@@ -31,6 +31,9 @@ mul-lower-2 c = search needs
 
 add-lower : tie.Need-add-lower Inv-loop μ-loop
 add-lower c = search needs
+
+add-lower-3 : tie.Need-add-lower-3 Inv-loop μ-loop
+add-lower-3 c = search needs
 
 mul-lower-3 : tie.Need-mul-lower-3 Inv-loop μ-loop
 mul-lower-3 c = search needs
@@ -77,8 +80,9 @@ spread-spec =
     mul-lower
     mul-lower-2
     add-lower
-    mul-lower-3
     add-lower-2
+    mul-lower-3
+    add-lower-3
     mul-lower-4
     element-copy-out-lower
     lower-requires
