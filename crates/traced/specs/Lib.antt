@@ -1,2 +1,3 @@
 pub mod Arrive
 pub mod Enter
+pub mod Stretches

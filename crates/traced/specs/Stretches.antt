@@ -1,0 +1,153 @@
+-- A walk back through the layers of one row is a stretch that costs what the last entry says, and has the poses that the walk left: to an entry, and
+-- to the row's end. It is built from right to left, on to a part that stands already. Assumes nothing.
+use mathlib.Core.Path.{_≡_, refl, sym, ap, ap₂, _∙_, subst}
+use mathlib.Core.Logic.{_⊎_, inl, inr}
+use mathlib.Core.List.{List, [], _∷_, List·Memᴰ as In, List·Memᴰ·head as here, List·Memᴰ·tail as there}
+use mathlib.Core.Option.{Option, none, some}
+use mathlib.Core.Bool.{Bool, true, false, cond}
+use Prim.Native.Nat.{ℕ, zero, suc, _+_, _-_, _≤_, _<_}
+use native.Mathlib.Omega.{arith}
+use lib.Dec.{leb, eqb}
+use Rattle.rows.specs.Lists.{Le?, low, high, le?, Eq?, same, differs, eq?}
+use Rattle.pair.specs.Stretch.{Line, Choice, State, last, move, Listed}
+use Rattle.pair.specs.Trace.{Obeys, listed-last, listed-back}
+use Rattle.model.specs.Steps.{B, Deck, pairCount, marks, lastAt, isSource, Layer, ends, nextLayer, layers, priceEnd}
+use Rattle.model.specs.Matched.{Matched}
+use Rattle.model.specs.Back.{Source, Walked, Last, EndWalked}
+use Rattle.traced.specs.Enter.{moved, stateAt, Entry, offered-in, after-move, Opens, next-entry, source-single}
+
+-- a stretch whose cells have the poses g
+pub record Drawn {A : Type 0} (R : ℕ) (siteOf : A → ℕ) (L : Line A) (g : ℕ → A) (s : State A) (j : ℕ) (t : State A) (x : ℕ) : Type 0 where
+  pub listed : Listed R siteOf L s j t x
+  pub obeys : Obeys g (listed .path)
+
+pub obeys-cons : {A : Type 0} (g : ℕ → A) (c : Choice A) (p : List (Choice A)) → g (c .0) ≡ c .1 → Obeys g p → Obeys g (c ∷ p)
+obeys-cons g c p e h d (here z) = ap (λ x. g (x .0)) z ∙ e ∙ sym (ap (λ x. x .1) z)
+obeys-cons g c p e h d (there m) = h d m
+
+module _ {A : Type 0} (R : ℕ) (siteOf : A → ℕ) (L : Line A) (g : ℕ → A) where
+  drawn-last : (u t : State A) (x : ℕ) → move R siteOf L u t ≡ some x → Drawn R siteOf L g u 0 t x
+  unfolding listed-last
+  drawn-last u t x e = record { listed = listed-last R siteOf L u t x e; obeys = λ c m. elim m [ ] }
+
+  -- one cell more at the left end
+  drawn-back : (u t : State A) (i m k j y z : ℕ) (a : A) → In a (L .options k) → L .tall k ≡ false → g k ≡ a → move R siteOf L u (i, m, some (k, a)) ≡ some z
+      → Drawn R siteOf L g (i, m, some (k, a)) j t y → Drawn R siteOf L g u (suc j) t (z + y)
+  unfolding listed-back
+  drawn-back u t i m k j y z a o e h w d =
+      record { listed = listed-back R siteOf L u t i m k j y z a o e w (d .listed); obeys = obeys-cons g (k, a) (d .listed .path) h (d .obeys) }
+
+-- nothing is placed after a stretch's start that has all cells
+end-none : (D : Deck) (R : ℕ) (f : Layer) (i : ℕ) → i ≡ suc (D .size) → priceEnd D R f i ≡ 0
+unfolding priceEnd
+end-none D R f i e = go (leb i (D .size)) (eqb i (suc (D .size))) (le? i (D .size)) (eq? i (suc (D .size)))
+  where
+    go : (t u : Bool) → Le? i (D .size) t → Eq? i (suc (D .size)) u → cond t (ends D R (layers D R f i (D .size - i))) (cond u 0 B) ≡ 0
+    go true u (low h) d = absurd (omega arith)
+    go false true h d = refl
+    go false false h (differs n) = absurd (n e)
+
+-- ---- the walk, for a stretch that starts at s and whose first layer is f
+
+module _ {A : Type 0} (R : ℕ) (siteOf : A → ℕ) (L : Line A) (D : Deck) (pose : ℕ → ℕ → A) (offered : ℕ → ℕ → Bool) (M : Matched siteOf L D pose offered)
+    (out : ℕ → ℕ) (s : State A) (f : Layer) (opens : Opens R siteOf L D pose offered M s f) where
+  abbrev posed : ℕ → A
+  posed p = pose p (out p)
+
+  -- the entry j layers on from f
+  abbrev entry : ℕ → ℕ → ℕ → ℕ
+  entry j q a = layers D R f (suc (s .0)) j q a
+
+  pub walked-entry : (j e q a : ℕ) → e ≡ suc (s .0) + j → q < pairCount R → a < D .poses → entry j q a < B → Entry D R offered e q a
+  unfolding layers
+  walked-entry zero e q a z h l u =
+      let w : suc (s .0) ≡ e = omega arith in
+      subst (λ x. Entry D R offered x q a) w (opens q a h l u .0)
+  walked-entry (suc j) e q a z h l u =
+      let w : suc (suc (s .0) + j) ≡ e = omega arith in
+      subst (λ x. Entry D R offered x q a) w (next-entry R siteOf L D pose offered M (layers D R f (suc (s .0)) j) (suc (s .0) + j) q a h l u)
+
+  pub walked-out : (j e q a : ℕ) → e ≡ suc (s .0) + j → Walked D R out f (suc (s .0)) j q a → out (lastAt R e q) ≡ a
+  walked-out zero e q a z w = let d : e ≡ suc (s .0) = omega arith in rw d w
+  walked-out (suc j) e q a z w = let d : e ≡ suc (suc (s .0) + j) = omega arith in rw d (w .0)
+
+  source-move : (j q a r b : ℕ) → q < pairCount R → a < D .poses → entry (suc j) q a < B → Source D R out f (suc (s .0)) j q a r b
+      → move R siteOf L (stateAt R pose (suc (s .0) + j) r b) (stateAt R pose (suc (suc (s .0) + j)) q a)
+      ≡ some (D .own (lastAt R (suc (suc (s .0) + j)) q) a + D .toll (lastAt R (suc (s .0) + j) r) b (lastAt R (suc (suc (s .0) + j)) q) a)
+  source-move j q a r b h l u o =
+      let i = suc (s .0) + j in
+      let z = o .sum in
+      let n = walked-entry j i r b refl (o .pair) (o .pose) (omega arith) in
+      let m = walked-entry (suc j) (suc i) q a (omega arith) h l u in
+      after-move R siteOf L D pose offered M i (marks R r) (lastAt R i r) b q a (n .inside) (n .pose) (n .offered) m (source-single R siteOf L D pose offered M i q r (o .source) .1) (omega arith)
+
+  -- one cell more at the left end, from an entry
+  entry-back : (u t : State A) (i q a j y z : ℕ) → Entry D R offered i q a → D .tall (lastAt R i q) ≡ false → out (lastAt R i q) ≡ a
+      → move R siteOf L u (stateAt R pose i q a) ≡ some z → Drawn R siteOf L posed (stateAt R pose i q a) j t y → Drawn R siteOf L posed u (suc j) t (z + y)
+  entry-back u t i q a j y z n e o w d =
+      let k = lastAt R i q in
+      let x = M .size in
+      let h = n .inside in
+      drawn-back R siteOf L posed u t i (marks R q) k j y z (pose k a) (offered-in R siteOf L D pose offered M k a h (n .pose) (n .offered)) (sym (M .tall k (omega arith)) ∙ e) (ap (pose k) o) w d
+
+  -- the walk from an entry whose cell is single, on the left of a part from there to t
+  walk : (j e q a n y c x : ℕ) (t : State A) → e ≡ suc (s .0) + j → q < pairCount R → a < D .poses → entry j q a < B → D .tall (lastAt R e q) ≡ false
+      → Walked D R out f (suc (s .0)) j q a → c ≡ suc j + n → x ≡ entry j q a + y → Drawn R siteOf L posed (stateAt R pose e q a) n t y → Drawn R siteOf L posed s c t x
+  unfolding layers
+  walk zero e q a n y c x t z h l u k w v v′ d =
+      let i = suc (s .0) in
+      let ei : e ≡ i = omega arith in
+      let o = opens q a h l u in
+      let r = entry-back s t i q a n y (f q a) (o .0) (rw ei at k) w (o .1) (rw ei at d) in
+      let ec : c ≡ suc n = omega arith in
+      let ex : x ≡ f q a + y = v′ in
+      rw (ec, ex) r
+  walk (suc j) e q a n y c x t z h l u k w v v′ d =
+      let i = suc (s .0) + j in
+      let ei : e ≡ suc i = omega arith in
+      let r = w .1 in
+      let b = w .2 in
+      let o = w .3 in
+      let m = walked-entry (suc j) (suc i) q a (omega arith) h l u in
+      let g = source-move j q a r b h l u o in
+      let y′ = D .own (lastAt R (suc i) q) a + D .toll (lastAt R i r) b (lastAt R (suc i) q) a in
+      let p = entry-back (stateAt R pose i r b) t (suc i) q a n y y′ m (rw ei at k) (w .0) g (rw ei at d) in
+      let e₁ = o .sum in
+      walk j i r b (suc n) (y′ + y) c x t refl (o .pair) (o .pose) (omega arith) (source-single R siteOf L D pose offered M i q r (o .source) .0) (w .4) (omega arith) (omega arith) p
+
+  -- ---- the whole stretch
+
+  -- to an entry, which is not in the path itself
+  pub walk-entry : (j e q a : ℕ) → e ≡ suc (s .0) + j → q < pairCount R → a < D .poses → entry j q a < B → Walked D R out f (suc (s .0)) j q a
+      → Drawn R siteOf L posed s j (stateAt R pose e q a) (entry j q a)
+  unfolding layers
+  walk-entry zero e q a z h l u w =
+      let ei : e ≡ suc (s .0) = omega arith in
+      rw ei (drawn-last R siteOf L posed s (stateAt R pose (suc (s .0)) q a) (f q a) (opens q a h l u .1))
+  walk-entry (suc j) e q a z h l u w =
+      let i = suc (s .0) + j in
+      let ei : e ≡ suc i = omega arith in
+      let r = w .1 in
+      let b = w .2 in
+      let o = w .3 in
+      let y = D .own (lastAt R (suc i) q) a + D .toll (lastAt R i r) b (lastAt R (suc i) q) a in
+      let p = drawn-last R siteOf L posed (stateAt R pose i r b) (stateAt R pose (suc i) q a) y (source-move j q a r b h l u o) in
+      let e₁ = o .sum in
+      rw ei (walk j i r b 0 y (suc j) (entry (suc j) q a) (stateAt R pose (suc i) q a) refl (o .pair) (o .pose) (omega arith)
+      (source-single R siteOf L D pose offered M i q r (o .source) .0) (w .4) (omega arith) (omega arith) p)
+
+  -- to the row's end
+  pub walk-end : priceEnd D R f (suc (s .0)) < B → EndWalked D R out f (suc (s .0)) → (j : ℕ) × Drawn R siteOf L posed s j (last R siteOf L) (priceEnd D R f (suc (s .0)))
+  walk-end u (inl e) =
+      let z = M .size in
+      let m = moved R siteOf L s (last R siteOf L) (omega arith, (omega arith, refl)) in
+      (0, rw (end-none D R f (suc (s .0)) e) (drawn-last R siteOf L posed s (last R siteOf L) 0 m))
+  walk-end u (inr (r, b, w)) =
+      let n = D .size in
+      let j = n - suc (s .0) in
+      let z = M .size in
+      let g = w .room in
+      let e = w .price in
+      let m = moved R siteOf L (stateAt R pose n r b) (last R siteOf L) (omega arith, (omega arith, refl)) in
+      let p = drawn-last R siteOf L posed (stateAt R pose n r b) (last R siteOf L) 0 m in
+      (suc j, walk j n r b 0 0 (suc j) (priceEnd D R f (suc (s .0))) (last R siteOf L) (omega arith) (w .pair) (w .pose) (omega arith) (w .single) (w .walked) (omega arith) (omega arith) p)
