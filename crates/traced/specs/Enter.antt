@@ -7,38 +7,21 @@ use mathlib.Core.Bool.{Bool, true, false, not, _&&_, cond}
 use Prim.Native.Nat.{ℕ, zero, suc, _+_, _-_, min, _≤_, _<_}
 use native.Mathlib.Omega.{arith}
 use lib.Dec.{leb, ltb, eqb}
-use Rattle.rows.specs.Lists.{from, from-in, Le?, low, high, le?, Eq?, same, differs, eq?}
+use borrow.Author.Tests.{leb-true, ltb-true, eqb-true, not-true}
+use Rattle.rows.specs.Lists.{from, from-in}
 use Rattle.rows.specs.Window.{start}
 use Rattle.pair.specs.Forward.{price}
 use Rattle.pair.specs.Pick.{pick, in-pick}
 use Rattle.pair.specs.Stretch.{Line, Choice, State, FitsTo, payFrom, first, fitsTo?, Into, into?, tollTo, Move, move}
 use Rattle.model.specs.Steps.{B, Deck, pairCount, offset, marks, before, lastAt, isThere, isSource, Layer, reached, nextLayer, firstAfter, firstOpen}
 use Rattle.model.specs.Matched.{Matched}
-use Rattle.traced.specs.Arrive.{arrive}
+use Rattle.model.specs.Pairs.{pair-at, before-may}
 
 -- ---- tests that hold, and what is below B
 
-pub both-true : (t u : Bool) → (t && u) ≡ true → (t ≡ true) × (u ≡ true)
+both-true : (t u : Bool) → (t && u) ≡ true → (t ≡ true) × (u ≡ true)
 both-true true u e = (refl, e)
 both-true false u e = absurd (let z : _≡_ {A = ℕ} 0 1 = cc in omega arith)
-
-pub not-true : (t : Bool) → not t ≡ true → t ≡ false
-not-true true e = absurd (let z : _≡_ {A = ℕ} 0 1 = cc in omega arith)
-not-true false e = refl
-
-pub le-true : (a b : ℕ) → leb a b ≡ true → a ≤ b
-le-true a b = go (leb a b) (le? a b)
-  where
-    go : (t : Bool) → Le? a b t → t ≡ true → a ≤ b
-    go true (low h) e = h
-    go false (high h) e = absurd (let z : _≡_ {A = ℕ} 0 1 = cc in omega arith)
-
-pub eq-true : (a b : ℕ) → eqb a b ≡ true → a ≡ b
-eq-true a b = go (eqb a b) (eq? a b)
-  where
-    go : (t : Bool) → Eq? a b t → t ≡ true → a ≡ b
-    go true (same h) e = h
-    go false (differs h) e = absurd (let z : _≡_ {A = ℕ} 0 1 = cc in omega arith)
 
 -- a value guarded by a test, B if it fails, is below B only if the test holds
 pub guarded : (t : Bool) (x : ℕ) → cond t x B < B → (t ≡ true) × (cond t x B ≡ x)
@@ -58,16 +41,16 @@ module _ {A : Type 0} (R : ℕ) (siteOf : A → ℕ) (L : Line A) where
   moved u t h = priced (into? R siteOf L u (t .0) (t .1) (t .2)) (tollTo R siteOf L u (t .2)) h
 
 -- the state with i cells placed, the last of them that of pair q in pose a
-abbrev pub stateAt : {A : Type 0} → ℕ → (ℕ → ℕ → A) → ℕ → ℕ → ℕ → State A
-stateAt R pose i q a = (i, marks R q, some (lastAt R i q, pose (lastAt R i q) a))
+abbrev pub stateOf : {A : Type 0} → ℕ → (ℕ → ℕ → A) → ℕ → ℕ → ℕ → State A
+stateOf R pose i q a = (i, marks R q, some (lastAt R i q, pose (lastAt R i q) a))
 
 -- pair q in pose a with i cells placed is there, and its pose is offered
-pub record Entry (D : Deck) (R : ℕ) (offer : ℕ → ℕ → Bool) (i q a : ℕ) : Type 0 where
+pub record Spot (D : Deck) (R : ℕ) (offered : ℕ → ℕ → Bool) (i q a : ℕ) : Type 0 where
   pub pair : q < pairCount R
   pub pose : a < D .poses
-  pub room : suc R ≤ i + offset R q
+  pub low : suc R ≤ i + offset R q
   pub inside : lastAt R i q < D .size
-  pub offered : offer (lastAt R i q) a ≡ true
+  pub offer : offered (lastAt R i q) a ≡ true
 
 module _ {A : Type 0} (R : ℕ) (siteOf : A → ℕ) (L : Line A) (D : Deck) (pose : ℕ → ℕ → A) (offered : ℕ → ℕ → Bool) (M : Matched siteOf L D pose offered) where
   pub offered-in : (k a : ℕ) → k < D .size → a < D .poses → offered k a ≡ true → In (pose k a) (L .options k)
@@ -98,37 +81,38 @@ module _ {A : Type 0} (R : ℕ) (siteOf : A → ℕ) (L : Line A) (D : Deck) (po
       go (no n) = absurd (omega (arith, M .barred k b m a (omega (arith, e)) hb (omega (arith, e)) ha ok om n))
 
   -- what is known of pair q in pose a, if its test holds and its own cost is below B
-  entered : (i q a : ℕ) → q < pairCount R → a < D .poses → isThere D R i q ≡ true → D .own (lastAt R i q) a < B → Entry D R offered i q a
+  entered : (i q a : ℕ) → q < pairCount R → a < D .poses → isThere D R i q ≡ true → D .own (lastAt R i q) a < B → Spot D R offered i q a
   entered i q a h l t u =
       let b = both-true (leb (suc R) (i + offset R q)) (ltb (lastAt R i q) (D .size)) t in
-      let k = le-true (suc (lastAt R i q)) (D .size) (b .1) in
-      record { pair = h; pose = l; room = le-true (suc R) (i + offset R q) (b .0); inside = k; offered = own-offered (lastAt R i q) a k l u .0 }
+      let k = ltb-true (lastAt R i q) (D .size) (b .1) in
+      record { pair = h; pose = l; low = leb-true (suc R) (i + offset R q) (b .0); inside = k; offer = own-offered (lastAt R i q) a k l u .0 }
 
   -- the move into an entry, from the marks before it
-  move-in : (i m q a : ℕ) (o : Option (Choice A)) → Entry D R offered (suc i) q a → m ≡ before R q → FitsTo R siteOf L o (lastAt R (suc i) q, pose (lastAt R (suc i) q) a)
-      → move R siteOf L (i, m, o) (stateAt R pose (suc i) q a)
+  move-in : (i m q a : ℕ) (o : Option (Choice A)) → Spot D R offered (suc i) q a → m ≡ before R q → FitsTo R siteOf L o (lastAt R (suc i) q, pose (lastAt R (suc i) q) a)
+      → move R siteOf L (i, m, o) (stateOf R pose (suc i) q a)
       ≡ some (L .own (lastAt R (suc i) q) (pose (lastAt R (suc i) q) a) + payFrom R siteOf L o (lastAt R (suc i) q, pose (lastAt R (suc i) q) a))
   move-in i m q a o n e f =
       let z = M .size in
       let l = n .inside in
-      let r = arrive R (L .size) i q (n .pair) (n .room) (omega arith) in
-      rw e (moved R siteOf L (i, before R q, o) (stateAt R pose (suc i) q a) ((r .may, f), (refl, r .leads)))
+      let v = n .low in
+      let r = before-may R (L .size) i (lastAt R (suc i) q) (offset R q) (marks R q) (pair-at R q (n .pair)) (omega arith) (omega arith) in
+      rw e (moved R siteOf L (i, before R q, o) (stateOf R pose (suc i) q a) ((r .0, f), (refl, sym (r .1))))
 
   -- from the cell at position p in pose l
-  pub after-move : (i m p l q a : ℕ) → p < D .size → l < D .poses → offered p l ≡ true → Entry D R offered (suc i) q a → m ≡ before R q
+  pub after-move : (i m p l q a : ℕ) → p < D .size → l < D .poses → offered p l ≡ true → Spot D R offered (suc i) q a → m ≡ before R q
       → D .own (lastAt R (suc i) q) a + D .toll p l (lastAt R (suc i) q) a < B
-      → move R siteOf L (i, m, some (p, pose p l)) (stateAt R pose (suc i) q a) ≡ some (D .own (lastAt R (suc i) q) a + D .toll p l (lastAt R (suc i) q) a)
+      → move R siteOf L (i, m, some (p, pose p l)) (stateOf R pose (suc i) q a) ≡ some (D .own (lastAt R (suc i) q) a + D .toll p l (lastAt R (suc i) q) a)
   after-move i m p l q a hp hl o n e u =
       let k = lastAt R (suc i) q in
       let w = own-offered k a (n .inside) (n .pose) (omega arith) in
-      let f = toll-fits p l k a hp hl (n .inside) (n .pose) o (n .offered) (omega arith) in
+      let f = toll-fits p l k a hp hl (n .inside) (n .pose) o (n .offer) (omega arith) in
       move-in i m q a (some (p, pose p l)) n e (f .0) ∙ ap some (ap₂ _+_ (sym (w .1)) (sym (f .1)))
 
   -- ---- the first layer of a stretch
 
   -- the entries of f are the moves from s on, one cell more placed
   abbrev pub Opens : State A → Layer → Type 0
-  Opens s f = (q a : ℕ) → q < pairCount R → a < D .poses → f q a < B → Entry D R offered (suc (s .0)) q a × (move R siteOf L s (stateAt R pose (suc (s .0)) q a) ≡ some (f q a))
+  Opens s f = (q a : ℕ) → q < pairCount R → a < D .poses → f q a < B → Spot D R offered (suc (s .0)) q a × (move R siteOf L s (stateOf R pose (suc (s .0)) q a) ≡ some (f q a))
 
   pub first-opens : Opens (first R siteOf L) (firstOpen D R)
   unfolding firstOpen
@@ -138,7 +122,7 @@ module _ {A : Type 0} (R : ℕ) (siteOf : A → ℕ) (L : Line A) (D : Deck) (po
       let d = g .1 in
       let n = entered 1 q a h l (b .0) (omega arith) in
       let w = own-offered (lastAt R 1 q) a (n .inside) l (omega arith) in
-      (n, move-in 0 (start R) q a none n (eq-true (start R) (before R q) (b .1)) tt ∙ ap some (omega (arith, w .1)))
+      (n, move-in 0 (start R) q a none n (eqb-true (start R) (before R q) (b .1)) tt ∙ ap some (omega (arith, w .1)))
 
   pub after-opens : (i m p l : ℕ) → p < D .size → l < D .poses → offered p l ≡ true → Opens (i, m, some (p, pose p l)) (firstAfter D R i m p l)
   unfolding firstAfter
@@ -148,13 +132,13 @@ module _ {A : Type 0} (R : ℕ) (siteOf : A → ℕ) (L : Line A) (D : Deck) (po
       let b = both-true (isThere D R (suc i) q) (eqb m (before R q)) (g .0) in
       let d = g .1 in
       let n = entered (suc i) q a h v (b .0) (omega arith) in
-      (n, after-move i m p l q a hp hl o n (eq-true m (before R q) (b .1)) (omega arith) ∙ ap some (omega arith))
+      (n, after-move i m p l q a hp hl o n (eqb-true m (before R q) (b .1)) (omega arith) ∙ ap some (omega arith))
 
   -- ---- the layers after it
 
-  pub next-entry : (f : Layer) (i q a : ℕ) → q < pairCount R → a < D .poses → nextLayer D R f i q a < B → Entry D R offered (suc i) q a
+  pub next-spot : (f : Layer) (i q a : ℕ) → q < pairCount R → a < D .poses → nextLayer D R f i q a < B → Spot D R offered (suc i) q a
   unfolding nextLayer
-  next-entry f i q a h l u =
+  next-spot f i q a h l u =
       let g = guarded (isThere D R (suc i) q) (min (D .own (lastAt R (suc i) q) a + reached D R f i q a) B) u in
       let d = g .1 in
       entered (suc i) q a h l (g .0) (omega arith)
@@ -164,4 +148,4 @@ module _ {A : Type 0} (R : ℕ) (siteOf : A → ℕ) (L : Line A) (D : Deck) (po
   source-single i q r e =
       let b = both-true (isThere D R i r) (not (D .tall (lastAt R i r)) && eqb (marks R r) (before R q)) e in
       let c = both-true (not (D .tall (lastAt R i r))) (eqb (marks R r) (before R q)) (b .1) in
-      (not-true (D .tall (lastAt R i r)) (c .0), eq-true (marks R r) (before R q) (c .1))
+      (not-true (D .tall (lastAt R i r)) (c .0), eqb-true (marks R r) (before R q) (c .1))

@@ -1,3 +1,2 @@
-pub mod Arrive
 pub mod Enter
 pub mod Stretches

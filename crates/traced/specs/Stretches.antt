@@ -14,7 +14,7 @@ use Rattle.pair.specs.Trace.{Obeys, listed-last, listed-back}
 use Rattle.model.specs.Steps.{B, Deck, pairCount, marks, lastAt, isSource, Layer, ends, nextLayer, layers, priceEnd}
 use Rattle.model.specs.Matched.{Matched}
 use Rattle.model.specs.Back.{Source, Walked, Last, EndWalked}
-use Rattle.traced.specs.Enter.{moved, stateAt, Entry, offered-in, after-move, Opens, next-entry, source-single}
+use Rattle.traced.specs.Enter.{moved, stateOf, Spot, offered-in, after-move, Opens, next-spot, source-single}
 
 -- a stretch whose cells have the poses g
 pub record Drawn {A : Type 0} (R : ℕ) (siteOf : A → ℕ) (L : Line A) (g : ℕ → A) (s : State A) (j : ℕ) (t : State A) (x : ℕ) : Type 0 where
@@ -58,41 +58,41 @@ module _ {A : Type 0} (R : ℕ) (siteOf : A → ℕ) (L : Line A) (D : Deck) (po
   abbrev entry : ℕ → ℕ → ℕ → ℕ
   entry j q a = layers D R f (suc (s .0)) j q a
 
-  pub walked-entry : (j e q a : ℕ) → e ≡ suc (s .0) + j → q < pairCount R → a < D .poses → entry j q a < B → Entry D R offered e q a
+  pub walked-spot : (j e q a : ℕ) → e ≡ suc (s .0) + j → q < pairCount R → a < D .poses → entry j q a < B → Spot D R offered e q a
   unfolding layers
-  walked-entry zero e q a z h l u =
+  walked-spot zero e q a z h l u =
       let w : suc (s .0) ≡ e = omega arith in
-      subst (λ x. Entry D R offered x q a) w (opens q a h l u .0)
-  walked-entry (suc j) e q a z h l u =
+      subst (λ x. Spot D R offered x q a) w (opens q a h l u .0)
+  walked-spot (suc j) e q a z h l u =
       let w : suc (suc (s .0) + j) ≡ e = omega arith in
-      subst (λ x. Entry D R offered x q a) w (next-entry R siteOf L D pose offered M (layers D R f (suc (s .0)) j) (suc (s .0) + j) q a h l u)
+      subst (λ x. Spot D R offered x q a) w (next-spot R siteOf L D pose offered M (layers D R f (suc (s .0)) j) (suc (s .0) + j) q a h l u)
 
   pub walked-out : (j e q a : ℕ) → e ≡ suc (s .0) + j → Walked D R out f (suc (s .0)) j q a → out (lastAt R e q) ≡ a
   walked-out zero e q a z w = let d : e ≡ suc (s .0) = omega arith in rw d w
   walked-out (suc j) e q a z w = let d : e ≡ suc (suc (s .0) + j) = omega arith in rw d (w .0)
 
   source-move : (j q a r b : ℕ) → q < pairCount R → a < D .poses → entry (suc j) q a < B → Source D R out f (suc (s .0)) j q a r b
-      → move R siteOf L (stateAt R pose (suc (s .0) + j) r b) (stateAt R pose (suc (suc (s .0) + j)) q a)
+      → move R siteOf L (stateOf R pose (suc (s .0) + j) r b) (stateOf R pose (suc (suc (s .0) + j)) q a)
       ≡ some (D .own (lastAt R (suc (suc (s .0) + j)) q) a + D .toll (lastAt R (suc (s .0) + j) r) b (lastAt R (suc (suc (s .0) + j)) q) a)
   source-move j q a r b h l u o =
       let i = suc (s .0) + j in
       let z = o .sum in
-      let n = walked-entry j i r b refl (o .pair) (o .pose) (omega arith) in
-      let m = walked-entry (suc j) (suc i) q a (omega arith) h l u in
-      after-move R siteOf L D pose offered M i (marks R r) (lastAt R i r) b q a (n .inside) (n .pose) (n .offered) m (source-single R siteOf L D pose offered M i q r (o .source) .1) (omega arith)
+      let n = walked-spot j i r b refl (o .pair) (o .pose) (omega arith) in
+      let m = walked-spot (suc j) (suc i) q a (omega arith) h l u in
+      after-move R siteOf L D pose offered M i (marks R r) (lastAt R i r) b q a (n .inside) (n .pose) (n .offer) m (source-single R siteOf L D pose offered M i q r (o .source) .1) (omega arith)
 
   -- one cell more at the left end, from an entry
-  entry-back : (u t : State A) (i q a j y z : ℕ) → Entry D R offered i q a → D .tall (lastAt R i q) ≡ false → out (lastAt R i q) ≡ a
-      → move R siteOf L u (stateAt R pose i q a) ≡ some z → Drawn R siteOf L posed (stateAt R pose i q a) j t y → Drawn R siteOf L posed u (suc j) t (z + y)
+  entry-back : (u t : State A) (i q a j y z : ℕ) → Spot D R offered i q a → D .tall (lastAt R i q) ≡ false → out (lastAt R i q) ≡ a
+      → move R siteOf L u (stateOf R pose i q a) ≡ some z → Drawn R siteOf L posed (stateOf R pose i q a) j t y → Drawn R siteOf L posed u (suc j) t (z + y)
   entry-back u t i q a j y z n e o w d =
       let k = lastAt R i q in
       let x = M .size in
       let h = n .inside in
-      drawn-back R siteOf L posed u t i (marks R q) k j y z (pose k a) (offered-in R siteOf L D pose offered M k a h (n .pose) (n .offered)) (sym (M .tall k (omega arith)) ∙ e) (ap (pose k) o) w d
+      drawn-back R siteOf L posed u t i (marks R q) k j y z (pose k a) (offered-in R siteOf L D pose offered M k a h (n .pose) (n .offer)) (sym (M .tall k (omega arith)) ∙ e) (ap (pose k) o) w d
 
   -- the walk from an entry whose cell is single, on the left of a part from there to t
   walk : (j e q a n y c x : ℕ) (t : State A) → e ≡ suc (s .0) + j → q < pairCount R → a < D .poses → entry j q a < B → D .tall (lastAt R e q) ≡ false
-      → Walked D R out f (suc (s .0)) j q a → c ≡ suc j + n → x ≡ entry j q a + y → Drawn R siteOf L posed (stateAt R pose e q a) n t y → Drawn R siteOf L posed s c t x
+      → Walked D R out f (suc (s .0)) j q a → c ≡ suc j + n → x ≡ entry j q a + y → Drawn R siteOf L posed (stateOf R pose e q a) n t y → Drawn R siteOf L posed s c t x
   unfolding layers
   walk zero e q a n y c x t z h l u k w v v′ d =
       let i = suc (s .0) in
@@ -108,10 +108,10 @@ module _ {A : Type 0} (R : ℕ) (siteOf : A → ℕ) (L : Line A) (D : Deck) (po
       let r = w .1 in
       let b = w .2 in
       let o = w .3 in
-      let m = walked-entry (suc j) (suc i) q a (omega arith) h l u in
+      let m = walked-spot (suc j) (suc i) q a (omega arith) h l u in
       let g = source-move j q a r b h l u o in
       let y′ = D .own (lastAt R (suc i) q) a + D .toll (lastAt R i r) b (lastAt R (suc i) q) a in
-      let p = entry-back (stateAt R pose i r b) t (suc i) q a n y y′ m (rw ei at k) (w .0) g (rw ei at d) in
+      let p = entry-back (stateOf R pose i r b) t (suc i) q a n y y′ m (rw ei at k) (w .0) g (rw ei at d) in
       let e₁ = o .sum in
       walk j i r b (suc n) (y′ + y) c x t refl (o .pair) (o .pose) (omega arith) (source-single R siteOf L D pose offered M i q r (o .source) .0) (w .4) (omega arith) (omega arith) p
 
@@ -119,11 +119,11 @@ module _ {A : Type 0} (R : ℕ) (siteOf : A → ℕ) (L : Line A) (D : Deck) (po
 
   -- to an entry, which is not in the path itself
   pub walk-entry : (j e q a : ℕ) → e ≡ suc (s .0) + j → q < pairCount R → a < D .poses → entry j q a < B → Walked D R out f (suc (s .0)) j q a
-      → Drawn R siteOf L posed s j (stateAt R pose e q a) (entry j q a)
+      → Drawn R siteOf L posed s j (stateOf R pose e q a) (entry j q a)
   unfolding layers
   walk-entry zero e q a z h l u w =
       let ei : e ≡ suc (s .0) = omega arith in
-      rw ei (drawn-last R siteOf L posed s (stateAt R pose (suc (s .0)) q a) (f q a) (opens q a h l u .1))
+      rw ei (drawn-last R siteOf L posed s (stateOf R pose (suc (s .0)) q a) (f q a) (opens q a h l u .1))
   walk-entry (suc j) e q a z h l u w =
       let i = suc (s .0) + j in
       let ei : e ≡ suc i = omega arith in
@@ -131,9 +131,9 @@ module _ {A : Type 0} (R : ℕ) (siteOf : A → ℕ) (L : Line A) (D : Deck) (po
       let b = w .2 in
       let o = w .3 in
       let y = D .own (lastAt R (suc i) q) a + D .toll (lastAt R i r) b (lastAt R (suc i) q) a in
-      let p = drawn-last R siteOf L posed (stateAt R pose i r b) (stateAt R pose (suc i) q a) y (source-move j q a r b h l u o) in
+      let p = drawn-last R siteOf L posed (stateOf R pose i r b) (stateOf R pose (suc i) q a) y (source-move j q a r b h l u o) in
       let e₁ = o .sum in
-      rw ei (walk j i r b 0 y (suc j) (entry (suc j) q a) (stateAt R pose (suc i) q a) refl (o .pair) (o .pose) (omega arith)
+      rw ei (walk j i r b 0 y (suc j) (entry (suc j) q a) (stateOf R pose (suc i) q a) refl (o .pair) (o .pose) (omega arith)
       (source-single R siteOf L D pose offered M i q r (o .source) .0) (w .4) (omega arith) (omega arith) p)
 
   -- to the row's end
@@ -148,6 +148,6 @@ module _ {A : Type 0} (R : ℕ) (siteOf : A → ℕ) (L : Line A) (D : Deck) (po
       let z = M .size in
       let g = w .room in
       let e = w .price in
-      let m = moved R siteOf L (stateAt R pose n r b) (last R siteOf L) (omega arith, (omega arith, refl)) in
-      let p = drawn-last R siteOf L posed (stateAt R pose n r b) (last R siteOf L) 0 m in
+      let m = moved R siteOf L (stateOf R pose n r b) (last R siteOf L) (omega arith, (omega arith, refl)) in
+      let p = drawn-last R siteOf L posed (stateOf R pose n r b) (last R siteOf L) 0 m in
       (suc j, walk j n r b 0 0 (suc j) (priceEnd D R f (suc (s .0))) (last R siteOf L) (omega arith) (w .pair) (w .pose) (omega arith) (w .single) (w .walked) (omega arith) (omega arith) p)
