@@ -1,2 +1,3 @@
 pub mod Enter
 pub mod Stretches
+pub mod Rows
