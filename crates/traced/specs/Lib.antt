@@ -1,3 +1,4 @@
 pub mod Enter
 pub mod Stretches
 pub mod Rows
+pub mod Legal
