@@ -1,92 +1,95 @@
--- Two rows: what the walk back left of all stages is a path in each row, the tall cells in the same poses in both; so the placement that it wrote is
--- legal, and costs the least cost that the tables have. Assumes nothing.
+-- The placement that the walk back wrote is legal, and costs the least cost that the tables have. Assumes nothing.
 use mathlib.Core.Path.{_≡_, refl, sym, ap, ap₂, _∙_, subst}
-use mathlib.Core.List.{List, [], _∷_, _++_, List·Memᴰ as In}
-use mathlib.Core.Option.{Option, none, some}
+use mathlib.Core.List.{List, [], _∷_, List·Memᴰ as In, List·Memᴰ·head as here, List·Memᴰ·tail as there}
 use mathlib.Core.Bool.{Bool, true, false, cond}
-use Prim.Native.Nat.{ℕ, zero, suc, _+_, _-_, _≤_, _<_}
+use Prim.Native.Nat.{ℕ, zero, suc, _+_, _≤_, _<_}
 use native.Mathlib.Omega.{arith}
-use lib.ListN.{length, length-append}
-use lib.Dec.{ltb}
+use lib.ListN.{length}
 use borrow.Author.Tests.{le-ltb}
-use Rattle.pair.specs.Stretch.{Line, Choice, State, last}
+use Rattle.pair.specs.Stretch.{Line, Choice, State, Goes, next, first, last}
 use Rattle.pair.specs.Whole.{picks}
-use Rattle.pair.specs.Pair.{Talls, Upto, picks-snoc}
-use Rattle.pair.specs.Cells.{Side, row₀, row₁, Job, line, pos, tallCount, cell, cell-pos, line-talls, LegalPair, total}
+use Rattle.pair.specs.Pair.{Talls, Upto}
+use Rattle.pair.specs.Cells.{Side, row₀, row₁, Job, tallCells, line, pos, tallCount, cell, cell-pos, line-talls, LegalPair, total}
+use Rattle.pair.specs.Members.{at}
 use Rattle.pair.specs.Trace.{trace}
-use Rattle.model.specs.Steps.{B, Deck, pairCount}
-use Rattle.model.specs.Stages.{openPrice, stagePrice, caseTable, leastCost}
+use Rattle.model.specs.Steps.{B, Deck}
+use Rattle.model.specs.Stages.{leastCost}
 use Rattle.model.specs.Matched.{Matched}
-use Rattle.model.specs.Back.{StageBack, Traced}
-use Rattle.traced.specs.Rows.{Row, Written, posed, goal, Within, RowTo, row-begin, row-on}
+use Rattle.model.specs.Back.{Traced}
+use Rattle.traced.specs.Rows.{Row, Written, posed, stood, RowTo}
+use Rattle.traced.specs.Both.{Twins, BothTo, both-to}
 
--- ---- the stages of two rows
+goes-inside : {A : Type 0} (R : ℕ) (siteOf : A → ℕ) (L : Line A) (s : State A) (p : List (Choice A)) → Goes R siteOf L s p → (c : Choice A) → In c p → c .0 < L .size
+goes-inside R siteOf L s (b ∷ p) g c (here e) = rw e (g .0 .0 .inside)
+goes-inside R siteOf L s (b ∷ p) g c (there m) = goes-inside R siteOf L (next R siteOf L s b) p (g .2) c m
 
--- a row's path with one tall cell more, which stands in the pose p
-picks-more : {A : Type 0} (R : ℕ) (siteOf : A → ℕ) (talls : ℕ) (W : Row siteOf talls) (I l q a x : ℕ) (ps : List A) (p : A) → length ps ≡ I → W .pose (W .pos I) l ≡ p
-    → RowTo R siteOf talls W (suc I) q a (picks (W .pos) 0 ps ++ ((W .pos I, W .pose (W .pos I) l) ∷ [])) x
-    → RowTo R siteOf talls W (suc I) q a (picks (W .pos) 0 (ps ++ (p ∷ []))) x
-picks-more R siteOf talls W I l q a x ps p e z r =
-    subst (λ ts. RowTo R siteOf talls W (suc I) q a ts x)
-    (ap (λ y. picks (W .pos) 0 ps ++ ((W .pos I, y) ∷ [])) z ∙ sym (picks-snoc (W .pos) 0 I ps p (omega arith))) r
+picks-same : {A : Type 0} (f g : ℕ → ℕ) (i : ℕ) (ps : List A) → ((I : ℕ) → I < i + length ps → f I ≡ g I) → picks f i ps ≡ picks g i ps
+unfolding picks
+picks-same f g i [] e = refl
+picks-same f g i (p ∷ ps) e = ap₂ (λ x y. (x, p) ∷ y) (e i (omega arith)) (picks-same f g (suc i) ps (λ I h. e I (omega arith)))
 
--- a tall cell has the same poses in both
-pub record Twins {A : Type 0} {siteOf : A → ℕ} {talls : ℕ} (W₀ W₁ : Row siteOf talls) : Type 0 where
-  pub poses : W₀ .deck .poses ≡ W₁ .deck .poses
-  pub pose : (I l : ℕ) → I < talls → W₀ .pose (W₀ .pos I) l ≡ W₁ .pose (W₁ .pos I) l
+-- the numbers that the search has for row s: a deck that stands for it, by the poses of its cells; where its tall cells are; and what the walk back left,
+-- outOf k for each cell k
+pub record Searched {A : Type 0} (siteOf : A → ℕ) (J : Job A) (poseOf : ℕ → ℕ → A) (offerOf : ℕ → ℕ → Bool) (outOf : ℕ → ℕ) (s : Side) (D : Deck) (tallAt out : ℕ → ℕ) : Type 0 where
+  pub matched : Matched siteOf (line J s) D (λ p a. poseOf (cell J s p) a) (λ p a. offerOf (cell J s p) a)
+  pub stands : (I : ℕ) → I < tallCount J → tallAt I ≡ pos J s I
+  pub left : (p : ℕ) → p < line J s .size → out p ≡ outOf (cell J s p)
 
-module _ {A : Type 0} (R : ℕ) (siteOf : A → ℕ) (talls : ℕ) (W₀ W₁ : Row siteOf talls) where
-  -- a path in each row up to stage I, which ends in the case (q₀, q₁, a); the tall cells passed stand in the poses ps
-  pub record BothTo (I q₀ q₁ a x : ℕ) : Type 0 where
-    pub ps : List A
-    pub size : length ps ≡ I
-    pub x₀ : ℕ
-    pub x₁ : ℕ
-    pub first : RowTo R siteOf talls W₀ I q₀ a (picks (W₀ .pos) 0 ps) x₀
-    pub second : RowTo R siteOf talls W₁ I q₁ a (picks (W₁ .pos) 0 ps) x₁
-    pub sum : x₀ + x₁ ≡ x
+module _ {A : Type 0} (R : ℕ) (siteOf : A → ℕ) (J : Job A) (poseOf : ℕ → ℕ → A) (offerOf : ℕ → ℕ → Bool) (outOf : ℕ → ℕ) where
+  -- the placement that the walk back wrote
+  abbrev pub wrote : ℕ → A
+  wrote k = poseOf k (outOf k)
 
-  abbrev table : ℕ → ℕ → ℕ → ℕ → ℕ
-  table I q₀ q₁ a = caseTable (W₀ .deck) (W₁ .deck) R talls (W₀ .pos) (W₁ .pos) I q₀ q₁ a
+  module _ (s : Side) (D : Deck) (tallAt out : ℕ → ℕ) (S : Searched siteOf J poseOf offerOf outOf s D tallAt out) where
+    abbrev rowOf : Row siteOf (tallCount J)
+    rowOf = record {
+      line = line J s;
+      deck = D;
+      pose = λ p a. poseOf (cell J s p) a;
+      offered = λ p a. offerOf (cell J s p) a;
+      matched = S .matched;
+      pos = tallAt;
+      stands = record {
+        tall = λ I h. ap (line J s .tall) (S .stands I h) ∙ line-talls J s .tall I h;
+        inside = λ I h. rw (S .stands I h) (line-talls J s .inside I h);
+        only = λ k h e. let r = line-talls J s .only k h e in (r .0, r .1, r .2 ∙ sym (S .stands (r .0) (r .1)));
+      };
+      out = out;
+    }
 
-  abbrev Walks : ℕ → ℕ → ℕ → ℕ → Type 0
-  Walks I q₀ q₁ a = Traced (W₀ .deck) (W₁ .deck) R talls (W₀ .pos) (W₁ .pos) (W₀ .out) (W₁ .out) I q₀ q₁ a
+    tall-cell : (I : ℕ) → I < tallCount J → cell J s (tallAt I) ≡ at (tallCells J) I
+    tall-cell I h = ap (cell J s) (S .stands I h) ∙ cell-pos J s I h .0
 
-  pub both-to : Twins W₀ W₁ → (I q₀ q₁ a : ℕ) → I ≤ talls → Within R siteOf talls W₀ I q₀ a → Within R siteOf talls W₁ I q₁ a → table I q₀ q₁ a < B → Walks I q₀ q₁ a
-      → BothTo I q₀ q₁ a (table I q₀ q₁ a)
-  unfolding caseTable picks
-  both-to T zero q₀ q₁ a h n₀ n₁ u w =
-      let e : table 0 q₀ q₁ a ≡ openPrice (W₀ .deck) R talls (W₀ .pos) q₀ a + openPrice (W₁ .deck) R talls (W₁ .pos) q₁ a = omega arith in
-      record {
-        ps = [];
-        size = refl;
-        x₀ = openPrice (W₀ .deck) R talls (W₀ .pos) q₀ a;
-        x₁ = openPrice (W₁ .deck) R talls (W₁ .pos) q₁ a;
-        first = row-begin R siteOf talls W₀ q₀ a n₀ (omega arith) (w .0);
-        second = row-begin R siteOf talls W₁ q₁ a n₁ (omega arith) (w .1);
-        sum = sym e;
-      }
-  both-to T (suc I) q₀ q₁ a h n₀ n₁ u w =
-      let s = w .0 in
-      let t = w .1 in
-      let l = w .2 in
-      let k = w .3 in
-      let e₀ = k .sum in
-      let l₀ = k .pose in
-      let l₁ : l < W₁ .deck .poses = omega (arith, T .poses) in
-      let r = both-to T I s t l (omega arith) (λ b. (k .pair₀, l₀)) (λ b. (k .pair₁, l₁)) (omega arith) (w .4) in
-      let f₀ = row-on R siteOf talls W₀ I s l q₀ a (picks (W₀ .pos) 0 (r .ps)) (r .x₀) h l₀ n₀ (r .first) (omega arith) (k .row₀) in
-      let f₁ = row-on R siteOf talls W₁ I t l q₁ a (picks (W₁ .pos) 0 (r .ps)) (r .x₁) h l₁ n₁ (r .second) (omega arith) (k .row₁) in
-      let p = W₀ .pose (W₀ .pos I) l in
-      let e₁ = r .sum in
-      let e₂ = r .size in
-      let e₃ = length-append (r .ps) (p ∷ []) in
-      record {
-        ps = r .ps ++ (p ∷ []);
-        size = omega arith;
-        x₀ = r .x₀ + stagePrice (W₀ .deck) R talls (W₀ .pos) I s l q₀ a;
-        x₁ = r .x₁ + stagePrice (W₁ .deck) R talls (W₁ .pos) I t l q₁ a;
-        first = picks-more R siteOf talls W₀ I l q₀ a _ (r .ps) p e₂ refl f₀;
-        second = picks-more R siteOf talls W₁ I l q₁ a _ (r .ps) p e₂ (sym (T .pose I l h)) f₁;
-        sum = omega arith;
-      }
+    -- a row's path to its end, with the poses written
+    row-whole : (ps : List A) (x : ℕ) → length ps ≡ tallCount J → RowTo R siteOf (tallCount J) rowOf (tallCount J) 0 0 (picks tallAt 0 ps) x
+        → Written R siteOf (line J s) (λ p. wrote (cell J s p)) (last R siteOf (line J s)) (picks (pos J s) 0 ps) x
+    row-whole ps x e r =
+        let n = tallCount J in
+        let L = line J s in
+        let p : picks tallAt 0 ps ≡ picks (pos J s) 0 ps = picks-same tallAt (pos J s) 0 ps (λ I h. S .stands I (omega arith)) in
+        let v : Written R siteOf L (posed R siteOf n rowOf) (last R siteOf L) (picks tallAt 0 ps) x =
+        subst (λ t. Written R siteOf L (posed R siteOf n rowOf) (cond t (stood R siteOf n rowOf n 0 0) (last R siteOf L)) (picks tallAt 0 ps) x) (le-ltb n n (omega arith)) (r .written) in
+        let w : Written R siteOf L (posed R siteOf n rowOf) (last R siteOf L) (picks (pos J s) 0 ps) x = subst (λ ts. Written R siteOf L (posed R siteOf n rowOf) (last R siteOf L) ts x) p v in
+        record {
+          upto = w .upto;
+          obeys = λ c m. ap (poseOf (cell J s (c .0))) (sym (S .left (c .0) (goes-inside R siteOf L (first R siteOf L) (w .upto .path) (w .upto .goes) c m))) ∙ w .obeys c m;
+        }
+
+  -- the two rows of the search, whose decks number the same poses; and the walk back through their tables
+  module _ (w : (k : ℕ) (a : A) → In a (J .offers k) → 0 < J .wide k a) (D₀ D₁ : Deck) (tallAt₀ tallAt₁ out₀ out₁ : ℕ → ℕ) where
+    pub traced-legal : Searched siteOf J poseOf offerOf outOf row₀ D₀ tallAt₀ out₀ → Searched siteOf J poseOf offerOf outOf row₁ D₁ tallAt₁ out₁ → D₀ .poses ≡ D₁ .poses
+        → leastCost D₀ D₁ R (tallCount J) tallAt₀ tallAt₁ < B → Traced D₀ D₁ R (tallCount J) tallAt₀ tallAt₁ out₀ out₁ (tallCount J) 0 0 0
+        → LegalPair R siteOf J wrote × (total siteOf J wrote ≡ leastCost D₀ D₁ R (tallCount J) tallAt₀ tallAt₁)
+    traced-legal S₀ S₁ e u t =
+        let n = tallCount J in
+        let W₀ = rowOf row₀ D₀ tallAt₀ out₀ S₀ in
+        let W₁ = rowOf row₁ D₁ tallAt₁ out₁ S₁ in
+        let T : Twins W₀ W₁ = record {
+          poses = e;
+          pose = λ I l h. ap (λ k. poseOf k l) (tall-cell row₀ D₀ tallAt₀ out₀ S₀ I h ∙ sym (tall-cell row₁ D₁ tallAt₁ out₁ S₁ I h));
+        } in
+        let b = both-to R siteOf n W₀ W₁ T n 0 0 0 (omega arith) (λ h. absurd (omega arith)) (λ h. absurd (omega arith)) u t in
+        let r₀ = row-whole row₀ D₀ tallAt₀ out₀ S₀ (b .ps) (b .x₀) (b .size) (b .first) in
+        let r₁ = row-whole row₁ D₁ tallAt₁ out₁ S₁ (b .ps) (b .x₁) (b .size) (b .second) in
+        let r = trace R siteOf J w (poseOf 0 0) wrote (b .ps) (b .x₀) (b .x₁) (b .size) (r₀ .upto) (r₀ .obeys) (r₁ .upto) (r₁ .obeys) in
+        (r .0, _∙_ {b = b .x₀ + b .x₁} (r .1) (b .sum))

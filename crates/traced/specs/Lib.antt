@@ -1,4 +1,5 @@
 pub mod Enter
 pub mod Stretches
 pub mod Rows
+pub mod Both
 pub mod Legal
