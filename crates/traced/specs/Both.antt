@@ -7,7 +7,7 @@ use native.Mathlib.Omega.{arith}
 use lib.ListN.{length, length-append}
 use Rattle.pair.specs.Whole.{picks}
 use Rattle.pair.specs.Pair.{picks-snoc}
-use Rattle.model.specs.Steps.{B, Deck}
+use Rattle.model.specs.Steps.{B}
 use Rattle.model.specs.Stages.{openPrice, stagePrice, caseTable}
 use Rattle.model.specs.Back.{Traced}
 use Rattle.traced.specs.Rows.{Row, Within, RowTo, row-begin, row-on}
@@ -65,8 +65,8 @@ module _ {A : Type 0} (R : ℕ) (siteOf : A → ℕ) (talls : ℕ) (W₀ W₁ : 
       let l₀ = k .pose in
       let l₁ : l < W₁ .deck .poses = omega (arith, T .poses) in
       let r = both-to T I s t l (omega arith) (λ b. (k .pair₀, l₀)) (λ b. (k .pair₁, l₁)) (omega arith) (w .4) in
-      let f₀ = row-on R siteOf talls W₀ I s l q₀ a (picks (W₀ .pos) 0 (r .ps)) (r .x₀) h l₀ n₀ (r .first) (omega arith) (k .row₀) in
-      let f₁ = row-on R siteOf talls W₁ I t l q₁ a (picks (W₁ .pos) 0 (r .ps)) (r .x₁) h l₁ n₁ (r .second) (omega arith) (k .row₁) in
+      let f₀ = row-on R siteOf talls W₀ I s l q₀ a (picks (W₀ .pos) 0 (r .ps)) (r .x₀) h (k .pair₀) l₀ n₀ (r .first) (omega arith) (k .row₀) in
+      let f₁ = row-on R siteOf talls W₁ I t l q₁ a (picks (W₁ .pos) 0 (r .ps)) (r .x₁) h (k .pair₁) l₁ n₁ (r .second) (omega arith) (k .row₁) in
       let p = W₀ .pose (W₀ .pos I) l in
       let e₁ = r .sum in
       let e₂ = r .size in

@@ -1,14 +1,13 @@
 -- The placement that the walk back wrote is legal, and costs the least cost that the tables have. Assumes nothing.
 use mathlib.Core.Path.{_≡_, refl, sym, ap, ap₂, _∙_, subst}
 use mathlib.Core.List.{List, [], _∷_, List·Memᴰ as In, List·Memᴰ·head as here, List·Memᴰ·tail as there}
-use mathlib.Core.Bool.{Bool, true, false, cond}
-use Prim.Native.Nat.{ℕ, zero, suc, _+_, _≤_, _<_}
+use mathlib.Core.Bool.{Bool, cond}
+use Prim.Native.Nat.{ℕ, suc, _+_, _<_}
 use native.Mathlib.Omega.{arith}
 use lib.ListN.{length}
 use borrow.Author.Tests.{le-ltb}
 use Rattle.pair.specs.Stretch.{Line, Choice, State, Goes, next, first, last}
 use Rattle.pair.specs.Whole.{picks}
-use Rattle.pair.specs.Pair.{Talls, Upto}
 use Rattle.pair.specs.Cells.{Side, row₀, row₁, Job, tallCells, line, pos, tallCount, cell, cell-pos, line-talls, LegalPair, total}
 use Rattle.pair.specs.Members.{at}
 use Rattle.pair.specs.Trace.{trace}
@@ -17,7 +16,7 @@ use Rattle.model.specs.Stages.{leastCost}
 use Rattle.model.specs.Matched.{Matched}
 use Rattle.model.specs.Back.{Traced}
 use Rattle.traced.specs.Rows.{Row, Written, posed, stood, RowTo}
-use Rattle.traced.specs.Both.{Twins, BothTo, both-to}
+use Rattle.traced.specs.Both.{Twins, both-to}
 
 goes-inside : {A : Type 0} (R : ℕ) (siteOf : A → ℕ) (L : Line A) (s : State A) (p : List (Choice A)) → Goes R siteOf L s p → (c : Choice A) → In c p → c .0 < L .size
 goes-inside R siteOf L s (b ∷ p) g c (here e) = rw e (g .0 .0 .inside)

@@ -1,22 +1,26 @@
 -- One row, stage by stage: what the walk back left of a stage is a stretch from the stage's start to its tall cell, or to the row's end; and the
 -- stretches up to a stage are a path that has the poses left. Assumes nothing.
-use mathlib.Core.Path.{_≡_, refl, sym, ap, ap₂, _∙_, subst}
+use mathlib.Core.Path.{_≡_, sym, ap, subst}
 use mathlib.Core.List.{List, [], _∷_, _++_, List·Memᴰ as In}
-use mathlib.Core.Option.{Option, none, some}
+use mathlib.Core.Option.{some}
 use mathlib.Core.Bool.{Bool, true, false, _&&_, cond}
-use Prim.Native.Nat.{ℕ, zero, suc, _+_, _-_, _≤_, _<_}
+use Prim.Native.Nat.{ℕ, suc, _+_, _-_, _≤_, _<_}
 use native.Mathlib.Omega.{arith}
 use lib.Dec.{leb, ltb, eqb}
 use borrow.Author.Tests.{lt-ltb}
 use Rattle.rows.specs.Lists.{Le?, low, high, le?}
+use Rattle.rows.specs.Window.{Good, good-start}
 use Rattle.pair.specs.Stretch.{Line, Choice, State, first, last}
 use Rattle.pair.specs.Pair.{Talls, Upto, upto-begin, upto-on}
 use Rattle.pair.specs.Trace.{Obeys, obeys-append}
 use Rattle.model.specs.Steps.{B, Deck, pairCount, offset, marks, lastAt, Layer, layers, firstAfter, firstOpen, priceTo, priceEnd}
 use Rattle.model.specs.Stages.{placedWith, stageEnd, openPrice, stagePrice}
 use Rattle.model.specs.Matched.{Matched}
-use Rattle.model.specs.Back.{Walked, EndWalked, StageWalked}
-use Rattle.traced.specs.Enter.{guarded, stateOf, Spot, offered-in, Opens, first-opens, after-opens}
+use Rattle.model.specs.Back.{Walked, StageWalked}
+use Rattle.model.specs.Pairs.{pair-at}
+use Rattle.model.specs.Spots.{pose-offer}
+use Rattle.model.specs.Layers.{Right, open-right, after-right}
+use Rattle.traced.specs.Enter.{guarded}
 use Rattle.traced.specs.Stretches.{Drawn, obeys-cons, walked-spot, walked-out, walk-entry, walk-end}
 
 -- a row of the search: the row that its deck stands for, where its tall cells are, and the pose numbers that the walk back left
@@ -78,7 +82,7 @@ module _ {A : Type 0} (R : ℕ) (siteOf : A → ℕ) (talls : ℕ) (W : Row site
 
   -- ---- a stage from s, whose first layer is f
 
-  module _ (s : State A) (f : Layer) (opens : Opens R siteOf (W .line) (W .deck) (W .pose) (W .offered) (W .matched) s f) where
+  module _ (s : State A) (good : Good R (s .1)) (f : Layer) (right : Right R siteOf (W .line) (W .deck) (W .pose) (W .offered) s 0 (suc (s .0)) f) where
     abbrev D : Deck
     D = W .deck
 
@@ -94,9 +98,9 @@ module _ {A : Type 0} (R : ℕ) (siteOf : A → ℕ) (talls : ℕ) (W : Row site
         let k : lastAt R e q ≡ W .pos I = omega arith in
         let z : e ≡ suc (s .0) + j = omega arith in
         let b : layers D R f (suc (s .0)) j q a < B = omega arith in
-        let d = walk-entry R siteOf (W .line) D (W .pose) (W .offered) (W .matched) (W .out) s f opens j e q a z h l b (w .1) in
-        let n = walked-spot R siteOf (W .line) D (W .pose) (W .offered) (W .matched) (W .out) s f opens j e q a z h l b in
-        let o = walked-out R siteOf (W .line) D (W .pose) (W .offered) (W .matched) (W .out) s f opens j e q a z (w .1) in (
+        let d = walk-entry R siteOf (W .line) D (W .pose) (W .offered) (W .matched) (W .out) s good f right j e q a z h l b (w .1) in
+        let n = walked-spot R siteOf (W .line) D (W .pose) (W .offered) (W .matched) (W .out) s good f right j e q a z h l b in
+        let o = walked-out R siteOf (W .line) D (W .pose) (W .offered) (W .matched) (W .out) s good f right j e q a z (w .1) in (
           j,
           subst (λ x. Drawn R siteOf (W .line) posed s j (stood I q a) x) (sym v) (subst (λ x. Drawn R siteOf (W .line) posed s j (e, marks R q, some (x, W .pose x a)) (layers D R f (suc (s .0)) j q a)) k d),
           record { offer = subst (λ x. W .offered x a ≡ true) k (n .offer); left = subst (λ x. W .out x ≡ a) k o },
@@ -119,7 +123,7 @@ module _ {A : Type 0} (R : ℕ) (siteOf : A → ℕ) (talls : ℕ) (W : Row site
         go false (high b) v =
             let g = guarded (eqb q 0 && eqb a 0) x₁ v in
             let e = g .1 in
-            let r = walk-end R siteOf (W .line) D (W .pose) (W .offered) (W .matched) (W .out) s f opens (omega arith) (w .toEnd (omega arith)) in
+            let r = walk-end R siteOf (W .line) D (W .pose) (W .offered) (W .matched) (W .out) s good f right (omega arith) (w .toEnd (omega arith)) in
             (r .0, subst (λ x. Drawn R siteOf (W .line) posed s (r .0) (last R siteOf (W .line)) x) (sym e) (r .1), λ l. absurd (omega arith))
 
   -- ---- the stages up to stage I
@@ -133,27 +137,28 @@ module _ {A : Type 0} (R : ℕ) (siteOf : A → ℕ) (talls : ℕ) (W : Row site
   unfolding openPrice
   row-begin q a h u w =
       let s = first R siteOf (W .line) in
-      let r = stage-drawn s (firstOpen (W .deck) R) (first-opens R siteOf (W .line) (W .deck) (W .pose) (W .offered) (W .matched)) 0 q a h u w in
+      let r = stage-drawn s (good-start R) (firstOpen (W .deck) R) (open-right R siteOf (W .line) (W .deck) (W .pose) (W .offered) (W .matched)) 0 q a h u w in
       record { written = written-begin R siteOf (W .line) posed (r .size) (goal 0 q a) (openPrice (W .deck) R talls (W .pos) q a) (r .drawn); stood = r .stood }
 
-  pub row-on : (I r l q a : ℕ) (ts : List (Choice A)) (x : ℕ) → I < talls → l < W .deck .poses → Within (suc I) q a → RowTo I r l ts x
+  pub row-on : (I r l q a : ℕ) (ts : List (Choice A)) (x : ℕ) → I < talls → r < pairCount R → l < W .deck .poses → Within (suc I) q a → RowTo I r l ts x
       → stagePrice (W .deck) R talls (W .pos) I r l q a < B
       → StageWalked (W .deck) R talls (W .pos) (W .out) (suc I) (firstAfter (W .deck) R (placedWith R (W .pos I) r) (marks R r) (W .pos I) l) (suc (placedWith R (W .pos I) r)) q a
       → RowTo (suc I) q a (ts ++ ((W .pos I, W .pose (W .pos I) l) ∷ [])) (x + stagePrice (W .deck) R talls (W .pos) I r l q a)
   unfolding stagePrice
-  row-on I r l q a ts x b h n p u w =
+  row-on I r l q a ts x b v h n p u w =
       let i = placedWith R (W .pos I) r in
       let m = marks R r in
       let k = W .pos I in
       let z = W .matched .size in
       let e = W .stands .inside I b in
       let c = p .stood b in
-      let opens = after-opens R siteOf (W .line) (W .deck) (W .pose) (W .offered) (W .matched) i m k l (omega arith) h (c .offer) in
-      let d = stage-drawn (stood I r l) (firstAfter (W .deck) R i m k l) opens (suc I) q a n u w in
-      let v : Written R siteOf (W .line) posed (stood I r l) ts x =
+      let good = pair-at R r v .good in
+      let right = after-right R siteOf (W .line) (W .deck) (W .pose) (W .offered) (W .matched) i m k l good (omega arith) h (c .offer) in
+      let d = stage-drawn (stood I r l) good (firstAfter (W .deck) R i m k l) right (suc I) q a n u w in
+      let y : Written R siteOf (W .line) posed (stood I r l) ts x =
       subst (λ t. Written R siteOf (W .line) posed (cond t (stood I r l) (last R siteOf (W .line))) ts x) (lt-ltb I talls b) (p .written) in
       record {
-        written = written-on R siteOf (W .line) posed i m k (d .size) (W .pose k l) ts x (stagePrice (W .deck) R talls (W .pos) I r l q a) (goal (suc I) q a) v
-            (offered-in R siteOf (W .line) (W .deck) (W .pose) (W .offered) (W .matched) k l (omega arith) h (c .offer)) (W .stands .tall I b) (ap (W .pose k) (c .left)) (d .drawn);
+        written = written-on R siteOf (W .line) posed i m k (d .size) (W .pose k l) ts x (stagePrice (W .deck) R talls (W .pos) I r l q a) (goal (suc I) q a) y
+            (pose-offer R siteOf (W .line) (W .deck) (W .pose) (W .offered) (W .matched) k l (omega arith) h (c .offer)) (W .stands .tall I b) (ap (W .pose k) (c .left)) (d .drawn);
         stood = d .stood;
       }

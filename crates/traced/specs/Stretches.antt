@@ -1,20 +1,24 @@
 -- A walk back through the layers of one row is a stretch that costs what the last entry says, and has the poses that the walk left: to an entry, and
 -- to the row's end. It is built from right to left, on to a part that stands already. Assumes nothing.
-use mathlib.Core.Path.{_≡_, refl, sym, ap, ap₂, _∙_, subst}
-use mathlib.Core.Logic.{_⊎_, inl, inr}
-use mathlib.Core.List.{List, [], _∷_, List·Memᴰ as In, List·Memᴰ·head as here, List·Memᴰ·tail as there}
-use mathlib.Core.Option.{Option, none, some}
+use mathlib.Core.Path.{_≡_, refl, sym, ap, _∙_}
+use mathlib.Core.Logic.{inl, inr}
+use mathlib.Core.List.{List, _∷_, List·Memᴰ as In, List·Memᴰ·head as here, List·Memᴰ·tail as there}
+use mathlib.Core.Option.{some}
 use mathlib.Core.Bool.{Bool, true, false, cond}
-use Prim.Native.Nat.{ℕ, zero, suc, _+_, _-_, _≤_, _<_}
+use Prim.Native.Nat.{ℕ, zero, suc, _+_, _-_, _<_}
 use native.Mathlib.Omega.{arith}
 use lib.Dec.{leb, eqb}
-use Rattle.rows.specs.Lists.{Le?, low, high, le?, Eq?, same, differs, eq?}
+use Rattle.rows.specs.Lists.{Le?, low, le?, Eq?, differs, eq?}
+use Rattle.rows.specs.Window.{Good}
+use Rattle.pair.specs.Coded.{coded-some}
 use Rattle.pair.specs.Stretch.{Line, Choice, State, last, move, Listed}
 use Rattle.pair.specs.Trace.{Obeys, listed-last, listed-back}
-use Rattle.model.specs.Steps.{B, Deck, pairCount, marks, lastAt, isSource, Layer, ends, nextLayer, layers, priceEnd}
+use Rattle.model.specs.Steps.{B, Deck, pairCount, marks, lastAt, Layer, ends, layers, priceEnd}
 use Rattle.model.specs.Matched.{Matched}
-use Rattle.model.specs.Back.{Source, Walked, Last, EndWalked}
-use Rattle.traced.specs.Enter.{moved, stateOf, Spot, offered-in, after-move, Opens, next-spot, source-single}
+use Rattle.model.specs.Back.{Source, Walked, EndWalked}
+use Rattle.model.specs.Spots.{stateOf, Spot, move-yes, pose-offer}
+use Rattle.model.specs.Layers.{Right, layers-right}
+use Rattle.traced.specs.Enter.{source-single, entry-spot, first-move, next-move}
 
 -- a stretch whose cells have the poses g
 pub record Drawn {A : Type 0} (R : ℕ) (siteOf : A → ℕ) (L : Line A) (g : ℕ → A) (s : State A) (j : ℕ) (t : State A) (x : ℕ) : Type 0 where
@@ -50,7 +54,7 @@ end-none D R f i e = go (leb i (D .size)) (eqb i (suc (D .size))) (le? i (D .siz
 -- ---- the walk, for a stretch that starts at s and whose first layer is f
 
 module _ {A : Type 0} (R : ℕ) (siteOf : A → ℕ) (L : Line A) (D : Deck) (pose : ℕ → ℕ → A) (offered : ℕ → ℕ → Bool) (M : Matched siteOf L D pose offered)
-    (out : ℕ → ℕ) (s : State A) (f : Layer) (opens : Opens R siteOf L D pose offered M s f) where
+    (out : ℕ → ℕ) (s : State A) (good : Good R (s .1)) (f : Layer) (right : Right R siteOf L D pose offered s 0 (suc (s .0)) f) where
   abbrev posed : ℕ → A
   posed p = pose p (out p)
 
@@ -59,13 +63,8 @@ module _ {A : Type 0} (R : ℕ) (siteOf : A → ℕ) (L : Line A) (D : Deck) (po
   entry j q a = layers D R f (suc (s .0)) j q a
 
   pub walked-spot : (j e q a : ℕ) → e ≡ suc (s .0) + j → q < pairCount R → a < D .poses → entry j q a < B → Spot D R offered e q a
-  unfolding layers
-  walked-spot zero e q a z h l u =
-      let w : suc (s .0) ≡ e = omega arith in
-      subst (λ x. Spot D R offered x q a) w (opens q a h l u .0)
-  walked-spot (suc j) e q a z h l u =
-      let w : suc (suc (s .0) + j) ≡ e = omega arith in
-      subst (λ x. Spot D R offered x q a) w (next-spot R siteOf L D pose offered M (layers D R f (suc (s .0)) j) (suc (s .0) + j) q a h l u)
+  walked-spot j e q a z h l u =
+      entry-spot R siteOf L D pose offered s j e (layers D R f (suc (s .0)) j) (layers-right R siteOf L D pose offered M s f good right j e z) q a h l u
 
   pub walked-out : (j e q a : ℕ) → e ≡ suc (s .0) + j → Walked D R out f (suc (s .0)) j q a → out (lastAt R e q) ≡ a
   walked-out zero e q a z w = let d : e ≡ suc (s .0) = omega arith in rw d w
@@ -79,7 +78,7 @@ module _ {A : Type 0} (R : ℕ) (siteOf : A → ℕ) (L : Line A) (D : Deck) (po
       let z = o .sum in
       let n = walked-spot j i r b refl (o .pair) (o .pose) (omega arith) in
       let m = walked-spot (suc j) (suc i) q a (omega arith) h l u in
-      after-move R siteOf L D pose offered M i (marks R r) (lastAt R i r) b q a (n .inside) (n .pose) (n .offer) m (source-single R siteOf L D pose offered M i q r (o .source) .1) (omega arith)
+      next-move R siteOf L D pose offered M i r b q a n m (o .source) (omega arith)
 
   -- one cell more at the left end, from an entry
   entry-back : (u t : State A) (i q a j y z : ℕ) → Spot D R offered i q a → D .tall (lastAt R i q) ≡ false → out (lastAt R i q) ≡ a
@@ -88,7 +87,7 @@ module _ {A : Type 0} (R : ℕ) (siteOf : A → ℕ) (L : Line A) (D : Deck) (po
       let k = lastAt R i q in
       let x = M .size in
       let h = n .inside in
-      drawn-back R siteOf L posed u t i (marks R q) k j y z (pose k a) (offered-in R siteOf L D pose offered M k a h (n .pose) (n .offer)) (sym (M .tall k (omega arith)) ∙ e) (ap (pose k) o) w d
+      drawn-back R siteOf L posed u t i (marks R q) k j y z (pose k a) (pose-offer R siteOf L D pose offered M k a (omega arith) (n .pose) (n .offer)) (sym (M .tall k (omega arith)) ∙ e) (ap (pose k) o) w d
 
   -- the walk from an entry whose cell is single, on the left of a part from there to t
   walk : (j e q a n y c x : ℕ) (t : State A) → e ≡ suc (s .0) + j → q < pairCount R → a < D .poses → entry j q a < B → D .tall (lastAt R e q) ≡ false
@@ -97,8 +96,8 @@ module _ {A : Type 0} (R : ℕ) (siteOf : A → ℕ) (L : Line A) (D : Deck) (po
   walk zero e q a n y c x t z h l u k w v v′ d =
       let i = suc (s .0) in
       let ei : e ≡ i = omega arith in
-      let o = opens q a h l u in
-      let r = entry-back s t i q a n y (f q a) (o .0) (rw ei at k) w (o .1) (rw ei at d) in
+      let o = first-move R siteOf L D pose offered s i f right q a h l u in
+      let r = entry-back s t i q a n y (f q a) (walked-spot 0 i q a (omega arith) h l u) (rw ei at k) w o (rw ei at d) in
       let ec : c ≡ suc n = omega arith in
       let ex : x ≡ f q a + y = v′ in
       rw (ec, ex) r
@@ -113,7 +112,7 @@ module _ {A : Type 0} (R : ℕ) (siteOf : A → ℕ) (L : Line A) (D : Deck) (po
       let y′ = D .own (lastAt R (suc i) q) a + D .toll (lastAt R i r) b (lastAt R (suc i) q) a in
       let p = entry-back (stateOf R pose i r b) t (suc i) q a n y y′ m (rw ei at k) (w .0) g (rw ei at d) in
       let e₁ = o .sum in
-      walk j i r b (suc n) (y′ + y) c x t refl (o .pair) (o .pose) (omega arith) (source-single R siteOf L D pose offered M i q r (o .source) .0) (w .4) (omega arith) (omega arith) p
+      walk j i r b (suc n) (y′ + y) c x t refl (o .pair) (o .pose) (omega arith) (source-single D R i q r (o .source) .0) (w .4) (omega arith) (omega arith) p
 
   -- ---- the whole stretch
 
@@ -123,7 +122,7 @@ module _ {A : Type 0} (R : ℕ) (siteOf : A → ℕ) (L : Line A) (D : Deck) (po
   unfolding layers
   walk-entry zero e q a z h l u w =
       let ei : e ≡ suc (s .0) = omega arith in
-      rw ei (drawn-last R siteOf L posed s (stateOf R pose (suc (s .0)) q a) (f q a) (opens q a h l u .1))
+      rw ei (drawn-last R siteOf L posed s (stateOf R pose (suc (s .0)) q a) (f q a) (first-move R siteOf L D pose offered s (suc (s .0)) f right q a h l u))
   walk-entry (suc j) e q a z h l u w =
       let i = suc (s .0) + j in
       let ei : e ≡ suc i = omega arith in
@@ -134,20 +133,25 @@ module _ {A : Type 0} (R : ℕ) (siteOf : A → ℕ) (L : Line A) (D : Deck) (po
       let p = drawn-last R siteOf L posed (stateOf R pose i r b) (stateOf R pose (suc i) q a) y (source-move j q a r b h l u o) in
       let e₁ = o .sum in
       rw ei (walk j i r b 0 y (suc j) (entry (suc j) q a) (stateOf R pose (suc i) q a) refl (o .pair) (o .pose) (omega arith)
-      (source-single R siteOf L D pose offered M i q r (o .source) .0) (w .4) (omega arith) (omega arith) p)
+      (source-single D R i q r (o .source) .0) (w .4) (omega arith) (omega arith) p)
+
+  -- the move to the row's end costs nothing
+  drawn-end : (u : State A) → u .0 ≡ L .size → Drawn R siteOf L posed u 0 (last R siteOf L) 0
+  drawn-end u e =
+      let t = last R siteOf L in
+      let c = move-yes R siteOf L u t (e, (omega arith, refl)) in
+      drawn-last R siteOf L posed u t 0 (coded-some B 0 (move R siteOf L u t) c (omega arith))
 
   -- to the row's end
   pub walk-end : priceEnd D R f (suc (s .0)) < B → EndWalked D R out f (suc (s .0)) → (j : ℕ) × Drawn R siteOf L posed s j (last R siteOf L) (priceEnd D R f (suc (s .0)))
   walk-end u (inl e) =
       let z = M .size in
-      let m = moved R siteOf L s (last R siteOf L) (omega arith, (omega arith, refl)) in
-      (0, rw (end-none D R f (suc (s .0)) e) (drawn-last R siteOf L posed s (last R siteOf L) 0 m))
+      (0, rw (end-none D R f (suc (s .0)) e) (drawn-end s (omega arith)))
   walk-end u (inr (r, b, w)) =
       let n = D .size in
       let j = n - suc (s .0) in
       let z = M .size in
       let g = w .room in
       let e = w .price in
-      let m = moved R siteOf L (stateOf R pose n r b) (last R siteOf L) (omega arith, (omega arith, refl)) in
-      let p = drawn-last R siteOf L posed (stateOf R pose n r b) (last R siteOf L) 0 m in
+      let p = drawn-end (stateOf R pose n r b) (omega arith) in
       (suc j, walk j n r b 0 0 (suc j) (priceEnd D R f (suc (s .0))) (last R siteOf L) (omega arith) (w .pair) (w .pose) (omega arith) (w .single) (w .walked) (omega arith) (omega arith) p)
