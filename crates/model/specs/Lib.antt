@@ -2,6 +2,7 @@ pub mod Steps
 pub mod Stages
 pub mod Matched
 pub mod Back
+pub mod Notes
 pub mod Pairs
 pub mod Lowest
 pub mod Spots
