@@ -1,3 +1,4 @@
+pub mod Noted
 pub mod Enter
 pub mod Stretches
 pub mod Rows

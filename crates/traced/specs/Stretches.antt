@@ -1,8 +1,8 @@
--- A walk back through the layers of one row is a stretch that costs what the last entry says, and has the poses that the walk left: to an entry, and
--- to the row's end. It is built from right to left, on to a part that stands already. Assumes nothing.
-use mathlib.Core.Path.{_≡_, refl, sym, ap, _∙_}
+-- A walk back through the layers of one row is a stretch that costs what the last entry says, and whose cells were noted place by place: to an entry,
+-- and to the row's end. It is built from right to left, on to a part that stands already. Assumes nothing.
+use mathlib.Core.Path.{_≡_, refl, sym, _∙_, subst}
 use mathlib.Core.Logic.{inl, inr}
-use mathlib.Core.List.{List, _∷_, List·Memᴰ as In, List·Memᴰ·head as here, List·Memᴰ·tail as there}
+use mathlib.Core.List.{List·Memᴰ as In}
 use mathlib.Core.Option.{some}
 use mathlib.Core.Bool.{Bool, true, false, cond}
 use Prim.Native.Nat.{ℕ, zero, suc, _+_, _-_, _<_}
@@ -11,35 +11,33 @@ use lib.Dec.{leb, eqb}
 use Rattle.rows.specs.Lists.{Le?, low, le?, Eq?, differs, eq?}
 use Rattle.rows.specs.Window.{Good}
 use Rattle.pair.specs.Coded.{coded-some}
-use Rattle.pair.specs.Stretch.{Line, Choice, State, last, move, Listed}
-use Rattle.pair.specs.Trace.{Obeys, listed-last, listed-back}
+use Rattle.pair.specs.Stretch.{Line, Choice, State, last, move, move-met, Listed}
+use Rattle.pair.specs.Trace.{listed-last, listed-back}
 use Rattle.model.specs.Steps.{B, Deck, pairCount, marks, lastAt, Layer, ends, layers, priceEnd}
 use Rattle.model.specs.Matched.{Matched}
 use Rattle.model.specs.Back.{Source, Walked, EndWalked}
 use Rattle.model.specs.Spots.{stateOf, Spot, move-yes, pose-offer}
 use Rattle.model.specs.Layers.{Right, layers-right}
+use Rattle.traced.specs.Noted.{NotedAs, NotedPath}
 use Rattle.traced.specs.Enter.{source-single, entry-spot, first-move, next-move}
 
--- a stretch whose cells have the poses g
-pub record Drawn {A : Type 0} (R : ℕ) (siteOf : A → ℕ) (L : Line A) (g : ℕ → A) (s : State A) (j : ℕ) (t : State A) (x : ℕ) : Type 0 where
+-- a stretch whose choices P holds of, each at its place
+pub record Drawn {A : Type 0} (R : ℕ) (siteOf : A → ℕ) (L : Line A) (P : ℕ → Choice A → Type 0) (s : State A) (j : ℕ) (t : State A) (x : ℕ) : Type 0 where
   pub listed : Listed R siteOf L s j t x
-  pub obeys : Obeys g (listed .path)
+  pub noted : NotedPath P (suc (s .0)) (listed .path)
 
-pub obeys-cons : {A : Type 0} (g : ℕ → A) (c : Choice A) (p : List (Choice A)) → g (c .0) ≡ c .1 → Obeys g p → Obeys g (c ∷ p)
-obeys-cons g c p e h d (here z) = ap (λ x. g (x .0)) z ∙ e ∙ sym (ap (λ x. x .1) z)
-obeys-cons g c p e h d (there m) = h d m
-
-module _ {A : Type 0} (R : ℕ) (siteOf : A → ℕ) (L : Line A) (g : ℕ → A) where
-  drawn-last : (u t : State A) (x : ℕ) → move R siteOf L u t ≡ some x → Drawn R siteOf L g u 0 t x
+module _ {A : Type 0} (R : ℕ) (siteOf : A → ℕ) (L : Line A) (P : ℕ → Choice A → Type 0) where
+  drawn-last : (u t : State A) (x : ℕ) → move R siteOf L u t ≡ some x → Drawn R siteOf L P u 0 t x
   unfolding listed-last
-  drawn-last u t x e = record { listed = listed-last R siteOf L u t x e; obeys = λ c m. elim m [ ] }
+  drawn-last u t x e = record { listed = listed-last R siteOf L u t x e; noted = tt }
 
   -- one cell more at the left end
-  drawn-back : (u t : State A) (i m k j y z : ℕ) (a : A) → In a (L .options k) → L .tall k ≡ false → g k ≡ a → move R siteOf L u (i, m, some (k, a)) ≡ some z
-      → Drawn R siteOf L g (i, m, some (k, a)) j t y → Drawn R siteOf L g u (suc j) t (z + y)
+  drawn-back : (u t : State A) (i m k j y z : ℕ) (a : A) → In a (L .options k) → L .tall k ≡ false → P i (k, a) → move R siteOf L u (i, m, some (k, a)) ≡ some z
+      → Drawn R siteOf L P (i, m, some (k, a)) j t y → Drawn R siteOf L P u (suc j) t (z + y)
   unfolding listed-back
   drawn-back u t i m k j y z a o e h w d =
-      record { listed = listed-back R siteOf L u t i m k j y z a o e w (d .listed); obeys = obeys-cons g (k, a) (d .listed .path) h (d .obeys) }
+      let v : i ≡ suc (u .0) = move-met R siteOf L u (i, m, some (k, a)) z w .0 .1 .0 in
+      record { listed = listed-back R siteOf L u t i m k j y z a o e w (d .listed); noted = subst (λ x. P x (k, a) × NotedPath P (suc x) (d .listed .path)) v (h, d .noted) }
 
 -- nothing is placed after a stretch's start that has all cells
 end-none : (D : Deck) (R : ℕ) (f : Layer) (i : ℕ) → i ≡ suc (D .size) → priceEnd D R f i ≡ 0
@@ -54,9 +52,9 @@ end-none D R f i e = go (leb i (D .size)) (eqb i (suc (D .size))) (le? i (D .siz
 -- ---- the walk, for a stretch that starts at s and whose first layer is f
 
 module _ {A : Type 0} (R : ℕ) (siteOf : A → ℕ) (L : Line A) (D : Deck) (pose : ℕ → ℕ → A) (offered : ℕ → ℕ → Bool) (M : Matched siteOf L D pose offered)
-    (out : ℕ → ℕ) (s : State A) (good : Good R (s .1)) (f : Layer) (right : Right R siteOf L D pose offered s 0 (suc (s .0)) f) where
-  abbrev posed : ℕ → A
-  posed p = pose p (out p)
+    (Noted : ℕ → ℕ → ℕ → Type 0) (s : State A) (good : Good R (s .1)) (f : Layer) (right : Right R siteOf L D pose offered s 0 (suc (s .0)) f) where
+  abbrev At : ℕ → Choice A → Type 0
+  At = NotedAs Noted (D .poses) pose
 
   -- the entry j layers on from f
   abbrev entry : ℕ → ℕ → ℕ → ℕ
@@ -66,11 +64,11 @@ module _ {A : Type 0} (R : ℕ) (siteOf : A → ℕ) (L : Line A) (D : Deck) (po
   walked-spot j e q a z h l u =
       entry-spot R siteOf L D pose offered s j e (layers D R f (suc (s .0)) j) (layers-right R siteOf L D pose offered M s f good right j e z) q a h l u
 
-  pub walked-out : (j e q a : ℕ) → e ≡ suc (s .0) + j → Walked D R out f (suc (s .0)) j q a → out (lastAt R e q) ≡ a
-  walked-out zero e q a z w = let d : e ≡ suc (s .0) = omega arith in rw d w
-  walked-out (suc j) e q a z w = let d : e ≡ suc (suc (s .0) + j) = omega arith in rw d (w .0)
+  pub walked-note : (j e q a : ℕ) → e ≡ suc (s .0) + j → Walked D R Noted f (suc (s .0)) j q a → Noted e (lastAt R e q) a
+  walked-note zero e q a z w = let d : e ≡ suc (s .0) = omega arith in rw d w
+  walked-note (suc j) e q a z w = let d : e ≡ suc (suc (s .0) + j) = omega arith in rw d (w .0)
 
-  source-move : (j q a r b : ℕ) → q < pairCount R → a < D .poses → entry (suc j) q a < B → Source D R out f (suc (s .0)) j q a r b
+  source-move : (j q a r b : ℕ) → q < pairCount R → a < D .poses → entry (suc j) q a < B → Source D R Noted f (suc (s .0)) j q a r b
       → move R siteOf L (stateOf R pose (suc (s .0) + j) r b) (stateOf R pose (suc (suc (s .0) + j)) q a)
       ≡ some (D .own (lastAt R (suc (suc (s .0) + j)) q) a + D .toll (lastAt R (suc (s .0) + j) r) b (lastAt R (suc (suc (s .0) + j)) q) a)
   source-move j q a r b h l u o =
@@ -81,17 +79,18 @@ module _ {A : Type 0} (R : ℕ) (siteOf : A → ℕ) (L : Line A) (D : Deck) (po
       next-move R siteOf L D pose offered M i r b q a n m (o .source) (omega arith)
 
   -- one cell more at the left end, from an entry
-  entry-back : (u t : State A) (i q a j y z : ℕ) → Spot D R offered i q a → D .tall (lastAt R i q) ≡ false → out (lastAt R i q) ≡ a
-      → move R siteOf L u (stateOf R pose i q a) ≡ some z → Drawn R siteOf L posed (stateOf R pose i q a) j t y → Drawn R siteOf L posed u (suc j) t (z + y)
+  entry-back : (u t : State A) (i q a j y z : ℕ) → Spot D R offered i q a → D .tall (lastAt R i q) ≡ false → Noted i (lastAt R i q) a
+      → move R siteOf L u (stateOf R pose i q a) ≡ some z → Drawn R siteOf L At (stateOf R pose i q a) j t y → Drawn R siteOf L At u (suc j) t (z + y)
   entry-back u t i q a j y z n e o w d =
       let k = lastAt R i q in
       let x = M .size in
       let h = n .inside in
-      drawn-back R siteOf L posed u t i (marks R q) k j y z (pose k a) (pose-offer R siteOf L D pose offered M k a (omega arith) (n .pose) (n .offer)) (sym (M .tall k (omega arith)) ∙ e) (ap (pose k) o) w d
+      drawn-back R siteOf L At u t i (marks R q) k j y z (pose k a) (pose-offer R siteOf L D pose offered M k a (omega arith) (n .pose) (n .offer)) (sym (M .tall k (omega arith)) ∙ e)
+      record { number = a; below = n .pose; posed = refl; noted = o } w d
 
   -- the walk from an entry whose cell is single, on the left of a part from there to t
   walk : (j e q a n y c x : ℕ) (t : State A) → e ≡ suc (s .0) + j → q < pairCount R → a < D .poses → entry j q a < B → D .tall (lastAt R e q) ≡ false
-      → Walked D R out f (suc (s .0)) j q a → c ≡ suc j + n → x ≡ entry j q a + y → Drawn R siteOf L posed (stateOf R pose e q a) n t y → Drawn R siteOf L posed s c t x
+      → Walked D R Noted f (suc (s .0)) j q a → c ≡ suc j + n → x ≡ entry j q a + y → Drawn R siteOf L At (stateOf R pose e q a) n t y → Drawn R siteOf L At s c t x
   unfolding layers
   walk zero e q a n y c x t z h l u k w v v′ d =
       let i = suc (s .0) in
@@ -117,12 +116,12 @@ module _ {A : Type 0} (R : ℕ) (siteOf : A → ℕ) (L : Line A) (D : Deck) (po
   -- ---- the whole stretch
 
   -- to an entry, which is not in the path itself
-  pub walk-entry : (j e q a : ℕ) → e ≡ suc (s .0) + j → q < pairCount R → a < D .poses → entry j q a < B → Walked D R out f (suc (s .0)) j q a
-      → Drawn R siteOf L posed s j (stateOf R pose e q a) (entry j q a)
+  pub walk-entry : (j e q a : ℕ) → e ≡ suc (s .0) + j → q < pairCount R → a < D .poses → entry j q a < B → Walked D R Noted f (suc (s .0)) j q a
+      → Drawn R siteOf L At s j (stateOf R pose e q a) (entry j q a)
   unfolding layers
   walk-entry zero e q a z h l u w =
       let ei : e ≡ suc (s .0) = omega arith in
-      rw ei (drawn-last R siteOf L posed s (stateOf R pose (suc (s .0)) q a) (f q a) (first-move R siteOf L D pose offered s (suc (s .0)) f right q a h l u))
+      rw ei (drawn-last R siteOf L At s (stateOf R pose (suc (s .0)) q a) (f q a) (first-move R siteOf L D pose offered s (suc (s .0)) f right q a h l u))
   walk-entry (suc j) e q a z h l u w =
       let i = suc (s .0) + j in
       let ei : e ≡ suc i = omega arith in
@@ -130,20 +129,20 @@ module _ {A : Type 0} (R : ℕ) (siteOf : A → ℕ) (L : Line A) (D : Deck) (po
       let b = w .2 in
       let o = w .3 in
       let y = D .own (lastAt R (suc i) q) a + D .toll (lastAt R i r) b (lastAt R (suc i) q) a in
-      let p = drawn-last R siteOf L posed (stateOf R pose i r b) (stateOf R pose (suc i) q a) y (source-move j q a r b h l u o) in
+      let p = drawn-last R siteOf L At (stateOf R pose i r b) (stateOf R pose (suc i) q a) y (source-move j q a r b h l u o) in
       let e₁ = o .sum in
       rw ei (walk j i r b 0 y (suc j) (entry (suc j) q a) (stateOf R pose (suc i) q a) refl (o .pair) (o .pose) (omega arith)
       (source-single D R i q r (o .source) .0) (w .4) (omega arith) (omega arith) p)
 
   -- the move to the row's end costs nothing
-  drawn-end : (u : State A) → u .0 ≡ L .size → Drawn R siteOf L posed u 0 (last R siteOf L) 0
+  drawn-end : (u : State A) → u .0 ≡ L .size → Drawn R siteOf L At u 0 (last R siteOf L) 0
   drawn-end u e =
       let t = last R siteOf L in
       let c = move-yes R siteOf L u t (e, (omega arith, refl)) in
-      drawn-last R siteOf L posed u t 0 (coded-some B 0 (move R siteOf L u t) c (omega arith))
+      drawn-last R siteOf L At u t 0 (coded-some B 0 (move R siteOf L u t) c (omega arith))
 
   -- to the row's end
-  pub walk-end : priceEnd D R f (suc (s .0)) < B → EndWalked D R out f (suc (s .0)) → (j : ℕ) × Drawn R siteOf L posed s j (last R siteOf L) (priceEnd D R f (suc (s .0)))
+  pub walk-end : priceEnd D R f (suc (s .0)) < B → EndWalked D R Noted f (suc (s .0)) → (j : ℕ) × Drawn R siteOf L At s j (last R siteOf L) (priceEnd D R f (suc (s .0)))
   walk-end u (inl e) =
       let z = M .size in
       (0, rw (end-none D R f (suc (s .0)) e) (drawn-end s (omega arith)))
