@@ -6,16 +6,13 @@ use mathlib.Core.List.{List}
 use native.Mathlib.Omega.{arith}
 use native.Mathlib.Numerals.{add-one}
 use native.Mathlib.Decide.{decLt}
-use borrow.Author.Count.{below-more}
 use lib.ListN.{getD}
 use Rattle.rows.specs.Lists.{from}
 use Rattle.pair.specs.Coded.{lowest, lowest-low, lowest-from}
 use Rattle.model.specs.Steps.{B, Deck, Layer, pairCount, lastAt, isThere, isSource, via, reached, nextLayer, layers}
-use Rattle.lanes.specs.Lanes.{always}
-use Rattle.lanes.specs.Laws.{frame-refl, frame-join}
-use Rattle.lanes.specs.Store.{Frame, Low, Written, layerIn}
+use Rattle.lanes.specs.Store.{Frame, Low, layerIn}
 use Rattle.deck.specs.Words.{tollIn, deckOf}
-use Rattle.layer.specs.Loops.{byPoses, viaPair, byPairs, nextIn, Given, Beside, PairStepped, Stepped}
+use Rattle.layer.specs.Loops.{byPoses, viaPair, byPairs, Given, Beside}
 
 -- ---- loops in general
 
@@ -159,51 +156,3 @@ given-on g f w = record { ground = g .ground; low = w; narrow = g .narrow; early
 
 pub beside-on : {old new : List ℕ} {at to a b : ℕ} → Beside old at to → Frame a b old new → Beside new at to
 beside-on v f = record { room = omega (arith, v .room, f .long); apart = v .apart }
-
--- ---- one row more of a pair's block, and one block more of a layer
-
-module _ (D : Deck) (R lanes i at to : ℕ) (narrow : lanes ≤ 60) (few : D .poses ≤ 60) (pairsFew : pairCount R ≤ 12) where
-  pub pair-none : (q : ℕ) {st : List ℕ} → Low st → PairStepped D R lanes i at to q 0 st st
-  pair-none q {st} w = record { frame = frame-refl _ _ st; low = w; right = λ a h. absurd (omega arith) }
-
-  pub pair-more :
-      (q a : ℕ) {old mid new : List ℕ}
-      → Beside old at to → q < 12 → a < 60 → PairStepped D R lanes i at to q a old mid → Written (nextIn D R mid at i q a) (to + q * 4096 + a * 64) lanes mid new
-      → PairStepped D R lanes i at to q (a + 1) old new
-  pair-more q a {old} {mid} {new} v h k s w =
-      record {
-        frame = frame-join (to + q * 4096) (to + q * 4096 + 4096) (s .frame) (w .frame) (omega arith) (omega arith) (omega arith) (omega arith);
-        low = w .low;
-        right = below-more (λ (a : ℕ). (l : ℕ) → l < lanes → layerIn new to l q a ≡ nextLayer D R (layerIn old at l) i q a) a
-            (λ b p l r. w .frame .low (to + q * 4096 + b * 64 + l) (omega arith) ∙ s .right b p l r)
-            (λ l r. w .words l r ∙ next-kept D R i q a l (beside-kept v (s .frame) (omega arith) (omega arith)) pairsFew few (omega arith));
-      }
-
-  -- a pair that is not there has no way to it
-  pub pair-away :
-      (q : ℕ) {old new : List ℕ}
-      → isThere D R (suc i) q ≡ false → Written (always B) (to + q * 4096) 4096 old new
-      → PairStepped D R lanes i at to q (D .poses) old new
-  pair-away q {old} {new} t w =
-      record {
-        frame = w .frame;
-        low = w .low;
-        right = λ a p l r.
-            ap (λ (k : ℕ). getD new k 0) (omega arith) ∙ w .words (a * 64 + l) (omega arith) ∙ sym (next-away D R (layerIn old at l) i q a t);
-      }
-
-  pub step-none : {st : List ℕ} → Low st → Stepped D R lanes i at to 0 st st
-  step-none {st} w = record { frame = frame-refl _ _ st; low = w; right = λ q h. absurd (omega arith) }
-
-  pub step-more :
-      (q : ℕ) {old mid new : List ℕ}
-      → Beside old at to → q < 12 → Stepped D R lanes i at to q old mid → PairStepped D R lanes i at to q (D .poses) mid new
-      → Stepped D R lanes i at to (q + 1) old new
-  step-more q {old} {mid} {new} v h s w =
-      record {
-        frame = frame-join to (to + 49152) (s .frame) (w .frame) (omega arith) (omega arith) (omega arith) (omega arith);
-        low = w .low;
-        right = below-more (λ (q : ℕ). (a l : ℕ) → a < D .poses → l < lanes → layerIn new to l q a ≡ nextLayer D R (layerIn old at l) i q a) q
-            (λ p k a l x y. w .frame .low (to + p * 4096 + a * 64 + l) (omega arith) ∙ s .right p k a l x y)
-            (λ a l x y. w .right a x l y ∙ next-kept D R i q a l (beside-kept v (s .frame) (omega arith) (omega arith)) pairsFew few (omega arith));
-      }

@@ -1,4 +1,4 @@
--- One layer of the search from the layer before: what its loops come to after so many turns, what they are given, and what they leave.
+-- One layer of the search from the layer before: what its loops come to after so many turns, and what they are given.
 use Prim.Native.Nat.{ℕ, suc, _+_, _*_, _≤_, _<_, min}
 use mathlib.Core.Path.{_≡_}
 use mathlib.Core.Bool.{true, cond}
@@ -7,7 +7,7 @@ use lib.ListN.{length, getD}
 use Rattle.rows.specs.Lists.{from}
 use Rattle.pair.specs.Coded.{lowest}
 use Rattle.model.specs.Steps.{B, Deck, Layer, pairCount, lastAt, isSource, via, nextLayer}
-use Rattle.lanes.specs.Store.{Frame, Low, layerIn}
+use Rattle.lanes.specs.Store.{Low, layerIn}
 use Rattle.deck.specs.Words.{tollIn, thereIn, LineWords, Ground}
 
 -- ---- the loops; l is the lane
@@ -35,8 +35,12 @@ viaPairIn D R st at i q a p l = viaPair D R (layerIn st at l) i q a p
 abbrev pub byPairsIn : Deck → ℕ → List ℕ → ℕ → ℕ → ℕ → ℕ → ℕ → ℕ → ℕ
 byPairsIn D R st at i q a n l = byPairs D R (layerIn st at l) i q a n
 
-abbrev pub nextIn : Deck → ℕ → List ℕ → ℕ → ℕ → ℕ → ℕ → ℕ → ℕ
-nextIn D R st at i q a l = nextLayer D R (layerIn st at l) i q a
+-- the next layer in each lane, and one row of it
+abbrev pub nextFrom : Deck → ℕ → List ℕ → ℕ → ℕ → ℕ → Layer
+nextFrom D R st at i l q a = nextLayer D R (layerIn st at l) i q a
+
+abbrev pub nextRow : Deck → ℕ → List ℕ → ℕ → ℕ → ℕ → ℕ → ℕ → ℕ
+nextRow D R st at i q a l = nextLayer D R (layerIn st at l) i q a
 
 -- ---- what is given
 
@@ -70,15 +74,3 @@ pub record Target (n poses R i q a : ℕ) : Type 0 where
 pub record Beside (st : List ℕ) (at to : ℕ) : Type 0 where
   pub room : to + 49152 ≤ length st
   pub apart : (k : ℕ) → at ≤ k → k < at + 49152 → to ≤ k → k < to + 49152 → ⊥
-
--- ---- what is left: the next layer, its poses below m of pair q, and its pairs below m
-
-pub record PairStepped (D : Deck) (R lanes i at to q m : ℕ) (old new : List ℕ) : Type 0 where
-  pub frame : Frame (to + q * 4096) (to + q * 4096 + 4096) old new
-  pub low : Low new
-  pub right : (a : ℕ) → a < m → (l : ℕ) → l < lanes → layerIn new to l q a ≡ nextLayer D R (layerIn old at l) i q a
-
-pub record Stepped (D : Deck) (R lanes i at to m : ℕ) (old new : List ℕ) : Type 0 where
-  pub frame : Frame to (to + 49152) old new
-  pub low : Low new
-  pub right : (q : ℕ) → q < m → (a l : ℕ) → a < D .poses → l < lanes → layerIn new to l q a ≡ nextLayer D R (layerIn old at l) i q a

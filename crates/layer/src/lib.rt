@@ -5,9 +5,9 @@ ghost use Prim.Native.Nat.{ℕ, suc, _+_, _*_, _≤_, _<_};
 ghost use lib.ListN.{length};
 ghost use Rattle.model.specs.Steps.{pairCount};
 ghost use Rattle.lanes.specs.Lanes.{Lowered};
-ghost use Rattle.lanes.specs.Store.{Low, Written};
+ghost use Rattle.lanes.specs.Store.{Low, Written, FilledPair, Filled};
 ghost use Rattle.deck.specs.Words.{deckOf, thereIn};
-ghost use Rattle.layer.specs.Loops.{viaPose, byPoses, viaPairIn, byPairsIn, nextIn, ToPose, Given, Target, Beside, PairStepped, Stepped};
+ghost use Rattle.layer.specs.Loops.{viaPose, byPoses, viaPairIn, byPairsIn, nextFrom, nextRow, ToPose, Given, Target, Beside};
 
 // By way of pose b of the cell at position k, to pose a of position m.
 fn from_pose(
@@ -139,7 +139,7 @@ fn target_row(
     a: usize,
 )
     requires { ⌜ Given (now line) (now pairs) (now store) n poses r count lanes i from × Beside (now store) from to × Target n poses r i q a ⌝ }
-    ensures { λ _. ⌜ Written (nextIn (deckOf (now (line .entry)) n poses) r (now (store .entry)) from i q a) (to + q * 4096 + a * 64) lanes (now (store .entry)) (now (store .exit)) ⌝ }
+    ensures { λ _. ⌜ Written (nextRow (deckOf (now (line .entry)) n poses) r (now (store .entry)) from i q a) (to + q * 4096 + a * 64) lanes (now (store .entry)) (now (store .exit)) ⌝ }
 {
     let own = line[deck::last_at(pairs, r, i + 1, q) * 128 + a];
     let at = to + q * 4096 + a * 64;
@@ -182,7 +182,7 @@ fn target_rows(
     q: usize,
 )
     requires { ⌜ Given (now line) (now pairs) (now store) n poses r count lanes i from × Beside (now store) from to × (q < count) × (thereIn n r (suc i) q ≡ true) ⌝ }
-    ensures { λ _. ⌜ PairStepped (deckOf (now (line .entry)) n poses) r lanes i from to q poses (now (store .entry)) (now (store .exit)) ⌝ }
+    ensures { λ _. ⌜ FilledPair (nextFrom (deckOf (now (line .entry)) n poses) r (now (store .entry)) from i) lanes to q poses (now (store .entry)) (now (store .exit)) ⌝ }
 {
     let mut a: usize = 0;
     while a < poses {
@@ -221,7 +221,7 @@ fn target_block(
     q: usize,
 )
     requires { ⌜ Given (now line) (now pairs) (now store) n poses r count lanes i from × Beside (now store) from to × (q < count) ⌝ }
-    ensures { λ _. ⌜ PairStepped (deckOf (now (line .entry)) n poses) r lanes i from to q poses (now (store .entry)) (now (store .exit)) ⌝ }
+    ensures { λ _. ⌜ FilledPair (nextFrom (deckOf (now (line .entry)) n poses) r (now (store .entry)) from i) lanes to q poses (now (store .entry)) (now (store .exit)) ⌝ }
 {
     if !deck::is_there(pairs, n, r, i + 1, q) {
         lanes::fill(store, to + q * 4096, 4096, lanes::NONE);
@@ -258,7 +258,7 @@ pub fn step_layer(
     to: usize,
 )
     requires { ⌜ Given (now line) (now pairs) (now store) n poses r count lanes i from × Beside (now store) from to ⌝ }
-    ensures { λ _. ⌜ Stepped (deckOf (now (line .entry)) n poses) r lanes i from to count (now (store .entry)) (now (store .exit)) ⌝ }
+    ensures { λ _. ⌜ Filled (nextFrom (deckOf (now (line .entry)) n poses) r (now (store .entry)) from i) lanes poses to count (now (store .entry)) (now (store .exit)) ⌝ }
 {
     let mut q: usize = 0;
     while q < count {

@@ -1,16 +1,12 @@
 -- Each turn lowers one lane more. Assumes nothing.
-use Prim.Native.Nat.{ℕ, suc, _+_, _*_, _-_, _≤_, _<_, min}
-use mathlib.Core.Path.{_≡_, refl, sym, ap, _∙_}
+use Prim.Native.Nat.{_+_, _-_, _≤_}
+use mathlib.Core.Path.{_≡_}
 use native.Mathlib.Omega.{arith}
-use lib.ListN.{length, getD}
 use borrow.Author.Needs.{needs}
 use Rattle.lanes.specs.Lanes.{Lowered, charged}
 use Rattle.lanes.specs.Laws.{lowered-none, lowered-more}
 use Rattle.lanes.proofs.relax.Statement.{statement}
 use Rattle.lanes.proofs.relax.Tie as tie
-use Rattle.lanes.proofs.relax.Reads as reads
-use Rattle.lanes.proofs.relax.Lts as lts
-use Rattle.lanes.proofs.least.Reads as least-reads
 
 abbrev Inv-loop : tie.InvT-loop
 Inv-loop acc₀ row at charge lanes l₀ acc l =
@@ -20,58 +16,45 @@ abbrev μ-loop : tie.MeasureT-loop
 μ-loop acc₀ row at charge lanes l₀ acc l =
     lanes - l
 
--- src/lib.rt:24:5
 loop-holds : tie.Need-loop-holds Inv-loop μ-loop
 loop-holds c =
     (omega arith, lowered-none _ _)
 
--- src/lib.rt:25:24
 mul-least : tie.Need-mul-least Inv-loop μ-loop
 mul-least c = search needs
 
--- src/lib.rt:25:24
 element-copy-out-least : tie.Need-element-copy-out-least Inv-loop μ-loop
 element-copy-out-least c = search needs
 
--- src/lib.rt:25:36
 add-least : tie.Need-add-least Inv-loop μ-loop
 add-least c = search needs
 
--- src/lib.rt:25:32
 mul-least-2 : tie.Need-mul-least-2 Inv-loop μ-loop
 mul-least-2 c = search needs
 
--- src/lib.rt:25:32
 shared-slice-read-least : tie.Need-shared-slice-read-least Inv-loop μ-loop
 shared-slice-read-least c = search needs
 
--- src/lib.rt:25:32
 add-least-2 : tie.Need-add-least-2 Inv-loop μ-loop
 add-least-2 c =
     let k = c .before .before .before .before .before in
     omega (arith, k .pre .4 .word (k .args .at + c .before .before .before .loop .l))
 
--- src/lib.rt:25:18
 least-requires : tie.Need-least-requires Inv-loop μ-loop
 least-requires c κs = search needs
 
--- src/lib.rt:25:9
 mul-acc : tie.Need-mul-acc Inv-loop μ-loop
 mul-acc c = search needs
 
--- src/lib.rt:25:9
 element-write-acc : tie.Need-element-write-acc Inv-loop μ-loop
 element-write-acc c = search needs
 
--- src/lib.rt:26:9
 add-l : tie.Need-add-l Inv-loop μ-loop
 add-l c = search needs
 
--- src/lib.rt:24:5
 loop-less : tie.Need-loop-less Inv-loop μ-loop
 loop-less c = search needs
 
--- src/lib.rt:24:5
 loop-again : tie.Need-loop-again Inv-loop μ-loop
 loop-again c =
     let k = c .before .before .before .before .before .before in
@@ -79,7 +62,6 @@ loop-again c =
     let e = l .inv .1 .rest (l .l) (omega arith) in
     (omega arith, lowered-more (l .l) (c .least .result) (l .inv .1) (omega arith) (omega (arith, c .least .ensures, e)))
 
--- src/lib.rt:19:1
 returns : tie.Need-returns Inv-loop μ-loop
 returns c =
     let e : c .before .loop .l ≡ c .before .before .before .args .lanes = omega arith in

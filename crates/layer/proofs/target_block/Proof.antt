@@ -1,11 +1,14 @@
 -- A pair that is not there has no way to it. Assumes nothing.
 use Prim.Native.Nat.{ℕ}
 use mathlib.Core.Path.{sym, ap, _∙_}
+use native.Mathlib.Omega.{arith}
 use native.Mathlib.Numerals.{add-one}
 use borrow.Author.Needs.{needs}
 use borrow.Author.Tests.{not-true, not-false}
 use Rattle.deck.specs.Words.{deckOf, thereIn}
-use Rattle.layer.specs.Laws.{pair-away}
+use Rattle.layer.specs.Laws.{next-away}
+use Rattle.lanes.specs.Store.{layerIn}
+use Rattle.lanes.specs.Laws.{pair-always}
 use Rattle.layer.proofs.target_block.Statement.{statement}
 use Rattle.layer.proofs.target_block.Tie as tie
 
@@ -33,8 +36,9 @@ returns c =
     let a = k .args in
     let g = k .pre .0 in
     let t = sym (c .before .before .before .before .before .is-there .ensures) ∙ not-true _ (c .before .before .before .before .if1 .taken) in
-    pair-away (deckOf (a .line .now) (a .n) (a .poses)) (a .r) (a .lanes) (a .i) (a .from) (a .to) (g .narrow) (g .ground .few) (g .ground .coded .few) (a .q)
-    (ap (λ (j : ℕ). thereIn (a .n) (a .r) j (a .q)) (sym (add-one (a .i))) ∙ t) (c .before .before .fill .ensures)
+    let u = ap (λ (j : ℕ). thereIn (a .n) (a .r) j (a .q)) (sym (add-one (a .i))) ∙ t in
+    pair-always (omega (arith, g .narrow)) (omega (arith, g .ground .few)) (c .before .before .fill .ensures)
+    (λ b l. next-away (deckOf (a .line .now) (a .n) (a .poses)) (a .r) (layerIn (a .store .now) (a .from) l) (a .i) (a .q) b u)
 
 target-rows-requires : tie.Need-target-rows-requires
 target-rows-requires c κs =

@@ -1,17 +1,19 @@
 -- After a turns the rows below a are those of the next layer; the layer before is kept. Assumes nothing.
 use Prim.Native.Nat.{_-_, _≤_}
-use mathlib.Core.Path.{_≡_}
+use mathlib.Core.Path.{_≡_, sym}
 use native.Mathlib.Omega.{arith}
 use borrow.Author.Needs.{needs}
 use Rattle.deck.specs.Words.{deckOf}
-use Rattle.layer.specs.Loops.{PairStepped}
-use Rattle.layer.specs.Laws.{pair-none, pair-more, given-on, beside-on}
+use Rattle.layer.specs.Loops.{nextFrom}
+use Rattle.layer.specs.Laws.{given-on, beside-on, beside-kept, next-kept}
+use Rattle.lanes.specs.Store.{FilledPair}
+use Rattle.lanes.specs.Laws.{pair-none, pair-more}
 use Rattle.layer.proofs.target_rows.Statement.{statement}
 use Rattle.layer.proofs.target_rows.Tie as tie
 
 abbrev Inv-loop : tie.InvT-loop
 Inv-loop store₀ line pairs n poses r count lanes i from to q a₀ store a =
-    (a ≤ poses) × PairStepped (deckOf line n poses) r lanes i from to q a store₀ store
+    (a ≤ poses) × FilledPair (nextFrom (deckOf line n poses) r store₀ from i) lanes to q a store₀ store
 
 abbrev μ-loop : tie.MeasureT-loop
 μ-loop store₀ line pairs n poses r count lanes i from to q a₀ store a =
@@ -19,10 +21,7 @@ abbrev μ-loop : tie.MeasureT-loop
 
 loop-holds : tie.Need-loop-holds Inv-loop μ-loop
 loop-holds c =
-    let k = c .before .before .before in
-    let a = k .args in
-    let g = k .pre .0 in
-    (omega arith, pair-none (deckOf (a .line .now) (a .n) (a .poses)) (a .r) (a .lanes) (a .i) (a .from) (a .to) (g .narrow) (g .ground .few) (g .ground .coded .few) (a .q) (g .low))
+    (omega arith, pair-none _ _ _ _ (c .before .before .before .pre .0 .low))
 
 target-row-requires : tie.Need-target-row-requires Inv-loop μ-loop
 target-row-requires c κs =
@@ -44,10 +43,13 @@ loop-again c =
     let k = c .before .before .before .before .before .before .before .before .before in
     let a = k .args in
     let g = k .pre .0 in
-    let l = c .before .before .before .before .before .loop in (
+    let l = c .before .before .before .before .before .loop in
+    let s = l .inv .1 in
+    let b = g .ground .all in
+    let kept = beside-kept (k .pre .1) (s .frame) (omega arith) (omega (arith, g .ground .coded .few)) in (
       omega arith,
-      pair-more (deckOf (a .line .now) (a .n) (a .poses)) (a .r) (a .lanes) (a .i) (a .from) (a .to) (g .narrow) (g .ground .few) (g .ground .coded .few) (a .q) (l .a)
-          (k .pre .1) (omega (arith, g .ground .all, g .ground .coded .few)) (omega (arith, g .ground .few)) (l .inv .1) (c .before .before .target-row .ensures),
+      pair-more (l .a) (omega (arith, g .narrow)) (omega (arith, g .ground .few)) s (c .before .before .target-row .ensures)
+          (λ j h. sym (next-kept (deckOf (a .line .now) (a .n) (a .poses)) (a .r) (a .i) (a .q) (l .a) j kept (g .ground .coded .few) (g .ground .few) (omega (arith, g .narrow)))),
     )
 
 same-length : tie.Need-same-length Inv-loop μ-loop
