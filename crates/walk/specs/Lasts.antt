@@ -3,7 +3,8 @@ use Prim.Native.Nat.{ℕ, suc, _+_, _*_, _/_, _%_, _≤_, _<_}
 use mathlib.Core.Path.{_≡_, refl, sym, ap, ap₂, _∙_}
 use mathlib.Core.Bool.{Bool, true, false, not, _&&_, cond}
 use native.Mathlib.Omega.{arith}
-use borrow.Author.Tests.{lt-ltb, ltb-true}
+use borrow.Author.Tests.{lt-ltb, le-ltb, ltb-true}
+use borrow.Author.Count.{below-more}
 use lib.Dec.{ltb}
 use Rattle.rows.specs.Lists.{from}
 use Rattle.pair.specs.Coded.{lowest, lowest-low}
@@ -18,13 +19,27 @@ module _ (D : Deck) (R : ℕ) (f : Layer) where
   unfolding lastOf
   last-in q b h e s = rw (lt-ltb b (D .poses) h, e, s) refl
 
+  -- none of them
+  pub last-beyond : (q b : ℕ) → D .poses ≤ b → lastOf D R f q b ≡ B
+  unfolding lastOf
+  last-beyond q b h = rw (le-ltb b (D .poses) h) refl
+
   pub last-out : (q b : ℕ) → isThere D R (D .size) q ≡ false → lastOf D R f q b ≡ B
   unfolding lastOf
-  last-out q b e = go (ltb b (D .poses))
+  last-out q b e = go (ltb b (D .poses)) (isThere D R (D .size) q) e
     where
-      go : (t : Bool) → cond t (cond (isThere D R (D .size) q) (cond (D .tall (lastAt R (D .size) q)) B (f q b)) B) B ≡ B
-      go true = ap (λ s. cond s (cond (D .tall (lastAt R (D .size) q)) B (f q b)) B) e
-      go false = refl
+      go : (t s : Bool) → s ≡ false → cond t (cond s (cond (D .tall (lastAt R (D .size) q)) B (f q b)) B) B ≡ B
+      go true s z = ap (λ s. cond s (cond (D .tall (lastAt R (D .size) q)) B (f q b)) B) z
+      go false s z = refl
+
+  pub last-tall : (q b : ℕ) → D .tall (lastAt R (D .size) q) ≡ true → lastOf D R f q b ≡ B
+  unfolding lastOf
+  last-tall q b e = go (ltb b (D .poses)) (isThere D R (D .size) q) (D .tall (lastAt R (D .size) q)) e
+    where
+      go : (t s u : Bool) → u ≡ true → cond t (cond s (cond u B (f q b)) B) B ≡ B
+      go true true u z = ap (λ u. cond u B (f q b)) z
+      go true false u z = refl
+      go false s u z = refl
 
   -- a word below B is one of them
   pub record Met (q b : ℕ) : Type 0 where
@@ -90,3 +105,20 @@ ends-ext D R f g same =
 -- one code more
 pub least-none : (h : ℕ → ℕ) (code : ℕ) → LeastOf h 0 B code
 least-none h code = record { capped = omega arith; low = λ k x. absurd (omega arith); met = λ x. absurd (omega arith) }
+
+module _ (h : ℕ → ℕ) (n best code x : ℕ) (e : x ≡ h n) (w : LeastOf h n best code) where
+  pub least-lower : x < best → LeastOf h (n + 1) x n
+  least-lower l =
+      record {
+        capped = omega (arith, w .capped);
+        low = below-more (λ (k : ℕ). x ≤ h k) n (λ k g. omega (arith, w .low k g)) (omega arith);
+        met = λ g. (omega arith, sym e);
+      }
+
+  pub least-keep : best ≤ x → LeastOf h (n + 1) best code
+  least-keep l =
+      record {
+        capped = w .capped;
+        low = below-more (λ (k : ℕ). best ≤ h k) n (w .low) (omega arith);
+        met = λ g. let m = w .met g in let y = m .0 in (omega arith, m .1);
+      }

@@ -17,7 +17,7 @@ use Rattle.lanes.specs.Store.{Frame}
 use Rattle.layer.specs.Laws.{next-ext}
 use Rattle.kept.specs.Kept.{keptIn, KeptLayers}
 use Rattle.deck.specs.Words.{deckOf}
-use Rattle.walk.specs.Walks.{EntrySource, Entry, Walk, wordAt, WalkDone, EndDone, LastFound}
+use Rattle.walk.specs.Walks.{EntrySource, Entry, Walk, End, wordAt, WalkDone, EndDone, LastFound}
 use Rattle.walk.specs.Lasts.{ends-ext}
 
 -- ---- kept layers
@@ -165,3 +165,23 @@ end-walked {D} {R} {st} {i} {d} {q} {b} {old} {new} h e l w =
           price = end-kept f h k ∙ sym (l .word) ∙ last-kept f h k q b (l .pair) (l .pose);
           walked = subst (λ (j : ℕ). Walked D R (NotedBy (wordAt new)) f i j q b) e (w .walked f (kept-fewer (i + d) (omega arith) k));
         }
+
+-- the last layer's least is the price of the end; and the walk from where it is found
+pub end-least : {line pairs st path : List ℕ} {n poses R count i : ℕ} → i ≤ n → End line pairs st path n poses R count i → ends (deckOf line n poses) R (keptIn st n) < B
+end-least h w = omega (arith, end-kept (w .first) h (w .kept), w .cost)
+
+pub end-walk : {line pairs st path : List ℕ} {n poses R count i q b : ℕ} → i ≤ n → End line pairs st path n poses R count i → LastFound (deckOf line n poses) R (keptIn st n) q b
+    → Walk line pairs st path n poses R count i (n - i) q b
+end-walk {st = st} {n = n} {i = i} {q = q} {b = b} h w l =
+    let e : n ≡ i + (n - i) = omega arith in
+    record {
+      back = w .back;
+      room = w .room;
+      some = w .some;
+      last = omega (arith, w .back .ground .size);
+      pair = l .pair;
+      pose = l .pose;
+      first = w .first;
+      kept = kept-fewer (i + (n - i)) (omega arith) (w .kept);
+      cost = subst (λ (j : ℕ). keptIn st j q b < B) e (omega (arith, l .word, end-least h w));
+    }
