@@ -1,0 +1,166 @@
+-- Laws of the stages: a table is the least over the table before and the prices, from number 0 on; what a stage's parts make together. Assumes nothing.
+use Prim.Native.Nat.{ℕ, zero, suc, _+_, _-_, _*_, _≤_, _<_, min}
+use mathlib.Core.Path.{_≡_, refl, sym, ap, _∙_}
+use mathlib.Core.Bool.{Bool, true, false, cond}
+use mathlib.Core.List.{List}
+use native.Mathlib.Omega.{arith}
+use borrow.Author.Count.{below-more}
+use borrow.Author.Tests.{lt-ltb, le-ltb}
+use lib.ListN.{length, getD}
+use lib.Dec.{ltb}
+use Rattle.rows.specs.Lists.{from}
+use Rattle.pair.specs.Coded.{lowest}
+use Rattle.model.specs.Steps.{B, Deck, Layer, Cases, Prices, pairCount, joinPose, nextCases}
+use Rattle.model.specs.Stages.{openPrice, stagePrice, caseTable}
+use Rattle.model.specs.Pairs.{count-0, count-1, count-2}
+use Rattle.lanes.specs.Store.{Low}
+use Rattle.join.specs.Tables.{casesAt, sourcesAt, pricesAt, casesIn, sourcesIn, pricesIn, Table, Least, Way, Joined, nextIn, WayIn}
+use Rattle.join.specs.Parts.{least-ext}
+use Rattle.stage.specs.Stage.{wide, priceOf, tableOf, Right, Staged, StageDone, StagesDone, RowPriced, BothPriced}
+
+-- ---- counts
+
+pub count-some : (R : ℕ) → R ≤ 2 → 1 ≤ pairCount R
+count-some zero h = omega (arith, count-0)
+count-some (suc zero) h = omega (arith, count-1)
+count-some (suc (suc zero)) h = omega (arith, count-2)
+count-some (suc (suc (suc R))) h = absurd (omega arith)
+
+pub wide-low : (talls I x y : ℕ) → 1 ≤ y → x ≤ y → wide talls I x ≤ y
+unfolding wide
+wide-low talls zero x y h g = h
+wide-low talls (suc I) x y h g = go (ltb I talls)
+  where
+    go : (t : Bool) → cond t x 1 ≤ y
+    go true = g
+    go false = h
+
+-- a tall cell's table has all
+pub wide-all : (talls I x : ℕ) → I < talls → wide talls (suc I) x ≡ x
+unfolding wide
+wide-all talls I x h = ap (λ t. cond t x 1) (lt-ltb I talls h)
+
+-- the same by tests on the table's number
+pub wide-first : (talls I x : ℕ) → I ≡ 0 → 1 ≡ wide talls I x
+unfolding wide
+wide-first talls I x e = rw e refl
+
+pub wide-last : (talls I x : ℕ) → talls < I → 1 ≡ wide talls I x
+unfolding wide
+wide-last talls zero x h = refl
+wide-last talls (suc I) x h = ap (λ t. cond t x 1) (sym (le-ltb I talls (omega arith)))
+
+pub wide-tall : (talls I x : ℕ) → (I ≡ 0 → ⊥) → I ≤ talls → x ≡ wide talls I x
+wide-tall talls zero x n h = absurd (n refl)
+wide-tall talls (suc I) x n h = sym (wide-all talls I x (omega arith))
+
+module _ (D₀ D₁ : Deck) (R talls : ℕ) (pos₀ pos₁ : ℕ → ℕ) where
+  -- ---- each table from the one before
+  pub table-step : (I q₀ q₁ a : ℕ) → I ≤ talls
+      → nextCases (wide talls I (pairCount R)) (wide talls I (D₀ .poses)) (tableOf D₀ D₁ R talls pos₀ pos₁ I) (priceOf D₀ R talls pos₀ I) (priceOf D₁ R talls pos₁ I) q₀ q₁ a
+      ≡ tableOf D₀ D₁ R talls pos₀ pos₁ (suc I) q₀ q₁ a
+  unfolding tableOf priceOf caseTable nextCases joinPose lowest from wide
+  table-step zero q₀ q₁ a h = omega arith
+  table-step (suc I) q₀ q₁ a h = rw (wide-all talls I (pairCount R) (omega arith), wide-all talls I (D₀ .poses) (omega arith)) refl
+
+  pub staged-right : (I : ℕ) {st : List ℕ} → Staged D₀ D₁ R talls pos₀ pos₁ I st → Right D₀ D₁ R talls pos₀ pos₁ (suc I) st
+  staged-right I w = record { word = λ q₀ q₁ a h g f. w .case q₀ q₁ a h g f .right }
+
+  module _ (few : pairCount R ≤ 12) (some : 1 ≤ pairCount R) (narrow : D₀ .poses ≤ 60) where
+    wide-pairs : (I : ℕ) → wide talls I (pairCount R) ≤ 12
+    wide-pairs I = wide-low talls I (pairCount R) 12 (omega arith) few
+
+    wide-poses : (I : ℕ) → wide talls I (D₀ .poses) ≤ 60
+    wide-poses I = wide-low talls I (D₀ .poses) 60 (omega arith) narrow
+
+    -- a stage from its prices and the table before
+    pub stage-done : (I : ℕ) {old mid new : List ℕ} → I ≤ talls → talls ≤ 24
+        → Right D₀ D₁ R talls pos₀ pos₁ I old
+        → BothPriced (priceOf D₀ R talls pos₀ I) (priceOf D₁ R talls pos₁ I) (wide talls I (D₀ .poses)) (wide talls (suc I) (pairCount R)) (wide talls (suc I) (D₀ .poses)) (wide talls I (pairCount R)) old mid
+        → Joined (wide talls I (pairCount R)) (wide talls I (D₀ .poses)) (wide talls (suc I) (pairCount R)) (wide talls (suc I) (D₀ .poses)) I mid new
+        → StageDone D₀ D₁ R talls pos₀ pos₁ I old new
+    unfolding casesIn
+    stage-done I {old} {mid} {new} h g r p j =
+        record {
+          long = j .long ∙ p .long;
+          low = j .low;
+          cases = λ k a b. j .below k b ∙ p .kept k (omega arith) (omega arith);
+          sources = λ k a b. j .between k (omega arith) b ∙ p .kept k (omega arith) (omega arith);
+          staged = record { case = λ q₀ q₁ a x y z. go q₀ q₁ a x y z };
+        }
+      where
+        same : (s t l : ℕ) → s < wide talls I (pairCount R) → t < wide talls I (pairCount R) → l < wide talls I (D₀ .poses)
+            → casesIn mid I s t l ≡ tableOf D₀ D₁ R talls pos₀ pos₁ I s t l
+        same s t l a b c =
+            let m = wide-pairs I in
+            let n = wide-poses I in
+            p .kept (casesAt I + s * 768 + t * 64 + l) (omega arith) (omega arith) ∙ r .word s t l a b c
+
+        go : (q₀ q₁ a : ℕ) → q₀ < wide talls (suc I) (pairCount R) → q₁ < wide talls (suc I) (pairCount R) → a < wide talls (suc I) (D₀ .poses)
+            → Least
+            (tableOf D₀ D₁ R talls pos₀ pos₁ (suc I) q₀ q₁ a)
+            (Way (wide talls I (pairCount R)) (wide talls I (D₀ .poses)) (tableOf D₀ D₁ R talls pos₀ pos₁ I) (priceOf D₀ R talls pos₀ I) (priceOf D₁ R talls pos₁ I) q₀ q₁ a)
+            (casesIn new (suc I) q₀ q₁ a)
+            (sourcesIn new (suc I) q₀ q₁ a)
+        go q₀ q₁ a x y z =
+            let w = least-ext (wide talls I (pairCount R)) (wide talls I (D₀ .poses)) (casesIn mid I) (tableOf D₀ D₁ R talls pos₀ pos₁ I)
+            (pricesIn mid 0) (pricesIn mid 1) (priceOf D₀ R talls pos₀ I) (priceOf D₁ R talls pos₁ I) q₀ q₁ a same
+            (λ s l b c. p .right₀ s b q₀ a l x z c) (λ s l b c. p .right₁ s b q₁ a l y z c) (j .done q₀ q₁ a x y z) in
+            record { right = w .right ∙ table-step I q₀ q₁ a h; found = w .found; small = w .small }
+
+    -- the stages before are kept
+    pub staged-kept : (J I : ℕ) {old new : List ℕ} → J < I → StageDone D₀ D₁ R talls pos₀ pos₁ I old new
+        → Staged D₀ D₁ R talls pos₀ pos₁ J old → Staged D₀ D₁ R talls pos₀ pos₁ J new
+    unfolding casesIn sourcesIn
+    staged-kept J I h d w = record {
+      case = λ q₀ q₁ a x y z.
+          let m = wide-pairs (suc J) in
+          let n = wide-poses (suc J) in
+          let e = d .cases (casesAt (suc J) + q₀ * 768 + q₁ * 64 + a) (omega arith) (omega arith) in
+          let f = d .sources (sourcesAt (suc J) + q₀ * 768 + q₁ * 64 + a) (omega arith) (omega arith) in
+          rw (e, f) (w .case q₀ q₁ a x y z);
+    }
+
+  -- all stages
+  pub stages-done : {old new : List ℕ} → length new ≡ length old → Low new → ((I : ℕ) → I < suc talls → Staged D₀ D₁ R talls pos₀ pos₁ I new)
+      → StagesDone D₀ D₁ R talls pos₀ pos₁ old new
+  unfolding tableOf priceOf
+  stages-done {old} {new} l w s =
+      record {
+        long = l;
+        low = w;
+        right = λ I q₀ q₁ a h x y z. s I (omega arith) .case q₀ q₁ a x y z .right;
+        way = λ I q₀ q₁ a h x y z b.
+            let c = s (suc I) (omega arith) .case q₀ q₁ a x y z in
+            let g = c .found (omega (arith, c .right)) in
+            rw (wide-all talls I (pairCount R) (omega arith), wide-all talls I (D₀ .poses) (omega arith), c .right) at g;
+      }
+
+-- ---- the prices of one start pair more
+
+pub both-none : (x₀ x₁ : Prices) (lanes ends poses : ℕ) {st : List ℕ} → Low st → BothPriced x₀ x₁ lanes ends poses 0 st st
+both-none x₀ x₁ lanes ends poses w =
+    record { long = refl; low = w; kept = λ k h g. refl; right₀ = λ s h. absurd (omega arith); right₁ = λ s h. absurd (omega arith) }
+
+pub both-more : (x₀ x₁ : Prices) {lanes ends poses : ℕ} (s : ℕ) {old mid one new : List ℕ}
+    → lanes ≤ 64 → ends ≤ 12 → poses ≤ 64
+    → BothPriced x₀ x₁ lanes ends poses s old mid → RowPriced (x₀ s) lanes ends poses (pricesAt 0 s) mid one → RowPriced (x₁ s) lanes ends poses (pricesAt 1 s) one new
+    → BothPriced x₀ x₁ lanes ends poses (s + 1) old new
+unfolding pricesIn
+both-more x₀ x₁ {lanes} {ends} {poses} s {old} {mid} {one} {new} n e m b p₀ p₁ =
+    record {
+      long = p₁ .long ∙ p₀ .long ∙ b .long;
+      low = p₁ .low;
+      kept = λ k h g. p₁ .kept k h (omega arith) ∙ p₀ .kept k h (omega arith) ∙ b .kept k h g;
+      right₀ = below-more (λ (t : ℕ). (q a l : ℕ) → q < ends → a < poses → l < lanes → pricesIn new 0 t l q a ≡ x₀ t l q a) s
+          (λ t h q a l x y z. on 0 t q a l (omega arith) (omega arith) x y z ∙ b .right₀ t h q a l x y z)
+          (λ q a l x y z. p₁ .kept (pricesAt 0 s + q * 4096 + a * 64 + l) (omega arith) (omega arith) ∙ p₀ .right q a l x y z);
+      right₁ = below-more (λ (t : ℕ). (q a l : ℕ) → q < ends → a < poses → l < lanes → pricesIn new 1 t l q a ≡ x₁ t l q a) s
+          (λ t h q a l x y z. on 1 t q a l (omega arith) (omega arith) x y z ∙ b .right₁ t h q a l x y z)
+          (λ q a l x y z. p₁ .right q a l x y z);
+    }
+  where
+    on : (row t q a l : ℕ) → row ≤ 1 → t < s → q < ends → a < poses → l < lanes → pricesIn new row t l q a ≡ pricesIn mid row t l q a
+    on row t q a l r h x y z =
+        let k = pricesAt row t + q * 4096 + a * 64 + l in
+        p₁ .kept k (omega arith) (omega arith) ∙ p₀ .kept k (omega arith) (omega arith)

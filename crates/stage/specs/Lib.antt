@@ -1,0 +1,3 @@
+pub mod Stage
+pub mod Laws
+pub mod Same
