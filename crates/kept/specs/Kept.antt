@@ -34,7 +34,7 @@ pub record Stretch (line pairs st : List ℕ) (n poses R count i end : ℕ) : Ty
   pub low : Low st
   pub long : 148992 ≤ length st
   pub some : 0 < i
-  pub order : i ≤ end
+  pub cells : i ≤ 66
   pub last : end ≤ 66
 
 -- what it leaves

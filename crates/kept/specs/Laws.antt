@@ -46,6 +46,12 @@ pub kept-ext :
     → ((q b : ℕ) → q < pairCount R → b < D .poses → f q b ≡ g q b) → KeptLayers D R f i end st → KeptLayers D R g i end st
 kept-ext {D} {R} f g {i} same k = record { right = λ j q a h x y. k .right j q a h x y ∙ layers-ext D R f g same i j q a x y }
 
+pub kept-fewer : {D : Deck} {R : ℕ} {f : Layer} {i m : ℕ} {st : List ℕ} (end : ℕ) → end ≤ m → KeptLayers D R f i m st → KeptLayers D R f i end st
+kept-fewer end h k = record { right = λ j q a x. k .right j q a (omega arith) }
+
+pub stretch-fewer : {D : Deck} {R i m : ℕ} {old new : List ℕ} (end : ℕ) → end ≤ m → StretchKept D R i m old new → StretchKept D R i end old new
+stretch-fewer end h s = record { frame = s .frame; low = s .low; kept = kept-fewer end h (s .kept) }
+
 -- ---- one step more
 
 -- a layer from the one before

@@ -58,12 +58,32 @@ fn stage_end(
     if i < talls {
         let p = deck::word(places, i);
         stretch::stretch_to(
-            store, line, pairs, n, poses, r, count, lanes, cells, p, prices,
+            store,
+            line,
+            pairs,
+            n,
+            poses,
+            r,
+            count,
+            lanes,
+            cells,
+            p,
+            prices,
         );
         return;
     }
     stretch::stretch_to(
-        store, line, pairs, n, poses, r, count, lanes, cells, 0, prices,
+        store,
+        line,
+        pairs,
+        n,
+        poses,
+        r,
+        count,
+        lanes,
+        cells,
+        0,
+        prices,
     );
 }
 
@@ -88,17 +108,53 @@ fn row_price(
     if i == 0 {
         first::open_layer(store, line, pairs, n, poses, r, count, 0);
         stage_end(
-            store, line, pairs, places, n, poses, r, count, talls, 0, 1, 1, prices,
+            store,
+            line,
+            pairs,
+            places,
+            n,
+            poses,
+            r,
+            count,
+            talls,
+            0,
+            1,
+            1,
+            prices,
         );
         return;
     }
     let p = deck::word(places, i - 1);
     let placed = placed_with(pairs, r, p, s);
     first::first_layer(
-        store, line, pairs, n, poses, r, count, poses, placed, s, p, 0, 0,
+        store,
+        line,
+        pairs,
+        n,
+        poses,
+        r,
+        count,
+        poses,
+        placed,
+        s,
+        p,
+        0,
+        0,
     );
     stage_end(
-        store, line, pairs, places, n, poses, r, count, talls, i, poses, placed + 1, prices,
+        store,
+        line,
+        pairs,
+        places,
+        n,
+        poses,
+        r,
+        count,
+        talls,
+        i,
+        poses,
+        placed + 1,
+        prices,
     );
 }
 
@@ -126,11 +182,33 @@ fn prices(
     while s < starts {
         let p0 = join::price_at(0, s, 0, 0);
         row_price(
-            store, line0, pairs, places0, n0, poses, r, count, talls, i, s, p0,
+            store,
+            line0,
+            pairs,
+            places0,
+            n0,
+            poses,
+            r,
+            count,
+            talls,
+            i,
+            s,
+            p0,
         );
         let p1 = join::price_at(1, s, 0, 0);
         row_price(
-            store, line1, pairs, places1, n1, poses, r, count, talls, i, s, p1,
+            store,
+            line1,
+            pairs,
+            places1,
+            n1,
+            poses,
+            r,
+            count,
+            talls,
+            i,
+            s,
+            p1,
         );
         s += 1;
     }
@@ -156,7 +234,19 @@ pub fn stage(
     ensures { λ _. ⌜ StageDone (deckOf (now (line0 .entry)) n0 poses) (deckOf (now (line1 .entry)) n1 poses) r talls (posIn (now (places0 .entry))) (posIn (now (places1 .entry))) i (now (store .entry)) (now (store .exit)) ⌝ }
 {
     prices(
-        store, line0, line1, pairs, places0, places1, n0, n1, poses, r, count, talls, i,
+        store,
+        line0,
+        line1,
+        pairs,
+        places0,
+        places1,
+        n0,
+        n1,
+        poses,
+        r,
+        count,
+        talls,
+        i,
     );
     let starts = wide_of(talls, i, count);
     let lanes = wide_of(talls, i, poses);
@@ -187,7 +277,19 @@ pub fn stages(
     let mut i: usize = 0;
     while i <= talls {
         stage(
-            store, line0, line1, pairs, places0, places1, n0, n1, poses, r, count, talls, i,
+            store,
+            line0,
+            line1,
+            pairs,
+            places0,
+            places1,
+            n0,
+            n1,
+            poses,
+            r,
+            count,
+            talls,
+            i,
         );
         i += 1;
     }

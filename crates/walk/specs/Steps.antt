@@ -16,14 +16,12 @@ use Rattle.lanes.specs.Laws.{frame-refl, frame-set, frame-join}
 use Rattle.lanes.specs.Store.{Frame}
 use Rattle.layer.specs.Laws.{next-ext}
 use Rattle.kept.specs.Kept.{keptIn, KeptLayers}
+use Rattle.kept.specs.Laws.{kept-fewer}
 use Rattle.deck.specs.Words.{deckOf}
 use Rattle.walk.specs.Walks.{EntrySource, Entry, Walk, End, wordAt, WalkDone, EndDone, LastFound}
 use Rattle.walk.specs.Lasts.{ends-ext}
 
 -- ---- kept layers
-
-pub kept-fewer : {D : Deck} {R : ℕ} {f : Layer} {i m : ℕ} {st : List ℕ} (end : ℕ) → end ≤ m → KeptLayers D R f i m st → KeptLayers D R f i end st
-kept-fewer end h k = record { right = λ j q a x. k .right j q a (omega arith) }
 
 -- each kept layer comes from the one before
 pub kept-next : {D : Deck} {R : ℕ} {f : Layer} {i m : ℕ} {st : List ℕ} (j q a : ℕ) → i + suc j ≤ m → q < pairCount R → a < D .poses → KeptLayers D R f i m st

@@ -15,7 +15,7 @@ stretch-on-requires c κs =
     let a = k .args in
     let g = k .pre in
     let w = c .before .before .before .keep-layer .ensures in (
-      record { ground = g .ground; low = w .low; long = omega (arith, g .long, w .frame .long); some = g .some; order = g .order; last = g .last },
+      record { ground = g .ground; low = w .low; long = omega (arith, g .long, w .frame .long); some = g .some; cells = g .cells; last = g .last },
       kept-first (deckOf (a .line .now) (a .n) (a .poses)) (a .r) (g .some) (g .ground .few) (g .ground .coded .few) (g .ground .all) w,
     )
 
@@ -27,7 +27,7 @@ returns c =
     let k = c .before .before .before .before .before .before .before .before .before .before .before in
     let a = k .args in
     let g = k .pre in
-    kept-then (deckOf (a .line .now) (a .n) (a .poses)) (a .r) (g .some) (omega (arith, g .order, g .last)) (g .ground .few) (g .ground .coded .few)
+    kept-then (deckOf (a .line .now) (a .n) (a .poses)) (a .r) (g .some) (g .cells) (g .ground .few) (g .ground .coded .few)
     (c .before .before .before .before .before .before .keep-layer .ensures) (c .before .before .stretch-on .ensures)
 
 pub stretch-kept-spec : {M : Type 1} → statement M

@@ -5,13 +5,13 @@ use native.Mathlib.Omega.{arith}
 use borrow.Author.Needs.{needs}
 use Rattle.deck.specs.Words.{deckOf}
 use Rattle.kept.specs.Kept.{Running}
-use Rattle.kept.specs.Laws.{running-start, running-more}
+use Rattle.kept.specs.Laws.{running-start, running-more, stretch-fewer}
 use Rattle.kept.proofs.stretch_on.Statement.{statement}
 use Rattle.kept.proofs.stretch_on.Tie as tie
 
 abbrev Inv-loop : tie.InvT-loop
 Inv-loop store₀ line pairs n poses r count i end j₀ from₀ store j from =
-    (i + j ≤ end) × (from ≤ 49152) × (from % 49152 ≡ 0) × Running (deckOf line n poses) r i j from store₀ store
+    (i + j ≤ 66) × (from ≤ 49152) × (from % 49152 ≡ 0) × Running (deckOf line n poses) r i j from store₀ store
 
 abbrev μ-loop : tie.MeasureT-loop
 μ-loop store₀ line pairs n poses r count i end j₀ from₀ store j from =
@@ -22,7 +22,7 @@ loop-holds c =
     let k = c .before .before .before in
     let a = k .args in
     let g = k .pre .0 in
-    (omega (arith, g .order), omega arith, refl, running-start (deckOf (a .line .now) (a .n) (a .poses)) (a .r) (a .i) (g .low) (k .pre .1))
+    (omega (arith, g .cells), omega arith, refl, running-start (deckOf (a .line .now) (a .n) (a .poses)) (a .r) (a .i) (g .low) (k .pre .1))
 
 add-loop : tie.Need-add-loop Inv-loop μ-loop
 add-loop c = search needs
@@ -38,7 +38,7 @@ step-layer-requires c κs =
     let g = c .before .before .before .before .before .before .pre .0 in
     let l = c .before .before .loop in
     let s = l .inv .3 .done in (
-      record { ground = g .ground; low = s .low; narrow = omega arith; early = omega (arith, g .last); room = omega (arith, g .long, s .frame .long) },
+      record { ground = g .ground; low = s .low; narrow = omega arith; early = omega arith; room = omega (arith, g .long, s .frame .long) },
       record { room = omega (arith, g .long, s .frame .long); apart = λ k x y z w. omega arith },
     )
 
@@ -77,11 +77,7 @@ same-length c =
     c .before .loop .inv .3 .done .frame .long
 
 returns : tie.Need-returns Inv-loop μ-loop
-returns c =
-    let k = c .before .before .before .before .before in
-    let l = c .before .loop in
-    let e : k .args .i + l .j ≡ k .args .end = omega arith in
-    rw e at (l .inv .3 .done)
+returns c = stretch-fewer (c .before .before .before .before .before .args .end) (omega arith) (c .before .loop .inv .3 .done)
 
 pub stretch-on-spec : {M : Type 1} → statement M
 stretch-on-spec =
