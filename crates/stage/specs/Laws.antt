@@ -6,7 +6,9 @@ use mathlib.Core.List.{List}
 use native.Mathlib.Omega.{arith}
 use borrow.Author.Count.{below-more}
 use borrow.Author.Tests.{lt-ltb, le-ltb}
-use lib.ListN.{length, getD}
+use native.Mathlib.Numerals.{add-one}
+use lib.ListN.{length, getD, set}
+use lib.Seq.{getD-set-same}
 use lib.Dec.{ltb}
 use Rattle.rows.specs.Lists.{from}
 use Rattle.pair.specs.Coded.{lowest}
@@ -14,9 +16,10 @@ use Rattle.model.specs.Steps.{B, Deck, Layer, Cases, Prices, pairCount, joinPos
 use Rattle.model.specs.Stages.{openPrice, stagePrice, caseTable}
 use Rattle.model.specs.Pairs.{count-0, count-1, count-2}
 use Rattle.lanes.specs.Store.{Low}
+use Rattle.lanes.specs.Laws.{low-set}
 use Rattle.join.specs.Tables.{casesAt, sourcesAt, pricesAt, casesIn, sourcesIn, pricesIn, Table, Least, Way, Joined, nextIn, WayIn}
 use Rattle.join.specs.Parts.{least-ext}
-use Rattle.stage.specs.Stage.{wide, priceOf, tableOf, Right, Staged, StageDone, StagesDone, RowPriced, BothPriced}
+use Rattle.stage.specs.Stage.{wide, priceOf, tableOf, Right, Staged, StageDone, Through, StagesDone, RowPriced, BothPriced, StagesGiven}
 
 -- ---- counts
 
@@ -108,8 +111,21 @@ module _ (D₀ D₁ : Deck) (R talls : ℕ) (pos₀ pos₁ : ℕ → ℕ) where
             (λ s l b c. p .right₀ s b q₀ a l x z c) (λ s l b c. p .right₁ s b q₁ a l y z c) (j .done q₀ q₁ a x y z) in
             record { right = w .right ∙ table-step I q₀ q₁ a h; found = w .found; small = w .small }
 
+    -- the same by the code's names
+    pub stage-made : (I count starts lanes ends last : ℕ) {old mid new : List ℕ}
+        → starts ≡ wide talls I count → lanes ≡ wide talls I (D₀ .poses) → ends ≡ wide talls (I + 1) count → last ≡ wide talls (I + 1) (D₀ .poses)
+        → count ≡ pairCount R → I ≤ talls → talls ≤ 24
+        → Right D₀ D₁ R talls pos₀ pos₁ I old
+        → BothPriced (priceOf D₀ R talls pos₀ I) (priceOf D₁ R talls pos₁ I) (wide talls I (D₀ .poses)) (wide talls (suc I) count) (wide talls (suc I) (D₀ .poses)) (wide talls I count) old mid
+        → Joined starts lanes ends last I mid new
+        → StageDone D₀ D₁ R talls pos₀ pos₁ I old new
+    stage-made I count starts lanes ends last e₁ e₂ e₃ e₄ all h g r p j =
+        let b = rw all at p in
+        let d = rw (e₁, e₂, e₃, e₄, add-one I, all) at j in
+        stage-done I h g r b d
+
     -- the stages before are kept
-    pub staged-kept : (J I : ℕ) {old new : List ℕ} → J < I → StageDone D₀ D₁ R talls pos₀ pos₁ I old new
+    staged-kept : (J I : ℕ) {old new : List ℕ} → J < I → StageDone D₀ D₁ R talls pos₀ pos₁ I old new
         → Staged D₀ D₁ R talls pos₀ pos₁ J old → Staged D₀ D₁ R talls pos₀ pos₁ J new
     unfolding casesIn sourcesIn
     staged-kept J I h d w = record {
@@ -121,17 +137,38 @@ module _ (D₀ D₁ : Deck) (R talls : ℕ) (pos₀ pos₁ : ℕ → ℕ) where
           rw (e, f) (w .case q₀ q₁ a x y z);
     }
 
+    pub through-more : {I : ℕ} {old mid new : List ℕ} → Through D₀ D₁ R talls pos₀ pos₁ I old mid → StageDone D₀ D₁ R talls pos₀ pos₁ I mid new
+        → Through D₀ D₁ R talls pos₀ pos₁ (I + 1) old new
+    through-more {I} {new = new} t d =
+        record {
+          long = d .long ∙ t .long;
+          low = d .low;
+          right = rw (add-one I) (staged-right I (d .staged));
+          staged = below-more (λ (J : ℕ). Staged D₀ D₁ R talls pos₀ pos₁ J new) I (λ J h. staged-kept J I h d (t .staged J h)) (d .staged);
+        }
+
+  -- before anything: the word of case (0, 0, 0) is 0
+  pub through-none : {st : List ℕ} → Low st → 148992 < length st → Through D₀ D₁ R talls pos₀ pos₁ 0 (set st 148992 0) (set st 148992 0)
+  unfolding casesIn tableOf wide
+  through-none {st} w h =
+      record {
+        long = refl;
+        low = low-set 148992 0 w h (omega arith);
+        right = record { word = λ q₀ q₁ a x y z. ap (λ (k : ℕ). getD (set st 148992 0) k 0) (omega arith) ∙ getD-set-same st 148992 0 0 h };
+        staged = λ J h. absurd (omega arith);
+      }
+
   -- all stages
-  pub stages-done : {old new : List ℕ} → length new ≡ length old → Low new → ((I : ℕ) → I < suc talls → Staged D₀ D₁ R talls pos₀ pos₁ I new)
+  pub through-all : {I : ℕ} {old mid new : List ℕ} → length mid ≡ length old → Through D₀ D₁ R talls pos₀ pos₁ I mid new → talls < I
       → StagesDone D₀ D₁ R talls pos₀ pos₁ old new
   unfolding tableOf priceOf
-  stages-done {old} {new} l w s =
+  through-all e t m =
       record {
-        long = l;
-        low = w;
-        right = λ I q₀ q₁ a h x y z. s I (omega arith) .case q₀ q₁ a x y z .right;
+        long = t .long ∙ e;
+        low = t .low;
+        right = λ I q₀ q₁ a h x y z. t .staged I (omega arith) .case q₀ q₁ a x y z .right;
         way = λ I q₀ q₁ a h x y z b.
-            let c = s (suc I) (omega arith) .case q₀ q₁ a x y z in
+            let c = t .staged (suc I) (omega arith) .case q₀ q₁ a x y z in
             let g = c .found (omega (arith, c .right)) in
             rw (wide-all talls I (pairCount R) (omega arith), wide-all talls I (D₀ .poses) (omega arith), c .right) at g;
       }
@@ -164,3 +201,18 @@ both-more x₀ x₁ {lanes} {ends} {poses} s {old} {mid} {one} {new} n e m b p�
     on row t q a l r h x y z =
         let k = pricesAt row t + q * 4096 + a * 64 + l in
         p₁ .kept k (omega arith) (omega arith) ∙ p₀ .kept k (omega arith) (omega arith)
+
+-- ---- what a stage is given
+
+module _ {line₀ line₁ pairs places₀ places₁ st : List ℕ} {R n₀ n₁ poses count talls : ℕ} (g : StagesGiven line₀ line₁ pairs places₀ places₁ st R n₀ n₁ poses count talls) where
+  pub given-pairs : (count ≤ 12) × (1 ≤ count) × (poses ≤ 60) × (talls ≤ 24)
+  given-pairs =
+      let r = g .row₀ .ground in (
+        omega (arith, r .all, r .coded .few),
+        omega (arith, r .all, count-some R (r .coded .reorder)),
+        r .few,
+        g .row₀ .few,
+      )
+
+  pub given-wide : (I : ℕ) → (wide talls I count ≤ count) × (wide talls I poses ≤ 60)
+  given-wide I = (wide-low talls I count count (given-pairs .1) (omega arith), wide-low talls I poses 60 (omega arith) (given-pairs .2))

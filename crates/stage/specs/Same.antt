@@ -1,27 +1,16 @@
 -- The price of a stage depends on the entries of its first layer alone. Assumes nothing.
-use Prim.Native.Nat.{ℕ, zero, suc, _+_, _-_, _≤_, _<_}
-use mathlib.Core.Path.{_≡_, ap, _∙_, sym}
-use mathlib.Core.Bool.{Bool, true, false, not, _&&_, cond}
-use native.Mathlib.Omega.{arith}
+use Prim.Native.Nat.{ℕ, suc, _≤_, _<_}
+use mathlib.Core.Path.{_≡_, ap}
+use mathlib.Core.Bool.{Bool, true, false, _&&_, cond}
 use borrow.Author.Tests.{lt-ltb, le-ltb}
-use lib.Dec.{leb, ltb, eqb}
-use Rattle.model.specs.Steps.{B, Deck, Layer, pairCount, offset, lastAt, isThere, layers, priceTo, ends, priceEnd}
+use lib.Dec.{ltb, eqb}
+use Rattle.model.specs.Steps.{B, Deck, Layer, pairCount, priceTo, priceEnd}
 use Rattle.model.specs.Stages.{stageEnd}
-use Rattle.stretch.specs.Laws.{layers-ext, priceTo-ext}
-use Rattle.join.specs.Laws.{lowest-ext}
+use Rattle.stretch.specs.Laws.{priceTo-ext}
+use Rattle.finish.specs.Laws.{priceEnd-ext}
 use Rattle.stage.specs.Stage.{wide}
 
 module _ (D : Deck) (R : ℕ) (f g : Layer) (same : (q a : ℕ) → q < pairCount R → a < D .poses → f q a ≡ g q a) where
-  ends-ext : (i j : ℕ) → ends D R (layers D R f i j) ≡ ends D R (layers D R g i j)
-  unfolding ends
-  ends-ext i j =
-      lowest-ext (pairCount R) λ q x.
-      ap (λ (v : ℕ). cond (isThere D R (D .size) q && not (D .tall (lastAt R (D .size) q))) v B) (lowest-ext (D .poses) (λ a y. layers-ext D R f g same i j q a x y))
-
-  price-end-ext : (i : ℕ) → priceEnd D R f i ≡ priceEnd D R g i
-  unfolding priceEnd
-  price-end-ext i = ap (λ (v : ℕ). cond (leb i (D .size)) v (cond (eqb i (suc (D .size))) 0 B)) (ends-ext i (D .size - i))
-
   -- the entries that table number I + 1 has
   pub stage-ext : (talls : ℕ) (pos : ℕ → ℕ) (I i q a : ℕ)
       → q < wide talls (suc I) (pairCount R) → a < wide talls (suc I) (D .poses)
@@ -33,7 +22,7 @@ module _ (D : Deck) (R : ℕ) (f g : Layer) (same : (q a : ℕ) → q < pairCoun
           → cond t (priceTo D R f i (pos I) q a) (cond (eqb q 0 && eqb a 0) (priceEnd D R f i) B)
           ≡ cond t (priceTo D R g i (pos I) q a) (cond (eqb q 0 && eqb a 0) (priceEnd D R g i) B)
       go true x y = priceTo-ext D R f g same i (pos I) q a x y
-      go false x y = ap (λ (v : ℕ). cond (eqb q 0 && eqb a 0) v B) (price-end-ext i)
+      go false x y = ap (λ (v : ℕ). cond (eqb q 0 && eqb a 0) v B) (priceEnd-ext D R f g same i)
 
 -- to a tall cell, and to the row's end
 module _ (D : Deck) (R talls : ℕ) (pos : ℕ → ℕ) (f : Layer) (I i : ℕ) where

@@ -55,6 +55,13 @@ module _ (D₀ D₁ : Deck) (R talls : ℕ) (pos₀ pos₁ : ℕ → ℕ) where
     pub sources : (k : ℕ) → sourcesAt 0 ≤ k → k < sourcesAt (suc I) → getD new k 0 ≡ getD old k 0
     pub staged : Staged I new
 
+  -- the stages before I
+  pub record Through (I : ℕ) (old new : List ℕ) : Type 0 where
+    pub long : length new ≡ length old
+    pub low : Low new
+    pub right : Right I new
+    pub staged : (J : ℕ) → J < I → Staged J new
+
   -- what all of them do
   pub record StagesDone (old new : List ℕ) : Type 0 where
     pub long : length new ≡ length old

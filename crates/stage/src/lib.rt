@@ -72,19 +72,7 @@ fn stage_end(
         );
         return;
     }
-    stretch::stretch_to(
-        store,
-        line,
-        pairs,
-        n,
-        poses,
-        r,
-        count,
-        lanes,
-        cells,
-        0,
-        prices,
-    );
+    finish::stretch_end(store, line, pairs, n, poses, r, count, lanes, cells, prices);
 }
 
 // The prices of stage i in a row from start pair s, to the block at `prices`.

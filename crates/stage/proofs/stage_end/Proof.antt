@@ -1,38 +1,43 @@
+-- A stage ends at tall cell i, or at the row's end. Assumes nothing.
+use Rattle.deck.specs.Words.{deckOf}
+use Rattle.stage.specs.Stage.{posIn}
+use Rattle.stage.specs.Rows.{row-tall, row-last}
+use native.Mathlib.Omega.{arith}
 use borrow.Author.Needs.{needs}
 use Rattle.stage.proofs.stage_end.Statement.{statement}
 use Rattle.stage.proofs.stage_end.Tie as tie
-use Rattle.stage.proofs.stage_end.Reads as reads
-use Rattle.stage.proofs.stage_end.Lts as lts
-use Rattle.deck.proofs.word.Reads as word-reads
-use Rattle.stretch.proofs.stretch_to.Reads as stretch-to-reads
 
--- src/lib.rt:59:13
 word-requires : tie.Need-word-requires
 word-requires c κs = search needs
 
--- src/lib.rt:60:9
 stretch-to-requires : tie.Need-stretch-to-requires
-stretch-to-requires c κs = ?
+unfolding posIn
+stretch-to-requires c κs =
+    let k = c .before .before .before .before .before .before .before in
+    let g = k .pre .0 in
+    (k .pre .1, k .pre .2, omega (arith, c .before .word .ensures, g .inside (k .args .i) (c .before .before .if1 .taken), g .ground .size))
 
--- src/lib.rt:63:9
 same-length : tie.Need-same-length
 same-length c = search needs
 
--- src/lib.rt:63:9
 returns : tie.Need-returns
-returns c = ?
+unfolding posIn
+returns c =
+    let k = c .before .before .before .before .before .before .before .before .before .before in
+    let a = k .args in
+    row-tall (deckOf (a .line .now) (a .n) (a .poses)) (a .r) (a .talls) (posIn (a .places .now)) (c .before .before .before .before .before .if1 .taken) (k .pre .0 .ground .all) (c .before .before .before .before .word .ensures) (c .before .before .stretch-to .ensures)
 
--- src/lib.rt:65:5
-stretch-to-requires-2 : tie.Need-stretch-to-requires-2
-stretch-to-requires-2 c κs = search needs
+stretch-end-requires : tie.Need-stretch-end-requires
+stretch-end-requires c κs = search needs
 
--- src/lib.rt:40:1
 same-length-2 : tie.Need-same-length-2
 same-length-2 c = search needs
 
--- src/lib.rt:40:1
 returns-2 : tie.Need-returns-2
-returns-2 c = ?
+returns-2 c =
+    let k = c .before .before .before .before .before .before .before .before .before in
+    let a = k .args in
+    row-last (deckOf (a .line .now) (a .n) (a .poses)) (a .r) (a .talls) (posIn (a .places .now)) (a .count) (c .before .before .before .before .if1 .left) (c .before .before .stretch-end .ensures)
 
 pub stage-end-spec : {M : Type 1} → statement M
 stage-end-spec =
@@ -42,6 +47,6 @@ stage-end-spec =
     stretch-to-requires
     same-length
     returns
-    stretch-to-requires-2
+    stretch-end-requires
     same-length-2
     returns-2)
