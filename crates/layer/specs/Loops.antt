@@ -61,7 +61,7 @@ pub record Given (line pairs st : List ℕ) (n poses R count lanes i at : ℕ) :
   pub ground : Ground line pairs R n poses count
   pub low : Low st
   pub narrow : lanes ≤ 60
-  pub early : i ≤ 66
+  pub early : i ≤ 67
   pub room : at + 49152 ≤ length st
 
 -- pair q in pose a is a target, with one cell more

@@ -20,7 +20,8 @@ use Rattle.kept.specs.Kept.{keptIn, KeptLayers, Stretch, StretchKept}
 use Rattle.kept.specs.Laws.{kept-ext, kept-fewer}
 use Rattle.walk.specs.Walks.{Back, Walk, End, WalkDone, EndDone, wordAt}
 use Rattle.walk.specs.Steps.{end-full}
-use Rattle.stagewalk.specs.Rows.{tallAt, startCells, startLayer, priceFrom, endPlace, Row, Start, Stage, Started, StageDone}
+use Rattle.stage.specs.Stage.{posIn}
+use Rattle.stagewalk.specs.Rows.{startCells, startLayer, endPlace, Stage, Started, StageDone}
 
 -- ---- the start
 
@@ -94,23 +95,23 @@ end-last n R talls pos I q h = ap (λ t. cond t (placedWith R (pos I) q) n) (le-
 -- ---- a stage
 
 module _ {line pairs places st path : List ℕ} {n poses R count talls I s l q a : ℕ} (g : Stage line pairs places st path n poses R count talls I s l q a)
-    {cells : ℕ} {mid : List ℕ} (w : Started (deckOf line n poses) R (tallAt places) I s l cells st mid) where
+    {cells : ℕ} {mid : List ℕ} (w : Started (deckOf line n poses) R (posIn places) I s l cells st mid) where
   abbrev D : Deck
   D = deckOf line n poses
 
   abbrev f : Layer
-  f = startLayer (deckOf line n poses) R (tallAt places) I s l
+  f = startLayer (deckOf line n poses) R (posIn places) I s l
 
   some : 0 < cells
-  some = omega (arith, w .count, start-some R (tallAt places) I s)
+  some = omega (arith, w .count, start-some R (posIn places) I s)
 
   -- the price, from as many cells as were counted
-  cost : stageEnd (deckOf line n poses) R talls (tallAt places) I (startLayer (deckOf line n poses) R (tallAt places) I s l) cells q a < B
-  cost = subst (λ (i : ℕ). stageEnd D R talls (tallAt places) I f i q a < B) (sym (w .count)) (g .cost)
+  cost : stageEnd (deckOf line n poses) R talls (posIn places) I (startLayer (deckOf line n poses) R (posIn places) I s l) cells q a < B
+  cost = subst (λ (i : ℕ). stageEnd D R talls (posIn places) I f i q a < B) (sym (w .count)) (g .cost)
 
   -- the first layer is that of the block
   kept-start : {end : ℕ} {new : List ℕ} → KeptLayers (deckOf line n poses) R (layerIn mid 0 0) cells end new
-      → KeptLayers (deckOf line n poses) R (startLayer (deckOf line n poses) R (tallAt places) I s l) cells end new
+      → KeptLayers (deckOf line n poses) R (startLayer (deckOf line n poses) R (posIn places) I s l) cells end new
   kept-start k = kept-ext (layerIn mid 0 0) f (w .right) k
 
   back : {new : List ℕ} → Low new → length new ≡ length mid → Back line pairs new n poses R count
@@ -124,10 +125,10 @@ module _ {line pairs places st path : List ℕ} {n poses R count talls I s l q a
 
   -- ---- to a tall cell
 
-  module _ (h : I < talls) {end : ℕ} (e : end ≡ placedWith R (tallAt places I) q) where
-    tall-room : (cells + offset R q ≤ tallAt places I + suc R) × (layers (deckOf line n poses) R (startLayer (deckOf line n poses) R (tallAt places) I s l) cells (end - cells) q a < B)
+  module _ (h : I < talls) {end : ℕ} (e : end ≡ placedWith R (posIn places I) q) where
+    tall-room : (cells + offset R q ≤ posIn places I + suc R) × (layers (deckOf line n poses) R (startLayer (deckOf line n poses) R (posIn places) I s l) cells (end - cells) q a < B)
     tall-room =
-        let p = tall-price D R talls (tallAt places) I f cells q a h cost in
+        let p = tall-price D R talls (posIn places) I f cells q a h cost in
         (p .0, subst (λ (j : ℕ). layers D R f cells (j - cells) q a < B) (sym e) (p .1))
 
     pub tall-order : cells ≤ end
@@ -140,7 +141,7 @@ module _ {line pairs places st path : List ℕ} {n poses R count talls I s l q a
     tall-stretch = stretch end (omega (arith, tall-order, end-low)) end-low
 
     module _ {new : List ℕ} (k : StretchKept (deckOf line n poses) R cells end mid new) where
-      tall-kept : KeptLayers (deckOf line n poses) R (startLayer (deckOf line n poses) R (tallAt places) I s l) cells (cells + (end - cells)) new
+      tall-kept : KeptLayers (deckOf line n poses) R (startLayer (deckOf line n poses) R (posIn places) I s l) cells (cells + (end - cells)) new
       tall-kept = kept-start (kept-fewer (cells + (end - cells)) (omega (arith, tall-order)) (k .kept))
 
       pub tall-walk : Walk line pairs new path n poses R count cells (end - cells) q a
@@ -158,28 +159,28 @@ module _ {line pairs places st path : List ℕ} {n poses R count talls I s l q a
           }
 
       pub tall-done : {path′ : List ℕ} → WalkDone (deckOf line n poses) R new cells (end - cells) q a path path′
-          → StageDone (deckOf line n poses) R talls (tallAt places) I s l q a st new path path′
+          → StageDone (deckOf line n poses) R talls (posIn places) I s l q a st new path path′
       tall-done {path′} d =
           record {
             frame = store-kept (k .frame);
             low = k .low;
-            notes = frame-join (startCells R (tallAt places) I s) (suc (endPlace n R talls (tallAt places) I q)) (frame-refl (startCells R (tallAt places) I s) 0 path) (d .frame)
+            notes = frame-join (startCells R (posIn places) I s) (suc (endPlace n R talls (posIn places) I q)) (frame-refl (startCells R (posIn places) I s) 0 path) (d .frame)
                 (omega arith) (omega (arith, w .count)) (omega arith) (omega (arith, z, tall-order));
             walked = record {
-              toTall = λ y. subst (λ (i : ℕ). (i + offset R q ≤ tallAt places I + suc R) × Walked D R (NotedBy (wordAt path′)) f i (tallAt places I + suc R - offset R q - i) q a) (w .count)
+              toTall = λ y. subst (λ (i : ℕ). (i + offset R q ≤ posIn places I + suc R) × Walked D R (NotedBy (wordAt path′)) f i (posIn places I + suc R - offset R q - i) q a) (w .count)
                   (tall-room .0, subst (λ (j : ℕ). Walked D R (NotedBy (wordAt path′)) f cells (j - cells) q a) e (d .walked f tall-kept));
               toEnd = λ y. absurd (omega arith);
             };
           }
         where
-          z : endPlace n R talls (tallAt places) I q ≡ end
-          z = end-tall n R talls (tallAt places) I q h ∙ sym e
+          z : endPlace n R talls (posIn places) I q ≡ end
+          z = end-tall n R talls (posIn places) I q h ∙ sym e
 
   -- ---- to the row's end
 
   module _ (h : talls ≤ I) where
-    price : priceEnd (deckOf line n poses) R (startLayer (deckOf line n poses) R (tallAt places) I s l) cells < B
-    price = end-price D R talls (tallAt places) I f cells q a h cost
+    price : priceEnd (deckOf line n poses) R (startLayer (deckOf line n poses) R (posIn places) I s l) cells < B
+    price = end-price D R talls (posIn places) I f cells q a h cost
 
     pub last-stretch : Stretch line pairs mid n poses R count cells n
     last-stretch = let z = g .start .row .ground .size in stretch n (omega (arith, end-bound D R f cells price)) (omega arith)
@@ -188,12 +189,12 @@ module _ {line pairs places st path : List ℕ} {n poses R count talls I s l q a
       pub last-walk : End line pairs new path n poses R count cells
       last-walk = record { back = back (k .low) (k .frame .long); room = g .room; some = some; first = f; kept = kept-start (k .kept); cost = price }
 
-      pub last-done : {path′ : List ℕ} → EndDone (deckOf line n poses) R new cells path path′ → StageDone (deckOf line n poses) R talls (tallAt places) I s l q a st new path path′
+      pub last-done : {path′ : List ℕ} → EndDone (deckOf line n poses) R new cells path path′ → StageDone (deckOf line n poses) R talls (posIn places) I s l q a st new path path′
       last-done {path′} d =
           record {
             frame = store-kept (k .frame);
             low = k .low;
-            notes = frame-join (startCells R (tallAt places) I s) (suc (endPlace n R talls (tallAt places) I q)) (frame-refl (startCells R (tallAt places) I s) 0 path) (d .frame)
+            notes = frame-join (startCells R (posIn places) I s) (suc (endPlace n R talls (posIn places) I q)) (frame-refl (startCells R (posIn places) I s) 0 path) (d .frame)
                 (omega arith) (omega (arith, w .count)) (omega arith) (omega (arith, z));
             walked = record {
               toTall = λ y. absurd (omega arith);
@@ -201,5 +202,5 @@ module _ {line pairs places st path : List ℕ} {n poses R count talls I s l q a
             };
           }
         where
-          z : endPlace n R talls (tallAt places) I q ≡ n
-          z = end-last n R talls (tallAt places) I q h
+          z : endPlace n R talls (posIn places) I q ≡ n
+          z = end-last n R talls (posIn places) I q h

@@ -10,12 +10,9 @@ use Rattle.model.specs.Stages.{placedWith, stageEnd}
 use Rattle.model.specs.Back.{StageWalked}
 use Rattle.model.specs.Notes.{NotedBy}
 use Rattle.lanes.specs.Store.{Frame, Low, layerIn}
-use Rattle.deck.specs.Words.{deckOf, Ground}
+use Rattle.deck.specs.Words.{deckOf}
+use Rattle.stage.specs.Stage.{posIn, RowGiven}
 use Rattle.walk.specs.Walks.{wordAt}
-
--- where a row's tall cells stand
-abbrev pub tallAt : List ℕ → ℕ → ℕ
-tallAt places I = getD places I 0
 
 -- ---- the start of stage I: the row's start, or tall cell I - 1 as pair s in pose l
 
@@ -38,15 +35,9 @@ endPlace n R talls pos I q = cond (ltb I talls) (placedWith R (pos I) q) n
 
 -- ---- what is given
 
--- a row: its words, and the tall cells' positions
-pub record Row (line pairs places : List ℕ) (n poses R count talls : ℕ) : Type 0 where
-  pub ground : Ground line pairs R n poses count
-  pub long : talls ≤ length places
-  pub inside : (I : ℕ) → I < talls → tallAt places I < n
-
 -- a start of stage I
 pub record Start (line pairs places st : List ℕ) (n poses R count talls I s l : ℕ) : Type 0 where
-  pub row : Row line pairs places n poses R count talls
+  pub row : RowGiven line pairs places R n poses count talls
   pub low : Low st
   pub long : 148992 ≤ length st
   pub stage : I ≤ talls
@@ -59,7 +50,7 @@ pub record Stage (line pairs places st path : List ℕ) (n poses R count talls I
   pub room : 67 ≤ length path
   pub pair : I < talls → q < pairCount R
   pub pose : I < talls → a < poses
-  pub cost : priceFrom (deckOf line n poses) R talls (tallAt places) I s l q a < B
+  pub cost : priceFrom (deckOf line n poses) R talls (posIn places) I s l q a < B
 
 -- ---- what is left
 

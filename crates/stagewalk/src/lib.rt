@@ -4,7 +4,8 @@ ghost use Prim.Native.Nat.{ℕ, suc, _≤_, _<_};
 ghost use Rattle.model.specs.Steps.{pairCount};
 ghost use Rattle.model.specs.Stages.{placedWith};
 ghost use Rattle.deck.specs.Words.{deckOf, PairWords};
-ghost use Rattle.stagewalk.specs.Rows.{tallAt, Start, Stage, Started, StageDone};
+ghost use Rattle.stage.specs.Stage.{posIn};
+ghost use Rattle.stagewalk.specs.Rows.{Start, Stage, Started, StageDone};
 
 // How many cells are placed once the cell at position p stands as pair s.
 fn placed_with(pairs: &[u32], r: usize, p: usize, s: usize) -> usize
@@ -35,7 +36,7 @@ fn first_of(
     l: usize,
 ) -> usize
     requires { ⌜ Start (now line) (now pairs) (now places) (now store) n poses r count talls stage s l ⌝ }
-    ensures { λ i. ⌜ Started (deckOf (now (line .entry)) n poses) r (tallAt (now (places .entry))) stage s l i (now (store .entry)) (now (store .exit)) ⌝ }
+    ensures { λ i. ⌜ Started (deckOf (now (line .entry)) n poses) r (posIn (now (places .entry))) stage s l i (now (store .entry)) (now (store .exit)) ⌝ }
 {
     if stage == 0 {
         first::open_layer(store, line, pairs, n, poses, r, count, 0);
@@ -66,7 +67,7 @@ pub fn stage_walk(
     a: usize,
 )
     requires { ⌜ Stage (now line) (now pairs) (now places) (now store) (now path) n poses r count talls stage s l q a ⌝ }
-    ensures { λ _. ⌜ StageDone (deckOf (now (line .entry)) n poses) r talls (tallAt (now (places .entry))) stage s l q a (now (store .entry)) (now (store .exit)) (now (path .entry)) (now (path .exit)) ⌝ }
+    ensures { λ _. ⌜ StageDone (deckOf (now (line .entry)) n poses) r talls (posIn (now (places .entry))) stage s l q a (now (store .entry)) (now (store .exit)) (now (path .entry)) (now (path .exit)) ⌝ }
 {
     let i = first_of(
         store,

@@ -3,7 +3,7 @@ use Prim.Native.Nat.{_-_}
 use native.Mathlib.Omega.{arith}
 use borrow.Author.Needs.{needs}
 use Rattle.deck.specs.Words.{deckOf}
-use Rattle.stagewalk.specs.Rows.{tallAt}
+use Rattle.stage.specs.Stage.{posIn}
 use Rattle.stagewalk.specs.Laws.{started-open, started-after}
 use Rattle.stagewalk.proofs.first_of.Statement.{statement}
 use Rattle.stagewalk.proofs.first_of.Tie as tie
@@ -18,7 +18,7 @@ returns : tie.Need-returns
 returns c =
     let k = c .before .before .before .before .before .before .before .before .before in
     let a = k .args in
-    started-open (deckOf (a .line .now) (a .n) (a .poses)) (a .r) (tallAt (a .places .now)) (c .before .before .before .before .if1 .taken) (k .pre .row .ground .all) (c .before .before .open-layer .ensures)
+    started-open (deckOf (a .line .now) (a .n) (a .poses)) (a .r) (posIn (a .places .now)) (c .before .before .before .before .if1 .taken) (k .pre .row .ground .all) (c .before .before .open-layer .ensures)
 
 sub-word : tie.Need-sub-word
 sub-word c = search needs
@@ -64,7 +64,7 @@ returns-2 : tie.Need-returns-2
 returns-2 c =
     let k = c .before .before .before .before .before .before .before .before .before .before .before in
     let a = k .args in
-    started-after (deckOf (a .line .now) (a .n) (a .poses)) (a .r) (tallAt (a .places .now)) (a .stage - 1) (omega arith) (c .before .before .before .before .before .word .ensures)
+    started-after (deckOf (a .line .now) (a .n) (a .poses)) (a .r) (posIn (a .places .now)) (a .stage - 1) (omega arith) (c .before .before .before .before .before .word .ensures)
     (c .before .before .before .before .placed-with .ensures) (k .pre .row .ground .all) (c .before .before .first-layer .ensures)
 
 pub first-of-spec : {M : Type 1} → statement M

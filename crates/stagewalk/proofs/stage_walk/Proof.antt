@@ -3,14 +3,14 @@ use mathlib.Core.Path.{_≡_}
 use native.Mathlib.Omega.{arith}
 use borrow.Author.Needs.{needs}
 use Rattle.model.specs.Stages.{placedWith}
-use Rattle.stagewalk.specs.Rows.{tallAt}
+use Rattle.stage.specs.Stage.{posIn}
 use Rattle.stagewalk.specs.Laws.{tall-order, tall-stretch, tall-walk, tall-done, last-stretch, last-walk, last-done}
 use Rattle.stagewalk.proofs.stage_walk.Statement.{statement}
 use Rattle.stagewalk.proofs.stage_walk.Tie as tie
 
 -- the tall cell's place, as counted
 abbrev Placed : tie.After-placed-with → Type 0
-Placed c = let a = c .before .before .before .before .before .before .before .before .before .before .before .before .args in c .placed-with .result ≡ placedWith (a .r) (tallAt (a .places .now) (a .stage)) (a .q)
+Placed c = let a = c .before .before .before .before .before .before .before .before .before .before .before .before .args in c .placed-with .result ≡ placedWith (a .r) (posIn (a .places .now) (a .stage)) (a .q)
 
 placed : (c : tie.After-placed-with) → Placed c
 placed c = omega (arith, c .placed-with .ensures, c .before .word .ensures)

@@ -13,7 +13,7 @@ use Rattle.stretch.proofs.stretch_to.Tie as tie
 
 abbrev Inv-loop : tie.InvT-loop
 Inv-loop store₀ line pairs n poses r count lanes i tall prices from₀ d₀ store from d =
-    (i + d ≤ 66) × PricedRun (deckOf line n poses) r lanes i tall d from prices store₀ store
+    (i + d ≤ 67) × PricedRun (deckOf line n poses) r lanes i tall d from prices store₀ store
 
 abbrev μ-loop : tie.MeasureT-loop
 μ-loop store₀ line pairs n poses r count lanes i tall prices from₀ d₀ store from d =
