@@ -27,12 +27,14 @@ word-requires : tie.Need-word-requires
 word-requires c κs = search needs
 
 placed-with-requires : tie.Need-placed-with-requires
+unfolding posIn
 placed-with-requires c κs =
     let k = c .before .before .before .before .before .before in
     let g = k .pre in
     (g .row .ground .coded, g .pair (omega arith), omega (arith, c .word .ensures, g .row .inside (k .args .stage - 1) (omega (arith, g .stage)), g .row .ground .size))
 
 first-layer-requires : tie.Need-first-layer-requires
+unfolding posIn
 first-layer-requires c κs =
     let k = c .before .before .before .before .before .before .before .before in
     let g = k .pre in
@@ -51,6 +53,7 @@ first-layer-requires c κs =
     )
 
 add-result : tie.Need-add-result
+unfolding posIn
 add-result c =
     let k = c .before .before .before .before .before .before .before .before .before .before .before in
     let g = k .pre in
@@ -61,6 +64,7 @@ same-length-2 : tie.Need-same-length-2
 same-length-2 c = search needs
 
 returns-2 : tie.Need-returns-2
+unfolding posIn
 returns-2 c =
     let k = c .before .before .before .before .before .before .before .before .before .before .before in
     let a = k .args in

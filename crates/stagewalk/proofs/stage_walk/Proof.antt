@@ -13,6 +13,7 @@ abbrev Placed : tie.After-placed-with → Type 0
 Placed c = let a = c .before .before .before .before .before .before .before .before .before .before .before .before .args in c .placed-with .result ≡ placedWith (a .r) (posIn (a .places .now) (a .stage)) (a .q)
 
 placed : (c : tie.After-placed-with) → Placed c
+unfolding posIn
 placed c = omega (arith, c .placed-with .ensures, c .before .word .ensures)
 
 first-of-requires : tie.Need-first-of-requires
@@ -22,6 +23,7 @@ word-requires : tie.Need-word-requires
 word-requires c κs = search needs
 
 placed-with-requires : tie.Need-placed-with-requires
+unfolding posIn
 placed-with-requires c κs =
     let k = c .before .before .before .before .before .before .before .before .before .before .before in
     let r = k .pre .start .row in
