@@ -1,8 +1,7 @@
 // The layers of a stretch kept for the walk back: the stretch is run once more from one start, in lane 0, and each of its layers is copied.
 ghost use mathlib.Core.Path.{_≡_};
-ghost use Prim.Native.Nat.{ℕ, _+_, _*_, _≤_, _<_};
+ghost use Prim.Native.Nat.{_+_, _*_, _≤_, _<_};
 ghost use lib.ListN.{length};
-ghost use Rattle.model.specs.Steps.{pairCount};
 ghost use Rattle.lanes.specs.Store.{Low, Written, layerIn};
 ghost use Rattle.deck.specs.Words.{deckOf};
 ghost use Rattle.kept.specs.Kept.{keptAt, firstLane, Copied, KeptLayers, Stretch, StretchKept};

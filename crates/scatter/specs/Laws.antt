@@ -1,5 +1,5 @@
 -- One place more; and one row after the other, where tall cells have the same pose number in both. Assumes nothing.
-use Prim.Native.Nat.{ℕ, zero, suc, _+_, _*_, _/_, _%_, _≤_, _<_}
+use Prim.Native.Nat.{ℕ, zero, suc, _+_, _/_, _≤_, _<_}
 use mathlib.Core.Path.{_≡_, refl, sym, ap, _∙_}
 use mathlib.Core.Logic.{_⊎_, inl, inr}
 use mathlib.Core.List.{List}
@@ -7,7 +7,6 @@ use native.Mathlib.Omega.{arith}
 use native.Mathlib.Decide.{ℕ-discrete}
 use lib.ListN.{length, getD, set, length-set}
 use lib.Seq.{getD-set-same, getD-set-other}
-use Rattle.deck.specs.Words.{wordOf}
 use Rattle.scatter.specs.Scatter.{cellAt, poseAt, Given, Upto, Scattered}
 
 pub upto-none : (line path st : List ℕ) → Upto line path 1 st st

@@ -1,5 +1,4 @@
 // From a row's path to pose numbers by cell number: place by place, the cell there gets the pose number there.
-ghost use mathlib.Core.Path.{_≡_};
 ghost use Rattle.scatter.specs.Scatter.{Given, Scattered};
 
 pub fn scatter(out: &mut [u32], path: &[u32], line: &[u32], n: usize)

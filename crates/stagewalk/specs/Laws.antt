@@ -1,22 +1,22 @@
 -- Laws of a stage walked back: from its first layer to what the walk leaves, by whether it ends at a tall cell. Assumes nothing.
-use Prim.Native.Nat.{ℕ, zero, suc, _+_, _-_, _*_, _≤_, _<_}
+use Prim.Native.Nat.{ℕ, zero, suc, _+_, _-_, _≤_, _<_}
 use mathlib.Core.Path.{_≡_, refl, sym, ap, _∙_, subst}
 use mathlib.Core.Bool.{Bool, true, false, cond, _&&_}
 use mathlib.Core.List.{List}
 use native.Mathlib.Omega.{arith}
 use native.Mathlib.Decide.{decLt}
-use borrow.Author.Tests.{lt-ltb, le-ltb, le-leb, lt-leb, leb-true}
-use lib.ListN.{length, getD}
+use borrow.Author.Tests.{lt-ltb, le-ltb, leb-true}
+use lib.ListN.{length}
 use lib.Dec.{ltb, leb, eqb}
-use Rattle.model.specs.Steps.{B, Deck, Layer, pairCount, offset, marks, firstAfter, firstOpen, layers, priceTo, priceEnd}
+use Rattle.model.specs.Steps.{B, Deck, Layer, pairCount, offset, marks, firstAfter, layers, priceTo, priceEnd}
 use Rattle.model.specs.Stages.{placedWith, stageEnd}
-use Rattle.model.specs.Back.{Walked, EndWalked, StageWalked}
+use Rattle.model.specs.Back.{Walked, EndWalked}
 use Rattle.model.specs.Notes.{NotedBy}
 use Rattle.lanes.specs.Laws.{frame-refl, frame-join}
 use Rattle.lanes.specs.Store.{Frame, Low, layerIn, Filled}
-use Rattle.deck.specs.Words.{deckOf, Ground, PairWords}
+use Rattle.deck.specs.Words.{deckOf}
 use Rattle.first.specs.Firsts.{afterFrom, openFrom}
-use Rattle.kept.specs.Kept.{keptIn, KeptLayers, Stretch, StretchKept}
+use Rattle.kept.specs.Kept.{KeptLayers, Stretch, StretchKept}
 use Rattle.kept.specs.Laws.{kept-ext, kept-fewer}
 use Rattle.walk.specs.Walks.{Back, Walk, End, WalkDone, EndDone, wordAt}
 use Rattle.walk.specs.Steps.{end-full}

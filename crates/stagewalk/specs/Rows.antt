@@ -1,9 +1,9 @@
 -- One stage of the walk back in one row: its first layer made once more from its one start, its layers kept, and the walk through them.
-use Prim.Native.Nat.{ℕ, zero, suc, _+_, _≤_, _<_}
+use Prim.Native.Nat.{ℕ, zero, suc, _≤_, _<_}
 use mathlib.Core.Path.{_≡_}
 use mathlib.Core.Bool.{cond}
 use mathlib.Core.List.{List}
-use lib.ListN.{length, getD}
+use lib.ListN.{length}
 use lib.Dec.{ltb}
 use Rattle.model.specs.Steps.{B, Deck, Layer, pairCount, marks, firstAfter, firstOpen}
 use Rattle.model.specs.Stages.{placedWith, stageEnd}

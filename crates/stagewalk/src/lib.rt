@@ -1,6 +1,6 @@
 // One stage of the walk back in one row: its first layer is made once more from its one start, its layers are kept, and the walk goes back through them.
 ghost use mathlib.Core.Path.{_≡_};
-ghost use Prim.Native.Nat.{ℕ, suc, _≤_, _<_};
+ghost use Prim.Native.Nat.{_<_};
 ghost use Rattle.model.specs.Steps.{pairCount};
 ghost use Rattle.model.specs.Stages.{placedWith};
 ghost use Rattle.deck.specs.Words.{deckOf, PairWords};

@@ -1,16 +1,16 @@
 -- Laws of the trace: a case's way gives what both rows are to be walked by, and the case to go on from; later walks keep the places already noted.
 -- Assumes nothing.
-use Prim.Native.Nat.{ℕ, zero, suc, _+_, _*_, _/_, _%_, _≤_, _<_}
-use mathlib.Core.Path.{_≡_, refl, sym, ap, _∙_, subst}
-use mathlib.Core.Logic.{_⊎_, inl, inr}
+use Prim.Native.Nat.{ℕ, suc, _+_, _*_, _/_, _%_, _≤_, _<_}
+use mathlib.Core.Path.{_≡_, sym, ap, _∙_, subst}
+use mathlib.Core.Logic.{inl, inr}
 use mathlib.Core.List.{List}
 use native.Mathlib.Omega.{arith}
 use native.Mathlib.Decide.{decLt}
-use lib.ListN.{length, getD}
-use Rattle.model.specs.Steps.{B, Deck, Layer, pairCount, offset}
+use lib.ListN.{length}
+use Rattle.model.specs.Steps.{B, Deck, Layer, pairCount}
 use Rattle.model.specs.Stages.{placedWith, openPrice, stagePrice, caseTable, leastCost}
-use Rattle.model.specs.Back.{EndWalked, StageWalked, StageBack, Traced}
-use Rattle.model.specs.Notes.{NotedBy, NotBeyond, stage-words}
+use Rattle.model.specs.Back.{EndWalked, StageWalked}
+use Rattle.model.specs.Notes.{NotedBy, stage-words}
 use Rattle.lanes.specs.Laws.{frame-join}
 use Rattle.lanes.specs.Store.{Frame, Low}
 use Rattle.deck.specs.Words.{deckOf}
@@ -19,8 +19,8 @@ use Rattle.stage.specs.Stage.{wide, posIn, RowGiven, StagesGiven, StagesDone}
 use Rattle.stage.specs.Laws.{wide-all, wide-last, given-pairs, given-wide}
 use Rattle.walk.specs.Walks.{wordAt}
 use Rattle.stagewalk.specs.Rows.{startCells, startLayer, priceFrom, endPlace, Stage, StageDone}
-use Rattle.stagewalk.specs.Laws.{start-some, end-tall, end-last}
-use Rattle.trace.specs.Trace.{Case, Ways, stages-ways, Both, Leg, Trace, LegDone, TraceDone}
+use Rattle.stagewalk.specs.Laws.{end-tall, end-last}
+use Rattle.trace.specs.Trace.{Ways, stages-ways, Leg, Trace, LegDone, TraceDone}
 
 -- ---- one row
 

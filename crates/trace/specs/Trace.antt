@@ -1,6 +1,5 @@
 -- The trace: from the last case table's one case back over the source words, both rows walked stage by stage.
-use Prim.Native.Nat.{ℕ, suc, _+_, _≤_, _<_}
-use mathlib.Core.Path.{_≡_}
+use Prim.Native.Nat.{ℕ, suc, _≤_, _<_}
 use mathlib.Core.List.{List}
 use lib.ListN.{length}
 use Rattle.model.specs.Steps.{B, Deck, pairCount}

@@ -1,6 +1,6 @@
 // The trace: from the last case table's one case back over the source words, both rows walked stage by stage.
 ghost use mathlib.Core.Path.{_≡_};
-ghost use Prim.Native.Nat.{ℕ, suc, _≤_, _<_};
+ghost use Prim.Native.Nat.{suc, _≤_, _<_};
 ghost use lib.ListN.{length};
 ghost use Rattle.deck.specs.Words.{deckOf};
 ghost use Rattle.join.specs.Tables.{sourcesIn};

@@ -1,13 +1,13 @@
 -- The last cell of a row: the least of its words is what the tables say of the row's end. Assumes nothing.
-use Prim.Native.Nat.{ℕ, suc, _+_, _*_, _/_, _%_, _≤_, _<_}
-use mathlib.Core.Path.{_≡_, refl, sym, ap, ap₂, _∙_}
+use Prim.Native.Nat.{ℕ, _+_, _*_, _/_, _%_, _≤_, _<_}
+use mathlib.Core.Path.{_≡_, refl, sym, ap, ap₂}
 use mathlib.Core.Bool.{Bool, true, false, not, _&&_, cond}
 use native.Mathlib.Omega.{arith}
 use borrow.Author.Tests.{lt-ltb, le-ltb, ltb-true}
 use borrow.Author.Count.{below-more}
 use lib.Dec.{ltb}
 use Rattle.rows.specs.Lists.{from}
-use Rattle.pair.specs.Coded.{lowest, lowest-low}
+use Rattle.pair.specs.Coded.{lowest}
 use Rattle.model.specs.Lowest.{loop-member, loop-above}
 use Rattle.model.specs.Steps.{B, Deck, Layer, pairCount, lastAt, isThere, ends}
 use Rattle.layer.specs.Laws.{lowest-ext}

@@ -1,14 +1,13 @@
 -- A search that misses every source has not been given what the tables say; so the search for a source hits. Assumes nothing.
-use Prim.Native.Nat.{ℕ, zero, suc, _+_, _*_, _/_, _%_, _≤_, _<_, min}
+use Prim.Native.Nat.{ℕ, zero, suc, _+_, _*_, _<_, min}
 use mathlib.Core.Path.{_≡_, refl, sym, ap, _∙_}
 use mathlib.Core.Bool.{Bool, true, false, cond}
 use mathlib.Core.List.{List}
 use native.Mathlib.Omega.{arith}
-use lib.ListN.{getD}
 use Rattle.rows.specs.Lists.{from}
 use Rattle.pair.specs.Coded.{lowest, lowest-from}
 use Rattle.model.specs.Steps.{B, Deck, Layer, pairCount, lastAt, isThere, isSource, via, reached, nextLayer}
-use Rattle.deck.specs.Words.{tollIn, deckOf}
+use Rattle.deck.specs.Words.{deckOf}
 use Rattle.kept.specs.Kept.{keptAt, keptIn}
 use Rattle.walk.specs.Walks.{First, fromPose, fromPair, Fits, EntrySource}
 

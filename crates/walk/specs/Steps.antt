@@ -1,16 +1,16 @@
 -- The walk step by step: an entry is noted, its source is found, and from there on it is a walk of one layer less. Assumes nothing.
-use Prim.Native.Nat.{ℕ, zero, suc, _+_, _-_, _*_, _/_, _%_, _≤_, _<_}
+use Prim.Native.Nat.{ℕ, suc, _+_, _-_, _*_, _≤_, _<_}
 use mathlib.Core.Path.{_≡_, refl, sym, ap, _∙_, subst}
 use mathlib.Core.Logic.{inl, inr}
 use mathlib.Core.Bool.{Bool, true, false, cond}
 use mathlib.Core.List.{List}
 use native.Mathlib.Omega.{arith}
 use borrow.Author.Tests.{le-leb, lt-leb, eqb-true}
-use lib.ListN.{length, getD, set, length-set}
-use lib.Seq.{getD-set-same, getD-set-other}
+use lib.ListN.{length, set}
+use lib.Seq.{getD-set-same}
 use lib.Dec.{eqb}
-use Rattle.model.specs.Steps.{B, Deck, Layer, pairCount, lastAt, isThere, nextLayer, layers, ends, priceEnd}
-use Rattle.model.specs.Back.{Source, Walked, Last, EndWalked}
+use Rattle.model.specs.Steps.{B, Deck, Layer, pairCount, lastAt, nextLayer, layers, ends, priceEnd}
+use Rattle.model.specs.Back.{Source, Walked, Last}
 use Rattle.model.specs.Notes.{NotedBy}
 use Rattle.lanes.specs.Laws.{frame-refl, frame-set, frame-join}
 use Rattle.lanes.specs.Store.{Frame}

@@ -1,12 +1,12 @@
 // The walk back through the kept layers of one stretch: each entry's source is found again by its cost, and each cell passed is noted.
 ghost use mathlib.Core.Path.{_≡_};
-ghost use Prim.Native.Nat.{ℕ, suc, _+_, _*_, _/_, _%_, _≤_, _<_};
+ghost use Prim.Native.Nat.{suc, _+_, _*_, _/_, _%_, _≤_, _<_};
 ghost use lib.ListN.{length, set};
 ghost use Rattle.model.specs.Steps.{B, pairCount, lastAt, reached, ends};
 ghost use Rattle.lanes.specs.Store.{Low};
 ghost use Rattle.deck.specs.Words.{deckOf, LineWords, PairWords};
 ghost use Rattle.kept.specs.Kept.{keptIn};
-ghost use Rattle.walk.specs.Walks.{First, LeastOf, fromPose, fromPair, Fits, EntrySource, Back, Entry, Walk, End, WalkDone, EndDone, lastCode, LastFound};
+ghost use Rattle.walk.specs.Walks.{First, fromPose, fromPair, Fits, EntrySource, Back, Entry, Walk, End, WalkDone, EndDone, lastCode, LastFound};
 
 // The first pose of the cell at position k by way of which pose a of position m costs `want`; or `poses`.
 fn find_pose(

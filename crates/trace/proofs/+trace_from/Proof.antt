@@ -1,7 +1,7 @@
 -- The first stage is walked from the rows' starts; a later one from where its source word says, and from there it goes on. The measure is the stage.
 -- Assumes nothing.
 use Prim.Native.Nat.{_-_}
-use mathlib.Core.Path.{_≡_, _∙_}
+use mathlib.Core.Path.{_∙_}
 use native.Mathlib.Omega.{arith}
 use Rattle.trace.specs.Laws.{source-room, open-leg, open-done, back-leg, back-rest, back-done}
 use Prim.Native.Nat.{ℕ, _<_}

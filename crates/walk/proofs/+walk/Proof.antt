@@ -1,9 +1,8 @@
 -- The entry is noted; if it is not of the first layer its source is found, and the rest is a walk from there. The measure is how many layers are left.
 -- Assumes nothing.
-use Prim.Native.Nat.{suc, _+_, _-_, _/_, _%_}
-use mathlib.Core.Path.{_≡_, ap, _∙_}
+use Prim.Native.Nat.{_+_, _-_, _/_, _%_}
+use mathlib.Core.Path.{_∙_}
 use native.Mathlib.Omega.{arith}
-use lib.ListN.{length, length-set}
 use Rattle.deck.specs.Words.{deckOf}
 use Rattle.walk.specs.Steps.{walk-entry, walk-rest, walk-none, walk-more}
 use borrow.Author.Needs.{needs}

@@ -1,11 +1,10 @@
 -- An entry below B is its own cost and what it was reached by: the rest is what a source must have. Assumes nothing.
-use Prim.Native.Nat.{ℕ, suc, _+_, _*_, _-_, _≤_, _<_}
-use mathlib.Core.Path.{_≡_, refl, sym, ap, _∙_}
-use mathlib.Core.Bool.{true}
+use Prim.Native.Nat.{ℕ, suc, _+_, _*_, _-_, _<_}
+use mathlib.Core.Path.{_≡_, sym, ap, _∙_}
 use native.Mathlib.Omega.{arith}
 use borrow.Author.Needs.{needs}
 use lib.ListN.{getD}
-use Rattle.model.specs.Steps.{isThere, lastAt, reached}
+use Rattle.model.specs.Steps.{lastAt, reached}
 use Rattle.deck.specs.Words.{deckOf}
 use Rattle.deck.specs.Laws.{there-size}
 use Rattle.kept.specs.Kept.{keptIn}

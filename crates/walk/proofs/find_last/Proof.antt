@@ -1,9 +1,7 @@
 -- The least word so far, and where it is. Assumes nothing.
-use Prim.Native.Nat.{ℕ, _+_, _*_, _-_, _≤_}
-use mathlib.Core.Path.{_≡_}
+use Prim.Native.Nat.{ℕ, _*_, _-_, _≤_}
 use mathlib.Core.Logic.{⊎-elim}
 use native.Mathlib.Omega.{arith}
-use borrow.Author.Needs.{needs}
 use Rattle.deck.specs.Words.{deckOf}
 use Rattle.kept.specs.Kept.{keptIn}
 use Rattle.walk.specs.Walks.{LeastOf, lastCode}

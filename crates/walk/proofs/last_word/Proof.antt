@@ -1,13 +1,12 @@
 -- Each return reads the tests on its way. Assumes nothing.
-use Prim.Native.Nat.{ℕ, _+_, _*_, _/_, _%_, _<_}
+use Prim.Native.Nat.{ℕ, _/_, _%_, _<_}
 use mathlib.Core.Path.{_≡_, sym, ap, _∙_}
-use mathlib.Core.Bool.{true, false}
+use mathlib.Core.Bool.{true}
 use native.Mathlib.Omega.{arith}
 use lib.Dec.{eqb}
 use lib.ListN.{getD}
 use borrow.Author.Needs.{needs}
 use borrow.Author.Tests.{eq-eqb, ne-eqb, not-true, not-false}
-use Rattle.model.specs.Steps.{lastAt}
 use Rattle.deck.specs.Words.{wordOf, deckOf, thereIn}
 use Rattle.deck.specs.Laws.{there-size}
 use Rattle.kept.specs.Kept.{keptIn}

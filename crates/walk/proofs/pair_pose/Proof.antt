@@ -1,6 +1,6 @@
 -- A pair that is no source has no pose that fits; one that is a source stands in the row. Assumes nothing.
-use Prim.Native.Nat.{suc, _<_}
-use mathlib.Core.Path.{_≡_, refl, sym, _∙_}
+use Prim.Native.Nat.{suc}
+use mathlib.Core.Path.{_≡_, sym, _∙_}
 use mathlib.Core.Bool.{true}
 use native.Mathlib.Omega.{arith}
 use borrow.Author.Needs.{needs}
