@@ -50,6 +50,15 @@ toll-low {line} k b m a w =
     let p = charged-low (charge-low (x - y)) (pay-low (w .weight m) (differ-low line k b m a)) in
     cond-low (ltb x y) (omega arith) (cond-low (eqb (x - y) 1) (omega arith) (omega arith))
 
+-- a test of two parts, whose first part fails or holds
+pub and-away : (s t : Bool) → s ≡ false → false ≡ (s && t)
+and-away false t e = refl
+and-away true t e = absurd (let z : _≡_ {A = ℕ} 0 1 = cc in omega arith)
+
+pub and-there : (s t : Bool) → s ≡ true → t ≡ (s && t)
+and-there true t e = refl
+and-there false t e = absurd (let z : _≡_ {A = ℕ} 0 1 = cc in omega arith)
+
 both : (s t : Bool) → (s && t) ≡ true → (s ≡ true) × (t ≡ true)
 both true t h = (refl, h)
 both false t h = absurd (let z : _≡_ {A = ℕ} 0 1 = cc in omega arith)

@@ -1,24 +1,16 @@
 -- Each return reads the tests on its way. Assumes nothing.
 use Prim.Native.Nat.{ℕ, _<_}
-use mathlib.Core.Path.{_≡_, refl, sym, ap, _∙_}
-use mathlib.Core.Bool.{Bool, true, false, _&&_, not}
+use mathlib.Core.Path.{_≡_, sym, ap, _∙_}
+use mathlib.Core.Bool.{true, not}
 use native.Mathlib.Omega.{arith}
 use lib.Dec.{eqb}
 use borrow.Author.Needs.{needs}
 use borrow.Author.Tests.{not-true, not-false}
 use Rattle.model.specs.Steps.{lastAt}
 use Rattle.deck.specs.Words.{wordOf, thereIn}
-use Rattle.deck.specs.Laws.{there-size}
+use Rattle.deck.specs.Laws.{there-size, and-away, and-there}
 use Rattle.finish.proofs.ends_with.Statement.{statement}
 use Rattle.finish.proofs.ends_with.Tie as tie
-
-away : (s t : Bool) → s ≡ false → false ≡ (s && t)
-away false t e = refl
-away true t e = absurd (let z : _≡_ {A = ℕ} 0 1 = cc in omega arith)
-
-near : (s t : Bool) → s ≡ true → t ≡ (s && t)
-near true t e = refl
-near false t e = absurd (let z : _≡_ {A = ℕ} 0 1 = cc in omega arith)
 
 -- past the test the position is in the row
 abbrev There : tie.Else1 → Type 0
@@ -38,7 +30,7 @@ is-there-requires c κs = search needs
 
 returns : tie.Need-returns
 returns c =
-    away _ _ (sym (c .before .is-there .ensures) ∙ not-true _ (c .if1 .taken))
+    and-away _ _ (sym (c .before .is-there .ensures) ∙ not-true _ (c .if1 .taken))
 
 last-at-requires : tie.Need-last-at-requires
 last-at-requires c κs = search needs
@@ -63,7 +55,7 @@ returns-2 : tie.Need-returns-2
 returns-2 c =
     let a = c .before .before .before .before .before .before .args in
     ap (λ (p : ℕ). not (eqb (wordOf (a .line .now) p 67) 1)) (c .before .last-at .ensures)
-    ∙ near (thereIn (a .n) (a .r) (a .n) (a .q)) (not (eqb (wordOf (a .line .now) (lastAt (a .r) (a .n) (a .q)) 67) 1)) (there (c .before .before))
+    ∙ and-there (thereIn (a .n) (a .r) (a .n) (a .q)) (not (eqb (wordOf (a .line .now) (lastAt (a .r) (a .n) (a .q)) 67) 1)) (there (c .before .before))
 
 pub ends-with-spec : {M : Type 1} → statement M
 ends-with-spec =

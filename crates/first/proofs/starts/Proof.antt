@@ -1,30 +1,20 @@
 -- The pair's third word is the marks before. Assumes nothing.
-use Prim.Native.Nat.{ℕ}
-use mathlib.Core.Path.{_≡_, refl, sym, ap, _∙_}
-use mathlib.Core.Bool.{Bool, true, false, _&&_}
-use native.Mathlib.Omega.{arith}
+use mathlib.Core.Path.{sym, ap, _∙_}
 use lib.Dec.{eqb}
 use borrow.Author.Needs.{needs}
 use borrow.Author.Tests.{not-true, not-false}
 use Rattle.model.specs.Steps.{before, marks}
 use Rattle.deck.specs.Words.{thereIn}
+use Rattle.deck.specs.Laws.{and-away, and-there}
 use Rattle.first.proofs.starts.Statement.{statement}
 use Rattle.first.proofs.starts.Tie as tie
-
-away : (s t : Bool) → s ≡ false → false ≡ (s && t)
-away false t e = refl
-away true t e = absurd (let z : _≡_ {A = ℕ} 0 1 = cc in omega arith)
-
-near : (s t : Bool) → s ≡ true → t ≡ (s && t)
-near true t e = refl
-near false t e = absurd (let z : _≡_ {A = ℕ} 0 1 = cc in omega arith)
 
 is-there-requires : tie.Need-is-there-requires
 is-there-requires c κs = search needs
 
 returns : tie.Need-returns
 returns c =
-    away _ _ (sym (c .before .is-there .ensures) ∙ not-true _ (c .if1 .taken))
+    and-away _ _ (sym (c .before .is-there .ensures) ∙ not-true _ (c .if1 .taken))
 
 mul-result : tie.Need-mul-result
 mul-result c = search needs
@@ -43,7 +33,7 @@ returns-2 c =
     let k = c .before .before .before .before in
     let a = k .args in
     ap (eqb (a .m)) (k .pre .0 .earlier (a .q) (k .pre .1))
-    ∙ near (thereIn (a .n) (a .r) (a .i) (a .q)) (eqb (a .m) (before (a .r) (a .q))) (sym (c .before .before .is-there .ensures) ∙ not-false _ (c .before .if1 .left))
+    ∙ and-there (thereIn (a .n) (a .r) (a .i) (a .q)) (eqb (a .m) (before (a .r) (a .q))) (sym (c .before .before .is-there .ensures) ∙ not-false _ (c .before .if1 .left))
 
 pub starts-spec : {M : Type 1} → statement M
 starts-spec =
