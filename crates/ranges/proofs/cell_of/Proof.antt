@@ -1,3 +1,4 @@
+-- `ranges::cell_of` meets its contract: the second layout stands after the first, whose size is at most 9.
 use native.Mathlib.Omega.{arith}
 use borrow.Author.Needs.{needs}
 use Rattle.ranges.proofs.cell_of.Statement.{statement}

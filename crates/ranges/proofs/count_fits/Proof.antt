@@ -1,3 +1,4 @@
+-- `ranges::count_fits` meets its contract: two layouts of nine numbers cannot wrap.
 use native.Mathlib.Nat.{mul-le-mul}
 use native.Mathlib.Omega.{arith}
 use borrow.Author.Needs.{needs}

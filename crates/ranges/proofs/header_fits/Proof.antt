@@ -1,3 +1,4 @@
+-- `ranges::header_fits` meets its contract: a number is never below 0.
 use Rattle.ranges.specs.Values.{header-all}
 use Rattle.ranges.proofs.header_fits.Statement.{statement}
 use Rattle.ranges.proofs.header_fits.Tie as tie

@@ -1,3 +1,4 @@
+-- `ranges::heights_fit` meets its contract: four tests, two by two.
 use Rattle.ranges.specs.Values.{heights-all}
 use Rattle.ranges.proofs.heights_fit.Statement.{statement}
 use Rattle.ranges.proofs.heights_fit.Tie as tie

@@ -1,3 +1,4 @@
+-- `ranges::layout_fits` meets its contract: four heights, or eight if tall.
 use mathlib.Core.Path.{_≡_}
 use Rattle.ranges.specs.Values.{layout-tall, layout-single}
 use lib.ListN.{length}

@@ -1,3 +1,4 @@
+-- `ranges::layout_size` meets its contract, by the row.
 use native.Mathlib.Omega.{arith}
 use borrow.Author.Tests.{eq-eqb, ne-eqb}
 use Rattle.ranges.proofs.layout_size.Statement.{statement}

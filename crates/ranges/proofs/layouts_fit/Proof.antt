@@ -1,3 +1,4 @@
+-- `ranges::layouts_fit` meets its contract, by how many layouts there are.
 use mathlib.Core.Path.{_∙_}
 use Rattle.ranges.specs.Values.{layouts-one, layouts-two}
 use borrow.Author.Needs.{needs}

@@ -1,3 +1,4 @@
+-- `ranges::shape_fits` meets its contract, by the header's rows.
 use borrow.Author.Tests.{eq-eqb, ne-eqb}
 use Rattle.ranges.proofs.shape_fits.Statement.{statement}
 use Rattle.ranges.proofs.shape_fits.Tie as tie
