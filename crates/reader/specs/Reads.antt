@@ -1,6 +1,6 @@
 -- What the functions of this crate answer: the header line, a cell line, and the whole text.
 use Prim.Native.Nat.{ℕ, zero, suc, _≤_, _<_}
-use mathlib.Core.Path.{_≡_}
+use mathlib.Core.Path.{_≡_, refl, sym, ap, _∙_}
 use mathlib.Core.List.{List, [], map}
 use lib.ListN.{length, take, drop}
 use Rattle.definition.specs.Texts.{Text}
@@ -63,3 +63,16 @@ pub record Reads (o : paper.Reading) (r : Reading) : Type 0 where
   pub same : readingOf r ≡ o
   pub number : r .number ≤ 4
   pub line : r .line ≤ 66
+  pub few : r .number ≡ 0 → r .job .count ≤ 64
+
+pub reads-accepted : {o : paper.Reading} {r : Reading} → Reads o r → r .number ≡ 0 → o ≡ paper.accepted (jobOf (r .job))
+unfolding readingOf
+reads-accepted {o} {r} s e = sym (s .same) ∙ ap (λ (n : ℕ). readingBy n (r .line) (r .job)) e
+
+pub reads-refused : {o : paper.Reading} {r : Reading} → Reads o r → (r .number ≡ 0 → ⊥) → o ≡ paper.refused (r .number) (r .line)
+unfolding readingOf
+reads-refused {o} {r} s z = sym (s .same) ∙ go (r .number) z
+  where
+    go : (n : ℕ) → (n ≡ 0 → ⊥) → readingBy n (r .line) (r .job) ≡ paper.refused n (r .line)
+    go zero z = absurd (z refl)
+    go (suc n) z = refl
