@@ -114,6 +114,7 @@ module _ {text : Text} {from : ℕ} {h : Header} {cells : List Cell} {t : Tally}
     number = r .few;
     line = omega (arith, s .few, s .number);
     few = λ e. absurd (z e);
+    long = λ e. absurd (z e);
   }
 
   -- the text ends
@@ -124,13 +125,14 @@ module _ {text : Text} {from : ℕ} {h : Header} {cells : List Cell} {t : Tally}
     number = omega arith;
     line = omega arith;
     few = λ e. s .few;
+    long = λ e. s .long;
   }
 
 -- ---- the whole text
 
 pub no-text : (text : Text) (any : Job) → length text ≡ 0 → Reads (paper.readJob text) (record { number = 1; line = 1; job = any })
 unfolding readingOf linesOf paper.readJob paper.readLines
-no-text [] any e = record { same = refl; number = omega arith; line = omega arith; few = λ z. absurd (omega arith) }
+no-text [] any e = record { same = refl; number = omega arith; line = omega arith; few = λ z. absurd (omega arith); long = λ z. absurd (omega arith) }
 no-text (b ∷ text) any e = absurd (omega arith)
 
 module _ (text : Text) (some : 0 < length text) where
@@ -147,7 +149,7 @@ module _ (text : Text) (some : 0 < length text) where
   unfolding readingOf
   head-refused h r z any =
       let more = paper.readCells (record { header = paper.headerOf (paper.numbersOf (firstLine text)); cells = [] }) 2 (linesOf (afterLine text)) in
-      record { same = refuse (h .number) 1 any more z ∙ ap (λ (n : ℕ). choose n 1 more) (r .number) ∙ sym head; number = r .few; line = omega arith; few = λ e. absurd (z e) }
+      record { same = refuse (h .number) 1 any more z ∙ ap (λ (n : ℕ). choose n 1 more) (r .number) ∙ sym head; number = r .few; line = omega arith; few = λ e. absurd (z e); long = λ e. absurd (z e) }
 
   pub head-on : (h : Head) → HeadLine text h → h .number ≡ 0 → paper.readCells (begun (h .header)) 2 (linesOf (drop (h .next) text)) ≡ paper.readJob text
   unfolding choose

@@ -2,7 +2,9 @@
 use Prim.Native.Nat.{ℕ, zero, suc, _≤_, _<_}
 use mathlib.Core.Path.{_≡_, refl, sym, ap, _∙_}
 use mathlib.Core.List.{List, [], map}
-use lib.ListN.{length, take, drop}
+use native.Mathlib.Omega.{arith}
+use lib.ListN.{length, take, drop, length-map}
+use lib.Seq.{length-take-le}
 use Rattle.definition.specs.Texts.{Text}
 use Rattle.definition.specs.Job as paper
 use Rattle.job.specs.declared.Cell.{Cell}
@@ -64,6 +66,7 @@ pub record Reads (o : paper.Reading) (r : Reading) : Type 0 where
   pub number : r .number ≤ 4
   pub line : r .line ≤ 66
   pub few : r .number ≡ 0 → r .job .count ≤ 64
+  pub long : r .number ≡ 0 → length (r .job .cells) ≡ 64
 
 pub reads-accepted : {o : paper.Reading} {r : Reading} → Reads o r → r .number ≡ 0 → o ≡ paper.accepted (jobOf (r .job))
 unfolding readingOf
@@ -76,3 +79,11 @@ reads-refused {o} {r} s z = sym (s .same) ∙ go (r .number) z
     go : (n : ℕ) → (n ≡ 0 → ⊥) → readingBy n (r .line) (r .job) ≡ paper.refused n (r .line)
     go zero z = absurd (z refl)
     go (suc n) z = refl
+
+-- how many cells the job has
+pub reads-count : {o : paper.Reading} {r : Reading} → Reads o r → r .number ≡ 0 → length (jobOf (r .job) .cells) ≡ r .job .count
+unfolding jobOf
+reads-count {o} {r} s e =
+    let l = s .long e in
+    let f = s .few e in
+    length-map (take (r .job .count) (r .job .cells)) cellOf ∙ length-take-le (r .job .count) (r .job .cells) (omega arith)
