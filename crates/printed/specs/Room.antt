@@ -1,17 +1,19 @@
 -- How long a printed placement is: at most 15 bytes a cell, and at most 9 where layout and mark are 0 or 1, as in every legal placement.
 use Prim.Native.Nat.{ℕ, zero, suc, _+_, _*_, _<_, _≤_}
-use mathlib.Core.Path.{_≡_, refl, ap}
-use mathlib.Core.List.{[], _∷_}
+use mathlib.Core.Path.{_≡_, refl, sym, ap, _∙_}
+use mathlib.Core.List.{[], _∷_, _++_, append-assoc, append-nil}
 use mathlib.Core.Bool.{Bool, true, false, _&&_, _||_, false≢true}
 use native.Mathlib.Omega.{arith}
 use native.Mathlib.Nat.{mul-suc}
-use lib.ListN.{length, length-append}
+use native.Mathlib.Numerals.{add-one}
+use lib.ListN.{length, take, drop, length-append, take-append-drop}
+use lib.Seq.{take-suc}
 use lib.Dec.{leb, ltb, eqb}
 use borrow.Author.Tests.{ltb-true, leb-true, eqb-true, not-false}
-use Rattle.definition.specs.Texts.{digits}
+use Rattle.definition.specs.Texts.{Text, digits}
 use Rattle.definition.specs.Job.{Cell, Job}
 use Rattle.definition.specs.Placement.{Pose, Placement, lineOf, textOf}
-use Rattle.definition.specs.Rules.{cellAt, poseAt, endAt, offered, breaks1, breaks2, Legal}
+use Rattle.definition.specs.Rules.{noPose, cellAt, poseAt, endAt, offered, breaks1, breaks2, Legal}
 use Rattle.definition.specs.Sound.{Sound}
 use Rattle.printed.specs.Numbers.{both, number-digits, one-digit}
 use Rattle.printed.specs.Poses.{Printable, Each}
@@ -58,6 +60,27 @@ printable-room P h = text-room Printable 15 line-room P h
 
 pub narrow-room : (P : Placement) → Each Narrow P → length (textOf P) ≤ 9 * length P
 narrow-room P h = text-room Narrow 9 narrow-line-room P h
+
+-- ---- the text of the first i cells
+
+text-append : (P Q : Placement) → textOf (P ++ Q) ≡ textOf P ++ textOf Q
+unfolding textOf
+text-append [] Q = refl
+text-append (p ∷ P) Q = rw (text-append P Q) (sym (append-assoc (lineOf p) (textOf P) (textOf Q)))
+
+pub text-more : (P : Placement) (i : ℕ) → i < length P → textOf (take (i + 1) P) ≡ textOf (take i P) ++ lineOf (poseAt P i)
+unfolding textOf
+text-more P i h =
+    rw (add-one i, take-suc P i noPose)
+    (text-append (take i P) (poseAt P i ∷ []) ∙ ap (λ (t : Text). textOf (take i P) ++ t) (append-nil (lineOf (poseAt P i))))
+
+pub text-within : (P : Placement) (i : ℕ) → length (textOf (take i P)) ≤ length (textOf P)
+text-within P i =
+    let e : length (textOf P) ≡ length (textOf (take i P)) + length (textOf (drop i P)) =
+    ap (λ (Q : Placement). length (textOf Q)) (sym (take-append-drop i P))
+    ∙ ap length (text-append (take i P) (drop i P))
+    ∙ length-append (textOf (take i P)) (textOf (drop i P)) in
+    omega arith
 
 -- ---- what holds of each pose, from what holds at each place, and back
 
