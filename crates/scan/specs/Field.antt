@@ -26,9 +26,6 @@ module _ (b : ℕ) (d : isDigit b ≡ true) where
   pub digit-low : 48 ≤ b
   digit-low = leb-true 48 b (and-true (leb 48 b) (leb b 57) d .0)
 
-  pub digit-high : b ≤ 57
-  digit-high = leb-true b 57 (and-true (leb 48 b) (leb b 57) d .1)
-
   digit-no-feed : eqb b lineFeed ≡ false
   digit-no-feed = ne-eqb b lineFeed (λ e. let h = digit-low in omega arith)
 
