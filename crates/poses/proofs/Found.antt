@@ -34,7 +34,6 @@ module _ (text : Text) (at : ℕ) (n : Numbers) (h : NumbersFrom text at n) wher
       record {
         ok = sym (three-numbers (drop at text) (sym (h .ok) ∙ e) (sym (f .count) ∙ k));
         found = λ t. record {
-          past = f .past;
           within = f .within;
           lines = lines-at text at (omega (arith, f .past, f .within)) ∙ rw (f .rest);
           says = rw (f .values 0 (omega arith) ∙ field-value fields 0, f .values 1 (omega arith) ∙ field-value fields 1, f .values 2 (omega arith) ∙ field-value fields 2);

@@ -1,5 +1,5 @@
 -- What is read of a placement text: one pose, and the whole, as document 01's reading of it.
-use Prim.Native.Nat.{ℕ, suc, _≤_, _<_}
+use Prim.Native.Nat.{ℕ, suc, _≤_}
 use mathlib.Core.Path.{_≡_}
 use mathlib.Core.Bool.{true, cond}
 use mathlib.Core.List.{[], _∷_, _++_}
@@ -18,7 +18,6 @@ use Rattle.poses.specs.declared.PlacementReading.{PlacementReading}
 
 -- the line from at to the next is in its form, and says this
 pub record PoseTo (text : Text) (at : ℕ) (r : PoseReading) : Type 0 where
-  pub past : at < r .next
   pub within : r .next ≤ length text
   pub lines : linesOf (drop at text) ≡ firstLine (drop at text) ∷ linesOf (drop (r .next) text)
   pub says : poseOf (r .pose) ≡ paper.poseOf (firstLine (drop at text))

@@ -119,6 +119,9 @@ legal-narrow j P s l = each-at Narrow P λ k h.
     let inside = leb-true (endAt j P k) (j .header .sites) (not-false (leb (endAt j P k) (j .header .sites)) (l .rule2 k low)) in
     record { site = omega (arith, s .header .fewSites); layout = q .0; mark = q .1 }
 
+pub legal-printable : (j : Job) (P : Placement) → Sound j → Legal j P → Each Printable P
+legal-printable j P s l = each-implies Narrow Printable narrow-printable P (legal-narrow j P s l)
+
 -- "9 bytes per cell"
 pub legal-room : (j : Job) (P : Placement) → Sound j → Legal j P → length (textOf P) ≤ 9 * length (j .cells)
 legal-room j P s l = omega (arith, narrow-room P (legal-narrow j P s l), l .each)
