@@ -4,7 +4,7 @@ use mathlib.Core.Path.{_≡_, refl, sym, ap, ap₂, _∙_}
 use mathlib.Core.List.{List, [], _∷_, map}
 use mathlib.Core.Logic.{_≢_}
 use native.Mathlib.Omega.{arith}
-use lib.ListN.{length, getD, take, set, length-set, length-take, length-map, List·getD-map, List·getD-eq-default}
+use lib.ListN.{length, getD, take, set, replicate, length-set, length-take, length-map, List·getD-map, List·getD-eq-default}
 use lib.Seq.{getD-take, getD-set-same, getD-set-other, length-take-le}
 use mathlib.Core.Bool.{Bool, true, false}
 use lib.Dec.{leb}
@@ -19,7 +19,8 @@ use Rattle.job.specs.declared.Placement.{Placement}
 use Rattle.job.specs.Value as value
 use Rattle.job.specs.Value.{cellOf, jobOf, poseOf, placementOf, layoutOf}
 use Rattle.order.specs.Words.{siteIn, endIn, rowIn, givenIn}
-use Rattle.placed.specs.Flat.{widthIn, four, Shows, Flat}
+use Rattle.order.specs.Laws.{zeros-at}
+use Rattle.placed.specs.Flat.{widthIn, four, Shows, Flat, Blank}
 
 -- ---- cell k and pose k of a value
 
@@ -146,3 +147,6 @@ width-small h c l s = go (leb (suc l) (length (c .layouts))) (le? (suc l) (lengt
     go : (t : Bool) → Le? (suc l) (length (c .layouts)) t → widthIn c l ≤ 64
     go true (low g) = s .layout l g .narrow
     go false (high g) = rw (widthIn, List·getD-eq-default (c .layouts) noLayout {n = l} (omega arith)) (omega arith)
+
+pub zeros-blank : Blank (replicate 256 0)
+zeros-blank = record { long = refl; zero = zeros-at 256 }
