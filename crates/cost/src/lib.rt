@@ -2,7 +2,6 @@
 ghost use mathlib.Core.Path.{_≡_};
 ghost use Prim.Native.Nat.{ℕ, _+_, _*_, _≤_, _<_};
 ghost use lib.ListN.{length};
-ghost use Rattle.definition.specs.Rules.{apart};
 ghost use Rattle.definition.specs.Cost.{stepsIn, isMirrored};
 ghost use Rattle.job.specs.Value.{jobOf, placementOf, poseAt};
 ghost use Rattle.placed.specs.Ready.{Ready};
@@ -16,6 +15,7 @@ use job::Header;
 use job::Job;
 use job::Placement;
 use order::order_row;
+use placed::apart_of;
 use placed::flatten;
 use steps::steps_in;
 
@@ -26,16 +26,6 @@ pub struct Numbers {
     pub changed: u32,
     pub cost: u32,
     pub drift: i32,
-}
-
-// How far apart two numbers are.
-pub fn apart_of(a: u32, b: u32) -> u32
-    ensures { λ r. ⌜ (r ≡ apart a b) × (r ≤ a + b) ⌝ }
-{
-    if a <= b {
-        return b - a;
-    }
-    a - b
 }
 
 // Sites shifted, over all cells.

@@ -2,12 +2,23 @@
 ghost use mathlib.Core.Path.{_≡_};
 ghost use Prim.Native.Nat.{ℕ, _+_, _*_, _≤_, _<_};
 ghost use lib.ListN.{length, getD};
+ghost use Rattle.definition.specs.Rules.{apart};
 ghost use Rattle.job.specs.Value.{cellOf, jobOf, placementOf};
 ghost use Rattle.placed.specs.Ready.{Ready};
 ghost use Rattle.placed.specs.Flat.{widthIn, four, Flat, Blank};
 use job::Cell;
 use job::Job;
 use job::Placement;
+
+// How far apart two numbers are.
+pub fn apart_of(a: u32, b: u32) -> u32
+    ensures { λ r. ⌜ (r ≡ apart a b) × (r ≤ a + b) ⌝ }
+{
+    if a <= b {
+        return b - a;
+    }
+    a - b
+}
 
 // The width of a cell in a layout; 0 in one that it lacks.
 pub fn width_of(cell: Cell, layout: u32) -> u32
