@@ -12,6 +12,7 @@ use Rattle.job.specs.declared.Cell.{Cell}
 use Rattle.job.specs.declared.Header.{Header}
 use Rattle.job.specs.declared.Job.{Job}
 use Rattle.job.specs.Value.{cellOf, headerOf, jobOf}
+use Rattle.accepted.specs.Tests.{choose, read-cell-line, read-header-line}
 use Rattle.scan.specs.Line.{firstLine, afterLine, lines-first}
 use Rattle.reader.specs.declared.Tally.{Tally}
 use Rattle.reader.specs.declared.Head.{Head}
@@ -42,15 +43,6 @@ far-none text from h cells w l = record {
 }
 
 -- ---- one line of the definition
-
--- a line's refusal, or else what follows it
-choose : ℕ → ℕ → paper.Reading → paper.Reading
-choose n at r = elim n [ zero ↦ r | suc m ↦ paper.refused (suc m) at ]
-
-read-line : (j : paper.Job) (at : ℕ) (l : Text) (ls : List Text)
-    → paper.readCells j at (l ∷ ls) ≡ choose (paper.cellRefusal j l) at (paper.readCells (paper.withCell j (paper.cellOf (paper.numbersOf l))) (suc at) ls)
-unfolding paper.readCells choose
-read-line j at l ls = refl
 
 refuse : (n at : ℕ) (any : Job) (r : paper.Reading) → (n ≡ 0 → ⊥) → readingBy n at any ≡ choose n at r
 unfolding choose
@@ -91,7 +83,7 @@ module _ {text : Text} {from : ℕ} {h : Header} {cells : List Cell} {t : Tally}
         same =
             s .same
             ∙ ap (paper.readCells j line) (lines k)
-            ∙ read-line j line (lineAt text at) ls
+            ∙ read-cell-line j line (lineAt text at) ls
             ∙ ap (λ (m : ℕ). choose m line (paper.readCells (paper.withCell j (paper.cellOf (paper.numbersOf (lineAt text at)))) (suc line) ls)) (sym (r .number j (s .tallies)) ∙ z)
             ∙ ap (λ (x : paper.Cell). paper.readCells (paper.withCell j x) (suc line) ls) (sym (to .cell))
             ∙ ap (λ (x : paper.Job). paper.readCells x (suc line) ls) (sym g)
@@ -110,7 +102,7 @@ module _ {text : Text} {from : ℕ} {h : Header} {cells : List Cell} {t : Tally}
         let more = paper.readCells (paper.withCell j (paper.cellOf (paper.numbersOf (lineAt text at)))) (suc line) ls in
         refuse (l .number) line any more z
         ∙ ap (λ (n : ℕ). choose n line more) (r .number j (s .tallies))
-        ∙ sym (s .same ∙ ap (paper.readCells j line) (lines k) ∙ read-line j line (lineAt text at) ls);
+        ∙ sym (s .same ∙ ap (paper.readCells j line) (lines k) ∙ read-cell-line j line (lineAt text at) ls);
     number = r .few;
     line = omega (arith, s .few, s .number);
     few = λ e. absurd (z e);
@@ -138,8 +130,8 @@ no-text (b ∷ text) any e = absurd (omega arith)
 module _ (text : Text) (some : 0 < length text) where
   head : paper.readJob text
       ≡ choose (paper.headerRefusal (firstLine text)) 1 (paper.readCells (record { header = paper.headerOf (paper.numbersOf (firstLine text)); cells = [] }) 2 (linesOf (afterLine text)))
-  unfolding paper.readJob paper.readLines choose
-  head = ap paper.readLines (all-lines text some)
+  unfolding paper.readJob
+  head = ap paper.readLines (all-lines text some) ∙ read-header-line (firstLine text) (linesOf (afterLine text))
     where
       all-lines : (text : Text) → 0 < length text → linesOf text ≡ firstLine text ∷ linesOf (afterLine text)
       all-lines [] k = absurd (omega arith)

@@ -1,7 +1,7 @@
 -- The refusal of a line by its numbers in an array and by what is kept of the cells before it. It is document 01's refusal of that line.
 use Prim.Native.Nat.{ℕ, suc, _+_, _*_, _≤_, _<_}
 use mathlib.Core.Path.{_≡_, refl, sym, ap, _∙_}
-use mathlib.Core.Bool.{Bool, true, false, _&&_, cond}
+use mathlib.Core.Bool.{Bool, true, false, _&&_, cond, and-eq-true-iff}
 use mathlib.Core.List.{List, [], _∷_}
 use native.Mathlib.Omega.{arith}
 use lib.ListN.{length, getD, drop, length-drop, length-map}
@@ -13,8 +13,8 @@ use Rattle.definition.specs.Job as paper
 use Rattle.job.specs.declared.Cell.{Cell}
 use Rattle.job.specs.declared.Header.{Header}
 use Rattle.job.specs.Value.{layoutsOf, cellOf, headerOf}
+use Rattle.accepted.specs.Tests.{test-passed}
 use Rattle.scan.specs.Line.{firstLine}
-use Rattle.scan.specs.Field.{and-true}
 use Rattle.scan.specs.Lead.{led}
 use Rattle.scan.specs.Found.{LedFrom}
 use Rattle.scan.specs.declared.Numbers.{Numbers}
@@ -45,11 +45,6 @@ unfolding paper.firstFailing
 test-same k a true ts us e f = rw (e, f e)
 test-same k a false ts us e f = rw e
 
-pub test-passed : (k : ℕ) (a : Bool) (ts : List (ℕ × Bool)) → paper.firstFailing ((suc k, a) ∷ ts) ≡ 0 → (a ≡ true) × (paper.firstFailing ts ≡ 0)
-unfolding paper.firstFailing
-test-passed k true ts e = (refl, e)
-test-passed k false ts e = absurd (omega arith)
-
 pub test-passes : (k : ℕ) (a : Bool) (ts : List (ℕ × Bool)) (n : ℕ) → a ≡ true → n ≡ paper.firstFailing ts → n ≡ paper.firstFailing ((k, a) ∷ ts)
 unfolding paper.firstFailing
 test-passes k a ts n e h = rw e h
@@ -71,7 +66,7 @@ module _ (lead : ℕ) (text : Text) (at : ℕ) (r : Numbers) (l : LedFrom lead t
   fields-count : r .ok ≡ true → suc (r .count) ≡ length (fieldsOf (lineAt text at))
   unfolding led
   fields-count e =
-      let t = and-true (paper.formed lead (lineAt text at)) (leb 2 (length (fieldsOf (lineAt text at)))) (sym (l .ok) ∙ e) in
+      let t = and-eq-true-iff (paper.formed lead (lineAt text at)) (leb 2 (length (fieldsOf (lineAt text at)))) .0 (sym (l .ok) ∙ e) in
       omega (arith, l .found e .count, length-drop 1 (fieldsOf (lineAt text at)), leb-true 2 (length (fieldsOf (lineAt text at))) (t .1))
 
   -- A first test: it asks something of how many fields there are, two at least, and the code asks the same of how many numbers.
@@ -87,7 +82,7 @@ module _ (lead : ℕ) (text : Text) (at : ℕ) (r : Numbers) (l : LedFrom lead t
 
       go : (o : Bool) → r .ok ≡ o → r .ok && n ≡ paper.formed lead (lineAt text at) && p (length (fieldsOf (lineAt text at)))
       go true q =
-          let t = and-true (paper.formed lead (lineAt text at)) (leb 2 (length (fieldsOf (lineAt text at)))) (sym (l .ok) ∙ q) in
+          let t = and-eq-true-iff (paper.formed lead (lineAt text at)) (leb 2 (length (fieldsOf (lineAt text at)))) .0 (sym (l .ok) ∙ q) in
           rw (q, t .0) (e (fields-count q))
       go false q = rw q (none (paper.formed lead (lineAt text at)) (p (length (fieldsOf (lineAt text at)))) (sym (l .ok) ∙ q) h)
 
@@ -106,7 +101,7 @@ module _ (text : Text) (at : ℕ) (r : Numbers) (l : LedFrom 74 text at r) where
   -- the numbers of a line that passes the first test
   head-passed : r .ok && eqb (r .count) 8 ≡ true → (r .ok ≡ true) × (length (paper.numbersOf (lineAt text at)) ≡ 8)
   head-passed e =
-      let t = and-true (r .ok) (eqb (r .count) 8) e in
+      let t = and-eq-true-iff (r .ok) (eqb (r .count) 8) .0 e in
       (t .0, numbers-count 74 text at r l (t .0) ∙ eqb-true (r .count) 8 (t .1))
 
   pub head-number : headNumber (r .ok) (r .count) (headerIn (r .values)) ≡ paper.headerRefusal (lineAt text at)
@@ -142,7 +137,7 @@ module _ (text : Text) (at : ℕ) (r : Numbers) (l : LedFrom 67 text at r) where
   made o w e =
       let v = l .found o .values in
       let k = getD (r .values) 3 0 in
-      let b = and-true (leb 1 k) (leb k 2) w in
+      let b = and-eq-true-iff (leb 1 k) (leb k 2) .0 w in
       let v3 = v 3 (omega arith) in
       let size = numbers-count 67 text at r l o ∙ eqb-true (r .count) (4 + k * paper.layoutSize (getD (r .values) 0 0)) e in
       cell-made numbers (r .values) v (omega (arith, v3, leb-true 1 k (b .0))) (omega (arith, v3, leb-true k 2 (b .1))) (size ∙ rw (v3, v 0 (omega arith)))
@@ -153,7 +148,7 @@ module _ (text : Text) (at : ℕ) (r : Numbers) (l : LedFrom 67 text at r) where
   cell-number t j s =
       test-same 1 _ _ _ _ cell-first
       (λ e1.
-      let o = and-true (r .ok) (leb 4 (r .count)) e1 .0 in
+      let o = and-eq-true-iff (r .ok) (leb 4 (r .count)) .0 e1 .0 in
       let v = l .found o .values in
       let v0 = v 0 (omega arith) in
       let v3 = v 3 (omega arith) in
@@ -161,7 +156,7 @@ module _ (text : Text) (at : ℕ) (r : Numbers) (l : LedFrom 67 text at r) where
       (λ e2.
       test-same 1 _ _ _ _ (rw (v0, v3, numbers-count 67 text at r l o))
       (λ e3.
-      let c = made o (and-true (leb (getD (r .values) 0 0) (cond (eqb (t .rows) 2) 2 0)) (within 1 2 (getD (r .values) 3 0)) e2 .1) e3 in
+      let c = made o (and-eq-true-iff (leb (getD (r .values) 0 0) (cond (eqb (t .rows) 2) 2 0)) (within 1 2 (getD (r .values) 3 0)) .0 e2 .1) e3 in
       let m : layoutsOf (cellIn (r .values)) ≡ paper.cellOf numbers .layouts = ap (λ (x : paper.Cell). x .layouts) c in
       test-same 2 _ _ _ _ (rw (m, v 1 (omega arith), v 2 (omega arith)))
       (λ e4. test-same 3 _ _ _ _ (ap (room t) v0 ∙ room-cells s (paper.cellOf numbers)) (λ e5. test-same 4 _ _ _ _ (rw (v0, v 1 (omega arith)) (rises-tally s (paper.cellOf numbers))) (λ e6. refl))))))
@@ -180,9 +175,9 @@ module _ (text : Text) (at : ℕ) (r : Numbers) (l : LedFrom 67 text at r) where
       let p3 = test-passed 0 _ _ (p2 .1) in
       let p4 = test-passed 1 _ _ (p3 .1) in
       let p5 = test-passed 2 _ _ (p4 .1) in
-      let o = and-true (r .ok) (leb 4 (r .count)) (p1 .0) .0 in
+      let o = and-eq-true-iff (r .ok) (leb 4 (r .count)) .0 (p1 .0) .0 in
       record {
         ok = o;
-        cell = made o (and-true (leb (getD (r .values) 0 0) (cond (eqb (t .rows) 2) 2 0)) (within 1 2 (getD (r .values) 3 0)) (p2 .0) .1) (p3 .0);
-        few = ltb-true (t .count) 64 (and-true (ltb (t .count) 64) _ (p5 .0) .0);
+        cell = made o (and-eq-true-iff (leb (getD (r .values) 0 0) (cond (eqb (t .rows) 2) 2 0)) (within 1 2 (getD (r .values) 3 0)) .0 (p2 .0) .1) (p3 .0);
+        few = ltb-true (t .count) 64 (and-eq-true-iff (ltb (t .count) 64) _ .0 (p5 .0) .0);
       }

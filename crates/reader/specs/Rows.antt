@@ -9,6 +9,7 @@ use lib.Dec.{leb, ltb, eqb, leb·zero}
 use borrow.Author.Tests.{le-leb, lt-leb, leb-true, leb-false}
 use Rattle.definition.specs.Lists.{all, keep}
 use Rattle.definition.specs.Job.{Cell, Job, isTall, inRow, shareRow, hasRoom, notFalling, withCell}
+use Rattle.accepted.specs.Lists.{keep-more}
 use Rattle.reader.specs.declared.Tally.{Tally}
 
 -- the highest given site of a row
@@ -42,26 +43,11 @@ unfolding topIn
 top-more row [] c = omega arith
 top-more row (d ∷ cs) c = let e = top-more row cs c in omega arith
 
-tall-more : (cs : List Cell) (c : Cell) → length (keep isTall (cs ++ c ∷ [])) ≡ length (keep isTall cs) + cond (isTall c) 1 0
-tall-more [] c = go (isTall c)
-  where
-    go : (t : Bool) → length (cond t (c ∷ []) []) ≡ 0 + cond t 1 0
-    go true = refl
-    go false = refl
-tall-more (d ∷ cs) c = go (isTall d) (tall-more cs c)
-  where
-    more : List Cell
-    more = keep isTall (cs ++ c ∷ [])
-
-    go : (t : Bool) → length more ≡ length (keep isTall cs) + cond (isTall c) 1 0 → length (cond t (d ∷ more) more) ≡ length (cond t (d ∷ keep isTall cs) (keep isTall cs)) + cond (isTall c) 1 0
-    go true e = omega arith
-    go false e = e
-
 pub tallies-more : {j : Job} {t : Tally} → Tallies j t → (c : Cell) → Tallies (withCell j c) (tallyWith t (c .row) (c .given))
 tallies-more {j} {t} s c = record {
   rows = s .rows;
   count = rw (s .count) (sym (length-append (j .cells) (c ∷ [])));
-  tall = rw (s .tall) (sym (tall-more (j .cells) c));
+  tall = rw (s .tall) (sym (keep-more isTall c (j .cells)));
   first = rw (s .first) (sym (top-more 0 (j .cells) c));
   second = rw (s .second) (sym (top-more 1 (j .cells) c));
 }

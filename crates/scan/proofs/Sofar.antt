@@ -2,7 +2,7 @@
 -- other byte says whether the field is a number.
 use Prim.Native.Nat.{ℕ, _+_, _*_, _-_, _^_, _≤_, _<_}
 use mathlib.Core.Path.{_≡_, refl, sym, ap, _∙_}
-use mathlib.Core.Bool.{Bool, true, false, cond, false≢true}
+use mathlib.Core.Bool.{Bool, true, false, cond, false≢true, and-eq-true-iff}
 use mathlib.Core.List.{[], _∷_, _++_}
 use native.Mathlib.Omega.{arith}
 use native.Mathlib.Numerals.{add-one}
@@ -14,7 +14,7 @@ use lib.Dec.{leb, ltb}
 use Rattle.definition.specs.Lists.{all}
 use Rattle.definition.specs.Texts.{Text, lineFeed, comma, isDigit, isNumber, valueFrom}
 use Rattle.scan.specs.Line.{readable}
-use Rattle.scan.specs.Field.{Digits, is-digit, and-true, and-false, form-number, no-field, no-digit, five-digits, leading-zero, unended, no-empty}
+use Rattle.scan.specs.Field.{Digits, is-digit, and-false, form-number, no-field, no-digit, five-digits, leading-zero, unended, no-empty}
 use Rattle.scan.specs.Found.{NumberFrom}
 use Rattle.scan.specs.declared.Number.{Number}
 
@@ -46,7 +46,7 @@ sofar-none text from h = record {
 digits-more : (f : Text) (b : ℕ) → Digits f → isDigit b ≡ true → Digits (f ++ b ∷ [])
 digits-more [] b d e = rw e
 digits-more (x ∷ f) b d e =
-    let a = and-true (isDigit x) (all isDigit f) d in
+    let a = and-eq-true-iff (isDigit x) (all isDigit f) .0 d in
     rw (a .0) (digits-more f b (a .1) e)
 
 value-more : (a : ℕ) (f : Text) (b : ℕ) → valueFrom a (f ++ b ∷ []) ≡ valueFrom a f * 10 + (b - 48)

@@ -1,7 +1,7 @@
 -- Digits at the beginning of a line: what they and the byte after them say of the line, its fields and its end.
 use Prim.Native.Nat.{ℕ, _≤_}
 use mathlib.Core.Path.{_≡_, refl, sym, ap, _∙_}
-use mathlib.Core.Bool.{Bool, true, false, not, _&&_, _||_, false≢true}
+use mathlib.Core.Bool.{Bool, true, false, not, _&&_, _||_, false≢true, and-eq-true-iff}
 use mathlib.Core.List.{List, [], _∷_, _++_, append-nil}
 use native.Mathlib.Omega.{arith}
 use native.Mathlib.Decide.{ℕ-discrete}
@@ -14,17 +14,13 @@ use Rattle.scan.specs.Line.{firstLine, afterLine, readable, fields-first
 
 -- ---- tests
 
-pub and-true : (s t : Bool) → s && t ≡ true → (s ≡ true) × (t ≡ true)
-and-true true t e = (refl, e)
-and-true false t e = absurd (false≢true e)
-
 pub and-false : (t : Bool) → t && false ≡ false
 and-false true = refl
 and-false false = refl
 
 module _ (b : ℕ) (d : isDigit b ≡ true) where
   pub digit-low : 48 ≤ b
-  digit-low = leb-true 48 b (and-true (leb 48 b) (leb b 57) d .0)
+  digit-low = leb-true 48 b (and-eq-true-iff (leb 48 b) (leb b 57) .0 d .0)
 
   digit-no-feed : eqb b lineFeed ≡ false
   digit-no-feed = ne-eqb b lineFeed (λ e. let h = digit-low in omega arith)
@@ -41,10 +37,10 @@ abbrev pub Digits : Text → Type 0
 Digits f = all isDigit f ≡ true
 
 first : (b : ℕ) (f : Text) → Digits (b ∷ f) → isDigit b ≡ true
-first b f d = and-true (isDigit b) (all isDigit f) d .0
+first b f d = and-eq-true-iff (isDigit b) (all isDigit f) .0 d .0
 
 rest : (b : ℕ) (f : Text) → Digits (b ∷ f) → Digits f
-rest b f d = and-true (isDigit b) (all isDigit f) d .1
+rest b f d = and-eq-true-iff (isDigit b) (all isDigit f) .0 d .1
 
 module _ (t : Text) where
   pub after-digits : (f : Text) → Digits f → afterLine (f ++ t) ≡ afterLine t
@@ -101,9 +97,9 @@ pub record Form (f : Text) : Type 0 where
 pub number-form : (f : Text) → isNumber f ≡ true → Form f
 unfolding isNumber
 number-form f e =
-    let a = and-true (within 1 4 (length f) && all isDigit f) (eqb (length f) 1 || not (eqb (getD f 0 0) 48)) e in
-    let b = and-true (within 1 4 (length f)) (all isDigit f) (a .0) in
-    let c = and-true (leb 1 (length f)) (leb (length f) 4) (b .0) in
+    let a = and-eq-true-iff (within 1 4 (length f) && all isDigit f) (eqb (length f) 1 || not (eqb (getD f 0 0) 48)) .0 e in
+    let b = and-eq-true-iff (within 1 4 (length f)) (all isDigit f) .0 (a .0) in
+    let c = and-eq-true-iff (leb 1 (length f)) (leb (length f) 4) .0 (b .0) in
     record {
       some = leb-true 1 (length f) (c .0);
       few = leb-true (length f) 4 (c .1);

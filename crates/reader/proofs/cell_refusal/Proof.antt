@@ -1,7 +1,7 @@
 -- `reader::cell_refusal` meets its contract: the tests are made in the order of the list, and each one that is left behind was true.
 use Prim.Native.Nat.{_+_, _*_}
 use mathlib.Core.Path.{_≡_, sym, ap, _∙_}
-use mathlib.Core.Bool.{Bool, true, _&&_, cond}
+use mathlib.Core.Bool.{Bool, true, _&&_, cond, and-eq-true-iff}
 use native.Mathlib.Omega.{arith}
 use lib.Dec.{leb, eqb}
 use borrow.Author.Tests.{not-true, not-false, leb-true}
@@ -9,7 +9,6 @@ use Rattle.definition.specs.Lists.{all}
 use Rattle.definition.specs.Texts.{within}
 use Rattle.definition.specs.Job.{layoutSize, layoutInRange}
 use Rattle.job.specs.Value.{layoutsOf}
-use Rattle.scan.specs.Field.{and-true}
 use Rattle.reader.specs.Rows.{room}
 use Rattle.reader.specs.Lines.{cellNumber, test-passes, test-fails, tests-end}
 use borrow.Author.Needs.{needs}
@@ -51,7 +50,7 @@ returns-2 c =
 count-fits-requires : tie.Need-count-fits-requires
 count-fits-requires c κs =
     let a = c .before .before .before .args in
-    leb-true (a .c .layouts) 2 (and-true (leb 1 (a .c .layouts)) (leb (a .c .layouts) 2) (and-true (leb (a .c .row) (cond (eqb (a .t .rows) 2) 2 0)) (within 1 2 (a .c .layouts)) (passed2 c) .1) .1)
+    leb-true (a .c .layouts) 2 (and-eq-true-iff (leb 1 (a .c .layouts)) (leb (a .c .layouts) 2) .0 (and-eq-true-iff (leb (a .c .row) (cond (eqb (a .t .rows) 2) 2 0)) (within 1 2 (a .c .layouts)) .0 (passed2 c) .1) .1)
 
 returns-3 : tie.Need-returns-3
 unfolding cellNumber
