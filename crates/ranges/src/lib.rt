@@ -99,7 +99,6 @@ pub fn shape_fits(rows: u32, row: u32, layouts: u32) -> bool
 }
 
 pub fn count_fits(count: usize, row: u32, layouts: u32) -> bool
-    requires { ⌜ layouts ≤ 2 ⌝ }
     ensures { λ r. ⌜ r ≡ eqb count (4 + layouts * layoutSize row) ⌝ }
 {
     let size = layout_size(row);
