@@ -1,6 +1,6 @@
 // The reader: a job text is read line by line, each line once, up to the first that is refused.
 ghost use mathlib.Core.Path.{_≡_};
-ghost use mathlib.Core.Bool.{_&&_, _||_, not, cond};
+ghost use mathlib.Core.Bool.{cond};
 ghost use Prim.Native.Nat.{_+_, _≤_, _<_, max};
 ghost use lib.ListN.{length, drop};
 ghost use Rattle.definition.specs.Texts.{linesOf};
