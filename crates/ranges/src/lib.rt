@@ -1,9 +1,8 @@
 // The numbers of a line as a header or a cell, and the tests that their fields are in range.
 ghost use mathlib.Core.Path.{_≡_};
-ghost use mathlib.Core.Bool.{_&&_, _||_, not, cond};
+ghost use mathlib.Core.Bool.{_&&_, cond};
 ghost use Prim.Native.Nat.{_+_, _*_, _≤_};
-ghost use lib.Dec.{leb, ltb, eqb};
-ghost use lib.ListN.{getD};
+ghost use lib.Dec.{leb, eqb};
 ghost use mathlib.Core.List.{[], _∷_};
 ghost use Rattle.definition.specs.Lists.{all};
 ghost use Rattle.definition.specs.Texts.{within};
@@ -99,7 +98,6 @@ pub fn shape_fits(rows: u32, row: u32, layouts: u32) -> bool
 }
 
 pub fn count_fits(count: usize, row: u32, layouts: u32) -> bool
-    requires { ⌜ layouts ≤ 2 ⌝ }
     ensures { λ r. ⌜ r ≡ eqb count (4 + layouts * layoutSize row) ⌝ }
 {
     let size = layout_size(row);

@@ -6,7 +6,7 @@ use mathlib.Core.List.{List, [], _∷_}
 use native.Mathlib.Omega.{arith}
 use lib.ListN.{length, getD, drop, length-drop, length-map}
 use lib.Dec.{leb, ltb, eqb, leb·suc-suc, eqb·suc-suc}
-use borrow.Author.Tests.{ltb-true, leb-true, leb-false, eqb-true}
+use borrow.Author.Tests.{ltb-true, leb-true, leb-false, eqb-true, ne-eqb}
 use Rattle.definition.specs.Lists.{all}
 use Rattle.definition.specs.Texts.{Text, fieldsOf, value, within}
 use Rattle.definition.specs.Job as paper
@@ -45,17 +45,50 @@ unfolding paper.firstFailing
 test-same k a true ts us e f = rw (e, f e)
 test-same k a false ts us e f = rw e
 
-pub test-passes : (k : ℕ) (a : Bool) (ts : List (ℕ × Bool)) (n : ℕ) → a ≡ true → n ≡ paper.firstFailing ts → n ≡ paper.firstFailing ((k, a) ∷ ts)
-unfolding paper.firstFailing
-test-passes k a ts n e h = rw e h
+-- one more test after those that gave n; some more
+abbrev pub later : ℕ → Bool → ℕ → ℕ
+later n a k = cond (eqb n 0) (cond a 0 k) n
 
-pub test-fails : (k : ℕ) (a : Bool) (ts : List (ℕ × Bool)) → a ≡ false → k ≡ paper.firstFailing ((k, a) ∷ ts)
-unfolding paper.firstFailing
-test-fails k a ts e = rw e
+abbrev chain : ℕ → List (ℕ × Bool) → ℕ
+chain n [] = n
+chain n (t ∷ ts) = chain (later n (t .1) (t .0)) ts
 
-pub tests-end : 0 ≡ paper.firstFailing []
+stays : (n : ℕ) → (n ≡ 0 → ⊥) → (ts : List (ℕ × Bool)) → chain n ts ≡ n
+stays n z [] = refl
+stays n z (t ∷ ts) = rw (ne-eqb n 0 z) (stays n z ts)
+
+-- tests that have a number tried one after another
+pub tests-tried : (ts : List (ℕ × Bool)) → all (λ t. ltb 0 (t .0)) ts ≡ true → chain 0 ts ≡ paper.firstFailing ts
 unfolding paper.firstFailing
-tests-end = refl
+tests-tried [] e = refl
+tests-tried (t ∷ ts) e = go (t .1) (tests-tried ts (p .1))
+  where
+    p : (ltb 0 (t .0) ≡ true) × (all (λ t. ltb 0 (t .0)) ts ≡ true)
+    p = and-eq-true-iff (ltb 0 (t .0)) (all (λ t. ltb 0 (t .0)) ts) .0 e
+
+    go : (a : Bool) → chain 0 ts ≡ paper.firstFailing ts → chain (cond a 0 (t .0)) ts ≡ cond a (paper.firstFailing ts) (t .0)
+    go true h = h
+    go false h = let b = ltb-true 0 (t .0) (p .0) in stays (t .0) (λ z. omega arith) ts
+
+tests-few : (ts : List (ℕ × Bool)) → all (λ t. leb (t .0) 4) ts ≡ true → paper.firstFailing ts ≤ 4
+unfolding paper.firstFailing
+tests-few [] e = omega arith
+tests-few (t ∷ ts) e = go (t .1) (tests-few ts (p .1))
+  where
+    p : (leb (t .0) 4 ≡ true) × (all (λ t. leb (t .0) 4) ts ≡ true)
+    p = and-eq-true-iff (leb (t .0) 4) (all (λ t. leb (t .0) 4) ts) .0 e
+
+    go : (a : Bool) → paper.firstFailing ts ≤ 4 → cond a (paper.firstFailing ts) (t .0) ≤ 4
+    go true h = h
+    go false h = leb-true (t .0) 4 (p .0)
+
+pub head-few : (ok : Bool) (count : ℕ) (h : Header) → headNumber ok count h ≤ 4
+unfolding headNumber
+head-few ok count h = tests-few _ refl
+
+pub cell-few : (t : Tally) (ok : Bool) (count mark : ℕ) (c : Cell) → cellNumber t ok count mark c ≤ 4
+unfolding cellNumber
+cell-few t ok count mark c = tests-few _ refl
 
 -- ---- a line with its lead
 

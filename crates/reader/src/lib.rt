@@ -1,12 +1,12 @@
 // The reader: a job text is read line by line, each line once, up to the first that is refused.
 ghost use mathlib.Core.Path.{_≡_};
-ghost use mathlib.Core.Bool.{_&&_, _||_, not, cond};
+ghost use mathlib.Core.Bool.{cond};
 ghost use Prim.Native.Nat.{_+_, _≤_, _<_, max};
 ghost use lib.ListN.{length, drop};
 ghost use Rattle.definition.specs.Texts.{linesOf};
 ghost use Rattle.definition.specs.Job.{readJob, readCells};
 ghost use Rattle.reader.specs.Rows.{tallyWith, room, rises};
-ghost use Rattle.reader.specs.Lines.{headNumber, cellNumber};
+ghost use Rattle.reader.specs.Lines.{later, headNumber, cellNumber};
 ghost use Rattle.reader.specs.Reads.{HeadLine, CellLine, begun, Reads};
 use job::Cell;
 use job::Header;
@@ -49,18 +49,28 @@ pub struct Reading {
     pub job: Job,
 }
 
+// One more test: a refusal before it stands, and otherwise its own number if it fails.
+fn tried(before: u32, passed: bool, number: u32) -> u32
+    ensures { λ r. ⌜ r ≡ later before passed number ⌝ }
+{
+    if before != 0 {
+        return before;
+    }
+    if passed {
+        return 0;
+    }
+    number
+}
+
 // ---- the header
 
 fn header_refusal(ok: bool, count: usize, h: Header) -> u32
-    ensures { λ r. ⌜ (r ≡ headNumber ok count h) × (r ≤ 4) ⌝ }
+    ensures { λ r. ⌜ r ≡ headNumber ok count h ⌝ }
 {
-    if !(ok & (count == 8)) {
-        return 1;
-    }
-    if !header_fits(h) {
-        return 2;
-    }
-    0
+    let whole = ok & (count == 8);
+    let range = header_fits(h);
+    let n = tried(0, whole, 1);
+    tried(n, range, 2)
 }
 
 fn header_line(text: &[u8]) -> Head
@@ -94,32 +104,25 @@ fn does_rise(t: Tally, row: u32, given: u32) -> bool
     first & second
 }
 
-// `mark` is the line's field for mirrorable.
+// The tests in document 01's order; `mark` is the line's field for mirrorable.
 fn cell_refusal(t: Tally, ok: bool, count: usize, mark: u32, c: Cell) -> u32
-    ensures { λ r. ⌜ (r ≡ cellNumber t ok count mark c) × (r ≤ 4) ⌝ }
+    ensures { λ r. ⌜ r ≡ cellNumber t ok count mark c ⌝ }
 {
     let row = c.row;
     let given = c.given;
     let layouts = c.layouts;
-    if !(ok & (4 <= count)) {
-        return 1;
-    }
-    if !shape_fits(t.rows, row, layouts) {
-        return 2;
-    }
-    if !count_fits(count, row, layouts) {
-        return 1;
-    }
-    if !((given <= 1023) & (mark <= 1) & layouts_fit(c)) {
-        return 2;
-    }
-    if !has_room(t, row) {
-        return 3;
-    }
-    if !does_rise(t, row, given) {
-        return 4;
-    }
-    0
+    let formed = ok & (4 <= count);
+    let shape = shape_fits(t.rows, row, layouts);
+    let size = count_fits(count, row, layouts);
+    let rest = (given <= 1023) & (mark <= 1) & layouts_fit(c);
+    let room = has_room(t, row);
+    let rises = does_rise(t, row, given);
+    let n = tried(0, formed, 1);
+    let n = tried(n, shape, 2);
+    let n = tried(n, size, 1);
+    let n = tried(n, rest, 2);
+    let n = tried(n, room, 3);
+    tried(n, rises, 4)
 }
 
 fn cell_line(text: &[u8], at: usize, t: Tally) -> Line

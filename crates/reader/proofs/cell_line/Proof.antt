@@ -3,7 +3,7 @@ use mathlib.Core.Path.{_≡_, sym, ap, _∙_}
 use lib.ListN.{getD}
 use Rattle.job.specs.Value.{cellOf}
 use Rattle.ranges.specs.Values.{cellIn}
-use Rattle.reader.specs.Lines.{cellNumber, cell-number, cell-passed}
+use Rattle.reader.specs.Lines.{cellNumber, cell-few, cell-number, cell-passed}
 use borrow.Author.Needs.{needs}
 use Rattle.reader.proofs.cell_line.Statement.{statement}
 use Rattle.reader.proofs.cell_line.Tie as tie
@@ -26,10 +26,10 @@ returns c =
     let f = c .before .before .before .read-led in
     let r = f .result in
     let n : c .cell-refusal .result ≡ cellNumber (a .t) (r .ok) (r .count) (getD (r .values) 2 0) (cellIn (r .values)) =
-    c .cell-refusal .ensures .0 ∙ ap (cellNumber (a .t) (r .ok) (r .count) (getD (r .values) 2 0)) (c .before .cell-of .ensures) in
+    c .cell-refusal .ensures ∙ ap (cellNumber (a .t) (r .ok) (r .count) (getD (r .values) 2 0)) (c .before .cell-of .ensures) in
     record {
       number = λ j s. n ∙ cell-number (a .text .now) (a .at) r (f .ensures) (a .t) j s;
-      few = c .cell-refusal .ensures .1;
+      few = rw n (cell-few (a .t) (r .ok) (r .count) (getD (r .values) 2 0) (cellIn (r .values)));
       read = λ e.
           let p = cell-passed (a .text .now) (a .at) r (f .ensures) (a .t) (sym n ∙ e) in
           let g = f .ensures .found (p .ok) in

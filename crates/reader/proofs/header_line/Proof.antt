@@ -2,7 +2,7 @@
 use mathlib.Core.Path.{_≡_, sym, ap, _∙_}
 use Rattle.job.specs.Value.{headerOf}
 use Rattle.ranges.specs.Values.{headerIn}
-use Rattle.reader.specs.Lines.{headNumber, head-number, head-read}
+use Rattle.reader.specs.Lines.{headNumber, head-few, head-number, head-read}
 use borrow.Author.Needs.{needs}
 use Rattle.reader.proofs.header_line.Statement.{statement}
 use Rattle.reader.proofs.header_line.Tie as tie
@@ -21,10 +21,10 @@ returns c =
     let text = c .before .before .before .before .before .args .text .now in
     let f = c .before .before .before .read-led in
     let n : c .header-refusal .result ≡ headNumber (f .result .ok) (f .result .count) (headerIn (f .result .values)) =
-    c .header-refusal .ensures .0 ∙ ap (headNumber (f .result .ok) (f .result .count)) (c .before .header-of .ensures) in
+    c .header-refusal .ensures ∙ ap (headNumber (f .result .ok) (f .result .count)) (c .before .header-of .ensures) in
     record {
       number = n ∙ head-number text 0 (f .result) (f .ensures);
-      few = c .header-refusal .ensures .1;
+      few = rw n (head-few (f .result .ok) (f .result .count) (headerIn (f .result .values)));
       read = λ e.
           let p = head-read text 0 (f .result) (f .ensures) (sym n ∙ e) in
           let g = f .ensures .found (p .0) in
