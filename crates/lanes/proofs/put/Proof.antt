@@ -1,10 +1,8 @@
 -- Each turn writes one lane more. Assumes nothing.
-use Prim.Native.Nat.{ℕ, suc, _+_, _*_, _-_, _≤_, _<_, min}
-use mathlib.Core.Path.{_≡_, refl, sym, ap, _∙_}
+use Prim.Native.Nat.{_-_, _≤_}
+use mathlib.Core.Path.{_≡_}
 use native.Mathlib.Omega.{arith}
-use lib.ListN.{length, getD}
 use borrow.Author.Needs.{needs}
-use Rattle.model.specs.Steps.{B}
 use Rattle.lanes.specs.Lanes.{withOwn}
 use Rattle.lanes.specs.Store.{Written}
 use Rattle.lanes.specs.Laws.{written-none, written-more}
