@@ -1,0 +1,1 @@
+// The rows of a job as the words that the search reads.
