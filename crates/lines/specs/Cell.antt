@@ -1,20 +1,42 @@
 -- The words of a cell as the terms of the cost: what the pair's row has at its place. Assumes nothing.
 use Prim.Native.Nat.{ℕ, zero, suc, _+_, _-_, _*_, _/_, _%_, _≤_, _<_}
 use mathlib.Core.Path.{_≡_, refl, sym, ap, ap₂, _∙_}
-use mathlib.Core.Bool.{Bool, true, false, cond}
+use mathlib.Core.Bool.{Bool, true, false, _&&_, _||_, cond}
 use native.Mathlib.Nat.{add-assoc}
 use native.Mathlib.Omega.{arith}
-use borrow.Author.Tests.{lt-ltb, le-ltb}
-use lib.Dec.{ltb, eqb, lit≤}
+use borrow.Author.Tests.{leb-true, lt-ltb, le-ltb, eq-eqb, ne-eqb}
+use lib.ListN.{length}
+use lib.Dec.{leb, ltb, eqb, lit≤}
 use Rattle.definition.specs.Job.{Job, isTall}
 use Rattle.definition.specs.Rules.{cellAt}
 use Rattle.definition.specs.Cost.{firstHeight}
 use Rattle.rows.specs.Lists.{Eq?, same, differs, eq?}
+use Rattle.bridge.specs.Tests.{and-true}
 use Rattle.bridge.specs.Paired.{isOffered, poseNumber, widthOf, ownOf, leftOf, rightOf}
 use Rattle.placed.specs.Flat.{widthIn}
 use Rattle.steps.specs.Heights.{heightIn}
 use Rattle.deck.specs.Words.{variant}
 use Rattle.lines.specs.Words.{alone, edge, ownWord, shapeWord, heightWord, cellWord}
+
+-- a pose that is offered is not left of site 0
+pub offered-low : (j : Job) (k a : ℕ) → isOffered j k a ≡ true → j .header .displacement ≤ cellAt j k .given + a / 4
+unfolding isOffered
+offered-low j k a e =
+    let x = and-true (low && known && turned) inside .0 e in
+    let y = and-true (low && known) turned .0 (x .0) in
+    leb-true (j .header .displacement) (cellAt j k .given + a / 4) (and-true low known .0 (y .0) .0)
+  where
+    low : Bool
+    low = leb (j .header .displacement) (cellAt j k .given + a / 4)
+
+    known : Bool
+    known = ltb (poseNumber j k a .layout) (length (cellAt j k .layouts))
+
+    turned : Bool
+    turned = eqb (poseNumber j k a .mark) 0 || cellAt j k .mirrorable
+
+    inside : Bool
+    inside = leb (poseNumber j k a .site + widthOf j k (poseNumber j k a)) (j .header .sites)
 
 -- ---- a cell alone
 
@@ -109,9 +131,26 @@ module _ (j : Job) (row k : ℕ) where
   right-word type a h = ap₂ (heightIn (cellAt j k)) (layout-right (firstHeight j row k) type a h) (place-right (firstHeight j row k) type a h)
 
   module _ (n : ℕ) where
-    own-at : (a : ℕ) → a < 64 → cellWord j row k n a ≡ ownWord j row k a
+    pub own-at : (a : ℕ) → a < 64 → cellWord j row k n a ≡ ownWord j row k a
     unfolding cellWord
     own-at a h = rw (lt-ltb a 64 h)
+
+    pub shape-at : (i : ℕ) → 64 ≤ i → i < 68 → cellWord j row k n i ≡ shapeWord j k i
+    unfolding cellWord
+    shape-at i g h = rw (le-ltb i 64 g, lt-ltb i 68 h)
+
+    pub step-at : (i : ℕ) → i ≡ 84 → cellWord j row k n i ≡ j .header .stepWeight
+    unfolding cellWord
+    step-at i e = rw e
+
+    pub number-at : (i : ℕ) → i ≡ 85 → cellWord j row k n i ≡ n
+    unfolding cellWord
+    number-at i e = rw e
+
+    pub none-at : (i : ℕ) → 85 < i → cellWord j row k n i ≡ 0
+    unfolding cellWord
+    none-at i h =
+        rw (le-ltb i 64 (omega arith), le-ltb i 68 (omega arith), le-ltb i 84 (omega arith), ne-eqb i 84 (λ e. omega arith), ne-eqb i 85 (λ e. omega arith))
 
     width-at : (l : ℕ) → l < 2 → cellWord j row k n (65 + l) ≡ widthIn (cellAt j k) l
     unfolding cellWord shapeWord
@@ -119,7 +158,7 @@ module _ (j : Job) (row k : ℕ) where
     width-at (suc zero) h = refl
     width-at (suc (suc l)) h = absurd (omega arith)
 
-    height-at : (i u : ℕ) → i ≡ 68 + u → u < 16 → cellWord j row k n i ≡ heightWord j row k u
+    pub height-at : (i u : ℕ) → i ≡ 68 + u → u < 16 → cellWord j row k n i ≡ heightWord j row k u
     unfolding cellWord
     height-at i u q h =
         let e : i - 68 ≡ u = omega arith in

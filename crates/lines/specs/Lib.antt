@@ -1,3 +1,4 @@
 pub mod Words
 pub mod Cell
 pub mod Matched
+pub mod Values

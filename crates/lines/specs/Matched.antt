@@ -8,7 +8,7 @@ use mathlib.Core.List.{List}
 use native.Mathlib.Nat.{mul-left-comm}
 use native.Mathlib.Omega.{arith}
 use native.Mathlib.Decide.{ℕ-discrete}
-use borrow.Author.Tests.{leb-true, lt-ltb, le-ltb, eq-eqb, ne-eqb}
+use borrow.Author.Tests.{le-ltb, eq-eqb, ne-eqb}
 use lib.ListN.{length, getD}
 use lib.Dec.{leb, ltb, eqb}
 use Rattle.definition.specs.Job.{Job}
@@ -23,11 +23,10 @@ use Rattle.pair.specs.Pick.{pick}
 use Rattle.model.specs.Steps.{B}
 use Rattle.model.specs.Matched.{Matched}
 use Rattle.bridge.specs.Paired.{kindOf, rowOf, siteOf, poseNumbers, poseNumber, isOffered, offersOf, widthOf, ownOf, leftOf, rightOf, differingOf, payOf, pairJob}
-use Rattle.bridge.specs.Tests.{and-true}
 use Rattle.bridge.specs.Row.{isTall-same, member}
 use Rattle.deck.specs.Words.{wordOf, variant, siteIn, endIn, differIn, tollAt, tollIn, deckOf, LineWords}
 use Rattle.lines.specs.Words.{ownWord}
-use Rattle.lines.specs.Cell.{CellWords}
+use Rattle.lines.specs.Cell.{offered-low, CellWords}
 
 -- the words are those of the row's cells, in file order, and there are so many
 pub record RowWords (j : Job) (s : Side) (l : List ℕ) (n : ℕ) : Type 0 where
@@ -49,26 +48,6 @@ own-counts s (suc (suc (suc r))) x h = absurd (omega arith)
 one-true : (t : Bool) → eqb (cond t 1 0) 1 ≡ t
 one-true true = refl
 one-true false = refl
-
--- a pose that is offered is not left of site 0
-offered-low : (j : Job) (k a : ℕ) → isOffered j k a ≡ true → j .header .displacement ≤ cellAt j k .given + a / 4
-unfolding isOffered
-offered-low j k a e =
-    let x = and-true (low && known && turned) inside .0 e in
-    let y = and-true (low && known) turned .0 (x .0) in
-    leb-true (j .header .displacement) (cellAt j k .given + a / 4) (and-true low known .0 (y .0) .0)
-  where
-    low : Bool
-    low = leb (j .header .displacement) (cellAt j k .given + a / 4)
-
-    known : Bool
-    known = ltb (poseNumber j k a .layout) (length (cellAt j k .layouts))
-
-    turned : Bool
-    turned = eqb (poseNumber j k a .mark) 0 || cellAt j k .mirrorable
-
-    inside : Bool
-    inside = leb (poseNumber j k a .site + widthOf j k (poseNumber j k a)) (j .header .sites)
 
 -- ---- what two neighbours pay
 
