@@ -2,3 +2,4 @@ pub mod Words
 pub mod Cell
 pub mod Matched
 pub mod Values
+pub mod Filled

@@ -5,10 +5,14 @@ ghost use Prim.Native.Nat.{ℕ, _+_, _*_, _/_, _≤_, _<_};
 ghost use lib.ListN.{length, getD};
 ghost use lib.Dec.{eqb};
 ghost use Rattle.definition.specs.Rules.{apart};
+ghost use Rattle.definition.specs.Sound.{Sound};
+ghost use Rattle.job.specs.Value.{jobOf};
 ghost use Rattle.model.specs.Steps.{B};
+ghost use Rattle.lanes.specs.Store.{Low, Written};
 ghost use Rattle.bridge.specs.Paired.{isOffered, poseNumber, ownOf};
 ghost use Rattle.lines.specs.Words.{edge, ownWord, shapeWord, heightWord, cellWord};
 ghost use Rattle.lines.specs.Values.{one, Ranged};
+ghost use Rattle.lines.specs.Filled.{sideOf, Added, Lined};
 use job::Cell;
 use job::Header;
 use job::Job;
@@ -147,4 +151,53 @@ fn cell_word(header: Header, cell: Cell, row: u32, number: u32, i: u32) -> u32
         return number;
     }
     0
+}
+
+fn fill_cell(line: &mut [u32], at: usize, header: Header, cell: Cell, row: u32, number: u32)
+    requires { ⌜ Ranged header cell × (row ≤ 1) × (number < 64) × (at + 128 ≤ length (now line)) × Low (now line) ⌝ }
+    ensures { λ _. ⌜ Written (cellWord (one header cell) row 0 number) at 128 (now (line .entry)) (now (line .exit)) ⌝ }
+{
+    let mut i: usize = 0;
+    while i < 128 {
+        line[at + i] = cell_word(header, cell, row, number, i as u32);
+        i += 1;
+    }
+}
+
+// ---- the row
+
+// The cell at position n, if it stands in the row; how many cells there are then.
+fn add_cell(
+    line: &mut [u32],
+    n: usize,
+    header: Header,
+    cell: Cell,
+    row: u32,
+    number: u32,
+) -> usize
+    requires { ⌜ Ranged header cell × (row ≤ 1) × (number < 64) × (n < 64) × (8192 ≤ length (now line)) × Low (now line) ⌝ }
+    ensures { λ r. ⌜ Added (one header cell) row number n r (now (line .entry)) (now (line .exit)) ⌝ }
+{
+    if !order::stands(cell.row, row) {
+        return n;
+    }
+    fill_cell(line, n * 128, header, cell, row, number);
+    n + 1
+}
+
+// The words of the row's cells, in file order; how many cells it has.
+pub fn fill_line(line: &mut [u32], job: Job, row: u32) -> usize
+    requires { ⌜ Sound (jobOf job) × (job .count ≤ 64) × (row ≤ 1) × (8192 ≤ length (now line)) × Low (now line) ⌝ }
+    ensures { λ n. ⌜ Lined (jobOf job) (sideOf row) (now (line .exit)) n ⌝ }
+{
+    let long = line.len();
+    lanes::fill(line, 0, long, 0);
+    let header = job.header;
+    let mut n: usize = 0;
+    let mut k: usize = 0;
+    while k < job.count {
+        n = add_cell(line, n, header, job.cells[k], row, k as u32);
+        k += 1;
+    }
+    n
 }
