@@ -1,16 +1,16 @@
 -- A row's words while they are written: those of the first n cells of the row are right, the others are still to come, and what lies beyond is 0.
 -- Assumes nothing.
-use Prim.Native.Nat.{ℕ, zero, suc, _+_, _-_, _*_, _≤_, _<_}
-use mathlib.Core.Path.{_≡_, refl, sym, ap, ap₂, subst, _∙_}
+use Prim.Native.Nat.{ℕ, zero, suc, _+_, _*_, _≤_, _<_}
+use mathlib.Core.Path.{_≡_, refl, sym, ap, subst, _∙_}
 use mathlib.Core.Bool.{Bool, true, false, cond}
-use mathlib.Core.List.{List, [], _∷_}
+use mathlib.Core.List.{List, _∷_}
 use native.Mathlib.Nat.{zero-add}
 use native.Mathlib.Omega.{arith}
 use native.Mathlib.Decide.{decLt}
 use borrow.Author.Count.{below-more}
 use lib.ListN.{length, getD, drop, List·getD-eq-default}
 use Rattle.definition.specs.Lists as lists
-use Rattle.definition.specs.Job.{Job, Header, Cell}
+use Rattle.definition.specs.Job.{Job}
 use Rattle.definition.specs.Job as job
 use Rattle.definition.specs.Rules.{cellAt}
 use Rattle.definition.specs.Sound.{Sound, SoundCell}
@@ -20,15 +20,14 @@ use Rattle.job.specs.Value.{headerOf, jobOf}
 use Rattle.placed.specs.Laws.{cell-there}
 use Rattle.rows.specs.Lists.{from}
 use Rattle.pair.specs.Cells.{Side, row₀, row₁, members, cell, line}
-use Rattle.model.specs.Steps.{B}
 use Rattle.model.specs.Matched.{Matched}
 use Rattle.bridge.specs.Paired.{rowOf, siteOf, poseNumbers, poseNumber, isOffered, pairJob}
 use Rattle.bridge.specs.Words.{keep-pick}
 use Rattle.bridge.specs.Row.{cells-same, members-same}
 use Rattle.lanes.specs.Lanes.{always}
-use Rattle.lanes.specs.Store.{Frame, Low, Written}
+use Rattle.lanes.specs.Store.{Low, Written}
 use Rattle.deck.specs.Words.{wordOf, deckOf, LineWords}
-use Rattle.pairs.specs.Rest.{rest, rest-none, rest-more, rest-all, Next, next, done}
+use Rattle.pairs.specs.Rest.{rest, rest-none, rest-more, rest-all, next, done}
 use Rattle.lines.specs.Words.{alone, cellWord}
 use Rattle.lines.specs.Cell.{word-alone, CellWords, cell-words}
 use Rattle.lines.specs.Values.{one, Ranged, ranged}

@@ -3,3 +3,5 @@ pub mod Cell
 pub mod Matched
 pub mod Values
 pub mod Filled
+pub mod Talls
+pub mod TallWords

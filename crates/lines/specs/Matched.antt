@@ -1,30 +1,29 @@
 -- A row's words stand for the row of the pair's theory: what a cell costs, and what two neighbours pay. Sites are compared with D added to both.
 -- Assumes nothing.
-use Prim.Native.Nat.{ℕ, zero, suc, _+_, _-_, _*_, _/_, _%_, _≤_, _<_}
+use Prim.Native.Nat.{ℕ, zero, suc, _+_, _-_, _*_, _≤_, _<_}
 use mathlib.Core.Path.{_≡_, refl, sym, ap, ap₂, _∙_}
 use mathlib.Core.Logic.{_≢_}
-use mathlib.Core.Bool.{Bool, true, false, _&&_, _||_, cond}
+use mathlib.Core.Bool.{Bool, true, false, _&&_, cond}
 use mathlib.Core.List.{List}
 use native.Mathlib.Nat.{mul-left-comm}
 use native.Mathlib.Omega.{arith}
 use native.Mathlib.Decide.{ℕ-discrete}
 use borrow.Author.Tests.{le-ltb, eq-eqb, ne-eqb}
-use lib.ListN.{length, getD}
-use lib.Dec.{leb, ltb, eqb}
+use lib.ListN.{length}
+use lib.Dec.{ltb, eqb}
 use Rattle.definition.specs.Job.{Job}
 use Rattle.definition.specs.Job as job
 use Rattle.definition.specs.Rules.{cellAt}
 use Rattle.definition.specs.Cost.{charge}
 use Rattle.definition.specs.Sound.{Sound}
-use Rattle.rows.specs.Lists.{from, Le?, low, high, le?}
-use Rattle.pair.specs.Cells.{Side, row₀, row₁, inRow, isTall, ownIn, members, cell, line}
+use Rattle.rows.specs.Lists.{Le?, high, le?}
+use Rattle.pair.specs.Cells.{Side, row₀, row₁, isTall, ownIn, members, cell, line}
 use Rattle.pair.specs.Members.{at-in}
-use Rattle.pair.specs.Pick.{pick}
 use Rattle.model.specs.Steps.{B}
 use Rattle.model.specs.Matched.{Matched}
-use Rattle.bridge.specs.Paired.{kindOf, rowOf, siteOf, poseNumbers, poseNumber, isOffered, offersOf, widthOf, ownOf, leftOf, rightOf, differingOf, payOf, pairJob}
+use Rattle.bridge.specs.Paired.{kindOf, rowOf, siteOf, poseNumbers, poseNumber, isOffered, offersOf, widthOf, ownOf, differingOf, payOf, pairJob}
 use Rattle.bridge.specs.Row.{isTall-same, member}
-use Rattle.deck.specs.Words.{wordOf, variant, siteIn, endIn, differIn, tollAt, tollIn, deckOf, LineWords}
+use Rattle.deck.specs.Words.{wordOf, siteIn, endIn, differIn, tollAt, tollIn, deckOf, LineWords}
 use Rattle.lines.specs.Words.{ownWord}
 use Rattle.lines.specs.Cell.{offered-low, CellWords}
 

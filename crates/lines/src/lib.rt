@@ -1,8 +1,8 @@
 // The rows of a job as the words that the search reads. The words' places stand in deck/specs/Words.antt.
 ghost use mathlib.Core.Path.{_≡_};
 ghost use mathlib.Core.Bool.{_&&_, _||_};
-ghost use Prim.Native.Nat.{ℕ, _+_, _*_, _/_, _≤_, _<_};
-ghost use lib.ListN.{length, getD};
+ghost use Prim.Native.Nat.{_+_, _*_, _/_, _≤_, _<_};
+ghost use lib.ListN.{length};
 ghost use lib.Dec.{eqb};
 ghost use Rattle.definition.specs.Rules.{apart};
 ghost use Rattle.definition.specs.Sound.{Sound};
@@ -13,6 +13,7 @@ ghost use Rattle.bridge.specs.Paired.{isOffered, poseNumber, ownOf};
 ghost use Rattle.lines.specs.Words.{edge, ownWord, shapeWord, heightWord, cellWord};
 ghost use Rattle.lines.specs.Values.{one, Ranged};
 ghost use Rattle.lines.specs.Filled.{sideOf, Added, Lined};
+ghost use Rattle.lines.specs.TallWords.{tallsIn, TallsUpto, TallWords};
 use job::Cell;
 use job::Header;
 use job::Job;
@@ -167,14 +168,7 @@ fn fill_cell(line: &mut [u32], at: usize, header: Header, cell: Cell, row: u32, 
 // ---- the row
 
 // The cell at position n, if it stands in the row; how many cells there are then.
-fn add_cell(
-    line: &mut [u32],
-    n: usize,
-    header: Header,
-    cell: Cell,
-    row: u32,
-    number: u32,
-) -> usize
+fn add_cell(line: &mut [u32], n: usize, header: Header, cell: Cell, row: u32, number: u32) -> usize
     requires { ⌜ Ranged header cell × (row ≤ 1) × (number < 64) × (n < 64) × (8192 ≤ length (now line)) × Low (now line) ⌝ }
     ensures { λ r. ⌜ Added (one header cell) row number n r (now (line .entry)) (now (line .exit)) ⌝ }
 {
@@ -200,4 +194,32 @@ pub fn fill_line(line: &mut [u32], job: Job, row: u32) -> usize
         k += 1;
     }
     n
+}
+
+// ---- the tall cells
+
+// Position p, if its cell is tall; how many there are then.
+fn add_tall(talls: &mut [u32], count: usize, line: &[u32], n: usize, p: usize) -> usize
+    requires { ⌜ (p < n) × (n ≤ 64) × (8192 ≤ length (now line)) × TallsUpto (now line) n (now talls) count p ⌝ }
+    ensures { λ r. ⌜ TallsUpto (now (line .entry)) n (now (talls .exit)) r (p + 1) ⌝ }
+{
+    if line[p * 128 + 67] != 1 {
+        return count;
+    }
+    talls[count] = p as u32;
+    count + 1
+}
+
+// The positions of the tall cells of a row of n cells, in rising order; how many there are.
+pub fn fill_talls(talls: &mut [u32], line: &[u32], n: usize) -> usize
+    requires { ⌜ (n ≤ 64) × (8192 ≤ length (now line)) × (length (tallsIn (now line) n) ≤ length (now talls)) ⌝ }
+    ensures { λ r. ⌜ TallWords (now (line .entry)) n (now (talls .exit)) r ⌝ }
+{
+    let mut count: usize = 0;
+    let mut p: usize = 0;
+    while p < n {
+        count = add_tall(talls, count, line, n, p);
+        p += 1;
+    }
+    count
 }

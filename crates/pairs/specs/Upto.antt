@@ -1,24 +1,23 @@
 -- The words of the pairs while they are written: those below a count are right, and the others are still to come, marks by marks and digit by digit.
 -- Assumes nothing.
-use Prim.Native.Nat.{ℕ, zero, suc, _+_, _-_, _*_, _/_, _%_, _^_, _≤_, _<_}
-use mathlib.Core.Path.{_≡_, refl, sym, ap, _∙_}
+use Prim.Native.Nat.{ℕ, zero, suc, _+_, _*_, _/_, _%_, _^_, _≤_, _<_}
+use mathlib.Core.Path.{_≡_, refl, sym, ap, ap₂, _∙_}
 use mathlib.Core.Bool.{Bool, true, false, _&&_, _||_, cond, false≢true}
 use mathlib.Core.List.{List, [], _∷_, _++_, map}
 use native.Mathlib.Omega.{arith}
-use native.Mathlib.Numerals.{add-one}
 use borrow.Author.Count.{below-more}
 use lib.Count.{ones}
 use lib.Dec.{eqb, lit≤}
 use lib.ListN.{length, getD, drop, set, length-set}
 use lib.Seq.{getD-set-same, getD-set-other}
-use Rattle.rows.specs.Lists.{from, Eq?, same, differs, eq?}
+use Rattle.rows.specs.Lists.{Eq?, same, eq?}
 use Rattle.rows.specs.Marks.{bit}
-use Rattle.pair.specs.Pick.{pick, goodMarks}
+use Rattle.pair.specs.Pick.{goodMarks}
 use Rattle.pair.specs.Forward.{each}
 use Rattle.model.specs.Steps.{mayBeLast, pairsOf, pairCount, offset, marks, marksBefore, before}
 use Rattle.model.specs.Pairs.{pair-at, count-0, count-1, count-2}
 use Rattle.deck.specs.Words.{PairWords}
-use Rattle.pairs.specs.Rest.{rest, rest-none, rest-more, rest-all, Next, next, done}
+use Rattle.pairs.specs.Rest.{rest, rest-none, rest-more, rest-all, next, done}
 
 -- m has R + 1 ones, the lowest digit among them
 abbrev pub isMarks : ℕ → ℕ → Bool
@@ -134,7 +133,7 @@ upto-more {R} {p} {n} {d} {m} {l} r u =
       digit = below-more (λ q. getD (withPair p n d m) (q * 4) 0 ≡ offset R q) n (λ q g. with-other p n d m h (q * 4) (omega arith) ∙ u .digit q g) (with-digit p n d m h ∙ sym y);
       mark = below-more (λ q. getD (withPair p n d m) (q * 4 + 1) 0 ≡ marks R q) n (λ q g. with-other p n d m h (q * 4 + 1) (omega arith) ∙ u .mark q g) (with-mark p n d m h ∙ sym z);
       earlier = below-more (λ q. getD (withPair p n d m) (q * 4 + 2) 0 ≡ before R q) n (λ q g. with-other p n d m h (q * 4 + 2) (omega arith) ∙ u .earlier q g)
-          (with-before p n d m h ∙ sym (ap (λ z. marksBefore (z .0) (z .1)) (k .here)));
+          (with-before p n d m h ∙ sym (ap₂ marksBefore y z));
     }
 
 -- ---- all pairs

@@ -1,8 +1,8 @@
 // The pairs of a digit and marks in which a cell can have been placed last, as the words that the search reads: marks rising, digits rising.
 ghost use mathlib.Core.Path.{_≡_};
 ghost use mathlib.Core.Bool.{true};
-ghost use mathlib.Core.List.{_∷_, _++_};
-ghost use Prim.Native.Nat.{ℕ, suc, _+_, _*_, _^_, _≤_, _<_};
+ghost use mathlib.Core.List.{_++_};
+ghost use Prim.Native.Nat.{suc, _+_, _*_, _^_, _≤_, _<_};
 ghost use lib.ListN.{length};
 ghost use Rattle.model.specs.Steps.{mayBeLast};
 ghost use Rattle.pairs.specs.Upto.{isMarks, digitsFrom, marksFrom, withPair, Upto, Paired};

@@ -1,52 +1,41 @@
+-- The cases of the definition, by the word's place; no word is large. Assumes nothing.
+use Prim.Native.Nat.{_-_}
+use mathlib.Core.Path.{sym, _∙_}
+use native.Mathlib.Omega.{arith}
+use borrow.Author.Needs.{needs}
 use Rattle.lines.specs.Values.{one, shape-low, height-low}
 use Rattle.lines.specs.Cell.{own-at, shape-at, height-at, step-at, number-at, none-at}
 use Rattle.job.specs.Value.{headerOf}
-use native.Mathlib.Omega.{arith}
-use mathlib.Core.Path.{sym, _∙_}
-use Prim.Native.Nat.{_-_}
-use borrow.Author.Needs.{needs}
 use Rattle.lines.proofs.cell_word.Statement.{statement}
 use Rattle.lines.proofs.cell_word.Tie as tie
-use Rattle.lines.proofs.cell_word.Reads as reads
-use Rattle.lines.proofs.cell_word.Lts as lts
-use Rattle.lines.proofs.height_word.Reads as height-word-reads
-use Rattle.lines.proofs.own_word.Reads as own-word-reads
-use Rattle.lines.proofs.shape_word.Reads as shape-word-reads
 
--- src/lib.rt:134:9
 own-word-requires : tie.Need-own-word-requires
 own-word-requires c κs = search needs
 
--- src/lib.rt:134:9
 returns : tie.Need-returns
 returns c =
     let k = c .before .before in
     let j = one (k .args .header) (k .args .cell) in
     (c .own-word .ensures .0 ∙ sym (own-at j (k .args .row) 0 (k .args .number) (k .args .i) (c .before .if1 .taken)), c .own-word .ensures .1)
 
--- src/lib.rt:137:9
 shape-word-requires : tie.Need-shape-word-requires
 shape-word-requires c κs = search needs
 
--- src/lib.rt:137:9
 returns-2 : tie.Need-returns-2
 returns-2 c =
     let k = c .before .before .before in
     let j = one (k .args .header) (k .args .cell) in
     (c .shape-word .ensures ∙ sym (shape-at j (k .args .row) 0 (k .args .number) (k .args .i) (omega arith) (omega arith)), omega (arith, c .shape-word .ensures, shape-low (k .args .header) (k .args .cell) (k .pre .0) (k .args .i)))
 
--- src/lib.rt:140:9
 height-word-requires : tie.Need-height-word-requires
 height-word-requires c κs = search needs
 
--- src/lib.rt:140:9
 returns-3 : tie.Need-returns-3
 returns-3 c =
     let k = c .before .before .before .before in
     let j = one (k .args .header) (k .args .cell) in
     (c .height-word .ensures ∙ sym (height-at j (k .args .row) 0 (k .args .number) (k .args .i) (k .args .i - 68) (omega arith) (omega arith)), omega (arith, c .height-word .ensures, height-low (k .args .header) (k .args .cell) (k .pre .0) (k .args .row) (k .args .i - 68)))
 
--- src/lib.rt:143:9
 returns-4 : tie.Need-returns-4
 unfolding headerOf
 returns-4 c =
@@ -54,14 +43,12 @@ returns-4 c =
     let j = one (k .args .header) (k .args .cell) in
     (sym (step-at j (k .args .row) 0 (k .args .number) (k .args .i) (c .if4 .taken)), omega (arith, k .pre .0 .step))
 
--- src/lib.rt:146:9
 returns-5 : tie.Need-returns-5
 returns-5 c =
     let k = c .before .before .before .before .before in
     let j = one (k .args .header) (k .args .cell) in
     (sym (number-at j (k .args .row) 0 (k .args .number) (k .args .i) (c .if5 .taken)), omega arith)
 
--- src/lib.rt:129:1
 returns-6 : tie.Need-returns-6
 returns-6 c =
     let k = c .before .before .before .before .before in

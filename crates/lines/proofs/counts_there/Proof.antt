@@ -1,14 +1,11 @@
+-- The two tests of the definition, one after the other. Assumes nothing.
 use borrow.Author.Tests.{eq-eqb, ne-eqb}
 use Rattle.lines.proofs.counts_there.Statement.{statement}
 use Rattle.lines.proofs.counts_there.Tie as tie
-use Rattle.lines.proofs.counts_there.Reads as reads
-use Rattle.lines.proofs.counts_there.Lts as lts
 
--- src/lib.rt:76:9
 returns : tie.Need-returns
 returns c = rw (ne-eqb _ 2 (c .if1 .taken))
 
--- src/lib.rt:72:1
 returns-2 : tie.Need-returns-2
 returns-2 c = rw (eq-eqb _ 2 (c .if1 .left))
 

@@ -1,39 +1,30 @@
+-- The height stands where the definition has it: the row's first place, and the edge's among the row's four. Assumes nothing.
+use Prim.Native.Nat.{_+_, _/_, _%_}
+use mathlib.Core.Path.{ap, ap₂, _∙_}
+use native.Mathlib.Omega.{arith}
+use borrow.Author.Needs.{needs}
 use Rattle.lines.specs.Words.{heightWord}
 use Rattle.steps.specs.Laws.{count-small}
 use Rattle.steps.specs.Heights.{heightIn}
 use Rattle.job.specs.Value.{cellOf}
-use native.Mathlib.Omega.{arith}
-use mathlib.Core.Path.{ap, ap₂, _∙_}
-use Prim.Native.Nat.{_+_, _/_, _%_}
-use borrow.Author.Needs.{needs}
 use Rattle.lines.proofs.height_word.Statement.{statement}
 use Rattle.lines.proofs.height_word.Tie as tie
-use Rattle.lines.proofs.height_word.Reads as reads
-use Rattle.lines.proofs.height_word.Lts as lts
-use Rattle.lines.proofs.edge_of.Reads as edge-of-reads
-use Rattle.steps.proofs.first_of.Reads as first-of-reads
-use Rattle.steps.proofs.height_of.Reads as height-of-reads
 
--- src/lib.rt:124:13
 first-of-requires : tie.Need-first-of-requires
 first-of-requires c κs = search needs
 
--- src/lib.rt:124:46
 edge-of-requires : tie.Need-edge-of-requires
 edge-of-requires c κs = search needs
 
--- src/lib.rt:124:13
 add-i : tie.Need-add-i
 add-i c =
     let k = c .before .before in
     omega (arith, c .before .first-of .ensures .1, c .edge-of .ensures .1, count-small (k .args .cell .row))
 
--- src/lib.rt:125:5
 height-of-requires : tie.Need-height-of-requires
 height-of-requires c κs =
     omega (arith, c .before .first-of .ensures .1, c .edge-of .ensures .1)
 
--- src/lib.rt:120:1
 returns : tie.Need-returns
 unfolding heightWord cellOf
 returns c =

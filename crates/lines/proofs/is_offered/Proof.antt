@@ -1,28 +1,22 @@
-use borrow.Author.Tests.{not-true, not-false}
-use native.Mathlib.Omega.{arith}
-use mathlib.Core.Path.{sym, _∙_}
-use Rattle.lines.specs.Values.{offered-same}
-use borrow.Author.Tests.{lt-leb, le-leb, lt-ltb, le-ltb}
+-- The tests of `isOffered`, one after the other, on the values of the header and the cell. Assumes nothing.
 use Prim.Native.Nat.{_+_, _/_, _%_}
+use mathlib.Core.Path.{sym, _∙_}
+use native.Mathlib.Omega.{arith}
+use borrow.Author.Tests.{not-true, not-false}
+use borrow.Author.Tests.{lt-leb, le-leb, lt-ltb, le-ltb}
 use borrow.Author.Needs.{needs}
+use Rattle.lines.specs.Values.{offered-same}
 use Rattle.lines.proofs.is_offered.Statement.{statement}
 use Rattle.lines.proofs.is_offered.Tie as tie
-use Rattle.lines.proofs.is_offered.Reads as reads
-use Rattle.lines.proofs.is_offered.Lts as lts
-use Rattle.lines.proofs.turns.Reads as turns-reads
-use Rattle.placed.proofs.width_of.Reads as width-of-reads
 
--- src/lib.rt:31:13
 add-x : tie.Need-add-x
 add-x c = search needs
 
--- src/lib.rt:33:9
 returns : tie.Need-returns
 returns c =
     let k = c .before .before .before in
     rw (offered-same (k .args .header) (k .args .cell) (k .args .a), lt-leb (k .args .header .displacement) (k .args .cell .given + k .args .a / 4) (c .if1 .taken))
 
--- src/lib.rt:36:9
 returns-2 : tie.Need-returns-2
 returns-2 c =
     let k = c .before .before .before .before .before in
@@ -30,11 +24,9 @@ returns-2 c =
     let x = k .args .cell .given + k .args .a / 4 in
     rw (offered-same (k .args .header) (k .args .cell) (k .args .a), le-leb d x (c .before .before .if1 .left), le-ltb (k .args .a % 4 / 2) (k .args .cell .layouts) (c .if2 .taken))
 
--- src/lib.rt:38:9
 turns-requires : tie.Need-turns-requires
 turns-requires c κs = search needs
 
--- src/lib.rt:39:9
 returns-3 : tie.Need-returns-3
 returns-3 c =
     let k = c .before .before .before .before .before .before .before in
@@ -43,17 +35,14 @@ returns-3 c =
     let t = sym (c .before .turns .ensures) ∙ not-true (c .before .turns .result) (c .if3 .taken) in
     rw (offered-same (k .args .header) (k .args .cell) (k .args .a), le-leb d x (c .before .before .before .before .if1 .left), lt-ltb (k .args .a % 4 / 2) (k .args .cell .layouts) (c .before .before .if2 .left), t)
 
--- src/lib.rt:41:31
 width-of-requires : tie.Need-width-of-requires
 width-of-requires c κs = search needs
 
--- src/lib.rt:41:5
 add-result : tie.Need-add-result
 add-result c =
     let k = c .before .before .before .before .before .before .before .before .before in
     omega (arith, c .width-of .ensures, k .pre .0 .given, k .pre .0 .width (k .args .a % 4 / 2))
 
--- src/lib.rt:27:1
 returns-4 : tie.Need-returns-4
 returns-4 c =
     let f = c .before .before .before in

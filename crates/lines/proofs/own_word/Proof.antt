@@ -1,46 +1,36 @@
-use Rattle.lines.specs.Values.{own-none, own-there, own-here, offered-right}
-use lib.Dec.{lit≤}
-use borrow.Author.Tests.{not-true, not-false}
-use native.Mathlib.Omega.{arith}
+-- Not offered, a tall cell's in row 1, or the cost: the cases of the definition. Assumes nothing.
 use mathlib.Core.Path.{sym, _∙_}
+use native.Mathlib.Omega.{arith}
+use borrow.Author.Tests.{not-true, not-false}
 use borrow.Author.Needs.{needs}
+use lib.Dec.{lit≤}
+use Rattle.lines.specs.Values.{own-none, own-there, own-here, offered-right}
 use Rattle.lines.proofs.own_word.Statement.{statement}
 use Rattle.lines.proofs.own_word.Tie as tie
-use Rattle.lines.proofs.own_word.Reads as reads
-use Rattle.lines.proofs.own_word.Lts as lts
-use Rattle.lines.proofs.counts_there.Reads as counts-there-reads
-use Rattle.lines.proofs.is_offered.Reads as is-offered-reads
-use Rattle.lines.proofs.pose_cost.Reads as pose-cost-reads
 
--- src/lib.rt:86:9
 is-offered-requires : tie.Need-is-offered-requires
 is-offered-requires c κs = search needs
 
--- src/lib.rt:87:9
 returns : tie.Need-returns
 returns c =
     let k = c .before .before in
     (own-none (k .args .header) (k .args .cell) (k .args .row) (k .args .a) (sym (c .before .is-offered .ensures) ∙ not-true (c .before .is-offered .result) (c .if1 .taken)), lit≤ tt)
 
--- src/lib.rt:89:8
 counts-there-requires : tie.Need-counts-there-requires
 counts-there-requires c κs = search needs
 
--- src/lib.rt:90:9
 returns-2 : tie.Need-returns-2
 returns-2 c =
     let k = c .before .before .before .before in
     let o = sym (c .before .before .before .is-offered .ensures) ∙ not-false (c .before .before .before .is-offered .result) (c .before .before .if1 .left) in
     (own-there (k .args .header) (k .args .cell) (k .args .row) (k .args .a) o (sym (c .before .counts-there .ensures) ∙ c .if2 .taken), lit≤ tt)
 
--- src/lib.rt:92:5
 pose-cost-requires : tie.Need-pose-cost-requires
 pose-cost-requires c κs =
     let k = c .before .before .before .before in
     let o = sym (c .before .before .before .is-offered .ensures) ∙ not-false (c .before .before .before .is-offered .result) (c .before .before .if1 .left) in
     (k .pre .0, k .pre .1, offered-right (k .args .header) (k .args .cell) (k .args .row) (k .args .a) o)
 
--- src/lib.rt:82:1
 returns-3 : tie.Need-returns-3
 returns-3 c =
     let e = c .before in

@@ -1,48 +1,36 @@
-use Rattle.lines.specs.Values.{cost-same}
-use native.Mathlib.Omega.{arith}
-use mathlib.Core.Path.{sym, ap, ap₂, _∙_}
+-- The three terms of a cell's own cost, each a small product. Assumes nothing.
 use Prim.Native.Nat.{_+_, _*_}
+use mathlib.Core.Path.{sym, ap, ap₂, _∙_}
+use native.Mathlib.Omega.{arith}
 use borrow.Author.Needs.{needs}
+use Rattle.lines.specs.Values.{cost-same}
 use Rattle.lines.proofs.pose_cost.Statement.{statement}
 use Rattle.lines.proofs.pose_cost.Tie as tie
-use Rattle.lines.proofs.pose_cost.Reads as reads
-use Rattle.lines.proofs.pose_cost.Lts as lts
-use Rattle.lines.proofs.apart_of.Reads as apart-of-reads
-use Rattle.lines.proofs.times.Reads as times-reads
 
--- src/lib.rt:64:16
 add-site : tie.Need-add-site
 add-site c = search needs
 
--- src/lib.rt:64:16
 sub-site : tie.Need-sub-site
 sub-site c = search needs
 
--- src/lib.rt:65:37
 apart-of-requires : tie.Need-apart-of-requires
 apart-of-requires c κs = search needs
 
--- src/lib.rt:65:9
 times-requires : tie.Need-times-requires
 times-requires c κs = search needs
 
--- src/lib.rt:66:9
 times-requires-2 : tie.Need-times-requires-2
 times-requires-2 c κs = search needs
 
--- src/lib.rt:67:9
 times-requires-3 : tie.Need-times-requires-3
 times-requires-3 c κs = search needs
 
--- src/lib.rt:68:5
 add-result : tie.Need-add-result
 add-result c = search needs
 
--- src/lib.rt:68:5
 add-result-2 : tie.Need-add-result-2
 add-result-2 c = search needs
 
--- src/lib.rt:59:1
 returns : tie.Need-returns
 returns c =
     let k = c .before .before .before .before .before in

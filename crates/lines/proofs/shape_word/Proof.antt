@@ -1,42 +1,34 @@
-use Rattle.lines.specs.Values.{shape-given, shape-width, shape-tall}
-use borrow.Author.Tests.{eq-eqb, ne-eqb}
-use native.Mathlib.Omega.{arith}
+-- Words 64, 65 and 66, and 67: the cases of the definition. Assumes nothing.
 use mathlib.Core.Bool.{cond}
 use mathlib.Core.Path.{sym, ap, _∙_}
+use native.Mathlib.Omega.{arith}
+use borrow.Author.Tests.{eq-eqb, ne-eqb}
 use borrow.Author.Needs.{needs}
+use Rattle.lines.specs.Values.{shape-given, shape-width, shape-tall}
 use Rattle.lines.proofs.shape_word.Statement.{statement}
 use Rattle.lines.proofs.shape_word.Tie as tie
-use Rattle.lines.proofs.shape_word.Reads as reads
-use Rattle.lines.proofs.shape_word.Lts as lts
-use Rattle.placed.proofs.width_of.Reads as width-of-reads
 
--- src/lib.rt:103:9
 returns : tie.Need-returns
 returns c =
     let k = c .before in
     shape-given (k .args .header) (k .args .cell) (k .args .i) (c .if1 .taken)
 
--- src/lib.rt:106:39
 sub-width-of : tie.Need-sub-width-of
 sub-width-of c = search needs
 
--- src/lib.rt:106:9
 width-of-requires : tie.Need-width-of-requires
 width-of-requires c κs = search needs
 
--- src/lib.rt:106:9
 returns-2 : tie.Need-returns-2
 returns-2 c =
     let k = c .before .before .before in
     c .width-of .ensures ∙ shape-width (k .args .header) (k .args .cell) (k .args .i) (omega arith) (c .before .if2 .taken)
 
--- src/lib.rt:98:1
 returns-3 : tie.Need-returns-3
 returns-3 c =
     let k = c .before .before .before .before in
     sym (ap (λ t. cond t 1 0) (eq-eqb (k .args .cell .row) 2 (c .if3 .taken))) ∙ shape-tall (k .args .header) (k .args .cell) (k .args .i) (omega arith)
 
--- src/lib.rt:98:1
 returns-4 : tie.Need-returns-4
 returns-4 c =
     let k = c .before .before .before .before in

@@ -1,5 +1,5 @@
 -- Each turn settles one number as marks; at the end nothing is to come. Assumes nothing.
-use Prim.Native.Nat.{suc, _+_, _*_, _-_, _≤_}
+use Prim.Native.Nat.{_-_, _≤_}
 use mathlib.Core.Path.{_≡_, refl}
 use native.Mathlib.Omega.{arith}
 use borrow.Author.Needs.{needs}
