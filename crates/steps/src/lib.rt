@@ -42,7 +42,7 @@ pub fn gap_between(end: u32, site: u32) -> u32
 }
 
 // Height number i of a cell in a layout; 0 in one that it lacks.
-fn height_of(cell: Cell, layout: u32, i: usize) -> u32
+pub fn height_of(cell: Cell, layout: u32, i: usize) -> u32
     requires { ⌜ i < heightCount (cell .row) ⌝ }
     ensures { λ r. ⌜ r ≡ heightIn (cellOf cell) layout i ⌝ }
 {
@@ -61,7 +61,7 @@ fn height_of(cell: Cell, layout: u32, i: usize) -> u32
 }
 
 // Where the row's four heights begin: a tall cell's row 1 has the second four.
-fn first_of(of: u32, row: u32) -> usize
+pub fn first_of(of: u32, row: u32) -> usize
     requires { ⌜ row ≤ 1 ⌝ }
     ensures { λ r. ⌜ (r ≡ firstOf of row) × (r + 4 ≤ heightCount of) ⌝ }
 {

@@ -1,0 +1,58 @@
+-- Tolls and charges are small, and a pair that is there stands in the row. Assumes nothing.
+use Prim.Native.Nat.{ℕ, zero, suc, _+_, _*_, _-_, _%_, _≤_, _<_, min}
+use mathlib.Core.Path.{_≡_, refl, sym, ap, _∙_}
+use mathlib.Core.Bool.{Bool, true, false, _&&_, cond}
+use mathlib.Core.List.{List}
+use native.Mathlib.Omega.{arith}
+use native.Mathlib.Nat.{mul-le-mul}
+use borrow.Author.Tests.{ltb-true}
+use lib.ListN.{getD}
+use lib.Dec.{leb, ltb, eqb}
+use Rattle.definition.specs.Cost.{charges, charge}
+use Rattle.model.specs.Steps.{B, offset, lastAt}
+use Rattle.deck.specs.Words.{wordOf, differIn, siteIn, endIn, tollAt, tollIn, thereIn, LineWords}
+
+pub charge-low : (gap : ℕ) → charge gap ≤ 1
+charge-low gap = go (min gap 4) (omega arith)
+  where
+    go : (m : ℕ) → m ≤ 4 → getD charges m 0 ≤ 1
+    go zero h = omega arith
+    go (suc zero) h = omega arith
+    go (suc (suc zero)) h = omega arith
+    go (suc (suc (suc zero))) h = omega arith
+    go (suc (suc (suc (suc zero)))) h = omega arith
+    go (suc (suc (suc (suc (suc m))))) h = absurd (omega arith)
+
+cond-low : (t : Bool) {x y z : ℕ} → x ≤ z → y ≤ z → cond t x y ≤ z
+cond-low true p q = p
+cond-low false p q = q
+
+pub differ-low : (line : List ℕ) (k b m a : ℕ) → differIn line k b m a ≤ 2
+differ-low line k b m a =
+    omega (
+      arith,
+      cond-low (eqb (wordOf line k (76 + b % 4)) (wordOf line m (68 + a % 4))) {x = 0} {y = 1} {z = 1} (omega arith) (omega arith),
+      cond-low (eqb (wordOf line k (80 + b % 4)) (wordOf line m (72 + a % 4))) {x = 0} {y = 1} {z = 1} (omega arith) (omega arith),
+    )
+
+-- a weight times a count of heights, and a charge times that
+pub pay-low : {w d : ℕ} → w ≤ 1000 → d ≤ 2 → w * d ≤ 2000
+pay-low p q = mul-le-mul p q
+
+pub charged-low : {c x : ℕ} → c ≤ 1 → x ≤ 2000 → c * x ≤ 2000
+charged-low p q = mul-le-mul p q
+
+pub toll-low : {line : List ℕ} (k b m a : ℕ) → LineWords line → tollIn line k b m a ≤ B
+unfolding tollIn
+toll-low {line} k b m a w =
+    let x = siteIn line m a in
+    let y = endIn line k b in
+    let p = charged-low (charge-low (x - y)) (pay-low (w .weight m) (differ-low line k b m a)) in
+    cond-low (ltb x y) (omega arith) (cond-low (eqb (x - y) 1) (omega arith) (omega arith))
+
+pub there-size : (n R i q : ℕ) → thereIn n R i q ≡ true → lastAt R i q < n
+there-size n R i q e = ltb-true _ _ (second (leb (suc R) (i + offset R q)) _ e)
+  where
+    second : (s t : Bool) → (s && t) ≡ true → t ≡ true
+    second true t h = h
+    second false t h = absurd (let z : _≡_ {A = ℕ} 0 1 = cc in omega arith)

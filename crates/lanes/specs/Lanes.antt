@@ -1,0 +1,28 @@
+-- What a loop over the lanes of a row leaves.
+use Prim.Native.Nat.{ℕ, _+_, _≤_, _<_, min}
+use mathlib.Core.Path.{_≡_}
+use mathlib.Core.List.{List}
+use lib.ListN.{length, getD}
+use Rattle.model.specs.Steps.{B}
+
+-- the lanes below `lanes` are f's, the others as they were
+pub record Lanewise (f : ℕ → ℕ) (lanes : ℕ) (old new : List ℕ) : Type 0 where
+  pub long : length new ≡ length old
+  pub done : (k : ℕ) → k < lanes → getD new k 0 ≡ f k
+  pub rest : (k : ℕ) → lanes ≤ k → getD new k 0 ≡ getD old k 0
+
+-- a lane lowered to the row's word plus a charge
+abbrev pub lowered : List ℕ → List ℕ → ℕ → ℕ → ℕ → ℕ
+lowered acc row at charge l = min (getD acc l 0) (getD row (at + l) 0 + charge)
+
+-- a lane with the cell's own cost, capped
+abbrev pub withOwn : ℕ → List ℕ → ℕ → ℕ
+withOwn own acc l = min (own + getD acc l 0) B
+
+-- the same word everywhere
+abbrev pub always : ℕ → ℕ → ℕ
+always x k = x
+
+-- the words from a place on
+abbrev pub wordsFrom : List ℕ → ℕ → ℕ → ℕ
+wordsFrom st at k = getD st (at + k) 0

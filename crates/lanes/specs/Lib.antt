@@ -1,0 +1,3 @@
+pub mod Lanes
+pub mod Store
+pub mod Laws

@@ -1,0 +1,64 @@
+// Loops over the lanes of a row: a row is 64 words, one for each start of a stretch, all at once.
+ghost use mathlib.Core.Path.{_≡_};
+ghost use Prim.Native.Nat.{ℕ, _+_, _≤_, _<_, min};
+ghost use lib.ListN.{length, getD};
+ghost use Rattle.model.specs.Steps.{B};
+ghost use Rattle.lanes.specs.Lanes.{Lanewise, lowered, withOwn, always, wordsFrom};
+ghost use Rattle.lanes.specs.Store.{Low, Written};
+
+// There is no way: every cost is below.
+pub const NONE: u32 = 268435456;
+
+pub fn least(x: u32, y: u32) -> u32
+    ensures { λ r. ⌜ r ≡ min x y ⌝ }
+{
+    if x < y { x } else { y }
+}
+
+// Each lane of `acc` lowered to the row's word plus a charge.
+pub fn relax(acc: &mut [u32; 64], row: &[u32], at: usize, charge: u32, lanes: usize)
+    requires { ⌜ (at + lanes ≤ length (now row)) × (lanes ≤ 64) × (length (now acc) ≡ 64) × (charge ≤ B) × Low (now row) ⌝ }
+    ensures { λ _. ⌜ Lanewise (lowered (now (acc .entry)) (now (row .entry)) at charge) lanes (now (acc .entry)) (now (acc .exit)) ⌝ }
+{
+    let mut l: usize = 0;
+    while l < lanes {
+        acc[l] = least(acc[l], row[at + l] + charge);
+        l += 1;
+    }
+}
+
+// A row from its lanes, each with the cell's own cost, capped.
+pub fn put(store: &mut [u32], at: usize, acc: &[u32; 64], own: u32, lanes: usize)
+    requires { ⌜ (at + lanes ≤ length (now store)) × (lanes ≤ 64) × (length (now acc) ≡ 64) × (own ≤ B) × Low (now store) × ((l : ℕ) → getD (now acc) l 0 ≤ B) ⌝ }
+    ensures { λ _. ⌜ Written (withOwn own (now (acc .entry))) at lanes (now (store .entry)) (now (store .exit)) ⌝ }
+{
+    let mut l: usize = 0;
+    while l < lanes {
+        store[at + l] = least(own + acc[l], NONE);
+        l += 1;
+    }
+}
+
+// The same word, so many times.
+pub fn fill(store: &mut [u32], at: usize, count: usize, x: u32)
+    requires { ⌜ (at + count ≤ length (now store)) × (x ≤ B) × Low (now store) ⌝ }
+    ensures { λ _. ⌜ Written (always x) at count (now (store .entry)) (now (store .exit)) ⌝ }
+{
+    let mut k: usize = 0;
+    while k < count {
+        store[at + k] = x;
+        k += 1;
+    }
+}
+
+// Words from one part of the store to another that does not overlap it.
+pub fn copy(store: &mut [u32], from: usize, at: usize, count: usize)
+    requires { ⌜ (at + count ≤ length (now store)) × (from + count ≤ at) × Low (now store) ⌝ }
+    ensures { λ _. ⌜ Written (wordsFrom (now (store .entry)) from) at count (now (store .entry)) (now (store .exit)) ⌝ }
+{
+    let mut k: usize = 0;
+    while k < count {
+        store[at + k] = store[from + k];
+        k += 1;
+    }
+}
