@@ -1,6 +1,6 @@
 -- Tolls and charges are small, and a pair that is there stands in the row. Assumes nothing.
 use Prim.Native.Nat.{ℕ, zero, suc, _+_, _*_, _-_, _%_, _≤_, _<_, min}
-use mathlib.Core.Path.{_≡_, refl, sym, ap, _∙_}
+use mathlib.Core.Path.{_≡_, refl}
 use mathlib.Core.Bool.{Bool, true, false, _&&_, cond}
 use mathlib.Core.List.{List}
 use native.Mathlib.Omega.{arith}
@@ -9,8 +9,8 @@ use borrow.Author.Tests.{ltb-true}
 use lib.ListN.{getD}
 use lib.Dec.{leb, ltb, eqb}
 use Rattle.definition.specs.Cost.{charges, charge}
-use Rattle.model.specs.Steps.{B, offset, lastAt}
-use Rattle.deck.specs.Words.{wordOf, differIn, siteIn, endIn, tollAt, tollIn, thereIn, LineWords}
+use Rattle.model.specs.Steps.{B, offset, lastAt, isSource}
+use Rattle.deck.specs.Words.{wordOf, differIn, siteIn, endIn, tollIn, deckOf, thereIn, LineWords}
 
 pub charge-low : (gap : ℕ) → charge gap ≤ 1
 charge-low gap = go (min gap 4) (omega arith)
@@ -50,9 +50,21 @@ toll-low {line} k b m a w =
     let p = charged-low (charge-low (x - y)) (pay-low (w .weight m) (differ-low line k b m a)) in
     cond-low (ltb x y) (omega arith) (cond-low (eqb (x - y) 1) (omega arith) (omega arith))
 
+-- a test of two parts, whose first part fails or holds
+pub and-away : (s t : Bool) → s ≡ false → false ≡ (s && t)
+and-away false t e = refl
+and-away true t e = absurd (let z : _≡_ {A = ℕ} 0 1 = cc in omega arith)
+
+pub and-there : (s t : Bool) → s ≡ true → t ≡ (s && t)
+and-there true t e = refl
+and-there false t e = absurd (let z : _≡_ {A = ℕ} 0 1 = cc in omega arith)
+
+both : (s t : Bool) → (s && t) ≡ true → (s ≡ true) × (t ≡ true)
+both true t h = (refl, h)
+both false t h = absurd (let z : _≡_ {A = ℕ} 0 1 = cc in omega arith)
+
 pub there-size : (n R i q : ℕ) → thereIn n R i q ≡ true → lastAt R i q < n
-there-size n R i q e = ltb-true _ _ (second (leb (suc R) (i + offset R q)) _ e)
-  where
-    second : (s t : Bool) → (s && t) ≡ true → t ≡ true
-    second true t h = h
-    second false t h = absurd (let z : _≡_ {A = ℕ} 0 1 = cc in omega arith)
+there-size n R i q e = ltb-true _ _ (both (leb (suc R) (i + offset R q)) _ e .1)
+
+pub source-size : (line : List ℕ) (n poses R i q p : ℕ) → isSource (deckOf line n poses) R i q p ≡ true → lastAt R i p < n
+source-size line n poses R i q p e = there-size n R i p (both (thereIn n R i p) _ e .0)

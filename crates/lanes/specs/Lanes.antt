@@ -5,15 +5,15 @@ use mathlib.Core.List.{List}
 use lib.ListN.{length, getD}
 use Rattle.model.specs.Steps.{B}
 
--- the lanes below `lanes` are f's, the others as they were
-pub record Lanewise (f : ℕ → ℕ) (lanes : ℕ) (old new : List ℕ) : Type 0 where
+-- the lanes below `lanes` are lowered to f's, the others as they were
+pub record Lowered (f : ℕ → ℕ) (lanes : ℕ) (old new : List ℕ) : Type 0 where
   pub long : length new ≡ length old
-  pub done : (k : ℕ) → k < lanes → getD new k 0 ≡ f k
+  pub done : (k : ℕ) → k < lanes → getD new k 0 ≡ min (getD old k 0) (f k)
   pub rest : (k : ℕ) → lanes ≤ k → getD new k 0 ≡ getD old k 0
 
--- a lane lowered to the row's word plus a charge
-abbrev pub lowered : List ℕ → List ℕ → ℕ → ℕ → ℕ → ℕ
-lowered acc row at charge l = min (getD acc l 0) (getD row (at + l) 0 + charge)
+-- a row's words, each with a charge
+abbrev pub charged : List ℕ → ℕ → ℕ → ℕ → ℕ
+charged row at charge l = getD row (at + l) 0 + charge
 
 -- a lane with the cell's own cost, capped
 abbrev pub withOwn : ℕ → List ℕ → ℕ → ℕ

@@ -1,31 +1,70 @@
 -- Laws of stores and of lanes: what one write keeps, what a loop that writes one word after the other has written. Assumes nothing.
-use Prim.Native.Nat.{ℕ, suc, _+_, _*_, _≤_, _<_}
+use Prim.Native.Nat.{ℕ, _+_, _*_, _≤_, _<_, min}
 use mathlib.Core.Path.{_≡_, refl, sym, ap, _∙_}
 use mathlib.Core.List.{List}
 use native.Mathlib.Omega.{arith}
-use native.Mathlib.Decide.{ℕ-discrete}
+use native.Mathlib.Decide.{ℕ-discrete, decLt}
 use borrow.Author.Count.{below-more}
-use lib.ListN.{length, getD, set, length-set}
+use lib.ListN.{length, getD, set, length-set, replicate, length-replicate, getD-replicate, List·getD-eq-default}
 use lib.Seq.{getD-set-same, getD-set-other}
-use Rattle.model.specs.Steps.{B}
-use Rattle.lanes.specs.Lanes.{Lanewise}
-use Rattle.lanes.specs.Store.{Frame, Low, Written}
+use Rattle.model.specs.Steps.{B, Layer}
+use Rattle.lanes.specs.Lanes.{Lowered, always}
+use Rattle.lanes.specs.Store.{Frame, Low, Written, layerIn, FilledPair, Filled}
 
 -- ---- lanes
 
-pub lanewise-none : (f : ℕ → ℕ) (l : List ℕ) → Lanewise f 0 l l
-lanewise-none f l = record { long = refl; done = λ k h. absurd (omega arith); rest = λ k h. refl }
+pub lowered-none : (f : ℕ → ℕ) (l : List ℕ) → Lowered f 0 l l
+lowered-none f l = record { long = refl; done = λ k h. absurd (omega arith); rest = λ k h. refl }
 
-pub lanewise-more : {f : ℕ → ℕ} {old new : List ℕ} (l v : ℕ) → Lanewise f l old new → l < length old → v ≡ f l → Lanewise f (l + 1) old (set new l v)
-lanewise-more {f} {old} {new} l v w h e =
+-- one lane more
+pub lowered-more :
+    {f : ℕ → ℕ} {old new : List ℕ} (l v : ℕ)
+    → Lowered f l old new → l < length old → v ≡ min (getD old l 0) (f l)
+    → Lowered f (l + 1) old (set new l v)
+lowered-more {f} {old} {new} l v w h e =
     let n = w .long in
     record {
       long = length-set new l v ∙ w .long;
-      done = below-more (λ (k : ℕ). getD (set new l v) k 0 ≡ f k) l
+      done = below-more (λ (k : ℕ). getD (set new l v) k 0 ≡ min (getD old k 0) (f k)) l
           (λ k g. getD-set-other new l k v 0 (omega arith) ∙ w .done k g)
           (getD-set-same new l v 0 (omega arith) ∙ e);
       rest = λ k g. getD-set-other new l k v 0 (omega arith) ∙ w .rest k (omega arith);
     }
+
+-- all lanes are at most B already
+pub lowered-to : {f : ℕ → ℕ} (n : ℕ) {acc : List ℕ} → Low acc → ((k : ℕ) → k < n → B ≤ f k) → Lowered f n acc acc
+lowered-to n w h = record { long = refl; done = λ k p. omega (arith, w .word k, h k p); rest = λ k p. refl }
+
+-- lowered to the same, by another name
+pub lowered-ext : {f g : ℕ → ℕ} {n : ℕ} {old new : List ℕ} → Lowered f n old new → ((k : ℕ) → k < n → g k ≡ f k) → Lowered g n old new
+lowered-ext w e = record { long = w .long; done = λ k p. omega (arith, w .done k p, e k p); rest = w .rest }
+
+-- lanes at most B are lowered to the same if what they are lowered to is capped
+pub lowered-cap :
+    {f g : ℕ → ℕ} {n : ℕ} {old new : List ℕ}
+    → Lowered f n old new → Low old → ((k : ℕ) → k < n → g k ≡ min (f k) B)
+    → Lowered g n old new
+lowered-cap v w e = record { long = v .long; done = λ k p. omega (arith, v .done k p, w .word k, e k p); rest = v .rest }
+
+-- lowered twice
+pub lowered-join :
+    {f g h : ℕ → ℕ} {n : ℕ} {old mid new : List ℕ}
+    → Lowered f n old mid → Lowered g n mid new → ((k : ℕ) → k < n → h k ≡ min (f k) (g k))
+    → Lowered h n old new
+lowered-join v w e =
+    record {
+      long = w .long ∙ v .long;
+      done = λ k p. omega (arith, w .done k p, v .done k p, e k p);
+      rest = λ k p. w .rest k p ∙ v .rest k p;
+    }
+
+-- what is lowered stays at most B
+pub lowered-low : {f : ℕ → ℕ} {n : ℕ} {old new : List ℕ} → Lowered f n old new → Low old → Low new
+lowered-low {n = n} {new = new} v w = record { word = λ k. go k (decLt k n) }
+  where
+    go : (k : ℕ) → Dec (k < n) → getD new k 0 ≤ B
+    go k (yes p) = omega (arith, v .done k p, w .word k)
+    go k (no p) = omega (arith, v .rest k (omega arith), w .word k)
 
 -- ---- frames
 
@@ -80,3 +119,73 @@ written-more {f} {at} {old} {new} l v w h e b =
           (getD-set-same new (at + l) v 0 (omega arith) ∙ e);
       low = low-set (at + l) v (w .low) (omega arith) b;
     }
+
+-- the same by another name
+pub written-ext : {f g : ℕ → ℕ} {at n : ℕ} {old new : List ℕ} → Written f at n old new → ((k : ℕ) → k < n → g k ≡ f k) → Written g at n old new
+written-ext w e = record { frame = w .frame; words = λ k p. w .words k p ∙ sym (e k p); low = w .low }
+
+-- ---- layers: one row more of a pair's block, and one block more
+
+pub pair-none : (F : ℕ → Layer) (lanes to q : ℕ) {st : List ℕ} → Low st → FilledPair F lanes to q 0 st st
+pair-none F lanes to q {st} w = record { frame = frame-refl _ _ st; low = w; right = λ a h. absurd (omega arith) }
+
+pub pair-more :
+    {F : ℕ → Layer} {g : ℕ → ℕ} {lanes to q : ℕ} {old mid new : List ℕ} (a : ℕ)
+    → lanes ≤ 64 → a < 64 → FilledPair F lanes to q a old mid → Written g (to + q * 4096 + a * 64) lanes mid new → ((l : ℕ) → l < lanes → F l q a ≡ g l)
+    → FilledPair F lanes to q (a + 1) old new
+pair-more {F} {g} {lanes} {to} {q} {new = new} a n k s w e =
+    record {
+      frame = frame-join (to + q * 4096) (to + q * 4096 + 4096) (s .frame) (w .frame) (omega arith) (omega arith) (omega arith) (omega arith);
+      low = w .low;
+      right = below-more (λ (a : ℕ). (l : ℕ) → l < lanes → layerIn new to l q a ≡ F l q a) a
+          (λ b p l r. w .frame .low (to + q * 4096 + b * 64 + l) (omega arith) ∙ s .right b p l r)
+          (λ l r. w .words l r ∙ sym (e l r));
+    }
+
+-- the same by another name
+pub pair-ext :
+    {F G : ℕ → Layer} {lanes to q m : ℕ} {old new : List ℕ}
+    → FilledPair G lanes to q m old new → ((a l : ℕ) → F l q a ≡ G l q a)
+    → FilledPair F lanes to q m old new
+pair-ext w e = record { frame = w .frame; low = w .low; right = λ a p l r. w .right a p l r ∙ sym (e a l) }
+
+-- the same word everywhere in a pair's block
+pub pair-always :
+    {F : ℕ → Layer} {x lanes to q m : ℕ} {old new : List ℕ}
+    → lanes ≤ 64 → m ≤ 64 → Written (always x) (to + q * 4096) 4096 old new → ((a l : ℕ) → F l q a ≡ x)
+    → FilledPair F lanes to q m old new
+pair-always {new = new} n k w e =
+    record {
+      frame = w .frame;
+      low = w .low;
+      right = λ a p l r. ap (λ (k : ℕ). getD new k 0) (omega arith) ∙ w .words (a * 64 + l) (omega arith) ∙ sym (e a l);
+    }
+
+pub filled-none : (F : ℕ → Layer) (lanes poses to : ℕ) {st : List ℕ} → Low st → Filled F lanes poses to 0 st st
+filled-none F lanes poses to {st} w = record { frame = frame-refl _ _ st; low = w; right = λ q h. absurd (omega arith) }
+
+pub filled-more :
+    {F G : ℕ → Layer} {lanes poses to : ℕ} {old mid new : List ℕ} (q : ℕ)
+    → lanes ≤ 64 → poses ≤ 64 → q < 12 → Filled F lanes poses to q old mid → FilledPair G lanes to q poses mid new
+    → ((a l : ℕ) → a < poses → l < lanes → F l q a ≡ G l q a)
+    → Filled F lanes poses to (q + 1) old new
+filled-more {F} {G} {lanes} {poses} {to} {new = new} q n k h s w e =
+    record {
+      frame = frame-join to (to + 49152) (s .frame) (w .frame) (omega arith) (omega arith) (omega arith) (omega arith);
+      low = w .low;
+      right = below-more (λ (q : ℕ). (a l : ℕ) → a < poses → l < lanes → layerIn new to l q a ≡ F l q a) q
+          (λ p j a l x y. w .frame .low (to + p * 4096 + a * 64 + l) (omega arith) ∙ s .right p j a l x y)
+          (λ a l x y. w .right a x l y ∙ sym (e a l x y));
+    }
+
+-- ---- lanes of NONE alone
+
+pub none-at : (l : ℕ) → l < 64 → getD (replicate 64 B) l 0 ≡ B
+none-at l h = getD-replicate 64 l B 0 h
+
+pub none-low : Low (replicate 64 B)
+none-low = record { word = λ k. go k (decLt k 64) }
+  where
+    go : (k : ℕ) → Dec (k < 64) → getD (replicate 64 B) k 0 ≤ B
+    go k (yes h) = omega (arith, none-at k h)
+    go k (no h) = omega (arith, List·getD-eq-default (replicate 64 B) 0 {n = k} (omega (arith, length-replicate 64 B)))

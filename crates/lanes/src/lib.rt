@@ -3,7 +3,7 @@ ghost use mathlib.Core.Path.{_≡_};
 ghost use Prim.Native.Nat.{ℕ, _+_, _≤_, _<_, min};
 ghost use lib.ListN.{length, getD};
 ghost use Rattle.model.specs.Steps.{B};
-ghost use Rattle.lanes.specs.Lanes.{Lanewise, lowered, withOwn, always, wordsFrom};
+ghost use Rattle.lanes.specs.Lanes.{Lowered, charged, withOwn, always, wordsFrom};
 ghost use Rattle.lanes.specs.Store.{Low, Written};
 
 // There is no way: every cost is below.
@@ -18,7 +18,7 @@ pub fn least(x: u32, y: u32) -> u32
 // Each lane of `acc` lowered to the row's word plus a charge.
 pub fn relax(acc: &mut [u32; 64], row: &[u32], at: usize, charge: u32, lanes: usize)
     requires { ⌜ (at + lanes ≤ length (now row)) × (lanes ≤ 64) × (length (now acc) ≡ 64) × (charge ≤ B) × Low (now row) ⌝ }
-    ensures { λ _. ⌜ Lanewise (lowered (now (acc .entry)) (now (row .entry)) at charge) lanes (now (acc .entry)) (now (acc .exit)) ⌝ }
+    ensures { λ _. ⌜ Lowered (charged (now (row .entry)) at charge) lanes (now (acc .entry)) (now (acc .exit)) ⌝ }
 {
     let mut l: usize = 0;
     while l < lanes {

@@ -7,14 +7,10 @@ use lib.Dec.{eqb}
 use borrow.Author.Tests.{eq-eqb, ne-eqb, not-true, not-false}
 use Rattle.model.specs.Steps.{lastAt, marks, before}
 use Rattle.deck.specs.Words.{wordOf, thereIn}
-use Rattle.deck.specs.Laws.{there-size}
+use Rattle.deck.specs.Laws.{there-size, and-away}
 use borrow.Author.Needs.{needs}
 use Rattle.deck.proofs.is_source.Statement.{statement}
 use Rattle.deck.proofs.is_source.Tie as tie
-
-away : (s t : Bool) → s ≡ false → false ≡ (s && t)
-away false t e = refl
-away true t e = absurd (let z : _≡_ {A = ℕ} 0 1 = cc in omega arith)
 
 tall : (s t u : Bool) → t ≡ true → false ≡ (s && (not t && u))
 tall true true u g = refl
@@ -44,7 +40,7 @@ is-there-requires c κs = search needs
 
 returns : tie.Need-returns
 returns c =
-    away _ _ (sym (c .before .is-there .ensures) ∙ not-true _ (c .if1 .taken))
+    and-away _ _ (sym (c .before .is-there .ensures) ∙ not-true _ (c .if1 .taken))
 
 last-at-requires : tie.Need-last-at-requires
 last-at-requires c κs = search needs

@@ -3,14 +3,14 @@ use Prim.Native.Nat.{_+_, _-_, _≤_}
 use mathlib.Core.Path.{_≡_}
 use native.Mathlib.Omega.{arith}
 use borrow.Author.Needs.{needs}
-use Rattle.lanes.specs.Lanes.{Lanewise, lowered}
-use Rattle.lanes.specs.Laws.{lanewise-none, lanewise-more}
+use Rattle.lanes.specs.Lanes.{Lowered, charged}
+use Rattle.lanes.specs.Laws.{lowered-none, lowered-more}
 use Rattle.lanes.proofs.relax.Statement.{statement}
 use Rattle.lanes.proofs.relax.Tie as tie
 
 abbrev Inv-loop : tie.InvT-loop
 Inv-loop acc₀ row at charge lanes l₀ acc l =
-    (l ≤ lanes) × Lanewise (lowered acc₀ row at charge) l acc₀ acc
+    (l ≤ lanes) × Lowered (charged row at charge) l acc₀ acc
 
 abbrev μ-loop : tie.MeasureT-loop
 μ-loop acc₀ row at charge lanes l₀ acc l =
@@ -18,7 +18,7 @@ abbrev μ-loop : tie.MeasureT-loop
 
 loop-holds : tie.Need-loop-holds Inv-loop μ-loop
 loop-holds c =
-    (omega arith, lanewise-none _ _)
+    (omega arith, lowered-none _ _)
 
 mul-least : tie.Need-mul-least Inv-loop μ-loop
 mul-least c = search needs
@@ -60,7 +60,7 @@ loop-again c =
     let k = c .before .before .before .before .before .before in
     let l = c .before .before .before .before .loop in
     let e = l .inv .1 .rest (l .l) (omega arith) in
-    (omega arith, lanewise-more (l .l) (c .least .result) (l .inv .1) (omega arith) (omega (arith, c .least .ensures, e)))
+    (omega arith, lowered-more (l .l) (c .least .result) (l .inv .1) (omega arith) (omega (arith, c .least .ensures, e)))
 
 returns : tie.Need-returns Inv-loop μ-loop
 returns c =

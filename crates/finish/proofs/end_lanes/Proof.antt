@@ -1,0 +1,93 @@
+-- The three cases of the price. Assumes nothing.
+use mathlib.Core.Path.{_∙_}
+use native.Mathlib.Omega.{arith}
+use borrow.Author.Needs.{needs}
+use Rattle.deck.specs.Words.{deckOf}
+use Rattle.stretch.specs.Laws.{buffer-low, outside-join, outside-layers, outside-prices}
+use Rattle.finish.specs.Laws.{price-done, price-past, ran-price, end-always}
+use Rattle.finish.proofs.end_lanes.Statement.{statement}
+use Rattle.finish.proofs.end_lanes.Tie as tie
+
+add-if1 : tie.Need-add-if1
+add-if1 c = search needs
+
+fill-requires : tie.Need-fill-requires
+fill-requires c κs = search needs
+
+same-length : tie.Need-same-length
+same-length c = search needs
+
+returns : tie.Need-returns
+returns c =
+    let k = c .before .before .before .before .before .before .before .before in
+    let a = k .args in
+    end-always (k .pre .0 .narrow) (c .before .before .fill .ensures) (λ f. price-past (deckOf (a .line .now) (a .n) (a .poses)) (a .r) f (a .i) (omega arith))
+
+add-if2 : tie.Need-add-if2
+add-if2 c = search needs
+
+fill-requires-2 : tie.Need-fill-requires-2
+fill-requires-2 c κs = search needs
+
+same-length-2 : tie.Need-same-length-2
+same-length-2 c = search needs
+
+returns-2 : tie.Need-returns-2
+returns-2 c =
+    let k = c .before .before .before .before .before .before .before .before .before in
+    let a = k .args in
+    end-always (k .pre .0 .narrow) (c .before .before .fill2 .ensures) (λ f. price-done (deckOf (a .line .now) (a .n) (a .poses)) (a .r) f (a .i) (omega arith))
+
+run-on-requires : tie.Need-run-on-requires
+run-on-requires c κs =
+    let k = c .before .before .before .before .before .before in
+    (k .pre .0, omega (arith, k .pre .1 .over, k .pre .1 .room), omega arith)
+
+put-ends-requires : tie.Need-put-ends-requires
+put-ends-requires c κs =
+    let k = c .before .before .before .before .before .before .before .before .before .before in
+    let g = k .pre .0 in
+    let v = c .before .before .before .run-on .ensures in
+    let b = buffer-low (v .running .buffer) in (
+      record {
+        ground = g .ground;
+        low = v .low;
+        narrow = g .narrow;
+        early = omega (arith, g .ground .size);
+        room = omega (arith, v .frame .long, k .pre .1 .over, k .pre .1 .room);
+      },
+      record { over = k .pre .1 .over; room = omega (arith, v .frame .long, k .pre .1 .room) },
+    )
+
+same-length-3 : tie.Need-same-length-3
+same-length-3 c =
+    c .before .before .put-ends .ensures .frame .long ∙ c .before .before .before .before .before .before .run-on .ensures .frame .long
+
+returns-3 : tie.Need-returns-3
+returns-3 c =
+    let k = c .before .before .before .before .before .before .before .before .before .before .before .before .before in
+    let g = k .pre .0 in
+    let v = c .before .before .before .before .before .before .run-on .ensures in
+    let w = c .before .before .put-ends .ensures in
+    record {
+      outside = outside-join (outside-layers (k .pre .1 .over) (v .frame) (omega arith)) (outside-prices (w .frame) (omega arith) (omega (arith, g .narrow)));
+      low = w .low;
+      right = λ l h. w .words l h ∙ ran-price l (omega arith) (v .running) h;
+    }
+
+pub end-lanes-spec : {M : Type 1} → statement M
+end-lanes-spec =
+    tie.close
+    (tie.spec
+    add-if1
+    fill-requires
+    same-length
+    returns
+    add-if2
+    fill-requires-2
+    same-length-2
+    returns-2
+    run-on-requires
+    put-ends-requires
+    same-length-3
+    returns-3)

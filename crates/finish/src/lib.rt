@@ -1,0 +1,187 @@
+// A stretch to the row's end, from its first layer, in block 0; all lanes at once.
+ghost use mathlib.Core.Path.{_≡_};
+ghost use Prim.Native.Nat.{ℕ, suc, _+_, _*_, _-_, _≤_, _<_};
+ghost use lib.ListN.{length};
+ghost use Rattle.model.specs.Steps.{pairCount};
+ghost use Rattle.lanes.specs.Lanes.{Lowered};
+ghost use Rattle.lanes.specs.Store.{Low, Written};
+ghost use Rattle.deck.specs.Words.{deckOf, PairWords, LineWords};
+ghost use Rattle.layer.specs.Loops.{Given};
+ghost use Rattle.stretch.specs.Runs.{PriceRoom};
+ghost use Rattle.finish.specs.Ends.{endsWith, leastPosesIn, leastPairIn, leastPairsIn, endsIn, Ran, EndLanes, Ended};
+
+// On to the layer with all cells placed: the block that it is in.
+fn run_on(
+    store: &mut [u32],
+    line: &[u32],
+    pairs: &[u32],
+    n: usize,
+    poses: usize,
+    r: usize,
+    count: usize,
+    lanes: usize,
+    i: usize,
+) -> usize
+    requires { ⌜ Given (now line) (now pairs) (now store) n poses r count lanes i 0 × (98304 ≤ length (now store)) × (i ≤ n) ⌝ }
+    ensures { λ at. ⌜ Ran (deckOf (now (line .entry)) n poses) r lanes i (n - i) at (now (store .entry)) (now (store .exit)) ⌝ }
+{
+    let mut from: usize = 0;
+    let mut d: usize = 0;
+    while i + d < n {
+        layer::step_layer(
+            store,
+            line,
+            pairs,
+            n,
+            poses,
+            r,
+            count,
+            lanes,
+            i + d,
+            from,
+            49152 - from,
+        );
+        from = 49152 - from;
+        d += 1;
+    }
+    from
+}
+
+// Whether pair q's cell can be the last of the row.
+fn ends_with(line: &[u32], pairs: &[u32], n: usize, r: usize, q: usize) -> bool
+    requires { ⌜ LineWords (now line) × (n ≤ 64) × PairWords r (now pairs) × (q < pairCount r) ⌝ }
+    ensures { λ t. ⌜ t ≡ endsWith (now (line .entry)) n r q ⌝ }
+{
+    if !deck::is_there(pairs, n, r, n, q) {
+        return false;
+    }
+    let k = deck::last_at(pairs, r, n, q);
+    line[k * 128 + 67] != 1
+}
+
+// The least of all poses of pair q, in each lane.
+fn least_poses(acc: &mut [u32; 64], store: &[u32], at: usize, q: usize, poses: usize, lanes: usize)
+    requires { ⌜ Low (now store) × Low (now acc) × (length (now acc) ≡ 64) × (at + 49152 ≤ length (now store)) × (q < 12) × (poses ≤ 60) × (lanes ≤ 60) ⌝ }
+    ensures { λ _. ⌜ Lowered (leastPosesIn (now (store .entry)) at q poses) lanes (now (acc .entry)) (now (acc .exit)) ⌝ }
+{
+    let mut a: usize = 0;
+    while a < poses {
+        lanes::relax(acc, store, at + q * 4096 + a * 64, 0, lanes);
+        a += 1;
+    }
+}
+
+// The same, if its cell can be the last.
+fn least_pair(
+    acc: &mut [u32; 64],
+    store: &[u32],
+    line: &[u32],
+    pairs: &[u32],
+    n: usize,
+    poses: usize,
+    r: usize,
+    count: usize,
+    lanes: usize,
+    at: usize,
+    q: usize,
+)
+    requires { ⌜ Given (now line) (now pairs) (now store) n poses r count lanes n at × Low (now acc) × (length (now acc) ≡ 64) × (q < count) ⌝ }
+    ensures { λ _. ⌜ Lowered (leastPairIn (deckOf (now (line .entry)) n poses) r (now (store .entry)) at q) lanes (now (acc .entry)) (now (acc .exit)) ⌝ }
+{
+    if !ends_with(line, pairs, n, r, q) {
+        return;
+    }
+    least_poses(acc, store, at, q, poses, lanes);
+}
+
+// The least of all pairs.
+fn least_pairs(
+    acc: &mut [u32; 64],
+    store: &[u32],
+    line: &[u32],
+    pairs: &[u32],
+    n: usize,
+    poses: usize,
+    r: usize,
+    count: usize,
+    lanes: usize,
+    at: usize,
+)
+    requires { ⌜ Given (now line) (now pairs) (now store) n poses r count lanes n at × Low (now acc) × (length (now acc) ≡ 64) ⌝ }
+    ensures { λ _. ⌜ Lowered (leastPairsIn (deckOf (now (line .entry)) n poses) r (now (store .entry)) at count) lanes (now (acc .entry)) (now (acc .exit)) ⌝ }
+{
+    let mut q: usize = 0;
+    while q < count {
+        least_pair(acc, store, line, pairs, n, poses, r, count, lanes, at, q);
+        q += 1;
+    }
+}
+
+// The least of the layer with all cells placed, to a row of prices.
+fn put_ends(
+    store: &mut [u32],
+    line: &[u32],
+    pairs: &[u32],
+    n: usize,
+    poses: usize,
+    r: usize,
+    count: usize,
+    lanes: usize,
+    at: usize,
+    prices: usize,
+)
+    requires { ⌜ Given (now line) (now pairs) (now store) n poses r count lanes n at × PriceRoom (now store) prices ⌝ }
+    ensures { λ _. ⌜ Written (endsIn (deckOf (now (line .entry)) n poses) r (now (store .entry)) at) prices lanes (now (store .entry)) (now (store .exit)) ⌝ }
+{
+    let mut acc = [lanes::NONE; 64];
+    least_pairs(&mut acc, store, line, pairs, n, poses, r, count, lanes, at);
+    lanes::put(store, prices, &acc, 0, lanes);
+}
+
+// The price in each lane: 0 if nothing is left to place, NONE if too much was placed.
+fn end_lanes(
+    store: &mut [u32],
+    line: &[u32],
+    pairs: &[u32],
+    n: usize,
+    poses: usize,
+    r: usize,
+    count: usize,
+    lanes: usize,
+    i: usize,
+    prices: usize,
+)
+    requires { ⌜ Given (now line) (now pairs) (now store) n poses r count lanes i 0 × PriceRoom (now store) prices ⌝ }
+    ensures { λ _. ⌜ EndLanes (deckOf (now (line .entry)) n poses) r lanes i prices (now (store .entry)) (now (store .exit)) ⌝ }
+{
+    if i > n + 1 {
+        lanes::fill(store, prices, lanes, lanes::NONE);
+        return;
+    }
+    if i == n + 1 {
+        lanes::fill(store, prices, lanes, 0);
+        return;
+    }
+    let at = run_on(store, line, pairs, n, poses, r, count, lanes, i);
+    put_ends(store, line, pairs, n, poses, r, count, lanes, at, prices);
+}
+
+// The prices to the row's end, to the block at `prices`: the end is pair 0 and pose 0, and there is no way to another one.
+pub fn stretch_end(
+    store: &mut [u32],
+    line: &[u32],
+    pairs: &[u32],
+    n: usize,
+    poses: usize,
+    r: usize,
+    count: usize,
+    lanes: usize,
+    i: usize,
+    prices: usize,
+)
+    requires { ⌜ Given (now line) (now pairs) (now store) n poses r count lanes i 0 × PriceRoom (now store) prices ⌝ }
+    ensures { λ _. ⌜ Ended (deckOf (now (line .entry)) n poses) r lanes i prices (now (store .entry)) (now (store .exit)) ⌝ }
+{
+    lanes::fill(store, prices, 49152, lanes::NONE);
+    end_lanes(store, line, pairs, n, poses, r, count, lanes, i, prices);
+}

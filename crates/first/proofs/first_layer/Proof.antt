@@ -1,0 +1,88 @@
+-- Each turn writes one block more. Assumes nothing.
+use Prim.Native.Nat.{_-_, _≤_}
+use mathlib.Core.Path.{_≡_, refl}
+use native.Mathlib.Omega.{arith}
+use borrow.Author.Needs.{needs}
+use Rattle.model.specs.Steps.{before}
+use Rattle.lanes.specs.Store.{Filled}
+use Rattle.lanes.specs.Laws.{filled-none, filled-more}
+use Rattle.deck.specs.Words.{deckOf}
+use Rattle.layer.specs.Laws.{given-on}
+use Rattle.first.specs.Firsts.{afterFrom}
+use Rattle.first.proofs.first_layer.Statement.{statement}
+use Rattle.first.proofs.first_layer.Tie as tie
+
+abbrev Inv-loop : tie.InvT-loop
+Inv-loop store₀ line pairs n poses r count lanes i s p l0 to m q₀ store q =
+    (q ≤ count) × Filled (afterFrom (deckOf line n poses) r i m p l0) lanes poses to q store₀ store
+
+abbrev μ-loop : tie.MeasureT-loop
+μ-loop store₀ line pairs n poses r count lanes i s p l0 to m q₀ store q =
+    count - q
+
+mul-m : tie.Need-mul-m Inv-loop μ-loop
+mul-m c = search needs
+
+add-m : tie.Need-add-m Inv-loop μ-loop
+add-m c = search needs
+
+mul-m-2 : tie.Need-mul-m-2 Inv-loop μ-loop
+mul-m-2 c = search needs
+
+shared-slice-read-m : tie.Need-shared-slice-read-m Inv-loop μ-loop
+shared-slice-read-m c = search needs
+
+loop-holds : tie.Need-loop-holds Inv-loop μ-loop
+loop-holds c =
+    (omega arith, filled-none _ _ _ _ (c .before .before .before .before .pre .0 .low))
+
+first-block-requires : tie.Need-first-block-requires Inv-loop μ-loop
+first-block-requires c κs =
+    let k = c .before .before .before .before .before .before .before in
+    let s = c .before .before .loop .inv .1 in
+    (given-on (k .pre .0) (s .frame) (s .low), k .pre .1, k .pre .2, omega arith)
+
+add-q : tie.Need-add-q Inv-loop μ-loop
+add-q c = search needs
+
+loop-less : tie.Need-loop-less Inv-loop μ-loop
+loop-less c = search needs
+
+loop-again : tie.Need-loop-again Inv-loop μ-loop
+loop-again c =
+    let k = c .before .before .before .before .before .before .before .before .before .before in
+    let g = k .pre .0 in
+    let l = c .before .before .before .before .before .loop in (
+      omega arith,
+      filled-more (l .q) (omega (arith, g .narrow)) (omega (arith, g .ground .few)) (omega (arith, g .ground .all, g .ground .coded .few)) (l .inv .1) (c .before .before .first-block .ensures) (λ b j x y. refl),
+    )
+
+same-length : tie.Need-same-length Inv-loop μ-loop
+same-length c =
+    c .before .loop .inv .1 .frame .long
+
+returns : tie.Need-returns Inv-loop μ-loop
+returns c =
+    let k = c .before .before .before .before .before .before in
+    let a = k .args in
+    let e : c .before .loop .q ≡ a .count = omega arith in
+    let f = k .pre .0 .ground .coded .mark (a .s) (omega (arith, k .pre .0 .ground .all)) in
+    rw (e, f) at (c .before .loop .inv .1)
+
+pub first-layer-spec : {M : Type 1} → statement M
+first-layer-spec =
+    tie.close
+    (tie.spec
+    Inv-loop
+    μ-loop
+    mul-m
+    add-m
+    mul-m-2
+    shared-slice-read-m
+    loop-holds
+    first-block-requires
+    add-q
+    loop-less
+    loop-again
+    same-length
+    returns)

@@ -1,0 +1,95 @@
+-- A pair that cannot come first has no way to it. Assumes nothing.
+use Prim.Native.Nat.{ℕ}
+use mathlib.Core.Path.{_≡_, sym, ap, _∙_}
+use mathlib.Core.Bool.{true}
+use native.Mathlib.Omega.{arith}
+use borrow.Author.Needs.{needs}
+use borrow.Author.Tests.{not-true, not-false}
+use Rattle.rows.specs.Window.{start}
+use Rattle.model.specs.Steps.{before}
+use Rattle.lanes.specs.Laws.{pair-always, pair-ext}
+use Rattle.deck.specs.Words.{wordOf, deckOf}
+use Rattle.first.specs.Firsts.{startsAt, open-there, open-away, starts-size}
+use Rattle.first.proofs.open_block.Statement.{statement}
+use Rattle.first.proofs.open_block.Tie as tie
+
+-- past the test the pair can come first
+abbrev Starts : tie.Else1 → Type 0
+Starts c = let a = c .before .before .before .before .before .before .args in startsAt (a .n) (a .r) 1 (start (a .r)) (a .q) ≡ true
+
+can : (c : tie.Else1) → Starts c
+can c =
+    let a = c .before .before .before .before .before .before .args in
+    ap (λ (m : ℕ). startsAt (a .n) (a .r) 1 m (a .q)) (sym (c .before .before .start-marks .ensures)) ∙ sym (c .before .starts .ensures) ∙ not-false _ (c .if1 .left)
+
+start-marks-requires : tie.Need-start-marks-requires
+start-marks-requires c κs = search needs
+
+starts-requires : tie.Need-starts-requires
+starts-requires c κs = search needs
+
+mul-fill : tie.Need-mul-fill
+mul-fill c = search needs
+
+add-fill : tie.Need-add-fill
+add-fill c = search needs
+
+fill-requires : tie.Need-fill-requires
+fill-requires c κs = search needs
+
+same-length : tie.Need-same-length
+same-length c = search needs
+
+returns : tie.Need-returns
+returns c =
+    let k = c .before .before .before .before .before .before .before .before .before .before in
+    let a = k .args in
+    let g = k .pre .0 in
+    let t = sym (c .before .before .before .before .before .starts .ensures) ∙ not-true _ (c .before .before .before .before .if1 .taken) in
+    let u = ap (λ (m : ℕ). startsAt (a .n) (a .r) 1 m (a .q)) (sym (c .before .before .before .before .before .before .start-marks .ensures)) ∙ t in
+    pair-always (omega arith) (omega (arith, g .ground .few)) (c .before .before .fill .ensures)
+    (λ b l. open-away (deckOf (a .line .now) (a .n) (a .poses)) (a .r) (a .q) b u)
+
+last-at-requires : tie.Need-last-at-requires
+last-at-requires c κs = search needs
+
+open-rows-requires : tie.Need-open-rows-requires
+open-rows-requires c κs =
+    let k = c .before .before .before .before .before .before .before .before in
+    let a = k .args in
+    let g = k .pre .0 in (
+      g .ground .row,
+      g .low,
+      g .room,
+      omega (arith, g .ground .all, g .ground .coded .few),
+      omega (arith, c .before .last-at .ensures, starts-size (a .n) (a .r) 1 (start (a .r)) (a .q) (can (c .before .before)), g .ground .size),
+      g .ground .few,
+    )
+
+same-length-2 : tie.Need-same-length-2
+same-length-2 c = search needs
+
+returns-2 : tie.Need-returns-2
+returns-2 c =
+    let k = c .before .before .before .before .before .before .before .before .before .before .before in
+    let a = k .args in
+    pair-ext (c .before .before .open-rows .ensures)
+    (λ b l.
+    open-there (deckOf (a .line .now) (a .n) (a .poses)) (a .r) (a .q) b (can (c .before .before .before .before .before))
+    ∙ ap (λ (j : ℕ). wordOf (a .line .now) j b) (sym (c .before .before .before .before .last-at .ensures)))
+
+pub open-block-spec : {M : Type 1} → statement M
+open-block-spec =
+    tie.close
+    (tie.spec
+    start-marks-requires
+    starts-requires
+    mul-fill
+    add-fill
+    fill-requires
+    same-length
+    returns
+    last-at-requires
+    open-rows-requires
+    same-length-2
+    returns-2)

@@ -1,0 +1,210 @@
+// The first layer of a stretch: at the row's start, or after a tall cell in each of its poses, a lane for each.
+ghost use mathlib.Core.Path.{_≡_};
+ghost use mathlib.Core.Bool.{true};
+ghost use Prim.Native.Nat.{ℕ, suc, _+_, _*_, _≤_, _<_};
+ghost use lib.ListN.{length};
+ghost use Rattle.rows.specs.Window.{start};
+ghost use Rattle.model.specs.Steps.{pairCount, marks};
+ghost use Rattle.lanes.specs.Store.{Low, Written, FilledPair, Filled};
+ghost use Rattle.deck.specs.Words.{deckOf, PairWords, LineWords};
+ghost use Rattle.layer.specs.Loops.{Given};
+ghost use Rattle.first.specs.Firsts.{startsAt, afterRow, afterRows, afterFrom, ownRows, openFrom};
+
+// Whether pair q, the last of i cells, can come first after marks m.
+fn starts(pairs: &[u32], n: usize, r: usize, i: usize, m: u32, q: usize) -> bool
+    requires { ⌜ PairWords r (now pairs) × (q < pairCount r) × (i ≤ 100) ⌝ }
+    ensures { λ t. ⌜ t ≡ startsAt n r i m q ⌝ }
+{
+    if !deck::is_there(pairs, n, r, i, q) {
+        return false;
+    }
+    m == pairs[q * 4 + 2]
+}
+
+// ---- after a tall cell
+
+// One row: the cell at position k in pose a, after each pose from l0 on of the cell at position p.
+fn first_row(
+    store: &mut [u32],
+    line: &[u32],
+    at: usize,
+    p: usize,
+    l0: usize,
+    k: usize,
+    a: usize,
+    lanes: usize,
+)
+    requires { ⌜ LineWords (now line) × Low (now store) × (at + lanes ≤ length (now store)) × (p < 64) × (l0 + lanes ≤ 60) × (k < 64) × (a < 60) ⌝ }
+    ensures { λ _. ⌜ Written (afterRow (now (line .entry)) p l0 k a) at lanes (now (store .entry)) (now (store .exit)) ⌝ }
+{
+    let own = line[k * 128 + a];
+    let mut l: usize = 0;
+    while l < lanes {
+        store[at + l] = lanes::least(own + deck::toll(line, p, l0 + l, k, a), lanes::NONE);
+        l += 1;
+    }
+}
+
+// The rows of a pair that can come first.
+fn first_rows(
+    store: &mut [u32],
+    line: &[u32],
+    to: usize,
+    q: usize,
+    p: usize,
+    l0: usize,
+    k: usize,
+    poses: usize,
+    lanes: usize,
+)
+    requires { ⌜ LineWords (now line) × Low (now store) × (to + 49152 ≤ length (now store)) × (q < 12) × (p < 64) × (l0 + lanes ≤ 60) × (k < 64) × (poses ≤ 60) ⌝ }
+    ensures { λ _. ⌜ FilledPair (afterRows (now (line .entry)) p l0 k) lanes to q poses (now (store .entry)) (now (store .exit)) ⌝ }
+{
+    let mut a: usize = 0;
+    while a < poses {
+        first_row(store, line, to + q * 4096 + a * 64, p, l0, k, a, lanes);
+        a += 1;
+    }
+}
+
+// The block of pair q.
+fn first_block(
+    store: &mut [u32],
+    line: &[u32],
+    pairs: &[u32],
+    n: usize,
+    poses: usize,
+    r: usize,
+    count: usize,
+    lanes: usize,
+    i: usize,
+    m: u32,
+    p: usize,
+    l0: usize,
+    to: usize,
+    q: usize,
+)
+    requires { ⌜ Given (now line) (now pairs) (now store) n poses r count lanes i to × (p < 64) × (l0 + lanes ≤ 60) × (q < count) ⌝ }
+    ensures { λ _. ⌜ FilledPair (afterFrom (deckOf (now (line .entry)) n poses) r i m p l0) lanes to q poses (now (store .entry)) (now (store .exit)) ⌝ }
+{
+    if !starts(pairs, n, r, i + 1, m, q) {
+        lanes::fill(store, to + q * 4096, 4096, lanes::NONE);
+        return;
+    }
+    let k = deck::last_at(pairs, r, i + 1, q);
+    first_rows(store, line, to, q, p, l0, k, poses, lanes);
+}
+
+// The layer after the cell at position p as pair s, the last of i placed: one lane for each of its poses from l0 on.
+pub fn first_layer(
+    store: &mut [u32],
+    line: &[u32],
+    pairs: &[u32],
+    n: usize,
+    poses: usize,
+    r: usize,
+    count: usize,
+    lanes: usize,
+    i: usize,
+    s: usize,
+    p: usize,
+    l0: usize,
+    to: usize,
+)
+    requires { ⌜ Given (now line) (now pairs) (now store) n poses r count lanes i to × (p < 64) × (l0 + lanes ≤ 60) × (s < count) ⌝ }
+    ensures { λ _. ⌜ Filled (afterFrom (deckOf (now (line .entry)) n poses) r i (marks r s) p l0) lanes poses to count (now (store .entry)) (now (store .exit)) ⌝ }
+{
+    let m = pairs[s * 4 + 1];
+    let mut q: usize = 0;
+    while q < count {
+        first_block(
+            store,
+            line,
+            pairs,
+            n,
+            poses,
+            r,
+            count,
+            lanes,
+            i,
+            m,
+            p,
+            l0,
+            to,
+            q,
+        );
+        q += 1;
+    }
+}
+
+// ---- at the row's start, in lane 0
+
+// The marks before anything is placed.
+fn start_marks(r: usize) -> u32
+    requires { ⌜ r ≤ 2 ⌝ }
+    ensures { λ m. ⌜ m ≡ start r ⌝ }
+{
+    if r == 0 {
+        return 1;
+    }
+    if r == 1 {
+        return 3;
+    }
+    7
+}
+
+// The rows of a pair that can come first.
+fn open_rows(store: &mut [u32], line: &[u32], to: usize, q: usize, k: usize, poses: usize)
+    requires { ⌜ LineWords (now line) × Low (now store) × (to + 49152 ≤ length (now store)) × (q < 12) × (k < 64) × (poses ≤ 60) ⌝ }
+    ensures { λ _. ⌜ FilledPair (ownRows (now (line .entry)) k) 1 to q poses (now (store .entry)) (now (store .exit)) ⌝ }
+{
+    let mut a: usize = 0;
+    while a < poses {
+        lanes::fill(store, to + q * 4096 + a * 64, 1, line[k * 128 + a]);
+        a += 1;
+    }
+}
+
+// The block of pair q.
+fn open_block(
+    store: &mut [u32],
+    line: &[u32],
+    pairs: &[u32],
+    n: usize,
+    poses: usize,
+    r: usize,
+    count: usize,
+    to: usize,
+    q: usize,
+)
+    requires { ⌜ Given (now line) (now pairs) (now store) n poses r count 1 0 to × (q < count) ⌝ }
+    ensures { λ _. ⌜ FilledPair (openFrom (deckOf (now (line .entry)) n poses) r) 1 to q poses (now (store .entry)) (now (store .exit)) ⌝ }
+{
+    if !starts(pairs, n, r, 1, start_marks(r), q) {
+        lanes::fill(store, to + q * 4096, 4096, lanes::NONE);
+        return;
+    }
+    let k = deck::last_at(pairs, r, 1, q);
+    open_rows(store, line, to, q, k, poses);
+}
+
+// The layer with one cell.
+pub fn open_layer(
+    store: &mut [u32],
+    line: &[u32],
+    pairs: &[u32],
+    n: usize,
+    poses: usize,
+    r: usize,
+    count: usize,
+    to: usize,
+)
+    requires { ⌜ Given (now line) (now pairs) (now store) n poses r count 1 0 to ⌝ }
+    ensures { λ _. ⌜ Filled (openFrom (deckOf (now (line .entry)) n poses) r) 1 poses to count (now (store .entry)) (now (store .exit)) ⌝ }
+{
+    let mut q: usize = 0;
+    while q < count {
+        open_block(store, line, pairs, n, poses, r, count, to, q);
+        q += 1;
+    }
+}

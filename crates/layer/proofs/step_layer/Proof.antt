@@ -1,0 +1,72 @@
+-- After q turns the blocks below q are those of the next layer; the layer before is kept. Assumes nothing.
+use Prim.Native.Nat.{_-_, _≤_}
+use mathlib.Core.Path.{_≡_, sym}
+use native.Mathlib.Omega.{arith}
+use borrow.Author.Needs.{needs}
+use Rattle.deck.specs.Words.{deckOf}
+use Rattle.layer.specs.Loops.{nextFrom}
+use Rattle.layer.specs.Laws.{given-on, beside-on, beside-kept, next-kept}
+use Rattle.lanes.specs.Store.{Filled}
+use Rattle.lanes.specs.Laws.{filled-none, filled-more}
+use Rattle.layer.proofs.step_layer.Statement.{statement}
+use Rattle.layer.proofs.step_layer.Tie as tie
+
+abbrev Inv-loop : tie.InvT-loop
+Inv-loop store₀ line pairs n poses r count lanes i from to q₀ store q =
+    (q ≤ count) × Filled (nextFrom (deckOf line n poses) r store₀ from i) lanes poses to q store₀ store
+
+abbrev μ-loop : tie.MeasureT-loop
+μ-loop store₀ line pairs n poses r count lanes i from to q₀ store q =
+    count - q
+
+loop-holds : tie.Need-loop-holds Inv-loop μ-loop
+loop-holds c =
+    (omega arith, filled-none _ _ _ _ (c .before .before .before .pre .0 .low))
+
+target-block-requires : tie.Need-target-block-requires Inv-loop μ-loop
+target-block-requires c κs =
+    let k = c .before .before .before .before .before .before in
+    let s = c .before .before .loop .inv .1 in
+    (given-on (k .pre .0) (s .frame) (s .low), beside-on (k .pre .1) (s .frame), omega arith)
+
+add-q : tie.Need-add-q Inv-loop μ-loop
+add-q c = search needs
+
+loop-less : tie.Need-loop-less Inv-loop μ-loop
+loop-less c = search needs
+
+loop-again : tie.Need-loop-again Inv-loop μ-loop
+loop-again c =
+    let k = c .before .before .before .before .before .before .before .before .before in
+    let a = k .args in
+    let g = k .pre .0 in
+    let l = c .before .before .before .before .before .loop in
+    let s = l .inv .1 in
+    let kept = beside-kept (k .pre .1) (s .frame) (omega arith) (omega arith) in (
+      omega arith,
+      filled-more (l .q) (omega (arith, g .narrow)) (omega (arith, g .ground .few)) (omega (arith, g .ground .all, g .ground .coded .few)) s (c .before .before .target-block .ensures)
+          (λ b j x y. sym (next-kept (deckOf (a .line .now) (a .n) (a .poses)) (a .r) (a .i) (l .q) b j kept (g .ground .coded .few) (g .ground .few) (omega (arith, g .narrow)))),
+    )
+
+same-length : tie.Need-same-length Inv-loop μ-loop
+same-length c =
+    c .before .loop .inv .1 .frame .long
+
+returns : tie.Need-returns Inv-loop μ-loop
+returns c =
+    let e : c .before .loop .q ≡ c .before .before .before .before .before .args .count = omega arith in
+    rw e at (c .before .loop .inv .1)
+
+pub step-layer-spec : {M : Type 1} → statement M
+step-layer-spec =
+    tie.close
+    (tie.spec
+    Inv-loop
+    μ-loop
+    loop-holds
+    target-block-requires
+    add-q
+    loop-less
+    loop-again
+    same-length
+    returns)

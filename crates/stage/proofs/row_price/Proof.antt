@@ -1,0 +1,103 @@
+-- The first layer, then the stretch on from it. Assumes nothing.
+use Prim.Native.Nat.{_-_}
+use Rattle.deck.specs.Words.{deckOf}
+use Rattle.stage.specs.Stage.{posIn}
+use Rattle.stage.specs.Rows.{row-open, row-after, start-place, start-pair}
+use native.Mathlib.Omega.{arith}
+use borrow.Author.Needs.{needs}
+use Rattle.stage.proofs.row_price.Statement.{statement}
+use Rattle.stage.proofs.row_price.Tie as tie
+
+open-layer-requires : tie.Need-open-layer-requires
+open-layer-requires c κs = search needs
+
+stage-end-requires : tie.Need-stage-end-requires
+stage-end-requires c κs =
+    let k = c .before .before .before .before .before .before .before .before .before .before in
+    let f = c .before .before .before .open-layer .ensures in
+    let r = k .pre .2 in (
+      k .pre .0,
+      record { ground = k .pre .0 .ground; low = f .low; narrow = omega arith; early = omega arith; room = omega (arith, r .over, r .room, f .frame .long) },
+      record { over = r .over; room = omega (arith, r .room, f .frame .long) },
+    )
+
+same-length : tie.Need-same-length
+same-length c = search needs
+
+returns : tie.Need-returns
+returns c =
+    let k = c .before .before .before .before .before .before .before .before .before .before .before .before .before in
+    let a = k .args in
+    row-open (deckOf (a .line .now) (a .n) (a .poses)) (a .r) (a .talls) (posIn (a .places .now)) (a .count) (a .s) (c .before .before .before .before .before .before .before .before .if1 .taken) (k .pre .0 .ground .all) (c .before .before .before .before .before .before .open-layer .ensures) (c .before .before .stage-end .ensures)
+
+sub-word : tie.Need-sub-word
+sub-word c = search needs
+
+word-requires : tie.Need-word-requires
+word-requires c κs = search needs
+
+placed-with-requires : tie.Need-placed-with-requires
+placed-with-requires c κs =
+    let k = c .before .before .before .before .before .before in
+    let s = start-pair (k .args .talls) (k .args .i) (k .args .count) (k .args .s) (k .pre .4) (c .before .if1 .left) (k .pre .3) in
+    (k .pre .0 .ground .coded, omega (arith, k .pre .0 .ground .all), start-place (k .args .i) (c .word .result) (k .pre .0) (c .before .if1 .left) (k .pre .3) (c .word .ensures))
+
+first-layer-requires : tie.Need-first-layer-requires
+first-layer-requires c κs =
+    let k = c .before .before .before .before .before .before .before .before in
+    let g = k .pre .0 .ground in
+    let s = start-pair (k .args .talls) (k .args .i) (k .args .count) (k .args .s) (k .pre .4) (c .before .before .before .if1 .left) (k .pre .3) in
+    let p = start-place (k .args .i) (c .before .before .word .result) (k .pre .0) (c .before .before .before .if1 .left) (k .pre .3) (c .before .before .word .ensures) in
+    let r = k .pre .2 in (
+      record { ground = g; low = k .pre .1; narrow = g .few; early = omega (arith, c .before .placed-with .ensures, g .coded .reorder); room = omega (arith, r .over, r .room) },
+      p,
+      omega (arith, g .few),
+      s,
+    )
+
+add-stage-end : tie.Need-add-stage-end
+add-stage-end c =
+    let k = c .before .before .before .before .before .before .before .before .before .before .before .before in
+    let p = start-place (k .args .i) (c .before .before .before .before .before .before .word .result) (k .pre .0) (c .before .before .before .before .before .before .before .if1 .left) (k .pre .3) (c .before .before .before .before .before .before .word .ensures) in
+    omega (arith, c .before .before .before .before .before .placed-with .ensures, k .pre .0 .ground .coded .reorder)
+
+stage-end-requires-2 : tie.Need-stage-end-requires-2
+stage-end-requires-2 c κs =
+    let k = c .before .before .before .before .before .before .before .before .before .before .before .before in
+    let g = k .pre .0 .ground in
+    let p = start-place (k .args .i) (c .before .before .before .before .before .before .word .result) (k .pre .0) (c .before .before .before .before .before .before .before .if1 .left) (k .pre .3) (c .before .before .before .before .before .before .word .ensures) in
+    let f = c .before .before .before .first-layer .ensures in
+    let r = k .pre .2 in (
+      k .pre .0,
+      record { ground = g; low = f .low; narrow = g .few; early = omega (arith, c .before .before .before .before .before .placed-with .ensures, g .coded .reorder); room = omega (arith, r .over, r .room, f .frame .long) },
+      record { over = r .over; room = omega (arith, r .room, f .frame .long) },
+    )
+
+same-length-2 : tie.Need-same-length-2
+same-length-2 c = search needs
+
+returns-2 : tie.Need-returns-2
+unfolding posIn
+returns-2 c =
+    let k = c .before .before .before .before .before .before .before .before .before .before .before .before .before .before .before in
+    let a = k .args in
+    row-after (deckOf (a .line .now) (a .n) (a .poses)) (a .r) (a .talls) (posIn (a .places .now)) (a .i) (a .i - 1) (a .count) (a .s)
+    (c .before .before .before .before .before .before .before .before .before .word .result) (c .before .before .before .before .before .before .before .before .placed-with .result) (omega (arith, c .before .before .before .before .before .before .before .before .before .before .if1 .left)) (k .pre .3) (k .pre .0 .ground .all)
+    (c .before .before .before .before .before .before .before .before .before .word .ensures) (c .before .before .before .before .before .before .before .before .placed-with .ensures) (c .before .before .before .before .before .before .first-layer .ensures) (c .before .before .stage-end2 .ensures)
+
+pub row-price-spec : {M : Type 1} → statement M
+row-price-spec =
+    tie.close
+    (tie.spec
+    open-layer-requires
+    stage-end-requires
+    same-length
+    returns
+    sub-word
+    word-requires
+    placed-with-requires
+    first-layer-requires
+    add-stage-end
+    stage-end-requires-2
+    same-length-2
+    returns-2)

@@ -1,0 +1,218 @@
+-- Laws of the stages: a table is the least over the table before and the prices, from number 0 on; what a stage's parts make together. Assumes nothing.
+use Prim.Native.Nat.{ℕ, zero, suc, _+_, _-_, _*_, _≤_, _<_}
+use mathlib.Core.Path.{_≡_, refl, sym, ap, _∙_}
+use mathlib.Core.Bool.{Bool, true, false, cond}
+use mathlib.Core.List.{List}
+use native.Mathlib.Omega.{arith}
+use borrow.Author.Count.{below-more}
+use borrow.Author.Tests.{lt-ltb, le-ltb}
+use native.Mathlib.Numerals.{add-one}
+use lib.ListN.{length, getD, set}
+use lib.Seq.{getD-set-same}
+use lib.Dec.{ltb}
+use Rattle.rows.specs.Lists.{from}
+use Rattle.pair.specs.Coded.{lowest}
+use Rattle.model.specs.Steps.{Deck, Prices, pairCount, joinPose, nextCases}
+use Rattle.model.specs.Stages.{caseTable}
+use Rattle.model.specs.Pairs.{count-0, count-1, count-2}
+use Rattle.lanes.specs.Store.{Low}
+use Rattle.lanes.specs.Laws.{low-set}
+use Rattle.join.specs.Tables.{casesAt, sourcesAt, pricesAt, casesIn, sourcesIn, pricesIn, Least, Way, Joined}
+use Rattle.join.specs.Parts.{least-ext}
+use Rattle.stage.specs.Stage.{wide, priceOf, tableOf, Right, Staged, StageDone, Through, StagesDone, RowPriced, BothPriced, StagesGiven}
+
+-- ---- counts
+
+pub count-some : (R : ℕ) → R ≤ 2 → 1 ≤ pairCount R
+count-some zero h = omega (arith, count-0)
+count-some (suc zero) h = omega (arith, count-1)
+count-some (suc (suc zero)) h = omega (arith, count-2)
+count-some (suc (suc (suc R))) h = absurd (omega arith)
+
+pub wide-low : (talls I x y : ℕ) → 1 ≤ y → x ≤ y → wide talls I x ≤ y
+unfolding wide
+wide-low talls zero x y h g = h
+wide-low talls (suc I) x y h g = go (ltb I talls)
+  where
+    go : (t : Bool) → cond t x 1 ≤ y
+    go true = g
+    go false = h
+
+-- a tall cell's table has all
+pub wide-all : (talls I x : ℕ) → I < talls → wide talls (suc I) x ≡ x
+unfolding wide
+wide-all talls I x h = ap (λ t. cond t x 1) (lt-ltb I talls h)
+
+-- the same by tests on the table's number
+pub wide-first : (talls I x : ℕ) → I ≡ 0 → 1 ≡ wide talls I x
+unfolding wide
+wide-first talls I x e = rw e refl
+
+pub wide-last : (talls I x : ℕ) → talls < I → 1 ≡ wide talls I x
+unfolding wide
+wide-last talls zero x h = refl
+wide-last talls (suc I) x h = ap (λ t. cond t x 1) (sym (le-ltb I talls (omega arith)))
+
+pub wide-tall : (talls I x : ℕ) → (I ≡ 0 → ⊥) → I ≤ talls → x ≡ wide talls I x
+wide-tall talls zero x n h = absurd (n refl)
+wide-tall talls (suc I) x n h = sym (wide-all talls I x (omega arith))
+
+module _ (D₀ D₁ : Deck) (R talls : ℕ) (pos₀ pos₁ : ℕ → ℕ) where
+  -- ---- each table from the one before
+  pub table-step : (I q₀ q₁ a : ℕ) → I ≤ talls
+      → nextCases (wide talls I (pairCount R)) (wide talls I (D₀ .poses)) (tableOf D₀ D₁ R talls pos₀ pos₁ I) (priceOf D₀ R talls pos₀ I) (priceOf D₁ R talls pos₁ I) q₀ q₁ a
+      ≡ tableOf D₀ D₁ R talls pos₀ pos₁ (suc I) q₀ q₁ a
+  unfolding tableOf priceOf caseTable nextCases joinPose lowest from wide
+  table-step zero q₀ q₁ a h = omega arith
+  table-step (suc I) q₀ q₁ a h = rw (wide-all talls I (pairCount R) (omega arith), wide-all talls I (D₀ .poses) (omega arith)) refl
+
+  pub staged-right : (I : ℕ) {st : List ℕ} → Staged D₀ D₁ R talls pos₀ pos₁ I st → Right D₀ D₁ R talls pos₀ pos₁ (suc I) st
+  staged-right I w = record { word = λ q₀ q₁ a h g f. w .case q₀ q₁ a h g f .right }
+
+  module _ (few : pairCount R ≤ 12) (some : 1 ≤ pairCount R) (narrow : D₀ .poses ≤ 60) where
+    wide-pairs : (I : ℕ) → wide talls I (pairCount R) ≤ 12
+    wide-pairs I = wide-low talls I (pairCount R) 12 (omega arith) few
+
+    wide-poses : (I : ℕ) → wide talls I (D₀ .poses) ≤ 60
+    wide-poses I = wide-low talls I (D₀ .poses) 60 (omega arith) narrow
+
+    -- a stage from its prices and the table before
+    pub stage-done : (I : ℕ) {old mid new : List ℕ} → I ≤ talls → talls ≤ 24
+        → Right D₀ D₁ R talls pos₀ pos₁ I old
+        → BothPriced (priceOf D₀ R talls pos₀ I) (priceOf D₁ R talls pos₁ I) (wide talls I (D₀ .poses)) (wide talls (suc I) (pairCount R)) (wide talls (suc I) (D₀ .poses)) (wide talls I (pairCount R)) old mid
+        → Joined (wide talls I (pairCount R)) (wide talls I (D₀ .poses)) (wide talls (suc I) (pairCount R)) (wide talls (suc I) (D₀ .poses)) I mid new
+        → StageDone D₀ D₁ R talls pos₀ pos₁ I old new
+    unfolding casesIn
+    stage-done I {old} {mid} {new} h g r p j =
+        record {
+          long = j .long ∙ p .long;
+          low = j .low;
+          cases = λ k a b. j .below k b ∙ p .kept k (omega arith) (omega arith);
+          sources = λ k a b. j .between k (omega arith) b ∙ p .kept k (omega arith) (omega arith);
+          staged = record { case = λ q₀ q₁ a x y z. go q₀ q₁ a x y z };
+        }
+      where
+        same : (s t l : ℕ) → s < wide talls I (pairCount R) → t < wide talls I (pairCount R) → l < wide talls I (D₀ .poses)
+            → casesIn mid I s t l ≡ tableOf D₀ D₁ R talls pos₀ pos₁ I s t l
+        same s t l a b c =
+            let m = wide-pairs I in
+            let n = wide-poses I in
+            p .kept (casesAt I + s * 768 + t * 64 + l) (omega arith) (omega arith) ∙ r .word s t l a b c
+
+        go : (q₀ q₁ a : ℕ) → q₀ < wide talls (suc I) (pairCount R) → q₁ < wide talls (suc I) (pairCount R) → a < wide talls (suc I) (D₀ .poses)
+            → Least
+            (tableOf D₀ D₁ R talls pos₀ pos₁ (suc I) q₀ q₁ a)
+            (Way (wide talls I (pairCount R)) (wide talls I (D₀ .poses)) (tableOf D₀ D₁ R talls pos₀ pos₁ I) (priceOf D₀ R talls pos₀ I) (priceOf D₁ R talls pos₁ I) q₀ q₁ a)
+            (casesIn new (suc I) q₀ q₁ a)
+            (sourcesIn new (suc I) q₀ q₁ a)
+        go q₀ q₁ a x y z =
+            let w = least-ext (wide talls I (pairCount R)) (wide talls I (D₀ .poses)) (casesIn mid I) (tableOf D₀ D₁ R talls pos₀ pos₁ I)
+            (pricesIn mid 0) (pricesIn mid 1) (priceOf D₀ R talls pos₀ I) (priceOf D₁ R talls pos₁ I) q₀ q₁ a same
+            (λ s l b c. p .right₀ s b q₀ a l x z c) (λ s l b c. p .right₁ s b q₁ a l y z c) (j .done q₀ q₁ a x y z) in
+            record { right = w .right ∙ table-step I q₀ q₁ a h; found = w .found; small = w .small }
+
+    -- the same by the code's names
+    pub stage-made : (I count starts lanes ends last : ℕ) {old mid new : List ℕ}
+        → starts ≡ wide talls I count → lanes ≡ wide talls I (D₀ .poses) → ends ≡ wide talls (I + 1) count → last ≡ wide talls (I + 1) (D₀ .poses)
+        → count ≡ pairCount R → I ≤ talls → talls ≤ 24
+        → Right D₀ D₁ R talls pos₀ pos₁ I old
+        → BothPriced (priceOf D₀ R talls pos₀ I) (priceOf D₁ R talls pos₁ I) (wide talls I (D₀ .poses)) (wide talls (suc I) count) (wide talls (suc I) (D₀ .poses)) (wide talls I count) old mid
+        → Joined starts lanes ends last I mid new
+        → StageDone D₀ D₁ R talls pos₀ pos₁ I old new
+    stage-made I count starts lanes ends last e₁ e₂ e₃ e₄ all h g r p j =
+        let b = rw all at p in
+        let d = rw (e₁, e₂, e₃, e₄, add-one I, all) at j in
+        stage-done I h g r b d
+
+    -- the stages before are kept
+    staged-kept : (J I : ℕ) {old new : List ℕ} → J < I → StageDone D₀ D₁ R talls pos₀ pos₁ I old new
+        → Staged D₀ D₁ R talls pos₀ pos₁ J old → Staged D₀ D₁ R talls pos₀ pos₁ J new
+    unfolding casesIn sourcesIn
+    staged-kept J I h d w = record {
+      case = λ q₀ q₁ a x y z.
+          let m = wide-pairs (suc J) in
+          let n = wide-poses (suc J) in
+          let e = d .cases (casesAt (suc J) + q₀ * 768 + q₁ * 64 + a) (omega arith) (omega arith) in
+          let f = d .sources (sourcesAt (suc J) + q₀ * 768 + q₁ * 64 + a) (omega arith) (omega arith) in
+          rw (e, f) (w .case q₀ q₁ a x y z);
+    }
+
+    pub through-more : {I : ℕ} {old mid new : List ℕ} → Through D₀ D₁ R talls pos₀ pos₁ I old mid → StageDone D₀ D₁ R talls pos₀ pos₁ I mid new
+        → Through D₀ D₁ R talls pos₀ pos₁ (I + 1) old new
+    through-more {I} {new = new} t d =
+        record {
+          long = d .long ∙ t .long;
+          low = d .low;
+          right = rw (add-one I) (staged-right I (d .staged));
+          staged = below-more (λ (J : ℕ). Staged D₀ D₁ R talls pos₀ pos₁ J new) I (λ J h. staged-kept J I h d (t .staged J h)) (d .staged);
+        }
+
+  -- before anything: the word of case (0, 0, 0) is 0
+  pub through-none : {st : List ℕ} → Low st → 148992 < length st → Through D₀ D₁ R talls pos₀ pos₁ 0 (set st 148992 0) (set st 148992 0)
+  unfolding casesIn tableOf wide
+  through-none {st} w h =
+      record {
+        long = refl;
+        low = low-set 148992 0 w h (omega arith);
+        right = record { word = λ q₀ q₁ a x y z. ap (λ (k : ℕ). getD (set st 148992 0) k 0) (omega arith) ∙ getD-set-same st 148992 0 0 h };
+        staged = λ J h. absurd (omega arith);
+      }
+
+  -- all stages
+  pub through-all : {I : ℕ} {old mid new : List ℕ} → length mid ≡ length old → Through D₀ D₁ R talls pos₀ pos₁ I mid new → talls < I
+      → StagesDone D₀ D₁ R talls pos₀ pos₁ old new
+  unfolding tableOf priceOf
+  through-all e t m =
+      record {
+        long = t .long ∙ e;
+        low = t .low;
+        right = λ I q₀ q₁ a h x y z. t .staged I (omega arith) .case q₀ q₁ a x y z .right;
+        way = λ I q₀ q₁ a h x y z b.
+            let c = t .staged (suc I) (omega arith) .case q₀ q₁ a x y z in
+            let g = c .found (omega (arith, c .right)) in
+            rw (wide-all talls I (pairCount R) (omega arith), wide-all talls I (D₀ .poses) (omega arith), c .right) at g;
+      }
+
+-- ---- the prices of one start pair more
+
+pub both-none : (x₀ x₁ : Prices) (lanes ends poses : ℕ) {st : List ℕ} → Low st → BothPriced x₀ x₁ lanes ends poses 0 st st
+both-none x₀ x₁ lanes ends poses w =
+    record { long = refl; low = w; kept = λ k h g. refl; right₀ = λ s h. absurd (omega arith); right₁ = λ s h. absurd (omega arith) }
+
+pub both-more : (x₀ x₁ : Prices) {lanes ends poses : ℕ} (s : ℕ) {old mid one new : List ℕ}
+    → lanes ≤ 64 → ends ≤ 12 → poses ≤ 64
+    → BothPriced x₀ x₁ lanes ends poses s old mid → RowPriced (x₀ s) lanes ends poses (pricesAt 0 s) mid one → RowPriced (x₁ s) lanes ends poses (pricesAt 1 s) one new
+    → BothPriced x₀ x₁ lanes ends poses (s + 1) old new
+unfolding pricesIn
+both-more x₀ x₁ {lanes} {ends} {poses} s {old} {mid} {one} {new} n e m b p₀ p₁ =
+    record {
+      long = p₁ .long ∙ p₀ .long ∙ b .long;
+      low = p₁ .low;
+      kept = λ k h g. p₁ .kept k h (omega arith) ∙ p₀ .kept k h (omega arith) ∙ b .kept k h g;
+      right₀ = below-more (λ (t : ℕ). (q a l : ℕ) → q < ends → a < poses → l < lanes → pricesIn new 0 t l q a ≡ x₀ t l q a) s
+          (λ t h q a l x y z. on 0 t q a l (omega arith) (omega arith) x y z ∙ b .right₀ t h q a l x y z)
+          (λ q a l x y z. p₁ .kept (pricesAt 0 s + q * 4096 + a * 64 + l) (omega arith) (omega arith) ∙ p₀ .right q a l x y z);
+      right₁ = below-more (λ (t : ℕ). (q a l : ℕ) → q < ends → a < poses → l < lanes → pricesIn new 1 t l q a ≡ x₁ t l q a) s
+          (λ t h q a l x y z. on 1 t q a l (omega arith) (omega arith) x y z ∙ b .right₁ t h q a l x y z)
+          (λ q a l x y z. p₁ .right q a l x y z);
+    }
+  where
+    on : (row t q a l : ℕ) → row ≤ 1 → t < s → q < ends → a < poses → l < lanes → pricesIn new row t l q a ≡ pricesIn mid row t l q a
+    on row t q a l r h x y z =
+        let k = pricesAt row t + q * 4096 + a * 64 + l in
+        p₁ .kept k (omega arith) (omega arith) ∙ p₀ .kept k (omega arith) (omega arith)
+
+-- ---- what a stage is given
+
+module _ {line₀ line₁ pairs places₀ places₁ st : List ℕ} {R n₀ n₁ poses count talls : ℕ} (g : StagesGiven line₀ line₁ pairs places₀ places₁ st R n₀ n₁ poses count talls) where
+  pub given-pairs : (count ≤ 12) × (1 ≤ count) × (poses ≤ 60) × (talls ≤ 24)
+  given-pairs =
+      let r = g .row₀ .ground in (
+        omega (arith, r .all, r .coded .few),
+        omega (arith, r .all, count-some R (r .coded .reorder)),
+        r .few,
+        g .row₀ .few,
+      )
+
+  pub given-wide : (I : ℕ) → (wide talls I count ≤ count) × (wide talls I poses ≤ 60)
+  given-wide I = (wide-low talls I count count (given-pairs .1) (omega arith), wide-low talls I poses 60 (omega arith) (given-pairs .2))

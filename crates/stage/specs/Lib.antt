@@ -1,0 +1,4 @@
+pub mod Stage
+pub mod Laws
+pub mod Same
+pub mod Rows

@@ -1,0 +1,283 @@
+// The stages of the search: the prices of both rows from every start pair, joined with the case table before.
+ghost use mathlib.Core.Path.{_≡_};
+ghost use Prim.Native.Nat.{suc, _≤_, _<_};
+ghost use Rattle.model.specs.Steps.{pairCount};
+ghost use Rattle.model.specs.Stages.{placedWith};
+ghost use Rattle.lanes.specs.Store.{Low};
+ghost use Rattle.deck.specs.Words.{deckOf, PairWords};
+ghost use Rattle.layer.specs.Loops.{Given};
+ghost use Rattle.stretch.specs.Runs.{PriceRoom};
+ghost use Rattle.stage.specs.Stage.{wide, posIn, priceOf, endFrom, RowPriced, BothPriced, RowGiven, StagesGiven, Right, StageDone, StagesDone};
+
+// How many of x pairs or poses table number i has.
+fn wide_of(talls: usize, i: usize, x: usize) -> usize
+    ensures { λ r. ⌜ r ≡ wide talls i x ⌝ }
+{
+    if i == 0 {
+        return 1;
+    }
+    if talls < i {
+        return 1;
+    }
+    x
+}
+
+// How many cells are placed once the cell at position p stands as pair s.
+fn placed_with(pairs: &[u32], r: usize, p: usize, s: usize) -> usize
+    requires { ⌜ PairWords r (now pairs) × (s < pairCount r) × (p < 64) ⌝ }
+    ensures { λ i. ⌜ i ≡ placedWith r p s ⌝ }
+{
+    let all = p + r + 1;
+    let d = deck::word(pairs, s * 4);
+    if all < d {
+        return 0;
+    }
+    all - d
+}
+
+// On from the layer in block 0, which has `cells` cells, to tall cell i or the row's end.
+fn stage_end(
+    store: &mut [u32],
+    line: &[u32],
+    pairs: &[u32],
+    places: &[u32],
+    n: usize,
+    poses: usize,
+    r: usize,
+    count: usize,
+    talls: usize,
+    i: usize,
+    lanes: usize,
+    cells: usize,
+    prices: usize,
+)
+    requires { ⌜ RowGiven (now line) (now pairs) (now places) r n poses count talls × Given (now line) (now pairs) (now store) n poses r count lanes cells 0 × PriceRoom (now store) prices ⌝ }
+    ensures { λ _. ⌜ RowPriced (endFrom (deckOf (now (line .entry)) n poses) r talls (posIn (now (places .entry))) i (now (store .entry)) cells) lanes (wide talls (suc i) count) (wide talls (suc i) poses) prices (now (store .entry)) (now (store .exit)) ⌝ }
+{
+    if i < talls {
+        let p = deck::word(places, i);
+        stretch::stretch_to(
+            store,
+            line,
+            pairs,
+            n,
+            poses,
+            r,
+            count,
+            lanes,
+            cells,
+            p,
+            prices,
+        );
+        return;
+    }
+    finish::stretch_end(store, line, pairs, n, poses, r, count, lanes, cells, prices);
+}
+
+// The prices of stage i in a row from start pair s, to the block at `prices`.
+fn row_price(
+    store: &mut [u32],
+    line: &[u32],
+    pairs: &[u32],
+    places: &[u32],
+    n: usize,
+    poses: usize,
+    r: usize,
+    count: usize,
+    talls: usize,
+    i: usize,
+    s: usize,
+    prices: usize,
+)
+    requires { ⌜ RowGiven (now line) (now pairs) (now places) r n poses count talls × Low (now store) × PriceRoom (now store) prices × (i ≤ talls) × (s < wide talls i count) ⌝ }
+    ensures { λ _. ⌜ RowPriced (priceOf (deckOf (now (line .entry)) n poses) r talls (posIn (now (places .entry))) i s) (wide talls i poses) (wide talls (suc i) count) (wide talls (suc i) poses) prices (now (store .entry)) (now (store .exit)) ⌝ }
+{
+    if i == 0 {
+        first::open_layer(store, line, pairs, n, poses, r, count, 0);
+        stage_end(
+            store,
+            line,
+            pairs,
+            places,
+            n,
+            poses,
+            r,
+            count,
+            talls,
+            0,
+            1,
+            1,
+            prices,
+        );
+        return;
+    }
+    let p = deck::word(places, i - 1);
+    let placed = placed_with(pairs, r, p, s);
+    first::first_layer(
+        store,
+        line,
+        pairs,
+        n,
+        poses,
+        r,
+        count,
+        poses,
+        placed,
+        s,
+        p,
+        0,
+        0,
+    );
+    stage_end(
+        store,
+        line,
+        pairs,
+        places,
+        n,
+        poses,
+        r,
+        count,
+        talls,
+        i,
+        poses,
+        placed + 1,
+        prices,
+    );
+}
+
+// The prices of stage i in both rows, from every start pair.
+fn prices(
+    store: &mut [u32],
+    line0: &[u32],
+    line1: &[u32],
+    pairs: &[u32],
+    places0: &[u32],
+    places1: &[u32],
+    n0: usize,
+    n1: usize,
+    poses: usize,
+    r: usize,
+    count: usize,
+    talls: usize,
+    i: usize,
+)
+    requires { ⌜ StagesGiven (now line0) (now line1) (now pairs) (now places0) (now places1) (now store) r n0 n1 poses count talls × (i ≤ talls) ⌝ }
+    ensures { λ _. ⌜ BothPriced (priceOf (deckOf (now (line0 .entry)) n0 poses) r talls (posIn (now (places0 .entry))) i) (priceOf (deckOf (now (line1 .entry)) n1 poses) r talls (posIn (now (places1 .entry))) i) (wide talls i poses) (wide talls (suc i) count) (wide talls (suc i) poses) (wide talls i count) (now (store .entry)) (now (store .exit)) ⌝ }
+{
+    let starts = wide_of(talls, i, count);
+    let mut s: usize = 0;
+    while s < starts {
+        let p0 = join::price_at(0, s, 0, 0);
+        row_price(
+            store,
+            line0,
+            pairs,
+            places0,
+            n0,
+            poses,
+            r,
+            count,
+            talls,
+            i,
+            s,
+            p0,
+        );
+        let p1 = join::price_at(1, s, 0, 0);
+        row_price(
+            store,
+            line1,
+            pairs,
+            places1,
+            n1,
+            poses,
+            r,
+            count,
+            talls,
+            i,
+            s,
+            p1,
+        );
+        s += 1;
+    }
+}
+
+// Stage i: case table number i + 1 from table number i.
+pub fn stage(
+    store: &mut [u32],
+    line0: &[u32],
+    line1: &[u32],
+    pairs: &[u32],
+    places0: &[u32],
+    places1: &[u32],
+    n0: usize,
+    n1: usize,
+    poses: usize,
+    r: usize,
+    count: usize,
+    talls: usize,
+    i: usize,
+)
+    requires { ⌜ StagesGiven (now line0) (now line1) (now pairs) (now places0) (now places1) (now store) r n0 n1 poses count talls × (i ≤ talls) × Right (deckOf (now line0) n0 poses) (deckOf (now line1) n1 poses) r talls (posIn (now places0)) (posIn (now places1)) i (now store) ⌝ }
+    ensures { λ _. ⌜ StageDone (deckOf (now (line0 .entry)) n0 poses) (deckOf (now (line1 .entry)) n1 poses) r talls (posIn (now (places0 .entry))) (posIn (now (places1 .entry))) i (now (store .entry)) (now (store .exit)) ⌝ }
+{
+    prices(
+        store,
+        line0,
+        line1,
+        pairs,
+        places0,
+        places1,
+        n0,
+        n1,
+        poses,
+        r,
+        count,
+        talls,
+        i,
+    );
+    let starts = wide_of(talls, i, count);
+    let lanes = wide_of(talls, i, poses);
+    let ends = wide_of(talls, i + 1, count);
+    let last = wide_of(talls, i + 1, poses);
+    join::join_stage(store, i, starts, lanes, ends, last);
+}
+
+// Every stage, from the state before anything.
+pub fn stages(
+    store: &mut [u32],
+    line0: &[u32],
+    line1: &[u32],
+    pairs: &[u32],
+    places0: &[u32],
+    places1: &[u32],
+    n0: usize,
+    n1: usize,
+    poses: usize,
+    r: usize,
+    count: usize,
+    talls: usize,
+)
+    requires { ⌜ StagesGiven (now line0) (now line1) (now pairs) (now places0) (now places1) (now store) r n0 n1 poses count talls ⌝ }
+    ensures { λ _. ⌜ StagesDone (deckOf (now (line0 .entry)) n0 poses) (deckOf (now (line1 .entry)) n1 poses) r talls (posIn (now (places0 .entry))) (posIn (now (places1 .entry))) (now (store .entry)) (now (store .exit)) ⌝ }
+{
+    store[join::CASES] = 0;
+    let mut i: usize = 0;
+    while i <= talls {
+        stage(
+            store,
+            line0,
+            line1,
+            pairs,
+            places0,
+            places1,
+            n0,
+            n1,
+            poses,
+            r,
+            count,
+            talls,
+            i,
+        );
+        i += 1;
+    }
+}

@@ -1,0 +1,228 @@
+-- Laws of stretches: the layers run on, what is kept, and prices as far as the layers have come. Assumes nothing.
+use Prim.Native.Nat.{ℕ, zero, suc, _+_, _*_, _-_, _≤_, _<_}
+use mathlib.Core.Path.{_≡_, refl, sym, ap, ap₂, _∙_}
+use mathlib.Core.Logic.{inl, inr}
+use mathlib.Core.Bool.{Bool, true, false, cond}
+use mathlib.Core.List.{List}
+use native.Mathlib.Omega.{arith}
+use native.Mathlib.Numerals.{add-one}
+use borrow.Author.Tests.{lt-ltb, le-ltb, le-leb, lt-leb, eq-eqb, ne-eqb}
+use lib.ListN.{length, getD}
+use lib.Dec.{leb, eqb}
+use Rattle.rows.specs.Lists.{Le?, low, high, le?, Eq?, same, differs, eq?}
+use Rattle.model.specs.Steps.{B, Deck, Layer, pairCount, offset, layers, priceTo}
+use Rattle.lanes.specs.Lanes.{wordsFrom}
+use Rattle.lanes.specs.Store.{Frame, Written, layerIn, FilledPair, Filled}
+use Rattle.deck.specs.Words.{deckOf}
+use Rattle.layer.specs.Loops.{nextFrom, Given, Beside}
+use Rattle.layer.specs.Laws.{next-ext}
+use Rattle.stretch.specs.Runs.{Buffer, Running, Small, Outside, delivered, priceBy, PricedBy, PricedRun}
+
+-- ---- the two blocks by turns
+
+pub buffer-low : {at : ℕ} → Buffer at → at ≤ 49152
+buffer-low (inl e) = omega arith
+buffer-low (inr e) = omega arith
+
+pub buffer-turn : {at : ℕ} → Buffer at → Buffer (49152 - at)
+buffer-turn (inl e) = inr (omega arith)
+buffer-turn (inr e) = inl (omega arith)
+
+pub buffer-beside : {st : List ℕ} {at : ℕ} → Buffer at → 98304 ≤ length st → Beside st at (49152 - at)
+buffer-beside (inl e) h = record { room = omega arith; apart = λ k x y z w. omega arith }
+buffer-beside (inr e) h = record { room = omega arith; apart = λ k x y z w. omega arith }
+
+-- ---- the layers run on
+
+pub given-small :
+    {line pairs st : List ℕ} {n poses R count lanes i at : ℕ}
+    → Given line pairs st n poses R count lanes i at → Small (deckOf line n poses) R lanes
+given-small g = record { narrow = g .narrow; few = g .ground .few; pairs = g .ground .coded .few }
+
+pub run-none :
+    (D : Deck) (R lanes i : ℕ) {old st : List ℕ}
+    → Small D R lanes → ((k : ℕ) → k < 49152 → getD st k 0 ≡ getD old k 0) → Running D R lanes i 0 0 old st
+unfolding layers
+run-none D R lanes i s e =
+    record { buffer = inl refl; right = λ q a l x y z. e (0 + q * 4096 + a * 64 + l) (omega (arith, s .narrow, s .few, s .pairs)) }
+
+pub run-more :
+    {D : Deck} {R lanes i d at count : ℕ} {old mid new : List ℕ}
+    → count ≡ pairCount R → Running D R lanes i d at old mid → Filled (nextFrom D R mid at (i + d)) lanes (D .poses) (49152 - at) count mid new
+    → Running D R lanes i (d + 1) (49152 - at) old new
+unfolding layers
+run-more {D} {R} {lanes} {i} {d} {at} {old = old} {mid = mid} c r f =
+    record {
+      buffer = buffer-turn (r .buffer);
+      right = λ q a l x y z.
+          f .right q (omega arith) a l y z
+          ∙ next-ext D R (layerIn mid at l) (layers D R (layerIn old 0 l) i d) (λ p b v w. r .right p b l v w z) (i + d) q a
+          ∙ ap (λ (k : ℕ). layers D R (layerIn old 0 l) i k q a) (sym (add-one d));
+    }
+
+-- what is written above the layers keeps them
+pub run-kept :
+    {D : Deck} {R lanes i d at a b : ℕ} {old mid new : List ℕ}
+    → Small D R lanes → Running D R lanes i d at old mid → Frame a b mid new → 98304 ≤ a
+    → Running D R lanes i d at old new
+run-kept {at = at} s r f h =
+    record {
+      buffer = r .buffer;
+      right = λ q a l x y z.
+          f .low (at + q * 4096 + a * 64 + l) (omega (arith, s .narrow, s .few, s .pairs, buffer-low (r .buffer))) ∙ r .right q a l x y z;
+    }
+
+-- ---- what is kept
+
+pub outside-refl : (prices wide : ℕ) (st : List ℕ) → Outside prices wide st st
+outside-refl prices wide st = record { long = refl; below = λ k x y. refl; above = λ k x. refl }
+
+pub outside-join : {prices wide : ℕ} {x y z : List ℕ} → Outside prices wide x y → Outside prices wide y z → Outside prices wide x z
+outside-join f g =
+    record { long = g .long ∙ f .long; below = λ k x y. g .below k x y ∙ f .below k x y; above = λ k x. g .above k x ∙ f .above k x }
+
+pub outside-layers : {prices wide a b : ℕ} {old new : List ℕ} → 98304 ≤ prices → Frame a b old new → b ≤ 98304 → Outside prices wide old new
+outside-layers p f h = record { long = f .long; below = λ k x y. f .high k (omega arith); above = λ k x. f .high k (omega arith) }
+
+pub outside-prices : {prices wide a b : ℕ} {old new : List ℕ} → Frame a b old new → prices ≤ a → b ≤ prices + wide → Outside prices wide old new
+outside-prices f p q = record { long = f .long; below = λ k x y. f .low k (omega arith); above = λ k x. f .high k (omega arith) }
+
+pub outside-widen : {prices wide more : ℕ} {old new : List ℕ} → Outside prices wide old new → wide ≤ more → Outside prices more old new
+outside-widen f h = record { long = f .long; below = f .below; above = λ k x. f .above k (omega arith) }
+
+-- ---- prices, as far as the layers have come
+
+module _ (D : Deck) (R : ℕ) (f : Layer) (i p : ℕ) where
+  priceTo-past : (q a : ℕ) → p + suc R < i + offset R q → priceTo D R f i p q a ≡ B
+  unfolding priceTo
+  priceTo-past q a h = rw (lt-leb (i + offset R q) (p + suc R) h)
+
+  priceTo-at : (q a d : ℕ) → i + d + offset R q ≡ p + suc R → priceTo D R f i p q a ≡ layers D R f i d q a
+  unfolding priceTo
+  priceTo-at q a d e =
+      let z : p + suc R - offset R q - i ≡ d = omega arith in
+      rw (le-leb (i + offset R q) (p + suc R) (omega arith)) (ap (λ (k : ℕ). layers D R f i k q a) z)
+
+  by-past : (q a d : ℕ) → p + suc R < i + d + offset R q → priceBy D R f i p d q a ≡ priceTo D R f i p q a
+  unfolding priceBy
+  by-past q a d h = rw (lt-ltb (p + suc R) (i + d + offset R q) h)
+
+  by-ahead : (q a d : ℕ) → i + d + offset R q ≤ p + suc R → priceBy D R f i p d q a ≡ B
+  unfolding priceBy
+  by-ahead q a d h = rw (le-ltb (p + suc R) (i + d + offset R q) h)
+
+  pub price-none : (q a : ℕ) → priceBy D R f i p 0 q a ≡ B
+  price-none q a = go (leb (i + 0 + offset R q) (p + suc R)) (le? (i + 0 + offset R q) (p + suc R))
+    where
+      go : (t : Bool) → Le? (i + 0 + offset R q) (p + suc R) t → priceBy D R f i p 0 q a ≡ B
+      go true (low h) = by-ahead q a 0 h
+      go false (high h) = by-past q a 0 h ∙ priceTo-past q a (omega arith)
+
+  -- with one layer more
+  pub price-more : (q a d : ℕ)
+      → priceBy D R f i p (d + 1) q a ≡ cond (eqb (i + d + offset R q) (p + suc R)) (layers D R f i d q a) (priceBy D R f i p d q a)
+  price-more q a d = go (eqb (i + d + offset R q) (p + suc R)) (eq? (i + d + offset R q) (p + suc R)) (leb (i + d + offset R q) (p + suc R)) (le? (i + d + offset R q) (p + suc R))
+    where
+      go : (s : Bool) → Eq? (i + d + offset R q) (p + suc R) s → (t : Bool) → Le? (i + d + offset R q) (p + suc R) t
+          → priceBy D R f i p (d + 1) q a ≡ cond s (layers D R f i d q a) (priceBy D R f i p d q a)
+      go true (same e) t h = by-past q a (d + 1) (omega arith) ∙ priceTo-at q a d e
+      go false (differs n) true (low h) = by-ahead q a (d + 1) (omega arith) ∙ sym (by-ahead q a d h)
+      go false (differs n) false (high h) = by-past q a (d + 1) (omega arith) ∙ sym (by-past q a d h)
+
+  -- with all layers
+  pub price-all : (q a d : ℕ) → p + suc R ≤ i + d → priceBy D R f i p (d + 1) q a ≡ priceTo D R f i p q a
+  price-all q a d h = by-past q a (d + 1) (omega arith)
+
+-- ---- delivering
+
+module _ (R i p : ℕ) (st : List ℕ) (at prices l q a : ℕ) where
+  pub delivered-skip : (i + offset R q ≡ p + suc R → ⊥) → delivered R i p st at prices l q a ≡ layerIn st prices l q a
+  delivered-skip n = ap (λ (t : Bool). cond t (layerIn st at l q a) (layerIn st prices l q a)) (ne-eqb _ _ n)
+
+  pub delivered-take : i + offset R q ≡ p + suc R → delivered R i p st at prices l q a ≡ layerIn st at l q a
+  delivered-take e = ap (λ (t : Bool). cond t (layerIn st at l q a) (layerIn st prices l q a)) (eq-eqb _ _ e)
+
+-- a pair's block copied
+pub pair-copied :
+    {F : ℕ → Layer} (st : List ℕ) (at : ℕ) {to q : ℕ} {old new : List ℕ}
+    → Written (wordsFrom st (at + q * 4096)) (to + q * 4096) 4096 old new → ((a l : ℕ) → F l q a ≡ layerIn st at l q a)
+    → FilledPair F 64 to q 64 old new
+pair-copied st at {new = new} w e =
+    record {
+      frame = w .frame;
+      low = w .low;
+      right = λ a p l r.
+          ap (λ (k : ℕ). getD new k 0) (omega arith)
+          ∙ w .words (a * 64 + l) (omega arith)
+          ∙ ap (λ (k : ℕ). getD st k 0) (omega arith)
+          ∙ sym (e a l);
+    }
+
+-- one layer more is delivered
+pub priced-more :
+    {D : Deck} {R lanes i p d j at prices count : ℕ} {old mid new : List ℕ}
+    → Small D R lanes → count ≡ pairCount R → j ≡ i + d → Running D R lanes i d at old mid → PricedBy D R lanes i p d prices old mid
+    → Filled (delivered R j p mid at prices) 64 64 prices count mid new
+    → PricedBy D R lanes i p (d + 1) prices old new
+priced-more {D} {R} {lanes} {i} {p} {d} {at = at} {prices = prices} {old = old} {mid = mid} s c e r b f =
+    record {
+      right = λ q a l x y z.
+          f .right q (omega arith) a l (omega (arith, s .few)) (omega (arith, s .narrow))
+          ∙ ap (λ (k : ℕ). delivered R k p mid at prices l q a) e
+          ∙ ap₂ (cond (eqb (i + d + offset R q) (p + suc R))) (r .right q a l x y z) (b .right q a l x y z)
+          ∙ sym (price-more D R (layerIn old 0 l) i p q a d);
+    }
+
+-- one step more of the stretch: a layer, and what it delivers
+pub priced-step :
+    {D : Deck} {R lanes i p d at prices count : ℕ} {old mid step new : List ℕ}
+    → Small D R lanes → count ≡ pairCount R → 98304 ≤ prices → PricedRun D R lanes i p d at prices old mid
+    → Filled (nextFrom D R mid at (i + d)) lanes (D .poses) (49152 - at) count mid step
+    → Filled (delivered R (i + (d + 1)) p step (49152 - at) prices) 64 64 prices count step new
+    → PricedRun D R lanes i p (d + 1) (49152 - at) prices old new
+priced-step {D} {R} {lanes} {i} {p} {d} {at} {prices} s c h r f g =
+    let run = run-more c (r .running) f in
+    let b = buffer-low (r .running .buffer) in
+    record {
+      running = run-kept s run (g .frame) h;
+      priced = priced-more s c refl run
+          (record { right = λ q a l x y z. f .frame .high (prices + q * 4096 + a * 64 + l) (omega arith) ∙ r .priced .right q a l x y z })
+          g;
+      outside = outside-join (r .outside) (outside-join (outside-layers h (f .frame) (omega arith)) (outside-prices (g .frame) (omega arith) (omega arith)));
+      low = g .low;
+    }
+
+-- the stretch begins: the block of prices has B alone, and the first layer is delivered
+pub priced-start :
+    (D : Deck) (R lanes i p prices count : ℕ) {mid new : List ℕ}
+    → Small D R lanes → count ≡ pairCount R → 98304 ≤ prices
+    → ((k : ℕ) → k < 49152 → getD mid (prices + k) 0 ≡ B)
+    → Filled (delivered R i p mid 0 prices) 64 64 prices count mid new
+    → PricedRun D R lanes i p 0 0 prices new new
+priced-start D R lanes i p prices count {mid} {new} s c h none g =
+    let first = run-none D R lanes i {old = new} {st = mid} s (λ k v. sym (g .frame .low k (omega arith))) in
+    record {
+      running = run-none D R lanes i s (λ k v. refl);
+      priced = priced-more s c (omega arith) first
+          (record {
+            right = λ q a l x y z.
+                ap (λ (k : ℕ). getD mid k 0) (omega arith)
+                ∙ none (q * 4096 + a * 64 + l) (omega (arith, s .narrow, s .few, s .pairs))
+                ∙ sym (price-none D R (layerIn new 0 l) i p q a);
+          })
+          g;
+      outside = outside-refl prices 49152 new;
+      low = g .low;
+    }
+
+-- ---- only the entries of the first layer count
+
+module _ (D : Deck) (R : ℕ) (f g : Layer) (same : (q b : ℕ) → q < pairCount R → b < D .poses → f q b ≡ g q b) where
+  pub layers-ext : (i d q a : ℕ) → q < pairCount R → a < D .poses → layers D R f i d q a ≡ layers D R g i d q a
+  unfolding layers
+  layers-ext i zero q a x y = same q a x y
+  layers-ext i (suc d) q a x y = next-ext D R (layers D R f i d) (layers D R g i d) (λ p b v w. layers-ext i d p b v w) (i + d) q a
+
+  pub priceTo-ext : (i p q a : ℕ) → q < pairCount R → a < D .poses → priceTo D R f i p q a ≡ priceTo D R g i p q a
+  unfolding priceTo
+  priceTo-ext i p q a x y = ap (λ (z : ℕ). cond (leb (i + offset R q) (p + suc R)) z B) (layers-ext i (p + suc R - offset R q - i) q a x y)

@@ -1,0 +1,91 @@
+// A stretch: from its first layer, in block 0, to a tall cell; all lanes at once. The layers run on in the blocks at 0 and 49152 by turns.
+ghost use mathlib.Core.Path.{_≡_};
+ghost use Prim.Native.Nat.{ℕ, suc, _+_, _*_, _≤_, _<_};
+ghost use lib.ListN.{length};
+ghost use Rattle.model.specs.Steps.{pairCount};
+ghost use Rattle.lanes.specs.Store.{Low, FilledPair, Filled};
+ghost use Rattle.deck.specs.Words.{deckOf, PairWords};
+ghost use Rattle.layer.specs.Loops.{Given};
+ghost use Rattle.stretch.specs.Runs.{PriceRoom, delivered, Priced};
+
+// The prices of pair q, if it comes to the tall cell with the layer at `from`, which has i cells.
+fn deliver_pair(
+    store: &mut [u32],
+    pairs: &[u32],
+    r: usize,
+    i: usize,
+    tall: usize,
+    from: usize,
+    prices: usize,
+    q: usize,
+)
+    requires { ⌜ PairWords r (now pairs) × Low (now store) × PriceRoom (now store) prices × (q < pairCount r) × (i ≤ 100) × (tall < 64) × (from ≤ 49152) ⌝ }
+    ensures { λ _. ⌜ FilledPair (delivered r i tall (now (store .entry)) from prices) 64 prices q 64 (now (store .entry)) (now (store .exit)) ⌝ }
+{
+    if i + deck::word(pairs, q * 4) != tall + r + 1 {
+        return;
+    }
+    lanes::copy(store, from + q * 4096, prices + q * 4096, 4096);
+}
+
+// The prices of every pair that comes with that layer.
+fn deliver(
+    store: &mut [u32],
+    pairs: &[u32],
+    r: usize,
+    count: usize,
+    i: usize,
+    tall: usize,
+    from: usize,
+    prices: usize,
+)
+    requires { ⌜ PairWords r (now pairs) × Low (now store) × PriceRoom (now store) prices × (count ≡ pairCount r) × (i ≤ 100) × (tall < 64) × (from ≤ 49152) ⌝ }
+    ensures { λ _. ⌜ Filled (delivered r i tall (now (store .entry)) from prices) 64 64 prices count (now (store .entry)) (now (store .exit)) ⌝ }
+{
+    let mut q: usize = 0;
+    while q < count {
+        deliver_pair(store, pairs, r, i, tall, from, prices, q);
+        q += 1;
+    }
+}
+
+// The prices to the tall cell, to the block at `prices`.
+pub fn stretch_to(
+    store: &mut [u32],
+    line: &[u32],
+    pairs: &[u32],
+    n: usize,
+    poses: usize,
+    r: usize,
+    count: usize,
+    lanes: usize,
+    i: usize,
+    tall: usize,
+    prices: usize,
+)
+    requires { ⌜ Given (now line) (now pairs) (now store) n poses r count lanes i 0 × PriceRoom (now store) prices × (tall < 64) ⌝ }
+    ensures { λ _. ⌜ Priced (deckOf (now (line .entry)) n poses) r lanes i tall prices (now (store .entry)) (now (store .exit)) ⌝ }
+{
+    lanes::fill(store, prices, 49152, lanes::NONE);
+    deliver(store, pairs, r, count, i, tall, 0, prices);
+    let mut from: usize = 0;
+    let mut d: usize = 0;
+    while i + d < tall + r + 1 {
+        layer::step_layer(
+            store,
+            line,
+            pairs,
+            n,
+            poses,
+            r,
+            count,
+            lanes,
+            i + d,
+            from,
+            49152 - from,
+        );
+        from = 49152 - from;
+        d += 1;
+        deliver(store, pairs, r, count, i + d, tall, from, prices);
+    }
+}
