@@ -1,10 +1,10 @@
 // The numbers of a placement: steps, sites shifted, mirrored, changed, cost and drift.
 ghost use mathlib.Core.Path.{_≡_};
-ghost use Prim.Native.Nat.{ℕ, _+_, _*_, _≤_, _<_};
+ghost use Prim.Native.Nat.{_+_, _*_, _≤_, _<_};
 ghost use lib.ListN.{length};
 ghost use Rattle.definition.specs.Rules.{apart};
 ghost use Rattle.definition.specs.Cost.{stepsIn, isMirrored};
-ghost use Rattle.job.specs.Value.{jobOf, placementOf, poseAt};
+ghost use Rattle.job.specs.Value.{jobOf, placementOf};
 ghost use Rattle.order.specs.Words.{siteIn, givenIn};
 ghost use Rattle.placed.specs.Ready.{Ready};
 ghost use Rattle.placed.specs.Flat.{Flat};

@@ -1,8 +1,7 @@
 // The lowest cell that breaks a rule, counted from 1, or 0: rules 1 to 4 and 7, and a rule whose breakers are marked.
 ghost use mathlib.Core.Path.{_≡_};
-ghost use mathlib.Core.Bool.{not};
-ghost use Prim.Native.Nat.{ℕ, _+_, _*_, _≤_, _<_};
-ghost use lib.ListN.{length, getD};
+ghost use Prim.Native.Nat.{_+_, _*_, _≤_, _<_};
+ghost use lib.ListN.{length};
 ghost use Rattle.definition.specs.Lists.{from};
 ghost use Rattle.definition.specs.Rules.{offered, lowest, breaks1};
 ghost use Rattle.job.specs.Value.{cellOf, poseOf, jobOf, placementOf};

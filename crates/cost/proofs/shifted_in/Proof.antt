@@ -1,6 +1,6 @@
 -- Invariant: the total is the sum over the cells from k on, and it is small.
-use Prim.Native.Nat.{ℕ, suc, _+_, _*_, _-_, _≤_, _<_}
-use mathlib.Core.Path.{_≡_, refl, sym, ap, ap₂, _∙_}
+use Prim.Native.Nat.{ℕ, _*_, _-_, _≤_}
+use mathlib.Core.Path.{_≡_, sym, ap₂, _∙_}
 use mathlib.Core.List.{List}
 use Rattle.cost.specs.Sums.{sumFrom, shiftIn, sum-more, sum-none}
 use native.Mathlib.Omega.{arith}

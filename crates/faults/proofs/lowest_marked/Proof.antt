@@ -1,6 +1,6 @@
 -- Invariant: the cell is the lowest that is marked among those from k on.
-use Prim.Native.Nat.{ℕ, suc, _+_, _-_, _≤_, _<_}
-use mathlib.Core.Path.{_≡_, refl, sym, ap, ap₂, _∙_}
+use Prim.Native.Nat.{ℕ, _-_, _≤_}
+use mathlib.Core.Path.{_≡_, sym, ap₂, _∙_}
 use native.Mathlib.Numerals.{add-one}
 use Rattle.definition.specs.Lists.{from}
 use Rattle.definition.specs.Rules.{lowest}
