@@ -1,5 +1,5 @@
 -- The rules that are judged along a row, 5 and 6, on the words of a placed job. Who breaks them is marked, for a row in general.
-use Prim.Native.Nat.{ℕ, _-_, _≤_, _<_}
+use Prim.Native.Nat.{ℕ, _-_, _<_}
 use mathlib.Core.Path.{_≡_}
 use mathlib.Core.Bool.{Bool, not, _&&_, _||_, cond}
 use mathlib.Core.List.{List}

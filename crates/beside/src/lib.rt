@@ -1,8 +1,8 @@
 // Who breaks rules 5 and 6 in a row, marked.
 ghost use mathlib.Core.Path.{_≡_};
-ghost use Prim.Native.Nat.{ℕ, _+_, _*_, _≤_, _<_};
+ghost use Prim.Native.Nat.{_+_, _*_, _≤_, _<_};
 ghost use lib.ListN.{length, drop};
-ghost use Rattle.order.specs.Words.{Room, Placed, cellsIn};
+ghost use Rattle.order.specs.Words.{Room, cellsIn};
 ghost use Rattle.beside.specs.Marks.{nearIn, outBy, outAt, outIn, orderIn, Added};
 use order::entry;
 use order::places;

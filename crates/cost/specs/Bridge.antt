@@ -1,19 +1,17 @@
 -- The program's sums are the definition's numbers. Assumes nothing.
-use Prim.Native.Nat.{ℕ, zero, suc, _+_, _*_, _≤_, _<_}
-use mathlib.Core.Path.{_≡_, refl, sym, ap, ap₂, fun-ext, _∙_}
-use mathlib.Core.Bool.{Bool}
+use Prim.Native.Nat.{ℕ, _+_, _*_, _≤_, _<_}
+use mathlib.Core.Path.{_≡_, sym, ap, ap₂, fun-ext}
 use mathlib.Core.List.{List}
 use native.Mathlib.Omega.{arith}
 use lib.ListN.{length}
 use Rattle.definition.specs.Lists.{from, sum, keep}
 use Rattle.definition.specs.Job as paper
 use Rattle.definition.specs.Placement as text
-use Rattle.definition.specs.Rules.{cellAt, siteAt, apart}
+use Rattle.definition.specs.Rules.{apart}
 use Rattle.definition.specs.Cost.{steps, stepsIn, shifted, mirrored, changed, cost, isMirrored}
 use Rattle.job.specs.declared.Job.{Job}
 use Rattle.job.specs.declared.Placement.{Placement}
 use Rattle.job.specs.Value.{jobOf, headerOf, placementOf}
-use Rattle.order.specs.Words.{siteIn, givenIn}
 use Rattle.placed.specs.Ready.{Ready}
 use Rattle.placed.specs.Flat.{Flat}
 use Rattle.placed.specs.Laws.{pose-there}

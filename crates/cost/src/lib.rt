@@ -1,9 +1,11 @@
 // The numbers of a placement: steps, sites shifted, mirrored, changed, cost and drift.
 ghost use mathlib.Core.Path.{_≡_};
-ghost use Prim.Native.Nat.{ℕ, _+_, _*_, _≤_, _<_};
+ghost use Prim.Native.Nat.{_+_, _*_, _≤_, _<_};
 ghost use lib.ListN.{length};
+ghost use Rattle.definition.specs.Rules.{apart};
 ghost use Rattle.definition.specs.Cost.{stepsIn, isMirrored};
-ghost use Rattle.job.specs.Value.{jobOf, placementOf, poseAt};
+ghost use Rattle.job.specs.Value.{jobOf, placementOf};
+ghost use Rattle.order.specs.Words.{siteIn, givenIn};
 ghost use Rattle.placed.specs.Ready.{Ready};
 ghost use Rattle.placed.specs.Flat.{Flat};
 ghost use Rattle.drift.specs.Total.{Digits};
@@ -28,6 +30,14 @@ pub struct Numbers {
     pub drift: i32,
 }
 
+// Sites shifted, of one cell: once, in whichever rows it stands.
+fn shift_of(words: &[u32], k: usize) -> u32
+    requires { ⌜ (length (now words) ≡ 256) × (k < 64) ⌝ }
+    ensures { λ r. ⌜ (r ≡ apart (siteIn (now (words .entry)) k) (givenIn (now (words .entry)) k)) × (r ≤ siteIn (now (words .entry)) k + givenIn (now (words .entry)) k) ⌝ }
+{
+    apart_of(words[4 * k], words[4 * k + 3])
+}
+
 // Sites shifted, over all cells.
 fn shifted_in(words: &[u32], count: usize) -> u32
     requires { ⌜ (count ≤ 64) × (length (now words) ≡ 256) × Digits (now words) count ⌝ }
@@ -37,7 +47,7 @@ fn shifted_in(words: &[u32], count: usize) -> u32
     let mut k: usize = count;
     while 0 < k {
         k -= 1;
-        total += apart_of(words[4 * k], words[4 * k + 3]);
+        total += shift_of(words, k);
     }
     total
 }

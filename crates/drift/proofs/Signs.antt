@@ -1,17 +1,17 @@
 -- Signed numbers of 32 bits: a negation fits, and what driftOf is on each side of zero.
-use Prim.Native.Nat.{ℕ, zero, suc, _+_, _*_, _-_, _/_, _^_, _<_, _≤_}
+use Prim.Native.Nat.{ℕ, zero, suc, _+_, _*_, _-_, _^_, _<_, _≤_}
 use mathlib.Core.Path.{_≡_, refl, sym, ap, ap₂, subst, _∙_}
 use mathlib.Core.Bool.{Bool, true, false, cond}
 use native.Mathlib.Omega.{arith}
-use lib.Dec.{T, eqb, ltb}
+use lib.Dec.{T, ltb}
 use lib.IntN.{ℤ, pos, negsuc, negℤ, natAbs, subℕ, _+ℤ_, _-ℤ_, +ℤ-idl}
 use lib.Signed.{ltZ, nonNeg, mag}
 use mir.Syntax.{w32}
-use mir.Val.{SFits, Fits, toZ, ofZ}
+use mir.Val.{SFits, toZ, ofZ}
 use mir.Facts.{toZ-ofZ}
 use Rattle.definition.specs.Cost.{nearest, hundredths}
 use Rattle.drift.specs.Total.{driftOf}
-use borrow.Author.Tests.{ne-eqb, lt-ltb, le-ltb, eq-eqb, ltb-true}
+use borrow.Author.Tests.{ne-eqb, eq-eqb, ltb-true}
 
 pub neg-fits : (z : ℤ) → natAbs z < 2 ^ 31 → SFits w32 (negℤ z)
 neg-fits (pos zero) h = record { sfits = h }

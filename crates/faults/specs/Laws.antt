@@ -1,9 +1,9 @@
 -- What a search through the cells finds: any that passes a test, and the lowest. Booleans. Assumes nothing.
 use Prim.Native.Nat.{ℕ, zero, suc, _+_, _≤_, _<_, min}
 use mathlib.Core.Path.{_≡_, refl, sym, ap, ap₂, _∙_}
-use mathlib.Core.Bool.{Bool, true, false, not, _&&_, _||_, cond, true≢false}
+use mathlib.Core.Bool.{Bool, true, false, not, _&&_, _||_, cond}
 use mathlib.Core.List.{List, [], _∷_}
-use lib.ListN.{length, getD, take, length-take}
+use lib.ListN.{length, length-take}
 use native.Mathlib.Omega.{arith}
 use native.Mathlib.Decide.{ℕ-discrete}
 use lib.Dec.{leb, ltb, eqb}
@@ -18,7 +18,7 @@ use Rattle.job.specs.Value as value
 use Rattle.job.specs.Value.{cellOf, poseOf, jobOf, placementOf, layoutOf}
 use Rattle.placed.specs.Laws.{cell-there, pose-there}
 use Rattle.order.specs.Words.{siteIn, endIn, rowIn, givenIn, standsIn}
-use Rattle.faults.specs.Tests.{pastIn, farIn, shareIn, clashIn, wrongIn, passesIn, markedIn}
+use Rattle.faults.specs.Tests.{pastIn, farIn, shareIn, clashIn, wrongIn, passesIn}
 
 -- ---- Booleans
 
@@ -133,13 +133,15 @@ pub share-two : (a b : ℕ) → ((standsIn 0 a && standsIn 0 b) || (standsIn 1 a
 unfolding shareIn
 share-two a b = rw (or-false (standsIn 1 a && standsIn 1 b))
 
-pub marked-true : (marks : List ℕ) (k : ℕ) → getD marks k 0 ≡ 1 → markedIn marks k ≡ true
-unfolding markedIn
-marked-true marks k h = eq-eqb (getD marks k 0) 1 h
+-- one more cell in front of those from k on
+module _ (f : ℕ → Bool) (i k n m : ℕ) (e : k ≡ suc i) (q : n ≡ suc m) where
+  pub lowest-more : f i ≡ true → lowest f (from i n) ≡ suc i
+  unfolding lowest
+  lowest-more t = rw (q, t)
 
-pub marked-false : (marks : List ℕ) (k : ℕ) → (getD marks k 0 ≡ 1 → ⊥) → markedIn marks k ≡ false
-unfolding markedIn
-marked-false marks k h = ne-eqb (getD marks k 0) 1 h
+  pub lowest-rest : f i ≡ false → lowest f (from i n) ≡ lowest f (from k m)
+  unfolding lowest
+  lowest-rest t = rw (q, t, e)
 
 -- ---- rule 1
 

@@ -1,9 +1,8 @@
 -- The rules that are judged cell by cell, on the words of a placed job. They are the definition's: see Flat in crate rules.
-use Prim.Native.Nat.{ℕ, _≤_, _<_}
-use mathlib.Core.Path.{_≡_}
+use Prim.Native.Nat.{ℕ}
 use mathlib.Core.Bool.{Bool, not, _&&_, _||_}
 use mathlib.Core.List.{List}
-use lib.ListN.{length, getD}
+use lib.ListN.{getD}
 use lib.Dec.{leb, ltb, eqb}
 use Rattle.definition.specs.Lists.{from, any}
 use Rattle.definition.specs.Job.{bothRows}

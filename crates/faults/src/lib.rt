@@ -1,8 +1,7 @@
 // The lowest cell that breaks a rule, counted from 1, or 0: rules 1 to 4 and 7, and a rule whose breakers are marked.
 ghost use mathlib.Core.Path.{_≡_};
-ghost use mathlib.Core.Bool.{not};
-ghost use Prim.Native.Nat.{ℕ, _+_, _*_, _≤_, _<_};
-ghost use lib.ListN.{length, getD};
+ghost use Prim.Native.Nat.{_+_, _*_, _≤_, _<_};
+ghost use lib.ListN.{length};
 ghost use Rattle.definition.specs.Lists.{from};
 ghost use Rattle.definition.specs.Rules.{offered, lowest, breaks1};
 ghost use Rattle.job.specs.Value.{cellOf, poseOf, jobOf, placementOf};
@@ -165,17 +164,19 @@ pub fn lowest_passing(words: &[u32], count: usize) -> u32
     0
 }
 
-// The lowest cell whose mark is 1.
+// The lowest cell whose mark is 1: the last that is met from the end.
 pub fn lowest_marked(marks: &[u32], count: usize) -> u32
     requires { ⌜ (count ≤ 64) × (length (now marks) ≡ 64) ⌝ }
     ensures { λ r. ⌜ r ≡ lowest (markedIn (now (marks .entry))) (from 0 count) ⌝ }
 {
-    let mut k: usize = 0;
-    while k < count {
-        if marks[k] == 1 {
-            return k as u32 + 1;
+    let mut cell: u32 = 0;
+    let mut k: usize = count;
+    while 0 < k {
+        k -= 1;
+        let marked = marks[k] == 1;
+        if marked {
+            cell = k as u32 + 1;
         }
-        k += 1;
     }
-    0
+    cell
 }

@@ -1,5 +1,5 @@
 -- The words of a placed job: for each cell its site, its end, its row and its given site. What a layout that the cell lacks reads as.
-use Prim.Native.Nat.{ℕ, _+_, _*_, _≤_, _<_}
+use Prim.Native.Nat.{ℕ, _+_, _*_}
 use mathlib.Core.Path.{_≡_}
 use mathlib.Core.List.{List}
 use lib.ListN.{length, getD, set}

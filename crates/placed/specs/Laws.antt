@@ -1,7 +1,7 @@
 -- Laws of the job and a placement as values, cell by cell, and of the words of a cell. Assumes nothing.
 use Prim.Native.Nat.{ℕ, zero, suc, _+_, _*_, _≤_, _<_}
 use mathlib.Core.Path.{_≡_, refl, sym, ap, ap₂, _∙_}
-use mathlib.Core.List.{List, [], _∷_, map}
+use mathlib.Core.List.{List, [], _∷_}
 use mathlib.Core.Logic.{_≢_}
 use native.Mathlib.Omega.{arith}
 use lib.ListN.{length, getD, take, set, replicate, length-set, length-take, length-map, List·getD-map, List·getD-eq-default}
@@ -12,15 +12,14 @@ use Rattle.rows.specs.Lists.{Le?, low, high, le?}
 use Rattle.definition.specs.Sound.{SoundCell}
 use Rattle.definition.specs.Job as paper
 use Rattle.definition.specs.Placement as text
-use Rattle.definition.specs.Rules.{noLayout, noCell, noPose, cellAt, poseAt, siteAt, endAt, layoutAt}
+use Rattle.definition.specs.Rules.{noLayout, noCell, noPose, cellAt, poseAt}
 use Rattle.job.specs.declared.Cell.{Cell}
 use Rattle.job.specs.declared.Job.{Job}
 use Rattle.job.specs.declared.Placement.{Placement}
 use Rattle.job.specs.Value as value
 use Rattle.job.specs.Value.{cellOf, jobOf, poseOf, placementOf, layoutOf}
-use Rattle.order.specs.Words.{siteIn, endIn, rowIn, givenIn}
 use Rattle.order.specs.Laws.{zeros-at}
-use Rattle.placed.specs.Flat.{widthIn, four, Shows, Flat, Blank}
+use Rattle.placed.specs.Flat.{widthIn, four, Shows, Blank}
 
 -- ---- cell k and pose k of a value
 

@@ -1,26 +1,20 @@
 -- The words of a placed job as functions of the cell, and the rows that they give. Assumes nothing.
 use Prim.Native.Nat.{ℕ}
-use mathlib.Core.Path.{_≡_, refl, sym, ap, ap₂, fun-ext, _∙_}
+use mathlib.Core.Path.{_≡_, sym, ap₂, fun-ext}
 use mathlib.Core.List.{List}
 use Rattle.definition.specs.Lists.{from, keep}
 use Rattle.definition.specs.Job as paper
 use Rattle.definition.specs.Placement as text
-use Rattle.definition.specs.Rules.{cellAt, siteAt, endAt, rowCells, sort, order}
-use Rattle.order.specs.Words.{siteIn, endIn, rowIn, givenIn, standsIn, cellsIn}
+use Rattle.definition.specs.Rules.{cellAt, siteAt, rowCells, sort, order}
+use Rattle.order.specs.Words.{siteIn, rowIn, standsIn, cellsIn}
 use Rattle.placed.specs.Flat.{Flat}
 
 module _ {j : paper.Job} {P : text.Placement} {n : ℕ} {words : List ℕ} (f : Flat j P n words) where
   pub flat-site : siteIn words ≡ siteAt P
   flat-site = fun-ext (λ k. f .shows k .site)
 
-  pub flat-end : endIn words ≡ endAt j P
-  flat-end = fun-ext (λ k. f .shows k .end)
-
   pub flat-row : rowIn words ≡ (λ k. cellAt j k .row)
   flat-row = fun-ext (λ k. f .shows k .row)
-
-  pub flat-given : givenIn words ≡ (λ k. cellAt j k .given)
-  flat-given = fun-ext (λ k. f .shows k .given)
 
   pub flat-cells : (row : ℕ) → cellsIn words row 0 n ≡ rowCells j row
   unfolding cellsIn

@@ -1,7 +1,7 @@
 // A job and a placement laid out flat: for each cell four words, its site, its end, its row and its given site.
 ghost use mathlib.Core.Path.{_≡_};
-ghost use Prim.Native.Nat.{ℕ, _+_, _*_, _≤_, _<_};
-ghost use lib.ListN.{length, getD};
+ghost use Prim.Native.Nat.{_+_, _*_, _≤_, _<_};
+ghost use lib.ListN.{length};
 ghost use Rattle.definition.specs.Rules.{apart};
 ghost use Rattle.job.specs.Value.{cellOf, jobOf, placementOf};
 ghost use Rattle.placed.specs.Ready.{Ready};

@@ -4,20 +4,20 @@ use mathlib.Core.Path.{_≡_, refl, sym, ap, ap₂, fun-ext, _∙_}
 use mathlib.Core.Bool.{Bool, true, false, not, _&&_, _||_, cond}
 use mathlib.Core.List.{List, [], _∷_}
 use native.Mathlib.Omega.{arith}
-use lib.ListN.{length, getD}
+use lib.ListN.{getD}
 use lib.Dec.{leb, ltb, eqb}
 use Rattle.definition.specs.Lists.{from, any, anyNext}
 use Rattle.definition.specs.Job as paper
 use Rattle.definition.specs.Job.{bothRows}
 use Rattle.definition.specs.Placement as text
-use Rattle.definition.specs.Rules.{cellAt, siteAt, endAt, apart, placeIn, rowCells, order, breaks1, breaks2, breaks3, breaks4, breaks5, breaks6, breaks7, besideOneSite, outOfPlace, rules, lowest, firstBroken, verdict}
+use Rattle.definition.specs.Rules.{apart, placeIn, breaks1, breaks2, breaks3, breaks4, breaks5, breaks6, breaks7, besideOneSite, outOfPlace, rules, lowest, firstBroken, verdict}
 use Rattle.job.specs.declared.Job.{Job}
 use Rattle.job.specs.Value.{jobOf, headerOf}
-use Rattle.order.specs.Words.{siteIn, endIn, rowIn, givenIn, standsIn, cellsIn}
+use Rattle.order.specs.Words.{standsIn, cellsIn}
 use Rattle.placed.specs.Flat.{Flat}
-use Rattle.placed.specs.Rows.{flat-site, flat-end, flat-row, flat-given, flat-cells, flat-order}
+use Rattle.placed.specs.Rows.{flat-cells, flat-order}
 use Rattle.faults.specs.Tests.{pastIn, farIn, shareIn, clashIn, clashesIn, wrongIn, passesIn, markedIn}
-use Rattle.beside.specs.Marks.{oneSite, nearIn, outBy, outIn, orderIn, Added}
+use Rattle.beside.specs.Marks.{nearIn, outBy, outIn, orderIn, Added}
 
 -- two tests that agree on the cells from a on find the same cell
 lowest-same : (f g : ℕ → Bool) (a n : ℕ) → ((k : ℕ) → a ≤ k → k < a + n → f k ≡ g k) → lowest f (from a n) ≡ lowest g (from a n)

@@ -1,7 +1,7 @@
 // The verdict on a placement: the first broken rule and its lowest cell.
 ghost use mathlib.Core.Path.{_≡_};
 ghost use mathlib.Core.List.{[], _∷_};
-ghost use Prim.Native.Nat.{ℕ, _≤_};
+ghost use Prim.Native.Nat.{_≤_};
 ghost use lib.ListN.{length};
 ghost use Rattle.definition.specs.Lists.{from};
 ghost use Rattle.definition.specs.Rules.{firstBroken, verdict};

@@ -1,7 +1,7 @@
 // Steps: the charge of a gap, the differing heights of neighbours, and their sum over a row.
 ghost use mathlib.Core.Path.{_≡_};
-ghost use Prim.Native.Nat.{ℕ, _+_, _*_, _-_, _≤_, _<_, min};
-ghost use lib.ListN.{length, getD, drop};
+ghost use Prim.Native.Nat.{_+_, _*_, _-_, _≤_, _<_, min};
+ghost use lib.ListN.{length, drop};
 ghost use Rattle.definition.specs.Lists.{sumNext};
 ghost use Rattle.definition.specs.Cost.{charge, stepsAt};
 ghost use Rattle.job.specs.Value.{cellOf, poseOf, jobOf, placementOf, heightCount};

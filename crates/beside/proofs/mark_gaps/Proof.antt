@@ -1,12 +1,12 @@
 -- Invariant: marked are the neighbours at one site among the cells from i on. The row is walked from the right.
-use Prim.Native.Nat.{ℕ, suc, _+_, _-_, _≤_, _<_, min}
-use mathlib.Core.Path.{_≡_, refl, sym, ap, ap₂, _∙_}
-use mathlib.Core.Bool.{Bool, true, false, cond, _||_}
+use Prim.Native.Nat.{ℕ, _+_, _-_, _≤_, _<_, min}
+use mathlib.Core.Path.{_≡_, sym, ap, _∙_}
+use mathlib.Core.Bool.{Bool, true, false}
 use mathlib.Core.List.{List}
-use lib.ListN.{length, getD, drop, set, length-set}
-use lib.Dec.{leb, eqb}
+use lib.ListN.{length, getD, drop, length-set}
+use lib.Dec.{leb}
 use Rattle.rows.specs.Lists.{Le?, low, high, le?}
-use Rattle.beside.specs.Marks.{oneSite, nearIn, Added}
+use Rattle.beside.specs.Marks.{nearIn, Added}
 use Rattle.beside.specs.Laws.{near-last, near-one, near-other, added-none, added-same}
 use native.Mathlib.Omega.{arith}
 use borrow.Author.Needs.{needs}

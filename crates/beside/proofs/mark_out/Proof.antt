@@ -1,12 +1,12 @@
 -- Invariant: the cells from k on are judged, and the marks of those below are as they were.
-use Prim.Native.Nat.{ℕ, suc, _+_, _-_, _≤_, _<_}
-use mathlib.Core.Path.{_≡_, refl, sym, ap, _∙_}
-use mathlib.Core.Bool.{Bool, true, false, cond}
+use Prim.Native.Nat.{ℕ, suc, _-_, _≤_, _<_}
+use mathlib.Core.Path.{_≡_, refl, _∙_}
+use mathlib.Core.Bool.{true, false, cond}
 use mathlib.Core.List.{List}
 use native.Mathlib.Decide.{ℕ-discrete}
 use lib.ListN.{length, getD, set, length-set}
 use lib.Seq.{getD-set-same, getD-set-other}
-use Rattle.beside.specs.Marks.{outAt, Added}
+use Rattle.beside.specs.Marks.{outAt}
 use Rattle.beside.specs.Laws.{out-at}
 use native.Mathlib.Omega.{arith}
 use borrow.Author.Needs.{needs}

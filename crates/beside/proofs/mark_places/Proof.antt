@@ -2,7 +2,7 @@
 use Prim.Native.Nat.{ℕ, _<_, _≤_}
 use native.Mathlib.Omega.{arith}
 use lib.ListN.{drop}
-use Rattle.beside.specs.Marks.{outAt, outIn}
+use Rattle.beside.specs.Marks.{outIn}
 use Rattle.beside.specs.Laws.{away-placed, added-below, out-same}
 use borrow.Author.Needs.{needs}
 use Rattle.beside.proofs.mark_places.Statement.{statement}

@@ -1,9 +1,7 @@
 -- The order and the file order of the row are those that the first two calls have written.
-use native.Mathlib.Omega.{arith}
-use mathlib.Core.Path.{_≡_, refl, sym, ap, _∙_}
-use lib.ListN.{drop}
+use mathlib.Core.Path.{ap, _∙_}
 use Rattle.definition.specs.Rules.{sort}
-use Rattle.order.specs.Words.{siteIn, cellsIn, Tail}
+use Rattle.order.specs.Words.{siteIn}
 use Rattle.order.specs.Laws.{zeros-room}
 use Rattle.beside.specs.Marks.{orderIn}
 use borrow.Author.Needs.{needs}

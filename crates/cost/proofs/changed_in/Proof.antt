@@ -1,13 +1,11 @@
 -- Invariant: the total counts the cells in layout 1 from k on.
 use lib.Dec.{eqb}
-use Prim.Native.Nat.{ℕ, suc, _+_, _*_, _-_, _≤_, _<_}
-use mathlib.Core.Path.{_≡_, refl, sym, ap, ap₂, _∙_}
-use mathlib.Core.Bool.{true, false}
+use Prim.Native.Nat.{ℕ, _+_, _-_, _≤_}
+use mathlib.Core.Path.{_≡_, sym, ap, ap₂, _∙_}
 use Rattle.job.specs.declared.Placement.{Placement}
 use Rattle.job.specs.Value.{placementOf, poseAt}
 use Rattle.placed.specs.Laws.{pose-there}
 use borrow.Author.Tests.{eq-eqb, ne-eqb}
-use Rattle.definition.specs.Cost.{isMirrored}
 use Rattle.cost.specs.Sums.{countFrom, isChanged, count-more, count-same, count-none}
 use native.Mathlib.Omega.{arith}
 use Rattle.cost.proofs.changed_in.Statement.{statement}

@@ -1,14 +1,13 @@
 -- Invariant: the total counts the mirrored cells from k on.
 use lib.Dec.{eqb}
-use Prim.Native.Nat.{ℕ, suc, _+_, _*_, _-_, _≤_, _<_}
-use mathlib.Core.Path.{_≡_, refl, sym, ap, ap₂, _∙_}
-use mathlib.Core.Bool.{true, false}
+use Prim.Native.Nat.{ℕ, _+_, _-_, _≤_}
+use mathlib.Core.Path.{_≡_, sym, ap, ap₂, _∙_}
 use Rattle.job.specs.declared.Placement.{Placement}
 use Rattle.job.specs.Value.{placementOf, poseAt}
 use Rattle.placed.specs.Laws.{pose-there}
 use borrow.Author.Tests.{eq-eqb, ne-eqb}
 use Rattle.definition.specs.Cost.{isMirrored}
-use Rattle.cost.specs.Sums.{countFrom, isChanged, count-more, count-same, count-none}
+use Rattle.cost.specs.Sums.{countFrom, count-more, count-same, count-none}
 use native.Mathlib.Omega.{arith}
 use Rattle.cost.proofs.mirrored_in.Statement.{statement}
 use Rattle.cost.proofs.mirrored_in.Tie as tie

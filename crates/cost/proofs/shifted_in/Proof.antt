@@ -1,8 +1,7 @@
 -- Invariant: the total is the sum over the cells from k on, and it is small.
-use Prim.Native.Nat.{ℕ, suc, _+_, _*_, _-_, _≤_, _<_}
-use mathlib.Core.Path.{_≡_, refl, sym, ap, ap₂, _∙_}
+use Prim.Native.Nat.{ℕ, _*_, _-_, _≤_}
+use mathlib.Core.Path.{_≡_, sym, ap₂, _∙_}
 use mathlib.Core.List.{List}
-use Rattle.order.specs.Words.{siteIn, givenIn}
 use Rattle.cost.specs.Sums.{sumFrom, shiftIn, sum-more, sum-none}
 use native.Mathlib.Omega.{arith}
 use borrow.Author.Needs.{needs}
@@ -28,36 +27,15 @@ loop-holds c =
 sub-k : tie.Need-sub-k Inv-loop μ-loop
 sub-k c = omega arith
 
-mul-apart-of : tie.Need-mul-apart-of Inv-loop μ-loop
-mul-apart-of c = omega arith
-
-mul-apart-of-2 : tie.Need-mul-apart-of-2 Inv-loop μ-loop
-mul-apart-of-2 c = omega arith
-
-shared-slice-read-apart-of : tie.Need-shared-slice-read-apart-of Inv-loop μ-loop
-shared-slice-read-apart-of c = omega arith
-
-mul-apart-of-3 : tie.Need-mul-apart-of-3 Inv-loop μ-loop
-mul-apart-of-3 c = omega arith
-
-add-apart-of : tie.Need-add-apart-of Inv-loop μ-loop
-add-apart-of c = omega arith
-
-mul-apart-of-4 : tie.Need-mul-apart-of-4 Inv-loop μ-loop
-mul-apart-of-4 c = omega arith
-
-shared-slice-read-apart-of-2 : tie.Need-shared-slice-read-apart-of-2 Inv-loop μ-loop
-shared-slice-read-apart-of-2 c = omega arith
-
-apart-of-requires : tie.Need-apart-of-requires Inv-loop μ-loop
-apart-of-requires c κs = search needs
+shift-of-requires : tie.Need-shift-of-requires Inv-loop μ-loop
+shift-of-requires c κs = search needs
 
 -- one cell's shift is small
-small : (c : tie.After-apart-of Inv-loop μ-loop) → c .apart-of .result ≤ 11022
+small : (c : tie.After-shift-of Inv-loop μ-loop) → c .shift-of .result ≤ 11022
 small c =
-    let p = c .before .before .before .before in
+    let p = c .before .before in
     let s = p .before .before in
-    omega (arith, c .apart-of .ensures .1, s .pre .2 (p .loop .k - 1) (omega arith))
+    omega (arith, c .shift-of .ensures .1, s .pre .2 (p .loop .k - 1) (omega arith))
 
 add-total : tie.Need-add-total Inv-loop μ-loop
 add-total c = omega (arith, small c)
@@ -68,13 +46,13 @@ loop-less c = omega arith
 loop-again : tie.Need-loop-again Inv-loop μ-loop
 unfolding shiftIn
 loop-again c =
-    let p = c .before .before .before .before in
+    let p = c .before .before in
     let s = p .before .before in
     let m = p .loop .inv in
     let w : List ℕ = s .args .words .now in
     let k : ℕ = p .loop .k - 1 in
     let e = sum-more k (p .loop .k) (s .args .count - k) (s .args .count - p .loop .k) (omega arith) (omega arith) (shiftIn w) in
-    record { below = omega arith; sum = omega (arith, e, c .apart-of .ensures .0, m .sum); small = omega (arith, small c) }
+    record { below = omega arith; sum = omega (arith, e, c .shift-of .ensures .0, m .sum); small = omega (arith, small c) }
 
 returns : tie.Need-returns Inv-loop μ-loop
 returns c =
@@ -90,14 +68,7 @@ shifted-in-spec =
     μ-loop
     loop-holds
     sub-k
-    mul-apart-of
-    mul-apart-of-2
-    shared-slice-read-apart-of
-    mul-apart-of-3
-    add-apart-of
-    mul-apart-of-4
-    shared-slice-read-apart-of-2
-    apart-of-requires
+    shift-of-requires
     add-total
     loop-less
     loop-again

@@ -1,7 +1,6 @@
 -- The order of the row is the definition's, and its entries are cells of the job.
 use native.Mathlib.Omega.{arith}
 use mathlib.Core.Path.{ap, sym, subst, _∙_}
-use lib.ListN.{drop}
 use Rattle.definition.specs.Lists.{sumNext}
 use Rattle.definition.specs.Cost.{stepsIn, stepsAt}
 use Rattle.job.specs.Value.{jobOf, placementOf}

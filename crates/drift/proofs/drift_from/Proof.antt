@@ -2,7 +2,6 @@
 use Prim.Native.Nat.{ℕ, _*_, _<_, _^_}
 use Rattle.definition.specs.Cost.{nearest}
 use mathlib.Core.Path.{_≡_, ap, sym, subst, _∙_}
-use mathlib.Core.Bool.{true, false}
 use native.Mathlib.Omega.{arith}
 use lib.IntN.{ℤ, pos, natAbs}
 use lib.Signed.{ltZ}

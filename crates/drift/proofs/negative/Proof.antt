@@ -2,7 +2,7 @@
 use mir.Syntax.{w32}
 use mir.Val.{SFits}
 use mathlib.Core.Path.{ap, _∙_}
-use lib.IntN.{pos, negℤ}
+use lib.IntN.{negℤ}
 use Rattle.drift.proofs.Signs.{minus-fits, minus-read}
 use borrow.Author.Needs.{needs}
 use Rattle.drift.proofs.negative.Statement.{statement}

@@ -1,15 +1,14 @@
 -- Invariant: the total is the signed sum over the cells from k on, and its size is small.
-use Prim.Native.Nat.{ℕ, suc, _+_, _*_, _-_, _≤_, _<_}
-use mathlib.Core.Path.{_≡_, refl, sym, ap, ap₂, _∙_}
+use Prim.Native.Nat.{ℕ, _+_, _*_, _-_, _≤_}
+use mathlib.Core.Path.{_≡_, sym, ap, ap₂, _∙_}
 use mathlib.Core.List.{List}
-use lib.IntN.{ℤ, pos, natAbs, _+ℤ_, _-ℤ_}
+use lib.IntN.{pos, natAbs, _+ℤ_, _-ℤ_}
 use mir.Syntax.{w32}
-use mir.Val.{toZ, ofZ}
+use mir.Val.{toZ}
 use Rattle.order.specs.Words.{siteIn, givenIn}
 use Rattle.drift.specs.Total.{totalIn, total-more, total-none}
 use Rattle.drift.proofs.Signs.{read, sum-size, gap-size}
 use native.Mathlib.Omega.{arith}
-use borrow.Author.Needs.{needs}
 use Rattle.drift.proofs.total_shift.Statement.{statement}
 use Rattle.drift.proofs.total_shift.Tie as tie
 

@@ -1,12 +1,11 @@
 -- Invariant: no cell below k breaks the rule.
 use Rattle.faults.specs.Laws.{far-true, far-false}
-use Prim.Native.Nat.{ℕ, suc, _+_, _-_, _≤_, _<_}
-use mathlib.Core.Path.{_≡_, refl, sym, ap, _∙_}
-use mathlib.Core.Bool.{true, false}
+use Prim.Native.Nat.{ℕ, _-_, _≤_, _<_}
+use mathlib.Core.Path.{_≡_, sym, _∙_}
+use mathlib.Core.Bool.{false}
 use native.Mathlib.Numerals.{add-one}
 use borrow.Author.Count.{below-more}
-use Rattle.order.specs.Words.{siteIn, endIn, rowIn, givenIn}
-use Rattle.faults.specs.Tests.{pastIn, farIn, clashesIn, passesIn, markedIn}
+use Rattle.faults.specs.Tests.{farIn}
 use Rattle.faults.specs.Laws.{lowest-found, lowest-none}
 use native.Mathlib.Omega.{arith}
 use borrow.Author.Needs.{needs}

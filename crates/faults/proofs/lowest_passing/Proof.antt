@@ -1,10 +1,10 @@
 -- Invariant: no cell below k breaks the rule.
-use Prim.Native.Nat.{ℕ, suc, _+_, _-_, _≤_, _<_}
-use mathlib.Core.Path.{_≡_, refl, sym, ap, _∙_}
-use mathlib.Core.Bool.{true, false}
+use Prim.Native.Nat.{ℕ, _-_, _≤_, _<_}
+use mathlib.Core.Path.{_≡_, sym, _∙_}
+use mathlib.Core.Bool.{false}
 use native.Mathlib.Numerals.{add-one}
 use borrow.Author.Count.{below-more}
-use Rattle.faults.specs.Tests.{clashesIn, passesIn}
+use Rattle.faults.specs.Tests.{passesIn}
 use Rattle.faults.specs.Laws.{lowest-found, lowest-none}
 use native.Mathlib.Omega.{arith}
 use borrow.Author.Needs.{needs}

@@ -1,9 +1,9 @@
 -- Invariant: no cell below b is on the wrong side of k.
-use Prim.Native.Nat.{ℕ, suc, _+_, _-_, _≤_, _<_}
-use mathlib.Core.Path.{_≡_, refl, sym, ap, _∙_}
-use mathlib.Core.Bool.{true, false}
+use Prim.Native.Nat.{ℕ, _-_, _≤_, _<_}
+use mathlib.Core.Path.{_≡_, sym, _∙_}
+use mathlib.Core.Bool.{false}
 use borrow.Author.Count.{below-more}
-use Rattle.faults.specs.Tests.{clashIn, clashesIn, wrongIn, passesIn}
+use Rattle.faults.specs.Tests.{wrongIn}
 use Rattle.faults.specs.Laws.{any-found, any-none, passes-low, passes-tall}
 use native.Mathlib.Omega.{arith}
 use borrow.Author.Needs.{needs}

@@ -1,6 +1,6 @@
 -- Invariant: the words of the cells below k are written, and those from k on are still 0, which is what a cell that the job lacks shows.
 use Prim.Native.Nat.{ℕ, suc, _+_, _*_, _-_, _≤_, _<_}
-use mathlib.Core.Path.{_≡_, refl, sym, ap, ap₂, subst, _∙_}
+use mathlib.Core.Path.{_≡_, ap, _∙_}
 use mathlib.Core.List.{List}
 use lib.ListN.{length, getD, length-map}
 use borrow.Author.Count.{below-more}
@@ -12,9 +12,8 @@ use Rattle.rows.specs.Lists.{Le?, low, high, le?}
 use Rattle.definition.specs.Rules.{cellAt}
 use Rattle.job.specs.Value as value
 use Rattle.job.specs.Value.{cellOf, jobOf, placementOf, poseAt}
-use Rattle.placed.specs.Ready.{Ready}
-use Rattle.placed.specs.Flat.{widthIn, four, Shows, Flat, Blank}
-use Rattle.placed.specs.Laws.{cell-there, cell-lacking, pose-there, pose-lacking, four-long, four-other, four-site, four-end, four-row, four-given, shows-keep, shows-four, shows-none, cell-count, width-small}
+use Rattle.placed.specs.Flat.{widthIn, four, Shows}
+use Rattle.placed.specs.Laws.{cell-there, cell-lacking, pose-lacking, four-long, four-other, shows-keep, shows-four, shows-none, cell-count, width-small}
 use native.Mathlib.Omega.{arith}
 use borrow.Author.Needs.{needs}
 use Rattle.placed.proofs.flatten.Statement.{statement}

@@ -1,5 +1,5 @@
 -- Layout 0 or 1, if the cell has it; a layout that the cell lacks has width 0.
-use mathlib.Core.Path.{refl, sym, ap, _∙_}
+use mathlib.Core.Path.{sym, ap}
 use native.Mathlib.Omega.{arith}
 use Rattle.placed.specs.Laws.{width-first, width-second, layout-lacking, layout-beyond}
 use Rattle.placed.proofs.width_of.Statement.{statement}

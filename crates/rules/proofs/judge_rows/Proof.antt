@@ -1,10 +1,10 @@
 -- A cell is marked just if it breaks the rule in one of the two rows.
 use Prim.Native.Nat.{ℕ}
-use mathlib.Core.Path.{_≡_, refl, sym, subst}
+use mathlib.Core.Path.{refl, subst}
 use mathlib.Core.List.{List, [], _∷_}
 use Rattle.definition.specs.Lists.{from}
 use Rattle.order.specs.Laws.{zeros-at}
-use Rattle.faults.specs.Tests.{passesIn, markedIn}
+use Rattle.faults.specs.Tests.{passesIn}
 use Rattle.rules.specs.Judged.{Judged, first-same}
 use Rattle.rules.specs.Flat.{nearAny, outAny, near-lowest, out-lowest}
 use borrow.Author.Needs.{needs}

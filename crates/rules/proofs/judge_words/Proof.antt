@@ -1,6 +1,6 @@
 -- Rule by rule: the first that has a lowest cell is the verdict, and otherwise the later rules decide.
 use Prim.Native.Nat.{ℕ}
-use mathlib.Core.List.{List, [], _∷_}
+use mathlib.Core.List.{List, _∷_}
 use mathlib.Core.Bool.{Bool}
 use Rattle.definition.specs.Lists.{from}
 use Rattle.definition.specs.Rules.{firstBroken}

@@ -1,13 +1,11 @@
 -- The rules by the words are the definition's (specs/Flat).
 use Rattle.rules.specs.declared.Verdict.{Verdict}
 use Prim.Native.Nat.{ℕ}
-use mathlib.Core.Path.{_≡_, refl, sym, ap, ap₂, subst, _∙_}
+use mathlib.Core.Path.{subst}
 use mathlib.Core.Bool.{Bool}
-use mathlib.Core.List.{List, [], _∷_}
+use mathlib.Core.List.{List, _∷_}
 use Rattle.definition.specs.Lists.{from}
 use Rattle.definition.specs.Rules.{breaks1, firstBroken, verdict}
-use Rattle.job.specs.declared.Job.{Job}
-use Rattle.job.specs.declared.Placement.{Placement}
 use Rattle.job.specs.Value.{jobOf, placementOf}
 use Rattle.placed.specs.Laws.{zeros-blank}
 use Rattle.rules.specs.Judged.{Judged, broken-here, holds-here}

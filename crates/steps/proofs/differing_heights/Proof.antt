@@ -1,6 +1,6 @@
 -- The P and the N pair, each read at its edge.
 use Prim.Native.Nat.{_+_}
-use mathlib.Core.Path.{refl, sym, ap, ap₂, _∙_}
+use mathlib.Core.Path.{ap₂, _∙_}
 use native.Mathlib.Omega.{arith}
 use Rattle.job.specs.Value.{cellOf, poseOf}
 use Rattle.steps.specs.Heights.{unlike}

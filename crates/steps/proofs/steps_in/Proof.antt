@@ -2,19 +2,16 @@
 use mathlib.Core.Bool.{Bool, true, false}
 use lib.Dec.{leb}
 use Rattle.rows.specs.Lists.{Le?, low, high, le?}
-use Prim.Native.Nat.{ℕ, suc, _+_, _*_, _-_, _≤_, _<_, min}
-use mathlib.Core.Path.{_≡_, refl, sym, ap, ap₂, _∙_}
+use Prim.Native.Nat.{ℕ, _+_, _*_, _-_, _≤_, _<_, min}
+use mathlib.Core.Path.{_≡_, sym, ap, ap₂, _∙_}
 use mathlib.Core.List.{List}
 use lib.ListN.{length, getD, drop}
 use Rattle.definition.specs.Lists.{sumNext}
-use Rattle.definition.specs.Rules.{siteAt, endAt}
-use Rattle.definition.specs.Cost.{charge, differing, stepsAt}
+use Rattle.definition.specs.Cost.{stepsAt}
 use Rattle.job.specs.declared.Job.{Job}
 use Rattle.job.specs.declared.Placement.{Placement}
 use Rattle.job.specs.Value.{jobOf, placementOf}
-use Rattle.order.specs.Below.{Below, below-tail}
-use Rattle.placed.specs.Laws.{cell-there, pose-there}
-use Rattle.steps.specs.Heights.{differingOf, differing-of}
+use Rattle.order.specs.Below.{below-tail}
 use Rattle.steps.specs.Laws.{sum-last, sum-more, steps-value}
 use native.Mathlib.Omega.{arith}
 use borrow.Author.Needs.{needs}

@@ -1,5 +1,5 @@
 -- The charge of the gap that the words give, times the differing heights.
-use Prim.Native.Nat.{_+_, _*_, _≤_}
+use Prim.Native.Nat.{_*_, _≤_}
 use mathlib.Core.Path.{ap, ap₂, _∙_}
 use native.Mathlib.Omega.{arith}
 use Rattle.definition.specs.Cost.{charge}
