@@ -1,6 +1,6 @@
 // Steps: the charge of a gap, the differing heights of neighbours, and their sum over a row.
 ghost use mathlib.Core.Path.{_≡_};
-ghost use Prim.Native.Nat.{_+_, _*_, _-_, _≤_, _<_, min};
+ghost use Prim.Native.Nat.{_+_, _*_, _-_, _≤_, _<_};
 ghost use lib.ListN.{length, drop};
 ghost use Rattle.definition.specs.Lists.{sumNext};
 ghost use Rattle.definition.specs.Cost.{charge, stepsAt};
@@ -9,26 +9,18 @@ ghost use Rattle.order.specs.Words.{siteIn, endIn, Room};
 ghost use Rattle.order.specs.Below.{Below};
 ghost use Rattle.placed.specs.Flat.{Flat};
 ghost use Rattle.steps.specs.Heights.{heightIn, firstOf, leftOf, rightOf, unlike, differingOf};
+use gap::charge_of;
 use job::Cell;
 use job::Job;
 use job::Placement;
 use job::Pose;
 use order::entry;
 
-// What a step costs at a gap of 0, 1, 2, 3 and of 4 or more.
-const CHARGES: [u32; 5] = [1, 0, 1, 1, 0];
-
-fn gap_index(gap: u32) -> usize
-    ensures { λ r. ⌜ r ≡ min gap 4 ⌝ }
-{
-    if gap < 4 { gap as usize } else { 4 }
-}
-
+// What a step costs at a gap.
 pub fn charge_at(gap: u32) -> u32
     ensures { λ r. ⌜ (r ≡ charge gap) × (r ≤ 1) ⌝ }
 {
-    let i = gap_index(gap);
-    CHARGES[i]
+    charge_of(gap as usize)
 }
 
 // The empty sites between an end and the next site; none if they overlap.
