@@ -14,6 +14,7 @@
  *   2       a field of the line is out of range
  *   3       the line's cell is the 65th, or the 25th tall one
  *   4       the line's given site is below an earlier one in its row
+ *   5       the placement's line is bad, missing or surplus
  */
 #ifndef REFINER_H
 #define REFINER_H
@@ -27,6 +28,21 @@ extern "C" {
 
 /* Read. Refuses 1 to 4. Results: number, line, cells. */
 uint32_t refiner_read(const uint8_t *job, size_t job_len, int32_t *results, size_t results_len);
+
+/* Score. Refuses 1 to 4 as Read does, then 5. Results: number, line, rule, cell, steps, sites
+ * shifted, mirrored, changed, cost, drift. Rule and cell are 0 if the placement is legal, and
+ * otherwise the first broken rule and its lowest cell, counted from 1; the six numbers are then 0.
+ */
+uint32_t refiner_score(const uint8_t *job, size_t job_len, const uint8_t *placement,
+                       size_t placement_len, int32_t *results, size_t results_len);
+
+/* Fault line. Writes to `part`, as far as it reaches, where the line stands that Score reports of
+ * the same two texts: which text (0 the job, 1 the placement), its first byte, and its length with
+ * its line feed. A missing line and no fault give length 0 at the placement's end, a missing first
+ * job line length 0 at the job's start. Returns 0.
+ */
+uint32_t refiner_fault(const uint8_t *job, size_t job_len, const uint8_t *placement,
+                       size_t placement_len, uint64_t *part, size_t part_len);
 
 #ifdef __cplusplus
 }

@@ -6,8 +6,12 @@
 //! turn the numbers that a call leaves behind into plain structs.
 
 pub mod calls;
+mod fault;
 mod reading;
 mod refused;
+mod scoring;
 
+pub use fault::fault_line;
 pub use reading::{read, Read};
 pub use refused::Refused;
+pub use scoring::{score, Broken, Numbers, Verdict};

@@ -31,6 +31,7 @@ impl Refused {
             2 => "a field of the line is out of range",
             3 => "the line's cell is the 65th, or the 25th tall one",
             4 => "the line's given site is below an earlier one in its row",
+            5 => "the placement's line is bad, missing or surplus",
             _ => "the refiner gave a number that this program does not know",
         }
     }
@@ -42,6 +43,7 @@ impl Refused {
             2 => "bring each field of the line into its range",
             3 => "split the job: it holds at most 64 cells, of which at most 24 are tall",
             4 => "sort the cell lines so that given sites do not fall within a row",
+            5 => "give one line `site,layout,mirror` for each cell, in file order",
             _ => "build program and archive from the same sources",
         }
     }

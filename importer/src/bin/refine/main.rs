@@ -1,50 +1,69 @@
 //! `refine`: reads a job on standard input and prints how many cells it has, or
 //! `refused,number,line`. Placing follows with the refiner's own Place.
 //!
+//! `refine score JOBFILE PLACEMENTFILE` scores a placement.
+//!
 //! Exit status: 0 an answer, 1 a refusal, 2 a usage or input error.
 
 mod input;
 mod report;
 
+use importer::{fault_line, Verdict};
 use report::Report;
 use std::env;
-use std::ffi::OsString;
+use std::ffi::{OsStr, OsString};
 use std::process::ExitCode;
 
 const USAGE: &str = "\
 usage: refine < JOB
-  prints the job's cell count, or `refused,number,line` with the line itself on standard error
+  prints the job's cell count
+   or: refine score JOBFILE PLACEMENTFILE
+  prints `legal,cost,steps,sites shifted,mirrored,changed,drift`, or `broken,rule,cell`
+both print `refused,number,line` for a bad text, with the line itself on standard error
 exit status: 0 an answer, 1 a refusal, 2 a usage or input error
 ";
 
 fn main() -> ExitCode {
     let arguments: Vec<OsString> = env::args_os().skip(1).collect();
-    run(&arguments).write()
+    let report = run(&arguments);
+    report
+        .unwrap_or_else(|reason| Report::error(&reason))
+        .write()
 }
 
-fn run(arguments: &[OsString]) -> Report {
+/// The report of a run, or the reason why there is none.
+fn run(arguments: &[OsString]) -> Result<Report, String> {
     match arguments {
-        [] => match input::standard_input() {
-            Ok(job) => read(&job),
-            Err(reason) => Report::error(&reason),
-        },
-        [word] if word == "--help" || word == "-h" => Report::answer(USAGE.into()),
-        _ => Report::error(USAGE),
+        [] => Ok(read(&input::standard_input()?)),
+        [word, job, placement] if word == "score" => score(job, placement),
+        [word] if word == "--help" || word == "-h" => Ok(Report::answer(USAGE)),
+        _ => Err(USAGE.into()),
     }
 }
 
 fn read(job: &[u8]) -> Report {
     match importer::read(job) {
-        Ok(read) => Report::answer(format!("{}\n", read.cells).into()),
-        Err(refused) => Report::refusal(refused, line_of(job, refused.line)),
+        Ok(read) => Report::answer(format!("{}\n", read.cells)),
+        Err(refused) => Report::refusal(refused, fault_line(job, &[])),
     }
 }
 
-/// Line number `line` of a text, with its line feed; empty if the text has no such line.
-fn line_of(text: &[u8], line: u32) -> &[u8] {
-    let mut lines = text.split_inclusive(|&byte| byte == b'\n');
-    match (line as usize).checked_sub(1) {
-        Some(before) => lines.nth(before).unwrap_or_default(),
-        None => &[],
-    }
+fn score(job: &OsStr, placement: &OsStr) -> Result<Report, String> {
+    let job = input::file(job)?;
+    let placement = input::file(placement)?;
+    Ok(match importer::score(&job, &placement) {
+        Ok(Verdict::Legal(numbers)) => {
+            Report::answer(format!("legal,{}\n", report::line_of(&numbers)))
+        }
+        Ok(Verdict::Broken(broken)) => {
+            let note = format!(
+                "cell {} breaks rule {}: {}",
+                broken.cell,
+                broken.rule,
+                broken.meaning()
+            );
+            Report::answer(format!("broken,{},{}\n", broken.rule, broken.cell)).with_note(&note)
+        }
+        Err(refused) => Report::refusal(refused, fault_line(&job, &placement)),
+    })
 }

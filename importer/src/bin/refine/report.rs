@@ -1,6 +1,6 @@
 //! What a run prints and its exit status.
 
-use importer::Refused;
+use importer::{Numbers, Refused};
 use std::io::{self, Write};
 use std::process::ExitCode;
 
@@ -16,10 +16,10 @@ pub struct Report {
 
 impl Report {
     /// An answer, for standard output.
-    pub fn answer(output: Vec<u8>) -> Report {
+    pub fn answer(output: impl Into<Vec<u8>>) -> Report {
         Report {
             status: ANSWER,
-            output,
+            output: output.into(),
             notes: Vec::new(),
         }
     }
@@ -30,21 +30,29 @@ impl Report {
         if notes.last().is_some_and(|&byte| byte != b'\n') {
             notes.push(b'\n');
         }
-        notes.extend_from_slice(format!("refine: {refused}\n").as_bytes());
-        Report {
+        let report = Report {
             status: REFUSAL,
             output: format!("refused,{},{}\n", refused.number, refused.line).into(),
             notes,
-        }
+        };
+        report.with_note(&refused.to_string())
     }
 
     /// A usage or input error: standard output stays empty.
     pub fn error(reason: &str) -> Report {
-        Report {
+        let report = Report {
             status: ERROR,
             output: Vec::new(),
-            notes: format!("refine: {reason}").into(),
-        }
+            notes: Vec::new(),
+        };
+        report.with_note(reason.trim_end())
+    }
+
+    /// The report with one more line on standard error.
+    pub fn with_note(mut self, note: &str) -> Report {
+        self.notes
+            .extend_from_slice(format!("refine: {note}\n").as_bytes());
+        self
     }
 
     /// Prints the report. A reader that has gone away is an error without a word.
@@ -63,4 +71,17 @@ impl Report {
             }
         }
     }
+}
+
+/// `cost,steps,sites shifted,mirrored,changed,drift`.
+pub fn line_of(numbers: &Numbers) -> String {
+    let Numbers {
+        steps,
+        shifted,
+        mirrored,
+        changed,
+        cost,
+        drift,
+    } = numbers;
+    format!("{cost},{steps},{shifted},{mirrored},{changed},{drift}")
 }

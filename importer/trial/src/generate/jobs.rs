@@ -93,13 +93,9 @@ fn layout(random: &mut Random, row: u16, most_width: u16, most_height: u16) -> L
 
 /// A given site that does not fall in any row of the cell.
 fn next_given(highest: &mut [u16; 2], cell: &Cell, step: u16) -> u16 {
-    let rows = (0..2u16).filter(|&row| cell.occupies(row));
-    let floor = rows.map(|row| highest[usize::from(row)]).max().unwrap_or(0);
+    let rows = &mut highest[cell.rows()];
+    let floor = rows.iter().copied().max().unwrap_or(0);
     let given = (floor + step).min(1023);
-    for row in 0..2u16 {
-        if cell.occupies(row) {
-            highest[usize::from(row)] = given;
-        }
-    }
+    rows.fill(given);
     given
 }

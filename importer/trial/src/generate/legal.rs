@@ -1,7 +1,7 @@
 //! Jobs whose given rows are a legal placement, by their shape.
 
 use super::{jobs, Random};
-use crate::plain::job::{Cell, Job, Weights, TALL};
+use crate::plain::job::{Job, Weights, TALL};
 
 /// What a job is to look like.
 #[derive(Clone, Copy, Debug)]
@@ -38,10 +38,9 @@ pub fn job(random: &mut Random, shape: &Shape) -> Job {
         let row = row_of(random, shape, at);
         let mut cell = jobs::cell_with_layouts(random, row, 2, shape.most_width, shape.most_height);
         cell.mirrorable = true;
-        cell.given = site_after(&ends, &cell, random.pick(shape.gaps));
-        for row in (0..2).filter(|&row| cell.occupies(row)) {
-            ends[usize::from(row)] = Some(cell.given + cell.layout[0].width);
-        }
+        let ends = &mut ends[cell.rows()];
+        cell.given = site_after(ends, random.pick(shape.gaps));
+        ends.fill(Some(cell.given + cell.layout[0].width));
         cell
     });
     let cells = cells.collect();
@@ -69,12 +68,12 @@ fn row_of(random: &mut Random, shape: &Shape, at: usize) -> u16 {
     }
 }
 
-/// The first site, from the least gap on, that leaves no row of the cell with a gap of one site.
-fn site_after(ends: &[Option<u16>], cell: &Cell, gap: u16) -> u16 {
-    let rows = (0..2).filter(|&row| cell.occupies(row));
-    let ends: Vec<u16> = rows.filter_map(|row| ends[usize::from(row)]).collect();
-    let mut site = ends.iter().map(|&end| end + gap).max().unwrap_or(0);
-    while ends.iter().any(|&end| site == end + 1) {
+/// The first site, from the least gap on, that leaves no row with a gap of one site; `ends` has
+/// the end of each row that holds a cell.
+fn site_after(ends: &[Option<u16>], gap: u16) -> u16 {
+    let furthest = ends.iter().flatten().max();
+    let mut site = furthest.map_or(0, |end| end + gap);
+    while ends.iter().flatten().any(|&end| site == end + 1) {
         site += 1;
     }
     site

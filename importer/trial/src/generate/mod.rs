@@ -1,8 +1,9 @@
-//! Jobs and damaged texts, the same on every machine for the same seed.
+//! Jobs, damaged texts and placements, the same on every machine for the same seed.
 
 pub mod damage;
 pub mod jobs;
 pub mod legal;
+pub mod placements;
 mod random;
 
 pub use random::Random;

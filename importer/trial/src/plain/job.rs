@@ -2,6 +2,7 @@
 
 use std::fmt::Write;
 use std::iter;
+use std::ops::Range;
 
 pub const MOST_CELLS: usize = 64;
 pub const MOST_TALL: usize = 24;
@@ -53,8 +54,12 @@ impl Cell {
         self.row == TALL
     }
 
-    pub fn occupies(&self, row: u16) -> bool {
-        self.row == row || self.is_tall()
+    /// The rows that the cell stands in.
+    pub fn rows(&self) -> Range<usize> {
+        match self.row {
+            TALL => 0..2,
+            row => usize::from(row)..usize::from(row) + 1,
+        }
     }
 }
 

@@ -50,14 +50,11 @@ impl Seen {
         if self.cells > MOST_CELLS || self.tall > MOST_TALL {
             return Err(LIMIT);
         }
-        for row in 0..2 {
-            if cell.occupies(row) {
-                let highest = &mut self.highest[usize::from(row)];
-                if cell.given < *highest {
-                    return Err(ORDER);
-                }
-                *highest = cell.given;
+        for highest in &mut self.highest[cell.rows()] {
+            if cell.given < *highest {
+                return Err(ORDER);
             }
+            *highest = cell.given;
         }
         Ok(())
     }

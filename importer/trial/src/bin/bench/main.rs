@@ -4,6 +4,7 @@
 
 mod clock;
 mod reading;
+mod scoring;
 
 fn main() {
     println!(
@@ -11,4 +12,5 @@ fn main() {
         "", "refiner", "plain Rust", "ratio"
     );
     reading::compare();
+    scoring::compare();
 }
