@@ -39,7 +39,7 @@ uint32_t refiner_score(const uint8_t *job, size_t job_len, const uint8_t *placem
 /* Fault line. Writes to `part`, as far as it reaches, where the line stands that Score reports of
  * the same two texts: which text (0 the job, 1 the placement), its first byte, and its length with
  * its line feed. A missing line and no fault give length 0 at the placement's end, a missing first
- * job line length 0 at the job's start. Returns 0.
+ * job line length 0 at the job's start. Returns Score's number.
  */
 uint32_t refiner_fault(const uint8_t *job, size_t job_len, const uint8_t *placement,
                        size_t placement_len, uint64_t *part, size_t part_len);

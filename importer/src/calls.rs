@@ -57,7 +57,7 @@ pub fn score(job: &[u8], placement: &[u8], results: &mut [i32]) -> u32 {
 }
 
 /// Fault line: leaves in `part`, as far as it reaches, which text (0 the job, 1 the placement),
-/// first byte and length. Returns 0.
+/// first byte and length. Returns Score's number.
 pub fn fault(job: &[u8], placement: &[u8], part: &mut [u64]) -> u32 {
     // SAFETY: as for `read`; here `part` is lent for writing.
     unsafe {

@@ -35,17 +35,19 @@ impl Arrays {
         Err(format!("returned {returned}, expected {expected:?}"))
     }
 
-    /// The same for Fault line, which returns 0 and leaves a part's three numbers.
+    /// The same for Fault line, which returns Score's number and leaves a part's three numbers.
     pub fn check_part(
         &mut self,
+        number: i32,
         expected: &[u64; 3],
         call: impl FnOnce(&mut [u64]) -> u32,
     ) -> Result<(), String> {
         let pattern = array::from_fn(|at| u64::MAX - 77 - at as u64);
-        match check_lent(self.next_length(), pattern, expected, call)? {
-            0 => Ok(()),
-            returned => Err(format!("returned {returned}")),
+        let returned = check_lent(self.next_length(), pattern, expected, call)?;
+        if i64::from(returned) == i64::from(number) {
+            return Ok(());
         }
+        Err(format!("returned {returned}, expected {number}"))
     }
 
     fn next_length(&mut self) -> usize {

@@ -32,8 +32,9 @@ impl Comparison {
                 importer::calls::score(job, placement, lent)
             })
             .and_then(|()| {
-                self.arrays
-                    .check_part(&part, |lent| importer::calls::fault(job, placement, lent))
+                self.arrays.check_part(results[0], &part, |lent| {
+                    importer::calls::fault(job, placement, lent)
+                })
             });
         if let Err(difference) = outcome {
             let texts = [job, placement].map(<[u8]>::escape_ascii);
