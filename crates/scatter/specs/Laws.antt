@@ -62,3 +62,11 @@ both-scattered {line₀} {line₁} {path₀} {path₁} {new = new} {n₁ = n₁}
         → getD new (cellAt line₀ path₀ i) 0 ≡ poseAt path₀ i
     go (inl (j, x, y, e)) = ap (λ (c : ℕ). getD new c 0) (sym e) ∙ w .done j x y ∙ sym (agree i j h l x y (sym e))
     go (inr x) = w .kept (cellAt line₀ path₀ i) x ∙ v .done i h l
+
+-- pose numbers stay below 64
+pub scattered-small : {line path old new : List ℕ} {n : ℕ} → Scattered line path n old new → ((c : ℕ) → getD old c 0 < 64) → (c : ℕ) → getD new c 0 < 64
+scattered-small {line} {path} {old} {new} {n} w h c = go (placed? line path c n)
+  where
+    go : ((i : ℕ) × (0 < i) × (i ≤ n) × (cellAt line path i ≡ c)) ⊎ ((i : ℕ) → 0 < i → i ≤ n → cellAt line path i ≡ c → ⊥) → getD new c 0 < 64
+    go (inl (i, x, y, e)) = let d : getD new c 0 ≡ poseAt path i = ap (λ (k : ℕ). getD new k 0) (sym e) ∙ w .done i x y in omega arith
+    go (inr x) = let d = w .kept c x in omega (arith, h c)
