@@ -1,16 +1,21 @@
 // The lowest cell that breaks a rule, counted from 1, or 0: rules 1 to 4 and 7, and a rule whose breakers are marked.
 ghost use mathlib.Core.Path.{_≡_};
+ghost use mathlib.Core.Bool.{true};
 ghost use Prim.Native.Nat.{_+_, _*_, _≤_, _<_};
 ghost use lib.ListN.{length};
 ghost use Rattle.definition.specs.Lists.{from};
 ghost use Rattle.definition.specs.Rules.{offered, lowest, breaks1};
 ghost use Rattle.job.specs.Value.{cellOf, poseOf, jobOf, placementOf};
+ghost use Rattle.order.specs.Words.{Room};
 ghost use Rattle.placed.specs.Ready.{Ready};
 ghost use Rattle.faults.specs.Tests.{pastIn, farIn, shareIn, clashIn, clashesIn, wrongIn, passesIn, markedIn};
+ghost use Rattle.faults.specs.Quick.{InLine, RowClear, TallRising};
 use job::Cell;
 use job::Job;
 use job::Placement;
 use job::Pose;
+use order::entry;
+use order::order_row;
 use order::stands;
 use placed::apart_of;
 
@@ -106,7 +111,7 @@ fn clashes(words: &[u32], count: usize, k: usize) -> bool
     false
 }
 
-pub fn lowest_clash(words: &[u32], count: usize) -> u32
+fn search_clash(words: &[u32], count: usize) -> u32
     requires { ⌜ (count ≤ 64) × (length (now words) ≡ 256) ⌝ }
     ensures { λ r. ⌜ r ≡ lowest (clashesIn (now (words .entry)) count) (from 0 count) ⌝ }
 {
@@ -118,6 +123,51 @@ pub fn lowest_clash(words: &[u32], count: usize) -> u32
         k += 1;
     }
     0
+}
+
+// The quick test: no cell of the list begins before all that precede it have ended.
+fn in_line(words: &[u32], list: &[u32], at: usize) -> bool
+    requires { ⌜ (length (now words) ≡ 256) × Room (now list) ⌝ }
+    ensures { λ r. ⌜ (r ≡ true → InLine (now (words .entry)) (now (list .entry)) at) ⌝ }
+{
+    let mut reach: u32 = 0;
+    let mut i = at;
+    while i < 64 {
+        let k = entry(list, i);
+        if words[4 * k] < reach {
+            return false;
+        }
+        reach = farther(reach, words[4 * k + 1]);
+        i += 1;
+    }
+    true
+}
+
+fn farther(a: u32, b: u32) -> u32
+    ensures { λ r. ⌜ (a ≤ r) × (b ≤ r) ⌝ }
+{
+    if a < b { b } else { a }
+}
+
+fn row_clear(words: &[u32], count: usize, row: u32) -> bool
+    requires { ⌜ (count ≤ 64) × (length (now words) ≡ 256) ⌝ }
+    ensures { λ r. ⌜ (r ≡ true → RowClear (now (words .entry)) row count) ⌝ }
+{
+    let mut order = [0u32; 64];
+    let at = order_row(words, count, row, &mut order);
+    in_line(words, &order, at)
+}
+
+// The search is left for when a row fails the quick test.
+pub fn lowest_clash(words: &[u32], count: usize) -> u32
+    requires { ⌜ (count ≤ 64) × (length (now words) ≡ 256) ⌝ }
+    ensures { λ r. ⌜ r ≡ lowest (clashesIn (now (words .entry)) count) (from 0 count) ⌝ }
+{
+    let clear = row_clear(words, count, 0) & row_clear(words, count, 1);
+    if clear {
+        return 0;
+    }
+    search_clash(words, count)
 }
 
 // Rule 7: tall cell b is on the wrong side of cell k.
@@ -150,7 +200,7 @@ fn passes(words: &[u32], count: usize, k: usize) -> bool
     false
 }
 
-pub fn lowest_passing(words: &[u32], count: usize) -> u32
+fn search_passing(words: &[u32], count: usize) -> u32
     requires { ⌜ (count ≤ 64) × (length (now words) ≡ 256) ⌝ }
     ensures { λ r. ⌜ r ≡ lowest (passesIn (now (words .entry)) count) (from 0 count) ⌝ }
 {
@@ -162,6 +212,37 @@ pub fn lowest_passing(words: &[u32], count: usize) -> u32
         k += 1;
     }
     0
+}
+
+// The quick test: the tall cells' sites do not fall in file order.
+fn tall_rising(words: &[u32], count: usize) -> bool
+    requires { ⌜ (count ≤ 64) × (length (now words) ≡ 256) ⌝ }
+    ensures { λ r. ⌜ (r ≡ true → TallRising (now (words .entry)) count) ⌝ }
+{
+    let mut reach: u32 = 0;
+    let mut k: usize = 0;
+    while k < count {
+        let site = words[4 * k];
+        let row = words[4 * k + 2];
+        k += 1;
+        if row == 2 {
+            if site < reach {
+                return false;
+            }
+            reach = site;
+        }
+    }
+    true
+}
+
+pub fn lowest_passing(words: &[u32], count: usize) -> u32
+    requires { ⌜ (count ≤ 64) × (length (now words) ≡ 256) ⌝ }
+    ensures { λ r. ⌜ r ≡ lowest (passesIn (now (words .entry)) count) (from 0 count) ⌝ }
+{
+    if tall_rising(words, count) {
+        return 0;
+    }
+    search_passing(words, count)
 }
 
 // The lowest cell whose mark is 1: the last that is met from the end.

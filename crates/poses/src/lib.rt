@@ -1,11 +1,10 @@
 // Reading a placement text: one line after another, as many as are due.
 ghost use mathlib.Core.Path.{_≡_};
 ghost use mathlib.Core.Bool.{false};
-ghost use Prim.Native.Nat.{suc, _≤_, _<_};
+ghost use Prim.Native.Nat.{_≤_};
 ghost use lib.ListN.{length};
-ghost use Rattle.printed.specs.Poses.{Printable};
-ghost use Rattle.job.specs.Value.{poseOf, emptyPlacement};
-ghost use Rattle.poses.specs.Reading.{PoseFrom, Kept, Grown, ReadAs};
+ghost use Rattle.job.specs.Value.{emptyPlacement};
+ghost use Rattle.poses.specs.Reading.{PoseFrom, ReadAs};
 use job::Placement;
 use job::Pose;
 use scan::read_numbers;
@@ -56,17 +55,6 @@ fn no_pose(at: usize) -> PoseReading
     }
 }
 
-fn with_pose(placement: Placement, pose: Pose) -> Placement
-    requires { ⌜ Kept placement × (placement .count < 64) × Printable (poseOf pose) ⌝ }
-    ensures { λ r. ⌜ Grown placement pose r ⌝ }
-{
-    let mut p = placement;
-    let n = p.count;
-    p.poses[n] = pose;
-    p.count = n + 1;
-    p
-}
-
 fn faulty(line: usize) -> PlacementReading
     requires { ⌜ line ≤ 65 ⌝ }
     ensures { λ r. ⌜ (r .line ≡ line) × (r .placement ≡ emptyPlacement) ⌝ }
@@ -91,7 +79,10 @@ pub fn read_placement(text: &[u8], due: usize) -> PlacementReading
             return faulty(placement.count + 1);
         }
         at = p.next;
-        placement = with_pose(placement, p.pose);
+        let n = placement.count;
+        let pose = p.pose;
+        placement.poses[n] = pose;
+        placement.count = n + 1;
     }
     if at < text.len() {
         return faulty(due + 1);
