@@ -1,8 +1,5 @@
 -- Invariant: of the entries from `at` up to i each has ended at `reach`, and none begins before an earlier one has ended.
-use Prim.Native.Nat.{ℕ, _-_, _≤_, _<_}
-use mathlib.Core.Path.{_≡_}
-use mathlib.Core.List.{List}
-use mathlib.Core.Bool.{true, false}
+use Prim.Native.Nat.{_-_, _≤_}
 use native.Mathlib.Numerals.{add-one}
 use lib.ListN.{getD}
 use Rattle.order.specs.Words.{siteIn, endIn}

@@ -1,13 +1,10 @@
 -- Invariant: the sites of the tall cells below k do not fall, and none is above `reach`.
-use Prim.Native.Nat.{ℕ, _-_, _≤_, _<_}
+use Prim.Native.Nat.{_-_, _≤_}
 use mathlib.Core.Path.{_≡_}
-use mathlib.Core.List.{List}
-use mathlib.Core.Bool.{true, false}
 use native.Mathlib.Numerals.{add-one}
 use Rattle.order.specs.Words.{siteIn, rowIn}
 use Rattle.faults.specs.Quick.{Clear, clear-more, clear-skip, never}
 use native.Mathlib.Omega.{arith}
-use borrow.Author.Needs.{needs}
 use Rattle.faults.proofs.tall_rising.Statement.{statement}
 use Rattle.faults.proofs.tall_rising.Tie as tie
 
