@@ -5,10 +5,13 @@ ghost use Prim.Native.Nat.{ℕ, suc, _+_, _*_, _≤_, _<_};
 ghost use lib.ListN.{length};
 ghost use Rattle.rows.specs.Window.{start};
 ghost use Rattle.model.specs.Steps.{pairCount, marks};
-ghost use Rattle.lanes.specs.Store.{Low, Written, FilledPair, Filled};
+ghost use Rattle.lanes.specs.Store.{Low, FilledPair, Filled};
 ghost use Rattle.deck.specs.Words.{deckOf, PairWords, LineWords};
 ghost use Rattle.layer.specs.Loops.{Given};
-ghost use Rattle.first.specs.Firsts.{startsAt, afterRow, afterRows, afterFrom, ownRows, openFrom};
+ghost use Rattle.near.specs.Rows.{onePose};
+ghost use Rattle.near.specs.Table.{Pays};
+ghost use Rattle.first.specs.Firsts.{startsAt, afterRows, afterFrom, ownRows, openFrom};
+ghost use Rattle.first.specs.Starts.{Started, StartedTo, startIn};
 
 // Whether pair q, the last of i cells, can come first after marks m.
 fn starts(pairs: &[u32], n: usize, r: usize, i: usize, m: u32, q: usize) -> bool
@@ -23,29 +26,42 @@ fn starts(pairs: &[u32], n: usize, r: usize, i: usize, m: u32, q: usize) -> bool
 
 // ---- after a tall cell
 
-// One row: the cell at position k in pose a, after each pose from l0 on of the cell at position p.
-fn first_row(
-    store: &mut [u32],
+// Lane `lane` of a table lowered to pose b of the cell at position p, where it starts, for the cell at position k.
+fn from_start(
+    table: &mut [u32; 6080],
     line: &[u32],
-    at: usize,
+    pays: &[u32; 20],
     p: usize,
-    l0: usize,
     k: usize,
-    a: usize,
-    lanes: usize,
+    b: usize,
+    lane: usize,
 )
-    requires { ⌜ LineWords (now line) × Low (now store) × (at + lanes ≤ length (now store)) × (p < 64) × (l0 + lanes ≤ 60) × (k < 64) × (a < 60) ⌝ }
-    ensures { λ _. ⌜ Written (afterRow (now (line .entry)) p l0 k a) at lanes (now (store .entry)) (now (store .exit)) ⌝ }
+    requires { ⌜ LineWords (now line) × Pays (now line) p k 20 (now pays) × Low (now table) × (length (now table) ≡ 6080) × (p < 64) × (k < 64) × (b < 60) × (lane < 60) ⌝ }
+    ensures { λ _. ⌜ Started (onePose (now (line .entry)) p k b 0) lane (now (table .entry)) (now (table .exit)) ⌝ }
 {
-    let own = line[k * 128 + a];
+    let t = near::end_row(line, p, b, k);
+    if t > 18 {
+        return;
+    }
+    let zero = [0u32; 1];
+    near::spread(table, &zero, 0, pays, b % 4, t, lane, 1);
+}
+
+// Every lane: pose l0 + l in lane l.
+fn from_starts(table: &mut [u32; 6080], line: &[u32], p: usize, l0: usize, k: usize, lanes: usize)
+    requires { ⌜ LineWords (now line) × Low (now table) × (length (now table) ≡ 6080) × (p < 64) × (l0 + lanes ≤ 60) × (k < 64) ⌝ }
+    ensures { λ _. ⌜ StartedTo (startIn (now (line .entry)) p l0 k) lanes (now (table .entry)) (now (table .exit)) ⌝ }
+{
+    let mut pays = [0u32; 20];
+    near::fill_pays(&mut pays, line, p, k);
     let mut l: usize = 0;
     while l < lanes {
-        store[at + l] = lanes::least(own + deck::toll(line, p, l0 + l, k, a), lanes::NONE);
+        from_start(table, line, &pays, p, k, l0 + l, l);
         l += 1;
     }
 }
 
-// The rows of a pair that can come first.
+// The rows of a pair that can come first: the cell at position k, after each pose from l0 on of the cell at position p.
 fn first_rows(
     store: &mut [u32],
     line: &[u32],
@@ -60,11 +76,10 @@ fn first_rows(
     requires { ⌜ LineWords (now line) × Low (now store) × (to + 49152 ≤ length (now store)) × (q < 12) × (p < 64) × (l0 + lanes ≤ 60) × (k < 64) × (poses ≤ 60) ⌝ }
     ensures { λ _. ⌜ FilledPair (afterRows (now (line .entry)) p l0 k) lanes to q poses (now (store .entry)) (now (store .exit)) ⌝ }
 {
-    let mut a: usize = 0;
-    while a < poses {
-        first_row(store, line, to + q * 4096 + a * 64, p, l0, k, a, lanes);
-        a += 1;
-    }
+    let mut table = [lanes::NONE; 6080];
+    from_starts(&mut table, line, p, l0, k, lanes);
+    near::run_up(&mut table, lanes);
+    near::put_rows(store, line, &table, to, q, k, poses, lanes);
 }
 
 // The block of pair q.

@@ -145,9 +145,9 @@ pair-more {F} {g} {lanes} {to} {q} {new = new} a n k s w e =
 -- the same by another name
 pub pair-ext :
     {F G : ℕ → Layer} {lanes to q m : ℕ} {old new : List ℕ}
-    → FilledPair G lanes to q m old new → ((a l : ℕ) → F l q a ≡ G l q a)
+    → FilledPair G lanes to q m old new → ((a l : ℕ) → a < m → l < lanes → F l q a ≡ G l q a)
     → FilledPair F lanes to q m old new
-pair-ext w e = record { frame = w .frame; low = w .low; right = λ a p l r. w .right a p l r ∙ sym (e a l) }
+pair-ext w e = record { frame = w .frame; low = w .low; right = λ a p l r. w .right a p l r ∙ sym (e a l p r) }
 
 -- the same word everywhere in a pair's block
 pub pair-always :
@@ -178,14 +178,20 @@ filled-more {F} {G} {lanes} {poses} {to} {new = new} q n k h s w e =
           (λ a l x y. w .right a x l y ∙ sym (e a l x y));
     }
 
--- ---- lanes of NONE alone
+-- ---- words of NONE alone
+
+pub nones-at : (n k : ℕ) → k < n → getD (replicate n B) k 0 ≡ B
+nones-at n k h = getD-replicate n k B 0 h
+
+pub nones-low : (n : ℕ) → Low (replicate n B)
+nones-low n = record { word = λ k. go k (decLt k n) }
+  where
+    go : (k : ℕ) → Dec (k < n) → getD (replicate n B) k 0 ≤ B
+    go k (yes h) = omega (arith, nones-at n k h)
+    go k (no h) = omega (arith, List·getD-eq-default (replicate n B) 0 {n = k} (omega (arith, length-replicate n B)))
 
 pub none-at : (l : ℕ) → l < 64 → getD (replicate 64 B) l 0 ≡ B
-none-at l h = getD-replicate 64 l B 0 h
+none-at l h = nones-at 64 l h
 
 pub none-low : Low (replicate 64 B)
-none-low = record { word = λ k. go k (decLt k 64) }
-  where
-    go : (k : ℕ) → Dec (k < 64) → getD (replicate 64 B) k 0 ≤ B
-    go k (yes h) = omega (arith, none-at k h)
-    go k (no h) = omega (arith, List·getD-eq-default (replicate 64 B) 0 {n = k} (omega (arith, length-replicate 64 B)))
+none-low = nones-low 64

@@ -1,86 +1,26 @@
--- Laws of one layer: one turn more of each loop, and that a layer depends only on the entries of the layer before. Assumes nothing.
+-- Laws of one layer: what its entries are by the planes of the sources, and that a layer depends only on the entries of the layer before. Assumes nothing.
 use Prim.Native.Nat.{ℕ, zero, suc, _+_, _*_, _≤_, _<_, min}
 use mathlib.Core.Path.{_≡_, refl, sym, ap, ap₂, _∙_}
 use mathlib.Core.Bool.{true, false, cond}
 use mathlib.Core.List.{List}
 use native.Mathlib.Omega.{arith}
-use native.Mathlib.Numerals.{add-one}
 use native.Mathlib.Decide.{decLt}
 use lib.ListN.{getD}
 use Rattle.rows.specs.Lists.{from}
-use Rattle.pair.specs.Coded.{lowest, lowest-low, lowest-from}
-use Rattle.model.specs.Steps.{B, Deck, Layer, pairCount, lastAt, isThere, isSource, via, reached, nextLayer, layers}
+use Rattle.pair.specs.Coded.{lowest}
+use Rattle.model.specs.Steps.{B, Deck, Layer, pairCount, lastAt, isThere, isSource, via, reached, nextLayer}
 use Rattle.lanes.specs.Store.{Frame, Low, layerIn}
-use Rattle.deck.specs.Words.{tollIn, deckOf}
-use Rattle.layer.specs.Loops.{byPoses, viaPair, byPairs, Given, Beside}
+use Rattle.deck.specs.Words.{wordOf, deckOf, thereIn}
+use Rattle.near.specs.Rows.{found, byPairs}
+use Rattle.near.specs.Laws.{reached-found}
+use Rattle.layer.specs.Loops.{Given, Beside}
+pub use Rattle.near.specs.Loops.{lowest-none, lowest-more, lowest-ext}
 
--- ---- loops in general
-
-pub lowest-none : (h : ℕ → ℕ) → lowest B h (from 0 0) ≡ B
-unfolding lowest from
-lowest-none h = refl
-
-pub lowest-more : (h : ℕ → ℕ) (n : ℕ) → lowest B h (from 0 (n + 1)) ≡ min (lowest B h (from 0 n)) (h n)
-lowest-more h n =
-    let z : 0 + n ≡ n = omega arith in
-    ap (λ (k : ℕ). lowest B h (from 0 k)) (add-one n) ∙ lowest-from B h 0 n ∙ ap (λ (k : ℕ). min (lowest B h (from 0 n)) (h k)) z
-
-pub lowest-ext : (f g : ℕ → ℕ) (a n : ℕ) → ((k : ℕ) → k < a + n → f k ≡ g k) → lowest B f (from a n) ≡ lowest B g (from a n)
-unfolding lowest from
-lowest-ext f g a zero e = refl
-lowest-ext f g a (suc n) e = ap₂ min (e a (omega arith)) (lowest-ext f g (suc a) n (λ k h. e k (omega arith)))
-
--- ---- the loop over poses
-
-module _ (st line : List ℕ) (at k m a : ℕ) where
-  pub poses-none : (l : ℕ) → byPoses st line at k m a 0 l ≡ B
-  unfolding byPoses
-  poses-none l = lowest-none _
-
-  pub poses-more : (n l : ℕ) → byPoses st line at k m a (n + 1) l ≡ min (byPoses st line at k m a n l) (getD st (at + n * 64 + l) 0 + tollIn line k n m a)
-  unfolding byPoses
-  poses-more n l = lowest-more _ n
-
-  pub poses-low : (n l : ℕ) → byPoses st line at k m a n l ≤ B
-  unfolding byPoses
-  poses-low n l = lowest-low B _ (from 0 n)
-
--- all poses, as the search has it
-pub poses-all : (st line : List ℕ) (n poses R at i p m a l : ℕ)
-    → byPoses st line (at + p * 4096) (lastAt R i p) m a poses l ≡ via (deckOf line n poses) R (layerIn st at l) i p m a
-unfolding byPoses via
-poses-all st line n poses R at i p m a l = refl
-
--- ---- the loop over pairs
+-- ---- the next layer
 
 module _ (D : Deck) (R : ℕ) (f : Layer) (i q a : ℕ) where
-  pub pair-in : (p : ℕ) → isSource D R i q p ≡ true → viaPair D R f i q a p ≡ via D R f i p (lastAt R (suc i) q) a
-  unfolding viaPair
-  pair-in p e = ap (λ t. cond t (via D R f i p (lastAt R (suc i) q) a) B) e
-
-  pub pair-out : (p : ℕ) → isSource D R i q p ≡ false → viaPair D R f i q a p ≡ B
-  unfolding viaPair
-  pair-out p e = ap (λ t. cond t (via D R f i p (lastAt R (suc i) q) a) B) e
-
-  pub pairs-none : byPairs D R f i q a 0 ≡ B
-  unfolding byPairs
-  pairs-none = lowest-none _
-
-  pub pairs-more : (n : ℕ) → byPairs D R f i q a (n + 1) ≡ min (byPairs D R f i q a n) (viaPair D R f i q a n)
-  unfolding byPairs
-  pairs-more n = lowest-more _ n
-
-  pub pairs-low : (n : ℕ) → byPairs D R f i q a n ≤ B
-  unfolding byPairs
-  pairs-low n = lowest-low B _ (from 0 n)
-
-  -- all pairs, as the search has it
-  pub pairs-all : byPairs D R f i q a (pairCount R) ≡ reached D R f i q a
-  unfolding byPairs viaPair reached
-  pairs-all = refl
-
-  -- a target that is there
-  pub next-there : isThere D R (suc i) q ≡ true → nextLayer D R f i q a ≡ min (D .own (lastAt R (suc i) q) a + reached D R f i q a) B
+  -- a target that is there, and one that is not
+  next-there : isThere D R (suc i) q ≡ true → nextLayer D R f i q a ≡ min (D .own (lastAt R (suc i) q) a + reached D R f i q a) B
   unfolding nextLayer
   next-there e = ap (λ t. cond t (min (D .own (lastAt R (suc i) q) a + reached D R f i q a) B) B) e
 
@@ -88,24 +28,17 @@ module _ (D : Deck) (R : ℕ) (f : Layer) (i q a : ℕ) where
   unfolding nextLayer
   next-away e = ap (λ t. cond t (min (D .own (lastAt R (suc i) q) a + reached D R f i q a) B) B) e
 
-  -- from the loop over all pairs, and where the pose is not offered
-  pub next-gathered : {count own x : ℕ} → isThere D R (suc i) q ≡ true → count ≡ pairCount R → own ≡ D .own (lastAt R (suc i) q) a → x ≡ min B (byPairs D R f i q a count)
-      → nextLayer D R f i q a ≡ min (own + x) B
-  next-gathered {count} {own} {x} t n o e =
-      let b = ap (byPairs D R f i q a) n ∙ pairs-all in
-      omega (arith, next-there t, b, pairs-low count)
+-- from what is found in the planes of all sources
+module _ (line : List ℕ) (n poses R : ℕ) (f : Layer) (i q a : ℕ) (there : thereIn n R (suc i) q ≡ true) where
+  pub next-found : {count m x : ℕ} → count ≡ pairCount R → m ≡ lastAt R (suc i) q → x ≡ found (byPairs line (deckOf line n poses) R f i q count) a
+      → nextLayer (deckOf line n poses) R f i q a ≡ min (wordOf line m a + x) B
+  next-found {count} {m} {x} e p h =
+      next-there (deckOf line n poses) R f i q a there
+      ∙ ap₂ (λ (k y : ℕ). min (wordOf line k a + y) B) (sym p)
+      (reached-found line n poses R f i q a ∙ ap (λ (c : ℕ). found (byPairs line (deckOf line n poses) R f i q c) a) (sym e) ∙ sym h)
 
-  pub next-barred : isThere D R (suc i) q ≡ true → B ≤ D .own (lastAt R (suc i) q) a → nextLayer D R f i q a ≡ B
-  next-barred t h = omega (arith, next-there t)
-
--- a source's loop over poses
-pub pair-poses : (st line : List ℕ) (n poses R at i q a p : ℕ) {k m : ℕ} (l : ℕ)
-    → isSource (deckOf line n poses) R i q p ≡ true → k ≡ lastAt R i p → m ≡ lastAt R (suc i) q
-    → viaPair (deckOf line n poses) R (layerIn st at l) i q a p ≡ byPoses st line (at + p * 4096) k m a poses l
-pair-poses st line n poses R at i q a p l s e f =
-    pair-in (deckOf line n poses) R (layerIn st at l) i q a p s
-    ∙ sym (poses-all st line n poses R at i p (lastAt R (suc i) q) a l)
-    ∙ ap₂ (λ (k m : ℕ). byPoses st line (at + p * 4096) k m a poses l) (sym e) (sym f)
+  pub next-none : {count : ℕ} → count ≡ pairCount R → found (byPairs line (deckOf line n poses) R f i q count) a ≡ B → nextLayer (deckOf line n poses) R f i q a ≡ B
+  next-none e h = let z = next-found e refl (sym h) in omega arith
 
 -- ---- only the entries of the layer before count
 

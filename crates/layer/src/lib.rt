@@ -1,61 +1,17 @@
 // One layer of the search from the layer before, in all lanes at once. A layer is a block of 49152 words: pair, pose, lane.
+// For each pair of the next layer its sources are gathered by their end sites (crate near), and each of its poses looks up what it needs.
 ghost use mathlib.Core.Path.{_≡_};
-ghost use mathlib.Core.Bool.{true};
+ghost use mathlib.Core.Bool.{true, false};
 ghost use Prim.Native.Nat.{ℕ, suc, _+_, _*_, _≤_, _<_};
 ghost use lib.ListN.{length};
-ghost use Rattle.model.specs.Steps.{pairCount};
-ghost use Rattle.lanes.specs.Lanes.{Lowered};
-ghost use Rattle.lanes.specs.Store.{Low, Written, FilledPair, Filled};
-ghost use Rattle.deck.specs.Words.{deckOf, thereIn};
-ghost use Rattle.layer.specs.Loops.{viaPose, byPoses, viaPairIn, byPairsIn, nextFrom, nextRow, ToPose, Given, Target, Beside};
+ghost use Rattle.lanes.specs.Store.{Low, FilledPair, Filled};
+ghost use Rattle.deck.specs.Words.{deckOf};
+ghost use Rattle.near.specs.Table.{Gathered, pairIn, pairsIn};
+ghost use Rattle.layer.specs.Loops.{nextFrom, Given, Target, Beside};
 
-// By way of pose b of the cell at position k, to pose a of position m.
-fn from_pose(
-    acc: &mut [u32; 64],
-    store: &[u32],
-    line: &[u32],
-    at: usize,
-    k: usize,
-    m: usize,
-    a: usize,
-    b: usize,
-    lanes: usize,
-)
-    requires { ⌜ ToPose (now acc) (now store) (now line) at k m a lanes × (b < 60) ⌝ }
-    ensures { λ _. ⌜ Lowered (viaPose (now (store .entry)) (now (line .entry)) at k m a b) lanes (now (acc .entry)) (now (acc .exit)) ⌝ }
-{
-    let t = deck::toll(line, k, b, m, a);
-    if t >= lanes::NONE {
-        return;
-    }
-    lanes::relax(acc, store, at + b * 64, t, lanes);
-}
-
-// By way of every pose.
-fn from_pair(
-    acc: &mut [u32; 64],
-    store: &[u32],
-    line: &[u32],
-    at: usize,
-    k: usize,
-    m: usize,
-    a: usize,
-    poses: usize,
-    lanes: usize,
-)
-    requires { ⌜ ToPose (now acc) (now store) (now line) at k m a lanes × (poses ≤ 60) ⌝ }
-    ensures { λ _. ⌜ Lowered (byPoses (now (store .entry)) (now (line .entry)) at k m a poses) lanes (now (acc .entry)) (now (acc .exit)) ⌝ }
-{
-    let mut b: usize = 0;
-    while b < poses {
-        from_pose(acc, store, line, at, k, m, a, b, lanes);
-        b += 1;
-    }
-}
-
-// By way of pair p of the layer with i cells, if it is a source.
+// Pair p of the layer with i cells, if it is a source: whether it lowered anything.
 fn from_source(
-    acc: &mut [u32; 64],
+    table: &mut [u32; 6080],
     store: &[u32],
     line: &[u32],
     pairs: &[u32],
@@ -67,23 +23,34 @@ fn from_source(
     i: usize,
     from: usize,
     q: usize,
-    a: usize,
     p: usize,
-)
-    requires { ⌜ Given (now line) (now pairs) (now store) n poses r count lanes i from × Target n poses r i q a × Low (now acc) × (length (now acc) ≡ 64) × (p < count) ⌝ }
-    ensures { λ _. ⌜ Lowered (viaPairIn (deckOf (now (line .entry)) n poses) r (now (store .entry)) from i q a p) lanes (now (acc .entry)) (now (acc .exit)) ⌝ }
+) -> bool
+    requires { ⌜ Given (now line) (now pairs) (now store) n poses r count lanes i from × Target n r i q × Low (now table) × (length (now table) ≡ 6080) × (p < count) ⌝ }
+    ensures { λ used. ⌜ Gathered (pairIn (now (store .entry)) (now (line .entry)) (deckOf (now (line .entry)) n poses) r from i q p) lanes (now (table .entry)) (now (table .exit)) × (used ≡ false → now (table .exit) ≡ now (table .entry)) ⌝ }
 {
     if !deck::is_source(line, pairs, n, r, i, q, p) {
-        return;
+        return false;
     }
     let k = deck::last_at(pairs, r, i, p);
     let m = deck::last_at(pairs, r, i + 1, q);
-    from_pair(acc, store, line, from + p * 4096, k, m, a, poses, lanes);
+    let mut pays = [0u32; 20];
+    near::fill_pays(&mut pays, line, k, m);
+    near::from_poses(
+        table,
+        store,
+        line,
+        &pays,
+        from + p * 4096,
+        k,
+        m,
+        poses,
+        lanes,
+    )
 }
 
-// By way of every source.
+// Every source: whether one lowered anything.
 fn gather(
-    acc: &mut [u32; 64],
+    table: &mut [u32; 6080],
     store: &[u32],
     line: &[u32],
     pairs: &[u32],
@@ -95,15 +62,15 @@ fn gather(
     i: usize,
     from: usize,
     q: usize,
-    a: usize,
-)
-    requires { ⌜ Given (now line) (now pairs) (now store) n poses r count lanes i from × Target n poses r i q a × Low (now acc) × (length (now acc) ≡ 64) ⌝ }
-    ensures { λ _. ⌜ Lowered (byPairsIn (deckOf (now (line .entry)) n poses) r (now (store .entry)) from i q a count) lanes (now (acc .entry)) (now (acc .exit)) ⌝ }
+) -> bool
+    requires { ⌜ Given (now line) (now pairs) (now store) n poses r count lanes i from × Target n r i q × Low (now table) × (length (now table) ≡ 6080) ⌝ }
+    ensures { λ used. ⌜ Gathered (pairsIn (now (store .entry)) (now (line .entry)) (deckOf (now (line .entry)) n poses) r from i q count) lanes (now (table .entry)) (now (table .exit)) × (used ≡ false → now (table .exit) ≡ now (table .entry)) ⌝ }
 {
+    let mut used = false;
     let mut p: usize = 0;
     while p < count {
-        from_source(
-            acc,
+        if from_source(
+            table,
             store,
             line,
             pairs,
@@ -115,58 +82,16 @@ fn gather(
             i,
             from,
             q,
-            a,
             p,
-        );
+        ) {
+            used = true;
+        }
         p += 1;
     }
+    used
 }
 
-// The row of pair q in pose a.
-fn target_row(
-    store: &mut [u32],
-    line: &[u32],
-    pairs: &[u32],
-    n: usize,
-    poses: usize,
-    r: usize,
-    count: usize,
-    lanes: usize,
-    i: usize,
-    from: usize,
-    to: usize,
-    q: usize,
-    a: usize,
-)
-    requires { ⌜ Given (now line) (now pairs) (now store) n poses r count lanes i from × Beside (now store) from to × Target n poses r i q a ⌝ }
-    ensures { λ _. ⌜ Written (nextRow (deckOf (now (line .entry)) n poses) r (now (store .entry)) from i q a) (to + q * 4096 + a * 64) lanes (now (store .entry)) (now (store .exit)) ⌝ }
-{
-    let own = line[deck::last_at(pairs, r, i + 1, q) * 128 + a];
-    let at = to + q * 4096 + a * 64;
-    if own >= lanes::NONE {
-        lanes::fill(store, at, lanes, lanes::NONE);
-        return;
-    }
-    let mut acc = [lanes::NONE; 64];
-    gather(
-        &mut acc,
-        store,
-        line,
-        pairs,
-        n,
-        poses,
-        r,
-        count,
-        lanes,
-        i,
-        from,
-        q,
-        a,
-    );
-    lanes::put(store, at, &acc, own, lanes);
-}
-
-// The rows of pair q.
+// The rows of pair q, whose cell is there: all NONE if nothing leads to it.
 fn target_rows(
     store: &mut [u32],
     line: &[u32],
@@ -181,28 +106,30 @@ fn target_rows(
     to: usize,
     q: usize,
 )
-    requires { ⌜ Given (now line) (now pairs) (now store) n poses r count lanes i from × Beside (now store) from to × (q < count) × (thereIn n r (suc i) q ≡ true) ⌝ }
+    requires { ⌜ Given (now line) (now pairs) (now store) n poses r count lanes i from × Beside (now store) from to × Target n r i q ⌝ }
     ensures { λ _. ⌜ FilledPair (nextFrom (deckOf (now (line .entry)) n poses) r (now (store .entry)) from i) lanes to q poses (now (store .entry)) (now (store .exit)) ⌝ }
 {
-    let mut a: usize = 0;
-    while a < poses {
-        target_row(
-            store,
-            line,
-            pairs,
-            n,
-            poses,
-            r,
-            count,
-            lanes,
-            i,
-            from,
-            to,
-            q,
-            a,
-        );
-        a += 1;
+    let mut table = [lanes::NONE; 6080];
+    if !gather(
+        &mut table,
+        store,
+        line,
+        pairs,
+        n,
+        poses,
+        r,
+        count,
+        lanes,
+        i,
+        from,
+        q,
+    ) {
+        lanes::fill(store, to + q * 4096, 4096, lanes::NONE);
+        return;
     }
+    near::run_up(&mut table, lanes);
+    let m = deck::last_at(pairs, r, i + 1, q);
+    near::put_rows(store, line, &table, to, q, m, poses, lanes);
 }
 
 // The block of pair q: all NONE if the row has no such cell.

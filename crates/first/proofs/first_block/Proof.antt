@@ -83,7 +83,7 @@ returns-2 c =
     let a = k .args in
     let e = here (c .before .before .before .before) in
     pair-ext (c .before .before .first-rows .ensures)
-    (λ b l.
+    (λ b l x y.
     after-there (deckOf (a .line .now) (a .n) (a .poses)) (a .r) (a .i) (a .m) (a .p) (a .l0 + l) (a .q) b (can (c .before .before .before .before .before))
     ∙ ap (λ (j : ℕ). afterRow (a .line .now) (a .p) (a .l0) j b l) (sym e))
 

@@ -1,80 +1,52 @@
--- Each turn writes one row more. Assumes nothing.
-use Prim.Native.Nat.{_-_, _≤_}
-use mathlib.Core.Path.{_≡_, refl}
+-- Each lane of the table has its start, and each pose finds there what it pays after it. Assumes nothing.
 use native.Mathlib.Omega.{arith}
 use borrow.Author.Needs.{needs}
-use Rattle.model.specs.Steps.{before}
-use Rattle.lanes.specs.Store.{FilledPair}
-use Rattle.lanes.specs.Laws.{pair-none, pair-more}
-use Rattle.first.specs.Firsts.{afterRows}
+use lib.ListN.{length-replicate}
+use Rattle.model.specs.Steps.{B}
+use Rattle.lanes.specs.Laws.{nones-low, pair-ext}
+use Rattle.near.specs.Table.{Ready}
+use Rattle.near.specs.TableLaws.{ready}
+use Rattle.first.specs.Starts.{startIn, starts-all, starts-low, after-found}
 use Rattle.first.proofs.first_rows.Statement.{statement}
 use Rattle.first.proofs.first_rows.Tie as tie
 
-abbrev Inv-loop : tie.InvT-loop
-Inv-loop store₀ line to q p l0 k poses lanes a₀ store a =
-    (a ≤ poses) × FilledPair (afterRows line p l0 k) lanes to q a store₀ store
+-- the table once plane 4 ran up
+abbrev Table : tie.After-run-up → Type 0
+Table c = let a = c .before .before .before .before .before .before .args in Ready (startIn (a .line .now) (a .p) (a .l0) (a .k)) (a .lanes) (c .run-up .last .0)
 
-abbrev μ-loop : tie.MeasureT-loop
-μ-loop store₀ line to q p l0 k poses lanes a₀ store a =
-    poses - a
+table : (c : tie.After-run-up) → Table c
+table c =
+    let k = c .before .before .before .before .before .before in
+    let a = k .args in
+    ready (omega arith) (λ l v t. starts-low (a .p) (a .l0) (a .k) l v t (k .pre .0)) (starts-all (c .before .before .from-starts .ensures)) (c .run-up .ensures)
 
-loop-holds : tie.Need-loop-holds Inv-loop μ-loop
-loop-holds c =
-    (omega arith, pair-none _ _ _ _ (c .before .before .pre .1))
+from-starts-requires : tie.Need-from-starts-requires
+from-starts-requires c κs =
+    let k = c .before .before .before in
+    (k .pre .0, nones-low 6080, length-replicate 6080 B, k .pre .4, k .pre .5, k .pre .6)
 
-mul-first-row : tie.Need-mul-first-row Inv-loop μ-loop
-mul-first-row c = search needs
+run-up-requires : tie.Need-run-up-requires
+run-up-requires c κs = search needs
 
-add-first-row : tie.Need-add-first-row Inv-loop μ-loop
-add-first-row c = search needs
-
-mul-first-row-2 : tie.Need-mul-first-row-2 Inv-loop μ-loop
-mul-first-row-2 c = search needs
-
-add-first-row-2 : tie.Need-add-first-row-2 Inv-loop μ-loop
-add-first-row-2 c = search needs
-
-first-row-requires : tie.Need-first-row-requires Inv-loop μ-loop
-first-row-requires c κs =
-    let k = c .before .before .before .before .before in
-    let l = c .before .before .loop in
-    (k .pre .0, l .inv .1 .low, omega (arith, l .inv .1 .frame .long), k .pre .4, k .pre .5, k .pre .6, omega arith)
-
-add-a : tie.Need-add-a Inv-loop μ-loop
-add-a c = search needs
-
-loop-less : tie.Need-loop-less Inv-loop μ-loop
-loop-less c = search needs
-
-loop-again : tie.Need-loop-again Inv-loop μ-loop
-loop-again c =
+put-rows-requires : tie.Need-put-rows-requires
+put-rows-requires c κs =
     let k = c .before .before .before .before .before .before .before .before in
-    let l = c .before .before .before .before .before .loop in
-    (omega arith, pair-more (l .a) (omega (arith, k .pre .5)) (omega (arith, k .pre .7)) (l .inv .1) (c .before .before .first-row .ensures) (λ j h. refl))
+    let t = table (c .before .before) in (
+      record { words = k .pre .0; low = k .pre .1; tableLow = t .low; tableLong = t .long; narrow = omega arith; cell = k .pre .6 },
+      k .pre .2,
+      k .pre .3,
+      k .pre .7,
+    )
 
-same-length : tie.Need-same-length Inv-loop μ-loop
-same-length c =
-    c .before .loop .inv .1 .frame .long
+same-length : tie.Need-same-length
+same-length c = search needs
 
-returns : tie.Need-returns Inv-loop μ-loop
+returns : tie.Need-returns
 returns c =
-    let e : c .before .loop .a ≡ c .before .before .before .before .args .poses = omega arith in
-    rw e at (c .before .loop .inv .1)
+    let k = c .before .before .before .before .before .before .before .before .before .before .before in
+    let a = k .args in
+    pair-ext (c .before .before .put-rows .ensures) (λ b l x y. after-found (a .line .now) (a .p) (a .l0) (a .k) b l (table (c .before .before .before .before .before)) (omega arith) y)
 
 pub first-rows-spec : {M : Type 1} → statement M
 first-rows-spec =
-    tie.close
-    (tie.spec
-    Inv-loop
-    μ-loop
-    loop-holds
-    mul-first-row
-    add-first-row
-    mul-first-row-2
-    add-first-row-2
-    first-row-requires
-    add-a
-    loop-less
-    loop-again
-    same-length
-    returns)
+    tie.close (tie.spec from-starts-requires run-up-requires put-rows-requires same-length returns)

@@ -74,7 +74,7 @@ returns-2 c =
     let k = c .before .before .before .before .before .before .before .before .before .before .before in
     let a = k .args in
     pair-ext (c .before .before .open-rows .ensures)
-    (λ b l.
+    (λ b l x y.
     open-there (deckOf (a .line .now) (a .n) (a .poses)) (a .r) (a .q) b (can (c .before .before .before .before .before))
     ∙ ap (λ (j : ℕ). wordOf (a .line .now) j b) (sym (c .before .before .before .before .last-at .ensures)))
 

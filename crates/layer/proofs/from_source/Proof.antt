@@ -1,16 +1,16 @@
 -- A pair that is no source lowers nothing; one that is a source stands in the row. Assumes nothing.
-use Prim.Native.Nat.{suc}
-use mathlib.Core.Path.{_≡_, sym, _∙_}
+use Prim.Native.Nat.{ℕ, suc, _<_}
+use mathlib.Core.Path.{_≡_, refl, sym, ap₂, _∙_}
 use mathlib.Core.Bool.{true}
 use native.Mathlib.Omega.{arith}
 use borrow.Author.Needs.{needs}
 use borrow.Author.Tests.{not-true, not-false}
 use Rattle.model.specs.Steps.{lastAt, isSource}
 use Rattle.lanes.specs.Store.{layerIn}
-use Rattle.lanes.specs.Laws.{lowered-to, lowered-ext}
 use Rattle.deck.specs.Words.{deckOf}
 use Rattle.deck.specs.Laws.{there-size, source-size}
-use Rattle.layer.specs.Laws.{pair-out, pair-poses}
+use Rattle.near.specs.Rows.{byPoses}
+use Rattle.near.specs.TableLaws.{gathered-none, gathered-ext, pair-in, pair-out}
 use Rattle.layer.proofs.from_source.Statement.{statement}
 use Rattle.layer.proofs.from_source.Tie as tie
 
@@ -21,69 +21,80 @@ Source c = let a = c .before .before .before .before .before .args in isSource (
 source : (c : tie.Else1) → Source c
 source c = sym (c .before .is-source .ensures) ∙ not-false _ (c .if1 .left)
 
+-- both cells stand in the row
+left : (c : tie.After-pays) → c .before .before .last-at .result < 64
+left c =
+    let k = c .before .before .before .before .before .before .before .before in
+    let a = k .args in
+    omega (arith, c .before .before .last-at .ensures, source-size (a .line .now) (a .n) (a .poses) (a .r) (a .i) (a .q) (a .p) (source (c .before .before .before)), k .pre .0 .ground .size)
+
+right : (c : tie.After-pays) → c .before .last-at2 .result < 64
+right c =
+    let k = c .before .before .before .before .before .before .before .before in
+    let a = k .args in
+    omega (arith, c .before .last-at2 .ensures, there-size (a .n) (a .r) (suc (a .i)) (a .q) (k .pre .1 .there), k .pre .0 .ground .size)
+
 is-source-requires : tie.Need-is-source-requires
-is-source-requires c κs =
-    let k = c .before .before .before in
-    let g = k .pre .0 in
-    (g .ground .row, g .ground .size, g .ground .coded, k .pre .1 .pair, omega (arith, g .ground .all), omega (arith, g .early))
+is-source-requires c κs = search needs
 
 returns : tie.Need-returns
 returns c =
     let k = c .before .before .before .before .before in
-    let a = k .args in
-    lowered-to _ (k .pre .2)
-    (λ l p. omega (arith, pair-out (deckOf (a .line .now) (a .n) (a .poses)) (a .r) (layerIn (a .store .now) (a .from) l) (a .i) (a .q) (a .a) (a .p) (sym (c .before .is-source .ensures) ∙ not-true _ (c .if1 .taken))))
+    let a = k .args in (
+      gathered-none _ (k .pre .2)
+          (λ l v t i j h.
+          omega (arith, pair-out (a .line .now) (deckOf (a .line .now) (a .n) (a .poses)) (a .r) (layerIn (a .store .now) (a .from) l) (a .i) (a .q) (a .p) v t (sym (c .before .is-source .ensures) ∙ not-true _ (c .if1 .taken)))),
+      λ e. refl,
+    )
 
 last-at-requires : tie.Need-last-at-requires
-last-at-requires c κs =
-    let k = c .before .before .before .before .before in
-    let g = k .pre .0 in
-    (g .ground .coded, omega (arith, g .ground .all), omega (arith, g .early))
+last-at-requires c κs = search needs
 
 add-last-at : tie.Need-add-last-at
 add-last-at c = search needs
 
 last-at-requires-2 : tie.Need-last-at-requires-2
-last-at-requires-2 c κs =
-    let k = c .before .before .before .before .before .before in
-    let g = k .pre .0 in
-    (g .ground .coded, k .pre .1 .pair, omega (arith, g .early))
+last-at-requires-2 c κs = search needs
 
-mul-from-pair : tie.Need-mul-from-pair
-mul-from-pair c = search needs
+fill-pays-requires : tie.Need-fill-pays-requires
+fill-pays-requires c κs =
+    (c .before .before .before .before .before .before .before .before .pre .0 .ground .row, left c, right c, refl)
 
-add-from-pair : tie.Need-add-from-pair
-add-from-pair c = search needs
+mul-from-poses : tie.Need-mul-from-poses
+mul-from-poses c = search needs
 
-from-pair-requires : tie.Need-from-pair-requires
-from-pair-requires c κs =
-    let k = c .before .before .before .before .before .before .before .before in
-    let a = k .args in
-    let g = k .pre .0 in
-    let i = source-size (a .line .now) (a .n) (a .poses) (a .r) (a .i) (a .q) (a .p) (source (c .before .before .before)) in
-    let t = there-size (a .n) (a .r) (suc (a .i)) (a .q) (k .pre .1 .there) in (
+add-from-poses : tie.Need-add-from-poses
+add-from-poses c = search needs
+
+from-poses-requires : tie.Need-from-poses-requires
+from-poses-requires c κs =
+    let k = c .before .before .before .before .before .before .before .before .before .before .before in
+    let g = k .pre .0 in (
       record {
         words = g .ground .row;
         low = g .low;
-        accLow = k .pre .2;
-        accLong = k .pre .3;
+        tableLow = k .pre .2;
+        tableLong = k .pre .3;
         narrow = g .narrow;
         room = omega (arith, g .room, g .ground .all, g .ground .coded .few);
-        left = omega (arith, c .before .before .last-at .ensures, g .ground .size);
-        right = omega (arith, c .before .last-at2 .ensures, g .ground .size);
-        pose = omega (arith, k .pre .1 .pose, g .ground .few);
+        left = left (c .before .before .before);
+        right = right (c .before .before .before);
       },
+      c .before .before .fill-pays .ensures,
       g .ground .few,
     )
 
 returns-2 : tie.Need-returns-2
 returns-2 c =
-    let k = c .before .before .before .before .before .before .before .before .before in
+    let k = c .before .before .before .before .before .before .before .before .before .before .before .before in
     let a = k .args in
-    let s = source (c .before .before .before .before) in
-    let m : c .before .before .last-at2 .result ≡ lastAt (a .r) (suc (a .i)) (a .q) = omega (arith, c .before .before .last-at2 .ensures) in
-    lowered-ext (c .from-pair .ensures)
-    (λ l h. pair-poses (a .store .now) (a .line .now) (a .n) (a .poses) (a .r) (a .from) (a .i) (a .q) (a .a) (a .p) l s (c .before .before .before .last-at .ensures) m)
+    let m : c .before .before .before .before .before .last-at2 .result ≡ lastAt (a .r) (suc (a .i)) (a .q) = omega (arith, c .before .before .before .before .before .last-at2 .ensures) in (
+      gathered-ext (c .from-poses .ensures .0)
+          (λ l v t h.
+          pair-in (a .line .now) (deckOf (a .line .now) (a .n) (a .poses)) (a .r) (layerIn (a .store .now) (a .from) l) (a .i) (a .q) (a .p) v t (source (c .before .before .before .before .before .before .before))
+          ∙ ap₂ (λ (x y : ℕ). byPoses (a .line .now) x y (layerIn (a .store .now) (a .from) l (a .p)) (a .poses) v t) (sym (c .before .before .before .before .before .before .last-at .ensures)) (sym m)),
+      c .from-poses .ensures .1,
+    )
 
 pub from-source-spec : {M : Type 1} → statement M
 from-source-spec =
@@ -94,7 +105,8 @@ from-source-spec =
     last-at-requires
     add-last-at
     last-at-requires-2
-    mul-from-pair
-    add-from-pair
-    from-pair-requires
+    fill-pays-requires
+    mul-from-poses
+    add-from-poses
+    from-poses-requires
     returns-2)

@@ -45,7 +45,7 @@ target-rows-requires c κs =
     let k = c .before .before .before .before .before .before in
     let a = k .args in
     let t = sym (c .before .before .is-there .ensures) ∙ not-false _ (c .before .if1 .left) in
-    (k .pre .0, k .pre .1, k .pre .2, ap (λ (j : ℕ). thereIn (a .n) (a .r) j (a .q)) (sym (add-one (a .i))) ∙ t)
+    (k .pre .0, k .pre .1, record { pair = omega (arith, k .pre .0 .ground .all); there = ap (λ (j : ℕ). thereIn (a .n) (a .r) j (a .q)) (sym (add-one (a .i))) ∙ t })
 
 same-length-2 : tie.Need-same-length-2
 same-length-2 c = search needs

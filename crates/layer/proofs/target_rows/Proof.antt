@@ -1,76 +1,127 @@
--- After a turns the rows below a are those of the next layer; the layer before is kept. Assumes nothing.
-use Prim.Native.Nat.{_-_, _≤_}
-use mathlib.Core.Path.{_≡_, sym}
+-- The sources are gathered into a table of NONE. If none lowered it, nothing leads to the pair; else each pose finds there what it can be reached for.
+-- Assumes nothing.
+use Prim.Native.Nat.{ℕ, suc, _≤_, _<_}
+use mathlib.Core.Path.{_≡_, refl, sym, ap, _∙_}
 use native.Mathlib.Omega.{arith}
 use borrow.Author.Needs.{needs}
+use borrow.Author.Tests.{not-true}
+use lib.ListN.{length-replicate}
+use Rattle.model.specs.Steps.{B, lastAt}
+use Rattle.lanes.specs.Store.{layerIn}
+use Rattle.lanes.specs.Laws.{nones-low, pair-always, pair-ext}
 use Rattle.deck.specs.Words.{deckOf}
-use Rattle.layer.specs.Loops.{nextFrom}
-use Rattle.layer.specs.Laws.{given-on, beside-on, beside-kept, next-kept}
-use Rattle.lanes.specs.Store.{FilledPair}
-use Rattle.lanes.specs.Laws.{pair-none, pair-more}
+use Rattle.deck.specs.Laws.{there-size}
+use Rattle.near.specs.Table.{pairsIn, Ready}
+use Rattle.near.specs.TableLaws.{pairs-low, ready, unused}
+use Rattle.layer.specs.Laws.{next-found, next-none}
 use Rattle.layer.proofs.target_rows.Statement.{statement}
 use Rattle.layer.proofs.target_rows.Tie as tie
 
-abbrev Inv-loop : tie.InvT-loop
-Inv-loop store₀ line pairs n poses r count lanes i from to q a₀ store a =
-    (a ≤ poses) × FilledPair (nextFrom (deckOf line n poses) r store₀ from i) lanes to q a store₀ store
+planes-low : (k : tie.Start) → (let a = k .args in (l v t : ℕ) → pairsIn (a .store .now) (a .line .now) (deckOf (a .line .now) (a .n) (a .poses)) (a .r) (a .from) (a .i) (a .q) (a .count) l v t ≤ B)
+planes-low k l v t =
+    let a = k .args in
+    pairs-low (a .line .now) (deckOf (a .line .now) (a .n) (a .poses)) (a .r) (layerIn (a .store .now) (a .from) l) (a .i) (a .q) (a .count) v t
 
-abbrev μ-loop : tie.MeasureT-loop
-μ-loop store₀ line pairs n poses r count lanes i from to q a₀ store a =
-    poses - a
+-- the table once plane 4 ran up
+abbrev Table : tie.After-run-up → Type 0
+Table c =
+    let a = c .before .before .before .before .before .before .before .before .before .args in
+    Ready (pairsIn (a .store .now) (a .line .now) (deckOf (a .line .now) (a .n) (a .poses)) (a .r) (a .from) (a .i) (a .q) (a .count)) (a .lanes) (c .run-up .last .0)
 
-loop-holds : tie.Need-loop-holds Inv-loop μ-loop
-loop-holds c =
-    (omega arith, pair-none _ _ _ _ (c .before .before .before .pre .0 .low))
-
-target-row-requires : tie.Need-target-row-requires Inv-loop μ-loop
-target-row-requires c κs =
-    let k = c .before .before .before .before .before .before in
-    let s = c .before .before .loop .inv .1 in (
-      given-on (k .pre .0) (s .frame) (s .low),
-      beside-on (k .pre .1) (s .frame),
-      record { pair = omega (arith, k .pre .0 .ground .all); pose = omega arith; there = k .pre .3 },
-    )
-
-add-a : tie.Need-add-a Inv-loop μ-loop
-add-a c = search needs
-
-loop-less : tie.Need-loop-less Inv-loop μ-loop
-loop-less c = search needs
-
-loop-again : tie.Need-loop-again Inv-loop μ-loop
-loop-again c =
+table : (c : tie.After-run-up) → Table c
+table c =
     let k = c .before .before .before .before .before .before .before .before .before in
+    ready (omega (arith, k .pre .0 .narrow)) (planes-low k) (c .before .before .before .gather .ensures .0) (c .run-up .ensures)
+
+-- the target's position
+here : (c : tie.After-last-at) → (let a = c .before .before .before .before .before .before .before .before .before .before .args in c .last-at .result ≡ lastAt (a .r) (suc (a .i)) (a .q))
+here c = omega (arith, c .last-at .ensures)
+
+gather-requires : tie.Need-gather-requires
+gather-requires c κs =
+    let k = c .before .before .before .before .before in
+    (k .pre .0, k .pre .2, nones-low 6080, length-replicate 6080 B)
+
+mul-fill : tie.Need-mul-fill
+mul-fill c = search needs
+
+add-fill : tie.Need-add-fill
+add-fill c = search needs
+
+fill-requires : tie.Need-fill-requires
+fill-requires c κs = search needs
+
+same-length : tie.Need-same-length
+same-length c = search needs
+
+returns : tie.Need-returns
+returns c =
+    let k = c .before .before .before .before .before .before .before .before .before .before .before in
     let a = k .args in
     let g = k .pre .0 in
-    let l = c .before .before .before .before .before .loop in
-    let s = l .inv .1 in
-    let b = g .ground .all in
-    let kept = beside-kept (k .pre .1) (s .frame) (omega arith) (omega (arith, g .ground .coded .few)) in (
-      omega arith,
-      pair-more (l .a) (omega (arith, g .narrow)) (omega (arith, g .ground .few)) s (c .before .before .target-row .ensures)
-          (λ j h. sym (next-kept (deckOf (a .line .now) (a .n) (a .poses)) (a .r) (a .i) (a .q) (l .a) j kept (g .ground .coded .few) (g .ground .few) (omega (arith, g .narrow)))),
+    let w = c .before .before .before .before .before .gather .ensures in
+    let n : a .lanes ≤ 64 = omega (arith, g .narrow) in
+    let e = w .1 (not-true _ (c .before .before .before .before .if1 .taken)) in
+    pair-ext (pair-always {F = λ l q a. B} n (omega (arith, g .ground .few)) (c .before .before .fill .ensures) (λ b l. refl))
+    (λ b l p i.
+    next-none (a .line .now) (a .n) (a .poses) (a .r) (layerIn (a .store .now) (a .from) l) (a .i) (a .q) b (k .pre .2 .there) (g .ground .all)
+    (unused n (planes-low k) (w .0) e b l (omega (arith, g .ground .few)) i))
+
+run-up-requires : tie.Need-run-up-requires
+run-up-requires c κs = search needs
+
+add-last-at : tie.Need-add-last-at
+add-last-at c = search needs
+
+last-at-requires : tie.Need-last-at-requires
+last-at-requires c κs = search needs
+
+put-rows-requires : tie.Need-put-rows-requires
+put-rows-requires c κs =
+    let k = c .before .before .before .before .before .before .before .before .before .before .before .before in
+    let a = k .args in
+    let g = k .pre .0 in
+    let t = table (c .before .before .before) in
+    let s = there-size (a .n) (a .r) (suc (a .i)) (a .q) (k .pre .2 .there) in (
+      record {
+        words = g .ground .row;
+        low = g .low;
+        tableLow = t .low;
+        tableLong = t .long;
+        narrow = g .narrow;
+        cell = omega (arith, here (c .before .before), g .ground .size);
+      },
+      k .pre .1 .room,
+      omega (arith, k .pre .2 .pair, g .ground .coded .few),
+      g .ground .few,
     )
 
-same-length : tie.Need-same-length Inv-loop μ-loop
-same-length c =
-    c .before .loop .inv .1 .frame .long
+same-length-2 : tie.Need-same-length-2
+same-length-2 c = search needs
 
-returns : tie.Need-returns Inv-loop μ-loop
-returns c =
-    let e : c .before .loop .a ≡ c .before .before .before .before .before .args .poses = omega arith in
-    rw e at (c .before .loop .inv .1)
+returns-2 : tie.Need-returns-2
+returns-2 c =
+    let k = c .before .before .before .before .before .before .before .before .before .before .before .before .before .before .before in
+    let a = k .args in
+    let g = k .pre .0 in
+    pair-ext (c .before .before .put-rows .ensures)
+    (λ b l p i.
+    next-found (a .line .now) (a .n) (a .poses) (a .r) (layerIn (a .store .now) (a .from) l) (a .i) (a .q) b (k .pre .2 .there) (g .ground .all) (here (c .before .before .before .before .before))
+    (table (c .before .before .before .before .before .before) .right b l (omega (arith, g .ground .few)) i))
 
 pub target-rows-spec : {M : Type 1} → statement M
 target-rows-spec =
     tie.close
     (tie.spec
-    Inv-loop
-    μ-loop
-    loop-holds
-    target-row-requires
-    add-a
-    loop-less
-    loop-again
+    gather-requires
+    mul-fill
+    add-fill
+    fill-requires
     same-length
-    returns)
+    returns
+    run-up-requires
+    add-last-at
+    last-at-requires
+    put-rows-requires
+    same-length-2
+    returns-2)

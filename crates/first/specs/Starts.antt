@@ -1,0 +1,114 @@
+-- The start of a stretch in a table of planes: each lane has one pose to start with, which costs nothing. Assumes nothing.
+use Prim.Native.Nat.{ℕ, zero, suc, _+_, _*_, _≤_, _<_, min}
+use mathlib.Core.Path.{_≡_, refl, _∙_}
+use mathlib.Core.Logic.{_≢_, _⊎_, inl, inr}
+use mathlib.Core.Bool.{Bool, true, false, cond}
+use mathlib.Core.List.{List, [], _∷_}
+use native.Mathlib.Omega.{arith}
+use native.Mathlib.Decide.{ℕ-discrete, decLt}
+use lib.ListN.{length, getD}
+use lib.Dec.{eqb}
+use Rattle.model.specs.Steps.{B}
+use Rattle.lanes.specs.Store.{Low}
+use Rattle.deck.specs.Words.{wordOf, tollIn, LineWords}
+use Rattle.near.specs.Rows.{inRow, found, endRow, payIn, onePose}
+use Rattle.near.specs.Laws.{row-miss, pay-small, found-one}
+use Rattle.near.specs.Table.{wordAt, Spread, Gathered, Ready, foundRow}
+use Rattle.first.specs.Firsts.{afterRow}
+
+-- pose l₀ + l of the cell at position p in lane l, for the cell at position k
+abbrev pub startIn : List ℕ → ℕ → ℕ → ℕ → ℕ → ℕ → ℕ → ℕ
+startIn line p l₀ k l = onePose line p k (l₀ + l) 0
+
+-- one lane's planes are lowered, in the rows that count; the other lanes are as they were
+pub record Started (plane : ℕ → ℕ → ℕ) (lane : ℕ) (old new : List ℕ) : Type 0 where
+  pub long : length new ≡ length old
+  pub low : Low new
+  pub done : (v t : ℕ) → v < 5 → t < 19 → 4 ≤ v + 4 * t → wordAt new lane v t ≡ min (wordAt old lane v t) (plane v t)
+  pub other : (l v t : ℕ) → l < 64 → l ≢ lane → t < 19 → wordAt new l v t ≡ wordAt old l v t
+
+-- the lanes below n
+pub record StartedTo (plane : ℕ → ℕ → ℕ → ℕ) (n : ℕ) (old new : List ℕ) : Type 0 where
+  pub long : length new ≡ length old
+  pub low : Low new
+  pub done : (l v t : ℕ) → l < n → v < 5 → t < 19 → 4 ≤ v + 4 * t → wordAt new l v t ≡ min (wordAt old l v t) (plane l v t)
+  pub rest : (l v t : ℕ) → n ≤ l → l < 64 → t < 19 → wordAt new l v t ≡ wordAt old l v t
+
+-- ---- one lane
+
+-- the row that a start has: nothing is paid yet
+pub zero-low : Low (0 ∷ [])
+zero-low = record { word = go }
+  where
+    go : (k : ℕ) → getD (0 ∷ []) k 0 ≤ B
+    go zero = omega arith
+    go (suc k) = omega arith
+
+-- a start that ends right of all rows
+pub started-out : (line : List ℕ) {table : List ℕ} (p k b : ℕ) {lane : ℕ} → Low table → 18 < endRow line p b k → Started (onePose line p k b 0) lane table table
+started-out line {table} p k b {lane} w h =
+    record {
+      long = refl;
+      low = w;
+      done = λ v t i j g. omega (arith, w .word (v * 1216 + t * 64 + lane), row-miss (endRow line p b k) t (0 + payIn line p b k v) (λ e. omega arith));
+      other = λ l v t i j k. refl;
+    }
+
+-- a start in row t
+pub started-in :
+    {f plane : ℕ → ℕ → ℕ} {t lane : ℕ} {old new : List ℕ}
+    → Spread f t 5 lane 1 old new → ((v s : ℕ) → v < 5 → plane v s ≡ inRow t s (f v 0))
+    → Started plane lane old new
+started-in {lane = lane} s e =
+    record {
+      long = s .long;
+      low = s .low;
+      done = λ v r i j g.
+          let z : lane + 0 ≡ lane = omega arith in
+          let d = rw z at (s .done 0 v r (omega arith) i j g) in
+          omega (arith, e v r i);
+      other = λ l v r i j k. s .other l v r i (side l j (decLt l lane)) k;
+    }
+  where
+    side : (l : ℕ) → l ≢ lane → Dec (l < lane) → (l < lane) ⊎ (lane + 1 ≤ l)
+    side l j (yes h) = inl h
+    side l j (no h) = inr (omega arith)
+
+-- ---- every lane
+
+pub starts-none : (plane : ℕ → ℕ → ℕ → ℕ) {table : List ℕ} → Low table → StartedTo plane 0 table table
+starts-none plane w = record { long = refl; low = w; done = λ l v t i j k g. absurd (omega arith); rest = λ l v t i j k. refl }
+
+pub starts-more :
+    {plane : ℕ → ℕ → ℕ → ℕ} {old mid new : List ℕ} (n : ℕ)
+    → n < 64 → StartedTo plane n old mid → Started (plane n) n mid new
+    → StartedTo plane (n + 1) old new
+starts-more {plane} {old} {mid} {new} n h s w =
+    record {
+      long = w .long ∙ s .long;
+      low = w .low;
+      done = λ l v t i j k g. go l v t i j k g (ℕ-discrete l n);
+      rest = λ l v t i j k. w .other l v t j (λ e. omega arith) k ∙ s .rest l v t (omega arith) j k;
+    }
+  where
+    go : (l v t : ℕ) → l < n + 1 → v < 5 → t < 19 → 4 ≤ v + 4 * t → Dec (l ≡ n) → wordAt new l v t ≡ min (wordAt old l v t) (plane l v t)
+    go l v t i j k g (yes e) = rw e (omega (arith, w .done v t j k g, s .rest n v t (omega arith) h k))
+    go l v t i j k g (no d) = w .other l v t (omega arith) d k ∙ s .done l v t (omega arith) j k g
+
+pub starts-all : {plane : ℕ → ℕ → ℕ → ℕ} {lanes : ℕ} {old new : List ℕ} → StartedTo plane lanes old new → Gathered plane lanes old new
+starts-all s = record { long = s .long; low = s .low; done = s .done }
+
+-- ---- what is found
+
+pub starts-low : {line : List ℕ} (p l₀ k l v t : ℕ) → LineWords line → startIn line p l₀ k l v t ≤ B
+starts-low {line} p l₀ k l v t w = go (eqb (endRow line p (l₀ + l) k) t) (pay-small p (l₀ + l) k v w)
+  where
+    go : (z : Bool) → payIn line p (l₀ + l) k v ≤ B → cond z (0 + payIn line p (l₀ + l) k v) B ≤ B
+    go true h = omega arith
+    go false h = omega arith
+
+pub after-found :
+    (line : List ℕ) (p l₀ k a l : ℕ) {table : List ℕ} {lanes : ℕ}
+    → Ready (startIn line p l₀ k) lanes table → a < 60 → l < lanes
+    → afterRow line p l₀ k a l ≡ foundRow table (wordOf line k a) a l
+after-found line p l₀ k a l r h i = omega (arith, r .right a l h i, found-one line p (l₀ + l) k a 0)

@@ -1,0 +1,66 @@
+-- After b turns the poses below b are gathered. Assumes nothing.
+use Prim.Native.Nat.{ℕ, _-_, _≤_}
+use mathlib.Core.Path.{_≡_, refl, sym, _∙_}
+use mathlib.Core.Bool.{true, false}
+use mathlib.Core.Logic.{⊎-elim}
+use native.Mathlib.Omega.{arith}
+use borrow.Author.Needs.{needs}
+use Rattle.near.specs.Table.{Gathered, rowIn, posesIn}
+use Rattle.near.specs.TableLaws.{poses-none, poses-more, gathered-none, gathered-join, source-on}
+use Rattle.near.proofs.from_poses.Statement.{statement}
+use Rattle.near.proofs.from_poses.Tie as tie
+
+true-false : true ≡ false → ⊥
+true-false e = let z : _≡_ {A = ℕ} 0 1 = cc in omega arith
+
+abbrev Inv-loop : tie.InvT-loop
+Inv-loop table₀ store line pays at k m poses lanes used₀ b₀ table used b =
+    (b ≤ poses) × Gathered (posesIn store line at k m b) lanes table₀ table × (used ≡ false → table ≡ table₀)
+
+abbrev μ-loop : tie.MeasureT-loop
+μ-loop table₀ store line pays at k m poses lanes used₀ b₀ table used b = poses - b
+
+loop-holds : tie.Need-loop-holds Inv-loop μ-loop
+loop-holds c =
+    let k = c .before .before in
+    let a = k .args in (
+      omega arith,
+      gathered-none _ (k .pre .0 .tableLow) (λ l v t i j h. omega (arith, poses-none (a .line .now) (a .k) (a .m) (rowIn (a .store .now) (a .at) l) v t)),
+      λ e. refl,
+    )
+
+from-pose-requires : tie.Need-from-pose-requires Inv-loop μ-loop
+from-pose-requires c κs =
+    let k = c .before .before .before .before .before in
+    let w = c .before .before .loop .inv .1 in
+    (source-on (k .pre .0) w, k .pre .1, omega arith)
+
+add-b : tie.Need-add-b Inv-loop μ-loop
+add-b c = search needs
+
+loop-less : tie.Need-loop-less Inv-loop μ-loop
+loop-less c = search needs
+
+loop-again : tie.Need-loop-again Inv-loop μ-loop
+loop-again c =
+    let k = c .before .before .before .before .before .before .before in
+    let a = k .args in
+    let l = c .before .before .before .before .loop in (
+      omega arith,
+      gathered-join (l .inv .1) (c .before .from-pose .ensures .0) (λ j v t i. poses-more (a .line .now) (a .k) (a .m) (rowIn (a .store .now) (a .at) j) (l .b) v t),
+      λ e.
+          ⊎-elim
+          (λ w. absurd (true-false (sym (w .1) ∙ e)))
+          (λ w. c .before .from-pose .ensures .1 (w .0 .left) ∙ l .inv .2 (sym (w .1) ∙ e))
+          (c .if1 .came),
+    )
+
+returns : tie.Need-returns Inv-loop μ-loop
+returns c =
+    let e : c .before .loop .b ≡ c .before .before .before .before .args .poses = omega arith in
+    (rw e at (c .before .loop .inv .1), c .before .loop .inv .2)
+
+pub from-poses-spec : {M : Type 1} → statement M
+from-poses-spec =
+    tie.close
+    (tie.spec Inv-loop μ-loop loop-holds from-pose-requires add-b loop-less loop-again returns)

@@ -1,0 +1,92 @@
+-- Each turn lowers one lane more; the lanes that it is lowered to lie below. Assumes nothing.
+use Prim.Native.Nat.{_+_, _-_, _≤_}
+use mathlib.Core.Path.{_≡_}
+use native.Mathlib.Omega.{arith}
+use borrow.Author.Needs.{needs}
+use Rattle.lanes.specs.Lanes.{wordsFrom}
+use Rattle.near.specs.Table.{LoweredAt}
+use Rattle.near.specs.TableLaws.{lowered-at-none, lowered-at-more}
+use Rattle.near.proofs.lower_by.Statement.{statement}
+use Rattle.near.proofs.lower_by.Tie as tie
+
+abbrev Inv-loop : tie.InvT-loop
+Inv-loop table₀ to from lanes l₀ table l =
+    (l ≤ lanes) × LoweredAt (wordsFrom table₀ from) to l table₀ table
+
+abbrev μ-loop : tie.MeasureT-loop
+μ-loop table₀ to from lanes l₀ table l = lanes - l
+
+loop-holds : tie.Need-loop-holds Inv-loop μ-loop
+loop-holds c = (omega arith, lowered-at-none _ _ _)
+
+add-least : tie.Need-add-least Inv-loop μ-loop
+add-least c = search needs
+
+mul-least : tie.Need-mul-least Inv-loop μ-loop
+mul-least c = search needs
+
+element-copy-out-least : tie.Need-element-copy-out-least Inv-loop μ-loop
+element-copy-out-least c = search needs
+
+add-least-2 : tie.Need-add-least-2 Inv-loop μ-loop
+add-least-2 c = search needs
+
+mul-least-2 : tie.Need-mul-least-2 Inv-loop μ-loop
+mul-least-2 c = search needs
+
+element-copy-out-least-2 : tie.Need-element-copy-out-least-2 Inv-loop μ-loop
+element-copy-out-least-2 c = search needs
+
+least-requires : tie.Need-least-requires Inv-loop μ-loop
+least-requires c κs = search needs
+
+add-table : tie.Need-add-table Inv-loop μ-loop
+add-table c = search needs
+
+mul-table : tie.Need-mul-table Inv-loop μ-loop
+mul-table c = search needs
+
+element-write-table : tie.Need-element-write-table Inv-loop μ-loop
+element-write-table c = search needs
+
+add-l : tie.Need-add-l Inv-loop μ-loop
+add-l c = search needs
+
+loop-less : tie.Need-loop-less Inv-loop μ-loop
+loop-less c = search needs
+
+loop-again : tie.Need-loop-again Inv-loop μ-loop
+loop-again c =
+    let k = c .before .before .before .before .before in
+    let l = c .before .before .before .before .loop in
+    let w = l .inv .1 .frame in
+    let e = w .high (k .args .to + l .l) (omega arith) in
+    let f = w .low (k .args .from + l .l) (omega arith) in
+    (omega arith, lowered-at-more (l .l) (c .least .result) (l .inv .1) (omega arith) (omega (arith, c .least .ensures, e, f)))
+
+returns : tie.Need-returns Inv-loop μ-loop
+returns c =
+    let e : c .before .loop .l ≡ c .before .before .args .lanes = omega arith in
+    rw e at (c .before .loop .inv .1)
+
+pub lower-by-spec : {M : Type 1} → statement M
+lower-by-spec =
+    tie.close
+    (tie.spec
+    Inv-loop
+    μ-loop
+    loop-holds
+    add-least
+    mul-least
+    element-copy-out-least
+    add-least-2
+    mul-least-2
+    element-copy-out-least-2
+    least-requires
+    add-table
+    mul-table
+    element-write-table
+    add-l
+    loop-less
+    loop-again
+    returns)

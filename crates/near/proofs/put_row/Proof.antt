@@ -1,0 +1,81 @@
+-- Each turn writes one lane more. Assumes nothing.
+use Prim.Native.Nat.{_-_, _≤_}
+use mathlib.Core.Path.{_≡_}
+use native.Mathlib.Omega.{arith}
+use borrow.Author.Needs.{needs}
+use Rattle.lanes.specs.Store.{Written}
+use Rattle.lanes.specs.Laws.{written-none, written-more}
+use Rattle.near.specs.Table.{foundRow}
+use Rattle.near.specs.TableLaws.{found-small}
+use Rattle.near.proofs.put_row.Statement.{statement}
+use Rattle.near.proofs.put_row.Tie as tie
+
+abbrev Inv-loop : tie.InvT-loop
+Inv-loop store₀ at table a own lanes l₀ store l =
+    (l ≤ lanes) × Written (foundRow table own a) at l store₀ store
+
+abbrev μ-loop : tie.MeasureT-loop
+μ-loop store₀ at table a own lanes l₀ store l = lanes - l
+
+loop-holds : tie.Need-loop-holds Inv-loop μ-loop
+loop-holds c = (omega arith, written-none _ _ (c .before .pre .4))
+
+found-lane-requires : tie.Need-found-lane-requires Inv-loop μ-loop
+found-lane-requires c κs = search needs
+
+add-least : tie.Need-add-least Inv-loop μ-loop
+add-least c =
+    let k = c .before .before .before .before in
+    omega (arith, c .found-lane .ensures, found-small (k .args .a) (c .before .before .loop .l) (k .pre .5))
+
+least-requires : tie.Need-least-requires Inv-loop μ-loop
+least-requires c κs = search needs
+
+add-store : tie.Need-add-store Inv-loop μ-loop
+add-store c = search needs
+
+mul-store : tie.Need-mul-store Inv-loop μ-loop
+mul-store c = search needs
+
+slice-write-store : tie.Need-slice-write-store Inv-loop μ-loop
+slice-write-store c = search needs
+
+add-l : tie.Need-add-l Inv-loop μ-loop
+add-l c = search needs
+
+loop-less : tie.Need-loop-less Inv-loop μ-loop
+loop-less c = search needs
+
+loop-again : tie.Need-loop-again Inv-loop μ-loop
+loop-again c =
+    let k = c .before .before .before .before .before in
+    let l = c .before .before .before .loop in
+    let e = c .before .found-lane .ensures in
+    (omega arith, written-more (l .l) (c .least .result) (l .inv .1) (omega arith) (omega (arith, c .least .ensures, e)) (omega (arith, c .least .ensures)))
+
+same-length : tie.Need-same-length Inv-loop μ-loop
+same-length c = search needs
+
+returns : tie.Need-returns Inv-loop μ-loop
+returns c =
+    let e : c .before .loop .l ≡ c .before .before .before .args .lanes = omega arith in
+    rw e at (c .before .loop .inv .1)
+
+pub put-row-spec : {M : Type 1} → statement M
+put-row-spec =
+    tie.close
+    (tie.spec
+    Inv-loop
+    μ-loop
+    loop-holds
+    found-lane-requires
+    add-least
+    least-requires
+    add-store
+    mul-store
+    slice-write-store
+    add-l
+    loop-less
+    loop-again
+    same-length
+    returns)

@@ -1,0 +1,123 @@
+-- The planes in a table of 6080 words: 5 planes of 19 rows of 64 lanes. What is given, and what the loops leave.
+use Prim.Native.Nat.{ℕ, suc, _+_, _*_, _-_, _/_, _%_, _≤_, _<_, min}
+use mathlib.Core.Path.{_≡_}
+use mathlib.Core.Logic.{_⊎_}
+use mathlib.Core.List.{List}
+use lib.ListN.{length, getD}
+use Rattle.rows.specs.Lists.{from}
+use Rattle.pair.specs.Coded.{lowest}
+use Rattle.model.specs.Steps.{B, Deck, Layer}
+use Rattle.lanes.specs.Store.{Frame, Low, layerIn}
+use Rattle.deck.specs.Words.{wordOf, LineWords}
+use Rattle.near.specs.Gaps.{paying}
+use Rattle.near.specs.Rows.{inRow, payIn, onePose, byPoses, onePair, byPairs, found}
+
+-- the planes of lane l
+abbrev pub wordAt : List ℕ → ℕ → ℕ → ℕ → ℕ
+wordAt table l v t = getD table (v * 1216 + t * 64 + l) 0
+
+-- the words from `to` on, so many of them, are lowered to f's; nothing else changed
+pub record LoweredAt (f : ℕ → ℕ) (to lanes : ℕ) (old new : List ℕ) : Type 0 where
+  pub frame : Frame to (to + lanes) old new
+  pub done : (l : ℕ) → l < lanes → getD new (to + l) 0 ≡ min (getD old (to + l) 0) (f l)
+
+-- the planes of each lane are lowered to other ones, in all rows that count: row 0 counts in plane 4 alone
+pub record Gathered (plane : ℕ → ℕ → ℕ → ℕ) (lanes : ℕ) (old new : List ℕ) : Type 0 where
+  pub long : length new ≡ length old
+  pub low : Low new
+  pub done : (l v t : ℕ) → l < lanes → v < 5 → t < 19 → 4 ≤ v + 4 * t → wordAt new l v t ≡ min (wordAt old l v t) (plane l v t)
+
+-- the same in the planes below `last`, so many lanes from `first` on, by one source in row t, whose cost in plane v and the j-th of these lanes is f v j;
+-- the other planes and lanes are as they were
+pub record Spread (f : ℕ → ℕ → ℕ) (t last first lanes : ℕ) (old new : List ℕ) : Type 0 where
+  pub long : length new ≡ length old
+  pub low : Low new
+  pub done : (j v s : ℕ) → j < lanes → v < last → s < 19 → 4 ≤ v + 4 * s → wordAt new (first + j) v s ≡ min (wordAt old (first + j) v s) (inRow t s (f v j))
+  pub rest : (j v s : ℕ) → j < lanes → last ≤ v → v < 5 → s < 19 → wordAt new (first + j) v s ≡ wordAt old (first + j) v s
+  pub other : (l v s : ℕ) → l < 64 → (l < first) ⊎ (first + lanes ≤ l) → s < 19 → wordAt new l v s ≡ wordAt old l v s
+
+-- what each variant of the cell at position k pays in each plane of the cell at position m: the words below n of 20
+pub record Pays (line : List ℕ) (k m n : ℕ) (pays : List ℕ) : Type 0 where
+  pub long : length pays ≡ 20
+  pub pay : (j : ℕ) → j < n → getD pays j 0 ≡ payIn line k (j / 5) m (j % 5)
+
+-- a variant's pays for a row's lanes, by plane
+abbrev pub chargedBy : List ℕ → ℕ → List ℕ → ℕ → ℕ → ℕ → ℕ
+chargedBy row at pays u v l = getD row (at + l) 0 + getD pays (u * 5 + v) 0
+
+pub record PaysLow (pays : List ℕ) : Type 0 where
+  pub long : length pays ≡ 20
+  pub low : (j : ℕ) → j < 20 → getD pays j 0 ≤ B
+
+-- a table to be lowered by the cell at position k, whose rows begin at `at`, for the cell at position m
+pub record Source (table st line : List ℕ) (at k m lanes : ℕ) : Type 0 where
+  pub words : LineWords line
+  pub low : Low st
+  pub tableLow : Low table
+  pub tableLong : length table ≡ 6080
+  pub narrow : lanes ≤ 60
+  pub room : at + 4096 ≤ length st
+  pub left : k < 64
+  pub right : m < 64
+
+-- ---- sources in the store, l is the lane
+
+-- the costs of a cell's poses, whose rows begin at `at`
+abbrev pub rowIn : List ℕ → ℕ → ℕ → ℕ → ℕ
+rowIn st at l b = getD st (at + b * 64 + l) 0
+
+-- pose b of the cell at position k for the cell at position m
+abbrev pub poseIn : List ℕ → List ℕ → ℕ → ℕ → ℕ → ℕ → ℕ → ℕ → ℕ → ℕ
+poseIn st line at k m b l = onePose line k m b (rowIn st at l b)
+
+-- its poses below n
+abbrev pub posesIn : List ℕ → List ℕ → ℕ → ℕ → ℕ → ℕ → ℕ → ℕ → ℕ → ℕ
+posesIn st line at k m n l = byPoses line k m (rowIn st at l) n
+
+-- pair p of the layer in the block at `at`, which has i cells, if it is a source of pair q
+abbrev pub pairIn : List ℕ → List ℕ → Deck → ℕ → ℕ → ℕ → ℕ → ℕ → ℕ → ℕ → ℕ → ℕ
+pairIn st line D R at i q p l = onePair line D R (layerIn st at l) i q p
+
+-- the pairs below n
+abbrev pub pairsIn : List ℕ → List ℕ → Deck → ℕ → ℕ → ℕ → ℕ → ℕ → ℕ → ℕ → ℕ → ℕ
+pairsIn st line D R at i q n l = byPairs line D R (layerIn st at l) i q n
+
+-- ---- what is found
+
+-- in a table whose plane 4 has in each row the lowest of all rows up to it
+abbrev pub foundIn : List ℕ → ℕ → ℕ → ℕ
+foundIn table a l = min (lowest B (λ gap. wordAt table l (a % 4) (a / 4 + 4 - gap)) paying) (wordAt table l 4 (a / 4))
+
+-- plane 4 has in each row below `rows` the lowest of all rows up to it; the other planes are as they were
+pub record RunUp (rows lanes : ℕ) (old new : List ℕ) : Type 0 where
+  pub long : length new ≡ length old
+  pub low : Low new
+  pub near : (l v t : ℕ) → l < lanes → v < 4 → t < 19 → wordAt new l v t ≡ wordAt old l v t
+  pub far : (l t : ℕ) → l < lanes → t < rows → wordAt new l 4 t ≡ lowest B (wordAt old l 4) (from 0 (suc t))
+  pub rest : (l t : ℕ) → l < lanes → rows ≤ t → t < 19 → wordAt new l 4 t ≡ wordAt old l 4 t
+
+-- what every pose finds is what it finds in the planes
+pub record Ready (plane : ℕ → ℕ → ℕ → ℕ) (lanes : ℕ) (table : List ℕ) : Type 0 where
+  pub long : length table ≡ 6080
+  pub low : Low table
+  pub right : (a l : ℕ) → a < 60 → l < lanes → foundIn table a l ≡ found (plane l) a
+
+-- a cell's own cost with what its pose finds, capped
+abbrev pub foundRow : List ℕ → ℕ → ℕ → ℕ → ℕ
+foundRow table own a l = min (own + foundIn table a l) B
+
+-- pose a of the cell at position k, and all its rows
+abbrev pub foundRowOf : List ℕ → List ℕ → ℕ → ℕ → ℕ → ℕ
+foundRowOf line table k a l = foundRow table (wordOf line k a) a l
+
+abbrev pub foundRows : List ℕ → List ℕ → ℕ → ℕ → Layer
+foundRows line table k l q a = foundRowOf line table k a l
+
+-- rows to be written from a table
+pub record ToRows (st line table : List ℕ) (k lanes : ℕ) : Type 0 where
+  pub words : LineWords line
+  pub low : Low st
+  pub tableLow : Low table
+  pub tableLong : length table ≡ 6080
+  pub narrow : lanes ≤ 60
+  pub cell : k < 64

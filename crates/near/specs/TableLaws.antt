@@ -1,0 +1,329 @@
+-- Laws of the table: what one lowered row, one source and one more of each loop make of it. Assumes nothing.
+use Prim.Native.Nat.{ℕ, zero, suc, _+_, _*_, _-_, _/_, _%_, _≤_, _<_, min}
+use mathlib.Core.Path.{_≡_, refl, sym, ap, ap₂, _∙_}
+use mathlib.Core.Logic.{_≢_, ⊎-elim}
+use mathlib.Core.Bool.{true, false, cond}
+use mathlib.Core.List.{List}
+use native.Mathlib.Omega.{arith}
+use native.Mathlib.Decide.{ℕ-discrete, decLt}
+use borrow.Author.Count.{below-more}
+use lib.ListN.{length, getD, set, length-set, replicate, length-replicate}
+use lib.Seq.{getD-set-same, getD-set-other}
+use Rattle.model.specs.Steps.{B, Deck, Layer, lastAt, isSource}
+use Rattle.rows.specs.Lists.{from}
+use Rattle.pair.specs.Coded.{lowest, lowest-low, lowest-from}
+use Rattle.lanes.specs.Lanes.{wordsFrom}
+use Rattle.lanes.specs.Store.{Frame, Low}
+use Rattle.lanes.specs.Laws.{frame-refl, frame-set, nones-at}
+use Rattle.deck.specs.Words.{LineWords}
+use Rattle.near.specs.Loops.{lowest-none, lowest-more, lowest-same}
+use Rattle.near.specs.Gaps.{paying, paying-low}
+use Rattle.near.specs.Rows.{inRow, endRow, found, payIn, onePose, byPoses, onePair, byPairs}
+use Rattle.near.specs.Laws.{row-hit, row-miss, pay-same, pay-small, found-none, found-ext}
+use Rattle.near.specs.Table.{wordAt, LoweredAt, Gathered, Spread, Pays, PaysLow, Source, RunUp, foundIn, Ready, ToRows}
+
+-- ---- one row
+
+-- a word that is not in the frame
+pub frame-other : {a b : ℕ} {old new : List ℕ} (k : ℕ) → Frame a b old new → (a ≤ k → b ≤ k) → getD new k 0 ≡ getD old k 0
+frame-other {a} {b} {old} {new} k f h = go (decLt k a)
+  where
+    go : Dec (k < a) → getD new k 0 ≡ getD old k 0
+    go (yes p) = f .low k p
+    go (no p) = f .high k (h (omega arith))
+
+pub lowered-at-none : (f : ℕ → ℕ) (to : ℕ) (l : List ℕ) → LoweredAt f to 0 l l
+lowered-at-none f to l = record { frame = frame-refl to (to + 0) l; done = λ k h. absurd (omega arith) }
+
+-- one lane more
+pub lowered-at-more :
+    {f : ℕ → ℕ} {to : ℕ} {old new : List ℕ} (l v : ℕ)
+    → LoweredAt f to l old new → to + l < length old → v ≡ min (getD old (to + l) 0) (f l)
+    → LoweredAt f to (l + 1) old (set new (to + l) v)
+lowered-at-more {f} {to} {old} {new} l v w h e =
+    let n = w .frame .long in
+    record {
+      frame = frame-set (to + (l + 1)) (to + l) v (w .frame) (omega arith) (omega arith) (omega arith);
+      done = below-more (λ (k : ℕ). getD (set new (to + l) v) (to + k) 0 ≡ min (getD old (to + k) 0) (f k)) l
+          (λ k g. getD-set-other new (to + l) (to + k) v 0 (omega arith) ∙ w .done k g)
+          (getD-set-same new (to + l) v 0 (omega arith) ∙ e);
+    }
+
+-- what is lowered stays at most B
+pub lowered-at-low : {f : ℕ → ℕ} {to lanes : ℕ} {old new : List ℕ} → LoweredAt f to lanes old new → Low old → Low new
+lowered-at-low {f} {to} {lanes} {old} {new} v w = record { word = λ k. go k (decLt k to) (decLt k (to + lanes)) }
+  where
+    go : (k : ℕ) → Dec (k < to) → Dec (k < to + lanes) → getD new k 0 ≤ B
+    go k (yes p) q = omega (arith, v .frame .low k p, w .word k)
+    go k (no p) (no q) = omega (arith, v .frame .high k (omega arith), w .word k)
+    go k (no p) (yes q) =
+        let e : to + (k - to) ≡ k = omega arith in
+        let d : getD new k 0 ≡ min (getD old (to + (k - to)) 0) (f (k - to)) = ap (λ (j : ℕ). getD new j 0) (sym e) ∙ v .done (k - to) (omega arith) in
+        omega (arith, w .word (to + (k - to)))
+
+-- ---- what is paid
+
+pub pays-more :
+    {line pays : List ℕ} {k m : ℕ} (j x : ℕ)
+    → Pays line k m j pays → j < 20 → x ≡ payIn line k (j / 5) m (j % 5)
+    → Pays line k m (j + 1) (set pays j x)
+pays-more {line} {pays} {k} {m} j x w h e =
+    let n = w .long in
+    record {
+      long = length-set pays j x ∙ w .long;
+      pay = below-more (λ (i : ℕ). getD (set pays j x) i 0 ≡ payIn line k (i / 5) m (i % 5)) j
+          (λ i g. getD-set-other pays j i x 0 (omega arith) ∙ w .pay i g)
+          (getD-set-same pays j x 0 (omega arith) ∙ e);
+    }
+
+pub pays-low : {line pays : List ℕ} {k m : ℕ} → LineWords line → Pays line k m 20 pays → PaysLow pays
+pays-low {k = k} {m = m} w p = record { long = p .long; low = λ j h. omega (arith, p .pay j h, pay-small k (j / 5) m (j % 5) w) }
+
+-- a source's pose in the planes, from the words of what it pays
+pub pose-spread :
+    {line pays : List ℕ} {k m t : ℕ} (b v s x : ℕ)
+    → Pays line k m 20 pays → t ≡ endRow line k b m → v < 5
+    → onePose line k m b x v s ≡ inRow t s (x + getD pays (b % 4 * 5 + v) 0)
+pose-spread {line} {pays} {k} {m} b v s x p e h =
+    let j : ℕ = b % 4 * 5 + v in
+    let z : getD pays j 0 ≡ payIn line k b m v = p .pay j (omega arith) ∙ ap₂ (λ (u w : ℕ). payIn line k u m w) (omega arith) (omega arith) ∙ pay-same line k b m v in
+    ap₂ (λ (r y : ℕ). inRow r s (x + y)) (sym e) (sym z)
+
+-- ---- one source
+
+-- the planes below the first one that counts
+pub spread-none :
+    (f : ℕ → ℕ → ℕ) (t last first lanes : ℕ) {table : List ℕ}
+    → Low table → ((v s : ℕ) → v < last → 4 ≤ v + 4 * s → t ≢ s)
+    → Spread f t last first lanes table table
+spread-none f t last first lanes {table} w h =
+    record {
+      long = refl;
+      low = w;
+      done = λ l v s i j k c. omega (arith, w .word (v * 1216 + s * 64 + (first + l)), row-miss t s (f v l) (h v s j c));
+      rest = λ l v s i j k c. refl;
+      other = λ l v s i j k. refl;
+    }
+
+-- one plane more
+pub spread-more :
+    {f : ℕ → ℕ → ℕ} {t first lanes : ℕ} {old mid new : List ℕ} (v : ℕ)
+    → first + lanes ≤ 64 → t < 19 → v < 5 → Low old → Spread f t v first lanes old mid → LoweredAt (f v) (v * 1216 + t * 64 + first) lanes mid new
+    → Spread f t (v + 1) first lanes old new
+spread-more {f} {t} {first} {lanes} {old} {mid} {new} v n h c b s w =
+    record {
+      long = w .frame .long ∙ s .long;
+      low = lowered-at-low w (s .low);
+      done = λ l u r i j k g. go l u r i j k g (ℕ-discrete u v) (ℕ-discrete r t);
+      rest = λ l u r i j k g. away (first + l) u r (λ e. omega arith) ∙ s .rest l u r i (omega arith) k g;
+      other = λ l u r i j k. away l u r (⊎-elim (λ p e. omega arith) (λ p e. omega arith) j) ∙ s .other l u r i j k;
+    }
+  where
+    away :
+        (l u r : ℕ) → (v * 1216 + t * 64 + first ≤ u * 1216 + r * 64 + l → v * 1216 + t * 64 + first + lanes ≤ u * 1216 + r * 64 + l)
+        → wordAt new l u r ≡ wordAt mid l u r
+    away l u r e = frame-other (u * 1216 + r * 64 + l) (w .frame) e
+
+    go : (l u r : ℕ) → l < lanes → u < v + 1 → r < 19 → 4 ≤ u + 4 * r → Dec (u ≡ v) → Dec (r ≡ t)
+        → wordAt new (first + l) u r ≡ min (wordAt old (first + l) u r) (inRow t r (f u l))
+    go l u r i j k g (no d) x = away (first + l) u r (λ e. omega arith) ∙ s .done l u r i (omega arith) k g
+    go l u r i j k g (yes e) (no d) =
+        omega (
+          arith,
+          away (first + l) u r (λ z. omega arith),
+          s .rest l u r i (omega arith) (omega arith) k,
+          row-miss t r (f u l) (λ z. omega arith),
+          b .word (u * 1216 + r * 64 + (first + l)),
+        )
+    go l u r i j k g (yes e) (yes d) =
+        let z : getD new (v * 1216 + t * 64 + (first + l)) 0 ≡ getD new (v * 1216 + t * 64 + first + l) 0 = ap (λ (k : ℕ). getD new k 0) (omega arith) in
+        let y : getD mid (v * 1216 + t * 64 + (first + l)) 0 ≡ getD mid (v * 1216 + t * 64 + first + l) 0 = ap (λ (k : ℕ). getD mid k 0) (omega arith) in
+        rw (e, d) (omega (arith, w .done l i, s .rest l v t i (omega arith) (omega arith) h, row-hit t t (f v l) refl))
+
+-- all planes, in all lanes: the source is gathered
+pub spread-all :
+    {f : ℕ → ℕ → ℕ} {plane : ℕ → ℕ → ℕ → ℕ} {t lanes : ℕ} {old new : List ℕ}
+    → Spread f t 5 0 lanes old new → ((l v s : ℕ) → l < lanes → v < 5 → plane l v s ≡ inRow t s (f v l))
+    → Gathered plane lanes old new
+spread-all {old = old} {new = new} s e =
+    record {
+      long = s .long;
+      low = s .low;
+      done = λ l v r i j k g.
+          let z : 0 + l ≡ l = omega arith in
+          let d = rw z at (s .done l v r i j k g) in
+          omega (arith, e l v r i j);
+    }
+
+-- ---- what is found
+
+-- the words that foundIn names
+pub found-words :
+    {table : List ℕ} (a l n f : ℕ)
+    → Low table → n ≡ a % 4 * 1216 + a / 4 * 64 + l → f ≡ 4864 + a / 4 * 64 + l
+    → min (min (getD table (n + 256) 0) (min (getD table (n + 128) 0) (getD table (n + 64) 0))) (getD table f 0) ≡ foundIn table a l
+unfolding lowest
+found-words {table} a l n f w p q =
+    let at : ℕ → ℕ = λ k. getD table k 0 in
+    let z : at (n + 64) ≡ min (at (n + 64)) B = omega (arith, w .word (n + 64)) in
+    ap₂ min
+    (ap₂ min (ap at (omega arith)) (ap₂ min (ap at (omega arith)) (z ∙ ap (λ (k : ℕ). min (at k) B) (omega arith))))
+    (ap at (omega arith))
+
+-- plane 4 before anything ran up
+pub run-none : (lanes : ℕ) {table : List ℕ} → Low table → RunUp 1 lanes table table
+unfolding lowest from
+run-none lanes {table} w =
+    record { long = refl; low = w; near = λ l v t i j k. refl; far = λ l t i j. go l t j; rest = λ l t i j k. refl }
+  where
+    go : (l t : ℕ) → t < 1 → wordAt table l 4 t ≡ lowest B (wordAt table l 4) (from 0 (suc t))
+    go l zero h = omega (arith, w .word (4864 + 0 * 64 + l))
+    go l (suc t) h = absurd (omega arith)
+
+-- one row more
+pub run-more :
+    {lanes : ℕ} {old mid new : List ℕ} (t : ℕ)
+    → lanes ≤ 64 → t < 18 → RunUp (t + 1) lanes old mid → LoweredAt (wordsFrom mid (4864 + t * 64)) (4928 + t * 64) lanes mid new
+    → RunUp (t + 1 + 1) lanes old new
+run-more {lanes} {old} {mid} {new} t n g s w =
+    record {
+      long = w .frame .long ∙ s .long;
+      low = lowered-at-low w (s .low);
+      near = λ l v r i j k. away l v r i (λ e. omega arith) ∙ s .near l v r i j k;
+      far = λ l r i j.
+          below-more (λ (r : ℕ). wordAt new l 4 r ≡ lowest B (wordAt old l 4) (from 0 (suc r))) (t + 1)
+          (λ r h. away l 4 r i (λ e. omega arith) ∙ s .far l r i h)
+          (last l i)
+          r
+          j;
+      rest = λ l r i j k. away l 4 r i (λ e. omega arith) ∙ s .rest l r i (omega arith) k;
+    }
+  where
+    away : (l u r : ℕ) → l < lanes → (4928 + t * 64 ≤ u * 1216 + r * 64 + l → 4928 + t * 64 + lanes ≤ u * 1216 + r * 64 + l) → wordAt new l u r ≡ wordAt mid l u r
+    away l u r i e = frame-other (u * 1216 + r * 64 + l) (w .frame) e
+
+    last : (l : ℕ) → l < lanes → wordAt new l 4 (t + 1) ≡ lowest B (wordAt old l 4) (from 0 (suc (t + 1)))
+    last l i =
+        let at : ℕ → ℕ = λ k. getD new k 0 in
+        let x : wordAt new l 4 (t + 1) ≡ getD new (4928 + t * 64 + l) 0 = ap at (omega arith) in
+        let y : getD mid (4928 + t * 64 + l) 0 ≡ wordAt mid l 4 (t + 1) = ap (λ (k : ℕ). getD mid k 0) (omega arith) in
+        let z : wordAt old l 4 (0 + (t + 1)) ≡ wordAt old l 4 (t + 1) = ap (wordAt old l 4) (omega arith) in
+        let e : lowest B (wordAt old l 4) (from 0 (suc t)) ≡ lowest B (wordAt old l 4) (from 0 (t + 1)) = ap (λ (k : ℕ). lowest B (wordAt old l 4) (from 0 k)) (omega arith) in
+        omega (arith, w .done l i, s .rest l (t + 1) i (omega arith) (omega arith), s .far l t i (omega arith), lowest-from B (wordAt old l 4) 0 (t + 1))
+
+pub found-small : {table : List ℕ} (a l : ℕ) → Low table → foundIn table a l ≤ B
+found-small a l w = omega (arith, w .word (4 * 1216 + a / 4 * 64 + l))
+
+-- ---- many sources
+
+-- the poses below n
+module _ (line : List ℕ) (k m : ℕ) (f : ℕ → ℕ) where
+  pub poses-none : (v t : ℕ) → byPoses line k m f 0 v t ≡ B
+  unfolding byPoses
+  poses-none v t = lowest-none _
+
+  pub poses-more : (n v t : ℕ) → byPoses line k m f (n + 1) v t ≡ min (byPoses line k m f n v t) (onePose line k m n (f n) v t)
+  unfolding byPoses
+  poses-more n v t = lowest-more _ n
+
+-- the pairs below n
+module _ (line : List ℕ) (D : Deck) (R : ℕ) (f : Layer) (i q : ℕ) where
+  pub pair-in : (p v t : ℕ) → isSource D R i q p ≡ true
+      → onePair line D R f i q p v t ≡ byPoses line (lastAt R i p) (lastAt R (suc i) q) (f p) (D .poses) v t
+  unfolding onePair
+  pair-in p v t e = ap (λ z. cond z (byPoses line (lastAt R i p) (lastAt R (suc i) q) (f p) (D .poses) v t) B) e
+
+  pub pair-out : (p v t : ℕ) → isSource D R i q p ≡ false → onePair line D R f i q p v t ≡ B
+  unfolding onePair
+  pair-out p v t e = ap (λ z. cond z (byPoses line (lastAt R i p) (lastAt R (suc i) q) (f p) (D .poses) v t) B) e
+
+  pub pairs-none : (v t : ℕ) → byPairs line D R f i q 0 v t ≡ B
+  unfolding byPairs
+  pairs-none v t = lowest-none _
+
+  pub pairs-more : (n v t : ℕ) → byPairs line D R f i q (n + 1) v t ≡ min (byPairs line D R f i q n v t) (onePair line D R f i q n v t)
+  unfolding byPairs
+  pairs-more n v t = lowest-more _ n
+
+  pub pairs-low : (n v t : ℕ) → byPairs line D R f i q n v t ≤ B
+  unfolding byPairs
+  pairs-low n v t = lowest-low B _ (from 0 n)
+
+-- no source, or none that lowers anything
+pub gathered-none :
+    {plane : ℕ → ℕ → ℕ → ℕ} (lanes : ℕ) {table : List ℕ}
+    → Low table → ((l v t : ℕ) → l < lanes → v < 5 → t < 19 → B ≤ plane l v t)
+    → Gathered plane lanes table table
+gathered-none lanes {table} w h =
+    record { long = refl; low = w; done = λ l v t i j k g. omega (arith, w .word (v * 1216 + t * 64 + l), h l v t i j k) }
+
+-- one after the other
+pub gathered-join :
+    {P Q S : ℕ → ℕ → ℕ → ℕ} {lanes : ℕ} {old mid new : List ℕ}
+    → Gathered P lanes old mid → Gathered Q lanes mid new → ((l v t : ℕ) → l < lanes → S l v t ≡ min (P l v t) (Q l v t))
+    → Gathered S lanes old new
+gathered-join p q e =
+    record {
+      long = q .long ∙ p .long;
+      low = q .low;
+      done = λ l v t i j k g. omega (arith, p .done l v t i j k g, q .done l v t i j k g, e l v t i);
+    }
+
+-- the same by another name
+pub gathered-ext :
+    {P Q : ℕ → ℕ → ℕ → ℕ} {lanes : ℕ} {old new : List ℕ}
+    → Gathered P lanes old new → ((l v t : ℕ) → l < lanes → Q l v t ≡ P l v t)
+    → Gathered Q lanes old new
+gathered-ext p e = record { long = p .long; low = p .low; done = λ l v t i j k g. omega (arith, p .done l v t i j k g, e l v t i) }
+
+-- what a function was given holds on
+pub source-on :
+    {plane : ℕ → ℕ → ℕ → ℕ} {table table′ st line : List ℕ} {at k m lanes : ℕ}
+    → Source table st line at k m lanes → Gathered plane lanes table table′ → Source table′ st line at k m lanes
+source-on g w =
+    record {
+      words = g .words;
+      low = g .low;
+      tableLow = w .low;
+      tableLong = w .long ∙ g .tableLong;
+      narrow = g .narrow;
+      room = g .room;
+      left = g .left;
+      right = g .right;
+    }
+
+pub rows-on : {st st′ line table : List ℕ} {k lanes : ℕ} → ToRows st line table k lanes → Low st′ → ToRows st′ line table k lanes
+rows-on g w = record { words = g .words; low = w; tableLow = g .tableLow; tableLong = g .tableLong; narrow = g .narrow; cell = g .cell }
+
+-- ---- from a table of NONE alone
+
+module _
+    {plane : ℕ → ℕ → ℕ → ℕ} {lanes : ℕ} {table : List ℕ} (narrow : lanes ≤ 64) (low : (l v t : ℕ) → plane l v t ≤ B) (w : Gathered plane lanes (replicate 6080 B) table)
+  where
+    -- it has the planes
+    planes : (l v t : ℕ) → l < lanes → v < 5 → t < 19 → 4 ≤ v + 4 * t → wordAt table l v t ≡ plane l v t
+    planes l v t i j k g = omega (arith, w .done l v t i j k g, nones-at 6080 (v * 1216 + t * 64 + l) (omega arith), low l v t)
+
+    -- and once plane 4 ran up, what is found in them
+    pub ready : {table′ : List ℕ} → RunUp 15 lanes table table′ → Ready plane lanes table′
+    unfolding found
+    ready {table′} u =
+        record {
+          long = u .long ∙ w .long ∙ length-replicate 6080 B;
+          low = u .low;
+          right = λ a l h i.
+              ap₂ min
+              (lowest-same (λ gap. wordAt table′ l (a % 4) (a / 4 + 4 - gap)) (λ gap. wordAt table l (a % 4) (a / 4 + 4 - gap)) paying
+              (λ gap g. let b = paying-low gap g in u .near l (a % 4) (a / 4 + 4 - gap) i (omega arith) (omega arith)))
+              (u .far l (a / 4) i (omega arith))
+              ∙ found-ext (wordAt table l) (plane l) a h (λ v t j k g. planes l v t i j k g);
+        }
+
+    -- if nothing lowered it, nothing is found
+    pub unused : table ≡ replicate 6080 B → (a l : ℕ) → a < 60 → l < lanes → found (plane l) a ≡ B
+    unused e a l h i =
+        found-ext (plane l) (λ v t. B) a h
+        (λ v t j k g.
+        let z : wordAt table l v t ≡ wordAt (replicate 6080 B) l v t = ap (λ (s : List ℕ). wordAt s l v t) e in
+        omega (arith, planes l v t i j k g, nones-at 6080 (v * 1216 + t * 64 + l) (omega arith)))
+        ∙ found-none a

@@ -1,0 +1,253 @@
+// Sources gathered by their end site, for one target cell: a table of 5 planes of 19 rows of 64 lanes, plane v from 1216 v on.
+// Row t has the sources that end at the target's first site - 4 + t, row 0 those further left too. Planes 0 to 3 have them with what they pay
+// to that variant of the target, plane 4 by themselves.
+ghost use mathlib.Core.Path.{_≡_};
+ghost use mathlib.Core.Bool.{Bool, false};
+ghost use Prim.Native.Nat.{ℕ, suc, _+_, _*_, _≤_, _<_};
+ghost use lib.ListN.{length, getD};
+ghost use Rattle.model.specs.Steps.{B};
+ghost use Rattle.lanes.specs.Lanes.{charged, wordsFrom};
+ghost use Rattle.lanes.specs.Store.{Low, Written, FilledPair};
+ghost use Rattle.deck.specs.Words.{LineWords};
+ghost use Rattle.near.specs.Rows.{endRow, payIn};
+ghost use Rattle.near.specs.Table.{LoweredAt, Gathered, chargedBy, Spread, Pays, PaysLow, Source, poseIn, posesIn, RunUp, foundIn, foundRow, foundRowOf, foundRows, ToRows};
+
+// The row in which pose b of the cell at position k counts for the cell at position m.
+pub fn end_row(line: &[u32], k: usize, b: usize, m: usize) -> usize
+    requires { ⌜ LineWords (now line) × (k < 64) × (b < 60) × (m < 64) ⌝ }
+    ensures { λ t. ⌜ t ≡ endRow (now (line .entry)) k b m ⌝ }
+{
+    let y = deck::end(line, k, b) + 4;
+    let first = deck::word(line, m * 128 + 64);
+    if y < first {
+        return 0;
+    }
+    y - first
+}
+
+// ---- what is paid
+
+// What variant u of the cell at position k pays in plane v of the cell at position m.
+fn pay(line: &[u32], k: usize, u: usize, m: usize, v: usize) -> u32
+    requires { ⌜ LineWords (now line) × (k < 64) × (u < 4) × (m < 64) × (v < 5) ⌝ }
+    ensures { λ z. ⌜ z ≡ payIn (now (line .entry)) k u m v ⌝ }
+{
+    if v == 4 {
+        return 0;
+    }
+    line[m * 128 + 84] * deck::differ(line, k, u, m, v)
+}
+
+// All of them, by variant and plane.
+pub fn fill_pays(pays: &mut [u32; 20], line: &[u32], k: usize, m: usize)
+    requires { ⌜ LineWords (now line) × (k < 64) × (m < 64) × (length (now pays) ≡ 20) ⌝ }
+    ensures { λ _. ⌜ Pays (now (line .entry)) k m 20 (now (pays .exit)) ⌝ }
+{
+    let mut j: usize = 0;
+    while j < 20 {
+        pays[j] = pay(line, k, j / 5, m, j % 5);
+        j += 1;
+    }
+}
+
+// ---- one source
+
+// NONE if all lanes of a row are NONE; in any case at most each of them.
+fn common(row: &[u32], at: usize, lanes: usize) -> u32
+    requires { ⌜ at + lanes ≤ length (now row) ⌝ }
+    ensures { λ x. ⌜ ((l : ℕ) → l < lanes → x ≤ getD (now (row .entry)) (at + l) 0) ⌝ }
+{
+    let mut x = lanes::NONE;
+    let mut l: usize = 0;
+    while l < lanes {
+        x = x & row[at + l];
+        l += 1;
+    }
+    x
+}
+
+// The lanes from `to` on lowered to the row's words plus a charge.
+fn lower(table: &mut [u32; 6080], to: usize, row: &[u32], at: usize, charge: u32, lanes: usize)
+    requires { ⌜ (to + lanes ≤ 6080) × (length (now table) ≡ 6080) × (at + lanes ≤ length (now row)) × (charge ≤ B) × Low (now row) ⌝ }
+    ensures { λ _. ⌜ LoweredAt (charged (now (row .entry)) at charge) to lanes (now (table .entry)) (now (table .exit)) ⌝ }
+{
+    let mut l: usize = 0;
+    while l < lanes {
+        table[to + l] = lanes::least(table[to + l], row[at + l] + charge);
+        l += 1;
+    }
+}
+
+// A source row, so many lanes to those from `lane` on, to row t of every plane, or of plane 4 alone if t is 0; u is the source's variant.
+pub fn spread(
+    table: &mut [u32; 6080],
+    row: &[u32],
+    at: usize,
+    pays: &[u32; 20],
+    u: usize,
+    t: usize,
+    lane: usize,
+    lanes: usize,
+)
+    requires { ⌜ Low (now table) × (length (now table) ≡ 6080) × Low (now row) × (at + lanes ≤ length (now row)) × PaysLow (now pays) × (u < 4) × (t < 19) × (lane + lanes ≤ 64) ⌝ }
+    ensures { λ _. ⌜ Spread (chargedBy (now (row .entry)) at (now (pays .entry)) u) t 5 lane lanes (now (table .entry)) (now (table .exit)) ⌝ }
+{
+    let mut v: usize = 0;
+    if t == 0 {
+        v = 4;
+    }
+    while v < 5 {
+        lower(
+            table,
+            v * 1216 + t * 64 + lane,
+            row,
+            at,
+            pays[u * 5 + v],
+            lanes,
+        );
+        v += 1;
+    }
+}
+
+// Pose b of the cell at position k: whether it lowered anything.
+fn from_pose(
+    table: &mut [u32; 6080],
+    store: &[u32],
+    line: &[u32],
+    pays: &[u32; 20],
+    at: usize,
+    k: usize,
+    m: usize,
+    b: usize,
+    lanes: usize,
+) -> bool
+    requires { ⌜ Source (now table) (now store) (now line) at k m lanes × Pays (now line) k m 20 (now pays) × (b < 60) ⌝ }
+    ensures { λ used. ⌜ Gathered (poseIn (now (store .entry)) (now (line .entry)) at k m b) lanes (now (table .entry)) (now (table .exit)) × (used ≡ false → now (table .exit) ≡ now (table .entry)) ⌝ }
+{
+    let t = end_row(line, k, b, m);
+    if t > 18 {
+        return false;
+    }
+    if common(store, at + b * 64, lanes) >= lanes::NONE {
+        return false;
+    }
+    spread(table, store, at + b * 64, pays, b % 4, t, 0, lanes);
+    true
+}
+
+// All poses of the cell at position k: whether one lowered anything.
+pub fn from_poses(
+    table: &mut [u32; 6080],
+    store: &[u32],
+    line: &[u32],
+    pays: &[u32; 20],
+    at: usize,
+    k: usize,
+    m: usize,
+    poses: usize,
+    lanes: usize,
+) -> bool
+    requires { ⌜ Source (now table) (now store) (now line) at k m lanes × Pays (now line) k m 20 (now pays) × (poses ≤ 60) ⌝ }
+    ensures { λ used. ⌜ Gathered (posesIn (now (store .entry)) (now (line .entry)) at k m poses) lanes (now (table .entry)) (now (table .exit)) × (used ≡ false → now (table .exit) ≡ now (table .entry)) ⌝ }
+{
+    let mut used = false;
+    let mut b: usize = 0;
+    while b < poses {
+        if from_pose(table, store, line, pays, at, k, m, b, lanes) {
+            used = true;
+        }
+        b += 1;
+    }
+    used
+}
+
+// ---- what a pose finds
+
+// The lanes from `to` on lowered to those from `from` on.
+fn lower_by(table: &mut [u32; 6080], to: usize, from: usize, lanes: usize)
+    requires { ⌜ (to + lanes ≤ 6080) × (length (now table) ≡ 6080) × (from + lanes ≤ to) ⌝ }
+    ensures { λ _. ⌜ LoweredAt (wordsFrom (now (table .entry)) from) to lanes (now (table .entry)) (now (table .exit)) ⌝ }
+{
+    let mut l: usize = 0;
+    while l < lanes {
+        table[to + l] = lanes::least(table[to + l], table[from + l]);
+        l += 1;
+    }
+}
+
+// Each row of plane 4 lowered to all rows before it.
+pub fn run_up(table: &mut [u32; 6080], lanes: usize)
+    requires { ⌜ Low (now table) × (length (now table) ≡ 6080) × (lanes ≤ 60) ⌝ }
+    ensures { λ _. ⌜ RunUp 15 lanes (now (table .entry)) (now (table .exit)) ⌝ }
+{
+    let mut t: usize = 0;
+    while t < 14 {
+        lower_by(table, 4928 + t * 64, 4864 + t * 64, lanes);
+        t += 1;
+    }
+}
+
+// What pose a finds in lane l: at gaps 0, 2 and 3, and further left.
+fn found_lane(table: &[u32; 6080], a: usize, l: usize) -> u32
+    requires { ⌜ (length (now table) ≡ 6080) × Low (now table) × (a < 60) × (l < 60) ⌝ }
+    ensures { λ x. ⌜ x ≡ foundIn (now (table .entry)) a l ⌝ }
+{
+    let near = a % 4 * 1216 + a / 4 * 64 + l;
+    let far = 4864 + a / 4 * 64 + l;
+    let apart = lanes::least(table[near + 128], table[near + 64]);
+    lanes::least(lanes::least(table[near + 256], apart), table[far])
+}
+
+// A target's row: what its pose finds, with the cell's own cost, capped.
+pub fn put_row(store: &mut [u32], at: usize, table: &[u32; 6080], a: usize, own: u32, lanes: usize)
+    requires { ⌜ (at + lanes ≤ length (now store)) × (lanes ≤ 60) × (length (now table) ≡ 6080) × (own ≤ B) × Low (now store) × Low (now table) × (a < 60) ⌝ }
+    ensures { λ _. ⌜ Written (foundRow (now (table .entry)) own a) at lanes (now (store .entry)) (now (store .exit)) ⌝ }
+{
+    let mut l: usize = 0;
+    while l < lanes {
+        store[at + l] = lanes::least(own + found_lane(table, a, l), lanes::NONE);
+        l += 1;
+    }
+}
+
+// The row of pose a of the cell at position k: NONE where the pose is not offered.
+fn put_pose(
+    store: &mut [u32],
+    line: &[u32],
+    table: &[u32; 6080],
+    at: usize,
+    k: usize,
+    a: usize,
+    lanes: usize,
+)
+    requires { ⌜ ToRows (now store) (now line) (now table) k lanes × (at + lanes ≤ length (now store)) × (a < 60) ⌝ }
+    ensures { λ _. ⌜ Written (foundRowOf (now (line .entry)) (now (table .entry)) k a) at lanes (now (store .entry)) (now (store .exit)) ⌝ }
+{
+    let own = line[k * 128 + a];
+    if own >= lanes::NONE {
+        lanes::fill(store, at, lanes, lanes::NONE);
+        return;
+    }
+    put_row(store, at, table, a, own, lanes);
+}
+
+// The rows of pair q, whose cell stands at position k.
+pub fn put_rows(
+    store: &mut [u32],
+    line: &[u32],
+    table: &[u32; 6080],
+    to: usize,
+    q: usize,
+    k: usize,
+    poses: usize,
+    lanes: usize,
+)
+    requires { ⌜ ToRows (now store) (now line) (now table) k lanes × (to + 49152 ≤ length (now store)) × (q < 12) × (poses ≤ 60) ⌝ }
+    ensures { λ _. ⌜ FilledPair (foundRows (now (line .entry)) (now (table .entry)) k) lanes to q poses (now (store .entry)) (now (store .exit)) ⌝ }
+{
+    let mut a: usize = 0;
+    while a < poses {
+        put_pose(store, line, table, to + q * 4096 + a * 64, k, a, lanes);
+        a += 1;
+    }
+}
