@@ -1,7 +1,9 @@
 // The exported C functions, each over slices that are passed as address and length.
-ghost use Rattle.definition.specs.Outcome.{read, score, Told};
+ghost use Rattle.definition.specs.Outcome.{read, score, Told, Demand3Of};
 ghost use Rattle.fault.specs.Fault.{ToldFault};
+ghost use Rattle.place.specs.Placed.{lent, Placed};
 use fault::tell_fault;
+use place::place_texts;
 use reader::read_job;
 use results::put_results;
 use score::score_texts;
@@ -44,4 +46,19 @@ pub extern "C" fn refiner_fault(job: &[u8], placement: &[u8], part: &mut [u64]) 
     ensures { λ r. ⌜ ToldFault (now (job .entry)) (now (placement .entry)) r (now (part .entry)) (now (part .exit)) ⌝ }
 {
     tell_fault(job, placement, part)
+}
+
+// Place: the placement's text goes to the output, number, line, the six numbers and the text's length to the results, and the number is returned.
+// No list of moves ends in a cheaper legal placement.
+#[no_mangle]
+pub extern "C" fn refiner_place(
+    job: &[u8],
+    store: &mut [u32],
+    output: &mut [u8],
+    results: &mut [i32],
+) -> u32
+    ensures { λ r. ⌜ Placed (now (job .entry)) r (lent (now (store .entry)) (now (output .entry)) (now (results .entry))) (lent (now (store .exit)) (now (output .exit)) (now (results .exit))) ⌝ }
+    ensures { λ r. ⌜ Demand3Of (now (job .entry)) r (lent (now (store .entry)) (now (output .entry)) (now (results .entry))) (lent (now (store .exit)) (now (output .exit)) (now (results .exit))) ⌝ }
+{
+    place_texts(job, store, output, results)
 }
