@@ -15,6 +15,9 @@
  *   3       the line's cell is the 65th, or the 25th tall one
  *   4       the line's given site is below an earlier one in its row
  *   5       the placement's line is bad, missing or surplus
+ *   6       the store has fewer than 1,048,576 words
+ *   7       the output has fewer than 9 bytes per cell
+ *   8       no legal placement exists
  */
 #ifndef REFINER_H
 #define REFINER_H
@@ -43,6 +46,14 @@ uint32_t refiner_score(const uint8_t *job, size_t job_len, const uint8_t *placem
  */
 uint32_t refiner_fault(const uint8_t *job, size_t job_len, const uint8_t *placement,
                        size_t placement_len, uint64_t *part, size_t part_len);
+
+/* Place. Refuses 1 to 4 as Read does, then 6, 7 and 8. Results: number, line, steps, sites
+ * shifted, mirrored, changed, cost, drift, text length. An answer's placement is legal and none is
+ * cheaper; its text goes to the start of `output`, and bytes past it stay as they were. The whole
+ * store is zero after an answer and after 8; any other refusal leaves it as it was.
+ */
+uint32_t refiner_place(const uint8_t *job, size_t job_len, uint32_t *store, size_t store_len,
+                       uint8_t *output, size_t output_len, int32_t *results, size_t results_len);
 
 #ifdef __cplusplus
 }

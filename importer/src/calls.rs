@@ -31,6 +31,17 @@ mod exported {
             part: *mut u64,
             part_len: usize,
         ) -> u32;
+
+        pub fn refiner_place(
+            job: *const u8,
+            job_len: usize,
+            store: *mut u32,
+            store_len: usize,
+            output: *mut u8,
+            output_len: usize,
+            results: *mut i32,
+            results_len: usize,
+        ) -> u32;
     }
 }
 
@@ -68,6 +79,24 @@ pub fn fault(job: &[u8], placement: &[u8], part: &mut [u64]) -> u32 {
             placement.len(),
             part.as_mut_ptr(),
             part.len(),
+        )
+    }
+}
+
+/// Place: number, line, steps, sites shifted, mirrored, changed, cost, drift, text length. The
+/// text goes to the start of `output`.
+pub fn place(job: &[u8], store: &mut [u32], output: &mut [u8], results: &mut [i32]) -> u32 {
+    // SAFETY: as for `read`; here `store` and `output` are lent for writing too.
+    unsafe {
+        exported::refiner_place(
+            job.as_ptr(),
+            job.len(),
+            store.as_mut_ptr(),
+            store.len(),
+            output.as_mut_ptr(),
+            output.len(),
+            results.as_mut_ptr(),
+            results.len(),
         )
     }
 }

@@ -32,6 +32,9 @@ impl Refused {
             3 => "the line's cell is the 65th, or the 25th tall one",
             4 => "the line's given site is below an earlier one in its row",
             5 => "the placement's line is bad, missing or surplus",
+            6 => "the store has fewer than 1,048,576 words",
+            7 => "the output has fewer than 9 bytes per cell",
+            8 => "no legal placement exists",
             _ => "the refiner gave a number that this program does not know",
         }
     }
@@ -44,6 +47,9 @@ impl Refused {
             3 => "split the job: it holds at most 64 cells, of which at most 24 are tall",
             4 => "sort the cell lines so that given sites do not fall within a row",
             5 => "give one line `site,layout,mirror` for each cell, in file order",
+            6 => "lend a larger store",
+            7 => "lend a larger output",
+            8 => "raise D or R, give the rows more sites, or move cells to other rows",
             _ => "build program and archive from the same sources",
         }
     }

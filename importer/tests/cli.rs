@@ -33,9 +33,33 @@ fn told(output: &Output) -> (String, String, Option<i32>) {
 }
 
 #[test]
-fn an_accepted_job_gives_its_cell_count() {
+fn the_worked_example() {
     let (output, notes, status) = told(&refine(&[], WORKED.as_bytes()));
-    assert_eq!((&*output, &*notes, status), ("2\n", "", Some(0)));
+    assert_eq!(output, "100,0,0,1,0,0\n2,0,1\n6,0,0\n");
+    assert_eq!((&*notes, status), ("", Some(0)));
+}
+
+#[test]
+fn a_job_without_cells_has_an_empty_placement() {
+    let (output, _, status) = told(&refine(&[], b"J,2,9,7,1,1000,1000,1000,1000\n"));
+    assert_eq!((&*output, status), ("0,0,0,0,0,0\n", Some(0)));
+}
+
+#[test]
+fn a_negative_drift_is_printed_with_its_sign() {
+    // The cell reaches past the row by one site.
+    let job = b"J,1,20,1,1,100,7,100,50\nC,0,17,1,1,4,3,3,2,2\n";
+    let (output, _, status) = told(&refine(&[], job));
+    assert_eq!((&*output, status), ("7,0,1,0,0,-100\n16,0,0\n", Some(0)));
+}
+
+#[test]
+fn a_job_without_a_legal_placement_is_refused_without_a_line() {
+    let cell = "C,0,0,0,1,3,1,1,1,1\n";
+    let job = format!("J,1,5,7,1,1,1,1,1\n{cell}{cell}");
+    let (output, notes, status) = told(&refine(&[], job.as_bytes()));
+    assert_eq!((&*output, status), ("refused,8,0\n", Some(1)));
+    assert!(notes.starts_with("refine: refusal 8: no legal"), "{notes}");
 }
 
 #[test]

@@ -6,9 +6,17 @@ use std::fmt::Debug;
 /// The longest array that is tried: more than any operation's number, line and fields.
 pub const LONGEST: usize = 12;
 
-/// Lends arrays of each length in turn, filled with a pattern beforehand, and holds what is left
-/// in them against what should be said.
+/// Lends arrays of each length in turn, filled with a pattern beforehand.
 pub struct Arrays {
+    length: usize,
+}
+
+/// An array after a call.
+pub struct Left<T> {
+    returned: u32,
+    pattern: [T; LONGEST],
+    array: [T; LONGEST],
+    /// How much of the array was lent.
     length: usize,
 }
 
@@ -19,22 +27,13 @@ impl Default for Arrays {
 }
 
 impl Arrays {
-    /// Calls an operation with an array of the next length. The number that it returns and what
-    /// it leaves in the array must be as `expected` (number, line, fields) says, and the entries
-    /// after those untouched.
-    pub fn check(
-        &mut self,
-        expected: &[i32],
-        call: impl FnOnce(&mut [i32]) -> u32,
-    ) -> Result<(), String> {
+    /// Calls an operation with a result array of the next length.
+    pub fn lend(&mut self, call: impl FnOnce(&mut [i32]) -> u32) -> Left<i32> {
         let pattern = array::from_fn(|at| i32::MIN + 77 + at as i32);
-        let returned = check_lent(self.next_length(), pattern, expected, call)?;
-        if i64::from(returned) == i64::from(expected[0]) {
-            return Ok(());
-        }
-        Err(format!("returned {returned}, expected {expected:?}"))
+        Left::of(self.next_length(), pattern, call)
     }
 
+<<<<<<< HEAD
     /// The same for Fault line, which returns Score's number and leaves a part's three numbers.
     pub fn check_part(
         &mut self,
@@ -48,6 +47,12 @@ impl Arrays {
             return Ok(());
         }
         Err(format!("returned {returned}, expected {number}"))
+=======
+    /// Calls Fault line with an array of the next length for the part.
+    pub fn lend_part(&mut self, call: impl FnOnce(&mut [u64]) -> u32) -> Left<u64> {
+        let pattern = array::from_fn(|at| u64::MAX - 77 - at as u64);
+        Left::of(self.next_length(), pattern, call)
+>>>>>>> host
     }
 
     fn next_length(&mut self) -> usize {
@@ -56,22 +61,35 @@ impl Arrays {
     }
 }
 
-/// Lends an array of this length and pattern, and says what the call returned.
-fn check_lent<T: Copy + PartialEq + Debug>(
-    length: usize,
-    pattern: [T; LONGEST],
-    expected: &[T],
-    call: impl FnOnce(&mut [T]) -> u32,
-) -> Result<u32, String> {
-    let mut array = pattern;
-    let returned = call(&mut array[..length]);
-    let reached = length.min(expected.len());
-    let mut left = pattern;
-    left[..reached].copy_from_slice(&expected[..reached]);
-    if array == left {
-        return Ok(returned);
+impl<T: Copy + PartialEq + Debug> Left<T> {
+    fn of(length: usize, pattern: [T; LONGEST], call: impl FnOnce(&mut [T]) -> u32) -> Left<T> {
+        let mut array = pattern;
+        let returned = call(&mut array[..length]);
+        Left {
+            returned,
+            pattern,
+            array,
+            length,
+        }
     }
-    Err(format!(
-        "returned {returned}, left {array:?} (length {length}), expected {expected:?}"
-    ))
+
+    /// What the call returned.
+    pub fn returned(&self) -> u32 {
+        self.returned
+    }
+
+    /// Holds the call against the number that it should return and what it should write, as far as
+    /// the array reached; all after that must be untouched.
+    pub fn check(&self, returned: u32, expected: &[T]) -> Result<(), String> {
+        let reached = self.length.min(expected.len());
+        let mut array = self.pattern;
+        array[..reached].copy_from_slice(&expected[..reached]);
+        if self.returned == returned && self.array == array {
+            return Ok(());
+        }
+        Err(format!(
+            "returned {}, left {:?} (length {}), expected {returned} and {expected:?}",
+            self.returned, self.array, self.length
+        ))
+    }
 }

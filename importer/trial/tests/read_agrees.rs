@@ -23,10 +23,10 @@ impl Comparison {
         };
         self.texts += 1;
         self.numbers[expected[0] as usize] += 1;
-        let outcome = self
+        let left = self
             .arrays
-            .check(&expected, |results| importer::calls::read(text, results));
-        if let Err(difference) = outcome {
+            .lend(|results| importer::calls::read(text, results));
+        if let Err(difference) = left.check(expected[0] as u32, &expected) {
             panic!("Read {difference} of\n{}", text.escape_ascii());
         }
     }

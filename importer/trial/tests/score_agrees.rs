@@ -26,6 +26,7 @@ impl Comparison {
         if results[0] == 0 {
             self.rules[results[2] as usize] += 1;
         }
+<<<<<<< HEAD
         let outcome = self
             .arrays
             .check(&results, |lent| {
@@ -36,6 +37,12 @@ impl Comparison {
                     importer::calls::fault(job, placement, lent)
                 })
             });
+=======
+        let score = |lent: &mut [i32]| importer::calls::score(job, placement, lent);
+        let fault = |lent: &mut [u64]| importer::calls::fault(job, placement, lent);
+        let scored = self.arrays.lend(score).check(results[0] as u32, &results);
+        let outcome = scored.and(self.arrays.lend_part(fault).check(0, &part));
+>>>>>>> host
         if let Err(difference) = outcome {
             let texts = [job, placement].map(<[u8]>::escape_ascii);
             panic!("{difference} of\n{}\nand\n{}", texts[0], texts[1]);

@@ -1,5 +1,5 @@
-//! `refine`: reads a job on standard input and prints how many cells it has, or
-//! `refused,number,line`. Placing follows with the refiner's own Place.
+//! `refine`: reads a job on standard input and prints the numbers of a cheapest legal placement
+//! and the placement, or `refused,number,line`.
 //!
 //! `refine score JOBFILE PLACEMENTFILE` scores a placement.
 //!
@@ -16,10 +16,11 @@ use std::process::ExitCode;
 
 const USAGE: &str = "\
 usage: refine < JOB
-  prints the job's cell count
+  prints `cost,steps,sites shifted,mirrored,changed,drift`, then a cheapest legal placement
    or: refine score JOBFILE PLACEMENTFILE
   prints `legal,cost,steps,sites shifted,mirrored,changed,drift`, or `broken,rule,cell`
-both print `refused,number,line` for a bad text, with the line itself on standard error
+both print `refused,number,line` for a bad text, with the line itself on standard error;
+`refused,8,0` says that the job has no legal placement
 exit status: 0 an answer, 1 a refusal, 2 a usage or input error
 ";
 
@@ -34,16 +35,20 @@ fn main() -> ExitCode {
 /// The report of a run, or the reason why there is none.
 fn run(arguments: &[OsString]) -> Result<Report, String> {
     match arguments {
-        [] => Ok(read(&input::standard_input()?)),
+        [] => Ok(refine(&input::standard_input()?)),
         [word, job, placement] if word == "score" => score(job, placement),
         [word] if word == "--help" || word == "-h" => Ok(Report::answer(USAGE)),
         _ => Err(USAGE.into()),
     }
 }
 
-fn read(job: &[u8]) -> Report {
-    match importer::read(job) {
-        Ok(read) => Report::answer(format!("{}\n", read.cells)),
+fn refine(job: &[u8]) -> Report {
+    match importer::refine(job) {
+        Ok(refined) => {
+            let mut output = format!("{}\n", report::line_of(&refined.numbers)).into_bytes();
+            output.extend_from_slice(&refined.text);
+            Report::answer(output)
+        }
         Err(refused) => Report::refusal(refused, fault_line(job, &[])),
     }
 }

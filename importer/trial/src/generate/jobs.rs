@@ -92,7 +92,7 @@ fn layout(random: &mut Random, row: u16, most_width: u16, most_height: u16) -> L
 }
 
 /// A given site that does not fall in any row of the cell.
-fn next_given(highest: &mut [u16; 2], cell: &Cell, step: u16) -> u16 {
+pub fn next_given(highest: &mut [u16; 2], cell: &Cell, step: u16) -> u16 {
     let rows = &mut highest[cell.rows()];
     let floor = rows.iter().copied().max().unwrap_or(0);
     let given = (floor + step).min(1023);

@@ -5,5 +5,6 @@ pub mod jobs;
 pub mod legal;
 pub mod placements;
 mod random;
+pub mod small;
 
 pub use random::Random;

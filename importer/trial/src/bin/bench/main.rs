@@ -3,6 +3,7 @@
 //! Each line is the best of five of both, taken in turn.
 
 mod clock;
+mod placing;
 mod reading;
 mod scoring;
 
@@ -13,4 +14,5 @@ fn main() {
     );
     reading::compare();
     scoring::compare();
+    placing::compare();
 }
