@@ -33,26 +33,10 @@ impl Arrays {
         Left::of(self.next_length(), pattern, call)
     }
 
-<<<<<<< HEAD
-    /// The same for Fault line, which returns Score's number and leaves a part's three numbers.
-    pub fn check_part(
-        &mut self,
-        number: i32,
-        expected: &[u64; 3],
-        call: impl FnOnce(&mut [u64]) -> u32,
-    ) -> Result<(), String> {
-        let pattern = array::from_fn(|at| u64::MAX - 77 - at as u64);
-        let returned = check_lent(self.next_length(), pattern, expected, call)?;
-        if i64::from(returned) == i64::from(number) {
-            return Ok(());
-        }
-        Err(format!("returned {returned}, expected {number}"))
-=======
     /// Calls Fault line with an array of the next length for the part.
     pub fn lend_part(&mut self, call: impl FnOnce(&mut [u64]) -> u32) -> Left<u64> {
         let pattern = array::from_fn(|at| u64::MAX - 77 - at as u64);
         Left::of(self.next_length(), pattern, call)
->>>>>>> host
     }
 
     fn next_length(&mut self) -> usize {

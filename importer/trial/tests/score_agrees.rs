@@ -26,23 +26,10 @@ impl Comparison {
         if results[0] == 0 {
             self.rules[results[2] as usize] += 1;
         }
-<<<<<<< HEAD
-        let outcome = self
-            .arrays
-            .check(&results, |lent| {
-                importer::calls::score(job, placement, lent)
-            })
-            .and_then(|()| {
-                self.arrays.check_part(results[0], &part, |lent| {
-                    importer::calls::fault(job, placement, lent)
-                })
-            });
-=======
         let score = |lent: &mut [i32]| importer::calls::score(job, placement, lent);
         let fault = |lent: &mut [u64]| importer::calls::fault(job, placement, lent);
         let scored = self.arrays.lend(score).check(results[0] as u32, &results);
-        let outcome = scored.and(self.arrays.lend_part(fault).check(0, &part));
->>>>>>> host
+        let outcome = scored.and(self.arrays.lend_part(fault).check(results[0] as u32, &part));
         if let Err(difference) = outcome {
             let texts = [job, placement].map(<[u8]>::escape_ascii);
             panic!("{difference} of\n{}\nand\n{}", texts[0], texts[1]);
