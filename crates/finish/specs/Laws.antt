@@ -129,14 +129,14 @@ end-always {old = old} n w e =
       right = λ l h. w .words l h ∙ sym (e (layerIn old 0 l));
     }
 
--- a block of B alone, and then the prices in its first row
+-- B for every pair, and then the prices in the first row
 pub end-block :
-    {D : Deck} {R lanes i prices : ℕ} {old mid new : List ℕ}
-    → Small D R lanes → 98304 ≤ prices → Written (always B) prices 49152 old mid → EndLanes D R lanes i prices mid new
+    {D : Deck} {R lanes i prices count : ℕ} {old mid new : List ℕ}
+    → Small D R lanes → count ≡ pairCount R → 98304 ≤ prices → Written (always B) prices (count * 4096) old mid → EndLanes D R lanes i prices mid new
     → Ended D R lanes i prices old new
-end-block {D} {R} {lanes} {i} {prices} {old} {mid} {new} s h w e =
+end-block {D} {R} {lanes} {i} {prices} {count} {old} {mid} {new} s c h w e =
     record {
-      outside = outside-join (outside-prices (w .frame) (omega arith) (omega arith)) (outside-widen (e .outside) (omega arith));
+      outside = outside-join (outside-prices (w .frame) (omega arith) (omega (arith, s .pairs))) (outside-widen (e .outside) (omega arith));
       low = e .low;
       first = first;
       right = λ q a l x y z. go q a l x y z (eqb q 0) (eq? q 0) (eqb a 0) (eq? a 0);

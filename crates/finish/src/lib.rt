@@ -182,6 +182,6 @@ pub fn stretch_end(
     requires { ⌜ Given (now line) (now pairs) (now store) n poses r count lanes i 0 × PriceRoom (now store) prices ⌝ }
     ensures { λ _. ⌜ Ended (deckOf (now (line .entry)) n poses) r lanes i prices (now (store .entry)) (now (store .exit)) ⌝ }
 {
-    lanes::fill(store, prices, 49152, lanes::NONE);
+    lanes::fill(store, prices, count * 4096, lanes::NONE);
     end_lanes(store, line, pairs, n, poses, r, count, lanes, i, prices);
 }

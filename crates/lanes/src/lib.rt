@@ -15,6 +15,14 @@ pub fn least(x: u32, y: u32) -> u32
     if x < y { x } else { y }
 }
 
+// The same for words below 2^31: compared as signed numbers, four lanes at a time take fewer steps.
+pub fn lesser(x: u32, y: u32) -> u32
+    requires { ⌜ (x ≤ 536870912) × (y ≤ 536870912) ⌝ }
+    ensures { λ r. ⌜ r ≡ min x y ⌝ }
+{
+    if (x as i32) < (y as i32) { x } else { y }
+}
+
 // Each lane of `acc` lowered to the row's word plus a charge.
 pub fn relax(acc: &mut [u32; 64], row: &[u32], at: usize, charge: u32, lanes: usize)
     requires { ⌜ (at + lanes ≤ length (now row)) × (lanes ≤ 64) × (length (now acc) ≡ 64) × (charge ≤ B) × Low (now row) ⌝ }

@@ -68,12 +68,12 @@ fn common(row: &[u32], at: usize, lanes: usize) -> u32
 
 // The lanes from `to` on lowered to the row's words plus a charge.
 fn lower(table: &mut [u32; 6080], to: usize, row: &[u32], at: usize, charge: u32, lanes: usize)
-    requires { ⌜ (to + lanes ≤ 6080) × (length (now table) ≡ 6080) × (at + lanes ≤ length (now row)) × (charge ≤ B) × Low (now row) ⌝ }
+    requires { ⌜ (to + lanes ≤ 6080) × (length (now table) ≡ 6080) × (at + lanes ≤ length (now row)) × (charge ≤ B) × Low (now row) × Low (now table) ⌝ }
     ensures { λ _. ⌜ LoweredAt (charged (now (row .entry)) at charge) to lanes (now (table .entry)) (now (table .exit)) ⌝ }
 {
     let mut l: usize = 0;
     while l < lanes {
-        table[to + l] = lanes::least(table[to + l], row[at + l] + charge);
+        table[to + l] = lanes::lesser(table[to + l], row[at + l] + charge);
         l += 1;
     }
 }
@@ -165,12 +165,12 @@ pub fn from_poses(
 
 // The lanes from `to` on lowered to those from `from` on.
 fn lower_by(table: &mut [u32; 6080], to: usize, from: usize, lanes: usize)
-    requires { ⌜ (to + lanes ≤ 6080) × (length (now table) ≡ 6080) × (from + lanes ≤ to) ⌝ }
+    requires { ⌜ (to + lanes ≤ 6080) × (length (now table) ≡ 6080) × (from + lanes ≤ to) × Low (now table) ⌝ }
     ensures { λ _. ⌜ LoweredAt (wordsFrom (now (table .entry)) from) to lanes (now (table .entry)) (now (table .exit)) ⌝ }
 {
     let mut l: usize = 0;
     while l < lanes {
-        table[to + l] = lanes::least(table[to + l], table[from + l]);
+        table[to + l] = lanes::lesser(table[to + l], table[from + l]);
         l += 1;
     }
 }
@@ -194,8 +194,8 @@ fn found_lane(table: &[u32; 6080], a: usize, l: usize) -> u32
 {
     let near = a % 4 * 1216 + a / 4 * 64 + l;
     let far = 4864 + a / 4 * 64 + l;
-    let apart = lanes::least(table[near + 128], table[near + 64]);
-    lanes::least(lanes::least(table[near + 256], apart), table[far])
+    let apart = lanes::lesser(table[near + 128], table[near + 64]);
+    lanes::lesser(lanes::lesser(table[near + 256], apart), table[far])
 }
 
 // A target's row: what its pose finds, with the cell's own cost, capped.
@@ -205,7 +205,7 @@ pub fn put_row(store: &mut [u32], at: usize, table: &[u32; 6080], a: usize, own:
 {
     let mut l: usize = 0;
     while l < lanes {
-        store[at + l] = lanes::least(own + found_lane(table, a, l), lanes::NONE);
+        store[at + l] = lanes::lesser(own + found_lane(table, a, l), lanes::NONE);
         l += 1;
     }
 }

@@ -192,11 +192,11 @@ priced-step {D} {R} {lanes} {i} {p} {d} {at} {prices} s c h r f g =
       low = g .low;
     }
 
--- the stretch begins: the block of prices has B alone, and the first layer is delivered
+-- the stretch begins: the prices of every pair are B, and the first layer is delivered
 pub priced-start :
     (D : Deck) (R lanes i p prices count : ℕ) {mid new : List ℕ}
     → Small D R lanes → count ≡ pairCount R → 98304 ≤ prices
-    → ((k : ℕ) → k < 49152 → getD mid (prices + k) 0 ≡ B)
+    → ((k : ℕ) → k < count * 4096 → getD mid (prices + k) 0 ≡ B)
     → Filled (delivered R i p mid 0 prices) 64 64 prices count mid new
     → PricedRun D R lanes i p 0 0 prices new new
 priced-start D R lanes i p prices count {mid} {new} s c h none g =

@@ -66,7 +66,7 @@ pub fn stretch_to(
     requires { ⌜ Given (now line) (now pairs) (now store) n poses r count lanes i 0 × PriceRoom (now store) prices × (tall < 64) ⌝ }
     ensures { λ _. ⌜ Priced (deckOf (now (line .entry)) n poses) r lanes i tall prices (now (store .entry)) (now (store .exit)) ⌝ }
 {
-    lanes::fill(store, prices, 49152, lanes::NONE);
+    lanes::fill(store, prices, count * 4096, lanes::NONE);
     deliver(store, pairs, r, count, i, tall, 0, prices);
     let mut from: usize = 0;
     let mut d: usize = 0;

@@ -28,54 +28,63 @@ add-far c = search needs
 add-far-2 : tie.Need-add-far-2
 add-far-2 c = search needs
 
-add-least : tie.Need-add-least
-add-least c = search needs
+add-lesser : tie.Need-add-lesser
+add-lesser c = search needs
 
-mul-least : tie.Need-mul-least
-mul-least c = search needs
+mul-lesser : tie.Need-mul-lesser
+mul-lesser c = search needs
 
-element-copy-out-least : tie.Need-element-copy-out-least
-element-copy-out-least c = search needs
+element-copy-out-lesser : tie.Need-element-copy-out-lesser
+element-copy-out-lesser c = search needs
 
-add-least-2 : tie.Need-add-least-2
-add-least-2 c = search needs
+add-lesser-2 : tie.Need-add-lesser-2
+add-lesser-2 c = search needs
 
-mul-least-2 : tie.Need-mul-least-2
-mul-least-2 c = search needs
+mul-lesser-2 : tie.Need-mul-lesser-2
+mul-lesser-2 c = search needs
 
-element-copy-out-least-2 : tie.Need-element-copy-out-least-2
-element-copy-out-least-2 c = search needs
+element-copy-out-lesser-2 : tie.Need-element-copy-out-lesser-2
+element-copy-out-lesser-2 c = search needs
 
-least-requires : tie.Need-least-requires
-least-requires c κs = search needs
+lesser-requires : tie.Need-lesser-requires
+lesser-requires c κs =
+    let k = c .before .before in
+    let a = k .args in
+    (omega (arith, k .pre .1 .word (a .a % 4 * 1216 + a .a / 4 * 64 + a .l + 128)), omega (arith, k .pre .1 .word (a .a % 4 * 1216 + a .a / 4 * 64 + a .l + 64)))
 
-add-least-3 : tie.Need-add-least-3
-add-least-3 c = search needs
+add-lesser-3 : tie.Need-add-lesser-3
+add-lesser-3 c = search needs
 
-mul-least-3 : tie.Need-mul-least-3
-mul-least-3 c = search needs
+mul-lesser-3 : tie.Need-mul-lesser-3
+mul-lesser-3 c = search needs
 
-element-copy-out-least-3 : tie.Need-element-copy-out-least-3
-element-copy-out-least-3 c = search needs
+element-copy-out-lesser-3 : tie.Need-element-copy-out-lesser-3
+element-copy-out-lesser-3 c = search needs
 
-least-requires-2 : tie.Need-least-requires-2
-least-requires-2 c κs = search needs
+lesser-requires-2 : tie.Need-lesser-requires-2
+lesser-requires-2 c κs =
+    let k = c .before .before .before .before in
+    let a = k .args in
+    (omega (arith, k .pre .1 .word (a .a % 4 * 1216 + a .a / 4 * 64 + a .l + 256)), omega (arith, c .before .lesser .ensures, k .pre .1 .word (a .a % 4 * 1216 + a .a / 4 * 64 + a .l + 64)))
 
-mul-least-4 : tie.Need-mul-least-4
-mul-least-4 c = search needs
+mul-lesser-4 : tie.Need-mul-lesser-4
+mul-lesser-4 c = search needs
 
-element-copy-out-least-4 : tie.Need-element-copy-out-least-4
-element-copy-out-least-4 c = search needs
+element-copy-out-lesser-4 : tie.Need-element-copy-out-lesser-4
+element-copy-out-lesser-4 c = search needs
 
-least-requires-3 : tie.Need-least-requires-3
-least-requires-3 c κs = search needs
+lesser-requires-3 : tie.Need-lesser-requires-3
+lesser-requires-3 c κs =
+    let k = c .before .before .before .before .before .before in
+    let a = k .args in
+    (omega (arith, c .before .lesser2 .ensures, k .pre .1 .word (a .a % 4 * 1216 + a .a / 4 * 64 + a .l + 256)), omega (arith, k .pre .1 .word (4864 + a .a / 4 * 64 + a .l)))
 
 returns : tie.Need-returns
 returns c =
     let k = c .before .before .before .before .before .before .before in
     let a = k .args in
     let e = found-words (a .a) (a .l) (a .a % 4 * 1216 + a .a / 4 * 64 + a .l) (4864 + a .a / 4 * 64 + a .l) (k .pre .1) refl refl in
-    omega (arith, e, c .least3 .ensures, c .before .before .least2 .ensures, c .before .before .before .before .least .ensures)
+    omega (arith, e, c .lesser3 .ensures, c .before .before .lesser2 .ensures, c .before .before .before .before .lesser .ensures)
 
 pub found-lane-spec : {M : Type 1} → statement M
 found-lane-spec =
@@ -88,18 +97,18 @@ found-lane-spec =
     mul-far
     add-far
     add-far-2
-    add-least
-    mul-least
-    element-copy-out-least
-    add-least-2
-    mul-least-2
-    element-copy-out-least-2
-    least-requires
-    add-least-3
-    mul-least-3
-    element-copy-out-least-3
-    least-requires-2
-    mul-least-4
-    element-copy-out-least-4
-    least-requires-3
+    add-lesser
+    mul-lesser
+    element-copy-out-lesser
+    add-lesser-2
+    mul-lesser-2
+    element-copy-out-lesser-2
+    lesser-requires
+    add-lesser-3
+    mul-lesser-3
+    element-copy-out-lesser-3
+    lesser-requires-2
+    mul-lesser-4
+    element-copy-out-lesser-4
+    lesser-requires-3
     returns)

@@ -19,31 +19,35 @@ abbrev μ-loop : tie.MeasureT-loop
 loop-holds : tie.Need-loop-holds Inv-loop μ-loop
 loop-holds c = (omega arith, lowered-at-none _ _ _)
 
-add-least : tie.Need-add-least Inv-loop μ-loop
-add-least c = search needs
+add-lesser : tie.Need-add-lesser Inv-loop μ-loop
+add-lesser c = search needs
 
-mul-least : tie.Need-mul-least Inv-loop μ-loop
-mul-least c = search needs
+mul-lesser : tie.Need-mul-lesser Inv-loop μ-loop
+mul-lesser c = search needs
 
-element-copy-out-least : tie.Need-element-copy-out-least Inv-loop μ-loop
-element-copy-out-least c = search needs
+element-copy-out-lesser : tie.Need-element-copy-out-lesser Inv-loop μ-loop
+element-copy-out-lesser c = search needs
 
-add-least-2 : tie.Need-add-least-2 Inv-loop μ-loop
-add-least-2 c = search needs
+add-lesser-2 : tie.Need-add-lesser-2 Inv-loop μ-loop
+add-lesser-2 c = search needs
 
-mul-least-2 : tie.Need-mul-least-2 Inv-loop μ-loop
-mul-least-2 c = search needs
+mul-lesser-2 : tie.Need-mul-lesser-2 Inv-loop μ-loop
+mul-lesser-2 c = search needs
 
-shared-slice-read-least : tie.Need-shared-slice-read-least Inv-loop μ-loop
-shared-slice-read-least c = search needs
+shared-slice-read-lesser : tie.Need-shared-slice-read-lesser Inv-loop μ-loop
+shared-slice-read-lesser c = search needs
 
-add-least-3 : tie.Need-add-least-3 Inv-loop μ-loop
-add-least-3 c =
+add-lesser-3 : tie.Need-add-lesser-3 Inv-loop μ-loop
+add-lesser-3 c =
     let k = c .before .before .before .before .before in
     omega (arith, k .pre .4 .word (k .args .at + c .before .before .before .loop .l))
 
-least-requires : tie.Need-least-requires Inv-loop μ-loop
-least-requires c κs = search needs
+lesser-requires : tie.Need-lesser-requires Inv-loop μ-loop
+lesser-requires c κs =
+    let k = c .before .before .before .before .before in
+    let l = c .before .before .before .loop in
+    let i = k .args .to + l .l in
+    (omega (arith, l .inv .1 .frame .high i (omega arith), k .pre .5 .word i), omega (arith, k .pre .4 .word (k .args .at + l .l)))
 
 add-table : tie.Need-add-table Inv-loop μ-loop
 add-table c = search needs
@@ -65,7 +69,7 @@ loop-again c =
     let k = c .before .before .before .before .before .before in
     let l = c .before .before .before .before .loop in
     let e = l .inv .1 .frame .high (k .args .to + l .l) (omega arith) in
-    (omega arith, lowered-at-more (l .l) (c .least .result) (l .inv .1) (omega arith) (omega (arith, c .least .ensures, e)))
+    (omega arith, lowered-at-more (l .l) (c .lesser .result) (l .inv .1) (omega arith) (omega (arith, c .lesser .ensures, e)))
 
 returns : tie.Need-returns Inv-loop μ-loop
 returns c =
@@ -79,14 +83,14 @@ lower-spec =
     Inv-loop
     μ-loop
     loop-holds
-    add-least
-    mul-least
-    element-copy-out-least
-    add-least-2
-    mul-least-2
-    shared-slice-read-least
-    add-least-3
-    least-requires
+    add-lesser
+    mul-lesser
+    element-copy-out-lesser
+    add-lesser-2
+    mul-lesser-2
+    shared-slice-read-lesser
+    add-lesser-3
+    lesser-requires
     add-table
     mul-table
     element-write-table

@@ -19,26 +19,31 @@ abbrev μ-loop : tie.MeasureT-loop
 loop-holds : tie.Need-loop-holds Inv-loop μ-loop
 loop-holds c = (omega arith, lowered-at-none _ _ _)
 
-add-least : tie.Need-add-least Inv-loop μ-loop
-add-least c = search needs
+add-lesser : tie.Need-add-lesser Inv-loop μ-loop
+add-lesser c = search needs
 
-mul-least : tie.Need-mul-least Inv-loop μ-loop
-mul-least c = search needs
+mul-lesser : tie.Need-mul-lesser Inv-loop μ-loop
+mul-lesser c = search needs
 
-element-copy-out-least : tie.Need-element-copy-out-least Inv-loop μ-loop
-element-copy-out-least c = search needs
+element-copy-out-lesser : tie.Need-element-copy-out-lesser Inv-loop μ-loop
+element-copy-out-lesser c = search needs
 
-add-least-2 : tie.Need-add-least-2 Inv-loop μ-loop
-add-least-2 c = search needs
+add-lesser-2 : tie.Need-add-lesser-2 Inv-loop μ-loop
+add-lesser-2 c = search needs
 
-mul-least-2 : tie.Need-mul-least-2 Inv-loop μ-loop
-mul-least-2 c = search needs
+mul-lesser-2 : tie.Need-mul-lesser-2 Inv-loop μ-loop
+mul-lesser-2 c = search needs
 
-element-copy-out-least-2 : tie.Need-element-copy-out-least-2 Inv-loop μ-loop
-element-copy-out-least-2 c = search needs
+element-copy-out-lesser-2 : tie.Need-element-copy-out-lesser-2 Inv-loop μ-loop
+element-copy-out-lesser-2 c = search needs
 
-least-requires : tie.Need-least-requires Inv-loop μ-loop
-least-requires c κs = search needs
+lesser-requires : tie.Need-lesser-requires Inv-loop μ-loop
+lesser-requires c κs =
+    let k = c .before .before .before .before in
+    let l = c .before .before .before .loop in
+    let i = k .args .to + l .l in
+    let j = k .args .from + l .l in
+    (omega (arith, l .inv .1 .frame .high i (omega arith), k .pre .3 .word i), omega (arith, l .inv .1 .frame .low j (omega arith), k .pre .3 .word j))
 
 add-table : tie.Need-add-table Inv-loop μ-loop
 add-table c = search needs
@@ -62,7 +67,7 @@ loop-again c =
     let w = l .inv .1 .frame in
     let e = w .high (k .args .to + l .l) (omega arith) in
     let f = w .low (k .args .from + l .l) (omega arith) in
-    (omega arith, lowered-at-more (l .l) (c .least .result) (l .inv .1) (omega arith) (omega (arith, c .least .ensures, e, f)))
+    (omega arith, lowered-at-more (l .l) (c .lesser .result) (l .inv .1) (omega arith) (omega (arith, c .lesser .ensures, e, f)))
 
 returns : tie.Need-returns Inv-loop μ-loop
 returns c =
@@ -76,13 +81,13 @@ lower-by-spec =
     Inv-loop
     μ-loop
     loop-holds
-    add-least
-    mul-least
-    element-copy-out-least
-    add-least-2
-    mul-least-2
-    element-copy-out-least-2
-    least-requires
+    add-lesser
+    mul-lesser
+    element-copy-out-lesser
+    add-lesser-2
+    mul-lesser-2
+    element-copy-out-lesser-2
+    lesser-requires
     add-table
     mul-table
     element-write-table

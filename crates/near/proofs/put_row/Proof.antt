@@ -23,13 +23,15 @@ loop-holds c = (omega arith, written-none _ _ (c .before .pre .4))
 found-lane-requires : tie.Need-found-lane-requires Inv-loop μ-loop
 found-lane-requires c κs = search needs
 
-add-least : tie.Need-add-least Inv-loop μ-loop
-add-least c =
+add-lesser : tie.Need-add-lesser Inv-loop μ-loop
+add-lesser c =
     let k = c .before .before .before .before in
     omega (arith, c .found-lane .ensures, found-small (k .args .a) (c .before .before .loop .l) (k .pre .5))
 
-least-requires : tie.Need-least-requires Inv-loop μ-loop
-least-requires c κs = search needs
+lesser-requires : tie.Need-lesser-requires Inv-loop μ-loop
+lesser-requires c κs =
+    let k = c .before .before .before .before in
+    (omega (arith, c .found-lane .ensures, found-small (k .args .a) (c .before .before .loop .l) (k .pre .5)), omega arith)
 
 add-store : tie.Need-add-store Inv-loop μ-loop
 add-store c = search needs
@@ -51,7 +53,7 @@ loop-again c =
     let k = c .before .before .before .before .before in
     let l = c .before .before .before .loop in
     let e = c .before .found-lane .ensures in
-    (omega arith, written-more (l .l) (c .least .result) (l .inv .1) (omega arith) (omega (arith, c .least .ensures, e)) (omega (arith, c .least .ensures)))
+    (omega arith, written-more (l .l) (c .lesser .result) (l .inv .1) (omega arith) (omega (arith, c .lesser .ensures, e)) (omega (arith, c .lesser .ensures)))
 
 same-length : tie.Need-same-length Inv-loop μ-loop
 same-length c = search needs
@@ -69,8 +71,8 @@ put-row-spec =
     μ-loop
     loop-holds
     found-lane-requires
-    add-least
-    least-requires
+    add-lesser
+    lesser-requires
     add-store
     mul-store
     slice-write-store

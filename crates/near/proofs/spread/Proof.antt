@@ -51,7 +51,7 @@ lower-requires : tie.Need-lower-requires Inv-loop μ-loop
 lower-requires c κs =
     let k = c .before .before .before .before .before .before .before in
     let l = c .before .before .before .before .loop in
-    (omega arith, l .inv .1 .long ∙ k .pre .1, k .pre .3, k .pre .4 .low (k .args .u * 5 + l .v) (omega arith), k .pre .2)
+    (omega arith, l .inv .1 .long ∙ k .pre .1, k .pre .3, k .pre .4 .low (k .args .u * 5 + l .v) (omega arith), k .pre .2, l .inv .1 .low)
 
 add-v : tie.Need-add-v Inv-loop μ-loop
 add-v c = search needs

@@ -29,10 +29,13 @@ kept c k h =
     let p = c .before .before .before .before .before .before .before .before .before .before .before .pre .1 .over in
     c .before .before .deliver .ensures .frame .low k (omega arith) ∙ c .before .before .before .before .before .before .fill .ensures .frame .low k (omega arith)
 
+mul-fill : tie.Need-mul-fill Inv-loop μ-loop
+mul-fill c = search needs
+
 fill-requires : tie.Need-fill-requires Inv-loop μ-loop
 fill-requires c κs =
     let k = c .before .before .before .before in
-    (k .pre .1 .room, omega arith, k .pre .0 .low)
+    (omega (arith, k .pre .1 .room, k .pre .0 .ground .all, k .pre .0 .ground .coded .few), omega arith, k .pre .0 .low)
 
 deliver-requires : tie.Need-deliver-requires Inv-loop μ-loop
 deliver-requires c κs =
@@ -128,7 +131,7 @@ returns c =
     let s = given-small g in
     let D = deckOf (a .line .now) (a .n) (a .poses) in
     record {
-      outside = outside-join (outside-prices (c .before .before .before .before .before .before .before .before .fill .ensures .frame) (omega arith) (omega arith)) (outside-join (outside-prices (c .before .before .before .before .deliver .ensures .frame) (omega arith) (omega arith)) (v .outside));
+      outside = outside-join (outside-prices (c .before .before .before .before .before .before .before .before .fill .ensures .frame) (omega arith) (omega (arith, g .ground .all, g .ground .coded .few))) (outside-join (outside-prices (c .before .before .before .before .deliver .ensures .frame) (omega arith) (omega arith)) (v .outside));
       low = v .low;
       right = λ q b l x y z.
           v .priced .right q b l x y z
@@ -143,6 +146,7 @@ stretch-to-spec =
     (tie.spec
     Inv-loop
     μ-loop
+    mul-fill
     fill-requires
     deliver-requires
     loop-holds
