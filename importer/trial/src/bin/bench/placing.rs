@@ -10,7 +10,7 @@ use trial::plain::reader::read_job;
 use trial::plain::scorer::verdict;
 use trial::plain::search::cheapest;
 
-const JOBS: [(&str, Shape); 7] = [
+const JOBS: [(&str, Shape); 8] = [
     ("64 cells, 24 tall, dense and wide", HEAVY),
     ("64 cells, 24 tall, dense and narrow", narrow(64, 24)),
     ("64 cells, 12 tall, widths 1 and 2", narrow(64, 12)),
@@ -20,6 +20,13 @@ const JOBS: [(&str, Shape); 7] = [
         Shape {
             rows: 1,
             ..narrow(64, 0)
+        },
+    ),
+    (
+        "60 single cells in one row",
+        Shape {
+            rows: 1,
+            ..narrow(60, 0)
         },
     ),
     (
