@@ -3,7 +3,7 @@ ghost use mathlib.Core.Path.{_≡_};
 ghost use Prim.Native.Nat.{min};
 ghost use Rattle.definition.specs.Cost.{charge};
 
-pub const CHARGES: [u32; 5] = [1, 0, 1, 1, 0];
+const CHARGES: [u32; 5] = [1, 0, 1, 1, 0];
 
 // The place of a gap in the table.
 fn place(gap: usize) -> usize

@@ -1,15 +1,14 @@
 -- Laws of loops that keep the least: one round more, where the least is, the least of equal costs; and of the words that a stage reads. Assumes nothing.
 use Prim.Native.Nat.{ℕ, zero, suc, _+_, _*_, _/_, _%_, _≤_, _<_, min}
-use mathlib.Core.Path.{_≡_, refl, sym, ap, ap₂, _∙_}
-use mathlib.Core.Logic.{_⊎_, inl, inr, ⊎-elim}
+use mathlib.Core.Path.{_≡_, refl, sym, ap, _∙_}
+use mathlib.Core.Logic.{_⊎_, ⊎-elim}
 use mathlib.Core.List.{List}
 use native.Mathlib.Omega.{arith}
 use native.Mathlib.Decide.{decLt}
-use lib.ListN.{length, getD}
+use lib.ListN.{getD}
 use Rattle.rows.specs.Lists.{from}
 use Rattle.pair.specs.Coded.{lowest, lowest-from, lowest-low}
-use Rattle.model.specs.Steps.{B, Cases, Prices, joinPose, nextCases}
-use Rattle.lanes.specs.Store.{Low}
+use Rattle.model.specs.Steps.{B, joinPose, nextCases}
 use Rattle.join.specs.Tables.{
   casesAt,
   sourcesAt,

@@ -1,15 +1,13 @@
 -- Tables written part by part: one case, the parts before and after it, and what is read in the meantime. Assumes nothing.
 use Prim.Native.Nat.{ℕ, suc, _+_, _*_, _/_, _%_, _≤_, _<_}
-use mathlib.Core.Path.{_≡_, refl, sym, ap, ap₂, _∙_}
+use mathlib.Core.Path.{_≡_, refl, _∙_}
 use mathlib.Core.Logic.{_⊎_, inl, inr, ⊎-elim}
 use mathlib.Core.List.{List}
 use native.Mathlib.Omega.{arith}
 use native.Mathlib.Decide.{decLt}
 use lib.ListN.{length, getD, set, length-set}
 use lib.Seq.{getD-set-same, getD-set-other}
-use Rattle.rows.specs.Lists.{from}
-use Rattle.pair.specs.Coded.{lowest}
-use Rattle.model.specs.Steps.{B, Cases, Prices, joinPose, nextCases}
+use Rattle.model.specs.Steps.{Cases, Prices, joinPose, nextCases}
 use Rattle.lanes.specs.Store.{Low}
 use Rattle.lanes.specs.Laws.{low-set}
 use Rattle.join.specs.Tables.{

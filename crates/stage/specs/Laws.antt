@@ -1,5 +1,5 @@
 -- Laws of the stages: a table is the least over the table before and the prices, from number 0 on; what a stage's parts make together. Assumes nothing.
-use Prim.Native.Nat.{ℕ, zero, suc, _+_, _-_, _*_, _≤_, _<_, min}
+use Prim.Native.Nat.{ℕ, zero, suc, _+_, _-_, _*_, _≤_, _<_}
 use mathlib.Core.Path.{_≡_, refl, sym, ap, _∙_}
 use mathlib.Core.Bool.{Bool, true, false, cond}
 use mathlib.Core.List.{List}
@@ -12,12 +12,12 @@ use lib.Seq.{getD-set-same}
 use lib.Dec.{ltb}
 use Rattle.rows.specs.Lists.{from}
 use Rattle.pair.specs.Coded.{lowest}
-use Rattle.model.specs.Steps.{B, Deck, Layer, Cases, Prices, pairCount, joinPose, nextCases}
-use Rattle.model.specs.Stages.{openPrice, stagePrice, caseTable}
+use Rattle.model.specs.Steps.{Deck, Prices, pairCount, joinPose, nextCases}
+use Rattle.model.specs.Stages.{caseTable}
 use Rattle.model.specs.Pairs.{count-0, count-1, count-2}
 use Rattle.lanes.specs.Store.{Low}
 use Rattle.lanes.specs.Laws.{low-set}
-use Rattle.join.specs.Tables.{casesAt, sourcesAt, pricesAt, casesIn, sourcesIn, pricesIn, Table, Least, Way, Joined, nextIn, WayIn}
+use Rattle.join.specs.Tables.{casesAt, sourcesAt, pricesAt, casesIn, sourcesIn, pricesIn, Least, Way, Joined}
 use Rattle.join.specs.Parts.{least-ext}
 use Rattle.stage.specs.Stage.{wide, priceOf, tableOf, Right, Staged, StageDone, Through, StagesDone, RowPriced, BothPriced, StagesGiven}
 

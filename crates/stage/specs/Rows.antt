@@ -1,10 +1,10 @@
 -- Prices of a stage in one row, from the first layer and the stretch on from it. Assumes nothing.
-use Prim.Native.Nat.{ℕ, zero, suc, _+_, _-_, _*_, _≤_, _<_}
-use mathlib.Core.Path.{_≡_, refl, sym, ap, _∙_}
+use Prim.Native.Nat.{ℕ, suc, _+_, _-_, _≤_, _<_}
+use mathlib.Core.Path.{_≡_, sym, ap, _∙_}
 use mathlib.Core.List.{List}
 use native.Mathlib.Omega.{arith}
 use native.Mathlib.Numerals.{add-one}
-use lib.ListN.{length, getD}
+use lib.ListN.{getD}
 use Rattle.model.specs.Steps.{Deck, Layer, pairCount, marks, firstAfter, firstOpen}
 use Rattle.model.specs.Stages.{placedWith, stageEnd, openPrice, stagePrice}
 use Rattle.lanes.specs.Store.{Frame, layerIn, Filled}

@@ -8,8 +8,8 @@ use lib.Dec.{ltb}
 use Rattle.model.specs.Steps.{B, Deck, Layer, Cases, Prices, pairCount}
 use Rattle.model.specs.Stages.{stageEnd, openPrice, stagePrice, caseTable}
 use Rattle.lanes.specs.Store.{Low, layerIn}
-use Rattle.deck.specs.Words.{Ground, deckOf}
-use Rattle.join.specs.Tables.{casesAt, sourcesAt, pricesAt, casesIn, sourcesIn, pricesIn, Least, Way}
+use Rattle.deck.specs.Words.{Ground}
+use Rattle.join.specs.Tables.{casesAt, sourcesAt, casesIn, sourcesIn, pricesIn, Least, Way}
 
 -- how many of x pairs or poses table number I has: the tables of the tall cells all of them, the first table and the last one
 unfoldable pub wide : ℕ → ℕ → ℕ → ℕ

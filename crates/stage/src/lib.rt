@@ -1,7 +1,6 @@
 // The stages of the search: the prices of both rows from every start pair, joined with the case table before.
 ghost use mathlib.Core.Path.{_≡_};
-ghost use Prim.Native.Nat.{ℕ, suc, _≤_, _<_};
-ghost use lib.ListN.{length};
+ghost use Prim.Native.Nat.{suc, _≤_, _<_};
 ghost use Rattle.model.specs.Steps.{pairCount};
 ghost use Rattle.model.specs.Stages.{placedWith};
 ghost use Rattle.lanes.specs.Store.{Low};

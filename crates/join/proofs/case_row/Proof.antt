@@ -1,5 +1,5 @@
 -- Each turn writes one case more. Assumes nothing.
-use Prim.Native.Nat.{ℕ, _+_, _*_, _-_, _≤_, _<_}
+use Prim.Native.Nat.{_+_, _*_, _-_, _≤_}
 use mathlib.Core.Path.{_≡_}
 use Rattle.join.specs.Tables.{Part}
 use Rattle.join.specs.Parts.{part-none, table-part, part-then, part-wide, part-fewer}

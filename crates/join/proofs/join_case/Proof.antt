@@ -1,5 +1,4 @@
 -- The pairs of the least are known, and a lane of theirs has its sum. Assumes nothing.
-use Prim.Native.Nat.{_+_}
 use Rattle.join.specs.Laws.{next-low, least-met, lane-way}
 use native.Mathlib.Omega.{arith}
 use borrow.Author.Needs.{needs}

@@ -1,6 +1,5 @@
 -- The first layer, then the stretch on from it. Assumes nothing.
 use Prim.Native.Nat.{_-_}
-use mathlib.Core.Path.{_≡_}
 use Rattle.deck.specs.Words.{deckOf}
 use Rattle.stage.specs.Stage.{posIn}
 use Rattle.stage.specs.Rows.{row-open, row-after, start-place, start-pair}

@@ -1,6 +1,6 @@
 -- The prices of both rows, joined with the table before. Assumes nothing.
-use Prim.Native.Nat.{suc, _+_}
-use mathlib.Core.Path.{_≡_, _∙_}
+use Prim.Native.Nat.{_+_}
+use mathlib.Core.Path.{_∙_}
 use Rattle.deck.specs.Words.{deckOf}
 use Rattle.stage.specs.Stage.{posIn}
 use Rattle.stage.specs.Laws.{stage-made, given-pairs, given-wide}

@@ -1,6 +1,6 @@
 -- Each turn goes through one stage more. Assumes nothing.
-use Prim.Native.Nat.{suc, _+_, _-_, _≤_}
-use mathlib.Core.Path.{_≡_, _∙_}
+use Prim.Native.Nat.{suc, _-_, _≤_}
+use mathlib.Core.Path.{_∙_}
 use lib.ListN.{length-set}
 use Rattle.deck.specs.Words.{deckOf}
 use Rattle.stage.specs.Stage.{posIn, Through}
@@ -31,7 +31,7 @@ stage-requires c κs =
     let k = c .before .before .before .before .before .before .before .before .before in
     let g = k .pre in
     let t = c .before .before .loop .inv .1 in
-    (record { row₀ = g .row₀; row₁ = g .row₁; long = omega (arith, g .long, t .long, length-set (k .args .store .now) 148992 0); low = t .low }, c .before .loop-test .taken, t .right)
+    (record { row₀ = g .row₀; row₁ = g .row₁; long = omega (arith, g .long, t .long, length-set (k .args .store .now) 148992 0); low = t .low }, omega (arith, c .before .loop-test .taken), t .right)
 
 add-i : tie.Need-add-i Inv-loop μ-loop
 add-i c =

@@ -1,0 +1,4 @@
+pub mod Ready
+pub mod Flat
+pub mod Laws
+pub mod Rows

@@ -1,0 +1,4 @@
+pub mod Lines
+pub mod Kept
+pub mod Found
+pub mod Sofar

@@ -1,0 +1,24 @@
+-- `refiner::refiner_place` meets its contract: what `place_texts` says, and demand 3, which follows.
+use Rattle.place.specs.Placed.{placed-demand3}
+use borrow.Author.Needs.{needs}
+use Rattle.refiner.proofs.refiner_place.Statement.{statement}
+use Rattle.refiner.proofs.refiner_place.Tie as tie
+
+place-texts-requires : tie.Need-place-texts-requires
+place-texts-requires c κs = search needs
+
+same-length : tie.Need-same-length
+same-length c = search needs
+
+same-length-2 : tie.Need-same-length-2
+same-length-2 c = search needs
+
+same-length-3 : tie.Need-same-length-3
+same-length-3 c = search needs
+
+returns : tie.Need-returns
+returns c = let p = c .before .before .before .before .before .place-texts .ensures in (p, placed-demand3 p)
+
+pub refiner-place-spec : {M : Type 1} → statement M
+refiner-place-spec =
+    tie.close (tie.spec place-texts-requires same-length same-length-2 same-length-3 returns)

@@ -1,0 +1,30 @@
+-- `refiner::refiner_score` meets its contract: what `score_texts` says, written to the results.
+use mathlib.Core.List.{List}
+use lib.IntN.{ℤ}
+use mathlib.Core.Path.{ap, _∙_}
+use Rattle.definition.specs.Outcome.{over}
+use borrow.Author.Needs.{needs}
+use Rattle.refiner.proofs.refiner_score.Statement.{statement}
+use Rattle.refiner.proofs.refiner_score.Tie as tie
+
+score-texts-requires : tie.Need-score-texts-requires
+score-texts-requires c κs = search needs
+
+put-results-requires : tie.Need-put-results-requires
+put-results-requires c κs = search needs
+
+same-length : tie.Need-same-length
+same-length c = search needs
+
+returns : tie.Need-returns
+returns c =
+    let a = c .before .before .before .before .before .before .before .args in
+    let s = c .before .before .before .before .score-texts .ensures in
+    record {
+      number = s .number;
+      array = c .before .put-results .ensures ∙ ap (λ (l : List ℤ). over l (a .results .now)) (rw (s .number, s .line, s .fields));
+    }
+
+pub refiner-score-spec : {M : Type 1} → statement M
+refiner-score-spec =
+    tie.close (tie.spec score-texts-requires put-results-requires same-length returns)

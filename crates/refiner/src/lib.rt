@@ -1,0 +1,64 @@
+// The exported C functions, each over slices that are passed as address and length.
+ghost use Rattle.definition.specs.Outcome.{read, score, Told, Demand3Of};
+ghost use Rattle.fault.specs.Fault.{ToldFault};
+ghost use Rattle.place.specs.Placed.{lent, Placed};
+use fault::tell_fault;
+use place::place_texts;
+use reader::read_job;
+use results::put_results;
+use score::score_texts;
+
+// Read: number, line and cell count go to the results, and the number is returned.
+#[no_mangle]
+pub extern "C" fn refiner_read(job: &[u8], results: &mut [i32]) -> u32
+    ensures { λ r. ⌜ Told (read (now (job .entry))) r (now (results .entry)) (now (results .exit)) ⌝ }
+{
+    let r = read_job(job);
+    let number = r.number;
+    let line = r.line;
+    if number != 0 {
+        put_results(results, number, line, [0, 0, 0, 0, 0, 0, 0, 0], 1);
+        return number;
+    }
+    let j = r.job;
+    let count = j.count as i32;
+    put_results(results, 0, 0, [count, 0, 0, 0, 0, 0, 0, 0], 1);
+    0
+}
+
+// Score: number, line, rule, cell and the six numbers go to the results, and the number is returned.
+#[no_mangle]
+pub extern "C" fn refiner_score(job: &[u8], placement: &[u8], results: &mut [i32]) -> u32
+    ensures { λ r. ⌜ Told (score (now (job .entry)) (now (placement .entry))) r (now (results .entry)) (now (results .exit)) ⌝ }
+{
+    let s = score_texts(job, placement);
+    let number = s.number;
+    let line = s.line;
+    let fields = s.fields;
+    put_results(results, number, line, fields, 8);
+    number
+}
+
+// Fault line for the host: which text (0 the job, 1 the placement), first byte and length of the line that Score reports go to `part`, and
+// Score's number is returned.
+#[no_mangle]
+pub extern "C" fn refiner_fault(job: &[u8], placement: &[u8], part: &mut [u64]) -> u32
+    ensures { λ r. ⌜ ToldFault (now (job .entry)) (now (placement .entry)) r (now (part .entry)) (now (part .exit)) ⌝ }
+{
+    tell_fault(job, placement, part)
+}
+
+// Place: the placement's text goes to the output, number, line, the six numbers and the text's length to the results, and the number is returned.
+// No list of moves ends in a cheaper legal placement.
+#[no_mangle]
+pub extern "C" fn refiner_place(
+    job: &[u8],
+    store: &mut [u32],
+    output: &mut [u8],
+    results: &mut [i32],
+) -> u32
+    ensures { λ r. ⌜ Placed (now (job .entry)) r (lent (now (store .entry)) (now (output .entry)) (now (results .entry))) (lent (now (store .exit)) (now (output .exit)) (now (results .exit))) ⌝ }
+    ensures { λ r. ⌜ Demand3Of (now (job .entry)) r (lent (now (store .entry)) (now (output .entry)) (now (results .entry))) (lent (now (store .exit)) (now (output .exit)) (now (results .exit))) ⌝ }
+{
+    place_texts(job, store, output, results)
+}

@@ -1,0 +1,4 @@
+pub mod Sofar
+pub mod Along
+pub mod Counted
+pub mod Led

@@ -1,0 +1,4 @@
+pub mod Line
+pub mod Field
+pub mod Lead
+pub mod Found

@@ -1,0 +1,171 @@
+-- From the stages and the trace to the answer: the least cost, and the placement that both paths note. Assumes nothing.
+use Prim.Native.Nat.{ℕ, zero, suc, _+_, _*_, _≤_, _<_}
+use mathlib.Core.Path.{_≡_, refl, sym, ap, _∙_, subst}
+use mathlib.Core.Option.{some}
+use mathlib.Core.List.{List}
+use native.Mathlib.Omega.{arith}
+use lib.ListN.{length, getD, replicate}
+use Rattle.definition.specs.Job.{Job}
+use Rattle.definition.specs.Cost.{cost}
+use Rattle.definition.specs.Moves.{Cheapest}
+use Rattle.pair.specs.Cells.{row₀, row₁}
+use Rattle.model.specs.Steps.{B, Deck, pairCount}
+use Rattle.model.specs.Stages.{leastCost}
+use Rattle.model.specs.Back.{Traced}
+use Rattle.model.specs.Notes.{NotedBy}
+use Rattle.traced.specs.Placed.{WalkedBack, places, places-agree}
+use Rattle.bridge.specs.Paired.{siteOf, poseNumbers, poseNumber, isOffered, pairJob}
+use Rattle.claim.specs.Claim.{reorder, searchedCost, placementByNumbers, claim-none, claim-some}
+use Rattle.lanes.specs.Store.{Low}
+use Rattle.deck.specs.Words.{deckOf}
+use Rattle.join.specs.Tables.{casesAt, casesIn}
+use Rattle.stage.specs.Stage.{wide, posIn, StagesDone}
+use Rattle.stage.specs.Laws.{wide-last}
+use Rattle.walk.specs.Walks.{wordAt}
+use Rattle.trace.specs.Trace.{Trace}
+use Rattle.trace.specs.Laws.{trace-given}
+use Rattle.scatter.specs.Scatter.{cellAt, poseAt, Given, Scattered}
+use Rattle.scatter.specs.Laws.{both-scattered, scattered-small}
+use Rattle.search.specs.Solved.{numbersIn, Solved}
+use Rattle.search.specs.Ready.{Ready, ready-talls, ready-searched, stages-given}
+use Rattle.search.specs.Row.{RowPath, path-cell, path-given, path-numbers}
+
+-- nothing but zeros
+zeros : (n k : ℕ) → _≡_ {A = ℕ} (getD (replicate n 0) k 0) 0
+zeros zero k = refl
+zeros (suc n) zero = refl
+zeros (suc n) (suc k) = zeros n k
+
+pub zeros-low : (n : ℕ) → Low (replicate n 0)
+zeros-low n = record { word = λ k. omega (arith, zeros n k) }
+
+pub zeros-small : (n k : ℕ) → getD (replicate n 0) k 0 < 64
+zeros-small n k = omega (arith, zeros n k)
+
+module _ (j : Job) (line₀ line₁ places₀ places₁ : List ℕ) (n₀ n₁ talls : ℕ) where
+  abbrev pub deck₀ : Deck
+  deck₀ = deckOf line₀ n₀ (poseNumbers j)
+
+  abbrev pub deck₁ : Deck
+  deck₁ = deckOf line₁ n₁ (poseNumbers j)
+
+  -- what the tables come to
+  abbrev pub least : ℕ
+  least = leastCost deck₀ deck₁ (reorder j) talls (posIn places₀) (posIn places₁)
+
+  -- the stages are done, and this is the least cost
+  pub record Costed (old new : List ℕ) (x : ℕ) : Type 0 where
+    pub done : StagesDone deck₀ deck₁ (reorder j) talls (posIn places₀) (posIn places₁) old new
+    pub cost : x ≡ least
+    pub low : x ≤ B
+
+  -- tables from which a placement can be traced
+  pub record Tables (st : List ℕ) : Type 0 where
+    pub old : List ℕ
+    pub long : 1048576 ≤ length old
+    pub low : Low old
+    pub done : StagesDone deck₀ deck₁ (reorder j) talls (posIn places₀) (posIn places₁) old st
+    pub some : least < B
+
+  -- the pose numbers of a cheapest placement
+  pub record Answered (out : List ℕ) : Type 0 where
+    pub cheapest : Cheapest j (some (placementByNumbers j (numbersIn out)))
+    pub stated : cost j (placementByNumbers j (numbersIn out)) ≡ least
+    pub numbers : (k : ℕ) → getD out k 0 < 64
+
+  -- the one case of the last table is the least cost
+  pub costed : {old new : List ℕ} {x poses : ℕ} → poses ≡ poseNumbers j → x ≡ getD new (148992 + (talls + 1) * 9216) 0
+      → StagesDone (deckOf line₀ n₀ poses) (deckOf line₁ n₁ poses) (reorder j) talls (posIn places₀) (posIn places₁) old new → Costed old new x
+  unfolding casesIn
+  costed {old} {new} z e g =
+      let d = subst (λ (p : ℕ). StagesDone (deckOf line₀ n₀ p) (deckOf line₁ n₁ p) (reorder j) talls (posIn places₀) (posIn places₁) old new) z g in
+      let i : 148992 + (talls + 1) * 9216 ≡ casesAt (suc talls) + 0 * 768 + 0 * 64 + 0 = omega arith in
+      record {
+        done = d;
+        cost = e ∙ ap (λ (k : ℕ). getD new k 0) i ∙ d .right talls 0 0 0 (omega arith) (one (pairCount (reorder j))) (one (pairCount (reorder j))) (one (poseNumbers j));
+        low = let w = d .low .word (148992 + (talls + 1) * 9216) in omega arith;
+      }
+    where
+      one : (k : ℕ) → 0 < wide talls (suc talls) k
+      one k = omega (arith, wide-last talls (suc talls) k (omega arith))
+
+  -- a cost below B can be traced
+  pub traceable : {old new : List ℕ} {x : ℕ} → Costed old new x → 1048576 ≤ length old → Low old → x < B → Tables new
+  traceable {old} c h l u = record { old = old; long = h; low = l; done = c .done; some = subst (λ (y : ℕ). y < B) (c .cost) u }
+
+module _ {j : Job} {line₀ line₁ pairs places₀ places₁ : List ℕ} {n₀ n₁ count talls : ℕ} (r : Ready j line₀ line₁ pairs places₀ places₁ n₀ n₁ count talls) where
+  abbrev D₀ : Deck
+  D₀ = deckOf line₀ n₀ (poseNumbers j)
+
+  abbrev D₁ : Deck
+  D₁ = deckOf line₁ n₁ (poseNumbers j)
+
+  abbrev found : ℕ
+  found = least j line₀ line₁ places₀ places₁ n₀ n₁ talls
+
+  as-searched : found ≡ searchedCost j D₀ D₁ (posIn places₀) (posIn places₁)
+  as-searched = ap (λ (t : ℕ). leastCost D₀ D₁ (reorder j) t (posIn places₀) (posIn places₁)) (ready-talls (r .row₀))
+
+  pub none-solved : {old new : List ℕ} {x y : ℕ} {out : List ℕ} → Costed j line₀ line₁ places₀ places₁ n₀ n₁ talls old new y → B ≤ y → x ≡ B → ((k : ℕ) → getD out k 0 < 64) → Solved j x out
+  none-solved {y = y} c h z small = record {
+    low = omega arith;
+    none-when = λ _. claim-none j (r .sound) D₀ D₁ (posIn places₀) (posIn places₁) (ready-searched (r .row₀)) (ready-searched (r .row₁)) refl (sym as-searched ∙ sym (c .cost) ∙ whole);
+    some-when = λ h. absurd (omega arith);
+    stated = λ h. absurd (omega arith);
+    numbers = small;
+  }
+    where
+      whole : y ≡ B
+      whole = omega (arith, c .low)
+
+  pub some-solved : {x : ℕ} {out : List ℕ} → x < B → x ≡ found → Answered j line₀ line₁ places₀ places₁ n₀ n₁ talls out → Solved j x out
+  some-solved h e a = record { low = omega arith; none-when = λ z. absurd (omega arith); some-when = λ _. a .cheapest; stated = λ _. a .stated ∙ sym e; numbers = a .numbers }
+
+  -- ---- the trace
+
+  pub may-trace : {st path₀ path₁ : List ℕ} {poses : ℕ} → poses ≡ poseNumbers j → Tables j line₀ line₁ places₀ places₁ n₀ n₁ talls st → 67 ≤ length path₀ → 67 ≤ length path₁
+      → Trace line₀ line₁ pairs places₀ places₁ st path₀ path₁ (reorder j) n₀ n₁ poses count talls talls 0 0 0
+  may-trace {st} {path₀} {path₁} z t h l =
+      subst (λ (p : ℕ). Trace line₀ line₁ pairs places₀ places₁ st path₀ path₁ (reorder j) n₀ n₁ p count talls talls 0 0 0) (sym z) (trace-given (stages-given r refl (t .long) (t .low)) (t .done) h l (t .some))
+
+  module _ (path₀ path₁ : List ℕ) (poses : ℕ) (z : poses ≡ poseNumbers j) (u : found < B)
+      (t : Traced (deckOf line₀ n₀ poses) (deckOf line₁ n₁ poses) (reorder j) talls (posIn places₀) (posIn places₁) (NotedBy (wordAt path₀)) (NotedBy (wordAt path₁)) talls 0 0 0) where
+    tracedAt : Traced D₀ D₁ (reorder j) talls (posIn places₀) (posIn places₁) (NotedBy (wordAt path₀)) (NotedBy (wordAt path₁)) talls 0 0 0
+    tracedAt =
+        subst (λ (p : ℕ). Traced (deckOf line₀ n₀ p) (deckOf line₁ n₁ p) (reorder j) talls (posIn places₀) (posIn places₁) (NotedBy (wordAt path₀)) (NotedBy (wordAt path₁)) talls 0 0 0) z t
+
+    walked : WalkedBack (reorder j) siteOf (pairJob j) (poseNumber j) (isOffered j) D₀ D₁ (posIn places₀) (posIn places₁) (wordAt path₀) (wordAt path₁)
+    walked = record {
+      first = ready-searched (r .row₀);
+      second = ready-searched (r .row₁);
+      poses = refl;
+      small = let a = r .row₀ .lined .few in omega arith;
+      cost = subst (λ (x : ℕ). x < B) as-searched u;
+      traced = subst (λ (m : ℕ). Traced D₀ D₁ (reorder j) m (posIn places₀) (posIn places₁) (NotedBy (wordAt path₀)) (NotedBy (wordAt path₁)) m 0 0 0) (ready-talls (r .row₀)) tracedAt;
+    }
+
+    both : RowPath j row₀ path₀ × RowPath j row₁ path₁
+    both = places (reorder j) siteOf (pairJob j) (poseNumber j) (isOffered j) D₀ D₁ (posIn places₀) (posIn places₁) (wordAt path₀) (wordAt path₁) walked
+
+    pub first-given : {out : List ℕ} → 67 ≤ length path₀ → 64 ≤ length out → Given line₀ path₀ out n₀
+    first-given = path-given (r .row₀) path₀ (both .0) (r .sound)
+
+    pub second-given : {out : List ℕ} → 67 ≤ length path₁ → 64 ≤ length out → Given line₁ path₁ out n₁
+    second-given = path-given (r .row₁) path₁ (both .1) (r .sound)
+
+    -- both rows are scattered, one after the other
+    pub answered : {old mid new : List ℕ} → ((k : ℕ) → getD old k 0 < 64) → Scattered line₀ path₀ n₀ old mid → Scattered line₁ path₁ n₁ mid new
+        → Answered j line₀ line₁ places₀ places₁ n₀ n₁ talls new
+    answered {old} {mid} {new} small v w = record { cheapest = c .0; stated = c .1 ∙ sym as-searched; numbers = scattered-small w (scattered-small v small) }
+      where
+        agree : (i k : ℕ) → 0 < i → i ≤ n₀ → 0 < k → k ≤ n₁ → cellAt line₀ path₀ i ≡ cellAt line₁ path₁ k → poseAt path₀ i ≡ poseAt path₁ k
+        agree i k h l g m e =
+            let z₀ = r .row₀ .lined .matched .size in
+            let z₁ = r .row₁ .lined .matched .size in
+            places-agree (reorder j) siteOf (pairJob j) (poseNumber j) (isOffered j) D₀ D₁ (posIn places₀) (posIn places₁) (wordAt path₀) (wordAt path₁) walked i k
+            h (omega arith) g (omega arith) (sym (path-cell (r .row₀) path₀ (both .0) i h l) ∙ e ∙ path-cell (r .row₁) path₁ (both .1) k g m)
+
+        c : Cheapest j (some (placementByNumbers j (numbersIn new))) × (cost j (placementByNumbers j (numbersIn new)) ≡ searchedCost j D₀ D₁ (posIn places₀) (posIn places₁))
+        c =
+            claim-some j (r .sound) D₀ D₁ (posIn places₀) (posIn places₁) (ready-searched (r .row₀)) (ready-searched (r .row₁)) refl (wordAt path₀) (wordAt path₁) walked (numbersIn new)
+            (path-numbers (r .row₀) path₀ (both .0) new (both-scattered v w agree)) (path-numbers (r .row₁) path₁ (both .1) new (w .done))

@@ -1,0 +1,4 @@
+pub mod Solved
+pub mod Ready
+pub mod Row
+pub mod Answer

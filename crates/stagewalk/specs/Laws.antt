@@ -1,0 +1,206 @@
+-- Laws of a stage walked back: from its first layer to what the walk leaves, by whether it ends at a tall cell. Assumes nothing.
+use Prim.Native.Nat.{ℕ, zero, suc, _+_, _-_, _≤_, _<_}
+use mathlib.Core.Path.{_≡_, refl, sym, ap, _∙_, subst}
+use mathlib.Core.Bool.{Bool, true, false, cond, _&&_}
+use mathlib.Core.List.{List}
+use native.Mathlib.Omega.{arith}
+use native.Mathlib.Decide.{decLt}
+use borrow.Author.Tests.{lt-ltb, le-ltb, leb-true}
+use lib.ListN.{length}
+use lib.Dec.{ltb, leb, eqb}
+use Rattle.model.specs.Steps.{B, Deck, Layer, pairCount, offset, marks, firstAfter, layers, priceTo, priceEnd}
+use Rattle.model.specs.Stages.{placedWith, stageEnd}
+use Rattle.model.specs.Back.{Walked, EndWalked}
+use Rattle.model.specs.Notes.{NotedBy}
+use Rattle.lanes.specs.Laws.{frame-refl, frame-join}
+use Rattle.lanes.specs.Store.{Frame, Low, layerIn, Filled}
+use Rattle.deck.specs.Words.{deckOf}
+use Rattle.first.specs.Firsts.{afterFrom, openFrom}
+use Rattle.kept.specs.Kept.{KeptLayers, Stretch, StretchKept}
+use Rattle.kept.specs.Laws.{kept-ext, kept-fewer}
+use Rattle.walk.specs.Walks.{Back, Walk, End, WalkDone, EndDone, wordAt}
+use Rattle.walk.specs.Steps.{end-full}
+use Rattle.stage.specs.Stage.{posIn}
+use Rattle.stagewalk.specs.Rows.{startCells, startLayer, endPlace, Stage, Started, StageDone}
+
+-- ---- the start
+
+pub start-some : (R : ℕ) (pos : ℕ → ℕ) (I s : ℕ) → 0 < startCells R pos I s
+unfolding startCells
+start-some R pos zero s = omega arith
+start-some R pos (suc I) s = omega arith
+
+module _ (D : Deck) (R : ℕ) (pos : ℕ → ℕ) where
+  pub started-open : {count I s l : ℕ} {old new : List ℕ} → I ≡ 0 → count ≡ pairCount R → Filled (openFrom D R) 1 (D .poses) 0 count old new → Started D R pos I s l 1 old new
+  unfolding startCells startLayer
+  started-open {count} {I} {s} {l} {old} {new} e n w = subst (λ (k : ℕ). Started D R pos k s l 1 old new) (sym e)
+      record { count = refl; frame = w .frame; low = w .low; right = λ q a x y. w .right q (omega arith) a 0 y (omega arith) }
+
+  pub started-after : {count I s l i p : ℕ} {old new : List ℕ} (J : ℕ) → I ≡ suc J → p ≡ pos J → i ≡ placedWith R p s → count ≡ pairCount R
+      → Filled (afterFrom D R i (marks R s) p l) 1 (D .poses) 0 count old new → Started D R pos I s l (i + 1) old new
+  unfolding startCells startLayer
+  started-after {count} {I} {s} {l} {i} {p} {old} {new} J e f g n w = subst (λ (k : ℕ). Started D R pos k s l (i + 1) old new) (sym e) record {
+    count = omega arith;
+    frame = w .frame;
+    low = w .low;
+    right = λ q a x y.
+        let z : l + 0 ≡ l = omega arith in
+        w .right q (omega arith) a 0 y (omega arith)
+        ∙ ap (λ (k : ℕ). firstAfter D R i (marks R s) p k q a) z
+        ∙ ap (λ (k : ℕ). firstAfter D R k (marks R s) p l q a) g
+        ∙ ap (λ (k : ℕ). firstAfter D R (placedWith R k s) (marks R s) k l q a) f;
+  }
+
+-- ---- the price of a stage below B
+
+module _ (D : Deck) (R talls : ℕ) (pos : ℕ → ℕ) (I : ℕ) (f : Layer) (i q a : ℕ) where
+  -- to a tall cell: there is room for it, and its layer has the price
+  pub tall-price : I < talls → stageEnd D R talls pos I f i q a < B
+      → (i + offset R q ≤ pos I + suc R) × (layers D R f i (pos I + suc R - offset R q - i) q a < B)
+  unfolding stageEnd priceTo
+  tall-price h l = go (ltb I talls) (lt-ltb I talls h) (leb (i + offset R q) (pos I + suc R)) refl l
+    where
+      go : (t : Bool) → t ≡ true → (u : Bool) → leb (i + offset R q) (pos I + suc R) ≡ u
+          → cond t (cond u (layers D R f i (pos I + suc R - offset R q - i) q a) B) (cond (eqb q 0 && eqb a 0) (priceEnd D R f i) B) < B
+          → (i + offset R q ≤ pos I + suc R) × (layers D R f i (pos I + suc R - offset R q - i) q a < B)
+      go true e true z x = (leb-true (i + offset R q) (pos I + suc R) z, x)
+      go true e false z x = absurd (omega arith)
+      go false e u z x = absurd (let y : _≡_ {A = ℕ} 0 1 = cc in omega arith)
+
+  -- to the row's end
+  pub end-price : talls ≤ I → stageEnd D R talls pos I f i q a < B → priceEnd D R f i < B
+  unfolding stageEnd
+  end-price h l = go (ltb I talls) (le-ltb I talls h) (eqb q 0 && eqb a 0) l
+    where
+      go : (t : Bool) → t ≡ false → (u : Bool) → cond t (priceTo D R f i (pos I) q a) (cond u (priceEnd D R f i) B) < B → priceEnd D R f i < B
+      go false e true x = x
+      go false e false x = absurd (omega arith)
+      go true e u x = absurd (let y : _≡_ {A = ℕ} 0 1 = cc in omega arith)
+
+pub end-bound : (D : Deck) (R : ℕ) (f : Layer) (i : ℕ) → priceEnd D R f i < B → i ≤ suc (D .size)
+end-bound D R f i l = go (decLt (D .size) i)
+  where
+    go : Dec (D .size < i) → i ≤ suc (D .size)
+    go (yes h) = omega (arith, end-full D R f i h l)
+    go (no h) = omega arith
+
+pub end-tall : (n R talls : ℕ) (pos : ℕ → ℕ) (I q : ℕ) → I < talls → endPlace n R talls pos I q ≡ placedWith R (pos I) q
+unfolding endPlace
+end-tall n R talls pos I q h = ap (λ t. cond t (placedWith R (pos I) q) n) (lt-ltb I talls h)
+
+pub end-last : (n R talls : ℕ) (pos : ℕ → ℕ) (I q : ℕ) → talls ≤ I → endPlace n R talls pos I q ≡ n
+unfolding endPlace
+end-last n R talls pos I q h = ap (λ t. cond t (placedWith R (pos I) q) n) (le-ltb I talls h)
+
+-- ---- a stage
+
+module _ {line pairs places st path : List ℕ} {n poses R count talls I s l q a : ℕ} (g : Stage line pairs places st path n poses R count talls I s l q a)
+    {cells : ℕ} {mid : List ℕ} (w : Started (deckOf line n poses) R (posIn places) I s l cells st mid) where
+  abbrev D : Deck
+  D = deckOf line n poses
+
+  abbrev f : Layer
+  f = startLayer (deckOf line n poses) R (posIn places) I s l
+
+  some : 0 < cells
+  some = omega (arith, w .count, start-some R (posIn places) I s)
+
+  -- the price, from as many cells as were counted
+  cost : stageEnd (deckOf line n poses) R talls (posIn places) I (startLayer (deckOf line n poses) R (posIn places) I s l) cells q a < B
+  cost = subst (λ (i : ℕ). stageEnd D R talls (posIn places) I f i q a < B) (sym (w .count)) (g .cost)
+
+  -- the first layer is that of the block
+  kept-start : {end : ℕ} {new : List ℕ} → KeptLayers (deckOf line n poses) R (layerIn mid 0 0) cells end new
+      → KeptLayers (deckOf line n poses) R (startLayer (deckOf line n poses) R (posIn places) I s l) cells end new
+  kept-start k = kept-ext (layerIn mid 0 0) f (w .right) k
+
+  back : {new : List ℕ} → Low new → length new ≡ length mid → Back line pairs new n poses R count
+  back u e = record { ground = g .start .row .ground; low = u; long = omega (arith, g .start .long, w .frame .long) }
+
+  stretch : (end : ℕ) → cells ≤ 66 → end ≤ 66 → Stretch line pairs mid n poses R count cells end
+  stretch end h k = record { ground = g .start .row .ground; low = w .low; long = omega (arith, g .start .long, w .frame .long); some = some; cells = h; last = k }
+
+  store-kept : {new : List ℕ} → Frame 0 148992 mid new → Frame 0 148992 st new
+  store-kept u = frame-join 0 148992 (w .frame) u (omega arith) (omega arith) (omega arith) (omega arith)
+
+  -- ---- to a tall cell
+
+  module _ (h : I < talls) {end : ℕ} (e : end ≡ placedWith R (posIn places I) q) where
+    tall-room : (cells + offset R q ≤ posIn places I + suc R) × (layers (deckOf line n poses) R (startLayer (deckOf line n poses) R (posIn places) I s l) cells (end - cells) q a < B)
+    tall-room =
+        let p = tall-price D R talls (posIn places) I f cells q a h cost in
+        (p .0, subst (λ (j : ℕ). layers D R f cells (j - cells) q a < B) (sym e) (p .1))
+
+    pub tall-order : cells ≤ end
+    tall-order = omega (arith, tall-room .0)
+
+    end-low : end ≤ 66
+    end-low = let c = g .start .row .ground .coded .reorder in omega (arith, g .start .row .inside I h, g .start .row .ground .size)
+
+    pub tall-stretch : Stretch line pairs mid n poses R count cells end
+    tall-stretch = stretch end (omega (arith, tall-order, end-low)) end-low
+
+    module _ {new : List ℕ} (k : StretchKept (deckOf line n poses) R cells end mid new) where
+      tall-kept : KeptLayers (deckOf line n poses) R (startLayer (deckOf line n poses) R (posIn places) I s l) cells (cells + (end - cells)) new
+      tall-kept = kept-start (kept-fewer (cells + (end - cells)) (omega (arith, tall-order)) (k .kept))
+
+      pub tall-walk : Walk line pairs new path n poses R count cells (end - cells) q a
+      tall-walk =
+          record {
+            back = back (k .low) (k .frame .long);
+            room = g .room;
+            some = some;
+            last = omega (arith, tall-order, end-low);
+            pair = g .pair h;
+            pose = g .pose h;
+            first = f;
+            kept = tall-kept;
+            cost = omega (arith, tall-kept .right (end - cells) q a (omega arith) (g .pair h) (g .pose h), tall-room .1);
+          }
+
+      pub tall-done : {path′ : List ℕ} → WalkDone (deckOf line n poses) R new cells (end - cells) q a path path′
+          → StageDone (deckOf line n poses) R talls (posIn places) I s l q a st new path path′
+      tall-done {path′} d =
+          record {
+            frame = store-kept (k .frame);
+            low = k .low;
+            notes = frame-join (startCells R (posIn places) I s) (suc (endPlace n R talls (posIn places) I q)) (frame-refl (startCells R (posIn places) I s) 0 path) (d .frame)
+                (omega arith) (omega (arith, w .count)) (omega arith) (omega (arith, z, tall-order));
+            walked = record {
+              toTall = λ y. subst (λ (i : ℕ). (i + offset R q ≤ posIn places I + suc R) × Walked D R (NotedBy (wordAt path′)) f i (posIn places I + suc R - offset R q - i) q a) (w .count)
+                  (tall-room .0, subst (λ (j : ℕ). Walked D R (NotedBy (wordAt path′)) f cells (j - cells) q a) e (d .walked f tall-kept));
+              toEnd = λ y. absurd (omega arith);
+            };
+          }
+        where
+          z : endPlace n R talls (posIn places) I q ≡ end
+          z = end-tall n R talls (posIn places) I q h ∙ sym e
+
+  -- ---- to the row's end
+
+  module _ (h : talls ≤ I) where
+    price : priceEnd (deckOf line n poses) R (startLayer (deckOf line n poses) R (posIn places) I s l) cells < B
+    price = end-price D R talls (posIn places) I f cells q a h cost
+
+    pub last-stretch : Stretch line pairs mid n poses R count cells n
+    last-stretch = let z = g .start .row .ground .size in stretch n (omega (arith, end-bound D R f cells price)) (omega arith)
+
+    module _ {new : List ℕ} (k : StretchKept (deckOf line n poses) R cells n mid new) where
+      pub last-walk : End line pairs new path n poses R count cells
+      last-walk = record { back = back (k .low) (k .frame .long); room = g .room; some = some; first = f; kept = kept-start (k .kept); cost = price }
+
+      pub last-done : {path′ : List ℕ} → EndDone (deckOf line n poses) R new cells path path′ → StageDone (deckOf line n poses) R talls (posIn places) I s l q a st new path path′
+      last-done {path′} d =
+          record {
+            frame = store-kept (k .frame);
+            low = k .low;
+            notes = frame-join (startCells R (posIn places) I s) (suc (endPlace n R talls (posIn places) I q)) (frame-refl (startCells R (posIn places) I s) 0 path) (d .frame)
+                (omega arith) (omega (arith, w .count)) (omega arith) (omega (arith, z));
+            walked = record {
+              toTall = λ y. absurd (omega arith);
+              toEnd = λ y. subst (λ (i : ℕ). EndWalked D R (NotedBy (wordAt path′)) f i) (w .count) (d .walked f (kept-start (k .kept)) price);
+            };
+          }
+        where
+          z : endPlace n R talls (posIn places) I q ≡ n
+          z = end-last n R talls (posIn places) I q h

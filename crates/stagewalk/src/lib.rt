@@ -1,0 +1,107 @@
+// One stage of the walk back in one row: its first layer is made once more from its one start, its layers are kept, and the walk goes back through them.
+ghost use mathlib.Core.Path.{_≡_};
+ghost use Prim.Native.Nat.{_<_};
+ghost use Rattle.model.specs.Steps.{pairCount};
+ghost use Rattle.model.specs.Stages.{placedWith};
+ghost use Rattle.deck.specs.Words.{deckOf, PairWords};
+ghost use Rattle.stage.specs.Stage.{posIn};
+ghost use Rattle.stagewalk.specs.Rows.{Start, Stage, Started, StageDone};
+
+// How many cells are placed once the cell at position p stands as pair s.
+fn placed_with(pairs: &[u32], r: usize, p: usize, s: usize) -> usize
+    requires { ⌜ PairWords r (now pairs) × (s < pairCount r) × (p < 64) ⌝ }
+    ensures { λ i. ⌜ i ≡ placedWith r p s ⌝ }
+{
+    let all = p + r + 1;
+    let d = deck::word(pairs, s * 4);
+    if all < d {
+        return 0;
+    }
+    all - d
+}
+
+// The first layer of a stage in lane 0 of the first block; the result is how many cells it has.
+fn first_of(
+    store: &mut [u32],
+    line: &[u32],
+    pairs: &[u32],
+    places: &[u32],
+    n: usize,
+    poses: usize,
+    r: usize,
+    count: usize,
+    talls: usize,
+    stage: usize,
+    s: usize,
+    l: usize,
+) -> usize
+    requires { ⌜ Start (now line) (now pairs) (now places) (now store) n poses r count talls stage s l ⌝ }
+    ensures { λ i. ⌜ Started (deckOf (now (line .entry)) n poses) r (posIn (now (places .entry))) stage s l i (now (store .entry)) (now (store .exit)) ⌝ }
+{
+    if stage == 0 {
+        first::open_layer(store, line, pairs, n, poses, r, count, 0);
+        return 1;
+    }
+    let p = deck::word(places, stage - 1);
+    let i = placed_with(pairs, r, p, s);
+    first::first_layer(store, line, pairs, n, poses, r, count, 1, i, s, p, l, 0);
+    i + 1
+}
+
+// Back from pair q in pose a of the stage's tall cell, or from the row's end, to the stage's start.
+pub fn stage_walk(
+    store: &mut [u32],
+    path: &mut [u32],
+    line: &[u32],
+    pairs: &[u32],
+    places: &[u32],
+    n: usize,
+    poses: usize,
+    r: usize,
+    count: usize,
+    talls: usize,
+    stage: usize,
+    s: usize,
+    l: usize,
+    q: usize,
+    a: usize,
+)
+    requires { ⌜ Stage (now line) (now pairs) (now places) (now store) (now path) n poses r count talls stage s l q a ⌝ }
+    ensures { λ _. ⌜ StageDone (deckOf (now (line .entry)) n poses) r talls (posIn (now (places .entry))) stage s l q a (now (store .entry)) (now (store .exit)) (now (path .entry)) (now (path .exit)) ⌝ }
+{
+    let i = first_of(
+        store,
+        line,
+        pairs,
+        places,
+        n,
+        poses,
+        r,
+        count,
+        talls,
+        stage,
+        s,
+        l,
+    );
+    if stage < talls {
+        let end = placed_with(pairs, r, deck::word(places, stage), q);
+        kept::stretch_kept(store, line, pairs, n, poses, r, count, i, end);
+        walk::walk(
+            store,
+            path,
+            line,
+            pairs,
+            n,
+            poses,
+            r,
+            count,
+            i,
+            end - i,
+            q,
+            a,
+        );
+        return;
+    }
+    kept::stretch_kept(store, line, pairs, n, poses, r, count, i, n);
+    walk::walk_end(store, path, line, pairs, n, poses, r, count, i);
+}

@@ -1,0 +1,258 @@
+-- Laws of the trace: a case's way gives what both rows are to be walked by, and the case to go on from; later walks keep the places already noted.
+-- Assumes nothing.
+use Prim.Native.Nat.{ℕ, suc, _+_, _*_, _/_, _%_, _≤_, _<_}
+use mathlib.Core.Path.{_≡_, sym, ap, _∙_, subst}
+use mathlib.Core.Logic.{inl, inr}
+use mathlib.Core.List.{List}
+use native.Mathlib.Omega.{arith}
+use native.Mathlib.Decide.{decLt}
+use lib.ListN.{length}
+use Rattle.model.specs.Steps.{B, Deck, Layer, pairCount}
+use Rattle.model.specs.Stages.{placedWith, openPrice, stagePrice, caseTable, leastCost}
+use Rattle.model.specs.Back.{EndWalked, StageWalked}
+use Rattle.model.specs.Notes.{NotedBy, stage-words}
+use Rattle.lanes.specs.Laws.{frame-join}
+use Rattle.lanes.specs.Store.{Frame, Low}
+use Rattle.deck.specs.Words.{deckOf}
+use Rattle.join.specs.Tables.{sourcesAt, sourcesIn, Way}
+use Rattle.stage.specs.Stage.{wide, posIn, RowGiven, StagesGiven, StagesDone}
+use Rattle.stage.specs.Laws.{wide-all, wide-last, given-pairs, given-wide}
+use Rattle.walk.specs.Walks.{wordAt}
+use Rattle.stagewalk.specs.Rows.{startCells, startLayer, priceFrom, endPlace, Stage, StageDone}
+use Rattle.stagewalk.specs.Laws.{end-tall, end-last}
+use Rattle.trace.specs.Trace.{Ways, stages-ways, Leg, Trace, LegDone, TraceDone}
+
+-- ---- one row
+
+-- a walked stage goes on from its start
+pub walked-on : (D : Deck) (R talls : ℕ) (pos : ℕ → ℕ) (Noted : ℕ → ℕ → ℕ → Type 0) (I : ℕ) (f : Layer) (i q a : ℕ) → StageWalked D R talls pos Noted I f i q a
+    → i ≤ suc (endPlace (D .size) R talls pos I q)
+walked-on D R talls pos Noted I f i q a w = go (decLt I talls)
+  where
+    ended : EndWalked D R Noted f i → i ≤ suc (D .size)
+    ended (inl e) = omega arith
+    ended (inr (r, b, l)) = omega (arith, l .room)
+
+    go : Dec (I < talls) → i ≤ suc (endPlace (D .size) R talls pos I q)
+    go (yes h) = omega (arith, end-tall (D .size) R talls pos I q h, w .toTall h .0)
+    go (no h) = omega (arith, end-last (D .size) R talls pos I q (omega arith), ended (w .toEnd (omega arith)))
+
+-- what was noted after tall cell J stays when the stages up to it are walked
+pub walked-kept : (D : Deck) (R talls : ℕ) (pos : ℕ → ℕ) (J s : ℕ) (f : Layer) (q a : ℕ) (mid new : List ℕ) → J < talls → Frame 1 (suc (endPlace (D .size) R talls pos J s)) mid new
+    → StageWalked D R talls pos (NotedBy (wordAt mid)) (suc J) f (suc (placedWith R (pos J) s)) q a
+    → StageWalked D R talls pos (NotedBy (wordAt new)) (suc J) f (suc (placedWith R (pos J) s)) q a
+walked-kept D R talls pos J s f q a mid new h n w =
+    stage-words D R talls pos (wordAt mid) (wordAt new) (suc J) f (suc (placedWith R (pos J) s)) q a
+    (λ e x y. sym (n .high e (omega (arith, end-tall (D .size) R talls pos J s h)))) w
+
+-- the places of a stage and of those before it
+pub notes-join : (D : Deck) (R talls : ℕ) (pos : ℕ → ℕ) (J s q : ℕ) {old mid new : List ℕ} → J < talls → suc (placedWith R (pos J) s) ≤ suc (endPlace (D .size) R talls pos (suc J) q)
+    → Frame (suc (placedWith R (pos J) s)) (suc (endPlace (D .size) R talls pos (suc J) q)) old mid → Frame 1 (suc (endPlace (D .size) R talls pos J s)) mid new
+    → Frame 1 (suc (endPlace (D .size) R talls pos (suc J) q)) old new
+notes-join D R talls pos J s q h l f g =
+    frame-join 1 (suc (endPlace (D .size) R talls pos (suc J) q)) f g (omega arith) (omega arith) (omega arith) (omega (arith, end-tall (D .size) R talls pos J s h))
+
+-- one row of a stage, as a walk wants it
+row-stage : {line pairs places st path : List ℕ} {n poses R count talls I s l q a : ℕ}
+    → RowGiven line pairs places R n poses count talls → Low st → 148992 ≤ length st → 67 ≤ length path → I ≤ talls → (0 < I → s < pairCount R) → (0 < I → l < poses)
+    → q < wide talls (suc I) (pairCount R) → a < wide talls (suc I) poses → priceFrom (deckOf line n poses) R talls (posIn places) I s l q a < B
+    → Stage line pairs places st path n poses R count talls I s l q a
+row-stage {poses = poses} {R = R} {talls = talls} {I = I} g w l r i s p x y c =
+    record {
+      start = record { row = g; low = w; long = l; stage = i; pair = s; pose = p };
+      room = r;
+      pair = λ h. omega (arith, wide-all talls I (pairCount R) h);
+      pose = λ h. omega (arith, wide-all talls I poses h);
+      cost = c;
+    }
+
+-- ---- one stage of both rows
+
+module _ {line₀ line₁ pairs places₀ places₁ st path₀ path₁ : List ℕ} {R n₀ n₁ poses count talls I s t l q₀ q₁ a : ℕ}
+    (g : Leg line₀ line₁ pairs places₀ places₁ st path₀ path₁ R n₀ n₁ poses count talls I s t l q₀ q₁ a) where
+  pub leg-row₀ : Stage line₀ pairs places₀ st path₀ n₀ poses R count talls I s l q₀ a
+  leg-row₀ =
+      row-stage (g .both .given .row₀) (g .both .given .low) (omega (arith, g .both .given .long)) (g .both .room₀) (g .stage) (g .pair₀) (g .pose) (g .case .pair₀) (g .case .pose) (g .cost₀)
+
+  pub leg-row₁ : {mid : List ℕ} → Low mid → length mid ≡ length st → Stage line₁ pairs places₁ mid path₁ n₁ poses R count talls I t l q₁ a
+  leg-row₁ w e =
+      row-stage (g .both .given .row₁) w (omega (arith, g .both .given .long)) (g .both .room₁) (g .stage) (g .pair₁) (g .pose) (g .case .pair₁) (g .case .pose) (g .cost₁)
+
+pub leg-done : {D₀ D₁ : Deck} {R talls : ℕ} {pos₀ pos₁ : ℕ → ℕ} {I s t l q₀ q₁ a : ℕ} {st mid new path₀ path₀′ path₁ path₁′ : List ℕ}
+    → StageDone D₀ R talls pos₀ I s l q₀ a st mid path₀ path₀′ → StageDone D₁ R talls pos₁ I t l q₁ a mid new path₁ path₁′
+    → LegDone D₀ D₁ R talls pos₀ pos₁ I s t l q₀ q₁ a st new path₀ path₀′ path₁ path₁′
+leg-done v w =
+    record {
+      frame = frame-join 0 148992 (v .frame) (w .frame) (omega arith) (omega arith) (omega arith) (omega arith);
+      low = w .low;
+      notes₀ = v .notes;
+      notes₁ = w .notes;
+      walked₀ = v .walked;
+      walked₁ = w .walked;
+    }
+
+-- ---- the first stage
+
+module _ {line₀ line₁ pairs places₀ places₁ st path₀ path₁ : List ℕ} {R n₀ n₁ poses count talls I q₀ q₁ a : ℕ}
+    (g : Trace line₀ line₁ pairs places₀ places₁ st path₀ path₁ R n₀ n₁ poses count talls I q₀ q₁ a) where
+  trace-at : (K : ℕ) → I ≡ K → Trace line₀ line₁ pairs places₀ places₁ st path₀ path₁ R n₀ n₁ poses count talls K q₀ q₁ a
+  trace-at K e = subst (λ (k : ℕ). Trace line₀ line₁ pairs places₀ places₁ st path₀ path₁ R n₀ n₁ poses count talls k q₀ q₁ a) e g
+
+  -- the case's source word is in the store
+  pub source-room : (I ≤ 24) × (q₀ < 12) × (q₁ < 12) × (a < 64) × (628224 ≤ length st)
+  source-room =
+      let v = g .both .given in
+      let p = given-pairs v in
+      let w = given-wide v (suc I) in
+      let n = v .row₀ .ground .all in
+      let e : wide talls (suc I) (pairCount R) ≡ wide talls (suc I) count = ap (wide talls (suc I)) (sym n) in
+      let c = g .case in
+      (omega (arith, g .stage), omega arith, omega arith, omega arith, omega (arith, v .long))
+
+  pub open-leg : I ≡ 0 → Leg line₀ line₁ pairs places₀ places₁ st path₀ path₁ R n₀ n₁ poses count talls 0 0 0 0 q₀ q₁ a
+  unfolding caseTable openPrice startLayer startCells
+  open-leg e =
+      let h = trace-at 0 e in
+      let c = h .cost in
+      record {
+        both = h .both;
+        stage = h .stage;
+        pair₀ = λ x. absurd (omega arith);
+        pair₁ = λ x. absurd (omega arith);
+        pose = λ x. absurd (omega arith);
+        case = h .case;
+        cost₀ = omega arith;
+        cost₁ = omega arith;
+      }
+
+module _ {D₀ D₁ : Deck} {R talls : ℕ} {pos₀ pos₁ : ℕ → ℕ} {I q₀ q₁ a : ℕ} {st new path₀ path₀′ path₁ path₁′ : List ℕ} where
+  done-at : (K : ℕ) → I ≡ K → TraceDone D₀ D₁ R talls pos₀ pos₁ K q₀ q₁ a st new path₀ path₀′ path₁ path₁′ → TraceDone D₀ D₁ R talls pos₀ pos₁ I q₀ q₁ a st new path₀ path₀′ path₁ path₁′
+  done-at K e w = subst (λ (k : ℕ). TraceDone D₀ D₁ R talls pos₀ pos₁ k q₀ q₁ a st new path₀ path₀′ path₁ path₁′) (sym e) w
+
+  pub open-done : I ≡ 0 → LegDone D₀ D₁ R talls pos₀ pos₁ 0 0 0 0 q₀ q₁ a st new path₀ path₀′ path₁ path₁′ → TraceDone D₀ D₁ R talls pos₀ pos₁ I q₀ q₁ a st new path₀ path₀′ path₁ path₁′
+  unfolding startLayer startCells
+  open-done e w = done-at 0 e record { frame = w .frame; low = w .low; notes₀ = w .notes₀; notes₁ = w .notes₁; traced = (w .walked₀, w .walked₁) }
+
+-- ---- a later stage
+
+-- the tables are kept
+ways-kept : {D₀ D₁ : Deck} {R talls : ℕ} {pos₀ pos₁ : ℕ → ℕ} {old new : List ℕ} → Frame 0 148992 old new → Ways D₀ D₁ R talls pos₀ pos₁ old → Ways D₀ D₁ R talls pos₀ pos₁ new
+unfolding sourcesIn
+ways-kept f w = record { way = λ I q₀ q₁ a h c l. rw (f .high (sourcesAt (suc (suc I)) + q₀ * 768 + q₁ * 64 + a) (omega arith)) (w .way I q₀ q₁ a h c l) }
+
+module _ {line₀ line₁ pairs places₀ places₁ st path₀ path₁ : List ℕ} {R n₀ n₁ poses count talls I q₀ q₁ a : ℕ}
+    (g : Trace line₀ line₁ pairs places₀ places₁ st path₀ path₁ R n₀ n₁ poses count talls I q₀ q₁ a)
+    (J code : ℕ) (e : I ≡ suc J) (c : code ≡ sourcesIn st (suc I) q₀ q₁ a) where
+  way : Way (pairCount R) poses (caseTable (deckOf line₀ n₀ poses) (deckOf line₁ n₁ poses) R talls (posIn places₀) (posIn places₁) J)
+      (stagePrice (deckOf line₀ n₀ poses) R talls (posIn places₀) J)
+      (stagePrice (deckOf line₁ n₁ poses) R talls (posIn places₁) J)
+      q₀
+      q₁
+      a
+      (caseTable (deckOf line₀ n₀ poses) (deckOf line₁ n₁ poses) R talls (posIn places₀) (posIn places₁) (suc J) q₀ q₁ a)
+      code
+  way =
+      let h = trace-at g (suc J) e in
+      let z = c ∙ ap (λ (k : ℕ). sourcesIn st (suc k) q₀ q₁ a) e in
+      rw z (h .ways .way J q₀ q₁ a (omega (arith, h .stage)) (h .case) (h .cost))
+
+  costs : (caseTable (deckOf line₀ n₀ poses) (deckOf line₁ n₁ poses) R talls (posIn places₀) (posIn places₁) J (code / 768) (code % 768 / 64) (code % 64) < B)
+      × (stagePrice (deckOf line₀ n₀ poses) R talls (posIn places₀) J (code / 768) (code % 64) q₀ a < B)
+      × (stagePrice (deckOf line₁ n₁ poses) R talls (posIn places₁) J (code % 768 / 64) (code % 64) q₁ a < B)
+  costs =
+      let l = trace-at g (suc J) e .cost in
+      let s = way .sum in
+      (omega arith, omega arith, omega arith)
+
+  pub back-leg : Leg line₀ line₁ pairs places₀ places₁ st path₀ path₁ R n₀ n₁ poses count talls I (code / 768) (code % 768 / 64) (code % 64) q₀ q₁ a
+  unfolding stagePrice startLayer startCells
+  back-leg =
+      let h = trace-at g (suc J) e in
+      let w = way in
+      let x = costs in
+      subst (λ (k : ℕ). Leg line₀ line₁ pairs places₀ places₁ st path₀ path₁ R n₀ n₁ poses count talls k (code / 768) (code % 768 / 64) (code % 64) q₀ q₁ a) (sym e) record {
+        both = h .both;
+        stage = h .stage;
+        pair₀ = λ y. w .pair₀;
+        pair₁ = λ y. w .pair₁;
+        pose = λ y. w .lane;
+        case = h .case;
+        cost₀ = x .1;
+        cost₁ = x .2;
+      }
+
+  module _ {mid mid₀ mid₁ : List ℕ}
+      (d : LegDone (deckOf line₀ n₀ poses) (deckOf line₁ n₁ poses) R talls (posIn places₀) (posIn places₁) I (code / 768) (code % 768 / 64) (code % 64) q₀ q₁ a st mid path₀ mid₀ path₁ mid₁) where
+    -- the case to go on from
+    pub back-rest : Trace line₀ line₁ pairs places₀ places₁ mid mid₀ mid₁ R n₀ n₁ poses count talls J (code / 768) (code % 768 / 64) (code % 64)
+    back-rest =
+        let w = way in
+        let h : J < talls = omega (arith, g .stage) in
+        record {
+          both = record {
+            given = record { row₀ = g .both .given .row₀; row₁ = g .both .given .row₁; long = omega (arith, g .both .given .long, d .frame .long); low = d .low };
+            room₀ = omega (arith, g .both .room₀, d .notes₀ .long);
+            room₁ = omega (arith, g .both .room₁, d .notes₁ .long);
+          };
+          stage = omega arith;
+          case = record {
+            pair₀ = omega (arith, w .pair₀, wide-all talls J (pairCount R) h);
+            pair₁ = omega (arith, w .pair₁, wide-all talls J (pairCount R) h);
+            pose = omega (arith, w .lane, wide-all talls J poses h);
+          };
+          ways = ways-kept (d .frame) (g .ways);
+          cost = costs .0;
+        }
+
+    pub back-done : {new new₀ new₁ : List ℕ}
+        → TraceDone (deckOf line₀ n₀ poses) (deckOf line₁ n₁ poses) R talls (posIn places₀) (posIn places₁) J (code / 768) (code % 768 / 64) (code % 64) mid new mid₀ new₀ mid₁ new₁
+        → TraceDone (deckOf line₀ n₀ poses) (deckOf line₁ n₁ poses) R talls (posIn places₀) (posIn places₁) I q₀ q₁ a st new path₀ new₀ path₁ new₁
+    unfolding startLayer startCells
+    back-done {new} {new₀} {new₁} r =
+        let s = code / 768 in
+        let t = code % 768 / 64 in
+        let l = code % 64 in
+        let D₀ = deckOf line₀ n₀ poses in
+        let D₁ = deckOf line₁ n₁ poses in
+        let h : J < talls = omega (arith, g .stage) in
+        let u = subst (λ (k : ℕ). LegDone D₀ D₁ R talls (posIn places₀) (posIn places₁) k s t l q₀ q₁ a st mid path₀ mid₀ path₁ mid₁) e d in
+        let w = way in
+        done-at (suc J) e record {
+          frame = frame-join 0 148992 (d .frame) (r .frame) (omega arith) (omega arith) (omega arith) (omega arith);
+          low = r .low;
+          notes₀ = notes-join D₀ R talls (posIn places₀) J s q₀ h (walked-on D₀ R talls (posIn places₀) (NotedBy (wordAt mid₀)) (suc J) _ _ q₀ a (u .walked₀)) (u .notes₀) (r .notes₀);
+          notes₁ = notes-join D₁ R talls (posIn places₁) J t q₁ h (walked-on D₁ R talls (posIn places₁) (NotedBy (wordAt mid₁)) (suc J) _ _ q₁ a (u .walked₁)) (u .notes₁) (r .notes₁);
+          traced = (
+            s,
+            t,
+            l,
+            record {
+              pair₀ = w .pair₀;
+              pair₁ = w .pair₁;
+              pose = w .lane;
+              sum = w .sum;
+              row₀ = walked-kept D₀ R talls (posIn places₀) J s _ q₀ a mid₀ new₀ h (r .notes₀) (u .walked₀);
+              row₁ = walked-kept D₁ R talls (posIn places₁) J t _ q₁ a mid₁ new₁ h (r .notes₁) (u .walked₁);
+            },
+            r .traced,
+          );
+        }
+
+-- ---- the whole trace, after the stages
+
+pub trace-given : {line₀ line₁ pairs places₀ places₁ old st path₀ path₁ : List ℕ} {R n₀ n₁ poses count talls : ℕ}
+    → StagesGiven line₀ line₁ pairs places₀ places₁ old R n₀ n₁ poses count talls
+    → StagesDone (deckOf line₀ n₀ poses) (deckOf line₁ n₁ poses) R talls (posIn places₀) (posIn places₁) old st
+    → 67 ≤ length path₀ → 67 ≤ length path₁ → leastCost (deckOf line₀ n₀ poses) (deckOf line₁ n₁ poses) R talls (posIn places₀) (posIn places₁) < B
+    → Trace line₀ line₁ pairs places₀ places₁ st path₀ path₁ R n₀ n₁ poses count talls talls 0 0 0
+trace-given {R = R} {poses = poses} {talls = talls} g d x y l =
+    record {
+      both = record { given = record { row₀ = g .row₀; row₁ = g .row₁; long = omega (arith, g .long, d .long); low = d .low }; room₀ = x; room₁ = y };
+      stage = omega arith;
+      case = record { pair₀ = one (pairCount R); pair₁ = one (pairCount R); pose = one poses };
+      ways = stages-ways d;
+      cost = l;
+    }
+  where
+    one : (k : ℕ) → 0 < wide talls (suc talls) k
+    one k = omega (arith, wide-last talls (suc talls) k (omega arith))

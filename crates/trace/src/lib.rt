@@ -1,0 +1,220 @@
+// The trace: from the last case table's one case back over the source words, both rows walked stage by stage.
+ghost use mathlib.Core.Path.{_≡_};
+ghost use Prim.Native.Nat.{suc, _≤_, _<_};
+ghost use lib.ListN.{length};
+ghost use Rattle.deck.specs.Words.{deckOf};
+ghost use Rattle.join.specs.Tables.{sourcesIn};
+ghost use Rattle.stage.specs.Stage.{posIn};
+ghost use Rattle.trace.specs.Trace.{Leg, Trace, LegDone, TraceDone};
+
+// The source word of the case (q0, q1, a) of stage i.
+fn source(store: &[u32], i: usize, q0: usize, q1: usize, a: usize) -> usize
+    requires { ⌜ (i ≤ 24) × (q0 < 12) × (q1 < 12) × (a < 64) × (628224 ≤ length (now store)) ⌝ }
+    ensures { λ t. ⌜ t ≡ sourcesIn (now (store .entry)) (suc i) q0 q1 a ⌝ }
+{
+    deck::word(
+        store,
+        join::SOURCES + (i + 1) * 9216 + q0 * 768 + q1 * 64 + a,
+    )
+}
+
+// Both rows through one stage.
+fn both_walk(
+    store: &mut [u32],
+    path0: &mut [u32],
+    path1: &mut [u32],
+    line0: &[u32],
+    line1: &[u32],
+    pairs: &[u32],
+    places0: &[u32],
+    places1: &[u32],
+    n0: usize,
+    n1: usize,
+    poses: usize,
+    r: usize,
+    count: usize,
+    talls: usize,
+    i: usize,
+    s: usize,
+    t: usize,
+    l: usize,
+    q0: usize,
+    q1: usize,
+    a: usize,
+)
+    requires { ⌜ Leg (now line0) (now line1) (now pairs) (now places0) (now places1) (now store) (now path0) (now path1) r n0 n1 poses count talls i s t l q0 q1 a ⌝ }
+    ensures { λ _. ⌜ LegDone (deckOf (now (line0 .entry)) n0 poses) (deckOf (now (line1 .entry)) n1 poses) r talls (posIn (now (places0 .entry))) (posIn (now (places1 .entry))) i s t l q0 q1 a (now (store .entry)) (now (store .exit)) (now (path0 .entry)) (now (path0 .exit)) (now (path1 .entry)) (now (path1 .exit)) ⌝ }
+{
+    stagewalk::stage_walk(
+        store,
+        path0,
+        line0,
+        pairs,
+        places0,
+        n0,
+        poses,
+        r,
+        count,
+        talls,
+        i,
+        s,
+        l,
+        q0,
+        a,
+    );
+    stagewalk::stage_walk(
+        store,
+        path1,
+        line1,
+        pairs,
+        places1,
+        n1,
+        poses,
+        r,
+        count,
+        talls,
+        i,
+        t,
+        l,
+        q1,
+        a,
+    );
+}
+
+// From the case (q0, q1, a) of stage i back to the start of both rows.
+fn trace_from(
+    store: &mut [u32],
+    path0: &mut [u32],
+    path1: &mut [u32],
+    line0: &[u32],
+    line1: &[u32],
+    pairs: &[u32],
+    places0: &[u32],
+    places1: &[u32],
+    n0: usize,
+    n1: usize,
+    poses: usize,
+    r: usize,
+    count: usize,
+    talls: usize,
+    i: usize,
+    q0: usize,
+    q1: usize,
+    a: usize,
+)
+    requires { ⌜ Trace (now line0) (now line1) (now pairs) (now places0) (now places1) (now store) (now path0) (now path1) r n0 n1 poses count talls i q0 q1 a ⌝ }
+    ensures { λ _. ⌜ TraceDone (deckOf (now (line0 .entry)) n0 poses) (deckOf (now (line1 .entry)) n1 poses) r talls (posIn (now (places0 .entry))) (posIn (now (places1 .entry))) i q0 q1 a (now (store .entry)) (now (store .exit)) (now (path0 .entry)) (now (path0 .exit)) (now (path1 .entry)) (now (path1 .exit)) ⌝ }
+{
+    if i == 0 {
+        both_walk(
+            store,
+            path0,
+            path1,
+            line0,
+            line1,
+            pairs,
+            places0,
+            places1,
+            n0,
+            n1,
+            poses,
+            r,
+            count,
+            talls,
+            0,
+            0,
+            0,
+            0,
+            q0,
+            q1,
+            a,
+        );
+        return;
+    }
+    let c = source(store, i, q0, q1, a);
+    both_walk(
+        store,
+        path0,
+        path1,
+        line0,
+        line1,
+        pairs,
+        places0,
+        places1,
+        n0,
+        n1,
+        poses,
+        r,
+        count,
+        talls,
+        i,
+        c / 768,
+        c % 768 / 64,
+        c % 64,
+        q0,
+        q1,
+        a,
+    );
+    trace_from(
+        store,
+        path0,
+        path1,
+        line0,
+        line1,
+        pairs,
+        places0,
+        places1,
+        n0,
+        n1,
+        poses,
+        r,
+        count,
+        talls,
+        i - 1,
+        c / 768,
+        c % 768 / 64,
+        c % 64,
+    );
+}
+
+// From the least cost of all.
+pub fn trace(
+    store: &mut [u32],
+    path0: &mut [u32],
+    path1: &mut [u32],
+    line0: &[u32],
+    line1: &[u32],
+    pairs: &[u32],
+    places0: &[u32],
+    places1: &[u32],
+    n0: usize,
+    n1: usize,
+    poses: usize,
+    r: usize,
+    count: usize,
+    talls: usize,
+)
+    requires { ⌜ Trace (now line0) (now line1) (now pairs) (now places0) (now places1) (now store) (now path0) (now path1) r n0 n1 poses count talls talls 0 0 0 ⌝ }
+    ensures { λ _. ⌜ TraceDone (deckOf (now (line0 .entry)) n0 poses) (deckOf (now (line1 .entry)) n1 poses) r talls (posIn (now (places0 .entry))) (posIn (now (places1 .entry))) talls 0 0 0 (now (store .entry)) (now (store .exit)) (now (path0 .entry)) (now (path0 .exit)) (now (path1 .entry)) (now (path1 .exit)) ⌝ }
+{
+    trace_from(
+        store,
+        path0,
+        path1,
+        line0,
+        line1,
+        pairs,
+        places0,
+        places1,
+        n0,
+        n1,
+        poses,
+        r,
+        count,
+        talls,
+        talls,
+        0,
+        0,
+        0,
+    );
+}

@@ -1,0 +1,75 @@
+-- The least word so far, and where it is. Assumes nothing.
+use Prim.Native.Nat.{ℕ, _*_, _-_, _≤_}
+use mathlib.Core.Logic.{⊎-elim}
+use native.Mathlib.Omega.{arith}
+use Rattle.deck.specs.Words.{deckOf}
+use Rattle.kept.specs.Kept.{keptIn}
+use Rattle.walk.specs.Walks.{LeastOf, lastCode}
+use Rattle.walk.specs.Lasts.{last-found, least-none, least-lower, least-keep}
+use Rattle.walk.proofs.find_last.Statement.{statement}
+use Rattle.walk.proofs.find_last.Tie as tie
+
+abbrev Inv-loop : tie.InvT-loop
+Inv-loop store line pairs n poses r count best₀ code₀ c₀ best code c =
+    (c ≤ count * 64) × LeastOf (lastCode (deckOf line n poses) r (keptIn store n)) c best code
+
+abbrev μ-loop : tie.MeasureT-loop
+μ-loop store line pairs n poses r count best₀ code₀ c₀ best code c =
+    count * 64 - c
+
+loop-holds : tie.Need-loop-holds Inv-loop μ-loop
+loop-holds c =
+    (omega arith, least-none _ _)
+
+mul-loop : tie.Need-mul-loop Inv-loop μ-loop
+mul-loop c =
+    let g = c .before .before .before .before .pre .0 .ground in
+    omega (arith, g .all, g .coded .few)
+
+last-word-requires : tie.Need-last-word-requires Inv-loop μ-loop
+last-word-requires c κs =
+    (c .before .before .before .before .before .pre .0, omega arith)
+
+add-c : tie.Need-add-c Inv-loop μ-loop
+add-c c =
+    let g = c .before .before .before .before .before .before .before .pre .0 .ground in
+    omega (arith, g .all, g .coded .few)
+
+loop-less : tie.Need-loop-less Inv-loop μ-loop
+loop-less c =
+    omega arith
+
+loop-again : tie.Need-loop-again Inv-loop μ-loop
+loop-again c =
+    let a = c .before .before .before .before .before .before .before .args in
+    let l = c .before .before .before .loop in
+    let h : ℕ → ℕ = lastCode (deckOf (a .line .now) (a .n) (a .poses)) (a .r) (keptIn (a .store .now) (a .n)) in
+    let e = c .before .last-word .ensures in (
+      omega arith,
+      ⊎-elim
+          (λ w. rw (w .1, w .2) (least-lower h (l .c) (l .best) (l .code) (c .before .last-word .result) e (l .inv .1) (omega arith)))
+          (λ w. rw (w .1, w .2) (least-keep h (l .c) (l .best) (l .code) (c .before .last-word .result) e (l .inv .1) (omega arith)))
+          (c .if1 .came),
+    )
+
+returns : tie.Need-returns Inv-loop μ-loop
+returns c =
+    let k = c .before .before .before .before .before in
+    let a = k .args in
+    let g = k .pre .0 .ground in
+    last-found (deckOf (a .line .now) (a .n) (a .poses)) (a .r) (keptIn (a .store .now) (a .n)) (c .before .loop .best) (c .before .loop .code) (c .before .loop .c)
+    (omega (arith, g .all)) (g .few) (c .before .loop .inv .1) (k .pre .1)
+
+pub find-last-spec : {M : Type 1} → statement M
+find-last-spec =
+    tie.close
+    (tie.spec
+    Inv-loop
+    μ-loop
+    loop-holds
+    mul-loop
+    last-word-requires
+    add-c
+    loop-less
+    loop-again
+    returns)

@@ -1,0 +1,4 @@
+pub mod Walks
+pub mod Sources
+pub mod Lasts
+pub mod Steps

@@ -1,0 +1,33 @@
+//! Texts from standard input and from files: bytes as they are, with a limit on their length.
+
+use std::ffi::OsStr;
+use std::fmt::Display;
+use std::fs::File;
+use std::io::{self, Read};
+use std::path::Path;
+
+/// The longest text that is taken in. The longest job that is accepted has under 8 KiB.
+const LONGEST: u64 = 256 << 20;
+
+pub fn standard_input() -> Result<Vec<u8>, String> {
+    whole(io::stdin().lock(), "standard input")
+}
+
+pub fn file(path: &OsStr) -> Result<Vec<u8>, String> {
+    let name = Path::new(path).display();
+    match File::open(path) {
+        Ok(file) => whole(file, name),
+        Err(error) => Err(format!("cannot open {name}: {error}")),
+    }
+}
+
+fn whole(source: impl Read, name: impl Display) -> Result<Vec<u8>, String> {
+    let mut text = Vec::new();
+    match source.take(LONGEST + 1).read_to_end(&mut text) {
+        Err(error) => Err(format!("cannot read {name}: {error}")),
+        Ok(_) if text.len() as u64 > LONGEST => {
+            Err(format!("{name} is longer than {LONGEST} bytes"))
+        }
+        Ok(_) => Ok(text),
+    }
+}

@@ -1,0 +1,87 @@
+//! What a run prints and its exit status.
+
+use importer::{Numbers, Refused};
+use std::io::{self, Write};
+use std::process::ExitCode;
+
+const ANSWER: u8 = 0;
+const REFUSAL: u8 = 1;
+const ERROR: u8 = 2;
+
+pub struct Report {
+    status: u8,
+    output: Vec<u8>,
+    notes: Vec<u8>,
+}
+
+impl Report {
+    /// An answer, for standard output.
+    pub fn answer(output: impl Into<Vec<u8>>) -> Report {
+        Report {
+            status: ANSWER,
+            output: output.into(),
+            notes: Vec::new(),
+        }
+    }
+
+    /// `refused,number,line`; on standard error the line itself, then the reason.
+    pub fn refusal(refused: Refused, line: &[u8]) -> Report {
+        let mut notes = line.to_vec();
+        if notes.last().is_some_and(|&byte| byte != b'\n') {
+            notes.push(b'\n');
+        }
+        let report = Report {
+            status: REFUSAL,
+            output: format!("refused,{},{}\n", refused.number, refused.line).into(),
+            notes,
+        };
+        report.with_note(&refused.to_string())
+    }
+
+    /// A usage or input error: standard output stays empty.
+    pub fn error(reason: &str) -> Report {
+        let report = Report {
+            status: ERROR,
+            output: Vec::new(),
+            notes: Vec::new(),
+        };
+        report.with_note(reason.trim_end())
+    }
+
+    /// The report with one more line on standard error.
+    pub fn with_note(mut self, note: &str) -> Report {
+        self.notes
+            .extend_from_slice(format!("refine: {note}\n").as_bytes());
+        self
+    }
+
+    /// Prints the report. A reader that has gone away is an error without a word.
+    pub fn write(self) -> ExitCode {
+        let mut output = io::stdout().lock();
+        let written = output.write_all(&self.output).and_then(|()| output.flush());
+        // Nothing can be told to a reader of standard error that has gone away.
+        let _ = io::stderr().write_all(&self.notes);
+        match written {
+            Ok(()) => ExitCode::from(self.status),
+            Err(error) => {
+                if error.kind() != io::ErrorKind::BrokenPipe {
+                    let _ = writeln!(io::stderr(), "refine: cannot print: {error}");
+                }
+                ExitCode::from(ERROR)
+            }
+        }
+    }
+}
+
+/// `cost,steps,sites shifted,mirrored,changed,drift`.
+pub fn line_of(numbers: &Numbers) -> String {
+    let Numbers {
+        steps,
+        shifted,
+        mirrored,
+        changed,
+        cost,
+        drift,
+    } = numbers;
+    format!("{cost},{steps},{shifted},{mirrored},{changed},{drift}")
+}

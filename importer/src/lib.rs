@@ -1,0 +1,19 @@
+//! The row pair refiner for Rust programs.
+//!
+//! The refiner itself is written in Rattle, proved, and linked as the archive `librefiner.a`
+//! (`include/refiner.h` is its C interface). This library makes its functions safe to call:
+//! [`calls`] has each of them with slices for addresses and lengths, and the modules beside it
+//! turn the numbers that a call leaves behind into plain structs.
+
+pub mod calls;
+mod fault;
+mod placing;
+mod reading;
+mod refused;
+mod scoring;
+
+pub use fault::fault_line;
+pub use placing::{place, refine, Placed, Refined, OUTPUT_BYTES, STORE_WORDS};
+pub use reading::{read, Read};
+pub use refused::Refused;
+pub use scoring::{score, Broken, Numbers, Verdict};

@@ -1,0 +1,188 @@
+//! `refine` as a program: what it prints, where, and its exit status.
+
+use std::fs;
+use std::io::Write;
+use std::process::{Command, Output, Stdio};
+
+const WORKED: &str = include_str!("../../examples/worked.job");
+
+/// Runs `refine` on a text as standard input.
+fn refine(arguments: &[&str], input: &[u8]) -> Output {
+    let mut child = Command::new(env!("CARGO_BIN_EXE_refine"))
+        .args(arguments)
+        .stdin(Stdio::piped())
+        .stdout(Stdio::piped())
+        .stderr(Stdio::piped())
+        .spawn()
+        .expect("refine starts");
+    let mut stdin = child.stdin.take().expect("standard input is a pipe");
+    // A run that does not read its input may close it first.
+    let _ = stdin.write_all(input);
+    drop(stdin);
+    child.wait_with_output().expect("refine ends")
+}
+
+/// Standard output, standard error and exit status.
+fn told(output: &Output) -> (String, String, Option<i32>) {
+    let text = |bytes: &[u8]| String::from_utf8_lossy(bytes).into_owned();
+    (
+        text(&output.stdout),
+        text(&output.stderr),
+        output.status.code(),
+    )
+}
+
+#[test]
+fn the_worked_example() {
+    let (output, notes, status) = told(&refine(&[], WORKED.as_bytes()));
+    assert_eq!(output, "100,0,0,1,0,0\n2,0,1\n6,0,0\n");
+    assert_eq!((&*notes, status), ("", Some(0)));
+}
+
+#[test]
+fn a_job_without_cells_has_an_empty_placement() {
+    let (output, _, status) = told(&refine(&[], b"J,2,9,7,1,1000,1000,1000,1000\n"));
+    assert_eq!((&*output, status), ("0,0,0,0,0,0\n", Some(0)));
+}
+
+#[test]
+fn a_negative_drift_is_printed_with_its_sign() {
+    // The cell reaches past the row by one site.
+    let job = b"J,1,20,1,1,100,7,100,50\nC,0,17,1,1,4,3,3,2,2\n";
+    let (output, _, status) = told(&refine(&[], job));
+    assert_eq!((&*output, status), ("7,0,1,0,0,-100\n16,0,0\n", Some(0)));
+}
+
+#[test]
+fn a_job_without_a_legal_placement_is_refused_without_a_line() {
+    let cell = "C,0,0,0,1,3,1,1,1,1\n";
+    let job = format!("J,1,5,7,1,1,1,1,1\n{cell}{cell}");
+    let (output, notes, status) = told(&refine(&[], job.as_bytes()));
+    assert_eq!((&*output, status), ("refused,8,0\n", Some(1)));
+    assert!(notes.starts_with("refine: refusal 8: no legal"), "{notes}");
+}
+
+#[test]
+fn a_refused_job_gives_number_and_line_and_shows_the_line() {
+    let job = WORKED.replace("C,0,6,0", "C,0,1,0");
+    let (output, notes, status) = told(&refine(&[], job.as_bytes()));
+    assert_eq!((&*output, status), ("refused,4,3\n", Some(1)));
+    assert!(notes.starts_with("C,0,1,0,1,4,3,3,2,2\n"), "{notes}");
+    assert!(notes.contains("given site"), "{notes}");
+}
+
+#[test]
+fn no_input_is_a_refusal() {
+    let (output, _, status) = told(&refine(&[], b""));
+    assert_eq!((&*output, status), ("refused,1,1\n", Some(1)));
+}
+
+#[test]
+fn input_that_is_no_text_is_a_refusal() {
+    let bytes: Vec<u8> = (0..=255).cycle().take(100_000).collect();
+    let (output, _, status) = told(&refine(&[], &bytes));
+    assert_eq!((&*output, status), ("refused,1,1\n", Some(1)));
+}
+
+#[test]
+fn an_unknown_word_is_a_usage_error() {
+    let (output, notes, status) = told(&refine(&["polish"], b""));
+    assert_eq!((&*output, status), ("", Some(2)));
+    assert!(notes.contains("usage"), "{notes}");
+}
+
+#[test]
+fn help_is_an_answer() {
+    let (output, _, status) = told(&refine(&["--help"], b""));
+    assert_eq!(status, Some(0));
+    assert!(output.starts_with("usage"), "{output}");
+}
+
+/// A file for one test, in the folder that cargo keeps for tests.
+fn file(name: &str, text: &str) -> String {
+    let path = format!("{}/{name}", env!("CARGO_TARGET_TMPDIR"));
+    fs::write(&path, text).expect("a test may write its files");
+    path
+}
+
+/// Runs `refine score` on two texts.
+fn score(test: &str, job: &str, placement: &str) -> (String, String, Option<i32>) {
+    let job = file(&format!("{test}.job"), job);
+    let placement = file(&format!("{test}.placement"), placement);
+    told(&refine(&["score", &job, &placement], b""))
+}
+
+#[test]
+fn a_legal_placement_gives_its_numbers() {
+    let said = score("legal", WORKED, "2,0,1\n6,0,0\n");
+    assert_eq!(
+        said,
+        ("legal,100,0,0,1,0,0\n".into(), String::new(), Some(0))
+    );
+}
+
+#[test]
+fn a_negative_drift_has_its_sign() {
+    let said = score("drift", WORKED, "1,0,1\n5,0,0\n");
+    assert_eq!(said.0, "legal,102,0,2,1,0,-100\n");
+}
+
+#[test]
+fn a_broken_rule_is_named_with_its_cell() {
+    let (output, notes, status) = score("broken", WORKED, "2,0,0\n7,0,0\n");
+    assert_eq!((&*output, status), ("broken,5,1\n", Some(0)));
+    assert!(notes.contains("one empty site"), "{notes}");
+}
+
+#[test]
+fn a_refused_placement_shows_its_line() {
+    let (output, notes, status) = score("refused", WORKED, "2,0,0\n7,0\n");
+    assert_eq!((&*output, status), ("refused,5,2\n", Some(1)));
+    assert!(
+        notes.starts_with("7,0\nrefine: refusal 5 at line 2"),
+        "{notes}"
+    );
+}
+
+#[test]
+fn a_missing_line_shows_nothing_but_the_reason() {
+    let (output, notes, status) = score("missing", WORKED, "2,0,0\n");
+    assert_eq!((&*output, status), ("refused,5,2\n", Some(1)));
+    assert!(notes.starts_with("refine: refusal 5 at line 2"), "{notes}");
+}
+
+#[test]
+fn files_that_cannot_be_read_are_input_errors() {
+    let job = file("unread.job", WORKED);
+    for placement in ["no/such/file", env!("CARGO_TARGET_TMPDIR")] {
+        let (output, notes, status) = told(&refine(&["score", &job, placement], b""));
+        assert_eq!((&*output, status), ("", Some(2)));
+        assert!(notes.starts_with("refine: cannot"), "{notes}");
+    }
+    assert_eq!(told(&refine(&["score", &job], b"")).2, Some(2));
+}
+
+#[cfg(unix)]
+#[test]
+fn arguments_that_are_no_text_are_input_errors() {
+    use std::ffi::OsStr;
+    use std::os::unix::ffi::OsStrExt;
+    let name = OsStr::from_bytes(b"\xff\xfe");
+    let output = Command::new(env!("CARGO_BIN_EXE_refine"))
+        .args([OsStr::new("score"), name, name])
+        .output()
+        .expect("refine ends");
+    assert_eq!(output.status.code(), Some(2));
+}
+
+#[cfg(unix)]
+#[test]
+fn a_reader_that_has_gone_away_is_no_panic() {
+    let job = file("pipe.job", WORKED);
+    let refine = env!("CARGO_BIN_EXE_refine");
+    let script = format!("'{refine}' < '{job}' | true; exit ${{PIPESTATUS[0]}}");
+    let output = Command::new("bash").args(["-c", &script]).output();
+    let output = output.expect("bash runs");
+    assert!(output.stderr.is_empty());
+    assert!(matches!(output.status.code(), Some(0 | 2)));
+}

@@ -1,0 +1,88 @@
+//! Place: heavy jobs and a typical one.
+
+use crate::clock;
+use importer::{OUTPUT_BYTES, STORE_WORDS};
+use std::hint::black_box;
+use trial::generate::legal::{Shape, HEAVY};
+use trial::generate::{legal, Random};
+use trial::plain::placement::text_of;
+use trial::plain::reader::read_job;
+use trial::plain::scorer::verdict;
+use trial::plain::search::cheapest;
+
+const JOBS: [(&str, Shape); 8] = [
+    ("64 cells, 24 tall, dense and wide", HEAVY),
+    ("64 cells, 24 tall, dense and narrow", narrow(64, 24)),
+    ("64 cells, 12 tall, widths 1 and 2", narrow(64, 12)),
+    ("64 cells, 8 tall, widths 1 and 2", narrow(64, 8)),
+    (
+        "64 single cells in one row",
+        Shape {
+            rows: 1,
+            ..narrow(64, 0)
+        },
+    ),
+    (
+        "60 single cells in one row",
+        Shape {
+            rows: 1,
+            ..narrow(60, 0)
+        },
+    ),
+    (
+        "64 cells, 6 tall, D 3",
+        Shape {
+            tall: 6,
+            displacement: 3,
+            ..HEAVY
+        },
+    ),
+    (
+        "16 cells, 4 tall",
+        Shape {
+            cells: 16,
+            tall: 4,
+            ..HEAVY
+        },
+    ),
+];
+
+/// Cells of widths 1 and 2 without gaps.
+const fn narrow(cells: usize, tall: usize) -> Shape {
+    Shape {
+        cells,
+        tall,
+        most_width: 2,
+        gaps: &[0, 0, 2],
+        ..HEAVY
+    }
+}
+
+pub fn compare() {
+    for (what, shape) in &JOBS {
+        let job = legal::job(&mut Random::new(2), shape).text();
+        compare_on(&format!("Place, {what}"), &job);
+    }
+}
+
+/// Both read the text and end with the placement's text and numbers. Place leaves its store all
+/// zero, so the plain search clears as large a one.
+fn compare_on(what: &str, job: &[u8]) {
+    let mut store = vec![0; STORE_WORDS];
+    let mut output = [0; OUTPUT_BYTES];
+    let mut results = [0; 9];
+    let refiner = || {
+        let (store, output) = black_box((&mut store, &mut output));
+        importer::calls::place(black_box(job), store, output, black_box(&mut results));
+    };
+    let mut plain_store = vec![0_u32; STORE_WORDS];
+    let plain = || {
+        black_box(&mut plain_store).fill(0);
+        let job = read_job(black_box(job)).ok();
+        let placement = job.as_ref().and_then(cheapest);
+        if let (Some(job), Some(placement)) = (job, placement) {
+            black_box((text_of(&placement), verdict(&job, &placement).ok()));
+        }
+    };
+    clock::compare(what, refiner, plain);
+}

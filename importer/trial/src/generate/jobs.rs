@@ -1,0 +1,101 @@
+//! Jobs that the reader accepts, of every size.
+
+use super::Random;
+use crate::plain::job::{Cell, Job, Layout, Weights, MOST_TALL, TALL};
+
+/// A job with this many cells.
+pub fn job(random: &mut Random, cells: usize) -> Job {
+    let rows = random.from_to(1, 2);
+    let tall_in_ten = random.pick(&[0, 1, 3, 10]);
+    let most_width = random.pick(&[1, 4, 16, 64]);
+    let most_height = random.pick(&[1, 2, 3, 15]);
+    let most_step = random.pick(&[0, 2, 8, 24]);
+    let mut job = Job {
+        rows,
+        sites: random.pick(&[1, 20, 200, 1023, 1024]),
+        displacement: random.from_to(0, 7),
+        reordering: random.from_to(0, 1),
+        weights: weights(random),
+        cells: Vec::new(),
+    };
+    let mut highest = [0; 2];
+    for _ in 0..cells {
+        let tall = job.tall_cells() < MOST_TALL && random.chance(tall_in_ten, 10);
+        let row = if rows == 1 {
+            0
+        } else if tall {
+            TALL
+        } else {
+            random.from_to(0, 1)
+        };
+        let mut cell = cell(random, row, most_width, most_height);
+        cell.given = next_given(&mut highest, &cell, random.from_to(0, most_step));
+        job.cells.push(cell);
+    }
+    job
+}
+
+/// A job of a size from 0 to 64 cells, of which small ones are more frequent.
+pub fn job_of_any_size(random: &mut Random) -> Job {
+    let most = random.pick(&[3, 3, 8, 8, 8, 16, 64]);
+    let cells = random.below(most + 1);
+    job(random, cells)
+}
+
+pub fn weights(random: &mut Random) -> Weights {
+    let mut weight = || {
+        let high = random.pick(&[0, 1, 10, 1000]);
+        random.from_to(high / 2, high)
+    };
+    Weights {
+        step: weight(),
+        shift: weight(),
+        mirror: weight(),
+        swap: weight(),
+    }
+}
+
+/// A cell in this row with one layout or two; its given site is left at 0.
+pub fn cell(random: &mut Random, row: u16, most_width: u16, most_height: u16) -> Cell {
+    let layouts = random.from_to(1, 2);
+    cell_with_layouts(random, row, layouts, most_width, most_height)
+}
+
+pub fn cell_with_layouts(
+    random: &mut Random,
+    row: u16,
+    layouts: u16,
+    most_width: u16,
+    most_height: u16,
+) -> Cell {
+    let mut cell = Cell {
+        row,
+        given: 0,
+        mirrorable: random.chance(1, 2),
+        layouts,
+        layout: [Layout::default(); 2],
+    };
+    for layout in &mut cell.layout[..usize::from(layouts)] {
+        *layout = self::layout(random, row, most_width, most_height);
+    }
+    cell
+}
+
+fn layout(random: &mut Random, row: u16, most_width: u16, most_height: u16) -> Layout {
+    let mut heights = || [(); 4].map(|()| random.from_to(1, most_height));
+    let row_0 = heights();
+    let row_1 = if row == TALL { heights() } else { row_0 };
+    Layout {
+        width: random.from_to(1, most_width),
+        heights: [row_0, row_1],
+    }
+}
+
+/// A given site that does not fall in any row of the cell.
+pub fn next_given(highest: &mut [u16; 2], cell: &Cell, step: u16) -> u16 {
+    let rows = &mut highest[cell.rows()];
+    let floor = rows.iter().copied().max().unwrap_or(0);
+    let given = (floor + step).min(1023);
+    rows.fill(given);
+    given
+}

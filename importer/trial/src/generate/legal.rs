@@ -1,0 +1,80 @@
+//! Jobs whose given rows are a legal placement, by their shape.
+
+use super::{jobs, Random};
+use crate::plain::job::{Job, Weights, TALL};
+
+/// What a job is to look like.
+#[derive(Clone, Copy, Debug)]
+pub struct Shape {
+    pub rows: u16,
+    pub cells: usize,
+    /// How many of the cells are tall; they are spread evenly among the others.
+    pub tall: usize,
+    pub most_width: u16,
+    pub most_height: u16,
+    pub displacement: u16,
+    pub reordering: u16,
+    /// The gaps that neighbours are given to choose from.
+    pub gaps: &'static [u16],
+}
+
+/// A heavy shape, to be changed where a job is to differ: every cell has two layouts and may be
+/// mirrored, and rows are dense.
+pub const HEAVY: Shape = Shape {
+    rows: 2,
+    cells: 64,
+    tall: 24,
+    most_width: 12,
+    most_height: 3,
+    displacement: 7,
+    reordering: 1,
+    gaps: &[0, 0, 0, 2, 3, 4],
+};
+
+/// A job of this shape. All its cells have two layouts and may be mirrored.
+pub fn job(random: &mut Random, shape: &Shape) -> Job {
+    let mut ends = [None; 2];
+    let cells = (0..shape.cells).map(|at| {
+        let row = row_of(random, shape, at);
+        let mut cell = jobs::cell_with_layouts(random, row, 2, shape.most_width, shape.most_height);
+        cell.mirrorable = true;
+        let ends = &mut ends[cell.rows()];
+        cell.given = site_after(ends, random.pick(shape.gaps));
+        ends.fill(Some(cell.given + cell.layout[0].width));
+        cell
+    });
+    let cells = cells.collect();
+    Job {
+        rows: shape.rows,
+        sites: ends.into_iter().flatten().max().unwrap_or(1),
+        displacement: shape.displacement,
+        reordering: shape.reordering,
+        weights: Weights {
+            step: 100,
+            shift: 10,
+            mirror: 60,
+            swap: 50,
+        },
+        cells,
+    }
+}
+
+fn row_of(random: &mut Random, shape: &Shape, at: usize) -> u16 {
+    let tall_before = |cells: usize| cells * shape.tall / shape.cells;
+    if tall_before(at + 1) > tall_before(at) {
+        TALL
+    } else {
+        random.from_to(0, shape.rows - 1)
+    }
+}
+
+/// The first site, from the least gap on, that leaves no row with a gap of one site; `ends` has
+/// the end of each row that holds a cell.
+fn site_after(ends: &[Option<u16>], gap: u16) -> u16 {
+    let furthest = ends.iter().flatten().max();
+    let mut site = furthest.map_or(0, |end| end + gap);
+    while ends.iter().flatten().any(|&end| site == end + 1) {
+        site += 1;
+    }
+    site
+}

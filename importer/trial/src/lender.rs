@@ -1,0 +1,67 @@
+//! Lends Place its buffers, and holds what it leaves in them against what it should leave.
+
+use crate::lent::Arrays;
+use crate::plain::cost::Numbers;
+use crate::plain::job::Job;
+use crate::plain::placement::read_placement;
+use crate::plain::scorer::verdict;
+use importer::STORE_WORDS;
+
+/// A byte that no placement text has, and a word to dirty the store with.
+const UNTOUCHED: u8 = 0xaa;
+const DIRT: u32 = 0xdead_beef;
+
+/// Place's refusal of a job that has no legal placement.
+const NO_PLACEMENT: u32 = 8;
+
+#[derive(Default)]
+pub struct Lender {
+    arrays: Arrays,
+    store: Vec<u32>,
+    calls: usize,
+}
+
+impl Lender {
+    /// Places an accepted job, with enough store and output, and a result array of the next
+    /// length. The numbers of the placement that was written, as the plain scorer has them, or
+    /// none after refusal 8; an error says what is not as it should be.
+    pub fn place(&mut self, job: &Job) -> Result<Option<Numbers>, String> {
+        let spare = self.calls % 5;
+        if self.calls.is_multiple_of(4) {
+            self.store.clear();
+            self.store.resize(STORE_WORDS + spare, DIRT);
+        }
+        self.calls += 1;
+        let mut output = vec![UNTOUCHED; 9 * job.cells.len() + spare];
+        let text = job.text();
+        let left = self
+            .arrays
+            .lend(|results| importer::calls::place(&text, &mut self.store, &mut output, results));
+        let (numbers, expected) = match left.returned() {
+            NO_PLACEMENT => (None, [NO_PLACEMENT as i32, 0, 0, 0, 0, 0, 0, 0, 0]),
+            _ => answer(job, &output)?,
+        };
+        left.check(expected[0] as u32, &expected)?;
+        if numbers.is_none() && output.iter().any(|&byte| byte != UNTOUCHED) {
+            return Err("the output was written after a refusal".into());
+        }
+        let words = self.store.iter().fold(0, |words, word| words | word);
+        if words != 0 {
+            return Err("the store is not all zero".into());
+        }
+        Ok(numbers)
+    }
+}
+
+/// The numbers of the placement in an output, and the results that belong to it.
+fn answer(job: &Job, output: &[u8]) -> Result<(Option<Numbers>, [i32; 9]), String> {
+    let untouched = output.iter().rev().take_while(|&&byte| byte == UNTOUCHED);
+    let text = &output[..output.len() - untouched.count()];
+    let placement = read_placement(text, job.cells.len())
+        .map_err(|line| format!("line {line} of the output is no placement's"))?;
+    let numbers = verdict(job, &placement).map_err(|broken| format!("{broken:?}"))?;
+    let mut results = [0; 9];
+    results[2..8].copy_from_slice(&numbers.fields());
+    results[8] = text.len() as i32;
+    Ok((Some(numbers), results))
+}

@@ -1,0 +1,99 @@
+//! The least cost of a legal placement, by trying them all.
+//!
+//! Poses that break rules 1 to 3 by themselves are not tried, nor are cells on top of earlier
+//! ones, nor what already costs too much; every placement that is left is scored whole.
+
+use super::job::{Cell, Job};
+use super::placement::{Placement, Pose};
+use super::scorer::verdict;
+
+/// The least cost, if there is a legal placement.
+pub fn least_cost(job: &Job) -> Option<u32> {
+    let offered = job.cells.iter().map(|cell| offered(job, cell)).collect();
+    let mut search = Search {
+        job,
+        offered,
+        placement: Vec::new(),
+        least: None,
+    };
+    search.place_next(0);
+    search.least
+}
+
+/// A pose, and what it costs by itself.
+#[derive(Clone, Copy)]
+struct Offer {
+    pose: Pose,
+    cost: u32,
+}
+
+/// The poses of a cell that keep rules 1 to 3, the cheapest first.
+fn offered(job: &Job, cell: &Cell) -> Vec<Offer> {
+    let mut offered = Vec::new();
+    let low = cell.given.saturating_sub(job.displacement);
+    for site in low..=cell.given + job.displacement {
+        for layout in 0..cell.layouts {
+            for mark in 0..=u16::from(cell.mirrorable) {
+                let pose = Pose { site, layout, mark };
+                if pose.end(cell) <= job.sites {
+                    let cost = own_cost(job, cell, &pose);
+                    offered.push(Offer { pose, cost });
+                }
+            }
+        }
+    }
+    offered.sort_by_key(|offer| offer.cost);
+    offered
+}
+
+fn own_cost(job: &Job, cell: &Cell, pose: &Pose) -> u32 {
+    let weights = job.weights;
+    u32::from(weights.shift) * u32::from(pose.site.abs_diff(cell.given))
+        + u32::from(weights.mirror) * u32::from(pose.mark)
+        + u32::from(weights.swap) * u32::from(pose.layout)
+}
+
+struct Search<'a> {
+    job: &'a Job,
+    offered: Vec<Vec<Offer>>,
+    /// The poses of the cells tried so far, in file order.
+    placement: Placement,
+    least: Option<u32>,
+}
+
+impl Search<'_> {
+    /// Tries all poses of the next cell, where the earlier ones cost so much by themselves.
+    fn place_next(&mut self, cost: u32) {
+        let cell = self.placement.len();
+        if cell == self.job.cells.len() {
+            if let Ok(numbers) = verdict(self.job, &self.placement) {
+                let least = self.least.unwrap_or(u32::MAX);
+                self.least = Some(least.min(numbers.cost));
+            }
+            return;
+        }
+        for at in 0..self.offered[cell].len() {
+            let offer = self.offered[cell][at];
+            let cost = cost + offer.cost;
+            if self.least.is_some_and(|least| cost >= least) {
+                return;
+            }
+            if !self.overlaps(cell, &offer.pose) {
+                self.placement.push(offer.pose);
+                self.place_next(cost);
+                self.placement.pop();
+            }
+        }
+    }
+
+    /// Whether a pose of a cell would share a site with an earlier cell of one of its rows.
+    fn overlaps(&self, cell: usize, pose: &Pose) -> bool {
+        let cells = &self.job.cells;
+        let end = pose.end(&cells[cell]);
+        cells.iter().zip(&self.placement).any(|(other, placed)| {
+            let (rows, others) = (cells[cell].rows(), other.rows());
+            let one_row = rows.start < others.end && others.start < rows.end;
+            one_row && placed.site < end && pose.site < placed.end(other)
+        })
+    }
+}

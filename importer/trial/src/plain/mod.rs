@@ -1,0 +1,21 @@
+//! The refiner in plain Rust.
+
+pub mod brute;
+pub mod cost;
+pub mod fault;
+pub mod job;
+pub mod local;
+mod numbers;
+mod order;
+pub mod placement;
+pub mod reader;
+pub mod rules;
+pub mod scorer;
+pub mod search;
+
+/// A refusal: its number, and its line or 0.
+#[derive(Clone, Copy, Debug, PartialEq, Eq)]
+pub struct Refused {
+    pub number: u32,
+    pub line: u32,
+}

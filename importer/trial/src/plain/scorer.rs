@@ -1,0 +1,45 @@
+//! Scoring a placement text by a job text.
+
+use super::cost::{numbers, Numbers};
+use super::job::Job;
+use super::placement::{read_placement, Pose};
+use super::reader::read_job;
+use super::rules::{legal_rows, Broken};
+use super::Refused;
+
+const PLACEMENT: u32 = 5;
+
+/// The numbers of a legal placement, or what it breaks.
+pub type Verdict = Result<Numbers, Broken>;
+
+pub fn verdict(job: &Job, placement: &[Pose]) -> Verdict {
+    let rows = legal_rows(job, placement)?;
+    Ok(numbers(job, placement, &rows))
+}
+
+pub fn score(job: &[u8], placement: &[u8]) -> Result<Verdict, Refused> {
+    let job = read_job(job)?;
+    let refuse = |line| Refused {
+        number: PLACEMENT,
+        line,
+    };
+    let placement = read_placement(placement, job.cells.len()).map_err(refuse)?;
+    Ok(verdict(&job, &placement))
+}
+
+/// What Score leaves in a result array that reaches far enough.
+pub fn score_results(score: &Result<Verdict, Refused>) -> [i32; 10] {
+    let mut results = [0; 10];
+    match score {
+        Err(refused) => {
+            results[0] = refused.number as i32;
+            results[1] = refused.line as i32;
+        }
+        Ok(Err(broken)) => {
+            results[2] = broken.rule as i32;
+            results[3] = broken.cell as i32;
+        }
+        Ok(Ok(numbers)) => results[4..].copy_from_slice(&numbers.fields()),
+    }
+    results
+}

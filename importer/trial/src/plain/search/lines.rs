@@ -1,0 +1,131 @@
+//! The cells of a row in file order, as the search needs them.
+//!
+//! A pose is numbered 4 e + 2 layout + mark, where site = given + e - D; its variant is the last
+//! two bits.
+
+use super::super::job::{Cell, Job};
+use super::super::placement::Pose;
+use super::NONE;
+
+pub const POSES: usize = 60;
+pub const VARIANTS: usize = 4;
+
+/// A row's cells in file order.
+pub struct Row {
+    pub lines: Vec<Line>,
+    /// The places of tall cells in `lines`.
+    pub tall: Vec<usize>,
+}
+
+/// One cell as it stands in one row.
+pub struct Line {
+    /// Its place in the file.
+    pub cell: usize,
+    pub tall: bool,
+    /// Its leftmost site if nothing but D limits it; may be below 0.
+    pub first_site: i32,
+    widths: [i32; 2],
+    /// What each pose charges by itself: shift, mirroring, layout; [`NONE`](super::NONE) if it is
+    /// not offered.
+    pub own: [i32; POSES],
+    /// 0 for each pose that is offered, [`NONE`](super::NONE) for the others.
+    pub offered: [i32; POSES],
+    /// Heights P and N at either edge, by variant.
+    left: [[u16; 2]; VARIANTS],
+    right: [[u16; 2]; VARIANTS],
+}
+
+impl Row {
+    pub fn of(job: &Job, row: usize) -> Row {
+        let cells = job.cells.iter().enumerate();
+        let in_row = cells.filter(|(_, cell)| cell.rows().contains(&row));
+        let lines: Vec<Line> = in_row
+            .map(|(at, cell)| Line::of(job, at, cell, row))
+            .collect();
+        let tall = (0..lines.len()).filter(|&place| lines[place].tall);
+        Row {
+            tall: tall.collect(),
+            lines,
+        }
+    }
+}
+
+impl Line {
+    fn of(job: &Job, at: usize, cell: &Cell, row: usize) -> Line {
+        let mut line = Line {
+            cell: at,
+            tall: cell.is_tall(),
+            first_site: i32::from(cell.given) - i32::from(job.displacement),
+            widths: [0, 1].map(|layout: usize| cell.layout[layout].width.into()),
+            own: [NONE; POSES],
+            offered: [NONE; POSES],
+            left: [[0; 2]; VARIANTS],
+            right: [[0; 2]; VARIANTS],
+        };
+        for variant in 0..VARIANTS {
+            let [left_p, left_n, right_p, right_n] = cell.layout[variant >> 1].heights[row];
+            let edges = [[left_p, left_n], [right_p, right_n]];
+            line.left[variant] = edges[variant & 1];
+            line.right[variant] = edges[1 - (variant & 1)];
+        }
+        for pose in 0..VARIANTS * (2 * usize::from(job.displacement) + 1) {
+            line.own[pose] = line.own_charge(job, cell, pose);
+        }
+        line.offered = line.own.map(|own| if own < NONE { 0 } else { NONE });
+        line
+    }
+
+    fn own_charge(&self, job: &Job, cell: &Cell, pose: usize) -> i32 {
+        let (layout, mark) = (pose >> 1 & 1, pose & 1);
+        let site = self.site(pose);
+        let offered = layout < usize::from(cell.layouts)
+            && mark <= usize::from(cell.mirrorable)
+            && site >= 0
+            && self.end(pose) <= i32::from(job.sites);
+        if !offered {
+            return NONE;
+        }
+        let weights = job.weights;
+        let shifted = (site - i32::from(cell.given)).abs();
+        i32::from(weights.shift) * shifted
+            + i32::from(weights.mirror) * mark as i32
+            + i32::from(weights.swap) * layout as i32
+    }
+
+    pub fn site(&self, pose: usize) -> i32 {
+        self.first_site + (pose / VARIANTS) as i32
+    }
+
+    /// The first site right of the cell.
+    pub fn end(&self, pose: usize) -> i32 {
+        self.site(pose) + self.widths[pose >> 1 & 1]
+    }
+
+    /// The pose with this number.
+    pub fn pose(&self, pose: usize) -> Pose {
+        Pose {
+            site: self.site(pose) as u16,
+            layout: (pose >> 1 & 1) as u16,
+            mark: (pose & 1) as u16,
+        }
+    }
+
+    /// Steps between this cell and its right neighbour, by their variants.
+    pub fn steps(&self, variant: usize, right: &Line, right_variant: usize) -> i32 {
+        let (here, there) = (self.right[variant], right.left[right_variant]);
+        i32::from(here[0] != there[0]) + i32::from(here[1] != there[1])
+    }
+
+    /// What stands between this cell and its right neighbour charges; none if the gap is not
+    /// allowed.
+    pub fn between(&self, pose: usize, right: &Line, right_pose: usize, step: i32) -> Option<i32> {
+        match right.site(right_pose) - self.end(pose) {
+            0 | 2 | 3 => {
+                let steps = self.steps(pose % VARIANTS, right, right_pose % VARIANTS);
+                Some(step * steps)
+            }
+            4.. => Some(0),
+            _ => None,
+        }
+    }
+}

@@ -1,0 +1,117 @@
+//! The edges of the scope that concern Place, one by one, with its buffers.
+
+use importer::{place, refine, Refused, STORE_WORDS};
+
+const WORKED: &[u8] = include_bytes!("../../../examples/worked.job");
+
+/// The cost of a placed job, or the refusal's number.
+fn cost(job: &str) -> Result<u32, u32> {
+    match refine(job.as_bytes()) {
+        Ok(refined) => Ok(refined.numbers.cost),
+        Err(refused) => Err(refused.number),
+    }
+}
+
+#[test]
+fn the_worked_example() {
+    let refined = refine(WORKED).expect("the worked example has a placement");
+    assert_eq!(refined.text, b"2,0,1\n6,0,0\n");
+    let numbers = refined.numbers;
+    assert_eq!((numbers.cost, numbers.steps, numbers.shifted), (100, 0, 0));
+    assert_eq!(
+        (numbers.mirrored, numbers.changed, numbers.drift),
+        (1, 0, 0)
+    );
+}
+
+#[test]
+fn costs() {
+    let two = "C,0,0,0,1,2,1,1,1,1\nC,0,3,0,1,2,1,1,1,1\n";
+    let wide = "C,0,0,0,1,3,1,1,1,1\n";
+    let edges = [
+        ("no cells", "J,2,1,7,1,1,1,1,1\n".into(), Ok(0)),
+        ("gap 1, D 0", format!("J,1,5,0,0,0,1,0,0\n{two}"), Err(8)),
+        ("gap 1, D 1", format!("J,1,5,1,0,0,1,0,0\n{two}"), Ok(1)),
+        (
+            "two of width 3 on 5 sites",
+            format!("J,1,5,7,1,0,1,0,0\n{wide}{wide}"),
+            Err(8),
+        ),
+        (
+            "a cell wider than the row",
+            format!("J,1,2,7,1,0,1,0,0\n{wide}"),
+            Err(8),
+        ),
+        (
+            "a bad line",
+            format!("J,1,2,7,1,0,1,0,0\n{wide}x\n"),
+            Err(1),
+        ),
+        (
+            "a cell given past the row",
+            "J,1,5,7,1,0,2,0,0\nC,0,9,0,1,3,1,1,1,1\n".into(),
+            Ok(14),
+        ),
+        (
+            "one given too far past it",
+            "J,1,5,7,1,0,2,0,0\nC,0,10,0,1,3,1,1,1,1\n".into(),
+            Err(8),
+        ),
+    ];
+    for (edge, job, expected) in edges {
+        assert_eq!(cost(&job), expected, "{edge}");
+    }
+}
+
+/// What a call left: the refusal, and whether store and output are as they were.
+fn left(job: &[u8], words: usize, bytes: usize) -> (Option<Refused>, bool, bool) {
+    let mut store = vec![7; words];
+    let mut output = vec![b'x'; bytes];
+    let refused = place(job, &mut store, &mut output).err();
+    let store_kept = store.iter().all(|&word| word == 7);
+    (refused, store_kept, output.iter().all(|&byte| byte == b'x'))
+}
+
+#[test]
+fn buffers_that_are_too_small() {
+    let refused = |number, line| Some(Refused { number, line });
+    let short = STORE_WORDS - 1;
+    assert_eq!(left(WORKED, short, 18), (refused(6, 0), true, true));
+    assert_eq!(left(WORKED, 0, 0), (refused(6, 0), true, true));
+    assert_eq!(left(WORKED, STORE_WORDS, 17), (refused(7, 0), true, true));
+    assert_eq!(left(WORKED, STORE_WORDS, 0), (refused(7, 0), true, true));
+    assert_eq!(left(b"J\n", 0, 0), (refused(1, 1), true, true));
+    assert_eq!(left(b"", STORE_WORDS, 18), (refused(1, 1), true, true));
+}
+
+#[test]
+fn buffers_that_just_suffice() {
+    let mut store = vec![7; STORE_WORDS];
+    let mut output = [b'x'; 18];
+    let placed = place(WORKED, &mut store, &mut output);
+    assert_eq!(placed.map(|placed| placed.text_length), Ok(12));
+    assert_eq!(&output, b"2,0,1\n6,0,0\nxxxxxx");
+    assert!(store.iter().all(|&word| word == 0));
+}
+
+#[test]
+fn a_larger_store_is_all_zero_too() {
+    let mut store = vec![7; STORE_WORDS + 1000];
+    let mut output = [b'x'; 30];
+    let none = b"J,1,1,0,0,0,0,0,0\nC,0,0,0,1,2,1,1,1,1\n";
+    let refused = place(none, &mut store, &mut output).err();
+    assert_eq!(refused, Some(Refused { number: 8, line: 0 }));
+    assert!(store.iter().all(|&word| word == 0));
+    assert_eq!(output, [b'x'; 30]);
+    store.fill(7);
+    assert!(place(WORKED, &mut store, &mut output).is_ok());
+    assert!(store.iter().all(|&word| word == 0));
+}
+
+#[test]
+fn no_cells_need_no_output() {
+    let mut store = vec![7; STORE_WORDS];
+    let placed = place(b"J,1,1,0,0,0,0,0,0\n", &mut store, &mut []);
+    assert_eq!(placed.map(|placed| placed.text_length), Ok(0));
+    assert!(store.iter().all(|&word| word == 0));
+}

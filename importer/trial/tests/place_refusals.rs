@@ -1,0 +1,71 @@
+//! Place's refusals 1 to 7 on damaged texts and small buffers, with every length of results.
+
+use importer::STORE_WORDS;
+use trial::generate::damage::Damage;
+use trial::generate::{jobs, Random};
+use trial::lent::Arrays;
+use trial::plain::reader::read_job;
+
+/// Calls Place with buffers that must stay as they are, and an array of the next length.
+fn check(arrays: &mut Arrays, text: &[u8], store: &mut [u32], bytes: usize, enough: i32) {
+    let expected = match read_job(text) {
+        Ok(_) => [enough, 0, 0, 0, 0, 0, 0, 0, 0],
+        Err(refused) => {
+            let (number, line) = (refused.number as i32, refused.line as i32);
+            [number, line, 0, 0, 0, 0, 0, 0, 0]
+        }
+    };
+    let mut output = vec![b'x'; bytes];
+    let left = arrays.lend(|results| importer::calls::place(text, store, &mut output, results));
+    if let Err(difference) = left.check(expected[0] as u32, &expected) {
+        panic!("Place {difference} of\n{}", text.escape_ascii());
+    }
+    assert!(output.iter().all(|&byte| byte == b'x'));
+}
+
+/// A job text with one damage, or with none.
+fn damaged(random: &mut Random) -> Vec<u8> {
+    let job = jobs::job_of_any_size(random);
+    let mut text = job.text();
+    if random.chance(3, 4) {
+        let line = random.below(job.cells.len() + 1);
+        random.pick(&Damage::ALL).inflict(random, &mut text, line);
+    }
+    text
+}
+
+#[test]
+fn with_too_small_a_store() {
+    let mut random = Random::new(51);
+    let mut arrays = Arrays::default();
+    let mut store = [7; 40];
+    for _ in 0..40_000 {
+        let text = damaged(&mut random);
+        let words = random.below(store.len() + 1);
+        let bytes = random.below(700);
+        check(&mut arrays, &text, &mut store[..words], bytes, 6);
+    }
+    assert_eq!(store, [7; 40]);
+    let mut store = vec![7; STORE_WORDS - 1];
+    for _ in 0..100 {
+        check(&mut arrays, &damaged(&mut random), &mut store, 576, 6);
+    }
+    assert!(store.iter().all(|&word| word == 7));
+}
+
+#[test]
+fn with_too_small_an_output() {
+    let mut random = Random::new(52);
+    let mut arrays = Arrays::default();
+    let mut store = vec![7; STORE_WORDS];
+    for _ in 0..10_000 {
+        let text = damaged(&mut random);
+        let cells = read_job(&text).map_or(0, |job| job.cells.len());
+        if cells > 0 {
+            let bytes = random.below(9 * cells);
+            check(&mut arrays, &text, &mut store, bytes, 7);
+            check(&mut arrays, &text, &mut store, 9 * cells - 1, 7);
+        }
+    }
+    assert!(store.iter().all(|&word| word == 7));
+}

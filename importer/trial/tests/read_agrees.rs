@@ -1,0 +1,181 @@
+//! Read against the plain reader, on generated texts.
+
+use std::fmt::Write;
+use trial::generate::damage::Damage;
+use trial::generate::{jobs, Random};
+use trial::lent::Arrays;
+use trial::plain::reader::read_job;
+
+/// Holds Read against the plain reader, text by text, and counts what was seen.
+#[derive(Default)]
+struct Comparison {
+    arrays: Arrays,
+    texts: usize,
+    /// How many texts had each number, 0 for those that were accepted.
+    numbers: [usize; 5],
+}
+
+impl Comparison {
+    fn compare(&mut self, text: &[u8]) {
+        let expected = match read_job(text) {
+            Ok(job) => [0, 0, job.cells.len() as i32],
+            Err(refused) => [refused.number as i32, refused.line as i32, 0],
+        };
+        self.texts += 1;
+        self.numbers[expected[0] as usize] += 1;
+        let left = self
+            .arrays
+            .lend(|results| importer::calls::read(text, results));
+        if let Err(difference) = left.check(expected[0] as u32, &expected) {
+            panic!("Read {difference} of\n{}", text.escape_ascii());
+        }
+    }
+}
+
+#[test]
+fn on_accepted_jobs_of_every_size() {
+    let mut random = Random::new(1);
+    let mut comparison = Comparison::default();
+    for cells in 0..=64 {
+        for _ in 0..100 {
+            comparison.compare(&jobs::job(&mut random, cells).text());
+        }
+    }
+    assert_eq!(comparison.numbers[0], comparison.texts);
+}
+
+#[test]
+fn on_texts_with_one_damage_and_with_two() {
+    let mut random = Random::new(2);
+    let mut comparison = Comparison::default();
+    for count in 0..120_000 {
+        let job = jobs::job_of_any_size(&mut random);
+        let mut text = job.text();
+        for _ in 0..1 + count % 2 {
+            let line = random.below(job.cells.len() + 1);
+            random
+                .pick(&Damage::ALL)
+                .inflict(&mut random, &mut text, line);
+        }
+        comparison.compare(&text);
+    }
+    let seen = comparison.numbers;
+    let enough = seen.iter().zip([10_000, 10_000, 10_000, 0, 1_000]);
+    assert!(
+        enough.into_iter().all(|(&seen, least)| seen >= least),
+        "{seen:?}"
+    );
+}
+
+#[test]
+fn on_each_damage_to_each_line() {
+    let mut random = Random::new(3);
+    let mut comparison = Comparison::default();
+    for cells in [0, 1, 2, 7, 24, 63, 64] {
+        let text = jobs::job(&mut random, cells).text();
+        for line in 0..=cells {
+            for damage in Damage::ALL {
+                for _ in 0..4 {
+                    let mut text = text.clone();
+                    damage.inflict(&mut random, &mut text, line);
+                    comparison.compare(&text);
+                }
+            }
+        }
+    }
+}
+
+#[test]
+fn on_jobs_with_too_many_cells() {
+    let mut random = Random::new(4);
+    let mut comparison = Comparison::default();
+    for _ in 0..2_000 {
+        let mut job = jobs::job(&mut random, 60);
+        job.rows = 2;
+        let row = random.pick(&[0, 1, 2, 2]);
+        for _ in 0..random.below(12) {
+            let mut cell = jobs::cell(&mut random, row, 64, 15);
+            cell.given = 1023;
+            job.cells.push(cell);
+        }
+        let mut text = job.text();
+        if random.chance(1, 4) {
+            let line = 60 + random.below(12);
+            random
+                .pick(&Damage::ALL)
+                .inflict(&mut random, &mut text, line);
+        }
+        comparison.compare(&text);
+    }
+    assert!(comparison.numbers[3] > 500, "{:?}", comparison.numbers);
+}
+
+#[test]
+fn on_texts_of_random_bytes() {
+    let mut random = Random::new(5);
+    let mut comparison = Comparison::default();
+    let few = b"J,C10\n2";
+    for _ in 0..20_000 {
+        let length = random.below(40);
+        let any = random.chance(1, 2);
+        let text: Vec<u8> = (0..length)
+            .map(|_| {
+                if any {
+                    random.below(256) as u8
+                } else {
+                    random.pick(few)
+                }
+            })
+            .collect();
+        comparison.compare(&text);
+    }
+}
+
+/// Every value of the number form and past it, in every field of a header and of three cell lines.
+#[test]
+fn on_every_value_of_every_field() {
+    let mut comparison = Comparison::default();
+    let lines = [
+        "J,2,40,3,1,100,1,100,50",
+        "C,0,2,1,1,4,3,3,2,2",
+        "C,1,2,1,2,4,3,3,2,2,5,1,1,1,1",
+        "C,2,6,0,1,4,3,3,2,2,4,4,4,4",
+    ];
+    for changed in 0..lines.len() {
+        for field in 0..lines[changed].split(',').count() {
+            for value in (0..1100).chain([9_998, 9_999, 10_000, 65_536, 4_294_967_297_u64]) {
+                let mut text = String::new();
+                for (at, line) in lines.iter().enumerate() {
+                    let mut fields: Vec<&str> = line.split(',').collect();
+                    let value = value.to_string();
+                    if at == changed {
+                        fields[field] = &value;
+                    }
+                    writeln!(text, "{}", fields.join(",")).expect("a string takes every write");
+                }
+                comparison.compare(text.as_bytes());
+            }
+        }
+    }
+}
+
+#[test]
+fn on_long_texts() {
+    let mut comparison = Comparison::default();
+    let header = "J,1,20,1,1,100,1,100,50\n";
+    let million = 1_000_000;
+    let long = [
+        "9".repeat(million),
+        "\n".repeat(million),
+        "\0".repeat(million),
+        format!("J{}", ",1".repeat(million)),
+        format!("{header}C{}", ",1".repeat(million)),
+        format!("{header}C{}\n", ",1".repeat(million)),
+        format!("{header}C,9{}\n", ",1".repeat(million)),
+        format!("{header}C,9{}x\n", ",1".repeat(million)),
+        format!("{header}{}", "C,0,5,0,1,1,1,1,1,1\n".repeat(million / 20)),
+    ];
+    for text in long {
+        comparison.compare(text.as_bytes());
+    }
+}
