@@ -1,5 +1,5 @@
 -- What a loop over the lanes of a row leaves.
-use Prim.Native.Nat.{ℕ, _+_, _≤_, _<_, min}
+use Prim.Native.Nat.{ℕ, _+_, _*_, _≤_, _<_, min}
 use mathlib.Core.Path.{_≡_}
 use mathlib.Core.List.{List}
 use lib.ListN.{length, getD}
@@ -26,3 +26,10 @@ always x k = x
 -- the words from a place on
 abbrev pub wordsFrom : List ℕ → ℕ → ℕ → ℕ
 wordsFrom st at k = getD st (at + k) 0
+
+-- the same by rows of 64 words
+abbrev pub alwaysRows : ℕ → ℕ → ℕ → ℕ
+alwaysRows x a l = x
+
+abbrev pub rowsFrom : List ℕ → ℕ → ℕ → ℕ → ℕ
+rowsFrom st at a l = getD st (at + a * 64 + l) 0

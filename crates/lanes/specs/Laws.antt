@@ -9,7 +9,7 @@ use lib.ListN.{length, getD, set, length-set, replicate, length-replicate, getD-
 use lib.Seq.{getD-set-same, getD-set-other}
 use Rattle.model.specs.Steps.{B, Layer}
 use Rattle.lanes.specs.Lanes.{Lowered, always}
-use Rattle.lanes.specs.Store.{Frame, Low, Written, layerIn, FilledPair, Filled}
+use Rattle.lanes.specs.Store.{Frame, Low, Written, WrittenRows, layerIn, FilledPair, Filled}
 
 -- ---- lanes
 
@@ -124,6 +124,25 @@ written-more {f} {at} {old} {new} l v w h e b =
 pub written-ext : {f g : ℕ → ℕ} {at n : ℕ} {old new : List ℕ} → Written f at n old new → ((k : ℕ) → k < n → g k ≡ f k) → Written g at n old new
 written-ext w e = record { frame = w .frame; words = λ k p. w .words k p ∙ sym (e k p); low = w .low }
 
+-- ---- rows written one after the other
+
+pub rows-none : (f : ℕ → ℕ → ℕ) (at lanes : ℕ) {st : List ℕ} → Low st → WrittenRows f at 0 lanes st st
+rows-none f at lanes {st} w = record { frame = frame-refl at (at + 0 * 64) st; words = λ a l h. absurd (omega arith); low = w }
+
+pub rows-more :
+    {f : ℕ → ℕ → ℕ} {g : ℕ → ℕ} {at lanes : ℕ} {old mid new : List ℕ} (a : ℕ)
+    → lanes ≤ 64 → WrittenRows f at a lanes old mid → Written g (at + a * 64) lanes mid new → ((l : ℕ) → l < lanes → f a l ≡ g l)
+    → WrittenRows f at (a + 1) lanes old new
+rows-more {f} {g} {at} {lanes} {new = new} a n s w e =
+    record {
+      frame = frame-join at (at + (a + 1) * 64) (s .frame) (w .frame) (omega arith) (omega arith) (omega arith) (omega arith);
+      words = λ b l p r. below-more (λ (b : ℕ). (l : ℕ) → l < lanes → getD new (at + b * 64 + l) 0 ≡ f b l) a
+          (λ b p l r. w .frame .low (at + b * 64 + l) (omega arith) ∙ s .words b l p r)
+          (λ l r. w .words l r ∙ sym (e l r))
+          b p l r;
+      low = w .low;
+    }
+
 -- ---- layers: one row more of a pair's block, and one block more
 
 pub pair-none : (F : ℕ → Layer) (lanes to q : ℕ) {st : List ℕ} → Low st → FilledPair F lanes to q 0 st st
@@ -159,6 +178,18 @@ pair-always {new = new} n k w e =
       frame = w .frame;
       low = w .low;
       right = λ a p l r. ap (λ (k : ℕ). getD new k 0) (omega arith) ∙ w .words (a * 64 + l) (omega arith) ∙ sym (e a l);
+    }
+
+-- so many rows of a pair's block
+pub pair-rows :
+    {F : ℕ → Layer} {f : ℕ → ℕ → ℕ} {lanes to q m : ℕ} {old new : List ℕ}
+    → m ≤ 64 → WrittenRows f (to + q * 4096) m lanes old new → ((a l : ℕ) → a < m → l < lanes → F l q a ≡ f a l)
+    → FilledPair F lanes to q m old new
+pair-rows {to = to} {q = q} {old = old} {new = new} k w e =
+    record {
+      frame = frame-join (to + q * 4096) (to + q * 4096 + 4096) (frame-refl (to + q * 4096) (to + q * 4096) old) (w .frame) (omega arith) (omega arith) (omega arith) (omega arith);
+      low = w .low;
+      right = λ a p l r. w .words a l p r ∙ sym (e a l p r);
     }
 
 pub filled-none : (F : ℕ → Layer) (lanes poses to : ℕ) {st : List ℕ} → Low st → Filled F lanes poses to 0 st st

@@ -1,10 +1,10 @@
 // Loops over the lanes of a row: a row is 64 words, one for each start of a stretch, all at once.
 ghost use mathlib.Core.Path.{_≡_};
-ghost use Prim.Native.Nat.{ℕ, _+_, _≤_, _<_, min};
+ghost use Prim.Native.Nat.{ℕ, _+_, _*_, _≤_, _<_, min};
 ghost use lib.ListN.{length, getD};
 ghost use Rattle.model.specs.Steps.{B};
-ghost use Rattle.lanes.specs.Lanes.{Lowered, charged, withOwn, always, wordsFrom};
-ghost use Rattle.lanes.specs.Store.{Low, Written};
+ghost use Rattle.lanes.specs.Lanes.{Lowered, charged, withOwn, always, wordsFrom, alwaysRows, rowsFrom};
+ghost use Rattle.lanes.specs.Store.{Low, Written, WrittenRows};
 
 // There is no way: every cost is below.
 pub const NONE: u32 = 268435456;
@@ -69,4 +69,42 @@ pub fn copy(store: &mut [u32], from: usize, at: usize, count: usize)
         store[at + k] = store[from + k];
         k += 1;
     }
+}
+
+// The same word in the first lanes of so many rows of 64 words.
+pub fn fill_rows(store: &mut [u32], at: usize, rows: usize, lanes: usize, x: u32)
+    requires { ⌜ (at + rows * 64 ≤ length (now store)) × (lanes ≤ 64) × (x ≤ B) × Low (now store) ⌝ }
+    ensures { λ _. ⌜ WrittenRows (alwaysRows x) at rows lanes (now (store .entry)) (now (store .exit)) ⌝ }
+{
+    let mut a: usize = 0;
+    while a < rows {
+        fill(store, at + a * 64, lanes, x);
+        a += 1;
+    }
+}
+
+// The first lanes of so many rows from one part of the store to another that does not overlap it.
+pub fn copy_rows(store: &mut [u32], from: usize, at: usize, rows: usize, lanes: usize)
+    requires { ⌜ (at + rows * 64 ≤ length (now store)) × (from + rows * 64 ≤ at) × (lanes ≤ 64) × Low (now store) ⌝ }
+    ensures { λ _. ⌜ WrittenRows (rowsFrom (now (store .entry)) from) at rows lanes (now (store .entry)) (now (store .exit)) ⌝ }
+{
+    let mut a: usize = 0;
+    while a < rows {
+        copy(store, from + a * 64, at + a * 64, lanes);
+        a += 1;
+    }
+}
+
+// NONE if all lanes of a row are NONE; in any case at most each of them.
+pub fn common(row: &[u32], at: usize, lanes: usize) -> u32
+    requires { ⌜ at + lanes ≤ length (now row) ⌝ }
+    ensures { λ x. ⌜ ((l : ℕ) → l < lanes → x ≤ getD (now (row .entry)) (at + l) 0) ⌝ }
+{
+    let mut x = NONE;
+    let mut l: usize = 0;
+    while l < lanes {
+        x = x & row[at + l];
+        l += 1;
+    }
+    x
 }
