@@ -63,7 +63,7 @@ pub fn is_source(
 
 // The left site of the cell at position k in pose a, with D added.
 pub fn site(line: &[u32], k: usize, a: usize) -> usize
-    requires { ⌜ LineWords (now line) × (k < 64) × (a < 60) ⌝ }
+    requires { ⌜ LineWords (now line) × (k < 64) × (a < 64) ⌝ }
     ensures { λ x. ⌜ x ≡ siteIn (now (line .entry)) k a ⌝ }
 {
     word(line, k * 128 + 64) + a / 4
@@ -71,7 +71,7 @@ pub fn site(line: &[u32], k: usize, a: usize) -> usize
 
 // The first site right of it.
 pub fn end(line: &[u32], k: usize, b: usize) -> usize
-    requires { ⌜ LineWords (now line) × (k < 64) × (b < 60) ⌝ }
+    requires { ⌜ LineWords (now line) × (k < 64) × (b < 64) ⌝ }
     ensures { λ y. ⌜ y ≡ endIn (now (line .entry)) k b ⌝ }
 {
     site(line, k, b) + word(line, k * 128 + (65 + b % 4 / 2))

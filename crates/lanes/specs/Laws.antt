@@ -120,6 +120,12 @@ written-more {f} {at} {old} {new} l v w h e b =
       low = low-set (at + l) v (w .low) (omega arith) b;
     }
 
+-- one word
+pub written-one : (f : ℕ → ℕ) (at v : ℕ) {st : List ℕ} → Low st → at < length st → v ≡ f 0 → v ≤ B → Written f at 1 st (set st at v)
+written-one f at v w h e b =
+    let z : at + 0 ≡ at = omega arith in
+    rw z at (written-more 0 v (written-none f at w) (omega arith) e b)
+
 -- the same by another name
 pub written-ext : {f g : ℕ → ℕ} {at n : ℕ} {old new : List ℕ} → Written f at n old new → ((k : ℕ) → k < n → g k ≡ f k) → Written g at n old new
 written-ext w e = record { frame = w .frame; words = λ k p. w .words k p ∙ sym (e k p); low = w .low }

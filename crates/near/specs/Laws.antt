@@ -178,9 +178,9 @@ reached-found line n poses R f i q a =
     ∙ found-lowest (λ p v t. cond (src p) (plane p v t) B) a (from 0 (pairCount R))
 
 -- only the rows that the gaps name count
-pub found-ext : (P Q : ℕ → ℕ → ℕ) (a : ℕ) → a < 60 → ((v t : ℕ) → v < 5 → t < 19 → 4 ≤ v + 4 * t → P v t ≡ Q v t) → found P a ≡ found Q a
+pub found-ext : (P Q : ℕ → ℕ → ℕ) (a : ℕ) {rows : ℕ} → a / 4 + 4 < rows → ((v t : ℕ) → v < 5 → t < rows → 4 ≤ v + 4 * t → P v t ≡ Q v t) → found P a ≡ found Q a
 unfolding found
-found-ext P Q a h e =
+found-ext P Q a {rows} h e =
     ap₂ min
     (lowest-same (λ gap. P (a % 4) (a / 4 + 4 - gap)) (λ gap. Q (a % 4) (a / 4 + 4 - gap)) paying
     (λ gap i. let l = paying-low gap i in e (a % 4) (a / 4 + 4 - gap) (omega arith) (omega arith) (omega arith)))

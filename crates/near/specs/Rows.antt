@@ -20,6 +20,10 @@ inRow r t c = cond (eqb r t) c B
 unfoldable pub found : (ℕ → ℕ → ℕ) → ℕ → ℕ
 found plane a = min (lowest B (λ gap. plane (a % 4) (a / 4 + 4 - gap)) paying) (lowest B (plane 4) (from 0 (suc (a / 4))))
 
+-- the rows that the poses below `poses` look at
+abbrev pub rowsOf : ℕ → ℕ
+rowsOf poses = (poses + 3) / 4 + 4
+
 -- ---- a row's words
 
 -- the row in which pose b of the cell at position k counts for the cell at position m

@@ -21,13 +21,24 @@ pub record LoweredAt (f : ℕ → ℕ) (to lanes : ℕ) (old new : List ℕ) : T
   pub frame : Frame to (to + lanes) old new
   pub done : (l : ℕ) → l < lanes → getD new (to + l) 0 ≡ min (getD old (to + l) 0) (f l)
 
--- the planes of each lane are lowered to other ones, in all rows that count: row 0 counts in plane 4 alone
-pub record Gathered (plane : ℕ → ℕ → ℕ → ℕ) (lanes : ℕ) (old new : List ℕ) : Type 0 where
+-- a table lent to gather sources in: any words, none over B
+pub record Lent (table : List ℕ) : Type 0 where
+  pub long : length table ≡ 6080
+  pub low : Low table
+
+-- no source yet in the planes below v, in so many rows and lanes
+pub record Cleared (rows lanes v : ℕ) (table : List ℕ) : Type 0 where
+  pub long : length table ≡ 6080
+  pub low : Low table
+  pub none : (l u t : ℕ) → l < lanes → u < v → t < rows → wordAt table l u t ≡ B
+
+-- the planes of each lane are lowered to other ones, in all rows that count, which are those below `rows`: row 0 counts in plane 4 alone
+pub record Gathered (plane : ℕ → ℕ → ℕ → ℕ) (rows lanes : ℕ) (old new : List ℕ) : Type 0 where
   pub long : length new ≡ length old
   pub low : Low new
-  pub done : (l v t : ℕ) → l < lanes → v < 5 → t < 19 → 4 ≤ v + 4 * t → wordAt new l v t ≡ min (wordAt old l v t) (plane l v t)
+  pub done : (l v t : ℕ) → l < lanes → v < 5 → t < rows → 4 ≤ v + 4 * t → wordAt new l v t ≡ min (wordAt old l v t) (plane l v t)
 
--- the same in the planes below `last`, so many lanes from `first` on, by one source in row t, whose cost in plane v and the j-th of these lanes is f v j;
+-- the same in all rows and the planes below `last`, so many lanes from `first` on, by one source in row t, whose cost in plane v and the j-th of these lanes is f v j;
 -- the other planes and lanes are as they were
 pub record Spread (f : ℕ → ℕ → ℕ) (t last first lanes : ℕ) (old new : List ℕ) : Type 0 where
   pub long : length new ≡ length old
@@ -45,6 +56,10 @@ pub record Pays (line : List ℕ) (k m n : ℕ) (pays : List ℕ) : Type 0 where
 abbrev pub chargedBy : List ℕ → ℕ → List ℕ → ℕ → ℕ → ℕ → ℕ
 chargedBy row at pays u v l = getD row (at + l) 0 + getD pays (u * 5 + v) 0
 
+-- the same for one lane, whose word is x
+abbrev pub chargedOne : ℕ → List ℕ → ℕ → ℕ → ℕ → ℕ
+chargedOne x pays u v l = x + getD pays (u * 5 + v) 0
+
 pub record PaysLow (pays : List ℕ) : Type 0 where
   pub long : length pays ≡ 20
   pub low : (j : ℕ) → j < 20 → getD pays j 0 ≤ B
@@ -55,7 +70,7 @@ pub record Source (table st line : List ℕ) (at k m lanes : ℕ) : Type 0 where
   pub low : Low st
   pub tableLow : Low table
   pub tableLong : length table ≡ 6080
-  pub narrow : lanes ≤ 60
+  pub narrow : lanes ≤ 64
   pub room : at + 4096 ≤ length st
   pub left : k < 64
   pub right : m < 64
@@ -96,11 +111,11 @@ pub record RunUp (rows lanes : ℕ) (old new : List ℕ) : Type 0 where
   pub far : (l t : ℕ) → l < lanes → t < rows → wordAt new l 4 t ≡ lowest B (wordAt old l 4) (from 0 (suc t))
   pub rest : (l t : ℕ) → l < lanes → rows ≤ t → t < 19 → wordAt new l 4 t ≡ wordAt old l 4 t
 
--- what every pose finds is what it finds in the planes
-pub record Ready (plane : ℕ → ℕ → ℕ → ℕ) (lanes : ℕ) (table : List ℕ) : Type 0 where
+-- what every pose below `poses` finds is what it finds in the planes
+pub record Ready (plane : ℕ → ℕ → ℕ → ℕ) (poses lanes : ℕ) (table : List ℕ) : Type 0 where
   pub long : length table ≡ 6080
   pub low : Low table
-  pub right : (a l : ℕ) → a < 60 → l < lanes → foundIn table a l ≡ found (plane l) a
+  pub right : (a l : ℕ) → a < poses → l < lanes → foundIn table a l ≡ found (plane l) a
 
 -- a cell's own cost with what its pose finds, capped
 abbrev pub foundRow : List ℕ → ℕ → ℕ → ℕ → ℕ
@@ -119,5 +134,5 @@ pub record ToRows (st line table : List ℕ) (k lanes : ℕ) : Type 0 where
   pub low : Low st
   pub tableLow : Low table
   pub tableLong : length table ≡ 6080
-  pub narrow : lanes ≤ 60
+  pub narrow : lanes ≤ 64
   pub cell : k < 64

@@ -7,20 +7,20 @@ use mathlib.Core.List.{List}
 use native.Mathlib.Omega.{arith}
 use native.Mathlib.Decide.{ℕ-discrete, decLt}
 use borrow.Author.Count.{below-more}
-use lib.ListN.{length, getD, set, length-set, replicate, length-replicate}
+use lib.ListN.{length, getD, set, length-set}
 use lib.Seq.{getD-set-same, getD-set-other}
 use Rattle.model.specs.Steps.{B, Deck, Layer, lastAt, isSource}
 use Rattle.rows.specs.Lists.{from}
 use Rattle.pair.specs.Coded.{lowest, lowest-low, lowest-from}
-use Rattle.lanes.specs.Lanes.{wordsFrom}
-use Rattle.lanes.specs.Store.{Frame, Low}
-use Rattle.lanes.specs.Laws.{frame-refl, frame-set, nones-at}
+use Rattle.lanes.specs.Lanes.{wordsFrom, alwaysRows}
+use Rattle.lanes.specs.Store.{Frame, Low, WrittenRows}
+use Rattle.lanes.specs.Laws.{frame-refl, frame-set}
 use Rattle.deck.specs.Words.{LineWords}
 use Rattle.near.specs.Loops.{lowest-none, lowest-more, lowest-same}
 use Rattle.near.specs.Gaps.{paying, paying-low}
-use Rattle.near.specs.Rows.{inRow, endRow, found, payIn, onePose, byPoses, onePair, byPairs}
+use Rattle.near.specs.Rows.{rowsOf, inRow, endRow, found, payIn, onePose, byPoses, onePair, byPairs}
 use Rattle.near.specs.Laws.{row-hit, row-miss, pay-same, pay-small, found-none, found-ext}
-use Rattle.near.specs.Table.{wordAt, LoweredAt, Gathered, Spread, Pays, PaysLow, Source, RunUp, foundIn, Ready, ToRows}
+use Rattle.near.specs.Table.{wordAt, LoweredAt, Cleared, Gathered, Spread, Pays, PaysLow, Source, RunUp, foundIn, Ready, ToRows}
 
 -- ---- one row
 
@@ -49,6 +49,12 @@ lowered-at-more {f} {to} {old} {new} l v w h e =
           (getD-set-same new (to + l) v 0 (omega arith) ∙ e);
     }
 
+-- one word
+pub lowered-at-one : (f : ℕ → ℕ) (to v : ℕ) {l : List ℕ} → to < length l → v ≡ min (getD l to 0) (f 0) → LoweredAt f to 1 l (set l to v)
+lowered-at-one f to v {l} h e =
+    let z : to + 0 ≡ to = omega arith in
+    rw z at (lowered-at-more 0 v (lowered-at-none f to l) (omega arith) (e ∙ ap (λ (k : ℕ). min (getD l k 0) (f 0)) (sym z)))
+
 -- what is lowered stays at most B
 pub lowered-at-low : {f : ℕ → ℕ} {to lanes : ℕ} {old new : List ℕ} → LoweredAt f to lanes old new → Low old → Low new
 lowered-at-low {f} {to} {lanes} {old} {new} v w = record { word = λ k. go k (decLt k to) (decLt k (to + lanes)) }
@@ -60,6 +66,27 @@ lowered-at-low {f} {to} {lanes} {old} {new} v w = record { word = λ k. go k (de
         let e : to + (k - to) ≡ k = omega arith in
         let d : getD new k 0 ≡ min (getD old (to + (k - to)) 0) (f (k - to)) = ap (λ (j : ℕ). getD new j 0) (sym e) ∙ v .done (k - to) (omega arith) in
         omega (arith, w .word (to + (k - to)))
+
+-- ---- rows without sources
+
+pub cleared-none : (rows lanes : ℕ) {table : List ℕ} → length table ≡ 6080 → Low table → Cleared rows lanes 0 table
+cleared-none rows lanes h w = record { long = h; low = w; none = λ l u t i j k. absurd (omega arith) }
+
+-- one plane more
+pub cleared-more :
+    {rows lanes : ℕ} {old new : List ℕ} (v : ℕ)
+    → rows ≤ 19 → lanes ≤ 64 → Cleared rows lanes v old → WrittenRows (alwaysRows B) (v * 1216) rows lanes old new
+    → Cleared rows lanes (v + 1) new
+cleared-more {rows} {lanes} {new = new} v h n c w =
+    record {
+      long = w .frame .long ∙ c .long;
+      low = w .low;
+      none = λ l u t i j k.
+          below-more (λ (u : ℕ). wordAt new l u t ≡ B) v
+          (λ u j. w .frame .low (u * 1216 + t * 64 + l) (omega arith) ∙ c .none l u t i j k)
+          (w .words t l k i)
+          u j;
+    }
 
 -- ---- what is paid
 
@@ -78,6 +105,16 @@ pays-more {line} {pays} {k} {m} j x w h e =
 
 pub pays-low : {line pays : List ℕ} {k m : ℕ} → LineWords line → Pays line k m 20 pays → PaysLow pays
 pays-low {k = k} {m = m} w p = record { long = p .long; low = λ j h. omega (arith, p .pay j h, pay-small k (j / 5) m (j % 5) w) }
+
+-- one plane more of variant u
+pub pays-next :
+    {line pays : List ℕ} {k m : ℕ} (u v x : ℕ)
+    → Pays line k m (u * 5 + v) pays → u < 4 → v < 5 → x ≡ payIn line k u m v
+    → Pays line k m (u * 5 + (v + 1)) (set pays (u * 5 + v) x)
+pays-next {line} {pays} {k} {m} u v x w h i e =
+    let j : ℕ = u * 5 + v in
+    let z : j + 1 ≡ u * 5 + (v + 1) = omega arith in
+    rw z at (pays-more j x w (omega arith) (e ∙ ap₂ (λ (a b : ℕ). payIn line k a m b) (omega arith) (omega arith)))
 
 -- a source's pose in the planes, from the words of what it pays
 pub pose-spread :
@@ -142,16 +179,16 @@ spread-more {f} {t} {first} {lanes} {old} {mid} {new} v n h c b s w =
 
 -- all planes, in all lanes: the source is gathered
 pub spread-all :
-    {f : ℕ → ℕ → ℕ} {plane : ℕ → ℕ → ℕ → ℕ} {t lanes : ℕ} {old new : List ℕ}
-    → Spread f t 5 0 lanes old new → ((l v s : ℕ) → l < lanes → v < 5 → plane l v s ≡ inRow t s (f v l))
-    → Gathered plane lanes old new
-spread-all {old = old} {new = new} s e =
+    {f : ℕ → ℕ → ℕ} {plane : ℕ → ℕ → ℕ → ℕ} {t rows lanes : ℕ} {old new : List ℕ}
+    → rows ≤ 19 → Spread f t 5 0 lanes old new → ((l v s : ℕ) → l < lanes → v < 5 → plane l v s ≡ inRow t s (f v l))
+    → Gathered plane rows lanes old new
+spread-all {old = old} {new = new} h s e =
     record {
       long = s .long;
       low = s .low;
       done = λ l v r i j k g.
           let z : 0 + l ≡ l = omega arith in
-          let d = rw z at (s .done l v r i j k g) in
+          let d = rw z at (s .done l v r i j (omega arith) g) in
           omega (arith, e l v r i j);
     }
 
@@ -251,17 +288,17 @@ module _ (line : List ℕ) (D : Deck) (R : ℕ) (f : Layer) (i q : ℕ) where
 
 -- no source, or none that lowers anything
 pub gathered-none :
-    {plane : ℕ → ℕ → ℕ → ℕ} (lanes : ℕ) {table : List ℕ}
-    → Low table → ((l v t : ℕ) → l < lanes → v < 5 → t < 19 → B ≤ plane l v t)
-    → Gathered plane lanes table table
-gathered-none lanes {table} w h =
+    {plane : ℕ → ℕ → ℕ → ℕ} (rows lanes : ℕ) {table : List ℕ}
+    → Low table → ((l v t : ℕ) → l < lanes → v < 5 → t < rows → B ≤ plane l v t)
+    → Gathered plane rows lanes table table
+gathered-none rows lanes {table} w h =
     record { long = refl; low = w; done = λ l v t i j k g. omega (arith, w .word (v * 1216 + t * 64 + l), h l v t i j k) }
 
 -- one after the other
 pub gathered-join :
-    {P Q S : ℕ → ℕ → ℕ → ℕ} {lanes : ℕ} {old mid new : List ℕ}
-    → Gathered P lanes old mid → Gathered Q lanes mid new → ((l v t : ℕ) → l < lanes → S l v t ≡ min (P l v t) (Q l v t))
-    → Gathered S lanes old new
+    {P Q S : ℕ → ℕ → ℕ → ℕ} {rows lanes : ℕ} {old mid new : List ℕ}
+    → Gathered P rows lanes old mid → Gathered Q rows lanes mid new → ((l v t : ℕ) → l < lanes → S l v t ≡ min (P l v t) (Q l v t))
+    → Gathered S rows lanes old new
 gathered-join p q e =
     record {
       long = q .long ∙ p .long;
@@ -271,15 +308,15 @@ gathered-join p q e =
 
 -- the same by another name
 pub gathered-ext :
-    {P Q : ℕ → ℕ → ℕ → ℕ} {lanes : ℕ} {old new : List ℕ}
-    → Gathered P lanes old new → ((l v t : ℕ) → l < lanes → Q l v t ≡ P l v t)
-    → Gathered Q lanes old new
+    {P Q : ℕ → ℕ → ℕ → ℕ} {rows lanes : ℕ} {old new : List ℕ}
+    → Gathered P rows lanes old new → ((l v t : ℕ) → l < lanes → Q l v t ≡ P l v t)
+    → Gathered Q rows lanes old new
 gathered-ext p e = record { long = p .long; low = p .low; done = λ l v t i j k g. omega (arith, p .done l v t i j k g, e l v t i) }
 
 -- what a function was given holds on
 pub source-on :
-    {plane : ℕ → ℕ → ℕ → ℕ} {table table′ st line : List ℕ} {at k m lanes : ℕ}
-    → Source table st line at k m lanes → Gathered plane lanes table table′ → Source table′ st line at k m lanes
+    {plane : ℕ → ℕ → ℕ → ℕ} {table table′ st line : List ℕ} {at k m rows lanes : ℕ}
+    → Source table st line at k m lanes → Gathered plane rows lanes table table′ → Source table′ st line at k m lanes
 source-on g w =
     record {
       words = g .words;
@@ -295,35 +332,36 @@ source-on g w =
 pub rows-on : {st st′ line table : List ℕ} {k lanes : ℕ} → ToRows st line table k lanes → Low st′ → ToRows st′ line table k lanes
 rows-on g w = record { words = g .words; low = w; tableLow = g .tableLow; tableLong = g .tableLong; narrow = g .narrow; cell = g .cell }
 
--- ---- from a table of NONE alone
+-- ---- from a table without sources
 
 module _
-    {plane : ℕ → ℕ → ℕ → ℕ} {lanes : ℕ} {table : List ℕ} (narrow : lanes ≤ 64) (low : (l v t : ℕ) → plane l v t ≤ B) (w : Gathered plane lanes (replicate 6080 B) table)
+    {plane : ℕ → ℕ → ℕ → ℕ} {poses lanes : ℕ} {clear table : List ℕ} (few : poses ≤ 60) (low : (l v t : ℕ) → plane l v t ≤ B)
+    (none : Cleared (rowsOf poses) lanes 5 clear) (w : Gathered plane (rowsOf poses) lanes clear table)
   where
     -- it has the planes
-    planes : (l v t : ℕ) → l < lanes → v < 5 → t < 19 → 4 ≤ v + 4 * t → wordAt table l v t ≡ plane l v t
-    planes l v t i j k g = omega (arith, w .done l v t i j k g, nones-at 6080 (v * 1216 + t * 64 + l) (omega arith), low l v t)
+    planes : (l v t : ℕ) → l < lanes → v < 5 → t < rowsOf poses → 4 ≤ v + 4 * t → wordAt table l v t ≡ plane l v t
+    planes l v t i j k g = omega (arith, w .done l v t i j k g, none .none l v t i j k, low l v t)
 
     -- and once plane 4 ran up, what is found in them
-    pub ready : {table′ : List ℕ} → RunUp 15 lanes table table′ → Ready plane lanes table′
+    pub ready : {table′ : List ℕ} → RunUp 15 lanes table table′ → Ready plane poses lanes table′
     unfolding found
     ready {table′} u =
         record {
-          long = u .long ∙ w .long ∙ length-replicate 6080 B;
+          long = u .long ∙ w .long ∙ none .long;
           low = u .low;
           right = λ a l h i.
               ap₂ min
               (lowest-same (λ gap. wordAt table′ l (a % 4) (a / 4 + 4 - gap)) (λ gap. wordAt table l (a % 4) (a / 4 + 4 - gap)) paying
               (λ gap g. let b = paying-low gap g in u .near l (a % 4) (a / 4 + 4 - gap) i (omega arith) (omega arith)))
               (u .far l (a / 4) i (omega arith))
-              ∙ found-ext (wordAt table l) (plane l) a h (λ v t j k g. planes l v t i j k g);
+              ∙ found-ext (wordAt table l) (plane l) a {rows = rowsOf poses} (omega arith) (λ v t j k g. planes l v t i j k g);
         }
 
     -- if nothing lowered it, nothing is found
-    pub unused : table ≡ replicate 6080 B → (a l : ℕ) → a < 60 → l < lanes → found (plane l) a ≡ B
+    pub unused : table ≡ clear → (a l : ℕ) → a < poses → l < lanes → found (plane l) a ≡ B
     unused e a l h i =
-        found-ext (plane l) (λ v t. B) a h
+        found-ext (plane l) (λ v t. B) a {rows = rowsOf poses} (omega arith)
         (λ v t j k g.
-        let z : wordAt table l v t ≡ wordAt (replicate 6080 B) l v t = ap (λ (s : List ℕ). wordAt s l v t) e in
-        omega (arith, planes l v t i j k g, nones-at 6080 (v * 1216 + t * 64 + l) (omega arith)))
+        let z : wordAt table l v t ≡ wordAt clear l v t = ap (λ (s : List ℕ). wordAt s l v t) e in
+        omega (arith, planes l v t i j k g, none .none l v t i j k))
         ∙ found-none a

@@ -1,20 +1,20 @@
 // Sources gathered by their end site, for one target cell: a table of 5 planes of 19 rows of 64 lanes, plane v from 1216 v on.
 // Row t has the sources that end at the target's first site - 4 + t, row 0 those further left too. Planes 0 to 3 have them with what they pay
-// to that variant of the target, plane 4 by themselves.
+// to that variant of the target, plane 4 by themselves. Only the rows that some pose looks at count.
 ghost use mathlib.Core.Path.{_≡_};
 ghost use mathlib.Core.Bool.{Bool, false};
 ghost use Prim.Native.Nat.{ℕ, suc, _+_, _*_, _≤_, _<_};
 ghost use lib.ListN.{length, getD};
 ghost use Rattle.model.specs.Steps.{B};
-ghost use Rattle.lanes.specs.Lanes.{charged, wordsFrom};
+ghost use Rattle.lanes.specs.Lanes.{charged, always, wordsFrom};
 ghost use Rattle.lanes.specs.Store.{Low, Written, FilledPair};
 ghost use Rattle.deck.specs.Words.{LineWords};
-ghost use Rattle.near.specs.Rows.{endRow, payIn};
-ghost use Rattle.near.specs.Table.{LoweredAt, Gathered, chargedBy, Spread, Pays, PaysLow, Source, poseIn, posesIn, RunUp, foundIn, foundRow, foundRowOf, foundRows, ToRows};
+ghost use Rattle.near.specs.Rows.{rowsOf, endRow, payIn};
+ghost use Rattle.near.specs.Table.{LoweredAt, Cleared, Gathered, chargedBy, chargedOne, Spread, Pays, PaysLow, Source, poseIn, posesIn, RunUp, foundIn, foundRow, foundRowOf, foundRows, ToRows};
 
 // The row in which pose b of the cell at position k counts for the cell at position m.
 pub fn end_row(line: &[u32], k: usize, b: usize, m: usize) -> usize
-    requires { ⌜ LineWords (now line) × (k < 64) × (b < 60) × (m < 64) ⌝ }
+    requires { ⌜ LineWords (now line) × (k < 64) × (b < 64) × (m < 64) ⌝ }
     ensures { λ t. ⌜ t ≡ endRow (now (line .entry)) k b m ⌝ }
 {
     let y = deck::end(line, k, b) + 4;
@@ -23,6 +23,29 @@ pub fn end_row(line: &[u32], k: usize, b: usize, m: usize) -> usize
         return 0;
     }
     y - first
+}
+
+// ---- the rows that count
+
+// How many rows some pose looks at: pose a at rows a / 4 to a / 4 + 4, and at all before.
+pub fn rows_of(poses: usize) -> usize
+    requires { ⌜ poses ≤ 60 ⌝ }
+    ensures { λ rows. ⌜ rows ≡ rowsOf poses ⌝ }
+{
+    (poses + 3) / 4 + 4
+}
+
+// NONE in the lanes and rows that count.
+pub fn reset(table: &mut [u32; 6080], poses: usize, lanes: usize)
+    requires { ⌜ Low (now table) × (length (now table) ≡ 6080) × (poses ≤ 60) × (lanes ≤ 64) ⌝ }
+    ensures { λ _. ⌜ Cleared (rowsOf poses) lanes 5 (now (table .exit)) ⌝ }
+{
+    let rows = rows_of(poses);
+    let mut v: usize = 0;
+    while v < 5 {
+        lanes::fill_rows(table, v * 1216, rows, lanes, lanes::NONE);
+        v += 1;
+    }
 }
 
 // ---- what is paid
@@ -38,33 +61,31 @@ fn pay(line: &[u32], k: usize, u: usize, m: usize, v: usize) -> u32
     line[m * 128 + 84] * deck::differ(line, k, u, m, v)
 }
 
+// What variant u pays in each plane, after the variants before it.
+fn pay_row(pays: &mut [u32; 20], line: &[u32], k: usize, u: usize, m: usize)
+    requires { ⌜ LineWords (now line) × (k < 64) × (u < 4) × (m < 64) × Pays (now line) k m (u * 5) (now pays) ⌝ }
+    ensures { λ _. ⌜ Pays (now (line .entry)) k m (u * 5 + 5) (now (pays .exit)) ⌝ }
+{
+    let mut v: usize = 0;
+    while v < 5 {
+        pays[u * 5 + v] = pay(line, k, u, m, v);
+        v += 1;
+    }
+}
+
 // All of them, by variant and plane.
 pub fn fill_pays(pays: &mut [u32; 20], line: &[u32], k: usize, m: usize)
     requires { ⌜ LineWords (now line) × (k < 64) × (m < 64) × (length (now pays) ≡ 20) ⌝ }
     ensures { λ _. ⌜ Pays (now (line .entry)) k m 20 (now (pays .exit)) ⌝ }
 {
-    let mut j: usize = 0;
-    while j < 20 {
-        pays[j] = pay(line, k, j / 5, m, j % 5);
-        j += 1;
+    let mut u: usize = 0;
+    while u < 4 {
+        pay_row(pays, line, k, u, m);
+        u += 1;
     }
 }
 
 // ---- one source
-
-// NONE if all lanes of a row are NONE; in any case at most each of them.
-fn common(row: &[u32], at: usize, lanes: usize) -> u32
-    requires { ⌜ at + lanes ≤ length (now row) ⌝ }
-    ensures { λ x. ⌜ ((l : ℕ) → l < lanes → x ≤ getD (now (row .entry)) (at + l) 0) ⌝ }
-{
-    let mut x = lanes::NONE;
-    let mut l: usize = 0;
-    while l < lanes {
-        x = x & row[at + l];
-        l += 1;
-    }
-    x
-}
 
 // The lanes from `to` on lowered to the row's words plus a charge.
 fn lower(table: &mut [u32; 6080], to: usize, row: &[u32], at: usize, charge: u32, lanes: usize)
@@ -109,6 +130,72 @@ pub fn spread(
     }
 }
 
+// One word lowered.
+fn lower_one(table: &mut [u32; 6080], to: usize, x: u32)
+    requires { ⌜ (to < 6080) × (length (now table) ≡ 6080) × Low (now table) × (x ≤ 536870912) ⌝ }
+    ensures { λ _. ⌜ LoweredAt (always x) to 1 (now (table .entry)) (now (table .exit)) ⌝ }
+{
+    table[to] = lanes::lesser(table[to], x);
+}
+
+// A source of cost x in one lane to row t of planes 0 to 3, where row 0 does not count.
+fn spread_near(table: &mut [u32; 6080], x: u32, pays: &[u32; 20], u: usize, t: usize, lane: usize)
+    requires { ⌜ Low (now table) × (length (now table) ≡ 6080) × (x ≤ B) × PaysLow (now pays) × (u < 4) × (t < 19) × (lane < 64) ⌝ }
+    ensures { λ _. ⌜ Spread (chargedOne x (now (pays .entry)) u) t 4 lane 1 (now (table .entry)) (now (table .exit)) ⌝ }
+{
+    if t == 0 {
+        return;
+    }
+    let mut v: usize = 0;
+    while v < 4 {
+        lower_one(table, v * 1216 + t * 64 + lane, x + pays[u * 5 + v]);
+        v += 1;
+    }
+}
+
+// The same to every plane.
+pub fn spread_one(
+    table: &mut [u32; 6080],
+    x: u32,
+    pays: &[u32; 20],
+    u: usize,
+    t: usize,
+    lane: usize,
+)
+    requires { ⌜ Low (now table) × (length (now table) ≡ 6080) × (x ≤ B) × PaysLow (now pays) × (u < 4) × (t < 19) × (lane < 64) ⌝ }
+    ensures { λ _. ⌜ Spread (chargedOne x (now (pays .entry)) u) t 5 lane 1 (now (table .entry)) (now (table .exit)) ⌝ }
+{
+    spread_near(table, x, pays, u, t, lane);
+    lower_one(table, 4864 + t * 64 + lane, x + pays[u * 5 + 4]);
+}
+
+// Pose b of the cell at position k where there is one lane: whether it lowered anything.
+fn from_pose_one(
+    table: &mut [u32; 6080],
+    store: &[u32],
+    line: &[u32],
+    pays: &[u32; 20],
+    at: usize,
+    k: usize,
+    m: usize,
+    b: usize,
+    rows: usize,
+) -> bool
+    requires { ⌜ Source (now table) (now store) (now line) at k m 1 × Pays (now line) k m 20 (now pays) × (b < 60) × (rows ≤ 19) ⌝ }
+    ensures { λ used. ⌜ Gathered (poseIn (now (store .entry)) (now (line .entry)) at k m b) rows 1 (now (table .entry)) (now (table .exit)) × (used ≡ false → now (table .exit) ≡ now (table .entry)) ⌝ }
+{
+    let x = store[at + b * 64];
+    if x >= lanes::NONE {
+        return false;
+    }
+    let t = end_row(line, k, b, m);
+    if t >= rows {
+        return false;
+    }
+    spread_one(table, x, pays, b % 4, t, 0);
+    true
+}
+
 // Pose b of the cell at position k: whether it lowered anything.
 fn from_pose(
     table: &mut [u32; 6080],
@@ -119,16 +206,20 @@ fn from_pose(
     k: usize,
     m: usize,
     b: usize,
+    rows: usize,
     lanes: usize,
 ) -> bool
-    requires { ⌜ Source (now table) (now store) (now line) at k m lanes × Pays (now line) k m 20 (now pays) × (b < 60) ⌝ }
-    ensures { λ used. ⌜ Gathered (poseIn (now (store .entry)) (now (line .entry)) at k m b) lanes (now (table .entry)) (now (table .exit)) × (used ≡ false → now (table .exit) ≡ now (table .entry)) ⌝ }
+    requires { ⌜ Source (now table) (now store) (now line) at k m lanes × Pays (now line) k m 20 (now pays) × (b < 60) × (rows ≤ 19) ⌝ }
+    ensures { λ used. ⌜ Gathered (poseIn (now (store .entry)) (now (line .entry)) at k m b) rows lanes (now (table .entry)) (now (table .exit)) × (used ≡ false → now (table .exit) ≡ now (table .entry)) ⌝ }
 {
+    if lanes == 1 {
+        return from_pose_one(table, store, line, pays, at, k, m, b, rows);
+    }
     let t = end_row(line, k, b, m);
-    if t > 18 {
+    if t >= rows {
         return false;
     }
-    if common(store, at + b * 64, lanes) >= lanes::NONE {
+    if lanes::common(store, at + b * 64, lanes) >= lanes::NONE {
         return false;
     }
     spread(table, store, at + b * 64, pays, b % 4, t, 0, lanes);
@@ -148,12 +239,13 @@ pub fn from_poses(
     lanes: usize,
 ) -> bool
     requires { ⌜ Source (now table) (now store) (now line) at k m lanes × Pays (now line) k m 20 (now pays) × (poses ≤ 60) ⌝ }
-    ensures { λ used. ⌜ Gathered (posesIn (now (store .entry)) (now (line .entry)) at k m poses) lanes (now (table .entry)) (now (table .exit)) × (used ≡ false → now (table .exit) ≡ now (table .entry)) ⌝ }
+    ensures { λ used. ⌜ Gathered (posesIn (now (store .entry)) (now (line .entry)) at k m poses) (rowsOf poses) lanes (now (table .entry)) (now (table .exit)) × (used ≡ false → now (table .exit) ≡ now (table .entry)) ⌝ }
 {
+    let rows = rows_of(poses);
     let mut used = false;
     let mut b: usize = 0;
     while b < poses {
-        if from_pose(table, store, line, pays, at, k, m, b, lanes) {
+        if from_pose(table, store, line, pays, at, k, m, b, rows, lanes) {
             used = true;
         }
         b += 1;
@@ -177,7 +269,7 @@ fn lower_by(table: &mut [u32; 6080], to: usize, from: usize, lanes: usize)
 
 // Each row of plane 4 lowered to all rows before it.
 pub fn run_up(table: &mut [u32; 6080], lanes: usize)
-    requires { ⌜ Low (now table) × (length (now table) ≡ 6080) × (lanes ≤ 60) ⌝ }
+    requires { ⌜ Low (now table) × (length (now table) ≡ 6080) × (lanes ≤ 64) ⌝ }
     ensures { λ _. ⌜ RunUp 15 lanes (now (table .entry)) (now (table .exit)) ⌝ }
 {
     let mut t: usize = 0;
@@ -189,7 +281,7 @@ pub fn run_up(table: &mut [u32; 6080], lanes: usize)
 
 // What pose a finds in lane l: at gaps 0, 2 and 3, and further left.
 fn found_lane(table: &[u32; 6080], a: usize, l: usize) -> u32
-    requires { ⌜ (length (now table) ≡ 6080) × Low (now table) × (a < 60) × (l < 60) ⌝ }
+    requires { ⌜ (length (now table) ≡ 6080) × Low (now table) × (a < 60) × (l < 64) ⌝ }
     ensures { λ x. ⌜ x ≡ foundIn (now (table .entry)) a l ⌝ }
 {
     let near = a % 4 * 1216 + a / 4 * 64 + l;
@@ -200,7 +292,7 @@ fn found_lane(table: &[u32; 6080], a: usize, l: usize) -> u32
 
 // A target's row: what its pose finds, with the cell's own cost, capped.
 pub fn put_row(store: &mut [u32], at: usize, table: &[u32; 6080], a: usize, own: u32, lanes: usize)
-    requires { ⌜ (at + lanes ≤ length (now store)) × (lanes ≤ 60) × (length (now table) ≡ 6080) × (own ≤ B) × Low (now store) × Low (now table) × (a < 60) ⌝ }
+    requires { ⌜ (at + lanes ≤ length (now store)) × (lanes ≤ 64) × (length (now table) ≡ 6080) × (own ≤ B) × Low (now store) × Low (now table) × (a < 60) ⌝ }
     ensures { λ _. ⌜ Written (foundRow (now (table .entry)) own a) at lanes (now (store .entry)) (now (store .exit)) ⌝ }
 {
     let mut l: usize = 0;
@@ -208,6 +300,14 @@ pub fn put_row(store: &mut [u32], at: usize, table: &[u32; 6080], a: usize, own:
         store[at + l] = lanes::lesser(own + found_lane(table, a, l), lanes::NONE);
         l += 1;
     }
+}
+
+// The same where there is one lane.
+fn put_one(store: &mut [u32], at: usize, table: &[u32; 6080], a: usize, own: u32)
+    requires { ⌜ (at < length (now store)) × (length (now table) ≡ 6080) × (own ≤ B) × Low (now store) × Low (now table) × (a < 60) ⌝ }
+    ensures { λ _. ⌜ Written (foundRow (now (table .entry)) own a) at 1 (now (store .entry)) (now (store .exit)) ⌝ }
+{
+    store[at] = lanes::lesser(own + found_lane(table, a, 0), lanes::NONE);
 }
 
 // The row of pose a of the cell at position k: NONE where the pose is not offered.
@@ -226,6 +326,10 @@ fn put_pose(
     let own = line[k * 128 + a];
     if own >= lanes::NONE {
         lanes::fill(store, at, lanes, lanes::NONE);
+        return;
+    }
+    if lanes == 1 {
+        put_one(store, at, table, a, own);
         return;
     }
     put_row(store, at, table, a, own, lanes);

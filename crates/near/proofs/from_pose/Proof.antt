@@ -1,23 +1,32 @@
--- A source that ends right of all rows, or whose lanes are all NONE, lowers nothing; another one is spread over the planes. Assumes nothing.
+-- A source that ends right of all rows that count, or whose lanes are all NONE, lowers nothing; another one is spread over the planes. Assumes nothing.
 use Prim.Native.Nat.{ℕ, _+_, _*_, _%_, _≤_}
 use mathlib.Core.Path.{_≡_, refl}
 use native.Mathlib.Omega.{arith}
-use borrow.Author.Needs.{needs}
 use lib.ListN.{getD}
 use Rattle.near.specs.Rows.{endRow, payIn}
+use Rattle.near.specs.Table.{Source}
 use Rattle.near.specs.Laws.{row-miss, row-above}
 use Rattle.near.specs.TableLaws.{pays-low, pose-spread, spread-all, gathered-none}
+use borrow.Author.Needs.{needs}
 use Rattle.near.proofs.from_pose.Statement.{statement}
 use Rattle.near.proofs.from_pose.Tie as tie
+
+from-pose-one-requires : tie.Need-from-pose-one-requires
+from-pose-one-requires c κs = search needs
+
+returns : tie.Need-returns
+returns c =
+    let e : c .before .before .before .before .before .args .lanes ≡ 1 = omega arith in
+    rw e (c .from-pose-one .ensures)
 
 end-row-requires : tie.Need-end-row-requires
 end-row-requires c κs = search needs
 
-returns : tie.Need-returns
-returns c =
-    let k = c .before .before .before .before in
+returns-2 : tie.Need-returns-2
+returns-2 c =
+    let k = c .before .before .before .before .before in
     let a = k .args in (
-      gathered-none _ (k .pre .0 .tableLow)
+      gathered-none _ _ (k .pre .0 .tableLow)
           (λ l v s i j h. omega (arith, row-miss (endRow (a .line .now) (a .k) (a .b) (a .m)) s (getD (a .store .now) (a .at + a .b * 64 + l) 0 + payIn (a .line .now) (a .k) (a .b) (a .m) v) (λ e. omega (arith, c .before .end-row .ensures)))),
       λ e. refl,
     )
@@ -31,11 +40,11 @@ add-common c = search needs
 common-requires : tie.Need-common-requires
 common-requires c κs = search needs
 
-returns-2 : tie.Need-returns-2
-returns-2 c =
-    let k = c .before .before .before .before .before .before in
+returns-3 : tie.Need-returns-3
+returns-3 c =
+    let k = c .before .before .before .before .before .before .before in
     let a = k .args in (
-      gathered-none _ (k .pre .0 .tableLow)
+      gathered-none _ _ (k .pre .0 .tableLow)
           (λ l v s i j h.
           omega (arith, c .before .common .ensures l i, row-above (endRow (a .line .now) (a .k) (a .b) (a .m)) s (getD (a .store .now) (a .at + a .b * 64 + l) 0 + payIn (a .line .now) (a .k) (a .b) (a .m) v))),
       λ e. refl,
@@ -49,15 +58,15 @@ add-spread c = search needs
 
 spread-requires : tie.Need-spread-requires
 spread-requires c κs =
-    let k = c .before .before .before .before .before .before .before in
+    let k = c .before .before .before .before .before .before .before .before in
     let g = k .pre .0 in
     (g .tableLow, g .tableLong, g .low, omega (arith, g .room, g .narrow), pays-low (g .words) (k .pre .1), omega arith, omega arith, omega (arith, g .narrow))
 
-returns-3 : tie.Need-returns-3
-returns-3 c =
-    let k = c .before .before .before .before .before .before .before .before in
+returns-4 : tie.Need-returns-4
+returns-4 c =
+    let k = c .before .before .before .before .before .before .before .before .before in
     let a = k .args in (
-      spread-all (c .spread .ensures) (λ l v s i j. pose-spread (a .b) v s (getD (a .store .now) (a .at + a .b * 64 + l) 0) (k .pre .1) (c .before .before .before .before .before .end-row .ensures) j),
+      spread-all (k .pre .3) (c .spread .ensures) (λ l v s i j. pose-spread (a .b) v s (getD (a .store .now) (a .at + a .b * 64 + l) 0) (k .pre .1) (c .before .before .before .before .before .end-row .ensures) j),
       λ e. absurd (let z : _≡_ {A = ℕ} 0 1 = cc in omega arith),
     )
 
@@ -65,13 +74,15 @@ pub from-pose-spec : {M : Type 1} → statement M
 from-pose-spec =
     tie.close
     (tie.spec
-    end-row-requires
+    from-pose-one-requires
     returns
+    end-row-requires
+    returns-2
     mul-common
     add-common
     common-requires
-    returns-2
+    returns-3
     mul-spread
     add-spread
     spread-requires
-    returns-3)
+    returns-4)

@@ -4,9 +4,10 @@ use mathlib.Core.Path.{_≡_, refl, sym, _∙_}
 use mathlib.Core.Bool.{true, false}
 use mathlib.Core.Logic.{⊎-elim}
 use native.Mathlib.Omega.{arith}
-use borrow.Author.Needs.{needs}
+use Rattle.near.specs.Rows.{rowsOf}
 use Rattle.near.specs.Table.{Gathered, rowIn, posesIn}
 use Rattle.near.specs.TableLaws.{poses-none, poses-more, gathered-none, gathered-join, source-on}
+use borrow.Author.Needs.{needs}
 use Rattle.near.proofs.from_poses.Statement.{statement}
 use Rattle.near.proofs.from_poses.Tie as tie
 
@@ -14,26 +15,31 @@ true-false : true ≡ false → ⊥
 true-false e = let z : _≡_ {A = ℕ} 0 1 = cc in omega arith
 
 abbrev Inv-loop : tie.InvT-loop
-Inv-loop table₀ store line pays at k m poses lanes used₀ b₀ table used b =
-    (b ≤ poses) × Gathered (posesIn store line at k m b) lanes table₀ table × (used ≡ false → table ≡ table₀)
+Inv-loop table₀ store line pays at k m poses lanes rows used₀ b₀ table used b =
+    (b ≤ poses) × (rows ≡ rowsOf poses) × Gathered (posesIn store line at k m b) rows lanes table₀ table × (used ≡ false → table ≡ table₀)
 
 abbrev μ-loop : tie.MeasureT-loop
-μ-loop table₀ store line pays at k m poses lanes used₀ b₀ table used b = poses - b
+μ-loop table₀ store line pays at k m poses lanes rows used₀ b₀ table used b =
+    poses - b
+
+rows-of-requires : tie.Need-rows-of-requires Inv-loop μ-loop
+rows-of-requires c κs = search needs
 
 loop-holds : tie.Need-loop-holds Inv-loop μ-loop
 loop-holds c =
-    let k = c .before .before in
+    let k = c .before .before .before in
     let a = k .args in (
       omega arith,
-      gathered-none _ (k .pre .0 .tableLow) (λ l v t i j h. omega (arith, poses-none (a .line .now) (a .k) (a .m) (rowIn (a .store .now) (a .at) l) v t)),
+      c .rows-of .ensures,
+      gathered-none _ _ (k .pre .0 .tableLow) (λ l v t i j h. omega (arith, poses-none (a .line .now) (a .k) (a .m) (rowIn (a .store .now) (a .at) l) v t)),
       λ e. refl,
     )
 
 from-pose-requires : tie.Need-from-pose-requires Inv-loop μ-loop
 from-pose-requires c κs =
-    let k = c .before .before .before .before .before in
-    let w = c .before .before .loop .inv .1 in
-    (source-on (k .pre .0) w, k .pre .1, omega arith)
+    let k = c .before .before .before .before .before .before in
+    let l = c .before .before .loop in
+    (source-on (k .pre .0) (l .inv .2), k .pre .1, omega arith, omega arith)
 
 add-b : tie.Need-add-b Inv-loop μ-loop
 add-b c = search needs
@@ -43,24 +49,35 @@ loop-less c = search needs
 
 loop-again : tie.Need-loop-again Inv-loop μ-loop
 loop-again c =
-    let k = c .before .before .before .before .before .before .before in
+    let k = c .before .before .before .before .before .before .before .before in
     let a = k .args in
     let l = c .before .before .before .before .loop in (
       omega arith,
-      gathered-join (l .inv .1) (c .before .from-pose .ensures .0) (λ j v t i. poses-more (a .line .now) (a .k) (a .m) (rowIn (a .store .now) (a .at) j) (l .b) v t),
+      l .inv .1,
+      gathered-join (l .inv .2) (c .before .from-pose .ensures .0) (λ j v t i. poses-more (a .line .now) (a .k) (a .m) (rowIn (a .store .now) (a .at) j) (l .b) v t),
       λ e.
           ⊎-elim
           (λ w. absurd (true-false (sym (w .1) ∙ e)))
-          (λ w. c .before .from-pose .ensures .1 (w .0 .left) ∙ l .inv .2 (sym (w .1) ∙ e))
+          (λ w. c .before .from-pose .ensures .1 (w .0 .left) ∙ l .inv .3 (sym (w .1) ∙ e))
           (c .if1 .came),
     )
 
 returns : tie.Need-returns Inv-loop μ-loop
 returns c =
-    let e : c .before .loop .b ≡ c .before .before .before .before .args .poses = omega arith in
-    (rw e at (c .before .loop .inv .1), c .before .loop .inv .2)
+    let l = c .before .loop in
+    let e : l .b ≡ c .before .before .before .before .before .args .poses = omega arith in
+    (rw (e, l .inv .1) at (l .inv .2), l .inv .3)
 
 pub from-poses-spec : {M : Type 1} → statement M
 from-poses-spec =
     tie.close
-    (tie.spec Inv-loop μ-loop loop-holds from-pose-requires add-b loop-less loop-again returns)
+    (tie.spec
+    Inv-loop
+    μ-loop
+    rows-of-requires
+    loop-holds
+    from-pose-requires
+    add-b
+    loop-less
+    loop-again
+    returns)
