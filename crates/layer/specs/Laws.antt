@@ -12,7 +12,8 @@ use Rattle.model.specs.Steps.{B, Deck, Layer, pairCount, lastAt, isThere, isSou
 use Rattle.lanes.specs.Store.{Frame, Low, layerIn}
 use Rattle.deck.specs.Words.{wordOf, deckOf, thereIn}
 use Rattle.near.specs.Rows.{found, byPairs}
-use Rattle.near.specs.Laws.{reached-found}
+use Rattle.near.specs.Laws.{reached-found, found-away}
+use Rattle.near.specs.TableLaws.{pairs-away}
 use Rattle.layer.specs.Loops.{Given, Beside}
 pub use Rattle.near.specs.Loops.{lowest-none, lowest-more, lowest-ext}
 
@@ -39,6 +40,10 @@ module _ (line : List ℕ) (n poses R : ℕ) (f : Layer) (i q a : ℕ) (there : 
 
   pub next-none : {count : ℕ} → count ≡ pairCount R → found (byPairs line (deckOf line n poses) R f i q count) a ≡ B → nextLayer (deckOf line n poses) R f i q a ≡ B
   next-none e h = let z = next-found e refl (sym h) in omega arith
+
+  pub next-alone : {count : ℕ} → count ≡ pairCount R → ((p : ℕ) → p < count → isSource (deckOf line n poses) R i q p ≡ false) → nextLayer (deckOf line n poses) R f i q a ≡ B
+  next-alone {count} e h =
+      next-none e (found-away (byPairs line (deckOf line n poses) R f i q count) a (λ v t. pairs-away line (deckOf line n poses) R f i q count v t h))
 
 -- ---- only the entries of the layer before count
 

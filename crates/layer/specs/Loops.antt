@@ -18,7 +18,7 @@ nextFrom D R st at i l q a = nextLayer D R (layerIn st at l) i q a
 pub record Given (line pairs st : List ℕ) (n poses R count lanes i at : ℕ) : Type 0 where
   pub ground : Ground line pairs R n poses count
   pub low : Low st
-  pub narrow : lanes ≤ 60
+  pub narrow : lanes ≤ 64
   pub early : i ≤ 67
   pub room : at + 49152 ≤ length st
 

@@ -3,10 +3,11 @@
 ghost use mathlib.Core.Path.{_≡_};
 ghost use mathlib.Core.Bool.{true, false};
 ghost use Prim.Native.Nat.{ℕ, suc, _+_, _*_, _≤_, _<_};
-ghost use lib.ListN.{length};
-ghost use Rattle.lanes.specs.Store.{Low, FilledPair, Filled};
-ghost use Rattle.deck.specs.Words.{deckOf};
-ghost use Rattle.near.specs.Table.{Gathered, pairIn, pairsIn};
+ghost use Rattle.model.specs.Steps.{pairCount, isSource};
+ghost use Rattle.lanes.specs.Store.{FilledPair, Filled};
+ghost use Rattle.deck.specs.Words.{deckOf, LineWords, PairWords};
+ghost use Rattle.near.specs.Rows.{rowsOf};
+ghost use Rattle.near.specs.Table.{Lent, Gathered, pairIn, pairsIn};
 ghost use Rattle.layer.specs.Loops.{nextFrom, Given, Target, Beside};
 
 // Pair p of the layer with i cells, if it is a source: whether it lowered anything.
@@ -25,8 +26,8 @@ fn from_source(
     q: usize,
     p: usize,
 ) -> bool
-    requires { ⌜ Given (now line) (now pairs) (now store) n poses r count lanes i from × Target n r i q × Low (now table) × (length (now table) ≡ 6080) × (p < count) ⌝ }
-    ensures { λ used. ⌜ Gathered (pairIn (now (store .entry)) (now (line .entry)) (deckOf (now (line .entry)) n poses) r from i q p) lanes (now (table .entry)) (now (table .exit)) × (used ≡ false → now (table .exit) ≡ now (table .entry)) ⌝ }
+    requires { ⌜ Given (now line) (now pairs) (now store) n poses r count lanes i from × Target n r i q × Lent (now table) × (p < count) ⌝ }
+    ensures { λ used. ⌜ Gathered (pairIn (now (store .entry)) (now (line .entry)) (deckOf (now (line .entry)) n poses) r from i q p) (rowsOf poses) lanes (now (table .entry)) (now (table .exit)) × (used ≡ false → now (table .exit) ≡ now (table .entry)) ⌝ }
 {
     if !deck::is_source(line, pairs, n, r, i, q, p) {
         return false;
@@ -63,8 +64,8 @@ fn gather(
     from: usize,
     q: usize,
 ) -> bool
-    requires { ⌜ Given (now line) (now pairs) (now store) n poses r count lanes i from × Target n r i q × Low (now table) × (length (now table) ≡ 6080) ⌝ }
-    ensures { λ used. ⌜ Gathered (pairsIn (now (store .entry)) (now (line .entry)) (deckOf (now (line .entry)) n poses) r from i q count) lanes (now (table .entry)) (now (table .exit)) × (used ≡ false → now (table .exit) ≡ now (table .entry)) ⌝ }
+    requires { ⌜ Given (now line) (now pairs) (now store) n poses r count lanes i from × Target n r i q × Lent (now table) ⌝ }
+    ensures { λ used. ⌜ Gathered (pairsIn (now (store .entry)) (now (line .entry)) (deckOf (now (line .entry)) n poses) r from i q count) (rowsOf poses) lanes (now (table .entry)) (now (table .exit)) × (used ≡ false → now (table .exit) ≡ now (table .entry)) ⌝ }
 {
     let mut used = false;
     let mut p: usize = 0;
@@ -91,8 +92,32 @@ fn gather(
     used
 }
 
-// The rows of pair q, whose cell is there: all NONE if nothing leads to it.
+// Whether pair q has a source.
+fn has_source(
+    line: &[u32],
+    pairs: &[u32],
+    n: usize,
+    r: usize,
+    count: usize,
+    i: usize,
+    q: usize,
+) -> bool
+    requires { ⌜ LineWords (now line) × (n ≤ 64) × PairWords r (now pairs) × (q < pairCount r) × (count ≤ pairCount r) × (i ≤ 100) ⌝ }
+    ensures { λ some. ⌜ (some ≡ false → (p : ℕ) → p < count → isSource (deckOf (now (line .entry)) n 0) r i q p ≡ false) ⌝ }
+{
+    let mut p: usize = 0;
+    while p < count {
+        if deck::is_source(line, pairs, n, r, i, q, p) {
+            return true;
+        }
+        p += 1;
+    }
+    false
+}
+
+// The rows of pair q, whose cell is there: all NONE if nothing leads to it. Sources are gathered in the table that is lent, whatever it has.
 fn target_rows(
+    table: &mut [u32; 6080],
     store: &mut [u32],
     line: &[u32],
     pairs: &[u32],
@@ -106,12 +131,16 @@ fn target_rows(
     to: usize,
     q: usize,
 )
-    requires { ⌜ Given (now line) (now pairs) (now store) n poses r count lanes i from × Beside (now store) from to × Target n r i q ⌝ }
-    ensures { λ _. ⌜ FilledPair (nextFrom (deckOf (now (line .entry)) n poses) r (now (store .entry)) from i) lanes to q poses (now (store .entry)) (now (store .exit)) ⌝ }
+    requires { ⌜ Lent (now table) × Given (now line) (now pairs) (now store) n poses r count lanes i from × Beside (now store) from to × Target n r i q ⌝ }
+    ensures { λ _. ⌜ FilledPair (nextFrom (deckOf (now (line .entry)) n poses) r (now (store .entry)) from i) lanes to q poses (now (store .entry)) (now (store .exit)) × Lent (now (table .exit)) ⌝ }
 {
-    let mut table = [lanes::NONE; 6080];
+    if !has_source(line, pairs, n, r, count, i, q) {
+        lanes::fill_rows(store, to + q * 4096, poses, lanes, lanes::NONE);
+        return;
+    }
+    near::reset(table, poses, lanes);
     if !gather(
-        &mut table,
+        table,
         store,
         line,
         pairs,
@@ -124,16 +153,17 @@ fn target_rows(
         from,
         q,
     ) {
-        lanes::fill(store, to + q * 4096, 4096, lanes::NONE);
+        lanes::fill_rows(store, to + q * 4096, poses, lanes, lanes::NONE);
         return;
     }
-    near::run_up(&mut table, lanes);
+    near::run_up(table, lanes);
     let m = deck::last_at(pairs, r, i + 1, q);
-    near::put_rows(store, line, &table, to, q, m, poses, lanes);
+    near::put_rows(store, line, table, to, q, m, poses, lanes);
 }
 
 // The block of pair q: all NONE if the row has no such cell.
 fn target_block(
+    table: &mut [u32; 6080],
     store: &mut [u32],
     line: &[u32],
     pairs: &[u32],
@@ -147,14 +177,15 @@ fn target_block(
     to: usize,
     q: usize,
 )
-    requires { ⌜ Given (now line) (now pairs) (now store) n poses r count lanes i from × Beside (now store) from to × (q < count) ⌝ }
-    ensures { λ _. ⌜ FilledPair (nextFrom (deckOf (now (line .entry)) n poses) r (now (store .entry)) from i) lanes to q poses (now (store .entry)) (now (store .exit)) ⌝ }
+    requires { ⌜ Lent (now table) × Given (now line) (now pairs) (now store) n poses r count lanes i from × Beside (now store) from to × (q < count) ⌝ }
+    ensures { λ _. ⌜ FilledPair (nextFrom (deckOf (now (line .entry)) n poses) r (now (store .entry)) from i) lanes to q poses (now (store .entry)) (now (store .exit)) × Lent (now (table .exit)) ⌝ }
 {
     if !deck::is_there(pairs, n, r, i + 1, q) {
-        lanes::fill(store, to + q * 4096, 4096, lanes::NONE);
+        lanes::fill_rows(store, to + q * 4096, poses, lanes, lanes::NONE);
         return;
     }
     target_rows(
+        table,
         store,
         line,
         pairs,
@@ -172,6 +203,7 @@ fn target_block(
 
 // The layer with one cell more than the layer at `from`, which has i, to the block at `to`.
 pub fn step_layer(
+    table: &mut [u32; 6080],
     store: &mut [u32],
     line: &[u32],
     pairs: &[u32],
@@ -184,12 +216,13 @@ pub fn step_layer(
     from: usize,
     to: usize,
 )
-    requires { ⌜ Given (now line) (now pairs) (now store) n poses r count lanes i from × Beside (now store) from to ⌝ }
-    ensures { λ _. ⌜ Filled (nextFrom (deckOf (now (line .entry)) n poses) r (now (store .entry)) from i) lanes poses to count (now (store .entry)) (now (store .exit)) ⌝ }
+    requires { ⌜ Lent (now table) × Given (now line) (now pairs) (now store) n poses r count lanes i from × Beside (now store) from to ⌝ }
+    ensures { λ _. ⌜ Filled (nextFrom (deckOf (now (line .entry)) n poses) r (now (store .entry)) from i) lanes poses to count (now (store .entry)) (now (store .exit)) × Lent (now (table .exit)) ⌝ }
 {
     let mut q: usize = 0;
     while q < count {
         target_block(
+            table,
             store,
             line,
             pairs,

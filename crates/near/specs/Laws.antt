@@ -185,3 +185,7 @@ found-ext P Q a {rows} h e =
     (lowest-same (λ gap. P (a % 4) (a / 4 + 4 - gap)) (λ gap. Q (a % 4) (a / 4 + 4 - gap)) paying
     (λ gap i. let l = paying-low gap i in e (a % 4) (a / 4 + 4 - gap) (omega arith) (omega arith) (omega arith)))
     (lowest-same (P 4) (Q 4) (from 0 (suc (a / 4))) (λ t i. let l = in-from 0 (suc (a / 4)) i in e 4 t (omega arith) (omega arith) (omega arith)))
+
+-- nothing is found where there is nothing
+pub found-away : (P : ℕ → ℕ → ℕ) (a : ℕ) → ((v t : ℕ) → P v t ≡ B) → found P a ≡ B
+found-away P a e = found-ext P (λ v t. B) a {rows = a / 4 + 5} (omega arith) (λ v t i j k. e v t) ∙ found-none a

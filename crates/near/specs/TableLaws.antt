@@ -10,6 +10,7 @@ use borrow.Author.Count.{below-more}
 use lib.ListN.{length, getD, set, length-set}
 use lib.Seq.{getD-set-same, getD-set-other}
 use Rattle.model.specs.Steps.{B, Deck, Layer, lastAt, isSource}
+use Rattle.model.specs.Lowest.{loop-above}
 use Rattle.rows.specs.Lists.{from}
 use Rattle.pair.specs.Coded.{lowest, lowest-low, lowest-from}
 use Rattle.lanes.specs.Lanes.{wordsFrom, alwaysRows}
@@ -281,6 +282,12 @@ module _ (line : List ℕ) (D : Deck) (R : ℕ) (f : Layer) (i q : ℕ) where
   pub pairs-more : (n v t : ℕ) → byPairs line D R f i q (n + 1) v t ≡ min (byPairs line D R f i q n v t) (onePair line D R f i q n v t)
   unfolding byPairs
   pairs-more n v t = lowest-more _ n
+
+  -- none of them a source
+  pub pairs-away : (n v t : ℕ) → ((p : ℕ) → p < n → isSource D R i q p ≡ false) → byPairs line D R f i q n v t ≡ B
+  unfolding byPairs
+  pairs-away n v t h =
+      omega (arith, lowest-low B (λ p. onePair line D R f i q p v t) (from 0 n), loop-above B (λ p. onePair line D R f i q p v t) n B (omega arith) (λ p k. omega (arith, pair-out p v t (h p k))))
 
   pub pairs-low : (n v t : ℕ) → byPairs line D R f i q n v t ≤ B
   unfolding byPairs

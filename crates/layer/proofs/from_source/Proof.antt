@@ -41,7 +41,7 @@ returns : tie.Need-returns
 returns c =
     let k = c .before .before .before .before .before in
     let a = k .args in (
-      gathered-none _ (k .pre .2)
+      gathered-none _ _ (k .pre .2 .low)
           (λ l v t i j h.
           omega (arith, pair-out (a .line .now) (deckOf (a .line .now) (a .n) (a .poses)) (a .r) (layerIn (a .store .now) (a .from) l) (a .i) (a .q) (a .p) v t (sym (c .before .is-source .ensures) ∙ not-true _ (c .if1 .taken)))),
       λ e. refl,
@@ -73,8 +73,8 @@ from-poses-requires c κs =
       record {
         words = g .ground .row;
         low = g .low;
-        tableLow = k .pre .2;
-        tableLong = k .pre .3;
+        tableLow = k .pre .2 .low;
+        tableLong = k .pre .2 .long;
         narrow = g .narrow;
         room = omega (arith, g .room, g .ground .all, g .ground .coded .few);
         left = left (c .before .before .before);
