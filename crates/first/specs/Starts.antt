@@ -21,32 +21,24 @@ abbrev pub startIn : List ℕ → ℕ → ℕ → ℕ → ℕ → ℕ → ℕ �
 startIn line p l₀ k l = onePose line p k (l₀ + l) 0
 
 -- one lane's planes are lowered, in the rows that count; the other lanes are as they were
-pub record Started (plane : ℕ → ℕ → ℕ) (lane : ℕ) (old new : List ℕ) : Type 0 where
+pub record Started (plane : ℕ → ℕ → ℕ) (rows lane : ℕ) (old new : List ℕ) : Type 0 where
   pub long : length new ≡ length old
   pub low : Low new
-  pub done : (v t : ℕ) → v < 5 → t < 19 → 4 ≤ v + 4 * t → wordAt new lane v t ≡ min (wordAt old lane v t) (plane v t)
-  pub other : (l v t : ℕ) → l < 64 → l ≢ lane → t < 19 → wordAt new l v t ≡ wordAt old l v t
+  pub done : (v t : ℕ) → v < 5 → t < rows → 4 ≤ v + 4 * t → wordAt new lane v t ≡ min (wordAt old lane v t) (plane v t)
+  pub other : (l v t : ℕ) → l < 64 → l ≢ lane → t < rows → wordAt new l v t ≡ wordAt old l v t
 
 -- the lanes below n
-pub record StartedTo (plane : ℕ → ℕ → ℕ → ℕ) (n : ℕ) (old new : List ℕ) : Type 0 where
+pub record StartedTo (plane : ℕ → ℕ → ℕ → ℕ) (rows n : ℕ) (old new : List ℕ) : Type 0 where
   pub long : length new ≡ length old
   pub low : Low new
-  pub done : (l v t : ℕ) → l < n → v < 5 → t < 19 → 4 ≤ v + 4 * t → wordAt new l v t ≡ min (wordAt old l v t) (plane l v t)
-  pub rest : (l v t : ℕ) → n ≤ l → l < 64 → t < 19 → wordAt new l v t ≡ wordAt old l v t
+  pub done : (l v t : ℕ) → l < n → v < 5 → t < rows → 4 ≤ v + 4 * t → wordAt new l v t ≡ min (wordAt old l v t) (plane l v t)
+  pub rest : (l v t : ℕ) → n ≤ l → l < 64 → t < rows → wordAt new l v t ≡ wordAt old l v t
 
 -- ---- one lane
 
--- the row that a start has: nothing is paid yet
-pub zero-low : Low (0 ∷ [])
-zero-low = record { word = go }
-  where
-    go : (k : ℕ) → getD (0 ∷ []) k 0 ≤ B
-    go zero = omega arith
-    go (suc k) = omega arith
-
--- a start that ends right of all rows
-pub started-out : (line : List ℕ) {table : List ℕ} (p k b : ℕ) {lane : ℕ} → Low table → 18 < endRow line p b k → Started (onePose line p k b 0) lane table table
-started-out line {table} p k b {lane} w h =
+-- a start that ends right of all rows that count
+pub started-out : (line : List ℕ) {table : List ℕ} (p k b : ℕ) {rows lane : ℕ} → Low table → rows ≤ endRow line p b k → Started (onePose line p k b 0) rows lane table table
+started-out line {table} p k b {rows} {lane} w h =
     record {
       long = refl;
       low = w;
@@ -56,18 +48,18 @@ started-out line {table} p k b {lane} w h =
 
 -- a start in row t
 pub started-in :
-    {f plane : ℕ → ℕ → ℕ} {t lane : ℕ} {old new : List ℕ}
-    → Spread f t 5 lane 1 old new → ((v s : ℕ) → v < 5 → plane v s ≡ inRow t s (f v 0))
-    → Started plane lane old new
-started-in {lane = lane} s e =
+    {f plane : ℕ → ℕ → ℕ} {t rows lane : ℕ} {old new : List ℕ}
+    → rows ≤ 19 → Spread f t 5 lane 1 old new → ((v s : ℕ) → v < 5 → plane v s ≡ inRow t s (f v 0))
+    → Started plane rows lane old new
+started-in {lane = lane} h s e =
     record {
       long = s .long;
       low = s .low;
       done = λ v r i j g.
           let z : lane + 0 ≡ lane = omega arith in
-          let d = rw z at (s .done 0 v r (omega arith) i j g) in
+          let d = rw z at (s .done 0 v r (omega arith) i (omega arith) g) in
           omega (arith, e v r i);
-      other = λ l v r i j k. s .other l v r i (side l j (decLt l lane)) k;
+      other = λ l v r i j k. s .other l v r i (side l j (decLt l lane)) (omega arith);
     }
   where
     side : (l : ℕ) → l ≢ lane → Dec (l < lane) → (l < lane) ⊎ (lane + 1 ≤ l)
@@ -76,14 +68,14 @@ started-in {lane = lane} s e =
 
 -- ---- every lane
 
-pub starts-none : (plane : ℕ → ℕ → ℕ → ℕ) {table : List ℕ} → Low table → StartedTo plane 0 table table
-starts-none plane w = record { long = refl; low = w; done = λ l v t i j k g. absurd (omega arith); rest = λ l v t i j k. refl }
+pub starts-none : (plane : ℕ → ℕ → ℕ → ℕ) (rows : ℕ) {table : List ℕ} → Low table → StartedTo plane rows 0 table table
+starts-none plane rows w = record { long = refl; low = w; done = λ l v t i j k g. absurd (omega arith); rest = λ l v t i j k. refl }
 
 pub starts-more :
-    {plane : ℕ → ℕ → ℕ → ℕ} {old mid new : List ℕ} (n : ℕ)
-    → n < 64 → StartedTo plane n old mid → Started (plane n) n mid new
-    → StartedTo plane (n + 1) old new
-starts-more {plane} {old} {mid} {new} n h s w =
+    {plane : ℕ → ℕ → ℕ → ℕ} {rows : ℕ} {old mid new : List ℕ} (n : ℕ)
+    → n < 64 → StartedTo plane rows n old mid → Started (plane n) rows n mid new
+    → StartedTo plane rows (n + 1) old new
+starts-more {plane} {rows} {old} {mid} {new} n h s w =
     record {
       long = w .long ∙ s .long;
       low = w .low;
@@ -91,11 +83,11 @@ starts-more {plane} {old} {mid} {new} n h s w =
       rest = λ l v t i j k. w .other l v t j (λ e. omega arith) k ∙ s .rest l v t (omega arith) j k;
     }
   where
-    go : (l v t : ℕ) → l < n + 1 → v < 5 → t < 19 → 4 ≤ v + 4 * t → Dec (l ≡ n) → wordAt new l v t ≡ min (wordAt old l v t) (plane l v t)
+    go : (l v t : ℕ) → l < n + 1 → v < 5 → t < rows → 4 ≤ v + 4 * t → Dec (l ≡ n) → wordAt new l v t ≡ min (wordAt old l v t) (plane l v t)
     go l v t i j k g (yes e) = rw e (omega (arith, w .done v t j k g, s .rest n v t (omega arith) h k))
     go l v t i j k g (no d) = w .other l v t (omega arith) d k ∙ s .done l v t (omega arith) j k g
 
-pub starts-all : {plane : ℕ → ℕ → ℕ → ℕ} {lanes : ℕ} {old new : List ℕ} → StartedTo plane lanes old new → Gathered plane lanes old new
+pub starts-all : {plane : ℕ → ℕ → ℕ → ℕ} {rows lanes : ℕ} {old new : List ℕ} → StartedTo plane rows lanes old new → Gathered plane rows lanes old new
 starts-all s = record { long = s .long; low = s .low; done = s .done }
 
 -- ---- what is found
@@ -108,7 +100,7 @@ starts-low {line} p l₀ k l v t w = go (eqb (endRow line p (l₀ + l) k) t) (pa
     go false h = omega arith
 
 pub after-found :
-    (line : List ℕ) (p l₀ k a l : ℕ) {table : List ℕ} {lanes : ℕ}
-    → Ready (startIn line p l₀ k) lanes table → a < 60 → l < lanes
+    (line : List ℕ) (p l₀ k a l : ℕ) {table : List ℕ} {poses lanes : ℕ}
+    → Ready (startIn line p l₀ k) poses lanes table → a < poses → l < lanes
     → afterRow line p l₀ k a l ≡ foundRow table (wordOf line k a) a l
 after-found line p l₀ k a l r h i = omega (arith, r .right a l h i, found-one line p (l₀ + l) k a 0)

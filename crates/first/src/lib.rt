@@ -34,29 +34,37 @@ fn from_start(
     p: usize,
     k: usize,
     b: usize,
+    rows: usize,
     lane: usize,
 )
-    requires { ⌜ LineWords (now line) × Pays (now line) p k 20 (now pays) × Low (now table) × (length (now table) ≡ 6080) × (p < 64) × (k < 64) × (b < 60) × (lane < 60) ⌝ }
-    ensures { λ _. ⌜ Started (onePose (now (line .entry)) p k b 0) lane (now (table .entry)) (now (table .exit)) ⌝ }
+    requires { ⌜ LineWords (now line) × Pays (now line) p k 20 (now pays) × Low (now table) × (length (now table) ≡ 6080) × (p < 64) × (k < 64) × (b < 64) × (rows ≤ 19) × (lane < 64) ⌝ }
+    ensures { λ _. ⌜ Started (onePose (now (line .entry)) p k b 0) rows lane (now (table .entry)) (now (table .exit)) ⌝ }
 {
     let t = near::end_row(line, p, b, k);
-    if t > 18 {
+    if t >= rows {
         return;
     }
-    let zero = [0u32; 1];
-    near::spread(table, &zero, 0, pays, b % 4, t, lane, 1);
+    near::spread_one(table, 0, pays, b % 4, t, lane);
 }
 
 // Every lane: pose l0 + l in lane l.
-fn from_starts(table: &mut [u32; 6080], line: &[u32], p: usize, l0: usize, k: usize, lanes: usize)
-    requires { ⌜ LineWords (now line) × Low (now table) × (length (now table) ≡ 6080) × (p < 64) × (l0 + lanes ≤ 60) × (k < 64) ⌝ }
-    ensures { λ _. ⌜ StartedTo (startIn (now (line .entry)) p l0 k) lanes (now (table .entry)) (now (table .exit)) ⌝ }
+fn from_starts(
+    table: &mut [u32; 6080],
+    line: &[u32],
+    p: usize,
+    l0: usize,
+    k: usize,
+    rows: usize,
+    lanes: usize,
+)
+    requires { ⌜ LineWords (now line) × Low (now table) × (length (now table) ≡ 6080) × (p < 64) × (l0 + lanes ≤ 64) × (k < 64) × (rows ≤ 19) ⌝ }
+    ensures { λ _. ⌜ StartedTo (startIn (now (line .entry)) p l0 k) rows lanes (now (table .entry)) (now (table .exit)) ⌝ }
 {
     let mut pays = [0u32; 20];
     near::fill_pays(&mut pays, line, p, k);
     let mut l: usize = 0;
     while l < lanes {
-        from_start(table, line, &pays, p, k, l0 + l, l);
+        from_start(table, line, &pays, p, k, l0 + l, rows, l);
         l += 1;
     }
 }
@@ -73,11 +81,12 @@ fn first_rows(
     poses: usize,
     lanes: usize,
 )
-    requires { ⌜ LineWords (now line) × Low (now store) × (to + 49152 ≤ length (now store)) × (q < 12) × (p < 64) × (l0 + lanes ≤ 60) × (k < 64) × (poses ≤ 60) ⌝ }
+    requires { ⌜ LineWords (now line) × Low (now store) × (to + 49152 ≤ length (now store)) × (q < 12) × (p < 64) × (l0 + lanes ≤ 64) × (k < 64) × (poses ≤ 60) ⌝ }
     ensures { λ _. ⌜ FilledPair (afterRows (now (line .entry)) p l0 k) lanes to q poses (now (store .entry)) (now (store .exit)) ⌝ }
 {
-    let mut table = [lanes::NONE; 6080];
-    from_starts(&mut table, line, p, l0, k, lanes);
+    let mut table = [0u32; 6080];
+    near::reset(&mut table, poses, lanes);
+    from_starts(&mut table, line, p, l0, k, near::rows_of(poses), lanes);
     near::run_up(&mut table, lanes);
     near::put_rows(store, line, &table, to, q, k, poses, lanes);
 }
@@ -99,11 +108,11 @@ fn first_block(
     to: usize,
     q: usize,
 )
-    requires { ⌜ Given (now line) (now pairs) (now store) n poses r count lanes i to × (p < 64) × (l0 + lanes ≤ 60) × (q < count) ⌝ }
+    requires { ⌜ Given (now line) (now pairs) (now store) n poses r count lanes i to × (p < 64) × (l0 + lanes ≤ 64) × (q < count) ⌝ }
     ensures { λ _. ⌜ FilledPair (afterFrom (deckOf (now (line .entry)) n poses) r i m p l0) lanes to q poses (now (store .entry)) (now (store .exit)) ⌝ }
 {
     if !starts(pairs, n, r, i + 1, m, q) {
-        lanes::fill(store, to + q * 4096, 4096, lanes::NONE);
+        lanes::fill_rows(store, to + q * 4096, poses, lanes, lanes::NONE);
         return;
     }
     let k = deck::last_at(pairs, r, i + 1, q);
@@ -126,7 +135,7 @@ pub fn first_layer(
     l0: usize,
     to: usize,
 )
-    requires { ⌜ Given (now line) (now pairs) (now store) n poses r count lanes i to × (p < 64) × (l0 + lanes ≤ 60) × (s < count) ⌝ }
+    requires { ⌜ Given (now line) (now pairs) (now store) n poses r count lanes i to × (p < 64) × (l0 + lanes ≤ 64) × (s < count) ⌝ }
     ensures { λ _. ⌜ Filled (afterFrom (deckOf (now (line .entry)) n poses) r i (marks r s) p l0) lanes poses to count (now (store .entry)) (now (store .exit)) ⌝ }
 {
     let m = pairs[s * 4 + 1];

@@ -215,20 +215,17 @@ filled-more {F} {G} {lanes} {poses} {to} {new = new} q n k h s w e =
           (λ a l x y. w .right a x l y ∙ sym (e a l x y));
     }
 
--- ---- words of NONE alone
+-- ---- the same word alone
 
-pub nones-at : (n k : ℕ) → k < n → getD (replicate n B) k 0 ≡ B
-nones-at n k h = getD-replicate n k B 0 h
-
-pub nones-low : (n : ℕ) → Low (replicate n B)
-nones-low n = record { word = λ k. go k (decLt k n) }
+pub same-low : (n x : ℕ) → x ≤ B → Low (replicate n x)
+same-low n x b = record { word = λ k. go k (decLt k n) }
   where
-    go : (k : ℕ) → Dec (k < n) → getD (replicate n B) k 0 ≤ B
-    go k (yes h) = omega (arith, nones-at n k h)
-    go k (no h) = omega (arith, List·getD-eq-default (replicate n B) 0 {n = k} (omega (arith, length-replicate n B)))
+    go : (k : ℕ) → Dec (k < n) → getD (replicate n x) k 0 ≤ B
+    go k (yes h) = omega (arith, getD-replicate n k x 0 h)
+    go k (no h) = omega (arith, List·getD-eq-default (replicate n x) 0 {n = k} (omega (arith, length-replicate n x)))
 
 pub none-at : (l : ℕ) → l < 64 → getD (replicate 64 B) l 0 ≡ B
-none-at l h = nones-at 64 l h
+none-at l h = getD-replicate 64 l B 0 h
 
 pub none-low : Low (replicate 64 B)
-none-low = nones-low 64
+none-low = same-low 64 B (omega arith)

@@ -7,7 +7,7 @@ use mathlib.Core.List.{List}
 use native.Mathlib.Omega.{arith}
 use native.Mathlib.Decide.{ℕ-discrete, decLt}
 use borrow.Author.Count.{below-more}
-use lib.ListN.{length, getD, set, length-set}
+use lib.ListN.{length, getD, set, length-set, replicate, length-replicate}
 use lib.Seq.{getD-set-same, getD-set-other}
 use Rattle.model.specs.Steps.{B, Deck, Layer, lastAt, isSource}
 use Rattle.model.specs.Lowest.{loop-above}
@@ -15,13 +15,13 @@ use Rattle.rows.specs.Lists.{from}
 use Rattle.pair.specs.Coded.{lowest, lowest-low, lowest-from}
 use Rattle.lanes.specs.Lanes.{wordsFrom, alwaysRows}
 use Rattle.lanes.specs.Store.{Frame, Low, WrittenRows}
-use Rattle.lanes.specs.Laws.{frame-refl, frame-set}
+use Rattle.lanes.specs.Laws.{frame-refl, frame-set, same-low}
 use Rattle.deck.specs.Words.{LineWords}
 use Rattle.near.specs.Loops.{lowest-none, lowest-more, lowest-same}
 use Rattle.near.specs.Gaps.{paying, paying-low}
 use Rattle.near.specs.Rows.{rowsOf, inRow, endRow, found, payIn, onePose, byPoses, onePair, byPairs}
 use Rattle.near.specs.Laws.{row-hit, row-miss, pay-same, pay-small, found-none, found-ext}
-use Rattle.near.specs.Table.{wordAt, LoweredAt, Cleared, Gathered, Spread, Pays, PaysLow, Source, RunUp, foundIn, Ready, ToRows}
+use Rattle.near.specs.Table.{wordAt, LoweredAt, Lent, Cleared, Gathered, Spread, Pays, PaysLow, Source, RunUp, foundIn, Ready, ToRows}
 
 -- ---- one row
 
@@ -69,6 +69,10 @@ lowered-at-low {f} {to} {lanes} {old} {new} v w = record { word = λ k. go k (de
         omega (arith, w .word (to + (k - to)))
 
 -- ---- rows without sources
+
+-- a table of zeros may be lent
+pub lent-zeros : Lent (replicate 6080 0)
+lent-zeros = record { long = length-replicate {A = ℕ} 6080 0; low = same-low 6080 0 (omega arith) }
 
 pub cleared-none : (rows lanes : ℕ) {table : List ℕ} → length table ≡ 6080 → Low table → Cleared rows lanes 0 table
 cleared-none rows lanes h w = record { long = h; low = w; none = λ l u t i j k. absurd (omega arith) }

@@ -4,12 +4,12 @@ use mathlib.Core.Path.{_≡_, sym, ap, _∙_}
 use mathlib.Core.Bool.{true}
 use native.Mathlib.Omega.{arith}
 use native.Mathlib.Numerals.{add-one}
-use borrow.Author.Needs.{needs}
 use borrow.Author.Tests.{not-true, not-false}
-use Rattle.model.specs.Steps.{lastAt, before}
-use Rattle.lanes.specs.Laws.{pair-always, pair-ext}
+use Rattle.model.specs.Steps.{lastAt}
+use Rattle.lanes.specs.Laws.{pair-rows, pair-ext}
 use Rattle.deck.specs.Words.{deckOf}
 use Rattle.first.specs.Firsts.{startsAt, afterRow, after-there, after-away, starts-size}
+use borrow.Author.Needs.{needs}
 use Rattle.first.proofs.first_block.Statement.{statement}
 use Rattle.first.proofs.first_block.Tie as tie
 
@@ -31,14 +31,14 @@ add-starts c = search needs
 starts-requires : tie.Need-starts-requires
 starts-requires c κs = search needs
 
-mul-fill : tie.Need-mul-fill
-mul-fill c = search needs
+mul-fill-rows : tie.Need-mul-fill-rows
+mul-fill-rows c = search needs
 
-add-fill : tie.Need-add-fill
-add-fill c = search needs
+add-fill-rows : tie.Need-add-fill-rows
+add-fill-rows c = search needs
 
-fill-requires : tie.Need-fill-requires
-fill-requires c κs = search needs
+fill-rows-requires : tie.Need-fill-rows-requires
+fill-rows-requires c κs = search needs
 
 same-length : tie.Need-same-length
 same-length c = search needs
@@ -47,11 +47,10 @@ returns : tie.Need-returns
 returns c =
     let k = c .before .before .before .before .before .before .before .before .before in
     let a = k .args in
-    let g = k .pre .0 in
     let t = sym (c .before .before .before .before .before .starts .ensures) ∙ not-true _ (c .before .before .before .before .if1 .taken) in
     let u = ap (λ (j : ℕ). startsAt (a .n) (a .r) j (a .m) (a .q)) (sym (add-one (a .i))) ∙ t in
-    pair-always (omega (arith, g .narrow)) (omega (arith, g .ground .few)) (c .before .before .fill .ensures)
-    (λ b l. after-away (deckOf (a .line .now) (a .n) (a .poses)) (a .r) (a .i) (a .m) (a .p) (a .l0 + l) (a .q) b u)
+    pair-rows (omega (arith, k .pre .0 .ground .few)) (c .before .before .fill-rows .ensures)
+    (λ b l x y. after-away (deckOf (a .line .now) (a .n) (a .poses)) (a .r) (a .i) (a .m) (a .p) (a .l0 + l) (a .q) b u)
 
 add-last-at : tie.Need-add-last-at
 add-last-at c = search needs
@@ -93,9 +92,9 @@ first-block-spec =
     (tie.spec
     add-starts
     starts-requires
-    mul-fill
-    add-fill
-    fill-requires
+    mul-fill-rows
+    add-fill-rows
+    fill-rows-requires
     same-length
     returns
     add-last-at

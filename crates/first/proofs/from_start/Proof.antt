@@ -1,10 +1,10 @@
--- A start that ends right of all rows is in none; another one is spread over the planes of its lane. Assumes nothing.
+-- A start that ends right of all rows that count is in none; another one is spread over the planes of its lane. Assumes nothing.
 use Prim.Native.Nat.{_+_, _%_}
-use mathlib.Core.Path.{_≡_, refl}
+use mathlib.Core.Path.{_≡_}
 use native.Mathlib.Omega.{arith}
-use borrow.Author.Needs.{needs}
 use Rattle.near.specs.TableLaws.{pays-low, pose-spread}
-use Rattle.first.specs.Starts.{zero-low, started-out, started-in}
+use Rattle.first.specs.Starts.{started-out, started-in}
+use borrow.Author.Needs.{needs}
 use Rattle.first.proofs.from_start.Statement.{statement}
 use Rattle.first.proofs.from_start.Tie as tie
 
@@ -17,20 +17,15 @@ returns c =
     let a = k .args in
     started-out (a .line .now) (a .p) (a .k) (a .b) (k .pre .2) (omega (arith, c .before .end-row .ensures))
 
-slice-aggregate-spread : tie.Need-slice-aggregate-spread
-slice-aggregate-spread c = search needs
-
-spread-requires : tie.Need-spread-requires
-spread-requires c κs =
-    let k = c .before .before .before .before .before in
-    (k .pre .2, k .pre .3, zero-low, omega arith, pays-low (k .pre .0) (k .pre .1), omega arith, omega arith, omega arith)
+spread-one-requires : tie.Need-spread-one-requires
+spread-one-requires c κs =
+    let k = c .before .before .before .before in
+    (k .pre .2, k .pre .3, omega arith, pays-low (k .pre .0) (k .pre .1), omega arith, omega arith, k .pre .8)
 
 returns-2 : tie.Need-returns-2
 returns-2 c =
-    let k = c .before .before .before .before .before .before in
-    let a = k .args in
-    started-in (c .spread .ensures) (λ v s i. pose-spread (a .b) v s 0 (k .pre .1) (c .before .before .before .before .end-row .ensures) i)
+    let k = c .before .before .before .before .before in
+    started-in (k .pre .7) (c .spread-one .ensures) (λ v s i. pose-spread (k .args .b) v s 0 (k .pre .1) (c .before .before .before .end-row .ensures) i)
 
 pub from-start-spec : {M : Type 1} → statement M
-from-start-spec =
-    tie.close (tie.spec end-row-requires returns slice-aggregate-spread spread-requires returns-2)
+from-start-spec = tie.close (tie.spec end-row-requires returns spread-one-requires returns-2)
