@@ -1,22 +1,21 @@
 -- Laws of stretches: the layers run on, what is kept, and prices as far as the layers have come. Assumes nothing.
 use Prim.Native.Nat.{ℕ, zero, suc, _+_, _*_, _-_, _≤_, _<_}
-use mathlib.Core.Path.{_≡_, refl, sym, ap, ap₂, _∙_}
+use mathlib.Core.Path.{_≡_, refl, sym, ap, subst, _∙_}
 use mathlib.Core.Logic.{inl, inr}
 use mathlib.Core.Bool.{Bool, true, false, cond}
 use mathlib.Core.List.{List}
 use native.Mathlib.Omega.{arith}
+use native.Mathlib.Decide.{ℕ-discrete}
 use native.Mathlib.Numerals.{add-one}
 use borrow.Author.Tests.{lt-ltb, le-ltb, le-leb, lt-leb, eq-eqb, ne-eqb}
 use lib.ListN.{length, getD}
-use lib.Dec.{leb, eqb}
-use Rattle.rows.specs.Lists.{Le?, low, high, le?, Eq?, same, differs, eq?}
+use lib.Dec.{leb}
 use Rattle.model.specs.Steps.{B, Deck, Layer, pairCount, offset, layers, priceTo}
-use Rattle.lanes.specs.Lanes.{wordsFrom}
-use Rattle.lanes.specs.Store.{Frame, Written, layerIn, FilledPair, Filled}
+use Rattle.lanes.specs.Store.{Frame, layerIn, Filled}
 use Rattle.deck.specs.Words.{deckOf}
 use Rattle.layer.specs.Loops.{nextFrom, Given, Beside}
 use Rattle.layer.specs.Laws.{next-ext}
-use Rattle.stretch.specs.Runs.{Buffer, Running, Small, Outside, delivered, priceBy, PricedBy, PricedRun}
+use Rattle.stretch.specs.Runs.{Buffer, Running, Small, Outside, lateIn, delivered, PricedBy, PricedRun}
 
 -- ---- the two blocks by turns
 
@@ -90,7 +89,7 @@ outside-prices f p q = record { long = f .long; below = λ k x y. f .low k (omeg
 pub outside-widen : {prices wide more : ℕ} {old new : List ℕ} → Outside prices wide old new → wide ≤ more → Outside prices more old new
 outside-widen f h = record { long = f .long; below = f .below; above = λ k x. f .above k (omega arith) }
 
--- ---- prices, as far as the layers have come
+-- ---- the price of a pair by the layer that it comes with
 
 module _ (D : Deck) (R : ℕ) (f : Layer) (i p : ℕ) where
   priceTo-past : (q a : ℕ) → p + suc R < i + offset R q → priceTo D R f i p q a ≡ B
@@ -103,35 +102,14 @@ module _ (D : Deck) (R : ℕ) (f : Layer) (i p : ℕ) where
       let z : p + suc R - offset R q - i ≡ d = omega arith in
       rw (le-leb (i + offset R q) (p + suc R) (omega arith)) (ap (λ (k : ℕ). layers D R f i k q a) z)
 
-  by-past : (q a d : ℕ) → p + suc R < i + d + offset R q → priceBy D R f i p d q a ≡ priceTo D R f i p q a
-  unfolding priceBy
-  by-past q a d h = rw (lt-ltb (p + suc R) (i + d + offset R q) h)
+-- ---- pairs that come with no layer
 
-  by-ahead : (q a d : ℕ) → i + d + offset R q ≤ p + suc R → priceBy D R f i p d q a ≡ B
-  unfolding priceBy
-  by-ahead q a d h = rw (le-ltb (p + suc R) (i + d + offset R q) h)
+module _ (R i p : ℕ) (st : List ℕ) (prices l q a : ℕ) where
+  pub late-skip : i + offset R q ≤ p + suc R → lateIn R i p st prices l q a ≡ layerIn st prices l q a
+  late-skip h = ap (λ (t : Bool). cond t B (layerIn st prices l q a)) (le-ltb (p + suc R) (i + offset R q) h)
 
-  pub price-none : (q a : ℕ) → priceBy D R f i p 0 q a ≡ B
-  price-none q a = go (leb (i + 0 + offset R q) (p + suc R)) (le? (i + 0 + offset R q) (p + suc R))
-    where
-      go : (t : Bool) → Le? (i + 0 + offset R q) (p + suc R) t → priceBy D R f i p 0 q a ≡ B
-      go true (low h) = by-ahead q a 0 h
-      go false (high h) = by-past q a 0 h ∙ priceTo-past q a (omega arith)
-
-  -- with one layer more
-  pub price-more : (q a d : ℕ)
-      → priceBy D R f i p (d + 1) q a ≡ cond (eqb (i + d + offset R q) (p + suc R)) (layers D R f i d q a) (priceBy D R f i p d q a)
-  price-more q a d = go (eqb (i + d + offset R q) (p + suc R)) (eq? (i + d + offset R q) (p + suc R)) (leb (i + d + offset R q) (p + suc R)) (le? (i + d + offset R q) (p + suc R))
-    where
-      go : (s : Bool) → Eq? (i + d + offset R q) (p + suc R) s → (t : Bool) → Le? (i + d + offset R q) (p + suc R) t
-          → priceBy D R f i p (d + 1) q a ≡ cond s (layers D R f i d q a) (priceBy D R f i p d q a)
-      go true (same e) t h = by-past q a (d + 1) (omega arith) ∙ priceTo-at q a d e
-      go false (differs n) true (low h) = by-ahead q a (d + 1) (omega arith) ∙ sym (by-ahead q a d h)
-      go false (differs n) false (high h) = by-past q a (d + 1) (omega arith) ∙ sym (by-past q a d h)
-
-  -- with all layers
-  pub price-all : (q a d : ℕ) → p + suc R ≤ i + d → priceBy D R f i p (d + 1) q a ≡ priceTo D R f i p q a
-  price-all q a d h = by-past q a (d + 1) (omega arith)
+  pub late-take : p + suc R < i + offset R q → lateIn R i p st prices l q a ≡ B
+  late-take h = ap (λ (t : Bool). cond t B (layerIn st prices l q a)) (lt-ltb (p + suc R) (i + offset R q) h)
 
 -- ---- delivering
 
@@ -142,75 +120,60 @@ module _ (R i p : ℕ) (st : List ℕ) (at prices l q a : ℕ) where
   pub delivered-take : i + offset R q ≡ p + suc R → delivered R i p st at prices l q a ≡ layerIn st at l q a
   delivered-take e = ap (λ (t : Bool). cond t (layerIn st at l q a) (layerIn st prices l q a)) (eq-eqb _ _ e)
 
--- a pair's block copied
-pub pair-copied :
-    {F : ℕ → Layer} (st : List ℕ) (at : ℕ) {to q : ℕ} {old new : List ℕ}
-    → Written (wordsFrom st (at + q * 4096)) (to + q * 4096) 4096 old new → ((a l : ℕ) → F l q a ≡ layerIn st at l q a)
-    → FilledPair F 64 to q 64 old new
-pair-copied st at {new = new} w e =
-    record {
-      frame = w .frame;
-      low = w .low;
-      right = λ a p l r.
-          ap (λ (k : ℕ). getD new k 0) (omega arith)
-          ∙ w .words (a * 64 + l) (omega arith)
-          ∙ ap (λ (k : ℕ). getD st k 0) (omega arith)
-          ∙ sym (e a l);
-    }
-
 -- one layer more is delivered
 pub priced-more :
-    {D : Deck} {R lanes i p d j at prices count : ℕ} {old mid new : List ℕ}
-    → Small D R lanes → count ≡ pairCount R → j ≡ i + d → Running D R lanes i d at old mid → PricedBy D R lanes i p d prices old mid
-    → Filled (delivered R j p mid at prices) 64 64 prices count mid new
+    {D : Deck} {R lanes i p d at prices count : ℕ} {old mid new : List ℕ}
+    → count ≡ pairCount R → Running D R lanes i d at old mid → PricedBy D R lanes i p d prices old mid
+    → Filled (delivered R (i + d) p mid at prices) lanes (D .poses) prices count mid new
     → PricedBy D R lanes i p (d + 1) prices old new
-priced-more {D} {R} {lanes} {i} {p} {d} {at = at} {prices = prices} {old = old} {mid = mid} s c e r b f =
-    record {
-      right = λ q a l x y z.
-          f .right q (omega arith) a l (omega (arith, s .few)) (omega (arith, s .narrow))
-          ∙ ap (λ (k : ℕ). delivered R k p mid at prices l q a) e
-          ∙ ap₂ (cond (eqb (i + d + offset R q) (p + suc R))) (r .right q a l x y z) (b .right q a l x y z)
-          ∙ sym (price-more D R (layerIn old 0 l) i p q a d);
-    }
+priced-more {D} {R} {lanes} {i} {p} {d} {at = at} {prices = prices} {old = old} {mid = mid} {new = new} c r b f =
+    record { right = λ q a l x y z h. f .right q (omega arith) a l y z ∙ go q a l x y z h (ℕ-discrete (i + d + offset R q) (p + suc R)) }
+  where
+    go : (q a l : ℕ) → q < pairCount R → a < D .poses → l < lanes → p + suc R < i + (d + 1) + offset R q → Dec (i + d + offset R q ≡ p + suc R)
+        → delivered R (i + d) p mid at prices l q a ≡ priceTo D R (layerIn old 0 l) i p q a
+    go q a l x y z h (yes e) =
+        delivered-take R (i + d) p mid at prices l q a e ∙ r .right q a l x y z ∙ sym (priceTo-at D R (layerIn old 0 l) i p q a d e)
+    go q a l x y z h (no n) = delivered-skip R (i + d) p mid at prices l q a n ∙ b .right q a l x y z (omega arith)
 
 -- one step more of the stretch: a layer, and what it delivers
 pub priced-step :
     {D : Deck} {R lanes i p d at prices count : ℕ} {old mid step new : List ℕ}
     → Small D R lanes → count ≡ pairCount R → 98304 ≤ prices → PricedRun D R lanes i p d at prices old mid
     → Filled (nextFrom D R mid at (i + d)) lanes (D .poses) (49152 - at) count mid step
-    → Filled (delivered R (i + (d + 1)) p step (49152 - at) prices) 64 64 prices count step new
+    → Filled (delivered R (i + (d + 1)) p step (49152 - at) prices) lanes (D .poses) prices count step new
     → PricedRun D R lanes i p (d + 1) (49152 - at) prices old new
 priced-step {D} {R} {lanes} {i} {p} {d} {at} {prices} s c h r f g =
     let run = run-more c (r .running) f in
     let b = buffer-low (r .running .buffer) in
     record {
       running = run-kept s run (g .frame) h;
-      priced = priced-more s c refl run
-          (record { right = λ q a l x y z. f .frame .high (prices + q * 4096 + a * 64 + l) (omega arith) ∙ r .priced .right q a l x y z })
+      priced = priced-more c run
+          (record { right = λ q a l x y z k. f .frame .high (prices + q * 4096 + a * 64 + l) (omega arith) ∙ r .priced .right q a l x y z k })
           g;
       outside = outside-join (r .outside) (outside-join (outside-layers h (f .frame) (omega arith)) (outside-prices (g .frame) (omega arith) (omega arith)));
       low = g .low;
     }
 
--- the stretch begins: the prices of every pair are B, and the first layer is delivered
+-- the stretch begins: the prices of the pairs that come with no layer are B, and the first layer is delivered
 pub priced-start :
-    (D : Deck) (R lanes i p prices count : ℕ) {mid new : List ℕ}
+    (D : Deck) (R lanes i p prices count : ℕ) {old mid new : List ℕ}
     → Small D R lanes → count ≡ pairCount R → 98304 ≤ prices
-    → ((k : ℕ) → k < count * 4096 → getD mid (prices + k) 0 ≡ B)
-    → Filled (delivered R i p mid 0 prices) 64 64 prices count mid new
+    → Filled (lateIn R i p old prices) lanes (D .poses) prices count old mid
+    → Filled (delivered R i p mid 0 prices) lanes (D .poses) prices count mid new
     → PricedRun D R lanes i p 0 0 prices new new
-priced-start D R lanes i p prices count {mid} {new} s c h none g =
+priced-start D R lanes i p prices count {old} {mid} {new} s c h late g =
     let first = run-none D R lanes i {old = new} {st = mid} s (λ k v. sym (g .frame .low k (omega arith))) in
+    let e : i ≡ i + 0 = omega arith in
     record {
       running = run-none D R lanes i s (λ k v. refl);
-      priced = priced-more s c (omega arith) first
+      priced = priced-more c first
           (record {
-            right = λ q a l x y z.
-                ap (λ (k : ℕ). getD mid k 0) (omega arith)
-                ∙ none (q * 4096 + a * 64 + l) (omega (arith, s .narrow, s .few, s .pairs))
-                ∙ sym (price-none D R (layerIn new 0 l) i p q a);
+            right = λ q a l x y z k.
+                late .right q (omega arith) a l y z
+                ∙ late-take R i p old prices l q a (omega arith)
+                ∙ sym (priceTo-past D R (layerIn new 0 l) i p q a (omega arith));
           })
-          g;
+          (subst (λ (j : ℕ). Filled (delivered R j p mid 0 prices) lanes (D .poses) prices count mid new) e g);
       outside = outside-refl prices 49152 new;
       low = g .low;
     }

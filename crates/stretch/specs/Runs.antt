@@ -26,7 +26,7 @@ pub record Outside (prices wide : ℕ) (old new : List ℕ) : Type 0 where
 
 -- few poses, pairs and lanes
 pub record Small (D : Deck) (R lanes : ℕ) : Type 0 where
-  pub narrow : lanes ≤ 60
+  pub narrow : lanes ≤ 64
   pub few : D .poses ≤ 60
   pub pairs : pairCount R ≤ 12
 
@@ -37,16 +37,18 @@ pub record PriceRoom (st : List ℕ) (prices : ℕ) : Type 0 where
 
 -- ---- prices to the tall cell at position p
 
+-- B for a pair that comes with no layer from the one with i cells on; for another one what was there
+abbrev pub lateIn : ℕ → ℕ → ℕ → List ℕ → ℕ → ℕ → Layer
+lateIn R i p st prices l q a = cond (ltb (p + suc R) (i + offset R q)) B (layerIn st prices l q a)
+
 -- where the layer at `at`, with i cells, is the one that pair q comes with, its entries; else what was there
 abbrev pub delivered : ℕ → ℕ → ℕ → List ℕ → ℕ → ℕ → ℕ → Layer
 delivered R i p st at prices l q a = cond (eqb (i + offset R q) (p + suc R)) (layerIn st at l q a) (layerIn st prices l q a)
 
--- the prices of the pairs that come with the first d layers; B for the others
-unfoldable pub priceBy : Deck → ℕ → Layer → ℕ → ℕ → ℕ → Layer
-priceBy D R f i p d q a = cond (ltb (p + suc R) (i + d + offset R q)) (priceTo D R f i p q a) B
-
+-- the prices of the pairs that come with the first d layers, or with none
 pub record PricedBy (D : Deck) (R lanes i p d prices : ℕ) (old new : List ℕ) : Type 0 where
-  pub right : (q a l : ℕ) → q < pairCount R → a < D .poses → l < lanes → layerIn new prices l q a ≡ priceBy D R (layerIn old 0 l) i p d q a
+  pub right : (q a l : ℕ) → q < pairCount R → a < D .poses → l < lanes → p + suc R < i + d + offset R q
+      → layerIn new prices l q a ≡ priceTo D R (layerIn old 0 l) i p q a
 
 -- a stretch on its way: d layers on, and the prices delivered that come with them
 pub record PricedRun (D : Deck) (R lanes i p d at prices : ℕ) (old new : List ℕ) : Type 0 where

@@ -6,45 +6,92 @@ ghost use Rattle.model.specs.Steps.{pairCount};
 ghost use Rattle.lanes.specs.Store.{Low, FilledPair, Filled};
 ghost use Rattle.deck.specs.Words.{deckOf, PairWords};
 ghost use Rattle.layer.specs.Loops.{Given};
-ghost use Rattle.stretch.specs.Runs.{PriceRoom, delivered, Priced};
+ghost use Rattle.stretch.specs.Runs.{PriceRoom, lateIn, delivered, Priced};
+
+// NONE for pair q, if it comes to the tall cell with no layer from the one with i cells on.
+fn late_pair(
+    store: &mut [u32],
+    pairs: &[u32],
+    poses: usize,
+    r: usize,
+    lanes: usize,
+    i: usize,
+    tall: usize,
+    prices: usize,
+    q: usize,
+)
+    requires { ⌜ PairWords r (now pairs) × Low (now store) × PriceRoom (now store) prices × (q < pairCount r) × (poses ≤ 60) × (lanes ≤ 64) × (i ≤ 100) × (tall < 64) ⌝ }
+    ensures { λ _. ⌜ FilledPair (lateIn r i tall (now (store .entry)) prices) lanes prices q poses (now (store .entry)) (now (store .exit)) ⌝ }
+{
+    if i + deck::word(pairs, q * 4) <= tall + r + 1 {
+        return;
+    }
+    lanes::fill_rows(store, prices + q * 4096, poses, lanes, lanes::NONE);
+}
+
+// NONE for every such pair: the prices of the others are delivered.
+fn fill_late(
+    store: &mut [u32],
+    pairs: &[u32],
+    poses: usize,
+    r: usize,
+    count: usize,
+    lanes: usize,
+    i: usize,
+    tall: usize,
+    prices: usize,
+)
+    requires { ⌜ PairWords r (now pairs) × Low (now store) × PriceRoom (now store) prices × (count ≡ pairCount r) × (poses ≤ 60) × (lanes ≤ 64) × (i ≤ 100) × (tall < 64) ⌝ }
+    ensures { λ _. ⌜ Filled (lateIn r i tall (now (store .entry)) prices) lanes poses prices count (now (store .entry)) (now (store .exit)) ⌝ }
+{
+    let mut q: usize = 0;
+    while q < count {
+        late_pair(store, pairs, poses, r, lanes, i, tall, prices, q);
+        q += 1;
+    }
+}
 
 // The prices of pair q, if it comes to the tall cell with the layer at `from`, which has i cells.
 fn deliver_pair(
     store: &mut [u32],
     pairs: &[u32],
+    poses: usize,
     r: usize,
+    lanes: usize,
     i: usize,
     tall: usize,
     from: usize,
     prices: usize,
     q: usize,
 )
-    requires { ⌜ PairWords r (now pairs) × Low (now store) × PriceRoom (now store) prices × (q < pairCount r) × (i ≤ 100) × (tall < 64) × (from ≤ 49152) ⌝ }
-    ensures { λ _. ⌜ FilledPair (delivered r i tall (now (store .entry)) from prices) 64 prices q 64 (now (store .entry)) (now (store .exit)) ⌝ }
+    requires { ⌜ PairWords r (now pairs) × Low (now store) × PriceRoom (now store) prices × (q < pairCount r) × (poses ≤ 60) × (lanes ≤ 64) × (i ≤ 100) × (tall < 64) × (from ≤ 49152) ⌝ }
+    ensures { λ _. ⌜ FilledPair (delivered r i tall (now (store .entry)) from prices) lanes prices q poses (now (store .entry)) (now (store .exit)) ⌝ }
 {
     if i + deck::word(pairs, q * 4) != tall + r + 1 {
         return;
     }
-    lanes::copy(store, from + q * 4096, prices + q * 4096, 4096);
+    lanes::copy_rows(store, from + q * 4096, prices + q * 4096, poses, lanes);
 }
 
 // The prices of every pair that comes with that layer.
 fn deliver(
     store: &mut [u32],
     pairs: &[u32],
+    poses: usize,
     r: usize,
     count: usize,
+    lanes: usize,
     i: usize,
     tall: usize,
     from: usize,
     prices: usize,
 )
-    requires { ⌜ PairWords r (now pairs) × Low (now store) × PriceRoom (now store) prices × (count ≡ pairCount r) × (i ≤ 100) × (tall < 64) × (from ≤ 49152) ⌝ }
-    ensures { λ _. ⌜ Filled (delivered r i tall (now (store .entry)) from prices) 64 64 prices count (now (store .entry)) (now (store .exit)) ⌝ }
+    requires { ⌜ PairWords r (now pairs) × Low (now store) × PriceRoom (now store) prices × (count ≡ pairCount r) × (poses ≤ 60) × (lanes ≤ 64) × (i ≤ 100) × (tall < 64) × (from ≤ 49152) ⌝ }
+    ensures { λ _. ⌜ Filled (delivered r i tall (now (store .entry)) from prices) lanes poses prices count (now (store .entry)) (now (store .exit)) ⌝ }
 {
     let mut q: usize = 0;
     while q < count {
-        deliver_pair(store, pairs, r, i, tall, from, prices, q);
+        deliver_pair(store, pairs, poses, r, lanes, i, tall, from, prices, q);
         q += 1;
     }
 }
@@ -66,12 +113,14 @@ pub fn stretch_to(
     requires { ⌜ Given (now line) (now pairs) (now store) n poses r count lanes i 0 × PriceRoom (now store) prices × (tall < 64) ⌝ }
     ensures { λ _. ⌜ Priced (deckOf (now (line .entry)) n poses) r lanes i tall prices (now (store .entry)) (now (store .exit)) ⌝ }
 {
-    lanes::fill(store, prices, count * 4096, lanes::NONE);
-    deliver(store, pairs, r, count, i, tall, 0, prices);
+    fill_late(store, pairs, poses, r, count, lanes, i, tall, prices);
+    deliver(store, pairs, poses, r, count, lanes, i, tall, 0, prices);
+    let mut table = [0u32; 6080];
     let mut from: usize = 0;
     let mut d: usize = 0;
     while i + d < tall + r + 1 {
         layer::step_layer(
+            &mut table,
             store,
             line,
             pairs,
@@ -86,6 +135,17 @@ pub fn stretch_to(
         );
         from = 49152 - from;
         d += 1;
-        deliver(store, pairs, r, count, i + d, tall, from, prices);
+        deliver(
+            store,
+            pairs,
+            poses,
+            r,
+            count,
+            lanes,
+            i + d,
+            tall,
+            from,
+            prices,
+        );
     }
 }

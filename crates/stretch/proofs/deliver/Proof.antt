@@ -1,23 +1,23 @@
 -- Each turn delivers one pair more; the layer and the prices of the pairs to come are kept. Assumes nothing.
 use Prim.Native.Nat.{suc, _+_, _*_, _-_, _≤_}
 use mathlib.Core.Path.{_≡_, sym, ap₂}
+use lib.Dec.{eqb}
 use mathlib.Core.Bool.{cond}
 use native.Mathlib.Omega.{arith}
-use lib.Dec.{eqb}
-use borrow.Author.Needs.{needs}
 use Rattle.model.specs.Steps.{offset}
 use Rattle.lanes.specs.Store.{Frame, Filled}
 use Rattle.lanes.specs.Laws.{frame-refl, frame-join, filled-none, filled-more}
 use Rattle.stretch.specs.Runs.{delivered}
+use borrow.Author.Needs.{needs}
 use Rattle.stretch.proofs.deliver.Statement.{statement}
 use Rattle.stretch.proofs.deliver.Tie as tie
 
 abbrev Inv-loop : tie.InvT-loop
-Inv-loop store₀ pairs r count i tall from prices q₀ store q =
-    (q ≤ count) × Filled (delivered r i tall store₀ from prices) 64 64 prices q store₀ store × Frame prices (prices + q * 4096) store₀ store
+Inv-loop store₀ pairs poses r count lanes i tall from prices q₀ store q =
+    (q ≤ count) × Filled (delivered r i tall store₀ from prices) lanes poses prices q store₀ store × Frame prices (prices + q * 4096) store₀ store
 
 abbrev μ-loop : tie.MeasureT-loop
-μ-loop store₀ pairs r count i tall from prices q₀ store q =
+μ-loop store₀ pairs poses r count lanes i tall from prices q₀ store q =
     count - q
 
 loop-holds : tie.Need-loop-holds Inv-loop μ-loop
@@ -28,7 +28,7 @@ deliver-pair-requires : tie.Need-deliver-pair-requires Inv-loop μ-loop
 deliver-pair-requires c κs =
     let k = c .before .before .before .before .before in
     let l = c .before .before .loop in
-    (k .pre .0, l .inv .1 .low, record { over = k .pre .2 .over; room = omega (arith, k .pre .2 .room, l .inv .2 .long) }, omega (arith, k .pre .3), k .pre .4, k .pre .5, k .pre .6)
+    (k .pre .0, l .inv .1 .low, record { over = k .pre .2 .over; room = omega (arith, k .pre .2 .room, l .inv .2 .long) }, omega (arith, k .pre .3), k .pre .4, k .pre .5, k .pre .6, k .pre .7, k .pre .8)
 
 add-q : tie.Need-add-q Inv-loop μ-loop
 add-q c = search needs
@@ -44,10 +44,10 @@ loop-again c =
     let w = c .before .before .deliver-pair .ensures in
     let f = l .inv .2 in (
       omega arith,
-      filled-more (l .q) (omega arith) (omega arith) (omega (arith, k .pre .3, k .pre .0 .few)) (l .inv .1) w
+      filled-more (l .q) (k .pre .5) (omega arith) (omega (arith, k .pre .3, k .pre .0 .few)) (l .inv .1) w
           (λ b j x y.
           ap₂ (cond (eqb (a .i + offset (a .r) (l .q)) (a .tall + suc (a .r))))
-          (sym (f .low (a .from + l .q * 4096 + b * 64 + j) (omega (arith, k .pre .2 .over, k .pre .3, k .pre .0 .few, k .pre .6))))
+          (sym (f .low (a .from + l .q * 4096 + b * 64 + j) (omega (arith, k .pre .2 .over, k .pre .3, k .pre .0 .few, k .pre .8))))
           (sym (f .high (a .prices + l .q * 4096 + b * 64 + j) (omega arith)))),
       frame-join (a .prices) (a .prices + (l .q + 1) * 4096) f (w .frame) (omega arith) (omega arith) (omega arith) (omega arith),
     )

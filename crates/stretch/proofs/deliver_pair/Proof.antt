@@ -2,10 +2,10 @@
 use Prim.Native.Nat.{suc, _+_}
 use mathlib.Core.Path.{_≡_, sym}
 use native.Mathlib.Omega.{arith}
-use borrow.Author.Needs.{needs}
 use Rattle.model.specs.Steps.{offset}
-use Rattle.lanes.specs.Laws.{frame-refl}
-use Rattle.stretch.specs.Laws.{delivered-skip, delivered-take, pair-copied}
+use Rattle.lanes.specs.Laws.{frame-refl, pair-rows}
+use Rattle.stretch.specs.Laws.{delivered-skip, delivered-take}
+use borrow.Author.Needs.{needs}
 use Rattle.stretch.proofs.deliver_pair.Statement.{statement}
 use Rattle.stretch.proofs.deliver_pair.Tie as tie
 
@@ -37,22 +37,20 @@ returns c =
       right = λ b x l y. sym (delivered-skip (a .r) (a .i) (a .tall) (a .store .now) (a .from) (a .prices) l (a .q) b e);
     }
 
-mul-copy : tie.Need-mul-copy
-mul-copy c = search needs
+mul-copy-rows : tie.Need-mul-copy-rows
+mul-copy-rows c = search needs
 
-add-copy : tie.Need-add-copy
-add-copy c = search needs
+add-copy-rows : tie.Need-add-copy-rows
+add-copy-rows c = search needs
 
-mul-copy-2 : tie.Need-mul-copy-2
-mul-copy-2 c = search needs
+mul-copy-rows-2 : tie.Need-mul-copy-rows-2
+mul-copy-rows-2 c = search needs
 
-add-copy-2 : tie.Need-add-copy-2
-add-copy-2 c = search needs
+add-copy-rows-2 : tie.Need-add-copy-rows-2
+add-copy-rows-2 c = search needs
 
-copy-requires : tie.Need-copy-requires
-copy-requires c κs =
-    let k = c .before .before .before .before .before in
-    (omega (arith, k .pre .2 .room, k .pre .0 .few, k .pre .3), omega (arith, k .pre .2 .over, k .pre .6), k .pre .1)
+copy-rows-requires : tie.Need-copy-rows-requires
+copy-rows-requires c κs = search needs
 
 same-length : tie.Need-same-length
 same-length c = search needs
@@ -62,7 +60,7 @@ returns-2 c =
     let k = c .before .before .before .before .before .before .before .before in
     let a = k .args in
     let e : a .i + offset (a .r) (a .q) ≡ a .tall + suc (a .r) = omega (arith, c .before .before .before .before .if1 .left, c .before .before .before .before .before .word .ensures, k .pre .0 .digit (a .q) (k .pre .3)) in
-    pair-copied (a .store .now) (a .from) (c .before .before .copy .ensures) (λ b l. delivered-take (a .r) (a .i) (a .tall) (a .store .now) (a .from) (a .prices) l (a .q) b e)
+    pair-rows (omega arith) (c .before .before .copy-rows .ensures) (λ b l x y. delivered-take (a .r) (a .i) (a .tall) (a .store .now) (a .from) (a .prices) l (a .q) b e)
 
 pub deliver-pair-spec : {M : Type 1} → statement M
 deliver-pair-spec =
@@ -74,10 +72,10 @@ deliver-pair-spec =
     add-if1-2
     add-if1-3
     returns
-    mul-copy
-    add-copy
-    mul-copy-2
-    add-copy-2
-    copy-requires
+    mul-copy-rows
+    add-copy-rows
+    mul-copy-rows-2
+    add-copy-rows-2
+    copy-rows-requires
     same-length
     returns-2)
