@@ -120,7 +120,7 @@ ran-more c r f =
 -- the same price in every lane
 pub end-always :
     {D : Deck} {R lanes i prices x : ℕ} {old new : List ℕ}
-    → lanes ≤ 60 → Written (always x) prices lanes old new → ((f : Layer) → priceEnd D R f i ≡ x)
+    → lanes ≤ 64 → Written (always x) prices lanes old new → ((f : Layer) → priceEnd D R f i ≡ x)
     → EndLanes D R lanes i prices old new
 end-always {old = old} n w e =
     record {

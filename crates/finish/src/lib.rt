@@ -25,10 +25,12 @@ fn run_on(
     requires { ⌜ Given (now line) (now pairs) (now store) n poses r count lanes i 0 × (98304 ≤ length (now store)) × (i ≤ n) ⌝ }
     ensures { λ at. ⌜ Ran (deckOf (now (line .entry)) n poses) r lanes i (n - i) at (now (store .entry)) (now (store .exit)) ⌝ }
 {
+    let mut table = [0u32; 6080];
     let mut from: usize = 0;
     let mut d: usize = 0;
     while i + d < n {
         layer::step_layer(
+            &mut table,
             store,
             line,
             pairs,
@@ -61,7 +63,7 @@ fn ends_with(line: &[u32], pairs: &[u32], n: usize, r: usize, q: usize) -> bool
 
 // The least of all poses of pair q, in each lane.
 fn least_poses(acc: &mut [u32; 64], store: &[u32], at: usize, q: usize, poses: usize, lanes: usize)
-    requires { ⌜ Low (now store) × Low (now acc) × (length (now acc) ≡ 64) × (at + 49152 ≤ length (now store)) × (q < 12) × (poses ≤ 60) × (lanes ≤ 60) ⌝ }
+    requires { ⌜ Low (now store) × Low (now acc) × (length (now acc) ≡ 64) × (at + 49152 ≤ length (now store)) × (q < 12) × (poses ≤ 60) × (lanes ≤ 64) ⌝ }
     ensures { λ _. ⌜ Lowered (leastPosesIn (now (store .entry)) at q poses) lanes (now (acc .entry)) (now (acc .exit)) ⌝ }
 {
     let mut a: usize = 0;

@@ -54,11 +54,25 @@ fn stretch_on(
     requires { ⌜ Stretch (now line) (now pairs) (now store) n poses r count i end × KeptLayers (deckOf (now line) n poses) r (layerIn (now store) 0 0) i i (now store) ⌝ }
     ensures { λ _. ⌜ StretchKept (deckOf (now (line .entry)) n poses) r i end (now (store .entry)) (now (store .exit)) ⌝ }
 {
+    let mut table = [0u32; 6080];
     let mut j: usize = 0;
     let mut from: usize = 0;
     while i + j < end {
         let to = 49152 - from;
-        layer::step_layer(store, line, pairs, n, poses, r, count, 1, i + j, from, to);
+        layer::step_layer(
+            &mut table,
+            store,
+            line,
+            pairs,
+            n,
+            poses,
+            r,
+            count,
+            1,
+            i + j,
+            from,
+            to,
+        );
         j += 1;
         keep_layer(store, to, i + j, poses, count);
         from = to;

@@ -3,21 +3,23 @@ use Prim.Native.Nat.{_+_, _-_, _≤_}
 use mathlib.Core.Path.{_≡_, refl}
 use native.Mathlib.Omega.{arith}
 use lib.ListN.{length}
-use borrow.Author.Needs.{needs}
 use Rattle.lanes.specs.Laws.{frame-refl}
 use Rattle.deck.specs.Words.{deckOf}
+use Rattle.near.specs.Table.{Lent}
+use Rattle.near.specs.TableLaws.{lent-zeros}
 use Rattle.stretch.specs.Laws.{given-small, buffer-low, buffer-beside, run-none}
 use Rattle.finish.specs.Ends.{Ran}
 use Rattle.finish.specs.Laws.{ran-more}
+use borrow.Author.Needs.{needs}
 use Rattle.finish.proofs.run_on.Statement.{statement}
 use Rattle.finish.proofs.run_on.Tie as tie
 
 abbrev Inv-loop : tie.InvT-loop
-Inv-loop store₀ line pairs n poses r count lanes i from₀ d₀ store from d =
-    (i + d ≤ n) × Ran (deckOf line n poses) r lanes i d from store₀ store
+Inv-loop store₀ line pairs n poses r count lanes i table₀ from₀ d₀ store table from d =
+    (i + d ≤ n) × Ran (deckOf line n poses) r lanes i d from store₀ store × Lent table
 
 abbrev μ-loop : tie.MeasureT-loop
-μ-loop store₀ line pairs n poses r count lanes i from₀ d₀ store from d =
+μ-loop store₀ line pairs n poses r count lanes i table₀ from₀ d₀ store table from d =
     n - (i + d)
 
 loop-holds : tie.Need-loop-holds Inv-loop μ-loop
@@ -30,6 +32,7 @@ loop-holds c =
         frame = frame-refl _ _ _;
         low = k .pre .0 .low;
       },
+      lent-zeros,
     )
 
 add-loop : tie.Need-add-loop Inv-loop μ-loop
@@ -40,21 +43,21 @@ add-step-layer c = search needs
 
 sub-step-layer : tie.Need-sub-step-layer Inv-loop μ-loop
 sub-step-layer c =
-    omega (arith, buffer-low (c .before .before .loop .inv .1 .running .buffer))
+    omega (arith, buffer-low (c .before .before .before .loop .inv .1 .running .buffer))
 
 step-layer-requires : tie.Need-step-layer-requires Inv-loop μ-loop
 step-layer-requires c κs =
-    let k = c .before .before .before .before .before .before in
+    let k = c .before .before .before .before .before .before .before in
     let g = k .pre .0 in
-    let l = c .before .before .loop in
+    let l = c .before .before .before .loop in
     let v = l .inv .1 in
     let b = buffer-low (v .running .buffer) in
     let n : 98304 ≤ length (l .store) = omega (arith, v .frame .long, k .pre .1) in
-    (record { ground = g .ground; low = v .low; narrow = g .narrow; early = omega (arith, l .inv .0, g .ground .size); room = omega arith }, buffer-beside (v .running .buffer) n)
+    (l .inv .2, record { ground = g .ground; low = v .low; narrow = g .narrow; early = omega (arith, l .inv .0, g .ground .size); room = omega arith }, buffer-beside (v .running .buffer) n)
 
 sub-from : tie.Need-sub-from Inv-loop μ-loop
 sub-from c =
-    omega (arith, buffer-low (c .before .before .before .before .before .loop .inv .1 .running .buffer))
+    omega (arith, buffer-low (c .before .before .before .before .before .before .loop .inv .1 .running .buffer))
 
 add-d : tie.Need-add-d Inv-loop μ-loop
 add-d c = search needs
@@ -64,7 +67,7 @@ loop-less c = search needs
 
 loop-again : tie.Need-loop-again Inv-loop μ-loop
 loop-again c =
-    (omega arith, ran-more (c .before .before .before .before .before .before .before .before .before .pre .0 .ground .all) (c .before .before .before .before .before .loop .inv .1) (c .before .before .step-layer .ensures))
+    (omega arith, ran-more (c .before .before .before .before .before .before .before .before .before .before .pre .0 .ground .all) (c .before .before .before .before .before .before .loop .inv .1) (c .before .before .step-layer .ensures .0), c .before .before .step-layer .ensures .1)
 
 same-length : tie.Need-same-length Inv-loop μ-loop
 same-length c =

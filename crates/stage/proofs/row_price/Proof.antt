@@ -49,7 +49,7 @@ first-layer-requires c κs =
     let s = start-pair (k .args .talls) (k .args .i) (k .args .count) (k .args .s) (k .pre .4) (c .before .before .before .if1 .left) (k .pre .3) in
     let p = start-place (k .args .i) (c .before .before .word .result) (k .pre .0) (c .before .before .before .if1 .left) (k .pre .3) (c .before .before .word .ensures) in
     let r = k .pre .2 in (
-      record { ground = g; low = k .pre .1; narrow = g .few; early = omega (arith, c .before .placed-with .ensures, g .coded .reorder); room = omega (arith, r .over, r .room) },
+      record { ground = g; low = k .pre .1; narrow = omega (arith, g .few); early = omega (arith, c .before .placed-with .ensures, g .coded .reorder); room = omega (arith, r .over, r .room) },
       p,
       omega (arith, g .few),
       s,
@@ -69,7 +69,7 @@ stage-end-requires-2 c κs =
     let f = c .before .before .before .first-layer .ensures in
     let r = k .pre .2 in (
       k .pre .0,
-      record { ground = g; low = f .low; narrow = g .few; early = omega (arith, c .before .before .before .before .before .placed-with .ensures, g .coded .reorder); room = omega (arith, r .over, r .room, f .frame .long) },
+      record { ground = g; low = f .low; narrow = omega (arith, g .few); early = omega (arith, c .before .before .before .before .before .placed-with .ensures, g .coded .reorder); room = omega (arith, r .over, r .room, f .frame .long) },
       record { over = r .over; room = omega (arith, r .room, f .frame .long) },
     )
 
