@@ -1,16 +1,16 @@
 -- The start of a stretch in a table of planes: each lane has one pose to start with, which costs nothing. Assumes nothing.
-use Prim.Native.Nat.{ℕ, zero, suc, _+_, _*_, _≤_, _<_, min}
+use Prim.Native.Nat.{ℕ, _+_, _*_, _≤_, _<_, min}
 use mathlib.Core.Path.{_≡_, refl, _∙_}
 use mathlib.Core.Logic.{_≢_, _⊎_, inl, inr}
 use mathlib.Core.Bool.{Bool, true, false, cond}
-use mathlib.Core.List.{List, [], _∷_}
+use mathlib.Core.List.{List}
 use native.Mathlib.Omega.{arith}
 use native.Mathlib.Decide.{ℕ-discrete, decLt}
-use lib.ListN.{length, getD}
+use lib.ListN.{length}
 use lib.Dec.{eqb}
 use Rattle.model.specs.Steps.{B}
 use Rattle.lanes.specs.Store.{Low}
-use Rattle.deck.specs.Words.{wordOf, tollIn, LineWords}
+use Rattle.deck.specs.Words.{wordOf, LineWords}
 use Rattle.near.specs.Rows.{inRow, found, endRow, payIn, onePose}
 use Rattle.near.specs.Laws.{row-miss, pay-small, found-one}
 use Rattle.near.specs.Table.{wordAt, Spread, Gathered, Ready, foundRow}

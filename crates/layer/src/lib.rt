@@ -105,12 +105,12 @@ fn has_source(
     requires { ⌜ LineWords (now line) × (n ≤ 64) × PairWords r (now pairs) × (q < pairCount r) × (count ≤ pairCount r) × (i ≤ 100) ⌝ }
     ensures { λ some. ⌜ (some ≡ false → (p : ℕ) → p < count → isSource (deckOf (now (line .entry)) n 0) r i q p ≡ false) ⌝ }
 {
-    let mut p: usize = 0;
-    while p < count {
-        if deck::is_source(line, pairs, n, r, i, q, p) {
+    let mut s: usize = 0;
+    while s < count {
+        if deck::is_source(line, pairs, n, r, i, q, s) {
             return true;
         }
-        p += 1;
+        s += 1;
     }
     false
 }

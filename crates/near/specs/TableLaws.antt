@@ -89,7 +89,7 @@ cleared-more {rows} {lanes} {new = new} v h n c w =
       none = λ l u t i j k.
           below-more (λ (u : ℕ). wordAt new l u t ≡ B) v
           (λ u j. w .frame .low (u * 1216 + t * 64 + l) (omega arith) ∙ c .none l u t i j k)
-          (w .words t l k i)
+          (w .words t l (omega arith) i)
           u j;
     }
 
@@ -351,7 +351,7 @@ module _
   where
     -- it has the planes
     planes : (l v t : ℕ) → l < lanes → v < 5 → t < rowsOf poses → 4 ≤ v + 4 * t → wordAt table l v t ≡ plane l v t
-    planes l v t i j k g = omega (arith, w .done l v t i j k g, none .none l v t i j k, low l v t)
+    planes l v t i j k g = omega (arith, w .done l v t i j k g, none .none l v t i j (omega arith), low l v t)
 
     -- and once plane 4 ran up, what is found in them
     pub ready : {table′ : List ℕ} → RunUp 15 lanes table table′ → Ready plane poses lanes table′
@@ -374,5 +374,5 @@ module _
         found-ext (plane l) (λ v t. B) a {rows = rowsOf poses} (omega arith)
         (λ v t j k g.
         let z : wordAt table l v t ≡ wordAt clear l v t = ap (λ (s : List ℕ). wordAt s l v t) e in
-        omega (arith, planes l v t i j k g, none .none l v t i j k))
+        omega (arith, planes l v t i j k g, none .none l v t i j (omega arith)))
         ∙ found-none a

@@ -4,7 +4,7 @@
 ghost use mathlib.Core.Path.{_≡_};
 ghost use mathlib.Core.Bool.{Bool, false};
 ghost use Prim.Native.Nat.{ℕ, suc, _+_, _*_, _≤_, _<_};
-ghost use lib.ListN.{length, getD};
+ghost use lib.ListN.{length};
 ghost use Rattle.model.specs.Steps.{B};
 ghost use Rattle.lanes.specs.Lanes.{charged, always, wordsFrom};
 ghost use Rattle.lanes.specs.Store.{Low, Written, FilledPair};

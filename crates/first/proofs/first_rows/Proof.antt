@@ -1,5 +1,4 @@
 -- Each lane of a cleared table has its start, and each pose finds there what it pays after it. Assumes nothing.
-use Prim.Native.Nat.{_≤_}
 use native.Mathlib.Omega.{arith}
 use Rattle.near.specs.Rows.{rowsOf}
 use Rattle.lanes.specs.Laws.{pair-ext}

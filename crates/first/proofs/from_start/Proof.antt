@@ -1,6 +1,4 @@
 -- A start that ends right of all rows that count is in none; another one is spread over the planes of its lane. Assumes nothing.
-use Prim.Native.Nat.{_+_, _%_}
-use mathlib.Core.Path.{_≡_}
 use native.Mathlib.Omega.{arith}
 use Rattle.near.specs.TableLaws.{pays-low, pose-spread}
 use Rattle.first.specs.Starts.{started-out, started-in}

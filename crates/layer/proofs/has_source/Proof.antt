@@ -1,7 +1,7 @@
--- After p turns no pair below p is a source. Assumes nothing.
+-- After s turns no pair below s is a source. Assumes nothing.
 use Prim.Native.Nat.{ℕ, _-_, _≤_, _<_}
 use mathlib.Core.Path.{_≡_, sym, _∙_}
-use mathlib.Core.Bool.{true, false}
+use mathlib.Core.Bool.{false}
 use native.Mathlib.Omega.{arith}
 use borrow.Author.Count.{below-more}
 use Rattle.model.specs.Steps.{isSource}
@@ -11,12 +11,12 @@ use Rattle.layer.proofs.has_source.Statement.{statement}
 use Rattle.layer.proofs.has_source.Tie as tie
 
 abbrev Inv-loop : tie.InvT-loop
-Inv-loop line pairs n r count i q p₀ p =
-    (p ≤ count) × ((j : ℕ) → j < p → isSource (deckOf line n 0) r i q j ≡ false)
+Inv-loop line pairs n r count i q s₀ s =
+    (s ≤ count) × ((j : ℕ) → j < s → isSource (deckOf line n 0) r i q j ≡ false)
 
 abbrev μ-loop : tie.MeasureT-loop
-μ-loop line pairs n r count i q p₀ p =
-    count - p
+μ-loop line pairs n r count i q s₀ s =
+    count - s
 
 loop-holds : tie.Need-loop-holds Inv-loop μ-loop
 loop-holds c =
@@ -29,8 +29,8 @@ returns : tie.Need-returns Inv-loop μ-loop
 returns c =
     λ e. absurd (let z : _≡_ {A = ℕ} 0 1 = cc in omega arith)
 
-add-p : tie.Need-add-p Inv-loop μ-loop
-add-p c = search needs
+add-s : tie.Need-add-s Inv-loop μ-loop
+add-s c = search needs
 
 loop-less : tie.Need-loop-less Inv-loop μ-loop
 loop-less c = search needs
@@ -40,7 +40,7 @@ loop-again c =
     let a = c .before .before .before .before .before .before .args in
     let l = c .before .before .before .loop in (
       omega arith,
-      below-more (λ (j : ℕ). isSource (deckOf (a .line .now) (a .n) 0) (a .r) (a .i) (a .q) j ≡ false) (l .p) (l .inv .1) (sym (c .before .is-source .ensures) ∙ c .if1 .left),
+      below-more (λ (j : ℕ). isSource (deckOf (a .line .now) (a .n) 0) (a .r) (a .i) (a .q) j ≡ false) (l .s) (l .inv .1) (sym (c .before .is-source .ensures) ∙ c .if1 .left),
     )
 
 returns-2 : tie.Need-returns-2 Inv-loop μ-loop
@@ -56,7 +56,7 @@ has-source-spec =
     loop-holds
     is-source-requires
     returns
-    add-p
+    add-s
     loop-less
     loop-again
     returns-2)

@@ -1,7 +1,7 @@
 -- Without a source nothing leads to the pair. Else the sources are gathered into a cleared table; if none lowered it, nothing leads to the pair; else
 -- each pose finds there what it can be reached for. Assumes nothing.
-use Prim.Native.Nat.{ℕ, suc, _≤_, _<_}
-use mathlib.Core.Path.{_≡_, sym, ap, _∙_}
+use Prim.Native.Nat.{ℕ, suc, _≤_}
+use mathlib.Core.Path.{_≡_, _∙_}
 use native.Mathlib.Omega.{arith}
 use borrow.Author.Tests.{not-true}
 use Rattle.model.specs.Steps.{B, lastAt}

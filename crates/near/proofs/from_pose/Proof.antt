@@ -1,10 +1,9 @@
 -- A source that ends right of all rows that count, or whose lanes are all NONE, lowers nothing; another one is spread over the planes. Assumes nothing.
-use Prim.Native.Nat.{ℕ, _+_, _*_, _%_, _≤_}
+use Prim.Native.Nat.{ℕ, _+_, _*_}
 use mathlib.Core.Path.{_≡_, refl}
 use native.Mathlib.Omega.{arith}
 use lib.ListN.{getD}
 use Rattle.near.specs.Rows.{endRow, payIn}
-use Rattle.near.specs.Table.{Source}
 use Rattle.near.specs.Laws.{row-miss, row-above}
 use Rattle.near.specs.TableLaws.{pays-low, pose-spread, spread-all, gathered-none}
 use borrow.Author.Needs.{needs}

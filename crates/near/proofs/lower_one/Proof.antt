@@ -1,5 +1,4 @@
 -- The word is the lesser of itself and x. Assumes nothing.
-use Prim.Native.Nat.{_≤_}
 use native.Mathlib.Omega.{arith}
 use Rattle.lanes.specs.Lanes.{always}
 use Rattle.near.specs.TableLaws.{lowered-at-one}
