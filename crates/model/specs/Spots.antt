@@ -3,7 +3,7 @@
 use mathlib.Core.Path.{_≡_, refl, sym, ap, ap₂, _∙_, subst}
 use mathlib.Core.List.{List, List·Memᴰ as In, Memᴰ·map, Memᴰ·of-map}
 use mathlib.Core.Option.{some}
-use mathlib.Core.Bool.{Bool, true, false, _&&_, cond}
+use mathlib.Core.Bool.{Bool, true, false, _&&_, cond, true≢false}
 use Prim.Native.Nat.{ℕ, suc, _+_, _-_, min, _≤_, _<_}
 use native.Mathlib.Omega.{arith}
 use lib.Dec.{leb, ltb, eqb}
@@ -12,7 +12,7 @@ use Rattle.rows.specs.Lists.{from, in-from, from-in, Eq?, same, differs, eq?}
 use Rattle.rows.specs.Window.{start, step, May, Good, good-start}
 use Rattle.pair.specs.Forward.{layer, layer-met}
 use Rattle.pair.specs.Pick.{pick, pick-in, in-pick}
-use Rattle.pair.specs.Stretch.{Line, State, singles, FitsTo, fitsTo?, Into, into?, tollTo, Move, move, move-met, first, after, goes-good, stretch-list}
+use Rattle.pair.specs.Stretch.{Line, State, singles, FitsTo, fitsTo?, Into, into?, tollTo, Move, move, move-met, first, last, after, goes-good, stretch-list}
 use Rattle.pair.specs.Coded.{coded, coded-some}
 use Rattle.pair.specs.Loops.{entry}
 use Rattle.model.specs.Steps.{B, Deck, pairCount, offset, marks, marksBefore, before, lastAt, isThere}
@@ -86,6 +86,13 @@ module _ {A : Type 0} (R : ℕ) (siteOf : A → ℕ) (L : Line A) where
   pub move-no : (u t : State A) → ¬ Into R siteOf L u (t .0) (t .1) (t .2) → coded B (move R siteOf L u t) ≡ B
   unfolding move
   move-no u t h = price-no B (tollTo R siteOf L u (t .2)) (into? R siteOf L u (t .0) (t .1) (t .2)) h
+
+  -- e is the price of ending the row at s, once all its cells are placed there
+  abbrev pub EndPrice : State A → ℕ → Type 0
+  EndPrice s e = s .0 ≡ L .size → coded B (move R siteOf L s (last R siteOf L)) ≡ e
+
+  pub open-end : EndPrice (first R siteOf L) 0
+  open-end z = let x = move-yes (first R siteOf L) (last R siteOf L) ((z, tt), (ap suc (sym z), refl)) in omega arith
 
   -- a state with a price is where a move from good marks leads
   pub entry-move : (s : State A) → Good R (s .1) → (j : ℕ) (t : State A) → entry B R siteOf L s j t < B → (u : State A) × Good R (u .1) × Into R siteOf L u (t .0) (t .1) (t .2)
@@ -199,16 +206,45 @@ module _ {A : Type 0} (R : ℕ) (siteOf : A → ℕ) (L : Line A) (D : Deck) (po
         go false (differs n) d = move-no R siteOf L u (stateOf R pose (suc i) q a) (λ v. n (into-marks u q a p g (pose to a) v))
 
   pub open-code : (q a : ℕ) → Spot D R offered 1 q a
-      → coded B (move R siteOf L (first R siteOf L) (stateOf R pose 1 q a)) ≡ cond (eqb (start R) (before R q)) (D .own (lastAt R 1 q) a) B
-  open-code q a p = go (eqb (start R) (before R q)) (eq? (start R) (before R q))
+      → coded B (move R siteOf L (first R siteOf L) (stateOf R pose 1 q a)) ≡ cond (eqb (start R) (before R q)) (min (D .own (lastAt R 1 q) a + D .front (lastAt R 1 q) a) B) B
+  open-code q a p = go (eqb (start R) (before R q)) (eq? (start R) (before R q)) (L .opens k (pose k a)) refl
     where
       u : State A
       u = first R siteOf L
 
-      go : (t : Bool) → Eq? (start R) (before R q) t → coded B (move R siteOf L u (stateOf R pose 1 q a)) ≡ cond t (D .own (lastAt R 1 q) a) B
-      go true (same e) =
+      k : ℕ
+      k = lastAt R 1 q
+
+      front : (o : Bool) → L .opens k (pose k a) ≡ o → D .front k a ≡ cond o 0 B
+      front o e =
+          let h = p .inside in
+          let size = M .size in
+          M .front k a (omega arith) (p .pose) (p .offer) ∙ ap (λ o. cond o 0 B) e
+
+      go : (t : Bool) → Eq? (start R) (before R q) t → (o : Bool) → L .opens k (pose k a) ≡ o
+          → coded B (move R siteOf L u (stateOf R pose 1 q a)) ≡ cond t (min (D .own k a + D .front k a) B) B
+      go true (same e) true f =
           let w = own-at u q a p in
-          let c = M .cheap (lastAt R 1 q) a in
-          let x = move-yes R siteOf L u (stateOf R pose 1 q a) (into-yes u q a p e tt) in
+          let z = front true f in
+          let x = move-yes R siteOf L u (stateOf R pose 1 q a) (into-yes u q a p e f) in
           omega arith
-      go false (differs n) = move-no R siteOf L u (stateOf R pose 1 q a) (λ v. n (into-marks u q a p (good-start R) (pose (lastAt R 1 q) a) v))
+      go true (same e) false f =
+          let z = front false f in
+          let x = move-no R siteOf L u (stateOf R pose 1 q a) (λ v. true≢false (sym (v .0 .1) ∙ f)) in
+          omega arith
+      go false (differs n) o f = move-no R siteOf L u (stateOf R pose 1 q a) (λ v. n (into-marks u q a p (good-start R) (pose (lastAt R 1 q) a) v))
+
+  pub end-code : (i m k b : ℕ) → k < L .size → b < D .poses → offered k b ≡ true → EndPrice R siteOf L (i, m, some (k, pose k b)) (D .back k b)
+  end-code i m k b h l o z = go (L .closes k (pose k b)) refl
+    where
+      u : State A
+      u = (i, m, some (k, pose k b))
+
+      go : (c : Bool) → L .closes k (pose k b) ≡ c → coded B (move R siteOf L u (last R siteOf L)) ≡ D .back k b
+      go true f =
+          let y = M .back k b h l o ∙ ap (λ c. cond c 0 B) f in
+          let x = move-yes R siteOf L u (last R siteOf L) ((z, f), (ap suc (sym z), refl)) in
+          omega arith
+      go false f =
+          let y = M .back k b h l o ∙ ap (λ c. cond c 0 B) f in
+          move-no R siteOf L u (last R siteOf L) (λ v. true≢false (sym (v .0 .1) ∙ f)) ∙ sym y
