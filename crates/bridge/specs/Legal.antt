@@ -83,7 +83,7 @@ module _ (j : Job) (sound : Sound j) (P : Placement) (f : ℕ → Pose) (g : Giv
           ))))
 
   -- no rule speaks of the row's ends, and each is allowed
-  pub row-ended : (s : Side) → RowEnded siteOf (pairJob j) f s
+  row-ended : (s : Side) → RowEnded siteOf (pairJob j) f s
   row-ended s = free-ends (λ k. opensOf j k (f k)) (λ k. closesOf j k (f k)) (λ k. end-allowed _) (λ k. end-allowed _) (rowOrder siteOf (pairJob j) f s)
 
   pub legal-pair : length P ≡ length (j .cells) → Legal j P ↔ LegalPair (j .header .reordering) siteOf (pairJob j) f

@@ -56,8 +56,8 @@ offersOf j k = map (poseNumber j k) (pick (isOffered j k) (from 0 (poseNumbers j
 
 -- ---- what the row's ends allow
 
--- how many sites may be empty between a row's end and the cell nearest to it: any number. A rule of row ends changes this line, and `end-allowed` and
--- `row-ended` in Legal.antt, which is all that is asked of it.
+-- how many sites may be empty between a row's end and the cell nearest to it: any number. A rule of row ends changes this line, and its laws
+-- `end-allowed` and `row-ended` in Legal.antt.
 unfoldable pub endAllowed : ℕ → Bool
 endAllowed gap = true
 
