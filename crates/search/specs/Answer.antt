@@ -1,5 +1,5 @@
 -- From the stages and the trace to the answer: the least cost, and the placement that both paths note. Assumes nothing.
-use Prim.Native.Nat.{ℕ, zero, suc, _+_, _*_, _≤_, _<_}
+use Prim.Native.Nat.{ℕ, suc, _+_, _*_, _≤_, _<_}
 use mathlib.Core.Path.{_≡_, refl, sym, ap, _∙_, subst}
 use mathlib.Core.Option.{some}
 use mathlib.Core.List.{List}

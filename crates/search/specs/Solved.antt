@@ -11,7 +11,6 @@ use Rattle.definition.specs.Sound.{Sound}
 use Rattle.job.specs.declared.Job.{Job}
 use Rattle.job.specs.Value.{jobOf}
 use Rattle.model.specs.Steps.{B}
-use Rattle.bridge.specs.Paired.{poseNumbers}
 use Rattle.claim.specs.Claim.{placementByNumbers}
 
 -- an accepted job, and a store that is large enough, whatever its words
