@@ -1,57 +1,42 @@
--- Each turn writes one row of cases more. Assumes nothing.
-use Prim.Native.Nat.{_+_, _*_, _-_, _≤_}
-use mathlib.Core.Path.{_≡_}
-use Rattle.join.specs.Tables.{Part}
-use Rattle.join.specs.Parts.{part-none, table-part, part-then, part-wide, part-fewer}
-use native.Mathlib.Omega.{arith}
-use borrow.Author.Needs.{needs}
 use Rattle.join.proofs.case_block.Statement.{statement}
 use Rattle.join.proofs.case_block.Tie as tie
+use Rattle.join.proofs.case_block.Reads as reads
+use Rattle.join.proofs.case_block.Lts as lts
+use Rattle.join.proofs.case_pose.Reads as case-pose-reads
 
 abbrev Inv-loop : tie.InvT-loop
-Inv-loop store₀ i starts lanes q0 ends poses q1₀ store q1 =
-    (q1 ≤ ends) × Part starts lanes ends poses i (q0 * 768) (q0 * 768 + q1 * 64) store₀ store
+Inv-loop store₀ sums₀ i starts lanes q0 ends poses a₀ store sums a = ?
 
 abbrev μ-loop : tie.MeasureT-loop
-μ-loop store₀ i starts lanes q0 ends poses q1₀ store q1 = ends - q1
+μ-loop store₀ sums₀ i starts lanes q0 ends poses a₀ store sums a = ?
 
+-- src/lib.rt:321:5
 loop-holds : tie.Need-loop-holds Inv-loop μ-loop
-loop-holds c =
-    (omega arith, part-none _ _ _ _ _ _ _ (c .before .pre .0 .low) (omega arith))
+loop-holds c = ?
 
-case-row-requires : tie.Need-case-row-requires Inv-loop μ-loop
-case-row-requires c κs =
-    let k = c .before .before .before .before in
-    (table-part _ _ _ _ _ (k .pre .0) (c .before .before .loop .inv .1), omega arith, omega arith, omega arith)
+-- src/lib.rt:322:9
+case-pose-requires : tie.Need-case-pose-requires Inv-loop μ-loop
+case-pose-requires c κs = ?
 
-add-q1 : tie.Need-add-q1 Inv-loop μ-loop
-add-q1 c = search needs
+-- src/lib.rt:323:9
+add-a : tie.Need-add-a Inv-loop μ-loop
+add-a c = ?
 
+-- src/lib.rt:321:5
 loop-less : tie.Need-loop-less Inv-loop μ-loop
-loop-less c = search needs
+loop-less c = ?
 
+-- src/lib.rt:321:5
 loop-again : tie.Need-loop-again Inv-loop μ-loop
-loop-again c =
-    let k = c .before .before .before .before .before .before .before in
-    let a = k .args in
-    let l = c .before .before .before .before .before .loop in
-    let b = a .q0 * 768 in
-    let one = part-fewer (a .starts) (a .lanes) (a .ends) (a .poses) (a .i) (c .before .before .case-row .ensures) (λ o h g. (omega arith, omega arith)) in (
-      omega arith,
-      part-then _ _ _ _ _ b (b + l .q1 * 64) (b + l .q1 * 64) (b + l .q1 * 64 + 64) (b + (l .q1 + 1) * 64) (k .pre .0) (l .inv .1) one
-          (omega arith) (omega arith) (omega arith) (omega arith) (omega arith) (λ o h g j m. omega arith),
-    )
+loop-again c = ?
 
+-- src/lib.rt:307:1
 same-length : tie.Need-same-length Inv-loop μ-loop
-same-length c = c .before .loop .inv .1 .long
+same-length c = ?
 
+-- src/lib.rt:307:1
 returns : tie.Need-returns Inv-loop μ-loop
-returns c =
-    let k = c .before .before .before in
-    let a = k .args in
-    let b = a .q0 * 768 in
-    let e : c .before .loop .q1 ≡ a .ends = omega arith in
-    part-wide _ _ _ _ _ b (b + c .before .loop .q1 * 64) (b + 768) (k .pre .0) (c .before .loop .inv .1) (omega arith) (omega arith) (omega arith) (λ o h g j m. omega arith)
+returns c = ?
 
 pub case-block-spec : {M : Type 1} → statement M
 case-block-spec =
@@ -60,8 +45,8 @@ case-block-spec =
     Inv-loop
     μ-loop
     loop-holds
-    case-row-requires
-    add-q1
+    case-pose-requires
+    add-a
     loop-less
     loop-again
     same-length
