@@ -101,35 +101,35 @@ module _ (starts lanes I : ℕ) where
       (either : (q₀ q₁ a : ℕ) → R q₀ q₁ a → (P q₀ q₁ a × (Q q₀ q₁ a → ⊥)) ⊎ Q q₀ q₁ a)
       (first : (q₀ q₁ a : ℕ) → P q₀ q₁ a → R q₀ q₁ a)
       (second : (q₀ q₁ a : ℕ) → Q q₀ q₁ a → R q₀ q₁ a)
-      where
-    pub part-then : Part starts lanes I P x y → Part starts lanes I Q y z → Part starts lanes I R x z
-    unfolding casesIn pricesIn
-    part-then p q =
-        let b : I ≤ 24 = t .stage in
-        let u = t .pairs in
-        let v = t .few in
-        record {
-          long = q .long ∙ p .long;
-          low = q .low;
-          below = λ k h. q .below k h ∙ p .below k h;
-          between = λ k h g. q .between k h g ∙ p .between k h g;
-          above = λ k h. q .above k h ∙ p .above k h;
-          kept = λ q₀ q₁ a h g k n.
-              let i = p .kept q₀ q₁ a h g k (λ m. n (first q₀ q₁ a m)) in
-              let j = q .kept q₀ q₁ a h g k (λ m. n (second q₀ q₁ a m)) in
-              (j .0 ∙ i .0, j .1 ∙ i .1);
-          done = λ q₀ q₁ a r.
-              let i = room q₀ q₁ a r in
-              ⊎-elim
-              (λ m. let e = q .kept q₀ q₁ a (i .0) (i .1) (i .2) (m .1) in rw (e .0, e .1) (p .done q₀ q₁ a (m .0)))
-              (λ m.
-              least-ext starts lanes _ _ _ _ _ _ q₀ q₁ a
-              (λ s t l h g k. p .below (casesAt I + s * 768 + t * 64 + l) (omega arith))
-              (λ s l h k. p .above (pricesAt 0 s + q₀ * 4096 + a * 64 + l) (omega arith))
-              (λ s l h k. p .above (pricesAt 1 s + q₁ * 4096 + a * 64 + l) (omega arith))
-              (q .done q₀ q₁ a m))
-              (either q₀ q₁ a r);
-        }
+    where
+      pub part-then : Part starts lanes I P x y → Part starts lanes I Q y z → Part starts lanes I R x z
+      unfolding casesIn pricesIn
+      part-then p q =
+          let b : I ≤ 24 = t .stage in
+          let u = t .pairs in
+          let v = t .few in
+          record {
+            long = q .long ∙ p .long;
+            low = q .low;
+            below = λ k h. q .below k h ∙ p .below k h;
+            between = λ k h g. q .between k h g ∙ p .between k h g;
+            above = λ k h. q .above k h ∙ p .above k h;
+            kept = λ q₀ q₁ a h g k n.
+                let i = p .kept q₀ q₁ a h g k (λ m. n (first q₀ q₁ a m)) in
+                let j = q .kept q₀ q₁ a h g k (λ m. n (second q₀ q₁ a m)) in
+                (j .0 ∙ i .0, j .1 ∙ i .1);
+            done = λ q₀ q₁ a r.
+                let i = room q₀ q₁ a r in
+                ⊎-elim
+                (λ m. let e = q .kept q₀ q₁ a (i .0) (i .1) (i .2) (m .1) in rw (e .0, e .1) (p .done q₀ q₁ a (m .0)))
+                (λ m.
+                least-ext starts lanes _ _ _ _ _ _ q₀ q₁ a
+                (λ s t l h g k. p .below (casesAt I + s * 768 + t * 64 + l) (omega arith))
+                (λ s l h k. p .above (pricesAt 0 s + q₀ * 4096 + a * 64 + l) (omega arith))
+                (λ s l h k. p .above (pricesAt 1 s + q₁ * 4096 + a * 64 + l) (omega arith))
+                (q .done q₀ q₁ a m))
+                (either q₀ q₁ a r);
+          }
 
   -- one case, with its source
   pub part-put : (p₀ p₁ b at v c : ℕ) {st : List ℕ}

@@ -69,12 +69,12 @@ module _ (starts lanes I : ℕ) (st : List ℕ) (q₀ a : ℕ) where
           let x₁ : m ≡ l = omega arith in
           let n = w .room .long in
           rw (x₀, x₁) (
-            omega (
-              arith,
-              getD-set-same sums (t * 64 + l) v 0 (omega arith),
-              w .before t l h g (omega arith),
-              lowest-more (startSum I st q₀ a t l) s,
-            )
+          omega (
+            arith,
+            getD-set-same sums (t * 64 + l) v 0 (omega arith),
+            w .before t l h g (omega arith),
+            lowest-more (startSum I st q₀ a t l) s,
+          )
           )
 
   -- up to another place, with no sum between
@@ -129,7 +129,7 @@ module _ (starts lanes I : ℕ) (st : List ℕ) (q₀ a : ℕ) where
 pub sums-filled : (starts lanes I : ℕ) (st : List ℕ) (q₀ a : ℕ) {old new : List ℕ} → Room old → Written (always B) 0 (starts * 64) old new → lanes ≤ 60
     → Sums starts lanes I st q₀ a 0 0 new × Nones starts lanes new
 sums-filled starts lanes I st q₀ a {old} {new} r w b =
-    let nones : Nones starts lanes new = 
+    let nones : Nones starts lanes new =
     λ t l h g. ap (λ (k : ℕ). getD new k 0) (omega arith) ∙ w .words (t * 64 + l) (omega arith) in
     (sums-none starts lanes I st q₀ a (record { long = w .frame .long ∙ r .long; low = w .low }) nones, nones)
 

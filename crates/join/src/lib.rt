@@ -244,7 +244,10 @@ fn join_case(
     ensures { λ b. ⌜ Least (nextIn starts lanes i (now (store .entry)) q0 q1 a) (WayIn starts lanes i (now (store .entry)) q0 q1 a) (b .value) (b .code) ⌝ }
 {
     if !live {
-        return Best { value: lanes::NONE, code: 0 };
+        return Best {
+            value: lanes::NONE,
+            code: 0,
+        };
     }
     let best = best_end(sums, store, starts, lanes, q1, a);
     let value = best.value;
@@ -336,7 +339,7 @@ pub fn join_stage(
     requires { ⌜ Table starts lanes i (now store) × (ends ≤ 12) × (poses ≤ 60) ⌝ }
     ensures { λ _. ⌜ Joined starts lanes ends poses i (now (store .entry)) (now (store .exit)) ⌝ }
 {
-    let mut sums = [0u32; 768];
+    let mut sums = [lanes::NONE; 768];
     let mut q0: usize = 0;
     while q0 < ends {
         case_block(store, &mut sums, i, starts, lanes, q0, ends, poses);

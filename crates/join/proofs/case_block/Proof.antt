@@ -1,42 +1,51 @@
+-- Each turn writes the cases of one pose more. Assumes nothing.
+use Prim.Native.Nat.{_-_, _≤_}
+use mathlib.Core.Path.{_≡_}
+use Rattle.join.specs.Tables.{BlockCases, Part}
+use Rattle.join.specs.Sums.{Room}
+use Rattle.join.specs.Parts.{part-none, table-part, block-more}
+use native.Mathlib.Omega.{arith}
+use borrow.Author.Needs.{needs}
 use Rattle.join.proofs.case_block.Statement.{statement}
 use Rattle.join.proofs.case_block.Tie as tie
-use Rattle.join.proofs.case_block.Reads as reads
-use Rattle.join.proofs.case_block.Lts as lts
-use Rattle.join.proofs.case_pose.Reads as case-pose-reads
 
 abbrev Inv-loop : tie.InvT-loop
-Inv-loop store₀ sums₀ i starts lanes q0 ends poses a₀ store sums a = ?
+Inv-loop store₀ sums₀ i starts lanes q0 ends poses a₀ store sums a =
+    (a ≤ poses) × Part starts lanes i (BlockCases q0 ends a) store₀ store × Room sums
 
 abbrev μ-loop : tie.MeasureT-loop
-μ-loop store₀ sums₀ i starts lanes q0 ends poses a₀ store sums a = ?
+μ-loop store₀ sums₀ i starts lanes q0 ends poses a₀ store sums a = poses - a
 
--- src/lib.rt:321:5
 loop-holds : tie.Need-loop-holds Inv-loop μ-loop
-loop-holds c = ?
+loop-holds c = (omega arith, part-none _ _ _ (c .before .pre .0 .low) (λ q₀ q₁ a h. omega arith), c .before .pre .1)
 
--- src/lib.rt:322:9
 case-pose-requires : tie.Need-case-pose-requires Inv-loop μ-loop
-case-pose-requires c κs = ?
+case-pose-requires c κs =
+    let k = c .before .before .before .before .before in
+    let l = c .before .before .before .loop .inv in
+    (table-part (k .args .starts) (k .args .lanes) (k .args .i) (k .pre .0) (l .1), l .2, omega arith, omega arith, omega arith)
 
--- src/lib.rt:323:9
 add-a : tie.Need-add-a Inv-loop μ-loop
-add-a c = ?
+add-a c = search needs
 
--- src/lib.rt:321:5
 loop-less : tie.Need-loop-less Inv-loop μ-loop
-loop-less c = ?
+loop-less c = search needs
 
--- src/lib.rt:321:5
 loop-again : tie.Need-loop-again Inv-loop μ-loop
-loop-again c = ?
+loop-again c =
+    let k = c .before .before .before .before .before .before .before .before in
+    let a = k .args in
+    let l = c .before .before .before .before .before .before .loop in
+    let w = c .before .before .case-pose .ensures in
+    (omega arith, block-more (a .starts) (a .lanes) (a .i) (a .q0) (a .ends) (l .a) (k .pre .0) (omega arith) (omega arith) (omega arith) (l .inv .1) (w .0), w .1)
 
--- src/lib.rt:307:1
 same-length : tie.Need-same-length Inv-loop μ-loop
-same-length c = ?
+same-length c = c .before .loop .inv .1 .long
 
--- src/lib.rt:307:1
 returns : tie.Need-returns Inv-loop μ-loop
-returns c = ?
+returns c =
+    let e : c .before .loop .a ≡ c .before .before .before .args .poses = omega arith in
+    (rw e at (c .before .loop .inv .1), c .before .loop .inv .2)
 
 pub case-block-spec : {M : Type 1} → statement M
 case-block-spec =
