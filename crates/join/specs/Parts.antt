@@ -83,6 +83,7 @@ module _ (starts lanes I : ℕ) where
         p .above (pricesAt 0 s + q₀ * 4096 + a * 64 + l) (omega arith),
       ))
 
+  -- no case
   pub part-none : {P : ℕ → ℕ → ℕ → Type 0} {st : List ℕ} → Low st → ((q₀ q₁ a : ℕ) → P q₀ q₁ a → ⊥) → Part starts lanes I P st st
   part-none w none =
       record {
@@ -161,7 +162,7 @@ module _ (starts lanes I : ℕ) where
             rw (d .0, d .1, d .2, z₀, z₁, d₀, d₁) w;
       }
 
-  -- one pair of row 1 more; one pose more; one pair of row 0 more
+  -- below n + 1: below n, or n
   last : (k n : ℕ) → k < n + 1 → (k < n) ⊎ (k ≡ n)
   last k n h = go (decLt k n)
     where
@@ -169,6 +170,7 @@ module _ (starts lanes I : ℕ) where
       go (yes l) = inl l
       go (no l) = inr (omega arith)
 
+  -- one pair of row 1 more
   pub pose-more : (p₀ m b : ℕ) {x y z : List ℕ} → Table starts lanes I x → p₀ < 12 → m < 12 → b < 64
       → Part starts lanes I (PoseCases p₀ m b) x y → Part starts lanes I (OneCase p₀ m b) y z → Part starts lanes I (PoseCases p₀ (m + 1) b) x z
   pose-more p₀ m b t h g k =
@@ -178,6 +180,7 @@ module _ (starts lanes I : ℕ) where
       (λ q₀ q₁ a d. (d .0, omega arith, d .2))
       (λ q₀ q₁ a d. (d .0, omega arith, d .2))
 
+  -- one pose more
   pub block-more : (p₀ m n : ℕ) {x y z : List ℕ} → Table starts lanes I x → p₀ < 12 → m ≤ 12 → n < 64
       → Part starts lanes I (BlockCases p₀ m n) x y → Part starts lanes I (PoseCases p₀ m n) y z → Part starts lanes I (BlockCases p₀ m (n + 1)) x z
   block-more p₀ m n t h g k =
@@ -187,6 +190,7 @@ module _ (starts lanes I : ℕ) where
       (λ q₀ q₁ a d. (d .0, d .1, omega arith))
       (λ q₀ q₁ a d. (d .0, d .1, omega arith))
 
+  -- one pair of row 0 more
   pub stage-more : (k m n : ℕ) {x y z : List ℕ} → Table starts lanes I x → k < 12 → m ≤ 12 → n ≤ 64
       → Part starts lanes I (StageCases k m n) x y → Part starts lanes I (BlockCases k m n) y z → Part starts lanes I (StageCases (k + 1) m n) x z
   stage-more k m n t h g j =

@@ -1,18 +1,18 @@
 -- Laws of the sums: one lane more, one start pair more, a start pair without any way; and a case from them. Assumes nothing.
-use Prim.Native.Nat.{ℕ, zero, suc, _+_, _*_, _/_, _%_, _≤_, _<_, min}
-use mathlib.Core.Path.{_≡_, refl, sym, ap, _∙_}
+use Prim.Native.Nat.{ℕ, _+_, _*_, _/_, _%_, _≤_, _<_, min}
+use mathlib.Core.Path.{_≡_, sym, ap, _∙_}
 use mathlib.Core.List.{List}
-use mathlib.Core.Bool.{Bool, false}
+use mathlib.Core.Bool.{Bool}
 use native.Mathlib.Omega.{arith}
-use native.Mathlib.Decide.{decLt, ℕ-discrete}
-use lib.ListN.{length, getD, set, length-set}
+use native.Mathlib.Decide.{ℕ-discrete}
+use lib.ListN.{getD, set, length-set}
 use lib.Seq.{getD-set-same, getD-set-other}
 use Rattle.rows.specs.Lists.{from}
 use Rattle.pair.specs.Coded.{lowest, lowest-low}
 use Rattle.model.specs.Steps.{B}
 use Rattle.model.specs.Lowest.{loop-member}
 use Rattle.lanes.specs.Lanes.{always}
-use Rattle.lanes.specs.Store.{Low, Written}
+use Rattle.lanes.specs.Store.{Written}
 use Rattle.lanes.specs.Laws.{low-set}
 use Rattle.join.specs.Tables.{casesAt, pricesAt, casesIn, pricesIn, Table, Least, Met, SumAt, WayIn, nextIn}
 use Rattle.join.specs.Sums.{startSum, laneSum, endSum, Room, Sums, Nones, Summed}

@@ -1,5 +1,5 @@
 -- Each turn takes one pair t more. Assumes nothing.
-use Prim.Native.Nat.{_*_, _-_, _≤_}
+use Prim.Native.Nat.{_-_, _≤_}
 use mathlib.Core.Path.{_≡_}
 use Rattle.rows.specs.Lists.{from}
 use Rattle.pair.specs.Coded.{lowest}

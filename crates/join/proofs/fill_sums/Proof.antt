@@ -1,11 +1,8 @@
 -- After s turns the sums are over the start pairs below s, and all NONE as long as no pair had a way. Assumes nothing.
-use Prim.Native.Nat.{ℕ, _+_, _*_, _-_, _≤_, _<_}
+use Prim.Native.Nat.{ℕ, _-_, _≤_}
 use mathlib.Core.Path.{_≡_, sym, subst, _∙_}
 use mathlib.Core.Bool.{false}
 use mathlib.Core.Logic.{⊎-elim}
-use mathlib.Core.List.{List}
-use lib.ListN.{getD}
-use Rattle.model.specs.Steps.{B}
 use Rattle.join.specs.Sums.{Sums, Nones}
 use Rattle.join.specs.SumLaws.{sums-filled}
 use native.Mathlib.Omega.{arith}

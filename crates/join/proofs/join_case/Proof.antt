@@ -1,11 +1,11 @@
 -- The least over the pairs of row 1 and the lanes is at most every way, and where it is below B a way of it is found. Assumes nothing.
-use mathlib.Core.Path.{_≡_, sym}
 use Rattle.rows.specs.Lists.{from}
 use Rattle.pair.specs.Coded.{lowest-low}
 use Rattle.model.specs.Steps.{B}
+use Rattle.join.specs.Tables.{Met}
 use Rattle.join.specs.Sums.{endSum}
 use Rattle.join.specs.Laws.{least-met, next-is}
-use Rattle.join.specs.SumLaws.{table-for, case-dead, case-below}
+use Rattle.join.specs.SumLaws.{case-dead, case-below}
 use native.Mathlib.Omega.{arith}
 use borrow.Author.Tests.{not-true}
 use borrow.Author.Needs.{needs}
@@ -38,7 +38,8 @@ source-of-requires : tie.Need-source-of-requires
 source-of-requires c κs =
     let k = c .before .before .before .before .before in
     let a = k .args in
-    let met = least-met (lowest-low B (endSum (a .lanes) (a .sums .now) (a .store .now) (a .q1) (a .a)) (from 0 (a .starts))) (c .before .before .best-end .ensures) (c .before .if2 .left) in
+    let ends = endSum (a .lanes) (a .sums .now) (a .store .now) (a .q1) (a .a) in
+    let met = least-met {W = Met ends (a .starts)} (lowest-low B ends (from 0 (a .starts))) (c .before .before .best-end .ensures) (c .before .if2 .left) in
     (k .pre .0, k .pre .1 .all, omega arith, omega arith, omega arith, met .0 .0, met .0 .1, met .1)
 
 returns-3 : tie.Need-returns-3

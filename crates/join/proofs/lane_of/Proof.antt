@@ -1,6 +1,6 @@
 -- The lanes passed have other sums. Assumes nothing.
 use Prim.Native.Nat.{ℕ, _+_, _-_, _≤_, _<_}
-use mathlib.Core.Path.{_≡_, _∙_}
+use mathlib.Core.Path.{_≡_}
 use borrow.Author.Count.{below-more}
 use Rattle.join.specs.Sums.{laneSum}
 use native.Mathlib.Omega.{arith}

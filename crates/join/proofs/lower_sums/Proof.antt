@@ -1,6 +1,6 @@
 -- Each turn lowers the sum of one lane more. Assumes nothing.
 use Prim.Native.Nat.{_+_, _*_, _-_, _≤_}
-use mathlib.Core.Path.{_≡_, sym, _∙_}
+use mathlib.Core.Path.{_≡_}
 use Rattle.join.specs.Sums.{Sums}
 use Rattle.join.specs.SumLaws.{start-words, sums-lane, sums-to}
 use native.Mathlib.Omega.{arith}

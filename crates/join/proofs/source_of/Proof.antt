@@ -1,7 +1,6 @@
--- The lane has the least of pair t, and the start pair has the sum there.  Assumes nothing.
+-- The lane has the least of pair t, and the start pair has the sum there. Assumes nothing.
 use Prim.Native.Nat.{_+_, _*_}
 use mathlib.Core.Path.{_≡_}
-use Rattle.join.specs.Tables.{WayIn}
 use Rattle.join.specs.SumLaws.{table-for, lane-met, case-way}
 use native.Mathlib.Omega.{arith}
 use borrow.Author.Needs.{needs}

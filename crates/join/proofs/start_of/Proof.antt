@@ -1,6 +1,6 @@
 -- The start pairs passed have other sums. Assumes nothing.
 use Prim.Native.Nat.{ℕ, _+_, _-_, _≤_, _<_}
-use mathlib.Core.Path.{_≡_, sym, _∙_}
+use mathlib.Core.Path.{_≡_, _∙_}
 use borrow.Author.Count.{below-more}
 use Rattle.join.specs.Sums.{startSum}
 use Rattle.join.specs.SumLaws.{start-words}

@@ -2,7 +2,7 @@
 use Prim.Native.Nat.{ℕ, _+_, _*_, _-_, _≤_}
 use mathlib.Core.Path.{_≡_, refl}
 use Rattle.join.specs.Sums.{Sums}
-use Rattle.join.specs.SumLaws.{start-none, sums-to, sums-next, sums-skip}
+use Rattle.join.specs.SumLaws.{start-none, sums-next, sums-skip}
 use native.Mathlib.Omega.{arith}
 use borrow.Author.Needs.{needs}
 use Rattle.join.proofs.sums_from.Statement.{statement}
@@ -46,7 +46,6 @@ loop-less c = search needs
 
 loop-again : tie.Need-loop-again Inv-loop μ-loop
 loop-again c =
-    let a = c .before .before .before .before .before .before .before .before .args in
     let t = c .before .before .before .loop .t in
     let e : (t + 1) * 64 ≡ t * 64 + 64 = omega arith in
     (omega arith, rw e (c .lower-sums .ensures))
