@@ -126,11 +126,11 @@ module _ (starts lanes I : ℕ) (st : List ℕ) (q₀ a : ℕ) where
       }
 
 -- the sums of no start pair are all NONE
-pub sums-filled : (starts lanes I : ℕ) (st : List ℕ) (q₀ a : ℕ) {old new : List ℕ} → Room old → Written (always B) 0 (starts * 64) old new → lanes ≤ 60
+pub sums-filled : (starts lanes I : ℕ) (st : List ℕ) (q₀ a : ℕ) {n : ℕ} {old new : List ℕ} → Room old → Written (always B) 0 n old new → starts * 64 ≤ n → lanes ≤ 60
     → Sums starts lanes I st q₀ a 0 0 new × Nones starts lanes new
-sums-filled starts lanes I st q₀ a {old} {new} r w b =
+sums-filled starts lanes I st q₀ a {new = new} r w h b =
     let nones : Nones starts lanes new =
-    λ t l h g. ap (λ (k : ℕ). getD new k 0) (omega arith) ∙ w .words (t * 64 + l) (omega arith) in
+    λ t l i g. ap (λ (k : ℕ). getD new k 0) (omega arith) ∙ w .words (t * 64 + l) (omega arith) in
     (sums-none starts lanes I st q₀ a (record { long = w .frame .long ∙ r .long; low = w .low }) nones, nones)
 
 -- ---- a case from the sums

@@ -29,7 +29,7 @@ loop-holds : tie.Need-loop-holds Inv-loop μ-loop
 loop-holds c =
     let k = c .before .before .before in
     let a = k .args in
-    let w = sums-filled (a .starts) (a .lanes) (a .i) (a .store .now) (a .q0) (a .a) (k .pre .1) (c .fill .ensures) (k .pre .0 .few) in
+    let w = sums-filled (a .starts) (a .lanes) (a .i) (a .store .now) (a .q0) (a .a) (k .pre .1) (c .fill .ensures) (omega arith) (k .pre .0 .few) in
     (omega arith, w .0, λ e. w .1)
 
 sums-from-requires : tie.Need-sums-from-requires Inv-loop μ-loop

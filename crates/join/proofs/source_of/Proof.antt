@@ -1,6 +1,6 @@
 -- The lane has the least of pair t, and the start pair has the sum there. Assumes nothing.
-use Prim.Native.Nat.{_+_, _*_}
-use mathlib.Core.Path.{_≡_}
+use mathlib.Core.Path.{subst}
+use Rattle.join.specs.Tables.{WayIn}
 use Rattle.join.specs.SumLaws.{table-for, lane-met, case-way}
 use native.Mathlib.Omega.{arith}
 use borrow.Author.Needs.{needs}
@@ -85,8 +85,7 @@ returns c =
     let t = k .pre .0 in
     let m = lane-met (a .starts) (a .lanes) (a .i) (a .store .now) (a .q0) (a .q1) (a .a) (k .pre .1) (a .value) (a .t) _ _ (k .pre .7) (k .pre .6) (c .before .before .before .price-at .ensures) (c .before .before .lane-of .ensures) in
     let w = case-way (a .starts) (a .lanes) (a .i) (a .store .now) (a .q0) (a .q1) (a .a) (k .pre .1) (a .value) (c .start-of .result) (a .t) (c .before .before .lane-of .result) (k .pre .7) (t .pairs) (t .few) (k .pre .5) (m .0) (m .1) (c .start-of .ensures) in
-    let e : c .start-of .result * 768 + (a .t * 64 + c .before .before .lane-of .result) ≡ c .start-of .result * 768 + a .t * 64 + c .before .before .lane-of .result = omega arith in
-    (rw e (w .0), omega (arith, w .1, m .0, t .few, t .pairs))
+    (subst (WayIn (a .starts) (a .lanes) (a .i) (a .store .now) (a .q0) (a .q1) (a .a) (a .value)) (omega arith) (w .0), omega (arith, w .1, m .0, t .few, t .pairs))
 
 pub source-of-spec : {M : Type 1} → statement M
 source-of-spec =
