@@ -23,6 +23,20 @@ pub fn lesser(x: u32, y: u32) -> u32
     if (x as i32) < (y as i32) { x } else { y }
 }
 
+// NONE if all lanes of a row are NONE; in any case at most each of them.
+pub fn common(row: &[u32], at: usize, lanes: usize) -> u32
+    requires { ⌜ at + lanes ≤ length (now row) ⌝ }
+    ensures { λ x. ⌜ ((l : ℕ) → l < lanes → x ≤ getD (now (row .entry)) (at + l) 0) ⌝ }
+{
+    let mut x = NONE;
+    let mut l: usize = 0;
+    while l < lanes {
+        x = x & row[at + l];
+        l += 1;
+    }
+    x
+}
+
 // Each lane of `acc` lowered to the row's word plus a charge.
 pub fn relax(acc: &mut [u32; 64], row: &[u32], at: usize, charge: u32, lanes: usize)
     requires { ⌜ (at + lanes ≤ length (now row)) × (lanes ≤ 64) × (length (now acc) ≡ 64) × (charge ≤ B) × Low (now row) ⌝ }
