@@ -1,36 +1,15 @@
--- Laws of loops that keep the least: one round more, where the least is, the least of equal costs; and of the words that a stage reads. Assumes nothing.
-use Prim.Native.Nat.{ℕ, zero, suc, _+_, _*_, _/_, _%_, _≤_, _<_, min}
-use mathlib.Core.Path.{_≡_, refl, sym, ap, _∙_}
-use mathlib.Core.Logic.{_⊎_, ⊎-elim}
-use mathlib.Core.List.{List}
+-- Laws of loops that keep the least: one round more, where the least is, the least of equal costs; and when a number is the least of all ways to
+-- a case. Assumes nothing.
+use Prim.Native.Nat.{ℕ, zero, suc, _+_, _/_, _%_, _≤_, _<_, min}
+use mathlib.Core.Path.{_≡_, refl, sym, _∙_}
+use mathlib.Core.Logic.{⊎-elim}
 use native.Mathlib.Omega.{arith}
 use native.Mathlib.Decide.{decLt}
-use lib.ListN.{getD}
 use Rattle.rows.specs.Lists.{from}
 use Rattle.pair.specs.Coded.{lowest, lowest-from, lowest-low}
-use Rattle.model.specs.Steps.{B, joinPose, nextCases}
-use Rattle.join.specs.Tables.{
-  casesAt,
-  sourcesAt,
-  pricesAt,
-  casesIn,
-  sourcesIn,
-  pricesIn,
-  Table,
-  Better,
-  Least,
-  LaneOf,
-  laneSum,
-  Pairs,
-  Way,
-  PairsIn,
-  WayIn,
-  nextIn,
-  poseIn,
-  pairIn,
-  Part,
-  Joined,
-}
+use Rattle.model.specs.Steps.{B, Cases, Prices, joinPose, nextCases}
+use Rattle.model.specs.Lowest.{loop-member, loop-above}
+use Rattle.join.specs.Tables.{Better, Least, Way}
 
 -- ---- loops
 
@@ -81,74 +60,44 @@ least-more h n p q b =
       small = ⊎-elim (λ w. omega (arith, w .1, p .small)) (λ w. omega (arith, w .1, q .small)) (b .one);
     }
 
--- ---- what a stage reads
-
--- a lane of the three rows of the case (s, t), and the least over them
-module _ (st : List ℕ) (I s t q₀ q₁ a at p₀ p₁ : ℕ) (e : at ≡ casesAt I + s * 768 + t * 64) (e₀ : p₀ ≡ pricesAt 0 s + q₀ * 4096 + a * 64)
-    (e₁ : p₁ ≡ pricesAt 1 t + q₁ * 4096 + a * 64) where
-  pub lane-words : (l : ℕ) → laneSum st at p₀ p₁ l ≡ casesIn st I s t l + (pricesIn st 0 s l q₀ a + pricesIn st 1 t l q₁ a)
-  unfolding laneSum casesIn pricesIn
-  lane-words l =
-      let w : (i j : ℕ) → i ≡ j → getD st i 0 ≡ getD st j 0 = λ i j h. ap (λ (k : ℕ). getD st k 0) h in
-      omega (
-        arith,
-        w (at + l) (casesAt I + s * 768 + t * 64 + l) (omega arith),
-        w (p₀ + l) (pricesAt 0 s + q₀ * 4096 + a * 64 + l) (omega arith),
-        w (p₁ + l) (pricesAt 1 t + q₁ * 4096 + a * 64 + l) (omega arith),
-      )
-
-  pub pose-lanes : (lanes : ℕ) → lowest B (laneSum st at p₀ p₁) (from 0 lanes) ≡ poseIn lanes I st q₀ q₁ a s t
-  unfolding poseIn joinPose
-  pose-lanes lanes = lowest-ext lanes (λ k h. lane-words k)
-
-pub next-pairs : (starts lanes I : ℕ) (st : List ℕ) (q₀ q₁ a : ℕ) → lowest B (pairIn starts lanes I st q₀ q₁ a) (from 0 starts) ≡ nextIn starts lanes I st q₀ q₁ a
-unfolding nextCases pairIn poseIn
-next-pairs starts lanes I st q₀ q₁ a = refl
-
-pub next-low : (starts lanes I : ℕ) (st : List ℕ) (q₀ q₁ a : ℕ) → nextIn starts lanes I st q₀ q₁ a ≤ B
-next-low starts lanes I st q₀ q₁ a =
-    omega (arith, next-pairs starts lanes I st q₀ q₁ a, lowest-low B (pairIn starts lanes I st q₀ q₁ a) (from 0 starts))
-
 -- a least that is not B is found
 pub least-met : {least value code : ℕ} {W : ℕ → ℕ → Type 0} → least ≤ B → Least least W value code → (value ≡ B → ⊥) → W value code × (value < B)
 least-met {value = value} b w h = let l : value < B = omega (arith, w .right, h) in (w .found l, l)
 
--- the pairs s and t alone, with their code
-pub pairs-way : (starts lanes I : ℕ) (st : List ℕ) (q₀ q₁ a s t : ℕ) {value : ℕ} → s < starts → t < starts → starts ≤ 12 → value ≡ poseIn lanes I st q₀ q₁ a s t
-    → Least (poseIn lanes I st q₀ q₁ a s t) (PairsIn starts lanes I st q₀ q₁ a) value (s * 768 + t * 64)
-unfolding poseIn
-pairs-way starts lanes I st q₀ q₁ a s t h g b e =
-    let i : (s * 768 + t * 64) / 768 ≡ s = omega arith in
-    let j : (s * 768 + t * 64) % 768 / 64 ≡ t = omega arith in
-    record {
-      right = e;
-      found = λ l. record { pair₀ = omega arith; pair₁ = omega arith; bare = omega arith; sum = rw (i, j) e };
-      small = omega arith;
-    }
+-- ---- the least of all ways to a case
 
--- with a lane that has the sum
-pub lane-way : (starts lanes I : ℕ) (st : List ℕ) (q₀ q₁ a at p₀ p₁ : ℕ) {value code r : ℕ}
-    → PairsIn starts lanes I st q₀ q₁ a value code → value < B → lanes ≤ 60
-    → at ≡ casesAt I + code / 768 * 768 + code % 768 / 64 * 64 → p₀ ≡ pricesAt 0 (code / 768) + q₀ * 4096 + a * 64
-    → p₁ ≡ pricesAt 1 (code % 768 / 64) + q₁ * 4096 + a * 64
-    → LaneOf (laneSum st at p₀ p₁) lanes value r
-    → WayIn starts lanes I st q₀ q₁ a value (code + r) × (r < lanes)
-unfolding poseIn
-lane-way starts lanes I st q₀ q₁ a at p₀ p₁ {value} {code} {r} w b few e e₀ e₁ found =
-    let s = code / 768 in
-    let t = code % 768 / 64 in
-    let m : value ≡ lowest B (laneSum st at p₀ p₁) (from 0 lanes) = w .sum ∙ sym (pose-lanes st I s t q₀ q₁ a at p₀ p₁ e e₀ e₁ lanes) in
-    let k = lowest-at (laneSum st at p₀ p₁) lanes (omega arith) in
-    let f = found (k .0) (k .1) (k .2 ∙ sym m) in
-    let z = w .bare in
-    let i : (code + r) / 768 ≡ s = omega (arith, f .0) in
-    let j : (code + r) % 768 / 64 ≡ t = omega (arith, f .0) in
-    let g : (code + r) % 64 ≡ r = omega (arith, f .0) in (
-      record {
-        pair₀ = omega (arith, w .pair₀);
-        pair₁ = omega (arith, w .pair₁);
-        lane = omega (arith, f .0);
-        sum = rw (i, j, g) (sym (f .1) ∙ lane-words st I s t q₀ q₁ a at p₀ p₁ e e₀ e₁ r);
-      },
-      f .0,
-    )
+module _ (starts lanes : ℕ) (f : Cases) (x₀ x₁ : Prices) (q₀ q₁ a : ℕ) where
+  -- the cost by way of the pairs s and t and lane l
+  abbrev pub cost : ℕ → ℕ → ℕ → ℕ
+  cost s t l = f s t l + (x₀ s l q₀ a + x₁ t l q₁ a)
+
+  pub next-low : nextCases starts lanes f x₀ x₁ q₀ q₁ a ≤ B
+  unfolding nextCases
+  next-low = lowest-low B _ (from 0 starts)
+
+  pub next-below : (s t l : ℕ) → s < starts → t < starts → l < lanes → nextCases starts lanes f x₀ x₁ q₀ q₁ a ≤ cost s t l
+  unfolding nextCases joinPose
+  next-below s t l h g k =
+      omega (
+        arith,
+        loop-member B (λ s. lowest B (λ t. joinPose lanes f x₀ x₁ s t q₀ q₁ a) (from 0 starts)) starts s h,
+        loop-member B (λ t. joinPose lanes f x₀ x₁ s t q₀ q₁ a) starts t g,
+        loop-member B (cost s t) lanes l k,
+      )
+
+  pub next-above : (v : ℕ) → v ≤ B → ((s t l : ℕ) → s < starts → t < starts → l < lanes → v ≤ cost s t l) → v ≤ nextCases starts lanes f x₀ x₁ q₀ q₁ a
+  unfolding nextCases joinPose
+  next-above v b all =
+      loop-above B _ starts v b (λ s h. loop-above B _ starts v b (λ t g. loop-above B _ lanes v b (λ l k. all s t l h g k)))
+
+  -- a number that is at most every cost, and is one of them if it is below B, is the least
+  pub next-is : (v : ℕ) {code : ℕ} → v ≤ B → ((s t l : ℕ) → s < starts → t < starts → l < lanes → v ≤ cost s t l)
+      → (v < B → Way starts lanes f x₀ x₁ q₀ q₁ a v code) → code < 9216
+      → Least (nextCases starts lanes f x₀ x₁ q₀ q₁ a) (Way starts lanes f x₀ x₁ q₀ q₁ a) v code
+  next-is v {code} b all met c = record { right = go (decLt v B); found = met; small = c }
+    where
+      go : Dec (v < B) → v ≡ nextCases starts lanes f x₀ x₁ q₀ q₁ a
+      go (yes h) =
+          let w = met h in
+          omega (arith, next-above v b all, w .sum, next-below (code / 768) (code % 768 / 64) (code % 64) (w .pair₀) (w .pair₁) (w .lane))
+      go (no h) = omega (arith, next-above v b all, next-low)

@@ -1,3 +1,5 @@
 pub mod Tables
+pub mod Sums
 pub mod Laws
+pub mod SumLaws
 pub mod Parts

@@ -4,9 +4,7 @@ use mathlib.Core.Path.{_≡_}
 use mathlib.Core.Logic.{_⊎_}
 use mathlib.Core.List.{List}
 use lib.ListN.{length, getD}
-use Rattle.rows.specs.Lists.{from}
-use Rattle.pair.specs.Coded.{lowest}
-use Rattle.model.specs.Steps.{B, Cases, Prices, joinPose, nextCases}
+use Rattle.model.specs.Steps.{B, Cases, Prices, nextCases}
 use Rattle.lanes.specs.Store.{Low}
 
 -- ---- places in the store
@@ -51,22 +49,15 @@ pub record Least (least : ℕ) (W : ℕ → ℕ → Type 0) (value code : ℕ) :
   pub found : value < B → W value code
   pub small : code < 9216
 
--- lane r has the sum, if any lane has
-abbrev pub LaneOf : (ℕ → ℕ) → ℕ → ℕ → ℕ → Type 0
-LaneOf h lanes sum r = (l : ℕ) → l < lanes → h l ≡ sum → (r < lanes) × (h r ≡ sum)
+-- place r below n has that cost
+abbrev pub Met : (ℕ → ℕ) → ℕ → ℕ → ℕ → Type 0
+Met h n cost r = (r < n) × (h r ≡ cost)
 
--- a lane of three rows together
-unfoldable pub laneSum : List ℕ → ℕ → ℕ → ℕ → ℕ → ℕ
-laneSum st at p₀ p₁ l = getD st (at + l) 0 + (getD st (p₀ + l) 0 + getD st (p₁ + l) 0)
+-- the same, if any place has
+abbrev pub SumAt : (ℕ → ℕ) → ℕ → ℕ → ℕ → Type 0
+SumAt h n cost r = (k : ℕ) → k < n → h k ≡ cost → Met h n cost r
 
 -- ---- a way to the case (q₀, q₁, a)
-
--- by the pairs s and t alone: the code is s * 768 + t * 64
-pub record Pairs (starts lanes : ℕ) (f : Cases) (x₀ x₁ : Prices) (q₀ q₁ a value code : ℕ) : Type 0 where
-  pub pair₀ : code / 768 < starts
-  pub pair₁ : code % 768 / 64 < starts
-  pub bare : code % 64 ≡ 0
-  pub sum : value ≡ joinPose lanes f x₀ x₁ (code / 768) (code % 768 / 64) q₀ q₁ a
 
 -- by the pairs s and t and lane l: the code is s * 768 + t * 64 + l
 pub record Way (starts lanes : ℕ) (f : Cases) (x₀ x₁ : Prices) (q₀ q₁ a value code : ℕ) : Type 0 where
@@ -76,37 +67,42 @@ pub record Way (starts lanes : ℕ) (f : Cases) (x₀ x₁ : Prices) (q₀ q₁ 
   pub sum : value ≡ f (code / 768) (code % 768 / 64) (code % 64) + (x₀ (code / 768) (code % 64) q₀ a + x₁ (code % 768 / 64) (code % 64) q₁ a)
 
 -- the same of case table I and the prices in the store
-abbrev pub PairsIn : ℕ → ℕ → ℕ → List ℕ → ℕ → ℕ → ℕ → ℕ → ℕ → Type 0
-PairsIn starts lanes I st = Pairs starts lanes (casesIn st I) (pricesIn st 0) (pricesIn st 1)
-
 abbrev pub WayIn : ℕ → ℕ → ℕ → List ℕ → ℕ → ℕ → ℕ → ℕ → ℕ → Type 0
 WayIn starts lanes I st = Way starts lanes (casesIn st I) (pricesIn st 0) (pricesIn st 1)
 
 abbrev pub nextIn : ℕ → ℕ → ℕ → List ℕ → Cases
 nextIn starts lanes I st = nextCases starts lanes (casesIn st I) (pricesIn st 0) (pricesIn st 1)
 
--- by way of the pairs s and t; and by way of s and any pair of row 1
-unfoldable pub poseIn : ℕ → ℕ → List ℕ → ℕ → ℕ → ℕ → ℕ → ℕ → ℕ
-poseIn lanes I st q₀ q₁ a s t = joinPose lanes (casesIn st I) (pricesIn st 0) (pricesIn st 1) s t q₀ q₁ a
-
-unfoldable pub pairIn : ℕ → ℕ → ℕ → List ℕ → ℕ → ℕ → ℕ → ℕ → ℕ
-pairIn starts lanes I st q₀ q₁ a s = lowest B (poseIn lanes I st q₀ q₁ a s) (from 0 starts)
-
 -- ---- a stage joined: case table I + 1 and its sources
 
--- the words of both tables from lo to hi may be other ones, and nothing else is; those for ends and poses asked for are right
-pub record Part (starts lanes ends poses I lo hi : ℕ) (old new : List ℕ) : Type 0 where
+-- one case; those of a pair of row 0 in a pose, of a pair of row 0, of all pairs: pairs of row 1 below m, poses below n
+abbrev pub OneCase : ℕ → ℕ → ℕ → ℕ → ℕ → ℕ → Type 0
+OneCase p₀ p₁ b q₀ q₁ a = (q₀ ≡ p₀) × (q₁ ≡ p₁) × (a ≡ b)
+
+abbrev pub PoseCases : ℕ → ℕ → ℕ → ℕ → ℕ → ℕ → Type 0
+PoseCases p₀ m b q₀ q₁ a = (q₀ ≡ p₀) × (q₁ < m) × (a ≡ b)
+
+abbrev pub BlockCases : ℕ → ℕ → ℕ → ℕ → ℕ → ℕ → Type 0
+BlockCases p₀ m n q₀ q₁ a = (q₀ ≡ p₀) × (q₁ < m) × (a < n)
+
+abbrev pub StageCases : ℕ → ℕ → ℕ → ℕ → ℕ → ℕ → Type 0
+StageCases k m n q₀ q₁ a = (q₀ < k) × (q₁ < m) × (a < n)
+
+-- the cases P of both tables are right, every other word is as it was
+pub record Part (starts lanes I : ℕ) (P : ℕ → ℕ → ℕ → Type 0) (old new : List ℕ) : Type 0 where
   pub long : length new ≡ length old
   pub low : Low new
-  pub below : (k : ℕ) → k < casesAt (suc I) + lo → getD new k 0 ≡ getD old k 0
-  pub between : (k : ℕ) → casesAt (suc I) + hi ≤ k → k < sourcesAt (suc I) + lo → getD new k 0 ≡ getD old k 0
-  pub above : (k : ℕ) → sourcesAt (suc I) + hi ≤ k → getD new k 0 ≡ getD old k 0
-  pub done : (o : ℕ) → lo ≤ o → o < hi → o % 768 / 64 < ends → o % 64 < poses
+  pub below : (k : ℕ) → k < casesAt (suc I) → getD new k 0 ≡ getD old k 0
+  pub between : (k : ℕ) → casesAt (suc (suc I)) ≤ k → k < sourcesAt (suc I) → getD new k 0 ≡ getD old k 0
+  pub above : (k : ℕ) → sourcesAt (suc (suc I)) ≤ k → getD new k 0 ≡ getD old k 0
+  pub kept : (q₀ q₁ a : ℕ) → q₀ < 12 → q₁ < 12 → a < 64 → (P q₀ q₁ a → ⊥)
+      → (casesIn new (suc I) q₀ q₁ a ≡ casesIn old (suc I) q₀ q₁ a) × (sourcesIn new (suc I) q₀ q₁ a ≡ sourcesIn old (suc I) q₀ q₁ a)
+  pub done : (q₀ q₁ a : ℕ) → P q₀ q₁ a
       → Least
-      (nextIn starts lanes I old (o / 768) (o % 768 / 64) (o % 64))
-      (WayIn starts lanes I old (o / 768) (o % 768 / 64) (o % 64))
-      (getD new (casesAt (suc I) + o) 0)
-      (getD new (sourcesAt (suc I) + o) 0)
+      (nextIn starts lanes I old q₀ q₁ a)
+      (WayIn starts lanes I old q₀ q₁ a)
+      (casesIn new (suc I) q₀ q₁ a)
+      (sourcesIn new (suc I) q₀ q₁ a)
 
 -- the whole of it, for the ends and poses asked for
 pub record Joined (starts lanes ends poses I : ℕ) (old new : List ℕ) : Type 0 where

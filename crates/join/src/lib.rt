@@ -1,12 +1,14 @@
 // A stage joined: the prices of both rows on top of one case table make the next, with the source of each case.
 ghost use mathlib.Core.Path.{_≡_};
-ghost use Prim.Native.Nat.{_+_, _*_, _≤_, _<_};
+ghost use mathlib.Core.Bool.{false};
+ghost use Prim.Native.Nat.{ℕ, _+_, _*_, _≤_, _<_};
 ghost use lib.ListN.{length};
 ghost use Rattle.rows.specs.Lists.{from};
 ghost use Rattle.pair.specs.Coded.{lowest};
 ghost use Rattle.lanes.specs.Store.{Low};
 ghost use Rattle.model.specs.Steps.{B};
-ghost use Rattle.join.specs.Tables.{casesAt, pricesAt, Table, Better, Least, LaneOf, laneSum, PairsIn, WayIn, nextIn, pairIn, Part, Joined};
+ghost use Rattle.join.specs.Tables.{casesAt, pricesAt, Table, Better, Least, Met, SumAt, WayIn, nextIn, OneCase, PoseCases, BlockCases, Part, Joined};
+ghost use Rattle.join.specs.Sums.{startSum, laneSum, endSum, Room, Sums, Summed};
 
 // The least of some costs, and a code of where it is.
 pub struct Best {
@@ -47,36 +49,107 @@ fn better(x: Best, value: u32, code: u32) -> Best
     x
 }
 
-// A lane of three rows together: of a case row, and of a price row of each row.
-fn lane_sum(store: &[u32], at: usize, p0: usize, p1: usize, l: usize) -> u32
-    requires { ⌜ Low (now store) × (at + l < length (now store)) × (p0 + l < length (now store)) × (p1 + l < length (now store)) ⌝ }
-    ensures { λ r. ⌜ r ≡ laneSum (now (store .entry)) at p0 p1 l ⌝ }
+// ---- the sums of a pair of row 0 in a pose: the least over its start pairs, for each pair of row 1 and each lane
+
+// The sums of pair t lowered to the ways from start pair s.
+fn lower_sums(
+    sums: &mut [u32; 768],
+    store: &[u32],
+    i: usize,
+    starts: usize,
+    lanes: usize,
+    s: usize,
+    t: usize,
+    q0: usize,
+    a: usize,
+)
+    requires { ⌜ Table starts lanes i (now store) × Sums starts lanes i (now store) q0 a s (t * 64) (now sums) × (s < starts) × (t < starts) × (q0 < 12) × (a < 60) ⌝ }
+    ensures { λ _. ⌜ Sums starts lanes i (now (store .entry)) q0 a s (t * 64 + 64) (now (sums .exit)) ⌝ }
 {
-    store[at + l] + (store[p0 + l] + store[p1 + l])
+    let at = case_at(i, s, t);
+    let p0 = price_at(0, s, q0, a);
+    let to = t * 64;
+    let mut l: usize = 0;
+    while l < lanes {
+        sums[to + l] = lanes::lesser(sums[to + l], store[at + l] + store[p0 + l]);
+        l += 1;
+    }
 }
 
+// All sums lowered to the ways from start pair s: whether it has any.
+fn sums_from(
+    sums: &mut [u32; 768],
+    store: &[u32],
+    i: usize,
+    starts: usize,
+    lanes: usize,
+    s: usize,
+    q0: usize,
+    a: usize,
+) -> bool
+    requires { ⌜ Table starts lanes i (now store) × Sums starts lanes i (now store) q0 a s 0 (now sums) × (s < starts) × (q0 < 12) × (a < 60) ⌝ }
+    ensures { λ live. ⌜ Sums starts lanes i (now (store .entry)) q0 a (s + 1) 0 (now (sums .exit)) × (live ≡ false → now (sums .exit) ≡ now (sums .entry)) ⌝ }
+{
+    if lanes::common(store, price_at(0, s, q0, a), lanes) >= lanes::NONE {
+        return false;
+    }
+    let mut t: usize = 0;
+    while t < starts {
+        lower_sums(sums, store, i, starts, lanes, s, t, q0, a);
+        t += 1;
+    }
+    true
+}
+
+// The sums over every start pair: whether one has any way.
+fn fill_sums(
+    sums: &mut [u32; 768],
+    store: &[u32],
+    i: usize,
+    starts: usize,
+    lanes: usize,
+    q0: usize,
+    a: usize,
+) -> bool
+    requires { ⌜ Table starts lanes i (now store) × Room (now sums) × (q0 < 12) × (a < 60) ⌝ }
+    ensures { λ live. ⌜ Summed starts lanes i (now (store .entry)) q0 a (now (sums .exit)) live ⌝ }
+{
+    lanes::fill(sums, 0, starts * 64, lanes::NONE);
+    let mut live = false;
+    let mut s: usize = 0;
+    while s < starts {
+        if sums_from(sums, store, i, starts, lanes, s, q0, a) {
+            live = true;
+        }
+        s += 1;
+    }
+    live
+}
+
+// ---- a case: the least over the sums with row 1's prices
+
 // The least over the lanes.
-fn least_lane(store: &[u32], at: usize, p0: usize, p1: usize, lanes: usize) -> u32
-    requires { ⌜ Low (now store) × (at + lanes ≤ length (now store)) × (p0 + lanes ≤ length (now store)) × (p1 + lanes ≤ length (now store)) ⌝ }
-    ensures { λ r. ⌜ r ≡ lowest B (laneSum (now (store .entry)) at p0 p1) (from 0 lanes) ⌝ }
+fn least_lane(sums: &[u32; 768], at: usize, store: &[u32], p1: usize, lanes: usize) -> u32
+    requires { ⌜ Room (now sums) × Low (now store) × (at + lanes ≤ 768) × (p1 + lanes ≤ length (now store)) ⌝ }
+    ensures { λ r. ⌜ r ≡ lowest B (laneSum (now (sums .entry)) at (now (store .entry)) p1) (from 0 lanes) ⌝ }
 {
     let mut best = lanes::NONE;
     let mut l: usize = 0;
     while l < lanes {
-        best = lanes::least(best, lane_sum(store, at, p0, p1, l));
+        best = lanes::lesser(best, sums[at + l] + store[p1 + l]);
         l += 1;
     }
     best
 }
 
 // The first lane with that sum; 0 where there is none.
-fn lane_of(store: &[u32], at: usize, p0: usize, p1: usize, lanes: usize, sum: u32) -> usize
-    requires { ⌜ Low (now store) × (at + lanes ≤ length (now store)) × (p0 + lanes ≤ length (now store)) × (p1 + lanes ≤ length (now store)) ⌝ }
-    ensures { λ r. ⌜ LaneOf (laneSum (now (store .entry)) at p0 p1) lanes sum r ⌝ }
+fn lane_of(sums: &[u32; 768], at: usize, store: &[u32], p1: usize, lanes: usize, sum: u32) -> usize
+    requires { ⌜ Room (now sums) × Low (now store) × (at + lanes ≤ 768) × (p1 + lanes ≤ length (now store)) ⌝ }
+    ensures { λ r. ⌜ SumAt (laneSum (now (sums .entry)) at (now (store .entry)) p1) lanes sum r ⌝ }
 {
     let mut l: usize = 0;
     while l < lanes {
-        if lane_sum(store, at, p0, p1, l) == sum {
+        if sums[at + l] + store[p1 + l] == sum {
             return l;
         }
         l += 1;
@@ -84,36 +157,58 @@ fn lane_of(store: &[u32], at: usize, p0: usize, p1: usize, lanes: usize, sum: u3
     0
 }
 
-// Over the pairs t of row 1.
-fn join_pair(
+// The first start pair of row 0 with that sum to pair t in that lane; 0 where there is none.
+fn start_of(
     store: &[u32],
     i: usize,
     starts: usize,
-    lanes: usize,
-    s: usize,
     q0: usize,
+    a: usize,
+    t: usize,
+    lane: usize,
+    sum: u32,
+) -> usize
+    requires { ⌜ Table starts 60 i (now store) × (q0 < 12) × (a < 60) × (t < starts) × (lane < 60) ⌝ }
+    ensures { λ r. ⌜ SumAt (startSum i (now (store .entry)) q0 a t lane) starts sum r ⌝ }
+{
+    let mut s: usize = 0;
+    while s < starts {
+        if store[case_at(i, s, t) + lane] + store[price_at(0, s, q0, a) + lane] == sum {
+            return s;
+        }
+        s += 1;
+    }
+    0
+}
+
+// The least over the pairs of row 1, and the pair that has it.
+fn best_end(
+    sums: &[u32; 768],
+    store: &[u32],
+    starts: usize,
+    lanes: usize,
     q1: usize,
     a: usize,
 ) -> Best
-    requires { ⌜ Table starts lanes i (now store) × (s < starts) × (q0 < 12) × (q1 < 12) × (a < 60) ⌝ }
-    ensures { λ b. ⌜ Least (pairIn starts lanes i (now (store .entry)) q0 q1 a s) (PairsIn starts lanes i (now (store .entry)) q0 q1 a) (b .value) (b .code) ⌝ }
+    requires { ⌜ Table starts lanes 0 (now store) × Room (now sums) × (q1 < 12) × (a < 60) ⌝ }
+    ensures { λ b. ⌜ Least (lowest B (endSum lanes (now (sums .entry)) (now (store .entry)) q1 a) (from 0 starts)) (Met (endSum lanes (now (sums .entry)) (now (store .entry)) q1 a) starts) (b .value) (b .code) ⌝ }
 {
     let mut best = Best {
         value: lanes::NONE,
         code: 0,
     };
-    let p0 = price_at(0, s, q0, a);
     let mut t: usize = 0;
     while t < starts {
-        let sum = least_lane(store, case_at(i, s, t), p0, price_at(1, t, q1, a), lanes);
-        best = better(best, sum, (s * 768 + t * 64) as u32);
+        let sum = least_lane(sums, t * 64, store, price_at(1, t, q1, a), lanes);
+        best = better(best, sum, t as u32);
         t += 1;
     }
     best
 }
 
-// Over the pairs s of row 0.
-fn join_pairs(
+// The code of a way of that value by pair t of row 1.
+fn source_of(
+    sums: &[u32; 768],
     store: &[u32],
     i: usize,
     starts: usize,
@@ -121,25 +216,22 @@ fn join_pairs(
     q0: usize,
     q1: usize,
     a: usize,
-) -> Best
-    requires { ⌜ Table starts lanes i (now store) × (q0 < 12) × (q1 < 12) × (a < 60) ⌝ }
-    ensures { λ b. ⌜ Least (nextIn starts lanes i (now (store .entry)) q0 q1 a) (PairsIn starts lanes i (now (store .entry)) q0 q1 a) (b .value) (b .code) ⌝ }
+    t: usize,
+    value: u32,
+) -> u32
+    requires { ⌜ Table starts lanes i (now store) × Sums starts lanes i (now store) q0 a starts 0 (now sums) × (q0 < 12) × (q1 < 12) × (a < 60) × (t < starts) × (endSum lanes (now sums) (now store) q1 a t ≡ value) × (value < B) ⌝ }
+    ensures { λ code. ⌜ WayIn starts lanes i (now (store .entry)) q0 q1 a value code × (code < 9216) ⌝ }
 {
-    let mut best = Best {
-        value: lanes::NONE,
-        code: 0,
-    };
-    let mut s: usize = 0;
-    while s < starts {
-        let one = join_pair(store, i, starts, lanes, s, q0, q1, a);
-        best = better(best, one.value, one.code);
-        s += 1;
-    }
-    best
+    let lane = lane_of(sums, t * 64, store, price_at(1, t, q1, a), lanes, value);
+    let at = t * 64 + lane;
+    let s = start_of(store, i, starts, q0, a, t, lane, sums[at]);
+    (s * 768 + at) as u32
 }
 
 // A case: the least over pairs and lanes, and the code of a way to it.
 fn join_case(
+    sums: &[u32; 768],
+    live: bool,
     store: &[u32],
     i: usize,
     starts: usize,
@@ -148,34 +240,34 @@ fn join_case(
     q1: usize,
     a: usize,
 ) -> Best
-    requires { ⌜ Table starts lanes i (now store) × (q0 < 12) × (q1 < 12) × (a < 60) ⌝ }
+    requires { ⌜ Table starts lanes i (now store) × Summed starts lanes i (now store) q0 a (now sums) live × (q0 < 12) × (q1 < 12) × (a < 60) ⌝ }
     ensures { λ b. ⌜ Least (nextIn starts lanes i (now (store .entry)) q0 q1 a) (WayIn starts lanes i (now (store .entry)) q0 q1 a) (b .value) (b .code) ⌝ }
 {
-    let best = join_pairs(store, i, starts, lanes, q0, q1, a);
+    if !live {
+        return Best {
+            value: lanes::NONE,
+            code: 0,
+        };
+    }
+    let best = best_end(sums, store, starts, lanes, q1, a);
     let value = best.value;
     if value == lanes::NONE {
         return Best { value, code: 0 };
     }
-    let code = best.code as usize;
-    let s = code / 768;
-    let t = code % 768 / 64;
-    let lane = lane_of(
-        store,
-        case_at(i, s, t),
-        price_at(0, s, q0, a),
-        price_at(1, t, q1, a),
-        lanes,
-        value,
-    );
+    let t = best.code as usize;
     Best {
         value,
-        code: (code + lane) as u32,
+        code: source_of(sums, store, i, starts, lanes, q0, q1, a, t, value),
     }
 }
+
+// ---- the cases of a stage
 
 // Case (q0, q1, a) of table i + 1, and its source.
 fn put_case(
     store: &mut [u32],
+    sums: &[u32; 768],
+    live: bool,
     i: usize,
     starts: usize,
     lanes: usize,
@@ -183,38 +275,41 @@ fn put_case(
     q1: usize,
     a: usize,
 )
-    requires { ⌜ Table starts lanes i (now store) × (q0 < 12) × (q1 < 12) × (a < 60) ⌝ }
-    ensures { λ _. ⌜ Part starts lanes 12 64 i (q0 * 768 + q1 * 64 + a) (q0 * 768 + q1 * 64 + a + 1) (now (store .entry)) (now (store .exit)) ⌝ }
+    requires { ⌜ Table starts lanes i (now store) × Summed starts lanes i (now store) q0 a (now sums) live × (q0 < 12) × (q1 < 12) × (a < 60) ⌝ }
+    ensures { λ _. ⌜ Part starts lanes i (OneCase q0 q1 a) (now (store .entry)) (now (store .exit)) ⌝ }
 {
-    let best = join_case(store, i, starts, lanes, q0, q1, a);
+    let best = join_case(sums, live, store, i, starts, lanes, q0, q1, a);
     let at = case_at(i + 1, q0, q1) + a;
     store[at] = best.value;
     store[at + (SOURCES - CASES)] = best.code;
 }
 
-// The cases of two pairs, for every pose.
-fn case_row(
+// The cases of a pair of row 0 in a pose, for every pair of row 1.
+fn case_pose(
     store: &mut [u32],
+    sums: &mut [u32; 768],
     i: usize,
     starts: usize,
     lanes: usize,
     q0: usize,
-    q1: usize,
-    poses: usize,
+    ends: usize,
+    a: usize,
 )
-    requires { ⌜ Table starts lanes i (now store) × (q0 < 12) × (q1 < 12) × (poses ≤ 60) ⌝ }
-    ensures { λ _. ⌜ Part starts lanes 12 poses i (q0 * 768 + q1 * 64) (q0 * 768 + q1 * 64 + 64) (now (store .entry)) (now (store .exit)) ⌝ }
+    requires { ⌜ Table starts lanes i (now store) × Room (now sums) × (q0 < 12) × (ends ≤ 12) × (a < 60) ⌝ }
+    ensures { λ _. ⌜ Part starts lanes i (PoseCases q0 ends a) (now (store .entry)) (now (store .exit)) × Room (now (sums .exit)) ⌝ }
 {
-    let mut a: usize = 0;
-    while a < poses {
-        put_case(store, i, starts, lanes, q0, q1, a);
-        a += 1;
+    let live = fill_sums(sums, store, i, starts, lanes, q0, a);
+    let mut q1: usize = 0;
+    while q1 < ends {
+        put_case(store, sums, live, i, starts, lanes, q0, q1, a);
+        q1 += 1;
     }
 }
 
-// The cases of a pair of row 0, for every pair of row 1.
+// The cases of a pair of row 0, for every pair of row 1 and every pose.
 fn case_block(
     store: &mut [u32],
+    sums: &mut [u32; 768],
     i: usize,
     starts: usize,
     lanes: usize,
@@ -222,13 +317,13 @@ fn case_block(
     ends: usize,
     poses: usize,
 )
-    requires { ⌜ Table starts lanes i (now store) × (q0 < 12) × (ends ≤ 12) × (poses ≤ 60) ⌝ }
-    ensures { λ _. ⌜ Part starts lanes ends poses i (q0 * 768) (q0 * 768 + 768) (now (store .entry)) (now (store .exit)) ⌝ }
+    requires { ⌜ Table starts lanes i (now store) × Room (now sums) × (q0 < 12) × (ends ≤ 12) × (poses ≤ 60) ⌝ }
+    ensures { λ _. ⌜ Part starts lanes i (BlockCases q0 ends poses) (now (store .entry)) (now (store .exit)) × Room (now (sums .exit)) ⌝ }
 {
-    let mut q1: usize = 0;
-    while q1 < ends {
-        case_row(store, i, starts, lanes, q0, q1, poses);
-        q1 += 1;
+    let mut a: usize = 0;
+    while a < poses {
+        case_pose(store, sums, i, starts, lanes, q0, ends, a);
+        a += 1;
     }
 }
 
@@ -244,9 +339,10 @@ pub fn join_stage(
     requires { ⌜ Table starts lanes i (now store) × (ends ≤ 12) × (poses ≤ 60) ⌝ }
     ensures { λ _. ⌜ Joined starts lanes ends poses i (now (store .entry)) (now (store .exit)) ⌝ }
 {
+    let mut sums = [lanes::NONE; 768];
     let mut q0: usize = 0;
     while q0 < ends {
-        case_block(store, i, starts, lanes, q0, ends, poses);
+        case_block(store, &mut sums, i, starts, lanes, q0, ends, poses);
         q0 += 1;
     }
 }

@@ -227,5 +227,8 @@ same-low n x b = record { word = λ k. go k (decLt k n) }
 pub none-at : (l : ℕ) → l < 64 → getD (replicate 64 B) l 0 ≡ B
 none-at l h = getD-replicate 64 l B 0 h
 
+pub nones-low : (n : ℕ) → Low (replicate n B)
+nones-low n = same-low n B (omega arith)
+
 pub none-low : Low (replicate 64 B)
-none-low = same-low 64 B (omega arith)
+none-low = nones-low 64

@@ -1,7 +1,7 @@
 // Loops over the lanes of a row: a row is 64 words, one for each start of a stretch, all at once.
 ghost use mathlib.Core.Path.{_≡_};
 ghost use Prim.Native.Nat.{ℕ, _+_, _*_, _≤_, _<_, min};
-ghost use lib.ListN.{length, getD};
+ghost use lib.ListN.{length, getD, replicate};
 ghost use Rattle.model.specs.Steps.{B};
 ghost use Rattle.lanes.specs.Lanes.{Lowered, charged, withOwn, always, wordsFrom, alwaysRows, rowsFrom};
 ghost use Rattle.lanes.specs.Store.{Low, Written, WrittenRows};
@@ -21,6 +21,20 @@ pub fn lesser(x: u32, y: u32) -> u32
     ensures { λ r. ⌜ r ≡ min x y ⌝ }
 {
     if (x as i32) < (y as i32) { x } else { y }
+}
+
+// NONE if all lanes of a row are NONE; in any case at most each of them.
+pub fn common(row: &[u32], at: usize, lanes: usize) -> u32
+    requires { ⌜ at + lanes ≤ length (now row) ⌝ }
+    ensures { λ x. ⌜ ((l : ℕ) → l < lanes → x ≤ getD (now (row .entry)) (at + l) 0) ⌝ }
+{
+    let mut x = NONE;
+    let mut l: usize = 0;
+    while l < lanes {
+        x = x & row[at + l];
+        l += 1;
+    }
+    x
 }
 
 // Each lane of `acc` lowered to the row's word plus a charge.
@@ -95,16 +109,13 @@ pub fn copy_rows(store: &mut [u32], from: usize, at: usize, rows: usize, lanes: 
     }
 }
 
-// NONE if all lanes of a row are NONE; in any case at most each of them.
-pub fn common(row: &[u32], at: usize, lanes: usize) -> u32
-    requires { ⌜ at + lanes ≤ length (now row) ⌝ }
-    ensures { λ x. ⌜ ((l : ℕ) → l < lanes → x ≤ getD (now (row .entry)) (at + l) 0) ⌝ }
+// Zeros in every word.
+pub fn clear(store: &mut [u32])
+    ensures { λ _. ⌜ now (store .exit) ≡ replicate (length (now (store .entry))) 0 ⌝ }
 {
-    let mut x = NONE;
-    let mut l: usize = 0;
-    while l < lanes {
-        x = x & row[at + l];
-        l += 1;
+    let mut i = 0;
+    while i < store.len() {
+        store[i] = 0;
+        i += 1;
     }
-    x
 }

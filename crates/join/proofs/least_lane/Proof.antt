@@ -1,10 +1,10 @@
 -- Each turn takes one lane more. Assumes nothing.
-use Prim.Native.Nat.{_-_, _≤_}
+use Prim.Native.Nat.{_+_, _-_, _≤_}
 use mathlib.Core.Path.{_≡_, sym}
 use Rattle.rows.specs.Lists.{from}
-use Rattle.pair.specs.Coded.{lowest}
+use Rattle.pair.specs.Coded.{lowest, lowest-low}
 use Rattle.model.specs.Steps.{B}
-use Rattle.join.specs.Tables.{laneSum}
+use Rattle.join.specs.Sums.{laneSum}
 use Rattle.join.specs.Laws.{lowest-zero, lowest-more}
 use native.Mathlib.Omega.{arith}
 use borrow.Author.Needs.{needs}
@@ -12,20 +12,45 @@ use Rattle.join.proofs.least_lane.Statement.{statement}
 use Rattle.join.proofs.least_lane.Tie as tie
 
 abbrev Inv-loop : tie.InvT-loop
-Inv-loop store at p0 p1 lanes best₀ l₀ best l =
-    (l ≤ lanes) × (best ≡ lowest B (laneSum store at p0 p1) (from 0 l))
+Inv-loop sums at store p1 lanes best₀ l₀ best l =
+    (l ≤ lanes) × (best ≡ lowest B (laneSum sums at store p1) (from 0 l))
 
 abbrev μ-loop : tie.MeasureT-loop
-μ-loop store at p0 p1 lanes best₀ l₀ best l = lanes - l
+μ-loop sums at store p1 lanes best₀ l₀ best l = lanes - l
 
 loop-holds : tie.Need-loop-holds Inv-loop μ-loop
 loop-holds c = (omega arith, sym (lowest-zero _))
 
-lane-sum-requires : tie.Need-lane-sum-requires Inv-loop μ-loop
-lane-sum-requires c κs = search needs
+add-lesser : tie.Need-add-lesser Inv-loop μ-loop
+add-lesser c = search needs
 
-least-requires : tie.Need-least-requires Inv-loop μ-loop
-least-requires c κs = search needs
+mul-lesser : tie.Need-mul-lesser Inv-loop μ-loop
+mul-lesser c = search needs
+
+element-copy-out-lesser : tie.Need-element-copy-out-lesser Inv-loop μ-loop
+element-copy-out-lesser c = search needs
+
+add-lesser-2 : tie.Need-add-lesser-2 Inv-loop μ-loop
+add-lesser-2 c = search needs
+
+mul-lesser-2 : tie.Need-mul-lesser-2 Inv-loop μ-loop
+mul-lesser-2 c = search needs
+
+shared-slice-read-lesser : tie.Need-shared-slice-read-lesser Inv-loop μ-loop
+shared-slice-read-lesser c = search needs
+
+add-lesser-3 : tie.Need-add-lesser-3 Inv-loop μ-loop
+add-lesser-3 c =
+    let k = c .before .before .before .before .before in
+    let l = c .before .before .before .loop .l in
+    omega (arith, k .pre .0 .low .word (k .args .at + l), k .pre .1 .word (k .args .p1 + l))
+
+lesser-requires : tie.Need-lesser-requires Inv-loop μ-loop
+lesser-requires c κs =
+    let k = c .before .before .before .before .before in
+    let a = k .args in
+    let l = c .before .before .before .loop in
+    (omega (arith, lowest-low B (laneSum (a .sums .now) (a .at) (a .store .now) (a .p1)) (from 0 (l .l))), omega (arith, k .pre .0 .low .word (a .at + l .l), k .pre .1 .word (a .p1 + l .l)))
 
 add-l : tie.Need-add-l Inv-loop μ-loop
 add-l c = search needs
@@ -34,10 +59,11 @@ loop-less : tie.Need-loop-less Inv-loop μ-loop
 loop-less c = search needs
 
 loop-again : tie.Need-loop-again Inv-loop μ-loop
+unfolding laneSum
 loop-again c =
-    let k = c .before .before .before .before .before in
-    let l = c .before .before .before .loop .l in
-    (omega arith, omega (arith, lowest-more (laneSum (k .args .store .now) (k .args .at) (k .args .p0) (k .args .p1)) l))
+    let a = c .before .before .before .before .before .before .args in
+    let l = c .before .before .before .before .loop .l in
+    (omega arith, omega (arith, c .lesser .ensures, lowest-more (laneSum (a .sums .now) (a .at) (a .store .now) (a .p1)) l))
 
 returns : tie.Need-returns Inv-loop μ-loop
 returns c =
@@ -51,8 +77,14 @@ least-lane-spec =
     Inv-loop
     μ-loop
     loop-holds
-    lane-sum-requires
-    least-requires
+    add-lesser
+    mul-lesser
+    element-copy-out-lesser
+    add-lesser-2
+    mul-lesser-2
+    shared-slice-read-lesser
+    add-lesser-3
+    lesser-requires
     add-l
     loop-less
     loop-again

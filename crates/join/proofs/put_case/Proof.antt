@@ -44,7 +44,7 @@ returns : tie.Need-returns
 returns c =
     let k = c .before .before .before .before in
     let a = k .args in
-    part-put (a .starts) (a .lanes) 12 64 (a .i) (a .q0) (a .q1) (a .a) (c .case-at .result + a .a) _ _ (k .pre .0) (omega arith) (omega arith) (omega arith) (omega arith) (c .before .join-case .ensures)
+    part-put (a .starts) (a .lanes) (a .i) (a .q0) (a .q1) (a .a) (c .case-at .result + a .a) _ _ (k .pre .0) (omega arith) (omega arith) (omega arith) (omega arith) (c .before .join-case .ensures)
 
 pub put-case-spec : {M : Type 1} → statement M
 put-case-spec =
