@@ -4,3 +4,4 @@ pub mod Rows
 pub mod Table
 pub mod Laws
 pub mod TableLaws
+pub mod SpreadLaws

@@ -87,49 +87,6 @@ pub fn fill_pays(pays: &mut [u32; 20], line: &[u32], k: usize, m: usize)
 
 // ---- one source
 
-// The lanes from `to` on lowered to the row's words plus a charge.
-fn lower(table: &mut [u32; 6080], to: usize, row: &[u32], at: usize, charge: u32, lanes: usize)
-    requires { ⌜ (to + lanes ≤ 6080) × (length (now table) ≡ 6080) × (at + lanes ≤ length (now row)) × (charge ≤ B) × Low (now row) × Low (now table) ⌝ }
-    ensures { λ _. ⌜ LoweredAt (charged (now (row .entry)) at charge) to lanes (now (table .entry)) (now (table .exit)) ⌝ }
-{
-    let mut l: usize = 0;
-    while l < lanes {
-        table[to + l] = lanes::lesser(table[to + l], row[at + l] + charge);
-        l += 1;
-    }
-}
-
-// A source row, so many lanes to those from `lane` on, to row t of every plane, or of plane 4 alone if t is 0; u is the source's variant.
-pub fn spread(
-    table: &mut [u32; 6080],
-    row: &[u32],
-    at: usize,
-    pays: &[u32; 20],
-    u: usize,
-    t: usize,
-    lane: usize,
-    lanes: usize,
-)
-    requires { ⌜ Low (now table) × (length (now table) ≡ 6080) × Low (now row) × (at + lanes ≤ length (now row)) × PaysLow (now pays) × (u < 4) × (t < 19) × (lane + lanes ≤ 64) ⌝ }
-    ensures { λ _. ⌜ Spread (chargedBy (now (row .entry)) at (now (pays .entry)) u) t 5 lane lanes (now (table .entry)) (now (table .exit)) ⌝ }
-{
-    let mut v: usize = 0;
-    if t == 0 {
-        v = 4;
-    }
-    while v < 5 {
-        lower(
-            table,
-            v * 1216 + t * 64 + lane,
-            row,
-            at,
-            pays[u * 5 + v],
-            lanes,
-        );
-        v += 1;
-    }
-}
-
 // One word lowered.
 fn lower_one(table: &mut [u32; 6080], to: usize, x: u32)
     requires { ⌜ (to < 6080) × (length (now table) ≡ 6080) × Low (now table) × (x ≤ 536870912) ⌝ }
@@ -167,6 +124,27 @@ pub fn spread_one(
 {
     spread_near(table, x, pays, u, t, lane);
     lower_one(table, 4864 + t * 64 + lane, x + pays[u * 5 + 4]);
+}
+
+// A source row, so many lanes, by its variant u: to row t of every plane, or of plane 4 alone if t is 0. The planes of a lane are lowered together,
+// so that each word of the row is read once.
+fn spread(
+    table: &mut [u32; 6080],
+    row: &[u32],
+    at: usize,
+    pays: &[u32; 20],
+    u: usize,
+    t: usize,
+    lanes: usize,
+)
+    requires { ⌜ Low (now table) × (length (now table) ≡ 6080) × Low (now row) × (at + lanes ≤ length (now row)) × PaysLow (now pays) × (u < 4) × (t < 19) × (lanes ≤ 64) ⌝ }
+    ensures { λ _. ⌜ Spread (chargedBy (now (row .entry)) at (now (pays .entry)) u) t 5 0 lanes (now (table .entry)) (now (table .exit)) ⌝ }
+{
+    let mut l: usize = 0;
+    while l < lanes {
+        spread_one(table, row[at + l], pays, u, t, l);
+        l += 1;
+    }
 }
 
 // Pose b of the cell at position k where there is one lane: whether it lowered anything.
@@ -222,7 +200,7 @@ fn from_pose(
     if lanes::common(store, at + b * 64, lanes) >= lanes::NONE {
         return false;
     }
-    spread(table, store, at + b * 64, pays, b % 4, t, 0, lanes);
+    spread(table, store, at + b * 64, pays, b % 4, t, lanes);
     true
 }
 
