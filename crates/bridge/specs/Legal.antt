@@ -1,8 +1,8 @@
 -- A placement is legal just if it is legal in the pair's theory. Assumes nothing.
-use mathlib.Core.Path.{_≡_, sym, ap, _∙_, subst}
+use mathlib.Core.Path.{_≡_, refl, sym, ap, _∙_, subst}
 use mathlib.Core.Logic.{_↔_}
 use mathlib.Core.Bool.{Bool, true, _&&_}
-use mathlib.Core.List.{List·Memᴰ as In}
+use mathlib.Core.List.{List, [], _∷_, List·Memᴰ as In}
 use Prim.Native.Nat.{ℕ, _≤_, _<_}
 use native.Mathlib.Omega.{arith}
 use borrow.Author.Tests.{ltb-true, lt-ltb, ltb-false, le-ltb}
@@ -14,12 +14,25 @@ use Rattle.definition.specs.Job as job
 use Rattle.definition.specs.Placement.{Pose, Placement}
 use Rattle.definition.specs.Rules.{Legal, Holds, cellAt, siteAt, cellsOf, wrongSide, breaks7}
 use Rattle.definition.specs.Sound.{Sound}
-use Rattle.pair.specs.Cells.{isTall, LegalPair}
-use Rattle.bridge.specs.Paired.{siteOf, offersOf, pairJob}
+use Rattle.pair.specs.Ends.{Ended, lastFrom}
+use Rattle.pair.specs.Cells.{Side, isTall, rowOrder, RowEnded, LegalPair}
+use Rattle.bridge.specs.Paired.{siteOf, offersOf, endAllowed, opensOf, closesOf, pairJob}
 use Rattle.bridge.specs.Tests.{and-false, or-false, any-false}
 use Rattle.bridge.specs.Offers.{Keeps, offered-rules}
 use Rattle.bridge.specs.Row.{Gives, in-cells, isTall-same}
 use Rattle.bridge.specs.RowRules.{rule4-same, rule5-same, rule6-same}
+
+-- ---- the row's ends
+
+-- any number of sites may be empty at them
+pub end-allowed : (gap : ℕ) → endAllowed gap ≡ true
+unfolding endAllowed
+end-allowed gap = refl
+
+-- cells each of which may be the first of a row, and the last
+free-ends : (opens closes : ℕ → Bool) → ((k : ℕ) → opens k ≡ true) → ((k : ℕ) → closes k ≡ true) → (l : List ℕ) → Ended opens closes l
+free-ends opens closes o c [] = tt
+free-ends opens closes o c (a ∷ l) = (o a, c (lastFrom a l))
 
 module _ (j : Job) (sound : Sound j) (P : Placement) (f : ℕ → Pose) (g : Gives P (length (j .cells)) f) where
   -- rule 7
@@ -69,6 +82,10 @@ module _ (j : Job) (sound : Sound j) (P : Placement) (f : ℕ → Pose) (g : Giv
             and-false (ltb k b) (ltb (siteAt P b) (siteAt P k)) .1 (λ e. le-ltb (siteAt P b) (siteAt P k) (keeps c k b (ltb-true k b e) (in-cells j sound b .0 m) tk tb)),
           ))))
 
+  -- no rule speaks of the row's ends, and each is allowed
+  row-ended : (s : Side) → RowEnded siteOf (pairJob j) f s
+  row-ended s = free-ends (λ k. opensOf j k (f k)) (λ k. closesOf j k (f k)) (λ k. end-allowed _) (λ k. end-allowed _) (rowOrder siteOf (pairJob j) f s)
+
   pub legal-pair : length P ≡ length (j .cells) → Legal j P ↔ LegalPair (j .header .reordering) siteOf (pairJob j) f
   legal-pair size = (to, back)
     where
@@ -81,6 +98,7 @@ module _ (j : Job) (sound : Sound j) (P : Placement) (f : ℕ → Pose) (g : Giv
           rule6 = rule6-same j sound P f g .0 (l .rule6) s;
         };
         inOrder = rule7-same .0 (l .rule7);
+        ended = row-ended;
       }
 
       back : LegalPair (j .header .reordering) siteOf (pairJob j) f → Legal j P

@@ -1,7 +1,7 @@
 -- A job of document 01 as a job of the pair's theory, where what a cell is offered is a list of poses: those that rules 1 to 3 allow it, by their
 -- numbers. A cell's own cost and what neighbours pay are the terms of the cost. Definitions; crate `bridge` proves that they say the same.
 use Prim.Native.Nat.{ℕ, zero, suc, _+_, _-_, _*_, _/_, _%_}
-use mathlib.Core.Bool.{Bool, _&&_, _||_, cond}
+use mathlib.Core.Bool.{Bool, true, _&&_, _||_, cond}
 use mathlib.Core.List.{List, [], _∷_, map}
 use lib.ListN.{length, getD}
 use lib.Dec.{leb, ltb, eqb}
@@ -54,6 +54,20 @@ isOffered j k a =
 unfoldable pub offersOf : Job → ℕ → List Pose
 offersOf j k = map (poseNumber j k) (pick (isOffered j k) (from 0 (poseNumbers j)))
 
+-- ---- what the row's ends allow
+
+-- how many sites may be empty between a row's end and the cell nearest to it: any number. A rule of row ends changes this line, and its laws
+-- `end-allowed` and `row-ended` in Legal.antt.
+unfoldable pub endAllowed : ℕ → Bool
+endAllowed gap = true
+
+-- cell k may be the first of its rows, and the last
+abbrev pub opensOf : Job → ℕ → Pose → Bool
+opensOf j k p = endAllowed (p .site)
+
+abbrev pub closesOf : Job → ℕ → Pose → Bool
+closesOf j k p = endAllowed (j .header .sites - (p .site + widthOf j k p))
+
 -- ---- what it costs
 
 -- shift, mirroring and layout of cell k
@@ -86,4 +100,6 @@ pairJob j = record {
   wide = widthOf j;
   own = ownOf j;
   pay = payOf j;
+  opens = opensOf j;
+  closes = closesOf j;
 }

@@ -14,27 +14,27 @@ module _ (talls : ℕ) where
   Agree f g = (I : ℕ) → I < talls → f I ≡ g I
 
   module _ (D : Deck) (R : ℕ) (f g : ℕ → ℕ) (h : Agree f g) where
-    end-same : (I : ℕ) (x : Layer) (i q a : ℕ) → stageEnd D R talls f I x i q a ≡ stageEnd D R talls g I x i q a
+    end-same : (I : ℕ) (x : Layer) (i e q a : ℕ) → stageEnd D R talls f I x i e q a ≡ stageEnd D R talls g I x i e q a
     unfolding stageEnd
-    end-same I x i q a = go (ltb I talls) (ltb-true I talls) _
+    end-same I x i e q a = go (ltb I talls) (ltb-true I talls) _
       where
         go : (t : Bool) → (t ≡ true → I < talls) → (y : ℕ) → cond t (priceTo D R x i (f I) q a) y ≡ cond t (priceTo D R x i (g I) q a) y
-        go true e y = ap (λ p. priceTo D R x i p q a) (h I (e refl))
-        go false e y = refl
+        go true l y = ap (λ p. priceTo D R x i p q a) (h I (l refl))
+        go false l y = refl
 
     open-same : (q a : ℕ) → openPrice D R talls f q a ≡ openPrice D R talls g q a
     unfolding openPrice
-    open-same q a = end-same 0 (firstOpen D R) 1 q a
+    open-same q a = end-same 0 (firstOpen D R) 1 0 q a
 
     stage-same : (I : ℕ) → I < talls → stagePrice D R talls f I ≡ stagePrice D R talls g I
     unfolding stagePrice
     stage-same I l = fun-ext (λ s. fun-ext (λ t. fun-ext (λ q. fun-ext (λ a. at s t q a))))
       where
         from : ℕ → ℕ → ℕ → ℕ → ℕ → ℕ
-        from p s t q a = stageEnd D R talls g (suc I) (firstAfter D R (placedWith R p s) (marks R s) p t) (suc (placedWith R p s)) q a
+        from p s t q a = stageEnd D R talls g (suc I) (firstAfter D R (placedWith R p s) (marks R s) p t) (suc (placedWith R p s)) (D .back p t) q a
 
         at : (s t q a : ℕ) → stagePrice D R talls f I s t q a ≡ stagePrice D R talls g I s t q a
-        at s t q a = end-same (suc I) _ _ q a ∙ ap (λ p. from p s t q a) (h I l)
+        at s t q a = end-same (suc I) _ _ _ q a ∙ ap (λ p. from p s t q a) (h I l)
 
   module _ (D₀ D₁ : Deck) (R : ℕ) (f₀ g₀ f₁ g₁ : ℕ → ℕ) (h₀ : Agree f₀ g₀) (h₁ : Agree f₁ g₁) where
     pub table-same : (I : ℕ) → I ≤ talls → caseTable D₀ D₁ R talls f₀ f₁ I ≡ caseTable D₀ D₁ R talls g₀ g₁ I

@@ -10,7 +10,7 @@ use lib.ListN.{getD}
 use lib.Dec.{leb, ltb, eqb}
 use Rattle.definition.specs.Cost.{charges, charge}
 use Rattle.model.specs.Steps.{B, offset, lastAt, isSource}
-use Rattle.deck.specs.Words.{wordOf, differIn, siteIn, endIn, tollIn, deckOf, thereIn, LineWords}
+use Rattle.deck.specs.Words.{wordOf, differIn, siteIn, endIn, tollIn, frontIn, backIn, deckOf, thereIn, LineWords}
 
 pub charge-low : (gap : ℕ) → charge gap ≤ 1
 charge-low gap = go (min gap 4) (omega arith)
@@ -49,6 +49,15 @@ toll-low {line} k b m a w =
     let y = endIn line k b in
     let p = charged-low (charge-low (x - y)) (pay-low (w .weight m) (differ-low line k b m a)) in
     cond-low (ltb x y) (omega arith) (cond-low (eqb (x - y) 1) (omega arith) (omega arith))
+
+-- what the ends of a row pay is no word over B
+pub front-low : (line : List ℕ) (k a : ℕ) → frontIn line k a ≤ B
+unfolding frontIn
+front-low line k a = omega arith
+
+pub back-low : (line : List ℕ) (k a : ℕ) → backIn line k a ≤ B
+unfolding backIn
+back-low line k a = omega arith
 
 -- a test of two parts, whose first part fails or holds
 pub and-away : (s t : Bool) → s ≡ false → false ≡ (s && t)

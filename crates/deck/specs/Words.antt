@@ -37,8 +37,17 @@ tollAt x y pay = cond (ltb x y) B (cond (eqb (x - y) 1) B (charge (x - y) * pay)
 unfoldable pub tollIn : List ℕ → ℕ → ℕ → ℕ → ℕ → ℕ
 tollIn line k b m a = tollAt (siteIn line m a) (endIn line k b) (wordOf line m 84 * differIn line k b m a)
 
+-- what a cell pays as the first of its row, and as the last: document 01 lets a row begin and end anywhere (request A1 is to change these lines and
+-- their laws)
+unfoldable pub frontIn : List ℕ → ℕ → ℕ → ℕ
+frontIn line k a = 0
+
+unfoldable pub backIn : List ℕ → ℕ → ℕ → ℕ
+backIn line k a = 0
+
 abbrev pub deckOf : List ℕ → ℕ → ℕ → Deck
-deckOf line n poses = record { size = n; poses = poses; own = λ k a. wordOf line k a; toll = tollIn line; tall = λ k. eqb (wordOf line k 67) 1 }
+deckOf line n poses =
+    record { size = n; poses = poses; own = λ k a. wordOf line k a; toll = tollIn line; tall = λ k. eqb (wordOf line k 67) 1; front = frontIn line; back = backIn line }
 
 -- with i cells placed, the row of n cells has the last of them, that of pair q; so it is with every deck of n cells
 abbrev pub thereIn : ℕ → ℕ → ℕ → ℕ → Bool

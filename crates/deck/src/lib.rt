@@ -5,7 +5,7 @@ ghost use Prim.Native.Nat.{ℕ, suc, _+_, _*_, _≤_, _<_};
 ghost use lib.ListN.{length, getD};
 ghost use lib.Dec.{eqb};
 ghost use Rattle.model.specs.Steps.{pairCount, lastAt, isSource};
-ghost use Rattle.deck.specs.Words.{siteIn, endIn, differIn, tollIn, deckOf, thereIn, PairWords, LineWords};
+ghost use Rattle.deck.specs.Words.{siteIn, endIn, differIn, tollIn, frontIn, backIn, deckOf, thereIn, PairWords, LineWords};
 
 // A word as a count or a place.
 pub fn word(words: &[u32], at: usize) -> usize
@@ -109,4 +109,20 @@ pub fn toll(line: &[u32], k: usize, b: usize, m: usize, a: usize) -> u32
         return lanes::NONE;
     }
     gap::charge_of(gap) * (line[m * 128 + 84] * differ(line, k, b, m, a))
+}
+
+// What the cell at position k pays in pose a as the first of its row; NONE where it may not stand there.
+pub fn front(line: &[u32], k: usize, a: usize) -> u32
+    requires { ⌜ LineWords (now line) × (k < 64) × (a < 60) ⌝ }
+    ensures { λ x. ⌜ x ≡ frontIn (now (line .entry)) k a ⌝ }
+{
+    0
+}
+
+// The same as the last of its row.
+pub fn back(line: &[u32], k: usize, a: usize) -> u32
+    requires { ⌜ LineWords (now line) × (k < 64) × (a < 60) ⌝ }
+    ensures { λ x. ⌜ x ≡ backIn (now (line .entry)) k a ⌝ }
+{
+    0
 }

@@ -7,9 +7,9 @@ use lib.ListN.{getD}
 use lib.Dec.{eqb}
 use Rattle.rows.specs.Lists.{from}
 use Rattle.pair.specs.Coded.{lowest}
-use Rattle.model.specs.Steps.{B, Deck, Layer, pairCount, lastAt, isThere, ends, priceEnd}
+use Rattle.model.specs.Steps.{B, Deck, Layer, lastAt, isThere, ends, priceEnd}
 use Rattle.lanes.specs.Store.{Frame, Low, layerIn}
-use Rattle.deck.specs.Words.{wordOf, thereIn}
+use Rattle.deck.specs.Words.{wordOf, backIn, thereIn}
 use Rattle.stretch.specs.Runs.{Running, Outside}
 
 -- pair q's cell can be the last of the row: the row has it, and it is single
@@ -18,21 +18,22 @@ endsWith line n R q = thereIn n R n q && not (eqb (wordOf line (lastAt R n q) 67
 
 -- ---- the loops
 
--- the least of the poses below m of pair q
-unfoldable pub leastPoses : Layer → ℕ → ℕ → ℕ
-leastPoses f q m = lowest B (f q) (from 0 m)
+-- the least of the poses below m of pair q, each with what it pays as the last
+unfoldable pub leastPoses : (ℕ → ℕ) → Layer → ℕ → ℕ → ℕ
+leastPoses back f q m = lowest B (λ a. f q a + back a) (from 0 m)
 
 -- of pair q, if its cell can be the last
 unfoldable pub leastPair : Deck → ℕ → Layer → ℕ → ℕ
-leastPair D R f q = cond (isThere D R (D .size) q && not (D .tall (lastAt R (D .size) q))) (leastPoses f q (D .poses)) B
+leastPair D R f q =
+    cond (isThere D R (D .size) q && not (D .tall (lastAt R (D .size) q))) (leastPoses (D .back (lastAt R (D .size) q)) f q (D .poses)) B
 
 -- of the pairs below m
 unfoldable pub leastPairs : Deck → ℕ → Layer → ℕ → ℕ
 leastPairs D R f m = lowest B (leastPair D R f) (from 0 m)
 
--- the same in lane l of a layer in the store
-abbrev pub leastPosesIn : List ℕ → ℕ → ℕ → ℕ → ℕ → ℕ
-leastPosesIn st at q m l = leastPoses (layerIn st at l) q m
+-- the same in lane l of a layer in the store; the cell is at position k
+abbrev pub leastPosesIn : List ℕ → ℕ → List ℕ → ℕ → ℕ → ℕ → ℕ → ℕ
+leastPosesIn line k st at q m l = leastPoses (backIn line k) (layerIn st at l) q m
 
 abbrev pub leastPairIn : Deck → ℕ → List ℕ → ℕ → ℕ → ℕ → ℕ
 leastPairIn D R st at q l = leastPair D R (layerIn st at l) q
@@ -51,16 +52,8 @@ pub record Ran (D : Deck) (R lanes i d at : ℕ) (old new : List ℕ) : Type 0 w
   pub frame : Frame 0 98304 old new
   pub low : Low new
 
--- the prices to the row's end, a word for each lane
-pub record EndLanes (D : Deck) (R lanes i prices : ℕ) (old new : List ℕ) : Type 0 where
+-- the prices to the row's end, a word for each lane; `starts` has what the start of each lane pays as the last
+pub record Ended (D : Deck) (R lanes i prices : ℕ) (starts old new : List ℕ) : Type 0 where
   pub outside : Outside prices 64 old new
   pub low : Low new
-  pub right : (l : ℕ) → l < lanes → getD new (prices + l) 0 ≡ priceEnd D R (layerIn old 0 l) i
-
--- the row's end is pair 0 and pose 0; there is no way to another one
-pub record Ended (D : Deck) (R lanes i prices : ℕ) (old new : List ℕ) : Type 0 where
-  pub outside : Outside prices 49152 old new
-  pub low : Low new
-  pub first : (l : ℕ) → l < lanes → getD new (prices + l) 0 ≡ priceEnd D R (layerIn old 0 l) i
-  pub right : (q a l : ℕ) → q < pairCount R → a < D .poses → l < lanes
-      → layerIn new prices l q a ≡ cond (eqb q 0 && eqb a 0) (priceEnd D R (layerIn old 0 l) i) B
+  pub right : (l : ℕ) → l < lanes → getD new (prices + l) 0 ≡ priceEnd D R (layerIn old 0 l) i (getD starts l 0)

@@ -1,43 +1,46 @@
 -- Laws of the row's end: one turn more of each loop, and that only the entries of the first layer count. Assumes nothing.
-use Prim.Native.Nat.{ℕ, suc, _+_, _*_, _-_, _≤_, _<_, min}
+use Prim.Native.Nat.{ℕ, suc, _+_, _-_, _≤_, _<_, min}
 use mathlib.Core.Path.{_≡_, refl, sym, ap, _∙_}
-use mathlib.Core.Bool.{Bool, true, false, not, _&&_, cond}
+use mathlib.Core.Bool.{true, false, not, _&&_, cond}
 use mathlib.Core.List.{List}
 use native.Mathlib.Omega.{arith}
 use borrow.Author.Tests.{le-leb, lt-leb, eq-eqb, ne-eqb}
 use lib.ListN.{getD}
 use lib.Dec.{leb, eqb}
-use Rattle.rows.specs.Lists.{from, Eq?, same, differs, eq?}
+use Rattle.rows.specs.Lists.{from}
 use Rattle.pair.specs.Coded.{lowest-low}
 use Rattle.model.specs.Steps.{B, Deck, Layer, pairCount, lastAt, isThere, layers, ends, priceEnd}
-use Rattle.lanes.specs.Lanes.{always}
+use Rattle.model.specs.Spots.{and-both}
 use Rattle.lanes.specs.Store.{Written, layerIn, Filled}
 use Rattle.lanes.specs.Laws.{frame-join}
+use Rattle.deck.specs.Words.{thereIn}
+use Rattle.deck.specs.Laws.{there-size}
 use Rattle.layer.specs.Loops.{nextFrom}
 use Rattle.layer.specs.Laws.{lowest-none, lowest-more, lowest-ext}
-use Rattle.stretch.specs.Runs.{Running, Small}
-use Rattle.stretch.specs.Laws.{layers-ext, buffer-low, run-more, outside-join, outside-prices, outside-widen}
-use Rattle.finish.specs.Ends.{leastPoses, leastPair, leastPairs, Ran, EndLanes, Ended}
+use Rattle.stretch.specs.Runs.{Running}
+use Rattle.stretch.specs.Laws.{layers-ext, buffer-low, run-more, outside-prices}
+use Rattle.finish.specs.Ends.{endsWith, leastPoses, leastPair, leastPairs, Ran, Ended}
 
 -- ---- the loops
 
-module _ (f : Layer) (q : ℕ) where
-  pub poses-none : leastPoses f q 0 ≡ B
+module _ (back : ℕ → ℕ) (f : Layer) (q : ℕ) where
+  pub poses-none : leastPoses back f q 0 ≡ B
   unfolding leastPoses
   poses-none = lowest-none _
 
-  pub poses-more : (m : ℕ) → leastPoses f q (m + 1) ≡ min (leastPoses f q m) (f q m)
+  pub poses-more : (m : ℕ) → leastPoses back f q (m + 1) ≡ min (leastPoses back f q m) (f q m + back m)
   unfolding leastPoses
   poses-more m = lowest-more _ m
 
 module _ (D : Deck) (R : ℕ) (f : Layer) where
-  pub pair-in : (q : ℕ) → (isThere D R (D .size) q && not (D .tall (lastAt R (D .size) q))) ≡ true → leastPair D R f q ≡ leastPoses f q (D .poses)
+  pub pair-in : (q : ℕ) → (isThere D R (D .size) q && not (D .tall (lastAt R (D .size) q))) ≡ true
+      → leastPair D R f q ≡ leastPoses (D .back (lastAt R (D .size) q)) f q (D .poses)
   unfolding leastPair
-  pair-in q e = ap (λ t. cond t (leastPoses f q (D .poses)) B) e
+  pair-in q e = ap (λ t. cond t (leastPoses (D .back (lastAt R (D .size) q)) f q (D .poses)) B) e
 
   pub pair-out : (q : ℕ) → (isThere D R (D .size) q && not (D .tall (lastAt R (D .size) q))) ≡ false → leastPair D R f q ≡ B
   unfolding leastPair
-  pair-out q e = ap (λ t. cond t (leastPoses f q (D .poses)) B) e
+  pair-out q e = ap (λ t. cond t (leastPoses (D .back (lastAt R (D .size) q)) f q (D .poses)) B) e
 
   pub pairs-none : leastPairs D R f 0 ≡ B
   unfolding leastPairs
@@ -61,20 +64,24 @@ module _ (D : Deck) (R : ℕ) (f : Layer) where
       let b = ap (leastPairs D R f) n ∙ pairs-all in
       omega (arith, b, pairs-low count)
 
+-- a cell that can be the last stands in the row
+pub ends-size : (line : List ℕ) (n R q : ℕ) → endsWith line n R q ≡ true → lastAt R n q < n
+ends-size line n R q e = there-size n R n q (and-both (thereIn n R n q) _ e .0)
+
 -- ---- the three cases of the price
 
-module _ (D : Deck) (R : ℕ) (f : Layer) (i : ℕ) where
-  pub price-run : i ≤ D .size → priceEnd D R f i ≡ ends D R (layers D R f i (D .size - i))
+module _ (D : Deck) (R : ℕ) (f : Layer) (i e : ℕ) where
+  pub price-run : i ≤ D .size → priceEnd D R f i e ≡ ends D R (layers D R f i (D .size - i))
   unfolding priceEnd
   price-run h = rw (le-leb i (D .size) h)
 
-  pub price-done : i ≡ suc (D .size) → priceEnd D R f i ≡ 0
+  pub price-done : i ≡ suc (D .size) → priceEnd D R f i e ≡ e
   unfolding priceEnd
-  price-done e = rw (lt-leb i (D .size) (omega arith), eq-eqb i (suc (D .size)) e)
+  price-done h = rw (lt-leb i (D .size) (omega arith), eq-eqb i (suc (D .size)) h)
 
-  pub price-past : suc (D .size) < i → priceEnd D R f i ≡ B
+  pub price-past : suc (D .size) < i → priceEnd D R f i e ≡ B
   unfolding priceEnd
-  price-past h = rw (lt-leb i (D .size) (omega arith), ne-eqb i (suc (D .size)) (λ e. omega arith))
+  price-past h = rw (lt-leb i (D .size) (omega arith), ne-eqb i (suc (D .size)) (λ z. omega arith))
 
 -- ---- only the entries of the layer count
 
@@ -85,24 +92,24 @@ module _ (D : Deck) (R : ℕ) (f g : Layer) (alike : (q b : ℕ) → q < pairCou
       lowest-ext _ _ 0 (pairCount R)
       (λ q h.
       ap (λ (x : ℕ). cond (isThere D R (D .size) q && not (D .tall (lastAt R (D .size) q))) x B)
-      (lowest-ext (f q) (g q) 0 (D .poses) (λ b k. alike q b (omega arith) (omega arith))))
+      (lowest-ext _ _ 0 (D .poses) (λ b k. ap (λ (x : ℕ). x + D .back (lastAt R (D .size) q) b) (alike q b (omega arith) (omega arith)))))
 
 pub priceEnd-ext :
     (D : Deck) (R : ℕ) (f g : Layer) → ((q b : ℕ) → q < pairCount R → b < D .poses → f q b ≡ g q b)
-    → (i : ℕ) → priceEnd D R f i ≡ priceEnd D R g i
+    → (i e : ℕ) → priceEnd D R f i e ≡ priceEnd D R g i e
 unfolding priceEnd
-priceEnd-ext D R f g alike i =
-    ap (λ (x : ℕ). cond (leb i (D .size)) x (cond (eqb i (suc (D .size))) 0 B))
+priceEnd-ext D R f g alike i e =
+    ap (λ (x : ℕ). cond (leb i (D .size)) x (cond (eqb i (suc (D .size))) e B))
     (ends-ext D R (layers D R f i (D .size - i)) (layers D R g i (D .size - i)) (λ q b x y. layers-ext D R f g alike i (D .size - i) q b x y))
 
 -- the least of the last layer is the price
 pub ran-price :
-    {D : Deck} {R lanes i at : ℕ} {old new : List ℕ} (l : ℕ)
+    {D : Deck} {R lanes i at : ℕ} {old new : List ℕ} (l e : ℕ)
     → i ≤ D .size → Running D R lanes i (D .size - i) at old new → l < lanes
-    → ends D R (layerIn new at l) ≡ priceEnd D R (layerIn old 0 l) i
-ran-price {D} {R} {i = i} {at = at} {old = old} {new = new} l h r z =
+    → ends D R (layerIn new at l) ≡ priceEnd D R (layerIn old 0 l) i e
+ran-price {D} {R} {i = i} {at = at} {old = old} {new = new} l e h r z =
     ends-ext D R (layerIn new at l) (layers D R (layerIn old 0 l) i (D .size - i)) (λ q b x y. r .right q b l x y z)
-    ∙ sym (price-run D R (layerIn old 0 l) i h)
+    ∙ sym (price-run D R (layerIn old 0 l) i e h)
 
 -- one layer more
 pub ran-more :
@@ -117,46 +124,14 @@ ran-more c r f =
       low = f .low;
     }
 
--- the same price in every lane
-pub end-always :
-    {D : Deck} {R lanes i prices x : ℕ} {old new : List ℕ}
-    → lanes ≤ 60 → Written (always x) prices lanes old new → ((f : Layer) → priceEnd D R f i ≡ x)
-    → EndLanes D R lanes i prices old new
-end-always {old = old} n w e =
+-- where no layer is left to run through
+pub end-words :
+    {D : Deck} {R lanes i prices : ℕ} {g : ℕ → ℕ} {starts old new : List ℕ}
+    → lanes ≤ 60 → Written g prices lanes old new → ((f : Layer) (l : ℕ) → priceEnd D R f i (getD starts l 0) ≡ g l)
+    → Ended D R lanes i prices starts old new
+end-words {old = old} n w e =
     record {
       outside = outside-prices (w .frame) (omega arith) (omega arith);
       low = w .low;
-      right = λ l h. w .words l h ∙ sym (e (layerIn old 0 l));
+      right = λ l h. w .words l h ∙ sym (e (layerIn old 0 l) l);
     }
-
--- B for every pair, and then the prices in the first row
-pub end-block :
-    {D : Deck} {R lanes i prices count : ℕ} {old mid new : List ℕ}
-    → Small D R lanes → count ≡ pairCount R → 98304 ≤ prices → Written (always B) prices (count * 4096) old mid → EndLanes D R lanes i prices mid new
-    → Ended D R lanes i prices old new
-end-block {D} {R} {lanes} {i} {prices} {count} {old} {mid} {new} s c h w e =
-    record {
-      outside = outside-join (outside-prices (w .frame) (omega arith) (omega (arith, s .pairs))) (outside-widen (e .outside) (omega arith));
-      low = e .low;
-      first = first;
-      right = λ q a l x y z. go q a l x y z (eqb q 0) (eq? q 0) (eqb a 0) (eq? a 0);
-    }
-  where
-    alike : (l : ℕ) → l < lanes → (q b : ℕ) → q < pairCount R → b < D .poses → layerIn mid 0 l q b ≡ layerIn old 0 l q b
-    alike l z q b x y = w .frame .low (0 + q * 4096 + b * 64 + l) (omega (arith, s .narrow, s .few, s .pairs))
-
-    first : (l : ℕ) → l < lanes → getD new (prices + l) 0 ≡ priceEnd D R (layerIn old 0 l) i
-    first l z = e .right l z ∙ priceEnd-ext D R (layerIn mid 0 l) (layerIn old 0 l) (alike l z) i
-
-    -- every other row is B
-    none : (q a l : ℕ) → q < pairCount R → a < D .poses → l < lanes → 64 ≤ q * 4096 + a * 64 → layerIn new prices l q a ≡ B
-    none q a l x y z k =
-        e .outside .above (prices + q * 4096 + a * 64 + l) (omega arith)
-        ∙ ap (λ (j : ℕ). getD mid j 0) (omega arith)
-        ∙ w .words (q * 4096 + a * 64 + l) (omega (arith, s .narrow, s .few, s .pairs))
-
-    go : (q a l : ℕ) → q < pairCount R → a < D .poses → l < lanes → (t : Bool) → Eq? q 0 t → (u : Bool) → Eq? a 0 u
-        → layerIn new prices l q a ≡ cond (t && u) (priceEnd D R (layerIn old 0 l) i) B
-    go q a l x y z true (same p) true (same r) = ap (λ (j : ℕ). getD new j 0) (omega arith) ∙ first l z
-    go q a l x y z true (same p) false (differs r) = none q a l x y z (omega arith)
-    go q a l x y z false (differs p) u r = none q a l x y z (omega arith)

@@ -8,7 +8,7 @@ ghost use Rattle.lanes.specs.Store.{Low, Written};
 ghost use Rattle.deck.specs.Words.{deckOf, PairWords, LineWords};
 ghost use Rattle.layer.specs.Loops.{Given};
 ghost use Rattle.stretch.specs.Runs.{PriceRoom};
-ghost use Rattle.finish.specs.Ends.{endsWith, leastPosesIn, leastPairIn, leastPairsIn, endsIn, Ran, EndLanes, Ended};
+ghost use Rattle.finish.specs.Ends.{endsWith, leastPosesIn, leastPairIn, leastPairsIn, endsIn, Ran, Ended};
 
 // On to the layer with all cells placed: the block that it is in.
 fn run_on(
@@ -59,14 +59,29 @@ fn ends_with(line: &[u32], pairs: &[u32], n: usize, r: usize, q: usize) -> bool
     line[k * 128 + 67] != 1
 }
 
-// The least of all poses of pair q, in each lane.
-fn least_poses(acc: &mut [u32; 64], store: &[u32], at: usize, q: usize, poses: usize, lanes: usize)
-    requires { ⌜ Low (now store) × Low (now acc) × (length (now acc) ≡ 64) × (at + 49152 ≤ length (now store)) × (q < 12) × (poses ≤ 60) × (lanes ≤ 60) ⌝ }
-    ensures { λ _. ⌜ Lowered (leastPosesIn (now (store .entry)) at q poses) lanes (now (acc .entry)) (now (acc .exit)) ⌝ }
+// The least of all poses of pair q, in each lane; its cell is at position k, and each pose pays as the row's last.
+fn least_poses(
+    acc: &mut [u32; 64],
+    store: &[u32],
+    line: &[u32],
+    at: usize,
+    q: usize,
+    k: usize,
+    poses: usize,
+    lanes: usize,
+)
+    requires { ⌜ LineWords (now line) × Low (now store) × Low (now acc) × (length (now acc) ≡ 64) × (at + 49152 ≤ length (now store)) × (q < 12) × (k < 64) × (poses ≤ 60) × (lanes ≤ 60) ⌝ }
+    ensures { λ _. ⌜ Lowered (leastPosesIn (now (line .entry)) k (now (store .entry)) at q poses) lanes (now (acc .entry)) (now (acc .exit)) ⌝ }
 {
     let mut a: usize = 0;
     while a < poses {
-        lanes::relax(acc, store, at + q * 4096 + a * 64, 0, lanes);
+        lanes::relax(
+            acc,
+            store,
+            at + q * 4096 + a * 64,
+            deck::back(line, k, a),
+            lanes,
+        );
         a += 1;
     }
 }
@@ -91,7 +106,8 @@ fn least_pair(
     if !ends_with(line, pairs, n, r, q) {
         return;
     }
-    least_poses(acc, store, at, q, poses, lanes);
+    let k = deck::last_at(pairs, r, n, q);
+    least_poses(acc, store, line, at, q, k, poses, lanes);
 }
 
 // The least of all pairs.
@@ -138,11 +154,13 @@ fn put_ends(
     lanes::put(store, prices, &acc, 0, lanes);
 }
 
-// The price in each lane: 0 if nothing is left to place, NONE if too much was placed.
-fn end_lanes(
+// The prices to the row's end, to the row at `prices`, a word for each lane. If nothing is left to place it is the lane's word of `starts`, what its
+// start pays as the row's last; NONE if too much was placed.
+pub fn stretch_end(
     store: &mut [u32],
     line: &[u32],
     pairs: &[u32],
+    starts: &[u32; 64],
     n: usize,
     poses: usize,
     r: usize,
@@ -151,37 +169,17 @@ fn end_lanes(
     i: usize,
     prices: usize,
 )
-    requires { ⌜ Given (now line) (now pairs) (now store) n poses r count lanes i 0 × PriceRoom (now store) prices ⌝ }
-    ensures { λ _. ⌜ EndLanes (deckOf (now (line .entry)) n poses) r lanes i prices (now (store .entry)) (now (store .exit)) ⌝ }
+    requires { ⌜ Given (now line) (now pairs) (now store) n poses r count lanes i 0 × PriceRoom (now store) prices × Low (now starts) × (length (now starts) ≡ 64) ⌝ }
+    ensures { λ _. ⌜ Ended (deckOf (now (line .entry)) n poses) r lanes i prices (now (starts .entry)) (now (store .entry)) (now (store .exit)) ⌝ }
 {
     if i > n + 1 {
         lanes::fill(store, prices, lanes, lanes::NONE);
         return;
     }
     if i == n + 1 {
-        lanes::fill(store, prices, lanes, 0);
+        lanes::put(store, prices, starts, 0, lanes);
         return;
     }
     let at = run_on(store, line, pairs, n, poses, r, count, lanes, i);
     put_ends(store, line, pairs, n, poses, r, count, lanes, at, prices);
-}
-
-// The prices to the row's end, to the block at `prices`: the end is pair 0 and pose 0, and there is no way to another one.
-pub fn stretch_end(
-    store: &mut [u32],
-    line: &[u32],
-    pairs: &[u32],
-    n: usize,
-    poses: usize,
-    r: usize,
-    count: usize,
-    lanes: usize,
-    i: usize,
-    prices: usize,
-)
-    requires { ⌜ Given (now line) (now pairs) (now store) n poses r count lanes i 0 × PriceRoom (now store) prices ⌝ }
-    ensures { λ _. ⌜ Ended (deckOf (now (line .entry)) n poses) r lanes i prices (now (store .entry)) (now (store .exit)) ⌝ }
-{
-    lanes::fill(store, prices, count * 4096, lanes::NONE);
-    end_lanes(store, line, pairs, n, poses, r, count, lanes, i, prices);
 }

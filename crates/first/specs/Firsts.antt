@@ -6,7 +6,7 @@ use mathlib.Core.List.{List}
 use lib.Dec.{eqb}
 use Rattle.rows.specs.Window.{start}
 use Rattle.model.specs.Steps.{B, Deck, Layer, before, lastAt, isThere, firstAfter, firstOpen}
-use Rattle.deck.specs.Words.{wordOf, tollIn, thereIn}
+use Rattle.deck.specs.Words.{wordOf, tollIn, frontIn, thereIn}
 use Rattle.deck.specs.Laws.{there-size}
 
 -- pair q, the last of i cells, can come first after marks m
@@ -26,7 +26,7 @@ afterFrom D R i m p l₀ l q a = firstAfter D R i m p (l₀ + l) q a
 
 -- the cell at position k first of all
 abbrev pub ownRows : List ℕ → ℕ → ℕ → Layer
-ownRows line k l q a = wordOf line k a
+ownRows line k l q a = min (wordOf line k a + frontIn line k a) B
 
 abbrev pub openFrom : Deck → ℕ → ℕ → Layer
 openFrom D R l q a = firstOpen D R q a
@@ -44,13 +44,14 @@ module _ (D : Deck) (R i m p l q a : ℕ) where
   after-away e = ap (λ t. cond t (min (D .own (lastAt R (suc i) q) a + D .toll p l (lastAt R (suc i) q) a) B) B) e
 
 module _ (D : Deck) (R q a : ℕ) where
-  pub open-there : (isThere D R 1 q && eqb (start R) (before R q)) ≡ true → firstOpen D R q a ≡ D .own (lastAt R 1 q) a
+  pub open-there : (isThere D R 1 q && eqb (start R) (before R q)) ≡ true
+      → firstOpen D R q a ≡ min (D .own (lastAt R 1 q) a + D .front (lastAt R 1 q) a) B
   unfolding firstOpen
-  open-there e = ap (λ t. cond t (D .own (lastAt R 1 q) a) B) e
+  open-there e = ap (λ t. cond t (min (D .own (lastAt R 1 q) a + D .front (lastAt R 1 q) a) B) B) e
 
   pub open-away : (isThere D R 1 q && eqb (start R) (before R q)) ≡ false → firstOpen D R q a ≡ B
   unfolding firstOpen
-  open-away e = ap (λ t. cond t (D .own (lastAt R 1 q) a) B) e
+  open-away e = ap (λ t. cond t (min (D .own (lastAt R 1 q) a + D .front (lastAt R 1 q) a) B) B) e
 
 -- a pair that can come first stands in the row
 pub starts-size : (n R i m q : ℕ) → startsAt n R i m q ≡ true → lastAt R i q < n

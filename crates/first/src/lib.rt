@@ -168,14 +168,15 @@ fn start_marks(r: usize) -> u32
     7
 }
 
-// The rows of a pair that can come first.
+// The rows of a pair that can come first, each pose with what it pays as the row's first.
 fn open_rows(store: &mut [u32], line: &[u32], to: usize, q: usize, k: usize, poses: usize)
     requires { ⌜ LineWords (now line) × Low (now store) × (to + 49152 ≤ length (now store)) × (q < 12) × (k < 64) × (poses ≤ 60) ⌝ }
     ensures { λ _. ⌜ FilledPair (ownRows (now (line .entry)) k) 1 to q poses (now (store .entry)) (now (store .exit)) ⌝ }
 {
     let mut a: usize = 0;
     while a < poses {
-        lanes::fill(store, to + q * 4096 + a * 64, 1, line[k * 128 + a]);
+        let w = lanes::least(line[k * 128 + a] + deck::front(line, k, a), lanes::NONE);
+        lanes::fill(store, to + q * 4096 + a * 64, 1, w);
         a += 1;
     }
 }

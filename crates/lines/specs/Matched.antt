@@ -1,5 +1,5 @@
--- A row's words stand for the row of the pair's theory: what a cell costs, and what two neighbours pay. Sites are compared with D added to both.
--- Assumes nothing.
+-- A row's words stand for the row of the pair's theory: what a cell costs, and what two neighbours pay and the cells at the row's ends. Sites are
+-- compared with D added to both. Assumes nothing.
 use Prim.Native.Nat.{ℕ, zero, suc, _+_, _-_, _*_, _≤_, _<_}
 use mathlib.Core.Path.{_≡_, refl, sym, ap, ap₂, _∙_}
 use mathlib.Core.Logic.{_≢_}
@@ -23,7 +23,8 @@ use Rattle.model.specs.Steps.{B}
 use Rattle.model.specs.Matched.{Matched}
 use Rattle.bridge.specs.Paired.{kindOf, rowOf, siteOf, poseNumbers, poseNumber, isOffered, offersOf, widthOf, ownOf, differingOf, payOf, pairJob}
 use Rattle.bridge.specs.Row.{isTall-same, member}
-use Rattle.deck.specs.Words.{wordOf, siteIn, endIn, differIn, tollAt, tollIn, deckOf, LineWords}
+use Rattle.bridge.specs.Legal.{end-allowed}
+use Rattle.deck.specs.Words.{wordOf, siteIn, endIn, differIn, tollAt, tollIn, frontIn, backIn, deckOf, LineWords}
 use Rattle.lines.specs.Words.{ownWord}
 use Rattle.lines.specs.Cell.{offered-low, CellWords}
 
@@ -134,6 +135,15 @@ module _ (j : Job) (sound : Sound j) (s : Side) (l : List ℕ) (n : ℕ) (w : Ro
       words-at p h .own a (let f = few-poses in omega arith)
       ∙ ap (λ x. cond (isOffered j (cell (pairJob j) s p) a) x B) (own-counts s (cellAt j (cell (pairJob j) s p) .row) (ownOf j (cell (pairJob j) s p) (poseNumber j (cell (pairJob j) s p) a)) (row-low p h))
 
+  -- the row's ends: a cell pays nothing there, where it may stand
+  front-same : (p a : ℕ) → frontIn l p a ≡ cond (line (pairJob j) s .opens p (poseNumber j (cell (pairJob j) s p) a)) 0 B
+  unfolding frontIn
+  front-same p a = ap (λ t. cond t 0 B) (sym (end-allowed _))
+
+  back-same : (p a : ℕ) → backIn l p a ≡ cond (line (pairJob j) s .closes p (poseNumber j (cell (pairJob j) s p) a)) 0 B
+  unfolding backIn
+  back-same p a = ap (λ t. cond t 0 B) (sym (end-allowed _))
+
   pub matched : Matched siteOf (line (pairJob j) s) (deckOf l n (poseNumbers j)) (λ p a. poseNumber j (cell (pairJob j) s p) a) (λ p a. isOffered j (cell (pairJob j) s p) a)
   unfolding offersOf
   matched = record {
@@ -141,7 +151,8 @@ module _ (j : Job) (sound : Sound j) (s : Side) (l : List ℕ) (n : ℕ) (w : Ro
     options = λ p h. refl;
     tall = λ p h. ap (λ x. eqb x 1) (words-at p h .tall) ∙ one-true (job.isTall (cellAt j (cell (pairJob j) s p))) ∙ isTall-same j sound (cell (pairJob j) s p) (inside p h);
     own = own-same;
-    cheap = λ p a. w .row .word (p * 128 + a);
+    front = λ p a h g o. front-same p a;
+    back = λ p a h g o. back-same p a;
     pays = λ p b m a h _ g _ x y f. pays j s l p m b a _ _ (words-at p h) (words-at m g) x y (f .0) (f .1);
     barred = λ p b m a h _ g _ x y f. barred j s l p m b a _ _ (words-at p h) (words-at m g) x y f;
   }

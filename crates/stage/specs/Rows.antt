@@ -4,10 +4,11 @@ use mathlib.Core.Path.{_≡_, sym, ap, _∙_}
 use mathlib.Core.List.{List}
 use native.Mathlib.Omega.{arith}
 use native.Mathlib.Numerals.{add-one}
-use lib.ListN.{getD}
-use Rattle.model.specs.Steps.{Deck, Layer, pairCount, marks, firstAfter, firstOpen}
+use native.Mathlib.Decide.{decLt}
+use lib.ListN.{getD, replicate, length-replicate, getD-replicate, List·getD-eq-default}
+use Rattle.model.specs.Steps.{B, Deck, Layer, pairCount, marks, firstAfter, firstOpen}
 use Rattle.model.specs.Stages.{placedWith, stageEnd, openPrice, stagePrice}
-use Rattle.lanes.specs.Store.{Frame, layerIn, Filled}
+use Rattle.lanes.specs.Store.{Frame, Low, layerIn, Filled}
 use Rattle.first.specs.Firsts.{afterFrom, openFrom}
 use Rattle.stretch.specs.Runs.{Priced}
 use Rattle.finish.specs.Ends.{Ended}
@@ -17,10 +18,10 @@ use Rattle.stage.specs.Same.{stage-ext, stage-tall, stage-last}
 
 module _ (D : Deck) (R talls : ℕ) (pos : ℕ → ℕ) where
   -- to a tall cell
-  pub row-tall : {I lanes count i p prices : ℕ} {old new : List ℕ}
+  pub row-tall : {I lanes count i p prices : ℕ} {old new : List ℕ} (starts : List ℕ)
       → I < talls → count ≡ pairCount R → p ≡ pos I → Priced D R lanes i p prices old new
-      → RowPriced (endFrom D R talls pos I old i) lanes (wide talls (suc I) count) (wide talls (suc I) (D .poses)) prices old new
-  row-tall {I} {lanes} {count} {i} {p} {prices} {old} h n e w =
+      → RowPriced (endFrom D R talls pos I old i starts) lanes (wide talls (suc I) count) (wide talls (suc I) (D .poses)) prices old new
+  row-tall {I} {lanes} {count} {i} {p} {prices} {old} starts h n e w =
       let c = wide-all talls I count h in
       let d = wide-all talls I (D .poses) h in
       record {
@@ -29,15 +30,15 @@ module _ (D : Deck) (R talls : ℕ) (pos : ℕ → ℕ) where
         kept = w .outside .below;
         right = λ q a l x y z.
             let v = w .right q a l (omega arith) (omega arith) z in
-            let f = stage-tall D R talls pos (layerIn old 0 l) I i q a h in
+            let f = stage-tall D R talls pos (layerIn old 0 l) I i (getD starts l 0) q a h in
             rw (e) at v ∙ sym f;
       }
 
   -- to the row's end
-  pub row-last : (count : ℕ) {I lanes i prices : ℕ} {old new : List ℕ}
-      → talls ≤ I → Ended D R lanes i prices old new
-      → RowPriced (endFrom D R talls pos I old i) lanes (wide talls (suc I) count) (wide talls (suc I) (D .poses)) prices old new
-  row-last count {I} {lanes} {i} {prices} {old} {new} h w =
+  pub row-last : (count : ℕ) {I lanes i prices : ℕ} {starts old new : List ℕ}
+      → talls ≤ I → Ended D R lanes i prices starts old new
+      → RowPriced (endFrom D R talls pos I old i starts) lanes (wide talls (suc I) count) (wide talls (suc I) (D .poses)) prices old new
+  row-last count {I} {lanes} {i} {prices} {starts} {old} {new} h w =
       let c = wide-last talls (suc I) count (omega arith) in
       let d = wide-last talls (suc I) (D .poses) (omega arith) in
       record {
@@ -45,15 +46,17 @@ module _ (D : Deck) (R talls : ℕ) (pos : ℕ → ℕ) where
         low = w .low;
         kept = w .outside .below;
         right = λ q a l x y z.
-            ap (λ (k : ℕ). getD new k 0) (omega arith) ∙ w .first l z ∙ sym (stage-last D R talls pos (layerIn old 0 l) I i q a h (omega arith) (omega arith));
+            ap (λ (k : ℕ). getD new k 0) (omega arith)
+            ∙ w .right l z
+            ∙ sym (stage-last D R talls pos (layerIn old 0 l) I i (getD starts l 0) q a h (omega arith) (omega arith));
       }
 
   -- after the first layer in block 0
-  row-from : (I i : ℕ) {lanes ends poses prices : ℕ} {F : ℕ → Layer} {old mid new : List ℕ}
-      → Frame 0 49152 old mid → RowPriced (endFrom D R talls pos I mid i) lanes ends poses prices mid new
-      → ((q a l : ℕ) → q < ends → a < poses → l < lanes → stageEnd D R talls pos I (layerIn mid 0 l) i q a ≡ F l q a)
+  row-from : (I i : ℕ) (starts : List ℕ) {lanes ends poses prices : ℕ} {F : ℕ → Layer} {old mid new : List ℕ}
+      → Frame 0 49152 old mid → RowPriced (endFrom D R talls pos I mid i starts) lanes ends poses prices mid new
+      → ((q a l : ℕ) → q < ends → a < poses → l < lanes → stageEnd D R talls pos I (layerIn mid 0 l) i (getD starts l 0) q a ≡ F l q a)
       → RowPriced F lanes ends poses prices old new
-  row-from I i f w e =
+  row-from I i starts f w e =
       record {
         long = w .long ∙ f .long;
         low = w .low;
@@ -62,41 +65,48 @@ module _ (D : Deck) (R talls : ℕ) (pos : ℕ → ℕ) where
       }
 
   -- stage 0
-  pub row-open : {I : ℕ} (count s : ℕ) {prices : ℕ} {old mid new : List ℕ}
-      → I ≡ 0 → count ≡ pairCount R → Filled (openFrom D R) 1 (D .poses) 0 count old mid
-      → RowPriced (endFrom D R talls pos 0 mid 1) 1 (wide talls 1 count) (wide talls 1 (D .poses)) prices mid new
+  pub row-open : {I : ℕ} (count s : ℕ) (starts : List ℕ) {prices : ℕ} {old mid new : List ℕ}
+      → I ≡ 0 → count ≡ pairCount R → getD starts 0 0 ≡ 0 → Filled (openFrom D R) 1 (D .poses) 0 count old mid
+      → RowPriced (endFrom D R talls pos 0 mid 1 starts) 1 (wide talls 1 count) (wide talls 1 (D .poses)) prices mid new
       → RowPriced (priceOf D R talls pos I s) (wide talls I (D .poses)) (wide talls (suc I) count) (wide talls (suc I) (D .poses)) prices old new
   unfolding priceOf openPrice wide
-  row-open count s {mid = mid} e n f w =
-      let v : RowPriced (priceOf D R talls pos 0 s) 1 (wide talls 1 count) (wide talls 1 (D .poses)) _ _ _ = row-from 0 1 (f .frame) w
-      (λ q a l x y z. stage-ext D R (layerIn mid 0 l) (firstOpen D R) (λ q a v u. f .right q (omega arith) a l u z) talls pos 0 1 q a (rw n at x) y) in
+  row-open count s starts {mid = mid} e n b f w =
+      let v : RowPriced (priceOf D R talls pos 0 s) 1 (wide talls 1 count) (wide talls 1 (D .poses)) _ _ _ = row-from 0 1 starts (f .frame) w
+      (λ q a l x y z.
+      stage-ext D R (layerIn mid 0 l) (firstOpen D R) (λ q a v u. f .right q (omega arith) a l u z) talls pos 0 1 (getD starts l 0) q a (rw n at x) y
+      ∙ ap (λ (e : ℕ). stageEnd D R talls pos 0 (firstOpen D R) 1 e q a) (only l z)) in
       rw e v
+    where
+      only : (l : ℕ) → l < 1 → getD starts l 0 ≡ 0
+      only l z = ap (λ (k : ℕ). getD starts k 0) (omega arith) ∙ b
 
   -- the stage after tall cell I, which stands as pair s
-  after-tall : (I count s : ℕ) {prices : ℕ} {old mid new : List ℕ}
-      → I < talls → count ≡ pairCount R
+  after-tall : (I count s : ℕ) (starts : List ℕ) {prices : ℕ} {old mid new : List ℕ}
+      → I < talls → count ≡ pairCount R → ((l : ℕ) → l < D .poses → getD starts l 0 ≡ D .back (pos I) l)
       → Filled (afterFrom D R (placedWith R (pos I) s) (marks R s) (pos I) 0) (D .poses) (D .poses) 0 count old mid
-      → RowPriced (endFrom D R talls pos (suc I) mid (suc (placedWith R (pos I) s))) (D .poses) (wide talls (suc (suc I)) count) (wide talls (suc (suc I)) (D .poses)) prices mid new
+      → RowPriced (endFrom D R talls pos (suc I) mid (suc (placedWith R (pos I) s)) starts) (D .poses) (wide talls (suc (suc I)) count) (wide talls (suc (suc I)) (D .poses)) prices mid new
       → RowPriced (priceOf D R talls pos (suc I) s) (wide talls (suc I) (D .poses)) (wide talls (suc (suc I)) count) (wide talls (suc (suc I)) (D .poses)) prices old new
   unfolding priceOf stagePrice
-  after-tall I count s {mid = mid} h n f w =
+  after-tall I count s starts {mid = mid} h n b f w =
       let i = placedWith R (pos I) s in
       rw (wide-all talls I (D .poses) h)
-      (row-from (suc I) (suc i) (f .frame) w
+      (row-from (suc I) (suc i) starts (f .frame) w
       (λ q a l x y z.
       stage-ext D R (layerIn mid 0 l) (firstAfter D R i (marks R s) (pos I) l)
       (λ q a v u. let m : 0 + l ≡ l = omega arith in rw m at (f .right q (omega arith) a l u z))
-      talls pos (suc I) (suc i) q a (rw n at x) y))
+      talls pos (suc I) (suc i) (getD starts l 0) q a (rw n at x) y
+      ∙ ap (λ (e : ℕ). stageEnd D R talls pos (suc I) (firstAfter D R i (marks R s) (pos I) l) (suc i) e q a) (b l z)))
 
-  pub row-after : (I J count s p placed : ℕ) {prices : ℕ} {old mid new : List ℕ}
+  pub row-after : (I J count s p placed : ℕ) (starts : List ℕ) {prices : ℕ} {old mid new : List ℕ}
       → I ≡ suc J → I ≤ talls → count ≡ pairCount R → p ≡ pos J → placed ≡ placedWith R p s
+      → ((l : ℕ) → l < D .poses → getD starts l 0 ≡ D .back p l)
       → Filled (afterFrom D R placed (marks R s) p 0) (D .poses) (D .poses) 0 count old mid
-      → RowPriced (endFrom D R talls pos I mid (placed + 1)) (D .poses) (wide talls (suc I) count) (wide talls (suc I) (D .poses)) prices mid new
+      → RowPriced (endFrom D R talls pos I mid (placed + 1) starts) (D .poses) (wide talls (suc I) count) (wide talls (suc I) (D .poses)) prices mid new
       → RowPriced (priceOf D R talls pos I s) (wide talls I (D .poses)) (wide talls (suc I) count) (wide talls (suc I) (D .poses)) prices old new
-  row-after I J count s p placed e h n g k f w =
+  row-after I J count s p placed starts e h n g k b f w =
       let v = rw (k, g) at f in
       let u = rw (add-one, k, g, e) at w in
-      rw e (after-tall J count s (omega arith) n v u)
+      rw e (after-tall J count s starts (omega arith) n (λ l z. b l z ∙ ap (λ (p : ℕ). D .back p l) g) v u)
 
 -- ---- a start after a tall cell
 
@@ -107,3 +117,11 @@ start-place I p g z h e = omega (arith, g .inside (I - 1) (omega (arith, z)), g 
 
 pub start-pair : (talls I count s : ℕ) → s < wide talls I count → (I ≡ 0 → ⊥) → I ≤ talls → s < count
 start-pair talls I count s h z g = omega (arith, wide-tall talls I count z g)
+
+-- words of 0 alone
+pub zeros-low : (n : ℕ) → Low (replicate n 0)
+zeros-low n = record { word = λ k. go k (decLt k n) }
+  where
+    go : (k : ℕ) → Dec (k < n) → getD (replicate n 0) k 0 ≤ B
+    go k (yes h) = omega (arith, getD-replicate {A = ℕ} n k 0 0 h)
+    go k (no h) = omega (arith, List·getD-eq-default {A = ℕ} (replicate n 0) 0 {n = k} (omega (arith, length-replicate {A = ℕ} n 0)))

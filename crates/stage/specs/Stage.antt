@@ -93,9 +93,9 @@ pub record RowPriced (F : ℕ → Layer) (lanes ends poses prices : ℕ) (old ne
   pub kept : (k : ℕ) → 98304 ≤ k → k < prices → getD new k 0 ≡ getD old k 0
   pub right : (q a l : ℕ) → q < ends → a < poses → l < lanes → layerIn new prices l q a ≡ F l q a
 
--- stage I on from the layer in block 0, which has i cells
-abbrev pub endFrom : Deck → ℕ → ℕ → (ℕ → ℕ) → ℕ → List ℕ → ℕ → ℕ → Layer
-endFrom D R talls pos I st i l q a = stageEnd D R talls pos I (layerIn st 0 l) i q a
+-- stage I on from the layer in block 0, which has i cells; `starts` has what the start of each lane pays as the row's last
+abbrev pub endFrom : Deck → ℕ → ℕ → (ℕ → ℕ) → ℕ → List ℕ → ℕ → List ℕ → ℕ → Layer
+endFrom D R talls pos I st i starts l q a = stageEnd D R talls pos I (layerIn st 0 l) i (getD starts l 0) q a
 
 -- the prices of both rows for the start pairs below m; the tables are kept
 pub record BothPriced (x₀ x₁ : Prices) (lanes ends poses m : ℕ) (old new : List ℕ) : Type 0 where

@@ -3,8 +3,9 @@ ghost use mathlib.Core.Path.{_≡_};
 ghost use Prim.Native.Nat.{suc, _≤_, _<_};
 ghost use Rattle.model.specs.Steps.{pairCount};
 ghost use Rattle.model.specs.Stages.{placedWith};
-ghost use Rattle.lanes.specs.Store.{Low};
-ghost use Rattle.deck.specs.Words.{deckOf, PairWords};
+ghost use lib.ListN.{length};
+ghost use Rattle.lanes.specs.Store.{Low, Written};
+ghost use Rattle.deck.specs.Words.{backIn, deckOf, LineWords, PairWords};
 ghost use Rattle.layer.specs.Loops.{Given};
 ghost use Rattle.stretch.specs.Runs.{PriceRoom};
 ghost use Rattle.stage.specs.Stage.{wide, posIn, priceOf, endFrom, RowPriced, BothPriced, RowGiven, StagesGiven, Right, StageDone, StagesDone};
@@ -35,12 +36,25 @@ fn placed_with(pairs: &[u32], r: usize, p: usize, s: usize) -> usize
     all - d
 }
 
-// On from the layer in block 0, which has `cells` cells, to tall cell i or the row's end.
+// What the cell at position p pays as the row's last, in each pose.
+fn backs(starts: &mut [u32; 64], line: &[u32], p: usize, poses: usize)
+    requires { ⌜ LineWords (now line) × Low (now starts) × (length (now starts) ≡ 64) × (p < 64) × (poses ≤ 60) ⌝ }
+    ensures { λ _. ⌜ Written (backIn (now (line .entry)) p) 0 poses (now (starts .entry)) (now (starts .exit)) ⌝ }
+{
+    let mut l: usize = 0;
+    while l < poses {
+        starts[l] = deck::back(line, p, l);
+        l += 1;
+    }
+}
+
+// On from the layer in block 0, which has `cells` cells, to tall cell i or the row's end; `starts` has what the start of each lane pays as the last.
 fn stage_end(
     store: &mut [u32],
     line: &[u32],
     pairs: &[u32],
     places: &[u32],
+    starts: &[u32; 64],
     n: usize,
     poses: usize,
     r: usize,
@@ -51,8 +65,8 @@ fn stage_end(
     cells: usize,
     prices: usize,
 )
-    requires { ⌜ RowGiven (now line) (now pairs) (now places) r n poses count talls × Given (now line) (now pairs) (now store) n poses r count lanes cells 0 × PriceRoom (now store) prices ⌝ }
-    ensures { λ _. ⌜ RowPriced (endFrom (deckOf (now (line .entry)) n poses) r talls (posIn (now (places .entry))) i (now (store .entry)) cells) lanes (wide talls (suc i) count) (wide talls (suc i) poses) prices (now (store .entry)) (now (store .exit)) ⌝ }
+    requires { ⌜ RowGiven (now line) (now pairs) (now places) r n poses count talls × Given (now line) (now pairs) (now store) n poses r count lanes cells 0 × PriceRoom (now store) prices × Low (now starts) × (length (now starts) ≡ 64) ⌝ }
+    ensures { λ _. ⌜ RowPriced (endFrom (deckOf (now (line .entry)) n poses) r talls (posIn (now (places .entry))) i (now (store .entry)) cells (now (starts .entry))) lanes (wide talls (suc i) count) (wide talls (suc i) poses) prices (now (store .entry)) (now (store .exit)) ⌝ }
 {
     if i < talls {
         let p = deck::word(places, i);
@@ -71,7 +85,19 @@ fn stage_end(
         );
         return;
     }
-    finish::stretch_end(store, line, pairs, n, poses, r, count, lanes, cells, prices);
+    finish::stretch_end(
+        store,
+        line,
+        pairs,
+        starts,
+        n,
+        poses,
+        r,
+        count,
+        lanes,
+        cells,
+        prices,
+    );
 }
 
 // The prices of stage i in a row from start pair s, to the block at `prices`.
@@ -92,6 +118,7 @@ fn row_price(
     requires { ⌜ RowGiven (now line) (now pairs) (now places) r n poses count talls × Low (now store) × PriceRoom (now store) prices × (i ≤ talls) × (s < wide talls i count) ⌝ }
     ensures { λ _. ⌜ RowPriced (priceOf (deckOf (now (line .entry)) n poses) r talls (posIn (now (places .entry))) i s) (wide talls i poses) (wide talls (suc i) count) (wide talls (suc i) poses) prices (now (store .entry)) (now (store .exit)) ⌝ }
 {
+    let mut starts = [0u32; 64];
     if i == 0 {
         first::open_layer(store, line, pairs, n, poses, r, count, 0);
         stage_end(
@@ -99,6 +126,7 @@ fn row_price(
             line,
             pairs,
             places,
+            &starts,
             n,
             poses,
             r,
@@ -128,11 +156,13 @@ fn row_price(
         0,
         0,
     );
+    backs(&mut starts, line, p, poses);
     stage_end(
         store,
         line,
         pairs,
         places,
+        &starts,
         n,
         poses,
         r,

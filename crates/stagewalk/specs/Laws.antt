@@ -21,7 +21,7 @@ use Rattle.kept.specs.Laws.{kept-ext, kept-fewer}
 use Rattle.walk.specs.Walks.{Back, Walk, End, WalkDone, EndDone, wordAt}
 use Rattle.walk.specs.Steps.{end-full}
 use Rattle.stage.specs.Stage.{posIn}
-use Rattle.stagewalk.specs.Rows.{startCells, startLayer, endPlace, Stage, Started, StageDone}
+use Rattle.stagewalk.specs.Rows.{startCells, startLayer, startEnd, endPlace, Stage, Started, StageDone}
 
 -- ---- the start
 
@@ -53,35 +53,35 @@ module _ (D : Deck) (R : ℕ) (pos : ℕ → ℕ) where
 
 -- ---- the price of a stage below B
 
-module _ (D : Deck) (R talls : ℕ) (pos : ℕ → ℕ) (I : ℕ) (f : Layer) (i q a : ℕ) where
+module _ (D : Deck) (R talls : ℕ) (pos : ℕ → ℕ) (I : ℕ) (f : Layer) (i e q a : ℕ) where
   -- to a tall cell: there is room for it, and its layer has the price
-  pub tall-price : I < talls → stageEnd D R talls pos I f i q a < B
+  pub tall-price : I < talls → stageEnd D R talls pos I f i e q a < B
       → (i + offset R q ≤ pos I + suc R) × (layers D R f i (pos I + suc R - offset R q - i) q a < B)
   unfolding stageEnd priceTo
   tall-price h l = go (ltb I talls) (lt-ltb I talls h) (leb (i + offset R q) (pos I + suc R)) refl l
     where
       go : (t : Bool) → t ≡ true → (u : Bool) → leb (i + offset R q) (pos I + suc R) ≡ u
-          → cond t (cond u (layers D R f i (pos I + suc R - offset R q - i) q a) B) (cond (eqb q 0 && eqb a 0) (priceEnd D R f i) B) < B
+          → cond t (cond u (layers D R f i (pos I + suc R - offset R q - i) q a) B) (cond (eqb q 0 && eqb a 0) (priceEnd D R f i e) B) < B
           → (i + offset R q ≤ pos I + suc R) × (layers D R f i (pos I + suc R - offset R q - i) q a < B)
-      go true e true z x = (leb-true (i + offset R q) (pos I + suc R) z, x)
-      go true e false z x = absurd (omega arith)
-      go false e u z x = absurd (let y : _≡_ {A = ℕ} 0 1 = cc in omega arith)
+      go true y true z x = (leb-true (i + offset R q) (pos I + suc R) z, x)
+      go true y false z x = absurd (omega arith)
+      go false y u z x = absurd (let w : _≡_ {A = ℕ} 0 1 = cc in omega arith)
 
   -- to the row's end
-  pub end-price : talls ≤ I → stageEnd D R talls pos I f i q a < B → priceEnd D R f i < B
+  pub end-price : talls ≤ I → stageEnd D R talls pos I f i e q a < B → priceEnd D R f i e < B
   unfolding stageEnd
   end-price h l = go (ltb I talls) (le-ltb I talls h) (eqb q 0 && eqb a 0) l
     where
-      go : (t : Bool) → t ≡ false → (u : Bool) → cond t (priceTo D R f i (pos I) q a) (cond u (priceEnd D R f i) B) < B → priceEnd D R f i < B
-      go false e true x = x
-      go false e false x = absurd (omega arith)
-      go true e u x = absurd (let y : _≡_ {A = ℕ} 0 1 = cc in omega arith)
+      go : (t : Bool) → t ≡ false → (u : Bool) → cond t (priceTo D R f i (pos I) q a) (cond u (priceEnd D R f i e) B) < B → priceEnd D R f i e < B
+      go false y true x = x
+      go false y false x = absurd (omega arith)
+      go true y u x = absurd (let w : _≡_ {A = ℕ} 0 1 = cc in omega arith)
 
-pub end-bound : (D : Deck) (R : ℕ) (f : Layer) (i : ℕ) → priceEnd D R f i < B → i ≤ suc (D .size)
-end-bound D R f i l = go (decLt (D .size) i)
+pub end-bound : (D : Deck) (R : ℕ) (f : Layer) (i e : ℕ) → priceEnd D R f i e < B → i ≤ suc (D .size)
+end-bound D R f i e l = go (decLt (D .size) i)
   where
     go : Dec (D .size < i) → i ≤ suc (D .size)
-    go (yes h) = omega (arith, end-full D R f i h l)
+    go (yes h) = omega (arith, end-full D R f i e h l)
     go (no h) = omega arith
 
 pub end-tall : (n R talls : ℕ) (pos : ℕ → ℕ) (I q : ℕ) → I < talls → endPlace n R talls pos I q ≡ placedWith R (pos I) q
@@ -102,12 +102,15 @@ module _ {line pairs places st path : List ℕ} {n poses R count talls I s l q a
   abbrev f : Layer
   f = startLayer (deckOf line n poses) R (posIn places) I s l
 
+  abbrev pays : ℕ
+  pays = startEnd (deckOf line n poses) (posIn places) I l
+
   some : 0 < cells
   some = omega (arith, w .count, start-some R (posIn places) I s)
 
   -- the price, from as many cells as were counted
-  cost : stageEnd (deckOf line n poses) R talls (posIn places) I (startLayer (deckOf line n poses) R (posIn places) I s l) cells q a < B
-  cost = subst (λ (i : ℕ). stageEnd D R talls (posIn places) I f i q a < B) (sym (w .count)) (g .cost)
+  cost : stageEnd (deckOf line n poses) R talls (posIn places) I (startLayer (deckOf line n poses) R (posIn places) I s l) cells (startEnd (deckOf line n poses) (posIn places) I l) q a < B
+  cost = subst (λ (i : ℕ). stageEnd D R talls (posIn places) I f i pays q a < B) (sym (w .count)) (g .cost)
 
   -- the first layer is that of the block
   kept-start : {end : ℕ} {new : List ℕ} → KeptLayers (deckOf line n poses) R (layerIn mid 0 0) cells end new
@@ -128,7 +131,7 @@ module _ {line pairs places st path : List ℕ} {n poses R count talls I s l q a
   module _ (h : I < talls) {end : ℕ} (e : end ≡ placedWith R (posIn places I) q) where
     tall-room : (cells + offset R q ≤ posIn places I + suc R) × (layers (deckOf line n poses) R (startLayer (deckOf line n poses) R (posIn places) I s l) cells (end - cells) q a < B)
     tall-room =
-        let p = tall-price D R talls (posIn places) I f cells q a h cost in
+        let p = tall-price D R talls (posIn places) I f cells pays q a h cost in
         (p .0, subst (λ (j : ℕ). layers D R f cells (j - cells) q a < B) (sym e) (p .1))
 
     pub tall-order : cells ≤ end
@@ -179,15 +182,15 @@ module _ {line pairs places st path : List ℕ} {n poses R count talls I s l q a
   -- ---- to the row's end
 
   module _ (h : talls ≤ I) where
-    price : priceEnd (deckOf line n poses) R (startLayer (deckOf line n poses) R (posIn places) I s l) cells < B
-    price = end-price D R talls (posIn places) I f cells q a h cost
+    price : priceEnd (deckOf line n poses) R (startLayer (deckOf line n poses) R (posIn places) I s l) cells (startEnd (deckOf line n poses) (posIn places) I l) < B
+    price = end-price D R talls (posIn places) I f cells pays q a h cost
 
     pub last-stretch : Stretch line pairs mid n poses R count cells n
-    last-stretch = let z = g .start .row .ground .size in stretch n (omega (arith, end-bound D R f cells price)) (omega arith)
+    last-stretch = let z = g .start .row .ground .size in stretch n (omega (arith, end-bound D R f cells pays price)) (omega arith)
 
     module _ {new : List ℕ} (k : StretchKept (deckOf line n poses) R cells n mid new) where
       pub last-walk : End line pairs new path n poses R count cells
-      last-walk = record { back = back (k .low) (k .frame .long); room = g .room; some = some; first = f; kept = kept-start (k .kept); cost = price }
+      last-walk = record { back = back (k .low) (k .frame .long); room = g .room; some = some; first = f; start = pays; kept = kept-start (k .kept); cost = price }
 
       pub last-done : {path′ : List ℕ} → EndDone (deckOf line n poses) R new cells path path′ → StageDone (deckOf line n poses) R talls (posIn places) I s l q a st new path path′
       last-done {path′} d =
@@ -198,7 +201,7 @@ module _ {line pairs places st path : List ℕ} {n poses R count talls I s l q a
                 (omega arith) (omega (arith, w .count)) (omega arith) (omega (arith, z));
             walked = record {
               toTall = λ y. absurd (omega arith);
-              toEnd = λ y. subst (λ (i : ℕ). EndWalked D R (NotedBy (wordAt path′)) f i) (w .count) (d .walked f (kept-start (k .kept)) price);
+              toEnd = λ y. subst (λ (i : ℕ). EndWalked D R (NotedBy (wordAt path′)) f i pays) (w .count) (d .walked f pays (kept-start (k .kept)) price);
             };
           }
         where

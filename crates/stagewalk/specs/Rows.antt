@@ -25,9 +25,14 @@ unfoldable pub startLayer : Deck → ℕ → (ℕ → ℕ) → ℕ → ℕ → �
 startLayer D R pos zero s l = firstOpen D R
 startLayer D R pos (suc I) s l = firstAfter D R (placedWith R (pos I) s) (marks R s) (pos I) l
 
+-- what it pays where the row ends with it
+unfoldable pub startEnd : Deck → (ℕ → ℕ) → ℕ → ℕ → ℕ
+startEnd D pos zero l = 0
+startEnd D pos (suc I) l = D .back (pos I) l
+
 -- what the stage costs from there to pair q in pose a at its end
 abbrev pub priceFrom : Deck → ℕ → ℕ → (ℕ → ℕ) → ℕ → ℕ → ℕ → ℕ → ℕ → ℕ
-priceFrom D R talls pos I s l q a = stageEnd D R talls pos I (startLayer D R pos I s l) (startCells R pos I s) q a
+priceFrom D R talls pos I s l q a = stageEnd D R talls pos I (startLayer D R pos I s l) (startCells R pos I s) (startEnd D pos I l) q a
 
 -- the last place of stage I: that of tall cell I as pair q, or the row's last
 unfoldable pub endPlace : ℕ → ℕ → ℕ → (ℕ → ℕ) → ℕ → ℕ → ℕ
@@ -66,4 +71,4 @@ pub record StageDone (D : Deck) (R talls : ℕ) (pos : ℕ → ℕ) (I s l q a :
   pub frame : Frame 0 148992 st st′
   pub low : Low st′
   pub notes : Frame (startCells R pos I s) (suc (endPlace (D .size) R talls pos I q)) path path′
-  pub walked : StageWalked D R talls pos (NotedBy (wordAt path′)) I (startLayer D R pos I s l) (startCells R pos I s) q a
+  pub walked : StageWalked D R talls pos (NotedBy (wordAt path′)) I (startLayer D R pos I s l) (startCells R pos I s) (startEnd D pos I l) q a

@@ -18,18 +18,18 @@ use Rattle.join.specs.Tables.{sourcesAt, sourcesIn, Way}
 use Rattle.stage.specs.Stage.{wide, posIn, RowGiven, StagesGiven, StagesDone}
 use Rattle.stage.specs.Laws.{wide-all, wide-last, given-pairs, given-wide}
 use Rattle.walk.specs.Walks.{wordAt}
-use Rattle.stagewalk.specs.Rows.{startCells, startLayer, priceFrom, endPlace, Stage, StageDone}
+use Rattle.stagewalk.specs.Rows.{startCells, startLayer, startEnd, priceFrom, endPlace, Stage, StageDone}
 use Rattle.stagewalk.specs.Laws.{end-tall, end-last}
 use Rattle.trace.specs.Trace.{Ways, stages-ways, Leg, Trace, LegDone, TraceDone}
 
 -- ---- one row
 
 -- a walked stage goes on from its start
-pub walked-on : (D : Deck) (R talls : ℕ) (pos : ℕ → ℕ) (Noted : ℕ → ℕ → ℕ → Type 0) (I : ℕ) (f : Layer) (i q a : ℕ) → StageWalked D R talls pos Noted I f i q a
+pub walked-on : (D : Deck) (R talls : ℕ) (pos : ℕ → ℕ) (Noted : ℕ → ℕ → ℕ → Type 0) (I : ℕ) (f : Layer) (i x q a : ℕ) → StageWalked D R talls pos Noted I f i x q a
     → i ≤ suc (endPlace (D .size) R talls pos I q)
-walked-on D R talls pos Noted I f i q a w = go (decLt I talls)
+walked-on D R talls pos Noted I f i x q a w = go (decLt I talls)
   where
-    ended : EndWalked D R Noted f i → i ≤ suc (D .size)
+    ended : EndWalked D R Noted f i x → i ≤ suc (D .size)
     ended (inl e) = omega arith
     ended (inr (r, b, l)) = omega (arith, l .room)
 
@@ -38,12 +38,12 @@ walked-on D R talls pos Noted I f i q a w = go (decLt I talls)
     go (no h) = omega (arith, end-last (D .size) R talls pos I q (omega arith), ended (w .toEnd (omega arith)))
 
 -- what was noted after tall cell J stays when the stages up to it are walked
-pub walked-kept : (D : Deck) (R talls : ℕ) (pos : ℕ → ℕ) (J s : ℕ) (f : Layer) (q a : ℕ) (mid new : List ℕ) → J < talls → Frame 1 (suc (endPlace (D .size) R talls pos J s)) mid new
-    → StageWalked D R talls pos (NotedBy (wordAt mid)) (suc J) f (suc (placedWith R (pos J) s)) q a
-    → StageWalked D R talls pos (NotedBy (wordAt new)) (suc J) f (suc (placedWith R (pos J) s)) q a
-walked-kept D R talls pos J s f q a mid new h n w =
-    stage-words D R talls pos (wordAt mid) (wordAt new) (suc J) f (suc (placedWith R (pos J) s)) q a
-    (λ e x y. sym (n .high e (omega (arith, end-tall (D .size) R talls pos J s h)))) w
+pub walked-kept : (D : Deck) (R talls : ℕ) (pos : ℕ → ℕ) (J s : ℕ) (f : Layer) (x q a : ℕ) (mid new : List ℕ) → J < talls → Frame 1 (suc (endPlace (D .size) R talls pos J s)) mid new
+    → StageWalked D R talls pos (NotedBy (wordAt mid)) (suc J) f (suc (placedWith R (pos J) s)) x q a
+    → StageWalked D R talls pos (NotedBy (wordAt new)) (suc J) f (suc (placedWith R (pos J) s)) x q a
+walked-kept D R talls pos J s f x q a mid new h n w =
+    stage-words D R talls pos (wordAt mid) (wordAt new) (suc J) f (suc (placedWith R (pos J) s)) x q a
+    (λ e u v. sym (n .high e (omega (arith, end-tall (D .size) R talls pos J s h)))) w
 
 -- the places of a stage and of those before it
 pub notes-join : (D : Deck) (R talls : ℕ) (pos : ℕ → ℕ) (J s q : ℕ) {old mid new : List ℕ} → J < talls → suc (placedWith R (pos J) s) ≤ suc (endPlace (D .size) R talls pos (suc J) q)
@@ -110,7 +110,7 @@ module _ {line₀ line₁ pairs places₀ places₁ st path₀ path₁ : List �
       (omega (arith, g .stage), omega arith, omega arith, omega arith, omega (arith, v .long))
 
   pub open-leg : I ≡ 0 → Leg line₀ line₁ pairs places₀ places₁ st path₀ path₁ R n₀ n₁ poses count talls 0 0 0 0 q₀ q₁ a
-  unfolding caseTable openPrice startLayer startCells
+  unfolding caseTable openPrice startLayer startCells startEnd
   open-leg e =
       let h = trace-at 0 e in
       let c = h .cost in
@@ -130,7 +130,7 @@ module _ {D₀ D₁ : Deck} {R talls : ℕ} {pos₀ pos₁ : ℕ → ℕ} {I q�
   done-at K e w = subst (λ (k : ℕ). TraceDone D₀ D₁ R talls pos₀ pos₁ k q₀ q₁ a st new path₀ path₀′ path₁ path₁′) (sym e) w
 
   pub open-done : I ≡ 0 → LegDone D₀ D₁ R talls pos₀ pos₁ 0 0 0 0 q₀ q₁ a st new path₀ path₀′ path₁ path₁′ → TraceDone D₀ D₁ R talls pos₀ pos₁ I q₀ q₁ a st new path₀ path₀′ path₁ path₁′
-  unfolding startLayer startCells
+  unfolding startLayer startCells startEnd
   open-done e w = done-at 0 e record { frame = w .frame; low = w .low; notes₀ = w .notes₀; notes₁ = w .notes₁; traced = (w .walked₀, w .walked₁) }
 
 -- ---- a later stage
@@ -165,7 +165,7 @@ module _ {line₀ line₁ pairs places₀ places₁ st path₀ path₁ : List �
       (omega arith, omega arith, omega arith)
 
   pub back-leg : Leg line₀ line₁ pairs places₀ places₁ st path₀ path₁ R n₀ n₁ poses count talls I (code / 768) (code % 768 / 64) (code % 64) q₀ q₁ a
-  unfolding stagePrice startLayer startCells
+  unfolding stagePrice startLayer startCells startEnd
   back-leg =
       let h = trace-at g (suc J) e in
       let w = way in
@@ -207,7 +207,7 @@ module _ {line₀ line₁ pairs places₀ places₁ st path₀ path₁ : List �
     pub back-done : {new new₀ new₁ : List ℕ}
         → TraceDone (deckOf line₀ n₀ poses) (deckOf line₁ n₁ poses) R talls (posIn places₀) (posIn places₁) J (code / 768) (code % 768 / 64) (code % 64) mid new mid₀ new₀ mid₁ new₁
         → TraceDone (deckOf line₀ n₀ poses) (deckOf line₁ n₁ poses) R talls (posIn places₀) (posIn places₁) I q₀ q₁ a st new path₀ new₀ path₁ new₁
-    unfolding startLayer startCells
+    unfolding startLayer startCells startEnd
     back-done {new} {new₀} {new₁} r =
         let s = code / 768 in
         let t = code % 768 / 64 in
@@ -220,8 +220,8 @@ module _ {line₀ line₁ pairs places₀ places₁ st path₀ path₁ : List �
         done-at (suc J) e record {
           frame = frame-join 0 148992 (d .frame) (r .frame) (omega arith) (omega arith) (omega arith) (omega arith);
           low = r .low;
-          notes₀ = notes-join D₀ R talls (posIn places₀) J s q₀ h (walked-on D₀ R talls (posIn places₀) (NotedBy (wordAt mid₀)) (suc J) _ _ q₀ a (u .walked₀)) (u .notes₀) (r .notes₀);
-          notes₁ = notes-join D₁ R talls (posIn places₁) J t q₁ h (walked-on D₁ R talls (posIn places₁) (NotedBy (wordAt mid₁)) (suc J) _ _ q₁ a (u .walked₁)) (u .notes₁) (r .notes₁);
+          notes₀ = notes-join D₀ R talls (posIn places₀) J s q₀ h (walked-on D₀ R talls (posIn places₀) (NotedBy (wordAt mid₀)) (suc J) _ _ _ q₀ a (u .walked₀)) (u .notes₀) (r .notes₀);
+          notes₁ = notes-join D₁ R talls (posIn places₁) J t q₁ h (walked-on D₁ R talls (posIn places₁) (NotedBy (wordAt mid₁)) (suc J) _ _ _ q₁ a (u .walked₁)) (u .notes₁) (r .notes₁);
           traced = (
             s,
             t,
@@ -231,8 +231,8 @@ module _ {line₀ line₁ pairs places₀ places₁ st path₀ path₁ : List �
               pair₁ = w .pair₁;
               pose = w .lane;
               sum = w .sum;
-              row₀ = walked-kept D₀ R talls (posIn places₀) J s _ q₀ a mid₀ new₀ h (r .notes₀) (u .walked₀);
-              row₁ = walked-kept D₁ R talls (posIn places₁) J t _ q₁ a mid₁ new₁ h (r .notes₁) (u .walked₁);
+              row₀ = walked-kept D₀ R talls (posIn places₀) J s _ _ q₀ a mid₀ new₀ h (r .notes₀) (u .walked₀);
+              row₁ = walked-kept D₁ R talls (posIn places₁) J t _ _ q₁ a mid₁ new₁ h (r .notes₁) (u .walked₁);
             },
             r .traced,
           );

@@ -11,7 +11,7 @@ use Rattle.deck.specs.Words.{deckOf}
 use Rattle.join.specs.Tables.{sourcesIn, Way}
 use Rattle.stage.specs.Stage.{wide, posIn, StagesGiven, StagesDone}
 use Rattle.walk.specs.Walks.{wordAt}
-use Rattle.stagewalk.specs.Rows.{startCells, startLayer, priceFrom, endPlace}
+use Rattle.stagewalk.specs.Rows.{startCells, startLayer, startEnd, priceFrom, endPlace}
 
 -- ---- what is given
 
@@ -74,8 +74,8 @@ module _ (D₀ D₁ : Deck) (R talls : ℕ) (pos₀ pos₁ : ℕ → ℕ) where
     pub low : Low st′
     pub notes₀ : Frame (startCells R pos₀ I s) (suc (endPlace (D₀ .size) R talls pos₀ I q₀)) path₀ path₀′
     pub notes₁ : Frame (startCells R pos₁ I t) (suc (endPlace (D₁ .size) R talls pos₁ I q₁)) path₁ path₁′
-    pub walked₀ : StageWalked D₀ R talls pos₀ (NotedBy (wordAt path₀′)) I (startLayer D₀ R pos₀ I s l) (startCells R pos₀ I s) q₀ a
-    pub walked₁ : StageWalked D₁ R talls pos₁ (NotedBy (wordAt path₁′)) I (startLayer D₁ R pos₁ I t l) (startCells R pos₁ I t) q₁ a
+    pub walked₀ : StageWalked D₀ R talls pos₀ (NotedBy (wordAt path₀′)) I (startLayer D₀ R pos₀ I s l) (startCells R pos₀ I s) (startEnd D₀ pos₀ I l) q₀ a
+    pub walked₁ : StageWalked D₁ R talls pos₁ (NotedBy (wordAt path₁′)) I (startLayer D₁ R pos₁ I t l) (startCells R pos₁ I t) (startEnd D₁ pos₁ I l) q₁ a
 
   -- both rows are walked through all stages up to stage I
   pub record TraceDone (I q₀ q₁ a : ℕ) (st st′ path₀ path₀′ path₁ path₁′ : List ℕ) : Type 0 where

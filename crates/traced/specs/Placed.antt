@@ -108,7 +108,7 @@ module _ {A : Type 0} (R : ℕ) (siteOf : A → ℕ) (J : Job A) (poseOf : ℕ �
     module _ (w : ℕ → ℕ) (h : D .poses ≤ 64) (ts : List (Choice A)) (n x : ℕ) (v : Written R siteOf (line J s) (Noted w) (last R siteOf (line J s)) ts n x) where
       whole-size : n ≡ line J s .size
       whole-size =
-          let z : after R siteOf (line J s) (first R siteOf (line J s)) (v .upto .path) .0 ≡ line J s .size = v .upto .move .0 .0 in
+          let z : after R siteOf (line J s) (first R siteOf (line J s)) (v .upto .path) .0 ≡ line J s .size = v .upto .move .0 .0 .0 in
           let y = after-size R siteOf (line J s) (first R siteOf (line J s)) (v .upto .path) in
           let e = v .size in
           omega arith

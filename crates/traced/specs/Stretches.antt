@@ -16,7 +16,7 @@ use Rattle.pair.specs.Trace.{listed-last, listed-back}
 use Rattle.model.specs.Steps.{B, Deck, pairCount, marks, lastAt, Layer, ends, layers, priceEnd}
 use Rattle.model.specs.Matched.{Matched}
 use Rattle.model.specs.Back.{Source, Walked, EndWalked}
-use Rattle.model.specs.Spots.{stateOf, Spot, move-yes, pose-offer}
+use Rattle.model.specs.Spots.{stateOf, Spot, EndPrice, pose-offer, end-code}
 use Rattle.model.specs.Layers.{Right, layers-right}
 use Rattle.traced.specs.Noted.{NotedAs, NotedPath}
 use Rattle.traced.specs.Enter.{source-single, entry-spot, first-move, next-move}
@@ -39,12 +39,12 @@ module _ {A : Type 0} (R : ℕ) (siteOf : A → ℕ) (L : Line A) (P : ℕ → C
       let v : i ≡ suc (u .0) = move-met R siteOf L u (i, m, some (k, a)) z w .0 .1 .0 in
       record { listed = listed-back R siteOf L u t i m k j y z a o e w (d .listed); noted = subst (λ x. P x (k, a) × NotedPath P (suc x) (d .listed .path)) v (h, d .noted) }
 
--- nothing is placed after a stretch's start that has all cells
-end-none : (D : Deck) (R : ℕ) (f : Layer) (i : ℕ) → i ≡ suc (D .size) → priceEnd D R f i ≡ 0
+-- nothing is placed after a stretch's start that has all cells: the row ends there, at x
+end-none : (D : Deck) (R : ℕ) (f : Layer) (i x : ℕ) → i ≡ suc (D .size) → priceEnd D R f i x ≡ x
 unfolding priceEnd
-end-none D R f i e = go (leb i (D .size)) (eqb i (suc (D .size))) (le? i (D .size)) (eq? i (suc (D .size)))
+end-none D R f i x e = go (leb i (D .size)) (eqb i (suc (D .size))) (le? i (D .size)) (eq? i (suc (D .size)))
   where
-    go : (t u : Bool) → Le? i (D .size) t → Eq? i (suc (D .size)) u → cond t (ends D R (layers D R f i (D .size - i))) (cond u 0 B) ≡ 0
+    go : (t u : Bool) → Le? i (D .size) t → Eq? i (suc (D .size)) u → cond t (ends D R (layers D R f i (D .size - i))) (cond u x B) ≡ x
     go true u (low h) d = absurd (omega arith)
     go false true h d = refl
     go false false h (differs n) = absurd (n e)
@@ -134,23 +134,29 @@ module _ {A : Type 0} (R : ℕ) (siteOf : A → ℕ) (L : Line A) (D : Deck) (po
       rw ei (walk j i r b 0 y (suc j) (entry (suc j) q a) (stateOf R pose (suc i) q a) refl (o .pair) (o .pose) (omega arith)
       (source-single D R i q r (o .source) .0) (w .4) (omega arith) (omega arith) p)
 
-  -- the move to the row's end costs nothing
-  drawn-end : (u : State A) → u .0 ≡ L .size → Drawn R siteOf L At u 0 (last R siteOf L) 0
-  drawn-end u e =
-      let t = last R siteOf L in
-      let c = move-yes R siteOf L u t (e, (omega arith, refl)) in
-      drawn-last R siteOf L At u t 0 (coded-some B 0 (move R siteOf L u t) c (omega arith))
+  -- the move to the row's end, if it has a price
+  drawn-end : (u : State A) (x : ℕ) → u .0 ≡ L .size → EndPrice R siteOf L u x → x < B → Drawn R siteOf L At u 0 (last R siteOf L) x
+  drawn-end u x e p h = let t = last R siteOf L in drawn-last R siteOf L At u t x (coded-some B x (move R siteOf L u t) (p e) h)
 
-  -- to the row's end
-  pub walk-end : priceEnd D R f (suc (s .0)) < B → EndWalked D R Noted f (suc (s .0)) → (j : ℕ) × Drawn R siteOf L At s j (last R siteOf L) (priceEnd D R f (suc (s .0)))
-  walk-end u (inl e) =
+  -- to the row's end; x is the price of ending the row at s
+  pub walk-end : (x : ℕ) → EndPrice R siteOf L s x → priceEnd D R f (suc (s .0)) x < B → EndWalked D R Noted f (suc (s .0)) x
+      → (j : ℕ) × Drawn R siteOf L At s j (last R siteOf L) (priceEnd D R f (suc (s .0)) x)
+  walk-end x p u (inl e) =
       let z = M .size in
-      (0, rw (end-none D R f (suc (s .0)) e) (drawn-end s (omega arith)))
-  walk-end u (inr (r, b, w)) =
+      let v = end-none D R f (suc (s .0)) x e in
+      (0, rw v (drawn-end s x (omega arith) p (omega arith)))
+  walk-end x p u (inr (r, b, w)) =
       let n = D .size in
+      let k = lastAt R n r in
       let j = n - suc (s .0) in
       let z = M .size in
       let g = w .room in
       let e = w .price in
-      let p = drawn-end (stateOf R pose n r b) (omega arith) in
-      (suc j, walk j n r b 0 0 (suc j) (priceEnd D R f (suc (s .0))) (last R siteOf L) (omega arith) (w .pair) (w .pose) (omega arith) (w .single) (w .walked) (omega arith) (omega arith) p)
+      let o = walked-spot j n r b (omega arith) (w .pair) (w .pose) (omega arith) in
+      let h = o .inside in
+      let c = end-code R siteOf L D pose offered M n (marks R r) k b (omega arith) (w .pose) (o .offer) in
+      let d = drawn-end (stateOf R pose n r b) (D .back k b) (omega arith) c (omega arith) in (
+        suc j,
+        walk j n r b 0 (D .back k b) (suc j) (priceEnd D R f (suc (s .0)) x) (last R siteOf L) (omega arith) (w .pair) (w .pose) (omega arith) (w .single) (w .walked)
+            (omega arith) (omega arith) d,
+      )

@@ -11,11 +11,11 @@ use Rattle.pair.specs.Coded.{lowest}
 use Rattle.model.specs.Lowest.{loop-member, loop-above}
 use Rattle.model.specs.Steps.{B, Deck, Layer, pairCount, lastAt, isThere, ends}
 use Rattle.layer.specs.Laws.{lowest-ext}
-use Rattle.walk.specs.Walks.{LeastOf, lastOf, lastCode, LastFound}
+use Rattle.walk.specs.Walks.{LeastOf, lastPays, lastOf, lastCode, LastFound}
 
 module _ (D : Deck) (R : ℕ) (f : Layer) where
   -- one of the words that the end is the least of
-  pub last-in : (q b : ℕ) → b < D .poses → isThere D R (D .size) q ≡ true → D .tall (lastAt R (D .size) q) ≡ false → lastOf D R f q b ≡ f q b
+  pub last-in : (q b : ℕ) → b < D .poses → isThere D R (D .size) q ≡ true → D .tall (lastAt R (D .size) q) ≡ false → lastOf D R f q b ≡ lastPays D R f q b
   unfolding lastOf
   last-in q b h e s = rw (lt-ltb b (D .poses) h, e, s) refl
 
@@ -28,16 +28,16 @@ module _ (D : Deck) (R : ℕ) (f : Layer) where
   unfolding lastOf
   last-out q b e = go (ltb b (D .poses)) (isThere D R (D .size) q) e
     where
-      go : (t s : Bool) → s ≡ false → cond t (cond s (cond (D .tall (lastAt R (D .size) q)) B (f q b)) B) B ≡ B
-      go true s z = ap (λ s. cond s (cond (D .tall (lastAt R (D .size) q)) B (f q b)) B) z
+      go : (t s : Bool) → s ≡ false → cond t (cond s (cond (D .tall (lastAt R (D .size) q)) B (lastPays D R f q b)) B) B ≡ B
+      go true s z = ap (λ s. cond s (cond (D .tall (lastAt R (D .size) q)) B (lastPays D R f q b)) B) z
       go false s z = refl
 
   pub last-tall : (q b : ℕ) → D .tall (lastAt R (D .size) q) ≡ true → lastOf D R f q b ≡ B
   unfolding lastOf
   last-tall q b e = go (ltb b (D .poses)) (isThere D R (D .size) q) (D .tall (lastAt R (D .size) q)) e
     where
-      go : (t s u : Bool) → u ≡ true → cond t (cond s (cond u B (f q b)) B) B ≡ B
-      go true true u z = ap (λ u. cond u B (f q b)) z
+      go : (t s u : Bool) → u ≡ true → cond t (cond s (cond u B (lastPays D R f q b)) B) B ≡ B
+      go true true u z = ap (λ u. cond u B (lastPays D R f q b)) z
       go true false u z = refl
       go false s u z = refl
 
@@ -46,14 +46,14 @@ module _ (D : Deck) (R : ℕ) (f : Layer) where
     pub pose : b < D .poses
     pub there : isThere D R (D .size) q ≡ true
     pub single : D .tall (lastAt R (D .size) q) ≡ false
-    pub word : lastOf D R f q b ≡ f q b
+    pub word : lastOf D R f q b ≡ lastPays D R f q b
 
   pub last-met : (q b : ℕ) → lastOf D R f q b < B → Met q b
   unfolding lastOf
   last-met q b l = go (ltb b (D .poses)) refl (isThere D R (D .size) q) refl (D .tall (lastAt R (D .size) q)) refl l
     where
       go : (t : Bool) → ltb b (D .poses) ≡ t → (s : Bool) → isThere D R (D .size) q ≡ s → (u : Bool) → D .tall (lastAt R (D .size) q) ≡ u
-          → cond t (cond s (cond u B (f q b)) B) B < B → Met q b
+          → cond t (cond s (cond u B (lastPays D R f q b)) B) B < B → Met q b
       go true x true y false z h = record { pose = ltb-true b (D .poses) x; there = y; single = z; word = last-in q b (ltb-true b (D .poses) x) y z }
       go false x s y u z h = absurd (omega arith)
       go true x false y u z h = absurd (omega arith)
@@ -65,19 +65,19 @@ module _ (D : Deck) (R : ℕ) (f : Layer) where
   above best c g = loop-above B _ (pairCount R) best c λ q x. go q x (isThere D R (D .size) q) refl (D .tall (lastAt R (D .size) q)) refl
     where
       go : (q : ℕ) → q < pairCount R → (s : Bool) → isThere D R (D .size) q ≡ s → (u : Bool) → D .tall (lastAt R (D .size) q) ≡ u
-          → best ≤ cond (s && not u) (lowest B (f q) (from 0 (D .poses))) B
-      go q x true y false z = loop-above B (f q) (D .poses) best c (λ b h. omega (arith, g q b x h, last-in q b h y z))
+          → best ≤ cond (s && not u) (lowest B (lastPays D R f q) (from 0 (D .poses))) B
+      go q x true y false z = loop-above B (lastPays D R f q) (D .poses) best c (λ b h. omega (arith, g q b x h, last-in q b h y z))
       go q x true y true z = c
       go q x false y u z = c
 
-  member : (q b : ℕ) → q < pairCount R → Met q b → ends D R f ≤ f q b
+  member : (q b : ℕ) → q < pairCount R → Met q b → ends D R f ≤ lastPays D R f q b
   unfolding ends
   member q b x m =
       omega (
         arith,
-        loop-member B (λ q. cond (isThere D R (D .size) q && not (D .tall (lastAt R (D .size) q))) (lowest B (f q) (from 0 (D .poses))) B) (pairCount R) q x,
-        ap₂ (λ s u. cond (s && not u) (lowest B (f q) (from 0 (D .poses))) B) (m .there) (m .single),
-        loop-member B (f q) (D .poses) b (m .pose),
+        loop-member B (λ q. cond (isThere D R (D .size) q && not (D .tall (lastAt R (D .size) q))) (lowest B (lastPays D R f q) (from 0 (D .poses))) B) (pairCount R) q x,
+        ap₂ (λ s u. cond (s && not u) (lowest B (lastPays D R f q) (from 0 (D .poses))) B) (m .there) (m .single),
+        loop-member B (lastPays D R f q) (D .poses) b (m .pose),
       )
 
   pub last-found : (best code all : ℕ) → all ≡ pairCount R * 64 → D .poses ≤ 60 → LeastOf (lastCode D R f) all best code → ends D R f < B → LastFound D R f (code / 64) (code % 64)
@@ -100,7 +100,8 @@ pub ends-ext : (D : Deck) (R : ℕ) (f g : Layer) → ((q b : ℕ) → q < pairC
 unfolding ends
 ends-ext D R f g same =
     lowest-ext _ _ 0 (pairCount R) λ q x.
-    ap (λ (y : ℕ). cond (isThere D R (D .size) q && not (D .tall (lastAt R (D .size) q))) y B) (lowest-ext (f q) (g q) 0 (D .poses) (λ b h. same q b (omega arith) (omega arith)))
+    ap (λ (y : ℕ). cond (isThere D R (D .size) q && not (D .tall (lastAt R (D .size) q))) y B)
+    (lowest-ext _ _ 0 (D .poses) (λ b h. ap (λ (x : ℕ). x + D .back (lastAt R (D .size) q) b) (same q b (omega arith) (omega arith))))
 
 -- one code more
 pub least-none : (h : ℕ → ℕ) (code : ℕ) → LeastOf h 0 B code

@@ -116,19 +116,19 @@ module _ (D : Deck) (R : ℕ) (st : List ℕ) (i : ℕ) where
 
 -- ---- the row's end
 
-module _ (D : Deck) (R : ℕ) (f : Layer) (i : ℕ) where
+module _ (D : Deck) (R : ℕ) (f : Layer) (i e : ℕ) where
   -- the price is that of the last layer, or nothing was left to place
-  pub end-room : i ≤ D .size → priceEnd D R f i ≡ ends D R (layers D R f i (D .size - i))
+  pub end-room : i ≤ D .size → priceEnd D R f i e ≡ ends D R (layers D R f i (D .size - i))
   unfolding priceEnd
-  end-room h = ap (λ t. cond t (ends D R (layers D R f i (D .size - i))) (cond (eqb i (suc (D .size))) 0 B)) (le-leb i (D .size) h)
+  end-room h = ap (λ t. cond t (ends D R (layers D R f i (D .size - i))) (cond (eqb i (suc (D .size))) e B)) (le-leb i (D .size) h)
 
-  pub end-full : D .size < i → priceEnd D R f i < B → i ≡ suc (D .size)
+  pub end-full : D .size < i → priceEnd D R f i e < B → i ≡ suc (D .size)
   unfolding priceEnd
   end-full h l =
-      let e = ap (λ t. cond t (ends D R (layers D R f i (D .size - i))) (cond (eqb i (suc (D .size))) 0 B)) (lt-leb i (D .size) h) in
-      go (eqb i (suc (D .size))) refl (subst (λ (x : ℕ). x < B) e l)
+      let x = ap (λ t. cond t (ends D R (layers D R f i (D .size - i))) (cond (eqb i (suc (D .size))) e B)) (lt-leb i (D .size) h) in
+      go (eqb i (suc (D .size))) refl (subst (λ (y : ℕ). y < B) x l)
     where
-      go : (t : Bool) → eqb i (suc (D .size)) ≡ t → cond t 0 B < B → i ≡ suc (D .size)
+      go : (t : Bool) → eqb i (suc (D .size)) ≡ t → cond t e B < B → i ≡ suc (D .size)
       go true y z = eqb-true i (suc (D .size)) y
       go false y z = absurd (omega arith)
 
@@ -138,35 +138,36 @@ last-kept : {D : Deck} {R : ℕ} (f : Layer) {i : ℕ} {st : List ℕ} → i ≤
 last-kept {D} f {i} {st} h k q a x y = ap (λ (j : ℕ). keptIn st j q a) (omega arith) ∙ k .right (D .size - i) q a (omega arith) x y
 
 -- it has the end's price
-pub end-kept : {D : Deck} {R : ℕ} (f : Layer) {i : ℕ} {st : List ℕ} → i ≤ D .size → KeptLayers D R f i (D .size) st → priceEnd D R f i ≡ ends D R (keptIn st (D .size))
-end-kept {D} {R} f {i} {st} h k =
-    end-room D R f i h ∙ ends-ext D R (layers D R f i (D .size - i)) (keptIn st (D .size)) (λ q b x y. sym (last-kept f h k q b x y))
+pub end-kept : {D : Deck} {R : ℕ} (f : Layer) {i : ℕ} (e : ℕ) {st : List ℕ} → i ≤ D .size → KeptLayers D R f i (D .size) st
+    → priceEnd D R f i e ≡ ends D R (keptIn st (D .size))
+end-kept {D} {R} f {i} e {st} h k =
+    end-room D R f i e h ∙ ends-ext D R (layers D R f i (D .size - i)) (keptIn st (D .size)) (λ q b x y. sym (last-kept f h k q b x y))
 
 pub end-none : (D : Deck) (R : ℕ) (st : List ℕ) (i : ℕ) (path : List ℕ) → D .size < i → EndDone D R st i path path
-end-none D R st i path h = record { frame = frame-refl i (suc (D .size)) path; walked = λ f k l. inl (end-full D R f i h l) }
+end-none D R st i path h = record { frame = frame-refl i (suc (D .size)) path; walked = λ f e k l. inl (end-full D R f i e h l) }
 
 pub end-walked : {D : Deck} {R : ℕ} {st : List ℕ} {i d q b : ℕ} {old new : List ℕ} → i ≤ D .size → d ≡ D .size - i → LastFound D R (keptIn st (D .size)) q b → WalkDone D R st i d q b old new → EndDone D R st i old new
-end-walked {D} {R} {st} {i} {d} {q} {b} {old} {new} h e l w =
+end-walked {D} {R} {st} {i} {d} {q} {b} {old} {new} h z l w =
     record {
       frame = frame-join i (suc (D .size)) (frame-refl i i old) (w .frame) (omega arith) (omega arith) (omega arith) (omega arith);
-      walked = λ f k c. inr (q, b, last f k);
+      walked = λ f e k c. inr (q, b, last f e k);
     }
   where
-    last : (f : Layer) → KeptLayers D R f i (D .size) st → Last D R (NotedBy (wordAt new)) f i q b
-    last f k =
+    last : (f : Layer) (e : ℕ) → KeptLayers D R f i (D .size) st → Last D R (NotedBy (wordAt new)) f i e q b
+    last f e k =
         record {
           room = h;
           pair = l .pair;
           pose = l .pose;
           there = l .there;
           single = l .single;
-          price = end-kept f h k ∙ sym (l .word) ∙ last-kept f h k q b (l .pair) (l .pose);
-          walked = subst (λ (j : ℕ). Walked D R (NotedBy (wordAt new)) f i j q b) e (w .walked f (kept-fewer (i + d) (omega arith) k));
+          price = end-kept f e h k ∙ sym (l .word) ∙ ap (λ (x : ℕ). x + D .back (lastAt R (D .size) q) b) (last-kept f h k q b (l .pair) (l .pose));
+          walked = subst (λ (j : ℕ). Walked D R (NotedBy (wordAt new)) f i j q b) z (w .walked f (kept-fewer (i + d) (omega arith) k));
         }
 
 -- the last layer's least is the price of the end; and the walk from where it is found
 pub end-least : {line pairs st path : List ℕ} {n poses R count i : ℕ} → i ≤ n → End line pairs st path n poses R count i → ends (deckOf line n poses) R (keptIn st n) < B
-end-least h w = omega (arith, end-kept (w .first) h (w .kept), w .cost)
+end-least h w = omega (arith, end-kept (w .first) (w .start) h (w .kept), w .cost)
 
 pub end-walk : {line pairs st path : List ℕ} {n poses R count i q b : ℕ} → i ≤ n → End line pairs st path n poses R count i → LastFound (deckOf line n poses) R (keptIn st n) q b
     → Walk line pairs st path n poses R count i (n - i) q b

@@ -80,14 +80,15 @@ pub record Walk (line pairs st path : List ℕ) (n poses R count i d q a : ℕ) 
   pub kept : KeptLayers (deckOf line n poses) R first i (i + d) st
   pub cost : keptIn st (i + d) q a < B
 
--- the row's end, from a stretch whose first layer has i cells
+-- the row's end, from a stretch whose first layer has i cells; where it starts, ending costs `start`
 pub record End (line pairs st path : List ℕ) (n poses R count i : ℕ) : Type 0 where
   pub back : Back line pairs st n poses R count
   pub room : 67 ≤ length path
   pub some : 0 < i
   pub first : Layer
+  pub start : ℕ
   pub kept : KeptLayers (deckOf line n poses) R first i n st
-  pub cost : priceEnd (deckOf line n poses) R first i < B
+  pub cost : priceEnd (deckOf line n poses) R first i start < B
 
 -- ---- what is left
 
@@ -101,13 +102,17 @@ pub record WalkDone (D : Deck) (R : ℕ) (st : List ℕ) (i d q a : ℕ) (old ne
 
 pub record EndDone (D : Deck) (R : ℕ) (st : List ℕ) (i : ℕ) (old new : List ℕ) : Type 0 where
   pub frame : Frame i (suc (D .size)) old new
-  pub walked : (f : Layer) → KeptLayers D R f i (D .size) st → priceEnd D R f i < B → EndWalked D R (NotedBy (wordAt new)) f i
+  pub walked : (f : Layer) (e : ℕ) → KeptLayers D R f i (D .size) st → priceEnd D R f i e < B → EndWalked D R (NotedBy (wordAt new)) f i e
 
 -- ---- the last cell
 
--- pair q in pose b of a layer f with all cells placed; B if the row has no such cell, or it is tall
+-- pair q in pose b of a layer f with all cells placed, with what its cell pays as the last
+abbrev pub lastPays : Deck → ℕ → Layer → ℕ → ℕ → ℕ
+lastPays D R f q b = f q b + D .back (lastAt R (D .size) q) b
+
+-- the same, or B if the row has no such cell, or it is tall
 unfoldable pub lastOf : Deck → ℕ → Layer → ℕ → ℕ → ℕ
-lastOf D R f q b = cond (ltb b (D .poses)) (cond (isThere D R (D .size) q) (cond (D .tall (lastAt R (D .size) q)) B (f q b)) B) B
+lastOf D R f q b = cond (ltb b (D .poses)) (cond (isThere D R (D .size) q) (cond (D .tall (lastAt R (D .size) q)) B (lastPays D R f q b)) B) B
 
 -- the same by a code, q * 64 + b
 abbrev pub lastCode : Deck → ℕ → Layer → ℕ → ℕ
@@ -118,4 +123,4 @@ pub record LastFound (D : Deck) (R : ℕ) (f : Layer) (q b : ℕ) : Type 0 where
   pub pose : b < D .poses
   pub there : isThere D R (D .size) q ≡ true
   pub single : D .tall (lastAt R (D .size) q) ≡ false
-  pub word : f q b ≡ ends D R f
+  pub word : lastPays D R f q b ≡ ends D R f

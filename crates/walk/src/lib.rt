@@ -154,7 +154,8 @@ pub fn walk(
     );
 }
 
-// The kept word of pair c / 64 in pose c % 64 with all n cells placed; NONE if the row has no such cell, or it is tall.
+// The kept word of pair c / 64 in pose c % 64 with all n cells placed, with what its cell pays as the row's last; NONE if the row has no such cell, or
+// it is tall.
 fn last_word(
     store: &[u32],
     line: &[u32],
@@ -175,10 +176,11 @@ fn last_word(
     if !deck::is_there(pairs, n, r, n, q) {
         return lanes::NONE;
     }
-    if line[deck::last_at(pairs, r, n, q) * 128 + 67] == 1 {
+    let k = deck::last_at(pairs, r, n, q);
+    if line[k * 128 + 67] == 1 {
         return lanes::NONE;
     }
-    store[kept::kept_at(n) + c]
+    store[kept::kept_at(n) + c] + deck::back(line, k, c % 64)
 }
 
 // The first of the last cells with the least cost, pair before pose.

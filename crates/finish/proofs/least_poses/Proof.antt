@@ -1,4 +1,4 @@
--- After a turns the lanes are lowered to the poses below a. Assumes nothing.
+-- After a turns the lanes are lowered to the poses below a, each with what it pays as the last. Assumes nothing.
 use Prim.Native.Nat.{_-_, _≤_}
 use mathlib.Core.Path.{_≡_, _∙_}
 use native.Mathlib.Omega.{arith}
@@ -6,24 +6,24 @@ use borrow.Author.Needs.{needs}
 use Rattle.lanes.specs.Lanes.{Lowered}
 use Rattle.lanes.specs.Store.{layerIn}
 use Rattle.lanes.specs.Laws.{lowered-to, lowered-join}
+use Rattle.deck.specs.Words.{backIn}
+use Rattle.deck.specs.Laws.{back-low}
 use Rattle.finish.specs.Ends.{leastPosesIn}
 use Rattle.finish.specs.Laws.{poses-none, poses-more}
 use Rattle.finish.proofs.least_poses.Statement.{statement}
 use Rattle.finish.proofs.least_poses.Tie as tie
 
 abbrev Inv-loop : tie.InvT-loop
-Inv-loop acc₀ store at q poses lanes a₀ acc a =
-    (a ≤ poses) × Lowered (leastPosesIn store at q a) lanes acc₀ acc
+Inv-loop acc₀ store line at q k poses lanes a₀ acc a = (a ≤ poses) × Lowered (leastPosesIn line k store at q a) lanes acc₀ acc
 
 abbrev μ-loop : tie.MeasureT-loop
-μ-loop acc₀ store at q poses lanes a₀ acc a =
-    poses - a
+μ-loop acc₀ store line at q k poses lanes a₀ acc a = poses - a
 
 loop-holds : tie.Need-loop-holds Inv-loop μ-loop
 loop-holds c =
-    let k = c .before in
+    let k = c .before .before in
     let a = k .args in
-    (omega arith, lowered-to _ (k .pre .1) (λ l h. omega (arith, poses-none (layerIn (a .store .now) (a .at) l) (a .q))))
+    (omega arith, lowered-to _ (k .pre .2) (λ l h. omega (arith, poses-none (backIn (a .line .now) (a .k)) (layerIn (a .store .now) (a .at) l) (a .q))))
 
 mul-relax : tie.Need-mul-relax Inv-loop μ-loop
 mul-relax c = search needs
@@ -37,11 +37,15 @@ mul-relax-2 c = search needs
 add-relax-2 : tie.Need-add-relax-2 Inv-loop μ-loop
 add-relax-2 c = search needs
 
+back-requires : tie.Need-back-requires Inv-loop μ-loop
+back-requires c κs = search needs
+
 relax-requires : tie.Need-relax-requires Inv-loop μ-loop
 relax-requires c κs =
-    let k = c .before .before .before .before in
-    let l = c .before .before .loop in
-    (omega arith, omega arith, l .inv .1 .long ∙ k .pre .2, omega arith, k .pre .0)
+    let k = c .before .before .before .before .before .before in
+    let a = k .args in
+    let l = c .before .before .before .loop in
+    (omega arith, omega arith, l .inv .1 .long ∙ k .pre .3, omega (arith, c .back .ensures, back-low (a .line .now) (a .k) (l .a)), k .pre .1)
 
 add-a : tie.Need-add-a Inv-loop μ-loop
 add-a c = search needs
@@ -51,15 +55,15 @@ loop-less c = search needs
 
 loop-again : tie.Need-loop-again Inv-loop μ-loop
 loop-again c =
-    let a = c .before .before .before .before .before .args in
-    let l = c .before .before .before .loop in (
+    let a = c .before .before .before .before .before .before .before .args in
+    let l = c .before .before .before .before .loop in (
       omega arith,
-      lowered-join (l .inv .1) (c .relax .ensures) (λ j h. omega (arith, poses-more (layerIn (a .store .now) (a .at) j) (a .q) (l .a))),
+      lowered-join (l .inv .1) (c .relax .ensures) (λ j h. omega (arith, c .before .back .ensures, poses-more (backIn (a .line .now) (a .k)) (layerIn (a .store .now) (a .at) j) (a .q) (l .a))),
     )
 
 returns : tie.Need-returns Inv-loop μ-loop
 returns c =
-    let e : c .before .loop .a ≡ c .before .before .before .args .poses = omega arith in
+    let e : c .before .loop .a ≡ c .before .before .before .before .args .poses = omega arith in
     rw e at (c .before .loop .inv .1)
 
 pub least-poses-spec : {M : Type 1} → statement M
@@ -73,6 +77,7 @@ least-poses-spec =
     add-relax
     mul-relax-2
     add-relax-2
+    back-requires
     relax-requires
     add-a
     loop-less

@@ -1,33 +1,97 @@
--- Every pair has NONE alone, and then the prices to the row's end in its first row. Assumes nothing.
+-- The three cases of the price. Assumes nothing.
 use mathlib.Core.Path.{_∙_}
 use native.Mathlib.Omega.{arith}
+use lib.ListN.{getD}
 use borrow.Author.Needs.{needs}
-use Rattle.layer.specs.Laws.{given-on}
-use Rattle.stretch.specs.Laws.{given-small}
-use Rattle.finish.specs.Laws.{end-block}
+use Rattle.deck.specs.Words.{deckOf}
+use Rattle.stretch.specs.Laws.{buffer-low, outside-join, outside-layers, outside-prices}
+use Rattle.finish.specs.Laws.{price-done, price-past, ran-price, end-words}
 use Rattle.finish.proofs.stretch_end.Statement.{statement}
 use Rattle.finish.proofs.stretch_end.Tie as tie
 
-mul-fill : tie.Need-mul-fill
-mul-fill c = search needs
+add-if1 : tie.Need-add-if1
+add-if1 c = search needs
 
 fill-requires : tie.Need-fill-requires
 fill-requires c κs = search needs
 
-end-lanes-requires : tie.Need-end-lanes-requires
-end-lanes-requires c κs =
-    let k = c .before .before .before .before .before .before .before .before in
-    let w = c .before .before .before .fill .ensures in
-    (given-on (k .pre .0) (w .frame) (w .low), record { over = k .pre .1 .over; room = omega (arith, w .frame .long, k .pre .1 .room) })
-
 same-length : tie.Need-same-length
-same-length c =
-    c .before .before .end-lanes .ensures .outside .long ∙ c .before .before .before .before .before .before .fill .ensures .frame .long
+same-length c = search needs
 
 returns : tie.Need-returns
 returns c =
-    let k = c .before .before .before .before .before .before .before .before .before .before .before in
-    end-block (given-small (k .pre .0)) (k .pre .0 .ground .all) (k .pre .1 .over) (c .before .before .before .before .before .before .fill .ensures) (c .before .before .end-lanes .ensures)
+    let k = c .before .before .before .before .before .before .before .before in
+    let a = k .args in
+    end-words (k .pre .0 .narrow) (c .before .before .fill .ensures) (λ f l. price-past (deckOf (a .line .now) (a .n) (a .poses)) (a .r) f (a .i) (getD (a .starts .now) l 0) (omega arith))
+
+add-if2 : tie.Need-add-if2
+add-if2 c = search needs
+
+put-requires : tie.Need-put-requires
+put-requires c κs =
+    let k = c .before .before .before .before .before .before in
+    (omega (arith, k .pre .1 .room, k .pre .0 .narrow), omega (arith, k .pre .0 .narrow), k .pre .3, omega arith, k .pre .0 .low, k .pre .2 .word)
+
+same-length-2 : tie.Need-same-length-2
+same-length-2 c = search needs
+
+returns-2 : tie.Need-returns-2
+returns-2 c =
+    let k = c .before .before .before .before .before .before .before .before .before in
+    let a = k .args in
+    end-words (k .pre .0 .narrow) (c .before .before .put .ensures)
+    (λ f l. omega (arith, price-done (deckOf (a .line .now) (a .n) (a .poses)) (a .r) f (a .i) (getD (a .starts .now) l 0) (omega arith), k .pre .2 .word l))
+
+run-on-requires : tie.Need-run-on-requires
+run-on-requires c κs =
+    let k = c .before .before .before .before .before .before in
+    (k .pre .0, omega (arith, k .pre .1 .over, k .pre .1 .room), omega arith)
+
+put-ends-requires : tie.Need-put-ends-requires
+put-ends-requires c κs =
+    let k = c .before .before .before .before .before .before .before .before .before .before in
+    let g = k .pre .0 in
+    let v = c .before .before .before .run-on .ensures in
+    let b = buffer-low (v .running .buffer) in (
+      record {
+        ground = g .ground;
+        low = v .low;
+        narrow = g .narrow;
+        early = omega (arith, g .ground .size);
+        room = omega (arith, v .frame .long, k .pre .1 .over, k .pre .1 .room);
+      },
+      record { over = k .pre .1 .over; room = omega (arith, v .frame .long, k .pre .1 .room) },
+    )
+
+same-length-3 : tie.Need-same-length-3
+same-length-3 c = c .before .before .put-ends .ensures .frame .long ∙ c .before .before .before .before .before .before .run-on .ensures .frame .long
+
+returns-3 : tie.Need-returns-3
+returns-3 c =
+    let k = c .before .before .before .before .before .before .before .before .before .before .before .before .before in
+    let a = k .args in
+    let g = k .pre .0 in
+    let v = c .before .before .before .before .before .before .run-on .ensures in
+    let w = c .before .before .put-ends .ensures in
+    record {
+      outside = outside-join (outside-layers (k .pre .1 .over) (v .frame) (omega arith)) (outside-prices (w .frame) (omega arith) (omega (arith, g .narrow)));
+      low = w .low;
+      right = λ l h. w .words l h ∙ ran-price l (getD (a .starts .now) l 0) (omega arith) (v .running) h;
+    }
 
 pub stretch-end-spec : {M : Type 1} → statement M
-stretch-end-spec = tie.close (tie.spec mul-fill fill-requires end-lanes-requires same-length returns)
+stretch-end-spec =
+    tie.close
+    (tie.spec
+    add-if1
+    fill-requires
+    same-length
+    returns
+    add-if2
+    put-requires
+    same-length-2
+    returns-2
+    run-on-requires
+    put-ends-requires
+    same-length-3
+    returns-3)

@@ -1,14 +1,14 @@
 -- A pair that cannot come first has no way to it. Assumes nothing.
-use Prim.Native.Nat.{ℕ}
+use Prim.Native.Nat.{ℕ, _+_, min}
 use mathlib.Core.Path.{_≡_, sym, ap, _∙_}
 use mathlib.Core.Bool.{true}
 use native.Mathlib.Omega.{arith}
 use borrow.Author.Needs.{needs}
 use borrow.Author.Tests.{not-true, not-false}
 use Rattle.rows.specs.Window.{start}
-use Rattle.model.specs.Steps.{before}
+use Rattle.model.specs.Steps.{B, before}
 use Rattle.lanes.specs.Laws.{pair-always, pair-ext}
-use Rattle.deck.specs.Words.{wordOf, deckOf}
+use Rattle.deck.specs.Words.{wordOf, frontIn, deckOf}
 use Rattle.first.specs.Firsts.{startsAt, open-there, open-away, starts-size}
 use Rattle.first.proofs.open_block.Statement.{statement}
 use Rattle.first.proofs.open_block.Tie as tie
@@ -76,7 +76,7 @@ returns-2 c =
     pair-ext (c .before .before .open-rows .ensures)
     (λ b l x y.
     open-there (deckOf (a .line .now) (a .n) (a .poses)) (a .r) (a .q) b (can (c .before .before .before .before .before))
-    ∙ ap (λ (j : ℕ). wordOf (a .line .now) j b) (sym (c .before .before .before .before .last-at .ensures)))
+    ∙ ap (λ (j : ℕ). min (wordOf (a .line .now) j b + frontIn (a .line .now) j b) B) (sym (c .before .before .before .before .last-at .ensures)))
 
 pub open-block-spec : {M : Type 1} → statement M
 open-block-spec =

@@ -1,8 +1,10 @@
 -- The first layer, then the stretch on from it. Assumes nothing.
-use Prim.Native.Nat.{_-_}
+use Prim.Native.Nat.{_+_, _-_}
+use mathlib.Core.Path.{_≡_, refl, _∙_}
+use lib.ListN.{replicate}
 use Rattle.deck.specs.Words.{deckOf}
 use Rattle.stage.specs.Stage.{posIn}
-use Rattle.stage.specs.Rows.{row-open, row-after, start-place, start-pair}
+use Rattle.stage.specs.Rows.{row-open, row-after, start-place, start-pair, zeros-low}
 use native.Mathlib.Omega.{arith}
 use borrow.Author.Needs.{needs}
 use Rattle.stage.proofs.row_price.Statement.{statement}
@@ -13,12 +15,14 @@ open-layer-requires c κs = search needs
 
 stage-end-requires : tie.Need-stage-end-requires
 stage-end-requires c κs =
-    let k = c .before .before .before .before .before .before .before .before .before .before in
-    let f = c .before .before .before .open-layer .ensures in
+    let k = c .before .before .before .before .before .before .before .before .before .before .before in
+    let f = c .before .before .before .before .open-layer .ensures in
     let r = k .pre .2 in (
       k .pre .0,
       record { ground = k .pre .0 .ground; low = f .low; narrow = omega arith; early = omega arith; room = omega (arith, r .over, r .room, f .frame .long) },
       record { over = r .over; room = omega (arith, r .room, f .frame .long) },
+      zeros-low 64,
+      refl,
     )
 
 same-length : tie.Need-same-length
@@ -26,9 +30,10 @@ same-length c = search needs
 
 returns : tie.Need-returns
 returns c =
-    let k = c .before .before .before .before .before .before .before .before .before .before .before .before .before in
+    let k = c .before .before .before .before .before .before .before .before .before .before .before .before .before .before in
     let a = k .args in
-    row-open (deckOf (a .line .now) (a .n) (a .poses)) (a .r) (a .talls) (posIn (a .places .now)) (a .count) (a .s) (c .before .before .before .before .before .before .before .before .if1 .taken) (k .pre .0 .ground .all) (c .before .before .before .before .before .before .open-layer .ensures) (c .before .before .stage-end .ensures)
+    row-open (deckOf (a .line .now) (a .n) (a .poses)) (a .r) (a .talls) (posIn (a .places .now)) (a .count) (a .s) (replicate 64 0) (c .before .before .before .before .before .before .before .before .before .if1 .taken) (k .pre .0 .ground .all) refl
+    (c .before .before .before .before .before .before .before .open-layer .ensures) (c .before .before .stage-end .ensures)
 
 sub-word : tie.Need-sub-word
 sub-word c = search needs
@@ -55,22 +60,31 @@ first-layer-requires c κs =
       s,
     )
 
+backs-requires : tie.Need-backs-requires
+backs-requires c κs =
+    let k = c .before .before .before .before .before .before .before .before .before .before .before .before in
+    let g = k .pre .0 .ground in
+    (g .row, zeros-low 64, refl, start-place (k .args .i) (c .before .before .before .before .before .before .word .result) (k .pre .0) (c .before .before .before .before .before .before .before .if1 .left) (k .pre .3) (c .before .before .before .before .before .before .word .ensures), g .few)
+
 add-stage-end : tie.Need-add-stage-end
 add-stage-end c =
-    let k = c .before .before .before .before .before .before .before .before .before .before .before .before in
-    let p = start-place (k .args .i) (c .before .before .before .before .before .before .word .result) (k .pre .0) (c .before .before .before .before .before .before .before .if1 .left) (k .pre .3) (c .before .before .before .before .before .before .word .ensures) in
-    omega (arith, c .before .before .before .before .before .placed-with .ensures, k .pre .0 .ground .coded .reorder)
+    let k = c .before .before .before .before .before .before .before .before .before .before .before .before .before .before .before in
+    let p = start-place (k .args .i) (c .before .before .before .before .before .before .before .before .before .word .result) (k .pre .0) (c .before .before .before .before .before .before .before .before .before .before .if1 .left) (k .pre .3) (c .before .before .before .before .before .before .before .before .before .word .ensures) in
+    omega (arith, c .before .before .before .before .before .before .before .before .placed-with .ensures, k .pre .0 .ground .coded .reorder)
 
 stage-end-requires-2 : tie.Need-stage-end-requires-2
 stage-end-requires-2 c κs =
-    let k = c .before .before .before .before .before .before .before .before .before .before .before .before in
+    let k = c .before .before .before .before .before .before .before .before .before .before .before .before .before .before .before in
     let g = k .pre .0 .ground in
-    let p = start-place (k .args .i) (c .before .before .before .before .before .before .word .result) (k .pre .0) (c .before .before .before .before .before .before .before .if1 .left) (k .pre .3) (c .before .before .before .before .before .before .word .ensures) in
-    let f = c .before .before .before .first-layer .ensures in
+    let p = start-place (k .args .i) (c .before .before .before .before .before .before .before .before .before .word .result) (k .pre .0) (c .before .before .before .before .before .before .before .before .before .before .if1 .left) (k .pre .3) (c .before .before .before .before .before .before .before .before .before .word .ensures) in
+    let f = c .before .before .before .before .before .before .first-layer .ensures in
+    let b = c .before .before .backs .ensures in
     let r = k .pre .2 in (
       k .pre .0,
-      record { ground = g; low = f .low; narrow = g .few; early = omega (arith, c .before .before .before .before .before .placed-with .ensures, g .coded .reorder); room = omega (arith, r .over, r .room, f .frame .long) },
+      record { ground = g; low = f .low; narrow = g .few; early = omega (arith, c .before .before .before .before .before .before .before .before .placed-with .ensures, g .coded .reorder); room = omega (arith, r .over, r .room, f .frame .long) },
       record { over = r .over; room = omega (arith, r .room, f .frame .long) },
+      b .low,
+      b .frame .long,
     )
 
 same-length-2 : tie.Need-same-length-2
@@ -79,11 +93,13 @@ same-length-2 c = search needs
 returns-2 : tie.Need-returns-2
 unfolding posIn
 returns-2 c =
-    let k = c .before .before .before .before .before .before .before .before .before .before .before .before .before .before .before in
+    let k = c .before .before .before .before .before .before .before .before .before .before .before .before .before .before .before .before .before .before in
     let a = k .args in
     row-after (deckOf (a .line .now) (a .n) (a .poses)) (a .r) (a .talls) (posIn (a .places .now)) (a .i) (a .i - 1) (a .count) (a .s)
-    (c .before .before .before .before .before .before .before .before .before .word .result) (c .before .before .before .before .before .before .before .before .placed-with .result) (omega (arith, c .before .before .before .before .before .before .before .before .before .before .if1 .left)) (k .pre .3) (k .pre .0 .ground .all)
-    (c .before .before .before .before .before .before .before .before .before .word .ensures) (c .before .before .before .before .before .before .before .before .placed-with .ensures) (c .before .before .before .before .before .before .first-layer .ensures) (c .before .before .stage-end2 .ensures)
+    (c .before .before .before .before .before .before .before .before .before .before .before .before .word .result) (c .before .before .before .before .before .before .before .before .before .before .before .placed-with .result) (c .before .before .before .before .before .backs .last .0) (omega (arith, c .before .before .before .before .before .before .before .before .before .before .before .before .before .if1 .left)) (k .pre .3) (k .pre .0 .ground .all)
+    (c .before .before .before .before .before .before .before .before .before .before .before .before .word .ensures) (c .before .before .before .before .before .before .before .before .before .before .before .placed-with .ensures)
+    (λ l h. let z : 0 + l ≡ l = omega arith in rw z at (c .before .before .before .before .before .backs .ensures .words l h))
+    (c .before .before .before .before .before .before .before .before .before .first-layer .ensures) (c .before .before .stage-end2 .ensures)
 
 pub row-price-spec : {M : Type 1} → statement M
 row-price-spec =
@@ -97,6 +113,7 @@ row-price-spec =
     word-requires
     placed-with-requires
     first-layer-requires
+    backs-requires
     add-stage-end
     stage-end-requires-2
     same-length-2

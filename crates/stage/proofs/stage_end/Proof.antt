@@ -25,7 +25,7 @@ unfolding posIn
 returns c =
     let k = c .before .before .before .before .before .before .before .before .before .before in
     let a = k .args in
-    row-tall (deckOf (a .line .now) (a .n) (a .poses)) (a .r) (a .talls) (posIn (a .places .now)) (c .before .before .before .before .before .if1 .taken) (k .pre .0 .ground .all) (c .before .before .before .before .word .ensures) (c .before .before .stretch-to .ensures)
+    row-tall (deckOf (a .line .now) (a .n) (a .poses)) (a .r) (a .talls) (posIn (a .places .now)) (a .starts .now) (c .before .before .before .before .before .if1 .taken) (k .pre .0 .ground .all) (c .before .before .before .before .word .ensures) (c .before .before .stretch-to .ensures)
 
 stretch-end-requires : tie.Need-stretch-end-requires
 stretch-end-requires c κs = search needs
