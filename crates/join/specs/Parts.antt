@@ -64,10 +64,11 @@ module _ (starts lanes I : ℕ) where
   module _ (P : ℕ → ℕ → ℕ → Type 0) {x y : List ℕ} (b : I ≤ 24) (room : (q₀ q₁ a : ℕ) → P q₀ q₁ a → (q₀ < 12) × (q₁ < 12) × (a < 64)) (p : Part starts lanes I P x y) where
     pub kept-case : (J q₀ q₁ a : ℕ) → Slot J q₀ q₁ a → (J ≡ suc I → P q₀ q₁ a → ⊥) → SameCase J q₀ q₁ a x y
     unfolding casesIn sourcesIn
-    kept-case j q₀ q₁ a h away = (
-      p .kept _ (λ p₀ p₁ c r. (λ e. same p₀ p₁ c r e, λ e. case-source j q₀ q₁ a (suc I) p₀ p₁ c h (slot p₀ p₁ c r) e)),
-      p .kept _ (λ p₀ p₁ c r. (λ e. case-source (suc I) p₀ p₁ c j q₀ q₁ a (slot p₀ p₁ c r) h (sym e), λ e. same p₀ p₁ c r (omega arith))),
-    )
+    kept-case j q₀ q₁ a h away =
+        record {
+          case = p .kept _ (λ p₀ p₁ c r. (λ e. same p₀ p₁ c r e, λ e. case-source j q₀ q₁ a (suc I) p₀ p₁ c h (slot p₀ p₁ c r) e));
+          source = p .kept _ (λ p₀ p₁ c r. (λ e. case-source (suc I) p₀ p₁ c j q₀ q₁ a (slot p₀ p₁ c r) h (sym e), λ e. same p₀ p₁ c r (omega arith)));
+        }
       where
         slot : (p₀ p₁ c : ℕ) → P p₀ p₁ c → Slot (suc I) p₀ p₁ c
         slot p₀ p₁ c r = let i = room p₀ p₁ c r in (omega arith, i .0, i .1, i .2)
@@ -100,7 +101,7 @@ module _ (starts lanes I : ℕ) where
       (λ s t l i j k.
       omega (
         arith,
-        kept-case P r room p I s t l (omega arith, omega arith, omega arith, omega arith) (λ e. omega arith) .0,
+        kept-case P r room p I s t l (omega arith, omega arith, omega arith, omega arith) (λ e. omega arith) .case,
         kept-price P r room p 0 s l q₀ a (omega arith) (omega arith) h g,
       ))
 
@@ -130,11 +131,11 @@ module _ (starts lanes I : ℕ) where
             done = λ q₀ q₁ a r.
                 let i = room q₀ q₁ a r in
                 ⊎-elim
-                (λ m. let e = kept-case Q b roomQ q (suc I) q₀ q₁ a (omega arith, i .0, i .1, i .2) (λ e. m .1) in rw (e .0, e .1) (p .done q₀ q₁ a (m .0)))
+                (λ m. let e = kept-case Q b roomQ q (suc I) q₀ q₁ a (omega arith, i .0, i .1, i .2) (λ e. m .1) in rw (e .case, e .source) (p .done q₀ q₁ a (m .0)))
                 (λ m.
                 least-ext starts lanes _ _ _ _ _ _ q₀ q₁ a
                 (λ s t l h g k.
-                let c = kept-case P b roomP p I s t l (omega arith, omega arith, omega arith, omega arith) (λ e. omega arith) .0 in
+                let c = kept-case P b roomP p I s t l (omega arith, omega arith, omega arith, omega arith) (λ e. omega arith) .case in
                 let d = kept-price P b roomP p 0 s l q₀ a (omega arith) (omega arith) (i .0) (i .2) in
                 let e = kept-price P b roomP p 1 t l q₁ a (omega arith) (omega arith) (i .1) (i .2) in
                 rw (c, d, e) refl)

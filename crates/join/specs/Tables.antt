@@ -15,12 +15,16 @@ casesIn st I q₀ q₁ a = getD st (caseAt I q₀ q₁ + a) 0
 unfoldable pub sourcesIn : List ℕ → ℕ → Cases
 sourcesIn st I q₀ q₁ a = getD st (sourceAt I q₀ q₁ + a) 0
 
--- a case and its source are as they were
-abbrev pub SameCase : ℕ → ℕ → ℕ → ℕ → List ℕ → List ℕ → Type 0
-SameCase I q₀ q₁ a old new = (casesIn new I q₀ q₁ a ≡ casesIn old I q₀ q₁ a) × (sourcesIn new I q₀ q₁ a ≡ sourcesIn old I q₀ q₁ a)
-
 unfoldable pub pricesIn : List ℕ → ℕ → Prices
 pricesIn st row s l q a = getD st (pricesAt row s + q * 4096 + a * 64 + l) 0
+
+-- a case and its source are as they were; and those of all tables
+pub record SameCase (I q₀ q₁ a : ℕ) (old new : List ℕ) : Type 0 where
+  pub case : casesIn new I q₀ q₁ a ≡ casesIn old I q₀ q₁ a
+  pub source : sourcesIn new I q₀ q₁ a ≡ sourcesIn old I q₀ q₁ a
+
+abbrev pub SameTables : List ℕ → List ℕ → Type 0
+SameTables old new = (I q₀ q₁ a : ℕ) → Slot I q₀ q₁ a → SameCase I q₀ q₁ a old new
 
 -- the store has the pages of so many start pairs: their cases in table I and their prices
 pub record Table (starts lanes I : ℕ) (st : List ℕ) : Type 0 where
