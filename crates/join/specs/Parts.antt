@@ -1,5 +1,5 @@
 -- Tables written part by part: one case, the cases before it, and what is read in the meantime. Assumes nothing.
-use Prim.Native.Nat.{ℕ, suc, _+_, _*_, _/_, _%_, _≤_, _<_, min}
+use Prim.Native.Nat.{ℕ, suc, _+_, _/_, _%_, _≤_, _<_, min}
 use mathlib.Core.Path.{_≡_, refl, sym, ap, _∙_}
 use mathlib.Core.Logic.{_⊎_, inl, inr, ⊎-elim}
 use mathlib.Core.Bool.{Bool}
@@ -11,7 +11,7 @@ use lib.Seq.{getD-set-same, getD-set-other}
 use Rattle.model.specs.Steps.{B, Cases, Prices, joinPose, nextCases}
 use Rattle.lanes.specs.Store.{Low}
 use Rattle.lanes.specs.Laws.{low-set}
-use Rattle.join.specs.Places.{caseAt, sourceAt, pricesAt, Pages, Slot, case-one, case-source, case-room, case-beside}
+use Rattle.join.specs.Places.{caseAt, sourceAt, Pages, Slot, case-one, case-source, case-room, case-beside}
 use Rattle.join.specs.Tables.{
   casesIn,
   sourcesIn,

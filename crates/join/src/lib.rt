@@ -1,7 +1,7 @@
 // A stage joined: the prices of both rows on top of one case table make the next, with the source of each case.
 ghost use mathlib.Core.Path.{_≡_};
 ghost use mathlib.Core.Bool.{false};
-ghost use Prim.Native.Nat.{ℕ, _+_, _*_, _≤_, _<_};
+ghost use Prim.Native.Nat.{_+_, _*_, _≤_, _<_};
 ghost use lib.ListN.{length};
 ghost use Rattle.rows.specs.Lists.{from};
 ghost use Rattle.pair.specs.Coded.{lowest};

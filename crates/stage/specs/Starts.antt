@@ -1,16 +1,16 @@
 -- Prices from one start pair after the other; from a dead one they may be any, since no way below B goes from it. Assumes nothing.
 use Prim.Native.Nat.{ℕ, zero, suc, _+_, _*_, _≤_, _<_, min}
-use mathlib.Core.Path.{_≡_, refl, sym, _∙_}
+use mathlib.Core.Path.{_≡_, refl, _∙_}
 use mathlib.Core.Logic.{_⊎_, inl, inr, ⊎-elim}
 use mathlib.Core.List.{List}
 use native.Mathlib.Omega.{arith}
 use borrow.Author.Count.{below-more}
 use lib.ListN.{length}
-use Rattle.model.specs.Steps.{B, Cases, Prices}
+use Rattle.model.specs.Steps.{B, Prices}
 use Rattle.lanes.specs.Store.{Low}
-use Rattle.join.specs.Places.{caseAt, sourceAt, pricesAt, Slot, case-beside, price-before}
+use Rattle.join.specs.Places.{caseAt, pricesAt, case-beside, price-before}
 use Rattle.join.specs.Tables.{casesIn, sourcesIn, pricesIn, SameCase, SameTables, Table}
-use Rattle.stage.specs.Stage.{fromAt, Dead, StartRight, Priced, StartPriced, RowPriced, BothPriced}
+use Rattle.stage.specs.Stage.{fromAt, Dead, Priced, StartPriced, RowPriced, BothPriced}
 
 -- ---- the cases from a start pair
 
