@@ -1,7 +1,7 @@
 // Loops over the lanes of a row: a row is 64 words, one for each start of a stretch, all at once.
 ghost use mathlib.Core.Path.{_≡_};
 ghost use Prim.Native.Nat.{ℕ, _+_, _≤_, _<_, min};
-ghost use lib.ListN.{length, getD};
+ghost use lib.ListN.{length, getD, replicate};
 ghost use Rattle.model.specs.Steps.{B};
 ghost use Rattle.lanes.specs.Lanes.{Lowered, charged, withOwn, always, wordsFrom};
 ghost use Rattle.lanes.specs.Store.{Low, Written};
@@ -82,5 +82,16 @@ pub fn copy(store: &mut [u32], from: usize, at: usize, count: usize)
     while k < count {
         store[at + k] = store[from + k];
         k += 1;
+    }
+}
+
+// Zeros in every word.
+pub fn clear(store: &mut [u32])
+    ensures { λ _. ⌜ now (store .exit) ≡ replicate (length (now (store .entry))) 0 ⌝ }
+{
+    let mut i = 0;
+    while i < store.len() {
+        store[i] = 0;
+        i += 1;
     }
 }

@@ -1,5 +1,4 @@
 pub mod Placed
 pub mod Poses
 pub mod Fields
-pub mod Cleared
 pub mod Answers

@@ -20,17 +20,6 @@ use reader::read_job;
 use results::put_results;
 use search::search;
 
-// Zeros in every word.
-fn clear(store: &mut [u32])
-    ensures { λ _. ⌜ now (store .exit) ≡ replicate (length (now (store .entry))) 0 ⌝ }
-{
-    let mut i = 0;
-    while i < store.len() {
-        store[i] = 0;
-        i += 1;
-    }
-}
-
 // A pose by its number: a site within the displacement, a layout, a mark.
 fn pose_of(displacement: u32, cell: Cell, a: u32) -> Pose
     requires { ⌜ (cell .given ≤ 1023) × (a < 64) ⌝ }
@@ -115,9 +104,8 @@ fn place_job(job: Job, store: &mut [u32], output: &mut [u8], results: &mut [i32]
     requires { ⌜ Enough job (length (now store)) (length (now output)) ⌝ }
     ensures { λ r. ⌜ Answered (jobOf job) r (lent (now (store .entry)) (now (output .entry)) (now (results .entry))) (lent (now (store .exit)) (now (output .exit)) (now (results .exit))) ⌝ }
 {
-    clear(&mut *store);
     let found = search(job, &mut *store);
-    clear(store);
+    lanes::clear(store);
     let cost = found.cost;
     if cost == lanes::NONE {
         refuse(results, 8, 0);

@@ -1,5 +1,5 @@
 -- From the stages and the trace to the answer: the least cost, and the placement that both paths note. Assumes nothing.
-use Prim.Native.Nat.{ℕ, zero, suc, _+_, _*_, _≤_, _<_}
+use Prim.Native.Nat.{ℕ, suc, _+_, _*_, _≤_, _<_}
 use mathlib.Core.Path.{_≡_, refl, sym, ap, _∙_, subst}
 use mathlib.Core.Option.{some}
 use mathlib.Core.List.{List}
@@ -16,6 +16,7 @@ use Rattle.model.specs.Notes.{NotedBy}
 use Rattle.traced.specs.Placed.{WalkedBack, places, places-agree}
 use Rattle.bridge.specs.Paired.{siteOf, poseNumbers, poseNumber, isOffered, pairJob}
 use Rattle.claim.specs.Claim.{reorder, searchedCost, placementByNumbers, claim-none, claim-some}
+use Rattle.order.specs.Laws.{zeros-at}
 use Rattle.lanes.specs.Store.{Low}
 use Rattle.deck.specs.Words.{deckOf}
 use Rattle.join.specs.Tables.{casesAt, casesIn}
@@ -27,20 +28,13 @@ use Rattle.trace.specs.Laws.{trace-given}
 use Rattle.scatter.specs.Scatter.{cellAt, poseAt, Given, Scattered}
 use Rattle.scatter.specs.Laws.{both-scattered, scattered-small}
 use Rattle.search.specs.Solved.{numbersIn, Solved}
+use Rattle.search.specs.Words.{wordsFor}
 use Rattle.search.specs.Ready.{Ready, ready-talls, ready-searched, stages-given}
 use Rattle.search.specs.Row.{RowPath, path-cell, path-given, path-numbers}
 
--- nothing but zeros
-zeros : (n k : ℕ) → _≡_ {A = ℕ} (getD (replicate n 0) k 0) 0
-zeros zero k = refl
-zeros (suc n) zero = refl
-zeros (suc n) (suc k) = zeros n k
-
-pub zeros-low : (n : ℕ) → Low (replicate n 0)
-zeros-low n = record { word = λ k. omega (arith, zeros n k) }
-
+-- zeros are pose numbers
 pub zeros-small : (n k : ℕ) → getD (replicate n 0) k 0 < 64
-zeros-small n k = omega (arith, zeros n k)
+zeros-small n k = omega (arith, zeros-at n k)
 
 module _ (j : Job) (line₀ line₁ places₀ places₁ : List ℕ) (n₀ n₁ talls : ℕ) where
   abbrev pub deck₀ : Deck
@@ -60,9 +54,9 @@ module _ (j : Job) (line₀ line₁ places₀ places₁ : List ℕ) (n₀ n₁ t
     pub low : x ≤ B
 
   -- tables from which a placement can be traced
-  pub record Tables (st : List ℕ) : Type 0 where
+  pub record Tables (count : ℕ) (st : List ℕ) : Type 0 where
     pub old : List ℕ
-    pub long : 1048576 ≤ length old
+    pub long : wordsFor count ≤ length old
     pub low : Low old
     pub done : StagesDone deck₀ deck₁ (reorder j) talls (posIn places₀) (posIn places₁) old st
     pub some : least < B
@@ -90,7 +84,7 @@ module _ (j : Job) (line₀ line₁ places₀ places₁ : List ℕ) (n₀ n₁ t
       one k = omega (arith, wide-last talls (suc talls) k (omega arith))
 
   -- a cost below B can be traced
-  pub traceable : {old new : List ℕ} {x : ℕ} → Costed old new x → 1048576 ≤ length old → Low old → x < B → Tables new
+  pub traceable : {old new : List ℕ} {x count : ℕ} → Costed old new x → wordsFor count ≤ length old → Low old → x < B → Tables count new
   traceable {old} c h l u = record { old = old; long = h; low = l; done = c .done; some = subst (λ (y : ℕ). y < B) (c .cost) u }
 
 module _ {j : Job} {line₀ line₁ pairs places₀ places₁ : List ℕ} {n₀ n₁ count talls : ℕ} (r : Ready j line₀ line₁ pairs places₀ places₁ n₀ n₁ count talls) where
@@ -123,7 +117,7 @@ module _ {j : Job} {line₀ line₁ pairs places₀ places₁ : List ℕ} {n₀ 
 
   -- ---- the trace
 
-  pub may-trace : {st path₀ path₁ : List ℕ} {poses : ℕ} → poses ≡ poseNumbers j → Tables j line₀ line₁ places₀ places₁ n₀ n₁ talls st → 67 ≤ length path₀ → 67 ≤ length path₁
+  pub may-trace : {st path₀ path₁ : List ℕ} {poses : ℕ} → poses ≡ poseNumbers j → Tables j line₀ line₁ places₀ places₁ n₀ n₁ talls count st → 67 ≤ length path₀ → 67 ≤ length path₁
       → Trace line₀ line₁ pairs places₀ places₁ st path₀ path₁ (reorder j) n₀ n₁ poses count talls talls 0 0 0
   may-trace {st} {path₀} {path₁} z t h l =
       subst (λ (p : ℕ). Trace line₀ line₁ pairs places₀ places₁ st path₀ path₁ (reorder j) n₀ n₁ p count talls talls 0 0 0) (sym z) (trace-given (stages-given r refl (t .long) (t .low)) (t .done) h l (t .some))

@@ -1,4 +1,5 @@
 pub mod Solved
+pub mod Words
 pub mod Ready
 pub mod Row
 pub mod Answer

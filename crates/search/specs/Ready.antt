@@ -1,5 +1,5 @@
 -- The rows as words, ready for the search: what the stages and the claim are owed of them. Assumes nothing.
-use Prim.Native.Nat.{ℕ, zero, suc, _≤_}
+use Prim.Native.Nat.{ℕ, _≤_}
 use mathlib.Core.Path.{_≡_, sym, _∙_, subst}
 use mathlib.Core.List.{List}
 use native.Mathlib.Omega.{arith}
@@ -7,8 +7,6 @@ use lib.ListN.{length}
 use Rattle.definition.specs.Job.{Job}
 use Rattle.definition.specs.Sound.{Sound}
 use Rattle.pair.specs.Cells.{Side, row₀, row₁, tallCount, cell-pos}
-use Rattle.model.specs.Steps.{pairCount}
-use Rattle.model.specs.Pairs.{count-0, count-1}
 use Rattle.bridge.specs.Paired.{poseNumbers, pairJob}
 use Rattle.claim.specs.Claim.{RowSearched, reorder}
 use Rattle.lanes.specs.Store.{Low}
@@ -17,6 +15,7 @@ use Rattle.pairs.specs.Upto.{Paired}
 use Rattle.lines.specs.Filled.{Lined}
 use Rattle.lines.specs.TallWords.{TallWords, talls-count, talls-few, talls-pos}
 use Rattle.stage.specs.Stage.{posIn, RowGiven, StagesGiven}
+use Rattle.search.specs.Words.{wordsFor}
 
 -- a row's n cells as words, and the positions of its tall cells
 pub record RowReady (j : Job) (s : Side) (line places : List ℕ) (n talls : ℕ) : Type 0 where
@@ -56,12 +55,6 @@ module _ {j : Job} {s : Side} {line places : List ℕ} {n talls : ℕ} (r : RowR
 
 -- ---- both rows
 
--- at most three pairs
-pub few-pairs : (R : ℕ) → R ≤ 1 → pairCount R ≤ 3
-few-pairs zero h = omega (arith, count-0)
-few-pairs (suc zero) h = omega (arith, count-1)
-few-pairs (suc (suc R)) h = absurd (omega arith)
-
 pub ready : {j : Job} {line₀ line₁ pairs places₀ places₁ : List ℕ} {n₀ n₁ count talls talls₁ : ℕ} → Sound j → Paired (reorder j) pairs count
     → RowReady j row₀ line₀ places₀ n₀ talls → RowReady j row₁ line₁ places₁ n₁ talls₁ → Ready j line₀ line₁ pairs places₀ places₁ n₀ n₁ count talls
 ready {j} {line₁ = line₁} {places₁ = places₁} {n₁ = n₁} sound p r₀ r₁ = record {
@@ -72,11 +65,11 @@ ready {j} {line₁ = line₁} {places₁ = places₁} {n₁ = n₁} sound p r₀
 }
 
 module _ {j : Job} {line₀ line₁ pairs places₀ places₁ : List ℕ} {n₀ n₁ count talls : ℕ} (r : Ready j line₀ line₁ pairs places₀ places₁ n₀ n₁ count talls) where
-  pub stages-given : {st : List ℕ} {poses : ℕ} → poses ≡ poseNumbers j → 1048576 ≤ length st → Low st → StagesGiven line₀ line₁ pairs places₀ places₁ st (reorder j) n₀ n₁ poses count talls
+  pub stages-given : {st : List ℕ} {poses : ℕ} → poses ≡ poseNumbers j → wordsFor count ≤ length st → Low st → StagesGiven line₀ line₁ pairs places₀ places₁ st (reorder j) n₀ n₁ poses count talls
   stages-given {st} z h l = subst (λ (p : ℕ). StagesGiven line₀ line₁ pairs places₀ places₁ st (reorder j) n₀ n₁ p count talls) (sym z) record {
     row₀ = ready-given (r .row₀) (r .sound) (r .paired);
     row₁ = ready-given (r .row₁) (r .sound) (r .paired);
-    long = let a = few-pairs (reorder j) (r .sound .header .reordering) in let b = r .paired .all in omega arith;
+    long = h;
     low = l;
   }
 

@@ -11,16 +11,13 @@ use Rattle.definition.specs.Sound.{Sound}
 use Rattle.job.specs.declared.Job.{Job}
 use Rattle.job.specs.Value.{jobOf}
 use Rattle.model.specs.Steps.{B}
-use Rattle.bridge.specs.Paired.{poseNumbers}
 use Rattle.claim.specs.Claim.{placementByNumbers}
-use Rattle.lanes.specs.Store.{Low}
 
--- an accepted job, and a store that is large enough and has no word over B
+-- an accepted job, and a store that is large enough, whatever its words
 pub record Asked (job : Job) (store : List ℕ) : Type 0 where
   pub sound : Sound (jobOf job)
   pub few : job .count ≤ 64
   pub long : 1048576 ≤ length store
-  pub low : Low store
 
 -- pose numbers, cell by cell
 abbrev pub numbersIn : List ℕ → ℕ → ℕ

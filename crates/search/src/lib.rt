@@ -8,6 +8,7 @@ ghost use Rattle.bridge.specs.Paired.{poseNumbers};
 ghost use Rattle.lanes.specs.Store.{Low};
 ghost use Rattle.lines.specs.Filled.{sideOf};
 ghost use Rattle.search.specs.Solved.{Asked, Solved};
+ghost use Rattle.search.specs.Words.{wordsFor};
 ghost use Rattle.search.specs.Ready.{RowReady, Ready};
 ghost use Rattle.search.specs.Answer.{Costed, Tables, Answered};
 use job::Job;
@@ -56,7 +57,7 @@ fn least_cost(
     count: usize,
     talls: usize,
 ) -> u32
-    requires { ⌜ Ready (jobOf job) (now line0) (now line1) (now pairs) (now places0) (now places1) n0 n1 count talls × (1048576 ≤ length (now store)) × Low (now store) ⌝ }
+    requires { ⌜ Ready (jobOf job) (now line0) (now line1) (now pairs) (now places0) (now places1) n0 n1 count talls × (wordsFor count ≤ length (now store)) × Low (now store) ⌝ }
     ensures { λ x. ⌜ Costed (jobOf job) (now (line0 .entry)) (now (line1 .entry)) (now (places0 .entry)) (now (places1 .entry)) n0 n1 talls (now (store .entry)) (now (store .exit)) x ⌝ }
 {
     let r = job.header.reordering as usize;
@@ -93,7 +94,7 @@ fn note(
     count: usize,
     talls: usize,
 )
-    requires { ⌜ Ready (jobOf job) (now line0) (now line1) (now pairs) (now places0) (now places1) n0 n1 count talls × Tables (jobOf job) (now line0) (now line1) (now places0) (now places1) n0 n1 talls (now store) × (64 ≤ length (now out)) × ((k : ℕ) → getD (now out) k 0 < 64) ⌝ }
+    requires { ⌜ Ready (jobOf job) (now line0) (now line1) (now pairs) (now places0) (now places1) n0 n1 count talls × Tables (jobOf job) (now line0) (now line1) (now places0) (now places1) n0 n1 talls count (now store) × (64 ≤ length (now out)) × ((k : ℕ) → getD (now out) k 0 < 64) ⌝ }
     ensures { λ _. ⌜ Answered (jobOf job) (now (line0 .entry)) (now (line1 .entry)) (now (places0 .entry)) (now (places1 .entry)) n0 n1 talls (now (out .exit)) ⌝ }
 {
     let mut path0 = [0u32; 128];
@@ -134,7 +135,7 @@ fn find(
     count: usize,
     talls: usize,
 ) -> Found
-    requires { ⌜ Ready (jobOf job) (now line0) (now line1) (now pairs) (now places0) (now places1) n0 n1 count talls × (1048576 ≤ length (now store)) × Low (now store) ⌝ }
+    requires { ⌜ Ready (jobOf job) (now line0) (now line1) (now pairs) (now places0) (now places1) n0 n1 count talls × (wordsFor count ≤ length (now store)) × Low (now store) ⌝ }
     ensures { λ r. ⌜ Solved (jobOf job) (r .cost) (r .poses) ⌝ }
 {
     let mut poses = [0u32; 64];
@@ -174,6 +175,15 @@ fn find(
     Found { cost, poses }
 }
 
+// How many words of the store a search with so many pairs needs: those up to the end of the prices.
+fn store_words(count: usize) -> usize
+    requires { ⌜ count ≤ 12 ⌝ }
+    ensures { λ r. ⌜ r ≡ wordsFor count ⌝ }
+{
+    join::PRICES + count * 98304
+}
+
+// Only the words that are needed are cleared and used.
 pub fn search(job: Job, store: &mut [u32]) -> Found
     requires { ⌜ Asked job (now store) ⌝ }
     ensures { λ r. ⌜ Solved (jobOf job) (r .cost) (r .poses) ⌝ }
@@ -186,8 +196,10 @@ pub fn search(job: Job, store: &mut [u32]) -> Found
     let count = pairs::fill_pairs(&mut pairs, job.header.reordering as usize);
     let row0 = fill_row(&mut line0, &mut places0, job, 0);
     let row1 = fill_row(&mut line1, &mut places1, job, 1);
+    let words = store_words(count);
+    lanes::clear(&mut store[..words]);
     find(
-        store,
+        &mut store[..words],
         job,
         &line0,
         &line1,

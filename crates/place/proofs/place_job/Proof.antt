@@ -1,30 +1,18 @@
--- `place::place_job` meets its contract: the store is zero before the search and after it, and what is found is 8 or the answer.
+-- `place::place_job` meets its contract: the search is given a store that is long enough, the store is zero after it, and what is found is 8 or the answer.
 use mathlib.Core.Path.{_≡_, refl, ap, _∙_}
 use native.Mathlib.Omega.{arith}
 use lib.ListN.{length, replicate}
 use Rattle.job.specs.Value.{jobOf}
-use Rattle.place.specs.Cleared.{cleared}
 use Rattle.place.specs.Answers.{found, answered-none, answered-some}
 use borrow.Author.Needs.{needs}
 use Rattle.place.proofs.place_job.Statement.{statement}
 use Rattle.place.proofs.place_job.Tie as tie
 
+search-requires : tie.Need-search-requires
+search-requires c κs = search needs
+
 clear-requires : tie.Need-clear-requires
 clear-requires c κs = search needs
-
-search-requires : tie.Need-search-requires
-search-requires c κs =
-    let s = c .before .before .before .before .before .before .before in
-    let z = cleared (length (s .args .store .now)) (c .before .before .before .clear .ensures) in
-    record {
-      sound = s .pre .taken .sound;
-      few = s .pre .taken .few;
-      long = omega (arith, z .0, s .pre .store);
-      low = z .1;
-    }
-
-clear-requires-2 : tie.Need-clear-requires-2
-clear-requires-2 c κs = search needs
 
 refuse-requires : tie.Need-refuse-requires
 refuse-requires c κs = search needs
@@ -40,19 +28,19 @@ returns c =
     let k = c .before .before .before in
     let z = k .before .before .before in
     let f = z .before .before .before .before in
-    let s = f .before .before .before .before .before .before .before .before in
+    let s = f .before .before .before .before in
     let a = s .args in
     let long : length (f .search .last .1 .0) ≡ length (a .store .now) = omega arith in
     answered-none (a .store .now) (a .output .now) (a .results .now)
     (f .search .ensures .none-when (k .if1 .taken))
-    (z .clear2 .ensures ∙ ap (λ n. replicate n 0) long)
+    (z .clear .ensures ∙ ap (λ n. replicate n 0) long)
     (c .before .refuse .ensures)
 
 put-answer-requires : tie.Need-put-answer-requires
 put-answer-requires c κs =
     let l = c .before .before .before in
     let f = l .before .before .before .before .before .before .before in
-    let s = f .before .before .before .before .before .before .before .before in
+    let s = f .before .before .before .before in
     let o = f .search .ensures in
     record {
       taken = s .pre .taken;
@@ -76,22 +64,21 @@ returns-2 c =
     let l = w .before .before .before .before in
     let z = l .before .before .before in
     let f = z .before .before .before .before in
-    let s = f .before .before .before .before .before .before .before .before in
+    let s = f .before .before .before .before in
     let a = s .args in
     let o = f .search .ensures in
     let long : length (f .search .last .1 .0) ≡ length (a .store .now) = omega arith in
     answered-some (a .store .now) (a .output .now) (a .results .now) (a .job) (f .search .result .poses)
     (o .some-when (found (jobOf (a .job)) _ _ o (l .if1 .left)))
-    (z .clear2 .ensures ∙ ap (λ n. replicate n 0) long)
+    (z .clear .ensures ∙ ap (λ n. replicate n 0) long)
     (w .put-answer .ensures)
 
 pub place-job-spec : {M : Type 1} → statement M
 place-job-spec =
     tie.close
     (tie.spec
-    clear-requires
     search-requires
-    clear-requires-2
+    clear-requires
     refuse-requires
     same-length
     same-length-2

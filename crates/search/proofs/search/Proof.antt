@@ -1,11 +1,29 @@
--- The rows are ready once the pairs and both rows are filled. Assumes nothing.
-use Rattle.search.specs.Answer.{zeros-low}
-use Rattle.search.specs.Ready.{ready}
+-- The rows are ready once the pairs and both rows are filled; the words that they need are cleared, and lent again. Assumes nothing.
+use Prim.Native.Nat.{ℕ, _≤_}
+use mathlib.Core.Path.{sym}
+use mathlib.Core.List.{List}
+use lib.ListN.{length}
+use lib.Seq.{length-take-le}
 use native.Mathlib.Omega.{arith}
 use Rattle.job.specs.Value.{headerOf, jobOf}
+use Rattle.search.specs.Words.{words-lent, zeros-low, again-room, again-long, again-low}
+use Rattle.search.specs.Ready.{ready}
 use borrow.Author.Needs.{needs}
 use Rattle.search.proofs.search.Statement.{statement}
 use Rattle.search.proofs.search.Tie as tie
+
+-- the store at the entry, and how many words of it are needed
+abbrev lent : tie.After-store-words → List ℕ
+lent c = c .before .before .before .before .before .before .before .before .before .before .before .before .before .before .before .before .args .store .now
+
+abbrev words : tie.After-store-words → ℕ
+words c = c .store-words .result
+
+has-words : (c : tie.After-store-words) → words c ≤ length (lent c)
+unfolding jobOf headerOf
+has-words c =
+    let k = c .before .before .before .before .before .before .before .before .before .before .before .before .before .before .before .before .pre in
+    omega (arith, c .store-words .ensures, words-lent (k .sound .header .reordering) (c .before .before .before .before .before .before .before .before .before .before .before .before .fill-pairs .ensures), k .long)
 
 slice-aggregate-fill-pairs : tie.Need-slice-aggregate-fill-pairs
 slice-aggregate-fill-pairs c = search needs
@@ -40,8 +58,29 @@ fill-row-requires-2 c κs =
     let k = c .before .before .before .before .before .before .before .before .before .before .before .before .pre in
     (k .sound, k .few, omega arith, omega arith, zeros-low 8192, omega arith)
 
+store-words-requires : tie.Need-store-words-requires
+store-words-requires c κs = search needs
+
+slice-relend-prefix-clear : tie.Need-slice-relend-prefix-clear
+slice-relend-prefix-clear c = has-words c
+
+slice-aggregate-clear : tie.Need-slice-aggregate-clear
+slice-aggregate-clear c =
+    let w = c .before in
+    sym (length-take-le (words w) (lent w) (has-words w))
+
+clear-requires : tie.Need-clear-requires
+clear-requires c κs = search needs
+
+slice-relend-prefix-find : tie.Need-slice-relend-prefix-find
+slice-relend-prefix-find c =
+    let w = c .before .before .before .before in
+    again-room (words w) (lent w) (has-words w) (c .before .before .clear .ensures)
+
 slice-aggregate-find : tie.Need-slice-aggregate-find
-slice-aggregate-find c = search needs
+slice-aggregate-find c =
+    let w = c .before .before .before .before .before in
+    again-long (words w) (lent w) (has-words w) (c .before .before .before .clear .ensures)
 
 slice-aggregate-find-2 : tie.Need-slice-aggregate-find-2
 slice-aggregate-find-2 c = search needs
@@ -55,11 +94,16 @@ slice-aggregate-find-4 c = search needs
 slice-aggregate-find-5 : tie.Need-slice-aggregate-find-5
 slice-aggregate-find-5 c = search needs
 
+slice-aggregate-find-6 : tie.Need-slice-aggregate-find-6
+slice-aggregate-find-6 c = search needs
+
 find-requires : tie.Need-find-requires
 unfolding jobOf headerOf
 find-requires c κs =
-    let k = c .before .before .before .before .before .before .before .before .before .before .before .before .before .before .before .before .before .before .before .before .before .pre in
-    (ready (k .sound) (c .before .before .before .before .before .before .before .before .before .before .before .before .before .before .before .before .before .fill-pairs .ensures) (c .before .before .before .before .before .before .before .before .before .before .before .before .before .fill-row .ensures) (c .before .before .before .before .before .before .before .before .fill-row2 .ensures), k .long, k .low)
+    let w = c .before .before .before .before .before .before .before .before .before .before in
+    let e = c .before .before .before .before .before .before .before .before .clear .ensures in
+    let r = w .before .before .before in
+    (ready (w .before .before .before .before .before .before .before .before .before .before .before .before .before .before .before .before .pre .sound) (w .before .before .before .before .before .before .before .before .before .before .before .before .fill-pairs .ensures) (w .before .before .before .before .before .before .before .before .fill-row .ensures) (r .fill-row2 .ensures), omega (arith, w .store-words .ensures, again-long (words w) (lent w) (has-words w) e), again-low (words w) (lent w) (has-words w) e)
 
 same-length : tie.Need-same-length
 same-length c = search needs
@@ -80,11 +124,17 @@ search-spec =
     slice-aggregate-fill-row-3
     slice-aggregate-fill-row-4
     fill-row-requires-2
+    store-words-requires
+    slice-relend-prefix-clear
+    slice-aggregate-clear
+    clear-requires
+    slice-relend-prefix-find
     slice-aggregate-find
     slice-aggregate-find-2
     slice-aggregate-find-3
     slice-aggregate-find-4
     slice-aggregate-find-5
+    slice-aggregate-find-6
     find-requires
     same-length
     returns)

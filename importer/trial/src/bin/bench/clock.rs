@@ -19,6 +19,12 @@ pub fn compare(what: &str, mut refiner: impl FnMut(), mut plain: impl FnMut()) {
     println!("{what:<44}{refiner:>9.2} us{plain:>9.2} us{ratio:>8.2}");
 }
 
+/// The best time of a call, in microseconds.
+pub fn best_of(call: &mut impl FnMut()) -> f64 {
+    let times = (0..ROUNDS).map(|_| time(call));
+    times.min().unwrap_or_default().as_secs_f64() * 1e6
+}
+
 /// The mean time of a call over one round.
 fn time(call: &mut impl FnMut()) -> Duration {
     let start = processor_time();

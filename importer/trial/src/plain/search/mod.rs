@@ -9,7 +9,7 @@
 
 mod block;
 mod lines;
-mod pairs;
+pub mod pairs;
 mod stage;
 mod stretch;
 mod tables;

@@ -1,4 +1,4 @@
--- `place::clear` meets its contract: zeros up to `i`, and the store as it was from there on.
+-- Zeros up to `i`, and the store as it was from there on. Assumes nothing.
 use Prim.Native.Nat.{ℕ, _+_, _-_, _≤_}
 use mathlib.Core.Path.{_≡_, refl, ap, _∙_}
 use mathlib.Core.List.{List, _++_, append-nil}
@@ -6,8 +6,8 @@ use native.Mathlib.Omega.{arith}
 use borrow.Author.Fill.{fill-none, fill-more}
 use lib.ListN.{length, set, drop, replicate, length-set}
 use lib.Seq.{drop-length}
-use Rattle.place.proofs.clear.Statement.{statement}
-use Rattle.place.proofs.clear.Tie as tie
+use Rattle.lanes.proofs.clear.Statement.{statement}
+use Rattle.lanes.proofs.clear.Tie as tie
 
 abbrev Inv-loop : tie.InvT-loop
 Inv-loop store₀ i₀ store i = (i ≤ length store₀) × (length store ≡ length store₀) × (store ≡ replicate i 0 ++ drop i store₀)

@@ -1,0 +1,46 @@
+-- The words of the store that a search uses: how many they are, and that they are zeros before it. Assumes nothing.
+use Prim.Native.Nat.{ℕ, zero, suc, _+_, _*_, _≤_}
+use mathlib.Core.Path.{_≡_, sym, ap, _∙_, subst}
+use mathlib.Core.List.{List, _++_}
+use native.Mathlib.Omega.{arith}
+use lib.ListN.{length, take, drop, replicate, length-replicate}
+use lib.Seq.{length-take-le, length-front, take-at}
+use Rattle.model.specs.Steps.{pairCount}
+use Rattle.model.specs.Pairs.{count-0, count-1}
+use Rattle.order.specs.Laws.{zeros-at}
+use Rattle.lanes.specs.Store.{Low}
+use Rattle.pairs.specs.Upto.{Paired}
+
+-- with so many pairs: all words up to the end of the prices
+abbrev pub wordsFor : ℕ → ℕ
+wordsFor count = 628224 + count * 98304
+
+-- at most three pairs
+few-pairs : (R : ℕ) → R ≤ 1 → pairCount R ≤ 3
+few-pairs zero h = omega (arith, count-0)
+few-pairs (suc zero) h = omega (arith, count-1)
+few-pairs (suc (suc R)) h = absurd (omega arith)
+
+-- a store of 1,048,576 words has them
+pub words-lent : {R : ℕ} {pairs : List ℕ} {count : ℕ} → R ≤ 1 → Paired R pairs count → wordsFor count ≤ 1048576
+words-lent {R} h p = omega (arith, few-pairs R h, p .all)
+
+pub zeros-low : (n : ℕ) → Low (replicate n 0)
+zeros-low n = record { word = λ k. omega (arith, zeros-at n k) }
+
+-- the first n words of a store, lent for clearing and left as `part`, then lent again
+module _ (n : ℕ) (store : List ℕ) {part : List ℕ} (h : n ≤ length store) (e : part ≡ replicate (length (take n store)) 0) where
+  cleared-long : length part ≡ length (take n store)
+  cleared-long = ap length e ∙ length-replicate (length (take n store)) 0
+
+  again : take n (part ++ drop n store) ≡ part
+  again = take-at part (drop n store) n (cleared-long ∙ length-take-le n store h)
+
+  pub again-room : n ≤ length (part ++ drop n store)
+  again-room = omega (arith, length-front store part n cleared-long)
+
+  pub again-long : n ≡ length (take n (part ++ drop n store))
+  again-long = sym (length-take-le n (part ++ drop n store) again-room)
+
+  pub again-low : Low (take n (part ++ drop n store))
+  again-low = subst Low (sym (again ∙ e)) (zeros-low (length (take n store)))
