@@ -1,4 +1,4 @@
--- Laws of loops that keep the least: one round more, where the least is, the least of equal costs; and when a number is the least of all ways to
+-- Laws of loops that keep the least: one round more, where the least is, the least of costs that are equal below B; and when a number is the least of all ways to
 -- a case. Assumes nothing.
 use Prim.Native.Nat.{ℕ, zero, suc, _+_, _/_, _%_, _≤_, _<_, min}
 use mathlib.Core.Path.{_≡_, refl, sym, _∙_}
@@ -24,12 +24,12 @@ lowest-suc h n = let e : 0 + n ≡ n = omega arith in rw e at (lowest-from B h 0
 pub lowest-more : (h : ℕ → ℕ) (n : ℕ) → lowest B h (from 0 (n + 1)) ≡ min (lowest B h (from 0 n)) (h n)
 lowest-more h n = let e : n + 1 ≡ suc n = omega arith in rw e (lowest-suc h n)
 
--- the least of equal costs
-pub lowest-ext : {h g : ℕ → ℕ} (n : ℕ) → ((k : ℕ) → k < n → h k ≡ g k) → lowest B h (from 0 n) ≡ lowest B g (from 0 n)
-lowest-ext {h} {g} zero e = lowest-zero h ∙ sym (lowest-zero g)
-lowest-ext {h} {g} (suc n) e =
-    let r = lowest-ext n (λ k l. e k (omega arith)) in
-    omega (arith, lowest-suc h n, lowest-suc g n, e n (omega arith))
+-- the least of costs that are equal below B
+pub lowest-same : (h g : ℕ → ℕ) (n : ℕ) → ((k : ℕ) → k < n → min (h k) B ≡ min (g k) B) → lowest B h (from 0 n) ≡ lowest B g (from 0 n)
+lowest-same h g zero e = lowest-zero h ∙ sym (lowest-zero g)
+lowest-same h g (suc n) e =
+    let r = lowest-same h g n (λ k l. e k (omega arith)) in
+    omega (arith, lowest-suc h n, lowest-suc g n, e n (omega arith), lowest-low B h (from 0 n))
 
 -- below B the least is one of them
 pub lowest-at : (h : ℕ → ℕ) (n : ℕ) → lowest B h (from 0 n) < B → (k : ℕ) × (k < n) × (h k ≡ lowest B h (from 0 n))

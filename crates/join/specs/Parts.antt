@@ -1,6 +1,6 @@
 -- Tables written part by part: one case, the cases before it, and what is read in the meantime. Assumes nothing.
-use Prim.Native.Nat.{ℕ, suc, _+_, _*_, _/_, _%_, _≤_, _<_}
-use mathlib.Core.Path.{_≡_, refl, _∙_}
+use Prim.Native.Nat.{ℕ, suc, _+_, _/_, _%_, _≤_, _<_, min}
+use mathlib.Core.Path.{_≡_, refl, sym, ap, _∙_}
 use mathlib.Core.Logic.{_⊎_, inl, inr, ⊎-elim}
 use mathlib.Core.Bool.{Bool}
 use mathlib.Core.List.{List}
@@ -8,16 +8,15 @@ use native.Mathlib.Omega.{arith}
 use native.Mathlib.Decide.{decLt}
 use lib.ListN.{length, getD, set, length-set}
 use lib.Seq.{getD-set-same, getD-set-other}
-use Rattle.model.specs.Steps.{Cases, Prices, joinPose, nextCases}
+use Rattle.model.specs.Steps.{B, Cases, Prices, joinPose, nextCases}
 use Rattle.lanes.specs.Store.{Low}
 use Rattle.lanes.specs.Laws.{low-set}
+use Rattle.join.specs.Places.{caseAt, sourceAt, Pages, Slot, case-one, case-source, case-room, case-beside}
 use Rattle.join.specs.Tables.{
-  casesAt,
-  sourcesAt,
-  pricesAt,
   casesIn,
   sourcesIn,
   pricesIn,
+  SameCase,
   Table,
   Least,
   Way,
@@ -30,48 +29,71 @@ use Rattle.join.specs.Tables.{
   Part,
   Joined,
 }
-use Rattle.join.specs.Laws.{lowest-ext, next-low}
+use Rattle.join.specs.Laws.{lowest-same, next-low}
 use Rattle.join.specs.Sums.{startSum, Summed}
 use Rattle.join.specs.SumLaws.{summed-ext}
 
--- ---- a table depends on the entries below the counts alone
+-- ---- a table depends on the ways below B alone
 
 module _ (starts lanes : ℕ) (f g : Cases) (x₀ x₁ y₀ y₁ : Prices) (q₀ q₁ a : ℕ)
-    (same : (s t l : ℕ) → s < starts → t < starts → l < lanes → f s t l ≡ g s t l)
-    (same₀ : (s l : ℕ) → s < starts → l < lanes → x₀ s l q₀ a ≡ y₀ s l q₀ a)
-    (same₁ : (s l : ℕ) → s < starts → l < lanes → x₁ s l q₁ a ≡ y₁ s l q₁ a) where
+    (same : (s t l : ℕ) → s < starts → t < starts → l < lanes
+    → min (f s t l + (x₀ s l q₀ a + x₁ t l q₁ a)) B ≡ min (g s t l + (y₀ s l q₀ a + y₁ t l q₁ a)) B) where
   pub next-ext : nextCases starts lanes f x₀ x₁ q₀ q₁ a ≡ nextCases starts lanes g y₀ y₁ q₀ q₁ a
   unfolding nextCases joinPose
   next-ext =
-      lowest-ext starts (λ s h. lowest-ext starts (λ t g. lowest-ext lanes (λ l k. omega (arith, same s t l h g k, same₀ s l h k, same₁ t l g k))))
+      let cap : (x y : ℕ) → x ≡ y → min x B ≡ min y B = λ x y e. ap (λ (x : ℕ). min x B) e in
+      lowest-same _ _ starts (λ s h. cap _ _ (lowest-same _ _ starts (λ t g. cap _ _ (lowest-same _ _ lanes (λ l k. same s t l h g k)))))
 
-  pub way-ext : {value code : ℕ} → Way starts lanes f x₀ x₁ q₀ q₁ a value code → Way starts lanes g y₀ y₁ q₀ q₁ a value code
-  way-ext {code = code} w =
-      let s = code / 768 in
-      let t = code % 768 / 64 in
-      let l = code % 64 in
+  pub way-ext : {value code : ℕ} → value < B → Way starts lanes f x₀ x₁ q₀ q₁ a value code → Way starts lanes g y₀ y₁ q₀ q₁ a value code
+  way-ext {code = code} b w =
       record {
         pair₀ = w .pair₀;
         pair₁ = w .pair₁;
         lane = w .lane;
-        sum = omega (arith, w .sum, same s t l (w .pair₀) (w .pair₁) (w .lane), same₀ s l (w .pair₀) (w .lane), same₁ t l (w .pair₁) (w .lane));
+        sum = omega (arith, w .sum, same (code / 768) (code % 768 / 64) (code % 64) (w .pair₀) (w .pair₁) (w .lane));
       }
 
   pub least-ext : {value code : ℕ} → Least (nextCases starts lanes f x₀ x₁ q₀ q₁ a) (Way starts lanes f x₀ x₁ q₀ q₁ a) value code
       → Least (nextCases starts lanes g y₀ y₁ q₀ q₁ a) (Way starts lanes g y₀ y₁ q₀ q₁ a) value code
-  least-ext w = record { right = w .right ∙ next-ext; found = λ h. way-ext (w .found h); small = w .small }
+  least-ext w = record { right = w .right ∙ next-ext; found = λ h. way-ext h (w .found h); small = w .small }
 
 -- ---- parts
 
 module _ (starts lanes I : ℕ) where
+  -- what a part leaves as it was, if its cases are in the map
+  module _ (P : ℕ → ℕ → ℕ → Type 0) {x y : List ℕ} (b : I ≤ 24) (room : (q₀ q₁ a : ℕ) → P q₀ q₁ a → (q₀ < 12) × (q₁ < 12) × (a < 64)) (p : Part starts lanes I P x y) where
+    pub kept-case : (J q₀ q₁ a : ℕ) → Slot J q₀ q₁ a → (J ≡ suc I → P q₀ q₁ a → ⊥) → SameCase J q₀ q₁ a x y
+    unfolding casesIn sourcesIn
+    kept-case j q₀ q₁ a h away =
+        record {
+          case = p .kept _ (λ p₀ p₁ c r. (λ e. same p₀ p₁ c r e, λ e. case-source j q₀ q₁ a (suc I) p₀ p₁ c h (slot p₀ p₁ c r) e));
+          source = p .kept _ (λ p₀ p₁ c r. (λ e. case-source (suc I) p₀ p₁ c j q₀ q₁ a (slot p₀ p₁ c r) h (sym e), λ e. same p₀ p₁ c r (omega arith)));
+        }
+      where
+        slot : (p₀ p₁ c : ℕ) → P p₀ p₁ c → Slot (suc I) p₀ p₁ c
+        slot p₀ p₁ c r = let i = room p₀ p₁ c r in (omega arith, i .0, i .1, i .2)
+
+        same : (p₀ p₁ c : ℕ) → P p₀ p₁ c → caseAt j q₀ q₁ + a ≡ caseAt (suc I) p₀ p₁ + c → ⊥
+        same p₀ p₁ c r e = let d = case-one j q₀ q₁ a (suc I) p₀ p₁ c h (slot p₀ p₁ c r) e in away (d .0) (rw (d .1, d .2, d .3) r)
+
+    pub kept-price : (row s l q a : ℕ) → row ≤ 1 → l < 64 → q < 12 → a < 64 → pricesIn y row s l q a ≡ pricesIn x row s l q a
+    unfolding pricesIn
+    kept-price row s l q a h k i g =
+        p .kept _
+        (λ p₀ p₁ c r.
+        let m = room p₀ p₁ c r in
+        let w = case-beside row s (suc I) p₀ p₁ c h (omega arith, m .0, m .1, m .2) in
+        (λ e. ⊎-elim (λ z. omega arith) (λ z. omega arith) (w .0), λ e. ⊎-elim (λ z. omega arith) (λ z. omega arith) (w .1)))
+
   -- what is read is as before
   pub table-part : {P : ℕ → ℕ → ℕ → Type 0} {x y : List ℕ} → Table starts lanes I x → Part starts lanes I P x y → Table starts lanes I y
   table-part t p = record { pairs = t .pairs; few = t .few; stage = t .stage; long = omega (arith, t .long, p .long); low = p .low }
 
-  pub summed-part : {P : ℕ → ℕ → ℕ → Type 0} {x y sums : List ℕ} {live : Bool} (q₀ a : ℕ) → Table starts lanes I x → Part starts lanes I P x y → q₀ < 12 → a < 64
+  pub summed-part : (P : ℕ → ℕ → ℕ → Type 0) {x y sums : List ℕ} {live : Bool} (q₀ a : ℕ) → Table starts lanes I x
+      → ((q₀ q₁ a : ℕ) → P q₀ q₁ a → (q₀ < 12) × (q₁ < 12) × (a < 64)) → Part starts lanes I P x y → q₀ < 12 → a < 64
       → Summed starts lanes I x q₀ a sums live → Summed starts lanes I y q₀ a sums live
-  unfolding startSum casesIn pricesIn
-  summed-part {y = y} q₀ a t p h g w =
+  unfolding startSum
+  summed-part P {y = y} q₀ a t room p h g w =
       let u = t .pairs in
       let v = t .few in
       let r = t .stage in
@@ -79,22 +101,14 @@ module _ (starts lanes I : ℕ) where
       (λ s t l i j k.
       omega (
         arith,
-        p .below (casesAt I + s * 768 + t * 64 + l) (omega arith),
-        p .above (pricesAt 0 s + q₀ * 4096 + a * 64 + l) (omega arith),
+        kept-case P r room p I s t l (omega arith, omega arith, omega arith, omega arith) (λ e. omega arith) .case,
+        kept-price P r room p 0 s l q₀ a (omega arith) (omega arith) h g,
       ))
 
   -- no case
   pub part-none : {P : ℕ → ℕ → ℕ → Type 0} {st : List ℕ} → Low st → ((q₀ q₁ a : ℕ) → P q₀ q₁ a → ⊥) → Part starts lanes I P st st
   part-none w none =
-      record {
-        long = refl;
-        low = w;
-        below = λ k h. refl;
-        between = λ k h g. refl;
-        above = λ k h. refl;
-        kept = λ q₀ q₁ a h g k n. (refl, refl);
-        done = λ q₀ q₁ a h. absurd (none q₀ q₁ a h);
-      }
+      record { long = refl; low = w; kept = λ k h. refl; done = λ q₀ q₁ a h. absurd (none q₀ q₁ a h) }
 
   -- the cases P, then the cases Q: together the cases R
   module _ (P Q R : ℕ → ℕ → ℕ → Type 0) {x y z : List ℕ} (t : Table starts lanes I x)
@@ -104,62 +118,52 @@ module _ (starts lanes I : ℕ) where
       (second : (q₀ q₁ a : ℕ) → Q q₀ q₁ a → R q₀ q₁ a)
     where
       pub part-then : Part starts lanes I P x y → Part starts lanes I Q y z → Part starts lanes I R x z
-      unfolding casesIn pricesIn
       part-then p q =
           let b : I ≤ 24 = t .stage in
           let u = t .pairs in
           let v = t .few in
+          let roomP : (q₀ q₁ a : ℕ) → P q₀ q₁ a → (q₀ < 12) × (q₁ < 12) × (a < 64) = λ q₀ q₁ a m. room q₀ q₁ a (first q₀ q₁ a m) in
+          let roomQ : (q₀ q₁ a : ℕ) → Q q₀ q₁ a → (q₀ < 12) × (q₁ < 12) × (a < 64) = λ q₀ q₁ a m. room q₀ q₁ a (second q₀ q₁ a m) in
           record {
             long = q .long ∙ p .long;
             low = q .low;
-            below = λ k h. q .below k h ∙ p .below k h;
-            between = λ k h g. q .between k h g ∙ p .between k h g;
-            above = λ k h. q .above k h ∙ p .above k h;
-            kept = λ q₀ q₁ a h g k n.
-                let i = p .kept q₀ q₁ a h g k (λ m. n (first q₀ q₁ a m)) in
-                let j = q .kept q₀ q₁ a h g k (λ m. n (second q₀ q₁ a m)) in
-                (j .0 ∙ i .0, j .1 ∙ i .1);
+            kept = λ k n. q .kept k (λ q₀ q₁ a m. n q₀ q₁ a (second q₀ q₁ a m)) ∙ p .kept k (λ q₀ q₁ a m. n q₀ q₁ a (first q₀ q₁ a m));
             done = λ q₀ q₁ a r.
                 let i = room q₀ q₁ a r in
                 ⊎-elim
-                (λ m. let e = q .kept q₀ q₁ a (i .0) (i .1) (i .2) (m .1) in rw (e .0, e .1) (p .done q₀ q₁ a (m .0)))
+                (λ m. let e = kept-case Q b roomQ q (suc I) q₀ q₁ a (omega arith, i .0, i .1, i .2) (λ e. m .1) in rw (e .case, e .source) (p .done q₀ q₁ a (m .0)))
                 (λ m.
                 least-ext starts lanes _ _ _ _ _ _ q₀ q₁ a
-                (λ s t l h g k. p .below (casesAt I + s * 768 + t * 64 + l) (omega arith))
-                (λ s l h k. p .above (pricesAt 0 s + q₀ * 4096 + a * 64 + l) (omega arith))
-                (λ s l h k. p .above (pricesAt 1 s + q₁ * 4096 + a * 64 + l) (omega arith))
+                (λ s t l h g k.
+                let c = kept-case P b roomP p I s t l (omega arith, omega arith, omega arith, omega arith) (λ e. omega arith) .case in
+                let d = kept-price P b roomP p 0 s l q₀ a (omega arith) (omega arith) (i .0) (i .2) in
+                let e = kept-price P b roomP p 1 t l q₁ a (omega arith) (omega arith) (i .1) (i .2) in
+                rw (c, d, e) refl)
                 (q .done q₀ q₁ a m))
                 (either q₀ q₁ a r);
           }
 
   -- one case, with its source
-  pub part-put : (p₀ p₁ b at v c : ℕ) {st : List ℕ}
-      → Table starts lanes I st → p₀ < 12 → p₁ < 12 → b < 64 → at ≡ casesAt (suc I) + p₀ * 768 + p₁ * 64 + b
+  pub part-put : (p₀ p₁ b at to v c : ℕ) (st : List ℕ)
+      → Table starts lanes I st → Pages (p₀ + 1) st → p₀ < 12 → p₁ < 12 → b < 64 → at ≡ caseAt (suc I) p₀ p₁ + b → to ≡ sourceAt (suc I) p₀ p₁ + b
       → Least (nextIn starts lanes I st p₀ p₁ b) (WayIn starts lanes I st p₀ p₁ b) v c
-      → Part starts lanes I (OneCase p₀ p₁ b) st (set (set st at v) (at + 239616) c)
+      → Part starts lanes I (OneCase p₀ p₁ b) st (set (set st at v) to c)
   unfolding casesIn sourcesIn
-  part-put p₀ p₁ b at v c {st} t f h g e w =
+  part-put p₀ p₁ b at to v c st t p f h g e d w =
       let r = t .stage in
       let y = set st at v in
       let n : length y ≡ length st = length-set st at v in
-      let long : at + 239616 < length st = omega (arith, t .long) in
-      let other : (k : ℕ) → (k ≡ at → ⊥) → (k ≡ at + 239616 → ⊥) → getD (set y (at + 239616) c) k 0 ≡ getD st k 0 =
-      λ k p q. getD-set-other y (at + 239616) k c 0 q ∙ getD-set-other st at k v 0 p in
+      let long = case-room (suc I) p₀ p₁ b st (omega arith, f, h, g) p in
       record {
-        long = length-set y (at + 239616) c ∙ n;
-        low = low-set (at + 239616) c (low-set at v (t .low) (omega arith) (omega (arith, w .right, next-low starts lanes (casesIn st I) (pricesIn st 0) (pricesIn st 1) p₀ p₁ b))) (omega arith) (omega (arith, w .small));
-        below = λ k l. other k (omega arith) (omega arith);
-        between = λ k l m. other k (omega arith) (omega arith);
-        above = λ k l. other k (omega arith) (omega arith);
-        kept = λ q₀ q₁ a i j k n.
-            let away : q₀ * 768 + q₁ * 64 + a ≡ p₀ * 768 + p₁ * 64 + b → ⊥ = λ d. n (omega arith, omega arith, omega arith) in
-            (other _ (λ d. away (omega arith)) (omega arith), other _ (omega arith) (λ d. away (omega arith)));
-        done = λ q₀ q₁ a d.
-            let z₀ : casesAt (suc I) + p₀ * 768 + p₁ * 64 + b ≡ at = omega arith in
-            let z₁ : sourcesAt (suc I) + p₀ * 768 + p₁ * 64 + b ≡ at + 239616 = omega arith in
-            let d₀ : getD (set y (at + 239616) c) at 0 ≡ v = getD-set-other y (at + 239616) at c 0 (omega arith) ∙ getD-set-same st at v 0 (omega arith) in
-            let d₁ : getD (set y (at + 239616) c) (at + 239616) 0 ≡ c = getD-set-same y (at + 239616) c 0 (omega arith) in
-            rw (d .0, d .1, d .2, z₀, z₁, d₀, d₁) w;
+        long = length-set y to c ∙ n;
+        low = low-set to c (low-set at v (t .low) (omega arith) (omega (arith, w .right, next-low starts lanes (casesIn st I) (pricesIn st 0) (pricesIn st 1) p₀ p₁ b))) (omega arith) (omega (arith, w .small));
+        kept = λ k away.
+            let u = away p₀ p₁ b (refl, refl, refl) in
+            getD-set-other y to k c 0 (λ z. u .1 (z ∙ d)) ∙ getD-set-other st at k v 0 (λ z. u .0 (z ∙ e));
+        done = λ q₀ q₁ a m.
+            let d₀ : getD (set y to c) at 0 ≡ v = getD-set-other y to at c 0 (omega arith) ∙ getD-set-same st at v 0 (omega arith) in
+            let d₁ : getD (set y to c) to 0 ≡ c = getD-set-same y to c 0 (omega arith) in
+            rw (m .0, m .1, m .2, sym e, sym d, d₀, d₁) w;
       }
 
   -- below n + 1: below n, or n
@@ -201,13 +205,12 @@ module _ (starts lanes I : ℕ) where
       (λ q₀ q₁ a d. (omega arith, d .1, d .2))
 
   -- all of it
-  pub part-joined : {ends poses : ℕ} {x y : List ℕ} → Part starts lanes I (StageCases ends ends poses) x y → Joined starts lanes ends poses I x y
-  part-joined p =
+  pub part-joined : {ends poses : ℕ} {x y : List ℕ} → I ≤ 24 → ends ≤ 12 → poses ≤ 64 → Part starts lanes I (StageCases ends ends poses) x y
+      → Joined starts lanes ends poses I x y
+  part-joined {ends} {poses} b h g p =
       record {
         long = p .long;
         low = p .low;
-        below = p .below;
-        between = p .between;
-        above = p .above;
+        tables = λ j q₀ q₁ a n m. kept-case (StageCases ends ends poses) b (λ q₀ q₁ a r. (omega arith, omega arith, omega arith)) p j q₀ q₁ a m (λ e r. n e);
         done = λ q₀ q₁ a h g k. p .done q₀ q₁ a (h, g, k);
       }

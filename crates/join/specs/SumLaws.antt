@@ -14,9 +14,10 @@ use Rattle.model.specs.Lowest.{loop-member}
 use Rattle.lanes.specs.Lanes.{always}
 use Rattle.lanes.specs.Store.{Written}
 use Rattle.lanes.specs.Laws.{low-set}
-use Rattle.join.specs.Tables.{casesAt, pricesAt, casesIn, pricesIn, Table, Least, Met, SumAt, WayIn, nextIn}
+use Rattle.join.specs.Places.{caseAt, pricesAt}
+use Rattle.join.specs.Tables.{casesIn, pricesIn, Table, Least, Met, SumAt, WayIn, nextIn}
 use Rattle.join.specs.Sums.{startSum, laneSum, endSum, Room, Sums, Nones, Summed}
-use Rattle.join.specs.Laws.{lowest-zero, lowest-more, lowest-ext, lowest-at, next-is}
+use Rattle.join.specs.Laws.{lowest-zero, lowest-more, lowest-same, lowest-at, next-is}
 
 -- the prices are there for other lanes, whatever the table
 pub table-for : {starts lanes I : ℕ} {st : List ℕ} (l i : ℕ) → Table starts lanes I st → l ≤ 60 → i ≤ 24 → Table starts l i st
@@ -25,12 +26,12 @@ table-for l i t h g = record { pairs = t .pairs; few = h; stage = g; long = t .l
 -- ---- the words of a sum
 
 pub start-words : (I : ℕ) (st : List ℕ) (q₀ a s t l at p₀ : ℕ)
-    → at ≡ casesAt I + s * 768 + t * 64 → p₀ ≡ pricesAt 0 s + q₀ * 4096 + a * 64
+    → at ≡ caseAt I s t → p₀ ≡ pricesAt 0 s + q₀ * 4096 + a * 64
     → getD st (at + l) 0 + getD st (p₀ + l) 0 ≡ startSum I st q₀ a t l s
 unfolding startSum casesIn pricesIn
 start-words I st q₀ a s t l at p₀ e d =
     let w : (i j : ℕ) → i ≡ j → getD st i 0 ≡ getD st j 0 = λ i j h. ap (λ (k : ℕ). getD st k 0) h in
-    omega (arith, w (at + l) (casesAt I + s * 768 + t * 64 + l) (omega arith), w (p₀ + l) (pricesAt 0 s + q₀ * 4096 + a * 64 + l) (omega arith))
+    omega (arith, w (at + l) (caseAt I s t + l) (omega arith), w (p₀ + l) (pricesAt 0 s + q₀ * 4096 + a * 64 + l) (omega arith))
 
 -- a start pair without any way to q₀ in pose a
 pub start-none : (I : ℕ) (st : List ℕ) (q₀ a s t l p₀ : ℕ) → p₀ ≡ pricesAt 0 s + q₀ * 4096 + a * 64 → B ≤ getD st (p₀ + l) 0 → B ≤ startSum I st q₀ a t l s
@@ -120,7 +121,7 @@ module _ (starts lanes I : ℕ) (st : List ℕ) (q₀ a : ℕ) where
         all = record {
           room = w .all .room;
           upTo = λ t l h g z. absurd (omega arith);
-          before = λ t l h g z. w .all .before t l h g z ∙ sym (lowest-ext starts (λ s k. same s t l k h g));
+          before = λ t l h g z. w .all .before t l h g z ∙ sym (lowest-same (startSum I new q₀ a t l) (startSum I st q₀ a t l) starts (λ s k. ap (λ (x : ℕ). min x B) (same s t l k h g)));
         };
         dead = w .dead;
       }

@@ -9,7 +9,8 @@ use Rattle.rows.specs.Lists.{from}
 use Rattle.pair.specs.Coded.{lowest}
 use Rattle.model.specs.Steps.{B}
 use Rattle.lanes.specs.Store.{Low}
-use Rattle.join.specs.Tables.{pricesAt, casesIn, pricesIn}
+use Rattle.join.specs.Places.{pricesAt}
+use Rattle.join.specs.Tables.{casesIn, pricesIn}
 
 -- from start pair s to pair q₀ in pose a, in lane l of case (s, t)
 unfoldable pub startSum : ℕ → List ℕ → ℕ → ℕ → ℕ → ℕ → ℕ → ℕ

@@ -6,34 +6,32 @@ use mathlib.Core.List.{List}
 use lib.ListN.{length, getD}
 use Rattle.model.specs.Steps.{B, Cases, Prices, nextCases}
 use Rattle.lanes.specs.Store.{Low}
-
--- ---- places in the store
-
-abbrev pub casesAt : ℕ → ℕ
-casesAt I = 148992 + I * 9216
-
-abbrev pub sourcesAt : ℕ → ℕ
-sourcesAt I = 388608 + I * 9216
-
-abbrev pub pricesAt : ℕ → ℕ → ℕ
-pricesAt row s = 628224 + s * 98304 + row * 49152
+use Rattle.join.specs.Places.{caseAt, sourceAt, pricesAt, Pages, Slot}
 
 -- case table I, its sources, and the prices of a row
 unfoldable pub casesIn : List ℕ → ℕ → Cases
-casesIn st I q₀ q₁ a = getD st (casesAt I + q₀ * 768 + q₁ * 64 + a) 0
+casesIn st I q₀ q₁ a = getD st (caseAt I q₀ q₁ + a) 0
 
 unfoldable pub sourcesIn : List ℕ → ℕ → Cases
-sourcesIn st I q₀ q₁ a = getD st (sourcesAt I + q₀ * 768 + q₁ * 64 + a) 0
+sourcesIn st I q₀ q₁ a = getD st (sourceAt I q₀ q₁ + a) 0
 
 unfoldable pub pricesIn : List ℕ → ℕ → Prices
 pricesIn st row s l q a = getD st (pricesAt row s + q * 4096 + a * 64 + l) 0
 
--- the store has room for case table I and the next, and for the prices of so many starts
+-- a case and its source are as they were; and those of all tables
+pub record SameCase (I q₀ q₁ a : ℕ) (old new : List ℕ) : Type 0 where
+  pub case : casesIn new I q₀ q₁ a ≡ casesIn old I q₀ q₁ a
+  pub source : sourcesIn new I q₀ q₁ a ≡ sourcesIn old I q₀ q₁ a
+
+abbrev pub SameTables : List ℕ → List ℕ → Type 0
+SameTables old new = (I q₀ q₁ a : ℕ) → Slot I q₀ q₁ a → SameCase I q₀ q₁ a old new
+
+-- the store has the pages of so many start pairs: their cases in table I and their prices
 pub record Table (starts lanes I : ℕ) (st : List ℕ) : Type 0 where
   pub pairs : starts ≤ 12
   pub few : lanes ≤ 60
   pub stage : I ≤ 24
-  pub long : 628224 + starts * 98304 ≤ length st
+  pub long : Pages starts st
   pub low : Low st
 
 -- ---- the least of some costs, and where it is
@@ -88,15 +86,15 @@ BlockCases p₀ m n q₀ q₁ a = (q₀ ≡ p₀) × (q₁ < m) × (a < n)
 abbrev pub StageCases : ℕ → ℕ → ℕ → ℕ → ℕ → ℕ → Type 0
 StageCases k m n q₀ q₁ a = (q₀ < k) × (q₁ < m) × (a < n)
 
--- the cases P of both tables are right, every other word is as it was
+-- not the place of a case P of table I, nor of its source
+abbrev pub Elsewhere : ℕ → (ℕ → ℕ → ℕ → Type 0) → ℕ → Type 0
+Elsewhere I P k = (q₀ q₁ a : ℕ) → P q₀ q₁ a → (k ≡ caseAt I q₀ q₁ + a → ⊥) × (k ≡ sourceAt I q₀ q₁ + a → ⊥)
+
+-- the cases P of table I + 1 and their sources are right, every other word is as it was
 pub record Part (starts lanes I : ℕ) (P : ℕ → ℕ → ℕ → Type 0) (old new : List ℕ) : Type 0 where
   pub long : length new ≡ length old
   pub low : Low new
-  pub below : (k : ℕ) → k < casesAt (suc I) → getD new k 0 ≡ getD old k 0
-  pub between : (k : ℕ) → casesAt (suc (suc I)) ≤ k → k < sourcesAt (suc I) → getD new k 0 ≡ getD old k 0
-  pub above : (k : ℕ) → sourcesAt (suc (suc I)) ≤ k → getD new k 0 ≡ getD old k 0
-  pub kept : (q₀ q₁ a : ℕ) → q₀ < 12 → q₁ < 12 → a < 64 → (P q₀ q₁ a → ⊥)
-      → (casesIn new (suc I) q₀ q₁ a ≡ casesIn old (suc I) q₀ q₁ a) × (sourcesIn new (suc I) q₀ q₁ a ≡ sourcesIn old (suc I) q₀ q₁ a)
+  pub kept : (k : ℕ) → Elsewhere (suc I) P k → getD new k 0 ≡ getD old k 0
   pub done : (q₀ q₁ a : ℕ) → P q₀ q₁ a
       → Least
       (nextIn starts lanes I old q₀ q₁ a)
@@ -108,10 +106,8 @@ pub record Part (starts lanes I : ℕ) (P : ℕ → ℕ → ℕ → Type 0) (old
 pub record Joined (starts lanes ends poses I : ℕ) (old new : List ℕ) : Type 0 where
   pub long : length new ≡ length old
   pub low : Low new
-  -- nothing else is changed
-  pub below : (k : ℕ) → k < casesAt (suc I) → getD new k 0 ≡ getD old k 0
-  pub between : (k : ℕ) → casesAt (suc (suc I)) ≤ k → k < sourcesAt (suc I) → getD new k 0 ≡ getD old k 0
-  pub above : (k : ℕ) → sourcesAt (suc (suc I)) ≤ k → getD new k 0 ≡ getD old k 0
+  -- the other tables are kept
+  pub tables : (J q₀ q₁ a : ℕ) → (J ≡ suc I → ⊥) → Slot J q₀ q₁ a → SameCase J q₀ q₁ a old new
   pub done : (q₀ q₁ a : ℕ) → q₀ < ends → q₁ < ends → a < poses
       → Least
       (nextIn starts lanes I old q₀ q₁ a)

@@ -1,13 +1,14 @@
 // A stage joined: the prices of both rows on top of one case table make the next, with the source of each case.
 ghost use mathlib.Core.Path.{_≡_};
 ghost use mathlib.Core.Bool.{false};
-ghost use Prim.Native.Nat.{ℕ, _+_, _*_, _≤_, _<_};
+ghost use Prim.Native.Nat.{_+_, _*_, _≤_, _<_};
 ghost use lib.ListN.{length};
 ghost use Rattle.rows.specs.Lists.{from};
 ghost use Rattle.pair.specs.Coded.{lowest};
 ghost use Rattle.lanes.specs.Store.{Low};
 ghost use Rattle.model.specs.Steps.{B};
-ghost use Rattle.join.specs.Tables.{casesAt, pricesAt, Table, Better, Least, Met, SumAt, WayIn, nextIn, OneCase, PoseCases, BlockCases, Part, Joined};
+ghost use Rattle.join.specs.Places.{caseAt, sourceAt, pricesAt, Pages};
+ghost use Rattle.join.specs.Tables.{Table, Better, Least, Met, SumAt, WayIn, nextIn, OneCase, PoseCases, BlockCases, Part, Joined};
 ghost use Rattle.join.specs.Sums.{startSum, laneSum, endSum, Room, Sums, Summed};
 
 // The least of some costs, and a code of where it is.
@@ -16,18 +17,20 @@ pub struct Best {
     pub code: u32,
 }
 
-pub const CASES: usize = 148992;
-
-pub const SOURCES: usize = 388608;
-
-pub const PRICES: usize = 628224;
-
 // Where the row of case (q0, q1) of table i begins.
 pub fn case_at(i: usize, q0: usize, q1: usize) -> usize
     requires { ⌜ (i ≤ 25) × (q0 ≤ 12) × (q1 ≤ 12) ⌝ }
-    ensures { λ r. ⌜ r ≡ casesAt i + q0 * 768 + q1 * 64 ⌝ }
+    ensures { λ r. ⌜ r ≡ caseAt i q0 q1 ⌝ }
 {
-    CASES + i * 9216 + q0 * 768 + q1 * 64
+    247296 + q0 * 138240 + q1 * 1664 + i * 64
+}
+
+// Where the row of its sources begins.
+pub fn source_at(i: usize, q0: usize, q1: usize) -> usize
+    requires { ⌜ (i ≤ 25) × (q0 ≤ 12) × (q1 ≤ 12) ⌝ }
+    ensures { λ r. ⌜ r ≡ sourceAt i q0 q1 ⌝ }
+{
+    case_at(i, q0, q1) + 19968
 }
 
 // Where the prices of start pair s to pair q in pose a begin, in a row.
@@ -35,7 +38,7 @@ pub fn price_at(row: usize, s: usize, q: usize, a: usize) -> usize
     requires { ⌜ (row ≤ 1) × (s ≤ 12) × (q ≤ 12) × (a ≤ 64) ⌝ }
     ensures { λ r. ⌜ r ≡ pricesAt row s + q * 4096 + a * 64 ⌝ }
 {
-    PRICES + s * 98304 + row * 49152 + q * 4096 + a * 64
+    148992 + s * 138240 + row * 49152 + q * 4096 + a * 64
 }
 
 // The lower of two, the first if they are equal.
@@ -275,13 +278,12 @@ fn put_case(
     q1: usize,
     a: usize,
 )
-    requires { ⌜ Table starts lanes i (now store) × Summed starts lanes i (now store) q0 a (now sums) live × (q0 < 12) × (q1 < 12) × (a < 60) ⌝ }
+    requires { ⌜ Table starts lanes i (now store) × Summed starts lanes i (now store) q0 a (now sums) live × Pages (q0 + 1) (now store) × (q0 < 12) × (q1 < 12) × (a < 60) ⌝ }
     ensures { λ _. ⌜ Part starts lanes i (OneCase q0 q1 a) (now (store .entry)) (now (store .exit)) ⌝ }
 {
     let best = join_case(sums, live, store, i, starts, lanes, q0, q1, a);
-    let at = case_at(i + 1, q0, q1) + a;
-    store[at] = best.value;
-    store[at + (SOURCES - CASES)] = best.code;
+    store[case_at(i + 1, q0, q1) + a] = best.value;
+    store[source_at(i + 1, q0, q1) + a] = best.code;
 }
 
 // The cases of a pair of row 0 in a pose, for every pair of row 1.
@@ -295,7 +297,7 @@ fn case_pose(
     ends: usize,
     a: usize,
 )
-    requires { ⌜ Table starts lanes i (now store) × Room (now sums) × (q0 < 12) × (ends ≤ 12) × (a < 60) ⌝ }
+    requires { ⌜ Table starts lanes i (now store) × Room (now sums) × Pages (q0 + 1) (now store) × (q0 < 12) × (ends ≤ 12) × (a < 60) ⌝ }
     ensures { λ _. ⌜ Part starts lanes i (PoseCases q0 ends a) (now (store .entry)) (now (store .exit)) × Room (now (sums .exit)) ⌝ }
 {
     let live = fill_sums(sums, store, i, starts, lanes, q0, a);
@@ -317,7 +319,7 @@ fn case_block(
     ends: usize,
     poses: usize,
 )
-    requires { ⌜ Table starts lanes i (now store) × Room (now sums) × (q0 < 12) × (ends ≤ 12) × (poses ≤ 60) ⌝ }
+    requires { ⌜ Table starts lanes i (now store) × Room (now sums) × Pages (q0 + 1) (now store) × (q0 < 12) × (ends ≤ 12) × (poses ≤ 60) ⌝ }
     ensures { λ _. ⌜ Part starts lanes i (BlockCases q0 ends poses) (now (store .entry)) (now (store .exit)) × Room (now (sums .exit)) ⌝ }
 {
     let mut a: usize = 0;
@@ -336,7 +338,7 @@ pub fn join_stage(
     ends: usize,
     poses: usize,
 )
-    requires { ⌜ Table starts lanes i (now store) × (ends ≤ 12) × (poses ≤ 60) ⌝ }
+    requires { ⌜ Table starts lanes i (now store) × Pages ends (now store) × (ends ≤ 12) × (poses ≤ 60) ⌝ }
     ensures { λ _. ⌜ Joined starts lanes ends poses i (now (store .entry)) (now (store .exit)) ⌝ }
 {
     let mut sums = [lanes::NONE; 768];

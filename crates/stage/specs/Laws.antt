@@ -1,5 +1,5 @@
 -- Laws of the stages: a table is the least over the table before and the prices, from number 0 on; what a stage's parts make together. Assumes nothing.
-use Prim.Native.Nat.{ℕ, zero, suc, _+_, _-_, _*_, _≤_, _<_}
+use Prim.Native.Nat.{ℕ, zero, suc, _+_, _≤_, _<_, min}
 use mathlib.Core.Path.{_≡_, refl, sym, ap, _∙_}
 use mathlib.Core.Bool.{Bool, true, false, cond}
 use mathlib.Core.List.{List}
@@ -12,14 +12,16 @@ use lib.Seq.{getD-set-same}
 use lib.Dec.{ltb}
 use Rattle.rows.specs.Lists.{from}
 use Rattle.pair.specs.Coded.{lowest}
-use Rattle.model.specs.Steps.{Deck, Prices, pairCount, joinPose, nextCases}
+use Rattle.model.specs.Steps.{B, Deck, pairCount, joinPose, nextCases}
 use Rattle.model.specs.Stages.{caseTable}
 use Rattle.model.specs.Pairs.{count-0, count-1, count-2}
 use Rattle.lanes.specs.Store.{Low}
 use Rattle.lanes.specs.Laws.{low-set}
-use Rattle.join.specs.Tables.{casesAt, sourcesAt, pricesAt, casesIn, sourcesIn, pricesIn, Least, Way, Joined}
+use Rattle.join.specs.Places.{caseAt, Pages}
+use Rattle.join.specs.Tables.{casesIn, sourcesIn, pricesIn, Table, Least, Way, Joined}
 use Rattle.join.specs.Parts.{least-ext}
-use Rattle.stage.specs.Stage.{wide, priceOf, tableOf, Right, Staged, StageDone, Through, StagesDone, RowPriced, BothPriced, StagesGiven}
+use Rattle.stage.specs.Stage.{wide, priceOf, tableOf, Right, Staged, StageDone, Through, StagesDone, BothPriced, StagesGiven}
+use Rattle.stage.specs.Starts.{ways-same}
 
 -- ---- counts
 
@@ -57,6 +59,12 @@ pub wide-tall : (talls I x : ℕ) → (I ≡ 0 → ⊥) → I ≤ talls → x �
 wide-tall talls zero x n h = absurd (n refl)
 wide-tall talls (suc I) x n h = sym (wide-all talls I x (omega arith))
 
+-- no table has more than that of the last tall cell
+pub wide-most : (talls I x : ℕ) → 1 ≤ x → wide talls I x ≤ wide talls talls x
+wide-most zero zero x h = omega arith
+wide-most zero (suc I) x h = omega (arith, wide-first 0 0 x refl, wide-last 0 (suc I) x (omega arith))
+wide-most (suc talls) I x h = rw (wide-all (suc talls) talls x (omega arith)) (wide-low (suc talls) I x x h (omega arith))
+
 module _ (D₀ D₁ : Deck) (R talls : ℕ) (pos₀ pos₁ : ℕ → ℕ) where
   -- ---- each table from the one before
   pub table-step : (I q₀ q₁ a : ℕ) → I ≤ talls
@@ -79,25 +87,31 @@ module _ (D₀ D₁ : Deck) (R talls : ℕ) (pos₀ pos₁ : ℕ → ℕ) where
     -- a stage from its prices and the table before
     pub stage-done : (I : ℕ) {old mid new : List ℕ} → I ≤ talls → talls ≤ 24
         → Right D₀ D₁ R talls pos₀ pos₁ I old
-        → BothPriced (priceOf D₀ R talls pos₀ I) (priceOf D₁ R talls pos₁ I) (wide talls I (D₀ .poses)) (wide talls (suc I) (pairCount R)) (wide talls (suc I) (D₀ .poses)) (wide talls I (pairCount R)) old mid
+        → BothPriced (priceOf D₀ R talls pos₀ I) (priceOf D₁ R talls pos₁ I) I (wide talls I (pairCount R)) (wide talls I (D₀ .poses)) (wide talls (suc I) (pairCount R)) (wide talls (suc I) (D₀ .poses)) (wide talls I (pairCount R)) old mid
         → Joined (wide talls I (pairCount R)) (wide talls I (D₀ .poses)) (wide talls (suc I) (pairCount R)) (wide talls (suc I) (D₀ .poses)) I mid new
         → StageDone D₀ D₁ R talls pos₀ pos₁ I old new
-    unfolding casesIn
     stage-done I {old} {mid} {new} h g r p j =
         record {
           long = j .long ∙ p .long;
           low = j .low;
-          cases = λ k a b. j .below k b ∙ p .kept k (omega arith) (omega arith);
-          sources = λ k a b. j .between k (omega arith) b ∙ p .kept k (omega arith) (omega arith);
+          tables = λ k q₀ q₁ a n m.
+              let u = j .tables k q₀ q₁ a n m in
+              let v = p .tables k q₀ q₁ a m in
+              record { case = u .case ∙ v .case; source = u .source ∙ v .source };
           staged = record { case = λ q₀ q₁ a x y z. go q₀ q₁ a x y z };
         }
       where
-        same : (s t l : ℕ) → s < wide talls I (pairCount R) → t < wide talls I (pairCount R) → l < wide talls I (D₀ .poses)
-            → casesIn mid I s t l ≡ tableOf D₀ D₁ R talls pos₀ pos₁ I s t l
-        same s t l a b c =
+        -- the ways below B are the model's
+        same : (q₀ q₁ a s t l : ℕ) → q₀ < wide talls (suc I) (pairCount R) → q₁ < wide talls (suc I) (pairCount R) → a < wide talls (suc I) (D₀ .poses)
+            → s < wide talls I (pairCount R) → t < wide talls I (pairCount R) → l < wide talls I (D₀ .poses)
+            → min (casesIn mid I s t l + (pricesIn mid 0 s l q₀ a + pricesIn mid 1 t l q₁ a)) B
+            ≡ min (tableOf D₀ D₁ R talls pos₀ pos₁ I s t l + (priceOf D₀ R talls pos₀ I s l q₀ a + priceOf D₁ R talls pos₁ I t l q₁ a)) B
+        same q₀ q₁ a s t l x y z b d e =
             let m = wide-pairs I in
             let n = wide-poses I in
-            p .kept (casesAt I + s * 768 + t * 64 + l) (omega arith) (omega arith) ∙ r .word s t l a b c
+            let u = p .tables I s t l (omega arith, omega arith, omega arith, omega arith) .case in
+            let v = r .word s t l b d e in
+            ways-same _ _ (p .right₀ s b) (p .right₁ t d) q₀ q₁ a l x y z b d e u v
 
         go : (q₀ q₁ a : ℕ) → q₀ < wide talls (suc I) (pairCount R) → q₁ < wide talls (suc I) (pairCount R) → a < wide talls (suc I) (D₀ .poses)
             → Least
@@ -107,8 +121,8 @@ module _ (D₀ D₁ : Deck) (R talls : ℕ) (pos₀ pos₁ : ℕ → ℕ) where
             (sourcesIn new (suc I) q₀ q₁ a)
         go q₀ q₁ a x y z =
             let w = least-ext (wide talls I (pairCount R)) (wide talls I (D₀ .poses)) (casesIn mid I) (tableOf D₀ D₁ R talls pos₀ pos₁ I)
-            (pricesIn mid 0) (pricesIn mid 1) (priceOf D₀ R talls pos₀ I) (priceOf D₁ R talls pos₁ I) q₀ q₁ a same
-            (λ s l b c. p .right₀ s b q₀ a l x z c) (λ s l b c. p .right₁ s b q₁ a l y z c) (j .done q₀ q₁ a x y z) in
+            (pricesIn mid 0) (pricesIn mid 1) (priceOf D₀ R talls pos₀ I) (priceOf D₁ R talls pos₁ I) q₀ q₁ a
+            (λ s t l b d e. same q₀ q₁ a s t l x y z b d e) (j .done q₀ q₁ a x y z) in
             record { right = w .right ∙ table-step I q₀ q₁ a h; found = w .found; small = w .small }
 
     -- the same by the code's names
@@ -116,7 +130,7 @@ module _ (D₀ D₁ : Deck) (R talls : ℕ) (pos₀ pos₁ : ℕ → ℕ) where
         → starts ≡ wide talls I count → lanes ≡ wide talls I (D₀ .poses) → ends ≡ wide talls (I + 1) count → last ≡ wide talls (I + 1) (D₀ .poses)
         → count ≡ pairCount R → I ≤ talls → talls ≤ 24
         → Right D₀ D₁ R talls pos₀ pos₁ I old
-        → BothPriced (priceOf D₀ R talls pos₀ I) (priceOf D₁ R talls pos₁ I) (wide talls I (D₀ .poses)) (wide talls (suc I) count) (wide talls (suc I) (D₀ .poses)) (wide talls I count) old mid
+        → BothPriced (priceOf D₀ R talls pos₀ I) (priceOf D₁ R talls pos₁ I) I (wide talls I count) (wide talls I (D₀ .poses)) (wide talls (suc I) count) (wide talls (suc I) (D₀ .poses)) (wide talls I count) old mid
         → Joined starts lanes ends last I mid new
         → StageDone D₀ D₁ R talls pos₀ pos₁ I old new
     stage-made I count starts lanes ends last e₁ e₂ e₃ e₄ all h g r p j =
@@ -125,36 +139,34 @@ module _ (D₀ D₁ : Deck) (R talls : ℕ) (pos₀ pos₁ : ℕ → ℕ) where
         stage-done I h g r b d
 
     -- the stages before are kept
-    staged-kept : (J I : ℕ) {old new : List ℕ} → J < I → StageDone D₀ D₁ R talls pos₀ pos₁ I old new
+    staged-kept : (J I : ℕ) {old new : List ℕ} → J < I → I ≤ 24 → StageDone D₀ D₁ R talls pos₀ pos₁ I old new
         → Staged D₀ D₁ R talls pos₀ pos₁ J old → Staged D₀ D₁ R talls pos₀ pos₁ J new
-    unfolding casesIn sourcesIn
-    staged-kept J I h d w = record {
+    staged-kept j I h g d w = record {
       case = λ q₀ q₁ a x y z.
-          let m = wide-pairs (suc J) in
-          let n = wide-poses (suc J) in
-          let e = d .cases (casesAt (suc J) + q₀ * 768 + q₁ * 64 + a) (omega arith) (omega arith) in
-          let f = d .sources (sourcesAt (suc J) + q₀ * 768 + q₁ * 64 + a) (omega arith) (omega arith) in
-          rw (e, f) (w .case q₀ q₁ a x y z);
+          let m = wide-pairs (suc j) in
+          let n = wide-poses (suc j) in
+          let e = d .tables (suc j) q₀ q₁ a (λ e. omega arith) (omega arith, omega arith, omega arith, omega arith) in
+          rw (e .case, e .source) (w .case q₀ q₁ a x y z);
     }
 
-    pub through-more : {I : ℕ} {old mid new : List ℕ} → Through D₀ D₁ R talls pos₀ pos₁ I old mid → StageDone D₀ D₁ R talls pos₀ pos₁ I mid new
+    pub through-more : {I : ℕ} {old mid new : List ℕ} → I ≤ 24 → Through D₀ D₁ R talls pos₀ pos₁ I old mid → StageDone D₀ D₁ R talls pos₀ pos₁ I mid new
         → Through D₀ D₁ R talls pos₀ pos₁ (I + 1) old new
-    through-more {I} {new = new} t d =
+    through-more {I} {new = new} b t d =
         record {
           long = d .long ∙ t .long;
           low = d .low;
           right = rw (add-one I) (staged-right I (d .staged));
-          staged = below-more (λ (J : ℕ). Staged D₀ D₁ R talls pos₀ pos₁ J new) I (λ J h. staged-kept J I h d (t .staged J h)) (d .staged);
+          staged = below-more (λ (J : ℕ). Staged D₀ D₁ R talls pos₀ pos₁ J new) I (λ J h. staged-kept J I h b d (t .staged J h)) (d .staged);
         }
 
   -- before anything: the word of case (0, 0, 0) is 0
-  pub through-none : {st : List ℕ} → Low st → 148992 < length st → Through D₀ D₁ R talls pos₀ pos₁ 0 (set st 148992 0) (set st 148992 0)
+  pub through-none : {st : List ℕ} (at : ℕ) → at ≡ caseAt 0 0 0 → Low st → at < length st → Through D₀ D₁ R talls pos₀ pos₁ 0 (set st at 0) (set st at 0)
   unfolding casesIn tableOf wide
-  through-none {st} w h =
+  through-none {st} at e w h =
       record {
         long = refl;
-        low = low-set 148992 0 w h (omega arith);
-        right = record { word = λ q₀ q₁ a x y z. ap (λ (k : ℕ). getD (set st 148992 0) k 0) (omega arith) ∙ getD-set-same st 148992 0 0 h };
+        low = low-set at 0 w h (omega arith);
+        right = record { word = λ q₀ q₁ a x y z. ap (λ (k : ℕ). getD (set st at 0) k 0) (omega arith) ∙ getD-set-same st at 0 0 h };
         staged = λ J h. absurd (omega arith);
       }
 
@@ -173,35 +185,6 @@ module _ (D₀ D₁ : Deck) (R talls : ℕ) (pos₀ pos₁ : ℕ → ℕ) where
             rw (wide-all talls I (pairCount R) (omega arith), wide-all talls I (D₀ .poses) (omega arith), c .right) at g;
       }
 
--- ---- the prices of one start pair more
-
-pub both-none : (x₀ x₁ : Prices) (lanes ends poses : ℕ) {st : List ℕ} → Low st → BothPriced x₀ x₁ lanes ends poses 0 st st
-both-none x₀ x₁ lanes ends poses w =
-    record { long = refl; low = w; kept = λ k h g. refl; right₀ = λ s h. absurd (omega arith); right₁ = λ s h. absurd (omega arith) }
-
-pub both-more : (x₀ x₁ : Prices) {lanes ends poses : ℕ} (s : ℕ) {old mid one new : List ℕ}
-    → lanes ≤ 64 → ends ≤ 12 → poses ≤ 64
-    → BothPriced x₀ x₁ lanes ends poses s old mid → RowPriced (x₀ s) lanes ends poses (pricesAt 0 s) mid one → RowPriced (x₁ s) lanes ends poses (pricesAt 1 s) one new
-    → BothPriced x₀ x₁ lanes ends poses (s + 1) old new
-unfolding pricesIn
-both-more x₀ x₁ {lanes} {ends} {poses} s {old} {mid} {one} {new} n e m b p₀ p₁ =
-    record {
-      long = p₁ .long ∙ p₀ .long ∙ b .long;
-      low = p₁ .low;
-      kept = λ k h g. p₁ .kept k h (omega arith) ∙ p₀ .kept k h (omega arith) ∙ b .kept k h g;
-      right₀ = below-more (λ (t : ℕ). (q a l : ℕ) → q < ends → a < poses → l < lanes → pricesIn new 0 t l q a ≡ x₀ t l q a) s
-          (λ t h q a l x y z. on 0 t q a l (omega arith) (omega arith) x y z ∙ b .right₀ t h q a l x y z)
-          (λ q a l x y z. p₁ .kept (pricesAt 0 s + q * 4096 + a * 64 + l) (omega arith) (omega arith) ∙ p₀ .right q a l x y z);
-      right₁ = below-more (λ (t : ℕ). (q a l : ℕ) → q < ends → a < poses → l < lanes → pricesIn new 1 t l q a ≡ x₁ t l q a) s
-          (λ t h q a l x y z. on 1 t q a l (omega arith) (omega arith) x y z ∙ b .right₁ t h q a l x y z)
-          (λ q a l x y z. p₁ .right q a l x y z);
-    }
-  where
-    on : (row t q a l : ℕ) → row ≤ 1 → t < s → q < ends → a < poses → l < lanes → pricesIn new row t l q a ≡ pricesIn mid row t l q a
-    on row t q a l r h x y z =
-        let k = pricesAt row t + q * 4096 + a * 64 + l in
-        p₁ .kept k (omega arith) (omega arith) ∙ p₀ .kept k (omega arith) (omega arith)
-
 -- ---- what a stage is given
 
 module _ {line₀ line₁ pairs places₀ places₁ st : List ℕ} {R n₀ n₁ poses count talls : ℕ} (g : StagesGiven line₀ line₁ pairs places₀ places₁ st R n₀ n₁ poses count talls) where
@@ -214,5 +197,19 @@ module _ {line₀ line₁ pairs places₀ places₁ st : List ℕ} {R n₀ n₁ 
         g .row₀ .few,
       )
 
-  pub given-wide : (I : ℕ) → (wide talls I count ≤ count) × (wide talls I poses ≤ 60)
-  given-wide I = (wide-low talls I count count (given-pairs .1) (omega arith), wide-low talls I poses 60 (omega arith) (given-pairs .2))
+  pub given-wide : (I : ℕ) → (wide talls I count ≤ 12) × (wide talls I poses ≤ 60) × Pages (wide talls I count) st
+  given-wide I = (
+    wide-low talls I count 12 (omega arith) (given-pairs .0),
+    wide-low talls I poses 60 (omega arith) (given-pairs .2),
+    omega (arith, g .long, wide-most talls I count (given-pairs .1)),
+  )
+
+  -- there is a word for the state before anything
+  pub given-first : caseAt 0 0 0 < length st
+  given-first = omega (arith, given-wide 0 .2, wide-first talls 0 count refl)
+
+  -- the tables that stage I reads, whatever was written before
+  pub given-table : (I : ℕ) (new : List ℕ) → I ≤ talls → length new ≡ length st → Low new → Table (wide talls I count) (wide talls I poses) I new
+  given-table I new h e w =
+      let n = given-wide I in
+      record { pairs = n .0; few = n .1; stage = omega (arith, given-pairs .3); long = omega (arith, n .2); low = w }

@@ -1,6 +1,7 @@
 -- Prices of a stage in one row, from the first layer and the stretch on from it. Assumes nothing.
 use Prim.Native.Nat.{ℕ, suc, _+_, _-_, _≤_, _<_}
 use mathlib.Core.Path.{_≡_, sym, ap, _∙_}
+use mathlib.Core.Logic.{⊎-elim}
 use mathlib.Core.List.{List}
 use native.Mathlib.Omega.{arith}
 use native.Mathlib.Numerals.{add-one}
@@ -27,7 +28,7 @@ module _ (D : Deck) (R talls : ℕ) (pos : ℕ → ℕ) where
       record {
         long = w .outside .long;
         low = w .low;
-        kept = w .outside .below;
+        kept = λ k h b. ⊎-elim (λ g. w .outside .below k h g) (λ g. w .outside .above k (omega arith)) b;
         right = λ q a l x y z.
             let v = w .right q a l (omega arith) (omega arith) z in
             let f = stage-tall D R talls pos (layerIn old 0 l) I i (getD starts l 0) q a h in
@@ -44,7 +45,7 @@ module _ (D : Deck) (R talls : ℕ) (pos : ℕ → ℕ) where
       record {
         long = w .outside .long;
         low = w .low;
-        kept = w .outside .below;
+        kept = λ k h b. ⊎-elim (λ g. w .outside .below k h g) (λ g. w .outside .above k (omega arith)) b;
         right = λ q a l x y z.
             ap (λ (k : ℕ). getD new k 0) (omega arith)
             ∙ w .right l z

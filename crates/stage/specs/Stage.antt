@@ -1,7 +1,8 @@
 -- The stages of the search in the store: case table number 0 is the state before anything, table number I + 1 is that of stage I.
-use Prim.Native.Nat.{ℕ, zero, suc, _+_, _-_, _*_, _≤_, _<_}
+use Prim.Native.Nat.{ℕ, zero, suc, _+_, _≤_, _<_}
 use mathlib.Core.Path.{_≡_}
 use mathlib.Core.Bool.{cond}
+use mathlib.Core.Logic.{_⊎_}
 use mathlib.Core.List.{List}
 use lib.ListN.{length, getD}
 use lib.Dec.{ltb}
@@ -9,7 +10,8 @@ use Rattle.model.specs.Steps.{B, Deck, Layer, Cases, Prices, pairCount}
 use Rattle.model.specs.Stages.{stageEnd, openPrice, stagePrice, caseTable}
 use Rattle.lanes.specs.Store.{Low, layerIn}
 use Rattle.deck.specs.Words.{Ground}
-use Rattle.join.specs.Tables.{casesAt, sourcesAt, casesIn, sourcesIn, pricesIn, Least, Way}
+use Rattle.join.specs.Places.{caseAt, pricesAt, Pages, Slot, Beside}
+use Rattle.join.specs.Tables.{casesIn, sourcesIn, pricesIn, SameCase, SameTables, Least, Way}
 
 -- how many of x pairs or poses table number I has: the tables of the tall cells all of them, the first table and the last one
 unfoldable pub wide : ℕ → ℕ → ℕ → ℕ
@@ -47,12 +49,11 @@ module _ (D₀ D₁ : Deck) (R talls : ℕ) (pos₀ pos₁ : ℕ → ℕ) where
         (casesIn st (suc I) q₀ q₁ a)
         (sourcesIn st (suc I) q₀ q₁ a)
 
-  -- what stage I does to the store; tables up to number I and their sources are kept
+  -- what stage I does to the store; the tables other than number I + 1 are kept
   pub record StageDone (I : ℕ) (old new : List ℕ) : Type 0 where
     pub long : length new ≡ length old
     pub low : Low new
-    pub cases : (k : ℕ) → casesAt 0 ≤ k → k < casesAt (suc I) → getD new k 0 ≡ getD old k 0
-    pub sources : (k : ℕ) → sourcesAt 0 ≤ k → k < sourcesAt (suc I) → getD new k 0 ≡ getD old k 0
+    pub tables : (J q₀ q₁ a : ℕ) → (J ≡ suc I → ⊥) → Slot J q₀ q₁ a → SameCase J q₀ q₁ a old new
     pub staged : Staged I new
 
   -- the stages before I
@@ -86,24 +87,48 @@ module _ (D₀ D₁ : Deck) (R talls : ℕ) (pos₀ pos₁ : ℕ → ℕ) where
 
 -- ---- the prices of a stage in the store
 
--- the prices F, lane by lane, in the block at `prices`; the tables, and the prices before it, are kept
+-- the prices F, lane by lane, in the block at `prices`; above the layers nothing else is changed
 pub record RowPriced (F : ℕ → Layer) (lanes ends poses prices : ℕ) (old new : List ℕ) : Type 0 where
   pub long : length new ≡ length old
   pub low : Low new
-  pub kept : (k : ℕ) → 98304 ≤ k → k < prices → getD new k 0 ≡ getD old k 0
+  pub kept : (k : ℕ) → 98304 ≤ k → Beside prices k → getD new k 0 ≡ getD old k 0
   pub right : (q a l : ℕ) → q < ends → a < poses → l < lanes → layerIn new prices l q a ≡ F l q a
 
 -- stage I on from the layer in block 0, which has i cells; `starts` has what the start of each lane pays as the row's last
 abbrev pub endFrom : Deck → ℕ → ℕ → (ℕ → ℕ) → ℕ → List ℕ → ℕ → List ℕ → ℕ → Layer
 endFrom D R talls pos I st i starts l q a = stageEnd D R talls pos I (layerIn st 0 l) i (getD starts l 0) q a
 
--- the prices of both rows for the start pairs below m; the tables are kept
-pub record BothPriced (x₀ x₁ : Prices) (lanes ends poses m : ℕ) (old new : List ℕ) : Type 0 where
+-- where the cases of table I stand in which start pair s of a row goes with pair t of the other row
+unfoldable pub fromAt : ℕ → ℕ → ℕ → ℕ → ℕ
+fromAt zero I s t = caseAt I s t
+fromAt (suc row) I s t = caseAt I t s
+
+-- no case of table I goes from start pair s of a row
+pub record Dead (st : List ℕ) (row I starts lanes s : ℕ) : Type 0 where
+  pub none : (t l : ℕ) → t < starts → l < lanes → B ≤ getD st (fromAt row I s t + l) 0
+
+-- the prices from start pair s of a row
+pub record StartRight (st : List ℕ) (row : ℕ) (x : Prices) (lanes ends poses s : ℕ) : Type 0 where
+  pub word : (q a l : ℕ) → q < ends → a < poses → l < lanes → pricesIn st row s l q a ≡ x s l q a
+
+-- they are right, unless no case goes from it
+abbrev pub Priced : ℕ → Prices → ℕ → ℕ → ℕ → ℕ → ℕ → ℕ → List ℕ → List ℕ → Type 0
+Priced row x I starts lanes ends poses s old new = Dead old row I starts lanes s ⊎ StartRight new row x lanes ends poses s
+
+-- that of one start pair; above the layers nothing else is changed
+pub record StartPriced (row : ℕ) (x : Prices) (I starts lanes ends poses s : ℕ) (old new : List ℕ) : Type 0 where
   pub long : length new ≡ length old
   pub low : Low new
-  pub kept : (k : ℕ) → 98304 ≤ k → k < 628224 → getD new k 0 ≡ getD old k 0
-  pub right₀ : (s : ℕ) → s < m → (q a l : ℕ) → q < ends → a < poses → l < lanes → pricesIn new 0 s l q a ≡ x₀ s l q a
-  pub right₁ : (s : ℕ) → s < m → (q a l : ℕ) → q < ends → a < poses → l < lanes → pricesIn new 1 s l q a ≡ x₁ s l q a
+  pub kept : (k : ℕ) → 98304 ≤ k → Beside (pricesAt row s) k → getD new k 0 ≡ getD old k 0
+  pub right : Priced row x I starts lanes ends poses s old new
+
+-- that of both rows for the start pairs below m; the tables are kept
+pub record BothPriced (x₀ x₁ : Prices) (I starts lanes ends poses m : ℕ) (old new : List ℕ) : Type 0 where
+  pub long : length new ≡ length old
+  pub low : Low new
+  pub tables : SameTables old new
+  pub right₀ : (s : ℕ) → s < m → Priced 0 x₀ I starts lanes ends poses s old new
+  pub right₁ : (s : ℕ) → s < m → Priced 1 x₁ I starts lanes ends poses s old new
 
 -- ---- what a function of the stages is given
 
@@ -114,9 +139,9 @@ pub record RowGiven (line pairs places : List ℕ) (R n poses count talls : ℕ)
   pub long : talls ≤ length places
   pub inside : (I : ℕ) → I < talls → posIn places I < n
 
--- both rows, and the store: room for all, and no word over B
+-- both rows, and the store: a page for each pair that a table has, and no word over B
 pub record StagesGiven (line₀ line₁ pairs places₀ places₁ st : List ℕ) (R n₀ n₁ poses count talls : ℕ) : Type 0 where
   pub row₀ : RowGiven line₀ pairs places₀ R n₀ poses count talls
   pub row₁ : RowGiven line₁ pairs places₁ R n₁ poses count talls
-  pub long : 628224 + count * 98304 ≤ length st
+  pub long : Pages (wide talls talls count) st
   pub low : Low st

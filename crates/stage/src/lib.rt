@@ -1,5 +1,6 @@
 // The stages of the search: the prices of both rows from every start pair, joined with the case table before.
 ghost use mathlib.Core.Path.{_≡_};
+ghost use mathlib.Core.Bool.{false};
 ghost use Prim.Native.Nat.{suc, _≤_, _<_};
 ghost use Rattle.model.specs.Steps.{pairCount};
 ghost use Rattle.model.specs.Stages.{placedWith};
@@ -8,7 +9,8 @@ ghost use Rattle.lanes.specs.Store.{Low, Written};
 ghost use Rattle.deck.specs.Words.{backIn, deckOf, LineWords, PairWords};
 ghost use Rattle.layer.specs.Loops.{Given};
 ghost use Rattle.stretch.specs.Runs.{PriceRoom};
-ghost use Rattle.stage.specs.Stage.{wide, posIn, priceOf, endFrom, RowPriced, BothPriced, RowGiven, StagesGiven, Right, StageDone, StagesDone};
+ghost use Rattle.join.specs.Tables.{Table};
+ghost use Rattle.stage.specs.Stage.{wide, posIn, priceOf, endFrom, fromAt, Dead, RowPriced, StartPriced, BothPriced, RowGiven, StagesGiven, Right, StageDone, StagesDone};
 
 // How many of x pairs or poses table number i has.
 fn wide_of(talls: usize, i: usize, x: usize) -> usize
@@ -175,6 +177,72 @@ fn row_price(
     );
 }
 
+// Where the cases begin in which start pair s of a row goes with pair t of the other.
+fn case_from(row: usize, i: usize, s: usize, t: usize) -> usize
+    requires { ⌜ (i ≤ 25) × (s ≤ 12) × (t ≤ 12) ⌝ }
+    ensures { λ r. ⌜ r ≡ fromAt row i s t ⌝ }
+{
+    if row == 0 {
+        return join::case_at(i, s, t);
+    }
+    join::case_at(i, t, s)
+}
+
+// Whether some case goes from start pair s of a row.
+fn live(store: &[u32], row: usize, i: usize, starts: usize, lanes: usize, s: usize) -> bool
+    requires { ⌜ Table starts lanes i (now store) × (s < starts) ⌝ }
+    ensures { λ r. ⌜ (r ≡ false → Dead (now (store .entry)) row i starts lanes s) ⌝ }
+{
+    let mut t: usize = 0;
+    while t < starts {
+        if lanes::common(store, case_from(row, i, s, t), lanes) < lanes::NONE {
+            return true;
+        }
+        t += 1;
+    }
+    false
+}
+
+// The prices of stage i in a row from start pair s, if some case goes from it.
+fn price_start(
+    store: &mut [u32],
+    row: usize,
+    line: &[u32],
+    pairs: &[u32],
+    places: &[u32],
+    n: usize,
+    poses: usize,
+    r: usize,
+    count: usize,
+    talls: usize,
+    i: usize,
+    s: usize,
+)
+    requires { ⌜ RowGiven (now line) (now pairs) (now places) r n poses count talls × Table (wide talls i count) (wide talls i poses) i (now store) × (row ≤ 1) × (i ≤ talls) × (s < wide talls i count) ⌝ }
+    ensures { λ _. ⌜ StartPriced row (priceOf (deckOf (now (line .entry)) n poses) r talls (posIn (now (places .entry))) i) i (wide talls i count) (wide talls i poses) (wide talls (suc i) count) (wide talls (suc i) poses) s (now (store .entry)) (now (store .exit)) ⌝ }
+{
+    let starts = wide_of(talls, i, count);
+    let lanes = wide_of(talls, i, poses);
+    if !live(store, row, i, starts, lanes, s) {
+        return;
+    }
+    let prices = join::price_at(row, s, 0, 0);
+    row_price(
+        store,
+        line,
+        pairs,
+        places,
+        n,
+        poses,
+        r,
+        count,
+        talls,
+        i,
+        s,
+        prices,
+    );
+}
+
 // The prices of stage i in both rows, from every start pair.
 fn prices(
     store: &mut [u32],
@@ -192,14 +260,14 @@ fn prices(
     i: usize,
 )
     requires { ⌜ StagesGiven (now line0) (now line1) (now pairs) (now places0) (now places1) (now store) r n0 n1 poses count talls × (i ≤ talls) ⌝ }
-    ensures { λ _. ⌜ BothPriced (priceOf (deckOf (now (line0 .entry)) n0 poses) r talls (posIn (now (places0 .entry))) i) (priceOf (deckOf (now (line1 .entry)) n1 poses) r talls (posIn (now (places1 .entry))) i) (wide talls i poses) (wide talls (suc i) count) (wide talls (suc i) poses) (wide talls i count) (now (store .entry)) (now (store .exit)) ⌝ }
+    ensures { λ _. ⌜ BothPriced (priceOf (deckOf (now (line0 .entry)) n0 poses) r talls (posIn (now (places0 .entry))) i) (priceOf (deckOf (now (line1 .entry)) n1 poses) r talls (posIn (now (places1 .entry))) i) i (wide talls i count) (wide talls i poses) (wide talls (suc i) count) (wide talls (suc i) poses) (wide talls i count) (now (store .entry)) (now (store .exit)) ⌝ }
 {
     let starts = wide_of(talls, i, count);
     let mut s: usize = 0;
     while s < starts {
-        let p0 = join::price_at(0, s, 0, 0);
-        row_price(
+        price_start(
             store,
+            0,
             line0,
             pairs,
             places0,
@@ -210,11 +278,10 @@ fn prices(
             talls,
             i,
             s,
-            p0,
         );
-        let p1 = join::price_at(1, s, 0, 0);
-        row_price(
+        price_start(
             store,
+            1,
             line1,
             pairs,
             places1,
@@ -225,7 +292,6 @@ fn prices(
             talls,
             i,
             s,
-            p1,
         );
         s += 1;
     }
@@ -290,7 +356,7 @@ pub fn stages(
     requires { ⌜ StagesGiven (now line0) (now line1) (now pairs) (now places0) (now places1) (now store) r n0 n1 poses count talls ⌝ }
     ensures { λ _. ⌜ StagesDone (deckOf (now (line0 .entry)) n0 poses) (deckOf (now (line1 .entry)) n1 poses) r talls (posIn (now (places0 .entry))) (posIn (now (places1 .entry))) (now (store .entry)) (now (store .exit)) ⌝ }
 {
-    store[join::CASES] = 0;
+    store[join::case_at(0, 0, 0)] = 0;
     let mut i: usize = 0;
     while i <= talls {
         stage(

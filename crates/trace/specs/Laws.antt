@@ -1,6 +1,6 @@
 -- Laws of the trace: a case's way gives what both rows are to be walked by, and the case to go on from; later walks keep the places already noted.
 -- Assumes nothing.
-use Prim.Native.Nat.{ℕ, suc, _+_, _*_, _/_, _%_, _≤_, _<_}
+use Prim.Native.Nat.{ℕ, suc, _+_, _/_, _%_, _≤_, _<_}
 use mathlib.Core.Path.{_≡_, sym, ap, _∙_, subst}
 use mathlib.Core.Logic.{inl, inr}
 use mathlib.Core.List.{List}
@@ -14,7 +14,8 @@ use Rattle.model.specs.Notes.{NotedBy, stage-words}
 use Rattle.lanes.specs.Laws.{frame-join}
 use Rattle.lanes.specs.Store.{Frame, Low}
 use Rattle.deck.specs.Words.{deckOf}
-use Rattle.join.specs.Tables.{sourcesAt, sourcesIn, Way}
+use Rattle.join.specs.Places.{sourceAt, Pages}
+use Rattle.join.specs.Tables.{sourcesIn, Way}
 use Rattle.stage.specs.Stage.{wide, posIn, RowGiven, StagesGiven, StagesDone}
 use Rattle.stage.specs.Laws.{wide-all, wide-last, given-pairs, given-wide}
 use Rattle.walk.specs.Walks.{wordAt}
@@ -99,7 +100,7 @@ module _ {line₀ line₁ pairs places₀ places₁ st path₀ path₁ : List �
   trace-at K e = subst (λ (k : ℕ). Trace line₀ line₁ pairs places₀ places₁ st path₀ path₁ R n₀ n₁ poses count talls k q₀ q₁ a) e g
 
   -- the case's source word is in the store
-  pub source-room : (I ≤ 24) × (q₀ < 12) × (q₁ < 12) × (a < 64) × (628224 ≤ length st)
+  pub source-room : (I ≤ 24) × (q₀ < 12) × (q₁ < 12) × (a < 64) × Pages (q₀ + 1) st
   source-room =
       let v = g .both .given in
       let p = given-pairs v in
@@ -107,7 +108,7 @@ module _ {line₀ line₁ pairs places₀ places₁ st path₀ path₁ : List �
       let n = v .row₀ .ground .all in
       let e : wide talls (suc I) (pairCount R) ≡ wide talls (suc I) count = ap (wide talls (suc I)) (sym n) in
       let c = g .case in
-      (omega (arith, g .stage), omega arith, omega arith, omega arith, omega (arith, v .long))
+      (omega (arith, g .stage), omega arith, omega arith, omega arith, omega (arith, w .2))
 
   pub open-leg : I ≡ 0 → Leg line₀ line₁ pairs places₀ places₁ st path₀ path₁ R n₀ n₁ poses count talls 0 0 0 0 q₀ q₁ a
   unfolding caseTable openPrice startLayer startCells startEnd
@@ -138,7 +139,7 @@ module _ {D₀ D₁ : Deck} {R talls : ℕ} {pos₀ pos₁ : ℕ → ℕ} {I q�
 -- the tables are kept
 ways-kept : {D₀ D₁ : Deck} {R talls : ℕ} {pos₀ pos₁ : ℕ → ℕ} {old new : List ℕ} → Frame 0 148992 old new → Ways D₀ D₁ R talls pos₀ pos₁ old → Ways D₀ D₁ R talls pos₀ pos₁ new
 unfolding sourcesIn
-ways-kept f w = record { way = λ I q₀ q₁ a h c l. rw (f .high (sourcesAt (suc (suc I)) + q₀ * 768 + q₁ * 64 + a) (omega arith)) (w .way I q₀ q₁ a h c l) }
+ways-kept f w = record { way = λ I q₀ q₁ a h c l. rw (f .high (sourceAt (suc (suc I)) q₀ q₁ + a) (omega arith)) (w .way I q₀ q₁ a h c l) }
 
 module _ {line₀ line₁ pairs places₀ places₁ st path₀ path₁ : List ℕ} {R n₀ n₁ poses count talls I q₀ q₁ a : ℕ}
     (g : Trace line₀ line₁ pairs places₀ places₁ st path₀ path₁ R n₀ n₁ poses count talls I q₀ q₁ a)

@@ -1,21 +1,18 @@
 // The trace: from the last case table's one case back over the source words, both rows walked stage by stage.
 ghost use mathlib.Core.Path.{_≡_};
-ghost use Prim.Native.Nat.{suc, _≤_, _<_};
-ghost use lib.ListN.{length};
+ghost use Prim.Native.Nat.{suc, _+_, _≤_, _<_};
 ghost use Rattle.deck.specs.Words.{deckOf};
+ghost use Rattle.join.specs.Places.{Pages};
 ghost use Rattle.join.specs.Tables.{sourcesIn};
 ghost use Rattle.stage.specs.Stage.{posIn};
 ghost use Rattle.trace.specs.Trace.{Leg, Trace, LegDone, TraceDone};
 
 // The source word of the case (q0, q1, a) of stage i.
 fn source(store: &[u32], i: usize, q0: usize, q1: usize, a: usize) -> usize
-    requires { ⌜ (i ≤ 24) × (q0 < 12) × (q1 < 12) × (a < 64) × (628224 ≤ length (now store)) ⌝ }
+    requires { ⌜ (i ≤ 24) × (q0 < 12) × (q1 < 12) × (a < 64) × Pages (q0 + 1) (now store) ⌝ }
     ensures { λ t. ⌜ t ≡ sourcesIn (now (store .entry)) (suc i) q0 q1 a ⌝ }
 {
-    deck::word(
-        store,
-        join::SOURCES + (i + 1) * 9216 + q0 * 768 + q1 * 64 + a,
-    )
+    deck::word(store, join::source_at(i + 1, q0, q1) + a)
 }
 
 // Both rows through one stage.

@@ -23,7 +23,7 @@ case-pose-requires : tie.Need-case-pose-requires Inv-loop μ-loop
 case-pose-requires c κs =
     let k = c .before .before .before .before .before in
     let l = c .before .before .before .loop .inv in
-    (table-part (k .args .starts) (k .args .lanes) (k .args .i) (k .pre .0) (l .1), l .2, omega arith, omega arith, omega arith)
+    (table-part (k .args .starts) (k .args .lanes) (k .args .i) (k .pre .0) (l .1), l .2, omega (arith, k .pre .2, l .1 .long), omega arith, omega arith, omega arith)
 
 add-a : tie.Need-add-a Inv-loop μ-loop
 add-a c = search needs

@@ -26,7 +26,7 @@ put-case-requires c κs =
     let k = c .before .before .before .before .before .before .before .before in
     let a = k .args in
     let p = c .before .before .before .loop .inv .1 in
-    (table-part (a .starts) (a .lanes) (a .i) (k .pre .0) p, summed-part (a .starts) (a .lanes) (a .i) (a .q0) (a .a) (k .pre .0) p (omega arith) (omega arith) (c .before .before .before .before .fill-sums .ensures), omega arith, omega arith, omega arith)
+    (table-part (a .starts) (a .lanes) (a .i) (k .pre .0) p, summed-part (a .starts) (a .lanes) (a .i) (PoseCases (a .q0) (c .before .before .before .loop .q1) (a .a)) (a .q0) (a .a) (k .pre .0) (λ q₀ q₁ b r. (omega arith, omega arith, omega arith)) p (omega arith) (omega arith) (c .before .before .before .before .fill-sums .ensures), omega (arith, k .pre .2, p .long), omega arith, omega arith, omega arith)
 
 add-q1 : tie.Need-add-q1 Inv-loop μ-loop
 add-q1 c = search needs

@@ -27,7 +27,7 @@ case-block-requires : tie.Need-case-block-requires Inv-loop μ-loop
 case-block-requires c κs =
     let k = c .before .before .before .before .before in
     let l = c .before .before .before .loop .inv in
-    (table-part (k .args .starts) (k .args .lanes) (k .args .i) (k .pre .0) (l .1), l .2, omega arith, omega arith, omega arith)
+    (table-part (k .args .starts) (k .args .lanes) (k .args .i) (k .pre .0) (l .1), l .2, omega (arith, k .pre .1, l .1 .long), omega arith, omega arith, omega arith)
 
 add-q0 : tie.Need-add-q0 Inv-loop μ-loop
 add-q0 c = search needs
@@ -50,7 +50,7 @@ returns : tie.Need-returns Inv-loop μ-loop
 returns c =
     let a = c .before .before .before .args in
     let e : c .before .loop .q0 ≡ a .ends = omega arith in
-    part-joined (a .starts) (a .lanes) (a .i) (rw e at (c .before .loop .inv .1))
+    part-joined (a .starts) (a .lanes) (a .i) (c .before .before .before .pre .0 .stage) (omega arith) (omega arith) (rw e at (c .before .loop .inv .1))
 
 pub join-stage-spec : {M : Type 1} → statement M
 join-stage-spec =

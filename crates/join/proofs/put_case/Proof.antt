@@ -16,8 +16,8 @@ add-case-at c = search needs
 case-at-requires : tie.Need-case-at-requires
 case-at-requires c κs = search needs
 
-add-at : tie.Need-add-at
-add-at c = search needs
+add-store : tie.Need-add-store
+add-store c = search needs
 
 mul-store : tie.Need-mul-store
 mul-store c = search needs
@@ -25,11 +25,14 @@ mul-store c = search needs
 slice-write-store : tie.Need-slice-write-store
 slice-write-store c = search needs
 
-sub-store : tie.Need-sub-store
-sub-store c = search needs
+add-source-at : tie.Need-add-source-at
+add-source-at c = search needs
 
-add-store : tie.Need-add-store
-add-store c = search needs
+source-at-requires : tie.Need-source-at-requires
+source-at-requires c κs = search needs
+
+add-store-2 : tie.Need-add-store-2
+add-store-2 c = search needs
 
 mul-store-2 : tie.Need-mul-store-2
 mul-store-2 c = search needs
@@ -42,9 +45,9 @@ same-length c = search needs
 
 returns : tie.Need-returns
 returns c =
-    let k = c .before .before .before .before in
+    let k = c .before .before .before .before .before in
     let a = k .args in
-    part-put (a .starts) (a .lanes) (a .i) (a .q0) (a .q1) (a .a) (c .case-at .result + a .a) _ _ (k .pre .0) (omega arith) (omega arith) (omega arith) (omega arith) (c .before .join-case .ensures)
+    part-put (a .starts) (a .lanes) (a .i) (a .q0) (a .q1) (a .a) (c .before .case-at .result + a .a) (c .source-at .result + a .a) _ _ (a .store .now) (k .pre .0) (k .pre .2) (omega arith) (omega arith) (omega arith) (omega arith) (omega arith) (c .before .before .join-case .ensures)
 
 pub put-case-spec : {M : Type 1} → statement M
 put-case-spec =
@@ -53,11 +56,12 @@ put-case-spec =
     join-case-requires
     add-case-at
     case-at-requires
-    add-at
+    add-store
     mul-store
     slice-write-store
-    sub-store
-    add-store
+    add-source-at
+    source-at-requires
+    add-store-2
     mul-store-2
     slice-write-store-2
     same-length

@@ -1,12 +1,12 @@
 -- Each turn prices one start pair more, in row 0 and then in row 1. Assumes nothing.
 use Prim.Native.Nat.{suc, _-_, _≤_}
-use mathlib.Core.Path.{_≡_}
-use Rattle.deck.specs.Words.{deckOf}
-use Rattle.join.specs.Tables.{pricesAt}
-use Rattle.stage.specs.Stage.{wide, posIn, priceOf, BothPriced}
-use Rattle.stage.specs.Laws.{both-none, both-more, given-pairs, given-wide}
+use mathlib.Core.Path.{_≡_, _∙_}
 use native.Mathlib.Omega.{arith}
 use borrow.Author.Needs.{needs}
+use Rattle.deck.specs.Words.{deckOf}
+use Rattle.stage.specs.Stage.{wide, posIn, priceOf, BothPriced}
+use Rattle.stage.specs.Starts.{both-none, both-more}
+use Rattle.stage.specs.Laws.{given-pairs, given-wide, given-table}
 use Rattle.stage.proofs.prices.Statement.{statement}
 use Rattle.stage.proofs.prices.Tie as tie
 
@@ -14,7 +14,7 @@ abbrev Inv-loop : tie.InvT-loop
 Inv-loop store₀ line0 line1 pairs places0 places1 n0 n1 poses r count talls i starts s₀ store s =
     (s ≤ starts)
     × BothPriced (priceOf (deckOf line0 n0 poses) r talls (posIn places0) i) (priceOf (deckOf line1 n1 poses) r talls (posIn places1) i)
-    (wide talls i poses) (wide talls (suc i) count) (wide talls (suc i) poses) s store₀ store
+    i (wide talls i count) (wide talls i poses) (wide talls (suc i) count) (wide talls (suc i) poses) s store₀ store
 
 abbrev μ-loop : tie.MeasureT-loop
 μ-loop store₀ line0 line1 pairs places0 places1 n0 n1 poses r count talls i starts s₀ store s = starts - s
@@ -24,52 +24,26 @@ wide-of-requires c κs = search needs
 
 loop-holds : tie.Need-loop-holds Inv-loop μ-loop
 loop-holds c =
-    (omega arith, both-none _ _ _ _ _ (c .before .before .before .before .before .before .before .pre .0 .low))
-
-price-at-requires : tie.Need-price-at-requires Inv-loop μ-loop
-price-at-requires c κs =
-    let k = c .before .before .before .before .before .before .before .before .before in
+    let k = c .before .before .before .before .before .before .before in
     let g = k .pre .0 in
-    let n = given-pairs g in
     let w = given-wide g (k .args .i) in
-    (omega arith, omega (arith, c .before .before .wide-of .ensures, n .0, w .0), omega arith, omega arith)
+    let x = given-wide g (suc (k .args .i)) in
+    (omega arith, both-none _ _ _ _ _ (w .0) (omega (arith, w .1)) (x .0) (omega (arith, x .1)) (omega (arith, k .pre .1, given-pairs g .3)) _ _ (g .low))
 
-row-price-requires : tie.Need-row-price-requires Inv-loop μ-loop
-row-price-requires c κs =
-    let k = c .before .before .before .before .before .before .before .before .before .before .before in
+price-start-requires : tie.Need-price-start-requires Inv-loop μ-loop
+price-start-requires c κs =
+    let k = c .before .before .before .before .before .before .before .before .before .before in
     let g = k .pre .0 in
-    let n = given-pairs g in
-    let w = given-wide g (k .args .i) in
-    let v = c .before .before .before .loop .inv .1 in (
-      g .row₀,
-      v .low,
-      record { over = omega arith; room = omega (arith, g .long, v .long, w .0, c .before .before .before .before .wide-of .ensures, c .before .price-at .ensures) },
-      k .pre .1,
-      omega (arith, c .before .before .before .before .wide-of .ensures),
-    )
+    let v = c .before .before .loop .inv .1 in
+    (g .row₀, given-table g (k .args .i) _ (k .pre .1) (v .long) (v .low), omega arith, k .pre .1, omega (arith, c .before .before .before .wide-of .ensures))
 
-price-at-requires-2 : tie.Need-price-at-requires-2 Inv-loop μ-loop
-price-at-requires-2 c κs =
+price-start-requires-2 : tie.Need-price-start-requires-2 Inv-loop μ-loop
+price-start-requires-2 c κs =
     let k = c .before .before .before .before .before .before .before .before .before .before .before .before .before .before in
     let g = k .pre .0 in
-    let n = given-pairs g in
-    let w = given-wide g (k .args .i) in
-    (omega arith, omega (arith, c .before .before .before .before .before .before .before .wide-of .ensures, n .0, w .0), omega arith, omega arith)
-
-row-price-requires-2 : tie.Need-row-price-requires-2 Inv-loop μ-loop
-row-price-requires-2 c κs =
-    let k = c .before .before .before .before .before .before .before .before .before .before .before .before .before .before .before .before in
-    let g = k .pre .0 in
-    let n = given-pairs g in
-    let w = given-wide g (k .args .i) in
-    let v = c .before .before .before .before .before .before .before .before .loop .inv .1 in
-    let o = c .before .before .before .before .row-price .ensures in (
-      g .row₁,
-      o .low,
-      record { over = omega arith; room = omega (arith, g .long, v .long, o .long, w .0, c .before .before .before .before .before .before .before .before .before .wide-of .ensures, c .before .price-at2 .ensures) },
-      k .pre .1,
-      omega (arith, c .before .before .before .before .before .before .before .before .before .wide-of .ensures),
-    )
+    let v = c .before .before .before .before .before .before .loop .inv .1 in
+    let o = c .before .before .before .price-start .ensures in
+    (g .row₁, given-table g (k .args .i) _ (k .pre .1) (o .long ∙ v .long) (o .low), omega arith, k .pre .1, omega (arith, c .before .before .before .before .before .before .before .wide-of .ensures))
 
 add-s : tie.Need-add-s Inv-loop μ-loop
 add-s c = search needs
@@ -79,17 +53,15 @@ loop-less c = search needs
 
 loop-again : tie.Need-loop-again Inv-loop μ-loop
 loop-again c =
-    let k = c .before .before .before .before .before .before .before .before .before .before .before .before .before .before .before .before .before .before .before in
+    let k = c .before .before .before .before .before .before .before .before .before .before .before .before .before .before .before .before .before in
     let g = k .pre .0 in
-    let n = given-pairs g in
     let w = given-wide g (k .args .i) in
-    let l = c .before .before .before .before .before .before .before .before .before .before .before .loop in
-    let e₀ : c .before .before .before .before .before .before .before .before .before .price-at .result ≡ pricesAt 0 (l .s) = omega (arith, c .before .before .before .before .before .before .before .before .before .price-at .ensures) in
-    let e₁ : c .before .before .before .before .price-at2 .result ≡ pricesAt 1 (l .s) = omega (arith, c .before .before .before .before .price-at2 .ensures) in
-    let o₀ = rw e₀ at (c .before .before .before .before .before .before .before .row-price .ensures) in
-    let o₁ = rw e₁ at (c .before .before .row-price2 .ensures) in
     let x = given-wide g (suc (k .args .i)) in
-    (omega (arith, c .before .before .before .before .before .before .before .before .before .before .loop-test .taken), both-more _ _ (l .s) (omega (arith, w .1)) (omega (arith, n .0, x .0)) (omega (arith, x .1)) (l .inv .1) o₀ o₁)
+    let l = c .before .before .before .before .before .before .before .before .before .loop in (
+      omega (arith, c .before .before .before .before .before .before .before .before .loop-test .taken),
+      both-more _ _ _ _ _ (w .0) (omega (arith, w .1)) (x .0) (omega (arith, x .1)) (omega (arith, k .pre .1, given-pairs g .3)) _ _ (l .s)
+          (omega (arith, c .before .before .before .before .before .before .before .before .loop-test .taken, c .before .before .before .before .before .before .before .before .before .before .wide-of .ensures)) (l .inv .1) (c .before .before .before .before .before .before .price-start .ensures) (c .before .before .price-start2 .ensures),
+    )
 
 same-length : tie.Need-same-length Inv-loop μ-loop
 same-length c = c .before .loop .inv .1 .long
@@ -108,10 +80,8 @@ prices-spec =
     μ-loop
     wide-of-requires
     loop-holds
-    price-at-requires
-    row-price-requires
-    price-at-requires-2
-    row-price-requires-2
+    price-start-requires
+    price-start-requires-2
     add-s
     loop-less
     loop-again

@@ -3,7 +3,7 @@ use Prim.Native.Nat.{_+_}
 use mathlib.Core.Path.{_∙_}
 use Rattle.deck.specs.Words.{deckOf}
 use Rattle.stage.specs.Stage.{posIn}
-use Rattle.stage.specs.Laws.{stage-made, given-pairs, given-wide}
+use Rattle.stage.specs.Laws.{stage-made, given-pairs, given-wide, given-table}
 use native.Mathlib.Omega.{arith}
 use borrow.Author.Needs.{needs}
 use Rattle.stage.proofs.stage.Statement.{statement}
@@ -34,18 +34,11 @@ join-stage-requires : tie.Need-join-stage-requires
 join-stage-requires c κs =
     let k = c .before .before .before .before .before .before .before .before .before .before .before .before .before .before .before in
     let g = k .pre .0 in
-    let n = given-pairs g in
-    let w = given-wide g (k .args .i) in
     let x = given-wide g (k .args .i + 1) in
     let p = c .before .before .before .before .before .before .before .prices .ensures in (
-      record {
-        pairs = omega (arith, c .before .before .before .before .wide-of .ensures, w .0, n .0);
-        few = omega (arith, c .before .before .before .wide-of2 .ensures, w .1);
-        stage = omega (arith, k .pre .1, n .3);
-        long = omega (arith, c .before .before .before .before .wide-of .ensures, w .0, g .long, p .long);
-        low = p .low;
-      },
-      omega (arith, c .before .before .wide-of3 .ensures, x .0, n .0),
+      rw (c .before .before .before .before .wide-of .ensures, c .before .before .before .wide-of2 .ensures) (given-table g (k .args .i) _ (k .pre .1) (p .long) (p .low)),
+      omega (arith, c .before .before .wide-of3 .ensures, x .2, p .long),
+      omega (arith, c .before .before .wide-of3 .ensures, x .0),
       omega (arith, c .before .wide-of4 .ensures, x .1),
     )
 
