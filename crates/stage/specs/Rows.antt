@@ -52,17 +52,17 @@ module _ (D : Deck) (R talls : ℕ) (pos : ℕ → ℕ) where
             ∙ sym (stage-last D R talls pos (layerIn old 0 l) I i (getD starts l 0) q a h (omega arith) (omega arith));
       }
 
-  -- after the first layer in block 0
-  row-from : (I i : ℕ) (starts : List ℕ) {lanes ends poses prices : ℕ} {F : ℕ → Layer} {old mid new : List ℕ}
-      → Frame 0 49152 old mid → RowPriced (endFrom D R talls pos I mid i starts) lanes ends poses prices mid new
+  -- after the first layer in block 0; there may be more lanes than are asked for
+  row-from : (I i : ℕ) (starts : List ℕ) {lanes width ends poses prices : ℕ} {F : ℕ → Layer} {old mid new : List ℕ}
+      → lanes ≤ width → Frame 0 49152 old mid → RowPriced (endFrom D R talls pos I mid i starts) width ends poses prices mid new
       → ((q a l : ℕ) → q < ends → a < poses → l < lanes → stageEnd D R talls pos I (layerIn mid 0 l) i (getD starts l 0) q a ≡ F l q a)
       → RowPriced F lanes ends poses prices old new
-  row-from I i starts f w e =
+  row-from I i starts m f w e =
       record {
         long = w .long ∙ f .long;
         low = w .low;
         kept = λ k x y. w .kept k x y ∙ f .high k (omega arith);
-        right = λ q a l x y z. w .right q a l x y z ∙ e q a l x y z;
+        right = λ q a l x y z. w .right q a l x y (omega arith) ∙ e q a l x y z;
       }
 
   -- stage 0
@@ -72,7 +72,7 @@ module _ (D : Deck) (R talls : ℕ) (pos : ℕ → ℕ) where
       → RowPriced (priceOf D R talls pos I s) (wide talls I (D .poses)) (wide talls (suc I) count) (wide talls (suc I) (D .poses)) prices old new
   unfolding priceOf openPrice wide
   row-open count s starts {mid = mid} e n b f w =
-      let v : RowPriced (priceOf D R talls pos 0 s) 1 (wide talls 1 count) (wide talls 1 (D .poses)) _ _ _ = row-from 0 1 starts (f .frame) w
+      let v : RowPriced (priceOf D R talls pos 0 s) 1 (wide talls 1 count) (wide talls 1 (D .poses)) _ _ _ = row-from 0 1 starts (omega arith) (f .frame) w
       (λ q a l x y z.
       stage-ext D R (layerIn mid 0 l) (firstOpen D R) (λ q a v u. f .right q (omega arith) a l u z) talls pos 0 1 (getD starts l 0) q a (rw n at x) y
       ∙ ap (λ (e : ℕ). stageEnd D R talls pos 0 (firstOpen D R) 1 e q a) (only l z)) in
@@ -82,32 +82,32 @@ module _ (D : Deck) (R talls : ℕ) (pos : ℕ → ℕ) where
       only l z = ap (λ (k : ℕ). getD starts k 0) (omega arith) ∙ b
 
   -- the stage after tall cell I, which stands as pair s
-  after-tall : (I count s : ℕ) (starts : List ℕ) {prices : ℕ} {old mid new : List ℕ}
-      → I < talls → count ≡ pairCount R → ((l : ℕ) → l < D .poses → getD starts l 0 ≡ D .back (pos I) l)
-      → Filled (afterFrom D R (placedWith R (pos I) s) (marks R s) (pos I) 0) (D .poses) (D .poses) 0 count old mid
-      → RowPriced (endFrom D R talls pos (suc I) mid (suc (placedWith R (pos I) s)) starts) (D .poses) (wide talls (suc (suc I)) count) (wide talls (suc (suc I)) (D .poses)) prices mid new
+  after-tall : (I count s : ℕ) (starts : List ℕ) {width prices : ℕ} {old mid new : List ℕ}
+      → I < talls → D .poses ≤ width → count ≡ pairCount R → ((l : ℕ) → l < D .poses → getD starts l 0 ≡ D .back (pos I) l)
+      → Filled (afterFrom D R (placedWith R (pos I) s) (marks R s) (pos I) 0) width (D .poses) 0 count old mid
+      → RowPriced (endFrom D R talls pos (suc I) mid (suc (placedWith R (pos I) s)) starts) width (wide talls (suc (suc I)) count) (wide talls (suc (suc I)) (D .poses)) prices mid new
       → RowPriced (priceOf D R talls pos (suc I) s) (wide talls (suc I) (D .poses)) (wide talls (suc (suc I)) count) (wide talls (suc (suc I)) (D .poses)) prices old new
   unfolding priceOf stagePrice
-  after-tall I count s starts {mid = mid} h n b f w =
+  after-tall I count s starts {mid = mid} h m n b f w =
       let i = placedWith R (pos I) s in
       rw (wide-all talls I (D .poses) h)
-      (row-from (suc I) (suc i) starts (f .frame) w
+      (row-from (suc I) (suc i) starts m (f .frame) w
       (λ q a l x y z.
       stage-ext D R (layerIn mid 0 l) (firstAfter D R i (marks R s) (pos I) l)
-      (λ q a v u. let m : 0 + l ≡ l = omega arith in rw m at (f .right q (omega arith) a l u z))
+      (λ q a v u. let o : 0 + l ≡ l = omega arith in rw o at (f .right q (omega arith) a l u (omega arith)))
       talls pos (suc I) (suc i) (getD starts l 0) q a (rw n at x) y
       ∙ ap (λ (e : ℕ). stageEnd D R talls pos (suc I) (firstAfter D R i (marks R s) (pos I) l) (suc i) e q a) (b l z)))
 
-  pub row-after : (I J count s p placed : ℕ) (starts : List ℕ) {prices : ℕ} {old mid new : List ℕ}
-      → I ≡ suc J → I ≤ talls → count ≡ pairCount R → p ≡ pos J → placed ≡ placedWith R p s
+  pub row-after : (I J count s p placed : ℕ) (starts : List ℕ) {width prices : ℕ} {old mid new : List ℕ}
+      → I ≡ suc J → I ≤ talls → D .poses ≤ width → count ≡ pairCount R → p ≡ pos J → placed ≡ placedWith R p s
       → ((l : ℕ) → l < D .poses → getD starts l 0 ≡ D .back p l)
-      → Filled (afterFrom D R placed (marks R s) p 0) (D .poses) (D .poses) 0 count old mid
-      → RowPriced (endFrom D R talls pos I mid (placed + 1) starts) (D .poses) (wide talls (suc I) count) (wide talls (suc I) (D .poses)) prices mid new
+      → Filled (afterFrom D R placed (marks R s) p 0) width (D .poses) 0 count old mid
+      → RowPriced (endFrom D R talls pos I mid (placed + 1) starts) width (wide talls (suc I) count) (wide talls (suc I) (D .poses)) prices mid new
       → RowPriced (priceOf D R talls pos I s) (wide talls I (D .poses)) (wide talls (suc I) count) (wide talls (suc I) (D .poses)) prices old new
-  row-after I J count s p placed starts e h n g k b f w =
+  row-after I J count s p placed starts e h m n g k b f w =
       let v = rw (k, g) at f in
       let u = rw (add-one, k, g, e) at w in
-      rw e (after-tall J count s starts (omega arith) n (λ l z. b l z ∙ ap (λ (p : ℕ). D .back p l) g) v u)
+      rw e (after-tall J count s starts (omega arith) m n (λ l z. b l z ∙ ap (λ (p : ℕ). D .back p l) g) v u)
 
 -- ---- a start after a tall cell
 

@@ -102,6 +102,14 @@ fn stage_end(
     );
 }
 
+// How many lanes a stretch is run in: a multiple of 16, so that loops over lanes, many at a time, leave no rest. Those beyond the poses are not used.
+fn width_of(poses: usize) -> usize
+    requires { ⌜ poses ≤ 60 ⌝ }
+    ensures { λ w. ⌜ (poses ≤ w) × (w ≤ 64) ⌝ }
+{
+    (poses + 15) / 16 * 16
+}
+
 // The prices of stage i in a row from start pair s, to the block at `prices`.
 fn row_price(
     store: &mut [u32],
@@ -143,6 +151,7 @@ fn row_price(
     }
     let p = deck::word(places, i - 1);
     let placed = placed_with(pairs, r, p, s);
+    let width = width_of(poses);
     first::first_layer(
         store,
         line,
@@ -151,7 +160,7 @@ fn row_price(
         poses,
         r,
         count,
-        poses,
+        width,
         placed,
         s,
         p,
@@ -171,7 +180,7 @@ fn row_price(
         count,
         talls,
         i,
-        poses,
+        width,
         placed + 1,
         prices,
     );

@@ -47,14 +47,19 @@ placed-with-requires c κs =
     let s = start-pair (k .args .talls) (k .args .i) (k .args .count) (k .args .s) (k .pre .4) (c .before .if1 .left) (k .pre .3) in
     (k .pre .0 .ground .coded, omega (arith, k .pre .0 .ground .all), start-place (k .args .i) (c .word .result) (k .pre .0) (c .before .if1 .left) (k .pre .3) (c .word .ensures))
 
+width-of-requires : tie.Need-width-of-requires
+width-of-requires c κs =
+    let k = c .before .before .before .before .before .before .before in
+    k .pre .0 .ground .few
+
 first-layer-requires : tie.Need-first-layer-requires
 first-layer-requires c κs =
-    let k = c .before .before .before .before .before .before .before .before in
+    let k = c .before .before .before .before .before .before .before .before .before in
     let g = k .pre .0 .ground in
-    let s = start-pair (k .args .talls) (k .args .i) (k .args .count) (k .args .s) (k .pre .4) (c .before .before .before .if1 .left) (k .pre .3) in
-    let p = start-place (k .args .i) (c .before .before .word .result) (k .pre .0) (c .before .before .before .if1 .left) (k .pre .3) (c .before .before .word .ensures) in
+    let s = start-pair (k .args .talls) (k .args .i) (k .args .count) (k .args .s) (k .pre .4) (c .before .before .before .before .if1 .left) (k .pre .3) in
+    let p = start-place (k .args .i) (c .before .before .before .word .result) (k .pre .0) (c .before .before .before .before .if1 .left) (k .pre .3) (c .before .before .before .word .ensures) in
     let r = k .pre .2 in (
-      record { ground = g; low = k .pre .1; narrow = omega (arith, g .few); early = omega (arith, c .before .placed-with .ensures, g .coded .reorder); room = omega (arith, r .over, r .room) },
+      record { ground = g; low = k .pre .1; narrow = omega (arith, g .few); early = omega (arith, c .before .before .placed-with .ensures, g .coded .reorder); room = omega (arith, r .over, r .room) },
       p,
       omega (arith, g .few),
       s,
@@ -62,26 +67,26 @@ first-layer-requires c κs =
 
 backs-requires : tie.Need-backs-requires
 backs-requires c κs =
-    let k = c .before .before .before .before .before .before .before .before .before .before .before .before in
+    let k = c .before .before .before .before .before .before .before .before .before .before .before .before .before in
     let g = k .pre .0 .ground in
-    (g .row, zeros-low 64, refl, start-place (k .args .i) (c .before .before .before .before .before .before .word .result) (k .pre .0) (c .before .before .before .before .before .before .before .if1 .left) (k .pre .3) (c .before .before .before .before .before .before .word .ensures), g .few)
+    (g .row, zeros-low 64, refl, start-place (k .args .i) (c .before .before .before .before .before .before .before .word .result) (k .pre .0) (c .before .before .before .before .before .before .before .before .if1 .left) (k .pre .3) (c .before .before .before .before .before .before .before .word .ensures), g .few)
 
 add-stage-end : tie.Need-add-stage-end
 add-stage-end c =
-    let k = c .before .before .before .before .before .before .before .before .before .before .before .before .before .before .before in
-    let p = start-place (k .args .i) (c .before .before .before .before .before .before .before .before .before .word .result) (k .pre .0) (c .before .before .before .before .before .before .before .before .before .before .if1 .left) (k .pre .3) (c .before .before .before .before .before .before .before .before .before .word .ensures) in
-    omega (arith, c .before .before .before .before .before .before .before .before .placed-with .ensures, k .pre .0 .ground .coded .reorder)
+    let k = c .before .before .before .before .before .before .before .before .before .before .before .before .before .before .before .before in
+    let p = start-place (k .args .i) (c .before .before .before .before .before .before .before .before .before .before .word .result) (k .pre .0) (c .before .before .before .before .before .before .before .before .before .before .before .if1 .left) (k .pre .3) (c .before .before .before .before .before .before .before .before .before .before .word .ensures) in
+    omega (arith, c .before .before .before .before .before .before .before .before .before .placed-with .ensures, k .pre .0 .ground .coded .reorder)
 
 stage-end-requires-2 : tie.Need-stage-end-requires-2
 stage-end-requires-2 c κs =
-    let k = c .before .before .before .before .before .before .before .before .before .before .before .before .before .before .before in
+    let k = c .before .before .before .before .before .before .before .before .before .before .before .before .before .before .before .before in
     let g = k .pre .0 .ground in
-    let p = start-place (k .args .i) (c .before .before .before .before .before .before .before .before .before .word .result) (k .pre .0) (c .before .before .before .before .before .before .before .before .before .before .if1 .left) (k .pre .3) (c .before .before .before .before .before .before .before .before .before .word .ensures) in
+    let p = start-place (k .args .i) (c .before .before .before .before .before .before .before .before .before .before .word .result) (k .pre .0) (c .before .before .before .before .before .before .before .before .before .before .before .if1 .left) (k .pre .3) (c .before .before .before .before .before .before .before .before .before .before .word .ensures) in
     let f = c .before .before .before .before .before .before .first-layer .ensures in
     let b = c .before .before .backs .ensures in
     let r = k .pre .2 in (
       k .pre .0,
-      record { ground = g; low = f .low; narrow = omega (arith, g .few); early = omega (arith, c .before .before .before .before .before .before .before .before .placed-with .ensures, g .coded .reorder); room = omega (arith, r .over, r .room, f .frame .long) },
+      record { ground = g; low = f .low; narrow = omega (arith, g .few); early = omega (arith, c .before .before .before .before .before .before .before .before .before .placed-with .ensures, g .coded .reorder); room = omega (arith, r .over, r .room, f .frame .long) },
       record { over = r .over; room = omega (arith, r .room, f .frame .long) },
       b .low,
       b .frame .long,
@@ -93,11 +98,11 @@ same-length-2 c = search needs
 returns-2 : tie.Need-returns-2
 unfolding posIn
 returns-2 c =
-    let k = c .before .before .before .before .before .before .before .before .before .before .before .before .before .before .before .before .before .before in
+    let k = c .before .before .before .before .before .before .before .before .before .before .before .before .before .before .before .before .before .before .before in
     let a = k .args in
     row-after (deckOf (a .line .now) (a .n) (a .poses)) (a .r) (a .talls) (posIn (a .places .now)) (a .i) (a .i - 1) (a .count) (a .s)
-    (c .before .before .before .before .before .before .before .before .before .before .before .before .word .result) (c .before .before .before .before .before .before .before .before .before .before .before .placed-with .result) (c .before .before .before .before .before .backs .last .0) (omega (arith, c .before .before .before .before .before .before .before .before .before .before .before .before .before .if1 .left)) (k .pre .3) (k .pre .0 .ground .all)
-    (c .before .before .before .before .before .before .before .before .before .before .before .before .word .ensures) (c .before .before .before .before .before .before .before .before .before .before .before .placed-with .ensures)
+    (c .before .before .before .before .before .before .before .before .before .before .before .before .before .word .result) (c .before .before .before .before .before .before .before .before .before .before .before .before .placed-with .result) (c .before .before .before .before .before .backs .last .0) (omega (arith, c .before .before .before .before .before .before .before .before .before .before .before .before .before .before .if1 .left)) (k .pre .3) (c .before .before .before .before .before .before .before .before .before .before .before .width-of .ensures .0) (k .pre .0 .ground .all)
+    (c .before .before .before .before .before .before .before .before .before .before .before .before .before .word .ensures) (c .before .before .before .before .before .before .before .before .before .before .before .before .placed-with .ensures)
     (λ l h. let z : 0 + l ≡ l = omega arith in rw z at (c .before .before .before .before .before .backs .ensures .words l h))
     (c .before .before .before .before .before .before .before .before .before .first-layer .ensures) (c .before .before .stage-end2 .ensures)
 
@@ -112,6 +117,7 @@ row-price-spec =
     sub-word
     word-requires
     placed-with-requires
+    width-of-requires
     first-layer-requires
     backs-requires
     add-stage-end
