@@ -9,7 +9,7 @@ ghost use Rattle.lanes.specs.Store.{Low, FilledPair, Filled};
 ghost use Rattle.deck.specs.Words.{deckOf, PairWords, LineWords};
 ghost use Rattle.layer.specs.Loops.{Given};
 ghost use Rattle.near.specs.Rows.{onePose};
-ghost use Rattle.near.specs.Table.{Pays};
+ghost use Rattle.near.specs.Table.{Lent, Pays};
 ghost use Rattle.first.specs.Firsts.{startsAt, afterRows, afterFrom, ownRows, openFrom};
 ghost use Rattle.first.specs.Starts.{Started, StartedTo, startIn};
 
@@ -69,8 +69,10 @@ fn from_starts(
     }
 }
 
-// The rows of a pair that can come first: the cell at position k, after each pose from l0 on of the cell at position p.
+// The rows of a pair that can come first: the cell at position k, after each pose from l0 on of the cell at position p. The starts are put in the
+// table that is lent, whatever it has.
 fn first_rows(
+    table: &mut [u32; 6080],
     store: &mut [u32],
     line: &[u32],
     to: usize,
@@ -81,18 +83,18 @@ fn first_rows(
     poses: usize,
     lanes: usize,
 )
-    requires { ⌜ LineWords (now line) × Low (now store) × (to + 49152 ≤ length (now store)) × (q < 12) × (p < 64) × (l0 + lanes ≤ 64) × (k < 64) × (poses ≤ 60) ⌝ }
-    ensures { λ _. ⌜ FilledPair (afterRows (now (line .entry)) p l0 k) lanes to q poses (now (store .entry)) (now (store .exit)) ⌝ }
+    requires { ⌜ Lent (now table) × LineWords (now line) × Low (now store) × (to + 49152 ≤ length (now store)) × (q < 12) × (p < 64) × (l0 + lanes ≤ 64) × (k < 64) × (poses ≤ 60) ⌝ }
+    ensures { λ _. ⌜ FilledPair (afterRows (now (line .entry)) p l0 k) lanes to q poses (now (store .entry)) (now (store .exit)) × Lent (now (table .exit)) ⌝ }
 {
-    let mut table = [0u32; 6080];
-    near::reset(&mut table, poses, lanes);
-    from_starts(&mut table, line, p, l0, k, near::rows_of(poses), lanes);
-    near::run_up(&mut table, lanes);
-    near::put_rows(store, line, &table, to, q, k, poses, lanes);
+    near::reset(table, poses, lanes);
+    from_starts(table, line, p, l0, k, near::rows_of(poses), lanes);
+    near::run_up(table, lanes);
+    near::put_rows(store, line, table, to, q, k, poses, lanes);
 }
 
 // The block of pair q.
 fn first_block(
+    table: &mut [u32; 6080],
     store: &mut [u32],
     line: &[u32],
     pairs: &[u32],
@@ -108,19 +110,20 @@ fn first_block(
     to: usize,
     q: usize,
 )
-    requires { ⌜ Given (now line) (now pairs) (now store) n poses r count lanes i to × (p < 64) × (l0 + lanes ≤ 64) × (q < count) ⌝ }
-    ensures { λ _. ⌜ FilledPair (afterFrom (deckOf (now (line .entry)) n poses) r i m p l0) lanes to q poses (now (store .entry)) (now (store .exit)) ⌝ }
+    requires { ⌜ Lent (now table) × Given (now line) (now pairs) (now store) n poses r count lanes i to × (p < 64) × (l0 + lanes ≤ 64) × (q < count) ⌝ }
+    ensures { λ _. ⌜ FilledPair (afterFrom (deckOf (now (line .entry)) n poses) r i m p l0) lanes to q poses (now (store .entry)) (now (store .exit)) × Lent (now (table .exit)) ⌝ }
 {
     if !starts(pairs, n, r, i + 1, m, q) {
         lanes::fill_rows(store, to + q * 4096, poses, lanes, lanes::NONE);
         return;
     }
     let k = deck::last_at(pairs, r, i + 1, q);
-    first_rows(store, line, to, q, p, l0, k, poses, lanes);
+    first_rows(table, store, line, to, q, p, l0, k, poses, lanes);
 }
 
 // The layer after the cell at position p as pair s, the last of i placed: one lane for each of its poses from l0 on.
 pub fn first_layer(
+    table: &mut [u32; 6080],
     store: &mut [u32],
     line: &[u32],
     pairs: &[u32],
@@ -135,13 +138,14 @@ pub fn first_layer(
     l0: usize,
     to: usize,
 )
-    requires { ⌜ Given (now line) (now pairs) (now store) n poses r count lanes i to × (p < 64) × (l0 + lanes ≤ 64) × (s < count) ⌝ }
-    ensures { λ _. ⌜ Filled (afterFrom (deckOf (now (line .entry)) n poses) r i (marks r s) p l0) lanes poses to count (now (store .entry)) (now (store .exit)) ⌝ }
+    requires { ⌜ Lent (now table) × Given (now line) (now pairs) (now store) n poses r count lanes i to × (p < 64) × (l0 + lanes ≤ 64) × (s < count) ⌝ }
+    ensures { λ _. ⌜ Filled (afterFrom (deckOf (now (line .entry)) n poses) r i (marks r s) p l0) lanes poses to count (now (store .entry)) (now (store .exit)) × Lent (now (table .exit)) ⌝ }
 {
     let m = pairs[s * 4 + 1];
     let mut q: usize = 0;
     while q < count {
         first_block(
+            table,
             store,
             line,
             pairs,
@@ -206,7 +210,7 @@ fn open_block(
     ensures { λ _. ⌜ FilledPair (openFrom (deckOf (now (line .entry)) n poses) r) 1 to q poses (now (store .entry)) (now (store .exit)) ⌝ }
 {
     if !starts(pairs, n, r, 1, start_marks(r), q) {
-        lanes::fill(store, to + q * 4096, 4096, lanes::NONE);
+        lanes::fill_rows(store, to + q * 4096, poses, 1, lanes::NONE);
         return;
     }
     let k = deck::last_at(pairs, r, 1, q);

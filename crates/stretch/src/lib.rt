@@ -5,6 +5,7 @@ ghost use lib.ListN.{length};
 ghost use Rattle.model.specs.Steps.{pairCount};
 ghost use Rattle.lanes.specs.Store.{Low, FilledPair, Filled};
 ghost use Rattle.deck.specs.Words.{deckOf, PairWords};
+ghost use Rattle.near.specs.Table.{Lent};
 ghost use Rattle.layer.specs.Loops.{Given};
 ghost use Rattle.stretch.specs.Runs.{PriceRoom, lateIn, delivered, Priced};
 
@@ -96,8 +97,9 @@ fn deliver(
     }
 }
 
-// The prices to the tall cell, to the block at `prices`.
+// The prices to the tall cell, to the block at `prices`. The table that is lent serves all layers.
 pub fn stretch_to(
+    table: &mut [u32; 6080],
     store: &mut [u32],
     line: &[u32],
     pairs: &[u32],
@@ -110,17 +112,16 @@ pub fn stretch_to(
     tall: usize,
     prices: usize,
 )
-    requires { ⌜ Given (now line) (now pairs) (now store) n poses r count lanes i 0 × PriceRoom (now store) prices × (tall < 64) ⌝ }
-    ensures { λ _. ⌜ Priced (deckOf (now (line .entry)) n poses) r lanes i tall prices (now (store .entry)) (now (store .exit)) ⌝ }
+    requires { ⌜ Lent (now table) × Given (now line) (now pairs) (now store) n poses r count lanes i 0 × PriceRoom (now store) prices × (tall < 64) ⌝ }
+    ensures { λ _. ⌜ Priced (deckOf (now (line .entry)) n poses) r lanes i tall prices (now (store .entry)) (now (store .exit)) × Lent (now (table .exit)) ⌝ }
 {
     fill_late(store, pairs, poses, r, count, lanes, i, tall, prices);
     deliver(store, pairs, poses, r, count, lanes, i, tall, 0, prices);
-    let mut table = [0u32; 6080];
     let mut from: usize = 0;
     let mut d: usize = 0;
     while i + d < tall + r + 1 {
         layer::step_layer(
-            &mut table,
+            table,
             store,
             line,
             pairs,

@@ -48,9 +48,11 @@ returns c =
     let k = c .before .before .before .before .before .before .before .before .before in
     let a = k .args in
     let t = sym (c .before .before .before .before .before .starts .ensures) ∙ not-true _ (c .before .before .before .before .if1 .taken) in
-    let u = ap (λ (j : ℕ). startsAt (a .n) (a .r) j (a .m) (a .q)) (sym (add-one (a .i))) ∙ t in
-    pair-rows (omega (arith, k .pre .0 .ground .few)) (c .before .before .fill-rows .ensures)
-    (λ b l x y. after-away (deckOf (a .line .now) (a .n) (a .poses)) (a .r) (a .i) (a .m) (a .p) (a .l0 + l) (a .q) b u)
+    let u = ap (λ (j : ℕ). startsAt (a .n) (a .r) j (a .m) (a .q)) (sym (add-one (a .i))) ∙ t in (
+      pair-rows (omega (arith, k .pre .1 .ground .few)) (c .before .before .fill-rows .ensures)
+          (λ b l x y. after-away (deckOf (a .line .now) (a .n) (a .poses)) (a .r) (a .i) (a .m) (a .p) (a .l0 + l) (a .q) b u),
+      k .pre .0,
+    )
 
 add-last-at : tie.Need-add-last-at
 add-last-at c = search needs
@@ -60,16 +62,17 @@ last-at-requires c κs = search needs
 
 first-rows-requires : tie.Need-first-rows-requires
 first-rows-requires c κs =
-    let k = c .before .before .before .before .before .before .before in
+    let k = c .before .before .before .before .before .before .before .before in
     let a = k .args in
-    let g = k .pre .0 in (
+    let g = k .pre .1 in (
+      k .pre .0,
       g .ground .row,
       g .low,
       g .room,
       omega (arith, g .ground .all, g .ground .coded .few),
-      k .pre .1,
       k .pre .2,
-      omega (arith, here (c .before), starts-size (a .n) (a .r) (suc (a .i)) (a .m) (a .q) (can (c .before .before)), g .ground .size),
+      k .pre .3,
+      omega (arith, here (c .before .before), starts-size (a .n) (a .r) (suc (a .i)) (a .m) (a .q) (can (c .before .before .before)), g .ground .size),
       g .ground .few,
     )
 
@@ -78,13 +81,16 @@ same-length-2 c = search needs
 
 returns-2 : tie.Need-returns-2
 returns-2 c =
-    let k = c .before .before .before .before .before .before .before .before .before .before in
+    let k = c .before .before .before .before .before .before .before .before .before .before .before in
     let a = k .args in
-    let e = here (c .before .before .before .before) in
-    pair-ext (c .before .before .first-rows .ensures)
-    (λ b l x y.
-    after-there (deckOf (a .line .now) (a .n) (a .poses)) (a .r) (a .i) (a .m) (a .p) (a .l0 + l) (a .q) b (can (c .before .before .before .before .before))
-    ∙ ap (λ (j : ℕ). afterRow (a .line .now) (a .p) (a .l0) j b l) (sym e))
+    let e = here (c .before .before .before .before .before) in
+    let w = c .before .before .first-rows .ensures in (
+      pair-ext (w .0)
+          (λ b l x y.
+          after-there (deckOf (a .line .now) (a .n) (a .poses)) (a .r) (a .i) (a .m) (a .p) (a .l0 + l) (a .q) b (can (c .before .before .before .before .before .before))
+          ∙ ap (λ (j : ℕ). afterRow (a .line .now) (a .p) (a .l0) j b l) (sym e)),
+      w .1,
+    )
 
 pub first-block-spec : {M : Type 1} → statement M
 first-block-spec =

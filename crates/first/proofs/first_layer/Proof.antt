@@ -7,17 +7,18 @@ use Rattle.model.specs.Steps.{before}
 use Rattle.lanes.specs.Store.{Filled}
 use Rattle.lanes.specs.Laws.{filled-none, filled-more}
 use Rattle.deck.specs.Words.{deckOf}
+use Rattle.near.specs.Table.{Lent}
 use Rattle.layer.specs.Laws.{given-on}
 use Rattle.first.specs.Firsts.{afterFrom}
 use Rattle.first.proofs.first_layer.Statement.{statement}
 use Rattle.first.proofs.first_layer.Tie as tie
 
 abbrev Inv-loop : tie.InvT-loop
-Inv-loop store₀ line pairs n poses r count lanes i s p l0 to m q₀ store q =
-    (q ≤ count) × Filled (afterFrom (deckOf line n poses) r i m p l0) lanes poses to q store₀ store
+Inv-loop table₀ store₀ line pairs n poses r count lanes i s p l0 to m q₀ table store q =
+    (q ≤ count) × Filled (afterFrom (deckOf line n poses) r i m p l0) lanes poses to q store₀ store × Lent table
 
 abbrev μ-loop : tie.MeasureT-loop
-μ-loop store₀ line pairs n poses r count lanes i s p l0 to m q₀ store q =
+μ-loop table₀ store₀ line pairs n poses r count lanes i s p l0 to m q₀ table store q =
     count - q
 
 mul-m : tie.Need-mul-m Inv-loop μ-loop
@@ -34,13 +35,15 @@ shared-slice-read-m c = search needs
 
 loop-holds : tie.Need-loop-holds Inv-loop μ-loop
 loop-holds c =
-    (omega arith, filled-none _ _ _ _ (c .before .before .before .before .pre .0 .low))
+    let k = c .before .before .before .before in
+    (omega arith, filled-none _ _ _ _ (k .pre .1 .low), k .pre .0)
 
 first-block-requires : tie.Need-first-block-requires Inv-loop μ-loop
 first-block-requires c κs =
-    let k = c .before .before .before .before .before .before .before in
-    let s = c .before .before .loop .inv .1 in
-    (given-on (k .pre .0) (s .frame) (s .low), k .pre .1, k .pre .2, omega arith)
+    let k = c .before .before .before .before .before .before .before .before in
+    let l = c .before .before .before .loop in
+    let s = l .inv .1 in
+    (l .inv .2, given-on (k .pre .1) (s .frame) (s .low), k .pre .2, k .pre .3, omega arith)
 
 add-q : tie.Need-add-q Inv-loop μ-loop
 add-q c = search needs
@@ -50,11 +53,13 @@ loop-less c = search needs
 
 loop-again : tie.Need-loop-again Inv-loop μ-loop
 loop-again c =
-    let k = c .before .before .before .before .before .before .before .before .before .before in
-    let g = k .pre .0 in
-    let l = c .before .before .before .before .before .loop in (
+    let k = c .before .before .before .before .before .before .before .before .before .before .before in
+    let g = k .pre .1 in
+    let l = c .before .before .before .before .before .before .loop in
+    let w = c .before .before .first-block .ensures in (
       omega arith,
-      filled-more (l .q) (omega (arith, g .narrow)) (omega (arith, g .ground .few)) (omega (arith, g .ground .all, g .ground .coded .few)) (l .inv .1) (c .before .before .first-block .ensures) (λ b j x y. refl),
+      filled-more (l .q) (omega (arith, g .narrow)) (omega (arith, g .ground .few)) (omega (arith, g .ground .all, g .ground .coded .few)) (l .inv .1) (w .0) (λ b j x y. refl),
+      w .1,
     )
 
 same-length : tie.Need-same-length Inv-loop μ-loop
@@ -66,8 +71,8 @@ returns c =
     let k = c .before .before .before .before .before .before in
     let a = k .args in
     let e : c .before .loop .q ≡ a .count = omega arith in
-    let f = k .pre .0 .ground .coded .mark (a .s) (omega (arith, k .pre .0 .ground .all)) in
-    rw (e, f) at (c .before .loop .inv .1)
+    let f = k .pre .1 .ground .coded .mark (a .s) (omega (arith, k .pre .1 .ground .all)) in
+    (rw (e, f) at (c .before .loop .inv .1), c .before .loop .inv .2)
 
 pub first-layer-spec : {M : Type 1} → statement M
 first-layer-spec =

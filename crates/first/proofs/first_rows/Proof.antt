@@ -1,9 +1,9 @@
--- Each lane of a cleared table has its start, and each pose finds there what it pays after it. Assumes nothing.
+-- Each lane of the table, once it is reset, has its start, and each pose finds there what it pays after it. Assumes nothing.
 use native.Mathlib.Omega.{arith}
 use Rattle.near.specs.Rows.{rowsOf}
 use Rattle.lanes.specs.Laws.{pair-ext}
 use Rattle.near.specs.Table.{Ready, Gathered}
-use Rattle.near.specs.TableLaws.{lent-zeros, ready}
+use Rattle.near.specs.TableLaws.{ready}
 use Rattle.first.specs.Starts.{startIn, starts-all, starts-low, after-found}
 use borrow.Author.Needs.{needs}
 use Rattle.first.proofs.first_rows.Statement.{statement}
@@ -26,12 +26,10 @@ table : (c : tie.After-run-up) → Table c
 table c =
     let k = c .before .before .before .before .before .before .before .before .before in
     let a = k .args in
-    ready (k .pre .7) (λ l v t. starts-low (a .p) (a .l0) (a .k) l v t (k .pre .0)) (c .before .before .before .before .before .reset .ensures) (starts c) (c .run-up .ensures)
+    ready (k .pre .8) (λ l v t. starts-low (a .p) (a .l0) (a .k) l v t (k .pre .1)) (c .before .before .before .before .before .reset .ensures) (starts c) (c .run-up .ensures)
 
 reset-requires : tie.Need-reset-requires
-reset-requires c κs =
-    let k = c .before .before .before in
-    (lent-zeros .low, lent-zeros .long, k .pre .7, omega arith)
+reset-requires c κs = search needs
 
 rows-of-requires : tie.Need-rows-of-requires
 rows-of-requires c κs = search needs
@@ -46,10 +44,10 @@ put-rows-requires : tie.Need-put-rows-requires
 put-rows-requires c κs =
     let k = c .before .before .before .before .before .before .before .before .before .before .before in
     let t = table (c .before .before) in (
-      record { words = k .pre .0; low = k .pre .1; tableLow = t .low; tableLong = t .long; narrow = omega arith; cell = k .pre .6 },
-      k .pre .2,
+      record { words = k .pre .1; low = k .pre .2; tableLow = t .low; tableLong = t .long; narrow = omega arith; cell = k .pre .7 },
       k .pre .3,
-      k .pre .7,
+      k .pre .4,
+      k .pre .8,
     )
 
 same-length : tie.Need-same-length
@@ -59,7 +57,10 @@ returns : tie.Need-returns
 returns c =
     let k = c .before .before .before .before .before .before .before .before .before .before .before .before .before .before in
     let a = k .args in
-    pair-ext (c .before .before .put-rows .ensures) (λ b l x y. after-found (a .line .now) (a .p) (a .l0) (a .k) b l (table (c .before .before .before .before .before)) x y)
+    let t = table (c .before .before .before .before .before) in (
+      pair-ext (c .before .before .put-rows .ensures) (λ b l x y. after-found (a .line .now) (a .p) (a .l0) (a .k) b l t x y),
+      record { long = t .long; low = t .low },
+    )
 
 pub first-rows-spec : {M : Type 1} → statement M
 first-rows-spec =

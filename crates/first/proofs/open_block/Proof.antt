@@ -7,7 +7,7 @@ use borrow.Author.Needs.{needs}
 use borrow.Author.Tests.{not-true, not-false}
 use Rattle.rows.specs.Window.{start}
 use Rattle.model.specs.Steps.{B, before}
-use Rattle.lanes.specs.Laws.{pair-always, pair-ext}
+use Rattle.lanes.specs.Laws.{pair-rows, pair-ext}
 use Rattle.deck.specs.Words.{wordOf, frontIn, deckOf}
 use Rattle.first.specs.Firsts.{startsAt, open-there, open-away, starts-size}
 use Rattle.first.proofs.open_block.Statement.{statement}
@@ -28,14 +28,14 @@ start-marks-requires c κs = search needs
 starts-requires : tie.Need-starts-requires
 starts-requires c κs = search needs
 
-mul-fill : tie.Need-mul-fill
-mul-fill c = search needs
+mul-fill-rows : tie.Need-mul-fill-rows
+mul-fill-rows c = search needs
 
-add-fill : tie.Need-add-fill
-add-fill c = search needs
+add-fill-rows : tie.Need-add-fill-rows
+add-fill-rows c = search needs
 
-fill-requires : tie.Need-fill-requires
-fill-requires c κs = search needs
+fill-rows-requires : tie.Need-fill-rows-requires
+fill-rows-requires c κs = search needs
 
 same-length : tie.Need-same-length
 same-length c = search needs
@@ -47,8 +47,8 @@ returns c =
     let g = k .pre .0 in
     let t = sym (c .before .before .before .before .before .starts .ensures) ∙ not-true _ (c .before .before .before .before .if1 .taken) in
     let u = ap (λ (m : ℕ). startsAt (a .n) (a .r) 1 m (a .q)) (sym (c .before .before .before .before .before .before .start-marks .ensures)) ∙ t in
-    pair-always (omega arith) (omega (arith, g .ground .few)) (c .before .before .fill .ensures)
-    (λ b l. open-away (deckOf (a .line .now) (a .n) (a .poses)) (a .r) (a .q) b u)
+    pair-rows (omega (arith, g .ground .few)) (c .before .before .fill-rows .ensures)
+    (λ b l x y. open-away (deckOf (a .line .now) (a .n) (a .poses)) (a .r) (a .q) b u)
 
 last-at-requires : tie.Need-last-at-requires
 last-at-requires c κs = search needs
@@ -84,9 +84,9 @@ open-block-spec =
     (tie.spec
     start-marks-requires
     starts-requires
-    mul-fill
-    add-fill
-    fill-requires
+    mul-fill-rows
+    add-fill-rows
+    fill-rows-requires
     same-length
     returns
     last-at-requires

@@ -6,7 +6,6 @@ use lib.ListN.{length, getD}
 use Rattle.lanes.specs.Store.{layerIn}
 use Rattle.deck.specs.Words.{deckOf}
 use Rattle.near.specs.Table.{Lent}
-use Rattle.near.specs.TableLaws.{lent-zeros}
 use Rattle.stretch.specs.Runs.{PricedRun}
 use Rattle.stretch.specs.Laws.{given-small, buffer-low, buffer-beside, priced-start, priced-step, outside-join, outside-prices, priceTo-ext}
 use borrow.Author.Needs.{needs}
@@ -14,11 +13,11 @@ use Rattle.stretch.proofs.stretch_to.Statement.{statement}
 use Rattle.stretch.proofs.stretch_to.Tie as tie
 
 abbrev Inv-loop : tie.InvT-loop
-Inv-loop store₀ line pairs n poses r count lanes i tall prices table₀ from₀ d₀ store table from d =
+Inv-loop table₀ store₀ line pairs n poses r count lanes i tall prices from₀ d₀ table store from d =
     (i + d ≤ 67) × PricedRun (deckOf line n poses) r lanes i tall d from prices store₀ store × Lent table
 
 abbrev μ-loop : tie.MeasureT-loop
-μ-loop store₀ line pairs n poses r count lanes i tall prices table₀ from₀ d₀ store table from d =
+μ-loop table₀ store₀ line pairs n poses r count lanes i tall prices from₀ d₀ table store from d =
     tall + r + 1 - (i + d)
 
 -- the store is as long as it was, where the loop begins
@@ -28,31 +27,31 @@ long c = c .before .before .deliver .ensures .frame .long ∙ c .before .before 
 -- the first layer too
 kept : (c : tie.After-slice-known3 Inv-loop μ-loop) (k : ℕ) → k < 49152 → getD (c .before .before .deliver .last .0) k 0 ≡ getD (c .before .before .before .before .before .before .before .before .before .before .before .args .store .now) k 0
 kept c k h =
-    let p = c .before .before .before .before .before .before .before .before .before .before .before .pre .1 .over in
+    let p = c .before .before .before .before .before .before .before .before .before .before .before .pre .2 .over in
     c .before .before .deliver .ensures .frame .low k (omega arith) ∙ c .before .before .before .before .before .before .fill-late .ensures .frame .low k (omega arith)
 
 fill-late-requires : tie.Need-fill-late-requires Inv-loop μ-loop
 fill-late-requires c κs =
     let k = c .before .before .before .before in
-    let g = k .pre .0 in
-    (g .ground .coded, g .low, k .pre .1, g .ground .all, g .ground .few, g .narrow, omega (arith, g .early), k .pre .2)
+    let g = k .pre .1 in
+    (g .ground .coded, g .low, k .pre .2, g .ground .all, g .ground .few, g .narrow, omega (arith, g .early), k .pre .3)
 
 deliver-requires : tie.Need-deliver-requires Inv-loop μ-loop
 deliver-requires c κs =
     let k = c .before .before .before .before .before .before .before .before in
-    let g = k .pre .0 in
+    let g = k .pre .1 in
     let w = c .before .before .before .fill-late .ensures in
-    (g .ground .coded, w .low, record { over = k .pre .1 .over; room = omega (arith, k .pre .1 .room, w .frame .long) }, g .ground .all, g .ground .few, g .narrow, omega (arith, g .early), k .pre .2, omega arith)
+    (g .ground .coded, w .low, record { over = k .pre .2 .over; room = omega (arith, k .pre .2 .room, w .frame .long) }, g .ground .all, g .ground .few, g .narrow, omega (arith, g .early), k .pre .3, omega arith)
 
 loop-holds : tie.Need-loop-holds Inv-loop μ-loop
 loop-holds c =
     let k = c .before .before .before .before .before .before .before .before .before .before .before in
     let a = k .args in
-    let g = k .pre .0 in (
+    let g = k .pre .1 in (
       omega (arith, g .early),
-      priced-start (deckOf (a .line .now) (a .n) (a .poses)) (a .r) (a .lanes) (a .i) (a .tall) (a .prices) (a .count) (given-small g) (g .ground .all) (k .pre .1 .over)
+      priced-start (deckOf (a .line .now) (a .n) (a .poses)) (a .r) (a .lanes) (a .i) (a .tall) (a .prices) (a .count) (given-small g) (g .ground .all) (k .pre .2 .over)
           (c .before .before .before .before .before .before .fill-late .ensures) (c .before .before .deliver .ensures),
-      lent-zeros,
+      k .pre .0,
     )
 
 add-loop : tie.Need-add-loop Inv-loop μ-loop
@@ -74,11 +73,11 @@ sub-step-layer c =
 step-layer-requires : tie.Need-step-layer-requires Inv-loop μ-loop
 step-layer-requires c κs =
     let k = c .before .before .before .before .before .before .before .before .before .before .before .before .before .before .before in
-    let g = k .pre .0 in
+    let g = k .pre .1 in
     let l = c .before .before .before .loop in
     let v = l .inv .1 in
     let b = buffer-low (v .running .buffer) in
-    let n : 98304 ≤ length (l .store) = omega (arith, v .outside .long, long (c .before .before .before .before), k .pre .1 .over, k .pre .1 .room) in
+    let n : 98304 ≤ length (l .store) = omega (arith, v .outside .long, long (c .before .before .before .before), k .pre .2 .over, k .pre .2 .room) in
     (l .inv .2, record { ground = g .ground; low = v .low; narrow = g .narrow; early = l .inv .0; room = omega arith }, buffer-beside (v .running .buffer) n)
 
 sub-from : tie.Need-sub-from Inv-loop μ-loop
@@ -94,17 +93,17 @@ add-deliver c = search needs
 deliver-requires-2 : tie.Need-deliver-requires-2 Inv-loop μ-loop
 deliver-requires-2 c κs =
     let k = c .before .before .before .before .before .before .before .before .before .before .before .before .before .before .before .before .before .before .before in
-    let g = k .pre .0 in
+    let g = k .pre .1 in
     let l = c .before .before .before .before .before .before .before .loop in
     let w = c .before .before .before .step-layer .ensures .0 in (
       g .ground .coded,
       w .low,
-      record { over = k .pre .1 .over; room = omega (arith, k .pre .1 .room, w .frame .long, l .inv .1 .outside .long, long (c .before .before .before .before .before .before .before .before)) },
+      record { over = k .pre .2 .over; room = omega (arith, k .pre .2 .room, w .frame .long, l .inv .1 .outside .long, long (c .before .before .before .before .before .before .before .before)) },
       g .ground .all,
       g .ground .few,
       g .narrow,
       omega (arith, l .inv .0),
-      k .pre .2,
+      k .pre .3,
       omega arith,
     )
 
@@ -114,10 +113,10 @@ loop-less c = search needs
 loop-again : tie.Need-loop-again Inv-loop μ-loop
 loop-again c =
     let k = c .before .before .before .before .before .before .before .before .before .before .before .before .before .before .before .before .before .before .before .before .before .before in
-    let g = k .pre .0 in
+    let g = k .pre .1 in
     let l = c .before .before .before .before .before .before .before .before .before .before .loop in (
       omega (arith, g .ground .coded .reorder),
-      priced-step (given-small g) (g .ground .all) (k .pre .1 .over) (l .inv .1) (c .before .before .before .before .before .before .step-layer .ensures .0) (c .before .before .deliver2 .ensures),
+      priced-step (given-small g) (g .ground .all) (k .pre .2 .over) (l .inv .1) (c .before .before .before .before .before .before .step-layer .ensures .0) (c .before .before .deliver2 .ensures),
       c .before .before .before .before .before .before .step-layer .ensures .1,
     )
 
@@ -129,18 +128,20 @@ returns : tie.Need-returns Inv-loop μ-loop
 returns c =
     let k = c .before .before .before .before .before .before .before .before .before .before .before .before .before in
     let a = k .args in
-    let g = k .pre .0 in
+    let g = k .pre .1 in
     let v = c .before .loop .inv .1 in
     let s = given-small g in
-    let D = deckOf (a .line .now) (a .n) (a .poses) in
-    record {
-      outside = outside-join (outside-prices (c .before .before .before .before .before .before .before .before .fill-late .ensures .frame) (omega arith) (omega arith)) (outside-join (outside-prices (c .before .before .before .before .deliver .ensures .frame) (omega arith) (omega arith)) (v .outside));
-      low = v .low;
-      right = λ q b l x y z.
-          v .priced .right q b l x y z (omega arith)
-          ∙ priceTo-ext D (a .r) (layerIn (c .before .before .before .before .deliver .last .0) 0 l) (layerIn (a .store .now) 0 l)
-          (λ p w m n. kept (c .before .before) (0 + p * 4096 + w * 64 + l) (omega (arith, s .narrow, s .few, s .pairs))) (a .i) (a .tall) q b x y;
-    }
+    let D = deckOf (a .line .now) (a .n) (a .poses) in (
+      record {
+        outside = outside-join (outside-prices (c .before .before .before .before .before .before .before .before .fill-late .ensures .frame) (omega arith) (omega arith)) (outside-join (outside-prices (c .before .before .before .before .deliver .ensures .frame) (omega arith) (omega arith)) (v .outside));
+        low = v .low;
+        right = λ q b l x y z.
+            v .priced .right q b l x y z (omega arith)
+            ∙ priceTo-ext D (a .r) (layerIn (c .before .before .before .before .deliver .last .0) 0 l) (layerIn (a .store .now) 0 l)
+            (λ p w m n. kept (c .before .before) (0 + p * 4096 + w * 64 + l) (omega (arith, s .narrow, s .few, s .pairs))) (a .i) (a .tall) q b x y;
+      },
+      c .before .loop .inv .2,
+    )
 
 pub stretch-to-spec : {M : Type 1} → statement M
 stretch-to-spec =
