@@ -6,12 +6,14 @@ ghost use Rattle.model.specs.Steps.{pairCount};
 ghost use Rattle.lanes.specs.Lanes.{Lowered};
 ghost use Rattle.lanes.specs.Store.{Low, Written};
 ghost use Rattle.deck.specs.Words.{deckOf, PairWords, LineWords};
+ghost use Rattle.near.specs.Table.{Lent};
 ghost use Rattle.layer.specs.Loops.{Given};
 ghost use Rattle.stretch.specs.Runs.{PriceRoom};
 ghost use Rattle.finish.specs.Ends.{endsWith, leastPosesIn, leastPairIn, leastPairsIn, endsIn, Ran, Ended};
 
-// On to the layer with all cells placed: the block that it is in.
+// On to the layer with all cells placed: the block that it is in. The table that is lent serves all layers.
 fn run_on(
+    table: &mut [u32; 6080],
     store: &mut [u32],
     line: &[u32],
     pairs: &[u32],
@@ -22,15 +24,14 @@ fn run_on(
     lanes: usize,
     i: usize,
 ) -> usize
-    requires { ⌜ Given (now line) (now pairs) (now store) n poses r count lanes i 0 × (98304 ≤ length (now store)) × (i ≤ n) ⌝ }
-    ensures { λ at. ⌜ Ran (deckOf (now (line .entry)) n poses) r lanes i (n - i) at (now (store .entry)) (now (store .exit)) ⌝ }
+    requires { ⌜ Lent (now table) × Given (now line) (now pairs) (now store) n poses r count lanes i 0 × (98304 ≤ length (now store)) × (i ≤ n) ⌝ }
+    ensures { λ at. ⌜ Ran (deckOf (now (line .entry)) n poses) r lanes i (n - i) at (now (store .entry)) (now (store .exit)) × Lent (now (table .exit)) ⌝ }
 {
-    let mut table = [0u32; 6080];
     let mut from: usize = 0;
     let mut d: usize = 0;
     while i + d < n {
         layer::step_layer(
-            &mut table,
+            table,
             store,
             line,
             pairs,
@@ -159,6 +160,7 @@ fn put_ends(
 // The prices to the row's end, to the row at `prices`, a word for each lane. If nothing is left to place it is the lane's word of `starts`, what its
 // start pays as the row's last; NONE if too much was placed.
 pub fn stretch_end(
+    table: &mut [u32; 6080],
     store: &mut [u32],
     line: &[u32],
     pairs: &[u32],
@@ -171,8 +173,8 @@ pub fn stretch_end(
     i: usize,
     prices: usize,
 )
-    requires { ⌜ Given (now line) (now pairs) (now store) n poses r count lanes i 0 × PriceRoom (now store) prices × Low (now starts) × (length (now starts) ≡ 64) ⌝ }
-    ensures { λ _. ⌜ Ended (deckOf (now (line .entry)) n poses) r lanes i prices (now (starts .entry)) (now (store .entry)) (now (store .exit)) ⌝ }
+    requires { ⌜ Lent (now table) × Given (now line) (now pairs) (now store) n poses r count lanes i 0 × PriceRoom (now store) prices × Low (now starts) × (length (now starts) ≡ 64) ⌝ }
+    ensures { λ _. ⌜ Ended (deckOf (now (line .entry)) n poses) r lanes i prices (now (starts .entry)) (now (store .entry)) (now (store .exit)) × Lent (now (table .exit)) ⌝ }
 {
     if i > n + 1 {
         lanes::fill(store, prices, lanes, lanes::NONE);
@@ -182,6 +184,6 @@ pub fn stretch_end(
         lanes::put(store, prices, starts, 0, lanes);
         return;
     }
-    let at = run_on(store, line, pairs, n, poses, r, count, lanes, i);
+    let at = run_on(table, store, line, pairs, n, poses, r, count, lanes, i);
     put_ends(store, line, pairs, n, poses, r, count, lanes, at, prices);
 }

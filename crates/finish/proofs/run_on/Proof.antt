@@ -6,7 +6,6 @@ use lib.ListN.{length}
 use Rattle.lanes.specs.Laws.{frame-refl}
 use Rattle.deck.specs.Words.{deckOf}
 use Rattle.near.specs.Table.{Lent}
-use Rattle.near.specs.TableLaws.{lent-zeros}
 use Rattle.stretch.specs.Laws.{given-small, buffer-low, buffer-beside, run-none}
 use Rattle.finish.specs.Ends.{Ran}
 use Rattle.finish.specs.Laws.{ran-more}
@@ -15,11 +14,11 @@ use Rattle.finish.proofs.run_on.Statement.{statement}
 use Rattle.finish.proofs.run_on.Tie as tie
 
 abbrev Inv-loop : tie.InvT-loop
-Inv-loop store₀ line pairs n poses r count lanes i table₀ from₀ d₀ store table from d =
+Inv-loop table₀ store₀ line pairs n poses r count lanes i from₀ d₀ table store from d =
     (i + d ≤ n) × Ran (deckOf line n poses) r lanes i d from store₀ store × Lent table
 
 abbrev μ-loop : tie.MeasureT-loop
-μ-loop store₀ line pairs n poses r count lanes i table₀ from₀ d₀ store table from d =
+μ-loop table₀ store₀ line pairs n poses r count lanes i from₀ d₀ table store from d =
     n - (i + d)
 
 loop-holds : tie.Need-loop-holds Inv-loop μ-loop
@@ -28,11 +27,11 @@ loop-holds c =
     let a = k .args in (
       omega arith,
       record {
-        running = run-none (deckOf (a .line .now) (a .n) (a .poses)) (a .r) (a .lanes) (a .i) (given-small (k .pre .0)) (λ j h. refl);
+        running = run-none (deckOf (a .line .now) (a .n) (a .poses)) (a .r) (a .lanes) (a .i) (given-small (k .pre .1)) (λ j h. refl);
         frame = frame-refl _ _ _;
-        low = k .pre .0 .low;
+        low = k .pre .1 .low;
       },
-      lent-zeros,
+      k .pre .0,
     )
 
 add-loop : tie.Need-add-loop Inv-loop μ-loop
@@ -48,11 +47,11 @@ sub-step-layer c =
 step-layer-requires : tie.Need-step-layer-requires Inv-loop μ-loop
 step-layer-requires c κs =
     let k = c .before .before .before .before .before .before .before in
-    let g = k .pre .0 in
+    let g = k .pre .1 in
     let l = c .before .before .before .loop in
     let v = l .inv .1 in
     let b = buffer-low (v .running .buffer) in
-    let n : 98304 ≤ length (l .store) = omega (arith, v .frame .long, k .pre .1) in
+    let n : 98304 ≤ length (l .store) = omega (arith, v .frame .long, k .pre .2) in
     (l .inv .2, record { ground = g .ground; low = v .low; narrow = g .narrow; early = omega (arith, l .inv .0, g .ground .size); room = omega arith }, buffer-beside (v .running .buffer) n)
 
 sub-from : tie.Need-sub-from Inv-loop μ-loop
@@ -67,7 +66,7 @@ loop-less c = search needs
 
 loop-again : tie.Need-loop-again Inv-loop μ-loop
 loop-again c =
-    (omega arith, ran-more (c .before .before .before .before .before .before .before .before .before .before .pre .0 .ground .all) (c .before .before .before .before .before .before .loop .inv .1) (c .before .before .step-layer .ensures .0), c .before .before .step-layer .ensures .1)
+    (omega arith, ran-more (c .before .before .before .before .before .before .before .before .before .before .pre .1 .ground .all) (c .before .before .before .before .before .before .loop .inv .1) (c .before .before .step-layer .ensures .0), c .before .before .step-layer .ensures .1)
 
 same-length : tie.Need-same-length Inv-loop μ-loop
 same-length c =
@@ -77,7 +76,7 @@ returns : tie.Need-returns Inv-loop μ-loop
 returns c =
     let a = c .before .before .before .before .before .args in
     let e : c .before .loop .d ≡ a .n - a .i = omega arith in
-    rw e at (c .before .loop .inv .1)
+    (rw e at (c .before .loop .inv .1), c .before .loop .inv .2)
 
 pub run-on-spec : {M : Type 1} → statement M
 run-on-spec =

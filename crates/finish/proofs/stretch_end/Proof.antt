@@ -1,4 +1,5 @@
 -- The three cases of the price. Assumes nothing.
+use Prim.Native.Nat.{_≤_}
 use mathlib.Core.Path.{_∙_}
 use native.Mathlib.Omega.{arith}
 use lib.ListN.{getD}
@@ -8,6 +9,10 @@ use Rattle.stretch.specs.Laws.{buffer-low, outside-join, outside-layers, outsid
 use Rattle.finish.specs.Laws.{price-done, price-past, ran-price, end-words}
 use Rattle.finish.proofs.stretch_end.Statement.{statement}
 use Rattle.finish.proofs.stretch_end.Tie as tie
+
+-- past both tests the row has room for what was placed
+left : (c : tie.Else2) → (let a = c .before .before .before .before .before .args in a .i ≤ a .n)
+left c = omega arith
 
 add-if1 : tie.Need-add-if1
 add-if1 c = search needs
@@ -21,8 +26,10 @@ same-length c = search needs
 returns : tie.Need-returns
 returns c =
     let k = c .before .before .before .before .before .before .before .before in
-    let a = k .args in
-    end-words (k .pre .0 .narrow) (c .before .before .fill .ensures) (λ f l. price-past (deckOf (a .line .now) (a .n) (a .poses)) (a .r) f (a .i) (getD (a .starts .now) l 0) (omega arith))
+    let a = k .args in (
+      end-words (k .pre .1 .narrow) (c .before .before .fill .ensures) (λ f l. price-past (deckOf (a .line .now) (a .n) (a .poses)) (a .r) f (a .i) (getD (a .starts .now) l 0) (omega arith)),
+      k .pre .0,
+    )
 
 add-if2 : tie.Need-add-if2
 add-if2 c = search needs
@@ -30,7 +37,7 @@ add-if2 c = search needs
 put-requires : tie.Need-put-requires
 put-requires c κs =
     let k = c .before .before .before .before .before .before in
-    (omega (arith, k .pre .1 .room, k .pre .0 .narrow), omega (arith, k .pre .0 .narrow), k .pre .3, omega arith, k .pre .0 .low, k .pre .2 .word)
+    (omega (arith, k .pre .2 .room, k .pre .1 .narrow), omega (arith, k .pre .1 .narrow), k .pre .4, omega arith, k .pre .1 .low, k .pre .3 .word)
 
 same-length-2 : tie.Need-same-length-2
 same-length-2 c = search needs
@@ -38,46 +45,50 @@ same-length-2 c = search needs
 returns-2 : tie.Need-returns-2
 returns-2 c =
     let k = c .before .before .before .before .before .before .before .before .before in
-    let a = k .args in
-    end-words (k .pre .0 .narrow) (c .before .before .put .ensures)
-    (λ f l. omega (arith, price-done (deckOf (a .line .now) (a .n) (a .poses)) (a .r) f (a .i) (getD (a .starts .now) l 0) (omega arith), k .pre .2 .word l))
+    let a = k .args in (
+      end-words (k .pre .1 .narrow) (c .before .before .put .ensures)
+          (λ f l. omega (arith, price-done (deckOf (a .line .now) (a .n) (a .poses)) (a .r) f (a .i) (getD (a .starts .now) l 0) (omega arith), k .pre .3 .word l)),
+      k .pre .0,
+    )
 
 run-on-requires : tie.Need-run-on-requires
 run-on-requires c κs =
-    let k = c .before .before .before .before .before .before in
-    (k .pre .0, omega (arith, k .pre .1 .over, k .pre .1 .room), omega arith)
+    let k = c .before .before .before .before .before .before .before in
+    (k .pre .0, k .pre .1, omega (arith, k .pre .2 .over, k .pre .2 .room), left (c .before .before))
 
 put-ends-requires : tie.Need-put-ends-requires
 put-ends-requires c κs =
-    let k = c .before .before .before .before .before .before .before .before .before .before in
-    let g = k .pre .0 in
-    let v = c .before .before .before .run-on .ensures in
+    let k = c .before .before .before .before .before .before .before .before .before .before .before in
+    let g = k .pre .1 in
+    let v = c .before .before .before .run-on .ensures .0 in
     let b = buffer-low (v .running .buffer) in (
       record {
         ground = g .ground;
         low = v .low;
         narrow = g .narrow;
         early = omega (arith, g .ground .size);
-        room = omega (arith, v .frame .long, k .pre .1 .over, k .pre .1 .room);
+        room = omega (arith, v .frame .long, k .pre .2 .over, k .pre .2 .room);
       },
-      record { over = k .pre .1 .over; room = omega (arith, v .frame .long, k .pre .1 .room) },
+      record { over = k .pre .2 .over; room = omega (arith, v .frame .long, k .pre .2 .room) },
     )
 
 same-length-3 : tie.Need-same-length-3
-same-length-3 c = c .before .before .put-ends .ensures .frame .long ∙ c .before .before .before .before .before .before .run-on .ensures .frame .long
+same-length-3 c = c .before .before .put-ends .ensures .frame .long ∙ c .before .before .before .before .before .before .run-on .ensures .0 .frame .long
 
 returns-3 : tie.Need-returns-3
 returns-3 c =
-    let k = c .before .before .before .before .before .before .before .before .before .before .before .before .before in
+    let k = c .before .before .before .before .before .before .before .before .before .before .before .before .before .before in
     let a = k .args in
-    let g = k .pre .0 in
-    let v = c .before .before .before .before .before .before .run-on .ensures in
-    let w = c .before .before .put-ends .ensures in
-    record {
-      outside = outside-join (outside-layers (k .pre .1 .over) (v .frame) (omega arith)) (outside-prices (w .frame) (omega arith) (omega (arith, g .narrow)));
-      low = w .low;
-      right = λ l h. w .words l h ∙ ran-price l (getD (a .starts .now) l 0) (omega arith) (v .running) h;
-    }
+    let g = k .pre .1 in
+    let v = c .before .before .before .before .before .before .run-on .ensures .0 in
+    let w = c .before .before .put-ends .ensures in (
+      record {
+        outside = outside-join (outside-layers (k .pre .2 .over) (v .frame) (omega arith)) (outside-prices (w .frame) (omega arith) (omega (arith, g .narrow)));
+        low = w .low;
+        right = λ l h. w .words l h ∙ ran-price l (getD (a .starts .now) l 0) (left (c .before .before .before .before .before .before .before .before .before)) (v .running) h;
+      },
+      c .before .before .before .before .before .before .run-on .ensures .1,
+    )
 
 pub stretch-end-spec : {M : Type 1} → statement M
 stretch-end-spec =
