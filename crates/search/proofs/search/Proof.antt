@@ -23,7 +23,7 @@ has-words : (c : tie.After-store-words) → words c ≤ length (lent c)
 unfolding jobOf headerOf
 has-words c =
     let k = c .before .before .before .before .before .before .before .before .before .before .before .before .before .before .before .before .pre in
-    omega (arith, c .store-words .ensures, words-lent (k .sound .header .reordering) (c .before .before .before .before .before .before .before .before .before .before .before .before .fill-pairs .ensures), k .long)
+    omega (arith, c .store-words .ensures, words-lent (c .before .before .before .before .before .before .before .before .fill-row .result .talls) (k .sound .header .reordering) (c .before .before .before .before .before .before .before .before .before .before .before .before .fill-pairs .ensures), k .long)
 
 slice-aggregate-fill-pairs : tie.Need-slice-aggregate-fill-pairs
 slice-aggregate-fill-pairs c = search needs
