@@ -7,6 +7,7 @@ ghost use Rattle.job.specs.Value.{jobOf};
 ghost use Rattle.bridge.specs.Paired.{poseNumbers};
 ghost use Rattle.lanes.specs.Store.{Low};
 ghost use Rattle.lines.specs.Filled.{sideOf};
+ghost use Rattle.stage.specs.Stage.{wide};
 ghost use Rattle.search.specs.Solved.{Asked, Solved};
 ghost use Rattle.search.specs.Words.{wordsFor};
 ghost use Rattle.search.specs.Ready.{RowReady, Ready};
@@ -177,7 +178,7 @@ fn find(
 
 // How many words of the store a search needs: a page for each pair of the largest table.
 fn store_words(talls: usize, count: usize) -> usize
-    requires { ⌜ count ≤ 12 ⌝ }
+    requires { ⌜ wide talls talls count ≤ 12 ⌝ }
     ensures { λ r. ⌜ r ≡ wordsFor talls count ⌝ }
 {
     let pages = stage::wide_of(talls, talls, count);
