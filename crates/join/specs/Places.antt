@@ -8,9 +8,13 @@ use native.Mathlib.Omega.{arith}
 use native.Mathlib.Decide.{decLt}
 use lib.ListN.{length}
 
+-- the page of pair p
+abbrev pub pageAt : ℕ → ℕ
+pageAt p = 148992 + p * 138240
+
 -- the prices of start pair s in a row
 abbrev pub pricesAt : ℕ → ℕ → ℕ
-pricesAt row s = 148992 + s * 138240 + row * 49152
+pricesAt row s = pageAt s + row * 49152
 
 -- the cases of the pairs q₀ and q₁ in table I, and their sources
 abbrev pub caseAt : ℕ → ℕ → ℕ → ℕ
@@ -21,7 +25,7 @@ sourceAt I q₀ q₁ = caseAt I q₀ q₁ + 19968
 
 -- the store has so many pages
 abbrev pub Pages : ℕ → List ℕ → Type 0
-Pages n st = 148992 + n * 138240 ≤ length st
+Pages n st = pageAt n ≤ length st
 
 -- there is such a case in the map
 abbrev pub Slot : ℕ → ℕ → ℕ → ℕ → Type 0
@@ -45,18 +49,17 @@ case-one I q₀ q₁ a j p₀ p₁ b h g e =
 pub case-source : (I q₀ q₁ a J p₀ p₁ b : ℕ) → Slot I q₀ q₁ a → Slot J p₀ p₁ b → caseAt I q₀ q₁ + a ≡ sourceAt J p₀ p₁ + b → ⊥
 case-source I q₀ q₁ a j p₀ p₁ b h g e = let e₀ : q₀ ≡ p₀ = omega arith in omega arith
 
+-- both stand above the layers
+pub case-above : (I q₀ q₁ a : ℕ) → (148992 ≤ caseAt I q₀ q₁ + a) × (148992 ≤ sourceAt I q₀ q₁ + a)
+case-above I q₀ q₁ a = (omega arith, omega arith)
+
 -- a page has room for its cases and sources
 pub case-room : (I q₀ q₁ a : ℕ) (st : List ℕ) → Slot I q₀ q₁ a → Pages (q₀ + 1) st → sourceAt I q₀ q₁ + a < length st
 case-room I q₀ q₁ a st h p = omega arith
 
 -- ---- the words of a price
 
--- a price stands between the first of its row and the next row's
-pub price-word : (row s q a l : ℕ) → q < 12 → a < 64 → l < 64
-    → (pricesAt row s ≤ pricesAt row s + q * 4096 + a * 64 + l) × (pricesAt row s + q * 4096 + a * 64 + l < pricesAt row s + 49152)
-price-word row s q a l h g k = (omega arith, omega arith)
-
--- no case and no source does
+-- no case and no source stands among the prices of a start pair
 pub case-beside : (row s I q₀ q₁ a : ℕ) → row ≤ 1 → Slot I q₀ q₁ a
     → Beside (pricesAt row s) (caseAt I q₀ q₁ + a) × Beside (pricesAt row s) (sourceAt I q₀ q₁ + a)
 case-beside row s I q₀ q₁ a b h = go (decLt q₀ s)

@@ -1,5 +1,5 @@
 -- From the stages and the trace to the answer: the least cost, and the placement that both paths note. Assumes nothing.
-use Prim.Native.Nat.{ℕ, suc, _+_, _*_, _≤_, _<_}
+use Prim.Native.Nat.{ℕ, suc, _+_, _≤_, _<_}
 use mathlib.Core.Path.{_≡_, refl, sym, ap, _∙_, subst}
 use mathlib.Core.Option.{some}
 use mathlib.Core.List.{List}
@@ -19,7 +19,8 @@ use Rattle.claim.specs.Claim.{reorder, searchedCost, placementByNumbers, claim-
 use Rattle.order.specs.Laws.{zeros-at}
 use Rattle.lanes.specs.Store.{Low}
 use Rattle.deck.specs.Words.{deckOf}
-use Rattle.join.specs.Tables.{casesAt, casesIn}
+use Rattle.join.specs.Places.{caseAt}
+use Rattle.join.specs.Tables.{casesIn}
 use Rattle.stage.specs.Stage.{wide, posIn, StagesDone}
 use Rattle.stage.specs.Laws.{wide-last}
 use Rattle.walk.specs.Walks.{wordAt}
@@ -56,7 +57,7 @@ module _ (j : Job) (line₀ line₁ places₀ places₁ : List ℕ) (n₀ n₁ t
   -- tables from which a placement can be traced
   pub record Tables (count : ℕ) (st : List ℕ) : Type 0 where
     pub old : List ℕ
-    pub long : wordsFor count ≤ length old
+    pub long : wordsFor talls count ≤ length old
     pub low : Low old
     pub done : StagesDone deck₀ deck₁ (reorder j) talls (posIn places₀) (posIn places₁) old st
     pub some : least < B
@@ -68,23 +69,23 @@ module _ (j : Job) (line₀ line₁ places₀ places₁ : List ℕ) (n₀ n₁ t
     pub numbers : (k : ℕ) → getD out k 0 < 64
 
   -- the one case of the last table is the least cost
-  pub costed : {old new : List ℕ} {x poses : ℕ} → poses ≡ poseNumbers j → x ≡ getD new (148992 + (talls + 1) * 9216) 0
+  pub costed : {old new : List ℕ} {x poses at : ℕ} → poses ≡ poseNumbers j → at ≡ caseAt (talls + 1) 0 0 → x ≡ getD new at 0
       → StagesDone (deckOf line₀ n₀ poses) (deckOf line₁ n₁ poses) (reorder j) talls (posIn places₀) (posIn places₁) old new → Costed old new x
   unfolding casesIn
-  costed {old} {new} z e g =
+  costed {old} {new} {at = at} z w e g =
       let d = subst (λ (p : ℕ). StagesDone (deckOf line₀ n₀ p) (deckOf line₁ n₁ p) (reorder j) talls (posIn places₀) (posIn places₁) old new) z g in
-      let i : 148992 + (talls + 1) * 9216 ≡ casesAt (suc talls) + 0 * 768 + 0 * 64 + 0 = omega arith in
+      let i : at ≡ caseAt (suc talls) 0 0 + 0 = omega arith in
       record {
         done = d;
         cost = e ∙ ap (λ (k : ℕ). getD new k 0) i ∙ d .right talls 0 0 0 (omega arith) (one (pairCount (reorder j))) (one (pairCount (reorder j))) (one (poseNumbers j));
-        low = let w = d .low .word (148992 + (talls + 1) * 9216) in omega arith;
+        low = omega (arith, d .low .word at);
       }
     where
       one : (k : ℕ) → 0 < wide talls (suc talls) k
       one k = omega (arith, wide-last talls (suc talls) k (omega arith))
 
   -- a cost below B can be traced
-  pub traceable : {old new : List ℕ} {x count : ℕ} → Costed old new x → wordsFor count ≤ length old → Low old → x < B → Tables count new
+  pub traceable : {old new : List ℕ} {x count : ℕ} → Costed old new x → wordsFor talls count ≤ length old → Low old → x < B → Tables count new
   traceable {old} c h l u = record { old = old; long = h; low = l; done = c .done; some = subst (λ (y : ℕ). y < B) (c .cost) u }
 
 module _ {j : Job} {line₀ line₁ pairs places₀ places₁ : List ℕ} {n₀ n₁ count talls : ℕ} (r : Ready j line₀ line₁ pairs places₀ places₁ n₀ n₁ count talls) where

@@ -65,7 +65,7 @@ ready {j} {line₁ = line₁} {places₁ = places₁} {n₁ = n₁} sound p r₀
 }
 
 module _ {j : Job} {line₀ line₁ pairs places₀ places₁ : List ℕ} {n₀ n₁ count talls : ℕ} (r : Ready j line₀ line₁ pairs places₀ places₁ n₀ n₁ count talls) where
-  pub stages-given : {st : List ℕ} {poses : ℕ} → poses ≡ poseNumbers j → wordsFor count ≤ length st → Low st → StagesGiven line₀ line₁ pairs places₀ places₁ st (reorder j) n₀ n₁ poses count talls
+  pub stages-given : {st : List ℕ} {poses : ℕ} → poses ≡ poseNumbers j → wordsFor talls count ≤ length st → Low st → StagesGiven line₀ line₁ pairs places₀ places₁ st (reorder j) n₀ n₁ poses count talls
   stages-given {st} z h l = subst (λ (p : ℕ). StagesGiven line₀ line₁ pairs places₀ places₁ st (reorder j) n₀ n₁ p count talls) (sym z) record {
     row₀ = ready-given (r .row₀) (r .sound) (r .paired);
     row₁ = ready-given (r .row₁) (r .sound) (r .paired);

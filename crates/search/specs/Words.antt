@@ -1,5 +1,5 @@
 -- The words of the store that a search uses: how many they are, and that they are zeros before it. Assumes nothing.
-use Prim.Native.Nat.{ℕ, zero, suc, _+_, _*_, _≤_}
+use Prim.Native.Nat.{ℕ, zero, suc, _+_, _≤_}
 use mathlib.Core.Path.{_≡_, sym, ap, _∙_, subst}
 use mathlib.Core.List.{List, _++_}
 use native.Mathlib.Omega.{arith}
@@ -9,11 +9,14 @@ use Rattle.model.specs.Steps.{pairCount}
 use Rattle.model.specs.Pairs.{count-0, count-1}
 use Rattle.order.specs.Laws.{zeros-at}
 use Rattle.lanes.specs.Store.{Low}
+use Rattle.join.specs.Places.{pageAt}
+use Rattle.stage.specs.Stage.{wide}
+use Rattle.stage.specs.Laws.{wide-low}
 use Rattle.pairs.specs.Upto.{Paired}
 
--- with so many pairs: all words up to the end of the prices
-abbrev pub wordsFor : ℕ → ℕ
-wordsFor count = 628224 + count * 98304
+-- with so many tall cells and pairs: the layers, and a page for each pair of the largest table
+abbrev pub wordsFor : ℕ → ℕ → ℕ
+wordsFor talls count = pageAt (wide talls talls count)
 
 -- at most three pairs
 few-pairs : (R : ℕ) → R ≤ 1 → pairCount R ≤ 3
@@ -22,8 +25,9 @@ few-pairs (suc zero) h = omega (arith, count-1)
 few-pairs (suc (suc R)) h = absurd (omega arith)
 
 -- a store of 1,048,576 words has them
-pub words-lent : {R : ℕ} {pairs : List ℕ} {count : ℕ} → R ≤ 1 → Paired R pairs count → wordsFor count ≤ 1048576
-words-lent {R} h p = omega (arith, few-pairs R h, p .all)
+pub words-lent : (talls : ℕ) {R : ℕ} {pairs : List ℕ} {count : ℕ} → R ≤ 1 → Paired R pairs count → wordsFor talls count ≤ 1048576
+words-lent talls {R} {count = count} h p =
+    omega (arith, wide-low talls talls count 3 (omega arith) (omega (arith, few-pairs R h, p .all)))
 
 pub zeros-low : (n : ℕ) → Low (replicate n 0)
 zeros-low n = record { word = λ k. omega (arith, zeros-at n k) }

@@ -7,6 +7,7 @@ ghost use Rattle.job.specs.Value.{jobOf};
 ghost use Rattle.bridge.specs.Paired.{poseNumbers};
 ghost use Rattle.lanes.specs.Store.{Low};
 ghost use Rattle.lines.specs.Filled.{sideOf};
+ghost use Rattle.stage.specs.Stage.{wide};
 ghost use Rattle.search.specs.Solved.{Asked, Solved};
 ghost use Rattle.search.specs.Words.{wordsFor};
 ghost use Rattle.search.specs.Ready.{RowReady, Ready};
@@ -57,7 +58,7 @@ fn least_cost(
     count: usize,
     talls: usize,
 ) -> u32
-    requires { ⌜ Ready (jobOf job) (now line0) (now line1) (now pairs) (now places0) (now places1) n0 n1 count talls × (wordsFor count ≤ length (now store)) × Low (now store) ⌝ }
+    requires { ⌜ Ready (jobOf job) (now line0) (now line1) (now pairs) (now places0) (now places1) n0 n1 count talls × (wordsFor talls count ≤ length (now store)) × Low (now store) ⌝ }
     ensures { λ x. ⌜ Costed (jobOf job) (now (line0 .entry)) (now (line1 .entry)) (now (places0 .entry)) (now (places1 .entry)) n0 n1 talls (now (store .entry)) (now (store .exit)) x ⌝ }
 {
     let r = job.header.reordering as usize;
@@ -76,7 +77,7 @@ fn least_cost(
         count,
         talls,
     );
-    store[join::CASES + (talls + 1) * 9216]
+    store[join::case_at(talls + 1, 0, 0)]
 }
 
 // The pose numbers of a cheapest placement, by cell number: both rows traced, then noted one after the other.
@@ -135,7 +136,7 @@ fn find(
     count: usize,
     talls: usize,
 ) -> Found
-    requires { ⌜ Ready (jobOf job) (now line0) (now line1) (now pairs) (now places0) (now places1) n0 n1 count talls × (wordsFor count ≤ length (now store)) × Low (now store) ⌝ }
+    requires { ⌜ Ready (jobOf job) (now line0) (now line1) (now pairs) (now places0) (now places1) n0 n1 count talls × (wordsFor talls count ≤ length (now store)) × Low (now store) ⌝ }
     ensures { λ r. ⌜ Solved (jobOf job) (r .cost) (r .poses) ⌝ }
 {
     let mut poses = [0u32; 64];
@@ -175,12 +176,13 @@ fn find(
     Found { cost, poses }
 }
 
-// How many words of the store a search with so many pairs needs: those up to the end of the prices.
-fn store_words(count: usize) -> usize
-    requires { ⌜ count ≤ 12 ⌝ }
-    ensures { λ r. ⌜ r ≡ wordsFor count ⌝ }
+// How many words of the store a search needs: a page for each pair of the largest table.
+fn store_words(talls: usize, count: usize) -> usize
+    requires { ⌜ wide talls talls count ≤ 12 ⌝ }
+    ensures { λ r. ⌜ r ≡ wordsFor talls count ⌝ }
 {
-    join::PRICES + count * 98304
+    let pages = stage::wide_of(talls, talls, count);
+    join::price_at(0, pages, 0, 0)
 }
 
 // Only the words that are needed are cleared and used.
@@ -196,7 +198,7 @@ pub fn search(job: Job, store: &mut [u32]) -> Found
     let count = pairs::fill_pairs(&mut pairs, job.header.reordering as usize);
     let row0 = fill_row(&mut line0, &mut places0, job, 0);
     let row1 = fill_row(&mut line1, &mut places1, job, 1);
-    let words = store_words(count);
+    let words = store_words(row0.talls, count);
     lanes::clear(&mut store[..words]);
     find(
         &mut store[..words],

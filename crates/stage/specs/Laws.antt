@@ -204,9 +204,9 @@ module _ {line₀ line₁ pairs places₀ places₁ st : List ℕ} {R n₀ n₁ 
     omega (arith, g .long, wide-most talls I count (given-pairs .1)),
   )
 
-  -- there is a word for the state before anything
-  pub given-first : caseAt 0 0 0 < length st
-  given-first = omega (arith, given-wide 0 .2, wide-first talls 0 count refl)
+  -- every table has the case (0, 0, 0)
+  pub given-first : (I : ℕ) → I ≤ 25 → caseAt I 0 0 < length st
+  given-first I h = omega (arith, given-wide 0 .2, wide-first talls 0 count refl)
 
   -- the tables that stage I reads, whatever was written before
   pub given-table : (I : ℕ) (new : List ℕ) → I ≤ talls → length new ≡ length st → Low new → Table (wide talls I count) (wide talls I poses) I new

@@ -13,7 +13,7 @@ ghost use Rattle.join.specs.Tables.{Table};
 ghost use Rattle.stage.specs.Stage.{wide, posIn, priceOf, endFrom, fromAt, Dead, RowPriced, StartPriced, BothPriced, RowGiven, StagesGiven, Right, StageDone, StagesDone};
 
 // How many of x pairs or poses table number i has.
-fn wide_of(talls: usize, i: usize, x: usize) -> usize
+pub fn wide_of(talls: usize, i: usize, x: usize) -> usize
     ensures { λ r. ⌜ r ≡ wide talls i x ⌝ }
 {
     if i == 0 {

@@ -14,7 +14,7 @@ use Rattle.model.specs.Notes.{NotedBy, stage-words}
 use Rattle.lanes.specs.Laws.{frame-join}
 use Rattle.lanes.specs.Store.{Frame, Low}
 use Rattle.deck.specs.Words.{deckOf}
-use Rattle.join.specs.Places.{sourceAt, Pages}
+use Rattle.join.specs.Places.{sourceAt, Pages, case-above}
 use Rattle.join.specs.Tables.{sourcesIn, Way}
 use Rattle.stage.specs.Stage.{wide, posIn, RowGiven, StagesGiven, StagesDone}
 use Rattle.stage.specs.Laws.{wide-all, wide-last, given-pairs, given-wide}
@@ -139,7 +139,7 @@ module _ {D₀ D₁ : Deck} {R talls : ℕ} {pos₀ pos₁ : ℕ → ℕ} {I q�
 -- the tables are kept
 ways-kept : {D₀ D₁ : Deck} {R talls : ℕ} {pos₀ pos₁ : ℕ → ℕ} {old new : List ℕ} → Frame 0 148992 old new → Ways D₀ D₁ R talls pos₀ pos₁ old → Ways D₀ D₁ R talls pos₀ pos₁ new
 unfolding sourcesIn
-ways-kept f w = record { way = λ I q₀ q₁ a h c l. rw (f .high (sourceAt (suc (suc I)) q₀ q₁ + a) (omega arith)) (w .way I q₀ q₁ a h c l) }
+ways-kept f w = record { way = λ I q₀ q₁ a h c l. rw (f .high (sourceAt (suc (suc I)) q₀ q₁ + a) (case-above (suc (suc I)) q₀ q₁ a .1)) (w .way I q₀ q₁ a h c l) }
 
 module _ {line₀ line₁ pairs places₀ places₁ st path₀ path₁ : List ℕ} {R n₀ n₁ poses count talls I q₀ q₁ a : ℕ}
     (g : Trace line₀ line₁ pairs places₀ places₁ st path₀ path₁ R n₀ n₁ poses count talls I q₀ q₁ a)

@@ -1,4 +1,6 @@
 -- The stages leave the least cost as the one case of the last table. Assumes nothing.
+use Prim.Native.Nat.{_+_}
+use Rattle.stage.specs.Laws.{given-first}
 use Rattle.search.specs.Answer.{costed}
 use Rattle.search.specs.Ready.{stages-given, few-talls}
 use mathlib.Core.Path.{refl}
@@ -20,26 +22,21 @@ stages-requires c κs =
     let k = c .before .before .before .before .before .before .before .before .before in
     stages-given (k .pre .0) (c .before .pose-numbers .ensures) (k .pre .1) (k .pre .2)
 
-add-result : tie.Need-add-result
-add-result c =
-    omega (arith, few-talls (c .before .before .before .before .before .before .before .before .before .before .before .before .pre .0))
+add-case-at : tie.Need-add-case-at
+add-case-at c = omega (arith, few-talls (c .before .before .before .before .before .before .before .before .before .before .before .before .pre .0))
+
+case-at-requires : tie.Need-case-at-requires
+case-at-requires c κs = (omega (arith, few-talls (c .before .before .before .before .before .before .before .before .before .before .before .before .pre .0)), omega arith, omega arith)
 
 mul-result : tie.Need-mul-result
-mul-result c =
-    omega (arith, few-talls (c .before .before .before .before .before .before .before .before .before .before .before .before .pre .0))
-
-add-result-2 : tie.Need-add-result-2
-add-result-2 c =
-    omega (arith, few-talls (c .before .before .before .before .before .before .before .before .before .before .before .before .pre .0))
-
-mul-result-2 : tie.Need-mul-result-2
-mul-result-2 c =
-    omega (arith, few-talls (c .before .before .before .before .before .before .before .before .before .before .before .before .pre .0))
+mul-result c = omega (arith, few-talls (c .before .before .before .before .before .before .before .before .before .before .before .before .before .pre .0), c .case-at .ensures)
 
 slice-read-result : tie.Need-slice-read-result
+unfolding jobOf headerOf
 slice-read-result c =
-    let k = c .before .before .before .before .before .before .before .before .before .before .before .before .before in
-    omega (arith, few-talls (k .pre .0), k .pre .1, c .before .before .before .stages .ensures .long)
+    let k = c .before .before .before .before .before .before .before .before .before .before .before .before .before .before in
+    let g = stages-given (k .pre .0) (c .before .before .before .before .before .before .pose-numbers .ensures) (k .pre .1) (k .pre .2) in
+    omega (arith, c .before .case-at .ensures, given-first g (k .args .talls + 1) (omega (arith, few-talls (k .pre .0))), c .before .before .before .before .stages .ensures .long)
 
 same-length : tie.Need-same-length
 same-length c = search needs
@@ -47,8 +44,8 @@ same-length c = search needs
 returns : tie.Need-returns
 unfolding jobOf headerOf
 returns c =
-    let k = c .before .before .before .before .before .before .before .before .before .before .before .before .before .args in
-    costed (jobOf (k .job)) (k .line0 .now) (k .line1 .now) (k .places0 .now) (k .places1 .now) (k .n0) (k .n1) (k .talls) (c .before .before .before .before .before .pose-numbers .ensures) refl (c .before .before .before .stages .ensures)
+    let k = c .before .before .before .before .before .before .before .before .before .before .before .before .before .before .args in
+    costed (jobOf (k .job)) (k .line0 .now) (k .line1 .now) (k .places0 .now) (k .places1 .now) (k .n0) (k .n1) (k .talls) (c .before .before .before .before .before .before .pose-numbers .ensures) (c .before .case-at .ensures) refl (c .before .before .before .before .stages .ensures)
 
 pub least-cost-spec : {M : Type 1} → statement M
 least-cost-spec =
@@ -57,10 +54,9 @@ least-cost-spec =
     cast-r
     pose-numbers-requires
     stages-requires
-    add-result
+    add-case-at
+    case-at-requires
     mul-result
-    add-result-2
-    mul-result-2
     slice-read-result
     same-length
     returns)

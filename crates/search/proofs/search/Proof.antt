@@ -6,6 +6,7 @@ use lib.ListN.{length}
 use lib.Seq.{length-take-le}
 use native.Mathlib.Omega.{arith}
 use Rattle.job.specs.Value.{headerOf, jobOf}
+use Rattle.stage.specs.Laws.{wide-low}
 use Rattle.search.specs.Words.{words-lent, zeros-low, again-room, again-long, again-low}
 use Rattle.search.specs.Ready.{ready}
 use borrow.Author.Needs.{needs}
@@ -23,7 +24,7 @@ has-words : (c : tie.After-store-words) → words c ≤ length (lent c)
 unfolding jobOf headerOf
 has-words c =
     let k = c .before .before .before .before .before .before .before .before .before .before .before .before .before .before .before .before .pre in
-    omega (arith, c .store-words .ensures, words-lent (k .sound .header .reordering) (c .before .before .before .before .before .before .before .before .before .before .before .before .fill-pairs .ensures), k .long)
+    omega (arith, c .store-words .ensures, words-lent (c .before .before .before .before .before .before .before .before .fill-row .result .talls) (k .sound .header .reordering) (c .before .before .before .before .before .before .before .before .before .before .before .before .fill-pairs .ensures), k .long)
 
 slice-aggregate-fill-pairs : tie.Need-slice-aggregate-fill-pairs
 slice-aggregate-fill-pairs c = search needs
@@ -59,7 +60,10 @@ fill-row-requires-2 c κs =
     (k .sound, k .few, omega arith, omega arith, zeros-low 8192, omega arith)
 
 store-words-requires : tie.Need-store-words-requires
-store-words-requires c κs = search needs
+store-words-requires c κs =
+    let talls = c .before .before .before .before .before .before .before .fill-row .result .talls in
+    let pairs = c .before .before .before .before .before .before .before .before .before .before .before .fill-pairs in
+    wide-low talls talls (pairs .result) 12 (omega arith) (omega (arith, pairs .ensures .all, pairs .ensures .coded .few))
 
 slice-relend-prefix-clear : tie.Need-slice-relend-prefix-clear
 slice-relend-prefix-clear c = has-words c

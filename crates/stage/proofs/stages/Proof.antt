@@ -25,13 +25,13 @@ mul-store c = omega (arith, c .case-at .ensures)
 slice-write-store : tie.Need-slice-write-store Inv-loop μ-loop
 slice-write-store c =
     let k = c .before .before .before .before .before .before .before in
-    omega (arith, c .case-at .ensures, given-first (k .pre))
+    omega (arith, c .case-at .ensures, given-first (k .pre) 0 (omega arith))
 
 loop-holds : tie.Need-loop-holds Inv-loop μ-loop
 loop-holds c =
     let k = c .before .before .before .before .before .before .before in
     let a = k .args in
-    (omega arith, through-none (deckOf (a .line0 .now) (a .n0) (a .poses)) (deckOf (a .line1 .now) (a .n1) (a .poses)) (a .r) (a .talls) (posIn (a .places0 .now)) (posIn (a .places1 .now)) _ (c .case-at .ensures) (k .pre .low) (omega (arith, c .case-at .ensures, given-first (k .pre))))
+    (omega arith, through-none (deckOf (a .line0 .now) (a .n0) (a .poses)) (deckOf (a .line1 .now) (a .n1) (a .poses)) (a .r) (a .talls) (posIn (a .places0 .now)) (posIn (a .places1 .now)) _ (c .case-at .ensures) (k .pre .low) (omega (arith, c .case-at .ensures, given-first (k .pre) 0 (omega arith))))
 
 stage-requires : tie.Need-stage-requires Inv-loop μ-loop
 stage-requires c κs =
