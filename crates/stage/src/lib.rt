@@ -8,6 +8,7 @@ ghost use lib.ListN.{length};
 ghost use Rattle.lanes.specs.Store.{Low, Written};
 ghost use Rattle.deck.specs.Words.{backIn, deckOf, LineWords, PairWords};
 ghost use Rattle.layer.specs.Loops.{Given};
+ghost use Rattle.near.specs.Table.{Lent};
 ghost use Rattle.stretch.specs.Runs.{PriceRoom};
 ghost use Rattle.join.specs.Tables.{Table};
 ghost use Rattle.stage.specs.Stage.{wide, posIn, priceOf, endFrom, fromAt, Dead, RowPriced, StartPriced, BothPriced, RowGiven, StagesGiven, Right, StageDone, StagesDone};
@@ -52,6 +53,7 @@ fn backs(starts: &mut [u32; 64], line: &[u32], p: usize, poses: usize)
 
 // On from the layer in block 0, which has `cells` cells, to tall cell i or the row's end; `starts` has what the start of each lane pays as the last.
 fn stage_end(
+    table: &mut [u32; 6080],
     store: &mut [u32],
     line: &[u32],
     pairs: &[u32],
@@ -67,12 +69,13 @@ fn stage_end(
     cells: usize,
     prices: usize,
 )
-    requires { ⌜ RowGiven (now line) (now pairs) (now places) r n poses count talls × Given (now line) (now pairs) (now store) n poses r count lanes cells 0 × PriceRoom (now store) prices × Low (now starts) × (length (now starts) ≡ 64) ⌝ }
-    ensures { λ _. ⌜ RowPriced (endFrom (deckOf (now (line .entry)) n poses) r talls (posIn (now (places .entry))) i (now (store .entry)) cells (now (starts .entry))) lanes (wide talls (suc i) count) (wide talls (suc i) poses) prices (now (store .entry)) (now (store .exit)) ⌝ }
+    requires { ⌜ Lent (now table) × RowGiven (now line) (now pairs) (now places) r n poses count talls × Given (now line) (now pairs) (now store) n poses r count lanes cells 0 × PriceRoom (now store) prices × Low (now starts) × (length (now starts) ≡ 64) ⌝ }
+    ensures { λ _. ⌜ RowPriced (endFrom (deckOf (now (line .entry)) n poses) r talls (posIn (now (places .entry))) i (now (store .entry)) cells (now (starts .entry))) lanes (wide talls (suc i) count) (wide talls (suc i) poses) prices (now (store .entry)) (now (store .exit)) × Lent (now (table .exit)) ⌝ }
 {
     if i < talls {
         let p = deck::word(places, i);
         stretch::stretch_to(
+            table,
             store,
             line,
             pairs,
@@ -88,6 +91,7 @@ fn stage_end(
         return;
     }
     finish::stretch_end(
+        table,
         store,
         line,
         pairs,
@@ -112,6 +116,7 @@ fn width_of(poses: usize) -> usize
 
 // The prices of stage i in a row from start pair s, to the block at `prices`.
 fn row_price(
+    table: &mut [u32; 6080],
     store: &mut [u32],
     line: &[u32],
     pairs: &[u32],
@@ -125,13 +130,14 @@ fn row_price(
     s: usize,
     prices: usize,
 )
-    requires { ⌜ RowGiven (now line) (now pairs) (now places) r n poses count talls × Low (now store) × PriceRoom (now store) prices × (i ≤ talls) × (s < wide talls i count) ⌝ }
-    ensures { λ _. ⌜ RowPriced (priceOf (deckOf (now (line .entry)) n poses) r talls (posIn (now (places .entry))) i s) (wide talls i poses) (wide talls (suc i) count) (wide talls (suc i) poses) prices (now (store .entry)) (now (store .exit)) ⌝ }
+    requires { ⌜ Lent (now table) × RowGiven (now line) (now pairs) (now places) r n poses count talls × Low (now store) × PriceRoom (now store) prices × (i ≤ talls) × (s < wide talls i count) ⌝ }
+    ensures { λ _. ⌜ RowPriced (priceOf (deckOf (now (line .entry)) n poses) r talls (posIn (now (places .entry))) i s) (wide talls i poses) (wide talls (suc i) count) (wide talls (suc i) poses) prices (now (store .entry)) (now (store .exit)) × Lent (now (table .exit)) ⌝ }
 {
     let mut starts = [0u32; 64];
     if i == 0 {
         first::open_layer(store, line, pairs, n, poses, r, count, 0);
         stage_end(
+            table,
             store,
             line,
             pairs,
@@ -153,6 +159,7 @@ fn row_price(
     let placed = placed_with(pairs, r, p, s);
     let width = width_of(poses);
     first::first_layer(
+        table,
         store,
         line,
         pairs,
@@ -169,6 +176,7 @@ fn row_price(
     );
     backs(&mut starts, line, p, poses);
     stage_end(
+        table,
         store,
         line,
         pairs,
@@ -214,6 +222,7 @@ fn live(store: &[u32], row: usize, i: usize, starts: usize, lanes: usize, s: usi
 
 // The prices of stage i in a row from start pair s, if some case goes from it.
 fn price_start(
+    table: &mut [u32; 6080],
     store: &mut [u32],
     row: usize,
     line: &[u32],
@@ -227,8 +236,8 @@ fn price_start(
     i: usize,
     s: usize,
 )
-    requires { ⌜ RowGiven (now line) (now pairs) (now places) r n poses count talls × Table (wide talls i count) (wide talls i poses) i (now store) × (row ≤ 1) × (i ≤ talls) × (s < wide talls i count) ⌝ }
-    ensures { λ _. ⌜ StartPriced row (priceOf (deckOf (now (line .entry)) n poses) r talls (posIn (now (places .entry))) i) i (wide talls i count) (wide talls i poses) (wide talls (suc i) count) (wide talls (suc i) poses) s (now (store .entry)) (now (store .exit)) ⌝ }
+    requires { ⌜ Lent (now table) × RowGiven (now line) (now pairs) (now places) r n poses count talls × Table (wide talls i count) (wide talls i poses) i (now store) × (row ≤ 1) × (i ≤ talls) × (s < wide talls i count) ⌝ }
+    ensures { λ _. ⌜ StartPriced row (priceOf (deckOf (now (line .entry)) n poses) r talls (posIn (now (places .entry))) i) i (wide talls i count) (wide talls i poses) (wide talls (suc i) count) (wide talls (suc i) poses) s (now (store .entry)) (now (store .exit)) × Lent (now (table .exit)) ⌝ }
 {
     let starts = wide_of(talls, i, count);
     let lanes = wide_of(talls, i, poses);
@@ -237,6 +246,7 @@ fn price_start(
     }
     let prices = join::price_at(row, s, 0, 0);
     row_price(
+        table,
         store,
         line,
         pairs,
@@ -254,6 +264,7 @@ fn price_start(
 
 // The prices of stage i in both rows, from every start pair.
 fn prices(
+    table: &mut [u32; 6080],
     store: &mut [u32],
     line0: &[u32],
     line1: &[u32],
@@ -268,13 +279,14 @@ fn prices(
     talls: usize,
     i: usize,
 )
-    requires { ⌜ StagesGiven (now line0) (now line1) (now pairs) (now places0) (now places1) (now store) r n0 n1 poses count talls × (i ≤ talls) ⌝ }
-    ensures { λ _. ⌜ BothPriced (priceOf (deckOf (now (line0 .entry)) n0 poses) r talls (posIn (now (places0 .entry))) i) (priceOf (deckOf (now (line1 .entry)) n1 poses) r talls (posIn (now (places1 .entry))) i) i (wide talls i count) (wide talls i poses) (wide talls (suc i) count) (wide talls (suc i) poses) (wide talls i count) (now (store .entry)) (now (store .exit)) ⌝ }
+    requires { ⌜ Lent (now table) × StagesGiven (now line0) (now line1) (now pairs) (now places0) (now places1) (now store) r n0 n1 poses count talls × (i ≤ talls) ⌝ }
+    ensures { λ _. ⌜ BothPriced (priceOf (deckOf (now (line0 .entry)) n0 poses) r talls (posIn (now (places0 .entry))) i) (priceOf (deckOf (now (line1 .entry)) n1 poses) r talls (posIn (now (places1 .entry))) i) i (wide talls i count) (wide talls i poses) (wide talls (suc i) count) (wide talls (suc i) poses) (wide talls i count) (now (store .entry)) (now (store .exit)) × Lent (now (table .exit)) ⌝ }
 {
     let starts = wide_of(talls, i, count);
     let mut s: usize = 0;
     while s < starts {
         price_start(
+            table,
             store,
             0,
             line0,
@@ -289,6 +301,7 @@ fn prices(
             s,
         );
         price_start(
+            table,
             store,
             1,
             line1,
@@ -308,6 +321,7 @@ fn prices(
 
 // Stage i: case table number i + 1 from table number i.
 pub fn stage(
+    table: &mut [u32; 6080],
     store: &mut [u32],
     line0: &[u32],
     line1: &[u32],
@@ -322,10 +336,11 @@ pub fn stage(
     talls: usize,
     i: usize,
 )
-    requires { ⌜ StagesGiven (now line0) (now line1) (now pairs) (now places0) (now places1) (now store) r n0 n1 poses count talls × (i ≤ talls) × Right (deckOf (now line0) n0 poses) (deckOf (now line1) n1 poses) r talls (posIn (now places0)) (posIn (now places1)) i (now store) ⌝ }
-    ensures { λ _. ⌜ StageDone (deckOf (now (line0 .entry)) n0 poses) (deckOf (now (line1 .entry)) n1 poses) r talls (posIn (now (places0 .entry))) (posIn (now (places1 .entry))) i (now (store .entry)) (now (store .exit)) ⌝ }
+    requires { ⌜ Lent (now table) × StagesGiven (now line0) (now line1) (now pairs) (now places0) (now places1) (now store) r n0 n1 poses count talls × (i ≤ talls) × Right (deckOf (now line0) n0 poses) (deckOf (now line1) n1 poses) r talls (posIn (now places0)) (posIn (now places1)) i (now store) ⌝ }
+    ensures { λ _. ⌜ StageDone (deckOf (now (line0 .entry)) n0 poses) (deckOf (now (line1 .entry)) n1 poses) r talls (posIn (now (places0 .entry))) (posIn (now (places1 .entry))) i (now (store .entry)) (now (store .exit)) × Lent (now (table .exit)) ⌝ }
 {
     prices(
+        table,
         store,
         line0,
         line1,
@@ -365,10 +380,12 @@ pub fn stages(
     requires { ⌜ StagesGiven (now line0) (now line1) (now pairs) (now places0) (now places1) (now store) r n0 n1 poses count talls ⌝ }
     ensures { λ _. ⌜ StagesDone (deckOf (now (line0 .entry)) n0 poses) (deckOf (now (line1 .entry)) n1 poses) r talls (posIn (now (places0 .entry))) (posIn (now (places1 .entry))) (now (store .entry)) (now (store .exit)) ⌝ }
 {
+    let mut table = [0u32; 6080];
     store[join::case_at(0, 0, 0)] = 0;
     let mut i: usize = 0;
     while i <= talls {
         stage(
+            &mut table,
             store,
             line0,
             line1,

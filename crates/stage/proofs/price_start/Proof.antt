@@ -19,7 +19,7 @@ wide-of-requires-2 c κs = search needs
 live-requires : tie.Need-live-requires
 live-requires c κs =
     let k = c .before .before .before .before .before .before .before in
-    (rw (c .before .before .wide-of .ensures, c .before .wide-of2 .ensures) (k .pre .1), omega (arith, c .before .before .wide-of .ensures))
+    (rw (c .before .before .wide-of .ensures, c .before .wide-of2 .ensures) (k .pre .2), omega (arith, c .before .before .wide-of .ensures))
 
 same-length : tie.Need-same-length
 same-length c = search needs
@@ -28,26 +28,26 @@ returns : tie.Need-returns
 returns c =
     let k = c .before .before .before .before .before .before .before .before .before in
     let d = c .before .live .ensures (not-true _ (c .if1 .taken)) in
-    start-dead (k .pre .1 .low) (rw (c .before .before .before .before .wide-of .ensures, c .before .before .before .wide-of2 .ensures) at d)
+    (start-dead (k .pre .2 .low) (rw (c .before .before .before .before .wide-of .ensures, c .before .before .before .wide-of2 .ensures) at d), k .pre .0)
 
 price-at-requires : tie.Need-price-at-requires
 price-at-requires c κs = search needs
 
 row-price-requires : tie.Need-row-price-requires
 row-price-requires c κs =
-    let k = c .before .before .before .before .before .before .before .before .before .before .before in
-    let w = k .pre .1 in
-    (k .pre .0, w .low, record { over = omega (arith, c .before .price-at .ensures); room = omega (arith, w .long, c .before .price-at .ensures) }, k .pre .3, k .pre .4)
+    let k = c .before .before .before .before .before .before .before .before .before .before .before .before in
+    let w = k .pre .2 in
+    (k .pre .0, k .pre .1, w .low, record { over = omega (arith, c .before .before .price-at .ensures); room = omega (arith, w .long, c .before .before .price-at .ensures) }, k .pre .4, k .pre .5)
 
 same-length-2 : tie.Need-same-length-2
 same-length-2 c = search needs
 
 returns-2 : tie.Need-returns-2
 returns-2 c =
-    let k = c .before .before .before .before .before .before .before .before .before .before .before .before .before .before in
+    let k = c .before .before .before .before .before .before .before .before .before .before .before .before .before .before .before in
     let a = k .args in
-    let e : c .before .before .before .before .price-at .result ≡ pricesAt (a .row) (a .s) = omega (arith, c .before .before .before .before .price-at .ensures) in
-    start-live (a .row) (a .s) _ (priceOf (deckOf (a .line .now) (a .n) (a .poses)) (a .r) (a .talls) (posIn (a .places .now)) (a .i)) e (c .before .before .row-price .ensures)
+    let e : c .before .before .before .before .before .price-at .result ≡ pricesAt (a .row) (a .s) = omega (arith, c .before .before .before .before .before .price-at .ensures) in
+    (start-live (a .row) (a .s) _ (priceOf (deckOf (a .line .now) (a .n) (a .poses)) (a .r) (a .talls) (posIn (a .places .now)) (a .i)) e (c .before .before .row-price .ensures .0), c .before .before .row-price .ensures .1)
 
 pub price-start-spec : {M : Type 1} → statement M
 price-start-spec =

@@ -15,11 +15,12 @@ open-layer-requires c κs = search needs
 
 stage-end-requires : tie.Need-stage-end-requires
 stage-end-requires c κs =
-    let k = c .before .before .before .before .before .before .before .before .before .before .before in
-    let f = c .before .before .before .before .open-layer .ensures in
-    let r = k .pre .2 in (
+    let k = c .before .before .before .before .before .before .before .before .before .before .before .before in
+    let f = c .before .before .before .before .before .open-layer .ensures in
+    let r = k .pre .3 in (
       k .pre .0,
-      record { ground = k .pre .0 .ground; low = f .low; narrow = omega arith; early = omega arith; room = omega (arith, r .over, r .room, f .frame .long) },
+      k .pre .1,
+      record { ground = k .pre .1 .ground; low = f .low; narrow = omega arith; early = omega arith; room = omega (arith, r .over, r .room, f .frame .long) },
       record { over = r .over; room = omega (arith, r .room, f .frame .long) },
       zeros-low 64,
       refl,
@@ -30,10 +31,12 @@ same-length c = search needs
 
 returns : tie.Need-returns
 returns c =
-    let k = c .before .before .before .before .before .before .before .before .before .before .before .before .before .before in
-    let a = k .args in
-    row-open (deckOf (a .line .now) (a .n) (a .poses)) (a .r) (a .talls) (posIn (a .places .now)) (a .count) (a .s) (replicate 64 0) (c .before .before .before .before .before .before .before .before .before .if1 .taken) (k .pre .0 .ground .all) refl
-    (c .before .before .before .before .before .before .before .open-layer .ensures) (c .before .before .stage-end .ensures)
+    let k = c .before .before .before .before .before .before .before .before .before .before .before .before .before .before .before in
+    let a = k .args in (
+      row-open (deckOf (a .line .now) (a .n) (a .poses)) (a .r) (a .talls) (posIn (a .places .now)) (a .count) (a .s) (replicate 64 0) (c .before .before .before .before .before .before .before .before .before .before .if1 .taken) (k .pre .1 .ground .all) refl
+          (c .before .before .before .before .before .before .before .before .open-layer .ensures) (c .before .before .stage-end .ensures .0),
+      c .before .before .stage-end .ensures .1,
+    )
 
 sub-word : tie.Need-sub-word
 sub-word c = search needs
@@ -44,22 +47,23 @@ word-requires c κs = search needs
 placed-with-requires : tie.Need-placed-with-requires
 placed-with-requires c κs =
     let k = c .before .before .before .before .before .before in
-    let s = start-pair (k .args .talls) (k .args .i) (k .args .count) (k .args .s) (k .pre .4) (c .before .if1 .left) (k .pre .3) in
-    (k .pre .0 .ground .coded, omega (arith, k .pre .0 .ground .all), start-place (k .args .i) (c .word .result) (k .pre .0) (c .before .if1 .left) (k .pre .3) (c .word .ensures))
+    let s = start-pair (k .args .talls) (k .args .i) (k .args .count) (k .args .s) (k .pre .5) (c .before .if1 .left) (k .pre .4) in
+    (k .pre .1 .ground .coded, omega (arith, k .pre .1 .ground .all), start-place (k .args .i) (c .word .result) (k .pre .1) (c .before .if1 .left) (k .pre .4) (c .word .ensures))
 
 width-of-requires : tie.Need-width-of-requires
 width-of-requires c κs =
     let k = c .before .before .before .before .before .before .before in
-    k .pre .0 .ground .few
+    k .pre .1 .ground .few
 
 first-layer-requires : tie.Need-first-layer-requires
 first-layer-requires c κs =
-    let k = c .before .before .before .before .before .before .before .before .before in
-    let g = k .pre .0 .ground in
-    let s = start-pair (k .args .talls) (k .args .i) (k .args .count) (k .args .s) (k .pre .4) (c .before .before .before .before .if1 .left) (k .pre .3) in
-    let p = start-place (k .args .i) (c .before .before .before .word .result) (k .pre .0) (c .before .before .before .before .if1 .left) (k .pre .3) (c .before .before .before .word .ensures) in
-    let r = k .pre .2 in (
-      record { ground = g; low = k .pre .1; narrow = omega (arith, g .few); early = omega (arith, c .before .before .placed-with .ensures, g .coded .reorder); room = omega (arith, r .over, r .room) },
+    let k = c .before .before .before .before .before .before .before .before .before .before in
+    let g = k .pre .1 .ground in
+    let s = start-pair (k .args .talls) (k .args .i) (k .args .count) (k .args .s) (k .pre .5) (c .before .before .before .before .before .if1 .left) (k .pre .4) in
+    let p = start-place (k .args .i) (c .before .before .before .before .word .result) (k .pre .1) (c .before .before .before .before .before .if1 .left) (k .pre .4) (c .before .before .before .before .word .ensures) in
+    let r = k .pre .3 in (
+      k .pre .0,
+      record { ground = g; low = k .pre .2; narrow = omega (arith, g .few); early = omega (arith, c .before .before .before .placed-with .ensures, g .coded .reorder); room = omega (arith, r .over, r .room) },
       p,
       omega (arith, g .few),
       s,
@@ -67,26 +71,27 @@ first-layer-requires c κs =
 
 backs-requires : tie.Need-backs-requires
 backs-requires c κs =
-    let k = c .before .before .before .before .before .before .before .before .before .before .before .before .before in
-    let g = k .pre .0 .ground in
-    (g .row, zeros-low 64, refl, start-place (k .args .i) (c .before .before .before .before .before .before .before .word .result) (k .pre .0) (c .before .before .before .before .before .before .before .before .if1 .left) (k .pre .3) (c .before .before .before .before .before .before .before .word .ensures), g .few)
+    let k = c .before .before .before .before .before .before .before .before .before .before .before .before .before .before in
+    let g = k .pre .1 .ground in
+    (g .row, zeros-low 64, refl, start-place (k .args .i) (c .before .before .before .before .before .before .before .before .word .result) (k .pre .1) (c .before .before .before .before .before .before .before .before .before .if1 .left) (k .pre .4) (c .before .before .before .before .before .before .before .before .word .ensures), g .few)
 
 add-stage-end : tie.Need-add-stage-end
 add-stage-end c =
-    let k = c .before .before .before .before .before .before .before .before .before .before .before .before .before .before .before .before in
-    let p = start-place (k .args .i) (c .before .before .before .before .before .before .before .before .before .before .word .result) (k .pre .0) (c .before .before .before .before .before .before .before .before .before .before .before .if1 .left) (k .pre .3) (c .before .before .before .before .before .before .before .before .before .before .word .ensures) in
-    omega (arith, c .before .before .before .before .before .before .before .before .before .placed-with .ensures, k .pre .0 .ground .coded .reorder)
+    let k = c .before .before .before .before .before .before .before .before .before .before .before .before .before .before .before .before .before .before in
+    let p = start-place (k .args .i) (c .before .before .before .before .before .before .before .before .before .before .before .before .word .result) (k .pre .1) (c .before .before .before .before .before .before .before .before .before .before .before .before .before .if1 .left) (k .pre .4) (c .before .before .before .before .before .before .before .before .before .before .before .before .word .ensures) in
+    omega (arith, c .before .before .before .before .before .before .before .before .before .before .before .placed-with .ensures, k .pre .1 .ground .coded .reorder)
 
 stage-end-requires-2 : tie.Need-stage-end-requires-2
 stage-end-requires-2 c κs =
-    let k = c .before .before .before .before .before .before .before .before .before .before .before .before .before .before .before .before in
-    let g = k .pre .0 .ground in
-    let p = start-place (k .args .i) (c .before .before .before .before .before .before .before .before .before .before .word .result) (k .pre .0) (c .before .before .before .before .before .before .before .before .before .before .before .if1 .left) (k .pre .3) (c .before .before .before .before .before .before .before .before .before .before .word .ensures) in
-    let f = c .before .before .before .before .before .before .first-layer .ensures in
-    let b = c .before .before .backs .ensures in
-    let r = k .pre .2 in (
-      k .pre .0,
-      record { ground = g; low = f .low; narrow = omega (arith, g .few); early = omega (arith, c .before .before .before .before .before .before .before .before .before .placed-with .ensures, g .coded .reorder); room = omega (arith, r .over, r .room, f .frame .long) },
+    let k = c .before .before .before .before .before .before .before .before .before .before .before .before .before .before .before .before .before .before in
+    let g = k .pre .1 .ground in
+    let p = start-place (k .args .i) (c .before .before .before .before .before .before .before .before .before .before .before .before .word .result) (k .pre .1) (c .before .before .before .before .before .before .before .before .before .before .before .before .before .if1 .left) (k .pre .4) (c .before .before .before .before .before .before .before .before .before .before .before .before .word .ensures) in
+    let f = c .before .before .before .before .before .before .before .first-layer .ensures .0 in
+    let b = c .before .before .before .backs .ensures in
+    let r = k .pre .3 in (
+      c .before .before .before .before .before .before .before .first-layer .ensures .1,
+      k .pre .1,
+      record { ground = g; low = f .low; narrow = c .before .before .before .before .before .before .before .before .before .before .width-of .ensures .1; early = omega (arith, c .before .before .before .before .before .before .before .before .before .before .before .placed-with .ensures, g .coded .reorder); room = omega (arith, r .over, r .room, f .frame .long) },
       record { over = r .over; room = omega (arith, r .room, f .frame .long) },
       b .low,
       b .frame .long,
@@ -98,13 +103,15 @@ same-length-2 c = search needs
 returns-2 : tie.Need-returns-2
 unfolding posIn
 returns-2 c =
-    let k = c .before .before .before .before .before .before .before .before .before .before .before .before .before .before .before .before .before .before .before in
-    let a = k .args in
-    row-after (deckOf (a .line .now) (a .n) (a .poses)) (a .r) (a .talls) (posIn (a .places .now)) (a .i) (a .i - 1) (a .count) (a .s)
-    (c .before .before .before .before .before .before .before .before .before .before .before .before .before .word .result) (c .before .before .before .before .before .before .before .before .before .before .before .before .placed-with .result) (c .before .before .before .before .before .backs .last .0) (omega (arith, c .before .before .before .before .before .before .before .before .before .before .before .before .before .before .if1 .left)) (k .pre .3) (c .before .before .before .before .before .before .before .before .before .before .before .width-of .ensures .0) (k .pre .0 .ground .all)
-    (c .before .before .before .before .before .before .before .before .before .before .before .before .before .word .ensures) (c .before .before .before .before .before .before .before .before .before .before .before .before .placed-with .ensures)
-    (λ l h. let z : 0 + l ≡ l = omega arith in rw z at (c .before .before .before .before .before .backs .ensures .words l h))
-    (c .before .before .before .before .before .before .before .before .before .first-layer .ensures) (c .before .before .stage-end2 .ensures)
+    let k = c .before .before .before .before .before .before .before .before .before .before .before .before .before .before .before .before .before .before .before .before .before in
+    let a = k .args in (
+      row-after (deckOf (a .line .now) (a .n) (a .poses)) (a .r) (a .talls) (posIn (a .places .now)) (a .i) (a .i - 1) (a .count) (a .s)
+          (c .before .before .before .before .before .before .before .before .before .before .before .before .before .before .before .word .result) (c .before .before .before .before .before .before .before .before .before .before .before .before .before .before .placed-with .result) (c .before .before .before .before .before .before .backs .last .0) (omega (arith, c .before .before .before .before .before .before .before .before .before .before .before .before .before .before .before .before .if1 .left)) (k .pre .4) (c .before .before .before .before .before .before .before .before .before .before .before .before .before .width-of .ensures .0) (k .pre .1 .ground .all)
+          (c .before .before .before .before .before .before .before .before .before .before .before .before .before .before .before .word .ensures) (c .before .before .before .before .before .before .before .before .before .before .before .before .before .before .placed-with .ensures)
+          (λ l h. let z : 0 + l ≡ l = omega arith in rw z at (c .before .before .before .before .before .before .backs .ensures .words l h))
+          (c .before .before .before .before .before .before .before .before .before .before .first-layer .ensures .0) (c .before .before .stage-end2 .ensures .0),
+      c .before .before .stage-end2 .ensures .1,
+    )
 
 pub row-price-spec : {M : Type 1} → statement M
 row-price-spec =

@@ -32,11 +32,11 @@ wide-of-requires-4 c κs = search needs
 
 join-stage-requires : tie.Need-join-stage-requires
 join-stage-requires c κs =
-    let k = c .before .before .before .before .before .before .before .before .before .before .before .before .before .before .before in
-    let g = k .pre .0 in
+    let k = c .before .before .before .before .before .before .before .before .before .before .before .before .before .before .before .before in
+    let g = k .pre .1 in
     let x = given-wide g (k .args .i + 1) in
-    let p = c .before .before .before .before .before .before .before .prices .ensures in (
-      rw (c .before .before .before .before .wide-of .ensures, c .before .before .before .wide-of2 .ensures) (given-table g (k .args .i) _ (k .pre .1) (p .long) (p .low)),
+    let p = c .before .before .before .before .before .before .before .prices .ensures .0 in (
+      rw (c .before .before .before .before .wide-of .ensures, c .before .before .before .wide-of2 .ensures) (given-table g (k .args .i) _ (k .pre .2) (p .long) (p .low)),
       omega (arith, c .before .before .wide-of3 .ensures, x .2, p .long),
       omega (arith, c .before .before .wide-of3 .ensures, x .0),
       omega (arith, c .before .wide-of4 .ensures, x .1),
@@ -44,19 +44,21 @@ join-stage-requires c κs =
 
 same-length : tie.Need-same-length
 same-length c =
-    c .before .before .join-stage .ensures .long ∙ c .before .before .before .before .before .before .before .before .before .before .prices .ensures .long
+    c .before .before .join-stage .ensures .long ∙ c .before .before .before .before .before .before .before .before .before .before .prices .ensures .0 .long
 
 returns : tie.Need-returns
 returns c =
-    let k = c .before .before .before .before .before .before .before .before .before .before .before .before .before .before .before .before .before .before in
+    let k = c .before .before .before .before .before .before .before .before .before .before .before .before .before .before .before .before .before .before .before in
     let a = k .args in
-    let g = k .pre .0 in
+    let g = k .pre .1 in
     let n = given-pairs g in
-    let all = g .row₀ .ground .all in
-    stage-made (deckOf (a .line0 .now) (a .n0) (a .poses)) (deckOf (a .line1 .now) (a .n1) (a .poses)) (a .r) (a .talls) (posIn (a .places0 .now)) (posIn (a .places1 .now))
-    (omega (arith, all, n .0)) (omega (arith, all, n .1)) (n .2) (a .i) (a .count) _ _ _ _
-    (c .before .before .before .before .before .before .before .wide-of .ensures) (c .before .before .before .before .before .before .wide-of2 .ensures) (c .before .before .before .before .before .wide-of3 .ensures) (c .before .before .before .before .wide-of4 .ensures)
-    all (k .pre .1) (n .3) (k .pre .2) (c .before .before .before .before .before .before .before .before .before .before .prices .ensures) (c .before .before .join-stage .ensures)
+    let all = g .row₀ .ground .all in (
+      stage-made (deckOf (a .line0 .now) (a .n0) (a .poses)) (deckOf (a .line1 .now) (a .n1) (a .poses)) (a .r) (a .talls) (posIn (a .places0 .now)) (posIn (a .places1 .now))
+          (omega (arith, all, n .0)) (omega (arith, all, n .1)) (n .2) (a .i) (a .count) _ _ _ _
+          (c .before .before .before .before .before .before .before .wide-of .ensures) (c .before .before .before .before .before .before .wide-of2 .ensures) (c .before .before .before .before .before .wide-of3 .ensures) (c .before .before .before .before .wide-of4 .ensures)
+          all (k .pre .2) (n .3) (k .pre .3) (c .before .before .before .before .before .before .before .before .before .before .prices .ensures .0) (c .before .before .join-stage .ensures),
+      c .before .before .before .before .before .before .before .before .before .before .prices .ensures .1,
+    )
 
 pub stage-spec : {M : Type 1} → statement M
 stage-spec =

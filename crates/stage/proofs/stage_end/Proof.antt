@@ -13,9 +13,9 @@ word-requires c κs = search needs
 stretch-to-requires : tie.Need-stretch-to-requires
 unfolding posIn
 stretch-to-requires c κs =
-    let k = c .before .before .before .before .before .before .before in
-    let g = k .pre .0 in
-    (k .pre .1, k .pre .2, omega (arith, c .before .word .ensures, g .inside (k .args .i) (c .before .before .if1 .taken), g .ground .size))
+    let k = c .before .before .before .before .before .before .before .before in
+    let g = k .pre .1 in
+    (k .pre .0, k .pre .2, k .pre .3, omega (arith, c .before .before .word .ensures, g .inside (k .args .i) (c .before .before .before .if1 .taken), g .ground .size))
 
 same-length : tie.Need-same-length
 same-length c = search needs
@@ -23,9 +23,9 @@ same-length c = search needs
 returns : tie.Need-returns
 unfolding posIn
 returns c =
-    let k = c .before .before .before .before .before .before .before .before .before .before in
+    let k = c .before .before .before .before .before .before .before .before .before .before .before in
     let a = k .args in
-    row-tall (deckOf (a .line .now) (a .n) (a .poses)) (a .r) (a .talls) (posIn (a .places .now)) (a .starts .now) (c .before .before .before .before .before .if1 .taken) (k .pre .0 .ground .all) (c .before .before .before .before .word .ensures) (c .before .before .stretch-to .ensures)
+    (row-tall (deckOf (a .line .now) (a .n) (a .poses)) (a .r) (a .talls) (posIn (a .places .now)) (a .starts .now) (c .before .before .before .before .before .before .if1 .taken) (k .pre .1 .ground .all) (c .before .before .before .before .before .word .ensures) (c .before .before .stretch-to .ensures .0), c .before .before .stretch-to .ensures .1)
 
 stretch-end-requires : tie.Need-stretch-end-requires
 stretch-end-requires c κs = search needs
@@ -35,9 +35,9 @@ same-length-2 c = search needs
 
 returns-2 : tie.Need-returns-2
 returns-2 c =
-    let k = c .before .before .before .before .before .before .before .before .before in
+    let k = c .before .before .before .before .before .before .before .before .before .before in
     let a = k .args in
-    row-last (deckOf (a .line .now) (a .n) (a .poses)) (a .r) (a .talls) (posIn (a .places .now)) (a .count) (c .before .before .before .before .if1 .left) (c .before .before .stretch-end .ensures)
+    (row-last (deckOf (a .line .now) (a .n) (a .poses)) (a .r) (a .talls) (posIn (a .places .now)) (a .count) (c .before .before .before .before .before .if1 .left) (c .before .before .stretch-end .ensures .0), c .before .before .stretch-end .ensures .1)
 
 pub stage-end-spec : {M : Type 1} → statement M
 stage-end-spec =

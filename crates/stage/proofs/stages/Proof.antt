@@ -3,6 +3,8 @@ use Prim.Native.Nat.{suc, _-_, _≤_}
 use mathlib.Core.Path.{_∙_}
 use lib.ListN.{length-set}
 use Rattle.deck.specs.Words.{deckOf}
+use Rattle.near.specs.Table.{Lent}
+use Rattle.near.specs.TableLaws.{lent-zeros}
 use Rattle.stage.specs.Stage.{posIn, Through}
 use Rattle.stage.specs.Laws.{through-none, through-more, through-all, given-pairs, given-first}
 use native.Mathlib.Omega.{arith}
@@ -10,11 +12,11 @@ use Rattle.stage.proofs.stages.Statement.{statement}
 use Rattle.stage.proofs.stages.Tie as tie
 
 abbrev Inv-loop : tie.InvT-loop
-Inv-loop store₀ line0 line1 pairs places0 places1 n0 n1 poses r count talls i₀ store i =
-    (i ≤ suc talls) × Through (deckOf line0 n0 poses) (deckOf line1 n1 poses) r talls (posIn places0) (posIn places1) i store₀ store
+Inv-loop store₀ line0 line1 pairs places0 places1 n0 n1 poses r count talls table₀ i₀ store table i =
+    (i ≤ suc talls) × Through (deckOf line0 n0 poses) (deckOf line1 n1 poses) r talls (posIn places0) (posIn places1) i store₀ store × Lent table
 
 abbrev μ-loop : tie.MeasureT-loop
-μ-loop store₀ line0 line1 pairs places0 places1 n0 n1 poses r count talls i₀ store i = suc talls - i
+μ-loop store₀ line0 line1 pairs places0 places1 n0 n1 poses r count talls table₀ i₀ store table i = suc talls - i
 
 case-at-requires : tie.Need-case-at-requires Inv-loop μ-loop
 case-at-requires c κs = (omega arith, omega arith, omega arith)
@@ -31,29 +33,30 @@ loop-holds : tie.Need-loop-holds Inv-loop μ-loop
 loop-holds c =
     let k = c .before .before .before .before .before .before .before in
     let a = k .args in
-    (omega arith, through-none (deckOf (a .line0 .now) (a .n0) (a .poses)) (deckOf (a .line1 .now) (a .n1) (a .poses)) (a .r) (a .talls) (posIn (a .places0 .now)) (posIn (a .places1 .now)) _ (c .case-at .ensures) (k .pre .low) (omega (arith, c .case-at .ensures, given-first (k .pre) 0 (omega arith))))
+    (omega arith, through-none (deckOf (a .line0 .now) (a .n0) (a .poses)) (deckOf (a .line1 .now) (a .n1) (a .poses)) (a .r) (a .talls) (posIn (a .places0 .now)) (posIn (a .places1 .now)) _ (c .case-at .ensures) (k .pre .low) (omega (arith, c .case-at .ensures, given-first (k .pre) 0 (omega arith))), lent-zeros)
 
 stage-requires : tie.Need-stage-requires Inv-loop μ-loop
 stage-requires c κs =
-    let k = c .before .before .before .before .before .before .before .before .before .before in
+    let k = c .before .before .before .before .before .before .before .before .before .before .before in
     let g = k .pre in
-    let t = c .before .before .loop .inv .1 in
-    (record { row₀ = g .row₀; row₁ = g .row₁; long = omega (arith, g .long, t .long, length-set (k .args .store .now) (c .before .before .before .case-at .result) 0); low = t .low }, omega (arith, c .before .loop-test .taken), t .right)
+    let t = c .before .before .before .loop .inv .1 in
+    (c .before .before .before .loop .inv .2, record { row₀ = g .row₀; row₁ = g .row₁; long = omega (arith, g .long, t .long, length-set (k .args .store .now) (c .before .before .before .before .case-at .result) 0); low = t .low }, omega (arith, c .before .before .loop-test .taken), t .right)
 
 add-i : tie.Need-add-i Inv-loop μ-loop
-add-i c = omega (arith, c .before .before .before .before .before .before .before .before .before .before .before .before .before .pre .row₀ .few, c .before .before .before .before .loop-test .taken)
+add-i c = omega (arith, c .before .before .before .before .before .before .before .before .before .before .before .before .before .before .pre .row₀ .few, c .before .before .before .before .before .loop-test .taken)
 
 loop-less : tie.Need-loop-less Inv-loop μ-loop
-loop-less c = omega (arith, c .before .before .before .before .loop-test .taken)
+loop-less c = omega (arith, c .before .before .before .before .before .loop-test .taken)
 
 loop-again : tie.Need-loop-again Inv-loop μ-loop
 loop-again c =
-    let k = c .before .before .before .before .before .before .before .before .before .before .before .before .before in
+    let k = c .before .before .before .before .before .before .before .before .before .before .before .before .before .before in
     let a = k .args in
     let n = given-pairs (k .pre) in
     let all = k .pre .row₀ .ground .all in (
-      omega (arith, c .before .before .before .before .loop-test .taken),
-      through-more (deckOf (a .line0 .now) (a .n0) (a .poses)) (deckOf (a .line1 .now) (a .n1) (a .poses)) (a .r) (a .talls) (posIn (a .places0 .now)) (posIn (a .places1 .now)) (omega (arith, all, n .0)) (omega (arith, all, n .1)) (n .2) (omega (arith, n .3, c .before .before .before .before .loop-test .taken)) (c .before .before .before .before .before .loop .inv .1) (c .before .before .stage .ensures),
+      omega (arith, c .before .before .before .before .before .loop-test .taken),
+      through-more (deckOf (a .line0 .now) (a .n0) (a .poses)) (deckOf (a .line1 .now) (a .n1) (a .poses)) (a .r) (a .talls) (posIn (a .places0 .now)) (posIn (a .places1 .now)) (omega (arith, all, n .0)) (omega (arith, all, n .1)) (n .2) (omega (arith, n .3, c .before .before .before .before .before .loop-test .taken)) (c .before .before .before .before .before .before .loop .inv .1) (c .before .before .stage .ensures .0),
+      c .before .before .stage .ensures .1,
     )
 
 same-length : tie.Need-same-length Inv-loop μ-loop
