@@ -27,7 +27,7 @@ pub fn wide_of(talls: usize, i: usize, x: usize) -> usize
 }
 
 // How many cells are placed once the cell at position p stands as pair s.
-fn placed_with(pairs: &[u32], r: usize, p: usize, s: usize) -> usize
+pub fn placed_with(pairs: &[u32], r: usize, p: usize, s: usize) -> usize
     requires { ⌜ PairWords r (now pairs) × (s < pairCount r) × (p < 64) ⌝ }
     ensures { λ i. ⌜ i ≡ placedWith r p s ⌝ }
 {

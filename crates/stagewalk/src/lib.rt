@@ -1,24 +1,8 @@
 // One stage of the walk back in one row: its first layer is made once more from its one start, its layers are kept, and the walk goes back through them.
-ghost use mathlib.Core.Path.{_≡_};
-ghost use Prim.Native.Nat.{_<_};
-ghost use Rattle.model.specs.Steps.{pairCount};
-ghost use Rattle.model.specs.Stages.{placedWith};
-ghost use Rattle.deck.specs.Words.{deckOf, PairWords};
+ghost use Rattle.deck.specs.Words.{deckOf};
 ghost use Rattle.stage.specs.Stage.{posIn};
 ghost use Rattle.stagewalk.specs.Rows.{Start, Stage, Started, StageDone};
-
-// How many cells are placed once the cell at position p stands as pair s.
-fn placed_with(pairs: &[u32], r: usize, p: usize, s: usize) -> usize
-    requires { ⌜ PairWords r (now pairs) × (s < pairCount r) × (p < 64) ⌝ }
-    ensures { λ i. ⌜ i ≡ placedWith r p s ⌝ }
-{
-    let all = p + r + 1;
-    let d = deck::word(pairs, s * 4);
-    if all < d {
-        return 0;
-    }
-    all - d
-}
+use stage::placed_with;
 
 // The first layer of a stage in lane 0 of the first block; the result is how many cells it has.
 fn first_of(
@@ -44,7 +28,23 @@ fn first_of(
     }
     let p = deck::word(places, stage - 1);
     let i = placed_with(pairs, r, p, s);
-    first::first_layer(store, line, pairs, n, poses, r, count, 1, i, s, p, l, 0);
+    let mut table = [0u32; 6080];
+    first::first_layer(
+        &mut table,
+        store,
+        line,
+        pairs,
+        n,
+        poses,
+        r,
+        count,
+        1,
+        i,
+        s,
+        p,
+        l,
+        0,
+    );
     i + 1
 }
 
