@@ -88,7 +88,7 @@ fn first_rows(
 {
     near::reset(table, poses, lanes);
     from_starts(table, line, p, l0, k, near::rows_of(poses), lanes);
-    near::run_up(table, lanes);
+    near::run_up(table, poses, lanes);
     near::put_rows(store, line, table, to, q, k, poses, lanes);
 }
 

@@ -156,7 +156,7 @@ fn target_rows(
         lanes::fill_rows(store, to + q * 4096, poses, lanes, lanes::NONE);
         return;
     }
-    near::run_up(table, lanes);
+    near::run_up(table, poses, lanes);
     let m = deck::last_at(pairs, r, i + 1, q);
     near::put_rows(store, line, table, to, q, m, poses, lanes);
 }

@@ -164,7 +164,7 @@ module _ (j : Job) (row k : ℕ) where
         let e : i - 68 ≡ u = omega arith in
         rw (le-ltb i 64 (omega arith), le-ltb i 68 (omega arith), lt-ltb i 84 (omega arith), e)
 
-  pub cell-words : (word : ℕ → ℕ) → ((i : ℕ) → i < 128 → word i ≡ cellWord j row k k i) → CellWords j row k word
+  pub cell-words : (word : ℕ → ℕ) → ((i : ℕ) → i < 86 → word i ≡ cellWord j row k k i) → CellWords j row k word
   unfolding cellWord shapeWord widthOf poseNumber
   cell-words word w = record {
     own = λ a h. w a (omega arith) ∙ own-at k a (omega arith);

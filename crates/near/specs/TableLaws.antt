@@ -68,6 +68,10 @@ lowered-at-low {f} {to} {lanes} {old} {new} v w = record { word = λ k. go k (de
         let d : getD new k 0 ≡ min (getD old (to + (k - to)) 0) (f (k - to)) = ap (λ (j : ℕ). getD new j 0) (sym e) ∙ v .done (k - to) (omega arith) in
         omega (arith, w .word (to + (k - to)))
 
+-- the same by another name
+pub lowered-at-ext : {f g : ℕ → ℕ} {to lanes : ℕ} {old new : List ℕ} → LoweredAt f to lanes old new → ((l : ℕ) → l < lanes → f l ≡ g l) → LoweredAt g to lanes old new
+lowered-at-ext {to = to} {old = old} w e = record { frame = w .frame; done = λ l h. w .done l h ∙ ap (min (getD old (to + l) 0)) (e l h) }
+
 -- ---- rows without sources
 
 -- a table of zeros may be lent
@@ -354,7 +358,7 @@ module _
     planes l v t i j k g = omega (arith, w .done l v t i j k g, none .none l v t i j (omega arith), low l v t)
 
     -- and once plane 4 ran up, what is found in them
-    pub ready : {table′ : List ℕ} → RunUp 15 lanes table table′ → Ready plane poses lanes table′
+    pub ready : {table′ : List ℕ} → RunUp (rowsOf poses - 3) lanes table table′ → Ready plane poses lanes table′
     unfolding found
     ready {table′} u =
         record {

@@ -3,7 +3,7 @@
 // to that variant of the target, plane 4 by themselves. Only the rows that some pose looks at count.
 ghost use mathlib.Core.Path.{_≡_};
 ghost use mathlib.Core.Bool.{Bool, false};
-ghost use Prim.Native.Nat.{ℕ, suc, _+_, _*_, _≤_, _<_};
+ghost use Prim.Native.Nat.{ℕ, suc, _+_, _*_, _-_, _≤_, _<_};
 ghost use lib.ListN.{length};
 ghost use Rattle.model.specs.Steps.{B};
 ghost use Rattle.lanes.specs.Lanes.{charged, always, wordsFrom};
@@ -238,6 +238,11 @@ fn lower_by(table: &mut [u32; 6080], to: usize, from: usize, lanes: usize)
     requires { ⌜ (to + lanes ≤ 6080) × (length (now table) ≡ 6080) × (from + lanes ≤ to) × Low (now table) ⌝ }
     ensures { λ _. ⌜ LoweredAt (wordsFrom (now (table .entry)) from) to lanes (now (table .entry)) (now (table .exit)) ⌝ }
 {
+    if lanes == 1 {
+        let x = table[from];
+        lower_one(table, to, x);
+        return;
+    }
     let mut l: usize = 0;
     while l < lanes {
         table[to + l] = lanes::lesser(table[to + l], table[from + l]);
@@ -245,13 +250,14 @@ fn lower_by(table: &mut [u32; 6080], to: usize, from: usize, lanes: usize)
     }
 }
 
-// Each row of plane 4 lowered to all rows before it.
-pub fn run_up(table: &mut [u32; 6080], lanes: usize)
-    requires { ⌜ Low (now table) × (length (now table) ≡ 6080) × (lanes ≤ 64) ⌝ }
-    ensures { λ _. ⌜ RunUp 15 lanes (now (table .entry)) (now (table .exit)) ⌝ }
+// Each row of plane 4, as far as so many poses look, lowered to all rows before it.
+pub fn run_up(table: &mut [u32; 6080], poses: usize, lanes: usize)
+    requires { ⌜ Low (now table) × (length (now table) ≡ 6080) × (poses ≤ 60) × (lanes ≤ 64) ⌝ }
+    ensures { λ _. ⌜ RunUp (rowsOf poses - 3) lanes (now (table .entry)) (now (table .exit)) ⌝ }
 {
+    let last = (poses + 3) / 4;
     let mut t: usize = 0;
-    while t < 14 {
+    while t < last {
         lower_by(table, 4928 + t * 64, 4864 + t * 64, lanes);
         t += 1;
     }

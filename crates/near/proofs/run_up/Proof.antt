@@ -3,17 +3,21 @@ use Prim.Native.Nat.{_+_, _-_, _≤_}
 use mathlib.Core.Path.{_≡_, _∙_}
 use native.Mathlib.Omega.{arith}
 use borrow.Author.Needs.{needs}
+use Rattle.near.specs.Rows.{rowsOf}
 use Rattle.near.specs.Table.{RunUp}
 use Rattle.near.specs.TableLaws.{run-none, run-more}
 use Rattle.near.proofs.run_up.Statement.{statement}
 use Rattle.near.proofs.run_up.Tie as tie
 
 abbrev Inv-loop : tie.InvT-loop
-Inv-loop table₀ lanes t₀ table t =
-    (t ≤ 14) × RunUp (t + 1) lanes table₀ table
+Inv-loop table₀ poses lanes last t₀ table t =
+    (t ≤ last) × RunUp (t + 1) lanes table₀ table
 
 abbrev μ-loop : tie.MeasureT-loop
-μ-loop table₀ lanes t₀ table t = 14 - t
+μ-loop table₀ poses lanes last t₀ table t = last - t
+
+add-last : tie.Need-add-last Inv-loop μ-loop
+add-last c = search needs
 
 loop-holds : tie.Need-loop-holds Inv-loop μ-loop
 loop-holds c = (omega arith, run-none _ (c .pre .0))
@@ -47,7 +51,8 @@ loop-again c =
 
 returns : tie.Need-returns Inv-loop μ-loop
 returns c =
-    let e : c .before .loop .t ≡ 14 = omega arith in
+    let k = c .before .before in
+    let e : c .before .loop .t + 1 ≡ rowsOf (k .args .poses) - 3 = omega arith in
     rw e at (c .before .loop .inv .1)
 
 pub run-up-spec : {M : Type 1} → statement M
@@ -56,6 +61,7 @@ run-up-spec =
     (tie.spec
     Inv-loop
     μ-loop
+    add-last
     loop-holds
     mul-lower-by
     add-lower-by
