@@ -13,7 +13,7 @@ ghost use Rattle.finish.specs.Ends.{endsWith, leastPosesIn, leastPairIn,
 
 // On to the layer with all cells placed: the block that it is in. The table that is lent serves all layers.
 fn run_on(
-    table: &mut [u32; 6080],
+    table: &mut [u32; 10944],
     store: &mut [u32],
     line: &[u32],
     pairs: &[u32],
@@ -160,7 +160,7 @@ fn put_ends(
 // The prices to the row's end, to the row at `prices`, a word for each lane. If nothing is left to place it is the lane's word of `starts`, what its
 // start pays as the row's last; NONE if too much was placed.
 pub fn stretch_end(
-    table: &mut [u32; 6080],
+    table: &mut [u32; 10944],
     store: &mut [u32],
     line: &[u32],
     pairs: &[u32],

@@ -28,7 +28,7 @@ fn starts(pairs: &[u32], n: usize, r: usize, i: usize, m: u32, q: usize) -> bool
 
 // Lane `lane` of a table lowered to pose b of the cell at position p, where it starts, for the cell at position k.
 fn from_start(
-    table: &mut [u32; 6080],
+    table: &mut [u32; 10944],
     line: &[u32],
     pays: &[u32; 20],
     p: usize,
@@ -37,7 +37,7 @@ fn from_start(
     rows: usize,
     lane: usize,
 )
-    requires { ⌜ LineWords (now line) × Pays (now line) p k 20 (now pays) × Low (now table) × (length (now table) ≡ 6080) × (p < 64) × (k < 64) × (b < 64) × (rows ≤ 19) × (lane < 64) ⌝ }
+    requires { ⌜ LineWords (now line) × Pays (now line) p k 20 (now pays) × Low (now table) × (length (now table) ≡ 10944) × (p < 64) × (k < 64) × (b < 64) × (rows ≤ 19) × (lane < 64) ⌝ }
     ensures { λ _. ⌜ Started (onePose (now (line .entry)) p k b 0) rows lane (now (table .entry)) (now (table .exit)) ⌝ }
 {
     let t = near::end_row(line, p, b, k);
@@ -49,7 +49,7 @@ fn from_start(
 
 // Every lane: pose l0 + l in lane l.
 fn from_starts(
-    table: &mut [u32; 6080],
+    table: &mut [u32; 10944],
     line: &[u32],
     p: usize,
     l0: usize,
@@ -57,7 +57,7 @@ fn from_starts(
     rows: usize,
     lanes: usize,
 )
-    requires { ⌜ LineWords (now line) × Low (now table) × (length (now table) ≡ 6080) × (p < 64) × (l0 + lanes ≤ 64) × (k < 64) × (rows ≤ 19) ⌝ }
+    requires { ⌜ LineWords (now line) × Low (now table) × (length (now table) ≡ 10944) × (p < 64) × (l0 + lanes ≤ 64) × (k < 64) × (rows ≤ 19) ⌝ }
     ensures { λ _. ⌜ StartedTo (startIn (now (line .entry)) p l0 k) rows lanes (now (table .entry)) (now (table .exit)) ⌝ }
 {
     let mut pays = [0u32; 20];
@@ -72,7 +72,7 @@ fn from_starts(
 // The rows of a pair that can come first: the cell at position k, after each pose from l0 on of the cell at position p. The starts are put in the
 // table that is lent, whatever it has.
 fn first_rows(
-    table: &mut [u32; 6080],
+    table: &mut [u32; 10944],
     store: &mut [u32],
     line: &[u32],
     to: usize,
@@ -94,7 +94,7 @@ fn first_rows(
 
 // The block of pair q.
 fn first_block(
-    table: &mut [u32; 6080],
+    table: &mut [u32; 10944],
     store: &mut [u32],
     line: &[u32],
     pairs: &[u32],
@@ -123,7 +123,7 @@ fn first_block(
 
 // The layer after the cell at position p as pair s, the last of i placed: one lane for each of its poses from l0 on.
 pub fn first_layer(
-    table: &mut [u32; 6080],
+    table: &mut [u32; 10944],
     store: &mut [u32],
     line: &[u32],
     pairs: &[u32],

@@ -54,7 +54,7 @@ fn stretch_on(
     requires { ⌜ Stretch (now line) (now pairs) (now store) n poses r count i end × KeptLayers (deckOf (now line) n poses) r (layerIn (now store) 0 0) i i (now store) ⌝ }
     ensures { λ _. ⌜ StretchKept (deckOf (now (line .entry)) n poses) r i end (now (store .entry)) (now (store .exit)) ⌝ }
 {
-    let mut table = [0u32; 6080];
+    let mut table = [0u32; 10944];
     let mut j: usize = 0;
     let mut from: usize = 0;
     while i + j < end {

@@ -12,7 +12,7 @@ ghost use Rattle.layer.specs.Loops.{nextFrom, Given, Target, Beside};
 
 // Pair p of the layer with i cells, if it is a source: whether it lowered anything.
 fn from_source(
-    table: &mut [u32; 6080],
+    table: &mut [u32; 10944],
     store: &[u32],
     line: &[u32],
     pairs: &[u32],
@@ -51,7 +51,7 @@ fn from_source(
 
 // Every source: whether one lowered anything.
 fn gather(
-    table: &mut [u32; 6080],
+    table: &mut [u32; 10944],
     store: &[u32],
     line: &[u32],
     pairs: &[u32],
@@ -117,7 +117,7 @@ fn has_source(
 
 // The rows of pair q, whose cell is there: all NONE if nothing leads to it. Sources are gathered in the table that is lent, whatever it has.
 fn target_rows(
-    table: &mut [u32; 6080],
+    table: &mut [u32; 10944],
     store: &mut [u32],
     line: &[u32],
     pairs: &[u32],
@@ -163,7 +163,7 @@ fn target_rows(
 
 // The block of pair q: all NONE if the row has no such cell.
 fn target_block(
-    table: &mut [u32; 6080],
+    table: &mut [u32; 10944],
     store: &mut [u32],
     line: &[u32],
     pairs: &[u32],
@@ -203,7 +203,7 @@ fn target_block(
 
 // The layer with one cell more than the layer at `from`, which has i, to the block at `to`.
 pub fn step_layer(
-    table: &mut [u32; 6080],
+    table: &mut [u32; 10944],
     store: &mut [u32],
     line: &[u32],
     pairs: &[u32],

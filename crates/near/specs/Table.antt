@@ -1,4 +1,4 @@
--- The planes in a table of 6080 words: 5 planes of 19 rows of 64 lanes. What is given, and what the loops leave.
+-- The planes in a table of 10944 words: 5 planes of 19 rows of 64 lanes. What is given, and what the loops leave.
 use Prim.Native.Nat.{ℕ, suc, _+_, _*_, _-_, _/_, _%_, _≤_, _<_, min}
 use mathlib.Core.Path.{_≡_}
 use mathlib.Core.Logic.{_⊎_}
@@ -23,12 +23,12 @@ pub record LoweredAt (f : ℕ → ℕ) (to lanes : ℕ) (old new : List ℕ) : T
 
 -- a table lent to gather sources in: any words, none over B
 pub record Lent (table : List ℕ) : Type 0 where
-  pub long : length table ≡ 6080
+  pub long : length table ≡ 10944
   pub low : Low table
 
 -- no source yet in the planes below v, in so many rows and lanes
 pub record Cleared (rows lanes v : ℕ) (table : List ℕ) : Type 0 where
-  pub long : length table ≡ 6080
+  pub long : length table ≡ 10944
   pub low : Low table
   pub none : (l u t : ℕ) → l < lanes → u < v → t < rows → wordAt table l u t ≡ B
 
@@ -69,7 +69,7 @@ pub record Source (table st line : List ℕ) (at k m lanes : ℕ) : Type 0 where
   pub words : LineWords line
   pub low : Low st
   pub tableLow : Low table
-  pub tableLong : length table ≡ 6080
+  pub tableLong : length table ≡ 10944
   pub narrow : lanes ≤ 64
   pub room : at + 4096 ≤ length st
   pub left : k < 64
@@ -113,7 +113,7 @@ pub record RunUp (rows lanes : ℕ) (old new : List ℕ) : Type 0 where
 
 -- what every pose below `poses` finds is what it finds in the planes
 pub record Ready (plane : ℕ → ℕ → ℕ → ℕ) (poses lanes : ℕ) (table : List ℕ) : Type 0 where
-  pub long : length table ≡ 6080
+  pub long : length table ≡ 10944
   pub low : Low table
   pub right : (a l : ℕ) → a < poses → l < lanes → foundIn table a l ≡ found (plane l) a
 
@@ -133,6 +133,6 @@ pub record ToRows (st line table : List ℕ) (k lanes : ℕ) : Type 0 where
   pub words : LineWords line
   pub low : Low st
   pub tableLow : Low table
-  pub tableLong : length table ≡ 6080
+  pub tableLong : length table ≡ 10944
   pub narrow : lanes ≤ 64
   pub cell : k < 64

@@ -75,10 +75,10 @@ lowered-at-ext {to = to} {old = old} w e = record { frame = w .frame; done = λ 
 -- ---- rows without sources
 
 -- a table of zeros may be lent
-pub lent-zeros : Lent (replicate 6080 0)
-lent-zeros = record { long = length-replicate {A = ℕ} 6080 0; low = same-low 6080 0 (omega arith) }
+pub lent-zeros : Lent (replicate 10944 0)
+lent-zeros = record { long = length-replicate {A = ℕ} 10944 0; low = same-low 10944 0 (omega arith) }
 
-pub cleared-none : (rows lanes : ℕ) {table : List ℕ} → length table ≡ 6080 → Low table → Cleared rows lanes 0 table
+pub cleared-none : (rows lanes : ℕ) {table : List ℕ} → length table ≡ 10944 → Low table → Cleared rows lanes 0 table
 cleared-none rows lanes h w = record { long = h; low = w; none = λ l u t i j k. absurd (omega arith) }
 
 -- one plane more

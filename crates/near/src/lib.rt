@@ -36,8 +36,8 @@ pub fn rows_of(poses: usize) -> usize
 }
 
 // NONE in the lanes and rows that count.
-pub fn reset(table: &mut [u32; 6080], poses: usize, lanes: usize)
-    requires { ⌜ Low (now table) × (length (now table) ≡ 6080) × (poses ≤ 60) × (lanes ≤ 64) ⌝ }
+pub fn reset(table: &mut [u32; 10944], poses: usize, lanes: usize)
+    requires { ⌜ Low (now table) × (length (now table) ≡ 10944) × (poses ≤ 60) × (lanes ≤ 64) ⌝ }
     ensures { λ _. ⌜ Cleared (rowsOf poses) lanes 5 (now (table .exit)) ⌝ }
 {
     let rows = rows_of(poses);
@@ -88,16 +88,16 @@ pub fn fill_pays(pays: &mut [u32; 20], line: &[u32], k: usize, m: usize)
 // ---- one source
 
 // One word lowered.
-fn lower_one(table: &mut [u32; 6080], to: usize, x: u32)
-    requires { ⌜ (to < 6080) × (length (now table) ≡ 6080) × Low (now table) × (x ≤ 536870912) ⌝ }
+fn lower_one(table: &mut [u32; 10944], to: usize, x: u32)
+    requires { ⌜ (to < 10944) × (length (now table) ≡ 10944) × Low (now table) × (x ≤ 536870912) ⌝ }
     ensures { λ _. ⌜ LoweredAt (always x) to 1 (now (table .entry)) (now (table .exit)) ⌝ }
 {
     table[to] = lanes::lesser(table[to], x);
 }
 
 // A source of cost x in one lane to row t of planes 0 to 3, where row 0 does not count.
-fn spread_near(table: &mut [u32; 6080], x: u32, pays: &[u32; 20], u: usize, t: usize, lane: usize)
-    requires { ⌜ Low (now table) × (length (now table) ≡ 6080) × (x ≤ B) × PaysLow (now pays) × (u < 4) × (t < 19) × (lane < 64) ⌝ }
+fn spread_near(table: &mut [u32; 10944], x: u32, pays: &[u32; 20], u: usize, t: usize, lane: usize)
+    requires { ⌜ Low (now table) × (length (now table) ≡ 10944) × (x ≤ B) × PaysLow (now pays) × (u < 4) × (t < 19) × (lane < 64) ⌝ }
     ensures { λ _. ⌜ Spread (chargedOne x (now (pays .entry)) u) t 4 lane 1 (now (table .entry)) (now (table .exit)) ⌝ }
 {
     if t == 0 {
@@ -112,14 +112,14 @@ fn spread_near(table: &mut [u32; 6080], x: u32, pays: &[u32; 20], u: usize, t: u
 
 // The same to every plane.
 pub fn spread_one(
-    table: &mut [u32; 6080],
+    table: &mut [u32; 10944],
     x: u32,
     pays: &[u32; 20],
     u: usize,
     t: usize,
     lane: usize,
 )
-    requires { ⌜ Low (now table) × (length (now table) ≡ 6080) × (x ≤ B) × PaysLow (now pays) × (u < 4) × (t < 19) × (lane < 64) ⌝ }
+    requires { ⌜ Low (now table) × (length (now table) ≡ 10944) × (x ≤ B) × PaysLow (now pays) × (u < 4) × (t < 19) × (lane < 64) ⌝ }
     ensures { λ _. ⌜ Spread (chargedOne x (now (pays .entry)) u) t 5 lane 1 (now (table .entry)) (now (table .exit)) ⌝ }
 {
     spread_near(table, x, pays, u, t, lane);
@@ -129,7 +129,7 @@ pub fn spread_one(
 // A source row, so many lanes, by its variant u: to row t of every plane, or of plane 4 alone if t is 0. The planes of a lane are lowered together,
 // so that each word of the row is read once.
 fn spread(
-    table: &mut [u32; 6080],
+    table: &mut [u32; 10944],
     row: &[u32],
     at: usize,
     pays: &[u32; 20],
@@ -137,7 +137,7 @@ fn spread(
     t: usize,
     lanes: usize,
 )
-    requires { ⌜ Low (now table) × (length (now table) ≡ 6080) × Low (now row) × (at + lanes ≤ length (now row)) × PaysLow (now pays) × (u < 4) × (t < 19) × (lanes ≤ 64) ⌝ }
+    requires { ⌜ Low (now table) × (length (now table) ≡ 10944) × Low (now row) × (at + lanes ≤ length (now row)) × PaysLow (now pays) × (u < 4) × (t < 19) × (lanes ≤ 64) ⌝ }
     ensures { λ _. ⌜ Spread (chargedBy (now (row .entry)) at (now (pays .entry)) u) t 5 0 lanes (now (table .entry)) (now (table .exit)) ⌝ }
 {
     let mut l: usize = 0;
@@ -149,7 +149,7 @@ fn spread(
 
 // Pose b of the cell at position k where there is one lane: whether it lowered anything.
 fn from_pose_one(
-    table: &mut [u32; 6080],
+    table: &mut [u32; 10944],
     store: &[u32],
     line: &[u32],
     pays: &[u32; 20],
@@ -176,7 +176,7 @@ fn from_pose_one(
 
 // Pose b of the cell at position k: whether it lowered anything.
 fn from_pose(
-    table: &mut [u32; 6080],
+    table: &mut [u32; 10944],
     store: &[u32],
     line: &[u32],
     pays: &[u32; 20],
@@ -206,7 +206,7 @@ fn from_pose(
 
 // All poses of the cell at position k: whether one lowered anything.
 pub fn from_poses(
-    table: &mut [u32; 6080],
+    table: &mut [u32; 10944],
     store: &[u32],
     line: &[u32],
     pays: &[u32; 20],
@@ -234,8 +234,8 @@ pub fn from_poses(
 // ---- what a pose finds
 
 // The lanes from `to` on lowered to those from `from` on.
-fn lower_by(table: &mut [u32; 6080], to: usize, from: usize, lanes: usize)
-    requires { ⌜ (to + lanes ≤ 6080) × (length (now table) ≡ 6080) × (from + lanes ≤ to) × Low (now table) ⌝ }
+fn lower_by(table: &mut [u32; 10944], to: usize, from: usize, lanes: usize)
+    requires { ⌜ (to + lanes ≤ 10944) × (length (now table) ≡ 10944) × (from + lanes ≤ to) × Low (now table) ⌝ }
     ensures { λ _. ⌜ LoweredAt (wordsFrom (now (table .entry)) from) to lanes (now (table .entry)) (now (table .exit)) ⌝ }
 {
     if lanes == 1 {
@@ -251,8 +251,8 @@ fn lower_by(table: &mut [u32; 6080], to: usize, from: usize, lanes: usize)
 }
 
 // Each row of plane 4, as far as so many poses look, lowered to all rows before it.
-pub fn run_up(table: &mut [u32; 6080], poses: usize, lanes: usize)
-    requires { ⌜ Low (now table) × (length (now table) ≡ 6080) × (poses ≤ 60) × (lanes ≤ 64) ⌝ }
+pub fn run_up(table: &mut [u32; 10944], poses: usize, lanes: usize)
+    requires { ⌜ Low (now table) × (length (now table) ≡ 10944) × (poses ≤ 60) × (lanes ≤ 64) ⌝ }
     ensures { λ _. ⌜ RunUp (rowsOf poses - 3) lanes (now (table .entry)) (now (table .exit)) ⌝ }
 {
     let last = (poses + 3) / 4;
@@ -264,8 +264,8 @@ pub fn run_up(table: &mut [u32; 6080], poses: usize, lanes: usize)
 }
 
 // What pose a finds in lane l: at gaps 0, 2 and 3, and further left.
-fn found_lane(table: &[u32; 6080], a: usize, l: usize) -> u32
-    requires { ⌜ (length (now table) ≡ 6080) × Low (now table) × (a < 60) × (l < 64) ⌝ }
+fn found_lane(table: &[u32; 10944], a: usize, l: usize) -> u32
+    requires { ⌜ (length (now table) ≡ 10944) × Low (now table) × (a < 60) × (l < 64) ⌝ }
     ensures { λ x. ⌜ x ≡ foundIn (now (table .entry)) a l ⌝ }
 {
     let near = a % 4 * 1216 + a / 4 * 64 + l;
@@ -275,8 +275,8 @@ fn found_lane(table: &[u32; 6080], a: usize, l: usize) -> u32
 }
 
 // A target's row: what its pose finds, with the cell's own cost, capped.
-pub fn put_row(store: &mut [u32], at: usize, table: &[u32; 6080], a: usize, own: u32, lanes: usize)
-    requires { ⌜ (at + lanes ≤ length (now store)) × (lanes ≤ 64) × (length (now table) ≡ 6080) × (own ≤ B) × Low (now store) × Low (now table) × (a < 60) ⌝ }
+pub fn put_row(store: &mut [u32], at: usize, table: &[u32; 10944], a: usize, own: u32, lanes: usize)
+    requires { ⌜ (at + lanes ≤ length (now store)) × (lanes ≤ 64) × (length (now table) ≡ 10944) × (own ≤ B) × Low (now store) × Low (now table) × (a < 60) ⌝ }
     ensures { λ _. ⌜ Written (foundRow (now (table .entry)) own a) at lanes (now (store .entry)) (now (store .exit)) ⌝ }
 {
     let mut l: usize = 0;
@@ -287,8 +287,8 @@ pub fn put_row(store: &mut [u32], at: usize, table: &[u32; 6080], a: usize, own:
 }
 
 // The same where there is one lane.
-fn put_one(store: &mut [u32], at: usize, table: &[u32; 6080], a: usize, own: u32)
-    requires { ⌜ (at < length (now store)) × (length (now table) ≡ 6080) × (own ≤ B) × Low (now store) × Low (now table) × (a < 60) ⌝ }
+fn put_one(store: &mut [u32], at: usize, table: &[u32; 10944], a: usize, own: u32)
+    requires { ⌜ (at < length (now store)) × (length (now table) ≡ 10944) × (own ≤ B) × Low (now store) × Low (now table) × (a < 60) ⌝ }
     ensures { λ _. ⌜ Written (foundRow (now (table .entry)) own a) at 1 (now (store .entry)) (now (store .exit)) ⌝ }
 {
     store[at] = lanes::lesser(own + found_lane(table, a, 0), lanes::NONE);
@@ -298,7 +298,7 @@ fn put_one(store: &mut [u32], at: usize, table: &[u32; 6080], a: usize, own: u32
 fn put_pose(
     store: &mut [u32],
     line: &[u32],
-    table: &[u32; 6080],
+    table: &[u32; 10944],
     at: usize,
     k: usize,
     a: usize,
@@ -323,7 +323,7 @@ fn put_pose(
 pub fn put_rows(
     store: &mut [u32],
     line: &[u32],
-    table: &[u32; 6080],
+    table: &[u32; 10944],
     to: usize,
     q: usize,
     k: usize,

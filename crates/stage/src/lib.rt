@@ -53,7 +53,7 @@ fn backs(starts: &mut [u32; 64], line: &[u32], p: usize, poses: usize)
 
 // On from the layer in block 0, which has `cells` cells, to tall cell i or the row's end; `starts` has what the start of each lane pays as the last.
 fn stage_end(
-    table: &mut [u32; 6080],
+    table: &mut [u32; 10944],
     store: &mut [u32],
     line: &[u32],
     pairs: &[u32],
@@ -116,7 +116,7 @@ fn width_of(poses: usize) -> usize
 
 // The prices of stage i in a row from start pair s, to the block at `prices`.
 fn row_price(
-    table: &mut [u32; 6080],
+    table: &mut [u32; 10944],
     store: &mut [u32],
     line: &[u32],
     pairs: &[u32],
@@ -222,7 +222,7 @@ fn live(store: &[u32], row: usize, i: usize, starts: usize, lanes: usize, s: usi
 
 // The prices of stage i in a row from start pair s, if some case goes from it.
 fn price_start(
-    table: &mut [u32; 6080],
+    table: &mut [u32; 10944],
     store: &mut [u32],
     row: usize,
     line: &[u32],
@@ -264,7 +264,7 @@ fn price_start(
 
 // The prices of stage i in both rows, from every start pair.
 fn prices(
-    table: &mut [u32; 6080],
+    table: &mut [u32; 10944],
     store: &mut [u32],
     line0: &[u32],
     line1: &[u32],
@@ -321,7 +321,7 @@ fn prices(
 
 // Stage i: case table number i + 1 from table number i.
 pub fn stage(
-    table: &mut [u32; 6080],
+    table: &mut [u32; 10944],
     store: &mut [u32],
     line0: &[u32],
     line1: &[u32],
@@ -380,7 +380,7 @@ pub fn stages(
     requires { ⌜ StagesGiven (now line0) (now line1) (now pairs) (now places0) (now places1) (now store) r n0 n1 poses count talls ⌝ }
     ensures { λ _. ⌜ StagesDone (deckOf (now (line0 .entry)) n0 poses) (deckOf (now (line1 .entry)) n1 poses) r talls (posIn (now (places0 .entry))) (posIn (now (places1 .entry))) (now (store .entry)) (now (store .exit)) ⌝ }
 {
-    let mut table = [0u32; 6080];
+    let mut table = [0u32; 10944];
     store[join::case_at(0, 0, 0)] = 0;
     let mut i: usize = 0;
     while i <= talls {

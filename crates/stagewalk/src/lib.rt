@@ -28,7 +28,7 @@ fn first_of(
     }
     let p = deck::word(places, stage - 1);
     let i = placed_with(pairs, r, p, s);
-    let mut table = [0u32; 6080];
+    let mut table = [0u32; 10944];
     first::first_layer(
         &mut table,
         store,

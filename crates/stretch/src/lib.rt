@@ -99,7 +99,7 @@ fn deliver(
 
 // The prices to the tall cell, to the block at `prices`. The table that is lent serves all layers.
 pub fn stretch_to(
-    table: &mut [u32; 6080],
+    table: &mut [u32; 10944],
     store: &mut [u32],
     line: &[u32],
     pairs: &[u32],
