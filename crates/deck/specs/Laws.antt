@@ -10,7 +10,7 @@ use lib.ListN.{getD}
 use lib.Dec.{leb, ltb, eqb}
 use Rattle.definition.specs.Cost.{charges, charge}
 use Rattle.model.specs.Steps.{B, offset, lastAt, isSource}
-use Rattle.deck.specs.Words.{wordOf, differIn, siteIn, endIn, tollIn, frontIn, backIn, deckOf, thereIn, LineWords}
+use Rattle.deck.specs.Words.{wordOf, weightIn, differIn, siteIn, endIn, tollIn, frontIn, backIn, deckOf, thereIn, LineWords}
 
 pub charge-low : (gap : ℕ) → charge gap ≤ 1
 charge-low gap = go (min gap 4) (omega arith)
@@ -42,12 +42,15 @@ pay-low p q = mul-le-mul p q
 pub charged-low : {c x : ℕ} → c ≤ 1 → x ≤ 2000 → c * x ≤ 2000
 charged-low p q = mul-le-mul p q
 
+pub weight-low : {line : List ℕ} (m gap : ℕ) → LineWords line → weightIn line m gap ≤ 1000
+weight-low {line} m gap w = cond-low (eqb gap 0) {x = wordOf line m 84} {y = wordOf line m 86} (w .weight m) (w .filled m)
+
 pub toll-low : {line : List ℕ} (k b m a : ℕ) → LineWords line → tollIn line k b m a ≤ B
 unfolding tollIn
 toll-low {line} k b m a w =
     let x = siteIn line m a in
     let y = endIn line k b in
-    let p = charged-low (charge-low (x - y)) (pay-low (w .weight m) (differ-low line k b m a)) in
+    let p = charged-low (charge-low (x - y)) (pay-low (weight-low m (x - y) w) (differ-low line k b m a)) in
     cond-low (ltb x y) (omega arith) (cond-low (eqb (x - y) 1) (omega arith) (omega arith))
 
 -- what the ends of a row pay is no word over B

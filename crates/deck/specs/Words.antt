@@ -9,7 +9,8 @@ use Rattle.definition.specs.Cost.{charge}
 use Rattle.model.specs.Steps.{B, Deck, pairCount, offset, marks, before, lastAt}
 
 -- The cell at position k has the words from 128 k on: 0 to 59 what it costs by pose (B: not offered), 64 given, 65 and 66 the widths of its
--- layouts, 67 whether it is tall; by variant (2 layout + mark) 68 left P, 72 left N, 76 right P, 80 right N; 84 the step weight, 85 its number.
+-- layouts, 67 whether it is tall; by variant (2 layout + mark) 68 left P, 72 left N, 76 right P, 80 right N; 84 the weight of a step where it touches
+-- the cell on its left, 85 its number, 86 the weight of a step at every other gap.
 -- Pose a is 4 e + 2 layout + mark, at site given + e - D. Sites are compared with D added to both.
 abbrev pub wordOf : List ℕ → ℕ → ℕ → ℕ
 wordOf line k i = getD line (k * 128 + i) 0
@@ -30,12 +31,17 @@ differIn line k b m a =
     cond (eqb (wordOf line k (76 + variant b)) (wordOf line m (68 + variant a))) 0 1
     + cond (eqb (wordOf line k (80 + variant b)) (wordOf line m (72 + variant a))) 0 1
 
--- what the right one's left site x and the left one's end y make of it
-abbrev pub tollAt : ℕ → ℕ → ℕ → ℕ
-tollAt x y pay = cond (ltb x y) B (cond (eqb (x - y) 1) B (charge (x - y) * pay))
+-- the weight of a step between m and the cell on its left, by the gap between them: document 01 has one weight (request A7 is to give words 84 and 86
+-- two)
+abbrev pub weightIn : List ℕ → ℕ → ℕ → ℕ
+weightIn line m gap = cond (eqb gap 0) (wordOf line m 84) (wordOf line m 86)
+
+-- what the right one's left site x and the left one's end y make of what they pay by their gap
+abbrev pub tollAt : ℕ → ℕ → (ℕ → ℕ) → ℕ
+tollAt x y pay = cond (ltb x y) B (cond (eqb (x - y) 1) B (charge (x - y) * pay (x - y)))
 
 unfoldable pub tollIn : List ℕ → ℕ → ℕ → ℕ → ℕ → ℕ
-tollIn line k b m a = tollAt (siteIn line m a) (endIn line k b) (wordOf line m 84 * differIn line k b m a)
+tollIn line k b m a = tollAt (siteIn line m a) (endIn line k b) (λ gap. weightIn line m gap * differIn line k b m a)
 
 -- what a cell pays as the first of its row, and as the last: document 01 lets a row begin and end anywhere (request A1 is to change these lines and
 -- their laws)
@@ -68,6 +74,7 @@ pub record LineWords (line : List ℕ) : Type 0 where
   pub long : 8192 ≤ length line
   pub word : (k : ℕ) → getD line k 0 ≤ B
   pub weight : (k : ℕ) → wordOf line k 84 ≤ 1000
+  pub filled : (k : ℕ) → wordOf line k 86 ≤ 1000
 
 -- what every function of the search is given: a row's words and the pairs
 pub record Ground (line pairs : List ℕ) (R n poses count : ℕ) : Type 0 where

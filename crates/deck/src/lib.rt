@@ -5,7 +5,7 @@ ghost use Prim.Native.Nat.{ℕ, suc, _+_, _*_, _≤_, _<_};
 ghost use lib.ListN.{length, getD};
 ghost use lib.Dec.{eqb};
 ghost use Rattle.model.specs.Steps.{pairCount, lastAt, isSource};
-ghost use Rattle.deck.specs.Words.{siteIn, endIn, differIn, tollIn, frontIn, backIn, deckOf, thereIn, PairWords, LineWords};
+ghost use Rattle.deck.specs.Words.{siteIn, endIn, differIn, weightIn, tollIn, frontIn, backIn, deckOf, thereIn, PairWords, LineWords};
 
 // A word as a count or a place.
 pub fn word(words: &[u32], at: usize) -> usize
@@ -94,6 +94,17 @@ pub fn differ(line: &[u32], k: usize, b: usize, m: usize, a: usize) -> u32
     p + n
 }
 
+// The weight of a step between the cell at position m and the cell on its left, by the gap between them.
+fn weight(line: &[u32], m: usize, gap: usize) -> u32
+    requires { ⌜ LineWords (now line) × (m < 64) ⌝ }
+    ensures { λ w. ⌜ w ≡ weightIn (now (line .entry)) m gap ⌝ }
+{
+    if gap == 0 {
+        return line[m * 128 + 84];
+    }
+    line[m * 128 + 86]
+}
+
 // What the two pay; NONE where they may not stand so.
 pub fn toll(line: &[u32], k: usize, b: usize, m: usize, a: usize) -> u32
     requires { ⌜ LineWords (now line) × (k < 64) × (b < 60) × (m < 64) × (a < 60) ⌝ }
@@ -108,7 +119,7 @@ pub fn toll(line: &[u32], k: usize, b: usize, m: usize, a: usize) -> u32
     if gap == 1 {
         return lanes::NONE;
     }
-    gap::charge_of(gap) * (line[m * 128 + 84] * differ(line, k, b, m, a))
+    gap::charge_of(gap) * (weight(line, m, gap) * differ(line, k, b, m, a))
 }
 
 // What the cell at position k pays in pose a as the first of its row; NONE where it may not stand there.

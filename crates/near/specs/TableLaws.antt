@@ -99,32 +99,6 @@ cleared-more {rows} {lanes} {new = new} v h n c w =
 
 -- ---- what is paid
 
-pub pays-more :
-    {line pays : List ℕ} {k m : ℕ} (j x : ℕ)
-    → Pays line k m j pays → j < 20 → x ≡ payIn line k (j / 5) m (j % 5)
-    → Pays line k m (j + 1) (set pays j x)
-pays-more {line} {pays} {k} {m} j x w h e =
-    let n = w .long in
-    record {
-      long = length-set pays j x ∙ w .long;
-      pay = below-more (λ (i : ℕ). getD (set pays j x) i 0 ≡ payIn line k (i / 5) m (i % 5)) j
-          (λ i g. getD-set-other pays j i x 0 (omega arith) ∙ w .pay i g)
-          (getD-set-same pays j x 0 (omega arith) ∙ e);
-    }
-
-pub pays-low : {line pays : List ℕ} {k m : ℕ} → LineWords line → Pays line k m 20 pays → PaysLow pays
-pays-low {k = k} {m = m} w p = record { long = p .long; low = λ j h. omega (arith, p .pay j h, pay-small k (j / 5) m (j % 5) w) }
-
--- one plane more of variant u
-pub pays-next :
-    {line pays : List ℕ} {k m : ℕ} (u v x : ℕ)
-    → Pays line k m (u * 5 + v) pays → u < 4 → v < 5 → x ≡ payIn line k u m v
-    → Pays line k m (u * 5 + (v + 1)) (set pays (u * 5 + v) x)
-pays-next {line} {pays} {k} {m} u v x w h i e =
-    let j : ℕ = u * 5 + v in
-    let z : j + 1 ≡ u * 5 + (v + 1) = omega arith in
-    rw z at (pays-more j x w (omega arith) (e ∙ ap₂ (λ (a b : ℕ). payIn line k a m b) (omega arith) (omega arith)))
-
 -- a source's pose in the planes, from the words of what it pays
 pub pose-spread :
     {line pays : List ℕ} {k m t : ℕ} (b v s x : ℕ)
@@ -261,45 +235,6 @@ pub found-small : {table : List ℕ} (a l : ℕ) → Low table → foundIn table
 found-small a l w = omega (arith, w .word (4 * 1216 + a / 4 * 64 + l))
 
 -- ---- many sources
-
--- the poses below n
-module _ (line : List ℕ) (k m : ℕ) (f : ℕ → ℕ) where
-  pub poses-none : (v t : ℕ) → byPoses line k m f 0 v t ≡ B
-  unfolding byPoses
-  poses-none v t = lowest-none _
-
-  pub poses-more : (n v t : ℕ) → byPoses line k m f (n + 1) v t ≡ min (byPoses line k m f n v t) (onePose line k m n (f n) v t)
-  unfolding byPoses
-  poses-more n v t = lowest-more _ n
-
--- the pairs below n
-module _ (line : List ℕ) (D : Deck) (R : ℕ) (f : Layer) (i q : ℕ) where
-  pub pair-in : (p v t : ℕ) → isSource D R i q p ≡ true
-      → onePair line D R f i q p v t ≡ byPoses line (lastAt R i p) (lastAt R (suc i) q) (f p) (D .poses) v t
-  unfolding onePair
-  pair-in p v t e = ap (λ z. cond z (byPoses line (lastAt R i p) (lastAt R (suc i) q) (f p) (D .poses) v t) B) e
-
-  pub pair-out : (p v t : ℕ) → isSource D R i q p ≡ false → onePair line D R f i q p v t ≡ B
-  unfolding onePair
-  pair-out p v t e = ap (λ z. cond z (byPoses line (lastAt R i p) (lastAt R (suc i) q) (f p) (D .poses) v t) B) e
-
-  pub pairs-none : (v t : ℕ) → byPairs line D R f i q 0 v t ≡ B
-  unfolding byPairs
-  pairs-none v t = lowest-none _
-
-  pub pairs-more : (n v t : ℕ) → byPairs line D R f i q (n + 1) v t ≡ min (byPairs line D R f i q n v t) (onePair line D R f i q n v t)
-  unfolding byPairs
-  pairs-more n v t = lowest-more _ n
-
-  -- none of them a source
-  pub pairs-away : (n v t : ℕ) → ((p : ℕ) → p < n → isSource D R i q p ≡ false) → byPairs line D R f i q n v t ≡ B
-  unfolding byPairs
-  pairs-away n v t h =
-      omega (arith, lowest-low B (λ p. onePair line D R f i q p v t) (from 0 n), loop-above B (λ p. onePair line D R f i q p v t) n B (omega arith) (λ p k. omega (arith, pair-out p v t (h p k))))
-
-  pub pairs-low : (n v t : ℕ) → byPairs line D R f i q n v t ≤ B
-  unfolding byPairs
-  pairs-low n v t = lowest-low B _ (from 0 n)
 
 -- no source, or none that lowers anything
 pub gathered-none :

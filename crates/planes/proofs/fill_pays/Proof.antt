@@ -2,22 +2,24 @@
 use Prim.Native.Nat.{_+_, _*_, _-_, _≤_}
 use mathlib.Core.Path.{_≡_}
 use native.Mathlib.Omega.{arith}
-use Rattle.near.specs.Table.{Pays}
+use Rattle.planes.specs.Rows.{Pays}
+use Rattle.planes.specs.Sources.{pays-none}
 use borrow.Author.Needs.{needs}
-use Rattle.near.proofs.fill_pays.Statement.{statement}
-use Rattle.near.proofs.fill_pays.Tie as tie
+use Rattle.planes.proofs.fill_pays.Statement.{statement}
+use Rattle.planes.proofs.fill_pays.Tie as tie
 
 abbrev Inv-loop : tie.InvT-loop
-Inv-loop pays₀ line k m u₀ pays u =
-    (u ≤ 4) × Pays line k m (u * 5) pays
+Inv-loop pays₀ line k m planes u₀ pays u =
+    (u ≤ 4) × Pays line k m planes (u * 9) pays
 
 abbrev μ-loop : tie.MeasureT-loop
-μ-loop pays₀ line k m u₀ pays u =
+μ-loop pays₀ line k m planes u₀ pays u =
     4 - u
 
 loop-holds : tie.Need-loop-holds Inv-loop μ-loop
 loop-holds c =
-    (omega arith, record { long = omega arith; pay = λ i h. absurd (omega arith) })
+    let a = c .before .args in
+    (omega arith, pays-none (a .line .now) (a .k) (a .m) (a .planes) (omega arith))
 
 pay-row-requires : tie.Need-pay-row-requires Inv-loop μ-loop
 pay-row-requires c κs = search needs
@@ -31,7 +33,7 @@ loop-less c = search needs
 loop-again : tie.Need-loop-again Inv-loop μ-loop
 loop-again c =
     let l = c .before .before .before .loop in
-    let e : l .u * 5 + 5 ≡ (l .u + 1) * 5 = omega arith in
+    let e : l .u * 9 + 9 ≡ (l .u + 1) * 9 = omega arith in
     (omega arith, rw e at (c .pay-row .ensures))
 
 returns : tie.Need-returns Inv-loop μ-loop

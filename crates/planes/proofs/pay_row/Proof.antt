@@ -2,25 +2,25 @@
 use Prim.Native.Nat.{_+_, _*_, _-_, _≤_}
 use mathlib.Core.Path.{_≡_}
 use native.Mathlib.Omega.{arith}
-use Rattle.near.specs.Table.{Pays}
-use Rattle.near.specs.TableLaws.{pays-next}
+use Rattle.planes.specs.Rows.{Pays}
+use Rattle.planes.specs.Sources.{pays-next, pays-row}
 use borrow.Author.Needs.{needs}
-use Rattle.near.proofs.pay_row.Statement.{statement}
-use Rattle.near.proofs.pay_row.Tie as tie
+use Rattle.planes.proofs.pay_row.Statement.{statement}
+use Rattle.planes.proofs.pay_row.Tie as tie
 
 abbrev Inv-loop : tie.InvT-loop
-Inv-loop pays₀ line k u m v₀ pays v =
-    (v ≤ 5) × Pays line k m (u * 5 + v) pays
+Inv-loop pays₀ line k u m planes v₀ pays v =
+    (v ≤ planes) × Pays line k m planes (u * 9 + v) pays
 
 abbrev μ-loop : tie.MeasureT-loop
-μ-loop pays₀ line k u m v₀ pays v =
-    5 - v
+μ-loop pays₀ line k u m planes v₀ pays v =
+    planes - v
 
 loop-holds : tie.Need-loop-holds Inv-loop μ-loop
 loop-holds c =
     let k = c .before in
-    let e : k .args .u * 5 + 0 ≡ k .args .u * 5 = omega arith in
-    (omega arith, rw e (k .pre .4))
+    let e : k .args .u * 9 + 0 ≡ k .args .u * 9 = omega arith in
+    (omega arith, rw e (k .pre .5))
 
 pay-requires : tie.Need-pay-requires Inv-loop μ-loop
 pay-requires c κs = search needs
@@ -50,8 +50,9 @@ loop-again c =
 
 returns : tie.Need-returns Inv-loop μ-loop
 returns c =
-    let e : c .before .loop .v ≡ 5 = omega arith in
-    rw e at (c .before .loop .inv .1)
+    let a = c .before .before .before .args in
+    let e : c .before .loop .v ≡ a .planes = omega arith in
+    pays-row (a .u) (rw e at (c .before .loop .inv .1)) (omega arith)
 
 pub pay-row-spec : {M : Type 1} → statement M
 pay-row-spec =

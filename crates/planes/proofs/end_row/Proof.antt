@@ -1,10 +1,10 @@
 -- Words are at most B, so that the sum fits. Assumes nothing.
 use Prim.Native.Nat.{_+_, _*_, _/_, _%_}
 use native.Mathlib.Omega.{arith}
-use Rattle.near.specs.Rows.{endRow}
+use Rattle.planes.specs.Rows.{endRow}
 use borrow.Author.Needs.{needs}
-use Rattle.near.proofs.end_row.Statement.{statement}
-use Rattle.near.proofs.end_row.Tie as tie
+use Rattle.planes.proofs.end_row.Statement.{statement}
+use Rattle.planes.proofs.end_row.Tie as tie
 
 end-requires : tie.Need-end-requires
 end-requires c κs = search needs

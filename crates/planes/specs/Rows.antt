@@ -4,21 +4,31 @@ use Prim.Native.Nat.{ℕ, zero, suc, _+_, _*_, _-_, _/_, _%_, _≤_, _<_, min}
 use mathlib.Core.Path.{_≡_}
 use mathlib.Core.Bool.{Bool, cond}
 use mathlib.Core.List.{List}
+use lib.ListN.{length, getD}
 use lib.Dec.{ltb, eqb}
 use Rattle.rows.specs.Lists.{from}
 use Rattle.pair.specs.Coded.{lowest}
 use Rattle.model.specs.Steps.{B, Deck, Layer, lastAt, isSource}
 use Rattle.deck.specs.Words.{wordOf, variant, endIn, differIn}
-use Rattle.near.specs.Gaps.{paying}
+use Rattle.planes.specs.Gaps.{paying}
 
 -- what a source in row r that costs c is in row t
 abbrev pub inRow : ℕ → ℕ → ℕ → ℕ
 inRow r t c = cond (eqb r t) c B
 
--- a plane has a cost for each row; what pose a finds in the planes: in its variant's plane the rows of the gaps that pay, in plane 4 all rows that end
--- four sites or more left of it
+-- the plane in which the sources at a gap are found by a target in variant v: plane 0 is that of the gaps that are free, planes 1 to 4 are those of gap 0, the
+-- planes from `other` on those of the other gaps that pay
+abbrev pub planeIn : ℕ → ℕ → ℕ → ℕ
+planeIn other gap v = cond (eqb gap 0) (1 + v) (other + v)
+
+-- a plane has a cost for each row; what pose a finds in the planes: in its variant's plane of a gap that pays the row of that gap, in plane 0 all rows that
+-- end four sites or more left of it
 unfoldable pub found : (ℕ → ℕ → ℕ) → ℕ → ℕ
-found plane a = min (lowest B (λ gap. plane (a % 4) (a / 4 + 4 - gap)) paying) (lowest B (plane 4) (from 0 (suc (a / 4))))
+found plane a = min (lowest B (λ gap. plane (planeIn 5 gap (a % 4)) (a / 4 + 4 - gap)) paying) (lowest B (plane 0) (from 0 (suc (a / 4))))
+
+-- how many planes a target at position m needs: where all gaps that pay have one weight, planes 5 to 8 are as planes 1 to 4
+unfoldable pub planesIn : List ℕ → ℕ → ℕ
+planesIn line m = cond (eqb (wordOf line m 84) (wordOf line m 86)) 5 9
 
 -- the rows that the poses below `poses` look at
 abbrev pub rowsOf : ℕ → ℕ
@@ -30,15 +40,20 @@ rowsOf poses = (poses + 3) / 4 + 4
 unfoldable pub endRow : List ℕ → ℕ → ℕ → ℕ → ℕ
 endRow line k b m = endIn line k b + 4 - wordOf line m 64
 
--- what variant u of k pays to variant v of m
-abbrev pub payOf : List ℕ → ℕ → ℕ → ℕ → ℕ → ℕ
-payOf line k u m v =
-    wordOf line m 84
-    * (cond (eqb (wordOf line k (76 + u)) (wordOf line m (68 + v))) 0 1 + cond (eqb (wordOf line k (80 + u)) (wordOf line m (72 + v))) 0 1)
-
--- what pose b of k pays in plane v of m; in plane 4 nothing
+-- what pose b of k pays in plane v of m: by the variant of m that the plane is for, in plane 0 nothing
 unfoldable pub payIn : List ℕ → ℕ → ℕ → ℕ → ℕ → ℕ
-payIn line k b m v = cond (ltb v 4) (payOf line k (variant b) m v) 0
+payIn line k b m v =
+    cond (ltb v 1) 0 (cond (ltb v 5) (wordOf line m 84 * differIn line k b m (v - 1)) (wordOf line m 86 * differIn line k b m (v - 5)))
+
+-- what each variant of the cell at position k pays in each plane below `planes` of the cell at position m: 9 words for each variant, those below n of 36
+pub record Pays (line : List ℕ) (k m planes n : ℕ) (pays : List ℕ) : Type 0 where
+  pub long : length pays ≡ 36
+  pub pay : (j : ℕ) → j < n → j % 9 < planes → getD pays j 0 ≡ payIn line k (j / 9) m (j % 9)
+
+-- all of them, none over B
+pub record PaysLow (planes : ℕ) (pays : List ℕ) : Type 0 where
+  pub long : length pays ≡ 36
+  pub low : (j : ℕ) → j < 36 → j % 9 < planes → getD pays j 0 ≤ B
 
 -- a source of cost c in the planes
 abbrev pub onePose : List ℕ → ℕ → ℕ → ℕ → ℕ → ℕ → ℕ → ℕ

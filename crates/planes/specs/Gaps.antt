@@ -17,9 +17,9 @@ use Rattle.deck.specs.Words.{tollAt}
 abbrev pub paying : List ℕ
 paying = 0 ∷ 2 ∷ 3 ∷ []
 
--- what neighbours pay, the right one's left site x, the left one's end y
-pub data Toll (x y pay : ℕ) : ℕ → Type 0 where
-  pays : (gap : ℕ) → In gap paying → x ≡ y + gap → Toll x y pay pay
+-- what neighbours pay, the right one's left site x, the left one's end y; `pay` tells it by their gap
+pub data Toll (x y : ℕ) (pay : ℕ → ℕ) : ℕ → Type 0 where
+  pays : (gap : ℕ) → In gap paying → x ≡ y + gap → Toll x y pay (pay gap)
   free : y + 4 ≤ x → Toll x y pay 0
   barred : x < y + 4 → ((gap : ℕ) → In gap paying → x ≢ y + gap) → Toll x y pay B
 
@@ -29,21 +29,22 @@ paying-low gap (here e) = omega arith
 paying-low gap (there (here e)) = omega arith
 paying-low gap (there (there (here e))) = omega arith
 
-pub toll? : (x y pay : ℕ) → Toll x y pay (tollAt x y pay)
+pub toll? : (x y : ℕ) (pay : ℕ → ℕ) → Toll x y pay (tollAt x y pay)
 toll? x y pay = left (ltb x y) (le? (suc x) y)
   where
     -- at a gap
-    at : (gap : ℕ) → gap ≢ 1 → x ≡ y + gap → Toll x y pay (charge gap * pay)
+    at : (gap : ℕ) → gap ≢ 1 → x ≡ y + gap → Toll x y pay (charge gap * pay gap)
     at zero n e = subst (Toll x y pay) (omega arith) (pays 0 (here refl) e)
     at (suc zero) n e = absurd (n refl)
     at (suc (suc zero)) n e = subst (Toll x y pay) (omega arith) (pays 2 (there (here refl)) e)
     at (suc (suc (suc zero))) n e = subst (Toll x y pay) (omega arith) (pays 3 (there (there (here refl))) e)
     at (suc (suc (suc (suc g)))) n e =
         let m : min (suc (suc (suc (suc g)))) 4 ≡ 4 = omega arith in
-        let z : 0 * pay ≡ charge (suc (suc (suc (suc g)))) * pay = ap (λ (j : ℕ). getD charges j 0 * pay) (sym m) in
+        let p = pay (suc (suc (suc (suc g)))) in
+        let z : 0 * p ≡ charge (suc (suc (suc (suc g)))) * p = ap (λ (j : ℕ). getD charges j 0 * p) (sym m) in
         subst (Toll x y pay) (omega arith) (free (omega arith))
 
-    one : (t : Bool) → Eq? (x - y) 1 t → y ≤ x → Toll x y pay (cond t B (charge (x - y) * pay))
+    one : (t : Bool) → Eq? (x - y) 1 t → y ≤ x → Toll x y pay (cond t B (charge (x - y) * pay (x - y)))
     one true (same e) h = barred (omega arith) λ gap i f. no1 gap i (omega arith)
       where
         no1 : (gap : ℕ) → In gap paying → gap ≢ 1
@@ -52,6 +53,6 @@ toll? x y pay = left (ltb x y) (le? (suc x) y)
         no1 gap (there (there (here e))) = λ f. omega arith
     one false (differs n) h = at (x - y) n (omega arith)
 
-    left : (t : Bool) → Le? (suc x) y t → Toll x y pay (cond t B (cond (eqb (x - y) 1) B (charge (x - y) * pay)))
+    left : (t : Bool) → Le? (suc x) y t → Toll x y pay (cond t B (cond (eqb (x - y) 1) B (charge (x - y) * pay (x - y))))
     left true (low h) = barred (omega arith) λ gap i e. omega arith
     left false (high h) = one (eqb (x - y) 1) (eq? (x - y) 1) (omega arith)

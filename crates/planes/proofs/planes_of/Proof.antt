@@ -1,0 +1,53 @@
+-- The two weights are compared as words. Assumes nothing.
+use borrow.Author.Tests.{eq-eqb, ne-eqb}
+use Rattle.planes.specs.Rows.{planesIn}
+use borrow.Author.Needs.{needs}
+use Rattle.planes.proofs.planes_of.Statement.{statement}
+use Rattle.planes.proofs.planes_of.Tie as tie
+
+mul-if1 : tie.Need-mul-if1
+mul-if1 c = search needs
+
+add-if1 : tie.Need-add-if1
+add-if1 c = search needs
+
+mul-if1-2 : tie.Need-mul-if1-2
+mul-if1-2 c = search needs
+
+shared-slice-read-if1 : tie.Need-shared-slice-read-if1
+shared-slice-read-if1 c = search needs
+
+mul-if1-3 : tie.Need-mul-if1-3
+mul-if1-3 c = search needs
+
+add-if1-2 : tie.Need-add-if1-2
+add-if1-2 c = search needs
+
+mul-if1-4 : tie.Need-mul-if1-4
+mul-if1-4 c = search needs
+
+shared-slice-read-if1-2 : tie.Need-shared-slice-read-if1-2
+shared-slice-read-if1-2 c = search needs
+
+returns : tie.Need-returns
+unfolding planesIn
+returns c = rw (eq-eqb _ _ (c .if1 .taken))
+
+returns-2 : tie.Need-returns-2
+unfolding planesIn
+returns-2 c = rw (ne-eqb _ _ (c .if1 .left))
+
+pub planes-of-spec : {M : Type 1} → statement M
+planes-of-spec =
+    tie.close
+    (tie.spec
+    mul-if1
+    add-if1
+    mul-if1-2
+    shared-slice-read-if1
+    mul-if1-3
+    add-if1-2
+    mul-if1-4
+    shared-slice-read-if1-2
+    returns
+    returns-2)

@@ -1,0 +1,5 @@
+pub mod Loops
+pub mod Gaps
+pub mod Rows
+pub mod Laws
+pub mod Sources
