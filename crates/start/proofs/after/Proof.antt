@@ -3,7 +3,7 @@ use Prim.Native.Nat.{_-_, _≤_}
 use mathlib.Core.Path.{_≡_}
 use native.Mathlib.Omega.{arith}
 use borrow.Author.Needs.{needs}
-use Rattle.model.specs.Steps.{firstAfter}
+use Rattle.model.specs.Steps.{marks, firstAfter}
 use Rattle.deck.specs.Words.{deckOf}
 use Rattle.start.specs.Begun.{Begun, begun-none, begun-more}
 use Rattle.start.proofs.after.Statement.{statement}
@@ -11,7 +11,7 @@ use Rattle.start.proofs.after.Tie as tie
 
 abbrev Inv-loop : tie.InvT-loop
 Inv-loop store₀ line pairs n poses r count i s p l to m q₀ store q =
-    (q ≤ count) × Begun (firstAfter (deckOf line n poses) r i m p l) poses q to store₀ store
+    (q ≤ count) × (m ≡ marks r s) × Begun (firstAfter (deckOf line n poses) r i m p l) poses q to store₀ store
 
 abbrev μ-loop : tie.MeasureT-loop
 μ-loop store₀ line pairs n poses r count i s p l to m q₀ store q =
@@ -30,7 +30,10 @@ shared-slice-read-m : tie.Need-shared-slice-read-m Inv-loop μ-loop
 shared-slice-read-m c = search needs
 
 loop-holds : tie.Need-loop-holds Inv-loop μ-loop
-loop-holds c = (omega arith, begun-none _ _ _ (c .before .before .before .before .pre .1))
+loop-holds c =
+    let k = c .before .before .before .before in
+    let g = k .pre .0 in
+    (omega arith, omega (arith, g .coded .mark (k .args .s) (omega (arith, g .all))), begun-none _ _ _ (k .pre .1))
 
 mul-after-pair : tie.Need-mul-after-pair Inv-loop μ-loop
 mul-after-pair c = search needs
@@ -44,7 +47,7 @@ after-pair-requires : tie.Need-after-pair-requires Inv-loop μ-loop
 after-pair-requires c κs =
     let k = c .before .before .before .before .before .before .before in
     let g = k .pre .0 in
-    let s = c .before .before .loop .inv .1 in
+    let s = c .before .before .loop .inv .2 in
     (g, s .low, k .pre .3, k .pre .5, k .pre .6, omega (arith, g .all, g .coded .few, g .few, s .frame .long), omega arith)
 
 add-q : tie.Need-add-q Inv-loop μ-loop
@@ -57,18 +60,16 @@ loop-again : tie.Need-loop-again Inv-loop μ-loop
 loop-again c =
     let g = c .before .before .before .before .before .before .before .before .before .before .pre .0 in
     let l = c .before .before .before .before .before .loop in
-    (omega arith, begun-more (l .q) (omega (arith, g .few)) (omega (arith, g .all, g .coded .few)) (l .inv .1) (c .before .before .after-pair .ensures))
+    (omega arith, l .inv .1, begun-more (l .q) (omega (arith, g .few)) (omega (arith, g .all, g .coded .few)) (l .inv .2) (c .before .before .after-pair .ensures))
 
 same-length : tie.Need-same-length Inv-loop μ-loop
-same-length c = c .before .loop .inv .1 .frame .long
+same-length c = c .before .loop .inv .2 .frame .long
 
 returns : tie.Need-returns Inv-loop μ-loop
 returns c =
-    let k = c .before .before .before .before .before .before in
-    let a = k .args in
-    let e : c .before .loop .q ≡ a .count = omega arith in
-    let f = k .pre .0 .coded .mark (a .s) (omega (arith, k .pre .0 .all)) in
-    rw (e, f) at (c .before .loop .inv .1)
+    let l = c .before .loop in
+    let e : l .q ≡ c .before .before .before .before .before .before .args .count = omega arith in
+    rw (e, l .inv .1) at (l .inv .2)
 
 pub after-spec : {M : Type 1} → statement M
 after-spec =
