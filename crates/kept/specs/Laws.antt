@@ -1,36 +1,16 @@
--- Laws of kept layers: one pair more, one step more; and that layers depend only on the entries of the first. Assumes nothing.
+-- Laws of kept layers: one layer more, fewer layers; and that layers depend only on the entries of the first. Assumes nothing.
 use Prim.Native.Nat.{ℕ, zero, suc, _+_, _*_, _≤_, _<_}
 use mathlib.Core.Path.{_≡_, refl, sym, ap, _∙_}
 use mathlib.Core.List.{List}
 use native.Mathlib.Omega.{arith}
 use native.Mathlib.Decide.{ℕ-discrete}
-use borrow.Author.Count.{below-more}
 use lib.ListN.{getD}
 use Rattle.model.specs.Steps.{Deck, Layer, pairCount, layers, nextLayer}
 use Rattle.lanes.specs.Laws.{frame-refl, frame-join}
-use Rattle.lanes.specs.Store.{Frame, Low, Written, layerIn}
-use Rattle.layer.specs.Laws.{next-ext}
-use Rattle.kept.specs.Kept.{keptAt, keptIn, firstLane, Copied, KeptLayers, StretchKept, Running}
-
--- ---- one pair more
-
-pub copied-none : (poses at i : ℕ) {st : List ℕ} → Low st → Copied poses at i 0 st st
-copied-none poses at i {st} w = record { frame = frame-refl _ _ st; low = w; right = λ q a h. absurd (omega arith) }
-
-pub copied-more :
-    {poses at i from to : ℕ} {old mid new : List ℕ} (q : ℕ)
-    → at ≤ 49152 → 0 < i → q < 12 → poses ≤ 60 → from ≡ at + q * 4096 → to ≡ keptAt i + q * 64
-    → Copied poses at i q old mid → Written (firstLane mid from) to poses mid new
-    → Copied poses at i (q + 1) old new
-copied-more {poses} {at} {i} {from} {to} {old} {mid} {new} q l p h k e f s w =
-    record {
-      frame = frame-join (keptAt i) (keptAt i + 768) (s .frame) (w .frame) (omega arith) (omega arith) (omega arith) (omega arith);
-      low = w .low;
-      right = λ r a u v. below-more (λ (r : ℕ). (a : ℕ) → a < poses → keptIn new i r a ≡ layerIn old at 0 r a) q
-          (λ r x a y. w .frame .low (keptAt i + r * 64 + a) (omega arith) ∙ s .right r a x y)
-          (λ a y. ap (λ (k : ℕ). getD new k 0) (omega arith) ∙ w .words a y ∙ s .frame .low (from + a * 64) (omega arith) ∙ ap (λ (k : ℕ). getD old k 0) (omega arith))
-          r u a v;
-    }
+use Rattle.lanes.specs.Store.{Low}
+use Rattle.planes.specs.Next.{next-ext}
+use Rattle.thin.specs.Thin.{Stepped}
+use Rattle.kept.specs.Kept.{keptAt, keptIn, KeptLayers, StretchKept}
 
 -- ---- layers from the same first layer
 
@@ -55,71 +35,45 @@ stretch-fewer end h s = record { frame = s .frame; low = s .low; kept = kept-few
 -- ---- one step more
 
 -- a layer from the one before
-pub layers-more : (D : Deck) (R : ℕ) (f : Layer) (i j q a : ℕ) → layers D R f i (j + 1) q a ≡ nextLayer D R (layers D R f i j) (i + j) q a
+layers-more : (D : Deck) (R : ℕ) (f : Layer) (i j q a : ℕ) → layers D R f i (j + 1) q a ≡ nextLayer D R (layers D R f i j) (i + j) q a
 unfolding layers
 layers-more D R f i j q a = let z : j + 1 ≡ suc j = omega arith in ap (λ (k : ℕ). layers D R f i k q a) z
 
-pub running-start : (D : Deck) (R i : ℕ) {st : List ℕ} → Low st → KeptLayers D R (layerIn st 0 0) i i st → Running D R i 0 0 st st
+-- the first layer is there
+pub kept-none : (D : Deck) (R i : ℕ) {st : List ℕ} → Low st → StretchKept D R i (i + 0) st st
 unfolding layers
-running-start D R i {st} w k =
-    record {
-      done = record { frame = frame-refl _ _ st; low = w; kept = record { right = λ j q a h. k .right j q a (omega arith) } };
-      here = λ q a h x. refl;
-    }
+kept-none D R i {st} w = record { frame = frame-refl _ _ st; low = w; kept = record { right = λ j q a h x y. go j q a h } }
+  where
+    go : (j q a : ℕ) → i + j ≤ i + 0 → keptIn st (i + j) q a ≡ layers D R (keptIn st i) i j q a
+    go zero q a h = ap (λ (k : ℕ). getD st k 0) (omega arith)
+    go (suc j) q a h = absurd (omega arith)
 
 module _ (D : Deck) (R i : ℕ) (some : 0 < i) (few : D .poses ≤ 60) (pairsFew : pairCount R ≤ 12) where
-  pub running-more :
-      {at to count : ℕ} {old mid step new : List ℕ} (j : ℕ)
-      → i + (j + 1) ≤ 66 → to ≤ 49152 → count ≡ pairCount R → Running D R i j at old mid → Frame to (to + 49152) mid step
-      → ((q : ℕ) → q < count → (a l : ℕ) → a < D .poses → l < 1 → layerIn step to l q a ≡ nextLayer D R (layerIn mid at l) (i + j) q a)
-      → Copied (D .poses) to (i + (j + 1)) count step new
-      → Running D R i (j + 1) to old new
-  running-more {at} {to} {count} {old} {mid} {step} {new} j l t n s f g w =
+  pub kept-more :
+      {count from : ℕ} {old mid new : List ℕ} (j : ℕ)
+      → i + (j + 1) ≤ 66 → count ≡ pairCount R → from ≡ keptAt (i + j) → StretchKept D R i (i + j) old mid → Stepped D R count (i + j) from mid new
+      → StretchKept D R i (i + (j + 1)) old new
+  kept-more {count} {from} {old} {mid} {new} j l n e s w =
       record {
-        done = record {
-          frame = frame-join 0 148992 (frame-join 0 148992 (s .done .frame) f (omega arith) (omega arith) (omega arith) (omega arith)) (w .frame) (omega arith) (omega arith) (omega arith) (omega arith);
-          low = w .low;
-          kept = record { right = λ k q a h x y. kept k q a x y h (ℕ-discrete k (j + 1)) };
-        };
-        here = λ q a x y. w .frame .low (to + q * 4096 + a * 64 + 0) (omega arith) ∙ next q a x y;
+        frame = frame-join 98304 148992 (s .frame) (w .frame) (omega arith) (omega arith) (omega arith) (omega arith);
+        low = w .low;
+        kept = record { right = λ k q a h x y. kept k q a x y h (ℕ-discrete k (j + 1)) };
       }
     where
       first : Layer
-      first = layerIn old 0 0
+      first = keptIn old i
 
-      next : (q a : ℕ) → q < pairCount R → a < D .poses → layerIn step to 0 q a ≡ layers D R first i (j + 1) q a
+      -- the layer before, as it is read
+      before : (q a : ℕ) → q < pairCount R → a < D .poses → getD mid (from + q * 64 + a) 0 ≡ layers D R first i j q a
+      before q a x y = ap (λ (k : ℕ). getD mid (k + q * 64 + a) 0) e ∙ s .kept .right j q a (omega arith) x y
+
+      next : (q a : ℕ) → q < pairCount R → a < D .poses → keptIn new (i + (j + 1)) q a ≡ layers D R first i (j + 1) q a
       next q a x y =
-          g q (omega arith) a 0 y (omega arith)
-          ∙ next-ext D R (layerIn mid at 0) (layers D R first i j) (s .here) (i + j) q a
+          ap (λ (k : ℕ). getD new (k + q * 64 + a) 0) (omega arith)
+          ∙ w .right q a (omega arith) y
+          ∙ next-ext D R (λ q b. getD mid (from + q * 64 + b) 0) (layers D R first i j) before (i + j) q a
           ∙ sym (layers-more D R first i j q a)
 
       kept : (k q a : ℕ) → q < pairCount R → a < D .poses → i + k ≤ i + (j + 1) → Dec (k ≡ j + 1) → keptIn new (i + k) q a ≡ layers D R first i k q a
-      kept k q a x y h (yes e) = rw e (w .right q a (omega arith) y ∙ next q a x y)
-      kept k q a x y h (no e) =
-          w .frame .low (keptAt (i + k) + q * 64 + a) (omega arith)
-          ∙ f .high (keptAt (i + k) + q * 64 + a) (omega arith)
-          ∙ s .done .kept .right k q a (omega arith) x y
-
--- the first layer, kept, and then the others
-pub kept-first :
-    (D : Deck) (R : ℕ) {count i : ℕ} {old new : List ℕ}
-    → 0 < i → D .poses ≤ 60 → pairCount R ≤ 12 → count ≡ pairCount R → Copied (D .poses) 0 i count old new
-    → KeptLayers D R (layerIn new 0 0) i i new
-unfolding layers
-kept-first D R {count} {i} {old} {new} p few pairsFew n w = record { right = λ j q a h x y. go j q a h x y }
-  where
-    go : (j q a : ℕ) → i + j ≤ i → q < pairCount R → a < D .poses → keptIn new (i + j) q a ≡ layers D R (layerIn new 0 0) i j q a
-    go zero q a h x y =
-        ap (λ (k : ℕ). getD new k 0) (omega arith) ∙ w .right q a (omega arith) y ∙ sym (w .frame .low (0 + q * 4096 + a * 64 + 0) (omega arith))
-    go (suc j) q a h x y = absurd (omega arith)
-
-pub kept-then :
-    (D : Deck) (R : ℕ) {count i end : ℕ} {old mid new : List ℕ}
-    → 0 < i → i ≤ 66 → D .poses ≤ 60 → pairCount R ≤ 12 → Copied (D .poses) 0 i count old mid → StretchKept D R i end mid new
-    → StretchKept D R i end old new
-kept-then D R {i = i} {old = old} {mid = mid} p t few pairsFew w s =
-    record {
-      frame = frame-join 0 148992 (w .frame) (s .frame) (omega arith) (omega arith) (omega arith) (omega arith);
-      low = s .low;
-      kept = kept-ext (layerIn mid 0 0) (layerIn old 0 0) (λ q b x y. w .frame .low (0 + q * 4096 + b * 64 + 0) (omega arith)) (s .kept);
-    }
+      kept k q a x y h (yes z) = rw z (next q a x y)
+      kept k q a x y h (no z) = w .frame .low (keptAt (i + k) + q * 64 + a) (omega arith) ∙ s .kept .right k q a (omega arith) x y

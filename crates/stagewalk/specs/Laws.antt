@@ -1,22 +1,22 @@
 -- Laws of a stage walked back: from its first layer to what the walk leaves, by whether it ends at a tall cell. Assumes nothing.
-use Prim.Native.Nat.{ℕ, zero, suc, _+_, _-_, _≤_, _<_}
+use Prim.Native.Nat.{ℕ, zero, suc, _+_, _*_, _-_, _≤_, _<_}
 use mathlib.Core.Path.{_≡_, refl, sym, ap, _∙_, subst}
 use mathlib.Core.Bool.{Bool, true, false, cond, _&&_}
 use mathlib.Core.List.{List}
 use native.Mathlib.Omega.{arith}
 use native.Mathlib.Decide.{decLt}
 use borrow.Author.Tests.{lt-ltb, le-ltb, leb-true}
-use lib.ListN.{length}
+use lib.ListN.{length, getD}
 use lib.Dec.{ltb, leb, eqb}
-use Rattle.model.specs.Steps.{B, Deck, Layer, pairCount, offset, marks, firstAfter, layers, priceTo, priceEnd}
+use Rattle.model.specs.Steps.{B, Deck, Layer, pairCount, offset, marks, firstAfter, firstOpen, layers, priceTo, priceEnd}
 use Rattle.model.specs.Stages.{placedWith, stageEnd}
 use Rattle.model.specs.Back.{Walked, EndWalked}
 use Rattle.model.specs.Notes.{NotedBy}
 use Rattle.lanes.specs.Laws.{frame-refl, frame-join}
-use Rattle.lanes.specs.Store.{Frame, Low, layerIn, Filled}
+use Rattle.lanes.specs.Store.{Frame, Low}
 use Rattle.deck.specs.Words.{deckOf}
-use Rattle.first.specs.Firsts.{afterFrom, openFrom}
-use Rattle.kept.specs.Kept.{KeptLayers, Stretch, StretchKept}
+use Rattle.start.specs.Begun.{Begun}
+use Rattle.kept.specs.Kept.{keptAt, keptIn, KeptLayers, Stretch, StretchKept}
 use Rattle.kept.specs.Laws.{kept-ext, kept-fewer}
 use Rattle.walk.specs.Walks.{Back, Walk, End, WalkDone, EndDone, wordAt}
 use Rattle.walk.specs.Steps.{end-full}
@@ -31,22 +31,27 @@ start-some R pos zero s = omega arith
 start-some R pos (suc I) s = omega arith
 
 module _ (D : Deck) (R : ℕ) (pos : ℕ → ℕ) where
-  pub started-open : {count I s l : ℕ} {old new : List ℕ} → I ≡ 0 → count ≡ pairCount R → Filled (openFrom D R) 1 (D .poses) 0 count old new → Started D R pos I s l 1 old new
+  pub started-open : {count I s l to : ℕ} {old new : List ℕ} → I ≡ 0 → count ≡ pairCount R → to ≡ keptAt 1
+      → Begun (firstOpen D R) (D .poses) count to old new → Started D R pos I s l 1 old new
   unfolding startCells startLayer
-  started-open {count} {I} {s} {l} {old} {new} e n w = subst (λ (k : ℕ). Started D R pos k s l 1 old new) (sym e)
-      record { count = refl; frame = w .frame; low = w .low; right = λ q a x y. w .right q (omega arith) a 0 y (omega arith) }
+  started-open {count} {I} {s} {l} {to} {old} {new} e n z w = subst (λ (k : ℕ). Started D R pos k s l 1 old new) (sym e) record {
+    count = refl;
+    frame = frame-join 98304 148992 (frame-refl 98304 148992 old) (w .frame) (omega arith) (omega arith) (omega arith) (omega arith);
+    low = w .low;
+    right = λ q a x y. ap (λ (k : ℕ). getD new (k + q * 64 + a) 0) (sym z) ∙ w .right q a (omega arith) y;
+  }
 
-  pub started-after : {count I s l i p : ℕ} {old new : List ℕ} (J : ℕ) → I ≡ suc J → p ≡ pos J → i ≡ placedWith R p s → count ≡ pairCount R
-      → Filled (afterFrom D R i (marks R s) p l) 1 (D .poses) 0 count old new → Started D R pos I s l (i + 1) old new
+  pub started-after : {count I s l i p to : ℕ} {old new : List ℕ} (J : ℕ) → I ≡ suc J → p ≡ pos J → i ≡ placedWith R p s → count ≡ pairCount R
+      → to ≡ keptAt (i + 1) → i + 1 ≤ 66
+      → Begun (firstAfter D R i (marks R s) p l) (D .poses) count to old new → Started D R pos I s l (i + 1) old new
   unfolding startCells startLayer
-  started-after {count} {I} {s} {l} {i} {p} {old} {new} J e f g n w = subst (λ (k : ℕ). Started D R pos k s l (i + 1) old new) (sym e) record {
+  started-after {count} {I} {s} {l} {i} {p} {to} {old} {new} J e f g n z h w = subst (λ (k : ℕ). Started D R pos k s l (i + 1) old new) (sym e) record {
     count = omega arith;
-    frame = w .frame;
+    frame = frame-join 98304 148992 (frame-refl 98304 148992 old) (w .frame) (omega arith) (omega arith) (omega arith) (omega arith);
     low = w .low;
     right = λ q a x y.
-        let z : l + 0 ≡ l = omega arith in
-        w .right q (omega arith) a 0 y (omega arith)
-        ∙ ap (λ (k : ℕ). firstAfter D R i (marks R s) p k q a) z
+        ap (λ (k : ℕ). getD new (k + q * 64 + a) 0) (sym z)
+        ∙ w .right q a (omega arith) y
         ∙ ap (λ (k : ℕ). firstAfter D R k (marks R s) p l q a) g
         ∙ ap (λ (k : ℕ). firstAfter D R (placedWith R k s) (marks R s) k l q a) f;
   }
@@ -92,6 +97,28 @@ pub end-last : (n R talls : ℕ) (pos : ℕ → ℕ) (I q : ℕ) → talls ≤ I
 unfolding endPlace
 end-last n R talls pos I q h = ap (λ t. cond t (placedWith R (pos I) q) n) (le-ltb I talls h)
 
+-- the first layer has its place among those that are kept
+pub start-fits : {line pairs places st path : List ℕ} {n poses R count talls I s l q a : ℕ} → Stage line pairs places st path n poses R count talls I s l q a
+    → startCells R (posIn places) I s ≤ 66
+start-fits {line} {places = places} {n = n} {poses} {R} {talls = talls} {I} {s} {l} {q} {a} g = go (decLt I talls)
+  where
+    D : Deck
+    D = deckOf line n poses
+
+    f : Layer
+    f = startLayer D R (posIn places) I s l
+
+    size : n ≤ 64
+    size = g .start .row .ground .size
+
+    go : Dec (I < talls) → startCells R (posIn places) I s ≤ 66
+    go (yes h) =
+        let p = tall-price D R talls (posIn places) I f (startCells R (posIn places) I s) (startEnd D (posIn places) I l) q a h (g .cost) in
+        omega (arith, p .0, g .start .row .inside I h, size, g .start .row .ground .coded .reorder)
+    go (no h) =
+        let p = end-price D R talls (posIn places) I f (startCells R (posIn places) I s) (startEnd D (posIn places) I l) q a (omega arith) (g .cost) in
+        omega (arith, size, end-bound D R f (startCells R (posIn places) I s) (startEnd D (posIn places) I l) p)
+
 -- ---- a stage
 
 module _ {line pairs places st path : List ℕ} {n poses R count talls I s l q a : ℕ} (g : Stage line pairs places st path n poses R count talls I s l q a)
@@ -112,10 +139,10 @@ module _ {line pairs places st path : List ℕ} {n poses R count talls I s l q a
   cost : stageEnd (deckOf line n poses) R talls (posIn places) I (startLayer (deckOf line n poses) R (posIn places) I s l) cells (startEnd (deckOf line n poses) (posIn places) I l) q a < B
   cost = subst (λ (i : ℕ). stageEnd D R talls (posIn places) I f i pays q a < B) (sym (w .count)) (g .cost)
 
-  -- the first layer is that of the block
-  kept-start : {end : ℕ} {new : List ℕ} → KeptLayers (deckOf line n poses) R (layerIn mid 0 0) cells end new
+  -- the first layer is the one that is kept
+  kept-start : {end : ℕ} {new : List ℕ} → KeptLayers (deckOf line n poses) R (keptIn mid cells) cells end new
       → KeptLayers (deckOf line n poses) R (startLayer (deckOf line n poses) R (posIn places) I s l) cells end new
-  kept-start k = kept-ext (layerIn mid 0 0) f (w .right) k
+  kept-start k = kept-ext (keptIn mid cells) f (w .right) k
 
   back : {new : List ℕ} → Low new → length new ≡ length mid → Back line pairs new n poses R count
   back u e = record { ground = g .start .row .ground; low = u; long = omega (arith, g .start .long, w .frame .long) }
@@ -123,7 +150,7 @@ module _ {line pairs places st path : List ℕ} {n poses R count talls I s l q a
   stretch : (end : ℕ) → cells ≤ 66 → end ≤ 66 → Stretch line pairs mid n poses R count cells end
   stretch end h k = record { ground = g .start .row .ground; low = w .low; long = omega (arith, g .start .long, w .frame .long); some = some; cells = h; last = k }
 
-  store-kept : {new : List ℕ} → Frame 0 148992 mid new → Frame 0 148992 st new
+  store-kept : {new : List ℕ} → Frame 98304 148992 mid new → Frame 0 148992 st new
   store-kept u = frame-join 0 148992 (w .frame) u (omega arith) (omega arith) (omega arith) (omega arith)
 
   -- ---- to a tall cell

@@ -9,9 +9,10 @@ use Rattle.model.specs.Steps.{B, Deck, Layer, pairCount, marks, firstAfter, fir
 use Rattle.model.specs.Stages.{placedWith, stageEnd}
 use Rattle.model.specs.Back.{StageWalked}
 use Rattle.model.specs.Notes.{NotedBy}
-use Rattle.lanes.specs.Store.{Frame, Low, layerIn}
+use Rattle.lanes.specs.Store.{Frame, Low}
 use Rattle.deck.specs.Words.{deckOf}
 use Rattle.stage.specs.Stage.{posIn, RowGiven}
+use Rattle.kept.specs.Kept.{keptIn}
 use Rattle.walk.specs.Walks.{wordAt}
 
 -- ---- the start of stage I: the row's start, or tall cell I - 1 as pair s in pose l
@@ -59,12 +60,12 @@ pub record Stage (line pairs places st path : List ℕ) (n poses R count talls I
 
 -- ---- what is left
 
--- the first layer is in the first block, and has so many cells
+-- the first layer is kept, and has so many cells
 pub record Started (D : Deck) (R : ℕ) (pos : ℕ → ℕ) (I s l cells : ℕ) (old new : List ℕ) : Type 0 where
   pub count : cells ≡ startCells R pos I s
-  pub frame : Frame 0 49152 old new
+  pub frame : Frame 98304 148992 old new
   pub low : Low new
-  pub right : (q a : ℕ) → q < pairCount R → a < D .poses → layerIn new 0 0 q a ≡ startLayer D R pos I s l q a
+  pub right : (q a : ℕ) → q < pairCount R → a < D .poses → keptIn new cells q a ≡ startLayer D R pos I s l q a
 
 -- the stage is walked: the cells from its first place to its last are noted, and nothing else; the tables are kept
 pub record StageDone (D : Deck) (R talls : ℕ) (pos : ℕ → ℕ) (I s l q a : ℕ) (st st′ path path′ : List ℕ) : Type 0 where

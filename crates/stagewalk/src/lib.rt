@@ -1,10 +1,11 @@
 // One stage of the walk back in one row: its first layer is made once more from its one start, its layers are kept, and the walk goes back through them.
 ghost use Rattle.deck.specs.Words.{deckOf};
 ghost use Rattle.stage.specs.Stage.{posIn};
-ghost use Rattle.stagewalk.specs.Rows.{Start, Stage, Started, StageDone};
+ghost use Prim.Native.Nat.{_≤_};
+ghost use Rattle.stagewalk.specs.Rows.{startCells, Start, Stage, Started, StageDone};
 use stage::placed_with;
 
-// The first layer of a stage in lane 0 of the first block; the result is how many cells it has.
+// The first layer of a stage, kept; the result is how many cells it has.
 fn first_of(
     store: &mut [u32],
     line: &[u32],
@@ -19,32 +20,18 @@ fn first_of(
     s: usize,
     l: usize,
 ) -> usize
-    requires { ⌜ Start (now line) (now pairs) (now places) (now store) n poses r count talls stage s l ⌝ }
+    requires { ⌜ Start (now line) (now pairs) (now places) (now store) n poses r count talls stage s l × (startCells r (posIn (now places)) stage s ≤ 66) ⌝ }
     ensures { λ i. ⌜ Started (deckOf (now (line .entry)) n poses) r (posIn (now (places .entry))) stage s l i (now (store .entry)) (now (store .exit)) ⌝ }
 {
     if stage == 0 {
-        first::open_layer(store, line, pairs, n, poses, r, count, 0);
+        let to = kept::kept_at(1);
+        start::open(store, line, pairs, n, poses, r, count, to);
         return 1;
     }
     let p = deck::word(places, stage - 1);
     let i = placed_with(pairs, r, p, s);
-    let mut table = [0u32; 10944];
-    first::first_layer(
-        &mut table,
-        store,
-        line,
-        pairs,
-        n,
-        poses,
-        r,
-        count,
-        1,
-        i,
-        s,
-        p,
-        l,
-        0,
-    );
+    let to = kept::kept_at(i + 1);
+    start::after(store, line, pairs, n, poses, r, count, i, s, p, l, to);
     i + 1
 }
 
