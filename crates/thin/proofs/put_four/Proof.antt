@@ -1,7 +1,8 @@
 -- Each turn writes one pose more. Assumes nothing.
-use Prim.Native.Nat.{ℕ, _+_, _*_, _-_, _≤_, min}
+use Prim.Native.Nat.{ℕ, _+_, _*_, _-_, _≤_, _<_, min}
 use mathlib.Core.Path.{_≡_, ap, _∙_}
 use native.Mathlib.Omega.{arith}
+use lib.ListN.{length}
 use Rattle.model.specs.Steps.{B}
 use Rattle.lanes.specs.Store.{Written}
 use Rattle.lanes.specs.Laws.{written-none, written-more}
@@ -82,10 +83,13 @@ loop-again c =
     let k = c .before .before .before .before .before .before .before in
     let a = k .args in
     let l = c .before .before .before .before .loop in
+    let next : l .v + 1 ≤ 4 = omega arith in
+    let room : a .to + a .e * 4 + l .v < length (a .store .now) = omega arith in
+    let low : c .lesser .result ≤ B = omega (arith, c .lesser .ensures) in
     let own : ℕ = wordOf (a .line .now) (a .k) (a .e * 4 + l .v) in
     let f = pose-by (a .near .now) (a .apart .now) (a .far .now) (a .e) (l .v) (omega arith) in
     let z = c .lesser .ensures ∙ ap (λ (x : ℕ). min (own + x) B) (c .before .found .ensures ∙ f) in
-    (omega arith, written-more (l .v) (c .lesser .result) (l .inv .1) (omega arith) z (omega (arith, c .lesser .ensures)))
+    (next, written-more (l .v) (c .lesser .result) (l .inv .1) room z low)
 
 same-length : tie.Need-same-length Inv-loop μ-loop
 same-length c = search needs
