@@ -196,7 +196,17 @@ fn from_source(
     planes::fill_pays(&mut pays, line, k, m, planes);
     let at = from + p * 64;
     from_poses(
-        near, apart, far, store, line, &pays, at, k, m, poses, planes,
+        near,
+        apart,
+        far,
+        store,
+        line,
+        &pays,
+        at,
+        k,
+        m,
+        poses,
+        planes,
     );
 }
 
@@ -224,7 +234,22 @@ fn gather(
     let mut p: usize = 0;
     while p < count {
         from_source(
-            near, apart, far, store, line, pairs, n, poses, r, count, i, from, q, m, planes, p,
+            near,
+            apart,
+            far,
+            store,
+            line,
+            pairs,
+            n,
+            poses,
+            r,
+            count,
+            i,
+            from,
+            q,
+            m,
+            planes,
+            p,
         );
         p += 1;
     }
@@ -252,7 +277,20 @@ fn target_there(
     let mut apart = [lanes::NONE; 76];
     let mut far = [lanes::NONE; 19];
     gather(
-        &mut near, &mut apart, &mut far, store, line, pairs, n, poses, r, count, i, from, q, m,
+        &mut near,
+        &mut apart,
+        &mut far,
+        store,
+        line,
+        pairs,
+        n,
+        poses,
+        r,
+        count,
+        i,
+        from,
+        q,
+        m,
         planes,
     );
     run_up(&mut far);

@@ -36,7 +36,7 @@ element-copy-out-lesser-2 : tie.Need-element-copy-out-lesser-2
 element-copy-out-lesser-2 c = search needs
 
 lesser-requires : tie.Need-lesser-requires
-lesser-requires c κs = 
+lesser-requires c κs =
     let k = c .before .before in
     let a = k .args in
     (omega (arith, k .pre .0 .apartLow .word ((a .e + 2) * 4 + a .v)), omega (arith, k .pre .0 .apartLow .word ((a .e + 1) * 4 + a .v)))
@@ -57,7 +57,7 @@ element-copy-out-lesser-3 : tie.Need-element-copy-out-lesser-3
 element-copy-out-lesser-3 c = search needs
 
 lesser-requires-2 : tie.Need-lesser-requires-2
-lesser-requires-2 c κs = 
+lesser-requires-2 c κs =
     let k = c .before .before .before .before in
     let a = k .args in
     (omega (arith, k .pre .0 .nearLow .word ((a .e + 4) * 4 + a .v)), omega (arith, c .before .lesser .ensures, k .pre .0 .apartLow .word ((a .e + 2) * 4 + a .v)))
@@ -69,7 +69,7 @@ element-copy-out-lesser-4 : tie.Need-element-copy-out-lesser-4
 element-copy-out-lesser-4 c = search needs
 
 lesser-requires-3 : tie.Need-lesser-requires-3
-lesser-requires-3 c κs = 
+lesser-requires-3 c κs =
     let k = c .before .before .before .before .before .before in
     let a = k .args in
     (omega (arith, c .before .lesser2 .ensures, k .pre .0 .nearLow .word ((a .e + 4) * 4 + a .v)), omega (arith, k .pre .0 .farLow .word (a .e)))

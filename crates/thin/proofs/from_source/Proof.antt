@@ -62,8 +62,7 @@ add-at c = search needs
 from-poses-requires : tie.Need-from-poses-requires
 from-poses-requires c κs =
     let k = c .before .before .before .before .before .before .before .before .before .before .before .before in
-    let g = k .pre .1 in
-    (
+    let g = k .pre .1 in (
       k .pre .0,
       record {
         words = g .ground .row;

@@ -21,8 +21,7 @@ abbrev μ-loop : tie.MeasureT-loop
 loop-holds : tie.Need-loop-holds Inv-loop μ-loop
 loop-holds c =
     let k = c .before .before .before in
-    let a = k .args in
-    (
+    let a = k .args in (
       omega arith,
       gathered-none (a .planes) (k .pre .0)
           (λ v t h. omega (arith, pairs-none (a .line .now) (deckOf (a .line .now) (a .n) (a .poses)) (a .r) (thinIn (a .store .now) (a .from)) (a .i) (a .q) v t)),
@@ -42,8 +41,7 @@ loop-less c = search needs
 loop-again : tie.Need-loop-again Inv-loop μ-loop
 loop-again c =
     let a = c .before .before .before .before .before .before .before .before .before .args in
-    let l = c .before .before .before .before .before .loop in
-    (
+    let l = c .before .before .before .before .before .loop in (
       omega arith,
       gathered-join (l .inv .1) (c .from-source .ensures)
           (λ v t. pairs-more (a .line .now) (deckOf (a .line .now) (a .n) (a .poses)) (a .r) (thinIn (a .store .now) (a .from)) (a .i) (a .q) (l .p) v t),

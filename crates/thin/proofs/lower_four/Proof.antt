@@ -16,7 +16,7 @@ abbrev μ-loop : tie.MeasureT-loop
 μ-loop words₀ t x pays p v₀ words v = 4 - v
 
 loop-holds : tie.Need-loop-holds Inv-loop μ-loop
-loop-holds c = 
+loop-holds c =
     let a = c .args in
     (omega arith, four-none (a .t) (a .x) (a .pays .now) (a .p) (c .pre .2))
 
@@ -42,12 +42,12 @@ element-copy-out-lesser-2 : tie.Need-element-copy-out-lesser-2 Inv-loop μ-loop
 element-copy-out-lesser-2 c = search needs
 
 add-lesser-3 : tie.Need-add-lesser-3 Inv-loop μ-loop
-add-lesser-3 c = 
+add-lesser-3 c =
     let k = c .before .before .before .before in
     omega (arith, k .pre .6 (c .before .before .before .loop .v) (omega arith))
 
 lesser-requires : tie.Need-lesser-requires Inv-loop μ-loop
-lesser-requires c κs = 
+lesser-requires c κs =
     let k = c .before .before .before .before in
     let l = c .before .before .before .loop in
     let j = k .args .t * 4 + l .v in
@@ -72,7 +72,7 @@ loop-less : tie.Need-loop-less Inv-loop μ-loop
 loop-less c = search needs
 
 loop-again : tie.Need-loop-again Inv-loop μ-loop
-loop-again c = 
+loop-again c =
     let k = c .before .before .before .before .before in
     let a = k .args in
     let l = c .before .before .before .before .loop in
@@ -80,7 +80,7 @@ loop-again c =
     (omega arith, four-more (a .t) (a .x) (a .pays .now) (a .p) (l .v) (c .lesser .result) (l .inv .1) (k .pre .1) (omega arith) (omega arith) (omega (arith, c .lesser .ensures, e)))
 
 returns : tie.Need-returns Inv-loop μ-loop
-returns c = 
+returns c =
     let k = c .before .before in
     let a = k .args in
     let l = c .before .loop in

@@ -44,14 +44,14 @@ found-requires : tie.Need-found-requires Inv-loop μ-loop
 found-requires c κs = search needs
 
 add-x-3 : tie.Need-add-x-3 Inv-loop μ-loop
-add-x-3 c = 
+add-x-3 c =
     let k = c .before .before .before .before .before .before in
     let a = k .args in
     let l = c .before .before .before .loop in
     omega (arith, c .found .ensures, k .pre .0 .farLow .word (a .e), k .pre .1 .word (a .k * 128 + (a .e * 4 + l .v)))
 
 lesser-requires : tie.Need-lesser-requires Inv-loop μ-loop
-lesser-requires c κs = 
+lesser-requires c κs =
     let k = c .before .before .before .before .before .before in
     let a = k .args in
     let l = c .before .before .before .loop in
@@ -95,7 +95,7 @@ same-length : tie.Need-same-length Inv-loop μ-loop
 same-length c = search needs
 
 returns : tie.Need-returns Inv-loop μ-loop
-returns c = 
+returns c =
     let e : c .before .loop .v ≡ 4 = omega arith in
     rw e at (c .before .loop .inv .1)
 

@@ -33,7 +33,7 @@ element-copy-out-lesser-2 : tie.Need-element-copy-out-lesser-2 Inv-loop μ-loop
 element-copy-out-lesser-2 c = search needs
 
 lesser-requires : tie.Need-lesser-requires Inv-loop μ-loop
-lesser-requires c κs = 
+lesser-requires c κs =
     let l = c .before .before .before .loop in
     (omega (arith, l .inv .1 .low .word (l .t + 1)), omega (arith, l .inv .1 .low .word (l .t)))
 
@@ -53,12 +53,12 @@ loop-less : tie.Need-loop-less Inv-loop μ-loop
 loop-less c = search needs
 
 loop-again : tie.Need-loop-again Inv-loop μ-loop
-loop-again c = 
+loop-again c =
     let l = c .before .before .before .before .loop in
     (omega arith, run-more (l .t) (c .lesser .result) (l .inv .1) (omega arith) (omega (arith, c .lesser .ensures)))
 
 returns : tie.Need-returns Inv-loop μ-loop
-returns c = 
+returns c =
     let e : c .before .loop .t ≡ 14 = omega arith in
     rw e at (c .before .loop .inv .1)
 

@@ -111,7 +111,7 @@ returns-2 c =
     let h = here (c .before .before .before .before .before .before .before .before .before .before .before .before .before .before .before .before) in
     let e = rw h at (twin (c .before .before .before .before .before .before .before)) in
     let found = found-five (planes-low k) (c .before .before .before .before .before .before .before .before .before .before .gather .ensures) (c .before .before .before .before .before .before .before .before .run-up .ensures)
-        (λ v t i. pairs-twin (a .line .now) D (a .r) (thinIn (a .store .now) (a .from)) (a .i) (a .q) (a .count) v t e i) in
+    (λ v t i. pairs-twin (a .line .now) D (a .r) (thinIn (a .store .now) (a .from)) (a .i) (a .q) (a .count) v t e i) in
     put-words D (a .r) (a .i) (a .from) (a .q) (c .before .before .put2 .ensures) (omega arith) (omega (arith, g .ground .few))
     (λ b l. next-found (a .line .now) (a .n) (a .poses) (a .r) (thinIn (a .store .now) (a .from)) (a .i) (a .q) b (k .pre .1 .there) (g .ground .all) h (found b (omega (arith, g .ground .few))))
 
