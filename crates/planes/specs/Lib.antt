@@ -3,3 +3,4 @@ pub mod Gaps
 pub mod Rows
 pub mod Laws
 pub mod Sources
+pub mod Next

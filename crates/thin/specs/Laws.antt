@@ -1,0 +1,412 @@
+-- Laws of the three arrays and of dense layers: what one source and one more of each loop make of them. Assumes nothing.
+use Prim.Native.Nat.{ℕ, zero, suc, _+_, _*_, _-_, _/_, _%_, _≤_, _<_, min}
+use mathlib.Core.Path.{_≡_, refl, sym, ap, ap₂, _∙_}
+use mathlib.Core.Logic.{_≢_}
+use mathlib.Core.Bool.{Bool, true, false, cond}
+use mathlib.Core.List.{List}
+use native.Mathlib.Omega.{arith}
+use native.Mathlib.Decide.{decLt}
+use borrow.Author.Count.{below-more}
+use lib.ListN.{length, getD, set, length-set, replicate, length-replicate, getD-replicate}
+use lib.Seq.{getD-set-same, getD-set-other}
+use lib.Dec.{eqb}
+use Rattle.rows.specs.Lists.{from, Eq?, same, differs, eq?}
+use Rattle.pair.specs.Coded.{lowest, lowest-from}
+use Rattle.model.specs.Steps.{B, Deck, Layer, pairCount, nextLayer}
+use Rattle.lanes.specs.Lanes.{Lowered, always}
+use Rattle.lanes.specs.Store.{Frame, Low, Written}
+use Rattle.lanes.specs.Laws.{lowered-more, lowered-to, lowered-ext, lowered-join, lowered-low, frame-refl, frame-join, low-set, nones-low}
+use Rattle.deck.specs.Words.{wordOf}
+use Rattle.planes.specs.Gaps.{paying}
+use Rattle.planes.specs.Loops.{lowest-ext}
+use Rattle.planes.specs.Rows.{inRow, endRow, found, planesIn, payIn, Pays, onePose}
+use Rattle.planes.specs.Laws.{row-hit, row-miss, pay-none}
+use Rattle.planes.specs.Sources.{pose-pays}
+use Rattle.planes.specs.Next.{next-ext}
+use Rattle.thin.specs.Thin.{thinIn, nearOf, apartOf, Lent, Gathered, fourOf, spreadOf, RunUp, foundBy, Given, Put, Stepped}
+
+-- ---- lowered words
+
+-- what is left is at most B already
+pub lowered-end :
+    {f : ℕ → ℕ} (n m : ℕ) {old new : List ℕ}
+    → Lowered f n old new → Low old → n ≤ m → ((k : ℕ) → n ≤ k → k < m → B ≤ f k)
+    → Lowered f m old new
+lowered-end {f} n m {old} {new} v w h e = record { long = v .long; done = λ k p. go k p (decLt k n); rest = λ k p. v .rest k (omega arith) }
+  where
+    go : (k : ℕ) → k < m → Dec (k < n) → getD new k 0 ≡ min (getD old k 0) (f k)
+    go k p (yes l) = v .done k l
+    go k p (no l) = omega (arith, v .rest k (omega arith), w .word k, e k (omega arith) p)
+
+-- a source in one row: one word of it
+pub row-one :
+    (t c z : ℕ) {old : List ℕ}
+    → Low old → length old ≡ 19 → t < 19 → z ≡ min (getD old t 0) c
+    → Lowered (λ s. inRow t s c) 19 old (set old t z)
+row-one t c z {old} w n h e =
+    let g : z ≡ min (getD old t 0) (inRow t t c) = omega (arith, e, row-hit t t c refl) in
+    lowered-end (t + 1) 19
+    (lowered-more t z (lowered-to t w (λ k p. omega (arith, row-miss t k c (λ q. omega arith)))) (omega arith) g)
+    w (omega arith) (λ k p q. omega (arith, row-miss t k c (λ r. omega arith)))
+
+-- four words of it, one after the other
+module _ (t x : ℕ) (pays : List ℕ) (p : ℕ) where
+  pub four-none : {old : List ℕ} → Low old → Lowered (fourOf t x pays p) (t * 4 + 0) old old
+  four-none w = lowered-to (t * 4 + 0) w (λ k h. omega (arith, row-miss t (k / 4) (x + getD pays (p + k % 4) 0) (λ q. omega arith)))
+
+  pub four-more :
+      {old new : List ℕ} (v z : ℕ)
+      → Lowered (fourOf t x pays p) (t * 4 + v) old new → length old ≡ 76 → t < 19 → v < 4 → z ≡ min (getD old (t * 4 + v) 0) (x + getD pays (p + v) 0)
+      → Lowered (fourOf t x pays p) (t * 4 + (v + 1)) old (set new (t * 4 + v) z)
+  four-more {old} {new} v z w n h g e =
+      let j : ℕ = t * 4 + v in
+      let i : v ≡ j % 4 = omega arith in
+      let y : j + 1 ≡ t * 4 + (v + 1) = omega arith in
+      let d : getD pays (p + v) 0 ≡ getD pays (p + j % 4) 0 = ap (λ (a : ℕ). getD pays (p + a) 0) i in
+      let f : z ≡ min (getD old j 0) (fourOf t x pays p j) = omega (arith, e, d, row-hit t (j / 4) (x + getD pays (p + j % 4) 0) (omega arith)) in
+      let r : Lowered (fourOf t x pays p) (j + 1) old (set new j z) = lowered-more j z w (omega arith) f in
+      rw y at r
+
+  pub four-all : {old new : List ℕ} → Lowered (fourOf t x pays p) (t * 4 + 4) old new → Low old → t < 19 → Lowered (fourOf t x pays p) 76 old new
+  four-all w l h =
+      lowered-end (t * 4 + 4) 76 w l (omega arith) (λ k q r. omega (arith, row-miss t (k / 4) (x + getD pays (p + k % 4) 0) (λ e. omega arith)))
+
+-- ---- the three arrays
+
+-- the planes that are needed
+apart-yes : (z : Bool) {n : ℕ} (x : ℕ) → Eq? n 9 z → n ≡ 9 → cond z x B ≡ x
+apart-yes true x (same e) h = refl
+apart-yes false x (differs d) h = absurd (d h)
+
+apart-no : (z : Bool) {n : ℕ} (x : ℕ) → Eq? n 9 z → n ≢ 9 → cond z x B ≡ B
+apart-no true x (same e) h = absurd (h e)
+apart-no false x (differs d) h = refl
+
+apart-same : (z : Bool) {n x y : ℕ} → Eq? n 9 z → (n ≡ 9 → x ≡ y) → cond z x B ≡ cond z y B
+apart-same true (same e) h = h e
+apart-same false (differs d) h = refl
+
+apart-min : (z : Bool) (x y : ℕ) {s : ℕ} → s ≡ min x y → cond z s B ≡ min (cond z x B) (cond z y B)
+apart-min true x y h = h
+apart-min false x y h = omega arith
+
+module _ {planes : ℕ} {near near′ apart apart′ far far′ : List ℕ} where
+  -- what was lent stays so
+  pub lent-on : {plane : ℕ → ℕ → ℕ} → Lent near apart far → Gathered plane planes near near′ apart apart′ far far′ → Lent near′ apart′ far′
+  lent-on l g =
+      record {
+        nearLong = g .nearTo .long ∙ l .nearLong;
+        apartLong = g .apartTo .long ∙ l .apartLong;
+        farLong = g .farTo .long ∙ l .farLong;
+        nearLow = lowered-low (g .nearTo) (l .nearLow);
+        apartLow = lowered-low (g .apartTo) (l .apartLow);
+        farLow = lowered-low (g .farTo) (l .farLow);
+      }
+
+  -- the same by another name
+  pub gathered-ext :
+      {P Q : ℕ → ℕ → ℕ}
+      → Gathered P planes near near′ apart apart′ far far′ → 5 ≤ planes → ((v t : ℕ) → v < planes → Q v t ≡ P v t)
+      → Gathered Q planes near near′ apart apart′ far far′
+  gathered-ext g h e =
+      record {
+        nearTo = lowered-ext (g .nearTo) (λ k p. e (1 + k % 4) (k / 4) (omega arith));
+        apartTo = lowered-ext (g .apartTo) (λ k p. apart-same (eqb planes 9) (eq? planes 9) (λ n. e (5 + k % 4) (k / 4) (omega arith)));
+        farTo = lowered-ext (g .farTo) (λ k p. e 0 k (omega arith));
+      }
+
+-- one source, in its row of all planes that are needed
+module _ (t x u : ℕ) (pays : List ℕ) where
+  four : (n o : ℕ) (k : ℕ) → o ≡ u * 9 + n → spreadOf t x pays u (n + k % 4) (k / 4) ≡ fourOf t x pays o k
+  four n o k e = ap (λ (i : ℕ). inRow t (k / 4) (x + getD pays i 0)) (omega arith)
+
+  one : (s : ℕ) → getD pays (u * 9) 0 ≡ 0 → spreadOf t x pays u 0 s ≡ inRow t s x
+  one s free =
+      let y : u * 9 + 0 ≡ u * 9 = omega arith in
+      let z : x + getD pays (u * 9 + 0) 0 ≡ x = rw y (omega arith) in
+      ap (inRow t s) z
+
+  module _ {planes : ℕ} {near near′ apart apart′ far far′ : List ℕ} (free : getD pays (u * 9) 0 ≡ 0) where
+    pub spread-nine :
+        Lowered (fourOf t x pays (u * 9 + 1)) 76 near near′ → Lowered (λ s. inRow t s x) 19 far far′
+        → planes ≡ 9 → Lowered (fourOf t x pays (u * 9 + 5)) 76 apart apart′
+        → Gathered (spreadOf t x pays u) planes near near′ apart apart′ far far′
+    spread-nine v f n w =
+        record {
+          nearTo = lowered-ext v (λ k p. four 1 (u * 9 + 1) k refl);
+          apartTo = lowered-ext w (λ k p. apart-yes (eqb planes 9) (spreadOf t x pays u (5 + k % 4) (k / 4)) (eq? planes 9) n ∙ four 5 (u * 9 + 5) k refl);
+          farTo = lowered-ext f (λ k p. one k free);
+        }
+
+    pub spread-five :
+        Lowered (fourOf t x pays (u * 9 + 1)) 76 near near′ → Lowered (λ s. inRow t s x) 19 far far′
+        → planes ≢ 9 → Low apart → apart′ ≡ apart
+        → Gathered (spreadOf t x pays u) planes near near′ apart apart′ far far′
+    spread-five v f n w e =
+        record {
+          nearTo = lowered-ext v (λ k p. four 1 (u * 9 + 1) k refl);
+          apartTo = rw e (lowered-to 76 w (λ k p. omega (arith, apart-no (eqb planes 9) (spreadOf t x pays u (5 + k % 4) (k / 4)) (eq? planes 9) n)));
+          farTo = lowered-ext f (λ k p. one k free);
+        }
+
+-- no source, or none that lowers anything
+pub gathered-none :
+    {plane : ℕ → ℕ → ℕ} (planes : ℕ) {near apart far : List ℕ}
+    → Lent near apart far → ((v t : ℕ) → t < 19 → B ≤ plane v t)
+    → Gathered plane planes near near apart apart far far
+gathered-none {plane} planes l h =
+    record {
+      nearTo = lowered-to 76 (l .nearLow) (λ k p. h (1 + k % 4) (k / 4) (omega arith));
+      apartTo = lowered-to 76 (l .apartLow) (λ k p. go (eqb planes 9) k p);
+      farTo = lowered-to 19 (l .farLow) (λ k p. h 0 k p);
+    }
+  where
+    go : (z : Bool) (k : ℕ) → k < 76 → B ≤ cond z (plane (5 + k % 4) (k / 4)) B
+    go true k p = h (5 + k % 4) (k / 4) (omega arith)
+    go false k p = omega arith
+
+-- one after the other
+pub gathered-join :
+    {P Q S : ℕ → ℕ → ℕ} {planes : ℕ} {near near′ near″ apart apart′ apart″ far far′ far″ : List ℕ}
+    → Gathered P planes near near′ apart apart′ far far′ → Gathered Q planes near′ near″ apart′ apart″ far′ far″ → ((v t : ℕ) → S v t ≡ min (P v t) (Q v t))
+    → Gathered S planes near near″ apart apart″ far far″
+gathered-join {P} {Q} {planes = planes} p q e =
+    record {
+      nearTo = lowered-join (p .nearTo) (q .nearTo) (λ k h. e (1 + k % 4) (k / 4));
+      apartTo = lowered-join (p .apartTo) (q .apartTo) (λ k h. apart-min (eqb planes 9) (P (5 + k % 4) (k / 4)) (Q (5 + k % 4) (k / 4)) (e (5 + k % 4) (k / 4)));
+      farTo = lowered-join (p .farTo) (q .farTo) (λ k h. e 0 k);
+    }
+
+-- ---- how many planes
+
+module _ (line : List ℕ) (m : ℕ) where
+  pub planes-few : (5 ≤ planesIn line m) × (planesIn line m ≤ 9)
+  unfolding planesIn
+  planes-few = go (eqb (wordOf line m 84) (wordOf line m 86))
+    where
+      go : (z : Bool) → (5 ≤ cond z 5 9) × (cond z 5 9 ≤ 9)
+      go true = (omega arith, omega arith)
+      go false = (omega arith, omega arith)
+
+  -- fewer than 9 only where one weight serves for all gaps
+  pub planes-twin : planesIn line m ≢ 9 → wordOf line m 84 ≡ wordOf line m 86
+  unfolding planesIn
+  planes-twin n = go (eqb (wordOf line m 84) (wordOf line m 86)) (eq? (wordOf line m 84) (wordOf line m 86)) n
+    where
+      go : (z : Bool) → Eq? (wordOf line m 84) (wordOf line m 86) z → _≢_ {A = ℕ} (cond z 5 9) 9 → wordOf line m 84 ≡ wordOf line m 86
+      go true (same e) d = e
+      go false (differs f) d = absurd (d refl)
+
+-- ---- one source
+
+-- it pays nothing in plane 0
+pub pays-free : {line pays : List ℕ} {k m planes : ℕ} (u : ℕ) → Pays line k m planes 36 pays → 5 ≤ planes → u < 4 → getD pays (u * 9) 0 ≡ 0
+pays-free {line} {pays} {k} {m} u p h g =
+    let e : u * 9 % 9 ≡ 0 = omega arith in
+    p .pay (u * 9) (omega arith) (omega arith) ∙ ap (payBy (u * 9 / 9)) e ∙ pay-none line k (u * 9 / 9) m
+  where
+    payBy : ℕ → ℕ → ℕ
+    payBy b v = payIn line k b m v
+
+-- a pose of a source, from its words
+pub gathered-pose :
+    {line pays near near′ apart apart′ far far′ : List ℕ} {k m planes : ℕ} (b t x : ℕ)
+    → Pays line k m planes 36 pays → t ≡ endRow line k b m → 5 ≤ planes → planes ≤ 9 → Gathered (spreadOf t x pays (b % 4)) planes near near′ apart apart′ far far′
+    → Gathered (onePose line k m b x) planes near near′ apart apart′ far far′
+gathered-pose b t x p e h g w = gathered-ext w h (λ v s l. pose-pays b v s x p e l g)
+
+-- ---- what is found
+
+-- before anything ran up
+pub run-none : {far : List ℕ} → Low far → RunUp 1 far far
+unfolding lowest from
+run-none {far} w = record { long = refl; low = w; far = λ t h. go t h; rest = λ t h. refl }
+  where
+    go : (t : ℕ) → t < 1 → getD far t 0 ≡ lowest B (λ s. getD far s 0) (from 0 (suc t))
+    go zero h = omega (arith, w .word 0)
+    go (suc t) h = absurd (omega arith)
+
+-- one row more
+pub run-more :
+    {old new : List ℕ} (t z : ℕ)
+    → RunUp (t + 1) old new → t + 1 < length old → z ≡ min (getD new (t + 1) 0) (getD new t 0)
+    → RunUp (t + 1 + 1) old (set new (t + 1) z)
+run-more {old} {new} t z w h e =
+    let n = w .long in
+    record {
+      long = length-set new (t + 1) z ∙ w .long;
+      low = low-set (t + 1) z (w .low) (omega arith) (omega (arith, e, w .low .word t));
+      far = below-more (λ (s : ℕ). getD (set new (t + 1) z) s 0 ≡ lowest B at (from 0 (suc s))) (t + 1)
+          (λ s g. getD-set-other new (t + 1) s z 0 (omega arith) ∙ w .far s g)
+          (getD-set-same new (t + 1) z 0 (omega arith) ∙ last);
+      rest = λ s g. getD-set-other new (t + 1) s z 0 (omega arith) ∙ w .rest s (omega arith);
+    }
+  where
+    at : ℕ → ℕ
+    at s = getD old s 0
+
+    last : z ≡ lowest B at (from 0 (suc (t + 1)))
+    last =
+        let y : at (0 + (t + 1)) ≡ at (t + 1) = ap at (omega arith) in
+        let d : lowest B at (from 0 (suc t)) ≡ lowest B at (from 0 (t + 1)) = ap (λ (k : ℕ). lowest B at (from 0 k)) (omega arith) in
+        omega (arith, e, y, d, w .far t (omega arith), w .rest (t + 1) (omega arith), lowest-from B at 0 (t + 1))
+
+paying-min : (h : ℕ → ℕ) → h 3 ≤ B → lowest B h paying ≡ min (h 0) (min (h 2) (h 3))
+unfolding lowest
+paying-min h l = omega arith
+
+-- the words that a pose looks up, where the arrays have the planes
+pub found-words :
+    (plane : ℕ → ℕ → ℕ) (near apart far : List ℕ) (a : ℕ)
+    → ((v t : ℕ) → plane v t ≤ B)
+    → ((v t : ℕ) → v < 4 → t < 19 → getD near (t * 4 + v) 0 ≡ plane (1 + v) t)
+    → ((v t : ℕ) → v < 4 → t < 19 → getD apart (t * 4 + v) 0 ≡ plane (5 + v) t)
+    → ((t : ℕ) → t < 15 → getD far t 0 ≡ lowest B (plane 0) (from 0 (suc t)))
+    → a < 60 → foundBy near apart far (a / 4) (a % 4) ≡ found plane a
+unfolding found
+found-words plane near apart far a low n p f h =
+    let e : ℕ = a / 4 in
+    let v : ℕ = a % 4 in
+    let x0 : plane (1 + v) (e + 4) ≡ plane (1 + v) (e + 4 - 0) = ap (plane (1 + v)) (omega arith) in
+    let x2 : plane (5 + v) (e + 2) ≡ plane (5 + v) (e + 4 - 2) = ap (plane (5 + v)) (omega arith) in
+    let x3 : plane (5 + v) (e + 1) ≡ plane (5 + v) (e + 4 - 3) = ap (plane (5 + v)) (omega arith) in
+    ap₂ min
+    (ap₂ min (n v (e + 4) (omega arith) (omega arith) ∙ x0)
+    (ap₂ min (p v (e + 2) (omega arith) (omega arith) ∙ x2) (p v (e + 1) (omega arith) (omega arith) ∙ x3))
+    ∙ sym (paying-min (λ gap. plane (cond (eqb gap 0) (1 + a % 4) (5 + a % 4)) (a / 4 + 4 - gap)) (low (5 + a % 4) (a / 4 + 4 - 3))))
+    (f (a / 4) (omega arith))
+
+-- a pose by its site and its variant
+pub pose-by : (near apart far : List ℕ) (e v : ℕ) → v < 4 → foundBy near apart far e v ≡ foundBy near apart far ((e * 4 + v) / 4) ((e * 4 + v) % 4)
+pose-by near apart far e v h = ap₂ (λ (s w : ℕ). foundBy near apart far s w) (omega arith) (omega arith)
+
+-- arrays in which nothing is gathered yet
+pub lent-none : Lent (replicate 76 B) (replicate 76 B) (replicate 19 B)
+lent-none =
+    record {
+      nearLong = length-replicate {A = ℕ} 76 B;
+      apartLong = length-replicate {A = ℕ} 76 B;
+      farLong = length-replicate {A = ℕ} 19 B;
+      nearLow = nones-low 76;
+      apartLow = nones-low 76;
+      farLow = nones-low 19;
+    }
+
+-- far rows that ran up, and one array in two places
+pub lent-run : {near apart far far′ : List ℕ} {n : ℕ} → Lent near apart far → RunUp n far far′ → Lent near apart far′
+lent-run l r =
+    record {
+      nearLong = l .nearLong;
+      apartLong = l .apartLong;
+      farLong = r .long ∙ l .farLong;
+      nearLow = l .nearLow;
+      apartLow = l .apartLow;
+      farLow = r .low;
+    }
+
+pub lent-twin : {near apart far : List ℕ} → Lent near apart far → Lent near near far
+lent-twin l =
+    record {
+      nearLong = l .nearLong;
+      apartLong = l .nearLong;
+      farLong = l .farLong;
+      nearLow = l .nearLow;
+      apartLow = l .nearLow;
+      farLow = l .farLow;
+    }
+
+-- what is gathered from there, once the far rows ran up, is what is found: where all planes are needed, or four serve for eight
+module _
+    {plane : ℕ → ℕ → ℕ} {planes : ℕ} {near apart far far′ : List ℕ} (low : (v t : ℕ) → plane v t ≤ B)
+    (g : Gathered plane planes (replicate 76 B) near (replicate 76 B) apart (replicate 19 B) far) (r : RunUp 15 far far′)
+  where
+    near-words : (v t : ℕ) → v < 4 → t < 19 → getD near (t * 4 + v) 0 ≡ plane (1 + v) t
+    near-words v t h i =
+        let e : plane (1 + (t * 4 + v) % 4) ((t * 4 + v) / 4) ≡ plane (1 + v) t = ap₂ (λ (x y : ℕ). plane (1 + x) y) (omega arith) (omega arith) in
+        omega (arith, g .nearTo .done (t * 4 + v) (omega arith), getD-replicate 76 (t * 4 + v) B 0 (omega arith), e, low (1 + v) t)
+
+    apart-words : planes ≡ 9 → (v t : ℕ) → v < 4 → t < 19 → getD apart (t * 4 + v) 0 ≡ plane (5 + v) t
+    apart-words n v t h i =
+        let j : ℕ = t * 4 + v in
+        let e : plane (5 + j % 4) (j / 4) ≡ plane (5 + v) t = ap₂ (λ (x y : ℕ). plane (5 + x) y) (omega arith) (omega arith) in
+        omega (
+          arith,
+          g .apartTo .done j (omega arith),
+          getD-replicate 76 j B 0 (omega arith),
+          apart-yes (eqb planes 9) (plane (5 + j % 4) (j / 4)) (eq? planes 9) n,
+          e,
+          low (5 + v) t,
+        )
+
+    far-words : (t : ℕ) → t < 15 → getD far′ t 0 ≡ lowest B (plane 0) (from 0 (suc t))
+    far-words t h =
+        r .far t h
+        ∙ lowest-ext (λ s. getD far s 0) (plane 0) 0 (suc t)
+        (λ s i. omega (arith, g .farTo .done s (omega arith), getD-replicate 19 s B 0 (omega arith), low 0 s))
+
+    pub found-nine : planes ≡ 9 → (a : ℕ) → a < 60 → foundBy near apart far′ (a / 4) (a % 4) ≡ found plane a
+    found-nine n a h = found-words plane near apart far′ a low near-words (apart-words n) far-words h
+
+    pub found-five : ((v t : ℕ) → v < 4 → plane (5 + v) t ≡ plane (1 + v) t) → (a : ℕ) → a < 60 → foundBy near near far′ (a / 4) (a % 4) ≡ found plane a
+    found-five e a h = found-words plane near near far′ a low near-words (λ v t i j. near-words v t i j ∙ sym (e v t i)) far-words h
+
+-- ---- words written
+
+pub written-join :
+    {f g : ℕ → ℕ} {at n m : ℕ} {old mid new : List ℕ}
+    → Written f at n old mid → Written g (at + n) m mid new → ((k : ℕ) → k < m → g k ≡ f (n + k))
+    → Written f at (n + m) old new
+written-join {f} {g} {at} {n} {m} {old} {mid} {new} v w e =
+    record {
+      frame = frame-join at (at + (n + m)) (v .frame) (w .frame) (omega arith) (omega arith) (omega arith) (omega arith);
+      words = λ k h. go k h (decLt k n);
+      low = w .low;
+    }
+  where
+    go : (k : ℕ) → k < n + m → Dec (k < n) → getD new (at + k) 0 ≡ f k
+    go k h (yes l) = w .frame .low (at + k) (omega arith) ∙ v .words k l
+    go k h (no l) =
+        let z : at + k ≡ at + n + (k - n) = omega arith in
+        let y : n + (k - n) ≡ k = omega arith in
+        ap (λ (i : ℕ). getD new i 0) z ∙ w .words (k - n) (omega arith) ∙ e (k - n) (omega arith) ∙ ap f y
+
+-- ---- a layer from the layer before
+
+-- what a function was given holds on, whatever another one wrote
+pub given-on :
+    {line pairs old new : List ℕ} {n poses R count i at a b : ℕ}
+    → Given line pairs old n poses R count i at → Frame a b old new → Low new
+    → Given line pairs new n poses R count i at
+given-on g f w = record { ground = g .ground; low = w; early = g .early; room = omega (arith, g .room, f .long) }
+
+-- a pair's words
+pub put-words :
+    {f : ℕ → ℕ} (D : Deck) (R i from q : ℕ) {n : ℕ} {old new : List ℕ}
+    → Written f (from + 768 + q * 64) n old new → D .poses ≤ n → n ≤ 64 → ((a : ℕ) → a < D .poses → nextLayer D R (thinIn old from) i q a ≡ f a)
+    → Put D R i from q old new
+put-words D R i from q {old = old} w h k e =
+    record {
+      frame = frame-join (from + 768 + q * 64) (from + 768 + q * 64 + 64) (frame-refl (from + 768 + q * 64) (from + 768 + q * 64) old) (w .frame)
+          (omega arith) (omega arith) (omega arith) (omega arith);
+      low = w .low;
+      right = λ a l. w .words a (omega arith) ∙ sym (e a l);
+    }
+
+pub stepped-none : (D : Deck) (R i from : ℕ) {st : List ℕ} → Low st → Stepped D R 0 i from st st
+stepped-none D R i from {st} w = record { frame = frame-refl (from + 768) (from + 1536) st; low = w; right = λ q a h. absurd (omega arith) }
+
+-- one pair more: the layer before is as it was
+pub stepped-more :
+    {D : Deck} {R i from : ℕ} {old mid new : List ℕ} (q : ℕ)
+    → Stepped D R q i from old mid → Put D R i from q mid new → q < 12 → pairCount R ≤ 12 → D .poses ≤ 60
+    → Stepped D R (q + 1) i from old new
+stepped-more {D} {R} {i} {from} {old} {mid} {new} q s w h c p =
+    record {
+      frame = frame-join (from + 768) (from + 1536) (s .frame) (w .frame) (omega arith) (omega arith) (omega arith) (omega arith);
+      low = w .low;
+      right = λ r a l k.
+          below-more (λ (r : ℕ). (a : ℕ) → a < D .poses → thinIn new (from + 768) r a ≡ nextLayer D R (thinIn old from) i r a) q
+          (λ r l a k. w .frame .low (from + 768 + r * 64 + a) (omega arith) ∙ s .right r a l k)
+          (λ a k. w .right a k ∙ next-ext D R (thinIn mid from) (thinIn old from) (λ r b x y. s .frame .low (from + r * 64 + b) (omega arith)) i q a)
+          r l a k;
+    }
