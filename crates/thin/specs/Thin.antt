@@ -82,6 +82,10 @@ foundBy near apart far e v =
 abbrev pub foundOf : List ℕ → List ℕ → List ℕ → List ℕ → ℕ → ℕ → ℕ
 foundOf line near apart far k a = min (wordOf line k a + foundBy near apart far (a / 4) (a % 4)) B
 
+-- where planes 5 to 8 are to be found
+abbrev pub otherOf : ℕ → List ℕ → List ℕ → List ℕ
+otherOf planes near apart = cond (eqb planes 9) apart near
+
 -- four poses from pose 4 e on
 abbrev pub foundFour : List ℕ → List ℕ → List ℕ → List ℕ → ℕ → ℕ → ℕ → ℕ
 foundFour line near apart far k e v = foundOf line near apart far k (e * 4 + v)
