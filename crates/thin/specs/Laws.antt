@@ -12,8 +12,8 @@ use lib.Seq.{getD-set-same, getD-set-other}
 use lib.Dec.{eqb}
 use Rattle.rows.specs.Lists.{from, Eq?, same, differs, eq?}
 use Rattle.pair.specs.Coded.{lowest, lowest-from}
-use Rattle.model.specs.Steps.{B, Deck, Layer, pairCount, nextLayer}
-use Rattle.lanes.specs.Lanes.{Lowered, always}
+use Rattle.model.specs.Steps.{B, Deck, pairCount, nextLayer}
+use Rattle.lanes.specs.Lanes.{Lowered}
 use Rattle.lanes.specs.Store.{Frame, Low, Written}
 use Rattle.lanes.specs.Laws.{lowered-more, lowered-to, lowered-ext, lowered-join, lowered-low, frame-refl, frame-join, low-set, nones-low}
 use Rattle.deck.specs.Words.{wordOf}
@@ -23,7 +23,7 @@ use Rattle.planes.specs.Rows.{inRow, endRow, found, planesIn, payIn, Pays, oneP
 use Rattle.planes.specs.Laws.{row-hit, row-miss, pay-none}
 use Rattle.planes.specs.Sources.{pose-pays}
 use Rattle.planes.specs.Next.{next-ext}
-use Rattle.thin.specs.Thin.{thinIn, nearOf, apartOf, Lent, Gathered, fourOf, spreadOf, RunUp, foundBy, otherOf, Given, Put, Stepped}
+use Rattle.thin.specs.Thin.{thinIn, Lent, Gathered, fourOf, spreadOf, RunUp, foundBy, otherOf, Put, Stepped}
 
 -- ---- lowered words
 
@@ -389,13 +389,6 @@ written-join {f} {g} {at} {n} {m} {old} {mid} {new} v w e =
         ap (λ (i : ℕ). getD new i 0) z ∙ w .words (k - n) (omega arith) ∙ e (k - n) (omega arith) ∙ ap f y
 
 -- ---- a layer from the layer before
-
--- what a function was given holds on, whatever another one wrote
-pub given-on :
-    {line pairs old new : List ℕ} {n poses R count i at a b : ℕ}
-    → Given line pairs old n poses R count i at → Frame a b old new → Low new
-    → Given line pairs new n poses R count i at
-given-on g f w = record { ground = g .ground; low = w; early = g .early; room = omega (arith, g .room, f .long) }
 
 -- a pair's words
 pub put-words :

@@ -12,7 +12,7 @@ use Rattle.model.specs.Steps.{B, Deck, Layer, pairCount, nextLayer}
 use Rattle.lanes.specs.Lanes.{Lowered}
 use Rattle.lanes.specs.Store.{Frame, Low}
 use Rattle.deck.specs.Words.{wordOf, thereIn, LineWords, Ground}
-use Rattle.planes.specs.Rows.{inRow, onePose, byPoses, onePair, byPairs}
+use Rattle.planes.specs.Rows.{inRow}
 
 -- the layer whose block begins at `at`
 abbrev pub thinIn : List ℕ → ℕ → Layer

@@ -1,10 +1,9 @@
 -- The sources are gathered from arrays of NONE; once the far rows ran up, each pose finds there what it can be reached for. Assumes nothing.
-use Prim.Native.Nat.{ℕ, suc, _+_, _*_, _/_, _≤_, _<_}
+use Prim.Native.Nat.{ℕ, suc, _≤_, _<_}
 use mathlib.Core.Path.{_≡_, sym, ap, _∙_}
-use mathlib.Core.Logic.{_≢_}
 use native.Mathlib.Omega.{arith}
 use Rattle.model.specs.Steps.{B, lastAt}
-use Rattle.deck.specs.Words.{wordOf, deckOf}
+use Rattle.deck.specs.Words.{deckOf}
 use Rattle.deck.specs.Laws.{there-size}
 use Rattle.planes.specs.Rows.{planesIn, byPairs}
 use Rattle.planes.specs.Sources.{pairs-low, pairs-twin}
