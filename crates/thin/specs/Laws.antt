@@ -12,8 +12,8 @@ use lib.Seq.{getD-set-same, getD-set-other}
 use lib.Dec.{eqb}
 use Rattle.rows.specs.Lists.{from, Eq?, same, differs, eq?}
 use Rattle.pair.specs.Coded.{lowest, lowest-from}
-use Rattle.model.specs.Steps.{B, Deck, Layer, pairCount, nextLayer}
-use Rattle.lanes.specs.Lanes.{Lowered, always}
+use Rattle.model.specs.Steps.{B, Deck, pairCount, nextLayer}
+use Rattle.lanes.specs.Lanes.{Lowered}
 use Rattle.lanes.specs.Store.{Frame, Low, Written}
 use Rattle.lanes.specs.Laws.{lowered-more, lowered-to, lowered-ext, lowered-join, lowered-low, frame-refl, frame-join, low-set, nones-low}
 use Rattle.deck.specs.Words.{wordOf}
@@ -23,7 +23,7 @@ use Rattle.planes.specs.Rows.{inRow, endRow, found, planesIn, payIn, Pays, oneP
 use Rattle.planes.specs.Laws.{row-hit, row-miss, pay-none}
 use Rattle.planes.specs.Sources.{pose-pays}
 use Rattle.planes.specs.Next.{next-ext}
-use Rattle.thin.specs.Thin.{thinIn, nearOf, apartOf, Lent, Gathered, fourOf, spreadOf, RunUp, foundBy, Given, Put, Stepped}
+use Rattle.thin.specs.Thin.{thinIn, Lent, Gathered, fourOf, spreadOf, RunUp, foundBy, otherOf, Put, Stepped}
 
 -- ---- lowered words
 
@@ -276,6 +276,21 @@ found-words plane near apart far a low n p f h =
     ∙ sym (paying-min (λ gap. plane (cond (eqb gap 0) (1 + a % 4) (5 + a % 4)) (a / 4 + 4 - gap)) (low (5 + a % 4) (a / 4 + 4 - 3))))
     (f (a / 4) (omega arith))
 
+-- where planes 5 to 8 are
+pub other-nine : (planes : ℕ) (near apart : List ℕ) → planes ≡ 9 → otherOf planes near apart ≡ apart
+other-nine planes near apart h = go (eqb planes 9) (eq? planes 9)
+  where
+    go : (z : Bool) → Eq? planes 9 z → cond z apart near ≡ apart
+    go true (same e) = refl
+    go false (differs d) = absurd (d h)
+
+pub other-five : (planes : ℕ) (near apart : List ℕ) → planes ≢ 9 → otherOf planes near apart ≡ near
+other-five planes near apart h = go (eqb planes 9) (eq? planes 9)
+  where
+    go : (z : Bool) → Eq? planes 9 z → cond z apart near ≡ near
+    go true (same e) = absurd (h e)
+    go false (differs d) = refl
+
 -- a pose by its site and its variant
 pub pose-by : (near apart far : List ℕ) (e v : ℕ) → v < 4 → foundBy near apart far e v ≡ foundBy near apart far ((e * 4 + v) / 4) ((e * 4 + v) % 4)
 pose-by near apart far e v h = ap₂ (λ (s w : ℕ). foundBy near apart far s w) (omega arith) (omega arith)
@@ -315,7 +330,7 @@ lent-twin l =
       farLow = l .farLow;
     }
 
--- what is gathered from there, once the far rows ran up, is what is found: where all planes are needed, or four serve for eight
+-- what is gathered from there, once the far rows ran up, is what is found: all planes are needed, or four serve for eight
 module _
     {plane : ℕ → ℕ → ℕ} {planes : ℕ} {near apart far far′ : List ℕ} (low : (v t : ℕ) → plane v t ≤ B)
     (g : Gathered plane planes (replicate 76 B) near (replicate 76 B) apart (replicate 19 B) far) (r : RunUp 15 far far′)
@@ -344,11 +359,14 @@ module _
         ∙ lowest-ext (λ s. getD far s 0) (plane 0) 0 (suc t)
         (λ s i. omega (arith, g .farTo .done s (omega arith), getD-replicate 19 s B 0 (omega arith), low 0 s))
 
-    pub found-nine : planes ≡ 9 → (a : ℕ) → a < 60 → foundBy near apart far′ (a / 4) (a % 4) ≡ found plane a
-    found-nine n a h = found-words plane near apart far′ a low near-words (apart-words n) far-words h
-
-    pub found-five : ((v t : ℕ) → v < 4 → plane (5 + v) t ≡ plane (1 + v) t) → (a : ℕ) → a < 60 → foundBy near near far′ (a / 4) (a % 4) ≡ found plane a
-    found-five e a h = found-words plane near near far′ a low near-words (λ v t i j. near-words v t i j ∙ sym (e v t i)) far-words h
+    pub found-there :
+        (planes ≢ 9 → (v t : ℕ) → v < 4 → plane (5 + v) t ≡ plane (1 + v) t)
+        → (a : ℕ) → a < 60 → foundBy near (otherOf planes near apart) far′ (a / 4) (a % 4) ≡ found plane a
+    found-there e a h = go (eqb planes 9) (eq? planes 9)
+      where
+        go : (z : Bool) → Eq? planes 9 z → foundBy near (cond z apart near) far′ (a / 4) (a % 4) ≡ found plane a
+        go true (same n) = found-words plane near apart far′ a low near-words (apart-words n) far-words h
+        go false (differs n) = found-words plane near near far′ a low near-words (λ v t i j. near-words v t i j ∙ sym (e n v t i)) far-words h
 
 -- ---- words written
 
@@ -371,13 +389,6 @@ written-join {f} {g} {at} {n} {m} {old} {mid} {new} v w e =
         ap (λ (i : ℕ). getD new i 0) z ∙ w .words (k - n) (omega arith) ∙ e (k - n) (omega arith) ∙ ap f y
 
 -- ---- a layer from the layer before
-
--- what a function was given holds on, whatever another one wrote
-pub given-on :
-    {line pairs old new : List ℕ} {n poses R count i at a b : ℕ}
-    → Given line pairs old n poses R count i at → Frame a b old new → Low new
-    → Given line pairs new n poses R count i at
-given-on g f w = record { ground = g .ground; low = w; early = g .early; room = omega (arith, g .room, f .long) }
 
 -- a pair's words
 pub put-words :

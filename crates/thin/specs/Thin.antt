@@ -12,7 +12,7 @@ use Rattle.model.specs.Steps.{B, Deck, Layer, pairCount, nextLayer}
 use Rattle.lanes.specs.Lanes.{Lowered}
 use Rattle.lanes.specs.Store.{Frame, Low}
 use Rattle.deck.specs.Words.{wordOf, thereIn, LineWords, Ground}
-use Rattle.planes.specs.Rows.{inRow, onePose, byPoses, onePair, byPairs}
+use Rattle.planes.specs.Rows.{inRow}
 
 -- the layer whose block begins at `at`
 abbrev pub thinIn : List ℕ → ℕ → Layer
@@ -81,6 +81,10 @@ foundBy near apart far e v =
 -- with the own cost of the cell at position k, capped
 abbrev pub foundOf : List ℕ → List ℕ → List ℕ → List ℕ → ℕ → ℕ → ℕ
 foundOf line near apart far k a = min (wordOf line k a + foundBy near apart far (a / 4) (a % 4)) B
+
+-- where planes 5 to 8 are to be found
+abbrev pub otherOf : ℕ → List ℕ → List ℕ → List ℕ
+otherOf planes near apart = cond (eqb planes 9) apart near
 
 -- four poses from pose 4 e on
 abbrev pub foundFour : List ℕ → List ℕ → List ℕ → List ℕ → ℕ → ℕ → ℕ → ℕ

@@ -7,8 +7,8 @@ ghost use Rattle.model.specs.Steps.{B, lastAt};
 ghost use Rattle.lanes.specs.Lanes.{Lowered};
 ghost use Rattle.lanes.specs.Store.{Low, Written};
 ghost use Rattle.deck.specs.Words.{deckOf, LineWords, Ground};
-ghost use Rattle.planes.specs.Rows.{Pays, PaysLow, onePose, byPoses, onePair, byPairs};
-ghost use Rattle.thin.specs.Thin.{thinIn, posesAt, fourOf, spreadOf, Lent, Gathered, Source, RunUp, foundBy, foundOf, foundFour, Given, Target, Put, Stepped};
+ghost use Rattle.planes.specs.Rows.{planesIn, Pays, PaysLow, onePose, byPoses, onePair, byPairs};
+ghost use Rattle.thin.specs.Thin.{thinIn, posesAt, fourOf, spreadOf, Lent, Gathered, Source, RunUp, foundBy, foundOf, foundFour, otherOf, Given, Target, Put, Stepped};
 
 // ---- one source
 
@@ -164,9 +164,31 @@ fn put(
     }
 }
 
+// As many planes as are needed: where one weight serves for all gaps, the planes of gap 0 do for the others.
+fn put_found(
+    store: &mut [u32],
+    line: &[u32],
+    near: &[u32; 76],
+    apart: &[u32; 76],
+    far: &[u32; 19],
+    to: usize,
+    k: usize,
+    poses: usize,
+    planes: usize,
+)
+    requires { ⌜ Lent (now near) (now apart) (now far) × LineWords (now line) × Low (now store) × (to + 64 ≤ length (now store)) × (k < 64) × (poses ≤ 60) ⌝ }
+    ensures { λ _. ⌜ Written (foundOf (now (line .entry)) (now (near .entry)) (otherOf planes (now (near .entry)) (now (apart .entry))) (now (far .entry)) k) to ((poses + 3) / 4 * 4) (now (store .entry)) (now (store .exit)) ⌝ }
+{
+    if planes == 9 {
+        put(store, line, near, apart, far, to, k, poses);
+        return;
+    }
+    put(store, line, near, near, far, to, k, poses);
+}
+
 // ---- one layer
 
-// Pair p of the layer with i cells, if it is a source of pair q, whose cell stands at position m.
+// Pair p of the layer with i cells, if it is a source of pair q.
 fn from_source(
     near: &mut [u32; 76],
     apart: &mut [u32; 76],
@@ -181,33 +203,21 @@ fn from_source(
     i: usize,
     from: usize,
     q: usize,
-    m: usize,
-    planes: usize,
     p: usize,
 )
-    requires { ⌜ Lent (now near) (now apart) (now far) × Given (now line) (now pairs) (now store) n poses r count i from × Target n r i q × (m ≡ lastAt r (suc i) q) × (5 ≤ planes) × (planes ≤ 9) × (p < count) ⌝ }
-    ensures { λ _. ⌜ Gathered (onePair (now (line .entry)) (deckOf (now (line .entry)) n poses) r (thinIn (now (store .entry)) from) i q p) planes (now (near .entry)) (now (near .exit)) (now (apart .entry)) (now (apart .exit)) (now (far .entry)) (now (far .exit)) ⌝ }
+    requires { ⌜ Lent (now near) (now apart) (now far) × Given (now line) (now pairs) (now store) n poses r count i from × Target n r i q × (p < count) ⌝ }
+    ensures { λ _. ⌜ Gathered (onePair (now (line .entry)) (deckOf (now (line .entry)) n poses) r (thinIn (now (store .entry)) from) i q p) (planesIn (now (line .entry)) (lastAt r (suc i) q)) (now (near .entry)) (now (near .exit)) (now (apart .entry)) (now (apart .exit)) (now (far .entry)) (now (far .exit)) ⌝ }
 {
     if !deck::is_source(line, pairs, n, r, i, q, p) {
         return;
     }
     let k = deck::last_at(pairs, r, i, p);
-    let mut pays = [0u32; 36];
-    planes::fill_pays(&mut pays, line, k, m, planes);
+    let m = deck::last_at(pairs, r, i + 1, q);
+    let planes = planes::planes_of(line, m);
+    let mut pay = [0u32; 36];
+    planes::fill_pays(&mut pay, line, k, m, planes);
     let at = from + p * 64;
-    from_poses(
-        near,
-        apart,
-        far,
-        store,
-        line,
-        &pays,
-        at,
-        k,
-        m,
-        poses,
-        planes,
-    );
+    from_poses(near, apart, far, store, line, &pay, at, k, m, poses, planes);
 }
 
 // Every source.
@@ -225,11 +235,9 @@ fn gather(
     i: usize,
     from: usize,
     q: usize,
-    m: usize,
-    planes: usize,
 )
-    requires { ⌜ Lent (now near) (now apart) (now far) × Given (now line) (now pairs) (now store) n poses r count i from × Target n r i q × (m ≡ lastAt r (suc i) q) × (5 ≤ planes) × (planes ≤ 9) ⌝ }
-    ensures { λ _. ⌜ Gathered (byPairs (now (line .entry)) (deckOf (now (line .entry)) n poses) r (thinIn (now (store .entry)) from) i q count) planes (now (near .entry)) (now (near .exit)) (now (apart .entry)) (now (apart .exit)) (now (far .entry)) (now (far .exit)) ⌝ }
+    requires { ⌜ Lent (now near) (now apart) (now far) × Given (now line) (now pairs) (now store) n poses r count i from × Target n r i q ⌝ }
+    ensures { λ _. ⌜ Gathered (byPairs (now (line .entry)) (deckOf (now (line .entry)) n poses) r (thinIn (now (store .entry)) from) i q count) (planesIn (now (line .entry)) (lastAt r (suc i) q)) (now (near .entry)) (now (near .exit)) (now (apart .entry)) (now (apart .exit)) (now (far .entry)) (now (far .exit)) ⌝ }
 {
     let mut p: usize = 0;
     while p < count {
@@ -247,15 +255,13 @@ fn gather(
             i,
             from,
             q,
-            m,
-            planes,
             p,
         );
         p += 1;
     }
 }
 
-// The words of pair q, whose cell is there. Where one weight serves for all gaps, the planes of gap 0 do for the others.
+// The words of pair q, whose cell is there: its sources gathered, then what each pose finds.
 fn target_there(
     store: &mut [u32],
     line: &[u32],
@@ -290,16 +296,10 @@ fn target_there(
         i,
         from,
         q,
-        m,
-        planes,
     );
     run_up(&mut far);
     let to = from + 768 + q * 64;
-    if planes == 9 {
-        put(store, line, &near, &apart, &far, to, m, poses);
-        return;
-    }
-    put(store, line, &near, &near, &far, to, m, poses);
+    put_found(store, line, &near, &apart, &far, to, m, poses, planes);
 }
 
 // The words of pair q: all NONE if the row has no such cell.

@@ -1,9 +1,10 @@
 -- After p turns the pairs below p are gathered. Assumes nothing.
-use Prim.Native.Nat.{_-_, _≤_}
+use Prim.Native.Nat.{suc, _-_, _≤_}
 use mathlib.Core.Path.{_≡_}
 use native.Mathlib.Omega.{arith}
+use Rattle.model.specs.Steps.{lastAt}
 use Rattle.deck.specs.Words.{deckOf}
-use Rattle.planes.specs.Rows.{byPairs}
+use Rattle.planes.specs.Rows.{planesIn, byPairs}
 use Rattle.planes.specs.Sources.{pairs-none, pairs-more}
 use Rattle.thin.specs.Thin.{thinIn, Gathered}
 use Rattle.thin.specs.Laws.{gathered-none, gathered-join, lent-on}
@@ -12,25 +13,27 @@ use Rattle.thin.proofs.gather.Statement.{statement}
 use Rattle.thin.proofs.gather.Tie as tie
 
 abbrev Inv-loop : tie.InvT-loop
-Inv-loop near₀ apart₀ far₀ store line pairs n poses r count i from q m planes p₀ near apart far p =
-    (p ≤ count) × Gathered (byPairs line (deckOf line n poses) r (thinIn store from) i q p) planes near₀ near apart₀ apart far₀ far
+Inv-loop near₀ apart₀ far₀ store line pairs n poses r count i from q p₀ near apart far p =
+    (p ≤ count)
+    × Gathered (byPairs line (deckOf line n poses) r (thinIn store from) i q p) (planesIn line (lastAt r (suc i) q)) near₀ near apart₀ apart far₀ far
 
 abbrev μ-loop : tie.MeasureT-loop
-μ-loop near₀ apart₀ far₀ store line pairs n poses r count i from q m planes p₀ near apart far p = count - p
+μ-loop near₀ apart₀ far₀ store line pairs n poses r count i from q p₀ near apart far p = count - p
 
 loop-holds : tie.Need-loop-holds Inv-loop μ-loop
 loop-holds c =
     let k = c .before .before .before in
-    let a = k .args in (
+    let a = k .args in
+    let D = deckOf (a .line .now) (a .n) (a .poses) in (
       omega arith,
-      gathered-none (a .planes) (k .pre .0)
-          (λ v t h. omega (arith, pairs-none (a .line .now) (deckOf (a .line .now) (a .n) (a .poses)) (a .r) (thinIn (a .store .now) (a .from)) (a .i) (a .q) v t)),
+      gathered-none (planesIn (a .line .now) (lastAt (a .r) (suc (a .i)) (a .q))) (k .pre .0)
+          (λ v t h. omega (arith, pairs-none (a .line .now) D (a .r) (thinIn (a .store .now) (a .from)) (a .i) (a .q) v t)),
     )
 
 from-source-requires : tie.Need-from-source-requires Inv-loop μ-loop
 from-source-requires c κs =
     let k = c .before .before .before .before .before .before .before .before in
-    (lent-on (k .pre .0) (c .before .before .before .before .loop .inv .1), k .pre .1, k .pre .2, k .pre .3, k .pre .4, k .pre .5, omega arith)
+    (lent-on (k .pre .0) (c .before .before .before .before .loop .inv .1), k .pre .1, k .pre .2, omega arith)
 
 add-p : tie.Need-add-p Inv-loop μ-loop
 add-p c = search needs
@@ -41,11 +44,9 @@ loop-less c = search needs
 loop-again : tie.Need-loop-again Inv-loop μ-loop
 loop-again c =
     let a = c .before .before .before .before .before .before .before .before .before .args in
-    let l = c .before .before .before .before .before .loop in (
-      omega arith,
-      gathered-join (l .inv .1) (c .from-source .ensures)
-          (λ v t. pairs-more (a .line .now) (deckOf (a .line .now) (a .n) (a .poses)) (a .r) (thinIn (a .store .now) (a .from)) (a .i) (a .q) (l .p) v t),
-    )
+    let D = deckOf (a .line .now) (a .n) (a .poses) in
+    let l = c .before .before .before .before .before .loop in
+    (omega arith, gathered-join (l .inv .1) (c .from-source .ensures) (λ v t. pairs-more (a .line .now) D (a .r) (thinIn (a .store .now) (a .from)) (a .i) (a .q) (l .p) v t))
 
 returns : tie.Need-returns Inv-loop μ-loop
 returns c =

@@ -1,6 +1,6 @@
 -- After q turns the pairs below q are those of the next layer. Assumes nothing.
 use Prim.Native.Nat.{_-_, _≤_}
-use mathlib.Core.Path.{_≡_, _∙_}
+use mathlib.Core.Path.{_≡_}
 use native.Mathlib.Omega.{arith}
 use Rattle.deck.specs.Words.{deckOf}
 use Rattle.thin.specs.Thin.{Stepped}

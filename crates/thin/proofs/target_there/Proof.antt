@@ -1,16 +1,15 @@
 -- The sources are gathered from arrays of NONE; once the far rows ran up, each pose finds there what it can be reached for. Assumes nothing.
-use Prim.Native.Nat.{ℕ, suc, _+_, _*_, _/_, _≤_, _<_}
+use Prim.Native.Nat.{ℕ, suc, _≤_, _<_}
 use mathlib.Core.Path.{_≡_, sym, ap, _∙_}
-use mathlib.Core.Logic.{_≢_}
 use native.Mathlib.Omega.{arith}
 use Rattle.model.specs.Steps.{B, lastAt}
-use Rattle.deck.specs.Words.{wordOf, deckOf}
+use Rattle.deck.specs.Words.{deckOf}
 use Rattle.deck.specs.Laws.{there-size}
-use Rattle.planes.specs.Rows.{byPairs}
+use Rattle.planes.specs.Rows.{planesIn, byPairs}
 use Rattle.planes.specs.Sources.{pairs-low, pairs-twin}
 use Rattle.planes.specs.Next.{next-found}
 use Rattle.thin.specs.Thin.{thinIn, Lent}
-use Rattle.thin.specs.Laws.{planes-few, planes-twin, lent-none, lent-on, lent-run, lent-twin, found-nine, found-five, put-words}
+use Rattle.thin.specs.Laws.{planes-twin, lent-none, lent-on, lent-run, found-there, put-words}
 use borrow.Author.Needs.{needs}
 use Rattle.thin.proofs.target_there.Statement.{statement}
 use Rattle.thin.proofs.target_there.Tie as tie
@@ -25,10 +24,8 @@ inside c =
     let a = k .args in
     omega (arith, here c, there-size (a .n) (a .r) (suc (a .i)) (a .q) (k .pre .1 .there), k .pre .0 .ground .size)
 
-few : (c : tie.After-planes-of) → (5 ≤ c .planes-of .result) × (c .planes-of .result ≤ 9)
-few c =
-    let f = planes-few (c .before .before .before .before .before .args .line .now) (c .before .last-at .result) in
-    (omega (arith, c .planes-of .ensures), omega (arith, c .planes-of .ensures))
+planes : (c : tie.After-planes-of) → (let a = c .before .before .before .before .before .args in c .planes-of .result ≡ planesIn (a .line .now) (lastAt (a .r) (suc (a .i)) (a .q)))
+planes c = c .planes-of .ensures ∙ ap (planesIn (c .before .before .before .before .before .args .line .now)) (here (c .before))
 
 -- the arrays once the far rows ran up
 arrays : (c : tie.After-run-up) → Lent (c .before .before .gather .last .0) (c .before .before .gather .last .1 .0) (c .run-up .last .0)
@@ -38,10 +35,6 @@ planes-low : (k : tie.Start) → (let a = k .args in (v t : ℕ) → byPairs (a 
 planes-low k v t =
     let a = k .args in
     pairs-low (a .line .now) (deckOf (a .line .now) (a .n) (a .poses)) (a .r) (thinIn (a .store .now) (a .from)) (a .i) (a .q) (a .count) v t
-
--- past the test one weight serves for all gaps
-twin : (c : tie.Else1) → (let a = c .before .before .before .before .before .before .before .before .before .before .before .before .before .args in wordOf (a .line .now) (c .before .before .before .before .before .before .before .before .before .last-at .result) 84 ≡ wordOf (a .line .now) (c .before .before .before .before .before .before .before .before .before .last-at .result) 86)
-twin c = planes-twin (c .before .before .before .before .before .before .before .before .before .before .before .before .before .args .line .now) (c .before .before .before .before .before .before .before .before .before .last-at .result) (λ e. omega (arith, c .before .before .before .before .before .before .before .before .planes-of .ensures))
 
 add-last-at : tie.Need-add-last-at
 add-last-at c = search needs
@@ -55,8 +48,7 @@ planes-of-requires c κs = (c .before .before .before .before .pre .0 .ground .r
 gather-requires : tie.Need-gather-requires
 gather-requires c κs =
     let k = c .before .before .before .before .before .before .before .before .before in
-    let f = few (c .before .before .before .before) in
-    (lent-none, k .pre .0, k .pre .1, here (c .before .before .before .before .before), f .0, f .1)
+    (lent-none, k .pre .0, k .pre .1)
 
 run-up-requires : tie.Need-run-up-requires
 run-up-requires c κs =
@@ -72,48 +64,28 @@ mul-to c = search needs
 add-to-2 : tie.Need-add-to-2
 add-to-2 c = search needs
 
-put-requires : tie.Need-put-requires
-put-requires c κs =
-    let k = c .before .before .before .before .before .before .before .before .before .before .before .before .before .before .before .before .before in
+put-found-requires : tie.Need-put-found-requires
+put-found-requires c κs =
+    let k = c .before .before .before .before .before .before .before .before .before .before .before .before .before .before .before .before in
     let g = k .pre .0 in
-    (arrays (c .before .before .before .before .before), g .ground .row, g .low, omega (arith, g .room, k .pre .1 .pair, g .ground .coded .few), inside (c .before .before .before .before .before .before .before .before .before .before .before .before .before), g .ground .few)
+    (arrays (c .before .before .before .before), g .ground .row, g .low, omega (arith, g .room, k .pre .1 .pair, g .ground .coded .few), inside (c .before .before .before .before .before .before .before .before .before .before .before .before), g .ground .few)
 
 same-length : tie.Need-same-length
 same-length c = search needs
 
 returns : tie.Need-returns
 returns c =
-    let k = c .before .before .before .before .before .before .before .before .before .before .before .before .before .before .before .before .before .before .before .before in
+    let k = c .before .before .before .before .before .before .before .before .before .before .before .before .before .before .before .before .before .before .before in
     let a = k .args in
     let g = k .pre .0 in
     let D = deckOf (a .line .now) (a .n) (a .poses) in
-    let nine : c .before .before .before .before .before .before .before .before .before .before .before .before .before .before .before .planes-of .result ≡ 9 = omega arith in
-    let h = here (c .before .before .before .before .before .before .before .before .before .before .before .before .before .before .before .before) in
-    let found = found-nine (planes-low k) (c .before .before .before .before .before .before .before .before .before .before .gather .ensures) (c .before .before .before .before .before .before .before .before .run-up .ensures) nine in
-    put-words D (a .r) (a .i) (a .from) (a .q) (c .before .before .put .ensures) (omega arith) (omega (arith, g .ground .few))
-    (λ b l. next-found (a .line .now) (a .n) (a .poses) (a .r) (thinIn (a .store .now) (a .from)) (a .i) (a .q) b (k .pre .1 .there) (g .ground .all) h (found b (omega (arith, g .ground .few))))
-
-put-requires-2 : tie.Need-put-requires-2
-put-requires-2 c κs =
-    let k = c .before .before .before .before .before .before .before .before .before .before .before .before .before .before .before .before .before in
-    let g = k .pre .0 in
-    (lent-twin (arrays (c .before .before .before .before .before)), g .ground .row, g .low, omega (arith, g .room, k .pre .1 .pair, g .ground .coded .few), inside (c .before .before .before .before .before .before .before .before .before .before .before .before .before), g .ground .few)
-
-same-length-2 : tie.Need-same-length-2
-same-length-2 c = search needs
-
-returns-2 : tie.Need-returns-2
-returns-2 c =
-    let k = c .before .before .before .before .before .before .before .before .before .before .before .before .before .before .before .before .before .before .before .before in
-    let a = k .args in
-    let g = k .pre .0 in
-    let D = deckOf (a .line .now) (a .n) (a .poses) in
-    let h = here (c .before .before .before .before .before .before .before .before .before .before .before .before .before .before .before .before) in
-    let e = rw h at (twin (c .before .before .before .before .before .before .before)) in
-    let found = found-five (planes-low k) (c .before .before .before .before .before .before .before .before .before .before .gather .ensures) (c .before .before .before .before .before .before .before .before .run-up .ensures)
-    (λ v t i. pairs-twin (a .line .now) D (a .r) (thinIn (a .store .now) (a .from)) (a .i) (a .q) (a .count) v t e i) in
-    put-words D (a .r) (a .i) (a .from) (a .q) (c .before .before .put2 .ensures) (omega arith) (omega (arith, g .ground .few))
-    (λ b l. next-found (a .line .now) (a .n) (a .poses) (a .r) (thinIn (a .store .now) (a .from)) (a .i) (a .q) b (k .pre .1 .there) (g .ground .all) h (found b (omega (arith, g .ground .few))))
+    let f = thinIn (a .store .now) (a .from) in
+    let m = here (c .before .before .before .before .before .before .before .before .before .before .before .before .before .before .before) in
+    let e = sym (planes (c .before .before .before .before .before .before .before .before .before .before .before .before .before .before)) in
+    let found = found-there (planes-low k) (rw e at (c .before .before .before .before .before .before .before .before .before .gather .ensures)) (c .before .before .before .before .before .before .before .run-up .ensures)
+    (λ n v t i. pairs-twin (a .line .now) D (a .r) f (a .i) (a .q) (a .count) v t (planes-twin (a .line .now) (lastAt (a .r) (suc (a .i)) (a .q)) (λ z. n (sym e ∙ z))) i) in
+    put-words D (a .r) (a .i) (a .from) (a .q) (c .before .before .put-found .ensures) (omega arith) (omega (arith, g .ground .few))
+    (λ b l. next-found (a .line .now) (a .n) (a .poses) (a .r) f (a .i) (a .q) b (k .pre .1 .there) (g .ground .all) m (found b (omega (arith, g .ground .few))))
 
 pub target-there-spec : {M : Type 1} → statement M
 target-there-spec =
@@ -127,9 +99,6 @@ target-there-spec =
     add-to
     mul-to
     add-to-2
-    put-requires
+    put-found-requires
     same-length
-    returns
-    put-requires-2
-    same-length-2
-    returns-2)
+    returns)
