@@ -1,5 +1,5 @@
 -- The start of a stretch in a table of planes: each lane has one pose to start with, which costs nothing. Assumes nothing.
-use Prim.Native.Nat.{ℕ, _+_, _*_, _≤_, _<_, min}
+use Prim.Native.Nat.{ℕ, _+_, _*_, _-_, _≤_, _<_, min}
 use mathlib.Core.Path.{_≡_, refl, _∙_}
 use mathlib.Core.Logic.{_≢_, _⊎_, inl, inr}
 use mathlib.Core.Bool.{Bool, true, false, cond}
@@ -11,8 +11,9 @@ use lib.Dec.{eqb}
 use Rattle.model.specs.Steps.{B}
 use Rattle.lanes.specs.Store.{Low}
 use Rattle.deck.specs.Words.{wordOf, LineWords}
-use Rattle.near.specs.Rows.{inRow, found, endRow, payIn, onePose}
-use Rattle.near.specs.Laws.{row-miss, pay-small, found-one}
+use Rattle.planes.specs.Rows.{inRow, planesIn, found, endRow, payIn, onePose}
+use Rattle.planes.specs.Laws.{row-miss, pay-small, found-one}
+use Rattle.planes.specs.Sources.{pose-twin, planes-last}
 use Rattle.near.specs.Table.{wordAt, Spread, Gathered, Ready, foundRow}
 use Rattle.first.specs.Firsts.{afterRow}
 
@@ -21,24 +22,24 @@ abbrev pub startIn : List ℕ → ℕ → ℕ → ℕ → ℕ → ℕ → ℕ �
 startIn line p l₀ k l = onePose line p k (l₀ + l) 0
 
 -- one lane's planes are lowered, in the rows that count; the other lanes are as they were
-pub record Started (plane : ℕ → ℕ → ℕ) (rows lane : ℕ) (old new : List ℕ) : Type 0 where
+pub record Started (plane : ℕ → ℕ → ℕ) (rows planes lane : ℕ) (old new : List ℕ) : Type 0 where
   pub long : length new ≡ length old
   pub low : Low new
-  pub done : (v t : ℕ) → v < 5 → t < rows → 4 ≤ v + 4 * t → wordAt new lane v t ≡ min (wordAt old lane v t) (plane v t)
+  pub done : (v t : ℕ) → v < planes → t < rows → v ≤ 8 * t → wordAt new lane v t ≡ min (wordAt old lane v t) (plane v t)
   pub other : (l v t : ℕ) → l < 64 → l ≢ lane → t < rows → wordAt new l v t ≡ wordAt old l v t
 
 -- the lanes below n
-pub record StartedTo (plane : ℕ → ℕ → ℕ → ℕ) (rows n : ℕ) (old new : List ℕ) : Type 0 where
+pub record StartedTo (plane : ℕ → ℕ → ℕ → ℕ) (rows planes n : ℕ) (old new : List ℕ) : Type 0 where
   pub long : length new ≡ length old
   pub low : Low new
-  pub done : (l v t : ℕ) → l < n → v < 5 → t < rows → 4 ≤ v + 4 * t → wordAt new l v t ≡ min (wordAt old l v t) (plane l v t)
+  pub done : (l v t : ℕ) → l < n → v < planes → t < rows → v ≤ 8 * t → wordAt new l v t ≡ min (wordAt old l v t) (plane l v t)
   pub rest : (l v t : ℕ) → n ≤ l → l < 64 → t < rows → wordAt new l v t ≡ wordAt old l v t
 
 -- ---- one lane
 
 -- a start that ends right of all rows that count
-pub started-out : (line : List ℕ) {table : List ℕ} (p k b : ℕ) {rows lane : ℕ} → Low table → rows ≤ endRow line p b k → Started (onePose line p k b 0) rows lane table table
-started-out line {table} p k b {rows} {lane} w h =
+pub started-out : (line : List ℕ) {table : List ℕ} (p k b : ℕ) {rows planes lane : ℕ} → Low table → rows ≤ endRow line p b k → Started (onePose line p k b 0) rows planes lane table table
+started-out line {table} p k b {lane = lane} w h =
     record {
       long = refl;
       low = w;
@@ -48,16 +49,16 @@ started-out line {table} p k b {rows} {lane} w h =
 
 -- a start in row t
 pub started-in :
-    {f plane : ℕ → ℕ → ℕ} {t rows lane : ℕ} {old new : List ℕ}
-    → rows ≤ 19 → Spread f t 5 lane 1 old new → ((v s : ℕ) → v < 5 → plane v s ≡ inRow t s (f v 0))
-    → Started plane rows lane old new
+    {f plane : ℕ → ℕ → ℕ} {t rows planes lane : ℕ} {old new : List ℕ}
+    → rows ≤ 19 → Spread f t 0 planes lane 1 old new → ((v s : ℕ) → v < planes → plane v s ≡ inRow t s (f v 0))
+    → Started plane rows planes lane old new
 started-in {lane = lane} h s e =
     record {
       long = s .long;
       low = s .low;
       done = λ v r i j g.
           let z : lane + 0 ≡ lane = omega arith in
-          let d = rw z at (s .done 0 v r (omega arith) i (omega arith) g) in
+          let d = rw z at (s .done 0 v r (omega arith) (omega arith) i (omega arith) g) in
           omega (arith, e v r i);
       other = λ l v r i j k. s .other l v r i (side l j (decLt l lane)) (omega arith);
     }
@@ -68,14 +69,14 @@ started-in {lane = lane} h s e =
 
 -- ---- every lane
 
-pub starts-none : (plane : ℕ → ℕ → ℕ → ℕ) (rows : ℕ) {table : List ℕ} → Low table → StartedTo plane rows 0 table table
-starts-none plane rows w = record { long = refl; low = w; done = λ l v t i j k g. absurd (omega arith); rest = λ l v t i j k. refl }
+pub starts-none : (plane : ℕ → ℕ → ℕ → ℕ) (rows planes : ℕ) {table : List ℕ} → Low table → StartedTo plane rows planes 0 table table
+starts-none plane rows planes w = record { long = refl; low = w; done = λ l v t i j k g. absurd (omega arith); rest = λ l v t i j k. refl }
 
 pub starts-more :
-    {plane : ℕ → ℕ → ℕ → ℕ} {rows : ℕ} {old mid new : List ℕ} (n : ℕ)
-    → n < 64 → StartedTo plane rows n old mid → Started (plane n) rows n mid new
-    → StartedTo plane rows (n + 1) old new
-starts-more {plane} {rows} {old} {mid} {new} n h s w =
+    {plane : ℕ → ℕ → ℕ → ℕ} {rows planes : ℕ} {old mid new : List ℕ} (n : ℕ)
+    → n < 64 → StartedTo plane rows planes n old mid → Started (plane n) rows planes n mid new
+    → StartedTo plane rows planes (n + 1) old new
+starts-more {plane} {rows} {planes} {old} {mid} {new} n h s w =
     record {
       long = w .long ∙ s .long;
       low = w .low;
@@ -83,24 +84,28 @@ starts-more {plane} {rows} {old} {mid} {new} n h s w =
       rest = λ l v t i j k. w .other l v t j (λ e. omega arith) k ∙ s .rest l v t (omega arith) j k;
     }
   where
-    go : (l v t : ℕ) → l < n + 1 → v < 5 → t < rows → 4 ≤ v + 4 * t → Dec (l ≡ n) → wordAt new l v t ≡ min (wordAt old l v t) (plane l v t)
+    go : (l v t : ℕ) → l < n + 1 → v < planes → t < rows → v ≤ 8 * t → Dec (l ≡ n) → wordAt new l v t ≡ min (wordAt old l v t) (plane l v t)
     go l v t i j k g (yes e) = rw e (omega (arith, w .done v t j k g, s .rest n v t (omega arith) h k))
     go l v t i j k g (no d) = w .other l v t (omega arith) d k ∙ s .done l v t (omega arith) j k g
 
-pub starts-all : {plane : ℕ → ℕ → ℕ → ℕ} {rows lanes : ℕ} {old new : List ℕ} → StartedTo plane rows lanes old new → Gathered plane rows lanes old new
+pub starts-all : {plane : ℕ → ℕ → ℕ → ℕ} {rows planes lanes : ℕ} {old new : List ℕ} → StartedTo plane rows planes lanes old new → Gathered plane rows planes lanes old new
 starts-all s = record { long = s .long; low = s .low; done = s .done }
 
 -- ---- what is found
 
 pub starts-low : {line : List ℕ} (p l₀ k l v t : ℕ) → LineWords line → startIn line p l₀ k l v t ≤ B
-starts-low {line} p l₀ k l v t w = go (eqb (endRow line p (l₀ + l) k) t) (pay-small p (l₀ + l) k v w)
+starts-low {line} p l₀ k l v t w = go (eqb (endRow line p (l₀ + l) k) t) (pay-small line p (l₀ + l) k v w)
   where
     go : (z : Bool) → payIn line p (l₀ + l) k v ≤ B → cond z (0 + payIn line p (l₀ + l) k v) B ≤ B
     go true h = omega arith
     go false h = omega arith
 
+-- the last four of the planes that are needed are those of gaps 2 and 3
+pub starts-last : (line : List ℕ) (p l₀ k l v t : ℕ) → v < 4 → startIn line p l₀ k l (planesIn line k - 4 + v) t ≡ startIn line p l₀ k l (5 + v) t
+starts-last line p l₀ k l v t h = planes-last (λ (u : ℕ). startIn line p l₀ k l u t) line k v (λ e. pose-twin line k e p (l₀ + l) 0 v t h)
+
 pub after-found :
-    (line : List ℕ) (p l₀ k a l : ℕ) {table : List ℕ} {poses lanes : ℕ}
-    → Ready (startIn line p l₀ k) poses lanes table → a < poses → l < lanes
-    → afterRow line p l₀ k a l ≡ foundRow table (wordOf line k a) a l
+    (line : List ℕ) (p l₀ k a l : ℕ) {table : List ℕ} {poses planes lanes : ℕ}
+    → Ready (startIn line p l₀ k) poses planes lanes table → a < poses → l < lanes
+    → afterRow line p l₀ k a l ≡ foundRow planes table (wordOf line k a) a l
 after-found line p l₀ k a l r h i = omega (arith, r .right a l h i, found-one line p (l₀ + l) k a 0)

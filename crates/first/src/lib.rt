@@ -8,8 +8,8 @@ ghost use Rattle.model.specs.Steps.{pairCount, marks};
 ghost use Rattle.lanes.specs.Store.{Low, FilledPair, Filled};
 ghost use Rattle.deck.specs.Words.{deckOf, PairWords, LineWords};
 ghost use Rattle.layer.specs.Loops.{Given};
-ghost use Rattle.near.specs.Rows.{onePose};
-ghost use Rattle.near.specs.Table.{Lent, Pays};
+ghost use Rattle.planes.specs.Rows.{onePose, Pays};
+ghost use Rattle.near.specs.Table.{Lent, FiveOrNine};
 ghost use Rattle.first.specs.Firsts.{startsAt, afterRows, afterFrom, ownRows, openFrom};
 ghost use Rattle.first.specs.Starts.{Started, StartedTo, startIn};
 
@@ -30,21 +30,22 @@ fn starts(pairs: &[u32], n: usize, r: usize, i: usize, m: u32, q: usize) -> bool
 fn from_start(
     table: &mut [u32; 10944],
     line: &[u32],
-    pays: &[u32; 20],
+    pays: &[u32; 36],
     p: usize,
     k: usize,
     b: usize,
     rows: usize,
+    planes: usize,
     lane: usize,
 )
-    requires { ⌜ LineWords (now line) × Pays (now line) p k 20 (now pays) × Low (now table) × (length (now table) ≡ 10944) × (p < 64) × (k < 64) × (b < 64) × (rows ≤ 19) × (lane < 64) ⌝ }
-    ensures { λ _. ⌜ Started (onePose (now (line .entry)) p k b 0) rows lane (now (table .entry)) (now (table .exit)) ⌝ }
+    requires { ⌜ LineWords (now line) × Pays (now line) p k planes 36 (now pays) × Low (now table) × (length (now table) ≡ 10944) × (p < 64) × (k < 64) × (b < 64) × (rows ≤ 19) × (lane < 64) × FiveOrNine planes ⌝ }
+    ensures { λ _. ⌜ Started (onePose (now (line .entry)) p k b 0) rows planes lane (now (table .entry)) (now (table .exit)) ⌝ }
 {
-    let t = near::end_row(line, p, b, k);
+    let t = planes::end_row(line, p, b, k);
     if t >= rows {
         return;
     }
-    near::spread_one(table, 0, pays, b % 4, t, lane);
+    near::spread_lane(table, 0, pays, b % 4, t, lane, planes);
 }
 
 // Every lane: pose l0 + l in lane l.
@@ -55,16 +56,17 @@ fn from_starts(
     l0: usize,
     k: usize,
     rows: usize,
+    planes: usize,
     lanes: usize,
 )
-    requires { ⌜ LineWords (now line) × Low (now table) × (length (now table) ≡ 10944) × (p < 64) × (l0 + lanes ≤ 64) × (k < 64) × (rows ≤ 19) ⌝ }
-    ensures { λ _. ⌜ StartedTo (startIn (now (line .entry)) p l0 k) rows lanes (now (table .entry)) (now (table .exit)) ⌝ }
+    requires { ⌜ LineWords (now line) × Low (now table) × (length (now table) ≡ 10944) × (p < 64) × (l0 + lanes ≤ 64) × (k < 64) × (rows ≤ 19) × FiveOrNine planes ⌝ }
+    ensures { λ _. ⌜ StartedTo (startIn (now (line .entry)) p l0 k) rows planes lanes (now (table .entry)) (now (table .exit)) ⌝ }
 {
-    let mut pays = [0u32; 20];
-    near::fill_pays(&mut pays, line, p, k);
+    let mut pays = [0u32; 36];
+    planes::fill_pays(&mut pays, line, p, k, planes);
     let mut l: usize = 0;
     while l < lanes {
-        from_start(table, line, &pays, p, k, l0 + l, rows, l);
+        from_start(table, line, &pays, p, k, l0 + l, rows, planes, l);
         l += 1;
     }
 }
@@ -86,10 +88,11 @@ fn first_rows(
     requires { ⌜ Lent (now table) × LineWords (now line) × Low (now store) × (to + 49152 ≤ length (now store)) × (q < 12) × (p < 64) × (l0 + lanes ≤ 64) × (k < 64) × (poses ≤ 60) ⌝ }
     ensures { λ _. ⌜ FilledPair (afterRows (now (line .entry)) p l0 k) lanes to q poses (now (store .entry)) (now (store .exit)) × Lent (now (table .exit)) ⌝ }
 {
-    near::reset(table, poses, lanes);
-    from_starts(table, line, p, l0, k, near::rows_of(poses), lanes);
+    let planes = planes::planes_of(line, k);
+    near::reset(table, planes, poses, lanes);
+    from_starts(table, line, p, l0, k, planes::rows_of(poses), planes, lanes);
     near::run_up(table, poses, lanes);
-    near::put_rows(store, line, table, to, q, k, poses, lanes);
+    near::put_rows(store, line, table, to, q, k, poses, planes, lanes);
 }
 
 // The block of pair q.

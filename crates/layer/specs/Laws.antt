@@ -11,11 +11,11 @@ use Rattle.pair.specs.Coded.{lowest}
 use Rattle.model.specs.Steps.{B, Deck, Layer, pairCount, lastAt, isThere, isSource, via, reached, nextLayer}
 use Rattle.lanes.specs.Store.{Frame, Low, layerIn}
 use Rattle.deck.specs.Words.{wordOf, deckOf, thereIn}
-use Rattle.near.specs.Rows.{found, byPairs}
-use Rattle.near.specs.Laws.{reached-found, found-away}
-use Rattle.near.specs.TableLaws.{pairs-away}
+use Rattle.planes.specs.Rows.{found, byPairs}
+use Rattle.planes.specs.Laws.{reached-found, found-away}
+use Rattle.planes.specs.Sources.{pairs-away}
 use Rattle.layer.specs.Loops.{Given, Beside}
-pub use Rattle.near.specs.Loops.{lowest-none, lowest-more, lowest-ext}
+pub use Rattle.planes.specs.Loops.{lowest-none, lowest-more, lowest-ext}
 
 -- ---- the next layer
 

@@ -6,8 +6,8 @@ ghost use Prim.Native.Nat.{ℕ, suc, _+_, _*_, _≤_, _<_};
 ghost use Rattle.model.specs.Steps.{pairCount, isSource};
 ghost use Rattle.lanes.specs.Store.{FilledPair, Filled};
 ghost use Rattle.deck.specs.Words.{deckOf, LineWords, PairWords};
-ghost use Rattle.near.specs.Rows.{rowsOf};
-ghost use Rattle.near.specs.Table.{Lent, Gathered, pairIn, pairsIn};
+ghost use Rattle.planes.specs.Rows.{rowsOf};
+ghost use Rattle.near.specs.Table.{Lent, FiveOrNine, Gathered, pairIn, pairsIn};
 ghost use Rattle.layer.specs.Loops.{nextFrom, Given, Target, Beside};
 
 // Pair p of the layer with i cells, if it is a source: whether it lowered anything.
@@ -25,17 +25,18 @@ fn from_source(
     from: usize,
     q: usize,
     p: usize,
+    planes: usize,
 ) -> bool
-    requires { ⌜ Given (now line) (now pairs) (now store) n poses r count lanes i from × Target n r i q × Lent (now table) × (p < count) ⌝ }
-    ensures { λ used. ⌜ Gathered (pairIn (now (store .entry)) (now (line .entry)) (deckOf (now (line .entry)) n poses) r from i q p) (rowsOf poses) lanes (now (table .entry)) (now (table .exit)) × (used ≡ false → now (table .exit) ≡ now (table .entry)) ⌝ }
+    requires { ⌜ Given (now line) (now pairs) (now store) n poses r count lanes i from × Target n r i q × Lent (now table) × (p < count) × FiveOrNine planes ⌝ }
+    ensures { λ used. ⌜ Gathered (pairIn (now (store .entry)) (now (line .entry)) (deckOf (now (line .entry)) n poses) r from i q p) (rowsOf poses) planes lanes (now (table .entry)) (now (table .exit)) × (used ≡ false → now (table .exit) ≡ now (table .entry)) ⌝ }
 {
     if !deck::is_source(line, pairs, n, r, i, q, p) {
         return false;
     }
     let k = deck::last_at(pairs, r, i, p);
     let m = deck::last_at(pairs, r, i + 1, q);
-    let mut pays = [0u32; 20];
-    near::fill_pays(&mut pays, line, k, m);
+    let mut pays = [0u32; 36];
+    planes::fill_pays(&mut pays, line, k, m, planes);
     near::from_poses(
         table,
         store,
@@ -45,6 +46,7 @@ fn from_source(
         k,
         m,
         poses,
+        planes,
         lanes,
     )
 }
@@ -63,9 +65,10 @@ fn gather(
     i: usize,
     from: usize,
     q: usize,
+    planes: usize,
 ) -> bool
-    requires { ⌜ Given (now line) (now pairs) (now store) n poses r count lanes i from × Target n r i q × Lent (now table) ⌝ }
-    ensures { λ used. ⌜ Gathered (pairsIn (now (store .entry)) (now (line .entry)) (deckOf (now (line .entry)) n poses) r from i q count) (rowsOf poses) lanes (now (table .entry)) (now (table .exit)) × (used ≡ false → now (table .exit) ≡ now (table .entry)) ⌝ }
+    requires { ⌜ Given (now line) (now pairs) (now store) n poses r count lanes i from × Target n r i q × Lent (now table) × FiveOrNine planes ⌝ }
+    ensures { λ used. ⌜ Gathered (pairsIn (now (store .entry)) (now (line .entry)) (deckOf (now (line .entry)) n poses) r from i q count) (rowsOf poses) planes lanes (now (table .entry)) (now (table .exit)) × (used ≡ false → now (table .exit) ≡ now (table .entry)) ⌝ }
 {
     let mut used = false;
     let mut p: usize = 0;
@@ -84,6 +87,7 @@ fn gather(
             from,
             q,
             p,
+            planes,
         ) {
             used = true;
         }
@@ -138,7 +142,9 @@ fn target_rows(
         lanes::fill_rows(store, to + q * 4096, poses, lanes, lanes::NONE);
         return;
     }
-    near::reset(table, poses, lanes);
+    let m = deck::last_at(pairs, r, i + 1, q);
+    let planes = planes::planes_of(line, m);
+    near::reset(table, planes, poses, lanes);
     if !gather(
         table,
         store,
@@ -152,13 +158,13 @@ fn target_rows(
         i,
         from,
         q,
+        planes,
     ) {
         lanes::fill_rows(store, to + q * 4096, poses, lanes, lanes::NONE);
         return;
     }
     near::run_up(table, poses, lanes);
-    let m = deck::last_at(pairs, r, i + 1, q);
-    near::put_rows(store, line, table, to, q, m, poses, lanes);
+    near::put_rows(store, line, table, to, q, m, poses, planes, lanes);
 }
 
 // The block of pair q: all NONE if the row has no such cell.

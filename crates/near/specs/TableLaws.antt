@@ -1,27 +1,26 @@
 -- Laws of the table: what one lowered row, one source and one more of each loop make of it. Assumes nothing.
 use Prim.Native.Nat.{ℕ, zero, suc, _+_, _*_, _-_, _/_, _%_, _≤_, _<_, min}
 use mathlib.Core.Path.{_≡_, refl, sym, ap, ap₂, _∙_}
-use mathlib.Core.Logic.{_≢_, ⊎-elim}
-use mathlib.Core.Bool.{true, false, cond}
+use mathlib.Core.Logic.{_≢_, ⊎-elim, inl, inr}
+use mathlib.Core.Bool.{Bool, true, false, cond}
 use mathlib.Core.List.{List}
 use native.Mathlib.Omega.{arith}
 use native.Mathlib.Decide.{ℕ-discrete, decLt}
 use borrow.Author.Count.{below-more}
 use lib.ListN.{length, getD, set, length-set, replicate, length-replicate}
 use lib.Seq.{getD-set-same, getD-set-other}
-use Rattle.model.specs.Steps.{B, Deck, Layer, lastAt, isSource}
-use Rattle.model.specs.Lowest.{loop-above}
+use lib.Dec.{eqb}
+use Rattle.model.specs.Steps.{B}
 use Rattle.rows.specs.Lists.{from}
 use Rattle.pair.specs.Coded.{lowest, lowest-low, lowest-from}
 use Rattle.lanes.specs.Lanes.{wordsFrom, alwaysRows}
 use Rattle.lanes.specs.Store.{Frame, Low, WrittenRows}
 use Rattle.lanes.specs.Laws.{frame-refl, frame-set, same-low}
-use Rattle.deck.specs.Words.{LineWords}
-use Rattle.near.specs.Loops.{lowest-none, lowest-more, lowest-same}
-use Rattle.near.specs.Gaps.{paying, paying-low}
-use Rattle.near.specs.Rows.{rowsOf, inRow, endRow, found, payIn, onePose, byPoses, onePair, byPairs}
-use Rattle.near.specs.Laws.{row-hit, row-miss, pay-same, pay-small, found-none, found-ext}
-use Rattle.near.specs.Table.{wordAt, LoweredAt, Lent, Cleared, Gathered, Spread, Pays, PaysLow, Source, RunUp, foundIn, Ready, ToRows}
+use Rattle.planes.specs.Loops.{lowest-same, lowest-ext}
+use Rattle.planes.specs.Gaps.{paying, paying-low}
+use Rattle.planes.specs.Rows.{rowsOf, inRow, planeIn, found}
+use Rattle.planes.specs.Laws.{row-hit, row-miss, found-none, found-ext}
+use Rattle.near.specs.Table.{wordAt, LoweredAt, Lent, Cleared, Gathered, Spread, Source, RunUp, foundIn, Ready, ToRows}
 
 -- ---- one row
 
@@ -97,45 +96,34 @@ cleared-more {rows} {lanes} {new = new} v h n c w =
           u j;
     }
 
--- ---- what is paid
-
--- a source's pose in the planes, from the words of what it pays
-pub pose-spread :
-    {line pays : List ℕ} {k m t : ℕ} (b v s x : ℕ)
-    → Pays line k m 20 pays → t ≡ endRow line k b m → v < 5
-    → onePose line k m b x v s ≡ inRow t s (x + getD pays (b % 4 * 5 + v) 0)
-pose-spread {line} {pays} {k} {m} b v s x p e h =
-    let j : ℕ = b % 4 * 5 + v in
-    let z : getD pays j 0 ≡ payIn line k b m v = p .pay j (omega arith) ∙ ap₂ (λ (u w : ℕ). payIn line k u m w) (omega arith) (omega arith) ∙ pay-same line k b m v in
-    ap₂ (λ (r y : ℕ). inRow r s (x + y)) (sym e) (sym z)
-
 -- ---- one source
 
--- the planes below the first one that counts
+-- the planes in which row t does not count
 pub spread-none :
-    (f : ℕ → ℕ → ℕ) (t last first lanes : ℕ) {table : List ℕ}
-    → Low table → ((v s : ℕ) → v < last → 4 ≤ v + 4 * s → t ≢ s)
-    → Spread f t last first lanes table table
-spread-none f t last first lanes {table} w h =
+    (f : ℕ → ℕ → ℕ) (t least last first lanes : ℕ) {table : List ℕ}
+    → Low table → ((v s : ℕ) → least ≤ v → v < last → v ≤ 8 * s → t ≢ s)
+    → Spread f t least last first lanes table table
+spread-none f t least last first lanes {table} w h =
     record {
       long = refl;
       low = w;
-      done = λ l v s i j k c. omega (arith, w .word (v * 1216 + s * 64 + (first + l)), row-miss t s (f v l) (h v s j c));
-      rest = λ l v s i j k c. refl;
+      done = λ l v s i b j k c. omega (arith, w .word (v * 1216 + s * 64 + (first + l)), row-miss t s (f v l) (h v s b j c));
+      rest = λ l v s i j k. refl;
       other = λ l v s i j k. refl;
     }
 
 -- one plane more
 pub spread-more :
-    {f : ℕ → ℕ → ℕ} {t first lanes : ℕ} {old mid new : List ℕ} (v : ℕ)
-    → first + lanes ≤ 64 → t < 19 → v < 5 → Low old → Spread f t v first lanes old mid → LoweredAt (f v) (v * 1216 + t * 64 + first) lanes mid new
-    → Spread f t (v + 1) first lanes old new
-spread-more {f} {t} {first} {lanes} {old} {mid} {new} v n h c b s w =
+    {f : ℕ → ℕ → ℕ} {t least first lanes : ℕ} {old mid new : List ℕ} (v : ℕ)
+    → first + lanes ≤ 64 → t < 19 → least ≤ v → Low old → Spread f t least v first lanes old mid → LoweredAt (f v) (v * 1216 + t * 64 + first) lanes mid new
+    → Spread f t least (v + 1) first lanes old new
+spread-more {f} {t} {least} {first} {lanes} {old} {mid} {new} v n h c b s w =
     record {
       long = w .frame .long ∙ s .long;
       low = lowered-at-low w (s .low);
-      done = λ l u r i j k g. go l u r i j k g (ℕ-discrete u v) (ℕ-discrete r t);
-      rest = λ l u r i j k g. away (first + l) u r (λ e. omega arith) ∙ s .rest l u r i (omega arith) k g;
+      done = λ l u r i p j k g. go l u r i p j k g (ℕ-discrete u v) (ℕ-discrete r t);
+      rest = λ l u r i j k.
+          ⊎-elim (λ p. away (first + l) u r (λ e. omega arith) ∙ s .rest l u r i (inl p) k) (λ p. away (first + l) u r (λ e. omega arith) ∙ s .rest l u r i (inr (omega arith)) k) j;
       other = λ l u r i j k. away l u r (⊎-elim (λ p e. omega arith) (λ p e. omega arith) j) ∙ s .other l u r i j k;
     }
   where
@@ -144,66 +132,66 @@ spread-more {f} {t} {first} {lanes} {old} {mid} {new} v n h c b s w =
         → wordAt new l u r ≡ wordAt mid l u r
     away l u r e = frame-other (u * 1216 + r * 64 + l) (w .frame) e
 
-    go : (l u r : ℕ) → l < lanes → u < v + 1 → r < 19 → 4 ≤ u + 4 * r → Dec (u ≡ v) → Dec (r ≡ t)
+    go : (l u r : ℕ) → l < lanes → least ≤ u → u < v + 1 → r < 19 → u ≤ 8 * r → Dec (u ≡ v) → Dec (r ≡ t)
         → wordAt new (first + l) u r ≡ min (wordAt old (first + l) u r) (inRow t r (f u l))
-    go l u r i j k g (no d) x = away (first + l) u r (λ e. omega arith) ∙ s .done l u r i (omega arith) k g
-    go l u r i j k g (yes e) (no d) =
+    go l u r i p j k g (no d) x = away (first + l) u r (λ e. omega arith) ∙ s .done l u r i p (omega arith) k g
+    go l u r i p j k g (yes e) (no d) =
         omega (
           arith,
           away (first + l) u r (λ z. omega arith),
-          s .rest l u r i (omega arith) (omega arith) k,
+          s .rest l u r i (inr (omega arith)) k,
           row-miss t r (f u l) (λ z. omega arith),
           b .word (u * 1216 + r * 64 + (first + l)),
         )
-    go l u r i j k g (yes e) (yes d) =
+    go l u r i p j k g (yes e) (yes d) =
         let z : getD new (v * 1216 + t * 64 + (first + l)) 0 ≡ getD new (v * 1216 + t * 64 + first + l) 0 = ap (λ (k : ℕ). getD new k 0) (omega arith) in
         let y : getD mid (v * 1216 + t * 64 + (first + l)) 0 ≡ getD mid (v * 1216 + t * 64 + first + l) 0 = ap (λ (k : ℕ). getD mid k 0) (omega arith) in
-        rw (e, d) (omega (arith, w .done l i, s .rest l v t i (omega arith) (omega arith) h, row-hit t t (f v l) refl))
+        rw (e, d) (omega (arith, w .done l i, s .rest l v t i (inr (omega arith)) h, row-hit t t (f v l) refl))
 
 -- all planes, in all lanes: the source is gathered
 pub spread-all :
-    {f : ℕ → ℕ → ℕ} {plane : ℕ → ℕ → ℕ → ℕ} {t rows lanes : ℕ} {old new : List ℕ}
-    → rows ≤ 19 → Spread f t 5 0 lanes old new → ((l v s : ℕ) → l < lanes → v < 5 → plane l v s ≡ inRow t s (f v l))
-    → Gathered plane rows lanes old new
+    {f : ℕ → ℕ → ℕ} {plane : ℕ → ℕ → ℕ → ℕ} {t rows planes lanes : ℕ} {old new : List ℕ}
+    → rows ≤ 19 → Spread f t 0 planes 0 lanes old new → ((l v s : ℕ) → l < lanes → v < planes → plane l v s ≡ inRow t s (f v l))
+    → Gathered plane rows planes lanes old new
 spread-all {old = old} {new = new} h s e =
     record {
       long = s .long;
       low = s .low;
       done = λ l v r i j k g.
           let z : 0 + l ≡ l = omega arith in
-          let d = rw z at (s .done l v r i j (omega arith) g) in
+          let d = rw z at (s .done l v r i (omega arith) j (omega arith) g) in
           omega (arith, e l v r i j);
     }
 
 -- ---- what is found
 
--- the words that foundIn names
+-- the words that foundIn names: `near` those of gap 0, `other` those of gaps 2 and 3, `far` the rows that ran up
 pub found-words :
-    {table : List ℕ} (a l n f : ℕ)
-    → Low table → n ≡ a % 4 * 1216 + a / 4 * 64 + l → f ≡ 4864 + a / 4 * 64 + l
-    → min (min (getD table (n + 256) 0) (min (getD table (n + 128) 0) (getD table (n + 64) 0))) (getD table f 0) ≡ foundIn table a l
+    {table : List ℕ} (planes a l near other far : ℕ)
+    → Low table → far ≡ a / 4 * 64 + l → near ≡ (1 + a % 4) * 1216 + far → other ≡ (planes - 4 + a % 4) * 1216 + far
+    → min (min (getD table (near + 256) 0) (min (getD table (other + 128) 0) (getD table (other + 64) 0))) (getD table far 0) ≡ foundIn planes table a l
 unfolding lowest
-found-words {table} a l n f w p q =
+found-words {table} planes a l near other far w p q o =
     let at : ℕ → ℕ = λ k. getD table k 0 in
-    let z : at (n + 64) ≡ min (at (n + 64)) B = omega (arith, w .word (n + 64)) in
+    let z : at (other + 64) ≡ min (at (other + 64)) B = omega (arith, w .word (other + 64)) in
     ap₂ min
     (ap₂ min (ap at (omega arith)) (ap₂ min (ap at (omega arith)) (z ∙ ap (λ (k : ℕ). min (at k) B) (omega arith))))
     (ap at (omega arith))
 
--- plane 4 before anything ran up
+-- plane 0 before anything ran up
 pub run-none : (lanes : ℕ) {table : List ℕ} → Low table → RunUp 1 lanes table table
 unfolding lowest from
 run-none lanes {table} w =
     record { long = refl; low = w; near = λ l v t i j k. refl; far = λ l t i j. go l t j; rest = λ l t i j k. refl }
   where
-    go : (l t : ℕ) → t < 1 → wordAt table l 4 t ≡ lowest B (wordAt table l 4) (from 0 (suc t))
-    go l zero h = omega (arith, w .word (4864 + 0 * 64 + l))
+    go : (l t : ℕ) → t < 1 → wordAt table l 0 t ≡ lowest B (wordAt table l 0) (from 0 (suc t))
+    go l zero h = omega (arith, w .word (0 * 1216 + 0 * 64 + l))
     go l (suc t) h = absurd (omega arith)
 
 -- one row more
 pub run-more :
     {lanes : ℕ} {old mid new : List ℕ} (t : ℕ)
-    → lanes ≤ 64 → t < 18 → RunUp (t + 1) lanes old mid → LoweredAt (wordsFrom mid (4864 + t * 64)) (4928 + t * 64) lanes mid new
+    → lanes ≤ 64 → t < 18 → RunUp (t + 1) lanes old mid → LoweredAt (wordsFrom mid (t * 64)) (64 + t * 64) lanes mid new
     → RunUp (t + 1 + 1) lanes old new
 run-more {lanes} {old} {mid} {new} t n g s w =
     record {
@@ -211,44 +199,45 @@ run-more {lanes} {old} {mid} {new} t n g s w =
       low = lowered-at-low w (s .low);
       near = λ l v r i j k. away l v r i (λ e. omega arith) ∙ s .near l v r i j k;
       far = λ l r i j.
-          below-more (λ (r : ℕ). wordAt new l 4 r ≡ lowest B (wordAt old l 4) (from 0 (suc r))) (t + 1)
-          (λ r h. away l 4 r i (λ e. omega arith) ∙ s .far l r i h)
+          below-more (λ (r : ℕ). wordAt new l 0 r ≡ lowest B (wordAt old l 0) (from 0 (suc r))) (t + 1)
+          (λ r h. away l 0 r i (λ e. omega arith) ∙ s .far l r i h)
           (last l i)
           r
           j;
-      rest = λ l r i j k. away l 4 r i (λ e. omega arith) ∙ s .rest l r i (omega arith) k;
+      rest = λ l r i j k. away l 0 r i (λ e. omega arith) ∙ s .rest l r i (omega arith) k;
     }
   where
-    away : (l u r : ℕ) → l < lanes → (4928 + t * 64 ≤ u * 1216 + r * 64 + l → 4928 + t * 64 + lanes ≤ u * 1216 + r * 64 + l) → wordAt new l u r ≡ wordAt mid l u r
+    away : (l u r : ℕ) → l < lanes → (64 + t * 64 ≤ u * 1216 + r * 64 + l → 64 + t * 64 + lanes ≤ u * 1216 + r * 64 + l) → wordAt new l u r ≡ wordAt mid l u r
     away l u r i e = frame-other (u * 1216 + r * 64 + l) (w .frame) e
 
-    last : (l : ℕ) → l < lanes → wordAt new l 4 (t + 1) ≡ lowest B (wordAt old l 4) (from 0 (suc (t + 1)))
+    last : (l : ℕ) → l < lanes → wordAt new l 0 (t + 1) ≡ lowest B (wordAt old l 0) (from 0 (suc (t + 1)))
     last l i =
         let at : ℕ → ℕ = λ k. getD new k 0 in
-        let x : wordAt new l 4 (t + 1) ≡ getD new (4928 + t * 64 + l) 0 = ap at (omega arith) in
-        let y : getD mid (4928 + t * 64 + l) 0 ≡ wordAt mid l 4 (t + 1) = ap (λ (k : ℕ). getD mid k 0) (omega arith) in
-        let z : wordAt old l 4 (0 + (t + 1)) ≡ wordAt old l 4 (t + 1) = ap (wordAt old l 4) (omega arith) in
-        let e : lowest B (wordAt old l 4) (from 0 (suc t)) ≡ lowest B (wordAt old l 4) (from 0 (t + 1)) = ap (λ (k : ℕ). lowest B (wordAt old l 4) (from 0 k)) (omega arith) in
-        omega (arith, w .done l i, s .rest l (t + 1) i (omega arith) (omega arith), s .far l t i (omega arith), lowest-from B (wordAt old l 4) 0 (t + 1))
+        let x : wordAt new l 0 (t + 1) ≡ getD new (64 + t * 64 + l) 0 = ap at (omega arith) in
+        let y : getD mid (64 + t * 64 + l) 0 ≡ wordAt mid l 0 (t + 1) = ap (λ (k : ℕ). getD mid k 0) (omega arith) in
+        let v : getD mid (t * 64 + l) 0 ≡ wordAt mid l 0 t = ap (λ (k : ℕ). getD mid k 0) (omega arith) in
+        let z : wordAt old l 0 (0 + (t + 1)) ≡ wordAt old l 0 (t + 1) = ap (wordAt old l 0) (omega arith) in
+        let e : lowest B (wordAt old l 0) (from 0 (suc t)) ≡ lowest B (wordAt old l 0) (from 0 (t + 1)) = ap (λ (k : ℕ). lowest B (wordAt old l 0) (from 0 k)) (omega arith) in
+        omega (arith, w .done l i, s .rest l (t + 1) i (omega arith) (omega arith), s .far l t i (omega arith), lowest-from B (wordAt old l 0) 0 (t + 1))
 
-pub found-small : {table : List ℕ} (a l : ℕ) → Low table → foundIn table a l ≤ B
-found-small a l w = omega (arith, w .word (4 * 1216 + a / 4 * 64 + l))
+pub found-small : {table : List ℕ} (planes a l : ℕ) → Low table → foundIn planes table a l ≤ B
+found-small planes a l w = omega (arith, w .word (0 * 1216 + a / 4 * 64 + l))
 
 -- ---- many sources
 
 -- no source, or none that lowers anything
 pub gathered-none :
-    {plane : ℕ → ℕ → ℕ → ℕ} (rows lanes : ℕ) {table : List ℕ}
-    → Low table → ((l v t : ℕ) → l < lanes → v < 5 → t < rows → B ≤ plane l v t)
-    → Gathered plane rows lanes table table
-gathered-none rows lanes {table} w h =
+    {plane : ℕ → ℕ → ℕ → ℕ} (rows planes lanes : ℕ) {table : List ℕ}
+    → Low table → ((l v t : ℕ) → l < lanes → v < planes → t < rows → B ≤ plane l v t)
+    → Gathered plane rows planes lanes table table
+gathered-none rows planes lanes {table} w h =
     record { long = refl; low = w; done = λ l v t i j k g. omega (arith, w .word (v * 1216 + t * 64 + l), h l v t i j k) }
 
 -- one after the other
 pub gathered-join :
-    {P Q S : ℕ → ℕ → ℕ → ℕ} {rows lanes : ℕ} {old mid new : List ℕ}
-    → Gathered P rows lanes old mid → Gathered Q rows lanes mid new → ((l v t : ℕ) → l < lanes → S l v t ≡ min (P l v t) (Q l v t))
-    → Gathered S rows lanes old new
+    {P Q S : ℕ → ℕ → ℕ → ℕ} {rows planes lanes : ℕ} {old mid new : List ℕ}
+    → Gathered P rows planes lanes old mid → Gathered Q rows planes lanes mid new → ((l v t : ℕ) → l < lanes → S l v t ≡ min (P l v t) (Q l v t))
+    → Gathered S rows planes lanes old new
 gathered-join p q e =
     record {
       long = q .long ∙ p .long;
@@ -258,15 +247,15 @@ gathered-join p q e =
 
 -- the same by another name
 pub gathered-ext :
-    {P Q : ℕ → ℕ → ℕ → ℕ} {rows lanes : ℕ} {old new : List ℕ}
-    → Gathered P rows lanes old new → ((l v t : ℕ) → l < lanes → Q l v t ≡ P l v t)
-    → Gathered Q rows lanes old new
+    {P Q : ℕ → ℕ → ℕ → ℕ} {rows planes lanes : ℕ} {old new : List ℕ}
+    → Gathered P rows planes lanes old new → ((l v t : ℕ) → l < lanes → Q l v t ≡ P l v t)
+    → Gathered Q rows planes lanes old new
 gathered-ext p e = record { long = p .long; low = p .low; done = λ l v t i j k g. omega (arith, p .done l v t i j k g, e l v t i) }
 
 -- what a function was given holds on
 pub source-on :
-    {plane : ℕ → ℕ → ℕ → ℕ} {table table′ st line : List ℕ} {at k m rows lanes : ℕ}
-    → Source table st line at k m lanes → Gathered plane rows lanes table table′ → Source table′ st line at k m lanes
+    {plane : ℕ → ℕ → ℕ → ℕ} {table table′ st line : List ℕ} {at k m rows planes lanes : ℕ}
+    → Source table st line at k m planes lanes → Gathered plane rows planes lanes table table′ → Source table′ st line at k m planes lanes
 source-on g w =
     record {
       words = g .words;
@@ -277,23 +266,44 @@ source-on g w =
       room = g .room;
       left = g .left;
       right = g .right;
+      needed = g .needed;
     }
 
-pub rows-on : {st st′ line table : List ℕ} {k lanes : ℕ} → ToRows st line table k lanes → Low st′ → ToRows st′ line table k lanes
-rows-on g w = record { words = g .words; low = w; tableLow = g .tableLow; tableLong = g .tableLong; narrow = g .narrow; cell = g .cell }
+pub rows-on : {st st′ line table : List ℕ} {k planes lanes : ℕ} → ToRows st line table k planes lanes → Low st′ → ToRows st′ line table k planes lanes
+rows-on g w =
+    record {
+      words = g .words;
+      low = w;
+      tableLow = g .tableLow;
+      tableLong = g .tableLong;
+      narrow = g .narrow;
+      cell = g .cell;
+      least = g .least;
+      most = g .most;
+    }
 
 -- ---- from a table without sources
 
+-- so many planes are filled, and the last four of them are the planes of gaps 2 and 3
 module _
-    {plane : ℕ → ℕ → ℕ → ℕ} {poses lanes : ℕ} {clear table : List ℕ} (few : poses ≤ 60) (low : (l v t : ℕ) → plane l v t ≤ B)
-    (none : Cleared (rowsOf poses) lanes 5 clear) (w : Gathered plane (rowsOf poses) lanes clear table)
+    {plane : ℕ → ℕ → ℕ → ℕ} {poses planes lanes : ℕ} {clear table : List ℕ} (few : poses ≤ 60) (least : 5 ≤ planes) (most : planes ≤ 9)
+    (low : (l v t : ℕ) → plane l v t ≤ B) (last : (l v t : ℕ) → v < 4 → plane l (planes - 4 + v) t ≡ plane l (5 + v) t)
+    (none : Cleared (rowsOf poses) lanes planes clear) (w : Gathered plane (rowsOf poses) planes lanes clear table)
   where
     -- it has the planes
-    planes : (l v t : ℕ) → l < lanes → v < 5 → t < rowsOf poses → 4 ≤ v + 4 * t → wordAt table l v t ≡ plane l v t
-    planes l v t i j k g = omega (arith, w .done l v t i j k g, none .none l v t i j (omega arith), low l v t)
+    filled : (l v t : ℕ) → l < lanes → v < planes → t < rowsOf poses → v ≤ 8 * t → wordAt table l v t ≡ plane l v t
+    filled l v t i j k g = omega (arith, w .done l v t i j k g, none .none l v t i j (omega arith), low l v t)
 
-    -- and once plane 4 ran up, what is found in them
-    pub ready : {table′ : List ℕ} → RunUp (rowsOf poses - 3) lanes table table′ → Ready plane poses lanes table′
+    -- those of the gaps that pay are found where they are looked for
+    looked : (l gap v t : ℕ) → l < lanes → v < 4 → 1 ≤ t → t < rowsOf poses → wordAt table l (planeIn (planes - 4) gap v) t ≡ plane l (planeIn 5 gap v) t
+    looked l gap v t i j b k = go (eqb gap 0)
+      where
+        go : (z : Bool) → wordAt table l (cond z (1 + v) (planes - 4 + v)) t ≡ plane l (cond z (1 + v) (5 + v)) t
+        go true = filled l (1 + v) t i (omega arith) k (omega arith)
+        go false = filled l (planes - 4 + v) t i (omega arith) k (omega arith) ∙ last l v t j
+
+    -- and once plane 0 ran up, what is found in them
+    pub ready : {table′ : List ℕ} → RunUp (rowsOf poses - 3) lanes table table′ → Ready plane poses planes lanes table′
     unfolding found
     ready {table′} u =
         record {
@@ -301,17 +311,35 @@ module _
           low = u .low;
           right = λ a l h i.
               ap₂ min
-              (lowest-same (λ gap. wordAt table′ l (a % 4) (a / 4 + 4 - gap)) (λ gap. wordAt table l (a % 4) (a / 4 + 4 - gap)) paying
-              (λ gap g. let b = paying-low gap g in u .near l (a % 4) (a / 4 + 4 - gap) i (omega arith) (omega arith)))
-              (u .far l (a / 4) i (omega arith))
-              ∙ found-ext (wordAt table l) (plane l) a {rows = rowsOf poses} (omega arith) (λ v t j k g. planes l v t i j k g);
+              (lowest-same (λ gap. wordAt table′ l (planeIn (planes - 4) gap (a % 4)) (a / 4 + 4 - gap)) (λ gap. plane l (planeIn 5 gap (a % 4)) (a / 4 + 4 - gap)) paying
+              (λ gap g.
+              let b = paying-low gap g in
+              u .near l (planeIn (planes - 4) gap (a % 4)) (a / 4 + 4 - gap) i (above gap (a % 4)) (omega arith)
+              ∙ looked l gap (a % 4) (a / 4 + 4 - gap) i (omega arith) (omega arith) (omega arith)))
+              (u .far l (a / 4) i (omega arith) ∙ lowest-ext (wordAt table l 0) (plane l 0) 0 (suc (a / 4)) (λ t k. filled l 0 t i (omega arith) (omega arith) (omega arith)));
         }
+      where
+        above : (gap v : ℕ) → 1 ≤ planeIn (planes - 4) gap v
+        above gap v = go (eqb gap 0)
+          where
+            go : (z : Bool) → 1 ≤ cond z (1 + v) (planes - 4 + v)
+            go true = omega arith
+            go false = omega arith
 
     -- if nothing lowered it, nothing is found
     pub unused : table ≡ clear → (a l : ℕ) → a < poses → l < lanes → found (plane l) a ≡ B
     unused e a l h i =
-        found-ext (plane l) (λ v t. B) a {rows = rowsOf poses} (omega arith)
-        (λ v t j k g.
-        let z : wordAt table l v t ≡ wordAt clear l v t = ap (λ (s : List ℕ). wordAt s l v t) e in
-        omega (arith, planes l v t i j k g, none .none l v t i j (omega arith)))
+        found-ext (plane l) (λ v t. B) a {rows = rowsOf poses} (omega arith) (λ v t j k g. go v t j k g (decLt v planes))
         ∙ found-none a
+      where
+        away : (v t : ℕ) → v < planes → t < rowsOf poses → v ≤ 8 * t → plane l v t ≡ B
+        away v t j k g =
+            let z : wordAt table l v t ≡ wordAt clear l v t = ap (λ (s : List ℕ). wordAt s l v t) e in
+            omega (arith, filled l v t i j k g, none .none l v t i j k)
+
+        go : (v t : ℕ) → v < 9 → t < rowsOf poses → v ≤ 8 * t → Dec (v < planes) → plane l v t ≡ B
+        go v t j k g (yes p) = away v t p k g
+        go v t j k g (no p) =
+            let x : 5 + (v - 5) ≡ v = omega arith in
+            let y = rw x at (last l (v - 5) t (omega arith)) in
+            omega (arith, away (planes - 4 + (v - 5)) t (omega arith) k (omega arith))

@@ -1,19 +1,21 @@
 -- Laws of what sources pay, as words, and of the planes of many sources, one more at a time. Assumes nothing.
 use Prim.Native.Nat.{ℕ, zero, suc, _+_, _*_, _-_, _/_, _%_, _≤_, _<_, min}
 use mathlib.Core.Path.{_≡_, refl, sym, ap, ap₂, _∙_}
-use mathlib.Core.Bool.{true, false, cond}
+use mathlib.Core.Logic.{_⊎_, inl, inr}
+use mathlib.Core.Bool.{Bool, true, false, cond}
 use mathlib.Core.List.{List}
 use native.Mathlib.Omega.{arith}
 use borrow.Author.Count.{below-more}
 use lib.ListN.{length, getD, set, length-set}
 use lib.Seq.{getD-set-same, getD-set-other}
+use lib.Dec.{eqb}
 use Rattle.model.specs.Steps.{B, Deck, Layer, lastAt, isSource}
 use Rattle.model.specs.Lowest.{loop-above}
-use Rattle.rows.specs.Lists.{from}
+use Rattle.rows.specs.Lists.{from, Eq?, same, differs, eq?}
 use Rattle.pair.specs.Coded.{lowest, lowest-low}
 use Rattle.deck.specs.Words.{wordOf, LineWords}
 use Rattle.planes.specs.Loops.{lowest-none, lowest-more, lowest-ext}
-use Rattle.planes.specs.Rows.{inRow, endRow, payIn, Pays, PaysLow, onePose, byPoses, onePair, byPairs}
+use Rattle.planes.specs.Rows.{inRow, planesIn, endRow, payIn, Pays, PaysLow, onePose, byPoses, onePair, byPairs}
 use Rattle.planes.specs.Laws.{pay-same, pay-small, pay-twin}
 
 -- ---- what is paid, as words
@@ -100,7 +102,6 @@ module _ (line : List ℕ) (D : Deck) (R : ℕ) (f : Layer) (i q : ℕ) where
   unfolding byPairs
   pairs-low n v t = lowest-low B _ (from 0 n)
 
-
 -- ---- one weight for all gaps
 
 module _ (line : List ℕ) (m : ℕ) (e : wordOf line m 84 ≡ wordOf line m 86) where
@@ -117,3 +118,25 @@ pub pairs-twin :
 unfolding byPairs onePair
 pairs-twin line D R f i q n v t e h =
     lowest-ext _ _ 0 n (λ p j. ap (λ (x : ℕ). cond (isSource D R i q p) x B) (poses-twin line (lastAt R (suc i) q) e (lastAt R i p) (f p) (D .poses) v t h))
+
+-- ---- how many planes
+
+pub planes-either : (line : List ℕ) (m : ℕ) → (planesIn line m ≡ 5) ⊎ (planesIn line m ≡ 9)
+unfolding planesIn
+planes-either line m = go (eqb (wordOf line m 84) (wordOf line m 86))
+  where
+    go : (z : Bool) → (_≡_ {A = ℕ} (cond z 5 9) 5) ⊎ (_≡_ {A = ℕ} (cond z 5 9) 9)
+    go true = inl refl
+    go false = inr refl
+
+-- the last four of them are as the planes of the other gaps, for what is the same in planes 5 + v and 1 + v where there is one weight
+pub planes-last :
+    (P : ℕ → ℕ) (line : List ℕ) (m v : ℕ)
+    → (wordOf line m 84 ≡ wordOf line m 86 → P (5 + v) ≡ P (1 + v))
+    → P (planesIn line m - 4 + v) ≡ P (5 + v)
+unfolding planesIn
+planes-last P line m v h = go (eqb (wordOf line m 84) (wordOf line m 86)) (eq? (wordOf line m 84) (wordOf line m 86))
+  where
+    go : (z : Bool) → Eq? (wordOf line m 84) (wordOf line m 86) z → P (cond z 5 9 - 4 + v) ≡ P (5 + v)
+    go true (same e) = sym (h e)
+    go false (differs n) = refl

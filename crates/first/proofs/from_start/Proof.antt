@@ -1,6 +1,7 @@
 -- A start that ends right of all rows that count is in none; another one is spread over the planes of its lane. Assumes nothing.
 use native.Mathlib.Omega.{arith}
-use Rattle.near.specs.TableLaws.{pays-low, pose-spread}
+use Rattle.planes.specs.Sources.{pays-low, pose-pays}
+use Rattle.near.specs.SpreadLaws.{nine-most}
 use Rattle.first.specs.Starts.{started-out, started-in}
 use borrow.Author.Needs.{needs}
 use Rattle.first.proofs.from_start.Statement.{statement}
@@ -15,15 +16,15 @@ returns c =
     let a = k .args in
     started-out (a .line .now) (a .p) (a .k) (a .b) (k .pre .2) (omega (arith, c .before .end-row .ensures))
 
-spread-one-requires : tie.Need-spread-one-requires
-spread-one-requires c κs =
+spread-lane-requires : tie.Need-spread-lane-requires
+spread-lane-requires c κs =
     let k = c .before .before .before .before in
-    (k .pre .2, k .pre .3, omega arith, pays-low (k .pre .0) (k .pre .1), omega arith, omega arith, k .pre .8)
+    (k .pre .2, k .pre .3, omega arith, pays-low (k .pre .0) (k .pre .1), omega arith, omega arith, k .pre .8, k .pre .9)
 
 returns-2 : tie.Need-returns-2
 returns-2 c =
     let k = c .before .before .before .before .before in
-    started-in (k .pre .7) (c .spread-one .ensures) (λ v s i. pose-spread (k .args .b) v s 0 (k .pre .1) (c .before .before .before .end-row .ensures) i)
+    started-in (k .pre .7) (c .spread-lane .ensures) (λ v s i. pose-pays (k .args .b) v s 0 (k .pre .1) (c .before .before .before .end-row .ensures) i (nine-most (k .pre .9)))
 
 pub from-start-spec : {M : Type 1} → statement M
-from-start-spec = tie.close (tie.spec end-row-requires returns spread-one-requires returns-2)
+from-start-spec = tie.close (tie.spec end-row-requires returns spread-lane-requires returns-2)

@@ -1,26 +1,29 @@
 -- Each turn starts one lane more. Assumes nothing.
 use Prim.Native.Nat.{_-_, _≤_}
-use mathlib.Core.Path.{_≡_, _∙_}
+use mathlib.Core.Path.{_≡_, refl, _∙_}
 use native.Mathlib.Omega.{arith}
+use Rattle.near.specs.SpreadLaws.{nine-most}
 use Rattle.first.specs.Starts.{StartedTo, startIn, starts-none, starts-more}
 use borrow.Author.Needs.{needs}
 use Rattle.first.proofs.from_starts.Statement.{statement}
 use Rattle.first.proofs.from_starts.Tie as tie
 
 abbrev Inv-loop : tie.InvT-loop
-Inv-loop table₀ line p l0 k rows lanes pays l₀ table l =
-    (l ≤ lanes) × StartedTo (startIn line p l0 k) rows l table₀ table
+Inv-loop table₀ line p l0 k rows planes lanes pays l₀ table l =
+    (l ≤ lanes) × StartedTo (startIn line p l0 k) rows planes l table₀ table
 
 abbrev μ-loop : tie.MeasureT-loop
-μ-loop table₀ line p l0 k rows lanes pays l₀ table l =
+μ-loop table₀ line p l0 k rows planes lanes pays l₀ table l =
     lanes - l
 
 fill-pays-requires : tie.Need-fill-pays-requires Inv-loop μ-loop
-fill-pays-requires c κs = search needs
+fill-pays-requires c κs =
+    let k = c .before .before in
+    (k .pre .0, k .pre .3, k .pre .5, nine-most (k .pre .7), refl)
 
 loop-holds : tie.Need-loop-holds Inv-loop μ-loop
 loop-holds c =
-    (omega arith, starts-none _ _ (c .before .before .before .pre .1))
+    (omega arith, starts-none _ _ _ (c .before .before .before .pre .1))
 
 add-from-start : tie.Need-add-from-start Inv-loop μ-loop
 add-from-start c = search needs
@@ -29,7 +32,7 @@ from-start-requires : tie.Need-from-start-requires Inv-loop μ-loop
 from-start-requires c κs =
     let k = c .before .before .before .before .before .before .before in
     let w = c .before .before .before .loop .inv .1 in
-    (k .pre .0, c .before .before .before .before .fill-pays .ensures, w .low, w .long ∙ k .pre .2, k .pre .3, k .pre .5, omega arith, k .pre .6, omega arith)
+    (k .pre .0, c .before .before .before .before .fill-pays .ensures, w .low, w .long ∙ k .pre .2, k .pre .3, k .pre .5, omega arith, k .pre .6, omega arith, k .pre .7)
 
 add-l : tie.Need-add-l Inv-loop μ-loop
 add-l c = search needs

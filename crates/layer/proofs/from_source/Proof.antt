@@ -9,8 +9,10 @@ use Rattle.model.specs.Steps.{lastAt, isSource}
 use Rattle.lanes.specs.Store.{layerIn}
 use Rattle.deck.specs.Words.{deckOf}
 use Rattle.deck.specs.Laws.{there-size, source-size}
-use Rattle.near.specs.Rows.{byPoses}
-use Rattle.near.specs.TableLaws.{gathered-none, gathered-ext, pair-in, pair-out}
+use Rattle.planes.specs.Rows.{byPoses}
+use Rattle.planes.specs.Sources.{pair-in, pair-out}
+use Rattle.near.specs.TableLaws.{gathered-none, gathered-ext}
+use Rattle.near.specs.SpreadLaws.{nine-most}
 use Rattle.layer.proofs.from_source.Statement.{statement}
 use Rattle.layer.proofs.from_source.Tie as tie
 
@@ -41,7 +43,7 @@ returns : tie.Need-returns
 returns c =
     let k = c .before .before .before .before .before in
     let a = k .args in (
-      gathered-none _ _ (k .pre .2 .low)
+      gathered-none _ _ _ (k .pre .2 .low)
           (λ l v t i j h.
           omega (arith, pair-out (a .line .now) (deckOf (a .line .now) (a .n) (a .poses)) (a .r) (layerIn (a .store .now) (a .from) l) (a .i) (a .q) (a .p) v t (sym (c .before .is-source .ensures) ∙ not-true _ (c .if1 .taken)))),
       λ e. refl,
@@ -58,7 +60,8 @@ last-at-requires-2 c κs = search needs
 
 fill-pays-requires : tie.Need-fill-pays-requires
 fill-pays-requires c κs =
-    (c .before .before .before .before .before .before .before .before .pre .0 .ground .row, left c, right c, refl)
+    let k = c .before .before .before .before .before .before .before .before in
+    (k .pre .0 .ground .row, left c, right c, nine-most (k .pre .4), refl)
 
 mul-from-poses : tie.Need-mul-from-poses
 mul-from-poses c = search needs
@@ -79,6 +82,7 @@ from-poses-requires c κs =
         room = omega (arith, g .room, g .ground .all, g .ground .coded .few);
         left = left (c .before .before .before);
         right = right (c .before .before .before);
+        needed = k .pre .4;
       },
       c .before .before .fill-pays .ensures,
       g .ground .few,

@@ -7,25 +7,26 @@ use native.Mathlib.Omega.{arith}
 use borrow.Author.Needs.{needs}
 use Rattle.lanes.specs.Store.{layerIn}
 use Rattle.deck.specs.Words.{deckOf}
-use Rattle.near.specs.Rows.{rowsOf}
+use Rattle.planes.specs.Rows.{rowsOf}
+use Rattle.planes.specs.Sources.{pairs-none, pairs-more}
 use Rattle.near.specs.Table.{Gathered, pairsIn}
-use Rattle.near.specs.TableLaws.{gathered-none, gathered-join, pairs-none, pairs-more}
+use Rattle.near.specs.TableLaws.{gathered-none, gathered-join}
 use Rattle.layer.proofs.gather.Statement.{statement}
 use Rattle.layer.proofs.gather.Tie as tie
 
 abbrev Inv-loop : tie.InvT-loop
-Inv-loop table₀ store line pairs n poses r count lanes i from q used₀ p₀ table used p =
-    (p ≤ count) × Gathered (pairsIn store line (deckOf line n poses) r from i q p) (rowsOf poses) lanes table₀ table × (used ≡ false → table ≡ table₀)
+Inv-loop table₀ store line pairs n poses r count lanes i from q planes used₀ p₀ table used p =
+    (p ≤ count) × Gathered (pairsIn store line (deckOf line n poses) r from i q p) (rowsOf poses) planes lanes table₀ table × (used ≡ false → table ≡ table₀)
 
 abbrev μ-loop : tie.MeasureT-loop
-μ-loop table₀ store line pairs n poses r count lanes i from q used₀ p₀ table used p = count - p
+μ-loop table₀ store line pairs n poses r count lanes i from q planes used₀ p₀ table used p = count - p
 
 loop-holds : tie.Need-loop-holds Inv-loop μ-loop
 loop-holds c =
     let k = c .before .before .before in
     let a = k .args in (
       omega arith,
-      gathered-none _ _ (k .pre .2 .low)
+      gathered-none _ _ _ (k .pre .2 .low)
           (λ l v t i j h. omega (arith, pairs-none (a .line .now) (deckOf (a .line .now) (a .n) (a .poses)) (a .r) (layerIn (a .store .now) (a .from) l) (a .i) (a .q) v t)),
       λ e. refl,
     )
@@ -34,7 +35,7 @@ from-source-requires : tie.Need-from-source-requires Inv-loop μ-loop
 from-source-requires c κs =
     let k = c .before .before .before .before .before .before in
     let w = c .before .before .loop .inv .1 in
-    (k .pre .0, k .pre .1, record { long = w .long ∙ k .pre .2 .long; low = w .low }, omega arith)
+    (k .pre .0, k .pre .1, record { long = w .long ∙ k .pre .2 .long; low = w .low }, omega arith, k .pre .3)
 
 add-p : tie.Need-add-p Inv-loop μ-loop
 add-p c = search needs

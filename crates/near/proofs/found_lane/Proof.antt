@@ -1,5 +1,5 @@
 -- The four words are those of the gaps that pay and of the row that ran up. Assumes nothing.
-use Prim.Native.Nat.{_+_, _*_, _/_, _%_}
+use Prim.Native.Nat.{ℕ, _+_, _*_, _-_, _/_, _%_}
 use mathlib.Core.Path.{refl}
 use native.Mathlib.Omega.{arith}
 use borrow.Author.Needs.{needs}
@@ -7,17 +7,15 @@ use Rattle.near.specs.TableLaws.{found-words}
 use Rattle.near.proofs.found_lane.Statement.{statement}
 use Rattle.near.proofs.found_lane.Tie as tie
 
-mul-near : tie.Need-mul-near
-mul-near c = search needs
+-- where the words of a pose begin: those of the row that ran up, of gap 0, of gaps 2 and 3
+abbrev far : tie.Start → ℕ
+far k = k .args .a / 4 * 64 + k .args .l
 
-mul-near-2 : tie.Need-mul-near-2
-mul-near-2 c = search needs
+abbrev near : tie.Start → ℕ
+near k = (1 + k .args .a % 4) * 1216 + far k
 
-add-near : tie.Need-add-near
-add-near c = search needs
-
-add-near-2 : tie.Need-add-near-2
-add-near-2 c = search needs
+abbrev other : tie.Start → ℕ
+other k = (k .args .planes - 4 + k .args .a % 4) * 1216 + far k
 
 mul-far : tie.Need-mul-far
 mul-far c = search needs
@@ -25,8 +23,26 @@ mul-far c = search needs
 add-far : tie.Need-add-far
 add-far c = search needs
 
-add-far-2 : tie.Need-add-far-2
-add-far-2 c = search needs
+add-near : tie.Need-add-near
+add-near c = search needs
+
+mul-near : tie.Need-mul-near
+mul-near c = search needs
+
+add-near-2 : tie.Need-add-near-2
+add-near-2 c = search needs
+
+sub-other : tie.Need-sub-other
+sub-other c = search needs
+
+add-other : tie.Need-add-other
+add-other c = search needs
+
+mul-other : tie.Need-mul-other
+mul-other c = search needs
+
+add-other-2 : tie.Need-add-other-2
+add-other-2 c = search needs
 
 add-lesser : tie.Need-add-lesser
 add-lesser c = search needs
@@ -49,8 +65,7 @@ element-copy-out-lesser-2 c = search needs
 lesser-requires : tie.Need-lesser-requires
 lesser-requires c κs =
     let k = c .before .before in
-    let a = k .args in
-    (omega (arith, k .pre .1 .word (a .a % 4 * 1216 + a .a / 4 * 64 + a .l + 128)), omega (arith, k .pre .1 .word (a .a % 4 * 1216 + a .a / 4 * 64 + a .l + 64)))
+    (omega (arith, k .pre .1 .word (other k + 128)), omega (arith, k .pre .1 .word (other k + 64)))
 
 add-lesser-3 : tie.Need-add-lesser-3
 add-lesser-3 c = search needs
@@ -64,8 +79,7 @@ element-copy-out-lesser-3 c = search needs
 lesser-requires-2 : tie.Need-lesser-requires-2
 lesser-requires-2 c κs =
     let k = c .before .before .before .before in
-    let a = k .args in
-    (omega (arith, k .pre .1 .word (a .a % 4 * 1216 + a .a / 4 * 64 + a .l + 256)), omega (arith, c .before .lesser .ensures, k .pre .1 .word (a .a % 4 * 1216 + a .a / 4 * 64 + a .l + 64)))
+    (omega (arith, k .pre .1 .word (near k + 256)), omega (arith, c .before .lesser .ensures, k .pre .1 .word (other k + 64)))
 
 mul-lesser-4 : tie.Need-mul-lesser-4
 mul-lesser-4 c = search needs
@@ -76,27 +90,27 @@ element-copy-out-lesser-4 c = search needs
 lesser-requires-3 : tie.Need-lesser-requires-3
 lesser-requires-3 c κs =
     let k = c .before .before .before .before .before .before in
-    let a = k .args in
-    (omega (arith, c .before .lesser2 .ensures, k .pre .1 .word (a .a % 4 * 1216 + a .a / 4 * 64 + a .l + 256)), omega (arith, k .pre .1 .word (4864 + a .a / 4 * 64 + a .l)))
+    (omega (arith, c .before .lesser2 .ensures, k .pre .1 .word (near k + 256)), omega (arith, k .pre .1 .word (far k)))
 
 returns : tie.Need-returns
 returns c =
     let k = c .before .before .before .before .before .before .before in
-    let a = k .args in
-    let e = found-words (a .a) (a .l) (a .a % 4 * 1216 + a .a / 4 * 64 + a .l) (4864 + a .a / 4 * 64 + a .l) (k .pre .1) refl refl in
+    let e = found-words (k .args .planes) (k .args .a) (k .args .l) (near k) (other k) (far k) (k .pre .1) refl refl refl in
     omega (arith, e, c .lesser3 .ensures, c .before .before .lesser2 .ensures, c .before .before .before .before .lesser .ensures)
 
 pub found-lane-spec : {M : Type 1} → statement M
 found-lane-spec =
     tie.close
     (tie.spec
-    mul-near
-    mul-near-2
-    add-near
-    add-near-2
     mul-far
     add-far
-    add-far-2
+    add-near
+    mul-near
+    add-near-2
+    sub-other
+    add-other
+    mul-other
+    add-other-2
     add-lesser
     mul-lesser
     element-copy-out-lesser

@@ -3,9 +3,11 @@ use Prim.Native.Nat.{ℕ, _+_, _*_}
 use mathlib.Core.Path.{_≡_, refl}
 use native.Mathlib.Omega.{arith}
 use lib.ListN.{getD}
-use Rattle.near.specs.Rows.{endRow, payIn}
-use Rattle.near.specs.Laws.{row-miss, row-above}
-use Rattle.near.specs.TableLaws.{pays-low, pose-spread, spread-all, gathered-none}
+use Rattle.planes.specs.Rows.{endRow, payIn}
+use Rattle.planes.specs.Laws.{row-miss, row-above}
+use Rattle.near.specs.TableLaws.{spread-all, gathered-none}
+use Rattle.planes.specs.Sources.{pays-low, pose-pays}
+use Rattle.near.specs.SpreadLaws.{nine-most}
 use borrow.Author.Needs.{needs}
 use Rattle.near.proofs.from_pose.Statement.{statement}
 use Rattle.near.proofs.from_pose.Tie as tie
@@ -25,7 +27,7 @@ returns-2 : tie.Need-returns-2
 returns-2 c =
     let k = c .before .before .before .before .before in
     let a = k .args in (
-      gathered-none _ _ (k .pre .0 .tableLow)
+      gathered-none _ _ _ (k .pre .0 .tableLow)
           (λ l v s i j h. omega (arith, row-miss (endRow (a .line .now) (a .k) (a .b) (a .m)) s (getD (a .store .now) (a .at + a .b * 64 + l) 0 + payIn (a .line .now) (a .k) (a .b) (a .m) v) (λ e. omega (arith, c .before .end-row .ensures)))),
       λ e. refl,
     )
@@ -43,29 +45,29 @@ returns-3 : tie.Need-returns-3
 returns-3 c =
     let k = c .before .before .before .before .before .before .before in
     let a = k .args in (
-      gathered-none _ _ (k .pre .0 .tableLow)
+      gathered-none _ _ _ (k .pre .0 .tableLow)
           (λ l v s i j h.
           omega (arith, c .before .common .ensures l i, row-above (endRow (a .line .now) (a .k) (a .b) (a .m)) s (getD (a .store .now) (a .at + a .b * 64 + l) 0 + payIn (a .line .now) (a .k) (a .b) (a .m) v))),
       λ e. refl,
     )
 
-mul-spread : tie.Need-mul-spread
-mul-spread c = search needs
+mul-spread-row : tie.Need-mul-spread-row
+mul-spread-row c = search needs
 
-add-spread : tie.Need-add-spread
-add-spread c = search needs
+add-spread-row : tie.Need-add-spread-row
+add-spread-row c = search needs
 
-spread-requires : tie.Need-spread-requires
-spread-requires c κs =
+spread-row-requires : tie.Need-spread-row-requires
+spread-row-requires c κs =
     let k = c .before .before .before .before .before .before .before .before in
     let g = k .pre .0 in
-    (g .tableLow, g .tableLong, g .low, omega (arith, g .room, g .narrow), pays-low (g .words) (k .pre .1), omega arith, omega arith, omega (arith, g .narrow))
+    (g .tableLow, g .tableLong, g .low, omega (arith, g .room, g .narrow), pays-low (g .words) (k .pre .1), omega arith, omega arith, omega (arith, g .narrow), g .needed)
 
 returns-4 : tie.Need-returns-4
 returns-4 c =
     let k = c .before .before .before .before .before .before .before .before .before in
     let a = k .args in (
-      spread-all (k .pre .3) (c .spread .ensures) (λ l v s i j. pose-spread (a .b) v s (getD (a .store .now) (a .at + a .b * 64 + l) 0) (k .pre .1) (c .before .before .before .before .before .end-row .ensures) j),
+      spread-all (k .pre .3) (c .spread-row .ensures) (λ l v s i j. pose-pays (a .b) v s (getD (a .store .now) (a .at + a .b * 64 + l) 0) (k .pre .1) (c .before .before .before .before .before .end-row .ensures) j (nine-most (k .pre .0 .needed))),
       λ e. absurd (let z : _≡_ {A = ℕ} 0 1 = cc in omega arith),
     )
 
@@ -81,7 +83,7 @@ from-pose-spec =
     add-common
     common-requires
     returns-3
-    mul-spread
-    add-spread
-    spread-requires
+    mul-spread-row
+    add-spread-row
+    spread-row-requires
     returns-4)

@@ -3,9 +3,11 @@ use Prim.Native.Nat.{ℕ, _+_, _*_}
 use mathlib.Core.Path.{_≡_, refl, ap, _∙_}
 use native.Mathlib.Omega.{arith}
 use lib.ListN.{getD}
-use Rattle.near.specs.Rows.{endRow, payIn, onePose}
-use Rattle.near.specs.Laws.{row-miss, row-above}
-use Rattle.near.specs.TableLaws.{pays-low, pose-spread, spread-all, gathered-none}
+use Rattle.planes.specs.Rows.{endRow, payIn, onePose}
+use Rattle.planes.specs.Laws.{row-miss, row-above}
+use Rattle.near.specs.TableLaws.{spread-all, gathered-none}
+use Rattle.planes.specs.Sources.{pays-low, pose-pays}
+use Rattle.near.specs.SpreadLaws.{nine-most}
 use borrow.Author.Needs.{needs}
 use Rattle.near.proofs.from_pose_one.Statement.{statement}
 use Rattle.near.proofs.from_pose_one.Tie as tie
@@ -26,7 +28,7 @@ returns : tie.Need-returns
 returns c =
     let k = c .before .before .before .before in
     let a = k .args in (
-      gathered-none _ _ (k .pre .0 .tableLow)
+      gathered-none _ _ _ (k .pre .0 .tableLow)
           (λ l v s i j h.
           let e : getD (a .store .now) (a .at + a .b * 64 + l) 0 ≡ getD (a .store .now) (a .at + a .b * 64) 0 = ap (λ (n : ℕ). getD (a .store .now) n 0) (omega arith) in
           omega (arith, row-above (endRow (a .line .now) (a .k) (a .b) (a .m)) s (getD (a .store .now) (a .at + a .b * 64 + l) 0 + payIn (a .line .now) (a .k) (a .b) (a .m) v))),
@@ -40,26 +42,26 @@ returns-2 : tie.Need-returns-2
 returns-2 c =
     let k = c .before .before .before .before .before .before in
     let a = k .args in (
-      gathered-none _ _ (k .pre .0 .tableLow)
+      gathered-none _ _ _ (k .pre .0 .tableLow)
           (λ l v s i j h. omega (arith, row-miss (endRow (a .line .now) (a .k) (a .b) (a .m)) s (getD (a .store .now) (a .at + a .b * 64 + l) 0 + payIn (a .line .now) (a .k) (a .b) (a .m) v) (λ e. omega (arith, c .before .end-row .ensures)))),
       λ e. refl,
     )
 
-spread-one-requires : tie.Need-spread-one-requires
-spread-one-requires c κs =
+spread-lane-requires : tie.Need-spread-lane-requires
+spread-lane-requires c κs =
     let k = c .before .before .before .before .before .before .before in
     let g = k .pre .0 in
-    (g .tableLow, g .tableLong, g .low .word (k .args .at + k .args .b * 64), pays-low (g .words) (k .pre .1), omega arith, omega arith, omega arith)
+    (g .tableLow, g .tableLong, g .low .word (k .args .at + k .args .b * 64), pays-low (g .words) (k .pre .1), omega arith, omega arith, omega arith, g .needed)
 
 returns-3 : tie.Need-returns-3
 returns-3 c =
     let k = c .before .before .before .before .before .before .before .before in
     let a = k .args in
     let x = getD (a .store .now) (a .at + a .b * 64) 0 in (
-      spread-all (k .pre .3) (c .spread-one .ensures)
+      spread-all (k .pre .3) (c .spread-lane .ensures)
           (λ l v s i j.
           ap (λ (n : ℕ). onePose (a .line .now) (a .k) (a .m) (a .b) (getD (a .store .now) n 0) v s) (omega arith)
-          ∙ pose-spread (a .b) v s x (k .pre .1) (c .before .before .before .end-row .ensures) j),
+          ∙ pose-pays (a .b) v s x (k .pre .1) (c .before .before .before .end-row .ensures) j (nine-most (k .pre .0 .needed))),
       λ e. absurd (let z : _≡_ {A = ℕ} 0 1 = cc in omega arith),
     )
 
@@ -74,5 +76,5 @@ from-pose-one-spec =
     returns
     end-row-requires
     returns-2
-    spread-one-requires
+    spread-lane-requires
     returns-3)

@@ -4,9 +4,10 @@ use mathlib.Core.Path.{_≡_, refl, sym, _∙_}
 use mathlib.Core.Bool.{true, false}
 use mathlib.Core.Logic.{⊎-elim}
 use native.Mathlib.Omega.{arith}
-use Rattle.near.specs.Rows.{rowsOf}
+use Rattle.planes.specs.Rows.{rowsOf}
 use Rattle.near.specs.Table.{Gathered, rowIn, posesIn}
-use Rattle.near.specs.TableLaws.{poses-none, poses-more, gathered-none, gathered-join, source-on}
+use Rattle.near.specs.TableLaws.{gathered-none, gathered-join, source-on}
+use Rattle.planes.specs.Sources.{poses-none, poses-more}
 use borrow.Author.Needs.{needs}
 use Rattle.near.proofs.from_poses.Statement.{statement}
 use Rattle.near.proofs.from_poses.Tie as tie
@@ -15,11 +16,11 @@ true-false : true ≡ false → ⊥
 true-false e = let z : _≡_ {A = ℕ} 0 1 = cc in omega arith
 
 abbrev Inv-loop : tie.InvT-loop
-Inv-loop table₀ store line pays at k m poses lanes rows used₀ b₀ table used b =
-    (b ≤ poses) × (rows ≡ rowsOf poses) × Gathered (posesIn store line at k m b) rows lanes table₀ table × (used ≡ false → table ≡ table₀)
+Inv-loop table₀ store line pays at k m poses planes lanes rows used₀ b₀ table used b =
+    (b ≤ poses) × (rows ≡ rowsOf poses) × Gathered (posesIn store line at k m b) rows planes lanes table₀ table × (used ≡ false → table ≡ table₀)
 
 abbrev μ-loop : tie.MeasureT-loop
-μ-loop table₀ store line pays at k m poses lanes rows used₀ b₀ table used b =
+μ-loop table₀ store line pays at k m poses planes lanes rows used₀ b₀ table used b =
     poses - b
 
 rows-of-requires : tie.Need-rows-of-requires Inv-loop μ-loop
@@ -31,7 +32,7 @@ loop-holds c =
     let a = k .args in (
       omega arith,
       c .rows-of .ensures,
-      gathered-none _ _ (k .pre .0 .tableLow) (λ l v t i j h. omega (arith, poses-none (a .line .now) (a .k) (a .m) (rowIn (a .store .now) (a .at) l) v t)),
+      gathered-none _ _ _ (k .pre .0 .tableLow) (λ l v t i j h. omega (arith, poses-none (a .line .now) (a .k) (a .m) (rowIn (a .store .now) (a .at) l) v t)),
       λ e. refl,
     )
 

@@ -12,11 +12,11 @@ found-lane-requires c κs = search needs
 
 add-lesser : tie.Need-add-lesser
 add-lesser c =
-    omega (arith, c .found-lane .ensures, found-small (c .before .before .args .a) 0 (c .before .before .pre .4))
+    omega (arith, c .found-lane .ensures, found-small (c .before .before .args .planes) (c .before .before .args .a) 0 (c .before .before .pre .4))
 
 lesser-requires : tie.Need-lesser-requires
 lesser-requires c κs =
-    (omega (arith, c .found-lane .ensures, found-small (c .before .before .args .a) 0 (c .before .before .pre .4)), omega arith)
+    (omega (arith, c .found-lane .ensures, found-small (c .before .before .args .planes) (c .before .before .args .a) 0 (c .before .before .pre .4)), omega arith)
 
 mul-store : tie.Need-mul-store
 mul-store c = search needs
@@ -31,7 +31,7 @@ returns : tie.Need-returns
 returns c =
     let k = c .before .before .before in
     let a = k .args in
-    written-one (foundRow (a .table .now) (a .own) (a .a)) (a .at) (c .lesser .result) (k .pre .3) (k .pre .0) (omega (arith, c .lesser .ensures, c .before .found-lane .ensures)) (omega (arith, c .lesser .ensures))
+    written-one (foundRow (a .planes) (a .table .now) (a .own) (a .a)) (a .at) (c .lesser .result) (k .pre .3) (k .pre .0) (omega (arith, c .lesser .ensures, c .before .found-lane .ensures)) (omega (arith, c .lesser .ensures))
 
 pub put-one-spec : {M : Type 1} → statement M
 put-one-spec =

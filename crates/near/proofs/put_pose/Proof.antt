@@ -32,7 +32,7 @@ put-one-requires : tie.Need-put-one-requires
 put-one-requires c κs =
     let k = c .before .before .before .before .before .before in
     let g = k .pre .0 in
-    (omega (arith, k .pre .1), g .tableLong, omega arith, g .low, g .tableLow, k .pre .2)
+    (omega (arith, k .pre .1), g .tableLong, omega arith, g .low, g .tableLow, k .pre .2, g .least, g .most)
 
 same-length-2 : tie.Need-same-length-2
 same-length-2 c = search needs

@@ -11,11 +11,11 @@ use Rattle.near.proofs.put_rows.Statement.{statement}
 use Rattle.near.proofs.put_rows.Tie as tie
 
 abbrev Inv-loop : tie.InvT-loop
-Inv-loop store₀ line table to q k poses lanes a₀ store a =
-    (a ≤ poses) × FilledPair (foundRows line table k) lanes to q a store₀ store
+Inv-loop store₀ line table to q k poses planes lanes a₀ store a =
+    (a ≤ poses) × FilledPair (foundRows planes line table k) lanes to q a store₀ store
 
 abbrev μ-loop : tie.MeasureT-loop
-μ-loop store₀ line table to q k poses lanes a₀ store a = poses - a
+μ-loop store₀ line table to q k poses planes lanes a₀ store a = poses - a
 
 loop-holds : tie.Need-loop-holds Inv-loop μ-loop
 loop-holds c = (omega arith, pair-none _ _ _ _ (c .before .before .pre .0 .low))

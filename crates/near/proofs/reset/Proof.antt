@@ -2,7 +2,7 @@
 use Prim.Native.Nat.{_-_, _≤_}
 use mathlib.Core.Path.{_≡_}
 use native.Mathlib.Omega.{arith}
-use Rattle.near.specs.Rows.{rowsOf}
+use Rattle.planes.specs.Rows.{rowsOf}
 use Rattle.near.specs.Table.{Cleared}
 use Rattle.near.specs.TableLaws.{cleared-none, cleared-more}
 use borrow.Author.Needs.{needs}
@@ -10,12 +10,12 @@ use Rattle.near.proofs.reset.Statement.{statement}
 use Rattle.near.proofs.reset.Tie as tie
 
 abbrev Inv-loop : tie.InvT-loop
-Inv-loop table₀ poses lanes rows v₀ table v =
-    (v ≤ 5) × (rows ≡ rowsOf poses) × Cleared rows lanes v table
+Inv-loop table₀ planes poses lanes rows v₀ table v =
+    (v ≤ planes) × (rows ≡ rowsOf poses) × Cleared rows lanes v table
 
 abbrev μ-loop : tie.MeasureT-loop
-μ-loop table₀ poses lanes rows v₀ table v =
-    5 - v
+μ-loop table₀ planes poses lanes rows v₀ table v =
+    planes - v
 
 rows-of-requires : tie.Need-rows-of-requires Inv-loop μ-loop
 rows-of-requires c κs = search needs
@@ -30,7 +30,7 @@ mul-fill-rows c = search needs
 fill-rows-requires : tie.Need-fill-rows-requires Inv-loop μ-loop
 fill-rows-requires c κs =
     let l = c .before .before .loop in
-    (omega (arith, l .inv .2 .long), c .before .before .before .before .pre .3, omega arith, l .inv .2 .low)
+    (omega (arith, l .inv .2 .long), c .before .before .before .before .pre .4, omega arith, l .inv .2 .low)
 
 add-v : tie.Need-add-v Inv-loop μ-loop
 add-v c = search needs
@@ -41,12 +41,12 @@ loop-less c = search needs
 loop-again : tie.Need-loop-again Inv-loop μ-loop
 loop-again c =
     let l = c .before .before .before .loop in
-    (omega arith, l .inv .1, cleared-more (l .v) (omega arith) (c .before .before .before .before .before .pre .3) (l .inv .2) (c .fill-rows .ensures))
+    (omega arith, l .inv .1, cleared-more (l .v) (omega arith) (c .before .before .before .before .before .pre .4) (l .inv .2) (c .fill-rows .ensures))
 
 returns : tie.Need-returns Inv-loop μ-loop
 returns c =
     let l = c .before .loop in
-    let e : l .v ≡ 5 = omega arith in
+    let e : l .v ≡ c .before .before .before .args .planes = omega arith in
     rw (e, l .inv .1) at (l .inv .2)
 
 pub reset-spec : {M : Type 1} → statement M

@@ -3,7 +3,7 @@ use Prim.Native.Nat.{_+_, _-_, _≤_}
 use mathlib.Core.Path.{_≡_, _∙_}
 use native.Mathlib.Omega.{arith}
 use borrow.Author.Needs.{needs}
-use Rattle.near.specs.Rows.{rowsOf}
+use Rattle.planes.specs.Rows.{rowsOf}
 use Rattle.near.specs.Table.{RunUp}
 use Rattle.near.specs.TableLaws.{run-none, run-more}
 use Rattle.near.proofs.run_up.Statement.{statement}
@@ -30,9 +30,6 @@ add-lower-by c = search needs
 
 mul-lower-by-2 : tie.Need-mul-lower-by-2 Inv-loop μ-loop
 mul-lower-by-2 c = search needs
-
-add-lower-by-2 : tie.Need-add-lower-by-2 Inv-loop μ-loop
-add-lower-by-2 c = search needs
 
 lower-by-requires : tie.Need-lower-by-requires Inv-loop μ-loop
 lower-by-requires c κs = search needs
@@ -66,7 +63,6 @@ run-up-spec =
     mul-lower-by
     add-lower-by
     mul-lower-by-2
-    add-lower-by-2
     lower-by-requires
     add-t
     loop-less

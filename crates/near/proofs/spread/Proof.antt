@@ -10,13 +10,13 @@ use Rattle.near.proofs.spread.Tie as tie
 
 abbrev Inv-loop : tie.InvT-loop
 Inv-loop table₀ row at pays u t lanes l₀ table l =
-    (l ≤ lanes) × Spread (chargedBy row at pays u) t 5 0 l table₀ table
+    (l ≤ lanes) × Spread (chargedBy row at pays u) t 0 5 0 l table₀ table
 
 abbrev μ-loop : tie.MeasureT-loop
 μ-loop table₀ row at pays u t lanes l₀ table l = lanes - l
 
 loop-holds : tie.Need-loop-holds Inv-loop μ-loop
-loop-holds c = (omega arith, spread-no-lane _ _ _ _ (c .before .pre .0))
+loop-holds c = (omega arith, spread-no-lane _ _ _ _ _ (c .before .pre .0))
 
 add-spread-one : tie.Need-add-spread-one Inv-loop μ-loop
 add-spread-one c = search needs
