@@ -148,11 +148,11 @@ module _ (j : Job) (sound : Sound j) (s : Side) (l : List ℕ) (n k : ℕ) (f : 
       cells : (p : ℕ) → p < n → CellWords j (rowOf s) (cell (pairJob j) s p) (wordOf l p)
       cells p h = cell-words j (rowOf s) (cell (pairJob j) s p) (wordOf l p) (f .words p h)
 
-      weight : (p : ℕ) → Dec (p < n) → wordOf l p 84 ≤ 1000
+      weight : (p : ℕ) → Dec (p < n) → wordOf l p 84 ≤ 131072
       weight p (yes h) = let w = cells p h .weight in let b = sound .header .step in omega arith
       weight p (no h) = let z = f .zero (p * 128 + 84) (omega arith) in omega arith
 
-      filled : (p : ℕ) → Dec (p < n) → wordOf l p 86 ≤ 1000
+      filled : (p : ℕ) → Dec (p < n) → wordOf l p 86 ≤ 131072
       filled p (yes h) = let w = cells p h .filled in let b = sound .header .step in omega arith
       filled p (no h) = let z = f .zero (p * 128 + 86) (omega arith) in omega arith
 
