@@ -36,13 +36,13 @@ differ-low line k b m a =
     )
 
 -- a weight times a count of heights, and a charge times that
-pub pay-low : {w d : ℕ} → w ≤ 1000 → d ≤ 2 → w * d ≤ 2000
+pub pay-low : {w d : ℕ} → w ≤ 131072 → d ≤ 2 → w * d ≤ 262144
 pay-low p q = mul-le-mul p q
 
-pub charged-low : {c x : ℕ} → c ≤ 1 → x ≤ 2000 → c * x ≤ 2000
+pub charged-low : {c x : ℕ} → c ≤ 1 → x ≤ 262144 → c * x ≤ 262144
 charged-low p q = mul-le-mul p q
 
-pub weight-low : {line : List ℕ} (m gap : ℕ) → LineWords line → weightIn line m gap ≤ 1000
+pub weight-low : {line : List ℕ} (m gap : ℕ) → LineWords line → weightIn line m gap ≤ 131072
 weight-low {line} m gap w = cond-low (eqb gap 0) {x = wordOf line m 84} {y = wordOf line m 86} (w .weight m) (w .filled m)
 
 pub toll-low : {line : List ℕ} (k b m a : ℕ) → LineWords line → tollIn line k b m a ≤ B

@@ -69,12 +69,13 @@ pub record PairWords (R : ℕ) (pairs : List ℕ) : Type 0 where
   pub mark : (q : ℕ) → q < pairCount R → getD pairs (q * 4 + 1) 0 ≡ marks R q
   pub earlier : (q : ℕ) → q < pairCount R → getD pairs (q * 4 + 2) 0 ≡ before R q
 
--- a row's words: none is over B, and the step weights are small
+-- a row's words: none is over B, and the step weights are so small that what is paid stays below it (document 01 has weights up to 1,000; a request that ranks
+-- equal costs, A14, is to scale them by 128)
 pub record LineWords (line : List ℕ) : Type 0 where
   pub long : 8192 ≤ length line
   pub word : (k : ℕ) → getD line k 0 ≤ B
-  pub weight : (k : ℕ) → wordOf line k 84 ≤ 1000
-  pub filled : (k : ℕ) → wordOf line k 86 ≤ 1000
+  pub weight : (k : ℕ) → wordOf line k 84 ≤ 131072
+  pub filled : (k : ℕ) → wordOf line k 86 ≤ 131072
 
 -- what every function of the search is given: a row's words and the pairs
 pub record Ground (line pairs : List ℕ) (R n poses count : ℕ) : Type 0 where

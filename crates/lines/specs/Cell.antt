@@ -57,6 +57,7 @@ pub record CellWords (j : Job) (row k : ℕ) (word : ℕ → ℕ) : Type 0 where
   pub rightN : (a : ℕ) → word (80 + variant a) ≡ rightOf j row k (poseNumber j k a) 1
   pub weight : word 84 ≡ j .header .stepWeight
   pub number : word 85 ≡ k
+  pub filled : word 86 ≡ j .header .stepWeight
 
 -- the mark as a number, and the edge that it leaves
 mark-two : (m : ℕ) → m < 2 → cond (eqb m 1) 2 0 ≡ m * 2
@@ -147,10 +148,21 @@ module _ (j : Job) (row k : ℕ) where
     unfolding cellWord
     number-at i e = rw e
 
-    pub none-at : (i : ℕ) → 85 < i → cellWord j row k n i ≡ 0
+    pub filled-at : (i : ℕ) → i ≡ 86 → cellWord j row k n i ≡ j .header .stepWeight
+    unfolding cellWord
+    filled-at i e = rw e
+
+    pub none-at : (i : ℕ) → 86 < i → cellWord j row k n i ≡ 0
     unfolding cellWord
     none-at i h =
-        rw (le-ltb i 64 (omega arith), le-ltb i 68 (omega arith), le-ltb i 84 (omega arith), ne-eqb i 84 (λ e. omega arith), ne-eqb i 85 (λ e. omega arith))
+        rw (
+          le-ltb i 64 (omega arith),
+          le-ltb i 68 (omega arith),
+          le-ltb i 84 (omega arith),
+          ne-eqb i 84 (λ e. omega arith),
+          ne-eqb i 85 (λ e. omega arith),
+          ne-eqb i 86 (λ e. omega arith),
+        )
 
     width-at : (l : ℕ) → l < 2 → cellWord j row k n (65 + l) ≡ widthIn (cellAt j k) l
     unfolding cellWord shapeWord
@@ -164,7 +176,7 @@ module _ (j : Job) (row k : ℕ) where
         let e : i - 68 ≡ u = omega arith in
         rw (le-ltb i 64 (omega arith), le-ltb i 68 (omega arith), lt-ltb i 84 (omega arith), e)
 
-  pub cell-words : (word : ℕ → ℕ) → ((i : ℕ) → i < 86 → word i ≡ cellWord j row k k i) → CellWords j row k word
+  pub cell-words : (word : ℕ → ℕ) → ((i : ℕ) → i < 87 → word i ≡ cellWord j row k k i) → CellWords j row k word
   unfolding cellWord shapeWord widthOf poseNumber
   cell-words word w = record {
     own = λ a h. w a (omega arith) ∙ own-at k a (omega arith);
@@ -177,4 +189,5 @@ module _ (j : Job) (row k : ℕ) where
     rightN = λ a. w (80 + a % 4) (omega arith) ∙ height-at k (80 + a % 4) (8 + 4 * 1 + a % 4) (omega arith) (omega arith) ∙ right-word 1 a (lit≤ tt);
     weight = w 84 (lit≤ tt);
     number = w 85 (lit≤ tt);
+    filled = w 86 (lit≤ tt);
   }

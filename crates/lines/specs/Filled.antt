@@ -47,7 +47,7 @@ row-side (suc (suc n)) h = absurd (omega arith)
 
 -- the cell of a job of one cell is written at position n, if it stands in the row
 pub record Added (j : Job) (row number n n′ : ℕ) (old new : List ℕ) : Type 0 where
-  pub there : job.inRow row (cellAt j 0) ≡ true → (n′ ≡ n + 1) × Written (cellWord j row 0 number) (n * 128) 86 old new
+  pub there : job.inRow row (cellAt j 0) ≡ true → (n′ ≡ n + 1) × Written (cellWord j row 0 number) (n * 128) 87 old new
   pub away : job.inRow row (cellAt j 0) ≡ false → (n′ ≡ n) × (new ≡ old)
 
 -- ---- the row
@@ -71,7 +71,7 @@ module _ (j : Job) (s : Side) where
     pub upto : n ≤ length (members (pairJob j) s)
     pub left : drop n (members (pairJob j) s) ≡ rest stands k (length (j .cells))
     pub low : Low l
-    pub words : (p : ℕ) → p < n → (i : ℕ) → i < 86 → wordOf l p i ≡ cellWord j (rowOf s) (cell (pairJob j) s p) (cell (pairJob j) s p) i
+    pub words : (p : ℕ) → p < n → (i : ℕ) → i < 87 → wordOf l p i ≡ cellWord j (rowOf s) (cell (pairJob j) s p) (cell (pairJob j) s p) i
     pub zero : (q : ℕ) → n * 128 ≤ q → getD l q 0 ≡ 0
 
   pub filled-none : Sound j → {old new : List ℕ} → 8192 ≤ length old → Written (always 0) 0 (length old) old new → Filled new 0 0
@@ -91,7 +91,7 @@ module _ (j : Job) (s : Side) where
       go q (no g) = w .frame .high q (omega arith) ∙ List·getD-eq-default old 0 (omega arith)
 
   filled-more : {l l′ : List ℕ} {n k : ℕ} → Filled l n k → k < length (j .cells) → stands k ≡ true
-      → Written (cellWord (alone (j .header) (cellAt j k)) (rowOf s) 0 k) (n * 128) 86 l l′ → Filled l′ (n + 1) (k + 1)
+      → Written (cellWord (alone (j .header) (cellAt j k)) (rowOf s) 0 k) (n * 128) 87 l l′ → Filled l′ (n + 1) (k + 1)
   filled-more {l} {l′} {n} {k} f h e w =
       let x = next {d = 0} (members (pairJob j) s) n (f .left ∙ rest-more stands k (length (j .cells)) h ∙ ap (λ t. cond t (k ∷ rest stands (k + 1) (length (j .cells))) (rest stands (k + 1) (length (j .cells)))) e) in
       let i = x .inside in
@@ -102,7 +102,7 @@ module _ (j : Job) (s : Side) where
         upto = omega arith;
         left = x .after;
         low = w .low;
-        words = below-more (λ p. (i : ℕ) → i < 86 → wordOf l′ p i ≡ cellWord j (rowOf s) (cell (pairJob j) s p) (cell (pairJob j) s p) i) n
+        words = below-more (λ p. (i : ℕ) → i < 87 → wordOf l′ p i ≡ cellWord j (rowOf s) (cell (pairJob j) s p) (cell (pairJob j) s p) i) n
             (λ p g i q. w .frame .low (p * 128 + i) (omega arith) ∙ f .words p g i q)
             (λ i q. w .words i q ∙ word-alone j (rowOf s) k i ∙ ap (λ c. cellWord j (rowOf s) c c i) (sym (x .here)));
         zero = λ q g. w .frame .high q (omega arith) ∙ f .zero q (omega arith);
@@ -142,15 +142,19 @@ module _ (j : Job) (sound : Sound j) (s : Side) (l : List ℕ) (n k : ℕ) (f : 
   row-words = record {
     size = done (members (pairJob j) s) n (f .upto) (f .left ∙ rest-none (stands j s) k (length (j .cells)) (omega arith));
     cells = cells;
-    row = record { long = f .long; word = f .low .word; weight = λ p. weight p (decLt p n) };
+    row = record { long = f .long; word = f .low .word; weight = λ p. weight p (decLt p n); filled = λ p. filled p (decLt p n) };
   }
     where
       cells : (p : ℕ) → p < n → CellWords j (rowOf s) (cell (pairJob j) s p) (wordOf l p)
       cells p h = cell-words j (rowOf s) (cell (pairJob j) s p) (wordOf l p) (f .words p h)
 
-      weight : (p : ℕ) → Dec (p < n) → wordOf l p 84 ≤ 1000
+      weight : (p : ℕ) → Dec (p < n) → wordOf l p 84 ≤ 131072
       weight p (yes h) = let w = cells p h .weight in let b = sound .header .step in omega arith
       weight p (no h) = let z = f .zero (p * 128 + 84) (omega arith) in omega arith
+
+      filled : (p : ℕ) → Dec (p < n) → wordOf l p 86 ≤ 131072
+      filled p (yes h) = let w = cells p h .filled in let b = sound .header .step in omega arith
+      filled p (no h) = let z = f .zero (p * 128 + 86) (omega arith) in omega arith
 
   pub lined : Lined j s l n
   lined = record {

@@ -24,7 +24,7 @@ use Rattle.model.specs.Matched.{Matched}
 use Rattle.bridge.specs.Paired.{kindOf, rowOf, siteOf, poseNumbers, poseNumber, isOffered, offersOf, widthOf, ownOf, differingOf, payOf, pairJob}
 use Rattle.bridge.specs.Row.{isTall-same, member}
 use Rattle.bridge.specs.Legal.{end-allowed}
-use Rattle.deck.specs.Words.{wordOf, siteIn, endIn, differIn, tollAt, tollIn, frontIn, backIn, deckOf, LineWords}
+use Rattle.deck.specs.Words.{wordOf, siteIn, endIn, differIn, weightIn, tollAt, tollIn, frontIn, backIn, deckOf, LineWords}
 use Rattle.lines.specs.Words.{ownWord}
 use Rattle.lines.specs.Cell.{offered-low, CellWords}
 
@@ -51,13 +51,13 @@ one-true false = refl
 
 -- ---- what two neighbours pay
 
-toll-pays : (x y pay : ℕ) → y ≤ x → x - y ≢ 1 → tollAt x y pay ≡ charge (x - y) * pay
+toll-pays : (x y : ℕ) (pay : ℕ → ℕ) → y ≤ x → x - y ≢ 1 → tollAt x y pay ≡ charge (x - y) * pay (x - y)
 toll-pays x y pay h d = rw (le-ltb x y h, ne-eqb (x - y) 1 d)
 
-toll-barred : (x y pay : ℕ) → (y ≤ x → x - y ≡ 1) → tollAt x y pay ≡ B
+toll-barred : (x y : ℕ) (pay : ℕ → ℕ) → (y ≤ x → x - y ≡ 1) → tollAt x y pay ≡ B
 toll-barred x y pay f = go (ltb x y) (le? (suc x) y)
   where
-    go : (t : Bool) → Le? (suc x) y t → cond t B (cond (eqb (x - y) 1) B (charge (x - y) * pay)) ≡ B
+    go : (t : Bool) → Le? (suc x) y t → cond t B (cond (eqb (x - y) 1) B (charge (x - y) * pay (x - y))) ≡ B
     go true h = refl
     go false (high h) = rw (eq-eqb (x - y) 1 (f (omega arith)))
 
@@ -65,6 +65,14 @@ module _ (j : Job) (s : Side) (l : List ℕ) (k m : ℕ) (b a : ℕ) (K M : ℕ)
   differ-same : differIn l k b m a ≡ differingOf j (rowOf s) (K, poseNumber j K b) (M, poseNumber j M a)
   unfolding differingOf
   differ-same = rw (w .rightP b, w .rightN b, v .leftP a, v .leftN a) (omega arith)
+
+  -- all gaps have one weight
+  weight-same : (gap : ℕ) → weightIn l m gap ≡ j .header .stepWeight
+  weight-same gap = go (eqb gap 0)
+    where
+      go : (t : Bool) → cond t (wordOf l m 84) (wordOf l m 86) ≡ j .header .stepWeight
+      go true = v .weight
+      go false = v .filled
 
   -- sites with D added to both, where both poses are offered
   abbrev gapTo : ℕ
@@ -89,8 +97,8 @@ module _ (j : Job) (s : Side) (l : List ℕ) (k m : ℕ) (b a : ℕ) (K M : ℕ)
   pays p q h d =
       let z = sites p q in
       let g : siteIn l m a - endIn l k b ≡ gapTo = rw (z .0, z .1) (omega arith) in
-      toll-pays (siteIn l m a) (endIn l k b) _ (rw (z .0, z .1) (omega arith)) (λ e. d (omega (arith, sym g ∙ e)))
-      ∙ ap₂ (λ x y. charge x * y) g (ap₂ _*_ (v .weight) differ-same)
+      toll-pays (siteIn l m a) (endIn l k b) (λ gap. weightIn l m gap * differIn l k b m a) (rw (z .0, z .1) (omega arith)) (λ e. d (omega (arith, sym g ∙ e)))
+      ∙ ap₂ (λ x y. charge x * y) g (ap₂ _*_ (weight-same (siteIn l m a - endIn l k b)) differ-same)
       ∙ mul-left-comm (charge gapTo) (j .header .stepWeight) (differingOf j (rowOf s) (K, poseNumber j K b) (M, poseNumber j M a))
 
   barred : isOffered j K b ≡ true → isOffered j M a ≡ true
@@ -99,7 +107,7 @@ module _ (j : Job) (s : Side) (l : List ℕ) (k m : ℕ) (b a : ℕ) (K M : ℕ)
   unfolding tollIn
   barred p q n =
       let z = sites p q in
-      toll-barred (siteIn l m a) (endIn l k b) _ (λ h. near (siteIn l m a) (endIn l k b) (z .0) (z .1) h)
+      toll-barred (siteIn l m a) (endIn l k b) (λ gap. weightIn l m gap * differIn l k b m a) (λ h. near (siteIn l m a) (endIn l k b) (z .0) (z .1) h)
     where
       near : (x y : ℕ) → x ≡ poseNumber j M a .site + j .header .displacement → y ≡ poseNumber j K b .site + widthOf j K (poseNumber j K b) + j .header .displacement → y ≤ x → x - y ≡ 1
       near x y e f h = go (ℕ-discrete (x - y) 1)

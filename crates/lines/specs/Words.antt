@@ -29,8 +29,8 @@ edge u = (u / 8 + u % 2) % 2 * 2 + u / 4 % 2
 unfoldable pub heightWord : Job → ℕ → ℕ → ℕ → ℕ
 heightWord j row k u = heightIn (cellAt j k) (u % 4 / 2) (firstOf (cellAt j k .row) row + edge u)
 
--- word i of cell k, which bears a number
+-- word i of cell k, which bears a number; document 01 weighs all steps alike
 unfoldable pub cellWord : Job → ℕ → ℕ → ℕ → ℕ → ℕ
 cellWord j row k number i =
     cond (ltb i 64) (ownWord j row k i)
-    (cond (ltb i 68) (shapeWord j k i) (cond (ltb i 84) (heightWord j row k (i - 68)) (cond (eqb i 84) (j .header .stepWeight) (cond (eqb i 85) number 0))))
+    (cond (ltb i 68) (shapeWord j k i) (cond (ltb i 84) (heightWord j row k (i - 68)) (cond (eqb i 84) (j .header .stepWeight) (cond (eqb i 85) number (cond (eqb i 86) (j .header .stepWeight) 0)))))

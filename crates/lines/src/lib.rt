@@ -151,16 +151,19 @@ fn cell_word(header: Header, cell: Cell, row: u32, number: u32, i: u32) -> u32
     if i == 85 {
         return number;
     }
+    if i == 86 {
+        return header.step;
+    }
     0
 }
 
-// The words of a cell; those from 86 on are not used.
+// The words of a cell; those from 87 on are not used.
 fn fill_cell(line: &mut [u32], at: usize, header: Header, cell: Cell, row: u32, number: u32)
     requires { ⌜ Ranged header cell × (row ≤ 1) × (number < 64) × (at + 128 ≤ length (now line)) × Low (now line) ⌝ }
-    ensures { λ _. ⌜ Written (cellWord (one header cell) row 0 number) at 86 (now (line .entry)) (now (line .exit)) ⌝ }
+    ensures { λ _. ⌜ Written (cellWord (one header cell) row 0 number) at 87 (now (line .entry)) (now (line .exit)) ⌝ }
 {
     let mut i: usize = 0;
-    while i < 86 {
+    while i < 87 {
         line[at + i] = cell_word(header, cell, row, number, i as u32);
         i += 1;
     }

@@ -1,4 +1,4 @@
--- Each return reads the tests on its way; charges are at most 1, weights at most 1000. Assumes nothing.
+-- Each return reads the tests on its way; charges are at most 1, weights are small. Assumes nothing.
 use Prim.Native.Nat.{ℕ, _*_, _-_, _≤_, _<_}
 use mathlib.Core.Path.{_≡_, refl, ap, ap₂, _∙_}
 use mathlib.Core.List.{List}
@@ -62,7 +62,7 @@ mul-result c =
     let k = c .before .before .before .before .before .before .before .before in
     let a = k .args in
     let d : c .differ .result ≤ 2 = omega (arith, c .differ .ensures, differ-low (a .line .now) (a .k) (a .b) (a .m) (a .a)) in
-    let w : c .before .weight .result ≤ 1000 = omega (arith, c .before .weight .ensures, weight-low (a .m) (c .before .before .before .before .before .before .site .result - c .before .before .before .before .before .end .result) (k .pre .0)) in
+    let w : c .before .weight .result ≤ 131072 = omega (arith, c .before .weight .ensures, weight-low (a .m) (c .before .before .before .before .before .before .site .result - c .before .before .before .before .before .end .result) (k .pre .0)) in
     omega (arith, pay-low w d)
 
 mul-result-2 : tie.Need-mul-result-2
@@ -70,7 +70,7 @@ mul-result-2 c =
     let k = c .before .before .before .before .before .before .before .before in
     let a = k .args in
     let d : c .differ .result ≤ 2 = omega (arith, c .differ .ensures, differ-low (a .line .now) (a .k) (a .b) (a .m) (a .a)) in
-    let w : c .before .weight .result ≤ 1000 = omega (arith, c .before .weight .ensures, weight-low (a .m) (c .before .before .before .before .before .before .site .result - c .before .before .before .before .before .end .result) (k .pre .0)) in
+    let w : c .before .weight .result ≤ 131072 = omega (arith, c .before .weight .ensures, weight-low (a .m) (c .before .before .before .before .before .before .site .result - c .before .before .before .before .before .end .result) (k .pre .0)) in
     let g : c .before .before .charge-of .result ≤ 1 = omega (arith, c .before .before .charge-of .ensures, charge-low (c .before .before .before .before .before .before .site .result - c .before .before .before .before .before .end .result)) in
     omega (arith, charged-low g (pay-low w d))
 

@@ -4,7 +4,7 @@ use mathlib.Core.Path.{sym, _∙_}
 use native.Mathlib.Omega.{arith}
 use borrow.Author.Needs.{needs}
 use Rattle.lines.specs.Values.{one, shape-low, height-low}
-use Rattle.lines.specs.Cell.{own-at, shape-at, height-at, step-at, number-at, none-at}
+use Rattle.lines.specs.Cell.{own-at, shape-at, height-at, step-at, number-at, filled-at, none-at}
 use Rattle.job.specs.Value.{headerOf}
 use Rattle.lines.proofs.cell_word.Statement.{statement}
 use Rattle.lines.proofs.cell_word.Tie as tie
@@ -50,8 +50,15 @@ returns-5 c =
     (sym (number-at j (k .args .row) 0 (k .args .number) (k .args .i) (c .if5 .taken)), omega arith)
 
 returns-6 : tie.Need-returns-6
+unfolding headerOf
 returns-6 c =
-    let k = c .before .before .before .before .before in
+    let k = c .before .before .before .before .before .before in
+    let j = one (k .args .header) (k .args .cell) in
+    (sym (filled-at j (k .args .row) 0 (k .args .number) (k .args .i) (c .if6 .taken)), omega (arith, k .pre .0 .step))
+
+returns-7 : tie.Need-returns-7
+returns-7 c =
+    let k = c .before .before .before .before .before .before in
     let j = one (k .args .header) (k .args .cell) in
     (sym (none-at j (k .args .row) 0 (k .args .number) (k .args .i) (omega arith)), omega arith)
 
@@ -67,4 +74,5 @@ cell-word-spec =
     returns-3
     returns-4
     returns-5
-    returns-6)
+    returns-6
+    returns-7)

@@ -11,10 +11,10 @@ use Rattle.lines.proofs.fill_cell.Statement.{statement}
 use Rattle.lines.proofs.fill_cell.Tie as tie
 
 abbrev Inv-loop : tie.InvT-loop
-Inv-loop line₀ at header cell row number i₀ line i = (i ≤ 86) × Written (cellWord (one header cell) row 0 number) at i line₀ line
+Inv-loop line₀ at header cell row number i₀ line i = (i ≤ 87) × Written (cellWord (one header cell) row 0 number) at i line₀ line
 
 abbrev μ-loop : tie.MeasureT-loop
-μ-loop line₀ at header cell row number i₀ line i = 86 - i
+μ-loop line₀ at header cell row number i₀ line i = 87 - i
 
 loop-holds : tie.Need-loop-holds Inv-loop μ-loop
 loop-holds c = (omega arith, written-none _ _ (c .before .pre .4))
@@ -52,7 +52,7 @@ same-length c = search needs
 
 returns : tie.Need-returns Inv-loop μ-loop
 returns c =
-    let e : c .before .loop .i ≡ 86 = omega arith in
+    let e : c .before .loop .i ≡ 87 = omega arith in
     rw e at (c .before .loop .inv .1)
 
 pub fill-cell-spec : {M : Type 1} → statement M
