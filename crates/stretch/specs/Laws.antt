@@ -61,7 +61,7 @@ pub run-more :
     {D : Deck} {R lanes i d at count : ℕ} {old mid new : List ℕ}
     → count ≡ pairCount R → Running D R lanes i d at old mid → Filled (nextFrom D R mid at (i + d)) lanes (D .poses) (49152 - at) count mid new
     → Running D R lanes i (d + 1) (49152 - at) old new
-run-more {D} {R} {lanes} {i} {d} {at} {old = old} {mid = mid} c r f =
+run-more {D} {R} {i = i} {d} {old = old} c r f =
     record {
       buffer = buffer-turn (r .buffer);
       right = λ q a l x y z. f .right q (omega arith) a l y z ∙ next-run r q a l z ∙ ap (λ (k : ℕ). layers D R (layerIn old 0 l) i k q a) (sym (add-one d));

@@ -38,7 +38,7 @@ returns c =
     let a = k .args in
     let g = k .pre .1 .ground in
     let e : suc (a .i) + offset (a .r) (a .q) ≡ a .tall + suc (a .r) → ⊥ =
-            λ h. c .if1 .taken (omega (arith, c .before .word .ensures, g .coded .digit (a .q) (omega (arith, g .all)))) in (
+    λ h. c .if1 .taken (omega (arith, c .before .word .ensures, g .coded .digit (a .q) (omega (arith, g .all)))) in (
       record {
         frame = frame-refl _ _ _;
         low = k .pre .1 .low;
@@ -59,7 +59,7 @@ returns-2 c =
     let a = k .args in
     let g = k .pre .1 .ground in
     let e : suc (a .i) + offset (a .r) (a .q) ≡ a .tall + suc (a .r) =
-            omega (arith, c .before .before .before .before .before .if1 .left, c .before .before .before .before .before .before .word .ensures, g .coded .digit (a .q) (omega (arith, g .all))) in (
+    omega (arith, c .before .before .before .before .before .if1 .left, c .before .before .before .before .before .before .word .ensures, g .coded .digit (a .q) (omega (arith, g .all))) in (
       pair-ext (c .before .before .target-block .ensures .0)
           (λ b l x y. last-take (deckOf (a .line .now) (a .n) (a .poses)) (a .r) (a .i) (a .tall) (a .store .now) (a .from) (a .prices) l (a .q) b e),
       c .before .before .target-block .ensures .1,

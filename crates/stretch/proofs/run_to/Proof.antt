@@ -129,8 +129,8 @@ returns c =
     let l = c .before .loop in
     let e : l .d ≡ a .tall + a .r - a .i = omega (arith, l .inv .3) in
     let o : Outside (a .prices) 49152 (a .store .now) (c .before .before .before .before .deliver .last .0) =
-            outside-join (outside-prices (c .before .before .before .before .before .before .before .before .fill-late .ensures .frame) (omega arith) (omega arith))
-            (outside-prices (c .before .before .before .before .deliver .ensures .frame) (omega arith) (omega arith)) in
+    outside-join (outside-prices (c .before .before .before .before .before .before .before .before .fill-late .ensures .frame) (omega arith) (omega arith))
+    (outside-prices (c .before .before .before .before .deliver .ensures .frame) (omega arith) (omega arith)) in
     (rw e at (priced-from (given-small (k .pre .1)) (kept (c .before .before)) o (l .inv .1)), l .inv .2)
 
 pub run-to-spec : {M : Type 1} → statement M

@@ -1,6 +1,4 @@
 -- Nothing is left, or the layer with tall + r + 1 cells. Assumes nothing.
-use Prim.Native.Nat.{_+_}
-use mathlib.Core.Path.{_≡_}
 use native.Mathlib.Omega.{arith}
 use Rattle.stretch.specs.Laws.{buffer-low, buffer-prices, priced-past, priced-last}
 use borrow.Author.Needs.{needs}
