@@ -1,4 +1,5 @@
-// A stretch: from its first layer, in block 0, to a tall cell; all lanes at once. The layers run on in the blocks at 0 and 49152 by turns.
+// A stretch: from its first layer, in block 0, to a tall cell; all lanes at once. The layers run on in the blocks at 0 and 49152 by turns; of the last one only
+// the pairs that come to the tall cell with it are computed, straight to the prices.
 ghost use mathlib.Core.Path.{_≡_};
 ghost use Prim.Native.Nat.{ℕ, suc, _+_, _*_, _-_, _≤_, _<_};
 ghost use lib.ListN.{length};
