@@ -29,7 +29,7 @@ SameTables old new = (I q₀ q₁ a : ℕ) → Slot I q₀ q₁ a → SameCase I
 -- the store has the pages of so many start pairs: their cases in table I and their prices
 pub record Table (starts lanes I : ℕ) (st : List ℕ) : Type 0 where
   pub pairs : starts ≤ 12
-  pub few : lanes ≤ 60
+  pub few : lanes ≤ 64
   pub stage : I ≤ 24
   pub long : Pages starts st
   pub low : Low st
@@ -48,12 +48,12 @@ pub record Least (least : ℕ) (W : ℕ → ℕ → Type 0) (value code : ℕ) :
   pub small : code < 9216
 
 -- place r below n has that cost
-abbrev pub Met : (ℕ → ℕ) → ℕ → ℕ → ℕ → Type 0
-Met h n cost r = (r < n) × (h r ≡ cost)
+abbrev pub MetAt : (ℕ → ℕ) → ℕ → ℕ → ℕ → Type 0
+MetAt h n cost r = (r < n) × (h r ≡ cost)
 
 -- the same, if any place has
 abbrev pub SumAt : (ℕ → ℕ) → ℕ → ℕ → ℕ → Type 0
-SumAt h n cost r = (k : ℕ) → k < n → h k ≡ cost → Met h n cost r
+SumAt h n cost r = (k : ℕ) → k < n → h k ≡ cost → MetAt h n cost r
 
 -- ---- a way to the case (q₀, q₁, a)
 

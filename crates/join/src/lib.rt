@@ -8,7 +8,7 @@ ghost use Rattle.pair.specs.Coded.{lowest};
 ghost use Rattle.lanes.specs.Store.{Low};
 ghost use Rattle.model.specs.Steps.{B};
 ghost use Rattle.join.specs.Places.{caseAt, sourceAt, pricesAt, Pages};
-ghost use Rattle.join.specs.Tables.{Table, Better, Least, Met, SumAt, WayIn, nextIn, OneCase, PoseCases, BlockCases, Part, Joined};
+ghost use Rattle.join.specs.Tables.{Table, Better, Least, MetAt, SumAt, WayIn, nextIn, OneCase, PoseCases, BlockCases, Part, Joined};
 ghost use Rattle.join.specs.Sums.{startSum, laneSum, endSum, Room, Sums, Summed};
 
 // The least of some costs, and a code of where it is.
@@ -171,7 +171,7 @@ fn start_of(
     lane: usize,
     sum: u32,
 ) -> usize
-    requires { ⌜ Table starts 60 i (now store) × (q0 < 12) × (a < 60) × (t < starts) × (lane < 60) ⌝ }
+    requires { ⌜ Table starts 64 i (now store) × (q0 < 12) × (a < 60) × (t < starts) × (lane < 64) ⌝ }
     ensures { λ r. ⌜ SumAt (startSum i (now (store .entry)) q0 a t lane) starts sum r ⌝ }
 {
     let mut s: usize = 0;
@@ -194,7 +194,7 @@ fn best_end(
     a: usize,
 ) -> Best
     requires { ⌜ Table starts lanes 0 (now store) × Room (now sums) × (q1 < 12) × (a < 60) ⌝ }
-    ensures { λ b. ⌜ Least (lowest B (endSum lanes (now (sums .entry)) (now (store .entry)) q1 a) (from 0 starts)) (Met (endSum lanes (now (sums .entry)) (now (store .entry)) q1 a) starts) (b .value) (b .code) ⌝ }
+    ensures { λ b. ⌜ Least (lowest B (endSum lanes (now (sums .entry)) (now (store .entry)) q1 a) (from 0 starts)) (MetAt (endSum lanes (now (sums .entry)) (now (store .entry)) q1 a) starts) (b .value) (b .code) ⌝ }
 {
     let mut best = Best {
         value: lanes::NONE,

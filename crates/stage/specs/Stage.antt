@@ -10,7 +10,7 @@ use Rattle.model.specs.Steps.{B, Deck, Layer, Cases, Prices, pairCount}
 use Rattle.model.specs.Stages.{stageEnd, openPrice, stagePrice, caseTable}
 use Rattle.lanes.specs.Store.{Low, layerIn}
 use Rattle.deck.specs.Words.{Ground}
-use Rattle.join.specs.Places.{caseAt, pricesAt, Pages, Slot, Beside}
+use Rattle.join.specs.Places.{caseAt, pricesAt, Pages, Slot, OutsidePrices}
 use Rattle.join.specs.Tables.{casesIn, sourcesIn, pricesIn, SameCase, SameTables, Least, Way}
 
 -- how many of x pairs or poses table number I has: the tables of the tall cells all of them, the first table and the last one
@@ -91,7 +91,7 @@ module _ (D₀ D₁ : Deck) (R talls : ℕ) (pos₀ pos₁ : ℕ → ℕ) where
 pub record RowPriced (F : ℕ → Layer) (lanes ends poses prices : ℕ) (old new : List ℕ) : Type 0 where
   pub long : length new ≡ length old
   pub low : Low new
-  pub kept : (k : ℕ) → 98304 ≤ k → Beside prices k → getD new k 0 ≡ getD old k 0
+  pub kept : (k : ℕ) → 98304 ≤ k → OutsidePrices prices k → getD new k 0 ≡ getD old k 0
   pub right : (q a l : ℕ) → q < ends → a < poses → l < lanes → layerIn new prices l q a ≡ F l q a
 
 -- stage I on from the layer in block 0, which has i cells; `starts` has what the start of each lane pays as the row's last
@@ -119,7 +119,7 @@ Priced row x I starts lanes ends poses s old new = Dead old row I starts lanes s
 pub record StartPriced (row : ℕ) (x : Prices) (I starts lanes ends poses s : ℕ) (old new : List ℕ) : Type 0 where
   pub long : length new ≡ length old
   pub low : Low new
-  pub kept : (k : ℕ) → 98304 ≤ k → Beside (pricesAt row s) k → getD new k 0 ≡ getD old k 0
+  pub kept : (k : ℕ) → 98304 ≤ k → OutsidePrices (pricesAt row s) k → getD new k 0 ≡ getD old k 0
   pub right : Priced row x I starts lanes ends poses s old new
 
 -- that of both rows for the start pairs below m; the tables are kept
