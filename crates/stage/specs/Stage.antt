@@ -1,5 +1,5 @@
 -- The stages of the search in the store: case table number 0 is the state before anything, table number I + 1 is that of stage I.
-use Prim.Native.Nat.{ℕ, zero, suc, _+_, _≤_, _<_}
+use Prim.Native.Nat.{ℕ, zero, suc, _+_, _*_, _/_, _≤_, _<_}
 use mathlib.Core.Path.{_≡_}
 use mathlib.Core.Bool.{cond}
 use mathlib.Core.Logic.{_⊎_}
@@ -18,6 +18,10 @@ unfoldable pub wide : ℕ → ℕ → ℕ → ℕ
 wide talls zero x = 1
 wide talls (suc I) x = cond (ltb I talls) x 1
 
+-- how many lanes a stage is run in: the poses, up to a multiple of 16
+unfoldable pub widthOf : ℕ → ℕ
+widthOf poses = (poses + 15) / 16 * 16
+
 -- where a row's tall cells stand
 unfoldable pub posIn : List ℕ → ℕ → ℕ
 posIn places I = getD places I 0
@@ -29,6 +33,11 @@ unfoldable pub priceOf : Deck → ℕ → ℕ → (ℕ → ℕ) → ℕ → Pric
 priceOf D R talls pos zero s l q a = openPrice D R talls pos q a
 priceOf D R talls pos (suc I) s l q a = stagePrice D R talls pos I s l q a
 
+-- no case of table number I goes by a lane beyond the poses
+pub record NoneBeyond (talls count poses I : ℕ) (st : List ℕ) : Type 0 where
+  pub none : (q₀ q₁ l : ℕ) → q₀ < wide talls I count → q₁ < wide talls I count → wide talls I poses ≤ l → l < wide talls I (widthOf poses)
+      → casesIn st I q₀ q₁ l ≡ B
+
 module _ (D₀ D₁ : Deck) (R talls : ℕ) (pos₀ pos₁ : ℕ → ℕ) where
   -- case table number I
   unfoldable pub tableOf : ℕ → Cases
@@ -39,6 +48,7 @@ module _ (D₀ D₁ : Deck) (R talls : ℕ) (pos₀ pos₁ : ℕ → ℕ) where
   pub record Right (I : ℕ) (st : List ℕ) : Type 0 where
     pub word : (q₀ q₁ a : ℕ) → q₀ < wide talls I (pairCount R) → q₁ < wide talls I (pairCount R) → a < wide talls I (D₀ .poses)
         → casesIn st I q₀ q₁ a ≡ tableOf I q₀ q₁ a
+    pub beyond : NoneBeyond talls (pairCount R) (D₀ .poses) I st
 
   -- the table that stage I leaves, each case with a way to it where it is below B
   pub record Staged (I : ℕ) (st : List ℕ) : Type 0 where
@@ -48,6 +58,7 @@ module _ (D₀ D₁ : Deck) (R talls : ℕ) (pos₀ pos₁ : ℕ → ℕ) where
         (Way (wide talls I (pairCount R)) (wide talls I (D₀ .poses)) (tableOf I) (priceOf D₀ R talls pos₀ I) (priceOf D₁ R talls pos₁ I) q₀ q₁ a)
         (casesIn st (suc I) q₀ q₁ a)
         (sourcesIn st (suc I) q₀ q₁ a)
+    pub beyond : NoneBeyond talls (pairCount R) (D₀ .poses) (suc I) st
 
   -- what stage I does to the store; the tables other than number I + 1 are kept
   pub record StageDone (I : ℕ) (old new : List ℕ) : Type 0 where

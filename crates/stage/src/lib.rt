@@ -11,7 +11,7 @@ ghost use Rattle.layer.specs.Loops.{Given};
 ghost use Rattle.near.specs.Table.{Lent};
 ghost use Rattle.stretch.specs.Runs.{PriceRoom};
 ghost use Rattle.join.specs.Tables.{Table};
-ghost use Rattle.stage.specs.Stage.{wide, posIn, priceOf, endFrom, fromAt, Dead, RowPriced, StartPriced, BothPriced, RowGiven, StagesGiven, Right, StageDone, StagesDone};
+ghost use Rattle.stage.specs.Stage.{wide, widthOf, posIn, priceOf, endFrom, fromAt, Dead, RowPriced, StartPriced, BothPriced, RowGiven, StagesGiven, Right, StageDone, StagesDone};
 
 // How many of x pairs or poses table number i has.
 pub fn wide_of(talls: usize, i: usize, x: usize) -> usize
@@ -106,12 +106,20 @@ fn stage_end(
     );
 }
 
-// How many lanes a stretch is run in: a multiple of 16, so that loops over lanes, many at a time, leave no rest. Those beyond the poses are not used.
+// How many lanes a stretch is run in: a multiple of 16, so that loops over lanes, many at a time, leave no rest. No case goes by those beyond the poses.
 fn width_of(poses: usize) -> usize
     requires { ⌜ poses ≤ 60 ⌝ }
-    ensures { λ w. ⌜ (poses ≤ w) × (w ≤ 64) ⌝ }
+    ensures { λ w. ⌜ (poses ≤ w) × (w ≤ 64) × (w ≡ widthOf poses) ⌝ }
 {
     (poses + 15) / 16 * 16
+}
+
+// How many lanes table number i has in use.
+fn lanes_of(talls: usize, i: usize, poses: usize) -> usize
+    requires { ⌜ poses ≤ 60 ⌝ }
+    ensures { λ r. ⌜ r ≡ wide talls i (widthOf poses) ⌝ }
+{
+    wide_of(talls, i, width_of(poses))
 }
 
 // The prices of stage i in a row from start pair s, to the block at `prices`.
@@ -240,7 +248,7 @@ fn price_start(
     ensures { λ _. ⌜ StartPriced row (priceOf (deckOf (now (line .entry)) n poses) r talls (posIn (now (places .entry))) i) i (wide talls i count) (wide talls i poses) (wide talls (suc i) count) (wide talls (suc i) poses) s (now (store .entry)) (now (store .exit)) × Lent (now (table .exit)) ⌝ }
 {
     let starts = wide_of(talls, i, count);
-    let lanes = wide_of(talls, i, poses);
+    let lanes = lanes_of(talls, i, poses);
     if !live(store, row, i, starts, lanes, s) {
         return;
     }
@@ -356,10 +364,12 @@ pub fn stage(
         i,
     );
     let starts = wide_of(talls, i, count);
-    let lanes = wide_of(talls, i, poses);
+    let lanes = lanes_of(talls, i, poses);
     let ends = wide_of(talls, i + 1, count);
     let last = wide_of(talls, i + 1, poses);
     join::join_stage(store, i, starts, lanes, ends, last);
+    let width = lanes_of(talls, i + 1, poses);
+    join::close_lanes(store, i + 1, ends, last, width);
 }
 
 // Every stage, from the state before anything.
