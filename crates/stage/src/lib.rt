@@ -1,17 +1,16 @@
 // The stages of the search: the prices of both rows from every start pair, joined with the case table before.
+mod row;
+
 ghost use mathlib.Core.Path.{_≡_};
 ghost use mathlib.Core.Bool.{false};
 ghost use Prim.Native.Nat.{suc, _≤_, _<_};
 ghost use Rattle.model.specs.Steps.{pairCount};
 ghost use Rattle.model.specs.Stages.{placedWith};
-ghost use lib.ListN.{length};
-ghost use Rattle.lanes.specs.Store.{Low, Written};
-ghost use Rattle.deck.specs.Words.{backIn, deckOf, LineWords, PairWords};
-ghost use Rattle.layer.specs.Loops.{Given};
+ghost use Rattle.deck.specs.Words.{deckOf, PairWords};
 ghost use Rattle.near.specs.Table.{Lent};
-ghost use Rattle.stretch.specs.Runs.{PriceRoom};
 ghost use Rattle.join.specs.Tables.{Table};
-ghost use Rattle.stage.specs.Stage.{wide, widthOf, posIn, priceOf, endFrom, fromAt, Dead, RowPriced, StartPriced, BothPriced, RowGiven, StagesGiven, Right, StageDone, StagesDone};
+ghost use Rattle.stage.specs.Stage.{wide, widthOf, posIn, priceOf, fromAt, Dead, StartPriced, BothPriced, RowGiven, StagesGiven, Right, StageDone, StagesDone};
+use row::row_price;
 
 // How many of x pairs or poses table number i has.
 pub fn wide_of(talls: usize, i: usize, x: usize) -> usize
@@ -24,86 +23,6 @@ pub fn wide_of(talls: usize, i: usize, x: usize) -> usize
         return 1;
     }
     x
-}
-
-// How many cells are placed once the cell at position p stands as pair s.
-pub fn placed_with(pairs: &[u32], r: usize, p: usize, s: usize) -> usize
-    requires { ⌜ PairWords r (now pairs) × (s < pairCount r) × (p < 64) ⌝ }
-    ensures { λ i. ⌜ i ≡ placedWith r p s ⌝ }
-{
-    let all = p + r + 1;
-    let d = deck::word(pairs, s * 4);
-    if all < d {
-        return 0;
-    }
-    all - d
-}
-
-// What the cell at position p pays as the row's last, in each pose.
-fn backs(starts: &mut [u32; 64], line: &[u32], p: usize, poses: usize)
-    requires { ⌜ LineWords (now line) × Low (now starts) × (length (now starts) ≡ 64) × (p < 64) × (poses ≤ 60) ⌝ }
-    ensures { λ _. ⌜ Written (backIn (now (line .entry)) p) 0 poses (now (starts .entry)) (now (starts .exit)) ⌝ }
-{
-    let mut l: usize = 0;
-    while l < poses {
-        starts[l] = deck::back(line, p, l);
-        l += 1;
-    }
-}
-
-// On from the layer in block 0, which has `cells` cells, to tall cell i or the row's end; `starts` has what the start of each lane pays as the last.
-fn stage_end(
-    table: &mut [u32; 10944],
-    store: &mut [u32],
-    line: &[u32],
-    pairs: &[u32],
-    places: &[u32],
-    starts: &[u32; 64],
-    n: usize,
-    poses: usize,
-    r: usize,
-    count: usize,
-    talls: usize,
-    i: usize,
-    lanes: usize,
-    cells: usize,
-    prices: usize,
-)
-    requires { ⌜ Lent (now table) × RowGiven (now line) (now pairs) (now places) r n poses count talls × Given (now line) (now pairs) (now store) n poses r count lanes cells 0 × PriceRoom (now store) prices × Low (now starts) × (length (now starts) ≡ 64) ⌝ }
-    ensures { λ _. ⌜ RowPriced (endFrom (deckOf (now (line .entry)) n poses) r talls (posIn (now (places .entry))) i (now (store .entry)) cells (now (starts .entry))) lanes (wide talls (suc i) count) (wide talls (suc i) poses) prices (now (store .entry)) (now (store .exit)) × Lent (now (table .exit)) ⌝ }
-{
-    if i < talls {
-        let p = deck::word(places, i);
-        stretch::stretch_to(
-            table,
-            store,
-            line,
-            pairs,
-            n,
-            poses,
-            r,
-            count,
-            lanes,
-            cells,
-            p,
-            prices,
-        );
-        return;
-    }
-    finish::stretch_end(
-        table,
-        store,
-        line,
-        pairs,
-        starts,
-        n,
-        poses,
-        r,
-        count,
-        lanes,
-        cells,
-        prices,
-    );
 }
 
 // How many lanes a stretch is run in: a multiple of 16, so that loops over lanes, many at a time, leave no rest. No case goes by those beyond the poses.
@@ -122,84 +41,17 @@ fn lanes_of(talls: usize, i: usize, poses: usize) -> usize
     wide_of(talls, i, width_of(poses))
 }
 
-// The prices of stage i in a row from start pair s, to the block at `prices`.
-fn row_price(
-    table: &mut [u32; 10944],
-    store: &mut [u32],
-    line: &[u32],
-    pairs: &[u32],
-    places: &[u32],
-    n: usize,
-    poses: usize,
-    r: usize,
-    count: usize,
-    talls: usize,
-    i: usize,
-    s: usize,
-    prices: usize,
-)
-    requires { ⌜ Lent (now table) × RowGiven (now line) (now pairs) (now places) r n poses count talls × Low (now store) × PriceRoom (now store) prices × (i ≤ talls) × (s < wide talls i count) ⌝ }
-    ensures { λ _. ⌜ RowPriced (priceOf (deckOf (now (line .entry)) n poses) r talls (posIn (now (places .entry))) i s) (wide talls i poses) (wide talls (suc i) count) (wide talls (suc i) poses) prices (now (store .entry)) (now (store .exit)) × Lent (now (table .exit)) ⌝ }
+// How many cells are placed once the cell at position p stands as pair s.
+pub fn placed_with(pairs: &[u32], r: usize, p: usize, s: usize) -> usize
+    requires { ⌜ PairWords r (now pairs) × (s < pairCount r) × (p < 64) ⌝ }
+    ensures { λ i. ⌜ i ≡ placedWith r p s ⌝ }
 {
-    let mut starts = [0u32; 64];
-    if i == 0 {
-        first::open_layer(store, line, pairs, n, poses, r, count, 0);
-        stage_end(
-            table,
-            store,
-            line,
-            pairs,
-            places,
-            &starts,
-            n,
-            poses,
-            r,
-            count,
-            talls,
-            0,
-            1,
-            1,
-            prices,
-        );
-        return;
+    let all = p + r + 1;
+    let d = deck::word(pairs, s * 4);
+    if all < d {
+        return 0;
     }
-    let p = deck::word(places, i - 1);
-    let placed = placed_with(pairs, r, p, s);
-    let width = width_of(poses);
-    first::first_layer(
-        table,
-        store,
-        line,
-        pairs,
-        n,
-        poses,
-        r,
-        count,
-        width,
-        placed,
-        s,
-        p,
-        0,
-        0,
-    );
-    backs(&mut starts, line, p, poses);
-    stage_end(
-        table,
-        store,
-        line,
-        pairs,
-        places,
-        &starts,
-        n,
-        poses,
-        r,
-        count,
-        talls,
-        i,
-        width,
-        placed + 1,
-        prices,
-    );
+    all - d
 }
 
 // Where the cases begin in which start pair s of a row goes with pair t of the other.

@@ -7,8 +7,8 @@ use Rattle.stage.specs.Stage.{posIn}
 use Rattle.stage.specs.Rows.{row-open, row-after, start-place, start-pair, zeros-low}
 use native.Mathlib.Omega.{arith}
 use borrow.Author.Needs.{needs}
-use Rattle.stage.proofs.row_price.Statement.{statement}
-use Rattle.stage.proofs.row_price.Tie as tie
+use Rattle.stage.proofs.row.row_price.Statement.{statement}
+use Rattle.stage.proofs.row.row_price.Tie as tie
 
 open-layer-requires : tie.Need-open-layer-requires
 open-layer-requires c κs = search needs
