@@ -329,7 +329,7 @@ fn case_block(
     }
 }
 
-// Case table i + 1 from case table i and the prices of a stage.
+// Case table i + 1 from case table i and the prices of a stage. There may be more lanes than poses, if no case of table i goes by the others.
 pub fn join_stage(
     store: &mut [u32],
     i: usize,
