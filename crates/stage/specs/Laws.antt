@@ -42,6 +42,7 @@ wide-low talls (suc I) x y h g = go (ltb I talls)
     go true = g
     go false = h
 
+-- of more it has more
 pub wide-mono : (talls I x y : ℕ) → x ≤ y → wide talls I x ≤ wide talls I y
 unfolding wide
 wide-mono talls zero x y h = omega arith
@@ -159,7 +160,7 @@ module _ (D₀ D₁ : Deck) (R talls : ℕ) (pos₀ pos₁ : ℕ → ℕ) where
             (sourcesIn one (suc I) q₀ q₁ a)
         go q₀ q₁ a x y z =
             let d = least-open (wide talls I (pairCount R)) (wide talls I (widthOf (D₀ .poses))) (wide talls I (D₀ .poses)) (casesIn mid I) (pricesIn mid 0) (pricesIn mid 1) q₀ q₁ a
-            (wide-lanes talls I (D₀ .poses) narrow .0) (λ s t l b d u v. beyond s t l b d u v) (j .done q₀ q₁ a x y z) in
+            (wide-lanes talls I (D₀ .poses) narrow .0) beyond (j .done q₀ q₁ a x y z) in
             let w = least-ext (wide talls I (pairCount R)) (wide talls I (D₀ .poses)) (casesIn mid I) (tableOf D₀ D₁ R talls pos₀ pos₁ I)
             (pricesIn mid 0) (pricesIn mid 1) (priceOf D₀ R talls pos₀ I) (priceOf D₁ R talls pos₁ I) q₀ q₁ a
             (λ s t l b d e. same q₀ q₁ a s t l x y z b d e) d in
@@ -214,7 +215,10 @@ module _ (D₀ D₁ : Deck) (R talls : ℕ) (pos₀ pos₁ : ℕ → ℕ) where
       record {
         long = refl;
         low = low-set at 0 w h (omega arith);
-        right = record { word = λ q₀ q₁ a x y z. ap (λ (k : ℕ). getD (set st at 0) k 0) (omega arith) ∙ getD-set-same st at 0 0 h; beyond = record { none = λ q₀ q₁ l x y u v. absurd (omega arith) } };
+        right = record {
+          word = λ q₀ q₁ a x y z. ap (λ (k : ℕ). getD (set st at 0) k 0) (omega arith) ∙ getD-set-same st at 0 0 h;
+          beyond = record { none = λ q₀ q₁ l x y u v. absurd (omega arith) };
+        };
         staged = λ J h. absurd (omega arith);
       }
 

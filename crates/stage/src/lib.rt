@@ -28,7 +28,7 @@ pub fn wide_of(talls: usize, i: usize, x: usize) -> usize
 // How many lanes a stretch is run in: a multiple of 16, so that loops over lanes, many at a time, leave no rest. No case goes by those beyond the poses.
 fn width_of(poses: usize) -> usize
     requires { ⌜ poses ≤ 60 ⌝ }
-    ensures { λ w. ⌜ (poses ≤ w) × (w ≤ 64) × (w ≡ widthOf poses) ⌝ }
+    ensures { λ w. ⌜ w ≡ widthOf poses ⌝ }
 {
     (poses + 15) / 16 * 16
 }

@@ -15,7 +15,7 @@ wide-of-requires c κs = search needs
 returns : tie.Need-returns
 returns c =
     let a = c .before .before .args in
-    c .wide-of .ensures ∙ ap (λ (x : ℕ). wide (a .talls) (a .i) x) (c .before .width-of .ensures .2)
+    c .wide-of .ensures ∙ ap (λ (x : ℕ). wide (a .talls) (a .i) x) (c .before .width-of .ensures)
 
 pub lanes-of-spec : {M : Type 1} → statement M
 lanes-of-spec = tie.close (tie.spec width-of-requires wide-of-requires returns)

@@ -1,6 +1,5 @@
 -- A rounded quotient. Assumes nothing.
 use mathlib.Core.Path.{refl}
-use native.Mathlib.Omega.{arith}
 use borrow.Author.Needs.{needs}
 use Rattle.stage.specs.Stage.{widthOf}
 use Rattle.stage.proofs.width_of.Statement.{statement}
@@ -14,7 +13,7 @@ mul-result c = search needs
 
 returns : tie.Need-returns
 unfolding widthOf
-returns c = (omega arith, omega arith, refl)
+returns c = refl
 
 pub width-of-spec : {M : Type 1} → statement M
 width-of-spec = tie.close (tie.spec add-result mul-result returns)
