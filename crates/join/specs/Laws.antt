@@ -101,3 +101,22 @@ module _ (starts lanes : ℕ) (f : Cases) (x₀ x₁ : Prices) (q₀ q₁ a : �
           let w = met h in
           omega (arith, next-above v b all, w .sum, next-below (code / 768) (code % 768 / 64) (code % 64) (w .pair₀) (w .pair₁) (w .lane))
       go (no h) = omega (arith, next-above v b all, next-low)
+
+-- lanes in which no case is below B do not count: the least over more lanes is the least over the poses
+module _ (starts lanes poses : ℕ) (f : Cases) (x₀ x₁ : Prices) (q₀ q₁ a : ℕ)
+    (more : poses ≤ lanes) (none : (s t l : ℕ) → s < starts → t < starts → poses ≤ l → l < lanes → B ≤ f s t l) where
+  way-open : {value code : ℕ} → value < B → Way starts lanes f x₀ x₁ q₀ q₁ a value code → Way starts poses f x₀ x₁ q₀ q₁ a value code
+  way-open {code = code} b w = record { pair₀ = w .pair₀; pair₁ = w .pair₁; lane = go (decLt (code % 64) poses); sum = w .sum }
+    where
+      go : Dec (code % 64 < poses) → code % 64 < poses
+      go (yes h) = h
+      go (no h) = absurd (omega (arith, w .sum, none (code / 768) (code % 768 / 64) (code % 64) (w .pair₀) (w .pair₁) (omega arith) (w .lane)))
+
+  pub least-open : {value code : ℕ} → Least (nextCases starts lanes f x₀ x₁ q₀ q₁ a) (Way starts lanes f x₀ x₁ q₀ q₁ a) value code
+      → Least (nextCases starts poses f x₀ x₁ q₀ q₁ a) (Way starts poses f x₀ x₁ q₀ q₁ a) value code
+  least-open {value} w =
+      next-is starts poses f x₀ x₁ q₀ q₁ a value
+      (omega (arith, w .right, next-low starts lanes f x₀ x₁ q₀ q₁ a))
+      (λ s t l h g k. omega (arith, w .right, next-below starts lanes f x₀ x₁ q₀ q₁ a s t l h g (omega arith)))
+      (λ b. way-open b (w .found b))
+      (w .small)

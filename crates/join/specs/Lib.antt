@@ -4,3 +4,4 @@ pub mod Sums
 pub mod Laws
 pub mod SumLaws
 pub mod Parts
+pub mod Closing

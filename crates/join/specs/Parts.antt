@@ -59,6 +59,14 @@ module _ (starts lanes : ℕ) (f g : Cases) (x₀ x₁ y₀ y₁ : Prices) (q₀
 
 -- ---- parts
 
+-- below n + 1: below n, or n
+pub last : (k n : ℕ) → k < n + 1 → (k < n) ⊎ (k ≡ n)
+last k n h = go (decLt k n)
+  where
+    go : Dec (k < n) → (k < n) ⊎ (k ≡ n)
+    go (yes l) = inl l
+    go (no l) = inr (omega arith)
+
 module _ (starts lanes I : ℕ) where
   -- what a part leaves as it was, if its cases are in the map
   module _ (P : ℕ → ℕ → ℕ → Type 0) {x y : List ℕ} (b : I ≤ 24) (room : (q₀ q₁ a : ℕ) → P q₀ q₁ a → (q₀ < 12) × (q₁ < 12) × (a < 64)) (p : Part starts lanes I P x y) where
@@ -165,14 +173,6 @@ module _ (starts lanes I : ℕ) where
             let d₁ : getD (set y to c) to 0 ≡ c = getD-set-same y to c 0 (omega arith) in
             rw (m .0, m .1, m .2, sym e, sym d, d₀, d₁) w;
       }
-
-  -- below n + 1: below n, or n
-  last : (k n : ℕ) → k < n + 1 → (k < n) ⊎ (k ≡ n)
-  last k n h = go (decLt k n)
-    where
-      go : Dec (k < n) → (k < n) ⊎ (k ≡ n)
-      go (yes l) = inl l
-      go (no l) = inr (omega arith)
 
   -- one pair of row 1 more
   pub pose-more : (p₀ m b : ℕ) {x y z : List ℕ} → Table starts lanes I x → p₀ < 12 → m < 12 → b < 64

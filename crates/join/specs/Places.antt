@@ -32,8 +32,8 @@ abbrev pub Slot : ℕ → ℕ → ℕ → ℕ → Type 0
 Slot I q₀ q₁ a = (I ≤ 25) × (q₀ < 12) × (q₁ < 12) × (a < 64)
 
 -- a word outside the prices that begin at `prices`
-abbrev pub Beside : ℕ → ℕ → Type 0
-Beside prices k = (k < prices) ⊎ (prices + 49152 ≤ k)
+abbrev pub OutsidePrices : ℕ → ℕ → Type 0
+OutsidePrices prices k = (k < prices) ⊎ (prices + 49152 ≤ k)
 
 -- ---- the words of a case
 
@@ -61,10 +61,10 @@ case-room I q₀ q₁ a st h p = omega arith
 
 -- no case and no source stands among the prices of a start pair
 pub case-beside : (row s I q₀ q₁ a : ℕ) → row ≤ 1 → Slot I q₀ q₁ a
-    → Beside (pricesAt row s) (caseAt I q₀ q₁ + a) × Beside (pricesAt row s) (sourceAt I q₀ q₁ + a)
+    → OutsidePrices (pricesAt row s) (caseAt I q₀ q₁ + a) × OutsidePrices (pricesAt row s) (sourceAt I q₀ q₁ + a)
 case-beside row s I q₀ q₁ a b h = go (decLt q₀ s)
   where
-    go : Dec (q₀ < s) → Beside (pricesAt row s) (caseAt I q₀ q₁ + a) × Beside (pricesAt row s) (sourceAt I q₀ q₁ + a)
+    go : Dec (q₀ < s) → OutsidePrices (pricesAt row s) (caseAt I q₀ q₁ + a) × OutsidePrices (pricesAt row s) (sourceAt I q₀ q₁ + a)
     go (yes l) = (inl (omega arith), inl (omega arith))
     go (no l) = (inr (omega arith), inr (omega arith))
 

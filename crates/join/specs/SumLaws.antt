@@ -15,12 +15,12 @@ use Rattle.lanes.specs.Lanes.{always}
 use Rattle.lanes.specs.Store.{Written}
 use Rattle.lanes.specs.Laws.{low-set}
 use Rattle.join.specs.Places.{caseAt, pricesAt}
-use Rattle.join.specs.Tables.{casesIn, pricesIn, Table, Least, Met, SumAt, WayIn, nextIn}
+use Rattle.join.specs.Tables.{casesIn, pricesIn, Table, Least, MetAt, SumAt, WayIn, nextIn}
 use Rattle.join.specs.Sums.{startSum, laneSum, endSum, Room, Sums, Nones, Summed}
 use Rattle.join.specs.Laws.{lowest-zero, lowest-more, lowest-same, lowest-at, next-is}
 
 -- the prices are there for other lanes, whatever the table
-pub table-for : {starts lanes I : ℕ} {st : List ℕ} (l i : ℕ) → Table starts lanes I st → l ≤ 60 → i ≤ 24 → Table starts l i st
+pub table-for : {starts lanes I : ℕ} {st : List ℕ} (l i : ℕ) → Table starts lanes I st → l ≤ 64 → i ≤ 24 → Table starts l i st
 table-for l i t h g = record { pairs = t .pairs; few = h; stage = g; long = t .long; low = t .low }
 
 -- ---- the words of a sum
@@ -48,7 +48,7 @@ module _ (starts lanes I : ℕ) (st : List ℕ) (q₀ a : ℕ) where
   sums-none r w = record { room = r; upTo = λ t l h g k. absurd (omega arith); before = λ t l h g k. w t l h g ∙ sym (lowest-zero _) }
 
   -- one lane more of pair t
-  pub sums-lane : {sums : List ℕ} (s t l v : ℕ) → Sums starts lanes I st q₀ a s (t * 64 + l) sums → starts ≤ 12 → lanes ≤ 60 → t < starts → l < lanes
+  pub sums-lane : {sums : List ℕ} (s t l v : ℕ) → Sums starts lanes I st q₀ a s (t * 64 + l) sums → starts ≤ 12 → lanes ≤ 64 → t < starts → l < lanes
       → v ≡ min (getD sums (t * 64 + l) 0) (startSum I st q₀ a t l s)
       → Sums starts lanes I st q₀ a s (t * 64 + (l + 1)) (set sums (t * 64 + l) v)
   sums-lane {sums} s t l v w b d h g e =
@@ -127,7 +127,7 @@ module _ (starts lanes I : ℕ) (st : List ℕ) (q₀ a : ℕ) where
       }
 
 -- the sums of no start pair are all NONE
-pub sums-filled : (starts lanes I : ℕ) (st : List ℕ) (q₀ a : ℕ) {n : ℕ} {old new : List ℕ} → Room old → Written (always B) 0 n old new → starts * 64 ≤ n → lanes ≤ 60
+pub sums-filled : (starts lanes I : ℕ) (st : List ℕ) (q₀ a : ℕ) {n : ℕ} {old new : List ℕ} → Room old → Written (always B) 0 n old new → starts * 64 ≤ n → lanes ≤ 64
     → Sums starts lanes I st q₀ a 0 0 new × Nones starts lanes new
 sums-filled starts lanes I st q₀ a {new = new} r w h b =
     let nones : Nones starts lanes new =
@@ -139,7 +139,7 @@ sums-filled starts lanes I st q₀ a {new = new} r w h b =
 -- the least over the lanes of pair t, with t for its code
 pub end-met : (starts lanes : ℕ) (sums st : List ℕ) (q₁ a t p₁ : ℕ) {v : ℕ} → t < starts → starts ≤ 12 → p₁ ≡ pricesAt 1 t + q₁ * 4096 + a * 64
     → v ≡ lowest B (laneSum sums (t * 64) st p₁) (from 0 lanes)
-    → Least (endSum lanes sums st q₁ a t) (Met (endSum lanes sums st q₁ a) starts) v t
+    → Least (endSum lanes sums st q₁ a t) (MetAt (endSum lanes sums st q₁ a) starts) v t
 unfolding endSum
 end-met starts lanes sums st q₁ a t p₁ h b e d =
     let r = rw e at d in
@@ -184,7 +184,7 @@ module _ (starts lanes I : ℕ) (st : List ℕ) (q₀ q₁ a : ℕ) {sums : List
       (m .0, sym (rw d at (m .1)))
 
   -- with a start pair that has the sum there, it is a way
-  pub case-way : (v s t lane : ℕ) → v < B → starts ≤ 12 → lanes ≤ 60 → t < starts → lane < lanes → v ≡ getD sums (t * 64 + lane) 0 + pricesIn st 1 t lane q₁ a
+  pub case-way : (v s t lane : ℕ) → v < B → starts ≤ 12 → lanes ≤ 64 → t < starts → lane < lanes → v ≡ getD sums (t * 64 + lane) 0 + pricesIn st 1 t lane q₁ a
       → SumAt (startSum I st q₀ a t lane) starts (getD sums (t * 64 + lane) 0) s
       → WayIn starts lanes I st q₀ q₁ a v (s * 768 + t * 64 + lane) × (s < starts)
   unfolding startSum

@@ -29,7 +29,7 @@ SameTables old new = (I q₀ q₁ a : ℕ) → Slot I q₀ q₁ a → SameCase I
 -- the store has the pages of so many start pairs: their cases in table I and their prices
 pub record Table (starts lanes I : ℕ) (st : List ℕ) : Type 0 where
   pub pairs : starts ≤ 12
-  pub few : lanes ≤ 60
+  pub few : lanes ≤ 64
   pub stage : I ≤ 24
   pub long : Pages starts st
   pub low : Low st
@@ -48,12 +48,12 @@ pub record Least (least : ℕ) (W : ℕ → ℕ → Type 0) (value code : ℕ) :
   pub small : code < 9216
 
 -- place r below n has that cost
-abbrev pub Met : (ℕ → ℕ) → ℕ → ℕ → ℕ → Type 0
-Met h n cost r = (r < n) × (h r ≡ cost)
+abbrev pub MetAt : (ℕ → ℕ) → ℕ → ℕ → ℕ → Type 0
+MetAt h n cost r = (r < n) × (h r ≡ cost)
 
 -- the same, if any place has
 abbrev pub SumAt : (ℕ → ℕ) → ℕ → ℕ → ℕ → Type 0
-SumAt h n cost r = (k : ℕ) → k < n → h k ≡ cost → Met h n cost r
+SumAt h n cost r = (k : ℕ) → k < n → h k ≡ cost → MetAt h n cost r
 
 -- ---- a way to the case (q₀, q₁, a)
 
@@ -114,3 +114,22 @@ pub record Joined (starts lanes ends poses I : ℕ) (old new : List ℕ) : Type 
       (WayIn starts lanes I old q₀ q₁ a)
       (casesIn new (suc I) q₀ q₁ a)
       (sourcesIn new (suc I) q₀ q₁ a)
+
+-- ---- lanes closed: no case goes by them
+
+-- one pair of both rows; those of a pair of row 0; all pairs: pairs of row 1 below m
+abbrev pub OnePair : ℕ → ℕ → ℕ → ℕ → Type 0
+OnePair p₀ p₁ q₀ q₁ = (q₀ ≡ p₀) × (q₁ ≡ p₁)
+
+abbrev pub PairWith : ℕ → ℕ → ℕ → ℕ → Type 0
+PairWith p₀ m q₀ q₁ = (q₀ ≡ p₀) × (q₁ < m)
+
+abbrev pub AllPairs : ℕ → ℕ → ℕ → ℕ → Type 0
+AllPairs k m q₀ q₁ = (q₀ < k) × (q₁ < m)
+
+-- the lanes from `low` to `high` of the pairs P of table I are NONE, every other case and source is as it was
+pub record Closed (I low high : ℕ) (P : ℕ → ℕ → Type 0) (old new : List ℕ) : Type 0 where
+  pub long : length new ≡ length old
+  pub fits : Low new
+  pub kept : (J q₀ q₁ a : ℕ) → Slot J q₀ q₁ a → (J ≡ I → P q₀ q₁ → low ≤ a → ⊥) → SameCase J q₀ q₁ a old new
+  pub none : (q₀ q₁ l : ℕ) → P q₀ q₁ → low ≤ l → l < high → casesIn new I q₀ q₁ l ≡ B

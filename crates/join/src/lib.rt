@@ -8,7 +8,7 @@ ghost use Rattle.pair.specs.Coded.{lowest};
 ghost use Rattle.lanes.specs.Store.{Low};
 ghost use Rattle.model.specs.Steps.{B};
 ghost use Rattle.join.specs.Places.{caseAt, sourceAt, pricesAt, Pages};
-ghost use Rattle.join.specs.Tables.{Table, Better, Least, Met, SumAt, WayIn, nextIn, OneCase, PoseCases, BlockCases, Part, Joined};
+ghost use Rattle.join.specs.Tables.{Table, Better, Least, MetAt, SumAt, WayIn, nextIn, OneCase, PoseCases, BlockCases, Part, Joined, PairWith, AllPairs, Closed};
 ghost use Rattle.join.specs.Sums.{startSum, laneSum, endSum, Room, Sums, Summed};
 
 // The least of some costs, and a code of where it is.
@@ -171,7 +171,7 @@ fn start_of(
     lane: usize,
     sum: u32,
 ) -> usize
-    requires { ⌜ Table starts 60 i (now store) × (q0 < 12) × (a < 60) × (t < starts) × (lane < 60) ⌝ }
+    requires { ⌜ Table starts 64 i (now store) × (q0 < 12) × (a < 60) × (t < starts) × (lane < 64) ⌝ }
     ensures { λ r. ⌜ SumAt (startSum i (now (store .entry)) q0 a t lane) starts sum r ⌝ }
 {
     let mut s: usize = 0;
@@ -194,7 +194,7 @@ fn best_end(
     a: usize,
 ) -> Best
     requires { ⌜ Table starts lanes 0 (now store) × Room (now sums) × (q1 < 12) × (a < 60) ⌝ }
-    ensures { λ b. ⌜ Least (lowest B (endSum lanes (now (sums .entry)) (now (store .entry)) q1 a) (from 0 starts)) (Met (endSum lanes (now (sums .entry)) (now (store .entry)) q1 a) starts) (b .value) (b .code) ⌝ }
+    ensures { λ b. ⌜ Least (lowest B (endSum lanes (now (sums .entry)) (now (store .entry)) q1 a) (from 0 starts)) (MetAt (endSum lanes (now (sums .entry)) (now (store .entry)) q1 a) starts) (b .value) (b .code) ⌝ }
 {
     let mut best = Best {
         value: lanes::NONE,
@@ -329,7 +329,7 @@ fn case_block(
     }
 }
 
-// Case table i + 1 from case table i and the prices of a stage.
+// Case table i + 1 from case table i and the prices of a stage. There may be more lanes than poses, if no case of table i goes by the others.
 pub fn join_stage(
     store: &mut [u32],
     i: usize,
@@ -346,5 +346,31 @@ pub fn join_stage(
     while q0 < ends {
         case_block(store, &mut sums, i, starts, lanes, q0, ends, poses);
         q0 += 1;
+    }
+}
+
+// ---- lanes closed: no case goes by them
+
+// The lanes from `low` to `high` of table i closed for a pair of row 0 with every pair of row 1.
+fn close_pair(store: &mut [u32], i: usize, q0: usize, ends: usize, low: usize, high: usize)
+    requires { ⌜ Low (now store) × Pages (q0 + 1) (now store) × (i ≤ 25) × (q0 < 12) × (ends ≤ 12) × (low ≤ high) × (high ≤ 64) ⌝ }
+    ensures { λ _. ⌜ Closed i low high (PairWith q0 ends) (now (store .entry)) (now (store .exit)) ⌝ }
+{
+    let mut t: usize = 0;
+    while t < ends {
+        lanes::fill(store, case_at(i, q0, t) + low, high - low, lanes::NONE);
+        t += 1;
+    }
+}
+
+// The same for every pair of row 0.
+pub fn close_lanes(store: &mut [u32], i: usize, ends: usize, low: usize, high: usize)
+    requires { ⌜ Low (now store) × Pages ends (now store) × (i ≤ 25) × (ends ≤ 12) × (low ≤ high) × (high ≤ 64) ⌝ }
+    ensures { λ _. ⌜ Closed i low high (AllPairs ends ends) (now (store .entry)) (now (store .exit)) ⌝ }
+{
+    let mut s: usize = 0;
+    while s < ends {
+        close_pair(store, i, s, ends, low, high);
+        s += 1;
     }
 }

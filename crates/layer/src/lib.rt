@@ -168,7 +168,7 @@ fn target_rows(
 }
 
 // The block of pair q: all NONE if the row has no such cell.
-fn target_block(
+pub fn target_block(
     table: &mut [u32; 10944],
     store: &mut [u32],
     line: &[u32],

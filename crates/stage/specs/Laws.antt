@@ -18,9 +18,11 @@ use Rattle.model.specs.Pairs.{count-0, count-1, count-2}
 use Rattle.lanes.specs.Store.{Low}
 use Rattle.lanes.specs.Laws.{low-set}
 use Rattle.join.specs.Places.{caseAt, Pages}
-use Rattle.join.specs.Tables.{casesIn, sourcesIn, pricesIn, Table, Least, Way, Joined}
+use Rattle.join.specs.Tables.{casesIn, sourcesIn, pricesIn, Table, Least, Way, Joined, AllPairs, Closed}
+use Rattle.join.specs.Laws.{least-open}
+use Rattle.join.specs.SumLaws.{table-for}
 use Rattle.join.specs.Parts.{least-ext}
-use Rattle.stage.specs.Stage.{wide, priceOf, tableOf, Right, Staged, StageDone, Through, StagesDone, BothPriced, StagesGiven}
+use Rattle.stage.specs.Stage.{wide, widthOf, priceOf, tableOf, Right, Staged, StageDone, Through, StagesDone, BothPriced, StagesGiven}
 use Rattle.stage.specs.Starts.{ways-same}
 
 -- ---- counts
@@ -39,6 +41,16 @@ wide-low talls (suc I) x y h g = go (ltb I talls)
     go : (t : Bool) → cond t x 1 ≤ y
     go true = g
     go false = h
+
+-- of more it has more
+pub wide-mono : (talls I x y : ℕ) → x ≤ y → wide talls I x ≤ wide talls I y
+unfolding wide
+wide-mono talls zero x y h = omega arith
+wide-mono talls (suc I) x y h = go (ltb I talls)
+  where
+    go : (t : Bool) → cond t x 1 ≤ cond t y 1
+    go true = h
+    go false = omega arith
 
 -- a tall cell's table has all
 pub wide-all : (talls I x : ℕ) → I < talls → wide talls (suc I) x ≡ x
@@ -59,6 +71,16 @@ pub wide-tall : (talls I x : ℕ) → (I ≡ 0 → ⊥) → I ≤ talls → x �
 wide-tall talls zero x n h = absurd (n refl)
 wide-tall talls (suc I) x n h = sym (wide-all talls I x (omega arith))
 
+-- the lanes that a stage is run in
+pub width-room : (poses : ℕ) → poses ≤ 60 → (poses ≤ widthOf poses) × (widthOf poses ≤ 64)
+unfolding widthOf
+width-room poses h = (omega arith, omega arith)
+
+pub wide-lanes : (talls I poses : ℕ) → poses ≤ 60 → (wide talls I poses ≤ wide talls I (widthOf poses)) × (wide talls I (widthOf poses) ≤ 64)
+wide-lanes talls I poses h =
+    let w = width-room poses h in
+    (wide-mono talls I poses (widthOf poses) (w .0), wide-low talls I (widthOf poses) 64 (omega arith) (w .1))
+
 -- no table has more than that of the last tall cell
 pub wide-most : (talls I x : ℕ) → 1 ≤ x → wide talls I x ≤ wide talls talls x
 wide-most zero zero x h = omega arith
@@ -75,7 +97,7 @@ module _ (D₀ D₁ : Deck) (R talls : ℕ) (pos₀ pos₁ : ℕ → ℕ) where
   table-step (suc I) q₀ q₁ a h = rw (wide-all talls I (pairCount R) (omega arith), wide-all talls I (D₀ .poses) (omega arith)) refl
 
   pub staged-right : (I : ℕ) {st : List ℕ} → Staged D₀ D₁ R talls pos₀ pos₁ I st → Right D₀ D₁ R talls pos₀ pos₁ (suc I) st
-  staged-right I w = record { word = λ q₀ q₁ a h g f. w .case q₀ q₁ a h g f .right }
+  staged-right I w = record { word = λ q₀ q₁ a h g f. w .case q₀ q₁ a h g f .right; beyond = w .beyond }
 
   module _ (few : pairCount R ≤ 12) (some : 1 ≤ pairCount R) (narrow : D₀ .poses ≤ 60) where
     wide-pairs : (I : ℕ) → wide talls I (pairCount R) ≤ 12
@@ -85,20 +107,29 @@ module _ (D₀ D₁ : Deck) (R talls : ℕ) (pos₀ pos₁ : ℕ → ℕ) where
     wide-poses I = wide-low talls I (D₀ .poses) 60 (omega arith) narrow
 
     -- a stage from its prices and the table before
-    pub stage-done : (I : ℕ) {old mid new : List ℕ} → I ≤ talls → talls ≤ 24
+    pub stage-done : (I : ℕ) {old mid one new : List ℕ} → I ≤ talls → talls ≤ 24
         → Right D₀ D₁ R talls pos₀ pos₁ I old
         → BothPriced (priceOf D₀ R talls pos₀ I) (priceOf D₁ R talls pos₁ I) I (wide talls I (pairCount R)) (wide talls I (D₀ .poses)) (wide talls (suc I) (pairCount R)) (wide talls (suc I) (D₀ .poses)) (wide talls I (pairCount R)) old mid
-        → Joined (wide talls I (pairCount R)) (wide talls I (D₀ .poses)) (wide talls (suc I) (pairCount R)) (wide talls (suc I) (D₀ .poses)) I mid new
+        → Joined (wide talls I (pairCount R)) (wide talls I (widthOf (D₀ .poses))) (wide talls (suc I) (pairCount R)) (wide talls (suc I) (D₀ .poses)) I mid one
+        → Closed (suc I) (wide talls (suc I) (D₀ .poses)) (wide talls (suc I) (widthOf (D₀ .poses))) (AllPairs (wide talls (suc I) (pairCount R)) (wide talls (suc I) (pairCount R))) one new
         → StageDone D₀ D₁ R talls pos₀ pos₁ I old new
-    stage-done I {old} {mid} {new} h g r p j =
+    stage-done I {old} {mid} {one} {new} h g r p j c =
         record {
-          long = j .long ∙ p .long;
-          low = j .low;
+          long = c .long ∙ j .long ∙ p .long;
+          low = c .fits;
           tables = λ k q₀ q₁ a n m.
+              let w = c .kept k q₀ q₁ a m (λ e. absurd (n e)) in
               let u = j .tables k q₀ q₁ a n m in
               let v = p .tables k q₀ q₁ a m in
-              record { case = u .case ∙ v .case; source = u .source ∙ v .source };
-          staged = record { case = λ q₀ q₁ a x y z. go q₀ q₁ a x y z };
+              record { case = w .case ∙ u .case ∙ v .case; source = w .source ∙ u .source ∙ v .source };
+          staged = record {
+            case = λ q₀ q₁ a x y z.
+                let m = wide-pairs (suc I) in
+                let n = wide-poses (suc I) in
+                let e = c .kept (suc I) q₀ q₁ a (omega arith, omega arith, omega arith, omega arith) (λ e k l. omega arith) in
+                rw (e .case, e .source) (go q₀ q₁ a x y z);
+            beyond = record { none = λ q₀ q₁ l x y. c .none q₀ q₁ l (x, y) };
+          };
         }
       where
         -- the ways below B are the model's
@@ -113,30 +144,42 @@ module _ (D₀ D₁ : Deck) (R talls : ℕ) (pos₀ pos₁ : ℕ → ℕ) where
             let v = r .word s t l b d e in
             ways-same _ _ (p .right₀ s b) (p .right₁ t d) q₀ q₁ a l x y z b d e u v
 
+        -- no case goes by a lane beyond the poses
+        beyond : (s t l : ℕ) → s < wide talls I (pairCount R) → t < wide talls I (pairCount R) → wide talls I (D₀ .poses) ≤ l → l < wide talls I (widthOf (D₀ .poses))
+            → B ≤ casesIn mid I s t l
+        beyond s t l b d u v =
+            let m = wide-pairs I in
+            let n = wide-lanes talls I (D₀ .poses) narrow in
+            omega (arith, p .tables I s t l (omega arith, omega arith, omega arith, omega arith) .case, r .beyond .none s t l b d u v)
+
         go : (q₀ q₁ a : ℕ) → q₀ < wide talls (suc I) (pairCount R) → q₁ < wide talls (suc I) (pairCount R) → a < wide talls (suc I) (D₀ .poses)
             → Least
             (tableOf D₀ D₁ R talls pos₀ pos₁ (suc I) q₀ q₁ a)
             (Way (wide talls I (pairCount R)) (wide talls I (D₀ .poses)) (tableOf D₀ D₁ R talls pos₀ pos₁ I) (priceOf D₀ R talls pos₀ I) (priceOf D₁ R talls pos₁ I) q₀ q₁ a)
-            (casesIn new (suc I) q₀ q₁ a)
-            (sourcesIn new (suc I) q₀ q₁ a)
+            (casesIn one (suc I) q₀ q₁ a)
+            (sourcesIn one (suc I) q₀ q₁ a)
         go q₀ q₁ a x y z =
+            let d = least-open (wide talls I (pairCount R)) (wide talls I (widthOf (D₀ .poses))) (wide talls I (D₀ .poses)) (casesIn mid I) (pricesIn mid 0) (pricesIn mid 1) q₀ q₁ a
+            (wide-lanes talls I (D₀ .poses) narrow .0) beyond (j .done q₀ q₁ a x y z) in
             let w = least-ext (wide talls I (pairCount R)) (wide talls I (D₀ .poses)) (casesIn mid I) (tableOf D₀ D₁ R talls pos₀ pos₁ I)
             (pricesIn mid 0) (pricesIn mid 1) (priceOf D₀ R talls pos₀ I) (priceOf D₁ R talls pos₁ I) q₀ q₁ a
-            (λ s t l b d e. same q₀ q₁ a s t l x y z b d e) (j .done q₀ q₁ a x y z) in
+            (λ s t l b d e. same q₀ q₁ a s t l x y z b d e) d in
             record { right = w .right ∙ table-step I q₀ q₁ a h; found = w .found; small = w .small }
 
     -- the same by the code's names
-    pub stage-made : (I count starts lanes ends last : ℕ) {old mid new : List ℕ}
-        → starts ≡ wide talls I count → lanes ≡ wide talls I (D₀ .poses) → ends ≡ wide talls (I + 1) count → last ≡ wide talls (I + 1) (D₀ .poses)
+    pub stage-made : (I count starts lanes ends last width : ℕ) {old mid one new : List ℕ}
+        → starts ≡ wide talls I count → lanes ≡ wide talls I (widthOf (D₀ .poses)) → ends ≡ wide talls (I + 1) count → last ≡ wide talls (I + 1) (D₀ .poses)
+        → width ≡ wide talls (I + 1) (widthOf (D₀ .poses))
         → count ≡ pairCount R → I ≤ talls → talls ≤ 24
         → Right D₀ D₁ R talls pos₀ pos₁ I old
         → BothPriced (priceOf D₀ R talls pos₀ I) (priceOf D₁ R talls pos₁ I) I (wide talls I count) (wide talls I (D₀ .poses)) (wide talls (suc I) count) (wide talls (suc I) (D₀ .poses)) (wide talls I count) old mid
-        → Joined starts lanes ends last I mid new
+        → Joined starts lanes ends last I mid one → Closed (I + 1) last width (AllPairs ends ends) one new
         → StageDone D₀ D₁ R talls pos₀ pos₁ I old new
-    stage-made I count starts lanes ends last e₁ e₂ e₃ e₄ all h g r p j =
+    stage-made I count starts lanes ends last width e₁ e₂ e₃ e₄ e₅ all h g r p j c =
         let b = rw all at p in
         let d = rw (e₁, e₂, e₃, e₄, add-one I, all) at j in
-        stage-done I h g r b d
+        let f = rw (e₃, e₄, e₅, add-one I, all) at c in
+        stage-done I h g r b d f
 
     -- the stages before are kept
     staged-kept : (J I : ℕ) {old new : List ℕ} → J < I → I ≤ 24 → StageDone D₀ D₁ R talls pos₀ pos₁ I old new
@@ -147,6 +190,12 @@ module _ (D₀ D₁ : Deck) (R talls : ℕ) (pos₀ pos₁ : ℕ → ℕ) where
           let n = wide-poses (suc j) in
           let e = d .tables (suc j) q₀ q₁ a (λ e. omega arith) (omega arith, omega arith, omega arith, omega arith) in
           rw (e .case, e .source) (w .case q₀ q₁ a x y z);
+      beyond = record {
+        none = λ q₀ q₁ l x y u v.
+            let m = wide-pairs (suc j) in
+            let n = wide-lanes talls (suc j) (D₀ .poses) narrow in
+            d .tables (suc j) q₀ q₁ l (λ e. omega arith) (omega arith, omega arith, omega arith, omega arith) .case ∙ w .beyond .none q₀ q₁ l x y u v;
+      };
     }
 
     pub through-more : {I : ℕ} {old mid new : List ℕ} → I ≤ 24 → Through D₀ D₁ R talls pos₀ pos₁ I old mid → StageDone D₀ D₁ R talls pos₀ pos₁ I mid new
@@ -166,7 +215,10 @@ module _ (D₀ D₁ : Deck) (R talls : ℕ) (pos₀ pos₁ : ℕ → ℕ) where
       record {
         long = refl;
         low = low-set at 0 w h (omega arith);
-        right = record { word = λ q₀ q₁ a x y z. ap (λ (k : ℕ). getD (set st at 0) k 0) (omega arith) ∙ getD-set-same st at 0 0 h };
+        right = record {
+          word = λ q₀ q₁ a x y z. ap (λ (k : ℕ). getD (set st at 0) k 0) (omega arith) ∙ getD-set-same st at 0 0 h;
+          beyond = record { none = λ q₀ q₁ l x y u v. absurd (omega arith) };
+        };
         staged = λ J h. absurd (omega arith);
       }
 
@@ -212,4 +264,8 @@ module _ {line₀ line₁ pairs places₀ places₁ st : List ℕ} {R n₀ n₁ 
   pub given-table : (I : ℕ) (new : List ℕ) → I ≤ talls → length new ≡ length st → Low new → Table (wide talls I count) (wide talls I poses) I new
   given-table I new h e w =
       let n = given-wide I in
-      record { pairs = n .0; few = n .1; stage = omega (arith, given-pairs .3); long = omega (arith, n .2); low = w }
+      record { pairs = n .0; few = omega (arith, n .1); stage = omega (arith, given-pairs .3); long = omega (arith, n .2); low = w }
+
+  -- the same with the lanes that it is run in
+  pub given-join : (I : ℕ) (new : List ℕ) → I ≤ talls → length new ≡ length st → Low new → Table (wide talls I count) (wide talls I (widthOf poses)) I new
+  given-join I new h e w = let t = given-table I new h e w in table-for _ I t (wide-lanes talls I poses (given-pairs .2) .1) (t .stage)

@@ -1,5 +1,5 @@
 -- The stages of the search in the store: case table number 0 is the state before anything, table number I + 1 is that of stage I.
-use Prim.Native.Nat.{ℕ, zero, suc, _+_, _≤_, _<_}
+use Prim.Native.Nat.{ℕ, zero, suc, _+_, _*_, _/_, _≤_, _<_}
 use mathlib.Core.Path.{_≡_}
 use mathlib.Core.Bool.{cond}
 use mathlib.Core.Logic.{_⊎_}
@@ -10,13 +10,17 @@ use Rattle.model.specs.Steps.{B, Deck, Layer, Cases, Prices, pairCount}
 use Rattle.model.specs.Stages.{stageEnd, openPrice, stagePrice, caseTable}
 use Rattle.lanes.specs.Store.{Low, layerIn}
 use Rattle.deck.specs.Words.{Ground}
-use Rattle.join.specs.Places.{caseAt, pricesAt, Pages, Slot, Beside}
+use Rattle.join.specs.Places.{caseAt, pricesAt, Pages, Slot, OutsidePrices}
 use Rattle.join.specs.Tables.{casesIn, sourcesIn, pricesIn, SameCase, SameTables, Least, Way}
 
 -- how many of x pairs or poses table number I has: the tables of the tall cells all of them, the first table and the last one
 unfoldable pub wide : ℕ → ℕ → ℕ → ℕ
 wide talls zero x = 1
 wide talls (suc I) x = cond (ltb I talls) x 1
+
+-- how many lanes a stage is run in: the poses, up to a multiple of 16
+unfoldable pub widthOf : ℕ → ℕ
+widthOf poses = (poses + 15) / 16 * 16
 
 -- where a row's tall cells stand
 unfoldable pub posIn : List ℕ → ℕ → ℕ
@@ -29,6 +33,11 @@ unfoldable pub priceOf : Deck → ℕ → ℕ → (ℕ → ℕ) → ℕ → Pric
 priceOf D R talls pos zero s l q a = openPrice D R talls pos q a
 priceOf D R talls pos (suc I) s l q a = stagePrice D R talls pos I s l q a
 
+-- no case of table number I goes by a lane beyond the poses
+pub record NoneBeyond (talls count poses I : ℕ) (st : List ℕ) : Type 0 where
+  pub none : (q₀ q₁ l : ℕ) → q₀ < wide talls I count → q₁ < wide talls I count → wide talls I poses ≤ l → l < wide talls I (widthOf poses)
+      → casesIn st I q₀ q₁ l ≡ B
+
 module _ (D₀ D₁ : Deck) (R talls : ℕ) (pos₀ pos₁ : ℕ → ℕ) where
   -- case table number I
   unfoldable pub tableOf : ℕ → Cases
@@ -39,6 +48,7 @@ module _ (D₀ D₁ : Deck) (R talls : ℕ) (pos₀ pos₁ : ℕ → ℕ) where
   pub record Right (I : ℕ) (st : List ℕ) : Type 0 where
     pub word : (q₀ q₁ a : ℕ) → q₀ < wide talls I (pairCount R) → q₁ < wide talls I (pairCount R) → a < wide talls I (D₀ .poses)
         → casesIn st I q₀ q₁ a ≡ tableOf I q₀ q₁ a
+    pub beyond : NoneBeyond talls (pairCount R) (D₀ .poses) I st
 
   -- the table that stage I leaves, each case with a way to it where it is below B
   pub record Staged (I : ℕ) (st : List ℕ) : Type 0 where
@@ -48,6 +58,7 @@ module _ (D₀ D₁ : Deck) (R talls : ℕ) (pos₀ pos₁ : ℕ → ℕ) where
         (Way (wide talls I (pairCount R)) (wide talls I (D₀ .poses)) (tableOf I) (priceOf D₀ R talls pos₀ I) (priceOf D₁ R talls pos₁ I) q₀ q₁ a)
         (casesIn st (suc I) q₀ q₁ a)
         (sourcesIn st (suc I) q₀ q₁ a)
+    pub beyond : NoneBeyond talls (pairCount R) (D₀ .poses) (suc I) st
 
   -- what stage I does to the store; the tables other than number I + 1 are kept
   pub record StageDone (I : ℕ) (old new : List ℕ) : Type 0 where
@@ -91,7 +102,7 @@ module _ (D₀ D₁ : Deck) (R talls : ℕ) (pos₀ pos₁ : ℕ → ℕ) where
 pub record RowPriced (F : ℕ → Layer) (lanes ends poses prices : ℕ) (old new : List ℕ) : Type 0 where
   pub long : length new ≡ length old
   pub low : Low new
-  pub kept : (k : ℕ) → 98304 ≤ k → Beside prices k → getD new k 0 ≡ getD old k 0
+  pub kept : (k : ℕ) → 98304 ≤ k → OutsidePrices prices k → getD new k 0 ≡ getD old k 0
   pub right : (q a l : ℕ) → q < ends → a < poses → l < lanes → layerIn new prices l q a ≡ F l q a
 
 -- stage I on from the layer in block 0, which has i cells; `starts` has what the start of each lane pays as the row's last
@@ -119,7 +130,7 @@ Priced row x I starts lanes ends poses s old new = Dead old row I starts lanes s
 pub record StartPriced (row : ℕ) (x : Prices) (I starts lanes ends poses s : ℕ) (old new : List ℕ) : Type 0 where
   pub long : length new ≡ length old
   pub low : Low new
-  pub kept : (k : ℕ) → 98304 ≤ k → Beside (pricesAt row s) k → getD new k 0 ≡ getD old k 0
+  pub kept : (k : ℕ) → 98304 ≤ k → OutsidePrices (pricesAt row s) k → getD new k 0 ≡ getD old k 0
   pub right : Priced row x I starts lanes ends poses s old new
 
 -- that of both rows for the start pairs below m; the tables are kept

@@ -44,6 +44,10 @@ ways-same {s = s} {t} c f r₀ r₁ q₀ q₁ a l x y z h g k e d =
 
 -- ---- one start pair
 
+-- in fewer lanes it is dead as well
+pub dead-fewer : {row I starts lanes more s : ℕ} {st : List ℕ} → lanes ≤ more → Dead st row I starts more s → Dead st row I starts lanes s
+dead-fewer h d = record { none = λ t l g k. d .none t l g (omega arith) }
+
 -- nothing is done for a dead one
 pub start-dead : {row I starts lanes ends poses s : ℕ} {x : Prices} {st : List ℕ} → Low st → Dead st row I starts lanes s → StartPriced row x I starts lanes ends poses s st st
 start-dead w d = record { long = refl; low = w; kept = λ k h b. refl; right = inl d }

@@ -1,17 +1,16 @@
 // The stages of the search: the prices of both rows from every start pair, joined with the case table before.
+mod row;
+
 ghost use mathlib.Core.Path.{_≡_};
 ghost use mathlib.Core.Bool.{false};
 ghost use Prim.Native.Nat.{suc, _≤_, _<_};
 ghost use Rattle.model.specs.Steps.{pairCount};
 ghost use Rattle.model.specs.Stages.{placedWith};
-ghost use lib.ListN.{length};
-ghost use Rattle.lanes.specs.Store.{Low, Written};
-ghost use Rattle.deck.specs.Words.{backIn, deckOf, LineWords, PairWords};
-ghost use Rattle.layer.specs.Loops.{Given};
+ghost use Rattle.deck.specs.Words.{deckOf, PairWords};
 ghost use Rattle.near.specs.Table.{Lent};
-ghost use Rattle.stretch.specs.Runs.{PriceRoom};
 ghost use Rattle.join.specs.Tables.{Table};
-ghost use Rattle.stage.specs.Stage.{wide, posIn, priceOf, endFrom, fromAt, Dead, RowPriced, StartPriced, BothPriced, RowGiven, StagesGiven, Right, StageDone, StagesDone};
+ghost use Rattle.stage.specs.Stage.{wide, widthOf, posIn, priceOf, fromAt, Dead, StartPriced, BothPriced, RowGiven, StagesGiven, Right, StageDone, StagesDone};
+use row::row_price;
 
 // How many of x pairs or poses table number i has.
 pub fn wide_of(talls: usize, i: usize, x: usize) -> usize
@@ -26,6 +25,22 @@ pub fn wide_of(talls: usize, i: usize, x: usize) -> usize
     x
 }
 
+// How many lanes a stretch is run in: a multiple of 16, so that loops over lanes, many at a time, leave no rest. No case goes by those beyond the poses.
+fn width_of(poses: usize) -> usize
+    requires { ⌜ poses ≤ 60 ⌝ }
+    ensures { λ w. ⌜ w ≡ widthOf poses ⌝ }
+{
+    (poses + 15) / 16 * 16
+}
+
+// How many lanes table number i has in use.
+fn lanes_of(talls: usize, i: usize, poses: usize) -> usize
+    requires { ⌜ poses ≤ 60 ⌝ }
+    ensures { λ r. ⌜ r ≡ wide talls i (widthOf poses) ⌝ }
+{
+    wide_of(talls, i, width_of(poses))
+}
+
 // How many cells are placed once the cell at position p stands as pair s.
 pub fn placed_with(pairs: &[u32], r: usize, p: usize, s: usize) -> usize
     requires { ⌜ PairWords r (now pairs) × (s < pairCount r) × (p < 64) ⌝ }
@@ -37,161 +52,6 @@ pub fn placed_with(pairs: &[u32], r: usize, p: usize, s: usize) -> usize
         return 0;
     }
     all - d
-}
-
-// What the cell at position p pays as the row's last, in each pose.
-fn backs(starts: &mut [u32; 64], line: &[u32], p: usize, poses: usize)
-    requires { ⌜ LineWords (now line) × Low (now starts) × (length (now starts) ≡ 64) × (p < 64) × (poses ≤ 60) ⌝ }
-    ensures { λ _. ⌜ Written (backIn (now (line .entry)) p) 0 poses (now (starts .entry)) (now (starts .exit)) ⌝ }
-{
-    let mut l: usize = 0;
-    while l < poses {
-        starts[l] = deck::back(line, p, l);
-        l += 1;
-    }
-}
-
-// On from the layer in block 0, which has `cells` cells, to tall cell i or the row's end; `starts` has what the start of each lane pays as the last.
-fn stage_end(
-    table: &mut [u32; 10944],
-    store: &mut [u32],
-    line: &[u32],
-    pairs: &[u32],
-    places: &[u32],
-    starts: &[u32; 64],
-    n: usize,
-    poses: usize,
-    r: usize,
-    count: usize,
-    talls: usize,
-    i: usize,
-    lanes: usize,
-    cells: usize,
-    prices: usize,
-)
-    requires { ⌜ Lent (now table) × RowGiven (now line) (now pairs) (now places) r n poses count talls × Given (now line) (now pairs) (now store) n poses r count lanes cells 0 × PriceRoom (now store) prices × Low (now starts) × (length (now starts) ≡ 64) ⌝ }
-    ensures { λ _. ⌜ RowPriced (endFrom (deckOf (now (line .entry)) n poses) r talls (posIn (now (places .entry))) i (now (store .entry)) cells (now (starts .entry))) lanes (wide talls (suc i) count) (wide talls (suc i) poses) prices (now (store .entry)) (now (store .exit)) × Lent (now (table .exit)) ⌝ }
-{
-    if i < talls {
-        let p = deck::word(places, i);
-        stretch::stretch_to(
-            table,
-            store,
-            line,
-            pairs,
-            n,
-            poses,
-            r,
-            count,
-            lanes,
-            cells,
-            p,
-            prices,
-        );
-        return;
-    }
-    finish::stretch_end(
-        table,
-        store,
-        line,
-        pairs,
-        starts,
-        n,
-        poses,
-        r,
-        count,
-        lanes,
-        cells,
-        prices,
-    );
-}
-
-// How many lanes a stretch is run in: a multiple of 16, so that loops over lanes, many at a time, leave no rest. Those beyond the poses are not used.
-fn width_of(poses: usize) -> usize
-    requires { ⌜ poses ≤ 60 ⌝ }
-    ensures { λ w. ⌜ (poses ≤ w) × (w ≤ 64) ⌝ }
-{
-    (poses + 15) / 16 * 16
-}
-
-// The prices of stage i in a row from start pair s, to the block at `prices`.
-fn row_price(
-    table: &mut [u32; 10944],
-    store: &mut [u32],
-    line: &[u32],
-    pairs: &[u32],
-    places: &[u32],
-    n: usize,
-    poses: usize,
-    r: usize,
-    count: usize,
-    talls: usize,
-    i: usize,
-    s: usize,
-    prices: usize,
-)
-    requires { ⌜ Lent (now table) × RowGiven (now line) (now pairs) (now places) r n poses count talls × Low (now store) × PriceRoom (now store) prices × (i ≤ talls) × (s < wide talls i count) ⌝ }
-    ensures { λ _. ⌜ RowPriced (priceOf (deckOf (now (line .entry)) n poses) r talls (posIn (now (places .entry))) i s) (wide talls i poses) (wide talls (suc i) count) (wide talls (suc i) poses) prices (now (store .entry)) (now (store .exit)) × Lent (now (table .exit)) ⌝ }
-{
-    let mut starts = [0u32; 64];
-    if i == 0 {
-        first::open_layer(store, line, pairs, n, poses, r, count, 0);
-        stage_end(
-            table,
-            store,
-            line,
-            pairs,
-            places,
-            &starts,
-            n,
-            poses,
-            r,
-            count,
-            talls,
-            0,
-            1,
-            1,
-            prices,
-        );
-        return;
-    }
-    let p = deck::word(places, i - 1);
-    let placed = placed_with(pairs, r, p, s);
-    let width = width_of(poses);
-    first::first_layer(
-        table,
-        store,
-        line,
-        pairs,
-        n,
-        poses,
-        r,
-        count,
-        width,
-        placed,
-        s,
-        p,
-        0,
-        0,
-    );
-    backs(&mut starts, line, p, poses);
-    stage_end(
-        table,
-        store,
-        line,
-        pairs,
-        places,
-        &starts,
-        n,
-        poses,
-        r,
-        count,
-        talls,
-        i,
-        width,
-        placed + 1,
-        prices,
-    );
 }
 
 // Where the cases begin in which start pair s of a row goes with pair t of the other.
@@ -240,7 +100,7 @@ fn price_start(
     ensures { λ _. ⌜ StartPriced row (priceOf (deckOf (now (line .entry)) n poses) r talls (posIn (now (places .entry))) i) i (wide talls i count) (wide talls i poses) (wide talls (suc i) count) (wide talls (suc i) poses) s (now (store .entry)) (now (store .exit)) × Lent (now (table .exit)) ⌝ }
 {
     let starts = wide_of(talls, i, count);
-    let lanes = wide_of(talls, i, poses);
+    let lanes = lanes_of(talls, i, poses);
     if !live(store, row, i, starts, lanes, s) {
         return;
     }
@@ -356,10 +216,12 @@ pub fn stage(
         i,
     );
     let starts = wide_of(talls, i, count);
-    let lanes = wide_of(talls, i, poses);
+    let lanes = lanes_of(talls, i, poses);
     let ends = wide_of(talls, i + 1, count);
     let last = wide_of(talls, i + 1, poses);
     join::join_stage(store, i, starts, lanes, ends, last);
+    let width = lanes_of(talls, i + 1, poses);
+    join::close_lanes(store, i + 1, ends, last, width);
 }
 
 // Every stage, from the state before anything.

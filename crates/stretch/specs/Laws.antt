@@ -15,7 +15,7 @@ use Rattle.lanes.specs.Store.{Frame, layerIn, Filled}
 use Rattle.deck.specs.Words.{deckOf}
 use Rattle.layer.specs.Loops.{nextFrom, Given, Beside}
 use Rattle.layer.specs.Laws.{next-ext}
-use Rattle.stretch.specs.Runs.{Buffer, Running, Small, Outside, lateIn, delivered, PricedBy, PricedRun}
+use Rattle.stretch.specs.Runs.{Buffer, Running, Small, Outside, PriceRoom, lateIn, delivered, lastIn, PricedBy, PricedRun, Priced}
 
 -- ---- the two blocks by turns
 
@@ -31,6 +31,9 @@ pub buffer-beside : {st : List ℕ} {at : ℕ} → Buffer at → 98304 ≤ lengt
 buffer-beside (inl e) h = record { room = omega arith; apart = λ k x y z w. omega arith }
 buffer-beside (inr e) h = record { room = omega arith; apart = λ k x y z w. omega arith }
 
+pub buffer-prices : {st : List ℕ} {at prices : ℕ} → Buffer at → PriceRoom st prices → Beside st at prices
+buffer-prices b h = record { room = h .room; apart = λ k x y z w. omega (arith, buffer-low b, h .over) }
+
 -- ---- the layers run on
 
 pub given-small :
@@ -45,18 +48,23 @@ unfolding layers
 run-none D R lanes i s e =
     record { buffer = inl refl; right = λ q a l x y z. e (0 + q * 4096 + a * 64 + l) (omega (arith, s .narrow, s .few, s .pairs)) }
 
+-- the layer after the one at `at`
+next-run :
+    {D : Deck} {R lanes i d at : ℕ} {old st : List ℕ}
+    → Running D R lanes i d at old st → (q a l : ℕ) → l < lanes
+    → nextFrom D R st at (i + d) l q a ≡ layers D R (layerIn old 0 l) i (suc d) q a
+unfolding layers
+next-run {D} {R} {i = i} {d} {at} {old} {st} r q a l z =
+    next-ext D R (layerIn st at l) (layers D R (layerIn old 0 l) i d) (λ p b v w. r .right p b l v w z) (i + d) q a
+
 pub run-more :
     {D : Deck} {R lanes i d at count : ℕ} {old mid new : List ℕ}
     → count ≡ pairCount R → Running D R lanes i d at old mid → Filled (nextFrom D R mid at (i + d)) lanes (D .poses) (49152 - at) count mid new
     → Running D R lanes i (d + 1) (49152 - at) old new
-unfolding layers
-run-more {D} {R} {lanes} {i} {d} {at} {old = old} {mid = mid} c r f =
+run-more {D} {R} {i = i} {d} {old = old} c r f =
     record {
       buffer = buffer-turn (r .buffer);
-      right = λ q a l x y z.
-          f .right q (omega arith) a l y z
-          ∙ next-ext D R (layerIn mid at l) (layers D R (layerIn old 0 l) i d) (λ p b v w. r .right p b l v w z) (i + d) q a
-          ∙ ap (λ (k : ℕ). layers D R (layerIn old 0 l) i k q a) (sym (add-one d));
+      right = λ q a l x y z. f .right q (omega arith) a l y z ∙ next-run r q a l z ∙ ap (λ (k : ℕ). layers D R (layerIn old 0 l) i k q a) (sym (add-one d));
     }
 
 -- what is written above the layers keeps them
@@ -85,9 +93,6 @@ outside-layers p f h = record { long = f .long; below = λ k x y. f .high k (ome
 
 pub outside-prices : {prices wide a b : ℕ} {old new : List ℕ} → Frame a b old new → prices ≤ a → b ≤ prices + wide → Outside prices wide old new
 outside-prices f p q = record { long = f .long; below = λ k x y. f .low k (omega arith); above = λ k x. f .high k (omega arith) }
-
-pub outside-widen : {prices wide more : ℕ} {old new : List ℕ} → Outside prices wide old new → wide ≤ more → Outside prices more old new
-outside-widen f h = record { long = f .long; below = f .below; above = λ k x. f .above k (omega arith) }
 
 -- ---- the price of a pair by the layer that it comes with
 
@@ -189,3 +194,59 @@ module _ (D : Deck) (R : ℕ) (f g : Layer) (same : (q b : ℕ) → q < pairCoun
   pub priceTo-ext : (i p q a : ℕ) → q < pairCount R → a < D .poses → priceTo D R f i p q a ≡ priceTo D R g i p q a
   unfolding priceTo
   priceTo-ext i p q a x y = ap (λ (z : ℕ). cond (leb (i + offset R q) (p + suc R)) z B) (layers-ext i (p + suc R - offset R q - i) q a x y)
+
+-- what came before a stretch left its first layer as it was
+pub priced-from :
+    {D : Deck} {R lanes i p d at prices : ℕ} {old mid new : List ℕ}
+    → Small D R lanes → ((k : ℕ) → k < 49152 → getD mid k 0 ≡ getD old k 0) → Outside prices 49152 old mid
+    → PricedRun D R lanes i p d at prices mid new → PricedRun D R lanes i p d at prices old new
+priced-from {D} {R} {lanes} {i} {p} {d} {old = old} {mid = mid} s e o r =
+    record {
+      running = record {
+        buffer = r .running .buffer;
+        right = λ q a l x y z. r .running .right q a l x y z ∙ layers-ext D R (layerIn mid 0 l) (layerIn old 0 l) (same l z) i d q a x y;
+      };
+      priced = record { right = λ q a l x y z h. r .priced .right q a l x y z h ∙ priceTo-ext D R (layerIn mid 0 l) (layerIn old 0 l) (same l z) i p q a x y };
+      outside = outside-join o (r .outside);
+      low = r .low;
+    }
+  where
+    same : (l : ℕ) → l < lanes → (q b : ℕ) → q < pairCount R → b < D .poses → layerIn mid 0 l q b ≡ layerIn old 0 l q b
+    same l z q b x y = e (0 + q * 4096 + b * 64 + l) (omega (arith, s .narrow, s .few, s .pairs))
+
+-- ---- the last layer
+
+module _ (D : Deck) (R i p : ℕ) (st : List ℕ) (at prices l q a : ℕ) where
+  pub last-skip : (suc i + offset R q ≡ p + suc R → ⊥) → lastIn D R i p st at prices l q a ≡ layerIn st prices l q a
+  last-skip n = ap (λ (t : Bool). cond t (nextFrom D R st at i l q a) (layerIn st prices l q a)) (ne-eqb _ _ n)
+
+  pub last-take : suc i + offset R q ≡ p + suc R → lastIn D R i p st at prices l q a ≡ nextFrom D R st at i l q a
+  last-take e = ap (λ (t : Bool). cond t (nextFrom D R st at i l q a) (layerIn st prices l q a)) (eq-eqb _ _ e)
+
+-- the layers have come past the tall cell: nothing is left to deliver
+pub priced-past :
+    {D : Deck} {R lanes i p d at prices : ℕ} {old new : List ℕ}
+    → PricedRun D R lanes i p d at prices old new → p + R < i + d → Priced D R lanes i p prices old new
+priced-past r h = record { outside = r .outside; low = r .low; right = λ q a l x y z. r .priced .right q a l x y z (omega arith) }
+
+-- one layer is left, and is delivered from the layer before
+pub priced-last :
+    {D : Deck} {R lanes i p d at prices count : ℕ} {old mid new : List ℕ}
+    → count ≡ pairCount R → PricedRun D R lanes i p d at prices old mid → p + R ≡ i + d
+    → Filled (lastIn D R (p + R) p mid at prices) lanes (D .poses) prices count mid new
+    → Priced D R lanes i p prices old new
+priced-last {D} {R} {lanes} {i} {p} {d} {at} {prices} {old = old} {mid = mid} c r h f =
+    record {
+      outside = outside-join (r .outside) (outside-prices (f .frame) (omega arith) (omega arith));
+      low = f .low;
+      right = λ q a l x y z. f .right q (omega arith) a l y z ∙ go q a l x y z (ℕ-discrete (suc (p + R) + offset R q) (p + suc R));
+    }
+  where
+    go : (q a l : ℕ) → q < pairCount R → a < D .poses → l < lanes → Dec (suc (p + R) + offset R q ≡ p + suc R)
+        → lastIn D R (p + R) p mid at prices l q a ≡ priceTo D R (layerIn old 0 l) i p q a
+    go q a l x y z (yes e) =
+        last-take D R (p + R) p mid at prices l q a e
+        ∙ ap (λ (j : ℕ). nextFrom D R mid at j l q a) h
+        ∙ next-run (r .running) q a l z
+        ∙ sym (priceTo-at D R (layerIn old 0 l) i p q a (suc d) (omega arith))
+    go q a l x y z (no n) = last-skip D R (p + R) p mid at prices l q a n ∙ r .priced .right q a l x y z (omega arith)

@@ -8,6 +8,7 @@ use lib.ListN.{length, getD}
 use lib.Dec.{ltb, eqb}
 use Rattle.model.specs.Steps.{B, Deck, Layer, pairCount, offset, layers, priceTo}
 use Rattle.lanes.specs.Store.{Low, layerIn}
+use Rattle.layer.specs.Loops.{nextFrom}
 
 -- the two blocks of layers, at 0 and at 49152
 abbrev pub Buffer : ℕ → Type 0
@@ -44,6 +45,10 @@ lateIn R i p st prices l q a = cond (ltb (p + suc R) (i + offset R q)) B (layerI
 -- where the layer at `at`, with i cells, is the one that pair q comes with, its entries; else what was there
 abbrev pub delivered : ℕ → ℕ → ℕ → List ℕ → ℕ → ℕ → ℕ → Layer
 delivered R i p st at prices l q a = cond (eqb (i + offset R q) (p + suc R)) (layerIn st at l q a) (layerIn st prices l q a)
+
+-- where pair q comes with the layer after the one at `at`, which has i cells, the entries of that layer; else what was there
+abbrev pub lastIn : Deck → ℕ → ℕ → ℕ → List ℕ → ℕ → ℕ → ℕ → Layer
+lastIn D R i p st at prices l q a = cond (eqb (suc i + offset R q) (p + suc R)) (nextFrom D R st at i l q a) (layerIn st prices l q a)
 
 -- the prices of the pairs that come with the first d layers, or with none
 pub record PricedBy (D : Deck) (R lanes i p d prices : ℕ) (old new : List ℕ) : Type 0 where

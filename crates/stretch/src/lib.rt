@@ -1,13 +1,14 @@
-// A stretch: from its first layer, in block 0, to a tall cell; all lanes at once. The layers run on in the blocks at 0 and 49152 by turns.
+// A stretch: from its first layer, in block 0, to a tall cell; all lanes at once. The layers run on in the blocks at 0 and 49152 by turns; of the last one only
+// the pairs that come to the tall cell with it are computed, straight to the prices.
 ghost use mathlib.Core.Path.{_≡_};
-ghost use Prim.Native.Nat.{ℕ, suc, _+_, _*_, _≤_, _<_};
+ghost use Prim.Native.Nat.{ℕ, suc, _+_, _*_, _-_, _≤_, _<_};
 ghost use lib.ListN.{length};
 ghost use Rattle.model.specs.Steps.{pairCount};
 ghost use Rattle.lanes.specs.Store.{Low, FilledPair, Filled};
 ghost use Rattle.deck.specs.Words.{deckOf, PairWords};
 ghost use Rattle.near.specs.Table.{Lent};
-ghost use Rattle.layer.specs.Loops.{Given};
-ghost use Rattle.stretch.specs.Runs.{PriceRoom, lateIn, delivered, Priced};
+ghost use Rattle.layer.specs.Loops.{Given, Beside};
+ghost use Rattle.stretch.specs.Runs.{PriceRoom, lateIn, delivered, lastIn, PricedRun, Priced};
 
 // NONE for pair q, if it comes to the tall cell with no layer from the one with i cells on.
 fn late_pair(
@@ -97,8 +98,8 @@ fn deliver(
     }
 }
 
-// The prices to the tall cell, to the block at `prices`. The table that is lent serves all layers.
-pub fn stretch_to(
+// The layers up to the one with tall + r cells and the prices that come with them; answers the block of the last.
+fn run_to(
     table: &mut [u32; 10944],
     store: &mut [u32],
     line: &[u32],
@@ -111,15 +112,15 @@ pub fn stretch_to(
     i: usize,
     tall: usize,
     prices: usize,
-)
+) -> usize
     requires { ⌜ Lent (now table) × Given (now line) (now pairs) (now store) n poses r count lanes i 0 × PriceRoom (now store) prices × (tall < 64) ⌝ }
-    ensures { λ _. ⌜ Priced (deckOf (now (line .entry)) n poses) r lanes i tall prices (now (store .entry)) (now (store .exit)) × Lent (now (table .exit)) ⌝ }
+    ensures { λ at. ⌜ PricedRun (deckOf (now (line .entry)) n poses) r lanes i tall (tall + r - i) at prices (now (store .entry)) (now (store .exit)) × Lent (now (table .exit)) ⌝ }
 {
     fill_late(store, pairs, poses, r, count, lanes, i, tall, prices);
     deliver(store, pairs, poses, r, count, lanes, i, tall, 0, prices);
     let mut from: usize = 0;
     let mut d: usize = 0;
-    while i + d < tall + r + 1 {
+    while i + d < tall + r {
         layer::step_layer(
             table,
             store,
@@ -149,4 +150,138 @@ pub fn stretch_to(
             prices,
         );
     }
+    from
+}
+
+// The prices of pair q straight from the layer before, if it comes to the tall cell with the layer that has i + 1 cells.
+fn last_pair(
+    table: &mut [u32; 10944],
+    store: &mut [u32],
+    line: &[u32],
+    pairs: &[u32],
+    n: usize,
+    poses: usize,
+    r: usize,
+    count: usize,
+    lanes: usize,
+    i: usize,
+    tall: usize,
+    from: usize,
+    prices: usize,
+    q: usize,
+)
+    requires { ⌜ Lent (now table) × Given (now line) (now pairs) (now store) n poses r count lanes i from × Beside (now store) from prices × (tall < 64) × (q < count) ⌝ }
+    ensures { λ _. ⌜ FilledPair (lastIn (deckOf (now (line .entry)) n poses) r i tall (now (store .entry)) from prices) lanes prices q poses (now (store .entry)) (now (store .exit)) × Lent (now (table .exit)) ⌝ }
+{
+    if i + 1 + deck::word(pairs, q * 4) != tall + r + 1 {
+        return;
+    }
+    layer::target_block(
+        table,
+        store,
+        line,
+        pairs,
+        n,
+        poses,
+        r,
+        count,
+        lanes,
+        i,
+        from,
+        prices,
+        q,
+    );
+}
+
+// The prices of every such pair: of the last layer nothing else is wanted.
+fn last_layer(
+    table: &mut [u32; 10944],
+    store: &mut [u32],
+    line: &[u32],
+    pairs: &[u32],
+    n: usize,
+    poses: usize,
+    r: usize,
+    count: usize,
+    lanes: usize,
+    i: usize,
+    tall: usize,
+    from: usize,
+    prices: usize,
+)
+    requires { ⌜ Lent (now table) × Given (now line) (now pairs) (now store) n poses r count lanes i from × Beside (now store) from prices × (tall < 64) ⌝ }
+    ensures { λ _. ⌜ Filled (lastIn (deckOf (now (line .entry)) n poses) r i tall (now (store .entry)) from prices) lanes poses prices count (now (store .entry)) (now (store .exit)) × Lent (now (table .exit)) ⌝ }
+{
+    let mut q: usize = 0;
+    while q < count {
+        last_pair(
+            table,
+            store,
+            line,
+            pairs,
+            n,
+            poses,
+            r,
+            count,
+            lanes,
+            i,
+            tall,
+            from,
+            prices,
+            q,
+        );
+        q += 1;
+    }
+}
+
+// The prices to the tall cell, to the block at `prices`. The table that is lent serves all layers.
+pub fn stretch_to(
+    table: &mut [u32; 10944],
+    store: &mut [u32],
+    line: &[u32],
+    pairs: &[u32],
+    n: usize,
+    poses: usize,
+    r: usize,
+    count: usize,
+    lanes: usize,
+    i: usize,
+    tall: usize,
+    prices: usize,
+)
+    requires { ⌜ Lent (now table) × Given (now line) (now pairs) (now store) n poses r count lanes i 0 × PriceRoom (now store) prices × (tall < 64) ⌝ }
+    ensures { λ _. ⌜ Priced (deckOf (now (line .entry)) n poses) r lanes i tall prices (now (store .entry)) (now (store .exit)) × Lent (now (table .exit)) ⌝ }
+{
+    let from = run_to(
+        table,
+        store,
+        line,
+        pairs,
+        n,
+        poses,
+        r,
+        count,
+        lanes,
+        i,
+        tall,
+        prices,
+    );
+    if i > tall + r {
+        return;
+    }
+    last_layer(
+        table,
+        store,
+        line,
+        pairs,
+        n,
+        poses,
+        r,
+        count,
+        lanes,
+        tall + r,
+        tall,
+        from,
+        prices,
+    );
 }

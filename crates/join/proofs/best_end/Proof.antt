@@ -4,7 +4,7 @@ use mathlib.Core.Path.{_≡_}
 use Rattle.rows.specs.Lists.{from}
 use Rattle.pair.specs.Coded.{lowest}
 use Rattle.model.specs.Steps.{B}
-use Rattle.join.specs.Tables.{Least, Met}
+use Rattle.join.specs.Tables.{Least, MetAt}
 use Rattle.join.specs.Sums.{endSum}
 use Rattle.join.specs.Laws.{least-none, least-more}
 use Rattle.join.specs.SumLaws.{end-met}
@@ -15,7 +15,7 @@ use Rattle.join.proofs.best_end.Tie as tie
 
 abbrev Inv-loop : tie.InvT-loop
 Inv-loop sums store starts lanes q1 a best₀ t₀ best t =
-    (t ≤ starts) × Least (lowest B (endSum lanes sums store q1 a) (from 0 t)) (Met (endSum lanes sums store q1 a) starts) (best .value) (best .code)
+    (t ≤ starts) × Least (lowest B (endSum lanes sums store q1 a) (from 0 t)) (MetAt (endSum lanes sums store q1 a) starts) (best .value) (best .code)
 
 abbrev μ-loop : tie.MeasureT-loop
 μ-loop sums store starts lanes q1 a best₀ t₀ best t = starts - t

@@ -2,7 +2,7 @@
 use Rattle.rows.specs.Lists.{from}
 use Rattle.pair.specs.Coded.{lowest-low}
 use Rattle.model.specs.Steps.{B}
-use Rattle.join.specs.Tables.{Met}
+use Rattle.join.specs.Tables.{MetAt}
 use Rattle.join.specs.Sums.{endSum}
 use Rattle.join.specs.Laws.{least-met, next-is}
 use Rattle.join.specs.SumLaws.{case-dead, case-below}
@@ -39,7 +39,7 @@ source-of-requires c κs =
     let k = c .before .before .before .before .before in
     let a = k .args in
     let ends = endSum (a .lanes) (a .sums .now) (a .store .now) (a .q1) (a .a) in
-    let met = least-met {W = Met ends (a .starts)} (lowest-low B ends (from 0 (a .starts))) (c .before .before .best-end .ensures) (c .before .if2 .left) in
+    let met = least-met {W = MetAt ends (a .starts)} (lowest-low B ends (from 0 (a .starts))) (c .before .before .best-end .ensures) (c .before .if2 .left) in
     (k .pre .0, k .pre .1 .all, omega arith, omega arith, omega arith, met .0 .0, met .0 .1, met .1)
 
 returns-3 : tie.Need-returns-3

@@ -5,21 +5,26 @@ use borrow.Author.Tests.{not-true}
 use borrow.Author.Needs.{needs}
 use Rattle.deck.specs.Words.{deckOf}
 use Rattle.join.specs.Places.{pricesAt}
+use Rattle.join.specs.SumLaws.{table-for}
 use Rattle.stage.specs.Stage.{posIn, priceOf}
-use Rattle.stage.specs.Starts.{start-dead, start-live}
+use Rattle.stage.specs.Laws.{wide-lanes}
+use Rattle.stage.specs.Starts.{dead-fewer, start-dead, start-live}
 use Rattle.stage.proofs.price_start.Statement.{statement}
 use Rattle.stage.proofs.price_start.Tie as tie
 
 wide-of-requires : tie.Need-wide-of-requires
 wide-of-requires c κs = search needs
 
-wide-of-requires-2 : tie.Need-wide-of-requires-2
-wide-of-requires-2 c κs = search needs
+lanes-of-requires : tie.Need-lanes-of-requires
+lanes-of-requires c κs = c .before .before .before .before .before .pre .1 .ground .few
 
 live-requires : tie.Need-live-requires
 live-requires c κs =
     let k = c .before .before .before .before .before .before .before in
-    (rw (c .before .before .wide-of .ensures, c .before .wide-of2 .ensures) (k .pre .2), omega (arith, c .before .before .wide-of .ensures))
+    let a = k .args in
+    let t = k .pre .2 in
+    let w = wide-lanes (a .talls) (a .i) (a .poses) (k .pre .1 .ground .few) in
+    (rw (c .before .before .wide-of .ensures, c .before .lanes-of .ensures) (table-for _ _ t (w .1) (t .stage)), omega (arith, c .before .before .wide-of .ensures))
 
 same-length : tie.Need-same-length
 same-length c = search needs
@@ -27,8 +32,10 @@ same-length c = search needs
 returns : tie.Need-returns
 returns c =
     let k = c .before .before .before .before .before .before .before .before .before in
+    let a = k .args in
     let d = c .before .live .ensures (not-true _ (c .if1 .taken)) in
-    (start-dead (k .pre .2 .low) (rw (c .before .before .before .before .wide-of .ensures, c .before .before .before .wide-of2 .ensures) at d), k .pre .0)
+    let w = wide-lanes (a .talls) (a .i) (a .poses) (k .pre .1 .ground .few) in
+    (start-dead (k .pre .2 .low) (dead-fewer (w .0) (rw (c .before .before .before .before .wide-of .ensures, c .before .before .before .lanes-of .ensures) at d)), k .pre .0)
 
 price-at-requires : tie.Need-price-at-requires
 price-at-requires c κs = search needs
@@ -54,7 +61,7 @@ price-start-spec =
     tie.close
     (tie.spec
     wide-of-requires
-    wide-of-requires-2
+    lanes-of-requires
     live-requires
     same-length
     returns

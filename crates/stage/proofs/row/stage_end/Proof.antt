@@ -4,8 +4,8 @@ use Rattle.stage.specs.Stage.{posIn}
 use Rattle.stage.specs.Rows.{row-tall, row-last}
 use native.Mathlib.Omega.{arith}
 use borrow.Author.Needs.{needs}
-use Rattle.stage.proofs.stage_end.Statement.{statement}
-use Rattle.stage.proofs.stage_end.Tie as tie
+use Rattle.stage.proofs.row.stage_end.Statement.{statement}
+use Rattle.stage.proofs.row.stage_end.Tie as tie
 
 word-requires : tie.Need-word-requires
 word-requires c κs = search needs

@@ -7,8 +7,8 @@ use Rattle.lanes.specs.Store.{Written}
 use Rattle.lanes.specs.Laws.{written-none, written-more}
 use Rattle.deck.specs.Words.{backIn}
 use Rattle.deck.specs.Laws.{back-low}
-use Rattle.stage.proofs.backs.Statement.{statement}
-use Rattle.stage.proofs.backs.Tie as tie
+use Rattle.stage.proofs.row.backs.Statement.{statement}
+use Rattle.stage.proofs.row.backs.Tie as tie
 
 abbrev Inv-loop : tie.InvT-loop
 Inv-loop starts₀ line p poses l₀ starts l = (l ≤ poses) × Written (backIn line p) 0 l starts₀ starts

@@ -4,11 +4,12 @@ use mathlib.Core.Path.{_≡_, refl, _∙_}
 use lib.ListN.{replicate}
 use Rattle.deck.specs.Words.{deckOf}
 use Rattle.stage.specs.Stage.{posIn}
+use Rattle.stage.specs.Laws.{width-room}
 use Rattle.stage.specs.Rows.{row-open, row-after, start-place, start-pair, zeros-low}
 use native.Mathlib.Omega.{arith}
 use borrow.Author.Needs.{needs}
-use Rattle.stage.proofs.row_price.Statement.{statement}
-use Rattle.stage.proofs.row_price.Tie as tie
+use Rattle.stage.proofs.row.row_price.Statement.{statement}
+use Rattle.stage.proofs.row.row_price.Tie as tie
 
 open-layer-requires : tie.Need-open-layer-requires
 open-layer-requires c κs = search needs
@@ -61,11 +62,12 @@ first-layer-requires c κs =
     let g = k .pre .1 .ground in
     let s = start-pair (k .args .talls) (k .args .i) (k .args .count) (k .args .s) (k .pre .5) (c .before .before .before .before .before .if1 .left) (k .pre .4) in
     let p = start-place (k .args .i) (c .before .before .before .before .word .result) (k .pre .1) (c .before .before .before .before .before .if1 .left) (k .pre .4) (c .before .before .before .before .word .ensures) in
+    let w = width-room (k .args .poses) (g .few) in
     let r = k .pre .3 in (
       k .pre .0,
-      record { ground = g; low = k .pre .2; narrow = omega (arith, g .few); early = omega (arith, c .before .before .before .placed-with .ensures, g .coded .reorder); room = omega (arith, r .over, r .room) },
+      record { ground = g; low = k .pre .2; narrow = omega (arith, c .before .before .width-of .ensures, w .1); early = omega (arith, c .before .before .before .placed-with .ensures, g .coded .reorder); room = omega (arith, r .over, r .room) },
       p,
-      omega (arith, g .few),
+      omega (arith, c .before .before .width-of .ensures, w .1),
       s,
     )
 
@@ -91,7 +93,7 @@ stage-end-requires-2 c κs =
     let r = k .pre .3 in (
       c .before .before .before .before .before .before .before .first-layer .ensures .1,
       k .pre .1,
-      record { ground = g; low = f .low; narrow = c .before .before .before .before .before .before .before .before .before .before .width-of .ensures .1; early = omega (arith, c .before .before .before .before .before .before .before .before .before .before .before .placed-with .ensures, g .coded .reorder); room = omega (arith, r .over, r .room, f .frame .long) },
+      record { ground = g; low = f .low; narrow = omega (arith, c .before .before .before .before .before .before .before .before .before .before .width-of .ensures, width-room (k .args .poses) (g .few) .1); early = omega (arith, c .before .before .before .before .before .before .before .before .before .before .before .placed-with .ensures, g .coded .reorder); room = omega (arith, r .over, r .room, f .frame .long) },
       record { over = r .over; room = omega (arith, r .room, f .frame .long) },
       b .low,
       b .frame .long,
@@ -106,7 +108,7 @@ returns-2 c =
     let k = c .before .before .before .before .before .before .before .before .before .before .before .before .before .before .before .before .before .before .before .before .before in
     let a = k .args in (
       row-after (deckOf (a .line .now) (a .n) (a .poses)) (a .r) (a .talls) (posIn (a .places .now)) (a .i) (a .i - 1) (a .count) (a .s)
-          (c .before .before .before .before .before .before .before .before .before .before .before .before .before .before .before .word .result) (c .before .before .before .before .before .before .before .before .before .before .before .before .before .before .placed-with .result) (c .before .before .before .before .before .before .backs .last .0) (omega (arith, c .before .before .before .before .before .before .before .before .before .before .before .before .before .before .before .before .if1 .left)) (k .pre .4) (c .before .before .before .before .before .before .before .before .before .before .before .before .before .width-of .ensures .0) (k .pre .1 .ground .all)
+          (c .before .before .before .before .before .before .before .before .before .before .before .before .before .before .before .word .result) (c .before .before .before .before .before .before .before .before .before .before .before .before .before .before .placed-with .result) (c .before .before .before .before .before .before .backs .last .0) (omega (arith, c .before .before .before .before .before .before .before .before .before .before .before .before .before .before .before .before .if1 .left)) (k .pre .4) (omega (arith, c .before .before .before .before .before .before .before .before .before .before .before .before .before .width-of .ensures, width-room (a .poses) (k .pre .1 .ground .few) .0)) (k .pre .1 .ground .all)
           (c .before .before .before .before .before .before .before .before .before .before .before .before .before .before .before .word .ensures) (c .before .before .before .before .before .before .before .before .before .before .before .before .before .before .placed-with .ensures)
           (λ l h. let z : 0 + l ≡ l = omega arith in rw z at (c .before .before .before .before .before .before .backs .ensures .words l h))
           (c .before .before .before .before .before .before .before .before .before .before .first-layer .ensures .0) (c .before .before .stage-end2 .ensures .0),
