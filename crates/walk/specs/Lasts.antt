@@ -10,7 +10,7 @@ use Rattle.rows.specs.Lists.{from}
 use Rattle.pair.specs.Coded.{lowest}
 use Rattle.model.specs.Lowest.{loop-member, loop-above}
 use Rattle.model.specs.Steps.{B, Deck, Layer, pairCount, lastAt, isThere, ends}
-use Rattle.layer.specs.Laws.{lowest-ext}
+use Rattle.planes.specs.Loops.{lowest-ext}
 use Rattle.walk.specs.Walks.{LeastOf, lastPays, lastOf, lastCode, LastFound}
 
 module _ (D : Deck) (R : ℕ) (f : Layer) where
