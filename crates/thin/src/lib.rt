@@ -325,7 +325,7 @@ fn target_there(
 }
 
 // The words of pair q: all NONE if the row has no such cell.
-fn target(
+fn put_pair(
     store: &mut [u32],
     line: &[u32],
     pairs: &[u32],
@@ -364,7 +364,7 @@ pub fn step(
 {
     let mut q: usize = 0;
     while q < count {
-        target(store, line, pairs, n, poses, r, count, i, from, q);
+        put_pair(store, line, pairs, n, poses, r, count, i, from, q);
         q += 1;
     }
 }
