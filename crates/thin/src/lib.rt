@@ -121,7 +121,28 @@ fn found(near: &[u32; 76], apart: &[u32; 76], far: &[u32; 19], e: usize, v: usiz
     lanes::lesser(lanes::lesser(near[(e + 4) * 4 + v], between), far[e])
 }
 
-// The four poses at site e of the cell at position k: what they find, with the cell's own cost, capped. A pose that is not offered comes out NONE.
+// What the four poses at site e of the cell at position k find, with the cell's own cost, capped. A pose that is not offered comes out NONE.
+fn found_four(
+    words: &mut [u32; 4],
+    line: &[u32],
+    near: &[u32; 76],
+    apart: &[u32; 76],
+    far: &[u32; 19],
+    k: usize,
+    e: usize,
+)
+    requires { ⌜ Lent (now near) (now apart) (now far) × LineWords (now line) × Low (now words) × (length (now words) ≡ 4) × (k < 64) × (e < 15) ⌝ }
+    ensures { λ _. ⌜ Written (foundFour (now (line .entry)) (now (near .entry)) (now (apart .entry)) (now (far .entry)) k e) 0 4 (now (words .entry)) (now (words .exit)) ⌝ }
+{
+    let mut v: usize = 0;
+    while v < 4 {
+        let x = line[k * 128 + (e * 4 + v)] + found(near, apart, far, e, v);
+        words[v] = lanes::lesser(x, lanes::NONE);
+        v += 1;
+    }
+}
+
+// They are written once all four are found, so that nothing written can be read again.
 fn put_four(
     store: &mut [u32],
     line: &[u32],
@@ -135,10 +156,11 @@ fn put_four(
     requires { ⌜ Lent (now near) (now apart) (now far) × LineWords (now line) × Low (now store) × (to + 64 ≤ length (now store)) × (k < 64) × (e < 15) ⌝ }
     ensures { λ _. ⌜ Written (foundFour (now (line .entry)) (now (near .entry)) (now (apart .entry)) (now (far .entry)) k e) (to + e * 4) 4 (now (store .entry)) (now (store .exit)) ⌝ }
 {
+    let mut words = [0u32; 4];
+    found_four(&mut words, line, near, apart, far, k, e);
     let mut v: usize = 0;
     while v < 4 {
-        let x = line[k * 128 + (e * 4 + v)] + found(near, apart, far, e, v);
-        store[to + e * 4 + v] = lanes::lesser(x, lanes::NONE);
+        store[to + e * 4 + v] = words[v];
         v += 1;
     }
 }
@@ -303,7 +325,7 @@ fn target_there(
 }
 
 // The words of pair q: all NONE if the row has no such cell.
-fn target(
+fn put_pair(
     store: &mut [u32],
     line: &[u32],
     pairs: &[u32],
@@ -342,7 +364,7 @@ pub fn step(
 {
     let mut q: usize = 0;
     while q < count {
-        target(store, line, pairs, n, poses, r, count, i, from, q);
+        put_pair(store, line, pairs, n, poses, r, count, i, from, q);
         q += 1;
     }
 }

@@ -1,64 +1,41 @@
--- Each turn writes one pose more. Assumes nothing.
-use Prim.Native.Nat.{ℕ, _+_, _*_, _-_, _≤_, _<_, min}
-use mathlib.Core.Path.{_≡_, ap, _∙_}
+-- Each turn writes one pose more of the four that were found. Assumes nothing.
+use Prim.Native.Nat.{ℕ, _+_, _*_, _-_, _≤_}
+use mathlib.Core.Path.{_≡_, refl, sym, ap, _∙_}
 use native.Mathlib.Omega.{arith}
-use lib.ListN.{length}
-use Rattle.model.specs.Steps.{B}
+use lib.ListN.{getD}
 use Rattle.lanes.specs.Store.{Written}
-use Rattle.lanes.specs.Laws.{written-none, written-more}
-use Rattle.deck.specs.Words.{wordOf}
+use Rattle.lanes.specs.Laws.{written-none, written-more, same-low}
 use Rattle.thin.specs.Thin.{foundFour}
-use Rattle.thin.specs.Laws.{pose-by}
 use borrow.Author.Needs.{needs}
 use Rattle.thin.proofs.put_four.Statement.{statement}
 use Rattle.thin.proofs.put_four.Tie as tie
 
+zero-add : (v : ℕ) → 0 + v ≡ v
+zero-add v = omega arith
+
 abbrev Inv-loop : tie.InvT-loop
-Inv-loop store₀ line near apart far to k e v₀ store v = (v ≤ 4) × Written (foundFour line near apart far k e) (to + e * 4) v store₀ store
+Inv-loop store₀ line near apart far to k e words v₀ store v =
+    (v ≤ 4) × Written (foundFour line near apart far k e) (to + e * 4) v store₀ store
 
 abbrev μ-loop : tie.MeasureT-loop
-μ-loop store₀ line near apart far to k e v₀ store v = 4 - v
+μ-loop store₀ line near apart far to k e words v₀ store v = 4 - v
+
+found-four-requires : tie.Need-found-four-requires Inv-loop μ-loop
+found-four-requires c κs =
+    let p = c .before .before .before .pre in
+    (p .0, p .1, same-low 4 0 (omega arith), refl, p .4, p .5)
 
 loop-holds : tie.Need-loop-holds Inv-loop μ-loop
-loop-holds c = (omega arith, written-none _ _ (c .before .before .pre .2))
-
-mul-x : tie.Need-mul-x Inv-loop μ-loop
-mul-x c = search needs
-
-mul-x-2 : tie.Need-mul-x-2 Inv-loop μ-loop
-mul-x-2 c = search needs
-
-add-x : tie.Need-add-x Inv-loop μ-loop
-add-x c = search needs
-
-add-x-2 : tie.Need-add-x-2 Inv-loop μ-loop
-add-x-2 c = search needs
-
-mul-x-3 : tie.Need-mul-x-3 Inv-loop μ-loop
-mul-x-3 c = search needs
-
-shared-slice-read-x : tie.Need-shared-slice-read-x Inv-loop μ-loop
-shared-slice-read-x c = search needs
-
-found-requires : tie.Need-found-requires Inv-loop μ-loop
-found-requires c κs = search needs
-
-add-x-3 : tie.Need-add-x-3 Inv-loop μ-loop
-add-x-3 c =
-    let k = c .before .before .before .before .before .before in
-    let a = k .args in
-    let l = c .before .before .before .loop in
-    omega (arith, c .found .ensures, k .pre .0 .farLow .word (a .e), k .pre .1 .word (a .k * 128 + (a .e * 4 + l .v)))
-
-lesser-requires : tie.Need-lesser-requires Inv-loop μ-loop
-lesser-requires c κs =
-    let k = c .before .before .before .before .before .before in
-    let a = k .args in
-    let l = c .before .before .before .loop in
-    (omega (arith, c .found .ensures, k .pre .0 .farLow .word (a .e), k .pre .1 .word (a .k * 128 + (a .e * 4 + l .v))), omega arith)
+loop-holds c = (omega arith, written-none _ _ (c .before .before .before .before .pre .2))
 
 mul-store : tie.Need-mul-store Inv-loop μ-loop
 mul-store c = search needs
+
+array-read-store : tie.Need-array-read-store Inv-loop μ-loop
+array-read-store c = search needs
+
+mul-store-2 : tie.Need-mul-store-2 Inv-loop μ-loop
+mul-store-2 c = search needs
 
 add-store : tie.Need-add-store Inv-loop μ-loop
 add-store c = search needs
@@ -66,8 +43,8 @@ add-store c = search needs
 add-store-2 : tie.Need-add-store-2 Inv-loop μ-loop
 add-store-2 c = search needs
 
-mul-store-2 : tie.Need-mul-store-2 Inv-loop μ-loop
-mul-store-2 c = search needs
+mul-store-3 : tie.Need-mul-store-3 Inv-loop μ-loop
+mul-store-3 c = search needs
 
 slice-write-store : tie.Need-slice-write-store Inv-loop μ-loop
 slice-write-store c = search needs
@@ -80,19 +57,14 @@ loop-less c = search needs
 
 loop-again : tie.Need-loop-again Inv-loop μ-loop
 loop-again c =
-    let k = c .before .before .before .before .before .before .before in
-    let a = k .args in
-    let l = c .before .before .before .before .loop in
-    let next : l .v + 1 ≤ 4 = omega arith in
-    let room : a .to + a .e * 4 + l .v < length (a .store .now) = omega arith in
-    let low : c .lesser .result ≤ B = omega (arith, c .lesser .ensures) in
-    let own : ℕ = wordOf (a .line .now) (a .k) (a .e * 4 + l .v) in
-    let f = pose-by (a .near .now) (a .apart .now) (a .far .now) (a .e) (l .v) (omega arith) in
-    let z = c .lesser .ensures ∙ ap (λ (x : ℕ). min (own + x) B) (c .before .found .ensures ∙ f) in
-    (next, written-more (l .v) (c .lesser .result) (l .inv .1) room z low)
+    let l = c .before .loop in
+    let w = c .before .before .found-four .ensures in
+    let x = c .before .before .found-four .last .0 in
+    let e = ap (λ (i : ℕ). getD x i 0) (sym (zero-add (l .v))) ∙ w .words (l .v) (omega arith) in
+    (omega arith, written-more (l .v) (getD x (l .v) 0) (l .inv .1) (omega arith) e (w .low .word (l .v)))
 
 same-length : tie.Need-same-length Inv-loop μ-loop
-same-length c = search needs
+same-length c = c .before .loop .inv .1 .frame .long
 
 returns : tie.Need-returns Inv-loop μ-loop
 returns c =
@@ -105,20 +77,14 @@ put-four-spec =
     (tie.spec
     Inv-loop
     μ-loop
+    found-four-requires
     loop-holds
-    mul-x
-    mul-x-2
-    add-x
-    add-x-2
-    mul-x-3
-    shared-slice-read-x
-    found-requires
-    add-x-3
-    lesser-requires
     mul-store
+    array-read-store
+    mul-store-2
     add-store
     add-store-2
-    mul-store-2
+    mul-store-3
     slice-write-store
     add-v
     loop-less

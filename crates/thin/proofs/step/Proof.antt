@@ -22,8 +22,8 @@ loop-holds c =
     let a = k .args in
     (omega arith, stepped-none (deckOf (a .line .now) (a .n) (a .poses)) (a .r) (a .i) (a .from) (k .pre .1))
 
-target-requires : tie.Need-target-requires Inv-loop μ-loop
-target-requires c κs =
+put-pair-requires : tie.Need-put-pair-requires Inv-loop μ-loop
+put-pair-requires c κs =
     let k = c .before .before .before .before .before .before in
     let s = c .before .before .loop .inv .1 in
     (record { ground = k .pre .0; low = s .low; early = k .pre .2; room = omega (arith, s .frame .long) }, omega arith)
@@ -38,7 +38,7 @@ loop-again : tie.Need-loop-again Inv-loop μ-loop
 loop-again c =
     let g = c .before .before .before .before .before .before .before .before .before .pre .0 in
     let l = c .before .before .before .before .before .loop in
-    (omega arith, stepped-more (l .q) (l .inv .1) (c .before .before .target .ensures) (omega (arith, g .all, g .coded .few)) (g .coded .few) (g .few))
+    (omega arith, stepped-more (l .q) (l .inv .1) (c .before .before .put-pair .ensures) (omega (arith, g .all, g .coded .few)) (g .coded .few) (g .few))
 
 same-length : tie.Need-same-length Inv-loop μ-loop
 same-length c = c .before .loop .inv .1 .frame .long
@@ -55,7 +55,7 @@ step-spec =
     Inv-loop
     μ-loop
     loop-holds
-    target-requires
+    put-pair-requires
     add-q
     loop-less
     loop-again
