@@ -30,6 +30,10 @@ unfolding startCells
 start-some R pos zero s = omega arith
 start-some R pos (suc I) s = omega arith
 
+pub start-count : (R : ℕ) (pos : ℕ → ℕ) (I J s : ℕ) → I ≡ suc J → startCells R pos I s ≡ suc (placedWith R (pos J) s)
+unfolding startCells
+start-count R pos I j s e = ap (λ (k : ℕ). startCells R pos k s) e
+
 module _ (D : Deck) (R : ℕ) (pos : ℕ → ℕ) where
   pub started-open : {count I s l to : ℕ} {old new : List ℕ} → I ≡ 0 → count ≡ pairCount R → to ≡ keptAt 1
       → Begun (firstOpen D R) (D .poses) count to old new → Started D R pos I s l 1 old new

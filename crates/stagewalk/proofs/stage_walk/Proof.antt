@@ -4,7 +4,7 @@ use native.Mathlib.Omega.{arith}
 use borrow.Author.Needs.{needs}
 use Rattle.model.specs.Stages.{placedWith}
 use Rattle.stage.specs.Stage.{posIn}
-use Rattle.stagewalk.specs.Laws.{tall-order, tall-stretch, tall-walk, tall-done, last-stretch, last-walk, last-done}
+use Rattle.stagewalk.specs.Laws.{start-fits, tall-order, tall-stretch, tall-walk, tall-done, last-stretch, last-walk, last-done}
 use Rattle.stagewalk.proofs.stage_walk.Statement.{statement}
 use Rattle.stagewalk.proofs.stage_walk.Tie as tie
 
@@ -17,7 +17,9 @@ unfolding posIn
 placed c = omega (arith, c .placed-with .ensures, c .before .word .ensures)
 
 first-of-requires : tie.Need-first-of-requires
-first-of-requires c κs = search needs
+first-of-requires c κs =
+    let g = c .before .before .before .before .before .before .pre in
+    (g .start, start-fits g)
 
 word-requires : tie.Need-word-requires
 word-requires c κs = search needs
