@@ -16,9 +16,10 @@ use Rattle.lanes.specs.Laws.{frame-join}
 use Rattle.deck.specs.Words.{thereIn}
 use Rattle.deck.specs.Laws.{there-size}
 use Rattle.layer.specs.Loops.{nextFrom}
-use Rattle.layer.specs.Laws.{lowest-none, lowest-more, lowest-ext}
+use Rattle.planes.specs.Loops.{lowest-none, lowest-more, lowest-ext}
 use Rattle.stretch.specs.Runs.{Running}
-use Rattle.stretch.specs.Laws.{layers-ext, buffer-low, run-more, outside-prices}
+use Rattle.planes.specs.Next.{layers-ext, ends-ext}
+use Rattle.stretch.specs.Laws.{buffer-low, run-more, outside-prices}
 use Rattle.finish.specs.Ends.{endsWith, leastPoses, leastPair, leastPairs, Ran, Ended}
 
 -- ---- the loops
@@ -84,15 +85,6 @@ module _ (D : Deck) (R : ℕ) (f : Layer) (i e : ℕ) where
   price-past h = rw (lt-leb i (D .size) (omega arith), ne-eqb i (suc (D .size)) (λ z. omega arith))
 
 -- ---- only the entries of the layer count
-
-module _ (D : Deck) (R : ℕ) (f g : Layer) (alike : (q b : ℕ) → q < pairCount R → b < D .poses → f q b ≡ g q b) where
-  pub ends-ext : ends D R f ≡ ends D R g
-  unfolding ends
-  ends-ext =
-      lowest-ext _ _ 0 (pairCount R)
-      (λ q h.
-      ap (λ (x : ℕ). cond (isThere D R (D .size) q && not (D .tall (lastAt R (D .size) q))) x B)
-      (lowest-ext _ _ 0 (D .poses) (λ b k. ap (λ (x : ℕ). x + D .back (lastAt R (D .size) q) b) (alike q b (omega arith) (omega arith)))))
 
 pub priceEnd-ext :
     (D : Deck) (R : ℕ) (f g : Layer) → ((q b : ℕ) → q < pairCount R → b < D .poses → f q b ≡ g q b)

@@ -8,18 +8,11 @@ use lib.ListN.{getD}
 use Rattle.model.specs.Steps.{Deck, Layer, pairCount, layers, nextLayer}
 use Rattle.lanes.specs.Laws.{frame-refl, frame-join}
 use Rattle.lanes.specs.Store.{Low}
-use Rattle.planes.specs.Next.{next-ext}
+use Rattle.planes.specs.Next.{next-ext, layers-ext}
 use Rattle.thin.specs.Thin.{Stepped}
 use Rattle.kept.specs.Kept.{keptAt, keptIn, KeptLayers, StretchKept}
 
 -- ---- layers from the same first layer
-
-pub layers-ext :
-    (D : Deck) (R : ℕ) (f g : Layer) → ((q b : ℕ) → q < pairCount R → b < D .poses → f q b ≡ g q b)
-    → (i j q a : ℕ) → q < pairCount R → a < D .poses → layers D R f i j q a ≡ layers D R g i j q a
-unfolding layers
-layers-ext D R f g same i zero q a h k = same q a h k
-layers-ext D R f g same i (suc j) q a h k = next-ext D R (layers D R f i j) (layers D R g i j) (λ r b x y. layers-ext D R f g same i j r b x y) (i + j) q a
 
 pub kept-ext :
     {D : Deck} {R : ℕ} (f g : Layer) {i end : ℕ} {st : List ℕ}

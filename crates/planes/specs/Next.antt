@@ -1,10 +1,10 @@
 -- The next layer by the planes of its sources, and that it depends only on the entries of the layer before. Assumes nothing.
-use Prim.Native.Nat.{ℕ, suc, _+_, _<_, min}
+use Prim.Native.Nat.{ℕ, zero, suc, _+_, _<_, min}
 use mathlib.Core.Path.{_≡_, refl, sym, ap, ap₂, _∙_}
-use mathlib.Core.Bool.{true, false, cond}
+use mathlib.Core.Bool.{true, false, not, _&&_, cond}
 use mathlib.Core.List.{List}
 use native.Mathlib.Omega.{arith}
-use Rattle.model.specs.Steps.{B, Deck, Layer, pairCount, lastAt, isThere, isSource, via, reached, nextLayer}
+use Rattle.model.specs.Steps.{B, Deck, Layer, pairCount, lastAt, isThere, isSource, via, reached, nextLayer, layers, ends}
 use Rattle.deck.specs.Words.{wordOf, deckOf, thereIn}
 use Rattle.planes.specs.Loops.{lowest-ext}
 use Rattle.planes.specs.Rows.{found, byPairs}
@@ -39,7 +39,7 @@ module _ (line : List ℕ) (n poses R : ℕ) (f : Layer) (i q a : ℕ) (there : 
   next-alone {count} e h =
       next-none e (found-away (byPairs line (deckOf line n poses) R f i q count) a (λ v t. pairs-away line (deckOf line n poses) R f i q count v t h))
 
--- ---- only the entries of the layer before count
+-- ---- only the entries of the first layer count, in the next one, in all that follow, and where the row ends
 
 module _ (D : Deck) (R : ℕ) (f g : Layer) (same : (q b : ℕ) → q < pairCount R → b < D .poses → f q b ≡ g q b) where
   via-ext : (i q k a : ℕ) → q < pairCount R → via D R f i q k a ≡ via D R g i q k a
@@ -54,3 +54,17 @@ module _ (D : Deck) (R : ℕ) (f g : Layer) (same : (q b : ℕ) → q < pairCoun
   pub next-ext : (i q a : ℕ) → nextLayer D R f i q a ≡ nextLayer D R g i q a
   unfolding nextLayer
   next-ext i q a = ap (λ (x : ℕ). cond (isThere D R (suc i) q) (min (D .own (lastAt R (suc i) q) a + x) B) B) (reached-ext i q a)
+
+module _ (D : Deck) (R : ℕ) (f g : Layer) (same : (q b : ℕ) → q < pairCount R → b < D .poses → f q b ≡ g q b) where
+  pub layers-ext : (i d q a : ℕ) → q < pairCount R → a < D .poses → layers D R f i d q a ≡ layers D R g i d q a
+  unfolding layers
+  layers-ext i zero q a x y = same q a x y
+  layers-ext i (suc d) q a x y = next-ext D R (layers D R f i d) (layers D R g i d) (λ p b v w. layers-ext i d p b v w) (i + d) q a
+
+  pub ends-ext : ends D R f ≡ ends D R g
+  unfolding ends
+  ends-ext =
+      lowest-ext _ _ 0 (pairCount R)
+      (λ q h.
+      ap (λ (x : ℕ). cond (isThere D R (D .size) q && not (D .tall (lastAt R (D .size) q))) x B)
+      (lowest-ext _ _ 0 (D .poses) (λ b k. ap (λ (x : ℕ). x + D .back (lastAt R (D .size) q) b) (same q b (omega arith) (omega arith)))))

@@ -14,7 +14,7 @@ use Rattle.model.specs.Steps.{B, Deck, Layer, pairCount, offset, layers, priceT
 use Rattle.lanes.specs.Store.{Frame, layerIn, Filled}
 use Rattle.deck.specs.Words.{deckOf}
 use Rattle.layer.specs.Loops.{nextFrom, Given, Beside}
-use Rattle.layer.specs.Laws.{next-ext}
+use Rattle.planes.specs.Next.{next-ext, layers-ext}
 use Rattle.stretch.specs.Runs.{Buffer, Running, Small, Outside, PriceRoom, lateIn, delivered, lastIn, PricedBy, PricedRun, Priced}
 
 -- ---- the two blocks by turns
@@ -186,14 +186,9 @@ priced-start D R lanes i p prices count {old} {mid} {new} s c h late g =
 -- ---- only the entries of the first layer count
 
 module _ (D : Deck) (R : ℕ) (f g : Layer) (same : (q b : ℕ) → q < pairCount R → b < D .poses → f q b ≡ g q b) where
-  pub layers-ext : (i d q a : ℕ) → q < pairCount R → a < D .poses → layers D R f i d q a ≡ layers D R g i d q a
-  unfolding layers
-  layers-ext i zero q a x y = same q a x y
-  layers-ext i (suc d) q a x y = next-ext D R (layers D R f i d) (layers D R g i d) (λ p b v w. layers-ext i d p b v w) (i + d) q a
-
   pub priceTo-ext : (i p q a : ℕ) → q < pairCount R → a < D .poses → priceTo D R f i p q a ≡ priceTo D R g i p q a
   unfolding priceTo
-  priceTo-ext i p q a x y = ap (λ (z : ℕ). cond (leb (i + offset R q) (p + suc R)) z B) (layers-ext i (p + suc R - offset R q - i) q a x y)
+  priceTo-ext i p q a x y = ap (λ (z : ℕ). cond (leb (i + offset R q) (p + suc R)) z B) (layers-ext D R f g same i (p + suc R - offset R q - i) q a x y)
 
 -- what came before a stretch left its first layer as it was
 pub priced-from :

@@ -95,14 +95,6 @@ module _ (D : Deck) (R : ℕ) (f : Layer) where
           let d : (q * 64 + b) % 64 ≡ b = omega arith in
           rw (c, d) at (w .low (q * 64 + b) (omega arith))
 
--- the end depends on the entries alone
-pub ends-ext : (D : Deck) (R : ℕ) (f g : Layer) → ((q b : ℕ) → q < pairCount R → b < D .poses → f q b ≡ g q b) → ends D R f ≡ ends D R g
-unfolding ends
-ends-ext D R f g same =
-    lowest-ext _ _ 0 (pairCount R) λ q x.
-    ap (λ (y : ℕ). cond (isThere D R (D .size) q && not (D .tall (lastAt R (D .size) q))) y B)
-    (lowest-ext _ _ 0 (D .poses) (λ b h. ap (λ (x : ℕ). x + D .back (lastAt R (D .size) q) b) (same q b (omega arith) (omega arith))))
-
 -- one code more
 pub least-none : (h : ℕ → ℕ) (code : ℕ) → LeastOf h 0 B code
 least-none h code = record { capped = omega arith; low = λ k x. absurd (omega arith); met = λ x. absurd (omega arith) }

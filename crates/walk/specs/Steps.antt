@@ -14,12 +14,11 @@ use Rattle.model.specs.Back.{Source, Walked, Last}
 use Rattle.model.specs.Notes.{NotedBy}
 use Rattle.lanes.specs.Laws.{frame-refl, frame-set, frame-join}
 use Rattle.lanes.specs.Store.{Frame}
-use Rattle.planes.specs.Next.{next-ext}
+use Rattle.planes.specs.Next.{next-ext, ends-ext}
 use Rattle.kept.specs.Kept.{keptIn, KeptLayers}
 use Rattle.kept.specs.Laws.{kept-fewer}
 use Rattle.deck.specs.Words.{deckOf}
 use Rattle.walk.specs.Walks.{EntrySource, Entry, Walk, End, wordAt, WalkDone, EndDone, LastFound}
-use Rattle.walk.specs.Lasts.{ends-ext}
 
 -- ---- kept layers
 
