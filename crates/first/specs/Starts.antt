@@ -11,7 +11,7 @@ use lib.Dec.{eqb}
 use Rattle.model.specs.Steps.{B}
 use Rattle.lanes.specs.Store.{Low}
 use Rattle.deck.specs.Words.{wordOf, LineWords}
-use Rattle.planes.specs.Rows.{inRow, planesIn, found, endRow, payIn, onePose}
+use Rattle.planes.specs.Rows.{inRow, planesIn, endRow, payIn, onePose}
 use Rattle.planes.specs.Laws.{row-miss, pay-small, found-one}
 use Rattle.planes.specs.Sources.{pose-twin, planes-last}
 use Rattle.near.specs.Table.{wordAt, Spread, Gathered, Ready, foundRow}
@@ -38,7 +38,9 @@ pub record StartedTo (plane : ℕ → ℕ → ℕ → ℕ) (rows planes n : ℕ)
 -- ---- one lane
 
 -- a start that ends right of all rows that count
-pub started-out : (line : List ℕ) {table : List ℕ} (p k b : ℕ) {rows planes lane : ℕ} → Low table → rows ≤ endRow line p b k → Started (onePose line p k b 0) rows planes lane table table
+pub started-out :
+    (line : List ℕ) {table : List ℕ} (p k b : ℕ) {rows planes lane : ℕ}
+    → Low table → rows ≤ endRow line p b k → Started (onePose line p k b 0) rows planes lane table table
 started-out line {table} p k b {lane = lane} w h =
     record {
       long = refl;
@@ -88,7 +90,9 @@ starts-more {plane} {rows} {planes} {old} {mid} {new} n h s w =
     go l v t i j k g (yes e) = rw e (omega (arith, w .done v t j k g, s .rest n v t (omega arith) h k))
     go l v t i j k g (no d) = w .other l v t (omega arith) d k ∙ s .done l v t (omega arith) j k g
 
-pub starts-all : {plane : ℕ → ℕ → ℕ → ℕ} {rows planes lanes : ℕ} {old new : List ℕ} → StartedTo plane rows planes lanes old new → Gathered plane rows planes lanes old new
+pub starts-all :
+    {plane : ℕ → ℕ → ℕ → ℕ} {rows planes lanes : ℕ} {old new : List ℕ}
+    → StartedTo plane rows planes lanes old new → Gathered plane rows planes lanes old new
 starts-all s = record { long = s .long; low = s .low; done = s .done }
 
 -- ---- what is found

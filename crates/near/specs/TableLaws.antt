@@ -7,12 +7,12 @@ use mathlib.Core.List.{List}
 use native.Mathlib.Omega.{arith}
 use native.Mathlib.Decide.{ℕ-discrete, decLt}
 use borrow.Author.Count.{below-more}
-use lib.ListN.{length, getD, set, length-set, replicate, length-replicate}
+use lib.ListN.{length, getD, set, replicate, length-replicate}
 use lib.Seq.{getD-set-same, getD-set-other}
 use lib.Dec.{eqb}
 use Rattle.model.specs.Steps.{B}
 use Rattle.rows.specs.Lists.{from}
-use Rattle.pair.specs.Coded.{lowest, lowest-low, lowest-from}
+use Rattle.pair.specs.Coded.{lowest, lowest-from}
 use Rattle.lanes.specs.Lanes.{wordsFrom, alwaysRows}
 use Rattle.lanes.specs.Store.{Frame, Low, WrittenRows}
 use Rattle.lanes.specs.Laws.{frame-refl, frame-set, same-low}
@@ -123,7 +123,10 @@ spread-more {f} {t} {least} {first} {lanes} {old} {mid} {new} v n h c b s w =
       low = lowered-at-low w (s .low);
       done = λ l u r i p j k g. go l u r i p j k g (ℕ-discrete u v) (ℕ-discrete r t);
       rest = λ l u r i j k.
-          ⊎-elim (λ p. away (first + l) u r (λ e. omega arith) ∙ s .rest l u r i (inl p) k) (λ p. away (first + l) u r (λ e. omega arith) ∙ s .rest l u r i (inr (omega arith)) k) j;
+          ⊎-elim
+          (λ p. away (first + l) u r (λ e. omega arith) ∙ s .rest l u r i (inl p) k)
+          (λ p. away (first + l) u r (λ e. omega arith) ∙ s .rest l u r i (inr (omega arith)) k)
+          j;
       other = λ l u r i j k. away l u r (⊎-elim (λ p e. omega arith) (λ p e. omega arith) j) ∙ s .other l u r i j k;
     }
   where

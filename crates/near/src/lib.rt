@@ -3,15 +3,15 @@
 // to 4 with what they pay at gap 0 to each variant of the target, planes 5 to 8 with what they pay at gaps 2 and 3. A target whose weights are all equal
 // needs 5 planes: planes 1 to 4 serve for gaps 2 and 3 too. Only the rows that some pose looks at count.
 ghost use mathlib.Core.Path.{_≡_};
-ghost use mathlib.Core.Bool.{Bool, false};
-ghost use Prim.Native.Nat.{ℕ, suc, _+_, _*_, _-_, _≤_, _<_};
+ghost use mathlib.Core.Bool.{false};
+ghost use Prim.Native.Nat.{suc, _+_, _*_, _-_, _≤_, _<_};
 ghost use lib.ListN.{length};
 ghost use Rattle.model.specs.Steps.{B};
-ghost use Rattle.lanes.specs.Lanes.{charged, always, wordsFrom};
+ghost use Rattle.lanes.specs.Lanes.{always, wordsFrom};
 ghost use Rattle.lanes.specs.Store.{Low, Written, FilledPair};
-ghost use Rattle.deck.specs.Words.{LineWords};
 ghost use Rattle.planes.specs.Rows.{rowsOf, Pays, PaysLow};
-ghost use Rattle.near.specs.Table.{LoweredAt, Cleared, Gathered, FiveOrNine, chargedBy, chargedOne, Spread, Source, poseIn, posesIn, RunUp, foundRow, foundIn, foundRowOf, foundRows, ToRows};
+ghost use Rattle.near.specs.Table.{LoweredAt, Cleared, Gathered, FiveOrNine, chargedBy, chargedOne, Spread, Source, poseIn, posesIn};
+ghost use Rattle.near.specs.Table.{RunUp, foundIn, foundRow, foundRowOf, foundRows, ToRows};
 
 // ---- the rows that count
 

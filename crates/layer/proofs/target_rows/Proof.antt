@@ -61,14 +61,18 @@ last c l v t h =
 -- the table once plane 0 ran up
 abbrev Table : tie.After-run-up → Type 0
 Table c =
-    let a = c .before .before .before .before .before .before .before .before .before .before .before .before .before .before .before .args in
-    Ready (pairsIn (a .store .now) (a .line .now) (deckOf (a .line .now) (a .n) (a .poses)) (a .r) (a .from) (a .i) (a .q) (a .count)) (a .poses) (c .before .before .before .before .before .before .before .before .planes-of .result) (a .lanes) (c .run-up .last .0)
+    let p = c .before .before .before .before .before .before .before .before in
+    let a = p .before .before .before .before .before .before .before .args in
+    let plane = pairsIn (a .store .now) (a .line .now) (deckOf (a .line .now) (a .n) (a .poses)) (a .r) (a .from) (a .i) (a .q) (a .count) in
+    Ready plane (a .poses) (p .planes-of .result) (a .lanes) (c .run-up .last .0)
 
 table : (c : tie.After-run-up) → Table c
 table c =
     let k = c .before .before .before .before .before .before .before .before .before .before .before .before .before .before .before in
     let p = c .before .before .before .before .before .before .before .before in
-    ready (k .pre .1 .ground .few) (five-least (needed p)) (nine-most (needed p)) (planes-low k) (last p) (c .before .before .before .before .before .before .reset .ensures) (c .before .before .before .gather .ensures .0) (c .run-up .ensures)
+    let none = c .before .before .before .before .before .before .reset .ensures in
+    let w = c .before .before .before .gather .ensures in
+    ready (k .pre .1 .ground .few) (five-least (needed p)) (nine-most (needed p)) (planes-low k) (last p) none (w .0) (c .run-up .ensures)
 
 has-source-requires : tie.Need-has-source-requires
 has-source-requires c κs = search needs

@@ -2,7 +2,6 @@
 use mathlib.Core.Path.{_≡_, _∙_}
 use native.Mathlib.Omega.{arith}
 use Rattle.near.specs.SpreadLaws.{five-least, nine-else, pays-fewer, spread-join}
-use borrow.Author.Needs.{needs}
 use Rattle.near.proofs.spread_lane.Statement.{statement}
 use Rattle.near.proofs.spread_lane.Tie as tie
 
