@@ -174,18 +174,6 @@ pub pair-ext :
     → FilledPair F lanes to q m old new
 pair-ext w e = record { frame = w .frame; low = w .low; right = λ a p l r. w .right a p l r ∙ sym (e a l p r) }
 
--- the same word everywhere in a pair's block
-pub pair-always :
-    {F : ℕ → Layer} {x lanes to q m : ℕ} {old new : List ℕ}
-    → lanes ≤ 64 → m ≤ 64 → Written (always x) (to + q * 4096) 4096 old new → ((a l : ℕ) → F l q a ≡ x)
-    → FilledPair F lanes to q m old new
-pair-always {new = new} n k w e =
-    record {
-      frame = w .frame;
-      low = w .low;
-      right = λ a p l r. ap (λ (k : ℕ). getD new k 0) (omega arith) ∙ w .words (a * 64 + l) (omega arith) ∙ sym (e a l);
-    }
-
 -- so many rows of a pair's block
 pub pair-rows :
     {F : ℕ → Layer} {f : ℕ → ℕ → ℕ} {lanes to q m : ℕ} {old new : List ℕ}

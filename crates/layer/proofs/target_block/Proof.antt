@@ -5,7 +5,7 @@ use native.Mathlib.Omega.{arith}
 use native.Mathlib.Numerals.{add-one}
 use borrow.Author.Tests.{not-true, not-false}
 use Rattle.deck.specs.Words.{deckOf, thereIn}
-use Rattle.layer.specs.Laws.{next-away}
+use Rattle.planes.specs.Next.{next-away}
 use Rattle.lanes.specs.Store.{layerIn}
 use Rattle.lanes.specs.Laws.{pair-rows}
 use borrow.Author.Needs.{needs}

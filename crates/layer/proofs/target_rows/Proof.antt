@@ -15,7 +15,7 @@ use Rattle.planes.specs.Sources.{pairs-low, pairs-twin, planes-either, planes-l
 use Rattle.near.specs.Table.{FiveOrNine, pairsIn, Ready}
 use Rattle.near.specs.TableLaws.{ready, unused}
 use Rattle.near.specs.SpreadLaws.{five-least, nine-most}
-use Rattle.layer.specs.Laws.{next-found, next-none, next-alone}
+use Rattle.planes.specs.Next.{next-found, next-none, next-alone}
 use borrow.Author.Needs.{needs}
 use Rattle.layer.proofs.target_rows.Statement.{statement}
 use Rattle.layer.proofs.target_rows.Tie as tie
