@@ -85,27 +85,11 @@ pub fn copy(store: &mut [u32], from: usize, at: usize, count: usize)
     }
 }
 
-// The same word in lane 0 of so many rows of 64 words.
-fn fill_column(store: &mut [u32], at: usize, rows: usize, x: u32)
-    requires { ⌜ (at + rows * 64 ≤ length (now store)) × (x ≤ B) × Low (now store) ⌝ }
-    ensures { λ _. ⌜ WrittenRows (alwaysRows x) at rows 1 (now (store .entry)) (now (store .exit)) ⌝ }
-{
-    let mut a: usize = 0;
-    while a < rows {
-        store[at + a * 64] = x;
-        a += 1;
-    }
-}
-
 // The same word in the first lanes of so many rows of 64 words.
 pub fn fill_rows(store: &mut [u32], at: usize, rows: usize, lanes: usize, x: u32)
     requires { ⌜ (at + rows * 64 ≤ length (now store)) × (lanes ≤ 64) × (x ≤ B) × Low (now store) ⌝ }
     ensures { λ _. ⌜ WrittenRows (alwaysRows x) at rows lanes (now (store .entry)) (now (store .exit)) ⌝ }
 {
-    if lanes == 1 {
-        fill_column(store, at, rows, x);
-        return;
-    }
     let mut a: usize = 0;
     while a < rows {
         fill(store, at + a * 64, lanes, x);

@@ -156,34 +156,6 @@ fn spread_row(
     spread_apart(table, row, at, pays, u, t, lanes);
 }
 
-// Pose b of the cell at position k where there is one lane: whether it lowered anything.
-fn from_pose_one(
-    table: &mut [u32; 10944],
-    store: &[u32],
-    line: &[u32],
-    pays: &[u32; 36],
-    at: usize,
-    k: usize,
-    m: usize,
-    b: usize,
-    rows: usize,
-    planes: usize,
-) -> bool
-    requires { ⌜ Source (now table) (now store) (now line) at k m planes 1 × Pays (now line) k m planes 36 (now pays) × (b < 60) × (rows ≤ 19) ⌝ }
-    ensures { λ used. ⌜ Gathered (poseIn (now (store .entry)) (now (line .entry)) at k m b) rows planes 1 (now (table .entry)) (now (table .exit)) × (used ≡ false → now (table .exit) ≡ now (table .entry)) ⌝ }
-{
-    let x = store[at + b * 64];
-    if x >= lanes::NONE {
-        return false;
-    }
-    let t = planes::end_row(line, k, b, m);
-    if t >= rows {
-        return false;
-    }
-    spread_lane(table, x, pays, b % 4, t, 0, planes);
-    true
-}
-
 // Pose b of the cell at position k: whether it lowered anything.
 fn from_pose(
     table: &mut [u32; 10944],
@@ -201,9 +173,6 @@ fn from_pose(
     requires { ⌜ Source (now table) (now store) (now line) at k m planes lanes × Pays (now line) k m planes 36 (now pays) × (b < 60) × (rows ≤ 19) ⌝ }
     ensures { λ used. ⌜ Gathered (poseIn (now (store .entry)) (now (line .entry)) at k m b) rows planes lanes (now (table .entry)) (now (table .exit)) × (used ≡ false → now (table .exit) ≡ now (table .entry)) ⌝ }
 {
-    if lanes == 1 {
-        return from_pose_one(table, store, line, pays, at, k, m, b, rows, planes);
-    }
     let t = planes::end_row(line, k, b, m);
     if t >= rows {
         return false;
@@ -250,11 +219,6 @@ fn lower_by(table: &mut [u32; 10944], to: usize, from: usize, lanes: usize)
     requires { ⌜ (to + lanes ≤ 10944) × (length (now table) ≡ 10944) × (from + lanes ≤ to) × Low (now table) ⌝ }
     ensures { λ _. ⌜ LoweredAt (wordsFrom (now (table .entry)) from) to lanes (now (table .entry)) (now (table .exit)) ⌝ }
 {
-    if lanes == 1 {
-        let x = table[from];
-        lower_one(table, to, x);
-        return;
-    }
     let mut l: usize = 0;
     while l < lanes {
         table[to + l] = lanes::lesser(table[to + l], table[from + l]);
@@ -307,14 +271,6 @@ fn put_row(
     }
 }
 
-// The same where there is one lane.
-fn put_one(store: &mut [u32], at: usize, table: &[u32; 10944], a: usize, own: u32, planes: usize)
-    requires { ⌜ (at < length (now store)) × (length (now table) ≡ 10944) × (own ≤ B) × Low (now store) × Low (now table) × (a < 60) × (5 ≤ planes) × (planes ≤ 9) ⌝ }
-    ensures { λ _. ⌜ Written (foundRow planes (now (table .entry)) own a) at 1 (now (store .entry)) (now (store .exit)) ⌝ }
-{
-    store[at] = lanes::lesser(own + found_lane(table, a, 0, planes), lanes::NONE);
-}
-
 // The row of pose a of the cell at position k: NONE where the pose is not offered.
 fn put_pose(
     store: &mut [u32],
@@ -332,10 +288,6 @@ fn put_pose(
     let own = line[k * 128 + a];
     if own >= lanes::NONE {
         lanes::fill(store, at, lanes, lanes::NONE);
-        return;
-    }
-    if lanes == 1 {
-        put_one(store, at, table, a, own, planes);
         return;
     }
     put_row(store, at, table, a, own, planes, lanes);

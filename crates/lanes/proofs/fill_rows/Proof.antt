@@ -17,20 +17,9 @@ abbrev μ-loop : tie.MeasureT-loop
 μ-loop store₀ at rows lanes x a₀ store a =
     rows - a
 
-fill-column-requires : tie.Need-fill-column-requires Inv-loop μ-loop
-fill-column-requires c κs = search needs
-
-same-length : tie.Need-same-length Inv-loop μ-loop
-same-length c = search needs
-
-returns : tie.Need-returns Inv-loop μ-loop
-returns c =
-    let e : c .before .before .before .before .before .before .args .lanes ≡ 1 = omega arith in
-    rw e (c .before .before .fill-column .ensures)
-
 loop-holds : tie.Need-loop-holds Inv-loop μ-loop
 loop-holds c =
-    (omega arith, rows-none _ _ _ (c .before .before .pre .3))
+    (omega arith, rows-none _ _ _ (c .before .pre .3))
 
 mul-fill : tie.Need-mul-fill Inv-loop μ-loop
 mul-fill c = search needs
@@ -54,13 +43,13 @@ loop-again c =
     let l = c .before .before .before .before .before .loop in
     (omega arith, rows-more (l .a) (omega arith) (l .inv .1) (c .before .before .fill .ensures) (λ j h. refl))
 
-same-length-2 : tie.Need-same-length-2 Inv-loop μ-loop
-same-length-2 c =
+same-length : tie.Need-same-length Inv-loop μ-loop
+same-length c =
     c .before .loop .inv .1 .frame .long
 
-returns-2 : tie.Need-returns-2 Inv-loop μ-loop
-returns-2 c =
-    let e : c .before .loop .a ≡ c .before .before .before .before .args .rows = omega arith in
+returns : tie.Need-returns Inv-loop μ-loop
+returns c =
+    let e : c .before .loop .a ≡ c .before .before .before .args .rows = omega arith in
     rw e at (c .before .loop .inv .1)
 
 pub fill-rows-spec : {M : Type 1} → statement M
@@ -69,9 +58,6 @@ fill-rows-spec =
     (tie.spec
     Inv-loop
     μ-loop
-    fill-column-requires
-    same-length
-    returns
     loop-holds
     mul-fill
     add-fill
@@ -79,5 +65,5 @@ fill-rows-spec =
     add-a
     loop-less
     loop-again
-    same-length-2
-    returns-2)
+    same-length
+    returns)

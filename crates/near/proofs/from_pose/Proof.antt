@@ -12,20 +12,12 @@ use borrow.Author.Needs.{needs}
 use Rattle.near.proofs.from_pose.Statement.{statement}
 use Rattle.near.proofs.from_pose.Tie as tie
 
-from-pose-one-requires : tie.Need-from-pose-one-requires
-from-pose-one-requires c κs = search needs
-
-returns : tie.Need-returns
-returns c =
-    let e : c .before .before .before .before .before .args .lanes ≡ 1 = omega arith in
-    rw e (c .from-pose-one .ensures)
-
 end-row-requires : tie.Need-end-row-requires
 end-row-requires c κs = search needs
 
-returns-2 : tie.Need-returns-2
-returns-2 c =
-    let k = c .before .before .before .before .before in
+returns : tie.Need-returns
+returns c =
+    let k = c .before .before .before .before in
     let a = k .args in (
       gathered-none _ _ _ (k .pre .0 .tableLow)
           (λ l v s i j h. omega (arith, row-miss (endRow (a .line .now) (a .k) (a .b) (a .m)) s (getD (a .store .now) (a .at + a .b * 64 + l) 0 + payIn (a .line .now) (a .k) (a .b) (a .m) v) (λ e. omega (arith, c .before .end-row .ensures)))),
@@ -41,9 +33,9 @@ add-common c = search needs
 common-requires : tie.Need-common-requires
 common-requires c κs = search needs
 
-returns-3 : tie.Need-returns-3
-returns-3 c =
-    let k = c .before .before .before .before .before .before .before in
+returns-2 : tie.Need-returns-2
+returns-2 c =
+    let k = c .before .before .before .before .before .before in
     let a = k .args in (
       gathered-none _ _ _ (k .pre .0 .tableLow)
           (λ l v s i j h.
@@ -59,13 +51,13 @@ add-spread-row c = search needs
 
 spread-row-requires : tie.Need-spread-row-requires
 spread-row-requires c κs =
-    let k = c .before .before .before .before .before .before .before .before in
+    let k = c .before .before .before .before .before .before .before in
     let g = k .pre .0 in
     (g .tableLow, g .tableLong, g .low, omega (arith, g .room, g .narrow), pays-low (g .words) (k .pre .1), omega arith, omega arith, omega (arith, g .narrow), g .needed)
 
-returns-4 : tie.Need-returns-4
-returns-4 c =
-    let k = c .before .before .before .before .before .before .before .before .before in
+returns-3 : tie.Need-returns-3
+returns-3 c =
+    let k = c .before .before .before .before .before .before .before .before in
     let a = k .args in (
       spread-all (k .pre .3) (c .spread-row .ensures) (λ l v s i j. pose-pays (a .b) v s (getD (a .store .now) (a .at + a .b * 64 + l) 0) (k .pre .1) (c .before .before .before .before .before .end-row .ensures) j (nine-most (k .pre .0 .needed))),
       λ e. absurd (let z : _≡_ {A = ℕ} 0 1 = cc in omega arith),
@@ -75,15 +67,13 @@ pub from-pose-spec : {M : Type 1} → statement M
 from-pose-spec =
     tie.close
     (tie.spec
-    from-pose-one-requires
-    returns
     end-row-requires
-    returns-2
+    returns
     mul-common
     add-common
     common-requires
-    returns-3
+    returns-2
     mul-spread-row
     add-spread-row
     spread-row-requires
-    returns-4)
+    returns-3)

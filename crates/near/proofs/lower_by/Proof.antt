@@ -1,12 +1,11 @@
 -- Each turn lowers one lane more; the lanes that it is lowered to lie below. Assumes nothing.
-use Prim.Native.Nat.{ℕ, _+_, _-_, _≤_}
-use mathlib.Core.Path.{_≡_, ap}
+use Prim.Native.Nat.{_+_, _-_, _≤_}
+use mathlib.Core.Path.{_≡_}
 use native.Mathlib.Omega.{arith}
 use borrow.Author.Needs.{needs}
-use lib.ListN.{getD}
 use Rattle.lanes.specs.Lanes.{wordsFrom}
 use Rattle.near.specs.Table.{LoweredAt}
-use Rattle.near.specs.TableLaws.{lowered-at-none, lowered-at-more, lowered-at-ext}
+use Rattle.near.specs.TableLaws.{lowered-at-none, lowered-at-more}
 use Rattle.near.proofs.lower_by.Statement.{statement}
 use Rattle.near.proofs.lower_by.Tie as tie
 
@@ -16,24 +15,6 @@ Inv-loop table₀ to from lanes l₀ table l =
 
 abbrev μ-loop : tie.MeasureT-loop
 μ-loop table₀ to from lanes l₀ table l = lanes - l
-
-mul-x : tie.Need-mul-x Inv-loop μ-loop
-mul-x c = search needs
-
-element-copy-out-x : tie.Need-element-copy-out-x Inv-loop μ-loop
-element-copy-out-x c = search needs
-
-lower-one-requires : tie.Need-lower-one-requires Inv-loop μ-loop
-lower-one-requires c κs =
-    let k = c .before .before .before in
-    (omega arith, k .pre .1, k .pre .3, omega (arith, k .pre .3 .word (k .args .from)))
-
-returns : tie.Need-returns Inv-loop μ-loop
-returns c =
-    let k = c .before .before .before .before in
-    let a = k .args in
-    let e : a .lanes ≡ 1 = omega arith in
-    rw e (lowered-at-ext (c .lower-one .ensures) (λ l h. ap (λ (i : ℕ). getD (a .table .now) i 0) (omega arith)))
 
 loop-holds : tie.Need-loop-holds Inv-loop μ-loop
 loop-holds c = (omega arith, lowered-at-none _ _ _)
@@ -58,7 +39,7 @@ element-copy-out-lesser-2 c = search needs
 
 lesser-requires : tie.Need-lesser-requires Inv-loop μ-loop
 lesser-requires c κs =
-    let k = c .before .before .before .before .before in
+    let k = c .before .before .before .before in
     let l = c .before .before .before .loop in
     let i = k .args .to + l .l in
     let j = k .args .from + l .l in
@@ -81,16 +62,16 @@ loop-less c = search needs
 
 loop-again : tie.Need-loop-again Inv-loop μ-loop
 loop-again c =
-    let k = c .before .before .before .before .before .before in
+    let k = c .before .before .before .before .before in
     let l = c .before .before .before .before .loop in
     let w = l .inv .1 .frame in
     let e = w .high (k .args .to + l .l) (omega arith) in
     let f = w .low (k .args .from + l .l) (omega arith) in
     (omega arith, lowered-at-more (l .l) (c .lesser .result) (l .inv .1) (omega arith) (omega (arith, c .lesser .ensures, e, f)))
 
-returns-2 : tie.Need-returns-2 Inv-loop μ-loop
-returns-2 c =
-    let e : c .before .loop .l ≡ c .before .before .before .args .lanes = omega arith in
+returns : tie.Need-returns Inv-loop μ-loop
+returns c =
+    let e : c .before .loop .l ≡ c .before .before .args .lanes = omega arith in
     rw e at (c .before .loop .inv .1)
 
 pub lower-by-spec : {M : Type 1} → statement M
@@ -99,10 +80,6 @@ lower-by-spec =
     (tie.spec
     Inv-loop
     μ-loop
-    mul-x
-    element-copy-out-x
-    lower-one-requires
-    returns
     loop-holds
     add-lesser
     mul-lesser
@@ -117,4 +94,4 @@ lower-by-spec =
     add-l
     loop-less
     loop-again
-    returns-2)
+    returns)

@@ -1,5 +1,4 @@
 -- A pose that is not offered has no way to it. Assumes nothing.
-use mathlib.Core.Path.{_≡_}
 use native.Mathlib.Omega.{arith}
 use Rattle.lanes.specs.Laws.{written-ext}
 use borrow.Author.Needs.{needs}
@@ -28,28 +27,14 @@ returns : tie.Need-returns
 returns c =
     written-ext (c .before .before .fill .ensures) (λ l h. omega arith)
 
-put-one-requires : tie.Need-put-one-requires
-put-one-requires c κs =
-    let k = c .before .before .before .before .before .before in
-    let g = k .pre .0 in
-    (omega (arith, k .pre .1), g .tableLong, omega arith, g .low, g .tableLow, k .pre .2, g .least, g .most)
+put-row-requires : tie.Need-put-row-requires
+put-row-requires c κs = search needs
 
 same-length-2 : tie.Need-same-length-2
 same-length-2 c = search needs
 
 returns-2 : tie.Need-returns-2
-returns-2 c =
-    let e : c .before .before .before .before .before .before .before .before .before .args .lanes ≡ 1 = omega arith in
-    rw e (c .before .before .put-one .ensures)
-
-put-row-requires : tie.Need-put-row-requires
-put-row-requires c κs = search needs
-
-same-length-3 : tie.Need-same-length-3
-same-length-3 c = search needs
-
-returns-3 : tie.Need-returns-3
-returns-3 c = search needs
+returns-2 c = search needs
 
 pub put-pose-spec : {M : Type 1} → statement M
 put-pose-spec =
@@ -62,9 +47,6 @@ put-pose-spec =
     fill-requires
     same-length
     returns
-    put-one-requires
-    same-length-2
-    returns-2
     put-row-requires
-    same-length-3
-    returns-3)
+    same-length-2
+    returns-2)
