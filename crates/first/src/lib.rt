@@ -1,30 +1,15 @@
-// The first layer of a stretch: at the row's start, or after a tall cell in each of its poses, a lane for each.
+// The first layer of a stretch after a tall cell in each of its poses, a lane for each.
 ghost use mathlib.Core.Path.{_≡_};
-ghost use mathlib.Core.Bool.{true};
 ghost use Prim.Native.Nat.{ℕ, suc, _+_, _*_, _≤_, _<_};
 ghost use lib.ListN.{length};
-ghost use Rattle.rows.specs.Window.{start};
-ghost use Rattle.model.specs.Steps.{pairCount, marks};
+ghost use Rattle.model.specs.Steps.{marks};
 ghost use Rattle.lanes.specs.Store.{Low, FilledPair, Filled};
-ghost use Rattle.deck.specs.Words.{deckOf, PairWords, LineWords};
+ghost use Rattle.deck.specs.Words.{deckOf, LineWords};
 ghost use Rattle.layer.specs.Loops.{Given};
 ghost use Rattle.planes.specs.Rows.{onePose, Pays};
 ghost use Rattle.near.specs.Table.{Lent, FiveOrNine};
-ghost use Rattle.first.specs.Firsts.{startsAt, afterRows, afterFrom, ownRows, openFrom};
+ghost use Rattle.first.specs.Firsts.{afterRows, afterFrom};
 ghost use Rattle.first.specs.Starts.{Started, StartedTo, startIn};
-
-// Whether pair q, the last of i cells, can come first after marks m.
-fn starts(pairs: &[u32], n: usize, r: usize, i: usize, m: u32, q: usize) -> bool
-    requires { ⌜ PairWords r (now pairs) × (q < pairCount r) × (i ≤ 100) ⌝ }
-    ensures { λ t. ⌜ t ≡ startsAt n r i m q ⌝ }
-{
-    if !deck::is_there(pairs, n, r, i, q) {
-        return false;
-    }
-    m == pairs[q * 4 + 2]
-}
-
-// ---- after a tall cell
 
 // Lane `lane` of a table lowered to pose b of the cell at position p, where it starts, for the cell at position k.
 fn from_start(
@@ -116,7 +101,7 @@ fn first_block(
     requires { ⌜ Lent (now table) × Given (now line) (now pairs) (now store) n poses r count lanes i to × (p < 64) × (l0 + lanes ≤ 64) × (q < count) ⌝ }
     ensures { λ _. ⌜ FilledPair (afterFrom (deckOf (now (line .entry)) n poses) r i m p l0) lanes to q poses (now (store .entry)) (now (store .exit)) × Lent (now (table .exit)) ⌝ }
 {
-    if !starts(pairs, n, r, i + 1, m, q) {
+    if !start::starts(pairs, n, r, i + 1, m, q) {
         lanes::fill_rows(store, to + q * 4096, poses, lanes, lanes::NONE);
         return;
     }
@@ -164,79 +149,6 @@ pub fn first_layer(
             to,
             q,
         );
-        q += 1;
-    }
-}
-
-// ---- at the row's start, in lane 0
-
-// The marks before anything is placed.
-fn start_marks(r: usize) -> u32
-    requires { ⌜ r ≤ 2 ⌝ }
-    ensures { λ m. ⌜ m ≡ start r ⌝ }
-{
-    if r == 0 {
-        return 1;
-    }
-    if r == 1 {
-        return 3;
-    }
-    7
-}
-
-// The rows of a pair that can come first, each pose with what it pays as the row's first.
-fn open_rows(store: &mut [u32], line: &[u32], to: usize, q: usize, k: usize, poses: usize)
-    requires { ⌜ LineWords (now line) × Low (now store) × (to + 49152 ≤ length (now store)) × (q < 12) × (k < 64) × (poses ≤ 60) ⌝ }
-    ensures { λ _. ⌜ FilledPair (ownRows (now (line .entry)) k) 1 to q poses (now (store .entry)) (now (store .exit)) ⌝ }
-{
-    let mut a: usize = 0;
-    while a < poses {
-        let w = lanes::least(line[k * 128 + a] + deck::front(line, k, a), lanes::NONE);
-        lanes::fill(store, to + q * 4096 + a * 64, 1, w);
-        a += 1;
-    }
-}
-
-// The block of pair q.
-fn open_block(
-    store: &mut [u32],
-    line: &[u32],
-    pairs: &[u32],
-    n: usize,
-    poses: usize,
-    r: usize,
-    count: usize,
-    to: usize,
-    q: usize,
-)
-    requires { ⌜ Given (now line) (now pairs) (now store) n poses r count 1 0 to × (q < count) ⌝ }
-    ensures { λ _. ⌜ FilledPair (openFrom (deckOf (now (line .entry)) n poses) r) 1 to q poses (now (store .entry)) (now (store .exit)) ⌝ }
-{
-    if !starts(pairs, n, r, 1, start_marks(r), q) {
-        lanes::fill_rows(store, to + q * 4096, poses, 1, lanes::NONE);
-        return;
-    }
-    let k = deck::last_at(pairs, r, 1, q);
-    open_rows(store, line, to, q, k, poses);
-}
-
-// The layer with one cell.
-pub fn open_layer(
-    store: &mut [u32],
-    line: &[u32],
-    pairs: &[u32],
-    n: usize,
-    poses: usize,
-    r: usize,
-    count: usize,
-    to: usize,
-)
-    requires { ⌜ Given (now line) (now pairs) (now store) n poses r count 1 0 to ⌝ }
-    ensures { λ _. ⌜ Filled (openFrom (deckOf (now (line .entry)) n poses) r) 1 poses to count (now (store .entry)) (now (store .exit)) ⌝ }
-{
-    let mut q: usize = 0;
-    while q < count {
-        open_block(store, line, pairs, n, poses, r, count, to, q);
         q += 1;
     }
 }

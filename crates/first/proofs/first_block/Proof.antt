@@ -8,7 +8,8 @@ use borrow.Author.Tests.{not-true, not-false}
 use Rattle.model.specs.Steps.{lastAt}
 use Rattle.lanes.specs.Laws.{pair-rows, pair-ext}
 use Rattle.deck.specs.Words.{deckOf}
-use Rattle.first.specs.Firsts.{startsAt, afterRow, after-there, after-away, starts-size}
+use Rattle.start.specs.Firsts.{startsAt, after-there, after-away, starts-size}
+use Rattle.first.specs.Firsts.{afterRow}
 use borrow.Author.Needs.{needs}
 use Rattle.first.proofs.first_block.Statement.{statement}
 use Rattle.first.proofs.first_block.Tie as tie
