@@ -22,7 +22,7 @@ use Rattle.kept.specs.Kept.{keptAt, keptIn, KeptLayers, StretchKept}
 use Rattle.kept.specs.Laws.{kept-ext}
 use Rattle.finish.specs.Ends.{leastPoses, leastPair, leastPairs}
 use Rattle.finish.specs.Laws.{pair-in, pair-out, ends-gathered, price-run, price-done, ends-ext}
-use Rattle.opening.specs.Opened.{comesIn, endPrice, Room, OpenKept, Opened}
+use Rattle.opening.specs.Opened.{comesIn, tallPrice, endPrice, OpenKept, Opened}
 
 -- ---- the layers
 
@@ -57,7 +57,7 @@ comes-kept R p q a l old new h g k same =
 
 -- by the kept layers these are the prices
 comes-price : (D : Deck) (R p q a end l : ℕ) {st : List ℕ} → end ≡ p + suc R → q < pairCount R → a < D .poses → KeptLayers D R (firstOpen D R) 1 end st
-    → comesIn R p st l q a ≡ priceTo D R (firstOpen D R) 1 p q a
+    → comesIn R p st l q a ≡ tallPrice D R p q a
 unfolding priceTo
 comes-price D R p q a end l {st} e x y k = go (decLt (p + suc R) (1 + offset R q))
   where
@@ -72,7 +72,7 @@ comes-price D R p q a end l {st} e x y k = go (decLt (p + suc R) (1 + offset R q
 pub opened-to :
     (D : Deck) (R p : ℕ) {count prices end : ℕ} {old mid new : List ℕ}
     → end ≡ p + suc R → 148992 ≤ prices → count ≡ pairCount R → OpenKept D R end old mid → Filled (comesIn R p mid) 1 (D .poses) prices count mid new
-    → Opened (priceTo D R (firstOpen D R) 1 p) count (D .poses) prices old new
+    → Opened (tallPrice D R p) count (D .poses) prices old new
 opened-to D R p {end = end} e o n k f =
     record {
       long = f .frame .long ∙ k .frame .long;

@@ -5,7 +5,7 @@ use mathlib.Core.Bool.{cond}
 use mathlib.Core.List.{List}
 use lib.ListN.{length, getD}
 use lib.Dec.{leb}
-use Rattle.model.specs.Steps.{B, Deck, Layer, pairCount, offset, firstOpen, priceEnd}
+use Rattle.model.specs.Steps.{B, Deck, Layer, pairCount, offset, firstOpen, priceTo, priceEnd}
 use Rattle.lanes.specs.Store.{Frame, Low, layerIn}
 use Rattle.kept.specs.Kept.{keptIn, KeptLayers}
 
@@ -16,6 +16,10 @@ spreadFrom st from a l = getD st (from + a) 0
 -- the words of pair q from the kept layer that it comes to the tall cell at position p with; B if it comes with no layer
 abbrev pub comesIn : ℕ → ℕ → List ℕ → ℕ → Layer
 comesIn R p st l q a = cond (leb (1 + offset R q) (p + suc R)) (keptIn st (p + suc R - offset R q) q a) B
+
+-- the prices to the tall cell at position p
+abbrev pub tallPrice : Deck → ℕ → ℕ → Layer
+tallPrice D R p q a = priceTo D R (firstOpen D R) 1 p q a
 
 -- the price to the row's end, which is pair 0 and pose 0
 abbrev pub endPrice : Deck → ℕ → Layer

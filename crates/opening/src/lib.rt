@@ -2,12 +2,11 @@
 ghost use mathlib.Core.Path.{_≡_};
 ghost use Prim.Native.Nat.{_+_, _*_, _≤_, _<_};
 ghost use lib.ListN.{length};
-ghost use Rattle.model.specs.Steps.{firstOpen, priceTo};
 ghost use Rattle.lanes.specs.Store.{Low, WrittenRows, FilledPair, Filled};
 ghost use Rattle.deck.specs.Words.{backIn, deckOf, PairWords, LineWords, Ground};
 ghost use Rattle.thin.specs.Thin.{thinIn};
 ghost use Rattle.finish.specs.Ends.{leastPoses, leastPair, leastPairs};
-ghost use Rattle.opening.specs.Opened.{spreadFrom, comesIn, endPrice, Room, OpenKept, Opened};
+ghost use Rattle.opening.specs.Opened.{spreadFrom, comesIn, tallPrice, endPrice, Room, OpenKept, Opened};
 
 // The layers from the row's start up to layer `end`, each in its place.
 fn run_open(
@@ -98,7 +97,7 @@ pub fn open_to(
     prices: usize,
 )
     requires { ⌜ Ground (now line) (now pairs) r n poses count × Room (now store) r poses count prices × (tall < 64) ⌝ }
-    ensures { λ _. ⌜ Opened (priceTo (deckOf (now (line .entry)) n poses) r (firstOpen (deckOf (now (line .entry)) n poses) r) 1 tall) count poses prices (now (store .entry)) (now (store .exit)) ⌝ }
+    ensures { λ _. ⌜ Opened (tallPrice (deckOf (now (line .entry)) n poses) r tall) count poses prices (now (store .entry)) (now (store .exit)) ⌝ }
 {
     run_open(store, line, pairs, n, poses, r, count, tall + r + 1);
     put_pairs(store, pairs, poses, r, count, tall, prices);
