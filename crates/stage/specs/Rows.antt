@@ -10,9 +10,10 @@ use lib.ListN.{getD, replicate, length-replicate, getD-replicate, List·getD-eq-
 use Rattle.model.specs.Steps.{B, Deck, Layer, pairCount, marks, firstAfter, firstOpen}
 use Rattle.model.specs.Stages.{placedWith, stageEnd, openPrice, stagePrice}
 use Rattle.lanes.specs.Store.{Frame, Low, layerIn, Filled}
-use Rattle.first.specs.Firsts.{afterFrom, openFrom}
+use Rattle.first.specs.Firsts.{afterFrom}
 use Rattle.stretch.specs.Runs.{Priced}
 use Rattle.finish.specs.Ends.{Ended}
+use Rattle.opening.specs.Opened.{tallPrice, endPrice, Opened}
 use Rattle.stage.specs.Stage.{wide, posIn, priceOf, endFrom, RowPriced, RowGiven}
 use Rattle.stage.specs.Laws.{wide-all, wide-last, wide-tall}
 use Rattle.stage.specs.Same.{stage-ext, stage-tall, stage-last}
@@ -28,7 +29,7 @@ module _ (D : Deck) (R talls : ℕ) (pos : ℕ → ℕ) where
       record {
         long = w .outside .long;
         low = w .low;
-        kept = λ k h b. ⊎-elim (λ g. w .outside .below k h g) (λ g. w .outside .above k (omega arith)) b;
+        kept = λ k h b. ⊎-elim (λ g. w .outside .below k (omega arith) g) (λ g. w .outside .above k (omega arith)) b;
         right = λ q a l x y z.
             let v = w .right q a l (omega arith) (omega arith) z in
             let f = stage-tall D R talls pos (layerIn old 0 l) I i (getD starts l 0) q a h in
@@ -45,7 +46,7 @@ module _ (D : Deck) (R talls : ℕ) (pos : ℕ → ℕ) where
       record {
         long = w .outside .long;
         low = w .low;
-        kept = λ k h b. ⊎-elim (λ g. w .outside .below k h g) (λ g. w .outside .above k (omega arith)) b;
+        kept = λ k h b. ⊎-elim (λ g. w .outside .below k (omega arith) g) (λ g. w .outside .above k (omega arith)) b;
         right = λ q a l x y z.
             ap (λ (k : ℕ). getD new k 0) (omega arith)
             ∙ w .right l z
@@ -65,21 +66,50 @@ module _ (D : Deck) (R talls : ℕ) (pos : ℕ → ℕ) where
         right = λ q a l x y z. w .right q a l x y (omega arith) ∙ e q a l x y z;
       }
 
-  -- stage 0
-  pub row-open : {I : ℕ} (count s : ℕ) (starts : List ℕ) {prices : ℕ} {old mid new : List ℕ}
-      → I ≡ 0 → count ≡ pairCount R → getD starts 0 0 ≡ 0 → Filled (openFrom D R) 1 (D .poses) 0 count old mid
-      → RowPriced (endFrom D R talls pos 0 mid 1 starts) 1 (wide talls 1 count) (wide talls 1 (D .poses)) prices mid new
+  -- stage 0, to the first tall cell
+  pub open-tall : {count p prices : ℕ} {old new : List ℕ}
+      → 0 < talls → p ≡ pos 0 → Opened (tallPrice D R p) count (D .poses) prices old new
+      → RowPriced (priceOf D R talls pos 0 0) 1 (wide talls 1 count) (wide talls 1 (D .poses)) prices old new
+  unfolding priceOf openPrice
+  open-tall {count} {p} {prices} {old} {new} h e w =
+      let c = wide-all talls 0 count h in
+      let d = wide-all talls 0 (D .poses) h in
+      record {
+        long = w .long;
+        low = w .low;
+        kept = λ k g b. ⊎-elim (w .below k g) (w .above k) b;
+        right = λ q a l x y z.
+            let v = w .right q a (omega arith) (omega arith) in
+            ap (λ (k : ℕ). getD new k 0) (omega arith) ∙ rw (e) at v ∙ sym (stage-tall D R talls pos (firstOpen D R) 0 1 0 q a h);
+      }
+
+  -- and to the end of a row that has none
+  pub open-last : (count : ℕ) {prices : ℕ} {old new : List ℕ}
+      → talls ≤ 0 → Opened (endPrice D R) 1 1 prices old new
+      → RowPriced (priceOf D R talls pos 0 0) 1 (wide talls 1 count) (wide talls 1 (D .poses)) prices old new
+  unfolding priceOf openPrice
+  open-last count {prices} {old} {new} h w =
+      let c = wide-last talls 1 count (omega arith) in
+      let d = wide-last talls 1 (D .poses) (omega arith) in
+      record {
+        long = w .long;
+        low = w .low;
+        kept = λ k g b. ⊎-elim (w .below k g) (w .above k) b;
+        right = λ q a l x y z.
+            ap (λ (k : ℕ). getD new k 0) (omega arith)
+            ∙ w .right q a (omega arith) (omega arith)
+            ∙ sym (stage-last D R talls pos (firstOpen D R) 0 1 0 q a h (omega arith) (omega arith));
+      }
+
+  -- it is the same from every start pair
+  pub row-open : {I : ℕ} (count s : ℕ) {prices : ℕ} {old new : List ℕ}
+      → I ≡ 0 → RowPriced (priceOf D R talls pos 0 0) 1 (wide talls 1 count) (wide talls 1 (D .poses)) prices old new
       → RowPriced (priceOf D R talls pos I s) (wide talls I (D .poses)) (wide talls (suc I) count) (wide talls (suc I) (D .poses)) prices old new
-  unfolding priceOf openPrice wide
-  row-open count s starts {mid = mid} e n b f w =
-      let v : RowPriced (priceOf D R talls pos 0 s) 1 (wide talls 1 count) (wide talls 1 (D .poses)) _ _ _ = row-from 0 1 starts (omega arith) (f .frame) w
-      (λ q a l x y z.
-      stage-ext D R (layerIn mid 0 l) (firstOpen D R) (λ q a v u. f .right q (omega arith) a l u z) talls pos 0 1 (getD starts l 0) q a (rw n at x) y
-      ∙ ap (λ (e : ℕ). stageEnd D R talls pos 0 (firstOpen D R) 1 e q a) (only l z)) in
+  unfolding priceOf wide
+  row-open count s {prices} {old} {new} e w =
+      let v : RowPriced (priceOf D R talls pos 0 s) 1 (wide talls 1 count) (wide talls 1 (D .poses)) prices old new =
+      record { long = w .long; low = w .low; kept = w .kept; right = w .right } in
       rw e v
-    where
-      only : (l : ℕ) → l < 1 → getD starts l 0 ≡ 0
-      only l z = ap (λ (k : ℕ). getD starts k 0) (omega arith) ∙ b
 
   -- the stage after tall cell I, which stands as pair s
   after-tall : (I count s : ℕ) (starts : List ℕ) {width prices : ℕ} {old mid new : List ℕ}

@@ -98,11 +98,11 @@ module _ (D₀ D₁ : Deck) (R talls : ℕ) (pos₀ pos₁ : ℕ → ℕ) where
 
 -- ---- the prices of a stage in the store
 
--- the prices F, lane by lane, in the block at `prices`; above the layers nothing else is changed
+-- the prices F, lane by lane, in the block at `prices`; above all layers nothing else is changed
 pub record RowPriced (F : ℕ → Layer) (lanes ends poses prices : ℕ) (old new : List ℕ) : Type 0 where
   pub long : length new ≡ length old
   pub low : Low new
-  pub kept : (k : ℕ) → 98304 ≤ k → OutsidePrices prices k → getD new k 0 ≡ getD old k 0
+  pub kept : (k : ℕ) → 148992 ≤ k → OutsidePrices prices k → getD new k 0 ≡ getD old k 0
   pub right : (q a l : ℕ) → q < ends → a < poses → l < lanes → layerIn new prices l q a ≡ F l q a
 
 -- stage I on from the layer in block 0, which has i cells; `starts` has what the start of each lane pays as the row's last
@@ -126,11 +126,11 @@ pub record StartRight (st : List ℕ) (row : ℕ) (x : Prices) (lanes ends poses
 abbrev pub Priced : ℕ → Prices → ℕ → ℕ → ℕ → ℕ → ℕ → ℕ → List ℕ → List ℕ → Type 0
 Priced row x I starts lanes ends poses s old new = Dead old row I starts lanes s ⊎ StartRight new row x lanes ends poses s
 
--- that of one start pair; above the layers nothing else is changed
+-- that of one start pair; above all layers nothing else is changed
 pub record StartPriced (row : ℕ) (x : Prices) (I starts lanes ends poses s : ℕ) (old new : List ℕ) : Type 0 where
   pub long : length new ≡ length old
   pub low : Low new
-  pub kept : (k : ℕ) → 98304 ≤ k → OutsidePrices (pricesAt row s) k → getD new k 0 ≡ getD old k 0
+  pub kept : (k : ℕ) → 148992 ≤ k → OutsidePrices (pricesAt row s) k → getD new k 0 ≡ getD old k 0
   pub right : Priced row x I starts lanes ends poses s old new
 
 -- that of both rows for the start pairs below m; the tables are kept

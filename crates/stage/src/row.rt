@@ -7,6 +7,7 @@ ghost use Rattle.deck.specs.Words.{backIn, deckOf, LineWords};
 ghost use Rattle.layer.specs.Loops.{Given};
 ghost use Rattle.near.specs.Table.{Lent};
 ghost use Rattle.stretch.specs.Runs.{PriceRoom};
+ghost use Rattle.opening.specs.Opened.{Room};
 ghost use Rattle.stage.specs.Stage.{wide, posIn, priceOf, endFrom, RowPriced, RowGiven};
 use crate::placed_with;
 use crate::width_of;
@@ -78,6 +79,30 @@ fn stage_end(
     );
 }
 
+// The prices of stage 0 in a row, to the block at `prices`: from the row's start to the first tall cell, or to the row's end if it has none.
+fn open_price(
+    store: &mut [u32],
+    line: &[u32],
+    pairs: &[u32],
+    places: &[u32],
+    n: usize,
+    poses: usize,
+    r: usize,
+    count: usize,
+    talls: usize,
+    prices: usize,
+)
+    requires { ⌜ RowGiven (now line) (now pairs) (now places) r n poses count talls × Room (now store) r poses count prices ⌝ }
+    ensures { λ _. ⌜ RowPriced (priceOf (deckOf (now (line .entry)) n poses) r talls (posIn (now (places .entry))) 0 0) 1 (wide talls 1 count) (wide talls 1 poses) prices (now (store .entry)) (now (store .exit)) ⌝ }
+{
+    if talls > 0 {
+        let p = deck::word(places, 0);
+        opening::open_to(store, line, pairs, n, poses, r, count, p, prices);
+        return;
+    }
+    opening::open_end(store, line, pairs, n, poses, r, count, prices);
+}
+
 // The prices of stage i in a row from start pair s, to the block at `prices`.
 pub fn row_price(
     table: &mut [u32; 10944],
@@ -94,27 +119,20 @@ pub fn row_price(
     s: usize,
     prices: usize,
 )
-    requires { ⌜ Lent (now table) × RowGiven (now line) (now pairs) (now places) r n poses count talls × Low (now store) × PriceRoom (now store) prices × (i ≤ talls) × (s < wide talls i count) ⌝ }
+    requires { ⌜ Lent (now table) × RowGiven (now line) (now pairs) (now places) r n poses count talls × Room (now store) r poses count prices × (i ≤ talls) × (s < wide talls i count) ⌝ }
     ensures { λ _. ⌜ RowPriced (priceOf (deckOf (now (line .entry)) n poses) r talls (posIn (now (places .entry))) i s) (wide talls i poses) (wide talls (suc i) count) (wide talls (suc i) poses) prices (now (store .entry)) (now (store .exit)) × Lent (now (table .exit)) ⌝ }
 {
-    let mut starts = [0u32; 64];
     if i == 0 {
-        first::open_layer(store, line, pairs, n, poses, r, count, 0);
-        stage_end(
-            table,
+        open_price(
             store,
             line,
             pairs,
             places,
-            &starts,
             n,
             poses,
             r,
             count,
             talls,
-            0,
-            1,
-            1,
             prices,
         );
         return;
@@ -138,6 +156,7 @@ pub fn row_price(
         0,
         0,
     );
+    let mut starts = [0u32; 64];
     backs(&mut starts, line, p, poses);
     stage_end(
         table,

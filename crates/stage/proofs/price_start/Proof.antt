@@ -44,7 +44,9 @@ row-price-requires : tie.Need-row-price-requires
 row-price-requires c κs =
     let k = c .before .before .before .before .before .before .before .before .before .before .before .before in
     let w = k .pre .2 in
-    (k .pre .0, k .pre .1, w .low, record { over = omega (arith, c .before .before .price-at .ensures); room = omega (arith, w .long, c .before .before .price-at .ensures) }, k .pre .4, k .pre .5)
+    let g = k .pre .1 .ground in
+    let e = c .before .before .price-at .ensures in
+    (k .pre .0, k .pre .1, record { low = w .low; few = g .few; all = g .all; over = omega (arith, e); room = omega (arith, w .long, e) }, k .pre .4, k .pre .5)
 
 same-length-2 : tie.Need-same-length-2
 same-length-2 c = search needs

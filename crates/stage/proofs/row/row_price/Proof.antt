@@ -1,7 +1,6 @@
--- The first layer, then the stretch on from it. Assumes nothing.
+-- The prices of stage 0; else the first layer, then the stretch on from it. Assumes nothing.
 use Prim.Native.Nat.{_+_, _-_}
-use mathlib.Core.Path.{_≡_, refl, _∙_}
-use lib.ListN.{replicate}
+use mathlib.Core.Path.{_≡_, refl}
 use Rattle.deck.specs.Words.{deckOf}
 use Rattle.stage.specs.Stage.{posIn}
 use Rattle.stage.specs.Laws.{width-room}
@@ -11,33 +10,19 @@ use borrow.Author.Needs.{needs}
 use Rattle.stage.proofs.row.row_price.Statement.{statement}
 use Rattle.stage.proofs.row.row_price.Tie as tie
 
-open-layer-requires : tie.Need-open-layer-requires
-open-layer-requires c κs = search needs
-
-stage-end-requires : tie.Need-stage-end-requires
-stage-end-requires c κs =
-    let k = c .before .before .before .before .before .before .before .before .before .before .before .before in
-    let f = c .before .before .before .before .before .open-layer .ensures in
-    let r = k .pre .3 in (
-      k .pre .0,
-      k .pre .1,
-      record { ground = k .pre .1 .ground; low = f .low; narrow = omega arith; early = omega arith; room = omega (arith, r .over, r .room, f .frame .long) },
-      record { over = r .over; room = omega (arith, r .room, f .frame .long) },
-      zeros-low 64,
-      refl,
-    )
+open-price-requires : tie.Need-open-price-requires
+open-price-requires c κs =
+    let k = c .before .before .before .before .before .before in
+    (k .pre .1, k .pre .2)
 
 same-length : tie.Need-same-length
 same-length c = search needs
 
 returns : tie.Need-returns
 returns c =
-    let k = c .before .before .before .before .before .before .before .before .before .before .before .before .before .before .before in
-    let a = k .args in (
-      row-open (deckOf (a .line .now) (a .n) (a .poses)) (a .r) (a .talls) (posIn (a .places .now)) (a .count) (a .s) (replicate 64 0) (c .before .before .before .before .before .before .before .before .before .before .if1 .taken) (k .pre .1 .ground .all) refl
-          (c .before .before .before .before .before .before .before .before .open-layer .ensures) (c .before .before .stage-end .ensures .0),
-      c .before .before .stage-end .ensures .1,
-    )
+    let k = c .before .before .before .before .before .before .before .before .before in
+    let a = k .args in
+    (row-open (deckOf (a .line .now) (a .n) (a .poses)) (a .r) (a .talls) (posIn (a .places .now)) (a .count) (a .s) (c .before .before .before .before .if1 .taken) (c .before .before .open-price .ensures), k .pre .0)
 
 sub-word : tie.Need-sub-word
 sub-word c = search needs
@@ -48,8 +33,8 @@ word-requires c κs = search needs
 placed-with-requires : tie.Need-placed-with-requires
 placed-with-requires c κs =
     let k = c .before .before .before .before .before .before in
-    let s = start-pair (k .args .talls) (k .args .i) (k .args .count) (k .args .s) (k .pre .5) (c .before .if1 .left) (k .pre .4) in
-    (k .pre .1 .ground .coded, omega (arith, k .pre .1 .ground .all), start-place (k .args .i) (c .word .result) (k .pre .1) (c .before .if1 .left) (k .pre .4) (c .word .ensures))
+    let s = start-pair (k .args .talls) (k .args .i) (k .args .count) (k .args .s) (k .pre .4) (c .before .if1 .left) (k .pre .3) in
+    (k .pre .1 .ground .coded, omega (arith, k .pre .1 .ground .all), start-place (k .args .i) (c .word .result) (k .pre .1) (c .before .if1 .left) (k .pre .3) (c .word .ensures))
 
 width-of-requires : tie.Need-width-of-requires
 width-of-requires c κs =
@@ -60,12 +45,12 @@ first-layer-requires : tie.Need-first-layer-requires
 first-layer-requires c κs =
     let k = c .before .before .before .before .before .before .before .before .before .before in
     let g = k .pre .1 .ground in
-    let s = start-pair (k .args .talls) (k .args .i) (k .args .count) (k .args .s) (k .pre .5) (c .before .before .before .before .before .if1 .left) (k .pre .4) in
-    let p = start-place (k .args .i) (c .before .before .before .before .word .result) (k .pre .1) (c .before .before .before .before .before .if1 .left) (k .pre .4) (c .before .before .before .before .word .ensures) in
+    let s = start-pair (k .args .talls) (k .args .i) (k .args .count) (k .args .s) (k .pre .4) (c .before .before .before .before .before .if1 .left) (k .pre .3) in
+    let p = start-place (k .args .i) (c .before .before .before .before .word .result) (k .pre .1) (c .before .before .before .before .before .if1 .left) (k .pre .3) (c .before .before .before .before .word .ensures) in
     let w = width-room (k .args .poses) (g .few) in
-    let r = k .pre .3 in (
+    let r = k .pre .2 in (
       k .pre .0,
-      record { ground = g; low = k .pre .2; narrow = omega (arith, c .before .before .width-of .ensures, w .1); early = omega (arith, c .before .before .before .placed-with .ensures, g .coded .reorder); room = omega (arith, r .over, r .room) },
+      record { ground = g; low = k .pre .2 .low; narrow = omega (arith, c .before .before .width-of .ensures, w .1); early = omega (arith, c .before .before .before .placed-with .ensures, g .coded .reorder); room = omega (arith, r .over, r .room) },
       p,
       omega (arith, c .before .before .width-of .ensures, w .1),
       s,
@@ -75,26 +60,26 @@ backs-requires : tie.Need-backs-requires
 backs-requires c κs =
     let k = c .before .before .before .before .before .before .before .before .before .before .before .before .before .before in
     let g = k .pre .1 .ground in
-    (g .row, zeros-low 64, refl, start-place (k .args .i) (c .before .before .before .before .before .before .before .before .word .result) (k .pre .1) (c .before .before .before .before .before .before .before .before .before .if1 .left) (k .pre .4) (c .before .before .before .before .before .before .before .before .word .ensures), g .few)
+    (g .row, zeros-low 64, refl, start-place (k .args .i) (c .before .before .before .before .before .before .before .before .word .result) (k .pre .1) (c .before .before .before .before .before .before .before .before .before .if1 .left) (k .pre .3) (c .before .before .before .before .before .before .before .before .word .ensures), g .few)
 
 add-stage-end : tie.Need-add-stage-end
 add-stage-end c =
     let k = c .before .before .before .before .before .before .before .before .before .before .before .before .before .before .before .before .before .before in
-    let p = start-place (k .args .i) (c .before .before .before .before .before .before .before .before .before .before .before .before .word .result) (k .pre .1) (c .before .before .before .before .before .before .before .before .before .before .before .before .before .if1 .left) (k .pre .4) (c .before .before .before .before .before .before .before .before .before .before .before .before .word .ensures) in
+    let p = start-place (k .args .i) (c .before .before .before .before .before .before .before .before .before .before .before .before .word .result) (k .pre .1) (c .before .before .before .before .before .before .before .before .before .before .before .before .before .if1 .left) (k .pre .3) (c .before .before .before .before .before .before .before .before .before .before .before .before .word .ensures) in
     omega (arith, c .before .before .before .before .before .before .before .before .before .before .before .placed-with .ensures, k .pre .1 .ground .coded .reorder)
 
-stage-end-requires-2 : tie.Need-stage-end-requires-2
-stage-end-requires-2 c κs =
+stage-end-requires : tie.Need-stage-end-requires
+stage-end-requires c κs =
     let k = c .before .before .before .before .before .before .before .before .before .before .before .before .before .before .before .before .before .before in
     let g = k .pre .1 .ground in
-    let p = start-place (k .args .i) (c .before .before .before .before .before .before .before .before .before .before .before .before .word .result) (k .pre .1) (c .before .before .before .before .before .before .before .before .before .before .before .before .before .if1 .left) (k .pre .4) (c .before .before .before .before .before .before .before .before .before .before .before .before .word .ensures) in
+    let p = start-place (k .args .i) (c .before .before .before .before .before .before .before .before .before .before .before .before .word .result) (k .pre .1) (c .before .before .before .before .before .before .before .before .before .before .before .before .before .if1 .left) (k .pre .3) (c .before .before .before .before .before .before .before .before .before .before .before .before .word .ensures) in
     let f = c .before .before .before .before .before .before .before .first-layer .ensures .0 in
     let b = c .before .before .before .backs .ensures in
-    let r = k .pre .3 in (
+    let r = k .pre .2 in (
       c .before .before .before .before .before .before .before .first-layer .ensures .1,
       k .pre .1,
       record { ground = g; low = f .low; narrow = omega (arith, c .before .before .before .before .before .before .before .before .before .before .width-of .ensures, width-room (k .args .poses) (g .few) .1); early = omega (arith, c .before .before .before .before .before .before .before .before .before .before .before .placed-with .ensures, g .coded .reorder); room = omega (arith, r .over, r .room, f .frame .long) },
-      record { over = r .over; room = omega (arith, r .room, f .frame .long) },
+      record { over = omega (arith, r .over); room = omega (arith, r .room, f .frame .long) },
       b .low,
       b .frame .long,
     )
@@ -108,19 +93,18 @@ returns-2 c =
     let k = c .before .before .before .before .before .before .before .before .before .before .before .before .before .before .before .before .before .before .before .before .before in
     let a = k .args in (
       row-after (deckOf (a .line .now) (a .n) (a .poses)) (a .r) (a .talls) (posIn (a .places .now)) (a .i) (a .i - 1) (a .count) (a .s)
-          (c .before .before .before .before .before .before .before .before .before .before .before .before .before .before .before .word .result) (c .before .before .before .before .before .before .before .before .before .before .before .before .before .before .placed-with .result) (c .before .before .before .before .before .before .backs .last .0) (omega (arith, c .before .before .before .before .before .before .before .before .before .before .before .before .before .before .before .before .if1 .left)) (k .pre .4) (omega (arith, c .before .before .before .before .before .before .before .before .before .before .before .before .before .width-of .ensures, width-room (a .poses) (k .pre .1 .ground .few) .0)) (k .pre .1 .ground .all)
+          (c .before .before .before .before .before .before .before .before .before .before .before .before .before .before .before .word .result) (c .before .before .before .before .before .before .before .before .before .before .before .before .before .before .placed-with .result) (c .before .before .before .before .before .before .backs .last .0) (omega (arith, c .before .before .before .before .before .before .before .before .before .before .before .before .before .before .before .before .if1 .left)) (k .pre .3) (omega (arith, c .before .before .before .before .before .before .before .before .before .before .before .before .before .width-of .ensures, width-room (a .poses) (k .pre .1 .ground .few) .0)) (k .pre .1 .ground .all)
           (c .before .before .before .before .before .before .before .before .before .before .before .before .before .before .before .word .ensures) (c .before .before .before .before .before .before .before .before .before .before .before .before .before .before .placed-with .ensures)
           (λ l h. let z : 0 + l ≡ l = omega arith in rw z at (c .before .before .before .before .before .before .backs .ensures .words l h))
-          (c .before .before .before .before .before .before .before .before .before .before .first-layer .ensures .0) (c .before .before .stage-end2 .ensures .0),
-      c .before .before .stage-end2 .ensures .1,
+          (c .before .before .before .before .before .before .before .before .before .before .first-layer .ensures .0) (c .before .before .stage-end .ensures .0),
+      c .before .before .stage-end .ensures .1,
     )
 
 pub row-price-spec : {M : Type 1} → statement M
 row-price-spec =
     tie.close
     (tie.spec
-    open-layer-requires
-    stage-end-requires
+    open-price-requires
     same-length
     returns
     sub-word
@@ -130,6 +114,6 @@ row-price-spec =
     first-layer-requires
     backs-requires
     add-stage-end
-    stage-end-requires-2
+    stage-end-requires
     same-length-2
     returns-2)
