@@ -4,13 +4,13 @@ use mathlib.Core.List.{List}
 use Rattle.model.specs.Steps.{B, Deck, Layer, firstAfter}
 use Rattle.deck.specs.Words.{wordOf, tollIn}
 
--- after pose l₀ + l of the cell at position p: the cell at position k in pose a
-abbrev pub afterRow : List ℕ → ℕ → ℕ → ℕ → ℕ → ℕ → ℕ
-afterRow line p l₀ k a l = min (wordOf line k a + tollIn line p (l₀ + l) k a) B
+-- after pose l of the cell at position p: the cell at position k in pose a
+abbrev pub afterRow : List ℕ → ℕ → ℕ → ℕ → ℕ → ℕ
+afterRow line p k a l = min (wordOf line k a + tollIn line p l k a) B
 
-abbrev pub afterRows : List ℕ → ℕ → ℕ → ℕ → ℕ → Layer
-afterRows line p l₀ k l q a = afterRow line p l₀ k a l
+abbrev pub afterRows : List ℕ → ℕ → ℕ → ℕ → Layer
+afterRows line p k l q a = afterRow line p k a l
 
--- a stretch after pose l₀ + l of the cell at position p, the last of i placed, with marks m
-abbrev pub afterFrom : Deck → ℕ → ℕ → ℕ → ℕ → ℕ → ℕ → Layer
-afterFrom D R i m p l₀ l q a = firstAfter D R i m p (l₀ + l) q a
+-- a stretch after pose l of the cell at position p, the last of i placed, with marks m
+abbrev pub afterFrom : Deck → ℕ → ℕ → ℕ → ℕ → ℕ → Layer
+afterFrom D R i m p l q a = firstAfter D R i m p l q a

@@ -17,9 +17,9 @@ use Rattle.planes.specs.Sources.{pose-twin, planes-last}
 use Rattle.near.specs.Table.{wordAt, Spread, Gathered, Ready, foundRow}
 use Rattle.first.specs.Firsts.{afterRow}
 
--- pose l₀ + l of the cell at position p in lane l, for the cell at position k
-abbrev pub startIn : List ℕ → ℕ → ℕ → ℕ → ℕ → ℕ → ℕ → ℕ
-startIn line p l₀ k l = onePose line p k (l₀ + l) 0
+-- pose l of the cell at position p in lane l, for the cell at position k
+abbrev pub startIn : List ℕ → ℕ → ℕ → ℕ → ℕ → ℕ → ℕ
+startIn line p k l = onePose line p k l 0
 
 -- one lane's planes are lowered, in the rows that count; the other lanes are as they were
 pub record Started (plane : ℕ → ℕ → ℕ) (rows planes lane : ℕ) (old new : List ℕ) : Type 0 where
@@ -97,19 +97,19 @@ starts-all s = record { long = s .long; low = s .low; done = s .done }
 
 -- ---- what is found
 
-pub starts-low : {line : List ℕ} (p l₀ k l v t : ℕ) → LineWords line → startIn line p l₀ k l v t ≤ B
-starts-low {line} p l₀ k l v t w = go (eqb (endRow line p (l₀ + l) k) t) (pay-small line p (l₀ + l) k v w)
+pub starts-low : {line : List ℕ} (p k l v t : ℕ) → LineWords line → startIn line p k l v t ≤ B
+starts-low {line} p k l v t w = go (eqb (endRow line p l k) t) (pay-small line p l k v w)
   where
-    go : (z : Bool) → payIn line p (l₀ + l) k v ≤ B → cond z (0 + payIn line p (l₀ + l) k v) B ≤ B
+    go : (z : Bool) → payIn line p l k v ≤ B → cond z (0 + payIn line p l k v) B ≤ B
     go true h = omega arith
     go false h = omega arith
 
 -- the last four of the planes that are needed are those of gaps 2 and 3
-pub starts-last : (line : List ℕ) (p l₀ k l v t : ℕ) → v < 4 → startIn line p l₀ k l (planesIn line k - 4 + v) t ≡ startIn line p l₀ k l (5 + v) t
-starts-last line p l₀ k l v t h = planes-last (λ (u : ℕ). startIn line p l₀ k l u t) line k v (λ e. pose-twin line k e p (l₀ + l) 0 v t h)
+pub starts-last : (line : List ℕ) (p k l v t : ℕ) → v < 4 → startIn line p k l (planesIn line k - 4 + v) t ≡ startIn line p k l (5 + v) t
+starts-last line p k l v t h = planes-last (λ (u : ℕ). startIn line p k l u t) line k v (λ e. pose-twin line k e p l 0 v t h)
 
 pub after-found :
-    (line : List ℕ) (p l₀ k a l : ℕ) {table : List ℕ} {poses planes lanes : ℕ}
-    → Ready (startIn line p l₀ k) poses planes lanes table → a < poses → l < lanes
-    → afterRow line p l₀ k a l ≡ foundRow planes table (wordOf line k a) a l
-after-found line p l₀ k a l r h i = omega (arith, r .right a l h i, found-one line p (l₀ + l) k a 0)
+    (line : List ℕ) (p k a l : ℕ) {table : List ℕ} {poses planes lanes : ℕ}
+    → Ready (startIn line p k) poses planes lanes table → a < poses → l < lanes
+    → afterRow line p k a l ≡ foundRow planes table (wordOf line k a) a l
+after-found line p k a l r h i = omega (arith, r .right a l h i, found-one line p l k a 0)

@@ -33,30 +33,29 @@ fn from_start(
     near::spread_lane(table, 0, pays, b % 4, t, lane, planes);
 }
 
-// Every lane: pose l0 + l in lane l.
+// Every lane: pose l in lane l.
 fn from_starts(
     table: &mut [u32; 10944],
     line: &[u32],
     p: usize,
-    l0: usize,
     k: usize,
     rows: usize,
     planes: usize,
     lanes: usize,
 )
-    requires { ⌜ LineWords (now line) × Low (now table) × (length (now table) ≡ 10944) × (p < 64) × (l0 + lanes ≤ 64) × (k < 64) × (rows ≤ 19) × FiveOrNine planes ⌝ }
-    ensures { λ _. ⌜ StartedTo (startIn (now (line .entry)) p l0 k) rows planes lanes (now (table .entry)) (now (table .exit)) ⌝ }
+    requires { ⌜ LineWords (now line) × Low (now table) × (length (now table) ≡ 10944) × (p < 64) × (lanes ≤ 64) × (k < 64) × (rows ≤ 19) × FiveOrNine planes ⌝ }
+    ensures { λ _. ⌜ StartedTo (startIn (now (line .entry)) p k) rows planes lanes (now (table .entry)) (now (table .exit)) ⌝ }
 {
     let mut pays = [0u32; 36];
     planes::fill_pays(&mut pays, line, p, k, planes);
     let mut l: usize = 0;
     while l < lanes {
-        from_start(table, line, &pays, p, k, l0 + l, rows, planes, l);
+        from_start(table, line, &pays, p, k, l, rows, planes, l);
         l += 1;
     }
 }
 
-// The rows of a pair that can come first: the cell at position k, after each pose from l0 on of the cell at position p. The starts are put in the
+// The rows of a pair that can come first: the cell at position k, after each pose of the cell at position p. The starts are put in the
 // table that is lent, whatever it has.
 fn first_rows(
     table: &mut [u32; 10944],
@@ -65,17 +64,16 @@ fn first_rows(
     to: usize,
     q: usize,
     p: usize,
-    l0: usize,
     k: usize,
     poses: usize,
     lanes: usize,
 )
-    requires { ⌜ Lent (now table) × LineWords (now line) × Low (now store) × (to + 49152 ≤ length (now store)) × (q < 12) × (p < 64) × (l0 + lanes ≤ 64) × (k < 64) × (poses ≤ 60) ⌝ }
-    ensures { λ _. ⌜ FilledPair (afterRows (now (line .entry)) p l0 k) lanes to q poses (now (store .entry)) (now (store .exit)) × Lent (now (table .exit)) ⌝ }
+    requires { ⌜ Lent (now table) × LineWords (now line) × Low (now store) × (to + 49152 ≤ length (now store)) × (q < 12) × (p < 64) × (lanes ≤ 64) × (k < 64) × (poses ≤ 60) ⌝ }
+    ensures { λ _. ⌜ FilledPair (afterRows (now (line .entry)) p k) lanes to q poses (now (store .entry)) (now (store .exit)) × Lent (now (table .exit)) ⌝ }
 {
     let planes = planes::planes_of(line, k);
     near::reset(table, planes, poses, lanes);
-    from_starts(table, line, p, l0, k, planes::rows_of(poses), planes, lanes);
+    from_starts(table, line, p, k, planes::rows_of(poses), planes, lanes);
     near::run_up(table, poses, lanes);
     near::put_rows(store, line, table, to, q, k, poses, planes, lanes);
 }
@@ -94,22 +92,21 @@ fn first_block(
     i: usize,
     m: u32,
     p: usize,
-    l0: usize,
     to: usize,
     q: usize,
 )
-    requires { ⌜ Lent (now table) × Given (now line) (now pairs) (now store) n poses r count lanes i to × (p < 64) × (l0 + lanes ≤ 64) × (q < count) ⌝ }
-    ensures { λ _. ⌜ FilledPair (afterFrom (deckOf (now (line .entry)) n poses) r i m p l0) lanes to q poses (now (store .entry)) (now (store .exit)) × Lent (now (table .exit)) ⌝ }
+    requires { ⌜ Lent (now table) × Given (now line) (now pairs) (now store) n poses r count lanes i to × (p < 64) × (lanes ≤ 64) × (q < count) ⌝ }
+    ensures { λ _. ⌜ FilledPair (afterFrom (deckOf (now (line .entry)) n poses) r i m p) lanes to q poses (now (store .entry)) (now (store .exit)) × Lent (now (table .exit)) ⌝ }
 {
     if !start::starts(pairs, n, r, i + 1, m, q) {
         lanes::fill_rows(store, to + q * 4096, poses, lanes, lanes::NONE);
         return;
     }
     let k = deck::last_at(pairs, r, i + 1, q);
-    first_rows(table, store, line, to, q, p, l0, k, poses, lanes);
+    first_rows(table, store, line, to, q, p, k, poses, lanes);
 }
 
-// The layer after the cell at position p as pair s, the last of i placed: one lane for each of its poses from l0 on.
+// The layer after the cell at position p as pair s, the last of i placed: one lane for each of its poses.
 pub fn first_layer(
     table: &mut [u32; 10944],
     store: &mut [u32],
@@ -123,11 +120,10 @@ pub fn first_layer(
     i: usize,
     s: usize,
     p: usize,
-    l0: usize,
     to: usize,
 )
-    requires { ⌜ Lent (now table) × Given (now line) (now pairs) (now store) n poses r count lanes i to × (p < 64) × (l0 + lanes ≤ 64) × (s < count) ⌝ }
-    ensures { λ _. ⌜ Filled (afterFrom (deckOf (now (line .entry)) n poses) r i (marks r s) p l0) lanes poses to count (now (store .entry)) (now (store .exit)) × Lent (now (table .exit)) ⌝ }
+    requires { ⌜ Lent (now table) × Given (now line) (now pairs) (now store) n poses r count lanes i to × (p < 64) × (lanes ≤ 64) × (s < count) ⌝ }
+    ensures { λ _. ⌜ Filled (afterFrom (deckOf (now (line .entry)) n poses) r i (marks r s) p) lanes poses to count (now (store .entry)) (now (store .exit)) × Lent (now (table .exit)) ⌝ }
 {
     let m = pairs[s * 4 + 1];
     let mut q: usize = 0;
@@ -145,7 +141,6 @@ pub fn first_layer(
             i,
             m,
             p,
-            l0,
             to,
             q,
         );

@@ -21,7 +21,8 @@ use Rattle.start.specs.Begun.{Begun}
 use Rattle.kept.specs.Kept.{keptAt, keptIn, KeptLayers, StretchKept}
 use Rattle.kept.specs.Laws.{kept-ext}
 use Rattle.finish.specs.Ends.{leastPoses, leastPair, leastPairs}
-use Rattle.finish.specs.Laws.{pair-in, pair-out, ends-gathered, price-run, price-done, ends-ext}
+use Rattle.planes.specs.Next.{ends-ext}
+use Rattle.finish.specs.Laws.{pair-in, pair-out, ends-gathered, price-run, price-done}
 use Rattle.opening.specs.Opened.{comesIn, tallPrice, endPrice, OpenKept, Opened}
 
 -- ---- the layers

@@ -114,7 +114,7 @@ module _ (D : Deck) (R talls : ℕ) (pos : ℕ → ℕ) where
   -- the stage after tall cell I, which stands as pair s
   after-tall : (I count s : ℕ) (starts : List ℕ) {width prices : ℕ} {old mid new : List ℕ}
       → I < talls → D .poses ≤ width → count ≡ pairCount R → ((l : ℕ) → l < D .poses → getD starts l 0 ≡ D .back (pos I) l)
-      → Filled (afterFrom D R (placedWith R (pos I) s) (marks R s) (pos I) 0) width (D .poses) 0 count old mid
+      → Filled (afterFrom D R (placedWith R (pos I) s) (marks R s) (pos I)) width (D .poses) 0 count old mid
       → RowPriced (endFrom D R talls pos (suc I) mid (suc (placedWith R (pos I) s)) starts) width (wide talls (suc (suc I)) count) (wide talls (suc (suc I)) (D .poses)) prices mid new
       → RowPriced (priceOf D R talls pos (suc I) s) (wide talls (suc I) (D .poses)) (wide talls (suc (suc I)) count) (wide talls (suc (suc I)) (D .poses)) prices old new
   unfolding priceOf stagePrice
@@ -124,14 +124,14 @@ module _ (D : Deck) (R talls : ℕ) (pos : ℕ → ℕ) where
       (row-from (suc I) (suc i) starts m (f .frame) w
       (λ q a l x y z.
       stage-ext D R (layerIn mid 0 l) (firstAfter D R i (marks R s) (pos I) l)
-      (λ q a v u. let o : 0 + l ≡ l = omega arith in rw o at (f .right q (omega arith) a l u (omega arith)))
+      (λ q a v u. f .right q (omega arith) a l u (omega arith))
       talls pos (suc I) (suc i) (getD starts l 0) q a (rw n at x) y
       ∙ ap (λ (e : ℕ). stageEnd D R talls pos (suc I) (firstAfter D R i (marks R s) (pos I) l) (suc i) e q a) (b l z)))
 
   pub row-after : (I J count s p placed : ℕ) (starts : List ℕ) {width prices : ℕ} {old mid new : List ℕ}
       → I ≡ suc J → I ≤ talls → D .poses ≤ width → count ≡ pairCount R → p ≡ pos J → placed ≡ placedWith R p s
       → ((l : ℕ) → l < D .poses → getD starts l 0 ≡ D .back p l)
-      → Filled (afterFrom D R placed (marks R s) p 0) width (D .poses) 0 count old mid
+      → Filled (afterFrom D R placed (marks R s) p) width (D .poses) 0 count old mid
       → RowPriced (endFrom D R talls pos I mid (placed + 1) starts) width (wide talls (suc I) count) (wide talls (suc I) (D .poses)) prices mid new
       → RowPriced (priceOf D R talls pos I s) (wide talls I (D .poses)) (wide talls (suc I) count) (wide talls (suc I) (D .poses)) prices old new
   row-after I J count s p placed starts e h m n g k b f w =

@@ -154,7 +154,6 @@ pub fn row_price(
         s,
         p,
         0,
-        0,
     );
     let mut starts = [0u32; 64];
     backs(&mut starts, line, p, poses);

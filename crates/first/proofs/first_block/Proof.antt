@@ -51,7 +51,7 @@ returns c =
     let t = sym (c .before .before .before .before .before .starts .ensures) ∙ not-true _ (c .before .before .before .before .if1 .taken) in
     let u = ap (λ (j : ℕ). startsAt (a .n) (a .r) j (a .m) (a .q)) (sym (add-one (a .i))) ∙ t in (
       pair-rows (omega (arith, k .pre .1 .ground .few)) (c .before .before .fill-rows .ensures)
-          (λ b l x y. after-away (deckOf (a .line .now) (a .n) (a .poses)) (a .r) (a .i) (a .m) (a .p) (a .l0 + l) (a .q) b u),
+          (λ b l x y. after-away (deckOf (a .line .now) (a .n) (a .poses)) (a .r) (a .i) (a .m) (a .p) l (a .q) b u),
       k .pre .0,
     )
 
@@ -88,8 +88,8 @@ returns-2 c =
     let w = c .before .before .first-rows .ensures in (
       pair-ext (w .0)
           (λ b l x y.
-          after-there (deckOf (a .line .now) (a .n) (a .poses)) (a .r) (a .i) (a .m) (a .p) (a .l0 + l) (a .q) b (can (c .before .before .before .before .before .before))
-          ∙ ap (λ (j : ℕ). afterRow (a .line .now) (a .p) (a .l0) j b l) (sym e)),
+          after-there (deckOf (a .line .now) (a .n) (a .poses)) (a .r) (a .i) (a .m) (a .p) l (a .q) b (can (c .before .before .before .before .before .before))
+          ∙ ap (λ (j : ℕ). afterRow (a .line .now) (a .p) j b l) (sym e)),
       w .1,
     )
 

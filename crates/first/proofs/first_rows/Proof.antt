@@ -20,30 +20,30 @@ needed c = let a = c .before .before .before .args in rw (c .planes-of .ensures)
 abbrev Last : tie.After-planes-of → Type 0
 Last c =
     let a = c .before .before .before .args in
-    (l v t : ℕ) → v < 4 → startIn (a .line .now) (a .p) (a .l0) (a .k) l (c .planes-of .result - 4 + v) t ≡ startIn (a .line .now) (a .p) (a .l0) (a .k) l (5 + v) t
+    (l v t : ℕ) → v < 4 → startIn (a .line .now) (a .p) (a .k) l (c .planes-of .result - 4 + v) t ≡ startIn (a .line .now) (a .p) (a .k) l (5 + v) t
 
 last : (c : tie.After-planes-of) → Last c
-last c l v t h = let a = c .before .before .before .args in rw (c .planes-of .ensures) (starts-last (a .line .now) (a .p) (a .l0) (a .k) l v t h)
+last c l v t h = let a = c .before .before .before .args in rw (c .planes-of .ensures) (starts-last (a .line .now) (a .p) (a .k) l v t h)
 
 -- the starts in the rows that count
 abbrev Starts : tie.After-run-up → Type 0
 Starts c =
     let a = c .before .before .before .before .before .before .before .before .before .before .args in
-    Gathered (startIn (a .line .now) (a .p) (a .l0) (a .k)) (rowsOf (a .poses)) (c .before .before .before .before .before .before .before .planes-of .result) (a .lanes) (c .before .before .before .before .before .reset .last .0) (c .before .before .from-starts .last .0)
+    Gathered (startIn (a .line .now) (a .p) (a .k)) (rowsOf (a .poses)) (c .before .before .before .before .before .before .before .planes-of .result) (a .lanes) (c .before .before .before .before .before .reset .last .0) (c .before .before .from-starts .last .0)
 
 starts : (c : tie.After-run-up) → Starts c
 starts c = rw (c .before .before .before .rows-of .ensures) at (starts-all (c .before .before .from-starts .ensures))
 
 -- the table once plane 0 ran up
 abbrev Table : tie.After-run-up → Type 0
-Table c = let a = c .before .before .before .before .before .before .before .before .before .before .args in Ready (startIn (a .line .now) (a .p) (a .l0) (a .k)) (a .poses) (c .before .before .before .before .before .before .before .planes-of .result) (a .lanes) (c .run-up .last .0)
+Table c = let a = c .before .before .before .before .before .before .before .before .before .before .args in Ready (startIn (a .line .now) (a .p) (a .k)) (a .poses) (c .before .before .before .before .before .before .before .planes-of .result) (a .lanes) (c .run-up .last .0)
 
 table : (c : tie.After-run-up) → Table c
 table c =
     let k = c .before .before .before .before .before .before .before .before .before .before in
     let a = k .args in
     let h = c .before .before .before .before .before .before .before in
-    ready (k .pre .8) (five-least (needed h)) (nine-most (needed h)) (λ l v t. starts-low (a .p) (a .l0) (a .k) l v t (k .pre .1)) (last h) (c .before .before .before .before .before .reset .ensures) (starts c) (c .run-up .ensures)
+    ready (k .pre .8) (five-least (needed h)) (nine-most (needed h)) (λ l v t. starts-low (a .p) (a .k) l v t (k .pre .1)) (last h) (c .before .before .before .before .before .reset .ensures) (starts c) (c .run-up .ensures)
 
 planes-of-requires : tie.Need-planes-of-requires
 planes-of-requires c κs = search needs
@@ -93,7 +93,7 @@ returns c =
     let k = c .before .before .before .before .before .before .before .before .before .before .before .before .before .before .before in
     let a = k .args in
     let t = table (c .before .before .before .before .before) in (
-      pair-ext (c .before .before .put-rows .ensures) (λ b l x y. after-found (a .line .now) (a .p) (a .l0) (a .k) b l t x y),
+      pair-ext (c .before .before .put-rows .ensures) (λ b l x y. after-found (a .line .now) (a .p) (a .k) b l t x y),
       record { long = t .long; low = t .low },
     )
 

@@ -9,11 +9,11 @@ use Rattle.first.proofs.from_starts.Statement.{statement}
 use Rattle.first.proofs.from_starts.Tie as tie
 
 abbrev Inv-loop : tie.InvT-loop
-Inv-loop table₀ line p l0 k rows planes lanes pays l₀ table l =
-    (l ≤ lanes) × StartedTo (startIn line p l0 k) rows planes l table₀ table
+Inv-loop table₀ line p k rows planes lanes pays l₀ table l =
+    (l ≤ lanes) × StartedTo (startIn line p k) rows planes l table₀ table
 
 abbrev μ-loop : tie.MeasureT-loop
-μ-loop table₀ line p l0 k rows planes lanes pays l₀ table l =
+μ-loop table₀ line p k rows planes lanes pays l₀ table l =
     lanes - l
 
 fill-pays-requires : tie.Need-fill-pays-requires Inv-loop μ-loop
@@ -24,9 +24,6 @@ fill-pays-requires c κs =
 loop-holds : tie.Need-loop-holds Inv-loop μ-loop
 loop-holds c =
     (omega arith, starts-none _ _ _ (c .before .before .before .pre .1))
-
-add-from-start : tie.Need-add-from-start Inv-loop μ-loop
-add-from-start c = search needs
 
 from-start-requires : tie.Need-from-start-requires Inv-loop μ-loop
 from-start-requires c κs =
@@ -58,7 +55,6 @@ from-starts-spec =
     μ-loop
     fill-pays-requires
     loop-holds
-    add-from-start
     from-start-requires
     add-l
     loop-less
