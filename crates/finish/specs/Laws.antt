@@ -51,7 +51,7 @@ module _ (D : Deck) (R : ℕ) (f : Layer) where
   unfolding leastPairs
   pairs-more m = lowest-more _ m
 
-  pairs-low : (m : ℕ) → leastPairs D R f m ≤ B
+  pub pairs-low : (m : ℕ) → leastPairs D R f m ≤ B
   unfolding leastPairs
   pairs-low m = lowest-low B _ (from 0 m)
 

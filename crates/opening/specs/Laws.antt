@@ -8,8 +8,6 @@ use borrow.Author.Tests.{le-leb, lt-leb, eq-eqb, ne-eqb}
 use native.Mathlib.Decide.{decLt}
 use lib.ListN.{length, getD, set}
 use lib.Dec.{leb}
-use Rattle.rows.specs.Lists.{from}
-use Rattle.pair.specs.Coded.{lowest-low}
 use Rattle.model.specs.Steps.{B, Deck, Layer, pairCount, offset, lastAt, layers, firstOpen, priceTo, ends, priceEnd}
 use Rattle.lanes.specs.Store.{Low, Written, Filled}
 use Rattle.lanes.specs.Lanes.{always}
@@ -22,7 +20,7 @@ use Rattle.kept.specs.Kept.{keptAt, keptIn, KeptLayers, StretchKept}
 use Rattle.kept.specs.Laws.{kept-ext}
 use Rattle.finish.specs.Ends.{leastPoses, leastPair, leastPairs}
 use Rattle.planes.specs.Next.{ends-ext}
-use Rattle.finish.specs.Laws.{pair-in, pair-out, ends-gathered, price-run, price-done}
+use Rattle.finish.specs.Laws.{pair-in, pair-out, pairs-low, ends-gathered, price-run, price-done}
 use Rattle.opening.specs.Opened.{comesIn, tallPrice, endPrice, OpenKept, Opened}
 
 -- ---- the layers
@@ -105,10 +103,6 @@ module _ (line : List ℕ) (n poses R k q : ℕ) (f : Layer) where
       ∙ ap (λ (k : ℕ). leastPoses (backIn line k) f q poses) (sym e)
 
 -- the least of all pairs is the least of the layer
-pairs-low : (D : Deck) (R : ℕ) (f : Layer) (m : ℕ) → leastPairs D R f m ≤ B
-unfolding leastPairs
-pairs-low D R f m = lowest-low B _ (from 0 m)
-
 module _ (D : Deck) (R : ℕ) where
   -- one word is written, and it is the price
   opened-word : (prices x : ℕ) {old mid new : List ℕ}
