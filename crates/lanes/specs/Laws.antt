@@ -39,13 +39,6 @@ lowered-to n w h = record { long = refl; done = λ k p. omega (arith, w .word k,
 pub lowered-ext : {f g : ℕ → ℕ} {n : ℕ} {old new : List ℕ} → Lowered f n old new → ((k : ℕ) → k < n → g k ≡ f k) → Lowered g n old new
 lowered-ext w e = record { long = w .long; done = λ k p. omega (arith, w .done k p, e k p); rest = w .rest }
 
--- lanes at most B are lowered to the same if what they are lowered to is capped
-pub lowered-cap :
-    {f g : ℕ → ℕ} {n : ℕ} {old new : List ℕ}
-    → Lowered f n old new → Low old → ((k : ℕ) → k < n → g k ≡ min (f k) B)
-    → Lowered g n old new
-lowered-cap v w e = record { long = v .long; done = λ k p. omega (arith, v .done k p, w .word k, e k p); rest = v .rest }
-
 -- lowered twice
 pub lowered-join :
     {f g h : ℕ → ℕ} {n : ℕ} {old mid new : List ℕ}

@@ -1,12 +1,10 @@
 -- One layer of the search from the layer before: what it comes to in each lane, and what is given.
-use Prim.Native.Nat.{ℕ, suc, _+_, _≤_, _<_}
-use mathlib.Core.Path.{_≡_}
-use mathlib.Core.Bool.{true}
+use Prim.Native.Nat.{ℕ, _+_, _≤_, _<_}
 use mathlib.Core.List.{List}
 use lib.ListN.{length}
-use Rattle.model.specs.Steps.{Deck, Layer, pairCount, nextLayer}
+use Rattle.model.specs.Steps.{Deck, Layer, nextLayer}
 use Rattle.lanes.specs.Store.{Low, layerIn}
-use Rattle.deck.specs.Words.{thereIn, Ground}
+use Rattle.deck.specs.Words.{Ground}
 
 -- the next layer in each lane
 abbrev pub nextFrom : Deck → ℕ → List ℕ → ℕ → ℕ → ℕ → Layer
@@ -21,11 +19,6 @@ pub record Given (line pairs st : List ℕ) (n poses R count lanes i at : ℕ) :
   pub narrow : lanes ≤ 64
   pub early : i ≤ 67
   pub room : at + 49152 ≤ length st
-
--- pair q is a target, with one cell more
-pub record Target (n R i q : ℕ) : Type 0 where
-  pub pair : q < pairCount R
-  pub there : thereIn n R (suc i) q ≡ true
 
 -- another block, with room, that has no word in common with the block at `at`
 pub record Beside (st : List ℕ) (at to : ℕ) : Type 0 where

@@ -6,9 +6,10 @@ ghost use Prim.Native.Nat.{ℕ, suc, _+_, _*_, _≤_, _<_};
 ghost use Rattle.model.specs.Steps.{pairCount, isSource};
 ghost use Rattle.lanes.specs.Store.{FilledPair, Filled};
 ghost use Rattle.deck.specs.Words.{deckOf, LineWords, PairWords};
+ghost use Rattle.planes.specs.Next.{Target};
 ghost use Rattle.planes.specs.Rows.{rowsOf};
 ghost use Rattle.near.specs.Table.{Lent, FiveOrNine, Gathered, pairIn, pairsIn};
-ghost use Rattle.layer.specs.Loops.{nextFrom, Given, Target, Beside};
+ghost use Rattle.layer.specs.Loops.{nextFrom, Given, Beside};
 
 // Pair p of the layer with i cells, if it is a source: whether it lowered anything.
 fn from_source(

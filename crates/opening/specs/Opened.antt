@@ -26,7 +26,7 @@ abbrev pub endPrice : Deck → ℕ → Layer
 endPrice D R q a = priceEnd D R (firstOpen D R) 1 0
 
 -- a store with room for prices, above the kept layers
-pub record Room (st : List ℕ) (R poses count prices : ℕ) : Type 0 where
+pub record OpenRoom (st : List ℕ) (R poses count prices : ℕ) : Type 0 where
   pub low : Low st
   pub few : poses ≤ 60
   pub all : count ≡ pairCount R

@@ -6,7 +6,7 @@ ghost use Rattle.lanes.specs.Store.{Low, WrittenRows, FilledPair, Filled};
 ghost use Rattle.deck.specs.Words.{backIn, deckOf, PairWords, LineWords, Ground};
 ghost use Rattle.thin.specs.Thin.{thinIn};
 ghost use Rattle.finish.specs.Ends.{leastPoses, leastPair, leastPairs};
-ghost use Rattle.opening.specs.Opened.{spreadFrom, comesIn, tallPrice, endPrice, Room, OpenKept, Opened};
+ghost use Rattle.opening.specs.Opened.{spreadFrom, comesIn, tallPrice, endPrice, OpenRoom, OpenKept, Opened};
 
 // The layers from the row's start up to layer `end`, each in its place.
 fn run_open(
@@ -51,7 +51,7 @@ fn put_pair(
     prices: usize,
     q: usize,
 )
-    requires { ⌜ PairWords r (now pairs) × Room (now store) r poses count prices × (tall < 64) × (q < count) ⌝ }
+    requires { ⌜ PairWords r (now pairs) × OpenRoom (now store) r poses count prices × (tall < 64) × (q < count) ⌝ }
     ensures { λ _. ⌜ FilledPair (comesIn r tall (now (store .entry))) 1 prices q poses (now (store .entry)) (now (store .exit)) ⌝ }
 {
     let digit = deck::word(pairs, q * 4);
@@ -74,7 +74,7 @@ fn put_pairs(
     tall: usize,
     prices: usize,
 )
-    requires { ⌜ PairWords r (now pairs) × Room (now store) r poses count prices × (tall < 64) ⌝ }
+    requires { ⌜ PairWords r (now pairs) × OpenRoom (now store) r poses count prices × (tall < 64) ⌝ }
     ensures { λ _. ⌜ Filled (comesIn r tall (now (store .entry))) 1 poses prices count (now (store .entry)) (now (store .exit)) ⌝ }
 {
     let mut q: usize = 0;
@@ -96,7 +96,7 @@ pub fn open_to(
     tall: usize,
     prices: usize,
 )
-    requires { ⌜ Ground (now line) (now pairs) r n poses count × Room (now store) r poses count prices × (tall < 64) ⌝ }
+    requires { ⌜ Ground (now line) (now pairs) r n poses count × OpenRoom (now store) r poses count prices × (tall < 64) ⌝ }
     ensures { λ _. ⌜ Opened (tallPrice (deckOf (now (line .entry)) n poses) r tall) count poses prices (now (store .entry)) (now (store .exit)) ⌝ }
 {
     run_open(store, line, pairs, n, poses, r, count, tall + r + 1);
@@ -178,7 +178,7 @@ pub fn open_end(
     count: usize,
     prices: usize,
 )
-    requires { ⌜ Ground (now line) (now pairs) r n poses count × Room (now store) r poses count prices ⌝ }
+    requires { ⌜ Ground (now line) (now pairs) r n poses count × OpenRoom (now store) r poses count prices ⌝ }
     ensures { λ _. ⌜ Opened (endPrice (deckOf (now (line .entry)) n poses) r) 1 1 prices (now (store .entry)) (now (store .exit)) ⌝ }
 {
     if n == 0 {

@@ -11,6 +11,11 @@ use Rattle.planes.specs.Rows.{found, byPairs}
 use Rattle.planes.specs.Laws.{reached-found, found-away}
 use Rattle.planes.specs.Sources.{pairs-away}
 
+-- pair q is a target, with one cell more
+pub record Target (n R i q : ℕ) : Type 0 where
+  pub pair : q < pairCount R
+  pub there : thereIn n R (suc i) q ≡ true
+
 -- ---- the next layer
 
 module _ (D : Deck) (R : ℕ) (f : Layer) (i q a : ℕ) where

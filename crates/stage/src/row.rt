@@ -7,7 +7,7 @@ ghost use Rattle.deck.specs.Words.{backIn, deckOf, LineWords};
 ghost use Rattle.layer.specs.Loops.{Given};
 ghost use Rattle.near.specs.Table.{Lent};
 ghost use Rattle.stretch.specs.Runs.{PriceRoom};
-ghost use Rattle.opening.specs.Opened.{Room};
+ghost use Rattle.opening.specs.Opened.{OpenRoom};
 ghost use Rattle.stage.specs.Stage.{wide, posIn, priceOf, endFrom, RowPriced, RowGiven};
 use crate::placed_with;
 use crate::width_of;
@@ -92,7 +92,7 @@ fn open_price(
     talls: usize,
     prices: usize,
 )
-    requires { ⌜ RowGiven (now line) (now pairs) (now places) r n poses count talls × Room (now store) r poses count prices ⌝ }
+    requires { ⌜ RowGiven (now line) (now pairs) (now places) r n poses count talls × OpenRoom (now store) r poses count prices ⌝ }
     ensures { λ _. ⌜ RowPriced (priceOf (deckOf (now (line .entry)) n poses) r talls (posIn (now (places .entry))) 0 0) 1 (wide talls 1 count) (wide talls 1 poses) prices (now (store .entry)) (now (store .exit)) ⌝ }
 {
     if talls > 0 {
@@ -119,7 +119,7 @@ pub fn row_price(
     s: usize,
     prices: usize,
 )
-    requires { ⌜ Lent (now table) × RowGiven (now line) (now pairs) (now places) r n poses count talls × Room (now store) r poses count prices × (i ≤ talls) × (s < wide talls i count) ⌝ }
+    requires { ⌜ Lent (now table) × RowGiven (now line) (now pairs) (now places) r n poses count talls × OpenRoom (now store) r poses count prices × (i ≤ talls) × (s < wide talls i count) ⌝ }
     ensures { λ _. ⌜ RowPriced (priceOf (deckOf (now (line .entry)) n poses) r talls (posIn (now (places .entry))) i s) (wide talls i poses) (wide talls (suc i) count) (wide talls (suc i) poses) prices (now (store .entry)) (now (store .exit)) × Lent (now (table .exit)) ⌝ }
 {
     if i == 0 {

@@ -2,16 +2,16 @@
 -- `far` has plane 0, row t at t; `near` planes 1 to 4, row t of plane 1 + v at 4 t + v; `apart` likewise planes 5 to 8, where they are needed.
 use Prim.Native.Nat.{ℕ, suc, _+_, _*_, _/_, _%_, _≤_, _<_, min}
 use mathlib.Core.Path.{_≡_}
-use mathlib.Core.Bool.{true, cond}
+use mathlib.Core.Bool.{cond}
 use mathlib.Core.List.{List}
 use lib.ListN.{length, getD}
 use lib.Dec.{eqb}
 use Rattle.rows.specs.Lists.{from}
 use Rattle.pair.specs.Coded.{lowest}
-use Rattle.model.specs.Steps.{B, Deck, Layer, pairCount, nextLayer}
+use Rattle.model.specs.Steps.{B, Deck, Layer, nextLayer}
 use Rattle.lanes.specs.Lanes.{Lowered}
 use Rattle.lanes.specs.Store.{Frame, Low}
-use Rattle.deck.specs.Words.{wordOf, thereIn, LineWords, Ground}
+use Rattle.deck.specs.Words.{wordOf, LineWords, Ground}
 use Rattle.planes.specs.Rows.{inRow}
 
 -- the layer whose block begins at `at`
@@ -28,7 +28,7 @@ abbrev pub apartOf : ℕ → (ℕ → ℕ → ℕ) → ℕ → ℕ
 apartOf planes plane j = cond (eqb planes 9) (plane (5 + j % 4) (j / 4)) B
 
 -- arrays in which sources may be gathered
-pub record Lent (near apart far : List ℕ) : Type 0 where
+pub record Arrays (near apart far : List ℕ) : Type 0 where
   pub nearLong : length near ≡ 76
   pub apartLong : length apart ≡ 76
   pub farLong : length far ≡ 19
@@ -37,7 +37,7 @@ pub record Lent (near apart far : List ℕ) : Type 0 where
   pub farLow : Low far
 
 -- all their words are lowered to those of other planes
-pub record Gathered (plane : ℕ → ℕ → ℕ) (planes : ℕ) (near near′ apart apart′ far far′ : List ℕ) : Type 0 where
+pub record ThinGathered (plane : ℕ → ℕ → ℕ) (planes : ℕ) (near near′ apart apart′ far far′ : List ℕ) : Type 0 where
   pub nearTo : Lowered (nearOf plane) 76 near near′
   pub apartTo : Lowered (apartOf planes plane) 76 apart apart′
   pub farTo : Lowered (plane 0) 19 far far′
@@ -53,7 +53,7 @@ spreadOf t x pays u v s = inRow t s (x + getD pays (u * 9 + v) 0)
 -- ---- sources in the store
 
 -- the cell at position k, whose words begin at `at`, for the cell at position m
-pub record Source (st line : List ℕ) (at k m : ℕ) : Type 0 where
+pub record ThinSource (st line : List ℕ) (at k m : ℕ) : Type 0 where
   pub words : LineWords line
   pub low : Low st
   pub room : at + 64 ≤ length st
@@ -67,7 +67,7 @@ posesAt st at b = getD st (at + b) 0
 -- ---- what is found
 
 -- the lowest of all rows up to each row below `rows`
-pub record RunUp (rows : ℕ) (old new : List ℕ) : Type 0 where
+pub record FarRunUp (rows : ℕ) (old new : List ℕ) : Type 0 where
   pub long : length new ≡ length old
   pub low : Low new
   pub far : (t : ℕ) → t < rows → getD new t 0 ≡ lowest B (λ s. getD old s 0) (from 0 (suc t))
@@ -93,16 +93,11 @@ foundFour line near apart far k e v = foundOf line near apart far k (e * 4 + v)
 -- ---- a layer from the layer before
 
 -- a layer with i cells in the block at `at`, and room for the next
-pub record Given (line pairs st : List ℕ) (n poses R count i at : ℕ) : Type 0 where
+pub record ThinGiven (line pairs st : List ℕ) (n poses R count i at : ℕ) : Type 0 where
   pub ground : Ground line pairs R n poses count
   pub low : Low st
   pub early : i ≤ 67
   pub room : at + 1536 ≤ length st
-
--- pair q is a target, with one cell more
-pub record Target (n R i q : ℕ) : Type 0 where
-  pub pair : q < pairCount R
-  pub there : thereIn n R (suc i) q ≡ true
 
 -- pair q of the next layer, in the block after
 pub record Put (D : Deck) (R i from q : ℕ) (old new : List ℕ) : Type 0 where

@@ -7,8 +7,9 @@ ghost use Rattle.model.specs.Steps.{B, lastAt};
 ghost use Rattle.lanes.specs.Lanes.{Lowered};
 ghost use Rattle.lanes.specs.Store.{Low, Written};
 ghost use Rattle.deck.specs.Words.{deckOf, LineWords, Ground};
+ghost use Rattle.planes.specs.Next.{Target};
 ghost use Rattle.planes.specs.Rows.{planesIn, Pays, PaysLow, onePose, byPoses, onePair, byPairs};
-ghost use Rattle.thin.specs.Thin.{thinIn, posesAt, fourOf, spreadOf, Lent, Gathered, Source, RunUp, foundBy, foundOf, foundFour, otherOf, Given, Target, Put, Stepped};
+ghost use Rattle.thin.specs.Thin.{thinIn, posesAt, fourOf, spreadOf, Arrays, ThinGathered, ThinSource, FarRunUp, foundBy, foundOf, foundFour, otherOf, ThinGiven, Put, Stepped};
 
 // ---- one source
 
@@ -35,8 +36,8 @@ fn spread(
     t: usize,
     planes: usize,
 )
-    requires { ⌜ Lent (now near) (now apart) (now far) × (x ≤ B) × PaysLow planes (now pays) × (getD (now pays) (u * 9) 0 ≡ 0) × (u < 4) × (t < 19) × (5 ≤ planes) × (planes ≤ 9) ⌝ }
-    ensures { λ _. ⌜ Gathered (spreadOf t x (now (pays .entry)) u) planes (now (near .entry)) (now (near .exit)) (now (apart .entry)) (now (apart .exit)) (now (far .entry)) (now (far .exit)) ⌝ }
+    requires { ⌜ Arrays (now near) (now apart) (now far) × (x ≤ B) × PaysLow planes (now pays) × (getD (now pays) (u * 9) 0 ≡ 0) × (u < 4) × (t < 19) × (5 ≤ planes) × (planes ≤ 9) ⌝ }
+    ensures { λ _. ⌜ ThinGathered (spreadOf t x (now (pays .entry)) u) planes (now (near .entry)) (now (near .exit)) (now (apart .entry)) (now (apart .exit)) (now (far .entry)) (now (far .exit)) ⌝ }
 {
     far[t] = lanes::lesser(far[t], x);
     lower_four(near, t, x, pays, u * 9 + 1);
@@ -60,8 +61,8 @@ fn from_pose(
     b: usize,
     planes: usize,
 )
-    requires { ⌜ Lent (now near) (now apart) (now far) × Source (now store) (now line) at k m × Pays (now line) k m planes 36 (now pays) × (b < 60) × (5 ≤ planes) × (planes ≤ 9) ⌝ }
-    ensures { λ _. ⌜ Gathered (onePose (now (line .entry)) k m b (posesAt (now (store .entry)) at b)) planes (now (near .entry)) (now (near .exit)) (now (apart .entry)) (now (apart .exit)) (now (far .entry)) (now (far .exit)) ⌝ }
+    requires { ⌜ Arrays (now near) (now apart) (now far) × ThinSource (now store) (now line) at k m × Pays (now line) k m planes 36 (now pays) × (b < 60) × (5 ≤ planes) × (planes ≤ 9) ⌝ }
+    ensures { λ _. ⌜ ThinGathered (onePose (now (line .entry)) k m b (posesAt (now (store .entry)) at b)) planes (now (near .entry)) (now (near .exit)) (now (apart .entry)) (now (apart .exit)) (now (far .entry)) (now (far .exit)) ⌝ }
 {
     let x = store[at + b];
     if x >= lanes::NONE {
@@ -88,8 +89,8 @@ fn from_poses(
     poses: usize,
     planes: usize,
 )
-    requires { ⌜ Lent (now near) (now apart) (now far) × Source (now store) (now line) at k m × Pays (now line) k m planes 36 (now pays) × (poses ≤ 60) × (5 ≤ planes) × (planes ≤ 9) ⌝ }
-    ensures { λ _. ⌜ Gathered (byPoses (now (line .entry)) k m (posesAt (now (store .entry)) at) poses) planes (now (near .entry)) (now (near .exit)) (now (apart .entry)) (now (apart .exit)) (now (far .entry)) (now (far .exit)) ⌝ }
+    requires { ⌜ Arrays (now near) (now apart) (now far) × ThinSource (now store) (now line) at k m × Pays (now line) k m planes 36 (now pays) × (poses ≤ 60) × (5 ≤ planes) × (planes ≤ 9) ⌝ }
+    ensures { λ _. ⌜ ThinGathered (byPoses (now (line .entry)) k m (posesAt (now (store .entry)) at) poses) planes (now (near .entry)) (now (near .exit)) (now (apart .entry)) (now (apart .exit)) (now (far .entry)) (now (far .exit)) ⌝ }
 {
     let mut b: usize = 0;
     while b < poses {
@@ -103,7 +104,7 @@ fn from_poses(
 // Each row of the far plane, as far as some pose looks, lowered to all rows before it.
 fn run_up(far: &mut [u32; 19])
     requires { ⌜ Low (now far) × (length (now far) ≡ 19) ⌝ }
-    ensures { λ _. ⌜ RunUp 15 (now (far .entry)) (now (far .exit)) ⌝ }
+    ensures { λ _. ⌜ FarRunUp 15 (now (far .entry)) (now (far .exit)) ⌝ }
 {
     let mut t: usize = 0;
     while t < 14 {
@@ -114,7 +115,7 @@ fn run_up(far: &mut [u32; 19])
 
 // What the pose at site e in variant v finds: at gaps 0, 2 and 3, and further left.
 fn found(near: &[u32; 76], apart: &[u32; 76], far: &[u32; 19], e: usize, v: usize) -> u32
-    requires { ⌜ Lent (now near) (now apart) (now far) × (e < 15) × (v < 4) ⌝ }
+    requires { ⌜ Arrays (now near) (now apart) (now far) × (e < 15) × (v < 4) ⌝ }
     ensures { λ x. ⌜ x ≡ foundBy (now (near .entry)) (now (apart .entry)) (now (far .entry)) e v ⌝ }
 {
     let between = lanes::lesser(apart[(e + 2) * 4 + v], apart[(e + 1) * 4 + v]);
@@ -131,7 +132,7 @@ fn found_four(
     k: usize,
     e: usize,
 )
-    requires { ⌜ Lent (now near) (now apart) (now far) × LineWords (now line) × Low (now words) × (length (now words) ≡ 4) × (k < 64) × (e < 15) ⌝ }
+    requires { ⌜ Arrays (now near) (now apart) (now far) × LineWords (now line) × Low (now words) × (length (now words) ≡ 4) × (k < 64) × (e < 15) ⌝ }
     ensures { λ _. ⌜ Written (foundFour (now (line .entry)) (now (near .entry)) (now (apart .entry)) (now (far .entry)) k e) 0 4 (now (words .entry)) (now (words .exit)) ⌝ }
 {
     let mut v: usize = 0;
@@ -153,7 +154,7 @@ fn put_four(
     k: usize,
     e: usize,
 )
-    requires { ⌜ Lent (now near) (now apart) (now far) × LineWords (now line) × Low (now store) × (to + 64 ≤ length (now store)) × (k < 64) × (e < 15) ⌝ }
+    requires { ⌜ Arrays (now near) (now apart) (now far) × LineWords (now line) × Low (now store) × (to + 64 ≤ length (now store)) × (k < 64) × (e < 15) ⌝ }
     ensures { λ _. ⌜ Written (foundFour (now (line .entry)) (now (near .entry)) (now (apart .entry)) (now (far .entry)) k e) (to + e * 4) 4 (now (store .entry)) (now (store .exit)) ⌝ }
 {
     let mut words = [0u32; 4];
@@ -176,7 +177,7 @@ fn put(
     k: usize,
     poses: usize,
 )
-    requires { ⌜ Lent (now near) (now apart) (now far) × LineWords (now line) × Low (now store) × (to + 64 ≤ length (now store)) × (k < 64) × (poses ≤ 60) ⌝ }
+    requires { ⌜ Arrays (now near) (now apart) (now far) × LineWords (now line) × Low (now store) × (to + 64 ≤ length (now store)) × (k < 64) × (poses ≤ 60) ⌝ }
     ensures { λ _. ⌜ Written (foundOf (now (line .entry)) (now (near .entry)) (now (apart .entry)) (now (far .entry)) k) to ((poses + 3) / 4 * 4) (now (store .entry)) (now (store .exit)) ⌝ }
 {
     let mut e: usize = 0;
@@ -198,7 +199,7 @@ fn put_found(
     poses: usize,
     planes: usize,
 )
-    requires { ⌜ Lent (now near) (now apart) (now far) × LineWords (now line) × Low (now store) × (to + 64 ≤ length (now store)) × (k < 64) × (poses ≤ 60) ⌝ }
+    requires { ⌜ Arrays (now near) (now apart) (now far) × LineWords (now line) × Low (now store) × (to + 64 ≤ length (now store)) × (k < 64) × (poses ≤ 60) ⌝ }
     ensures { λ _. ⌜ Written (foundOf (now (line .entry)) (now (near .entry)) (otherOf planes (now (near .entry)) (now (apart .entry))) (now (far .entry)) k) to ((poses + 3) / 4 * 4) (now (store .entry)) (now (store .exit)) ⌝ }
 {
     if planes == 9 {
@@ -227,8 +228,8 @@ fn from_source(
     q: usize,
     p: usize,
 )
-    requires { ⌜ Lent (now near) (now apart) (now far) × Given (now line) (now pairs) (now store) n poses r count i from × Target n r i q × (p < count) ⌝ }
-    ensures { λ _. ⌜ Gathered (onePair (now (line .entry)) (deckOf (now (line .entry)) n poses) r (thinIn (now (store .entry)) from) i q p) (planesIn (now (line .entry)) (lastAt r (suc i) q)) (now (near .entry)) (now (near .exit)) (now (apart .entry)) (now (apart .exit)) (now (far .entry)) (now (far .exit)) ⌝ }
+    requires { ⌜ Arrays (now near) (now apart) (now far) × ThinGiven (now line) (now pairs) (now store) n poses r count i from × Target n r i q × (p < count) ⌝ }
+    ensures { λ _. ⌜ ThinGathered (onePair (now (line .entry)) (deckOf (now (line .entry)) n poses) r (thinIn (now (store .entry)) from) i q p) (planesIn (now (line .entry)) (lastAt r (suc i) q)) (now (near .entry)) (now (near .exit)) (now (apart .entry)) (now (apart .exit)) (now (far .entry)) (now (far .exit)) ⌝ }
 {
     if !deck::is_source(line, pairs, n, r, i, q, p) {
         return;
@@ -258,8 +259,8 @@ fn gather(
     from: usize,
     q: usize,
 )
-    requires { ⌜ Lent (now near) (now apart) (now far) × Given (now line) (now pairs) (now store) n poses r count i from × Target n r i q ⌝ }
-    ensures { λ _. ⌜ Gathered (byPairs (now (line .entry)) (deckOf (now (line .entry)) n poses) r (thinIn (now (store .entry)) from) i q count) (planesIn (now (line .entry)) (lastAt r (suc i) q)) (now (near .entry)) (now (near .exit)) (now (apart .entry)) (now (apart .exit)) (now (far .entry)) (now (far .exit)) ⌝ }
+    requires { ⌜ Arrays (now near) (now apart) (now far) × ThinGiven (now line) (now pairs) (now store) n poses r count i from × Target n r i q ⌝ }
+    ensures { λ _. ⌜ ThinGathered (byPairs (now (line .entry)) (deckOf (now (line .entry)) n poses) r (thinIn (now (store .entry)) from) i q count) (planesIn (now (line .entry)) (lastAt r (suc i) q)) (now (near .entry)) (now (near .exit)) (now (apart .entry)) (now (apart .exit)) (now (far .entry)) (now (far .exit)) ⌝ }
 {
     let mut p: usize = 0;
     while p < count {
@@ -296,7 +297,7 @@ fn target_there(
     from: usize,
     q: usize,
 )
-    requires { ⌜ Given (now line) (now pairs) (now store) n poses r count i from × Target n r i q ⌝ }
+    requires { ⌜ ThinGiven (now line) (now pairs) (now store) n poses r count i from × Target n r i q ⌝ }
     ensures { λ _. ⌜ Put (deckOf (now (line .entry)) n poses) r i from q (now (store .entry)) (now (store .exit)) ⌝ }
 {
     let m = deck::last_at(pairs, r, i + 1, q);
@@ -337,7 +338,7 @@ fn put_pair(
     from: usize,
     q: usize,
 )
-    requires { ⌜ Given (now line) (now pairs) (now store) n poses r count i from × (q < count) ⌝ }
+    requires { ⌜ ThinGiven (now line) (now pairs) (now store) n poses r count i from × (q < count) ⌝ }
     ensures { λ _. ⌜ Put (deckOf (now (line .entry)) n poses) r i from q (now (store .entry)) (now (store .exit)) ⌝ }
 {
     if !deck::is_there(pairs, n, r, i + 1, q) {

@@ -1,5 +1,6 @@
 -- The two weights are compared as words. Assumes nothing.
 use borrow.Author.Tests.{eq-eqb, ne-eqb}
+use Rattle.deck.specs.Words.{wordOf}
 use Rattle.planes.specs.Rows.{planesIn}
 use borrow.Author.Needs.{needs}
 use Rattle.planes.proofs.planes_of.Statement.{statement}
@@ -31,11 +32,15 @@ shared-slice-read-if1-2 c = search needs
 
 returns : tie.Need-returns
 unfolding planesIn
-returns c = rw (eq-eqb _ _ (c .if1 .taken))
+returns c =
+    let a = c .before .before .before .args in
+    rw (eq-eqb (wordOf (a .line .now) (a .m) 84) (wordOf (a .line .now) (a .m) 86) (c .if1 .taken))
 
 returns-2 : tie.Need-returns-2
 unfolding planesIn
-returns-2 c = rw (ne-eqb _ _ (c .if1 .left))
+returns-2 c =
+    let a = c .before .before .before .args in
+    rw (ne-eqb (wordOf (a .line .now) (a .m) 84) (wordOf (a .line .now) (a .m) 86) (c .if1 .left))
 
 pub planes-of-spec : {M : Type 1} → statement M
 planes-of-spec =

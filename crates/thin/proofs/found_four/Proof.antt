@@ -8,7 +8,7 @@ use Rattle.lanes.specs.Store.{Written}
 use Rattle.lanes.specs.Laws.{written-none, written-more}
 use Rattle.deck.specs.Words.{wordOf}
 use Rattle.thin.specs.Thin.{foundFour}
-use Rattle.thin.specs.Laws.{pose-by}
+use Rattle.thin.specs.Found.{pose-by}
 use borrow.Author.Needs.{needs}
 use Rattle.thin.proofs.found_four.Statement.{statement}
 use Rattle.thin.proofs.found_four.Tie as tie

@@ -4,7 +4,7 @@ use mathlib.Core.Path.{_≡_}
 use native.Mathlib.Omega.{arith}
 use Rattle.planes.specs.Rows.{byPoses}
 use Rattle.planes.specs.Sources.{poses-none, poses-more}
-use Rattle.thin.specs.Thin.{posesAt, Gathered}
+use Rattle.thin.specs.Thin.{posesAt, ThinGathered}
 use Rattle.thin.specs.Laws.{gathered-none, gathered-join, lent-on}
 use borrow.Author.Needs.{needs}
 use Rattle.thin.proofs.from_poses.Statement.{statement}
@@ -12,7 +12,7 @@ use Rattle.thin.proofs.from_poses.Tie as tie
 
 abbrev Inv-loop : tie.InvT-loop
 Inv-loop near₀ apart₀ far₀ store line pays at k m poses planes b₀ near apart far b =
-    (b ≤ poses) × Gathered (byPoses line k m (posesAt store at) b) planes near₀ near apart₀ apart far₀ far
+    (b ≤ poses) × ThinGathered (byPoses line k m (posesAt store at) b) planes near₀ near apart₀ apart far₀ far
 
 abbrev μ-loop : tie.MeasureT-loop
 μ-loop near₀ apart₀ far₀ store line pays at k m poses planes b₀ near apart far b = poses - b

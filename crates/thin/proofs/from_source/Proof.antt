@@ -16,10 +16,10 @@ use Rattle.thin.proofs.from_source.Statement.{statement}
 use Rattle.thin.proofs.from_source.Tie as tie
 
 -- past the test the pair is a source
-abbrev Source : tie.Else1 → Type 0
-Source c = let a = c .before .before .before .before .before .args in isSource (deckOf (a .line .now) (a .n) (a .poses)) (a .r) (a .i) (a .q) (a .p) ≡ true
+abbrev ThinSource : tie.Else1 → Type 0
+ThinSource c = let a = c .before .before .before .before .before .args in isSource (deckOf (a .line .now) (a .n) (a .poses)) (a .r) (a .i) (a .q) (a .p) ≡ true
 
-source : (c : tie.Else1) → Source c
+source : (c : tie.Else1) → ThinSource c
 source c = sym (c .before .is-source .ensures) ∙ not-false _ (c .if1 .left)
 
 -- both cells stand in the row

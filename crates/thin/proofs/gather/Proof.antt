@@ -6,7 +6,7 @@ use Rattle.model.specs.Steps.{lastAt}
 use Rattle.deck.specs.Words.{deckOf}
 use Rattle.planes.specs.Rows.{planesIn, byPairs}
 use Rattle.planes.specs.Sources.{pairs-none, pairs-more}
-use Rattle.thin.specs.Thin.{thinIn, Gathered}
+use Rattle.thin.specs.Thin.{thinIn, ThinGathered}
 use Rattle.thin.specs.Laws.{gathered-none, gathered-join, lent-on}
 use borrow.Author.Needs.{needs}
 use Rattle.thin.proofs.gather.Statement.{statement}
@@ -15,7 +15,7 @@ use Rattle.thin.proofs.gather.Tie as tie
 abbrev Inv-loop : tie.InvT-loop
 Inv-loop near₀ apart₀ far₀ store line pairs n poses r count i from q p₀ near apart far p =
     (p ≤ count)
-    × Gathered (byPairs line (deckOf line n poses) r (thinIn store from) i q p) (planesIn line (lastAt r (suc i) q)) near₀ near apart₀ apart far₀ far
+    × ThinGathered (byPairs line (deckOf line n poses) r (thinIn store from) i q p) (planesIn line (lastAt r (suc i) q)) near₀ near apart₀ apart far₀ far
 
 abbrev μ-loop : tie.MeasureT-loop
 μ-loop near₀ apart₀ far₀ store line pairs n poses r count i from q p₀ near apart far p = count - p

@@ -5,7 +5,7 @@ use native.Mathlib.Omega.{arith}
 use Rattle.lanes.specs.Store.{Written}
 use Rattle.lanes.specs.Laws.{written-none}
 use Rattle.thin.specs.Thin.{foundOf}
-use Rattle.thin.specs.Laws.{written-join}
+use Rattle.thin.specs.Found.{written-join}
 use borrow.Author.Needs.{needs}
 use Rattle.thin.proofs.put.Statement.{statement}
 use Rattle.thin.proofs.put.Tie as tie

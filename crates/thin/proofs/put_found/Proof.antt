@@ -4,7 +4,7 @@ use mathlib.Core.Path.{sym, subst}
 use native.Mathlib.Omega.{arith}
 use Rattle.lanes.specs.Store.{Written}
 use Rattle.thin.specs.Thin.{foundOf}
-use Rattle.thin.specs.Laws.{lent-twin, other-nine, other-five}
+use Rattle.thin.specs.Found.{lent-twin, other-nine, other-five}
 use borrow.Author.Needs.{needs}
 use Rattle.thin.proofs.put_found.Statement.{statement}
 use Rattle.thin.proofs.put_found.Tie as tie

@@ -7,7 +7,7 @@ use borrow.Author.Tests.{not-true, not-false}
 use Rattle.deck.specs.Words.{deckOf, thereIn}
 use Rattle.planes.specs.Next.{next-away}
 use Rattle.thin.specs.Thin.{thinIn}
-use Rattle.thin.specs.Laws.{put-words}
+use Rattle.thin.specs.Found.{put-words}
 use borrow.Author.Needs.{needs}
 use Rattle.thin.proofs.put_pair.Statement.{statement}
 use Rattle.thin.proofs.put_pair.Tie as tie

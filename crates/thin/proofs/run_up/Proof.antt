@@ -2,14 +2,14 @@
 use Prim.Native.Nat.{_+_, _-_, _≤_}
 use mathlib.Core.Path.{_≡_}
 use native.Mathlib.Omega.{arith}
-use Rattle.thin.specs.Thin.{RunUp}
-use Rattle.thin.specs.Laws.{run-none, run-more}
+use Rattle.thin.specs.Thin.{FarRunUp}
+use Rattle.thin.specs.Found.{run-none, run-more}
 use borrow.Author.Needs.{needs}
 use Rattle.thin.proofs.run_up.Statement.{statement}
 use Rattle.thin.proofs.run_up.Tie as tie
 
 abbrev Inv-loop : tie.InvT-loop
-Inv-loop far₀ t₀ far t = (t ≤ 14) × RunUp (t + 1) far₀ far
+Inv-loop far₀ t₀ far t = (t ≤ 14) × FarRunUp (t + 1) far₀ far
 
 abbrev μ-loop : tie.MeasureT-loop
 μ-loop far₀ t₀ far t = 14 - t

@@ -4,7 +4,7 @@ use mathlib.Core.Path.{_≡_}
 use native.Mathlib.Omega.{arith}
 use Rattle.deck.specs.Words.{deckOf}
 use Rattle.thin.specs.Thin.{Stepped}
-use Rattle.thin.specs.Laws.{stepped-none, stepped-more}
+use Rattle.thin.specs.Found.{stepped-none, stepped-more}
 use borrow.Author.Needs.{needs}
 use Rattle.thin.proofs.step.Statement.{statement}
 use Rattle.thin.proofs.step.Tie as tie

@@ -8,8 +8,9 @@ use Rattle.deck.specs.Laws.{there-size}
 use Rattle.planes.specs.Rows.{planesIn, byPairs}
 use Rattle.planes.specs.Sources.{pairs-low, pairs-twin}
 use Rattle.planes.specs.Next.{next-found}
-use Rattle.thin.specs.Thin.{thinIn, Lent}
-use Rattle.thin.specs.Laws.{planes-twin, lent-none, lent-on, lent-run, found-there, put-words}
+use Rattle.thin.specs.Thin.{thinIn, Arrays}
+use Rattle.thin.specs.Laws.{planes-twin, lent-on}
+use Rattle.thin.specs.Found.{lent-none, lent-run, found-there, put-words}
 use borrow.Author.Needs.{needs}
 use Rattle.thin.proofs.target_there.Statement.{statement}
 use Rattle.thin.proofs.target_there.Tie as tie
@@ -28,7 +29,7 @@ planes : (c : tie.After-planes-of) → (let a = c .before .before .before .befor
 planes c = c .planes-of .ensures ∙ ap (planesIn (c .before .before .before .before .before .args .line .now)) (here (c .before))
 
 -- the arrays once the far rows ran up
-arrays : (c : tie.After-run-up) → Lent (c .before .before .gather .last .0) (c .before .before .gather .last .1 .0) (c .run-up .last .0)
+arrays : (c : tie.After-run-up) → Arrays (c .before .before .gather .last .0) (c .before .before .gather .last .1 .0) (c .run-up .last .0)
 arrays c = lent-run (lent-on lent-none (c .before .before .gather .ensures)) (c .run-up .ensures)
 
 planes-low : (k : tie.Start) → (let a = k .args in (v t : ℕ) → byPairs (a .line .now) (deckOf (a .line .now) (a .n) (a .poses)) (a .r) (thinIn (a .store .now) (a .from)) (a .i) (a .q) (a .count) v t ≤ B)
