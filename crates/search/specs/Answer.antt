@@ -24,7 +24,7 @@ use Rattle.join.specs.Tables.{casesIn}
 use Rattle.stage.specs.Stage.{wide, posIn, StagesDone}
 use Rattle.stage.specs.Laws.{wide-last}
 use Rattle.walk.specs.Walks.{wordAt}
-use Rattle.trace.specs.Trace.{Trace}
+use Rattle.trace.specs.Trace.{Ways, stages-ways, Trace, TraceDone, TracedTo}
 use Rattle.trace.specs.Laws.{trace-given}
 use Rattle.scatter.specs.Scatter.{cellAt, poseAt, Given, Scattered}
 use Rattle.scatter.specs.Laws.{both-scattered, scattered-small}
@@ -120,8 +120,16 @@ module _ {j : Job} {line₀ line₁ pairs places₀ places₁ : List ℕ} {n₀ 
 
   pub may-trace : {st path₀ path₁ : List ℕ} {poses : ℕ} → poses ≡ poseNumbers j → Tables j line₀ line₁ places₀ places₁ n₀ n₁ talls count st → 67 ≤ length path₀ → 67 ≤ length path₁
       → Trace line₀ line₁ pairs places₀ places₁ st path₀ path₁ (reorder j) n₀ n₁ poses count talls talls 0 0 0
-  may-trace {st} {path₀} {path₁} z t h l =
-      subst (λ (p : ℕ). Trace line₀ line₁ pairs places₀ places₁ st path₀ path₁ (reorder j) n₀ n₁ p count talls talls 0 0 0) (sym z) (trace-given (stages-given r refl (t .long) (t .low)) (t .done) h l (t .some))
+  may-trace z t h l = trace-given (stages-given r z (omega (arith, t .long, t .done .long)) (t .done .low)) h l
+
+  -- what the trace leaves, with these tables
+  pub was-traced : {st st′ path₀ path₀′ path₁ path₁′ : List ℕ} {poses : ℕ} → poses ≡ poseNumbers j → Tables j line₀ line₁ places₀ places₁ n₀ n₁ talls count st
+      → TraceDone (deckOf line₀ n₀ poses) (deckOf line₁ n₁ poses) (reorder j) talls (posIn places₀) (posIn places₁) talls 0 0 0 st st′ path₀ path₀′ path₁ path₁′
+      → TracedTo (deckOf line₀ n₀ poses) (deckOf line₁ n₁ poses) (reorder j) talls (posIn places₀) (posIn places₁) talls 0 0 0 path₀ path₀′ path₁ path₁′
+  was-traced {st} z t w =
+      w .done
+      (subst (λ (p : ℕ). Ways (deckOf line₀ n₀ p) (deckOf line₁ n₁ p) (reorder j) talls (posIn places₀) (posIn places₁) st) (sym z) (stages-ways (t .done)))
+      (subst (λ (p : ℕ). leastCost (deckOf line₀ n₀ p) (deckOf line₁ n₁ p) (reorder j) talls (posIn places₀) (posIn places₁) < B) (sym z) (t .some))
 
   module _ (path₀ path₁ : List ℕ) (poses : ℕ) (z : poses ≡ poseNumbers j) (u : found < B)
       (t : Traced (deckOf line₀ n₀ poses) (deckOf line₁ n₁ poses) (reorder j) talls (posIn places₀) (posIn places₁) (NotedBy (wordAt path₀)) (NotedBy (wordAt path₁)) talls 0 0 0) where

@@ -108,12 +108,11 @@ module _ (D₀ D₁ : Deck) (R talls : ℕ) (pos₀ pos₁ : ℕ → ℕ) where
 
     -- a stage from its prices and the table before
     pub stage-done : (I : ℕ) {old mid one new : List ℕ} → I ≤ talls → talls ≤ 24
-        → Right D₀ D₁ R talls pos₀ pos₁ I old
         → BothPriced (priceOf D₀ R talls pos₀ I) (priceOf D₁ R talls pos₁ I) I (wide talls I (pairCount R)) (wide talls I (D₀ .poses)) (wide talls (suc I) (pairCount R)) (wide talls (suc I) (D₀ .poses)) (wide talls I (pairCount R)) old mid
         → Joined (wide talls I (pairCount R)) (wide talls I (widthOf (D₀ .poses))) (wide talls (suc I) (pairCount R)) (wide talls (suc I) (D₀ .poses)) I mid one
         → Closed (suc I) (wide talls (suc I) (D₀ .poses)) (wide talls (suc I) (widthOf (D₀ .poses))) (AllPairs (wide talls (suc I) (pairCount R)) (wide talls (suc I) (pairCount R))) one new
         → StageDone D₀ D₁ R talls pos₀ pos₁ I old new
-    stage-done I {old} {mid} {one} {new} h g r p j c =
+    stage-done I {old} {mid} {one} {new} h g p j c =
         record {
           long = c .long ∙ j .long ∙ p .long;
           low = c .fits;
@@ -122,22 +121,22 @@ module _ (D₀ D₁ : Deck) (R talls : ℕ) (pos₀ pos₁ : ℕ → ℕ) where
               let u = j .tables k q₀ q₁ a n m in
               let v = p .tables k q₀ q₁ a m in
               record { case = w .case ∙ u .case ∙ v .case; source = w .source ∙ u .source ∙ v .source };
-          staged = record {
+          staged = λ r. record {
             case = λ q₀ q₁ a x y z.
                 let m = wide-pairs (suc I) in
                 let n = wide-poses (suc I) in
                 let e = c .kept (suc I) q₀ q₁ a (omega arith, omega arith, omega arith, omega arith) (λ e k l. omega arith) in
-                rw (e .case, e .source) (go q₀ q₁ a x y z);
+                rw (e .case, e .source) (go r q₀ q₁ a x y z);
             beyond = record { none = λ q₀ q₁ l x y. c .none q₀ q₁ l (x, y) };
           };
         }
       where
         -- the ways below B are the model's
-        same : (q₀ q₁ a s t l : ℕ) → q₀ < wide talls (suc I) (pairCount R) → q₁ < wide talls (suc I) (pairCount R) → a < wide talls (suc I) (D₀ .poses)
+        same : Right D₀ D₁ R talls pos₀ pos₁ I old → (q₀ q₁ a s t l : ℕ) → q₀ < wide talls (suc I) (pairCount R) → q₁ < wide talls (suc I) (pairCount R) → a < wide talls (suc I) (D₀ .poses)
             → s < wide talls I (pairCount R) → t < wide talls I (pairCount R) → l < wide talls I (D₀ .poses)
             → min (casesIn mid I s t l + (pricesIn mid 0 s l q₀ a + pricesIn mid 1 t l q₁ a)) B
             ≡ min (tableOf D₀ D₁ R talls pos₀ pos₁ I s t l + (priceOf D₀ R talls pos₀ I s l q₀ a + priceOf D₁ R talls pos₁ I t l q₁ a)) B
-        same q₀ q₁ a s t l x y z b d e =
+        same r q₀ q₁ a s t l x y z b d e =
             let m = wide-pairs I in
             let n = wide-poses I in
             let u = p .tables I s t l (omega arith, omega arith, omega arith, omega arith) .case in
@@ -145,25 +144,25 @@ module _ (D₀ D₁ : Deck) (R talls : ℕ) (pos₀ pos₁ : ℕ → ℕ) where
             ways-same _ _ (p .right₀ s b) (p .right₁ t d) q₀ q₁ a l x y z b d e u v
 
         -- no case goes by a lane beyond the poses
-        beyond : (s t l : ℕ) → s < wide talls I (pairCount R) → t < wide talls I (pairCount R) → wide talls I (D₀ .poses) ≤ l → l < wide talls I (widthOf (D₀ .poses))
+        beyond : Right D₀ D₁ R talls pos₀ pos₁ I old → (s t l : ℕ) → s < wide talls I (pairCount R) → t < wide talls I (pairCount R) → wide talls I (D₀ .poses) ≤ l → l < wide talls I (widthOf (D₀ .poses))
             → B ≤ casesIn mid I s t l
-        beyond s t l b d u v =
+        beyond r s t l b d u v =
             let m = wide-pairs I in
             let n = wide-lanes talls I (D₀ .poses) narrow in
             omega (arith, p .tables I s t l (omega arith, omega arith, omega arith, omega arith) .case, r .beyond .none s t l b d u v)
 
-        go : (q₀ q₁ a : ℕ) → q₀ < wide talls (suc I) (pairCount R) → q₁ < wide talls (suc I) (pairCount R) → a < wide talls (suc I) (D₀ .poses)
+        go : Right D₀ D₁ R talls pos₀ pos₁ I old → (q₀ q₁ a : ℕ) → q₀ < wide talls (suc I) (pairCount R) → q₁ < wide talls (suc I) (pairCount R) → a < wide talls (suc I) (D₀ .poses)
             → Least
             (tableOf D₀ D₁ R talls pos₀ pos₁ (suc I) q₀ q₁ a)
             (Way (wide talls I (pairCount R)) (wide talls I (D₀ .poses)) (tableOf D₀ D₁ R talls pos₀ pos₁ I) (priceOf D₀ R talls pos₀ I) (priceOf D₁ R talls pos₁ I) q₀ q₁ a)
             (casesIn one (suc I) q₀ q₁ a)
             (sourcesIn one (suc I) q₀ q₁ a)
-        go q₀ q₁ a x y z =
+        go r q₀ q₁ a x y z =
             let d = least-open (wide talls I (pairCount R)) (wide talls I (widthOf (D₀ .poses))) (wide talls I (D₀ .poses)) (casesIn mid I) (pricesIn mid 0) (pricesIn mid 1) q₀ q₁ a
-            (wide-lanes talls I (D₀ .poses) narrow .0) beyond (j .done q₀ q₁ a x y z) in
+            (wide-lanes talls I (D₀ .poses) narrow .0) (beyond r) (j .done q₀ q₁ a x y z) in
             let w = least-ext (wide talls I (pairCount R)) (wide talls I (D₀ .poses)) (casesIn mid I) (tableOf D₀ D₁ R talls pos₀ pos₁ I)
             (pricesIn mid 0) (pricesIn mid 1) (priceOf D₀ R talls pos₀ I) (priceOf D₁ R talls pos₁ I) q₀ q₁ a
-            (λ s t l b d e. same q₀ q₁ a s t l x y z b d e) d in
+            (λ s t l b d e. same r q₀ q₁ a s t l x y z b d e) d in
             record { right = w .right ∙ table-step I q₀ q₁ a h; found = w .found; small = w .small }
 
     -- the same by the code's names
@@ -171,15 +170,14 @@ module _ (D₀ D₁ : Deck) (R talls : ℕ) (pos₀ pos₁ : ℕ → ℕ) where
         → starts ≡ wide talls I count → lanes ≡ wide talls I (widthOf (D₀ .poses)) → ends ≡ wide talls (I + 1) count → last ≡ wide talls (I + 1) (D₀ .poses)
         → width ≡ wide talls (I + 1) (widthOf (D₀ .poses))
         → count ≡ pairCount R → I ≤ talls → talls ≤ 24
-        → Right D₀ D₁ R talls pos₀ pos₁ I old
         → BothPriced (priceOf D₀ R talls pos₀ I) (priceOf D₁ R talls pos₁ I) I (wide talls I count) (wide talls I (D₀ .poses)) (wide talls (suc I) count) (wide talls (suc I) (D₀ .poses)) (wide talls I count) old mid
         → Joined starts lanes ends last I mid one → Closed (I + 1) last width (AllPairs ends ends) one new
         → StageDone D₀ D₁ R talls pos₀ pos₁ I old new
-    stage-made I count starts lanes ends last width e₁ e₂ e₃ e₄ e₅ all h g r p j c =
+    stage-made I count starts lanes ends last width e₁ e₂ e₃ e₄ e₅ all h g p j c =
         let b = rw all at p in
         let d = rw (e₁, e₂, e₃, e₄, add-one I, all) at j in
         let f = rw (e₃, e₄, e₅, add-one I, all) at c in
-        stage-done I h g r b d f
+        stage-done I h g b d f
 
     -- the stages before are kept
     staged-kept : (J I : ℕ) {old new : List ℕ} → J < I → I ≤ 24 → StageDone D₀ D₁ R talls pos₀ pos₁ I old new
@@ -204,8 +202,8 @@ module _ (D₀ D₁ : Deck) (R talls : ℕ) (pos₀ pos₁ : ℕ → ℕ) where
         record {
           long = d .long ∙ t .long;
           low = d .low;
-          right = rw (add-one I) (staged-right I (d .staged));
-          staged = below-more (λ (J : ℕ). Staged D₀ D₁ R talls pos₀ pos₁ J new) I (λ J h. staged-kept J I h b d (t .staged J h)) (d .staged);
+          right = rw (add-one I) (staged-right I (d .staged (t .right)));
+          staged = below-more (λ (J : ℕ). Staged D₀ D₁ R talls pos₀ pos₁ J new) I (λ J h. staged-kept J I h b d (t .staged J h)) (d .staged (t .right));
         }
 
   -- before anything: the word of case (0, 0, 0) is 0

@@ -60,12 +60,12 @@ module _ (D₀ D₁ : Deck) (R talls : ℕ) (pos₀ pos₁ : ℕ → ℕ) where
         (sourcesIn st (suc I) q₀ q₁ a)
     pub beyond : NoneBeyond talls (pairCount R) (D₀ .poses) (suc I) st
 
-  -- what stage I does to the store; the tables other than number I + 1 are kept
+  -- what stage I does to the store, whatever its words; the tables other than number I + 1 are kept. If table number I is right, so is the next.
   pub record StageDone (I : ℕ) (old new : List ℕ) : Type 0 where
     pub long : length new ≡ length old
     pub low : Low new
     pub tables : (J q₀ q₁ a : ℕ) → (J ≡ suc I → ⊥) → Slot J q₀ q₁ a → SameCase J q₀ q₁ a old new
-    pub staged : Staged I new
+    pub staged : Right I old → Staged I new
 
   -- the stages before I
   pub record Through (I : ℕ) (old new : List ℕ) : Type 0 where

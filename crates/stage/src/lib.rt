@@ -9,7 +9,7 @@ ghost use Rattle.model.specs.Stages.{placedWith};
 ghost use Rattle.deck.specs.Words.{deckOf, PairWords};
 ghost use Rattle.near.specs.Table.{Lent};
 ghost use Rattle.join.specs.Tables.{Table};
-ghost use Rattle.stage.specs.Stage.{wide, widthOf, posIn, priceOf, fromAt, Dead, StartPriced, BothPriced, RowGiven, StagesGiven, Right, StageDone, StagesDone};
+ghost use Rattle.stage.specs.Stage.{wide, widthOf, posIn, priceOf, fromAt, Dead, StartPriced, BothPriced, RowGiven, StagesGiven, StageDone, StagesDone};
 use row::row_price;
 
 // How many of x pairs or poses table number i has.
@@ -179,7 +179,7 @@ fn prices(
     }
 }
 
-// Stage i: case table number i + 1 from table number i.
+// Stage i: case table number i + 1 from table number i, whatever the words of the store.
 pub fn stage(
     table: &mut [u32; 10944],
     store: &mut [u32],
@@ -196,7 +196,7 @@ pub fn stage(
     talls: usize,
     i: usize,
 )
-    requires { ⌜ Lent (now table) × StagesGiven (now line0) (now line1) (now pairs) (now places0) (now places1) (now store) r n0 n1 poses count talls × (i ≤ talls) × Right (deckOf (now line0) n0 poses) (deckOf (now line1) n1 poses) r talls (posIn (now places0)) (posIn (now places1)) i (now store) ⌝ }
+    requires { ⌜ Lent (now table) × StagesGiven (now line0) (now line1) (now pairs) (now places0) (now places1) (now store) r n0 n1 poses count talls × (i ≤ talls) ⌝ }
     ensures { λ _. ⌜ StageDone (deckOf (now (line0 .entry)) n0 poses) (deckOf (now (line1 .entry)) n1 poses) r talls (posIn (now (places0 .entry))) (posIn (now (places1 .entry))) i (now (store .entry)) (now (store .exit)) × Lent (now (table .exit)) ⌝ }
 {
     prices(

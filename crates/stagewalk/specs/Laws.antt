@@ -21,7 +21,7 @@ use Rattle.kept.specs.Laws.{kept-ext, kept-fewer}
 use Rattle.walk.specs.Walks.{Back, Walk, End, WalkDone, EndDone, wordAt}
 use Rattle.walk.specs.Steps.{end-full}
 use Rattle.stage.specs.Stage.{posIn}
-use Rattle.stagewalk.specs.Rows.{startCells, startLayer, startEnd, endPlace, Stage, Started, StageDone}
+use Rattle.stagewalk.specs.Rows.{startCells, startLayer, startEnd, priceFrom, endPlace, Stage, Started, StageDone}
 
 -- ---- the start
 
@@ -29,6 +29,10 @@ pub start-some : (R : ℕ) (pos : ℕ → ℕ) (I s : ℕ) → 0 < startCells R 
 unfolding startCells
 start-some R pos zero s = omega arith
 start-some R pos (suc I) s = omega arith
+
+pub start-one : (R : ℕ) (pos : ℕ → ℕ) (I s : ℕ) → I ≡ 0 → 1 ≡ startCells R pos I s
+unfolding startCells
+start-one R pos I s e = ap (λ (k : ℕ). startCells R pos k s) (sym e)
 
 pub start-count : (R : ℕ) (pos : ℕ → ℕ) (I J s : ℕ) → I ≡ suc J → startCells R pos I s ≡ suc (placedWith R (pos J) s)
 unfolding startCells
@@ -101,32 +105,9 @@ pub end-last : (n R talls : ℕ) (pos : ℕ → ℕ) (I q : ℕ) → talls ≤ I
 unfolding endPlace
 end-last n R talls pos I q h = ap (λ t. cond t (placedWith R (pos I) q) n) (le-ltb I talls h)
 
--- the first layer has its place among those that are kept
-pub start-fits : {line pairs places st path : List ℕ} {n poses R count talls I s l q a : ℕ} → Stage line pairs places st path n poses R count talls I s l q a
-    → startCells R (posIn places) I s ≤ 66
-start-fits {line} {places = places} {n = n} {poses} {R} {talls = talls} {I} {s} {l} {q} {a} g = go (decLt I talls)
-  where
-    D : Deck
-    D = deckOf line n poses
-
-    f : Layer
-    f = startLayer D R (posIn places) I s l
-
-    size : n ≤ 64
-    size = g .start .row .ground .size
-
-    go : Dec (I < talls) → startCells R (posIn places) I s ≤ 66
-    go (yes h) =
-        let p = tall-price D R talls (posIn places) I f (startCells R (posIn places) I s) (startEnd D (posIn places) I l) q a h (g .cost) in
-        omega (arith, p .0, g .start .row .inside I h, size, g .start .row .ground .coded .reorder)
-    go (no h) =
-        let p = end-price D R talls (posIn places) I f (startCells R (posIn places) I s) (startEnd D (posIn places) I l) q a (omega arith) (g .cost) in
-        omega (arith, size, end-bound D R f (startCells R (posIn places) I s) (startEnd D (posIn places) I l) p)
-
 -- ---- a stage
 
-module _ {line pairs places st path : List ℕ} {n poses R count talls I s l q a : ℕ} (g : Stage line pairs places st path n poses R count talls I s l q a)
-    {cells : ℕ} {mid : List ℕ} (w : Started (deckOf line n poses) R (posIn places) I s l cells st mid) where
+module _ {line pairs places st path : List ℕ} {n poses R count talls I s l q a : ℕ} (g : Stage line pairs places st path n poses R count talls I s l q a) where
   abbrev D : Deck
   D = deckOf line n poses
 
@@ -136,105 +117,135 @@ module _ {line pairs places st path : List ℕ} {n poses R count talls I s l q a
   abbrev pays : ℕ
   pays = startEnd (deckOf line n poses) (posIn places) I l
 
-  some : 0 < cells
-  some = omega (arith, w .count, start-some R (posIn places) I s)
+  abbrev Priced : Type 0
+  Priced = priceFrom (deckOf line n poses) R talls (posIn places) I s l q a < B
 
-  -- the price, from as many cells as were counted
-  cost : stageEnd (deckOf line n poses) R talls (posIn places) I (startLayer (deckOf line n poses) R (posIn places) I s l) cells (startEnd (deckOf line n poses) (posIn places) I l) q a < B
-  cost = subst (λ (i : ℕ). stageEnd D R talls (posIn places) I f i pays q a < B) (sym (w .count)) (g .cost)
+  -- nothing is noted
+  none-noted : {new : List ℕ} → Frame 0 148992 st new → Low new → (Priced → ⊥) → StageDone (deckOf line n poses) R talls (posIn places) I s l q a st new path path
+  none-noted u w z = record { frame = u; low = w; notes = frame-refl (startCells R (posIn places) I s) (suc (endPlace n R talls (posIn places) I q)) path; walked = λ c. absurd (z c) }
 
-  -- the first layer is the one that is kept
-  kept-start : {end : ℕ} {new : List ℕ} → KeptLayers (deckOf line n poses) R (keptIn mid cells) cells end new
-      → KeptLayers (deckOf line n poses) R (startLayer (deckOf line n poses) R (posIn places) I s l) cells end new
-  kept-start k = kept-ext (keptIn mid cells) f (w .right) k
+  -- the first layer has its place among those that are kept
+  start-fits : Priced → startCells R (posIn places) I s ≤ 66
+  start-fits c = go (decLt I talls)
+    where
+      size : n ≤ 64
+      size = g .start .row .ground .size
 
-  back : {new : List ℕ} → Low new → length new ≡ length mid → Back line pairs new n poses R count
-  back u e = record { ground = g .start .row .ground; low = u; long = omega (arith, g .start .long, w .frame .long) }
+      go : Dec (I < talls) → startCells R (posIn places) I s ≤ 66
+      go (yes h) =
+          let p = tall-price D R talls (posIn places) I f (startCells R (posIn places) I s) pays q a h c in
+          omega (arith, p .0, g .start .row .inside I h, size, g .start .row .ground .coded .reorder)
+      go (no h) =
+          let p = end-price D R talls (posIn places) I f (startCells R (posIn places) I s) pays q a (omega arith) c in
+          omega (arith, size, end-bound D R f (startCells R (posIn places) I s) pays p)
 
-  stretch : (end : ℕ) → cells ≤ 66 → end ≤ 66 → Stretch line pairs mid n poses R count cells end
-  stretch end h k = record { ground = g .start .row .ground; low = w .low; long = omega (arith, g .start .long, w .frame .long); some = some; cells = h; last = k }
+  pub start-late : 66 < startCells R (posIn places) I s → StageDone (deckOf line n poses) R talls (posIn places) I s l q a st st path path
+  start-late h = none-noted (frame-refl 0 148992 st) (g .start .low) (λ c. omega (arith, start-fits c))
 
-  store-kept : {new : List ℕ} → Frame 98304 148992 mid new → Frame 0 148992 st new
-  store-kept u = frame-join 0 148992 (w .frame) u (omega arith) (omega arith) (omega arith) (omega arith)
+  module _ {cells : ℕ} {mid : List ℕ} (w : Started (deckOf line n poses) R (posIn places) I s l cells st mid) (few : cells ≤ 66) where
+    some : 0 < cells
+    some = omega (arith, w .count, start-some R (posIn places) I s)
 
-  -- ---- to a tall cell
+    -- the price, from as many cells as were counted
+    cost : Priced → stageEnd D R talls (posIn places) I f cells pays q a < B
+    cost c = subst (λ (i : ℕ). stageEnd D R talls (posIn places) I f i pays q a < B) (sym (w .count)) c
 
-  module _ (h : I < talls) {end : ℕ} (e : end ≡ placedWith R (posIn places I) q) where
-    tall-room : (cells + offset R q ≤ posIn places I + suc R) × (layers (deckOf line n poses) R (startLayer (deckOf line n poses) R (posIn places) I s l) cells (end - cells) q a < B)
-    tall-room =
-        let p = tall-price D R talls (posIn places) I f cells pays q a h cost in
-        (p .0, subst (λ (j : ℕ). layers D R f cells (j - cells) q a < B) (sym e) (p .1))
+    -- the first layer is the one that is kept
+    kept-start : {end : ℕ} {new : List ℕ} → KeptLayers D R (keptIn mid cells) cells end new → KeptLayers D R f cells end new
+    kept-start k = kept-ext (keptIn mid cells) f (w .right) k
 
-    pub tall-order : cells ≤ end
-    tall-order = omega (arith, tall-room .0)
+    back : {new : List ℕ} → Low new → length new ≡ length mid → Back line pairs new n poses R count
+    back u e = record { ground = g .start .row .ground; low = u; long = omega (arith, g .start .long, w .frame .long) }
 
-    end-low : end ≤ 66
-    end-low = let c = g .start .row .ground .coded .reorder in omega (arith, g .start .row .inside I h, g .start .row .ground .size)
+    stretch : (end : ℕ) → end ≤ 66 → Stretch line pairs mid n poses R count cells end
+    stretch end k = record { ground = g .start .row .ground; low = w .low; long = omega (arith, g .start .long, w .frame .long); some = some; cells = few; last = k }
 
-    pub tall-stretch : Stretch line pairs mid n poses R count cells end
-    tall-stretch = stretch end (omega (arith, tall-order, end-low)) end-low
+    store-kept : {new : List ℕ} → Frame 98304 148992 mid new → Frame 0 148992 st new
+    store-kept u = frame-join 0 148992 (w .frame) u (omega arith) (omega arith) (omega arith) (omega arith)
 
-    module _ {new : List ℕ} (k : StretchKept (deckOf line n poses) R cells end mid new) where
-      tall-kept : KeptLayers (deckOf line n poses) R (startLayer (deckOf line n poses) R (posIn places) I s l) cells (cells + (end - cells)) new
-      tall-kept = kept-start (kept-fewer (cells + (end - cells)) (omega (arith, tall-order)) (k .kept))
+    -- ---- to a tall cell
 
-      pub tall-walk : Walk line pairs new path n poses R count cells (end - cells) q a
-      tall-walk =
-          record {
-            back = back (k .low) (k .frame .long);
-            room = g .room;
-            some = some;
-            last = omega (arith, tall-order, end-low);
-            pair = g .pair h;
-            pose = g .pose h;
-            first = f;
-            kept = tall-kept;
-            cost = omega (arith, tall-kept .right (end - cells) q a (omega arith) (g .pair h) (g .pose h), tall-room .1);
-          }
+    module _ (h : I < talls) {end : ℕ} (e : end ≡ placedWith R (posIn places I) q) where
+      tall-room : Priced → (cells + offset R q ≤ posIn places I + suc R) × (layers D R f cells (end - cells) q a < B)
+      tall-room c =
+          let p = tall-price D R talls (posIn places) I f cells pays q a h (cost c) in
+          (p .0, subst (λ (j : ℕ). layers D R f cells (j - cells) q a < B) (sym e) (p .1))
 
-      pub tall-done : {path′ : List ℕ} → WalkDone (deckOf line n poses) R new cells (end - cells) q a path path′
-          → StageDone (deckOf line n poses) R talls (posIn places) I s l q a st new path path′
-      tall-done {path′} d =
-          record {
-            frame = store-kept (k .frame);
-            low = k .low;
-            notes = frame-join (startCells R (posIn places) I s) (suc (endPlace n R talls (posIn places) I q)) (frame-refl (startCells R (posIn places) I s) 0 path) (d .frame)
-                (omega arith) (omega (arith, w .count)) (omega arith) (omega (arith, z, tall-order));
-            walked = record {
-              toTall = λ y. subst (λ (i : ℕ). (i + offset R q ≤ posIn places I + suc R) × Walked D R (NotedBy (wordAt path′)) f i (posIn places I + suc R - offset R q - i) q a) (w .count)
-                  (tall-room .0, subst (λ (j : ℕ). Walked D R (NotedBy (wordAt path′)) f cells (j - cells) q a) e (d .walked f tall-kept));
-              toEnd = λ y. absurd (omega arith);
-            };
-          }
-        where
-          z : endPlace n R talls (posIn places) I q ≡ end
-          z = end-tall n R talls (posIn places) I q h ∙ sym e
+      pub tall-late : end < cells → StageDone D R talls (posIn places) I s l q a st mid path path
+      tall-late o = none-noted (frame-join 0 148992 (frame-refl 0 148992 st) (w .frame) (omega arith) (omega arith) (omega arith) (omega arith)) (w .low) (λ c. omega (arith, tall-room c .0))
 
-  -- ---- to the row's end
+      pub end-low : end ≤ 66
+      end-low = let c = g .start .row .ground .coded .reorder in omega (arith, g .start .row .inside I h, g .start .row .ground .size)
 
-  module _ (h : talls ≤ I) where
-    price : priceEnd (deckOf line n poses) R (startLayer (deckOf line n poses) R (posIn places) I s l) cells (startEnd (deckOf line n poses) (posIn places) I l) < B
-    price = end-price D R talls (posIn places) I f cells pays q a h cost
+      pub tall-stretch : Stretch line pairs mid n poses R count cells end
+      tall-stretch = stretch end end-low
 
-    pub last-stretch : Stretch line pairs mid n poses R count cells n
-    last-stretch = let z = g .start .row .ground .size in stretch n (omega (arith, end-bound D R f cells pays price)) (omega arith)
+      module _ (o : cells ≤ end) {new : List ℕ} (k : StretchKept D R cells end mid new) where
+        tall-kept : KeptLayers D R f cells (cells + (end - cells)) new
+        tall-kept = kept-start (kept-fewer (cells + (end - cells)) (omega arith) (k .kept))
 
-    module _ {new : List ℕ} (k : StretchKept (deckOf line n poses) R cells n mid new) where
-      pub last-walk : End line pairs new path n poses R count cells
-      last-walk = record { back = back (k .low) (k .frame .long); room = g .room; some = some; first = f; start = pays; kept = kept-start (k .kept); cost = price }
+        tall-word : keptIn new (cells + (end - cells)) q a ≡ keptIn new end q a
+        tall-word = ap (λ (j : ℕ). keptIn new j q a) (omega arith)
 
-      pub last-done : {path′ : List ℕ} → EndDone (deckOf line n poses) R new cells path path′ → StageDone (deckOf line n poses) R talls (posIn places) I s l q a st new path path′
-      last-done {path′} d =
-          record {
-            frame = store-kept (k .frame);
-            low = k .low;
-            notes = frame-join (startCells R (posIn places) I s) (suc (endPlace n R talls (posIn places) I q)) (frame-refl (startCells R (posIn places) I s) 0 path) (d .frame)
-                (omega arith) (omega (arith, w .count)) (omega arith) (omega (arith, z));
-            walked = record {
-              toTall = λ y. absurd (omega arith);
-              toEnd = λ y. subst (λ (i : ℕ). EndWalked D R (NotedBy (wordAt path′)) f i pays) (w .count) (d .walked f pays (kept-start (k .kept)) price);
-            };
-          }
-        where
-          z : endPlace n R talls (posIn places) I q ≡ n
-          z = end-last n R talls (posIn places) I q h
+        pub tall-none : B ≤ keptIn new end q a → StageDone D R talls (posIn places) I s l q a st new path path
+        tall-none b = none-noted (store-kept (k .frame)) (k .low) (λ c. omega (arith, tall-word, tall-kept .right (end - cells) q a (omega arith) (g .pair h) (g .pose h), tall-room c .1))
+
+        pub tall-walk : keptIn new end q a < B → Walk line pairs new path n poses R count cells (end - cells) q a
+        tall-walk b =
+            record {
+              back = back (k .low) (k .frame .long);
+              room = g .room;
+              some = some;
+              last = omega (arith, end-low);
+              pair = g .pair h;
+              pose = g .pose h;
+              first = f;
+              kept = tall-kept;
+              cost = omega (arith, tall-word);
+            }
+
+        pub tall-done : {path′ : List ℕ} → WalkDone D R new cells (end - cells) q a path path′ → StageDone D R talls (posIn places) I s l q a st new path path′
+        tall-done {path′} d =
+            record {
+              frame = store-kept (k .frame);
+              low = k .low;
+              notes = frame-join (startCells R (posIn places) I s) (suc (endPlace n R talls (posIn places) I q)) (frame-refl (startCells R (posIn places) I s) 0 path) (d .frame)
+                  (omega arith) (omega (arith, w .count)) (omega arith) (omega (arith, z));
+              walked = λ c. record {
+                toTall = λ y. subst (λ (i : ℕ). (i + offset R q ≤ posIn places I + suc R) × Walked D R (NotedBy (wordAt path′)) f i (posIn places I + suc R - offset R q - i) q a) (w .count)
+                    (tall-room c .0, subst (λ (j : ℕ). Walked D R (NotedBy (wordAt path′)) f cells (j - cells) q a) e (d .walked f tall-kept));
+                toEnd = λ y. absurd (omega arith);
+              };
+            }
+          where
+            z : endPlace n R talls (posIn places) I q ≡ end
+            z = end-tall n R talls (posIn places) I q h ∙ sym e
+
+    -- ---- to the row's end
+
+    module _ (h : talls ≤ I) where
+      price : Priced → priceEnd D R f cells pays < B
+      price c = end-price D R talls (posIn places) I f cells pays q a h (cost c)
+
+      pub last-stretch : Stretch line pairs mid n poses R count cells n
+      last-stretch = let z = g .start .row .ground .size in stretch n (omega arith)
+
+      module _ {new : List ℕ} (k : StretchKept D R cells n mid new) where
+        pub last-walk : End line pairs new path n poses R count cells
+        last-walk = record { back = back (k .low) (k .frame .long); room = g .room; some = some; first = f; kept = kept-start (k .kept) }
+
+        pub last-done : {path′ : List ℕ} → EndDone D R new cells path path′ → StageDone D R talls (posIn places) I s l q a st new path path′
+        last-done {path′} d =
+            record {
+              frame = store-kept (k .frame);
+              low = k .low;
+              notes = frame-join (startCells R (posIn places) I s) (suc (endPlace n R talls (posIn places) I q)) (frame-refl (startCells R (posIn places) I s) 0 path) (d .frame)
+                  (omega arith) (omega (arith, w .count)) (omega arith) (omega (arith, z));
+              walked = λ c. record {
+                toTall = λ y. absurd (omega arith);
+                toEnd = λ y. subst (λ (i : ℕ). EndWalked D R (NotedBy (wordAt path′)) f i pays) (w .count) (d .walked f pays (kept-start (k .kept)) (price c));
+              };
+            }
+          where
+            z : endPlace n R talls (posIn places) I q ≡ n
+            z = end-last n R talls (posIn places) I q h

@@ -56,7 +56,6 @@ pub record Stage (line pairs places st path : List ℕ) (n poses R count talls I
   pub room : 67 ≤ length path
   pub pair : I < talls → q < pairCount R
   pub pose : I < talls → a < poses
-  pub cost : priceFrom (deckOf line n poses) R talls (posIn places) I s l q a < B
 
 -- ---- what is left
 
@@ -67,9 +66,10 @@ pub record Started (D : Deck) (R : ℕ) (pos : ℕ → ℕ) (I s l cells : ℕ) 
   pub low : Low new
   pub right : (q a : ℕ) → q < pairCount R → a < D .poses → keptIn new cells q a ≡ startLayer D R pos I s l q a
 
--- the stage is walked: the cells from its first place to its last are noted, and nothing else; the tables are kept
+-- the stage is walked, if it has a price: the cells from its first place to its last are noted, and nothing else; the tables are kept
 pub record StageDone (D : Deck) (R talls : ℕ) (pos : ℕ → ℕ) (I s l q a : ℕ) (st st′ path path′ : List ℕ) : Type 0 where
   pub frame : Frame 0 148992 st st′
   pub low : Low st′
   pub notes : Frame (startCells R pos I s) (suc (endPlace (D .size) R talls pos I q)) path path′
-  pub walked : StageWalked D R talls pos (NotedBy (wordAt path′)) I (startLayer D R pos I s l) (startCells R pos I s) (startEnd D pos I l) q a
+  pub walked : priceFrom D R talls pos I s l q a < B
+      → StageWalked D R talls pos (NotedBy (wordAt path′)) I (startLayer D R pos I s l) (startCells R pos I s) (startEnd D pos I l) q a

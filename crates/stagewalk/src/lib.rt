@@ -1,7 +1,10 @@
 // One stage of the walk back in one row: its first layer is made once more from its one start, its layers are kept, and the walk goes back through them.
-ghost use Rattle.deck.specs.Words.{deckOf};
+ghost use Rattle.deck.specs.Words.{deckOf, PairWords};
 ghost use Rattle.stage.specs.Stage.{posIn};
-ghost use Prim.Native.Nat.{_≤_};
+ghost use mathlib.Core.Path.{_≡_};
+ghost use Prim.Native.Nat.{ℕ, _≤_, _<_};
+ghost use lib.ListN.{length};
+ghost use Rattle.model.specs.Steps.{pairCount};
 ghost use Rattle.stagewalk.specs.Rows.{startCells, Start, Stage, Started, StageDone};
 use stage::placed_with;
 
@@ -35,7 +38,19 @@ fn first_of(
     i + 1
 }
 
-// Back from pair q in pose a of the stage's tall cell, or from the row's end, to the stage's start.
+// How many cells the first layer of a stage has.
+fn cells_of(pairs: &[u32], places: &[u32], r: usize, stage: usize, s: usize) -> usize
+    requires { ⌜ PairWords r (now pairs) × (stage ≤ length (now places)) × ((i : ℕ) → i < stage → posIn (now places) i < 64) × (0 < stage → s < pairCount r) ⌝ }
+    ensures { λ i. ⌜ i ≡ startCells r (posIn (now (places .entry))) stage s ⌝ }
+{
+    if stage == 0 {
+        return 1;
+    }
+    let p = deck::word(places, stage - 1);
+    placed_with(pairs, r, p, s) + 1
+}
+
+// Back from pair q in pose a of the stage's tall cell, or from the row's end, to the stage's start; nothing is noted where the stage has no price.
 pub fn stage_walk(
     store: &mut [u32],
     path: &mut [u32],
@@ -56,6 +71,9 @@ pub fn stage_walk(
     requires { ⌜ Stage (now line) (now pairs) (now places) (now store) (now path) n poses r count talls stage s l q a ⌝ }
     ensures { λ _. ⌜ StageDone (deckOf (now (line .entry)) n poses) r talls (posIn (now (places .entry))) stage s l q a (now (store .entry)) (now (store .exit)) (now (path .entry)) (now (path .exit)) ⌝ }
 {
+    if cells_of(pairs, places, r, stage, s) > 66 {
+        return;
+    }
     let i = first_of(
         store,
         line,
@@ -72,7 +90,13 @@ pub fn stage_walk(
     );
     if stage < talls {
         let end = placed_with(pairs, r, deck::word(places, stage), q);
+        if end < i {
+            return;
+        }
         kept::stretch_kept(store, line, pairs, n, poses, r, count, i, end);
+        if store[kept::kept_at(end) + q * 64 + a] >= lanes::NONE {
+            return;
+        }
         walk::walk(
             store,
             path,

@@ -1,5 +1,6 @@
 -- The trace: from the last case table's one case back over the source words, both rows walked stage by stage.
 use Prim.Native.Nat.{ℕ, suc, _≤_, _<_}
+use mathlib.Core.Path.{_≡_}
 use mathlib.Core.List.{List}
 use lib.ListN.{length}
 use Rattle.model.specs.Steps.{B, Deck, pairCount}
@@ -54,33 +55,37 @@ pub record Leg (line₀ line₁ pairs places₀ places₁ st path₀ path₁ : L
   pub pair₁ : 0 < I → t < pairCount R
   pub pose : 0 < I → l < poses
   pub case : Case R talls poses I q₀ q₁ a
-  pub cost₀ : priceFrom (deckOf line₀ n₀ poses) R talls (posIn places₀) I s l q₀ a < B
-  pub cost₁ : priceFrom (deckOf line₁ n₁ poses) R talls (posIn places₁) I t l q₁ a < B
 
--- a case of stage I that there is a way to
+-- a case of stage I
 pub record Trace (line₀ line₁ pairs places₀ places₁ st path₀ path₁ : List ℕ) (R n₀ n₁ poses count talls I q₀ q₁ a : ℕ) : Type 0 where
   pub both : Both line₀ line₁ pairs places₀ places₁ st path₀ path₁ R n₀ n₁ poses count talls
   pub stage : I ≤ talls
   pub case : Case R talls poses I q₀ q₁ a
-  pub ways : Ways (deckOf line₀ n₀ poses) (deckOf line₁ n₁ poses) R talls (posIn places₀) (posIn places₁) st
-  pub cost : caseTable (deckOf line₀ n₀ poses) (deckOf line₁ n₁ poses) R talls (posIn places₀) (posIn places₁) I q₀ q₁ a < B
 
 -- ---- what is left
 
 module _ (D₀ D₁ : Deck) (R talls : ℕ) (pos₀ pos₁ : ℕ → ℕ) where
-  -- both rows are walked through stage I; the tables are kept
+  -- both rows are walked through stage I, where it has a price; the tables are kept
   pub record LegDone (I s t l q₀ q₁ a : ℕ) (st st′ path₀ path₀′ path₁ path₁′ : List ℕ) : Type 0 where
     pub frame : Frame 0 148992 st st′
     pub low : Low st′
     pub notes₀ : Frame (startCells R pos₀ I s) (suc (endPlace (D₀ .size) R talls pos₀ I q₀)) path₀ path₀′
     pub notes₁ : Frame (startCells R pos₁ I t) (suc (endPlace (D₁ .size) R talls pos₁ I q₁)) path₁ path₁′
-    pub walked₀ : StageWalked D₀ R talls pos₀ (NotedBy (wordAt path₀′)) I (startLayer D₀ R pos₀ I s l) (startCells R pos₀ I s) (startEnd D₀ pos₀ I l) q₀ a
-    pub walked₁ : StageWalked D₁ R talls pos₁ (NotedBy (wordAt path₁′)) I (startLayer D₁ R pos₁ I t l) (startCells R pos₁ I t) (startEnd D₁ pos₁ I l) q₁ a
+    pub walked₀ : priceFrom D₀ R talls pos₀ I s l q₀ a < B
+        → StageWalked D₀ R talls pos₀ (NotedBy (wordAt path₀′)) I (startLayer D₀ R pos₀ I s l) (startCells R pos₀ I s) (startEnd D₀ pos₀ I l) q₀ a
+    pub walked₁ : priceFrom D₁ R talls pos₁ I t l q₁ a < B
+        → StageWalked D₁ R talls pos₁ (NotedBy (wordAt path₁′)) I (startLayer D₁ R pos₁ I t l) (startCells R pos₁ I t) (startEnd D₁ pos₁ I l) q₁ a
 
   -- both rows are walked through all stages up to stage I
-  pub record TraceDone (I q₀ q₁ a : ℕ) (st st′ path₀ path₀′ path₁ path₁′ : List ℕ) : Type 0 where
-    pub frame : Frame 0 148992 st st′
-    pub low : Low st′
+  pub record TracedTo (I q₀ q₁ a : ℕ) (path₀ path₀′ path₁ path₁′ : List ℕ) : Type 0 where
     pub notes₀ : Frame 1 (suc (endPlace (D₀ .size) R talls pos₀ I q₀)) path₀ path₀′
     pub notes₁ : Frame 1 (suc (endPlace (D₁ .size) R talls pos₁ I q₁)) path₁ path₁′
     pub traced : Traced D₀ D₁ R talls pos₀ pos₁ (NotedBy (wordAt path₀′)) (NotedBy (wordAt path₁′)) I q₀ q₁ a
+
+  -- the tables are kept, whatever they are; if their sources are ways, and the case has a cost, it is traced
+  pub record TraceDone (I q₀ q₁ a : ℕ) (st st′ path₀ path₀′ path₁ path₁′ : List ℕ) : Type 0 where
+    pub frame : Frame 0 148992 st st′
+    pub low : Low st′
+    pub long₀ : length path₀′ ≡ length path₀
+    pub long₁ : length path₁′ ≡ length path₁
+    pub done : Ways D₀ D₁ R talls pos₀ pos₁ st → caseTable D₀ D₁ R talls pos₀ pos₁ I q₀ q₁ a < B → TracedTo I q₀ q₁ a path₀ path₀′ path₁ path₁′

@@ -78,7 +78,7 @@ fn both_walk(
     );
 }
 
-// From the case (q0, q1, a) of stage i back to the start of both rows.
+// From the case (q0, q1, a) of stage i back to the start of both rows; no further where a source word stands for no case.
 fn trace_from(
     store: &mut [u32],
     path0: &mut [u32],
@@ -129,6 +129,18 @@ fn trace_from(
         return;
     }
     let c = source(store, i, q0, q1, a);
+    let s = c / 768;
+    let t = c % 768 / 64;
+    let l = c % 64;
+    if s >= count {
+        return;
+    }
+    if t >= count {
+        return;
+    }
+    if l >= poses {
+        return;
+    }
     both_walk(
         store,
         path0,
@@ -145,9 +157,9 @@ fn trace_from(
         count,
         talls,
         i,
-        c / 768,
-        c % 768 / 64,
-        c % 64,
+        s,
+        t,
+        l,
         q0,
         q1,
         a,
@@ -168,9 +180,9 @@ fn trace_from(
         count,
         talls,
         i - 1,
-        c / 768,
-        c % 768 / 64,
-        c % 64,
+        s,
+        t,
+        l,
     );
 }
 

@@ -80,20 +80,27 @@ module _ (D : Deck) (R : ℕ) (f : Layer) where
         loop-member B (lastPays D R f q) (D .poses) b (m .pose),
       )
 
-  pub last-found : (best code all : ℕ) → all ≡ pairCount R * 64 → D .poses ≤ 60 → LeastOf (lastCode D R f) all best code → ends D R f < B → LastFound D R f (code / 64) (code % 64)
-  last-found best code all e few w l =
-      let a = above best (w .capped) (λ q b x y. part q b x y) in
-      let m = w .met (omega arith) in
-      let x = m .0 in
-      let h : code / 64 < pairCount R = omega arith in
-      let n = last-met (code / 64) (code % 64) (omega (arith, m .1)) in
-      record { pair = h; pose = n .pose; there = n .there; single = n .single; word = omega (arith, member (code / 64) (code % 64) h n, n .word, m .1) }
-    where
-      part : (q b : ℕ) → q < pairCount R → b < D .poses → best ≤ lastOf D R f q b
-      part q b x y =
-          let c : (q * 64 + b) / 64 ≡ q = omega arith in
-          let d : (q * 64 + b) % 64 ≡ b = omega arith in
-          rw (c, d) at (w .low (q * 64 + b) (omega arith))
+  -- the least of their words is below what ending costs; below B it is that
+  module _ (best code all : ℕ) (e : all ≡ pairCount R * 64) (few : D .poses ≤ 60) (w : LeastOf (lastCode D R f) all best code) where
+    part : (q b : ℕ) → q < pairCount R → b < D .poses → best ≤ lastOf D R f q b
+    part q b x y =
+        let c : (q * 64 + b) / 64 ≡ q = omega arith in
+        let d : (q * 64 + b) % 64 ≡ b = omega arith in
+        rw (c, d) at (w .low (q * 64 + b) (omega arith))
+
+    pub least-ends : best ≤ ends D R f
+    least-ends = above best (w .capped) part
+
+    pub last-found : best < B → LastFound D R f (code / 64) (code % 64)
+    last-found l =
+        let m = w .met l in
+        let x = m .0 in
+        let h : code / 64 < pairCount R = omega arith in
+        let n = last-met (code / 64) (code % 64) (omega (arith, m .1)) in
+        record { pair = h; pose = n .pose; there = n .there; single = n .single; word = omega (arith, member (code / 64) (code % 64) h n, n .word, m .1, least-ends) }
+
+    pub last-low : best < B → f (code / 64) (code % 64) < B
+    last-low l = let m = w .met l in omega (arith, m .1, last-met (code / 64) (code % 64) (omega (arith, m .1)) .word)
 
 -- one code more
 pub least-none : (h : ℕ → ℕ) (code : ℕ) → LeastOf h 0 B code

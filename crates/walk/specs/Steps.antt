@@ -164,13 +164,14 @@ end-walked {D} {R} {st} {i} {d} {q} {b} {old} {new} h z l w =
           walked = subst (λ (j : ℕ). Walked D R (NotedBy (wordAt new)) f i j q b) z (w .walked f (kept-fewer (i + d) (omega arith) k));
         }
 
--- the last layer's least is the price of the end; and the walk from where it is found
-pub end-least : {line pairs st path : List ℕ} {n poses R count i : ℕ} → i ≤ n → End line pairs st path n poses R count i → ends (deckOf line n poses) R (keptIn st n) < B
-end-least h w = omega (arith, end-kept (w .first) (w .start) h (w .kept), w .cost)
+-- the row cannot end
+pub end-closed : {D : Deck} {R : ℕ} {st : List ℕ} {i : ℕ} (path : List ℕ) → i ≤ D .size → B ≤ ends D R (keptIn st (D .size)) → EndDone D R st i path path
+end-closed {D} {i = i} path h b = record { frame = frame-refl i (suc (D .size)) path; walked = λ f e k l. absurd (omega (arith, end-kept f e h k)) }
 
+-- the walk from where the least is found
 pub end-walk : {line pairs st path : List ℕ} {n poses R count i q b : ℕ} → i ≤ n → End line pairs st path n poses R count i → LastFound (deckOf line n poses) R (keptIn st n) q b
-    → Walk line pairs st path n poses R count i (n - i) q b
-end-walk {st = st} {n = n} {i = i} {q = q} {b = b} h w l =
+    → keptIn st n q b < B → Walk line pairs st path n poses R count i (n - i) q b
+end-walk {st = st} {n = n} {i = i} {q = q} {b = b} h w l c =
     let e : n ≡ i + (n - i) = omega arith in
     record {
       back = w .back;
@@ -181,5 +182,5 @@ end-walk {st = st} {n = n} {i = i} {q = q} {b = b} h w l =
       pose = l .pose;
       first = w .first;
       kept = kept-fewer (i + (n - i)) (omega arith) (w .kept);
-      cost = subst (λ (j : ℕ). keptIn st j q b < B) e (omega (arith, l .word, end-least h w));
+      cost = subst (λ (j : ℕ). keptIn st j q b < B) e c;
     }

@@ -80,15 +80,13 @@ pub record Walk (line pairs st path : List ℕ) (n poses R count i d q a : ℕ) 
   pub kept : KeptLayers (deckOf line n poses) R first i (i + d) st
   pub cost : keptIn st (i + d) q a < B
 
--- the row's end, from a stretch whose first layer has i cells; where it starts, ending costs `start`
+-- the row's end, from a stretch whose first layer has i cells
 pub record End (line pairs st path : List ℕ) (n poses R count i : ℕ) : Type 0 where
   pub back : Back line pairs st n poses R count
   pub room : 67 ≤ length path
   pub some : 0 < i
   pub first : Layer
-  pub start : ℕ
   pub kept : KeptLayers (deckOf line n poses) R first i n st
-  pub cost : priceEnd (deckOf line n poses) R first i start < B
 
 -- ---- what is left
 

@@ -2,11 +2,11 @@
 ghost use mathlib.Core.Path.{_≡_};
 ghost use Prim.Native.Nat.{suc, _+_, _*_, _/_, _%_, _≤_, _<_};
 ghost use lib.ListN.{length, set};
-ghost use Rattle.model.specs.Steps.{B, pairCount, lastAt, reached, ends};
+ghost use Rattle.model.specs.Steps.{B, pairCount, lastAt, reached};
 ghost use Rattle.lanes.specs.Store.{Low};
 ghost use Rattle.deck.specs.Words.{deckOf, LineWords, PairWords};
 ghost use Rattle.kept.specs.Kept.{keptIn};
-ghost use Rattle.walk.specs.Walks.{First, fromPose, fromPair, Fits, EntrySource, Back, Entry, Walk, End, WalkDone, EndDone, lastCode, LastFound};
+ghost use Rattle.walk.specs.Walks.{First, fromPose, fromPair, Fits, EntrySource, Back, Entry, Walk, End, WalkDone, EndDone, lastCode, LeastOf};
 
 // The first pose of the cell at position k by way of which pose a of position m costs `want`; or `poses`.
 fn find_pose(
@@ -183,7 +183,12 @@ fn last_word(
     store[kept::kept_at(n) + c] + deck::back(line, k, c % 64)
 }
 
-// The first of the last cells with the least cost, pair before pose.
+// The least cost of the last cells, and the code of the first that has it, pair before pose.
+pub struct Last {
+    pub value: u32,
+    pub code: usize,
+}
+
 fn find_last(
     store: &[u32],
     line: &[u32],
@@ -192,9 +197,9 @@ fn find_last(
     poses: usize,
     r: usize,
     count: usize,
-) -> usize
-    requires { ⌜ Back (now line) (now pairs) (now store) n poses r count × (ends (deckOf (now line) n poses) r (keptIn (now store) n) < B) ⌝ }
-    ensures { λ c. ⌜ LastFound (deckOf (now (line .entry)) n poses) r (keptIn (now (store .entry)) n) (c / 64) (c % 64) ⌝ }
+) -> Last
+    requires { ⌜ Back (now line) (now pairs) (now store) n poses r count ⌝ }
+    ensures { λ l. ⌜ LeastOf (lastCode (deckOf (now (line .entry)) n poses) r (keptIn (now (store .entry)) n)) (count * 64) (l .value) (l .code) ⌝ }
 {
     let mut best = lanes::NONE;
     let mut code: usize = 0;
@@ -207,10 +212,10 @@ fn find_last(
         }
         c += 1;
     }
-    code
+    Last { value: best, code }
 }
 
-// From the row's end back to layer i; nothing if no cell was left to place.
+// From the row's end back to layer i; nothing if no cell was left to place, or the row cannot end.
 pub fn walk_end(
     store: &[u32],
     path: &mut [u32],
@@ -228,7 +233,11 @@ pub fn walk_end(
     if n < i {
         return;
     }
-    let c = find_last(store, line, pairs, n, poses, r, count);
+    let last = find_last(store, line, pairs, n, poses, r, count);
+    if last.value >= lanes::NONE {
+        return;
+    }
+    let c = last.code;
     walk(
         store,
         path,

@@ -1,5 +1,5 @@
 -- The trace notes both rows' paths; what it noted is what each scatter is given, and both scatters together are the answer. Assumes nothing.
-use Rattle.search.specs.Answer.{may-trace, first-given, second-given, answered}
+use Rattle.search.specs.Answer.{may-trace, was-traced, first-given, second-given, answered}
 use native.Mathlib.Omega.{arith}
 use Rattle.job.specs.Value.{headerOf, jobOf}
 use borrow.Author.Needs.{needs}
@@ -33,7 +33,7 @@ scatter-requires c κs =
     let k = c .before .before .before .before .before .before .before .before .before .before .before .before .before .before .before .before .before .before .before in
     let z = c .before .before .before .before .before .before .before .before .before .before .pose-numbers .ensures in
     let w = c .before .before .before .before .before .before .trace in
-    first-given (k .pre .0) (w .last .1 .0) (w .last .1 .1 .0) _ z (k .pre .1 .some) (w .ensures .traced) (omega (arith, w .ensures .notes₀ .long)) (k .pre .2)
+    first-given (k .pre .0) (w .last .1 .0) (w .last .1 .1 .0) _ z (k .pre .1 .some) (was-traced (k .pre .0) z (k .pre .1) (w .ensures) .traced) (omega (arith, w .ensures .long₀)) (k .pre .2)
 
 slice-aggregate-scatter-2 : tie.Need-slice-aggregate-scatter-2
 slice-aggregate-scatter-2 c = search needs
@@ -44,7 +44,7 @@ scatter-requires-2 c κs =
     let k = c .before .before .before .before .before .before .before .before .before .before .before .before .before .before .before .before .before .before .before .before .before .before .before .before in
     let z = c .before .before .before .before .before .before .before .before .before .before .before .before .before .before .before .pose-numbers .ensures in
     let w = c .before .before .before .before .before .before .before .before .before .before .before .trace in
-    second-given (k .pre .0) (w .last .1 .0) (w .last .1 .1 .0) _ z (k .pre .1 .some) (w .ensures .traced) (omega (arith, w .ensures .notes₁ .long)) (omega (arith, k .pre .2, c .before .before .before .before .scatter .ensures .long))
+    second-given (k .pre .0) (w .last .1 .0) (w .last .1 .1 .0) _ z (k .pre .1 .some) (was-traced (k .pre .0) z (k .pre .1) (w .ensures) .traced) (omega (arith, w .ensures .long₁)) (omega (arith, k .pre .2, c .before .before .before .before .scatter .ensures .long))
 
 same-length : tie.Need-same-length
 same-length c = search needs
@@ -58,7 +58,7 @@ returns c =
     let k = c .before .before .before .before .before .before .before .before .before .before .before .before .before .before .before .before .before .before .before .before .before .before .before .before .before .before .before in
     let z = c .before .before .before .before .before .before .before .before .before .before .before .before .before .before .before .before .before .before .pose-numbers .ensures in
     let w = c .before .before .before .before .before .before .before .before .before .before .before .before .before .before .trace in
-    answered (k .pre .0) (w .last .1 .0) (w .last .1 .1 .0) _ z (k .pre .1 .some) (w .ensures .traced) (k .pre .3) (c .before .before .before .before .before .before .before .scatter .ensures) (c .before .before .scatter2 .ensures)
+    answered (k .pre .0) (w .last .1 .0) (w .last .1 .1 .0) _ z (k .pre .1 .some) (was-traced (k .pre .0) z (k .pre .1) (w .ensures) .traced) (k .pre .3) (c .before .before .before .before .before .before .before .scatter .ensures) (c .before .before .scatter2 .ensures)
 
 pub note-spec : {M : Type 1} → statement M
 note-spec =

@@ -84,7 +84,7 @@ returns c =
       stage-made (deckOf (a .line0 .now) (a .n0) (a .poses)) (deckOf (a .line1 .now) (a .n1) (a .poses)) (a .r) (a .talls) (posIn (a .places0 .now)) (posIn (a .places1 .now))
           (omega (arith, all, n .0)) (omega (arith, all, n .1)) (n .2) (a .i) (a .count) _ _ _ _ _
           (c .before .before .before .before .before .before .before .before .before .before .before .before .wide-of .ensures) (c .before .before .before .before .before .before .before .before .before .before .before .lanes-of .ensures) (c .before .before .before .before .before .before .before .before .before .before .wide-of2 .ensures) (c .before .before .before .before .before .before .before .before .before .wide-of3 .ensures) (c .before .before .before .before .lanes-of2 .ensures)
-          all (k .pre .2) (n .3) (k .pre .3) (c .before .before .before .before .before .before .before .before .before .before .before .before .before .before .before .prices .ensures .0) (c .before .before .before .before .before .before .before .join-stage .ensures) (c .before .before .close-lanes .ensures),
+          all (k .pre .2) (n .3) (c .before .before .before .before .before .before .before .before .before .before .before .before .before .before .before .prices .ensures .0) (c .before .before .before .before .before .before .before .join-stage .ensures) (c .before .before .close-lanes .ensures),
       c .before .before .before .before .before .before .before .before .before .before .before .before .before .before .before .prices .ensures .1,
     )
 

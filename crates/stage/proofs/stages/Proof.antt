@@ -40,7 +40,7 @@ stage-requires c κs =
     let k = c .before .before .before .before .before .before .before .before .before .before .before in
     let g = k .pre in
     let t = c .before .before .before .loop .inv .1 in
-    (c .before .before .before .loop .inv .2, record { row₀ = g .row₀; row₁ = g .row₁; long = omega (arith, g .long, t .long, length-set (k .args .store .now) (c .before .before .before .before .case-at .result) 0); low = t .low }, omega (arith, c .before .before .loop-test .taken), t .right)
+    (c .before .before .before .loop .inv .2, record { row₀ = g .row₀; row₁ = g .row₁; long = omega (arith, g .long, t .long, length-set (k .args .store .now) (c .before .before .before .before .case-at .result) 0); low = t .low }, omega (arith, c .before .before .loop-test .taken))
 
 add-i : tie.Need-add-i Inv-loop μ-loop
 add-i c = omega (arith, c .before .before .before .before .before .before .before .before .before .before .before .before .before .before .pre .row₀ .few, c .before .before .before .before .before .loop-test .taken)

@@ -1,11 +1,12 @@
 -- The least word so far, and where it is. Assumes nothing.
 use Prim.Native.Nat.{ℕ, _*_, _-_, _≤_}
+use mathlib.Core.Path.{_≡_, subst}
 use mathlib.Core.Logic.{⊎-elim}
 use native.Mathlib.Omega.{arith}
 use Rattle.deck.specs.Words.{deckOf}
 use Rattle.kept.specs.Kept.{keptIn}
 use Rattle.walk.specs.Walks.{LeastOf, lastCode}
-use Rattle.walk.specs.Lasts.{last-found, least-none, least-lower, least-keep}
+use Rattle.walk.specs.Lasts.{least-none, least-lower, least-keep}
 use Rattle.walk.proofs.find_last.Statement.{statement}
 use Rattle.walk.proofs.find_last.Tie as tie
 
@@ -23,16 +24,16 @@ loop-holds c =
 
 mul-loop : tie.Need-mul-loop Inv-loop μ-loop
 mul-loop c =
-    let g = c .before .before .before .before .pre .0 .ground in
+    let g = c .before .before .before .before .pre .ground in
     omega (arith, g .all, g .coded .few)
 
 last-word-requires : tie.Need-last-word-requires Inv-loop μ-loop
 last-word-requires c κs =
-    (c .before .before .before .before .before .pre .0, omega arith)
+    (c .before .before .before .before .before .pre, omega arith)
 
 add-c : tie.Need-add-c Inv-loop μ-loop
 add-c c =
-    let g = c .before .before .before .before .before .before .before .pre .0 .ground in
+    let g = c .before .before .before .before .before .before .before .pre .ground in
     omega (arith, g .all, g .coded .few)
 
 loop-less : tie.Need-loop-less Inv-loop μ-loop
@@ -54,11 +55,10 @@ loop-again c =
 
 returns : tie.Need-returns Inv-loop μ-loop
 returns c =
-    let k = c .before .before .before .before .before in
-    let a = k .args in
-    let g = k .pre .0 .ground in
-    last-found (deckOf (a .line .now) (a .n) (a .poses)) (a .r) (keptIn (a .store .now) (a .n)) (c .before .loop .best) (c .before .loop .code) (c .before .loop .c)
-    (omega (arith, g .all)) (g .few) (c .before .loop .inv .1) (k .pre .1)
+    let a = c .before .before .before .before .before .args in
+    let h : ℕ → ℕ = lastCode (deckOf (a .line .now) (a .n) (a .poses)) (a .r) (keptIn (a .store .now) (a .n)) in
+    let e : c .before .loop .c ≡ a .count * 64 = omega arith in
+    subst (λ (k : ℕ). LeastOf h k (c .before .loop .best) (c .before .loop .code)) e (c .before .loop .inv .1)
 
 pub find-last-spec : {M : Type 1} → statement M
 find-last-spec =
