@@ -1,12 +1,12 @@
 // The exported C functions, each over slices that are passed as address and length.
 ghost use Rattle.definition.specs.Outcome.{read, score, Told, Demand3Of};
-ghost use Rattle.fault.specs.Fault.{ToldFault};
-ghost use Rattle.place.specs.Placed.{lent, Placed};
-use fault::tell_fault;
-use place::place_texts;
-use reader::read_job;
+ghost use Rattle.op_fault.specs.Fault.{ToldFault};
+ghost use Rattle.op_place.specs.Placed.{lent, Placed};
+use job_read::read_job;
+use op_fault::tell_fault;
+use op_place::place_texts;
+use op_score::score_texts;
 use results::put_results;
-use score::score_texts;
 
 // Read: number, line and cell count go to the results, and the number is returned.
 #[no_mangle]

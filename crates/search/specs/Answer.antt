@@ -8,26 +8,26 @@ use lib.ListN.{length, getD, replicate}
 use Rattle.definition.specs.Job.{Job}
 use Rattle.definition.specs.Cost.{cost}
 use Rattle.definition.specs.Moves.{Cheapest}
-use Rattle.pair.specs.Cells.{row₀, row₁}
-use Rattle.model.specs.Steps.{B, Deck, pairCount}
-use Rattle.model.specs.Stages.{leastCost}
-use Rattle.model.specs.Back.{Traced}
-use Rattle.model.specs.Notes.{NotedBy}
-use Rattle.traced.specs.Placed.{WalkedBack, places, places-agree}
-use Rattle.bridge.specs.Paired.{siteOf, poseNumbers, poseNumber, isOffered, pairJob}
-use Rattle.claim.specs.Claim.{reorder, searchedCost, placementByNumbers, claim-none, claim-some}
-use Rattle.order.specs.Laws.{zeros-at}
-use Rattle.lanes.specs.Store.{Low}
-use Rattle.deck.specs.Words.{deckOf}
-use Rattle.join.specs.Places.{caseAt}
-use Rattle.join.specs.Tables.{casesIn}
-use Rattle.stage.specs.Stage.{wide, posIn, StagesDone}
-use Rattle.stage.specs.Laws.{wide-last}
-use Rattle.walk.specs.Walks.{wordAt}
-use Rattle.trace.specs.Trace.{Ways, stages-ways, Trace, TraceDone, TracedTo}
-use Rattle.trace.specs.Laws.{trace-given}
-use Rattle.scatter.specs.Scatter.{cellAt, poseAt, Given, Scattered}
-use Rattle.scatter.specs.Laws.{both-scattered, scattered-small}
+use Rattle.theory_pair.specs.Cells.{row₀, row₁}
+use Rattle.theory_tables.specs.Steps.{B, Deck, pairCount}
+use Rattle.theory_tables.specs.Stages.{leastCost}
+use Rattle.theory_tables.specs.Back.{Traced}
+use Rattle.theory_tables.specs.Notes.{NotedBy}
+use Rattle.theory_traceback.specs.Placed.{WalkedBack, places, places-agree}
+use Rattle.theory_bridge.specs.Paired.{siteOf, poseNumbers, poseNumber, isOffered, pairJob}
+use Rattle.theory_claim.specs.Claim.{reorder, searchedCost, placementByNumbers, claim-none, claim-some}
+use Rattle.score_order.specs.Laws.{zeros-at}
+use Rattle.search_lanes.specs.Store.{Low}
+use Rattle.search_row.specs.Words.{deckOf}
+use Rattle.search_join.specs.Places.{caseAt}
+use Rattle.search_join.specs.Tables.{casesIn}
+use Rattle.search_stage.specs.Stage.{wide, posIn, StagesDone}
+use Rattle.search_stage.specs.Laws.{wide-last}
+use Rattle.search_back_segment.specs.Walks.{wordAt}
+use Rattle.search_back.specs.Trace.{Ways, stages-ways, Trace, TraceDone, TracedTo}
+use Rattle.search_back.specs.Laws.{trace-given}
+use Rattle.search_back.specs.Scatter.{cellAt, poseAt, Given, Scattered}
+use Rattle.search_back.specs.ScatterLaws.{both-scattered, scattered-small}
 use Rattle.search.specs.Solved.{numbersIn, Solved}
 use Rattle.search.specs.Words.{wordsFor}
 use Rattle.search.specs.Ready.{Ready, ready-talls, ready-searched, stages-given}

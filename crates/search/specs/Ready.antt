@@ -6,15 +6,15 @@ use native.Mathlib.Omega.{arith}
 use lib.ListN.{length}
 use Rattle.definition.specs.Job.{Job}
 use Rattle.definition.specs.Sound.{Sound}
-use Rattle.pair.specs.Cells.{Side, row₀, row₁, tallCount, cell-pos}
-use Rattle.bridge.specs.Paired.{poseNumbers, pairJob}
-use Rattle.claim.specs.Claim.{RowSearched, reorder}
-use Rattle.lanes.specs.Store.{Low}
-use Rattle.deck.specs.Words.{deckOf}
-use Rattle.pairs.specs.Upto.{Paired}
-use Rattle.lines.specs.Filled.{Lined}
-use Rattle.lines.specs.TallWords.{TallWords, talls-count, talls-few, talls-pos}
-use Rattle.stage.specs.Stage.{posIn, RowGiven, StagesGiven}
+use Rattle.theory_pair.specs.Cells.{Side, row₀, row₁, tallCount, cell-pos}
+use Rattle.theory_bridge.specs.Paired.{poseNumbers, pairJob}
+use Rattle.theory_claim.specs.Claim.{RowSearched, reorder}
+use Rattle.search_lanes.specs.Store.{Low}
+use Rattle.search_row.specs.Words.{deckOf}
+use Rattle.search_states.specs.Upto.{Paired}
+use Rattle.search_row_fill.specs.Filled.{Lined}
+use Rattle.search_row_fill.specs.TallWords.{TallWords, talls-count, talls-few, talls-pos}
+use Rattle.search_stage.specs.Stage.{posIn, RowGiven, StagesGiven}
 use Rattle.search.specs.Words.{wordsFor}
 
 -- a row's n cells as words, and the positions of its tall cells

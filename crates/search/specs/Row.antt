@@ -6,15 +6,15 @@ use native.Mathlib.Omega.{arith}
 use lib.ListN.{length, getD}
 use Rattle.definition.specs.Job.{Job}
 use Rattle.definition.specs.Sound.{Sound}
-use Rattle.rows.specs.Lists.{from, Distinct}
-use Rattle.rows.specs.Order.{place}
-use Rattle.pair.specs.Pick.{pick-pairs}
-use Rattle.pair.specs.Members.{at-in, place-at, from-rising, rising-distinct′}
-use Rattle.pair.specs.Cells.{Side, inRow, members, cell}
-use Rattle.bridge.specs.Paired.{poseNumbers, pairJob}
-use Rattle.bridge.specs.Row.{member}
-use Rattle.traced.specs.Words.{Places}
-use Rattle.scatter.specs.Scatter.{cellAt, poseAt, Given}
+use Rattle.theory_row.specs.Lists.{from, Distinct}
+use Rattle.theory_row.specs.Order.{place}
+use Rattle.theory_pair.specs.Pick.{pick-pairs}
+use Rattle.theory_pair.specs.Members.{at-in, place-at, from-rising, rising-distinct′}
+use Rattle.theory_pair.specs.Cells.{Side, inRow, members, cell}
+use Rattle.theory_bridge.specs.Paired.{poseNumbers, pairJob}
+use Rattle.theory_bridge.specs.Row.{member}
+use Rattle.theory_traceback.specs.Words.{Places}
+use Rattle.search_back.specs.Scatter.{cellAt, poseAt, Given}
 use Rattle.search.specs.Ready.{RowReady}
 
 -- no cell is twice in a row

@@ -10,8 +10,8 @@ use Rattle.definition.specs.Moves.{Cheapest}
 use Rattle.definition.specs.Sound.{Sound}
 use Rattle.job.specs.declared.Job.{Job}
 use Rattle.job.specs.Value.{jobOf}
-use Rattle.model.specs.Steps.{B}
-use Rattle.claim.specs.Claim.{placementByNumbers}
+use Rattle.theory_tables.specs.Steps.{B}
+use Rattle.theory_claim.specs.Claim.{placementByNumbers}
 
 -- an accepted job, and a store that is large enough, whatever its words
 pub record Asked (job : Job) (store : List ℕ) : Type 0 where

@@ -5,14 +5,14 @@ use mathlib.Core.List.{List, _++_}
 use native.Mathlib.Omega.{arith}
 use lib.ListN.{length, take, drop, replicate, length-replicate}
 use lib.Seq.{length-take-le, length-front, take-at}
-use Rattle.model.specs.Steps.{pairCount}
-use Rattle.model.specs.Pairs.{count-0, count-1}
-use Rattle.order.specs.Laws.{zeros-at}
-use Rattle.lanes.specs.Store.{Low}
-use Rattle.join.specs.Places.{pageAt}
-use Rattle.stage.specs.Stage.{wide}
-use Rattle.stage.specs.Laws.{wide-low}
-use Rattle.pairs.specs.Upto.{Paired}
+use Rattle.theory_tables.specs.Steps.{pairCount}
+use Rattle.theory_tables.specs.Pairs.{count-0, count-1}
+use Rattle.score_order.specs.Laws.{zeros-at}
+use Rattle.search_lanes.specs.Store.{Low}
+use Rattle.search_join.specs.Places.{pageAt}
+use Rattle.search_stage.specs.Stage.{wide}
+use Rattle.search_stage.specs.Laws.{wide-low}
+use Rattle.search_states.specs.Upto.{Paired}
 
 -- with so many tall cells and pairs: the layers, and a page for each pair of the largest table
 abbrev pub wordsFor : ℕ → ℕ → ℕ

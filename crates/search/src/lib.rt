@@ -4,10 +4,10 @@ ghost use Prim.Native.Nat.{ℕ, _≤_, _<_};
 ghost use lib.ListN.{length, getD};
 ghost use Rattle.definition.specs.Sound.{Sound};
 ghost use Rattle.job.specs.Value.{jobOf};
-ghost use Rattle.bridge.specs.Paired.{poseNumbers};
-ghost use Rattle.lanes.specs.Store.{Low};
-ghost use Rattle.lines.specs.Filled.{sideOf};
-ghost use Rattle.stage.specs.Stage.{wide};
+ghost use Rattle.theory_bridge.specs.Paired.{poseNumbers};
+ghost use Rattle.search_lanes.specs.Store.{Low};
+ghost use Rattle.search_row_fill.specs.Filled.{sideOf};
+ghost use Rattle.search_stage.specs.Stage.{wide};
 ghost use Rattle.search.specs.Solved.{Asked, Solved};
 ghost use Rattle.search.specs.Words.{wordsFor};
 ghost use Rattle.search.specs.Ready.{RowReady, Ready};
@@ -39,8 +39,8 @@ fn fill_row(line: &mut [u32], places: &mut [u32], job: Job, row: u32) -> Row
     requires { ⌜ Sound (jobOf job) × (job .count ≤ 64) × (row ≤ 1) × (8192 ≤ length (now line)) × Low (now line) × (24 ≤ length (now places)) ⌝ }
     ensures { λ r. ⌜ RowReady (jobOf job) (sideOf row) (now (line .exit)) (now (places .exit)) (r .cells) (r .talls) ⌝ }
 {
-    let cells = lines::fill_line(line, job, row);
-    let talls = lines::fill_talls(places, line, cells);
+    let cells = search_row_fill::fill_line(line, job, row);
+    let talls = search_row_fill::fill_talls(places, line, cells);
     Row { cells, talls }
 }
 
@@ -63,7 +63,7 @@ fn least_cost(
 {
     let r = job.header.reordering as usize;
     let poses = pose_numbers(job);
-    stage::stages(
+    search_stage::stages(
         store,
         line0,
         line1,
@@ -77,7 +77,7 @@ fn least_cost(
         count,
         talls,
     );
-    store[join::case_at(talls + 1, 0, 0)]
+    store[search_join::case_at(talls + 1, 0, 0)]
 }
 
 // The pose numbers of a cheapest placement, by cell number: both rows traced, then noted one after the other.
@@ -102,7 +102,7 @@ fn note(
     let mut path1 = [0u32; 128];
     let r = job.header.reordering as usize;
     let poses = pose_numbers(job);
-    trace::trace(
+    search_back::trace(
         store,
         &mut path0,
         &mut path1,
@@ -118,8 +118,8 @@ fn note(
         count,
         talls,
     );
-    scatter::scatter(out, &path0, line0, n0);
-    scatter::scatter(out, &path1, line1, n1);
+    search_back::scatter(out, &path0, line0, n0);
+    search_back::scatter(out, &path1, line1, n1);
 }
 
 // What the tables of rows as words come to.
@@ -153,9 +153,9 @@ fn find(
         count,
         talls,
     );
-    if cost >= lanes::NONE {
+    if cost >= search_lanes::NONE {
         return Found {
-            cost: lanes::NONE,
+            cost: search_lanes::NONE,
             poses,
         };
     }
@@ -181,8 +181,8 @@ fn store_words(talls: usize, count: usize) -> usize
     requires { ⌜ wide talls talls count ≤ 12 ⌝ }
     ensures { λ r. ⌜ r ≡ wordsFor talls count ⌝ }
 {
-    let pages = stage::wide_of(talls, talls, count);
-    join::price_at(0, pages, 0, 0)
+    let pages = search_stage::wide_of(talls, talls, count);
+    search_join::price_at(0, pages, 0, 0)
 }
 
 // Only the words that are needed are cleared and used.
@@ -195,11 +195,11 @@ pub fn search(job: Job, store: &mut [u32]) -> Found
     let mut line1 = [0u32; 8192];
     let mut places0 = [0u32; 32];
     let mut places1 = [0u32; 32];
-    let count = pairs::fill_pairs(&mut pairs, job.header.reordering as usize);
+    let count = search_states::fill_pairs(&mut pairs, job.header.reordering as usize);
     let row0 = fill_row(&mut line0, &mut places0, job, 0);
     let row1 = fill_row(&mut line1, &mut places1, job, 1);
     let words = store_words(row0.talls, count);
-    lanes::clear(&mut store[..words]);
+    search_lanes::clear(&mut store[..words]);
     find(
         &mut store[..words],
         job,

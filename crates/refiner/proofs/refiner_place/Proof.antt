@@ -1,5 +1,5 @@
 -- `refiner::refiner_place` meets its contract: what `place_texts` says, and demand 3, which follows.
-use Rattle.place.specs.Placed.{placed-demand3}
+use Rattle.op_place.specs.Placed.{placed-demand3}
 use borrow.Author.Needs.{needs}
 use Rattle.refiner.proofs.refiner_place.Statement.{statement}
 use Rattle.refiner.proofs.refiner_place.Tie as tie

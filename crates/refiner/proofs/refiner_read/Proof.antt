@@ -8,7 +8,7 @@ use native.Mathlib.Omega.{arith}
 use lib.ListN.{length}
 use Rattle.definition.specs.Outcome.{Outcome, over, resultsOf, readOutcome, read}
 use Rattle.job.specs.Value.{jobOf}
-use Rattle.reader.specs.Reads.{reads-accepted, reads-refused, reads-count}
+use Rattle.job_read.specs.Reads.{reads-accepted, reads-refused, reads-count}
 use borrow.Author.Needs.{needs}
 use Rattle.refiner.proofs.refiner_read.Statement.{statement}
 use Rattle.refiner.proofs.refiner_read.Tie as tie

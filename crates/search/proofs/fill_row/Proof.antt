@@ -1,5 +1,5 @@
 -- First the cells, then the positions of those that are tall; 24 words are enough for these. Assumes nothing.
-use Rattle.lines.specs.TallWords.{talls-few}
+use Rattle.search_row_fill.specs.TallWords.{talls-few}
 use native.Mathlib.Omega.{arith}
 use borrow.Author.Needs.{needs}
 use Rattle.search.proofs.fill_row.Statement.{statement}

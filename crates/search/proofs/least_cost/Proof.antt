@@ -1,6 +1,6 @@
 -- The stages leave the least cost as the one case of the last table. Assumes nothing.
 use Prim.Native.Nat.{_+_}
-use Rattle.stage.specs.Laws.{given-first}
+use Rattle.search_stage.specs.Laws.{given-first}
 use Rattle.search.specs.Answer.{costed}
 use Rattle.search.specs.Ready.{stages-given, few-talls}
 use mathlib.Core.Path.{refl}

@@ -6,7 +6,7 @@ use lib.ListN.{length}
 use lib.Seq.{length-take-le}
 use native.Mathlib.Omega.{arith}
 use Rattle.job.specs.Value.{headerOf, jobOf}
-use Rattle.stage.specs.Laws.{wide-low}
+use Rattle.search_stage.specs.Laws.{wide-low}
 use Rattle.search.specs.Words.{words-lent, zeros-low, again-room, again-long, again-low}
 use Rattle.search.specs.Ready.{ready}
 use borrow.Author.Needs.{needs}

@@ -1,0 +1,46 @@
+-- `job_ranges::cell_of` meets its contract: the second layout stands after the first, whose size is at most 9.
+use native.Mathlib.Omega.{arith}
+use borrow.Author.Needs.{needs}
+use Rattle.job_ranges.proofs.cell_of.Statement.{statement}
+use Rattle.job_ranges.proofs.cell_of.Tie as tie
+
+array-read-row : tie.Need-array-read-row
+array-read-row c = search needs
+
+layout-size-requires : tie.Need-layout-size-requires
+layout-size-requires c κs = search needs
+
+layout-at-requires : tie.Need-layout-at-requires
+layout-at-requires c κs = search needs
+
+add-layout-at : tie.Need-add-layout-at
+add-layout-at c = omega arith
+
+layout-at-requires-2 : tie.Need-layout-at-requires-2
+layout-at-requires-2 c κs = omega arith
+
+array-read-t9 : tie.Need-array-read-t9
+array-read-t9 c = search needs
+
+array-read-t16 : tie.Need-array-read-t16
+array-read-t16 c = search needs
+
+array-read-t20 : tie.Need-array-read-t20
+array-read-t20 c = search needs
+
+returns : tie.Need-returns
+returns c = rw (c .before .layout-at .ensures, c .layout-at2 .ensures, c .before .before .layout-size .ensures .0)
+
+pub cell-of-spec : {M : Type 1} → statement M
+cell-of-spec =
+    tie.close
+    (tie.spec
+    array-read-row
+    layout-size-requires
+    layout-at-requires
+    add-layout-at
+    layout-at-requires-2
+    array-read-t9
+    array-read-t16
+    array-read-t20
+    returns)

@@ -1,0 +1,142 @@
+// The numbers of a line as a header or a cell, and the tests that their fields are in range.
+ghost use mathlib.Core.Path.{_≡_};
+ghost use mathlib.Core.Bool.{_&&_, cond};
+ghost use Prim.Native.Nat.{_+_, _*_, _≤_};
+ghost use lib.Dec.{leb, eqb};
+ghost use mathlib.Core.List.{[], _∷_};
+ghost use Rattle.definition.specs.Lists.{all};
+ghost use Rattle.definition.specs.Texts.{within};
+ghost use Rattle.definition.specs.Job.{layoutSize, layoutInRange, headerInRange};
+ghost use Rattle.job.specs.Value.{layoutOf, layoutsOf};
+ghost use Rattle.job_ranges.specs.Values.{layoutIn, cellIn, headerIn, listed};
+use job::Cell;
+use job::Header;
+use job::Layout;
+
+// ---- the numbers of a line as a header or a cell
+
+pub fn header_of(v: [u32; 24]) -> Header
+    ensures { λ r. ⌜ r ≡ headerIn v ⌝ }
+{
+    Header {
+        rows: v[0],
+        sites: v[1],
+        displacement: v[2],
+        reordering: v[3],
+        step: v[4],
+        shift: v[5],
+        mirror: v[6],
+        swap: v[7],
+    }
+}
+
+fn layout_at(v: [u32; 24], at: usize) -> Layout
+    requires { ⌜ at ≤ 15 ⌝ }
+    ensures { λ r. ⌜ r ≡ layoutIn v at ⌝ }
+{
+    Layout {
+        width: v[at],
+        heights: [
+            v[at + 1],
+            v[at + 2],
+            v[at + 3],
+            v[at + 4],
+            v[at + 5],
+            v[at + 6],
+            v[at + 7],
+            v[at + 8],
+        ],
+    }
+}
+
+// How many numbers a layout has.
+fn layout_size(row: u32) -> usize
+    ensures { λ r. ⌜ (r ≡ layoutSize row) × (r ≤ 9) ⌝ }
+{
+    if row == 2 {
+        return 9;
+    }
+    5
+}
+
+pub fn cell_of(v: [u32; 24]) -> Cell
+    ensures { λ r. ⌜ r ≡ cellIn v ⌝ }
+{
+    let row = v[0];
+    let size = layout_size(row);
+    let first = layout_at(v, 4);
+    let second = layout_at(v, 4 + size);
+    Cell {
+        row,
+        given: v[1],
+        mirrorable: v[2] == 1,
+        layouts: v[3],
+        first,
+        second,
+    }
+}
+
+// ---- what is in range
+
+pub fn header_fits(h: Header) -> bool
+    ensures { λ r. ⌜ r ≡ headerInRange (listed h) ⌝ }
+{
+    let rows = (1 <= h.rows) & (h.rows <= 2);
+    let sites = (1 <= h.sites) & (h.sites <= 1024);
+    let weights = (h.step <= 1000) & ((h.shift <= 1000) & ((h.mirror <= 1000) & (h.swap <= 1000)));
+    rows & sites & (h.displacement <= 7) & (h.reordering <= 1) & weights
+}
+
+pub fn shape_fits(rows: u32, row: u32, layouts: u32) -> bool
+    ensures { λ r. ⌜ r ≡ leb row (cond (eqb rows 2) 2 0) && within 1 2 layouts ⌝ }
+{
+    let some = (1 <= layouts) & (layouts <= 2);
+    if rows == 2 {
+        return (row <= 2) & some;
+    }
+    (row <= 0) & some
+}
+
+pub fn count_fits(count: usize, row: u32, layouts: u32) -> bool
+    ensures { λ r. ⌜ r ≡ eqb count (4 + layouts * layoutSize row) ⌝ }
+{
+    let size = layout_size(row);
+    count == 4 + layouts as usize * size
+}
+
+fn heights_fit(a: u32, b: u32, c: u32, d: u32) -> bool
+    ensures { λ r. ⌜ r ≡ all (within 1 15) (a ∷ b ∷ c ∷ d ∷ []) ⌝ }
+{
+    let left = ((1 <= a) & (a <= 15)) & ((1 <= b) & (b <= 15));
+    let right = ((1 <= c) & (c <= 15)) & ((1 <= d) & (d <= 15));
+    left & right
+}
+
+fn layout_fits(l: Layout, row: u32) -> bool
+    ensures { λ r. ⌜ r ≡ layoutInRange (layoutOf row l) ⌝ }
+{
+    let h = l.heights;
+    let width = (1 <= l.width) & (l.width <= 64);
+    let low = heights_fit(h[0], h[1], h[2], h[3]);
+    if row == 2 {
+        let high = heights_fit(h[4], h[5], h[6], h[7]);
+        return width & (low & high);
+    }
+    width & low
+}
+
+pub fn layouts_fit(c: Cell) -> bool
+    ensures { λ r. ⌜ r ≡ all layoutInRange (layoutsOf c) ⌝ }
+{
+    let row = c.row;
+    let layouts = c.layouts;
+    let first = c.first;
+    let second = c.second;
+    if layouts == 0 {
+        return true;
+    }
+    if layouts == 1 {
+        return layout_fits(first, row);
+    }
+    layout_fits(first, row) & layout_fits(second, row)
+}

@@ -1,0 +1,89 @@
+-- What the functions of this crate answer: the header line, a cell line, and the whole text.
+use Prim.Native.Nat.{ℕ, zero, suc, _≤_, _<_}
+use mathlib.Core.Path.{_≡_, refl, sym, ap, _∙_}
+use mathlib.Core.List.{List, [], map}
+use native.Mathlib.Omega.{arith}
+use lib.ListN.{length, take, drop, length-map}
+use lib.Seq.{length-take-le}
+use Rattle.definition.specs.Texts.{Text}
+use Rattle.definition.specs.Job as paper
+use Rattle.job.specs.declared.Cell.{Cell}
+use Rattle.job.specs.declared.Header.{Header}
+use Rattle.job.specs.declared.Job.{Job}
+use Rattle.job.specs.Value.{cellOf, headerOf, jobOf}
+use Rattle.text_scan.specs.Line.{firstLine, afterLine}
+use Rattle.job_read.specs.declared.Tally.{Tally}
+use Rattle.job_read.specs.declared.Head.{Head}
+use Rattle.job_read.specs.declared.Line.{Line}
+use Rattle.job_read.specs.declared.Reading.{Reading}
+use Rattle.job_read.specs.Rows.{Tallies}
+use Rattle.job_read.specs.Lines.{lineAt}
+
+-- a line that is not refused, and where the next begins
+pub record HeadTo (text : Text) (r : Head) : Type 0 where
+  pub within : r .next ≤ length text
+  pub rest : afterLine text ≡ drop (r .next) text
+  pub header : headerOf (r .header) ≡ paper.headerOf (paper.numbersOf (firstLine text))
+
+pub record HeadLine (text : Text) (r : Head) : Type 0 where
+  pub number : r .number ≡ paper.headerRefusal (firstLine text)
+  pub few : r .number ≤ 4
+  pub read : r .number ≡ 0 → HeadTo text r
+
+pub record CellTo (text : Text) (at : ℕ) (t : Tally) (r : Line) : Type 0 where
+  pub past : at < r .next
+  pub within : r .next ≤ length text
+  pub rest : afterLine (drop at text) ≡ drop (r .next) text
+  pub cell : cellOf (r .cell) ≡ paper.cellOf (paper.numbersOf (lineAt text at))
+  pub room : t .count < 64
+
+-- of any job with that tally
+pub record CellLine (text : Text) (at : ℕ) (t : Tally) (r : Line) : Type 0 where
+  pub number : (j : paper.Job) → Tallies j t → r .number ≡ paper.cellRefusal j (lineAt text at)
+  pub few : r .number ≤ 4
+  pub read : r .number ≡ 0 → CellTo text at t r
+
+-- ---- the whole text
+
+-- a job with its first n cells, and with none
+abbrev pub sofar : Header → ℕ → List Cell → paper.Job
+sofar h n cells = record { header = headerOf h; cells = map cellOf (take n cells) }
+
+abbrev pub begun : Header → paper.Job
+begun h = record { header = headerOf h; cells = [] }
+
+-- number 0 is a job, any other a refusal at a line
+abbrev pub readingBy : ℕ → ℕ → Job → paper.Reading
+readingBy zero line j = paper.accepted (jobOf j)
+readingBy (suc n) line j = paper.refused (suc n) line
+
+unfoldable pub readingOf : Reading → paper.Reading
+readingOf r = readingBy (r .number) (r .line) (r .job)
+
+-- the 66th line is the 65th cell's
+pub record Reads (o : paper.Reading) (r : Reading) : Type 0 where
+  pub same : readingOf r ≡ o
+  pub number : r .number ≤ 4
+  pub line : r .line ≤ 66
+  pub few : r .number ≡ 0 → r .job .count ≤ 64
+  pub long : r .number ≡ 0 → length (r .job .cells) ≡ 64
+
+pub reads-accepted : {o : paper.Reading} {r : Reading} → Reads o r → r .number ≡ 0 → o ≡ paper.accepted (jobOf (r .job))
+unfolding readingOf
+reads-accepted {o} {r} s e = sym (s .same) ∙ ap (λ (n : ℕ). readingBy n (r .line) (r .job)) e
+
+pub reads-refused : {o : paper.Reading} {r : Reading} → Reads o r → (r .number ≡ 0 → ⊥) → o ≡ paper.refused (r .number) (r .line)
+unfolding readingOf
+reads-refused {o} {r} s z = sym (s .same) ∙ go (r .number) z
+  where
+    go : (n : ℕ) → (n ≡ 0 → ⊥) → readingBy n (r .line) (r .job) ≡ paper.refused n (r .line)
+    go zero z = absurd (z refl)
+    go (suc n) z = refl
+
+-- how many cells the job has
+pub reads-count : {o : paper.Reading} {r : Reading} → Reads o r → r .number ≡ 0 → length (jobOf (r .job) .cells) ≡ r .job .count
+unfolding jobOf
+reads-count {o} {r} s e =
+    let l = s .long e in
+    let f = s .few e in
+    length-map (take (r .job .count) (r .job .cells)) cellOf ∙ length-take-le (r .job .count) (r .job .cells) (omega arith)

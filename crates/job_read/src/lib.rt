@@ -1,0 +1,244 @@
+// The reader: a job text is read line by line, each line once, up to the first that is refused.
+ghost use mathlib.Core.Path.{_≡_};
+ghost use mathlib.Core.Bool.{cond};
+ghost use Prim.Native.Nat.{_+_, _≤_, _<_, max};
+ghost use lib.ListN.{length, drop};
+ghost use Rattle.definition.specs.Texts.{linesOf};
+ghost use Rattle.definition.specs.Job.{readJob, readCells};
+ghost use Rattle.job_read.specs.Rows.{tallyWith, room, rises};
+ghost use Rattle.job_read.specs.Lines.{later, headNumber, cellNumber};
+ghost use Rattle.job_read.specs.Reads.{HeadLine, CellLine, begun, Reads};
+use job::Cell;
+use job::Header;
+use job::Job;
+use job_ranges::cell_of;
+use job_ranges::count_fits;
+use job_ranges::header_fits;
+use job_ranges::header_of;
+use job_ranges::layouts_fit;
+use job_ranges::shape_fits;
+use text_scan::read_led;
+
+// What is kept of the cells read so far: the header's rows, how many cells and tall cells, and the highest given site of each row.
+pub struct Tally {
+    pub rows: u32,
+    pub count: usize,
+    pub tall: usize,
+    pub first: u32,
+    pub second: u32,
+}
+
+// The header line, refused by a number other than 0, and where the next line begins.
+pub struct Head {
+    pub number: u32,
+    pub next: usize,
+    pub header: Header,
+}
+
+// A cell line, likewise.
+pub struct Line {
+    pub number: u32,
+    pub next: usize,
+    pub cell: Cell,
+}
+
+// What a job text is read as: a job if `number` is 0, and otherwise a refusal at a line.
+pub struct Reading {
+    pub number: u32,
+    pub line: u32,
+    pub job: Job,
+}
+
+// One more test: a refusal before it stands, and otherwise its own number if it fails.
+fn tried(before: u32, passed: bool, number: u32) -> u32
+    ensures { λ r. ⌜ r ≡ later before passed number ⌝ }
+{
+    if before != 0 {
+        return before;
+    }
+    if passed {
+        return 0;
+    }
+    number
+}
+
+// ---- the header
+
+fn header_refusal(ok: bool, count: usize, h: Header) -> u32
+    ensures { λ r. ⌜ r ≡ headNumber ok count h ⌝ }
+{
+    let whole = ok & (count == 8);
+    let range = header_fits(h);
+    let n = tried(0, whole, 1);
+    tried(n, range, 2)
+}
+
+fn header_line(text: &[u8]) -> Head
+    requires { ⌜ 0 < length (now text) ⌝ }
+    ensures { λ r. ⌜ HeadLine (now (text .entry)) r ⌝ }
+{
+    let f = read_led(text, 0, 74);
+    let v = f.values;
+    let header = header_of(v);
+    let number = header_refusal(f.ok, f.count, header);
+    Head {
+        number,
+        next: f.next,
+        header,
+    }
+}
+
+// ---- the cells
+
+fn has_room(t: Tally, row: u32) -> bool
+    ensures { λ r. ⌜ r ≡ room t row ⌝ }
+{
+    (t.count < Job::MAX_CELLS) & ((row != 2) | (t.tall < Job::MAX_TALL))
+}
+
+fn does_rise(t: Tally, row: u32, given: u32) -> bool
+    ensures { λ r. ⌜ r ≡ rises t row given ⌝ }
+{
+    let first = !((row == 2) | (row == 0)) | (t.first <= given);
+    let second = !((row == 2) | (row == 1)) | (t.second <= given);
+    first & second
+}
+
+// The tests in document 01's order; `mark` is the line's field for mirrorable.
+fn cell_refusal(t: Tally, ok: bool, count: usize, mark: u32, c: Cell) -> u32
+    ensures { λ r. ⌜ r ≡ cellNumber t ok count mark c ⌝ }
+{
+    let row = c.row;
+    let given = c.given;
+    let layouts = c.layouts;
+    let formed = ok & (4 <= count);
+    let shape = shape_fits(t.rows, row, layouts);
+    let size = count_fits(count, row, layouts);
+    let rest = (given <= 1023) & (mark <= 1) & layouts_fit(c);
+    let room = has_room(t, row);
+    let rises = does_rise(t, row, given);
+    let n = tried(0, formed, 1);
+    let n = tried(n, shape, 2);
+    let n = tried(n, size, 1);
+    let n = tried(n, rest, 2);
+    let n = tried(n, room, 3);
+    tried(n, rises, 4)
+}
+
+fn cell_line(text: &[u8], at: usize, t: Tally) -> Line
+    requires { ⌜ at < length (now text) ⌝ }
+    ensures { λ r. ⌜ CellLine (now (text .entry)) at t r ⌝ }
+{
+    let f = read_led(text, at, 67);
+    let v = f.values;
+    let cell = cell_of(v);
+    let number = cell_refusal(t, f.ok, f.count, v[2], cell);
+    Line {
+        number,
+        next: f.next,
+        cell,
+    }
+}
+
+// ---- one more cell
+
+fn one_more(is: bool, n: usize) -> usize
+    requires { ⌜ n < 64 ⌝ }
+    ensures { λ r. ⌜ r ≡ n + cond is 1 0 ⌝ }
+{
+    if is {
+        return n + 1;
+    }
+    n
+}
+
+fn higher(is: bool, top: u32, given: u32) -> u32
+    ensures { λ r. ⌜ r ≡ max top (cond is given 0) ⌝ }
+{
+    if is {
+        if top < given {
+            return given;
+        }
+        return top;
+    }
+    top
+}
+
+fn tally_with(t: Tally, row: u32, given: u32) -> Tally
+    requires { ⌜ (t .count < 64) × (t .tall < 64) ⌝ }
+    ensures { λ r. ⌜ r ≡ tallyWith t row given ⌝ }
+{
+    let tall = one_more(row == 2, t.tall);
+    let first = higher((row == 2) | (row == 0), t.first, given);
+    let second = higher((row == 2) | (row == 1), t.second, given);
+    Tally {
+        rows: t.rows,
+        count: t.count + 1,
+        tall,
+        first,
+        second,
+    }
+}
+
+// ---- the whole text
+
+// The cell lines from `from` on, after a header.
+fn read_cells(text: &[u8], from: usize, header: Header) -> Reading
+    requires { ⌜ from ≤ length (now text) ⌝ }
+    ensures { λ r. ⌜ Reads (readCells (begun header) 2 (linesOf (drop from (now (text .entry))))) r ⌝ }
+{
+    let mut job = Job::empty();
+    job.header = header;
+    let mut t = Tally {
+        rows: header.rows,
+        count: 0,
+        tall: 0,
+        first: 0,
+        second: 0,
+    };
+    let mut at = from;
+    let mut line: u32 = 2;
+    while at < text.len() {
+        let l = cell_line(text, at, t);
+        let number = l.number;
+        if number != 0 {
+            return Reading { number, line, job };
+        }
+        let cell = l.cell;
+        let count = t.count;
+        job.cells[count] = cell;
+        t = tally_with(t, cell.row, cell.given);
+        at = l.next;
+        line += 1;
+    }
+    job.count = t.count;
+    Reading {
+        number: 0,
+        line: 0,
+        job,
+    }
+}
+
+// The job that a text says, or its first refusal.
+pub fn read_job(text: &[u8]) -> Reading
+    ensures { λ r. ⌜ Reads (readJob (now (text .entry))) r ⌝ }
+{
+    if text.len() == 0 {
+        return Reading {
+            number: 1,
+            line: 1,
+            job: Job::empty(),
+        };
+    }
+    let h = header_line(text);
+    let number = h.number;
+    if number != 0 {
+        return Reading {
+            number,
+            line: 1,
+            job: Job::empty(),
+        };
+    }
+    let header = h.header;
+    read_cells(text, h.next, header)
+}

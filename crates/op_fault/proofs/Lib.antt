@@ -1,0 +1,5 @@
+pub mod Over
+pub mod Reports
+pub mod Told
+pub mod Lines
+pub mod Parts

@@ -1,0 +1,129 @@
+-- `op_place::place_texts` meets its contract: each refusal in its order, or what the search of the accepted job comes to.
+use native.Mathlib.Omega.{arith}
+use Rattle.job.specs.Value.{jobOf}
+use Rattle.job_laws.specs.Whole.{accepted-sound}
+use Rattle.job_read.specs.Reads.{reads-accepted, reads-refused, reads-count}
+use Rattle.op_place.specs.Answers.{placed-refused, placed-small, placed-narrow, placed-answered}
+use borrow.Author.Needs.{needs}
+use Rattle.op_place.proofs.place_texts.Statement.{statement}
+use Rattle.op_place.proofs.place_texts.Tie as tie
+
+read-job-requires : tie.Need-read-job-requires
+read-job-requires c κs = search needs
+
+refuse-requires : tie.Need-refuse-requires
+refuse-requires c κs = search needs
+
+same-length : tie.Need-same-length
+same-length c = search needs
+
+returns : tie.Need-returns
+returns c =
+    let r = c .before .before .before .before in
+    let a = r .before .before .before .before .args in
+    placed-refused (a .store .now) (a .output .now) (a .results .now) (a .job .now) (reads-refused (r .read-job .ensures) (c .before .before .before .if1 .taken))
+    (c .before .refuse .ensures)
+
+mul-room : tie.Need-mul-room
+mul-room c =
+    let l = c .before .before in
+    omega (arith, l .before .read-job .ensures .few (l .if1 .left))
+
+refuse-requires-2 : tie.Need-refuse-requires-2
+refuse-requires-2 c κs = search needs
+
+same-length-2 : tie.Need-same-length-2
+same-length-2 c = search needs
+
+returns-2 : tie.Need-returns-2
+returns-2 c =
+    let l = c .before .before .before .before .before .before in
+    let r = l .before in
+    let a = r .before .before .before .before .args in
+    placed-small (a .store .now) (a .output .now) (a .results .now) (a .job .now) (jobOf (r .read-job .result .job))
+    (reads-accepted (r .read-job .ensures) (l .if1 .left))
+    (c .before .before .before .if2 .taken)
+    (c .before .refuse2 .ensures)
+
+refuse-requires-3 : tie.Need-refuse-requires-3
+refuse-requires-3 c κs = search needs
+
+same-length-3 : tie.Need-same-length-3
+same-length-3 c = search needs
+
+returns-3 : tie.Need-returns-3
+returns-3 c =
+    let t = c .before .before .before in
+    let k = t .before in
+    let l = k .before .before .before in
+    let r = l .before in
+    let a = r .before .before .before .before .args in
+    let n = reads-count (r .read-job .ensures) (l .if1 .left) in
+    placed-narrow (a .store .now) (a .output .now) (a .results .now) (a .job .now) (jobOf (r .read-job .result .job))
+    (reads-accepted (r .read-job .ensures) (l .if1 .left))
+    (k .if2 .left)
+    (omega (arith, t .if3 .taken, n))
+    (c .before .refuse3 .ensures)
+
+place-job-requires : tie.Need-place-job-requires
+place-job-requires c κs =
+    let t = c .before .before .before in
+    let k = t .before in
+    let l = k .before .before .before in
+    let r = l .before in
+    let o = r .read-job .ensures in
+    let z = l .if1 .left in
+    record {
+      taken = record {
+        sound = accepted-sound (r .before .before .before .before .args .job .now) (jobOf (r .read-job .result .job)) (reads-accepted o z);
+        few = o .few z;
+        many = reads-count o z;
+      };
+      store = k .if2 .left;
+      output = t .if3 .left;
+    }
+
+same-length-4 : tie.Need-same-length-4
+same-length-4 c = search needs
+
+same-length-5 : tie.Need-same-length-5
+same-length-5 c = search needs
+
+same-length-6 : tie.Need-same-length-6
+same-length-6 c = search needs
+
+returns-4 : tie.Need-returns-4
+returns-4 c =
+    let p = c .before .before .before .before .before in
+    let t = p .before .before .before .before in
+    let k = t .before in
+    let l = k .before .before .before in
+    let r = l .before in
+    let a = r .before .before .before .before .args in
+    let n = reads-count (r .read-job .ensures) (l .if1 .left) in
+    placed-answered (a .store .now) (a .output .now) (a .results .now) (a .job .now) (jobOf (r .read-job .result .job))
+    (reads-accepted (r .read-job .ensures) (l .if1 .left))
+    (k .if2 .left)
+    (omega (arith, t .if3 .left, n))
+    (p .place-job .ensures)
+
+pub place-texts-spec : {M : Type 1} → statement M
+place-texts-spec =
+    tie.close
+    (tie.spec
+    read-job-requires
+    refuse-requires
+    same-length
+    returns
+    mul-room
+    refuse-requires-2
+    same-length-2
+    returns-2
+    refuse-requires-3
+    same-length-3
+    returns-3
+    place-job-requires
+    same-length-4
+    same-length-5
+    same-length-6
+    returns-4)

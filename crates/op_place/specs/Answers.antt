@@ -1,0 +1,142 @@
+-- From what the search finds, and from what is written, to what Place's contract says. Assumes nothing.
+use Prim.Native.Nat.{ℕ, zero, suc, _*_, _≤_, _<_}
+use mathlib.Core.Path.{_≡_, refl, sym, ap, _∙_}
+use mathlib.Core.List.{List, _∷_}
+use mathlib.Core.Option.{Option, none, some}
+use native.Mathlib.Omega.{arith}
+use borrow.Author.Tests.{le-leb, lt-leb}
+use lib.ListN.{length, replicate}
+use lib.IntN.{ℤ, pos}
+use Rattle.definition.specs.Texts.{Text}
+use Rattle.definition.specs.Job as paper
+use Rattle.definition.specs.Job.{refused, accepted, readJob, firstFailing}
+use Rattle.definition.specs.Placement as text
+use Rattle.definition.specs.Placement.{textOf}
+use Rattle.definition.specs.Moves.{Cheapest}
+use Rattle.definition.specs.Outcome.{Outcome, over, refusal, placeAnswer, placeOutcome, bufferRefusal, Buffers}
+use Rattle.text_laws.specs.Poses.{Printable, Each}
+use Rattle.text_laws.specs.Room.{Narrow, legal-room, legal-printable, legal-narrow, at-each}
+use Rattle.job.specs.declared.Job.{Job}
+use Rattle.job.specs.declared.Placement.{Placement}
+use Rattle.job.specs.Value.{jobOf, placementOf}
+use Rattle.score_words.specs.Ready.{Ready}
+use Rattle.score_words.specs.Laws.{pose-there}
+use Rattle.theory_tables.specs.Steps.{B}
+use Rattle.search.specs.Solved.{Solved}
+use Rattle.op_place.specs.Placed.{lent, Placed, Answered, placementIn, Chosen}
+use Rattle.op_place.specs.Poses.{Numbered}
+use Rattle.op_place.specs.Fields.{Wrote}
+
+-- ---- the placement made of legal pose numbers
+
+module _ (job : Job) (poses : List ℕ) (room : ℕ) (t : Chosen job poses room) (P : Placement) (n : Numbered job poses P) where
+  pub text-room : length (textOf (placementOf P)) ≤ room
+  text-room = rw (n .same) (omega (arith, legal-room (jobOf job) (placementIn job poses) (t .taken .sound) (t .legal), t .taken .many, t .output))
+
+  pub text-short : length (textOf (placementOf P)) ≤ 576
+  text-short = rw (n .same) (omega (arith, legal-room (jobOf job) (placementIn job poses) (t .taken .sound) (t .legal), t .taken .many, t .taken .few))
+
+  pub printable : Each Printable (placementOf P)
+  printable = rw (n .same) (legal-printable (jobOf job) (placementIn job poses) (t .taken .sound) (t .legal))
+
+  pub ready : Ready job P
+  ready = record {
+    sound = t .taken .sound;
+    few = t .taken .few;
+    each = n .count;
+    site = λ k h.
+        let all : Each Narrow (placementOf P) = rw (n .same) (legal-narrow (jobOf job) (placementIn job poses) (t .taken .sound) (t .legal)) in
+        let long : length (placementOf P) ≡ job .count = rw (n .same) (t .legal .each ∙ t .taken .many) in
+        let low = at-each Narrow (placementOf P) all k (omega arith) .site in
+        rw (pose-there P k (omega (arith, n .count))) at low;
+  }
+
+-- ---- what is found
+
+pub found : (j : paper.Job) (least : ℕ) (poses : List ℕ) → Solved j least poses → (least ≡ B → ⊥) → least < B
+found j least poses s z = omega (arith, s .low, z)
+
+module _ (store output : List ℕ) (results : List ℤ) where
+  -- 8: nothing is written to the output, and the store is zero
+  pub answered-none : {j : paper.Job} {store′ : List ℕ} {results′ : List ℤ} → Cheapest j none → store′ ≡ replicate (length store) 0
+      → results′ ≡ over (pos 8 ∷ pos 0 ∷ replicate 7 (pos 0)) results → Answered j 8 (lent store output results) (lent store′ output results′)
+  unfolding over
+  answered-none c s r = record {
+    answer = none;
+    cheapest = c;
+    met = record { told = record { number = refl; array = r }; written = refl; stored = s };
+  }
+
+  pub answered-some : (job : Job) (poses : List ℕ) {store′ output′ : List ℕ} {results′ : List ℤ} → Cheapest (jobOf job) (some (placementIn job poses))
+      → store′ ≡ replicate (length store) 0 → Wrote job poses output output′ results results′
+      → Answered (jobOf job) 0 (lent store output results) (lent store′ output′ results′)
+  answered-some job poses c s w = record {
+    answer = some (placementIn job poses);
+    cheapest = c;
+    met = record { told = record { number = refl; array = w .array }; written = w .text; stored = s };
+  }
+
+  -- ---- refusals: only the results are written
+
+  module _ (source : Text) where
+    refused-as : (n line : ℕ) {results′ : List ℤ} → ((j : paper.Job) → readJob source ≡ accepted j → bufferRefusal j (length store) (length output) ≡ 0 → ⊥)
+        → refusal 7 n line ≡ placeOutcome (readJob source) (length store) (length output) none
+        → results′ ≡ over (pos n ∷ pos line ∷ replicate 7 (pos 0)) results
+        → Placed source n (lent store output results) (lent store output results′)
+    unfolding over
+    refused-as n line z e r = record {
+      outcome = refusal 7 n line;
+      gives = record { answer = none; cheapest = λ j a b. absurd (z j a b); outcome = e };
+      met = record { told = record { number = refl; array = r }; written = refl; stored = refl };
+    }
+
+    -- 1 to 4
+    pub placed-refused : {n line : ℕ} {results′ : List ℤ} → readJob source ≡ refused n line → results′ ≡ over (pos n ∷ pos line ∷ replicate 7 (pos 0)) results
+        → Placed source n (lent store output results) (lent store output results′)
+    unfolding placeOutcome
+    placed-refused {n} {line} e r = refused-as n line
+        (λ j a b. let z : _≡_ {A = ℕ} 0 1 = cc in omega arith)
+        (ap (λ (x : paper.Reading). placeOutcome x (length store) (length output) none) (sym e))
+        r
+
+    -- 6 and 7
+    module _ (j : paper.Job) (e : readJob source ≡ accepted j) where
+      -- the outcome by which refusal the buffers meet, 0 for none
+      by-number : (a : Option text.Placement) {n : ℕ} → bufferRefusal j (length store) (length output) ≡ n
+          → placeOutcome (readJob source) (length store) (length output) a ≡ (elim n as (λ x. Outcome) [ zero ↦ placeAnswer j a | suc x ↦ refusal 7 (suc x) 0 ])
+      unfolding placeOutcome
+      by-number a b =
+          ap (λ (x : paper.Reading). placeOutcome x (length store) (length output) a) e
+          ∙ ap (λ (m : ℕ). elim m as (λ x. Outcome) [ zero ↦ placeAnswer j a | suc x ↦ refusal 7 (suc x) 0 ]) b
+
+      by-buffers : (n : ℕ) {results′ : List ℤ} → bufferRefusal j (length store) (length output) ≡ suc n
+          → results′ ≡ over (pos (suc n) ∷ pos 0 ∷ replicate 7 (pos 0)) results → Placed source (suc n) (lent store output results) (lent store output results′)
+      by-buffers n b r = refused-as (suc n) 0 (λ k a d. let q : k ≡ j = cc in let z = rw q at d in omega arith) (sym (by-number none b)) r
+
+      pub placed-small : {results′ : List ℤ} → length store < 1048576 → results′ ≡ over (pos 6 ∷ pos 0 ∷ replicate 7 (pos 0)) results
+          → Placed source 6 (lent store output results) (lent store output results′)
+      unfolding bufferRefusal firstFailing
+      placed-small h r = by-buffers 5 (rw (lt-leb 1048576 (length store) h)) r
+
+      pub placed-narrow : {results′ : List ℤ} → 1048576 ≤ length store → length output < 9 * length (j .cells)
+          → results′ ≡ over (pos 7 ∷ pos 0 ∷ replicate 7 (pos 0)) results → Placed source 7 (lent store output results) (lent store output results′)
+      unfolding bufferRefusal firstFailing
+      placed-narrow h g r =
+          by-buffers 6 (rw (le-leb 1048576 (length store) h, lt-leb (9 * length (j .cells)) (length output) g)) r
+
+      -- an answer
+      pub placed-answered : {returned : ℕ} {end : Buffers} → 1048576 ≤ length store → 9 * length (j .cells) ≤ length output
+          → Answered j returned (lent store output results) end → Placed source returned (lent store output results) end
+      unfolding bufferRefusal firstFailing
+      placed-answered h g a = record {
+        outcome = placeAnswer j (a .answer);
+        gives = record {
+          answer = a .answer;
+          cheapest = λ k r b. let q : j ≡ k = cc in rw q at (a .cheapest);
+          outcome = sym (by-number (a .answer) enough);
+        };
+        met = a .met;
+      }
+        where
+          enough : bufferRefusal j (length store) (length output) ≡ 0
+          enough = rw (le-leb 1048576 (length store) h, le-leb (9 * length (j .cells)) (length output) g)

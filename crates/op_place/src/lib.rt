@@ -1,0 +1,141 @@
+// Place: the job is read, a cheapest legal placement is searched for, and its text and numbers are written to what the caller lends.
+ghost use mathlib.Core.Path.{_≡_};
+ghost use mathlib.Core.List.{_∷_};
+ghost use Prim.Native.Nat.{_^_, _≤_, _<_};
+ghost use lib.ListN.{length, take, replicate};
+ghost use lib.IntN.{pos};
+ghost use Rattle.definition.specs.Outcome.{over};
+ghost use Rattle.job.specs.Value.{jobOf, placementOf};
+ghost use Rattle.score_words.specs.Ready.{Ready};
+ghost use Rattle.op_place.specs.Poses.{PoseBy, ByNumber, Numbered};
+ghost use Rattle.op_place.specs.Fields.{fieldsIn, Wrote};
+ghost use Rattle.op_place.specs.Placed.{lent, Placed, Enough, Answered, Chosen};
+use job::Cell;
+use job::Job;
+use job::Placement;
+use job::Pose;
+use job_read::read_job;
+use placement_write::put_placement;
+use results::put_results;
+use score_numbers::numbers_of;
+use search::search;
+
+// A pose by its number: a site within the displacement, a layout, a mark.
+fn pose_of(displacement: u32, cell: Cell, a: u32) -> Pose
+    requires { ⌜ (cell .given ≤ 1023) × (a < 64) ⌝ }
+    ensures { λ r. ⌜ PoseBy displacement (cell .given) a r ⌝ }
+{
+    let x = cell.given + a / 4;
+    let layout = a % 4 / 2;
+    let mark = a % 2;
+    if x < displacement {
+        return Pose {
+            site: 0,
+            layout,
+            mark,
+        };
+    }
+    Pose {
+        site: x - displacement,
+        layout,
+        mark,
+    }
+}
+
+// The placement by pose numbers, cell by cell.
+fn placement_of(job: Job, poses: [u32; 64]) -> Placement
+    requires { ⌜ ByNumber job poses ⌝ }
+    ensures { λ r. ⌜ Numbered job poses r ⌝ }
+{
+    let mut placement = Placement::empty();
+    let count = job.count;
+    placement.count = count;
+    let displacement = job.header.displacement;
+    let mut k: usize = 0;
+    while k < count {
+        let cell = job.cells[k];
+        let a = poses[k];
+        let pose = pose_of(displacement, cell, a);
+        placement.poses[k] = pose;
+        k += 1;
+    }
+    placement
+}
+
+// Score's six numbers of a placement, and how long its text is.
+fn fields_of(job: Job, placement: Placement, bytes: usize) -> [i32; 8]
+    requires { ⌜ Ready job placement × (bytes < 2 ^ 31) ⌝ }
+    ensures { λ r. ⌜ take 7 r ≡ fieldsIn (jobOf job) (placementOf placement) bytes ⌝ }
+{
+    let n = numbers_of(job, placement);
+    [
+        n.steps as i32,
+        n.shifted as i32,
+        n.mirrored as i32,
+        n.changed as i32,
+        n.cost as i32,
+        n.drift,
+        bytes as i32,
+        0,
+    ]
+}
+
+// The answer: text and fields of the placement found.
+fn put_answer(job: Job, poses: [u32; 64], output: &mut [u8], results: &mut [i32])
+    requires { ⌜ Chosen job poses (length (now output)) ⌝ }
+    ensures { λ _. ⌜ Wrote job poses (now (output .entry)) (now (output .exit)) (now (results .entry)) (now (results .exit)) ⌝ }
+{
+    let placement = placement_of(job, poses);
+    let bytes = put_placement(output, placement);
+    let fields = fields_of(job, placement, bytes);
+    put_results(results, 0, 0, fields, 7);
+}
+
+// A refusal: its number and line, and fields of zero.
+fn refuse(results: &mut [i32], number: u32, line: u32)
+    requires { ⌜ (number ≤ 8) × (line ≤ 66) ⌝ }
+    ensures { λ _. ⌜ now (results .exit) ≡ over (pos number ∷ pos line ∷ replicate 7 (pos 0)) (now (results .entry)) ⌝ }
+{
+    put_results(results, number, line, [0, 0, 0, 0, 0, 0, 0, 0], 7);
+}
+
+// Of an accepted job, with buffers that are enough. No word of the store outlives the call.
+fn place_job(job: Job, store: &mut [u32], output: &mut [u8], results: &mut [i32]) -> u32
+    requires { ⌜ Enough job (length (now store)) (length (now output)) ⌝ }
+    ensures { λ r. ⌜ Answered (jobOf job) r (lent (now (store .entry)) (now (output .entry)) (now (results .entry))) (lent (now (store .exit)) (now (output .exit)) (now (results .exit))) ⌝ }
+{
+    let found = search(job, &mut *store);
+    search_lanes::clear(store);
+    let cost = found.cost;
+    if cost == search_lanes::NONE {
+        refuse(results, 8, 0);
+        return 8;
+    }
+    let poses = found.poses;
+    put_answer(job, poses, output, results);
+    0
+}
+
+// Place: refusals 1 to 4 as Read, then 6 and 7 by the buffers, then 8 or an answer.
+pub fn place_texts(job: &[u8], store: &mut [u32], output: &mut [u8], results: &mut [i32]) -> u32
+    ensures { λ r. ⌜ Placed (now (job .entry)) r (lent (now (store .entry)) (now (output .entry)) (now (results .entry))) (lent (now (store .exit)) (now (output .exit)) (now (results .exit))) ⌝ }
+{
+    let r = read_job(job);
+    let number = r.number;
+    if number != 0 {
+        let line = r.line;
+        refuse(results, number, line);
+        return number;
+    }
+    let j = r.job;
+    let room = 9 * j.count;
+    if store.len() < 1048576 {
+        refuse(results, 6, 0);
+        return 6;
+    }
+    if output.len() < room {
+        refuse(results, 7, 0);
+        return 7;
+    }
+    place_job(j, store, output, results)
+}

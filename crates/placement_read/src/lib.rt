@@ -1,0 +1,91 @@
+// Reading a placement text: one line after another, as many as are due.
+ghost use mathlib.Core.Path.{_≡_};
+ghost use mathlib.Core.Bool.{false};
+ghost use Prim.Native.Nat.{_≤_};
+ghost use lib.ListN.{length};
+ghost use Rattle.job.specs.Value.{emptyPlacement};
+ghost use Rattle.placement_read.specs.Reading.{PoseFrom, ReadAs};
+use job::Placement;
+use job::Pose;
+use text_scan::read_numbers;
+
+// A pose and where the next line begins.
+pub struct PoseReading {
+    pub ok: bool,
+    pub next: usize,
+    pub pose: Pose,
+}
+
+// The line at fault, or 0 and the placement.
+pub struct PlacementReading {
+    pub line: u32,
+    pub placement: Placement,
+}
+
+// The pose that the line from `at` on says.
+fn read_pose(text: &[u8], at: usize) -> PoseReading
+    requires { ⌜ at ≤ length (now text) ⌝ }
+    ensures { λ r. ⌜ PoseFrom (now (text .entry)) at r ⌝ }
+{
+    let n = read_numbers(text, at);
+    if !n.ok {
+        return no_pose(at);
+    }
+    if n.count != 3 {
+        return no_pose(at);
+    }
+    PoseReading {
+        ok: true,
+        next: n.next,
+        pose: Pose {
+            site: n.values[0],
+            layout: n.values[1],
+            mark: n.values[2],
+        },
+    }
+}
+
+fn no_pose(at: usize) -> PoseReading
+    ensures { λ r. ⌜ r .ok ≡ false ⌝ }
+{
+    PoseReading {
+        ok: false,
+        next: at,
+        pose: Pose::empty(),
+    }
+}
+
+fn faulty(line: usize) -> PlacementReading
+    requires { ⌜ line ≤ 65 ⌝ }
+    ensures { λ r. ⌜ (r .line ≡ line) × (r .placement ≡ emptyPlacement) ⌝ }
+{
+    let p = Placement::empty();
+    PlacementReading {
+        line: line as u32,
+        placement: p,
+    }
+}
+
+// What the text says of `due` cells, or the earliest line that is bad, missing or surplus.
+pub fn read_placement(text: &[u8], due: usize) -> PlacementReading
+    requires { ⌜ due ≤ 64 ⌝ }
+    ensures { λ r. ⌜ ReadAs (now (text .entry)) due r ⌝ }
+{
+    let mut placement = Placement::empty();
+    let mut at = 0;
+    while placement.count < due {
+        let p = read_pose(text, at);
+        if !p.ok {
+            return faulty(placement.count + 1);
+        }
+        at = p.next;
+        let n = placement.count;
+        let pose = p.pose;
+        placement.poses[n] = pose;
+        placement.count = n + 1;
+    }
+    if at < text.len() {
+        return faulty(due + 1);
+    }
+    PlacementReading { line: 0, placement }
+}

@@ -1,0 +1,23 @@
+-- A number and then a byte, one after another.
+use native.Mathlib.Omega.{arith}
+use Rattle.placement_write.proofs.Puts.{then}
+use borrow.Author.Needs.{needs}
+use Rattle.placement_write.proofs.put_field.Statement.{statement}
+use Rattle.placement_write.proofs.put_field.Tie as tie
+
+put-number-requires : tie.Need-put-number-requires
+put-number-requires c κs = search needs
+
+put-byte-requires : tie.Need-put-byte-requires
+put-byte-requires c κs = search needs
+
+same-length : tie.Need-same-length
+same-length c = search needs
+
+returns : tie.Need-returns
+returns c =
+    let n = c .before .before .before .before .before .before in
+    then (omega arith) (n .put-number .ensures) (c .before .before .put-byte .ensures)
+
+pub put-field-spec : {M : Type 1} → statement M
+put-field-spec = tie.close (tie.spec put-number-requires put-byte-requires same-length returns)

@@ -1,2 +1,0 @@
-pub mod Scatter
-pub mod Laws

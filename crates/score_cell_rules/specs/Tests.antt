@@ -1,0 +1,39 @@
+-- The rules that are judged cell by cell, on the words of a placed job. They are the definition's: see Flat in crate rules.
+use Prim.Native.Nat.{ℕ}
+use mathlib.Core.Bool.{Bool, not, _&&_, _||_}
+use mathlib.Core.List.{List}
+use lib.ListN.{getD}
+use lib.Dec.{leb, ltb, eqb}
+use Rattle.definition.specs.Lists.{from, any}
+use Rattle.definition.specs.Job.{bothRows}
+use Rattle.definition.specs.Rules.{apart}
+use Rattle.score_order.specs.Words.{siteIn, endIn, rowIn, givenIn, standsIn}
+
+-- rule 2: past the row's end
+unfoldable pub pastIn : List ℕ → ℕ → ℕ → Bool
+pastIn words sites k = not (leb (endIn words k) sites)
+
+-- rule 3: too far from the given site
+unfoldable pub farIn : List ℕ → ℕ → ℕ → Bool
+farIn words limit k = not (leb (apart (siteIn words k) (givenIn words k)) limit)
+
+-- rule 4: cells of two row numbers share a row; two cells clash; a cell clashes with any of n
+unfoldable pub shareIn : ℕ → ℕ → Bool
+shareIn a b = any (λ row. standsIn row a && standsIn row b) bothRows
+
+unfoldable pub clashIn : List ℕ → ℕ → ℕ → Bool
+clashIn words k b = not (eqb b k) && (shareIn (rowIn words k) (rowIn words b) && ltb (siteIn words k) (endIn words b) && ltb (siteIn words b) (endIn words k))
+
+unfoldable pub clashesIn : List ℕ → ℕ → ℕ → Bool
+clashesIn words n k = any (clashIn words k) (from 0 n)
+
+-- rule 7: a tall cell is on the wrong side of cell k; any of n is
+unfoldable pub wrongIn : List ℕ → ℕ → ℕ → Bool
+wrongIn words k b = eqb (rowIn words b) 2 && ((ltb b k && ltb (siteIn words k) (siteIn words b)) || (ltb k b && ltb (siteIn words b) (siteIn words k)))
+
+unfoldable pub passesIn : List ℕ → ℕ → ℕ → Bool
+passesIn words n k = eqb (rowIn words k) 2 && any (wrongIn words k) (from 0 n)
+
+-- marks: an entry of 1 says that the cell breaks a rule
+unfoldable pub markedIn : List ℕ → ℕ → Bool
+markedIn marks k = eqb (getD marks k 0) 1

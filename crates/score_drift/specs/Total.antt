@@ -1,0 +1,46 @@
+-- The signed sum of displacements, from the words of a placed job, and drift from that sum.
+use Prim.Native.Nat.{ℕ, zero, suc, _+_, _≤_, _<_}
+use mathlib.Core.Path.{_≡_, refl, sym, ap, ap₂, _∙_}
+use mathlib.Core.Bool.{cond}
+use mathlib.Core.List.{List}
+use lib.Dec.{eqb}
+use lib.IntN.{ℤ, pos, _+ℤ_, _-ℤ_}
+use Rattle.definition.specs.Lists.{from}
+use Rattle.definition.specs.Job as paper
+use Rattle.definition.specs.Placement as text
+use Rattle.definition.specs.Cost.{hundredths, totalShift, drift}
+use Rattle.score_order.specs.Words.{siteIn, givenIn}
+use Rattle.score_words.specs.Flat.{Flat}
+
+-- site minus given, of the n cells from k on
+unfoldable pub totalIn : List ℕ → ℕ → ℕ → ℤ
+totalIn words k zero = pos 0
+totalIn words k (suc n) = (pos (siteIn words k) -ℤ pos (givenIn words k)) +ℤ totalIn words (suc k) n
+
+-- sites have four digits, and given sites are in range
+abbrev pub Digits : List ℕ → ℕ → Type 0
+Digits words n = (k : ℕ) → k < n → (siteIn words k ≤ 9999) × (givenIn words k ≤ 1023)
+
+-- a sum over n cells, in hundredths of a site
+abbrev pub driftOf : ℤ → ℕ → ℤ
+driftOf s n = cond (eqb n 0) (pos 0) (hundredths s n)
+
+-- one more cell, and none
+pub total-more : (words : List ℕ) (i k n m : ℕ) → k ≡ suc i → n ≡ suc m → totalIn words i n ≡ (pos (siteIn words i) -ℤ pos (givenIn words i)) +ℤ totalIn words k m
+unfolding totalIn
+total-more words i k n m e f = rw (f, e)
+
+pub total-none : (words : List ℕ) (k n : ℕ) → n ≡ 0 → totalIn words k n ≡ pos 0
+unfolding totalIn
+total-none words k n e = rw e
+
+-- ---- they are the definition's
+
+pub flat-total : (j : paper.Job) (P : text.Placement) (n : ℕ) (words : List ℕ) → Flat j P n words → (k m : ℕ) → totalIn words k m ≡ totalShift j P (from k m)
+unfolding totalIn totalShift
+flat-total j P n words f k zero = refl
+flat-total j P n words f k (suc m) = ap₂ _+ℤ_ (ap₂ (λ x y. pos x -ℤ pos y) (f .shows k .site) (f .shows k .given)) (flat-total j P n words f (suc k) m)
+
+pub flat-drift : (j : paper.Job) (P : text.Placement) (n : ℕ) (words : List ℕ) → Flat j P n words → driftOf (totalIn words 0 n) n ≡ drift j P
+unfolding drift
+flat-drift j P n words f = ap₂ driftOf (flat-total j P n words f 0 n ∙ ap (λ m. totalShift j P (from 0 m)) (sym (f .count))) (sym (f .count))

@@ -1,0 +1,30 @@
+-- The words start as zeros.
+use Rattle.score_words.specs.Laws.{zeros-blank}
+use borrow.Author.Needs.{needs}
+use Rattle.score_numbers.proofs.numbers_of.Statement.{statement}
+use Rattle.score_numbers.proofs.numbers_of.Tie as tie
+
+slice-aggregate-flatten : tie.Need-slice-aggregate-flatten
+slice-aggregate-flatten c = search needs
+
+flatten-requires : tie.Need-flatten-requires
+flatten-requires c κs = (c .before .pre, zeros-blank)
+
+slice-aggregate-numbers-from : tie.Need-slice-aggregate-numbers-from
+slice-aggregate-numbers-from c = search needs
+
+numbers-from-requires : tie.Need-numbers-from-requires
+numbers-from-requires c κs = search needs
+
+returns : tie.Need-returns
+returns c = search needs
+
+pub numbers-of-spec : {M : Type 1} → statement M
+numbers-of-spec =
+    tie.close
+    (tie.spec
+    slice-aggregate-flatten
+    flatten-requires
+    slice-aggregate-numbers-from
+    numbers-from-requires
+    returns)

@@ -1,0 +1,55 @@
+-- The order of the row is the definition's, and its entries are cells of the job.
+use native.Mathlib.Omega.{arith}
+use mathlib.Core.Path.{ap, sym, subst, _∙_}
+use Rattle.definition.specs.Lists.{sumNext}
+use Rattle.definition.specs.Cost.{stepsIn, stepsAt}
+use Rattle.job.specs.Value.{jobOf, placementOf}
+use Rattle.score_order.specs.Words.{siteIn, cellsIn}
+use Rattle.score_order.specs.Below.{Below, below-sort, below-cells}
+use Rattle.score_order.specs.Laws.{zeros-room}
+use Rattle.score_words.specs.Rows.{flat-order}
+use borrow.Author.Needs.{needs}
+use Rattle.score_numbers.proofs.steps_row.Statement.{statement}
+use Rattle.score_numbers.proofs.steps_row.Tie as tie
+
+slice-aggregate-order-row : tie.Need-slice-aggregate-order-row
+slice-aggregate-order-row c = search needs
+
+order-row-requires : tie.Need-order-row-requires
+order-row-requires c κs = (omega (arith, c .before .before .pre .1 .few), omega (arith, c .before .before .pre .2 .long), zeros-room)
+
+slice-aggregate-steps-in : tie.Need-slice-aggregate-steps-in
+slice-aggregate-steps-in c = search needs
+
+steps-in-requires : tie.Need-steps-in-requires
+steps-in-requires c κs =
+    let s = c .before .before .before .before .before in
+    let t = c .before .before .order-row .ensures in
+    let r = s .pre .1 in
+    let w = s .args .words .now in
+    let n = s .args .job .count in (
+      (s .pre .0, r .few, r .each, s .pre .2),
+      (
+        record { long = t .long; low = t .low },
+        t .start,
+        subst (Below n) (sym (t .entries)) (below-sort n (siteIn w) (cellsIn w (s .args .row) 0 n) (below-cells w (s .args .row) n)),
+      ),
+    )
+
+returns : tie.Need-returns
+unfolding stepsIn
+returns c =
+    let s = c .before .before .before .before .before .before in
+    let t = c .before .before .before .order-row .ensures in
+    let f = stepsAt (jobOf (s .args .job)) (placementOf (s .args .placement)) (s .args .row) in
+    (c .steps-in .ensures .0 ∙ ap (sumNext f) (t .entries ∙ flat-order (s .pre .2) (s .args .row)), c .steps-in .ensures .1)
+
+pub steps-row-spec : {M : Type 1} → statement M
+steps-row-spec =
+    tie.close
+    (tie.spec
+    slice-aggregate-order-row
+    order-row-requires
+    slice-aggregate-steps-in
+    steps-in-requires
+    returns)

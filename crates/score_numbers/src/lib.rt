@@ -1,0 +1,137 @@
+// The numbers of a placement: steps, sites shifted, mirrored, changed, cost and drift.
+ghost use mathlib.Core.Path.{_≡_};
+ghost use Prim.Native.Nat.{_+_, _*_, _≤_, _<_};
+ghost use lib.ListN.{length};
+ghost use Rattle.definition.specs.Rules.{apart};
+ghost use Rattle.definition.specs.Cost.{stepsIn, isMirrored};
+ghost use Rattle.job.specs.Value.{jobOf, placementOf};
+ghost use Rattle.score_order.specs.Words.{siteIn, givenIn};
+ghost use Rattle.score_words.specs.Ready.{Ready};
+ghost use Rattle.score_words.specs.Flat.{Flat};
+ghost use Rattle.score_drift.specs.Total.{Digits};
+ghost use Rattle.score_numbers.specs.Sums.{sumFrom, countFrom, shiftIn, isChanged};
+ghost use Rattle.score_numbers.specs.Counted.{Counted};
+use job::Header;
+use job::Job;
+use job::Placement;
+use score_drift::drift_from;
+use score_drift::total_shift;
+use score_order::order_row;
+use score_steps::steps_in;
+use score_words::apart_of;
+use score_words::flatten;
+
+pub struct Numbers {
+    pub steps: u32,
+    pub shifted: u32,
+    pub mirrored: u32,
+    pub changed: u32,
+    pub cost: u32,
+    pub drift: i32,
+}
+
+// Sites shifted, of one cell: once, in whichever rows it stands.
+fn shift_of(words: &[u32], k: usize) -> u32
+    requires { ⌜ (length (now words) ≡ 256) × (k < 64) ⌝ }
+    ensures { λ r. ⌜ (r ≡ apart (siteIn (now (words .entry)) k) (givenIn (now (words .entry)) k)) × (r ≤ siteIn (now (words .entry)) k + givenIn (now (words .entry)) k) ⌝ }
+{
+    apart_of(words[4 * k], words[4 * k + 3])
+}
+
+// Sites shifted, over all cells.
+fn shifted_in(words: &[u32], count: usize) -> u32
+    requires { ⌜ (count ≤ 64) × (length (now words) ≡ 256) × Digits (now words) count ⌝ }
+    ensures { λ r. ⌜ (r ≡ sumFrom (shiftIn (now (words .entry))) 0 count) × (r ≤ 800000) ⌝ }
+{
+    let mut total: u32 = 0;
+    let mut k: usize = count;
+    while 0 < k {
+        k -= 1;
+        total += shift_of(words, k);
+    }
+    total
+}
+
+// Cells whose mark is 1.
+fn mirrored_in(placement: Placement) -> u32
+    requires { ⌜ placement .count ≤ 64 ⌝ }
+    ensures { λ r. ⌜ (r ≡ countFrom (isMirrored (placementOf placement)) 0 (placement .count)) × (r ≤ 64) ⌝ }
+{
+    let mut total: u32 = 0;
+    let mut k: usize = placement.count;
+    while 0 < k {
+        k -= 1;
+        let pose = placement.poses[k];
+        if pose.mark == 1 {
+            total += 1;
+        }
+    }
+    total
+}
+
+// Cells in layout 1.
+fn changed_in(placement: Placement) -> u32
+    requires { ⌜ placement .count ≤ 64 ⌝ }
+    ensures { λ r. ⌜ (r ≡ countFrom (isChanged (placementOf placement)) 0 (placement .count)) × (r ≤ 64) ⌝ }
+{
+    let mut total: u32 = 0;
+    let mut k: usize = placement.count;
+    while 0 < k {
+        k -= 1;
+        let pose = placement.poses[k];
+        if pose.layout == 1 {
+            total += 1;
+        }
+    }
+    total
+}
+
+// The steps of one row.
+fn steps_row(job: Job, placement: Placement, words: &[u32], row: u32) -> u32
+    requires { ⌜ (row ≤ 1) × Ready job placement × Flat (jobOf job) (placementOf placement) (job .count) (now words) ⌝ }
+    ensures { λ r. ⌜ (r ≡ stepsIn (jobOf job) (placementOf placement) row) × (r ≤ 126) ⌝ }
+{
+    let mut order = [0u32; 64];
+    let at = order_row(words, job.count, row, &mut order);
+    steps_in(job, placement, words, &order, at, row)
+}
+
+// Each number times its weight.
+fn weighed_sum(header: Header, steps: u32, shifted: u32, mirrored: u32, changed: u32) -> u32
+    requires { ⌜ (header .step ≤ 1000) × (header .shift ≤ 1000) × (header .mirror ≤ 1000) × (header .swap ≤ 1000) ⌝ }
+    requires { ⌜ (steps ≤ 252) × (shifted ≤ 800000) × (mirrored ≤ 64) × (changed ≤ 64) ⌝ }
+    ensures { λ r. ⌜ (r ≡ header .step * steps + header .shift * shifted + header .mirror * mirrored + header .swap * changed) × (r ≤ 1000000000) ⌝ }
+{
+    header.step * steps + header.shift * shifted + header.mirror * mirrored + header.swap * changed
+}
+
+// All numbers, from the words of the placed job.
+fn numbers_from(job: Job, placement: Placement, words: &[u32]) -> Numbers
+    requires { ⌜ Ready job placement × Flat (jobOf job) (placementOf placement) (job .count) (now words) ⌝ }
+    ensures { λ r. ⌜ Counted (jobOf job) (placementOf placement) r ⌝ }
+{
+    let steps = steps_row(job, placement, words, 0) + steps_row(job, placement, words, 1);
+    let shifted = shifted_in(words, job.count);
+    let mirrored = mirrored_in(placement);
+    let changed = changed_in(placement);
+    let cost = weighed_sum(job.header, steps, shifted, mirrored, changed);
+    let drift = drift_from(total_shift(words, job.count), job.count as u32);
+    Numbers {
+        steps,
+        shifted,
+        mirrored,
+        changed,
+        cost,
+        drift,
+    }
+}
+
+// All numbers of a placement, legal or not.
+pub fn numbers_of(job: Job, placement: Placement) -> Numbers
+    requires { ⌜ Ready job placement ⌝ }
+    ensures { λ r. ⌜ Counted (jobOf job) (placementOf placement) r ⌝ }
+{
+    let mut words = [0u32; 256];
+    flatten(job, placement, &mut words);
+    numbers_from(job, placement, &words)
+}

@@ -1,0 +1,27 @@
+-- By the mark: a mirrored cell has at its right edge the two heights of its left.
+use Rattle.score_steps.specs.Heights.{rightOf}
+use native.Mathlib.Omega.{arith}
+use borrow.Author.Tests.{eq-eqb, ne-eqb}
+use Rattle.score_steps.specs.Laws.{count-small}
+use borrow.Author.Needs.{needs}
+use Rattle.score_steps.proofs.right_of.Statement.{statement}
+use Rattle.score_steps.proofs.right_of.Tie as tie
+
+first-of-requires : tie.Need-first-of-requires
+first-of-requires c κs = search needs
+
+returns : tie.Need-returns
+returns c = rw (rightOf, eq-eqb (c .before .before .args .mark) 1 (c .before .if1 .taken)) (omega (arith, c .first-of .ensures))
+
+first-of-requires-2 : tie.Need-first-of-requires-2
+first-of-requires-2 c κs = search needs
+
+add-result : tie.Need-add-result
+add-result c = omega (arith, c .first-of2 .ensures, count-small (c .before .before .args .of))
+
+returns-2 : tie.Need-returns-2
+returns-2 c = rw (rightOf, ne-eqb (c .before .before .args .mark) 1 (c .before .if1 .left)) (omega (arith, c .first-of2 .ensures))
+
+pub right-of-spec : {M : Type 1} → statement M
+right-of-spec =
+    tie.close (tie.spec first-of-requires returns first-of-requires-2 add-result returns-2)

@@ -1,0 +1,150 @@
+-- Invariant: the total is the sum over the neighbours from i on. The row is walked from the right.
+use mathlib.Core.Bool.{Bool, true, false}
+use lib.Dec.{leb}
+use Rattle.theory_row.specs.Lists.{Le?, low, high, le?}
+use Prim.Native.Nat.{ℕ, _+_, _*_, _-_, _≤_, _<_, min}
+use mathlib.Core.Path.{_≡_, sym, ap, ap₂, _∙_}
+use mathlib.Core.List.{List}
+use lib.ListN.{length, getD, drop}
+use Rattle.definition.specs.Lists.{sumNext}
+use Rattle.definition.specs.Cost.{stepsAt}
+use Rattle.job.specs.declared.Job.{Job}
+use Rattle.job.specs.declared.Placement.{Placement}
+use Rattle.job.specs.Value.{jobOf, placementOf}
+use Rattle.score_order.specs.Below.{below-tail}
+use Rattle.score_steps.specs.Laws.{sum-last, sum-more, steps-value}
+use native.Mathlib.Omega.{arith}
+use borrow.Author.Needs.{needs}
+use Rattle.score_steps.proofs.steps_in.Statement.{statement}
+use Rattle.score_steps.proofs.steps_in.Tie as tie
+
+record Summed (job : Job) (placement : Placement) (order : List ℕ) (at row total i : ℕ) : Type 0 where
+  below : i ≤ 63
+  down : min at 63 ≤ i
+  small : total + 2 * i ≤ 126
+  sum : total ≡ sumNext (stepsAt (jobOf job) (placementOf placement) row) (drop i order)
+
+abbrev Inv-loop : tie.InvT-loop
+Inv-loop words order at row job placement total₀ i₀ total i = Summed job placement order at row total i
+
+abbrev μ-loop : tie.MeasureT-loop
+μ-loop words order at row job placement total₀ i₀ total i = i
+
+loop-holds : tie.Need-loop-holds Inv-loop μ-loop
+loop-holds c =
+    let s = c .before .before in
+    let o = s .args .order .now in
+    let f = stepsAt (jobOf (s .args .t1)) (placementOf (s .args .t2)) (s .args .row) in
+    record { below = omega arith; down = omega arith; small = omega arith; sum = sym (sum-last f o 63 (omega (arith, s .pre .1 .0 .long))) }
+
+sub-i : tie.Need-sub-i Inv-loop μ-loop
+sub-i c = omega arith
+
+entry-requires : tie.Need-entry-requires Inv-loop μ-loop
+entry-requires c κs = search needs
+
+add-entry : tie.Need-add-entry Inv-loop μ-loop
+add-entry c = omega arith
+
+entry-requires-2 : tie.Need-entry-requires-2 Inv-loop μ-loop
+entry-requires-2 c κs = search needs
+
+mul-steps-of : tie.Need-mul-steps-of Inv-loop μ-loop
+mul-steps-of c = omega arith
+
+element-copy-out-steps-of : tie.Need-element-copy-out-steps-of Inv-loop μ-loop
+element-copy-out-steps-of c = omega arith
+
+mul-steps-of-2 : tie.Need-mul-steps-of-2 Inv-loop μ-loop
+mul-steps-of-2 c = omega arith
+
+element-copy-out-steps-of-2 : tie.Need-element-copy-out-steps-of-2 Inv-loop μ-loop
+element-copy-out-steps-of-2 c = omega arith
+
+mul-steps-of-3 : tie.Need-mul-steps-of-3 Inv-loop μ-loop
+mul-steps-of-3 c = omega arith
+
+element-copy-out-steps-of-3 : tie.Need-element-copy-out-steps-of-3 Inv-loop μ-loop
+element-copy-out-steps-of-3 c = omega arith
+
+mul-steps-of-4 : tie.Need-mul-steps-of-4 Inv-loop μ-loop
+mul-steps-of-4 c = omega arith
+
+element-copy-out-steps-of-4 : tie.Need-element-copy-out-steps-of-4 Inv-loop μ-loop
+element-copy-out-steps-of-4 c = omega arith
+
+steps-of-requires : tie.Need-steps-of-requires Inv-loop μ-loop
+steps-of-requires c κs = search needs
+
+add-total : tie.Need-add-total Inv-loop μ-loop
+add-total c = omega arith
+
+loop-less : tie.Need-loop-less Inv-loop μ-loop
+loop-less c = omega arith
+
+loop-again : tie.Need-loop-again Inv-loop μ-loop
+loop-again c =
+    let p = c .before .before .before .before .before .before .before .before in
+    let s = p .before .before .before in
+    let m = p .loop .inv in
+    let job : Job = s .args .t1 in
+    let P : Placement = s .args .t2 in
+    let o : List ℕ = s .args .order .now in
+    let i : ℕ = p .loop .i - 1 in
+    let f : ℕ → ℕ → ℕ = stepsAt (jobOf job) (placementOf P) (s .args .row) in
+    let a : ℕ = c .before .before .before .before .before .before .entry .result in
+    let b : ℕ = c .before .before .before .before .before .entry2 .result in
+    let l : length o ≡ 64 = s .pre .1 .0 .long in
+    let test : s .args .at < p .loop .i = c .before .before .before .before .before .before .before .loop-test .taken in
+    let next : i + 1 ≡ p .loop .i = omega arith in
+    let ea : a ≡ getD o i 0 = c .before .before .before .before .before .before .entry .ensures .0 in
+    let eb : b ≡ getD o (p .loop .i) 0 = c .before .before .before .before .before .entry2 .ensures .0 ∙ ap (λ x. getD o x 0) next in
+    let ha : getD o i 0 < job .count = below-tail (job .count) o (s .args .at) i (s .pre .1 .2) (omega arith) (omega arith) in
+    let hb : getD o (p .loop .i) 0 < job .count = below-tail (job .count) o (s .args .at) (p .loop .i) (s .pre .1 .2) (omega arith) (omega arith) in
+    let e : c .steps-of .result ≡ f a b = steps-value job P (s .args .words .now) (s .args .row) a b (c .steps-of .result) (s .pre .0 .3) (s .pre .0 .2) (omega arith) (omega arith) (c .steps-of .ensures .0) in
+    let g = ap₂ f ea eb in
+    record {
+      below = omega arith;
+      down = omega arith;
+      small = omega (arith, c .steps-of .ensures .1);
+      sum = omega (arith, sum-more f o i (p .loop .i) (omega arith) (omega arith));
+    }
+
+-- the loop stops at the row's first cell, or at once in an empty row
+down : (f : ℕ → ℕ → ℕ) (o : List ℕ) (i at : ℕ) → length o ≡ 64 → i ≤ 63 → min at 63 ≤ i → i ≤ at → (t : Bool) → Le? at 63 t → sumNext f (drop i o) ≡ sumNext f (drop at o)
+down f o i at l b d h true (low g) = let e : i ≡ at = omega arith in ap (λ x. sumNext f (drop x o)) e
+down f o i at l b d h false (high g) = sum-last f o i (omega arith) ∙ sym (sum-last f o at (omega arith))
+
+returns : tie.Need-returns Inv-loop μ-loop
+returns c =
+    let p = c .before in
+    let s = p .before .before .before in
+    let m = p .loop .inv in
+    let o : List ℕ = s .args .order .now in
+    let f : ℕ → ℕ → ℕ = stepsAt (jobOf (s .args .t1)) (placementOf (s .args .t2)) (s .args .row) in
+    (m .sum ∙ down f o (p .loop .i) (s .args .at) (s .pre .1 .0 .long) (m .below) (m .down) (omega arith) (leb (s .args .at) 63) (le? (s .args .at) 63), omega arith)
+
+pub steps-in-spec : {M : Type 1} → statement M
+steps-in-spec =
+    tie.close
+    (tie.spec
+    Inv-loop
+    μ-loop
+    loop-holds
+    sub-i
+    entry-requires
+    add-entry
+    entry-requires-2
+    mul-steps-of
+    element-copy-out-steps-of
+    mul-steps-of-2
+    element-copy-out-steps-of-2
+    mul-steps-of-3
+    element-copy-out-steps-of-3
+    mul-steps-of-4
+    element-copy-out-steps-of-4
+    steps-of-requires
+    add-total
+    loop-less
+    loop-again
+    returns)

@@ -1,0 +1,157 @@
+// Steps: the charge of a gap, the differing heights of neighbours, and their sum over a row.
+ghost use mathlib.Core.Path.{_≡_};
+ghost use Prim.Native.Nat.{_+_, _*_, _-_, _≤_, _<_};
+ghost use lib.ListN.{length, drop};
+ghost use Rattle.definition.specs.Lists.{sumNext};
+ghost use Rattle.definition.specs.Cost.{charge, stepsAt};
+ghost use Rattle.job.specs.Value.{cellOf, poseOf, jobOf, placementOf, heightCount};
+ghost use Rattle.score_order.specs.Words.{siteIn, endIn, Room};
+ghost use Rattle.score_order.specs.Below.{Below};
+ghost use Rattle.score_words.specs.Flat.{Flat};
+ghost use Rattle.score_steps.specs.Heights.{heightIn, firstOf, leftOf, rightOf, unlike, differingOf};
+use gap_charge::charge_of;
+use job::Cell;
+use job::Job;
+use job::Placement;
+use job::Pose;
+use score_order::entry;
+
+// What a step costs at a gap.
+pub fn charge_at(gap: u32) -> u32
+    ensures { λ r. ⌜ (r ≡ charge gap) × (r ≤ 1) ⌝ }
+{
+    charge_of(gap as usize)
+}
+
+// The empty sites between an end and the next site; none if they overlap.
+pub fn gap_between(end: u32, site: u32) -> u32
+    ensures { λ r. ⌜ r ≡ site - end ⌝ }
+{
+    if site <= end {
+        return 0;
+    }
+    site - end
+}
+
+// Height number i of a cell in a layout; 0 in one that it lacks.
+pub fn height_of(cell: Cell, layout: u32, i: usize) -> u32
+    requires { ⌜ i < heightCount (cell .row) ⌝ }
+    ensures { λ r. ⌜ r ≡ heightIn (cellOf cell) layout i ⌝ }
+{
+    if cell.layouts <= layout {
+        return 0;
+    }
+    if layout == 0 {
+        let first = cell.first;
+        return first.heights[i];
+    }
+    if layout == 1 {
+        let second = cell.second;
+        return second.heights[i];
+    }
+    0
+}
+
+// Where the row's four heights begin: a tall cell's row 1 has the second four.
+pub fn first_of(of: u32, row: u32) -> usize
+    requires { ⌜ row ≤ 1 ⌝ }
+    ensures { λ r. ⌜ (r ≡ firstOf of row) × (r + 4 ≤ heightCount of) ⌝ }
+{
+    if of == 2 {
+        return 4 * (row as usize);
+    }
+    0
+}
+
+// The two heights at the left edge, and at the right edge: a mirrored cell has them exchanged.
+fn left_of(of: u32, mark: u32, row: u32) -> usize
+    requires { ⌜ row ≤ 1 ⌝ }
+    ensures { λ r. ⌜ (r ≡ leftOf of mark row) × (r + 2 ≤ heightCount of) ⌝ }
+{
+    if mark == 1 {
+        return first_of(of, row) + 2;
+    }
+    first_of(of, row)
+}
+
+fn right_of(of: u32, mark: u32, row: u32) -> usize
+    requires { ⌜ row ≤ 1 ⌝ }
+    ensures { λ r. ⌜ (r ≡ rightOf of mark row) × (r + 2 ≤ heightCount of) ⌝ }
+{
+    if mark == 1 {
+        return first_of(of, row);
+    }
+    first_of(of, row) + 2
+}
+
+fn unlike_heights(x: u32, y: u32) -> u32
+    ensures { λ r. ⌜ (r ≡ unlike x y) × (r ≤ 1) ⌝ }
+{
+    if x == y {
+        return 0;
+    }
+    1
+}
+
+// The differing heights of a cell and its right neighbour.
+fn differing_heights(a: Cell, p: Pose, b: Cell, q: Pose, row: u32) -> u32
+    requires { ⌜ row ≤ 1 ⌝ }
+    ensures { λ r. ⌜ (r ≡ differingOf (cellOf a) (poseOf p) (cellOf b) (poseOf q) row) × (r ≤ 2) ⌝ }
+{
+    let x = right_of(a.row, p.mark, row);
+    let y = left_of(b.row, q.mark, row);
+    let high = unlike_heights(height_of(a, p.layout, x), height_of(b, q.layout, y));
+    let low = unlike_heights(height_of(a, p.layout, x + 1), height_of(b, q.layout, y + 1));
+    high + low
+}
+
+// The steps of a cell and its right neighbour: those that differ, at the charge of their gap.
+fn steps_of(
+    words: &[u32],
+    a: usize,
+    b: usize,
+    left: Cell,
+    p: Pose,
+    right: Cell,
+    q: Pose,
+    row: u32,
+) -> u32
+    requires { ⌜ (length (now words) ≡ 256) × (a < 64) × (b < 64) × (row ≤ 1) ⌝ }
+    ensures { λ r. ⌜ (r ≡ charge (siteIn (now (words .entry)) b - endIn (now (words .entry)) a) * differingOf (cellOf left) (poseOf p) (cellOf right) (poseOf q) row) × (r ≤ 2) ⌝ }
+{
+    let gap = gap_between(words[4 * a + 1], words[4 * b]);
+    charge_at(gap) * differing_heights(left, p, right, q, row)
+}
+
+// The steps of a row, whose cells from left to right are the entries of `order` from `at` on.
+pub fn steps_in(
+    job: Job,
+    placement: Placement,
+    words: &[u32],
+    order: &[u32],
+    at: usize,
+    row: u32,
+) -> u32
+    requires { ⌜ (row ≤ 1) × (job .count ≤ 64) × (placement .count ≡ job .count) × Flat (jobOf job) (placementOf placement) (job .count) (now words) ⌝ }
+    requires { ⌜ Room (now order) × (at ≤ 64) × Below (job .count) (drop at (now order)) ⌝ }
+    ensures { λ r. ⌜ (r ≡ sumNext (stepsAt (jobOf job) (placementOf placement) row) (drop at (now (order .entry)))) × (r ≤ 126) ⌝ }
+{
+    let mut total: u32 = 0;
+    let mut i: usize = 63;
+    while at < i {
+        i -= 1;
+        let a = entry(order, i);
+        let b = entry(order, i + 1);
+        total += steps_of(
+            words,
+            a,
+            b,
+            job.cells[a],
+            placement.poses[a],
+            job.cells[b],
+            placement.poses[b],
+            row,
+        );
+    }
+    total
+}

@@ -1,0 +1,35 @@
+-- The words of a placed job: for each cell its site, its end, its row and its given site. What a layout that the cell lacks reads as.
+use Prim.Native.Nat.{ℕ, _+_, _*_}
+use mathlib.Core.Path.{_≡_}
+use mathlib.Core.List.{List}
+use lib.ListN.{length, getD, set}
+use Rattle.definition.specs.Job as paper
+use Rattle.definition.specs.Placement as text
+use Rattle.definition.specs.Rules.{noLayout, cellAt, siteAt, endAt}
+use Rattle.score_order.specs.Words.{siteIn, endIn, rowIn, givenIn}
+
+-- the width of a cell in a layout
+abbrev pub widthIn : paper.Cell → ℕ → ℕ
+widthIn c layout = getD (c .layouts) layout noLayout .width
+
+-- four words for cell k
+abbrev pub four : List ℕ → ℕ → ℕ → ℕ → ℕ → ℕ → List ℕ
+four words k site end row given = set (set (set (set words (4 * k) site) (4 * k + 1) end) (4 * k + 2) row) (4 * k + 3) given
+
+-- the words are those of cell k
+pub record Shows (j : paper.Job) (P : text.Placement) (words : List ℕ) (k : ℕ) : Type 0 where
+  pub site : siteIn words k ≡ siteAt P k
+  pub end : endIn words k ≡ endAt j P k
+  pub row : rowIn words k ≡ cellAt j k .row
+  pub given : givenIn words k ≡ cellAt j k .given
+
+-- of every cell, also of those that the job lacks; the job has so many cells
+pub record Flat (j : paper.Job) (P : text.Placement) (n : ℕ) (words : List ℕ) : Type 0 where
+  pub long : length words ≡ 256
+  pub count : length (j .cells) ≡ n
+  pub shows : (k : ℕ) → Shows j P words k
+
+-- what is lent for the words
+pub record Blank (words : List ℕ) : Type 0 where
+  pub long : length words ≡ 256
+  pub zero : (i : ℕ) → getD words i 0 ≡ 0

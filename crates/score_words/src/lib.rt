@@ -1,0 +1,72 @@
+// A job and a placement laid out flat: for each cell four words, its site, its end, its row and its given site.
+ghost use mathlib.Core.Path.{_≡_};
+ghost use Prim.Native.Nat.{_+_, _*_, _≤_, _<_};
+ghost use lib.ListN.{length};
+ghost use Rattle.definition.specs.Rules.{apart};
+ghost use Rattle.job.specs.Value.{cellOf, jobOf, placementOf};
+ghost use Rattle.score_words.specs.Ready.{Ready};
+ghost use Rattle.score_words.specs.Flat.{widthIn, four, Flat, Blank};
+use job::Cell;
+use job::Job;
+use job::Placement;
+
+// How far apart two numbers are.
+pub fn apart_of(a: u32, b: u32) -> u32
+    ensures { λ r. ⌜ (r ≡ apart a b) × (r ≤ a + b) ⌝ }
+{
+    if a <= b {
+        return b - a;
+    }
+    a - b
+}
+
+// The width of a cell in a layout; 0 in one that it lacks.
+pub fn width_of(cell: Cell, layout: u32) -> u32
+    ensures { λ r. ⌜ r ≡ widthIn (cellOf cell) layout ⌝ }
+{
+    if cell.layouts <= layout {
+        return 0;
+    }
+    if layout == 0 {
+        let first = cell.first;
+        return first.width;
+    }
+    if layout == 1 {
+        let second = cell.second;
+        return second.width;
+    }
+    0
+}
+
+fn put_four(words: &mut [u32], k: usize, site: u32, end: u32, row: u32, given: u32)
+    requires { ⌜ (length (now words) ≡ 256) × (k < 64) ⌝ }
+    ensures { λ r. ⌜ now (words .exit) ≡ four (now (words .entry)) k site end row given ⌝ }
+{
+    words[4 * k] = site;
+    words[4 * k + 1] = end;
+    words[4 * k + 2] = row;
+    words[4 * k + 3] = given;
+}
+
+// The words of all cells.
+pub fn flatten(job: Job, placement: Placement, words: &mut [u32])
+    requires { ⌜ Ready job placement × Blank (now words) ⌝ }
+    ensures { λ r. ⌜ Flat (jobOf job) (placementOf placement) (job .count) (now (words .exit)) ⌝ }
+{
+    let count = job.count;
+    let mut k: usize = 0;
+    while k < count {
+        let cell = job.cells[k];
+        let pose = placement.poses[k];
+        let site = pose.site;
+        put_four(
+            words,
+            k,
+            site,
+            site + width_of(cell, pose.layout),
+            cell.row,
+            cell.given,
+        );
+        k += 1;
+    }
+}

@@ -1,0 +1,102 @@
+-- After i turns the places below i have their pose numbers. Assumes nothing.
+use Prim.Native.Nat.{_+_, _-_, _/_, _≤_, _<_}
+use mathlib.Core.Path.{refl}
+use native.Mathlib.Omega.{arith}
+use borrow.Author.Needs.{needs}
+use lib.ListN.{length, getD}
+use Rattle.search_back.specs.Scatter.{Upto}
+use Rattle.search_back.specs.ScatterLaws.{upto-none, upto-more, upto-all}
+use Rattle.search_back.proofs.scatter.Statement.{statement}
+use Rattle.search_back.proofs.scatter.Tie as tie
+
+abbrev Inv-loop : tie.InvT-loop
+Inv-loop out₀ path line n i₀ out i =
+    (0 < i) × (i ≤ n + 1) × Upto line path i out₀ out
+
+abbrev μ-loop : tie.MeasureT-loop
+μ-loop out₀ path line n i₀ out i =
+    n + 1 - i
+
+-- the place's position is in the row, and its cell has a word
+inside : (c : tie.After-shared-slice-known3 Inv-loop μ-loop) → let a = c .before .before .before .before .before .before .args in getD (a .path .now) (c .before .before .loop .i) 0 / 64 < a .n
+inside c = c .before .before .before .before .before .before .pre .places .inside (c .before .before .loop .i) (omega arith) (omega arith)
+
+small : (c : tie.After-word Inv-loop μ-loop) → c .word .result < length (c .before .before .before .before .before .before .before .args .out .now)
+small c =
+    let k = c .before .before .before .before .before .before .before in
+    omega (arith, c .word .ensures, k .pre .small (getD (k .args .path .now) (c .before .before .before .loop .i) 0 / 64) (inside (c .before)))
+
+loop-holds : tie.Need-loop-holds Inv-loop μ-loop
+loop-holds c =
+    (omega arith, omega arith, upto-none _ _ _)
+
+mul-word : tie.Need-mul-word Inv-loop μ-loop
+mul-word c = search needs
+
+shared-slice-read-word : tie.Need-shared-slice-read-word Inv-loop μ-loop
+shared-slice-read-word c = search needs
+
+cast-word : tie.Need-cast-word Inv-loop μ-loop
+cast-word c =
+    omega (arith, inside c, c .before .before .before .before .before .before .pre .size)
+
+mul-word-2 : tie.Need-mul-word-2 Inv-loop μ-loop
+mul-word-2 c =
+    omega (arith, inside c, c .before .before .before .before .before .before .pre .size)
+
+add-word : tie.Need-add-word Inv-loop μ-loop
+add-word c =
+    omega (arith, inside c, c .before .before .before .before .before .before .pre .size)
+
+word-requires : tie.Need-word-requires Inv-loop μ-loop
+word-requires c κs =
+    omega (arith, inside c, c .before .before .before .before .before .before .pre .size, c .before .before .before .before .before .before .pre .words .long)
+
+mul-out : tie.Need-mul-out Inv-loop μ-loop
+mul-out c =
+    omega (arith, small c)
+
+slice-write-out : tie.Need-slice-write-out Inv-loop μ-loop
+slice-write-out c =
+    omega (arith, small c, c .before .before .before .loop .inv .2 .long)
+
+add-i : tie.Need-add-i Inv-loop μ-loop
+add-i c = search needs
+
+loop-less : tie.Need-loop-less Inv-loop μ-loop
+loop-less c = search needs
+
+loop-again : tie.Need-loop-again Inv-loop μ-loop
+loop-again c =
+    let k = c .before .before .before .before .before .before .before in
+    let l = c .before .before .before .loop in
+    (omega arith, omega arith, upto-more (l .i) (c .word .result) _ (k .pre) (l .inv .0) (omega arith) (c .word .ensures) refl (small c) (l .inv .2))
+
+same-length : tie.Need-same-length Inv-loop μ-loop
+same-length c =
+    c .before .loop .inv .2 .long
+
+returns : tie.Need-returns Inv-loop μ-loop
+returns c =
+    upto-all (c .before .loop .i) (omega arith) (c .before .loop .inv .2)
+
+pub scatter-spec : {M : Type 1} → statement M
+scatter-spec =
+    tie.close
+    (tie.spec
+    Inv-loop
+    μ-loop
+    loop-holds
+    mul-word
+    shared-slice-read-word
+    cast-word
+    mul-word-2
+    add-word
+    word-requires
+    mul-out
+    slice-write-out
+    add-i
+    loop-less
+    loop-again
+    same-length
+    returns)

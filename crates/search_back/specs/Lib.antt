@@ -1,0 +1,4 @@
+pub mod Trace
+pub mod Laws
+pub mod Scatter
+pub mod ScatterLaws

@@ -1,0 +1,86 @@
+-- No pair passed has a pose that fits; if none had, the tables would say otherwise. Assumes nothing.
+use Prim.Native.Nat.{ℕ, _+_, _*_, _/_, _%_, _-_, _≤_, _<_}
+use mathlib.Core.Path.{_≡_}
+use native.Mathlib.Omega.{arith}
+use borrow.Author.Count.{below-more}
+use borrow.Author.Needs.{needs}
+use Rattle.search_row.specs.Words.{deckOf}
+use Rattle.search_dense_layer.specs.Kept.{keptIn}
+use Rattle.search_back_segment.specs.Sources.{Misses, reached-missed, pair-fits}
+use Rattle.search_back_segment.proofs.find_source.Statement.{statement}
+use Rattle.search_back_segment.proofs.find_source.Tie as tie
+
+abbrev Inv-loop : tie.InvT-loop
+Inv-loop store line pairs n poses r count i q a want p₀ p =
+    (p ≤ count) × ((j : ℕ) → j < p → Misses (deckOf line n poses) r (keptIn store i) i q a want j)
+
+abbrev μ-loop : tie.MeasureT-loop
+μ-loop store line pairs n poses r count i q a want p₀ p =
+    count - p
+
+loop-holds : tie.Need-loop-holds Inv-loop μ-loop
+loop-holds c =
+    (omega arith, λ j h. absurd (omega arith))
+
+pair-pose-requires : tie.Need-pair-pose-requires Inv-loop μ-loop
+pair-pose-requires c κs =
+    let p = c .before .before .before .before .before .pre in
+    (p .0, p .1, p .2, p .3, p .4, omega (arith, p .0 .ground .all), p .5)
+
+mul-result : tie.Need-mul-result Inv-loop μ-loop
+mul-result c =
+    let p = c .before .before .before .before .before .before .before .pre in
+    omega (arith, p .0 .ground .all, p .0 .ground .coded .few)
+
+add-result : tie.Need-add-result Inv-loop μ-loop
+add-result c =
+    let p = c .before .before .before .before .before .before .before .pre in
+    omega (arith, p .0 .ground .all, p .0 .ground .coded .few, p .0 .ground .few)
+
+returns : tie.Need-returns Inv-loop μ-loop
+returns c =
+    let k = c .before .before .before .before .before .before .before in
+    let a = k .args in
+    let p = c .before .before .before .loop .p in
+    let b = c .before .pair-pose .result in
+    let l = k .pre .0 .ground .few in
+    let x : (p * 64 + b) / 64 ≡ p = omega arith in
+    let y : (p * 64 + b) % 64 ≡ b = omega arith in
+    rw (x, y)
+    (pair-fits (deckOf (a .line .now) (a .n) (a .poses)) (a .r) (keptIn (a .store .now) (a .i)) (a .i) (a .q) (a .a) (a .want) p b
+    (omega (arith, k .pre .0 .ground .all)) (omega arith) (k .pre .5) (c .before .pair-pose .ensures .hit (omega arith)))
+
+add-p : tie.Need-add-p Inv-loop μ-loop
+add-p c = search needs
+
+loop-less : tie.Need-loop-less Inv-loop μ-loop
+loop-less c = search needs
+
+loop-again : tie.Need-loop-again Inv-loop μ-loop
+loop-again c =
+    let l = c .before .before .before .loop in
+    (omega arith, below-more _ _ (l .inv .1) (λ b h. c .before .pair-pose .ensures .miss b (omega arith)))
+
+returns-2 : tie.Need-returns-2 Inv-loop μ-loop
+returns-2 c =
+    let k = c .before .before .before .before .before in
+    let a = k .args in
+    absurd
+    (reached-missed (deckOf (a .line .now) (a .n) (a .poses)) (a .r) (keptIn (a .store .now) (a .i)) (a .i) (a .q) (a .a) (a .want) (k .pre .5)
+    (λ j h. c .before .loop .inv .1 j (omega (arith, k .pre .0 .ground .all))) (k .pre .6))
+
+pub find-source-spec : {M : Type 1} → statement M
+find-source-spec =
+    tie.close
+    (tie.spec
+    Inv-loop
+    μ-loop
+    loop-holds
+    pair-pose-requires
+    mul-result
+    add-result
+    returns
+    add-p
+    loop-less
+    loop-again
+    returns-2)

@@ -1,0 +1,109 @@
+-- The row's start, or the tall cell before: the first layer, kept. Assumes nothing.
+use Prim.Native.Nat.{_+_, _-_, _≤_}
+use native.Mathlib.Omega.{arith}
+use borrow.Author.Needs.{needs}
+use Rattle.search_row.specs.Words.{deckOf}
+use Rattle.search_stage.specs.Stage.{posIn}
+use Rattle.search_back_stage.specs.Laws.{started-open, started-after, start-count}
+use Rattle.search_back_stage.proofs.first_of.Statement.{statement}
+use Rattle.search_back_stage.proofs.first_of.Tie as tie
+
+-- there is room for the layer after the tall cell
+abbrev Room : tie.After-placed-with → Type 0
+Room c = c .placed-with .result + 1 ≤ 66
+
+room : (c : tie.After-placed-with) → Room c
+unfolding posIn
+room c =
+    let k = c .before .before .before .before .before .before .before in
+    let a = k .args in
+    omega (arith, c .placed-with .ensures, c .before .word .ensures, k .pre .1, start-count (a .r) (posIn (a .places .now)) (a .stage) (a .stage - 1) (a .s) (omega arith))
+
+kept-at-requires : tie.Need-kept-at-requires
+kept-at-requires c κs = search needs
+
+open-requires : tie.Need-open-requires
+open-requires c κs =
+    let g = c .before .before .before .before .before .before .before .pre .0 in
+    (g .row .ground, g .low, omega (arith, c .before .kept-at .ensures, g .long))
+
+same-length : tie.Need-same-length
+same-length c = search needs
+
+returns : tie.Need-returns
+returns c =
+    let k = c .before .before .before .before .before .before .before .before .before .before in
+    let a = k .args in
+    started-open (deckOf (a .line .now) (a .n) (a .poses)) (a .r) (posIn (a .places .now)) (c .before .before .before .before .before .if1 .taken) (k .pre .0 .row .ground .all)
+    (c .before .before .before .before .kept-at .ensures) (c .before .before .open .ensures)
+
+sub-word : tie.Need-sub-word
+sub-word c = search needs
+
+word-requires : tie.Need-word-requires
+word-requires c κs =
+    let k = c .before .before .before .before .before in
+    let g = k .pre .0 in
+    omega (arith, g .row .long, g .stage)
+
+placed-with-requires : tie.Need-placed-with-requires
+unfolding posIn
+placed-with-requires c κs =
+    let k = c .before .before .before .before .before .before in
+    let g = k .pre .0 in
+    (g .row .ground .coded, g .pair (omega arith), omega (arith, c .word .ensures, g .row .inside (k .args .stage - 1) (omega (arith, g .stage)), g .row .ground .size))
+
+add-kept-at : tie.Need-add-kept-at
+add-kept-at c = let r = room c in search needs
+
+kept-at-requires-2 : tie.Need-kept-at-requires-2
+kept-at-requires-2 c κs = room c
+
+after-requires : tie.Need-after-requires
+unfolding posIn
+after-requires c κs =
+    let k = c .before .before .before .before .before .before .before .before .before in
+    let g = k .pre .0 in
+    let p = g .row .inside (k .args .stage - 1) (omega (arith, g .stage)) in
+    let r = room (c .before .before) in (
+      g .row .ground,
+      g .low,
+      omega (arith, c .before .kept-at2 .ensures, g .long),
+      omega arith,
+      omega (arith, g .pair (omega arith), g .row .ground .all),
+      omega (arith, c .before .before .before .word .ensures, g .row .ground .size),
+      omega (arith, g .pose (omega arith), g .row .ground .few),
+    )
+
+add-result : tie.Need-add-result
+add-result c = let r = room (c .before .before .before .before .before) in search needs
+
+same-length-2 : tie.Need-same-length-2
+same-length-2 c = search needs
+
+returns-2 : tie.Need-returns-2
+unfolding posIn
+returns-2 c =
+    let k = c .before .before .before .before .before .before .before .before .before .before .before .before in
+    let a = k .args in
+    started-after (deckOf (a .line .now) (a .n) (a .poses)) (a .r) (posIn (a .places .now)) (a .stage - 1) (omega arith)
+    (c .before .before .before .before .before .before .word .ensures) (c .before .before .before .before .before .placed-with .ensures) (k .pre .0 .row .ground .all)
+    (c .before .before .before .before .kept-at2 .ensures) (room (c .before .before .before .before .before)) (c .before .before .after .ensures)
+
+pub first-of-spec : {M : Type 1} → statement M
+first-of-spec =
+    tie.close
+    (tie.spec
+    kept-at-requires
+    open-requires
+    same-length
+    returns
+    sub-word
+    word-requires
+    placed-with-requires
+    add-kept-at
+    kept-at-requires-2
+    after-requires
+    add-result
+    same-length-2
+    returns-2)

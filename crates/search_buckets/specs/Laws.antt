@@ -1,0 +1,238 @@
+-- What is found in the planes is the least by way of every source: for one source by the law of its toll, and a plane of the lowest of many
+-- sources finds the lowest of what each finds. Assumes nothing.
+use Prim.Native.Nat.{ℕ, zero, suc, _+_, _*_, _-_, _/_, _%_, _≤_, _<_, min}
+use mathlib.Core.Path.{_≡_, refl, sym, ap, ap₂, _∙_}
+use mathlib.Core.Logic.{_≢_}
+use mathlib.Core.Bool.{Bool, true, false, cond}
+use mathlib.Core.List.{List, [], _∷_, List·Memᴰ as In, List·Memᴰ·head as here, List·Memᴰ·tail as there}
+use native.Mathlib.Omega.{arith}
+use native.Mathlib.Decide.{ℕ-discrete, decLt}
+use borrow.Author.Tests.{lt-ltb, le-ltb}
+use lib.Dec.{leb, ltb, eqb}
+use Rattle.theory_row.specs.Lists.{from, in-from, from-in, Le?, low, high, le?, Eq?, same, differs, eq?}
+use Rattle.theory_pair.specs.Coded.{lowest, lowest-low}
+use Rattle.theory_tables.specs.Steps.{B, Deck, Layer, pairCount, lastAt, isSource, via, reached}
+use Rattle.theory_tables.specs.Lowest.{lowest-member, lowest-above, loop-member, loop-above}
+use Rattle.search_row.specs.Words.{wordOf, variant, siteIn, endIn, differIn, weightIn, tollAt, tollIn, deckOf, LineWords}
+use Rattle.search_row.specs.Laws.{differ-low, pay-low}
+use Rattle.search_buckets.specs.Loops.{lowest-cap, lowest-same, lowest-min, lowest-swap, lowest-none, lowest-more}
+use Rattle.search_buckets.specs.Gaps.{paying, paying-low, Toll, pays, free, barred, toll?}
+use Rattle.search_buckets.specs.Rows.{inRow, planeIn, found, endRow, payIn, onePose, byPoses, onePair, byPairs}
+
+-- ---- one source in row r
+
+pub row-hit : (r t c : ℕ) → r ≡ t → inRow r t c ≡ c
+row-hit r t c h = go (eqb r t) (eq? r t)
+  where
+    go : (z : Bool) → Eq? r t z → cond z c B ≡ c
+    go true (same e) = refl
+    go false (differs n) = absurd (n h)
+
+pub row-miss : (r t c : ℕ) → r ≢ t → inRow r t c ≡ B
+row-miss r t c h = go (eqb r t) (eq? r t)
+  where
+    go : (z : Bool) → Eq? r t z → cond z c B ≡ B
+    go true (same e) = absurd (h e)
+    go false (differs n) = refl
+
+-- in no row below its cost
+pub row-above : (r t c : ℕ) → min c B ≤ inRow r t c
+row-above r t c = go (eqb r t)
+  where
+    go : (z : Bool) → min c B ≤ cond z c B
+    go true = omega arith
+    go false = omega arith
+
+-- a source in row r; what is found of it by a pose e sites right of the first one
+module _ (r e : ℕ) where
+  -- in the rows of the gaps that pay, where the source has a cost for each gap
+  module _ (cost : ℕ → ℕ) (plane : ℕ → ℕ → ℕ) (only : (gap t : ℕ) → plane gap t ≡ inRow r t (cost gap)) where
+    gap-miss : ((gap : ℕ) → In gap paying → r ≢ e + 4 - gap) → B ≤ lowest B (λ gap. plane gap (e + 4 - gap)) paying
+    gap-miss h = lowest-above B _ B paying (omega arith) (λ gap i. omega (arith, only gap (e + 4 - gap), row-miss r (e + 4 - gap) (cost gap) (h gap i)))
+
+    gap-hit : (gap : ℕ) → In gap paying → r ≡ e + 4 - gap → lowest B (λ gap. plane gap (e + 4 - gap)) paying ≡ min (cost gap) B
+    gap-hit gap i h =
+        omega (
+          arith,
+          lowest-member B (λ gap. plane gap (e + 4 - gap)) paying i,
+          only gap (e + 4 - gap),
+          row-hit r (e + 4 - gap) (cost gap) h,
+          lowest-low B (λ gap. plane gap (e + 4 - gap)) paying,
+          lowest-above B (λ gap. plane gap (e + 4 - gap)) (min (cost gap) B) paying (omega arith) (λ g j. other g j (ℕ-discrete g gap)),
+        )
+      where
+        -- no other gap has this row
+        other : (g : ℕ) → In g paying → Dec (g ≡ gap) → min (cost gap) B ≤ plane g (e + 4 - g)
+        other g j (yes z) = rw z (omega (arith, only gap (e + 4 - gap), row-above r (e + 4 - gap) (cost gap)))
+        other g j (no d) =
+            let l = paying-low g j in
+            let m = paying-low gap i in
+            omega (arith, only g (e + 4 - g), row-miss r (e + 4 - g) (cost g) (λ z. d (omega arith)))
+
+  -- in the rows up to e, where it costs c
+  module _ (c : ℕ) (plane : ℕ → ℕ) (only : (t : ℕ) → plane t ≡ inRow r t c) where
+    up-miss : e < r → B ≤ lowest B plane (from 0 (suc e))
+    up-miss h = loop-above B plane (suc e) B (omega arith) (λ t i. omega (arith, only t, row-miss r t c (λ z. omega arith)))
+
+    up-hit : r ≤ e → lowest B plane (from 0 (suc e)) ≡ min c B
+    up-hit h =
+        omega (
+          arith,
+          loop-member B plane (suc e) r (omega arith),
+          only r,
+          row-hit r r c refl,
+          lowest-low B plane (from 0 (suc e)),
+          loop-above B plane (suc e) (min c B) (omega arith) (λ t i. omega (arith, only t, row-above r t c)),
+        )
+
+-- a source that ends at y, by sites: the law of its toll
+found-toll : (g e y c : ℕ) (pay : ℕ → ℕ) (near : ℕ → ℕ → ℕ) (far : ℕ → ℕ)
+    → ((gap t : ℕ) → near gap t ≡ inRow (y + 4 - g) t (c + pay gap)) → ((t : ℕ) → far t ≡ inRow (y + 4 - g) t c)
+    → min (c + tollAt (g + e) y pay) B ≡ min (lowest B (λ gap. near gap (e + 4 - gap)) paying) (lowest B far (from 0 (suc e)))
+found-toll g e y c pay near far n f = go (tollAt (g + e) y pay) (toll? (g + e) y pay)
+  where
+    r : ℕ
+    r = y + 4 - g
+
+    cost : ℕ → ℕ
+    cost gap = c + pay gap
+
+    go : (z : ℕ) → Toll (g + e) y pay z → min (c + z) B ≡ min (lowest B (λ gap. near gap (e + 4 - gap)) paying) (lowest B far (from 0 (suc e)))
+    go z (pays gap i h) =
+        let l = paying-low gap i in
+        omega (arith, gap-hit r e cost near n gap i (omega arith), up-miss r e c far f (omega arith))
+    go z (free h) = omega (arith, gap-miss r e cost near n (λ gap i q. let l = paying-low gap i in omega arith), up-hit r e c far f (omega arith))
+    go z (barred h o) =
+        omega (
+          arith,
+          gap-miss r e cost near n (λ gap i q. let l = paying-low gap i in o gap i (omega arith)),
+          up-miss r e c far f (omega arith),
+          lowest-low B (λ gap. near gap (e + 4 - gap)) paying,
+          lowest-low B far (from 0 (suc e)),
+        )
+
+-- the planes of the gaps that pay
+pub plane-low : (other gap v : ℕ) → other ≤ 5 → v < 4 → planeIn other gap v ≤ 8
+plane-low other gap v h g = go (eqb gap 0)
+  where
+    go : (z : Bool) → cond z (1 + v) (other + v) ≤ 8
+    go true = omega arith
+    go false = omega arith
+
+-- ---- one source by its words
+
+module _ (line : List ℕ) (k b m : ℕ) where
+  -- what is paid in the planes of gap 0, in those of the other gaps, and in plane 0
+  pub pay-touching : (v : ℕ) → 1 ≤ v → v < 5 → payIn line k b m v ≡ wordOf line m 84 * differIn line k b m (v - 1)
+  unfolding payIn
+  pay-touching v h g = rw (le-ltb v 1 h, lt-ltb v 5 g)
+
+  pub pay-apart : (v : ℕ) → 5 ≤ v → payIn line k b m v ≡ wordOf line m 86 * differIn line k b m (v - 5)
+  unfolding payIn
+  pay-apart v h = rw (le-ltb v 1 (omega arith), le-ltb v 5 h)
+
+  pub pay-none : payIn line k b m 0 ≡ 0
+  unfolding payIn
+  pay-none = refl
+
+  -- by variants
+  pub pay-same : (v : ℕ) → payIn line k (variant b) m v ≡ payIn line k b m v
+  unfolding payIn
+  pay-same v =
+      let e : variant (variant b) ≡ variant b = omega arith in
+      ap (λ (u : ℕ). cond (ltb v 1) 0 (cond (ltb v 5) (wordOf line m 84 * differBy u (v - 1)) (wordOf line m 86 * differBy u (v - 5)))) e
+    where
+      differBy : ℕ → ℕ → ℕ
+      differBy u a =
+          cond (eqb (wordOf line k (76 + u)) (wordOf line m (68 + variant a))) 0 1 + cond (eqb (wordOf line k (80 + u)) (wordOf line m (72 + variant a))) 0 1
+
+  -- what pose a of m pays at a gap is what is paid in its plane of that gap
+  pay-plane : (gap a : ℕ) → payIn line k b m (planeIn 5 gap (a % 4)) ≡ weightIn line m gap * differIn line k b m a
+  pay-plane gap a = go (eqb gap 0)
+    where
+      vary : (v : ℕ) → variant v ≡ variant a → differIn line k b m v ≡ differIn line k b m a
+      vary v e =
+          ap (λ (u : ℕ). cond (eqb (wordOf line k (76 + variant b)) (wordOf line m (68 + u))) 0 1 + cond (eqb (wordOf line k (80 + variant b)) (wordOf line m (72 + u))) 0 1) e
+
+      go : (z : Bool) → payIn line k b m (cond z (1 + a % 4) (5 + a % 4)) ≡ cond z (wordOf line m 84) (wordOf line m 86) * differIn line k b m a
+      go true = pay-touching (1 + a % 4) (omega arith) (omega arith) ∙ ap (λ (d : ℕ). wordOf line m 84 * d) (vary (1 + a % 4 - 1) (omega arith))
+      go false = pay-apart (5 + a % 4) (omega arith) ∙ ap (λ (d : ℕ). wordOf line m 86 * d) (vary (5 + a % 4 - 5) (omega arith))
+
+  -- one weight for all gaps: the planes of the other gaps are those of gap 0
+  pub pay-twin : (v : ℕ) → v < 4 → wordOf line m 84 ≡ wordOf line m 86 → payIn line k b m (5 + v) ≡ payIn line k b m (1 + v)
+  pay-twin v h e =
+      let x : 5 + v - 5 ≡ 1 + v - 1 = omega arith in
+      pay-apart (5 + v) (omega arith)
+      ∙ ap₂ (λ (w u : ℕ). w * differIn line k b m u) (sym e) x
+      ∙ sym (pay-touching (1 + v) (omega arith) (omega arith))
+
+  pub pay-small : (v : ℕ) → LineWords line → payIn line k b m v ≤ B
+  pay-small v w = go (decLt v 1) (decLt v 5)
+    where
+      go : Dec (v < 1) → Dec (v < 5) → payIn line k b m v ≤ B
+      go (yes h) g = let e : v ≡ 0 = omega arith in rw e (omega (arith, pay-none))
+      go (no h) (yes g) = omega (arith, pay-touching v (omega arith) g, pay-low (w .weight m) (differ-low line k b m (v - 1)))
+      go (no h) (no g) = omega (arith, pay-apart v (omega arith), pay-low (w .filled m) (differ-low line k b m (v - 5)))
+
+pub found-one : (line : List ℕ) (k b m a c : ℕ) → min (c + tollIn line k b m a) B ≡ found (onePose line k m b c) a
+unfolding tollIn found endRow
+found-one line k b m a c =
+    found-toll (wordOf line m 64) (a / 4) (endIn line k b) c (λ gap. weightIn line m gap * differIn line k b m a)
+    (λ gap. onePose line k m b c (planeIn 5 gap (a % 4))) (onePose line k m b c 0)
+    (λ gap t. ap (λ (z : ℕ). inRow (endRow line k b m) t (c + z)) (pay-plane line k b m gap a))
+    (λ t. ap (λ (z : ℕ). inRow (endRow line k b m) t z) (let e = pay-none line k b m in omega arith))
+
+-- ---- many sources
+
+-- the lowest of many planes finds the lowest of what each finds
+pub found-lowest : {S : Type 0} (plane : S → ℕ → ℕ → ℕ) (a : ℕ) (l : List S) → lowest B (λ s. found (plane s) a) l ≡ found (λ v t. lowest B (λ s. plane s v t) l) a
+unfolding found
+found-lowest plane a l =
+    lowest-min (λ s. lowest B (λ gap. plane s (planeIn 5 gap (a % 4)) (a / 4 + 4 - gap)) paying) (λ s. lowest B (plane s 0) (from 0 (suc (a / 4)))) l
+    ∙ ap₂ min
+    (lowest-swap (λ s gap. plane s (planeIn 5 gap (a % 4)) (a / 4 + 4 - gap)) l paying)
+    (lowest-swap (λ s t. plane s 0 t) l (from 0 (suc (a / 4))))
+
+-- planes of B alone
+pub found-none : (a : ℕ) → found (λ v t. B) a ≡ B
+unfolding found
+found-none a = let p = lowest-above B (λ (gap : ℕ). B) B paying (omega arith) (λ gap i. omega arith) in
+    let q = lowest-above B (λ (t : ℕ). B) B (from 0 (suc (a / 4))) (omega arith) (λ t i. omega arith) in
+    omega (arith, lowest-low B (λ (gap : ℕ). B) paying, lowest-low B (λ (t : ℕ). B) (from 0 (suc (a / 4))))
+
+-- planes of what is a source
+found-if : (z : Bool) (plane : ℕ → ℕ → ℕ) (a : ℕ) → cond z (found plane a) B ≡ found (λ v t. cond z (plane v t) B) a
+found-if true plane a = refl
+found-if false plane a = sym (found-none a)
+
+-- by way of all poses of a cell
+via-found : (line : List ℕ) (n poses R : ℕ) (f : Layer) (i p m a : ℕ)
+    → via (deckOf line n poses) R f i p m a ≡ found (byPoses line (lastAt R i p) m (f p) poses) a
+unfolding via byPoses
+via-found line n poses R f i p m a =
+    lowest-cap _ _ (from 0 poses) (λ b. let e = found-one line (lastAt R i p) b m a (f p b) in omega arith)
+    ∙ found-lowest (λ b. onePose line (lastAt R i p) m b (f p b)) a (from 0 poses)
+
+-- by way of all sources
+pub reached-found : (line : List ℕ) (n poses R : ℕ) (f : Layer) (i q a : ℕ)
+    → reached (deckOf line n poses) R f i q a ≡ found (byPairs line (deckOf line n poses) R f i q (pairCount R)) a
+unfolding reached byPairs onePair
+reached-found line n poses R f i q a =
+    let src : ℕ → Bool = isSource (deckOf line n poses) R i q in
+    let plane : ℕ → ℕ → ℕ → ℕ = λ p. byPoses line (lastAt R i p) (lastAt R (suc i) q) (f p) poses in
+    lowest-cap _ _ (from 0 (pairCount R))
+    (λ p. ap (λ (x : ℕ). min x B) (ap (λ (x : ℕ). cond (src p) x B) (via-found line n poses R f i p (lastAt R (suc i) q) a) ∙ found-if (src p) (plane p) a))
+    ∙ found-lowest (λ p v t. cond (src p) (plane p v t) B) a (from 0 (pairCount R))
+
+-- only the rows that the gaps name count: row 0 in plane 0 alone
+pub found-ext : (P Q : ℕ → ℕ → ℕ) (a : ℕ) {rows : ℕ} → a / 4 + 4 < rows → ((v t : ℕ) → v < 9 → t < rows → v ≤ 8 * t → P v t ≡ Q v t) → found P a ≡ found Q a
+unfolding found
+found-ext P Q a {rows} h e =
+    ap₂ min
+    (lowest-same (λ gap. P (planeIn 5 gap (a % 4)) (a / 4 + 4 - gap)) (λ gap. Q (planeIn 5 gap (a % 4)) (a / 4 + 4 - gap)) paying
+    (λ gap i. let l = paying-low gap i in let p = plane-low 5 gap (a % 4) (omega arith) (omega arith) in e (planeIn 5 gap (a % 4)) (a / 4 + 4 - gap) (omega arith) (omega arith) (omega arith)))
+    (lowest-same (P 0) (Q 0) (from 0 (suc (a / 4))) (λ t i. let l = in-from 0 (suc (a / 4)) i in e 0 t (omega arith) (omega arith) (omega arith)))
+
+-- nothing is found where there is nothing
+pub found-away : (P : ℕ → ℕ → ℕ) (a : ℕ) → ((v t : ℕ) → P v t ≡ B) → found P a ≡ B
+found-away P a e = found-ext P (λ v t. B) a {rows = a / 4 + 5} (omega arith) (λ v t i j k. e v t) ∙ found-none a

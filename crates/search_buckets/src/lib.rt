@@ -1,0 +1,78 @@
+// The planes in which the sources of a target are gathered by their end site: which row a source counts in, what it pays in each plane, and which planes
+// are needed. Plane 0 has the sources by themselves, planes 1 to 4 with what they pay at gap 0 to each variant of the target, planes 5 to 8 with what they
+// pay at the other gaps that pay.
+ghost use mathlib.Core.Path.{_≡_};
+ghost use Prim.Native.Nat.{ℕ, _+_, _*_, _≤_, _<_};
+ghost use lib.ListN.{length};
+ghost use Rattle.search_row.specs.Words.{LineWords};
+ghost use Rattle.search_buckets.specs.Rows.{rowsOf, planesIn, endRow, payIn, Pays};
+
+// The row in which pose b of the cell at position k counts for the cell at position m.
+pub fn end_row(line: &[u32], k: usize, b: usize, m: usize) -> usize
+    requires { ⌜ LineWords (now line) × (k < 64) × (b < 64) × (m < 64) ⌝ }
+    ensures { λ t. ⌜ t ≡ endRow (now (line .entry)) k b m ⌝ }
+{
+    let y = search_row::end(line, k, b) + 4;
+    let first = search_row::word(line, m * 128 + 64);
+    if y < first {
+        return 0;
+    }
+    y - first
+}
+
+// How many rows some pose looks at: pose a at rows a / 4 to a / 4 + 4, and at all before.
+pub fn rows_of(poses: usize) -> usize
+    requires { ⌜ poses ≤ 60 ⌝ }
+    ensures { λ rows. ⌜ rows ≡ rowsOf poses ⌝ }
+{
+    (poses + 3) / 4 + 4
+}
+
+// How many planes the cell at position m needs: where all gaps that pay have one weight, those of gap 0 serve them all.
+pub fn planes_of(line: &[u32], m: usize) -> usize
+    requires { ⌜ LineWords (now line) × (m < 64) ⌝ }
+    ensures { λ planes. ⌜ planes ≡ planesIn (now (line .entry)) m ⌝ }
+{
+    if line[m * 128 + 84] == line[m * 128 + 86] {
+        return 5;
+    }
+    9
+}
+
+// What variant u of the cell at position k pays in plane v of the cell at position m.
+fn pay(line: &[u32], k: usize, u: usize, m: usize, v: usize) -> u32
+    requires { ⌜ LineWords (now line) × (k < 64) × (u < 4) × (m < 64) × (v < 9) ⌝ }
+    ensures { λ z. ⌜ z ≡ payIn (now (line .entry)) k u m v ⌝ }
+{
+    if v == 0 {
+        return 0;
+    }
+    if v < 5 {
+        return line[m * 128 + 84] * search_row::differ(line, k, u, m, v - 1);
+    }
+    line[m * 128 + 86] * search_row::differ(line, k, u, m, v - 5)
+}
+
+// What variant u pays in each of so many planes, after the variants before it.
+fn pay_row(pays: &mut [u32; 36], line: &[u32], k: usize, u: usize, m: usize, planes: usize)
+    requires { ⌜ LineWords (now line) × (k < 64) × (u < 4) × (m < 64) × (planes ≤ 9) × Pays (now line) k m planes (u * 9) (now pays) ⌝ }
+    ensures { λ _. ⌜ Pays (now (line .entry)) k m planes (u * 9 + 9) (now (pays .exit)) ⌝ }
+{
+    let mut v: usize = 0;
+    while v < planes {
+        pays[u * 9 + v] = pay(line, k, u, m, v);
+        v += 1;
+    }
+}
+
+// All of them, by variant and plane.
+pub fn fill_pays(pays: &mut [u32; 36], line: &[u32], k: usize, m: usize, planes: usize)
+    requires { ⌜ LineWords (now line) × (k < 64) × (m < 64) × (planes ≤ 9) × (length (now pays) ≡ 36) ⌝ }
+    ensures { λ _. ⌜ Pays (now (line .entry)) k m planes 36 (now (pays .exit)) ⌝ }
+{
+    let mut u: usize = 0;
+    while u < 4 {
+        pay_row(pays, line, k, u, m, planes);
+        u += 1;
+    }
+}

@@ -1,0 +1,92 @@
+-- Each turn writes one pair more. Assumes nothing.
+use Prim.Native.Nat.{_-_, _≤_}
+use mathlib.Core.Path.{_≡_}
+use native.Mathlib.Omega.{arith}
+use borrow.Author.Needs.{needs}
+use Rattle.theory_tables.specs.Steps.{marks, firstAfter}
+use Rattle.search_row.specs.Words.{deckOf}
+use Rattle.search_dense_first.specs.Begun.{Begun, begun-none, begun-more}
+use Rattle.search_dense_first.proofs.after.Statement.{statement}
+use Rattle.search_dense_first.proofs.after.Tie as tie
+
+abbrev Inv-loop : tie.InvT-loop
+Inv-loop store₀ line pairs n poses r count i s p l to m q₀ store q =
+    (q ≤ count) × (m ≡ marks r s) × Begun (firstAfter (deckOf line n poses) r i m p l) poses q to store₀ store
+
+abbrev μ-loop : tie.MeasureT-loop
+μ-loop store₀ line pairs n poses r count i s p l to m q₀ store q =
+    count - q
+
+mul-m : tie.Need-mul-m Inv-loop μ-loop
+mul-m c = search needs
+
+add-m : tie.Need-add-m Inv-loop μ-loop
+add-m c = search needs
+
+mul-m-2 : tie.Need-mul-m-2 Inv-loop μ-loop
+mul-m-2 c = search needs
+
+shared-slice-read-m : tie.Need-shared-slice-read-m Inv-loop μ-loop
+shared-slice-read-m c = search needs
+
+loop-holds : tie.Need-loop-holds Inv-loop μ-loop
+loop-holds c =
+    let k = c .before .before .before .before in
+    let g = k .pre .0 in
+    (omega arith, omega (arith, g .coded .mark (k .args .s) (omega (arith, g .all))), begun-none _ _ _ (k .pre .1))
+
+mul-after-pair : tie.Need-mul-after-pair Inv-loop μ-loop
+mul-after-pair c = search needs
+
+add-after-pair : tie.Need-add-after-pair Inv-loop μ-loop
+add-after-pair c =
+    let g = c .before .before .before .before .before .before .before .pre .0 in
+    omega (arith, g .all, g .coded .few)
+
+after-pair-requires : tie.Need-after-pair-requires Inv-loop μ-loop
+after-pair-requires c κs =
+    let k = c .before .before .before .before .before .before .before in
+    let g = k .pre .0 in
+    let s = c .before .before .loop .inv .2 in
+    (g, s .low, k .pre .3, k .pre .5, k .pre .6, omega (arith, g .all, g .coded .few, g .few, s .frame .long), omega arith)
+
+add-q : tie.Need-add-q Inv-loop μ-loop
+add-q c = search needs
+
+loop-less : tie.Need-loop-less Inv-loop μ-loop
+loop-less c = search needs
+
+loop-again : tie.Need-loop-again Inv-loop μ-loop
+loop-again c =
+    let g = c .before .before .before .before .before .before .before .before .before .before .pre .0 in
+    let l = c .before .before .before .before .before .loop in
+    (omega arith, l .inv .1, begun-more (l .q) (omega (arith, g .few)) (omega (arith, g .all, g .coded .few)) (l .inv .2) (c .before .before .after-pair .ensures))
+
+same-length : tie.Need-same-length Inv-loop μ-loop
+same-length c = c .before .loop .inv .2 .frame .long
+
+returns : tie.Need-returns Inv-loop μ-loop
+returns c =
+    let l = c .before .loop in
+    let e : l .q ≡ c .before .before .before .before .before .before .args .count = omega arith in
+    rw (e, l .inv .1) at (l .inv .2)
+
+pub after-spec : {M : Type 1} → statement M
+after-spec =
+    tie.close
+    (tie.spec
+    Inv-loop
+    μ-loop
+    mul-m
+    add-m
+    mul-m-2
+    shared-slice-read-m
+    loop-holds
+    mul-after-pair
+    add-after-pair
+    after-pair-requires
+    add-q
+    loop-less
+    loop-again
+    same-length
+    returns)

@@ -1,0 +1,72 @@
+-- Each turn writes one pair more. Assumes nothing.
+use Prim.Native.Nat.{_-_, _≤_}
+use mathlib.Core.Path.{_≡_}
+use native.Mathlib.Omega.{arith}
+use borrow.Author.Needs.{needs}
+use Rattle.theory_tables.specs.Steps.{firstOpen}
+use Rattle.search_row.specs.Words.{deckOf}
+use Rattle.search_dense_first.specs.Begun.{Begun, begun-none, begun-more}
+use Rattle.search_dense_first.proofs.open.Statement.{statement}
+use Rattle.search_dense_first.proofs.open.Tie as tie
+
+abbrev Inv-loop : tie.InvT-loop
+Inv-loop store₀ line pairs n poses r count to q₀ store q =
+    (q ≤ count) × Begun (firstOpen (deckOf line n poses) r) poses q to store₀ store
+
+abbrev μ-loop : tie.MeasureT-loop
+μ-loop store₀ line pairs n poses r count to q₀ store q =
+    count - q
+
+loop-holds : tie.Need-loop-holds Inv-loop μ-loop
+loop-holds c = (omega arith, begun-none _ _ _ (c .before .before .before .pre .1))
+
+mul-open-pair : tie.Need-mul-open-pair Inv-loop μ-loop
+mul-open-pair c = search needs
+
+add-open-pair : tie.Need-add-open-pair Inv-loop μ-loop
+add-open-pair c =
+    let g = c .before .before .before .before .before .before .pre .0 in
+    omega (arith, g .all, g .coded .few)
+
+open-pair-requires : tie.Need-open-pair-requires Inv-loop μ-loop
+open-pair-requires c κs =
+    let k = c .before .before .before .before .before .before in
+    let g = k .pre .0 in
+    let s = c .before .before .loop .inv .1 in
+    (g, s .low, omega (arith, g .all, g .coded .few, g .few, s .frame .long), omega arith)
+
+add-q : tie.Need-add-q Inv-loop μ-loop
+add-q c = search needs
+
+loop-less : tie.Need-loop-less Inv-loop μ-loop
+loop-less c = search needs
+
+loop-again : tie.Need-loop-again Inv-loop μ-loop
+loop-again c =
+    let g = c .before .before .before .before .before .before .before .before .before .pre .0 in
+    let l = c .before .before .before .before .before .loop in
+    (omega arith, begun-more (l .q) (omega (arith, g .few)) (omega (arith, g .all, g .coded .few)) (l .inv .1) (c .before .before .open-pair .ensures))
+
+same-length : tie.Need-same-length Inv-loop μ-loop
+same-length c = c .before .loop .inv .1 .frame .long
+
+returns : tie.Need-returns Inv-loop μ-loop
+returns c =
+    let e : c .before .loop .q ≡ c .before .before .before .before .before .args .count = omega arith in
+    rw e at (c .before .loop .inv .1)
+
+pub open-spec : {M : Type 1} → statement M
+open-spec =
+    tie.close
+    (tie.spec
+    Inv-loop
+    μ-loop
+    loop-holds
+    mul-open-pair
+    add-open-pair
+    open-pair-requires
+    add-q
+    loop-less
+    loop-again
+    same-length
+    returns)

@@ -1,0 +1,41 @@
+-- A first layer in a dense block: what its loops leave, and one pair more. Assumes nothing.
+use Prim.Native.Nat.{ℕ, _+_, _*_, _≤_, _<_, min}
+use mathlib.Core.Path.{_≡_, _∙_}
+use mathlib.Core.List.{List}
+use native.Mathlib.Omega.{arith}
+use borrow.Author.Count.{below-more}
+use lib.ListN.{getD}
+use Rattle.theory_tables.specs.Steps.{B, Layer}
+use Rattle.search_lanes.specs.Store.{Frame, Low, Written}
+use Rattle.search_lanes.specs.Laws.{frame-refl, frame-join}
+use Rattle.search_row.specs.Words.{wordOf, tollIn, frontIn}
+
+-- the cell at position k in pose a: first of all, and after pose l of the cell at position p
+abbrev pub openPose : List ℕ → ℕ → ℕ → ℕ
+openPose line k a = min (wordOf line k a + frontIn line k a) B
+
+abbrev pub afterPose : List ℕ → ℕ → ℕ → ℕ → ℕ → ℕ
+afterPose line p l k a = min (wordOf line k a + tollIn line p l k a) B
+
+-- the pairs below `count` of the layer f, with so many poses, are in the block at `to`; nothing outside the block changed
+pub record Begun (f : Layer) (poses count to : ℕ) (old new : List ℕ) : Type 0 where
+  pub frame : Frame to (to + 768) old new
+  pub low : Low new
+  pub right : (q a : ℕ) → q < count → a < poses → getD new (to + q * 64 + a) 0 ≡ f q a
+
+pub begun-none : (f : Layer) (poses to : ℕ) {st : List ℕ} → Low st → Begun f poses 0 to st st
+begun-none f poses to {st} w = record { frame = frame-refl _ _ st; low = w; right = λ q a h. absurd (omega arith) }
+
+pub begun-more :
+    {f : Layer} {poses to : ℕ} {old mid new : List ℕ} (q : ℕ)
+    → poses ≤ 64 → q < 12 → Begun f poses q to old mid → Written (f q) (to + q * 64) poses mid new
+    → Begun f poses (q + 1) to old new
+begun-more {f} {poses} {to} {new = new} q k h s w =
+    record {
+      frame = frame-join to (to + 768) (s .frame) (w .frame) (omega arith) (omega arith) (omega arith) (omega arith);
+      low = w .low;
+      right = λ p a x y. below-more (λ (p : ℕ). (a : ℕ) → a < poses → getD new (to + p * 64 + a) 0 ≡ f p a) q
+          (λ p x a y. w .frame .low (to + p * 64 + a) (omega arith) ∙ s .right p a x y)
+          (λ a y. w .words a y)
+          p x a y;
+    }

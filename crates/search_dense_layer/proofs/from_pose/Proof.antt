@@ -1,0 +1,63 @@
+-- A source that is NONE, or that ends right of all rows, lowers nothing; another one is spread over the planes. Assumes nothing.
+use Prim.Native.Nat.{_+_, _%_}
+use native.Mathlib.Omega.{arith}
+use lib.ListN.{getD}
+use Rattle.search_buckets.specs.Rows.{endRow, payIn}
+use Rattle.search_buckets.specs.Laws.{row-miss, row-above}
+use Rattle.search_buckets.specs.Sources.{pays-low}
+use Rattle.search_dense_layer.specs.Laws.{gathered-none, gathered-pose, pays-free}
+use borrow.Author.Needs.{needs}
+use Rattle.search_dense_layer.proofs.from_pose.Statement.{statement}
+use Rattle.search_dense_layer.proofs.from_pose.Tie as tie
+
+add-x : tie.Need-add-x
+add-x c = search needs
+
+mul-x : tie.Need-mul-x
+mul-x c = search needs
+
+shared-slice-read-x : tie.Need-shared-slice-read-x
+shared-slice-read-x c = search needs
+
+returns : tie.Need-returns
+returns c =
+    let k = c .before .before .before .before in
+    let a = k .args in
+    gathered-none (a .planes) (k .pre .0)
+    (λ v s h. omega (arith, row-above (endRow (a .line .now) (a .k) (a .b) (a .m)) s (getD (a .store .now) (a .at + a .b) 0 + payIn (a .line .now) (a .k) (a .b) (a .m) v)))
+
+end-row-requires : tie.Need-end-row-requires
+end-row-requires c κs = search needs
+
+returns-2 : tie.Need-returns-2
+returns-2 c =
+    let k = c .before .before .before .before .before .before in
+    let a = k .args in
+    gathered-none (a .planes) (k .pre .0)
+    (λ v s h.
+    omega (arith, row-miss (endRow (a .line .now) (a .k) (a .b) (a .m)) s (getD (a .store .now) (a .at + a .b) 0 + payIn (a .line .now) (a .k) (a .b) (a .m) v) (λ e. omega (arith, c .before .end-row .ensures))))
+
+spread-requires : tie.Need-spread-requires
+spread-requires c κs =
+    let k = c .before .before .before .before .before .before .before .before .before in
+    let a = k .args in
+    (k .pre .0, omega arith, pays-low (k .pre .1 .words) (k .pre .2), pays-free (a .b % 4) (k .pre .2) (k .pre .4) (omega arith), omega arith, omega arith, k .pre .4, k .pre .5)
+
+returns-3 : tie.Need-returns-3
+returns-3 c =
+    let k = c .before .before .before .before .before .before .before .before .before .before in
+    let a = k .args in
+    gathered-pose (a .b) (c .before .before .before .before .before .end-row .result) (getD (a .store .now) (a .at + a .b) 0) (k .pre .2) (c .before .before .before .before .before .end-row .ensures) (k .pre .4) (k .pre .5) (c .spread .ensures)
+
+pub from-pose-spec : {M : Type 1} → statement M
+from-pose-spec =
+    tie.close
+    (tie.spec
+    add-x
+    mul-x
+    shared-slice-read-x
+    returns
+    end-row-requires
+    returns-2
+    spread-requires
+    returns-3)

@@ -1,0 +1,132 @@
+-- A pair that is no source lowers nothing; one that is a source stands in the row. Assumes nothing.
+use Prim.Native.Nat.{ℕ, suc, _≤_, _<_}
+use mathlib.Core.Path.{_≡_, refl, sym, ap, ap₂, _∙_}
+use mathlib.Core.Bool.{true}
+use native.Mathlib.Omega.{arith}
+use borrow.Author.Tests.{not-true, not-false}
+use Rattle.theory_tables.specs.Steps.{lastAt, isSource}
+use Rattle.search_row.specs.Words.{deckOf}
+use Rattle.search_row.specs.Laws.{there-size, source-size}
+use Rattle.search_buckets.specs.Rows.{planesIn, byPoses}
+use Rattle.search_buckets.specs.Sources.{pair-in, pair-out}
+use Rattle.search_dense_layer.specs.Thin.{thinIn}
+use Rattle.search_dense_layer.specs.Laws.{planes-few, gathered-none, gathered-ext}
+use borrow.Author.Needs.{needs}
+use Rattle.search_dense_layer.proofs.from_source.Statement.{statement}
+use Rattle.search_dense_layer.proofs.from_source.Tie as tie
+
+-- past the test the pair is a source
+abbrev ThinSource : tie.Else1 → Type 0
+ThinSource c = let a = c .before .before .before .before .before .args in isSource (deckOf (a .line .now) (a .n) (a .poses)) (a .r) (a .i) (a .q) (a .p) ≡ true
+
+source : (c : tie.Else1) → ThinSource c
+source c = sym (c .before .is-source .ensures) ∙ not-false _ (c .if1 .left)
+
+-- both cells stand in the row
+left : (c : tie.After-last-at2) → c .before .last-at .result < 64
+left c =
+    let k = c .before .before .before .before .before .before .before in
+    let a = k .args in
+    omega (arith, c .before .last-at .ensures, source-size (a .line .now) (a .n) (a .poses) (a .r) (a .i) (a .q) (a .p) (source (c .before .before)), k .pre .1 .ground .size)
+
+here : (c : tie.After-last-at2) → (let a = c .before .before .before .before .before .before .before .args in c .last-at2 .result ≡ lastAt (a .r) (suc (a .i)) (a .q))
+here c = omega (arith, c .last-at2 .ensures)
+
+right : (c : tie.After-last-at2) → c .last-at2 .result < 64
+right c =
+    let k = c .before .before .before .before .before .before .before in
+    let a = k .args in
+    omega (arith, here c, there-size (a .n) (a .r) (suc (a .i)) (a .q) (k .pre .2 .there), k .pre .1 .ground .size)
+
+-- how many planes the target needs
+planes : (c : tie.After-planes-of) → (let a = c .before .before .before .before .before .before .before .before .args in c .planes-of .result ≡ planesIn (a .line .now) (lastAt (a .r) (suc (a .i)) (a .q)))
+planes c = c .planes-of .ensures ∙ ap (planesIn (c .before .before .before .before .before .before .before .before .args .line .now)) (here (c .before))
+
+few : (c : tie.After-planes-of) → (5 ≤ c .planes-of .result) × (c .planes-of .result ≤ 9)
+few c =
+    let f = planes-few (c .before .before .before .before .before .before .before .before .args .line .now) (c .before .last-at2 .result) in
+    (omega (arith, c .planes-of .ensures), omega (arith, c .planes-of .ensures))
+
+is-source-requires : tie.Need-is-source-requires
+is-source-requires c κs = search needs
+
+returns : tie.Need-returns
+returns c =
+    let k = c .before .before .before .before .before in
+    let a = k .args in
+    let D = deckOf (a .line .now) (a .n) (a .poses) in
+    let away = sym (c .before .is-source .ensures) ∙ not-true _ (c .if1 .taken) in
+    gathered-none (planesIn (a .line .now) (lastAt (a .r) (suc (a .i)) (a .q))) (k .pre .0)
+    (λ v t h. omega (arith, pair-out (a .line .now) D (a .r) (thinIn (a .store .now) (a .from)) (a .i) (a .q) (a .p) v t away))
+
+last-at-requires : tie.Need-last-at-requires
+last-at-requires c κs = search needs
+
+add-last-at : tie.Need-add-last-at
+add-last-at c = search needs
+
+last-at-requires-2 : tie.Need-last-at-requires-2
+last-at-requires-2 c κs = search needs
+
+planes-of-requires : tie.Need-planes-of-requires
+planes-of-requires c κs = (c .before .before .before .before .before .before .before .pre .1 .ground .row, right c)
+
+fill-pays-requires : tie.Need-fill-pays-requires
+fill-pays-requires c κs =
+    let k = c .before .before .before .before .before .before .before .before .before in
+    (k .pre .1 .ground .row, left (c .before .before), right (c .before .before), few (c .before) .1, refl)
+
+mul-at : tie.Need-mul-at
+mul-at c = search needs
+
+add-at : tie.Need-add-at
+add-at c = search needs
+
+from-poses-requires : tie.Need-from-poses-requires
+from-poses-requires c κs =
+    let k = c .before .before .before .before .before .before .before .before .before .before .before .before .before .before in
+    let g = k .pre .1 in
+    let f = few (c .before .before .before .before .before .before) in (
+      k .pre .0,
+      record {
+        words = g .ground .row;
+        low = g .low;
+        room = omega (arith, g .room, g .ground .all, g .ground .coded .few);
+        left = left (c .before .before .before .before .before .before .before);
+        right = right (c .before .before .before .before .before .before .before);
+      },
+      c .before .before .before .before .fill-pays .ensures,
+      g .ground .few,
+      f .0,
+      f .1,
+    )
+
+returns-2 : tie.Need-returns-2
+returns-2 c =
+    let k = c .before .before .before .before .before .before .before .before .before .before .before .before .before .before .before in
+    let a = k .args in
+    let D = deckOf (a .line .now) (a .n) (a .poses) in
+    let f = thinIn (a .store .now) (a .from) in
+    let e = planes (c .before .before .before .before .before .before .before) in
+    let m = here (c .before .before .before .before .before .before .before .before) in
+    let w = gathered-ext (c .from-poses .ensures) (few (c .before .before .before .before .before .before .before) .0)
+    (λ v t h.
+    pair-in (a .line .now) D (a .r) f (a .i) (a .q) (a .p) v t (source (c .before .before .before .before .before .before .before .before .before .before))
+    ∙ ap₂ (λ (x y : ℕ). byPoses (a .line .now) x y (f (a .p)) (a .poses) v t) (sym (c .before .before .before .before .before .before .before .before .before .last-at .ensures)) (sym m)) in
+    rw e at w
+
+pub from-source-spec : {M : Type 1} → statement M
+from-source-spec =
+    tie.close
+    (tie.spec
+    is-source-requires
+    returns
+    last-at-requires
+    add-last-at
+    last-at-requires-2
+    planes-of-requires
+    fill-pays-requires
+    mul-at
+    add-at
+    from-poses-requires
+    returns-2)

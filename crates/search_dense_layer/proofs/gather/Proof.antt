@@ -1,0 +1,67 @@
+-- After p turns the pairs below p are gathered. Assumes nothing.
+use Prim.Native.Nat.{suc, _-_, _≤_}
+use mathlib.Core.Path.{_≡_}
+use native.Mathlib.Omega.{arith}
+use Rattle.theory_tables.specs.Steps.{lastAt}
+use Rattle.search_row.specs.Words.{deckOf}
+use Rattle.search_buckets.specs.Rows.{planesIn, byPairs}
+use Rattle.search_buckets.specs.Sources.{pairs-none, pairs-more}
+use Rattle.search_dense_layer.specs.Thin.{thinIn, ThinGathered}
+use Rattle.search_dense_layer.specs.Laws.{gathered-none, gathered-join, lent-on}
+use borrow.Author.Needs.{needs}
+use Rattle.search_dense_layer.proofs.gather.Statement.{statement}
+use Rattle.search_dense_layer.proofs.gather.Tie as tie
+
+abbrev Inv-loop : tie.InvT-loop
+Inv-loop near₀ apart₀ far₀ store line pairs n poses r count i from q p₀ near apart far p =
+    (p ≤ count)
+    × ThinGathered (byPairs line (deckOf line n poses) r (thinIn store from) i q p) (planesIn line (lastAt r (suc i) q)) near₀ near apart₀ apart far₀ far
+
+abbrev μ-loop : tie.MeasureT-loop
+μ-loop near₀ apart₀ far₀ store line pairs n poses r count i from q p₀ near apart far p = count - p
+
+loop-holds : tie.Need-loop-holds Inv-loop μ-loop
+loop-holds c =
+    let k = c .before .before .before in
+    let a = k .args in
+    let D = deckOf (a .line .now) (a .n) (a .poses) in (
+      omega arith,
+      gathered-none (planesIn (a .line .now) (lastAt (a .r) (suc (a .i)) (a .q))) (k .pre .0)
+          (λ v t h. omega (arith, pairs-none (a .line .now) D (a .r) (thinIn (a .store .now) (a .from)) (a .i) (a .q) v t)),
+    )
+
+from-source-requires : tie.Need-from-source-requires Inv-loop μ-loop
+from-source-requires c κs =
+    let k = c .before .before .before .before .before .before .before .before in
+    (lent-on (k .pre .0) (c .before .before .before .before .loop .inv .1), k .pre .1, k .pre .2, omega arith)
+
+add-p : tie.Need-add-p Inv-loop μ-loop
+add-p c = search needs
+
+loop-less : tie.Need-loop-less Inv-loop μ-loop
+loop-less c = search needs
+
+loop-again : tie.Need-loop-again Inv-loop μ-loop
+loop-again c =
+    let a = c .before .before .before .before .before .before .before .before .before .args in
+    let D = deckOf (a .line .now) (a .n) (a .poses) in
+    let l = c .before .before .before .before .before .loop in
+    (omega arith, gathered-join (l .inv .1) (c .from-source .ensures) (λ v t. pairs-more (a .line .now) D (a .r) (thinIn (a .store .now) (a .from)) (a .i) (a .q) (l .p) v t))
+
+returns : tie.Need-returns Inv-loop μ-loop
+returns c =
+    let e : c .before .loop .p ≡ c .before .before .before .before .before .args .count = omega arith in
+    rw e at (c .before .loop .inv .1)
+
+pub gather-spec : {M : Type 1} → statement M
+gather-spec =
+    tie.close
+    (tie.spec
+    Inv-loop
+    μ-loop
+    loop-holds
+    from-source-requires
+    add-p
+    loop-less
+    loop-again
+    returns)

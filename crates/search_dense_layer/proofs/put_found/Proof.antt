@@ -1,0 +1,51 @@
+-- The planes of the other gaps are their own, or those of gap 0. Assumes nothing.
+use Prim.Native.Nat.{_+_, _*_, _/_}
+use mathlib.Core.Path.{sym, subst}
+use native.Mathlib.Omega.{arith}
+use Rattle.search_lanes.specs.Store.{Written}
+use Rattle.search_dense_layer.specs.Thin.{foundOf}
+use Rattle.search_dense_layer.specs.Found.{lent-twin, other-nine, other-five}
+use borrow.Author.Needs.{needs}
+use Rattle.search_dense_layer.proofs.put_found.Statement.{statement}
+use Rattle.search_dense_layer.proofs.put_found.Tie as tie
+
+put-requires : tie.Need-put-requires
+put-requires c κs = c .before .before .before .before .pre
+
+same-length : tie.Need-same-length
+same-length c = search needs
+
+returns : tie.Need-returns
+returns c =
+    let a = c .before .before .before .before .before .before .before .args in
+    subst
+    (λ other. Written (foundOf (a .line .now) (a .near .now) other (a .far .now) (a .k)) (a .to) ((a .poses + 3) / 4 * 4) (a .store .now) (c .before .before .put .last .0))
+    (sym (other-nine (a .planes) (a .near .now) (a .apart .now) (omega arith)))
+    (c .before .before .put .ensures)
+
+put-requires-2 : tie.Need-put-requires-2
+put-requires-2 c κs =
+    let p = c .before .before .before .before .pre in
+    (lent-twin (p .0), p .1, p .2, p .3, p .4, p .5)
+
+same-length-2 : tie.Need-same-length-2
+same-length-2 c = search needs
+
+returns-2 : tie.Need-returns-2
+returns-2 c =
+    let a = c .before .before .before .before .before .before .before .args in
+    subst
+    (λ other. Written (foundOf (a .line .now) (a .near .now) other (a .far .now) (a .k)) (a .to) ((a .poses + 3) / 4 * 4) (a .store .now) (c .before .before .put2 .last .0))
+    (sym (other-five (a .planes) (a .near .now) (a .apart .now) (λ e. omega arith)))
+    (c .before .before .put2 .ensures)
+
+pub put-found-spec : {M : Type 1} → statement M
+put-found-spec =
+    tie.close
+    (tie.spec
+    put-requires
+    same-length
+    returns
+    put-requires-2
+    same-length-2
+    returns-2)

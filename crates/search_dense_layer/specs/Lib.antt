@@ -1,0 +1,5 @@
+pub mod Thin
+pub mod Laws
+pub mod Found
+pub mod Kept
+pub mod KeptLaws

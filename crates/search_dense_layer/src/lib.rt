@@ -1,0 +1,405 @@
+// Layers of one lane, dense: pair q has 64 words of a block, one for each pose. The four variants of a site stand side by side, so that four are done at
+// a time. The sources of a target are gathered by their end sites in the planes of crate planes.
+ghost use mathlib.Core.Path.{_≡_};
+ghost use Prim.Native.Nat.{ℕ, suc, _+_, _*_, _/_, _≤_, _<_};
+ghost use lib.ListN.{length, getD};
+ghost use Rattle.theory_tables.specs.Steps.{B, lastAt};
+ghost use Rattle.search_lanes.specs.Lanes.{Lowered};
+ghost use Rattle.search_lanes.specs.Store.{Low, Written};
+ghost use Rattle.search_row.specs.Words.{deckOf, LineWords, Ground};
+ghost use Rattle.search_buckets.specs.Next.{Target};
+ghost use Rattle.search_buckets.specs.Rows.{planesIn, Pays, PaysLow, onePose, byPoses, onePair, byPairs};
+ghost use Rattle.search_dense_layer.specs.Thin.{thinIn, posesAt, fourOf, spreadOf, Arrays, ThinGathered, ThinSource, FarRunUp, foundBy, foundOf, foundFour, otherOf, ThinGiven, Put, Stepped};
+ghost use Rattle.search_dense_layer.specs.Kept.{keptAt, Stretch, StretchKept};
+
+// ---- one source
+
+// A source of cost x to row t of four planes, where it pays the words from p on.
+fn lower_four(words: &mut [u32; 76], t: usize, x: u32, pays: &[u32; 36], p: usize)
+    requires { ⌜ (t < 19) × (length (now words) ≡ 76) × Low (now words) × (x ≤ B) × (p + 4 ≤ 36) × (length (now pays) ≡ 36) × ((v : ℕ) → v < 4 → getD (now pays) (p + v) 0 ≤ B) ⌝ }
+    ensures { λ _. ⌜ Lowered (fourOf t x (now (pays .entry)) p) 76 (now (words .entry)) (now (words .exit)) ⌝ }
+{
+    let mut v: usize = 0;
+    while v < 4 {
+        words[t * 4 + v] = search_lanes::lesser(words[t * 4 + v], x + pays[p + v]);
+        v += 1;
+    }
+}
+
+// The same to all planes that are needed, by its variant u.
+fn spread(
+    near: &mut [u32; 76],
+    apart: &mut [u32; 76],
+    far: &mut [u32; 19],
+    x: u32,
+    pays: &[u32; 36],
+    u: usize,
+    t: usize,
+    planes: usize,
+)
+    requires { ⌜ Arrays (now near) (now apart) (now far) × (x ≤ B) × PaysLow planes (now pays) × (getD (now pays) (u * 9) 0 ≡ 0) × (u < 4) × (t < 19) × (5 ≤ planes) × (planes ≤ 9) ⌝ }
+    ensures { λ _. ⌜ ThinGathered (spreadOf t x (now (pays .entry)) u) planes (now (near .entry)) (now (near .exit)) (now (apart .entry)) (now (apart .exit)) (now (far .entry)) (now (far .exit)) ⌝ }
+{
+    far[t] = search_lanes::lesser(far[t], x);
+    lower_four(near, t, x, pays, u * 9 + 1);
+    if planes == 9 {
+        lower_four(apart, t, x, pays, u * 9 + 5);
+        return;
+    }
+}
+
+// Pose b of the cell at position k, for the cell at position m.
+fn from_pose(
+    near: &mut [u32; 76],
+    apart: &mut [u32; 76],
+    far: &mut [u32; 19],
+    store: &[u32],
+    line: &[u32],
+    pays: &[u32; 36],
+    at: usize,
+    k: usize,
+    m: usize,
+    b: usize,
+    planes: usize,
+)
+    requires { ⌜ Arrays (now near) (now apart) (now far) × ThinSource (now store) (now line) at k m × Pays (now line) k m planes 36 (now pays) × (b < 60) × (5 ≤ planes) × (planes ≤ 9) ⌝ }
+    ensures { λ _. ⌜ ThinGathered (onePose (now (line .entry)) k m b (posesAt (now (store .entry)) at b)) planes (now (near .entry)) (now (near .exit)) (now (apart .entry)) (now (apart .exit)) (now (far .entry)) (now (far .exit)) ⌝ }
+{
+    let x = store[at + b];
+    if x >= search_lanes::NONE {
+        return;
+    }
+    let t = search_buckets::end_row(line, k, b, m);
+    if t >= 19 {
+        return;
+    }
+    spread(near, apart, far, x, pays, b % 4, t, planes);
+}
+
+// All poses of the cell at position k.
+fn from_poses(
+    near: &mut [u32; 76],
+    apart: &mut [u32; 76],
+    far: &mut [u32; 19],
+    store: &[u32],
+    line: &[u32],
+    pays: &[u32; 36],
+    at: usize,
+    k: usize,
+    m: usize,
+    poses: usize,
+    planes: usize,
+)
+    requires { ⌜ Arrays (now near) (now apart) (now far) × ThinSource (now store) (now line) at k m × Pays (now line) k m planes 36 (now pays) × (poses ≤ 60) × (5 ≤ planes) × (planes ≤ 9) ⌝ }
+    ensures { λ _. ⌜ ThinGathered (byPoses (now (line .entry)) k m (posesAt (now (store .entry)) at) poses) planes (now (near .entry)) (now (near .exit)) (now (apart .entry)) (now (apart .exit)) (now (far .entry)) (now (far .exit)) ⌝ }
+{
+    let mut b: usize = 0;
+    while b < poses {
+        from_pose(near, apart, far, store, line, pays, at, k, m, b, planes);
+        b += 1;
+    }
+}
+
+// ---- what a pose finds
+
+// Each row of the far plane, as far as some pose looks, lowered to all rows before it.
+fn run_up(far: &mut [u32; 19])
+    requires { ⌜ Low (now far) × (length (now far) ≡ 19) ⌝ }
+    ensures { λ _. ⌜ FarRunUp 15 (now (far .entry)) (now (far .exit)) ⌝ }
+{
+    let mut t: usize = 0;
+    while t < 14 {
+        far[t + 1] = search_lanes::lesser(far[t + 1], far[t]);
+        t += 1;
+    }
+}
+
+// What the pose at site e in variant v finds: at gaps 0, 2 and 3, and further left.
+fn found(near: &[u32; 76], apart: &[u32; 76], far: &[u32; 19], e: usize, v: usize) -> u32
+    requires { ⌜ Arrays (now near) (now apart) (now far) × (e < 15) × (v < 4) ⌝ }
+    ensures { λ x. ⌜ x ≡ foundBy (now (near .entry)) (now (apart .entry)) (now (far .entry)) e v ⌝ }
+{
+    let between = search_lanes::lesser(apart[(e + 2) * 4 + v], apart[(e + 1) * 4 + v]);
+    search_lanes::lesser(search_lanes::lesser(near[(e + 4) * 4 + v], between), far[e])
+}
+
+// What the four poses at site e of the cell at position k find, with the cell's own cost, capped. A pose that is not offered comes out NONE.
+fn found_four(
+    words: &mut [u32; 4],
+    line: &[u32],
+    near: &[u32; 76],
+    apart: &[u32; 76],
+    far: &[u32; 19],
+    k: usize,
+    e: usize,
+)
+    requires { ⌜ Arrays (now near) (now apart) (now far) × LineWords (now line) × Low (now words) × (length (now words) ≡ 4) × (k < 64) × (e < 15) ⌝ }
+    ensures { λ _. ⌜ Written (foundFour (now (line .entry)) (now (near .entry)) (now (apart .entry)) (now (far .entry)) k e) 0 4 (now (words .entry)) (now (words .exit)) ⌝ }
+{
+    let mut v: usize = 0;
+    while v < 4 {
+        let x = line[k * 128 + (e * 4 + v)] + found(near, apart, far, e, v);
+        words[v] = search_lanes::lesser(x, search_lanes::NONE);
+        v += 1;
+    }
+}
+
+// They are written once all four are found, so that nothing written can be read again.
+fn put_four(
+    store: &mut [u32],
+    line: &[u32],
+    near: &[u32; 76],
+    apart: &[u32; 76],
+    far: &[u32; 19],
+    to: usize,
+    k: usize,
+    e: usize,
+)
+    requires { ⌜ Arrays (now near) (now apart) (now far) × LineWords (now line) × Low (now store) × (to + 64 ≤ length (now store)) × (k < 64) × (e < 15) ⌝ }
+    ensures { λ _. ⌜ Written (foundFour (now (line .entry)) (now (near .entry)) (now (apart .entry)) (now (far .entry)) k e) (to + e * 4) 4 (now (store .entry)) (now (store .exit)) ⌝ }
+{
+    let mut words = [0u32; 4];
+    found_four(&mut words, line, near, apart, far, k, e);
+    let mut v: usize = 0;
+    while v < 4 {
+        store[to + e * 4 + v] = words[v];
+        v += 1;
+    }
+}
+
+// All poses of the cell at position k, four at a time.
+fn put(
+    store: &mut [u32],
+    line: &[u32],
+    near: &[u32; 76],
+    apart: &[u32; 76],
+    far: &[u32; 19],
+    to: usize,
+    k: usize,
+    poses: usize,
+)
+    requires { ⌜ Arrays (now near) (now apart) (now far) × LineWords (now line) × Low (now store) × (to + 64 ≤ length (now store)) × (k < 64) × (poses ≤ 60) ⌝ }
+    ensures { λ _. ⌜ Written (foundOf (now (line .entry)) (now (near .entry)) (now (apart .entry)) (now (far .entry)) k) to ((poses + 3) / 4 * 4) (now (store .entry)) (now (store .exit)) ⌝ }
+{
+    let mut e: usize = 0;
+    while e * 4 < poses {
+        put_four(store, line, near, apart, far, to, k, e);
+        e += 1;
+    }
+}
+
+// As many planes as are needed: where one weight serves for all gaps, the planes of gap 0 do for the others.
+fn put_found(
+    store: &mut [u32],
+    line: &[u32],
+    near: &[u32; 76],
+    apart: &[u32; 76],
+    far: &[u32; 19],
+    to: usize,
+    k: usize,
+    poses: usize,
+    planes: usize,
+)
+    requires { ⌜ Arrays (now near) (now apart) (now far) × LineWords (now line) × Low (now store) × (to + 64 ≤ length (now store)) × (k < 64) × (poses ≤ 60) ⌝ }
+    ensures { λ _. ⌜ Written (foundOf (now (line .entry)) (now (near .entry)) (otherOf planes (now (near .entry)) (now (apart .entry))) (now (far .entry)) k) to ((poses + 3) / 4 * 4) (now (store .entry)) (now (store .exit)) ⌝ }
+{
+    if planes == 9 {
+        put(store, line, near, apart, far, to, k, poses);
+        return;
+    }
+    put(store, line, near, near, far, to, k, poses);
+}
+
+// ---- one layer
+
+// Pair p of the layer with i cells, if it is a source of pair q.
+fn from_source(
+    near: &mut [u32; 76],
+    apart: &mut [u32; 76],
+    far: &mut [u32; 19],
+    store: &[u32],
+    line: &[u32],
+    pairs: &[u32],
+    n: usize,
+    poses: usize,
+    r: usize,
+    count: usize,
+    i: usize,
+    from: usize,
+    q: usize,
+    p: usize,
+)
+    requires { ⌜ Arrays (now near) (now apart) (now far) × ThinGiven (now line) (now pairs) (now store) n poses r count i from × Target n r i q × (p < count) ⌝ }
+    ensures { λ _. ⌜ ThinGathered (onePair (now (line .entry)) (deckOf (now (line .entry)) n poses) r (thinIn (now (store .entry)) from) i q p) (planesIn (now (line .entry)) (lastAt r (suc i) q)) (now (near .entry)) (now (near .exit)) (now (apart .entry)) (now (apart .exit)) (now (far .entry)) (now (far .exit)) ⌝ }
+{
+    if !search_row::is_source(line, pairs, n, r, i, q, p) {
+        return;
+    }
+    let k = search_row::last_at(pairs, r, i, p);
+    let m = search_row::last_at(pairs, r, i + 1, q);
+    let planes = search_buckets::planes_of(line, m);
+    let mut pay = [0u32; 36];
+    search_buckets::fill_pays(&mut pay, line, k, m, planes);
+    let at = from + p * 64;
+    from_poses(near, apart, far, store, line, &pay, at, k, m, poses, planes);
+}
+
+// Every source.
+fn gather(
+    near: &mut [u32; 76],
+    apart: &mut [u32; 76],
+    far: &mut [u32; 19],
+    store: &[u32],
+    line: &[u32],
+    pairs: &[u32],
+    n: usize,
+    poses: usize,
+    r: usize,
+    count: usize,
+    i: usize,
+    from: usize,
+    q: usize,
+)
+    requires { ⌜ Arrays (now near) (now apart) (now far) × ThinGiven (now line) (now pairs) (now store) n poses r count i from × Target n r i q ⌝ }
+    ensures { λ _. ⌜ ThinGathered (byPairs (now (line .entry)) (deckOf (now (line .entry)) n poses) r (thinIn (now (store .entry)) from) i q count) (planesIn (now (line .entry)) (lastAt r (suc i) q)) (now (near .entry)) (now (near .exit)) (now (apart .entry)) (now (apart .exit)) (now (far .entry)) (now (far .exit)) ⌝ }
+{
+    let mut p: usize = 0;
+    while p < count {
+        from_source(
+            near,
+            apart,
+            far,
+            store,
+            line,
+            pairs,
+            n,
+            poses,
+            r,
+            count,
+            i,
+            from,
+            q,
+            p,
+        );
+        p += 1;
+    }
+}
+
+// The words of pair q, whose cell is there: its sources gathered, then what each pose finds.
+fn target_there(
+    store: &mut [u32],
+    line: &[u32],
+    pairs: &[u32],
+    n: usize,
+    poses: usize,
+    r: usize,
+    count: usize,
+    i: usize,
+    from: usize,
+    q: usize,
+)
+    requires { ⌜ ThinGiven (now line) (now pairs) (now store) n poses r count i from × Target n r i q ⌝ }
+    ensures { λ _. ⌜ Put (deckOf (now (line .entry)) n poses) r i from q (now (store .entry)) (now (store .exit)) ⌝ }
+{
+    let m = search_row::last_at(pairs, r, i + 1, q);
+    let planes = search_buckets::planes_of(line, m);
+    let mut near = [search_lanes::NONE; 76];
+    let mut apart = [search_lanes::NONE; 76];
+    let mut far = [search_lanes::NONE; 19];
+    gather(
+        &mut near,
+        &mut apart,
+        &mut far,
+        store,
+        line,
+        pairs,
+        n,
+        poses,
+        r,
+        count,
+        i,
+        from,
+        q,
+    );
+    run_up(&mut far);
+    let to = from + 768 + q * 64;
+    put_found(store, line, &near, &apart, &far, to, m, poses, planes);
+}
+
+// The words of pair q: all NONE if the row has no such cell.
+fn put_pair(
+    store: &mut [u32],
+    line: &[u32],
+    pairs: &[u32],
+    n: usize,
+    poses: usize,
+    r: usize,
+    count: usize,
+    i: usize,
+    from: usize,
+    q: usize,
+)
+    requires { ⌜ ThinGiven (now line) (now pairs) (now store) n poses r count i from × (q < count) ⌝ }
+    ensures { λ _. ⌜ Put (deckOf (now (line .entry)) n poses) r i from q (now (store .entry)) (now (store .exit)) ⌝ }
+{
+    if !search_row::is_there(pairs, n, r, i + 1, q) {
+        search_lanes::fill(store, from + 768 + q * 64, 64, search_lanes::NONE);
+        return;
+    }
+    target_there(store, line, pairs, n, poses, r, count, i, from, q);
+}
+
+// The layer with one cell more than the layer at `from`, which has i, to the block after it.
+pub fn step(
+    store: &mut [u32],
+    line: &[u32],
+    pairs: &[u32],
+    n: usize,
+    poses: usize,
+    r: usize,
+    count: usize,
+    i: usize,
+    from: usize,
+)
+    requires { ⌜ Ground (now line) (now pairs) r n poses count × Low (now store) × (i ≤ 67) × (from + 1536 ≤ length (now store)) ⌝ }
+    ensures { λ _. ⌜ Stepped (deckOf (now (line .entry)) n poses) r count i from (now (store .entry)) (now (store .exit)) ⌝ }
+{
+    let mut q: usize = 0;
+    while q < count {
+        put_pair(store, line, pairs, n, poses, r, count, i, from, q);
+        q += 1;
+    }
+}
+
+// The layers of a stretch from one start, kept one after the other: each is dense and comes from the one before.
+
+// Where layer i is kept.
+pub fn kept_at(i: usize) -> usize
+    requires { ⌜ i ≤ 66 ⌝ }
+    ensures { λ r. ⌜ r ≡ keptAt i ⌝ }
+{
+    97536 + i * 768
+}
+
+// All layers of a stretch from its first, layer i, which is in its place, up to layer `end`.
+pub fn stretch_kept(
+    store: &mut [u32],
+    line: &[u32],
+    pairs: &[u32],
+    n: usize,
+    poses: usize,
+    r: usize,
+    count: usize,
+    i: usize,
+    end: usize,
+)
+    requires { ⌜ Stretch (now line) (now pairs) (now store) n poses r count i end ⌝ }
+    ensures { λ _. ⌜ StretchKept (deckOf (now (line .entry)) n poses) r i end (now (store .entry)) (now (store .exit)) ⌝ }
+{
+    let mut j: usize = 0;
+    while i + j < end {
+        let from = kept_at(i + j);
+        step(store, line, pairs, n, poses, r, count, i + j, from);
+        j += 1;
+    }
+}

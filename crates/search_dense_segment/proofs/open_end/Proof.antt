@@ -1,0 +1,65 @@
+-- The row has no cell, or the least of the layer with all its cells. Assumes nothing.
+use native.Mathlib.Omega.{arith}
+use borrow.Author.Needs.{needs}
+use Rattle.search_row.specs.Words.{deckOf}
+use Rattle.search_dense_segment.specs.Laws.{opened-none, opened-end}
+use Rattle.search_dense_segment.proofs.open_end.Statement.{statement}
+use Rattle.search_dense_segment.proofs.open_end.Tie as tie
+
+mul-store : tie.Need-mul-store
+mul-store c = search needs
+
+slice-write-store : tie.Need-slice-write-store
+slice-write-store c = search needs
+
+same-length : tie.Need-same-length
+same-length c = search needs
+
+returns : tie.Need-returns
+returns c =
+    let k = c .before .before .before .before in
+    let a = k .args in
+    let g = k .pre .1 in
+    opened-none (deckOf (a .line .now) (a .n) (a .poses)) (a .r) (a .prices) (c .if1 .taken) (g .over) (omega (arith, g .room)) (g .low)
+
+run-open-requires : tie.Need-run-open-requires
+run-open-requires c κs = search needs
+
+kept-at-requires : tie.Need-kept-at-requires
+kept-at-requires c κs = search needs
+
+least-pairs-requires : tie.Need-least-pairs-requires
+least-pairs-requires c κs = search needs
+
+mul-store-2 : tie.Need-mul-store-2
+mul-store-2 c = search needs
+
+slice-write-store-2 : tie.Need-slice-write-store-2
+slice-write-store-2 c = search needs
+
+same-length-2 : tie.Need-same-length-2
+same-length-2 c = search needs
+
+returns-2 : tie.Need-returns-2
+returns-2 c =
+    let k = c .before .before .before .before .before .before .before .before .before .before .before in
+    let a = k .args in
+    let g = k .pre .1 in
+    opened-end (deckOf (a .line .now) (a .n) (a .poses)) (a .r) (a .prices) (c .least-pairs .result) (c .before .kept-at .result)
+    (omega (arith, c .before .before .before .before .before .before .before .if1 .left)) (g .over) (omega (arith, g .room)) (g .all) (c .before .kept-at .ensures) (c .before .before .before .before .before .run-open .ensures) (c .least-pairs .ensures)
+
+pub open-end-spec : {M : Type 1} → statement M
+open-end-spec =
+    tie.close
+    (tie.spec
+    mul-store
+    slice-write-store
+    same-length
+    returns
+    run-open-requires
+    kept-at-requires
+    least-pairs-requires
+    mul-store-2
+    slice-write-store-2
+    same-length-2
+    returns-2)

@@ -1,0 +1,38 @@
+-- The layers, then from each the prices of the pairs that come with it. Assumes nothing.
+use native.Mathlib.Omega.{arith}
+use borrow.Author.Needs.{needs}
+use Rattle.search_row.specs.Words.{deckOf}
+use Rattle.search_dense_segment.specs.Laws.{opened-to}
+use Rattle.search_dense_segment.proofs.open_to.Statement.{statement}
+use Rattle.search_dense_segment.proofs.open_to.Tie as tie
+
+add-run-open : tie.Need-add-run-open
+add-run-open c = search needs
+
+add-run-open-2 : tie.Need-add-run-open-2
+add-run-open-2 c = search needs
+
+run-open-requires : tie.Need-run-open-requires
+run-open-requires c κs = search needs
+
+put-pairs-requires : tie.Need-put-pairs-requires
+put-pairs-requires c κs =
+    let k = c .before .before .before .before .before .before .before .before in
+    let g = k .pre .1 in
+    let f = c .before .before .before .run-open .ensures in
+    (k .pre .0 .coded, record { low = f .low; few = g .few; all = g .all; over = g .over; room = omega (arith, g .room, f .frame .long) }, k .pre .2)
+
+same-length : tie.Need-same-length
+same-length c = search needs
+
+returns : tie.Need-returns
+returns c =
+    let k = c .before .before .before .before .before .before .before .before .before .before .before in
+    let a = k .args in
+    opened-to (deckOf (a .line .now) (a .n) (a .poses)) (a .r) (a .tall) (omega arith) (k .pre .1 .over) (k .pre .1 .all)
+    (c .before .before .before .before .before .before .run-open .ensures) (c .before .before .put-pairs .ensures)
+
+pub open-to-spec : {M : Type 1} → statement M
+open-to-spec =
+    tie.close
+    (tie.spec add-run-open add-run-open-2 run-open-requires put-pairs-requires same-length returns)

@@ -1,0 +1,33 @@
+-- The first layer, then those after it. Assumes nothing.
+use native.Mathlib.Omega.{arith}
+use borrow.Author.Needs.{needs}
+use Rattle.search_row.specs.Words.{deckOf}
+use Rattle.search_dense_segment.specs.Laws.{open-kept}
+use Rattle.search_dense_segment.proofs.run_open.Statement.{statement}
+use Rattle.search_dense_segment.proofs.run_open.Tie as tie
+
+kept-at-requires : tie.Need-kept-at-requires
+kept-at-requires c κs = search needs
+
+open-requires : tie.Need-open-requires
+open-requires c κs = search needs
+
+stretch-kept-requires : tie.Need-stretch-kept-requires
+stretch-kept-requires c κs =
+    let k = c .before .before .before .before .before .before .before .before .before in
+    let b = c .before .before .before .open .ensures in
+    record { ground = k .pre .0; low = b .low; long = omega (arith, k .pre .2, b .frame .long); some = omega arith; cells = omega arith; last = k .pre .3 }
+
+same-length : tie.Need-same-length
+same-length c = search needs
+
+returns : tie.Need-returns
+returns c =
+    let k = c .before .before .before .before .before .before .before .before .before .before .before .before in
+    let a = k .args in
+    open-kept (deckOf (a .line .now) (a .n) (a .poses)) (a .r) (c .before .before .before .before .before .before .before .kept-at .ensures) (k .pre .0 .all)
+    (c .before .before .before .before .before .before .open .ensures) (c .before .before .stretch-kept .ensures)
+
+pub run-open-spec : {M : Type 1} → statement M
+run-open-spec =
+    tie.close (tie.spec kept-at-requires open-requires stretch-kept-requires same-length returns)

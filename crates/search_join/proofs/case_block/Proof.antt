@@ -1,0 +1,62 @@
+-- Each turn writes the cases of one pose more. Assumes nothing.
+use Prim.Native.Nat.{_-_, _≤_}
+use mathlib.Core.Path.{_≡_}
+use Rattle.search_join.specs.Tables.{BlockCases, Part}
+use Rattle.search_join.specs.Sums.{Room}
+use Rattle.search_join.specs.Parts.{part-none, table-part, block-more}
+use native.Mathlib.Omega.{arith}
+use borrow.Author.Needs.{needs}
+use Rattle.search_join.proofs.case_block.Statement.{statement}
+use Rattle.search_join.proofs.case_block.Tie as tie
+
+abbrev Inv-loop : tie.InvT-loop
+Inv-loop store₀ sums₀ i starts lanes q0 ends poses a₀ store sums a =
+    (a ≤ poses) × Part starts lanes i (BlockCases q0 ends a) store₀ store × Room sums
+
+abbrev μ-loop : tie.MeasureT-loop
+μ-loop store₀ sums₀ i starts lanes q0 ends poses a₀ store sums a = poses - a
+
+loop-holds : tie.Need-loop-holds Inv-loop μ-loop
+loop-holds c = (omega arith, part-none _ _ _ (c .before .pre .0 .low) (λ q₀ q₁ a h. omega arith), c .before .pre .1)
+
+case-pose-requires : tie.Need-case-pose-requires Inv-loop μ-loop
+case-pose-requires c κs =
+    let k = c .before .before .before .before .before in
+    let l = c .before .before .before .loop .inv in
+    (table-part (k .args .starts) (k .args .lanes) (k .args .i) (k .pre .0) (l .1), l .2, omega (arith, k .pre .2, l .1 .long), omega arith, omega arith, omega arith)
+
+add-a : tie.Need-add-a Inv-loop μ-loop
+add-a c = search needs
+
+loop-less : tie.Need-loop-less Inv-loop μ-loop
+loop-less c = search needs
+
+loop-again : tie.Need-loop-again Inv-loop μ-loop
+loop-again c =
+    let k = c .before .before .before .before .before .before .before .before in
+    let a = k .args in
+    let l = c .before .before .before .before .before .before .loop in
+    let w = c .before .before .case-pose .ensures in
+    (omega arith, block-more (a .starts) (a .lanes) (a .i) (a .q0) (a .ends) (l .a) (k .pre .0) (omega arith) (omega arith) (omega arith) (l .inv .1) (w .0), w .1)
+
+same-length : tie.Need-same-length Inv-loop μ-loop
+same-length c = c .before .loop .inv .1 .long
+
+returns : tie.Need-returns Inv-loop μ-loop
+returns c =
+    let e : c .before .loop .a ≡ c .before .before .before .args .poses = omega arith in
+    (rw e at (c .before .loop .inv .1), c .before .loop .inv .2)
+
+pub case-block-spec : {M : Type 1} → statement M
+case-block-spec =
+    tie.close
+    (tie.spec
+    Inv-loop
+    μ-loop
+    loop-holds
+    case-pose-requires
+    add-a
+    loop-less
+    loop-again
+    same-length
+    returns)

@@ -1,0 +1,59 @@
+-- Each turn closes the lanes of one pair of row 0 more. Assumes nothing.
+use Prim.Native.Nat.{_-_, _≤_}
+use mathlib.Core.Path.{_≡_}
+use Rattle.search_join.specs.Tables.{AllPairs, Closed}
+use Rattle.search_join.specs.Closing.{closed-none, closed-next}
+use native.Mathlib.Omega.{arith}
+use borrow.Author.Needs.{needs}
+use Rattle.search_join.proofs.close_lanes.Statement.{statement}
+use Rattle.search_join.proofs.close_lanes.Tie as tie
+
+abbrev Inv-loop : tie.InvT-loop
+Inv-loop store₀ i ends low high s₀ store s = (s ≤ ends) × Closed i low high (AllPairs s ends) store₀ store
+
+abbrev μ-loop : tie.MeasureT-loop
+μ-loop store₀ i ends low high s₀ store s = ends - s
+
+loop-holds : tie.Need-loop-holds Inv-loop μ-loop
+loop-holds c = (omega arith, closed-none _ _ _ (c .before .pre .0) (λ q₀ q₁ h. omega arith))
+
+close-pair-requires : tie.Need-close-pair-requires Inv-loop μ-loop
+close-pair-requires c κs =
+    let k = c .before .before .before .before in
+    let w = c .before .before .loop .inv .1 in
+    (w .fits, omega (arith, k .pre .1, w .long), omega arith, omega arith, omega arith, omega arith, omega arith)
+
+add-s : tie.Need-add-s Inv-loop μ-loop
+add-s c = search needs
+
+loop-less : tie.Need-loop-less Inv-loop μ-loop
+loop-less c = search needs
+
+loop-again : tie.Need-loop-again Inv-loop μ-loop
+loop-again c =
+    let k = c .before .before .before .before .before .before .before in
+    let a = k .args in
+    let l = c .before .before .before .before .before .loop in
+    (omega arith, closed-next (a .i) (a .low) (a .high) (l .s) (a .ends) (omega arith) (omega arith) (omega arith) (omega arith) (l .inv .1) (c .before .before .close-pair .ensures))
+
+same-length : tie.Need-same-length Inv-loop μ-loop
+same-length c = c .before .loop .inv .1 .long
+
+returns : tie.Need-returns Inv-loop μ-loop
+returns c =
+    let e : c .before .loop .s ≡ c .before .before .before .args .ends = omega arith in
+    rw e at (c .before .loop .inv .1)
+
+pub close-lanes-spec : {M : Type 1} → statement M
+close-lanes-spec =
+    tie.close
+    (tie.spec
+    Inv-loop
+    μ-loop
+    loop-holds
+    close-pair-requires
+    add-s
+    loop-less
+    loop-again
+    same-length
+    returns)

@@ -1,0 +1,58 @@
+-- The least over the pairs of row 1 and the lanes is at most every way, and where it is below B a way of it is found. Assumes nothing.
+use Rattle.theory_row.specs.Lists.{from}
+use Rattle.theory_pair.specs.Coded.{lowest-low}
+use Rattle.theory_tables.specs.Steps.{B}
+use Rattle.search_join.specs.Tables.{MetAt}
+use Rattle.search_join.specs.Sums.{endSum}
+use Rattle.search_join.specs.Laws.{least-met, next-is}
+use Rattle.search_join.specs.SumLaws.{case-dead, case-below}
+use native.Mathlib.Omega.{arith}
+use borrow.Author.Tests.{not-true}
+use borrow.Author.Needs.{needs}
+use Rattle.search_join.proofs.join_case.Statement.{statement}
+use Rattle.search_join.proofs.join_case.Tie as tie
+
+returns : tie.Need-returns
+returns c =
+    let k = c .before .before in
+    let a = k .args in
+    case-dead (a .starts) (a .lanes) (a .i) (a .store .now) (a .q0) (a .q1) (a .a) (k .pre .1 .all) (k .pre .1 .dead (not-true _ (c .if1 .taken)))
+
+best-end-requires : tie.Need-best-end-requires
+best-end-requires c κs = search needs
+
+returns-2 : tie.Need-returns-2
+returns-2 c =
+    let k = c .before .before .before .before in
+    let a = k .args in
+    let best = c .before .best-end .ensures in
+    next-is (a .starts) (a .lanes) _ _ _ (a .q0) (a .q1) (a .a) _ (omega arith)
+    (case-below (a .starts) (a .lanes) (a .i) (a .store .now) (a .q0) (a .q1) (a .a) (k .pre .1 .all) _ (best .right))
+    (λ h. absurd (omega arith))
+    (omega arith)
+
+cast-t : tie.Need-cast-t
+cast-t c = search needs
+
+source-of-requires : tie.Need-source-of-requires
+source-of-requires c κs =
+    let k = c .before .before .before .before .before in
+    let a = k .args in
+    let ends = endSum (a .lanes) (a .sums .now) (a .store .now) (a .q1) (a .a) in
+    let met = least-met {W = MetAt ends (a .starts)} (lowest-low B ends (from 0 (a .starts))) (c .before .before .best-end .ensures) (c .before .if2 .left) in
+    (k .pre .0, k .pre .1 .all, omega arith, omega arith, omega arith, met .0 .0, met .0 .1, met .1)
+
+returns-3 : tie.Need-returns-3
+returns-3 c =
+    let k = c .before .before .before .before .before .before in
+    let a = k .args in
+    let best = c .before .before .before .best-end .ensures in
+    let way = c .source-of .ensures in
+    next-is (a .starts) (a .lanes) _ _ _ (a .q0) (a .q1) (a .a) _ (omega (arith, best .right, lowest-low B (endSum (a .lanes) (a .sums .now) (a .store .now) (a .q1) (a .a)) (from 0 (a .starts))))
+    (case-below (a .starts) (a .lanes) (a .i) (a .store .now) (a .q0) (a .q1) (a .a) (k .pre .1 .all) _ (best .right))
+    (λ h. way .0)
+    (way .1)
+
+pub join-case-spec : {M : Type 1} → statement M
+join-case-spec =
+    tie.close (tie.spec returns best-end-requires returns-2 cast-t source-of-requires returns-3)

@@ -1,0 +1,135 @@
+-- Each turn lowers the sum of one lane more. Assumes nothing.
+use Prim.Native.Nat.{_+_, _*_, _-_, _≤_}
+use mathlib.Core.Path.{_≡_}
+use Rattle.search_join.specs.Sums.{Sums}
+use Rattle.search_join.specs.SumLaws.{start-words, sums-lane, sums-to}
+use native.Mathlib.Omega.{arith}
+use borrow.Author.Needs.{needs}
+use Rattle.search_join.proofs.lower_sums.Statement.{statement}
+use Rattle.search_join.proofs.lower_sums.Tie as tie
+
+abbrev Inv-loop : tie.InvT-loop
+Inv-loop sums₀ store i starts lanes s t q0 a at p0 to l₀ sums l =
+    (l ≤ lanes) × Sums starts lanes i store q0 a s (t * 64 + l) sums
+
+abbrev μ-loop : tie.MeasureT-loop
+μ-loop sums₀ store i starts lanes s t q0 a at p0 to l₀ sums l = lanes - l
+
+case-at-requires : tie.Need-case-at-requires Inv-loop μ-loop
+case-at-requires c κs = search needs
+
+price-at-requires : tie.Need-price-at-requires Inv-loop μ-loop
+price-at-requires c κs = search needs
+
+mul-to : tie.Need-mul-to Inv-loop μ-loop
+mul-to c = search needs
+
+loop-holds : tie.Need-loop-holds Inv-loop μ-loop
+loop-holds c =
+    let k = c .before .before .before in
+    let e : k .args .t * 64 + 0 ≡ k .args .t * 64 = omega arith in
+    (omega arith, rw e (k .pre .1))
+
+add-lesser : tie.Need-add-lesser Inv-loop μ-loop
+add-lesser c = search needs
+
+mul-lesser : tie.Need-mul-lesser Inv-loop μ-loop
+mul-lesser c = search needs
+
+element-copy-out-lesser : tie.Need-element-copy-out-lesser Inv-loop μ-loop
+element-copy-out-lesser c = search needs
+
+add-lesser-2 : tie.Need-add-lesser-2 Inv-loop μ-loop
+add-lesser-2 c = search needs
+
+mul-lesser-2 : tie.Need-mul-lesser-2 Inv-loop μ-loop
+mul-lesser-2 c = search needs
+
+shared-slice-read-lesser : tie.Need-shared-slice-read-lesser Inv-loop μ-loop
+shared-slice-read-lesser c = search needs
+
+add-lesser-3 : tie.Need-add-lesser-3 Inv-loop μ-loop
+add-lesser-3 c = search needs
+
+mul-lesser-3 : tie.Need-mul-lesser-3 Inv-loop μ-loop
+mul-lesser-3 c = search needs
+
+shared-slice-read-lesser-2 : tie.Need-shared-slice-read-lesser-2 Inv-loop μ-loop
+shared-slice-read-lesser-2 c = search needs
+
+add-lesser-4 : tie.Need-add-lesser-4 Inv-loop μ-loop
+add-lesser-4 c =
+    let k = c .before .before .before .before .before .before .before .before in
+    let l = c .before .before .before .before .loop .l in
+    let w = k .pre .0 .low .word in
+    omega (arith, w (c .before .before .before .before .before .before .case-at .result + l), w (c .before .before .before .before .before .price-at .result + l))
+
+lesser-requires : tie.Need-lesser-requires Inv-loop μ-loop
+lesser-requires c κs =
+    let k = c .before .before .before .before .before .before .before .before in
+    let l = c .before .before .before .before .loop in
+    let w = k .pre .0 .low .word in
+    (omega (arith, l .inv .1 .room .low .word (k .args .t * 64 + l .l)), omega (arith, w (c .before .before .before .before .before .before .case-at .result + l .l), w (c .before .before .before .before .before .price-at .result + l .l)))
+
+add-sums : tie.Need-add-sums Inv-loop μ-loop
+add-sums c = search needs
+
+mul-sums : tie.Need-mul-sums Inv-loop μ-loop
+mul-sums c = search needs
+
+element-write-sums : tie.Need-element-write-sums Inv-loop μ-loop
+element-write-sums c = search needs
+
+add-l : tie.Need-add-l Inv-loop μ-loop
+add-l c = search needs
+
+loop-less : tie.Need-loop-less Inv-loop μ-loop
+loop-less c = search needs
+
+loop-again : tie.Need-loop-again Inv-loop μ-loop
+loop-again c =
+    let k = c .before .before .before .before .before .before .before .before .before in
+    let a = k .args in
+    let l = c .before .before .before .before .before .loop in
+    let e = start-words (a .i) (a .store .now) (a .q0) (a .a) (a .s) (a .t) (l .l) _ _ (c .before .before .before .before .before .before .before .case-at .ensures) (c .before .before .before .before .before .before .price-at .ensures) in (
+      omega arith,
+      sums-lane (a .starts) (a .lanes) (a .i) (a .store .now) (a .q0) (a .a) (a .s) (a .t) (l .l) (c .lesser .result) (l .inv .1)
+          (k .pre .0 .pairs) (k .pre .0 .few) (omega arith) (omega arith) (omega (arith, c .lesser .ensures)),
+    )
+
+returns : tie.Need-returns Inv-loop μ-loop
+returns c =
+    let k = c .before .before .before .before .before in
+    let a = k .args in
+    let few = k .pre .0 .few in
+    let e : c .before .loop .l ≡ a .lanes = omega arith in
+    sums-to (a .starts) (a .lanes) (a .i) (a .store .now) (a .q0) (a .a) _ (c .before .loop .inv .1) (omega arith) (λ t l h g z. omega arith)
+
+pub lower-sums-spec : {M : Type 1} → statement M
+lower-sums-spec =
+    tie.close
+    (tie.spec
+    Inv-loop
+    μ-loop
+    case-at-requires
+    price-at-requires
+    mul-to
+    loop-holds
+    add-lesser
+    mul-lesser
+    element-copy-out-lesser
+    add-lesser-2
+    mul-lesser-2
+    shared-slice-read-lesser
+    add-lesser-3
+    mul-lesser-3
+    shared-slice-read-lesser-2
+    add-lesser-4
+    lesser-requires
+    add-sums
+    mul-sums
+    element-write-sums
+    add-l
+    loop-less
+    loop-again
+    returns)

@@ -1,0 +1,68 @@
+-- Two words are set: the case and its source. Assumes nothing.
+use Prim.Native.Nat.{_+_}
+use lib.ListN.{length-set}
+use Rattle.search_join.specs.Parts.{part-put}
+use native.Mathlib.Omega.{arith}
+use borrow.Author.Needs.{needs}
+use Rattle.search_join.proofs.put_case.Statement.{statement}
+use Rattle.search_join.proofs.put_case.Tie as tie
+
+join-case-requires : tie.Need-join-case-requires
+join-case-requires c κs = search needs
+
+add-case-at : tie.Need-add-case-at
+add-case-at c = search needs
+
+case-at-requires : tie.Need-case-at-requires
+case-at-requires c κs = search needs
+
+add-store : tie.Need-add-store
+add-store c = search needs
+
+mul-store : tie.Need-mul-store
+mul-store c = search needs
+
+slice-write-store : tie.Need-slice-write-store
+slice-write-store c = search needs
+
+add-source-at : tie.Need-add-source-at
+add-source-at c = search needs
+
+source-at-requires : tie.Need-source-at-requires
+source-at-requires c κs = search needs
+
+add-store-2 : tie.Need-add-store-2
+add-store-2 c = search needs
+
+mul-store-2 : tie.Need-mul-store-2
+mul-store-2 c = search needs
+
+slice-write-store-2 : tie.Need-slice-write-store-2
+slice-write-store-2 c = simp length-set (omega arith)
+
+same-length : tie.Need-same-length
+same-length c = search needs
+
+returns : tie.Need-returns
+returns c =
+    let k = c .before .before .before .before .before in
+    let a = k .args in
+    part-put (a .starts) (a .lanes) (a .i) (a .q0) (a .q1) (a .a) (c .before .case-at .result + a .a) (c .source-at .result + a .a) _ _ (a .store .now) (k .pre .0) (k .pre .2) (omega arith) (omega arith) (omega arith) (omega arith) (omega arith) (c .before .before .join-case .ensures)
+
+pub put-case-spec : {M : Type 1} → statement M
+put-case-spec =
+    tie.close
+    (tie.spec
+    join-case-requires
+    add-case-at
+    case-at-requires
+    add-store
+    mul-store
+    slice-write-store
+    add-source-at
+    source-at-requires
+    add-store-2
+    mul-store-2
+    slice-write-store-2
+    same-length
+    returns)

@@ -1,0 +1,76 @@
+-- A start pair whose lanes are all NONE has no way; another one lowers the sums of one pair t after the other. Assumes nothing.
+use Prim.Native.Nat.{ℕ, _+_, _*_, _-_, _≤_}
+use mathlib.Core.Path.{_≡_, refl}
+use Rattle.search_join.specs.Sums.{Sums}
+use Rattle.search_join.specs.SumLaws.{start-none, sums-next, sums-skip}
+use native.Mathlib.Omega.{arith}
+use borrow.Author.Needs.{needs}
+use Rattle.search_join.proofs.sums_from.Statement.{statement}
+use Rattle.search_join.proofs.sums_from.Tie as tie
+
+abbrev Inv-loop : tie.InvT-loop
+Inv-loop sums₀ store i starts lanes s q0 a t₀ sums t =
+    (t ≤ starts) × Sums starts lanes i store q0 a s (t * 64) sums
+
+abbrev μ-loop : tie.MeasureT-loop
+μ-loop sums₀ store i starts lanes s q0 a t₀ sums t = starts - t
+
+price-at-requires : tie.Need-price-at-requires Inv-loop μ-loop
+price-at-requires c κs = let w = c .before .pre .0 .pairs in (omega arith, omega arith, omega arith, omega arith)
+
+common-requires : tie.Need-common-requires Inv-loop μ-loop
+common-requires c κs = let w = c .before .before .pre .0 in omega (arith, w .long, w .pairs, w .few, c .price-at .ensures)
+
+returns : tie.Need-returns Inv-loop μ-loop
+returns c =
+    let k = c .before .before .before .before in
+    let a = k .args in (
+      sums-skip (a .starts) (a .lanes) (a .i) (a .store .now) (a .q0) (a .a) (a .s) (k .pre .1)
+          (λ t l g. start-none (a .i) (a .store .now) (a .q0) (a .a) (a .s) t l _ (c .before .before .price-at .ensures) (omega (arith, c .before .common .ensures l g))),
+      λ e. refl,
+    )
+
+loop-holds : tie.Need-loop-holds Inv-loop μ-loop
+loop-holds c = (omega arith, c .before .before .before .before .pre .1)
+
+lower-sums-requires : tie.Need-lower-sums-requires Inv-loop μ-loop
+lower-sums-requires c κs =
+    let k = c .before .before .before .before .before .before .before in
+    (k .pre .0, c .before .before .loop .inv .1, omega arith, omega arith, omega arith, omega arith)
+
+add-t : tie.Need-add-t Inv-loop μ-loop
+add-t c = search needs
+
+loop-less : tie.Need-loop-less Inv-loop μ-loop
+loop-less c = search needs
+
+loop-again : tie.Need-loop-again Inv-loop μ-loop
+loop-again c =
+    let t = c .before .before .before .loop .t in
+    let e : (t + 1) * 64 ≡ t * 64 + 64 = omega arith in
+    (omega arith, rw e (c .lower-sums .ensures))
+
+returns-2 : tie.Need-returns-2 Inv-loop μ-loop
+returns-2 c =
+    let k = c .before .before .before .before .before .before in
+    let a = k .args in
+    let few = k .pre .0 .few in (
+      sums-next (a .starts) (a .lanes) (a .i) (a .store .now) (a .q0) (a .a) (a .s) _ (c .before .loop .inv .1) (λ t l h g. omega arith),
+      λ e. absurd (let z : _≡_ {A = ℕ} 0 1 = cc in omega arith),
+    )
+
+pub sums-from-spec : {M : Type 1} → statement M
+sums-from-spec =
+    tie.close
+    (tie.spec
+    Inv-loop
+    μ-loop
+    price-at-requires
+    common-requires
+    returns
+    loop-holds
+    lower-sums-requires
+    add-t
+    loop-less
+    loop-again
+    returns-2)

@@ -1,0 +1,381 @@
+// A stage joined: the prices of both rows on top of one case table make the next, with the source of each case.
+ghost use mathlib.Core.Path.{_≡_};
+ghost use mathlib.Core.Bool.{false};
+ghost use Prim.Native.Nat.{_+_, _*_, _≤_, _<_};
+ghost use lib.ListN.{length};
+ghost use Rattle.theory_row.specs.Lists.{from};
+ghost use Rattle.theory_pair.specs.Coded.{lowest};
+ghost use Rattle.search_lanes.specs.Store.{Low};
+ghost use Rattle.theory_tables.specs.Steps.{B};
+ghost use Rattle.search_join.specs.Places.{caseAt, sourceAt, pricesAt, Pages};
+ghost use Rattle.search_join.specs.Tables.{Table, Better, Least, MetAt, SumAt, WayIn, nextIn, OneCase, PoseCases, BlockCases, Part, Joined, PairWith, AllPairs, Closed};
+ghost use Rattle.search_join.specs.Sums.{startSum, laneSum, endSum, Room, Sums, Summed};
+
+// The least of some costs, and a code of where it is.
+pub struct Best {
+    pub value: u32,
+    pub code: u32,
+}
+
+// Where the row of case (q0, q1) of table i begins.
+pub fn case_at(i: usize, q0: usize, q1: usize) -> usize
+    requires { ⌜ (i ≤ 25) × (q0 ≤ 12) × (q1 ≤ 12) ⌝ }
+    ensures { λ r. ⌜ r ≡ caseAt i q0 q1 ⌝ }
+{
+    247296 + q0 * 138240 + q1 * 1664 + i * 64
+}
+
+// Where the row of its sources begins.
+pub fn source_at(i: usize, q0: usize, q1: usize) -> usize
+    requires { ⌜ (i ≤ 25) × (q0 ≤ 12) × (q1 ≤ 12) ⌝ }
+    ensures { λ r. ⌜ r ≡ sourceAt i q0 q1 ⌝ }
+{
+    case_at(i, q0, q1) + 19968
+}
+
+// Where the prices of start pair s to pair q in pose a begin, in a row.
+pub fn price_at(row: usize, s: usize, q: usize, a: usize) -> usize
+    requires { ⌜ (row ≤ 1) × (s ≤ 12) × (q ≤ 12) × (a ≤ 64) ⌝ }
+    ensures { λ r. ⌜ r ≡ pricesAt row s + q * 4096 + a * 64 ⌝ }
+{
+    148992 + s * 138240 + row * 49152 + q * 4096 + a * 64
+}
+
+// The lower of two, the first if they are equal.
+fn better(x: Best, value: u32, code: u32) -> Best
+    ensures { λ b. ⌜ Better (x .value) (x .code) value code (b .value) (b .code) ⌝ }
+{
+    let old = x.value;
+    if value < old {
+        return Best { value, code };
+    }
+    x
+}
+
+// ---- the sums of a pair of row 0 in a pose: the least over its start pairs, for each pair of row 1 and each lane
+
+// The sums of pair t lowered to the ways from start pair s.
+fn lower_sums(
+    sums: &mut [u32; 768],
+    store: &[u32],
+    i: usize,
+    starts: usize,
+    lanes: usize,
+    s: usize,
+    t: usize,
+    q0: usize,
+    a: usize,
+)
+    requires { ⌜ Table starts lanes i (now store) × Sums starts lanes i (now store) q0 a s (t * 64) (now sums) × (s < starts) × (t < starts) × (q0 < 12) × (a < 60) ⌝ }
+    ensures { λ _. ⌜ Sums starts lanes i (now (store .entry)) q0 a s (t * 64 + 64) (now (sums .exit)) ⌝ }
+{
+    let at = case_at(i, s, t);
+    let p0 = price_at(0, s, q0, a);
+    let to = t * 64;
+    let mut l: usize = 0;
+    while l < lanes {
+        sums[to + l] = search_lanes::lesser(sums[to + l], store[at + l] + store[p0 + l]);
+        l += 1;
+    }
+}
+
+// All sums lowered to the ways from start pair s: whether it has any.
+fn sums_from(
+    sums: &mut [u32; 768],
+    store: &[u32],
+    i: usize,
+    starts: usize,
+    lanes: usize,
+    s: usize,
+    q0: usize,
+    a: usize,
+) -> bool
+    requires { ⌜ Table starts lanes i (now store) × Sums starts lanes i (now store) q0 a s 0 (now sums) × (s < starts) × (q0 < 12) × (a < 60) ⌝ }
+    ensures { λ live. ⌜ Sums starts lanes i (now (store .entry)) q0 a (s + 1) 0 (now (sums .exit)) × (live ≡ false → now (sums .exit) ≡ now (sums .entry)) ⌝ }
+{
+    if search_lanes::common(store, price_at(0, s, q0, a), lanes) >= search_lanes::NONE {
+        return false;
+    }
+    let mut t: usize = 0;
+    while t < starts {
+        lower_sums(sums, store, i, starts, lanes, s, t, q0, a);
+        t += 1;
+    }
+    true
+}
+
+// The sums over every start pair: whether one has any way.
+fn fill_sums(
+    sums: &mut [u32; 768],
+    store: &[u32],
+    i: usize,
+    starts: usize,
+    lanes: usize,
+    q0: usize,
+    a: usize,
+) -> bool
+    requires { ⌜ Table starts lanes i (now store) × Room (now sums) × (q0 < 12) × (a < 60) ⌝ }
+    ensures { λ live. ⌜ Summed starts lanes i (now (store .entry)) q0 a (now (sums .exit)) live ⌝ }
+{
+    search_lanes::fill(sums, 0, starts * 64, search_lanes::NONE);
+    let mut live = false;
+    let mut s: usize = 0;
+    while s < starts {
+        if sums_from(sums, store, i, starts, lanes, s, q0, a) {
+            live = true;
+        }
+        s += 1;
+    }
+    live
+}
+
+// ---- a case: the least over the sums with row 1's prices
+
+// The least over the lanes.
+fn least_lane(sums: &[u32; 768], at: usize, store: &[u32], p1: usize, lanes: usize) -> u32
+    requires { ⌜ Room (now sums) × Low (now store) × (at + lanes ≤ 768) × (p1 + lanes ≤ length (now store)) ⌝ }
+    ensures { λ r. ⌜ r ≡ lowest B (laneSum (now (sums .entry)) at (now (store .entry)) p1) (from 0 lanes) ⌝ }
+{
+    let mut best = search_lanes::NONE;
+    let mut l: usize = 0;
+    while l < lanes {
+        best = search_lanes::lesser(best, sums[at + l] + store[p1 + l]);
+        l += 1;
+    }
+    best
+}
+
+// The first lane with that sum; 0 where there is none.
+fn lane_of(sums: &[u32; 768], at: usize, store: &[u32], p1: usize, lanes: usize, sum: u32) -> usize
+    requires { ⌜ Room (now sums) × Low (now store) × (at + lanes ≤ 768) × (p1 + lanes ≤ length (now store)) ⌝ }
+    ensures { λ r. ⌜ SumAt (laneSum (now (sums .entry)) at (now (store .entry)) p1) lanes sum r ⌝ }
+{
+    let mut l: usize = 0;
+    while l < lanes {
+        if sums[at + l] + store[p1 + l] == sum {
+            return l;
+        }
+        l += 1;
+    }
+    0
+}
+
+// The first start pair of row 0 with that sum to pair t in that lane; 0 where there is none.
+fn start_of(
+    store: &[u32],
+    i: usize,
+    starts: usize,
+    q0: usize,
+    a: usize,
+    t: usize,
+    lane: usize,
+    sum: u32,
+) -> usize
+    requires { ⌜ Table starts 64 i (now store) × (q0 < 12) × (a < 60) × (t < starts) × (lane < 64) ⌝ }
+    ensures { λ r. ⌜ SumAt (startSum i (now (store .entry)) q0 a t lane) starts sum r ⌝ }
+{
+    let mut s: usize = 0;
+    while s < starts {
+        if store[case_at(i, s, t) + lane] + store[price_at(0, s, q0, a) + lane] == sum {
+            return s;
+        }
+        s += 1;
+    }
+    0
+}
+
+// The least over the pairs of row 1, and the pair that has it.
+fn best_end(
+    sums: &[u32; 768],
+    store: &[u32],
+    starts: usize,
+    lanes: usize,
+    q1: usize,
+    a: usize,
+) -> Best
+    requires { ⌜ Table starts lanes 0 (now store) × Room (now sums) × (q1 < 12) × (a < 60) ⌝ }
+    ensures { λ b. ⌜ Least (lowest B (endSum lanes (now (sums .entry)) (now (store .entry)) q1 a) (from 0 starts)) (MetAt (endSum lanes (now (sums .entry)) (now (store .entry)) q1 a) starts) (b .value) (b .code) ⌝ }
+{
+    let mut best = Best {
+        value: search_lanes::NONE,
+        code: 0,
+    };
+    let mut t: usize = 0;
+    while t < starts {
+        let sum = least_lane(sums, t * 64, store, price_at(1, t, q1, a), lanes);
+        best = better(best, sum, t as u32);
+        t += 1;
+    }
+    best
+}
+
+// The code of a way of that value by pair t of row 1.
+fn source_of(
+    sums: &[u32; 768],
+    store: &[u32],
+    i: usize,
+    starts: usize,
+    lanes: usize,
+    q0: usize,
+    q1: usize,
+    a: usize,
+    t: usize,
+    value: u32,
+) -> u32
+    requires { ⌜ Table starts lanes i (now store) × Sums starts lanes i (now store) q0 a starts 0 (now sums) × (q0 < 12) × (q1 < 12) × (a < 60) × (t < starts) × (endSum lanes (now sums) (now store) q1 a t ≡ value) × (value < B) ⌝ }
+    ensures { λ code. ⌜ WayIn starts lanes i (now (store .entry)) q0 q1 a value code × (code < 9216) ⌝ }
+{
+    let lane = lane_of(sums, t * 64, store, price_at(1, t, q1, a), lanes, value);
+    let at = t * 64 + lane;
+    let s = start_of(store, i, starts, q0, a, t, lane, sums[at]);
+    (s * 768 + at) as u32
+}
+
+// A case: the least over pairs and lanes, and the code of a way to it.
+fn join_case(
+    sums: &[u32; 768],
+    live: bool,
+    store: &[u32],
+    i: usize,
+    starts: usize,
+    lanes: usize,
+    q0: usize,
+    q1: usize,
+    a: usize,
+) -> Best
+    requires { ⌜ Table starts lanes i (now store) × Summed starts lanes i (now store) q0 a (now sums) live × (q0 < 12) × (q1 < 12) × (a < 60) ⌝ }
+    ensures { λ b. ⌜ Least (nextIn starts lanes i (now (store .entry)) q0 q1 a) (WayIn starts lanes i (now (store .entry)) q0 q1 a) (b .value) (b .code) ⌝ }
+{
+    if !live {
+        return Best {
+            value: search_lanes::NONE,
+            code: 0,
+        };
+    }
+    let best = best_end(sums, store, starts, lanes, q1, a);
+    let value = best.value;
+    if value == search_lanes::NONE {
+        return Best { value, code: 0 };
+    }
+    let t = best.code as usize;
+    Best {
+        value,
+        code: source_of(sums, store, i, starts, lanes, q0, q1, a, t, value),
+    }
+}
+
+// ---- the cases of a stage
+
+// Case (q0, q1, a) of table i + 1, and its source.
+fn put_case(
+    store: &mut [u32],
+    sums: &[u32; 768],
+    live: bool,
+    i: usize,
+    starts: usize,
+    lanes: usize,
+    q0: usize,
+    q1: usize,
+    a: usize,
+)
+    requires { ⌜ Table starts lanes i (now store) × Summed starts lanes i (now store) q0 a (now sums) live × Pages (q0 + 1) (now store) × (q0 < 12) × (q1 < 12) × (a < 60) ⌝ }
+    ensures { λ _. ⌜ Part starts lanes i (OneCase q0 q1 a) (now (store .entry)) (now (store .exit)) ⌝ }
+{
+    let best = join_case(sums, live, store, i, starts, lanes, q0, q1, a);
+    store[case_at(i + 1, q0, q1) + a] = best.value;
+    store[source_at(i + 1, q0, q1) + a] = best.code;
+}
+
+// The cases of a pair of row 0 in a pose, for every pair of row 1.
+fn case_pose(
+    store: &mut [u32],
+    sums: &mut [u32; 768],
+    i: usize,
+    starts: usize,
+    lanes: usize,
+    q0: usize,
+    ends: usize,
+    a: usize,
+)
+    requires { ⌜ Table starts lanes i (now store) × Room (now sums) × Pages (q0 + 1) (now store) × (q0 < 12) × (ends ≤ 12) × (a < 60) ⌝ }
+    ensures { λ _. ⌜ Part starts lanes i (PoseCases q0 ends a) (now (store .entry)) (now (store .exit)) × Room (now (sums .exit)) ⌝ }
+{
+    let live = fill_sums(sums, store, i, starts, lanes, q0, a);
+    let mut q1: usize = 0;
+    while q1 < ends {
+        put_case(store, sums, live, i, starts, lanes, q0, q1, a);
+        q1 += 1;
+    }
+}
+
+// The cases of a pair of row 0, for every pair of row 1 and every pose.
+fn case_block(
+    store: &mut [u32],
+    sums: &mut [u32; 768],
+    i: usize,
+    starts: usize,
+    lanes: usize,
+    q0: usize,
+    ends: usize,
+    poses: usize,
+)
+    requires { ⌜ Table starts lanes i (now store) × Room (now sums) × Pages (q0 + 1) (now store) × (q0 < 12) × (ends ≤ 12) × (poses ≤ 60) ⌝ }
+    ensures { λ _. ⌜ Part starts lanes i (BlockCases q0 ends poses) (now (store .entry)) (now (store .exit)) × Room (now (sums .exit)) ⌝ }
+{
+    let mut a: usize = 0;
+    while a < poses {
+        case_pose(store, sums, i, starts, lanes, q0, ends, a);
+        a += 1;
+    }
+}
+
+// Case table i + 1 from case table i and the prices of a stage. There may be more lanes than poses, if no case of table i goes by the others.
+pub fn join_stage(
+    store: &mut [u32],
+    i: usize,
+    starts: usize,
+    lanes: usize,
+    ends: usize,
+    poses: usize,
+)
+    requires { ⌜ Table starts lanes i (now store) × Pages ends (now store) × (ends ≤ 12) × (poses ≤ 60) ⌝ }
+    ensures { λ _. ⌜ Joined starts lanes ends poses i (now (store .entry)) (now (store .exit)) ⌝ }
+{
+    let mut sums = [search_lanes::NONE; 768];
+    let mut q0: usize = 0;
+    while q0 < ends {
+        case_block(store, &mut sums, i, starts, lanes, q0, ends, poses);
+        q0 += 1;
+    }
+}
+
+// ---- lanes closed: no case goes by them
+
+// The lanes from `low` to `high` of table i closed for a pair of row 0 with every pair of row 1.
+fn close_pair(store: &mut [u32], i: usize, q0: usize, ends: usize, low: usize, high: usize)
+    requires { ⌜ Low (now store) × Pages (q0 + 1) (now store) × (i ≤ 25) × (q0 < 12) × (ends ≤ 12) × (low ≤ high) × (high ≤ 64) ⌝ }
+    ensures { λ _. ⌜ Closed i low high (PairWith q0 ends) (now (store .entry)) (now (store .exit)) ⌝ }
+{
+    let mut t: usize = 0;
+    while t < ends {
+        search_lanes::fill(
+            store,
+            case_at(i, q0, t) + low,
+            high - low,
+            search_lanes::NONE,
+        );
+        t += 1;
+    }
+}
+
+// The same for every pair of row 0.
+pub fn close_lanes(store: &mut [u32], i: usize, ends: usize, low: usize, high: usize)
+    requires { ⌜ Low (now store) × Pages ends (now store) × (i ≤ 25) × (ends ≤ 12) × (low ≤ high) × (high ≤ 64) ⌝ }
+    ensures { λ _. ⌜ Closed i low high (AllPairs ends ends) (now (store .entry)) (now (store .exit)) ⌝ }
+{
+    let mut s: usize = 0;
+    while s < ends {
+        close_pair(store, i, s, ends, low, high);
+        s += 1;
+    }
+}

@@ -1,0 +1,35 @@
+-- What a loop over the lanes of a row leaves.
+use Prim.Native.Nat.{ℕ, _+_, _*_, _≤_, _<_, min}
+use mathlib.Core.Path.{_≡_}
+use mathlib.Core.List.{List}
+use lib.ListN.{length, getD}
+use Rattle.theory_tables.specs.Steps.{B}
+
+-- the lanes below `lanes` are lowered to f's, the others as they were
+pub record Lowered (f : ℕ → ℕ) (lanes : ℕ) (old new : List ℕ) : Type 0 where
+  pub long : length new ≡ length old
+  pub done : (k : ℕ) → k < lanes → getD new k 0 ≡ min (getD old k 0) (f k)
+  pub rest : (k : ℕ) → lanes ≤ k → getD new k 0 ≡ getD old k 0
+
+-- a row's words, each with a charge
+abbrev pub charged : List ℕ → ℕ → ℕ → ℕ → ℕ
+charged row at charge l = getD row (at + l) 0 + charge
+
+-- a lane with the cell's own cost, capped
+abbrev pub withOwn : ℕ → List ℕ → ℕ → ℕ
+withOwn own acc l = min (own + getD acc l 0) B
+
+-- the same word everywhere
+abbrev pub always : ℕ → ℕ → ℕ
+always x k = x
+
+-- the words from a place on
+abbrev pub wordsFrom : List ℕ → ℕ → ℕ → ℕ
+wordsFrom st at k = getD st (at + k) 0
+
+-- the same by rows of 64 words
+abbrev pub alwaysRows : ℕ → ℕ → ℕ → ℕ
+alwaysRows x a l = x
+
+abbrev pub rowsFrom : List ℕ → ℕ → ℕ → ℕ → ℕ
+rowsFrom st at a l = getD st (at + a * 64 + l) 0

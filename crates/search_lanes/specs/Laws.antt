@@ -1,0 +1,215 @@
+-- Laws of stores and of lanes: what one write keeps, what a loop that writes one word after the other has written. Assumes nothing.
+use Prim.Native.Nat.{ℕ, _+_, _*_, _≤_, _<_, min}
+use mathlib.Core.Path.{_≡_, refl, sym, ap, _∙_}
+use mathlib.Core.List.{List}
+use native.Mathlib.Omega.{arith}
+use native.Mathlib.Decide.{ℕ-discrete, decLt}
+use borrow.Author.Count.{below-more}
+use lib.ListN.{length, getD, set, length-set, replicate, length-replicate, getD-replicate, List·getD-eq-default}
+use lib.Seq.{getD-set-same, getD-set-other}
+use Rattle.theory_tables.specs.Steps.{B, Layer}
+use Rattle.search_lanes.specs.Lanes.{Lowered, always}
+use Rattle.search_lanes.specs.Store.{Frame, Low, Written, WrittenRows, layerIn, FilledPair, Filled}
+
+-- ---- lanes
+
+pub lowered-none : (f : ℕ → ℕ) (l : List ℕ) → Lowered f 0 l l
+lowered-none f l = record { long = refl; done = λ k h. absurd (omega arith); rest = λ k h. refl }
+
+-- one lane more
+pub lowered-more :
+    {f : ℕ → ℕ} {old new : List ℕ} (l v : ℕ)
+    → Lowered f l old new → l < length old → v ≡ min (getD old l 0) (f l)
+    → Lowered f (l + 1) old (set new l v)
+lowered-more {f} {old} {new} l v w h e =
+    let n = w .long in
+    record {
+      long = length-set new l v ∙ w .long;
+      done = below-more (λ (k : ℕ). getD (set new l v) k 0 ≡ min (getD old k 0) (f k)) l
+          (λ k g. getD-set-other new l k v 0 (omega arith) ∙ w .done k g)
+          (getD-set-same new l v 0 (omega arith) ∙ e);
+      rest = λ k g. getD-set-other new l k v 0 (omega arith) ∙ w .rest k (omega arith);
+    }
+
+-- all lanes are at most B already
+pub lowered-to : {f : ℕ → ℕ} (n : ℕ) {acc : List ℕ} → Low acc → ((k : ℕ) → k < n → B ≤ f k) → Lowered f n acc acc
+lowered-to n w h = record { long = refl; done = λ k p. omega (arith, w .word k, h k p); rest = λ k p. refl }
+
+-- lowered to the same, by another name
+pub lowered-ext : {f g : ℕ → ℕ} {n : ℕ} {old new : List ℕ} → Lowered f n old new → ((k : ℕ) → k < n → g k ≡ f k) → Lowered g n old new
+lowered-ext w e = record { long = w .long; done = λ k p. omega (arith, w .done k p, e k p); rest = w .rest }
+
+-- lowered twice
+pub lowered-join :
+    {f g h : ℕ → ℕ} {n : ℕ} {old mid new : List ℕ}
+    → Lowered f n old mid → Lowered g n mid new → ((k : ℕ) → k < n → h k ≡ min (f k) (g k))
+    → Lowered h n old new
+lowered-join v w e =
+    record {
+      long = w .long ∙ v .long;
+      done = λ k p. omega (arith, w .done k p, v .done k p, e k p);
+      rest = λ k p. w .rest k p ∙ v .rest k p;
+    }
+
+-- what is lowered stays at most B
+pub lowered-low : {f : ℕ → ℕ} {n : ℕ} {old new : List ℕ} → Lowered f n old new → Low old → Low new
+lowered-low {n = n} {new = new} v w = record { word = λ k. go k (decLt k n) }
+  where
+    go : (k : ℕ) → Dec (k < n) → getD new k 0 ≤ B
+    go k (yes p) = omega (arith, v .done k p, w .word k)
+    go k (no p) = omega (arith, v .rest k (omega arith), w .word k)
+
+-- ---- frames
+
+pub frame-refl : (a b : ℕ) (l : List ℕ) → Frame a b l l
+frame-refl a b l = record { long = refl; low = λ k h. refl; high = λ k h. refl }
+
+-- one word more is set
+pub frame-set : {a b : ℕ} {old new : List ℕ} (d k v : ℕ) → Frame a b old new → a ≤ k → k < d → b ≤ d → Frame a d old (set new k v)
+frame-set {new = new} d k v f p q r =
+    record {
+      long = length-set new k v ∙ f .long;
+      low = λ j h. getD-set-other new k j v 0 (omega arith) ∙ f .low j h;
+      high = λ j h. getD-set-other new k j v 0 (omega arith) ∙ f .high j (omega arith);
+    }
+
+-- one part after the other
+pub frame-join :
+    {a b c d : ℕ} {x y z : List ℕ} (l h : ℕ)
+    → Frame a b x y → Frame c d y z → l ≤ a → l ≤ c → b ≤ h → d ≤ h
+    → Frame l h x z
+frame-join l h f g p q r s =
+    record {
+      long = g .long ∙ f .long;
+      low = λ j w. g .low j (omega arith) ∙ f .low j (omega arith);
+      high = λ j w. g .high j (omega arith) ∙ f .high j (omega arith);
+    }
+
+-- ---- words that are at most B
+
+pub low-set : {st : List ℕ} (k v : ℕ) → Low st → k < length st → v ≤ B → Low (set st k v)
+low-set {st} k v w h b = record { word = λ j. go j (ℕ-discrete j k) }
+  where
+    go : (j : ℕ) → Dec (j ≡ k) → getD (set st k v) j 0 ≤ B
+    go j (yes e) = rw e (omega (arith, getD-set-same st k v 0 h))
+    go j (no d) = omega (arith, getD-set-other st k j v 0 d, w .word j)
+
+-- ---- words written one after the other
+
+pub written-none : (f : ℕ → ℕ) (at : ℕ) {st : List ℕ} → Low st → Written f at 0 st st
+written-none f at {st} w = record { frame = frame-refl at (at + 0) st; words = λ k h. absurd (omega arith); low = w }
+
+pub written-more :
+    {f : ℕ → ℕ} {at : ℕ} {old new : List ℕ} (l v : ℕ)
+    → Written f at l old new → at + l < length old → v ≡ f l → v ≤ B
+    → Written f at (l + 1) old (set new (at + l) v)
+written-more {f} {at} {old} {new} l v w h e b =
+    let n = w .frame .long in
+    record {
+      frame = frame-set (at + (l + 1)) (at + l) v (w .frame) (omega arith) (omega arith) (omega arith);
+      words = below-more (λ (k : ℕ). getD (set new (at + l) v) (at + k) 0 ≡ f k) l
+          (λ k g. getD-set-other new (at + l) (at + k) v 0 (omega arith) ∙ w .words k g)
+          (getD-set-same new (at + l) v 0 (omega arith) ∙ e);
+      low = low-set (at + l) v (w .low) (omega arith) b;
+    }
+
+-- one word
+pub written-one : (f : ℕ → ℕ) (at v : ℕ) {st : List ℕ} → Low st → at < length st → v ≡ f 0 → v ≤ B → Written f at 1 st (set st at v)
+written-one f at v w h e b =
+    let z : at + 0 ≡ at = omega arith in
+    rw z at (written-more 0 v (written-none f at w) (omega arith) e b)
+
+-- the same by another name
+pub written-ext : {f g : ℕ → ℕ} {at n : ℕ} {old new : List ℕ} → Written f at n old new → ((k : ℕ) → k < n → g k ≡ f k) → Written g at n old new
+written-ext w e = record { frame = w .frame; words = λ k p. w .words k p ∙ sym (e k p); low = w .low }
+
+-- ---- rows written one after the other
+
+pub rows-none : (f : ℕ → ℕ → ℕ) (at lanes : ℕ) {st : List ℕ} → Low st → WrittenRows f at 0 lanes st st
+rows-none f at lanes {st} w = record { frame = frame-refl at (at + 0 * 64) st; words = λ a l h. absurd (omega arith); low = w }
+
+pub rows-more :
+    {f : ℕ → ℕ → ℕ} {g : ℕ → ℕ} {at lanes : ℕ} {old mid new : List ℕ} (a : ℕ)
+    → lanes ≤ 64 → WrittenRows f at a lanes old mid → Written g (at + a * 64) lanes mid new → ((l : ℕ) → l < lanes → f a l ≡ g l)
+    → WrittenRows f at (a + 1) lanes old new
+rows-more {f} {g} {at} {lanes} {new = new} a n s w e =
+    record {
+      frame = frame-join at (at + (a + 1) * 64) (s .frame) (w .frame) (omega arith) (omega arith) (omega arith) (omega arith);
+      words = λ b l p r. below-more (λ (b : ℕ). (l : ℕ) → l < lanes → getD new (at + b * 64 + l) 0 ≡ f b l) a
+          (λ b p l r. w .frame .low (at + b * 64 + l) (omega arith) ∙ s .words b l p r)
+          (λ l r. w .words l r ∙ sym (e l r))
+          b p l r;
+      low = w .low;
+    }
+
+-- ---- layers: one row more of a pair's block, and one block more
+
+pub pair-none : (F : ℕ → Layer) (lanes to q : ℕ) {st : List ℕ} → Low st → FilledPair F lanes to q 0 st st
+pair-none F lanes to q {st} w = record { frame = frame-refl _ _ st; low = w; right = λ a h. absurd (omega arith) }
+
+pub pair-more :
+    {F : ℕ → Layer} {g : ℕ → ℕ} {lanes to q : ℕ} {old mid new : List ℕ} (a : ℕ)
+    → lanes ≤ 64 → a < 64 → FilledPair F lanes to q a old mid → Written g (to + q * 4096 + a * 64) lanes mid new → ((l : ℕ) → l < lanes → F l q a ≡ g l)
+    → FilledPair F lanes to q (a + 1) old new
+pair-more {F} {g} {lanes} {to} {q} {new = new} a n k s w e =
+    record {
+      frame = frame-join (to + q * 4096) (to + q * 4096 + 4096) (s .frame) (w .frame) (omega arith) (omega arith) (omega arith) (omega arith);
+      low = w .low;
+      right = below-more (λ (a : ℕ). (l : ℕ) → l < lanes → layerIn new to l q a ≡ F l q a) a
+          (λ b p l r. w .frame .low (to + q * 4096 + b * 64 + l) (omega arith) ∙ s .right b p l r)
+          (λ l r. w .words l r ∙ sym (e l r));
+    }
+
+-- the same by another name
+pub pair-ext :
+    {F G : ℕ → Layer} {lanes to q m : ℕ} {old new : List ℕ}
+    → FilledPair G lanes to q m old new → ((a l : ℕ) → a < m → l < lanes → F l q a ≡ G l q a)
+    → FilledPair F lanes to q m old new
+pair-ext w e = record { frame = w .frame; low = w .low; right = λ a p l r. w .right a p l r ∙ sym (e a l p r) }
+
+-- so many rows of a pair's block
+pub pair-rows :
+    {F : ℕ → Layer} {f : ℕ → ℕ → ℕ} {lanes to q m : ℕ} {old new : List ℕ}
+    → m ≤ 64 → WrittenRows f (to + q * 4096) m lanes old new → ((a l : ℕ) → a < m → l < lanes → F l q a ≡ f a l)
+    → FilledPair F lanes to q m old new
+pair-rows {to = to} {q = q} {old = old} {new = new} k w e =
+    record {
+      frame = frame-join (to + q * 4096) (to + q * 4096 + 4096) (frame-refl (to + q * 4096) (to + q * 4096) old) (w .frame) (omega arith) (omega arith) (omega arith) (omega arith);
+      low = w .low;
+      right = λ a p l r. w .words a l p r ∙ sym (e a l p r);
+    }
+
+pub filled-none : (F : ℕ → Layer) (lanes poses to : ℕ) {st : List ℕ} → Low st → Filled F lanes poses to 0 st st
+filled-none F lanes poses to {st} w = record { frame = frame-refl _ _ st; low = w; right = λ q h. absurd (omega arith) }
+
+pub filled-more :
+    {F G : ℕ → Layer} {lanes poses to : ℕ} {old mid new : List ℕ} (q : ℕ)
+    → lanes ≤ 64 → poses ≤ 64 → q < 12 → Filled F lanes poses to q old mid → FilledPair G lanes to q poses mid new
+    → ((a l : ℕ) → a < poses → l < lanes → F l q a ≡ G l q a)
+    → Filled F lanes poses to (q + 1) old new
+filled-more {F} {G} {lanes} {poses} {to} {new = new} q n k h s w e =
+    record {
+      frame = frame-join to (to + 49152) (s .frame) (w .frame) (omega arith) (omega arith) (omega arith) (omega arith);
+      low = w .low;
+      right = below-more (λ (q : ℕ). (a l : ℕ) → a < poses → l < lanes → layerIn new to l q a ≡ F l q a) q
+          (λ p j a l x y. w .frame .low (to + p * 4096 + a * 64 + l) (omega arith) ∙ s .right p j a l x y)
+          (λ a l x y. w .right a x l y ∙ sym (e a l x y));
+    }
+
+-- ---- the same word alone
+
+pub same-low : (n x : ℕ) → x ≤ B → Low (replicate n x)
+same-low n x b = record { word = λ k. go k (decLt k n) }
+  where
+    go : (k : ℕ) → Dec (k < n) → getD (replicate n x) k 0 ≤ B
+    go k (yes h) = omega (arith, getD-replicate n k x 0 h)
+    go k (no h) = omega (arith, List·getD-eq-default (replicate n x) 0 {n = k} (omega (arith, length-replicate n x)))
+
+pub none-at : (l : ℕ) → l < 64 → getD (replicate 64 B) l 0 ≡ B
+none-at l h = getD-replicate 64 l B 0 h
+
+pub nones-low : (n : ℕ) → Low (replicate n B)
+nones-low n = same-low n B (omega arith)
+
+pub none-low : Low (replicate 64 B)
+none-low = nones-low 64

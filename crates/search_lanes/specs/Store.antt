@@ -1,0 +1,44 @@
+-- The lent store as a list of words: which words a call may change, and what is written.
+use Prim.Native.Nat.{ℕ, _+_, _*_, _≤_, _<_}
+use mathlib.Core.Path.{_≡_}
+use mathlib.Core.List.{List}
+use lib.ListN.{length, getD}
+use Rattle.theory_tables.specs.Steps.{B, Layer}
+
+-- the words from a to b may be other ones, and nothing else is
+pub record Frame (a b : ℕ) (old new : List ℕ) : Type 0 where
+  pub long : length new ≡ length old
+  pub low : (k : ℕ) → k < a → getD new k 0 ≡ getD old k 0
+  pub high : (k : ℕ) → b ≤ k → getD new k 0 ≡ getD old k 0
+
+-- no word is over B, so that sums of a few words fit
+pub record Low (st : List ℕ) : Type 0 where
+  pub word : (k : ℕ) → getD st k 0 ≤ B
+
+-- the words from `at` on, so many of them, are f's; nothing else changed
+pub record Written (f : ℕ → ℕ) (at count : ℕ) (old new : List ℕ) : Type 0 where
+  pub frame : Frame at (at + count) old new
+  pub words : (k : ℕ) → k < count → getD new (at + k) 0 ≡ f k
+  pub low : Low new
+
+-- the first lanes of the rows from `at` on, 64 words each and so many of them, are f's; nothing outside these rows changed
+pub record WrittenRows (f : ℕ → ℕ → ℕ) (at rows lanes : ℕ) (old new : List ℕ) : Type 0 where
+  pub frame : Frame at (at + rows * 64) old new
+  pub words : (a l : ℕ) → a < rows → l < lanes → getD new (at + a * 64 + l) 0 ≡ f a l
+  pub low : Low new
+
+-- lane l of a layer whose block begins at `at`: pair q has 64 rows of 64 words, a row for each pose, a word for each lane
+abbrev pub layerIn : List ℕ → ℕ → ℕ → Layer
+layerIn st at l q a = getD st (at + q * 4096 + a * 64 + l) 0
+
+-- lane by lane, the layers F are in the block at `to`: the rows below m of pair q
+pub record FilledPair (F : ℕ → Layer) (lanes to q m : ℕ) (old new : List ℕ) : Type 0 where
+  pub frame : Frame (to + q * 4096) (to + q * 4096 + 4096) old new
+  pub low : Low new
+  pub right : (a : ℕ) → a < m → (l : ℕ) → l < lanes → layerIn new to l q a ≡ F l q a
+
+-- the pairs below m, with so many poses
+pub record Filled (F : ℕ → Layer) (lanes poses to m : ℕ) (old new : List ℕ) : Type 0 where
+  pub frame : Frame to (to + 49152) old new
+  pub low : Low new
+  pub right : (q : ℕ) → q < m → (a l : ℕ) → a < poses → l < lanes → layerIn new to l q a ≡ F l q a

@@ -1,0 +1,121 @@
+// Loops over the lanes of a row: a row is 64 words, one for each start of a stretch, all at once.
+ghost use mathlib.Core.Path.{_≡_};
+ghost use Prim.Native.Nat.{ℕ, _+_, _*_, _≤_, _<_, min};
+ghost use lib.ListN.{length, getD, replicate};
+ghost use Rattle.theory_tables.specs.Steps.{B};
+ghost use Rattle.search_lanes.specs.Lanes.{Lowered, charged, withOwn, always, wordsFrom, alwaysRows, rowsFrom};
+ghost use Rattle.search_lanes.specs.Store.{Low, Written, WrittenRows};
+
+// There is no way: every cost is below.
+pub const NONE: u32 = 268435456;
+
+pub fn least(x: u32, y: u32) -> u32
+    ensures { λ r. ⌜ r ≡ min x y ⌝ }
+{
+    if x < y { x } else { y }
+}
+
+// The same for words below 2^31: compared as signed numbers, four lanes at a time take fewer steps.
+pub fn lesser(x: u32, y: u32) -> u32
+    requires { ⌜ (x ≤ 536870912) × (y ≤ 536870912) ⌝ }
+    ensures { λ r. ⌜ r ≡ min x y ⌝ }
+{
+    if (x as i32) < (y as i32) { x } else { y }
+}
+
+// NONE if all lanes of a row are NONE; in any case at most each of them.
+pub fn common(row: &[u32], at: usize, lanes: usize) -> u32
+    requires { ⌜ at + lanes ≤ length (now row) ⌝ }
+    ensures { λ x. ⌜ ((l : ℕ) → l < lanes → x ≤ getD (now (row .entry)) (at + l) 0) ⌝ }
+{
+    let mut x = NONE;
+    let mut l: usize = 0;
+    while l < lanes {
+        x = x & row[at + l];
+        l += 1;
+    }
+    x
+}
+
+// Each lane of `acc` lowered to the row's word plus a charge.
+pub fn relax(acc: &mut [u32; 64], row: &[u32], at: usize, charge: u32, lanes: usize)
+    requires { ⌜ (at + lanes ≤ length (now row)) × (lanes ≤ 64) × (length (now acc) ≡ 64) × (charge ≤ B) × Low (now row) ⌝ }
+    ensures { λ _. ⌜ Lowered (charged (now (row .entry)) at charge) lanes (now (acc .entry)) (now (acc .exit)) ⌝ }
+{
+    let mut l: usize = 0;
+    while l < lanes {
+        acc[l] = least(acc[l], row[at + l] + charge);
+        l += 1;
+    }
+}
+
+// A row from its lanes, each with the cell's own cost, capped.
+pub fn put(store: &mut [u32], at: usize, acc: &[u32; 64], own: u32, lanes: usize)
+    requires { ⌜ (at + lanes ≤ length (now store)) × (lanes ≤ 64) × (length (now acc) ≡ 64) × (own ≤ B) × Low (now store) × ((l : ℕ) → getD (now acc) l 0 ≤ B) ⌝ }
+    ensures { λ _. ⌜ Written (withOwn own (now (acc .entry))) at lanes (now (store .entry)) (now (store .exit)) ⌝ }
+{
+    let mut l: usize = 0;
+    while l < lanes {
+        store[at + l] = least(own + acc[l], NONE);
+        l += 1;
+    }
+}
+
+// The same word, so many times.
+pub fn fill(store: &mut [u32], at: usize, count: usize, x: u32)
+    requires { ⌜ (at + count ≤ length (now store)) × (x ≤ B) × Low (now store) ⌝ }
+    ensures { λ _. ⌜ Written (always x) at count (now (store .entry)) (now (store .exit)) ⌝ }
+{
+    let mut k: usize = 0;
+    while k < count {
+        store[at + k] = x;
+        k += 1;
+    }
+}
+
+// Words from one part of the store to another that does not overlap it.
+pub fn copy(store: &mut [u32], from: usize, at: usize, count: usize)
+    requires { ⌜ (at + count ≤ length (now store)) × (from + count ≤ at) × Low (now store) ⌝ }
+    ensures { λ _. ⌜ Written (wordsFrom (now (store .entry)) from) at count (now (store .entry)) (now (store .exit)) ⌝ }
+{
+    let mut k: usize = 0;
+    while k < count {
+        store[at + k] = store[from + k];
+        k += 1;
+    }
+}
+
+// The same word in the first lanes of so many rows of 64 words.
+pub fn fill_rows(store: &mut [u32], at: usize, rows: usize, lanes: usize, x: u32)
+    requires { ⌜ (at + rows * 64 ≤ length (now store)) × (lanes ≤ 64) × (x ≤ B) × Low (now store) ⌝ }
+    ensures { λ _. ⌜ WrittenRows (alwaysRows x) at rows lanes (now (store .entry)) (now (store .exit)) ⌝ }
+{
+    let mut a: usize = 0;
+    while a < rows {
+        fill(store, at + a * 64, lanes, x);
+        a += 1;
+    }
+}
+
+// The first lanes of so many rows from one part of the store to another that does not overlap it.
+pub fn copy_rows(store: &mut [u32], from: usize, at: usize, rows: usize, lanes: usize)
+    requires { ⌜ (at + rows * 64 ≤ length (now store)) × (from + rows * 64 ≤ at) × (lanes ≤ 64) × Low (now store) ⌝ }
+    ensures { λ _. ⌜ WrittenRows (rowsFrom (now (store .entry)) from) at rows lanes (now (store .entry)) (now (store .exit)) ⌝ }
+{
+    let mut a: usize = 0;
+    while a < rows {
+        copy(store, from + a * 64, at + a * 64, lanes);
+        a += 1;
+    }
+}
+
+// Zeros in every word.
+pub fn clear(store: &mut [u32])
+    ensures { λ _. ⌜ now (store .exit) ≡ replicate (length (now (store .entry))) 0 ⌝ }
+{
+    let mut i = 0;
+    while i < store.len() {
+        store[i] = 0;
+        i += 1;
+    }
+}

@@ -1,0 +1,12 @@
+-- A row begins and ends anywhere. Assumes nothing.
+use mathlib.Core.Path.{refl}
+use Rattle.search_row.specs.Words.{backIn}
+use Rattle.search_row.proofs.back.Statement.{statement}
+use Rattle.search_row.proofs.back.Tie as tie
+
+returns : tie.Need-returns
+unfolding backIn
+returns c = refl
+
+pub back-spec : {M : Type 1} → statement M
+back-spec = tie.close (tie.spec returns)

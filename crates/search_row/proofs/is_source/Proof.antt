@@ -1,0 +1,124 @@
+-- Each return reads the tests on its way; the words of a pair are its marks and the marks before. Assumes nothing.
+use Prim.Native.Nat.{ℕ, _<_}
+use mathlib.Core.Path.{_≡_, refl, sym, ap, ap₂, _∙_}
+use mathlib.Core.Bool.{Bool, true, false, _&&_, not}
+use native.Mathlib.Omega.{arith}
+use lib.Dec.{eqb}
+use borrow.Author.Tests.{eq-eqb, ne-eqb, not-true, not-false}
+use Rattle.theory_tables.specs.Steps.{lastAt, marks, before}
+use Rattle.search_row.specs.Words.{wordOf, thereIn}
+use Rattle.search_row.specs.Laws.{there-size, and-away}
+use borrow.Author.Needs.{needs}
+use Rattle.search_row.proofs.is_source.Statement.{statement}
+use Rattle.search_row.proofs.is_source.Tie as tie
+
+tall : (s t u : Bool) → t ≡ true → false ≡ (s && (not t && u))
+tall true true u g = refl
+tall true false u g = absurd (let z : _≡_ {A = ℕ} 0 1 = cc in omega arith)
+tall false t u g = refl
+
+single : (s t u : Bool) → s ≡ true → t ≡ false → u ≡ (s && (not t && u))
+single true false u e g = refl
+single true true u e g = absurd (let z : _≡_ {A = ℕ} 0 1 = cc in omega arith)
+single false t u e g = absurd (let z : _≡_ {A = ℕ} 0 1 = cc in omega arith)
+
+-- past the first test the position is in the row
+abbrev There : tie.Else1 → Type 0
+There c = let a = c .before .before .before .before .args in thereIn (a .n) (a .r) (a .i) (a .q) ≡ true
+
+there : (c : tie.Else1) → There c
+there c = sym (c .before .is-there .ensures) ∙ not-false _ (c .if1 .left)
+
+inside : (c : tie.After-last-at) → c .last-at .result < 64
+inside c =
+    let k = c .before .before .before .before .before in
+    let a = k .args in
+    omega (arith, c .last-at .ensures, there-size (a .n) (a .r) (a .i) (a .q) (there (c .before)), k .pre .1)
+
+is-there-requires : tie.Need-is-there-requires
+is-there-requires c κs = search needs
+
+returns : tie.Need-returns
+returns c =
+    and-away _ _ (sym (c .before .is-there .ensures) ∙ not-true _ (c .if1 .taken))
+
+last-at-requires : tie.Need-last-at-requires
+last-at-requires c κs = search needs
+
+mul-if2 : tie.Need-mul-if2
+mul-if2 c =
+    omega (arith, inside c)
+
+add-if2 : tie.Need-add-if2
+add-if2 c =
+    omega (arith, inside c)
+
+mul-if2-2 : tie.Need-mul-if2-2
+mul-if2-2 c =
+    omega (arith, inside c)
+
+shared-slice-read-if2 : tie.Need-shared-slice-read-if2
+shared-slice-read-if2 c =
+    omega (arith, inside (c .before), c .before .before .before .before .before .before .pre .0 .long)
+
+returns-2 : tie.Need-returns-2
+returns-2 c =
+    let a = c .before .before .before .before .before .before .before .args in
+    let e = ap (λ (p : ℕ). eqb (wordOf (a .line .now) p 67) 1) (c .before .before .last-at .ensures) in
+    tall (thereIn (a .n) (a .r) (a .i) (a .q)) (eqb (wordOf (a .line .now) (lastAt (a .r) (a .i) (a .q)) 67) 1) (eqb (marks (a .r) (a .q)) (before (a .r) (a .q1)))
+    (sym e ∙ eq-eqb _ _ (c .if2 .taken))
+
+mul-result : tie.Need-mul-result
+mul-result c = search needs
+
+add-result : tie.Need-add-result
+add-result c = search needs
+
+mul-result-2 : tie.Need-mul-result-2
+mul-result-2 c = search needs
+
+shared-slice-read-result : tie.Need-shared-slice-read-result
+shared-slice-read-result c = search needs
+
+mul-result-3 : tie.Need-mul-result-3
+mul-result-3 c = search needs
+
+add-result-2 : tie.Need-add-result-2
+add-result-2 c = search needs
+
+mul-result-4 : tie.Need-mul-result-4
+mul-result-4 c = search needs
+
+shared-slice-read-result-2 : tie.Need-shared-slice-read-result-2
+shared-slice-read-result-2 c = search needs
+
+returns-3 : tie.Need-returns-3
+returns-3 c =
+    let k = c .before .before .before .before .before .before .before .before .before in
+    let a = k .args in
+    let e = ap (λ (p : ℕ). eqb (wordOf (a .line .now) p 67) 1) (c .before .before .before .before .last-at .ensures) in
+    ap₂ eqb (k .pre .2 .mark (a .q) (k .pre .4)) (k .pre .2 .earlier (a .q1) (k .pre .3))
+    ∙ single (thereIn (a .n) (a .r) (a .i) (a .q)) (eqb (wordOf (a .line .now) (lastAt (a .r) (a .i) (a .q)) 67) 1) (eqb (marks (a .r) (a .q)) (before (a .r) (a .q1)))
+    (there (c .before .before .before .before .before)) (sym e ∙ ne-eqb _ _ (c .before .before .if2 .left))
+
+pub is-source-spec : {M : Type 1} → statement M
+is-source-spec =
+    tie.close
+    (tie.spec
+    is-there-requires
+    returns
+    last-at-requires
+    mul-if2
+    add-if2
+    mul-if2-2
+    shared-slice-read-if2
+    returns-2
+    mul-result
+    add-result
+    mul-result-2
+    shared-slice-read-result
+    mul-result-3
+    add-result-2
+    mul-result-4
+    shared-slice-read-result-2
+    returns-3)

@@ -1,0 +1,42 @@
+-- The pair's first word is its digit; each return rewrites with the test. Assumes nothing.
+use Prim.Native.Nat.{suc, _+_, _≤_, _<_}
+use native.Mathlib.Omega.{arith}
+use borrow.Author.Tests.{le-leb, lt-leb}
+use Rattle.theory_tables.specs.Steps.{offset}
+use borrow.Author.Needs.{needs}
+use Rattle.search_row.proofs.is_there.Statement.{statement}
+use Rattle.search_row.proofs.is_there.Tie as tie
+
+mul-word : tie.Need-mul-word
+mul-word c = search needs
+
+word-requires : tie.Need-word-requires
+word-requires c κs = search needs
+
+add-if1 : tie.Need-add-if1
+add-if1 c =
+    let k = c .before .before in
+    omega (arith, c .word .ensures, k .pre .0 .digit (k .args .q) (k .pre .1), k .pre .0 .small (k .args .q) (k .pre .1))
+
+add-if1-2 : tie.Need-add-if1-2
+add-if1-2 c = search needs
+
+returns : tie.Need-returns
+returns c =
+    let k = c .before .before .before in
+    let h : k .args .i + offset (k .args .r) (k .args .q) < suc (k .args .r) = omega (arith, c .before .word .ensures, k .pre .0 .digit (k .args .q) (k .pre .1)) in
+    simp (lt-leb _ _ h)
+
+last-at-requires : tie.Need-last-at-requires
+last-at-requires c κs = search needs
+
+returns-2 : tie.Need-returns-2
+returns-2 c =
+    let k = c .before .before .before .before in
+    let h : suc (k .args .r) ≤ k .args .i + offset (k .args .r) (k .args .q) = omega (arith, c .before .before .word .ensures, k .pre .0 .digit (k .args .q) (k .pre .1)) in
+    simp (le-leb _ _ h, c .last-at .ensures)
+
+pub is-there-spec : {M : Type 1} → statement M
+is-there-spec =
+    tie.close
+    (tie.spec mul-word word-requires add-if1 add-if1-2 returns last-at-requires returns-2)

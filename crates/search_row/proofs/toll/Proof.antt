@@ -1,0 +1,100 @@
+-- Each return reads the tests on its way; charges are at most 1, weights are small. Assumes nothing.
+use Prim.Native.Nat.{ℕ, _*_, _-_, _≤_, _<_}
+use mathlib.Core.Path.{_≡_, refl, ap, ap₂, _∙_}
+use mathlib.Core.List.{List}
+use native.Mathlib.Omega.{arith}
+use borrow.Author.Tests.{lt-ltb, le-ltb, eq-eqb, ne-eqb}
+use Rattle.definition.specs.Cost.{charge}
+use Rattle.theory_tables.specs.Steps.{B}
+use Rattle.search_row.specs.Words.{tollIn, tollAt, siteIn, endIn, differIn, weightIn}
+use Rattle.search_row.specs.Laws.{charge-low, differ-low, pay-low, charged-low, weight-low}
+use borrow.Author.Needs.{needs}
+use Rattle.search_row.proofs.toll.Statement.{statement}
+use Rattle.search_row.proofs.toll.Tie as tie
+
+-- what the sites make of the toll
+over : (x y : ℕ) (p : ℕ → ℕ) → x < y → B ≡ tollAt x y p
+over x y p h = rw (lt-ltb x y h)
+
+near : (x y : ℕ) (p : ℕ → ℕ) → y ≤ x → x - y ≡ 1 → B ≡ tollAt x y p
+near x y p h e = rw (le-ltb x y h, eq-eqb (x - y) 1 e)
+
+apart : (x y : ℕ) (p : ℕ → ℕ) → y ≤ x → (x - y ≡ 1 → ⊥) → charge (x - y) * p (x - y) ≡ tollAt x y p
+apart x y p h n = rw (le-ltb x y h, ne-eqb (x - y) 1 n)
+
+-- from the sites and the heights as they were read
+same : (line : List ℕ) (k b m a : ℕ) {x y : ℕ} (d : ℕ) → x ≡ siteIn line m a → y ≡ endIn line k b → d ≡ differIn line k b m a
+    → tollAt x y (λ gap. weightIn line m gap * d) ≡ tollIn line k b m a
+unfolding tollIn
+same line k b m a d e f g =
+    ap₂ (λ (x y : ℕ). tollAt x y (λ gap. weightIn line m gap * d)) e f
+    ∙ ap (λ (d : ℕ). tollAt (siteIn line m a) (endIn line k b) (λ gap. weightIn line m gap * d)) g
+
+site-requires : tie.Need-site-requires
+site-requires c κs = search needs
+
+end-requires : tie.Need-end-requires
+end-requires c κs = search needs
+
+returns : tie.Need-returns
+returns c =
+    let a = c .before .before .before .before .args in
+    over (c .before .before .site .result) (c .before .end .result) (λ gap. weightIn (a .line .now) (a .m) gap * differIn (a .line .now) (a .k) (a .b) (a .m) (a .a)) (c .if1 .taken)
+    ∙ same (a .line .now) (a .k) (a .b) (a .m) (a .a) _ (c .before .before .site .ensures) (c .before .end .ensures) refl
+
+returns-2 : tie.Need-returns-2
+returns-2 c =
+    let a = c .before .before .before .before .before .args in
+    near (c .before .before .before .site .result) (c .before .before .end .result) (λ gap. weightIn (a .line .now) (a .m) gap * differIn (a .line .now) (a .k) (a .b) (a .m) (a .a)) (c .before .if1 .left) (c .if2 .taken)
+    ∙ same (a .line .now) (a .k) (a .b) (a .m) (a .a) _ (c .before .before .before .site .ensures) (c .before .before .end .ensures) refl
+
+charge-of-requires : tie.Need-charge-of-requires
+charge-of-requires c κs = search needs
+
+weight-requires : tie.Need-weight-requires
+weight-requires c κs = search needs
+
+differ-requires : tie.Need-differ-requires
+differ-requires c κs = search needs
+
+mul-result : tie.Need-mul-result
+mul-result c =
+    let k = c .before .before .before .before .before .before .before .before in
+    let a = k .args in
+    let d : c .differ .result ≤ 2 = omega (arith, c .differ .ensures, differ-low (a .line .now) (a .k) (a .b) (a .m) (a .a)) in
+    let w : c .before .weight .result ≤ 131072 = omega (arith, c .before .weight .ensures, weight-low (a .m) (c .before .before .before .before .before .before .site .result - c .before .before .before .before .before .end .result) (k .pre .0)) in
+    omega (arith, pay-low w d)
+
+mul-result-2 : tie.Need-mul-result-2
+mul-result-2 c =
+    let k = c .before .before .before .before .before .before .before .before in
+    let a = k .args in
+    let d : c .differ .result ≤ 2 = omega (arith, c .differ .ensures, differ-low (a .line .now) (a .k) (a .b) (a .m) (a .a)) in
+    let w : c .before .weight .result ≤ 131072 = omega (arith, c .before .weight .ensures, weight-low (a .m) (c .before .before .before .before .before .before .site .result - c .before .before .before .before .before .end .result) (k .pre .0)) in
+    let g : c .before .before .charge-of .result ≤ 1 = omega (arith, c .before .before .charge-of .ensures, charge-low (c .before .before .before .before .before .before .site .result - c .before .before .before .before .before .end .result)) in
+    omega (arith, charged-low g (pay-low w d))
+
+returns-3 : tie.Need-returns-3
+returns-3 c =
+    let a = c .before .before .before .before .before .before .before .before .args in
+    let b = c .before .before .before .before in
+    let x = b .before .before .site .result in
+    let y = b .before .end .result in
+    ap₂ (λ (g w : ℕ). g * (w * c .differ .result)) (c .before .before .charge-of .ensures) (c .before .weight .ensures)
+    ∙ apart x y (λ gap. weightIn (a .line .now) (a .m) gap * c .differ .result) (b .if1 .left) (c .before .before .before .if2 .left)
+    ∙ same (a .line .now) (a .k) (a .b) (a .m) (a .a) _ (b .before .before .site .ensures) (b .before .end .ensures) (c .differ .ensures)
+
+pub toll-spec : {M : Type 1} → statement M
+toll-spec =
+    tie.close
+    (tie.spec
+    site-requires
+    end-requires
+    returns
+    returns-2
+    charge-of-requires
+    weight-requires
+    differ-requires
+    mul-result
+    mul-result-2
+    returns-3)

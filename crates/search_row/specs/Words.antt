@@ -1,0 +1,86 @@
+-- A row and the pairs as words: what the search reads, and the deck that they stand for.
+use Prim.Native.Nat.{ℕ, suc, _+_, _-_, _*_, _/_, _%_, _≤_, _<_}
+use mathlib.Core.Path.{_≡_}
+use mathlib.Core.Bool.{Bool, _&&_, cond}
+use mathlib.Core.List.{List}
+use lib.ListN.{length, getD}
+use lib.Dec.{leb, ltb, eqb}
+use Rattle.definition.specs.Cost.{charge}
+use Rattle.theory_tables.specs.Steps.{B, Deck, pairCount, offset, marks, before, lastAt}
+
+-- The cell at position k has the words from 128 k on: 0 to 59 what it costs by pose (B: not offered), 64 given, 65 and 66 the widths of its
+-- layouts, 67 whether it is tall; by variant (2 layout + mark) 68 left P, 72 left N, 76 right P, 80 right N; 84 the weight of a step where it touches
+-- the cell on its left, 85 its number, 86 the weight of a step at every other gap.
+-- Pose a is 4 e + 2 layout + mark, at site given + e - D. Sites are compared with D added to both.
+abbrev pub wordOf : List ℕ → ℕ → ℕ → ℕ
+wordOf line k i = getD line (k * 128 + i) 0
+
+abbrev pub variant : ℕ → ℕ
+variant a = a % 4
+
+-- the left site of pose a, and the first site right of pose b; both with D added
+abbrev pub siteIn : List ℕ → ℕ → ℕ → ℕ
+siteIn line k a = wordOf line k 64 + a / 4
+
+abbrev pub endIn : List ℕ → ℕ → ℕ → ℕ
+endIn line k b = siteIn line k b + wordOf line k (65 + variant b / 2)
+
+-- how many of the heights differ where pose b of k has pose a of m on its right
+abbrev pub differIn : List ℕ → ℕ → ℕ → ℕ → ℕ → ℕ
+differIn line k b m a =
+    cond (eqb (wordOf line k (76 + variant b)) (wordOf line m (68 + variant a))) 0 1
+    + cond (eqb (wordOf line k (80 + variant b)) (wordOf line m (72 + variant a))) 0 1
+
+-- the weight of a step between m and the cell on its left, by the gap between them: document 01 has one weight (request A7 is to give words 84 and 86
+-- two)
+abbrev pub weightIn : List ℕ → ℕ → ℕ → ℕ
+weightIn line m gap = cond (eqb gap 0) (wordOf line m 84) (wordOf line m 86)
+
+-- what the right one's left site x and the left one's end y make of what they pay by their gap
+abbrev pub tollAt : ℕ → ℕ → (ℕ → ℕ) → ℕ
+tollAt x y pay = cond (ltb x y) B (cond (eqb (x - y) 1) B (charge (x - y) * pay (x - y)))
+
+unfoldable pub tollIn : List ℕ → ℕ → ℕ → ℕ → ℕ → ℕ
+tollIn line k b m a = tollAt (siteIn line m a) (endIn line k b) (λ gap. weightIn line m gap * differIn line k b m a)
+
+-- what a cell pays as the first of its row, and as the last: document 01 lets a row begin and end anywhere (request A1 is to change these lines and
+-- their laws)
+unfoldable pub frontIn : List ℕ → ℕ → ℕ → ℕ
+frontIn line k a = 0
+
+unfoldable pub backIn : List ℕ → ℕ → ℕ → ℕ
+backIn line k a = 0
+
+abbrev pub deckOf : List ℕ → ℕ → ℕ → Deck
+deckOf line n poses =
+    record { size = n; poses = poses; own = λ k a. wordOf line k a; toll = tollIn line; tall = λ k. eqb (wordOf line k 67) 1; front = frontIn line; back = backIn line }
+
+-- with i cells placed, the row of n cells has the last of them, that of pair q; so it is with every deck of n cells
+abbrev pub thereIn : ℕ → ℕ → ℕ → ℕ → Bool
+thereIn n R i q = leb (suc R) (i + offset R q) && ltb (lastAt R i q) n
+
+-- the pairs: pair q has the words from 4 q on, its digit, its marks, and the marks before
+pub record PairWords (R : ℕ) (pairs : List ℕ) : Type 0 where
+  pub reorder : R ≤ 2
+  pub few : pairCount R ≤ 12
+  pub small : (q : ℕ) → q < pairCount R → offset R q ≤ 4
+  pub long : 48 ≤ length pairs
+  pub digit : (q : ℕ) → q < pairCount R → getD pairs (q * 4) 0 ≡ offset R q
+  pub mark : (q : ℕ) → q < pairCount R → getD pairs (q * 4 + 1) 0 ≡ marks R q
+  pub earlier : (q : ℕ) → q < pairCount R → getD pairs (q * 4 + 2) 0 ≡ before R q
+
+-- a row's words: none is over B, and the step weights are so small that what is paid stays below it (document 01 has weights up to 1,000; a request that ranks
+-- equal costs, A14, is to scale them by 128)
+pub record LineWords (line : List ℕ) : Type 0 where
+  pub long : 8192 ≤ length line
+  pub word : (k : ℕ) → getD line k 0 ≤ B
+  pub weight : (k : ℕ) → wordOf line k 84 ≤ 131072
+  pub filled : (k : ℕ) → wordOf line k 86 ≤ 131072
+
+-- what every function of the search is given: a row's words and the pairs
+pub record Ground (line pairs : List ℕ) (R n poses count : ℕ) : Type 0 where
+  pub size : n ≤ 64
+  pub few : poses ≤ 60
+  pub all : count ≡ pairCount R
+  pub row : LineWords line
+  pub coded : PairWords R pairs

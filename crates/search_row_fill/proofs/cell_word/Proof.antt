@@ -1,0 +1,78 @@
+-- The cases of the definition, by the word's place; no word is large. Assumes nothing.
+use Prim.Native.Nat.{_-_}
+use mathlib.Core.Path.{sym, _∙_}
+use native.Mathlib.Omega.{arith}
+use borrow.Author.Needs.{needs}
+use Rattle.search_row_fill.specs.Values.{one, shape-low, height-low}
+use Rattle.search_row_fill.specs.Cell.{own-at, shape-at, height-at, step-at, number-at, filled-at, none-at}
+use Rattle.job.specs.Value.{headerOf}
+use Rattle.search_row_fill.proofs.cell_word.Statement.{statement}
+use Rattle.search_row_fill.proofs.cell_word.Tie as tie
+
+own-word-requires : tie.Need-own-word-requires
+own-word-requires c κs = search needs
+
+returns : tie.Need-returns
+returns c =
+    let k = c .before .before in
+    let j = one (k .args .header) (k .args .cell) in
+    (c .own-word .ensures .0 ∙ sym (own-at j (k .args .row) 0 (k .args .number) (k .args .i) (c .before .if1 .taken)), c .own-word .ensures .1)
+
+shape-word-requires : tie.Need-shape-word-requires
+shape-word-requires c κs = search needs
+
+returns-2 : tie.Need-returns-2
+returns-2 c =
+    let k = c .before .before .before in
+    let j = one (k .args .header) (k .args .cell) in
+    (c .shape-word .ensures ∙ sym (shape-at j (k .args .row) 0 (k .args .number) (k .args .i) (omega arith) (omega arith)), omega (arith, c .shape-word .ensures, shape-low (k .args .header) (k .args .cell) (k .pre .0) (k .args .i)))
+
+height-word-requires : tie.Need-height-word-requires
+height-word-requires c κs = search needs
+
+returns-3 : tie.Need-returns-3
+returns-3 c =
+    let k = c .before .before .before .before in
+    let j = one (k .args .header) (k .args .cell) in
+    (c .height-word .ensures ∙ sym (height-at j (k .args .row) 0 (k .args .number) (k .args .i) (k .args .i - 68) (omega arith) (omega arith)), omega (arith, c .height-word .ensures, height-low (k .args .header) (k .args .cell) (k .pre .0) (k .args .row) (k .args .i - 68)))
+
+returns-4 : tie.Need-returns-4
+unfolding headerOf
+returns-4 c =
+    let k = c .before .before .before .before in
+    let j = one (k .args .header) (k .args .cell) in
+    (sym (step-at j (k .args .row) 0 (k .args .number) (k .args .i) (c .if4 .taken)), omega (arith, k .pre .0 .step))
+
+returns-5 : tie.Need-returns-5
+returns-5 c =
+    let k = c .before .before .before .before .before in
+    let j = one (k .args .header) (k .args .cell) in
+    (sym (number-at j (k .args .row) 0 (k .args .number) (k .args .i) (c .if5 .taken)), omega arith)
+
+returns-6 : tie.Need-returns-6
+unfolding headerOf
+returns-6 c =
+    let k = c .before .before .before .before .before .before in
+    let j = one (k .args .header) (k .args .cell) in
+    (sym (filled-at j (k .args .row) 0 (k .args .number) (k .args .i) (c .if6 .taken)), omega (arith, k .pre .0 .step))
+
+returns-7 : tie.Need-returns-7
+returns-7 c =
+    let k = c .before .before .before .before .before .before in
+    let j = one (k .args .header) (k .args .cell) in
+    (sym (none-at j (k .args .row) 0 (k .args .number) (k .args .i) (omega arith)), omega arith)
+
+pub cell-word-spec : {M : Type 1} → statement M
+cell-word-spec =
+    tie.close
+    (tie.spec
+    own-word-requires
+    returns
+    shape-word-requires
+    returns-2
+    height-word-requires
+    returns-3
+    returns-4
+    returns-5
+    returns-6
+    returns-7)

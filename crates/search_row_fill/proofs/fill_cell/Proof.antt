@@ -1,0 +1,74 @@
+-- Each turn writes one word more. Assumes nothing.
+use Prim.Native.Nat.{_-_, _≤_}
+use mathlib.Core.Path.{_≡_}
+use native.Mathlib.Omega.{arith}
+use borrow.Author.Needs.{needs}
+use Rattle.search_row_fill.specs.Values.{one}
+use Rattle.search_row_fill.specs.Words.{cellWord}
+use Rattle.search_lanes.specs.Laws.{written-none, written-more}
+use Rattle.search_lanes.specs.Store.{Written}
+use Rattle.search_row_fill.proofs.fill_cell.Statement.{statement}
+use Rattle.search_row_fill.proofs.fill_cell.Tie as tie
+
+abbrev Inv-loop : tie.InvT-loop
+Inv-loop line₀ at header cell row number i₀ line i = (i ≤ 87) × Written (cellWord (one header cell) row 0 number) at i line₀ line
+
+abbrev μ-loop : tie.MeasureT-loop
+μ-loop line₀ at header cell row number i₀ line i = 87 - i
+
+loop-holds : tie.Need-loop-holds Inv-loop μ-loop
+loop-holds c = (omega arith, written-none _ _ (c .before .pre .4))
+
+cast-cell-word : tie.Need-cast-cell-word Inv-loop μ-loop
+cast-cell-word c = omega arith
+
+cell-word-requires : tie.Need-cell-word-requires Inv-loop μ-loop
+cell-word-requires c κs =
+    let k = c .before .before .before in
+    (k .pre .0, k .pre .1, k .pre .2)
+
+add-line : tie.Need-add-line Inv-loop μ-loop
+add-line c = omega arith
+
+mul-line : tie.Need-mul-line Inv-loop μ-loop
+mul-line c = omega arith
+
+slice-write-line : tie.Need-slice-write-line Inv-loop μ-loop
+slice-write-line c = omega (arith, c .before .before .loop .inv .1 .frame .long)
+
+add-i : tie.Need-add-i Inv-loop μ-loop
+add-i c = omega arith
+
+loop-less : tie.Need-loop-less Inv-loop μ-loop
+loop-less c = omega arith
+
+loop-again : tie.Need-loop-again Inv-loop μ-loop
+loop-again c =
+    let l = c .before .before .loop in
+    (omega arith, written-more (l .i) (c .cell-word .result) (l .inv .1) (omega arith) (c .cell-word .ensures .0) (c .cell-word .ensures .1))
+
+same-length : tie.Need-same-length Inv-loop μ-loop
+same-length c = search needs
+
+returns : tie.Need-returns Inv-loop μ-loop
+returns c =
+    let e : c .before .loop .i ≡ 87 = omega arith in
+    rw e at (c .before .loop .inv .1)
+
+pub fill-cell-spec : {M : Type 1} → statement M
+fill-cell-spec =
+    tie.close
+    (tie.spec
+    Inv-loop
+    μ-loop
+    loop-holds
+    cast-cell-word
+    cell-word-requires
+    add-line
+    mul-line
+    slice-write-line
+    add-i
+    loop-less
+    loop-again
+    same-length
+    returns)

@@ -1,0 +1,102 @@
+-- The words are cleared, so that beyond the cells written there is 0. Each turn settles one cell of the job; at the end all of the row's are there.
+-- Assumes nothing.
+use Prim.Native.Nat.{_<_}
+use Prim.Native.Nat.{_-_}
+use mathlib.Core.Path.{_≡_, refl, _∙_}
+use native.Mathlib.Omega.{arith}
+use lib.ListN.{length, length-map}
+use Rattle.search_row_fill.specs.Filled.{filled-none, filled-value, ranged-at, lined}
+use Rattle.search_row_fill.specs.Filled.{sideOf, Filled}
+use Rattle.score_words.specs.Laws.{cell-count}
+use Rattle.job.specs.Value.{jobOf}
+use Rattle.search_row_fill.proofs.fill_line.Statement.{statement}
+use Rattle.search_row_fill.proofs.fill_line.Tie as tie
+
+abbrev Inv-loop : tie.InvT-loop
+Inv-loop line₀ row job long header n₀ k₀ line n k = (length line ≡ length line₀) × Filled (jobOf job) (sideOf row) line n k
+
+abbrev μ-loop : tie.MeasureT-loop
+μ-loop line₀ row job long header n₀ k₀ line n k = job .count - k
+
+-- the array has 64 cells, as its type says, so that the job's cells are as many as it counts
+counted : (s : tie.Start Inv-loop μ-loop) → length (jobOf (s .args .t2) .cells) ≡ s .args .t2 .count
+counted s = cell-count (s .args .t2) (simp length-map at (s .good .1 .0 .1 .1 .1 .1 .0 .1 .0 .1)) (s .pre .1)
+
+fill-requires : tie.Need-fill-requires Inv-loop μ-loop
+fill-requires c κs = (omega arith, omega arith, c .before .before .pre .4)
+
+loop-holds : tie.Need-loop-holds Inv-loop μ-loop
+loop-holds c =
+    let s = c .before .before .before .before .before .before in
+    (refl, filled-none (jobOf (s .args .t2)) (sideOf (s .args .row)) (s .pre .0) (s .pre .3) (c .before .before .before .fill .ensures))
+
+mul-add-cell : tie.Need-mul-add-cell Inv-loop μ-loop
+mul-add-cell c =
+    let s = c .before .before .before .before .before .before .before .before .before in
+    omega (arith, c .before .loop-test .taken, s .pre .1)
+
+element-copy-out-add-cell : tie.Need-element-copy-out-add-cell Inv-loop μ-loop
+element-copy-out-add-cell c =
+    let s = c .before .before .before .before .before .before .before .before .before in
+    omega (arith, c .before .loop-test .taken, s .pre .1)
+
+cast-add-cell : tie.Need-cast-add-cell Inv-loop μ-loop
+cast-add-cell c =
+    let s = c .before .before .before .before .before .before .before .before .before .before in
+    omega (arith, c .before .before .loop-test .taken, s .pre .1)
+
+add-cell-requires : tie.Need-add-cell-requires Inv-loop μ-loop
+add-cell-requires c κs =
+    let p = c .before .before .before in
+    let s = p .before .before .before .before .before .before .before in
+    let f = p .loop .inv .1 in
+    let g = c .before .before .loop-test .taken in
+    let h : p .loop .k < length (jobOf (s .args .t2) .cells) = rw (counted s) g in
+    (ranged-at (s .args .t2) (p .loop .k) g h (s .pre .0), s .pre .2, omega (arith, g, s .pre .1), omega (arith, g, s .pre .1, f .below), f .long, f .low)
+
+add-k : tie.Need-add-k Inv-loop μ-loop
+add-k c =
+    let p = c .before .before .before .before .before in
+    let s = p .before .before .before .before .before .before .before .before in
+    omega (arith, p .loop-test .taken, s .pre .1)
+
+loop-less : tie.Need-loop-less Inv-loop μ-loop
+loop-less c =
+    let p = c .before .before .before .before .before in
+    omega (arith, p .loop-test .taken)
+
+loop-again : tie.Need-loop-again Inv-loop μ-loop
+loop-again c =
+    let p = c .before .before .before .before .before in
+    let l = p .before .loop in
+    let s = p .before .before .before .before .before .before .before .before in
+    let h : l .k < length (jobOf (s .args .t2) .cells) = rw (counted s) (p .loop-test .taken) in
+    (omega arith, filled-value (s .args .t2) (l .k) (p .loop-test .taken) h (s .args .row) (s .pre .2) (l .inv .1) (c .before .before .add-cell .ensures))
+
+same-length : tie.Need-same-length Inv-loop μ-loop
+same-length c = c .before .loop .inv .0 ∙ c .before .before .before .before .before .fill .ensures .frame .long
+
+returns : tie.Need-returns Inv-loop μ-loop
+returns c =
+    let p = c .before in
+    let s = p .before .before .before .before .before .before .before in
+    let few = p .loop .inv .1 .few in
+    lined (jobOf (s .args .t2)) (s .pre .0) (sideOf (s .args .row)) (p .loop .line) (p .loop .n) (p .loop .k) (p .loop .inv .1) (omega (arith, counted s, c .loop-test .left))
+
+pub fill-line-spec : {M : Type 1} → statement M
+fill-line-spec =
+    tie.close
+    (tie.spec
+    Inv-loop
+    μ-loop
+    fill-requires
+    loop-holds
+    mul-add-cell
+    element-copy-out-add-cell
+    cast-add-cell
+    add-cell-requires
+    add-k
+    loop-less
+    loop-again
+    same-length
+    returns)

@@ -1,0 +1,39 @@
+-- Words 64, 65 and 66, and 67: the cases of the definition. Assumes nothing.
+use mathlib.Core.Bool.{cond}
+use mathlib.Core.Path.{sym, ap, _∙_}
+use native.Mathlib.Omega.{arith}
+use borrow.Author.Tests.{eq-eqb, ne-eqb}
+use borrow.Author.Needs.{needs}
+use Rattle.search_row_fill.specs.Values.{shape-given, shape-width, shape-tall}
+use Rattle.search_row_fill.proofs.shape_word.Statement.{statement}
+use Rattle.search_row_fill.proofs.shape_word.Tie as tie
+
+returns : tie.Need-returns
+returns c =
+    let k = c .before in
+    shape-given (k .args .header) (k .args .cell) (k .args .i) (c .if1 .taken)
+
+sub-width-of : tie.Need-sub-width-of
+sub-width-of c = search needs
+
+width-of-requires : tie.Need-width-of-requires
+width-of-requires c κs = search needs
+
+returns-2 : tie.Need-returns-2
+returns-2 c =
+    let k = c .before .before .before in
+    c .width-of .ensures ∙ shape-width (k .args .header) (k .args .cell) (k .args .i) (omega arith) (c .before .if2 .taken)
+
+returns-3 : tie.Need-returns-3
+returns-3 c =
+    let k = c .before .before .before .before in
+    sym (ap (λ t. cond t 1 0) (eq-eqb (k .args .cell .row) 2 (c .if3 .taken))) ∙ shape-tall (k .args .header) (k .args .cell) (k .args .i) (omega arith)
+
+returns-4 : tie.Need-returns-4
+returns-4 c =
+    let k = c .before .before .before .before in
+    sym (ap (λ t. cond t 1 0) (ne-eqb (k .args .cell .row) 2 (c .if3 .left))) ∙ shape-tall (k .args .header) (k .args .cell) (k .args .i) (omega arith)
+
+pub shape-word-spec : {M : Type 1} → statement M
+shape-word-spec =
+    tie.close (tie.spec returns sub-width-of width-of-requires returns-2 returns-3 returns-4)

@@ -1,0 +1,193 @@
+-- The words of a cell as the terms of the cost: what the pair's row has at its place. Assumes nothing.
+use Prim.Native.Nat.{ℕ, zero, suc, _+_, _-_, _*_, _/_, _%_, _≤_, _<_}
+use mathlib.Core.Path.{_≡_, refl, sym, ap, ap₂, _∙_}
+use mathlib.Core.Bool.{Bool, true, false, _&&_, _||_, cond}
+use native.Mathlib.Nat.{add-assoc}
+use native.Mathlib.Omega.{arith}
+use borrow.Author.Tests.{leb-true, lt-ltb, le-ltb, ne-eqb}
+use lib.ListN.{length}
+use lib.Dec.{leb, ltb, eqb, lit≤}
+use Rattle.definition.specs.Job.{Job, isTall}
+use Rattle.definition.specs.Rules.{cellAt}
+use Rattle.definition.specs.Cost.{firstHeight}
+use Rattle.theory_row.specs.Lists.{Eq?, same, differs, eq?}
+use Rattle.theory_bridge.specs.Tests.{and-true}
+use Rattle.theory_bridge.specs.Paired.{isOffered, poseNumber, widthOf, ownOf, leftOf, rightOf}
+use Rattle.score_words.specs.Flat.{widthIn}
+use Rattle.score_steps.specs.Heights.{heightIn}
+use Rattle.search_row.specs.Words.{variant}
+use Rattle.search_row_fill.specs.Words.{alone, edge, ownWord, shapeWord, heightWord, cellWord}
+
+-- a pose that is offered is not left of site 0
+pub offered-low : (j : Job) (k a : ℕ) → isOffered j k a ≡ true → j .header .displacement ≤ cellAt j k .given + a / 4
+unfolding isOffered
+offered-low j k a e =
+    let x = and-true (low && known && turned) inside .0 e in
+    let y = and-true (low && known) turned .0 (x .0) in
+    leb-true (j .header .displacement) (cellAt j k .given + a / 4) (and-true low known .0 (y .0) .0)
+  where
+    low : Bool
+    low = leb (j .header .displacement) (cellAt j k .given + a / 4)
+
+    known : Bool
+    known = ltb (poseNumber j k a .layout) (length (cellAt j k .layouts))
+
+    turned : Bool
+    turned = eqb (poseNumber j k a .mark) 0 || cellAt j k .mirrorable
+
+    inside : Bool
+    inside = leb (poseNumber j k a .site + widthOf j k (poseNumber j k a)) (j .header .sites)
+
+-- ---- a cell alone
+
+pub word-alone : (j : Job) (row k i : ℕ) → cellWord (alone (j .header) (cellAt j k)) row 0 k i ≡ cellWord j row k k i
+unfolding cellWord ownWord shapeWord heightWord isOffered poseNumber widthOf ownOf
+word-alone j row k i = refl
+
+-- ---- the words of cell k in a row, as the search reads them
+
+pub record CellWords (j : Job) (row k : ℕ) (word : ℕ → ℕ) : Type 0 where
+  pub own : (a : ℕ) → a < 60 → word a ≡ ownWord j row k a
+  pub given : word 64 ≡ cellAt j k .given
+  pub width : (a : ℕ) → word (65 + variant a / 2) ≡ widthOf j k (poseNumber j k a)
+  pub tall : word 67 ≡ cond (isTall (cellAt j k)) 1 0
+  pub leftP : (a : ℕ) → word (68 + variant a) ≡ leftOf j row k (poseNumber j k a) 0
+  pub leftN : (a : ℕ) → word (72 + variant a) ≡ leftOf j row k (poseNumber j k a) 1
+  pub rightP : (a : ℕ) → word (76 + variant a) ≡ rightOf j row k (poseNumber j k a) 0
+  pub rightN : (a : ℕ) → word (80 + variant a) ≡ rightOf j row k (poseNumber j k a) 1
+  pub weight : word 84 ≡ j .header .stepWeight
+  pub number : word 85 ≡ k
+  pub filled : word 86 ≡ j .header .stepWeight
+
+-- the mark as a number, and the edge that it leaves
+mark-two : (m : ℕ) → m < 2 → cond (eqb m 1) 2 0 ≡ m * 2
+mark-two m h = go (eqb m 1) (eq? m 1)
+  where
+    go : (t : Bool) → Eq? m 1 t → cond t 2 0 ≡ m * 2
+    go true (same e) = omega arith
+    go false (differs d) = omega arith
+
+mark-none : (m : ℕ) → m < 2 → cond (eqb m 1) 0 2 ≡ 2 - m * 2
+mark-none m h = go (eqb m 1) (eq? m 1)
+  where
+    go : (t : Bool) → Eq? m 1 t → cond t 0 2 ≡ 2 - m * 2
+    go true (same e) = omega arith
+    go false (differs d) = omega arith
+
+-- where a height stands among the row's four: P or N, by variant, of the left edge and of the right one
+edge-left : (type v : ℕ) → type < 2 → v < 4 → edge (4 * type + v) ≡ v % 2 * 2 + type
+edge-left zero zero h g = refl
+edge-left zero (suc zero) h g = refl
+edge-left zero (suc (suc zero)) h g = refl
+edge-left zero (suc (suc (suc zero))) h g = refl
+edge-left (suc zero) zero h g = refl
+edge-left (suc zero) (suc zero) h g = refl
+edge-left (suc zero) (suc (suc zero)) h g = refl
+edge-left (suc zero) (suc (suc (suc zero))) h g = refl
+edge-left zero (suc (suc (suc (suc v)))) h g = absurd (omega arith)
+edge-left (suc zero) (suc (suc (suc (suc v)))) h g = absurd (omega arith)
+edge-left (suc (suc type)) v h g = absurd (omega arith)
+
+edge-right : (type v : ℕ) → type < 2 → v < 4 → edge (8 + 4 * type + v) ≡ 2 - v % 2 * 2 + type
+edge-right zero zero h g = refl
+edge-right zero (suc zero) h g = refl
+edge-right zero (suc (suc zero)) h g = refl
+edge-right zero (suc (suc (suc zero))) h g = refl
+edge-right (suc zero) zero h g = refl
+edge-right (suc zero) (suc zero) h g = refl
+edge-right (suc zero) (suc (suc zero)) h g = refl
+edge-right (suc zero) (suc (suc (suc zero))) h g = refl
+edge-right zero (suc (suc (suc (suc v)))) h g = absurd (omega arith)
+edge-right (suc zero) (suc (suc (suc (suc v)))) h g = absurd (omega arith)
+edge-right (suc (suc type)) v h g = absurd (omega arith)
+
+low-digit : (a : ℕ) → a % 4 % 2 ≡ a % 2
+low-digit a = omega arith
+
+-- and of the layout's eight, from the row's first on
+module _ (first type a : ℕ) (h : type < 2) where
+  place-left : first + edge (4 * type + a % 4) ≡ first + cond (eqb (a % 2) 1) 2 0 + type
+  place-left =
+      ap (λ x. first + x) (edge-left type (a % 4) h (omega arith) ∙ ap (λ x. x * 2 + type) (low-digit a) ∙ ap (λ x. x + type) (sym (mark-two (a % 2) (omega arith))))
+      ∙ sym (add-assoc first (cond (eqb (a % 2) 1) 2 0) type)
+
+  place-right : first + edge (8 + 4 * type + a % 4) ≡ first + cond (eqb (a % 2) 1) 0 2 + type
+  place-right =
+      ap (λ x. first + x) (edge-right type (a % 4) h (omega arith) ∙ ap (λ x. 2 - x * 2 + type) (low-digit a) ∙ ap (λ x. x + type) (sym (mark-none (a % 2) (omega arith))))
+      ∙ sym (add-assoc first (cond (eqb (a % 2) 1) 0 2) type)
+
+  layout-left : (4 * type + a % 4) % 4 / 2 ≡ a % 4 / 2
+  layout-left = ap (λ x. x / 2) (omega arith)
+
+  layout-right : (8 + 4 * type + a % 4) % 4 / 2 ≡ a % 4 / 2
+  layout-right = ap (λ x. x / 2) (omega arith)
+
+module _ (j : Job) (row k : ℕ) where
+  left-word : (type a : ℕ) → type < 2 → heightWord j row k (4 * type + a % 4) ≡ leftOf j row k (poseNumber j k a) type
+  unfolding heightWord poseNumber
+  left-word type a h = ap₂ (heightIn (cellAt j k)) (layout-left (firstHeight j row k) type a h) (place-left (firstHeight j row k) type a h)
+
+  right-word : (type a : ℕ) → type < 2 → heightWord j row k (8 + 4 * type + a % 4) ≡ rightOf j row k (poseNumber j k a) type
+  unfolding heightWord poseNumber
+  right-word type a h = ap₂ (heightIn (cellAt j k)) (layout-right (firstHeight j row k) type a h) (place-right (firstHeight j row k) type a h)
+
+  module _ (n : ℕ) where
+    pub own-at : (a : ℕ) → a < 64 → cellWord j row k n a ≡ ownWord j row k a
+    unfolding cellWord
+    own-at a h = rw (lt-ltb a 64 h)
+
+    pub shape-at : (i : ℕ) → 64 ≤ i → i < 68 → cellWord j row k n i ≡ shapeWord j k i
+    unfolding cellWord
+    shape-at i g h = rw (le-ltb i 64 g, lt-ltb i 68 h)
+
+    pub step-at : (i : ℕ) → i ≡ 84 → cellWord j row k n i ≡ j .header .stepWeight
+    unfolding cellWord
+    step-at i e = rw e
+
+    pub number-at : (i : ℕ) → i ≡ 85 → cellWord j row k n i ≡ n
+    unfolding cellWord
+    number-at i e = rw e
+
+    pub filled-at : (i : ℕ) → i ≡ 86 → cellWord j row k n i ≡ j .header .stepWeight
+    unfolding cellWord
+    filled-at i e = rw e
+
+    pub none-at : (i : ℕ) → 86 < i → cellWord j row k n i ≡ 0
+    unfolding cellWord
+    none-at i h =
+        rw (
+          le-ltb i 64 (omega arith),
+          le-ltb i 68 (omega arith),
+          le-ltb i 84 (omega arith),
+          ne-eqb i 84 (λ e. omega arith),
+          ne-eqb i 85 (λ e. omega arith),
+          ne-eqb i 86 (λ e. omega arith),
+        )
+
+    width-at : (l : ℕ) → l < 2 → cellWord j row k n (65 + l) ≡ widthIn (cellAt j k) l
+    unfolding cellWord shapeWord
+    width-at zero h = refl
+    width-at (suc zero) h = refl
+    width-at (suc (suc l)) h = absurd (omega arith)
+
+    pub height-at : (i u : ℕ) → i ≡ 68 + u → u < 16 → cellWord j row k n i ≡ heightWord j row k u
+    unfolding cellWord
+    height-at i u q h =
+        let e : i - 68 ≡ u = omega arith in
+        rw (le-ltb i 64 (omega arith), le-ltb i 68 (omega arith), lt-ltb i 84 (omega arith), e)
+
+  pub cell-words : (word : ℕ → ℕ) → ((i : ℕ) → i < 87 → word i ≡ cellWord j row k k i) → CellWords j row k word
+  unfolding cellWord shapeWord widthOf poseNumber
+  cell-words word w = record {
+    own = λ a h. w a (omega arith) ∙ own-at k a (omega arith);
+    given = w 64 (lit≤ tt);
+    width = λ a. w (65 + a % 4 / 2) (omega arith) ∙ width-at k (a % 4 / 2) (omega arith);
+    tall = w 67 (lit≤ tt);
+    leftP = λ a. w (68 + a % 4) (omega arith) ∙ height-at k (68 + a % 4) (4 * 0 + a % 4) (omega arith) (omega arith) ∙ left-word 0 a (lit≤ tt);
+    leftN = λ a. w (72 + a % 4) (omega arith) ∙ height-at k (72 + a % 4) (4 * 1 + a % 4) (omega arith) (omega arith) ∙ left-word 1 a (lit≤ tt);
+    rightP = λ a. w (76 + a % 4) (omega arith) ∙ height-at k (76 + a % 4) (8 + 4 * 0 + a % 4) (omega arith) (omega arith) ∙ right-word 0 a (lit≤ tt);
+    rightN = λ a. w (80 + a % 4) (omega arith) ∙ height-at k (80 + a % 4) (8 + 4 * 1 + a % 4) (omega arith) (omega arith) ∙ right-word 1 a (lit≤ tt);
+    weight = w 84 (lit≤ tt);
+    number = w 85 (lit≤ tt);
+    filled = w 86 (lit≤ tt);
+  }

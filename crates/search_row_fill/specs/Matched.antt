@@ -1,0 +1,166 @@
+-- A row's words stand for the row of the pair's theory: what a cell costs, and what two neighbours pay and the cells at the row's ends. Sites are
+-- compared with D added to both. Assumes nothing.
+use Prim.Native.Nat.{ℕ, zero, suc, _+_, _-_, _*_, _≤_, _<_}
+use mathlib.Core.Path.{_≡_, refl, sym, ap, ap₂, _∙_}
+use mathlib.Core.Logic.{_≢_}
+use mathlib.Core.Bool.{Bool, true, false, _&&_, cond}
+use mathlib.Core.List.{List}
+use native.Mathlib.Nat.{mul-left-comm}
+use native.Mathlib.Omega.{arith}
+use native.Mathlib.Decide.{ℕ-discrete}
+use borrow.Author.Tests.{le-ltb, eq-eqb, ne-eqb}
+use lib.ListN.{length}
+use lib.Dec.{ltb, eqb}
+use Rattle.definition.specs.Job.{Job}
+use Rattle.definition.specs.Job as job
+use Rattle.definition.specs.Rules.{cellAt}
+use Rattle.definition.specs.Cost.{charge}
+use Rattle.definition.specs.Sound.{Sound}
+use Rattle.theory_row.specs.Lists.{Le?, high, le?}
+use Rattle.theory_pair.specs.Cells.{Side, row₀, row₁, isTall, ownIn, members, cell, line}
+use Rattle.theory_pair.specs.Members.{at-in}
+use Rattle.theory_tables.specs.Steps.{B}
+use Rattle.theory_tables.specs.Matched.{Matched}
+use Rattle.theory_bridge.specs.Paired.{kindOf, rowOf, siteOf, poseNumbers, poseNumber, isOffered, offersOf, widthOf, ownOf, differingOf, payOf, pairJob}
+use Rattle.theory_bridge.specs.Row.{isTall-same, member}
+use Rattle.theory_bridge.specs.Legal.{end-allowed}
+use Rattle.search_row.specs.Words.{wordOf, siteIn, endIn, differIn, weightIn, tollAt, tollIn, frontIn, backIn, deckOf, LineWords}
+use Rattle.search_row_fill.specs.Words.{ownWord}
+use Rattle.search_row_fill.specs.Cell.{offered-low, CellWords}
+
+-- the words are those of the row's cells, in file order, and there are so many
+pub record RowWords (j : Job) (s : Side) (l : List ℕ) (n : ℕ) : Type 0 where
+  pub size : n ≡ length (members (pairJob j) s)
+  pub cells : (p : ℕ) → p < n → CellWords j (rowOf s) (cell (pairJob j) s p) (wordOf l p)
+  pub row : LineWords l
+
+-- ---- what a cell costs
+
+own-counts : (s : Side) (r x : ℕ) → r ≤ 2 → cond (eqb r 2 && eqb (rowOf s) 1) 0 x ≡ ownIn s (kindOf r) x
+own-counts row₀ zero x h = refl
+own-counts row₁ zero x h = refl
+own-counts row₀ (suc zero) x h = refl
+own-counts row₁ (suc zero) x h = refl
+own-counts row₀ (suc (suc zero)) x h = refl
+own-counts row₁ (suc (suc zero)) x h = refl
+own-counts s (suc (suc (suc r))) x h = absurd (omega arith)
+
+one-true : (t : Bool) → eqb (cond t 1 0) 1 ≡ t
+one-true true = refl
+one-true false = refl
+
+-- ---- what two neighbours pay
+
+toll-pays : (x y : ℕ) (pay : ℕ → ℕ) → y ≤ x → x - y ≢ 1 → tollAt x y pay ≡ charge (x - y) * pay (x - y)
+toll-pays x y pay h d = rw (le-ltb x y h, ne-eqb (x - y) 1 d)
+
+toll-barred : (x y : ℕ) (pay : ℕ → ℕ) → (y ≤ x → x - y ≡ 1) → tollAt x y pay ≡ B
+toll-barred x y pay f = go (ltb x y) (le? (suc x) y)
+  where
+    go : (t : Bool) → Le? (suc x) y t → cond t B (cond (eqb (x - y) 1) B (charge (x - y) * pay (x - y))) ≡ B
+    go true h = refl
+    go false (high h) = rw (eq-eqb (x - y) 1 (f (omega arith)))
+
+module _ (j : Job) (s : Side) (l : List ℕ) (k m : ℕ) (b a : ℕ) (K M : ℕ) (w : CellWords j (rowOf s) K (wordOf l k)) (v : CellWords j (rowOf s) M (wordOf l m)) where
+  differ-same : differIn l k b m a ≡ differingOf j (rowOf s) (K, poseNumber j K b) (M, poseNumber j M a)
+  unfolding differingOf
+  differ-same = rw (w .rightP b, w .rightN b, v .leftP a, v .leftN a) (omega arith)
+
+  -- all gaps have one weight
+  weight-same : (gap : ℕ) → weightIn l m gap ≡ j .header .stepWeight
+  weight-same gap = go (eqb gap 0)
+    where
+      go : (t : Bool) → cond t (wordOf l m 84) (wordOf l m 86) ≡ j .header .stepWeight
+      go true = v .weight
+      go false = v .filled
+
+  -- sites with D added to both, where both poses are offered
+  abbrev gapTo : ℕ
+  gapTo = poseNumber j M a .site - (poseNumber j K b .site + widthOf j K (poseNumber j K b))
+
+  sites : isOffered j K b ≡ true → isOffered j M a ≡ true
+      → (siteIn l m a ≡ poseNumber j M a .site + j .header .displacement) × (endIn l k b ≡ poseNumber j K b .site + widthOf j K (poseNumber j K b) + j .header .displacement)
+  unfolding poseNumber
+  sites p q =
+      let x = offered-low j K b p in
+      let y = offered-low j M a q in
+      let e = w .given in
+      let f = v .given in
+      let g = w .width b in
+      (omega arith, omega arith)
+
+  pays : isOffered j K b ≡ true → isOffered j M a ≡ true
+      → poseNumber j K b .site + widthOf j K (poseNumber j K b) ≤ poseNumber j M a .site
+      → poseNumber j M a .site ≢ poseNumber j K b .site + widthOf j K (poseNumber j K b) + 1
+      → tollIn l k b m a ≡ payOf j s (K, poseNumber j K b) (M, poseNumber j M a)
+  unfolding tollIn payOf
+  pays p q h d =
+      let z = sites p q in
+      let g : siteIn l m a - endIn l k b ≡ gapTo = rw (z .0, z .1) (omega arith) in
+      toll-pays (siteIn l m a) (endIn l k b) (λ gap. weightIn l m gap * differIn l k b m a) (rw (z .0, z .1) (omega arith)) (λ e. d (omega (arith, sym g ∙ e)))
+      ∙ ap₂ (λ x y. charge x * y) g (ap₂ _*_ (weight-same (siteIn l m a - endIn l k b)) differ-same)
+      ∙ mul-left-comm (charge gapTo) (j .header .stepWeight) (differingOf j (rowOf s) (K, poseNumber j K b) (M, poseNumber j M a))
+
+  barred : isOffered j K b ≡ true → isOffered j M a ≡ true
+      → ¬ ((poseNumber j K b .site + widthOf j K (poseNumber j K b) ≤ poseNumber j M a .site) × (poseNumber j M a .site ≢ poseNumber j K b .site + widthOf j K (poseNumber j K b) + 1))
+      → tollIn l k b m a ≡ B
+  unfolding tollIn
+  barred p q n =
+      let z = sites p q in
+      toll-barred (siteIn l m a) (endIn l k b) (λ gap. weightIn l m gap * differIn l k b m a) (λ h. near (siteIn l m a) (endIn l k b) (z .0) (z .1) h)
+    where
+      near : (x y : ℕ) → x ≡ poseNumber j M a .site + j .header .displacement → y ≡ poseNumber j K b .site + widthOf j K (poseNumber j K b) + j .header .displacement → y ≤ x → x - y ≡ 1
+      near x y e f h = go (ℕ-discrete (x - y) 1)
+        where
+          go : Dec (x - y ≡ 1) → x - y ≡ 1
+          go (yes r) = r
+          go (no r) = absurd (n (omega arith, λ u. r (omega arith)))
+
+-- ---- the row
+
+module _ (j : Job) (sound : Sound j) (s : Side) (l : List ℕ) (n : ℕ) (w : RowWords j s l n) where
+  -- the cells are cells of the job
+  inside : (p : ℕ) → p < length (members (pairJob j) s) → cell (pairJob j) s p < length (j .cells)
+  inside p h = member j sound s (cell (pairJob j) s p) .0 (at-in (members (pairJob j) s) p h) .0
+
+  row-low : (p : ℕ) → p < length (members (pairJob j) s) → cellAt j (cell (pairJob j) s p) .row ≤ 2
+  row-low p h = go (eqb (j .header .rows) 2) (sound .cell (cell (pairJob j) s p) (inside p h) .row)
+    where
+      go : (t : Bool) → cellAt j (cell (pairJob j) s p) .row ≤ cond t 2 0 → cellAt j (cell (pairJob j) s p) .row ≤ 2
+      go true h = h
+      go false h = omega arith
+
+  words-at : (p : ℕ) → p < length (members (pairJob j) s) → CellWords j (rowOf s) (cell (pairJob j) s p) (wordOf l p)
+  words-at p h = w .cells p (let e = w .size in omega arith)
+
+  pub few-poses : poseNumbers j ≤ 60
+  few-poses = let d = sound .header .displacement in omega arith
+
+  own-same : (p a : ℕ) → p < length (members (pairJob j) s) → a < poseNumbers j
+      → wordOf l p a ≡ cond (isOffered j (cell (pairJob j) s p) a) (line (pairJob j) s .own p (poseNumber j (cell (pairJob j) s p) a)) B
+  unfolding ownWord
+  own-same p a h g =
+      words-at p h .own a (let f = few-poses in omega arith)
+      ∙ ap (λ x. cond (isOffered j (cell (pairJob j) s p) a) x B) (own-counts s (cellAt j (cell (pairJob j) s p) .row) (ownOf j (cell (pairJob j) s p) (poseNumber j (cell (pairJob j) s p) a)) (row-low p h))
+
+  -- the row's ends: a cell pays nothing there, where it may stand
+  front-same : (p a : ℕ) → frontIn l p a ≡ cond (line (pairJob j) s .opens p (poseNumber j (cell (pairJob j) s p) a)) 0 B
+  unfolding frontIn
+  front-same p a = ap (λ t. cond t 0 B) (sym (end-allowed _))
+
+  back-same : (p a : ℕ) → backIn l p a ≡ cond (line (pairJob j) s .closes p (poseNumber j (cell (pairJob j) s p) a)) 0 B
+  unfolding backIn
+  back-same p a = ap (λ t. cond t 0 B) (sym (end-allowed _))
+
+  pub matched : Matched siteOf (line (pairJob j) s) (deckOf l n (poseNumbers j)) (λ p a. poseNumber j (cell (pairJob j) s p) a) (λ p a. isOffered j (cell (pairJob j) s p) a)
+  unfolding offersOf
+  matched = record {
+    size = w .size;
+    options = λ p h. refl;
+    tall = λ p h. ap (λ x. eqb x 1) (words-at p h .tall) ∙ one-true (job.isTall (cellAt j (cell (pairJob j) s p))) ∙ isTall-same j sound (cell (pairJob j) s p) (inside p h);
+    own = own-same;
+    front = λ p a h g o. front-same p a;
+    back = λ p a h g o. back-same p a;
+    pays = λ p b m a h _ g _ x y f. pays j s l p m b a _ _ (words-at p h) (words-at m g) x y (f .0) (f .1);
+    barred = λ p b m a h _ g _ x y f. barred j s l p m b a _ _ (words-at p h) (words-at m g) x y f;
+  }

@@ -1,0 +1,101 @@
+-- The positions of a row's tall cells as words: those below a count are written, and the others are still to come. Assumes nothing.
+use Prim.Native.Nat.{ℕ, _+_, _≤_, _<_}
+use mathlib.Core.Path.{_≡_, sym, ap, _∙_}
+use mathlib.Core.Bool.{Bool, true, false, cond}
+use mathlib.Core.List.{List, _∷_}
+use native.Mathlib.Omega.{arith}
+use borrow.Author.Count.{below-more}
+use lib.ListN.{length, getD, drop, set, length-set}
+use lib.Seq.{getD-set-same, getD-set-other}
+use lib.Dec.{eqb}
+use Rattle.definition.specs.Job.{Job}
+use Rattle.definition.specs.Sound.{Sound}
+use Rattle.theory_row.specs.Lists.{from, in-from}
+use Rattle.theory_pair.specs.Pick.{pick}
+use Rattle.theory_pair.specs.Cells.{Side, members, tallCount, pos}
+use Rattle.theory_bridge.specs.Paired.{pairJob}
+use Rattle.search_row.specs.Words.{wordOf}
+use Rattle.search_states.specs.Rest.{rest, rest-none, rest-more, rest-all, Next, next, done}
+use Rattle.search_row_fill.specs.Filled.{Lined}
+use Rattle.search_row_fill.specs.Talls.{pick-same, few-talls, tallPlaces, places-count, places-pos}
+
+-- the positions whose word says tall, of the first n
+abbrev pub tallAt : List ℕ → ℕ → Bool
+tallAt line p = eqb (wordOf line p 67) 1
+
+unfoldable pub tallsIn : List ℕ → ℕ → List ℕ
+tallsIn line n = pick (tallAt line) (from 0 n)
+
+-- the first `count` are written, and those from position p on are still to come
+pub record TallsUpto (line : List ℕ) (n : ℕ) (talls : List ℕ) (count p : ℕ) : Type 0 where
+  pub room : length (tallsIn line n) ≤ length talls
+  pub below : count ≤ length (tallsIn line n)
+  pub left : drop count (tallsIn line n) ≡ rest (tallAt line) p n
+  pub words : (I : ℕ) → I < count → getD talls I 0 ≡ getD (tallsIn line n) I 0
+
+-- all are written, so many
+pub record TallWords (line : List ℕ) (n : ℕ) (talls : List ℕ) (count : ℕ) : Type 0 where
+  pub all : count ≡ length (tallsIn line n)
+  pub words : (I : ℕ) → I < count → getD talls I 0 ≡ getD (tallsIn line n) I 0
+
+module _ {line : List ℕ} {n : ℕ} where
+  pub talls-none : {talls : List ℕ} → length (tallsIn line n) ≤ length talls → TallsUpto line n talls 0 0
+  unfolding tallsIn
+  talls-none h = record { room = h; below = omega arith; left = sym (rest-all (tallAt line) n); words = λ I g. absurd (omega arith) }
+
+  module _ {talls : List ℕ} {count p : ℕ} (u : TallsUpto line n talls count p) where
+    abbrev coming : List ℕ
+    coming = rest (tallAt line) (p + 1) n
+
+    module _ (h : p < n) (e : tallAt line p ≡ true) where
+      upcoming : Next 0 (tallsIn line n) count p coming
+      upcoming = next (tallsIn line n) count (u .left ∙ rest-more (tallAt line) p n h ∙ ap (λ t. cond t (p ∷ coming) coming) e)
+
+      pub talls-room : count < length talls
+      talls-room = let r = u .room in let i = upcoming .inside in omega arith
+
+      pub talls-more : TallsUpto line n (set talls count p) (count + 1) (p + 1)
+      talls-more = record {
+        room = simp length-set (u .room);
+        below = let i = upcoming .inside in omega arith;
+        left = upcoming .after;
+        words = below-more (λ I. getD (set talls count p) I 0 ≡ getD (tallsIn line n) I 0) count
+            (λ I g. getD-set-other talls count I p 0 (omega arith) ∙ u .words I g)
+            (getD-set-same talls count p 0 talls-room ∙ sym (upcoming .here));
+      }
+
+    pub talls-skip : p < n → tallAt line p ≡ false → TallsUpto line n talls count (p + 1)
+    talls-skip h e = record {
+      room = u .room;
+      below = u .below;
+      left = u .left ∙ rest-more (tallAt line) p n h ∙ ap (λ t. cond t (p ∷ coming) coming) e;
+      words = u .words;
+    }
+
+    pub talls-all : n ≤ p → TallWords line n talls count
+    talls-all h = record { all = done (tallsIn line n) count (u .below) (u .left ∙ rest-none (tallAt line) p n h); words = u .words }
+
+-- ---- the tall cells of a row of a job
+
+module _ {j : Job} {s : Side} {line : List ℕ} {n : ℕ} (w : Lined j s line n) where
+  places : tallsIn line n ≡ tallPlaces (pairJob j) s
+  unfolding tallsIn
+  places =
+      ap (λ m. pick (tallAt line) (from 0 m)) (w .matched .size)
+      ∙ pick-same (tallAt line) _ (from 0 (length (members (pairJob j) s))) (λ p m. let h = in-from 0 (length (members (pairJob j) s)) m in w .matched .tall p (omega arith))
+
+  pub talls-count : length (tallsIn line n) ≡ tallCount (pairJob j)
+  talls-count = ap length places ∙ places-count (pairJob j) s
+
+  -- 24 words are enough
+  pub talls-few : Sound j → length (tallsIn line n) ≤ 24
+  talls-few sound = let a = talls-count in let b = few-talls j sound in omega arith
+
+  -- the words are the positions of the tall cells, and there are so many
+  pub talls-pos : {talls : List ℕ} {count : ℕ} → TallWords line n talls count → (count ≡ tallCount (pairJob j)) × ((I : ℕ) → I < tallCount (pairJob j) → getD talls I 0 ≡ pos (pairJob j) s I)
+  talls-pos {talls} {count} t = (
+    t .all ∙ talls-count,
+    λ I h. t .words I (let a = t .all in let b = talls-count in omega arith)
+        ∙ ap (λ l. getD l I 0) places
+        ∙ places-pos (pairJob j) s I (let b = places-count (pairJob j) s in omega arith),
+  )

@@ -1,0 +1,135 @@
+-- A header and a cell as values: what the words are made of, and their ranges. Assumes nothing.
+use Prim.Native.Nat.{ℕ, zero, suc, _+_, _-_, _*_, _/_, _%_, _≤_, _<_}
+use mathlib.Core.Path.{_≡_, refl, sym, ap, ap₂, _∙_}
+use mathlib.Core.Bool.{Bool, true, false, _&&_, _||_, cond}
+use mathlib.Core.List.{[], _∷_}
+use native.Mathlib.Omega.{arith}
+use borrow.Author.Tests.{lt-ltb, le-ltb, ne-eqb}
+use lib.ListN.{length, take, List·getD-eq-default}
+use lib.Seq.{take-nil}
+use lib.Dec.{leb, ltb, eqb}
+use Rattle.definition.specs.Job as paper
+use Rattle.definition.specs.Rules.{noLayout, apart}
+use Rattle.definition.specs.Sound.{SoundHeader, SoundCell}
+use Rattle.theory_row.specs.Lists.{Eq?, same, differs, eq?, Le?, low, high, le?}
+use Rattle.theory_bridge.specs.Paired.{isOffered, poseNumber, widthOf, ownOf}
+use Rattle.job.specs.declared.Header.{Header}
+use Rattle.job.specs.declared.Cell.{Cell}
+use Rattle.job.specs.Value.{headerOf, cellOf}
+use Rattle.score_words.specs.Flat.{widthIn}
+use Rattle.score_words.specs.Laws.{width-small}
+use Rattle.score_steps.specs.Heights.{heightIn, firstOf}
+use Rattle.theory_tables.specs.Steps.{B}
+use Rattle.search_row_fill.specs.Words.{alone, edge, ownWord, shapeWord, heightWord}
+use Rattle.search_row_fill.specs.Cell.{offered-low}
+
+-- the values as a job of one cell, and that they are in range
+abbrev pub one : Header → Cell → paper.Job
+one h c = alone (headerOf h) (cellOf c)
+
+pub record Ranged (h : Header) (c : Cell) : Type 0 where
+  pub displacement : h .displacement ≤ 7
+  pub step : h .step ≤ 1000
+  pub shift : h .shift ≤ 1000
+  pub mirror : h .mirror ≤ 1000
+  pub swap : h .swap ≤ 1000
+  pub given : c .given ≤ 1023
+  pub width : (l : ℕ) → widthIn (cellOf c) l ≤ 64
+  pub height : (l i : ℕ) → heightIn (cellOf c) l i ≤ 15
+
+height-small : (h : paper.Header) (c : paper.Cell) (l i : ℕ) → SoundCell h c → heightIn c l i ≤ 15
+height-small h c l i s = go (leb (suc l) (length (c .layouts))) (le? (suc l) (length (c .layouts)))
+  where
+    go : (t : Bool) → Le? (suc l) (length (c .layouts)) t → heightIn c l i ≤ 15
+    go true (low g) = s .layout l g .high i
+    go false (high g) = rw (heightIn, List·getD-eq-default (c .layouts) noLayout {n = l} (omega arith)) (omega arith)
+
+pub ranged : (h : Header) (c : Cell) → SoundHeader (headerOf h) → SoundCell (headerOf h) (cellOf c) → Ranged h c
+unfolding headerOf cellOf
+ranged h c p q = record {
+  displacement = p .displacement;
+  step = p .step;
+  shift = p .shift;
+  mirror = p .mirror;
+  swap = p .swap;
+  given = q .given;
+  width = λ l. width-small (headerOf h) (cellOf c) l q;
+  height = λ l i. height-small (headerOf h) (cellOf c) l i q;
+}
+
+-- ---- what is offered
+
+-- a layout number below 2 is below the count of two layouts at most just if it is below the number given
+count-two : {A : Type 0} (x y : A) (l n : ℕ) → l < 2 → ltb l (length (take n (x ∷ y ∷ []))) ≡ ltb l n
+count-two x y l zero h = refl
+count-two x y l (suc zero) h = refl
+count-two x y l (suc (suc n)) h = ap (λ m. ltb l (suc (suc (length m)))) (take-nil n) ∙ lt-ltb l 2 h ∙ sym (lt-ltb l (suc (suc n)) (omega arith))
+
+pub offered-same : (h : Header) (c : Cell) (a : ℕ)
+    → isOffered (one h c) 0 a
+    ≡ (leb (h .displacement) (c .given + a / 4) && ltb (a % 4 / 2) (c .layouts) && (eqb (a % 2) 0 || c .mirrorable) && leb (c .given + a / 4 - h .displacement + widthIn (cellOf c) (a % 4 / 2)) (h .sites))
+unfolding isOffered poseNumber widthOf headerOf cellOf
+offered-same h c a = rw (count-two _ _ (a % 4 / 2) (c .layouts) (omega arith))
+
+-- ---- what it costs
+
+one-digit : (m : ℕ) → m < 2 → cond (eqb m 1) 1 0 ≡ m
+one-digit m h = go (eqb m 1) (eq? m 1)
+  where
+    go : (t : Bool) → Eq? m 1 t → cond t 1 0 ≡ m
+    go true (same e) = sym e
+    go false (differs d) = omega arith
+
+pub cost-same : (h : Header) (c : Cell) (a : ℕ)
+    → ownOf (one h c) 0 (poseNumber (one h c) 0 a)
+    ≡ h .shift * apart (c .given + a / 4 - h .displacement) (c .given) + h .mirror * (a % 2) + h .swap * (a % 4 / 2)
+unfolding ownOf poseNumber headerOf cellOf
+cost-same h c a = ap₂ (λ x y. h .shift * apart (c .given + a / 4 - h .displacement) (c .given) + h .mirror * x + h .swap * y) (one-digit (a % 2) (omega arith)) (one-digit (a % 4 / 2) (omega arith))
+
+-- not offered; a tall cell's in row 1; otherwise
+module _ (h : Header) (c : Cell) (row a : ℕ) where
+  pub own-none : isOffered (one h c) 0 a ≡ false → B ≡ ownWord (one h c) row 0 a
+  unfolding ownWord
+  own-none e = rw e
+
+  pub own-there : isOffered (one h c) 0 a ≡ true → (eqb (c .row) 2 && eqb row 1) ≡ true → 0 ≡ ownWord (one h c) row 0 a
+  unfolding ownWord cellOf
+  own-there e t = rw (e, t)
+
+  pub own-here : isOffered (one h c) 0 a ≡ true → (eqb (c .row) 2 && eqb row 1) ≡ false → ownOf (one h c) 0 (poseNumber (one h c) 0 a) ≡ ownWord (one h c) row 0 a
+  unfolding ownWord cellOf
+  own-here e t = rw (e, t)
+
+  pub offered-right : isOffered (one h c) 0 a ≡ true → h .displacement ≤ c .given + a / 4
+  unfolding headerOf cellOf
+  offered-right e = offered-low (one h c) 0 a e
+
+-- ---- the other words
+
+module _ (h : Header) (c : Cell) (i : ℕ) where
+  pub shape-given : i ≡ 64 → c .given ≡ shapeWord (one h c) 0 i
+  unfolding shapeWord cellOf
+  shape-given e = rw e
+
+  pub shape-width : 64 < i → i < 67 → widthIn (cellOf c) (i - 65) ≡ shapeWord (one h c) 0 i
+  unfolding shapeWord
+  shape-width g k = rw (ne-eqb i 64 (λ e. omega arith), lt-ltb i 67 k)
+
+  pub shape-tall : 67 ≤ i → cond (eqb (c .row) 2) 1 0 ≡ shapeWord (one h c) 0 i
+  unfolding shapeWord cellOf
+  shape-tall g = rw (ne-eqb i 64 (λ e. omega arith), le-ltb i 67 g)
+
+module _ (h : Header) (c : Cell) (r : Ranged h c) where
+  pub shape-low : (i : ℕ) → shapeWord (one h c) 0 i ≤ B
+  unfolding shapeWord cellOf
+  shape-low i = go (eqb i 64) (ltb i 67) (eqb (c .row) 2)
+    where
+      go : (t u v : Bool) → cond t (c .given) (cond u (widthIn (cellOf c) (i - 65)) (cond v 1 0)) ≤ B
+      go true u v = let g = r .given in omega arith
+      go false true v = let g = r .width (i - 65) in omega arith
+      go false false true = omega arith
+      go false false false = omega arith
+
+  pub height-low : (row u : ℕ) → heightWord (one h c) row 0 u ≤ B
+  unfolding heightWord
+  height-low row u = let g = r .height (u % 4 / 2) (firstOf (cellOf c .row) row + edge u) in omega arith

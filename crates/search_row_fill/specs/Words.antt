@@ -1,0 +1,36 @@
+-- The words of a cell in a row, by their places in deck/specs/Words.antt. Nothing to believe: Matched.antt proves that they stand for the pair's row.
+use Prim.Native.Nat.{ℕ, _+_, _-_, _*_, _/_, _%_}
+use mathlib.Core.Bool.{_&&_, cond}
+use mathlib.Core.List.{[], _∷_}
+use lib.Dec.{ltb, eqb}
+use Rattle.definition.specs.Job.{Header, Cell, Job, isTall}
+use Rattle.definition.specs.Rules.{cellAt}
+use Rattle.theory_bridge.specs.Paired.{isOffered, poseNumber, ownOf}
+use Rattle.theory_tables.specs.Steps.{B}
+use Rattle.score_words.specs.Flat.{widthIn}
+use Rattle.score_steps.specs.Heights.{heightIn, firstOf}
+
+-- a job of one cell: what is said of a cell of a job is said of it alone
+abbrev pub alone : Header → Cell → Job
+alone h c = record { header = h; cells = c ∷ [] }
+
+-- what cell k costs in pose a in a row, B where it is not offered; a tall cell's own cost counts in row 0
+unfoldable pub ownWord : Job → ℕ → ℕ → ℕ → ℕ
+ownWord j row k a = cond (isOffered j k a) (cond (isTall (cellAt j k) && eqb row 1) 0 (ownOf j k (poseNumber j k a))) B
+
+-- words 64 to 67
+unfoldable pub shapeWord : Job → ℕ → ℕ → ℕ
+shapeWord j k i = cond (eqb i 64) (cellAt j k .given) (cond (ltb i 67) (widthIn (cellAt j k) (i - 65)) (cond (isTall (cellAt j k)) 1 0))
+
+-- word 68 + u, a height: u / 8 is 1 for the right edge, u / 4 % 2 is 1 for N, u % 4 / 2 is the layout and u % 2 the mark, which exchanges the edges
+abbrev pub edge : ℕ → ℕ
+edge u = (u / 8 + u % 2) % 2 * 2 + u / 4 % 2
+
+unfoldable pub heightWord : Job → ℕ → ℕ → ℕ → ℕ
+heightWord j row k u = heightIn (cellAt j k) (u % 4 / 2) (firstOf (cellAt j k .row) row + edge u)
+
+-- word i of cell k, which bears a number; document 01 weighs all steps alike
+unfoldable pub cellWord : Job → ℕ → ℕ → ℕ → ℕ → ℕ
+cellWord j row k number i =
+    cond (ltb i 64) (ownWord j row k i)
+    (cond (ltb i 68) (shapeWord j k i) (cond (ltb i 84) (heightWord j row k (i - 68)) (cond (eqb i 84) (j .header .stepWeight) (cond (eqb i 85) number (cond (eqb i 86) (j .header .stepWeight) 0)))))

@@ -1,0 +1,229 @@
+// The rows of a job as the words that the search reads. The words' places stand in deck/specs/Words.antt.
+ghost use mathlib.Core.Path.{_≡_};
+ghost use mathlib.Core.Bool.{_&&_, _||_};
+ghost use Prim.Native.Nat.{_+_, _*_, _/_, _≤_, _<_};
+ghost use lib.ListN.{length};
+ghost use lib.Dec.{eqb};
+ghost use Rattle.definition.specs.Rules.{apart};
+ghost use Rattle.definition.specs.Sound.{Sound};
+ghost use Rattle.job.specs.Value.{jobOf};
+ghost use Rattle.theory_tables.specs.Steps.{B};
+ghost use Rattle.search_lanes.specs.Store.{Low, Written};
+ghost use Rattle.theory_bridge.specs.Paired.{isOffered, poseNumber, ownOf};
+ghost use Rattle.search_row_fill.specs.Words.{edge, ownWord, shapeWord, heightWord, cellWord};
+ghost use Rattle.search_row_fill.specs.Values.{one, Ranged};
+ghost use Rattle.search_row_fill.specs.Filled.{sideOf, Added, Lined};
+ghost use Rattle.search_row_fill.specs.TallWords.{tallsIn, TallsUpto, TallWords};
+use job::Cell;
+use job::Header;
+use job::Job;
+
+// ---- what a cell costs
+
+fn turns(mirrorable: bool, mark: u32) -> bool
+    ensures { λ t. ⌜ t ≡ (eqb mark 0 || mirrorable) ⌝ }
+{
+    if mark == 0 {
+        return true;
+    }
+    mirrorable
+}
+
+// Whether rules 1 to 3 allow the cell pose number a.
+fn is_offered(header: Header, cell: Cell, a: u32) -> bool
+    requires { ⌜ Ranged header cell × (a < 64) ⌝ }
+    ensures { λ t. ⌜ t ≡ isOffered (one header cell) 0 a ⌝ }
+{
+    let x = cell.given + a / 4;
+    if x < header.displacement {
+        return false;
+    }
+    if a % 4 / 2 >= cell.layouts {
+        return false;
+    }
+    if !turns(cell.mirrorable, a % 2) {
+        return false;
+    }
+    x - header.displacement + score_words::width_of(cell, a % 4 / 2) <= header.sites
+}
+
+fn apart_of(x: u32, y: u32) -> u32
+    ensures { λ r. ⌜ r ≡ apart x y ⌝ }
+{
+    if x < y { y - x } else { x - y }
+}
+
+// A weight, so many times.
+fn times(weight: u32, x: u32) -> u32
+    requires { ⌜ (weight ≤ 1000) × (x ≤ 16) ⌝ }
+    ensures { λ r. ⌜ (r ≡ weight * x) × (r ≤ 16000) ⌝ }
+{
+    weight * x
+}
+
+// Shift, mirroring and layout of a pose that is not left of site 0.
+fn pose_cost(header: Header, cell: Cell, a: u32) -> u32
+    requires { ⌜ Ranged header cell × (a < 64) × (header .displacement ≤ cell .given + a / 4) ⌝ }
+    ensures { λ r. ⌜ (r ≡ ownOf (one header cell) 0 (poseNumber (one header cell) 0 a)) × (r ≤ 48000) ⌝ }
+{
+    let given = cell.given;
+    let site = given + a / 4 - header.displacement;
+    let shift = times(header.shift, apart_of(site, given));
+    let mirror = times(header.mirror, a % 2);
+    let swap = times(header.swap, a % 4 / 2);
+    shift + mirror + swap
+}
+
+// Whether what a cell costs by itself is left to the other row: a tall cell's counts in row 0.
+fn counts_there(of: u32, row: u32) -> bool
+    ensures { λ t. ⌜ t ≡ (eqb of 2 && eqb row 1) ⌝ }
+{
+    if of != 2 {
+        return false;
+    }
+    row == 1
+}
+
+// What the cell costs in pose a in a row; NONE where it is not offered.
+fn own_word(header: Header, cell: Cell, row: u32, a: u32) -> u32
+    requires { ⌜ Ranged header cell × (a < 64) ⌝ }
+    ensures { λ r. ⌜ (r ≡ ownWord (one header cell) row 0 a) × (r ≤ B) ⌝ }
+{
+    if !is_offered(header, cell, a) {
+        return search_lanes::NONE;
+    }
+    if counts_there(cell.row, row) {
+        return 0;
+    }
+    pose_cost(header, cell, a)
+}
+
+// ---- the words of a cell
+
+// Words 64 to 67: its given site, the widths of its layouts, whether it is tall.
+fn shape_word(header: Header, cell: Cell, i: u32) -> u32
+    requires { ⌜ (64 ≤ i) × (i < 68) ⌝ }
+    ensures { λ r. ⌜ r ≡ shapeWord (one header cell) 0 i ⌝ }
+{
+    if i == 64 {
+        return cell.given;
+    }
+    if i < 67 {
+        return score_words::width_of(cell, i - 65);
+    }
+    if cell.row == 2 { 1 } else { 0 }
+}
+
+// Where one of the 16 heights stands among the row's four; a mark exchanges the edges.
+fn edge_of(u: u32) -> usize
+    requires { ⌜ u < 16 ⌝ }
+    ensures { λ e. ⌜ (e ≡ edge u) × (e < 4) ⌝ }
+{
+    ((u / 8 + u % 2) % 2 * 2 + u / 4 % 2) as usize
+}
+
+// Words 68 to 83: its heights, by edge, type and variant.
+fn height_word(header: Header, cell: Cell, row: u32, u: u32) -> u32
+    requires { ⌜ (u < 16) × (row ≤ 1) ⌝ }
+    ensures { λ r. ⌜ r ≡ heightWord (one header cell) row 0 u ⌝ }
+{
+    let i = score_steps::first_of(cell.row, row) + edge_of(u);
+    score_steps::height_of(cell, u % 4 / 2, i)
+}
+
+// Word i of a cell that bears a number.
+fn cell_word(header: Header, cell: Cell, row: u32, number: u32, i: u32) -> u32
+    requires { ⌜ Ranged header cell × (row ≤ 1) × (number < 64) ⌝ }
+    ensures { λ r. ⌜ (r ≡ cellWord (one header cell) row 0 number i) × (r ≤ B) ⌝ }
+{
+    if i < 64 {
+        return own_word(header, cell, row, i);
+    }
+    if i < 68 {
+        return shape_word(header, cell, i);
+    }
+    if i < 84 {
+        return height_word(header, cell, row, i - 68);
+    }
+    if i == 84 {
+        return header.step;
+    }
+    if i == 85 {
+        return number;
+    }
+    if i == 86 {
+        return header.step;
+    }
+    0
+}
+
+// The words of a cell; those from 87 on are not used.
+fn fill_cell(line: &mut [u32], at: usize, header: Header, cell: Cell, row: u32, number: u32)
+    requires { ⌜ Ranged header cell × (row ≤ 1) × (number < 64) × (at + 128 ≤ length (now line)) × Low (now line) ⌝ }
+    ensures { λ _. ⌜ Written (cellWord (one header cell) row 0 number) at 87 (now (line .entry)) (now (line .exit)) ⌝ }
+{
+    let mut i: usize = 0;
+    while i < 87 {
+        line[at + i] = cell_word(header, cell, row, number, i as u32);
+        i += 1;
+    }
+}
+
+// ---- the row
+
+// The cell at position n, if it stands in the row; how many cells there are then.
+fn add_cell(line: &mut [u32], n: usize, header: Header, cell: Cell, row: u32, number: u32) -> usize
+    requires { ⌜ Ranged header cell × (row ≤ 1) × (number < 64) × (n < 64) × (8192 ≤ length (now line)) × Low (now line) ⌝ }
+    ensures { λ r. ⌜ Added (one header cell) row number n r (now (line .entry)) (now (line .exit)) ⌝ }
+{
+    if !score_order::stands(cell.row, row) {
+        return n;
+    }
+    fill_cell(line, n * 128, header, cell, row, number);
+    n + 1
+}
+
+// The words of the row's cells, in file order; how many cells it has.
+pub fn fill_line(line: &mut [u32], job: Job, row: u32) -> usize
+    requires { ⌜ Sound (jobOf job) × (job .count ≤ 64) × (row ≤ 1) × (8192 ≤ length (now line)) × Low (now line) ⌝ }
+    ensures { λ n. ⌜ Lined (jobOf job) (sideOf row) (now (line .exit)) n ⌝ }
+{
+    let long = line.len();
+    search_lanes::fill(line, 0, long, 0);
+    let header = job.header;
+    let mut n: usize = 0;
+    let mut k: usize = 0;
+    while k < job.count {
+        n = add_cell(line, n, header, job.cells[k], row, k as u32);
+        k += 1;
+    }
+    n
+}
+
+// ---- the tall cells
+
+// Position p, if its cell is tall; how many there are then.
+fn add_tall(talls: &mut [u32], count: usize, line: &[u32], n: usize, p: usize) -> usize
+    requires { ⌜ (p < n) × (n ≤ 64) × (8192 ≤ length (now line)) × TallsUpto (now line) n (now talls) count p ⌝ }
+    ensures { λ r. ⌜ TallsUpto (now (line .entry)) n (now (talls .exit)) r (p + 1) ⌝ }
+{
+    if line[p * 128 + 67] != 1 {
+        return count;
+    }
+    talls[count] = p as u32;
+    count + 1
+}
+
+// The positions of the tall cells of a row of n cells, in rising order; how many there are.
+pub fn fill_talls(talls: &mut [u32], line: &[u32], n: usize) -> usize
+    requires { ⌜ (n ≤ 64) × (8192 ≤ length (now line)) × (length (tallsIn (now line) n) ≤ length (now talls)) ⌝ }
+    ensures { λ r. ⌜ TallWords (now (line .entry)) n (now (talls .exit)) r ⌝ }
+{
+    let mut count: usize = 0;
+    let mut p: usize = 0;
+    while p < n {
+        count = add_tall(talls, count, line, n, p);
+        p += 1;
+    }
+    count
+}

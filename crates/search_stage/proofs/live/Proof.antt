@@ -1,0 +1,69 @@
+-- The pairs passed have no case. Assumes nothing.
+use Prim.Native.Nat.{ℕ, _+_, _-_, _≤_, _<_}
+use native.Mathlib.Omega.{arith}
+use mathlib.Core.Path.{_≡_}
+use lib.ListN.{getD}
+use borrow.Author.Count.{below-more}
+use borrow.Author.Needs.{needs}
+use Rattle.theory_tables.specs.Steps.{B}
+use Rattle.search_stage.specs.Stage.{fromAt}
+use Rattle.search_stage.specs.Starts.{from-room}
+use Rattle.search_stage.proofs.live.Statement.{statement}
+use Rattle.search_stage.proofs.live.Tie as tie
+
+abbrev Inv-loop : tie.InvT-loop
+Inv-loop store row i starts lanes s t₀ t =
+    (t ≤ starts) × ((u : ℕ) → u < t → (l : ℕ) → l < lanes → B ≤ getD store (fromAt row i s u + l) 0)
+
+abbrev μ-loop : tie.MeasureT-loop
+μ-loop store row i starts lanes s t₀ t = starts - t
+
+loop-holds : tie.Need-loop-holds Inv-loop μ-loop
+loop-holds c = (omega arith, λ u h. absurd (omega arith))
+
+case-from-requires : tie.Need-case-from-requires Inv-loop μ-loop
+case-from-requires c κs =
+    let w = c .before .before .before .pre .0 in
+    (omega (arith, w .stage), omega (arith, w .pairs), omega (arith, w .pairs))
+
+common-requires : tie.Need-common-requires Inv-loop μ-loop
+common-requires c κs =
+    let k = c .before .before .before .before in
+    let a = k .args in
+    omega (arith, c .case-from .ensures, from-room (a .row) (a .i) (a .s) (c .before .before .loop .t) (k .pre .0) (omega arith) (omega arith))
+
+returns : tie.Need-returns Inv-loop μ-loop
+returns c = λ e. absurd (let z : _≡_ {A = ℕ} 0 1 = cc in omega arith)
+
+add-t : tie.Need-add-t Inv-loop μ-loop
+add-t c = search needs
+
+loop-less : tie.Need-loop-less Inv-loop μ-loop
+loop-less c = search needs
+
+loop-again : tie.Need-loop-again Inv-loop μ-loop
+loop-again c =
+    let a = c .before .before .before .before .before .before .args in
+    let l = c .before .before .before .before .loop in (
+      omega arith,
+      below-more (λ (u : ℕ). (l : ℕ) → l < a .lanes → B ≤ getD (a .store .now) (fromAt (a .row) (a .i) (a .s) u + l) 0) (l .t) (l .inv .1)
+          (λ l h. let w : B ≤ getD (a .store .now) (c .before .before .case-from .result + l) 0 = omega (arith, c .before .common .ensures l h) in rw (c .before .before .case-from .ensures) at w),
+    )
+
+returns-2 : tie.Need-returns-2 Inv-loop μ-loop
+returns-2 c = λ e. record { none = λ t l h g. c .before .loop .inv .1 t (omega arith) l g }
+
+pub live-spec : {M : Type 1} → statement M
+live-spec =
+    tie.close
+    (tie.spec
+    Inv-loop
+    μ-loop
+    loop-holds
+    case-from-requires
+    common-requires
+    returns
+    add-t
+    loop-less
+    loop-again
+    returns-2)

@@ -1,0 +1,43 @@
+-- The digit's pair is the next of those to come just if the test says so. Assumes nothing.
+use mathlib.Core.Path.{sym, _∙_}
+use native.Mathlib.Omega.{arith}
+use borrow.Author.Tests.{not-true, not-false}
+use borrow.Author.Needs.{needs}
+use Rattle.search_states.specs.Upto.{skip-digit, next-digit, may-low, room, upto-more, few}
+use Rattle.search_states.proofs.add_digit.Statement.{statement}
+use Rattle.search_states.proofs.add_digit.Tie as tie
+
+may-be-last-requires : tie.Need-may-be-last-requires
+may-be-last-requires c κs = search needs
+
+returns : tie.Need-returns
+returns c =
+    let k = c .before .before .before in
+    skip-digit _ _ _ (omega arith) (sym (c .before .may-be-last .ensures) ∙ not-true (c .before .may-be-last .result) (c .if1 .taken)) (k .pre .3)
+
+put-pair-requires : tie.Need-put-pair-requires
+put-pair-requires c κs =
+    let k = c .before .before .before .before in
+    let t = sym (c .before .before .may-be-last .ensures) ∙ not-false (c .before .before .may-be-last .result) (c .before .if1 .left) in
+    let u = next-digit (k .args .m) (k .args .d) _ (omega arith) t (k .pre .3) in
+    (u .long, room (k .pre .0) u, omega arith, k .pre .1, may-low _ _ _ t)
+
+add-result : tie.Need-add-result
+add-result c =
+    let k = c .before .before .before .before .before .before .before in
+    omega (arith, k .pre .3 .below, few (k .args .r) (k .pre .0))
+
+same-length : tie.Need-same-length
+same-length c = search needs
+
+returns-2 : tie.Need-returns-2
+returns-2 c =
+    let k = c .before .before .before .before .before .before .before in
+    let t = sym (c .before .before .before .before .before .may-be-last .ensures) ∙ not-false (c .before .before .before .before .before .may-be-last .result) (c .before .before .before .before .if1 .left) in
+    let u = next-digit (k .args .m) (k .args .d) _ (omega arith) t (k .pre .3) in
+    rw (c .before .before .put-pair .ensures) (upto-more (k .pre .0) u)
+
+pub add-digit-spec : {M : Type 1} → statement M
+add-digit-spec =
+    tie.close
+    (tie.spec may-be-last-requires returns put-pair-requires add-result same-length returns-2)

@@ -1,0 +1,74 @@
+-- Each turn settles one digit; the marks after m are still to come. Assumes nothing.
+use Prim.Native.Nat.{suc, _+_, _*_, _-_, _≤_}
+use mathlib.Core.Path.{_≡_, refl, sym, _∙_}
+use mathlib.Core.List.{_++_}
+use native.Mathlib.Omega.{arith}
+use borrow.Author.Tests.{not-true, not-false}
+use borrow.Author.Needs.{needs}
+use lib.ListN.{length}
+use Rattle.search_states.specs.Upto.{digitsFrom, marksFrom, Upto, skip-marks, next-marks, no-digit}
+use Rattle.search_states.proofs.add_marks.Statement.{statement}
+use Rattle.search_states.proofs.add_marks.Tie as tie
+
+abbrev Inv-loop : tie.InvT-loop
+Inv-loop pairs₀ count r m n₀ d₀ pairs n d = (d ≤ suc (2 * r)) × (length pairs ≡ length pairs₀) × Upto r pairs n (digitsFrom r m d ++ marksFrom r (m + 1))
+
+abbrev μ-loop : tie.MeasureT-loop
+μ-loop pairs₀ count r m n₀ d₀ pairs n d = suc (2 * r) - d
+
+is-marks-requires : tie.Need-is-marks-requires Inv-loop μ-loop
+is-marks-requires c κs = search needs
+
+returns : tie.Need-returns Inv-loop μ-loop
+returns c =
+    let k = c .before .before .before in
+    skip-marks (k .args .m) (k .pre .1) (sym (c .before .is-marks .ensures) ∙ not-true (c .before .is-marks .result) (c .if1 .taken)) (k .pre .3)
+
+loop-holds : tie.Need-loop-holds Inv-loop μ-loop
+loop-holds c =
+    let k = c .before .before .before in
+    (omega arith, refl, next-marks (k .args .m) (k .pre .1) (sym (c .before .is-marks .ensures) ∙ not-false (c .before .is-marks .result) (c .if1 .left)) (k .pre .3))
+
+mul-loop : tie.Need-mul-loop Inv-loop μ-loop
+mul-loop c = omega arith
+
+add-digit-requires : tie.Need-add-digit-requires Inv-loop μ-loop
+add-digit-requires c κs =
+    let l = c .before .before in
+    let k = l .before .before .before .before in
+    (k .pre .0, k .pre .2, c .before .loop-test .taken, l .loop .inv .2)
+
+add-d : tie.Need-add-d Inv-loop μ-loop
+add-d c = omega arith
+
+loop-less : tie.Need-loop-less Inv-loop μ-loop
+loop-less c = omega arith
+
+loop-again : tie.Need-loop-again Inv-loop μ-loop
+loop-again c = (omega arith, omega arith, c .before .before .add-digit .ensures)
+
+same-length : tie.Need-same-length Inv-loop μ-loop
+same-length c = search needs
+
+returns-2 : tie.Need-returns-2 Inv-loop μ-loop
+returns-2 c =
+    let l = c .before in
+    let k = l .before .before .before .before in
+    no-digit (k .args .m) (l .loop .d) _ (c .loop-test .left) (l .loop .inv .2)
+
+pub add-marks-spec : {M : Type 1} → statement M
+add-marks-spec =
+    tie.close
+    (tie.spec
+    Inv-loop
+    μ-loop
+    is-marks-requires
+    returns
+    loop-holds
+    mul-loop
+    add-digit-requires
+    add-d
+    loop-less
+    loop-again
+    same-length
+    returns-2)

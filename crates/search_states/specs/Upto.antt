@@ -1,0 +1,206 @@
+-- The words of the pairs while they are written: those below a count are right, and the others are still to come, marks by marks and digit by digit.
+-- Assumes nothing.
+use Prim.Native.Nat.{ℕ, zero, suc, _+_, _*_, _/_, _%_, _^_, _≤_, _<_}
+use mathlib.Core.Path.{_≡_, refl, sym, ap, ap₂, _∙_}
+use mathlib.Core.Bool.{Bool, true, false, _&&_, _||_, cond, false≢true}
+use mathlib.Core.List.{List, [], _∷_, _++_, map}
+use native.Mathlib.Omega.{arith}
+use borrow.Author.Count.{below-more}
+use lib.Count.{ones}
+use lib.Dec.{eqb, lit≤}
+use lib.ListN.{length, getD, drop, set, length-set}
+use lib.Seq.{getD-set-same, getD-set-other}
+use Rattle.theory_row.specs.Lists.{Eq?, same, eq?}
+use Rattle.theory_row.specs.Marks.{bit}
+use Rattle.theory_pair.specs.Pick.{goodMarks}
+use Rattle.theory_pair.specs.Forward.{each}
+use Rattle.theory_tables.specs.Steps.{mayBeLast, pairsOf, pairCount, offset, marks, marksBefore, before}
+use Rattle.theory_tables.specs.Pairs.{pair-at, count-0, count-1, count-2}
+use Rattle.search_row.specs.Words.{PairWords}
+use Rattle.search_states.specs.Rest.{rest, rest-none, rest-more, rest-all, next, done}
+
+-- m has R + 1 ones, the lowest digit among them
+abbrev pub isMarks : ℕ → ℕ → Bool
+isMarks R m = eqb (m % 2) 1 && eqb (ones m) (suc R)
+
+-- the pairs of the marks m from digit d on; of all marks from m on; both in their order
+unfoldable pub digitsFrom : ℕ → ℕ → ℕ → List (ℕ × ℕ)
+digitsFrom R m d = map (λ d. (d, m)) (rest (mayBeLast R m) d (suc (2 * R)))
+
+unfoldable pub marksFrom : ℕ → ℕ → List (ℕ × ℕ)
+marksFrom R m = each (rest (isMarks R) m (2 ^ suc (2 * R))) λ m. digitsFrom R m 0
+
+pub digits-none : (R m d : ℕ) → 2 * R < d → digitsFrom R m d ≡ []
+unfolding digitsFrom
+digits-none R m d h = rw (rest-none (mayBeLast R m) d (suc (2 * R)) h)
+
+pub digits-more : (R m d : ℕ) → d ≤ 2 * R → digitsFrom R m d ≡ cond (mayBeLast R m d) ((d, m) ∷ digitsFrom R m (d + 1)) (digitsFrom R m (d + 1))
+unfolding digitsFrom
+digits-more R m d h = ap (map (λ d. (d, m))) (rest-more (mayBeLast R m) d (suc (2 * R)) (omega arith)) ∙ go (mayBeLast R m d)
+  where
+    go : (t : Bool) → map (λ d. (d, m)) (cond t (d ∷ rest (mayBeLast R m) (d + 1) (suc (2 * R))) (rest (mayBeLast R m) (d + 1) (suc (2 * R))))
+        ≡ cond t ((d, m) ∷ digitsFrom R m (d + 1)) (digitsFrom R m (d + 1))
+    go true = refl
+    go false = refl
+
+pub marks-none : (R m : ℕ) → 2 ^ suc (2 * R) ≤ m → marksFrom R m ≡ []
+unfolding marksFrom each
+marks-none R m h = rw (rest-none (isMarks R) m (2 ^ suc (2 * R)) h)
+
+pub marks-more : (R m : ℕ) → m < 2 ^ suc (2 * R) → marksFrom R m ≡ cond (isMarks R m) (digitsFrom R m 0 ++ marksFrom R (m + 1)) (marksFrom R (m + 1))
+unfolding marksFrom each
+marks-more R m h = ap (λ l. each l λ m. digitsFrom R m 0) (rest-more (isMarks R) m (2 ^ suc (2 * R)) h) ∙ go (isMarks R m)
+  where
+    go : (t : Bool) → each (cond t (m ∷ rest (isMarks R) (m + 1) (2 ^ suc (2 * R))) (rest (isMarks R) (m + 1) (2 ^ suc (2 * R)))) (λ m. digitsFrom R m 0)
+        ≡ cond t (digitsFrom R m 0 ++ marksFrom R (m + 1)) (marksFrom R (m + 1))
+    go true = refl
+    go false = refl
+
+pub marks-all : (R : ℕ) → pairsOf R ≡ marksFrom R 0
+unfolding pairsOf marksFrom goodMarks digitsFrom
+marks-all R = simp rest-all
+
+-- ---- words written so far
+
+-- what one pair is written as
+abbrev pub withPair : List ℕ → ℕ → ℕ → ℕ → List ℕ
+withPair pairs q d m = set (set (set pairs (q * 4) d) (q * 4 + 1) m) (q * 4 + 2) (marksBefore d m)
+
+-- the first `count` pairs are written, and `l` is still to come
+pub record Upto (R : ℕ) (pairs : List ℕ) (count : ℕ) (l : List (ℕ × ℕ)) : Type 0 where
+  pub long : 48 ≤ length pairs
+  pub below : count ≤ pairCount R
+  pub left : drop count (pairsOf R) ≡ l
+  pub digit : (q : ℕ) → q < count → getD pairs (q * 4) 0 ≡ offset R q
+  pub mark : (q : ℕ) → q < count → getD pairs (q * 4 + 1) 0 ≡ marks R q
+  pub earlier : (q : ℕ) → q < count → getD pairs (q * 4 + 2) 0 ≡ before R q
+
+pub upto-none : (R : ℕ) (pairs : List ℕ) → 48 ≤ length pairs → Upto R pairs 0 (marksFrom R 0)
+upto-none R pairs h = record {
+  long = h;
+  below = omega arith;
+  left = marks-all R;
+  digit = λ q h. absurd (omega arith);
+  mark = λ q h. absurd (omega arith);
+  earlier = λ q h. absurd (omega arith);
+}
+
+-- twelve pairs at most, and at least one
+pub few : (R : ℕ) → R ≤ 2 → (pairCount R ≤ 12) × (1 ≤ pairCount R)
+few zero h = (omega (arith, count-0), omega (arith, count-0))
+few (suc zero) h = (omega (arith, count-1), omega (arith, count-1))
+few (suc (suc zero)) h = (omega (arith, count-2), omega (arith, count-2))
+few (suc (suc (suc R))) h = absurd (omega arith)
+
+-- ---- one pair more
+
+module _ (p : List ℕ) (n d m : ℕ) (h : n * 4 + 2 < length p) where
+  with-other : (i : ℕ) → i < n * 4 → getD (withPair p n d m) i 0 ≡ getD p i 0
+  with-other i l =
+      getD-set-other (set (set p (n * 4) d) (n * 4 + 1) m) (n * 4 + 2) i (marksBefore d m) 0 (omega arith)
+      ∙ getD-set-other (set p (n * 4) d) (n * 4 + 1) i m 0 (omega arith)
+      ∙ getD-set-other p (n * 4) i d 0 (omega arith)
+
+  with-digit : getD (withPair p n d m) (n * 4) 0 ≡ d
+  with-digit =
+      getD-set-other (set (set p (n * 4) d) (n * 4 + 1) m) (n * 4 + 2) (n * 4) (marksBefore d m) 0 (omega arith)
+      ∙ getD-set-other (set p (n * 4) d) (n * 4 + 1) (n * 4) m 0 (omega arith)
+      ∙ getD-set-same p (n * 4) d 0 (omega arith)
+
+  with-mark : getD (withPair p n d m) (n * 4 + 1) 0 ≡ m
+  with-mark =
+      getD-set-other (set (set p (n * 4) d) (n * 4 + 1) m) (n * 4 + 2) (n * 4 + 1) (marksBefore d m) 0 (omega arith)
+      ∙ getD-set-same (set p (n * 4) d) (n * 4 + 1) m 0 (simp length-set (omega arith))
+
+  with-before : getD (withPair p n d m) (n * 4 + 2) 0 ≡ marksBefore d m
+  with-before = getD-set-same (set (set p (n * 4) d) (n * 4 + 1) m) (n * 4 + 2) (marksBefore d m) 0 (simp length-set (omega arith))
+
+pub room : {R : ℕ} {p : List ℕ} {n d m : ℕ} {l : List (ℕ × ℕ)} → R ≤ 2 → Upto R p n ((d, m) ∷ l) → n < 12
+room {R} {n = n} r u = let k = next {d = (0, 0)} (pairsOf R) n (u .left) in omega (arith, k .inside, few R r)
+
+pub upto-more : {R : ℕ} {p : List ℕ} {n d m : ℕ} {l : List (ℕ × ℕ)} → R ≤ 2 → Upto R p n ((d, m) ∷ l) → Upto R (withPair p n d m) (n + 1) l
+upto-more {R} {p} {n} {d} {m} {l} r u =
+    let k = next {d = (0, 0)} (pairsOf R) n (u .left) in
+    let x : n < 12 = room r u in
+    let h : n * 4 + 2 < length p = omega (arith, u .long) in
+    let i : n < length (pairsOf R) = k .inside in
+    let y : offset R n ≡ d = ap (λ z. z .0) (k .here) in
+    let z : marks R n ≡ m = ap (λ z. z .1) (k .here) in
+    record {
+      long = simp length-set (u .long);
+      below = omega arith;
+      left = k .after;
+      digit = below-more (λ q. getD (withPair p n d m) (q * 4) 0 ≡ offset R q) n (λ q g. with-other p n d m h (q * 4) (omega arith) ∙ u .digit q g) (with-digit p n d m h ∙ sym y);
+      mark = below-more (λ q. getD (withPair p n d m) (q * 4 + 1) 0 ≡ marks R q) n (λ q g. with-other p n d m h (q * 4 + 1) (omega arith) ∙ u .mark q g) (with-mark p n d m h ∙ sym z);
+      earlier = below-more (λ q. getD (withPair p n d m) (q * 4 + 2) 0 ≡ before R q) n (λ q g. with-other p n d m h (q * 4 + 2) (omega arith) ∙ u .earlier q g)
+          (with-before p n d m h ∙ sym (ap₂ marksBefore y z));
+    }
+
+-- ---- all pairs
+
+-- what is written in the end: all pairs, so many
+pub record Paired (R : ℕ) (pairs : List ℕ) (count : ℕ) : Type 0 where
+  pub coded : PairWords R pairs
+  pub all : count ≡ pairCount R
+  pub some : 1 ≤ count
+
+pub upto-all : {R : ℕ} {p : List ℕ} {n : ℕ} → R ≤ 2 → Upto R p n [] → Paired R p n
+upto-all {R} {p} {n} r u =
+    let e : n ≡ pairCount R = done (pairsOf R) n (u .below) (u .left) in
+    record {
+      coded = record {
+        reorder = r;
+        few = few R r .0;
+        small = λ q h. let f = pair-at R q h .far in omega arith;
+        long = u .long;
+        digit = λ q h. u .digit q (omega arith);
+        mark = λ q h. u .mark q (omega arith);
+        earlier = λ q h. u .earlier q (omega arith);
+      };
+      all = e;
+      some = omega (arith, few R r);
+    }
+
+-- ---- what a test says
+
+may-set : (R m d : ℕ) → mayBeLast R m d ≡ true → bit m d ≡ 1
+may-set R m d e = go (eqb (bit m d) 1) (eq? (bit m d) 1) e
+  where
+    go : (t : Bool) → Eq? (bit m d) 1 t → (t && (eqb (bit m (2 * R)) 0 || eqb d (2 * R))) ≡ true → bit m d ≡ 1
+    go true (same z) e = z
+    go false z e = absurd (false≢true e)
+
+set-low : (d m : ℕ) → bit m d ≡ 1 → 2 ^ d ≤ m
+unfolding bit
+set-low zero m h = omega arith
+set-low (suc d) m h = let r = set-low d (m / 2) h in omega arith
+
+-- a digit that is set stands for no more than the number
+pub may-low : (R m d : ℕ) → mayBeLast R m d ≡ true → 2 ^ d ≤ m
+may-low R m d e = set-low d m (may-set R m d e)
+
+module _ {R : ℕ} {p : List ℕ} {n : ℕ} where
+  pub skip-digit : (m d : ℕ) (l : List (ℕ × ℕ)) → d ≤ 2 * R → mayBeLast R m d ≡ false → Upto R p n (digitsFrom R m d ++ l) → Upto R p n (digitsFrom R m (d + 1) ++ l)
+  skip-digit m d l h e u = rw (digits-more R m d h, e) at u
+
+  pub next-digit : (m d : ℕ) (l : List (ℕ × ℕ)) → d ≤ 2 * R → mayBeLast R m d ≡ true → Upto R p n (digitsFrom R m d ++ l) → Upto R p n ((d, m) ∷ (digitsFrom R m (d + 1) ++ l))
+  next-digit m d l h e u = rw (digits-more R m d h, e) at u
+
+  pub no-digit : (m d : ℕ) (l : List (ℕ × ℕ)) → 2 * R < d → Upto R p n (digitsFrom R m d ++ l) → Upto R p n l
+  no-digit m d l h u = rw (digits-none R m d h) at u
+
+  pub skip-marks : (m : ℕ) → m < 2 ^ suc (2 * R) → isMarks R m ≡ false → Upto R p n (marksFrom R m) → Upto R p n (marksFrom R (m + 1))
+  skip-marks m h e u = rw (marks-more R m h, e) at u
+
+  pub next-marks : (m : ℕ) → m < 2 ^ suc (2 * R) → isMarks R m ≡ true → Upto R p n (marksFrom R m) → Upto R p n (digitsFrom R m 0 ++ marksFrom R (m + 1))
+  next-marks m h e u = rw (marks-more R m h, e) at u
+
+  pub no-marks : (m : ℕ) → 2 ^ suc (2 * R) ≤ m → Upto R p n (marksFrom R m) → Upto R p n []
+  no-marks m h u = rw (marks-none R m h) at u
+
+-- where the marks end: 2 << 2 R, at most 32
+pub marks-end : (R : ℕ) → R ≤ 2 → (2 * 2 ^ (2 * R) % 4294967296 ≡ 2 ^ suc (2 * R)) × (2 ^ suc (2 * R) ≤ 32)
+marks-end zero h = (refl, lit≤ tt)
+marks-end (suc zero) h = (refl, lit≤ tt)
+marks-end (suc (suc zero)) h = (refl, lit≤ tt)
+marks-end (suc (suc (suc R))) h = absurd (omega arith)

@@ -1,0 +1,79 @@
+-- A source that ends right of all rows that count, or whose lanes are all NONE, lowers nothing; another one is spread over the planes. Assumes nothing.
+use Prim.Native.Nat.{ℕ, _+_, _*_}
+use mathlib.Core.Path.{_≡_, refl}
+use native.Mathlib.Omega.{arith}
+use lib.ListN.{getD}
+use Rattle.search_buckets.specs.Rows.{endRow, payIn}
+use Rattle.search_buckets.specs.Laws.{row-miss, row-above}
+use Rattle.search_wide_buckets.specs.TableLaws.{spread-all, gathered-none}
+use Rattle.search_buckets.specs.Sources.{pays-low, pose-pays}
+use Rattle.search_wide_buckets.specs.SpreadLaws.{nine-most}
+use borrow.Author.Needs.{needs}
+use Rattle.search_wide_buckets.proofs.from_pose.Statement.{statement}
+use Rattle.search_wide_buckets.proofs.from_pose.Tie as tie
+
+end-row-requires : tie.Need-end-row-requires
+end-row-requires c κs = search needs
+
+returns : tie.Need-returns
+returns c =
+    let k = c .before .before .before .before in
+    let a = k .args in (
+      gathered-none _ _ _ (k .pre .0 .tableLow)
+          (λ l v s i j h. omega (arith, row-miss (endRow (a .line .now) (a .k) (a .b) (a .m)) s (getD (a .store .now) (a .at + a .b * 64 + l) 0 + payIn (a .line .now) (a .k) (a .b) (a .m) v) (λ e. omega (arith, c .before .end-row .ensures)))),
+      λ e. refl,
+    )
+
+mul-common : tie.Need-mul-common
+mul-common c = search needs
+
+add-common : tie.Need-add-common
+add-common c = search needs
+
+common-requires : tie.Need-common-requires
+common-requires c κs = search needs
+
+returns-2 : tie.Need-returns-2
+returns-2 c =
+    let k = c .before .before .before .before .before .before in
+    let a = k .args in (
+      gathered-none _ _ _ (k .pre .0 .tableLow)
+          (λ l v s i j h.
+          omega (arith, c .before .common .ensures l i, row-above (endRow (a .line .now) (a .k) (a .b) (a .m)) s (getD (a .store .now) (a .at + a .b * 64 + l) 0 + payIn (a .line .now) (a .k) (a .b) (a .m) v))),
+      λ e. refl,
+    )
+
+mul-spread-row : tie.Need-mul-spread-row
+mul-spread-row c = search needs
+
+add-spread-row : tie.Need-add-spread-row
+add-spread-row c = search needs
+
+spread-row-requires : tie.Need-spread-row-requires
+spread-row-requires c κs =
+    let k = c .before .before .before .before .before .before .before in
+    let g = k .pre .0 in
+    (g .tableLow, g .tableLong, g .low, omega (arith, g .room, g .narrow), pays-low (g .words) (k .pre .1), omega arith, omega arith, omega (arith, g .narrow), g .needed)
+
+returns-3 : tie.Need-returns-3
+returns-3 c =
+    let k = c .before .before .before .before .before .before .before .before in
+    let a = k .args in (
+      spread-all (k .pre .3) (c .spread-row .ensures) (λ l v s i j. pose-pays (a .b) v s (getD (a .store .now) (a .at + a .b * 64 + l) 0) (k .pre .1) (c .before .before .before .before .before .end-row .ensures) j (nine-most (k .pre .0 .needed))),
+      λ e. absurd (let z : _≡_ {A = ℕ} 0 1 = cc in omega arith),
+    )
+
+pub from-pose-spec : {M : Type 1} → statement M
+from-pose-spec =
+    tie.close
+    (tie.spec
+    end-row-requires
+    returns
+    mul-common
+    add-common
+    common-requires
+    returns-2
+    mul-spread-row
+    add-spread-row
+    spread-row-requires
+    returns-3)

@@ -1,0 +1,84 @@
+-- After b turns the poses below b are gathered. Assumes nothing.
+use Prim.Native.Nat.{ℕ, _-_, _≤_}
+use mathlib.Core.Path.{_≡_, refl, sym, _∙_}
+use mathlib.Core.Bool.{true, false}
+use mathlib.Core.Logic.{⊎-elim}
+use native.Mathlib.Omega.{arith}
+use Rattle.search_buckets.specs.Rows.{rowsOf}
+use Rattle.search_wide_buckets.specs.Table.{Gathered, rowIn, posesIn}
+use Rattle.search_wide_buckets.specs.TableLaws.{gathered-none, gathered-join, source-on}
+use Rattle.search_buckets.specs.Sources.{poses-none, poses-more}
+use borrow.Author.Needs.{needs}
+use Rattle.search_wide_buckets.proofs.from_poses.Statement.{statement}
+use Rattle.search_wide_buckets.proofs.from_poses.Tie as tie
+
+true-false : true ≡ false → ⊥
+true-false e = let z : _≡_ {A = ℕ} 0 1 = cc in omega arith
+
+abbrev Inv-loop : tie.InvT-loop
+Inv-loop table₀ store line pays at k m poses planes lanes rows used₀ b₀ table used b =
+    (b ≤ poses) × (rows ≡ rowsOf poses) × Gathered (posesIn store line at k m b) rows planes lanes table₀ table × (used ≡ false → table ≡ table₀)
+
+abbrev μ-loop : tie.MeasureT-loop
+μ-loop table₀ store line pays at k m poses planes lanes rows used₀ b₀ table used b =
+    poses - b
+
+rows-of-requires : tie.Need-rows-of-requires Inv-loop μ-loop
+rows-of-requires c κs = search needs
+
+loop-holds : tie.Need-loop-holds Inv-loop μ-loop
+loop-holds c =
+    let k = c .before .before .before in
+    let a = k .args in (
+      omega arith,
+      c .rows-of .ensures,
+      gathered-none _ _ _ (k .pre .0 .tableLow) (λ l v t i j h. omega (arith, poses-none (a .line .now) (a .k) (a .m) (rowIn (a .store .now) (a .at) l) v t)),
+      λ e. refl,
+    )
+
+from-pose-requires : tie.Need-from-pose-requires Inv-loop μ-loop
+from-pose-requires c κs =
+    let k = c .before .before .before .before .before .before in
+    let l = c .before .before .loop in
+    (source-on (k .pre .0) (l .inv .2), k .pre .1, omega arith, omega arith)
+
+add-b : tie.Need-add-b Inv-loop μ-loop
+add-b c = search needs
+
+loop-less : tie.Need-loop-less Inv-loop μ-loop
+loop-less c = search needs
+
+loop-again : tie.Need-loop-again Inv-loop μ-loop
+loop-again c =
+    let k = c .before .before .before .before .before .before .before .before in
+    let a = k .args in
+    let l = c .before .before .before .before .loop in (
+      omega arith,
+      l .inv .1,
+      gathered-join (l .inv .2) (c .before .from-pose .ensures .0) (λ j v t i. poses-more (a .line .now) (a .k) (a .m) (rowIn (a .store .now) (a .at) j) (l .b) v t),
+      λ e.
+          ⊎-elim
+          (λ w. absurd (true-false (sym (w .1) ∙ e)))
+          (λ w. c .before .from-pose .ensures .1 (w .0 .left) ∙ l .inv .3 (sym (w .1) ∙ e))
+          (c .if1 .came),
+    )
+
+returns : tie.Need-returns Inv-loop μ-loop
+returns c =
+    let l = c .before .loop in
+    let e : l .b ≡ c .before .before .before .before .before .args .poses = omega arith in
+    (rw (e, l .inv .1) at (l .inv .2), l .inv .3)
+
+pub from-poses-spec : {M : Type 1} → statement M
+from-poses-spec =
+    tie.close
+    (tie.spec
+    Inv-loop
+    μ-loop
+    rows-of-requires
+    loop-holds
+    from-pose-requires
+    add-b
+    loop-less
+    loop-again
+    returns)

@@ -1,0 +1,32 @@
+-- Planes 5 to 8 follow where they are needed. Assumes nothing.
+use mathlib.Core.Path.{_≡_, _∙_}
+use native.Mathlib.Omega.{arith}
+use Rattle.search_wide_buckets.specs.SpreadLaws.{five-least, nine-else, pays-fewer, spread-join}
+use Rattle.search_wide_buckets.proofs.spread_lane.Statement.{statement}
+use Rattle.search_wide_buckets.proofs.spread_lane.Tie as tie
+
+spread-one-requires : tie.Need-spread-one-requires
+spread-one-requires c κs =
+    let k = c .before in
+    (k .pre .0, k .pre .1, k .pre .2, pays-fewer 5 (k .pre .3) (five-least (k .pre .7)), k .pre .4, k .pre .5, k .pre .6)
+
+returns : tie.Need-returns
+returns c =
+    let e : c .before .before .before .args .planes ≡ 5 = omega arith in
+    rw e (c .before .spread-one .ensures)
+
+spread-near-requires : tie.Need-spread-near-requires
+spread-near-requires c κs =
+    let k = c .before .before .before .before in
+    let w = c .before .before .spread-one .ensures in
+    let e = nine-else (k .pre .7) (λ h. omega arith) in
+    (w .low, w .long ∙ k .pre .1, k .pre .2, pays-fewer 9 (k .pre .3) (omega arith), k .pre .4, k .pre .5, k .pre .6, omega arith, omega arith)
+
+returns-2 : tie.Need-returns-2
+returns-2 c =
+    let k = c .before .before .before .before .before in
+    let e = nine-else (k .pre .7) (λ h. omega arith) in
+    rw e (spread-join (omega arith) (omega arith) (c .before .before .before .spread-one .ensures) (c .spread-near .ensures))
+
+pub spread-lane-spec : {M : Type 1} → statement M
+spread-lane-spec = tie.close (tie.spec spread-one-requires returns spread-near-requires returns-2)

@@ -1,0 +1,32 @@
+-- Planes 5 to 8 follow where they are needed. Assumes nothing.
+use mathlib.Core.Path.{_≡_, _∙_}
+use native.Mathlib.Omega.{arith}
+use Rattle.search_wide_buckets.specs.SpreadLaws.{five-least, nine-else, pays-fewer, spread-join}
+use Rattle.search_wide_buckets.proofs.spread_row.Statement.{statement}
+use Rattle.search_wide_buckets.proofs.spread_row.Tie as tie
+
+spread-requires : tie.Need-spread-requires
+spread-requires c κs =
+    let k = c .before .before in
+    (k .pre .0, k .pre .1, k .pre .2, k .pre .3, pays-fewer 5 (k .pre .4) (five-least (k .pre .8)), k .pre .5, k .pre .6, k .pre .7)
+
+returns : tie.Need-returns
+returns c =
+    let e : c .before .before .before .before .args .planes ≡ 5 = omega arith in
+    rw e (c .before .spread .ensures)
+
+spread-apart-requires : tie.Need-spread-apart-requires
+spread-apart-requires c κs =
+    let k = c .before .before .before .before .before in
+    let w = c .before .before .spread .ensures in
+    let e = nine-else (k .pre .8) (λ h. omega arith) in
+    (w .low, w .long ∙ k .pre .1, k .pre .2, k .pre .3, pays-fewer 9 (k .pre .4) (omega arith), k .pre .5, k .pre .6, k .pre .7)
+
+returns-2 : tie.Need-returns-2
+returns-2 c =
+    let k = c .before .before .before .before .before .before in
+    let e = nine-else (k .pre .8) (λ h. omega arith) in
+    rw e (spread-join (omega arith) (omega arith) (c .before .before .before .spread .ensures) (c .spread-apart .ensures))
+
+pub spread-row-spec : {M : Type 1} → statement M
+spread-row-spec = tie.close (tie.spec spread-requires returns spread-apart-requires returns-2)

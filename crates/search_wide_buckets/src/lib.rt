@@ -1,0 +1,328 @@
+// Sources gathered by their end site, for one target cell: a table of 9 planes of 19 rows of 64 lanes, plane v from 1216 v on (crate planes tells what
+// the planes are). Row t has the sources that end at the target's first site - 4 + t, row 0 those further left too. Plane 0 has them by themselves, planes 1
+// to 4 with what they pay at gap 0 to each variant of the target, planes 5 to 8 with what they pay at gaps 2 and 3. A target whose weights are all equal
+// needs 5 planes: planes 1 to 4 serve for gaps 2 and 3 too. Only the rows that some pose looks at count.
+ghost use mathlib.Core.Path.{_≡_};
+ghost use mathlib.Core.Bool.{false};
+ghost use Prim.Native.Nat.{suc, _+_, _*_, _-_, _≤_, _<_};
+ghost use lib.ListN.{length};
+ghost use Rattle.theory_tables.specs.Steps.{B};
+ghost use Rattle.search_lanes.specs.Lanes.{always, wordsFrom};
+ghost use Rattle.search_lanes.specs.Store.{Low, Written, FilledPair};
+ghost use Rattle.search_buckets.specs.Rows.{rowsOf, Pays, PaysLow};
+ghost use Rattle.search_wide_buckets.specs.Table.{LoweredAt, Cleared, Gathered, FiveOrNine, chargedBy, chargedOne, Spread, Source, poseIn, posesIn};
+ghost use Rattle.search_wide_buckets.specs.Table.{RunUp, foundIn, foundRow, foundRowOf, foundRows, ToRows};
+
+// ---- the rows that count
+
+// NONE in the lanes and rows that count, in so many planes.
+pub fn reset(table: &mut [u32; 10944], planes: usize, poses: usize, lanes: usize)
+    requires { ⌜ Low (now table) × (length (now table) ≡ 10944) × (planes ≤ 9) × (poses ≤ 60) × (lanes ≤ 64) ⌝ }
+    ensures { λ _. ⌜ Cleared (rowsOf poses) lanes planes (now (table .exit)) ⌝ }
+{
+    let rows = search_buckets::rows_of(poses);
+    let mut v: usize = 0;
+    while v < planes {
+        search_lanes::fill_rows(table, v * 1216, rows, lanes, search_lanes::NONE);
+        v += 1;
+    }
+}
+
+// ---- one source
+
+// One word lowered.
+fn lower_one(table: &mut [u32; 10944], to: usize, x: u32)
+    requires { ⌜ (to < 10944) × (length (now table) ≡ 10944) × Low (now table) × (x ≤ 536870912) ⌝ }
+    ensures { λ _. ⌜ LoweredAt (always x) to 1 (now (table .entry)) (now (table .exit)) ⌝ }
+{
+    table[to] = search_lanes::lesser(table[to], x);
+}
+
+// A source of cost x in one lane to row t of four planes, those from `first` on: planes 1 to 4 or 5 to 8, where row 0 does not count.
+fn spread_near(
+    table: &mut [u32; 10944],
+    x: u32,
+    pays: &[u32; 36],
+    u: usize,
+    t: usize,
+    lane: usize,
+    first: usize,
+)
+    requires { ⌜ Low (now table) × (length (now table) ≡ 10944) × (x ≤ B) × PaysLow (first + 4) (now pays) × (u < 4) × (t < 19) × (lane < 64) × (1 ≤ first) × (first ≤ 5) ⌝ }
+    ensures { λ _. ⌜ Spread (chargedOne x (now (pays .entry)) u) t first (first + 4) lane 1 (now (table .entry)) (now (table .exit)) ⌝ }
+{
+    if t == 0 {
+        return;
+    }
+    let mut v: usize = 0;
+    while v < 4 {
+        lower_one(
+            table,
+            (first + v) * 1216 + t * 64 + lane,
+            x + pays[u * 9 + (first + v)],
+        );
+        v += 1;
+    }
+}
+
+// The same to plane 0 and planes 1 to 4.
+fn spread_one(table: &mut [u32; 10944], x: u32, pays: &[u32; 36], u: usize, t: usize, lane: usize)
+    requires { ⌜ Low (now table) × (length (now table) ≡ 10944) × (x ≤ B) × PaysLow 5 (now pays) × (u < 4) × (t < 19) × (lane < 64) ⌝ }
+    ensures { λ _. ⌜ Spread (chargedOne x (now (pays .entry)) u) t 0 5 lane 1 (now (table .entry)) (now (table .exit)) ⌝ }
+{
+    lower_one(table, t * 64 + lane, x + pays[u * 9]);
+    spread_near(table, x, pays, u, t, lane, 1);
+}
+
+// The same to all planes that are needed.
+pub fn spread_lane(
+    table: &mut [u32; 10944],
+    x: u32,
+    pays: &[u32; 36],
+    u: usize,
+    t: usize,
+    lane: usize,
+    planes: usize,
+)
+    requires { ⌜ Low (now table) × (length (now table) ≡ 10944) × (x ≤ B) × PaysLow planes (now pays) × (u < 4) × (t < 19) × (lane < 64) × FiveOrNine planes ⌝ }
+    ensures { λ _. ⌜ Spread (chargedOne x (now (pays .entry)) u) t 0 planes lane 1 (now (table .entry)) (now (table .exit)) ⌝ }
+{
+    spread_one(table, x, pays, u, t, lane);
+    if planes == 5 {
+        return;
+    }
+    spread_near(table, x, pays, u, t, lane, 5);
+}
+
+// A source row, so many lanes, by its variant u: to row t of planes 0 to 4, or of plane 0 alone if t is 0. The planes of a lane are lowered together,
+// so that each word of the row is read once.
+fn spread(
+    table: &mut [u32; 10944],
+    row: &[u32],
+    at: usize,
+    pays: &[u32; 36],
+    u: usize,
+    t: usize,
+    lanes: usize,
+)
+    requires { ⌜ Low (now table) × (length (now table) ≡ 10944) × Low (now row) × (at + lanes ≤ length (now row)) × PaysLow 5 (now pays) × (u < 4) × (t < 19) × (lanes ≤ 64) ⌝ }
+    ensures { λ _. ⌜ Spread (chargedBy (now (row .entry)) at (now (pays .entry)) u) t 0 5 0 lanes (now (table .entry)) (now (table .exit)) ⌝ }
+{
+    let mut l: usize = 0;
+    while l < lanes {
+        spread_one(table, row[at + l], pays, u, t, l);
+        l += 1;
+    }
+}
+
+// The same to planes 5 to 8.
+fn spread_apart(
+    table: &mut [u32; 10944],
+    row: &[u32],
+    at: usize,
+    pays: &[u32; 36],
+    u: usize,
+    t: usize,
+    lanes: usize,
+)
+    requires { ⌜ Low (now table) × (length (now table) ≡ 10944) × Low (now row) × (at + lanes ≤ length (now row)) × PaysLow 9 (now pays) × (u < 4) × (t < 19) × (lanes ≤ 64) ⌝ }
+    ensures { λ _. ⌜ Spread (chargedBy (now (row .entry)) at (now (pays .entry)) u) t 5 9 0 lanes (now (table .entry)) (now (table .exit)) ⌝ }
+{
+    let mut l: usize = 0;
+    while l < lanes {
+        spread_near(table, row[at + l], pays, u, t, l, 5);
+        l += 1;
+    }
+}
+
+// The same to all planes that are needed.
+fn spread_row(
+    table: &mut [u32; 10944],
+    row: &[u32],
+    at: usize,
+    pays: &[u32; 36],
+    u: usize,
+    t: usize,
+    planes: usize,
+    lanes: usize,
+)
+    requires { ⌜ Low (now table) × (length (now table) ≡ 10944) × Low (now row) × (at + lanes ≤ length (now row)) × PaysLow planes (now pays) × (u < 4) × (t < 19) × (lanes ≤ 64) × FiveOrNine planes ⌝ }
+    ensures { λ _. ⌜ Spread (chargedBy (now (row .entry)) at (now (pays .entry)) u) t 0 planes 0 lanes (now (table .entry)) (now (table .exit)) ⌝ }
+{
+    spread(table, row, at, pays, u, t, lanes);
+    if planes == 5 {
+        return;
+    }
+    spread_apart(table, row, at, pays, u, t, lanes);
+}
+
+// Pose b of the cell at position k: whether it lowered anything.
+fn from_pose(
+    table: &mut [u32; 10944],
+    store: &[u32],
+    line: &[u32],
+    pays: &[u32; 36],
+    at: usize,
+    k: usize,
+    m: usize,
+    b: usize,
+    rows: usize,
+    planes: usize,
+    lanes: usize,
+) -> bool
+    requires { ⌜ Source (now table) (now store) (now line) at k m planes lanes × Pays (now line) k m planes 36 (now pays) × (b < 60) × (rows ≤ 19) ⌝ }
+    ensures { λ used. ⌜ Gathered (poseIn (now (store .entry)) (now (line .entry)) at k m b) rows planes lanes (now (table .entry)) (now (table .exit)) × (used ≡ false → now (table .exit) ≡ now (table .entry)) ⌝ }
+{
+    let t = search_buckets::end_row(line, k, b, m);
+    if t >= rows {
+        return false;
+    }
+    if search_lanes::common(store, at + b * 64, lanes) >= search_lanes::NONE {
+        return false;
+    }
+    spread_row(table, store, at + b * 64, pays, b % 4, t, planes, lanes);
+    true
+}
+
+// All poses of the cell at position k: whether one lowered anything.
+pub fn from_poses(
+    table: &mut [u32; 10944],
+    store: &[u32],
+    line: &[u32],
+    pays: &[u32; 36],
+    at: usize,
+    k: usize,
+    m: usize,
+    poses: usize,
+    planes: usize,
+    lanes: usize,
+) -> bool
+    requires { ⌜ Source (now table) (now store) (now line) at k m planes lanes × Pays (now line) k m planes 36 (now pays) × (poses ≤ 60) ⌝ }
+    ensures { λ used. ⌜ Gathered (posesIn (now (store .entry)) (now (line .entry)) at k m poses) (rowsOf poses) planes lanes (now (table .entry)) (now (table .exit)) × (used ≡ false → now (table .exit) ≡ now (table .entry)) ⌝ }
+{
+    let rows = search_buckets::rows_of(poses);
+    let mut used = false;
+    let mut b: usize = 0;
+    while b < poses {
+        if from_pose(table, store, line, pays, at, k, m, b, rows, planes, lanes) {
+            used = true;
+        }
+        b += 1;
+    }
+    used
+}
+
+// ---- what a pose finds
+
+// The lanes from `to` on lowered to those from `from` on.
+fn lower_by(table: &mut [u32; 10944], to: usize, from: usize, lanes: usize)
+    requires { ⌜ (to + lanes ≤ 10944) × (length (now table) ≡ 10944) × (from + lanes ≤ to) × Low (now table) ⌝ }
+    ensures { λ _. ⌜ LoweredAt (wordsFrom (now (table .entry)) from) to lanes (now (table .entry)) (now (table .exit)) ⌝ }
+{
+    let mut l: usize = 0;
+    while l < lanes {
+        table[to + l] = search_lanes::lesser(table[to + l], table[from + l]);
+        l += 1;
+    }
+}
+
+// Each row of plane 0, as far as so many poses look, lowered to all rows before it.
+pub fn run_up(table: &mut [u32; 10944], poses: usize, lanes: usize)
+    requires { ⌜ Low (now table) × (length (now table) ≡ 10944) × (poses ≤ 60) × (lanes ≤ 64) ⌝ }
+    ensures { λ _. ⌜ RunUp (rowsOf poses - 3) lanes (now (table .entry)) (now (table .exit)) ⌝ }
+{
+    let last = (poses + 3) / 4;
+    let mut t: usize = 0;
+    while t < last {
+        lower_by(table, 64 + t * 64, t * 64, lanes);
+        t += 1;
+    }
+}
+
+// What pose a finds in lane l: at gaps 0, 2 and 3, and further left.
+fn found_lane(table: &[u32; 10944], a: usize, l: usize, planes: usize) -> u32
+    requires { ⌜ (length (now table) ≡ 10944) × Low (now table) × (a < 60) × (l < 64) × (5 ≤ planes) × (planes ≤ 9) ⌝ }
+    ensures { λ x. ⌜ x ≡ foundIn planes (now (table .entry)) a l ⌝ }
+{
+    let far = a / 4 * 64 + l;
+    let near = (1 + a % 4) * 1216 + far;
+    let other = (planes - 4 + a % 4) * 1216 + far;
+    let apart = search_lanes::lesser(table[other + 128], table[other + 64]);
+    search_lanes::lesser(search_lanes::lesser(table[near + 256], apart), table[far])
+}
+
+// A target's row: what its pose finds, with the cell's own cost, capped.
+fn put_row(
+    store: &mut [u32],
+    at: usize,
+    table: &[u32; 10944],
+    a: usize,
+    own: u32,
+    planes: usize,
+    lanes: usize,
+)
+    requires { ⌜ (at + lanes ≤ length (now store)) × (lanes ≤ 64) × (length (now table) ≡ 10944) × (own ≤ B) × Low (now store) × Low (now table) × (a < 60) × (5 ≤ planes) × (planes ≤ 9) ⌝ }
+    ensures { λ _. ⌜ Written (foundRow planes (now (table .entry)) own a) at lanes (now (store .entry)) (now (store .exit)) ⌝ }
+{
+    let mut l: usize = 0;
+    while l < lanes {
+        store[at + l] = search_lanes::lesser(
+            own + found_lane(table, a, l, planes),
+            search_lanes::NONE,
+        );
+        l += 1;
+    }
+}
+
+// The row of pose a of the cell at position k: NONE where the pose is not offered.
+fn put_pose(
+    store: &mut [u32],
+    line: &[u32],
+    table: &[u32; 10944],
+    at: usize,
+    k: usize,
+    a: usize,
+    planes: usize,
+    lanes: usize,
+)
+    requires { ⌜ ToRows (now store) (now line) (now table) k planes lanes × (at + lanes ≤ length (now store)) × (a < 60) ⌝ }
+    ensures { λ _. ⌜ Written (foundRowOf planes (now (line .entry)) (now (table .entry)) k a) at lanes (now (store .entry)) (now (store .exit)) ⌝ }
+{
+    let own = line[k * 128 + a];
+    if own >= search_lanes::NONE {
+        search_lanes::fill(store, at, lanes, search_lanes::NONE);
+        return;
+    }
+    put_row(store, at, table, a, own, planes, lanes);
+}
+
+// The rows of pair q, whose cell stands at position k.
+pub fn put_rows(
+    store: &mut [u32],
+    line: &[u32],
+    table: &[u32; 10944],
+    to: usize,
+    q: usize,
+    k: usize,
+    poses: usize,
+    planes: usize,
+    lanes: usize,
+)
+    requires { ⌜ ToRows (now store) (now line) (now table) k planes lanes × (to + 49152 ≤ length (now store)) × (q < 12) × (poses ≤ 60) ⌝ }
+    ensures { λ _. ⌜ FilledPair (foundRows planes (now (line .entry)) (now (table .entry)) k) lanes to q poses (now (store .entry)) (now (store .exit)) ⌝ }
+{
+    let mut a: usize = 0;
+    while a < poses {
+        put_pose(
+            store,
+            line,
+            table,
+            to + q * 4096 + a * 64,
+            k,
+            a,
+            planes,
+            lanes,
+        );
+        a += 1;
+    }
+}

@@ -1,0 +1,85 @@
+-- After a turns the lanes are lowered to the poses below a, each with what it pays as the last. Assumes nothing.
+use Prim.Native.Nat.{_-_, _≤_}
+use mathlib.Core.Path.{_≡_, _∙_}
+use native.Mathlib.Omega.{arith}
+use borrow.Author.Needs.{needs}
+use Rattle.search_lanes.specs.Lanes.{Lowered}
+use Rattle.search_lanes.specs.Store.{layerIn}
+use Rattle.search_lanes.specs.Laws.{lowered-to, lowered-join}
+use Rattle.search_row.specs.Words.{backIn}
+use Rattle.search_row.specs.Laws.{back-low}
+use Rattle.search_wide_end.specs.Ends.{leastPosesIn}
+use Rattle.search_wide_end.specs.Laws.{poses-none, poses-more}
+use Rattle.search_wide_end.proofs.least_poses.Statement.{statement}
+use Rattle.search_wide_end.proofs.least_poses.Tie as tie
+
+abbrev Inv-loop : tie.InvT-loop
+Inv-loop acc₀ store line at q k poses lanes a₀ acc a = (a ≤ poses) × Lowered (leastPosesIn line k store at q a) lanes acc₀ acc
+
+abbrev μ-loop : tie.MeasureT-loop
+μ-loop acc₀ store line at q k poses lanes a₀ acc a = poses - a
+
+loop-holds : tie.Need-loop-holds Inv-loop μ-loop
+loop-holds c =
+    let k = c .before .before in
+    let a = k .args in
+    (omega arith, lowered-to _ (k .pre .2) (λ l h. omega (arith, poses-none (backIn (a .line .now) (a .k)) (layerIn (a .store .now) (a .at) l) (a .q))))
+
+mul-relax : tie.Need-mul-relax Inv-loop μ-loop
+mul-relax c = search needs
+
+add-relax : tie.Need-add-relax Inv-loop μ-loop
+add-relax c = search needs
+
+mul-relax-2 : tie.Need-mul-relax-2 Inv-loop μ-loop
+mul-relax-2 c = search needs
+
+add-relax-2 : tie.Need-add-relax-2 Inv-loop μ-loop
+add-relax-2 c = search needs
+
+back-requires : tie.Need-back-requires Inv-loop μ-loop
+back-requires c κs = search needs
+
+relax-requires : tie.Need-relax-requires Inv-loop μ-loop
+relax-requires c κs =
+    let k = c .before .before .before .before .before .before in
+    let a = k .args in
+    let l = c .before .before .before .loop in
+    (omega arith, omega arith, l .inv .1 .long ∙ k .pre .3, omega (arith, c .back .ensures, back-low (a .line .now) (a .k) (l .a)), k .pre .1)
+
+add-a : tie.Need-add-a Inv-loop μ-loop
+add-a c = search needs
+
+loop-less : tie.Need-loop-less Inv-loop μ-loop
+loop-less c = search needs
+
+loop-again : tie.Need-loop-again Inv-loop μ-loop
+loop-again c =
+    let a = c .before .before .before .before .before .before .before .args in
+    let l = c .before .before .before .before .loop in (
+      omega arith,
+      lowered-join (l .inv .1) (c .relax .ensures) (λ j h. omega (arith, c .before .back .ensures, poses-more (backIn (a .line .now) (a .k)) (layerIn (a .store .now) (a .at) j) (a .q) (l .a))),
+    )
+
+returns : tie.Need-returns Inv-loop μ-loop
+returns c =
+    let e : c .before .loop .a ≡ c .before .before .before .before .args .poses = omega arith in
+    rw e at (c .before .loop .inv .1)
+
+pub least-poses-spec : {M : Type 1} → statement M
+least-poses-spec =
+    tie.close
+    (tie.spec
+    Inv-loop
+    μ-loop
+    loop-holds
+    mul-relax
+    add-relax
+    mul-relax-2
+    add-relax-2
+    back-requires
+    relax-requires
+    add-a
+    loop-less
+    loop-again
+    returns)

@@ -1,0 +1,111 @@
+-- A pair that cannot come first has no way to it. Assumes nothing.
+use Prim.Native.Nat.{ℕ, suc, _+_}
+use mathlib.Core.Path.{_≡_, sym, ap, _∙_}
+use mathlib.Core.Bool.{true}
+use native.Mathlib.Omega.{arith}
+use native.Mathlib.Numerals.{add-one}
+use borrow.Author.Tests.{not-true, not-false}
+use Rattle.theory_tables.specs.Steps.{lastAt}
+use Rattle.search_lanes.specs.Laws.{pair-rows, pair-ext}
+use Rattle.search_row.specs.Words.{deckOf}
+use Rattle.search_dense_first.specs.Firsts.{startsAt, after-there, after-away, starts-size}
+use Rattle.search_wide_first.specs.Firsts.{afterRow}
+use borrow.Author.Needs.{needs}
+use Rattle.search_wide_first.proofs.first_block.Statement.{statement}
+use Rattle.search_wide_first.proofs.first_block.Tie as tie
+
+-- past the test the pair can come first
+abbrev Starts : tie.Else1 → Type 0
+Starts c = let a = c .before .before .before .before .before .args in startsAt (a .n) (a .r) (suc (a .i)) (a .m) (a .q) ≡ true
+
+can : (c : tie.Else1) → Starts c
+can c =
+    let a = c .before .before .before .before .before .args in
+    ap (λ (j : ℕ). startsAt (a .n) (a .r) j (a .m) (a .q)) (sym (add-one (a .i))) ∙ sym (c .before .starts .ensures) ∙ not-false _ (c .if1 .left)
+
+here : (c : tie.After-last-at) → (let a = c .before .before .before .before .before .before .args in c .last-at .result ≡ lastAt (a .r) (suc (a .i)) (a .q))
+here c = omega (arith, c .last-at .ensures)
+
+add-starts : tie.Need-add-starts
+add-starts c = search needs
+
+starts-requires : tie.Need-starts-requires
+starts-requires c κs = search needs
+
+mul-fill-rows : tie.Need-mul-fill-rows
+mul-fill-rows c = search needs
+
+add-fill-rows : tie.Need-add-fill-rows
+add-fill-rows c = search needs
+
+fill-rows-requires : tie.Need-fill-rows-requires
+fill-rows-requires c κs = search needs
+
+same-length : tie.Need-same-length
+same-length c = search needs
+
+returns : tie.Need-returns
+returns c =
+    let k = c .before .before .before .before .before .before .before .before .before in
+    let a = k .args in
+    let t = sym (c .before .before .before .before .before .starts .ensures) ∙ not-true _ (c .before .before .before .before .if1 .taken) in
+    let u = ap (λ (j : ℕ). startsAt (a .n) (a .r) j (a .m) (a .q)) (sym (add-one (a .i))) ∙ t in (
+      pair-rows (omega (arith, k .pre .1 .ground .few)) (c .before .before .fill-rows .ensures)
+          (λ b l x y. after-away (deckOf (a .line .now) (a .n) (a .poses)) (a .r) (a .i) (a .m) (a .p) l (a .q) b u),
+      k .pre .0,
+    )
+
+add-last-at : tie.Need-add-last-at
+add-last-at c = search needs
+
+last-at-requires : tie.Need-last-at-requires
+last-at-requires c κs = search needs
+
+first-rows-requires : tie.Need-first-rows-requires
+first-rows-requires c κs =
+    let k = c .before .before .before .before .before .before .before .before in
+    let a = k .args in
+    let g = k .pre .1 in (
+      k .pre .0,
+      g .ground .row,
+      g .low,
+      g .room,
+      omega (arith, g .ground .all, g .ground .coded .few),
+      k .pre .2,
+      k .pre .3,
+      omega (arith, here (c .before .before), starts-size (a .n) (a .r) (suc (a .i)) (a .m) (a .q) (can (c .before .before .before)), g .ground .size),
+      g .ground .few,
+    )
+
+same-length-2 : tie.Need-same-length-2
+same-length-2 c = search needs
+
+returns-2 : tie.Need-returns-2
+returns-2 c =
+    let k = c .before .before .before .before .before .before .before .before .before .before .before in
+    let a = k .args in
+    let e = here (c .before .before .before .before .before) in
+    let w = c .before .before .first-rows .ensures in (
+      pair-ext (w .0)
+          (λ b l x y.
+          after-there (deckOf (a .line .now) (a .n) (a .poses)) (a .r) (a .i) (a .m) (a .p) l (a .q) b (can (c .before .before .before .before .before .before))
+          ∙ ap (λ (j : ℕ). afterRow (a .line .now) (a .p) j b l) (sym e)),
+      w .1,
+    )
+
+pub first-block-spec : {M : Type 1} → statement M
+first-block-spec =
+    tie.close
+    (tie.spec
+    add-starts
+    starts-requires
+    mul-fill-rows
+    add-fill-rows
+    fill-rows-requires
+    same-length
+    returns
+    add-last-at
+    last-at-requires
+    first-rows-requires
+    same-length-2
+    returns-2)

@@ -1,0 +1,111 @@
+-- Each lane of the table, once it is reset, has its start, and each pose finds there what it pays after it. Assumes nothing.
+use Prim.Native.Nat.{ℕ, _+_, _-_, _<_}
+use mathlib.Core.Path.{_≡_}
+use native.Mathlib.Omega.{arith}
+use Rattle.search_buckets.specs.Rows.{rowsOf}
+use Rattle.search_buckets.specs.Sources.{planes-either}
+use Rattle.search_lanes.specs.Laws.{pair-ext}
+use Rattle.search_wide_buckets.specs.Table.{FiveOrNine, Ready, Gathered}
+use Rattle.search_wide_buckets.specs.TableLaws.{ready}
+use Rattle.search_wide_buckets.specs.SpreadLaws.{five-least, nine-most}
+use Rattle.search_wide_first.specs.Starts.{startIn, starts-all, starts-low, starts-last, after-found}
+use borrow.Author.Needs.{needs}
+use Rattle.search_wide_first.proofs.first_rows.Statement.{statement}
+use Rattle.search_wide_first.proofs.first_rows.Tie as tie
+
+-- how many planes the cell needs, and that the last four are those of gaps 2 and 3
+needed : (c : tie.After-planes-of) → FiveOrNine (c .planes-of .result)
+needed c = let a = c .before .before .before .args in rw (c .planes-of .ensures) (planes-either (a .line .now) (a .k))
+
+abbrev Last : tie.After-planes-of → Type 0
+Last c =
+    let a = c .before .before .before .args in
+    (l v t : ℕ) → v < 4 → startIn (a .line .now) (a .p) (a .k) l (c .planes-of .result - 4 + v) t ≡ startIn (a .line .now) (a .p) (a .k) l (5 + v) t
+
+last : (c : tie.After-planes-of) → Last c
+last c l v t h = let a = c .before .before .before .args in rw (c .planes-of .ensures) (starts-last (a .line .now) (a .p) (a .k) l v t h)
+
+-- the starts in the rows that count
+abbrev Starts : tie.After-run-up → Type 0
+Starts c =
+    let a = c .before .before .before .before .before .before .before .before .before .before .args in
+    Gathered (startIn (a .line .now) (a .p) (a .k)) (rowsOf (a .poses)) (c .before .before .before .before .before .before .before .planes-of .result) (a .lanes) (c .before .before .before .before .before .reset .last .0) (c .before .before .from-starts .last .0)
+
+starts : (c : tie.After-run-up) → Starts c
+starts c = rw (c .before .before .before .rows-of .ensures) at (starts-all (c .before .before .from-starts .ensures))
+
+-- the table once plane 0 ran up
+abbrev Table : tie.After-run-up → Type 0
+Table c = let a = c .before .before .before .before .before .before .before .before .before .before .args in Ready (startIn (a .line .now) (a .p) (a .k)) (a .poses) (c .before .before .before .before .before .before .before .planes-of .result) (a .lanes) (c .run-up .last .0)
+
+table : (c : tie.After-run-up) → Table c
+table c =
+    let k = c .before .before .before .before .before .before .before .before .before .before in
+    let a = k .args in
+    let h = c .before .before .before .before .before .before .before in
+    ready (k .pre .8) (five-least (needed h)) (nine-most (needed h)) (λ l v t. starts-low (a .p) (a .k) l v t (k .pre .1)) (last h) (c .before .before .before .before .before .reset .ensures) (starts c) (c .run-up .ensures)
+
+planes-of-requires : tie.Need-planes-of-requires
+planes-of-requires c κs = search needs
+
+reset-requires : tie.Need-reset-requires
+reset-requires c κs =
+    let k = c .before .before .before .before in
+    (k .pre .0 .low, k .pre .0 .long, nine-most (needed (c .before)), k .pre .8, omega arith)
+
+rows-of-requires : tie.Need-rows-of-requires
+rows-of-requires c κs = search needs
+
+from-starts-requires : tie.Need-from-starts-requires
+from-starts-requires c κs =
+    let k = c .before .before .before .before .before .before .before in
+    let w = c .before .before .reset .ensures in
+    (k .pre .1, w .low, w .long, k .pre .5, k .pre .6, k .pre .7, omega (arith, c .rows-of .ensures), needed (c .before .before .before .before))
+
+run-up-requires : tie.Need-run-up-requires
+run-up-requires c κs = search needs
+
+put-rows-requires : tie.Need-put-rows-requires
+put-rows-requires c κs =
+    let k = c .before .before .before .before .before .before .before .before .before .before .before .before in
+    let t = table (c .before .before) in
+    let h = needed (c .before .before .before .before .before .before .before .before .before) in (
+      record {
+        words = k .pre .1;
+        low = k .pre .2;
+        tableLow = t .low;
+        tableLong = t .long;
+        narrow = omega arith;
+        cell = k .pre .7;
+        least = five-least h;
+        most = nine-most h;
+      },
+      k .pre .3,
+      k .pre .4,
+      k .pre .8,
+    )
+
+same-length : tie.Need-same-length
+same-length c = search needs
+
+returns : tie.Need-returns
+returns c =
+    let k = c .before .before .before .before .before .before .before .before .before .before .before .before .before .before .before in
+    let a = k .args in
+    let t = table (c .before .before .before .before .before) in (
+      pair-ext (c .before .before .put-rows .ensures) (λ b l x y. after-found (a .line .now) (a .p) (a .k) b l t x y),
+      record { long = t .long; low = t .low },
+    )
+
+pub first-rows-spec : {M : Type 1} → statement M
+first-rows-spec =
+    tie.close
+    (tie.spec
+    planes-of-requires
+    reset-requires
+    rows-of-requires
+    from-starts-requires
+    run-up-requires
+    put-rows-requires
+    same-length
+    returns)

@@ -1,0 +1,30 @@
+-- A start that ends right of all rows that count is in none; another one is spread over the planes of its lane. Assumes nothing.
+use native.Mathlib.Omega.{arith}
+use Rattle.search_buckets.specs.Sources.{pays-low, pose-pays}
+use Rattle.search_wide_buckets.specs.SpreadLaws.{nine-most}
+use Rattle.search_wide_first.specs.Starts.{started-out, started-in}
+use borrow.Author.Needs.{needs}
+use Rattle.search_wide_first.proofs.from_start.Statement.{statement}
+use Rattle.search_wide_first.proofs.from_start.Tie as tie
+
+end-row-requires : tie.Need-end-row-requires
+end-row-requires c κs = search needs
+
+returns : tie.Need-returns
+returns c =
+    let k = c .before .before .before in
+    let a = k .args in
+    started-out (a .line .now) (a .p) (a .k) (a .b) (k .pre .2) (omega (arith, c .before .end-row .ensures))
+
+spread-lane-requires : tie.Need-spread-lane-requires
+spread-lane-requires c κs =
+    let k = c .before .before .before .before in
+    (k .pre .2, k .pre .3, omega arith, pays-low (k .pre .0) (k .pre .1), omega arith, omega arith, k .pre .8, k .pre .9)
+
+returns-2 : tie.Need-returns-2
+returns-2 c =
+    let k = c .before .before .before .before .before in
+    started-in (k .pre .7) (c .spread-lane .ensures) (λ v s i. pose-pays (k .args .b) v s 0 (k .pre .1) (c .before .before .before .end-row .ensures) i (nine-most (k .pre .9)))
+
+pub from-start-spec : {M : Type 1} → statement M
+from-start-spec = tie.close (tie.spec end-row-requires returns spread-lane-requires returns-2)

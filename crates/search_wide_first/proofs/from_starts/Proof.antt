@@ -1,0 +1,62 @@
+-- Each turn starts one lane more. Assumes nothing.
+use Prim.Native.Nat.{_-_, _≤_}
+use mathlib.Core.Path.{_≡_, refl, _∙_}
+use native.Mathlib.Omega.{arith}
+use Rattle.search_wide_buckets.specs.SpreadLaws.{nine-most}
+use Rattle.search_wide_first.specs.Starts.{StartedTo, startIn, starts-none, starts-more}
+use borrow.Author.Needs.{needs}
+use Rattle.search_wide_first.proofs.from_starts.Statement.{statement}
+use Rattle.search_wide_first.proofs.from_starts.Tie as tie
+
+abbrev Inv-loop : tie.InvT-loop
+Inv-loop table₀ line p k rows planes lanes pays l₀ table l =
+    (l ≤ lanes) × StartedTo (startIn line p k) rows planes l table₀ table
+
+abbrev μ-loop : tie.MeasureT-loop
+μ-loop table₀ line p k rows planes lanes pays l₀ table l =
+    lanes - l
+
+fill-pays-requires : tie.Need-fill-pays-requires Inv-loop μ-loop
+fill-pays-requires c κs =
+    let k = c .before .before in
+    (k .pre .0, k .pre .3, k .pre .5, nine-most (k .pre .7), refl)
+
+loop-holds : tie.Need-loop-holds Inv-loop μ-loop
+loop-holds c =
+    (omega arith, starts-none _ _ _ (c .before .before .before .pre .1))
+
+from-start-requires : tie.Need-from-start-requires Inv-loop μ-loop
+from-start-requires c κs =
+    let k = c .before .before .before .before .before .before .before in
+    let w = c .before .before .before .loop .inv .1 in
+    (k .pre .0, c .before .before .before .before .fill-pays .ensures, w .low, w .long ∙ k .pre .2, k .pre .3, k .pre .5, omega arith, k .pre .6, omega arith, k .pre .7)
+
+add-l : tie.Need-add-l Inv-loop μ-loop
+add-l c = search needs
+
+loop-less : tie.Need-loop-less Inv-loop μ-loop
+loop-less c = search needs
+
+loop-again : tie.Need-loop-again Inv-loop μ-loop
+loop-again c =
+    let l = c .before .before .before .before .loop in
+    (omega arith, starts-more (l .l) (omega arith) (l .inv .1) (c .from-start .ensures))
+
+returns : tie.Need-returns Inv-loop μ-loop
+returns c =
+    let e : c .before .loop .l ≡ c .before .before .before .before .before .args .lanes = omega arith in
+    rw e at (c .before .loop .inv .1)
+
+pub from-starts-spec : {M : Type 1} → statement M
+from-starts-spec =
+    tie.close
+    (tie.spec
+    Inv-loop
+    μ-loop
+    fill-pays-requires
+    loop-holds
+    from-start-requires
+    add-l
+    loop-less
+    loop-again
+    returns)

@@ -1,0 +1,116 @@
+-- A pair that is no source lowers nothing; one that is a source stands in the row. Assumes nothing.
+use Prim.Native.Nat.{ℕ, suc, _<_}
+use mathlib.Core.Path.{_≡_, refl, sym, ap₂, _∙_}
+use mathlib.Core.Bool.{true}
+use native.Mathlib.Omega.{arith}
+use borrow.Author.Needs.{needs}
+use borrow.Author.Tests.{not-true, not-false}
+use Rattle.theory_tables.specs.Steps.{lastAt, isSource}
+use Rattle.search_lanes.specs.Store.{layerIn}
+use Rattle.search_row.specs.Words.{deckOf}
+use Rattle.search_row.specs.Laws.{there-size, source-size}
+use Rattle.search_buckets.specs.Rows.{byPoses}
+use Rattle.search_buckets.specs.Sources.{pair-in, pair-out}
+use Rattle.search_wide_buckets.specs.TableLaws.{gathered-none, gathered-ext}
+use Rattle.search_wide_buckets.specs.SpreadLaws.{nine-most}
+use Rattle.search_wide_layer.proofs.from_source.Statement.{statement}
+use Rattle.search_wide_layer.proofs.from_source.Tie as tie
+
+-- past the test the pair is a source
+abbrev Source : tie.Else1 → Type 0
+Source c = let a = c .before .before .before .before .before .args in isSource (deckOf (a .line .now) (a .n) (a .poses)) (a .r) (a .i) (a .q) (a .p) ≡ true
+
+source : (c : tie.Else1) → Source c
+source c = sym (c .before .is-source .ensures) ∙ not-false _ (c .if1 .left)
+
+-- both cells stand in the row
+left : (c : tie.After-pays) → c .before .before .last-at .result < 64
+left c =
+    let k = c .before .before .before .before .before .before .before .before in
+    let a = k .args in
+    omega (arith, c .before .before .last-at .ensures, source-size (a .line .now) (a .n) (a .poses) (a .r) (a .i) (a .q) (a .p) (source (c .before .before .before)), k .pre .0 .ground .size)
+
+right : (c : tie.After-pays) → c .before .last-at2 .result < 64
+right c =
+    let k = c .before .before .before .before .before .before .before .before in
+    let a = k .args in
+    omega (arith, c .before .last-at2 .ensures, there-size (a .n) (a .r) (suc (a .i)) (a .q) (k .pre .1 .there), k .pre .0 .ground .size)
+
+is-source-requires : tie.Need-is-source-requires
+is-source-requires c κs = search needs
+
+returns : tie.Need-returns
+returns c =
+    let k = c .before .before .before .before .before in
+    let a = k .args in (
+      gathered-none _ _ _ (k .pre .2 .low)
+          (λ l v t i j h.
+          omega (arith, pair-out (a .line .now) (deckOf (a .line .now) (a .n) (a .poses)) (a .r) (layerIn (a .store .now) (a .from) l) (a .i) (a .q) (a .p) v t (sym (c .before .is-source .ensures) ∙ not-true _ (c .if1 .taken)))),
+      λ e. refl,
+    )
+
+last-at-requires : tie.Need-last-at-requires
+last-at-requires c κs = search needs
+
+add-last-at : tie.Need-add-last-at
+add-last-at c = search needs
+
+last-at-requires-2 : tie.Need-last-at-requires-2
+last-at-requires-2 c κs = search needs
+
+fill-pays-requires : tie.Need-fill-pays-requires
+fill-pays-requires c κs =
+    let k = c .before .before .before .before .before .before .before .before in
+    (k .pre .0 .ground .row, left c, right c, nine-most (k .pre .4), refl)
+
+mul-from-poses : tie.Need-mul-from-poses
+mul-from-poses c = search needs
+
+add-from-poses : tie.Need-add-from-poses
+add-from-poses c = search needs
+
+from-poses-requires : tie.Need-from-poses-requires
+from-poses-requires c κs =
+    let k = c .before .before .before .before .before .before .before .before .before .before .before in
+    let g = k .pre .0 in (
+      record {
+        words = g .ground .row;
+        low = g .low;
+        tableLow = k .pre .2 .low;
+        tableLong = k .pre .2 .long;
+        narrow = g .narrow;
+        room = omega (arith, g .room, g .ground .all, g .ground .coded .few);
+        left = left (c .before .before .before);
+        right = right (c .before .before .before);
+        needed = k .pre .4;
+      },
+      c .before .before .fill-pays .ensures,
+      g .ground .few,
+    )
+
+returns-2 : tie.Need-returns-2
+returns-2 c =
+    let k = c .before .before .before .before .before .before .before .before .before .before .before .before in
+    let a = k .args in
+    let m : c .before .before .before .before .before .last-at2 .result ≡ lastAt (a .r) (suc (a .i)) (a .q) = omega (arith, c .before .before .before .before .before .last-at2 .ensures) in (
+      gathered-ext (c .from-poses .ensures .0)
+          (λ l v t h.
+          pair-in (a .line .now) (deckOf (a .line .now) (a .n) (a .poses)) (a .r) (layerIn (a .store .now) (a .from) l) (a .i) (a .q) (a .p) v t (source (c .before .before .before .before .before .before .before))
+          ∙ ap₂ (λ (x y : ℕ). byPoses (a .line .now) x y (layerIn (a .store .now) (a .from) l (a .p)) (a .poses) v t) (sym (c .before .before .before .before .before .before .last-at .ensures)) (sym m)),
+      c .from-poses .ensures .1,
+    )
+
+pub from-source-spec : {M : Type 1} → statement M
+from-source-spec =
+    tie.close
+    (tie.spec
+    is-source-requires
+    returns
+    last-at-requires
+    add-last-at
+    last-at-requires-2
+    fill-pays-requires
+    mul-from-poses
+    add-from-poses
+    from-poses-requires
+    returns-2)

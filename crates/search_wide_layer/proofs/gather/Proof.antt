@@ -1,0 +1,69 @@
+-- After p turns the pairs below p are gathered. Assumes nothing.
+use Prim.Native.Nat.{ℕ, _-_, _≤_}
+use mathlib.Core.Path.{_≡_, refl, sym, _∙_}
+use mathlib.Core.Bool.{false}
+use mathlib.Core.Logic.{⊎-elim}
+use native.Mathlib.Omega.{arith}
+use borrow.Author.Needs.{needs}
+use Rattle.search_lanes.specs.Store.{layerIn}
+use Rattle.search_row.specs.Words.{deckOf}
+use Rattle.search_buckets.specs.Rows.{rowsOf}
+use Rattle.search_buckets.specs.Sources.{pairs-none, pairs-more}
+use Rattle.search_wide_buckets.specs.Table.{Gathered, pairsIn}
+use Rattle.search_wide_buckets.specs.TableLaws.{gathered-none, gathered-join}
+use Rattle.search_wide_layer.proofs.gather.Statement.{statement}
+use Rattle.search_wide_layer.proofs.gather.Tie as tie
+
+abbrev Inv-loop : tie.InvT-loop
+Inv-loop table₀ store line pairs n poses r count lanes i from q planes used₀ p₀ table used p =
+    (p ≤ count) × Gathered (pairsIn store line (deckOf line n poses) r from i q p) (rowsOf poses) planes lanes table₀ table × (used ≡ false → table ≡ table₀)
+
+abbrev μ-loop : tie.MeasureT-loop
+μ-loop table₀ store line pairs n poses r count lanes i from q planes used₀ p₀ table used p = count - p
+
+loop-holds : tie.Need-loop-holds Inv-loop μ-loop
+loop-holds c =
+    let k = c .before .before .before in
+    let a = k .args in (
+      omega arith,
+      gathered-none _ _ _ (k .pre .2 .low)
+          (λ l v t i j h. omega (arith, pairs-none (a .line .now) (deckOf (a .line .now) (a .n) (a .poses)) (a .r) (layerIn (a .store .now) (a .from) l) (a .i) (a .q) v t)),
+      λ e. refl,
+    )
+
+from-source-requires : tie.Need-from-source-requires Inv-loop μ-loop
+from-source-requires c κs =
+    let k = c .before .before .before .before .before .before in
+    let w = c .before .before .loop .inv .1 in
+    (k .pre .0, k .pre .1, record { long = w .long ∙ k .pre .2 .long; low = w .low }, omega arith, k .pre .3)
+
+add-p : tie.Need-add-p Inv-loop μ-loop
+add-p c = search needs
+
+loop-less : tie.Need-loop-less Inv-loop μ-loop
+loop-less c = search needs
+
+loop-again : tie.Need-loop-again Inv-loop μ-loop
+loop-again c =
+    let k = c .before .before .before .before .before .before .before .before in
+    let a = k .args in
+    let l = c .before .before .before .before .loop in (
+      omega arith,
+      gathered-join (l .inv .1) (c .before .from-source .ensures .0)
+          (λ j v t h. pairs-more (a .line .now) (deckOf (a .line .now) (a .n) (a .poses)) (a .r) (layerIn (a .store .now) (a .from) j) (a .i) (a .q) (l .p) v t),
+      λ e.
+          ⊎-elim
+          (λ w. absurd (let z = sym (w .1) ∙ e in let y : _≡_ {A = ℕ} 0 1 = cc in omega arith))
+          (λ w. c .before .from-source .ensures .1 (w .0 .left) ∙ l .inv .2 (sym (w .1) ∙ e))
+          (c .if1 .came),
+    )
+
+returns : tie.Need-returns Inv-loop μ-loop
+returns c =
+    let e : c .before .loop .p ≡ c .before .before .before .before .before .args .count = omega arith in
+    (rw e at (c .before .loop .inv .1), c .before .loop .inv .2)
+
+pub gather-spec : {M : Type 1} → statement M
+gather-spec =
+    tie.close
+    (tie.spec Inv-loop μ-loop loop-holds from-source-requires add-p loop-less loop-again returns)

@@ -1,0 +1,75 @@
+-- After q turns the blocks below q are those of the next layer; the layer before is kept. Assumes nothing.
+use Prim.Native.Nat.{_-_, _≤_}
+use mathlib.Core.Path.{_≡_, sym}
+use native.Mathlib.Omega.{arith}
+use Rattle.search_row.specs.Words.{deckOf}
+use Rattle.search_wide_buckets.specs.Table.{Lent}
+use Rattle.search_wide_layer.specs.Loops.{nextFrom}
+use Rattle.search_wide_layer.specs.Laws.{given-on, beside-on, beside-kept, next-kept}
+use Rattle.search_lanes.specs.Store.{Filled}
+use Rattle.search_lanes.specs.Laws.{filled-none, filled-more}
+use borrow.Author.Needs.{needs}
+use Rattle.search_wide_layer.proofs.step_layer.Statement.{statement}
+use Rattle.search_wide_layer.proofs.step_layer.Tie as tie
+
+abbrev Inv-loop : tie.InvT-loop
+Inv-loop table₀ store₀ line pairs n poses r count lanes i from to q₀ table store q =
+    (q ≤ count) × Filled (nextFrom (deckOf line n poses) r store₀ from i) lanes poses to q store₀ store × Lent table
+
+abbrev μ-loop : tie.MeasureT-loop
+μ-loop table₀ store₀ line pairs n poses r count lanes i from to q₀ table store q =
+    count - q
+
+loop-holds : tie.Need-loop-holds Inv-loop μ-loop
+loop-holds c =
+    (omega arith, filled-none _ _ _ _ (c .before .before .before .pre .1 .low), c .before .before .before .pre .0)
+
+target-block-requires : tie.Need-target-block-requires Inv-loop μ-loop
+target-block-requires c κs =
+    let k = c .before .before .before .before .before .before .before in
+    let l = c .before .before .before .loop in
+    let s = l .inv .1 in
+    (l .inv .2, given-on (k .pre .1) (s .frame) (s .low), beside-on (k .pre .2) (s .frame), omega arith)
+
+add-q : tie.Need-add-q Inv-loop μ-loop
+add-q c = search needs
+
+loop-less : tie.Need-loop-less Inv-loop μ-loop
+loop-less c = search needs
+
+loop-again : tie.Need-loop-again Inv-loop μ-loop
+loop-again c =
+    let k = c .before .before .before .before .before .before .before .before .before .before in
+    let a = k .args in
+    let g = k .pre .1 in
+    let l = c .before .before .before .before .before .before .loop in
+    let s = l .inv .1 in
+    let kept = beside-kept (k .pre .2) (s .frame) (omega arith) (omega arith) in (
+      omega arith,
+      filled-more (l .q) (g .narrow) (omega (arith, g .ground .few)) (omega (arith, g .ground .all, g .ground .coded .few)) s (c .before .before .target-block .ensures .0)
+          (λ b j x y. sym (next-kept (deckOf (a .line .now) (a .n) (a .poses)) (a .r) (a .i) (l .q) b j kept (g .ground .coded .few) (g .ground .few) (omega (arith, g .narrow)))),
+      c .before .before .target-block .ensures .1,
+    )
+
+same-length : tie.Need-same-length Inv-loop μ-loop
+same-length c =
+    c .before .loop .inv .1 .frame .long
+
+returns : tie.Need-returns Inv-loop μ-loop
+returns c =
+    let e : c .before .loop .q ≡ c .before .before .before .before .before .args .count = omega arith in
+    (rw e at (c .before .loop .inv .1), c .before .loop .inv .2)
+
+pub step-layer-spec : {M : Type 1} → statement M
+step-layer-spec =
+    tie.close
+    (tie.spec
+    Inv-loop
+    μ-loop
+    loop-holds
+    target-block-requires
+    add-q
+    loop-less
+    loop-again
+    same-length
+    returns)

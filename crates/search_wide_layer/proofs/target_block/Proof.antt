@@ -1,0 +1,70 @@
+-- A pair that is not there has no way to it. Assumes nothing.
+use Prim.Native.Nat.{ℕ}
+use mathlib.Core.Path.{sym, ap, _∙_}
+use native.Mathlib.Omega.{arith}
+use native.Mathlib.Numerals.{add-one}
+use borrow.Author.Tests.{not-true, not-false}
+use Rattle.search_row.specs.Words.{deckOf, thereIn}
+use Rattle.search_buckets.specs.Next.{next-away}
+use Rattle.search_lanes.specs.Store.{layerIn}
+use Rattle.search_lanes.specs.Laws.{pair-rows}
+use borrow.Author.Needs.{needs}
+use Rattle.search_wide_layer.proofs.target_block.Statement.{statement}
+use Rattle.search_wide_layer.proofs.target_block.Tie as tie
+
+add-is-there : tie.Need-add-is-there
+add-is-there c = search needs
+
+is-there-requires : tie.Need-is-there-requires
+is-there-requires c κs = search needs
+
+mul-fill-rows : tie.Need-mul-fill-rows
+mul-fill-rows c = search needs
+
+add-fill-rows : tie.Need-add-fill-rows
+add-fill-rows c = search needs
+
+fill-rows-requires : tie.Need-fill-rows-requires
+fill-rows-requires c κs = search needs
+
+same-length : tie.Need-same-length
+same-length c = search needs
+
+returns : tie.Need-returns
+returns c =
+    let k = c .before .before .before .before .before .before .before .before .before in
+    let a = k .args in
+    let t = sym (c .before .before .before .before .before .is-there .ensures) ∙ not-true _ (c .before .before .before .before .if1 .taken) in
+    let u = ap (λ (j : ℕ). thereIn (a .n) (a .r) j (a .q)) (sym (add-one (a .i))) ∙ t in (
+      pair-rows (omega (arith, k .pre .1 .ground .few)) (c .before .before .fill-rows .ensures)
+          (λ b l x y. next-away (deckOf (a .line .now) (a .n) (a .poses)) (a .r) (layerIn (a .store .now) (a .from) l) (a .i) (a .q) b u),
+      k .pre .0,
+    )
+
+target-rows-requires : tie.Need-target-rows-requires
+target-rows-requires c κs =
+    let k = c .before .before .before .before .before .before .before in
+    let a = k .args in
+    let t = sym (c .before .before .before .is-there .ensures) ∙ not-false _ (c .before .before .if1 .left) in
+    (k .pre .0, k .pre .1, k .pre .2, record { pair = omega (arith, k .pre .1 .ground .all); there = ap (λ (j : ℕ). thereIn (a .n) (a .r) j (a .q)) (sym (add-one (a .i))) ∙ t })
+
+same-length-2 : tie.Need-same-length-2
+same-length-2 c = search needs
+
+returns-2 : tie.Need-returns-2
+returns-2 c = search needs
+
+pub target-block-spec : {M : Type 1} → statement M
+target-block-spec =
+    tie.close
+    (tie.spec
+    add-is-there
+    is-there-requires
+    mul-fill-rows
+    add-fill-rows
+    fill-rows-requires
+    same-length
+    returns
+    target-rows-requires
+    same-length-2
+    returns-2)

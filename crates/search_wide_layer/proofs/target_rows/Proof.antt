@@ -1,0 +1,226 @@
+-- Without a source nothing leads to the pair. Else the sources are gathered into a cleared table; if none lowered it, nothing leads to the pair; else
+-- each pose finds there what it can be reached for. Assumes nothing.
+use Prim.Native.Nat.{ℕ, suc, _+_, _*_, _-_, _≤_, _<_}
+use mathlib.Core.Path.{_≡_, ap, _∙_}
+use native.Mathlib.Omega.{arith}
+use borrow.Author.Tests.{not-true}
+use lib.ListN.{length}
+use Rattle.theory_tables.specs.Steps.{B, lastAt}
+use Rattle.search_lanes.specs.Store.{layerIn}
+use Rattle.search_lanes.specs.Laws.{pair-rows, pair-ext}
+use Rattle.search_row.specs.Words.{deckOf}
+use Rattle.search_row.specs.Laws.{there-size}
+use Rattle.search_buckets.specs.Rows.{planesIn, byPairs}
+use Rattle.search_buckets.specs.Sources.{pairs-low, pairs-twin, planes-either, planes-last}
+use Rattle.search_wide_buckets.specs.Table.{FiveOrNine, pairsIn, Ready}
+use Rattle.search_wide_buckets.specs.TableLaws.{ready, unused}
+use Rattle.search_wide_buckets.specs.SpreadLaws.{five-least, nine-most}
+use Rattle.search_buckets.specs.Next.{next-found, next-none, next-alone}
+use borrow.Author.Needs.{needs}
+use Rattle.search_wide_layer.proofs.target_rows.Statement.{statement}
+use Rattle.search_wide_layer.proofs.target_rows.Tie as tie
+
+planes-low : (k : tie.Start) → (let a = k .args in (l v t : ℕ) → pairsIn (a .store .now) (a .line .now) (deckOf (a .line .now) (a .n) (a .poses)) (a .r) (a .from) (a .i) (a .q) (a .count) l v t ≤ B)
+planes-low k l v t =
+    let a = k .args in
+    pairs-low (a .line .now) (deckOf (a .line .now) (a .n) (a .poses)) (a .r) (layerIn (a .store .now) (a .from) l) (a .i) (a .q) (a .count) v t
+
+-- the pair's rows lie in the store
+room : (k : tie.Start) → (let a = k .args in a .to + a .q * 4096 + a .poses * 64 ≤ length (a .store .now))
+room k = omega (arith, k .pre .2 .room, k .pre .3 .pair, k .pre .1 .ground .coded .few, k .pre .1 .ground .few)
+
+-- the target's position
+here : (c : tie.After-last-at) → (let a = c .before .before .before .before .before .before .args in c .last-at .result ≡ lastAt (a .r) (suc (a .i)) (a .q))
+here c = omega (arith, c .last-at .ensures)
+
+inside : (c : tie.After-last-at) → c .last-at .result < 64
+inside c =
+    let k = c .before .before .before .before .before .before in
+    let a = k .args in
+    omega (arith, here c, there-size (a .n) (a .r) (suc (a .i)) (a .q) (k .pre .3 .there), k .pre .1 .ground .size)
+
+-- how many planes it needs, and that the last four are those of gaps 2 and 3
+needed : (c : tie.After-planes-of) → FiveOrNine (c .planes-of .result)
+needed c = rw (c .planes-of .ensures) (planes-either (c .before .before .before .before .before .before .before .args .line .now) (c .before .last-at .result))
+
+abbrev Last : tie.After-planes-of → Type 0
+Last c =
+    let a = c .before .before .before .before .before .before .before .args in
+    let plane = pairsIn (a .store .now) (a .line .now) (deckOf (a .line .now) (a .n) (a .poses)) (a .r) (a .from) (a .i) (a .q) (a .count) in
+    (l v t : ℕ) → v < 4 → plane l (c .planes-of .result - 4 + v) t ≡ plane l (5 + v) t
+
+last : (c : tie.After-planes-of) → Last c
+last c l v t h =
+    let a = c .before .before .before .before .before .before .before .args in
+    let D = deckOf (a .line .now) (a .n) (a .poses) in
+    let f = layerIn (a .store .now) (a .from) l in
+    let m = lastAt (a .r) (suc (a .i)) (a .q) in
+    let e : c .planes-of .result ≡ planesIn (a .line .now) m = c .planes-of .ensures ∙ ap (planesIn (a .line .now)) (here (c .before)) in
+    rw e (planes-last (λ (w : ℕ). byPairs (a .line .now) D (a .r) f (a .i) (a .q) (a .count) w t) (a .line .now) m v (λ g. pairs-twin (a .line .now) D (a .r) f (a .i) (a .q) (a .count) v t g h))
+
+-- the table once plane 0 ran up
+abbrev Table : tie.After-run-up → Type 0
+Table c =
+    let p = c .before .before .before .before .before .before .before .before in
+    let a = p .before .before .before .before .before .before .before .args in
+    let plane = pairsIn (a .store .now) (a .line .now) (deckOf (a .line .now) (a .n) (a .poses)) (a .r) (a .from) (a .i) (a .q) (a .count) in
+    Ready plane (a .poses) (p .planes-of .result) (a .lanes) (c .run-up .last .0)
+
+table : (c : tie.After-run-up) → Table c
+table c =
+    let k = c .before .before .before .before .before .before .before .before .before .before .before .before .before .before .before in
+    let p = c .before .before .before .before .before .before .before .before in
+    let none = c .before .before .before .before .before .before .reset .ensures in
+    let w = c .before .before .before .gather .ensures in
+    ready (k .pre .1 .ground .few) (five-least (needed p)) (nine-most (needed p)) (planes-low k) (last p) none (w .0) (c .run-up .ensures)
+
+has-source-requires : tie.Need-has-source-requires
+has-source-requires c κs = search needs
+
+mul-fill-rows : tie.Need-mul-fill-rows
+mul-fill-rows c = search needs
+
+add-fill-rows : tie.Need-add-fill-rows
+add-fill-rows c = search needs
+
+fill-rows-requires : tie.Need-fill-rows-requires
+fill-rows-requires c κs = search needs
+
+same-length : tie.Need-same-length
+same-length c = search needs
+
+returns : tie.Need-returns
+returns c =
+    let k = c .before .before .before .before .before .before .before .before .before in
+    let a = k .args in
+    let g = k .pre .1 in (
+      pair-rows (omega (arith, g .ground .few)) (c .before .before .fill-rows .ensures)
+          (λ b l p i.
+          next-alone (a .line .now) (a .n) (a .poses) (a .r) (layerIn (a .store .now) (a .from) l) (a .i) (a .q) b (k .pre .3 .there) (g .ground .all)
+          (c .before .before .before .before .before .has-source .ensures (not-true _ (c .before .before .before .before .if1 .taken)))),
+      k .pre .0,
+    )
+
+add-last-at : tie.Need-add-last-at
+add-last-at c = search needs
+
+last-at-requires : tie.Need-last-at-requires
+last-at-requires c κs = search needs
+
+planes-of-requires : tie.Need-planes-of-requires
+planes-of-requires c κs =
+    (c .before .before .before .before .before .before .pre .1 .ground .row, inside c)
+
+reset-requires : tie.Need-reset-requires
+reset-requires c κs =
+    let k = c .before .before .before .before .before .before .before .before in
+    (k .pre .0 .low, k .pre .0 .long, nine-most (needed (c .before)), k .pre .1 .ground .few, k .pre .1 .narrow)
+
+gather-requires : tie.Need-gather-requires
+gather-requires c κs =
+    let k = c .before .before .before .before .before .before .before .before .before .before .before in
+    let w = c .before .before .reset .ensures in
+    (k .pre .1, k .pre .3, record { long = w .long; low = w .low }, needed (c .before .before .before .before))
+
+mul-fill-rows-2 : tie.Need-mul-fill-rows-2
+mul-fill-rows-2 c =
+    let k = c .before .before .before .before .before .before .before .before .before .before .before .before .before .before in
+    let h = room k in
+    search needs
+
+add-fill-rows-2 : tie.Need-add-fill-rows-2
+add-fill-rows-2 c =
+    let k = c .before .before .before .before .before .before .before .before .before .before .before .before .before .before in
+    let h = room k in
+    search needs
+
+fill-rows-requires-2 : tie.Need-fill-rows-requires-2
+fill-rows-requires-2 c κs =
+    let k = c .before .before .before .before .before .before .before .before .before .before .before .before .before .before in
+    (room k, k .pre .1 .narrow, omega arith, k .pre .1 .low)
+
+same-length-2 : tie.Need-same-length-2
+same-length-2 c = search needs
+
+returns-2 : tie.Need-returns-2
+returns-2 c =
+    let k = c .before .before .before .before .before .before .before .before .before .before .before .before .before .before .before .before .before in
+    let a = k .args in
+    let g = k .pre .1 in
+    let h = c .before .before .before .before .before .before .before .before .before .before in
+    let w = c .before .before .before .before .before .gather .ensures in
+    let none = c .before .before .before .before .before .before .before .before .reset .ensures in (
+      pair-rows (omega (arith, g .ground .few)) (c .before .before .fill-rows2 .ensures)
+          (λ b l p i.
+          next-none (a .line .now) (a .n) (a .poses) (a .r) (layerIn (a .store .now) (a .from) l) (a .i) (a .q) b (k .pre .3 .there) (g .ground .all)
+          (unused (g .ground .few) (five-least (needed h)) (nine-most (needed h)) (planes-low k) (last h) none (w .0) (w .1 (not-true _ (c .before .before .before .before .if2 .taken))) b l p i)),
+      record { long = w .0 .long ∙ none .long; low = w .0 .low },
+    )
+
+run-up-requires : tie.Need-run-up-requires
+run-up-requires c κs =
+    let k = c .before .before .before .before .before .before .before .before .before .before .before .before .before .before in
+    let w = c .before .before .gather .ensures .0 in
+    (w .low, w .long ∙ c .before .before .before .before .before .reset .ensures .long, k .pre .1 .ground .few, k .pre .1 .narrow)
+
+put-rows-requires : tie.Need-put-rows-requires
+put-rows-requires c κs =
+    let k = c .before .before .before .before .before .before .before .before .before .before .before .before .before .before .before .before .before in
+    let g = k .pre .1 in
+    let t = table (c .before .before) in
+    let h = needed (c .before .before .before .before .before .before .before .before .before .before) in (
+      record {
+        words = g .ground .row;
+        low = g .low;
+        tableLow = t .low;
+        tableLong = t .long;
+        narrow = g .narrow;
+        cell = inside (c .before .before .before .before .before .before .before .before .before .before .before);
+        least = five-least h;
+        most = nine-most h;
+      },
+      k .pre .2 .room,
+      omega (arith, k .pre .3 .pair, g .ground .coded .few),
+      g .ground .few,
+    )
+
+same-length-3 : tie.Need-same-length-3
+same-length-3 c = search needs
+
+returns-3 : tie.Need-returns-3
+returns-3 c =
+    let k = c .before .before .before .before .before .before .before .before .before .before .before .before .before .before .before .before .before .before .before .before in
+    let a = k .args in
+    let g = k .pre .1 in
+    let t = table (c .before .before .before .before .before) in (
+      pair-ext (c .before .before .put-rows .ensures)
+          (λ b l p i.
+          next-found (a .line .now) (a .n) (a .poses) (a .r) (layerIn (a .store .now) (a .from) l) (a .i) (a .q) b (k .pre .3 .there) (g .ground .all) (here (c .before .before .before .before .before .before .before .before .before .before .before .before .before .before))
+          (t .right b l p i)),
+      record { long = t .long; low = t .low },
+    )
+
+pub target-rows-spec : {M : Type 1} → statement M
+target-rows-spec =
+    tie.close
+    (tie.spec
+    has-source-requires
+    mul-fill-rows
+    add-fill-rows
+    fill-rows-requires
+    same-length
+    returns
+    add-last-at
+    last-at-requires
+    planes-of-requires
+    reset-requires
+    gather-requires
+    mul-fill-rows-2
+    add-fill-rows-2
+    fill-rows-requires-2
+    same-length-2
+    returns-2
+    run-up-requires
+    put-rows-requires
+    same-length-3
+    returns-3)

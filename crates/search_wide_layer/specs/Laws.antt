@@ -1,0 +1,43 @@
+-- Laws of one layer in the store: what is written beside it keeps it. Assumes nothing.
+use Prim.Native.Nat.{ℕ, _+_, _*_, _≤_, _<_}
+use mathlib.Core.Path.{_≡_}
+use mathlib.Core.List.{List}
+use native.Mathlib.Omega.{arith}
+use native.Mathlib.Decide.{decLt}
+use lib.ListN.{getD}
+use Rattle.theory_tables.specs.Steps.{Deck, pairCount, nextLayer}
+use Rattle.search_lanes.specs.Store.{Frame, Low, layerIn}
+use Rattle.search_buckets.specs.Next.{next-ext}
+use Rattle.search_wide_layer.specs.Loops.{Given, Beside}
+
+-- a block's entries are as they were
+pub record Kept (at : ℕ) (old new : List ℕ) : Type 0 where
+  pub word : (k : ℕ) → at ≤ k → k < at + 49152 → getD new k 0 ≡ getD old k 0
+
+-- what is written in one block keeps the other
+pub beside-kept : {st old new : List ℕ} {at to a b : ℕ} → Beside st at to → Frame a b old new → to ≤ a → b ≤ to + 49152 → Kept at old new
+beside-kept {old = old} {new = new} {at} {to} {a} {b} v f p q = record { word = λ k x y. go k x y (decLt k a) (decLt k b) }
+  where
+    go : (k : ℕ) → at ≤ k → k < at + 49152 → Dec (k < a) → Dec (k < b) → getD new k 0 ≡ getD old k 0
+    go k x y (yes h) t = f .low k h
+    go k x y (no h) (no t) = f .high k (omega arith)
+    go k x y (no h) (yes t) = absurd (v .apart k x y (omega arith) (omega arith))
+
+pub next-kept :
+    (D : Deck) (R : ℕ) {at : ℕ} {old new : List ℕ} (i q a l : ℕ)
+    → Kept at old new → pairCount R ≤ 12 → D .poses ≤ 60 → l < 64
+    → nextLayer D R (layerIn new at l) i q a ≡ nextLayer D R (layerIn old at l) i q a
+next-kept D R {at} {old} {new} i q a l s w p h =
+    next-ext D R (layerIn new at l) (layerIn old at l)
+    (λ q b x y. s .word (at + q * 4096 + b * 64 + l) (omega arith) (omega arith))
+    i q a
+
+-- what a function was given holds on, whatever another one wrote
+pub given-on :
+    {line pairs old new : List ℕ} {n poses R count lanes i at a b : ℕ}
+    → Given line pairs old n poses R count lanes i at → Frame a b old new → Low new
+    → Given line pairs new n poses R count lanes i at
+given-on g f w = record { ground = g .ground; low = w; narrow = g .narrow; early = g .early; room = omega (arith, g .room, f .long) }
+
+pub beside-on : {old new : List ℕ} {at to a b : ℕ} → Beside old at to → Frame a b old new → Beside new at to
+beside-on v f = record { room = omega (arith, v .room, f .long); apart = v .apart }

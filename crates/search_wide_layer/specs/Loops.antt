@@ -1,0 +1,26 @@
+-- One layer of the search from the layer before: what it comes to in each lane, and what is given.
+use Prim.Native.Nat.{ℕ, _+_, _≤_, _<_}
+use mathlib.Core.List.{List}
+use lib.ListN.{length}
+use Rattle.theory_tables.specs.Steps.{Deck, Layer, nextLayer}
+use Rattle.search_lanes.specs.Store.{Low, layerIn}
+use Rattle.search_row.specs.Words.{Ground}
+
+-- the next layer in each lane
+abbrev pub nextFrom : Deck → ℕ → List ℕ → ℕ → ℕ → ℕ → Layer
+nextFrom D R st at i l q a = nextLayer D R (layerIn st at l) i q a
+
+-- ---- what is given
+
+-- a layer with i cells in the block at `at`
+pub record Given (line pairs st : List ℕ) (n poses R count lanes i at : ℕ) : Type 0 where
+  pub ground : Ground line pairs R n poses count
+  pub low : Low st
+  pub narrow : lanes ≤ 64
+  pub early : i ≤ 67
+  pub room : at + 49152 ≤ length st
+
+-- another block, with room, that has no word in common with the block at `at`
+pub record Beside (st : List ℕ) (at to : ℕ) : Type 0 where
+  pub room : to + 49152 ≤ length st
+  pub apart : (k : ℕ) → at ≤ k → k < at + 49152 → to ≤ k → k < to + 49152 → ⊥

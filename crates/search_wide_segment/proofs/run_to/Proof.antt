@@ -1,0 +1,157 @@
+-- The layers run on in two blocks by turns; what is delivered are the prices as far as the layers have come. Assumes nothing.
+use Prim.Native.Nat.{ℕ, _+_, _-_, _≤_, _<_}
+use mathlib.Core.Path.{_≡_, _∙_}
+use native.Mathlib.Omega.{arith}
+use lib.ListN.{length, getD}
+use Rattle.search_row.specs.Words.{deckOf}
+use Rattle.search_wide_buckets.specs.Table.{Lent}
+use Rattle.search_wide_segment.specs.Runs.{Outside, PricedRun}
+use Rattle.search_wide_segment.specs.Laws.{given-small, buffer-low, buffer-beside, priced-start, priced-step, priced-from, outside-join, outside-prices}
+use borrow.Author.Needs.{needs}
+use Rattle.search_wide_segment.proofs.run_to.Statement.{statement}
+use Rattle.search_wide_segment.proofs.run_to.Tie as tie
+
+abbrev Inv-loop : tie.InvT-loop
+Inv-loop table₀ store₀ line pairs n poses r count lanes i tall prices from₀ d₀ table store from d =
+    (i + d ≤ 67) × PricedRun (deckOf line n poses) r lanes i tall d from prices store₀ store × Lent table × (d ≤ tall + r - i)
+
+abbrev μ-loop : tie.MeasureT-loop
+μ-loop table₀ store₀ line pairs n poses r count lanes i tall prices from₀ d₀ table store from d =
+    tall + r - (i + d)
+
+-- the store is as long as it was, where the loop begins
+long : (c : tie.After-slice-known3 Inv-loop μ-loop) → length (c .before .before .deliver .last .0) ≡ length (c .before .before .before .before .before .before .before .before .before .before .before .args .store .now)
+long c = c .before .before .deliver .ensures .frame .long ∙ c .before .before .before .before .before .before .fill-late .ensures .frame .long
+
+-- the first layer too
+kept : (c : tie.After-slice-known3 Inv-loop μ-loop) (k : ℕ) → k < 49152 → getD (c .before .before .deliver .last .0) k 0 ≡ getD (c .before .before .before .before .before .before .before .before .before .before .before .args .store .now) k 0
+kept c k h =
+    let p = c .before .before .before .before .before .before .before .before .before .before .before .pre .2 .over in
+    c .before .before .deliver .ensures .frame .low k (omega arith) ∙ c .before .before .before .before .before .before .fill-late .ensures .frame .low k (omega arith)
+
+fill-late-requires : tie.Need-fill-late-requires Inv-loop μ-loop
+fill-late-requires c κs =
+    let k = c .before .before .before .before in
+    let g = k .pre .1 in
+    (g .ground .coded, g .low, k .pre .2, g .ground .all, g .ground .few, g .narrow, omega (arith, g .early), k .pre .3)
+
+deliver-requires : tie.Need-deliver-requires Inv-loop μ-loop
+deliver-requires c κs =
+    let k = c .before .before .before .before .before .before .before .before in
+    let g = k .pre .1 in
+    let w = c .before .before .before .fill-late .ensures in
+    (g .ground .coded, w .low, record { over = k .pre .2 .over; room = omega (arith, k .pre .2 .room, w .frame .long) }, g .ground .all, g .ground .few, g .narrow, omega (arith, g .early), k .pre .3, omega arith)
+
+loop-holds : tie.Need-loop-holds Inv-loop μ-loop
+loop-holds c =
+    let k = c .before .before .before .before .before .before .before .before .before .before .before in
+    let a = k .args in
+    let g = k .pre .1 in (
+      omega (arith, g .early),
+      priced-start (deckOf (a .line .now) (a .n) (a .poses)) (a .r) (a .lanes) (a .i) (a .tall) (a .prices) (a .count) (given-small g) (g .ground .all) (k .pre .2 .over)
+          (c .before .before .before .before .before .before .fill-late .ensures) (c .before .before .deliver .ensures),
+      k .pre .0,
+      omega arith,
+    )
+
+add-loop : tie.Need-add-loop Inv-loop μ-loop
+add-loop c = search needs
+
+add-loop-2 : tie.Need-add-loop-2 Inv-loop μ-loop
+add-loop-2 c = search needs
+
+add-step-layer : tie.Need-add-step-layer Inv-loop μ-loop
+add-step-layer c = search needs
+
+sub-step-layer : tie.Need-sub-step-layer Inv-loop μ-loop
+sub-step-layer c =
+    omega (arith, buffer-low (c .before .before .before .loop .inv .1 .running .buffer))
+
+step-layer-requires : tie.Need-step-layer-requires Inv-loop μ-loop
+step-layer-requires c κs =
+    let k = c .before .before .before .before .before .before .before .before .before .before .before .before .before .before .before in
+    let g = k .pre .1 in
+    let l = c .before .before .before .loop in
+    let v = l .inv .1 in
+    let b = buffer-low (v .running .buffer) in
+    let n : 98304 ≤ length (l .store) = omega (arith, v .outside .long, long (c .before .before .before .before), k .pre .2 .over, k .pre .2 .room) in
+    (l .inv .2, record { ground = g .ground; low = v .low; narrow = g .narrow; early = l .inv .0; room = omega arith }, buffer-beside (v .running .buffer) n)
+
+sub-from : tie.Need-sub-from Inv-loop μ-loop
+sub-from c =
+    omega (arith, buffer-low (c .before .before .before .before .before .before .loop .inv .1 .running .buffer))
+
+add-d : tie.Need-add-d Inv-loop μ-loop
+add-d c = search needs
+
+add-deliver : tie.Need-add-deliver Inv-loop μ-loop
+add-deliver c = search needs
+
+deliver-requires-2 : tie.Need-deliver-requires-2 Inv-loop μ-loop
+deliver-requires-2 c κs =
+    let k = c .before .before .before .before .before .before .before .before .before .before .before .before .before .before .before .before .before .before .before in
+    let g = k .pre .1 in
+    let l = c .before .before .before .before .before .before .before .loop in
+    let w = c .before .before .before .step-layer .ensures .0 in (
+      g .ground .coded,
+      w .low,
+      record { over = k .pre .2 .over; room = omega (arith, k .pre .2 .room, w .frame .long, l .inv .1 .outside .long, long (c .before .before .before .before .before .before .before .before)) },
+      g .ground .all,
+      g .ground .few,
+      g .narrow,
+      omega (arith, l .inv .0),
+      k .pre .3,
+      omega arith,
+    )
+
+loop-less : tie.Need-loop-less Inv-loop μ-loop
+loop-less c = search needs
+
+loop-again : tie.Need-loop-again Inv-loop μ-loop
+loop-again c =
+    let k = c .before .before .before .before .before .before .before .before .before .before .before .before .before .before .before .before .before .before .before .before .before .before in
+    let g = k .pre .1 in
+    let l = c .before .before .before .before .before .before .before .before .before .before .loop in (
+      omega (arith, g .ground .coded .reorder),
+      priced-step (given-small g) (g .ground .all) (k .pre .2 .over) (l .inv .1) (c .before .before .before .before .before .before .step-layer .ensures .0) (c .before .before .deliver2 .ensures),
+      c .before .before .before .before .before .before .step-layer .ensures .1,
+      omega arith,
+    )
+
+same-length : tie.Need-same-length Inv-loop μ-loop
+same-length c =
+    c .before .loop .inv .1 .outside .long ∙ long (c .before .before)
+
+returns : tie.Need-returns Inv-loop μ-loop
+returns c =
+    let k = c .before .before .before .before .before .before .before .before .before .before .before .before .before in
+    let a = k .args in
+    let l = c .before .loop in
+    let e : l .d ≡ a .tall + a .r - a .i = omega (arith, l .inv .3) in
+    let o : Outside (a .prices) 49152 (a .store .now) (c .before .before .before .before .deliver .last .0) =
+    outside-join (outside-prices (c .before .before .before .before .before .before .before .before .fill-late .ensures .frame) (omega arith) (omega arith))
+    (outside-prices (c .before .before .before .before .deliver .ensures .frame) (omega arith) (omega arith)) in
+    (rw e at (priced-from (given-small (k .pre .1)) (kept (c .before .before)) o (l .inv .1)), l .inv .2)
+
+pub run-to-spec : {M : Type 1} → statement M
+run-to-spec =
+    tie.close
+    (tie.spec
+    Inv-loop
+    μ-loop
+    fill-late-requires
+    deliver-requires
+    loop-holds
+    add-loop
+    add-loop-2
+    add-step-layer
+    sub-step-layer
+    step-layer-requires
+    sub-from
+    add-d
+    add-deliver
+    deliver-requires-2
+    loop-less
+    loop-again
+    same-length
+    returns)

@@ -1,0 +1,190 @@
+-- What a cell is offered is what rules 1 to 3 allow it, and every pose that it is offered is at least one site wide. Assumes nothing.
+use mathlib.Core.Path.{_≡_, sym, ap, subst}
+use mathlib.Core.Logic.{_↔_}
+use mathlib.Core.Bool.{Bool, true, false, not, _&&_, _||_}
+use mathlib.Core.List.{List·Memᴰ as In, Memᴰ·map, Memᴰ·of-map, Memᴰ·cast}
+use Prim.Native.Nat.{ℕ, _+_, _-_, _*_, _/_, _%_, _≤_, _<_}
+use native.Mathlib.Omega.{arith}
+use native.Mathlib.Decide.{decLt}
+use borrow.Author.Tests.{leb-true, le-leb, ltb-true, lt-ltb}
+use lib.ListN.{length, List·getD-eq-default}
+use lib.Dec.{leb, ltb, eqb}
+use Rattle.definition.specs.Job.{Cell, Job}
+use Rattle.definition.specs.Placement.{Pose, Placement}
+use Rattle.definition.specs.Rules.{noCell, cellAt, poseAt, endAt, apart, offered, breaks1, breaks2, breaks3}
+use Rattle.definition.specs.Sound.{Sound}
+use Rattle.theory_row.specs.Lists.{from, in-from, from-in}
+use Rattle.theory_pair.specs.Pick.{pick, pick-in, in-pick}
+use Rattle.theory_bridge.specs.Paired.{poseNumbers, poseNumber, isOffered, offersOf, widthOf, layoutOf}
+use Rattle.theory_bridge.specs.Poses.{pose-same}
+use Rattle.theory_bridge.specs.Tests.{and-true, not-false, mark-test, mirror-test}
+
+-- rules 1 to 3, of cell k in pose p
+pub record Allowed (j : Job) (k : ℕ) (p : Pose) : Type 0 where
+  pub layout : p .layout < length (cellAt j k .layouts)
+  pub mark : p .mark < 2
+  pub mirrorable : p .mark ≡ 1 → cellAt j k .mirrorable ≡ true
+  pub fits : p .site + widthOf j k p ≤ j .header .sites
+  pub left : cellAt j k .given ≤ p .site + j .header .displacement
+  pub right : p .site ≤ cellAt j k .given + j .header .displacement
+
+module _ (j : Job) (k : ℕ) where
+  -- cell k keeps rules 1 to 3
+  abbrev pub Keeps : Placement → Type 0
+  Keeps P = (breaks1 j P k ≡ false) × (breaks2 j P k ≡ false) × (breaks3 j P k ≡ false)
+
+  pub keeps-allowed : (P : Placement) → Keeps P ↔ Allowed j k (poseAt P k)
+  unfolding breaks1 breaks2 breaks3 widthOf
+  keeps-allowed P = (to, back)
+    where
+      c : Cell
+      c = cellAt j k
+
+      p : Pose
+      p = poseAt P k
+
+      some : Bool
+      some = ltb (p .layout) (length (c .layouts))
+
+      marked : Bool
+      marked = eqb (p .mark) 0 || (eqb (p .mark) 1 && c .mirrorable)
+
+      D : ℕ
+      D = j .header .displacement
+
+      to : Keeps P → Allowed j k p
+      to b =
+          let o = and-true some marked .0 (not-false (some && marked) .0 (b .0)) in
+          let m = mark-test (p .mark) (c .mirrorable) .0 (o .1) in
+          let e = leb-true (endAt j P k) (j .header .sites) (not-false (leb (endAt j P k) (j .header .sites)) .0 (b .1)) in
+          let d = leb-true (apart (p .site) (c .given)) D (not-false (leb (apart (p .site) (c .given)) D) .0 (b .2)) in
+          record { layout = ltb-true (p .layout) (length (c .layouts)) (o .0); mark = m .0; mirrorable = m .1; fits = e; left = omega arith; right = omega arith }
+
+      back : Allowed j k p → Keeps P
+      back a = (
+        not-false (some && marked) .1 (and-true some marked .1 (lt-ltb (p .layout) (length (c .layouts)) (a .layout), mark-test (p .mark) (c .mirrorable) .1 (a .mark, a .mirrorable))),
+        not-false (leb (endAt j P k) (j .header .sites)) .1 (le-leb (endAt j P k) (j .header .sites) (a .fits)),
+        not-false (leb (apart (p .site) (c .given)) D) .1 (le-leb (apart (p .site) (c .given)) D (let l = a .left in let r = a .right in omega arith)),
+      )
+
+  -- ---- pose numbers
+
+  abbrev low : ℕ → Bool
+  low a = leb (j .header .displacement) (cellAt j k .given + a / 4)
+
+  abbrev known : ℕ → Bool
+  known a = ltb (poseNumber j k a .layout) (length (cellAt j k .layouts))
+
+  abbrev turned : ℕ → Bool
+  turned a = eqb (poseNumber j k a .mark) 0 || cellAt j k .mirrorable
+
+  abbrev inside : ℕ → Bool
+  inside a = leb (poseNumber j k a .site + widthOf j k (poseNumber j k a)) (j .header .sites)
+
+  offered-test : (a : ℕ) → isOffered j k a ≡ true ↔ ((low a ≡ true) × (known a ≡ true) × (turned a ≡ true) × (inside a ≡ true))
+  unfolding isOffered
+  offered-test a = (
+    λ e.
+        let x = and-true (low a && known a && turned a) (inside a) .0 e in
+        let y = and-true (low a && known a) (turned a) .0 (x .0) in
+        let z = and-true (low a) (known a) .0 (y .0) in
+        (z .0, z .1, y .1, x .1),
+    λ q. and-true (low a && known a && turned a) (inside a) .1 (and-true (low a && known a) (turned a) .1 (and-true (low a) (known a) .1 (q .0, q .1), q .2), q .3),
+  )
+
+  number-test : (a : ℕ) → a < poseNumbers j → isOffered j k a ≡ true ↔ (Allowed j k (poseNumber j k a) × (j .header .displacement ≤ cellAt j k .given + a / 4))
+  unfolding poseNumber
+  number-test a h = (to, back)
+    where
+      D : ℕ
+      D = j .header .displacement
+
+      g : ℕ
+      g = cellAt j k .given
+
+      to : isOffered j k a ≡ true → Allowed j k (poseNumber j k a) × (D ≤ g + a / 4)
+      to e =
+          let q = offered-test a .0 e in
+          let l = leb-true D (g + a / 4) (q .0) in (
+            record {
+              layout = ltb-true (poseNumber j k a .layout) (length (cellAt j k .layouts)) (q .1);
+              mark = omega arith;
+              mirrorable = mirror-test (a % 2) (cellAt j k .mirrorable) (omega arith) .0 (q .2);
+              fits = leb-true (poseNumber j k a .site + widthOf j k (poseNumber j k a)) (j .header .sites) (q .3);
+              left = omega arith;
+              right = omega arith;
+            },
+            l,
+          )
+
+      back : Allowed j k (poseNumber j k a) × (D ≤ g + a / 4) → isOffered j k a ≡ true
+      back p = offered-test a .1 (
+        le-leb D (g + a / 4) (p .1),
+        lt-ltb (poseNumber j k a .layout) (length (cellAt j k .layouts)) (p .0 .layout),
+        mirror-test (a % 2) (cellAt j k .mirrorable) (omega arith) .1 (p .0 .mirrorable),
+        le-leb (poseNumber j k a .site + widthOf j k (poseNumber j k a)) (j .header .sites) (p .0 .fits),
+      )
+
+  -- the number of a pose
+  abbrev numberOf : Pose → ℕ
+  numberOf p = 4 * (p .site + j .header .displacement - cellAt j k .given) + 2 * p .layout + p .mark
+
+  number-below : (p : Pose) → Allowed j k p → p .layout < 2 → numberOf p < poseNumbers j
+  number-below p a h = omega arith
+
+  number-pose : (p : Pose) → Allowed j k p → p .layout < 2 → (poseNumber j k (numberOf p) ≡ p) × (j .header .displacement ≤ cellAt j k .given + numberOf p / 4)
+  unfolding poseNumber
+  number-pose p a h =
+      let s : cellAt j k .given + numberOf p / 4 - j .header .displacement ≡ p .site = omega arith in
+      let l : numberOf p % 4 / 2 ≡ p .layout = omega arith in
+      let m : numberOf p % 2 ≡ p .mark = omega arith in
+      (pose-same (poseNumber j k (numberOf p)) p s l m, omega arith)
+
+-- at most two layouts, and each at least one site wide; a cell that is not there has none
+module _ (j : Job) (sound : Sound j) (k : ℕ) where
+  no-cell : ¬ (k < length (j .cells)) → cellAt j k ≡ noCell
+  no-cell n = List·getD-eq-default (j .cells) noCell (omega arith)
+
+  pub few-layouts : length (cellAt j k .layouts) ≤ 2
+  few-layouts = go (decLt k (length (j .cells)))
+    where
+      go : Dec (k < length (j .cells)) → length (cellAt j k .layouts) ≤ 2
+      go (yes h) = sound .cell k h .few
+      go (no n) = let e = ap (λ c. length (c .layouts)) (no-cell n) in omega arith
+
+  wide-layout : (p : Pose) → p .layout < length (cellAt j k .layouts) → 0 < widthOf j k p
+  unfolding widthOf
+  wide-layout p l = go (decLt k (length (j .cells)))
+    where
+      go : Dec (k < length (j .cells)) → 0 < layoutOf j k p .width
+      go (yes h) = let w = sound .cell k h .layout (p .layout) l .wide in omega arith
+      go (no n) = absurd (let e = ap (λ c. length (c .layouts)) (no-cell n) in omega arith)
+
+  pub offered-allowed : (p : Pose) → In p (offersOf j k) ↔ Allowed j k p
+  unfolding offersOf
+  offered-allowed p = (to, back)
+    where
+      to : In p (offersOf j k) → Allowed j k p
+      to m =
+          let r = Memᴰ·of-map (poseNumber j k) (pick (isOffered j k) (from 0 (poseNumbers j))) m in
+          let i = pick-in (isOffered j k) (from 0 (poseNumbers j)) (r .1) in
+          let h = in-from 0 (poseNumbers j) (i .0) in
+          subst (Allowed j k) (r .2) (number-test j k (r .0) (omega arith) .0 (i .1) .0)
+
+      back : Allowed j k p → In p (offersOf j k)
+      back a =
+          let s : p .layout < 2 = let f = few-layouts in let l = a .layout in omega arith in
+          let n = numberOf j k p in
+          let h = number-below j k p a s in
+          let e = number-pose j k p a s in
+          Memᴰ·cast (sym (e .0))
+          (Memᴰ·map (poseNumber j k) (in-pick (isOffered j k) (from 0 (poseNumbers j)) (from-in n 0 (poseNumbers j) (omega arith) (omega arith))
+          (number-test j k n h .1 (subst (Allowed j k) (sym (e .0)) a, e .1))))
+
+  -- what is offered is wide
+  pub wide-positive : (p : Pose) → In p (offersOf j k) → 0 < widthOf j k p
+  wide-positive p m = wide-layout p (offered-allowed p .0 m .layout)
+
+  -- a cell's pose is offered just if the cell keeps rules 1 to 3
+  pub offered-rules : (P : Placement) → In (poseAt P k) (offersOf j k) ↔ Keeps j k P
+  offered-rules P = let a = offered-allowed (poseAt P k) in let b = keeps-allowed j k P in (λ m. b .1 (a .0 m), λ h. a .1 (b .0 h))
