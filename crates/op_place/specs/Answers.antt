@@ -1,4 +1,4 @@
--- From what the search finds, and from what is written, to what Place's contract says. Assumes nothing.
+-- From what the search finds, and from what is written, to what Place's contract says.
 use Prim.Native.Nat.{ℕ, zero, suc, _*_, _≤_, _<_}
 use mathlib.Core.Path.{_≡_, refl, sym, ap, _∙_}
 use mathlib.Core.List.{List, _∷_}

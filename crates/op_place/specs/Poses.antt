@@ -1,4 +1,4 @@
--- A placement by pose numbers: what the program makes of them is the definition's. Assumes nothing.
+-- A placement by pose numbers: what the program makes of them is the definition's.
 use Prim.Native.Nat.{ℕ, _+_, _-_, _/_, _%_, _≤_, _<_}
 use mathlib.Core.Path.{_≡_, sym, ap, _∙_}
 use mathlib.Core.List.{List}

@@ -1,4 +1,4 @@
--- A verdict is of small numbers: a rule up to 7, and a cell that the job has; and no rule goes with no cell. Theorems on the definition. Assumes nothing.
+-- A verdict is of small numbers: a rule up to 7, and a cell that the job has; and no rule goes with no cell. Theorems on the definition.
 use Prim.Native.Nat.{ℕ, zero, suc, _+_, _≤_}
 use mathlib.Core.Path.{_≡_, refl}
 use mathlib.Core.Bool.{Bool, true, false, cond}

@@ -1,4 +1,4 @@
--- The eight fields as the program writes them are the definition's: of a broken rule, and of a legal placement. Assumes nothing.
+-- The eight fields as the program writes them are the definition's: of a broken rule, and of a legal placement.
 use Prim.Native.Nat.{ℕ, _^_, _<_}
 use mathlib.Core.Path.{_≡_, refl, sym, ap, ap₂, _∙_}
 use mathlib.Core.List.{[], _∷_}

@@ -1,4 +1,4 @@
--- What a placement text was read as, by whether a line is at fault. Assumes nothing.
+-- What a placement text was read as, by whether a line is at fault.
 use Prim.Native.Nat.{ℕ}
 use mathlib.Core.Path.{_≡_, sym, ap, _∙_}
 use mathlib.Core.Bool.{Bool, cond}

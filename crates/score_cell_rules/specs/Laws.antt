@@ -1,4 +1,4 @@
--- What a search through the cells finds: any that passes a test, and the lowest. Booleans. Assumes nothing.
+-- What a search through the cells finds: any that passes a test, and the lowest. Booleans.
 use Prim.Native.Nat.{ℕ, zero, suc, _+_, _≤_, _<_, min}
 use mathlib.Core.Path.{_≡_, refl, sym, ap, ap₂, _∙_}
 use mathlib.Core.Bool.{Bool, true, false, not, _&&_, _||_, cond}

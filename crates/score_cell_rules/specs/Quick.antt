@@ -1,4 +1,4 @@
--- Quick tests of rules 4 and 7: one pass shows that no two cells clash, or that no tall cell is passed. Assumes nothing.
+-- Quick tests of rules 4 and 7: one pass shows that no two cells clash, or that no tall cell is passed.
 use Prim.Native.Nat.{ℕ, zero, suc, _+_, _≤_, _<_}
 use mathlib.Core.Path.{_≡_, refl, sym, ap, _∙_}
 use mathlib.Core.Logic.{_≢_, _⊎_, inl, inr}
@@ -10,7 +10,7 @@ use lib.ListN.{length, getD, drop, length-drop}
 use lib.Seq.{getD-drop}
 use lib.Dec.{leb, ltb, eqb}
 use borrow.Author.Tests.{le-ltb}
-use Rattle.theory_row.specs.Lists.{Le?, low, high, le?, Eq?, same, differs, eq?}
+use Rattle.lists.specs.Lists.{Le?, low, high, le?, Eq?, same, differs, eq?}
 use Rattle.definition.specs.Lists.{from, keep}
 use Rattle.definition.specs.Rules.{put, sort}
 use Rattle.score_order.specs.Words.{siteIn, endIn, rowIn, standsIn, cellsIn, Tail}

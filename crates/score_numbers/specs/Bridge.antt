@@ -1,4 +1,4 @@
--- The program's sums are the definition's numbers. Assumes nothing.
+-- The program's sums are the definition's numbers.
 use Prim.Native.Nat.{ℕ, _+_, _*_, _≤_, _<_}
 use mathlib.Core.Path.{_≡_, sym, ap, ap₂, fun-ext}
 use mathlib.Core.List.{List}

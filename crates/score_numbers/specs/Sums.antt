@@ -1,4 +1,4 @@
--- Sums and counts over the cells from k on, and their laws for a loop that goes down. Assumes nothing.
+-- Sums and counts over the cells from k on, and their laws for a loop that goes down.
 use Prim.Native.Nat.{ℕ, suc, _+_, _*_, _-_, _≤_}
 use mathlib.Core.Path.{_≡_}
 use mathlib.Core.Bool.{Bool, true, false}

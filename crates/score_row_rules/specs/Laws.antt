@@ -1,4 +1,4 @@
--- Laws of marks, and of the neighbours of a list from the right. Assumes nothing.
+-- Laws of marks, and of the neighbours of a list from the right.
 use Prim.Native.Nat.{ℕ, suc, _+_, _-_, _≤_, _<_}
 use mathlib.Core.Path.{_≡_, refl, sym, ap, ap₂, _∙_}
 use mathlib.Core.Bool.{Bool, true, false, not, _&&_, _||_, cond}
@@ -8,7 +8,7 @@ use native.Mathlib.Decide.{ℕ-discrete}
 use lib.ListN.{length, getD, drop, set, replicate, length-set, length-drop, getD-replicate}
 use lib.Seq.{drop-cons, getD-set-same, getD-set-other}
 use lib.Dec.{leb, ltb, eqb}
-use Rattle.theory_row.specs.Lists.{Le?, low, high, le?}
+use Rattle.lists.specs.Lists.{Le?, low, high, le?}
 use borrow.Author.Tests.{eq-eqb, ne-eqb, le-ltb, lt-ltb}
 use Rattle.definition.specs.Lists.{anyNext}
 use Rattle.definition.specs.Rules.{apart, placeIn}

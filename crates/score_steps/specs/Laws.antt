@@ -1,4 +1,4 @@
--- Laws of the charges and the heights of a cell. Assumes nothing.
+-- Laws of the charges and the heights of a cell.
 use Prim.Native.Nat.{ℕ, zero, suc, _+_, _*_, _-_, _≤_, _<_, min}
 use mathlib.Core.Path.{_≡_, refl, sym, ap, ap₂, _∙_}
 use mathlib.Core.Bool.{Bool, true, false, cond}

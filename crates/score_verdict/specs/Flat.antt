@@ -1,4 +1,4 @@
--- The rules by the words of a placed job are the definition's. Assumes nothing.
+-- The rules by the words of a placed job are the definition's.
 use Prim.Native.Nat.{ℕ, zero, suc, _+_, _-_, _≤_, _<_}
 use mathlib.Core.Path.{_≡_, refl, sym, ap, ap₂, fun-ext, _∙_}
 use mathlib.Core.Bool.{Bool, true, false, not, _&&_, _||_, cond}

@@ -1,4 +1,4 @@
--- Laws of the job and a placement as values, cell by cell, and of the words of a cell. Assumes nothing.
+-- Laws of the job and a placement as values, cell by cell, and of the words of a cell.
 use Prim.Native.Nat.{ℕ, zero, suc, _+_, _*_, _≤_, _<_}
 use mathlib.Core.Path.{_≡_, refl, sym, ap, ap₂, _∙_}
 use mathlib.Core.List.{List, [], _∷_}
@@ -8,7 +8,7 @@ use lib.ListN.{length, getD, take, set, replicate, length-set, length-take, leng
 use lib.Seq.{getD-take, getD-set-same, getD-set-other, length-take-le}
 use mathlib.Core.Bool.{Bool, true, false}
 use lib.Dec.{leb}
-use Rattle.theory_row.specs.Lists.{Le?, low, high, le?}
+use Rattle.lists.specs.Lists.{Le?, low, high, le?}
 use Rattle.definition.specs.Sound.{SoundCell}
 use Rattle.definition.specs.Job as paper
 use Rattle.definition.specs.Placement as text

@@ -1,4 +1,4 @@
--- The words of a placed job as functions of the cell, and the rows that they give. Assumes nothing.
+-- The words of a placed job as functions of the cell, and the rows that they give.
 use Prim.Native.Nat.{ℕ}
 use mathlib.Core.Path.{_≡_, sym, ap₂, fun-ext}
 use mathlib.Core.List.{List}

@@ -1,4 +1,4 @@
--- From the stages and the trace to the answer: the least cost, and the placement that both paths note. Assumes nothing.
+-- From the stages and the trace to the answer: the least cost, and the placement that both paths note.
 use Prim.Native.Nat.{ℕ, suc, _+_, _≤_, _<_}
 use mathlib.Core.Path.{_≡_, refl, sym, ap, _∙_, subst}
 use mathlib.Core.Option.{some}
@@ -9,11 +9,11 @@ use Rattle.definition.specs.Job.{Job}
 use Rattle.definition.specs.Cost.{cost}
 use Rattle.definition.specs.Moves.{Cheapest}
 use Rattle.theory_pair.specs.Cells.{row₀, row₁}
-use Rattle.theory_tables.specs.Steps.{B, Deck, pairCount}
+use Rattle.theory_tables.specs.Steps.{B, Deck, stateCount}
 use Rattle.theory_tables.specs.Stages.{leastCost}
 use Rattle.theory_tables.specs.Back.{Traced}
 use Rattle.theory_tables.specs.Notes.{NotedBy}
-use Rattle.theory_traceback.specs.Placed.{WalkedBack, places, places-agree}
+use Rattle.theory_traceback.specs.Placed.{TracedBack, places, places-agree}
 use Rattle.theory_bridge.specs.Paired.{siteOf, poseNumbers, poseNumber, isOffered, pairJob}
 use Rattle.theory_claim.specs.Claim.{reorder, searchedCost, placementByNumbers, claim-none, claim-some}
 use Rattle.score_order.specs.Laws.{zeros-at}
@@ -23,7 +23,7 @@ use Rattle.search_join.specs.Places.{caseAt}
 use Rattle.search_join.specs.Tables.{casesIn}
 use Rattle.search_stage.specs.Stage.{wide, posIn, StagesDone}
 use Rattle.search_stage.specs.Laws.{wide-last}
-use Rattle.search_back_segment.specs.Walks.{wordAt}
+use Rattle.search_back_segment.specs.Traces.{wordAt}
 use Rattle.search_back.specs.Trace.{Ways, stages-ways, Trace, TraceDone, TracedTo}
 use Rattle.search_back.specs.Laws.{trace-given}
 use Rattle.search_back.specs.Scatter.{cellAt, poseAt, Given, Scattered}
@@ -77,7 +77,7 @@ module _ (j : Job) (line₀ line₁ places₀ places₁ : List ℕ) (n₀ n₁ t
       let i : at ≡ caseAt (suc talls) 0 0 + 0 = omega arith in
       record {
         done = d;
-        cost = e ∙ ap (λ (k : ℕ). getD new k 0) i ∙ d .right talls 0 0 0 (omega arith) (one (pairCount (reorder j))) (one (pairCount (reorder j))) (one (poseNumbers j));
+        cost = e ∙ ap (λ (k : ℕ). getD new k 0) i ∙ d .right talls 0 0 0 (omega arith) (one (stateCount (reorder j))) (one (stateCount (reorder j))) (one (poseNumbers j));
         low = omega (arith, d .low .word at);
       }
     where
@@ -88,7 +88,7 @@ module _ (j : Job) (line₀ line₁ places₀ places₁ : List ℕ) (n₀ n₁ t
   pub traceable : {old new : List ℕ} {x count : ℕ} → Costed old new x → wordsFor talls count ≤ length old → Low old → x < B → Tables count new
   traceable {old} c h l u = record { old = old; long = h; low = l; done = c .done; some = subst (λ (y : ℕ). y < B) (c .cost) u }
 
-module _ {j : Job} {line₀ line₁ pairs places₀ places₁ : List ℕ} {n₀ n₁ count talls : ℕ} (r : Ready j line₀ line₁ pairs places₀ places₁ n₀ n₁ count talls) where
+module _ {j : Job} {line₀ line₁ states places₀ places₁ : List ℕ} {n₀ n₁ count talls : ℕ} (r : Ready j line₀ line₁ states places₀ places₁ n₀ n₁ count talls) where
   abbrev D₀ : Deck
   D₀ = deckOf line₀ n₀ (poseNumbers j)
 
@@ -119,7 +119,7 @@ module _ {j : Job} {line₀ line₁ pairs places₀ places₁ : List ℕ} {n₀ 
   -- ---- the trace
 
   pub may-trace : {st path₀ path₁ : List ℕ} {poses : ℕ} → poses ≡ poseNumbers j → Tables j line₀ line₁ places₀ places₁ n₀ n₁ talls count st → 67 ≤ length path₀ → 67 ≤ length path₁
-      → Trace line₀ line₁ pairs places₀ places₁ st path₀ path₁ (reorder j) n₀ n₁ poses count talls talls 0 0 0
+      → Trace line₀ line₁ states places₀ places₁ st path₀ path₁ (reorder j) n₀ n₁ poses count talls talls 0 0 0
   may-trace z t h l = trace-given (stages-given r z (omega (arith, t .long, t .done .long)) (t .done .low)) h l
 
   -- what the trace leaves, with these tables
@@ -137,8 +137,8 @@ module _ {j : Job} {line₀ line₁ pairs places₀ places₁ : List ℕ} {n₀ 
     tracedAt =
         subst (λ (p : ℕ). Traced (deckOf line₀ n₀ p) (deckOf line₁ n₁ p) (reorder j) talls (posIn places₀) (posIn places₁) (NotedBy (wordAt path₀)) (NotedBy (wordAt path₁)) talls 0 0 0) z t
 
-    walked : WalkedBack (reorder j) siteOf (pairJob j) (poseNumber j) (isOffered j) D₀ D₁ (posIn places₀) (posIn places₁) (wordAt path₀) (wordAt path₁)
-    walked = record {
+    rowTraced : TracedBack (reorder j) siteOf (pairJob j) (poseNumber j) (isOffered j) D₀ D₁ (posIn places₀) (posIn places₁) (wordAt path₀) (wordAt path₁)
+    rowTraced = record {
       first = ready-searched (r .row₀);
       second = ready-searched (r .row₁);
       poses = refl;
@@ -148,7 +148,7 @@ module _ {j : Job} {line₀ line₁ pairs places₀ places₁ : List ℕ} {n₀ 
     }
 
     both : RowPath j row₀ path₀ × RowPath j row₁ path₁
-    both = places (reorder j) siteOf (pairJob j) (poseNumber j) (isOffered j) D₀ D₁ (posIn places₀) (posIn places₁) (wordAt path₀) (wordAt path₁) walked
+    both = places (reorder j) siteOf (pairJob j) (poseNumber j) (isOffered j) D₀ D₁ (posIn places₀) (posIn places₁) (wordAt path₀) (wordAt path₁) rowTraced
 
     pub first-given : {out : List ℕ} → 67 ≤ length path₀ → 64 ≤ length out → Given line₀ path₀ out n₀
     first-given = path-given (r .row₀) path₀ (both .0) (r .sound)
@@ -165,10 +165,10 @@ module _ {j : Job} {line₀ line₁ pairs places₀ places₁ : List ℕ} {n₀ 
         agree i k h l g m e =
             let z₀ = r .row₀ .lined .matched .size in
             let z₁ = r .row₁ .lined .matched .size in
-            places-agree (reorder j) siteOf (pairJob j) (poseNumber j) (isOffered j) D₀ D₁ (posIn places₀) (posIn places₁) (wordAt path₀) (wordAt path₁) walked i k
+            places-agree (reorder j) siteOf (pairJob j) (poseNumber j) (isOffered j) D₀ D₁ (posIn places₀) (posIn places₁) (wordAt path₀) (wordAt path₁) rowTraced i k
             h (omega arith) g (omega arith) (sym (path-cell (r .row₀) path₀ (both .0) i h l) ∙ e ∙ path-cell (r .row₁) path₁ (both .1) k g m)
 
         c : Cheapest j (some (placementByNumbers j (numbersIn new))) × (cost j (placementByNumbers j (numbersIn new)) ≡ searchedCost j D₀ D₁ (posIn places₀) (posIn places₁))
         c =
-            claim-some j (r .sound) D₀ D₁ (posIn places₀) (posIn places₁) (ready-searched (r .row₀)) (ready-searched (r .row₁)) refl (wordAt path₀) (wordAt path₁) walked (numbersIn new)
+            claim-some j (r .sound) D₀ D₁ (posIn places₀) (posIn places₁) (ready-searched (r .row₀)) (ready-searched (r .row₁)) refl (wordAt path₀) (wordAt path₁) rowTraced (numbersIn new)
             (path-numbers (r .row₀) path₀ (both .0) new (both-scattered v w agree)) (path-numbers (r .row₁) path₁ (both .1) new (w .done))

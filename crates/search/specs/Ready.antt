@@ -1,4 +1,4 @@
--- The rows as words, ready for the search: what the stages and the claim are owed of them. Assumes nothing.
+-- The rows as words, ready for the search: what the stages and the claim are owed of them.
 use Prim.Native.Nat.{ℕ, _≤_}
 use mathlib.Core.Path.{_≡_, sym, _∙_, subst}
 use mathlib.Core.List.{List}
@@ -23,10 +23,10 @@ pub record RowReady (j : Job) (s : Side) (line places : List ℕ) (n talls : ℕ
   pub tall : TallWords line n places talls
   pub room : talls ≤ length places
 
--- both rows, and the pairs
-pub record Ready (j : Job) (line₀ line₁ pairs places₀ places₁ : List ℕ) (n₀ n₁ count talls : ℕ) : Type 0 where
+-- both rows, and the states
+pub record Ready (j : Job) (line₀ line₁ states places₀ places₁ : List ℕ) (n₀ n₁ count talls : ℕ) : Type 0 where
   pub sound : Sound j
-  pub paired : Paired (reorder j) pairs count
+  pub paired : Paired (reorder j) states count
   pub row₀ : RowReady j row₀ line₀ places₀ n₀ talls
   pub row₁ : RowReady j row₁ line₁ places₁ n₁ talls
 
@@ -40,7 +40,7 @@ module _ {j : Job} {s : Side} {line places : List ℕ} {n talls : ℕ} (r : RowR
   unfolding posIn
   ready-searched = record { matched = r .lined .matched; stands = talls-pos (r .lined) (r .tall) .1 }
 
-  pub ready-given : {pairs : List ℕ} {count : ℕ} → Sound j → Paired (reorder j) pairs count → RowGiven line pairs places (reorder j) n (poseNumbers j) count talls
+  pub ready-given : {states : List ℕ} {count : ℕ} → Sound j → Paired (reorder j) states count → RowGiven line states places (reorder j) n (poseNumbers j) count talls
   ready-given sound p = record {
     ground = record { size = r .lined .size; few = r .lined .few; all = p .all; row = r .lined .row; coded = p .coded };
     few = let a = ready-talls in let b = talls-count (r .lined) in let c = talls-few (r .lined) sound in omega arith;
@@ -55,8 +55,8 @@ module _ {j : Job} {s : Side} {line places : List ℕ} {n talls : ℕ} (r : RowR
 
 -- ---- both rows
 
-pub ready : {j : Job} {line₀ line₁ pairs places₀ places₁ : List ℕ} {n₀ n₁ count talls talls₁ : ℕ} → Sound j → Paired (reorder j) pairs count
-    → RowReady j row₀ line₀ places₀ n₀ talls → RowReady j row₁ line₁ places₁ n₁ talls₁ → Ready j line₀ line₁ pairs places₀ places₁ n₀ n₁ count talls
+pub ready : {j : Job} {line₀ line₁ states places₀ places₁ : List ℕ} {n₀ n₁ count talls talls₁ : ℕ} → Sound j → Paired (reorder j) states count
+    → RowReady j row₀ line₀ places₀ n₀ talls → RowReady j row₁ line₁ places₁ n₁ talls₁ → Ready j line₀ line₁ states places₀ places₁ n₀ n₁ count talls
 ready {j} {line₁ = line₁} {places₁ = places₁} {n₁ = n₁} sound p r₀ r₁ = record {
   sound = sound;
   paired = p;
@@ -64,9 +64,9 @@ ready {j} {line₁ = line₁} {places₁ = places₁} {n₁ = n₁} sound p r₀
   row₁ = subst (λ (t : ℕ). RowReady j row₁ line₁ places₁ n₁ t) (ready-talls r₁ ∙ sym (ready-talls r₀)) r₁;
 }
 
-module _ {j : Job} {line₀ line₁ pairs places₀ places₁ : List ℕ} {n₀ n₁ count talls : ℕ} (r : Ready j line₀ line₁ pairs places₀ places₁ n₀ n₁ count talls) where
-  pub stages-given : {st : List ℕ} {poses : ℕ} → poses ≡ poseNumbers j → wordsFor talls count ≤ length st → Low st → StagesGiven line₀ line₁ pairs places₀ places₁ st (reorder j) n₀ n₁ poses count talls
-  stages-given {st} z h l = subst (λ (p : ℕ). StagesGiven line₀ line₁ pairs places₀ places₁ st (reorder j) n₀ n₁ p count talls) (sym z) record {
+module _ {j : Job} {line₀ line₁ states places₀ places₁ : List ℕ} {n₀ n₁ count talls : ℕ} (r : Ready j line₀ line₁ states places₀ places₁ n₀ n₁ count talls) where
+  pub stages-given : {st : List ℕ} {poses : ℕ} → poses ≡ poseNumbers j → wordsFor talls count ≤ length st → Low st → StagesGiven line₀ line₁ states places₀ places₁ st (reorder j) n₀ n₁ poses count talls
+  stages-given {st} z h l = subst (λ (p : ℕ). StagesGiven line₀ line₁ states places₀ places₁ st (reorder j) n₀ n₁ p count talls) (sym z) record {
     row₀ = ready-given (r .row₀) (r .sound) (r .paired);
     row₁ = ready-given (r .row₁) (r .sound) (r .paired);
     long = h;

@@ -1,4 +1,4 @@
--- A row's path and its words: the cell at each place, what the scatter is given, and what it leaves. Assumes nothing.
+-- A row's path and its words: the cell at each place, what the scatter is given, and what it leaves.
 use Prim.Native.Nat.{ℕ, _/_, _%_, _≤_, _<_}
 use mathlib.Core.Path.{_≡_, sym, ap, _∙_}
 use mathlib.Core.List.{List}
@@ -6,7 +6,7 @@ use native.Mathlib.Omega.{arith}
 use lib.ListN.{length, getD}
 use Rattle.definition.specs.Job.{Job}
 use Rattle.definition.specs.Sound.{Sound}
-use Rattle.theory_row.specs.Lists.{from, Distinct}
+use Rattle.lists.specs.Lists.{from, Distinct}
 use Rattle.theory_row.specs.Order.{place}
 use Rattle.theory_pair.specs.Pick.{pick-pairs}
 use Rattle.theory_pair.specs.Members.{at-in, place-at, from-rising, rising-distinct′}

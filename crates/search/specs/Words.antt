@@ -1,12 +1,12 @@
--- The words of the store that a search uses: how many they are, and that they are zeros before it. Assumes nothing.
+-- The words of the store that a search uses: how many they are, and that they are zeros before it.
 use Prim.Native.Nat.{ℕ, zero, suc, _+_, _≤_}
 use mathlib.Core.Path.{_≡_, sym, ap, _∙_, subst}
 use mathlib.Core.List.{List, _++_}
 use native.Mathlib.Omega.{arith}
 use lib.ListN.{length, take, drop, replicate, length-replicate}
 use lib.Seq.{length-take-le, length-front, take-at}
-use Rattle.theory_tables.specs.Steps.{pairCount}
-use Rattle.theory_tables.specs.Pairs.{count-0, count-1}
+use Rattle.theory_tables.specs.Steps.{stateCount}
+use Rattle.theory_tables.specs.States.{count-0, count-1}
 use Rattle.score_order.specs.Laws.{zeros-at}
 use Rattle.search_lanes.specs.Store.{Low}
 use Rattle.search_join.specs.Places.{pageAt}
@@ -14,20 +14,20 @@ use Rattle.search_stage.specs.Stage.{wide}
 use Rattle.search_stage.specs.Laws.{wide-low}
 use Rattle.search_states.specs.Upto.{Paired}
 
--- with so many tall cells and pairs: the layers, and a page for each pair of the largest table
+-- with so many tall cells and states: the layers, and a page for each state of the largest table
 abbrev pub wordsFor : ℕ → ℕ → ℕ
 wordsFor talls count = pageAt (wide talls talls count)
 
--- at most three pairs
-few-pairs : (R : ℕ) → R ≤ 1 → pairCount R ≤ 3
-few-pairs zero h = omega (arith, count-0)
-few-pairs (suc zero) h = omega (arith, count-1)
-few-pairs (suc (suc R)) h = absurd (omega arith)
+-- at most three states
+few-states : (R : ℕ) → R ≤ 1 → stateCount R ≤ 3
+few-states zero h = omega (arith, count-0)
+few-states (suc zero) h = omega (arith, count-1)
+few-states (suc (suc R)) h = absurd (omega arith)
 
 -- a store of 1,048,576 words has them
-pub words-lent : (talls : ℕ) {R : ℕ} {pairs : List ℕ} {count : ℕ} → R ≤ 1 → Paired R pairs count → wordsFor talls count ≤ 1048576
+pub words-lent : (talls : ℕ) {R : ℕ} {states : List ℕ} {count : ℕ} → R ≤ 1 → Paired R states count → wordsFor talls count ≤ 1048576
 words-lent talls {R} {count = count} h p =
-    omega (arith, wide-low talls talls count 3 (omega arith) (omega (arith, few-pairs R h, p .all)))
+    omega (arith, wide-low talls talls count 3 (omega arith) (omega (arith, few-states R h, p .all)))
 
 pub zeros-low : (n : ℕ) → Low (replicate n 0)
 zeros-low n = record { word = λ k. omega (arith, zeros-at n k) }

@@ -50,7 +50,7 @@ fn least_cost(
     job: Job,
     line0: &[u32],
     line1: &[u32],
-    pairs: &[u32],
+    states: &[u32],
     places0: &[u32],
     places1: &[u32],
     n0: usize,
@@ -58,7 +58,7 @@ fn least_cost(
     count: usize,
     talls: usize,
 ) -> u32
-    requires { ⌜ Ready (jobOf job) (now line0) (now line1) (now pairs) (now places0) (now places1) n0 n1 count talls × (wordsFor talls count ≤ length (now store)) × Low (now store) ⌝ }
+    requires { ⌜ Ready (jobOf job) (now line0) (now line1) (now states) (now places0) (now places1) n0 n1 count talls × (wordsFor talls count ≤ length (now store)) × Low (now store) ⌝ }
     ensures { λ x. ⌜ Costed (jobOf job) (now (line0 .entry)) (now (line1 .entry)) (now (places0 .entry)) (now (places1 .entry)) n0 n1 talls (now (store .entry)) (now (store .exit)) x ⌝ }
 {
     let r = job.header.reordering as usize;
@@ -67,7 +67,7 @@ fn least_cost(
         store,
         line0,
         line1,
-        pairs,
+        states,
         places0,
         places1,
         n0,
@@ -87,7 +87,7 @@ fn note(
     job: Job,
     line0: &[u32],
     line1: &[u32],
-    pairs: &[u32],
+    states: &[u32],
     places0: &[u32],
     places1: &[u32],
     n0: usize,
@@ -95,7 +95,7 @@ fn note(
     count: usize,
     talls: usize,
 )
-    requires { ⌜ Ready (jobOf job) (now line0) (now line1) (now pairs) (now places0) (now places1) n0 n1 count talls × Tables (jobOf job) (now line0) (now line1) (now places0) (now places1) n0 n1 talls count (now store) × (64 ≤ length (now out)) × ((k : ℕ) → getD (now out) k 0 < 64) ⌝ }
+    requires { ⌜ Ready (jobOf job) (now line0) (now line1) (now states) (now places0) (now places1) n0 n1 count talls × Tables (jobOf job) (now line0) (now line1) (now places0) (now places1) n0 n1 talls count (now store) × (64 ≤ length (now out)) × ((k : ℕ) → getD (now out) k 0 < 64) ⌝ }
     ensures { λ _. ⌜ Answered (jobOf job) (now (line0 .entry)) (now (line1 .entry)) (now (places0 .entry)) (now (places1 .entry)) n0 n1 talls (now (out .exit)) ⌝ }
 {
     let mut path0 = [0u32; 128];
@@ -108,7 +108,7 @@ fn note(
         &mut path1,
         line0,
         line1,
-        pairs,
+        states,
         places0,
         places1,
         n0,
@@ -128,7 +128,7 @@ fn find(
     job: Job,
     line0: &[u32],
     line1: &[u32],
-    pairs: &[u32],
+    states: &[u32],
     places0: &[u32],
     places1: &[u32],
     n0: usize,
@@ -136,7 +136,7 @@ fn find(
     count: usize,
     talls: usize,
 ) -> Found
-    requires { ⌜ Ready (jobOf job) (now line0) (now line1) (now pairs) (now places0) (now places1) n0 n1 count talls × (wordsFor talls count ≤ length (now store)) × Low (now store) ⌝ }
+    requires { ⌜ Ready (jobOf job) (now line0) (now line1) (now states) (now places0) (now places1) n0 n1 count talls × (wordsFor talls count ≤ length (now store)) × Low (now store) ⌝ }
     ensures { λ r. ⌜ Solved (jobOf job) (r .cost) (r .poses) ⌝ }
 {
     let mut poses = [0u32; 64];
@@ -145,7 +145,7 @@ fn find(
         job,
         line0,
         line1,
-        pairs,
+        states,
         places0,
         places1,
         n0,
@@ -165,7 +165,7 @@ fn find(
         job,
         line0,
         line1,
-        pairs,
+        states,
         places0,
         places1,
         n0,
@@ -176,13 +176,13 @@ fn find(
     Found { cost, poses }
 }
 
-// How many words of the store a search needs: a page for each pair of the largest table.
+// How many words of the store a search needs: a page for each state of the largest table.
 fn store_words(talls: usize, count: usize) -> usize
     requires { ⌜ wide talls talls count ≤ 12 ⌝ }
     ensures { λ r. ⌜ r ≡ wordsFor talls count ⌝ }
 {
     let pages = search_stage::wide_of(talls, talls, count);
-    search_join::price_at(0, pages, 0, 0)
+    search_join::cost_at(0, pages, 0, 0)
 }
 
 // Only the words that are needed are cleared and used.
@@ -190,12 +190,12 @@ pub fn search(job: Job, store: &mut [u32]) -> Found
     requires { ⌜ Asked job (now store) ⌝ }
     ensures { λ r. ⌜ Solved (jobOf job) (r .cost) (r .poses) ⌝ }
 {
-    let mut pairs = [0u32; 64];
+    let mut states = [0u32; 64];
     let mut line0 = [0u32; 8192];
     let mut line1 = [0u32; 8192];
     let mut places0 = [0u32; 32];
     let mut places1 = [0u32; 32];
-    let count = search_states::fill_pairs(&mut pairs, job.header.reordering as usize);
+    let count = search_states::fill_states(&mut states, job.header.reordering as usize);
     let row0 = fill_row(&mut line0, &mut places0, job, 0);
     let row1 = fill_row(&mut line1, &mut places1, job, 1);
     let words = store_words(row0.talls, count);
@@ -205,7 +205,7 @@ pub fn search(job: Job, store: &mut [u32]) -> Found
         job,
         &line0,
         &line1,
-        &pairs,
+        &states,
         &places0,
         &places1,
         row0.cells,

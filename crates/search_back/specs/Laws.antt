@@ -1,5 +1,4 @@
 -- Laws of the trace: a case's way gives what both rows are to be walked by, and the case to go on from; later walks keep the places already noted.
--- Assumes nothing.
 use Prim.Native.Nat.{ℕ, suc, _+_, _/_, _%_, _≤_, _<_}
 use mathlib.Core.Path.{_≡_, refl, sym, ap, _∙_, subst}
 use mathlib.Core.Logic.{inl, inr}
@@ -7,18 +6,18 @@ use mathlib.Core.List.{List}
 use native.Mathlib.Omega.{arith}
 use native.Mathlib.Decide.{decLt}
 use lib.ListN.{length}
-use Rattle.theory_tables.specs.Steps.{B, Deck, Layer, pairCount}
-use Rattle.theory_tables.specs.Stages.{placedWith, openPrice, stagePrice, caseTable}
-use Rattle.theory_tables.specs.Back.{EndWalked, StageWalked}
+use Rattle.theory_tables.specs.Steps.{B, Deck, Layer, stateCount}
+use Rattle.theory_tables.specs.Stages.{placedWith, openCost, stageCost, caseTable}
+use Rattle.theory_tables.specs.Back.{EndTraced, StageTraced}
 use Rattle.theory_tables.specs.Notes.{NotedBy, stage-words}
 use Rattle.search_lanes.specs.Laws.{frame-refl, frame-join}
 use Rattle.search_lanes.specs.Store.{Frame, Low}
 use Rattle.search_row.specs.Words.{deckOf}
-use Rattle.search_join.specs.Places.{sourceAt, Pages, case-above}
-use Rattle.search_join.specs.Tables.{sourcesIn, Way}
+use Rattle.search_join.specs.Places.{pointerAt, Pages, case-above}
+use Rattle.search_join.specs.Tables.{pointersIn, Way}
 use Rattle.search_stage.specs.Stage.{wide, posIn, RowGiven, StagesGiven}
-use Rattle.search_stage.specs.Laws.{wide-all, wide-last, given-pairs, given-wide}
-use Rattle.search_back_segment.specs.Walks.{wordAt}
+use Rattle.search_stage.specs.Laws.{wide-all, wide-last, given-states, given-wide}
+use Rattle.search_back_segment.specs.Traces.{wordAt}
 use Rattle.search_back_stage.specs.Rows.{startCells, startLayer, startEnd, endPlace, Stage, StageDone}
 use Rattle.search_back_stage.specs.Laws.{end-tall, end-last}
 use Rattle.search_back.specs.Trace.{Ways, Leg, Trace, LegDone, TraceDone}
@@ -26,11 +25,11 @@ use Rattle.search_back.specs.Trace.{Ways, Leg, Trace, LegDone, TraceDone
 -- ---- one row
 
 -- a walked stage goes on from its start
-pub walked-on : (D : Deck) (R talls : ℕ) (pos : ℕ → ℕ) (Noted : ℕ → ℕ → ℕ → Type 0) (I : ℕ) (f : Layer) (i x q a : ℕ) → StageWalked D R talls pos Noted I f i x q a
+pub traced-on : (D : Deck) (R talls : ℕ) (pos : ℕ → ℕ) (Noted : ℕ → ℕ → ℕ → Type 0) (I : ℕ) (f : Layer) (i x q a : ℕ) → StageTraced D R talls pos Noted I f i x q a
     → i ≤ suc (endPlace (D .size) R talls pos I q)
-walked-on D R talls pos Noted I f i x q a w = go (decLt I talls)
+traced-on D R talls pos Noted I f i x q a w = go (decLt I talls)
   where
-    ended : EndWalked D R Noted f i x → i ≤ suc (D .size)
+    ended : EndTraced D R Noted f i x → i ≤ suc (D .size)
     ended (inl e) = omega arith
     ended (inr (r, b, l)) = omega (arith, l .room)
 
@@ -39,10 +38,10 @@ walked-on D R talls pos Noted I f i x q a w = go (decLt I talls)
     go (no h) = omega (arith, end-last (D .size) R talls pos I q (omega arith), ended (w .toEnd (omega arith)))
 
 -- what was noted after tall cell J stays when the stages up to it are walked
-pub walked-kept : (D : Deck) (R talls : ℕ) (pos : ℕ → ℕ) (J s : ℕ) (f : Layer) (x q a : ℕ) (mid new : List ℕ) → J < talls → Frame 1 (suc (endPlace (D .size) R talls pos J s)) mid new
-    → StageWalked D R talls pos (NotedBy (wordAt mid)) (suc J) f (suc (placedWith R (pos J) s)) x q a
-    → StageWalked D R talls pos (NotedBy (wordAt new)) (suc J) f (suc (placedWith R (pos J) s)) x q a
-walked-kept D R talls pos J s f x q a mid new h n w =
+pub traced-kept : (D : Deck) (R talls : ℕ) (pos : ℕ → ℕ) (J s : ℕ) (f : Layer) (x q a : ℕ) (mid new : List ℕ) → J < talls → Frame 1 (suc (endPlace (D .size) R talls pos J s)) mid new
+    → StageTraced D R talls pos (NotedBy (wordAt mid)) (suc J) f (suc (placedWith R (pos J) s)) x q a
+    → StageTraced D R talls pos (NotedBy (wordAt new)) (suc J) f (suc (placedWith R (pos J) s)) x q a
+traced-kept D R talls pos J s f x q a mid new h n w =
     stage-words D R talls pos (wordAt mid) (wordAt new) (suc J) f (suc (placedWith R (pos J) s)) x q a
     (λ e u v. sym (n .high e (omega (arith, end-tall (D .size) R talls pos J s h)))) w
 
@@ -53,30 +52,30 @@ pub notes-join : (D : Deck) (R talls : ℕ) (pos : ℕ → ℕ) (J s q : ℕ) {o
 notes-join D R talls pos J s q h l f g =
     frame-join 1 (suc (endPlace (D .size) R talls pos (suc J) q)) f g (omega arith) (omega arith) (omega arith) (omega (arith, end-tall (D .size) R talls pos J s h))
 
--- one row of a stage, as a walk wants it
-row-stage : {line pairs places st path : List ℕ} {n poses R count talls I s l q a : ℕ}
-    → RowGiven line pairs places R n poses count talls → Low st → 148992 ≤ length st → 67 ≤ length path → I ≤ talls → (0 < I → s < pairCount R) → (0 < I → l < poses)
-    → q < wide talls (suc I) (pairCount R) → a < wide talls (suc I) poses
-    → Stage line pairs places st path n poses R count talls I s l q a
+-- one row of a stage, as a traceback wants it
+row-stage : {line states places st path : List ℕ} {n poses R count talls I s l q a : ℕ}
+    → RowGiven line states places R n poses count talls → Low st → 148992 ≤ length st → 67 ≤ length path → I ≤ talls → (0 < I → s < stateCount R) → (0 < I → l < poses)
+    → q < wide talls (suc I) (stateCount R) → a < wide talls (suc I) poses
+    → Stage line states places st path n poses R count talls I s l q a
 row-stage {poses = poses} {R = R} {talls = talls} {I = I} g w l r i s p x y =
     record {
-      start = record { row = g; low = w; long = l; stage = i; pair = s; pose = p };
+      start = record { row = g; low = w; long = l; stage = i; state = s; pose = p };
       room = r;
-      pair = λ h. omega (arith, wide-all talls I (pairCount R) h);
+      state = λ h. omega (arith, wide-all talls I (stateCount R) h);
       pose = λ h. omega (arith, wide-all talls I poses h);
     }
 
 -- ---- one stage of both rows
 
-module _ {line₀ line₁ pairs places₀ places₁ st path₀ path₁ : List ℕ} {R n₀ n₁ poses count talls I s t l q₀ q₁ a : ℕ}
-    (g : Leg line₀ line₁ pairs places₀ places₁ st path₀ path₁ R n₀ n₁ poses count talls I s t l q₀ q₁ a) where
-  pub leg-row₀ : Stage line₀ pairs places₀ st path₀ n₀ poses R count talls I s l q₀ a
+module _ {line₀ line₁ states places₀ places₁ st path₀ path₁ : List ℕ} {R n₀ n₁ poses count talls I s t l q₀ q₁ a : ℕ}
+    (g : Leg line₀ line₁ states places₀ places₁ st path₀ path₁ R n₀ n₁ poses count talls I s t l q₀ q₁ a) where
+  pub leg-row₀ : Stage line₀ states places₀ st path₀ n₀ poses R count talls I s l q₀ a
   leg-row₀ =
-      row-stage (g .both .given .row₀) (g .both .given .low) (omega (arith, g .both .given .long)) (g .both .room₀) (g .stage) (g .pair₀) (g .pose) (g .case .pair₀) (g .case .pose)
+      row-stage (g .both .given .row₀) (g .both .given .low) (omega (arith, g .both .given .long)) (g .both .room₀) (g .stage) (g .state₀) (g .pose) (g .case .state₀) (g .case .pose)
 
-  pub leg-row₁ : {mid : List ℕ} → Low mid → length mid ≡ length st → Stage line₁ pairs places₁ mid path₁ n₁ poses R count talls I t l q₁ a
+  pub leg-row₁ : {mid : List ℕ} → Low mid → length mid ≡ length st → Stage line₁ states places₁ mid path₁ n₁ poses R count talls I t l q₁ a
   leg-row₁ w e =
-      row-stage (g .both .given .row₁) w (omega (arith, g .both .given .long)) (g .both .room₁) (g .stage) (g .pair₁) (g .pose) (g .case .pair₁) (g .case .pose)
+      row-stage (g .both .given .row₁) w (omega (arith, g .both .given .long)) (g .both .room₁) (g .stage) (g .state₁) (g .pose) (g .case .state₁) (g .case .pose)
 
 pub leg-done : {D₀ D₁ : Deck} {R talls : ℕ} {pos₀ pos₁ : ℕ → ℕ} {I s t l q₀ q₁ a : ℕ} {st mid new path₀ path₀′ path₁ path₁′ : List ℕ}
     → StageDone D₀ R talls pos₀ I s l q₀ a st mid path₀ path₀′ → StageDone D₁ R talls pos₁ I t l q₁ a mid new path₁ path₁′
@@ -87,36 +86,36 @@ leg-done v w =
       low = w .low;
       notes₀ = v .notes;
       notes₁ = w .notes;
-      walked₀ = v .walked;
-      walked₁ = w .walked;
+      traced₀ = v .rowTraced;
+      traced₁ = w .rowTraced;
     }
 
 -- ---- the first stage
 
-module _ {line₀ line₁ pairs places₀ places₁ st path₀ path₁ : List ℕ} {R n₀ n₁ poses count talls I q₀ q₁ a : ℕ}
-    (g : Trace line₀ line₁ pairs places₀ places₁ st path₀ path₁ R n₀ n₁ poses count talls I q₀ q₁ a) where
-  trace-at : (K : ℕ) → I ≡ K → Trace line₀ line₁ pairs places₀ places₁ st path₀ path₁ R n₀ n₁ poses count talls K q₀ q₁ a
-  trace-at K e = subst (λ (k : ℕ). Trace line₀ line₁ pairs places₀ places₁ st path₀ path₁ R n₀ n₁ poses count talls k q₀ q₁ a) e g
+module _ {line₀ line₁ states places₀ places₁ st path₀ path₁ : List ℕ} {R n₀ n₁ poses count talls I q₀ q₁ a : ℕ}
+    (g : Trace line₀ line₁ states places₀ places₁ st path₀ path₁ R n₀ n₁ poses count talls I q₀ q₁ a) where
+  trace-at : (K : ℕ) → I ≡ K → Trace line₀ line₁ states places₀ places₁ st path₀ path₁ R n₀ n₁ poses count talls K q₀ q₁ a
+  trace-at K e = subst (λ (k : ℕ). Trace line₀ line₁ states places₀ places₁ st path₀ path₁ R n₀ n₁ poses count talls k q₀ q₁ a) e g
 
   -- the case's source word is in the store
   pub source-room : (I ≤ 24) × (q₀ < 12) × (q₁ < 12) × (a < 64) × Pages (q₀ + 1) st
   source-room =
       let v = g .both .given in
-      let p = given-pairs v in
+      let p = given-states v in
       let w = given-wide v (suc I) in
       let n = v .row₀ .ground .all in
-      let e : wide talls (suc I) (pairCount R) ≡ wide talls (suc I) count = ap (wide talls (suc I)) (sym n) in
+      let e : wide talls (suc I) (stateCount R) ≡ wide talls (suc I) count = ap (wide talls (suc I)) (sym n) in
       let c = g .case in
       (omega (arith, g .stage), omega arith, omega arith, omega arith, omega (arith, w .2))
 
-  pub open-leg : I ≡ 0 → Leg line₀ line₁ pairs places₀ places₁ st path₀ path₁ R n₀ n₁ poses count talls 0 0 0 0 q₀ q₁ a
+  pub open-leg : I ≡ 0 → Leg line₀ line₁ states places₀ places₁ st path₀ path₁ R n₀ n₁ poses count talls 0 0 0 0 q₀ q₁ a
   open-leg e =
       let h = trace-at 0 e in
       record {
         both = h .both;
         stage = h .stage;
-        pair₀ = λ x. absurd (omega arith);
-        pair₁ = λ x. absurd (omega arith);
+        state₀ = λ x. absurd (omega arith);
+        state₁ = λ x. absurd (omega arith);
         pose = λ x. absurd (omega arith);
         case = h .case;
       }
@@ -126,25 +125,25 @@ module _ {D₀ D₁ : Deck} {R talls : ℕ} {pos₀ pos₁ : ℕ → ℕ} {I q�
   done-at K e w = subst (λ (k : ℕ). TraceDone D₀ D₁ R talls pos₀ pos₁ k q₀ q₁ a st new path₀ path₀′ path₁ path₁′) (sym e) w
 
   pub open-done : I ≡ 0 → LegDone D₀ D₁ R talls pos₀ pos₁ 0 0 0 0 q₀ q₁ a st new path₀ path₀′ path₁ path₁′ → TraceDone D₀ D₁ R talls pos₀ pos₁ I q₀ q₁ a st new path₀ path₀′ path₁ path₁′
-  unfolding startLayer startCells startEnd caseTable openPrice
+  unfolding startLayer startCells startEnd caseTable openCost
   open-done e w = done-at 0 e record {
     frame = w .frame;
     low = w .low;
     long₀ = w .notes₀ .long;
     long₁ = w .notes₁ .long;
-    done = λ x c. record { notes₀ = w .notes₀; notes₁ = w .notes₁; traced = (w .walked₀ (omega arith), w .walked₁ (omega arith)) };
+    done = λ x c. record { notes₀ = w .notes₀; notes₁ = w .notes₁; traced = (w .traced₀ (omega arith), w .traced₁ (omega arith)) };
   }
 
 -- ---- a later stage
 
 -- the tables are kept
 ways-kept : {D₀ D₁ : Deck} {R talls : ℕ} {pos₀ pos₁ : ℕ → ℕ} {old new : List ℕ} → Frame 0 148992 old new → Ways D₀ D₁ R talls pos₀ pos₁ old → Ways D₀ D₁ R talls pos₀ pos₁ new
-unfolding sourcesIn
-ways-kept f w = record { way = λ I q₀ q₁ a h c l. rw (f .high (sourceAt (suc (suc I)) q₀ q₁ + a) (case-above (suc (suc I)) q₀ q₁ a .1)) (w .way I q₀ q₁ a h c l) }
+unfolding pointersIn
+ways-kept f w = record { way = λ I q₀ q₁ a h c l. rw (f .high (pointerAt (suc (suc I)) q₀ q₁ + a) (case-above (suc (suc I)) q₀ q₁ a .1)) (w .way I q₀ q₁ a h c l) }
 
-module _ {line₀ line₁ pairs places₀ places₁ st path₀ path₁ : List ℕ} {R n₀ n₁ poses count talls I q₀ q₁ a : ℕ}
-    (g : Trace line₀ line₁ pairs places₀ places₁ st path₀ path₁ R n₀ n₁ poses count talls I q₀ q₁ a)
-    (J code : ℕ) (e : I ≡ suc J) (c : code ≡ sourcesIn st (suc I) q₀ q₁ a) where
+module _ {line₀ line₁ states places₀ places₁ st path₀ path₁ : List ℕ} {R n₀ n₁ poses count talls I q₀ q₁ a : ℕ}
+    (g : Trace line₀ line₁ states places₀ places₁ st path₀ path₁ R n₀ n₁ poses count talls I q₀ q₁ a)
+    (J code : ℕ) (e : I ≡ suc J) (c : code ≡ pointersIn st (suc I) q₀ q₁ a) where
   abbrev D₀ : Deck
   D₀ = deckOf line₀ n₀ poses
 
@@ -155,9 +154,9 @@ module _ {line₀ line₁ pairs places₀ places₁ st path₀ path₁ : List �
   Known = Ways (deckOf line₀ n₀ poses) (deckOf line₁ n₁ poses) R talls (posIn places₀) (posIn places₁) st
       × (caseTable (deckOf line₀ n₀ poses) (deckOf line₁ n₁ poses) R talls (posIn places₀) (posIn places₁) (suc J) q₀ q₁ a < B)
 
-  way : Known → Way (pairCount R) poses (caseTable D₀ D₁ R talls (posIn places₀) (posIn places₁) J)
-      (stagePrice D₀ R talls (posIn places₀) J)
-      (stagePrice D₁ R talls (posIn places₁) J)
+  way : Known → Way (stateCount R) poses (caseTable D₀ D₁ R talls (posIn places₀) (posIn places₁) J)
+      (stageCost D₀ R talls (posIn places₀) J)
+      (stageCost D₁ R talls (posIn places₁) J)
       q₀
       q₁
       a
@@ -165,12 +164,12 @@ module _ {line₀ line₁ pairs places₀ places₁ st path₀ path₁ : List �
       code
   way k =
       let h = trace-at g (suc J) e in
-      let z = c ∙ ap (λ (k : ℕ). sourcesIn st (suc k) q₀ q₁ a) e in
+      let z = c ∙ ap (λ (k : ℕ). pointersIn st (suc k) q₀ q₁ a) e in
       rw z (k .0 .way J q₀ q₁ a (omega (arith, h .stage)) (h .case) (k .1))
 
   costs : Known → (caseTable D₀ D₁ R talls (posIn places₀) (posIn places₁) J (code / 768) (code % 768 / 64) (code % 64) < B)
-      × (stagePrice D₀ R talls (posIn places₀) J (code / 768) (code % 64) q₀ a < B)
-      × (stagePrice D₁ R talls (posIn places₁) J (code % 768 / 64) (code % 64) q₁ a < B)
+      × (stageCost D₀ R talls (posIn places₀) J (code / 768) (code % 64) q₀ a < B)
+      × (stageCost D₁ R talls (posIn places₁) J (code % 768 / 64) (code % 64) q₁ a < B)
   costs k =
       let l = k .1 in
       let s = way k .sum in
@@ -186,18 +185,18 @@ module _ {line₀ line₁ pairs places₀ places₁ st path₀ path₁ : List �
         low = g .both .given .low;
         long₀ = refl;
         long₁ = refl;
-        done = λ x y. let w = way (x, y) in absurd (z (omega (arith, w .pair₀)) (omega (arith, w .pair₁)) (w .lane));
+        done = λ x y. let w = way (x, y) in absurd (z (omega (arith, w .state₀)) (omega (arith, w .state₁)) (w .lane));
       }
 
   module _ (in₀ : code / 768 < count) (in₁ : code % 768 / 64 < count) (inl′ : code % 64 < poses) where
-    pub back-leg : Leg line₀ line₁ pairs places₀ places₁ st path₀ path₁ R n₀ n₁ poses count talls I (code / 768) (code % 768 / 64) (code % 64) q₀ q₁ a
+    pub back-leg : Leg line₀ line₁ states places₀ places₁ st path₀ path₁ R n₀ n₁ poses count talls I (code / 768) (code % 768 / 64) (code % 64) q₀ q₁ a
     back-leg =
         let all = g .both .given .row₀ .ground .all in
         record {
           both = g .both;
           stage = g .stage;
-          pair₀ = λ y. omega arith;
-          pair₁ = λ y. omega arith;
+          state₀ = λ y. omega arith;
+          state₁ = λ y. omega arith;
           pose = λ y. inl′;
           case = g .case;
         }
@@ -205,7 +204,7 @@ module _ {line₀ line₁ pairs places₀ places₁ st path₀ path₁ : List �
     module _ {mid mid₀ mid₁ : List ℕ}
         (d : LegDone (deckOf line₀ n₀ poses) (deckOf line₁ n₁ poses) R talls (posIn places₀) (posIn places₁) I (code / 768) (code % 768 / 64) (code % 64) q₀ q₁ a st mid path₀ mid₀ path₁ mid₁) where
       -- the case to go on from
-      pub back-rest : Trace line₀ line₁ pairs places₀ places₁ mid mid₀ mid₁ R n₀ n₁ poses count talls J (code / 768) (code % 768 / 64) (code % 64)
+      pub back-rest : Trace line₀ line₁ states places₀ places₁ mid mid₀ mid₁ R n₀ n₁ poses count talls J (code / 768) (code % 768 / 64) (code % 64)
       back-rest =
           let h : J < talls = omega (arith, g .stage) in
           let all = g .both .given .row₀ .ground .all in
@@ -217,8 +216,8 @@ module _ {line₀ line₁ pairs places₀ places₁ st path₀ path₁ : List �
             };
             stage = omega arith;
             case = record {
-              pair₀ = omega (arith, wide-all talls J (pairCount R) h);
-              pair₁ = omega (arith, wide-all talls J (pairCount R) h);
+              state₀ = omega (arith, wide-all talls J (stateCount R) h);
+              state₁ = omega (arith, wide-all talls J (stateCount R) h);
               pose = omega (arith, wide-all talls J poses h);
             };
           }
@@ -226,7 +225,7 @@ module _ {line₀ line₁ pairs places₀ places₁ st path₀ path₁ : List �
       pub back-done : {new new₀ new₁ : List ℕ}
           → TraceDone (deckOf line₀ n₀ poses) (deckOf line₁ n₁ poses) R talls (posIn places₀) (posIn places₁) J (code / 768) (code % 768 / 64) (code % 64) mid new mid₀ new₀ mid₁ new₁
           → TraceDone (deckOf line₀ n₀ poses) (deckOf line₁ n₁ poses) R talls (posIn places₀) (posIn places₁) I q₀ q₁ a st new path₀ new₀ path₁ new₁
-      unfolding stagePrice startLayer startCells startEnd
+      unfolding stageCost startLayer startCells startEnd
       back-done {new} {new₀} {new₁} r =
           let s = code / 768 in
           let t = code % 768 / 64 in
@@ -242,22 +241,22 @@ module _ {line₀ line₁ pairs places₀ places₁ st path₀ path₁ : List �
                 let k = costs (x, y) in
                 let w = way (x, y) in
                 let v = r .done (ways-kept (d .frame) x) (k .0) in
-                let w₀ = u .walked₀ (k .1) in
-                let w₁ = u .walked₁ (k .2) in
+                let w₀ = u .traced₀ (k .1) in
+                let w₁ = u .traced₁ (k .2) in
                 record {
-                  notes₀ = notes-join D₀ R talls (posIn places₀) J s q₀ h (walked-on D₀ R talls (posIn places₀) (NotedBy (wordAt mid₀)) (suc J) _ _ _ q₀ a w₀) (u .notes₀) (v .notes₀);
-                  notes₁ = notes-join D₁ R talls (posIn places₁) J t q₁ h (walked-on D₁ R talls (posIn places₁) (NotedBy (wordAt mid₁)) (suc J) _ _ _ q₁ a w₁) (u .notes₁) (v .notes₁);
+                  notes₀ = notes-join D₀ R talls (posIn places₀) J s q₀ h (traced-on D₀ R talls (posIn places₀) (NotedBy (wordAt mid₀)) (suc J) _ _ _ q₀ a w₀) (u .notes₀) (v .notes₀);
+                  notes₁ = notes-join D₁ R talls (posIn places₁) J t q₁ h (traced-on D₁ R talls (posIn places₁) (NotedBy (wordAt mid₁)) (suc J) _ _ _ q₁ a w₁) (u .notes₁) (v .notes₁);
                   traced = (
                     s,
                     t,
                     l,
                     record {
-                      pair₀ = w .pair₀;
-                      pair₁ = w .pair₁;
+                      state₀ = w .state₀;
+                      state₁ = w .state₁;
                       pose = w .lane;
                       sum = w .sum;
-                      row₀ = walked-kept D₀ R talls (posIn places₀) J s _ _ q₀ a mid₀ new₀ h (v .notes₀) w₀;
-                      row₁ = walked-kept D₁ R talls (posIn places₁) J t _ _ q₁ a mid₁ new₁ h (v .notes₁) w₁;
+                      row₀ = traced-kept D₀ R talls (posIn places₀) J s _ _ q₀ a mid₀ new₀ h (v .notes₀) w₀;
+                      row₁ = traced-kept D₁ R talls (posIn places₁) J t _ _ q₁ a mid₁ new₁ h (v .notes₁) w₁;
                     },
                     v .traced,
                   );
@@ -266,14 +265,14 @@ module _ {line₀ line₁ pairs places₀ places₁ st path₀ path₁ : List �
 
 -- ---- the whole trace
 
-pub trace-given : {line₀ line₁ pairs places₀ places₁ st path₀ path₁ : List ℕ} {R n₀ n₁ poses count talls : ℕ}
-    → StagesGiven line₀ line₁ pairs places₀ places₁ st R n₀ n₁ poses count talls → 67 ≤ length path₀ → 67 ≤ length path₁
-    → Trace line₀ line₁ pairs places₀ places₁ st path₀ path₁ R n₀ n₁ poses count talls talls 0 0 0
+pub trace-given : {line₀ line₁ states places₀ places₁ st path₀ path₁ : List ℕ} {R n₀ n₁ poses count talls : ℕ}
+    → StagesGiven line₀ line₁ states places₀ places₁ st R n₀ n₁ poses count talls → 67 ≤ length path₀ → 67 ≤ length path₁
+    → Trace line₀ line₁ states places₀ places₁ st path₀ path₁ R n₀ n₁ poses count talls talls 0 0 0
 trace-given {R = R} {poses = poses} {talls = talls} g x y =
     record {
       both = record { given = g; room₀ = x; room₁ = y };
       stage = omega arith;
-      case = record { pair₀ = one (pairCount R); pair₁ = one (pairCount R); pose = one poses };
+      case = record { state₀ = one (stateCount R); state₁ = one (stateCount R); pose = one poses };
     }
   where
     one : (k : ℕ) → 0 < wide talls (suc talls) k

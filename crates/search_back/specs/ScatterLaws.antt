@@ -1,4 +1,4 @@
--- One place more; and one row after the other, where tall cells have the same pose number in both. Assumes nothing.
+-- One place more; and one row after the other, where tall cells have the same pose number in both.
 use Prim.Native.Nat.{ℕ, zero, suc, _+_, _/_, _≤_, _<_}
 use mathlib.Core.Path.{_≡_, refl, sym, ap, _∙_}
 use mathlib.Core.Logic.{_⊎_, inl, inr}

@@ -3,78 +3,78 @@ use Prim.Native.Nat.{ℕ, suc, _≤_, _<_}
 use mathlib.Core.Path.{_≡_}
 use mathlib.Core.List.{List}
 use lib.ListN.{length}
-use Rattle.theory_tables.specs.Steps.{B, Deck, pairCount}
-use Rattle.theory_tables.specs.Stages.{stagePrice, caseTable}
-use Rattle.theory_tables.specs.Back.{StageWalked, Traced}
+use Rattle.theory_tables.specs.Steps.{B, Deck, stateCount}
+use Rattle.theory_tables.specs.Stages.{stageCost, caseTable}
+use Rattle.theory_tables.specs.Back.{StageTraced, Traced}
 use Rattle.theory_tables.specs.Notes.{NotedBy}
 use Rattle.search_lanes.specs.Store.{Frame, Low}
 use Rattle.search_row.specs.Words.{deckOf}
-use Rattle.search_join.specs.Tables.{sourcesIn, Way}
+use Rattle.search_join.specs.Tables.{pointersIn, Way}
 use Rattle.search_stage.specs.Stage.{wide, posIn, StagesGiven, StagesDone}
-use Rattle.search_back_segment.specs.Walks.{wordAt}
-use Rattle.search_back_stage.specs.Rows.{startCells, startLayer, startEnd, priceFrom, endPlace}
+use Rattle.search_back_segment.specs.Traces.{wordAt}
+use Rattle.search_back_stage.specs.Rows.{startCells, startLayer, startEnd, costFrom, endPlace}
 
 -- ---- what is given
 
 -- a case of stage I
 pub record Case (R talls poses I q₀ q₁ a : ℕ) : Type 0 where
-  pub pair₀ : q₀ < wide talls (suc I) (pairCount R)
-  pub pair₁ : q₁ < wide talls (suc I) (pairCount R)
+  pub state₀ : q₀ < wide talls (suc I) (stateCount R)
+  pub state₁ : q₁ < wide talls (suc I) (stateCount R)
   pub pose : a < wide talls (suc I) poses
 
 -- the source words: a way to each case after the first tall cell's, where it is below B
 pub record Ways (D₀ D₁ : Deck) (R talls : ℕ) (pos₀ pos₁ : ℕ → ℕ) (st : List ℕ) : Type 0 where
   pub way : (I q₀ q₁ a : ℕ) → I < talls → Case R talls (D₀ .poses) (suc I) q₀ q₁ a → caseTable D₀ D₁ R talls pos₀ pos₁ (suc I) q₀ q₁ a < B
       → Way
-      (pairCount R)
+      (stateCount R)
       (D₀ .poses)
       (caseTable D₀ D₁ R talls pos₀ pos₁ I)
-      (stagePrice D₀ R talls pos₀ I)
-      (stagePrice D₁ R talls pos₁ I)
+      (stageCost D₀ R talls pos₀ I)
+      (stageCost D₁ R talls pos₁ I)
       q₀
       q₁
       a
       (caseTable D₀ D₁ R talls pos₀ pos₁ (suc I) q₀ q₁ a)
-      (sourcesIn st (suc (suc I)) q₀ q₁ a)
+      (pointersIn st (suc (suc I)) q₀ q₁ a)
 
 -- the stages leave them
 pub stages-ways : {D₀ D₁ : Deck} {R talls : ℕ} {pos₀ pos₁ : ℕ → ℕ} {old new : List ℕ} → StagesDone D₀ D₁ R talls pos₀ pos₁ old new → Ways D₀ D₁ R talls pos₀ pos₁ new
-stages-ways d = record { way = λ I q₀ q₁ a h c. d .way I q₀ q₁ a h (c .pair₀) (c .pair₁) (c .pose) }
+stages-ways d = record { way = λ I q₀ q₁ a h c. d .way I q₀ q₁ a h (c .state₀) (c .state₁) (c .pose) }
 
 -- two rows with the tables, and a path for each row
-pub record Both (line₀ line₁ pairs places₀ places₁ st path₀ path₁ : List ℕ) (R n₀ n₁ poses count talls : ℕ) : Type 0 where
-  pub given : StagesGiven line₀ line₁ pairs places₀ places₁ st R n₀ n₁ poses count talls
+pub record Both (line₀ line₁ states places₀ places₁ st path₀ path₁ : List ℕ) (R n₀ n₁ poses count talls : ℕ) : Type 0 where
+  pub given : StagesGiven line₀ line₁ states places₀ places₁ st R n₀ n₁ poses count talls
   pub room₀ : 67 ≤ length path₀
   pub room₁ : 67 ≤ length path₁
 
--- stage I to the case (q₀, q₁, a), from tall cell I - 1 as the pairs s and t in pose l
-pub record Leg (line₀ line₁ pairs places₀ places₁ st path₀ path₁ : List ℕ) (R n₀ n₁ poses count talls I s t l q₀ q₁ a : ℕ) : Type 0 where
-  pub both : Both line₀ line₁ pairs places₀ places₁ st path₀ path₁ R n₀ n₁ poses count talls
+-- stage I to the case (q₀, q₁, a), from tall cell I - 1 as the states s and t in pose l
+pub record Leg (line₀ line₁ states places₀ places₁ st path₀ path₁ : List ℕ) (R n₀ n₁ poses count talls I s t l q₀ q₁ a : ℕ) : Type 0 where
+  pub both : Both line₀ line₁ states places₀ places₁ st path₀ path₁ R n₀ n₁ poses count talls
   pub stage : I ≤ talls
-  pub pair₀ : 0 < I → s < pairCount R
-  pub pair₁ : 0 < I → t < pairCount R
+  pub state₀ : 0 < I → s < stateCount R
+  pub state₁ : 0 < I → t < stateCount R
   pub pose : 0 < I → l < poses
   pub case : Case R talls poses I q₀ q₁ a
 
 -- a case of stage I
-pub record Trace (line₀ line₁ pairs places₀ places₁ st path₀ path₁ : List ℕ) (R n₀ n₁ poses count talls I q₀ q₁ a : ℕ) : Type 0 where
-  pub both : Both line₀ line₁ pairs places₀ places₁ st path₀ path₁ R n₀ n₁ poses count talls
+pub record Trace (line₀ line₁ states places₀ places₁ st path₀ path₁ : List ℕ) (R n₀ n₁ poses count talls I q₀ q₁ a : ℕ) : Type 0 where
+  pub both : Both line₀ line₁ states places₀ places₁ st path₀ path₁ R n₀ n₁ poses count talls
   pub stage : I ≤ talls
   pub case : Case R talls poses I q₀ q₁ a
 
 -- ---- what is left
 
 module _ (D₀ D₁ : Deck) (R talls : ℕ) (pos₀ pos₁ : ℕ → ℕ) where
-  -- both rows are walked through stage I, where it has a price; the tables are kept
+  -- both rows are walked through stage I, where it has a cost; the tables are kept
   pub record LegDone (I s t l q₀ q₁ a : ℕ) (st st′ path₀ path₀′ path₁ path₁′ : List ℕ) : Type 0 where
     pub frame : Frame 0 148992 st st′
     pub low : Low st′
     pub notes₀ : Frame (startCells R pos₀ I s) (suc (endPlace (D₀ .size) R talls pos₀ I q₀)) path₀ path₀′
     pub notes₁ : Frame (startCells R pos₁ I t) (suc (endPlace (D₁ .size) R talls pos₁ I q₁)) path₁ path₁′
-    pub walked₀ : priceFrom D₀ R talls pos₀ I s l q₀ a < B
-        → StageWalked D₀ R talls pos₀ (NotedBy (wordAt path₀′)) I (startLayer D₀ R pos₀ I s l) (startCells R pos₀ I s) (startEnd D₀ pos₀ I l) q₀ a
-    pub walked₁ : priceFrom D₁ R talls pos₁ I t l q₁ a < B
-        → StageWalked D₁ R talls pos₁ (NotedBy (wordAt path₁′)) I (startLayer D₁ R pos₁ I t l) (startCells R pos₁ I t) (startEnd D₁ pos₁ I l) q₁ a
+    pub traced₀ : costFrom D₀ R talls pos₀ I s l q₀ a < B
+        → StageTraced D₀ R talls pos₀ (NotedBy (wordAt path₀′)) I (startLayer D₀ R pos₀ I s l) (startCells R pos₀ I s) (startEnd D₀ pos₀ I l) q₀ a
+    pub traced₁ : costFrom D₁ R talls pos₁ I t l q₁ a < B
+        → StageTraced D₁ R talls pos₁ (NotedBy (wordAt path₁′)) I (startLayer D₁ R pos₁ I t l) (startCells R pos₁ I t) (startEnd D₁ pos₁ I l) q₁ a
 
   -- both rows are walked through all stages up to stage I
   pub record TracedTo (I q₀ q₁ a : ℕ) (path₀ path₀′ path₁ path₁′ : List ℕ) : Type 0 where

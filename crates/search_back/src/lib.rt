@@ -3,7 +3,7 @@ ghost use mathlib.Core.Path.{_≡_};
 ghost use Prim.Native.Nat.{suc, _+_, _≤_, _<_};
 ghost use Rattle.search_row.specs.Words.{deckOf};
 ghost use Rattle.search_join.specs.Places.{Pages};
-ghost use Rattle.search_join.specs.Tables.{sourcesIn};
+ghost use Rattle.search_join.specs.Tables.{pointersIn};
 ghost use Rattle.search_stage.specs.Stage.{posIn};
 ghost use Rattle.search_back.specs.Trace.{Leg, Trace, LegDone, TraceDone};
 ghost use Rattle.search_back.specs.Scatter.{Given, Scattered};
@@ -11,19 +11,19 @@ ghost use Rattle.search_back.specs.Scatter.{Given, Scattered};
 // The source word of the case (q0, q1, a) of stage i.
 fn source(store: &[u32], i: usize, q0: usize, q1: usize, a: usize) -> usize
     requires { ⌜ (i ≤ 24) × (q0 < 12) × (q1 < 12) × (a < 64) × Pages (q0 + 1) (now store) ⌝ }
-    ensures { λ t. ⌜ t ≡ sourcesIn (now (store .entry)) (suc i) q0 q1 a ⌝ }
+    ensures { λ t. ⌜ t ≡ pointersIn (now (store .entry)) (suc i) q0 q1 a ⌝ }
 {
-    search_row::word(store, search_join::source_at(i + 1, q0, q1) + a)
+    search_row::word(store, search_join::pointer_at(i + 1, q0, q1) + a)
 }
 
 // Both rows through one stage.
-fn both_walk(
+fn both_trace(
     store: &mut [u32],
     path0: &mut [u32],
     path1: &mut [u32],
     line0: &[u32],
     line1: &[u32],
-    pairs: &[u32],
+    states: &[u32],
     places0: &[u32],
     places1: &[u32],
     n0: usize,
@@ -40,14 +40,14 @@ fn both_walk(
     q1: usize,
     a: usize,
 )
-    requires { ⌜ Leg (now line0) (now line1) (now pairs) (now places0) (now places1) (now store) (now path0) (now path1) r n0 n1 poses count talls i s t l q0 q1 a ⌝ }
+    requires { ⌜ Leg (now line0) (now line1) (now states) (now places0) (now places1) (now store) (now path0) (now path1) r n0 n1 poses count talls i s t l q0 q1 a ⌝ }
     ensures { λ _. ⌜ LegDone (deckOf (now (line0 .entry)) n0 poses) (deckOf (now (line1 .entry)) n1 poses) r talls (posIn (now (places0 .entry))) (posIn (now (places1 .entry))) i s t l q0 q1 a (now (store .entry)) (now (store .exit)) (now (path0 .entry)) (now (path0 .exit)) (now (path1 .entry)) (now (path1 .exit)) ⌝ }
 {
-    search_back_stage::stage_walk(
+    search_back_stage::stage_trace(
         store,
         path0,
         line0,
-        pairs,
+        states,
         places0,
         n0,
         poses,
@@ -60,11 +60,11 @@ fn both_walk(
         q0,
         a,
     );
-    search_back_stage::stage_walk(
+    search_back_stage::stage_trace(
         store,
         path1,
         line1,
-        pairs,
+        states,
         places1,
         n1,
         poses,
@@ -86,7 +86,7 @@ fn trace_from(
     path1: &mut [u32],
     line0: &[u32],
     line1: &[u32],
-    pairs: &[u32],
+    states: &[u32],
     places0: &[u32],
     places1: &[u32],
     n0: usize,
@@ -100,17 +100,17 @@ fn trace_from(
     q1: usize,
     a: usize,
 )
-    requires { ⌜ Trace (now line0) (now line1) (now pairs) (now places0) (now places1) (now store) (now path0) (now path1) r n0 n1 poses count talls i q0 q1 a ⌝ }
+    requires { ⌜ Trace (now line0) (now line1) (now states) (now places0) (now places1) (now store) (now path0) (now path1) r n0 n1 poses count talls i q0 q1 a ⌝ }
     ensures { λ _. ⌜ TraceDone (deckOf (now (line0 .entry)) n0 poses) (deckOf (now (line1 .entry)) n1 poses) r talls (posIn (now (places0 .entry))) (posIn (now (places1 .entry))) i q0 q1 a (now (store .entry)) (now (store .exit)) (now (path0 .entry)) (now (path0 .exit)) (now (path1 .entry)) (now (path1 .exit)) ⌝ }
 {
     if i == 0 {
-        both_walk(
+        both_trace(
             store,
             path0,
             path1,
             line0,
             line1,
-            pairs,
+            states,
             places0,
             places1,
             n0,
@@ -142,13 +142,13 @@ fn trace_from(
     if l >= poses {
         return;
     }
-    both_walk(
+    both_trace(
         store,
         path0,
         path1,
         line0,
         line1,
-        pairs,
+        states,
         places0,
         places1,
         n0,
@@ -171,7 +171,7 @@ fn trace_from(
         path1,
         line0,
         line1,
-        pairs,
+        states,
         places0,
         places1,
         n0,
@@ -194,7 +194,7 @@ pub fn trace(
     path1: &mut [u32],
     line0: &[u32],
     line1: &[u32],
-    pairs: &[u32],
+    states: &[u32],
     places0: &[u32],
     places1: &[u32],
     n0: usize,
@@ -204,7 +204,7 @@ pub fn trace(
     count: usize,
     talls: usize,
 )
-    requires { ⌜ Trace (now line0) (now line1) (now pairs) (now places0) (now places1) (now store) (now path0) (now path1) r n0 n1 poses count talls talls 0 0 0 ⌝ }
+    requires { ⌜ Trace (now line0) (now line1) (now states) (now places0) (now places1) (now store) (now path0) (now path1) r n0 n1 poses count talls talls 0 0 0 ⌝ }
     ensures { λ _. ⌜ TraceDone (deckOf (now (line0 .entry)) n0 poses) (deckOf (now (line1 .entry)) n1 poses) r talls (posIn (now (places0 .entry))) (posIn (now (places1 .entry))) talls 0 0 0 (now (store .entry)) (now (store .exit)) (now (path0 .entry)) (now (path0 .exit)) (now (path1 .entry)) (now (path1 .exit)) ⌝ }
 {
     trace_from(
@@ -213,7 +213,7 @@ pub fn trace(
         path1,
         line0,
         line1,
-        pairs,
+        states,
         places0,
         places1,
         n0,

@@ -1,4 +1,4 @@
--- The last cell of a row: the least of its words is what the tables say of the row's end. Assumes nothing.
+-- The last cell of a row: the least of its words is what the tables say of the row's end.
 use Prim.Native.Nat.{ℕ, _+_, _*_, _/_, _%_, _≤_, _<_}
 use mathlib.Core.Path.{_≡_, refl, sym, ap, ap₂}
 use mathlib.Core.Bool.{Bool, true, false, not, _&&_, cond}
@@ -6,12 +6,12 @@ use native.Mathlib.Omega.{arith}
 use borrow.Author.Tests.{lt-ltb, le-ltb, ltb-true}
 use borrow.Author.Count.{below-more}
 use lib.Dec.{ltb}
-use Rattle.theory_row.specs.Lists.{from}
+use Rattle.lists.specs.Lists.{from}
 use Rattle.theory_pair.specs.Coded.{lowest}
 use Rattle.theory_tables.specs.Lowest.{loop-member, loop-above}
-use Rattle.theory_tables.specs.Steps.{B, Deck, Layer, pairCount, lastAt, isThere, ends}
+use Rattle.theory_tables.specs.Steps.{B, Deck, Layer, stateCount, lastAt, isThere, ends}
 use Rattle.search_buckets.specs.Loops.{lowest-ext}
-use Rattle.search_back_segment.specs.Walks.{LeastOf, lastPays, lastOf, lastCode, LastFound}
+use Rattle.search_back_segment.specs.Traces.{LeastOf, lastPays, lastOf, lastCode, LastFound}
 
 module _ (D : Deck) (R : ℕ) (f : Layer) where
   -- one of the words that the end is the least of
@@ -60,29 +60,29 @@ module _ (D : Deck) (R : ℕ) (f : Layer) where
       go true x true y true z h = absurd (omega arith)
 
   -- a bound below all of them
-  above : (best : ℕ) → best ≤ B → ((q b : ℕ) → q < pairCount R → b < D .poses → best ≤ lastOf D R f q b) → best ≤ ends D R f
+  above : (best : ℕ) → best ≤ B → ((q b : ℕ) → q < stateCount R → b < D .poses → best ≤ lastOf D R f q b) → best ≤ ends D R f
   unfolding ends
-  above best c g = loop-above B _ (pairCount R) best c λ q x. go q x (isThere D R (D .size) q) refl (D .tall (lastAt R (D .size) q)) refl
+  above best c g = loop-above B _ (stateCount R) best c λ q x. go q x (isThere D R (D .size) q) refl (D .tall (lastAt R (D .size) q)) refl
     where
-      go : (q : ℕ) → q < pairCount R → (s : Bool) → isThere D R (D .size) q ≡ s → (u : Bool) → D .tall (lastAt R (D .size) q) ≡ u
+      go : (q : ℕ) → q < stateCount R → (s : Bool) → isThere D R (D .size) q ≡ s → (u : Bool) → D .tall (lastAt R (D .size) q) ≡ u
           → best ≤ cond (s && not u) (lowest B (lastPays D R f q) (from 0 (D .poses))) B
       go q x true y false z = loop-above B (lastPays D R f q) (D .poses) best c (λ b h. omega (arith, g q b x h, last-in q b h y z))
       go q x true y true z = c
       go q x false y u z = c
 
-  member : (q b : ℕ) → q < pairCount R → Met q b → ends D R f ≤ lastPays D R f q b
+  member : (q b : ℕ) → q < stateCount R → Met q b → ends D R f ≤ lastPays D R f q b
   unfolding ends
   member q b x m =
       omega (
         arith,
-        loop-member B (λ q. cond (isThere D R (D .size) q && not (D .tall (lastAt R (D .size) q))) (lowest B (lastPays D R f q) (from 0 (D .poses))) B) (pairCount R) q x,
+        loop-member B (λ q. cond (isThere D R (D .size) q && not (D .tall (lastAt R (D .size) q))) (lowest B (lastPays D R f q) (from 0 (D .poses))) B) (stateCount R) q x,
         ap₂ (λ s u. cond (s && not u) (lowest B (lastPays D R f q) (from 0 (D .poses))) B) (m .there) (m .single),
         loop-member B (lastPays D R f q) (D .poses) b (m .pose),
       )
 
   -- the least of their words is below what ending costs; below B it is that
-  module _ (best code all : ℕ) (e : all ≡ pairCount R * 64) (few : D .poses ≤ 60) (w : LeastOf (lastCode D R f) all best code) where
-    part : (q b : ℕ) → q < pairCount R → b < D .poses → best ≤ lastOf D R f q b
+  module _ (best code all : ℕ) (e : all ≡ stateCount R * 64) (few : D .poses ≤ 60) (w : LeastOf (lastCode D R f) all best code) where
+    part : (q b : ℕ) → q < stateCount R → b < D .poses → best ≤ lastOf D R f q b
     part q b x y =
         let c : (q * 64 + b) / 64 ≡ q = omega arith in
         let d : (q * 64 + b) % 64 ≡ b = omega arith in
@@ -95,9 +95,9 @@ module _ (D : Deck) (R : ℕ) (f : Layer) where
     last-found l =
         let m = w .met l in
         let x = m .0 in
-        let h : code / 64 < pairCount R = omega arith in
+        let h : code / 64 < stateCount R = omega arith in
         let n = last-met (code / 64) (code % 64) (omega (arith, m .1)) in
-        record { pair = h; pose = n .pose; there = n .there; single = n .single; word = omega (arith, member (code / 64) (code % 64) h n, n .word, m .1, least-ends) }
+        record { state = h; pose = n .pose; there = n .there; single = n .single; word = omega (arith, member (code / 64) (code % 64) h n, n .word, m .1, least-ends) }
 
     pub last-low : best < B → f (code / 64) (code % 64) < B
     last-low l = let m = w .met l in omega (arith, m .1, last-met (code / 64) (code % 64) (omega (arith, m .1)) .word)

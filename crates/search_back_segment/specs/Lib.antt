@@ -1,4 +1,4 @@
-pub mod Walks
+pub mod Traces
 pub mod Sources
 pub mod Lasts
 pub mod Steps

@@ -1,15 +1,15 @@
--- A search that misses every source has not been given what the tables say; so the search for a source hits. Assumes nothing.
+-- A search that misses every source has not been given what the tables say; so the search for a source hits.
 use Prim.Native.Nat.{ℕ, zero, suc, _+_, _*_, _<_, min}
 use mathlib.Core.Path.{_≡_, refl, sym, ap, _∙_}
 use mathlib.Core.Bool.{Bool, true, false, cond}
 use mathlib.Core.List.{List}
 use native.Mathlib.Omega.{arith}
-use Rattle.theory_row.specs.Lists.{from}
+use Rattle.lists.specs.Lists.{from}
 use Rattle.theory_pair.specs.Coded.{lowest, lowest-from}
-use Rattle.theory_tables.specs.Steps.{B, Deck, Layer, pairCount, lastAt, isThere, isSource, via, reached, nextLayer}
+use Rattle.theory_tables.specs.Steps.{B, Deck, Layer, stateCount, lastAt, isThere, isSource, via, reached, nextLayer}
 use Rattle.search_row.specs.Words.{deckOf}
 use Rattle.search_dense_layer.specs.Kept.{keptAt, keptIn}
-use Rattle.search_back_segment.specs.Walks.{First, fromPose, fromPair, Fits, EntrySource}
+use Rattle.search_back_segment.specs.Traces.{First, fromPose, fromState, Fits, EntrySource}
 
 -- a loop's least is one of its numbers
 pub lowest-missed : (h : ℕ → ℕ) (n v : ℕ) → v < B → ((k : ℕ) → k < n → h k ≡ v → ⊥) → lowest B h (from 0 n) ≡ v → ⊥
@@ -24,36 +24,36 @@ lowest-missed h (suc n) v l m e =
     omega arith
 
 module _ (D : Deck) (R : ℕ) (f : Layer) (i q a : ℕ) where
-  pub pair-in : (p b : ℕ) → isSource D R i q p ≡ true → fromPair D R f i q a p b ≡ f p b + D .toll (lastAt R i p) b (lastAt R (suc i) q) a
-  unfolding fromPair
-  pair-in p b e = ap (λ t. cond t (f p b + D .toll (lastAt R i p) b (lastAt R (suc i) q) a) B) e
+  pub state-in : (p b : ℕ) → isSource D R i q p ≡ true → fromState D R f i q a p b ≡ f p b + D .toll (lastAt R i p) b (lastAt R (suc i) q) a
+  unfolding fromState
+  state-in p b e = ap (λ t. cond t (f p b + D .toll (lastAt R i p) b (lastAt R (suc i) q) a) B) e
 
-  pub pair-out : (p b : ℕ) → isSource D R i q p ≡ false → fromPair D R f i q a p b ≡ B
-  unfolding fromPair
-  pair-out p b e = ap (λ t. cond t (f p b + D .toll (lastAt R i p) b (lastAt R (suc i) q) a) B) e
+  pub state-out : (p b : ℕ) → isSource D R i q p ≡ false → fromState D R f i q a p b ≡ B
+  unfolding fromState
+  state-out p b e = ap (λ t. cond t (f p b + D .toll (lastAt R i p) b (lastAt R (suc i) q) a) B) e
 
-  -- no pose of pair p fits
+  -- no pose of state p fits
   abbrev pub Misses : ℕ → ℕ → Type 0
-  Misses want p = (b : ℕ) → b < D .poses → fromPair D R f i q a p b ≡ want → ⊥
+  Misses want p = (b : ℕ) → b < D .poses → fromState D R f i q a p b ≡ want → ⊥
 
-  pub reached-missed : (want : ℕ) → want < B → ((p : ℕ) → p < pairCount R → Misses want p) → reached D R f i q a ≡ want → ⊥
-  unfolding reached via fromPair
-  reached-missed want l m = lowest-missed _ (pairCount R) want l λ p x. go p x (isSource D R i q p) (m p x)
+  pub reached-missed : (want : ℕ) → want < B → ((p : ℕ) → p < stateCount R → Misses want p) → reached D R f i q a ≡ want → ⊥
+  unfolding reached via fromState
+  reached-missed want l m = lowest-missed _ (stateCount R) want l λ p x. go p x (isSource D R i q p) (m p x)
     where
-      go : (p : ℕ) → p < pairCount R → (t : Bool)
+      go : (p : ℕ) → p < stateCount R → (t : Bool)
           → ((b : ℕ) → b < D .poses → cond t (f p b + D .toll (lastAt R i p) b (lastAt R (suc i) q) a) B ≡ want → ⊥)
           → cond t (lowest B (λ b. f p b + D .toll (lastAt R i p) b (lastAt R (suc i) q) a) (from 0 (D .poses))) B ≡ want → ⊥
       go p x true g = lowest-missed _ (D .poses) want l g
       go p x false g = λ e. omega arith
 
   -- a hit
-  pub pair-fits : (want p b : ℕ) → p < pairCount R → b < D .poses → want < B → fromPair D R f i q a p b ≡ want → Fits D R f i q a want p b
-  unfolding fromPair
-  pair-fits want p b x y l e = go (isSource D R i q p) refl
+  pub state-fits : (want p b : ℕ) → p < stateCount R → b < D .poses → want < B → fromState D R f i q a p b ≡ want → Fits D R f i q a want p b
+  unfolding fromState
+  state-fits want p b x y l e = go (isSource D R i q p) refl
     where
       go : (t : Bool) → isSource D R i q p ≡ t → Fits D R f i q a want p b
-      go true s = record { pair = x; pose = y; source = s; sum = sym (pair-in p b s) ∙ e }
-      go false s = absurd (omega (arith, pair-out p b s, e))
+      go true s = record { state = x; pose = y; source = s; sum = sym (state-in p b s) ∙ e }
+      go false s = absurd (omega (arith, state-out p b s, e))
 
   -- an entry below B is its own cost and what it was reached by
   pub next-below : nextLayer D R f i q a < B → (isThere D R (suc i) q ≡ true) × (nextLayer D R f i q a ≡ D .own (lastAt R (suc i) q) a + reached D R f i q a)
@@ -64,26 +64,26 @@ module _ (D : Deck) (R : ℕ) (f : Layer) (i q a : ℕ) where
       go true x l = (refl, omega arith)
       go false x l = absurd (omega arith)
 
--- a search over a pair's poses, which are all or none
+-- a search over a state's poses, which are all or none
 pub poses-first : (st line : List ℕ) (n poses R i q a p want : ℕ) {at k m r : ℕ}
     → isSource (deckOf line n poses) R i q p ≡ true → at ≡ keptAt i + p * 64 → k ≡ lastAt R i p → m ≡ lastAt R (suc i) q
     → First (fromPose st line at k m a) poses want r
-    → First (fromPair (deckOf line n poses) R (keptIn st i) i q a p) poses want r
+    → First (fromState (deckOf line n poses) R (keptIn st i) i q a p) poses want r
 poses-first st line n poses R i q a p want {at} {k} {m} {r} s x y z w =
     record { upto = w .upto; hit = λ h. same r ∙ w .hit h; miss = λ b h e. w .miss b h (sym (same b) ∙ e) }
   where
-    same : (b : ℕ) → fromPair (deckOf line n poses) R (keptIn st i) i q a p b ≡ fromPose st line at k m a b
-    same b = pair-in (deckOf line n poses) R (keptIn st i) i q a p b s ∙ rw (x, y, z) refl
+    same : (b : ℕ) → fromState (deckOf line n poses) R (keptIn st i) i q a p b ≡ fromPose st line at k m a b
+    same b = state-in (deckOf line n poses) R (keptIn st i) i q a p b s ∙ rw (x, y, z) refl
 
-pub poses-none : (D : Deck) (R : ℕ) (f : Layer) (i q a p want : ℕ) → isSource D R i q p ≡ false → want < B → First (fromPair D R f i q a p) (D .poses) want (D .poses)
+pub poses-none : (D : Deck) (R : ℕ) (f : Layer) (i q a p want : ℕ) → isSource D R i q p ≡ false → want < B → First (fromState D R f i q a p) (D .poses) want (D .poses)
 poses-none D R f i q a p want s l =
-    record { upto = omega arith; hit = λ h. absurd (omega arith); miss = λ b h e. omega (arith, pair-out D R f i q a p b s, e) }
+    record { upto = omega arith; hit = λ h. absurd (omega arith); miss = λ b h e. omega (arith, state-out D R f i q a p b s, e) }
 
 -- the source of a kept entry
 pub entry-source : (D : Deck) (R : ℕ) (st : List ℕ) (i q a : ℕ) {want p b : ℕ}
     → Fits D R (keptIn st i) i q a want p b → keptIn st (suc i) q a ≡ D .own (lastAt R (suc i) q) a + want → EntrySource D R st i q a p b
 entry-source D R st i q a w e =
-    record { pair = w .pair; pose = w .pose; source = w .source; sum = e ∙ ap (λ (x : ℕ). D .own (lastAt R (suc i) q) a + x) (sym (w .sum)) }
+    record { state = w .state; pose = w .pose; source = w .source; sum = e ∙ ap (λ (x : ℕ). D .own (lastAt R (suc i) q) a + x) (sym (w .sum)) }
 
 -- what an entry's cost is made of
 pub entry-parts : (D : Deck) (R : ℕ) (st : List ℕ) (i q a : ℕ) → keptIn st (suc i) q a ≡ nextLayer D R (keptIn st i) i q a → keptIn st (suc i) q a < B

@@ -1,4 +1,4 @@
--- Laws of a stage walked back: from its first layer to what the walk leaves, by whether it ends at a tall cell. Assumes nothing.
+-- Laws of a stage walked back: from its first layer to what the traceback leaves, by whether it ends at a tall cell.
 use Prim.Native.Nat.{ℕ, zero, suc, _+_, _*_, _-_, _≤_, _<_}
 use mathlib.Core.Path.{_≡_, refl, sym, ap, _∙_, subst}
 use mathlib.Core.Bool.{Bool, true, false, cond, _&&_}
@@ -8,20 +8,20 @@ use native.Mathlib.Decide.{decLt}
 use borrow.Author.Tests.{lt-ltb, le-ltb, leb-true}
 use lib.ListN.{length, getD}
 use lib.Dec.{ltb, leb, eqb}
-use Rattle.theory_tables.specs.Steps.{B, Deck, Layer, pairCount, offset, marks, firstAfter, firstOpen, layers, priceTo, priceEnd}
+use Rattle.theory_tables.specs.Steps.{B, Deck, Layer, stateCount, offset, marks, firstAfter, firstOpen, layers, costTo, costEnd}
 use Rattle.theory_tables.specs.Stages.{placedWith, stageEnd}
-use Rattle.theory_tables.specs.Back.{Walked, EndWalked}
+use Rattle.theory_tables.specs.Back.{SegmentTraced, EndTraced}
 use Rattle.theory_tables.specs.Notes.{NotedBy}
 use Rattle.search_lanes.specs.Laws.{frame-refl, frame-join}
 use Rattle.search_lanes.specs.Store.{Frame, Low}
 use Rattle.search_row.specs.Words.{deckOf}
 use Rattle.search_dense_first.specs.Begun.{Begun}
-use Rattle.search_dense_layer.specs.Kept.{keptAt, keptIn, KeptLayers, Stretch, StretchKept}
+use Rattle.search_dense_layer.specs.Kept.{keptAt, keptIn, KeptLayers, Segment, SegmentKept}
 use Rattle.search_dense_layer.specs.KeptLaws.{kept-ext, kept-fewer}
-use Rattle.search_back_segment.specs.Walks.{Back, Walk, End, WalkDone, EndDone, wordAt}
+use Rattle.search_back_segment.specs.Traces.{Back, SegmentTrace, End, SegmentTraceDone, EndDone, wordAt}
 use Rattle.search_back_segment.specs.Steps.{end-full}
 use Rattle.search_stage.specs.Stage.{posIn}
-use Rattle.search_back_stage.specs.Rows.{startCells, startLayer, startEnd, priceFrom, endPlace, Stage, Started, StageDone}
+use Rattle.search_back_stage.specs.Rows.{startCells, startLayer, startEnd, costFrom, endPlace, Stage, Started, StageDone}
 
 -- ---- the start
 
@@ -39,7 +39,7 @@ unfolding startCells
 start-count R pos I j s e = ap (λ (k : ℕ). startCells R pos k s) e
 
 module _ (D : Deck) (R : ℕ) (pos : ℕ → ℕ) where
-  pub started-open : {count I s l to : ℕ} {old new : List ℕ} → I ≡ 0 → count ≡ pairCount R → to ≡ keptAt 1
+  pub started-open : {count I s l to : ℕ} {old new : List ℕ} → I ≡ 0 → count ≡ stateCount R → to ≡ keptAt 1
       → Begun (firstOpen D R) (D .poses) count to old new → Started D R pos I s l 1 old new
   unfolding startCells startLayer
   started-open {count} {I} {s} {l} {to} {old} {new} e n z w = subst (λ (k : ℕ). Started D R pos k s l 1 old new) (sym e) record {
@@ -49,7 +49,7 @@ module _ (D : Deck) (R : ℕ) (pos : ℕ → ℕ) where
     right = λ q a x y. ap (λ (k : ℕ). getD new (k + q * 64 + a) 0) (sym z) ∙ w .right q a (omega arith) y;
   }
 
-  pub started-after : {count I s l i p to : ℕ} {old new : List ℕ} (J : ℕ) → I ≡ suc J → p ≡ pos J → i ≡ placedWith R p s → count ≡ pairCount R
+  pub started-after : {count I s l i p to : ℕ} {old new : List ℕ} (J : ℕ) → I ≡ suc J → p ≡ pos J → i ≡ placedWith R p s → count ≡ stateCount R
       → to ≡ keptAt (i + 1) → i + 1 ≤ 66
       → Begun (firstAfter D R i (marks R s) p l) (D .poses) count to old new → Started D R pos I s l (i + 1) old new
   unfolding startCells startLayer
@@ -64,33 +64,33 @@ module _ (D : Deck) (R : ℕ) (pos : ℕ → ℕ) where
         ∙ ap (λ (k : ℕ). firstAfter D R (placedWith R k s) (marks R s) k l q a) f;
   }
 
--- ---- the price of a stage below B
+-- ---- the cost of a stage below B
 
 module _ (D : Deck) (R talls : ℕ) (pos : ℕ → ℕ) (I : ℕ) (f : Layer) (i e q a : ℕ) where
-  -- to a tall cell: there is room for it, and its layer has the price
-  pub tall-price : I < talls → stageEnd D R talls pos I f i e q a < B
+  -- to a tall cell: there is room for it, and its layer has the cost
+  pub tall-cost : I < talls → stageEnd D R talls pos I f i e q a < B
       → (i + offset R q ≤ pos I + suc R) × (layers D R f i (pos I + suc R - offset R q - i) q a < B)
-  unfolding stageEnd priceTo
-  tall-price h l = go (ltb I talls) (lt-ltb I talls h) (leb (i + offset R q) (pos I + suc R)) refl l
+  unfolding stageEnd costTo
+  tall-cost h l = go (ltb I talls) (lt-ltb I talls h) (leb (i + offset R q) (pos I + suc R)) refl l
     where
       go : (t : Bool) → t ≡ true → (u : Bool) → leb (i + offset R q) (pos I + suc R) ≡ u
-          → cond t (cond u (layers D R f i (pos I + suc R - offset R q - i) q a) B) (cond (eqb q 0 && eqb a 0) (priceEnd D R f i e) B) < B
+          → cond t (cond u (layers D R f i (pos I + suc R - offset R q - i) q a) B) (cond (eqb q 0 && eqb a 0) (costEnd D R f i e) B) < B
           → (i + offset R q ≤ pos I + suc R) × (layers D R f i (pos I + suc R - offset R q - i) q a < B)
       go true y true z x = (leb-true (i + offset R q) (pos I + suc R) z, x)
       go true y false z x = absurd (omega arith)
       go false y u z x = absurd (let w : _≡_ {A = ℕ} 0 1 = cc in omega arith)
 
   -- to the row's end
-  pub end-price : talls ≤ I → stageEnd D R talls pos I f i e q a < B → priceEnd D R f i e < B
+  pub end-cost : talls ≤ I → stageEnd D R talls pos I f i e q a < B → costEnd D R f i e < B
   unfolding stageEnd
-  end-price h l = go (ltb I talls) (le-ltb I talls h) (eqb q 0 && eqb a 0) l
+  end-cost h l = go (ltb I talls) (le-ltb I talls h) (eqb q 0 && eqb a 0) l
     where
-      go : (t : Bool) → t ≡ false → (u : Bool) → cond t (priceTo D R f i (pos I) q a) (cond u (priceEnd D R f i e) B) < B → priceEnd D R f i e < B
+      go : (t : Bool) → t ≡ false → (u : Bool) → cond t (costTo D R f i (pos I) q a) (cond u (costEnd D R f i e) B) < B → costEnd D R f i e < B
       go false y true x = x
       go false y false x = absurd (omega arith)
       go true y u x = absurd (let w : _≡_ {A = ℕ} 0 1 = cc in omega arith)
 
-pub end-bound : (D : Deck) (R : ℕ) (f : Layer) (i e : ℕ) → priceEnd D R f i e < B → i ≤ suc (D .size)
+pub end-bound : (D : Deck) (R : ℕ) (f : Layer) (i e : ℕ) → costEnd D R f i e < B → i ≤ suc (D .size)
 end-bound D R f i e l = go (decLt (D .size) i)
   where
     go : Dec (D .size < i) → i ≤ suc (D .size)
@@ -107,7 +107,7 @@ end-last n R talls pos I q h = ap (λ t. cond t (placedWith R (pos I) q) n) (le-
 
 -- ---- a stage
 
-module _ {line pairs places st path : List ℕ} {n poses R count talls I s l q a : ℕ} (g : Stage line pairs places st path n poses R count talls I s l q a) where
+module _ {line states places st path : List ℕ} {n poses R count talls I s l q a : ℕ} (g : Stage line states places st path n poses R count talls I s l q a) where
   abbrev D : Deck
   D = deckOf line n poses
 
@@ -117,15 +117,15 @@ module _ {line pairs places st path : List ℕ} {n poses R count talls I s l q a
   abbrev pays : ℕ
   pays = startEnd (deckOf line n poses) (posIn places) I l
 
-  abbrev Priced : Type 0
-  Priced = priceFrom (deckOf line n poses) R talls (posIn places) I s l q a < B
+  abbrev SegmentCosted : Type 0
+  SegmentCosted = costFrom (deckOf line n poses) R talls (posIn places) I s l q a < B
 
   -- nothing is noted
-  none-noted : {new : List ℕ} → Frame 0 148992 st new → Low new → (Priced → ⊥) → StageDone (deckOf line n poses) R talls (posIn places) I s l q a st new path path
-  none-noted u w z = record { frame = u; low = w; notes = frame-refl (startCells R (posIn places) I s) (suc (endPlace n R talls (posIn places) I q)) path; walked = λ c. absurd (z c) }
+  none-noted : {new : List ℕ} → Frame 0 148992 st new → Low new → (SegmentCosted → ⊥) → StageDone (deckOf line n poses) R talls (posIn places) I s l q a st new path path
+  none-noted u w z = record { frame = u; low = w; notes = frame-refl (startCells R (posIn places) I s) (suc (endPlace n R talls (posIn places) I q)) path; rowTraced = λ c. absurd (z c) }
 
   -- the first layer has its place among those that are kept
-  start-fits : Priced → startCells R (posIn places) I s ≤ 66
+  start-fits : SegmentCosted → startCells R (posIn places) I s ≤ 66
   start-fits c = go (decLt I talls)
     where
       size : n ≤ 64
@@ -133,10 +133,10 @@ module _ {line pairs places st path : List ℕ} {n poses R count talls I s l q a
 
       go : Dec (I < talls) → startCells R (posIn places) I s ≤ 66
       go (yes h) =
-          let p = tall-price D R talls (posIn places) I f (startCells R (posIn places) I s) pays q a h c in
+          let p = tall-cost D R talls (posIn places) I f (startCells R (posIn places) I s) pays q a h c in
           omega (arith, p .0, g .start .row .inside I h, size, g .start .row .ground .coded .reorder)
       go (no h) =
-          let p = end-price D R talls (posIn places) I f (startCells R (posIn places) I s) pays q a (omega arith) c in
+          let p = end-cost D R talls (posIn places) I f (startCells R (posIn places) I s) pays q a (omega arith) c in
           omega (arith, size, end-bound D R f (startCells R (posIn places) I s) pays p)
 
   pub start-late : 66 < startCells R (posIn places) I s → StageDone (deckOf line n poses) R talls (posIn places) I s l q a st st path path
@@ -146,19 +146,19 @@ module _ {line pairs places st path : List ℕ} {n poses R count talls I s l q a
     some : 0 < cells
     some = omega (arith, w .count, start-some R (posIn places) I s)
 
-    -- the price, from as many cells as were counted
-    cost : Priced → stageEnd D R talls (posIn places) I f cells pays q a < B
+    -- the cost, from as many cells as were counted
+    cost : SegmentCosted → stageEnd D R talls (posIn places) I f cells pays q a < B
     cost c = subst (λ (i : ℕ). stageEnd D R talls (posIn places) I f i pays q a < B) (sym (w .count)) c
 
     -- the first layer is the one that is kept
     kept-start : {end : ℕ} {new : List ℕ} → KeptLayers D R (keptIn mid cells) cells end new → KeptLayers D R f cells end new
     kept-start k = kept-ext (keptIn mid cells) f (w .right) k
 
-    back : {new : List ℕ} → Low new → length new ≡ length mid → Back line pairs new n poses R count
+    back : {new : List ℕ} → Low new → length new ≡ length mid → Back line states new n poses R count
     back u e = record { ground = g .start .row .ground; low = u; long = omega (arith, g .start .long, w .frame .long) }
 
-    stretch : (end : ℕ) → end ≤ 66 → Stretch line pairs mid n poses R count cells end
-    stretch end k = record { ground = g .start .row .ground; low = w .low; long = omega (arith, g .start .long, w .frame .long); some = some; cells = few; last = k }
+    segment : (end : ℕ) → end ≤ 66 → Segment line states mid n poses R count cells end
+    segment end k = record { ground = g .start .row .ground; low = w .low; long = omega (arith, g .start .long, w .frame .long); some = some; cells = few; last = k }
 
     store-kept : {new : List ℕ} → Frame 98304 148992 mid new → Frame 0 148992 st new
     store-kept u = frame-join 0 148992 (w .frame) u (omega arith) (omega arith) (omega arith) (omega arith)
@@ -166,9 +166,9 @@ module _ {line pairs places st path : List ℕ} {n poses R count talls I s l q a
     -- ---- to a tall cell
 
     module _ (h : I < talls) {end : ℕ} (e : end ≡ placedWith R (posIn places I) q) where
-      tall-room : Priced → (cells + offset R q ≤ posIn places I + suc R) × (layers D R f cells (end - cells) q a < B)
+      tall-room : SegmentCosted → (cells + offset R q ≤ posIn places I + suc R) × (layers D R f cells (end - cells) q a < B)
       tall-room c =
-          let p = tall-price D R talls (posIn places) I f cells pays q a h (cost c) in
+          let p = tall-cost D R talls (posIn places) I f cells pays q a h (cost c) in
           (p .0, subst (λ (j : ℕ). layers D R f cells (j - cells) q a < B) (sym e) (p .1))
 
       pub tall-late : end < cells → StageDone D R talls (posIn places) I s l q a st mid path path
@@ -177,10 +177,10 @@ module _ {line pairs places st path : List ℕ} {n poses R count talls I s l q a
       pub end-low : end ≤ 66
       end-low = let c = g .start .row .ground .coded .reorder in omega (arith, g .start .row .inside I h, g .start .row .ground .size)
 
-      pub tall-stretch : Stretch line pairs mid n poses R count cells end
-      tall-stretch = stretch end end-low
+      pub tall-segment : Segment line states mid n poses R count cells end
+      tall-segment = segment end end-low
 
-      module _ (o : cells ≤ end) {new : List ℕ} (k : StretchKept D R cells end mid new) where
+      module _ (o : cells ≤ end) {new : List ℕ} (k : SegmentKept D R cells end mid new) where
         tall-kept : KeptLayers D R f cells (cells + (end - cells)) new
         tall-kept = kept-start (kept-fewer (cells + (end - cells)) (omega arith) (k .kept))
 
@@ -188,32 +188,32 @@ module _ {line pairs places st path : List ℕ} {n poses R count talls I s l q a
         tall-word = ap (λ (j : ℕ). keptIn new j q a) (omega arith)
 
         pub tall-none : B ≤ keptIn new end q a → StageDone D R talls (posIn places) I s l q a st new path path
-        tall-none b = none-noted (store-kept (k .frame)) (k .low) (λ c. omega (arith, tall-word, tall-kept .right (end - cells) q a (omega arith) (g .pair h) (g .pose h), tall-room c .1))
+        tall-none b = none-noted (store-kept (k .frame)) (k .low) (λ c. omega (arith, tall-word, tall-kept .right (end - cells) q a (omega arith) (g .state h) (g .pose h), tall-room c .1))
 
-        pub tall-walk : keptIn new end q a < B → Walk line pairs new path n poses R count cells (end - cells) q a
-        tall-walk b =
+        pub tall-trace : keptIn new end q a < B → SegmentTrace line states new path n poses R count cells (end - cells) q a
+        tall-trace b =
             record {
               back = back (k .low) (k .frame .long);
               room = g .room;
               some = some;
               last = omega (arith, end-low);
-              pair = g .pair h;
+              state = g .state h;
               pose = g .pose h;
               first = f;
               kept = tall-kept;
               cost = omega (arith, tall-word);
             }
 
-        pub tall-done : {path′ : List ℕ} → WalkDone D R new cells (end - cells) q a path path′ → StageDone D R talls (posIn places) I s l q a st new path path′
+        pub tall-done : {path′ : List ℕ} → SegmentTraceDone D R new cells (end - cells) q a path path′ → StageDone D R talls (posIn places) I s l q a st new path path′
         tall-done {path′} d =
             record {
               frame = store-kept (k .frame);
               low = k .low;
               notes = frame-join (startCells R (posIn places) I s) (suc (endPlace n R talls (posIn places) I q)) (frame-refl (startCells R (posIn places) I s) 0 path) (d .frame)
                   (omega arith) (omega (arith, w .count)) (omega arith) (omega (arith, z));
-              walked = λ c. record {
-                toTall = λ y. subst (λ (i : ℕ). (i + offset R q ≤ posIn places I + suc R) × Walked D R (NotedBy (wordAt path′)) f i (posIn places I + suc R - offset R q - i) q a) (w .count)
-                    (tall-room c .0, subst (λ (j : ℕ). Walked D R (NotedBy (wordAt path′)) f cells (j - cells) q a) e (d .walked f tall-kept));
+              rowTraced = λ c. record {
+                toTall = λ y. subst (λ (i : ℕ). (i + offset R q ≤ posIn places I + suc R) × SegmentTraced D R (NotedBy (wordAt path′)) f i (posIn places I + suc R - offset R q - i) q a) (w .count)
+                    (tall-room c .0, subst (λ (j : ℕ). SegmentTraced D R (NotedBy (wordAt path′)) f cells (j - cells) q a) e (d .rowTraced f tall-kept));
                 toEnd = λ y. absurd (omega arith);
               };
             }
@@ -224,15 +224,15 @@ module _ {line pairs places st path : List ℕ} {n poses R count talls I s l q a
     -- ---- to the row's end
 
     module _ (h : talls ≤ I) where
-      price : Priced → priceEnd D R f cells pays < B
-      price c = end-price D R talls (posIn places) I f cells pays q a h (cost c)
+      segmentCost : SegmentCosted → costEnd D R f cells pays < B
+      segmentCost c = end-cost D R talls (posIn places) I f cells pays q a h (cost c)
 
-      pub last-stretch : Stretch line pairs mid n poses R count cells n
-      last-stretch = let z = g .start .row .ground .size in stretch n (omega arith)
+      pub last-segment : Segment line states mid n poses R count cells n
+      last-segment = let z = g .start .row .ground .size in segment n (omega arith)
 
-      module _ {new : List ℕ} (k : StretchKept D R cells n mid new) where
-        pub last-walk : End line pairs new path n poses R count cells
-        last-walk = record { back = back (k .low) (k .frame .long); room = g .room; some = some; first = f; kept = kept-start (k .kept) }
+      module _ {new : List ℕ} (k : SegmentKept D R cells n mid new) where
+        pub last-trace : End line states new path n poses R count cells
+        last-trace = record { back = back (k .low) (k .frame .long); room = g .room; some = some; first = f; kept = kept-start (k .kept) }
 
         pub last-done : {path′ : List ℕ} → EndDone D R new cells path path′ → StageDone D R talls (posIn places) I s l q a st new path path′
         last-done {path′} d =
@@ -241,9 +241,9 @@ module _ {line pairs places st path : List ℕ} {n poses R count talls I s l q a
               low = k .low;
               notes = frame-join (startCells R (posIn places) I s) (suc (endPlace n R talls (posIn places) I q)) (frame-refl (startCells R (posIn places) I s) 0 path) (d .frame)
                   (omega arith) (omega (arith, w .count)) (omega arith) (omega (arith, z));
-              walked = λ c. record {
+              rowTraced = λ c. record {
                 toTall = λ y. absurd (omega arith);
-                toEnd = λ y. subst (λ (i : ℕ). EndWalked D R (NotedBy (wordAt path′)) f i pays) (w .count) (d .walked f pays (kept-start (k .kept)) (price c));
+                toEnd = λ y. subst (λ (i : ℕ). EndTraced D R (NotedBy (wordAt path′)) f i pays) (w .count) (d .rowTraced f pays (kept-start (k .kept)) (segmentCost c));
               };
             }
           where

@@ -1,21 +1,21 @@
--- One stage of the walk back in one row: its first layer made once more from its one start, its layers kept, and the walk through them.
+-- One stage of the traceback in one row: its first layer made once more from its one start, its layers kept, and the traceback through them.
 use Prim.Native.Nat.{ℕ, zero, suc, _≤_, _<_}
 use mathlib.Core.Path.{_≡_}
 use mathlib.Core.Bool.{cond}
 use mathlib.Core.List.{List}
 use lib.ListN.{length}
 use lib.Dec.{ltb}
-use Rattle.theory_tables.specs.Steps.{B, Deck, Layer, pairCount, marks, firstAfter, firstOpen}
+use Rattle.theory_tables.specs.Steps.{B, Deck, Layer, stateCount, marks, firstAfter, firstOpen}
 use Rattle.theory_tables.specs.Stages.{placedWith, stageEnd}
-use Rattle.theory_tables.specs.Back.{StageWalked}
+use Rattle.theory_tables.specs.Back.{StageTraced}
 use Rattle.theory_tables.specs.Notes.{NotedBy}
 use Rattle.search_lanes.specs.Store.{Frame, Low}
 use Rattle.search_row.specs.Words.{deckOf}
 use Rattle.search_stage.specs.Stage.{posIn, RowGiven}
 use Rattle.search_dense_layer.specs.Kept.{keptIn}
-use Rattle.search_back_segment.specs.Walks.{wordAt}
+use Rattle.search_back_segment.specs.Traces.{wordAt}
 
--- ---- the start of stage I: the row's start, or tall cell I - 1 as pair s in pose l
+-- ---- the start of stage I: the row's start, or tall cell I - 1 as state s in pose l
 
 -- how many cells its first layer has
 unfoldable pub startCells : ℕ → (ℕ → ℕ) → ℕ → ℕ → ℕ
@@ -31,30 +31,30 @@ unfoldable pub startEnd : Deck → (ℕ → ℕ) → ℕ → ℕ → ℕ
 startEnd D pos zero l = 0
 startEnd D pos (suc I) l = D .back (pos I) l
 
--- what the stage costs from there to pair q in pose a at its end
-abbrev pub priceFrom : Deck → ℕ → ℕ → (ℕ → ℕ) → ℕ → ℕ → ℕ → ℕ → ℕ → ℕ
-priceFrom D R talls pos I s l q a = stageEnd D R talls pos I (startLayer D R pos I s l) (startCells R pos I s) (startEnd D pos I l) q a
+-- what the stage costs from there to state q in pose a at its end
+abbrev pub costFrom : Deck → ℕ → ℕ → (ℕ → ℕ) → ℕ → ℕ → ℕ → ℕ → ℕ → ℕ
+costFrom D R talls pos I s l q a = stageEnd D R talls pos I (startLayer D R pos I s l) (startCells R pos I s) (startEnd D pos I l) q a
 
--- the last place of stage I: that of tall cell I as pair q, or the row's last
+-- the last place of stage I: that of tall cell I as state q, or the row's last
 unfoldable pub endPlace : ℕ → ℕ → ℕ → (ℕ → ℕ) → ℕ → ℕ → ℕ
 endPlace n R talls pos I q = cond (ltb I talls) (placedWith R (pos I) q) n
 
 -- ---- what is given
 
 -- a start of stage I
-pub record Start (line pairs places st : List ℕ) (n poses R count talls I s l : ℕ) : Type 0 where
-  pub row : RowGiven line pairs places R n poses count talls
+pub record Start (line states places st : List ℕ) (n poses R count talls I s l : ℕ) : Type 0 where
+  pub row : RowGiven line states places R n poses count talls
   pub low : Low st
   pub long : 148992 ≤ length st
   pub stage : I ≤ talls
-  pub pair : 0 < I → s < pairCount R
+  pub state : 0 < I → s < stateCount R
   pub pose : 0 < I → l < poses
 
--- a stage to be walked: from pair q in pose a of tall cell I, or from the row's end
-pub record Stage (line pairs places st path : List ℕ) (n poses R count talls I s l q a : ℕ) : Type 0 where
-  pub start : Start line pairs places st n poses R count talls I s l
+-- a stage to be walked: from state q in pose a of tall cell I, or from the row's end
+pub record Stage (line states places st path : List ℕ) (n poses R count talls I s l q a : ℕ) : Type 0 where
+  pub start : Start line states places st n poses R count talls I s l
   pub room : 67 ≤ length path
-  pub pair : I < talls → q < pairCount R
+  pub state : I < talls → q < stateCount R
   pub pose : I < talls → a < poses
 
 -- ---- what is left
@@ -64,12 +64,12 @@ pub record Started (D : Deck) (R : ℕ) (pos : ℕ → ℕ) (I s l cells : ℕ) 
   pub count : cells ≡ startCells R pos I s
   pub frame : Frame 98304 148992 old new
   pub low : Low new
-  pub right : (q a : ℕ) → q < pairCount R → a < D .poses → keptIn new cells q a ≡ startLayer D R pos I s l q a
+  pub right : (q a : ℕ) → q < stateCount R → a < D .poses → keptIn new cells q a ≡ startLayer D R pos I s l q a
 
--- the stage is walked, if it has a price: the cells from its first place to its last are noted, and nothing else; the tables are kept
+-- the stage is walked, if it has a cost: the cells from its first place to its last are noted, and nothing else; the tables are kept
 pub record StageDone (D : Deck) (R talls : ℕ) (pos : ℕ → ℕ) (I s l q a : ℕ) (st st′ path path′ : List ℕ) : Type 0 where
   pub frame : Frame 0 148992 st st′
   pub low : Low st′
   pub notes : Frame (startCells R pos I s) (suc (endPlace (D .size) R talls pos I q)) path path′
-  pub walked : priceFrom D R talls pos I s l q a < B
-      → StageWalked D R talls pos (NotedBy (wordAt path′)) I (startLayer D R pos I s l) (startCells R pos I s) (startEnd D pos I l) q a
+  pub rowTraced : costFrom D R talls pos I s l q a < B
+      → StageTraced D R talls pos (NotedBy (wordAt path′)) I (startLayer D R pos I s l) (startCells R pos I s) (startEnd D pos I l) q a

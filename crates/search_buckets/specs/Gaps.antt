@@ -1,5 +1,5 @@
 -- Which gaps pay, as the one law of the charge that the tables are built on: at some gaps neighbours pay for their steps, from gap 4 on
--- they pay nothing, at the others they may not stand. Assumes nothing.
+-- they pay nothing, at the others they may not stand.
 use Prim.Native.Nat.{ℕ, zero, suc, _+_, _*_, _-_, _≤_, _<_, min}
 use mathlib.Core.Path.{_≡_, refl, sym, ap, subst}
 use mathlib.Core.Logic.{_≢_}
@@ -8,7 +8,7 @@ use mathlib.Core.List.{List, [], _∷_, List·Memᴰ as In, List·Memᴰ·head a
 use native.Mathlib.Omega.{arith}
 use lib.ListN.{getD}
 use lib.Dec.{ltb, eqb}
-use Rattle.theory_row.specs.Lists.{Le?, low, high, le?, Eq?, same, differs, eq?}
+use Rattle.lists.specs.Lists.{Le?, low, high, le?, Eq?, same, differs, eq?}
 use Rattle.definition.specs.Cost.{charges, charge}
 use Rattle.theory_tables.specs.Steps.{B}
 use Rattle.search_row.specs.Words.{tollAt}

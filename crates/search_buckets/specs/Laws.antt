@@ -1,5 +1,5 @@
--- What is found in the planes is the least by way of every source: for one source by the law of its toll, and a plane of the lowest of many
--- sources finds the lowest of what each finds. Assumes nothing.
+-- What is found in the buckets is the least by way of every source: for one source by the law of its toll, and a bucket of the lowest of many
+-- sources finds the lowest of what each finds.
 use Prim.Native.Nat.{ℕ, zero, suc, _+_, _*_, _-_, _/_, _%_, _≤_, _<_, min}
 use mathlib.Core.Path.{_≡_, refl, sym, ap, ap₂, _∙_}
 use mathlib.Core.Logic.{_≢_}
@@ -9,15 +9,15 @@ use native.Mathlib.Omega.{arith}
 use native.Mathlib.Decide.{ℕ-discrete, decLt}
 use borrow.Author.Tests.{lt-ltb, le-ltb}
 use lib.Dec.{leb, ltb, eqb}
-use Rattle.theory_row.specs.Lists.{from, in-from, from-in, Le?, low, high, le?, Eq?, same, differs, eq?}
+use Rattle.lists.specs.Lists.{from, in-from, from-in, Le?, low, high, le?, Eq?, same, differs, eq?}
 use Rattle.theory_pair.specs.Coded.{lowest, lowest-low}
-use Rattle.theory_tables.specs.Steps.{B, Deck, Layer, pairCount, lastAt, isSource, via, reached}
+use Rattle.theory_tables.specs.Steps.{B, Deck, Layer, stateCount, lastAt, isSource, via, reached}
 use Rattle.theory_tables.specs.Lowest.{lowest-member, lowest-above, loop-member, loop-above}
 use Rattle.search_row.specs.Words.{wordOf, variant, siteIn, endIn, differIn, weightIn, tollAt, tollIn, deckOf, LineWords}
 use Rattle.search_row.specs.Laws.{differ-low, pay-low}
 use Rattle.search_buckets.specs.Loops.{lowest-cap, lowest-same, lowest-min, lowest-swap, lowest-none, lowest-more}
 use Rattle.search_buckets.specs.Gaps.{paying, paying-low, Toll, pays, free, barred, toll?}
-use Rattle.search_buckets.specs.Rows.{inRow, planeIn, found, endRow, payIn, onePose, byPoses, onePair, byPairs}
+use Rattle.search_buckets.specs.Rows.{inRow, bucketIn, found, endRow, payIn, onePose, byPoses, oneState, byStates}
 
 -- ---- one source in row r
 
@@ -46,23 +46,23 @@ row-above r t c = go (eqb r t)
 -- a source in row r; what is found of it by a pose e sites right of the first one
 module _ (r e : ℕ) where
   -- in the rows of the gaps that pay, where the source has a cost for each gap
-  module _ (cost : ℕ → ℕ) (plane : ℕ → ℕ → ℕ) (only : (gap t : ℕ) → plane gap t ≡ inRow r t (cost gap)) where
-    gap-miss : ((gap : ℕ) → In gap paying → r ≢ e + 4 - gap) → B ≤ lowest B (λ gap. plane gap (e + 4 - gap)) paying
+  module _ (cost : ℕ → ℕ) (bucket : ℕ → ℕ → ℕ) (only : (gap t : ℕ) → bucket gap t ≡ inRow r t (cost gap)) where
+    gap-miss : ((gap : ℕ) → In gap paying → r ≢ e + 4 - gap) → B ≤ lowest B (λ gap. bucket gap (e + 4 - gap)) paying
     gap-miss h = lowest-above B _ B paying (omega arith) (λ gap i. omega (arith, only gap (e + 4 - gap), row-miss r (e + 4 - gap) (cost gap) (h gap i)))
 
-    gap-hit : (gap : ℕ) → In gap paying → r ≡ e + 4 - gap → lowest B (λ gap. plane gap (e + 4 - gap)) paying ≡ min (cost gap) B
+    gap-hit : (gap : ℕ) → In gap paying → r ≡ e + 4 - gap → lowest B (λ gap. bucket gap (e + 4 - gap)) paying ≡ min (cost gap) B
     gap-hit gap i h =
         omega (
           arith,
-          lowest-member B (λ gap. plane gap (e + 4 - gap)) paying i,
+          lowest-member B (λ gap. bucket gap (e + 4 - gap)) paying i,
           only gap (e + 4 - gap),
           row-hit r (e + 4 - gap) (cost gap) h,
-          lowest-low B (λ gap. plane gap (e + 4 - gap)) paying,
-          lowest-above B (λ gap. plane gap (e + 4 - gap)) (min (cost gap) B) paying (omega arith) (λ g j. other g j (ℕ-discrete g gap)),
+          lowest-low B (λ gap. bucket gap (e + 4 - gap)) paying,
+          lowest-above B (λ gap. bucket gap (e + 4 - gap)) (min (cost gap) B) paying (omega arith) (λ g j. other g j (ℕ-discrete g gap)),
         )
       where
         -- no other gap has this row
-        other : (g : ℕ) → In g paying → Dec (g ≡ gap) → min (cost gap) B ≤ plane g (e + 4 - g)
+        other : (g : ℕ) → In g paying → Dec (g ≡ gap) → min (cost gap) B ≤ bucket g (e + 4 - g)
         other g j (yes z) = rw z (omega (arith, only gap (e + 4 - gap), row-above r (e + 4 - gap) (cost gap)))
         other g j (no d) =
             let l = paying-low g j in
@@ -70,19 +70,19 @@ module _ (r e : ℕ) where
             omega (arith, only g (e + 4 - g), row-miss r (e + 4 - g) (cost g) (λ z. d (omega arith)))
 
   -- in the rows up to e, where it costs c
-  module _ (c : ℕ) (plane : ℕ → ℕ) (only : (t : ℕ) → plane t ≡ inRow r t c) where
-    up-miss : e < r → B ≤ lowest B plane (from 0 (suc e))
-    up-miss h = loop-above B plane (suc e) B (omega arith) (λ t i. omega (arith, only t, row-miss r t c (λ z. omega arith)))
+  module _ (c : ℕ) (bucket : ℕ → ℕ) (only : (t : ℕ) → bucket t ≡ inRow r t c) where
+    up-miss : e < r → B ≤ lowest B bucket (from 0 (suc e))
+    up-miss h = loop-above B bucket (suc e) B (omega arith) (λ t i. omega (arith, only t, row-miss r t c (λ z. omega arith)))
 
-    up-hit : r ≤ e → lowest B plane (from 0 (suc e)) ≡ min c B
+    up-hit : r ≤ e → lowest B bucket (from 0 (suc e)) ≡ min c B
     up-hit h =
         omega (
           arith,
-          loop-member B plane (suc e) r (omega arith),
+          loop-member B bucket (suc e) r (omega arith),
           only r,
           row-hit r r c refl,
-          lowest-low B plane (from 0 (suc e)),
-          loop-above B plane (suc e) (min c B) (omega arith) (λ t i. omega (arith, only t, row-above r t c)),
+          lowest-low B bucket (from 0 (suc e)),
+          loop-above B bucket (suc e) (min c B) (omega arith) (λ t i. omega (arith, only t, row-above r t c)),
         )
 
 -- a source that ends at y, by sites: the law of its toll
@@ -111,9 +111,9 @@ found-toll g e y c pay near far n f = go (tollAt (g + e) y pay) (toll? (g + e) y
           lowest-low B far (from 0 (suc e)),
         )
 
--- the planes of the gaps that pay
-pub plane-low : (other gap v : ℕ) → other ≤ 5 → v < 4 → planeIn other gap v ≤ 8
-plane-low other gap v h g = go (eqb gap 0)
+-- the buckets of the gaps that pay
+pub bucket-low : (other gap v : ℕ) → other ≤ 5 → v < 4 → bucketIn other gap v ≤ 8
+bucket-low other gap v h g = go (eqb gap 0)
   where
     go : (z : Bool) → cond z (1 + v) (other + v) ≤ 8
     go true = omega arith
@@ -122,7 +122,7 @@ plane-low other gap v h g = go (eqb gap 0)
 -- ---- one source by its words
 
 module _ (line : List ℕ) (k b m : ℕ) where
-  -- what is paid in the planes of gap 0, in those of the other gaps, and in plane 0
+  -- what is paid in the buckets of gap 0, in those of the other gaps, and in bucket 0
   pub pay-touching : (v : ℕ) → 1 ≤ v → v < 5 → payIn line k b m v ≡ wordOf line m 84 * differIn line k b m (v - 1)
   unfolding payIn
   pay-touching v h g = rw (le-ltb v 1 h, lt-ltb v 5 g)
@@ -146,9 +146,9 @@ module _ (line : List ℕ) (k b m : ℕ) where
       differBy u a =
           cond (eqb (wordOf line k (76 + u)) (wordOf line m (68 + variant a))) 0 1 + cond (eqb (wordOf line k (80 + u)) (wordOf line m (72 + variant a))) 0 1
 
-  -- what pose a of m pays at a gap is what is paid in its plane of that gap
-  pay-plane : (gap a : ℕ) → payIn line k b m (planeIn 5 gap (a % 4)) ≡ weightIn line m gap * differIn line k b m a
-  pay-plane gap a = go (eqb gap 0)
+  -- what pose a of m pays at a gap is what is paid in its bucket of that gap
+  pay-bucket : (gap a : ℕ) → payIn line k b m (bucketIn 5 gap (a % 4)) ≡ weightIn line m gap * differIn line k b m a
+  pay-bucket gap a = go (eqb gap 0)
     where
       vary : (v : ℕ) → variant v ≡ variant a → differIn line k b m v ≡ differIn line k b m a
       vary v e =
@@ -158,7 +158,7 @@ module _ (line : List ℕ) (k b m : ℕ) where
       go true = pay-touching (1 + a % 4) (omega arith) (omega arith) ∙ ap (λ (d : ℕ). wordOf line m 84 * d) (vary (1 + a % 4 - 1) (omega arith))
       go false = pay-apart (5 + a % 4) (omega arith) ∙ ap (λ (d : ℕ). wordOf line m 86 * d) (vary (5 + a % 4 - 5) (omega arith))
 
-  -- one weight for all gaps: the planes of the other gaps are those of gap 0
+  -- one weight for all gaps: the buckets of the other gaps are those of gap 0
   pub pay-twin : (v : ℕ) → v < 4 → wordOf line m 84 ≡ wordOf line m 86 → payIn line k b m (5 + v) ≡ payIn line k b m (1 + v)
   pay-twin v h e =
       let x : 5 + v - 5 ≡ 1 + v - 1 = omega arith in
@@ -178,32 +178,32 @@ pub found-one : (line : List ℕ) (k b m a c : ℕ) → min (c + tollIn line k b
 unfolding tollIn found endRow
 found-one line k b m a c =
     found-toll (wordOf line m 64) (a / 4) (endIn line k b) c (λ gap. weightIn line m gap * differIn line k b m a)
-    (λ gap. onePose line k m b c (planeIn 5 gap (a % 4))) (onePose line k m b c 0)
-    (λ gap t. ap (λ (z : ℕ). inRow (endRow line k b m) t (c + z)) (pay-plane line k b m gap a))
+    (λ gap. onePose line k m b c (bucketIn 5 gap (a % 4))) (onePose line k m b c 0)
+    (λ gap t. ap (λ (z : ℕ). inRow (endRow line k b m) t (c + z)) (pay-bucket line k b m gap a))
     (λ t. ap (λ (z : ℕ). inRow (endRow line k b m) t z) (let e = pay-none line k b m in omega arith))
 
 -- ---- many sources
 
--- the lowest of many planes finds the lowest of what each finds
-pub found-lowest : {S : Type 0} (plane : S → ℕ → ℕ → ℕ) (a : ℕ) (l : List S) → lowest B (λ s. found (plane s) a) l ≡ found (λ v t. lowest B (λ s. plane s v t) l) a
+-- the lowest of many buckets finds the lowest of what each finds
+pub found-lowest : {S : Type 0} (bucket : S → ℕ → ℕ → ℕ) (a : ℕ) (l : List S) → lowest B (λ s. found (bucket s) a) l ≡ found (λ v t. lowest B (λ s. bucket s v t) l) a
 unfolding found
-found-lowest plane a l =
-    lowest-min (λ s. lowest B (λ gap. plane s (planeIn 5 gap (a % 4)) (a / 4 + 4 - gap)) paying) (λ s. lowest B (plane s 0) (from 0 (suc (a / 4)))) l
+found-lowest bucket a l =
+    lowest-min (λ s. lowest B (λ gap. bucket s (bucketIn 5 gap (a % 4)) (a / 4 + 4 - gap)) paying) (λ s. lowest B (bucket s 0) (from 0 (suc (a / 4)))) l
     ∙ ap₂ min
-    (lowest-swap (λ s gap. plane s (planeIn 5 gap (a % 4)) (a / 4 + 4 - gap)) l paying)
-    (lowest-swap (λ s t. plane s 0 t) l (from 0 (suc (a / 4))))
+    (lowest-swap (λ s gap. bucket s (bucketIn 5 gap (a % 4)) (a / 4 + 4 - gap)) l paying)
+    (lowest-swap (λ s t. bucket s 0 t) l (from 0 (suc (a / 4))))
 
--- planes of B alone
+-- buckets of B alone
 pub found-none : (a : ℕ) → found (λ v t. B) a ≡ B
 unfolding found
 found-none a = let p = lowest-above B (λ (gap : ℕ). B) B paying (omega arith) (λ gap i. omega arith) in
     let q = lowest-above B (λ (t : ℕ). B) B (from 0 (suc (a / 4))) (omega arith) (λ t i. omega arith) in
     omega (arith, lowest-low B (λ (gap : ℕ). B) paying, lowest-low B (λ (t : ℕ). B) (from 0 (suc (a / 4))))
 
--- planes of what is a source
-found-if : (z : Bool) (plane : ℕ → ℕ → ℕ) (a : ℕ) → cond z (found plane a) B ≡ found (λ v t. cond z (plane v t) B) a
-found-if true plane a = refl
-found-if false plane a = sym (found-none a)
+-- buckets of what is a source
+found-if : (z : Bool) (bucket : ℕ → ℕ → ℕ) (a : ℕ) → cond z (found bucket a) B ≡ found (λ v t. cond z (bucket v t) B) a
+found-if true bucket a = refl
+found-if false bucket a = sym (found-none a)
 
 -- by way of all poses of a cell
 via-found : (line : List ℕ) (n poses R : ℕ) (f : Layer) (i p m a : ℕ)
@@ -215,22 +215,22 @@ via-found line n poses R f i p m a =
 
 -- by way of all sources
 pub reached-found : (line : List ℕ) (n poses R : ℕ) (f : Layer) (i q a : ℕ)
-    → reached (deckOf line n poses) R f i q a ≡ found (byPairs line (deckOf line n poses) R f i q (pairCount R)) a
-unfolding reached byPairs onePair
+    → reached (deckOf line n poses) R f i q a ≡ found (byStates line (deckOf line n poses) R f i q (stateCount R)) a
+unfolding reached byStates oneState
 reached-found line n poses R f i q a =
     let src : ℕ → Bool = isSource (deckOf line n poses) R i q in
-    let plane : ℕ → ℕ → ℕ → ℕ = λ p. byPoses line (lastAt R i p) (lastAt R (suc i) q) (f p) poses in
-    lowest-cap _ _ (from 0 (pairCount R))
-    (λ p. ap (λ (x : ℕ). min x B) (ap (λ (x : ℕ). cond (src p) x B) (via-found line n poses R f i p (lastAt R (suc i) q) a) ∙ found-if (src p) (plane p) a))
-    ∙ found-lowest (λ p v t. cond (src p) (plane p v t) B) a (from 0 (pairCount R))
+    let bucket : ℕ → ℕ → ℕ → ℕ = λ p. byPoses line (lastAt R i p) (lastAt R (suc i) q) (f p) poses in
+    lowest-cap _ _ (from 0 (stateCount R))
+    (λ p. ap (λ (x : ℕ). min x B) (ap (λ (x : ℕ). cond (src p) x B) (via-found line n poses R f i p (lastAt R (suc i) q) a) ∙ found-if (src p) (bucket p) a))
+    ∙ found-lowest (λ p v t. cond (src p) (bucket p v t) B) a (from 0 (stateCount R))
 
--- only the rows that the gaps name count: row 0 in plane 0 alone
+-- only the rows that the gaps name count: row 0 in bucket 0 alone
 pub found-ext : (P Q : ℕ → ℕ → ℕ) (a : ℕ) {rows : ℕ} → a / 4 + 4 < rows → ((v t : ℕ) → v < 9 → t < rows → v ≤ 8 * t → P v t ≡ Q v t) → found P a ≡ found Q a
 unfolding found
 found-ext P Q a {rows} h e =
     ap₂ min
-    (lowest-same (λ gap. P (planeIn 5 gap (a % 4)) (a / 4 + 4 - gap)) (λ gap. Q (planeIn 5 gap (a % 4)) (a / 4 + 4 - gap)) paying
-    (λ gap i. let l = paying-low gap i in let p = plane-low 5 gap (a % 4) (omega arith) (omega arith) in e (planeIn 5 gap (a % 4)) (a / 4 + 4 - gap) (omega arith) (omega arith) (omega arith)))
+    (lowest-same (λ gap. P (bucketIn 5 gap (a % 4)) (a / 4 + 4 - gap)) (λ gap. Q (bucketIn 5 gap (a % 4)) (a / 4 + 4 - gap)) paying
+    (λ gap i. let l = paying-low gap i in let p = bucket-low 5 gap (a % 4) (omega arith) (omega arith) in e (bucketIn 5 gap (a % 4)) (a / 4 + 4 - gap) (omega arith) (omega arith) (omega arith)))
     (lowest-same (P 0) (Q 0) (from 0 (suc (a / 4))) (λ t i. let l = in-from 0 (suc (a / 4)) i in e 0 t (omega arith) (omega arith) (omega arith)))
 
 -- nothing is found where there is nothing

@@ -1,10 +1,10 @@
--- Loops that keep the lowest, in general: one turn more, only members count, two loops in either order. Assumes nothing.
+-- Loops that keep the lowest, in general: one turn more, only members count, two loops in either order.
 use Prim.Native.Nat.{ℕ, suc, _+_, _≤_, _<_, min}
 use mathlib.Core.Path.{_≡_, refl, ap, ap₂, _∙_}
 use mathlib.Core.List.{List, [], _∷_, List·Memᴰ as In, List·Memᴰ·head as here, List·Memᴰ·tail as there}
 use native.Mathlib.Omega.{arith}
 use native.Mathlib.Numerals.{add-one}
-use Rattle.theory_row.specs.Lists.{from, in-from}
+use Rattle.lists.specs.Lists.{from, in-from}
 use Rattle.theory_pair.specs.Coded.{lowest, lowest-low, lowest-from}
 use Rattle.theory_tables.specs.Steps.{B}
 use Rattle.theory_tables.specs.Lowest.{lowest-member, lowest-above}

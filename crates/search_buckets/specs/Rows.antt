@@ -6,7 +6,7 @@ use mathlib.Core.Bool.{Bool, cond}
 use mathlib.Core.List.{List}
 use lib.ListN.{length, getD}
 use lib.Dec.{ltb, eqb}
-use Rattle.theory_row.specs.Lists.{from}
+use Rattle.lists.specs.Lists.{from}
 use Rattle.theory_pair.specs.Coded.{lowest}
 use Rattle.theory_tables.specs.Steps.{B, Deck, Layer, lastAt, isSource}
 use Rattle.search_row.specs.Words.{wordOf, variant, endIn, differIn}
@@ -16,19 +16,19 @@ use Rattle.search_buckets.specs.Gaps.{paying}
 abbrev pub inRow : ℕ → ℕ → ℕ → ℕ
 inRow r t c = cond (eqb r t) c B
 
--- the plane in which the sources at a gap are found by a target in variant v: plane 0 is that of the gaps that are free, planes 1 to 4 are those of gap 0, the
--- planes from `other` on those of the other gaps that pay
-abbrev pub planeIn : ℕ → ℕ → ℕ → ℕ
-planeIn other gap v = cond (eqb gap 0) (1 + v) (other + v)
+-- the bucket in which the sources at a gap are found by a target in variant v: bucket 0 is that of the gaps that are free, buckets 1 to 4 are those of gap 0, the
+-- buckets from `other` on those of the other gaps that pay
+abbrev pub bucketIn : ℕ → ℕ → ℕ → ℕ
+bucketIn other gap v = cond (eqb gap 0) (1 + v) (other + v)
 
--- a plane has a cost for each row; what pose a finds in the planes: in its variant's plane of a gap that pays the row of that gap, in plane 0 all rows that
+-- a bucket has a cost for each row; what pose a finds in the buckets: in its variant's bucket of a gap that pays the row of that gap, in bucket 0 all rows that
 -- end four sites or more left of it
 unfoldable pub found : (ℕ → ℕ → ℕ) → ℕ → ℕ
-found plane a = min (lowest B (λ gap. plane (planeIn 5 gap (a % 4)) (a / 4 + 4 - gap)) paying) (lowest B (plane 0) (from 0 (suc (a / 4))))
+found bucket a = min (lowest B (λ gap. bucket (bucketIn 5 gap (a % 4)) (a / 4 + 4 - gap)) paying) (lowest B (bucket 0) (from 0 (suc (a / 4))))
 
--- how many planes a target at position m needs: where all gaps that pay have one weight, planes 5 to 8 are as planes 1 to 4
-unfoldable pub planesIn : List ℕ → ℕ → ℕ
-planesIn line m = cond (eqb (wordOf line m 84) (wordOf line m 86)) 5 9
+-- how many buckets a target at position m needs: where all gaps that pay have one weight, buckets 5 to 8 are as buckets 1 to 4
+unfoldable pub bucketsIn : List ℕ → ℕ → ℕ
+bucketsIn line m = cond (eqb (wordOf line m 84) (wordOf line m 86)) 5 9
 
 -- the rows that the poses below `poses` look at
 abbrev pub rowsOf : ℕ → ℕ
@@ -40,22 +40,22 @@ rowsOf poses = (poses + 3) / 4 + 4
 unfoldable pub endRow : List ℕ → ℕ → ℕ → ℕ → ℕ
 endRow line k b m = endIn line k b + 4 - wordOf line m 64
 
--- what pose b of k pays in plane v of m: by the variant of m that the plane is for, in plane 0 nothing
+-- what pose b of k pays in bucket v of m: by the variant of m that the bucket is for, in bucket 0 nothing
 unfoldable pub payIn : List ℕ → ℕ → ℕ → ℕ → ℕ → ℕ
 payIn line k b m v =
     cond (ltb v 1) 0 (cond (ltb v 5) (wordOf line m 84 * differIn line k b m (v - 1)) (wordOf line m 86 * differIn line k b m (v - 5)))
 
--- what each variant of the cell at position k pays in each plane below `planes` of the cell at position m: 9 words for each variant, those below n of 36
-pub record Pays (line : List ℕ) (k m planes n : ℕ) (pays : List ℕ) : Type 0 where
+-- what each variant of the cell at position k pays in each bucket below `buckets` of the cell at position m: 9 words for each variant, those below n of 36
+pub record Pays (line : List ℕ) (k m buckets n : ℕ) (pays : List ℕ) : Type 0 where
   pub long : length pays ≡ 36
-  pub pay : (j : ℕ) → j < n → j % 9 < planes → getD pays j 0 ≡ payIn line k (j / 9) m (j % 9)
+  pub pay : (j : ℕ) → j < n → j % 9 < buckets → getD pays j 0 ≡ payIn line k (j / 9) m (j % 9)
 
 -- all of them, none over B
-pub record PaysLow (planes : ℕ) (pays : List ℕ) : Type 0 where
+pub record PaysLow (buckets : ℕ) (pays : List ℕ) : Type 0 where
   pub long : length pays ≡ 36
-  pub low : (j : ℕ) → j < 36 → j % 9 < planes → getD pays j 0 ≤ B
+  pub low : (j : ℕ) → j < 36 → j % 9 < buckets → getD pays j 0 ≤ B
 
--- a source of cost c in the planes
+-- a source of cost c in the buckets
 abbrev pub onePose : List ℕ → ℕ → ℕ → ℕ → ℕ → ℕ → ℕ → ℕ
 onePose line k m b c v t = inRow (endRow line k b m) t (c + payIn line k b m v)
 
@@ -63,10 +63,10 @@ onePose line k m b c v t = inRow (endRow line k b m) t (c + payIn line k b m v)
 unfoldable pub byPoses : List ℕ → ℕ → ℕ → (ℕ → ℕ) → ℕ → ℕ → ℕ → ℕ
 byPoses line k m f n v t = lowest B (λ b. onePose line k m b (f b) v t) (from 0 n)
 
--- by way of pair p of the layer f, which has i cells, if it is a source of pair q
-unfoldable pub onePair : List ℕ → Deck → ℕ → Layer → ℕ → ℕ → ℕ → ℕ → ℕ → ℕ
-onePair line D R f i q p v t = cond (isSource D R i q p) (byPoses line (lastAt R i p) (lastAt R (suc i) q) (f p) (D .poses) v t) B
+-- by way of state p of the layer f, which has i cells, if it is a source of state q
+unfoldable pub oneState : List ℕ → Deck → ℕ → Layer → ℕ → ℕ → ℕ → ℕ → ℕ → ℕ
+oneState line D R f i q p v t = cond (isSource D R i q p) (byPoses line (lastAt R i p) (lastAt R (suc i) q) (f p) (D .poses) v t) B
 
--- by way of the pairs below n
-unfoldable pub byPairs : List ℕ → Deck → ℕ → Layer → ℕ → ℕ → ℕ → ℕ → ℕ → ℕ
-byPairs line D R f i q n v t = lowest B (λ p. onePair line D R f i q p v t) (from 0 n)
+-- by way of the states below n
+unfoldable pub byStates : List ℕ → Deck → ℕ → Layer → ℕ → ℕ → ℕ → ℕ → ℕ → ℕ
+byStates line D R f i q n v t = lowest B (λ p. oneState line D R f i q p v t) (from 0 n)

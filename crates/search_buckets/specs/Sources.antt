@@ -1,4 +1,4 @@
--- Laws of what sources pay, as words, and of the planes of many sources, one more at a time. Assumes nothing.
+-- Laws of what sources pay, as words, and of the buckets of many sources, one more at a time.
 use Prim.Native.Nat.{ℕ, zero, suc, _+_, _*_, _-_, _/_, _%_, _≤_, _<_, min}
 use mathlib.Core.Path.{_≡_, refl, sym, ap, ap₂, _∙_}
 use mathlib.Core.Logic.{_⊎_, inl, inr}
@@ -11,49 +11,49 @@ use lib.Seq.{getD-set-same, getD-set-other}
 use lib.Dec.{eqb}
 use Rattle.theory_tables.specs.Steps.{B, Deck, Layer, lastAt, isSource}
 use Rattle.theory_tables.specs.Lowest.{loop-above}
-use Rattle.theory_row.specs.Lists.{from, Eq?, same, differs, eq?}
+use Rattle.lists.specs.Lists.{from, Eq?, same, differs, eq?}
 use Rattle.theory_pair.specs.Coded.{lowest, lowest-low}
 use Rattle.search_row.specs.Words.{wordOf, LineWords}
 use Rattle.search_buckets.specs.Loops.{lowest-none, lowest-more, lowest-ext}
-use Rattle.search_buckets.specs.Rows.{inRow, planesIn, endRow, payIn, Pays, PaysLow, onePose, byPoses, onePair, byPairs}
+use Rattle.search_buckets.specs.Rows.{inRow, bucketsIn, endRow, payIn, Pays, PaysLow, onePose, byPoses, oneState, byStates}
 use Rattle.search_buckets.specs.Laws.{pay-same, pay-small, pay-twin}
 
 -- ---- what is paid, as words
 
-pub pays-none : (line : List ℕ) (k m planes : ℕ) {pays : List ℕ} → length pays ≡ 36 → Pays line k m planes 0 pays
-pays-none line k m planes h = record { long = h; pay = λ j l. absurd (omega arith) }
+pub pays-none : (line : List ℕ) (k m buckets : ℕ) {pays : List ℕ} → length pays ≡ 36 → Pays line k m buckets 0 pays
+pays-none line k m buckets h = record { long = h; pay = λ j l. absurd (omega arith) }
 
--- one plane more of variant u
+-- one bucket more of variant u
 pub pays-next :
-    {line pays : List ℕ} {k m planes : ℕ} (u v x : ℕ)
-    → Pays line k m planes (u * 9 + v) pays → u < 4 → v < 9 → x ≡ payIn line k u m v
-    → Pays line k m planes (u * 9 + (v + 1)) (set pays (u * 9 + v) x)
-pays-next {line} {pays} {k} {m} {planes} u v x w h i e =
+    {line pays : List ℕ} {k m buckets : ℕ} (u v x : ℕ)
+    → Pays line k m buckets (u * 9 + v) pays → u < 4 → v < 9 → x ≡ payIn line k u m v
+    → Pays line k m buckets (u * 9 + (v + 1)) (set pays (u * 9 + v) x)
+pays-next {line} {pays} {k} {m} {buckets} u v x w h i e =
     let n = w .long in
     let j : ℕ = u * 9 + v in
     let z : j + 1 ≡ u * 9 + (v + 1) = omega arith in
     let here : x ≡ payIn line k (j / 9) m (j % 9) = e ∙ ap₂ (λ (a b : ℕ). payIn line k a m b) (omega arith) (omega arith) in
-    let r : Pays line k m planes (j + 1) (set pays j x) = record {
+    let r : Pays line k m buckets (j + 1) (set pays j x) = record {
       long = length-set pays j x ∙ n;
-      pay = below-more (λ (i : ℕ). i % 9 < planes → getD (set pays j x) i 0 ≡ payIn line k (i / 9) m (i % 9)) j
+      pay = below-more (λ (i : ℕ). i % 9 < buckets → getD (set pays j x) i 0 ≡ payIn line k (i / 9) m (i % 9)) j
           (λ i g c. getD-set-other pays j i x 0 (omega arith) ∙ w .pay i g c)
           (λ c. getD-set-same pays j x 0 (omega arith) ∙ here);
     } in
     rw z at r
 
--- the planes that are not needed count for nothing
+-- the buckets that are not needed count for nothing
 pub pays-row :
-    {line pays : List ℕ} {k m planes : ℕ} (u : ℕ)
-    → Pays line k m planes (u * 9 + planes) pays → planes ≤ 9 → Pays line k m planes (u * 9 + 9) pays
-pays-row {planes = planes} u w h = record { long = w .long; pay = λ j g c. w .pay j (omega arith) c }
+    {line pays : List ℕ} {k m buckets : ℕ} (u : ℕ)
+    → Pays line k m buckets (u * 9 + buckets) pays → buckets ≤ 9 → Pays line k m buckets (u * 9 + 9) pays
+pays-row {buckets = buckets} u w h = record { long = w .long; pay = λ j g c. w .pay j (omega arith) c }
 
-pub pays-low : {line pays : List ℕ} {k m planes : ℕ} → LineWords line → Pays line k m planes 36 pays → PaysLow planes pays
+pub pays-low : {line pays : List ℕ} {k m buckets : ℕ} → LineWords line → Pays line k m buckets 36 pays → PaysLow buckets pays
 pays-low {line} {k = k} {m = m} w p = record { long = p .long; low = λ j h c. omega (arith, p .pay j h c, pay-small line k (j / 9) m (j % 9) w) }
 
--- a source's pose in the planes, from the words of what it pays
+-- a source's pose in the buckets, from the words of what it pays
 pub pose-pays :
-    {line pays : List ℕ} {k m planes t : ℕ} (b v s x : ℕ)
-    → Pays line k m planes 36 pays → t ≡ endRow line k b m → v < planes → planes ≤ 9
+    {line pays : List ℕ} {k m buckets t : ℕ} (b v s x : ℕ)
+    → Pays line k m buckets 36 pays → t ≡ endRow line k b m → v < buckets → buckets ≤ 9
     → onePose line k m b x v s ≡ inRow t s (x + getD pays (b % 4 * 9 + v) 0)
 pose-pays {line} {pays} {k} {m} b v s x p e h g =
     let j : ℕ = b % 4 * 9 + v in
@@ -73,34 +73,34 @@ module _ (line : List ℕ) (k m : ℕ) (f : ℕ → ℕ) where
   unfolding byPoses
   poses-more n v t = lowest-more _ n
 
--- the pairs below n
+-- the states below n
 module _ (line : List ℕ) (D : Deck) (R : ℕ) (f : Layer) (i q : ℕ) where
-  pub pair-in : (p v t : ℕ) → isSource D R i q p ≡ true
-      → onePair line D R f i q p v t ≡ byPoses line (lastAt R i p) (lastAt R (suc i) q) (f p) (D .poses) v t
-  unfolding onePair
-  pair-in p v t e = ap (λ z. cond z (byPoses line (lastAt R i p) (lastAt R (suc i) q) (f p) (D .poses) v t) B) e
+  pub state-in : (p v t : ℕ) → isSource D R i q p ≡ true
+      → oneState line D R f i q p v t ≡ byPoses line (lastAt R i p) (lastAt R (suc i) q) (f p) (D .poses) v t
+  unfolding oneState
+  state-in p v t e = ap (λ z. cond z (byPoses line (lastAt R i p) (lastAt R (suc i) q) (f p) (D .poses) v t) B) e
 
-  pub pair-out : (p v t : ℕ) → isSource D R i q p ≡ false → onePair line D R f i q p v t ≡ B
-  unfolding onePair
-  pair-out p v t e = ap (λ z. cond z (byPoses line (lastAt R i p) (lastAt R (suc i) q) (f p) (D .poses) v t) B) e
+  pub state-out : (p v t : ℕ) → isSource D R i q p ≡ false → oneState line D R f i q p v t ≡ B
+  unfolding oneState
+  state-out p v t e = ap (λ z. cond z (byPoses line (lastAt R i p) (lastAt R (suc i) q) (f p) (D .poses) v t) B) e
 
-  pub pairs-none : (v t : ℕ) → byPairs line D R f i q 0 v t ≡ B
-  unfolding byPairs
-  pairs-none v t = lowest-none _
+  pub states-none : (v t : ℕ) → byStates line D R f i q 0 v t ≡ B
+  unfolding byStates
+  states-none v t = lowest-none _
 
-  pub pairs-more : (n v t : ℕ) → byPairs line D R f i q (n + 1) v t ≡ min (byPairs line D R f i q n v t) (onePair line D R f i q n v t)
-  unfolding byPairs
-  pairs-more n v t = lowest-more _ n
+  pub states-more : (n v t : ℕ) → byStates line D R f i q (n + 1) v t ≡ min (byStates line D R f i q n v t) (oneState line D R f i q n v t)
+  unfolding byStates
+  states-more n v t = lowest-more _ n
 
   -- none of them a source
-  pub pairs-away : (n v t : ℕ) → ((p : ℕ) → p < n → isSource D R i q p ≡ false) → byPairs line D R f i q n v t ≡ B
-  unfolding byPairs
-  pairs-away n v t h =
-      omega (arith, lowest-low B (λ p. onePair line D R f i q p v t) (from 0 n), loop-above B (λ p. onePair line D R f i q p v t) n B (omega arith) (λ p k. omega (arith, pair-out p v t (h p k))))
+  pub states-away : (n v t : ℕ) → ((p : ℕ) → p < n → isSource D R i q p ≡ false) → byStates line D R f i q n v t ≡ B
+  unfolding byStates
+  states-away n v t h =
+      omega (arith, lowest-low B (λ p. oneState line D R f i q p v t) (from 0 n), loop-above B (λ p. oneState line D R f i q p v t) n B (omega arith) (λ p k. omega (arith, state-out p v t (h p k))))
 
-  pub pairs-low : (n v t : ℕ) → byPairs line D R f i q n v t ≤ B
-  unfolding byPairs
-  pairs-low n v t = lowest-low B _ (from 0 n)
+  pub states-low : (n v t : ℕ) → byStates line D R f i q n v t ≤ B
+  unfolding byStates
+  states-low n v t = lowest-low B _ (from 0 n)
 
 -- ---- one weight for all gaps
 
@@ -112,30 +112,30 @@ module _ (line : List ℕ) (m : ℕ) (e : wordOf line m 84 ≡ wordOf line m 86)
   unfolding byPoses
   poses-twin k f n v t h = lowest-ext _ _ 0 n (λ b i. pose-twin k b (f b) v t h)
 
-pub pairs-twin :
+pub states-twin :
     (line : List ℕ) (D : Deck) (R : ℕ) (f : Layer) (i q n v t : ℕ) → wordOf line (lastAt R (suc i) q) 84 ≡ wordOf line (lastAt R (suc i) q) 86 → v < 4
-    → byPairs line D R f i q n (5 + v) t ≡ byPairs line D R f i q n (1 + v) t
-unfolding byPairs onePair
-pairs-twin line D R f i q n v t e h =
+    → byStates line D R f i q n (5 + v) t ≡ byStates line D R f i q n (1 + v) t
+unfolding byStates oneState
+states-twin line D R f i q n v t e h =
     lowest-ext _ _ 0 n (λ p j. ap (λ (x : ℕ). cond (isSource D R i q p) x B) (poses-twin line (lastAt R (suc i) q) e (lastAt R i p) (f p) (D .poses) v t h))
 
--- ---- how many planes
+-- ---- how many buckets
 
-pub planes-either : (line : List ℕ) (m : ℕ) → (planesIn line m ≡ 5) ⊎ (planesIn line m ≡ 9)
-unfolding planesIn
-planes-either line m = go (eqb (wordOf line m 84) (wordOf line m 86))
+pub buckets-either : (line : List ℕ) (m : ℕ) → (bucketsIn line m ≡ 5) ⊎ (bucketsIn line m ≡ 9)
+unfolding bucketsIn
+buckets-either line m = go (eqb (wordOf line m 84) (wordOf line m 86))
   where
     go : (z : Bool) → (_≡_ {A = ℕ} (cond z 5 9) 5) ⊎ (_≡_ {A = ℕ} (cond z 5 9) 9)
     go true = inl refl
     go false = inr refl
 
--- the last four of them are as the planes of the other gaps, for what is the same in planes 5 + v and 1 + v where there is one weight
-pub planes-last :
+-- the last four of them are as the buckets of the other gaps, for what is the same in buckets 5 + v and 1 + v where there is one weight
+pub buckets-last :
     (P : ℕ → ℕ) (line : List ℕ) (m v : ℕ)
     → (wordOf line m 84 ≡ wordOf line m 86 → P (5 + v) ≡ P (1 + v))
-    → P (planesIn line m - 4 + v) ≡ P (5 + v)
-unfolding planesIn
-planes-last P line m v h = go (eqb (wordOf line m 84) (wordOf line m 86)) (eq? (wordOf line m 84) (wordOf line m 86))
+    → P (bucketsIn line m - 4 + v) ≡ P (5 + v)
+unfolding bucketsIn
+buckets-last P line m v h = go (eqb (wordOf line m 84) (wordOf line m 86)) (eq? (wordOf line m 84) (wordOf line m 86))
   where
     go : (z : Bool) → Eq? (wordOf line m 84) (wordOf line m 86) z → P (cond z 5 9 - 4 + v) ≡ P (5 + v)
     go true (same e) = sym (h e)

@@ -1,11 +1,11 @@
-// The planes in which the sources of a target are gathered by their end site: which row a source counts in, what it pays in each plane, and which planes
-// are needed. Plane 0 has the sources by themselves, planes 1 to 4 with what they pay at gap 0 to each variant of the target, planes 5 to 8 with what they
+// The buckets in which the sources of a target are gathered by their end site: which row a source counts in, what it pays in each bucket, and which buckets
+// are needed. Plane 0 has the sources by themselves, buckets 1 to 4 with what they pay at gap 0 to each variant of the target, buckets 5 to 8 with what they
 // pay at the other gaps that pay.
 ghost use mathlib.Core.Path.{_≡_};
 ghost use Prim.Native.Nat.{ℕ, _+_, _*_, _≤_, _<_};
 ghost use lib.ListN.{length};
 ghost use Rattle.search_row.specs.Words.{LineWords};
-ghost use Rattle.search_buckets.specs.Rows.{rowsOf, planesIn, endRow, payIn, Pays};
+ghost use Rattle.search_buckets.specs.Rows.{rowsOf, bucketsIn, endRow, payIn, Pays};
 
 // The row in which pose b of the cell at position k counts for the cell at position m.
 pub fn end_row(line: &[u32], k: usize, b: usize, m: usize) -> usize
@@ -28,10 +28,10 @@ pub fn rows_of(poses: usize) -> usize
     (poses + 3) / 4 + 4
 }
 
-// How many planes the cell at position m needs: where all gaps that pay have one weight, those of gap 0 serve them all.
-pub fn planes_of(line: &[u32], m: usize) -> usize
+// How many buckets the cell at position m needs: where all gaps that pay have one weight, those of gap 0 serve them all.
+pub fn buckets_of(line: &[u32], m: usize) -> usize
     requires { ⌜ LineWords (now line) × (m < 64) ⌝ }
-    ensures { λ planes. ⌜ planes ≡ planesIn (now (line .entry)) m ⌝ }
+    ensures { λ buckets. ⌜ buckets ≡ bucketsIn (now (line .entry)) m ⌝ }
 {
     if line[m * 128 + 84] == line[m * 128 + 86] {
         return 5;
@@ -39,7 +39,7 @@ pub fn planes_of(line: &[u32], m: usize) -> usize
     9
 }
 
-// What variant u of the cell at position k pays in plane v of the cell at position m.
+// What variant u of the cell at position k pays in bucket v of the cell at position m.
 fn pay(line: &[u32], k: usize, u: usize, m: usize, v: usize) -> u32
     requires { ⌜ LineWords (now line) × (k < 64) × (u < 4) × (m < 64) × (v < 9) ⌝ }
     ensures { λ z. ⌜ z ≡ payIn (now (line .entry)) k u m v ⌝ }
@@ -53,26 +53,26 @@ fn pay(line: &[u32], k: usize, u: usize, m: usize, v: usize) -> u32
     line[m * 128 + 86] * search_row::differ(line, k, u, m, v - 5)
 }
 
-// What variant u pays in each of so many planes, after the variants before it.
-fn pay_row(pays: &mut [u32; 36], line: &[u32], k: usize, u: usize, m: usize, planes: usize)
-    requires { ⌜ LineWords (now line) × (k < 64) × (u < 4) × (m < 64) × (planes ≤ 9) × Pays (now line) k m planes (u * 9) (now pays) ⌝ }
-    ensures { λ _. ⌜ Pays (now (line .entry)) k m planes (u * 9 + 9) (now (pays .exit)) ⌝ }
+// What variant u pays in each of so many buckets, after the variants before it.
+fn pay_row(pays: &mut [u32; 36], line: &[u32], k: usize, u: usize, m: usize, buckets: usize)
+    requires { ⌜ LineWords (now line) × (k < 64) × (u < 4) × (m < 64) × (buckets ≤ 9) × Pays (now line) k m buckets (u * 9) (now pays) ⌝ }
+    ensures { λ _. ⌜ Pays (now (line .entry)) k m buckets (u * 9 + 9) (now (pays .exit)) ⌝ }
 {
     let mut v: usize = 0;
-    while v < planes {
+    while v < buckets {
         pays[u * 9 + v] = pay(line, k, u, m, v);
         v += 1;
     }
 }
 
-// All of them, by variant and plane.
-pub fn fill_pays(pays: &mut [u32; 36], line: &[u32], k: usize, m: usize, planes: usize)
-    requires { ⌜ LineWords (now line) × (k < 64) × (m < 64) × (planes ≤ 9) × (length (now pays) ≡ 36) ⌝ }
-    ensures { λ _. ⌜ Pays (now (line .entry)) k m planes 36 (now (pays .exit)) ⌝ }
+// All of them, by variant and bucket.
+pub fn fill_pays(pays: &mut [u32; 36], line: &[u32], k: usize, m: usize, buckets: usize)
+    requires { ⌜ LineWords (now line) × (k < 64) × (m < 64) × (buckets ≤ 9) × (length (now pays) ≡ 36) ⌝ }
+    ensures { λ _. ⌜ Pays (now (line .entry)) k m buckets 36 (now (pays .exit)) ⌝ }
 {
     let mut u: usize = 0;
     while u < 4 {
-        pay_row(pays, line, k, u, m, planes);
+        pay_row(pays, line, k, u, m, buckets);
         u += 1;
     }
 }

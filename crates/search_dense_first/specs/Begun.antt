@@ -1,4 +1,4 @@
--- A first layer in a dense block: what its loops leave, and one pair more. Assumes nothing.
+-- A first layer in a dense block: what its loops leave, and one state more.
 use Prim.Native.Nat.{ℕ, _+_, _*_, _≤_, _<_, min}
 use mathlib.Core.Path.{_≡_, _∙_}
 use mathlib.Core.List.{List}
@@ -17,7 +17,7 @@ openPose line k a = min (wordOf line k a + frontIn line k a) B
 abbrev pub afterPose : List ℕ → ℕ → ℕ → ℕ → ℕ → ℕ
 afterPose line p l k a = min (wordOf line k a + tollIn line p l k a) B
 
--- the pairs below `count` of the layer f, with so many poses, are in the block at `to`; nothing outside the block changed
+-- the states below `count` of the layer f, with so many poses, are in the block at `to`; nothing outside the block changed
 pub record Begun (f : Layer) (poses count to : ℕ) (old new : List ℕ) : Type 0 where
   pub frame : Frame to (to + 768) old new
   pub low : Low new

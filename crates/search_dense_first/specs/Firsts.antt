@@ -1,4 +1,4 @@
--- Where a pair can come first in a stretch, and where it cannot. Assumes nothing.
+-- Where a state can come first in a segment, and where it cannot.
 use Prim.Native.Nat.{ℕ, suc, _+_, _<_, min}
 use mathlib.Core.Path.{_≡_, refl, ap}
 use mathlib.Core.Bool.{Bool, true, false, _&&_, cond}
@@ -8,7 +8,7 @@ use Rattle.theory_tables.specs.Steps.{B, Deck, before, lastAt, isThere, firstAf
 use Rattle.search_row.specs.Words.{thereIn}
 use Rattle.search_row.specs.Laws.{there-size}
 
--- pair q, the last of i cells, can come first after marks m
+-- state q, the last of i cells, can come first after marks m
 abbrev pub startsAt : ℕ → ℕ → ℕ → ℕ → ℕ → Bool
 startsAt n R i m q = thereIn n R i q && eqb m (before R q)
 
@@ -32,7 +32,7 @@ module _ (D : Deck) (R q a : ℕ) where
   unfolding firstOpen
   open-away e = ap (λ t. cond t (min (D .own (lastAt R 1 q) a + D .front (lastAt R 1 q) a) B) B) e
 
--- a pair that can come first stands in the row
+-- a state that can come first stands in the row
 pub starts-size : (n R i m q : ℕ) → startsAt n R i m q ≡ true → lastAt R i q < n
 starts-size n R i m q e = there-size n R i q (one (thereIn n R i q) (eqb m (before R q)) e)
   where

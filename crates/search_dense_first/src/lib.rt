@@ -1,23 +1,23 @@
-// The first layer of a stretch with one start, dense: pair q has 64 words of a block, one for each pose.
+// The first layer of a segment with one start, dense: state q has 64 words of a block, one for each pose.
 ghost use mathlib.Core.Path.{_≡_};
 ghost use Prim.Native.Nat.{_+_, _≤_, _<_};
 ghost use lib.ListN.{length};
 ghost use Rattle.theory_row.specs.Window.{start};
-ghost use Rattle.theory_tables.specs.Steps.{pairCount, marks, firstAfter, firstOpen};
+ghost use Rattle.theory_tables.specs.Steps.{stateCount, marks, firstAfter, firstOpen};
 ghost use Rattle.search_lanes.specs.Store.{Low, Written};
-ghost use Rattle.search_row.specs.Words.{deckOf, PairWords, LineWords, Ground};
+ghost use Rattle.search_row.specs.Words.{deckOf, StateWords, LineWords, Ground};
 ghost use Rattle.search_dense_first.specs.Firsts.{startsAt};
 ghost use Rattle.search_dense_first.specs.Begun.{openPose, afterPose, Begun};
 
-// Whether pair q, the last of i cells, can come first after marks m.
-pub fn starts(pairs: &[u32], n: usize, r: usize, i: usize, m: u32, q: usize) -> bool
-    requires { ⌜ PairWords r (now pairs) × (q < pairCount r) × (i ≤ 100) ⌝ }
+// Whether state q, the last of i cells, can come first after marks m.
+pub fn starts(states: &[u32], n: usize, r: usize, i: usize, m: u32, q: usize) -> bool
+    requires { ⌜ StateWords r (now states) × (q < stateCount r) × (i ≤ 100) ⌝ }
     ensures { λ t. ⌜ t ≡ startsAt n r i m q ⌝ }
 {
-    if !search_row::is_there(pairs, n, r, i, q) {
+    if !search_row::is_there(states, n, r, i, q) {
         return false;
     }
-    m == pairs[q * 4 + 2]
+    m == states[q * 4 + 2]
 }
 
 // ---- at the row's start
@@ -36,7 +36,7 @@ pub fn start_marks(r: usize) -> u32
     7
 }
 
-// The words of a pair that can come first: the cell at position k, each pose with what it pays as the row's first.
+// The words of a state that can come first: the cell at position k, each pose with what it pays as the row's first.
 fn open_poses(store: &mut [u32], line: &[u32], at: usize, k: usize, poses: usize)
     requires { ⌜ LineWords (now line) × Low (now store) × (at + poses ≤ length (now store)) × (k < 64) × (poses ≤ 60) ⌝ }
     ensures { λ _. ⌜ Written (openPose (now (line .entry)) k) at poses (now (store .entry)) (now (store .exit)) ⌝ }
@@ -51,11 +51,11 @@ fn open_poses(store: &mut [u32], line: &[u32], at: usize, k: usize, poses: usize
     }
 }
 
-// The words of pair q.
-fn open_pair(
+// The words of state q.
+fn open_state(
     store: &mut [u32],
     line: &[u32],
-    pairs: &[u32],
+    states: &[u32],
     n: usize,
     poses: usize,
     r: usize,
@@ -63,14 +63,14 @@ fn open_pair(
     at: usize,
     q: usize,
 )
-    requires { ⌜ Ground (now line) (now pairs) r n poses count × Low (now store) × (at + poses ≤ length (now store)) × (q < count) ⌝ }
+    requires { ⌜ Ground (now line) (now states) r n poses count × Low (now store) × (at + poses ≤ length (now store)) × (q < count) ⌝ }
     ensures { λ _. ⌜ Written (firstOpen (deckOf (now (line .entry)) n poses) r q) at poses (now (store .entry)) (now (store .exit)) ⌝ }
 {
-    if !starts(pairs, n, r, 1, start_marks(r), q) {
+    if !starts(states, n, r, 1, start_marks(r), q) {
         search_lanes::fill(store, at, poses, search_lanes::NONE);
         return;
     }
-    let k = search_row::last_at(pairs, r, 1, q);
+    let k = search_row::last_at(states, r, 1, q);
     open_poses(store, line, at, k, poses);
 }
 
@@ -78,26 +78,26 @@ fn open_pair(
 pub fn open(
     store: &mut [u32],
     line: &[u32],
-    pairs: &[u32],
+    states: &[u32],
     n: usize,
     poses: usize,
     r: usize,
     count: usize,
     to: usize,
 )
-    requires { ⌜ Ground (now line) (now pairs) r n poses count × Low (now store) × (to + 768 ≤ length (now store)) ⌝ }
+    requires { ⌜ Ground (now line) (now states) r n poses count × Low (now store) × (to + 768 ≤ length (now store)) ⌝ }
     ensures { λ _. ⌜ Begun (firstOpen (deckOf (now (line .entry)) n poses) r) poses count to (now (store .entry)) (now (store .exit)) ⌝ }
 {
     let mut q: usize = 0;
     while q < count {
-        open_pair(store, line, pairs, n, poses, r, count, to + q * 64, q);
+        open_state(store, line, states, n, poses, r, count, to + q * 64, q);
         q += 1;
     }
 }
 
 // ---- after a tall cell
 
-// The words of a pair that can come first: the cell at position k, after pose l of the cell at position p.
+// The words of a state that can come first: the cell at position k, after pose l of the cell at position p.
 fn after_poses(
     store: &mut [u32],
     line: &[u32],
@@ -120,11 +120,11 @@ fn after_poses(
     }
 }
 
-// The words of pair q, after i cells with marks m.
-fn after_pair(
+// The words of state q, after i cells with marks m.
+fn after_state(
     store: &mut [u32],
     line: &[u32],
-    pairs: &[u32],
+    states: &[u32],
     n: usize,
     poses: usize,
     r: usize,
@@ -136,22 +136,22 @@ fn after_pair(
     at: usize,
     q: usize,
 )
-    requires { ⌜ Ground (now line) (now pairs) r n poses count × Low (now store) × (i ≤ 67) × (p < 64) × (l < 60) × (at + poses ≤ length (now store)) × (q < count) ⌝ }
+    requires { ⌜ Ground (now line) (now states) r n poses count × Low (now store) × (i ≤ 67) × (p < 64) × (l < 60) × (at + poses ≤ length (now store)) × (q < count) ⌝ }
     ensures { λ _. ⌜ Written (firstAfter (deckOf (now (line .entry)) n poses) r i m p l q) at poses (now (store .entry)) (now (store .exit)) ⌝ }
 {
-    if !starts(pairs, n, r, i + 1, m, q) {
+    if !starts(states, n, r, i + 1, m, q) {
         search_lanes::fill(store, at, poses, search_lanes::NONE);
         return;
     }
-    let k = search_row::last_at(pairs, r, i + 1, q);
+    let k = search_row::last_at(states, r, i + 1, q);
     after_poses(store, line, p, l, at, k, poses);
 }
 
-// The layer after the cell at position p in pose l, as pair s, the last of i placed.
+// The layer after the cell at position p in pose l, as state s, the last of i placed.
 pub fn after(
     store: &mut [u32],
     line: &[u32],
-    pairs: &[u32],
+    states: &[u32],
     n: usize,
     poses: usize,
     r: usize,
@@ -162,16 +162,16 @@ pub fn after(
     l: usize,
     to: usize,
 )
-    requires { ⌜ Ground (now line) (now pairs) r n poses count × Low (now store) × (to + 768 ≤ length (now store)) × (i ≤ 67) × (s < count) × (p < 64) × (l < 60) ⌝ }
+    requires { ⌜ Ground (now line) (now states) r n poses count × Low (now store) × (to + 768 ≤ length (now store)) × (i ≤ 67) × (s < count) × (p < 64) × (l < 60) ⌝ }
     ensures { λ _. ⌜ Begun (firstAfter (deckOf (now (line .entry)) n poses) r i (marks r s) p l) poses count to (now (store .entry)) (now (store .exit)) ⌝ }
 {
-    let m = pairs[s * 4 + 1];
+    let m = states[s * 4 + 1];
     let mut q: usize = 0;
     while q < count {
-        after_pair(
+        after_state(
             store,
             line,
-            pairs,
+            states,
             n,
             poses,
             r,

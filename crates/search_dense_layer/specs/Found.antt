@@ -1,4 +1,4 @@
--- Laws of what is found in the three arrays, and of dense layers, one pair more at a time. Assumes nothing.
+-- Laws of what is found in the three arrays, and of dense layers, one state more at a time.
 use Prim.Native.Nat.{ℕ, zero, suc, _+_, _*_, _-_, _/_, _%_, _≤_, _<_, min}
 use mathlib.Core.Path.{_≡_, refl, sym, ap, ap₂, _∙_}
 use mathlib.Core.Logic.{_≢_}
@@ -10,9 +10,9 @@ use borrow.Author.Count.{below-more}
 use lib.ListN.{length, getD, set, length-set, replicate, length-replicate, getD-replicate}
 use lib.Seq.{getD-set-same, getD-set-other}
 use lib.Dec.{eqb}
-use Rattle.theory_row.specs.Lists.{from, Eq?, same, differs, eq?}
+use Rattle.lists.specs.Lists.{from, Eq?, same, differs, eq?}
 use Rattle.theory_pair.specs.Coded.{lowest, lowest-from}
-use Rattle.theory_tables.specs.Steps.{B, Deck, pairCount, nextLayer}
+use Rattle.theory_tables.specs.Steps.{B, Deck, stateCount, nextLayer}
 use Rattle.search_lanes.specs.Store.{Low, Written}
 use Rattle.search_lanes.specs.Laws.{frame-refl, frame-join, low-set, nones-low}
 use Rattle.search_buckets.specs.Gaps.{paying}
@@ -62,39 +62,39 @@ paying-min : (h : ℕ → ℕ) → h 3 ≤ B → lowest B h paying ≡ min (h 0)
 unfolding lowest
 paying-min h l = omega arith
 
--- the words that a pose looks up, where the arrays have the planes
+-- the words that a pose looks up, where the arrays have the buckets
 pub found-words :
-    (plane : ℕ → ℕ → ℕ) (near apart far : List ℕ) (a : ℕ)
-    → ((v t : ℕ) → plane v t ≤ B)
-    → ((v t : ℕ) → v < 4 → t < 19 → getD near (t * 4 + v) 0 ≡ plane (1 + v) t)
-    → ((v t : ℕ) → v < 4 → t < 19 → getD apart (t * 4 + v) 0 ≡ plane (5 + v) t)
-    → ((t : ℕ) → t < 15 → getD far t 0 ≡ lowest B (plane 0) (from 0 (suc t)))
-    → a < 60 → foundBy near apart far (a / 4) (a % 4) ≡ found plane a
+    (bucket : ℕ → ℕ → ℕ) (near apart far : List ℕ) (a : ℕ)
+    → ((v t : ℕ) → bucket v t ≤ B)
+    → ((v t : ℕ) → v < 4 → t < 19 → getD near (t * 4 + v) 0 ≡ bucket (1 + v) t)
+    → ((v t : ℕ) → v < 4 → t < 19 → getD apart (t * 4 + v) 0 ≡ bucket (5 + v) t)
+    → ((t : ℕ) → t < 15 → getD far t 0 ≡ lowest B (bucket 0) (from 0 (suc t)))
+    → a < 60 → foundBy near apart far (a / 4) (a % 4) ≡ found bucket a
 unfolding found
-found-words plane near apart far a low n p f h =
+found-words bucket near apart far a low n p f h =
     let e : ℕ = a / 4 in
     let v : ℕ = a % 4 in
-    let x0 : plane (1 + v) (e + 4) ≡ plane (1 + v) (e + 4 - 0) = ap (plane (1 + v)) (omega arith) in
-    let x2 : plane (5 + v) (e + 2) ≡ plane (5 + v) (e + 4 - 2) = ap (plane (5 + v)) (omega arith) in
-    let x3 : plane (5 + v) (e + 1) ≡ plane (5 + v) (e + 4 - 3) = ap (plane (5 + v)) (omega arith) in
+    let x0 : bucket (1 + v) (e + 4) ≡ bucket (1 + v) (e + 4 - 0) = ap (bucket (1 + v)) (omega arith) in
+    let x2 : bucket (5 + v) (e + 2) ≡ bucket (5 + v) (e + 4 - 2) = ap (bucket (5 + v)) (omega arith) in
+    let x3 : bucket (5 + v) (e + 1) ≡ bucket (5 + v) (e + 4 - 3) = ap (bucket (5 + v)) (omega arith) in
     ap₂ min
     (ap₂ min (n v (e + 4) (omega arith) (omega arith) ∙ x0)
     (ap₂ min (p v (e + 2) (omega arith) (omega arith) ∙ x2) (p v (e + 1) (omega arith) (omega arith) ∙ x3))
-    ∙ sym (paying-min (λ gap. plane (cond (eqb gap 0) (1 + a % 4) (5 + a % 4)) (a / 4 + 4 - gap)) (low (5 + a % 4) (a / 4 + 4 - 3))))
+    ∙ sym (paying-min (λ gap. bucket (cond (eqb gap 0) (1 + a % 4) (5 + a % 4)) (a / 4 + 4 - gap)) (low (5 + a % 4) (a / 4 + 4 - 3))))
     (f (a / 4) (omega arith))
 
--- where planes 5 to 8 are
-pub other-nine : (planes : ℕ) (near apart : List ℕ) → planes ≡ 9 → otherOf planes near apart ≡ apart
-other-nine planes near apart h = go (eqb planes 9) (eq? planes 9)
+-- where buckets 5 to 8 are
+pub other-nine : (buckets : ℕ) (near apart : List ℕ) → buckets ≡ 9 → otherOf buckets near apart ≡ apart
+other-nine buckets near apart h = go (eqb buckets 9) (eq? buckets 9)
   where
-    go : (z : Bool) → Eq? planes 9 z → cond z apart near ≡ apart
+    go : (z : Bool) → Eq? buckets 9 z → cond z apart near ≡ apart
     go true (same e) = refl
     go false (differs d) = absurd (d h)
 
-pub other-five : (planes : ℕ) (near apart : List ℕ) → planes ≢ 9 → otherOf planes near apart ≡ near
-other-five planes near apart h = go (eqb planes 9) (eq? planes 9)
+pub other-five : (buckets : ℕ) (near apart : List ℕ) → buckets ≢ 9 → otherOf buckets near apart ≡ near
+other-five buckets near apart h = go (eqb buckets 9) (eq? buckets 9)
   where
-    go : (z : Bool) → Eq? planes 9 z → cond z apart near ≡ near
+    go : (z : Bool) → Eq? buckets 9 z → cond z apart near ≡ near
     go true (same e) = absurd (h e)
     go false (differs d) = refl
 
@@ -137,43 +137,43 @@ lent-twin l =
       farLow = l .farLow;
     }
 
--- what is gathered from there, once the far rows ran up, is what is found: all planes are needed, or four serve for eight
+-- what is gathered from there, once the far rows ran up, is what is found: all buckets are needed, or four serve for eight
 module _
-    {plane : ℕ → ℕ → ℕ} {planes : ℕ} {near apart far far′ : List ℕ} (low : (v t : ℕ) → plane v t ≤ B)
-    (g : ThinGathered plane planes (replicate 76 B) near (replicate 76 B) apart (replicate 19 B) far) (r : FarRunUp 15 far far′)
+    {bucket : ℕ → ℕ → ℕ} {buckets : ℕ} {near apart far far′ : List ℕ} (low : (v t : ℕ) → bucket v t ≤ B)
+    (g : ThinGathered bucket buckets (replicate 76 B) near (replicate 76 B) apart (replicate 19 B) far) (r : FarRunUp 15 far far′)
   where
-    near-words : (v t : ℕ) → v < 4 → t < 19 → getD near (t * 4 + v) 0 ≡ plane (1 + v) t
+    near-words : (v t : ℕ) → v < 4 → t < 19 → getD near (t * 4 + v) 0 ≡ bucket (1 + v) t
     near-words v t h i =
-        let e : plane (1 + (t * 4 + v) % 4) ((t * 4 + v) / 4) ≡ plane (1 + v) t = ap₂ (λ (x y : ℕ). plane (1 + x) y) (omega arith) (omega arith) in
+        let e : bucket (1 + (t * 4 + v) % 4) ((t * 4 + v) / 4) ≡ bucket (1 + v) t = ap₂ (λ (x y : ℕ). bucket (1 + x) y) (omega arith) (omega arith) in
         omega (arith, g .nearTo .done (t * 4 + v) (omega arith), getD-replicate 76 (t * 4 + v) B 0 (omega arith), e, low (1 + v) t)
 
-    apart-words : planes ≡ 9 → (v t : ℕ) → v < 4 → t < 19 → getD apart (t * 4 + v) 0 ≡ plane (5 + v) t
+    apart-words : buckets ≡ 9 → (v t : ℕ) → v < 4 → t < 19 → getD apart (t * 4 + v) 0 ≡ bucket (5 + v) t
     apart-words n v t h i =
         let j : ℕ = t * 4 + v in
-        let e : plane (5 + j % 4) (j / 4) ≡ plane (5 + v) t = ap₂ (λ (x y : ℕ). plane (5 + x) y) (omega arith) (omega arith) in
+        let e : bucket (5 + j % 4) (j / 4) ≡ bucket (5 + v) t = ap₂ (λ (x y : ℕ). bucket (5 + x) y) (omega arith) (omega arith) in
         omega (
           arith,
           g .apartTo .done j (omega arith),
           getD-replicate 76 j B 0 (omega arith),
-          apart-yes (eqb planes 9) (plane (5 + j % 4) (j / 4)) (eq? planes 9) n,
+          apart-yes (eqb buckets 9) (bucket (5 + j % 4) (j / 4)) (eq? buckets 9) n,
           e,
           low (5 + v) t,
         )
 
-    far-words : (t : ℕ) → t < 15 → getD far′ t 0 ≡ lowest B (plane 0) (from 0 (suc t))
+    far-words : (t : ℕ) → t < 15 → getD far′ t 0 ≡ lowest B (bucket 0) (from 0 (suc t))
     far-words t h =
         r .far t h
-        ∙ lowest-ext (λ s. getD far s 0) (plane 0) 0 (suc t)
+        ∙ lowest-ext (λ s. getD far s 0) (bucket 0) 0 (suc t)
         (λ s i. omega (arith, g .farTo .done s (omega arith), getD-replicate 19 s B 0 (omega arith), low 0 s))
 
     pub found-there :
-        (planes ≢ 9 → (v t : ℕ) → v < 4 → plane (5 + v) t ≡ plane (1 + v) t)
-        → (a : ℕ) → a < 60 → foundBy near (otherOf planes near apart) far′ (a / 4) (a % 4) ≡ found plane a
-    found-there e a h = go (eqb planes 9) (eq? planes 9)
+        (buckets ≢ 9 → (v t : ℕ) → v < 4 → bucket (5 + v) t ≡ bucket (1 + v) t)
+        → (a : ℕ) → a < 60 → foundBy near (otherOf buckets near apart) far′ (a / 4) (a % 4) ≡ found bucket a
+    found-there e a h = go (eqb buckets 9) (eq? buckets 9)
       where
-        go : (z : Bool) → Eq? planes 9 z → foundBy near (cond z apart near) far′ (a / 4) (a % 4) ≡ found plane a
-        go true (same n) = found-words plane near apart far′ a low near-words (apart-words n) far-words h
-        go false (differs n) = found-words plane near near far′ a low near-words (λ v t i j. near-words v t i j ∙ sym (e n v t i)) far-words h
+        go : (z : Bool) → Eq? buckets 9 z → foundBy near (cond z apart near) far′ (a / 4) (a % 4) ≡ found bucket a
+        go true (same n) = found-words bucket near apart far′ a low near-words (apart-words n) far-words h
+        go false (differs n) = found-words bucket near near far′ a low near-words (λ v t i j. near-words v t i j ∙ sym (e n v t i)) far-words h
 
 -- ---- words written
 
@@ -197,7 +197,7 @@ written-join {f} {g} {at} {n} {m} {old} {mid} {new} v w e =
 
 -- ---- a layer from the layer before
 
--- a pair's words
+-- a state's words
 pub put-words :
     {f : ℕ → ℕ} (D : Deck) (R i from q : ℕ) {n : ℕ} {old new : List ℕ}
     → Written f (from + 768 + q * 64) n old new → D .poses ≤ n → n ≤ 64 → ((a : ℕ) → a < D .poses → nextLayer D R (thinIn old from) i q a ≡ f a)
@@ -213,10 +213,10 @@ put-words D R i from q {old = old} w h k e =
 pub stepped-none : (D : Deck) (R i from : ℕ) {st : List ℕ} → Low st → Stepped D R 0 i from st st
 stepped-none D R i from {st} w = record { frame = frame-refl (from + 768) (from + 1536) st; low = w; right = λ q a h. absurd (omega arith) }
 
--- one pair more: the layer before is as it was
+-- one state more: the layer before is as it was
 pub stepped-more :
     {D : Deck} {R i from : ℕ} {old mid new : List ℕ} (q : ℕ)
-    → Stepped D R q i from old mid → Put D R i from q mid new → q < 12 → pairCount R ≤ 12 → D .poses ≤ 60
+    → Stepped D R q i from old mid → Put D R i from q mid new → q < 12 → stateCount R ≤ 12 → D .poses ≤ 60
     → Stepped D R (q + 1) i from old new
 stepped-more {D} {R} {i} {from} {old} {mid} {new} q s w h c p =
     record {

@@ -1,14 +1,14 @@
--- The layers of a stretch from one start kept in the store, dense, layer after layer from layer 1 on.
+-- The layers of a segment from one start kept in the store, dense, layer after layer from layer 1 on.
 use Prim.Native.Nat.{ℕ, _+_, _*_, _≤_, _<_}
 use mathlib.Core.Path.{_≡_}
 use mathlib.Core.List.{List}
 use lib.ListN.{length}
-use Rattle.theory_tables.specs.Steps.{Deck, Layer, pairCount, layers}
+use Rattle.theory_tables.specs.Steps.{Deck, Layer, stateCount, layers}
 use Rattle.search_lanes.specs.Store.{Frame, Low}
 use Rattle.search_row.specs.Words.{Ground}
 use Rattle.search_dense_layer.specs.Thin.{thinIn}
 
--- where layer i is kept, which has at least one cell: pair q has 64 words, one for each pose
+-- where layer i is kept, which has at least one cell: state q has 64 words, one for each pose
 abbrev pub keptAt : ℕ → ℕ
 keptAt i = 97536 + i * 768
 
@@ -17,11 +17,11 @@ keptIn st i q a = thinIn st (keptAt i) q a
 
 -- the layers from f, which has i cells, up to layer `end` are kept
 pub record KeptLayers (D : Deck) (R : ℕ) (f : Layer) (i end : ℕ) (st : List ℕ) : Type 0 where
-  pub right : (j q a : ℕ) → i + j ≤ end → q < pairCount R → a < D .poses → keptIn st (i + j) q a ≡ layers D R f i j q a
+  pub right : (j q a : ℕ) → i + j ≤ end → q < stateCount R → a < D .poses → keptIn st (i + j) q a ≡ layers D R f i j q a
 
--- what keeping a stretch is given: its first layer has i cells
-pub record Stretch (line pairs st : List ℕ) (n poses R count i end : ℕ) : Type 0 where
-  pub ground : Ground line pairs R n poses count
+-- what keeping a segment is given: its first layer has i cells
+pub record Segment (line states st : List ℕ) (n poses R count i end : ℕ) : Type 0 where
+  pub ground : Ground line states R n poses count
   pub low : Low st
   pub long : 148992 ≤ length st
   pub some : 0 < i
@@ -29,7 +29,7 @@ pub record Stretch (line pairs st : List ℕ) (n poses R count i end : ℕ) : Ty
   pub last : end ≤ 66
 
 -- what it leaves
-pub record StretchKept (D : Deck) (R i end : ℕ) (old new : List ℕ) : Type 0 where
+pub record SegmentKept (D : Deck) (R i end : ℕ) (old new : List ℕ) : Type 0 where
   pub frame : Frame 98304 148992 old new
   pub low : Low new
   pub kept : KeptLayers D R (keptIn old i) i end new

@@ -1,29 +1,29 @@
--- Laws of kept layers: one layer more, fewer layers; and that layers depend only on the entries of the first. Assumes nothing.
+-- Laws of kept layers: one layer more, fewer layers; and that layers depend only on the entries of the first.
 use Prim.Native.Nat.{ℕ, zero, suc, _+_, _*_, _≤_, _<_}
 use mathlib.Core.Path.{_≡_, refl, sym, ap, _∙_}
 use mathlib.Core.List.{List}
 use native.Mathlib.Omega.{arith}
 use native.Mathlib.Decide.{ℕ-discrete}
 use lib.ListN.{getD}
-use Rattle.theory_tables.specs.Steps.{Deck, Layer, pairCount, layers, nextLayer}
+use Rattle.theory_tables.specs.Steps.{Deck, Layer, stateCount, layers, nextLayer}
 use Rattle.search_lanes.specs.Laws.{frame-refl, frame-join}
 use Rattle.search_lanes.specs.Store.{Low}
 use Rattle.search_buckets.specs.Next.{next-ext, layers-ext}
 use Rattle.search_dense_layer.specs.Thin.{Stepped}
-use Rattle.search_dense_layer.specs.Kept.{keptAt, keptIn, KeptLayers, StretchKept}
+use Rattle.search_dense_layer.specs.Kept.{keptAt, keptIn, KeptLayers, SegmentKept}
 
 -- ---- layers from the same first layer
 
 pub kept-ext :
     {D : Deck} {R : ℕ} (f g : Layer) {i end : ℕ} {st : List ℕ}
-    → ((q b : ℕ) → q < pairCount R → b < D .poses → f q b ≡ g q b) → KeptLayers D R f i end st → KeptLayers D R g i end st
+    → ((q b : ℕ) → q < stateCount R → b < D .poses → f q b ≡ g q b) → KeptLayers D R f i end st → KeptLayers D R g i end st
 kept-ext {D} {R} f g {i} same k = record { right = λ j q a h x y. k .right j q a h x y ∙ layers-ext D R f g same i j q a x y }
 
 pub kept-fewer : {D : Deck} {R : ℕ} {f : Layer} {i m : ℕ} {st : List ℕ} (end : ℕ) → end ≤ m → KeptLayers D R f i m st → KeptLayers D R f i end st
 kept-fewer end h k = record { right = λ j q a x. k .right j q a (omega arith) }
 
-pub stretch-fewer : {D : Deck} {R i m : ℕ} {old new : List ℕ} (end : ℕ) → end ≤ m → StretchKept D R i m old new → StretchKept D R i end old new
-stretch-fewer end h s = record { frame = s .frame; low = s .low; kept = kept-fewer end h (s .kept) }
+pub segment-fewer : {D : Deck} {R i m : ℕ} {old new : List ℕ} (end : ℕ) → end ≤ m → SegmentKept D R i m old new → SegmentKept D R i end old new
+segment-fewer end h s = record { frame = s .frame; low = s .low; kept = kept-fewer end h (s .kept) }
 
 -- ---- one step more
 
@@ -33,7 +33,7 @@ unfolding layers
 layers-more D R f i j q a = let z : j + 1 ≡ suc j = omega arith in ap (λ (k : ℕ). layers D R f i k q a) z
 
 -- the first layer is there
-pub kept-none : (D : Deck) (R i : ℕ) {st : List ℕ} → Low st → StretchKept D R i (i + 0) st st
+pub kept-none : (D : Deck) (R i : ℕ) {st : List ℕ} → Low st → SegmentKept D R i (i + 0) st st
 unfolding layers
 kept-none D R i {st} w = record { frame = frame-refl _ _ st; low = w; kept = record { right = λ j q a h x y. go j q a h } }
   where
@@ -41,11 +41,11 @@ kept-none D R i {st} w = record { frame = frame-refl _ _ st; low = w; kept = rec
     go zero q a h = ap (λ (k : ℕ). getD st k 0) (omega arith)
     go (suc j) q a h = absurd (omega arith)
 
-module _ (D : Deck) (R i : ℕ) (some : 0 < i) (few : D .poses ≤ 60) (pairsFew : pairCount R ≤ 12) where
+module _ (D : Deck) (R i : ℕ) (some : 0 < i) (few : D .poses ≤ 60) (statesFew : stateCount R ≤ 12) where
   pub kept-more :
       {count from : ℕ} {old mid new : List ℕ} (j : ℕ)
-      → i + (j + 1) ≤ 66 → count ≡ pairCount R → from ≡ keptAt (i + j) → StretchKept D R i (i + j) old mid → Stepped D R count (i + j) from mid new
-      → StretchKept D R i (i + (j + 1)) old new
+      → i + (j + 1) ≤ 66 → count ≡ stateCount R → from ≡ keptAt (i + j) → SegmentKept D R i (i + j) old mid → Stepped D R count (i + j) from mid new
+      → SegmentKept D R i (i + (j + 1)) old new
   kept-more {count} {from} {old} {mid} {new} j l n e s w =
       record {
         frame = frame-join 98304 148992 (s .frame) (w .frame) (omega arith) (omega arith) (omega arith) (omega arith);
@@ -57,16 +57,16 @@ module _ (D : Deck) (R i : ℕ) (some : 0 < i) (few : D .poses ≤ 60) (pairsFew
       first = keptIn old i
 
       -- the layer before, as it is read
-      before : (q a : ℕ) → q < pairCount R → a < D .poses → getD mid (from + q * 64 + a) 0 ≡ layers D R first i j q a
+      before : (q a : ℕ) → q < stateCount R → a < D .poses → getD mid (from + q * 64 + a) 0 ≡ layers D R first i j q a
       before q a x y = ap (λ (k : ℕ). getD mid (k + q * 64 + a) 0) e ∙ s .kept .right j q a (omega arith) x y
 
-      next : (q a : ℕ) → q < pairCount R → a < D .poses → keptIn new (i + (j + 1)) q a ≡ layers D R first i (j + 1) q a
+      next : (q a : ℕ) → q < stateCount R → a < D .poses → keptIn new (i + (j + 1)) q a ≡ layers D R first i (j + 1) q a
       next q a x y =
           ap (λ (k : ℕ). getD new (k + q * 64 + a) 0) (omega arith)
           ∙ w .right q a (omega arith) y
           ∙ next-ext D R (λ q b. getD mid (from + q * 64 + b) 0) (layers D R first i j) before (i + j) q a
           ∙ sym (layers-more D R first i j q a)
 
-      kept : (k q a : ℕ) → q < pairCount R → a < D .poses → i + k ≤ i + (j + 1) → Dec (k ≡ j + 1) → keptIn new (i + k) q a ≡ layers D R first i k q a
+      kept : (k q a : ℕ) → q < stateCount R → a < D .poses → i + k ≤ i + (j + 1) → Dec (k ≡ j + 1) → keptIn new (i + k) q a ≡ layers D R first i k q a
       kept k q a x y h (yes z) = rw z (next q a x y)
       kept k q a x y h (no z) = w .frame .low (keptAt (i + k) + q * 64 + a) (omega arith) ∙ s .kept .right k q a (omega arith) x y

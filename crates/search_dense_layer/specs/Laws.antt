@@ -1,4 +1,4 @@
--- Laws of the three arrays: what one source and one more of each loop make of them. Assumes nothing.
+-- Laws of the three arrays: what one source and one more of each loop make of them.
 use Prim.Native.Nat.{ℕ, _+_, _*_, _/_, _%_, _≤_, _<_, min}
 use mathlib.Core.Path.{_≡_, refl, ap, _∙_}
 use mathlib.Core.Logic.{_≢_}
@@ -8,13 +8,13 @@ use native.Mathlib.Omega.{arith}
 use native.Mathlib.Decide.{decLt}
 use lib.ListN.{length, getD, set}
 use lib.Dec.{eqb}
-use Rattle.theory_row.specs.Lists.{from, Eq?, same, differs, eq?}
+use Rattle.lists.specs.Lists.{from, Eq?, same, differs, eq?}
 use Rattle.theory_tables.specs.Steps.{B}
 use Rattle.search_lanes.specs.Lanes.{Lowered}
 use Rattle.search_lanes.specs.Store.{Low}
 use Rattle.search_lanes.specs.Laws.{lowered-more, lowered-to, lowered-ext, lowered-join, lowered-low}
 use Rattle.search_row.specs.Words.{wordOf}
-use Rattle.search_buckets.specs.Rows.{inRow, endRow, planesIn, payIn, Pays, onePose}
+use Rattle.search_buckets.specs.Rows.{inRow, endRow, bucketsIn, payIn, Pays, onePose}
 use Rattle.search_buckets.specs.Laws.{row-hit, row-miss, pay-none}
 use Rattle.search_buckets.specs.Sources.{pose-pays}
 use Rattle.search_dense_layer.specs.Thin.{Arrays, ThinGathered, fourOf, spreadOf}
@@ -67,7 +67,7 @@ module _ (t x : ℕ) (pays : List ℕ) (p : ℕ) where
 
 -- ---- the three arrays
 
--- the planes that are needed
+-- the buckets that are needed
 pub apart-yes : (z : Bool) {n : ℕ} (x : ℕ) → Eq? n 9 z → n ≡ 9 → cond z x B ≡ x
 apart-yes true x (same e) h = refl
 apart-yes false x (differs d) h = absurd (d h)
@@ -84,9 +84,9 @@ apart-min : (z : Bool) (x y : ℕ) {s : ℕ} → s ≡ min x y → cond z s B �
 apart-min true x y h = h
 apart-min false x y h = omega arith
 
-module _ {planes : ℕ} {near near′ apart apart′ far far′ : List ℕ} where
+module _ {buckets : ℕ} {near near′ apart apart′ far far′ : List ℕ} where
   -- what was lent stays so
-  pub lent-on : {plane : ℕ → ℕ → ℕ} → Arrays near apart far → ThinGathered plane planes near near′ apart apart′ far far′ → Arrays near′ apart′ far′
+  pub lent-on : {bucket : ℕ → ℕ → ℕ} → Arrays near apart far → ThinGathered bucket buckets near near′ apart apart′ far far′ → Arrays near′ apart′ far′
   lent-on l g =
       record {
         nearLong = g .nearTo .long ∙ l .nearLong;
@@ -100,16 +100,16 @@ module _ {planes : ℕ} {near near′ apart apart′ far far′ : List ℕ} wher
   -- the same by another name
   pub gathered-ext :
       {P Q : ℕ → ℕ → ℕ}
-      → ThinGathered P planes near near′ apart apart′ far far′ → 5 ≤ planes → ((v t : ℕ) → v < planes → Q v t ≡ P v t)
-      → ThinGathered Q planes near near′ apart apart′ far far′
+      → ThinGathered P buckets near near′ apart apart′ far far′ → 5 ≤ buckets → ((v t : ℕ) → v < buckets → Q v t ≡ P v t)
+      → ThinGathered Q buckets near near′ apart apart′ far far′
   gathered-ext g h e =
       record {
         nearTo = lowered-ext (g .nearTo) (λ k p. e (1 + k % 4) (k / 4) (omega arith));
-        apartTo = lowered-ext (g .apartTo) (λ k p. apart-same (eqb planes 9) (eq? planes 9) (λ n. e (5 + k % 4) (k / 4) (omega arith)));
+        apartTo = lowered-ext (g .apartTo) (λ k p. apart-same (eqb buckets 9) (eq? buckets 9) (λ n. e (5 + k % 4) (k / 4) (omega arith)));
         farTo = lowered-ext (g .farTo) (λ k p. e 0 k (omega arith));
       }
 
--- one source, in its row of all planes that are needed
+-- one source, in its row of all buckets that are needed
 module _ (t x u : ℕ) (pays : List ℕ) where
   four : (n o : ℕ) (k : ℕ) → o ≡ u * 9 + n → spreadOf t x pays u (n + k % 4) (k / 4) ≡ fourOf t x pays o k
   four n o k e = ap (λ (i : ℕ). inRow t (k / 4) (x + getD pays i 0)) (omega arith)
@@ -120,72 +120,72 @@ module _ (t x u : ℕ) (pays : List ℕ) where
       let z : x + getD pays (u * 9 + 0) 0 ≡ x = rw y (omega arith) in
       ap (inRow t s) z
 
-  module _ {planes : ℕ} {near near′ apart apart′ far far′ : List ℕ} (free : getD pays (u * 9) 0 ≡ 0) where
+  module _ {buckets : ℕ} {near near′ apart apart′ far far′ : List ℕ} (free : getD pays (u * 9) 0 ≡ 0) where
     pub spread-nine :
         Lowered (fourOf t x pays (u * 9 + 1)) 76 near near′ → Lowered (λ s. inRow t s x) 19 far far′
-        → planes ≡ 9 → Lowered (fourOf t x pays (u * 9 + 5)) 76 apart apart′
-        → ThinGathered (spreadOf t x pays u) planes near near′ apart apart′ far far′
+        → buckets ≡ 9 → Lowered (fourOf t x pays (u * 9 + 5)) 76 apart apart′
+        → ThinGathered (spreadOf t x pays u) buckets near near′ apart apart′ far far′
     spread-nine v f n w =
         record {
           nearTo = lowered-ext v (λ k p. four 1 (u * 9 + 1) k refl);
-          apartTo = lowered-ext w (λ k p. apart-yes (eqb planes 9) (spreadOf t x pays u (5 + k % 4) (k / 4)) (eq? planes 9) n ∙ four 5 (u * 9 + 5) k refl);
+          apartTo = lowered-ext w (λ k p. apart-yes (eqb buckets 9) (spreadOf t x pays u (5 + k % 4) (k / 4)) (eq? buckets 9) n ∙ four 5 (u * 9 + 5) k refl);
           farTo = lowered-ext f (λ k p. one k free);
         }
 
     pub spread-five :
         Lowered (fourOf t x pays (u * 9 + 1)) 76 near near′ → Lowered (λ s. inRow t s x) 19 far far′
-        → planes ≢ 9 → Low apart → apart′ ≡ apart
-        → ThinGathered (spreadOf t x pays u) planes near near′ apart apart′ far far′
+        → buckets ≢ 9 → Low apart → apart′ ≡ apart
+        → ThinGathered (spreadOf t x pays u) buckets near near′ apart apart′ far far′
     spread-five v f n w e =
         record {
           nearTo = lowered-ext v (λ k p. four 1 (u * 9 + 1) k refl);
-          apartTo = rw e (lowered-to 76 w (λ k p. omega (arith, apart-no (eqb planes 9) (spreadOf t x pays u (5 + k % 4) (k / 4)) (eq? planes 9) n)));
+          apartTo = rw e (lowered-to 76 w (λ k p. omega (arith, apart-no (eqb buckets 9) (spreadOf t x pays u (5 + k % 4) (k / 4)) (eq? buckets 9) n)));
           farTo = lowered-ext f (λ k p. one k free);
         }
 
 -- no source, or none that lowers anything
 pub gathered-none :
-    {plane : ℕ → ℕ → ℕ} (planes : ℕ) {near apart far : List ℕ}
-    → Arrays near apart far → ((v t : ℕ) → t < 19 → B ≤ plane v t)
-    → ThinGathered plane planes near near apart apart far far
-gathered-none {plane} planes l h =
+    {bucket : ℕ → ℕ → ℕ} (buckets : ℕ) {near apart far : List ℕ}
+    → Arrays near apart far → ((v t : ℕ) → t < 19 → B ≤ bucket v t)
+    → ThinGathered bucket buckets near near apart apart far far
+gathered-none {bucket} buckets l h =
     record {
       nearTo = lowered-to 76 (l .nearLow) (λ k p. h (1 + k % 4) (k / 4) (omega arith));
-      apartTo = lowered-to 76 (l .apartLow) (λ k p. go (eqb planes 9) k p);
+      apartTo = lowered-to 76 (l .apartLow) (λ k p. go (eqb buckets 9) k p);
       farTo = lowered-to 19 (l .farLow) (λ k p. h 0 k p);
     }
   where
-    go : (z : Bool) (k : ℕ) → k < 76 → B ≤ cond z (plane (5 + k % 4) (k / 4)) B
+    go : (z : Bool) (k : ℕ) → k < 76 → B ≤ cond z (bucket (5 + k % 4) (k / 4)) B
     go true k p = h (5 + k % 4) (k / 4) (omega arith)
     go false k p = omega arith
 
 -- one after the other
 pub gathered-join :
-    {P Q S : ℕ → ℕ → ℕ} {planes : ℕ} {near near′ near″ apart apart′ apart″ far far′ far″ : List ℕ}
-    → ThinGathered P planes near near′ apart apart′ far far′ → ThinGathered Q planes near′ near″ apart′ apart″ far′ far″ → ((v t : ℕ) → S v t ≡ min (P v t) (Q v t))
-    → ThinGathered S planes near near″ apart apart″ far far″
-gathered-join {P} {Q} {planes = planes} p q e =
+    {P Q S : ℕ → ℕ → ℕ} {buckets : ℕ} {near near′ near″ apart apart′ apart″ far far′ far″ : List ℕ}
+    → ThinGathered P buckets near near′ apart apart′ far far′ → ThinGathered Q buckets near′ near″ apart′ apart″ far′ far″ → ((v t : ℕ) → S v t ≡ min (P v t) (Q v t))
+    → ThinGathered S buckets near near″ apart apart″ far far″
+gathered-join {P} {Q} {buckets = buckets} p q e =
     record {
       nearTo = lowered-join (p .nearTo) (q .nearTo) (λ k h. e (1 + k % 4) (k / 4));
-      apartTo = lowered-join (p .apartTo) (q .apartTo) (λ k h. apart-min (eqb planes 9) (P (5 + k % 4) (k / 4)) (Q (5 + k % 4) (k / 4)) (e (5 + k % 4) (k / 4)));
+      apartTo = lowered-join (p .apartTo) (q .apartTo) (λ k h. apart-min (eqb buckets 9) (P (5 + k % 4) (k / 4)) (Q (5 + k % 4) (k / 4)) (e (5 + k % 4) (k / 4)));
       farTo = lowered-join (p .farTo) (q .farTo) (λ k h. e 0 k);
     }
 
--- ---- how many planes
+-- ---- how many buckets
 
 module _ (line : List ℕ) (m : ℕ) where
-  pub planes-few : (5 ≤ planesIn line m) × (planesIn line m ≤ 9)
-  unfolding planesIn
-  planes-few = go (eqb (wordOf line m 84) (wordOf line m 86))
+  pub buckets-few : (5 ≤ bucketsIn line m) × (bucketsIn line m ≤ 9)
+  unfolding bucketsIn
+  buckets-few = go (eqb (wordOf line m 84) (wordOf line m 86))
     where
       go : (z : Bool) → (5 ≤ cond z 5 9) × (cond z 5 9 ≤ 9)
       go true = (omega arith, omega arith)
       go false = (omega arith, omega arith)
 
   -- fewer than 9 only where one weight serves for all gaps
-  pub planes-twin : planesIn line m ≢ 9 → wordOf line m 84 ≡ wordOf line m 86
-  unfolding planesIn
-  planes-twin n = go (eqb (wordOf line m 84) (wordOf line m 86)) (eq? (wordOf line m 84) (wordOf line m 86)) n
+  pub buckets-twin : bucketsIn line m ≢ 9 → wordOf line m 84 ≡ wordOf line m 86
+  unfolding bucketsIn
+  buckets-twin n = go (eqb (wordOf line m 84) (wordOf line m 86)) (eq? (wordOf line m 84) (wordOf line m 86)) n
     where
       go : (z : Bool) → Eq? (wordOf line m 84) (wordOf line m 86) z → _≢_ {A = ℕ} (cond z 5 9) 9 → wordOf line m 84 ≡ wordOf line m 86
       go true (same e) d = e
@@ -193,8 +193,8 @@ module _ (line : List ℕ) (m : ℕ) where
 
 -- ---- one source
 
--- it pays nothing in plane 0
-pub pays-free : {line pays : List ℕ} {k m planes : ℕ} (u : ℕ) → Pays line k m planes 36 pays → 5 ≤ planes → u < 4 → getD pays (u * 9) 0 ≡ 0
+-- it pays nothing in bucket 0
+pub pays-free : {line pays : List ℕ} {k m buckets : ℕ} (u : ℕ) → Pays line k m buckets 36 pays → 5 ≤ buckets → u < 4 → getD pays (u * 9) 0 ≡ 0
 pays-free {line} {pays} {k} {m} u p h g =
     let e : u * 9 % 9 ≡ 0 = omega arith in
     p .pay (u * 9) (omega arith) (omega arith) ∙ ap (payBy (u * 9 / 9)) e ∙ pay-none line k (u * 9 / 9) m
@@ -204,7 +204,7 @@ pays-free {line} {pays} {k} {m} u p h g =
 
 -- a pose of a source, from its words
 pub gathered-pose :
-    {line pays near near′ apart apart′ far far′ : List ℕ} {k m planes : ℕ} (b t x : ℕ)
-    → Pays line k m planes 36 pays → t ≡ endRow line k b m → 5 ≤ planes → planes ≤ 9 → ThinGathered (spreadOf t x pays (b % 4)) planes near near′ apart apart′ far far′
-    → ThinGathered (onePose line k m b x) planes near near′ apart apart′ far far′
+    {line pays near near′ apart apart′ far far′ : List ℕ} {k m buckets : ℕ} (b t x : ℕ)
+    → Pays line k m buckets 36 pays → t ≡ endRow line k b m → 5 ≤ buckets → buckets ≤ 9 → ThinGathered (spreadOf t x pays (b % 4)) buckets near near′ apart apart′ far far′
+    → ThinGathered (onePose line k m b x) buckets near near′ apart apart′ far far′
 gathered-pose b t x p e h g w = gathered-ext w h (λ v s l. pose-pays b v s x p e l g)

@@ -1,12 +1,12 @@
--- Layers of one lane, dense: a block has 768 words, 64 for each of 12 pairs, one for each pose. The sources of a target are gathered in three arrays of planes:
--- `far` has plane 0, row t at t; `near` planes 1 to 4, row t of plane 1 + v at 4 t + v; `apart` likewise planes 5 to 8, where they are needed.
+-- Layers of one lane, dense: a block has 768 words, 64 for each of 12 states, one for each pose. The sources of a target are gathered in three arrays of buckets:
+-- `far` has bucket 0, row t at t; `near` buckets 1 to 4, row t of bucket 1 + v at 4 t + v; `apart` likewise buckets 5 to 8, where they are needed.
 use Prim.Native.Nat.{ℕ, suc, _+_, _*_, _/_, _%_, _≤_, _<_, min}
 use mathlib.Core.Path.{_≡_}
 use mathlib.Core.Bool.{cond}
 use mathlib.Core.List.{List}
 use lib.ListN.{length, getD}
 use lib.Dec.{eqb}
-use Rattle.theory_row.specs.Lists.{from}
+use Rattle.lists.specs.Lists.{from}
 use Rattle.theory_pair.specs.Coded.{lowest}
 use Rattle.theory_tables.specs.Steps.{B, Deck, Layer, nextLayer}
 use Rattle.search_lanes.specs.Lanes.{Lowered}
@@ -20,12 +20,12 @@ thinIn st at q a = getD st (at + q * 64 + a) 0
 
 -- ---- the three arrays
 
--- the words of four planes, and those that are needed of the last four
+-- the words of four buckets, and those that are needed of the last four
 abbrev pub nearOf : (ℕ → ℕ → ℕ) → ℕ → ℕ
-nearOf plane j = plane (1 + j % 4) (j / 4)
+nearOf bucket j = bucket (1 + j % 4) (j / 4)
 
 abbrev pub apartOf : ℕ → (ℕ → ℕ → ℕ) → ℕ → ℕ
-apartOf planes plane j = cond (eqb planes 9) (plane (5 + j % 4) (j / 4)) B
+apartOf buckets bucket j = cond (eqb buckets 9) (bucket (5 + j % 4) (j / 4)) B
 
 -- arrays in which sources may be gathered
 pub record Arrays (near apart far : List ℕ) : Type 0 where
@@ -36,17 +36,17 @@ pub record Arrays (near apart far : List ℕ) : Type 0 where
   pub apartLow : Low apart
   pub farLow : Low far
 
--- all their words are lowered to those of other planes
-pub record ThinGathered (plane : ℕ → ℕ → ℕ) (planes : ℕ) (near near′ apart apart′ far far′ : List ℕ) : Type 0 where
-  pub nearTo : Lowered (nearOf plane) 76 near near′
-  pub apartTo : Lowered (apartOf planes plane) 76 apart apart′
-  pub farTo : Lowered (plane 0) 19 far far′
+-- all their words are lowered to those of other buckets
+pub record ThinGathered (bucket : ℕ → ℕ → ℕ) (buckets : ℕ) (near near′ apart apart′ far far′ : List ℕ) : Type 0 where
+  pub nearTo : Lowered (nearOf bucket) 76 near near′
+  pub apartTo : Lowered (apartOf buckets bucket) 76 apart apart′
+  pub farTo : Lowered (bucket 0) 19 far far′
 
--- a source of cost x in row t: what it pays in four planes, from word p of what is paid on
+-- a source of cost x in row t: what it pays in four buckets, from word p of what is paid on
 abbrev pub fourOf : ℕ → ℕ → List ℕ → ℕ → ℕ → ℕ
 fourOf t x pays p j = inRow t (j / 4) (x + getD pays (p + j % 4) 0)
 
--- the same in all planes, for variant u
+-- the same in all buckets, for variant u
 abbrev pub spreadOf : ℕ → ℕ → List ℕ → ℕ → ℕ → ℕ → ℕ
 spreadOf t x pays u v s = inRow t s (x + getD pays (u * 9 + v) 0)
 
@@ -82,9 +82,9 @@ foundBy near apart far e v =
 abbrev pub foundOf : List ℕ → List ℕ → List ℕ → List ℕ → ℕ → ℕ → ℕ
 foundOf line near apart far k a = min (wordOf line k a + foundBy near apart far (a / 4) (a % 4)) B
 
--- where planes 5 to 8 are to be found
+-- where buckets 5 to 8 are to be found
 abbrev pub otherOf : ℕ → List ℕ → List ℕ → List ℕ
-otherOf planes near apart = cond (eqb planes 9) apart near
+otherOf buckets near apart = cond (eqb buckets 9) apart near
 
 -- four poses from pose 4 e on
 abbrev pub foundFour : List ℕ → List ℕ → List ℕ → List ℕ → ℕ → ℕ → ℕ → ℕ
@@ -93,19 +93,19 @@ foundFour line near apart far k e v = foundOf line near apart far k (e * 4 + v)
 -- ---- a layer from the layer before
 
 -- a layer with i cells in the block at `at`, and room for the next
-pub record ThinGiven (line pairs st : List ℕ) (n poses R count i at : ℕ) : Type 0 where
-  pub ground : Ground line pairs R n poses count
+pub record ThinGiven (line states st : List ℕ) (n poses R count i at : ℕ) : Type 0 where
+  pub ground : Ground line states R n poses count
   pub low : Low st
   pub early : i ≤ 67
   pub room : at + 1536 ≤ length st
 
--- pair q of the next layer, in the block after
+-- state q of the next layer, in the block after
 pub record Put (D : Deck) (R i from q : ℕ) (old new : List ℕ) : Type 0 where
   pub frame : Frame (from + 768 + q * 64) (from + 768 + q * 64 + 64) old new
   pub low : Low new
   pub right : (a : ℕ) → a < D .poses → thinIn new (from + 768) q a ≡ nextLayer D R (thinIn old from) i q a
 
--- its pairs below `count`
+-- its states below `count`
 pub record Stepped (D : Deck) (R count i from : ℕ) (old new : List ℕ) : Type 0 where
   pub frame : Frame (from + 768) (from + 1536) old new
   pub low : Low new

@@ -1,5 +1,5 @@
-// Layers of one lane, dense: pair q has 64 words of a block, one for each pose. The four variants of a site stand side by side, so that four are done at
-// a time. The sources of a target are gathered by their end sites in the planes of crate planes.
+// Layers of one lane, dense: state q has 64 words of a block, one for each pose. The four variants of a site stand side by side, so that four are done at
+// a time. The sources of a target are gathered by their end sites in the buckets of crate buckets.
 ghost use mathlib.Core.Path.{_≡_};
 ghost use Prim.Native.Nat.{ℕ, suc, _+_, _*_, _/_, _≤_, _<_};
 ghost use lib.ListN.{length, getD};
@@ -8,13 +8,13 @@ ghost use Rattle.search_lanes.specs.Lanes.{Lowered};
 ghost use Rattle.search_lanes.specs.Store.{Low, Written};
 ghost use Rattle.search_row.specs.Words.{deckOf, LineWords, Ground};
 ghost use Rattle.search_buckets.specs.Next.{Target};
-ghost use Rattle.search_buckets.specs.Rows.{planesIn, Pays, PaysLow, onePose, byPoses, onePair, byPairs};
+ghost use Rattle.search_buckets.specs.Rows.{bucketsIn, Pays, PaysLow, onePose, byPoses, oneState, byStates};
 ghost use Rattle.search_dense_layer.specs.Thin.{thinIn, posesAt, fourOf, spreadOf, Arrays, ThinGathered, ThinSource, FarRunUp, foundBy, foundOf, foundFour, otherOf, ThinGiven, Put, Stepped};
-ghost use Rattle.search_dense_layer.specs.Kept.{keptAt, Stretch, StretchKept};
+ghost use Rattle.search_dense_layer.specs.Kept.{keptAt, Segment, SegmentKept};
 
 // ---- one source
 
-// A source of cost x to row t of four planes, where it pays the words from p on.
+// A source of cost x to row t of four buckets, where it pays the words from p on.
 fn lower_four(words: &mut [u32; 76], t: usize, x: u32, pays: &[u32; 36], p: usize)
     requires { ⌜ (t < 19) × (length (now words) ≡ 76) × Low (now words) × (x ≤ B) × (p + 4 ≤ 36) × (length (now pays) ≡ 36) × ((v : ℕ) → v < 4 → getD (now pays) (p + v) 0 ≤ B) ⌝ }
     ensures { λ _. ⌜ Lowered (fourOf t x (now (pays .entry)) p) 76 (now (words .entry)) (now (words .exit)) ⌝ }
@@ -26,7 +26,7 @@ fn lower_four(words: &mut [u32; 76], t: usize, x: u32, pays: &[u32; 36], p: usiz
     }
 }
 
-// The same to all planes that are needed, by its variant u.
+// The same to all buckets that are needed, by its variant u.
 fn spread(
     near: &mut [u32; 76],
     apart: &mut [u32; 76],
@@ -35,14 +35,14 @@ fn spread(
     pays: &[u32; 36],
     u: usize,
     t: usize,
-    planes: usize,
+    buckets: usize,
 )
-    requires { ⌜ Arrays (now near) (now apart) (now far) × (x ≤ B) × PaysLow planes (now pays) × (getD (now pays) (u * 9) 0 ≡ 0) × (u < 4) × (t < 19) × (5 ≤ planes) × (planes ≤ 9) ⌝ }
-    ensures { λ _. ⌜ ThinGathered (spreadOf t x (now (pays .entry)) u) planes (now (near .entry)) (now (near .exit)) (now (apart .entry)) (now (apart .exit)) (now (far .entry)) (now (far .exit)) ⌝ }
+    requires { ⌜ Arrays (now near) (now apart) (now far) × (x ≤ B) × PaysLow buckets (now pays) × (getD (now pays) (u * 9) 0 ≡ 0) × (u < 4) × (t < 19) × (5 ≤ buckets) × (buckets ≤ 9) ⌝ }
+    ensures { λ _. ⌜ ThinGathered (spreadOf t x (now (pays .entry)) u) buckets (now (near .entry)) (now (near .exit)) (now (apart .entry)) (now (apart .exit)) (now (far .entry)) (now (far .exit)) ⌝ }
 {
     far[t] = search_lanes::lesser(far[t], x);
     lower_four(near, t, x, pays, u * 9 + 1);
-    if planes == 9 {
+    if buckets == 9 {
         lower_four(apart, t, x, pays, u * 9 + 5);
         return;
     }
@@ -60,10 +60,10 @@ fn from_pose(
     k: usize,
     m: usize,
     b: usize,
-    planes: usize,
+    buckets: usize,
 )
-    requires { ⌜ Arrays (now near) (now apart) (now far) × ThinSource (now store) (now line) at k m × Pays (now line) k m planes 36 (now pays) × (b < 60) × (5 ≤ planes) × (planes ≤ 9) ⌝ }
-    ensures { λ _. ⌜ ThinGathered (onePose (now (line .entry)) k m b (posesAt (now (store .entry)) at b)) planes (now (near .entry)) (now (near .exit)) (now (apart .entry)) (now (apart .exit)) (now (far .entry)) (now (far .exit)) ⌝ }
+    requires { ⌜ Arrays (now near) (now apart) (now far) × ThinSource (now store) (now line) at k m × Pays (now line) k m buckets 36 (now pays) × (b < 60) × (5 ≤ buckets) × (buckets ≤ 9) ⌝ }
+    ensures { λ _. ⌜ ThinGathered (onePose (now (line .entry)) k m b (posesAt (now (store .entry)) at b)) buckets (now (near .entry)) (now (near .exit)) (now (apart .entry)) (now (apart .exit)) (now (far .entry)) (now (far .exit)) ⌝ }
 {
     let x = store[at + b];
     if x >= search_lanes::NONE {
@@ -73,7 +73,7 @@ fn from_pose(
     if t >= 19 {
         return;
     }
-    spread(near, apart, far, x, pays, b % 4, t, planes);
+    spread(near, apart, far, x, pays, b % 4, t, buckets);
 }
 
 // All poses of the cell at position k.
@@ -88,21 +88,21 @@ fn from_poses(
     k: usize,
     m: usize,
     poses: usize,
-    planes: usize,
+    buckets: usize,
 )
-    requires { ⌜ Arrays (now near) (now apart) (now far) × ThinSource (now store) (now line) at k m × Pays (now line) k m planes 36 (now pays) × (poses ≤ 60) × (5 ≤ planes) × (planes ≤ 9) ⌝ }
-    ensures { λ _. ⌜ ThinGathered (byPoses (now (line .entry)) k m (posesAt (now (store .entry)) at) poses) planes (now (near .entry)) (now (near .exit)) (now (apart .entry)) (now (apart .exit)) (now (far .entry)) (now (far .exit)) ⌝ }
+    requires { ⌜ Arrays (now near) (now apart) (now far) × ThinSource (now store) (now line) at k m × Pays (now line) k m buckets 36 (now pays) × (poses ≤ 60) × (5 ≤ buckets) × (buckets ≤ 9) ⌝ }
+    ensures { λ _. ⌜ ThinGathered (byPoses (now (line .entry)) k m (posesAt (now (store .entry)) at) poses) buckets (now (near .entry)) (now (near .exit)) (now (apart .entry)) (now (apart .exit)) (now (far .entry)) (now (far .exit)) ⌝ }
 {
     let mut b: usize = 0;
     while b < poses {
-        from_pose(near, apart, far, store, line, pays, at, k, m, b, planes);
+        from_pose(near, apart, far, store, line, pays, at, k, m, b, buckets);
         b += 1;
     }
 }
 
 // ---- what a pose finds
 
-// Each row of the far plane, as far as some pose looks, lowered to all rows before it.
+// Each row of the far bucket, as far as some pose looks, lowered to all rows before it.
 fn run_up(far: &mut [u32; 19])
     requires { ⌜ Low (now far) × (length (now far) ≡ 19) ⌝ }
     ensures { λ _. ⌜ FarRunUp 15 (now (far .entry)) (now (far .exit)) ⌝ }
@@ -188,7 +188,7 @@ fn put(
     }
 }
 
-// As many planes as are needed: where one weight serves for all gaps, the planes of gap 0 do for the others.
+// As many buckets as are needed: where one weight serves for all gaps, the buckets of gap 0 do for the others.
 fn put_found(
     store: &mut [u32],
     line: &[u32],
@@ -198,12 +198,12 @@ fn put_found(
     to: usize,
     k: usize,
     poses: usize,
-    planes: usize,
+    buckets: usize,
 )
     requires { ⌜ Arrays (now near) (now apart) (now far) × LineWords (now line) × Low (now store) × (to + 64 ≤ length (now store)) × (k < 64) × (poses ≤ 60) ⌝ }
-    ensures { λ _. ⌜ Written (foundOf (now (line .entry)) (now (near .entry)) (otherOf planes (now (near .entry)) (now (apart .entry))) (now (far .entry)) k) to ((poses + 3) / 4 * 4) (now (store .entry)) (now (store .exit)) ⌝ }
+    ensures { λ _. ⌜ Written (foundOf (now (line .entry)) (now (near .entry)) (otherOf buckets (now (near .entry)) (now (apart .entry))) (now (far .entry)) k) to ((poses + 3) / 4 * 4) (now (store .entry)) (now (store .exit)) ⌝ }
 {
-    if planes == 9 {
+    if buckets == 9 {
         put(store, line, near, apart, far, to, k, poses);
         return;
     }
@@ -212,14 +212,14 @@ fn put_found(
 
 // ---- one layer
 
-// Pair p of the layer with i cells, if it is a source of pair q.
+// Pair p of the layer with i cells, if it is a source of state q.
 fn from_source(
     near: &mut [u32; 76],
     apart: &mut [u32; 76],
     far: &mut [u32; 19],
     store: &[u32],
     line: &[u32],
-    pairs: &[u32],
+    states: &[u32],
     n: usize,
     poses: usize,
     r: usize,
@@ -229,19 +229,31 @@ fn from_source(
     q: usize,
     p: usize,
 )
-    requires { ⌜ Arrays (now near) (now apart) (now far) × ThinGiven (now line) (now pairs) (now store) n poses r count i from × Target n r i q × (p < count) ⌝ }
-    ensures { λ _. ⌜ ThinGathered (onePair (now (line .entry)) (deckOf (now (line .entry)) n poses) r (thinIn (now (store .entry)) from) i q p) (planesIn (now (line .entry)) (lastAt r (suc i) q)) (now (near .entry)) (now (near .exit)) (now (apart .entry)) (now (apart .exit)) (now (far .entry)) (now (far .exit)) ⌝ }
+    requires { ⌜ Arrays (now near) (now apart) (now far) × ThinGiven (now line) (now states) (now store) n poses r count i from × Target n r i q × (p < count) ⌝ }
+    ensures { λ _. ⌜ ThinGathered (oneState (now (line .entry)) (deckOf (now (line .entry)) n poses) r (thinIn (now (store .entry)) from) i q p) (bucketsIn (now (line .entry)) (lastAt r (suc i) q)) (now (near .entry)) (now (near .exit)) (now (apart .entry)) (now (apart .exit)) (now (far .entry)) (now (far .exit)) ⌝ }
 {
-    if !search_row::is_source(line, pairs, n, r, i, q, p) {
+    if !search_row::is_source(line, states, n, r, i, q, p) {
         return;
     }
-    let k = search_row::last_at(pairs, r, i, p);
-    let m = search_row::last_at(pairs, r, i + 1, q);
-    let planes = search_buckets::planes_of(line, m);
+    let k = search_row::last_at(states, r, i, p);
+    let m = search_row::last_at(states, r, i + 1, q);
+    let buckets = search_buckets::buckets_of(line, m);
     let mut pay = [0u32; 36];
-    search_buckets::fill_pays(&mut pay, line, k, m, planes);
+    search_buckets::fill_pays(&mut pay, line, k, m, buckets);
     let at = from + p * 64;
-    from_poses(near, apart, far, store, line, &pay, at, k, m, poses, planes);
+    from_poses(
+        near,
+        apart,
+        far,
+        store,
+        line,
+        &pay,
+        at,
+        k,
+        m,
+        poses,
+        buckets,
+    );
 }
 
 // Every source.
@@ -251,7 +263,7 @@ fn gather(
     far: &mut [u32; 19],
     store: &[u32],
     line: &[u32],
-    pairs: &[u32],
+    states: &[u32],
     n: usize,
     poses: usize,
     r: usize,
@@ -260,8 +272,8 @@ fn gather(
     from: usize,
     q: usize,
 )
-    requires { ⌜ Arrays (now near) (now apart) (now far) × ThinGiven (now line) (now pairs) (now store) n poses r count i from × Target n r i q ⌝ }
-    ensures { λ _. ⌜ ThinGathered (byPairs (now (line .entry)) (deckOf (now (line .entry)) n poses) r (thinIn (now (store .entry)) from) i q count) (planesIn (now (line .entry)) (lastAt r (suc i) q)) (now (near .entry)) (now (near .exit)) (now (apart .entry)) (now (apart .exit)) (now (far .entry)) (now (far .exit)) ⌝ }
+    requires { ⌜ Arrays (now near) (now apart) (now far) × ThinGiven (now line) (now states) (now store) n poses r count i from × Target n r i q ⌝ }
+    ensures { λ _. ⌜ ThinGathered (byStates (now (line .entry)) (deckOf (now (line .entry)) n poses) r (thinIn (now (store .entry)) from) i q count) (bucketsIn (now (line .entry)) (lastAt r (suc i) q)) (now (near .entry)) (now (near .exit)) (now (apart .entry)) (now (apart .exit)) (now (far .entry)) (now (far .exit)) ⌝ }
 {
     let mut p: usize = 0;
     while p < count {
@@ -271,7 +283,7 @@ fn gather(
             far,
             store,
             line,
-            pairs,
+            states,
             n,
             poses,
             r,
@@ -285,11 +297,11 @@ fn gather(
     }
 }
 
-// The words of pair q, whose cell is there: its sources gathered, then what each pose finds.
+// The words of state q, whose cell is there: its sources gathered, then what each pose finds.
 fn target_there(
     store: &mut [u32],
     line: &[u32],
-    pairs: &[u32],
+    states: &[u32],
     n: usize,
     poses: usize,
     r: usize,
@@ -298,11 +310,11 @@ fn target_there(
     from: usize,
     q: usize,
 )
-    requires { ⌜ ThinGiven (now line) (now pairs) (now store) n poses r count i from × Target n r i q ⌝ }
+    requires { ⌜ ThinGiven (now line) (now states) (now store) n poses r count i from × Target n r i q ⌝ }
     ensures { λ _. ⌜ Put (deckOf (now (line .entry)) n poses) r i from q (now (store .entry)) (now (store .exit)) ⌝ }
 {
-    let m = search_row::last_at(pairs, r, i + 1, q);
-    let planes = search_buckets::planes_of(line, m);
+    let m = search_row::last_at(states, r, i + 1, q);
+    let buckets = search_buckets::buckets_of(line, m);
     let mut near = [search_lanes::NONE; 76];
     let mut apart = [search_lanes::NONE; 76];
     let mut far = [search_lanes::NONE; 19];
@@ -312,7 +324,7 @@ fn target_there(
         &mut far,
         store,
         line,
-        pairs,
+        states,
         n,
         poses,
         r,
@@ -323,14 +335,14 @@ fn target_there(
     );
     run_up(&mut far);
     let to = from + 768 + q * 64;
-    put_found(store, line, &near, &apart, &far, to, m, poses, planes);
+    put_found(store, line, &near, &apart, &far, to, m, poses, buckets);
 }
 
-// The words of pair q: all NONE if the row has no such cell.
-fn put_pair(
+// The words of state q: all NONE if the row has no such cell.
+fn put_state(
     store: &mut [u32],
     line: &[u32],
-    pairs: &[u32],
+    states: &[u32],
     n: usize,
     poses: usize,
     r: usize,
@@ -339,21 +351,21 @@ fn put_pair(
     from: usize,
     q: usize,
 )
-    requires { ⌜ ThinGiven (now line) (now pairs) (now store) n poses r count i from × (q < count) ⌝ }
+    requires { ⌜ ThinGiven (now line) (now states) (now store) n poses r count i from × (q < count) ⌝ }
     ensures { λ _. ⌜ Put (deckOf (now (line .entry)) n poses) r i from q (now (store .entry)) (now (store .exit)) ⌝ }
 {
-    if !search_row::is_there(pairs, n, r, i + 1, q) {
+    if !search_row::is_there(states, n, r, i + 1, q) {
         search_lanes::fill(store, from + 768 + q * 64, 64, search_lanes::NONE);
         return;
     }
-    target_there(store, line, pairs, n, poses, r, count, i, from, q);
+    target_there(store, line, states, n, poses, r, count, i, from, q);
 }
 
 // The layer with one cell more than the layer at `from`, which has i, to the block after it.
 pub fn step(
     store: &mut [u32],
     line: &[u32],
-    pairs: &[u32],
+    states: &[u32],
     n: usize,
     poses: usize,
     r: usize,
@@ -361,17 +373,17 @@ pub fn step(
     i: usize,
     from: usize,
 )
-    requires { ⌜ Ground (now line) (now pairs) r n poses count × Low (now store) × (i ≤ 67) × (from + 1536 ≤ length (now store)) ⌝ }
+    requires { ⌜ Ground (now line) (now states) r n poses count × Low (now store) × (i ≤ 67) × (from + 1536 ≤ length (now store)) ⌝ }
     ensures { λ _. ⌜ Stepped (deckOf (now (line .entry)) n poses) r count i from (now (store .entry)) (now (store .exit)) ⌝ }
 {
     let mut q: usize = 0;
     while q < count {
-        put_pair(store, line, pairs, n, poses, r, count, i, from, q);
+        put_state(store, line, states, n, poses, r, count, i, from, q);
         q += 1;
     }
 }
 
-// The layers of a stretch from one start, kept one after the other: each is dense and comes from the one before.
+// The layers of a segment from one start, kept one after the other: each is dense and comes from the one before.
 
 // Where layer i is kept.
 pub fn kept_at(i: usize) -> usize
@@ -381,11 +393,11 @@ pub fn kept_at(i: usize) -> usize
     97536 + i * 768
 }
 
-// All layers of a stretch from its first, layer i, which is in its place, up to layer `end`.
-pub fn stretch_kept(
+// All layers of a segment from its first, layer i, which is in its place, up to layer `end`.
+pub fn segment_kept(
     store: &mut [u32],
     line: &[u32],
-    pairs: &[u32],
+    states: &[u32],
     n: usize,
     poses: usize,
     r: usize,
@@ -393,13 +405,13 @@ pub fn stretch_kept(
     i: usize,
     end: usize,
 )
-    requires { ⌜ Stretch (now line) (now pairs) (now store) n poses r count i end ⌝ }
-    ensures { λ _. ⌜ StretchKept (deckOf (now (line .entry)) n poses) r i end (now (store .entry)) (now (store .exit)) ⌝ }
+    requires { ⌜ Segment (now line) (now states) (now store) n poses r count i end ⌝ }
+    ensures { λ _. ⌜ SegmentKept (deckOf (now (line .entry)) n poses) r i end (now (store .entry)) (now (store .exit)) ⌝ }
 {
     let mut j: usize = 0;
     while i + j < end {
         let from = kept_at(i + j);
-        step(store, line, pairs, n, poses, r, count, i + j, from);
+        step(store, line, states, n, poses, r, count, i + j, from);
         j += 1;
     }
 }

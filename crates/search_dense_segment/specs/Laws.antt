@@ -1,4 +1,4 @@
--- Laws of the prices from a row's start: from the kept layers to the prices. Assumes nothing.
+-- Laws of the costs from a row's start: from the kept layers to the costs.
 use Prim.Native.Nat.{ℕ, suc, _+_, _*_, _-_, _≤_, _<_}
 use mathlib.Core.Path.{_≡_, refl, sym, ap, _∙_}
 use mathlib.Core.Bool.{Bool, true, false, not, _&&_, cond}
@@ -8,7 +8,7 @@ use borrow.Author.Tests.{le-leb, lt-leb, eq-eqb, ne-eqb}
 use native.Mathlib.Decide.{decLt}
 use lib.ListN.{length, getD, set}
 use lib.Dec.{leb}
-use Rattle.theory_tables.specs.Steps.{B, Deck, Layer, pairCount, offset, lastAt, layers, firstOpen, priceTo, ends, priceEnd}
+use Rattle.theory_tables.specs.Steps.{B, Deck, Layer, stateCount, offset, lastAt, layers, firstOpen, costTo, ends, costEnd}
 use Rattle.search_lanes.specs.Store.{Low, Written, Filled}
 use Rattle.search_lanes.specs.Lanes.{always}
 use Rattle.search_lanes.specs.Laws.{frame-join, written-one}
@@ -16,19 +16,19 @@ use Rattle.search_row.specs.Words.{wordOf, backIn, deckOf, thereIn}
 use Rattle.search_row.specs.Laws.{and-away, and-there}
 use Rattle.search_dense_layer.specs.Thin.{thinIn}
 use Rattle.search_dense_first.specs.Begun.{Begun}
-use Rattle.search_dense_layer.specs.Kept.{keptAt, keptIn, KeptLayers, StretchKept}
+use Rattle.search_dense_layer.specs.Kept.{keptAt, keptIn, KeptLayers, SegmentKept}
 use Rattle.search_dense_layer.specs.KeptLaws.{kept-ext}
-use Rattle.search_wide_end.specs.Ends.{leastPoses, leastPair, leastPairs}
+use Rattle.search_wide_end.specs.Ends.{leastPoses, leastState, leastStates}
 use Rattle.search_buckets.specs.Next.{ends-ext}
-use Rattle.search_wide_end.specs.Laws.{pair-in, pair-out, pairs-low, ends-gathered, price-run, price-done}
-use Rattle.search_dense_segment.specs.Opened.{comesIn, tallPrice, endPrice, OpenKept, Opened}
+use Rattle.search_wide_end.specs.Laws.{state-in, state-out, states-low, ends-gathered, cost-run, cost-done}
+use Rattle.search_dense_segment.specs.Opened.{comesIn, tallCost, endCost, OpenKept, Opened}
 
 -- ---- the layers
 
 -- the first layer, then those after it
 pub open-kept :
     (D : Deck) (R : ℕ) {count to end : ℕ} {old mid new : List ℕ}
-    → to ≡ 98304 → count ≡ pairCount R → Begun (firstOpen D R) (D .poses) count to old mid → StretchKept D R 1 end mid new
+    → to ≡ 98304 → count ≡ stateCount R → Begun (firstOpen D R) (D .poses) count to old mid → SegmentKept D R 1 end mid new
     → OpenKept D R end old new
 open-kept D R {mid = mid} e n b s =
     record {
@@ -48,17 +48,17 @@ module _ (R p : ℕ) (st : List ℕ) (l q a : ℕ) where
   pub comes-late : p + suc R < 1 + offset R q → comesIn R p st l q a ≡ B
   comes-late h = ap (λ t. cond t (keptIn st (p + suc R - offset R q) q a) B) (lt-leb (1 + offset R q) (p + suc R) h)
 
--- they stand below the prices
+-- they stand below the costs
 pub comes-kept : (R p q a l : ℕ) (old new : List ℕ) → p + suc R ≤ 66 → q < 12 → a < 64 → ((k : ℕ) → k < 148992 → getD new k 0 ≡ getD old k 0)
     → comesIn R p old l q a ≡ comesIn R p new l q a
 comes-kept R p q a l old new h g k same =
     ap (λ (x : ℕ). cond (leb (1 + offset R q) (p + suc R)) x B) (sym (same (keptAt (p + suc R - offset R q) + q * 64 + a) (omega arith)))
 
--- by the kept layers these are the prices
-comes-price : (D : Deck) (R p q a end l : ℕ) {st : List ℕ} → end ≡ p + suc R → q < pairCount R → a < D .poses → KeptLayers D R (firstOpen D R) 1 end st
-    → comesIn R p st l q a ≡ tallPrice D R p q a
-unfolding priceTo
-comes-price D R p q a end l {st} e x y k = go (decLt (p + suc R) (1 + offset R q))
+-- by the kept layers these are the costs
+comes-cost : (D : Deck) (R p q a end l : ℕ) {st : List ℕ} → end ≡ p + suc R → q < stateCount R → a < D .poses → KeptLayers D R (firstOpen D R) 1 end st
+    → comesIn R p st l q a ≡ tallCost D R p q a
+unfolding costTo
+comes-cost D R p q a end l {st} e x y k = go (decLt (p + suc R) (1 + offset R q))
   where
     go : Dec (p + suc R < 1 + offset R q)
         → comesIn R p st l q a ≡ cond (leb (1 + offset R q) (p + suc R)) (layers D R (firstOpen D R) 1 (p + suc R - offset R q - 1) q a) B
@@ -69,47 +69,47 @@ comes-price D R p q a end l {st} e x y k = go (decLt (p + suc R) (1 + offset R q
         (ap (λ (i : ℕ). keptIn st i q a) i ∙ k .right (p + suc R - offset R q - 1) q a (omega arith) x y)
 
 pub opened-to :
-    (D : Deck) (R p : ℕ) {count prices end : ℕ} {old mid new : List ℕ}
-    → end ≡ p + suc R → 148992 ≤ prices → count ≡ pairCount R → OpenKept D R end old mid → Filled (comesIn R p mid) 1 (D .poses) prices count mid new
-    → Opened (tallPrice D R p) count (D .poses) prices old new
+    (D : Deck) (R p : ℕ) {count costs end : ℕ} {old mid new : List ℕ}
+    → end ≡ p + suc R → 148992 ≤ costs → count ≡ stateCount R → OpenKept D R end old mid → Filled (comesIn R p mid) 1 (D .poses) costs count mid new
+    → Opened (tallCost D R p) count (D .poses) costs old new
 opened-to D R p {end = end} e o n k f =
     record {
       long = f .frame .long ∙ k .frame .long;
       low = f .low;
       below = λ j h g. f .frame .low j g ∙ k .frame .high j h;
       above = λ j h. f .frame .high j h ∙ k .frame .high j (omega arith);
-      right = λ q a x y. f .right q x a 0 y (omega arith) ∙ comes-price D R p q a end 0 e (omega arith) y (k .kept);
+      right = λ q a x y. f .right q x a 0 y (omega arith) ∙ comes-cost D R p q a end 0 e (omega arith) y (k .kept);
     }
 
 -- ---- to the row's end
 
--- the tests of a pair: the row does not have its cell; it is tall; it can be the last
+-- the tests of a state: the row does not have its cell; it is tall; it can be the last
 module _ (line : List ℕ) (n poses R k q : ℕ) (f : Layer) where
-  pub pair-away : thereIn n R n q ≡ false → leastPair (deckOf line n poses) R f q ≡ B
-  pair-away h = pair-out (deckOf line n poses) R f q (sym (and-away (thereIn n R n q) _ h))
+  pub state-away : thereIn n R n q ≡ false → leastState (deckOf line n poses) R f q ≡ B
+  state-away h = state-out (deckOf line n poses) R f q (sym (and-away (thereIn n R n q) _ h))
 
-  pub pair-tall : k ≡ lastAt R n q → wordOf line k 67 ≡ 1 → leastPair (deckOf line n poses) R f q ≡ B
-  pair-tall e h = pair-out (deckOf line n poses) R f q (go (thereIn n R n q) (eq-eqb (wordOf line (lastAt R n q) 67) 1 (ap (λ (k : ℕ). wordOf line k 67) (sym e) ∙ h)))
+  pub state-tall : k ≡ lastAt R n q → wordOf line k 67 ≡ 1 → leastState (deckOf line n poses) R f q ≡ B
+  state-tall e h = state-out (deckOf line n poses) R f q (go (thereIn n R n q) (eq-eqb (wordOf line (lastAt R n q) 67) 1 (ap (λ (k : ℕ). wordOf line k 67) (sym e) ∙ h)))
     where
       go : (s : Bool) {t : Bool} → t ≡ true → (s && not t) ≡ false
       go true h = ap not h
       go false h = refl
 
-  pub pair-single : k ≡ lastAt R n q → thereIn n R n q ≡ true → (wordOf line k 67 ≡ 1 → ⊥)
-      → leastPair (deckOf line n poses) R f q ≡ leastPoses (backIn line k) f q poses
-  pair-single e h z =
-      pair-in (deckOf line n poses) R f q
+  pub state-single : k ≡ lastAt R n q → thereIn n R n q ≡ true → (wordOf line k 67 ≡ 1 → ⊥)
+      → leastState (deckOf line n poses) R f q ≡ leastPoses (backIn line k) f q poses
+  state-single e h z =
+      state-in (deckOf line n poses) R f q
       (sym (and-there (thereIn n R n q) _ h) ∙ ap not (ne-eqb (wordOf line (lastAt R n q) 67) 1 (λ w. z (ap (λ (k : ℕ). wordOf line k 67) e ∙ w))))
       ∙ ap (λ (k : ℕ). leastPoses (backIn line k) f q poses) (sym e)
 
--- the least of all pairs is the least of the layer
+-- the least of all states is the least of the layer
 module _ (D : Deck) (R : ℕ) where
-  -- one word is written, and it is the price
-  opened-word : (prices x : ℕ) {old mid new : List ℕ}
-      → 148992 ≤ prices → length mid ≡ length old → ((j : ℕ) → 148992 ≤ j → getD mid j 0 ≡ getD old j 0)
-      → Written (always x) prices 1 mid new → x ≡ priceEnd D R (firstOpen D R) 1 0
-      → Opened (endPrice D R) 1 1 prices old new
-  opened-word prices x {new = new} o n same w e =
+  -- one word is written, and it is the cost
+  opened-word : (costs x : ℕ) {old mid new : List ℕ}
+      → 148992 ≤ costs → length mid ≡ length old → ((j : ℕ) → 148992 ≤ j → getD mid j 0 ≡ getD old j 0)
+      → Written (always x) costs 1 mid new → x ≡ costEnd D R (firstOpen D R) 1 0
+      → Opened (endCost D R) 1 1 costs old new
+  opened-word costs x {new = new} o n same w e =
       record {
         long = w .frame .long ∙ n;
         low = w .low;
@@ -119,22 +119,22 @@ module _ (D : Deck) (R : ℕ) where
       }
 
   -- the row has no cell
-  pub opened-none : (prices : ℕ) {st : List ℕ} → D .size ≡ 0 → 148992 ≤ prices → prices < length st → Low st
-      → Opened (endPrice D R) 1 1 prices st (set st prices 0)
-  opened-none prices z o h w =
-      opened-word prices 0 o refl (λ j g. refl) (written-one (always 0) prices 0 w h refl (omega arith)) (sym (price-done D R (firstOpen D R) 1 0 (omega arith)))
+  pub opened-none : (costs : ℕ) {st : List ℕ} → D .size ≡ 0 → 148992 ≤ costs → costs < length st → Low st
+      → Opened (endCost D R) 1 1 costs st (set st costs 0)
+  opened-none costs z o h w =
+      opened-word costs 0 o refl (λ j g. refl) (written-one (always 0) costs 0 w h refl (omega arith)) (sym (cost-done D R (firstOpen D R) 1 0 (omega arith)))
 
   -- the least of the layer with all cells
-  pub opened-end : (prices x at : ℕ) {count : ℕ} {old mid : List ℕ}
-      → 1 ≤ D .size → 148992 ≤ prices → prices < length old → count ≡ pairCount R → at ≡ keptAt (D .size)
-      → OpenKept D R (D .size) old mid → x ≡ leastPairs D R (thinIn mid at) count
-      → Opened (endPrice D R) 1 1 prices old (set mid prices x)
-  opened-end prices x at {count} {old} {mid} z o h n e k g =
-      let b = pairs-low D R (thinIn mid at) count in
+  pub opened-end : (costs x at : ℕ) {count : ℕ} {old mid : List ℕ}
+      → 1 ≤ D .size → 148992 ≤ costs → costs < length old → count ≡ stateCount R → at ≡ keptAt (D .size)
+      → OpenKept D R (D .size) old mid → x ≡ leastStates D R (thinIn mid at) count
+      → Opened (endCost D R) 1 1 costs old (set mid costs x)
+  opened-end costs x at {count} {old} {mid} z o h n e k g =
+      let b = states-low D R (thinIn mid at) count in
       let w = ends-gathered D R (thinIn mid at) {x = x} n (omega arith) in
-      opened-word prices x o (k .frame .long) (k .frame .high) (written-one (always x) prices x (k .low) (omega (arith, k .frame .long)) refl (omega arith))
+      opened-word costs x o (k .frame .long) (k .frame .high) (written-one (always x) costs x (k .low) (omega (arith, k .frame .long)) refl (omega arith))
       (let y : x ≡ ends D R (thinIn mid at) = omega arith in
-      y ∙ ends-ext D R (thinIn mid at) (layers D R (firstOpen D R) 1 (D .size - 1)) last ∙ sym (price-run D R (firstOpen D R) 1 0 z))
+      y ∙ ends-ext D R (thinIn mid at) (layers D R (firstOpen D R) 1 (D .size - 1)) last ∙ sym (cost-run D R (firstOpen D R) 1 0 z))
     where
-      last : (q a : ℕ) → q < pairCount R → a < D .poses → thinIn mid at q a ≡ layers D R (firstOpen D R) 1 (D .size - 1) q a
+      last : (q a : ℕ) → q < stateCount R → a < D .poses → thinIn mid at q a ≡ layers D R (firstOpen D R) 1 (D .size - 1) q a
       last q a u v = ap (λ (j : ℕ). getD mid j 0) (omega arith) ∙ k .kept .right (D .size - 1) q a (omega arith) u v

@@ -1,11 +1,11 @@
--- The prices from a row's start: the layer that each pair comes to a tall cell with, and what is left in the store.
+-- The costs from a row's start: the layer that each state comes to a tall cell with, and what is left in the store.
 use Prim.Native.Nat.{ℕ, suc, _+_, _-_, _≤_, _<_}
 use mathlib.Core.Path.{_≡_}
 use mathlib.Core.Bool.{cond}
 use mathlib.Core.List.{List}
 use lib.ListN.{length, getD}
 use lib.Dec.{leb}
-use Rattle.theory_tables.specs.Steps.{B, Deck, Layer, pairCount, offset, firstOpen, priceTo, priceEnd}
+use Rattle.theory_tables.specs.Steps.{B, Deck, Layer, stateCount, offset, firstOpen, costTo, costEnd}
 use Rattle.search_lanes.specs.Store.{Frame, Low, layerIn}
 use Rattle.search_dense_layer.specs.Kept.{keptIn, KeptLayers}
 
@@ -13,25 +13,25 @@ use Rattle.search_dense_layer.specs.Kept.{keptIn, KeptLayers}
 abbrev pub spreadFrom : List ℕ → ℕ → ℕ → ℕ → ℕ
 spreadFrom st from a l = getD st (from + a) 0
 
--- the words of pair q from the kept layer that it comes to the tall cell at position p with; B if it comes with no layer
+-- the words of state q from the kept layer that it comes to the tall cell at position p with; B if it comes with no layer
 abbrev pub comesIn : ℕ → ℕ → List ℕ → ℕ → Layer
 comesIn R p st l q a = cond (leb (1 + offset R q) (p + suc R)) (keptIn st (p + suc R - offset R q) q a) B
 
--- the prices to the tall cell at position p
-abbrev pub tallPrice : Deck → ℕ → ℕ → Layer
-tallPrice D R p q a = priceTo D R (firstOpen D R) 1 p q a
+-- the costs to the tall cell at position p
+abbrev pub tallCost : Deck → ℕ → ℕ → Layer
+tallCost D R p q a = costTo D R (firstOpen D R) 1 p q a
 
--- the price to the row's end, which is pair 0 and pose 0
-abbrev pub endPrice : Deck → ℕ → Layer
-endPrice D R q a = priceEnd D R (firstOpen D R) 1 0
+-- the cost to the row's end, which is state 0 and pose 0
+abbrev pub endCost : Deck → ℕ → Layer
+endCost D R q a = costEnd D R (firstOpen D R) 1 0
 
--- a store with room for prices, above the kept layers
-pub record OpenRoom (st : List ℕ) (R poses count prices : ℕ) : Type 0 where
+-- a store with room for costs, above the kept layers
+pub record OpenRoom (st : List ℕ) (R poses count costs : ℕ) : Type 0 where
   pub low : Low st
   pub few : poses ≤ 60
-  pub all : count ≡ pairCount R
-  pub over : 148992 ≤ prices
-  pub room : prices + 49152 ≤ length st
+  pub all : count ≡ stateCount R
+  pub over : 148992 ≤ costs
+  pub room : costs + 49152 ≤ length st
 
 -- the layers from the row's start are kept up to layer `end`
 pub record OpenKept (D : Deck) (R end : ℕ) (old new : List ℕ) : Type 0 where
@@ -39,10 +39,10 @@ pub record OpenKept (D : Deck) (R end : ℕ) (old new : List ℕ) : Type 0 where
   pub low : Low new
   pub kept : KeptLayers D R (firstOpen D R) 1 end new
 
--- the prices F are in lane 0 of the block at `prices`; above the kept layers nothing else is changed
-pub record Opened (F : Layer) (ends poses prices : ℕ) (old new : List ℕ) : Type 0 where
+-- the costs F are in lane 0 of the block at `costs`; above the kept layers nothing else is changed
+pub record Opened (F : Layer) (ends poses costs : ℕ) (old new : List ℕ) : Type 0 where
   pub long : length new ≡ length old
   pub low : Low new
-  pub below : (k : ℕ) → 148992 ≤ k → k < prices → getD new k 0 ≡ getD old k 0
-  pub above : (k : ℕ) → prices + 49152 ≤ k → getD new k 0 ≡ getD old k 0
-  pub right : (q a : ℕ) → q < ends → a < poses → layerIn new prices 0 q a ≡ F q a
+  pub below : (k : ℕ) → 148992 ≤ k → k < costs → getD new k 0 ≡ getD old k 0
+  pub above : (k : ℕ) → costs + 49152 ≤ k → getD new k 0 ≡ getD old k 0
+  pub right : (q a : ℕ) → q < ends → a < poses → layerIn new costs 0 q a ≡ F q a

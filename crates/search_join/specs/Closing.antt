@@ -1,4 +1,4 @@
--- Lanes closed pair by pair. Assumes nothing.
+-- Lanes closed state by state.
 use Prim.Native.Nat.{ℕ, _+_, _-_, _≤_, _<_}
 use mathlib.Core.Path.{_≡_, refl, ap, _∙_}
 use mathlib.Core.Logic.{_⊎_, inl, inr, ⊎-elim}
@@ -9,8 +9,8 @@ use lib.ListN.{getD}
 use Rattle.theory_tables.specs.Steps.{B}
 use Rattle.search_lanes.specs.Lanes.{always}
 use Rattle.search_lanes.specs.Store.{Low, Written}
-use Rattle.search_join.specs.Places.{caseAt, Slot, case-one, case-source}
-use Rattle.search_join.specs.Tables.{casesIn, sourcesIn, OnePair, PairWith, AllPairs, Closed}
+use Rattle.search_join.specs.Places.{caseAt, Slot, case-one, case-pointer}
+use Rattle.search_join.specs.Tables.{casesIn, pointersIn, OneState, StateWith, AllStates, Closed}
 use Rattle.search_join.specs.Parts.{last}
 
 -- a word that is none of those written is as it was
@@ -24,7 +24,7 @@ written-away {at = at} {n} {old} {new} k w away = go (decLt k at) (decLt k (at +
     go (no h) (no g) = w .frame .high k (omega arith)
 
 module _ (I low high : ℕ) where
-  -- no pair
+  -- no state
   pub closed-none : {P : ℕ → ℕ → Type 0} {st : List ℕ} → Low st → ((q₀ q₁ : ℕ) → P q₀ q₁ → ⊥) → Closed I low high P st st
   closed-none w away =
       record {
@@ -34,10 +34,10 @@ module _ (I low high : ℕ) where
         none = λ q₀ q₁ l p h g. absurd (away q₀ q₁ p);
       }
 
-  -- one pair
+  -- one state
   pub closed-one : (p₀ p₁ at : ℕ) {old new : List ℕ} → I ≤ 25 → p₀ < 12 → p₁ < 12 → low ≤ high → high ≤ 64 → at ≡ caseAt I p₀ p₁
-      → Written (always B) (at + low) (high - low) old new → Closed I low high (OnePair p₀ p₁) old new
-  unfolding casesIn sourcesIn
+      → Written (always B) (at + low) (high - low) old new → Closed I low high (OneState p₀ p₁) old new
+  unfolding casesIn pointersIn
   closed-one p₀ p₁ at {new = new} b h g m n e w =
       record {
         long = w .frame .long;
@@ -48,13 +48,13 @@ module _ (I low high : ℕ) where
                   (λ j k d.
                   let i = case-one J q₀ q₁ a I p₀ p₁ (low + j) s (b, h, g, omega arith) (omega arith) in
                   away (i .0) (i .1, i .2) (omega (arith, i .3)));
-              source = written-away _ w (λ j k d. case-source I p₀ p₁ (low + j) J q₀ q₁ a (b, h, g, omega arith) s (omega arith));
+              source = written-away _ w (λ j k d. case-pointer I p₀ p₁ (low + j) J q₀ q₁ a (b, h, g, omega arith) s (omega arith));
             };
         none = λ q₀ q₁ l p i j.
             ap (λ (k : ℕ). getD new k 0) (omega arith) ∙ w .words (l - low) (omega arith);
       }
 
-  -- the pairs P, then the pairs Q: together the pairs R
+  -- the states P, then the states Q: together the states R
   module _ (P Q R : ℕ → ℕ → Type 0) {x y z : List ℕ} (b : I ≤ 25) (m : high ≤ 64)
       (room : (q₀ q₁ : ℕ) → R q₀ q₁ → (q₀ < 12) × (q₁ < 12))
       (either : (q₀ q₁ : ℕ) → R q₀ q₁ → (P q₀ q₁ × (Q q₀ q₁ → ⊥)) ⊎ Q q₀ q₁)
@@ -78,21 +78,21 @@ module _ (I low high : ℕ) where
                 (either q₀ q₁ r);
           }
 
-  -- one pair of row 1 more
+  -- one state of row 1 more
   pub closed-more : (p₀ m : ℕ) {x y z : List ℕ} → I ≤ 25 → high ≤ 64 → p₀ < 12 → m < 12
-      → Closed I low high (PairWith p₀ m) x y → Closed I low high (OnePair p₀ m) y z → Closed I low high (PairWith p₀ (m + 1)) x z
+      → Closed I low high (StateWith p₀ m) x y → Closed I low high (OneState p₀ m) y z → Closed I low high (StateWith p₀ (m + 1)) x z
   closed-more p₀ m b n h g =
-      closed-then (PairWith p₀ m) (OnePair p₀ m) (PairWith p₀ (m + 1)) b n
+      closed-then (StateWith p₀ m) (OneState p₀ m) (StateWith p₀ (m + 1)) b n
       (λ q₀ q₁ r. (omega arith, omega arith))
       (λ q₀ q₁ r. ⊎-elim (λ l. inl ((r .0, l), λ d. omega arith)) (λ e. inr (r .0, e)) (last q₁ m (r .1)))
       (λ q₀ q₁ d. (d .0, omega arith))
       (λ q₀ q₁ d. (d .0, omega arith))
 
-  -- one pair of row 0 more
+  -- one state of row 0 more
   pub closed-next : (k m : ℕ) {x y z : List ℕ} → I ≤ 25 → high ≤ 64 → k < 12 → m ≤ 12
-      → Closed I low high (AllPairs k m) x y → Closed I low high (PairWith k m) y z → Closed I low high (AllPairs (k + 1) m) x z
+      → Closed I low high (AllStates k m) x y → Closed I low high (StateWith k m) y z → Closed I low high (AllStates (k + 1) m) x z
   closed-next k m b n h g =
-      closed-then (AllPairs k m) (PairWith k m) (AllPairs (k + 1) m) b n
+      closed-then (AllStates k m) (StateWith k m) (AllStates (k + 1) m) b n
       (λ q₀ q₁ r. (omega arith, omega arith))
       (λ q₀ q₁ r. ⊎-elim (λ l. inl ((l, r .1), λ d. omega arith)) (λ e. inr (e, r .1)) (last q₀ k (r .0)))
       (λ q₀ q₁ d. (omega arith, d .1))

@@ -1,13 +1,13 @@
 -- Laws of loops that keep the least: one round more, where the least is, the least of costs that are equal below B; and when a number is the least of all ways to
--- a case. Assumes nothing.
+-- a case.
 use Prim.Native.Nat.{ℕ, zero, suc, _+_, _/_, _%_, _≤_, _<_, min}
 use mathlib.Core.Path.{_≡_, refl, sym, _∙_}
 use mathlib.Core.Logic.{⊎-elim}
 use native.Mathlib.Omega.{arith}
 use native.Mathlib.Decide.{decLt}
-use Rattle.theory_row.specs.Lists.{from}
+use Rattle.lists.specs.Lists.{from}
 use Rattle.theory_pair.specs.Coded.{lowest, lowest-from, lowest-low}
-use Rattle.theory_tables.specs.Steps.{B, Cases, Prices, joinPose, nextCases}
+use Rattle.theory_tables.specs.Steps.{B, Cases, SegmentCosts, joinPose, nextCases}
 use Rattle.theory_tables.specs.Lowest.{loop-member, loop-above}
 use Rattle.search_join.specs.Tables.{Better, Least, Way}
 
@@ -66,8 +66,8 @@ least-met {value = value} b w h = let l : value < B = omega (arith, w .right, h)
 
 -- ---- the least of all ways to a case
 
-module _ (starts lanes : ℕ) (f : Cases) (x₀ x₁ : Prices) (q₀ q₁ a : ℕ) where
-  -- the cost by way of the pairs s and t and lane l
+module _ (starts lanes : ℕ) (f : Cases) (x₀ x₁ : SegmentCosts) (q₀ q₁ a : ℕ) where
+  -- the cost by way of the states s and t and lane l
   abbrev pub cost : ℕ → ℕ → ℕ → ℕ
   cost s t l = f s t l + (x₀ s l q₀ a + x₁ t l q₁ a)
 
@@ -99,18 +99,18 @@ module _ (starts lanes : ℕ) (f : Cases) (x₀ x₁ : Prices) (q₀ q₁ a : �
       go : Dec (v < B) → v ≡ nextCases starts lanes f x₀ x₁ q₀ q₁ a
       go (yes h) =
           let w = met h in
-          omega (arith, next-above v b all, w .sum, next-below (code / 768) (code % 768 / 64) (code % 64) (w .pair₀) (w .pair₁) (w .lane))
+          omega (arith, next-above v b all, w .sum, next-below (code / 768) (code % 768 / 64) (code % 64) (w .state₀) (w .state₁) (w .lane))
       go (no h) = omega (arith, next-above v b all, next-low)
 
 -- lanes in which no case is below B do not count: the least over more lanes is the least over the poses
-module _ (starts lanes poses : ℕ) (f : Cases) (x₀ x₁ : Prices) (q₀ q₁ a : ℕ)
+module _ (starts lanes poses : ℕ) (f : Cases) (x₀ x₁ : SegmentCosts) (q₀ q₁ a : ℕ)
     (more : poses ≤ lanes) (none : (s t l : ℕ) → s < starts → t < starts → poses ≤ l → l < lanes → B ≤ f s t l) where
   way-open : {value code : ℕ} → value < B → Way starts lanes f x₀ x₁ q₀ q₁ a value code → Way starts poses f x₀ x₁ q₀ q₁ a value code
-  way-open {code = code} b w = record { pair₀ = w .pair₀; pair₁ = w .pair₁; lane = go (decLt (code % 64) poses); sum = w .sum }
+  way-open {code = code} b w = record { state₀ = w .state₀; state₁ = w .state₁; lane = go (decLt (code % 64) poses); sum = w .sum }
     where
       go : Dec (code % 64 < poses) → code % 64 < poses
       go (yes h) = h
-      go (no h) = absurd (omega (arith, w .sum, none (code / 768) (code % 768 / 64) (code % 64) (w .pair₀) (w .pair₁) (omega arith) (w .lane)))
+      go (no h) = absurd (omega (arith, w .sum, none (code / 768) (code % 768 / 64) (code % 64) (w .state₀) (w .state₁) (omega arith) (w .lane)))
 
   pub least-open : {value code : ℕ} → Least (nextCases starts lanes f x₀ x₁ q₀ q₁ a) (Way starts lanes f x₀ x₁ q₀ q₁ a) value code
       → Least (nextCases starts poses f x₀ x₁ q₀ q₁ a) (Way starts poses f x₀ x₁ q₀ q₁ a) value code

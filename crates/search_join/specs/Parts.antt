@@ -1,4 +1,4 @@
--- Tables written part by part: one case, the cases before it, and what is read in the meantime. Assumes nothing.
+-- Tables written part by part: one case, the cases before it, and what is read in the meantime.
 use Prim.Native.Nat.{ℕ, suc, _+_, _/_, _%_, _≤_, _<_, min}
 use mathlib.Core.Path.{_≡_, refl, sym, ap, _∙_}
 use mathlib.Core.Logic.{_⊎_, inl, inr, ⊎-elim}
@@ -8,14 +8,14 @@ use native.Mathlib.Omega.{arith}
 use native.Mathlib.Decide.{decLt}
 use lib.ListN.{length, getD, set, length-set}
 use lib.Seq.{getD-set-same, getD-set-other}
-use Rattle.theory_tables.specs.Steps.{B, Cases, Prices, joinPose, nextCases}
+use Rattle.theory_tables.specs.Steps.{B, Cases, SegmentCosts, joinPose, nextCases}
 use Rattle.search_lanes.specs.Store.{Low}
 use Rattle.search_lanes.specs.Laws.{low-set}
-use Rattle.search_join.specs.Places.{caseAt, sourceAt, Pages, Slot, case-one, case-source, case-room, case-beside}
+use Rattle.search_join.specs.Places.{caseAt, pointerAt, Pages, Slot, case-one, case-pointer, case-room, case-beside}
 use Rattle.search_join.specs.Tables.{
   casesIn,
-  sourcesIn,
-  pricesIn,
+  pointersIn,
+  costsIn,
   SameCase,
   Table,
   Least,
@@ -35,7 +35,7 @@ use Rattle.search_join.specs.SumLaws.{summed-ext}
 
 -- ---- a table depends on the ways below B alone
 
-module _ (starts lanes : ℕ) (f g : Cases) (x₀ x₁ y₀ y₁ : Prices) (q₀ q₁ a : ℕ)
+module _ (starts lanes : ℕ) (f g : Cases) (x₀ x₁ y₀ y₁ : SegmentCosts) (q₀ q₁ a : ℕ)
     (same : (s t l : ℕ) → s < starts → t < starts → l < lanes
     → min (f s t l + (x₀ s l q₀ a + x₁ t l q₁ a)) B ≡ min (g s t l + (y₀ s l q₀ a + y₁ t l q₁ a)) B) where
   pub next-ext : nextCases starts lanes f x₀ x₁ q₀ q₁ a ≡ nextCases starts lanes g y₀ y₁ q₀ q₁ a
@@ -47,10 +47,10 @@ module _ (starts lanes : ℕ) (f g : Cases) (x₀ x₁ y₀ y₁ : Prices) (q₀
   pub way-ext : {value code : ℕ} → value < B → Way starts lanes f x₀ x₁ q₀ q₁ a value code → Way starts lanes g y₀ y₁ q₀ q₁ a value code
   way-ext {code = code} b w =
       record {
-        pair₀ = w .pair₀;
-        pair₁ = w .pair₁;
+        state₀ = w .state₀;
+        state₁ = w .state₁;
         lane = w .lane;
-        sum = omega (arith, w .sum, same (code / 768) (code % 768 / 64) (code % 64) (w .pair₀) (w .pair₁) (w .lane));
+        sum = omega (arith, w .sum, same (code / 768) (code % 768 / 64) (code % 64) (w .state₀) (w .state₁) (w .lane));
       }
 
   pub least-ext : {value code : ℕ} → Least (nextCases starts lanes f x₀ x₁ q₀ q₁ a) (Way starts lanes f x₀ x₁ q₀ q₁ a) value code
@@ -71,11 +71,11 @@ module _ (starts lanes I : ℕ) where
   -- what a part leaves as it was, if its cases are in the map
   module _ (P : ℕ → ℕ → ℕ → Type 0) {x y : List ℕ} (b : I ≤ 24) (room : (q₀ q₁ a : ℕ) → P q₀ q₁ a → (q₀ < 12) × (q₁ < 12) × (a < 64)) (p : Part starts lanes I P x y) where
     pub kept-case : (J q₀ q₁ a : ℕ) → Slot J q₀ q₁ a → (J ≡ suc I → P q₀ q₁ a → ⊥) → SameCase J q₀ q₁ a x y
-    unfolding casesIn sourcesIn
+    unfolding casesIn pointersIn
     kept-case j q₀ q₁ a h away =
         record {
-          case = p .kept _ (λ p₀ p₁ c r. (λ e. same p₀ p₁ c r e, λ e. case-source j q₀ q₁ a (suc I) p₀ p₁ c h (slot p₀ p₁ c r) e));
-          source = p .kept _ (λ p₀ p₁ c r. (λ e. case-source (suc I) p₀ p₁ c j q₀ q₁ a (slot p₀ p₁ c r) h (sym e), λ e. same p₀ p₁ c r (omega arith)));
+          case = p .kept _ (λ p₀ p₁ c r. (λ e. same p₀ p₁ c r e, λ e. case-pointer j q₀ q₁ a (suc I) p₀ p₁ c h (slot p₀ p₁ c r) e));
+          source = p .kept _ (λ p₀ p₁ c r. (λ e. case-pointer (suc I) p₀ p₁ c j q₀ q₁ a (slot p₀ p₁ c r) h (sym e), λ e. same p₀ p₁ c r (omega arith)));
         }
       where
         slot : (p₀ p₁ c : ℕ) → P p₀ p₁ c → Slot (suc I) p₀ p₁ c
@@ -84,9 +84,9 @@ module _ (starts lanes I : ℕ) where
         same : (p₀ p₁ c : ℕ) → P p₀ p₁ c → caseAt j q₀ q₁ + a ≡ caseAt (suc I) p₀ p₁ + c → ⊥
         same p₀ p₁ c r e = let d = case-one j q₀ q₁ a (suc I) p₀ p₁ c h (slot p₀ p₁ c r) e in away (d .0) (rw (d .1, d .2, d .3) r)
 
-    pub kept-price : (row s l q a : ℕ) → row ≤ 1 → l < 64 → q < 12 → a < 64 → pricesIn y row s l q a ≡ pricesIn x row s l q a
-    unfolding pricesIn
-    kept-price row s l q a h k i g =
+    pub kept-cost : (row s l q a : ℕ) → row ≤ 1 → l < 64 → q < 12 → a < 64 → costsIn y row s l q a ≡ costsIn x row s l q a
+    unfolding costsIn
+    kept-cost row s l q a h k i g =
         p .kept _
         (λ p₀ p₁ c r.
         let m = room p₀ p₁ c r in
@@ -95,14 +95,14 @@ module _ (starts lanes I : ℕ) where
 
   -- what is read is as before
   pub table-part : {P : ℕ → ℕ → ℕ → Type 0} {x y : List ℕ} → Table starts lanes I x → Part starts lanes I P x y → Table starts lanes I y
-  table-part t p = record { pairs = t .pairs; few = t .few; stage = t .stage; long = omega (arith, t .long, p .long); low = p .low }
+  table-part t p = record { states = t .states; few = t .few; stage = t .stage; long = omega (arith, t .long, p .long); low = p .low }
 
   pub summed-part : (P : ℕ → ℕ → ℕ → Type 0) {x y sums : List ℕ} {live : Bool} (q₀ a : ℕ) → Table starts lanes I x
       → ((q₀ q₁ a : ℕ) → P q₀ q₁ a → (q₀ < 12) × (q₁ < 12) × (a < 64)) → Part starts lanes I P x y → q₀ < 12 → a < 64
       → Summed starts lanes I x q₀ a sums live → Summed starts lanes I y q₀ a sums live
   unfolding startSum
   summed-part P {y = y} q₀ a t room p h g w =
-      let u = t .pairs in
+      let u = t .states in
       let v = t .few in
       let r = t .stage in
       summed-ext starts lanes I _ q₀ a y w
@@ -110,7 +110,7 @@ module _ (starts lanes I : ℕ) where
       omega (
         arith,
         kept-case P r room p I s t l (omega arith, omega arith, omega arith, omega arith) (λ e. omega arith) .case,
-        kept-price P r room p 0 s l q₀ a (omega arith) (omega arith) h g,
+        kept-cost P r room p 0 s l q₀ a (omega arith) (omega arith) h g,
       ))
 
   -- no case
@@ -128,7 +128,7 @@ module _ (starts lanes I : ℕ) where
       pub part-then : Part starts lanes I P x y → Part starts lanes I Q y z → Part starts lanes I R x z
       part-then p q =
           let b : I ≤ 24 = t .stage in
-          let u = t .pairs in
+          let u = t .states in
           let v = t .few in
           let roomP : (q₀ q₁ a : ℕ) → P q₀ q₁ a → (q₀ < 12) × (q₁ < 12) × (a < 64) = λ q₀ q₁ a m. room q₀ q₁ a (first q₀ q₁ a m) in
           let roomQ : (q₀ q₁ a : ℕ) → Q q₀ q₁ a → (q₀ < 12) × (q₁ < 12) × (a < 64) = λ q₀ q₁ a m. room q₀ q₁ a (second q₀ q₁ a m) in
@@ -144,8 +144,8 @@ module _ (starts lanes I : ℕ) where
                 least-ext starts lanes _ _ _ _ _ _ q₀ q₁ a
                 (λ s t l h g k.
                 let c = kept-case P b roomP p I s t l (omega arith, omega arith, omega arith, omega arith) (λ e. omega arith) .case in
-                let d = kept-price P b roomP p 0 s l q₀ a (omega arith) (omega arith) (i .0) (i .2) in
-                let e = kept-price P b roomP p 1 t l q₁ a (omega arith) (omega arith) (i .1) (i .2) in
+                let d = kept-cost P b roomP p 0 s l q₀ a (omega arith) (omega arith) (i .0) (i .2) in
+                let e = kept-cost P b roomP p 1 t l q₁ a (omega arith) (omega arith) (i .1) (i .2) in
                 rw (c, d, e) refl)
                 (q .done q₀ q₁ a m))
                 (either q₀ q₁ a r);
@@ -153,10 +153,10 @@ module _ (starts lanes I : ℕ) where
 
   -- one case, with its source
   pub part-put : (p₀ p₁ b at to v c : ℕ) (st : List ℕ)
-      → Table starts lanes I st → Pages (p₀ + 1) st → p₀ < 12 → p₁ < 12 → b < 64 → at ≡ caseAt (suc I) p₀ p₁ + b → to ≡ sourceAt (suc I) p₀ p₁ + b
+      → Table starts lanes I st → Pages (p₀ + 1) st → p₀ < 12 → p₁ < 12 → b < 64 → at ≡ caseAt (suc I) p₀ p₁ + b → to ≡ pointerAt (suc I) p₀ p₁ + b
       → Least (nextIn starts lanes I st p₀ p₁ b) (WayIn starts lanes I st p₀ p₁ b) v c
       → Part starts lanes I (OneCase p₀ p₁ b) st (set (set st at v) to c)
-  unfolding casesIn sourcesIn
+  unfolding casesIn pointersIn
   part-put p₀ p₁ b at to v c st t p f h g e d w =
       let r = t .stage in
       let y = set st at v in
@@ -164,7 +164,7 @@ module _ (starts lanes I : ℕ) where
       let long = case-room (suc I) p₀ p₁ b st (omega arith, f, h, g) p in
       record {
         long = length-set y to c ∙ n;
-        low = low-set to c (low-set at v (t .low) (omega arith) (omega (arith, w .right, next-low starts lanes (casesIn st I) (pricesIn st 0) (pricesIn st 1) p₀ p₁ b))) (omega arith) (omega (arith, w .small));
+        low = low-set to c (low-set at v (t .low) (omega arith) (omega (arith, w .right, next-low starts lanes (casesIn st I) (costsIn st 0) (costsIn st 1) p₀ p₁ b))) (omega arith) (omega (arith, w .small));
         kept = λ k away.
             let u = away p₀ p₁ b (refl, refl, refl) in
             getD-set-other y to k c 0 (λ z. u .1 (z ∙ d)) ∙ getD-set-other st at k v 0 (λ z. u .0 (z ∙ e));
@@ -174,7 +174,7 @@ module _ (starts lanes I : ℕ) where
             rw (m .0, m .1, m .2, sym e, sym d, d₀, d₁) w;
       }
 
-  -- one pair of row 1 more
+  -- one state of row 1 more
   pub pose-more : (p₀ m b : ℕ) {x y z : List ℕ} → Table starts lanes I x → p₀ < 12 → m < 12 → b < 64
       → Part starts lanes I (PoseCases p₀ m b) x y → Part starts lanes I (OneCase p₀ m b) y z → Part starts lanes I (PoseCases p₀ (m + 1) b) x z
   pose-more p₀ m b t h g k =
@@ -194,7 +194,7 @@ module _ (starts lanes I : ℕ) where
       (λ q₀ q₁ a d. (d .0, d .1, omega arith))
       (λ q₀ q₁ a d. (d .0, d .1, omega arith))
 
-  -- one pair of row 0 more
+  -- one state of row 0 more
   pub stage-more : (k m n : ℕ) {x y z : List ℕ} → Table starts lanes I x → k < 12 → m ≤ 12 → n ≤ 64
       → Part starts lanes I (StageCases k m n) x y → Part starts lanes I (BlockCases k m n) y z → Part starts lanes I (StageCases (k + 1) m n) x z
   stage-more k m n t h g j =

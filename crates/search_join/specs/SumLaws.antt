@@ -1,4 +1,4 @@
--- Laws of the sums: one lane more, one start pair more, a start pair without any way; and a case from them. Assumes nothing.
+-- Laws of the sums: one lane more, one start state more, a start state without any way; and a case from them.
 use Prim.Native.Nat.{ℕ, _+_, _*_, _/_, _%_, _≤_, _<_, min}
 use mathlib.Core.Path.{_≡_, sym, ap, _∙_}
 use mathlib.Core.List.{List}
@@ -7,47 +7,47 @@ use native.Mathlib.Omega.{arith}
 use native.Mathlib.Decide.{ℕ-discrete}
 use lib.ListN.{getD, set, length-set}
 use lib.Seq.{getD-set-same, getD-set-other}
-use Rattle.theory_row.specs.Lists.{from}
+use Rattle.lists.specs.Lists.{from}
 use Rattle.theory_pair.specs.Coded.{lowest, lowest-low}
 use Rattle.theory_tables.specs.Steps.{B}
 use Rattle.theory_tables.specs.Lowest.{loop-member}
 use Rattle.search_lanes.specs.Lanes.{always}
 use Rattle.search_lanes.specs.Store.{Written}
 use Rattle.search_lanes.specs.Laws.{low-set}
-use Rattle.search_join.specs.Places.{caseAt, pricesAt}
-use Rattle.search_join.specs.Tables.{casesIn, pricesIn, Table, Least, MetAt, SumAt, WayIn, nextIn}
+use Rattle.search_join.specs.Places.{caseAt, costsAt}
+use Rattle.search_join.specs.Tables.{casesIn, costsIn, Table, Least, MetAt, SumAt, WayIn, nextIn}
 use Rattle.search_join.specs.Sums.{startSum, laneSum, endSum, Room, Sums, Nones, Summed}
 use Rattle.search_join.specs.Laws.{lowest-zero, lowest-more, lowest-same, lowest-at, next-is}
 
--- the prices are there for other lanes, whatever the table
+-- the costs are there for other lanes, whatever the table
 pub table-for : {starts lanes I : ℕ} {st : List ℕ} (l i : ℕ) → Table starts lanes I st → l ≤ 64 → i ≤ 24 → Table starts l i st
-table-for l i t h g = record { pairs = t .pairs; few = h; stage = g; long = t .long; low = t .low }
+table-for l i t h g = record { states = t .states; few = h; stage = g; long = t .long; low = t .low }
 
 -- ---- the words of a sum
 
 pub start-words : (I : ℕ) (st : List ℕ) (q₀ a s t l at p₀ : ℕ)
-    → at ≡ caseAt I s t → p₀ ≡ pricesAt 0 s + q₀ * 4096 + a * 64
+    → at ≡ caseAt I s t → p₀ ≡ costsAt 0 s + q₀ * 4096 + a * 64
     → getD st (at + l) 0 + getD st (p₀ + l) 0 ≡ startSum I st q₀ a t l s
-unfolding startSum casesIn pricesIn
+unfolding startSum casesIn costsIn
 start-words I st q₀ a s t l at p₀ e d =
     let w : (i j : ℕ) → i ≡ j → getD st i 0 ≡ getD st j 0 = λ i j h. ap (λ (k : ℕ). getD st k 0) h in
-    omega (arith, w (at + l) (caseAt I s t + l) (omega arith), w (p₀ + l) (pricesAt 0 s + q₀ * 4096 + a * 64 + l) (omega arith))
+    omega (arith, w (at + l) (caseAt I s t + l) (omega arith), w (p₀ + l) (costsAt 0 s + q₀ * 4096 + a * 64 + l) (omega arith))
 
--- a start pair without any way to q₀ in pose a
-pub start-none : (I : ℕ) (st : List ℕ) (q₀ a s t l p₀ : ℕ) → p₀ ≡ pricesAt 0 s + q₀ * 4096 + a * 64 → B ≤ getD st (p₀ + l) 0 → B ≤ startSum I st q₀ a t l s
-unfolding startSum casesIn pricesIn
+-- a start state without any way to q₀ in pose a
+pub start-none : (I : ℕ) (st : List ℕ) (q₀ a s t l p₀ : ℕ) → p₀ ≡ costsAt 0 s + q₀ * 4096 + a * 64 → B ≤ getD st (p₀ + l) 0 → B ≤ startSum I st q₀ a t l s
+unfolding startSum casesIn costsIn
 start-none I st q₀ a s t l p₀ e h =
-    let w : getD st (p₀ + l) 0 ≡ getD st (pricesAt 0 s + q₀ * 4096 + a * 64 + l) 0 = ap (λ (k : ℕ). getD st k 0) (omega arith) in
+    let w : getD st (p₀ + l) 0 ≡ getD st (costsAt 0 s + q₀ * 4096 + a * 64 + l) 0 = ap (λ (k : ℕ). getD st k 0) (omega arith) in
     omega arith
 
 -- ---- the sums, one after the other
 
 module _ (starts lanes I : ℕ) (st : List ℕ) (q₀ a : ℕ) where
-  -- over no start pair at all
+  -- over no start state at all
   pub sums-none : {sums : List ℕ} → Room sums → Nones starts lanes sums → Sums starts lanes I st q₀ a 0 0 sums
   sums-none r w = record { room = r; upTo = λ t l h g k. absurd (omega arith); before = λ t l h g k. w t l h g ∙ sym (lowest-zero _) }
 
-  -- one lane more of pair t
+  -- one lane more of state t
   pub sums-lane : {sums : List ℕ} (s t l v : ℕ) → Sums starts lanes I st q₀ a s (t * 64 + l) sums → starts ≤ 12 → lanes ≤ 64 → t < starts → l < lanes
       → v ≡ min (getD sums (t * 64 + l) 0) (startSum I st q₀ a t l s)
       → Sums starts lanes I st q₀ a s (t * 64 + (l + 1)) (set sums (t * 64 + l) v)
@@ -89,7 +89,7 @@ module _ (starts lanes I : ℕ) (st : List ℕ) (q₀ a : ℕ) where
         before = λ t l h g z. w .before t l h g (omega arith);
       }
 
-  -- one start pair more
+  -- one start state more
   pub sums-next : {sums : List ℕ} (s k : ℕ) → Sums starts lanes I st q₀ a s k sums
       → ((t l : ℕ) → t < starts → l < lanes → t * 64 + l < k)
       → Sums starts lanes I st q₀ a (s + 1) 0 sums
@@ -126,7 +126,7 @@ module _ (starts lanes I : ℕ) (st : List ℕ) (q₀ a : ℕ) where
         dead = w .dead;
       }
 
--- the sums of no start pair are all NONE
+-- the sums of no start state are all NONE
 pub sums-filled : (starts lanes I : ℕ) (st : List ℕ) (q₀ a : ℕ) {n : ℕ} {old new : List ℕ} → Room old → Written (always B) 0 n old new → starts * 64 ≤ n → lanes ≤ 64
     → Sums starts lanes I st q₀ a 0 0 new × Nones starts lanes new
 sums-filled starts lanes I st q₀ a {new = new} r w h b =
@@ -136,8 +136,8 @@ sums-filled starts lanes I st q₀ a {new = new} r w h b =
 
 -- ---- a case from the sums
 
--- the least over the lanes of pair t, with t for its code
-pub end-met : (starts lanes : ℕ) (sums st : List ℕ) (q₁ a t p₁ : ℕ) {v : ℕ} → t < starts → starts ≤ 12 → p₁ ≡ pricesAt 1 t + q₁ * 4096 + a * 64
+-- the least over the lanes of state t, with t for its code
+pub end-met : (starts lanes : ℕ) (sums st : List ℕ) (q₁ a t p₁ : ℕ) {v : ℕ} → t < starts → starts ≤ 12 → p₁ ≡ costsAt 1 t + q₁ * 4096 + a * 64
     → v ≡ lowest B (laneSum sums (t * 64) st p₁) (from 0 lanes)
     → Least (endSum lanes sums st q₁ a t) (MetAt (endSum lanes sums st q₁ a) starts) v t
 unfolding endSum
@@ -160,31 +160,31 @@ module _ (starts lanes I : ℕ) (st : List ℕ) (q₀ q₁ a : ℕ) {sums : List
       (λ h. absurd (omega arith))
       (omega arith)
 
-  -- the least of the sums with row 1's prices is at most every way
+  -- the least of the sums with row 1's costs is at most every way
   pub case-below : (v : ℕ) → v ≡ lowest B (endSum lanes sums st q₁ a) (from 0 starts)
-      → (s t l : ℕ) → s < starts → t < starts → l < lanes → v ≤ casesIn st I s t l + (pricesIn st 0 s l q₀ a + pricesIn st 1 t l q₁ a)
-  unfolding startSum endSum laneSum pricesIn
+      → (s t l : ℕ) → s < starts → t < starts → l < lanes → v ≤ casesIn st I s t l + (costsIn st 0 s l q₀ a + costsIn st 1 t l q₁ a)
+  unfolding startSum endSum laneSum costsIn
   case-below v e s t l h g k =
       omega (
         arith,
         loop-member B (endSum lanes sums st q₁ a) starts t g,
-        loop-member B (laneSum sums (t * 64) st (pricesAt 1 t + q₁ * 4096 + a * 64)) lanes l k,
+        loop-member B (laneSum sums (t * 64) st (costsAt 1 t + q₁ * 4096 + a * 64)) lanes l k,
         sum-below s t l h g k,
       )
 
-  -- a lane that has the least of pair t
-  pub lane-met : (v t p₁ lane : ℕ) → v < B → endSum lanes sums st q₁ a t ≡ v → p₁ ≡ pricesAt 1 t + q₁ * 4096 + a * 64
+  -- a lane that has the least of state t
+  pub lane-met : (v t p₁ lane : ℕ) → v < B → endSum lanes sums st q₁ a t ≡ v → p₁ ≡ costsAt 1 t + q₁ * 4096 + a * 64
       → SumAt (laneSum sums (t * 64) st p₁) lanes v lane
-      → (lane < lanes) × (v ≡ getD sums (t * 64 + lane) 0 + pricesIn st 1 t lane q₁ a)
-  unfolding endSum laneSum pricesIn
+      → (lane < lanes) × (v ≡ getD sums (t * 64 + lane) 0 + costsIn st 1 t lane q₁ a)
+  unfolding endSum laneSum costsIn
   lane-met v t p₁ lane b e d found =
-      let p = pricesAt 1 t + q₁ * 4096 + a * 64 in
+      let p = costsAt 1 t + q₁ * 4096 + a * 64 in
       let at = lowest-at (laneSum sums (t * 64) st p) lanes (omega arith) in
       let m = found (at .0) (at .1) (rw d (at .2 ∙ e)) in
       (m .0, sym (rw d at (m .1)))
 
-  -- with a start pair that has the sum there, it is a way
-  pub case-way : (v s t lane : ℕ) → v < B → starts ≤ 12 → lanes ≤ 64 → t < starts → lane < lanes → v ≡ getD sums (t * 64 + lane) 0 + pricesIn st 1 t lane q₁ a
+  -- with a start state that has the sum there, it is a way
+  pub case-way : (v s t lane : ℕ) → v < B → starts ≤ 12 → lanes ≤ 64 → t < starts → lane < lanes → v ≡ getD sums (t * 64 + lane) 0 + costsIn st 1 t lane q₁ a
       → SumAt (startSum I st q₀ a t lane) starts (getD sums (t * 64 + lane) 0) s
       → WayIn starts lanes I st q₀ q₁ a v (s * 768 + t * 64 + lane) × (s < starts)
   unfolding startSum
@@ -197,4 +197,4 @@ module _ (starts lanes I : ℕ) (st : List ℕ) (q₀ q₁ a : ℕ) {sums : List
       let x : c / 768 ≡ s = omega arith in
       let y : c % 768 / 64 ≡ t = omega arith in
       let l : c % 64 ≡ lane = omega arith in
-      (record { pair₀ = omega arith; pair₁ = omega arith; lane = omega arith; sum = rw (x, y, l) (omega (arith, m .1)) }, h)
+      (record { state₀ = omega arith; state₁ = omega arith; lane = omega arith; sum = rw (x, y, l) (omega (arith, m .1)) }, h)

@@ -1,34 +1,34 @@
--- The sums of a pair of row 0 in a pose, in an array beside the store: for each pair t of row 1 and each lane the least over the start pairs
--- of row 0. A case is the least of them with the prices of row 1.
+-- The sums of a state of row 0 in a pose, in an array beside the store: for each state t of row 1 and each lane the least over the start states
+-- of row 0. A case is the least of them with the costs of row 1.
 use Prim.Native.Nat.{ℕ, _+_, _*_, _≤_, _<_}
 use mathlib.Core.Path.{_≡_}
 use mathlib.Core.Bool.{Bool, false}
 use mathlib.Core.List.{List}
 use lib.ListN.{length, getD}
-use Rattle.theory_row.specs.Lists.{from}
+use Rattle.lists.specs.Lists.{from}
 use Rattle.theory_pair.specs.Coded.{lowest}
 use Rattle.theory_tables.specs.Steps.{B}
 use Rattle.search_lanes.specs.Store.{Low}
-use Rattle.search_join.specs.Places.{pricesAt}
-use Rattle.search_join.specs.Tables.{casesIn, pricesIn}
+use Rattle.search_join.specs.Places.{costsAt}
+use Rattle.search_join.specs.Tables.{casesIn, costsIn}
 
--- from start pair s to pair q₀ in pose a, in lane l of case (s, t)
+-- from start state s to state q₀ in pose a, in lane l of case (s, t)
 unfoldable pub startSum : ℕ → List ℕ → ℕ → ℕ → ℕ → ℕ → ℕ → ℕ
-startSum I st q₀ a t l s = casesIn st I s t l + pricesIn st 0 s l q₀ a
+startSum I st q₀ a t l s = casesIn st I s t l + costsIn st 0 s l q₀ a
 
--- a lane of the sums at `at` with the price of row 1 at p₁; and the least over the lanes of pair t
+-- a lane of the sums at `at` with the cost of row 1 at p₁; and the least over the lanes of state t
 unfoldable pub laneSum : List ℕ → ℕ → List ℕ → ℕ → ℕ → ℕ
 laneSum sums at st p₁ l = getD sums (at + l) 0 + getD st (p₁ + l) 0
 
 unfoldable pub endSum : ℕ → List ℕ → List ℕ → ℕ → ℕ → ℕ → ℕ
-endSum lanes sums st q₁ a t = lowest B (laneSum sums (t * 64) st (pricesAt 1 t + q₁ * 4096 + a * 64)) (from 0 lanes)
+endSum lanes sums st q₁ a t = lowest B (laneSum sums (t * 64) st (costsAt 1 t + q₁ * 4096 + a * 64)) (from 0 lanes)
 
 -- room for the sums
 pub record Room (sums : List ℕ) : Type 0 where
   pub long : length sums ≡ 768
   pub low : Low sums
 
--- the sums at places below k are the least over the start pairs up to s, the others over those before s
+-- the sums at places below k are the least over the start states up to s, the others over those before s
 pub record Sums (starts lanes I : ℕ) (st : List ℕ) (q₀ a s k : ℕ) (sums : List ℕ) : Type 0 where
   pub room : Room sums
   pub upTo : (t l : ℕ) → t < starts → l < lanes → t * 64 + l < k → getD sums (t * 64 + l) 0 ≡ lowest B (startSum I st q₀ a t l) (from 0 (s + 1))

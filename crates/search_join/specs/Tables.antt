@@ -1,34 +1,34 @@
--- The case tables and the prices of a stage as words of the store, and what joining them leaves.
+-- The case tables and the costs of a stage as words of the store, and what joining them leaves.
 use Prim.Native.Nat.{ℕ, suc, _+_, _*_, _/_, _%_, _≤_, _<_, min}
 use mathlib.Core.Path.{_≡_}
 use mathlib.Core.Logic.{_⊎_}
 use mathlib.Core.List.{List}
 use lib.ListN.{length, getD}
-use Rattle.theory_tables.specs.Steps.{B, Cases, Prices, nextCases}
+use Rattle.theory_tables.specs.Steps.{B, Cases, SegmentCosts, nextCases}
 use Rattle.search_lanes.specs.Store.{Low}
-use Rattle.search_join.specs.Places.{caseAt, sourceAt, pricesAt, Pages, Slot}
+use Rattle.search_join.specs.Places.{caseAt, pointerAt, costsAt, Pages, Slot}
 
--- case table I, its sources, and the prices of a row
+-- case table I, its sources, and the costs of a row
 unfoldable pub casesIn : List ℕ → ℕ → Cases
 casesIn st I q₀ q₁ a = getD st (caseAt I q₀ q₁ + a) 0
 
-unfoldable pub sourcesIn : List ℕ → ℕ → Cases
-sourcesIn st I q₀ q₁ a = getD st (sourceAt I q₀ q₁ + a) 0
+unfoldable pub pointersIn : List ℕ → ℕ → Cases
+pointersIn st I q₀ q₁ a = getD st (pointerAt I q₀ q₁ + a) 0
 
-unfoldable pub pricesIn : List ℕ → ℕ → Prices
-pricesIn st row s l q a = getD st (pricesAt row s + q * 4096 + a * 64 + l) 0
+unfoldable pub costsIn : List ℕ → ℕ → SegmentCosts
+costsIn st row s l q a = getD st (costsAt row s + q * 4096 + a * 64 + l) 0
 
 -- a case and its source are as they were; and those of all tables
 pub record SameCase (I q₀ q₁ a : ℕ) (old new : List ℕ) : Type 0 where
   pub case : casesIn new I q₀ q₁ a ≡ casesIn old I q₀ q₁ a
-  pub source : sourcesIn new I q₀ q₁ a ≡ sourcesIn old I q₀ q₁ a
+  pub source : pointersIn new I q₀ q₁ a ≡ pointersIn old I q₀ q₁ a
 
 abbrev pub SameTables : List ℕ → List ℕ → Type 0
 SameTables old new = (I q₀ q₁ a : ℕ) → Slot I q₀ q₁ a → SameCase I q₀ q₁ a old new
 
--- the store has the pages of so many start pairs: their cases in table I and their prices
+-- the store has the pages of so many start states: their cases in table I and their costs
 pub record Table (starts lanes I : ℕ) (st : List ℕ) : Type 0 where
-  pub pairs : starts ≤ 12
+  pub states : starts ≤ 12
   pub few : lanes ≤ 64
   pub stage : I ≤ 24
   pub long : Pages starts st
@@ -57,23 +57,23 @@ SumAt h n cost r = (k : ℕ) → k < n → h k ≡ cost → MetAt h n cost r
 
 -- ---- a way to the case (q₀, q₁, a)
 
--- by the pairs s and t and lane l: the code is s * 768 + t * 64 + l
-pub record Way (starts lanes : ℕ) (f : Cases) (x₀ x₁ : Prices) (q₀ q₁ a value code : ℕ) : Type 0 where
-  pub pair₀ : code / 768 < starts
-  pub pair₁ : code % 768 / 64 < starts
+-- by the states s and t and lane l: the code is s * 768 + t * 64 + l
+pub record Way (starts lanes : ℕ) (f : Cases) (x₀ x₁ : SegmentCosts) (q₀ q₁ a value code : ℕ) : Type 0 where
+  pub state₀ : code / 768 < starts
+  pub state₁ : code % 768 / 64 < starts
   pub lane : code % 64 < lanes
   pub sum : value ≡ f (code / 768) (code % 768 / 64) (code % 64) + (x₀ (code / 768) (code % 64) q₀ a + x₁ (code % 768 / 64) (code % 64) q₁ a)
 
--- the same of case table I and the prices in the store
+-- the same of case table I and the costs in the store
 abbrev pub WayIn : ℕ → ℕ → ℕ → List ℕ → ℕ → ℕ → ℕ → ℕ → ℕ → Type 0
-WayIn starts lanes I st = Way starts lanes (casesIn st I) (pricesIn st 0) (pricesIn st 1)
+WayIn starts lanes I st = Way starts lanes (casesIn st I) (costsIn st 0) (costsIn st 1)
 
 abbrev pub nextIn : ℕ → ℕ → ℕ → List ℕ → Cases
-nextIn starts lanes I st = nextCases starts lanes (casesIn st I) (pricesIn st 0) (pricesIn st 1)
+nextIn starts lanes I st = nextCases starts lanes (casesIn st I) (costsIn st 0) (costsIn st 1)
 
 -- ---- a stage joined: case table I + 1 and its sources
 
--- one case; those of a pair of row 0 in a pose, of a pair of row 0, of all pairs: pairs of row 1 below m, poses below n
+-- one case; those of a state of row 0 in a pose, of a state of row 0, of all states: states of row 1 below m, poses below n
 abbrev pub OneCase : ℕ → ℕ → ℕ → ℕ → ℕ → ℕ → Type 0
 OneCase p₀ p₁ b q₀ q₁ a = (q₀ ≡ p₀) × (q₁ ≡ p₁) × (a ≡ b)
 
@@ -88,7 +88,7 @@ StageCases k m n q₀ q₁ a = (q₀ < k) × (q₁ < m) × (a < n)
 
 -- not the place of a case P of table I, nor of its source
 abbrev pub Elsewhere : ℕ → (ℕ → ℕ → ℕ → Type 0) → ℕ → Type 0
-Elsewhere I P k = (q₀ q₁ a : ℕ) → P q₀ q₁ a → (k ≡ caseAt I q₀ q₁ + a → ⊥) × (k ≡ sourceAt I q₀ q₁ + a → ⊥)
+Elsewhere I P k = (q₀ q₁ a : ℕ) → P q₀ q₁ a → (k ≡ caseAt I q₀ q₁ + a → ⊥) × (k ≡ pointerAt I q₀ q₁ + a → ⊥)
 
 -- the cases P of table I + 1 and their sources are right, every other word is as it was
 pub record Part (starts lanes I : ℕ) (P : ℕ → ℕ → ℕ → Type 0) (old new : List ℕ) : Type 0 where
@@ -100,7 +100,7 @@ pub record Part (starts lanes I : ℕ) (P : ℕ → ℕ → ℕ → Type 0) (old
       (nextIn starts lanes I old q₀ q₁ a)
       (WayIn starts lanes I old q₀ q₁ a)
       (casesIn new (suc I) q₀ q₁ a)
-      (sourcesIn new (suc I) q₀ q₁ a)
+      (pointersIn new (suc I) q₀ q₁ a)
 
 -- the whole of it, for the ends and poses asked for
 pub record Joined (starts lanes ends poses I : ℕ) (old new : List ℕ) : Type 0 where
@@ -113,21 +113,21 @@ pub record Joined (starts lanes ends poses I : ℕ) (old new : List ℕ) : Type 
       (nextIn starts lanes I old q₀ q₁ a)
       (WayIn starts lanes I old q₀ q₁ a)
       (casesIn new (suc I) q₀ q₁ a)
-      (sourcesIn new (suc I) q₀ q₁ a)
+      (pointersIn new (suc I) q₀ q₁ a)
 
 -- ---- lanes closed: no case goes by them
 
--- one pair of both rows; those of a pair of row 0; all pairs: pairs of row 1 below m
-abbrev pub OnePair : ℕ → ℕ → ℕ → ℕ → Type 0
-OnePair p₀ p₁ q₀ q₁ = (q₀ ≡ p₀) × (q₁ ≡ p₁)
+-- one state of both rows; those of a state of row 0; all states: states of row 1 below m
+abbrev pub OneState : ℕ → ℕ → ℕ → ℕ → Type 0
+OneState p₀ p₁ q₀ q₁ = (q₀ ≡ p₀) × (q₁ ≡ p₁)
 
-abbrev pub PairWith : ℕ → ℕ → ℕ → ℕ → Type 0
-PairWith p₀ m q₀ q₁ = (q₀ ≡ p₀) × (q₁ < m)
+abbrev pub StateWith : ℕ → ℕ → ℕ → ℕ → Type 0
+StateWith p₀ m q₀ q₁ = (q₀ ≡ p₀) × (q₁ < m)
 
-abbrev pub AllPairs : ℕ → ℕ → ℕ → ℕ → Type 0
-AllPairs k m q₀ q₁ = (q₀ < k) × (q₁ < m)
+abbrev pub AllStates : ℕ → ℕ → ℕ → ℕ → Type 0
+AllStates k m q₀ q₁ = (q₀ < k) × (q₁ < m)
 
--- the lanes from `low` to `high` of the pairs P of table I are NONE, every other case and source is as it was
+-- the lanes from `low` to `high` of the states P of table I are NONE, every other case and source is as it was
 pub record Closed (I low high : ℕ) (P : ℕ → ℕ → Type 0) (old new : List ℕ) : Type 0 where
   pub long : length new ≡ length old
   pub fits : Low new

@@ -1,14 +1,14 @@
-// A stage joined: the prices of both rows on top of one case table make the next, with the source of each case.
+// A stage joined: the costs of both rows on top of one case table make the next, with the source of each case.
 ghost use mathlib.Core.Path.{_≡_};
 ghost use mathlib.Core.Bool.{false};
 ghost use Prim.Native.Nat.{_+_, _*_, _≤_, _<_};
 ghost use lib.ListN.{length};
-ghost use Rattle.theory_row.specs.Lists.{from};
+ghost use Rattle.lists.specs.Lists.{from};
 ghost use Rattle.theory_pair.specs.Coded.{lowest};
 ghost use Rattle.search_lanes.specs.Store.{Low};
 ghost use Rattle.theory_tables.specs.Steps.{B};
-ghost use Rattle.search_join.specs.Places.{caseAt, sourceAt, pricesAt, Pages};
-ghost use Rattle.search_join.specs.Tables.{Table, Better, Least, MetAt, SumAt, WayIn, nextIn, OneCase, PoseCases, BlockCases, Part, Joined, PairWith, AllPairs, Closed};
+ghost use Rattle.search_join.specs.Places.{caseAt, pointerAt, costsAt, Pages};
+ghost use Rattle.search_join.specs.Tables.{Table, Better, Least, MetAt, SumAt, WayIn, nextIn, OneCase, PoseCases, BlockCases, Part, Joined, StateWith, AllStates, Closed};
 ghost use Rattle.search_join.specs.Sums.{startSum, laneSum, endSum, Room, Sums, Summed};
 
 // The least of some costs, and a code of where it is.
@@ -26,17 +26,17 @@ pub fn case_at(i: usize, q0: usize, q1: usize) -> usize
 }
 
 // Where the row of its sources begins.
-pub fn source_at(i: usize, q0: usize, q1: usize) -> usize
+pub fn pointer_at(i: usize, q0: usize, q1: usize) -> usize
     requires { ⌜ (i ≤ 25) × (q0 ≤ 12) × (q1 ≤ 12) ⌝ }
-    ensures { λ r. ⌜ r ≡ sourceAt i q0 q1 ⌝ }
+    ensures { λ r. ⌜ r ≡ pointerAt i q0 q1 ⌝ }
 {
     case_at(i, q0, q1) + 19968
 }
 
-// Where the prices of start pair s to pair q in pose a begin, in a row.
-pub fn price_at(row: usize, s: usize, q: usize, a: usize) -> usize
+// Where the costs of start state s to state q in pose a begin, in a row.
+pub fn cost_at(row: usize, s: usize, q: usize, a: usize) -> usize
     requires { ⌜ (row ≤ 1) × (s ≤ 12) × (q ≤ 12) × (a ≤ 64) ⌝ }
-    ensures { λ r. ⌜ r ≡ pricesAt row s + q * 4096 + a * 64 ⌝ }
+    ensures { λ r. ⌜ r ≡ costsAt row s + q * 4096 + a * 64 ⌝ }
 {
     148992 + s * 138240 + row * 49152 + q * 4096 + a * 64
 }
@@ -52,9 +52,9 @@ fn better(x: Best, value: u32, code: u32) -> Best
     x
 }
 
-// ---- the sums of a pair of row 0 in a pose: the least over its start pairs, for each pair of row 1 and each lane
+// ---- the sums of a state of row 0 in a pose: the least over its start states, for each state of row 1 and each lane
 
-// The sums of pair t lowered to the ways from start pair s.
+// The sums of state t lowered to the ways from start state s.
 fn lower_sums(
     sums: &mut [u32; 768],
     store: &[u32],
@@ -70,7 +70,7 @@ fn lower_sums(
     ensures { λ _. ⌜ Sums starts lanes i (now (store .entry)) q0 a s (t * 64 + 64) (now (sums .exit)) ⌝ }
 {
     let at = case_at(i, s, t);
-    let p0 = price_at(0, s, q0, a);
+    let p0 = cost_at(0, s, q0, a);
     let to = t * 64;
     let mut l: usize = 0;
     while l < lanes {
@@ -79,7 +79,7 @@ fn lower_sums(
     }
 }
 
-// All sums lowered to the ways from start pair s: whether it has any.
+// All sums lowered to the ways from start state s: whether it has any.
 fn sums_from(
     sums: &mut [u32; 768],
     store: &[u32],
@@ -93,7 +93,7 @@ fn sums_from(
     requires { ⌜ Table starts lanes i (now store) × Sums starts lanes i (now store) q0 a s 0 (now sums) × (s < starts) × (q0 < 12) × (a < 60) ⌝ }
     ensures { λ live. ⌜ Sums starts lanes i (now (store .entry)) q0 a (s + 1) 0 (now (sums .exit)) × (live ≡ false → now (sums .exit) ≡ now (sums .entry)) ⌝ }
 {
-    if search_lanes::common(store, price_at(0, s, q0, a), lanes) >= search_lanes::NONE {
+    if search_lanes::common(store, cost_at(0, s, q0, a), lanes) >= search_lanes::NONE {
         return false;
     }
     let mut t: usize = 0;
@@ -104,7 +104,7 @@ fn sums_from(
     true
 }
 
-// The sums over every start pair: whether one has any way.
+// The sums over every start state: whether one has any way.
 fn fill_sums(
     sums: &mut [u32; 768],
     store: &[u32],
@@ -129,7 +129,7 @@ fn fill_sums(
     live
 }
 
-// ---- a case: the least over the sums with row 1's prices
+// ---- a case: the least over the sums with row 1's costs
 
 // The least over the lanes.
 fn least_lane(sums: &[u32; 768], at: usize, store: &[u32], p1: usize, lanes: usize) -> u32
@@ -160,7 +160,7 @@ fn lane_of(sums: &[u32; 768], at: usize, store: &[u32], p1: usize, lanes: usize,
     0
 }
 
-// The first start pair of row 0 with that sum to pair t in that lane; 0 where there is none.
+// The first start state of row 0 with that sum to state t in that lane; 0 where there is none.
 fn start_of(
     store: &[u32],
     i: usize,
@@ -176,7 +176,7 @@ fn start_of(
 {
     let mut s: usize = 0;
     while s < starts {
-        if store[case_at(i, s, t) + lane] + store[price_at(0, s, q0, a) + lane] == sum {
+        if store[case_at(i, s, t) + lane] + store[cost_at(0, s, q0, a) + lane] == sum {
             return s;
         }
         s += 1;
@@ -184,7 +184,7 @@ fn start_of(
     0
 }
 
-// The least over the pairs of row 1, and the pair that has it.
+// The least over the states of row 1, and the state that has it.
 fn best_end(
     sums: &[u32; 768],
     store: &[u32],
@@ -202,15 +202,15 @@ fn best_end(
     };
     let mut t: usize = 0;
     while t < starts {
-        let sum = least_lane(sums, t * 64, store, price_at(1, t, q1, a), lanes);
+        let sum = least_lane(sums, t * 64, store, cost_at(1, t, q1, a), lanes);
         best = better(best, sum, t as u32);
         t += 1;
     }
     best
 }
 
-// The code of a way of that value by pair t of row 1.
-fn source_of(
+// The code of a way of that value by state t of row 1.
+fn pointer_of(
     sums: &[u32; 768],
     store: &[u32],
     i: usize,
@@ -225,13 +225,13 @@ fn source_of(
     requires { ⌜ Table starts lanes i (now store) × Sums starts lanes i (now store) q0 a starts 0 (now sums) × (q0 < 12) × (q1 < 12) × (a < 60) × (t < starts) × (endSum lanes (now sums) (now store) q1 a t ≡ value) × (value < B) ⌝ }
     ensures { λ code. ⌜ WayIn starts lanes i (now (store .entry)) q0 q1 a value code × (code < 9216) ⌝ }
 {
-    let lane = lane_of(sums, t * 64, store, price_at(1, t, q1, a), lanes, value);
+    let lane = lane_of(sums, t * 64, store, cost_at(1, t, q1, a), lanes, value);
     let at = t * 64 + lane;
     let s = start_of(store, i, starts, q0, a, t, lane, sums[at]);
     (s * 768 + at) as u32
 }
 
-// A case: the least over pairs and lanes, and the code of a way to it.
+// A case: the least over states and lanes, and the code of a way to it.
 fn join_case(
     sums: &[u32; 768],
     live: bool,
@@ -260,7 +260,7 @@ fn join_case(
     let t = best.code as usize;
     Best {
         value,
-        code: source_of(sums, store, i, starts, lanes, q0, q1, a, t, value),
+        code: pointer_of(sums, store, i, starts, lanes, q0, q1, a, t, value),
     }
 }
 
@@ -283,10 +283,10 @@ fn put_case(
 {
     let best = join_case(sums, live, store, i, starts, lanes, q0, q1, a);
     store[case_at(i + 1, q0, q1) + a] = best.value;
-    store[source_at(i + 1, q0, q1) + a] = best.code;
+    store[pointer_at(i + 1, q0, q1) + a] = best.code;
 }
 
-// The cases of a pair of row 0 in a pose, for every pair of row 1.
+// The cases of a state of row 0 in a pose, for every state of row 1.
 fn case_pose(
     store: &mut [u32],
     sums: &mut [u32; 768],
@@ -308,7 +308,7 @@ fn case_pose(
     }
 }
 
-// The cases of a pair of row 0, for every pair of row 1 and every pose.
+// The cases of a state of row 0, for every state of row 1 and every pose.
 fn case_block(
     store: &mut [u32],
     sums: &mut [u32; 768],
@@ -329,7 +329,7 @@ fn case_block(
     }
 }
 
-// Case table i + 1 from case table i and the prices of a stage. There may be more lanes than poses, if no case of table i goes by the others.
+// Case table i + 1 from case table i and the costs of a stage. There may be more lanes than poses, if no case of table i goes by the others.
 pub fn join_stage(
     store: &mut [u32],
     i: usize,
@@ -351,10 +351,10 @@ pub fn join_stage(
 
 // ---- lanes closed: no case goes by them
 
-// The lanes from `low` to `high` of table i closed for a pair of row 0 with every pair of row 1.
-fn close_pair(store: &mut [u32], i: usize, q0: usize, ends: usize, low: usize, high: usize)
+// The lanes from `low` to `high` of table i closed for a state of row 0 with every state of row 1.
+fn close_state(store: &mut [u32], i: usize, q0: usize, ends: usize, low: usize, high: usize)
     requires { ⌜ Low (now store) × Pages (q0 + 1) (now store) × (i ≤ 25) × (q0 < 12) × (ends ≤ 12) × (low ≤ high) × (high ≤ 64) ⌝ }
-    ensures { λ _. ⌜ Closed i low high (PairWith q0 ends) (now (store .entry)) (now (store .exit)) ⌝ }
+    ensures { λ _. ⌜ Closed i low high (StateWith q0 ends) (now (store .entry)) (now (store .exit)) ⌝ }
 {
     let mut t: usize = 0;
     while t < ends {
@@ -368,14 +368,14 @@ fn close_pair(store: &mut [u32], i: usize, q0: usize, ends: usize, low: usize, h
     }
 }
 
-// The same for every pair of row 0.
+// The same for every state of row 0.
 pub fn close_lanes(store: &mut [u32], i: usize, ends: usize, low: usize, high: usize)
     requires { ⌜ Low (now store) × Pages ends (now store) × (i ≤ 25) × (ends ≤ 12) × (low ≤ high) × (high ≤ 64) ⌝ }
-    ensures { λ _. ⌜ Closed i low high (AllPairs ends ends) (now (store .entry)) (now (store .exit)) ⌝ }
+    ensures { λ _. ⌜ Closed i low high (AllStates ends ends) (now (store .entry)) (now (store .exit)) ⌝ }
 {
     let mut s: usize = 0;
     while s < ends {
-        close_pair(store, i, s, ends, low, high);
+        close_state(store, i, s, ends, low, high);
         s += 1;
     }
 }

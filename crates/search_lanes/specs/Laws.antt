@@ -1,4 +1,4 @@
--- Laws of stores and of lanes: what one write keeps, what a loop that writes one word after the other has written. Assumes nothing.
+-- Laws of stores and of lanes: what one write keeps, what a loop that writes one word after the other has written.
 use Prim.Native.Nat.{ℕ, _+_, _*_, _≤_, _<_, min}
 use mathlib.Core.Path.{_≡_, refl, sym, ap, _∙_}
 use mathlib.Core.List.{List}
@@ -9,7 +9,7 @@ use lib.ListN.{length, getD, set, length-set, replicate, length-replicate, getD-
 use lib.Seq.{getD-set-same, getD-set-other}
 use Rattle.theory_tables.specs.Steps.{B, Layer}
 use Rattle.search_lanes.specs.Lanes.{Lowered, always}
-use Rattle.search_lanes.specs.Store.{Frame, Low, Written, WrittenRows, layerIn, FilledPair, Filled}
+use Rattle.search_lanes.specs.Store.{Frame, Low, Written, WrittenRows, layerIn, FilledState, Filled}
 
 -- ---- lanes
 
@@ -142,16 +142,16 @@ rows-more {f} {g} {at} {lanes} {new = new} a n s w e =
       low = w .low;
     }
 
--- ---- layers: one row more of a pair's block, and one block more
+-- ---- layers: one row more of a state's block, and one block more
 
-pub pair-none : (F : ℕ → Layer) (lanes to q : ℕ) {st : List ℕ} → Low st → FilledPair F lanes to q 0 st st
-pair-none F lanes to q {st} w = record { frame = frame-refl _ _ st; low = w; right = λ a h. absurd (omega arith) }
+pub state-none : (F : ℕ → Layer) (lanes to q : ℕ) {st : List ℕ} → Low st → FilledState F lanes to q 0 st st
+state-none F lanes to q {st} w = record { frame = frame-refl _ _ st; low = w; right = λ a h. absurd (omega arith) }
 
-pub pair-more :
+pub state-more :
     {F : ℕ → Layer} {g : ℕ → ℕ} {lanes to q : ℕ} {old mid new : List ℕ} (a : ℕ)
-    → lanes ≤ 64 → a < 64 → FilledPair F lanes to q a old mid → Written g (to + q * 4096 + a * 64) lanes mid new → ((l : ℕ) → l < lanes → F l q a ≡ g l)
-    → FilledPair F lanes to q (a + 1) old new
-pair-more {F} {g} {lanes} {to} {q} {new = new} a n k s w e =
+    → lanes ≤ 64 → a < 64 → FilledState F lanes to q a old mid → Written g (to + q * 4096 + a * 64) lanes mid new → ((l : ℕ) → l < lanes → F l q a ≡ g l)
+    → FilledState F lanes to q (a + 1) old new
+state-more {F} {g} {lanes} {to} {q} {new = new} a n k s w e =
     record {
       frame = frame-join (to + q * 4096) (to + q * 4096 + 4096) (s .frame) (w .frame) (omega arith) (omega arith) (omega arith) (omega arith);
       low = w .low;
@@ -161,18 +161,18 @@ pair-more {F} {g} {lanes} {to} {q} {new = new} a n k s w e =
     }
 
 -- the same by another name
-pub pair-ext :
+pub state-ext :
     {F G : ℕ → Layer} {lanes to q m : ℕ} {old new : List ℕ}
-    → FilledPair G lanes to q m old new → ((a l : ℕ) → a < m → l < lanes → F l q a ≡ G l q a)
-    → FilledPair F lanes to q m old new
-pair-ext w e = record { frame = w .frame; low = w .low; right = λ a p l r. w .right a p l r ∙ sym (e a l p r) }
+    → FilledState G lanes to q m old new → ((a l : ℕ) → a < m → l < lanes → F l q a ≡ G l q a)
+    → FilledState F lanes to q m old new
+state-ext w e = record { frame = w .frame; low = w .low; right = λ a p l r. w .right a p l r ∙ sym (e a l p r) }
 
--- so many rows of a pair's block
-pub pair-rows :
+-- so many rows of a state's block
+pub state-rows :
     {F : ℕ → Layer} {f : ℕ → ℕ → ℕ} {lanes to q m : ℕ} {old new : List ℕ}
     → m ≤ 64 → WrittenRows f (to + q * 4096) m lanes old new → ((a l : ℕ) → a < m → l < lanes → F l q a ≡ f a l)
-    → FilledPair F lanes to q m old new
-pair-rows {to = to} {q = q} {old = old} {new = new} k w e =
+    → FilledState F lanes to q m old new
+state-rows {to = to} {q = q} {old = old} {new = new} k w e =
     record {
       frame = frame-join (to + q * 4096) (to + q * 4096 + 4096) (frame-refl (to + q * 4096) (to + q * 4096) old) (w .frame) (omega arith) (omega arith) (omega arith) (omega arith);
       low = w .low;
@@ -184,7 +184,7 @@ filled-none F lanes poses to {st} w = record { frame = frame-refl _ _ st; low = 
 
 pub filled-more :
     {F G : ℕ → Layer} {lanes poses to : ℕ} {old mid new : List ℕ} (q : ℕ)
-    → lanes ≤ 64 → poses ≤ 64 → q < 12 → Filled F lanes poses to q old mid → FilledPair G lanes to q poses mid new
+    → lanes ≤ 64 → poses ≤ 64 → q < 12 → Filled F lanes poses to q old mid → FilledState G lanes to q poses mid new
     → ((a l : ℕ) → a < poses → l < lanes → F l q a ≡ G l q a)
     → Filled F lanes poses to (q + 1) old new
 filled-more {F} {G} {lanes} {poses} {to} {new = new} q n k h s w e =

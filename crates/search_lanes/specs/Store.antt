@@ -27,17 +27,17 @@ pub record WrittenRows (f : ℕ → ℕ → ℕ) (at rows lanes : ℕ) (old new 
   pub words : (a l : ℕ) → a < rows → l < lanes → getD new (at + a * 64 + l) 0 ≡ f a l
   pub low : Low new
 
--- lane l of a layer whose block begins at `at`: pair q has 64 rows of 64 words, a row for each pose, a word for each lane
+-- lane l of a layer whose block begins at `at`: state q has 64 rows of 64 words, a row for each pose, a word for each lane
 abbrev pub layerIn : List ℕ → ℕ → ℕ → Layer
 layerIn st at l q a = getD st (at + q * 4096 + a * 64 + l) 0
 
--- lane by lane, the layers F are in the block at `to`: the rows below m of pair q
-pub record FilledPair (F : ℕ → Layer) (lanes to q m : ℕ) (old new : List ℕ) : Type 0 where
+-- lane by lane, the layers F are in the block at `to`: the rows below m of state q
+pub record FilledState (F : ℕ → Layer) (lanes to q m : ℕ) (old new : List ℕ) : Type 0 where
   pub frame : Frame (to + q * 4096) (to + q * 4096 + 4096) old new
   pub low : Low new
   pub right : (a : ℕ) → a < m → (l : ℕ) → l < lanes → layerIn new to l q a ≡ F l q a
 
--- the pairs below m, with so many poses
+-- the states below m, with so many poses
 pub record Filled (F : ℕ → Layer) (lanes poses to m : ℕ) (old new : List ℕ) : Type 0 where
   pub frame : Frame to (to + 49152) old new
   pub low : Low new

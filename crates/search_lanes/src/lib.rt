@@ -1,4 +1,4 @@
-// Loops over the lanes of a row: a row is 64 words, one for each start of a stretch, all at once.
+// Loops over the lanes of a row: a row is 64 words, one for each start of a segment, all at once.
 ghost use mathlib.Core.Path.{_≡_};
 ghost use Prim.Native.Nat.{ℕ, _+_, _*_, _≤_, _<_, min};
 ghost use lib.ListN.{length, getD, replicate};

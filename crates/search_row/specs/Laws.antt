@@ -1,4 +1,4 @@
--- Tolls and charges are small, and a pair that is there stands in the row. Assumes nothing.
+-- Tolls and charges are small, and a state that is there stands in the row.
 use Prim.Native.Nat.{ℕ, zero, suc, _+_, _*_, _-_, _%_, _≤_, _<_, min}
 use mathlib.Core.Path.{_≡_, refl}
 use mathlib.Core.Bool.{Bool, true, false, _&&_, cond}

@@ -1,4 +1,4 @@
--- A row and the pairs as words: what the search reads, and the deck that they stand for.
+-- A row and the states as words: what the search reads, and the deck that they stand for.
 use Prim.Native.Nat.{ℕ, suc, _+_, _-_, _*_, _/_, _%_, _≤_, _<_}
 use mathlib.Core.Path.{_≡_}
 use mathlib.Core.Bool.{Bool, _&&_, cond}
@@ -6,7 +6,7 @@ use mathlib.Core.List.{List}
 use lib.ListN.{length, getD}
 use lib.Dec.{leb, ltb, eqb}
 use Rattle.definition.specs.Cost.{charge}
-use Rattle.theory_tables.specs.Steps.{B, Deck, pairCount, offset, marks, before, lastAt}
+use Rattle.theory_tables.specs.Steps.{B, Deck, stateCount, offset, marks, before, lastAt}
 
 -- The cell at position k has the words from 128 k on: 0 to 59 what it costs by pose (B: not offered), 64 given, 65 and 66 the widths of its
 -- layouts, 67 whether it is tall; by variant (2 layout + mark) 68 left P, 72 left N, 76 right P, 80 right N; 84 the weight of a step where it touches
@@ -55,19 +55,19 @@ abbrev pub deckOf : List ℕ → ℕ → ℕ → Deck
 deckOf line n poses =
     record { size = n; poses = poses; own = λ k a. wordOf line k a; toll = tollIn line; tall = λ k. eqb (wordOf line k 67) 1; front = frontIn line; back = backIn line }
 
--- with i cells placed, the row of n cells has the last of them, that of pair q; so it is with every deck of n cells
+-- with i cells placed, the row of n cells has the last of them, that of state q; so it is with every deck of n cells
 abbrev pub thereIn : ℕ → ℕ → ℕ → ℕ → Bool
 thereIn n R i q = leb (suc R) (i + offset R q) && ltb (lastAt R i q) n
 
--- the pairs: pair q has the words from 4 q on, its digit, its marks, and the marks before
-pub record PairWords (R : ℕ) (pairs : List ℕ) : Type 0 where
+-- the states: state q has the words from 4 q on, its digit, its marks, and the marks before
+pub record StateWords (R : ℕ) (states : List ℕ) : Type 0 where
   pub reorder : R ≤ 2
-  pub few : pairCount R ≤ 12
-  pub small : (q : ℕ) → q < pairCount R → offset R q ≤ 4
-  pub long : 48 ≤ length pairs
-  pub digit : (q : ℕ) → q < pairCount R → getD pairs (q * 4) 0 ≡ offset R q
-  pub mark : (q : ℕ) → q < pairCount R → getD pairs (q * 4 + 1) 0 ≡ marks R q
-  pub earlier : (q : ℕ) → q < pairCount R → getD pairs (q * 4 + 2) 0 ≡ before R q
+  pub few : stateCount R ≤ 12
+  pub small : (q : ℕ) → q < stateCount R → offset R q ≤ 4
+  pub long : 48 ≤ length states
+  pub digit : (q : ℕ) → q < stateCount R → getD states (q * 4) 0 ≡ offset R q
+  pub mark : (q : ℕ) → q < stateCount R → getD states (q * 4 + 1) 0 ≡ marks R q
+  pub earlier : (q : ℕ) → q < stateCount R → getD states (q * 4 + 2) 0 ≡ before R q
 
 -- a row's words: none is over B, and the step weights are so small that what is paid stays below it (document 01 has weights up to 1,000; a request that ranks
 -- equal costs, A14, is to scale them by 128)
@@ -77,10 +77,10 @@ pub record LineWords (line : List ℕ) : Type 0 where
   pub weight : (k : ℕ) → wordOf line k 84 ≤ 131072
   pub filled : (k : ℕ) → wordOf line k 86 ≤ 131072
 
--- what every function of the search is given: a row's words and the pairs
-pub record Ground (line pairs : List ℕ) (R n poses count : ℕ) : Type 0 where
+-- what every function of the search is given: a row's words and the states
+pub record Ground (line states : List ℕ) (R n poses count : ℕ) : Type 0 where
   pub size : n ≤ 64
   pub few : poses ≤ 60
-  pub all : count ≡ pairCount R
+  pub all : count ≡ stateCount R
   pub row : LineWords line
-  pub coded : PairWords R pairs
+  pub coded : StateWords R states

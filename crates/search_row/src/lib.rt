@@ -1,11 +1,11 @@
-// Reading a row's words and the pairs: positions, sources and tolls. The words' places stand in specs/Words.antt.
+// Reading a row's words and the states: positions, sources and tolls. The words' places stand in specs/Words.antt.
 ghost use mathlib.Core.Path.{_≡_};
 ghost use mathlib.Core.Bool.{cond};
 ghost use Prim.Native.Nat.{ℕ, suc, _+_, _*_, _≤_, _<_};
 ghost use lib.ListN.{length, getD};
 ghost use lib.Dec.{eqb};
-ghost use Rattle.theory_tables.specs.Steps.{pairCount, lastAt, isSource};
-ghost use Rattle.search_row.specs.Words.{siteIn, endIn, differIn, weightIn, tollIn, frontIn, backIn, deckOf, thereIn, PairWords, LineWords};
+ghost use Rattle.theory_tables.specs.Steps.{stateCount, lastAt, isSource};
+ghost use Rattle.search_row.specs.Words.{siteIn, endIn, differIn, weightIn, tollIn, frontIn, backIn, deckOf, thereIn, StateWords, LineWords};
 
 // A word as a count or a place.
 pub fn word(words: &[u32], at: usize) -> usize
@@ -15,12 +15,12 @@ pub fn word(words: &[u32], at: usize) -> usize
     words[at] as usize
 }
 
-// The position of pair q's cell, the last of i placed; 0 where it would be left of the row.
-pub fn last_at(pairs: &[u32], r: usize, i: usize, q: usize) -> usize
-    requires { ⌜ PairWords r (now pairs) × (q < pairCount r) × (i ≤ 100) ⌝ }
+// The position of state q's cell, the last of i placed; 0 where it would be left of the row.
+pub fn last_at(states: &[u32], r: usize, i: usize, q: usize) -> usize
+    requires { ⌜ StateWords r (now states) × (q < stateCount r) × (i ≤ 100) ⌝ }
     ensures { λ p. ⌜ p ≡ lastAt r i q ⌝ }
 {
-    let k = i + word(pairs, q * 4);
+    let k = i + word(states, q * 4);
     if k < r + 1 {
         return 0;
     }
@@ -28,37 +28,37 @@ pub fn last_at(pairs: &[u32], r: usize, i: usize, q: usize) -> usize
 }
 
 // Whether the row has that cell.
-pub fn is_there(pairs: &[u32], n: usize, r: usize, i: usize, q: usize) -> bool
-    requires { ⌜ PairWords r (now pairs) × (q < pairCount r) × (i ≤ 100) ⌝ }
+pub fn is_there(states: &[u32], n: usize, r: usize, i: usize, q: usize) -> bool
+    requires { ⌜ StateWords r (now states) × (q < stateCount r) × (i ≤ 100) ⌝ }
     ensures { λ t. ⌜ t ≡ thereIn n r i q ⌝ }
 {
-    if i + word(pairs, q * 4) < r + 1 {
+    if i + word(states, q * 4) < r + 1 {
         return false;
     }
-    last_at(pairs, r, i, q) < n
+    last_at(states, r, i, q) < n
 }
 
-// Whether pair q of the layer with i cells is a source of pair q1 of the next.
+// Whether state q of the layer with i cells is a source of state q1 of the next.
 pub fn is_source(
     line: &[u32],
-    pairs: &[u32],
+    states: &[u32],
     n: usize,
     r: usize,
     i: usize,
     q1: usize,
     q: usize,
 ) -> bool
-    requires { ⌜ LineWords (now line) × (n ≤ 64) × PairWords r (now pairs) × (q1 < pairCount r) × (q < pairCount r) × (i ≤ 100) ⌝ }
+    requires { ⌜ LineWords (now line) × (n ≤ 64) × StateWords r (now states) × (q1 < stateCount r) × (q < stateCount r) × (i ≤ 100) ⌝ }
     ensures { λ t. ⌜ t ≡ isSource (deckOf (now (line .entry)) n 0) r i q1 q ⌝ }
 {
-    if !is_there(pairs, n, r, i, q) {
+    if !is_there(states, n, r, i, q) {
         return false;
     }
-    let k = last_at(pairs, r, i, q);
+    let k = last_at(states, r, i, q);
     if line[k * 128 + 67] == 1 {
         return false;
     }
-    pairs[q * 4 + 1] == pairs[q1 * 4 + 2]
+    states[q * 4 + 1] == states[q1 * 4 + 2]
 }
 
 // The left site of the cell at position k in pose a, with D added.

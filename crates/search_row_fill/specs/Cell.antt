@@ -1,4 +1,4 @@
--- The words of a cell as the terms of the cost: what the pair's row has at its place. Assumes nothing.
+-- The words of a cell as the terms of the cost: what the state's row has at its place.
 use Prim.Native.Nat.{ℕ, zero, suc, _+_, _-_, _*_, _/_, _%_, _≤_, _<_}
 use mathlib.Core.Path.{_≡_, refl, sym, ap, ap₂, _∙_}
 use mathlib.Core.Bool.{Bool, true, false, _&&_, _||_, cond}
@@ -10,7 +10,7 @@ use lib.Dec.{leb, ltb, eqb, lit≤}
 use Rattle.definition.specs.Job.{Job, isTall}
 use Rattle.definition.specs.Rules.{cellAt}
 use Rattle.definition.specs.Cost.{firstHeight}
-use Rattle.theory_row.specs.Lists.{Eq?, same, differs, eq?}
+use Rattle.lists.specs.Lists.{Eq?, same, differs, eq?}
 use Rattle.theory_bridge.specs.Tests.{and-true}
 use Rattle.theory_bridge.specs.Paired.{isOffered, poseNumber, widthOf, ownOf, leftOf, rightOf}
 use Rattle.score_words.specs.Flat.{widthIn}

@@ -1,5 +1,4 @@
 -- A row's words while they are written: those of the first n cells of the row are right, the others are still to come, and what lies beyond is 0.
--- Assumes nothing.
 use Prim.Native.Nat.{ℕ, zero, suc, _+_, _*_, _≤_, _<_}
 use mathlib.Core.Path.{_≡_, refl, sym, ap, subst, _∙_}
 use mathlib.Core.Bool.{Bool, true, false, cond}
@@ -18,7 +17,7 @@ use Rattle.job.specs.declared.Job as declared
 use Rattle.job.specs.Value as value
 use Rattle.job.specs.Value.{headerOf, jobOf}
 use Rattle.score_words.specs.Laws.{cell-there}
-use Rattle.theory_row.specs.Lists.{from}
+use Rattle.lists.specs.Lists.{from}
 use Rattle.theory_pair.specs.Cells.{Side, row₀, row₁, members, cell, line}
 use Rattle.theory_tables.specs.Matched.{Matched}
 use Rattle.theory_bridge.specs.Paired.{rowOf, siteOf, poseNumbers, poseNumber, isOffered, pairJob}

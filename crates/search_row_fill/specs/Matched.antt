@@ -1,5 +1,5 @@
--- A row's words stand for the row of the pair's theory: what a cell costs, and what two neighbours pay and the cells at the row's ends. Sites are
--- compared with D added to both. Assumes nothing.
+-- A row's words stand for the row of the state's theory: what a cell costs, and what two neighbours pay and the cells at the row's ends. Sites are
+-- compared with D added to both.
 use Prim.Native.Nat.{ℕ, zero, suc, _+_, _-_, _*_, _≤_, _<_}
 use mathlib.Core.Path.{_≡_, refl, sym, ap, ap₂, _∙_}
 use mathlib.Core.Logic.{_≢_}
@@ -16,7 +16,7 @@ use Rattle.definition.specs.Job as job
 use Rattle.definition.specs.Rules.{cellAt}
 use Rattle.definition.specs.Cost.{charge}
 use Rattle.definition.specs.Sound.{Sound}
-use Rattle.theory_row.specs.Lists.{Le?, high, le?}
+use Rattle.lists.specs.Lists.{Le?, high, le?}
 use Rattle.theory_pair.specs.Cells.{Side, row₀, row₁, isTall, ownIn, members, cell, line}
 use Rattle.theory_pair.specs.Members.{at-in}
 use Rattle.theory_tables.specs.Steps.{B}

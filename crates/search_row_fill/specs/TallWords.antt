@@ -1,4 +1,4 @@
--- The positions of a row's tall cells as words: those below a count are written, and the others are still to come. Assumes nothing.
+-- The positions of a row's tall cells as words: those below a count are written, and the others are still to come.
 use Prim.Native.Nat.{ℕ, _+_, _≤_, _<_}
 use mathlib.Core.Path.{_≡_, sym, ap, _∙_}
 use mathlib.Core.Bool.{Bool, true, false, cond}
@@ -10,7 +10,7 @@ use lib.Seq.{getD-set-same, getD-set-other}
 use lib.Dec.{eqb}
 use Rattle.definition.specs.Job.{Job}
 use Rattle.definition.specs.Sound.{Sound}
-use Rattle.theory_row.specs.Lists.{from, in-from}
+use Rattle.lists.specs.Lists.{from, in-from}
 use Rattle.theory_pair.specs.Pick.{pick}
 use Rattle.theory_pair.specs.Cells.{Side, members, tallCount, pos}
 use Rattle.theory_bridge.specs.Paired.{pairJob}

@@ -1,4 +1,4 @@
--- The tall cells of a row, by their positions in rising order: the I-th of them stands where the pair's theory has tall cell I. Assumes nothing.
+-- The tall cells of a row, by their positions in rising order: the I-th of them stands where the state's theory has tall cell I.
 use Prim.Native.Nat.{ℕ, zero, suc, _≤_, _<_}
 use mathlib.Core.Path.{_≡_, refl, sym, ap, ap₂, _∙_}
 use mathlib.Core.Bool.{Bool, true, false, cond}
@@ -10,12 +10,12 @@ use Rattle.definition.specs.Job.{Job}
 use Rattle.definition.specs.Job as job
 use Rattle.definition.specs.Rules.{noCell, cellAt}
 use Rattle.definition.specs.Sound.{Sound}
-use Rattle.theory_row.specs.Lists.{from, in-from, Distinct}
+use Rattle.lists.specs.Lists.{from, in-from, Distinct}
 use Rattle.theory_row.specs.Order.{place}
 use Rattle.theory_pair.specs.Pick.{pick, pick-in, pick-pairs}
 use Rattle.theory_pair.specs.Members.{at, images, at-in, place-at, images-all, from-rising, rising-distinct′}
 use Rattle.theory_pair.specs.Cells.{Side, row₀, row₁, Kind, one, both, inRow, isTall, members, tallCells, cell, tallCount, pos}
-use Rattle.theory_pair.specs.Cells as pairs
+use Rattle.theory_pair.specs.Cells as states
 use Rattle.theory_bridge.specs.Paired.{pairJob}
 use Rattle.theory_bridge.specs.Row.{isTall-same}
 
@@ -70,7 +70,7 @@ tall-inRow row₁ both e = refl
 tall-inRow row₀ (one t) e = absurd (let y : _≡_ {A = ℕ} 0 1 = cc in omega arith)
 tall-inRow row₁ (one t) e = absurd (let y : _≡_ {A = ℕ} 0 1 = cc in omega arith)
 
-module _ {A : Type 0} (J : pairs.Job A) (s : Side) where
+module _ {A : Type 0} (J : states.Job A) (s : Side) where
   -- the positions of the tall cells
   abbrev pub tallPlaces : List ℕ
   tallPlaces = pick (λ p. isTall (J .kind (cell J s p))) (from 0 (length (members J s)))

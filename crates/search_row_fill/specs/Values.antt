@@ -1,4 +1,4 @@
--- A header and a cell as values: what the words are made of, and their ranges. Assumes nothing.
+-- A header and a cell as values: what the words are made of, and their ranges.
 use Prim.Native.Nat.{ℕ, zero, suc, _+_, _-_, _*_, _/_, _%_, _≤_, _<_}
 use mathlib.Core.Path.{_≡_, refl, sym, ap, ap₂, _∙_}
 use mathlib.Core.Bool.{Bool, true, false, _&&_, _||_, cond}
@@ -11,7 +11,7 @@ use lib.Dec.{leb, ltb, eqb}
 use Rattle.definition.specs.Job as paper
 use Rattle.definition.specs.Rules.{noLayout, apart}
 use Rattle.definition.specs.Sound.{SoundHeader, SoundCell}
-use Rattle.theory_row.specs.Lists.{Eq?, same, differs, eq?, Le?, low, high, le?}
+use Rattle.lists.specs.Lists.{Eq?, same, differs, eq?, Le?, low, high, le?}
 use Rattle.theory_bridge.specs.Paired.{isOffered, poseNumber, widthOf, ownOf}
 use Rattle.job.specs.declared.Header.{Header}
 use Rattle.job.specs.declared.Cell.{Cell}

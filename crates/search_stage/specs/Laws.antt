@@ -1,4 +1,4 @@
--- Laws of the stages: a table is the least over the table before and the prices, from number 0 on; what a stage's parts make together. Assumes nothing.
+-- Laws of the stages: a table is the least over the table before and the costs, from number 0 on; what a stage's parts make together.
 use Prim.Native.Nat.{ℕ, zero, suc, _+_, _≤_, _<_, min}
 use mathlib.Core.Path.{_≡_, refl, sym, ap, _∙_}
 use mathlib.Core.Bool.{Bool, true, false, cond}
@@ -10,24 +10,24 @@ use native.Mathlib.Numerals.{add-one}
 use lib.ListN.{length, getD, set}
 use lib.Seq.{getD-set-same}
 use lib.Dec.{ltb}
-use Rattle.theory_row.specs.Lists.{from}
+use Rattle.lists.specs.Lists.{from}
 use Rattle.theory_pair.specs.Coded.{lowest}
-use Rattle.theory_tables.specs.Steps.{B, Deck, pairCount, joinPose, nextCases}
+use Rattle.theory_tables.specs.Steps.{B, Deck, stateCount, joinPose, nextCases}
 use Rattle.theory_tables.specs.Stages.{caseTable}
-use Rattle.theory_tables.specs.Pairs.{count-0, count-1, count-2}
+use Rattle.theory_tables.specs.States.{count-0, count-1, count-2}
 use Rattle.search_lanes.specs.Store.{Low}
 use Rattle.search_lanes.specs.Laws.{low-set}
 use Rattle.search_join.specs.Places.{caseAt, Pages}
-use Rattle.search_join.specs.Tables.{casesIn, sourcesIn, pricesIn, Table, Least, Way, Joined, AllPairs, Closed}
+use Rattle.search_join.specs.Tables.{casesIn, pointersIn, costsIn, Table, Least, Way, Joined, AllStates, Closed}
 use Rattle.search_join.specs.Laws.{least-open}
 use Rattle.search_join.specs.SumLaws.{table-for}
 use Rattle.search_join.specs.Parts.{least-ext}
-use Rattle.search_stage.specs.Stage.{wide, widthOf, priceOf, tableOf, Right, Staged, StageDone, Through, StagesDone, BothPriced, StagesGiven}
+use Rattle.search_stage.specs.Stage.{wide, widthOf, costOf, tableOf, Right, Staged, StageDone, Through, StagesDone, BothCosted, StagesGiven}
 use Rattle.search_stage.specs.Starts.{ways-same}
 
 -- ---- counts
 
-pub count-some : (R : ℕ) → R ≤ 2 → 1 ≤ pairCount R
+pub count-some : (R : ℕ) → R ≤ 2 → 1 ≤ stateCount R
 count-some zero h = omega (arith, count-0)
 count-some (suc zero) h = omega (arith, count-1)
 count-some (suc (suc zero)) h = omega (arith, count-2)
@@ -90,27 +90,27 @@ wide-most (suc talls) I x h = rw (wide-all (suc talls) talls x (omega arith)) (w
 module _ (D₀ D₁ : Deck) (R talls : ℕ) (pos₀ pos₁ : ℕ → ℕ) where
   -- ---- each table from the one before
   pub table-step : (I q₀ q₁ a : ℕ) → I ≤ talls
-      → nextCases (wide talls I (pairCount R)) (wide talls I (D₀ .poses)) (tableOf D₀ D₁ R talls pos₀ pos₁ I) (priceOf D₀ R talls pos₀ I) (priceOf D₁ R talls pos₁ I) q₀ q₁ a
+      → nextCases (wide talls I (stateCount R)) (wide talls I (D₀ .poses)) (tableOf D₀ D₁ R talls pos₀ pos₁ I) (costOf D₀ R talls pos₀ I) (costOf D₁ R talls pos₁ I) q₀ q₁ a
       ≡ tableOf D₀ D₁ R talls pos₀ pos₁ (suc I) q₀ q₁ a
-  unfolding tableOf priceOf caseTable nextCases joinPose lowest from wide
+  unfolding tableOf costOf caseTable nextCases joinPose lowest from wide
   table-step zero q₀ q₁ a h = omega arith
-  table-step (suc I) q₀ q₁ a h = rw (wide-all talls I (pairCount R) (omega arith), wide-all talls I (D₀ .poses) (omega arith)) refl
+  table-step (suc I) q₀ q₁ a h = rw (wide-all talls I (stateCount R) (omega arith), wide-all talls I (D₀ .poses) (omega arith)) refl
 
   pub staged-right : (I : ℕ) {st : List ℕ} → Staged D₀ D₁ R talls pos₀ pos₁ I st → Right D₀ D₁ R talls pos₀ pos₁ (suc I) st
   staged-right I w = record { word = λ q₀ q₁ a h g f. w .case q₀ q₁ a h g f .right; beyond = w .beyond }
 
-  module _ (few : pairCount R ≤ 12) (some : 1 ≤ pairCount R) (narrow : D₀ .poses ≤ 60) where
-    wide-pairs : (I : ℕ) → wide talls I (pairCount R) ≤ 12
-    wide-pairs I = wide-low talls I (pairCount R) 12 (omega arith) few
+  module _ (few : stateCount R ≤ 12) (some : 1 ≤ stateCount R) (narrow : D₀ .poses ≤ 60) where
+    wide-states : (I : ℕ) → wide talls I (stateCount R) ≤ 12
+    wide-states I = wide-low talls I (stateCount R) 12 (omega arith) few
 
     wide-poses : (I : ℕ) → wide talls I (D₀ .poses) ≤ 60
     wide-poses I = wide-low talls I (D₀ .poses) 60 (omega arith) narrow
 
-    -- a stage from its prices and the table before
+    -- a stage from its costs and the table before
     pub stage-done : (I : ℕ) {old mid one new : List ℕ} → I ≤ talls → talls ≤ 24
-        → BothPriced (priceOf D₀ R talls pos₀ I) (priceOf D₁ R talls pos₁ I) I (wide talls I (pairCount R)) (wide talls I (D₀ .poses)) (wide talls (suc I) (pairCount R)) (wide talls (suc I) (D₀ .poses)) (wide talls I (pairCount R)) old mid
-        → Joined (wide talls I (pairCount R)) (wide talls I (widthOf (D₀ .poses))) (wide talls (suc I) (pairCount R)) (wide talls (suc I) (D₀ .poses)) I mid one
-        → Closed (suc I) (wide talls (suc I) (D₀ .poses)) (wide talls (suc I) (widthOf (D₀ .poses))) (AllPairs (wide talls (suc I) (pairCount R)) (wide talls (suc I) (pairCount R))) one new
+        → BothCosted (costOf D₀ R talls pos₀ I) (costOf D₁ R talls pos₁ I) I (wide talls I (stateCount R)) (wide talls I (D₀ .poses)) (wide talls (suc I) (stateCount R)) (wide talls (suc I) (D₀ .poses)) (wide talls I (stateCount R)) old mid
+        → Joined (wide talls I (stateCount R)) (wide talls I (widthOf (D₀ .poses))) (wide talls (suc I) (stateCount R)) (wide talls (suc I) (D₀ .poses)) I mid one
+        → Closed (suc I) (wide talls (suc I) (D₀ .poses)) (wide talls (suc I) (widthOf (D₀ .poses))) (AllStates (wide talls (suc I) (stateCount R)) (wide talls (suc I) (stateCount R))) one new
         → StageDone D₀ D₁ R talls pos₀ pos₁ I old new
     stage-done I {old} {mid} {one} {new} h g p j c =
         record {
@@ -123,7 +123,7 @@ module _ (D₀ D₁ : Deck) (R talls : ℕ) (pos₀ pos₁ : ℕ → ℕ) where
               record { case = w .case ∙ u .case ∙ v .case; source = w .source ∙ u .source ∙ v .source };
           staged = λ r. record {
             case = λ q₀ q₁ a x y z.
-                let m = wide-pairs (suc I) in
+                let m = wide-states (suc I) in
                 let n = wide-poses (suc I) in
                 let e = c .kept (suc I) q₀ q₁ a (omega arith, omega arith, omega arith, omega arith) (λ e k l. omega arith) in
                 rw (e .case, e .source) (go r q₀ q₁ a x y z);
@@ -132,36 +132,36 @@ module _ (D₀ D₁ : Deck) (R talls : ℕ) (pos₀ pos₁ : ℕ → ℕ) where
         }
       where
         -- the ways below B are the model's
-        same : Right D₀ D₁ R talls pos₀ pos₁ I old → (q₀ q₁ a s t l : ℕ) → q₀ < wide talls (suc I) (pairCount R) → q₁ < wide talls (suc I) (pairCount R) → a < wide talls (suc I) (D₀ .poses)
-            → s < wide talls I (pairCount R) → t < wide talls I (pairCount R) → l < wide talls I (D₀ .poses)
-            → min (casesIn mid I s t l + (pricesIn mid 0 s l q₀ a + pricesIn mid 1 t l q₁ a)) B
-            ≡ min (tableOf D₀ D₁ R talls pos₀ pos₁ I s t l + (priceOf D₀ R talls pos₀ I s l q₀ a + priceOf D₁ R talls pos₁ I t l q₁ a)) B
+        same : Right D₀ D₁ R talls pos₀ pos₁ I old → (q₀ q₁ a s t l : ℕ) → q₀ < wide talls (suc I) (stateCount R) → q₁ < wide talls (suc I) (stateCount R) → a < wide talls (suc I) (D₀ .poses)
+            → s < wide talls I (stateCount R) → t < wide talls I (stateCount R) → l < wide talls I (D₀ .poses)
+            → min (casesIn mid I s t l + (costsIn mid 0 s l q₀ a + costsIn mid 1 t l q₁ a)) B
+            ≡ min (tableOf D₀ D₁ R talls pos₀ pos₁ I s t l + (costOf D₀ R talls pos₀ I s l q₀ a + costOf D₁ R talls pos₁ I t l q₁ a)) B
         same r q₀ q₁ a s t l x y z b d e =
-            let m = wide-pairs I in
+            let m = wide-states I in
             let n = wide-poses I in
             let u = p .tables I s t l (omega arith, omega arith, omega arith, omega arith) .case in
             let v = r .word s t l b d e in
             ways-same _ _ (p .right₀ s b) (p .right₁ t d) q₀ q₁ a l x y z b d e u v
 
         -- no case goes by a lane beyond the poses
-        beyond : Right D₀ D₁ R talls pos₀ pos₁ I old → (s t l : ℕ) → s < wide talls I (pairCount R) → t < wide talls I (pairCount R) → wide talls I (D₀ .poses) ≤ l → l < wide talls I (widthOf (D₀ .poses))
+        beyond : Right D₀ D₁ R talls pos₀ pos₁ I old → (s t l : ℕ) → s < wide talls I (stateCount R) → t < wide talls I (stateCount R) → wide talls I (D₀ .poses) ≤ l → l < wide talls I (widthOf (D₀ .poses))
             → B ≤ casesIn mid I s t l
         beyond r s t l b d u v =
-            let m = wide-pairs I in
+            let m = wide-states I in
             let n = wide-lanes talls I (D₀ .poses) narrow in
             omega (arith, p .tables I s t l (omega arith, omega arith, omega arith, omega arith) .case, r .beyond .none s t l b d u v)
 
-        go : Right D₀ D₁ R talls pos₀ pos₁ I old → (q₀ q₁ a : ℕ) → q₀ < wide talls (suc I) (pairCount R) → q₁ < wide talls (suc I) (pairCount R) → a < wide talls (suc I) (D₀ .poses)
+        go : Right D₀ D₁ R talls pos₀ pos₁ I old → (q₀ q₁ a : ℕ) → q₀ < wide talls (suc I) (stateCount R) → q₁ < wide talls (suc I) (stateCount R) → a < wide talls (suc I) (D₀ .poses)
             → Least
             (tableOf D₀ D₁ R talls pos₀ pos₁ (suc I) q₀ q₁ a)
-            (Way (wide talls I (pairCount R)) (wide talls I (D₀ .poses)) (tableOf D₀ D₁ R talls pos₀ pos₁ I) (priceOf D₀ R talls pos₀ I) (priceOf D₁ R talls pos₁ I) q₀ q₁ a)
+            (Way (wide talls I (stateCount R)) (wide talls I (D₀ .poses)) (tableOf D₀ D₁ R talls pos₀ pos₁ I) (costOf D₀ R talls pos₀ I) (costOf D₁ R talls pos₁ I) q₀ q₁ a)
             (casesIn one (suc I) q₀ q₁ a)
-            (sourcesIn one (suc I) q₀ q₁ a)
+            (pointersIn one (suc I) q₀ q₁ a)
         go r q₀ q₁ a x y z =
-            let d = least-open (wide talls I (pairCount R)) (wide talls I (widthOf (D₀ .poses))) (wide talls I (D₀ .poses)) (casesIn mid I) (pricesIn mid 0) (pricesIn mid 1) q₀ q₁ a
+            let d = least-open (wide talls I (stateCount R)) (wide talls I (widthOf (D₀ .poses))) (wide talls I (D₀ .poses)) (casesIn mid I) (costsIn mid 0) (costsIn mid 1) q₀ q₁ a
             (wide-lanes talls I (D₀ .poses) narrow .0) (beyond r) (j .done q₀ q₁ a x y z) in
-            let w = least-ext (wide talls I (pairCount R)) (wide talls I (D₀ .poses)) (casesIn mid I) (tableOf D₀ D₁ R talls pos₀ pos₁ I)
-            (pricesIn mid 0) (pricesIn mid 1) (priceOf D₀ R talls pos₀ I) (priceOf D₁ R talls pos₁ I) q₀ q₁ a
+            let w = least-ext (wide talls I (stateCount R)) (wide talls I (D₀ .poses)) (casesIn mid I) (tableOf D₀ D₁ R talls pos₀ pos₁ I)
+            (costsIn mid 0) (costsIn mid 1) (costOf D₀ R talls pos₀ I) (costOf D₁ R talls pos₁ I) q₀ q₁ a
             (λ s t l b d e. same r q₀ q₁ a s t l x y z b d e) d in
             record { right = w .right ∙ table-step I q₀ q₁ a h; found = w .found; small = w .small }
 
@@ -169,9 +169,9 @@ module _ (D₀ D₁ : Deck) (R talls : ℕ) (pos₀ pos₁ : ℕ → ℕ) where
     pub stage-made : (I count starts lanes ends last width : ℕ) {old mid one new : List ℕ}
         → starts ≡ wide talls I count → lanes ≡ wide talls I (widthOf (D₀ .poses)) → ends ≡ wide talls (I + 1) count → last ≡ wide talls (I + 1) (D₀ .poses)
         → width ≡ wide talls (I + 1) (widthOf (D₀ .poses))
-        → count ≡ pairCount R → I ≤ talls → talls ≤ 24
-        → BothPriced (priceOf D₀ R talls pos₀ I) (priceOf D₁ R talls pos₁ I) I (wide talls I count) (wide talls I (D₀ .poses)) (wide talls (suc I) count) (wide talls (suc I) (D₀ .poses)) (wide talls I count) old mid
-        → Joined starts lanes ends last I mid one → Closed (I + 1) last width (AllPairs ends ends) one new
+        → count ≡ stateCount R → I ≤ talls → talls ≤ 24
+        → BothCosted (costOf D₀ R talls pos₀ I) (costOf D₁ R talls pos₁ I) I (wide talls I count) (wide talls I (D₀ .poses)) (wide talls (suc I) count) (wide talls (suc I) (D₀ .poses)) (wide talls I count) old mid
+        → Joined starts lanes ends last I mid one → Closed (I + 1) last width (AllStates ends ends) one new
         → StageDone D₀ D₁ R talls pos₀ pos₁ I old new
     stage-made I count starts lanes ends last width e₁ e₂ e₃ e₄ e₅ all h g p j c =
         let b = rw all at p in
@@ -184,13 +184,13 @@ module _ (D₀ D₁ : Deck) (R talls : ℕ) (pos₀ pos₁ : ℕ → ℕ) where
         → Staged D₀ D₁ R talls pos₀ pos₁ J old → Staged D₀ D₁ R talls pos₀ pos₁ J new
     staged-kept j I h g d w = record {
       case = λ q₀ q₁ a x y z.
-          let m = wide-pairs (suc j) in
+          let m = wide-states (suc j) in
           let n = wide-poses (suc j) in
           let e = d .tables (suc j) q₀ q₁ a (λ e. omega arith) (omega arith, omega arith, omega arith, omega arith) in
           rw (e .case, e .source) (w .case q₀ q₁ a x y z);
       beyond = record {
         none = λ q₀ q₁ l x y u v.
-            let m = wide-pairs (suc j) in
+            let m = wide-states (suc j) in
             let n = wide-lanes talls (suc j) (D₀ .poses) narrow in
             d .tables (suc j) q₀ q₁ l (λ e. omega arith) (omega arith, omega arith, omega arith, omega arith) .case ∙ w .beyond .none q₀ q₁ l x y u v;
       };
@@ -223,7 +223,7 @@ module _ (D₀ D₁ : Deck) (R talls : ℕ) (pos₀ pos₁ : ℕ → ℕ) where
   -- all stages
   pub through-all : {I : ℕ} {old mid new : List ℕ} → length mid ≡ length old → Through D₀ D₁ R talls pos₀ pos₁ I mid new → talls < I
       → StagesDone D₀ D₁ R talls pos₀ pos₁ old new
-  unfolding tableOf priceOf
+  unfolding tableOf costOf
   through-all e t m =
       record {
         long = t .long ∙ e;
@@ -232,14 +232,14 @@ module _ (D₀ D₁ : Deck) (R talls : ℕ) (pos₀ pos₁ : ℕ → ℕ) where
         way = λ I q₀ q₁ a h x y z b.
             let c = t .staged (suc I) (omega arith) .case q₀ q₁ a x y z in
             let g = c .found (omega (arith, c .right)) in
-            rw (wide-all talls I (pairCount R) (omega arith), wide-all talls I (D₀ .poses) (omega arith), c .right) at g;
+            rw (wide-all talls I (stateCount R) (omega arith), wide-all talls I (D₀ .poses) (omega arith), c .right) at g;
       }
 
 -- ---- what a stage is given
 
-module _ {line₀ line₁ pairs places₀ places₁ st : List ℕ} {R n₀ n₁ poses count talls : ℕ} (g : StagesGiven line₀ line₁ pairs places₀ places₁ st R n₀ n₁ poses count talls) where
-  pub given-pairs : (count ≤ 12) × (1 ≤ count) × (poses ≤ 60) × (talls ≤ 24)
-  given-pairs =
+module _ {line₀ line₁ states places₀ places₁ st : List ℕ} {R n₀ n₁ poses count talls : ℕ} (g : StagesGiven line₀ line₁ states places₀ places₁ st R n₀ n₁ poses count talls) where
+  pub given-states : (count ≤ 12) × (1 ≤ count) × (poses ≤ 60) × (talls ≤ 24)
+  given-states =
       let r = g .row₀ .ground in (
         omega (arith, r .all, r .coded .few),
         omega (arith, r .all, count-some R (r .coded .reorder)),
@@ -249,9 +249,9 @@ module _ {line₀ line₁ pairs places₀ places₁ st : List ℕ} {R n₀ n₁ 
 
   pub given-wide : (I : ℕ) → (wide talls I count ≤ 12) × (wide talls I poses ≤ 60) × Pages (wide talls I count) st
   given-wide I = (
-    wide-low talls I count 12 (omega arith) (given-pairs .0),
-    wide-low talls I poses 60 (omega arith) (given-pairs .2),
-    omega (arith, g .long, wide-most talls I count (given-pairs .1)),
+    wide-low talls I count 12 (omega arith) (given-states .0),
+    wide-low talls I poses 60 (omega arith) (given-states .2),
+    omega (arith, g .long, wide-most talls I count (given-states .1)),
   )
 
   -- every table has the case (0, 0, 0)
@@ -262,8 +262,8 @@ module _ {line₀ line₁ pairs places₀ places₁ st : List ℕ} {R n₀ n₁ 
   pub given-table : (I : ℕ) (new : List ℕ) → I ≤ talls → length new ≡ length st → Low new → Table (wide talls I count) (wide talls I poses) I new
   given-table I new h e w =
       let n = given-wide I in
-      record { pairs = n .0; few = omega (arith, n .1); stage = omega (arith, given-pairs .3); long = omega (arith, n .2); low = w }
+      record { states = n .0; few = omega (arith, n .1); stage = omega (arith, given-states .3); long = omega (arith, n .2); low = w }
 
   -- the same with the lanes that it is run in
   pub given-join : (I : ℕ) (new : List ℕ) → I ≤ talls → length new ≡ length st → Low new → Table (wide talls I count) (wide talls I (widthOf poses)) I new
-  given-join I new h e w = let t = given-table I new h e w in table-for _ I t (wide-lanes talls I poses (given-pairs .2) .1) (t .stage)
+  given-join I new h e w = let t = given-table I new h e w in table-for _ I t (wide-lanes talls I poses (given-states .2) .1) (t .stage)

@@ -1,4 +1,4 @@
--- Prices of a stage in one row, from the first layer and the stretch on from it. Assumes nothing.
+-- Costs of a stage in one row, from the first layer and the segment on from it.
 use Prim.Native.Nat.{ℕ, suc, _+_, _-_, _≤_, _<_}
 use mathlib.Core.Path.{_≡_, sym, ap, _∙_}
 use mathlib.Core.Logic.{⊎-elim}
@@ -7,23 +7,23 @@ use native.Mathlib.Omega.{arith}
 use native.Mathlib.Numerals.{add-one}
 use native.Mathlib.Decide.{decLt}
 use lib.ListN.{getD, replicate, length-replicate, getD-replicate, List·getD-eq-default}
-use Rattle.theory_tables.specs.Steps.{B, Deck, Layer, pairCount, marks, firstAfter, firstOpen}
-use Rattle.theory_tables.specs.Stages.{placedWith, stageEnd, openPrice, stagePrice}
+use Rattle.theory_tables.specs.Steps.{B, Deck, Layer, stateCount, marks, firstAfter, firstOpen}
+use Rattle.theory_tables.specs.Stages.{placedWith, stageEnd, openCost, stageCost}
 use Rattle.search_lanes.specs.Store.{Frame, Low, layerIn, Filled}
 use Rattle.search_wide_first.specs.Firsts.{afterFrom}
-use Rattle.search_wide_segment.specs.Runs.{Priced}
+use Rattle.search_wide_segment.specs.Runs.{SegmentCosted}
 use Rattle.search_wide_end.specs.Ends.{Ended}
-use Rattle.search_dense_segment.specs.Opened.{tallPrice, endPrice, Opened}
-use Rattle.search_stage.specs.Stage.{wide, posIn, priceOf, endFrom, RowPriced, RowGiven}
+use Rattle.search_dense_segment.specs.Opened.{tallCost, endCost, Opened}
+use Rattle.search_stage.specs.Stage.{wide, posIn, costOf, endFrom, RowCosted, RowGiven}
 use Rattle.search_stage.specs.Laws.{wide-all, wide-last, wide-tall}
 use Rattle.search_stage.specs.Same.{stage-ext, stage-tall, stage-last}
 
 module _ (D : Deck) (R talls : ℕ) (pos : ℕ → ℕ) where
   -- to a tall cell
-  pub row-tall : {I lanes count i p prices : ℕ} {old new : List ℕ} (starts : List ℕ)
-      → I < talls → count ≡ pairCount R → p ≡ pos I → Priced D R lanes i p prices old new
-      → RowPriced (endFrom D R talls pos I old i starts) lanes (wide talls (suc I) count) (wide talls (suc I) (D .poses)) prices old new
-  row-tall {I} {lanes} {count} {i} {p} {prices} {old} starts h n e w =
+  pub row-tall : {I lanes count i p costs : ℕ} {old new : List ℕ} (starts : List ℕ)
+      → I < talls → count ≡ stateCount R → p ≡ pos I → SegmentCosted D R lanes i p costs old new
+      → RowCosted (endFrom D R talls pos I old i starts) lanes (wide talls (suc I) count) (wide talls (suc I) (D .poses)) costs old new
+  row-tall {I} {lanes} {count} {i} {p} {costs} {old} starts h n e w =
       let c = wide-all talls I count h in
       let d = wide-all talls I (D .poses) h in
       record {
@@ -37,10 +37,10 @@ module _ (D : Deck) (R talls : ℕ) (pos : ℕ → ℕ) where
       }
 
   -- to the row's end
-  pub row-last : (count : ℕ) {I lanes i prices : ℕ} {starts old new : List ℕ}
-      → talls ≤ I → Ended D R lanes i prices starts old new
-      → RowPriced (endFrom D R talls pos I old i starts) lanes (wide talls (suc I) count) (wide talls (suc I) (D .poses)) prices old new
-  row-last count {I} {lanes} {i} {prices} {starts} {old} {new} h w =
+  pub row-last : (count : ℕ) {I lanes i costs : ℕ} {starts old new : List ℕ}
+      → talls ≤ I → Ended D R lanes i costs starts old new
+      → RowCosted (endFrom D R talls pos I old i starts) lanes (wide talls (suc I) count) (wide talls (suc I) (D .poses)) costs old new
+  row-last count {I} {lanes} {i} {costs} {starts} {old} {new} h w =
       let c = wide-last talls (suc I) count (omega arith) in
       let d = wide-last talls (suc I) (D .poses) (omega arith) in
       record {
@@ -54,10 +54,10 @@ module _ (D : Deck) (R talls : ℕ) (pos : ℕ → ℕ) where
       }
 
   -- after the first layer in block 0; there may be more lanes than are asked for
-  row-from : (I i : ℕ) (starts : List ℕ) {lanes width ends poses prices : ℕ} {F : ℕ → Layer} {old mid new : List ℕ}
-      → lanes ≤ width → Frame 0 49152 old mid → RowPriced (endFrom D R talls pos I mid i starts) width ends poses prices mid new
+  row-from : (I i : ℕ) (starts : List ℕ) {lanes width ends poses costs : ℕ} {F : ℕ → Layer} {old mid new : List ℕ}
+      → lanes ≤ width → Frame 0 49152 old mid → RowCosted (endFrom D R talls pos I mid i starts) width ends poses costs mid new
       → ((q a l : ℕ) → q < ends → a < poses → l < lanes → stageEnd D R talls pos I (layerIn mid 0 l) i (getD starts l 0) q a ≡ F l q a)
-      → RowPriced F lanes ends poses prices old new
+      → RowCosted F lanes ends poses costs old new
   row-from I i starts m f w e =
       record {
         long = w .long ∙ f .long;
@@ -67,11 +67,11 @@ module _ (D : Deck) (R talls : ℕ) (pos : ℕ → ℕ) where
       }
 
   -- stage 0, to the first tall cell
-  pub open-tall : {count p prices : ℕ} {old new : List ℕ}
-      → 0 < talls → p ≡ pos 0 → Opened (tallPrice D R p) count (D .poses) prices old new
-      → RowPriced (priceOf D R talls pos 0 0) 1 (wide talls 1 count) (wide talls 1 (D .poses)) prices old new
-  unfolding priceOf openPrice
-  open-tall {count} {p} {prices} {old} {new} h e w =
+  pub open-tall : {count p costs : ℕ} {old new : List ℕ}
+      → 0 < talls → p ≡ pos 0 → Opened (tallCost D R p) count (D .poses) costs old new
+      → RowCosted (costOf D R talls pos 0 0) 1 (wide talls 1 count) (wide talls 1 (D .poses)) costs old new
+  unfolding costOf openCost
+  open-tall {count} {p} {costs} {old} {new} h e w =
       let c = wide-all talls 0 count h in
       let d = wide-all talls 0 (D .poses) h in
       record {
@@ -84,11 +84,11 @@ module _ (D : Deck) (R talls : ℕ) (pos : ℕ → ℕ) where
       }
 
   -- and to the end of a row that has none
-  pub open-last : (count : ℕ) {prices : ℕ} {old new : List ℕ}
-      → talls ≤ 0 → Opened (endPrice D R) 1 1 prices old new
-      → RowPriced (priceOf D R talls pos 0 0) 1 (wide talls 1 count) (wide talls 1 (D .poses)) prices old new
-  unfolding priceOf openPrice
-  open-last count {prices} {old} {new} h w =
+  pub open-last : (count : ℕ) {costs : ℕ} {old new : List ℕ}
+      → talls ≤ 0 → Opened (endCost D R) 1 1 costs old new
+      → RowCosted (costOf D R talls pos 0 0) 1 (wide talls 1 count) (wide talls 1 (D .poses)) costs old new
+  unfolding costOf openCost
+  open-last count {costs} {old} {new} h w =
       let c = wide-last talls 1 count (omega arith) in
       let d = wide-last talls 1 (D .poses) (omega arith) in
       record {
@@ -101,23 +101,23 @@ module _ (D : Deck) (R talls : ℕ) (pos : ℕ → ℕ) where
             ∙ sym (stage-last D R talls pos (firstOpen D R) 0 1 0 q a h (omega arith) (omega arith));
       }
 
-  -- it is the same from every start pair
-  pub row-open : {I : ℕ} (count s : ℕ) {prices : ℕ} {old new : List ℕ}
-      → I ≡ 0 → RowPriced (priceOf D R talls pos 0 0) 1 (wide talls 1 count) (wide talls 1 (D .poses)) prices old new
-      → RowPriced (priceOf D R talls pos I s) (wide talls I (D .poses)) (wide talls (suc I) count) (wide talls (suc I) (D .poses)) prices old new
-  unfolding priceOf wide
-  row-open count s {prices} {old} {new} e w =
-      let v : RowPriced (priceOf D R talls pos 0 s) 1 (wide talls 1 count) (wide talls 1 (D .poses)) prices old new =
+  -- it is the same from every start state
+  pub row-open : {I : ℕ} (count s : ℕ) {costs : ℕ} {old new : List ℕ}
+      → I ≡ 0 → RowCosted (costOf D R talls pos 0 0) 1 (wide talls 1 count) (wide talls 1 (D .poses)) costs old new
+      → RowCosted (costOf D R talls pos I s) (wide talls I (D .poses)) (wide talls (suc I) count) (wide talls (suc I) (D .poses)) costs old new
+  unfolding costOf wide
+  row-open count s {costs} {old} {new} e w =
+      let v : RowCosted (costOf D R talls pos 0 s) 1 (wide talls 1 count) (wide talls 1 (D .poses)) costs old new =
       record { long = w .long; low = w .low; kept = w .kept; right = w .right } in
       rw e v
 
-  -- the stage after tall cell I, which stands as pair s
-  after-tall : (I count s : ℕ) (starts : List ℕ) {width prices : ℕ} {old mid new : List ℕ}
-      → I < talls → D .poses ≤ width → count ≡ pairCount R → ((l : ℕ) → l < D .poses → getD starts l 0 ≡ D .back (pos I) l)
+  -- the stage after tall cell I, which stands as state s
+  after-tall : (I count s : ℕ) (starts : List ℕ) {width costs : ℕ} {old mid new : List ℕ}
+      → I < talls → D .poses ≤ width → count ≡ stateCount R → ((l : ℕ) → l < D .poses → getD starts l 0 ≡ D .back (pos I) l)
       → Filled (afterFrom D R (placedWith R (pos I) s) (marks R s) (pos I)) width (D .poses) 0 count old mid
-      → RowPriced (endFrom D R talls pos (suc I) mid (suc (placedWith R (pos I) s)) starts) width (wide talls (suc (suc I)) count) (wide talls (suc (suc I)) (D .poses)) prices mid new
-      → RowPriced (priceOf D R talls pos (suc I) s) (wide talls (suc I) (D .poses)) (wide talls (suc (suc I)) count) (wide talls (suc (suc I)) (D .poses)) prices old new
-  unfolding priceOf stagePrice
+      → RowCosted (endFrom D R talls pos (suc I) mid (suc (placedWith R (pos I) s)) starts) width (wide talls (suc (suc I)) count) (wide talls (suc (suc I)) (D .poses)) costs mid new
+      → RowCosted (costOf D R talls pos (suc I) s) (wide talls (suc I) (D .poses)) (wide talls (suc (suc I)) count) (wide talls (suc (suc I)) (D .poses)) costs old new
+  unfolding costOf stageCost
   after-tall I count s starts {mid = mid} h m n b f w =
       let i = placedWith R (pos I) s in
       rw (wide-all talls I (D .poses) h)
@@ -128,12 +128,12 @@ module _ (D : Deck) (R talls : ℕ) (pos : ℕ → ℕ) where
       talls pos (suc I) (suc i) (getD starts l 0) q a (rw n at x) y
       ∙ ap (λ (e : ℕ). stageEnd D R talls pos (suc I) (firstAfter D R i (marks R s) (pos I) l) (suc i) e q a) (b l z)))
 
-  pub row-after : (I J count s p placed : ℕ) (starts : List ℕ) {width prices : ℕ} {old mid new : List ℕ}
-      → I ≡ suc J → I ≤ talls → D .poses ≤ width → count ≡ pairCount R → p ≡ pos J → placed ≡ placedWith R p s
+  pub row-after : (I J count s p placed : ℕ) (starts : List ℕ) {width costs : ℕ} {old mid new : List ℕ}
+      → I ≡ suc J → I ≤ talls → D .poses ≤ width → count ≡ stateCount R → p ≡ pos J → placed ≡ placedWith R p s
       → ((l : ℕ) → l < D .poses → getD starts l 0 ≡ D .back p l)
       → Filled (afterFrom D R placed (marks R s) p) width (D .poses) 0 count old mid
-      → RowPriced (endFrom D R talls pos I mid (placed + 1) starts) width (wide talls (suc I) count) (wide talls (suc I) (D .poses)) prices mid new
-      → RowPriced (priceOf D R talls pos I s) (wide talls I (D .poses)) (wide talls (suc I) count) (wide talls (suc I) (D .poses)) prices old new
+      → RowCosted (endFrom D R talls pos I mid (placed + 1) starts) width (wide talls (suc I) count) (wide talls (suc I) (D .poses)) costs mid new
+      → RowCosted (costOf D R talls pos I s) (wide talls I (D .poses)) (wide talls (suc I) count) (wide talls (suc I) (D .poses)) costs old new
   row-after I J count s p placed starts e h m n g k b f w =
       let v = rw (k, g) at f in
       let u = rw (add-one, k, g, e) at w in
@@ -141,13 +141,13 @@ module _ (D : Deck) (R talls : ℕ) (pos : ℕ → ℕ) where
 
 -- ---- a start after a tall cell
 
-pub start-place : {line pairs places : List ℕ} {R n poses count talls : ℕ} (I p : ℕ)
-    → RowGiven line pairs places R n poses count talls → (I ≡ 0 → ⊥) → I ≤ talls → p ≡ getD places (I - 1) 0 → p < 64
+pub start-place : {line states places : List ℕ} {R n poses count talls : ℕ} (I p : ℕ)
+    → RowGiven line states places R n poses count talls → (I ≡ 0 → ⊥) → I ≤ talls → p ≡ getD places (I - 1) 0 → p < 64
 unfolding posIn
 start-place I p g z h e = omega (arith, g .inside (I - 1) (omega (arith, z)), g .ground .size)
 
-pub start-pair : (talls I count s : ℕ) → s < wide talls I count → (I ≡ 0 → ⊥) → I ≤ talls → s < count
-start-pair talls I count s h z g = omega (arith, wide-tall talls I count z g)
+pub start-state : (talls I count s : ℕ) → s < wide talls I count → (I ≡ 0 → ⊥) → I ≤ talls → s < count
+start-state talls I count s h z g = omega (arith, wide-tall talls I count z g)
 
 -- words of 0 alone
 pub zeros-low : (n : ℕ) → Low (replicate n 0)

@@ -1,18 +1,18 @@
-// The stages of the search: the prices of both rows from every start pair, joined with the case table before.
+// The stages of the search: the costs of both rows from every start state, joined with the case table before.
 mod row;
 
 ghost use mathlib.Core.Path.{_≡_};
 ghost use mathlib.Core.Bool.{false};
 ghost use Prim.Native.Nat.{suc, _≤_, _<_};
-ghost use Rattle.theory_tables.specs.Steps.{pairCount};
+ghost use Rattle.theory_tables.specs.Steps.{stateCount};
 ghost use Rattle.theory_tables.specs.Stages.{placedWith};
-ghost use Rattle.search_row.specs.Words.{deckOf, PairWords};
+ghost use Rattle.search_row.specs.Words.{deckOf, StateWords};
 ghost use Rattle.search_wide_buckets.specs.Table.{Lent};
 ghost use Rattle.search_join.specs.Tables.{Table};
-ghost use Rattle.search_stage.specs.Stage.{wide, widthOf, posIn, priceOf, fromAt, Dead, StartPriced, BothPriced, RowGiven, StagesGiven, StageDone, StagesDone};
-use row::row_price;
+ghost use Rattle.search_stage.specs.Stage.{wide, widthOf, posIn, costOf, fromAt, Dead, StartCosted, BothCosted, RowGiven, StagesGiven, StageDone, StagesDone};
+use row::row_cost;
 
-// How many of x pairs or poses table number i has.
+// How many of x states or poses table number i has.
 pub fn wide_of(talls: usize, i: usize, x: usize) -> usize
     ensures { λ r. ⌜ r ≡ wide talls i x ⌝ }
 {
@@ -25,7 +25,7 @@ pub fn wide_of(talls: usize, i: usize, x: usize) -> usize
     x
 }
 
-// How many lanes a stretch is run in: a multiple of 16, so that loops over lanes, many at a time, leave no rest. No case goes by those beyond the poses.
+// How many lanes a segment is run in: a multiple of 16, so that loops over lanes, many at a time, leave no rest. No case goes by those beyond the poses.
 fn width_of(poses: usize) -> usize
     requires { ⌜ poses ≤ 60 ⌝ }
     ensures { λ w. ⌜ w ≡ widthOf poses ⌝ }
@@ -41,20 +41,20 @@ fn lanes_of(talls: usize, i: usize, poses: usize) -> usize
     wide_of(talls, i, width_of(poses))
 }
 
-// How many cells are placed once the cell at position p stands as pair s.
-pub fn placed_with(pairs: &[u32], r: usize, p: usize, s: usize) -> usize
-    requires { ⌜ PairWords r (now pairs) × (s < pairCount r) × (p < 64) ⌝ }
+// How many cells are placed once the cell at position p stands as state s.
+pub fn placed_with(states: &[u32], r: usize, p: usize, s: usize) -> usize
+    requires { ⌜ StateWords r (now states) × (s < stateCount r) × (p < 64) ⌝ }
     ensures { λ i. ⌜ i ≡ placedWith r p s ⌝ }
 {
     let all = p + r + 1;
-    let d = search_row::word(pairs, s * 4);
+    let d = search_row::word(states, s * 4);
     if all < d {
         return 0;
     }
     all - d
 }
 
-// Where the cases begin in which start pair s of a row goes with pair t of the other.
+// Where the cases begin in which start state s of a row goes with state t of the other.
 fn case_from(row: usize, i: usize, s: usize, t: usize) -> usize
     requires { ⌜ (i ≤ 25) × (s ≤ 12) × (t ≤ 12) ⌝ }
     ensures { λ r. ⌜ r ≡ fromAt row i s t ⌝ }
@@ -65,7 +65,7 @@ fn case_from(row: usize, i: usize, s: usize, t: usize) -> usize
     search_join::case_at(i, t, s)
 }
 
-// Whether some case goes from start pair s of a row.
+// Whether some case goes from start state s of a row.
 fn live(store: &[u32], row: usize, i: usize, starts: usize, lanes: usize, s: usize) -> bool
     requires { ⌜ Table starts lanes i (now store) × (s < starts) ⌝ }
     ensures { λ r. ⌜ (r ≡ false → Dead (now (store .entry)) row i starts lanes s) ⌝ }
@@ -80,13 +80,13 @@ fn live(store: &[u32], row: usize, i: usize, starts: usize, lanes: usize, s: usi
     false
 }
 
-// The prices of stage i in a row from start pair s, if some case goes from it.
-fn price_start(
+// The costs of stage i in a row from start state s, if some case goes from it.
+fn cost_start(
     table: &mut [u32; 10944],
     store: &mut [u32],
     row: usize,
     line: &[u32],
-    pairs: &[u32],
+    states: &[u32],
     places: &[u32],
     n: usize,
     poses: usize,
@@ -96,20 +96,20 @@ fn price_start(
     i: usize,
     s: usize,
 )
-    requires { ⌜ Lent (now table) × RowGiven (now line) (now pairs) (now places) r n poses count talls × Table (wide talls i count) (wide talls i poses) i (now store) × (row ≤ 1) × (i ≤ talls) × (s < wide talls i count) ⌝ }
-    ensures { λ _. ⌜ StartPriced row (priceOf (deckOf (now (line .entry)) n poses) r talls (posIn (now (places .entry))) i) i (wide talls i count) (wide talls i poses) (wide talls (suc i) count) (wide talls (suc i) poses) s (now (store .entry)) (now (store .exit)) × Lent (now (table .exit)) ⌝ }
+    requires { ⌜ Lent (now table) × RowGiven (now line) (now states) (now places) r n poses count talls × Table (wide talls i count) (wide talls i poses) i (now store) × (row ≤ 1) × (i ≤ talls) × (s < wide talls i count) ⌝ }
+    ensures { λ _. ⌜ StartCosted row (costOf (deckOf (now (line .entry)) n poses) r talls (posIn (now (places .entry))) i) i (wide talls i count) (wide talls i poses) (wide talls (suc i) count) (wide talls (suc i) poses) s (now (store .entry)) (now (store .exit)) × Lent (now (table .exit)) ⌝ }
 {
     let starts = wide_of(talls, i, count);
     let lanes = lanes_of(talls, i, poses);
     if !live(store, row, i, starts, lanes, s) {
         return;
     }
-    let prices = search_join::price_at(row, s, 0, 0);
-    row_price(
+    let costs = search_join::cost_at(row, s, 0, 0);
+    row_cost(
         table,
         store,
         line,
-        pairs,
+        states,
         places,
         n,
         poses,
@@ -118,17 +118,17 @@ fn price_start(
         talls,
         i,
         s,
-        prices,
+        costs,
     );
 }
 
-// The prices of stage i in both rows, from every start pair.
-fn prices(
+// The costs of stage i in both rows, from every start state.
+fn costs(
     table: &mut [u32; 10944],
     store: &mut [u32],
     line0: &[u32],
     line1: &[u32],
-    pairs: &[u32],
+    states: &[u32],
     places0: &[u32],
     places1: &[u32],
     n0: usize,
@@ -139,18 +139,18 @@ fn prices(
     talls: usize,
     i: usize,
 )
-    requires { ⌜ Lent (now table) × StagesGiven (now line0) (now line1) (now pairs) (now places0) (now places1) (now store) r n0 n1 poses count talls × (i ≤ talls) ⌝ }
-    ensures { λ _. ⌜ BothPriced (priceOf (deckOf (now (line0 .entry)) n0 poses) r talls (posIn (now (places0 .entry))) i) (priceOf (deckOf (now (line1 .entry)) n1 poses) r talls (posIn (now (places1 .entry))) i) i (wide talls i count) (wide talls i poses) (wide talls (suc i) count) (wide talls (suc i) poses) (wide talls i count) (now (store .entry)) (now (store .exit)) × Lent (now (table .exit)) ⌝ }
+    requires { ⌜ Lent (now table) × StagesGiven (now line0) (now line1) (now states) (now places0) (now places1) (now store) r n0 n1 poses count talls × (i ≤ talls) ⌝ }
+    ensures { λ _. ⌜ BothCosted (costOf (deckOf (now (line0 .entry)) n0 poses) r talls (posIn (now (places0 .entry))) i) (costOf (deckOf (now (line1 .entry)) n1 poses) r talls (posIn (now (places1 .entry))) i) i (wide talls i count) (wide talls i poses) (wide talls (suc i) count) (wide talls (suc i) poses) (wide talls i count) (now (store .entry)) (now (store .exit)) × Lent (now (table .exit)) ⌝ }
 {
     let starts = wide_of(talls, i, count);
     let mut s: usize = 0;
     while s < starts {
-        price_start(
+        cost_start(
             table,
             store,
             0,
             line0,
-            pairs,
+            states,
             places0,
             n0,
             poses,
@@ -160,12 +160,12 @@ fn prices(
             i,
             s,
         );
-        price_start(
+        cost_start(
             table,
             store,
             1,
             line1,
-            pairs,
+            states,
             places1,
             n1,
             poses,
@@ -185,7 +185,7 @@ pub fn stage(
     store: &mut [u32],
     line0: &[u32],
     line1: &[u32],
-    pairs: &[u32],
+    states: &[u32],
     places0: &[u32],
     places1: &[u32],
     n0: usize,
@@ -196,15 +196,15 @@ pub fn stage(
     talls: usize,
     i: usize,
 )
-    requires { ⌜ Lent (now table) × StagesGiven (now line0) (now line1) (now pairs) (now places0) (now places1) (now store) r n0 n1 poses count talls × (i ≤ talls) ⌝ }
+    requires { ⌜ Lent (now table) × StagesGiven (now line0) (now line1) (now states) (now places0) (now places1) (now store) r n0 n1 poses count talls × (i ≤ talls) ⌝ }
     ensures { λ _. ⌜ StageDone (deckOf (now (line0 .entry)) n0 poses) (deckOf (now (line1 .entry)) n1 poses) r talls (posIn (now (places0 .entry))) (posIn (now (places1 .entry))) i (now (store .entry)) (now (store .exit)) × Lent (now (table .exit)) ⌝ }
 {
-    prices(
+    costs(
         table,
         store,
         line0,
         line1,
-        pairs,
+        states,
         places0,
         places1,
         n0,
@@ -229,7 +229,7 @@ pub fn stages(
     store: &mut [u32],
     line0: &[u32],
     line1: &[u32],
-    pairs: &[u32],
+    states: &[u32],
     places0: &[u32],
     places1: &[u32],
     n0: usize,
@@ -239,7 +239,7 @@ pub fn stages(
     count: usize,
     talls: usize,
 )
-    requires { ⌜ StagesGiven (now line0) (now line1) (now pairs) (now places0) (now places1) (now store) r n0 n1 poses count talls ⌝ }
+    requires { ⌜ StagesGiven (now line0) (now line1) (now states) (now places0) (now places1) (now store) r n0 n1 poses count talls ⌝ }
     ensures { λ _. ⌜ StagesDone (deckOf (now (line0 .entry)) n0 poses) (deckOf (now (line1 .entry)) n1 poses) r talls (posIn (now (places0 .entry))) (posIn (now (places1 .entry))) (now (store .entry)) (now (store .exit)) ⌝ }
 {
     let mut table = [0u32; 10944];
@@ -251,7 +251,7 @@ pub fn stages(
             store,
             line0,
             line1,
-            pairs,
+            states,
             places0,
             places1,
             n0,

@@ -1,4 +1,4 @@
-// The prices of a stage in one row, from one start pair.
+// The costs of a stage in one row, from one start state.
 ghost use mathlib.Core.Path.{_≡_};
 ghost use Prim.Native.Nat.{suc, _≤_, _<_};
 ghost use lib.ListN.{length};
@@ -6,9 +6,9 @@ ghost use Rattle.search_lanes.specs.Store.{Low, Written};
 ghost use Rattle.search_row.specs.Words.{backIn, deckOf, LineWords};
 ghost use Rattle.search_wide_layer.specs.Loops.{Given};
 ghost use Rattle.search_wide_buckets.specs.Table.{Lent};
-ghost use Rattle.search_wide_segment.specs.Runs.{PriceRoom};
+ghost use Rattle.search_wide_segment.specs.Runs.{CostRoom};
 ghost use Rattle.search_dense_segment.specs.Opened.{OpenRoom};
-ghost use Rattle.search_stage.specs.Stage.{wide, posIn, priceOf, endFrom, RowPriced, RowGiven};
+ghost use Rattle.search_stage.specs.Stage.{wide, posIn, costOf, endFrom, RowCosted, RowGiven};
 use crate::placed_with;
 use crate::width_of;
 
@@ -29,7 +29,7 @@ fn stage_end(
     table: &mut [u32; 10944],
     store: &mut [u32],
     line: &[u32],
-    pairs: &[u32],
+    states: &[u32],
     places: &[u32],
     starts: &[u32; 64],
     n: usize,
@@ -40,18 +40,18 @@ fn stage_end(
     i: usize,
     lanes: usize,
     cells: usize,
-    prices: usize,
+    costs: usize,
 )
-    requires { ⌜ Lent (now table) × RowGiven (now line) (now pairs) (now places) r n poses count talls × Given (now line) (now pairs) (now store) n poses r count lanes cells 0 × PriceRoom (now store) prices × Low (now starts) × (length (now starts) ≡ 64) ⌝ }
-    ensures { λ _. ⌜ RowPriced (endFrom (deckOf (now (line .entry)) n poses) r talls (posIn (now (places .entry))) i (now (store .entry)) cells (now (starts .entry))) lanes (wide talls (suc i) count) (wide talls (suc i) poses) prices (now (store .entry)) (now (store .exit)) × Lent (now (table .exit)) ⌝ }
+    requires { ⌜ Lent (now table) × RowGiven (now line) (now states) (now places) r n poses count talls × Given (now line) (now states) (now store) n poses r count lanes cells 0 × CostRoom (now store) costs × Low (now starts) × (length (now starts) ≡ 64) ⌝ }
+    ensures { λ _. ⌜ RowCosted (endFrom (deckOf (now (line .entry)) n poses) r talls (posIn (now (places .entry))) i (now (store .entry)) cells (now (starts .entry))) lanes (wide talls (suc i) count) (wide talls (suc i) poses) costs (now (store .entry)) (now (store .exit)) × Lent (now (table .exit)) ⌝ }
 {
     if i < talls {
         let p = search_row::word(places, i);
-        search_wide_segment::stretch_to(
+        search_wide_segment::segment_to(
             table,
             store,
             line,
-            pairs,
+            states,
             n,
             poses,
             r,
@@ -59,15 +59,15 @@ fn stage_end(
             lanes,
             cells,
             p,
-            prices,
+            costs,
         );
         return;
     }
-    search_wide_end::stretch_end(
+    search_wide_end::segment_end(
         table,
         store,
         line,
-        pairs,
+        states,
         starts,
         n,
         poses,
@@ -75,40 +75,40 @@ fn stage_end(
         count,
         lanes,
         cells,
-        prices,
+        costs,
     );
 }
 
-// The prices of stage 0 in a row, to the block at `prices`: from the row's start to the first tall cell, or to the row's end if it has none.
-fn open_price(
+// The costs of stage 0 in a row, to the block at `costs`: from the row's start to the first tall cell, or to the row's end if it has none.
+fn open_cost(
     store: &mut [u32],
     line: &[u32],
-    pairs: &[u32],
+    states: &[u32],
     places: &[u32],
     n: usize,
     poses: usize,
     r: usize,
     count: usize,
     talls: usize,
-    prices: usize,
+    costs: usize,
 )
-    requires { ⌜ RowGiven (now line) (now pairs) (now places) r n poses count talls × OpenRoom (now store) r poses count prices ⌝ }
-    ensures { λ _. ⌜ RowPriced (priceOf (deckOf (now (line .entry)) n poses) r talls (posIn (now (places .entry))) 0 0) 1 (wide talls 1 count) (wide talls 1 poses) prices (now (store .entry)) (now (store .exit)) ⌝ }
+    requires { ⌜ RowGiven (now line) (now states) (now places) r n poses count talls × OpenRoom (now store) r poses count costs ⌝ }
+    ensures { λ _. ⌜ RowCosted (costOf (deckOf (now (line .entry)) n poses) r talls (posIn (now (places .entry))) 0 0) 1 (wide talls 1 count) (wide talls 1 poses) costs (now (store .entry)) (now (store .exit)) ⌝ }
 {
     if talls > 0 {
         let p = search_row::word(places, 0);
-        search_dense_segment::open_to(store, line, pairs, n, poses, r, count, p, prices);
+        search_dense_segment::open_to(store, line, states, n, poses, r, count, p, costs);
         return;
     }
-    search_dense_segment::open_end(store, line, pairs, n, poses, r, count, prices);
+    search_dense_segment::open_end(store, line, states, n, poses, r, count, costs);
 }
 
-// The prices of stage i in a row from start pair s, to the block at `prices`.
-pub fn row_price(
+// The costs of stage i in a row from start state s, to the block at `costs`.
+pub fn row_cost(
     table: &mut [u32; 10944],
     store: &mut [u32],
     line: &[u32],
-    pairs: &[u32],
+    states: &[u32],
     places: &[u32],
     n: usize,
     poses: usize,
@@ -117,34 +117,34 @@ pub fn row_price(
     talls: usize,
     i: usize,
     s: usize,
-    prices: usize,
+    costs: usize,
 )
-    requires { ⌜ Lent (now table) × RowGiven (now line) (now pairs) (now places) r n poses count talls × OpenRoom (now store) r poses count prices × (i ≤ talls) × (s < wide talls i count) ⌝ }
-    ensures { λ _. ⌜ RowPriced (priceOf (deckOf (now (line .entry)) n poses) r talls (posIn (now (places .entry))) i s) (wide talls i poses) (wide talls (suc i) count) (wide talls (suc i) poses) prices (now (store .entry)) (now (store .exit)) × Lent (now (table .exit)) ⌝ }
+    requires { ⌜ Lent (now table) × RowGiven (now line) (now states) (now places) r n poses count talls × OpenRoom (now store) r poses count costs × (i ≤ talls) × (s < wide talls i count) ⌝ }
+    ensures { λ _. ⌜ RowCosted (costOf (deckOf (now (line .entry)) n poses) r talls (posIn (now (places .entry))) i s) (wide talls i poses) (wide talls (suc i) count) (wide talls (suc i) poses) costs (now (store .entry)) (now (store .exit)) × Lent (now (table .exit)) ⌝ }
 {
     if i == 0 {
-        open_price(
+        open_cost(
             store,
             line,
-            pairs,
+            states,
             places,
             n,
             poses,
             r,
             count,
             talls,
-            prices,
+            costs,
         );
         return;
     }
     let p = search_row::word(places, i - 1);
-    let placed = placed_with(pairs, r, p, s);
+    let placed = placed_with(states, r, p, s);
     let width = width_of(poses);
     search_wide_first::first_layer(
         table,
         store,
         line,
-        pairs,
+        states,
         n,
         poses,
         r,
@@ -161,7 +161,7 @@ pub fn row_price(
         table,
         store,
         line,
-        pairs,
+        states,
         places,
         &starts,
         n,
@@ -172,6 +172,6 @@ pub fn row_price(
         i,
         width,
         placed + 1,
-        prices,
+        costs,
     );
 }

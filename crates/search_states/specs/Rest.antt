@@ -1,4 +1,4 @@
--- A list that is written entry by entry: what is still to come of it, and the next entry. Assumes nothing.
+-- A list that is written entry by entry: what is still to come of it, and the next entry.
 use Prim.Native.Nat.{ℕ, suc, _+_, _-_, _≤_, _<_}
 use mathlib.Core.Path.{_≡_, sym, ap, _∙_}
 use mathlib.Core.Bool.{Bool, cond}
@@ -7,7 +7,7 @@ use native.Mathlib.Omega.{arith}
 use native.Mathlib.Numerals.{add-one}
 use lib.ListN.{length, getD, drop, length-drop}
 use lib.Seq.{drop-cons}
-use Rattle.theory_row.specs.Lists.{from}
+use Rattle.lists.specs.Lists.{from}
 use Rattle.theory_pair.specs.Pick.{pick}
 
 -- the numbers from a on and below b that pass a test

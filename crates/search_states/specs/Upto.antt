@@ -1,5 +1,4 @@
--- The words of the pairs while they are written: those below a count are right, and the others are still to come, marks by marks and digit by digit.
--- Assumes nothing.
+-- The words of the states while they are written: those below a count are right, and the others are still to come, marks by marks and digit by digit.
 use Prim.Native.Nat.{ℕ, zero, suc, _+_, _*_, _/_, _%_, _^_, _≤_, _<_}
 use mathlib.Core.Path.{_≡_, refl, sym, ap, ap₂, _∙_}
 use mathlib.Core.Bool.{Bool, true, false, _&&_, _||_, cond, false≢true}
@@ -10,20 +9,20 @@ use lib.Count.{ones}
 use lib.Dec.{eqb, lit≤}
 use lib.ListN.{length, getD, drop, set, length-set}
 use lib.Seq.{getD-set-same, getD-set-other}
-use Rattle.theory_row.specs.Lists.{Eq?, same, eq?}
+use Rattle.lists.specs.Lists.{Eq?, same, eq?}
 use Rattle.theory_row.specs.Marks.{bit}
 use Rattle.theory_pair.specs.Pick.{goodMarks}
 use Rattle.theory_pair.specs.Forward.{each}
-use Rattle.theory_tables.specs.Steps.{mayBeLast, pairsOf, pairCount, offset, marks, marksBefore, before}
-use Rattle.theory_tables.specs.Pairs.{pair-at, count-0, count-1, count-2}
-use Rattle.search_row.specs.Words.{PairWords}
+use Rattle.theory_tables.specs.Steps.{mayBeLast, pairsOf, stateCount, offset, marks, marksBefore, before}
+use Rattle.theory_tables.specs.States.{state-at, count-0, count-1, count-2}
+use Rattle.search_row.specs.Words.{StateWords}
 use Rattle.search_states.specs.Rest.{rest, rest-none, rest-more, rest-all, next, done}
 
 -- m has R + 1 ones, the lowest digit among them
 abbrev pub isMarks : ℕ → ℕ → Bool
 isMarks R m = eqb (m % 2) 1 && eqb (ones m) (suc R)
 
--- the pairs of the marks m from digit d on; of all marks from m on; both in their order
+-- the states of the marks m from digit d on; of all marks from m on; both in their order
 unfoldable pub digitsFrom : ℕ → ℕ → ℕ → List (ℕ × ℕ)
 digitsFrom R m d = map (λ d. (d, m)) (rest (mayBeLast R m) d (suc (2 * R)))
 
@@ -62,21 +61,21 @@ marks-all R = simp rest-all
 
 -- ---- words written so far
 
--- what one pair is written as
-abbrev pub withPair : List ℕ → ℕ → ℕ → ℕ → List ℕ
-withPair pairs q d m = set (set (set pairs (q * 4) d) (q * 4 + 1) m) (q * 4 + 2) (marksBefore d m)
+-- what one state is written as
+abbrev pub withState : List ℕ → ℕ → ℕ → ℕ → List ℕ
+withState states q d m = set (set (set states (q * 4) d) (q * 4 + 1) m) (q * 4 + 2) (marksBefore d m)
 
--- the first `count` pairs are written, and `l` is still to come
-pub record Upto (R : ℕ) (pairs : List ℕ) (count : ℕ) (l : List (ℕ × ℕ)) : Type 0 where
-  pub long : 48 ≤ length pairs
-  pub below : count ≤ pairCount R
+-- the first `count` states are written, and `l` is still to come
+pub record Upto (R : ℕ) (states : List ℕ) (count : ℕ) (l : List (ℕ × ℕ)) : Type 0 where
+  pub long : 48 ≤ length states
+  pub below : count ≤ stateCount R
   pub left : drop count (pairsOf R) ≡ l
-  pub digit : (q : ℕ) → q < count → getD pairs (q * 4) 0 ≡ offset R q
-  pub mark : (q : ℕ) → q < count → getD pairs (q * 4 + 1) 0 ≡ marks R q
-  pub earlier : (q : ℕ) → q < count → getD pairs (q * 4 + 2) 0 ≡ before R q
+  pub digit : (q : ℕ) → q < count → getD states (q * 4) 0 ≡ offset R q
+  pub mark : (q : ℕ) → q < count → getD states (q * 4 + 1) 0 ≡ marks R q
+  pub earlier : (q : ℕ) → q < count → getD states (q * 4 + 2) 0 ≡ before R q
 
-pub upto-none : (R : ℕ) (pairs : List ℕ) → 48 ≤ length pairs → Upto R pairs 0 (marksFrom R 0)
-upto-none R pairs h = record {
+pub upto-none : (R : ℕ) (states : List ℕ) → 48 ≤ length states → Upto R states 0 (marksFrom R 0)
+upto-none R states h = record {
   long = h;
   below = omega arith;
   left = marks-all R;
@@ -85,40 +84,40 @@ upto-none R pairs h = record {
   earlier = λ q h. absurd (omega arith);
 }
 
--- twelve pairs at most, and at least one
-pub few : (R : ℕ) → R ≤ 2 → (pairCount R ≤ 12) × (1 ≤ pairCount R)
+-- twelve states at most, and at least one
+pub few : (R : ℕ) → R ≤ 2 → (stateCount R ≤ 12) × (1 ≤ stateCount R)
 few zero h = (omega (arith, count-0), omega (arith, count-0))
 few (suc zero) h = (omega (arith, count-1), omega (arith, count-1))
 few (suc (suc zero)) h = (omega (arith, count-2), omega (arith, count-2))
 few (suc (suc (suc R))) h = absurd (omega arith)
 
--- ---- one pair more
+-- ---- one state more
 
 module _ (p : List ℕ) (n d m : ℕ) (h : n * 4 + 2 < length p) where
-  with-other : (i : ℕ) → i < n * 4 → getD (withPair p n d m) i 0 ≡ getD p i 0
+  with-other : (i : ℕ) → i < n * 4 → getD (withState p n d m) i 0 ≡ getD p i 0
   with-other i l =
       getD-set-other (set (set p (n * 4) d) (n * 4 + 1) m) (n * 4 + 2) i (marksBefore d m) 0 (omega arith)
       ∙ getD-set-other (set p (n * 4) d) (n * 4 + 1) i m 0 (omega arith)
       ∙ getD-set-other p (n * 4) i d 0 (omega arith)
 
-  with-digit : getD (withPair p n d m) (n * 4) 0 ≡ d
+  with-digit : getD (withState p n d m) (n * 4) 0 ≡ d
   with-digit =
       getD-set-other (set (set p (n * 4) d) (n * 4 + 1) m) (n * 4 + 2) (n * 4) (marksBefore d m) 0 (omega arith)
       ∙ getD-set-other (set p (n * 4) d) (n * 4 + 1) (n * 4) m 0 (omega arith)
       ∙ getD-set-same p (n * 4) d 0 (omega arith)
 
-  with-mark : getD (withPair p n d m) (n * 4 + 1) 0 ≡ m
+  with-mark : getD (withState p n d m) (n * 4 + 1) 0 ≡ m
   with-mark =
       getD-set-other (set (set p (n * 4) d) (n * 4 + 1) m) (n * 4 + 2) (n * 4 + 1) (marksBefore d m) 0 (omega arith)
       ∙ getD-set-same (set p (n * 4) d) (n * 4 + 1) m 0 (simp length-set (omega arith))
 
-  with-before : getD (withPair p n d m) (n * 4 + 2) 0 ≡ marksBefore d m
+  with-before : getD (withState p n d m) (n * 4 + 2) 0 ≡ marksBefore d m
   with-before = getD-set-same (set (set p (n * 4) d) (n * 4 + 1) m) (n * 4 + 2) (marksBefore d m) 0 (simp length-set (omega arith))
 
 pub room : {R : ℕ} {p : List ℕ} {n d m : ℕ} {l : List (ℕ × ℕ)} → R ≤ 2 → Upto R p n ((d, m) ∷ l) → n < 12
 room {R} {n = n} r u = let k = next {d = (0, 0)} (pairsOf R) n (u .left) in omega (arith, k .inside, few R r)
 
-pub upto-more : {R : ℕ} {p : List ℕ} {n d m : ℕ} {l : List (ℕ × ℕ)} → R ≤ 2 → Upto R p n ((d, m) ∷ l) → Upto R (withPair p n d m) (n + 1) l
+pub upto-more : {R : ℕ} {p : List ℕ} {n d m : ℕ} {l : List (ℕ × ℕ)} → R ≤ 2 → Upto R p n ((d, m) ∷ l) → Upto R (withState p n d m) (n + 1) l
 upto-more {R} {p} {n} {d} {m} {l} r u =
     let k = next {d = (0, 0)} (pairsOf R) n (u .left) in
     let x : n < 12 = room r u in
@@ -130,28 +129,28 @@ upto-more {R} {p} {n} {d} {m} {l} r u =
       long = simp length-set (u .long);
       below = omega arith;
       left = k .after;
-      digit = below-more (λ q. getD (withPair p n d m) (q * 4) 0 ≡ offset R q) n (λ q g. with-other p n d m h (q * 4) (omega arith) ∙ u .digit q g) (with-digit p n d m h ∙ sym y);
-      mark = below-more (λ q. getD (withPair p n d m) (q * 4 + 1) 0 ≡ marks R q) n (λ q g. with-other p n d m h (q * 4 + 1) (omega arith) ∙ u .mark q g) (with-mark p n d m h ∙ sym z);
-      earlier = below-more (λ q. getD (withPair p n d m) (q * 4 + 2) 0 ≡ before R q) n (λ q g. with-other p n d m h (q * 4 + 2) (omega arith) ∙ u .earlier q g)
+      digit = below-more (λ q. getD (withState p n d m) (q * 4) 0 ≡ offset R q) n (λ q g. with-other p n d m h (q * 4) (omega arith) ∙ u .digit q g) (with-digit p n d m h ∙ sym y);
+      mark = below-more (λ q. getD (withState p n d m) (q * 4 + 1) 0 ≡ marks R q) n (λ q g. with-other p n d m h (q * 4 + 1) (omega arith) ∙ u .mark q g) (with-mark p n d m h ∙ sym z);
+      earlier = below-more (λ q. getD (withState p n d m) (q * 4 + 2) 0 ≡ before R q) n (λ q g. with-other p n d m h (q * 4 + 2) (omega arith) ∙ u .earlier q g)
           (with-before p n d m h ∙ sym (ap₂ marksBefore y z));
     }
 
--- ---- all pairs
+-- ---- all states
 
--- what is written in the end: all pairs, so many
-pub record Paired (R : ℕ) (pairs : List ℕ) (count : ℕ) : Type 0 where
-  pub coded : PairWords R pairs
-  pub all : count ≡ pairCount R
+-- what is written in the end: all states, so many
+pub record Paired (R : ℕ) (states : List ℕ) (count : ℕ) : Type 0 where
+  pub coded : StateWords R states
+  pub all : count ≡ stateCount R
   pub some : 1 ≤ count
 
 pub upto-all : {R : ℕ} {p : List ℕ} {n : ℕ} → R ≤ 2 → Upto R p n [] → Paired R p n
 upto-all {R} {p} {n} r u =
-    let e : n ≡ pairCount R = done (pairsOf R) n (u .below) (u .left) in
+    let e : n ≡ stateCount R = done (pairsOf R) n (u .below) (u .left) in
     record {
       coded = record {
         reorder = r;
         few = few R r .0;
-        small = λ q h. let f = pair-at R q h .far in omega arith;
+        small = λ q h. let f = state-at R q h .far in omega arith;
         long = u .long;
         digit = λ q h. u .digit q (omega arith);
         mark = λ q h. u .mark q (omega arith);

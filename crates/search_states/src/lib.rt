@@ -1,11 +1,11 @@
-// The pairs of a digit and marks in which a cell can have been placed last, as the words that the search reads: marks rising, digits rising.
+// The states of a digit and marks in which a cell can have been placed last, as the words that the search reads: marks rising, digits rising.
 ghost use mathlib.Core.Path.{_≡_};
 ghost use mathlib.Core.Bool.{true};
 ghost use mathlib.Core.List.{_++_};
 ghost use Prim.Native.Nat.{suc, _+_, _*_, _^_, _≤_, _<_};
 ghost use lib.ListN.{length};
 ghost use Rattle.theory_tables.specs.Steps.{mayBeLast};
-ghost use Rattle.search_states.specs.Upto.{isMarks, digitsFrom, marksFrom, withPair, Upto, Paired};
+ghost use Rattle.search_states.specs.Upto.{isMarks, digitsFrom, marksFrom, withState, Upto, Paired};
 ghost use Rattle.theory_row.specs.Marks.{bit};
 
 // Whether m has r + 1 ones, the lowest digit among them.
@@ -34,31 +34,31 @@ fn may_be_last(r: u32, m: u32, d: u32) -> bool
 }
 
 // Pair q: its digit, its marks, and the only marks from which placing the cell at that digit leads to them.
-fn put_pair(pairs: &mut [u32], q: usize, d: u32, m: u32)
-    requires { ⌜ (48 ≤ length (now pairs)) × (q < 12) × (d ≤ 4) × (m < 32) × (2 ^ d ≤ m) ⌝ }
-    ensures { λ _. ⌜ now (pairs .exit) ≡ withPair (now (pairs .entry)) q d m ⌝ }
+fn put_state(states: &mut [u32], q: usize, d: u32, m: u32)
+    requires { ⌜ (48 ≤ length (now states)) × (q < 12) × (d ≤ 4) × (m < 32) × (2 ^ d ≤ m) ⌝ }
+    ensures { λ _. ⌜ now (states .exit) ≡ withState (now (states .entry)) q d m ⌝ }
 {
-    pairs[q * 4] = d;
-    pairs[q * 4 + 1] = m;
-    pairs[q * 4 + 2] = 2 * (m - (1 << d)) + 1;
+    states[q * 4] = d;
+    states[q * 4 + 1] = m;
+    states[q * 4 + 2] = 2 * (m - (1 << d)) + 1;
 }
 
-// The pair of digit d, if it is one; how many there are then.
-fn add_digit(pairs: &mut [u32], count: usize, r: u32, m: u32, d: u32) -> usize
-    requires { ⌜ (r ≤ 2) × (m < 32) × (d ≤ 2 * r) × Upto r (now pairs) count (digitsFrom r m d ++ marksFrom r (m + 1)) ⌝ }
-    ensures { λ n. ⌜ Upto r (now (pairs .exit)) n (digitsFrom r m (d + 1) ++ marksFrom r (m + 1)) ⌝ }
+// The state of digit d, if it is one; how many there are then.
+fn add_digit(states: &mut [u32], count: usize, r: u32, m: u32, d: u32) -> usize
+    requires { ⌜ (r ≤ 2) × (m < 32) × (d ≤ 2 * r) × Upto r (now states) count (digitsFrom r m d ++ marksFrom r (m + 1)) ⌝ }
+    ensures { λ n. ⌜ Upto r (now (states .exit)) n (digitsFrom r m (d + 1) ++ marksFrom r (m + 1)) ⌝ }
 {
     if !may_be_last(r, m, d) {
         return count;
     }
-    put_pair(pairs, count, d, m);
+    put_state(states, count, d, m);
     count + 1
 }
 
-// The pairs of m, if it is marks; how many there are then.
-fn add_marks(pairs: &mut [u32], count: usize, r: u32, m: u32) -> usize
-    requires { ⌜ (r ≤ 2) × (m < 2 ^ suc (2 * r)) × (m < 32) × Upto r (now pairs) count (marksFrom r m) ⌝ }
-    ensures { λ n. ⌜ Upto r (now (pairs .exit)) n (marksFrom r (m + 1)) ⌝ }
+// The states of m, if it is marks; how many there are then.
+fn add_marks(states: &mut [u32], count: usize, r: u32, m: u32) -> usize
+    requires { ⌜ (r ≤ 2) × (m < 2 ^ suc (2 * r)) × (m < 32) × Upto r (now states) count (marksFrom r m) ⌝ }
+    ensures { λ n. ⌜ Upto r (now (states .exit)) n (marksFrom r (m + 1)) ⌝ }
 {
     if !is_marks(r, m) {
         return count;
@@ -66,23 +66,23 @@ fn add_marks(pairs: &mut [u32], count: usize, r: u32, m: u32) -> usize
     let mut n = count;
     let mut d: u32 = 0;
     while d <= 2 * r {
-        n = add_digit(pairs, n, r, m, d);
+        n = add_digit(states, n, r, m, d);
         d += 1;
     }
     n
 }
 
-// All pairs; how many there are.
-pub fn fill_pairs(pairs: &mut [u32], r: usize) -> usize
-    requires { ⌜ (48 ≤ length (now pairs)) × (r ≤ 2) ⌝ }
-    ensures { λ n. ⌜ Paired r (now (pairs .exit)) n ⌝ }
+// All states; how many there are.
+pub fn fill_states(states: &mut [u32], r: usize) -> usize
+    requires { ⌜ (48 ≤ length (now states)) × (r ≤ 2) ⌝ }
+    ensures { λ n. ⌜ Paired r (now (states .exit)) n ⌝ }
 {
     let limit = r as u32;
     let end: u32 = 2 << (2 * limit);
     let mut n: usize = 0;
     let mut m: u32 = 0;
     while m < end {
-        n = add_marks(pairs, n, limit, m);
+        n = add_marks(states, n, limit, m);
         m += 1;
     }
     n

@@ -1,4 +1,4 @@
--- Laws of a source spread lane by lane, and of some planes after the others. Assumes nothing.
+-- Laws of a source spread lane by lane, and of some buckets after the others.
 use Prim.Native.Nat.{ℕ, _+_, _*_, _≤_, _<_, min}
 use mathlib.Core.Path.{_≡_, refl, sym, ap, ap₂, _∙_}
 use mathlib.Core.Logic.{_≢_, _⊎_, ⊎-elim, inl, inr}
@@ -9,21 +9,21 @@ use Rattle.search_lanes.specs.Store.{Low}
 use Rattle.search_buckets.specs.Rows.{inRow, PaysLow}
 use Rattle.search_wide_buckets.specs.Table.{wordAt, FiveOrNine, Spread}
 
--- how many planes there can be
-pub five-least : {planes : ℕ} → FiveOrNine planes → 5 ≤ planes
+-- how many buckets there can be
+pub five-least : {buckets : ℕ} → FiveOrNine buckets → 5 ≤ buckets
 five-least p = ⊎-elim (λ e. omega arith) (λ e. omega arith) p
 
-pub nine-most : {planes : ℕ} → FiveOrNine planes → planes ≤ 9
+pub nine-most : {buckets : ℕ} → FiveOrNine buckets → buckets ≤ 9
 nine-most p = ⊎-elim (λ e. omega arith) (λ e. omega arith) p
 
-pub nine-else : {planes : ℕ} → FiveOrNine planes → planes ≢ 5 → planes ≡ 9
+pub nine-else : {buckets : ℕ} → FiveOrNine buckets → buckets ≢ 5 → buckets ≡ 9
 nine-else p n = ⊎-elim (λ e. absurd (n e)) (λ e. e) p
 
--- what is paid in fewer planes
-pub pays-fewer : {planes : ℕ} {pays : List ℕ} (fewer : ℕ) → PaysLow planes pays → fewer ≤ planes → PaysLow fewer pays
+-- what is paid in fewer buckets
+pub pays-fewer : {buckets : ℕ} {pays : List ℕ} (fewer : ℕ) → PaysLow buckets pays → fewer ≤ buckets → PaysLow fewer pays
 pays-fewer fewer p h = record { long = p .long; low = λ j i c. p .low j i (omega arith) }
 
--- some planes, then those that follow
+-- some buckets, then those that follow
 pub spread-join :
     {f : ℕ → ℕ → ℕ} {t least mid last first lanes : ℕ} {old on new : List ℕ}
     → least ≤ mid → mid ≤ last → Spread f t least mid first lanes old on → Spread f t mid last first lanes on new

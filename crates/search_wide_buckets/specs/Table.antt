@@ -1,18 +1,18 @@
--- The planes in a table of 10944 words: 9 planes of 19 rows of 64 lanes. What is given, and what the loops leave.
+-- The buckets in a table of 10944 words: 9 buckets of 19 rows of 64 lanes. What is given, and what the loops leave.
 use Prim.Native.Nat.{ℕ, suc, _+_, _*_, _-_, _/_, _%_, _≤_, _<_, min}
 use mathlib.Core.Path.{_≡_}
 use mathlib.Core.Logic.{_⊎_}
 use mathlib.Core.List.{List}
 use lib.ListN.{length, getD}
-use Rattle.theory_row.specs.Lists.{from}
+use Rattle.lists.specs.Lists.{from}
 use Rattle.theory_pair.specs.Coded.{lowest}
 use Rattle.theory_tables.specs.Steps.{B, Deck, Layer}
 use Rattle.search_lanes.specs.Store.{Frame, Low, layerIn}
 use Rattle.search_row.specs.Words.{wordOf, LineWords}
 use Rattle.search_buckets.specs.Gaps.{paying}
-use Rattle.search_buckets.specs.Rows.{inRow, planeIn, onePose, byPoses, onePair, byPairs, found}
+use Rattle.search_buckets.specs.Rows.{inRow, bucketIn, onePose, byPoses, oneState, byStates, found}
 
--- the planes of lane l
+-- the buckets of lane l
 abbrev pub wordAt : List ℕ → ℕ → ℕ → ℕ → ℕ
 wordAt table l v t = getD table (v * 1216 + t * 64 + l) 0
 
@@ -26,24 +26,24 @@ pub record Lent (table : List ℕ) : Type 0 where
   pub long : length table ≡ 10944
   pub low : Low table
 
--- how many planes a target may need
+-- how many buckets a target may need
 abbrev pub FiveOrNine : ℕ → Type 0
-FiveOrNine planes = (planes ≡ 5) ⊎ (planes ≡ 9)
+FiveOrNine buckets = (buckets ≡ 5) ⊎ (buckets ≡ 9)
 
--- no source yet in the planes below v, in so many rows and lanes
+-- no source yet in the buckets below v, in so many rows and lanes
 pub record Cleared (rows lanes v : ℕ) (table : List ℕ) : Type 0 where
   pub long : length table ≡ 10944
   pub low : Low table
   pub none : (l u t : ℕ) → l < lanes → u < v → t < rows → wordAt table l u t ≡ B
 
--- the planes of each lane are lowered to other ones, so many planes, in all rows that count, which are those below `rows`: row 0 counts in plane 0 alone
-pub record Gathered (plane : ℕ → ℕ → ℕ → ℕ) (rows planes lanes : ℕ) (old new : List ℕ) : Type 0 where
+-- the buckets of each lane are lowered to other ones, so many buckets, in all rows that count, which are those below `rows`: row 0 counts in bucket 0 alone
+pub record Gathered (bucket : ℕ → ℕ → ℕ → ℕ) (rows buckets lanes : ℕ) (old new : List ℕ) : Type 0 where
   pub long : length new ≡ length old
   pub low : Low new
-  pub done : (l v t : ℕ) → l < lanes → v < planes → t < rows → v ≤ 8 * t → wordAt new l v t ≡ min (wordAt old l v t) (plane l v t)
+  pub done : (l v t : ℕ) → l < lanes → v < buckets → t < rows → v ≤ 8 * t → wordAt new l v t ≡ min (wordAt old l v t) (bucket l v t)
 
--- the same in all rows and the planes from `least` on below `last`, so many lanes from `first` on, by one source in row t, whose cost in plane v and the j-th of
--- these lanes is f v j; the other planes and lanes are as they were
+-- the same in all rows and the buckets from `least` on below `last`, so many lanes from `first` on, by one source in row t, whose cost in bucket v and the j-th of
+-- these lanes is f v j; the other buckets and lanes are as they were
 pub record Spread (f : ℕ → ℕ → ℕ) (t least last first lanes : ℕ) (old new : List ℕ) : Type 0 where
   pub long : length new ≡ length old
   pub low : Low new
@@ -51,7 +51,7 @@ pub record Spread (f : ℕ → ℕ → ℕ) (t least last first lanes : ℕ) (ol
   pub rest : (j v s : ℕ) → j < lanes → (v < least) ⊎ (last ≤ v) → s < 19 → wordAt new (first + j) v s ≡ wordAt old (first + j) v s
   pub other : (l v s : ℕ) → l < 64 → (l < first) ⊎ (first + lanes ≤ l) → s < 19 → wordAt new l v s ≡ wordAt old l v s
 
--- a variant's pays for a row's lanes, by plane
+-- a variant's pays for a row's lanes, by bucket
 abbrev pub chargedBy : List ℕ → ℕ → List ℕ → ℕ → ℕ → ℕ → ℕ
 chargedBy row at pays u v l = getD row (at + l) 0 + getD pays (u * 9 + v) 0
 
@@ -59,8 +59,8 @@ chargedBy row at pays u v l = getD row (at + l) 0 + getD pays (u * 9 + v) 0
 abbrev pub chargedOne : ℕ → List ℕ → ℕ → ℕ → ℕ → ℕ
 chargedOne x pays u v l = x + getD pays (u * 9 + v) 0
 
--- a table to be lowered by the cell at position k, whose rows begin at `at`, for the cell at position m, which needs so many planes
-pub record Source (table st line : List ℕ) (at k m planes lanes : ℕ) : Type 0 where
+-- a table to be lowered by the cell at position k, whose rows begin at `at`, for the cell at position m, which needs so many buckets
+pub record Source (table st line : List ℕ) (at k m buckets lanes : ℕ) : Type 0 where
   pub words : LineWords line
   pub low : Low st
   pub tableLow : Low table
@@ -69,7 +69,7 @@ pub record Source (table st line : List ℕ) (at k m planes lanes : ℕ) : Type 
   pub room : at + 4096 ≤ length st
   pub left : k < 64
   pub right : m < 64
-  pub needed : FiveOrNine planes
+  pub needed : FiveOrNine buckets
 
 -- ---- sources in the store, l is the lane
 
@@ -85,21 +85,21 @@ poseIn st line at k m b l = onePose line k m b (rowIn st at l b)
 abbrev pub posesIn : List ℕ → List ℕ → ℕ → ℕ → ℕ → ℕ → ℕ → ℕ → ℕ → ℕ
 posesIn st line at k m n l = byPoses line k m (rowIn st at l) n
 
--- pair p of the layer in the block at `at`, which has i cells, if it is a source of pair q
-abbrev pub pairIn : List ℕ → List ℕ → Deck → ℕ → ℕ → ℕ → ℕ → ℕ → ℕ → ℕ → ℕ → ℕ
-pairIn st line D R at i q p l = onePair line D R (layerIn st at l) i q p
+-- state p of the layer in the block at `at`, which has i cells, if it is a source of state q
+abbrev pub stateIn : List ℕ → List ℕ → Deck → ℕ → ℕ → ℕ → ℕ → ℕ → ℕ → ℕ → ℕ → ℕ
+stateIn st line D R at i q p l = oneState line D R (layerIn st at l) i q p
 
--- the pairs below n
-abbrev pub pairsIn : List ℕ → List ℕ → Deck → ℕ → ℕ → ℕ → ℕ → ℕ → ℕ → ℕ → ℕ → ℕ
-pairsIn st line D R at i q n l = byPairs line D R (layerIn st at l) i q n
+-- the states below n
+abbrev pub statesIn : List ℕ → List ℕ → Deck → ℕ → ℕ → ℕ → ℕ → ℕ → ℕ → ℕ → ℕ → ℕ
+statesIn st line D R at i q n l = byStates line D R (layerIn st at l) i q n
 
 -- ---- what is found
 
--- in a table of so many planes, the last four of them those of gaps 2 and 3, whose plane 0 has in each row the lowest of all rows up to it
+-- in a table of so many buckets, the last four of them those of gaps 2 and 3, whose bucket 0 has in each row the lowest of all rows up to it
 abbrev pub foundIn : ℕ → List ℕ → ℕ → ℕ → ℕ
-foundIn planes table a l = min (lowest B (λ gap. wordAt table l (planeIn (planes - 4) gap (a % 4)) (a / 4 + 4 - gap)) paying) (wordAt table l 0 (a / 4))
+foundIn buckets table a l = min (lowest B (λ gap. wordAt table l (bucketIn (buckets - 4) gap (a % 4)) (a / 4 + 4 - gap)) paying) (wordAt table l 0 (a / 4))
 
--- plane 0 has in each row below `rows` the lowest of all rows up to it; the other planes are as they were
+-- bucket 0 has in each row below `rows` the lowest of all rows up to it; the other buckets are as they were
 pub record RunUp (rows lanes : ℕ) (old new : List ℕ) : Type 0 where
   pub long : length new ≡ length old
   pub low : Low new
@@ -107,30 +107,30 @@ pub record RunUp (rows lanes : ℕ) (old new : List ℕ) : Type 0 where
   pub far : (l t : ℕ) → l < lanes → t < rows → wordAt new l 0 t ≡ lowest B (wordAt old l 0) (from 0 (suc t))
   pub rest : (l t : ℕ) → l < lanes → rows ≤ t → t < 19 → wordAt new l 0 t ≡ wordAt old l 0 t
 
--- what every pose below `poses` finds is what it finds in the planes
-pub record Ready (plane : ℕ → ℕ → ℕ → ℕ) (poses planes lanes : ℕ) (table : List ℕ) : Type 0 where
+-- what every pose below `poses` finds is what it finds in the buckets
+pub record Ready (bucket : ℕ → ℕ → ℕ → ℕ) (poses buckets lanes : ℕ) (table : List ℕ) : Type 0 where
   pub long : length table ≡ 10944
   pub low : Low table
-  pub right : (a l : ℕ) → a < poses → l < lanes → foundIn planes table a l ≡ found (plane l) a
+  pub right : (a l : ℕ) → a < poses → l < lanes → foundIn buckets table a l ≡ found (bucket l) a
 
 -- a cell's own cost with what its pose finds, capped
 abbrev pub foundRow : ℕ → List ℕ → ℕ → ℕ → ℕ → ℕ
-foundRow planes table own a l = min (own + foundIn planes table a l) B
+foundRow buckets table own a l = min (own + foundIn buckets table a l) B
 
 -- pose a of the cell at position k, and all its rows
 abbrev pub foundRowOf : ℕ → List ℕ → List ℕ → ℕ → ℕ → ℕ → ℕ
-foundRowOf planes line table k a l = foundRow planes table (wordOf line k a) a l
+foundRowOf buckets line table k a l = foundRow buckets table (wordOf line k a) a l
 
 abbrev pub foundRows : ℕ → List ℕ → List ℕ → ℕ → ℕ → Layer
-foundRows planes line table k l q a = foundRowOf planes line table k a l
+foundRows buckets line table k l q a = foundRowOf buckets line table k a l
 
--- rows to be written from a table of so many planes
-pub record ToRows (st line table : List ℕ) (k planes lanes : ℕ) : Type 0 where
+-- rows to be written from a table of so many buckets
+pub record ToRows (st line table : List ℕ) (k buckets lanes : ℕ) : Type 0 where
   pub words : LineWords line
   pub low : Low st
   pub tableLow : Low table
   pub tableLong : length table ≡ 10944
   pub narrow : lanes ≤ 64
   pub cell : k < 64
-  pub least : 5 ≤ planes
-  pub most : planes ≤ 9
+  pub least : 5 ≤ buckets
+  pub most : buckets ≤ 9

@@ -1,4 +1,4 @@
--- Laws of the table: what one lowered row, one source and one more of each loop make of it. Assumes nothing.
+-- Laws of the table: what one lowered row, one source and one more of each loop make of it.
 use Prim.Native.Nat.{ℕ, zero, suc, _+_, _*_, _-_, _/_, _%_, _≤_, _<_, min}
 use mathlib.Core.Path.{_≡_, refl, sym, ap, ap₂, _∙_}
 use mathlib.Core.Logic.{_≢_, ⊎-elim, inl, inr}
@@ -11,14 +11,14 @@ use lib.ListN.{length, getD, set, replicate, length-replicate}
 use lib.Seq.{getD-set-same, getD-set-other}
 use lib.Dec.{eqb}
 use Rattle.theory_tables.specs.Steps.{B}
-use Rattle.theory_row.specs.Lists.{from}
+use Rattle.lists.specs.Lists.{from}
 use Rattle.theory_pair.specs.Coded.{lowest, lowest-from}
 use Rattle.search_lanes.specs.Lanes.{wordsFrom, alwaysRows}
 use Rattle.search_lanes.specs.Store.{Frame, Low, WrittenRows}
 use Rattle.search_lanes.specs.Laws.{frame-refl, frame-set, same-low}
 use Rattle.search_buckets.specs.Loops.{lowest-same, lowest-ext}
 use Rattle.search_buckets.specs.Gaps.{paying, paying-low}
-use Rattle.search_buckets.specs.Rows.{rowsOf, inRow, planeIn, found}
+use Rattle.search_buckets.specs.Rows.{rowsOf, inRow, bucketIn, found}
 use Rattle.search_buckets.specs.Laws.{row-hit, row-miss, found-none, found-ext}
 use Rattle.search_wide_buckets.specs.Table.{wordAt, LoweredAt, Lent, Cleared, Gathered, Spread, Source, RunUp, foundIn, Ready, ToRows}
 
@@ -80,7 +80,7 @@ lent-zeros = record { long = length-replicate {A = ℕ} 10944 0; low = same-low 
 pub cleared-none : (rows lanes : ℕ) {table : List ℕ} → length table ≡ 10944 → Low table → Cleared rows lanes 0 table
 cleared-none rows lanes h w = record { long = h; low = w; none = λ l u t i j k. absurd (omega arith) }
 
--- one plane more
+-- one bucket more
 pub cleared-more :
     {rows lanes : ℕ} {old new : List ℕ} (v : ℕ)
     → rows ≤ 19 → lanes ≤ 64 → Cleared rows lanes v old → WrittenRows (alwaysRows B) (v * 1216) rows lanes old new
@@ -98,7 +98,7 @@ cleared-more {rows} {lanes} {new = new} v h n c w =
 
 -- ---- one source
 
--- the planes in which row t does not count
+-- the buckets in which row t does not count
 pub spread-none :
     (f : ℕ → ℕ → ℕ) (t least last first lanes : ℕ) {table : List ℕ}
     → Low table → ((v s : ℕ) → least ≤ v → v < last → v ≤ 8 * s → t ≢ s)
@@ -112,7 +112,7 @@ spread-none f t least last first lanes {table} w h =
       other = λ l v s i j k. refl;
     }
 
--- one plane more
+-- one bucket more
 pub spread-more :
     {f : ℕ → ℕ → ℕ} {t least first lanes : ℕ} {old mid new : List ℕ} (v : ℕ)
     → first + lanes ≤ 64 → t < 19 → least ≤ v → Low old → Spread f t least v first lanes old mid → LoweredAt (f v) (v * 1216 + t * 64 + first) lanes mid new
@@ -151,11 +151,11 @@ spread-more {f} {t} {least} {first} {lanes} {old} {mid} {new} v n h c b s w =
         let y : getD mid (v * 1216 + t * 64 + (first + l)) 0 ≡ getD mid (v * 1216 + t * 64 + first + l) 0 = ap (λ (k : ℕ). getD mid k 0) (omega arith) in
         rw (e, d) (omega (arith, w .done l i, s .rest l v t i (inr (omega arith)) h, row-hit t t (f v l) refl))
 
--- all planes, in all lanes: the source is gathered
+-- all buckets, in all lanes: the source is gathered
 pub spread-all :
-    {f : ℕ → ℕ → ℕ} {plane : ℕ → ℕ → ℕ → ℕ} {t rows planes lanes : ℕ} {old new : List ℕ}
-    → rows ≤ 19 → Spread f t 0 planes 0 lanes old new → ((l v s : ℕ) → l < lanes → v < planes → plane l v s ≡ inRow t s (f v l))
-    → Gathered plane rows planes lanes old new
+    {f : ℕ → ℕ → ℕ} {bucket : ℕ → ℕ → ℕ → ℕ} {t rows buckets lanes : ℕ} {old new : List ℕ}
+    → rows ≤ 19 → Spread f t 0 buckets 0 lanes old new → ((l v s : ℕ) → l < lanes → v < buckets → bucket l v s ≡ inRow t s (f v l))
+    → Gathered bucket rows buckets lanes old new
 spread-all {old = old} {new = new} h s e =
     record {
       long = s .long;
@@ -170,18 +170,18 @@ spread-all {old = old} {new = new} h s e =
 
 -- the words that foundIn names: `near` those of gap 0, `other` those of gaps 2 and 3, `far` the rows that ran up
 pub found-words :
-    {table : List ℕ} (planes a l near other far : ℕ)
-    → Low table → far ≡ a / 4 * 64 + l → near ≡ (1 + a % 4) * 1216 + far → other ≡ (planes - 4 + a % 4) * 1216 + far
-    → min (min (getD table (near + 256) 0) (min (getD table (other + 128) 0) (getD table (other + 64) 0))) (getD table far 0) ≡ foundIn planes table a l
+    {table : List ℕ} (buckets a l near other far : ℕ)
+    → Low table → far ≡ a / 4 * 64 + l → near ≡ (1 + a % 4) * 1216 + far → other ≡ (buckets - 4 + a % 4) * 1216 + far
+    → min (min (getD table (near + 256) 0) (min (getD table (other + 128) 0) (getD table (other + 64) 0))) (getD table far 0) ≡ foundIn buckets table a l
 unfolding lowest
-found-words {table} planes a l near other far w p q o =
+found-words {table} buckets a l near other far w p q o =
     let at : ℕ → ℕ = λ k. getD table k 0 in
     let z : at (other + 64) ≡ min (at (other + 64)) B = omega (arith, w .word (other + 64)) in
     ap₂ min
     (ap₂ min (ap at (omega arith)) (ap₂ min (ap at (omega arith)) (z ∙ ap (λ (k : ℕ). min (at k) B) (omega arith))))
     (ap at (omega arith))
 
--- plane 0 before anything ran up
+-- bucket 0 before anything ran up
 pub run-none : (lanes : ℕ) {table : List ℕ} → Low table → RunUp 1 lanes table table
 unfolding lowest from
 run-none lanes {table} w =
@@ -223,24 +223,24 @@ run-more {lanes} {old} {mid} {new} t n g s w =
         let e : lowest B (wordAt old l 0) (from 0 (suc t)) ≡ lowest B (wordAt old l 0) (from 0 (t + 1)) = ap (λ (k : ℕ). lowest B (wordAt old l 0) (from 0 k)) (omega arith) in
         omega (arith, w .done l i, s .rest l (t + 1) i (omega arith) (omega arith), s .far l t i (omega arith), lowest-from B (wordAt old l 0) 0 (t + 1))
 
-pub found-small : {table : List ℕ} (planes a l : ℕ) → Low table → foundIn planes table a l ≤ B
-found-small planes a l w = omega (arith, w .word (0 * 1216 + a / 4 * 64 + l))
+pub found-small : {table : List ℕ} (buckets a l : ℕ) → Low table → foundIn buckets table a l ≤ B
+found-small buckets a l w = omega (arith, w .word (0 * 1216 + a / 4 * 64 + l))
 
 -- ---- many sources
 
 -- no source, or none that lowers anything
 pub gathered-none :
-    {plane : ℕ → ℕ → ℕ → ℕ} (rows planes lanes : ℕ) {table : List ℕ}
-    → Low table → ((l v t : ℕ) → l < lanes → v < planes → t < rows → B ≤ plane l v t)
-    → Gathered plane rows planes lanes table table
-gathered-none rows planes lanes {table} w h =
+    {bucket : ℕ → ℕ → ℕ → ℕ} (rows buckets lanes : ℕ) {table : List ℕ}
+    → Low table → ((l v t : ℕ) → l < lanes → v < buckets → t < rows → B ≤ bucket l v t)
+    → Gathered bucket rows buckets lanes table table
+gathered-none rows buckets lanes {table} w h =
     record { long = refl; low = w; done = λ l v t i j k g. omega (arith, w .word (v * 1216 + t * 64 + l), h l v t i j k) }
 
 -- one after the other
 pub gathered-join :
-    {P Q S : ℕ → ℕ → ℕ → ℕ} {rows planes lanes : ℕ} {old mid new : List ℕ}
-    → Gathered P rows planes lanes old mid → Gathered Q rows planes lanes mid new → ((l v t : ℕ) → l < lanes → S l v t ≡ min (P l v t) (Q l v t))
-    → Gathered S rows planes lanes old new
+    {P Q S : ℕ → ℕ → ℕ → ℕ} {rows buckets lanes : ℕ} {old mid new : List ℕ}
+    → Gathered P rows buckets lanes old mid → Gathered Q rows buckets lanes mid new → ((l v t : ℕ) → l < lanes → S l v t ≡ min (P l v t) (Q l v t))
+    → Gathered S rows buckets lanes old new
 gathered-join p q e =
     record {
       long = q .long ∙ p .long;
@@ -250,15 +250,15 @@ gathered-join p q e =
 
 -- the same by another name
 pub gathered-ext :
-    {P Q : ℕ → ℕ → ℕ → ℕ} {rows planes lanes : ℕ} {old new : List ℕ}
-    → Gathered P rows planes lanes old new → ((l v t : ℕ) → l < lanes → Q l v t ≡ P l v t)
-    → Gathered Q rows planes lanes old new
+    {P Q : ℕ → ℕ → ℕ → ℕ} {rows buckets lanes : ℕ} {old new : List ℕ}
+    → Gathered P rows buckets lanes old new → ((l v t : ℕ) → l < lanes → Q l v t ≡ P l v t)
+    → Gathered Q rows buckets lanes old new
 gathered-ext p e = record { long = p .long; low = p .low; done = λ l v t i j k g. omega (arith, p .done l v t i j k g, e l v t i) }
 
 -- what a function was given holds on
 pub source-on :
-    {plane : ℕ → ℕ → ℕ → ℕ} {table table′ st line : List ℕ} {at k m rows planes lanes : ℕ}
-    → Source table st line at k m planes lanes → Gathered plane rows planes lanes table table′ → Source table′ st line at k m planes lanes
+    {bucket : ℕ → ℕ → ℕ → ℕ} {table table′ st line : List ℕ} {at k m rows buckets lanes : ℕ}
+    → Source table st line at k m buckets lanes → Gathered bucket rows buckets lanes table table′ → Source table′ st line at k m buckets lanes
 source-on g w =
     record {
       words = g .words;
@@ -272,7 +272,7 @@ source-on g w =
       needed = g .needed;
     }
 
-pub rows-on : {st st′ line table : List ℕ} {k planes lanes : ℕ} → ToRows st line table k planes lanes → Low st′ → ToRows st′ line table k planes lanes
+pub rows-on : {st st′ line table : List ℕ} {k buckets lanes : ℕ} → ToRows st line table k buckets lanes → Low st′ → ToRows st′ line table k buckets lanes
 rows-on g w =
     record {
       words = g .words;
@@ -287,26 +287,26 @@ rows-on g w =
 
 -- ---- from a table without sources
 
--- so many planes are filled, and the last four of them are the planes of gaps 2 and 3
+-- so many buckets are filled, and the last four of them are the buckets of gaps 2 and 3
 module _
-    {plane : ℕ → ℕ → ℕ → ℕ} {poses planes lanes : ℕ} {clear table : List ℕ} (few : poses ≤ 60) (least : 5 ≤ planes) (most : planes ≤ 9)
-    (low : (l v t : ℕ) → plane l v t ≤ B) (last : (l v t : ℕ) → v < 4 → plane l (planes - 4 + v) t ≡ plane l (5 + v) t)
-    (none : Cleared (rowsOf poses) lanes planes clear) (w : Gathered plane (rowsOf poses) planes lanes clear table)
+    {bucket : ℕ → ℕ → ℕ → ℕ} {poses buckets lanes : ℕ} {clear table : List ℕ} (few : poses ≤ 60) (least : 5 ≤ buckets) (most : buckets ≤ 9)
+    (low : (l v t : ℕ) → bucket l v t ≤ B) (last : (l v t : ℕ) → v < 4 → bucket l (buckets - 4 + v) t ≡ bucket l (5 + v) t)
+    (none : Cleared (rowsOf poses) lanes buckets clear) (w : Gathered bucket (rowsOf poses) buckets lanes clear table)
   where
-    -- it has the planes
-    filled : (l v t : ℕ) → l < lanes → v < planes → t < rowsOf poses → v ≤ 8 * t → wordAt table l v t ≡ plane l v t
+    -- it has the buckets
+    filled : (l v t : ℕ) → l < lanes → v < buckets → t < rowsOf poses → v ≤ 8 * t → wordAt table l v t ≡ bucket l v t
     filled l v t i j k g = omega (arith, w .done l v t i j k g, none .none l v t i j (omega arith), low l v t)
 
     -- those of the gaps that pay are found where they are looked for
-    looked : (l gap v t : ℕ) → l < lanes → v < 4 → 1 ≤ t → t < rowsOf poses → wordAt table l (planeIn (planes - 4) gap v) t ≡ plane l (planeIn 5 gap v) t
+    looked : (l gap v t : ℕ) → l < lanes → v < 4 → 1 ≤ t → t < rowsOf poses → wordAt table l (bucketIn (buckets - 4) gap v) t ≡ bucket l (bucketIn 5 gap v) t
     looked l gap v t i j b k = go (eqb gap 0)
       where
-        go : (z : Bool) → wordAt table l (cond z (1 + v) (planes - 4 + v)) t ≡ plane l (cond z (1 + v) (5 + v)) t
+        go : (z : Bool) → wordAt table l (cond z (1 + v) (buckets - 4 + v)) t ≡ bucket l (cond z (1 + v) (5 + v)) t
         go true = filled l (1 + v) t i (omega arith) k (omega arith)
-        go false = filled l (planes - 4 + v) t i (omega arith) k (omega arith) ∙ last l v t j
+        go false = filled l (buckets - 4 + v) t i (omega arith) k (omega arith) ∙ last l v t j
 
-    -- and once plane 0 ran up, what is found in them
-    pub ready : {table′ : List ℕ} → RunUp (rowsOf poses - 3) lanes table table′ → Ready plane poses planes lanes table′
+    -- and once bucket 0 ran up, what is found in them
+    pub ready : {table′ : List ℕ} → RunUp (rowsOf poses - 3) lanes table table′ → Ready bucket poses buckets lanes table′
     unfolding found
     ready {table′} u =
         record {
@@ -314,35 +314,35 @@ module _
           low = u .low;
           right = λ a l h i.
               ap₂ min
-              (lowest-same (λ gap. wordAt table′ l (planeIn (planes - 4) gap (a % 4)) (a / 4 + 4 - gap)) (λ gap. plane l (planeIn 5 gap (a % 4)) (a / 4 + 4 - gap)) paying
+              (lowest-same (λ gap. wordAt table′ l (bucketIn (buckets - 4) gap (a % 4)) (a / 4 + 4 - gap)) (λ gap. bucket l (bucketIn 5 gap (a % 4)) (a / 4 + 4 - gap)) paying
               (λ gap g.
               let b = paying-low gap g in
-              u .near l (planeIn (planes - 4) gap (a % 4)) (a / 4 + 4 - gap) i (above gap (a % 4)) (omega arith)
+              u .near l (bucketIn (buckets - 4) gap (a % 4)) (a / 4 + 4 - gap) i (above gap (a % 4)) (omega arith)
               ∙ looked l gap (a % 4) (a / 4 + 4 - gap) i (omega arith) (omega arith) (omega arith)))
-              (u .far l (a / 4) i (omega arith) ∙ lowest-ext (wordAt table l 0) (plane l 0) 0 (suc (a / 4)) (λ t k. filled l 0 t i (omega arith) (omega arith) (omega arith)));
+              (u .far l (a / 4) i (omega arith) ∙ lowest-ext (wordAt table l 0) (bucket l 0) 0 (suc (a / 4)) (λ t k. filled l 0 t i (omega arith) (omega arith) (omega arith)));
         }
       where
-        above : (gap v : ℕ) → 1 ≤ planeIn (planes - 4) gap v
+        above : (gap v : ℕ) → 1 ≤ bucketIn (buckets - 4) gap v
         above gap v = go (eqb gap 0)
           where
-            go : (z : Bool) → 1 ≤ cond z (1 + v) (planes - 4 + v)
+            go : (z : Bool) → 1 ≤ cond z (1 + v) (buckets - 4 + v)
             go true = omega arith
             go false = omega arith
 
     -- if nothing lowered it, nothing is found
-    pub unused : table ≡ clear → (a l : ℕ) → a < poses → l < lanes → found (plane l) a ≡ B
+    pub unused : table ≡ clear → (a l : ℕ) → a < poses → l < lanes → found (bucket l) a ≡ B
     unused e a l h i =
-        found-ext (plane l) (λ v t. B) a {rows = rowsOf poses} (omega arith) (λ v t j k g. go v t j k g (decLt v planes))
+        found-ext (bucket l) (λ v t. B) a {rows = rowsOf poses} (omega arith) (λ v t j k g. go v t j k g (decLt v buckets))
         ∙ found-none a
       where
-        away : (v t : ℕ) → v < planes → t < rowsOf poses → v ≤ 8 * t → plane l v t ≡ B
+        away : (v t : ℕ) → v < buckets → t < rowsOf poses → v ≤ 8 * t → bucket l v t ≡ B
         away v t j k g =
             let z : wordAt table l v t ≡ wordAt clear l v t = ap (λ (s : List ℕ). wordAt s l v t) e in
             omega (arith, filled l v t i j k g, none .none l v t i j k)
 
-        go : (v t : ℕ) → v < 9 → t < rowsOf poses → v ≤ 8 * t → Dec (v < planes) → plane l v t ≡ B
+        go : (v t : ℕ) → v < 9 → t < rowsOf poses → v ≤ 8 * t → Dec (v < buckets) → bucket l v t ≡ B
         go v t j k g (yes p) = away v t p k g
         go v t j k g (no p) =
             let x : 5 + (v - 5) ≡ v = omega arith in
             let y = rw x at (last l (v - 5) t (omega arith)) in
-            omega (arith, away (planes - 4 + (v - 5)) t (omega arith) k (omega arith))
+            omega (arith, away (buckets - 4 + (v - 5)) t (omega arith) k (omega arith))

@@ -1,28 +1,28 @@
-// Sources gathered by their end site, for one target cell: a table of 9 planes of 19 rows of 64 lanes, plane v from 1216 v on (crate planes tells what
-// the planes are). Row t has the sources that end at the target's first site - 4 + t, row 0 those further left too. Plane 0 has them by themselves, planes 1
-// to 4 with what they pay at gap 0 to each variant of the target, planes 5 to 8 with what they pay at gaps 2 and 3. A target whose weights are all equal
-// needs 5 planes: planes 1 to 4 serve for gaps 2 and 3 too. Only the rows that some pose looks at count.
+// Sources gathered by their end site, for one target cell: a table of 9 buckets of 19 rows of 64 lanes, bucket v from 1216 v on (crate buckets tells what
+// the buckets are). Row t has the sources that end at the target's first site - 4 + t, row 0 those further left too. Plane 0 has them by themselves, buckets 1
+// to 4 with what they pay at gap 0 to each variant of the target, buckets 5 to 8 with what they pay at gaps 2 and 3. A target whose weights are all equal
+// needs 5 buckets: buckets 1 to 4 serve for gaps 2 and 3 too. Only the rows that some pose looks at count.
 ghost use mathlib.Core.Path.{_≡_};
 ghost use mathlib.Core.Bool.{false};
 ghost use Prim.Native.Nat.{suc, _+_, _*_, _-_, _≤_, _<_};
 ghost use lib.ListN.{length};
 ghost use Rattle.theory_tables.specs.Steps.{B};
 ghost use Rattle.search_lanes.specs.Lanes.{always, wordsFrom};
-ghost use Rattle.search_lanes.specs.Store.{Low, Written, FilledPair};
+ghost use Rattle.search_lanes.specs.Store.{Low, Written, FilledState};
 ghost use Rattle.search_buckets.specs.Rows.{rowsOf, Pays, PaysLow};
 ghost use Rattle.search_wide_buckets.specs.Table.{LoweredAt, Cleared, Gathered, FiveOrNine, chargedBy, chargedOne, Spread, Source, poseIn, posesIn};
 ghost use Rattle.search_wide_buckets.specs.Table.{RunUp, foundIn, foundRow, foundRowOf, foundRows, ToRows};
 
 // ---- the rows that count
 
-// NONE in the lanes and rows that count, in so many planes.
-pub fn reset(table: &mut [u32; 10944], planes: usize, poses: usize, lanes: usize)
-    requires { ⌜ Low (now table) × (length (now table) ≡ 10944) × (planes ≤ 9) × (poses ≤ 60) × (lanes ≤ 64) ⌝ }
-    ensures { λ _. ⌜ Cleared (rowsOf poses) lanes planes (now (table .exit)) ⌝ }
+// NONE in the lanes and rows that count, in so many buckets.
+pub fn reset(table: &mut [u32; 10944], buckets: usize, poses: usize, lanes: usize)
+    requires { ⌜ Low (now table) × (length (now table) ≡ 10944) × (buckets ≤ 9) × (poses ≤ 60) × (lanes ≤ 64) ⌝ }
+    ensures { λ _. ⌜ Cleared (rowsOf poses) lanes buckets (now (table .exit)) ⌝ }
 {
     let rows = search_buckets::rows_of(poses);
     let mut v: usize = 0;
-    while v < planes {
+    while v < buckets {
         search_lanes::fill_rows(table, v * 1216, rows, lanes, search_lanes::NONE);
         v += 1;
     }
@@ -38,7 +38,7 @@ fn lower_one(table: &mut [u32; 10944], to: usize, x: u32)
     table[to] = search_lanes::lesser(table[to], x);
 }
 
-// A source of cost x in one lane to row t of four planes, those from `first` on: planes 1 to 4 or 5 to 8, where row 0 does not count.
+// A source of cost x in one lane to row t of four buckets, those from `first` on: buckets 1 to 4 or 5 to 8, where row 0 does not count.
 fn spread_near(
     table: &mut [u32; 10944],
     x: u32,
@@ -65,7 +65,7 @@ fn spread_near(
     }
 }
 
-// The same to plane 0 and planes 1 to 4.
+// The same to bucket 0 and buckets 1 to 4.
 fn spread_one(table: &mut [u32; 10944], x: u32, pays: &[u32; 36], u: usize, t: usize, lane: usize)
     requires { ⌜ Low (now table) × (length (now table) ≡ 10944) × (x ≤ B) × PaysLow 5 (now pays) × (u < 4) × (t < 19) × (lane < 64) ⌝ }
     ensures { λ _. ⌜ Spread (chargedOne x (now (pays .entry)) u) t 0 5 lane 1 (now (table .entry)) (now (table .exit)) ⌝ }
@@ -74,7 +74,7 @@ fn spread_one(table: &mut [u32; 10944], x: u32, pays: &[u32; 36], u: usize, t: u
     spread_near(table, x, pays, u, t, lane, 1);
 }
 
-// The same to all planes that are needed.
+// The same to all buckets that are needed.
 pub fn spread_lane(
     table: &mut [u32; 10944],
     x: u32,
@@ -82,19 +82,19 @@ pub fn spread_lane(
     u: usize,
     t: usize,
     lane: usize,
-    planes: usize,
+    buckets: usize,
 )
-    requires { ⌜ Low (now table) × (length (now table) ≡ 10944) × (x ≤ B) × PaysLow planes (now pays) × (u < 4) × (t < 19) × (lane < 64) × FiveOrNine planes ⌝ }
-    ensures { λ _. ⌜ Spread (chargedOne x (now (pays .entry)) u) t 0 planes lane 1 (now (table .entry)) (now (table .exit)) ⌝ }
+    requires { ⌜ Low (now table) × (length (now table) ≡ 10944) × (x ≤ B) × PaysLow buckets (now pays) × (u < 4) × (t < 19) × (lane < 64) × FiveOrNine buckets ⌝ }
+    ensures { λ _. ⌜ Spread (chargedOne x (now (pays .entry)) u) t 0 buckets lane 1 (now (table .entry)) (now (table .exit)) ⌝ }
 {
     spread_one(table, x, pays, u, t, lane);
-    if planes == 5 {
+    if buckets == 5 {
         return;
     }
     spread_near(table, x, pays, u, t, lane, 5);
 }
 
-// A source row, so many lanes, by its variant u: to row t of planes 0 to 4, or of plane 0 alone if t is 0. The planes of a lane are lowered together,
+// A source row, so many lanes, by its variant u: to row t of buckets 0 to 4, or of bucket 0 alone if t is 0. The buckets of a lane are lowered together,
 // so that each word of the row is read once.
 fn spread(
     table: &mut [u32; 10944],
@@ -115,7 +115,7 @@ fn spread(
     }
 }
 
-// The same to planes 5 to 8.
+// The same to buckets 5 to 8.
 fn spread_apart(
     table: &mut [u32; 10944],
     row: &[u32],
@@ -135,7 +135,7 @@ fn spread_apart(
     }
 }
 
-// The same to all planes that are needed.
+// The same to all buckets that are needed.
 fn spread_row(
     table: &mut [u32; 10944],
     row: &[u32],
@@ -143,14 +143,14 @@ fn spread_row(
     pays: &[u32; 36],
     u: usize,
     t: usize,
-    planes: usize,
+    buckets: usize,
     lanes: usize,
 )
-    requires { ⌜ Low (now table) × (length (now table) ≡ 10944) × Low (now row) × (at + lanes ≤ length (now row)) × PaysLow planes (now pays) × (u < 4) × (t < 19) × (lanes ≤ 64) × FiveOrNine planes ⌝ }
-    ensures { λ _. ⌜ Spread (chargedBy (now (row .entry)) at (now (pays .entry)) u) t 0 planes 0 lanes (now (table .entry)) (now (table .exit)) ⌝ }
+    requires { ⌜ Low (now table) × (length (now table) ≡ 10944) × Low (now row) × (at + lanes ≤ length (now row)) × PaysLow buckets (now pays) × (u < 4) × (t < 19) × (lanes ≤ 64) × FiveOrNine buckets ⌝ }
+    ensures { λ _. ⌜ Spread (chargedBy (now (row .entry)) at (now (pays .entry)) u) t 0 buckets 0 lanes (now (table .entry)) (now (table .exit)) ⌝ }
 {
     spread(table, row, at, pays, u, t, lanes);
-    if planes == 5 {
+    if buckets == 5 {
         return;
     }
     spread_apart(table, row, at, pays, u, t, lanes);
@@ -167,11 +167,11 @@ fn from_pose(
     m: usize,
     b: usize,
     rows: usize,
-    planes: usize,
+    buckets: usize,
     lanes: usize,
 ) -> bool
-    requires { ⌜ Source (now table) (now store) (now line) at k m planes lanes × Pays (now line) k m planes 36 (now pays) × (b < 60) × (rows ≤ 19) ⌝ }
-    ensures { λ used. ⌜ Gathered (poseIn (now (store .entry)) (now (line .entry)) at k m b) rows planes lanes (now (table .entry)) (now (table .exit)) × (used ≡ false → now (table .exit) ≡ now (table .entry)) ⌝ }
+    requires { ⌜ Source (now table) (now store) (now line) at k m buckets lanes × Pays (now line) k m buckets 36 (now pays) × (b < 60) × (rows ≤ 19) ⌝ }
+    ensures { λ used. ⌜ Gathered (poseIn (now (store .entry)) (now (line .entry)) at k m b) rows buckets lanes (now (table .entry)) (now (table .exit)) × (used ≡ false → now (table .exit) ≡ now (table .entry)) ⌝ }
 {
     let t = search_buckets::end_row(line, k, b, m);
     if t >= rows {
@@ -180,7 +180,7 @@ fn from_pose(
     if search_lanes::common(store, at + b * 64, lanes) >= search_lanes::NONE {
         return false;
     }
-    spread_row(table, store, at + b * 64, pays, b % 4, t, planes, lanes);
+    spread_row(table, store, at + b * 64, pays, b % 4, t, buckets, lanes);
     true
 }
 
@@ -194,17 +194,17 @@ pub fn from_poses(
     k: usize,
     m: usize,
     poses: usize,
-    planes: usize,
+    buckets: usize,
     lanes: usize,
 ) -> bool
-    requires { ⌜ Source (now table) (now store) (now line) at k m planes lanes × Pays (now line) k m planes 36 (now pays) × (poses ≤ 60) ⌝ }
-    ensures { λ used. ⌜ Gathered (posesIn (now (store .entry)) (now (line .entry)) at k m poses) (rowsOf poses) planes lanes (now (table .entry)) (now (table .exit)) × (used ≡ false → now (table .exit) ≡ now (table .entry)) ⌝ }
+    requires { ⌜ Source (now table) (now store) (now line) at k m buckets lanes × Pays (now line) k m buckets 36 (now pays) × (poses ≤ 60) ⌝ }
+    ensures { λ used. ⌜ Gathered (posesIn (now (store .entry)) (now (line .entry)) at k m poses) (rowsOf poses) buckets lanes (now (table .entry)) (now (table .exit)) × (used ≡ false → now (table .exit) ≡ now (table .entry)) ⌝ }
 {
     let rows = search_buckets::rows_of(poses);
     let mut used = false;
     let mut b: usize = 0;
     while b < poses {
-        if from_pose(table, store, line, pays, at, k, m, b, rows, planes, lanes) {
+        if from_pose(table, store, line, pays, at, k, m, b, rows, buckets, lanes) {
             used = true;
         }
         b += 1;
@@ -226,7 +226,7 @@ fn lower_by(table: &mut [u32; 10944], to: usize, from: usize, lanes: usize)
     }
 }
 
-// Each row of plane 0, as far as so many poses look, lowered to all rows before it.
+// Each row of bucket 0, as far as so many poses look, lowered to all rows before it.
 pub fn run_up(table: &mut [u32; 10944], poses: usize, lanes: usize)
     requires { ⌜ Low (now table) × (length (now table) ≡ 10944) × (poses ≤ 60) × (lanes ≤ 64) ⌝ }
     ensures { λ _. ⌜ RunUp (rowsOf poses - 3) lanes (now (table .entry)) (now (table .exit)) ⌝ }
@@ -240,13 +240,13 @@ pub fn run_up(table: &mut [u32; 10944], poses: usize, lanes: usize)
 }
 
 // What pose a finds in lane l: at gaps 0, 2 and 3, and further left.
-fn found_lane(table: &[u32; 10944], a: usize, l: usize, planes: usize) -> u32
-    requires { ⌜ (length (now table) ≡ 10944) × Low (now table) × (a < 60) × (l < 64) × (5 ≤ planes) × (planes ≤ 9) ⌝ }
-    ensures { λ x. ⌜ x ≡ foundIn planes (now (table .entry)) a l ⌝ }
+fn found_lane(table: &[u32; 10944], a: usize, l: usize, buckets: usize) -> u32
+    requires { ⌜ (length (now table) ≡ 10944) × Low (now table) × (a < 60) × (l < 64) × (5 ≤ buckets) × (buckets ≤ 9) ⌝ }
+    ensures { λ x. ⌜ x ≡ foundIn buckets (now (table .entry)) a l ⌝ }
 {
     let far = a / 4 * 64 + l;
     let near = (1 + a % 4) * 1216 + far;
-    let other = (planes - 4 + a % 4) * 1216 + far;
+    let other = (buckets - 4 + a % 4) * 1216 + far;
     let apart = search_lanes::lesser(table[other + 128], table[other + 64]);
     search_lanes::lesser(search_lanes::lesser(table[near + 256], apart), table[far])
 }
@@ -258,16 +258,16 @@ fn put_row(
     table: &[u32; 10944],
     a: usize,
     own: u32,
-    planes: usize,
+    buckets: usize,
     lanes: usize,
 )
-    requires { ⌜ (at + lanes ≤ length (now store)) × (lanes ≤ 64) × (length (now table) ≡ 10944) × (own ≤ B) × Low (now store) × Low (now table) × (a < 60) × (5 ≤ planes) × (planes ≤ 9) ⌝ }
-    ensures { λ _. ⌜ Written (foundRow planes (now (table .entry)) own a) at lanes (now (store .entry)) (now (store .exit)) ⌝ }
+    requires { ⌜ (at + lanes ≤ length (now store)) × (lanes ≤ 64) × (length (now table) ≡ 10944) × (own ≤ B) × Low (now store) × Low (now table) × (a < 60) × (5 ≤ buckets) × (buckets ≤ 9) ⌝ }
+    ensures { λ _. ⌜ Written (foundRow buckets (now (table .entry)) own a) at lanes (now (store .entry)) (now (store .exit)) ⌝ }
 {
     let mut l: usize = 0;
     while l < lanes {
         store[at + l] = search_lanes::lesser(
-            own + found_lane(table, a, l, planes),
+            own + found_lane(table, a, l, buckets),
             search_lanes::NONE,
         );
         l += 1;
@@ -282,21 +282,21 @@ fn put_pose(
     at: usize,
     k: usize,
     a: usize,
-    planes: usize,
+    buckets: usize,
     lanes: usize,
 )
-    requires { ⌜ ToRows (now store) (now line) (now table) k planes lanes × (at + lanes ≤ length (now store)) × (a < 60) ⌝ }
-    ensures { λ _. ⌜ Written (foundRowOf planes (now (line .entry)) (now (table .entry)) k a) at lanes (now (store .entry)) (now (store .exit)) ⌝ }
+    requires { ⌜ ToRows (now store) (now line) (now table) k buckets lanes × (at + lanes ≤ length (now store)) × (a < 60) ⌝ }
+    ensures { λ _. ⌜ Written (foundRowOf buckets (now (line .entry)) (now (table .entry)) k a) at lanes (now (store .entry)) (now (store .exit)) ⌝ }
 {
     let own = line[k * 128 + a];
     if own >= search_lanes::NONE {
         search_lanes::fill(store, at, lanes, search_lanes::NONE);
         return;
     }
-    put_row(store, at, table, a, own, planes, lanes);
+    put_row(store, at, table, a, own, buckets, lanes);
 }
 
-// The rows of pair q, whose cell stands at position k.
+// The rows of state q, whose cell stands at position k.
 pub fn put_rows(
     store: &mut [u32],
     line: &[u32],
@@ -305,11 +305,11 @@ pub fn put_rows(
     q: usize,
     k: usize,
     poses: usize,
-    planes: usize,
+    buckets: usize,
     lanes: usize,
 )
-    requires { ⌜ ToRows (now store) (now line) (now table) k planes lanes × (to + 49152 ≤ length (now store)) × (q < 12) × (poses ≤ 60) ⌝ }
-    ensures { λ _. ⌜ FilledPair (foundRows planes (now (line .entry)) (now (table .entry)) k) lanes to q poses (now (store .entry)) (now (store .exit)) ⌝ }
+    requires { ⌜ ToRows (now store) (now line) (now table) k buckets lanes × (to + 49152 ≤ length (now store)) × (q < 12) × (poses ≤ 60) ⌝ }
+    ensures { λ _. ⌜ FilledState (foundRows buckets (now (line .entry)) (now (table .entry)) k) lanes to q poses (now (store .entry)) (now (store .exit)) ⌝ }
 {
     let mut a: usize = 0;
     while a < poses {
@@ -320,7 +320,7 @@ pub fn put_rows(
             to + q * 4096 + a * 64,
             k,
             a,
-            planes,
+            buckets,
             lanes,
         );
         a += 1;

@@ -1,45 +1,45 @@
--- The price of a stretch to the row's end: the least of the layer with all cells placed. What the loops come to, and what they leave.
+-- The cost of a segment to the row's end: the least of the layer with all cells placed. What the loops come to, and what they leave.
 use Prim.Native.Nat.{ℕ, _+_, _<_}
 use mathlib.Core.Path.{_≡_}
 use mathlib.Core.Bool.{Bool, not, _&&_, cond}
 use mathlib.Core.List.{List}
 use lib.ListN.{getD}
 use lib.Dec.{eqb}
-use Rattle.theory_row.specs.Lists.{from}
+use Rattle.lists.specs.Lists.{from}
 use Rattle.theory_pair.specs.Coded.{lowest}
-use Rattle.theory_tables.specs.Steps.{B, Deck, Layer, lastAt, isThere, ends, priceEnd}
+use Rattle.theory_tables.specs.Steps.{B, Deck, Layer, lastAt, isThere, ends, costEnd}
 use Rattle.search_lanes.specs.Store.{Frame, Low, layerIn}
 use Rattle.search_row.specs.Words.{wordOf, backIn, thereIn}
 use Rattle.search_wide_segment.specs.Runs.{Running, Outside}
 
--- pair q's cell can be the last of the row: the row has it, and it is single
+-- state q's cell can be the last of the row: the row has it, and it is single
 abbrev pub endsWith : List ℕ → ℕ → ℕ → ℕ → Bool
 endsWith line n R q = thereIn n R n q && not (eqb (wordOf line (lastAt R n q) 67) 1)
 
 -- ---- the loops
 
--- the least of the poses below m of pair q, each with what it pays as the last
+-- the least of the poses below m of state q, each with what it pays as the last
 unfoldable pub leastPoses : (ℕ → ℕ) → Layer → ℕ → ℕ → ℕ
 leastPoses back f q m = lowest B (λ a. f q a + back a) (from 0 m)
 
--- of pair q, if its cell can be the last
-unfoldable pub leastPair : Deck → ℕ → Layer → ℕ → ℕ
-leastPair D R f q =
+-- of state q, if its cell can be the last
+unfoldable pub leastState : Deck → ℕ → Layer → ℕ → ℕ
+leastState D R f q =
     cond (isThere D R (D .size) q && not (D .tall (lastAt R (D .size) q))) (leastPoses (D .back (lastAt R (D .size) q)) f q (D .poses)) B
 
--- of the pairs below m
-unfoldable pub leastPairs : Deck → ℕ → Layer → ℕ → ℕ
-leastPairs D R f m = lowest B (leastPair D R f) (from 0 m)
+-- of the states below m
+unfoldable pub leastStates : Deck → ℕ → Layer → ℕ → ℕ
+leastStates D R f m = lowest B (leastState D R f) (from 0 m)
 
 -- the same in lane l of a layer in the store; the cell is at position k
 abbrev pub leastPosesIn : List ℕ → ℕ → List ℕ → ℕ → ℕ → ℕ → ℕ → ℕ
 leastPosesIn line k st at q m l = leastPoses (backIn line k) (layerIn st at l) q m
 
-abbrev pub leastPairIn : Deck → ℕ → List ℕ → ℕ → ℕ → ℕ → ℕ
-leastPairIn D R st at q l = leastPair D R (layerIn st at l) q
+abbrev pub leastStateIn : Deck → ℕ → List ℕ → ℕ → ℕ → ℕ → ℕ
+leastStateIn D R st at q l = leastState D R (layerIn st at l) q
 
-abbrev pub leastPairsIn : Deck → ℕ → List ℕ → ℕ → ℕ → ℕ → ℕ
-leastPairsIn D R st at m l = leastPairs D R (layerIn st at l) m
+abbrev pub leastStatesIn : Deck → ℕ → List ℕ → ℕ → ℕ → ℕ → ℕ
+leastStatesIn D R st at m l = leastStates D R (layerIn st at l) m
 
 abbrev pub endsIn : Deck → ℕ → List ℕ → ℕ → ℕ → ℕ
 endsIn D R st at l = ends D R (layerIn st at l)
@@ -52,8 +52,8 @@ pub record Ran (D : Deck) (R lanes i d at : ℕ) (old new : List ℕ) : Type 0 w
   pub frame : Frame 0 98304 old new
   pub low : Low new
 
--- the prices to the row's end, a word for each lane; `starts` has what the start of each lane pays as the last
-pub record Ended (D : Deck) (R lanes i prices : ℕ) (starts old new : List ℕ) : Type 0 where
-  pub outside : Outside prices 64 old new
+-- the costs to the row's end, a word for each lane; `starts` has what the start of each lane pays as the last
+pub record Ended (D : Deck) (R lanes i costs : ℕ) (starts old new : List ℕ) : Type 0 where
+  pub outside : Outside costs 64 old new
   pub low : Low new
-  pub right : (l : ℕ) → l < lanes → getD new (prices + l) 0 ≡ priceEnd D R (layerIn old 0 l) i (getD starts l 0)
+  pub right : (l : ℕ) → l < lanes → getD new (costs + l) 0 ≡ costEnd D R (layerIn old 0 l) i (getD starts l 0)

@@ -1,4 +1,4 @@
--- The start of a stretch in a table of planes: each lane has one pose to start with, which costs nothing. Assumes nothing.
+-- The start of a segment in a table of buckets: each lane has one pose to start with, which costs nothing.
 use Prim.Native.Nat.{ℕ, _+_, _*_, _-_, _≤_, _<_, min}
 use mathlib.Core.Path.{_≡_, refl, _∙_}
 use mathlib.Core.Logic.{_≢_, _⊎_, inl, inr}
@@ -11,9 +11,9 @@ use lib.Dec.{eqb}
 use Rattle.theory_tables.specs.Steps.{B}
 use Rattle.search_lanes.specs.Store.{Low}
 use Rattle.search_row.specs.Words.{wordOf, LineWords}
-use Rattle.search_buckets.specs.Rows.{inRow, planesIn, endRow, payIn, onePose}
+use Rattle.search_buckets.specs.Rows.{inRow, bucketsIn, endRow, payIn, onePose}
 use Rattle.search_buckets.specs.Laws.{row-miss, pay-small, found-one}
-use Rattle.search_buckets.specs.Sources.{pose-twin, planes-last}
+use Rattle.search_buckets.specs.Sources.{pose-twin, buckets-last}
 use Rattle.search_wide_buckets.specs.Table.{wordAt, Spread, Gathered, Ready, foundRow}
 use Rattle.search_wide_first.specs.Firsts.{afterRow}
 
@@ -21,26 +21,26 @@ use Rattle.search_wide_first.specs.Firsts.{afterRow}
 abbrev pub startIn : List ℕ → ℕ → ℕ → ℕ → ℕ → ℕ → ℕ
 startIn line p k l = onePose line p k l 0
 
--- one lane's planes are lowered, in the rows that count; the other lanes are as they were
-pub record Started (plane : ℕ → ℕ → ℕ) (rows planes lane : ℕ) (old new : List ℕ) : Type 0 where
+-- one lane's buckets are lowered, in the rows that count; the other lanes are as they were
+pub record Started (bucket : ℕ → ℕ → ℕ) (rows buckets lane : ℕ) (old new : List ℕ) : Type 0 where
   pub long : length new ≡ length old
   pub low : Low new
-  pub done : (v t : ℕ) → v < planes → t < rows → v ≤ 8 * t → wordAt new lane v t ≡ min (wordAt old lane v t) (plane v t)
+  pub done : (v t : ℕ) → v < buckets → t < rows → v ≤ 8 * t → wordAt new lane v t ≡ min (wordAt old lane v t) (bucket v t)
   pub other : (l v t : ℕ) → l < 64 → l ≢ lane → t < rows → wordAt new l v t ≡ wordAt old l v t
 
 -- the lanes below n
-pub record StartedTo (plane : ℕ → ℕ → ℕ → ℕ) (rows planes n : ℕ) (old new : List ℕ) : Type 0 where
+pub record StartedTo (bucket : ℕ → ℕ → ℕ → ℕ) (rows buckets n : ℕ) (old new : List ℕ) : Type 0 where
   pub long : length new ≡ length old
   pub low : Low new
-  pub done : (l v t : ℕ) → l < n → v < planes → t < rows → v ≤ 8 * t → wordAt new l v t ≡ min (wordAt old l v t) (plane l v t)
+  pub done : (l v t : ℕ) → l < n → v < buckets → t < rows → v ≤ 8 * t → wordAt new l v t ≡ min (wordAt old l v t) (bucket l v t)
   pub rest : (l v t : ℕ) → n ≤ l → l < 64 → t < rows → wordAt new l v t ≡ wordAt old l v t
 
 -- ---- one lane
 
 -- a start that ends right of all rows that count
 pub started-out :
-    (line : List ℕ) {table : List ℕ} (p k b : ℕ) {rows planes lane : ℕ}
-    → Low table → rows ≤ endRow line p b k → Started (onePose line p k b 0) rows planes lane table table
+    (line : List ℕ) {table : List ℕ} (p k b : ℕ) {rows buckets lane : ℕ}
+    → Low table → rows ≤ endRow line p b k → Started (onePose line p k b 0) rows buckets lane table table
 started-out line {table} p k b {lane = lane} w h =
     record {
       long = refl;
@@ -51,9 +51,9 @@ started-out line {table} p k b {lane = lane} w h =
 
 -- a start in row t
 pub started-in :
-    {f plane : ℕ → ℕ → ℕ} {t rows planes lane : ℕ} {old new : List ℕ}
-    → rows ≤ 19 → Spread f t 0 planes lane 1 old new → ((v s : ℕ) → v < planes → plane v s ≡ inRow t s (f v 0))
-    → Started plane rows planes lane old new
+    {f bucket : ℕ → ℕ → ℕ} {t rows buckets lane : ℕ} {old new : List ℕ}
+    → rows ≤ 19 → Spread f t 0 buckets lane 1 old new → ((v s : ℕ) → v < buckets → bucket v s ≡ inRow t s (f v 0))
+    → Started bucket rows buckets lane old new
 started-in {lane = lane} h s e =
     record {
       long = s .long;
@@ -71,14 +71,14 @@ started-in {lane = lane} h s e =
 
 -- ---- every lane
 
-pub starts-none : (plane : ℕ → ℕ → ℕ → ℕ) (rows planes : ℕ) {table : List ℕ} → Low table → StartedTo plane rows planes 0 table table
-starts-none plane rows planes w = record { long = refl; low = w; done = λ l v t i j k g. absurd (omega arith); rest = λ l v t i j k. refl }
+pub starts-none : (bucket : ℕ → ℕ → ℕ → ℕ) (rows buckets : ℕ) {table : List ℕ} → Low table → StartedTo bucket rows buckets 0 table table
+starts-none bucket rows buckets w = record { long = refl; low = w; done = λ l v t i j k g. absurd (omega arith); rest = λ l v t i j k. refl }
 
 pub starts-more :
-    {plane : ℕ → ℕ → ℕ → ℕ} {rows planes : ℕ} {old mid new : List ℕ} (n : ℕ)
-    → n < 64 → StartedTo plane rows planes n old mid → Started (plane n) rows planes n mid new
-    → StartedTo plane rows planes (n + 1) old new
-starts-more {plane} {rows} {planes} {old} {mid} {new} n h s w =
+    {bucket : ℕ → ℕ → ℕ → ℕ} {rows buckets : ℕ} {old mid new : List ℕ} (n : ℕ)
+    → n < 64 → StartedTo bucket rows buckets n old mid → Started (bucket n) rows buckets n mid new
+    → StartedTo bucket rows buckets (n + 1) old new
+starts-more {bucket} {rows} {buckets} {old} {mid} {new} n h s w =
     record {
       long = w .long ∙ s .long;
       low = w .low;
@@ -86,13 +86,13 @@ starts-more {plane} {rows} {planes} {old} {mid} {new} n h s w =
       rest = λ l v t i j k. w .other l v t j (λ e. omega arith) k ∙ s .rest l v t (omega arith) j k;
     }
   where
-    go : (l v t : ℕ) → l < n + 1 → v < planes → t < rows → v ≤ 8 * t → Dec (l ≡ n) → wordAt new l v t ≡ min (wordAt old l v t) (plane l v t)
+    go : (l v t : ℕ) → l < n + 1 → v < buckets → t < rows → v ≤ 8 * t → Dec (l ≡ n) → wordAt new l v t ≡ min (wordAt old l v t) (bucket l v t)
     go l v t i j k g (yes e) = rw e (omega (arith, w .done v t j k g, s .rest n v t (omega arith) h k))
     go l v t i j k g (no d) = w .other l v t (omega arith) d k ∙ s .done l v t (omega arith) j k g
 
 pub starts-all :
-    {plane : ℕ → ℕ → ℕ → ℕ} {rows planes lanes : ℕ} {old new : List ℕ}
-    → StartedTo plane rows planes lanes old new → Gathered plane rows planes lanes old new
+    {bucket : ℕ → ℕ → ℕ → ℕ} {rows buckets lanes : ℕ} {old new : List ℕ}
+    → StartedTo bucket rows buckets lanes old new → Gathered bucket rows buckets lanes old new
 starts-all s = record { long = s .long; low = s .low; done = s .done }
 
 -- ---- what is found
@@ -104,12 +104,12 @@ starts-low {line} p k l v t w = go (eqb (endRow line p l k) t) (pay-small line p
     go true h = omega arith
     go false h = omega arith
 
--- the last four of the planes that are needed are those of gaps 2 and 3
-pub starts-last : (line : List ℕ) (p k l v t : ℕ) → v < 4 → startIn line p k l (planesIn line k - 4 + v) t ≡ startIn line p k l (5 + v) t
-starts-last line p k l v t h = planes-last (λ (u : ℕ). startIn line p k l u t) line k v (λ e. pose-twin line k e p l 0 v t h)
+-- the last four of the buckets that are needed are those of gaps 2 and 3
+pub starts-last : (line : List ℕ) (p k l v t : ℕ) → v < 4 → startIn line p k l (bucketsIn line k - 4 + v) t ≡ startIn line p k l (5 + v) t
+starts-last line p k l v t h = buckets-last (λ (u : ℕ). startIn line p k l u t) line k v (λ e. pose-twin line k e p l 0 v t h)
 
 pub after-found :
-    (line : List ℕ) (p k a l : ℕ) {table : List ℕ} {poses planes lanes : ℕ}
-    → Ready (startIn line p k) poses planes lanes table → a < poses → l < lanes
-    → afterRow line p k a l ≡ foundRow planes table (wordOf line k a) a l
+    (line : List ℕ) (p k a l : ℕ) {table : List ℕ} {poses buckets lanes : ℕ}
+    → Ready (startIn line p k) poses buckets lanes table → a < poses → l < lanes
+    → afterRow line p k a l ≡ foundRow buckets table (wordOf line k a) a l
 after-found line p k a l r h i = omega (arith, r .right a l h i, found-one line p l k a 0)

@@ -1,11 +1,11 @@
--- Laws of one layer in the store: what is written beside it keeps it. Assumes nothing.
+-- Laws of one layer in the store: what is written beside it keeps it.
 use Prim.Native.Nat.{ℕ, _+_, _*_, _≤_, _<_}
 use mathlib.Core.Path.{_≡_}
 use mathlib.Core.List.{List}
 use native.Mathlib.Omega.{arith}
 use native.Mathlib.Decide.{decLt}
 use lib.ListN.{getD}
-use Rattle.theory_tables.specs.Steps.{Deck, pairCount, nextLayer}
+use Rattle.theory_tables.specs.Steps.{Deck, stateCount, nextLayer}
 use Rattle.search_lanes.specs.Store.{Frame, Low, layerIn}
 use Rattle.search_buckets.specs.Next.{next-ext}
 use Rattle.search_wide_layer.specs.Loops.{Given, Beside}
@@ -25,7 +25,7 @@ beside-kept {old = old} {new = new} {at} {to} {a} {b} v f p q = record { word = 
 
 pub next-kept :
     (D : Deck) (R : ℕ) {at : ℕ} {old new : List ℕ} (i q a l : ℕ)
-    → Kept at old new → pairCount R ≤ 12 → D .poses ≤ 60 → l < 64
+    → Kept at old new → stateCount R ≤ 12 → D .poses ≤ 60 → l < 64
     → nextLayer D R (layerIn new at l) i q a ≡ nextLayer D R (layerIn old at l) i q a
 next-kept D R {at} {old} {new} i q a l s w p h =
     next-ext D R (layerIn new at l) (layerIn old at l)
@@ -34,9 +34,9 @@ next-kept D R {at} {old} {new} i q a l s w p h =
 
 -- what a function was given holds on, whatever another one wrote
 pub given-on :
-    {line pairs old new : List ℕ} {n poses R count lanes i at a b : ℕ}
-    → Given line pairs old n poses R count lanes i at → Frame a b old new → Low new
-    → Given line pairs new n poses R count lanes i at
+    {line states old new : List ℕ} {n poses R count lanes i at a b : ℕ}
+    → Given line states old n poses R count lanes i at → Frame a b old new → Low new
+    → Given line states new n poses R count lanes i at
 given-on g f w = record { ground = g .ground; low = w; narrow = g .narrow; early = g .early; room = omega (arith, g .room, f .long) }
 
 pub beside-on : {old new : List ℕ} {at to a b : ℕ} → Beside old at to → Frame a b old new → Beside new at to

@@ -13,8 +13,8 @@ nextFrom D R st at i l q a = nextLayer D R (layerIn st at l) i q a
 -- ---- what is given
 
 -- a layer with i cells in the block at `at`
-pub record Given (line pairs st : List ℕ) (n poses R count lanes i at : ℕ) : Type 0 where
-  pub ground : Ground line pairs R n poses count
+pub record Given (line states st : List ℕ) (n poses R count lanes i at : ℕ) : Type 0 where
+  pub ground : Ground line states R n poses count
   pub low : Low st
   pub narrow : lanes ≤ 64
   pub early : i ≤ 67

@@ -1,14 +1,14 @@
-// One layer of the search from the layer before, in all lanes at once. A layer is a block of 49152 words: pair, pose, lane.
-// For each pair of the next layer its sources are gathered by their end sites (crate near), and each of its poses looks up what it needs.
+// One layer of the search from the layer before, in all lanes at once. A layer is a block of 49152 words: state, pose, lane.
+// For each state of the next layer its sources are gathered by their end sites (crate near), and each of its poses looks up what it needs.
 ghost use mathlib.Core.Path.{_≡_};
 ghost use mathlib.Core.Bool.{true, false};
 ghost use Prim.Native.Nat.{ℕ, suc, _+_, _*_, _≤_, _<_};
-ghost use Rattle.theory_tables.specs.Steps.{pairCount, isSource};
-ghost use Rattle.search_lanes.specs.Store.{FilledPair, Filled};
-ghost use Rattle.search_row.specs.Words.{deckOf, LineWords, PairWords};
+ghost use Rattle.theory_tables.specs.Steps.{stateCount, isSource};
+ghost use Rattle.search_lanes.specs.Store.{FilledState, Filled};
+ghost use Rattle.search_row.specs.Words.{deckOf, LineWords, StateWords};
 ghost use Rattle.search_buckets.specs.Next.{Target};
 ghost use Rattle.search_buckets.specs.Rows.{rowsOf};
-ghost use Rattle.search_wide_buckets.specs.Table.{Lent, FiveOrNine, Gathered, pairIn, pairsIn};
+ghost use Rattle.search_wide_buckets.specs.Table.{Lent, FiveOrNine, Gathered, stateIn, statesIn};
 ghost use Rattle.search_wide_layer.specs.Loops.{nextFrom, Given, Beside};
 
 // Pair p of the layer with i cells, if it is a source: whether it lowered anything.
@@ -16,7 +16,7 @@ fn from_source(
     table: &mut [u32; 10944],
     store: &[u32],
     line: &[u32],
-    pairs: &[u32],
+    states: &[u32],
     n: usize,
     poses: usize,
     r: usize,
@@ -26,18 +26,18 @@ fn from_source(
     from: usize,
     q: usize,
     p: usize,
-    planes: usize,
+    buckets: usize,
 ) -> bool
-    requires { ⌜ Given (now line) (now pairs) (now store) n poses r count lanes i from × Target n r i q × Lent (now table) × (p < count) × FiveOrNine planes ⌝ }
-    ensures { λ used. ⌜ Gathered (pairIn (now (store .entry)) (now (line .entry)) (deckOf (now (line .entry)) n poses) r from i q p) (rowsOf poses) planes lanes (now (table .entry)) (now (table .exit)) × (used ≡ false → now (table .exit) ≡ now (table .entry)) ⌝ }
+    requires { ⌜ Given (now line) (now states) (now store) n poses r count lanes i from × Target n r i q × Lent (now table) × (p < count) × FiveOrNine buckets ⌝ }
+    ensures { λ used. ⌜ Gathered (stateIn (now (store .entry)) (now (line .entry)) (deckOf (now (line .entry)) n poses) r from i q p) (rowsOf poses) buckets lanes (now (table .entry)) (now (table .exit)) × (used ≡ false → now (table .exit) ≡ now (table .entry)) ⌝ }
 {
-    if !search_row::is_source(line, pairs, n, r, i, q, p) {
+    if !search_row::is_source(line, states, n, r, i, q, p) {
         return false;
     }
-    let k = search_row::last_at(pairs, r, i, p);
-    let m = search_row::last_at(pairs, r, i + 1, q);
+    let k = search_row::last_at(states, r, i, p);
+    let m = search_row::last_at(states, r, i + 1, q);
     let mut pays = [0u32; 36];
-    search_buckets::fill_pays(&mut pays, line, k, m, planes);
+    search_buckets::fill_pays(&mut pays, line, k, m, buckets);
     search_wide_buckets::from_poses(
         table,
         store,
@@ -47,7 +47,7 @@ fn from_source(
         k,
         m,
         poses,
-        planes,
+        buckets,
         lanes,
     )
 }
@@ -57,7 +57,7 @@ fn gather(
     table: &mut [u32; 10944],
     store: &[u32],
     line: &[u32],
-    pairs: &[u32],
+    states: &[u32],
     n: usize,
     poses: usize,
     r: usize,
@@ -66,10 +66,10 @@ fn gather(
     i: usize,
     from: usize,
     q: usize,
-    planes: usize,
+    buckets: usize,
 ) -> bool
-    requires { ⌜ Given (now line) (now pairs) (now store) n poses r count lanes i from × Target n r i q × Lent (now table) × FiveOrNine planes ⌝ }
-    ensures { λ used. ⌜ Gathered (pairsIn (now (store .entry)) (now (line .entry)) (deckOf (now (line .entry)) n poses) r from i q count) (rowsOf poses) planes lanes (now (table .entry)) (now (table .exit)) × (used ≡ false → now (table .exit) ≡ now (table .entry)) ⌝ }
+    requires { ⌜ Given (now line) (now states) (now store) n poses r count lanes i from × Target n r i q × Lent (now table) × FiveOrNine buckets ⌝ }
+    ensures { λ used. ⌜ Gathered (statesIn (now (store .entry)) (now (line .entry)) (deckOf (now (line .entry)) n poses) r from i q count) (rowsOf poses) buckets lanes (now (table .entry)) (now (table .exit)) × (used ≡ false → now (table .exit) ≡ now (table .entry)) ⌝ }
 {
     let mut used = false;
     let mut p: usize = 0;
@@ -78,7 +78,7 @@ fn gather(
             table,
             store,
             line,
-            pairs,
+            states,
             n,
             poses,
             r,
@@ -88,7 +88,7 @@ fn gather(
             from,
             q,
             p,
-            planes,
+            buckets,
         ) {
             used = true;
         }
@@ -97,22 +97,22 @@ fn gather(
     used
 }
 
-// Whether pair q has a source.
+// Whether state q has a source.
 fn has_source(
     line: &[u32],
-    pairs: &[u32],
+    states: &[u32],
     n: usize,
     r: usize,
     count: usize,
     i: usize,
     q: usize,
 ) -> bool
-    requires { ⌜ LineWords (now line) × (n ≤ 64) × PairWords r (now pairs) × (q < pairCount r) × (count ≤ pairCount r) × (i ≤ 100) ⌝ }
+    requires { ⌜ LineWords (now line) × (n ≤ 64) × StateWords r (now states) × (q < stateCount r) × (count ≤ stateCount r) × (i ≤ 100) ⌝ }
     ensures { λ some. ⌜ (some ≡ false → (p : ℕ) → p < count → isSource (deckOf (now (line .entry)) n 0) r i q p ≡ false) ⌝ }
 {
     let mut s: usize = 0;
     while s < count {
-        if search_row::is_source(line, pairs, n, r, i, q, s) {
+        if search_row::is_source(line, states, n, r, i, q, s) {
             return true;
         }
         s += 1;
@@ -120,12 +120,12 @@ fn has_source(
     false
 }
 
-// The rows of pair q, whose cell is there: all NONE if nothing leads to it. Sources are gathered in the table that is lent, whatever it has.
+// The rows of state q, whose cell is there: all NONE if nothing leads to it. Sources are gathered in the table that is lent, whatever it has.
 fn target_rows(
     table: &mut [u32; 10944],
     store: &mut [u32],
     line: &[u32],
-    pairs: &[u32],
+    states: &[u32],
     n: usize,
     poses: usize,
     r: usize,
@@ -136,21 +136,21 @@ fn target_rows(
     to: usize,
     q: usize,
 )
-    requires { ⌜ Lent (now table) × Given (now line) (now pairs) (now store) n poses r count lanes i from × Beside (now store) from to × Target n r i q ⌝ }
-    ensures { λ _. ⌜ FilledPair (nextFrom (deckOf (now (line .entry)) n poses) r (now (store .entry)) from i) lanes to q poses (now (store .entry)) (now (store .exit)) × Lent (now (table .exit)) ⌝ }
+    requires { ⌜ Lent (now table) × Given (now line) (now states) (now store) n poses r count lanes i from × Beside (now store) from to × Target n r i q ⌝ }
+    ensures { λ _. ⌜ FilledState (nextFrom (deckOf (now (line .entry)) n poses) r (now (store .entry)) from i) lanes to q poses (now (store .entry)) (now (store .exit)) × Lent (now (table .exit)) ⌝ }
 {
-    if !has_source(line, pairs, n, r, count, i, q) {
+    if !has_source(line, states, n, r, count, i, q) {
         search_lanes::fill_rows(store, to + q * 4096, poses, lanes, search_lanes::NONE);
         return;
     }
-    let m = search_row::last_at(pairs, r, i + 1, q);
-    let planes = search_buckets::planes_of(line, m);
-    search_wide_buckets::reset(table, planes, poses, lanes);
+    let m = search_row::last_at(states, r, i + 1, q);
+    let buckets = search_buckets::buckets_of(line, m);
+    search_wide_buckets::reset(table, buckets, poses, lanes);
     if !gather(
         table,
         store,
         line,
-        pairs,
+        states,
         n,
         poses,
         r,
@@ -159,21 +159,21 @@ fn target_rows(
         i,
         from,
         q,
-        planes,
+        buckets,
     ) {
         search_lanes::fill_rows(store, to + q * 4096, poses, lanes, search_lanes::NONE);
         return;
     }
     search_wide_buckets::run_up(table, poses, lanes);
-    search_wide_buckets::put_rows(store, line, table, to, q, m, poses, planes, lanes);
+    search_wide_buckets::put_rows(store, line, table, to, q, m, poses, buckets, lanes);
 }
 
-// The block of pair q: all NONE if the row has no such cell.
+// The block of state q: all NONE if the row has no such cell.
 pub fn target_block(
     table: &mut [u32; 10944],
     store: &mut [u32],
     line: &[u32],
-    pairs: &[u32],
+    states: &[u32],
     n: usize,
     poses: usize,
     r: usize,
@@ -184,10 +184,10 @@ pub fn target_block(
     to: usize,
     q: usize,
 )
-    requires { ⌜ Lent (now table) × Given (now line) (now pairs) (now store) n poses r count lanes i from × Beside (now store) from to × (q < count) ⌝ }
-    ensures { λ _. ⌜ FilledPair (nextFrom (deckOf (now (line .entry)) n poses) r (now (store .entry)) from i) lanes to q poses (now (store .entry)) (now (store .exit)) × Lent (now (table .exit)) ⌝ }
+    requires { ⌜ Lent (now table) × Given (now line) (now states) (now store) n poses r count lanes i from × Beside (now store) from to × (q < count) ⌝ }
+    ensures { λ _. ⌜ FilledState (nextFrom (deckOf (now (line .entry)) n poses) r (now (store .entry)) from i) lanes to q poses (now (store .entry)) (now (store .exit)) × Lent (now (table .exit)) ⌝ }
 {
-    if !search_row::is_there(pairs, n, r, i + 1, q) {
+    if !search_row::is_there(states, n, r, i + 1, q) {
         search_lanes::fill_rows(store, to + q * 4096, poses, lanes, search_lanes::NONE);
         return;
     }
@@ -195,7 +195,7 @@ pub fn target_block(
         table,
         store,
         line,
-        pairs,
+        states,
         n,
         poses,
         r,
@@ -213,7 +213,7 @@ pub fn step_layer(
     table: &mut [u32; 10944],
     store: &mut [u32],
     line: &[u32],
-    pairs: &[u32],
+    states: &[u32],
     n: usize,
     poses: usize,
     r: usize,
@@ -223,7 +223,7 @@ pub fn step_layer(
     from: usize,
     to: usize,
 )
-    requires { ⌜ Lent (now table) × Given (now line) (now pairs) (now store) n poses r count lanes i from × Beside (now store) from to ⌝ }
+    requires { ⌜ Lent (now table) × Given (now line) (now states) (now store) n poses r count lanes i from × Beside (now store) from to ⌝ }
     ensures { λ _. ⌜ Filled (nextFrom (deckOf (now (line .entry)) n poses) r (now (store .entry)) from i) lanes poses to count (now (store .entry)) (now (store .exit)) × Lent (now (table .exit)) ⌝ }
 {
     let mut q: usize = 0;
@@ -232,7 +232,7 @@ pub fn step_layer(
             table,
             store,
             line,
-            pairs,
+            states,
             n,
             poses,
             r,

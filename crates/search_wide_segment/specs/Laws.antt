@@ -1,4 +1,4 @@
--- Laws of stretches: the layers run on, what is kept, and prices as far as the layers have come. Assumes nothing.
+-- Laws of segments: the layers run on, what is kept, and costs as far as the layers have come.
 use Prim.Native.Nat.{ℕ, zero, suc, _+_, _*_, _-_, _≤_, _<_}
 use mathlib.Core.Path.{_≡_, refl, sym, ap, subst, _∙_}
 use mathlib.Core.Logic.{inl, inr}
@@ -10,12 +10,12 @@ use native.Mathlib.Numerals.{add-one}
 use borrow.Author.Tests.{lt-ltb, le-ltb, le-leb, lt-leb, eq-eqb, ne-eqb}
 use lib.ListN.{length, getD}
 use lib.Dec.{leb}
-use Rattle.theory_tables.specs.Steps.{B, Deck, Layer, pairCount, offset, layers, priceTo}
+use Rattle.theory_tables.specs.Steps.{B, Deck, Layer, stateCount, offset, layers, costTo}
 use Rattle.search_lanes.specs.Store.{Frame, layerIn, Filled}
 use Rattle.search_row.specs.Words.{deckOf}
 use Rattle.search_wide_layer.specs.Loops.{nextFrom, Given, Beside}
 use Rattle.search_buckets.specs.Next.{next-ext, layers-ext}
-use Rattle.search_wide_segment.specs.Runs.{Buffer, Running, Small, Outside, PriceRoom, lateIn, delivered, lastIn, PricedBy, PricedRun, Priced}
+use Rattle.search_wide_segment.specs.Runs.{Buffer, Running, Small, Outside, CostRoom, lateIn, delivered, lastIn, CostedBy, CostedRun, SegmentCosted}
 
 -- ---- the two blocks by turns
 
@@ -31,22 +31,22 @@ pub buffer-beside : {st : List ℕ} {at : ℕ} → Buffer at → 98304 ≤ lengt
 buffer-beside (inl e) h = record { room = omega arith; apart = λ k x y z w. omega arith }
 buffer-beside (inr e) h = record { room = omega arith; apart = λ k x y z w. omega arith }
 
-pub buffer-prices : {st : List ℕ} {at prices : ℕ} → Buffer at → PriceRoom st prices → Beside st at prices
-buffer-prices b h = record { room = h .room; apart = λ k x y z w. omega (arith, buffer-low b, h .over) }
+pub buffer-costs : {st : List ℕ} {at costs : ℕ} → Buffer at → CostRoom st costs → Beside st at costs
+buffer-costs b h = record { room = h .room; apart = λ k x y z w. omega (arith, buffer-low b, h .over) }
 
 -- ---- the layers run on
 
 pub given-small :
-    {line pairs st : List ℕ} {n poses R count lanes i at : ℕ}
-    → Given line pairs st n poses R count lanes i at → Small (deckOf line n poses) R lanes
-given-small g = record { narrow = g .narrow; few = g .ground .few; pairs = g .ground .coded .few }
+    {line states st : List ℕ} {n poses R count lanes i at : ℕ}
+    → Given line states st n poses R count lanes i at → Small (deckOf line n poses) R lanes
+given-small g = record { narrow = g .narrow; few = g .ground .few; states = g .ground .coded .few }
 
 pub run-none :
     (D : Deck) (R lanes i : ℕ) {old st : List ℕ}
     → Small D R lanes → ((k : ℕ) → k < 49152 → getD st k 0 ≡ getD old k 0) → Running D R lanes i 0 0 old st
 unfolding layers
 run-none D R lanes i s e =
-    record { buffer = inl refl; right = λ q a l x y z. e (0 + q * 4096 + a * 64 + l) (omega (arith, s .narrow, s .few, s .pairs)) }
+    record { buffer = inl refl; right = λ q a l x y z. e (0 + q * 4096 + a * 64 + l) (omega (arith, s .narrow, s .few, s .states)) }
 
 -- the layer after the one at `at`
 next-run :
@@ -59,7 +59,7 @@ next-run {D} {R} {i = i} {d} {at} {old} {st} r q a l z =
 
 pub run-more :
     {D : Deck} {R lanes i d at count : ℕ} {old mid new : List ℕ}
-    → count ≡ pairCount R → Running D R lanes i d at old mid → Filled (nextFrom D R mid at (i + d)) lanes (D .poses) (49152 - at) count mid new
+    → count ≡ stateCount R → Running D R lanes i d at old mid → Filled (nextFrom D R mid at (i + d)) lanes (D .poses) (49152 - at) count mid new
     → Running D R lanes i (d + 1) (49152 - at) old new
 run-more {D} {R} {i = i} {d} {old = old} c r f =
     record {
@@ -76,172 +76,172 @@ run-kept {at = at} s r f h =
     record {
       buffer = r .buffer;
       right = λ q a l x y z.
-          f .low (at + q * 4096 + a * 64 + l) (omega (arith, s .narrow, s .few, s .pairs, buffer-low (r .buffer))) ∙ r .right q a l x y z;
+          f .low (at + q * 4096 + a * 64 + l) (omega (arith, s .narrow, s .few, s .states, buffer-low (r .buffer))) ∙ r .right q a l x y z;
     }
 
 -- ---- what is kept
 
-pub outside-refl : (prices wide : ℕ) (st : List ℕ) → Outside prices wide st st
-outside-refl prices wide st = record { long = refl; below = λ k x y. refl; above = λ k x. refl }
+pub outside-refl : (costs wide : ℕ) (st : List ℕ) → Outside costs wide st st
+outside-refl costs wide st = record { long = refl; below = λ k x y. refl; above = λ k x. refl }
 
-pub outside-join : {prices wide : ℕ} {x y z : List ℕ} → Outside prices wide x y → Outside prices wide y z → Outside prices wide x z
+pub outside-join : {costs wide : ℕ} {x y z : List ℕ} → Outside costs wide x y → Outside costs wide y z → Outside costs wide x z
 outside-join f g =
     record { long = g .long ∙ f .long; below = λ k x y. g .below k x y ∙ f .below k x y; above = λ k x. g .above k x ∙ f .above k x }
 
-pub outside-layers : {prices wide a b : ℕ} {old new : List ℕ} → 98304 ≤ prices → Frame a b old new → b ≤ 98304 → Outside prices wide old new
+pub outside-layers : {costs wide a b : ℕ} {old new : List ℕ} → 98304 ≤ costs → Frame a b old new → b ≤ 98304 → Outside costs wide old new
 outside-layers p f h = record { long = f .long; below = λ k x y. f .high k (omega arith); above = λ k x. f .high k (omega arith) }
 
-pub outside-prices : {prices wide a b : ℕ} {old new : List ℕ} → Frame a b old new → prices ≤ a → b ≤ prices + wide → Outside prices wide old new
-outside-prices f p q = record { long = f .long; below = λ k x y. f .low k (omega arith); above = λ k x. f .high k (omega arith) }
+pub outside-costs : {costs wide a b : ℕ} {old new : List ℕ} → Frame a b old new → costs ≤ a → b ≤ costs + wide → Outside costs wide old new
+outside-costs f p q = record { long = f .long; below = λ k x y. f .low k (omega arith); above = λ k x. f .high k (omega arith) }
 
--- ---- the price of a pair by the layer that it comes with
+-- ---- the cost of a state by the layer that it comes with
 
 module _ (D : Deck) (R : ℕ) (f : Layer) (i p : ℕ) where
-  priceTo-past : (q a : ℕ) → p + suc R < i + offset R q → priceTo D R f i p q a ≡ B
-  unfolding priceTo
-  priceTo-past q a h = rw (lt-leb (i + offset R q) (p + suc R) h)
+  costTo-past : (q a : ℕ) → p + suc R < i + offset R q → costTo D R f i p q a ≡ B
+  unfolding costTo
+  costTo-past q a h = rw (lt-leb (i + offset R q) (p + suc R) h)
 
-  priceTo-at : (q a d : ℕ) → i + d + offset R q ≡ p + suc R → priceTo D R f i p q a ≡ layers D R f i d q a
-  unfolding priceTo
-  priceTo-at q a d e =
+  costTo-at : (q a d : ℕ) → i + d + offset R q ≡ p + suc R → costTo D R f i p q a ≡ layers D R f i d q a
+  unfolding costTo
+  costTo-at q a d e =
       let z : p + suc R - offset R q - i ≡ d = omega arith in
       rw (le-leb (i + offset R q) (p + suc R) (omega arith)) (ap (λ (k : ℕ). layers D R f i k q a) z)
 
--- ---- pairs that come with no layer
+-- ---- states that come with no layer
 
-module _ (R i p : ℕ) (st : List ℕ) (prices l q a : ℕ) where
-  pub late-skip : i + offset R q ≤ p + suc R → lateIn R i p st prices l q a ≡ layerIn st prices l q a
-  late-skip h = ap (λ (t : Bool). cond t B (layerIn st prices l q a)) (le-ltb (p + suc R) (i + offset R q) h)
+module _ (R i p : ℕ) (st : List ℕ) (costs l q a : ℕ) where
+  pub late-skip : i + offset R q ≤ p + suc R → lateIn R i p st costs l q a ≡ layerIn st costs l q a
+  late-skip h = ap (λ (t : Bool). cond t B (layerIn st costs l q a)) (le-ltb (p + suc R) (i + offset R q) h)
 
-  pub late-take : p + suc R < i + offset R q → lateIn R i p st prices l q a ≡ B
-  late-take h = ap (λ (t : Bool). cond t B (layerIn st prices l q a)) (lt-ltb (p + suc R) (i + offset R q) h)
+  pub late-take : p + suc R < i + offset R q → lateIn R i p st costs l q a ≡ B
+  late-take h = ap (λ (t : Bool). cond t B (layerIn st costs l q a)) (lt-ltb (p + suc R) (i + offset R q) h)
 
 -- ---- delivering
 
-module _ (R i p : ℕ) (st : List ℕ) (at prices l q a : ℕ) where
-  pub delivered-skip : (i + offset R q ≡ p + suc R → ⊥) → delivered R i p st at prices l q a ≡ layerIn st prices l q a
-  delivered-skip n = ap (λ (t : Bool). cond t (layerIn st at l q a) (layerIn st prices l q a)) (ne-eqb _ _ n)
+module _ (R i p : ℕ) (st : List ℕ) (at costs l q a : ℕ) where
+  pub delivered-skip : (i + offset R q ≡ p + suc R → ⊥) → delivered R i p st at costs l q a ≡ layerIn st costs l q a
+  delivered-skip n = ap (λ (t : Bool). cond t (layerIn st at l q a) (layerIn st costs l q a)) (ne-eqb _ _ n)
 
-  pub delivered-take : i + offset R q ≡ p + suc R → delivered R i p st at prices l q a ≡ layerIn st at l q a
-  delivered-take e = ap (λ (t : Bool). cond t (layerIn st at l q a) (layerIn st prices l q a)) (eq-eqb _ _ e)
+  pub delivered-take : i + offset R q ≡ p + suc R → delivered R i p st at costs l q a ≡ layerIn st at l q a
+  delivered-take e = ap (λ (t : Bool). cond t (layerIn st at l q a) (layerIn st costs l q a)) (eq-eqb _ _ e)
 
 -- one layer more is delivered
-pub priced-more :
-    {D : Deck} {R lanes i p d at prices count : ℕ} {old mid new : List ℕ}
-    → count ≡ pairCount R → Running D R lanes i d at old mid → PricedBy D R lanes i p d prices old mid
-    → Filled (delivered R (i + d) p mid at prices) lanes (D .poses) prices count mid new
-    → PricedBy D R lanes i p (d + 1) prices old new
-priced-more {D} {R} {lanes} {i} {p} {d} {at = at} {prices = prices} {old = old} {mid = mid} {new = new} c r b f =
+pub costed-more :
+    {D : Deck} {R lanes i p d at costs count : ℕ} {old mid new : List ℕ}
+    → count ≡ stateCount R → Running D R lanes i d at old mid → CostedBy D R lanes i p d costs old mid
+    → Filled (delivered R (i + d) p mid at costs) lanes (D .poses) costs count mid new
+    → CostedBy D R lanes i p (d + 1) costs old new
+costed-more {D} {R} {lanes} {i} {p} {d} {at = at} {costs = costs} {old = old} {mid = mid} {new = new} c r b f =
     record { right = λ q a l x y z h. f .right q (omega arith) a l y z ∙ go q a l x y z h (ℕ-discrete (i + d + offset R q) (p + suc R)) }
   where
-    go : (q a l : ℕ) → q < pairCount R → a < D .poses → l < lanes → p + suc R < i + (d + 1) + offset R q → Dec (i + d + offset R q ≡ p + suc R)
-        → delivered R (i + d) p mid at prices l q a ≡ priceTo D R (layerIn old 0 l) i p q a
+    go : (q a l : ℕ) → q < stateCount R → a < D .poses → l < lanes → p + suc R < i + (d + 1) + offset R q → Dec (i + d + offset R q ≡ p + suc R)
+        → delivered R (i + d) p mid at costs l q a ≡ costTo D R (layerIn old 0 l) i p q a
     go q a l x y z h (yes e) =
-        delivered-take R (i + d) p mid at prices l q a e ∙ r .right q a l x y z ∙ sym (priceTo-at D R (layerIn old 0 l) i p q a d e)
-    go q a l x y z h (no n) = delivered-skip R (i + d) p mid at prices l q a n ∙ b .right q a l x y z (omega arith)
+        delivered-take R (i + d) p mid at costs l q a e ∙ r .right q a l x y z ∙ sym (costTo-at D R (layerIn old 0 l) i p q a d e)
+    go q a l x y z h (no n) = delivered-skip R (i + d) p mid at costs l q a n ∙ b .right q a l x y z (omega arith)
 
--- one step more of the stretch: a layer, and what it delivers
-pub priced-step :
-    {D : Deck} {R lanes i p d at prices count : ℕ} {old mid step new : List ℕ}
-    → Small D R lanes → count ≡ pairCount R → 98304 ≤ prices → PricedRun D R lanes i p d at prices old mid
+-- one step more of the segment: a layer, and what it delivers
+pub costed-step :
+    {D : Deck} {R lanes i p d at costs count : ℕ} {old mid step new : List ℕ}
+    → Small D R lanes → count ≡ stateCount R → 98304 ≤ costs → CostedRun D R lanes i p d at costs old mid
     → Filled (nextFrom D R mid at (i + d)) lanes (D .poses) (49152 - at) count mid step
-    → Filled (delivered R (i + (d + 1)) p step (49152 - at) prices) lanes (D .poses) prices count step new
-    → PricedRun D R lanes i p (d + 1) (49152 - at) prices old new
-priced-step {D} {R} {lanes} {i} {p} {d} {at} {prices} s c h r f g =
+    → Filled (delivered R (i + (d + 1)) p step (49152 - at) costs) lanes (D .poses) costs count step new
+    → CostedRun D R lanes i p (d + 1) (49152 - at) costs old new
+costed-step {D} {R} {lanes} {i} {p} {d} {at} {costs} s c h r f g =
     let run = run-more c (r .running) f in
     let b = buffer-low (r .running .buffer) in
     record {
       running = run-kept s run (g .frame) h;
-      priced = priced-more c run
-          (record { right = λ q a l x y z k. f .frame .high (prices + q * 4096 + a * 64 + l) (omega arith) ∙ r .priced .right q a l x y z k })
+      costed = costed-more c run
+          (record { right = λ q a l x y z k. f .frame .high (costs + q * 4096 + a * 64 + l) (omega arith) ∙ r .costed .right q a l x y z k })
           g;
-      outside = outside-join (r .outside) (outside-join (outside-layers h (f .frame) (omega arith)) (outside-prices (g .frame) (omega arith) (omega arith)));
+      outside = outside-join (r .outside) (outside-join (outside-layers h (f .frame) (omega arith)) (outside-costs (g .frame) (omega arith) (omega arith)));
       low = g .low;
     }
 
--- the stretch begins: the prices of the pairs that come with no layer are B, and the first layer is delivered
-pub priced-start :
-    (D : Deck) (R lanes i p prices count : ℕ) {old mid new : List ℕ}
-    → Small D R lanes → count ≡ pairCount R → 98304 ≤ prices
-    → Filled (lateIn R i p old prices) lanes (D .poses) prices count old mid
-    → Filled (delivered R i p mid 0 prices) lanes (D .poses) prices count mid new
-    → PricedRun D R lanes i p 0 0 prices new new
-priced-start D R lanes i p prices count {old} {mid} {new} s c h late g =
+-- the segment begins: the costs of the states that come with no layer are B, and the first layer is delivered
+pub costed-start :
+    (D : Deck) (R lanes i p costs count : ℕ) {old mid new : List ℕ}
+    → Small D R lanes → count ≡ stateCount R → 98304 ≤ costs
+    → Filled (lateIn R i p old costs) lanes (D .poses) costs count old mid
+    → Filled (delivered R i p mid 0 costs) lanes (D .poses) costs count mid new
+    → CostedRun D R lanes i p 0 0 costs new new
+costed-start D R lanes i p costs count {old} {mid} {new} s c h late g =
     let first = run-none D R lanes i {old = new} {st = mid} s (λ k v. sym (g .frame .low k (omega arith))) in
     let e : i ≡ i + 0 = omega arith in
     record {
       running = run-none D R lanes i s (λ k v. refl);
-      priced = priced-more c first
+      costed = costed-more c first
           (record {
             right = λ q a l x y z k.
                 late .right q (omega arith) a l y z
-                ∙ late-take R i p old prices l q a (omega arith)
-                ∙ sym (priceTo-past D R (layerIn new 0 l) i p q a (omega arith));
+                ∙ late-take R i p old costs l q a (omega arith)
+                ∙ sym (costTo-past D R (layerIn new 0 l) i p q a (omega arith));
           })
-          (subst (λ (j : ℕ). Filled (delivered R j p mid 0 prices) lanes (D .poses) prices count mid new) e g);
-      outside = outside-refl prices 49152 new;
+          (subst (λ (j : ℕ). Filled (delivered R j p mid 0 costs) lanes (D .poses) costs count mid new) e g);
+      outside = outside-refl costs 49152 new;
       low = g .low;
     }
 
 -- ---- only the entries of the first layer count
 
-module _ (D : Deck) (R : ℕ) (f g : Layer) (same : (q b : ℕ) → q < pairCount R → b < D .poses → f q b ≡ g q b) where
-  pub priceTo-ext : (i p q a : ℕ) → q < pairCount R → a < D .poses → priceTo D R f i p q a ≡ priceTo D R g i p q a
-  unfolding priceTo
-  priceTo-ext i p q a x y = ap (λ (z : ℕ). cond (leb (i + offset R q) (p + suc R)) z B) (layers-ext D R f g same i (p + suc R - offset R q - i) q a x y)
+module _ (D : Deck) (R : ℕ) (f g : Layer) (same : (q b : ℕ) → q < stateCount R → b < D .poses → f q b ≡ g q b) where
+  pub costTo-ext : (i p q a : ℕ) → q < stateCount R → a < D .poses → costTo D R f i p q a ≡ costTo D R g i p q a
+  unfolding costTo
+  costTo-ext i p q a x y = ap (λ (z : ℕ). cond (leb (i + offset R q) (p + suc R)) z B) (layers-ext D R f g same i (p + suc R - offset R q - i) q a x y)
 
--- what came before a stretch left its first layer as it was
-pub priced-from :
-    {D : Deck} {R lanes i p d at prices : ℕ} {old mid new : List ℕ}
-    → Small D R lanes → ((k : ℕ) → k < 49152 → getD mid k 0 ≡ getD old k 0) → Outside prices 49152 old mid
-    → PricedRun D R lanes i p d at prices mid new → PricedRun D R lanes i p d at prices old new
-priced-from {D} {R} {lanes} {i} {p} {d} {old = old} {mid = mid} s e o r =
+-- what came before a segment left its first layer as it was
+pub costed-from :
+    {D : Deck} {R lanes i p d at costs : ℕ} {old mid new : List ℕ}
+    → Small D R lanes → ((k : ℕ) → k < 49152 → getD mid k 0 ≡ getD old k 0) → Outside costs 49152 old mid
+    → CostedRun D R lanes i p d at costs mid new → CostedRun D R lanes i p d at costs old new
+costed-from {D} {R} {lanes} {i} {p} {d} {old = old} {mid = mid} s e o r =
     record {
       running = record {
         buffer = r .running .buffer;
         right = λ q a l x y z. r .running .right q a l x y z ∙ layers-ext D R (layerIn mid 0 l) (layerIn old 0 l) (same l z) i d q a x y;
       };
-      priced = record { right = λ q a l x y z h. r .priced .right q a l x y z h ∙ priceTo-ext D R (layerIn mid 0 l) (layerIn old 0 l) (same l z) i p q a x y };
+      costed = record { right = λ q a l x y z h. r .costed .right q a l x y z h ∙ costTo-ext D R (layerIn mid 0 l) (layerIn old 0 l) (same l z) i p q a x y };
       outside = outside-join o (r .outside);
       low = r .low;
     }
   where
-    same : (l : ℕ) → l < lanes → (q b : ℕ) → q < pairCount R → b < D .poses → layerIn mid 0 l q b ≡ layerIn old 0 l q b
-    same l z q b x y = e (0 + q * 4096 + b * 64 + l) (omega (arith, s .narrow, s .few, s .pairs))
+    same : (l : ℕ) → l < lanes → (q b : ℕ) → q < stateCount R → b < D .poses → layerIn mid 0 l q b ≡ layerIn old 0 l q b
+    same l z q b x y = e (0 + q * 4096 + b * 64 + l) (omega (arith, s .narrow, s .few, s .states))
 
 -- ---- the last layer
 
-module _ (D : Deck) (R i p : ℕ) (st : List ℕ) (at prices l q a : ℕ) where
-  pub last-skip : (suc i + offset R q ≡ p + suc R → ⊥) → lastIn D R i p st at prices l q a ≡ layerIn st prices l q a
-  last-skip n = ap (λ (t : Bool). cond t (nextFrom D R st at i l q a) (layerIn st prices l q a)) (ne-eqb _ _ n)
+module _ (D : Deck) (R i p : ℕ) (st : List ℕ) (at costs l q a : ℕ) where
+  pub last-skip : (suc i + offset R q ≡ p + suc R → ⊥) → lastIn D R i p st at costs l q a ≡ layerIn st costs l q a
+  last-skip n = ap (λ (t : Bool). cond t (nextFrom D R st at i l q a) (layerIn st costs l q a)) (ne-eqb _ _ n)
 
-  pub last-take : suc i + offset R q ≡ p + suc R → lastIn D R i p st at prices l q a ≡ nextFrom D R st at i l q a
-  last-take e = ap (λ (t : Bool). cond t (nextFrom D R st at i l q a) (layerIn st prices l q a)) (eq-eqb _ _ e)
+  pub last-take : suc i + offset R q ≡ p + suc R → lastIn D R i p st at costs l q a ≡ nextFrom D R st at i l q a
+  last-take e = ap (λ (t : Bool). cond t (nextFrom D R st at i l q a) (layerIn st costs l q a)) (eq-eqb _ _ e)
 
 -- the layers have come past the tall cell: nothing is left to deliver
-pub priced-past :
-    {D : Deck} {R lanes i p d at prices : ℕ} {old new : List ℕ}
-    → PricedRun D R lanes i p d at prices old new → p + R < i + d → Priced D R lanes i p prices old new
-priced-past r h = record { outside = r .outside; low = r .low; right = λ q a l x y z. r .priced .right q a l x y z (omega arith) }
+pub costed-past :
+    {D : Deck} {R lanes i p d at costs : ℕ} {old new : List ℕ}
+    → CostedRun D R lanes i p d at costs old new → p + R < i + d → SegmentCosted D R lanes i p costs old new
+costed-past r h = record { outside = r .outside; low = r .low; right = λ q a l x y z. r .costed .right q a l x y z (omega arith) }
 
 -- one layer is left, and is delivered from the layer before
-pub priced-last :
-    {D : Deck} {R lanes i p d at prices count : ℕ} {old mid new : List ℕ}
-    → count ≡ pairCount R → PricedRun D R lanes i p d at prices old mid → p + R ≡ i + d
-    → Filled (lastIn D R (p + R) p mid at prices) lanes (D .poses) prices count mid new
-    → Priced D R lanes i p prices old new
-priced-last {D} {R} {lanes} {i} {p} {d} {at} {prices} {old = old} {mid = mid} c r h f =
+pub costed-last :
+    {D : Deck} {R lanes i p d at costs count : ℕ} {old mid new : List ℕ}
+    → count ≡ stateCount R → CostedRun D R lanes i p d at costs old mid → p + R ≡ i + d
+    → Filled (lastIn D R (p + R) p mid at costs) lanes (D .poses) costs count mid new
+    → SegmentCosted D R lanes i p costs old new
+costed-last {D} {R} {lanes} {i} {p} {d} {at} {costs} {old = old} {mid = mid} c r h f =
     record {
-      outside = outside-join (r .outside) (outside-prices (f .frame) (omega arith) (omega arith));
+      outside = outside-join (r .outside) (outside-costs (f .frame) (omega arith) (omega arith));
       low = f .low;
       right = λ q a l x y z. f .right q (omega arith) a l y z ∙ go q a l x y z (ℕ-discrete (suc (p + R) + offset R q) (p + suc R));
     }
   where
-    go : (q a l : ℕ) → q < pairCount R → a < D .poses → l < lanes → Dec (suc (p + R) + offset R q ≡ p + suc R)
-        → lastIn D R (p + R) p mid at prices l q a ≡ priceTo D R (layerIn old 0 l) i p q a
+    go : (q a l : ℕ) → q < stateCount R → a < D .poses → l < lanes → Dec (suc (p + R) + offset R q ≡ p + suc R)
+        → lastIn D R (p + R) p mid at costs l q a ≡ costTo D R (layerIn old 0 l) i p q a
     go q a l x y z (yes e) =
-        last-take D R (p + R) p mid at prices l q a e
+        last-take D R (p + R) p mid at costs l q a e
         ∙ ap (λ (j : ℕ). nextFrom D R mid at j l q a) h
         ∙ next-run (r .running) q a l z
-        ∙ sym (priceTo-at D R (layerIn old 0 l) i p q a (suc d) (omega arith))
-    go q a l x y z (no n) = last-skip D R (p + R) p mid at prices l q a n ∙ r .priced .right q a l x y z (omega arith)
+        ∙ sym (costTo-at D R (layerIn old 0 l) i p q a (suc d) (omega arith))
+    go q a l x y z (no n) = last-skip D R (p + R) p mid at costs l q a n ∙ r .costed .right q a l x y z (omega arith)

@@ -1,4 +1,4 @@
--- A stretch in the store: the layers run on in two blocks by turns, and the prices to a tall cell are delivered as their layers come.
+-- A segment in the store: the layers run on in two blocks by turns, and the costs to a tall cell are delivered as their layers come.
 use Prim.Native.Nat.{ℕ, suc, _+_, _≤_, _<_}
 use mathlib.Core.Path.{_≡_}
 use mathlib.Core.Logic.{_⊎_}
@@ -6,7 +6,7 @@ use mathlib.Core.Bool.{cond}
 use mathlib.Core.List.{List}
 use lib.ListN.{length, getD}
 use lib.Dec.{ltb, eqb}
-use Rattle.theory_tables.specs.Steps.{B, Deck, Layer, pairCount, offset, layers, priceTo}
+use Rattle.theory_tables.specs.Steps.{B, Deck, Layer, stateCount, offset, layers, costTo}
 use Rattle.search_lanes.specs.Store.{Low, layerIn}
 use Rattle.search_wide_layer.specs.Loops.{nextFrom}
 
@@ -17,53 +17,53 @@ Buffer at = (at ≡ 0) ⊎ (at ≡ 49152)
 -- d layers on from the layer in block 0, which has i cells, are in the block at `at`, in each lane
 pub record Running (D : Deck) (R lanes i d at : ℕ) (old new : List ℕ) : Type 0 where
   pub buffer : Buffer at
-  pub right : (q a l : ℕ) → q < pairCount R → a < D .poses → l < lanes → layerIn new at l q a ≡ layers D R (layerIn old 0 l) i d q a
+  pub right : (q a l : ℕ) → q < stateCount R → a < D .poses → l < lanes → layerIn new at l q a ≡ layers D R (layerIn old 0 l) i d q a
 
--- only the layers' blocks and so many words of prices changed
-pub record Outside (prices wide : ℕ) (old new : List ℕ) : Type 0 where
+-- only the layers' blocks and so many words of costs changed
+pub record Outside (costs wide : ℕ) (old new : List ℕ) : Type 0 where
   pub long : length new ≡ length old
-  pub below : (k : ℕ) → 98304 ≤ k → k < prices → getD new k 0 ≡ getD old k 0
-  pub above : (k : ℕ) → prices + wide ≤ k → getD new k 0 ≡ getD old k 0
+  pub below : (k : ℕ) → 98304 ≤ k → k < costs → getD new k 0 ≡ getD old k 0
+  pub above : (k : ℕ) → costs + wide ≤ k → getD new k 0 ≡ getD old k 0
 
--- few poses, pairs and lanes
+-- few poses, states and lanes
 pub record Small (D : Deck) (R lanes : ℕ) : Type 0 where
   pub narrow : lanes ≤ 64
   pub few : D .poses ≤ 60
-  pub pairs : pairCount R ≤ 12
+  pub states : stateCount R ≤ 12
 
--- room for prices, above the layers
-pub record PriceRoom (st : List ℕ) (prices : ℕ) : Type 0 where
-  pub over : 98304 ≤ prices
-  pub room : prices + 49152 ≤ length st
+-- room for costs, above the layers
+pub record CostRoom (st : List ℕ) (costs : ℕ) : Type 0 where
+  pub over : 98304 ≤ costs
+  pub room : costs + 49152 ≤ length st
 
--- ---- prices to the tall cell at position p
+-- ---- costs to the tall cell at position p
 
--- B for a pair that comes with no layer from the one with i cells on; for another one what was there
+-- B for a state that comes with no layer from the one with i cells on; for another one what was there
 abbrev pub lateIn : ℕ → ℕ → ℕ → List ℕ → ℕ → ℕ → Layer
-lateIn R i p st prices l q a = cond (ltb (p + suc R) (i + offset R q)) B (layerIn st prices l q a)
+lateIn R i p st costs l q a = cond (ltb (p + suc R) (i + offset R q)) B (layerIn st costs l q a)
 
--- where the layer at `at`, with i cells, is the one that pair q comes with, its entries; else what was there
+-- where the layer at `at`, with i cells, is the one that state q comes with, its entries; else what was there
 abbrev pub delivered : ℕ → ℕ → ℕ → List ℕ → ℕ → ℕ → ℕ → Layer
-delivered R i p st at prices l q a = cond (eqb (i + offset R q) (p + suc R)) (layerIn st at l q a) (layerIn st prices l q a)
+delivered R i p st at costs l q a = cond (eqb (i + offset R q) (p + suc R)) (layerIn st at l q a) (layerIn st costs l q a)
 
--- where pair q comes with the layer after the one at `at`, which has i cells, the entries of that layer; else what was there
+-- where state q comes with the layer after the one at `at`, which has i cells, the entries of that layer; else what was there
 abbrev pub lastIn : Deck → ℕ → ℕ → ℕ → List ℕ → ℕ → ℕ → ℕ → Layer
-lastIn D R i p st at prices l q a = cond (eqb (suc i + offset R q) (p + suc R)) (nextFrom D R st at i l q a) (layerIn st prices l q a)
+lastIn D R i p st at costs l q a = cond (eqb (suc i + offset R q) (p + suc R)) (nextFrom D R st at i l q a) (layerIn st costs l q a)
 
--- the prices of the pairs that come with the first d layers, or with none
-pub record PricedBy (D : Deck) (R lanes i p d prices : ℕ) (old new : List ℕ) : Type 0 where
-  pub right : (q a l : ℕ) → q < pairCount R → a < D .poses → l < lanes → p + suc R < i + d + offset R q
-      → layerIn new prices l q a ≡ priceTo D R (layerIn old 0 l) i p q a
+-- the costs of the states that come with the first d layers, or with none
+pub record CostedBy (D : Deck) (R lanes i p d costs : ℕ) (old new : List ℕ) : Type 0 where
+  pub right : (q a l : ℕ) → q < stateCount R → a < D .poses → l < lanes → p + suc R < i + d + offset R q
+      → layerIn new costs l q a ≡ costTo D R (layerIn old 0 l) i p q a
 
--- a stretch on its way: d layers on, and the prices delivered that come with them
-pub record PricedRun (D : Deck) (R lanes i p d at prices : ℕ) (old new : List ℕ) : Type 0 where
+-- a segment on its way: d layers on, and the costs delivered that come with them
+pub record CostedRun (D : Deck) (R lanes i p d at costs : ℕ) (old new : List ℕ) : Type 0 where
   pub running : Running D R lanes i d at old new
-  pub priced : PricedBy D R lanes i p (d + 1) prices old new
-  pub outside : Outside prices 49152 old new
+  pub costed : CostedBy D R lanes i p (d + 1) costs old new
+  pub outside : Outside costs 49152 old new
   pub low : Low new
 
--- what a stretch to the tall cell leaves
-pub record Priced (D : Deck) (R lanes i p prices : ℕ) (old new : List ℕ) : Type 0 where
-  pub outside : Outside prices 49152 old new
+-- what a segment to the tall cell leaves
+pub record SegmentCosted (D : Deck) (R lanes i p costs : ℕ) (old new : List ℕ) : Type 0 where
+  pub outside : Outside costs 49152 old new
   pub low : Low new
-  pub right : (q a l : ℕ) → q < pairCount R → a < D .poses → l < lanes → layerIn new prices l q a ≡ priceTo D R (layerIn old 0 l) i p q a
+  pub right : (q a l : ℕ) → q < stateCount R → a < D .poses → l < lanes → layerIn new costs l q a ≡ costTo D R (layerIn old 0 l) i p q a

@@ -1,84 +1,84 @@
-// A stretch: from its first layer, in block 0, to a tall cell; all lanes at once. The layers run on in the blocks at 0 and 49152 by turns; of the last one only
-// the pairs that come to the tall cell with it are computed, straight to the prices.
+// A segment: from its first layer, in block 0, to a tall cell; all lanes at once. The layers run on in the blocks at 0 and 49152 by turns; of the last one only
+// the states that come to the tall cell with it are computed, straight to the costs.
 ghost use mathlib.Core.Path.{_≡_};
 ghost use Prim.Native.Nat.{ℕ, suc, _+_, _*_, _-_, _≤_, _<_};
 ghost use lib.ListN.{length};
-ghost use Rattle.theory_tables.specs.Steps.{pairCount};
-ghost use Rattle.search_lanes.specs.Store.{Low, FilledPair, Filled};
-ghost use Rattle.search_row.specs.Words.{deckOf, PairWords};
+ghost use Rattle.theory_tables.specs.Steps.{stateCount};
+ghost use Rattle.search_lanes.specs.Store.{Low, FilledState, Filled};
+ghost use Rattle.search_row.specs.Words.{deckOf, StateWords};
 ghost use Rattle.search_wide_buckets.specs.Table.{Lent};
 ghost use Rattle.search_wide_layer.specs.Loops.{Given, Beside};
-ghost use Rattle.search_wide_segment.specs.Runs.{PriceRoom, lateIn, delivered, lastIn, PricedRun, Priced};
+ghost use Rattle.search_wide_segment.specs.Runs.{CostRoom, lateIn, delivered, lastIn, CostedRun, SegmentCosted};
 
-// NONE for pair q, if it comes to the tall cell with no layer from the one with i cells on.
-fn late_pair(
+// NONE for state q, if it comes to the tall cell with no layer from the one with i cells on.
+fn late_state(
     store: &mut [u32],
-    pairs: &[u32],
+    states: &[u32],
     poses: usize,
     r: usize,
     lanes: usize,
     i: usize,
     tall: usize,
-    prices: usize,
+    costs: usize,
     q: usize,
 )
-    requires { ⌜ PairWords r (now pairs) × Low (now store) × PriceRoom (now store) prices × (q < pairCount r) × (poses ≤ 60) × (lanes ≤ 64) × (i ≤ 100) × (tall < 64) ⌝ }
-    ensures { λ _. ⌜ FilledPair (lateIn r i tall (now (store .entry)) prices) lanes prices q poses (now (store .entry)) (now (store .exit)) ⌝ }
+    requires { ⌜ StateWords r (now states) × Low (now store) × CostRoom (now store) costs × (q < stateCount r) × (poses ≤ 60) × (lanes ≤ 64) × (i ≤ 100) × (tall < 64) ⌝ }
+    ensures { λ _. ⌜ FilledState (lateIn r i tall (now (store .entry)) costs) lanes costs q poses (now (store .entry)) (now (store .exit)) ⌝ }
 {
-    if i + search_row::word(pairs, q * 4) <= tall + r + 1 {
+    if i + search_row::word(states, q * 4) <= tall + r + 1 {
         return;
     }
-    search_lanes::fill_rows(store, prices + q * 4096, poses, lanes, search_lanes::NONE);
+    search_lanes::fill_rows(store, costs + q * 4096, poses, lanes, search_lanes::NONE);
 }
 
-// NONE for every such pair: the prices of the others are delivered.
+// NONE for every such state: the costs of the others are delivered.
 fn fill_late(
     store: &mut [u32],
-    pairs: &[u32],
+    states: &[u32],
     poses: usize,
     r: usize,
     count: usize,
     lanes: usize,
     i: usize,
     tall: usize,
-    prices: usize,
+    costs: usize,
 )
-    requires { ⌜ PairWords r (now pairs) × Low (now store) × PriceRoom (now store) prices × (count ≡ pairCount r) × (poses ≤ 60) × (lanes ≤ 64) × (i ≤ 100) × (tall < 64) ⌝ }
-    ensures { λ _. ⌜ Filled (lateIn r i tall (now (store .entry)) prices) lanes poses prices count (now (store .entry)) (now (store .exit)) ⌝ }
+    requires { ⌜ StateWords r (now states) × Low (now store) × CostRoom (now store) costs × (count ≡ stateCount r) × (poses ≤ 60) × (lanes ≤ 64) × (i ≤ 100) × (tall < 64) ⌝ }
+    ensures { λ _. ⌜ Filled (lateIn r i tall (now (store .entry)) costs) lanes poses costs count (now (store .entry)) (now (store .exit)) ⌝ }
 {
     let mut q: usize = 0;
     while q < count {
-        late_pair(store, pairs, poses, r, lanes, i, tall, prices, q);
+        late_state(store, states, poses, r, lanes, i, tall, costs, q);
         q += 1;
     }
 }
 
-// The prices of pair q, if it comes to the tall cell with the layer at `from`, which has i cells.
-fn deliver_pair(
+// The costs of state q, if it comes to the tall cell with the layer at `from`, which has i cells.
+fn deliver_state(
     store: &mut [u32],
-    pairs: &[u32],
+    states: &[u32],
     poses: usize,
     r: usize,
     lanes: usize,
     i: usize,
     tall: usize,
     from: usize,
-    prices: usize,
+    costs: usize,
     q: usize,
 )
-    requires { ⌜ PairWords r (now pairs) × Low (now store) × PriceRoom (now store) prices × (q < pairCount r) × (poses ≤ 60) × (lanes ≤ 64) × (i ≤ 100) × (tall < 64) × (from ≤ 49152) ⌝ }
-    ensures { λ _. ⌜ FilledPair (delivered r i tall (now (store .entry)) from prices) lanes prices q poses (now (store .entry)) (now (store .exit)) ⌝ }
+    requires { ⌜ StateWords r (now states) × Low (now store) × CostRoom (now store) costs × (q < stateCount r) × (poses ≤ 60) × (lanes ≤ 64) × (i ≤ 100) × (tall < 64) × (from ≤ 49152) ⌝ }
+    ensures { λ _. ⌜ FilledState (delivered r i tall (now (store .entry)) from costs) lanes costs q poses (now (store .entry)) (now (store .exit)) ⌝ }
 {
-    if i + search_row::word(pairs, q * 4) != tall + r + 1 {
+    if i + search_row::word(states, q * 4) != tall + r + 1 {
         return;
     }
-    search_lanes::copy_rows(store, from + q * 4096, prices + q * 4096, poses, lanes);
+    search_lanes::copy_rows(store, from + q * 4096, costs + q * 4096, poses, lanes);
 }
 
-// The prices of every pair that comes with that layer.
+// The costs of every state that comes with that layer.
 fn deliver(
     store: &mut [u32],
-    pairs: &[u32],
+    states: &[u32],
     poses: usize,
     r: usize,
     count: usize,
@@ -86,24 +86,24 @@ fn deliver(
     i: usize,
     tall: usize,
     from: usize,
-    prices: usize,
+    costs: usize,
 )
-    requires { ⌜ PairWords r (now pairs) × Low (now store) × PriceRoom (now store) prices × (count ≡ pairCount r) × (poses ≤ 60) × (lanes ≤ 64) × (i ≤ 100) × (tall < 64) × (from ≤ 49152) ⌝ }
-    ensures { λ _. ⌜ Filled (delivered r i tall (now (store .entry)) from prices) lanes poses prices count (now (store .entry)) (now (store .exit)) ⌝ }
+    requires { ⌜ StateWords r (now states) × Low (now store) × CostRoom (now store) costs × (count ≡ stateCount r) × (poses ≤ 60) × (lanes ≤ 64) × (i ≤ 100) × (tall < 64) × (from ≤ 49152) ⌝ }
+    ensures { λ _. ⌜ Filled (delivered r i tall (now (store .entry)) from costs) lanes poses costs count (now (store .entry)) (now (store .exit)) ⌝ }
 {
     let mut q: usize = 0;
     while q < count {
-        deliver_pair(store, pairs, poses, r, lanes, i, tall, from, prices, q);
+        deliver_state(store, states, poses, r, lanes, i, tall, from, costs, q);
         q += 1;
     }
 }
 
-// The layers up to the one with tall + r cells and the prices that come with them; answers the block of the last.
+// The layers up to the one with tall + r cells and the costs that come with them; answers the block of the last.
 fn run_to(
     table: &mut [u32; 10944],
     store: &mut [u32],
     line: &[u32],
-    pairs: &[u32],
+    states: &[u32],
     n: usize,
     poses: usize,
     r: usize,
@@ -111,13 +111,13 @@ fn run_to(
     lanes: usize,
     i: usize,
     tall: usize,
-    prices: usize,
+    costs: usize,
 ) -> usize
-    requires { ⌜ Lent (now table) × Given (now line) (now pairs) (now store) n poses r count lanes i 0 × PriceRoom (now store) prices × (tall < 64) ⌝ }
-    ensures { λ at. ⌜ PricedRun (deckOf (now (line .entry)) n poses) r lanes i tall (tall + r - i) at prices (now (store .entry)) (now (store .exit)) × Lent (now (table .exit)) ⌝ }
+    requires { ⌜ Lent (now table) × Given (now line) (now states) (now store) n poses r count lanes i 0 × CostRoom (now store) costs × (tall < 64) ⌝ }
+    ensures { λ at. ⌜ CostedRun (deckOf (now (line .entry)) n poses) r lanes i tall (tall + r - i) at costs (now (store .entry)) (now (store .exit)) × Lent (now (table .exit)) ⌝ }
 {
-    fill_late(store, pairs, poses, r, count, lanes, i, tall, prices);
-    deliver(store, pairs, poses, r, count, lanes, i, tall, 0, prices);
+    fill_late(store, states, poses, r, count, lanes, i, tall, costs);
+    deliver(store, states, poses, r, count, lanes, i, tall, 0, costs);
     let mut from: usize = 0;
     let mut d: usize = 0;
     while i + d < tall + r {
@@ -125,7 +125,7 @@ fn run_to(
             table,
             store,
             line,
-            pairs,
+            states,
             n,
             poses,
             r,
@@ -139,7 +139,7 @@ fn run_to(
         d += 1;
         deliver(
             store,
-            pairs,
+            states,
             poses,
             r,
             count,
@@ -147,18 +147,18 @@ fn run_to(
             i + d,
             tall,
             from,
-            prices,
+            costs,
         );
     }
     from
 }
 
-// The prices of pair q straight from the layer before, if it comes to the tall cell with the layer that has i + 1 cells.
-fn last_pair(
+// The costs of state q straight from the layer before, if it comes to the tall cell with the layer that has i + 1 cells.
+fn last_state(
     table: &mut [u32; 10944],
     store: &mut [u32],
     line: &[u32],
-    pairs: &[u32],
+    states: &[u32],
     n: usize,
     poses: usize,
     r: usize,
@@ -167,20 +167,20 @@ fn last_pair(
     i: usize,
     tall: usize,
     from: usize,
-    prices: usize,
+    costs: usize,
     q: usize,
 )
-    requires { ⌜ Lent (now table) × Given (now line) (now pairs) (now store) n poses r count lanes i from × Beside (now store) from prices × (tall < 64) × (q < count) ⌝ }
-    ensures { λ _. ⌜ FilledPair (lastIn (deckOf (now (line .entry)) n poses) r i tall (now (store .entry)) from prices) lanes prices q poses (now (store .entry)) (now (store .exit)) × Lent (now (table .exit)) ⌝ }
+    requires { ⌜ Lent (now table) × Given (now line) (now states) (now store) n poses r count lanes i from × Beside (now store) from costs × (tall < 64) × (q < count) ⌝ }
+    ensures { λ _. ⌜ FilledState (lastIn (deckOf (now (line .entry)) n poses) r i tall (now (store .entry)) from costs) lanes costs q poses (now (store .entry)) (now (store .exit)) × Lent (now (table .exit)) ⌝ }
 {
-    if i + 1 + search_row::word(pairs, q * 4) != tall + r + 1 {
+    if i + 1 + search_row::word(states, q * 4) != tall + r + 1 {
         return;
     }
     search_wide_layer::target_block(
         table,
         store,
         line,
-        pairs,
+        states,
         n,
         poses,
         r,
@@ -188,17 +188,17 @@ fn last_pair(
         lanes,
         i,
         from,
-        prices,
+        costs,
         q,
     );
 }
 
-// The prices of every such pair: of the last layer nothing else is wanted.
+// The costs of every such state: of the last layer nothing else is wanted.
 fn last_layer(
     table: &mut [u32; 10944],
     store: &mut [u32],
     line: &[u32],
-    pairs: &[u32],
+    states: &[u32],
     n: usize,
     poses: usize,
     r: usize,
@@ -207,18 +207,18 @@ fn last_layer(
     i: usize,
     tall: usize,
     from: usize,
-    prices: usize,
+    costs: usize,
 )
-    requires { ⌜ Lent (now table) × Given (now line) (now pairs) (now store) n poses r count lanes i from × Beside (now store) from prices × (tall < 64) ⌝ }
-    ensures { λ _. ⌜ Filled (lastIn (deckOf (now (line .entry)) n poses) r i tall (now (store .entry)) from prices) lanes poses prices count (now (store .entry)) (now (store .exit)) × Lent (now (table .exit)) ⌝ }
+    requires { ⌜ Lent (now table) × Given (now line) (now states) (now store) n poses r count lanes i from × Beside (now store) from costs × (tall < 64) ⌝ }
+    ensures { λ _. ⌜ Filled (lastIn (deckOf (now (line .entry)) n poses) r i tall (now (store .entry)) from costs) lanes poses costs count (now (store .entry)) (now (store .exit)) × Lent (now (table .exit)) ⌝ }
 {
     let mut q: usize = 0;
     while q < count {
-        last_pair(
+        last_state(
             table,
             store,
             line,
-            pairs,
+            states,
             n,
             poses,
             r,
@@ -227,19 +227,19 @@ fn last_layer(
             i,
             tall,
             from,
-            prices,
+            costs,
             q,
         );
         q += 1;
     }
 }
 
-// The prices to the tall cell, to the block at `prices`. The table that is lent serves all layers.
-pub fn stretch_to(
+// The costs to the tall cell, to the block at `costs`. The table that is lent serves all layers.
+pub fn segment_to(
     table: &mut [u32; 10944],
     store: &mut [u32],
     line: &[u32],
-    pairs: &[u32],
+    states: &[u32],
     n: usize,
     poses: usize,
     r: usize,
@@ -247,16 +247,16 @@ pub fn stretch_to(
     lanes: usize,
     i: usize,
     tall: usize,
-    prices: usize,
+    costs: usize,
 )
-    requires { ⌜ Lent (now table) × Given (now line) (now pairs) (now store) n poses r count lanes i 0 × PriceRoom (now store) prices × (tall < 64) ⌝ }
-    ensures { λ _. ⌜ Priced (deckOf (now (line .entry)) n poses) r lanes i tall prices (now (store .entry)) (now (store .exit)) × Lent (now (table .exit)) ⌝ }
+    requires { ⌜ Lent (now table) × Given (now line) (now states) (now store) n poses r count lanes i 0 × CostRoom (now store) costs × (tall < 64) ⌝ }
+    ensures { λ _. ⌜ SegmentCosted (deckOf (now (line .entry)) n poses) r lanes i tall costs (now (store .entry)) (now (store .exit)) × Lent (now (table .exit)) ⌝ }
 {
     let from = run_to(
         table,
         store,
         line,
-        pairs,
+        states,
         n,
         poses,
         r,
@@ -264,7 +264,7 @@ pub fn stretch_to(
         lanes,
         i,
         tall,
-        prices,
+        costs,
     );
     if i > tall + r {
         return;
@@ -273,7 +273,7 @@ pub fn stretch_to(
         table,
         store,
         line,
-        pairs,
+        states,
         n,
         poses,
         r,
@@ -282,6 +282,6 @@ pub fn stretch_to(
         tall + r,
         tall,
         from,
-        prices,
+        costs,
     );
 }

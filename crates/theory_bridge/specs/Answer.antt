@@ -1,5 +1,5 @@
 -- What Place may answer, from the tables of the pair's theory: none where they come to the bound, and otherwise any legal placement that costs what
--- they come to. Assumes nothing.
+-- they come to.
 use mathlib.Core.Path.{_≡_, refl}
 use mathlib.Core.Option.{Option, none, some}
 use Prim.Native.Nat.{ℕ, _≤_}

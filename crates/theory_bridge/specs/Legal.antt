@@ -1,4 +1,4 @@
--- A placement is legal just if it is legal in the pair's theory. Assumes nothing.
+-- A placement is legal just if it is legal in the pair's theory.
 use mathlib.Core.Path.{_≡_, refl, sym, ap, _∙_, subst}
 use mathlib.Core.Logic.{_↔_}
 use mathlib.Core.Bool.{Bool, true, _&&_}

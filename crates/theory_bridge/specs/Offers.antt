@@ -1,4 +1,4 @@
--- What a cell is offered is what rules 1 to 3 allow it, and every pose that it is offered is at least one site wide. Assumes nothing.
+-- What a cell is offered is what rules 1 to 3 allow it, and every pose that it is offered is at least one site wide.
 use mathlib.Core.Path.{_≡_, sym, ap, subst}
 use mathlib.Core.Logic.{_↔_}
 use mathlib.Core.Bool.{Bool, true, false, not, _&&_, _||_}
@@ -13,7 +13,7 @@ use Rattle.definition.specs.Job.{Cell, Job}
 use Rattle.definition.specs.Placement.{Pose, Placement}
 use Rattle.definition.specs.Rules.{noCell, cellAt, poseAt, endAt, apart, offered, breaks1, breaks2, breaks3}
 use Rattle.definition.specs.Sound.{Sound}
-use Rattle.theory_row.specs.Lists.{from, in-from, from-in}
+use Rattle.lists.specs.Lists.{from, in-from, from-in}
 use Rattle.theory_pair.specs.Pick.{pick, pick-in, in-pick}
 use Rattle.theory_bridge.specs.Paired.{poseNumbers, poseNumber, isOffered, offersOf, widthOf, layoutOf}
 use Rattle.theory_bridge.specs.Poses.{pose-same}

@@ -1,5 +1,5 @@
 -- A list of moves reaches every legal placement: cell by cell, shifts from the given site, then a mirroring and a layout change where they are due.
--- What a list reaches has a pose for each cell. Assumes nothing.
+-- What a list reaches has a pose for each cell.
 use mathlib.Core.Path.{_≡_, refl, sym, ap, _∙_, subst}
 use mathlib.Core.Bool.{cond}
 use mathlib.Core.List.{List, [], _∷_, _++_, map}

@@ -1,4 +1,4 @@
--- A row of a job, in the definitions and in the pair's theory: the same cells in file order, and the same order from left to right. Assumes nothing.
+-- A row of a job, in the definitions and in the pair's theory: the same cells in file order, and the same order from left to right.
 use mathlib.Core.Path.{_≡_, refl, sym, ap, _∙_, subst}
 use mathlib.Core.Logic.{_↔_}
 use mathlib.Core.Bool.{Bool, true, false, cond, _||_}
@@ -14,7 +14,7 @@ use Rattle.definition.specs.Placement.{Pose, Placement}
 use Rattle.definition.specs.Rules.{cellAt, poseAt, siteAt, cellsOf, rowCells}
 use Rattle.definition.specs.Rules as rules
 use Rattle.definition.specs.Sound.{Sound}
-use Rattle.theory_row.specs.Lists.{from, in-from, from-in}
+use Rattle.lists.specs.Lists.{from, in-from, from-in}
 use Rattle.theory_row.specs.Order.{sort-in}
 use Rattle.theory_pair.specs.Pick.{pick-in, in-pick}
 use Rattle.theory_pair.specs.Cells.{Side, row₀, row₁, inRow, isTall, members, rowOrder}

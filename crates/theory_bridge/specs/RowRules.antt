@@ -1,4 +1,4 @@
--- Rules 4 to 6, tested cell by cell in the definitions, and stated of each row in the pair's theory: the same. f gives the poses of P. Assumes nothing.
+-- Rules 4 to 6, tested cell by cell in the definitions, and stated of each row in the pair's theory: the same. f gives the poses of P.
 use mathlib.Core.Path.{_≡_, refl, sym, ap, _∙_, subst}
 use mathlib.Core.Logic.{_≢_, _↔_, _⊎_, inl, inr}
 use mathlib.Core.Bool.{Bool, true, false, not, _&&_, _||_}
@@ -13,7 +13,7 @@ use Rattle.definition.specs.Job.{Job, shareRow, inRow}
 use Rattle.definition.specs.Placement.{Pose, Placement}
 use Rattle.definition.specs.Rules.{Holds, cellAt, siteAt, endAt, cellsOf, rowCells, apart, order, gap, overlap, breaks4, breaks5, breaks6, besideOneSite, outOfPlace, placeIn}
 use Rattle.definition.specs.Sound.{Sound}
-use Rattle.theory_row.specs.Lists.{Chain, Le?, high, le?}
+use Rattle.lists.specs.Lists.{Chain, Le?, high, le?}
 use Rattle.theory_row.specs.Order.{place}
 use Rattle.theory_row.specs.Rules.{Clear, NoGapOne}
 use Rattle.theory_pair.specs.Cells.{Side, members, site, width, rowOrder}

@@ -1,5 +1,5 @@
 -- A legal placement costs little: at most 64 cells, each at most 9000 by itself, and at most 2000 between neighbours in either row. So prices that
--- stop at 2^28 are exact. Assumes nothing.
+-- stop at 2^28 are exact.
 use mathlib.Core.Path.{refl}
 use mathlib.Core.Bool.{Bool, true, false, cond}
 use mathlib.Core.List.{List, [], _∷_, List·Memᴰ as In, List·Memᴰ·head as here, List·Memᴰ·tail as there}
@@ -13,7 +13,7 @@ use Rattle.definition.specs.Placement.{Pose, Placement}
 use Rattle.definition.specs.Rules.{Legal, cellAt, poseAt, apart}
 use Rattle.definition.specs.Cost.{charges, cost}
 use Rattle.definition.specs.Sound.{Sound}
-use Rattle.theory_row.specs.Lists.{from, length-from, in-from}
+use Rattle.lists.specs.Lists.{from, length-from, in-from}
 use Rattle.theory_row.specs.Order.{sort-size}
 use Rattle.theory_row.specs.Rules.{sum, sumNext, sumNeighbours}
 use Rattle.theory_pair.specs.Pick.{pick}

@@ -1,4 +1,4 @@
--- Tests of the definitions and what they say: of two tests together, of the marks, of the entries of a list, of both rows. Assumes nothing.
+-- Tests of the definitions and what they say: of two tests together, of the marks, of the entries of a list, of both rows.
 use mathlib.Core.Path.{_≡_, refl, sym, ap, _∙_}
 use mathlib.Core.Logic.{_↔_}
 use mathlib.Core.Bool.{Bool, true, false, not, _&&_, _||_, true≢false, false≢true}
@@ -8,7 +8,7 @@ use native.Mathlib.Omega.{arith}
 use lib.Dec.{eqb}
 use Rattle.definition.specs.Lists.{any}
 use Rattle.definition.specs.Job.{bothRows}
-use Rattle.theory_row.specs.Lists.{Eq?, same, differs, eq?}
+use Rattle.lists.specs.Lists.{Eq?, same, differs, eq?}
 use Rattle.theory_pair.specs.Cells.{Side, row₀, row₁}
 use Rattle.theory_bridge.specs.Paired.{rowOf}
 

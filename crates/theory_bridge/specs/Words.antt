@@ -1,4 +1,4 @@
--- The definitions' words on lists and those of the rows' theory say the same, where what they are given agrees on the list's entries. Assumes nothing.
+-- The definitions' words on lists and those of the rows' theory say the same, where what they are given agrees on the list's entries.
 use mathlib.Core.Path.{_≡_, refl, ap, ap₂, _∙_}
 use mathlib.Core.Bool.{Bool, cond}
 use mathlib.Core.List.{List, [], _∷_, List·Memᴰ as In, List·Memᴰ·head as here, List·Memᴰ·tail as there}
@@ -6,7 +6,7 @@ use Prim.Native.Nat.{ℕ, zero, suc, _+_}
 use lib.Dec.{leb, eqb}
 use Rattle.definition.specs.Lists as lists
 use Rattle.definition.specs.Rules as rules
-use Rattle.theory_row.specs.Lists.{from}
+use Rattle.lists.specs.Lists.{from}
 use Rattle.theory_row.specs.Order.{put, sort, sort-in, place}
 use Rattle.theory_row.specs.Rules.{sum, sumNext, sumNeighbours}
 use Rattle.theory_pair.specs.Pick.{pick}

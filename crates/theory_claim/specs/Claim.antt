@@ -1,5 +1,5 @@
 -- What a search of both rows comes to is what Place may answer. This is the theorem that Place cites: from the numbers of the tables and the notes of
--- the walk back to the claim over lists of moves. Assumes nothing.
+-- the traceback to the claim over lists of moves.
 use mathlib.Core.Path.{_≡_, refl, sym, ap, _∙_}
 use mathlib.Core.Option.{none, some}
 use Prim.Native.Nat.{ℕ, _/_, _%_, _≤_, _<_}
@@ -14,7 +14,7 @@ use Rattle.theory_tables.specs.Steps.{B, Deck}
 use Rattle.theory_tables.specs.Stages.{leastCost}
 use Rattle.theory_tables.specs.Matched.{Matched}
 use Rattle.theory_tables.specs.LeastCost.{cells-alike, least-cost}
-use Rattle.theory_traceback.specs.Placed.{Searched, WalkedBack, placed-legal}
+use Rattle.theory_traceback.specs.Placed.{Searched, TracedBack, placed-legal}
 use Rattle.theory_bridge.specs.Paired.{siteOf, pairJob, poseNumber, isOffered}
 use Rattle.theory_bridge.specs.Offers.{wide-positive}
 use Rattle.theory_bridge.specs.Answer.{placementBy, tables, place-answer}
@@ -57,8 +57,8 @@ module _ (j : Job) (sound : Sound j) (D₀ D₁ : Deck) (tallAt₀ tallAt₁ : �
   pub claim-none : searchedCost j D₀ D₁ tallAt₀ tallAt₁ ≡ B → Cheapest j none
   claim-none e = place-answer j sound .none-when (sym searched-tables ∙ e)
 
-  -- otherwise the placement that the walk back noted
-  pub claim-some : (w₀ w₁ : ℕ → ℕ) → WalkedBack (reorder j) siteOf (pairJob j) (poseNumber j) (isOffered j) D₀ D₁ tallAt₀ tallAt₁ w₀ w₁ → (outOf : ℕ → ℕ)
+  -- otherwise the placement that the traceback noted
+  pub claim-some : (w₀ w₁ : ℕ → ℕ) → TracedBack (reorder j) siteOf (pairJob j) (poseNumber j) (isOffered j) D₀ D₁ tallAt₀ tallAt₁ w₀ w₁ → (outOf : ℕ → ℕ)
       → ((i : ℕ) → 0 < i → i ≤ line (pairJob j) row₀ .size → outOf (cell (pairJob j) row₀ (w₀ i / 64)) ≡ w₀ i % 64)
       → ((i : ℕ) → 0 < i → i ≤ line (pairJob j) row₁ .size → outOf (cell (pairJob j) row₁ (w₁ i / 64)) ≡ w₁ i % 64)
       → Cheapest j (some (placementByNumbers j outOf)) × (cost j (placementByNumbers j outOf) ≡ searchedCost j D₀ D₁ tallAt₀ tallAt₁)

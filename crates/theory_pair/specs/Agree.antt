@@ -1,4 +1,4 @@
--- Two rows of poses, one for each row, that agree on the tall cells: cut into stages, and joined from them. Assumes nothing.
+-- Two rows of poses, one for each row, that agree on the tall cells: cut into stages, and joined from them.
 use mathlib.Core.Path.{_≡_, refl, sym, ap, ap₂, _∙_, subst}
 use mathlib.Core.Logic.{_≢_, _↔_, _⊎_, inl, inr}
 use mathlib.Core.List.{List, [], _∷_, _++_, List·Memᴰ as In, List·Memᴰ·head as here, List·Memᴰ·tail as there}
@@ -6,11 +6,11 @@ use mathlib.Core.Option.{Option, none, some}
 use Prim.Native.Nat.{ℕ, zero, suc, _+_, _-_, _*_, _≤_, _<_}
 use native.Mathlib.Omega.{arith}
 use lib.ListN.{length, getD}
-use Rattle.theory_row.specs.Lists.{from, Pairs}
+use Rattle.lists.specs.Lists.{from, Pairs}
 use Rattle.theory_row.specs.Order.{order, order-below, order-all, order-size, Rising, rising-same}
 use Rattle.theory_row.specs.Window.{start, good-start}
 use Rattle.theory_row.specs.Choices.{cells, chosen, along, along-size, cells-size}
-use Rattle.theory_pair.specs.Stretch.{Line, Choice, State, Goes, EndsWith, Done, first, last, cost, after, Move, after-size}
+use Rattle.theory_pair.specs.Segment.{Line, Choice, State, Goes, EndsWith, Done, first, last, cost, after, Move, after-size}
 use Rattle.theory_pair.specs.Pick.{pick-in, in-pick, pick-pairs}
 use Rattle.theory_pair.specs.Whole.{siteIn, wideIn, rowTotal, Placed, Wide, placed-goes, placed-ends, placed-cost, placed-rising, goes-placed, goes-along, talls, tallOf, talls-along, posts, picks, poses, poses-size, along-posts, posts-in, in-posts, posts-pairs, pairs-posts, picks-along}
 use Rattle.theory_pair.specs.Pair.{Talls, Case, Upto, Joined, Stages, ending, opening, stages-joined, stages-go}

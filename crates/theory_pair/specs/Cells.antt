@@ -1,4 +1,4 @@
--- The pair of rows, whole: the cheapest stages are the cheapest legal placement. Assumes nothing.
+-- The pair of rows, whole: the cheapest stages are the cheapest legal placement.
 use mathlib.Core.Path.{_≡_, refl, sym, ap, ap₂, _∙_, subst}
 use mathlib.Core.Logic.{_↔_, _⊎_, inl, inr}
 use mathlib.Core.List.{List, [], _∷_, List·Memᴰ as In}
@@ -7,12 +7,12 @@ use mathlib.Core.Bool.{Bool, true, cond}
 use Prim.Native.Nat.{ℕ, _+_, _≤_, _<_}
 use native.Mathlib.Omega.{arith}
 use lib.ListN.{length}
-use Rattle.theory_row.specs.Lists.{from, in-from, from-in, Distinct}
+use Rattle.lists.specs.Lists.{from, in-from, from-in, Distinct}
 use Rattle.theory_row.specs.Order.{order, place}
 use Rattle.theory_row.specs.Rules.{Clear, sum, sumNeighbours}
 use Rattle.theory_row.specs.Cheapest.{_⊑_}
 use Rattle.theory_row.specs.Choices.{along, cells}
-use Rattle.theory_pair.specs.Stretch.{Line, last}
+use Rattle.theory_pair.specs.Segment.{Line, last}
 use Rattle.theory_pair.specs.Ends.{Ended}
 use Rattle.theory_pair.specs.Whole.{siteIn, opensIn, closesIn, rowTotal, Placed, Wide, placed-same, picks}
 use Rattle.theory_pair.specs.Pair.{Talls, Upto, Stages, ending, table, table-below, table-met}

@@ -1,4 +1,4 @@
--- Prices as a program holds them: a number below the bound B, and B for none; sums stop at B. Assumes nothing.
+-- Prices as a program holds them: a number below the bound B, and B for none; sums stop at B.
 use mathlib.Core.Path.{_≡_, refl, sym, ap, ap₂, _∙_, subst}
 use mathlib.Core.Logic.{_↔_}
 use mathlib.Core.List.{List, [], _∷_, _++_}
@@ -7,9 +7,9 @@ use mathlib.Core.Bool.{Bool, true, false, cond}
 use Prim.Native.Nat.{ℕ, zero, suc, _+_, min, _≤_, _<_}
 use native.Mathlib.Omega.{arith}
 use lib.Dec.{leb}
-use Rattle.theory_row.specs.Lists.{from, Le?, low, high, le?}
+use Rattle.lists.specs.Lists.{from, Le?, low, high, le?}
 use Rattle.theory_row.specs.Cheapest.{lower}
-use Rattle.theory_pair.specs.Forward.{each, add, price, leastOf, layer}
+use Rattle.theory_pair.specs.Forward.{each, add, segmentCost, leastOf, layer}
 use Rattle.theory_pair.specs.Pick.{pick}
 
 unfoldable pub coded : ℕ → Option ℕ → ℕ

@@ -1,5 +1,5 @@
 -- The cheapest trail, in general: from a source through layers of states, each layer a finite list, each step with a price. The least prices are
--- computed layer by layer, an entry from all entries of the layer before. Assumes nothing.
+-- computed layer by layer, an entry from all entries of the layer before.
 use mathlib.Core.Path.{_≡_, refl, sym, ap, _∙_, subst}
 use mathlib.Core.Logic.{_≢_, _⊎_, inl, inr}
 use mathlib.Core.List.{List, [], _∷_, _++_, List·Memᴰ as In, List·Memᴰ·head as here, List·Memᴰ·tail as there, Memᴰ·append-left, Memᴰ·append-right, List·Memᴰ·append-cases}
@@ -45,17 +45,17 @@ add-met (some a) none v e = absurd (let z : _≡_ {A = ℕ} 0 1 = cc in omega ar
 add-met (some a) (some b) v e = (a, b, refl, refl, cc)
 
 -- x if it may be, else none
-unfoldable pub price : {P : Type 0} → Dec P → ℕ → Option ℕ
-price (yes p) x = some x
-price (no q) x = none
+unfoldable pub segmentCost : {P : Type 0} → Dec P → ℕ → Option ℕ
+segmentCost (yes p) x = some x
+segmentCost (no q) x = none
 
-pub price-below : {P : Type 0} (t : Dec P) (x : ℕ) → P → price t x ⊑ x
-unfolding price
+pub price-below : {P : Type 0} (t : Dec P) (x : ℕ) → P → segmentCost t x ⊑ x
+unfolding segmentCost
 price-below (yes p) x h = omega arith
 price-below (no q) x h = absurd (q h)
 
-pub price-met : {P : Type 0} (t : Dec P) (x v : ℕ) → price t x ≡ some v → P × (v ≡ x)
-unfolding price
+pub price-met : {P : Type 0} (t : Dec P) (x v : ℕ) → segmentCost t x ≡ some v → P × (v ≡ x)
+unfolding segmentCost
 price-met (yes p) x v e = (p, cc)
 price-met (no q) x v e = absurd (let z : _≡_ {A = ℕ} 0 1 = cc in omega arith)
 

@@ -1,15 +1,15 @@
--- The tables' entries as the loops that compute them, on coded prices: B for none, sums stop at B. Assumes nothing.
+-- The tables' entries as the loops that compute them, on coded prices: B for none, sums stop at B.
 use mathlib.Core.Path.{_≡_, refl, sym, ap, ap₂, _∙_, subst, fun-ext}
 use mathlib.Core.List.{List, [], _∷_, _++_}
 use mathlib.Core.Option.{Option, none, some}
 use mathlib.Core.Bool.{Bool, true, false, cond}
 use Prim.Native.Nat.{ℕ, zero, suc, _+_, _-_, _*_, min, _≤_, _<_}
 use native.Mathlib.Omega.{arith}
-use Rattle.theory_row.specs.Lists.{from}
+use Rattle.lists.specs.Lists.{from}
 use Rattle.theory_pair.specs.Forward.{each, add, layer, layer-source}
 use Rattle.theory_pair.specs.Pick.{goodMarks}
 use Rattle.theory_pair.specs.Coded.{coded, lowest, coded-layer, coded-add, lowest-each, lowest-low}
-use Rattle.theory_pair.specs.Stretch.{Line, Choice, State, singles, ifSingle, Move, move, move-met, least}
+use Rattle.theory_pair.specs.Segment.{Line, Choice, State, singles, ifSingle, Move, move, move-met, least}
 use Rattle.theory_pair.specs.Pair.{Case, cases, spots, table, stageLeast, opening}
 
 lowest-one : {S : Type 0} (B : ℕ) (h : S → ℕ) (u : S) → h u ≤ B → lowest B h (u ∷ []) ≡ h u
@@ -31,7 +31,7 @@ unfolding coded
 none-coded none h = refl
 none-coded (some x) h = absurd (h x refl)
 
--- ---- a stretch: an entry of the layers that start at s
+-- ---- a segment: an entry of the layers that start at s
 
 module _ {A : Type 0} (B R : ℕ) (siteOf : A → ℕ) (L : Line A) (s : State A) where
   -- the entry after j + 1 moves
@@ -88,7 +88,7 @@ module _ {A : Type 0} (B R : ℕ) (siteOf : A → ℕ) (L₀ L₁ : Line A) (pos
   unfoldable pub caseEntry : ℕ → Case A → ℕ
   caseEntry I c = coded B (table R siteOf L₀ L₁ pos₀ pos₁ I c)
 
-  -- the price of a stage, from the two rows' stretches
+  -- the price of a stage, from the two rows' segments
   abbrev pub prices : Case A → Case A → ℕ
   prices u c = min (coded B (least R siteOf L₀ (u .0) (c .0)) + coded B (least R siteOf L₁ (u .1) (c .1))) B
 
@@ -114,14 +114,14 @@ module _ {A : Type 0} (B R : ℕ) (siteOf : A → ℕ) (L₀ L₁ : Line A) (pos
       before : Case A → Option ℕ
       before u = layer (cases R siteOf L₀ L₁ pos₀ pos₁) (stageLeast R siteOf L₀ L₁ pos₀ pos₁) (opening R siteOf L₀ L₁ pos₀ pos₁) I u
 
-      price : Case A → Option ℕ
-      price u = add (least R siteOf L₀ (u .0) (c .0)) (least R siteOf L₁ (u .1) (c .1))
+      segmentCost : Case A → Option ℕ
+      segmentCost u = add (least R siteOf L₀ (u .0) (c .0)) (least R siteOf L₁ (u .1) (c .1))
 
       h : Case A → ℕ
-      h u = coded B (add (before u) (price u))
+      h u = coded B (add (before u) (segmentCost u))
 
       at : (u : Case A) → lowest B h (u ∷ []) ≡ min (coded B (before u) + prices u c) B
       at u =
-          let e = coded-add B (before u) (price u) in
+          let e = coded-add B (before u) (segmentCost u) in
           let f = coded-add B (least R siteOf L₀ (u .0) (c .0)) (least R siteOf L₁ (u .1) (c .1)) in
           lowest-one B h u (omega arith) ∙ e ∙ ap (λ x. min (coded B (before u) + x) B) f

@@ -1,4 +1,4 @@
--- A row as a list of cells: the cells of the list, and their positions in it. What is said of the cells is said of the positions. Assumes nothing.
+-- A row as a list of cells: the cells of the list, and their positions in it. What is said of the cells is said of the positions.
 use mathlib.Core.Path.{_≡_, refl, sym, ap, ap₂, _∙_, subst}
 use mathlib.Core.Logic.{_≢_, _↔_, _⊎_, inl, inr}
 use mathlib.Core.List.{List, [], _∷_, _++_, List·Memᴰ as In, List·Memᴰ·head as here, List·Memᴰ·tail as there, Memᴰ·cast}
@@ -7,7 +7,7 @@ use Prim.Native.Nat.{ℕ, zero, suc, _+_, _≤_, _<_}
 use native.Mathlib.Omega.{arith}
 use lib.ListN.{length, getD}
 use lib.Dec.{leb, eqb}
-use Rattle.theory_row.specs.Lists.{from, in-from, from-in, Distinct, Pairs, Chain, Next, Eq?, same, differs, eq?}
+use Rattle.lists.specs.Lists.{from, in-from, from-in, Distinct, Pairs, Chain, Next, Eq?, same, differs, eq?}
 use Rattle.theory_row.specs.Order.{put, sort, order, place, order-below, order-all}
 use Rattle.theory_row.specs.Rules.{Clear, NoGapOne, Rule4, Rule5, Rule6, sum, sumNext, sumNeighbours}
 use Rattle.theory_row.specs.Row.{Legal}

@@ -1,5 +1,5 @@
 -- Two rows that share their tall cells. A case of a tall cell is the state of each row just after it. Stages go from case to case, over the single
--- cells of either row; a legal pair of rows is cut into stages, and stages join to a legal pair, at the same cost. Assumes nothing.
+-- cells of either row; a legal pair of rows is cut into stages, and stages join to a legal pair, at the same cost.
 use mathlib.Core.Path.{_≡_, refl, sym, ap, ap₂, _∙_, subst}
 use mathlib.Core.Logic.{_≢_, _↔_, _⊎_, inl, inr}
 use mathlib.Core.List.{List, [], _∷_, _++_, List·Memᴰ as In, List·Memᴰ·head as here, List·Memᴰ·tail as there, List·Memᴰ·eq-of-singleton}
@@ -8,14 +8,14 @@ use mathlib.Core.Bool.{Bool, true, false, cond}
 use Prim.Native.Nat.{ℕ, zero, suc, _+_, _-_, _*_, _^_, _≤_, _<_}
 use native.Mathlib.Omega.{arith}
 use lib.ListN.{length, length-append, getD}
-use Rattle.theory_row.specs.Lists.{from, in-from, from-in, Pairs}
+use Rattle.lists.specs.Lists.{from, in-from, from-in, Pairs}
 use Rattle.theory_row.specs.Order.{order, order-below, order-all, order-size, Rising, rising-same}
 use Rattle.theory_row.specs.Cheapest.{_⊑_}
 use Rattle.theory_row.specs.Window.{start, step, May, Good, good-start, good-step}
 use Rattle.theory_row.specs.Choices.{cells, chosen, along, cells-along, along-chosen, along-size, cells-size}
 use Rattle.theory_pair.specs.Forward.{each, in-each, each-in, add, add-below, add-met, Trail, layer, layer-below, layer-met}
 use Rattle.theory_pair.specs.Pick.{goodMarks, in-goodMarks}
-use Rattle.theory_pair.specs.Stretch.{Line, Choice, State, Goes, Ok, Done, next, first, last, cost, charge, after, Move, Way, least, least-below, least-met, Plain, Listed, stretch-list, list-way, next-move, goes-append, goes-good, after-append, after-size, cost-append}
+use Rattle.theory_pair.specs.Segment.{Line, Choice, State, Goes, Ok, Done, next, first, last, cost, charge, after, Move, Way, least, least-below, least-met, Plain, Listed, segment-list, list-way, next-move, goes-append, goes-good, after-append, after-size, cost-append}
 use Rattle.theory_pair.specs.Whole.{siteIn, wideIn, mine, ours, rowTotal, Placed, Wide, placed-goes, placed-cost, placed-rising, goes-placed, goes-along, tallOf, picks}
 
 -- ---- one row: its tall ones in a list
@@ -79,14 +79,14 @@ module _ {A : Type 0} (R : ℕ) (siteOf : A → ℕ) (L : Line A) where
     pub place : ℕ
     pub marks : ℕ
     pub rest : List (Choice A)
-    pub price : ℕ
-    pub way : Way R siteOf L s (place, marks, some (k, a)) price
+    pub segmentCost : ℕ
+    pub way : Way R siteOf L s (place, marks, some (k, a)) segmentCost
     pub goes : Goes R siteOf L (place, marks, some (k, a)) rest
     pub talls : tallOf L rest ≡ ts
     pub good : Good R marks
     pub low : suc k - R ≤ place
     pub high : place < suc k - R + suc (2 * R)
-    pub sum : cost R siteOf L s p ≡ price + cost R siteOf L (place, marks, some (k, a)) rest
+    pub sum : cost R siteOf L s p ≡ segmentCost + cost R siteOf L (place, marks, some (k, a)) rest
     pub ends : after R siteOf L (place, marks, some (k, a)) rest ≡ after R siteOf L s p
     pub offered : In a (L .options k)
 
@@ -105,7 +105,7 @@ module _ {A : Type 0} (R : ℕ) (siteOf : A → ℕ) (L : Line A) where
         place = suc (u .0);
         marks = step R (u .0) (u .1) k;
         rest = r;
-        price = cost R siteOf L s q + charge R siteOf L u c;
+        segmentCost = cost R siteOf L s q + charge R siteOf L u c;
         way = list-way R siteOf L s h q p (b .0) v (charge R siteOf L u c) (cost R siteOf L s q + charge R siteOf L u c) (next-move R siteOf L u c (b .1 .0)) refl refl;
         goes = b .1 .2;
         talls = e;
@@ -138,11 +138,11 @@ module _ {A : Type 0} (R : ℕ) (siteOf : A → ℕ) (L : Line A) where
     pub move : Move R siteOf L (after R siteOf L (first R siteOf L) path) t toll
     pub sum : cost R siteOf L (first R siteOf L) path + toll ≡ x
 
-  -- the first stretch of a row, as a path
+  -- the first segment of a row, as a path
   unfoldable pub upto-begin : (j : ℕ) (t : State A) (x : ℕ) → Listed R siteOf L (first R siteOf L) j t x → Upto t [] x
   upto-begin j t x l = record { path = l .path; goes = l .goes; talls = plain-none L (l .path) (l .plain); toll = l .toll; move = l .move; sum = l .sum }
 
-  -- a path, on to a tall cell and over one stretch more
+  -- a path, on to a tall cell and over one segment more
   unfoldable pub upto-on : (i m k j : ℕ) (a : A) (ts : List (Choice A)) (x y : ℕ) (t : State A) → Upto (i, m, some (k, a)) ts x → In a (L .options k) → L .tall k ≡ true
       → Listed R siteOf L (i, m, some (k, a)) j t y → Upto t (ts ++ ((k, a) ∷ [])) (x + y)
   upto-on i m k j a ts x y t u o e l =
@@ -166,11 +166,11 @@ module _ {A : Type 0} (R : ℕ) (siteOf : A → ℕ) (L : Line A) where
       }
 
   upto-first : (t : State A) (x : ℕ) → Way R siteOf L (first R siteOf L) t x → Upto t [] x
-  upto-first t x w = upto-begin (t .0 - 1) t x (stretch-list R siteOf L (first R siteOf L) (t .0 - 1) t x w)
+  upto-first t x w = upto-begin (t .0 - 1) t x (segment-list R siteOf L (first R siteOf L) (t .0 - 1) t x w)
 
   upto-more : (i m k : ℕ) (a : A) (ts : List (Choice A)) (x y : ℕ) (t : State A) → Upto (i, m, some (k, a)) ts x → In a (L .options k) → L .tall k ≡ true
       → Way R siteOf L (i, m, some (k, a)) t y → Upto t (ts ++ ((k, a) ∷ [])) (x + y)
-  upto-more i m k a ts x y t u o e w = upto-on i m k (t .0 - suc i) a ts x y t u o e (stretch-list R siteOf L (i, m, some (k, a)) (t .0 - suc i) t y w)
+  upto-more i m k a ts x y t u o e w = upto-on i m k (t .0 - suc i) a ts x y t u o e (segment-list R siteOf L (i, m, some (k, a)) (t .0 - suc i) t y w)
 
 -- ---- two rows
 
@@ -319,11 +319,11 @@ module _ {A : Type 0} (R : ℕ) (siteOf : A → ℕ) (L₀ L₁ : Line A) (pos�
         (in-each (spots R (pos₀ I)) _ (in-spots (pos₀ I) (r₀ .place) (r₀ .marks) (r₀ .low) (r₀ .high) (r₀ .good))
         (in-each (spots R (pos₁ I)) _ (in-spots (pos₁ I) (r₁ .place) (r₁ .marks) (r₁ .low) (r₁ .high) (r₁ .good)) (here refl)))
         in
-        let y = r₀ .price + r₁ .price in
+        let y = r₀ .segmentCost + r₁ .segmentCost in
         let e₀ = r₀ .sum in
         let e₁ = r₁ .sum in
         stages-go ps (suc I) (d₀, d₁) (x + y) z (omega arith)
-        (λ t y′ s. ((d₀, d₁), m, x + y, y′, k (d₀, d₁) y (r₀ .price, r₁ .price, r₀ .way, r₁ .way, refl), s, refl))
+        (λ t y′ s. ((d₀, d₁), m, x + y, y′, k (d₀, d₁) y (r₀ .segmentCost, r₁ .segmentCost, r₀ .way, r₁ .way, refl), s, refl))
         (r₀ .good) (r₁ .good) (r₀ .rest) (r₁ .rest) (r₀ .goes) (r₁ .goes) (r₀ .talls) (r₁ .talls)
         (subst (Done R siteOf L₀) (sym (r₀ .ends)) n₀) (subst (Done R siteOf L₁) (sym (r₁ .ends)) n₁) (omega arith)
 
@@ -368,7 +368,7 @@ module _ {A : Type 0} (R : ℕ) (siteOf : A → ℕ) (L₀ L₁ : Line A) (pos�
         (in-each (spots R (pos₀ I)) _ (in-spots (pos₀ I) (r₀ .place) (r₀ .marks) (r₀ .low) (r₀ .high) (r₀ .good))
         (in-each (spots R (pos₁ I)) _ (in-spots (pos₁ I) (r₁ .place) (r₁ .marks) (r₁ .low) (r₁ .high) (r₁ .good)) (here refl)))
         in
-        let y = r₀ .price + r₁ .price in
+        let y = r₀ .segmentCost + r₁ .segmentCost in
         let n₀ = goes-append R siteOf L₀ d₀ (r₀ .rest) e₀ .1 (r₀ .goes, subst (λ s. Goes R siteOf L₀ s e₀) (sym (r₀ .ends)) (s₀ .1)) in
         let n₁ = goes-append R siteOf L₁ d₁ (r₁ .rest) e₁ .1 (r₁ .goes, subst (λ s. Goes R siteOf L₁ s e₁) (sym (r₁ .ends)) (s₁ .1)) in
         let f₀ : after R siteOf L₀ d₀ (r₀ .rest ++ e₀) ≡ after R siteOf L₀ (c .0) (q₀ ++ e₀) =
@@ -385,7 +385,7 @@ module _ {A : Type 0} (R : ℕ) (siteOf : A → ℕ) (L₀ L₁ : Line A) (pos�
         let g₁′ = r₁ .sum in
         subst (λ (t : Case A). Stages J t z) (ap₂ (λ (s t : State A). (s, t)) f₀ f₁)
         (starts-stages ps a (suc I) J (d₀, d₁) (x + y) z (omega arith)
-        (λ t y′ s. ((d₀, d₁), m, x + y, y′, k (d₀, d₁) y (r₀ .price, r₁ .price, r₀ .way, r₁ .way, refl), s, refl))
+        (λ t y′ s. ((d₀, d₁), m, x + y, y′, k (d₀, d₁) y (r₀ .segmentCost, r₁ .segmentCost, r₀ .way, r₁ .way, refl), s, refl))
         (r₀ .good) (r₁ .good) (r₀ .rest) (r₁ .rest) n₀ n₁ (r₀ .talls) (r₁ .talls) (omega arith))
 
     -- a start of one row to a tall cell

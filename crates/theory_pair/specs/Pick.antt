@@ -1,4 +1,4 @@
--- The entries of a list that pass a test; and the marks that have R + 1 ones, the lowest among them. Assumes nothing.
+-- The entries of a list that pass a test; and the marks that have R + 1 ones, the lowest among them.
 use mathlib.Core.Path.{_≡_, refl, sym, ap, ap₂, _∙_, subst}
 use mathlib.Core.Logic.{_↔_}
 use mathlib.Core.List.{List, [], _∷_, List·Memᴰ as In, List·Memᴰ·head as here, List·Memᴰ·tail as there}
@@ -7,7 +7,7 @@ use Prim.Native.Nat.{ℕ, zero, suc, _+_, _*_, _%_, _^_, _≤_, _<_}
 use native.Mathlib.Omega.{arith}
 use lib.Count.{ones}
 use lib.Dec.{eqb}
-use Rattle.theory_row.specs.Lists.{from, in-from, from-in, Pairs, Eq?, same, differs, eq?}
+use Rattle.lists.specs.Lists.{from, in-from, from-in, Pairs, Eq?, same, differs, eq?}
 use Rattle.theory_row.specs.Window.{Good}
 
 unfoldable pub pick : (ℕ → Bool) → List ℕ → List ℕ

@@ -1,5 +1,5 @@
--- What a program that walks back through the tables owes, and gets: each stretch as a list, built from its right end; each row's path, built stage by
--- stage; and the placement written on the way, which has the paths' poses. Assumes nothing.
+-- What a program that walks back through the tables owes, and gets: each segment as a list, built from its right end; each row's path, built stage by
+-- stage; and the placement written on the way, which has the paths' poses.
 use mathlib.Core.Path.{_≡_, refl, sym, ap, ap₂, _∙_, subst}
 use mathlib.Core.List.{List, [], _∷_, _++_, List·Memᴰ as In, List·Memᴰ·head as here, List·Memᴰ·tail as there, List·Memᴰ·append-cases}
 use mathlib.Core.Logic.{_⊎_, inl, inr}
@@ -9,7 +9,7 @@ use Prim.Native.Nat.{ℕ, zero, suc, _+_, _-_, _≤_, _<_}
 use native.Mathlib.Omega.{arith}
 use lib.ListN.{length}
 use Rattle.theory_row.specs.Choices.{cells, along}
-use Rattle.theory_pair.specs.Stretch.{Line, Choice, State, Goes, Move, move, move-met, next, last, cost, after, Listed}
+use Rattle.theory_pair.specs.Segment.{Line, Choice, State, Goes, Move, move, move-met, next, last, cost, after, Listed}
 use Rattle.theory_pair.specs.Whole.{picks}
 use Rattle.theory_pair.specs.Pair.{Upto}
 use Rattle.theory_pair.specs.Cells.{Side, row₀, row₁, Job, line, pos, tallCount, cell, LegalPair, total, traced}
@@ -34,11 +34,11 @@ obeys-append {A} g p q h k c m = go (List·Memᴰ·append-cases p m)
 -- ---- one row
 
 module _ {A : Type 0} (R : ℕ) (siteOf : A → ℕ) (L : Line A) where
-  -- a stretch of no single cell
+  -- a segment of no single cell
   unfoldable pub listed-last : (u t : State A) (x : ℕ) → move R siteOf L u t ≡ some x → Listed R siteOf L u 0 t x
   listed-last u t x e = record { path = []; size = refl; plain = tt; goes = tt; toll = x; move = move-met R siteOf L u t x e; sum = omega arith }
 
-  -- one cell more at the left end of a stretch: (k, a), placed from u on, costs z
+  -- one cell more at the left end of a segment: (k, a), placed from u on, costs z
   unfoldable pub listed-back : (u t : State A) (i m k j y z : ℕ) (a : A) → In a (L .options k) → L .tall k ≡ false → move R siteOf L u (i, m, some (k, a)) ≡ some z
       → Listed R siteOf L (i, m, some (k, a)) j t y → Listed R siteOf L u (suc j) t (z + y)
   listed-back u t i m k j y z a o e w l =

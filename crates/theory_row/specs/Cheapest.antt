@@ -1,4 +1,4 @@
--- The cheapest path, in general: from a state, d moves, each from a finite list, with a charge. Assumes nothing.
+-- The cheapest path, in general: from a state, d moves, each from a finite list, with a charge.
 use mathlib.Core.Path.{_≡_, refl, sym, ap, _∙_, subst}
 use mathlib.Core.Logic.{_≢_, _⊎_, inl, inr}
 use mathlib.Core.List.{List, [], _∷_, List·Memᴰ as In, List·Memᴰ·head as here, List·Memᴰ·tail as there}
@@ -8,7 +8,7 @@ use Prim.Native.Nat.{ℕ, zero, suc, _+_, _≤_, _<_}
 use native.Mathlib.Omega.{arith}
 use lib.ListN.{length}
 use lib.Dec.{leb}
-use Rattle.theory_row.specs.Lists.{Le?, low, high, le?}
+use Rattle.lists.specs.Lists.{Le?, low, high, le?}
 
 infix 20 _⊑_
 -- the lower of two costs, none being above all

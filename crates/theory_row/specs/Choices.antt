@@ -1,4 +1,4 @@
--- A list of choices, each a cell with what was chosen for it, and the placement that it makes. Assumes nothing.
+-- A list of choices, each a cell with what was chosen for it, and the placement that it makes.
 use mathlib.Core.Path.{_≡_, refl, sym, ap, ap₂, _∙_, subst}
 use mathlib.Core.Logic.{_≢_}
 use mathlib.Core.List.{List, [], _∷_, List·Memᴰ as In, List·Memᴰ·head as here, List·Memᴰ·tail as there, Memᴰ·cast}
@@ -6,7 +6,7 @@ use mathlib.Core.Bool.{Bool, true, false, cond}
 use Prim.Native.Nat.{ℕ, zero, suc}
 use lib.ListN.{length}
 use lib.Dec.{eqb}
-use Rattle.theory_row.specs.Lists.{Distinct, Eq?, same, differs, eq?}
+use Rattle.lists.specs.Lists.{Distinct, Eq?, same, differs, eq?}
 
 module _ {A : Type 0} where
   -- the cells of the choices, in their order

@@ -1,4 +1,4 @@
--- The mark array as the paper has it, from the positions placed so far, and that it is what the window carries along. Assumes nothing.
+-- The mark array as the paper has it, from the positions placed so far, and that it is what the window carries along.
 use mathlib.Core.Path.{_≡_, refl, sym, ap, ap₂, _∙_, subst}
 use mathlib.Core.Logic.{_≢_, _↔_, _⊎_, inl, inr}
 use mathlib.Core.List.{List, [], _∷_, _++_, List·Memᴰ as In, List·Memᴰ·head as here, List·Memᴰ·tail as there, Memᴰ·cast}
@@ -9,7 +9,7 @@ use native.Mathlib.Decide.{ℕ-discrete}
 use lib.ListN.{length}
 use lib.Count.{ones}
 use lib.Dec.{leb, eqb}
-use Rattle.theory_row.specs.Lists.{Le?, low, high, le?, Eq?, same, differs, eq?}
+use Rattle.lists.specs.Lists.{Le?, low, high, le?, Eq?, same, differs, eq?}
 use Rattle.theory_row.specs.Marks.{bit, bit-lt}
 use Rattle.theory_row.specs.Window.{start, step, Run, walk, May, Partial, partial-run, run-partial, seen, seen-at, seen-keep, seen-set, start-pad, good-start, Good, window-here, window-count, window-small}
 

@@ -1,5 +1,5 @@
 -- A row in general: n cells in file order, numbered from 0; cell k stands at site k and is wide k sites wide. What rules 4 and 6 say of the
--- order of the cells from left to right, and the way back. Assumes nothing.
+-- order of the cells from left to right, and the way back.
 use mathlib.Core.Path.{_≡_, refl, sym, ap, _∙_, subst}
 use mathlib.Core.Logic.{_≢_, _↔_, _⊎_, inl, inr}
 use mathlib.Core.List.{List, [], _∷_, List·Memᴰ as In, List·Memᴰ·head as here, List·Memᴰ·tail as there, Memᴰ·cast}
@@ -9,7 +9,7 @@ use native.Mathlib.Omega.{arith}
 use native.Mathlib.Decide.{ℕ-discrete}
 use lib.ListN.{length}
 use lib.Dec.{T, leb, ltb, eqb, ltb→lt, lt→ltb, nltb→le}
-use Rattle.theory_row.specs.Lists.{from, length-from, in-from, from-in, distinct-from, Distinct, Pairs, Chain, Next, Near, Eq?, same, differs, eq?, Le?, low, high, le?}
+use Rattle.lists.specs.Lists.{from, length-from, in-from, from-in, distinct-from, Distinct, Pairs, Chain, Next, Near, Eq?, same, differs, eq?, Le?, low, high, le?}
 use Rattle.theory_row.specs.Order.{put, sort, order, place, Rising, order-below, order-all, order-size, sort-rising, rising-same, rising-distinct, near-place, place-near}
 use Rattle.theory_row.specs.Rules.{Clear, Rule4, Rule5, Rule6, NoGapOne, sum, sumNeighbours}
 use Rattle.theory_row.specs.Window.{start, Run, Arranged, arranged-run, run-arranged}

@@ -1,5 +1,5 @@
 -- Rules 4, 5 and 6 for a row in general, and the sum over neighbours. The row has n cells, numbered from 0 in file order; cell k stands at
--- site k and is wide k sites wide. Each rule is a test of one cell, and then a statement about the row; the two agree. Assumes nothing.
+-- site k and is wide k sites wide. Each rule is a test of one cell, and then a statement about the row; the two agree.
 use mathlib.Core.Path.{_≡_, refl, sym, ap, _∙_, subst}
 use mathlib.Core.Logic.{_≢_, _↔_, _⊎_, inl, inr}
 use mathlib.Core.List.{List, [], _∷_, List·Memᴰ as In, List·Memᴰ·head as here, List·Memᴰ·tail as there, Memᴰ·cast}
@@ -8,7 +8,7 @@ use Prim.Native.Nat.{ℕ, zero, suc, _+_, _*_, _≤_, _<_}
 use native.Mathlib.Omega.{arith}
 use lib.ListN.{length}
 use lib.Dec.{T, leb, ltb, eqb, eqb-refl}
-use Rattle.theory_row.specs.Lists.{from, in-from, from-in, Chain, Next, Eq?, same, differs, eq?, Le?, low, high, le?}
+use Rattle.lists.specs.Lists.{from, in-from, from-in, Chain, Next, Eq?, same, differs, eq?, Le?, low, high, le?}
 use Rattle.theory_row.specs.Order.{order, place, order-below, order-all}
 
 -- ---- definitions

@@ -1,5 +1,5 @@
 -- One row, whole: the cheapest path through the windows is the cheapest legal placement of the row. Each cell k has a finite list of options; an
--- option has a site and, for its cell, a width; a cell's option has its own cost, and two neighbours pay a charge. Assumes nothing.
+-- option has a site and, for its cell, a width; a cell's option has its own cost, and two neighbours pay a charge.
 use mathlib.Core.Path.{_≡_, refl, sym, ap, ap₂, _∙_, subst}
 use mathlib.Core.Logic.{_≢_, _↔_, _⊎_, inl, inr}
 use mathlib.Core.List.{List, [], _∷_, _++_, List·Memᴰ as In, List·Memᴰ·head as here, List·Memᴰ·tail as there, Memᴰ·append-left, Memᴰ·append-right, List·Memᴰ·append-cases}
@@ -8,7 +8,7 @@ use Prim.Native.Nat.{ℕ, zero, suc, _+_, _≤_, _<_}
 use native.Mathlib.Omega.{arith}
 use native.Mathlib.Decide.{decLe, ℕ-discrete}
 use lib.ListN.{length}
-use Rattle.theory_row.specs.Lists.{from, in-from, from-in, Chain, Next, Distinct}
+use Rattle.lists.specs.Lists.{from, in-from, from-in, Chain, Next, Distinct}
 use Rattle.theory_row.specs.Order.{order, order-below, order-size}
 use Rattle.theory_row.specs.Rules.{sum, sumNext, sumNeighbours}
 use Rattle.theory_row.specs.Window.{start, step, May, Run, may?, Arranged, run-arranged}

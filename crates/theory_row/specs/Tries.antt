@@ -1,4 +1,4 @@
--- The definitions, run. Assumes nothing.
+-- The definitions, run.
 use mathlib.Core.Path.{_≡_, refl, ap}
 use mathlib.Core.Logic.{_⊎_, inl, inr}
 use mathlib.Core.List.{List, [], _∷_}
@@ -8,7 +8,7 @@ use native.Mathlib.Omega.{arith}
 use native.Mathlib.Decide.{ℕ-discrete}
 use lib.ListN.{getD}
 use lib.Count.{ones, onesIn}
-use Rattle.theory_row.specs.Lists.{from}
+use Rattle.lists.specs.Lists.{from}
 use Rattle.theory_row.specs.Order.{order, sort, put, place}
 use Rattle.theory_row.specs.Rules.{breaks4, breaks5, breaks6, any, anyNext, lowest}
 use Rattle.theory_row.specs.Window.{start, step, walk, Good}

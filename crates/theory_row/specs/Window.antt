@@ -1,5 +1,5 @@
 -- Which file position may be placed next: the window of marks. Positions and places count from 0. With i positions placed, digit j of the
--- marks m stands for position i + j - (R + 1), for j from 0 to 2 R: positions before the row count as placed. Assumes nothing.
+-- marks m stands for position i + j - (R + 1), for j from 0 to 2 R: positions before the row count as placed.
 use mathlib.Core.Path.{_≡_, refl, sym, ap, _∙_, subst}
 use mathlib.Core.Logic.{_≢_, _↔_, _⊎_, inl, inr}
 use mathlib.Core.List.{List, [], _∷_, _++_, List·Memᴰ as In, List·Memᴰ·head as here, List·Memᴰ·tail as there, Memᴰ·cast}
@@ -9,7 +9,7 @@ use native.Mathlib.Decide.{ℕ-discrete, decLt, decLe}
 use lib.ListN.{length}
 use lib.Count.{ones, ones-step, ones-ones}
 use lib.Pow.{pow-pos, pow-mono}
-use Rattle.theory_row.specs.Lists.{Distinct, Near, near-in, pigeon}
+use Rattle.lists.specs.Lists.{Distinct, Near, near-in, pigeon}
 use Rattle.theory_row.specs.Marks.{bit, bit-set, bit-keep, ones-set, bit-full, bit-above, set-lt}
 
 -- the marks before anything is placed: digits 0 to R are the R + 1 positions before the row

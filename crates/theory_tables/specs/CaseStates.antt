@@ -1,5 +1,5 @@
--- The cases of a tall cell that two pairs and a pose number stand for: every case with a price is one of them, so that an entry of the case table is
--- the lowest by way of those. Assumes nothing.
+-- The cases of a tall cell that two states and a pose number stand for: every case with a cost is one of them, so that an entry of the case table is
+-- the lowest by way of those.
 use mathlib.Core.Path.{_≡_, refl, sym, ap, ap₂, _∙_, subst}
 use mathlib.Core.List.{List·Memᴰ as In, List·Memᴰ·head as here, List·Memᴰ·eq-of-singleton}
 use mathlib.Core.Option.{some}
@@ -7,19 +7,19 @@ use mathlib.Core.Bool.{true}
 use Prim.Native.Nat.{ℕ, zero, suc, _+_, _-_, _*_, min, _≤_, _<_}
 use native.Mathlib.Omega.{arith}
 use native.Mathlib.Decide.{decLt}
-use Rattle.theory_row.specs.Lists.{from, from-in}
+use Rattle.lists.specs.Lists.{from, from-in}
 use Rattle.theory_row.specs.Window.{Good, good-start}
 use Rattle.theory_pair.specs.Forward.{in-each, each-in}
 use Rattle.theory_pair.specs.Pick.{goodMarks, in-goodMarks}
-use Rattle.theory_pair.specs.Stretch.{Line, State, Into, least, first}
+use Rattle.theory_pair.specs.Segment.{Line, State, Into, least, first}
 use Rattle.theory_pair.specs.Pair.{Case, spots}
 use Rattle.theory_pair.specs.Coded.{coded, lowest}
-use Rattle.theory_pair.specs.Loops.{least-entry, caseEntry, prices, case-first, case-next}
-use Rattle.theory_tables.specs.Steps.{B, pairCount, marks}
+use Rattle.theory_pair.specs.Loops.{least-entry, caseEntry, costs, case-first, case-next}
+use Rattle.theory_tables.specs.Steps.{B, stateCount, marks}
 use Rattle.theory_tables.specs.Stages.{placedWith}
-use Rattle.theory_tables.specs.Pairs.{pair-at}
+use Rattle.theory_tables.specs.States.{state-at}
 use Rattle.theory_tables.specs.Lowest.{lowest-member, lowest-above, lowest-met}
-use Rattle.theory_tables.specs.Spots.{same-state, entry-move, into-pair, offer-pose, pose-offer}
+use Rattle.theory_tables.specs.Spots.{same-state, entry-move, into-state, offer-pose, pose-offer}
 use Rattle.theory_tables.specs.StagesRight.{Row, tallAs}
 
 -- ---- places and marks just after a cell
@@ -31,10 +31,10 @@ spots-good R k v m =
     let b = each-in (goodMarks R) _ (a .2) in
     subst (λ (w : ℕ × ℕ). Good R (w .1)) (sym (List·Memᴰ·eq-of-singleton (b .2))) (in-goodMarks R (b .0) .0 (b .1))
 
-pairs-spots : (R k q : ℕ) → q < pairCount R → In (placedWith R k q, marks R q) (spots R k)
+states-spots : (R k q : ℕ) → q < stateCount R → In (placedWith R k q, marks R q) (spots R k)
 unfolding spots
-pairs-spots R k q h =
-    let p = pair-at R q h in
+states-spots R k q h =
+    let p = state-at R q h in
     let f = p .far in
     in-each (from (suc k - R) (suc (2 * R))) _ (from-in (placedWith R k q) (suc k - R) (suc (2 * R)) (omega arith) (omega arith))
     (in-each (goodMarks R) _ (in-goodMarks R (marks R q) .1 (p .good)) (here refl))
@@ -52,11 +52,11 @@ module _ {A : Type 0} (R : ℕ) (siteOf : A → ℕ) (L : Line A) where
       entry-move R siteOf L s g (t .0 - suc (s .0)) t (omega arith)
 
 module _ {A : Type 0} (R : ℕ) (siteOf : A → ℕ) (talls : ℕ) (X : Row siteOf talls) where
-  -- the pair that a tall cell stands as
-  reached-pair : (I i m b : ℕ) (x : A) → X .pose (X .pos I) b ≡ x → Reached R siteOf (X .line) (i, m, some (X .pos I, x))
-      → (q : ℕ) × (q < pairCount R) × (_≡_ {A = State A} (i, m, some (X .pos I, x)) (tallAs R siteOf talls X I q b))
-  reached-pair I i m b x e v =
-      let r = into-pair R siteOf (X .line) (X .deck) (X .pose) (X .offered) (X .matched) (v .0) i m (X .pos I) x (v .1) (v .2) in
+  -- the state that a tall cell stands as
+  reached-state : (I i m b : ℕ) (x : A) → X .pose (X .pos I) b ≡ x → Reached R siteOf (X .line) (i, m, some (X .pos I, x))
+      → (q : ℕ) × (q < stateCount R) × (_≡_ {A = State A} (i, m, some (X .pos I, x)) (tallAs R siteOf talls X I q b))
+  reached-state I i m b x e v =
+      let r = into-state R siteOf (X .line) (X .deck) (X .pose) (X .offered) (X .matched) (v .0) i m (X .pos I) x (v .1) (v .2) in
       let z = r .2 in
       (r .0, r .1, same-state i (placedWith R (X .pos I) (r .0)) m (marks R (r .0)) (X .pos I) (X .pos I) x (X .pose (X .pos I) b) (omega arith) (sym (r .3)) refl (sym e))
 
@@ -69,7 +69,7 @@ pub record Alike {A : Type 0} {siteOf : A → ℕ} {talls : ℕ} (X₀ X₁ : Ro
   pub offered : (I a : ℕ) → I < talls → a < X₀ .deck .poses → X₀ .offered (X₀ .pos I) a ≡ X₁ .offered (X₁ .pos I) a
 
 module _ {A : Type 0} (R : ℕ) (siteOf : A → ℕ) (talls : ℕ) (X₀ X₁ : Row siteOf talls) (same : Alike X₀ X₁) where
-  -- tall cell I, as pair s in row 0 and pair t in row 1, in pose l
+  -- tall cell I, as state s in row 0 and state t in row 1, in pose l
   abbrev pub caseAs : ℕ → ℕ → ℕ → ℕ → Case A
   caseAs I s t l = (tallAs R siteOf talls X₀ I s l, tallAs R siteOf talls X₁ I t l)
 
@@ -77,7 +77,7 @@ module _ {A : Type 0} (R : ℕ) (siteOf : A → ℕ) (talls : ℕ) (X₀ X₁ : 
   entryOf I c = caseEntry B R siteOf (X₀ .line) (X₁ .line) (X₀ .pos) (X₁ .pos) I c
 
   abbrev pub stage : Case A → Case A → ℕ
-  stage u c = prices B R siteOf (X₀ .line) (X₁ .line) (X₀ .pos) (X₁ .pos) u c
+  stage u c = costs B R siteOf (X₀ .line) (X₁ .line) (X₀ .pos) (X₁ .pos) u c
 
   abbrev caseFrom : ℕ → A → ℕ × ℕ → ℕ × ℕ → Case A
   caseFrom I a s t = ((s .0, s .1, some (X₀ .pos I, a)), (t .0, t .1, some (X₁ .pos I, a)))
@@ -95,7 +95,7 @@ module _ {A : Type 0} (R : ℕ) (siteOf : A → ℕ) (talls : ℕ) (X₀ X₁ : 
   unfolding by-way by-spot by-pose
   loops I c = case-next B R siteOf (X₀ .line) (X₁ .line) (X₀ .pos) (X₁ .pos) I c
 
-  -- a case with a price is reached in both rows
+  -- a case with a cost is reached in both rows
   stage-moves : (u c : Case A) → Good R (u .0 .1) → Good R (u .1 .1) → stage u c < B → Reached R siteOf (X₀ .line) (c .0) × Reached R siteOf (X₁ .line) (c .1)
   stage-moves u c g₀ g₁ h = (least-move R siteOf (X₀ .line) (u .0) (c .0) g₀ (omega arith), least-move R siteOf (X₁ .line) (u .1) (c .1) g₁ (omega arith))
 
@@ -115,7 +115,7 @@ module _ {A : Type 0} (R : ℕ) (siteOf : A → ℕ) (talls : ℕ) (X₀ X₁ : 
   -- ---- an entry by the entries of the tall cell before
 
   module _ (I : ℕ) (h : I < talls) (c : Case A) where
-    pub case-below : (s t l : ℕ) → s < pairCount R → t < pairCount R → l < X₀ .deck .poses → X₀ .offered (X₀ .pos I) l ≡ true
+    pub case-below : (s t l : ℕ) → s < stateCount R → t < stateCount R → l < X₀ .deck .poses → X₀ .offered (X₀ .pos I) l ≡ true
         → entryOf (suc I) c ≤ entryOf I (caseAs I s t l) + stage (caseAs I s t l) c
     unfolding by-way by-spot by-pose
     case-below s t l hs ht hl o =
@@ -125,15 +125,15 @@ module _ {A : Type 0} (R : ℕ) (siteOf : A → ℕ) (talls : ℕ) (X₀ X₁ : 
         let size = X₀ .matched .size in
         let i₀ = X₀ .inside I h in
         let x = lowest-member B (by-pose I c) (X₀ .line .options (X₀ .pos I)) (pose-offer R siteOf (X₀ .line) (X₀ .deck) (X₀ .pose) (X₀ .offered) (X₀ .matched) (X₀ .pos I) l (omega arith) hl o) in
-        let y = lowest-member B (by-spot I c p) (spots R (X₀ .pos I)) (pairs-spots R (X₀ .pos I) s hs) in
-        let z = lowest-member B (by-way I c p s′) (spots R (X₁ .pos I)) (pairs-spots R (X₁ .pos I) t ht) in
+        let y = lowest-member B (by-spot I c p) (spots R (X₀ .pos I)) (states-spots R (X₀ .pos I) s hs) in
+        let z = lowest-member B (by-way I c p s′) (spots R (X₁ .pos I)) (states-spots R (X₁ .pos I) t ht) in
         let e : entryOf I (caseFrom I p s′ t′) + stage (caseFrom I p s′ t′) c ≡ entryOf I (caseAs I s t l) + stage (caseAs I s t l) c =
         ap (λ (v : A). entryOf I (tallAs R siteOf talls X₀ I s l, (t′ .0, t′ .1, some (X₁ .pos I, v))) + stage (tallAs R siteOf talls X₀ I s l, (t′ .0, t′ .1, some (X₁ .pos I, v))) c) (same .pose I l h hl)
         in
         omega (arith, loops I c)
 
     pub case-above : (x : ℕ) → x ≤ B
-        → ((s t l : ℕ) → s < pairCount R → t < pairCount R → l < X₀ .deck .poses → X₀ .offered (X₀ .pos I) l ≡ true → x ≤ entryOf I (caseAs I s t l) + stage (caseAs I s t l) c)
+        → ((s t l : ℕ) → s < stateCount R → t < stateCount R → l < X₀ .deck .poses → X₀ .offered (X₀ .pos I) l ≡ true → x ≤ entryOf I (caseAs I s t l) + stage (caseAs I s t l) c)
         → x ≤ entryOf (suc I) c
     unfolding by-way by-spot by-pose
     case-above x b f =
@@ -147,8 +147,8 @@ module _ {A : Type 0} (R : ℕ) (siteOf : A → ℕ) (talls : ℕ) (X₀ X₁ : 
             let i₀ = X₀ .inside I h in
             let o = offer-pose R siteOf (X₀ .line) (X₀ .deck) (X₀ .pose) (X₀ .offered) (X₀ .matched) (X₀ .pos I) p (omega arith) m in
             let v = case-moves I (caseFrom I p s t) k in
-            let r₀ = reached-pair R siteOf talls X₀ I (s .0) (s .1) (o .0) p (o .3) (v .0) in
-            let r₁ = reached-pair R siteOf talls X₁ I (t .0) (t .1) (o .0) p (sym (same .pose I (o .0) h (o .1)) ∙ o .3) (v .1) in
+            let r₀ = reached-state R siteOf talls X₀ I (s .0) (s .1) (o .0) p (o .3) (v .0) in
+            let r₁ = reached-state R siteOf talls X₁ I (t .0) (t .1) (o .0) p (sym (same .pose I (o .0) h (o .1)) ∙ o .3) (v .1) in
             let y = f (r₀ .0) (r₁ .0) (o .0) (r₀ .1) (r₁ .1) (o .1) (o .2) in
             let e = ap₂ (λ (w₀ w₁ : State A). entryOf I (w₀, w₁) + stage (w₀, w₁) c) (r₀ .2) (r₁ .2) in
             omega arith

@@ -1,16 +1,16 @@
--- The case tables of two rows have the prices of the pair theory: for each tall cell, its pair in either row and its pose number, the least cost of all
--- stages up to it; and in the end the least cost of all. Assumes nothing.
+-- The case tables of two rows have the costs of the pair theory: for each tall cell, its state in either row and its pose number, the least cost of all
+-- stages up to it; and in the end the least cost of all.
 use mathlib.Core.Path.{_≡_, refl, sym, ap₂, _∙_, subst}
 use mathlib.Core.Bool.{Bool, true, false, cond}
 use Prim.Native.Nat.{ℕ, zero, suc, _+_, min, _≤_, _<_}
 use native.Mathlib.Omega.{arith}
-use Rattle.theory_row.specs.Lists.{from}
-use Rattle.theory_pair.specs.Stretch.{State, least, first, last}
+use Rattle.lists.specs.Lists.{from}
+use Rattle.theory_pair.specs.Segment.{State, least, first, last}
 use Rattle.theory_pair.specs.Pair.{table, ending}
 use Rattle.theory_pair.specs.Coded.{coded, coded-low, lowest, lowest-low}
 use Rattle.theory_pair.specs.Loops.{caseEntry, case-first}
-use Rattle.theory_tables.specs.Steps.{B, pairCount, joinPose, nextCases}
-use Rattle.theory_tables.specs.Stages.{openPrice, stagePrice, caseTable, leastCost}
+use Rattle.theory_tables.specs.Steps.{B, stateCount, joinPose, nextCases}
+use Rattle.theory_tables.specs.Stages.{openCost, stageCost, caseTable, leastCost}
 use Rattle.theory_tables.specs.Lowest.{loop-member, loop-above}
 use Rattle.theory_tables.specs.Spots.{cond-yes, cond-no}
 use Rattle.theory_tables.specs.StagesRight.{Row, tallAs, Stop, stop-tall, stop-end, open-is, stage-is}
@@ -28,7 +28,7 @@ module _ {A : Type 0} (R : ℕ) (siteOf : A → ℕ) (talls : ℕ) (X₀ X₁ : 
 
   -- the table of tall cell I is right
   abbrev pub TableRight : ℕ → Type 0
-  TableRight I = (s t l : ℕ) → s < pairCount R → t < pairCount R → l < X₀ .deck .poses
+  TableRight I = (s t l : ℕ) → s < stateCount R → t < stateCount R → l < X₀ .deck .poses
       → tableOf I s t l ≡ cond (X₀ .offered (X₀ .pos I) l) (entryAt I (tallAs R siteOf talls X₀ I s l) (tallAs R siteOf talls X₁ I t l)) B
 
   -- ---- the first stage
@@ -38,10 +38,10 @@ module _ {A : Type 0} (R : ℕ) (siteOf : A → ℕ) (talls : ℕ) (X₀ X₁ : 
   open-case q₀ q₁ a o t₀ t₁ p₀ p₁ = go o (open-is R siteOf talls X₀ q₀ a o t₀ p₀) (open-is R siteOf talls X₁ q₁ a o t₁ p₁)
     where
       x₀ : ℕ
-      x₀ = openPrice (X₀ .deck) R talls (X₀ .pos) q₀ a
+      x₀ = openCost (X₀ .deck) R talls (X₀ .pos) q₀ a
 
       x₁ : ℕ
-      x₁ = openPrice (X₁ .deck) R talls (X₁ .pos) q₁ a
+      x₁ = openCost (X₁ .deck) R talls (X₁ .pos) q₁ a
 
       go : (o : Bool) → x₀ ≡ cond o (leastIn X₀ (first R siteOf (X₀ .line)) t₀) B → x₁ ≡ cond o (leastIn X₁ (first R siteOf (X₁ .line)) t₁) B → min (x₀ + x₁) B ≡ cond o (entryAt 0 t₀ t₁) B
       go true e₀ e₁ = let e = case-first B R siteOf (X₀ .line) (X₁ .line) (X₀ .pos) (X₁ .pos) (t₀, t₁) in omega arith
@@ -51,17 +51,17 @@ module _ {A : Type 0} (R : ℕ) (siteOf : A → ℕ) (talls : ℕ) (X₀ X₁ : 
 
   module _ (I : ℕ) (h : I < talls) (known : TableRight I) (q₀ q₁ a : ℕ) (o : Bool) (t₀ t₁ : State A)
       (p₀ : Stop R siteOf talls X₀ (suc I) q₀ a o t₀) (p₁ : Stop R siteOf talls X₁ (suc I) q₁ a o t₁) where
-    -- by way of the pairs s and t and pose l
+    -- by way of the states s and t and pose l
     by : ℕ → ℕ → ℕ → ℕ
-    by s t l = tableOf I s t l + (stagePrice (X₀ .deck) R talls (X₀ .pos) I s l q₀ a + stagePrice (X₁ .deck) R talls (X₁ .pos) I t l q₁ a)
+    by s t l = tableOf I s t l + (stageCost (X₀ .deck) R talls (X₀ .pos) I s l q₀ a + stageCost (X₁ .deck) R talls (X₁ .pos) I t l q₁ a)
 
     table-loops : tableOf (suc I) q₀ q₁ a
-        ≡ lowest B (λ s. lowest B (λ t. lowest B (by s t) (from 0 (X₀ .deck .poses))) (from 0 (pairCount R))) (from 0 (pairCount R))
+        ≡ lowest B (λ s. lowest B (λ t. lowest B (by s t) (from 0 (X₀ .deck .poses))) (from 0 (stateCount R))) (from 0 (stateCount R))
     unfolding caseTable nextCases joinPose by
     table-loops = refl
 
     -- what that comes to, if the pose is offered
-    by-is : (s t l : ℕ) → s < pairCount R → t < pairCount R → l < X₀ .deck .poses → X₀ .offered (X₀ .pos I) l ≡ true
+    by-is : (s t l : ℕ) → s < stateCount R → t < stateCount R → l < X₀ .deck .poses → X₀ .offered (X₀ .pos I) l ≡ true
         → by s t l ≡ entryAt I (tallAs R siteOf talls X₀ I s l) (tallAs R siteOf talls X₁ I t l)
         + (cond o (leastIn X₀ (tallAs R siteOf talls X₀ I s l) t₀) B + cond o (leastIn X₁ (tallAs R siteOf talls X₁ I t l) t₁) B)
     unfolding by
@@ -73,27 +73,27 @@ module _ {A : Type 0} (R : ℕ) (siteOf : A → ℕ) (talls : ℕ) (X₀ X₁ : 
 
     -- no less than any bound that holds by way of the offered poses
     by-above : (x : ℕ) → x ≤ B
-        → ((s t l : ℕ) → s < pairCount R → t < pairCount R → l < X₀ .deck .poses → X₀ .offered (X₀ .pos I) l ≡ true → x ≤ by s t l) → x ≤ tableOf (suc I) q₀ q₁ a
+        → ((s t l : ℕ) → s < stateCount R → t < stateCount R → l < X₀ .deck .poses → X₀ .offered (X₀ .pos I) l ≡ true → x ≤ by s t l) → x ≤ tableOf (suc I) q₀ q₁ a
     unfolding by
     by-above x b f =
-        let r = loop-above B (λ s. lowest B (λ t. lowest B (by s t) (from 0 (X₀ .deck .poses))) (from 0 (pairCount R))) (pairCount R) x b (λ s hs.
-        loop-above B (λ t. lowest B (by s t) (from 0 (X₀ .deck .poses))) (pairCount R) x b (λ t ht.
+        let r = loop-above B (λ s. lowest B (λ t. lowest B (by s t) (from 0 (X₀ .deck .poses))) (from 0 (stateCount R))) (stateCount R) x b (λ s hs.
+        loop-above B (λ t. lowest B (by s t) (from 0 (X₀ .deck .poses))) (stateCount R) x b (λ t ht.
         loop-above B (by s t) (X₀ .deck .poses) x b (λ l hl. go s t l hs ht hl (X₀ .offered (X₀ .pos I) l) refl))) in
         omega (arith, table-loops)
       where
-        go : (s t l : ℕ) → s < pairCount R → t < pairCount R → l < X₀ .deck .poses → (u : Bool) → X₀ .offered (X₀ .pos I) l ≡ u → x ≤ by s t l
+        go : (s t l : ℕ) → s < stateCount R → t < stateCount R → l < X₀ .deck .poses → (u : Bool) → X₀ .offered (X₀ .pos I) l ≡ u → x ≤ by s t l
         go s t l hs ht hl true e = f s t l hs ht hl e
         go s t l hs ht hl false e = let k = known s t l hs ht hl ∙ cond-no _ _ e in omega arith
 
-    by-below : (s t l : ℕ) → s < pairCount R → t < pairCount R → l < X₀ .deck .poses → tableOf (suc I) q₀ q₁ a ≤ by s t l
+    by-below : (s t l : ℕ) → s < stateCount R → t < stateCount R → l < X₀ .deck .poses → tableOf (suc I) q₀ q₁ a ≤ by s t l
     by-below s t l hs ht hl =
-        let x = loop-member B (λ s. lowest B (λ t. lowest B (by s t) (from 0 (X₀ .deck .poses))) (from 0 (pairCount R))) (pairCount R) s hs in
-        let y = loop-member B (λ t. lowest B (by s t) (from 0 (X₀ .deck .poses))) (pairCount R) t ht in
+        let x = loop-member B (λ s. lowest B (λ t. lowest B (by s t) (from 0 (X₀ .deck .poses))) (from 0 (stateCount R))) (stateCount R) s hs in
+        let y = loop-member B (λ t. lowest B (by s t) (from 0 (X₀ .deck .poses))) (stateCount R) t ht in
         let z = loop-member B (by s t) (X₀ .deck .poses) l hl in
         omega (arith, table-loops)
 
     table-low : tableOf (suc I) q₀ q₁ a ≤ B
-    table-low = let e = lowest-low B (λ s. lowest B (λ t. lowest B (by s t) (from 0 (X₀ .deck .poses))) (from 0 (pairCount R))) (from 0 (pairCount R)) in omega (arith, table-loops)
+    table-low = let e = lowest-low B (λ s. lowest B (λ t. lowest B (by s t) (from 0 (X₀ .deck .poses))) (from 0 (stateCount R))) (from 0 (stateCount R)) in omega (arith, table-loops)
 
     -- the two sides, if the end of the stage is offered
     next-low : o ≡ true → tableOf (suc I) q₀ q₁ a ≤ entryAt (suc I) t₀ t₁
@@ -130,7 +130,7 @@ module _ {A : Type 0} (R : ℕ) (siteOf : A → ℕ) (talls : ℕ) (X₀ X₁ : 
   -- ---- all stages
 
   -- tall cell I in row 1, as row 0 has it offered
-  stop₁ : (I q a : ℕ) → I < talls → q < pairCount R → a < X₀ .deck .poses → Stop R siteOf talls X₁ I q a (X₀ .offered (X₀ .pos I) a) (tallAs R siteOf talls X₁ I q a)
+  stop₁ : (I q a : ℕ) → I < talls → q < stateCount R → a < X₀ .deck .poses → Stop R siteOf talls X₁ I q a (X₀ .offered (X₀ .pos I) a) (tallAs R siteOf talls X₁ I q a)
   stop₁ I q a h k l =
       let n = same .poses in
       subst (λ o. Stop R siteOf talls X₁ I q a o (tallAs R siteOf talls X₁ I q a)) (sym (same .offered I a h l)) (stop-tall R siteOf talls X₁ I q a h k (omega arith))

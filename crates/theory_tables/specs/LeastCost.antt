@@ -1,10 +1,10 @@
--- For a job: the number that the tables come to is the least cost of a legal placement, as far as it is below the bound. Assumes nothing.
+-- For a job: the number that the tables come to is the least cost of a legal placement, as far as it is below the bound.
 use mathlib.Core.Path.{_≡_, refl, sym, ap, _∙_}
 use mathlib.Core.List.{List·Memᴰ as In}
 use mathlib.Core.Bool.{Bool, true}
 use Prim.Native.Nat.{ℕ, _<_}
 use native.Mathlib.Omega.{arith}
-use Rattle.theory_row.specs.Lists.{from}
+use Rattle.lists.specs.Lists.{from}
 use Rattle.theory_pair.specs.Pick.{pick-in, in-pick}
 use Rattle.theory_pair.specs.Members.{at, at-in, at-place}
 use Rattle.theory_pair.specs.Coded.{coded}

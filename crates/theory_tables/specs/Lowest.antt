@@ -1,12 +1,12 @@
 -- The lowest of a loop by its two laws: it is at most every member's, and a bound of every member's is at most it. With them loops over
--- different lists are compared member by member. The same for a price and its code. Assumes nothing.
+-- different lists are compared member by member. The same for a cost and its code.
 use mathlib.Core.Path.{_≡_, refl, ap}
 use mathlib.Core.List.{List, [], _∷_, List·Memᴰ as In, List·Memᴰ·head as here, List·Memᴰ·tail as there}
 use Prim.Native.Nat.{ℕ, min, _≤_, _<_}
 use native.Mathlib.Omega.{arith}
 use native.Mathlib.Decide.{decLt}
-use Rattle.theory_row.specs.Lists.{from, in-from, from-in}
-use Rattle.theory_pair.specs.Forward.{price}
+use Rattle.lists.specs.Lists.{from, in-from, from-in}
+use Rattle.theory_pair.specs.Forward.{segmentCost}
 use Rattle.theory_pair.specs.Coded.{coded, lowest}
 
 module _ {S : Type 0} (B : ℕ) (h : S → ℕ) where
@@ -39,12 +39,12 @@ module _ (B : ℕ) (h : ℕ → ℕ) (n : ℕ) where
   loop-above x b g = lowest-above B h x (from 0 n) b (λ k m. let l = in-from 0 n m in g k (omega arith))
 
 -- the code of what may be, and of what may not
-pub price-yes : {P : Type 0} (B x : ℕ) (d : Dec P) → P → coded B (price d x) ≡ min x B
-unfolding price coded
-price-yes B x (yes p) h = refl
-price-yes B x (no n) h = absurd (n h)
+pub cost-yes : {P : Type 0} (B x : ℕ) (d : Dec P) → P → coded B (segmentCost d x) ≡ min x B
+unfolding segmentCost coded
+cost-yes B x (yes p) h = refl
+cost-yes B x (no n) h = absurd (n h)
 
-pub price-no : {P : Type 0} (B x : ℕ) (d : Dec P) → ¬ P → coded B (price d x) ≡ B
-unfolding price coded
-price-no B x (yes p) h = absurd (h p)
-price-no B x (no n) h = refl
+pub cost-no : {P : Type 0} (B x : ℕ) (d : Dec P) → ¬ P → coded B (segmentCost d x) ≡ B
+unfolding segmentCost coded
+cost-no B x (yes p) h = absurd (h p)
+cost-no B x (no n) h = refl

@@ -4,9 +4,9 @@ use mathlib.Core.Path.{_≡_}
 use mathlib.Core.Bool.{Bool, true, cond}
 use mathlib.Core.List.{List, map}
 use mathlib.Core.Option.{some}
-use Rattle.theory_row.specs.Lists.{from}
+use Rattle.lists.specs.Lists.{from}
 use Rattle.theory_pair.specs.Pick.{pick}
-use Rattle.theory_pair.specs.Stretch.{Line, FitsTo}
+use Rattle.theory_pair.specs.Segment.{Line, FitsTo}
 use Rattle.theory_tables.specs.Steps.{B, Deck}
 
 -- pose a of the cell at position k is `pose k a`, and is offered if `offered k a`

@@ -1,36 +1,36 @@
--- The notes of a walk back as words; and what was walked stays walked when other notes keep those of the places it passed. Assumes nothing.
+-- The notes of a traceback as words; and what was walked stays walked when other notes keep those of the places it passed.
 use Prim.Native.Nat.{ℕ, zero, suc, _+_, _-_, _*_, _≤_, _<_}
 use mathlib.Core.Path.{_≡_, sym, _∙_}
 use mathlib.Core.Logic.{inl, inr}
 use mathlib.Core.Bool.{Bool}
 use native.Mathlib.Omega.{arith}
 use lib.Dec.{leb}
-use Rattle.theory_row.specs.Lists.{Le?, low, high, le?}
+use Rattle.lists.specs.Lists.{Le?, low, high, le?}
 use Rattle.theory_tables.specs.Steps.{Deck, marks, lastAt, Layer, firstAfter, firstOpen, offset}
 use Rattle.theory_tables.specs.Stages.{placedWith}
-use Rattle.theory_tables.specs.Back.{Source, Walked, EndWalked, StageWalked, StageBack, Traced}
+use Rattle.theory_tables.specs.Back.{Source, SegmentTraced, EndTraced, StageTraced, StageBack, Traced}
 
 -- word i of a path notes the i-th placed cell: its position times 64, and its pose number
 abbrev pub NotedBy : (ℕ → ℕ) → ℕ → ℕ → ℕ → Type 0
 NotedBy w i k a = w i ≡ k * 64 + a
 
--- ---- one stretch: the places i to i + j
+-- ---- one segment: the places i to i + j
 
 module _ (D : Deck) (R : ℕ) (Noted Noted′ : ℕ → ℕ → ℕ → Type 0) (f : Layer) (i : ℕ) where
   source-keep : (j q a r b : ℕ) → Source D R Noted f i j q a r b → Source D R Noted′ f i j q a r b
-  source-keep j q a r b o = record { pair = o .pair; pose = o .pose; source = o .source; sum = o .sum }
+  source-keep j q a r b o = record { state = o .state; pose = o .pose; source = o .source; sum = o .sum }
 
-  pub walked-keep : (j q a : ℕ) → ((e k b : ℕ) → i ≤ e → e ≤ i + j → Noted e k b → Noted′ e k b) → Walked D R Noted f i j q a → Walked D R Noted′ f i j q a
-  walked-keep zero q a g w = g i (lastAt R i q) a (omega arith) (omega arith) w
-  walked-keep (suc j) q a g w = (
+  pub segment-traced-keep : (j q a : ℕ) → ((e k b : ℕ) → i ≤ e → e ≤ i + j → Noted e k b → Noted′ e k b) → SegmentTraced D R Noted f i j q a → SegmentTraced D R Noted′ f i j q a
+  segment-traced-keep zero q a g w = g i (lastAt R i q) a (omega arith) (omega arith) w
+  segment-traced-keep (suc j) q a g w = (
     g (suc (i + j)) (lastAt R (suc (i + j)) q) a (omega arith) (omega arith) (w .0),
     w .1,
     w .2,
     source-keep j q a (w .1) (w .2) (w .3),
-    walked-keep j (w .1) (w .2) (λ e k b l h. g e k b l (omega arith)) (w .4),
+    segment-traced-keep j (w .1) (w .2) (λ e k b l h. g e k b l (omega arith)) (w .4),
   )
 
-  pub end-keep : (x : ℕ) → ((e k b : ℕ) → i ≤ e → e ≤ D .size → Noted e k b → Noted′ e k b) → EndWalked D R Noted f i x → EndWalked D R Noted′ f i x
+  pub end-keep : (x : ℕ) → ((e k b : ℕ) → i ≤ e → e ≤ D .size → Noted e k b → Noted′ e k b) → EndTraced D R Noted f i x → EndTraced D R Noted′ f i x
   end-keep x g (inl e) = inl e
   end-keep x g (inr (r, b, w)) =
       let room = w .room in
@@ -39,12 +39,12 @@ module _ (D : Deck) (R : ℕ) (Noted Noted′ : ℕ → ℕ → ℕ → Type 0) 
         b,
         record {
           room = w .room;
-          pair = w .pair;
+          state = w .state;
           pose = w .pose;
           there = w .there;
           single = w .single;
-          price = w .price;
-          walked = walked-keep (D .size - i) r b (λ e k c l h. g e k c l (omega arith)) (w .walked);
+          segmentCost = w .segmentCost;
+          rowTraced = segment-traced-keep (D .size - i) r b (λ e k c l h. g e k c l (omega arith)) (w .rowTraced);
         },
       )
 
@@ -66,12 +66,12 @@ module _ (D : Deck) (R talls : ℕ) (pos : ℕ → ℕ) where
 
   module _ (Noted Noted′ : ℕ → ℕ → ℕ → Type 0) where
     pub stage-keep : (I : ℕ) (f : Layer) (i x q a : ℕ) → ((e k b : ℕ) → i ≤ e → NotBeyond D R talls pos I q e → Noted e k b → Noted′ e k b)
-        → StageWalked D R talls pos Noted I f i x q a → StageWalked D R talls pos Noted′ I f i x q a
+        → StageTraced D R talls pos Noted I f i x q a → StageTraced D R talls pos Noted′ I f i x q a
     stage-keep I f i x q a g w = record {
       toTall = λ h.
           let r = w .toTall h in
           let x = r .0 in
-          (r .0, walked-keep D R Noted Noted′ f i (pos I + suc R - offset R q - i) q a (λ e k b l u. g e k b l record { toTall = λ z. omega arith; toEnd = λ z. absurd (omega arith) }) (r .1));
+          (r .0, segment-traced-keep D R Noted Noted′ f i (pos I + suc R - offset R q - i) q a (λ e k b l u. g e k b l record { toTall = λ z. omega arith; toEnd = λ z. absurd (omega arith) }) (r .1));
       toEnd = λ h. end-keep D R Noted Noted′ f i x (λ e k b l u. g e k b l record { toTall = λ z. absurd (omega arith); toEnd = λ z. u }) (w .toEnd h);
     }
 
@@ -87,8 +87,8 @@ module _ (D₀ D₁ : Deck) (R talls : ℕ) (pos₀ pos₁ : ℕ → ℕ) (Noted
       let i₀ = placedWith R (pos₀ I) s in
       let i₁ = placedWith R (pos₁ I) t in
       record {
-        pair₀ = w .pair₀;
-        pair₁ = w .pair₁;
+        state₀ = w .state₀;
+        state₁ = w .state₁;
         pose = w .pose;
         sum = w .sum;
         row₀ = stage-keep D₀ R talls pos₀ Noted₀ Noted₀′ (suc I) (firstAfter D₀ R i₀ (marks R s) (pos₀ I) l) (suc i₀) (D₀ .back (pos₀ I) l) q₀ a (λ e k b h. g₀ e k b (omega arith)) (w .row₀);
@@ -118,14 +118,14 @@ module _ (D₀ D₁ : Deck) (R talls : ℕ) (pos₀ pos₁ : ℕ → ℕ) (Noted
 -- ---- the same for words that agree on those places
 
 module _ (D : Deck) (R : ℕ) (w w′ : ℕ → ℕ) (f : Layer) (i : ℕ) where
-  pub walked-words : (j q a : ℕ) → ((e : ℕ) → i ≤ e → e ≤ i + j → w e ≡ w′ e) → Walked D R (NotedBy w) f i j q a → Walked D R (NotedBy w′) f i j q a
-  walked-words j q a g = walked-keep D R (NotedBy w) (NotedBy w′) f i j q a (λ e k b l h x. sym (g e l h) ∙ x)
+  pub segment-traced-words : (j q a : ℕ) → ((e : ℕ) → i ≤ e → e ≤ i + j → w e ≡ w′ e) → SegmentTraced D R (NotedBy w) f i j q a → SegmentTraced D R (NotedBy w′) f i j q a
+  segment-traced-words j q a g = segment-traced-keep D R (NotedBy w) (NotedBy w′) f i j q a (λ e k b l h x. sym (g e l h) ∙ x)
 
-  pub end-words : (x : ℕ) → ((e : ℕ) → i ≤ e → e ≤ D .size → w e ≡ w′ e) → EndWalked D R (NotedBy w) f i x → EndWalked D R (NotedBy w′) f i x
+  pub end-words : (x : ℕ) → ((e : ℕ) → i ≤ e → e ≤ D .size → w e ≡ w′ e) → EndTraced D R (NotedBy w) f i x → EndTraced D R (NotedBy w′) f i x
   end-words x g = end-keep D R (NotedBy w) (NotedBy w′) f i x (λ e k b l h y. sym (g e l h) ∙ y)
 
 pub stage-words : (D : Deck) (R talls : ℕ) (pos : ℕ → ℕ) (w w′ : ℕ → ℕ) (I : ℕ) (f : Layer) (i x q a : ℕ) → ((e : ℕ) → i ≤ e → NotBeyond D R talls pos I q e → w e ≡ w′ e)
-    → StageWalked D R talls pos (NotedBy w) I f i x q a → StageWalked D R talls pos (NotedBy w′) I f i x q a
+    → StageTraced D R talls pos (NotedBy w) I f i x q a → StageTraced D R talls pos (NotedBy w′) I f i x q a
 stage-words D R talls pos w w′ I f i x q a g = stage-keep D R talls pos (NotedBy w) (NotedBy w′) I f i x q a (λ e k b l h y. sym (g e l h) ∙ y)
 
 module _ (D₀ D₁ : Deck) (R talls : ℕ) (pos₀ pos₁ : ℕ → ℕ) (w₀ w₁ w₀′ w₁′ : ℕ → ℕ) where

@@ -1,11 +1,11 @@
--- The search as tables of numbers: what a program computes, by positions, pose numbers and pairs (place of the last cell in the window, marks).
+-- The search as tables of numbers: what a program computes, by positions, pose numbers and states (place of the last cell in the window, marks).
 -- A number below B is a cost; B says that there is no way. Matched.antt says which row of the pair theory a deck stands for.
 use Prim.Native.Nat.{ℕ, zero, suc, _+_, _-_, _*_, _^_, min}
 use mathlib.Core.Bool.{Bool, not, _&&_, _||_, cond}
 use mathlib.Core.List.{List, [], _∷_, map}
 use lib.ListN.{length, getD}
 use lib.Dec.{leb, ltb, eqb}
-use Rattle.theory_row.specs.Lists.{from}
+use Rattle.lists.specs.Lists.{from}
 use Rattle.theory_row.specs.Marks.{bit}
 use Rattle.theory_row.specs.Window.{start}
 use Rattle.theory_pair.specs.Forward.{each}
@@ -29,18 +29,18 @@ pub record Deck : Type 0 where
   pub front : ℕ → ℕ → ℕ
   pub back : ℕ → ℕ → ℕ
 
--- ---- pairs
+-- ---- states
 
 -- the cell placed last can be the one at digit d of the marks: its digit is set, and it is the top one if that is set
 abbrev pub mayBeLast : ℕ → ℕ → ℕ → Bool
 mayBeLast R m d = eqb (bit m d) 1 && (eqb (bit m (2 * R)) 0 || eqb d (2 * R))
 
--- all pairs of a digit and marks after a cell is placed
+-- all states of a digit and marks after a cell is placed
 unfoldable pub pairsOf : ℕ → List (ℕ × ℕ)
 pairsOf R = each (goodMarks R) λ m. map (λ d. (d, m)) (pick (mayBeLast R m) (from 0 (suc (2 * R))))
 
-abbrev pub pairCount : ℕ → ℕ
-pairCount R = length (pairsOf R)
+abbrev pub stateCount : ℕ → ℕ
+stateCount R = length (pairsOf R)
 
 abbrev pub offset : ℕ → ℕ → ℕ
 offset R q = getD (pairsOf R) q (0, 0) .0
@@ -55,36 +55,36 @@ marksBefore d m = 2 * (m - 2 ^ d) + 1
 abbrev pub before : ℕ → ℕ → ℕ
 before R q = marksBefore (offset R q) (marks R q)
 
--- with i cells placed, the last of them that of pair q: its position, and whether the row has it
+-- with i cells placed, the last of them that of state q: its position, and whether the row has it
 abbrev pub lastAt : ℕ → ℕ → ℕ → ℕ
 lastAt R i q = i + offset R q - suc R
 
 abbrev pub isThere : Deck → ℕ → ℕ → ℕ → Bool
 isThere D R i q = leb (suc R) (i + offset R q) && ltb (lastAt R i q) (D .size)
 
--- ---- layers: for each pair and pose number, the least cost of i cells
+-- ---- layers: for each state and pose number, the least cost of i cells
 
 abbrev pub Layer : Type 0
 Layer = ℕ → ℕ → ℕ
 
 module _ (D : Deck) (R : ℕ) where
-  -- pair q of the layer with i cells is a source of pair q′ of the next: the row has its cell, which is single, and the marks fit
+  -- state q of the layer with i cells is a source of state q′ of the next: the row has its cell, which is single, and the marks fit
   abbrev pub isSource : ℕ → ℕ → ℕ → Bool
   isSource i q′ q = isThere D R i q && (not (D .tall (lastAt R i q)) && eqb (marks R q) (before R q′))
 
-  -- by way of pair q, to position k in pose a
+  -- by way of state q, to position k in pose a
   unfoldable pub via : Layer → ℕ → ℕ → ℕ → ℕ → ℕ
   via f i q k a = lowest B (λ b. f q b + D .toll (lastAt R i q) b k a) (from 0 (D .poses))
 
   -- by way of any source
   unfoldable pub reached : Layer → ℕ → Layer
-  reached f i q′ a = lowest B (λ q. cond (isSource i q′ q) (via f i q (lastAt R (suc i) q′) a) B) (from 0 (pairCount R))
+  reached f i q′ a = lowest B (λ q. cond (isSource i q′ q) (via f i q (lastAt R (suc i) q′) a) B) (from 0 (stateCount R))
 
   -- the layer with one cell more than f, which has i
   unfoldable pub nextLayer : Layer → ℕ → Layer
   nextLayer f i q a = cond (isThere D R (suc i) q) (min (D .own (lastAt R (suc i) q) a + reached f i q a) B) B
 
-  -- the first layer of a stretch: one cell after the cell at position p in pose l, which is the last of i placed, with marks m
+  -- the first layer of a segment: one cell after the cell at position p in pose l, which is the last of i placed, with marks m
   unfoldable pub firstAfter : ℕ → ℕ → ℕ → ℕ → Layer
   firstAfter i m p l q a =
       cond (isThere D R (suc i) q && eqb m (before R q)) (min (D .own (lastAt R (suc i) q) a + D .toll p l (lastAt R (suc i) q) a) B) B
@@ -98,33 +98,33 @@ module _ (D : Deck) (R : ℕ) where
   layers f i zero = f
   layers f i (suc j) = nextLayer (layers f i j) (i + j)
 
-  -- the price of a stretch, whose first layer f has i cells, to the tall cell at position p as pair q in pose a
-  unfoldable pub priceTo : Layer → ℕ → ℕ → Layer
-  priceTo f i p q a = cond (leb (i + offset R q) (p + suc R)) (layers f i (p + suc R - offset R q - i) q a) B
+  -- the cost of a segment, whose first layer f has i cells, to the tall cell at position p as state q in pose a
+  unfoldable pub costTo : Layer → ℕ → ℕ → Layer
+  costTo f i p q a = cond (leb (i + offset R q) (p + suc R)) (layers f i (p + suc R - offset R q - i) q a) B
 
   -- the least of a layer with all cells placed, the last of them single, and what that one pays as the last
   unfoldable pub ends : Layer → ℕ
   ends f =
       lowest B (λ q. cond (isThere D R (D .size) q && not (D .tall (lastAt R (D .size) q)))
-      (lowest B (λ a. f q a + D .back (lastAt R (D .size) q) a) (from 0 (D .poses))) B) (from 0 (pairCount R))
+      (lowest B (λ a. f q a + D .back (lastAt R (D .size) q) a) (from 0 (D .poses))) B) (from 0 (stateCount R))
 
-  -- the price of a stretch to the row's end; e if the stretch starts there
-  unfoldable pub priceEnd : Layer → ℕ → ℕ → ℕ
-  priceEnd f i e = cond (leb i (D .size)) (ends (layers f i (D .size - i))) (cond (eqb i (suc (D .size))) e B)
+  -- the cost of a segment to the row's end; e if the segment starts there
+  unfoldable pub costEnd : Layer → ℕ → ℕ → ℕ
+  costEnd f i e = cond (leb i (D .size)) (ends (layers f i (D .size - i))) (cond (eqb i (suc (D .size))) e B)
 
--- ---- cases: for each pair in row 0, pair in row 1 and pose number of a tall cell, the least cost up to it
+-- ---- cases: for each state in row 0, state in row 1 and pose number of a tall cell, the least cost up to it
 
 abbrev pub Cases : Type 0
 Cases = ℕ → ℕ → ℕ → ℕ
 
--- the prices of a stage in one row: start pair, start pose, pair and pose at the end
-abbrev pub Prices : Type 0
-Prices = ℕ → ℕ → ℕ → ℕ → ℕ
+-- the costs of a stage in one row: start state, start pose, state and pose at the end
+abbrev pub SegmentCosts : Type 0
+SegmentCosts = ℕ → ℕ → ℕ → ℕ → ℕ
 
--- by way of the pairs s and t and any pose
-unfoldable pub joinPose : ℕ → Cases → Prices → Prices → ℕ → ℕ → ℕ → ℕ → ℕ → ℕ
+-- by way of the states s and t and any pose
+unfoldable pub joinPose : ℕ → Cases → SegmentCosts → SegmentCosts → ℕ → ℕ → ℕ → ℕ → ℕ → ℕ
 joinPose poses f x₀ x₁ s t q₀ q₁ a = lowest B (λ l. f s t l + (x₀ s l q₀ a + x₁ t l q₁ a)) (from 0 poses)
 
-unfoldable pub nextCases : ℕ → ℕ → Cases → Prices → Prices → Cases
+unfoldable pub nextCases : ℕ → ℕ → Cases → SegmentCosts → SegmentCosts → Cases
 nextCases count poses f x₀ x₁ q₀ q₁ a =
     lowest B (λ s. lowest B (λ t. joinPose poses f x₀ x₁ s t q₀ q₁ a) (from 0 count)) (from 0 count)

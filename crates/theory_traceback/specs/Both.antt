@@ -1,5 +1,5 @@
--- Two rows, stage by stage: what the walk back left of the stages is a path in each row, the tall cells in the same poses in both and noted by the same
--- numbers, and the two paths cost what the case table says. Assumes nothing.
+-- Two rows, stage by stage: what the traceback left of the stages is a path in each row, the tall cells in the same poses in both and noted by the same
+-- numbers, and the two paths cost what the case table says.
 use mathlib.Core.Path.{_≡_, refl, sym, ap, _∙_, subst}
 use mathlib.Core.List.{List, [], _∷_, _++_}
 use Prim.Native.Nat.{ℕ, zero, suc, _+_, _≤_, _<_}
@@ -9,7 +9,7 @@ use lib.ListN.{length, length-append}
 use Rattle.theory_pair.specs.Whole.{picks}
 use Rattle.theory_pair.specs.Pair.{picks-snoc}
 use Rattle.theory_tables.specs.Steps.{B}
-use Rattle.theory_tables.specs.Stages.{placedWith, openPrice, stagePrice, caseTable}
+use Rattle.theory_tables.specs.Stages.{placedWith, openCost, stageCost, caseTable}
 use Rattle.theory_tables.specs.Back.{Traced}
 use Rattle.theory_traceback.specs.Noted.{NotedUpto}
 use Rattle.theory_traceback.specs.Rows.{Row, Within, Stood, RowTo, row-begin, row-on}
@@ -74,14 +74,14 @@ module _ {A : Type 0} (R : ℕ) (siteOf : A → ℕ) (talls : ℕ) (W₀ W₁ : 
   abbrev table : ℕ → ℕ → ℕ → ℕ → ℕ
   table I q₀ q₁ a = caseTable (W₀ .deck) (W₁ .deck) R talls (W₀ .pos) (W₁ .pos) I q₀ q₁ a
 
-  abbrev Walks : ℕ → ℕ → ℕ → ℕ → Type 0
-  Walks I q₀ q₁ a = Traced (W₀ .deck) (W₁ .deck) R talls (W₀ .pos) (W₁ .pos) Noted₀ Noted₁ I q₀ q₁ a
+  abbrev Traces : ℕ → ℕ → ℕ → ℕ → Type 0
+  Traces I q₀ q₁ a = Traced (W₀ .deck) (W₁ .deck) R talls (W₀ .pos) (W₁ .pos) Noted₀ Noted₁ I q₀ q₁ a
 
-  pub both-to : Twins W₀ W₁ → (I q₀ q₁ a : ℕ) → I ≤ talls → Within R siteOf talls W₀ I q₀ a → Within R siteOf talls W₁ I q₁ a → table I q₀ q₁ a < B → Walks I q₀ q₁ a
+  pub both-to : Twins W₀ W₁ → (I q₀ q₁ a : ℕ) → I ≤ talls → Within R siteOf talls W₀ I q₀ a → Within R siteOf talls W₁ I q₁ a → table I q₀ q₁ a < B → Traces I q₀ q₁ a
       → BothTo I q₀ q₁ a (table I q₀ q₁ a)
   unfolding caseTable picks
   both-to T zero q₀ q₁ a h g₀ g₁ u w =
-      let e : table 0 q₀ q₁ a ≡ openPrice (W₀ .deck) R talls (W₀ .pos) q₀ a + openPrice (W₁ .deck) R talls (W₁ .pos) q₁ a = omega arith in
+      let e : table 0 q₀ q₁ a ≡ openCost (W₀ .deck) R talls (W₀ .pos) q₀ a + openCost (W₁ .deck) R talls (W₁ .pos) q₁ a = omega arith in
       let f₀ = row-begin R siteOf talls W₀ Noted₀ q₀ a g₀ (omega arith) (w .0) in
       let f₁ = row-begin R siteOf talls W₁ Noted₁ q₁ a g₁ (omega arith) (w .1) in
       record {
@@ -89,8 +89,8 @@ module _ {A : Type 0} (R : ℕ) (siteOf : A → ℕ) (talls : ℕ) (W₀ W₁ : 
         size = refl;
         n₀ = f₀ .0;
         n₁ = f₁ .0;
-        x₀ = openPrice (W₀ .deck) R talls (W₀ .pos) q₀ a;
-        x₁ = openPrice (W₁ .deck) R talls (W₁ .pos) q₁ a;
+        x₀ = openCost (W₀ .deck) R talls (W₀ .pos) q₀ a;
+        x₁ = openCost (W₁ .deck) R talls (W₁ .pos) q₁ a;
         first = f₀ .1;
         second = f₁ .1;
         tall = λ K z. absurd {A = TallNoted K (f₀ .0) (f₁ .0)} (omega arith);
@@ -104,14 +104,14 @@ module _ {A : Type 0} (R : ℕ) (siteOf : A → ℕ) (talls : ℕ) (W₀ W₁ : 
       let e₀ = k .sum in
       let l₀ = k .pose in
       let l₁ : l < W₁ .deck .poses = omega (arith, T .poses) in
-      let r = both-to T I s t l (omega arith) (λ b. (k .pair₀, l₀)) (λ b. (k .pair₁, l₁)) (omega arith) (w .4) in
-      let f₀ = row-on R siteOf talls W₀ Noted₀ I s l q₀ a (picks (W₀ .pos) 0 (r .ps)) (r .n₀) (r .x₀) h (k .pair₀) l₀ g₀ (r .first) (omega arith) (k .row₀) in
-      let f₁ = row-on R siteOf talls W₁ Noted₁ I t l q₁ a (picks (W₁ .pos) 0 (r .ps)) (r .n₁) (r .x₁) h (k .pair₁) l₁ g₁ (r .second) (omega arith) (k .row₁) in
+      let r = both-to T I s t l (omega arith) (λ b. (k .state₀, l₀)) (λ b. (k .state₁, l₁)) (omega arith) (w .4) in
+      let f₀ = row-on R siteOf talls W₀ Noted₀ I s l q₀ a (picks (W₀ .pos) 0 (r .ps)) (r .n₀) (r .x₀) h (k .state₀) l₀ g₀ (r .first) (omega arith) (k .row₀) in
+      let f₁ = row-on R siteOf talls W₁ Noted₁ I t l q₁ a (picks (W₁ .pos) 0 (r .ps)) (r .n₁) (r .x₁) h (k .state₁) l₁ g₁ (r .second) (omega arith) (k .row₁) in
       let p = W₀ .pose (W₀ .pos I) l in
       let n₀ = suc (r .n₀) + f₀ .1 in
       let n₁ = suc (r .n₁) + f₁ .1 in
-      let x₀ = r .x₀ + stagePrice (W₀ .deck) R talls (W₀ .pos) I s l q₀ a in
-      let x₁ = r .x₁ + stagePrice (W₁ .deck) R talls (W₁ .pos) I t l q₁ a in
+      let x₀ = r .x₀ + stageCost (W₀ .deck) R talls (W₀ .pos) I s l q₀ a in
+      let x₁ = r .x₁ + stageCost (W₁ .deck) R talls (W₁ .pos) I t l q₁ a in
       let e₁ = r .sum in
       let e₂ = r .size in
       let e₃ = length-append (r .ps) (p ∷ []) in

@@ -1,4 +1,4 @@
--- A path with what was noted of each of its choices, place by place. Assumes nothing.
+-- A path with what was noted of each of its choices, place by place.
 use mathlib.Core.Path.{_≡_, refl, sym, ap, subst}
 use mathlib.Core.Logic.{_≢_}
 use mathlib.Core.List.{List, [], _∷_, _++_, List·Memᴰ as In, List·Memᴰ·head as here, List·Memᴰ·tail as there, Memᴰ·cast}
@@ -6,9 +6,9 @@ use Prim.Native.Nat.{ℕ, suc, _+_, _≤_, _<_}
 use native.Mathlib.Omega.{arith}
 use native.Mathlib.Decide.{ℕ-discrete}
 use lib.ListN.{length}
-use Rattle.theory_row.specs.Lists.{Distinct}
+use Rattle.lists.specs.Lists.{Distinct}
 use Rattle.theory_row.specs.Choices.{cells}
-use Rattle.theory_pair.specs.Stretch.{Choice}
+use Rattle.theory_pair.specs.Segment.{Choice}
 
 -- choice c was noted at place i, by the number of its pose
 pub record NotedAs {A : Type 0} (Noted : ℕ → ℕ → ℕ → Type 0) (poses : ℕ) (pose : ℕ → ℕ → A) (i : ℕ) (c : Choice A) : Type 0 where

@@ -1,5 +1,5 @@
--- What the words of both rows' paths say, if the walk back noted by them: each place holds another position of its row, a tall cell has one pose number,
--- and the placement by these numbers is legal and costs the least cost that the tables have. Assumes nothing.
+-- What the words of both rows' paths say, if the traceback noted by them: each place holds another position of its row, a tall cell has one pose number,
+-- and the placement by these numbers is legal and costs the least cost that the tables have.
 use mathlib.Core.Path.{_≡_, refl, sym, ap, ap₂, _∙_, subst}
 use mathlib.Core.List.{List, [], _∷_, List·Memᴰ as In}
 use mathlib.Core.Bool.{Bool, true, cond}
@@ -7,10 +7,10 @@ use Prim.Native.Nat.{ℕ, suc, _+_, _/_, _%_, _≤_, _<_}
 use native.Mathlib.Omega.{arith}
 use lib.ListN.{length}
 use borrow.Author.Tests.{le-ltb}
-use Rattle.theory_row.specs.Lists.{from}
+use Rattle.lists.specs.Lists.{from}
 use Rattle.theory_row.specs.Order.{place}
 use Rattle.theory_pair.specs.Pick.{pick-in}
-use Rattle.theory_pair.specs.Stretch.{Choice, first, last, after, after-size}
+use Rattle.theory_pair.specs.Segment.{Choice, first, last, after, after-size}
 use Rattle.theory_pair.specs.Whole.{picks}
 use Rattle.theory_pair.specs.Members.{at, at-in}
 use Rattle.theory_pair.specs.Cells.{Side, row₀, row₁, Kind, one, both, Job, inRow, isTall, members, tallCells, line, pos, tallCount, cell, cell-pos, line-talls, LegalPair, total}
@@ -58,8 +58,8 @@ pub record Searched {A : Type 0} (siteOf : A → ℕ) (J : Job A) (poseOf : ℕ 
   pub matched : Matched siteOf (line J s) D (λ p a. poseOf (cell J s p) a) (λ p a. offerOf (cell J s p) a)
   pub stands : (I : ℕ) → I < tallCount J → tallAt I ≡ pos J s I
 
--- a search of both rows whose walk back noted by the words w₀ and w₁
-pub record WalkedBack {A : Type 0} (R : ℕ) (siteOf : A → ℕ) (J : Job A) (poseOf : ℕ → ℕ → A) (offerOf : ℕ → ℕ → Bool) (D₀ D₁ : Deck) (tallAt₀ tallAt₁ w₀ w₁ : ℕ → ℕ) : Type 0 where
+-- a search of both rows whose traceback noted by the words w₀ and w₁
+pub record TracedBack {A : Type 0} (R : ℕ) (siteOf : A → ℕ) (J : Job A) (poseOf : ℕ → ℕ → A) (offerOf : ℕ → ℕ → Bool) (D₀ D₁ : Deck) (tallAt₀ tallAt₁ w₀ w₁ : ℕ → ℕ) : Type 0 where
   pub first : Searched siteOf J poseOf offerOf row₀ D₀ tallAt₀
   pub second : Searched siteOf J poseOf offerOf row₁ D₁ tallAt₁
   pub poses : D₀ .poses ≡ D₁ .poses
@@ -123,7 +123,7 @@ module _ {A : Type 0} (R : ℕ) (siteOf : A → ℕ) (J : Job A) (poseOf : ℕ �
 
   -- ---- both rows
 
-  module _ (D₀ D₁ : Deck) (tallAt₀ tallAt₁ w₀ w₁ : ℕ → ℕ) (W : WalkedBack R siteOf J poseOf offerOf D₀ D₁ tallAt₀ tallAt₁ w₀ w₁) where
+  module _ (D₀ D₁ : Deck) (tallAt₀ tallAt₁ w₀ w₁ : ℕ → ℕ) (W : TracedBack R siteOf J poseOf offerOf D₀ D₁ tallAt₀ tallAt₁ w₀ w₁) where
     abbrev least : ℕ
     least = leastCost D₀ D₁ R (tallCount J) tallAt₀ tallAt₁
 

@@ -1,4 +1,4 @@
--- The words of one row's path, if its choices were noted by them: each place holds another position of the row and a pose number. Assumes nothing.
+-- The words of one row's path, if its choices were noted by them: each place holds another position of the row and a pose number.
 use mathlib.Core.Path.{_≡_, sym, ap, _∙_}
 use mathlib.Core.Logic.{_≢_}
 use mathlib.Core.List.{List, [], _∷_}
@@ -8,7 +8,7 @@ use native.Mathlib.Decide.{decLt}
 use lib.ListN.{length}
 use Rattle.theory_row.specs.Window.{Run, Arranged, run-arranged}
 use Rattle.theory_row.specs.Choices.{cells, cells-size}
-use Rattle.theory_pair.specs.Stretch.{Line, Choice, State, Goes, next, first}
+use Rattle.theory_pair.specs.Segment.{Line, Choice, State, Goes, next, first}
 use Rattle.theory_pair.specs.Trace.{Obeys}
 use Rattle.theory_tables.specs.Notes.{NotedBy}
 use Rattle.theory_traceback.specs.Noted.{NotedAs, NotedUpto, NotedPath, in-cells, cells-in, noted-choice, noted-place, noted-apart}

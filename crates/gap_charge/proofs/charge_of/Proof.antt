@@ -1,4 +1,4 @@
--- The code's table is the definition's, read at the same place. Assumes nothing.
+-- The code's table is the definition's, read at the same place.
 use borrow.Author.Needs.{needs}
 use Rattle.gap_charge.proofs.charge_of.Statement.{statement}
 use Rattle.gap_charge.proofs.charge_of.Tie as tie

@@ -1,4 +1,4 @@
--- First the cells, then the positions of those that are tall; 24 words are enough for these. Assumes nothing.
+-- First the cells, then the positions of those that are tall; 24 words are enough for these.
 use Rattle.search_row_fill.specs.TallWords.{talls-few}
 use native.Mathlib.Omega.{arith}
 use borrow.Author.Needs.{needs}

@@ -1,4 +1,4 @@
--- A cost of NONE: no list of moves ends legally. A lower one can be traced. Assumes nothing.
+-- A cost of NONE: no list of moves ends legally. A lower one can be traced.
 use Rattle.search.specs.Answer.{zeros-small, traceable, none-solved, some-solved}
 use mathlib.Core.Path.{refl}
 use native.Mathlib.Omega.{arith}

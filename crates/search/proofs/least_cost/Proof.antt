@@ -1,4 +1,4 @@
--- The stages leave the least cost as the one case of the last table. Assumes nothing.
+-- The stages leave the least cost as the one case of the last table.
 use Prim.Native.Nat.{_+_}
 use Rattle.search_stage.specs.Laws.{given-first}
 use Rattle.search.specs.Answer.{costed}

@@ -1,4 +1,4 @@
--- The trace notes both rows' paths; what it noted is what each scatter is given, and both scatters together are the answer. Assumes nothing.
+-- The trace notes both rows' paths; what it noted is what each scatter is given, and both scatters together are the answer.
 use Rattle.search.specs.Answer.{may-trace, was-traced, first-given, second-given, answered}
 use native.Mathlib.Omega.{arith}
 use Rattle.job.specs.Value.{headerOf, jobOf}

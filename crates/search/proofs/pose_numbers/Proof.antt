@@ -1,4 +1,4 @@
--- The pose numbers of the job, by its displacement. Assumes nothing.
+-- The pose numbers of the job, by its displacement.
 use mathlib.Core.Path.{refl}
 use Rattle.job.specs.Value.{headerOf, jobOf}
 use borrow.Author.Needs.{needs}

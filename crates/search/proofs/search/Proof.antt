@@ -1,4 +1,4 @@
--- The rows are ready once the pairs and both rows are filled; the words that they need are cleared, and lent again. Assumes nothing.
+-- The rows are ready once the states and both rows are filled; the words that they need are cleared, and lent again.
 use Prim.Native.Nat.{ℕ, _≤_}
 use mathlib.Core.Path.{sym}
 use mathlib.Core.List.{List}
@@ -24,17 +24,17 @@ has-words : (c : tie.After-store-words) → words c ≤ length (lent c)
 unfolding jobOf headerOf
 has-words c =
     let k = c .before .before .before .before .before .before .before .before .before .before .before .before .before .before .before .before .pre in
-    omega (arith, c .store-words .ensures, words-lent (c .before .before .before .before .before .before .before .before .fill-row .result .talls) (k .sound .header .reordering) (c .before .before .before .before .before .before .before .before .before .before .before .before .fill-pairs .ensures), k .long)
+    omega (arith, c .store-words .ensures, words-lent (c .before .before .before .before .before .before .before .before .fill-row .result .talls) (k .sound .header .reordering) (c .before .before .before .before .before .before .before .before .before .before .before .before .fill-states .ensures), k .long)
 
-slice-aggregate-fill-pairs : tie.Need-slice-aggregate-fill-pairs
-slice-aggregate-fill-pairs c = search needs
+slice-aggregate-fill-states : tie.Need-slice-aggregate-fill-states
+slice-aggregate-fill-states c = search needs
 
-cast-fill-pairs : tie.Need-cast-fill-pairs
-cast-fill-pairs c = search needs
+cast-fill-states : tie.Need-cast-fill-states
+cast-fill-states c = search needs
 
-fill-pairs-requires : tie.Need-fill-pairs-requires
+fill-states-requires : tie.Need-fill-states-requires
 unfolding jobOf headerOf
-fill-pairs-requires c κs =
+fill-states-requires c κs =
     (omega arith, omega (arith, c .before .before .before .pre .sound .header .reordering))
 
 slice-aggregate-fill-row : tie.Need-slice-aggregate-fill-row
@@ -62,8 +62,8 @@ fill-row-requires-2 c κs =
 store-words-requires : tie.Need-store-words-requires
 store-words-requires c κs =
     let talls = c .before .before .before .before .before .before .before .fill-row .result .talls in
-    let pairs = c .before .before .before .before .before .before .before .before .before .before .before .fill-pairs in
-    wide-low talls talls (pairs .result) 12 (omega arith) (omega (arith, pairs .ensures .all, pairs .ensures .coded .few))
+    let states = c .before .before .before .before .before .before .before .before .before .before .before .fill-states in
+    wide-low talls talls (states .result) 12 (omega arith) (omega (arith, states .ensures .all, states .ensures .coded .few))
 
 slice-relend-prefix-clear : tie.Need-slice-relend-prefix-clear
 slice-relend-prefix-clear c = has-words c
@@ -107,7 +107,7 @@ find-requires c κs =
     let w = c .before .before .before .before .before .before .before .before .before .before in
     let e = c .before .before .before .before .before .before .before .before .clear .ensures in
     let r = w .before .before .before in
-    (ready (w .before .before .before .before .before .before .before .before .before .before .before .before .before .before .before .before .pre .sound) (w .before .before .before .before .before .before .before .before .before .before .before .before .fill-pairs .ensures) (w .before .before .before .before .before .before .before .before .fill-row .ensures) (r .fill-row2 .ensures), omega (arith, w .store-words .ensures, again-long (words w) (lent w) (has-words w) e), again-low (words w) (lent w) (has-words w) e)
+    (ready (w .before .before .before .before .before .before .before .before .before .before .before .before .before .before .before .before .pre .sound) (w .before .before .before .before .before .before .before .before .before .before .before .before .fill-states .ensures) (w .before .before .before .before .before .before .before .before .fill-row .ensures) (r .fill-row2 .ensures), omega (arith, w .store-words .ensures, again-long (words w) (lent w) (has-words w) e), again-low (words w) (lent w) (has-words w) e)
 
 same-length : tie.Need-same-length
 same-length c = search needs
@@ -119,9 +119,9 @@ pub search-spec : {M : Type 1} → statement M
 search-spec =
     tie.close
     (tie.spec
-    slice-aggregate-fill-pairs
-    cast-fill-pairs
-    fill-pairs-requires
+    slice-aggregate-fill-states
+    cast-fill-states
+    fill-states-requires
     slice-aggregate-fill-row
     slice-aggregate-fill-row-2
     fill-row-requires

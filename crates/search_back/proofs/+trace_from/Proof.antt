@@ -8,7 +8,7 @@ use borrow.Fn.PlainCycle.{Measures, is, falls, and}
 use Rattle.search_back.proofs.trace_from.Reads as trace-from
 use Rattle.search_back.proofs.trace_from.Kinds as trace-from-kinds
 use Rattle.search_back.proofs.+trace_from.Lts-trace_from as trace-from-lts
-use Rattle.search_back.proofs.both_walk.Reads as both-walk-reads
+use Rattle.search_back.proofs.both_trace.Reads as both-trace-reads
 use Rattle.search_back.proofs.source.Reads as source-reads
 use Rattle.search_back.proofs.+trace_from.{statement}
 use Rattle.search_back.proofs.+trace_from.Tie.{close}
@@ -26,69 +26,69 @@ trace-from-below t =
     and 8 trace-from-kinds.ps (falls 8 trace-from-kinds.ps _<_ μ-trace-from t) trace-from.Pre
 
 -- src/lib.rt:106:9
-trace-from-both-walk-requires : (t : ℕ) → trace-from-lts.Need-both-walk-requires (
-  both-walk-reads.Asked,
-  both-walk-reads.Learnt,
+trace-from-both-trace-requires : (t : ℕ) → trace-from-lts.Need-both-trace-requires (
+  both-trace-reads.Asked,
+  both-trace-reads.Learnt,
   source-reads.Asked,
   source-reads.Learnt,
   trace-from-below t,
   trace-from.Post,
 ) (trace-from-at t) trace-from.Post
-trace-from-both-walk-requires t c κs =
+trace-from-both-trace-requires t c κs =
     open-leg (c .before .before .before .before .before .before .before .before .before .before .before .before .pre .1) (c .before .before .before .if1 .taken)
 
 -- src/lib.rt:129:9
 trace-from-same-length : (t : ℕ) → trace-from-lts.Need-same-length (
-  both-walk-reads.Asked,
-  both-walk-reads.Learnt,
+  both-trace-reads.Asked,
+  both-trace-reads.Learnt,
   source-reads.Asked,
   source-reads.Learnt,
   trace-from-below t,
   trace-from.Post,
 ) (trace-from-at t) trace-from.Post
 trace-from-same-length t c =
-    c .before .before .before .before .before .before .both-walk .kept .0
+    c .before .before .before .before .before .before .both-trace .kept .0
 
 -- src/lib.rt:129:9
 trace-from-same-length-2 : (t : ℕ) → trace-from-lts.Need-same-length-2 (
-  both-walk-reads.Asked,
-  both-walk-reads.Learnt,
+  both-trace-reads.Asked,
+  both-trace-reads.Learnt,
   source-reads.Asked,
   source-reads.Learnt,
   trace-from-below t,
   trace-from.Post,
 ) (trace-from-at t) trace-from.Post
 trace-from-same-length-2 t c =
-    c .before .before .before .before .before .before .both-walk .kept .1 .0
+    c .before .before .before .before .before .before .both-trace .kept .1 .0
 
 -- src/lib.rt:129:9
 trace-from-same-length-3 : (t : ℕ) → trace-from-lts.Need-same-length-3 (
-  both-walk-reads.Asked,
-  both-walk-reads.Learnt,
+  both-trace-reads.Asked,
+  both-trace-reads.Learnt,
   source-reads.Asked,
   source-reads.Learnt,
   trace-from-below t,
   trace-from.Post,
 ) (trace-from-at t) trace-from.Post
 trace-from-same-length-3 t c =
-    c .before .before .before .before .before .before .both-walk .kept .1 .1 .0
+    c .before .before .before .before .before .before .both-trace .kept .1 .1 .0
 
 -- src/lib.rt:129:9
 trace-from-returns : (t : ℕ) → trace-from-lts.Need-returns (
-  both-walk-reads.Asked,
-  both-walk-reads.Learnt,
+  both-trace-reads.Asked,
+  both-trace-reads.Learnt,
   source-reads.Asked,
   source-reads.Learnt,
   trace-from-below t,
   trace-from.Post,
 ) (trace-from-at t) trace-from.Post
 trace-from-returns t c =
-    open-done (c .before .before .before .before .before .before .before .before .before .before .if1 .taken) (c .before .before .before .before .before .before .both-walk .ensures)
+    open-done (c .before .before .before .before .before .before .before .before .before .before .if1 .taken) (c .before .before .before .before .before .before .both-trace .ensures)
 
 -- src/lib.rt:131:9
 trace-from-source-requires : (t : ℕ) → trace-from-lts.Need-source-requires (
-  both-walk-reads.Asked,
-  both-walk-reads.Learnt,
+  both-trace-reads.Asked,
+  both-trace-reads.Learnt,
   source-reads.Asked,
   source-reads.Learnt,
   trace-from-below t,
@@ -99,8 +99,8 @@ trace-from-source-requires t c κs =
 
 -- src/lib.rt:136:9
 trace-from-same-length-4 : (t : ℕ) → trace-from-lts.Need-same-length-4 (
-  both-walk-reads.Asked,
-  both-walk-reads.Learnt,
+  both-trace-reads.Asked,
+  both-trace-reads.Learnt,
   source-reads.Asked,
   source-reads.Learnt,
   trace-from-below t,
@@ -111,8 +111,8 @@ trace-from-same-length-4 t c =
 
 -- src/lib.rt:136:9
 trace-from-returns-2 : (t : ℕ) → trace-from-lts.Need-returns-2 (
-  both-walk-reads.Asked,
-  both-walk-reads.Learnt,
+  both-trace-reads.Asked,
+  both-trace-reads.Learnt,
   source-reads.Asked,
   source-reads.Learnt,
   trace-from-below t,
@@ -123,8 +123,8 @@ trace-from-returns-2 t c =
 
 -- src/lib.rt:139:9
 trace-from-same-length-5 : (t : ℕ) → trace-from-lts.Need-same-length-5 (
-  both-walk-reads.Asked,
-  both-walk-reads.Learnt,
+  both-trace-reads.Asked,
+  both-trace-reads.Learnt,
   source-reads.Asked,
   source-reads.Learnt,
   trace-from-below t,
@@ -135,8 +135,8 @@ trace-from-same-length-5 t c =
 
 -- src/lib.rt:139:9
 trace-from-returns-3 : (t : ℕ) → trace-from-lts.Need-returns-3 (
-  both-walk-reads.Asked,
-  both-walk-reads.Learnt,
+  both-trace-reads.Asked,
+  both-trace-reads.Learnt,
   source-reads.Asked,
   source-reads.Learnt,
   trace-from-below t,
@@ -147,8 +147,8 @@ trace-from-returns-3 t c =
 
 -- src/lib.rt:142:9
 trace-from-same-length-6 : (t : ℕ) → trace-from-lts.Need-same-length-6 (
-  both-walk-reads.Asked,
-  both-walk-reads.Learnt,
+  both-trace-reads.Asked,
+  both-trace-reads.Learnt,
   source-reads.Asked,
   source-reads.Learnt,
   trace-from-below t,
@@ -159,8 +159,8 @@ trace-from-same-length-6 t c =
 
 -- src/lib.rt:142:9
 trace-from-returns-4 : (t : ℕ) → trace-from-lts.Need-returns-4 (
-  both-walk-reads.Asked,
-  both-walk-reads.Learnt,
+  both-trace-reads.Asked,
+  both-trace-reads.Learnt,
   source-reads.Asked,
   source-reads.Learnt,
   trace-from-below t,
@@ -170,21 +170,21 @@ trace-from-returns-4 t c =
     stray-done (c .before .before .before .before .before .before .before .before .before .before .before .before .before .before .pre .1) (c .before .before .before .before .before .before .before .before .before .before .before .before .before .before .args .i - 1) (c .before .before .before .source .result) (omega arith) (c .before .before .before .source .ensures) (λ x y z. omega (arith, c .if4 .taken))
 
 -- src/lib.rt:144:5
-trace-from-both-walk-requires-2 : (t : ℕ) → trace-from-lts.Need-both-walk-requires-2 (
-  both-walk-reads.Asked,
-  both-walk-reads.Learnt,
+trace-from-both-trace-requires-2 : (t : ℕ) → trace-from-lts.Need-both-trace-requires-2 (
+  both-trace-reads.Asked,
+  both-trace-reads.Learnt,
   source-reads.Asked,
   source-reads.Learnt,
   trace-from-below t,
   trace-from.Post,
 ) (trace-from-at t) trace-from.Post
-trace-from-both-walk-requires-2 t c κs =
+trace-from-both-trace-requires-2 t c κs =
     back-leg (c .before .before .before .before .before .before .before .before .before .before .before .before .before .before .before .before .before .pre .1) (c .before .before .before .before .before .before .before .before .before .before .before .before .before .before .before .before .before .args .i - 1) (c .before .before .before .before .before .before .source .result) (omega arith) (c .before .before .before .before .before .before .source .ensures) (omega (arith, c .before .before .before .before .before .if2 .left)) (omega (arith, c .before .before .before .before .if3 .left)) (omega (arith, c .before .before .before .if4 .left))
 
 -- src/lib.rt:182:9
 trace-from-sub-trace-from : (t : ℕ) → trace-from-lts.Need-sub-trace-from (
-  both-walk-reads.Asked,
-  both-walk-reads.Learnt,
+  both-trace-reads.Asked,
+  both-trace-reads.Learnt,
   source-reads.Asked,
   source-reads.Learnt,
   trace-from-below t,
@@ -195,68 +195,68 @@ trace-from-sub-trace-from t c =
 
 -- src/lib.rt:167:5
 trace-from-trace-from-requires : (t : ℕ) → trace-from-lts.Need-trace-from-requires (
-  both-walk-reads.Asked,
-  both-walk-reads.Learnt,
+  both-trace-reads.Asked,
+  both-trace-reads.Learnt,
   source-reads.Asked,
   source-reads.Learnt,
   trace-from-below t,
   trace-from.Post,
 ) (trace-from-at t) trace-from.Post
 trace-from-trace-from-requires t c κs =
-    (omega arith, back-rest (c .before .before .before .before .before .before .before .before .before .before .before .before .before .before .before .before .before .before .before .before .before .before .before .before .before .before .before .pre .1) (c .before .before .before .before .before .before .before .before .before .before .before .before .before .before .before .before .before .before .before .before .before .before .before .before .before .before .before .args .i - 1) (c .before .before .before .before .before .before .before .before .before .before .before .before .before .before .before .before .source .result) (omega arith) (c .before .before .before .before .before .before .before .before .before .before .before .before .before .before .before .before .source .ensures) (omega (arith, c .before .before .before .before .before .before .before .before .before .before .before .before .before .before .before .if2 .left)) (omega (arith, c .before .before .before .before .before .before .before .before .before .before .before .before .before .before .if3 .left)) (omega (arith, c .before .before .before .before .before .before .before .before .before .before .before .before .before .if4 .left)) (c .before .before .before .before .before .before .before .before .before .both-walk2 .ensures))
+    (omega arith, back-rest (c .before .before .before .before .before .before .before .before .before .before .before .before .before .before .before .before .before .before .before .before .before .before .before .before .before .before .before .pre .1) (c .before .before .before .before .before .before .before .before .before .before .before .before .before .before .before .before .before .before .before .before .before .before .before .before .before .before .before .args .i - 1) (c .before .before .before .before .before .before .before .before .before .before .before .before .before .before .before .before .source .result) (omega arith) (c .before .before .before .before .before .before .before .before .before .before .before .before .before .before .before .before .source .ensures) (omega (arith, c .before .before .before .before .before .before .before .before .before .before .before .before .before .before .before .if2 .left)) (omega (arith, c .before .before .before .before .before .before .before .before .before .before .before .before .before .before .if3 .left)) (omega (arith, c .before .before .before .before .before .before .before .before .before .before .before .before .before .if4 .left)) (c .before .before .before .before .before .before .before .before .before .both-trace2 .ensures))
 
 -- src/lib.rt:82:1
 trace-from-same-length-7 : (t : ℕ) → trace-from-lts.Need-same-length-7 (
-  both-walk-reads.Asked,
-  both-walk-reads.Learnt,
+  both-trace-reads.Asked,
+  both-trace-reads.Learnt,
   source-reads.Asked,
   source-reads.Learnt,
   trace-from-below t,
   trace-from.Post,
 ) (trace-from-at t) trace-from.Post
 trace-from-same-length-7 t c =
-    c .before .before .before .before .before .before .trace-from .kept .0 ∙ c .before .before .before .before .before .before .before .before .before .before .before .before .before .before .before .before .both-walk2 .kept .0
+    c .before .before .before .before .before .before .trace-from .kept .0 ∙ c .before .before .before .before .before .before .before .before .before .before .before .before .before .before .before .before .both-trace2 .kept .0
 
 -- src/lib.rt:82:1
 trace-from-same-length-8 : (t : ℕ) → trace-from-lts.Need-same-length-8 (
-  both-walk-reads.Asked,
-  both-walk-reads.Learnt,
+  both-trace-reads.Asked,
+  both-trace-reads.Learnt,
   source-reads.Asked,
   source-reads.Learnt,
   trace-from-below t,
   trace-from.Post,
 ) (trace-from-at t) trace-from.Post
 trace-from-same-length-8 t c =
-    c .before .before .before .before .before .before .trace-from .kept .1 .0 ∙ c .before .before .before .before .before .before .before .before .before .before .before .before .before .before .before .before .both-walk2 .kept .1 .0
+    c .before .before .before .before .before .before .trace-from .kept .1 .0 ∙ c .before .before .before .before .before .before .before .before .before .before .before .before .before .before .before .before .both-trace2 .kept .1 .0
 
 -- src/lib.rt:82:1
 trace-from-same-length-9 : (t : ℕ) → trace-from-lts.Need-same-length-9 (
-  both-walk-reads.Asked,
-  both-walk-reads.Learnt,
+  both-trace-reads.Asked,
+  both-trace-reads.Learnt,
   source-reads.Asked,
   source-reads.Learnt,
   trace-from-below t,
   trace-from.Post,
 ) (trace-from-at t) trace-from.Post
 trace-from-same-length-9 t c =
-    c .before .before .before .before .before .before .trace-from .kept .1 .1 .0 ∙ c .before .before .before .before .before .before .before .before .before .before .before .before .before .before .before .before .both-walk2 .kept .1 .1 .0
+    c .before .before .before .before .before .before .trace-from .kept .1 .1 .0 ∙ c .before .before .before .before .before .before .before .before .before .before .before .before .before .before .before .before .both-trace2 .kept .1 .1 .0
 
 -- src/lib.rt:82:1
 trace-from-returns-5 : (t : ℕ) → trace-from-lts.Need-returns-5 (
-  both-walk-reads.Asked,
-  both-walk-reads.Learnt,
+  both-trace-reads.Asked,
+  both-trace-reads.Learnt,
   source-reads.Asked,
   source-reads.Learnt,
   trace-from-below t,
   trace-from.Post,
 ) (trace-from-at t) trace-from.Post
 trace-from-returns-5 t c =
-    back-done (c .before .before .before .before .before .before .before .before .before .before .before .before .before .before .before .before .before .before .before .before .before .before .before .before .before .before .before .before .before .before .before .before .before .before .pre .1) (c .before .before .before .before .before .before .before .before .before .before .before .before .before .before .before .before .before .before .before .before .before .before .before .before .before .before .before .before .before .before .before .before .before .before .args .i - 1) (c .before .before .before .before .before .before .before .before .before .before .before .before .before .before .before .before .before .before .before .before .before .before .before .source .result) (omega (arith, c .before .before .before .before .before .before .before .before .before .before .before .before .before .before .before .before .before .before .before .before .before .before .before .before .before .if1 .left)) (c .before .before .before .before .before .before .before .before .before .before .before .before .before .before .before .before .before .before .before .before .before .before .before .source .ensures) (omega (arith, c .before .before .before .before .before .before .before .before .before .before .before .before .before .before .before .before .before .before .before .before .before .before .if2 .left)) (omega (arith, c .before .before .before .before .before .before .before .before .before .before .before .before .before .before .before .before .before .before .before .before .before .if3 .left)) (omega (arith, c .before .before .before .before .before .before .before .before .before .before .before .before .before .before .before .before .before .before .before .before .if4 .left)) (c .before .before .before .before .before .before .before .before .before .before .before .before .before .before .before .before .both-walk2 .ensures) (c .before .before .before .before .before .before .trace-from .ensures)
+    back-done (c .before .before .before .before .before .before .before .before .before .before .before .before .before .before .before .before .before .before .before .before .before .before .before .before .before .before .before .before .before .before .before .before .before .before .pre .1) (c .before .before .before .before .before .before .before .before .before .before .before .before .before .before .before .before .before .before .before .before .before .before .before .before .before .before .before .before .before .before .before .before .before .before .args .i - 1) (c .before .before .before .before .before .before .before .before .before .before .before .before .before .before .before .before .before .before .before .before .before .before .before .source .result) (omega (arith, c .before .before .before .before .before .before .before .before .before .before .before .before .before .before .before .before .before .before .before .before .before .before .before .before .before .if1 .left)) (c .before .before .before .before .before .before .before .before .before .before .before .before .before .before .before .before .before .before .before .before .before .before .before .source .ensures) (omega (arith, c .before .before .before .before .before .before .before .before .before .before .before .before .before .before .before .before .before .before .before .before .before .before .if2 .left)) (omega (arith, c .before .before .before .before .before .before .before .before .before .before .before .before .before .before .before .before .before .before .before .before .before .if3 .left)) (omega (arith, c .before .before .before .before .before .before .before .before .before .before .before .before .before .before .before .before .before .before .before .before .if4 .left)) (c .before .before .before .before .before .before .before .before .before .before .before .before .before .before .before .before .both-trace2 .ensures) (c .before .before .before .before .before .before .trace-from .ensures)
 
 pub +trace-from-spec : {M : Type 1} → statement M
 +trace-from-spec = close μ-trace-from λ t. trace-from-lts.spec (
-  both-walk-reads.Asked,
-  both-walk-reads.Learnt,
+  both-trace-reads.Asked,
+  both-trace-reads.Learnt,
   source-reads.Asked,
   source-reads.Learnt,
   trace-from-below t,
@@ -264,7 +264,7 @@ pub +trace-from-spec : {M : Type 1} → statement M
 )
     (trace-from-at t)
     trace-from.Post
-    (trace-from-both-walk-requires t)
+    (trace-from-both-trace-requires t)
     (trace-from-same-length t)
     (trace-from-same-length-2 t)
     (trace-from-same-length-3 t)
@@ -276,7 +276,7 @@ pub +trace-from-spec : {M : Type 1} → statement M
     (trace-from-returns-3 t)
     (trace-from-same-length-6 t)
     (trace-from-returns-4 t)
-    (trace-from-both-walk-requires-2 t)
+    (trace-from-both-trace-requires-2 t)
     (trace-from-sub-trace-from t)
     (trace-from-trace-from-requires t)
     (trace-from-same-length-7 t)

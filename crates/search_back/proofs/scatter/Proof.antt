@@ -1,4 +1,4 @@
--- After i turns the places below i have their pose numbers. Assumes nothing.
+-- After i turns the places below i have their pose numbers.
 use Prim.Native.Nat.{_+_, _-_, _/_, _≤_, _<_}
 use mathlib.Core.Path.{refl}
 use native.Mathlib.Omega.{arith}

@@ -1,4 +1,4 @@
--- An entry below B is its own cost and what it was reached by: the rest is what a source must have. Assumes nothing.
+-- An entry below B is its own cost and what it was reached by: the rest is what a source must have.
 use Prim.Native.Nat.{ℕ, suc, _+_, _*_, _-_, _<_}
 use mathlib.Core.Path.{_≡_, sym, ap, _∙_}
 use native.Mathlib.Omega.{arith}
@@ -94,7 +94,7 @@ find-source-requires : tie.Need-find-source-requires
 find-source-requires c κs =
     let k = c .before .before .before .before .before .before .before in
     let p = parts c in
-    (k .pre .back, k .pre .last, k .pre .pair, inside (c .before .before .before) .0, k .pre .pose, omega (arith, k .pre .cost), omega arith)
+    (k .pre .back, k .pre .last, k .pre .state, inside (c .before .before .before) .0, k .pre .pose, omega (arith, k .pre .cost), omega arith)
 
 returns : tie.Need-returns
 returns c =

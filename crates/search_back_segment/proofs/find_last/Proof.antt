@@ -1,21 +1,21 @@
--- The least word so far, and where it is. Assumes nothing.
+-- The least word so far, and where it is.
 use Prim.Native.Nat.{ℕ, _*_, _-_, _≤_}
 use mathlib.Core.Path.{_≡_, subst}
 use mathlib.Core.Logic.{⊎-elim}
 use native.Mathlib.Omega.{arith}
 use Rattle.search_row.specs.Words.{deckOf}
 use Rattle.search_dense_layer.specs.Kept.{keptIn}
-use Rattle.search_back_segment.specs.Walks.{LeastOf, lastCode}
+use Rattle.search_back_segment.specs.Traces.{LeastOf, lastCode}
 use Rattle.search_back_segment.specs.Lasts.{least-none, least-lower, least-keep}
 use Rattle.search_back_segment.proofs.find_last.Statement.{statement}
 use Rattle.search_back_segment.proofs.find_last.Tie as tie
 
 abbrev Inv-loop : tie.InvT-loop
-Inv-loop store line pairs n poses r count best₀ code₀ c₀ best code c =
+Inv-loop store line states n poses r count best₀ code₀ c₀ best code c =
     (c ≤ count * 64) × LeastOf (lastCode (deckOf line n poses) r (keptIn store n)) c best code
 
 abbrev μ-loop : tie.MeasureT-loop
-μ-loop store line pairs n poses r count best₀ code₀ c₀ best code c =
+μ-loop store line states n poses r count best₀ code₀ c₀ best code c =
     count * 64 - c
 
 loop-holds : tie.Need-loop-holds Inv-loop μ-loop

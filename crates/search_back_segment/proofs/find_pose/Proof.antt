@@ -1,11 +1,11 @@
--- No pose passed has the cost wanted. Assumes nothing.
+-- No pose passed has the cost wanted.
 use Prim.Native.Nat.{ℕ, _+_, _-_, _≤_, _<_}
 use mathlib.Core.Path.{_≡_}
 use native.Mathlib.Omega.{arith}
 use borrow.Author.Count.{below-more}
 use borrow.Author.Needs.{needs}
 use Rattle.search_row.specs.Laws.{toll-low}
-use Rattle.search_back_segment.specs.Walks.{fromPose}
+use Rattle.search_back_segment.specs.Traces.{fromPose}
 use Rattle.search_back_segment.proofs.find_pose.Statement.{statement}
 use Rattle.search_back_segment.proofs.find_pose.Tie as tie
 

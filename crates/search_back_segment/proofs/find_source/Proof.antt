@@ -1,4 +1,4 @@
--- No pair passed has a pose that fits; if none had, the tables would say otherwise. Assumes nothing.
+-- No state passed has a pose that fits; if none had, the tables would say otherwise.
 use Prim.Native.Nat.{ℕ, _+_, _*_, _/_, _%_, _-_, _≤_, _<_}
 use mathlib.Core.Path.{_≡_}
 use native.Mathlib.Omega.{arith}
@@ -6,24 +6,24 @@ use borrow.Author.Count.{below-more}
 use borrow.Author.Needs.{needs}
 use Rattle.search_row.specs.Words.{deckOf}
 use Rattle.search_dense_layer.specs.Kept.{keptIn}
-use Rattle.search_back_segment.specs.Sources.{Misses, reached-missed, pair-fits}
+use Rattle.search_back_segment.specs.Sources.{Misses, reached-missed, state-fits}
 use Rattle.search_back_segment.proofs.find_source.Statement.{statement}
 use Rattle.search_back_segment.proofs.find_source.Tie as tie
 
 abbrev Inv-loop : tie.InvT-loop
-Inv-loop store line pairs n poses r count i q a want p₀ p =
+Inv-loop store line states n poses r count i q a want p₀ p =
     (p ≤ count) × ((j : ℕ) → j < p → Misses (deckOf line n poses) r (keptIn store i) i q a want j)
 
 abbrev μ-loop : tie.MeasureT-loop
-μ-loop store line pairs n poses r count i q a want p₀ p =
+μ-loop store line states n poses r count i q a want p₀ p =
     count - p
 
 loop-holds : tie.Need-loop-holds Inv-loop μ-loop
 loop-holds c =
     (omega arith, λ j h. absurd (omega arith))
 
-pair-pose-requires : tie.Need-pair-pose-requires Inv-loop μ-loop
-pair-pose-requires c κs =
+state-pose-requires : tie.Need-state-pose-requires Inv-loop μ-loop
+state-pose-requires c κs =
     let p = c .before .before .before .before .before .pre in
     (p .0, p .1, p .2, p .3, p .4, omega (arith, p .0 .ground .all), p .5)
 
@@ -42,13 +42,13 @@ returns c =
     let k = c .before .before .before .before .before .before .before in
     let a = k .args in
     let p = c .before .before .before .loop .p in
-    let b = c .before .pair-pose .result in
+    let b = c .before .state-pose .result in
     let l = k .pre .0 .ground .few in
     let x : (p * 64 + b) / 64 ≡ p = omega arith in
     let y : (p * 64 + b) % 64 ≡ b = omega arith in
     rw (x, y)
-    (pair-fits (deckOf (a .line .now) (a .n) (a .poses)) (a .r) (keptIn (a .store .now) (a .i)) (a .i) (a .q) (a .a) (a .want) p b
-    (omega (arith, k .pre .0 .ground .all)) (omega arith) (k .pre .5) (c .before .pair-pose .ensures .hit (omega arith)))
+    (state-fits (deckOf (a .line .now) (a .n) (a .poses)) (a .r) (keptIn (a .store .now) (a .i)) (a .i) (a .q) (a .a) (a .want) p b
+    (omega (arith, k .pre .0 .ground .all)) (omega arith) (k .pre .5) (c .before .state-pose .ensures .hit (omega arith)))
 
 add-p : tie.Need-add-p Inv-loop μ-loop
 add-p c = search needs
@@ -59,7 +59,7 @@ loop-less c = search needs
 loop-again : tie.Need-loop-again Inv-loop μ-loop
 loop-again c =
     let l = c .before .before .before .loop in
-    (omega arith, below-more _ _ (l .inv .1) (λ b h. c .before .pair-pose .ensures .miss b (omega arith)))
+    (omega arith, below-more _ _ (l .inv .1) (λ b h. c .before .state-pose .ensures .miss b (omega arith)))
 
 returns-2 : tie.Need-returns-2 Inv-loop μ-loop
 returns-2 c =
@@ -76,7 +76,7 @@ find-source-spec =
     Inv-loop
     μ-loop
     loop-holds
-    pair-pose-requires
+    state-pose-requires
     mul-result
     add-result
     returns

@@ -1,4 +1,4 @@
--- A position is small, so its word fits. Assumes nothing.
+-- A position is small, so its word fits.
 use Prim.Native.Nat.{ℕ, _+_, _*_}
 use mathlib.Core.Path.{ap}
 use native.Mathlib.Omega.{arith}

@@ -1,4 +1,4 @@
--- The row's start has one cell in its first layer; the tall cell before has those placed with it, and one more. Assumes nothing.
+-- The row's start has one cell in its first layer; the tall cell before has those placed with it, and one more.
 use Prim.Native.Nat.{_+_, _-_}
 use mathlib.Core.Path.{_≡_, sym, _∙_}
 use native.Mathlib.Omega.{arith}

@@ -1,4 +1,4 @@
--- The row's start, or the tall cell before: the first layer, kept. Assumes nothing.
+-- The row's start, or the tall cell before: the first layer, kept.
 use Prim.Native.Nat.{_+_, _-_, _≤_}
 use native.Mathlib.Omega.{arith}
 use borrow.Author.Needs.{needs}
@@ -51,7 +51,7 @@ unfolding posIn
 placed-with-requires c κs =
     let k = c .before .before .before .before .before .before in
     let g = k .pre .0 in
-    (g .row .ground .coded, g .pair (omega arith), omega (arith, c .word .ensures, g .row .inside (k .args .stage - 1) (omega (arith, g .stage)), g .row .ground .size))
+    (g .row .ground .coded, g .state (omega arith), omega (arith, c .word .ensures, g .row .inside (k .args .stage - 1) (omega (arith, g .stage)), g .row .ground .size))
 
 add-kept-at : tie.Need-add-kept-at
 add-kept-at c = let r = room c in search needs
@@ -70,7 +70,7 @@ after-requires c κs =
       g .low,
       omega (arith, c .before .kept-at2 .ensures, g .long),
       omega arith,
-      omega (arith, g .pair (omega arith), g .row .ground .all),
+      omega (arith, g .state (omega arith), g .row .ground .all),
       omega (arith, c .before .before .before .word .ensures, g .row .ground .size),
       omega (arith, g .pose (omega arith), g .row .ground .few),
     )

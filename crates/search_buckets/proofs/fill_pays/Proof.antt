@@ -1,4 +1,4 @@
--- Each turn writes the planes of one variant more. Assumes nothing.
+-- Each turn writes the buckets of one variant more.
 use Prim.Native.Nat.{_+_, _*_, _-_, _≤_}
 use mathlib.Core.Path.{_≡_}
 use native.Mathlib.Omega.{arith}
@@ -9,17 +9,17 @@ use Rattle.search_buckets.proofs.fill_pays.Statement.{statement}
 use Rattle.search_buckets.proofs.fill_pays.Tie as tie
 
 abbrev Inv-loop : tie.InvT-loop
-Inv-loop pays₀ line k m planes u₀ pays u =
-    (u ≤ 4) × Pays line k m planes (u * 9) pays
+Inv-loop pays₀ line k m buckets u₀ pays u =
+    (u ≤ 4) × Pays line k m buckets (u * 9) pays
 
 abbrev μ-loop : tie.MeasureT-loop
-μ-loop pays₀ line k m planes u₀ pays u =
+μ-loop pays₀ line k m buckets u₀ pays u =
     4 - u
 
 loop-holds : tie.Need-loop-holds Inv-loop μ-loop
 loop-holds c =
     let a = c .before .args in
-    (omega arith, pays-none (a .line .now) (a .k) (a .m) (a .planes) (omega arith))
+    (omega arith, pays-none (a .line .now) (a .k) (a .m) (a .buckets) (omega arith))
 
 pay-row-requires : tie.Need-pay-row-requires Inv-loop μ-loop
 pay-row-requires c κs = search needs

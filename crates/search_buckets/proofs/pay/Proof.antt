@@ -1,4 +1,4 @@
--- Plane 0 is free; in the others a weight times the heights that differ, by variants. Assumes nothing.
+-- Plane 0 is free; in the others a weight times the heights that differ, by variants.
 use Prim.Native.Nat.{ℕ, _*_, _-_, _≤_}
 use mathlib.Core.Path.{_≡_, sym, ap, _∙_}
 use native.Mathlib.Omega.{arith}

@@ -1,4 +1,4 @@
--- Each turn writes one plane more. Assumes nothing.
+-- Each turn writes one bucket more.
 use Prim.Native.Nat.{_+_, _*_, _-_, _≤_}
 use mathlib.Core.Path.{_≡_}
 use native.Mathlib.Omega.{arith}
@@ -9,12 +9,12 @@ use Rattle.search_buckets.proofs.pay_row.Statement.{statement}
 use Rattle.search_buckets.proofs.pay_row.Tie as tie
 
 abbrev Inv-loop : tie.InvT-loop
-Inv-loop pays₀ line k u m planes v₀ pays v =
-    (v ≤ planes) × Pays line k m planes (u * 9 + v) pays
+Inv-loop pays₀ line k u m buckets v₀ pays v =
+    (v ≤ buckets) × Pays line k m buckets (u * 9 + v) pays
 
 abbrev μ-loop : tie.MeasureT-loop
-μ-loop pays₀ line k u m planes v₀ pays v =
-    planes - v
+μ-loop pays₀ line k u m buckets v₀ pays v =
+    buckets - v
 
 loop-holds : tie.Need-loop-holds Inv-loop μ-loop
 loop-holds c =
@@ -51,7 +51,7 @@ loop-again c =
 returns : tie.Need-returns Inv-loop μ-loop
 returns c =
     let a = c .before .before .before .args in
-    let e : c .before .loop .v ≡ a .planes = omega arith in
+    let e : c .before .loop .v ≡ a .buckets = omega arith in
     pays-row (a .u) (rw e at (c .before .loop .inv .1)) (omega arith)
 
 pub pay-row-spec : {M : Type 1} → statement M

@@ -1,4 +1,4 @@
--- Each turn writes one pair more. Assumes nothing.
+-- Each turn writes one state more.
 use Prim.Native.Nat.{_-_, _≤_}
 use mathlib.Core.Path.{_≡_}
 use native.Mathlib.Omega.{arith}
@@ -10,11 +10,11 @@ use Rattle.search_dense_first.proofs.after.Statement.{statement}
 use Rattle.search_dense_first.proofs.after.Tie as tie
 
 abbrev Inv-loop : tie.InvT-loop
-Inv-loop store₀ line pairs n poses r count i s p l to m q₀ store q =
+Inv-loop store₀ line states n poses r count i s p l to m q₀ store q =
     (q ≤ count) × (m ≡ marks r s) × Begun (firstAfter (deckOf line n poses) r i m p l) poses q to store₀ store
 
 abbrev μ-loop : tie.MeasureT-loop
-μ-loop store₀ line pairs n poses r count i s p l to m q₀ store q =
+μ-loop store₀ line states n poses r count i s p l to m q₀ store q =
     count - q
 
 mul-m : tie.Need-mul-m Inv-loop μ-loop
@@ -35,16 +35,16 @@ loop-holds c =
     let g = k .pre .0 in
     (omega arith, omega (arith, g .coded .mark (k .args .s) (omega (arith, g .all))), begun-none _ _ _ (k .pre .1))
 
-mul-after-pair : tie.Need-mul-after-pair Inv-loop μ-loop
-mul-after-pair c = search needs
+mul-after-state : tie.Need-mul-after-state Inv-loop μ-loop
+mul-after-state c = search needs
 
-add-after-pair : tie.Need-add-after-pair Inv-loop μ-loop
-add-after-pair c =
+add-after-state : tie.Need-add-after-state Inv-loop μ-loop
+add-after-state c =
     let g = c .before .before .before .before .before .before .before .pre .0 in
     omega (arith, g .all, g .coded .few)
 
-after-pair-requires : tie.Need-after-pair-requires Inv-loop μ-loop
-after-pair-requires c κs =
+after-state-requires : tie.Need-after-state-requires Inv-loop μ-loop
+after-state-requires c κs =
     let k = c .before .before .before .before .before .before .before in
     let g = k .pre .0 in
     let s = c .before .before .loop .inv .2 in
@@ -60,7 +60,7 @@ loop-again : tie.Need-loop-again Inv-loop μ-loop
 loop-again c =
     let g = c .before .before .before .before .before .before .before .before .before .before .pre .0 in
     let l = c .before .before .before .before .before .loop in
-    (omega arith, l .inv .1, begun-more (l .q) (omega (arith, g .few)) (omega (arith, g .all, g .coded .few)) (l .inv .2) (c .before .before .after-pair .ensures))
+    (omega arith, l .inv .1, begun-more (l .q) (omega (arith, g .few)) (omega (arith, g .all, g .coded .few)) (l .inv .2) (c .before .before .after-state .ensures))
 
 same-length : tie.Need-same-length Inv-loop μ-loop
 same-length c = c .before .loop .inv .2 .frame .long
@@ -82,9 +82,9 @@ after-spec =
     mul-m-2
     shared-slice-read-m
     loop-holds
-    mul-after-pair
-    add-after-pair
-    after-pair-requires
+    mul-after-state
+    add-after-state
+    after-state-requires
     add-q
     loop-less
     loop-again

@@ -1,4 +1,4 @@
--- Each turn writes one pair more. Assumes nothing.
+-- Each turn writes one state more.
 use Prim.Native.Nat.{_-_, _≤_}
 use mathlib.Core.Path.{_≡_}
 use native.Mathlib.Omega.{arith}
@@ -10,26 +10,26 @@ use Rattle.search_dense_first.proofs.open.Statement.{statement}
 use Rattle.search_dense_first.proofs.open.Tie as tie
 
 abbrev Inv-loop : tie.InvT-loop
-Inv-loop store₀ line pairs n poses r count to q₀ store q =
+Inv-loop store₀ line states n poses r count to q₀ store q =
     (q ≤ count) × Begun (firstOpen (deckOf line n poses) r) poses q to store₀ store
 
 abbrev μ-loop : tie.MeasureT-loop
-μ-loop store₀ line pairs n poses r count to q₀ store q =
+μ-loop store₀ line states n poses r count to q₀ store q =
     count - q
 
 loop-holds : tie.Need-loop-holds Inv-loop μ-loop
 loop-holds c = (omega arith, begun-none _ _ _ (c .before .before .before .pre .1))
 
-mul-open-pair : tie.Need-mul-open-pair Inv-loop μ-loop
-mul-open-pair c = search needs
+mul-open-state : tie.Need-mul-open-state Inv-loop μ-loop
+mul-open-state c = search needs
 
-add-open-pair : tie.Need-add-open-pair Inv-loop μ-loop
-add-open-pair c =
+add-open-state : tie.Need-add-open-state Inv-loop μ-loop
+add-open-state c =
     let g = c .before .before .before .before .before .before .pre .0 in
     omega (arith, g .all, g .coded .few)
 
-open-pair-requires : tie.Need-open-pair-requires Inv-loop μ-loop
-open-pair-requires c κs =
+open-state-requires : tie.Need-open-state-requires Inv-loop μ-loop
+open-state-requires c κs =
     let k = c .before .before .before .before .before .before in
     let g = k .pre .0 in
     let s = c .before .before .loop .inv .1 in
@@ -45,7 +45,7 @@ loop-again : tie.Need-loop-again Inv-loop μ-loop
 loop-again c =
     let g = c .before .before .before .before .before .before .before .before .before .pre .0 in
     let l = c .before .before .before .before .before .loop in
-    (omega arith, begun-more (l .q) (omega (arith, g .few)) (omega (arith, g .all, g .coded .few)) (l .inv .1) (c .before .before .open-pair .ensures))
+    (omega arith, begun-more (l .q) (omega (arith, g .few)) (omega (arith, g .all, g .coded .few)) (l .inv .1) (c .before .before .open-state .ensures))
 
 same-length : tie.Need-same-length Inv-loop μ-loop
 same-length c = c .before .loop .inv .1 .frame .long
@@ -62,9 +62,9 @@ open-spec =
     Inv-loop
     μ-loop
     loop-holds
-    mul-open-pair
-    add-open-pair
-    open-pair-requires
+    mul-open-state
+    add-open-state
+    open-state-requires
     add-q
     loop-less
     loop-again

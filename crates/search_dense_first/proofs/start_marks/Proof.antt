@@ -1,4 +1,4 @@
--- 1, 3 and 7 are the starts for 0, 1 and 2. Assumes nothing.
+-- 1, 3 and 7 are the starts for 0, 1 and 2.
 use mathlib.Core.Path.{_≡_, sym, ap}
 use native.Mathlib.Omega.{arith}
 use Rattle.theory_row.specs.Window.{start}

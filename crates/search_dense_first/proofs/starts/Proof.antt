@@ -1,4 +1,4 @@
--- The pair's third word is the marks before. Assumes nothing.
+-- The state's third word is the marks before.
 use mathlib.Core.Path.{sym, ap, _∙_}
 use lib.Dec.{eqb}
 use borrow.Author.Needs.{needs}

@@ -1,4 +1,4 @@
--- The least of the words of gaps 0, 2 and 3 and of the row that ran up. Assumes nothing.
+-- The least of the words of gaps 0, 2 and 3 and of the row that ran up.
 use Prim.Native.Nat.{_+_, _*_}
 use native.Mathlib.Omega.{arith}
 use borrow.Author.Needs.{needs}

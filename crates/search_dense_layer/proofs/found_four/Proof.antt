@@ -1,4 +1,4 @@
--- Each turn finds one pose more. Assumes nothing.
+-- Each turn finds one pose more.
 use Prim.Native.Nat.{ℕ, _+_, _*_, _-_, _≤_, _<_, min}
 use mathlib.Core.Path.{_≡_, ap, _∙_}
 use native.Mathlib.Omega.{arith}

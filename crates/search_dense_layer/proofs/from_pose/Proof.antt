@@ -1,4 +1,4 @@
--- A source that is NONE, or that ends right of all rows, lowers nothing; another one is spread over the planes. Assumes nothing.
+-- A source that is NONE, or that ends right of all rows, lowers nothing; another one is spread over the buckets.
 use Prim.Native.Nat.{_+_, _%_}
 use native.Mathlib.Omega.{arith}
 use lib.ListN.{getD}
@@ -23,7 +23,7 @@ returns : tie.Need-returns
 returns c =
     let k = c .before .before .before .before in
     let a = k .args in
-    gathered-none (a .planes) (k .pre .0)
+    gathered-none (a .buckets) (k .pre .0)
     (λ v s h. omega (arith, row-above (endRow (a .line .now) (a .k) (a .b) (a .m)) s (getD (a .store .now) (a .at + a .b) 0 + payIn (a .line .now) (a .k) (a .b) (a .m) v)))
 
 end-row-requires : tie.Need-end-row-requires
@@ -33,7 +33,7 @@ returns-2 : tie.Need-returns-2
 returns-2 c =
     let k = c .before .before .before .before .before .before in
     let a = k .args in
-    gathered-none (a .planes) (k .pre .0)
+    gathered-none (a .buckets) (k .pre .0)
     (λ v s h.
     omega (arith, row-miss (endRow (a .line .now) (a .k) (a .b) (a .m)) s (getD (a .store .now) (a .at + a .b) 0 + payIn (a .line .now) (a .k) (a .b) (a .m) v) (λ e. omega (arith, c .before .end-row .ensures))))
 

@@ -1,4 +1,4 @@
--- After b turns the poses below b are gathered. Assumes nothing.
+-- After b turns the poses below b are gathered.
 use Prim.Native.Nat.{_-_, _≤_}
 use mathlib.Core.Path.{_≡_}
 use native.Mathlib.Omega.{arith}
@@ -11,17 +11,17 @@ use Rattle.search_dense_layer.proofs.from_poses.Statement.{statement}
 use Rattle.search_dense_layer.proofs.from_poses.Tie as tie
 
 abbrev Inv-loop : tie.InvT-loop
-Inv-loop near₀ apart₀ far₀ store line pays at k m poses planes b₀ near apart far b =
-    (b ≤ poses) × ThinGathered (byPoses line k m (posesAt store at) b) planes near₀ near apart₀ apart far₀ far
+Inv-loop near₀ apart₀ far₀ store line pays at k m poses buckets b₀ near apart far b =
+    (b ≤ poses) × ThinGathered (byPoses line k m (posesAt store at) b) buckets near₀ near apart₀ apart far₀ far
 
 abbrev μ-loop : tie.MeasureT-loop
-μ-loop near₀ apart₀ far₀ store line pays at k m poses planes b₀ near apart far b = poses - b
+μ-loop near₀ apart₀ far₀ store line pays at k m poses buckets b₀ near apart far b = poses - b
 
 loop-holds : tie.Need-loop-holds Inv-loop μ-loop
 loop-holds c =
     let k = c .before .before in
     let a = k .args in
-    (omega arith, gathered-none (a .planes) (k .pre .0) (λ v t h. omega (arith, poses-none (a .line .now) (a .k) (a .m) (posesAt (a .store .now) (a .at)) v t)))
+    (omega arith, gathered-none (a .buckets) (k .pre .0) (λ v t h. omega (arith, poses-none (a .line .now) (a .k) (a .m) (posesAt (a .store .now) (a .at)) v t)))
 
 from-pose-requires : tie.Need-from-pose-requires Inv-loop μ-loop
 from-pose-requires c κs =

@@ -1,4 +1,4 @@
--- A pair that is no source lowers nothing; one that is a source stands in the row. Assumes nothing.
+-- A state that is no source lowers nothing; one that is a source stands in the row.
 use Prim.Native.Nat.{ℕ, suc, _≤_, _<_}
 use mathlib.Core.Path.{_≡_, refl, sym, ap, ap₂, _∙_}
 use mathlib.Core.Bool.{true}
@@ -7,15 +7,15 @@ use borrow.Author.Tests.{not-true, not-false}
 use Rattle.theory_tables.specs.Steps.{lastAt, isSource}
 use Rattle.search_row.specs.Words.{deckOf}
 use Rattle.search_row.specs.Laws.{there-size, source-size}
-use Rattle.search_buckets.specs.Rows.{planesIn, byPoses}
-use Rattle.search_buckets.specs.Sources.{pair-in, pair-out}
+use Rattle.search_buckets.specs.Rows.{bucketsIn, byPoses}
+use Rattle.search_buckets.specs.Sources.{state-in, state-out}
 use Rattle.search_dense_layer.specs.Thin.{thinIn}
-use Rattle.search_dense_layer.specs.Laws.{planes-few, gathered-none, gathered-ext}
+use Rattle.search_dense_layer.specs.Laws.{buckets-few, gathered-none, gathered-ext}
 use borrow.Author.Needs.{needs}
 use Rattle.search_dense_layer.proofs.from_source.Statement.{statement}
 use Rattle.search_dense_layer.proofs.from_source.Tie as tie
 
--- past the test the pair is a source
+-- past the test the state is a source
 abbrev ThinSource : tie.Else1 → Type 0
 ThinSource c = let a = c .before .before .before .before .before .args in isSource (deckOf (a .line .now) (a .n) (a .poses)) (a .r) (a .i) (a .q) (a .p) ≡ true
 
@@ -38,14 +38,14 @@ right c =
     let a = k .args in
     omega (arith, here c, there-size (a .n) (a .r) (suc (a .i)) (a .q) (k .pre .2 .there), k .pre .1 .ground .size)
 
--- how many planes the target needs
-planes : (c : tie.After-planes-of) → (let a = c .before .before .before .before .before .before .before .before .args in c .planes-of .result ≡ planesIn (a .line .now) (lastAt (a .r) (suc (a .i)) (a .q)))
-planes c = c .planes-of .ensures ∙ ap (planesIn (c .before .before .before .before .before .before .before .before .args .line .now)) (here (c .before))
+-- how many buckets the target needs
+buckets : (c : tie.After-buckets-of) → (let a = c .before .before .before .before .before .before .before .before .args in c .buckets-of .result ≡ bucketsIn (a .line .now) (lastAt (a .r) (suc (a .i)) (a .q)))
+buckets c = c .buckets-of .ensures ∙ ap (bucketsIn (c .before .before .before .before .before .before .before .before .args .line .now)) (here (c .before))
 
-few : (c : tie.After-planes-of) → (5 ≤ c .planes-of .result) × (c .planes-of .result ≤ 9)
+few : (c : tie.After-buckets-of) → (5 ≤ c .buckets-of .result) × (c .buckets-of .result ≤ 9)
 few c =
-    let f = planes-few (c .before .before .before .before .before .before .before .before .args .line .now) (c .before .last-at2 .result) in
-    (omega (arith, c .planes-of .ensures), omega (arith, c .planes-of .ensures))
+    let f = buckets-few (c .before .before .before .before .before .before .before .before .args .line .now) (c .before .last-at2 .result) in
+    (omega (arith, c .buckets-of .ensures), omega (arith, c .buckets-of .ensures))
 
 is-source-requires : tie.Need-is-source-requires
 is-source-requires c κs = search needs
@@ -56,8 +56,8 @@ returns c =
     let a = k .args in
     let D = deckOf (a .line .now) (a .n) (a .poses) in
     let away = sym (c .before .is-source .ensures) ∙ not-true _ (c .if1 .taken) in
-    gathered-none (planesIn (a .line .now) (lastAt (a .r) (suc (a .i)) (a .q))) (k .pre .0)
-    (λ v t h. omega (arith, pair-out (a .line .now) D (a .r) (thinIn (a .store .now) (a .from)) (a .i) (a .q) (a .p) v t away))
+    gathered-none (bucketsIn (a .line .now) (lastAt (a .r) (suc (a .i)) (a .q))) (k .pre .0)
+    (λ v t h. omega (arith, state-out (a .line .now) D (a .r) (thinIn (a .store .now) (a .from)) (a .i) (a .q) (a .p) v t away))
 
 last-at-requires : tie.Need-last-at-requires
 last-at-requires c κs = search needs
@@ -68,8 +68,8 @@ add-last-at c = search needs
 last-at-requires-2 : tie.Need-last-at-requires-2
 last-at-requires-2 c κs = search needs
 
-planes-of-requires : tie.Need-planes-of-requires
-planes-of-requires c κs = (c .before .before .before .before .before .before .before .pre .1 .ground .row, right c)
+buckets-of-requires : tie.Need-buckets-of-requires
+buckets-of-requires c κs = (c .before .before .before .before .before .before .before .pre .1 .ground .row, right c)
 
 fill-pays-requires : tie.Need-fill-pays-requires
 fill-pays-requires c κs =
@@ -107,11 +107,11 @@ returns-2 c =
     let a = k .args in
     let D = deckOf (a .line .now) (a .n) (a .poses) in
     let f = thinIn (a .store .now) (a .from) in
-    let e = planes (c .before .before .before .before .before .before .before) in
+    let e = buckets (c .before .before .before .before .before .before .before) in
     let m = here (c .before .before .before .before .before .before .before .before) in
     let w = gathered-ext (c .from-poses .ensures) (few (c .before .before .before .before .before .before .before) .0)
     (λ v t h.
-    pair-in (a .line .now) D (a .r) f (a .i) (a .q) (a .p) v t (source (c .before .before .before .before .before .before .before .before .before .before))
+    state-in (a .line .now) D (a .r) f (a .i) (a .q) (a .p) v t (source (c .before .before .before .before .before .before .before .before .before .before))
     ∙ ap₂ (λ (x y : ℕ). byPoses (a .line .now) x y (f (a .p)) (a .poses) v t) (sym (c .before .before .before .before .before .before .before .before .before .last-at .ensures)) (sym m)) in
     rw e at w
 
@@ -124,7 +124,7 @@ from-source-spec =
     last-at-requires
     add-last-at
     last-at-requires-2
-    planes-of-requires
+    buckets-of-requires
     fill-pays-requires
     mul-at
     add-at

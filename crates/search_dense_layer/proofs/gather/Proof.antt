@@ -1,11 +1,11 @@
--- After p turns the pairs below p are gathered. Assumes nothing.
+-- After p turns the states below p are gathered.
 use Prim.Native.Nat.{suc, _-_, _≤_}
 use mathlib.Core.Path.{_≡_}
 use native.Mathlib.Omega.{arith}
 use Rattle.theory_tables.specs.Steps.{lastAt}
 use Rattle.search_row.specs.Words.{deckOf}
-use Rattle.search_buckets.specs.Rows.{planesIn, byPairs}
-use Rattle.search_buckets.specs.Sources.{pairs-none, pairs-more}
+use Rattle.search_buckets.specs.Rows.{bucketsIn, byStates}
+use Rattle.search_buckets.specs.Sources.{states-none, states-more}
 use Rattle.search_dense_layer.specs.Thin.{thinIn, ThinGathered}
 use Rattle.search_dense_layer.specs.Laws.{gathered-none, gathered-join, lent-on}
 use borrow.Author.Needs.{needs}
@@ -13,12 +13,12 @@ use Rattle.search_dense_layer.proofs.gather.Statement.{statement}
 use Rattle.search_dense_layer.proofs.gather.Tie as tie
 
 abbrev Inv-loop : tie.InvT-loop
-Inv-loop near₀ apart₀ far₀ store line pairs n poses r count i from q p₀ near apart far p =
+Inv-loop near₀ apart₀ far₀ store line states n poses r count i from q p₀ near apart far p =
     (p ≤ count)
-    × ThinGathered (byPairs line (deckOf line n poses) r (thinIn store from) i q p) (planesIn line (lastAt r (suc i) q)) near₀ near apart₀ apart far₀ far
+    × ThinGathered (byStates line (deckOf line n poses) r (thinIn store from) i q p) (bucketsIn line (lastAt r (suc i) q)) near₀ near apart₀ apart far₀ far
 
 abbrev μ-loop : tie.MeasureT-loop
-μ-loop near₀ apart₀ far₀ store line pairs n poses r count i from q p₀ near apart far p = count - p
+μ-loop near₀ apart₀ far₀ store line states n poses r count i from q p₀ near apart far p = count - p
 
 loop-holds : tie.Need-loop-holds Inv-loop μ-loop
 loop-holds c =
@@ -26,8 +26,8 @@ loop-holds c =
     let a = k .args in
     let D = deckOf (a .line .now) (a .n) (a .poses) in (
       omega arith,
-      gathered-none (planesIn (a .line .now) (lastAt (a .r) (suc (a .i)) (a .q))) (k .pre .0)
-          (λ v t h. omega (arith, pairs-none (a .line .now) D (a .r) (thinIn (a .store .now) (a .from)) (a .i) (a .q) v t)),
+      gathered-none (bucketsIn (a .line .now) (lastAt (a .r) (suc (a .i)) (a .q))) (k .pre .0)
+          (λ v t h. omega (arith, states-none (a .line .now) D (a .r) (thinIn (a .store .now) (a .from)) (a .i) (a .q) v t)),
     )
 
 from-source-requires : tie.Need-from-source-requires Inv-loop μ-loop
@@ -46,7 +46,7 @@ loop-again c =
     let a = c .before .before .before .before .before .before .before .before .before .args in
     let D = deckOf (a .line .now) (a .n) (a .poses) in
     let l = c .before .before .before .before .before .loop in
-    (omega arith, gathered-join (l .inv .1) (c .from-source .ensures) (λ v t. pairs-more (a .line .now) D (a .r) (thinIn (a .store .now) (a .from)) (a .i) (a .q) (l .p) v t))
+    (omega arith, gathered-join (l .inv .1) (c .from-source .ensures) (λ v t. states-more (a .line .now) D (a .r) (thinIn (a .store .now) (a .from)) (a .i) (a .q) (l .p) v t))
 
 returns : tie.Need-returns Inv-loop μ-loop
 returns c =

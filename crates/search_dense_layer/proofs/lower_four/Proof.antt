@@ -1,4 +1,4 @@
--- Each turn lowers one word more of the row. Assumes nothing.
+-- Each turn lowers one word more of the row.
 use Prim.Native.Nat.{_+_, _*_, _-_, _≤_}
 use mathlib.Core.Path.{_≡_}
 use native.Mathlib.Omega.{arith}

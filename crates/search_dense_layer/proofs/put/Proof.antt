@@ -1,4 +1,4 @@
--- Each turn writes the poses of one site more. Assumes nothing.
+-- Each turn writes the poses of one site more.
 use Prim.Native.Nat.{_+_, _*_, _-_, _/_, _≤_}
 use mathlib.Core.Path.{_≡_, refl}
 use native.Mathlib.Omega.{arith}

@@ -1,4 +1,4 @@
--- The planes of the other gaps are their own, or those of gap 0. Assumes nothing.
+-- The buckets of the other gaps are their own, or those of gap 0.
 use Prim.Native.Nat.{_+_, _*_, _/_}
 use mathlib.Core.Path.{sym, subst}
 use native.Mathlib.Omega.{arith}
@@ -20,7 +20,7 @@ returns c =
     let a = c .before .before .before .before .before .before .before .args in
     subst
     (λ other. Written (foundOf (a .line .now) (a .near .now) other (a .far .now) (a .k)) (a .to) ((a .poses + 3) / 4 * 4) (a .store .now) (c .before .before .put .last .0))
-    (sym (other-nine (a .planes) (a .near .now) (a .apart .now) (omega arith)))
+    (sym (other-nine (a .buckets) (a .near .now) (a .apart .now) (omega arith)))
     (c .before .before .put .ensures)
 
 put-requires-2 : tie.Need-put-requires-2
@@ -36,7 +36,7 @@ returns-2 c =
     let a = c .before .before .before .before .before .before .before .args in
     subst
     (λ other. Written (foundOf (a .line .now) (a .near .now) other (a .far .now) (a .k)) (a .to) ((a .poses + 3) / 4 * 4) (a .store .now) (c .before .before .put2 .last .0))
-    (sym (other-five (a .planes) (a .near .now) (a .apart .now) (λ e. omega arith)))
+    (sym (other-five (a .buckets) (a .near .now) (a .apart .now) (λ e. omega arith)))
     (c .before .before .put2 .ensures)
 
 pub put-found-spec : {M : Type 1} → statement M

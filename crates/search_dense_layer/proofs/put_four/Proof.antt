@@ -1,4 +1,4 @@
--- Each turn writes one pose more of the four that were found. Assumes nothing.
+-- Each turn writes one pose more of the four that were found.
 use Prim.Native.Nat.{ℕ, _+_, _*_, _-_, _≤_}
 use mathlib.Core.Path.{_≡_, refl, sym, ap, _∙_}
 use native.Mathlib.Omega.{arith}

@@ -1,4 +1,4 @@
--- Each turn lowers one row more to the row before, which ran up already. Assumes nothing.
+-- Each turn lowers one row more to the row before, which ran up already.
 use Prim.Native.Nat.{_+_, _-_, _≤_}
 use mathlib.Core.Path.{_≡_}
 use native.Mathlib.Omega.{arith}

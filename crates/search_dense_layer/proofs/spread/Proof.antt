@@ -1,4 +1,4 @@
--- One word of the far row, four of the near planes, and four of the others where they are needed. Assumes nothing.
+-- One word of the far row, four of the near buckets, and four of the others where they are needed.
 use Prim.Native.Nat.{_+_, _*_}
 use mathlib.Core.Path.{refl}
 use native.Mathlib.Omega.{arith}

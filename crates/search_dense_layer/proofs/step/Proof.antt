@@ -1,4 +1,4 @@
--- After q turns the pairs below q are those of the next layer. Assumes nothing.
+-- After q turns the states below q are those of the next layer.
 use Prim.Native.Nat.{_-_, _≤_}
 use mathlib.Core.Path.{_≡_}
 use native.Mathlib.Omega.{arith}
@@ -10,11 +10,11 @@ use Rattle.search_dense_layer.proofs.step.Statement.{statement}
 use Rattle.search_dense_layer.proofs.step.Tie as tie
 
 abbrev Inv-loop : tie.InvT-loop
-Inv-loop store₀ line pairs n poses r count i from q₀ store q =
+Inv-loop store₀ line states n poses r count i from q₀ store q =
     (q ≤ count) × Stepped (deckOf line n poses) r q i from store₀ store
 
 abbrev μ-loop : tie.MeasureT-loop
-μ-loop store₀ line pairs n poses r count i from q₀ store q = count - q
+μ-loop store₀ line states n poses r count i from q₀ store q = count - q
 
 loop-holds : tie.Need-loop-holds Inv-loop μ-loop
 loop-holds c =
@@ -22,8 +22,8 @@ loop-holds c =
     let a = k .args in
     (omega arith, stepped-none (deckOf (a .line .now) (a .n) (a .poses)) (a .r) (a .i) (a .from) (k .pre .1))
 
-put-pair-requires : tie.Need-put-pair-requires Inv-loop μ-loop
-put-pair-requires c κs =
+put-state-requires : tie.Need-put-state-requires Inv-loop μ-loop
+put-state-requires c κs =
     let k = c .before .before .before .before .before .before in
     let s = c .before .before .loop .inv .1 in
     (record { ground = k .pre .0; low = s .low; early = k .pre .2; room = omega (arith, s .frame .long) }, omega arith)
@@ -38,7 +38,7 @@ loop-again : tie.Need-loop-again Inv-loop μ-loop
 loop-again c =
     let g = c .before .before .before .before .before .before .before .before .before .pre .0 in
     let l = c .before .before .before .before .before .loop in
-    (omega arith, stepped-more (l .q) (l .inv .1) (c .before .before .put-pair .ensures) (omega (arith, g .all, g .coded .few)) (g .coded .few) (g .few))
+    (omega arith, stepped-more (l .q) (l .inv .1) (c .before .before .put-state .ensures) (omega (arith, g .all, g .coded .few)) (g .coded .few) (g .few))
 
 same-length : tie.Need-same-length Inv-loop μ-loop
 same-length c = c .before .loop .inv .1 .frame .long
@@ -55,7 +55,7 @@ step-spec =
     Inv-loop
     μ-loop
     loop-holds
-    put-pair-requires
+    put-state-requires
     add-q
     loop-less
     loop-again

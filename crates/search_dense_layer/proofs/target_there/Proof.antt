@@ -1,21 +1,21 @@
--- The sources are gathered from arrays of NONE; once the far rows ran up, each pose finds there what it can be reached for. Assumes nothing.
+-- The sources are gathered from arrays of NONE; once the far rows ran up, each pose finds there what it can be reached for.
 use Prim.Native.Nat.{ℕ, suc, _≤_, _<_}
 use mathlib.Core.Path.{_≡_, sym, ap, _∙_}
 use native.Mathlib.Omega.{arith}
 use Rattle.theory_tables.specs.Steps.{B, lastAt}
 use Rattle.search_row.specs.Words.{deckOf}
 use Rattle.search_row.specs.Laws.{there-size}
-use Rattle.search_buckets.specs.Rows.{planesIn, byPairs}
-use Rattle.search_buckets.specs.Sources.{pairs-low, pairs-twin}
+use Rattle.search_buckets.specs.Rows.{bucketsIn, byStates}
+use Rattle.search_buckets.specs.Sources.{states-low, states-twin}
 use Rattle.search_buckets.specs.Next.{next-found}
 use Rattle.search_dense_layer.specs.Thin.{thinIn, Arrays}
-use Rattle.search_dense_layer.specs.Laws.{planes-twin, lent-on}
+use Rattle.search_dense_layer.specs.Laws.{buckets-twin, lent-on}
 use Rattle.search_dense_layer.specs.Found.{lent-none, lent-run, found-there, put-words}
 use borrow.Author.Needs.{needs}
 use Rattle.search_dense_layer.proofs.target_there.Statement.{statement}
 use Rattle.search_dense_layer.proofs.target_there.Tie as tie
 
--- the target's position, and how many planes it needs
+-- the target's position, and how many buckets it needs
 here : (c : tie.After-last-at) → (let a = c .before .before .before .before .args in c .last-at .result ≡ lastAt (a .r) (suc (a .i)) (a .q))
 here c = omega (arith, c .last-at .ensures)
 
@@ -25,17 +25,17 @@ inside c =
     let a = k .args in
     omega (arith, here c, there-size (a .n) (a .r) (suc (a .i)) (a .q) (k .pre .1 .there), k .pre .0 .ground .size)
 
-planes : (c : tie.After-planes-of) → (let a = c .before .before .before .before .before .args in c .planes-of .result ≡ planesIn (a .line .now) (lastAt (a .r) (suc (a .i)) (a .q)))
-planes c = c .planes-of .ensures ∙ ap (planesIn (c .before .before .before .before .before .args .line .now)) (here (c .before))
+buckets : (c : tie.After-buckets-of) → (let a = c .before .before .before .before .before .args in c .buckets-of .result ≡ bucketsIn (a .line .now) (lastAt (a .r) (suc (a .i)) (a .q)))
+buckets c = c .buckets-of .ensures ∙ ap (bucketsIn (c .before .before .before .before .before .args .line .now)) (here (c .before))
 
 -- the arrays once the far rows ran up
 arrays : (c : tie.After-run-up) → Arrays (c .before .before .gather .last .0) (c .before .before .gather .last .1 .0) (c .run-up .last .0)
 arrays c = lent-run (lent-on lent-none (c .before .before .gather .ensures)) (c .run-up .ensures)
 
-planes-low : (k : tie.Start) → (let a = k .args in (v t : ℕ) → byPairs (a .line .now) (deckOf (a .line .now) (a .n) (a .poses)) (a .r) (thinIn (a .store .now) (a .from)) (a .i) (a .q) (a .count) v t ≤ B)
-planes-low k v t =
+buckets-low : (k : tie.Start) → (let a = k .args in (v t : ℕ) → byStates (a .line .now) (deckOf (a .line .now) (a .n) (a .poses)) (a .r) (thinIn (a .store .now) (a .from)) (a .i) (a .q) (a .count) v t ≤ B)
+buckets-low k v t =
     let a = k .args in
-    pairs-low (a .line .now) (deckOf (a .line .now) (a .n) (a .poses)) (a .r) (thinIn (a .store .now) (a .from)) (a .i) (a .q) (a .count) v t
+    states-low (a .line .now) (deckOf (a .line .now) (a .n) (a .poses)) (a .r) (thinIn (a .store .now) (a .from)) (a .i) (a .q) (a .count) v t
 
 add-last-at : tie.Need-add-last-at
 add-last-at c = search needs
@@ -43,8 +43,8 @@ add-last-at c = search needs
 last-at-requires : tie.Need-last-at-requires
 last-at-requires c κs = search needs
 
-planes-of-requires : tie.Need-planes-of-requires
-planes-of-requires c κs = (c .before .before .before .before .pre .0 .ground .row, inside c)
+buckets-of-requires : tie.Need-buckets-of-requires
+buckets-of-requires c κs = (c .before .before .before .before .pre .0 .ground .row, inside c)
 
 gather-requires : tie.Need-gather-requires
 gather-requires c κs =
@@ -69,7 +69,7 @@ put-found-requires : tie.Need-put-found-requires
 put-found-requires c κs =
     let k = c .before .before .before .before .before .before .before .before .before .before .before .before .before .before .before .before in
     let g = k .pre .0 in
-    (arrays (c .before .before .before .before), g .ground .row, g .low, omega (arith, g .room, k .pre .1 .pair, g .ground .coded .few), inside (c .before .before .before .before .before .before .before .before .before .before .before .before), g .ground .few)
+    (arrays (c .before .before .before .before), g .ground .row, g .low, omega (arith, g .room, k .pre .1 .state, g .ground .coded .few), inside (c .before .before .before .before .before .before .before .before .before .before .before .before), g .ground .few)
 
 same-length : tie.Need-same-length
 same-length c = search needs
@@ -82,9 +82,9 @@ returns c =
     let D = deckOf (a .line .now) (a .n) (a .poses) in
     let f = thinIn (a .store .now) (a .from) in
     let m = here (c .before .before .before .before .before .before .before .before .before .before .before .before .before .before .before) in
-    let e = sym (planes (c .before .before .before .before .before .before .before .before .before .before .before .before .before .before)) in
-    let found = found-there (planes-low k) (rw e at (c .before .before .before .before .before .before .before .before .before .gather .ensures)) (c .before .before .before .before .before .before .before .run-up .ensures)
-    (λ n v t i. pairs-twin (a .line .now) D (a .r) f (a .i) (a .q) (a .count) v t (planes-twin (a .line .now) (lastAt (a .r) (suc (a .i)) (a .q)) (λ z. n (sym e ∙ z))) i) in
+    let e = sym (buckets (c .before .before .before .before .before .before .before .before .before .before .before .before .before .before)) in
+    let found = found-there (buckets-low k) (rw e at (c .before .before .before .before .before .before .before .before .before .gather .ensures)) (c .before .before .before .before .before .before .before .run-up .ensures)
+    (λ n v t i. states-twin (a .line .now) D (a .r) f (a .i) (a .q) (a .count) v t (buckets-twin (a .line .now) (lastAt (a .r) (suc (a .i)) (a .q)) (λ z. n (sym e ∙ z))) i) in
     put-words D (a .r) (a .i) (a .from) (a .q) (c .before .before .put-found .ensures) (omega arith) (omega (arith, g .ground .few))
     (λ b l. next-found (a .line .now) (a .n) (a .poses) (a .r) f (a .i) (a .q) b (k .pre .1 .there) (g .ground .all) m (found b (omega (arith, g .ground .few))))
 
@@ -94,7 +94,7 @@ target-there-spec =
     (tie.spec
     add-last-at
     last-at-requires
-    planes-of-requires
+    buckets-of-requires
     gather-requires
     run-up-requires
     add-to

@@ -1,4 +1,4 @@
--- The row has no cell, or the least of the layer with all its cells. Assumes nothing.
+-- The row has no cell, or the least of the layer with all its cells.
 use native.Mathlib.Omega.{arith}
 use borrow.Author.Needs.{needs}
 use Rattle.search_row.specs.Words.{deckOf}
@@ -20,7 +20,7 @@ returns c =
     let k = c .before .before .before .before in
     let a = k .args in
     let g = k .pre .1 in
-    opened-none (deckOf (a .line .now) (a .n) (a .poses)) (a .r) (a .prices) (c .if1 .taken) (g .over) (omega (arith, g .room)) (g .low)
+    opened-none (deckOf (a .line .now) (a .n) (a .poses)) (a .r) (a .costs) (c .if1 .taken) (g .over) (omega (arith, g .room)) (g .low)
 
 run-open-requires : tie.Need-run-open-requires
 run-open-requires c κs = search needs
@@ -28,8 +28,8 @@ run-open-requires c κs = search needs
 kept-at-requires : tie.Need-kept-at-requires
 kept-at-requires c κs = search needs
 
-least-pairs-requires : tie.Need-least-pairs-requires
-least-pairs-requires c κs = search needs
+least-states-requires : tie.Need-least-states-requires
+least-states-requires c κs = search needs
 
 mul-store-2 : tie.Need-mul-store-2
 mul-store-2 c = search needs
@@ -45,8 +45,8 @@ returns-2 c =
     let k = c .before .before .before .before .before .before .before .before .before .before .before in
     let a = k .args in
     let g = k .pre .1 in
-    opened-end (deckOf (a .line .now) (a .n) (a .poses)) (a .r) (a .prices) (c .least-pairs .result) (c .before .kept-at .result)
-    (omega (arith, c .before .before .before .before .before .before .before .if1 .left)) (g .over) (omega (arith, g .room)) (g .all) (c .before .kept-at .ensures) (c .before .before .before .before .before .run-open .ensures) (c .least-pairs .ensures)
+    opened-end (deckOf (a .line .now) (a .n) (a .poses)) (a .r) (a .costs) (c .least-states .result) (c .before .kept-at .result)
+    (omega (arith, c .before .before .before .before .before .before .before .if1 .left)) (g .over) (omega (arith, g .room)) (g .all) (c .before .kept-at .ensures) (c .before .before .before .before .before .run-open .ensures) (c .least-states .ensures)
 
 pub open-end-spec : {M : Type 1} → statement M
 open-end-spec =
@@ -58,7 +58,7 @@ open-end-spec =
     returns
     run-open-requires
     kept-at-requires
-    least-pairs-requires
+    least-states-requires
     mul-store-2
     slice-write-store-2
     same-length-2

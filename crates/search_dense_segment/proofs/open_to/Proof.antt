@@ -1,4 +1,4 @@
--- The layers, then from each the prices of the pairs that come with it. Assumes nothing.
+-- The layers, then from each the costs of the states that come with it.
 use native.Mathlib.Omega.{arith}
 use borrow.Author.Needs.{needs}
 use Rattle.search_row.specs.Words.{deckOf}
@@ -15,8 +15,8 @@ add-run-open-2 c = search needs
 run-open-requires : tie.Need-run-open-requires
 run-open-requires c κs = search needs
 
-put-pairs-requires : tie.Need-put-pairs-requires
-put-pairs-requires c κs =
+put-states-requires : tie.Need-put-states-requires
+put-states-requires c κs =
     let k = c .before .before .before .before .before .before .before .before in
     let g = k .pre .1 in
     let f = c .before .before .before .run-open .ensures in
@@ -30,9 +30,9 @@ returns c =
     let k = c .before .before .before .before .before .before .before .before .before .before .before in
     let a = k .args in
     opened-to (deckOf (a .line .now) (a .n) (a .poses)) (a .r) (a .tall) (omega arith) (k .pre .1 .over) (k .pre .1 .all)
-    (c .before .before .before .before .before .before .run-open .ensures) (c .before .before .put-pairs .ensures)
+    (c .before .before .before .before .before .before .run-open .ensures) (c .before .before .put-states .ensures)
 
 pub open-to-spec : {M : Type 1} → statement M
 open-to-spec =
     tie.close
-    (tie.spec add-run-open add-run-open-2 run-open-requires put-pairs-requires same-length returns)
+    (tie.spec add-run-open add-run-open-2 run-open-requires put-states-requires same-length returns)

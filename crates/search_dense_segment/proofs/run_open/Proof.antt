@@ -1,4 +1,4 @@
--- The first layer, then those after it. Assumes nothing.
+-- The first layer, then those after it.
 use native.Mathlib.Omega.{arith}
 use borrow.Author.Needs.{needs}
 use Rattle.search_row.specs.Words.{deckOf}
@@ -12,8 +12,8 @@ kept-at-requires c κs = search needs
 open-requires : tie.Need-open-requires
 open-requires c κs = search needs
 
-stretch-kept-requires : tie.Need-stretch-kept-requires
-stretch-kept-requires c κs =
+segment-kept-requires : tie.Need-segment-kept-requires
+segment-kept-requires c κs =
     let k = c .before .before .before .before .before .before .before .before .before in
     let b = c .before .before .before .open .ensures in
     record { ground = k .pre .0; low = b .low; long = omega (arith, k .pre .2, b .frame .long); some = omega arith; cells = omega arith; last = k .pre .3 }
@@ -26,8 +26,8 @@ returns c =
     let k = c .before .before .before .before .before .before .before .before .before .before .before .before in
     let a = k .args in
     open-kept (deckOf (a .line .now) (a .n) (a .poses)) (a .r) (c .before .before .before .before .before .before .before .kept-at .ensures) (k .pre .0 .all)
-    (c .before .before .before .before .before .before .open .ensures) (c .before .before .stretch-kept .ensures)
+    (c .before .before .before .before .before .before .open .ensures) (c .before .before .segment-kept .ensures)
 
 pub run-open-spec : {M : Type 1} → statement M
 run-open-spec =
-    tie.close (tie.spec kept-at-requires open-requires stretch-kept-requires same-length returns)
+    tie.close (tie.spec kept-at-requires open-requires segment-kept-requires same-length returns)

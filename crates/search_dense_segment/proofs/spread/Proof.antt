@@ -1,4 +1,4 @@
--- Each turn writes one row's word more, from below the rows. Assumes nothing.
+-- Each turn writes one row's word more, from below the rows.
 use Prim.Native.Nat.{_+_, _*_, _-_, _≤_}
 use mathlib.Core.Path.{_≡_, refl, sym}
 use native.Mathlib.Omega.{arith}

@@ -1,7 +1,7 @@
--- Each turn takes one pair t more. Assumes nothing.
+-- Each turn takes one state t more.
 use Prim.Native.Nat.{_-_, _≤_}
 use mathlib.Core.Path.{_≡_}
-use Rattle.theory_row.specs.Lists.{from}
+use Rattle.lists.specs.Lists.{from}
 use Rattle.theory_pair.specs.Coded.{lowest}
 use Rattle.theory_tables.specs.Steps.{B}
 use Rattle.search_join.specs.Tables.{Least, MetAt}
@@ -24,18 +24,18 @@ loop-holds : tie.Need-loop-holds Inv-loop μ-loop
 loop-holds c = (omega arith, least-none _ _)
 
 mul-least-lane : tie.Need-mul-least-lane Inv-loop μ-loop
-mul-least-lane c = let w = c .before .before .before .pre .0 .pairs in omega arith
+mul-least-lane c = let w = c .before .before .before .pre .0 .states in omega arith
 
-price-at-requires : tie.Need-price-at-requires Inv-loop μ-loop
-price-at-requires c κs = let w = c .before .before .before .pre .0 .pairs in (omega arith, omega arith, omega arith, omega arith)
+cost-at-requires : tie.Need-cost-at-requires Inv-loop μ-loop
+cost-at-requires c κs = let w = c .before .before .before .pre .0 .states in (omega arith, omega arith, omega arith, omega arith)
 
 least-lane-requires : tie.Need-least-lane-requires Inv-loop μ-loop
 least-lane-requires c κs =
     let w = c .before .before .before .before .pre .0 in
-    (c .before .before .before .before .pre .1, w .low, omega (arith, w .pairs, w .few), omega (arith, w .pairs, w .few, w .long, c .price-at .ensures))
+    (c .before .before .before .before .pre .1, w .low, omega (arith, w .states, w .few), omega (arith, w .states, w .few, w .long, c .cost-at .ensures))
 
 cast-better : tie.Need-cast-better Inv-loop μ-loop
-cast-better c = let w = c .before .before .before .before .before .pre .0 .pairs in omega arith
+cast-better c = let w = c .before .before .before .before .before .pre .0 .states in omega arith
 
 better-requires : tie.Need-better-requires Inv-loop μ-loop
 better-requires c κs = search needs
@@ -53,7 +53,7 @@ loop-again c =
     let t = c .before .before .before .before .loop .t in (
       omega arith,
       least-more _ t (c .before .before .before .before .loop .inv .1)
-          (end-met (a .starts) (a .lanes) (a .sums .now) (a .store .now) (a .q1) (a .a) t _ (omega arith) (k .pre .0 .pairs) (c .before .before .price-at .ensures) (c .before .least-lane .ensures))
+          (end-met (a .starts) (a .lanes) (a .sums .now) (a .store .now) (a .q1) (a .a) t _ (omega arith) (k .pre .0 .states) (c .before .before .cost-at .ensures) (c .before .least-lane .ensures))
           (c .better .ensures),
     )
 
@@ -70,7 +70,7 @@ best-end-spec =
     μ-loop
     loop-holds
     mul-least-lane
-    price-at-requires
+    cost-at-requires
     least-lane-requires
     cast-better
     better-requires

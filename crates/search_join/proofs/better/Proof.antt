@@ -1,4 +1,4 @@
--- The lower value comes with its own code. Assumes nothing.
+-- The lower value comes with its own code.
 use mathlib.Core.Path.{refl}
 use mathlib.Core.Logic.{inl, inr}
 use native.Mathlib.Omega.{arith}

@@ -1,4 +1,4 @@
--- Each turn writes the cases of one pose more. Assumes nothing.
+-- Each turn writes the cases of one pose more.
 use Prim.Native.Nat.{_-_, _≤_}
 use mathlib.Core.Path.{_≡_}
 use Rattle.search_join.specs.Tables.{BlockCases, Part}

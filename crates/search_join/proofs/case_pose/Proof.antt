@@ -1,4 +1,4 @@
--- Each turn writes one case more, over the same sums. Assumes nothing.
+-- Each turn writes one case more, over the same sums.
 use Prim.Native.Nat.{_-_, _≤_}
 use mathlib.Core.Path.{_≡_}
 use Rattle.search_join.specs.Tables.{PoseCases, Part}

@@ -1,7 +1,7 @@
--- Each turn closes the lanes of one pair of row 0 more. Assumes nothing.
+-- Each turn closes the lanes of one state of row 0 more.
 use Prim.Native.Nat.{_-_, _≤_}
 use mathlib.Core.Path.{_≡_}
-use Rattle.search_join.specs.Tables.{AllPairs, Closed}
+use Rattle.search_join.specs.Tables.{AllStates, Closed}
 use Rattle.search_join.specs.Closing.{closed-none, closed-next}
 use native.Mathlib.Omega.{arith}
 use borrow.Author.Needs.{needs}
@@ -9,7 +9,7 @@ use Rattle.search_join.proofs.close_lanes.Statement.{statement}
 use Rattle.search_join.proofs.close_lanes.Tie as tie
 
 abbrev Inv-loop : tie.InvT-loop
-Inv-loop store₀ i ends low high s₀ store s = (s ≤ ends) × Closed i low high (AllPairs s ends) store₀ store
+Inv-loop store₀ i ends low high s₀ store s = (s ≤ ends) × Closed i low high (AllStates s ends) store₀ store
 
 abbrev μ-loop : tie.MeasureT-loop
 μ-loop store₀ i ends low high s₀ store s = ends - s
@@ -17,8 +17,8 @@ abbrev μ-loop : tie.MeasureT-loop
 loop-holds : tie.Need-loop-holds Inv-loop μ-loop
 loop-holds c = (omega arith, closed-none _ _ _ (c .before .pre .0) (λ q₀ q₁ h. omega arith))
 
-close-pair-requires : tie.Need-close-pair-requires Inv-loop μ-loop
-close-pair-requires c κs =
+close-state-requires : tie.Need-close-state-requires Inv-loop μ-loop
+close-state-requires c κs =
     let k = c .before .before .before .before in
     let w = c .before .before .loop .inv .1 in
     (w .fits, omega (arith, k .pre .1, w .long), omega arith, omega arith, omega arith, omega arith, omega arith)
@@ -34,7 +34,7 @@ loop-again c =
     let k = c .before .before .before .before .before .before .before in
     let a = k .args in
     let l = c .before .before .before .before .before .loop in
-    (omega arith, closed-next (a .i) (a .low) (a .high) (l .s) (a .ends) (omega arith) (omega arith) (omega arith) (omega arith) (l .inv .1) (c .before .before .close-pair .ensures))
+    (omega arith, closed-next (a .i) (a .low) (a .high) (l .s) (a .ends) (omega arith) (omega arith) (omega arith) (omega arith) (l .inv .1) (c .before .before .close-state .ensures))
 
 same-length : tie.Need-same-length Inv-loop μ-loop
 same-length c = c .before .loop .inv .1 .long
@@ -51,7 +51,7 @@ close-lanes-spec =
     Inv-loop
     μ-loop
     loop-holds
-    close-pair-requires
+    close-state-requires
     add-s
     loop-less
     loop-again

@@ -1,4 +1,4 @@
--- After s turns the sums are over the start pairs below s, and all NONE as long as no pair had a way. Assumes nothing.
+-- After s turns the sums are over the start states below s, and all NONE as long as no state had a way.
 use Prim.Native.Nat.{ℕ, _-_, _≤_}
 use mathlib.Core.Path.{_≡_, sym, subst, _∙_}
 use mathlib.Core.Bool.{false}
@@ -18,12 +18,12 @@ abbrev μ-loop : tie.MeasureT-loop
 μ-loop sums₀ store i starts lanes q0 a live₀ s₀ sums live s = starts - s
 
 mul-fill : tie.Need-mul-fill Inv-loop μ-loop
-mul-fill c = let w = c .before .before .pre .0 .pairs in omega arith
+mul-fill c = let w = c .before .before .pre .0 .states in omega arith
 
 fill-requires : tie.Need-fill-requires Inv-loop μ-loop
 fill-requires c κs =
     let k = c .before .before in
-    (omega (arith, k .pre .0 .pairs, k .pre .1 .long), omega arith, k .pre .1 .low)
+    (omega (arith, k .pre .0 .states, k .pre .1 .long), omega arith, k .pre .1 .low)
 
 loop-holds : tie.Need-loop-holds Inv-loop μ-loop
 loop-holds c =

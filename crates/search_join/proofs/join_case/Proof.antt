@@ -1,5 +1,5 @@
--- The least over the pairs of row 1 and the lanes is at most every way, and where it is below B a way of it is found. Assumes nothing.
-use Rattle.theory_row.specs.Lists.{from}
+-- The least over the states of row 1 and the lanes is at most every way, and where it is below B a way of it is found.
+use Rattle.lists.specs.Lists.{from}
 use Rattle.theory_pair.specs.Coded.{lowest-low}
 use Rattle.theory_tables.specs.Steps.{B}
 use Rattle.search_join.specs.Tables.{MetAt}
@@ -34,8 +34,8 @@ returns-2 c =
 cast-t : tie.Need-cast-t
 cast-t c = search needs
 
-source-of-requires : tie.Need-source-of-requires
-source-of-requires c κs =
+pointer-of-requires : tie.Need-pointer-of-requires
+pointer-of-requires c κs =
     let k = c .before .before .before .before .before in
     let a = k .args in
     let ends = endSum (a .lanes) (a .sums .now) (a .store .now) (a .q1) (a .a) in
@@ -47,7 +47,7 @@ returns-3 c =
     let k = c .before .before .before .before .before .before in
     let a = k .args in
     let best = c .before .before .before .best-end .ensures in
-    let way = c .source-of .ensures in
+    let way = c .pointer-of .ensures in
     next-is (a .starts) (a .lanes) _ _ _ (a .q0) (a .q1) (a .a) _ (omega (arith, best .right, lowest-low B (endSum (a .lanes) (a .sums .now) (a .store .now) (a .q1) (a .a)) (from 0 (a .starts))))
     (case-below (a .starts) (a .lanes) (a .i) (a .store .now) (a .q0) (a .q1) (a .a) (k .pre .1 .all) _ (best .right))
     (λ h. way .0)
@@ -55,4 +55,4 @@ returns-3 c =
 
 pub join-case-spec : {M : Type 1} → statement M
 join-case-spec =
-    tie.close (tie.spec returns best-end-requires returns-2 cast-t source-of-requires returns-3)
+    tie.close (tie.spec returns best-end-requires returns-2 cast-t pointer-of-requires returns-3)

@@ -1,4 +1,4 @@
--- Each turn writes the cases of one pair of row 0 more. Assumes nothing.
+-- Each turn writes the cases of one state of row 0 more.
 use Prim.Native.Nat.{_-_, _≤_}
 use mathlib.Core.Path.{_≡_}
 use lib.ListN.{length-replicate}

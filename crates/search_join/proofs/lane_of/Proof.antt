@@ -1,4 +1,4 @@
--- The lanes passed have other sums. Assumes nothing.
+-- The lanes passed have other sums.
 use Prim.Native.Nat.{ℕ, _+_, _-_, _≤_, _<_}
 use mathlib.Core.Path.{_≡_}
 use borrow.Author.Count.{below-more}

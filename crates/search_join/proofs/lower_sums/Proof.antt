@@ -1,4 +1,4 @@
--- Each turn lowers the sum of one lane more. Assumes nothing.
+-- Each turn lowers the sum of one lane more.
 use Prim.Native.Nat.{_+_, _*_, _-_, _≤_}
 use mathlib.Core.Path.{_≡_}
 use Rattle.search_join.specs.Sums.{Sums}
@@ -18,8 +18,8 @@ abbrev μ-loop : tie.MeasureT-loop
 case-at-requires : tie.Need-case-at-requires Inv-loop μ-loop
 case-at-requires c κs = search needs
 
-price-at-requires : tie.Need-price-at-requires Inv-loop μ-loop
-price-at-requires c κs = search needs
+cost-at-requires : tie.Need-cost-at-requires Inv-loop μ-loop
+cost-at-requires c κs = search needs
 
 mul-to : tie.Need-mul-to Inv-loop μ-loop
 mul-to c = search needs
@@ -62,14 +62,14 @@ add-lesser-4 c =
     let k = c .before .before .before .before .before .before .before .before in
     let l = c .before .before .before .before .loop .l in
     let w = k .pre .0 .low .word in
-    omega (arith, w (c .before .before .before .before .before .before .case-at .result + l), w (c .before .before .before .before .before .price-at .result + l))
+    omega (arith, w (c .before .before .before .before .before .before .case-at .result + l), w (c .before .before .before .before .before .cost-at .result + l))
 
 lesser-requires : tie.Need-lesser-requires Inv-loop μ-loop
 lesser-requires c κs =
     let k = c .before .before .before .before .before .before .before .before in
     let l = c .before .before .before .before .loop in
     let w = k .pre .0 .low .word in
-    (omega (arith, l .inv .1 .room .low .word (k .args .t * 64 + l .l)), omega (arith, w (c .before .before .before .before .before .before .case-at .result + l .l), w (c .before .before .before .before .before .price-at .result + l .l)))
+    (omega (arith, l .inv .1 .room .low .word (k .args .t * 64 + l .l)), omega (arith, w (c .before .before .before .before .before .before .case-at .result + l .l), w (c .before .before .before .before .before .cost-at .result + l .l)))
 
 add-sums : tie.Need-add-sums Inv-loop μ-loop
 add-sums c = search needs
@@ -91,10 +91,10 @@ loop-again c =
     let k = c .before .before .before .before .before .before .before .before .before in
     let a = k .args in
     let l = c .before .before .before .before .before .loop in
-    let e = start-words (a .i) (a .store .now) (a .q0) (a .a) (a .s) (a .t) (l .l) _ _ (c .before .before .before .before .before .before .before .case-at .ensures) (c .before .before .before .before .before .before .price-at .ensures) in (
+    let e = start-words (a .i) (a .store .now) (a .q0) (a .a) (a .s) (a .t) (l .l) _ _ (c .before .before .before .before .before .before .before .case-at .ensures) (c .before .before .before .before .before .before .cost-at .ensures) in (
       omega arith,
       sums-lane (a .starts) (a .lanes) (a .i) (a .store .now) (a .q0) (a .a) (a .s) (a .t) (l .l) (c .lesser .result) (l .inv .1)
-          (k .pre .0 .pairs) (k .pre .0 .few) (omega arith) (omega arith) (omega (arith, c .lesser .ensures)),
+          (k .pre .0 .states) (k .pre .0 .few) (omega arith) (omega arith) (omega (arith, c .lesser .ensures)),
     )
 
 returns : tie.Need-returns Inv-loop μ-loop
@@ -112,7 +112,7 @@ lower-sums-spec =
     Inv-loop
     μ-loop
     case-at-requires
-    price-at-requires
+    cost-at-requires
     mul-to
     loop-holds
     add-lesser

@@ -1,4 +1,4 @@
--- Two words are set: the case and its source. Assumes nothing.
+-- Two words are set: the case and its source.
 use Prim.Native.Nat.{_+_}
 use lib.ListN.{length-set}
 use Rattle.search_join.specs.Parts.{part-put}
@@ -25,11 +25,11 @@ mul-store c = search needs
 slice-write-store : tie.Need-slice-write-store
 slice-write-store c = search needs
 
-add-source-at : tie.Need-add-source-at
-add-source-at c = search needs
+add-pointer-at : tie.Need-add-pointer-at
+add-pointer-at c = search needs
 
-source-at-requires : tie.Need-source-at-requires
-source-at-requires c κs = search needs
+pointer-at-requires : tie.Need-pointer-at-requires
+pointer-at-requires c κs = search needs
 
 add-store-2 : tie.Need-add-store-2
 add-store-2 c = search needs
@@ -47,7 +47,7 @@ returns : tie.Need-returns
 returns c =
     let k = c .before .before .before .before .before in
     let a = k .args in
-    part-put (a .starts) (a .lanes) (a .i) (a .q0) (a .q1) (a .a) (c .before .case-at .result + a .a) (c .source-at .result + a .a) _ _ (a .store .now) (k .pre .0) (k .pre .2) (omega arith) (omega arith) (omega arith) (omega arith) (omega arith) (c .before .before .join-case .ensures)
+    part-put (a .starts) (a .lanes) (a .i) (a .q0) (a .q1) (a .a) (c .before .case-at .result + a .a) (c .pointer-at .result + a .a) _ _ (a .store .now) (k .pre .0) (k .pre .2) (omega arith) (omega arith) (omega arith) (omega arith) (omega arith) (c .before .before .join-case .ensures)
 
 pub put-case-spec : {M : Type 1} → statement M
 put-case-spec =
@@ -59,8 +59,8 @@ put-case-spec =
     add-store
     mul-store
     slice-write-store
-    add-source-at
-    source-at-requires
+    add-pointer-at
+    pointer-at-requires
     add-store-2
     mul-store-2
     slice-write-store-2

@@ -1,4 +1,4 @@
--- The start pairs passed have other sums. Assumes nothing.
+-- The start states passed have other sums.
 use Prim.Native.Nat.{ℕ, _+_, _-_, _≤_, _<_}
 use mathlib.Core.Path.{_≡_, _∙_}
 use borrow.Author.Count.{below-more}
@@ -31,8 +31,8 @@ mul-if1 c = search needs
 shared-slice-read-if1 : tie.Need-shared-slice-read-if1 Inv-loop μ-loop
 shared-slice-read-if1 c = search needs
 
-price-at-requires : tie.Need-price-at-requires Inv-loop μ-loop
-price-at-requires c κs = search needs
+cost-at-requires : tie.Need-cost-at-requires Inv-loop μ-loop
+cost-at-requires c κs = search needs
 
 add-if1-2 : tie.Need-add-if1-2 Inv-loop μ-loop
 add-if1-2 c = search needs
@@ -47,12 +47,12 @@ add-if1-3 : tie.Need-add-if1-3 Inv-loop μ-loop
 add-if1-3 c =
     let k = c .before .before .before .before .before .before .before in
     let w = k .pre .0 .low .word in
-    omega (arith, w (c .before .before .before .case-at .result + k .args .lane), w (c .before .price-at .result + k .args .lane))
+    omega (arith, w (c .before .before .before .case-at .result + k .args .lane), w (c .before .cost-at .result + k .args .lane))
 
 returns : tie.Need-returns Inv-loop μ-loop
 returns c =
     let a = c .before .before .before .before .before .before .before .before .args in
-    let e = start-words (a .i) (a .store .now) (a .q0) (a .a) (c .before .before .before .before .before .before .loop .s) (a .t) (a .lane) _ _ (c .before .before .before .before .case-at .ensures) (c .before .before .price-at .ensures) in
+    let e = start-words (a .i) (a .store .now) (a .q0) (a .a) (c .before .before .before .before .before .before .loop .s) (a .t) (a .lane) _ _ (c .before .before .before .before .case-at .ensures) (c .before .before .cost-at .ensures) in
     λ k h g. (omega arith, omega arith)
 
 add-s : tie.Need-add-s Inv-loop μ-loop
@@ -64,7 +64,7 @@ loop-less c = search needs
 loop-again : tie.Need-loop-again Inv-loop μ-loop
 loop-again c =
     let a = c .before .before .before .before .before .before .before .before .args in
-    let e = start-words (a .i) (a .store .now) (a .q0) (a .a) (c .before .before .before .before .before .before .loop .s) (a .t) (a .lane) _ _ (c .before .before .before .before .case-at .ensures) (c .before .before .price-at .ensures) in
+    let e = start-words (a .i) (a .store .now) (a .q0) (a .a) (c .before .before .before .before .before .before .loop .s) (a .t) (a .lane) _ _ (c .before .before .before .before .case-at .ensures) (c .before .before .cost-at .ensures) in
     (omega arith, below-more _ _ (c .before .before .before .before .before .before .loop .inv .1) (λ g. c .if1 .left (e ∙ g)))
 
 returns-2 : tie.Need-returns-2 Inv-loop μ-loop
@@ -81,7 +81,7 @@ start-of-spec =
     add-if1
     mul-if1
     shared-slice-read-if1
-    price-at-requires
+    cost-at-requires
     add-if1-2
     mul-if1-2
     shared-slice-read-if1-2

@@ -1,4 +1,4 @@
--- A start pair whose lanes are all NONE has no way; another one lowers the sums of one pair t after the other. Assumes nothing.
+-- A start state whose lanes are all NONE has no way; another one lowers the sums of one state t after the other.
 use Prim.Native.Nat.{ℕ, _+_, _*_, _-_, _≤_}
 use mathlib.Core.Path.{_≡_, refl}
 use Rattle.search_join.specs.Sums.{Sums}
@@ -15,18 +15,18 @@ Inv-loop sums₀ store i starts lanes s q0 a t₀ sums t =
 abbrev μ-loop : tie.MeasureT-loop
 μ-loop sums₀ store i starts lanes s q0 a t₀ sums t = starts - t
 
-price-at-requires : tie.Need-price-at-requires Inv-loop μ-loop
-price-at-requires c κs = let w = c .before .pre .0 .pairs in (omega arith, omega arith, omega arith, omega arith)
+cost-at-requires : tie.Need-cost-at-requires Inv-loop μ-loop
+cost-at-requires c κs = let w = c .before .pre .0 .states in (omega arith, omega arith, omega arith, omega arith)
 
 common-requires : tie.Need-common-requires Inv-loop μ-loop
-common-requires c κs = let w = c .before .before .pre .0 in omega (arith, w .long, w .pairs, w .few, c .price-at .ensures)
+common-requires c κs = let w = c .before .before .pre .0 in omega (arith, w .long, w .states, w .few, c .cost-at .ensures)
 
 returns : tie.Need-returns Inv-loop μ-loop
 returns c =
     let k = c .before .before .before .before in
     let a = k .args in (
       sums-skip (a .starts) (a .lanes) (a .i) (a .store .now) (a .q0) (a .a) (a .s) (k .pre .1)
-          (λ t l g. start-none (a .i) (a .store .now) (a .q0) (a .a) (a .s) t l _ (c .before .before .price-at .ensures) (omega (arith, c .before .common .ensures l g))),
+          (λ t l g. start-none (a .i) (a .store .now) (a .q0) (a .a) (a .s) t l _ (c .before .before .cost-at .ensures) (omega (arith, c .before .common .ensures l g))),
       λ e. refl,
     )
 
@@ -65,7 +65,7 @@ sums-from-spec =
     (tie.spec
     Inv-loop
     μ-loop
-    price-at-requires
+    cost-at-requires
     common-requires
     returns
     loop-holds

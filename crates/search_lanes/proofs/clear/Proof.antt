@@ -1,4 +1,4 @@
--- Zeros up to `i`, and the store as it was from there on. Assumes nothing.
+-- Zeros up to `i`, and the store as it was from there on.
 use Prim.Native.Nat.{ℕ, _+_, _-_, _≤_}
 use mathlib.Core.Path.{_≡_, refl, ap, _∙_}
 use mathlib.Core.List.{List, _++_, append-nil}

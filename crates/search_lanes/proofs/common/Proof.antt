@@ -1,4 +1,4 @@
--- After l turns x is at most the lanes below l, since common bits are at most each number that has them. Assumes nothing.
+-- After l turns x is at most the lanes below l, since common bits are at most each number that has them.
 use Prim.Native.Nat.{ℕ, _+_, _-_, _≤_, _<_}
 use native.Mathlib.Omega.{arith}
 use borrow.Author.Count.{below-more}

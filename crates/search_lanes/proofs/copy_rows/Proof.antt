@@ -1,4 +1,4 @@
--- Each turn copies one row more; the words below the place written are as they were. Assumes nothing.
+-- Each turn copies one row more; the words below the place written are as they were.
 use Prim.Native.Nat.{_+_, _*_, _-_, _≤_}
 use mathlib.Core.Path.{_≡_, sym}
 use native.Mathlib.Omega.{arith}

@@ -1,4 +1,4 @@
--- Each turn fills one row more. Assumes nothing.
+-- Each turn fills one row more.
 use Prim.Native.Nat.{_-_, _≤_}
 use mathlib.Core.Path.{_≡_, refl}
 use native.Mathlib.Omega.{arith}

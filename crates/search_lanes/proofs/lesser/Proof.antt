@@ -1,4 +1,4 @@
--- Words below 2^31 are the same numbers signed. Assumes nothing.
+-- Words below 2^31 are the same numbers signed.
 use Prim.Native.Nat.{ℕ, _≤_}
 use mathlib.Core.Path.{_≡_, sym, ap₂, _∙_}
 use native.Mathlib.Omega.{arith}

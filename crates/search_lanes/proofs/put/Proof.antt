@@ -1,4 +1,4 @@
--- Each turn writes one lane more. Assumes nothing.
+-- Each turn writes one lane more.
 use Prim.Native.Nat.{_-_, _≤_}
 use mathlib.Core.Path.{_≡_}
 use native.Mathlib.Omega.{arith}

@@ -1,4 +1,4 @@
--- A row begins and ends anywhere. Assumes nothing.
+-- A row begins and ends anywhere.
 use mathlib.Core.Path.{refl}
 use Rattle.search_row.specs.Words.{backIn}
 use Rattle.search_row.proofs.back.Statement.{statement}

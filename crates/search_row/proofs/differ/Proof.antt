@@ -1,4 +1,4 @@
--- Each height counts 0 or 1. Assumes nothing.
+-- Each height counts 0 or 1.
 use Prim.Native.Nat.{_+_}
 use mathlib.Core.Path.{_≡_, ap₂}
 use native.Mathlib.Omega.{arith}

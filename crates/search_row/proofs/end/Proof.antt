@@ -1,4 +1,4 @@
--- Words are at most B, so that the sum fits. Assumes nothing.
+-- Words are at most B, so that the sum fits.
 use Prim.Native.Nat.{_+_, _*_, _/_, _%_}
 use native.Mathlib.Omega.{arith}
 use borrow.Author.Needs.{needs}

@@ -1,4 +1,4 @@
--- Each return reads the tests on its way; the words of a pair are its marks and the marks before. Assumes nothing.
+-- Each return reads the tests on its way; the words of a state are its marks and the marks before.
 use Prim.Native.Nat.{ℕ, _<_}
 use mathlib.Core.Path.{_≡_, refl, sym, ap, ap₂, _∙_}
 use mathlib.Core.Bool.{Bool, true, false, _&&_, not}

@@ -1,4 +1,4 @@
--- The pair's first word is its digit; each return rewrites with the test. Assumes nothing.
+-- The state's first word is its digit; each return rewrites with the test.
 use Prim.Native.Nat.{suc, _+_, _≤_, _<_}
 use native.Mathlib.Omega.{arith}
 use borrow.Author.Tests.{le-leb, lt-leb}

@@ -1,4 +1,4 @@
--- The pair's first word is its digit. Assumes nothing.
+-- The state's first word is its digit.
 use native.Mathlib.Omega.{arith}
 use borrow.Author.Needs.{needs}
 use Rattle.search_row.proofs.last_at.Statement.{statement}

@@ -1,4 +1,4 @@
--- Each return reads the tests on its way; charges are at most 1, weights are small. Assumes nothing.
+-- Each return reads the tests on its way; charges are at most 1, weights are small.
 use Prim.Native.Nat.{ℕ, _*_, _-_, _≤_, _<_}
 use mathlib.Core.Path.{_≡_, refl, ap, ap₂, _∙_}
 use mathlib.Core.List.{List}

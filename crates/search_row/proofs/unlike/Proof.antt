@@ -1,4 +1,4 @@
--- Both answers follow from the test. Assumes nothing.
+-- Both answers follow from the test.
 use borrow.Author.Tests.{eq-eqb, ne-eqb}
 use Rattle.search_row.proofs.unlike.Statement.{statement}
 use Rattle.search_row.proofs.unlike.Tie as tie

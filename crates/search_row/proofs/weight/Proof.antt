@@ -1,4 +1,4 @@
--- The word that the gap tells. Assumes nothing.
+-- The word that the gap tells.
 use Prim.Native.Nat.{ℕ}
 use mathlib.Core.Path.{_≡_}
 use mathlib.Core.Bool.{Bool, cond}

@@ -1,4 +1,4 @@
--- A word fits a count. Assumes nothing.
+-- A word fits a count.
 use native.Mathlib.Omega.{arith}
 use borrow.Author.Needs.{needs}
 use Rattle.search_row.proofs.word.Statement.{statement}

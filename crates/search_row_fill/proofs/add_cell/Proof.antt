@@ -1,4 +1,4 @@
--- The cell is written just if it stands in the row. Assumes nothing.
+-- The cell is written just if it stands in the row.
 use mathlib.Core.Bool.{false≢true}
 use mathlib.Core.Path.{refl, sym, _∙_}
 use borrow.Author.Tests.{not-true, not-false}

@@ -1,4 +1,4 @@
--- The position is the next of those to come just if its word says tall. Assumes nothing.
+-- The position is the next of those to come just if its word says tall.
 use borrow.Author.Tests.{eq-eqb, ne-eqb}
 use borrow.Author.Needs.{needs}
 use Rattle.search_row_fill.specs.TallWords.{talls-room, talls-more, talls-skip}

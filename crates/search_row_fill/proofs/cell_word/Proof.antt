@@ -1,4 +1,4 @@
--- The cases of the definition, by the word's place; no word is large. Assumes nothing.
+-- The cases of the definition, by the word's place; no word is large.
 use Prim.Native.Nat.{_-_}
 use mathlib.Core.Path.{sym, _∙_}
 use native.Mathlib.Omega.{arith}

@@ -1,4 +1,4 @@
--- The two tests of the definition, one after the other. Assumes nothing.
+-- The two tests of the definition, one after the other.
 use borrow.Author.Tests.{eq-eqb, ne-eqb}
 use Rattle.search_row_fill.proofs.counts_there.Statement.{statement}
 use Rattle.search_row_fill.proofs.counts_there.Tie as tie

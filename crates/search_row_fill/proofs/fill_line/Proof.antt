@@ -1,5 +1,4 @@
 -- The words are cleared, so that beyond the cells written there is 0. Each turn settles one cell of the job; at the end all of the row's are there.
--- Assumes nothing.
 use Prim.Native.Nat.{_<_}
 use Prim.Native.Nat.{_-_}
 use mathlib.Core.Path.{_≡_, refl, _∙_}

@@ -1,4 +1,4 @@
--- Each turn settles one position; at the end nothing is to come. Assumes nothing.
+-- Each turn settles one position; at the end nothing is to come.
 use Prim.Native.Nat.{_-_, _≤_}
 use mathlib.Core.Path.{_≡_, refl}
 use native.Mathlib.Omega.{arith}

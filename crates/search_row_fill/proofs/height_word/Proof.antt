@@ -1,4 +1,4 @@
--- The height stands where the definition has it: the row's first place, and the edge's among the row's four. Assumes nothing.
+-- The height stands where the definition has it: the row's first place, and the edge's among the row's four.
 use Prim.Native.Nat.{_+_, _/_, _%_}
 use mathlib.Core.Path.{ap, ap₂, _∙_}
 use native.Mathlib.Omega.{arith}

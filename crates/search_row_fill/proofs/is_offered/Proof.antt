@@ -1,4 +1,4 @@
--- The tests of `isOffered`, one after the other, on the values of the header and the cell. Assumes nothing.
+-- The tests of `isOffered`, one after the other, on the values of the header and the cell.
 use Prim.Native.Nat.{_+_, _/_, _%_}
 use mathlib.Core.Path.{sym, _∙_}
 use native.Mathlib.Omega.{arith}

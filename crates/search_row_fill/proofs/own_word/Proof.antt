@@ -1,4 +1,4 @@
--- Not offered, a tall cell's in row 1, or the cost: the cases of the definition. Assumes nothing.
+-- Not offered, a tall cell's in row 1, or the cost: the cases of the definition.
 use mathlib.Core.Path.{sym, _∙_}
 use native.Mathlib.Omega.{arith}
 use borrow.Author.Tests.{not-true, not-false}

@@ -1,4 +1,4 @@
--- The three terms of a cell's own cost, each a small product. Assumes nothing.
+-- The three terms of a cell's own cost, each a small product.
 use Prim.Native.Nat.{_+_, _*_}
 use mathlib.Core.Path.{sym, ap, ap₂, _∙_}
 use native.Mathlib.Omega.{arith}

@@ -1,4 +1,4 @@
--- Words 64, 65 and 66, and 67: the cases of the definition. Assumes nothing.
+-- Words 64, 65 and 66, and 67: the cases of the definition.
 use mathlib.Core.Bool.{cond}
 use mathlib.Core.Path.{sym, ap, _∙_}
 use native.Mathlib.Omega.{arith}

@@ -1,4 +1,4 @@
--- A product of a number up to 1000 and one up to 16 is small. Assumes nothing.
+-- A product of a number up to 1000 and one up to 16 is small.
 use Prim.Native.Nat.{_*_, _≤_}
 use mathlib.Core.Path.{refl}
 use native.Mathlib.Omega.{arith}

@@ -1,4 +1,4 @@
--- The test of the definition, by cases of the mark. Assumes nothing.
+-- The test of the definition, by cases of the mark.
 use borrow.Author.Tests.{eq-eqb, ne-eqb}
 use Rattle.search_row_fill.proofs.turns.Statement.{statement}
 use Rattle.search_row_fill.proofs.turns.Tie as tie

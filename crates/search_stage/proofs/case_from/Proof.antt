@@ -1,4 +1,4 @@
--- Row 0's pair is the first of a case, row 1's the second. Assumes nothing.
+-- Row 0's state is the first of a case, row 1's the second.
 use mathlib.Core.Path.{_∙_}
 use borrow.Author.Needs.{needs}
 use Rattle.search_stage.specs.Starts.{from-0, from-1}

@@ -1,4 +1,4 @@
--- By the two that it calls. Assumes nothing.
+-- By the two that it calls.
 use Prim.Native.Nat.{ℕ}
 use mathlib.Core.Path.{ap, _∙_}
 use borrow.Author.Needs.{needs}

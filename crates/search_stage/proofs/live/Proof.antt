@@ -1,4 +1,4 @@
--- The pairs passed have no case. Assumes nothing.
+-- The states passed have no case.
 use Prim.Native.Nat.{ℕ, _+_, _-_, _≤_, _<_}
 use native.Mathlib.Omega.{arith}
 use mathlib.Core.Path.{_≡_}
@@ -24,7 +24,7 @@ loop-holds c = (omega arith, λ u h. absurd (omega arith))
 case-from-requires : tie.Need-case-from-requires Inv-loop μ-loop
 case-from-requires c κs =
     let w = c .before .before .before .pre .0 in
-    (omega (arith, w .stage), omega (arith, w .pairs), omega (arith, w .pairs))
+    (omega (arith, w .stage), omega (arith, w .states), omega (arith, w .states))
 
 common-requires : tie.Need-common-requires Inv-loop μ-loop
 common-requires c κs =

@@ -1,4 +1,4 @@
--- The digit of pair s is in the pairs' words. Assumes nothing.
+-- The digit of state s is in the states' words.
 use native.Mathlib.Omega.{arith}
 use borrow.Author.Needs.{needs}
 use Rattle.search_stage.proofs.placed_with.Statement.{statement}

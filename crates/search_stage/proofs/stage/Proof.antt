@@ -1,22 +1,22 @@
--- The prices of both rows, joined with the table before; then the lanes beyond the poses are closed. Assumes nothing.
+-- The costs of both rows, joined with the table before; then the lanes beyond the poses are closed.
 use Prim.Native.Nat.{_+_}
 use mathlib.Core.Path.{_∙_}
 use Rattle.search_row.specs.Words.{deckOf}
 use Rattle.search_stage.specs.Stage.{posIn}
-use Rattle.search_stage.specs.Laws.{wide-lanes, stage-made, given-pairs, given-wide, given-join}
+use Rattle.search_stage.specs.Laws.{wide-lanes, stage-made, given-states, given-wide, given-join}
 use native.Mathlib.Omega.{arith}
 use borrow.Author.Needs.{needs}
 use Rattle.search_stage.proofs.stage.Statement.{statement}
 use Rattle.search_stage.proofs.stage.Tie as tie
 
-prices-requires : tie.Need-prices-requires
-prices-requires c κs = search needs
+costs-requires : tie.Need-costs-requires
+costs-requires c κs = search needs
 
 wide-of-requires : tie.Need-wide-of-requires
 wide-of-requires c κs = search needs
 
 lanes-of-requires : tie.Need-lanes-of-requires
-lanes-of-requires c κs = given-pairs (c .before .before .before .before .before .before .before .before .before .before .before .before .pre .1) .2
+lanes-of-requires c κs = given-states (c .before .before .before .before .before .before .before .before .before .before .before .before .pre .1) .2
 
 add-wide-of : tie.Need-add-wide-of
 add-wide-of c = search needs
@@ -35,7 +35,7 @@ join-stage-requires c κs =
     let k = c .before .before .before .before .before .before .before .before .before .before .before .before .before .before .before .before in
     let g = k .pre .1 in
     let x = given-wide g (k .args .i + 1) in
-    let p = c .before .before .before .before .before .before .before .prices .ensures .0 in (
+    let p = c .before .before .before .before .before .before .before .costs .ensures .0 in (
       rw (c .before .before .before .before .wide-of .ensures, c .before .before .before .lanes-of .ensures) (given-join g (k .args .i) _ (k .pre .2) (p .long) (p .low)),
       omega (arith, c .before .before .wide-of2 .ensures, x .2, p .long),
       omega (arith, c .before .before .wide-of2 .ensures, x .0),
@@ -43,28 +43,28 @@ join-stage-requires c κs =
     )
 
 add-lanes-of : tie.Need-add-lanes-of
-add-lanes-of c = let k = c .before .before .before .before .before .before .before .before .before .before .before .before .before .before .before .before .before .before .before in omega (arith, k .pre .2, given-pairs (k .pre .1) .3)
+add-lanes-of c = let k = c .before .before .before .before .before .before .before .before .before .before .before .before .before .before .before .before .before .before .before in omega (arith, k .pre .2, given-states (k .pre .1) .3)
 
 lanes-of-requires-2 : tie.Need-lanes-of-requires-2
-lanes-of-requires-2 c κs = given-pairs (c .before .before .before .before .before .before .before .before .before .before .before .before .before .before .before .before .before .before .before .pre .1) .2
+lanes-of-requires-2 c κs = given-states (c .before .before .before .before .before .before .before .before .before .before .before .before .before .before .before .before .before .before .before .pre .1) .2
 
 add-close-lanes : tie.Need-add-close-lanes
-add-close-lanes c = let k = c .before .before .before .before .before .before .before .before .before .before .before .before .before .before .before .before .before .before .before .before .before in omega (arith, k .pre .2, given-pairs (k .pre .1) .3)
+add-close-lanes c = let k = c .before .before .before .before .before .before .before .before .before .before .before .before .before .before .before .before .before .before .before .before .before in omega (arith, k .pre .2, given-states (k .pre .1) .3)
 
 close-lanes-requires : tie.Need-close-lanes-requires
 close-lanes-requires c κs =
     let k = c .before .before .before .before .before .before .before .before .before .before .before .before .before .before .before .before .before .before .before .before .before in
     let g = k .pre .1 in
     let x = given-wide g (k .args .i + 1) in
-    let y = wide-lanes (k .args .talls) (k .args .i + 1) (k .args .poses) (given-pairs g .2) in
-    let p = c .before .before .before .before .before .before .before .before .before .before .before .before .prices .ensures .0 in
+    let y = wide-lanes (k .args .talls) (k .args .i + 1) (k .args .poses) (given-states g .2) in
+    let p = c .before .before .before .before .before .before .before .before .before .before .before .before .costs .ensures .0 in
     let j = c .before .before .before .before .join-stage .ensures in
     let ends = c .before .before .before .before .before .before .before .wide-of2 .ensures in
     let last = c .before .before .before .before .before .before .wide-of3 .ensures in
     let width = c .before .lanes-of2 .ensures in (
       j .low,
       omega (arith, ends, x .2, j .long, p .long),
-      omega (arith, k .pre .2, given-pairs g .3),
+      omega (arith, k .pre .2, given-states g .3),
       omega (arith, ends, x .0),
       omega (arith, last, width, y .0),
       omega (arith, width, y .1),
@@ -72,27 +72,27 @@ close-lanes-requires c κs =
 
 same-length : tie.Need-same-length
 same-length c =
-    c .before .before .close-lanes .ensures .long ∙ c .before .before .before .before .before .before .before .join-stage .ensures .long ∙ c .before .before .before .before .before .before .before .before .before .before .before .before .before .before .before .prices .ensures .0 .long
+    c .before .before .close-lanes .ensures .long ∙ c .before .before .before .before .before .before .before .join-stage .ensures .long ∙ c .before .before .before .before .before .before .before .before .before .before .before .before .before .before .before .costs .ensures .0 .long
 
 returns : tie.Need-returns
 returns c =
     let k = c .before .before .before .before .before .before .before .before .before .before .before .before .before .before .before .before .before .before .before .before .before .before .before .before in
     let a = k .args in
     let g = k .pre .1 in
-    let n = given-pairs g in
+    let n = given-states g in
     let all = g .row₀ .ground .all in (
       stage-made (deckOf (a .line0 .now) (a .n0) (a .poses)) (deckOf (a .line1 .now) (a .n1) (a .poses)) (a .r) (a .talls) (posIn (a .places0 .now)) (posIn (a .places1 .now))
           (omega (arith, all, n .0)) (omega (arith, all, n .1)) (n .2) (a .i) (a .count) _ _ _ _ _
           (c .before .before .before .before .before .before .before .before .before .before .before .before .wide-of .ensures) (c .before .before .before .before .before .before .before .before .before .before .before .lanes-of .ensures) (c .before .before .before .before .before .before .before .before .before .before .wide-of2 .ensures) (c .before .before .before .before .before .before .before .before .before .wide-of3 .ensures) (c .before .before .before .before .lanes-of2 .ensures)
-          all (k .pre .2) (n .3) (c .before .before .before .before .before .before .before .before .before .before .before .before .before .before .before .prices .ensures .0) (c .before .before .before .before .before .before .before .join-stage .ensures) (c .before .before .close-lanes .ensures),
-      c .before .before .before .before .before .before .before .before .before .before .before .before .before .before .before .prices .ensures .1,
+          all (k .pre .2) (n .3) (c .before .before .before .before .before .before .before .before .before .before .before .before .before .before .before .costs .ensures .0) (c .before .before .before .before .before .before .before .join-stage .ensures) (c .before .before .close-lanes .ensures),
+      c .before .before .before .before .before .before .before .before .before .before .before .before .before .before .before .costs .ensures .1,
     )
 
 pub stage-spec : {M : Type 1} → statement M
 stage-spec =
     tie.close
     (tie.spec
-    prices-requires
+    costs-requires
     wide-of-requires
     lanes-of-requires
     add-wide-of

@@ -1,4 +1,4 @@
--- Each turn goes through one stage more. Assumes nothing.
+-- Each turn goes through one stage more.
 use Prim.Native.Nat.{suc, _-_, _≤_}
 use mathlib.Core.Path.{_∙_}
 use lib.ListN.{length-set}
@@ -6,17 +6,17 @@ use Rattle.search_row.specs.Words.{deckOf}
 use Rattle.search_wide_buckets.specs.Table.{Lent}
 use Rattle.search_wide_buckets.specs.TableLaws.{lent-zeros}
 use Rattle.search_stage.specs.Stage.{posIn, Through}
-use Rattle.search_stage.specs.Laws.{through-none, through-more, through-all, given-pairs, given-first}
+use Rattle.search_stage.specs.Laws.{through-none, through-more, through-all, given-states, given-first}
 use native.Mathlib.Omega.{arith}
 use Rattle.search_stage.proofs.stages.Statement.{statement}
 use Rattle.search_stage.proofs.stages.Tie as tie
 
 abbrev Inv-loop : tie.InvT-loop
-Inv-loop store₀ line0 line1 pairs places0 places1 n0 n1 poses r count talls table₀ i₀ store table i =
+Inv-loop store₀ line0 line1 states places0 places1 n0 n1 poses r count talls table₀ i₀ store table i =
     (i ≤ suc talls) × Through (deckOf line0 n0 poses) (deckOf line1 n1 poses) r talls (posIn places0) (posIn places1) i store₀ store × Lent table
 
 abbrev μ-loop : tie.MeasureT-loop
-μ-loop store₀ line0 line1 pairs places0 places1 n0 n1 poses r count talls table₀ i₀ store table i = suc talls - i
+μ-loop store₀ line0 line1 states places0 places1 n0 n1 poses r count talls table₀ i₀ store table i = suc talls - i
 
 case-at-requires : tie.Need-case-at-requires Inv-loop μ-loop
 case-at-requires c κs = (omega arith, omega arith, omega arith)
@@ -52,7 +52,7 @@ loop-again : tie.Need-loop-again Inv-loop μ-loop
 loop-again c =
     let k = c .before .before .before .before .before .before .before .before .before .before .before .before .before .before in
     let a = k .args in
-    let n = given-pairs (k .pre) in
+    let n = given-states (k .pre) in
     let all = k .pre .row₀ .ground .all in (
       omega (arith, c .before .before .before .before .before .loop-test .taken),
       through-more (deckOf (a .line0 .now) (a .n0) (a .poses)) (deckOf (a .line1 .now) (a .n1) (a .poses)) (a .r) (a .talls) (posIn (a .places0 .now)) (posIn (a .places1 .now)) (omega (arith, all, n .0)) (omega (arith, all, n .1)) (n .2) (omega (arith, n .3, c .before .before .before .before .before .loop-test .taken)) (c .before .before .before .before .before .before .loop .inv .1) (c .before .before .stage .ensures .0),

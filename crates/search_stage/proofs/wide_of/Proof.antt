@@ -1,4 +1,4 @@
--- By cases. Assumes nothing.
+-- By cases.
 use Rattle.search_stage.specs.Laws.{wide-first, wide-last, wide-tall}
 use Rattle.search_stage.proofs.wide_of.Statement.{statement}
 use Rattle.search_stage.proofs.wide_of.Tie as tie

@@ -1,4 +1,4 @@
--- A rounded quotient. Assumes nothing.
+-- A rounded quotient.
 use mathlib.Core.Path.{refl}
 use borrow.Author.Needs.{needs}
 use Rattle.search_stage.specs.Stage.{widthOf}

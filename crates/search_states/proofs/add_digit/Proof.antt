@@ -1,4 +1,4 @@
--- The digit's pair is the next of those to come just if the test says so. Assumes nothing.
+-- The digit's state is the next of those to come just if the test says so.
 use mathlib.Core.Path.{sym, _∙_}
 use native.Mathlib.Omega.{arith}
 use borrow.Author.Tests.{not-true, not-false}
@@ -15,8 +15,8 @@ returns c =
     let k = c .before .before .before in
     skip-digit _ _ _ (omega arith) (sym (c .before .may-be-last .ensures) ∙ not-true (c .before .may-be-last .result) (c .if1 .taken)) (k .pre .3)
 
-put-pair-requires : tie.Need-put-pair-requires
-put-pair-requires c κs =
+put-state-requires : tie.Need-put-state-requires
+put-state-requires c κs =
     let k = c .before .before .before .before in
     let t = sym (c .before .before .may-be-last .ensures) ∙ not-false (c .before .before .may-be-last .result) (c .before .if1 .left) in
     let u = next-digit (k .args .m) (k .args .d) _ (omega arith) t (k .pre .3) in
@@ -35,9 +35,9 @@ returns-2 c =
     let k = c .before .before .before .before .before .before .before in
     let t = sym (c .before .before .before .before .before .may-be-last .ensures) ∙ not-false (c .before .before .before .before .before .may-be-last .result) (c .before .before .before .before .if1 .left) in
     let u = next-digit (k .args .m) (k .args .d) _ (omega arith) t (k .pre .3) in
-    rw (c .before .before .put-pair .ensures) (upto-more (k .pre .0) u)
+    rw (c .before .before .put-state .ensures) (upto-more (k .pre .0) u)
 
 pub add-digit-spec : {M : Type 1} → statement M
 add-digit-spec =
     tie.close
-    (tie.spec may-be-last-requires returns put-pair-requires add-result same-length returns-2)
+    (tie.spec may-be-last-requires returns put-state-requires add-result same-length returns-2)

@@ -1,4 +1,4 @@
--- Each turn settles one digit; the marks after m are still to come. Assumes nothing.
+-- Each turn settles one digit; the marks after m are still to come.
 use Prim.Native.Nat.{suc, _+_, _*_, _-_, _≤_}
 use mathlib.Core.Path.{_≡_, refl, sym, _∙_}
 use mathlib.Core.List.{_++_}
@@ -11,10 +11,10 @@ use Rattle.search_states.proofs.add_marks.Statement.{statement}
 use Rattle.search_states.proofs.add_marks.Tie as tie
 
 abbrev Inv-loop : tie.InvT-loop
-Inv-loop pairs₀ count r m n₀ d₀ pairs n d = (d ≤ suc (2 * r)) × (length pairs ≡ length pairs₀) × Upto r pairs n (digitsFrom r m d ++ marksFrom r (m + 1))
+Inv-loop states₀ count r m n₀ d₀ states n d = (d ≤ suc (2 * r)) × (length states ≡ length states₀) × Upto r states n (digitsFrom r m d ++ marksFrom r (m + 1))
 
 abbrev μ-loop : tie.MeasureT-loop
-μ-loop pairs₀ count r m n₀ d₀ pairs n d = suc (2 * r) - d
+μ-loop states₀ count r m n₀ d₀ states n d = suc (2 * r) - d
 
 is-marks-requires : tie.Need-is-marks-requires Inv-loop μ-loop
 is-marks-requires c κs = search needs

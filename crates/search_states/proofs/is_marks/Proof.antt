@@ -1,4 +1,4 @@
--- The two tests of the definition, one after the other. Assumes nothing.
+-- The two tests of the definition, one after the other.
 use native.Mathlib.Numerals.{add-one}
 use borrow.Author.Tests.{eq-eqb, ne-eqb}
 use borrow.Author.Needs.{needs}

@@ -1,4 +1,4 @@
--- The tests of the definition, one after the other, on the digits read. Assumes nothing.
+-- The tests of the definition, one after the other, on the digits read.
 use borrow.Author.Tests.{eq-eqb, ne-eqb}
 use borrow.Author.Needs.{needs}
 use Rattle.search_states.proofs.may_be_last.Statement.{statement}

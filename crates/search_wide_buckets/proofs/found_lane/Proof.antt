@@ -1,4 +1,4 @@
--- The four words are those of the gaps that pay and of the row that ran up. Assumes nothing.
+-- The four words are those of the gaps that pay and of the row that ran up.
 use Prim.Native.Nat.{ℕ, _+_, _*_, _-_, _/_, _%_}
 use mathlib.Core.Path.{refl}
 use native.Mathlib.Omega.{arith}
@@ -15,7 +15,7 @@ abbrev near : tie.Start → ℕ
 near k = (1 + k .args .a % 4) * 1216 + far k
 
 abbrev other : tie.Start → ℕ
-other k = (k .args .planes - 4 + k .args .a % 4) * 1216 + far k
+other k = (k .args .buckets - 4 + k .args .a % 4) * 1216 + far k
 
 mul-far : tie.Need-mul-far
 mul-far c = search needs
@@ -95,7 +95,7 @@ lesser-requires-3 c κs =
 returns : tie.Need-returns
 returns c =
     let k = c .before .before .before .before .before .before .before in
-    let e = found-words (k .args .planes) (k .args .a) (k .args .l) (near k) (other k) (far k) (k .pre .1) refl refl refl in
+    let e = found-words (k .args .buckets) (k .args .a) (k .args .l) (near k) (other k) (far k) (k .pre .1) refl refl refl in
     omega (arith, e, c .lesser3 .ensures, c .before .before .lesser2 .ensures, c .before .before .before .before .lesser .ensures)
 
 pub found-lane-spec : {M : Type 1} → statement M

@@ -1,4 +1,4 @@
--- A source that ends right of all rows that count, or whose lanes are all NONE, lowers nothing; another one is spread over the planes. Assumes nothing.
+-- A source that ends right of all rows that count, or whose lanes are all NONE, lowers nothing; another one is spread over the buckets.
 use Prim.Native.Nat.{ℕ, _+_, _*_}
 use mathlib.Core.Path.{_≡_, refl}
 use native.Mathlib.Omega.{arith}

@@ -1,4 +1,4 @@
--- After b turns the poses below b are gathered. Assumes nothing.
+-- After b turns the poses below b are gathered.
 use Prim.Native.Nat.{ℕ, _-_, _≤_}
 use mathlib.Core.Path.{_≡_, refl, sym, _∙_}
 use mathlib.Core.Bool.{true, false}
@@ -16,11 +16,11 @@ true-false : true ≡ false → ⊥
 true-false e = let z : _≡_ {A = ℕ} 0 1 = cc in omega arith
 
 abbrev Inv-loop : tie.InvT-loop
-Inv-loop table₀ store line pays at k m poses planes lanes rows used₀ b₀ table used b =
-    (b ≤ poses) × (rows ≡ rowsOf poses) × Gathered (posesIn store line at k m b) rows planes lanes table₀ table × (used ≡ false → table ≡ table₀)
+Inv-loop table₀ store line pays at k m poses buckets lanes rows used₀ b₀ table used b =
+    (b ≤ poses) × (rows ≡ rowsOf poses) × Gathered (posesIn store line at k m b) rows buckets lanes table₀ table × (used ≡ false → table ≡ table₀)
 
 abbrev μ-loop : tie.MeasureT-loop
-μ-loop table₀ store line pays at k m poses planes lanes rows used₀ b₀ table used b =
+μ-loop table₀ store line pays at k m poses buckets lanes rows used₀ b₀ table used b =
     poses - b
 
 rows-of-requires : tie.Need-rows-of-requires Inv-loop μ-loop

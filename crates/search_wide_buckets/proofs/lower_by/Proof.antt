@@ -1,4 +1,4 @@
--- Each turn lowers one lane more; the lanes that it is lowered to lie below. Assumes nothing.
+-- Each turn lowers one lane more; the lanes that it is lowered to lie below.
 use Prim.Native.Nat.{_+_, _-_, _≤_}
 use mathlib.Core.Path.{_≡_}
 use native.Mathlib.Omega.{arith}

@@ -1,4 +1,4 @@
--- The word is the lesser of itself and x. Assumes nothing.
+-- The word is the lesser of itself and x.
 use native.Mathlib.Omega.{arith}
 use Rattle.search_lanes.specs.Lanes.{always}
 use Rattle.search_wide_buckets.specs.TableLaws.{lowered-at-one}

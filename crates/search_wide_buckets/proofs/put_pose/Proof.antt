@@ -1,4 +1,4 @@
--- A pose that is not offered has no way to it. Assumes nothing.
+-- A pose that is not offered has no way to it.
 use native.Mathlib.Omega.{arith}
 use Rattle.search_lanes.specs.Laws.{written-ext}
 use borrow.Author.Needs.{needs}

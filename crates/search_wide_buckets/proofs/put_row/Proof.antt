@@ -1,4 +1,4 @@
--- Each turn writes one lane more. Assumes nothing.
+-- Each turn writes one lane more.
 use Prim.Native.Nat.{_-_, _≤_}
 use mathlib.Core.Path.{_≡_}
 use native.Mathlib.Omega.{arith}
@@ -11,11 +11,11 @@ use Rattle.search_wide_buckets.proofs.put_row.Statement.{statement}
 use Rattle.search_wide_buckets.proofs.put_row.Tie as tie
 
 abbrev Inv-loop : tie.InvT-loop
-Inv-loop store₀ at table a own planes lanes l₀ store l =
-    (l ≤ lanes) × Written (foundRow planes table own a) at l store₀ store
+Inv-loop store₀ at table a own buckets lanes l₀ store l =
+    (l ≤ lanes) × Written (foundRow buckets table own a) at l store₀ store
 
 abbrev μ-loop : tie.MeasureT-loop
-μ-loop store₀ at table a own planes lanes l₀ store l = lanes - l
+μ-loop store₀ at table a own buckets lanes l₀ store l = lanes - l
 
 loop-holds : tie.Need-loop-holds Inv-loop μ-loop
 loop-holds c = (omega arith, written-none _ _ (c .before .pre .4))
@@ -26,12 +26,12 @@ found-lane-requires c κs = search needs
 add-lesser : tie.Need-add-lesser Inv-loop μ-loop
 add-lesser c =
     let k = c .before .before .before .before in
-    omega (arith, c .found-lane .ensures, found-small (k .args .planes) (k .args .a) (c .before .before .loop .l) (k .pre .5))
+    omega (arith, c .found-lane .ensures, found-small (k .args .buckets) (k .args .a) (c .before .before .loop .l) (k .pre .5))
 
 lesser-requires : tie.Need-lesser-requires Inv-loop μ-loop
 lesser-requires c κs =
     let k = c .before .before .before .before in
-    (omega (arith, c .found-lane .ensures, found-small (k .args .planes) (k .args .a) (c .before .before .loop .l) (k .pre .5)), omega arith)
+    (omega (arith, c .found-lane .ensures, found-small (k .args .buckets) (k .args .a) (c .before .before .loop .l) (k .pre .5)), omega arith)
 
 add-store : tie.Need-add-store Inv-loop μ-loop
 add-store c = search needs

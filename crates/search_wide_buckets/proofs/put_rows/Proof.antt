@@ -1,24 +1,24 @@
--- Each turn writes one row more. Assumes nothing.
+-- Each turn writes one row more.
 use Prim.Native.Nat.{_-_, _≤_}
 use mathlib.Core.Path.{_≡_, refl}
 use native.Mathlib.Omega.{arith}
 use borrow.Author.Needs.{needs}
-use Rattle.search_lanes.specs.Store.{FilledPair}
-use Rattle.search_lanes.specs.Laws.{pair-none, pair-more}
+use Rattle.search_lanes.specs.Store.{FilledState}
+use Rattle.search_lanes.specs.Laws.{state-none, state-more}
 use Rattle.search_wide_buckets.specs.Table.{foundRows}
 use Rattle.search_wide_buckets.specs.TableLaws.{rows-on}
 use Rattle.search_wide_buckets.proofs.put_rows.Statement.{statement}
 use Rattle.search_wide_buckets.proofs.put_rows.Tie as tie
 
 abbrev Inv-loop : tie.InvT-loop
-Inv-loop store₀ line table to q k poses planes lanes a₀ store a =
-    (a ≤ poses) × FilledPair (foundRows planes line table k) lanes to q a store₀ store
+Inv-loop store₀ line table to q k poses buckets lanes a₀ store a =
+    (a ≤ poses) × FilledState (foundRows buckets line table k) lanes to q a store₀ store
 
 abbrev μ-loop : tie.MeasureT-loop
-μ-loop store₀ line table to q k poses planes lanes a₀ store a = poses - a
+μ-loop store₀ line table to q k poses buckets lanes a₀ store a = poses - a
 
 loop-holds : tie.Need-loop-holds Inv-loop μ-loop
-loop-holds c = (omega arith, pair-none _ _ _ _ (c .before .before .pre .0 .low))
+loop-holds c = (omega arith, state-none _ _ _ _ (c .before .before .pre .0 .low))
 
 mul-put-pose : tie.Need-mul-put-pose Inv-loop μ-loop
 mul-put-pose c = search needs
@@ -48,7 +48,7 @@ loop-again : tie.Need-loop-again Inv-loop μ-loop
 loop-again c =
     let k = c .before .before .before .before .before .before .before .before in
     let l = c .before .before .before .before .before .loop in
-    (omega arith, pair-more (l .a) (omega (arith, k .pre .0 .narrow)) (omega arith) (l .inv .1) (c .before .before .put-pose .ensures) (λ j h. refl))
+    (omega arith, state-more (l .a) (omega (arith, k .pre .0 .narrow)) (omega arith) (l .inv .1) (c .before .before .put-pose .ensures) (λ j h. refl))
 
 same-length : tie.Need-same-length Inv-loop μ-loop
 same-length c = c .before .loop .inv .1 .frame .long

@@ -1,4 +1,4 @@
--- Each turn clears one plane more. Assumes nothing.
+-- Each turn clears one bucket more.
 use Prim.Native.Nat.{_-_, _≤_}
 use mathlib.Core.Path.{_≡_}
 use native.Mathlib.Omega.{arith}
@@ -10,12 +10,12 @@ use Rattle.search_wide_buckets.proofs.reset.Statement.{statement}
 use Rattle.search_wide_buckets.proofs.reset.Tie as tie
 
 abbrev Inv-loop : tie.InvT-loop
-Inv-loop table₀ planes poses lanes rows v₀ table v =
-    (v ≤ planes) × (rows ≡ rowsOf poses) × Cleared rows lanes v table
+Inv-loop table₀ buckets poses lanes rows v₀ table v =
+    (v ≤ buckets) × (rows ≡ rowsOf poses) × Cleared rows lanes v table
 
 abbrev μ-loop : tie.MeasureT-loop
-μ-loop table₀ planes poses lanes rows v₀ table v =
-    planes - v
+μ-loop table₀ buckets poses lanes rows v₀ table v =
+    buckets - v
 
 rows-of-requires : tie.Need-rows-of-requires Inv-loop μ-loop
 rows-of-requires c κs = search needs
@@ -46,7 +46,7 @@ loop-again c =
 returns : tie.Need-returns Inv-loop μ-loop
 returns c =
     let l = c .before .loop in
-    let e : l .v ≡ c .before .before .before .args .planes = omega arith in
+    let e : l .v ≡ c .before .before .before .args .buckets = omega arith in
     rw (e, l .inv .1) at (l .inv .2)
 
 pub reset-spec : {M : Type 1} → statement M

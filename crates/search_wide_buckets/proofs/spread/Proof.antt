@@ -1,4 +1,4 @@
--- Each turn lowers the planes of one lane more. Assumes nothing.
+-- Each turn lowers the buckets of one lane more.
 use Prim.Native.Nat.{_+_, _-_, _≤_}
 use mathlib.Core.Path.{_≡_, refl, _∙_}
 use native.Mathlib.Omega.{arith}

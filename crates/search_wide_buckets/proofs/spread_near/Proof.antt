@@ -1,4 +1,4 @@
--- Each turn lowers row t of one plane more; row 0 does not count. Assumes nothing.
+-- Each turn lowers row t of one bucket more; row 0 does not count.
 use Prim.Native.Nat.{_+_, _*_, _-_, _≤_}
 use mathlib.Core.Path.{_≡_, _∙_}
 use native.Mathlib.Omega.{arith}

@@ -1,4 +1,4 @@
--- Plane 0, then the planes of gap 0. Assumes nothing.
+-- Plane 0, then the buckets of gap 0.
 use Prim.Native.Nat.{ℕ, _+_, _*_}
 use mathlib.Core.Path.{_≡_, ap, _∙_}
 use native.Mathlib.Omega.{arith}
@@ -10,7 +10,7 @@ use borrow.Author.Needs.{needs}
 use Rattle.search_wide_buckets.proofs.spread_one.Statement.{statement}
 use Rattle.search_wide_buckets.proofs.spread_one.Tie as tie
 
--- after plane 0
+-- after bucket 0
 abbrev Alone : tie.After-lower-one → Type 0
 Alone c = let a = c .before .before .before .args in Spread (chargedOne (a .x) (a .pays .now) (a .u)) (a .t) 0 1 (a .lane) 1 (a .table .now) (c .lower-one .last .0)
 

@@ -1,4 +1,4 @@
--- Planes 5 to 8 follow where they are needed. Assumes nothing.
+-- Planes 5 to 8 follow where they are needed.
 use mathlib.Core.Path.{_≡_, _∙_}
 use native.Mathlib.Omega.{arith}
 use Rattle.search_wide_buckets.specs.SpreadLaws.{five-least, nine-else, pays-fewer, spread-join}
@@ -12,7 +12,7 @@ spread-requires c κs =
 
 returns : tie.Need-returns
 returns c =
-    let e : c .before .before .before .before .args .planes ≡ 5 = omega arith in
+    let e : c .before .before .before .before .args .buckets ≡ 5 = omega arith in
     rw e (c .before .spread .ensures)
 
 spread-apart-requires : tie.Need-spread-apart-requires

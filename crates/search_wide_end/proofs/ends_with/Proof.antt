@@ -1,4 +1,4 @@
--- Each return reads the tests on its way. Assumes nothing.
+-- Each return reads the tests on its way.
 use Prim.Native.Nat.{ℕ, _<_}
 use mathlib.Core.Path.{_≡_, sym, ap, _∙_}
 use mathlib.Core.Bool.{true, not}

@@ -1,4 +1,4 @@
--- After a turns the lanes are lowered to the poses below a, each with what it pays as the last. Assumes nothing.
+-- After a turns the lanes are lowered to the poses below a, each with what it pays as the last.
 use Prim.Native.Nat.{_-_, _≤_}
 use mathlib.Core.Path.{_≡_, _∙_}
 use native.Mathlib.Omega.{arith}

@@ -1,4 +1,4 @@
--- The lanes, NONE at first, are lowered to every pair. Assumes nothing.
+-- The lanes, NONE at first, are lowered to every state.
 use mathlib.Core.Path.{refl}
 use native.Mathlib.Omega.{arith}
 use borrow.Author.Needs.{needs}
@@ -9,14 +9,14 @@ use Rattle.search_wide_end.specs.Laws.{ends-gathered}
 use Rattle.search_wide_end.proofs.put_ends.Statement.{statement}
 use Rattle.search_wide_end.proofs.put_ends.Tie as tie
 
-least-pairs-requires : tie.Need-least-pairs-requires
-least-pairs-requires c κs =
+least-states-requires : tie.Need-least-states-requires
+least-states-requires c κs =
     (c .before .before .before .before .before .pre .0, none-low, refl)
 
 put-requires : tie.Need-put-requires
 put-requires c κs =
     let k = c .before .before .before .before .before .before .before .before in
-    let w = c .before .before .least-pairs .ensures in
+    let w = c .before .before .least-states .ensures in
     (omega (arith, k .pre .1 .room, k .pre .0 .narrow), omega (arith, k .pre .0 .narrow), w .long, omega arith, k .pre .0 .low, λ l. lowered-low w none-low .word l)
 
 same-length : tie.Need-same-length
@@ -26,7 +26,7 @@ returns : tie.Need-returns
 returns c =
     let k = c .before .before .before .before .before .before .before .before .before .before .before in
     let a = k .args in
-    let w = c .before .before .before .before .before .least-pairs .ensures in
+    let w = c .before .before .before .before .before .least-states .ensures in
     let g = k .pre .0 in
     written-ext (c .before .before .put .ensures)
     (λ l h.
@@ -34,4 +34,4 @@ returns c =
     (omega (arith, w .done l h, none-at l (omega (arith, g .narrow)))))
 
 pub put-ends-spec : {M : Type 1} → statement M
-put-ends-spec = tie.close (tie.spec least-pairs-requires put-requires same-length returns)
+put-ends-spec = tie.close (tie.spec least-states-requires put-requires same-length returns)

@@ -1,4 +1,4 @@
--- The layers run on in two blocks by turns. Assumes nothing.
+-- The layers run on in two blocks by turns.
 use Prim.Native.Nat.{_+_, _-_, _≤_}
 use mathlib.Core.Path.{_≡_, refl}
 use native.Mathlib.Omega.{arith}
@@ -14,11 +14,11 @@ use Rattle.search_wide_end.proofs.run_on.Statement.{statement}
 use Rattle.search_wide_end.proofs.run_on.Tie as tie
 
 abbrev Inv-loop : tie.InvT-loop
-Inv-loop table₀ store₀ line pairs n poses r count lanes i from₀ d₀ table store from d =
+Inv-loop table₀ store₀ line states n poses r count lanes i from₀ d₀ table store from d =
     (i + d ≤ n) × Ran (deckOf line n poses) r lanes i d from store₀ store × Lent table
 
 abbrev μ-loop : tie.MeasureT-loop
-μ-loop table₀ store₀ line pairs n poses r count lanes i from₀ d₀ table store from d =
+μ-loop table₀ store₀ line states n poses r count lanes i from₀ d₀ table store from d =
     n - (i + d)
 
 loop-holds : tie.Need-loop-holds Inv-loop μ-loop

@@ -1,4 +1,4 @@
--- A pair that cannot come first has no way to it. Assumes nothing.
+-- A state that cannot come first has no way to it.
 use Prim.Native.Nat.{ℕ, suc, _+_}
 use mathlib.Core.Path.{_≡_, sym, ap, _∙_}
 use mathlib.Core.Bool.{true}
@@ -6,7 +6,7 @@ use native.Mathlib.Omega.{arith}
 use native.Mathlib.Numerals.{add-one}
 use borrow.Author.Tests.{not-true, not-false}
 use Rattle.theory_tables.specs.Steps.{lastAt}
-use Rattle.search_lanes.specs.Laws.{pair-rows, pair-ext}
+use Rattle.search_lanes.specs.Laws.{state-rows, state-ext}
 use Rattle.search_row.specs.Words.{deckOf}
 use Rattle.search_dense_first.specs.Firsts.{startsAt, after-there, after-away, starts-size}
 use Rattle.search_wide_first.specs.Firsts.{afterRow}
@@ -14,7 +14,7 @@ use borrow.Author.Needs.{needs}
 use Rattle.search_wide_first.proofs.first_block.Statement.{statement}
 use Rattle.search_wide_first.proofs.first_block.Tie as tie
 
--- past the test the pair can come first
+-- past the test the state can come first
 abbrev Starts : tie.Else1 → Type 0
 Starts c = let a = c .before .before .before .before .before .args in startsAt (a .n) (a .r) (suc (a .i)) (a .m) (a .q) ≡ true
 
@@ -50,7 +50,7 @@ returns c =
     let a = k .args in
     let t = sym (c .before .before .before .before .before .starts .ensures) ∙ not-true _ (c .before .before .before .before .if1 .taken) in
     let u = ap (λ (j : ℕ). startsAt (a .n) (a .r) j (a .m) (a .q)) (sym (add-one (a .i))) ∙ t in (
-      pair-rows (omega (arith, k .pre .1 .ground .few)) (c .before .before .fill-rows .ensures)
+      state-rows (omega (arith, k .pre .1 .ground .few)) (c .before .before .fill-rows .ensures)
           (λ b l x y. after-away (deckOf (a .line .now) (a .n) (a .poses)) (a .r) (a .i) (a .m) (a .p) l (a .q) b u),
       k .pre .0,
     )
@@ -86,7 +86,7 @@ returns-2 c =
     let a = k .args in
     let e = here (c .before .before .before .before .before) in
     let w = c .before .before .first-rows .ensures in (
-      pair-ext (w .0)
+      state-ext (w .0)
           (λ b l x y.
           after-there (deckOf (a .line .now) (a .n) (a .poses)) (a .r) (a .i) (a .m) (a .p) l (a .q) b (can (c .before .before .before .before .before .before))
           ∙ ap (λ (j : ℕ). afterRow (a .line .now) (a .p) j b l) (sym e)),

@@ -1,4 +1,4 @@
--- Each turn writes one block more. Assumes nothing.
+-- Each turn writes one block more.
 use Prim.Native.Nat.{_-_, _≤_}
 use mathlib.Core.Path.{_≡_, refl}
 use native.Mathlib.Omega.{arith}
@@ -14,11 +14,11 @@ use Rattle.search_wide_first.proofs.first_layer.Statement.{statement}
 use Rattle.search_wide_first.proofs.first_layer.Tie as tie
 
 abbrev Inv-loop : tie.InvT-loop
-Inv-loop table₀ store₀ line pairs n poses r count lanes i s p to m q₀ table store q =
+Inv-loop table₀ store₀ line states n poses r count lanes i s p to m q₀ table store q =
     (q ≤ count) × Filled (afterFrom (deckOf line n poses) r i m p) lanes poses to q store₀ store × Lent table
 
 abbrev μ-loop : tie.MeasureT-loop
-μ-loop table₀ store₀ line pairs n poses r count lanes i s p to m q₀ table store q =
+μ-loop table₀ store₀ line states n poses r count lanes i s p to m q₀ table store q =
     count - q
 
 mul-m : tie.Need-mul-m Inv-loop μ-loop

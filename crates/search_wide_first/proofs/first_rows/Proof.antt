@@ -1,10 +1,10 @@
--- Each lane of the table, once it is reset, has its start, and each pose finds there what it pays after it. Assumes nothing.
+-- Each lane of the table, once it is reset, has its start, and each pose finds there what it pays after it.
 use Prim.Native.Nat.{ℕ, _+_, _-_, _<_}
 use mathlib.Core.Path.{_≡_}
 use native.Mathlib.Omega.{arith}
 use Rattle.search_buckets.specs.Rows.{rowsOf}
-use Rattle.search_buckets.specs.Sources.{planes-either}
-use Rattle.search_lanes.specs.Laws.{pair-ext}
+use Rattle.search_buckets.specs.Sources.{buckets-either}
+use Rattle.search_lanes.specs.Laws.{state-ext}
 use Rattle.search_wide_buckets.specs.Table.{FiveOrNine, Ready, Gathered}
 use Rattle.search_wide_buckets.specs.TableLaws.{ready}
 use Rattle.search_wide_buckets.specs.SpreadLaws.{five-least, nine-most}
@@ -13,30 +13,30 @@ use borrow.Author.Needs.{needs}
 use Rattle.search_wide_first.proofs.first_rows.Statement.{statement}
 use Rattle.search_wide_first.proofs.first_rows.Tie as tie
 
--- how many planes the cell needs, and that the last four are those of gaps 2 and 3
-needed : (c : tie.After-planes-of) → FiveOrNine (c .planes-of .result)
-needed c = let a = c .before .before .before .args in rw (c .planes-of .ensures) (planes-either (a .line .now) (a .k))
+-- how many buckets the cell needs, and that the last four are those of gaps 2 and 3
+needed : (c : tie.After-buckets-of) → FiveOrNine (c .buckets-of .result)
+needed c = let a = c .before .before .before .args in rw (c .buckets-of .ensures) (buckets-either (a .line .now) (a .k))
 
-abbrev Last : tie.After-planes-of → Type 0
+abbrev Last : tie.After-buckets-of → Type 0
 Last c =
     let a = c .before .before .before .args in
-    (l v t : ℕ) → v < 4 → startIn (a .line .now) (a .p) (a .k) l (c .planes-of .result - 4 + v) t ≡ startIn (a .line .now) (a .p) (a .k) l (5 + v) t
+    (l v t : ℕ) → v < 4 → startIn (a .line .now) (a .p) (a .k) l (c .buckets-of .result - 4 + v) t ≡ startIn (a .line .now) (a .p) (a .k) l (5 + v) t
 
-last : (c : tie.After-planes-of) → Last c
-last c l v t h = let a = c .before .before .before .args in rw (c .planes-of .ensures) (starts-last (a .line .now) (a .p) (a .k) l v t h)
+last : (c : tie.After-buckets-of) → Last c
+last c l v t h = let a = c .before .before .before .args in rw (c .buckets-of .ensures) (starts-last (a .line .now) (a .p) (a .k) l v t h)
 
 -- the starts in the rows that count
 abbrev Starts : tie.After-run-up → Type 0
 Starts c =
     let a = c .before .before .before .before .before .before .before .before .before .before .args in
-    Gathered (startIn (a .line .now) (a .p) (a .k)) (rowsOf (a .poses)) (c .before .before .before .before .before .before .before .planes-of .result) (a .lanes) (c .before .before .before .before .before .reset .last .0) (c .before .before .from-starts .last .0)
+    Gathered (startIn (a .line .now) (a .p) (a .k)) (rowsOf (a .poses)) (c .before .before .before .before .before .before .before .buckets-of .result) (a .lanes) (c .before .before .before .before .before .reset .last .0) (c .before .before .from-starts .last .0)
 
 starts : (c : tie.After-run-up) → Starts c
 starts c = rw (c .before .before .before .rows-of .ensures) at (starts-all (c .before .before .from-starts .ensures))
 
--- the table once plane 0 ran up
+-- the table once bucket 0 ran up
 abbrev Table : tie.After-run-up → Type 0
-Table c = let a = c .before .before .before .before .before .before .before .before .before .before .args in Ready (startIn (a .line .now) (a .p) (a .k)) (a .poses) (c .before .before .before .before .before .before .before .planes-of .result) (a .lanes) (c .run-up .last .0)
+Table c = let a = c .before .before .before .before .before .before .before .before .before .before .args in Ready (startIn (a .line .now) (a .p) (a .k)) (a .poses) (c .before .before .before .before .before .before .before .buckets-of .result) (a .lanes) (c .run-up .last .0)
 
 table : (c : tie.After-run-up) → Table c
 table c =
@@ -45,8 +45,8 @@ table c =
     let h = c .before .before .before .before .before .before .before in
     ready (k .pre .8) (five-least (needed h)) (nine-most (needed h)) (λ l v t. starts-low (a .p) (a .k) l v t (k .pre .1)) (last h) (c .before .before .before .before .before .reset .ensures) (starts c) (c .run-up .ensures)
 
-planes-of-requires : tie.Need-planes-of-requires
-planes-of-requires c κs = search needs
+buckets-of-requires : tie.Need-buckets-of-requires
+buckets-of-requires c κs = search needs
 
 reset-requires : tie.Need-reset-requires
 reset-requires c κs =
@@ -93,7 +93,7 @@ returns c =
     let k = c .before .before .before .before .before .before .before .before .before .before .before .before .before .before .before in
     let a = k .args in
     let t = table (c .before .before .before .before .before) in (
-      pair-ext (c .before .before .put-rows .ensures) (λ b l x y. after-found (a .line .now) (a .p) (a .k) b l t x y),
+      state-ext (c .before .before .put-rows .ensures) (λ b l x y. after-found (a .line .now) (a .p) (a .k) b l t x y),
       record { long = t .long; low = t .low },
     )
 
@@ -101,7 +101,7 @@ pub first-rows-spec : {M : Type 1} → statement M
 first-rows-spec =
     tie.close
     (tie.spec
-    planes-of-requires
+    buckets-of-requires
     reset-requires
     rows-of-requires
     from-starts-requires

@@ -1,4 +1,4 @@
--- A start that ends right of all rows that count is in none; another one is spread over the planes of its lane. Assumes nothing.
+-- A start that ends right of all rows that count is in none; another one is spread over the buckets of its lane.
 use native.Mathlib.Omega.{arith}
 use Rattle.search_buckets.specs.Sources.{pays-low, pose-pays}
 use Rattle.search_wide_buckets.specs.SpreadLaws.{nine-most}

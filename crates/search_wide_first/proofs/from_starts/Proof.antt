@@ -1,4 +1,4 @@
--- Each turn starts one lane more. Assumes nothing.
+-- Each turn starts one lane more.
 use Prim.Native.Nat.{_-_, _≤_}
 use mathlib.Core.Path.{_≡_, refl, _∙_}
 use native.Mathlib.Omega.{arith}
@@ -9,11 +9,11 @@ use Rattle.search_wide_first.proofs.from_starts.Statement.{statement}
 use Rattle.search_wide_first.proofs.from_starts.Tie as tie
 
 abbrev Inv-loop : tie.InvT-loop
-Inv-loop table₀ line p k rows planes lanes pays l₀ table l =
-    (l ≤ lanes) × StartedTo (startIn line p k) rows planes l table₀ table
+Inv-loop table₀ line p k rows buckets lanes pays l₀ table l =
+    (l ≤ lanes) × StartedTo (startIn line p k) rows buckets l table₀ table
 
 abbrev μ-loop : tie.MeasureT-loop
-μ-loop table₀ line p k rows planes lanes pays l₀ table l =
+μ-loop table₀ line p k rows buckets lanes pays l₀ table l =
     lanes - l
 
 fill-pays-requires : tie.Need-fill-pays-requires Inv-loop μ-loop

@@ -1,4 +1,4 @@
--- A pair that is no source lowers nothing; one that is a source stands in the row. Assumes nothing.
+-- A state that is no source lowers nothing; one that is a source stands in the row.
 use Prim.Native.Nat.{ℕ, suc, _<_}
 use mathlib.Core.Path.{_≡_, refl, sym, ap₂, _∙_}
 use mathlib.Core.Bool.{true}
@@ -10,13 +10,13 @@ use Rattle.search_lanes.specs.Store.{layerIn}
 use Rattle.search_row.specs.Words.{deckOf}
 use Rattle.search_row.specs.Laws.{there-size, source-size}
 use Rattle.search_buckets.specs.Rows.{byPoses}
-use Rattle.search_buckets.specs.Sources.{pair-in, pair-out}
+use Rattle.search_buckets.specs.Sources.{state-in, state-out}
 use Rattle.search_wide_buckets.specs.TableLaws.{gathered-none, gathered-ext}
 use Rattle.search_wide_buckets.specs.SpreadLaws.{nine-most}
 use Rattle.search_wide_layer.proofs.from_source.Statement.{statement}
 use Rattle.search_wide_layer.proofs.from_source.Tie as tie
 
--- past the test the pair is a source
+-- past the test the state is a source
 abbrev Source : tie.Else1 → Type 0
 Source c = let a = c .before .before .before .before .before .args in isSource (deckOf (a .line .now) (a .n) (a .poses)) (a .r) (a .i) (a .q) (a .p) ≡ true
 
@@ -45,7 +45,7 @@ returns c =
     let a = k .args in (
       gathered-none _ _ _ (k .pre .2 .low)
           (λ l v t i j h.
-          omega (arith, pair-out (a .line .now) (deckOf (a .line .now) (a .n) (a .poses)) (a .r) (layerIn (a .store .now) (a .from) l) (a .i) (a .q) (a .p) v t (sym (c .before .is-source .ensures) ∙ not-true _ (c .if1 .taken)))),
+          omega (arith, state-out (a .line .now) (deckOf (a .line .now) (a .n) (a .poses)) (a .r) (layerIn (a .store .now) (a .from) l) (a .i) (a .q) (a .p) v t (sym (c .before .is-source .ensures) ∙ not-true _ (c .if1 .taken)))),
       λ e. refl,
     )
 
@@ -95,7 +95,7 @@ returns-2 c =
     let m : c .before .before .before .before .before .last-at2 .result ≡ lastAt (a .r) (suc (a .i)) (a .q) = omega (arith, c .before .before .before .before .before .last-at2 .ensures) in (
       gathered-ext (c .from-poses .ensures .0)
           (λ l v t h.
-          pair-in (a .line .now) (deckOf (a .line .now) (a .n) (a .poses)) (a .r) (layerIn (a .store .now) (a .from) l) (a .i) (a .q) (a .p) v t (source (c .before .before .before .before .before .before .before))
+          state-in (a .line .now) (deckOf (a .line .now) (a .n) (a .poses)) (a .r) (layerIn (a .store .now) (a .from) l) (a .i) (a .q) (a .p) v t (source (c .before .before .before .before .before .before .before))
           ∙ ap₂ (λ (x y : ℕ). byPoses (a .line .now) x y (layerIn (a .store .now) (a .from) l (a .p)) (a .poses) v t) (sym (c .before .before .before .before .before .before .last-at .ensures)) (sym m)),
       c .from-poses .ensures .1,
     )

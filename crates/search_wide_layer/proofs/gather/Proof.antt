@@ -1,4 +1,4 @@
--- After p turns the pairs below p are gathered. Assumes nothing.
+-- After p turns the states below p are gathered.
 use Prim.Native.Nat.{ℕ, _-_, _≤_}
 use mathlib.Core.Path.{_≡_, refl, sym, _∙_}
 use mathlib.Core.Bool.{false}
@@ -8,18 +8,18 @@ use borrow.Author.Needs.{needs}
 use Rattle.search_lanes.specs.Store.{layerIn}
 use Rattle.search_row.specs.Words.{deckOf}
 use Rattle.search_buckets.specs.Rows.{rowsOf}
-use Rattle.search_buckets.specs.Sources.{pairs-none, pairs-more}
-use Rattle.search_wide_buckets.specs.Table.{Gathered, pairsIn}
+use Rattle.search_buckets.specs.Sources.{states-none, states-more}
+use Rattle.search_wide_buckets.specs.Table.{Gathered, statesIn}
 use Rattle.search_wide_buckets.specs.TableLaws.{gathered-none, gathered-join}
 use Rattle.search_wide_layer.proofs.gather.Statement.{statement}
 use Rattle.search_wide_layer.proofs.gather.Tie as tie
 
 abbrev Inv-loop : tie.InvT-loop
-Inv-loop table₀ store line pairs n poses r count lanes i from q planes used₀ p₀ table used p =
-    (p ≤ count) × Gathered (pairsIn store line (deckOf line n poses) r from i q p) (rowsOf poses) planes lanes table₀ table × (used ≡ false → table ≡ table₀)
+Inv-loop table₀ store line states n poses r count lanes i from q buckets used₀ p₀ table used p =
+    (p ≤ count) × Gathered (statesIn store line (deckOf line n poses) r from i q p) (rowsOf poses) buckets lanes table₀ table × (used ≡ false → table ≡ table₀)
 
 abbrev μ-loop : tie.MeasureT-loop
-μ-loop table₀ store line pairs n poses r count lanes i from q planes used₀ p₀ table used p = count - p
+μ-loop table₀ store line states n poses r count lanes i from q buckets used₀ p₀ table used p = count - p
 
 loop-holds : tie.Need-loop-holds Inv-loop μ-loop
 loop-holds c =
@@ -27,7 +27,7 @@ loop-holds c =
     let a = k .args in (
       omega arith,
       gathered-none _ _ _ (k .pre .2 .low)
-          (λ l v t i j h. omega (arith, pairs-none (a .line .now) (deckOf (a .line .now) (a .n) (a .poses)) (a .r) (layerIn (a .store .now) (a .from) l) (a .i) (a .q) v t)),
+          (λ l v t i j h. omega (arith, states-none (a .line .now) (deckOf (a .line .now) (a .n) (a .poses)) (a .r) (layerIn (a .store .now) (a .from) l) (a .i) (a .q) v t)),
       λ e. refl,
     )
 
@@ -50,7 +50,7 @@ loop-again c =
     let l = c .before .before .before .before .loop in (
       omega arith,
       gathered-join (l .inv .1) (c .before .from-source .ensures .0)
-          (λ j v t h. pairs-more (a .line .now) (deckOf (a .line .now) (a .n) (a .poses)) (a .r) (layerIn (a .store .now) (a .from) j) (a .i) (a .q) (l .p) v t),
+          (λ j v t h. states-more (a .line .now) (deckOf (a .line .now) (a .n) (a .poses)) (a .r) (layerIn (a .store .now) (a .from) j) (a .i) (a .q) (l .p) v t),
       λ e.
           ⊎-elim
           (λ w. absurd (let z = sym (w .1) ∙ e in let y : _≡_ {A = ℕ} 0 1 = cc in omega arith))

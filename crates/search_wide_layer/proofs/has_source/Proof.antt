@@ -1,4 +1,4 @@
--- After s turns no pair below s is a source. Assumes nothing.
+-- After s turns no state below s is a source.
 use Prim.Native.Nat.{ℕ, _-_, _≤_, _<_}
 use mathlib.Core.Path.{_≡_, sym, _∙_}
 use mathlib.Core.Bool.{false}
@@ -11,11 +11,11 @@ use Rattle.search_wide_layer.proofs.has_source.Statement.{statement}
 use Rattle.search_wide_layer.proofs.has_source.Tie as tie
 
 abbrev Inv-loop : tie.InvT-loop
-Inv-loop line pairs n r count i q s₀ s =
+Inv-loop line states n r count i q s₀ s =
     (s ≤ count) × ((j : ℕ) → j < s → isSource (deckOf line n 0) r i q j ≡ false)
 
 abbrev μ-loop : tie.MeasureT-loop
-μ-loop line pairs n r count i q s₀ s =
+μ-loop line states n r count i q s₀ s =
     count - s
 
 loop-holds : tie.Need-loop-holds Inv-loop μ-loop

@@ -1,4 +1,4 @@
--- After q turns the blocks below q are those of the next layer; the layer before is kept. Assumes nothing.
+-- After q turns the blocks below q are those of the next layer; the layer before is kept.
 use Prim.Native.Nat.{_-_, _≤_}
 use mathlib.Core.Path.{_≡_, sym}
 use native.Mathlib.Omega.{arith}
@@ -13,11 +13,11 @@ use Rattle.search_wide_layer.proofs.step_layer.Statement.{statement}
 use Rattle.search_wide_layer.proofs.step_layer.Tie as tie
 
 abbrev Inv-loop : tie.InvT-loop
-Inv-loop table₀ store₀ line pairs n poses r count lanes i from to q₀ table store q =
+Inv-loop table₀ store₀ line states n poses r count lanes i from to q₀ table store q =
     (q ≤ count) × Filled (nextFrom (deckOf line n poses) r store₀ from i) lanes poses to q store₀ store × Lent table
 
 abbrev μ-loop : tie.MeasureT-loop
-μ-loop table₀ store₀ line pairs n poses r count lanes i from to q₀ table store q =
+μ-loop table₀ store₀ line states n poses r count lanes i from to q₀ table store q =
     count - q
 
 loop-holds : tie.Need-loop-holds Inv-loop μ-loop

@@ -1,4 +1,4 @@
--- A pair that is not there has no way to it. Assumes nothing.
+-- A state that is not there has no way to it.
 use Prim.Native.Nat.{ℕ}
 use mathlib.Core.Path.{sym, ap, _∙_}
 use native.Mathlib.Omega.{arith}
@@ -7,7 +7,7 @@ use borrow.Author.Tests.{not-true, not-false}
 use Rattle.search_row.specs.Words.{deckOf, thereIn}
 use Rattle.search_buckets.specs.Next.{next-away}
 use Rattle.search_lanes.specs.Store.{layerIn}
-use Rattle.search_lanes.specs.Laws.{pair-rows}
+use Rattle.search_lanes.specs.Laws.{state-rows}
 use borrow.Author.Needs.{needs}
 use Rattle.search_wide_layer.proofs.target_block.Statement.{statement}
 use Rattle.search_wide_layer.proofs.target_block.Tie as tie
@@ -36,7 +36,7 @@ returns c =
     let a = k .args in
     let t = sym (c .before .before .before .before .before .is-there .ensures) ∙ not-true _ (c .before .before .before .before .if1 .taken) in
     let u = ap (λ (j : ℕ). thereIn (a .n) (a .r) j (a .q)) (sym (add-one (a .i))) ∙ t in (
-      pair-rows (omega (arith, k .pre .1 .ground .few)) (c .before .before .fill-rows .ensures)
+      state-rows (omega (arith, k .pre .1 .ground .few)) (c .before .before .fill-rows .ensures)
           (λ b l x y. next-away (deckOf (a .line .now) (a .n) (a .poses)) (a .r) (layerIn (a .store .now) (a .from) l) (a .i) (a .q) b u),
       k .pre .0,
     )
@@ -46,7 +46,7 @@ target-rows-requires c κs =
     let k = c .before .before .before .before .before .before .before in
     let a = k .args in
     let t = sym (c .before .before .before .is-there .ensures) ∙ not-false _ (c .before .before .if1 .left) in
-    (k .pre .0, k .pre .1, k .pre .2, record { pair = omega (arith, k .pre .1 .ground .all); there = ap (λ (j : ℕ). thereIn (a .n) (a .r) j (a .q)) (sym (add-one (a .i))) ∙ t })
+    (k .pre .0, k .pre .1, k .pre .2, record { state = omega (arith, k .pre .1 .ground .all); there = ap (λ (j : ℕ). thereIn (a .n) (a .r) j (a .q)) (sym (add-one (a .i))) ∙ t })
 
 same-length-2 : tie.Need-same-length-2
 same-length-2 c = search needs

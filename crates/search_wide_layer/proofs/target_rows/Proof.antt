@@ -1,5 +1,5 @@
--- Without a source nothing leads to the pair. Else the sources are gathered into a cleared table; if none lowered it, nothing leads to the pair; else
--- each pose finds there what it can be reached for. Assumes nothing.
+-- Without a source nothing leads to the state. Else the sources are gathered into a cleared table; if none lowered it, nothing leads to the state; else
+-- each pose finds there what it can be reached for.
 use Prim.Native.Nat.{ℕ, suc, _+_, _*_, _-_, _≤_, _<_}
 use mathlib.Core.Path.{_≡_, ap, _∙_}
 use native.Mathlib.Omega.{arith}
@@ -7,12 +7,12 @@ use borrow.Author.Tests.{not-true}
 use lib.ListN.{length}
 use Rattle.theory_tables.specs.Steps.{B, lastAt}
 use Rattle.search_lanes.specs.Store.{layerIn}
-use Rattle.search_lanes.specs.Laws.{pair-rows, pair-ext}
+use Rattle.search_lanes.specs.Laws.{state-rows, state-ext}
 use Rattle.search_row.specs.Words.{deckOf}
 use Rattle.search_row.specs.Laws.{there-size}
-use Rattle.search_buckets.specs.Rows.{planesIn, byPairs}
-use Rattle.search_buckets.specs.Sources.{pairs-low, pairs-twin, planes-either, planes-last}
-use Rattle.search_wide_buckets.specs.Table.{FiveOrNine, pairsIn, Ready}
+use Rattle.search_buckets.specs.Rows.{bucketsIn, byStates}
+use Rattle.search_buckets.specs.Sources.{states-low, states-twin, buckets-either, buckets-last}
+use Rattle.search_wide_buckets.specs.Table.{FiveOrNine, statesIn, Ready}
 use Rattle.search_wide_buckets.specs.TableLaws.{ready, unused}
 use Rattle.search_wide_buckets.specs.SpreadLaws.{five-least, nine-most}
 use Rattle.search_buckets.specs.Next.{next-found, next-none, next-alone}
@@ -20,14 +20,14 @@ use borrow.Author.Needs.{needs}
 use Rattle.search_wide_layer.proofs.target_rows.Statement.{statement}
 use Rattle.search_wide_layer.proofs.target_rows.Tie as tie
 
-planes-low : (k : tie.Start) → (let a = k .args in (l v t : ℕ) → pairsIn (a .store .now) (a .line .now) (deckOf (a .line .now) (a .n) (a .poses)) (a .r) (a .from) (a .i) (a .q) (a .count) l v t ≤ B)
-planes-low k l v t =
+buckets-low : (k : tie.Start) → (let a = k .args in (l v t : ℕ) → statesIn (a .store .now) (a .line .now) (deckOf (a .line .now) (a .n) (a .poses)) (a .r) (a .from) (a .i) (a .q) (a .count) l v t ≤ B)
+buckets-low k l v t =
     let a = k .args in
-    pairs-low (a .line .now) (deckOf (a .line .now) (a .n) (a .poses)) (a .r) (layerIn (a .store .now) (a .from) l) (a .i) (a .q) (a .count) v t
+    states-low (a .line .now) (deckOf (a .line .now) (a .n) (a .poses)) (a .r) (layerIn (a .store .now) (a .from) l) (a .i) (a .q) (a .count) v t
 
--- the pair's rows lie in the store
+-- the state's rows lie in the store
 room : (k : tie.Start) → (let a = k .args in a .to + a .q * 4096 + a .poses * 64 ≤ length (a .store .now))
-room k = omega (arith, k .pre .2 .room, k .pre .3 .pair, k .pre .1 .ground .coded .few, k .pre .1 .ground .few)
+room k = omega (arith, k .pre .2 .room, k .pre .3 .state, k .pre .1 .ground .coded .few, k .pre .1 .ground .few)
 
 -- the target's position
 here : (c : tie.After-last-at) → (let a = c .before .before .before .before .before .before .args in c .last-at .result ≡ lastAt (a .r) (suc (a .i)) (a .q))
@@ -39,32 +39,32 @@ inside c =
     let a = k .args in
     omega (arith, here c, there-size (a .n) (a .r) (suc (a .i)) (a .q) (k .pre .3 .there), k .pre .1 .ground .size)
 
--- how many planes it needs, and that the last four are those of gaps 2 and 3
-needed : (c : tie.After-planes-of) → FiveOrNine (c .planes-of .result)
-needed c = rw (c .planes-of .ensures) (planes-either (c .before .before .before .before .before .before .before .args .line .now) (c .before .last-at .result))
+-- how many buckets it needs, and that the last four are those of gaps 2 and 3
+needed : (c : tie.After-buckets-of) → FiveOrNine (c .buckets-of .result)
+needed c = rw (c .buckets-of .ensures) (buckets-either (c .before .before .before .before .before .before .before .args .line .now) (c .before .last-at .result))
 
-abbrev Last : tie.After-planes-of → Type 0
+abbrev Last : tie.After-buckets-of → Type 0
 Last c =
     let a = c .before .before .before .before .before .before .before .args in
-    let plane = pairsIn (a .store .now) (a .line .now) (deckOf (a .line .now) (a .n) (a .poses)) (a .r) (a .from) (a .i) (a .q) (a .count) in
-    (l v t : ℕ) → v < 4 → plane l (c .planes-of .result - 4 + v) t ≡ plane l (5 + v) t
+    let bucket = statesIn (a .store .now) (a .line .now) (deckOf (a .line .now) (a .n) (a .poses)) (a .r) (a .from) (a .i) (a .q) (a .count) in
+    (l v t : ℕ) → v < 4 → bucket l (c .buckets-of .result - 4 + v) t ≡ bucket l (5 + v) t
 
-last : (c : tie.After-planes-of) → Last c
+last : (c : tie.After-buckets-of) → Last c
 last c l v t h =
     let a = c .before .before .before .before .before .before .before .args in
     let D = deckOf (a .line .now) (a .n) (a .poses) in
     let f = layerIn (a .store .now) (a .from) l in
     let m = lastAt (a .r) (suc (a .i)) (a .q) in
-    let e : c .planes-of .result ≡ planesIn (a .line .now) m = c .planes-of .ensures ∙ ap (planesIn (a .line .now)) (here (c .before)) in
-    rw e (planes-last (λ (w : ℕ). byPairs (a .line .now) D (a .r) f (a .i) (a .q) (a .count) w t) (a .line .now) m v (λ g. pairs-twin (a .line .now) D (a .r) f (a .i) (a .q) (a .count) v t g h))
+    let e : c .buckets-of .result ≡ bucketsIn (a .line .now) m = c .buckets-of .ensures ∙ ap (bucketsIn (a .line .now)) (here (c .before)) in
+    rw e (buckets-last (λ (w : ℕ). byStates (a .line .now) D (a .r) f (a .i) (a .q) (a .count) w t) (a .line .now) m v (λ g. states-twin (a .line .now) D (a .r) f (a .i) (a .q) (a .count) v t g h))
 
--- the table once plane 0 ran up
+-- the table once bucket 0 ran up
 abbrev Table : tie.After-run-up → Type 0
 Table c =
     let p = c .before .before .before .before .before .before .before .before in
     let a = p .before .before .before .before .before .before .before .args in
-    let plane = pairsIn (a .store .now) (a .line .now) (deckOf (a .line .now) (a .n) (a .poses)) (a .r) (a .from) (a .i) (a .q) (a .count) in
-    Ready plane (a .poses) (p .planes-of .result) (a .lanes) (c .run-up .last .0)
+    let bucket = statesIn (a .store .now) (a .line .now) (deckOf (a .line .now) (a .n) (a .poses)) (a .r) (a .from) (a .i) (a .q) (a .count) in
+    Ready bucket (a .poses) (p .buckets-of .result) (a .lanes) (c .run-up .last .0)
 
 table : (c : tie.After-run-up) → Table c
 table c =
@@ -72,7 +72,7 @@ table c =
     let p = c .before .before .before .before .before .before .before .before in
     let none = c .before .before .before .before .before .before .reset .ensures in
     let w = c .before .before .before .gather .ensures in
-    ready (k .pre .1 .ground .few) (five-least (needed p)) (nine-most (needed p)) (planes-low k) (last p) none (w .0) (c .run-up .ensures)
+    ready (k .pre .1 .ground .few) (five-least (needed p)) (nine-most (needed p)) (buckets-low k) (last p) none (w .0) (c .run-up .ensures)
 
 has-source-requires : tie.Need-has-source-requires
 has-source-requires c κs = search needs
@@ -94,7 +94,7 @@ returns c =
     let k = c .before .before .before .before .before .before .before .before .before in
     let a = k .args in
     let g = k .pre .1 in (
-      pair-rows (omega (arith, g .ground .few)) (c .before .before .fill-rows .ensures)
+      state-rows (omega (arith, g .ground .few)) (c .before .before .fill-rows .ensures)
           (λ b l p i.
           next-alone (a .line .now) (a .n) (a .poses) (a .r) (layerIn (a .store .now) (a .from) l) (a .i) (a .q) b (k .pre .3 .there) (g .ground .all)
           (c .before .before .before .before .before .has-source .ensures (not-true _ (c .before .before .before .before .if1 .taken)))),
@@ -107,8 +107,8 @@ add-last-at c = search needs
 last-at-requires : tie.Need-last-at-requires
 last-at-requires c κs = search needs
 
-planes-of-requires : tie.Need-planes-of-requires
-planes-of-requires c κs =
+buckets-of-requires : tie.Need-buckets-of-requires
+buckets-of-requires c κs =
     (c .before .before .before .before .before .before .pre .1 .ground .row, inside c)
 
 reset-requires : tie.Need-reset-requires
@@ -150,10 +150,10 @@ returns-2 c =
     let h = c .before .before .before .before .before .before .before .before .before .before in
     let w = c .before .before .before .before .before .gather .ensures in
     let none = c .before .before .before .before .before .before .before .before .reset .ensures in (
-      pair-rows (omega (arith, g .ground .few)) (c .before .before .fill-rows2 .ensures)
+      state-rows (omega (arith, g .ground .few)) (c .before .before .fill-rows2 .ensures)
           (λ b l p i.
           next-none (a .line .now) (a .n) (a .poses) (a .r) (layerIn (a .store .now) (a .from) l) (a .i) (a .q) b (k .pre .3 .there) (g .ground .all)
-          (unused (g .ground .few) (five-least (needed h)) (nine-most (needed h)) (planes-low k) (last h) none (w .0) (w .1 (not-true _ (c .before .before .before .before .if2 .taken))) b l p i)),
+          (unused (g .ground .few) (five-least (needed h)) (nine-most (needed h)) (buckets-low k) (last h) none (w .0) (w .1 (not-true _ (c .before .before .before .before .if2 .taken))) b l p i)),
       record { long = w .0 .long ∙ none .long; low = w .0 .low },
     )
 
@@ -180,7 +180,7 @@ put-rows-requires c κs =
         most = nine-most h;
       },
       k .pre .2 .room,
-      omega (arith, k .pre .3 .pair, g .ground .coded .few),
+      omega (arith, k .pre .3 .state, g .ground .coded .few),
       g .ground .few,
     )
 
@@ -193,7 +193,7 @@ returns-3 c =
     let a = k .args in
     let g = k .pre .1 in
     let t = table (c .before .before .before .before .before) in (
-      pair-ext (c .before .before .put-rows .ensures)
+      state-ext (c .before .before .put-rows .ensures)
           (λ b l p i.
           next-found (a .line .now) (a .n) (a .poses) (a .r) (layerIn (a .store .now) (a .from) l) (a .i) (a .q) b (k .pre .3 .there) (g .ground .all) (here (c .before .before .before .before .before .before .before .before .before .before .before .before .before .before))
           (t .right b l p i)),
@@ -212,7 +212,7 @@ target-rows-spec =
     returns
     add-last-at
     last-at-requires
-    planes-of-requires
+    buckets-of-requires
     reset-requires
     gather-requires
     mul-fill-rows-2

@@ -1,4 +1,4 @@
--- Each turn delivers one pair more; the layer and the prices of the pairs to come are kept. Assumes nothing.
+-- Each turn delivers one state more; the layer and the costs of the states to come are kept.
 use Prim.Native.Nat.{suc, _+_, _*_, _-_, _≤_}
 use mathlib.Core.Path.{_≡_, sym, ap₂}
 use lib.Dec.{eqb}
@@ -13,19 +13,19 @@ use Rattle.search_wide_segment.proofs.deliver.Statement.{statement}
 use Rattle.search_wide_segment.proofs.deliver.Tie as tie
 
 abbrev Inv-loop : tie.InvT-loop
-Inv-loop store₀ pairs poses r count lanes i tall from prices q₀ store q =
-    (q ≤ count) × Filled (delivered r i tall store₀ from prices) lanes poses prices q store₀ store × Frame prices (prices + q * 4096) store₀ store
+Inv-loop store₀ states poses r count lanes i tall from costs q₀ store q =
+    (q ≤ count) × Filled (delivered r i tall store₀ from costs) lanes poses costs q store₀ store × Frame costs (costs + q * 4096) store₀ store
 
 abbrev μ-loop : tie.MeasureT-loop
-μ-loop store₀ pairs poses r count lanes i tall from prices q₀ store q =
+μ-loop store₀ states poses r count lanes i tall from costs q₀ store q =
     count - q
 
 loop-holds : tie.Need-loop-holds Inv-loop μ-loop
 loop-holds c =
     (omega arith, filled-none _ _ _ _ (c .before .before .pre .1), frame-refl _ _ _)
 
-deliver-pair-requires : tie.Need-deliver-pair-requires Inv-loop μ-loop
-deliver-pair-requires c κs =
+deliver-state-requires : tie.Need-deliver-state-requires Inv-loop μ-loop
+deliver-state-requires c κs =
     let k = c .before .before .before .before .before in
     let l = c .before .before .loop in
     (k .pre .0, l .inv .1 .low, record { over = k .pre .2 .over; room = omega (arith, k .pre .2 .room, l .inv .2 .long) }, omega (arith, k .pre .3), k .pre .4, k .pre .5, k .pre .6, k .pre .7, k .pre .8)
@@ -41,15 +41,15 @@ loop-again c =
     let k = c .before .before .before .before .before .before .before .before in
     let a = k .args in
     let l = c .before .before .before .before .before .loop in
-    let w = c .before .before .deliver-pair .ensures in
+    let w = c .before .before .deliver-state .ensures in
     let f = l .inv .2 in (
       omega arith,
       filled-more (l .q) (k .pre .5) (omega arith) (omega (arith, k .pre .3, k .pre .0 .few)) (l .inv .1) w
           (λ b j x y.
           ap₂ (cond (eqb (a .i + offset (a .r) (l .q)) (a .tall + suc (a .r))))
           (sym (f .low (a .from + l .q * 4096 + b * 64 + j) (omega (arith, k .pre .2 .over, k .pre .3, k .pre .0 .few, k .pre .8))))
-          (sym (f .high (a .prices + l .q * 4096 + b * 64 + j) (omega arith)))),
-      frame-join (a .prices) (a .prices + (l .q + 1) * 4096) f (w .frame) (omega arith) (omega arith) (omega arith) (omega arith),
+          (sym (f .high (a .costs + l .q * 4096 + b * 64 + j) (omega arith)))),
+      frame-join (a .costs) (a .costs + (l .q + 1) * 4096) f (w .frame) (omega arith) (omega arith) (omega arith) (omega arith),
     )
 
 same-length : tie.Need-same-length Inv-loop μ-loop
@@ -68,7 +68,7 @@ deliver-spec =
     Inv-loop
     μ-loop
     loop-holds
-    deliver-pair-requires
+    deliver-state-requires
     add-q
     loop-less
     loop-again

@@ -1,4 +1,4 @@
--- Each turn fills one pair more; the prices of the pairs to come are kept. Assumes nothing.
+-- Each turn fills one state more; the costs of the states to come are kept.
 use Prim.Native.Nat.{suc, _+_, _*_, _-_, _≤_}
 use mathlib.Core.Path.{_≡_, sym, ap}
 use lib.Dec.{ltb}
@@ -13,19 +13,19 @@ use Rattle.search_wide_segment.proofs.fill_late.Statement.{statement}
 use Rattle.search_wide_segment.proofs.fill_late.Tie as tie
 
 abbrev Inv-loop : tie.InvT-loop
-Inv-loop store₀ pairs poses r count lanes i tall prices q₀ store q =
-    (q ≤ count) × Filled (lateIn r i tall store₀ prices) lanes poses prices q store₀ store × Frame prices (prices + q * 4096) store₀ store
+Inv-loop store₀ states poses r count lanes i tall costs q₀ store q =
+    (q ≤ count) × Filled (lateIn r i tall store₀ costs) lanes poses costs q store₀ store × Frame costs (costs + q * 4096) store₀ store
 
 abbrev μ-loop : tie.MeasureT-loop
-μ-loop store₀ pairs poses r count lanes i tall prices q₀ store q =
+μ-loop store₀ states poses r count lanes i tall costs q₀ store q =
     count - q
 
 loop-holds : tie.Need-loop-holds Inv-loop μ-loop
 loop-holds c =
     (omega arith, filled-none _ _ _ _ (c .before .before .pre .1), frame-refl _ _ _)
 
-late-pair-requires : tie.Need-late-pair-requires Inv-loop μ-loop
-late-pair-requires c κs =
+late-state-requires : tie.Need-late-state-requires Inv-loop μ-loop
+late-state-requires c κs =
     let k = c .before .before .before .before .before in
     let l = c .before .before .loop in
     (k .pre .0, l .inv .1 .low, record { over = k .pre .2 .over; room = omega (arith, k .pre .2 .room, l .inv .2 .long) }, omega (arith, k .pre .3), k .pre .4, k .pre .5, k .pre .6, k .pre .7)
@@ -41,12 +41,12 @@ loop-again c =
     let k = c .before .before .before .before .before .before .before .before in
     let a = k .args in
     let l = c .before .before .before .before .before .loop in
-    let w = c .before .before .late-pair .ensures in
+    let w = c .before .before .late-state .ensures in
     let f = l .inv .2 in (
       omega arith,
       filled-more (l .q) (k .pre .5) (omega arith) (omega (arith, k .pre .3, k .pre .0 .few)) (l .inv .1) w
-          (λ b j x y. ap (cond (ltb (a .tall + suc (a .r)) (a .i + offset (a .r) (l .q))) B) (sym (f .high (a .prices + l .q * 4096 + b * 64 + j) (omega arith)))),
-      frame-join (a .prices) (a .prices + (l .q + 1) * 4096) f (w .frame) (omega arith) (omega arith) (omega arith) (omega arith),
+          (λ b j x y. ap (cond (ltb (a .tall + suc (a .r)) (a .i + offset (a .r) (l .q))) B) (sym (f .high (a .costs + l .q * 4096 + b * 64 + j) (omega arith)))),
+      frame-join (a .costs) (a .costs + (l .q + 1) * 4096) f (w .frame) (omega arith) (omega arith) (omega arith) (omega arith),
     )
 
 same-length : tie.Need-same-length Inv-loop μ-loop
@@ -65,7 +65,7 @@ fill-late-spec =
     Inv-loop
     μ-loop
     loop-holds
-    late-pair-requires
+    late-state-requires
     add-q
     loop-less
     loop-again

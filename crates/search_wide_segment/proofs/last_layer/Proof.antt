@@ -1,4 +1,4 @@
--- Each turn prices one pair more; the layer before and the prices of the pairs to come are kept. Assumes nothing.
+-- Each turn costs one state more; the layer before and the costs of the states to come are kept.
 use Prim.Native.Nat.{suc, _+_, _*_, _-_, _≤_}
 use mathlib.Core.Path.{_≡_, sym, ap₂}
 use lib.Dec.{eqb}
@@ -16,11 +16,11 @@ use Rattle.search_wide_segment.proofs.last_layer.Statement.{statement}
 use Rattle.search_wide_segment.proofs.last_layer.Tie as tie
 
 abbrev Inv-loop : tie.InvT-loop
-Inv-loop table₀ store₀ line pairs n poses r count lanes i tall from prices q₀ table store q =
-    (q ≤ count) × Filled (lastIn (deckOf line n poses) r i tall store₀ from prices) lanes poses prices q store₀ store × Frame prices (prices + q * 4096) store₀ store × Lent table
+Inv-loop table₀ store₀ line states n poses r count lanes i tall from costs q₀ table store q =
+    (q ≤ count) × Filled (lastIn (deckOf line n poses) r i tall store₀ from costs) lanes poses costs q store₀ store × Frame costs (costs + q * 4096) store₀ store × Lent table
 
 abbrev μ-loop : tie.MeasureT-loop
-μ-loop table₀ store₀ line pairs n poses r count lanes i tall from prices q₀ table store q =
+μ-loop table₀ store₀ line states n poses r count lanes i tall from costs q₀ table store q =
     count - q
 
 loop-holds : tie.Need-loop-holds Inv-loop μ-loop
@@ -28,8 +28,8 @@ loop-holds c =
     let k = c .before .before .before in
     (omega arith, filled-none _ _ _ _ (k .pre .1 .low), frame-refl _ _ _, k .pre .0)
 
-last-pair-requires : tie.Need-last-pair-requires Inv-loop μ-loop
-last-pair-requires c κs =
+last-state-requires : tie.Need-last-state-requires Inv-loop μ-loop
+last-state-requires c κs =
     let k = c .before .before .before .before .before .before .before in
     let l = c .before .before .before .loop in
     let s = l .inv .1 in
@@ -47,7 +47,7 @@ loop-again c =
     let a = k .args in
     let g = k .pre .1 in
     let l = c .before .before .before .before .before .before .loop in
-    let w = c .before .before .last-pair .ensures in
+    let w = c .before .before .last-state .ensures in
     let s = l .inv .1 in
     let f = l .inv .2 in
     let kept = beside-kept (k .pre .2) (s .frame) (omega arith) (omega arith) in (
@@ -56,8 +56,8 @@ loop-again c =
           (λ b j x y.
           ap₂ (cond (eqb (suc (a .i) + offset (a .r) (l .q)) (a .tall + suc (a .r))))
           (sym (next-kept (deckOf (a .line .now) (a .n) (a .poses)) (a .r) (a .i) (l .q) b j kept (g .ground .coded .few) (g .ground .few) (omega (arith, g .narrow))))
-          (sym (f .high (a .prices + l .q * 4096 + b * 64 + j) (omega arith)))),
-      frame-join (a .prices) (a .prices + (l .q + 1) * 4096) f (w .0 .frame) (omega arith) (omega arith) (omega arith) (omega arith),
+          (sym (f .high (a .costs + l .q * 4096 + b * 64 + j) (omega arith)))),
+      frame-join (a .costs) (a .costs + (l .q + 1) * 4096) f (w .0 .frame) (omega arith) (omega arith) (omega arith) (omega arith),
       w .1,
     )
 
@@ -77,7 +77,7 @@ last-layer-spec =
     Inv-loop
     μ-loop
     loop-holds
-    last-pair-requires
+    last-state-requires
     add-q
     loop-less
     loop-again

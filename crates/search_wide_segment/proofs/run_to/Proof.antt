@@ -1,22 +1,22 @@
--- The layers run on in two blocks by turns; what is delivered are the prices as far as the layers have come. Assumes nothing.
+-- The layers run on in two blocks by turns; what is delivered are the costs as far as the layers have come.
 use Prim.Native.Nat.{ℕ, _+_, _-_, _≤_, _<_}
 use mathlib.Core.Path.{_≡_, _∙_}
 use native.Mathlib.Omega.{arith}
 use lib.ListN.{length, getD}
 use Rattle.search_row.specs.Words.{deckOf}
 use Rattle.search_wide_buckets.specs.Table.{Lent}
-use Rattle.search_wide_segment.specs.Runs.{Outside, PricedRun}
-use Rattle.search_wide_segment.specs.Laws.{given-small, buffer-low, buffer-beside, priced-start, priced-step, priced-from, outside-join, outside-prices}
+use Rattle.search_wide_segment.specs.Runs.{Outside, CostedRun}
+use Rattle.search_wide_segment.specs.Laws.{given-small, buffer-low, buffer-beside, costed-start, costed-step, costed-from, outside-join, outside-costs}
 use borrow.Author.Needs.{needs}
 use Rattle.search_wide_segment.proofs.run_to.Statement.{statement}
 use Rattle.search_wide_segment.proofs.run_to.Tie as tie
 
 abbrev Inv-loop : tie.InvT-loop
-Inv-loop table₀ store₀ line pairs n poses r count lanes i tall prices from₀ d₀ table store from d =
-    (i + d ≤ 67) × PricedRun (deckOf line n poses) r lanes i tall d from prices store₀ store × Lent table × (d ≤ tall + r - i)
+Inv-loop table₀ store₀ line states n poses r count lanes i tall costs from₀ d₀ table store from d =
+    (i + d ≤ 67) × CostedRun (deckOf line n poses) r lanes i tall d from costs store₀ store × Lent table × (d ≤ tall + r - i)
 
 abbrev μ-loop : tie.MeasureT-loop
-μ-loop table₀ store₀ line pairs n poses r count lanes i tall prices from₀ d₀ table store from d =
+μ-loop table₀ store₀ line states n poses r count lanes i tall costs from₀ d₀ table store from d =
     tall + r - (i + d)
 
 -- the store is as long as it was, where the loop begins
@@ -48,7 +48,7 @@ loop-holds c =
     let a = k .args in
     let g = k .pre .1 in (
       omega (arith, g .early),
-      priced-start (deckOf (a .line .now) (a .n) (a .poses)) (a .r) (a .lanes) (a .i) (a .tall) (a .prices) (a .count) (given-small g) (g .ground .all) (k .pre .2 .over)
+      costed-start (deckOf (a .line .now) (a .n) (a .poses)) (a .r) (a .lanes) (a .i) (a .tall) (a .costs) (a .count) (given-small g) (g .ground .all) (k .pre .2 .over)
           (c .before .before .before .before .before .before .fill-late .ensures) (c .before .before .deliver .ensures),
       k .pre .0,
       omega arith,
@@ -113,7 +113,7 @@ loop-again c =
     let g = k .pre .1 in
     let l = c .before .before .before .before .before .before .before .before .before .before .loop in (
       omega (arith, g .ground .coded .reorder),
-      priced-step (given-small g) (g .ground .all) (k .pre .2 .over) (l .inv .1) (c .before .before .before .before .before .before .step-layer .ensures .0) (c .before .before .deliver2 .ensures),
+      costed-step (given-small g) (g .ground .all) (k .pre .2 .over) (l .inv .1) (c .before .before .before .before .before .before .step-layer .ensures .0) (c .before .before .deliver2 .ensures),
       c .before .before .before .before .before .before .step-layer .ensures .1,
       omega arith,
     )
@@ -128,10 +128,10 @@ returns c =
     let a = k .args in
     let l = c .before .loop in
     let e : l .d ≡ a .tall + a .r - a .i = omega (arith, l .inv .3) in
-    let o : Outside (a .prices) 49152 (a .store .now) (c .before .before .before .before .deliver .last .0) =
-    outside-join (outside-prices (c .before .before .before .before .before .before .before .before .fill-late .ensures .frame) (omega arith) (omega arith))
-    (outside-prices (c .before .before .before .before .deliver .ensures .frame) (omega arith) (omega arith)) in
-    (rw e at (priced-from (given-small (k .pre .1)) (kept (c .before .before)) o (l .inv .1)), l .inv .2)
+    let o : Outside (a .costs) 49152 (a .store .now) (c .before .before .before .before .deliver .last .0) =
+    outside-join (outside-costs (c .before .before .before .before .before .before .before .before .fill-late .ensures .frame) (omega arith) (omega arith))
+    (outside-costs (c .before .before .before .before .deliver .ensures .frame) (omega arith) (omega arith)) in
+    (rw e at (costed-from (given-small (k .pre .1)) (kept (c .before .before)) o (l .inv .1)), l .inv .2)
 
 pub run-to-spec : {M : Type 1} → statement M
 run-to-spec =

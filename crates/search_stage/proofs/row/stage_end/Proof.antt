@@ -1,4 +1,4 @@
--- A stage ends at tall cell i, or at the row's end. Assumes nothing.
+-- A stage ends at tall cell i, or at the row's end.
 use Rattle.search_row.specs.Words.{deckOf}
 use Rattle.search_stage.specs.Stage.{posIn}
 use Rattle.search_stage.specs.Rows.{row-tall, row-last}
@@ -10,9 +10,9 @@ use Rattle.search_stage.proofs.row.stage_end.Tie as tie
 word-requires : tie.Need-word-requires
 word-requires c κs = search needs
 
-stretch-to-requires : tie.Need-stretch-to-requires
+segment-to-requires : tie.Need-segment-to-requires
 unfolding posIn
-stretch-to-requires c κs =
+segment-to-requires c κs =
     let k = c .before .before .before .before .before .before .before .before in
     let g = k .pre .1 in
     (k .pre .0, k .pre .2, k .pre .3, omega (arith, c .before .before .word .ensures, g .inside (k .args .i) (c .before .before .before .if1 .taken), g .ground .size))
@@ -25,10 +25,10 @@ unfolding posIn
 returns c =
     let k = c .before .before .before .before .before .before .before .before .before .before .before in
     let a = k .args in
-    (row-tall (deckOf (a .line .now) (a .n) (a .poses)) (a .r) (a .talls) (posIn (a .places .now)) (a .starts .now) (c .before .before .before .before .before .before .if1 .taken) (k .pre .1 .ground .all) (c .before .before .before .before .before .word .ensures) (c .before .before .stretch-to .ensures .0), c .before .before .stretch-to .ensures .1)
+    (row-tall (deckOf (a .line .now) (a .n) (a .poses)) (a .r) (a .talls) (posIn (a .places .now)) (a .starts .now) (c .before .before .before .before .before .before .if1 .taken) (k .pre .1 .ground .all) (c .before .before .before .before .before .word .ensures) (c .before .before .segment-to .ensures .0), c .before .before .segment-to .ensures .1)
 
-stretch-end-requires : tie.Need-stretch-end-requires
-stretch-end-requires c κs = search needs
+segment-end-requires : tie.Need-segment-end-requires
+segment-end-requires c κs = search needs
 
 same-length-2 : tie.Need-same-length-2
 same-length-2 c = search needs
@@ -37,16 +37,16 @@ returns-2 : tie.Need-returns-2
 returns-2 c =
     let k = c .before .before .before .before .before .before .before .before .before .before in
     let a = k .args in
-    (row-last (deckOf (a .line .now) (a .n) (a .poses)) (a .r) (a .talls) (posIn (a .places .now)) (a .count) (c .before .before .before .before .before .if1 .left) (c .before .before .stretch-end .ensures .0), c .before .before .stretch-end .ensures .1)
+    (row-last (deckOf (a .line .now) (a .n) (a .poses)) (a .r) (a .talls) (posIn (a .places .now)) (a .count) (c .before .before .before .before .before .if1 .left) (c .before .before .segment-end .ensures .0), c .before .before .segment-end .ensures .1)
 
 pub stage-end-spec : {M : Type 1} → statement M
 stage-end-spec =
     tie.close
     (tie.spec
     word-requires
-    stretch-to-requires
+    segment-to-requires
     same-length
     returns
-    stretch-end-requires
+    segment-end-requires
     same-length-2
     returns-2)

@@ -1,0 +1,1 @@
+// Theory only: laws of lists and of comparisons that know nothing of rows.

@@ -1,0 +1,176 @@
+-- The entry is noted; if it is not of the first layer its source is found, and the rest is a traceback from there. The measure is how many layers are left.
+use Prim.Native.Nat.{_+_, _-_, _/_, _%_}
+use mathlib.Core.Path.{_∙_}
+use native.Mathlib.Omega.{arith}
+use Rattle.search_row.specs.Words.{deckOf}
+use Rattle.search_back_segment.specs.Steps.{trace-entry, trace-rest, trace-none, trace-more}
+use borrow.Author.Needs.{needs}
+use Prim.Native.Nat.{ℕ, _<_}
+use borrow.Fn.Kinds.{In}
+use borrow.Fn.PlainCycle.{Measures, is, falls, and}
+use Rattle.search_back_segment.proofs.trace.Reads as trace
+use Rattle.search_back_segment.proofs.trace.Kinds as trace-kinds
+use Rattle.search_back_segment.proofs.+trace.Lts-trace as trace-lts
+use Rattle.search_back_segment.proofs.entry_source.Reads as entry-source-reads
+use Rattle.search_back_segment.proofs.note.Reads as note-reads
+use Rattle.search_back_segment.proofs.+trace.{statement}
+use Rattle.search_back_segment.proofs.+trace.Tie.{close}
+
+abbrev μ-trace : Measures 4 trace-kinds.ps ℕ
+μ-trace κs a =
+    a .1 .1 .1 .1 .1 .1 .1 .1 .1 .0
+
+abbrev trace-at : ℕ → In 4 trace-kinds.ps
+trace-at t = and 4 trace-kinds.ps (is 4 trace-kinds.ps μ-trace t) trace.Pre
+
+abbrev trace-below : ℕ → In 4 trace-kinds.ps
+trace-below t = and 4 trace-kinds.ps (falls 4 trace-kinds.ps _<_ μ-trace t) trace.Pre
+
+trace-add-note : (t : ℕ) → trace-lts.Need-add-note (
+  note-reads.Asked,
+  note-reads.Learnt,
+  entry-source-reads.Asked,
+  entry-source-reads.Learnt,
+  trace-below t,
+  trace.Post,
+) (trace-at t) trace.Post
+trace-add-note t c = search needs
+
+trace-note-requires : (t : ℕ) → trace-lts.Need-note-requires (
+  note-reads.Asked,
+  note-reads.Learnt,
+  entry-source-reads.Asked,
+  entry-source-reads.Learnt,
+  trace-below t,
+  trace.Post,
+) (trace-at t) trace.Post
+trace-note-requires t c κs =
+    let g = c .before .before .before .before .before .pre .1 in
+    (g .back .ground .coded, g .state, omega (arith, g .pose, g .back .ground .few), g .last, g .room)
+
+trace-same-length : (t : ℕ) → trace-lts.Need-same-length (
+  note-reads.Asked,
+  note-reads.Learnt,
+  entry-source-reads.Asked,
+  entry-source-reads.Learnt,
+  trace-below t,
+  trace.Post,
+) (trace-at t) trace.Post
+trace-same-length t c =
+    c .before .before .before .note .kept .0
+
+trace-returns : (t : ℕ) → trace-lts.Need-returns (
+  note-reads.Asked,
+  note-reads.Learnt,
+  entry-source-reads.Asked,
+  entry-source-reads.Learnt,
+  trace-below t,
+  trace.Post,
+) (trace-at t) trace.Post
+trace-returns t c =
+    let k = c .before .before .before .before .before .before .before .before .before in
+    let a = k .args in
+    let g = k .pre .1 in
+    trace-none (deckOf (a .line .now) (a .n) (a .poses)) (a .r) (a .store .now) (a .i) (a .d) (a .q) (a .a) (c .if1 .taken) (c .before .before .before .note .ensures) (omega (arith, g .last, g .room))
+
+trace-sub-entry-source : (t : ℕ) → trace-lts.Need-sub-entry-source (
+  note-reads.Asked,
+  note-reads.Learnt,
+  entry-source-reads.Asked,
+  entry-source-reads.Learnt,
+  trace-below t,
+  trace.Post,
+) (trace-at t) trace.Post
+trace-sub-entry-source t c = search needs
+
+trace-add-entry-source : (t : ℕ) → trace-lts.Need-add-entry-source (
+  note-reads.Asked,
+  note-reads.Learnt,
+  entry-source-reads.Asked,
+  entry-source-reads.Learnt,
+  trace-below t,
+  trace.Post,
+) (trace-at t) trace.Post
+trace-add-entry-source t c = search needs
+
+trace-entry-source-requires : (t : ℕ) → trace-lts.Need-entry-source-requires (
+  note-reads.Asked,
+  note-reads.Learnt,
+  entry-source-reads.Asked,
+  entry-source-reads.Learnt,
+  trace-below t,
+  trace.Post,
+) (trace-at t) trace.Post
+trace-entry-source-requires t c κs = trace-entry (omega arith) (c .before .before .before .before .before .before .before .before .before .pre .1)
+
+trace-sub-trace : (t : ℕ) → trace-lts.Need-sub-trace (
+  note-reads.Asked,
+  note-reads.Learnt,
+  entry-source-reads.Asked,
+  entry-source-reads.Learnt,
+  trace-below t,
+  trace.Post,
+) (trace-at t) trace.Post
+trace-sub-trace t c = search needs
+
+trace-trace-requires : (t : ℕ) → trace-lts.Need-trace-requires (
+  note-reads.Asked,
+  note-reads.Learnt,
+  entry-source-reads.Asked,
+  entry-source-reads.Learnt,
+  trace-below t,
+  trace.Post,
+) (trace-at t) trace.Post
+trace-trace-requires t c κs =
+    let k = c .before .before .before .before .before .before .before .before .before .before .before in
+    (omega arith, trace-rest (omega arith) (c .before .before .before .before .before .note .kept .0) (k .pre .1) (c .before .entry-source .ensures))
+
+trace-same-length-2 : (t : ℕ) → trace-lts.Need-same-length-2 (
+  note-reads.Asked,
+  note-reads.Learnt,
+  entry-source-reads.Asked,
+  entry-source-reads.Learnt,
+  trace-below t,
+  trace.Post,
+) (trace-at t) trace.Post
+trace-same-length-2 t c =
+    c .before .before .trace .kept .1 .0 ∙ c .before .before .before .before .before .before .before .before .note .kept .0
+
+trace-returns-2 : (t : ℕ) → trace-lts.Need-returns-2 (
+  note-reads.Asked,
+  note-reads.Learnt,
+  entry-source-reads.Asked,
+  entry-source-reads.Learnt,
+  trace-below t,
+  trace.Post,
+) (trace-at t) trace.Post
+trace-returns-2 t c =
+    let k = c .before .before .before .before .before .before .before .before .before .before .before .before .before .before in
+    let a = k .args in
+    let g = k .pre .1 in
+    let n = c .before .before .before .before .entry-source in
+    trace-more (deckOf (a .line .now) (a .n) (a .poses)) (a .r) (a .store .now) (a .i) (a .d) (a .d - 1) (a .q) (a .a) (n .result / 64) (n .result % 64) (omega arith)
+    (c .before .before .before .before .before .before .before .before .note .ensures) (omega (arith, g .last, g .room)) (g .state) (g .pose) (n .ensures) (c .before .before .trace .ensures)
+
+pub +trace-spec : {M : Type 1} → statement M
++trace-spec = close μ-trace λ t. trace-lts.spec (
+  note-reads.Asked,
+  note-reads.Learnt,
+  entry-source-reads.Asked,
+  entry-source-reads.Learnt,
+  trace-below t,
+  trace.Post,
+)
+    (trace-at t)
+    trace.Post
+    (trace-add-note t)
+    (trace-note-requires t)
+    (trace-same-length t)
+    (trace-returns t)
+    (trace-sub-entry-source t)
+    (trace-add-entry-source t)
+    (trace-entry-source-requires t)
+    (trace-sub-trace t)
+    (trace-trace-requires t)
+    (trace-same-length-2 t)
+    (trace-returns-2 t)

@@ -1,0 +1,81 @@
+-- A state that cannot come first has no way to it.
+use Prim.Native.Nat.{ℕ}
+use mathlib.Core.Path.{_≡_, sym, ap, _∙_}
+use mathlib.Core.Bool.{true}
+use native.Mathlib.Omega.{arith}
+use borrow.Author.Needs.{needs}
+use borrow.Author.Tests.{not-true, not-false}
+use Rattle.theory_row.specs.Window.{start}
+use Rattle.search_lanes.specs.Laws.{written-ext}
+use Rattle.search_row.specs.Words.{deckOf}
+use Rattle.search_dense_first.specs.Firsts.{startsAt, open-there, open-away, starts-size}
+use Rattle.search_dense_first.specs.Begun.{openPose}
+use Rattle.search_dense_first.proofs.open_state.Statement.{statement}
+use Rattle.search_dense_first.proofs.open_state.Tie as tie
+
+-- past the test the state can come first
+abbrev Starts : tie.Else1 → Type 0
+Starts c = let a = c .before .before .before .before .before .before .args in startsAt (a .n) (a .r) 1 (start (a .r)) (a .q) ≡ true
+
+can : (c : tie.Else1) → Starts c
+can c =
+    let a = c .before .before .before .before .before .before .args in
+    ap (λ (m : ℕ). startsAt (a .n) (a .r) 1 m (a .q)) (sym (c .before .before .start-marks .ensures)) ∙ sym (c .before .starts .ensures) ∙ not-false _ (c .if1 .left)
+
+start-marks-requires : tie.Need-start-marks-requires
+start-marks-requires c κs = search needs
+
+starts-requires : tie.Need-starts-requires
+starts-requires c κs = search needs
+
+fill-requires : tie.Need-fill-requires
+fill-requires c κs = search needs
+
+same-length : tie.Need-same-length
+same-length c = search needs
+
+returns : tie.Need-returns
+returns c =
+    let a = c .before .before .before .before .before .before .before .before .before .before .args in
+    let t = sym (c .before .before .before .before .before .starts .ensures) ∙ not-true _ (c .before .before .before .before .if1 .taken) in
+    let u = ap (λ (m : ℕ). startsAt (a .n) (a .r) 1 m (a .q)) (sym (c .before .before .before .before .before .before .start-marks .ensures)) ∙ t in
+    written-ext (c .before .before .fill .ensures) (λ b h. open-away (deckOf (a .line .now) (a .n) (a .poses)) (a .r) (a .q) b u)
+
+last-at-requires : tie.Need-last-at-requires
+last-at-requires c κs = search needs
+
+open-poses-requires : tie.Need-open-poses-requires
+open-poses-requires c κs =
+    let k = c .before .before .before .before .before .before .before .before in
+    let a = k .args in
+    let g = k .pre .0 in (
+      g .row,
+      k .pre .1,
+      k .pre .2,
+      omega (arith, c .before .last-at .ensures, starts-size (a .n) (a .r) 1 (start (a .r)) (a .q) (can (c .before .before)), g .size),
+      g .few,
+    )
+
+same-length-2 : tie.Need-same-length-2
+same-length-2 c = search needs
+
+returns-2 : tie.Need-returns-2
+returns-2 c =
+    let a = c .before .before .before .before .before .before .before .before .before .before .before .args in
+    let e = c .before .before .before .before .last-at .ensures in
+    written-ext (c .before .before .open-poses .ensures)
+    (λ b h. open-there (deckOf (a .line .now) (a .n) (a .poses)) (a .r) (a .q) b (can (c .before .before .before .before .before)) ∙ ap (λ (j : ℕ). openPose (a .line .now) j b) (sym e))
+
+pub open-state-spec : {M : Type 1} → statement M
+open-state-spec =
+    tie.close
+    (tie.spec
+    start-marks-requires
+    starts-requires
+    fill-requires
+    same-length
+    returns
+    last-at-requires
+    open-poses-requires
+    same-length-2
+    returns-2)

@@ -1,0 +1,76 @@
+-- A state that is not there has no way to it.
+use Prim.Native.Nat.{ℕ}
+use mathlib.Core.Path.{sym, ap, _∙_}
+use native.Mathlib.Omega.{arith}
+use native.Mathlib.Numerals.{add-one}
+use borrow.Author.Tests.{not-true, not-false}
+use Rattle.search_row.specs.Words.{deckOf, thereIn}
+use Rattle.search_buckets.specs.Next.{next-away}
+use Rattle.search_dense_layer.specs.Thin.{thinIn}
+use Rattle.search_dense_layer.specs.Found.{put-words}
+use borrow.Author.Needs.{needs}
+use Rattle.search_dense_layer.proofs.put_state.Statement.{statement}
+use Rattle.search_dense_layer.proofs.put_state.Tie as tie
+
+add-is-there : tie.Need-add-is-there
+add-is-there c = search needs
+
+is-there-requires : tie.Need-is-there-requires
+is-there-requires c κs = search needs
+
+add-fill : tie.Need-add-fill
+add-fill c = search needs
+
+mul-fill : tie.Need-mul-fill
+mul-fill c = search needs
+
+add-fill-2 : tie.Need-add-fill-2
+add-fill-2 c = search needs
+
+fill-requires : tie.Need-fill-requires
+fill-requires c κs =
+    let k = c .before .before .before .before .before .before in
+    let g = k .pre .0 in
+    (omega (arith, g .room, g .ground .all, g .ground .coded .few), omega arith, g .low)
+
+same-length : tie.Need-same-length
+same-length c = search needs
+
+returns : tie.Need-returns
+returns c =
+    let k = c .before .before .before .before .before .before .before .before .before in
+    let a = k .args in
+    let D = deckOf (a .line .now) (a .n) (a .poses) in
+    let t = sym (c .before .before .before .before .before .is-there .ensures) ∙ not-true _ (c .before .before .before .before .if1 .taken) in
+    let u = ap (λ (j : ℕ). thereIn (a .n) (a .r) j (a .q)) (sym (add-one (a .i))) ∙ t in
+    put-words D (a .r) (a .i) (a .from) (a .q) (c .before .before .fill .ensures) (omega (arith, k .pre .0 .ground .few)) (omega arith)
+    (λ b l. next-away D (a .r) (thinIn (a .store .now) (a .from)) (a .i) (a .q) b u)
+
+target-there-requires : tie.Need-target-there-requires
+target-there-requires c κs =
+    let k = c .before .before .before .before .before .before in
+    let a = k .args in
+    let t = sym (c .before .before .is-there .ensures) ∙ not-false _ (c .before .if1 .left) in
+    (k .pre .0, record { state = omega (arith, k .pre .0 .ground .all); there = ap (λ (j : ℕ). thereIn (a .n) (a .r) j (a .q)) (sym (add-one (a .i))) ∙ t })
+
+same-length-2 : tie.Need-same-length-2
+same-length-2 c = search needs
+
+returns-2 : tie.Need-returns-2
+returns-2 c = search needs
+
+pub put-state-spec : {M : Type 1} → statement M
+put-state-spec =
+    tie.close
+    (tie.spec
+    add-is-there
+    is-there-requires
+    add-fill
+    mul-fill
+    add-fill-2
+    fill-requires
+    same-length
+    returns
+    target-there-requires
+    same-length-2
+    returns-2)

@@ -1,0 +1,115 @@
+-- The state's first word is its digit, which tells the layer that it comes with.
+use Prim.Native.Nat.{ℕ, suc, _+_, _≤_, _<_}
+use mathlib.Core.Path.{_≡_, ap, _∙_}
+use native.Mathlib.Omega.{arith}
+use lib.ListN.{getD}
+use borrow.Author.Needs.{needs}
+use Rattle.theory_tables.specs.Steps.{offset}
+use Rattle.search_lanes.specs.Laws.{state-rows}
+use Rattle.search_dense_segment.specs.Laws.{comes-with, comes-late}
+use Rattle.search_dense_segment.proofs.put_state.Statement.{statement}
+use Rattle.search_dense_segment.proofs.put_state.Tie as tie
+
+-- the word that is read
+abbrev Digit : tie.After-word → Type 0
+Digit c = let a = c .before .before .before .args in (c .word .result ≡ offset (a .r) (a .q)) × (offset (a .r) (a .q) ≤ 4)
+
+digit : (c : tie.After-word) → Digit c
+digit c =
+    let k = c .before .before .before in
+    let q = k .args .q in
+    let h = rw (k .pre .1 .all) at (k .pre .3) in
+    (c .word .ensures ∙ k .pre .0 .digit q h, k .pre .0 .small q h)
+
+mul-word : tie.Need-mul-word
+mul-word c = search needs
+
+word-requires : tie.Need-word-requires
+word-requires c κs = search needs
+
+add-all : tie.Need-add-all
+add-all c = search needs
+
+add-all-2 : tie.Need-add-all-2
+add-all-2 c = search needs
+
+add-if1 : tie.Need-add-if1
+add-if1 c = omega (arith, digit c)
+
+mul-fill-rows : tie.Need-mul-fill-rows
+mul-fill-rows c = search needs
+
+add-fill-rows : tie.Need-add-fill-rows
+add-fill-rows c = search needs
+
+fill-rows-requires : tie.Need-fill-rows-requires
+fill-rows-requires c κs = search needs
+
+same-length : tie.Need-same-length
+same-length c = search needs
+
+returns : tie.Need-returns
+returns c =
+    let k = c .before .before .before .before .before .before .before .before in
+    let a = k .args in
+    let e : a .tall + suc (a .r) < 1 + offset (a .r) (a .q) = omega (arith, c .before .before .before .before .if1 .taken, digit (c .before .before .before .before .before)) in
+    state-rows (omega (arith, k .pre .1 .few)) (c .before .before .fill-rows .ensures) (λ b l x y. comes-late (a .r) (a .tall) (a .store .now) l (a .q) b e)
+
+sub-kept-at : tie.Need-sub-kept-at
+sub-kept-at c = search needs
+
+kept-at-requires : tie.Need-kept-at-requires
+kept-at-requires c κs = search needs
+
+mul-from : tie.Need-mul-from
+mul-from c = search needs
+
+add-from : tie.Need-add-from
+add-from c = search needs
+
+mul-spread : tie.Need-mul-spread
+mul-spread c = search needs
+
+add-spread : tie.Need-add-spread
+add-spread c = search needs
+
+spread-requires : tie.Need-spread-requires
+spread-requires c κs = search needs
+
+same-length-2 : tie.Need-same-length-2
+same-length-2 c = search needs
+
+returns-2 : tie.Need-returns-2
+returns-2 c =
+    let k = c .before .before .before .before .before .before .before .before .before in
+    let a = k .args in
+    let d = digit (c .before .before .before .before .before .before) in
+    let e : 1 + offset (a .r) (a .q) ≤ a .tall + suc (a .r) = omega (arith, c .before .before .before .before .before .if1 .left, d) in
+    state-rows (omega (arith, k .pre .1 .few)) (c .before .before .spread .ensures)
+    (λ b l x y.
+    comes-with (a .r) (a .tall) (a .store .now) l (a .q) b e
+    ∙ ap (λ (j : ℕ). getD (a .store .now) j 0) (omega (arith, c .before .before .before .before .kept-at .ensures, d)))
+
+pub put-state-spec : {M : Type 1} → statement M
+put-state-spec =
+    tie.close
+    (tie.spec
+    mul-word
+    word-requires
+    add-all
+    add-all-2
+    add-if1
+    mul-fill-rows
+    add-fill-rows
+    fill-rows-requires
+    same-length
+    returns
+    sub-kept-at
+    kept-at-requires
+    mul-from
+    add-from
+    mul-spread
+    add-spread
+    spread-requires
+    same-length-2
+    returns-2)

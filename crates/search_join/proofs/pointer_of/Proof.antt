@@ -1,0 +1,105 @@
+-- The lane has the least of state t, and the start state has the sum there.
+use mathlib.Core.Path.{subst}
+use Rattle.search_join.specs.Tables.{WayIn}
+use Rattle.search_join.specs.SumLaws.{table-for, lane-met, case-way}
+use native.Mathlib.Omega.{arith}
+use borrow.Author.Needs.{needs}
+use Rattle.search_join.proofs.pointer_of.Statement.{statement}
+use Rattle.search_join.proofs.pointer_of.Tie as tie
+
+mul-lane-of : tie.Need-mul-lane-of
+mul-lane-of c = search needs
+
+cost-at-requires : tie.Need-cost-at-requires
+cost-at-requires c κs = search needs
+
+lane-of-requires : tie.Need-lane-of-requires
+lane-of-requires c κs = search needs
+
+mul-at : tie.Need-mul-at
+mul-at c = search needs
+
+add-at : tie.Need-add-at
+add-at c =
+    let k = c .before .before .before in
+    let a = k .args in
+    let t = k .pre .0 in
+    let m = lane-met (a .starts) (a .lanes) (a .i) (a .store .now) (a .q0) (a .q1) (a .a) (k .pre .1) (a .value) (a .t) _ _ (k .pre .7) (k .pre .6) (c .before .cost-at .ensures) (c .lane-of .ensures) in
+    omega (arith, m .0, t .few, t .states)
+
+mul-start-of : tie.Need-mul-start-of
+mul-start-of c =
+    let k = c .before .before .before in
+    let a = k .args in
+    let t = k .pre .0 in
+    let m = lane-met (a .starts) (a .lanes) (a .i) (a .store .now) (a .q0) (a .q1) (a .a) (k .pre .1) (a .value) (a .t) _ _ (k .pre .7) (k .pre .6) (c .before .cost-at .ensures) (c .lane-of .ensures) in
+    omega (arith, m .0, t .few, t .states)
+
+element-copy-out-start-of : tie.Need-element-copy-out-start-of
+element-copy-out-start-of c =
+    let k = c .before .before .before in
+    let a = k .args in
+    let t = k .pre .0 in
+    let m = lane-met (a .starts) (a .lanes) (a .i) (a .store .now) (a .q0) (a .q1) (a .a) (k .pre .1) (a .value) (a .t) _ _ (k .pre .7) (k .pre .6) (c .before .cost-at .ensures) (c .lane-of .ensures) in
+    omega (arith, m .0, t .few, t .states)
+
+start-of-requires : tie.Need-start-of-requires
+start-of-requires c κs =
+    let k = c .before .before .before .before in
+    let a = k .args in
+    let t = k .pre .0 in
+    let m = lane-met (a .starts) (a .lanes) (a .i) (a .store .now) (a .q0) (a .q1) (a .a) (k .pre .1) (a .value) (a .t) _ _ (k .pre .7) (k .pre .6) (c .before .before .cost-at .ensures) (c .before .lane-of .ensures) in
+    (table-for _ _ t (omega arith) (t .stage), omega arith, omega arith, omega arith, omega (arith, m .0, t .few))
+
+mul-result : tie.Need-mul-result
+mul-result c =
+    let k = c .before .before .before .before .before in
+    let a = k .args in
+    let t = k .pre .0 in
+    let m = lane-met (a .starts) (a .lanes) (a .i) (a .store .now) (a .q0) (a .q1) (a .a) (k .pre .1) (a .value) (a .t) _ _ (k .pre .7) (k .pre .6) (c .before .before .before .cost-at .ensures) (c .before .before .lane-of .ensures) in
+    let w = case-way (a .starts) (a .lanes) (a .i) (a .store .now) (a .q0) (a .q1) (a .a) (k .pre .1) (a .value) (c .start-of .result) (a .t) (c .before .before .lane-of .result) (k .pre .7) (t .states) (t .few) (k .pre .5) (m .0) (m .1) (c .start-of .ensures) in
+    omega (arith, w .1, t .states)
+
+add-result : tie.Need-add-result
+add-result c =
+    let k = c .before .before .before .before .before in
+    let a = k .args in
+    let t = k .pre .0 in
+    let m = lane-met (a .starts) (a .lanes) (a .i) (a .store .now) (a .q0) (a .q1) (a .a) (k .pre .1) (a .value) (a .t) _ _ (k .pre .7) (k .pre .6) (c .before .before .before .cost-at .ensures) (c .before .before .lane-of .ensures) in
+    let w = case-way (a .starts) (a .lanes) (a .i) (a .store .now) (a .q0) (a .q1) (a .a) (k .pre .1) (a .value) (c .start-of .result) (a .t) (c .before .before .lane-of .result) (k .pre .7) (t .states) (t .few) (k .pre .5) (m .0) (m .1) (c .start-of .ensures) in
+    omega (arith, w .1, m .0, t .few, t .states)
+
+cast-result : tie.Need-cast-result
+cast-result c =
+    let k = c .before .before .before .before .before in
+    let a = k .args in
+    let t = k .pre .0 in
+    let m = lane-met (a .starts) (a .lanes) (a .i) (a .store .now) (a .q0) (a .q1) (a .a) (k .pre .1) (a .value) (a .t) _ _ (k .pre .7) (k .pre .6) (c .before .before .before .cost-at .ensures) (c .before .before .lane-of .ensures) in
+    let w = case-way (a .starts) (a .lanes) (a .i) (a .store .now) (a .q0) (a .q1) (a .a) (k .pre .1) (a .value) (c .start-of .result) (a .t) (c .before .before .lane-of .result) (k .pre .7) (t .states) (t .few) (k .pre .5) (m .0) (m .1) (c .start-of .ensures) in
+    omega (arith, w .1, m .0, t .few, t .states)
+
+returns : tie.Need-returns
+returns c =
+    let k = c .before .before .before .before .before in
+    let a = k .args in
+    let t = k .pre .0 in
+    let m = lane-met (a .starts) (a .lanes) (a .i) (a .store .now) (a .q0) (a .q1) (a .a) (k .pre .1) (a .value) (a .t) _ _ (k .pre .7) (k .pre .6) (c .before .before .before .cost-at .ensures) (c .before .before .lane-of .ensures) in
+    let w = case-way (a .starts) (a .lanes) (a .i) (a .store .now) (a .q0) (a .q1) (a .a) (k .pre .1) (a .value) (c .start-of .result) (a .t) (c .before .before .lane-of .result) (k .pre .7) (t .states) (t .few) (k .pre .5) (m .0) (m .1) (c .start-of .ensures) in
+    (subst (WayIn (a .starts) (a .lanes) (a .i) (a .store .now) (a .q0) (a .q1) (a .a) (a .value)) (omega arith) (w .0), omega (arith, w .1, m .0, t .few, t .states))
+
+pub pointer-of-spec : {M : Type 1} → statement M
+pointer-of-spec =
+    tie.close
+    (tie.spec
+    mul-lane-of
+    cost-at-requires
+    lane-of-requires
+    mul-at
+    add-at
+    mul-start-of
+    element-copy-out-start-of
+    start-of-requires
+    mul-result
+    add-result
+    cast-result
+    returns)

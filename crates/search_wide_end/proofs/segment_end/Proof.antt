@@ -1,0 +1,108 @@
+-- The three cases of the cost.
+use Prim.Native.Nat.{_≤_}
+use mathlib.Core.Path.{_∙_}
+use native.Mathlib.Omega.{arith}
+use lib.ListN.{getD}
+use borrow.Author.Needs.{needs}
+use Rattle.search_row.specs.Words.{deckOf}
+use Rattle.search_wide_segment.specs.Laws.{buffer-low, outside-join, outside-layers, outside-costs}
+use Rattle.search_wide_end.specs.Laws.{cost-done, cost-past, ran-cost, end-words}
+use Rattle.search_wide_end.proofs.segment_end.Statement.{statement}
+use Rattle.search_wide_end.proofs.segment_end.Tie as tie
+
+-- past both tests the row has room for what was placed
+left : (c : tie.Else2) → (let a = c .before .before .before .before .before .args in a .i ≤ a .n)
+left c = omega arith
+
+add-if1 : tie.Need-add-if1
+add-if1 c = search needs
+
+fill-requires : tie.Need-fill-requires
+fill-requires c κs = search needs
+
+same-length : tie.Need-same-length
+same-length c = search needs
+
+returns : tie.Need-returns
+returns c =
+    let k = c .before .before .before .before .before .before .before .before in
+    let a = k .args in (
+      end-words (k .pre .1 .narrow) (c .before .before .fill .ensures) (λ f l. cost-past (deckOf (a .line .now) (a .n) (a .poses)) (a .r) f (a .i) (getD (a .starts .now) l 0) (omega arith)),
+      k .pre .0,
+    )
+
+add-if2 : tie.Need-add-if2
+add-if2 c = search needs
+
+put-requires : tie.Need-put-requires
+put-requires c κs =
+    let k = c .before .before .before .before .before .before in
+    (omega (arith, k .pre .2 .room, k .pre .1 .narrow), omega (arith, k .pre .1 .narrow), k .pre .4, omega arith, k .pre .1 .low, k .pre .3 .word)
+
+same-length-2 : tie.Need-same-length-2
+same-length-2 c = search needs
+
+returns-2 : tie.Need-returns-2
+returns-2 c =
+    let k = c .before .before .before .before .before .before .before .before .before in
+    let a = k .args in (
+      end-words (k .pre .1 .narrow) (c .before .before .put .ensures)
+          (λ f l. omega (arith, cost-done (deckOf (a .line .now) (a .n) (a .poses)) (a .r) f (a .i) (getD (a .starts .now) l 0) (omega arith), k .pre .3 .word l)),
+      k .pre .0,
+    )
+
+run-on-requires : tie.Need-run-on-requires
+run-on-requires c κs =
+    let k = c .before .before .before .before .before .before .before in
+    (k .pre .0, k .pre .1, omega (arith, k .pre .2 .over, k .pre .2 .room), left (c .before .before))
+
+put-ends-requires : tie.Need-put-ends-requires
+put-ends-requires c κs =
+    let k = c .before .before .before .before .before .before .before .before .before .before .before in
+    let g = k .pre .1 in
+    let v = c .before .before .before .run-on .ensures .0 in
+    let b = buffer-low (v .running .buffer) in (
+      record {
+        ground = g .ground;
+        low = v .low;
+        narrow = g .narrow;
+        early = omega (arith, g .ground .size);
+        room = omega (arith, v .frame .long, k .pre .2 .over, k .pre .2 .room);
+      },
+      record { over = k .pre .2 .over; room = omega (arith, v .frame .long, k .pre .2 .room) },
+    )
+
+same-length-3 : tie.Need-same-length-3
+same-length-3 c = c .before .before .put-ends .ensures .frame .long ∙ c .before .before .before .before .before .before .run-on .ensures .0 .frame .long
+
+returns-3 : tie.Need-returns-3
+returns-3 c =
+    let k = c .before .before .before .before .before .before .before .before .before .before .before .before .before .before in
+    let a = k .args in
+    let g = k .pre .1 in
+    let v = c .before .before .before .before .before .before .run-on .ensures .0 in
+    let w = c .before .before .put-ends .ensures in (
+      record {
+        outside = outside-join (outside-layers (k .pre .2 .over) (v .frame) (omega arith)) (outside-costs (w .frame) (omega arith) (omega (arith, g .narrow)));
+        low = w .low;
+        right = λ l h. w .words l h ∙ ran-cost l (getD (a .starts .now) l 0) (left (c .before .before .before .before .before .before .before .before .before)) (v .running) h;
+      },
+      c .before .before .before .before .before .before .run-on .ensures .1,
+    )
+
+pub segment-end-spec : {M : Type 1} → statement M
+segment-end-spec =
+    tie.close
+    (tie.spec
+    add-if1
+    fill-requires
+    same-length
+    returns
+    add-if2
+    put-requires
+    same-length-2
+    returns-2
+    run-on-requires
+    put-ends-requires
+    same-length-3
+    returns-3)

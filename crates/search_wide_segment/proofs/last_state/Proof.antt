@@ -1,0 +1,81 @@
+-- The state's first word is its digit.
+use Prim.Native.Nat.{suc, _+_}
+use mathlib.Core.Path.{_≡_, sym}
+use native.Mathlib.Omega.{arith}
+use Rattle.theory_tables.specs.Steps.{offset}
+use Rattle.search_lanes.specs.Laws.{frame-refl, state-ext}
+use Rattle.search_row.specs.Words.{deckOf}
+use Rattle.search_wide_segment.specs.Laws.{last-skip, last-take}
+use borrow.Author.Needs.{needs}
+use Rattle.search_wide_segment.proofs.last_state.Statement.{statement}
+use Rattle.search_wide_segment.proofs.last_state.Tie as tie
+
+add-if1 : tie.Need-add-if1
+add-if1 c = search needs
+
+mul-word : tie.Need-mul-word
+mul-word c = search needs
+
+word-requires : tie.Need-word-requires
+word-requires c κs = search needs
+
+add-if1-2 : tie.Need-add-if1-2
+add-if1-2 c =
+    let k = c .before .before .before .before in
+    let g = k .pre .1 .ground in
+    let h = k .pre .4 in
+    omega (arith, c .word .ensures, g .coded .digit (k .args .q) (omega (arith, g .all)), g .coded .small (k .args .q) (omega (arith, g .all)))
+
+add-if1-3 : tie.Need-add-if1-3
+add-if1-3 c = search needs
+
+add-if1-4 : tie.Need-add-if1-4
+add-if1-4 c = search needs
+
+returns : tie.Need-returns
+returns c =
+    let k = c .before .before .before .before .before in
+    let a = k .args in
+    let g = k .pre .1 .ground in
+    let e : suc (a .i) + offset (a .r) (a .q) ≡ a .tall + suc (a .r) → ⊥ =
+    λ h. c .if1 .taken (omega (arith, c .before .word .ensures, g .coded .digit (a .q) (omega (arith, g .all)))) in (
+      record {
+        frame = frame-refl _ _ _;
+        low = k .pre .1 .low;
+        right = λ b x l y. sym (last-skip (deckOf (a .line .now) (a .n) (a .poses)) (a .r) (a .i) (a .tall) (a .store .now) (a .from) (a .costs) l (a .q) b e);
+      },
+      k .pre .0,
+    )
+
+target-block-requires : tie.Need-target-block-requires
+target-block-requires c κs = search needs
+
+same-length : tie.Need-same-length
+same-length c = search needs
+
+returns-2 : tie.Need-returns-2
+returns-2 c =
+    let k = c .before .before .before .before .before .before .before .before .before .before in
+    let a = k .args in
+    let g = k .pre .1 .ground in
+    let e : suc (a .i) + offset (a .r) (a .q) ≡ a .tall + suc (a .r) =
+    omega (arith, c .before .before .before .before .before .if1 .left, c .before .before .before .before .before .before .word .ensures, g .coded .digit (a .q) (omega (arith, g .all))) in (
+      state-ext (c .before .before .target-block .ensures .0)
+          (λ b l x y. last-take (deckOf (a .line .now) (a .n) (a .poses)) (a .r) (a .i) (a .tall) (a .store .now) (a .from) (a .costs) l (a .q) b e),
+      c .before .before .target-block .ensures .1,
+    )
+
+pub last-state-spec : {M : Type 1} → statement M
+last-state-spec =
+    tie.close
+    (tie.spec
+    add-if1
+    mul-word
+    word-requires
+    add-if1-2
+    add-if1-3
+    add-if1-4
+    returns
+    target-block-requires
+    same-length
+    returns-2)

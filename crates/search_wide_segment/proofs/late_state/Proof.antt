@@ -1,0 +1,73 @@
+-- The state's first word is its digit.
+use Prim.Native.Nat.{suc, _+_, _≤_, _<_}
+use mathlib.Core.Path.{sym}
+use native.Mathlib.Omega.{arith}
+use Rattle.theory_tables.specs.Steps.{offset}
+use Rattle.search_lanes.specs.Laws.{frame-refl, state-rows}
+use Rattle.search_wide_segment.specs.Laws.{late-skip, late-take}
+use borrow.Author.Needs.{needs}
+use Rattle.search_wide_segment.proofs.late_state.Statement.{statement}
+use Rattle.search_wide_segment.proofs.late_state.Tie as tie
+
+mul-word : tie.Need-mul-word
+mul-word c = search needs
+
+word-requires : tie.Need-word-requires
+word-requires c κs = search needs
+
+add-if1 : tie.Need-add-if1
+add-if1 c =
+    let k = c .before .before .before in
+    omega (arith, c .word .ensures, k .pre .0 .digit (k .args .q) (k .pre .3), k .pre .0 .small (k .args .q) (k .pre .3))
+
+add-if1-2 : tie.Need-add-if1-2
+add-if1-2 c = search needs
+
+add-if1-3 : tie.Need-add-if1-3
+add-if1-3 c = search needs
+
+returns : tie.Need-returns
+returns c =
+    let k = c .before .before .before .before in
+    let a = k .args in
+    let e : a .i + offset (a .r) (a .q) ≤ a .tall + suc (a .r) = omega (arith, c .if1 .taken, c .before .word .ensures, k .pre .0 .digit (a .q) (k .pre .3)) in
+    record {
+      frame = frame-refl _ _ _;
+      low = k .pre .1;
+      right = λ b x l y. sym (late-skip (a .r) (a .i) (a .tall) (a .store .now) (a .costs) l (a .q) b e);
+    }
+
+mul-fill-rows : tie.Need-mul-fill-rows
+mul-fill-rows c = search needs
+
+add-fill-rows : tie.Need-add-fill-rows
+add-fill-rows c = search needs
+
+fill-rows-requires : tie.Need-fill-rows-requires
+fill-rows-requires c κs = search needs
+
+same-length : tie.Need-same-length
+same-length c = search needs
+
+returns-2 : tie.Need-returns-2
+returns-2 c =
+    let k = c .before .before .before .before .before .before .before .before in
+    let a = k .args in
+    let e : a .tall + suc (a .r) < a .i + offset (a .r) (a .q) = omega (arith, c .before .before .before .before .if1 .left, c .before .before .before .before .before .word .ensures, k .pre .0 .digit (a .q) (k .pre .3)) in
+    state-rows (omega arith) (c .before .before .fill-rows .ensures) (λ b l x y. late-take (a .r) (a .i) (a .tall) (a .store .now) (a .costs) l (a .q) b e)
+
+pub late-state-spec : {M : Type 1} → statement M
+late-state-spec =
+    tie.close
+    (tie.spec
+    mul-word
+    word-requires
+    add-if1
+    add-if1-2
+    add-if1-3
+    returns
+    mul-fill-rows
+    add-fill-rows
+    fill-rows-requires
+    same-length
+    returns-2)

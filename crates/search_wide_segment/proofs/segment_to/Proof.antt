@@ -1,0 +1,66 @@
+-- Nothing is left, or the layer with tall + r + 1 cells.
+use native.Mathlib.Omega.{arith}
+use Rattle.search_wide_segment.specs.Laws.{buffer-low, buffer-costs, costed-past, costed-last}
+use borrow.Author.Needs.{needs}
+use Rattle.search_wide_segment.proofs.segment_to.Statement.{statement}
+use Rattle.search_wide_segment.proofs.segment_to.Tie as tie
+
+run-to-requires : tie.Need-run-to-requires
+run-to-requires c κs = search needs
+
+add-if1 : tie.Need-add-if1
+add-if1 c = search needs
+
+same-length : tie.Need-same-length
+same-length c = search needs
+
+returns : tie.Need-returns
+returns c =
+    let w = c .before .before .before .run-to .ensures in
+    (costed-past (w .0) (omega (arith, c .if1 .taken)), w .1)
+
+add-last-layer : tie.Need-add-last-layer
+add-last-layer c = search needs
+
+last-layer-requires : tie.Need-last-layer-requires
+last-layer-requires c κs =
+    let k = c .before .before .before .before .before .before .before .before .before .before .before in
+    let g = k .pre .1 in
+    let p = k .pre .2 in
+    let w = c .before .before .before .before .before .run-to .ensures in
+    let v = w .0 in
+    let b = v .running .buffer in (
+      w .1,
+      record {
+        ground = g .ground;
+        low = v .low;
+        narrow = g .narrow;
+        early = omega (arith, g .ground .coded .reorder, k .pre .3);
+        room = omega (arith, buffer-low b, p .over, p .room, v .outside .long);
+      },
+      buffer-costs b (record { over = p .over; room = omega (arith, p .room, v .outside .long) }),
+      k .pre .3,
+    )
+
+same-length-2 : tie.Need-same-length-2
+same-length-2 c = search needs
+
+returns-2 : tie.Need-returns-2
+returns-2 c =
+    let k = c .before .before .before .before .before .before .before .before .before .before .before .before .before .before in
+    let w = c .before .before .before .before .before .before .before .before .run-to .ensures in
+    let f = c .before .before .last-layer .ensures in
+    (costed-last (k .pre .1 .ground .all) (w .0) (omega (arith, c .before .before .before .before .before .if1 .left)) (f .0), f .1)
+
+pub segment-to-spec : {M : Type 1} → statement M
+segment-to-spec =
+    tie.close
+    (tie.spec
+    run-to-requires
+    add-if1
+    same-length
+    returns
+    add-last-layer
+    last-layer-requires
+    same-length-2
+    returns-2)
