@@ -1,4 +1,4 @@
--- Prices as a program holds them: a number below the bound B, and B for none; sums stop at B.
+-- Costs as a program holds them: a number below the bound B, and B for none; sums stop at B.
 use mathlib.Core.Path.{_≡_, refl, sym, ap, ap₂, _∙_, subst}
 use mathlib.Core.Logic.{_↔_}
 use mathlib.Core.List.{List, [], _∷_, _++_}
@@ -9,7 +9,7 @@ use native.Mathlib.Omega.{arith}
 use lib.Dec.{leb}
 use Rattle.lists.specs.Lists.{from, Le?, low, high, le?}
 use Rattle.theory_row.specs.Cheapest.{lower}
-use Rattle.theory_pair.specs.Forward.{each, add, segmentCost, leastOf, layer}
+use Rattle.theory_pair.specs.Forward.{each, add, costIf, leastOf, layer}
 use Rattle.theory_pair.specs.Pick.{pick}
 
 unfoldable pub coded : ℕ → Option ℕ → ℕ
@@ -26,7 +26,7 @@ unfolding coded
 coded-low B none = omega arith
 coded-low B (some v) = omega arith
 
--- a code below the bound is the price itself; the bound is none, or a price from the bound on
+-- a code below the bound is the cost itself; the bound is none, or a cost from the bound on
 pub coded-some : (B v : ℕ) (o : Option ℕ) → coded B o ≡ v → v < B → o ≡ some v
 unfolding coded
 coded-some B v none e h = absurd (omega arith)

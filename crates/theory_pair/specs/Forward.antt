@@ -1,4 +1,4 @@
--- The cheapest trail, in general: from a source through layers of states, each layer a finite list, each step with a price. The least prices are
+-- The cheapest trail, in general: from a source through layers of states, each layer a finite list, each step with a cost. The least costs are
 -- computed layer by layer, an entry from all entries of the layer before.
 use mathlib.Core.Path.{_≡_, refl, sym, ap, _∙_, subst}
 use mathlib.Core.Logic.{_≢_, _⊎_, inl, inr}
@@ -27,7 +27,7 @@ each-in {A = A} {b = b} (x ∷ l) f m = go (List·Memᴰ·append-cases (f x) m) 
     go (inl p) g = (x, here refl, p)
     go (inr p) g = let r = g p in (r .0, there (r .1), r .2)
 
--- ---- prices: a number, or none
+-- ---- costs: a number, or none
 
 unfoldable pub add : Option ℕ → Option ℕ → Option ℕ
 add none b = none
@@ -45,19 +45,19 @@ add-met (some a) none v e = absurd (let z : _≡_ {A = ℕ} 0 1 = cc in omega ar
 add-met (some a) (some b) v e = (a, b, refl, refl, cc)
 
 -- x if it may be, else none
-unfoldable pub segmentCost : {P : Type 0} → Dec P → ℕ → Option ℕ
-segmentCost (yes p) x = some x
-segmentCost (no q) x = none
+unfoldable pub costIf : {P : Type 0} → Dec P → ℕ → Option ℕ
+costIf (yes p) x = some x
+costIf (no q) x = none
 
-pub price-below : {P : Type 0} (t : Dec P) (x : ℕ) → P → segmentCost t x ⊑ x
-unfolding segmentCost
-price-below (yes p) x h = omega arith
-price-below (no q) x h = absurd (q h)
+pub cost-below : {P : Type 0} (t : Dec P) (x : ℕ) → P → costIf t x ⊑ x
+unfolding costIf
+cost-below (yes p) x h = omega arith
+cost-below (no q) x h = absurd (q h)
 
-pub price-met : {P : Type 0} (t : Dec P) (x v : ℕ) → segmentCost t x ≡ some v → P × (v ≡ x)
-unfolding segmentCost
-price-met (yes p) x v e = (p, cc)
-price-met (no q) x v e = absurd (let z : _≡_ {A = ℕ} 0 1 = cc in omega arith)
+pub cost-met : {P : Type 0} (t : Dec P) (x v : ℕ) → costIf t x ≡ some v → P × (v ≡ x)
+unfolding costIf
+cost-met (yes p) x v e = (p, cc)
+cost-met (no q) x v e = absurd (let z : _≡_ {A = ℕ} 0 1 = cc in omega arith)
 
 -- the least of f over a list
 unfoldable pub leastOf : {S : Type 0} → (S → Option ℕ) → List S → Option ℕ
@@ -85,7 +85,7 @@ abbrev pub Trail : {S : Type 0} → (ℕ → List S) → (ℕ → S → S → �
 Trail states Step s zero t x = Step 0 s t x
 Trail {S = S} states Step s (suc j) t x = (u : S) × In u (states j) × (y : ℕ) × (z : ℕ) × Trail states Step s j u y × Step (suc j) u t z × (y + z ≡ x)
 
--- the least price of a trail, layer by layer, from the least price of a step
+-- the least cost of a trail, layer by layer, from the least cost of a step
 unfoldable pub layer : {S : Type 0} → (ℕ → List S) → (ℕ → S → S → Option ℕ) → S → ℕ → S → Option ℕ
 layer states step s zero t = step 0 s t
 layer states step s (suc j) t = leastOf (λ u. add (layer states step s j u) (step (suc j) u t)) (states j)
@@ -101,7 +101,7 @@ module _ {S : Type 0} (states : ℕ → List S) (Step : ℕ → S → S → ℕ 
       subst (λ v. leastOf f (states j) ⊑ v) (h .6)
       (leastOf-below f (states j) u (h .2 + h .3) (h .1) (add-below (layer states step s j u) (step (suc j) u t) (h .2) (h .3) (layer-below b s j u (h .2) (h .4)) (b (suc j) u t (h .3) (h .5))))
 
-  -- an entry that is a price has a source in the layer before, which a walk back finds
+  -- an entry that is a cost has a source in the layer before, which a walk back finds
   pub layer-source : (s : S) (j : ℕ) (t : S) (x : ℕ) → layer states step s (suc j) t ≡ some x
       → (u : S) × In u (states j) × (y : ℕ) × (z : ℕ) × (layer states step s j u ≡ some y) × (step (suc j) u t ≡ some z) × (y + z ≡ x)
   unfolding layer

@@ -1,4 +1,4 @@
--- The tables' entries as the loops that compute them, on coded prices: B for none, sums stop at B.
+-- The tables' entries as the loops that compute them, on coded costs: B for none, sums stop at B.
 use mathlib.Core.Path.{_≡_, refl, sym, ap, ap₂, _∙_, subst, fun-ext}
 use mathlib.Core.List.{List, [], _∷_, _++_}
 use mathlib.Core.Option.{Option, none, some}
@@ -70,7 +70,7 @@ module _ {A : Type 0} (B R : ℕ) (siteOf : A → ℕ) (L : Line A) (s : State A
       at u = let e = coded-add B (layer (λ i. singles R siteOf L (s .0 + suc i)) (λ i u v. move R siteOf L u v) s j u) (move R siteOf L u t) in
           lowest-one B h u (omega arith) ∙ e
 
-  -- a state that no move leads to has no price: a loop may pass over it
+  -- a state that no move leads to has no cost: a loop may pass over it
   pub entry-none : (j : ℕ) (t : State A) → ((u : State A) (x : ℕ) → ¬ Move R siteOf L u t x) → entry j t ≡ B
   unfolding entry layer
   entry-none zero t n = none-coded (move R siteOf L s t) (λ x e. n s x (move-met R siteOf L s t x e))
@@ -88,18 +88,18 @@ module _ {A : Type 0} (B R : ℕ) (siteOf : A → ℕ) (L₀ L₁ : Line A) (pos
   unfoldable pub caseEntry : ℕ → Case A → ℕ
   caseEntry I c = coded B (table R siteOf L₀ L₁ pos₀ pos₁ I c)
 
-  -- the price of a stage, from the two rows' segments
-  abbrev pub prices : Case A → Case A → ℕ
-  prices u c = min (coded B (least R siteOf L₀ (u .0) (c .0)) + coded B (least R siteOf L₁ (u .1) (c .1))) B
+  -- the cost of a stage, from the two rows' segments
+  abbrev pub costs : Case A → Case A → ℕ
+  costs u c = min (coded B (least R siteOf L₀ (u .0) (c .0)) + coded B (least R siteOf L₁ (u .1) (c .1))) B
 
-  pub case-first : (c : Case A) → caseEntry 0 c ≡ prices (opening R siteOf L₀ L₁ pos₀ pos₁) c
+  pub case-first : (c : Case A) → caseEntry 0 c ≡ costs (opening R siteOf L₀ L₁ pos₀ pos₁) c
   unfolding caseEntry table layer stageLeast
   case-first c = coded-add B (least R siteOf L₀ (opening R siteOf L₀ L₁ pos₀ pos₁ .0) (c .0)) (least R siteOf L₁ (opening R siteOf L₀ L₁ pos₀ pos₁ .1) (c .1))
 
   -- over the poses of tall cell I, and its place and marks in each row
   pub case-next : (I : ℕ) (c : Case A) → caseEntry (suc I) c
       ≡ lowest B (λ a. lowest B (λ s. lowest B (λ t.
-      min (caseEntry I ((s .0, s .1, some (pos₀ I, a)), (t .0, t .1, some (pos₁ I, a))) + prices ((s .0, s .1, some (pos₀ I, a)), (t .0, t .1, some (pos₁ I, a))) c) B)
+      min (caseEntry I ((s .0, s .1, some (pos₀ I, a)), (t .0, t .1, some (pos₁ I, a))) + costs ((s .0, s .1, some (pos₀ I, a)), (t .0, t .1, some (pos₁ I, a))) c) B)
       (spots R (pos₁ I))) (spots R (pos₀ I))) (L₀ .options (pos₀ I))
   unfolding caseEntry table cases stageLeast
   case-next I c =
@@ -114,14 +114,14 @@ module _ {A : Type 0} (B R : ℕ) (siteOf : A → ℕ) (L₀ L₁ : Line A) (pos
       before : Case A → Option ℕ
       before u = layer (cases R siteOf L₀ L₁ pos₀ pos₁) (stageLeast R siteOf L₀ L₁ pos₀ pos₁) (opening R siteOf L₀ L₁ pos₀ pos₁) I u
 
-      segmentCost : Case A → Option ℕ
-      segmentCost u = add (least R siteOf L₀ (u .0) (c .0)) (least R siteOf L₁ (u .1) (c .1))
+      costIf : Case A → Option ℕ
+      costIf u = add (least R siteOf L₀ (u .0) (c .0)) (least R siteOf L₁ (u .1) (c .1))
 
       h : Case A → ℕ
-      h u = coded B (add (before u) (segmentCost u))
+      h u = coded B (add (before u) (costIf u))
 
-      at : (u : Case A) → lowest B h (u ∷ []) ≡ min (coded B (before u) + prices u c) B
+      at : (u : Case A) → lowest B h (u ∷ []) ≡ min (coded B (before u) + costs u c) B
       at u =
-          let e = coded-add B (before u) (segmentCost u) in
+          let e = coded-add B (before u) (costIf u) in
           let f = coded-add B (least R siteOf L₀ (u .0) (c .0)) (least R siteOf L₁ (u .1) (c .1)) in
           lowest-one B h u (omega arith) ∙ e ∙ ap (λ x. min (coded B (before u) + x) B) f

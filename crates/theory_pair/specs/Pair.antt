@@ -79,14 +79,14 @@ module _ {A : Type 0} (R : ℕ) (siteOf : A → ℕ) (L : Line A) where
     pub place : ℕ
     pub marks : ℕ
     pub rest : List (Choice A)
-    pub segmentCost : ℕ
-    pub way : Way R siteOf L s (place, marks, some (k, a)) segmentCost
+    pub costIf : ℕ
+    pub way : Way R siteOf L s (place, marks, some (k, a)) costIf
     pub goes : Goes R siteOf L (place, marks, some (k, a)) rest
     pub talls : tallOf L rest ≡ ts
     pub good : Good R marks
     pub low : suc k - R ≤ place
     pub high : place < suc k - R + suc (2 * R)
-    pub sum : cost R siteOf L s p ≡ segmentCost + cost R siteOf L (place, marks, some (k, a)) rest
+    pub sum : cost R siteOf L s p ≡ costIf + cost R siteOf L (place, marks, some (k, a)) rest
     pub ends : after R siteOf L (place, marks, some (k, a)) rest ≡ after R siteOf L s p
     pub offered : In a (L .options k)
 
@@ -105,7 +105,7 @@ module _ {A : Type 0} (R : ℕ) (siteOf : A → ℕ) (L : Line A) where
         place = suc (u .0);
         marks = step R (u .0) (u .1) k;
         rest = r;
-        segmentCost = cost R siteOf L s q + charge R siteOf L u c;
+        costIf = cost R siteOf L s q + charge R siteOf L u c;
         way = list-way R siteOf L s h q p (b .0) v (charge R siteOf L u c) (cost R siteOf L s q + charge R siteOf L u c) (next-move R siteOf L u c (b .1 .0)) refl refl;
         goes = b .1 .2;
         talls = e;
@@ -319,11 +319,11 @@ module _ {A : Type 0} (R : ℕ) (siteOf : A → ℕ) (L₀ L₁ : Line A) (pos�
         (in-each (spots R (pos₀ I)) _ (in-spots (pos₀ I) (r₀ .place) (r₀ .marks) (r₀ .low) (r₀ .high) (r₀ .good))
         (in-each (spots R (pos₁ I)) _ (in-spots (pos₁ I) (r₁ .place) (r₁ .marks) (r₁ .low) (r₁ .high) (r₁ .good)) (here refl)))
         in
-        let y = r₀ .segmentCost + r₁ .segmentCost in
+        let y = r₀ .costIf + r₁ .costIf in
         let e₀ = r₀ .sum in
         let e₁ = r₁ .sum in
         stages-go ps (suc I) (d₀, d₁) (x + y) z (omega arith)
-        (λ t y′ s. ((d₀, d₁), m, x + y, y′, k (d₀, d₁) y (r₀ .segmentCost, r₁ .segmentCost, r₀ .way, r₁ .way, refl), s, refl))
+        (λ t y′ s. ((d₀, d₁), m, x + y, y′, k (d₀, d₁) y (r₀ .costIf, r₁ .costIf, r₀ .way, r₁ .way, refl), s, refl))
         (r₀ .good) (r₁ .good) (r₀ .rest) (r₁ .rest) (r₀ .goes) (r₁ .goes) (r₀ .talls) (r₁ .talls)
         (subst (Done R siteOf L₀) (sym (r₀ .ends)) n₀) (subst (Done R siteOf L₁) (sym (r₁ .ends)) n₁) (omega arith)
 
@@ -368,7 +368,7 @@ module _ {A : Type 0} (R : ℕ) (siteOf : A → ℕ) (L₀ L₁ : Line A) (pos�
         (in-each (spots R (pos₀ I)) _ (in-spots (pos₀ I) (r₀ .place) (r₀ .marks) (r₀ .low) (r₀ .high) (r₀ .good))
         (in-each (spots R (pos₁ I)) _ (in-spots (pos₁ I) (r₁ .place) (r₁ .marks) (r₁ .low) (r₁ .high) (r₁ .good)) (here refl)))
         in
-        let y = r₀ .segmentCost + r₁ .segmentCost in
+        let y = r₀ .costIf + r₁ .costIf in
         let n₀ = goes-append R siteOf L₀ d₀ (r₀ .rest) e₀ .1 (r₀ .goes, subst (λ s. Goes R siteOf L₀ s e₀) (sym (r₀ .ends)) (s₀ .1)) in
         let n₁ = goes-append R siteOf L₁ d₁ (r₁ .rest) e₁ .1 (r₁ .goes, subst (λ s. Goes R siteOf L₁ s e₁) (sym (r₁ .ends)) (s₁ .1)) in
         let f₀ : after R siteOf L₀ d₀ (r₀ .rest ++ e₀) ≡ after R siteOf L₀ (c .0) (q₀ ++ e₀) =
@@ -385,7 +385,7 @@ module _ {A : Type 0} (R : ℕ) (siteOf : A → ℕ) (L₀ L₁ : Line A) (pos�
         let g₁′ = r₁ .sum in
         subst (λ (t : Case A). Stages J t z) (ap₂ (λ (s t : State A). (s, t)) f₀ f₁)
         (starts-stages ps a (suc I) J (d₀, d₁) (x + y) z (omega arith)
-        (λ t y′ s. ((d₀, d₁), m, x + y, y′, k (d₀, d₁) y (r₀ .segmentCost, r₁ .segmentCost, r₀ .way, r₁ .way, refl), s, refl))
+        (λ t y′ s. ((d₀, d₁), m, x + y, y′, k (d₀, d₁) y (r₀ .costIf, r₁ .costIf, r₀ .way, r₁ .way, refl), s, refl))
         (r₀ .good) (r₁ .good) (r₀ .rest) (r₁ .rest) n₀ n₁ (r₀ .talls) (r₁ .talls) (omega arith))
 
     -- a start of one row to a tall cell

@@ -12,7 +12,7 @@ use Rattle.lists.specs.Lists.{from, in-from, from-in}
 use Rattle.theory_row.specs.Cheapest.{_⊑_}
 use Rattle.theory_row.specs.Window.{start, step, May, may?, Good, good-start, good-step}
 use Rattle.theory_pair.specs.Pick.{goodMarks, in-goodMarks}
-use Rattle.theory_pair.specs.Forward.{each, in-each, each-in, segmentCost, price-below, price-met, Trail, layer, layer-below, layer-met}
+use Rattle.theory_pair.specs.Forward.{each, in-each, each-in, costIf, cost-below, cost-met, Trail, layer, layer-below, layer-met}
 
 -- A row: its cells, numbered from 0 in file order; the poses that each is offered; how wide a cell is in a pose, what it costs there in this row,
 -- what two neighbours pay, which cells are tall, and what the row's ends allow.
@@ -146,17 +146,17 @@ module _ {A : Type 0} (R : ℕ) (siteOf : A → ℕ) (L : Line A) where
   into? u i m (some c) =
       both? (both? (may? R (L .size) (u .0) (u .1) (c .0)) (fitsTo? (u .2) c)) (both? (ℕ-discrete i (suc (u .0))) (ℕ-discrete m (step R (u .0) (u .1) (c .0))))
 
-  -- the price of a move: what the code looks up between two entries
+  -- the cost of a move: what the code looks up between two entries
   unfoldable pub move : State A → State A → Option ℕ
-  move u t = segmentCost (into? u (t .0) (t .1) (t .2)) (tollTo u (t .2))
+  move u t = costIf (into? u (t .0) (t .1) (t .2)) (tollTo u (t .2))
 
   pub move-below : (u t : State A) (x : ℕ) → Move u t x → move u t ⊑ x
   unfolding move
-  move-below u t x h = subst (λ v. segmentCost (into? u (t .0) (t .1) (t .2)) (tollTo u (t .2)) ⊑ v) (sym (h .1)) (price-below (into? u (t .0) (t .1) (t .2)) (tollTo u (t .2)) (h .0))
+  move-below u t x h = subst (λ v. costIf (into? u (t .0) (t .1) (t .2)) (tollTo u (t .2)) ⊑ v) (sym (h .1)) (cost-below (into? u (t .0) (t .1) (t .2)) (tollTo u (t .2)) (h .0))
 
   pub move-met : (u t : State A) (x : ℕ) → move u t ≡ some x → Move u t x
   unfolding move
-  move-met u t x e = price-met (into? u (t .0) (t .1) (t .2)) (tollTo u (t .2)) x e
+  move-met u t x e = cost-met (into? u (t .0) (t .1) (t .2)) (tollTo u (t .2)) x e
 
   -- ---- segments
 

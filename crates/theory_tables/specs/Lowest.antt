@@ -6,7 +6,7 @@ use Prim.Native.Nat.{ℕ, min, _≤_, _<_}
 use native.Mathlib.Omega.{arith}
 use native.Mathlib.Decide.{decLt}
 use Rattle.lists.specs.Lists.{from, in-from, from-in}
-use Rattle.theory_pair.specs.Forward.{segmentCost}
+use Rattle.theory_pair.specs.Forward.{costIf}
 use Rattle.theory_pair.specs.Coded.{coded, lowest}
 
 module _ {S : Type 0} (B : ℕ) (h : S → ℕ) where
@@ -39,12 +39,12 @@ module _ (B : ℕ) (h : ℕ → ℕ) (n : ℕ) where
   loop-above x b g = lowest-above B h x (from 0 n) b (λ k m. let l = in-from 0 n m in g k (omega arith))
 
 -- the code of what may be, and of what may not
-pub cost-yes : {P : Type 0} (B x : ℕ) (d : Dec P) → P → coded B (segmentCost d x) ≡ min x B
-unfolding segmentCost coded
+pub cost-yes : {P : Type 0} (B x : ℕ) (d : Dec P) → P → coded B (costIf d x) ≡ min x B
+unfolding costIf coded
 cost-yes B x (yes p) h = refl
 cost-yes B x (no n) h = absurd (n h)
 
-pub cost-no : {P : Type 0} (B x : ℕ) (d : Dec P) → ¬ P → coded B (segmentCost d x) ≡ B
-unfolding segmentCost coded
+pub cost-no : {P : Type 0} (B x : ℕ) (d : Dec P) → ¬ P → coded B (costIf d x) ≡ B
+unfolding costIf coded
 cost-no B x (yes p) h = absurd (h p)
 cost-no B x (no n) h = refl
