@@ -13,7 +13,7 @@ use Rattle.definition.specs.Lists.{all}
 use Rattle.definition.specs.Texts.{Text, within}
 use Rattle.definition.specs.Job.{Layout, Job, nth, numbersOf, headerInRange, headerRefusal, headerOf, layoutSize, layoutsOf, cellOf, layoutInRange, restInRange, shapeInRange, hasRoom, notFalling, cellRefusal}
 use Rattle.definition.specs.Rules.{noLayout}
-use Rattle.definition.specs.Sound.{SoundLayout, SoundCell, SoundHeader}
+use Rattle.definition_laws.specs.Sound.{SoundLayout, SoundCell, SoundHeader}
 use Rattle.job_laws.specs.Tests.{test-passed}
 use Rattle.job_laws.specs.Lists.{all-at, within-both, all-below}
 

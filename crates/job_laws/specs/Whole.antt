@@ -11,7 +11,7 @@ use Rattle.definition.specs.Lists.{keep}
 use Rattle.definition.specs.Texts.{Text, linesOf}
 use Rattle.definition.specs.Job.{Cell, Job, Reading, accepted, isTall, shareRow, maxTall, maxCells, numbersOf, headerOf, cellOf, headerRefusal, cellRefusal, withCell, readCells, readLines, readJob}
 use Rattle.definition.specs.Rules.{noCell, cellAt}
-use Rattle.definition.specs.Sound.{SoundHeader, SoundCell, Sound}
+use Rattle.definition_laws.specs.Sound.{SoundHeader, SoundCell, Sound}
 use Rattle.job_laws.specs.Tests.{choose, read-cell-line, read-header-line}
 use Rattle.job_laws.specs.Lists.{all-at, keep-more, Which, old, new, which}
 use Rattle.job_laws.specs.Line.{header-line-sound, Taken, taken, cell-sound}

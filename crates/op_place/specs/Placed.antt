@@ -10,9 +10,9 @@ use Rattle.definition.specs.Job as paper
 use Rattle.definition.specs.Placement.{Placement}
 use Rattle.definition.specs.Rules.{Legal}
 use Rattle.definition.specs.Moves.{Cheapest}
-use Rattle.definition.specs.Sound.{Sound}
+use Rattle.definition_laws.specs.Sound.{Sound}
 use Rattle.definition.specs.Outcome.{Outcome, PlaceGives, placeAnswer, Buffers, Met, Demand3Of}
-use Rattle.definition.specs.PlaceClaim.{place-demand3}
+use Rattle.definition_laws.specs.PlaceClaim.{place-demand3}
 use Rattle.job.specs.declared.Job.{Job}
 use Rattle.job.specs.Value.{jobOf}
 use Rattle.theory_claim.specs.Claim.{placementByNumbers}

@@ -3,7 +3,7 @@ ghost use mathlib.Core.Path.{_≡_};
 ghost use lib.ListN.{take};
 ghost use Prim.Native.Nat.{_≤_};
 ghost use Rattle.definition.specs.Rules.{verdict};
-ghost use Rattle.definition.specs.Sound.{Sound};
+ghost use Rattle.definition_laws.specs.Sound.{Sound};
 ghost use Rattle.definition.specs.Outcome.{score, scorePoses, scoreFields};
 ghost use Rattle.definition.specs.Placement.{readPlacement};
 ghost use Rattle.job.specs.Value.{jobOf, placementOf};

@@ -5,7 +5,7 @@ use mathlib.Core.List.{List}
 use native.Mathlib.Omega.{arith}
 use lib.ListN.{length}
 use Rattle.definition.specs.Job.{Job}
-use Rattle.definition.specs.Sound.{Sound}
+use Rattle.definition_laws.specs.Sound.{Sound}
 use Rattle.theory_pair.specs.Cells.{Side, row₀, row₁, tallCount, cell-pos}
 use Rattle.theory_bridge.specs.Paired.{poseNumbers, pairJob}
 use Rattle.theory_claim.specs.Claim.{RowSearched, reorder}

@@ -5,7 +5,7 @@ use mathlib.Core.List.{List}
 use native.Mathlib.Omega.{arith}
 use lib.ListN.{length, getD}
 use Rattle.definition.specs.Job.{Job}
-use Rattle.definition.specs.Sound.{Sound}
+use Rattle.definition_laws.specs.Sound.{Sound}
 use Rattle.lists.specs.Lists.{from, Distinct}
 use Rattle.theory_row.specs.Order.{place}
 use Rattle.theory_pair.specs.Pick.{pick-pairs}

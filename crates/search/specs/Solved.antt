@@ -7,7 +7,7 @@ use lib.ListN.{length, getD}
 use Rattle.definition.specs.Job as paper
 use Rattle.definition.specs.Cost.{cost}
 use Rattle.definition.specs.Moves.{Cheapest}
-use Rattle.definition.specs.Sound.{Sound}
+use Rattle.definition_laws.specs.Sound.{Sound}
 use Rattle.job.specs.declared.Job.{Job}
 use Rattle.job.specs.Value.{jobOf}
 use Rattle.theory_tables.specs.Steps.{B}

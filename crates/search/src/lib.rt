@@ -2,7 +2,7 @@
 ghost use mathlib.Core.Path.{_≡_};
 ghost use Prim.Native.Nat.{ℕ, _≤_, _<_};
 ghost use lib.ListN.{length, getD};
-ghost use Rattle.definition.specs.Sound.{Sound};
+ghost use Rattle.definition_laws.specs.Sound.{Sound};
 ghost use Rattle.job.specs.Value.{jobOf};
 ghost use Rattle.theory_bridge.specs.Paired.{poseNumbers};
 ghost use Rattle.search_lanes.specs.Store.{Low};

@@ -12,7 +12,7 @@ use Rattle.definition.specs.Lists as lists
 use Rattle.definition.specs.Job.{Job}
 use Rattle.definition.specs.Job as job
 use Rattle.definition.specs.Rules.{cellAt}
-use Rattle.definition.specs.Sound.{Sound, SoundCell}
+use Rattle.definition_laws.specs.Sound.{Sound, SoundCell}
 use Rattle.job.specs.declared.Job as declared
 use Rattle.job.specs.Value as value
 use Rattle.job.specs.Value.{headerOf, jobOf}

@@ -15,7 +15,7 @@ use Rattle.definition.specs.Job.{Job}
 use Rattle.definition.specs.Job as job
 use Rattle.definition.specs.Rules.{cellAt}
 use Rattle.definition.specs.Cost.{charge}
-use Rattle.definition.specs.Sound.{Sound}
+use Rattle.definition_laws.specs.Sound.{Sound}
 use Rattle.lists.specs.Lists.{Le?, high, le?}
 use Rattle.theory_pair.specs.Cells.{Side, row₀, row₁, isTall, ownIn, members, cell, line}
 use Rattle.theory_pair.specs.Members.{at-in}

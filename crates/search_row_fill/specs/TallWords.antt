@@ -9,7 +9,7 @@ use lib.ListN.{length, getD, drop, set, length-set}
 use lib.Seq.{getD-set-same, getD-set-other}
 use lib.Dec.{eqb}
 use Rattle.definition.specs.Job.{Job}
-use Rattle.definition.specs.Sound.{Sound}
+use Rattle.definition_laws.specs.Sound.{Sound}
 use Rattle.lists.specs.Lists.{from, in-from}
 use Rattle.theory_pair.specs.Pick.{pick}
 use Rattle.theory_pair.specs.Cells.{Side, members, tallCount, pos}

@@ -9,7 +9,7 @@ use Rattle.definition.specs.Lists as lists
 use Rattle.definition.specs.Job.{Job}
 use Rattle.definition.specs.Job as job
 use Rattle.definition.specs.Rules.{noCell, cellAt}
-use Rattle.definition.specs.Sound.{Sound}
+use Rattle.definition_laws.specs.Sound.{Sound}
 use Rattle.lists.specs.Lists.{from, in-from, Distinct}
 use Rattle.theory_row.specs.Order.{place}
 use Rattle.theory_pair.specs.Pick.{pick, pick-in, pick-pairs}

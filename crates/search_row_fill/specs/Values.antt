@@ -10,7 +10,7 @@ use lib.Seq.{take-nil}
 use lib.Dec.{leb, ltb, eqb}
 use Rattle.definition.specs.Job as paper
 use Rattle.definition.specs.Rules.{noLayout, apart}
-use Rattle.definition.specs.Sound.{SoundHeader, SoundCell}
+use Rattle.definition_laws.specs.Sound.{SoundHeader, SoundCell}
 use Rattle.lists.specs.Lists.{Eq?, same, differs, eq?, Le?, low, high, le?}
 use Rattle.theory_bridge.specs.Paired.{isOffered, poseNumber, widthOf, ownOf}
 use Rattle.job.specs.declared.Header.{Header}

@@ -14,7 +14,7 @@ use Rattle.definition.specs.Texts.{Text, digits}
 use Rattle.definition.specs.Job.{Cell, Job}
 use Rattle.definition.specs.Placement.{Pose, Placement, lineOf, textOf}
 use Rattle.definition.specs.Rules.{noPose, cellAt, poseAt, endAt, offered, breaks1, breaks2, Legal}
-use Rattle.definition.specs.Sound.{Sound}
+use Rattle.definition_laws.specs.Sound.{Sound}
 use Rattle.text_laws.specs.Numbers.{both, number-digits, one-digit}
 use Rattle.text_laws.specs.Poses.{Printable, Each}
 

@@ -10,8 +10,8 @@ use Rattle.definition.specs.Placement.{Pose, Placement}
 use Rattle.definition.specs.Rules.{Legal, poseAt}
 use Rattle.definition.specs.Cost.{cost}
 use Rattle.definition.specs.Moves.{Cheapest}
-use Rattle.definition.specs.Search.{cheapest-none, cheapest-some}
-use Rattle.definition.specs.Sound.{Sound}
+use Rattle.definition_laws.specs.Search.{cheapest-none, cheapest-some}
+use Rattle.definition_laws.specs.Sound.{Sound}
 use Rattle.theory_row.specs.Cheapest.{_⊑_}
 use Rattle.theory_pair.specs.Coded.{coded}
 use Rattle.theory_pair.specs.Cells.{LegalPair, total, answer, answer-below}

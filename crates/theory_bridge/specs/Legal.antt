@@ -13,7 +13,7 @@ use Rattle.definition.specs.Job.{Job}
 use Rattle.definition.specs.Job as job
 use Rattle.definition.specs.Placement.{Pose, Placement}
 use Rattle.definition.specs.Rules.{Legal, Holds, cellAt, siteAt, cellsOf, wrongSide, breaks7}
-use Rattle.definition.specs.Sound.{Sound}
+use Rattle.definition_laws.specs.Sound.{Sound}
 use Rattle.theory_pair.specs.Ends.{Ended, lastFrom}
 use Rattle.theory_pair.specs.Cells.{Side, isTall, rowOrder, RowEnded, LegalPair}
 use Rattle.theory_bridge.specs.Paired.{siteOf, offersOf, endAllowed, opensOf, closesOf, pairJob}

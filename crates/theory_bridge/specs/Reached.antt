@@ -13,7 +13,7 @@ use Rattle.definition.specs.Job.{Job}
 use Rattle.definition.specs.Placement.{Pose, Placement}
 use Rattle.definition.specs.Rules.{Legal, noCell, cellAt, poseAt}
 use Rattle.definition.specs.Moves.{Change, left, right, mirroring, layoutChange, Move, changeBy, alter, moved, movedBy, asGiven, givenRows, after}
-use Rattle.definition.specs.Sound.{Sound}
+use Rattle.definition_laws.specs.Sound.{Sound}
 use Rattle.theory_bridge.specs.Offers.{keeps-allowed, few-layouts}
 
 -- ---- one cell: changes, each on what the last one left

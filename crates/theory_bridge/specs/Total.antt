@@ -12,7 +12,7 @@ use Rattle.definition.specs.Job.{Job}
 use Rattle.definition.specs.Placement.{Pose, Placement}
 use Rattle.definition.specs.Rules.{cellAt, poseAt, siteAt, cellsOf, apart, order}
 use Rattle.definition.specs.Cost.{isMirrored, differing, stepsAt, stepsIn, steps, shifted, mirrored, changed, cost}
-use Rattle.definition.specs.Sound.{Sound}
+use Rattle.definition_laws.specs.Sound.{Sound}
 use Rattle.lists.specs.Lists.{from, in-from}
 use Rattle.theory_row.specs.Rules.{sum, sumNeighbours}
 use Rattle.theory_pair.specs.Cells.{Side, row₀, row₁, neighbours, total}

@@ -8,7 +8,7 @@ use Rattle.definition.specs.Job.{Job}
 use Rattle.definition.specs.Placement.{Pose, Placement}
 use Rattle.definition.specs.Cost.{cost}
 use Rattle.definition.specs.Moves.{Cheapest}
-use Rattle.definition.specs.Sound.{Sound}
+use Rattle.definition_laws.specs.Sound.{Sound}
 use Rattle.theory_pair.specs.Cells.{Side, row₀, row₁, line, cell, pos, tallCount}
 use Rattle.theory_tables.specs.Steps.{B, Deck}
 use Rattle.theory_tables.specs.Stages.{leastCost}

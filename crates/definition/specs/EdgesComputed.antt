@@ -1,0 +1,44 @@
+-- Score's starred cases hold, by computing alone. A theorem, nothing to believe.
+use mathlib.Core.Path.{refl}
+use mathlib.Core.List.{List, [], _∷_}
+use Rattle.definition.specs.Texts.{Text, bytes, linesOf, ended, fieldsOf, isNumber, valueFrom}
+use Rattle.definition.specs.Job.{firstFailing, headerInRange, headerRefusal, headerOf, layoutsOf, cellOf, restInRange}
+use Rattle.definition.specs.Job.{cellRefusal, readCells, readLines, readJob}
+use Rattle.definition.specs.Placement.{isPose, poseOf, readPoses, readPlacement}
+use Rattle.definition.specs.Rules.{put, sort, order, placeIn, besideOneSite, outOfPlace, lowest, firstBroken, verdict}
+use Rattle.definition.specs.Rules.{breaks1, breaks2, breaks3, breaks4, breaks5, breaks6, breaks7}
+use Rattle.definition.specs.Cost.{differing, stepsAt, stepsIn, steps, shifted, mirrored, changed, cost, totalShift, drift}
+use Rattle.definition.specs.Outcome.{Outcome, numbers, scoreFields, score}
+use Rattle.definition.specs.Edges.{Case, scoring, placing, edges}
+
+-- a name that opens the definitions, so that texts compute
+unfoldable pub opened : Text → Text → Outcome
+unfolding bytes linesOf ended fieldsOf isNumber valueFrom
+    firstFailing headerInRange headerRefusal headerOf layoutsOf cellOf restInRange cellRefusal readCells readLines readJob
+    isPose poseOf readPoses readPlacement
+    put sort order placeIn besideOneSite outOfPlace breaks1 breaks2 breaks3 breaks4 breaks5 breaks6 breaks7 lowest firstBroken verdict
+    differing stepsAt stepsIn steps shifted mirrored changed cost totalShift drift
+    numbers scoreFields score
+opened job placement = score job placement
+
+-- Score's cases of a list
+abbrev pub AllComputed : List Case → Type 0
+AllComputed [] = Unit {0}
+AllComputed (scoring job placement Expected ∷ cs) = Expected (score (bytes job) (bytes placement)) × AllComputed cs
+AllComputed (placing job Expected ∷ cs) = AllComputed cs
+
+infixr 4 _&_
+_&_ : {A B : Type 0} → A → B → A × B
+a & b = (a, b)
+
+pub edges-computed : AllComputed edges
+unfolding opened _&_
+edges-computed =
+    ((refl, refl), refl) & ((refl, refl), refl) & ((refl, refl), refl) & ((refl, refl), refl)
+    & (refl, refl)
+    & (refl, refl) & (refl, refl) & (refl, refl) & (refl, refl)
+    & (refl, refl) & (refl, refl)
+    & (refl, refl) & (refl, refl) & (refl, refl)
+    & ((refl, refl), refl)
+    & ((refl, refl), refl) & ((refl, refl), refl) & ((refl, refl), refl)
+    & tt

@@ -1,0 +1,5 @@
+pub mod Sound
+pub mod Agree
+pub mod Search
+pub mod PlaceClaim
+pub mod EdgesHold

@@ -1,0 +1,1 @@
+// Theory only: theorems about the definitions.
