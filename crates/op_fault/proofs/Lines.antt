@@ -8,7 +8,7 @@ use lib.ListN.{length, getD, take, drop, length-take, length-drop, drop-of-lengt
 use lib.Seq.{drop-drop, getD-drop}
 use Rattle.definition.specs.Lists.{sum}
 use Rattle.definition.specs.Texts.{Text, linesOf}
-use Rattle.definition.specs.Outcome.{lineStart, lineLength}
+use Rattle.definition.specs.FaultLine.{lineStart, lineLength}
 use Rattle.text_scan.specs.Line.{firstLine}
 use Rattle.text_scan.specs.Found.{LineTo}
 use Rattle.op_fault.specs.Part.{NextLine, LineAt}

@@ -7,7 +7,7 @@ use lib.Dec.{eqb}
 use lib.ListN.{length}
 use borrow.Author.Tests.{eq-eqb, ne-eqb}
 use Rattle.definition.specs.Texts.{Text}
-use Rattle.definition.specs.Outcome.{ofJob, ofPlacement, partAt}
+use Rattle.definition.specs.FaultLine.{ofJob, ofPlacement, partAt}
 use Rattle.op_fault.specs.Part.{LineAt, PieceOf}
 use Rattle.op_fault.specs.declared.Span.{Span}
 

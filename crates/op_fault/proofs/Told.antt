@@ -7,10 +7,10 @@ use native.Mathlib.Omega.{arith}
 use lib.Dec.{eqb}
 use borrow.Author.Tests.{eqb-true, eqb-false}
 use Rattle.definition.specs.Texts.{Text}
-use Rattle.definition.specs.Outcome.{Part, ofJob, ofPlacement, partAt, faultLine}
+use Rattle.definition.specs.FaultLine.{Part, ofJob, ofPlacement, partAt, faultLine, wordsOf}
 use Rattle.op_fault.specs.Part.{partOf, PieceOf}
 use Rattle.op_fault.specs.declared.Piece.{Piece}
-use Rattle.op_fault.specs.Fault.{Reported, wordsOf}
+use Rattle.op_fault.specs.Fault.{Reported}
 use Rattle.op_fault.specs.declared.Refusal.{Refusal}
 
 pub fault-part : (job placement : Text) (f : Refusal) → Reported job placement f → partAt (f .number) (f .line) job placement ≡ faultLine job placement

@@ -1,13 +1,12 @@
--- A part of one of two texts: by numbers, and as a reference that points into that very text.
+-- A part of one of two texts, by numbers as the code has them.
 use Prim.Native.Nat.{ℕ, _+_, _≤_}
 use mathlib.Core.Path.{_≡_}
 use mathlib.Core.Bool.{cond}
-use mathlib.Core.List.{List, []}
+use mathlib.Core.List.{[]}
 use lib.Dec.{eqb}
-use lib.ListN.{length, getD, take, drop}
-use denote.Ref.{RefT, ptr, now}
+use lib.ListN.{length, getD, drop}
 use Rattle.definition.specs.Texts.{Text, linesOf}
-use Rattle.definition.specs.Outcome.{Part, ofJob, ofPlacement, lineStart, lineLength}
+use Rattle.definition.specs.FaultLine.{Part, ofJob, ofPlacement, lineStart, lineLength}
 use Rattle.op_fault.specs.declared.Span.{Span}
 use Rattle.op_fault.specs.declared.Piece.{Piece}
 
@@ -31,14 +30,3 @@ pub record PieceOf (part : Part) (job placement : Text) (p : Piece) : Type 0 whe
   pub names : partOf p ≡ part
   pub which : p .which ≤ 1
   pub within : p .start + p .size ≤ length (cond (eqb (p .which) 0) job placement)
-
--- r is that very part of s: it points i bytes into s's own block, and shows the n bytes there
-pub record PartOf (s : RefT (List ℕ)) (i n : ℕ) (r : RefT (List ℕ)) : Type 0 where
-  pub inside : i + n ≤ length (now s)
-  pub shows : now r ≡ take n (drop i (now s))
-  pub block : ptr r .0 ≡ ptr s .0
-  pub offset : ptr r .1 ≡ ptr s .1 + i
-
-abbrev pub Very : Part → RefT (List ℕ) → RefT (List ℕ) → RefT (List ℕ) → Type 0
-Very (ofJob i n) job placement r = PartOf job i n r
-Very (ofPlacement i n) job placement r = PartOf placement i n r

@@ -2,10 +2,11 @@
 ghost use mathlib.Core.Path.{_≡_};
 ghost use Prim.Native.Nat.{_≤_, _+_, _<_};
 ghost use lib.ListN.{length};
-ghost use Rattle.definition.specs.Outcome.{faultLine, over, partAt};
+ghost use Rattle.definition.specs.Outcome.{over};
+ghost use Rattle.definition.specs.FaultLine.{faultLine, partAt, Very, ToldFault};
 ghost use Rattle.job.specs.Value.{jobOf};
-ghost use Rattle.op_fault.specs.Part.{PieceOf, Very, NextLine, LineAt, partOf};
-ghost use Rattle.op_fault.specs.Fault.{Reported, ToldFault};
+ghost use Rattle.op_fault.specs.Part.{PieceOf, NextLine, LineAt, partOf};
+ghost use Rattle.op_fault.specs.Fault.{Reported};
 ghost use mathlib.Core.Bool.{cond};
 ghost use lib.Dec.{eqb};
 use job::Job;

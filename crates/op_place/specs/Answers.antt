@@ -13,7 +13,7 @@ use Rattle.definition.specs.Job.{refused, accepted, readJob, firstFailing}
 use Rattle.definition.specs.Placement as text
 use Rattle.definition.specs.Placement.{textOf}
 use Rattle.definition.specs.Moves.{Cheapest}
-use Rattle.definition.specs.Outcome.{Outcome, over, refusal, placeAnswer, placeOutcome, bufferRefusal, Buffers}
+use Rattle.definition.specs.Outcome.{Outcome, over, refusal, placeAnswer, placeOutcome, bufferRefusal, Buffers, lent, Placed}
 use Rattle.text_laws.specs.Poses.{Printable, Each}
 use Rattle.text_laws.specs.Room.{Narrow, legal-room, legal-printable, legal-narrow, at-each}
 use Rattle.job.specs.declared.Job.{Job}
@@ -23,7 +23,7 @@ use Rattle.score_words.specs.Ready.{Ready}
 use Rattle.score_words.specs.Laws.{pose-there}
 use Rattle.theory_tables.specs.Steps.{B}
 use Rattle.search.specs.Solved.{Solved}
-use Rattle.op_place.specs.Placed.{lent, Placed, Answered, placementIn, Chosen}
+use Rattle.op_place.specs.Accepted.{Answered, placementIn, Chosen}
 use Rattle.op_place.specs.Poses.{Numbered}
 use Rattle.op_place.specs.Fields.{Wrote}
 

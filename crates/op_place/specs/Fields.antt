@@ -14,7 +14,7 @@ use Rattle.job.specs.declared.Job.{Job}
 use Rattle.job.specs.Value.{jobOf}
 use Rattle.score_numbers.specs.declared.Numbers.{Numbers}
 use Rattle.score_numbers.specs.Counted.{Counted, numbers-listed}
-use Rattle.op_place.specs.Placed.{placementIn}
+use Rattle.op_place.specs.Accepted.{placementIn}
 
 abbrev pub fieldsIn : paper.Job → Placement → ℕ → List ℤ
 fieldsIn j P bytes = numbers j P ++ (pos bytes ∷ [])

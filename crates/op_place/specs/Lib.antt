@@ -1,4 +1,4 @@
-pub mod Placed
+pub mod Accepted
 pub mod Poses
 pub mod Fields
 pub mod Answers

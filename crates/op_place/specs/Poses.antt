@@ -17,7 +17,7 @@ use Rattle.score_words.specs.Laws.{cell-there, pose-there}
 use Rattle.theory_bridge.specs.Paired.{poseNumber}
 use Rattle.theory_bridge.specs.Poses.{pose-same, placement-size, placement-pose}
 use Rattle.search.specs.Solved.{numbersIn}
-use Rattle.op_place.specs.Placed.{Taken, placementIn}
+use Rattle.op_place.specs.Accepted.{Taken, placementIn}
 
 -- pose number a of a cell with that given site
 pub record PoseBy (displacement given a : ℕ) (p : Pose) : Type 0 where

@@ -1,7 +1,6 @@
 // The exported C functions, each over slices that are passed as address and length.
-ghost use Rattle.definition.specs.Outcome.{read, score, Told, Demand3Of};
-ghost use Rattle.op_fault.specs.Fault.{ToldFault};
-ghost use Rattle.op_place.specs.Placed.{lent, Placed};
+ghost use Rattle.definition.specs.Outcome.{read, score, Told, lent, Placed, Demand3Of};
+ghost use Rattle.definition.specs.FaultLine.{ToldFault};
 use job_read::read_job;
 use op_fault::tell_fault;
 use op_place::place_texts;

@@ -2,7 +2,8 @@
 use Prim.Native.Nat.{ℕ}
 use mathlib.Core.Path.{ap, _∙_}
 use mathlib.Core.List.{List}
-use Rattle.definition.specs.Outcome.{faultLine, over}
+use Rattle.definition.specs.Outcome.{over}
+use Rattle.definition.specs.FaultLine.{faultLine}
 use Rattle.op_fault.specs.Part.{PieceOf}
 use Rattle.op_fault.proofs.Told.{fault-part, told-words}
 use borrow.Author.Needs.{needs}

@@ -1,5 +1,5 @@
 -- `refiner::refiner_place` meets its contract: what `place_texts` says, and demand 3, which follows.
-use Rattle.op_place.specs.Placed.{placed-demand3}
+use Rattle.definition_laws.specs.PlaceClaim.{place-demand3}
 use borrow.Author.Needs.{needs}
 use Rattle.refiner.proofs.refiner_place.Statement.{statement}
 use Rattle.refiner.proofs.refiner_place.Tie as tie
@@ -17,7 +17,7 @@ same-length-3 : tie.Need-same-length-3
 same-length-3 c = search needs
 
 returns : tie.Need-returns
-returns c = let p = c .before .before .before .before .before .place-texts .ensures in (p, placed-demand3 p)
+returns c = let p = c .before .before .before .before .before .place-texts .ensures in (p, place-demand3 p)
 
 pub refiner-place-spec : {M : Type 1} → statement M
 refiner-place-spec =
