@@ -77,7 +77,7 @@ fn header_line(text: &[u8]) -> Head
     requires { ⌜ 0 < length (now text) ⌝ }
     ensures { λ r. ⌜ HeadLine (now (text .entry)) r ⌝ }
 {
-    let f = read_led(text, 0, 74);
+    let f = read_led(text, 0, b'J');
     let v = f.values;
     let header = header_of(v);
     let number = header_refusal(f.ok, f.count, header);
@@ -129,7 +129,7 @@ fn cell_line(text: &[u8], at: usize, t: Tally) -> Line
     requires { ⌜ at < length (now text) ⌝ }
     ensures { λ r. ⌜ CellLine (now (text .entry)) at t r ⌝ }
 {
-    let f = read_led(text, at, 67);
+    let f = read_led(text, at, b'C');
     let v = f.values;
     let cell = cell_of(v);
     let number = cell_refusal(t, f.ok, f.count, v[2], cell);

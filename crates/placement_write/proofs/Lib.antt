@@ -1,3 +1,1 @@
-pub mod Puts
-pub mod Digits
-pub mod Placed
+pub mod Lines

@@ -30,7 +30,7 @@ pub fn line_end(text: &[u8], at: usize) -> usize
     while i < text.len() {
         let b = text[i];
         i += 1;
-        if b == 10 {
+        if b == b'\n' {
             return i;
         }
     }
@@ -52,7 +52,7 @@ pub fn read_number(text: &[u8], from: usize) -> Number
     let mut i = from;
     while i < text.len() {
         let b = text[i];
-        if b == 44 {
+        if b == b',' {
             return Number {
                 ok: from < i,
                 last: false,
@@ -60,7 +60,7 @@ pub fn read_number(text: &[u8], from: usize) -> Number
                 value,
             };
         }
-        if b == 10 {
+        if b == b'\n' {
             return Number {
                 ok: from < i,
                 last: true,
@@ -68,21 +68,21 @@ pub fn read_number(text: &[u8], from: usize) -> Number
                 value,
             };
         }
-        if b < 48 {
+        if b < b'0' {
             return none;
         }
-        if 57 < b {
+        if b'9' < b {
             return none;
         }
         if 4 <= i - from {
             return none;
         }
         if from < i {
-            if text[from] == 48 {
+            if text[from] == b'0' {
                 return none;
             }
         }
-        value = value * 10 + (b as u32 - 48);
+        value = value * 10 + (b - b'0') as u32;
         i += 1;
     }
     none
@@ -139,7 +139,7 @@ pub fn read_led(text: &[u8], at: usize, lead: u8) -> Numbers
     if text.len() <= at + 1 {
         return none(at);
     }
-    if text[at + 1] != 44 {
+    if text[at + 1] != b',' {
         return none(at);
     }
     read_numbers(text, at + 2)

@@ -7,9 +7,9 @@ use Rattle.definition.specs.Placement.{textOf}
 use Rattle.text_laws.specs.Poses.{Printable}
 use Rattle.text_laws.specs.Room.{text-within, at-each}
 use Rattle.job.specs.Value.{placementOf}
-use Rattle.placement_write.specs.Put.{Wrote}
-use Rattle.placement_write.proofs.Puts.{wrote-length}
-use Rattle.placement_write.proofs.Placed.{placed-count, placed-at, next-fits, next-wrote, all-wrote, wrote-over}
+use Rattle.text_write.specs.Put.{Wrote}
+use Rattle.text_write.specs.Puts.{wrote-length, wrote-over}
+use Rattle.placement_write.proofs.Lines.{placed-count, placed-at, next-fits, next-wrote, all-wrote}
 use Rattle.placement_write.proofs.put_placement.Statement.{statement}
 use Rattle.placement_write.proofs.put_placement.Tie as tie
 

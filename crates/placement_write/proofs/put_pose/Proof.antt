@@ -5,7 +5,7 @@ use lib.ListN.{length-append}
 use Rattle.definition.specs.Texts.{digits}
 use Rattle.text_laws.specs.Room.{line-long}
 use Rattle.job.specs.Value.{poseOf}
-use Rattle.placement_write.proofs.Placed.{line-wrote}
+use Rattle.placement_write.proofs.Lines.{line-wrote}
 use borrow.Author.Needs.{needs}
 use Rattle.placement_write.proofs.put_pose.Statement.{statement}
 use Rattle.placement_write.proofs.put_pose.Tie as tie

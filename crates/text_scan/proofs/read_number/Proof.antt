@@ -72,9 +72,6 @@ mul-value c =
 cast-value : tie.Need-cast-value Inv-loop μ-loop
 cast-value c = omega arith
 
-sub-value : tie.Need-sub-value Inv-loop μ-loop
-sub-value c = omega arith
-
 add-value : tie.Need-add-value Inv-loop μ-loop
 add-value c =
     let z = c .before in
@@ -116,7 +113,6 @@ read-number-spec =
     returns-6
     mul-value
     cast-value
-    sub-value
     add-value
     add-i
     loop-less

@@ -5,15 +5,14 @@ use mathlib.Core.List.{List, [], _∷_, _++_, append-assoc}
 use native.Mathlib.Omega.{arith}
 use lib.ListN.{length, take, getD, length-map, length-take, length-append, List·getD-map}
 use lib.Seq.{getD-take, take-all}
-use Rattle.definition.specs.Texts.{digits}
+use Rattle.definition.specs.Texts.{digits, comma, lineFeed}
 use Rattle.definition.specs.Placement.{Pose, lineOf, textOf}
 use Rattle.definition.specs.Rules.{poseAt}
-use Rattle.definition.specs.Outcome.{over}
 use Rattle.text_laws.specs.Room.{text-more, text-within}
 use Rattle.job.specs.Value.{emptyPose, poseOf, placementOf}
 use Rattle.job.specs.declared.Placement.{Placement}
-use Rattle.placement_write.specs.Put.{Wrote}
-use Rattle.placement_write.proofs.Puts.{then, wrote-length, put-over}
+use Rattle.text_write.specs.Put.{Wrote}
+use Rattle.text_write.specs.Puts.{then, wrote-length}
 
 pub placed-count : (P : Placement) → P .count ≤ length (P .poses) → length (placementOf P) ≡ P .count
 unfolding placementOf
@@ -24,14 +23,14 @@ unfolding placementOf
 placed-at P i h = List·getD-map poseOf (take (P .count) (P .poses)) i emptyPose ∙ ap poseOf (getD-take (P .count) (P .poses) i emptyPose h)
 
 pub line-wrote : (p : Pose) {l m n o : List ℕ} {at a b r : ℕ} → at + length (lineOf p) ≤ length l
-    → Wrote (digits (p .site) ++ (44 ∷ [])) l at m a
-    → Wrote (digits (p .layout) ++ (44 ∷ [])) m a n b
-    → Wrote (digits (p .mark) ++ (10 ∷ [])) n b o r
+    → Wrote (digits (p .site) ++ (comma ∷ [])) l at m a
+    → Wrote (digits (p .layout) ++ (comma ∷ [])) m a n b
+    → Wrote (digits (p .mark) ++ (lineFeed ∷ [])) n b o r
     → Wrote (lineOf p) l at o r
 line-wrote p {l} {m} {n} {o} {at} {a} {b} {r} h x y z =
-    let site : List ℕ = digits (p .site) ++ (44 ∷ []) in
-    let layout : List ℕ = digits (p .layout) ++ (44 ∷ []) in
-    let mark : List ℕ = digits (p .mark) ++ (10 ∷ []) in
+    let site : List ℕ = digits (p .site) ++ (comma ∷ []) in
+    let layout : List ℕ = digits (p .layout) ++ (comma ∷ []) in
+    let mark : List ℕ = digits (p .mark) ++ (lineFeed ∷ []) in
     let e : site ++ (layout ++ mark) ≡ lineOf p = simp append-assoc in
     let whole : length site + (length layout + length mark) ≡ length (lineOf p) =
     ap (λ (k : ℕ). length site + k) (sym (length-append layout mark)) ∙ sym (length-append site (layout ++ mark)) ∙ ap length e in
@@ -71,6 +70,3 @@ pub all-wrote : (P : Placement) → P .count ≤ length (P .poses) → {l m : Li
 all-wrote P many w =
     let e : take (P .count) (placementOf P) ≡ placementOf P = take-all (P .count) (placementOf P) (omega (arith, placed-count P many)) in
     rw e at w
-
-pub wrote-over : {xs l m : List ℕ} {r : ℕ} → length xs ≤ length l → Wrote xs l 0 m r → (m ≡ over xs l) × (r ≡ length xs)
-wrote-over {xs} {l} h w = (w .bytes ∙ put-over xs l h, omega (arith, w .cursor))

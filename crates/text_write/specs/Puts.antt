@@ -8,12 +8,12 @@ use native.Mathlib.Nat.{add-assoc, zero-add}
 use lib.ListN.{length, take, drop, set, length-append, length-take, length-drop}
 use lib.Seq.{set-split, length-take-le, take-at, drop-append-add, drop-drop}
 use Rattle.definition.specs.Outcome.{over}
-use Rattle.placement_write.specs.Put.{put, Wrote}
+use Rattle.text_write.specs.Put.{put, Wrote}
 
 pub put-one : (l : List ℕ) (i v : ℕ) → i < length l → set l i v ≡ put l i (v ∷ [])
 put-one l i v h = set-split l i v (omega arith) ∙ rw (add-one i)
 
-pub length-put : (l : List ℕ) (at : ℕ) (xs : List ℕ) → at + length xs ≤ length l → length (put l at xs) ≡ length l
+length-put : (l : List ℕ) (at : ℕ) (xs : List ℕ) → at + length xs ≤ length l → length (put l at xs) ≡ length l
 length-put l at xs h = simp (length-append, length-take, length-drop) (omega arith)
 
 put-put : (l : List ℕ) (at : ℕ) (xs ys : List ℕ) → at + length xs + length ys ≤ length l → put (put l at xs) (at + length xs) ys ≡ put l at (xs ++ ys)
@@ -50,5 +50,8 @@ tail-over [] l h = refl
 tail-over (x ∷ xs) [] h = absurd (omega arith)
 tail-over (x ∷ xs) (y ∷ l) h = ap (λ (m : List ℕ). x ∷ m) (tail-over xs l (omega arith))
 
-pub put-over : (xs l : List ℕ) → length xs ≤ length l → put l 0 xs ≡ over xs l
+put-over : (xs l : List ℕ) → length xs ≤ length l → put l 0 xs ≡ over xs l
 put-over xs l h = ap (λ (k : ℕ). xs ++ drop k l) (zero-add (length xs)) ∙ tail-over xs l h
+
+pub wrote-over : {xs l m : List ℕ} {r : ℕ} → length xs ≤ length l → Wrote xs l 0 m r → (m ≡ over xs l) × (r ≡ length xs)
+wrote-over {xs} {l} h w = (w .bytes ∙ put-over xs l h, omega (arith, w .cursor))

@@ -8,14 +8,14 @@ use lib.ListN.{length, length-append}
 use borrow.Fn.Kinds.{In}
 use borrow.Fn.PlainCycle.{Measures, is, falls, and}
 use Rattle.definition.specs.Texts.{digitsIn}
-use Rattle.placement_write.proofs.Puts.{then}
-use Rattle.placement_write.proofs.Digits.{single, several, fewer}
-use Rattle.placement_write.proofs.put_number.Reads as number
-use Rattle.placement_write.proofs.put_number.Kinds as kinds
-use Rattle.placement_write.proofs.+put_number.Lts-put_number as lts
-use Rattle.placement_write.proofs.put_byte.Reads as byte
-use Rattle.placement_write.proofs.+put_number.{statement}
-use Rattle.placement_write.proofs.+put_number.Tie.{close}
+use Rattle.text_write.specs.Puts.{then}
+use Rattle.text_write.proofs.Digits.{single, several, fewer}
+use Rattle.text_write.proofs.put_number.Reads as number
+use Rattle.text_write.proofs.put_number.Kinds as kinds
+use Rattle.text_write.proofs.+put_number.Lts-put_number as lts
+use Rattle.text_write.proofs.put_byte.Reads as byte
+use Rattle.text_write.proofs.+put_number.{statement}
+use Rattle.text_write.proofs.+put_number.Tie.{close}
 
 -- the places to fill
 abbrev room : Measures 1 kinds.ps ℕ
@@ -28,11 +28,11 @@ abbrev below : ℕ → In 1 kinds.ps
 below t = and 1 kinds.ps (falls 1 kinds.ps _<_ room t) number.Pre
 
 module _ (t : ℕ) where
-  add-put-byte : lts.Need-add-put-byte (byte.Asked, byte.Learnt, below t, number.Post) (here t) number.Post
-  add-put-byte c = omega arith
-
   cast-put-byte : lts.Need-cast-put-byte (byte.Asked, byte.Learnt, below t, number.Post) (here t) number.Post
   cast-put-byte c = omega arith
+
+  add-put-byte : lts.Need-add-put-byte (byte.Asked, byte.Learnt, below t, number.Post) (here t) number.Post
+  add-put-byte c = omega arith
 
   put-byte-requires : lts.Need-put-byte-requires (byte.Asked, byte.Learnt, below t, number.Post) (here t) number.Post
   put-byte-requires c κs =
@@ -58,11 +58,11 @@ module _ (t : ℕ) where
       let f = fewer (a .room) (a .n) (s .pre .1 .1) (omega arith) in
       (omega arith, (omega arith, f .0, f .1))
 
-  add-put-byte-2 : lts.Need-add-put-byte-2 (byte.Asked, byte.Learnt, below t, number.Post) (here t) number.Post
-  add-put-byte-2 c = omega arith
-
   cast-put-byte-2 : lts.Need-cast-put-byte-2 (byte.Asked, byte.Learnt, below t, number.Post) (here t) number.Post
   cast-put-byte-2 c = omega arith
+
+  add-put-byte-2 : lts.Need-add-put-byte-2 (byte.Asked, byte.Learnt, below t, number.Post) (here t) number.Post
+  add-put-byte-2 c = omega arith
 
   put-byte-requires-2 : lts.Need-put-byte-requires-2 (byte.Asked, byte.Learnt, below t, number.Post) (here t) number.Post
   put-byte-requires-2 c κs =
@@ -87,15 +87,15 @@ pub +put-number-spec : {M : Type 1} → statement M
     close room λ t. lts.spec (byte.Asked, byte.Learnt, below t, number.Post)
     (here t)
     number.Post
-    (add-put-byte t)
     (cast-put-byte t)
+    (add-put-byte t)
     (put-byte-requires t)
     (same-length t)
     (returns t)
     (sub-put-number t)
     (put-number-requires t)
-    (add-put-byte-2 t)
     (cast-put-byte-2 t)
+    (add-put-byte-2 t)
     (put-byte-requires-2 t)
     (same-length-2 t)
     (returns-2 t)

@@ -1,9 +1,9 @@
 -- A number and then a byte, one after another.
 use native.Mathlib.Omega.{arith}
-use Rattle.placement_write.proofs.Puts.{then}
+use Rattle.text_write.specs.Puts.{then}
 use borrow.Author.Needs.{needs}
-use Rattle.placement_write.proofs.put_field.Statement.{statement}
-use Rattle.placement_write.proofs.put_field.Tie as tie
+use Rattle.text_write.proofs.put_field.Statement.{statement}
+use Rattle.text_write.proofs.put_field.Tie as tie
 
 put-number-requires : tie.Need-put-number-requires
 put-number-requires c κs = search needs

@@ -1,9 +1,9 @@
 -- One byte is stored, and the cursor stands after it.
 use mathlib.Core.Path.{refl}
 use borrow.Author.Needs.{needs}
-use Rattle.placement_write.proofs.Puts.{put-one}
-use Rattle.placement_write.proofs.put_byte.Statement.{statement}
-use Rattle.placement_write.proofs.put_byte.Tie as tie
+use Rattle.text_write.specs.Puts.{put-one}
+use Rattle.text_write.proofs.put_byte.Statement.{statement}
+use Rattle.text_write.proofs.put_byte.Tie as tie
 
 slice-write-output : tie.Need-slice-write-output
 slice-write-output c = search needs
