@@ -23,7 +23,7 @@ abbrev pub emptyHeader : Header
 emptyHeader = record { rows = 0; sites = 0; displacement = 0; reordering = 0; step = 0; shift = 0; mirror = 0; swap = 0 }
 
 abbrev pub emptyJob : Job
-emptyJob = record { header = emptyHeader; count = 0; cells = replicate 64 emptyCell }
+emptyJob = record { header = emptyHeader; count = 0; cells = replicate paper.maxCells emptyCell }
 
 -- what the logic reads past the end of an array of cells
 abbrev pub noLayout : Layout
@@ -71,7 +71,7 @@ abbrev pub emptyPose : Pose
 emptyPose = record { site = 0; layout = 0; mark = 0 }
 
 abbrev pub emptyPlacement : Placement
-emptyPlacement = record { count = 0; poses = replicate 64 emptyPose }
+emptyPlacement = record { count = 0; poses = replicate paper.maxCells emptyPose }
 
 abbrev pub poseAt : Placement → ℕ → Pose
 poseAt P k = getD (P .poses) k emptyPose

@@ -33,10 +33,14 @@ pub struct Header {
 pub struct Job {
     pub header: Header,
     pub count: usize,
-    pub cells: [Cell; 64],
+    pub cells: [Cell; Job::MAX_CELLS],
 }
 
 impl Layout {
+    pub const MAX_WIDTH: u32 = 64;
+
+    pub const MAX_HEIGHT: u32 = 15;
+
     pub fn empty() -> Layout
         ensures { λ r. ⌜ r ≡ emptyLayout ⌝ }
     {
@@ -85,7 +89,15 @@ impl Job {
 
     pub const MAX_TALL: usize = 24;
 
+    pub const MAX_SITES: u32 = 1024;
+
+    pub const MAX_DISPLACEMENT: u32 = 7;
+
     pub const MAX_REORDERING: u32 = 1;
+
+    pub const MAX_WEIGHT: u32 = 1000;
+
+    pub const MAX_GIVEN: u32 = 1023;
 
     pub fn empty() -> Job
         ensures { λ r. ⌜ r ≡ emptyJob ⌝ }
@@ -110,7 +122,7 @@ pub struct Pose {
 // The first `count` poses are the placement's, in file order.
 pub struct Placement {
     pub count: usize,
-    pub poses: [Pose; 64],
+    pub poses: [Pose; Job::MAX_CELLS],
 }
 
 impl Pose {

@@ -11,6 +11,7 @@ use lib.Dec.{leb, eqb}
 use borrow.Author.Tests.{leb-true, eqb-true}
 use Rattle.definition.specs.Lists.{all}
 use Rattle.definition.specs.Texts.{Text, within}
+use Rattle.definition.specs.Job.{maxSites, maxDisplacement, maxReordering, maxWeight, maxGiven, maxWidth, maxHeight}
 use Rattle.definition.specs.Job.{Layout, Job, nth, numbersOf, headerInRange, headerRefusal, headerOf, layoutSize, layoutsOf, cellOf, layoutInRange, restInRange, shapeInRange, hasRoom, notFalling, cellRefusal}
 use Rattle.definition.specs.Rules.{noLayout}
 use Rattle.definition_laws.specs.Sound.{SoundLayout, SoundCell, SoundHeader}
@@ -22,18 +23,18 @@ use Rattle.job_laws.specs.Lists.{all-at, within-both, all-below}
 header-sound : (n : List ℕ) → headerInRange n ≡ true → SoundHeader (headerOf n)
 unfolding headerInRange headerOf
 header-sound n e =
-    let weights = all (within 0 1000) (drop 4 n) in
-    let e4 = and-eq-true-iff (within 1 2 (nth n 0) && within 1 1024 (nth n 1) && within 0 7 (nth n 2) && within 0 1 (nth n 3)) weights .0 e in
-    let e3 = and-eq-true-iff (within 1 2 (nth n 0) && within 1 1024 (nth n 1) && within 0 7 (nth n 2)) (within 0 1 (nth n 3)) .0 (e4 .0) in
-    let e2 = and-eq-true-iff (within 1 2 (nth n 0) && within 1 1024 (nth n 1)) (within 0 7 (nth n 2)) .0 (e3 .0) in
-    let e1 = and-eq-true-iff (within 1 2 (nth n 0)) (within 1 1024 (nth n 1)) .0 (e2 .0) in
-    let weight : (i : ℕ) → nth n (4 + i) ≤ 1000 = λ i. rw getD-drop at (all-below 0 1000 (drop 4 n) (e4 .1) i) in
+    let weights = all (within 0 maxWeight) (drop 4 n) in
+    let e4 = and-eq-true-iff (within 1 2 (nth n 0) && within 1 maxSites (nth n 1) && within 0 maxDisplacement (nth n 2) && within 0 maxReordering (nth n 3)) weights .0 e in
+    let e3 = and-eq-true-iff (within 1 2 (nth n 0) && within 1 maxSites (nth n 1) && within 0 maxDisplacement (nth n 2)) (within 0 maxReordering (nth n 3)) .0 (e4 .0) in
+    let e2 = and-eq-true-iff (within 1 2 (nth n 0) && within 1 maxSites (nth n 1)) (within 0 maxDisplacement (nth n 2)) .0 (e3 .0) in
+    let e1 = and-eq-true-iff (within 1 2 (nth n 0)) (within 1 maxSites (nth n 1)) .0 (e2 .0) in
+    let weight : (i : ℕ) → nth n (4 + i) ≤ maxWeight = λ i. rw getD-drop at (all-below 0 maxWeight (drop 4 n) (e4 .1) i) in
     record {
       oneRow = within-both 1 2 (nth n 0) (e1 .0) .0;
       twoRows = within-both 1 2 (nth n 0) (e1 .0) .1;
-      someSites = within-both 1 1024 (nth n 1) (e1 .1) .0;
-      fewSites = within-both 1 1024 (nth n 1) (e1 .1) .1;
-      displacement = within-both 0 7 (nth n 2) (e2 .1) .1;
+      someSites = within-both 1 maxSites (nth n 1) (e1 .1) .0;
+      fewSites = within-both 1 maxSites (nth n 1) (e1 .1) .1;
+      displacement = within-both 0 maxDisplacement (nth n 2) (e2 .1) .1;
       reordering = within-both 0 1 (nth n 3) (e3 .1) .1;
       step = weight 0;
       shift = weight 1;
@@ -61,13 +62,13 @@ heights (suc k) size n h (suc i) l = heights k size (drop size n) (simp length-d
 
 layout-sound : (row : ℕ) (l : Layout) → layoutInRange l ≡ true → length (l .heights) ≡ cond (eqb row 2) 8 4 → SoundLayout row l
 layout-sound row l e h =
-    let t = and-eq-true-iff (within 1 64 (l .width)) (all (within 1 15) (l .heights)) .0 e in
+    let t = and-eq-true-iff (within 1 maxWidth (l .width)) (all (within 1 maxHeight) (l .heights)) .0 e in
     record {
-      wide = within-both 1 64 (l .width) (t .0) .0;
-      narrow = within-both 1 64 (l .width) (t .0) .1;
+      wide = within-both 1 maxWidth (l .width) (t .0) .0;
+      narrow = within-both 1 maxWidth (l .width) (t .0) .1;
       heightCount = h;
-      low = λ i k. within-both 1 15 (getD (l .heights) i 0) (all-at (within 1 15) 0 (l .heights) (t .1) i k) .0;
-      high = all-below 1 15 (l .heights) (t .1);
+      low = λ i k. within-both 1 maxHeight (getD (l .heights) i 0) (all-at (within 1 maxHeight) 0 (l .heights) (t .1) i k) .0;
+      high = all-below 1 maxHeight (l .heights) (t .1);
     }
 
 -- a cell line, test by test
@@ -98,12 +99,12 @@ cell-sound j n t =
     let ls = layoutsOf k size (drop 4 n) in
     let shape = and-eq-true-iff (leb (nth n 0) (cond (eqb (j .header .rows) 2) 2 0)) (within 1 2 k) .0 (t .shape) in
     let some = within-both 1 2 k (shape .1) in
-    let rest = and-eq-true-iff (leb (nth n 1) 1023 && leb (nth n 2) 1) (all layoutInRange ls) .0 (t .rest) in
+    let rest = and-eq-true-iff (leb (nth n 1) maxGiven && leb (nth n 2) 1) (all layoutInRange ls) .0 (t .rest) in
     let long : length ls ≡ k = length-layouts k size (drop 4 n) in
     let fits : k * size ≤ length (drop 4 n) = simp length-drop (omega (arith, t .count)) in
     record {
       row = leb-true (nth n 0) (cond (eqb (j .header .rows) 2) 2 0) (shape .0);
-      given = leb-true (nth n 1) 1023 (and-eq-true-iff (leb (nth n 1) 1023) (leb (nth n 2) 1) .0 (rest .0) .0);
+      given = leb-true (nth n 1) maxGiven (and-eq-true-iff (leb (nth n 1) maxGiven) (leb (nth n 2) 1) .0 (rest .0) .0);
       some = omega arith;
       few = omega arith;
       layout = λ i h. layout-sound (nth n 0) (getD ls i noLayout) (all-at layoutInRange noLayout ls (rest .1) i h) (heights k size (drop 4 n) fits i (omega arith) ∙ less (eqb (nth n 0) 2));

@@ -66,8 +66,8 @@ and-right true true false d = refl
 and-right true false c d = refl
 and-right false b c d = refl
 
-pub heights-all : (a b c d : ℕ) → within 1 15 a && within 1 15 b && (within 1 15 c && within 1 15 d) ≡ all (within 1 15) (a ∷ b ∷ c ∷ d ∷ [])
-heights-all a b c d = and-right (within 1 15 a) (within 1 15 b) (within 1 15 c) (within 1 15 d)
+pub heights-all : (a b c d : ℕ) → within 1 paper.maxHeight a && within 1 paper.maxHeight b && (within 1 paper.maxHeight c && within 1 paper.maxHeight d) ≡ all (within 1 paper.maxHeight) (a ∷ b ∷ c ∷ d ∷ [])
+heights-all a b c d = and-right (within 1 paper.maxHeight a) (within 1 paper.maxHeight b) (within 1 paper.maxHeight c) (within 1 paper.maxHeight d)
 
 and-one : (a : Bool) → a && true ≡ a
 and-one true = refl
@@ -75,15 +75,16 @@ and-one false = refl
 
 -- the ranges of a header whose least numbers are 0 or more
 pub header-all : (h : Header)
-    → within 1 2 (h .rows) && within 1 1024 (h .sites) && leb (h .displacement) 7 && leb (h .reordering) 1
-    && (leb (h .step) 1000 && (leb (h .shift) 1000 && (leb (h .mirror) 1000 && leb (h .swap) 1000)))
+    → within 1 2 (h .rows) && within 1 paper.maxSites (h .sites) && leb (h .displacement) paper.maxDisplacement && leb (h .reordering) paper.maxReordering
+    && (leb (h .step) paper.maxWeight
+    && (leb (h .shift) paper.maxWeight && (leb (h .mirror) paper.maxWeight && leb (h .swap) paper.maxWeight)))
     ≡ paper.headerInRange (listed h)
 unfolding paper.headerInRange
 header-all h = simp (leb·zero, and-one)
 
-all-append : (l m : List ℕ) → all (within 1 15) (l ++ m) ≡ all (within 1 15) l && all (within 1 15) m
+all-append : (l m : List ℕ) → all (within 1 paper.maxHeight) (l ++ m) ≡ all (within 1 paper.maxHeight) l && all (within 1 paper.maxHeight) m
 all-append [] m = refl
-all-append (x ∷ l) m = rw (all-append l m) (and-assoc (within 1 15 x) (all (within 1 15) l) (all (within 1 15) m))
+all-append (x ∷ l) m = rw (all-append l m) (and-assoc (within 1 paper.maxHeight x) (all (within 1 paper.maxHeight) l) (all (within 1 paper.maxHeight) m))
   where
     and-assoc : (a b c : Bool) → a && (b && c) ≡ a && b && c
     and-assoc true b c = refl
@@ -93,16 +94,16 @@ module _ (l : Layout) (e : length (l .heights) ≡ 8) where
   spelt : l .heights ≡ spelled 0 8 (l .heights)
   spelt = spell-as 8 (l .heights) (l .heights) e (λ j h. refl)
 
-  pub layout-single : (row : ℕ) → (row ≡ 2 → ⊥) → within 1 64 (l .width) && all (within 1 15) (spelled 0 4 (l .heights)) ≡ paper.layoutInRange (layoutOf row l)
+  pub layout-single : (row : ℕ) → (row ≡ 2 → ⊥) → within 1 paper.maxWidth (l .width) && all (within 1 paper.maxHeight) (spelled 0 4 (l .heights)) ≡ paper.layoutInRange (layoutOf row l)
   layout-single row n =
       let h : take (heightCount row) (l .heights) ≡ spelled 0 4 (l .heights) = rw (ne-eqb row 2 n) (ap (take 4) spelt) in
       rw h
 
   pub layout-tall : (row : ℕ) → row ≡ 2
-      → within 1 64 (l .width) && (all (within 1 15) (spelled 0 4 (l .heights)) && all (within 1 15) (spelled 4 4 (l .heights))) ≡ paper.layoutInRange (layoutOf row l)
+      → within 1 paper.maxWidth (l .width) && (all (within 1 paper.maxHeight) (spelled 0 4 (l .heights)) && all (within 1 paper.maxHeight) (spelled 4 4 (l .heights))) ≡ paper.layoutInRange (layoutOf row l)
   layout-tall row n =
       let h : take (heightCount row) (l .heights) ≡ spelled 0 8 (l .heights) = rw (eq-eqb row 2 n) (ap (take 8) spelt) in
-      rw h (ap (λ (t : Bool). within 1 64 (l .width) && t) (sym (all-append (spelled 0 4 (l .heights)) (spelled 4 4 (l .heights)))))
+      rw h (ap (λ (t : Bool). within 1 paper.maxWidth (l .width) && t) (sym (all-append (spelled 0 4 (l .heights)) (spelled 4 4 (l .heights)))))
 
 abbrev fits : ℕ → Layout → Bool
 fits row l = paper.layoutInRange (layoutOf row l)

@@ -6,11 +6,12 @@ ghost use lib.Dec.{leb, eqb};
 ghost use mathlib.Core.List.{[], _∷_};
 ghost use Rattle.definition.specs.Lists.{all};
 ghost use Rattle.definition.specs.Texts.{within};
-ghost use Rattle.definition.specs.Job.{layoutSize, layoutInRange, headerInRange};
+ghost use Rattle.definition.specs.Job.{layoutSize, layoutInRange, headerInRange, maxHeight};
 ghost use Rattle.job.specs.Value.{layoutOf, layoutsOf};
 ghost use Rattle.job_ranges.specs.Values.{layoutIn, cellIn, headerIn, listed};
 use job::Cell;
 use job::Header;
+use job::Job;
 use job::Layout;
 
 // ---- the numbers of a line as a header or a cell
@@ -82,9 +83,15 @@ pub fn header_fits(h: Header) -> bool
     ensures { λ r. ⌜ r ≡ headerInRange (listed h) ⌝ }
 {
     let rows = (1 <= h.rows) & (h.rows <= 2);
-    let sites = (1 <= h.sites) & (h.sites <= 1024);
-    let weights = (h.step <= 1000) & ((h.shift <= 1000) & ((h.mirror <= 1000) & (h.swap <= 1000)));
-    rows & sites & (h.displacement <= 7) & (h.reordering <= 1) & weights
+    let sites = (1 <= h.sites) & (h.sites <= Job::MAX_SITES);
+    let weights = (h.step <= Job::MAX_WEIGHT)
+        & ((h.shift <= Job::MAX_WEIGHT)
+            & ((h.mirror <= Job::MAX_WEIGHT) & (h.swap <= Job::MAX_WEIGHT)));
+    rows
+        & sites
+        & (h.displacement <= Job::MAX_DISPLACEMENT)
+        & (h.reordering <= Job::MAX_REORDERING)
+        & weights
 }
 
 pub fn shape_fits(rows: u32, row: u32, layouts: u32) -> bool
@@ -105,10 +112,10 @@ pub fn count_fits(count: usize, row: u32, layouts: u32) -> bool
 }
 
 fn heights_fit(a: u32, b: u32, c: u32, d: u32) -> bool
-    ensures { λ r. ⌜ r ≡ all (within 1 15) (a ∷ b ∷ c ∷ d ∷ []) ⌝ }
+    ensures { λ r. ⌜ r ≡ all (within 1 maxHeight) (a ∷ b ∷ c ∷ d ∷ []) ⌝ }
 {
-    let left = ((1 <= a) & (a <= 15)) & ((1 <= b) & (b <= 15));
-    let right = ((1 <= c) & (c <= 15)) & ((1 <= d) & (d <= 15));
+    let left = ((1 <= a) & (a <= Layout::MAX_HEIGHT)) & ((1 <= b) & (b <= Layout::MAX_HEIGHT));
+    let right = ((1 <= c) & (c <= Layout::MAX_HEIGHT)) & ((1 <= d) & (d <= Layout::MAX_HEIGHT));
     left & right
 }
 
@@ -116,7 +123,7 @@ fn layout_fits(l: Layout, row: u32) -> bool
     ensures { λ r. ⌜ r ≡ layoutInRange (layoutOf row l) ⌝ }
 {
     let h = l.heights;
-    let width = (1 <= l.width) & (l.width <= 64);
+    let width = (1 <= l.width) & (l.width <= Layout::MAX_WIDTH);
     let low = heights_fit(h[0], h[1], h[2], h[3]);
     if row == 2 {
         let high = heights_fit(h[4], h[5], h[6], h[7]);

@@ -24,13 +24,13 @@ use Rattle.job_read.specs.Reads.{HeadLine, CellLine, sofar, begun, readi
 
 pub record Far (text : Text) (from : ℕ) (h : Header) (cells : List Cell) (t : Tally) (at line : ℕ) : Type 0 where
   pub within : at ≤ length text
-  pub long : length cells ≡ 64
-  pub few : t .count ≤ 64
+  pub long : length cells ≡ paper.maxCells
+  pub few : t .count ≤ paper.maxCells
   pub number : line ≡ t .count + 2
   pub tallies : Tallies (sofar h (t .count) cells) t
   pub same : paper.readCells (begun h) 2 (linesOf (drop from text)) ≡ paper.readCells (sofar h (t .count) cells) line (linesOf (drop at text))
 
-pub far-none : (text : Text) (from : ℕ) (h : Header) (cells : List Cell) → from ≤ length text → length cells ≡ 64
+pub far-none : (text : Text) (from : ℕ) (h : Header) (cells : List Cell) → from ≤ length text → length cells ≡ paper.maxCells
     → Far text from h cells (record { rows = h .rows; count = 0; tall = 0; first = 0; second = 0 }) from 2
 unfolding topIn headerOf
 far-none text from h cells w l = record {

@@ -31,7 +31,7 @@ cellNumber t ok count mark c = paper.firstFailing (
     (1, ok && leb 4 count)
     ∷ (2, leb (c .row) (cond (eqb (t .rows) 2) 2 0) && within 1 2 (c .layouts))
     ∷ (1, eqb count (4 + c .layouts * paper.layoutSize (c .row)))
-    ∷ (2, leb (c .given) 1023 && leb mark 1 && all paper.layoutInRange (layoutsOf c))
+    ∷ (2, leb (c .given) paper.maxGiven && leb mark 1 && all paper.layoutInRange (layoutsOf c))
     ∷ (3, room t (c .row))
     ∷ (4, rises t (c .row) (c .given))
     ∷ [])
@@ -124,10 +124,10 @@ module _ (lead : ℕ) (text : Text) (at : ℕ) (r : Numbers) (l : LedFrom lead t
 
 -- ---- the header line
 
-module _ (text : Text) (at : ℕ) (r : Numbers) (l : LedFrom 74 text at r) where
-  head-first : r .ok && eqb (r .count) 8 ≡ paper.formed 74 (lineAt text at) && eqb (length (fieldsOf (lineAt text at))) 9
+module _ (text : Text) (at : ℕ) (r : Numbers) (l : LedFrom paper.headerLead text at r) where
+  head-first : r .ok && eqb (r .count) 8 ≡ paper.formed paper.headerLead (lineAt text at) && eqb (length (fieldsOf (lineAt text at))) 9
   head-first =
-      first-test 74 text at r l (eqb (r .count) 8) (λ n. eqb n 9)
+      first-test paper.headerLead text at r l (eqb (r .count) 8) (λ n. eqb n 9)
       (λ e. let q = eqb-true (length (fieldsOf (lineAt text at))) 9 e in omega arith)
       (λ e. sym (eqb·suc-suc (r .count) 8) ∙ ap (λ (n : ℕ). eqb n 9) e)
 
@@ -135,7 +135,7 @@ module _ (text : Text) (at : ℕ) (r : Numbers) (l : LedFrom 74 text at r) where
   head-passed : r .ok && eqb (r .count) 8 ≡ true → (r .ok ≡ true) × (length (paper.numbersOf (lineAt text at)) ≡ 8)
   head-passed e =
       let t = and-eq-true-iff (r .ok) (eqb (r .count) 8) .0 e in
-      (t .0, numbers-count 74 text at r l (t .0) ∙ eqb-true (r .count) 8 (t .1))
+      (t .0, numbers-count paper.headerLead text at r l (t .0) ∙ eqb-true (r .count) 8 (t .1))
 
   pub head-number : headNumber (r .ok) (r .count) (headerIn (r .values)) ≡ paper.headerRefusal (lineAt text at)
   unfolding headNumber paper.headerRefusal
@@ -154,10 +154,10 @@ module _ (text : Text) (at : ℕ) (r : Numbers) (l : LedFrom 74 text at r) where
 
 -- ---- a cell line
 
-module _ (text : Text) (at : ℕ) (r : Numbers) (l : LedFrom 67 text at r) where
-  cell-first : r .ok && leb 4 (r .count) ≡ paper.formed 67 (lineAt text at) && leb 5 (length (fieldsOf (lineAt text at)))
+module _ (text : Text) (at : ℕ) (r : Numbers) (l : LedFrom paper.cellLead text at r) where
+  cell-first : r .ok && leb 4 (r .count) ≡ paper.formed paper.cellLead (lineAt text at) && leb 5 (length (fieldsOf (lineAt text at)))
   cell-first =
-      first-test 67 text at r l (leb 4 (r .count)) (λ n. leb 5 n)
+      first-test paper.cellLead text at r l (leb 4 (r .count)) (λ n. leb 5 n)
       (λ e. let q = leb-true 5 (length (fieldsOf (lineAt text at))) e in omega arith)
       (λ e. sym (leb·suc-suc 4 (r .count)) ∙ ap (λ (n : ℕ). leb 5 n) e)
 
@@ -172,7 +172,7 @@ module _ (text : Text) (at : ℕ) (r : Numbers) (l : LedFrom 67 text at r) where
       let k = getD (r .values) 3 0 in
       let b = and-eq-true-iff (leb 1 k) (leb k 2) .0 w in
       let v3 = v 3 (omega arith) in
-      let size = numbers-count 67 text at r l o ∙ eqb-true (r .count) (4 + k * paper.layoutSize (getD (r .values) 0 0)) e in
+      let size = numbers-count paper.cellLead text at r l o ∙ eqb-true (r .count) (4 + k * paper.layoutSize (getD (r .values) 0 0)) e in
       cell-made numbers (r .values) v (omega (arith, v3, leb-true 1 k (b .0))) (omega (arith, v3, leb-true k 2 (b .1))) (size ∙ rw (v3, v 0 (omega arith)))
 
   pub cell-number : (t : Tally) (j : paper.Job) → Tallies j t
@@ -187,7 +187,7 @@ module _ (text : Text) (at : ℕ) (r : Numbers) (l : LedFrom 67 text at r) where
       let v3 = v 3 (omega arith) in
       test-same 2 _ _ _ _ (rw (v0, v3, s .rows))
       (λ e2.
-      test-same 1 _ _ _ _ (rw (v0, v3, numbers-count 67 text at r l o))
+      test-same 1 _ _ _ _ (rw (v0, v3, numbers-count paper.cellLead text at r l o))
       (λ e3.
       let c = made o (and-eq-true-iff (leb (getD (r .values) 0 0) (cond (eqb (t .rows) 2) 2 0)) (within 1 2 (getD (r .values) 3 0)) .0 e2 .1) e3 in
       let m : layoutsOf (cellIn (r .values)) ≡ paper.cellOf numbers .layouts = ap (λ (x : paper.Cell). x .layouts) c in
@@ -198,7 +198,7 @@ module _ (text : Text) (at : ℕ) (r : Numbers) (l : LedFrom 67 text at r) where
   pub record Passed (t : Tally) : Type 0 where
     pub ok : r .ok ≡ true
     pub cell : cellOf (cellIn (r .values)) ≡ paper.cellOf numbers
-    pub few : t .count < 64
+    pub few : t .count < paper.maxCells
 
   pub cell-passed : (t : Tally) → cellNumber t (r .ok) (r .count) (getD (r .values) 2 0) (cellIn (r .values)) ≡ 0 → Passed t
   unfolding cellNumber
@@ -212,5 +212,5 @@ module _ (text : Text) (at : ℕ) (r : Numbers) (l : LedFrom 67 text at r) where
       record {
         ok = o;
         cell = made o (and-eq-true-iff (leb (getD (r .values) 0 0) (cond (eqb (t .rows) 2) 2 0)) (within 1 2 (getD (r .values) 3 0)) .0 (p2 .0) .1) (p3 .0);
-        few = ltb-true (t .count) 64 (and-eq-true-iff (ltb (t .count) 64) _ .0 (p5 .0) .0);
+        few = ltb-true (t .count) paper.maxCells (and-eq-true-iff (ltb (t .count) paper.maxCells) _ .0 (p5 .0) .0);
       }

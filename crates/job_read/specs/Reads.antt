@@ -1,5 +1,5 @@
 -- What the functions of this crate answer: the header line, a cell line, and the whole text.
-use Prim.Native.Nat.{ℕ, zero, suc, _≤_, _<_}
+use Prim.Native.Nat.{ℕ, zero, suc, _+_, _≤_, _<_}
 use mathlib.Core.Path.{_≡_, refl, sym, ap, _∙_}
 use mathlib.Core.List.{List, [], map}
 use native.Mathlib.Omega.{arith}
@@ -35,7 +35,7 @@ pub record CellTo (text : Text) (at : ℕ) (t : Tally) (r : Line) : Type 0 where
   pub within : r .next ≤ length text
   pub rest : afterLine (drop at text) ≡ drop (r .next) text
   pub cell : cellOf (r .cell) ≡ paper.cellOf (paper.numbersOf (lineAt text at))
-  pub room : t .count < 64
+  pub room : t .count < paper.maxCells
 
 -- of any job with that tally
 pub record CellLine (text : Text) (at : ℕ) (t : Tally) (r : Line) : Type 0 where
@@ -64,9 +64,9 @@ readingOf r = readingBy (r .number) (r .line) (r .job)
 pub record Reads (o : paper.Reading) (r : Reading) : Type 0 where
   pub same : readingOf r ≡ o
   pub number : r .number ≤ 4
-  pub line : r .line ≤ 66
-  pub few : r .number ≡ 0 → r .job .count ≤ 64
-  pub long : r .number ≡ 0 → length (r .job .cells) ≡ 64
+  pub line : r .line ≤ paper.maxCells + 2
+  pub few : r .number ≡ 0 → r .job .count ≤ paper.maxCells
+  pub long : r .number ≡ 0 → length (r .job .cells) ≡ paper.maxCells
 
 pub reads-accepted : {o : paper.Reading} {r : Reading} → Reads o r → r .number ≡ 0 → o ≡ paper.accepted (jobOf (r .job))
 unfolding readingOf

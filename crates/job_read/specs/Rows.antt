@@ -8,7 +8,7 @@ use lib.ListN.{length, length-append}
 use lib.Dec.{leb, ltb, eqb, leb·zero}
 use borrow.Author.Tests.{le-leb, lt-leb, leb-true, leb-false}
 use Rattle.definition.specs.Lists.{all, keep}
-use Rattle.definition.specs.Job.{Cell, Job, isTall, inRow, shareRow, hasRoom, notFalling, withCell}
+use Rattle.definition.specs.Job.{Cell, Job, maxCells, maxTall, isTall, inRow, shareRow, hasRoom, notFalling, withCell}
 use Rattle.job_laws.specs.Lists.{keep-more}
 use Rattle.job_read.specs.declared.Tally.{Tally}
 
@@ -63,7 +63,7 @@ few-tall (c ∷ cs) = go (isTall c) (few-tall cs)
 -- ---- the tests
 
 abbrev pub room : Tally → ℕ → Bool
-room t row = ltb (t .count) 64 && (not (eqb row 2) || ltb (t .tall) 24)
+room t row = ltb (t .count) maxCells && (not (eqb row 2) || ltb (t .tall) maxTall)
 
 abbrev pub rises : Tally → ℕ → ℕ → Bool
 rises t row given = (not (held 0 row) || leb (t .first) given) && (not (held 1 row) || leb (t .second) given)

@@ -4,7 +4,7 @@ ghost use mathlib.Core.Bool.{cond};
 ghost use Prim.Native.Nat.{_+_, _≤_, _<_, max};
 ghost use lib.ListN.{length, drop};
 ghost use Rattle.definition.specs.Texts.{linesOf};
-ghost use Rattle.definition.specs.Job.{readJob, readCells};
+ghost use Rattle.definition.specs.Job.{readJob, readCells, maxCells};
 ghost use Rattle.job_read.specs.Rows.{tallyWith, room, rises};
 ghost use Rattle.job_read.specs.Lines.{later, headNumber, cellNumber};
 ghost use Rattle.job_read.specs.Reads.{HeadLine, CellLine, begun, Reads};
@@ -114,7 +114,7 @@ fn cell_refusal(t: Tally, ok: bool, count: usize, mark: u32, c: Cell) -> u32
     let formed = ok & (4 <= count);
     let shape = shape_fits(t.rows, row, layouts);
     let size = count_fits(count, row, layouts);
-    let rest = (given <= 1023) & (mark <= 1) & layouts_fit(c);
+    let rest = (given <= Job::MAX_GIVEN) & (mark <= 1) & layouts_fit(c);
     let room = has_room(t, row);
     let rises = does_rise(t, row, given);
     let n = tried(0, formed, 1);
@@ -143,7 +143,7 @@ fn cell_line(text: &[u8], at: usize, t: Tally) -> Line
 // ---- one more cell
 
 fn one_more(is: bool, n: usize) -> usize
-    requires { ⌜ n < 64 ⌝ }
+    requires { ⌜ n < maxCells ⌝ }
     ensures { λ r. ⌜ r ≡ n + cond is 1 0 ⌝ }
 {
     if is {
@@ -165,7 +165,7 @@ fn higher(is: bool, top: u32, given: u32) -> u32
 }
 
 fn tally_with(t: Tally, row: u32, given: u32) -> Tally
-    requires { ⌜ (t .count < 64) × (t .tall < 64) ⌝ }
+    requires { ⌜ (t .count < maxCells) × (t .tall < maxCells) ⌝ }
     ensures { λ r. ⌜ r ≡ tallyWith t row given ⌝ }
 {
     let tall = one_more(row == 2, t.tall);

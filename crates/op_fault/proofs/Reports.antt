@@ -40,7 +40,7 @@ by-refused zero l j d = absurd (d refl)
 by-refused (suc n) l j d = refl
 
 -- how many cells a value of a job stands for
-pub job-count : (j : Job) (n : ℕ) → length (j .cells) ≡ 64 → n ≡ min (j .count) 64 → n ≡ length (jobOf j .cells)
+pub job-count : (j : Job) (n : ℕ) → length (j .cells) ≡ paper.maxCells → n ≡ min (j .count) paper.maxCells → n ≡ length (jobOf j .cells)
 unfolding jobOf
 job-count j n e h = omega (arith, length-map (take (j .count) (j .cells)) cellOf, length-take (j .count) (j .cells))
 

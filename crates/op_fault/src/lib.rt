@@ -2,6 +2,7 @@
 ghost use mathlib.Core.Path.{_≡_};
 ghost use Prim.Native.Nat.{_≤_, _+_, _<_};
 ghost use lib.ListN.{length};
+ghost use Rattle.definition.specs.Job.{maxCells};
 ghost use Rattle.definition.specs.Outcome.{over};
 ghost use Rattle.definition.specs.FaultLine.{faultLine, partAt, Very, ToldFault};
 ghost use Rattle.job.specs.Value.{jobOf};
@@ -22,7 +23,7 @@ pub struct Refusal {
 
 // How many cells a job has; its array holds no more.
 fn cell_count(job: Job) -> usize
-    ensures { λ r. ⌜ (r ≡ length (jobOf job .cells)) × (r ≤ 64) ⌝ }
+    ensures { λ r. ⌜ (r ≡ length (jobOf job .cells)) × (r ≤ maxCells) ⌝ }
 {
     let count = job.count;
     if count < Job::MAX_CELLS {

@@ -13,6 +13,7 @@ use Rattle.definition.specs.Job.{refused, accepted, readJob, firstFailing}
 use Rattle.definition.specs.Placement as text
 use Rattle.definition.specs.Placement.{textOf}
 use Rattle.definition.specs.Moves.{Cheapest}
+use Rattle.definition.specs.Outcome.{storeNeeded, outputNeeded}
 use Rattle.definition.specs.Outcome.{Outcome, over, refusal, placeAnswer, placeOutcome, bufferRefusal, Buffers, lent, Placed}
 use Rattle.text_laws.specs.Poses.{Printable, Each}
 use Rattle.text_laws.specs.Room.{Narrow, legal-room, legal-printable, legal-narrow, at-each}
@@ -33,7 +34,7 @@ module _ (job : Job) (poses : List ℕ) (room : ℕ) (t : Chosen job poses room)
   pub text-room : length (textOf (placementOf P)) ≤ room
   text-room = rw (n .same) (omega (arith, legal-room (jobOf job) (placementIn job poses) (t .taken .sound) (t .legal), t .taken .many, t .output))
 
-  pub text-short : length (textOf (placementOf P)) ≤ 576
+  pub text-short : length (textOf (placementOf P)) ≤ 9 * paper.maxCells
   text-short = rw (n .same) (omega (arith, legal-room (jobOf job) (placementIn job poses) (t .taken .sound) (t .legal), t .taken .many, t .taken .few))
 
   pub printable : Each Printable (placementOf P)
@@ -113,19 +114,19 @@ module _ (store output : List ℕ) (results : List ℤ) where
           → results′ ≡ over (pos (suc n) ∷ pos 0 ∷ replicate 7 (pos 0)) results → Placed source (suc n) (lent store output results) (lent store output results′)
       by-buffers n b r = refused-as (suc n) 0 (λ k a d. let q : k ≡ j = cc in let z = rw q at d in omega arith) (sym (by-number none b)) r
 
-      pub placed-small : {results′ : List ℤ} → length store < 1048576 → results′ ≡ over (pos 6 ∷ pos 0 ∷ replicate 7 (pos 0)) results
+      pub placed-small : {results′ : List ℤ} → length store < storeNeeded j → results′ ≡ over (pos 6 ∷ pos 0 ∷ replicate 7 (pos 0)) results
           → Placed source 6 (lent store output results) (lent store output results′)
       unfolding bufferRefusal firstFailing
-      placed-small h r = by-buffers 5 (rw (lt-leb 1048576 (length store) h)) r
+      placed-small h r = by-buffers 5 (rw (lt-leb (storeNeeded j) (length store) h)) r
 
-      pub placed-narrow : {results′ : List ℤ} → 1048576 ≤ length store → length output < 9 * length (j .cells)
+      pub placed-narrow : {results′ : List ℤ} → storeNeeded j ≤ length store → length output < outputNeeded j
           → results′ ≡ over (pos 7 ∷ pos 0 ∷ replicate 7 (pos 0)) results → Placed source 7 (lent store output results) (lent store output results′)
       unfolding bufferRefusal firstFailing
       placed-narrow h g r =
-          by-buffers 6 (rw (le-leb 1048576 (length store) h, lt-leb (9 * length (j .cells)) (length output) g)) r
+          by-buffers 6 (rw (le-leb (storeNeeded j) (length store) h, lt-leb (outputNeeded j) (length output) g)) r
 
       -- an answer
-      pub placed-answered : {returned : ℕ} {end : Buffers} → 1048576 ≤ length store → 9 * length (j .cells) ≤ length output
+      pub placed-answered : {returned : ℕ} {end : Buffers} → storeNeeded j ≤ length store → outputNeeded j ≤ length output
           → Answered j returned (lent store output results) end → Placed source returned (lent store output results) end
       unfolding bufferRefusal firstFailing
       placed-answered h g a = record {
@@ -139,4 +140,4 @@ module _ (store output : List ℕ) (results : List ℤ) where
       }
         where
           enough : bufferRefusal j (length store) (length output) ≡ 0
-          enough = rw (le-leb 1048576 (length store) h, le-leb (9 * length (j .cells)) (length output) g)
+          enough = rw (le-leb (storeNeeded j) (length store) h, le-leb (outputNeeded j) (length output) g)

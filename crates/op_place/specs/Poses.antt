@@ -6,6 +6,7 @@ use native.Mathlib.Omega.{arith}
 use native.Mathlib.Decide.{ℕ-discrete}
 use lib.ListN.{length, getD, take, set, length-set, length-map}
 use lib.Seq.{getD-set-same, getD-set-other, ext-getD, length-take-le}
+use Rattle.definition.specs.Job.{maxCells, maxGiven}
 use Rattle.definition.specs.Placement as text
 use Rattle.definition.specs.Rules.{cellAt, noPose}
 use Rattle.job.specs.declared.Pose.{Pose}
@@ -38,11 +39,11 @@ pub record Numbered (job : Job) (poses : List ℕ) (P : Placement) : Type 0 wher
 -- the first k poses are there
 pub record Sofar (job : Job) (poses : List ℕ) (P : Placement) (k : ℕ) : Type 0 where
   pub count : P .count ≡ job .count
-  pub long : length (P .poses) ≡ 64
+  pub long : length (P .poses) ≡ maxCells
   pub done : (i : ℕ) → i < k → poseOf (value.poseAt P i) ≡ poseNumber (jobOf job) i (numbersIn poses i)
 
 module _ (job : Job) (poses : List ℕ) where
-  pub given-low : Taken job → (k : ℕ) → k < job .count → value.cellAt job k .given ≤ 1023
+  pub given-low : Taken job → (k : ℕ) → k < job .count → value.cellAt job k .given ≤ maxGiven
   unfolding cellOf
   given-low t k h = let e = cell-there job k h in let s = t .sound .cell k (omega (arith, t .many)) .given in rw e at s
 
@@ -55,7 +56,7 @@ module _ (job : Job) (poses : List ℕ) where
       (b .site ∙ ap (λ g. g + numbersIn poses k / 4 - job .header .displacement) (sym e))
       (b .layout) (b .mark)
 
-  pub sofar-more : {P : Placement} {k : ℕ} {p : Pose} → Sofar job poses P k → k < job .count → job .count ≤ 64
+  pub sofar-more : {P : Placement} {k : ℕ} {p : Pose} → Sofar job poses P k → k < job .count → job .count ≤ maxCells
       → PoseBy (job .header .displacement) (value.cellAt job k .given) (numbersIn poses k) p
       → Sofar job poses (record { count = P .count; poses = set (P .poses) k p }) (k + 1)
   sofar-more {P} {k} {p} s h few b = record { count = s .count; long = simp length-set (s .long); done = λ i l. go i l (ℕ-discrete i k) }

@@ -1,9 +1,10 @@
 // Place: the job is read, a cheapest legal placement is searched for, and its text and numbers are written to what the caller lends.
 ghost use mathlib.Core.Path.{_≡_};
 ghost use mathlib.Core.List.{_∷_};
-ghost use Prim.Native.Nat.{_^_, _≤_, _<_};
+ghost use Prim.Native.Nat.{_+_, _^_, _≤_, _<_};
 ghost use lib.ListN.{length, take, replicate};
 ghost use lib.IntN.{pos};
+ghost use Rattle.definition.specs.Job.{maxCells, maxGiven};
 ghost use Rattle.definition.specs.Outcome.{over, lent, Placed};
 ghost use Rattle.job.specs.Value.{jobOf, placementOf};
 ghost use Rattle.score_words.specs.Ready.{Ready};
@@ -20,9 +21,14 @@ use results::put_results;
 use score_numbers::numbers_of;
 use search::search;
 
+// What is asked of the buffers: words of the store, and bytes of the output for each cell.
+const STORE_WORDS: usize = 1048576;
+
+const LINE_BYTES: usize = 9;
+
 // A pose by its number: a site within the displacement, a layout, a mark.
 fn pose_of(displacement: u32, cell: Cell, a: u32) -> Pose
-    requires { ⌜ (cell .given ≤ 1023) × (a < 64) ⌝ }
+    requires { ⌜ (cell .given ≤ maxGiven) × (a < 64) ⌝ }
     ensures { λ r. ⌜ PoseBy displacement (cell .given) a r ⌝ }
 {
     let x = cell.given + a / 4;
@@ -43,7 +49,7 @@ fn pose_of(displacement: u32, cell: Cell, a: u32) -> Pose
 }
 
 // The placement by pose numbers, cell by cell.
-fn placement_of(job: Job, poses: [u32; 64]) -> Placement
+fn placement_of(job: Job, poses: [u32; Job::MAX_CELLS]) -> Placement
     requires { ⌜ ByNumber job poses ⌝ }
     ensures { λ r. ⌜ Numbered job poses r ⌝ }
 {
@@ -81,7 +87,7 @@ fn fields_of(job: Job, placement: Placement, bytes: usize) -> [i32; 8]
 }
 
 // The answer: text and fields of the placement found.
-fn put_answer(job: Job, poses: [u32; 64], output: &mut [u8], results: &mut [i32])
+fn put_answer(job: Job, poses: [u32; Job::MAX_CELLS], output: &mut [u8], results: &mut [i32])
     requires { ⌜ Chosen job poses (length (now output)) ⌝ }
     ensures { λ _. ⌜ Wrote job poses (now (output .entry)) (now (output .exit)) (now (results .entry)) (now (results .exit)) ⌝ }
 {
@@ -93,7 +99,7 @@ fn put_answer(job: Job, poses: [u32; 64], output: &mut [u8], results: &mut [i32]
 
 // A refusal: its number and line, and fields of zero.
 fn refuse(results: &mut [i32], number: u32, line: u32)
-    requires { ⌜ (number ≤ 8) × (line ≤ 66) ⌝ }
+    requires { ⌜ (number ≤ 8) × (line ≤ maxCells + 2) ⌝ }
     ensures { λ _. ⌜ now (results .exit) ≡ over (pos number ∷ pos line ∷ replicate 7 (pos 0)) (now (results .entry)) ⌝ }
 {
     put_results(results, number, line, [0, 0, 0, 0, 0, 0, 0, 0], 7);
@@ -128,8 +134,8 @@ pub fn place_texts(job: &[u8], store: &mut [u32], output: &mut [u8], results: &m
         return number;
     }
     let j = r.job;
-    let room = 9 * j.count;
-    if store.len() < 1048576 {
+    let room = LINE_BYTES * j.count;
+    if store.len() < STORE_WORDS {
         refuse(results, 6, 0);
         return 6;
     }

@@ -1,7 +1,8 @@
 -- What Score's answer stands for: the outcome of document 01, but for the buffers that it does not have.
-use Prim.Native.Nat.{ℕ, _≤_}
+use Prim.Native.Nat.{ℕ, _+_, _≤_}
 use mathlib.Core.Path.{_≡_, sym, subst}
 use lib.ListN.{take}
+use Rattle.definition.specs.Job.{maxCells}
 use Rattle.definition.specs.Outcome.{Outcome}
 use Rattle.op_score.specs.declared.Scored.{Scored}
 
@@ -10,7 +11,7 @@ pub record Scores (o : Outcome) (r : Scored) : Type 0 where
   pub line : r .line ≡ o .line
   pub fields : take 8 (r .fields) ≡ o .fields
   pub few : r .number ≤ 5
-  pub near : r .line ≤ 66
+  pub near : r .line ≤ maxCells + 2
 
 pub scores-as : {o p : Outcome} {r : Scored} → p ≡ o → Scores o r → Scores p r
 scores-as {r = r} e s = subst (λ (x : Outcome). Scores x r) (sym e) s

@@ -2,10 +2,11 @@
 ghost use mathlib.Core.Path.{_≡_};
 ghost use lib.ListN.{take};
 ghost use Prim.Native.Nat.{_≤_};
+ghost use Rattle.definition.specs.Job.{maxCells};
 ghost use Rattle.definition.specs.Rules.{verdict};
-ghost use Rattle.definition_laws.specs.Sound.{Sound};
 ghost use Rattle.definition.specs.Outcome.{score, scorePoses, scoreFields};
 ghost use Rattle.definition.specs.Placement.{readPlacement};
+ghost use Rattle.definition_laws.specs.Sound.{Sound};
 ghost use Rattle.job.specs.Value.{jobOf, placementOf};
 ghost use Rattle.score_words.specs.Ready.{Ready};
 ghost use Rattle.op_score.specs.Scores.{Scores};
@@ -49,7 +50,7 @@ fn fields_of(job: Job, placement: Placement) -> [i32; 8]
 
 // Of a job that was accepted.
 fn score_placement(job: Job, placement: &[u8]) -> Scored
-    requires { ⌜ Sound (jobOf job) × (job .count ≤ 64) ⌝ }
+    requires { ⌜ Sound (jobOf job) × (job .count ≤ maxCells) ⌝ }
     ensures { λ r. ⌜ Scores (scorePoses (jobOf job) (readPlacement (job .count) (now (placement .entry)))) r ⌝ }
 {
     let p = read_placement(placement, job.count);

@@ -6,6 +6,7 @@ use mathlib.Core.List.{[], _∷_, _++_}
 use lib.Dec.{eqb}
 use lib.ListN.{length, drop}
 use Rattle.definition.specs.Texts.{Text, linesOf}
+use Rattle.definition.specs.Job.{maxCells}
 use Rattle.definition.specs.Placement as paper
 use Rattle.definition.specs.Placement.{Poses, fault, poses, isPose, readPlacement}
 use Rattle.text_laws.specs.Poses.{Printable}
@@ -27,10 +28,10 @@ pub record PoseFrom (text : Text) (at : ℕ) (r : PoseReading) : Type 0 where
   pub ok : r .ok ≡ isPose (firstLine (drop at text))
   pub found : r .ok ≡ true → PoseTo text at r
 
--- a placement in an array of 64, with values that can be printed
+-- a placement in an array of so many as a job may have cells, with values that can be printed
 pub record Kept (P : Placement) : Type 0 where
-  pub long : length (P .poses) ≡ 64
-  pub many : P .count ≤ 64
+  pub long : length (P .poses) ≡ maxCells
+  pub many : P .count ≤ maxCells
   pub small : (k : ℕ) → Printable (poseOf (poseAt P k))
 
 -- the same with one more pose

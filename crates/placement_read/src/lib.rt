@@ -1,8 +1,9 @@
 // Reading a placement text: one line after another, as many as are due.
 ghost use mathlib.Core.Path.{_≡_};
 ghost use mathlib.Core.Bool.{false};
-ghost use Prim.Native.Nat.{_≤_};
+ghost use Prim.Native.Nat.{_+_, _≤_};
 ghost use lib.ListN.{length};
+ghost use Rattle.definition.specs.Job.{maxCells};
 ghost use Rattle.job.specs.Value.{emptyPlacement};
 ghost use Rattle.placement_read.specs.Reading.{PoseFrom, ReadAs};
 use job::Placement;
@@ -56,7 +57,7 @@ fn no_pose(at: usize) -> PoseReading
 }
 
 fn faulty(line: usize) -> PlacementReading
-    requires { ⌜ line ≤ 65 ⌝ }
+    requires { ⌜ line ≤ maxCells + 1 ⌝ }
     ensures { λ r. ⌜ (r .line ≡ line) × (r .placement ≡ emptyPlacement) ⌝ }
 {
     let p = Placement::empty();
@@ -68,7 +69,7 @@ fn faulty(line: usize) -> PlacementReading
 
 // What the text says of `due` cells, or the earliest line that is bad, missing or surplus.
 pub fn read_placement(text: &[u8], due: usize) -> PlacementReading
-    requires { ⌜ due ≤ 64 ⌝ }
+    requires { ⌜ due ≤ maxCells ⌝ }
     ensures { λ r. ⌜ ReadAs (now (text .entry)) due r ⌝ }
 {
     let mut placement = Placement::empty();

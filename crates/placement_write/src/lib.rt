@@ -2,6 +2,7 @@
 ghost use mathlib.Core.Path.{_≡_};
 ghost use Prim.Native.Nat.{_+_, _≤_};
 ghost use lib.ListN.{length};
+ghost use Rattle.definition.specs.Job.{maxCells};
 ghost use Rattle.definition.specs.Placement.{lineOf, textOf};
 ghost use Rattle.definition.specs.Outcome.{over};
 ghost use Rattle.text_laws.specs.Poses.{Printable, Each};
@@ -25,7 +26,7 @@ fn put_pose(output: &mut [u8], at: usize, pose: Pose) -> usize
 pub fn put_placement(output: &mut [u8], placement: Placement) -> usize
     requires { ⌜ length (textOf (placementOf placement)) ≤ length (now output) ⌝ }
     requires { ⌜ Each Printable (placementOf placement) ⌝ }
-    requires { ⌜ placement .count ≤ 64 ⌝ }
+    requires { ⌜ placement .count ≤ maxCells ⌝ }
     ensures { λ r. ⌜ now (output .exit) ≡ over (textOf (placementOf placement)) (now (output .entry)) ⌝ }
     ensures { λ r. ⌜ r ≡ length (textOf (placementOf placement)) ⌝ }
 {

@@ -2,12 +2,12 @@
 use mathlib.Core.Path.{_≡_}
 use native.Mathlib.Omega.{arith}
 use lib.ListN.{length, length-map}
+use Rattle.definition.specs.Job.{maxCells}
 use Rattle.op_fault.proofs.Reports.{job-count}
 use Rattle.op_fault.proofs.cell_count.Statement.{statement}
 use Rattle.op_fault.proofs.cell_count.Tie as tie
 
--- the array of cells has 64 entries
-long : (s : tie.Start) → length (s .args .job .cells) ≡ 64
+long : (s : tie.Start) → length (s .args .job .cells) ≡ maxCells
 long s = simp length-map at (s .good .0 .1 .1 .1 .1 .0 .1 .0 .1)
 
 returns : tie.Need-returns

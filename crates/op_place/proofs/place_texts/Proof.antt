@@ -80,7 +80,7 @@ place-job-requires c κs =
         many = reads-count o z;
       };
       store = k .if2 .left;
-      output = t .if3 .left;
+      output = omega (arith, t .if3 .left, reads-count o z);
     }
 
 same-length-4 : tie.Need-same-length-4

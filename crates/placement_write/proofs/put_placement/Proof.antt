@@ -19,7 +19,7 @@ Inv-loop output₀ placement at₀ i₀ output at i = (i ≤ placement .count) �
 abbrev μ-loop : tie.MeasureT-loop
 μ-loop output₀ placement at₀ i₀ output at i = placement .count - i
 
--- the array of poses has 64 entries
+-- the array of poses has as many entries as a job may have cells
 count-fits : (s : tie.Start Inv-loop μ-loop) → s .args .t2 .count ≤ length (s .args .t2 .poses)
 count-fits s = omega (arith, simp length-map at (s .good .1 .0 .1 .1 .1 .0 .1 .0 .1))
 

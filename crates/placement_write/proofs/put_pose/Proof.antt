@@ -2,7 +2,7 @@
 use mathlib.Core.List.{[], _∷_}
 use native.Mathlib.Omega.{arith}
 use lib.ListN.{length-append}
-use Rattle.definition.specs.Texts.{digits}
+use Rattle.definition.specs.Texts.{digits, comma}
 use Rattle.text_laws.specs.Room.{line-long}
 use Rattle.job.specs.Value.{poseOf}
 use Rattle.placement_write.proofs.Lines.{line-wrote}
@@ -19,7 +19,7 @@ put-field-requires-2 : tie.Need-put-field-requires-2
 put-field-requires-2 c κs =
     let f = c .before .before .before in
     let s = f .before .before .before in
-    (omega (arith, line-long (poseOf (s .args .pose)), f .put-field .ensures .cursor, length-append (digits (s .args .pose .site)) (44 ∷ []), f .put-field .kept .0), s .pre .1 .layout)
+    (omega (arith, line-long (poseOf (s .args .pose)), f .put-field .ensures .cursor, length-append (digits (s .args .pose .site)) (comma ∷ []), f .put-field .kept .0), s .pre .1 .layout)
 
 put-field-requires-3 : tie.Need-put-field-requires-3
 put-field-requires-3 c κs =
@@ -27,7 +27,7 @@ put-field-requires-3 c κs =
     let f = g .before .before .before .before in
     let s = f .before .before .before in
     let p = s .args .pose in
-    (omega (arith, line-long (poseOf p), f .put-field .ensures .cursor, length-append (digits (p .site)) (44 ∷ []), f .put-field .kept .0, g .put-field2 .ensures .cursor, length-append (digits (p .layout)) (44 ∷ []), g .put-field2 .kept .0), s .pre .1 .mark)
+    (omega (arith, line-long (poseOf p), f .put-field .ensures .cursor, length-append (digits (p .site)) (comma ∷ []), f .put-field .kept .0, g .put-field2 .ensures .cursor, length-append (digits (p .layout)) (comma ∷ []), g .put-field2 .kept .0), s .pre .1 .mark)
 
 same-length : tie.Need-same-length
 same-length c = search needs
