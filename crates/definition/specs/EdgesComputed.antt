@@ -2,22 +2,28 @@
 use mathlib.Core.Path.{refl}
 use mathlib.Core.List.{List, [], _∷_}
 use Rattle.definition.specs.Texts.{Text, bytes, linesOf, ended, fieldsOf, isNumber, valueFrom}
-use Rattle.definition.specs.Job.{firstFailing, headerInRange, headerRefusal, headerOf, layoutsOf, cellOf, restInRange}
-use Rattle.definition.specs.Job.{cellRefusal, readCells, readLines, readJob}
+use Rattle.definition.specs.Job.{firstFailing, headerInRange, headerRefusal, headerOf}
+use Rattle.definition.specs.Job.{layoutsOf, cellOf, restInRange, cellRefusal, readCells, readLines, readJob}
 use Rattle.definition.specs.Placement.{isPose, poseOf, readPoses, readPlacement}
-use Rattle.definition.specs.Rules.{put, sort, order, placeIn, besideOneSite, outOfPlace, lowest, firstBroken, verdict}
+use Rattle.definition.specs.Rules.{put, sort, order, placeIn, besideOneSite, outOfPlace}
 use Rattle.definition.specs.Rules.{breaks1, breaks2, breaks3, breaks4, breaks5, breaks6, breaks7}
-use Rattle.definition.specs.Cost.{differing, stepsAt, stepsIn, steps, shifted, mirrored, changed, cost, totalShift, drift}
+use Rattle.definition.specs.Rules.{lowest, firstBroken, verdict}
+use Rattle.definition.specs.Cost.{differing, stepsAt, stepsIn, steps, shifted, mirrored, changed, cost}
+use Rattle.definition.specs.Cost.{totalShift, drift}
 use Rattle.definition.specs.Outcome.{Outcome, numbers, scoreFields, score}
 use Rattle.definition.specs.Edges.{Case, scoring, placing, edges}
 
 -- a name that opens the definitions, so that texts compute
 unfoldable pub opened : Text → Text → Outcome
 unfolding bytes linesOf ended fieldsOf isNumber valueFrom
-    firstFailing headerInRange headerRefusal headerOf layoutsOf cellOf restInRange cellRefusal readCells readLines readJob
+    firstFailing headerInRange headerRefusal headerOf
+    layoutsOf cellOf restInRange cellRefusal readCells readLines readJob
     isPose poseOf readPoses readPlacement
-    put sort order placeIn besideOneSite outOfPlace breaks1 breaks2 breaks3 breaks4 breaks5 breaks6 breaks7 lowest firstBroken verdict
-    differing stepsAt stepsIn steps shifted mirrored changed cost totalShift drift
+    put sort order placeIn besideOneSite outOfPlace
+    breaks1 breaks2 breaks3 breaks4 breaks5 breaks6 breaks7
+    lowest firstBroken verdict
+    differing stepsAt stepsIn steps shifted mirrored changed cost
+    totalShift drift
     numbers scoreFields score
 opened job placement = score job placement
 

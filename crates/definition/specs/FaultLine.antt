@@ -1,4 +1,5 @@
--- The line that Score reports, as a part of one of its two texts. Document 01, "Operations and their refusals", Fault line.
+-- The line that Score reports, as a part of one of its two texts. Document 01,
+-- "Operations and their refusals", Fault line.
 use Prim.Native.Nat.{ℕ, _+_, _-_, _≤_}
 use mathlib.Core.Path.{_≡_}
 use mathlib.Core.Bool.{cond}
@@ -24,8 +25,9 @@ lineStart text n = sum (λ l. length l) (take (n - 1) (linesOf text))
 abbrev pub lineLength : Text → ℕ → ℕ
 lineLength text n = length (getD (linesOf text) (n - 1) [])
 
--- "the line that Score reports [..] of the job text or of the placement text, with its line feed if it has one. A missing line, or
--- no fault, gives the empty part at the placement's end. A missing first job line gives the empty job text."
+-- "the line that Score reports [..] of the job text or of the placement text, with its line feed
+-- if it has one. A missing line, or no fault, gives the empty part at the placement's end. A
+-- missing first job line gives the empty job text."
 unfoldable pub partAt : ℕ → ℕ → Text → Text → Part
 partAt number line job placement =
     cond (eqb number 0) (ofPlacement (length placement) 0)

@@ -20,7 +20,8 @@ abbrev pub emptyCell : Cell
 emptyCell = record { row = 0; given = 0; mirrorable = false; layouts = 0; first = emptyLayout; second = emptyLayout }
 
 abbrev pub emptyHeader : Header
-emptyHeader = record { rows = 0; sites = 0; displacement = 0; reordering = 0; step = 0; shift = 0; mirror = 0; swap = 0 }
+emptyHeader =
+    record { rows = 0; sites = 0; displacement = 0; reordering = 0; step = 0; shift = 0; mirror = 0; swap = 0 }
 
 abbrev pub emptyJob : Job
 emptyJob = record { header = emptyHeader; count = 0; cells = replicate paper.maxCells emptyCell }

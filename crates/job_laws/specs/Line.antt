@@ -12,7 +12,9 @@ use borrow.Author.Tests.{leb-true, eqb-true}
 use Rattle.definition.specs.Lists.{all}
 use Rattle.definition.specs.Texts.{Text, within}
 use Rattle.definition.specs.Job.{maxSites, maxDisplacement, maxReordering, maxWeight, maxGiven, maxWidth, maxHeight}
-use Rattle.definition.specs.Job.{Layout, Job, nth, numbersOf, headerInRange, headerRefusal, headerOf, layoutSize, layoutsOf, cellOf, layoutInRange, restInRange, shapeInRange, hasRoom, notFalling, cellRefusal}
+use Rattle.definition.specs.Job.{Layout, Job, nth, numbersOf, headerInRange, headerRefusal}
+use Rattle.definition.specs.Job.{headerOf, layoutSize, layoutsOf, cellOf, layoutInRange}
+use Rattle.definition.specs.Job.{restInRange, shapeInRange, hasRoom, notFalling, cellRefusal}
 use Rattle.definition.specs.Rules.{noLayout}
 use Rattle.definition_laws.specs.Sound.{SoundLayout, SoundCell, SoundHeader}
 use Rattle.job_laws.specs.Tests.{test-passed}
@@ -24,11 +26,20 @@ header-sound : (n : List ℕ) → headerInRange n ≡ true → SoundHeader (head
 unfolding headerInRange headerOf
 header-sound n e =
     let weights = all (within 0 maxWeight) (drop 4 n) in
-    let e4 = and-eq-true-iff (within 1 2 (nth n 0) && within 1 maxSites (nth n 1) && within 0 maxDisplacement (nth n 2) && within 0 maxReordering (nth n 3)) weights .0 e in
-    let e3 = and-eq-true-iff (within 1 2 (nth n 0) && within 1 maxSites (nth n 1) && within 0 maxDisplacement (nth n 2)) (within 0 maxReordering (nth n 3)) .0 (e4 .0) in
-    let e2 = and-eq-true-iff (within 1 2 (nth n 0) && within 1 maxSites (nth n 1)) (within 0 maxDisplacement (nth n 2)) .0 (e3 .0) in
+    let e4 =
+    and-eq-true-iff
+    (within 1 2 (nth n 0) && within 1 maxSites (nth n 1) && within 0 maxDisplacement (nth n 2)
+    && within 0 maxReordering (nth n 3)) weights .0 e in
+    let e3 =
+    and-eq-true-iff (within 1 2 (nth n 0) && within 1 maxSites (nth n 1) && within 0 maxDisplacement (nth n 2))
+    (within 0 maxReordering (nth n 3)) .0 (e4 .0) in
+    let e2 =
+    and-eq-true-iff (within 1 2 (nth n 0) && within 1 maxSites (nth n 1))
+    (within 0 maxDisplacement (nth n 2)) .0
+    (e3 .0) in
     let e1 = and-eq-true-iff (within 1 2 (nth n 0)) (within 1 maxSites (nth n 1)) .0 (e2 .0) in
-    let weight : (i : ℕ) → nth n (4 + i) ≤ maxWeight = λ i. rw getD-drop at (all-below 0 maxWeight (drop 4 n) (e4 .1) i) in
+    let weight : (i : ℕ) → nth n (4 + i) ≤ maxWeight =
+    λ i. rw getD-drop at (all-below 0 maxWeight (drop 4 n) (e4 .1) i) in
     record {
       oneRow = within-both 1 2 (nth n 0) (e1 .0) .0;
       twoRows = within-both 1 2 (nth n 0) (e1 .0) .1;
@@ -54,20 +65,25 @@ length-layouts zero size n = refl
 length-layouts (suc k) size n = ap suc (length-layouts k size (drop size n))
 
 -- each layout has all its heights
-heights : (k size : ℕ) (n : List ℕ) → k * size ≤ length n → (i : ℕ) → i < k → length (getD (layoutsOf k size n) i noLayout .heights) ≡ size - 1
+heights : (k size : ℕ) (n : List ℕ) → k * size ≤ length n → (i : ℕ) → i < k
+    → length (getD (layoutsOf k size n) i noLayout .heights) ≡ size - 1
 unfolding layoutsOf
 heights zero size n h i l = absurd (omega arith)
 heights (suc k) size n h zero l = simp (length-drop, length-take) (omega (arith, suc-mul k size))
-heights (suc k) size n h (suc i) l = heights k size (drop size n) (simp length-drop (omega (arith, suc-mul k size))) i (omega arith)
+heights (suc k) size n h (suc i) l =
+    heights k size (drop size n) (simp length-drop (omega (arith, suc-mul k size))) i (omega arith)
 
-layout-sound : (row : ℕ) (l : Layout) → layoutInRange l ≡ true → length (l .heights) ≡ cond (eqb row 2) 8 4 → SoundLayout row l
+layout-sound : (row : ℕ) (l : Layout) → layoutInRange l ≡ true → length (l .heights) ≡ cond (eqb row 2) 8 4
+    → SoundLayout row l
 layout-sound row l e h =
     let t = and-eq-true-iff (within 1 maxWidth (l .width)) (all (within 1 maxHeight) (l .heights)) .0 e in
     record {
       wide = within-both 1 maxWidth (l .width) (t .0) .0;
       narrow = within-both 1 maxWidth (l .width) (t .0) .1;
       heightCount = h;
-      low = λ i k. within-both 1 maxHeight (getD (l .heights) i 0) (all-at (within 1 maxHeight) 0 (l .heights) (t .1) i k) .0;
+      low =
+          λ i k. within-both 1 maxHeight (getD (l .heights) i 0)
+          (all-at (within 1 maxHeight) 0 (l .heights) (t .1) i k) .0;
       high = all-below 1 maxHeight (l .heights) (t .1);
     }
 
@@ -89,7 +105,13 @@ taken j l e =
     let t4 = test-passed 1 _ _ (t3 .1) in
     let t5 = test-passed 2 _ _ (t4 .1) in
     let t6 = test-passed 3 _ _ (t5 .1) in
-    record { shape = t2 .0; count = eqb-true (length n) (4 + nth n 3 * layoutSize (nth n 0)) (t3 .0); rest = t4 .0; room = t5 .0; rises = t6 .0 }
+    record {
+      shape = t2 .0;
+      count = eqb-true (length n) (4 + nth n 3 * layoutSize (nth n 0)) (t3 .0);
+      rest = t4 .0;
+      room = t5 .0;
+      rises = t6 .0;
+    }
 
 pub cell-sound : (j : Job) (n : List ℕ) → Taken j n → SoundCell (j .header) (cellOf n)
 unfolding cellOf restInRange
@@ -107,7 +129,9 @@ cell-sound j n t =
       given = leb-true (nth n 1) maxGiven (and-eq-true-iff (leb (nth n 1) maxGiven) (leb (nth n 2) 1) .0 (rest .0) .0);
       some = omega arith;
       few = omega arith;
-      layout = λ i h. layout-sound (nth n 0) (getD ls i noLayout) (all-at layoutInRange noLayout ls (rest .1) i h) (heights k size (drop 4 n) fits i (omega arith) ∙ less (eqb (nth n 0) 2));
+      layout =
+          λ i h. layout-sound (nth n 0) (getD ls i noLayout) (all-at layoutInRange noLayout ls (rest .1) i h)
+          (heights k size (drop 4 n) fits i (omega arith) ∙ less (eqb (nth n 0) 2));
     }
   where
     less : (t : Bool) → cond t 9 5 - 1 ≡ cond t 8 4

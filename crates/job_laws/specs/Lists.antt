@@ -41,7 +41,8 @@ module _ {A : Type 0} (p : A → Bool) (c : A) where
   keep-more (x ∷ l) = go (p x) (keep-more l)
     where
       go : (t : Bool) → length (keep p (l ++ c ∷ [])) ≡ length (keep p l) + cond (p c) 1 0
-          → length (cond t (x ∷ keep p (l ++ c ∷ [])) (keep p (l ++ c ∷ []))) ≡ length (cond t (x ∷ keep p l) (keep p l)) + cond (p c) 1 0
+          → length (cond t (x ∷ keep p (l ++ c ∷ [])) (keep p (l ++ c ∷ [])))
+          ≡ length (cond t (x ∷ keep p l) (keep p l)) + cond (p c) 1 0
       go true e = omega arith
       go false e = e
 
@@ -55,4 +56,5 @@ which l c d k h = go (ℕ-discrete k (length l))
   where
     go : Dec (k ≡ length l) → Which l c d k
     go (yes e) = new e (ap (λ (i : ℕ). getD (l ++ c ∷ []) i d) e ∙ getD-append-seam l c [] d)
-    go (no n) = let b : k < length l = omega (arith, length-append l (c ∷ [])) in old b (List·getD-append l (c ∷ []) d k b)
+    go (no n) = let b : k < length l = omega (arith, length-append l (c ∷ [])) in
+        old b (List·getD-append l (c ∷ []) d k b)

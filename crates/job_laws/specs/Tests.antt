@@ -5,9 +5,11 @@ use mathlib.Core.Bool.{Bool, true, false}
 use mathlib.Core.List.{List, [], _∷_}
 use native.Mathlib.Omega.{arith}
 use Rattle.definition.specs.Texts.{Text}
-use Rattle.definition.specs.Job.{Job, Reading, refused, firstFailing, numbersOf, headerOf, cellOf, headerRefusal, cellRefusal, withCell, readCells, readLines}
+use Rattle.definition.specs.Job.{Job, Reading, refused, firstFailing, numbersOf, headerOf, cellOf}
+use Rattle.definition.specs.Job.{headerRefusal, cellRefusal, withCell, readCells, readLines}
 
-pub test-passed : (k : ℕ) (a : Bool) (ts : List (ℕ × Bool)) → firstFailing ((suc k, a) ∷ ts) ≡ 0 → (a ≡ true) × (firstFailing ts ≡ 0)
+pub test-passed : (k : ℕ) (a : Bool) (ts : List (ℕ × Bool)) → firstFailing ((suc k, a) ∷ ts) ≡ 0
+    → (a ≡ true) × (firstFailing ts ≡ 0)
 unfolding firstFailing
 test-passed k true ts e = (refl, e)
 test-passed k false ts e = absurd (omega arith)
@@ -22,6 +24,7 @@ unfolding readCells choose
 read-cell-line j at l ls = refl
 
 pub read-header-line : (l : Text) (ls : List Text)
-    → readLines (l ∷ ls) ≡ choose (headerRefusal l) 1 (readCells (record { header = headerOf (numbersOf l); cells = [] }) 2 ls)
+    → readLines (l ∷ ls)
+    ≡ choose (headerRefusal l) 1 (readCells (record { header = headerOf (numbersOf l); cells = [] }) 2 ls)
 unfolding readLines choose
 read-header-line l ls = refl

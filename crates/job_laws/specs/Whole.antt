@@ -1,4 +1,5 @@
--- Every job that the reader accepts is sound: it begins with a sound header and no cell, and each line that is not refused keeps it so.
+-- Every job that the reader accepts is sound: it begins with a sound header and no cell, and
+-- each line that is not refused keeps it so.
 use Prim.Native.Nat.{ℕ, zero, suc, _+_, _≤_, _<_}
 use mathlib.Core.Path.{_≡_, refl, sym, _∙_}
 use mathlib.Core.Bool.{Bool, true, false, not, _||_, cond, and-eq-true-iff}
@@ -9,7 +10,9 @@ use lib.Dec.{leb, ltb}
 use borrow.Author.Tests.{leb-true, ltb-true}
 use Rattle.definition.specs.Lists.{keep}
 use Rattle.definition.specs.Texts.{Text, linesOf}
-use Rattle.definition.specs.Job.{Cell, Job, Reading, accepted, isTall, shareRow, maxTall, maxCells, numbersOf, headerOf, cellOf, headerRefusal, cellRefusal, withCell, readCells, readLines, readJob}
+use Rattle.definition.specs.Job.{Cell, Job, Reading, accepted, isTall, shareRow, maxTall}
+use Rattle.definition.specs.Job.{maxCells, numbersOf, headerOf, cellOf, headerRefusal}
+use Rattle.definition.specs.Job.{cellRefusal, withCell, readCells, readLines, readJob}
 use Rattle.definition.specs.Rules.{noCell, cellAt}
 use Rattle.definition_laws.specs.Sound.{SoundHeader, SoundCell, Sound}
 use Rattle.job_laws.specs.Tests.{choose, read-cell-line, read-header-line}
@@ -27,13 +30,16 @@ module _ (j : Job) (s : Sound j) (n : List ℕ) (t : Taken j n) where
 
   room : (length (j .cells) < maxCells) × (not (isTall c) || ltb (length (keep isTall (j .cells))) maxTall ≡ true)
   room =
-      let e = and-eq-true-iff (ltb (length (j .cells)) maxCells) (not (isTall c) || ltb (length (keep isTall (j .cells))) maxTall) .0 (t .room) in
+      let e =
+      and-eq-true-iff (ltb (length (j .cells)) maxCells)
+      (not (isTall c) || ltb (length (keep isTall (j .cells))) maxTall) .0 (t .room) in
       (ltb-true (length (j .cells)) maxCells (e .0), e .1)
 
   few-tall : length (keep isTall (j .cells ++ c ∷ [])) ≤ maxTall
   few-tall = omega (arith, keep-more isTall c (j .cells), go (isTall c) (room .1))
     where
-      go : (b : Bool) → not b || ltb (length (keep isTall (j .cells))) maxTall ≡ true → length (keep isTall (j .cells)) + cond b 1 0 ≤ maxTall
+      go : (b : Bool) → not b || ltb (length (keep isTall (j .cells))) maxTall ≡ true
+          → length (keep isTall (j .cells)) + cond b 1 0 ≤ maxTall
       go true e = omega (arith, ltb-true (length (keep isTall (j .cells))) maxTall e)
       go false e = omega (arith, s .fewTall)
 
@@ -41,12 +47,16 @@ module _ (j : Job) (s : Sound j) (n : List ℕ) (t : Taken j n) where
   each k (old h e) = rw e (s .cell k h)
   each k (new h e) = rw e (cell-sound j n t)
 
-  rises : (a b : ℕ) → a < b → Which (j .cells) c noCell a → Which (j .cells) c noCell b → shareRow (cellAt more a) (cellAt more b) ≡ true → cellAt more a .given ≤ cellAt more b .given
+  rises : (a b : ℕ) → a < b → Which (j .cells) c noCell a → Which (j .cells) c noCell b
+      → shareRow (cellAt more a) (cellAt more b) ≡ true → cellAt more a .given ≤ cellAt more b .given
   rises a b h (old p e) (old q f) r = rw (e, f) (s .rising a b h q (rw (e, f) at r))
   rises a b h (old p e) (new q f) r =
-      rw (e, f) (below (cellAt j a) (rw (e, f) at r) (all-at (λ d. not (shareRow d c) || leb (d .given) (c .given)) noCell (j .cells) (t .rises) a p))
+      rw (e, f)
+      (below (cellAt j a) (rw (e, f) at r)
+      (all-at (λ d. not (shareRow d c) || leb (d .given) (c .given)) noCell (j .cells) (t .rises) a p))
     where
-      below : (d : Cell) → shareRow d c ≡ true → not (shareRow d c) || leb (d .given) (c .given) ≡ true → d .given ≤ c .given
+      below : (d : Cell) → shareRow d c ≡ true → not (shareRow d c) || leb (d .given) (c .given) ≡ true
+          → d .given ≤ c .given
       below d e u = leb-true (d .given) (c .given) (rw e at u)
   rises a b h (new p e) (old q f) r = absurd (omega arith)
   rises a b h (new p e) (new q f) r = absurd (omega arith)
@@ -72,8 +82,11 @@ cells-sound : (ls : List Text) (at : ℕ) (j j′ : Job) → Sound j → readCel
 unfolding readCells
 cells-sound [] at j j′ s e = let q : j ≡ j′ = cc in rw q at s
 cells-sound (l ∷ ls) at j j′ s e =
-    let c = chosen (cellRefusal j l) at (readCells (withCell j (cellOf (numbersOf l))) (suc at) ls) j′ (sym (read-cell-line j at l ls) ∙ e) in
-    cells-sound ls (suc at) (withCell j (cellOf (numbersOf l))) j′ (more-sound j s (numbersOf l) (taken j l (c .0))) (c .1)
+    let c =
+    chosen (cellRefusal j l) at (readCells (withCell j (cellOf (numbersOf l))) (suc at) ls) j′
+    (sym (read-cell-line j at l ls) ∙ e) in
+    cells-sound ls (suc at) (withCell j (cellOf (numbersOf l))) j′ (more-sound j s (numbersOf l) (taken j l (c .0)))
+    (c .1)
 
 lines-sound : (ls : List Text) (j : Job) → readLines ls ≡ accepted j → Sound j
 unfolding readLines

@@ -13,9 +13,11 @@ spelled i (suc k) l = getD l i 0 ∷ spelled (suc i) k l
 
 pub spell : (i k : ℕ) (l : List ℕ) → length l ≡ i + k → drop i l ≡ spelled i k l
 spell i zero l e = drop-of-length-le l {i = i} (omega arith)
-spell i (suc k) l e = drop-cons l i 0 (omega arith) ∙ ap (λ (m : List ℕ). getD l i 0 ∷ m) (spell (suc i) k l (omega arith))
+spell i (suc k) l e =
+    drop-cons l i 0 (omega arith) ∙ ap (λ (m : List ℕ). getD l i 0 ∷ m) (spell (suc i) k l (omega arith))
 
-spelled-same : (i k : ℕ) (l m : List ℕ) → ((j : ℕ) → j < i + k → getD l j 0 ≡ getD m j 0) → spelled i k l ≡ spelled i k m
+spelled-same : (i k : ℕ) (l m : List ℕ) → ((j : ℕ) → j < i + k → getD l j 0 ≡ getD m j 0)
+    → spelled i k l ≡ spelled i k m
 spelled-same i zero l m e = refl
 spelled-same i (suc k) l m e = rw (e i (omega arith), spelled-same (suc i) k l m (λ j h. e j (omega arith)))
 

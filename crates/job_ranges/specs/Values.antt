@@ -66,8 +66,13 @@ and-right true true false d = refl
 and-right true false c d = refl
 and-right false b c d = refl
 
-pub heights-all : (a b c d : ℕ) → within 1 paper.maxHeight a && within 1 paper.maxHeight b && (within 1 paper.maxHeight c && within 1 paper.maxHeight d) ≡ all (within 1 paper.maxHeight) (a ∷ b ∷ c ∷ d ∷ [])
-heights-all a b c d = and-right (within 1 paper.maxHeight a) (within 1 paper.maxHeight b) (within 1 paper.maxHeight c) (within 1 paper.maxHeight d)
+pub heights-all : (a b c d : ℕ)
+    → within 1 paper.maxHeight a && within 1 paper.maxHeight b
+    && (within 1 paper.maxHeight c && within 1 paper.maxHeight d)
+    ≡ all (within 1 paper.maxHeight) (a ∷ b ∷ c ∷ d ∷ [])
+heights-all a b c d =
+    and-right (within 1 paper.maxHeight a) (within 1 paper.maxHeight b) (within 1 paper.maxHeight c)
+    (within 1 paper.maxHeight d)
 
 and-one : (a : Bool) → a && true ≡ a
 and-one true = refl
@@ -75,16 +80,20 @@ and-one false = refl
 
 -- the ranges of a header whose least numbers are 0 or more
 pub header-all : (h : Header)
-    → within 1 2 (h .rows) && within 1 paper.maxSites (h .sites) && leb (h .displacement) paper.maxDisplacement && leb (h .reordering) paper.maxReordering
+    → within 1 2 (h .rows) && within 1 paper.maxSites (h .sites) && leb (h .displacement) paper.maxDisplacement
+    && leb (h .reordering) paper.maxReordering
     && (leb (h .step) paper.maxWeight
     && (leb (h .shift) paper.maxWeight && (leb (h .mirror) paper.maxWeight && leb (h .swap) paper.maxWeight)))
     ≡ paper.headerInRange (listed h)
 unfolding paper.headerInRange
 header-all h = simp (leb·zero, and-one)
 
-all-append : (l m : List ℕ) → all (within 1 paper.maxHeight) (l ++ m) ≡ all (within 1 paper.maxHeight) l && all (within 1 paper.maxHeight) m
+all-append : (l m : List ℕ)
+    → all (within 1 paper.maxHeight) (l ++ m) ≡ all (within 1 paper.maxHeight) l && all (within 1 paper.maxHeight) m
 all-append [] m = refl
-all-append (x ∷ l) m = rw (all-append l m) (and-assoc (within 1 paper.maxHeight x) (all (within 1 paper.maxHeight) l) (all (within 1 paper.maxHeight) m))
+all-append (x ∷ l) m =
+    rw (all-append l m)
+    (and-assoc (within 1 paper.maxHeight x) (all (within 1 paper.maxHeight) l) (all (within 1 paper.maxHeight) m))
   where
     and-assoc : (a b c : Bool) → a && (b && c) ≡ a && b && c
     and-assoc true b c = refl
@@ -94,16 +103,25 @@ module _ (l : Layout) (e : length (l .heights) ≡ 8) where
   spelt : l .heights ≡ spelled 0 8 (l .heights)
   spelt = spell-as 8 (l .heights) (l .heights) e (λ j h. refl)
 
-  pub layout-single : (row : ℕ) → (row ≡ 2 → ⊥) → within 1 paper.maxWidth (l .width) && all (within 1 paper.maxHeight) (spelled 0 4 (l .heights)) ≡ paper.layoutInRange (layoutOf row l)
+  pub layout-single : (row : ℕ) → (row ≡ 2 → ⊥)
+      → within 1 paper.maxWidth (l .width) && all (within 1 paper.maxHeight) (spelled 0 4 (l .heights))
+      ≡ paper.layoutInRange (layoutOf row l)
   layout-single row n =
-      let h : take (heightCount row) (l .heights) ≡ spelled 0 4 (l .heights) = rw (ne-eqb row 2 n) (ap (take 4) spelt) in
+      let h : take (heightCount row) (l .heights) ≡ spelled 0 4 (l .heights) =
+      rw (ne-eqb row 2 n) (ap (take 4) spelt) in
       rw h
 
   pub layout-tall : (row : ℕ) → row ≡ 2
-      → within 1 paper.maxWidth (l .width) && (all (within 1 paper.maxHeight) (spelled 0 4 (l .heights)) && all (within 1 paper.maxHeight) (spelled 4 4 (l .heights))) ≡ paper.layoutInRange (layoutOf row l)
+      → within 1 paper.maxWidth (l .width)
+      && (all (within 1 paper.maxHeight) (spelled 0 4 (l .heights))
+      && all (within 1 paper.maxHeight) (spelled 4 4 (l .heights)))
+      ≡ paper.layoutInRange (layoutOf row l)
   layout-tall row n =
-      let h : take (heightCount row) (l .heights) ≡ spelled 0 8 (l .heights) = rw (eq-eqb row 2 n) (ap (take 8) spelt) in
-      rw h (ap (λ (t : Bool). within 1 paper.maxWidth (l .width) && t) (sym (all-append (spelled 0 4 (l .heights)) (spelled 4 4 (l .heights)))))
+      let h : take (heightCount row) (l .heights) ≡ spelled 0 8 (l .heights) =
+      rw (eq-eqb row 2 n) (ap (take 8) spelt) in
+      rw h
+      (ap (λ (t : Bool). within 1 paper.maxWidth (l .width) && t)
+      (sym (all-append (spelled 0 4 (l .heights)) (spelled 4 4 (l .heights)))))
 
 abbrev fits : ℕ → Layout → Bool
 fits row l = paper.layoutInRange (layoutOf row l)
@@ -116,8 +134,11 @@ pub layouts-two : (c : Cell) → (c .layouts ≡ 0 → ⊥) → (c .layouts ≡ 
 layouts-two c n m = go (c .layouts) n m
   where
     go : (k : ℕ) → (k ≡ 0 → ⊥) → (k ≡ 1 → ⊥)
-        → fits (c .row) (c .first) && fits (c .row) (c .second) ≡ all paper.layoutInRange (take k (layoutOf (c .row) (c .first) ∷ layoutOf (c .row) (c .second) ∷ []))
+        → fits (c .row) (c .first) && fits (c .row) (c .second)
+        ≡ all paper.layoutInRange (take k (layoutOf (c .row) (c .first) ∷ layoutOf (c .row) (c .second) ∷ []))
     go zero n m = absurd (n refl)
     go (suc zero) n m = absurd (m refl)
-    go (suc (suc zero)) n m = ap (λ (t : Bool). fits (c .row) (c .first) && t) (sym (and-one (fits (c .row) (c .second))))
-    go (suc (suc (suc k))) n m = ap (λ (t : Bool). fits (c .row) (c .first) && t) (sym (and-one (fits (c .row) (c .second))))
+    go (suc (suc zero)) n m =
+        ap (λ (t : Bool). fits (c .row) (c .first) && t) (sym (and-one (fits (c .row) (c .second))))
+    go (suc (suc (suc k))) n m =
+        ap (λ (t : Bool). fits (c .row) (c .first) && t) (sym (and-one (fits (c .row) (c .second))))

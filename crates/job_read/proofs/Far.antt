@@ -84,7 +84,8 @@ module _ {text : Text} {from : ℕ} {h : Header} {cells : List Cell} {t : Tally}
             s .same
             ∙ ap (paper.readCells j line) (lines k)
             ∙ read-cell-line j line (lineAt text at) ls
-            ∙ ap (λ (m : ℕ). choose m line (paper.readCells (paper.withCell j (paper.cellOf (paper.numbersOf (lineAt text at)))) (suc line) ls)) (sym (r .number j (s .tallies)) ∙ z)
+            ∙ ap (λ (m : ℕ). choose m line (paper.readCells (paper.withCell j (paper.cellOf (paper.numbersOf (lineAt text at)))) (suc line) ls))
+            (sym (r .number j (s .tallies)) ∙ z)
             ∙ ap (λ (x : paper.Cell). paper.readCells (paper.withCell j x) (suc line) ls) (sym (to .cell))
             ∙ ap (λ (x : paper.Job). paper.readCells x (suc line) ls) (sym g)
             ∙ ap (λ (m : ℕ). paper.readCells (sofar h (n + 1) (set cells n (l .cell))) m ls) (sym (add-one line))
@@ -110,7 +111,9 @@ module _ {text : Text} {from : ℕ} {h : Header} {cells : List Cell} {t : Tally}
   }
 
   -- the text ends
-  pub far-out : length text ≤ at → Reads (paper.readCells (begun h) 2 (linesOf (drop from text))) (record { number = 0; line = 0; job = record { header = h; count = t .count; cells = cells } })
+  pub far-out : length text ≤ at
+      → Reads (paper.readCells (begun h) 2 (linesOf (drop from text)))
+      (record { number = 0; line = 0; job = record { header = h; count = t .count; cells = cells } })
   unfolding readingOf jobOf linesOf paper.readCells
   far-out k = record {
     same = sym (s .same ∙ ap (λ (l : Text). paper.readCells (sofar h (t .count) cells) line (linesOf l)) (drop-of-length-le text k));
@@ -129,7 +132,8 @@ no-text (b ∷ text) any e = absurd (omega arith)
 
 module _ (text : Text) (some : 0 < length text) where
   head : paper.readJob text
-      ≡ choose (paper.headerRefusal (firstLine text)) 1 (paper.readCells (record { header = paper.headerOf (paper.numbersOf (firstLine text)); cells = [] }) 2 (linesOf (afterLine text)))
+      ≡ choose (paper.headerRefusal (firstLine text)) 1
+      (paper.readCells (record { header = paper.headerOf (paper.numbersOf (firstLine text)); cells = [] }) 2 (linesOf (afterLine text)))
   unfolding paper.readJob
   head = ap paper.readLines (all-lines text some) ∙ read-header-line (firstLine text) (linesOf (afterLine text))
     where
@@ -137,11 +141,18 @@ module _ (text : Text) (some : 0 < length text) where
       all-lines [] k = absurd (omega arith)
       all-lines (b ∷ text) k = lines-first b text
 
-  pub head-refused : (h : Head) → HeadLine text h → (h .number ≡ 0 → ⊥) → (any : Job) → Reads (paper.readJob text) (record { number = h .number; line = 1; job = any })
+  pub head-refused : (h : Head) → HeadLine text h → (h .number ≡ 0 → ⊥) → (any : Job)
+      → Reads (paper.readJob text) (record { number = h .number; line = 1; job = any })
   unfolding readingOf
   head-refused h r z any =
       let more = paper.readCells (record { header = paper.headerOf (paper.numbersOf (firstLine text)); cells = [] }) 2 (linesOf (afterLine text)) in
-      record { same = refuse (h .number) 1 any more z ∙ ap (λ (n : ℕ). choose n 1 more) (r .number) ∙ sym head; number = r .few; line = omega arith; few = λ e. absurd (z e); long = λ e. absurd (z e) }
+      record {
+        same = refuse (h .number) 1 any more z ∙ ap (λ (n : ℕ). choose n 1 more) (r .number) ∙ sym head;
+        number = r .few;
+        line = omega arith;
+        few = λ e. absurd (z e);
+        long = λ e. absurd (z e);
+      }
 
   pub head-on : (h : Head) → HeadLine text h → h .number ≡ 0 → paper.readCells (begun (h .header)) 2 (linesOf (drop (h .next) text)) ≡ paper.readJob text
   unfolding choose

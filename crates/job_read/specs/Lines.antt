@@ -1,4 +1,5 @@
--- The refusal of a line by its numbers in an array and by what is kept of the cells before it. It is document 01's refusal of that line.
+-- The refusal of a line by its numbers in an array and by what is kept of the cells before
+-- it. It is document 01's refusal of that line.
 use Prim.Native.Nat.{ℕ, suc, _+_, _*_, _≤_, _<_}
 use mathlib.Core.Path.{_≡_, refl, sym, ap, _∙_}
 use mathlib.Core.Bool.{Bool, true, false, _&&_, cond, and-eq-true-iff}
@@ -39,7 +40,8 @@ cellNumber t ok count mark c = paper.firstFailing (
 -- ---- the first test that fails
 
 -- two lists of tests, of which the second has the same answer as long as the answers so far are true
-pub test-same : (k : ℕ) (a b : Bool) (ts us : List (ℕ × Bool)) → a ≡ b → (a ≡ true → paper.firstFailing ts ≡ paper.firstFailing us)
+pub test-same : (k : ℕ) (a b : Bool) (ts us : List (ℕ × Bool)) → a ≡ b
+    → (a ≡ true → paper.firstFailing ts ≡ paper.firstFailing us)
     → paper.firstFailing ((k, a) ∷ ts) ≡ paper.firstFailing ((k, b) ∷ us)
 unfolding paper.firstFailing
 test-same k a true ts us e f = rw (e, f e)
@@ -66,7 +68,8 @@ tests-tried (t ∷ ts) e = go (t .1) (tests-tried ts (p .1))
     p : (ltb 0 (t .0) ≡ true) × (all (λ t. ltb 0 (t .0)) ts ≡ true)
     p = and-eq-true-iff (ltb 0 (t .0)) (all (λ t. ltb 0 (t .0)) ts) .0 e
 
-    go : (a : Bool) → chain 0 ts ≡ paper.firstFailing ts → chain (cond a 0 (t .0)) ts ≡ cond a (paper.firstFailing ts) (t .0)
+    go : (a : Bool) → chain 0 ts ≡ paper.firstFailing ts
+        → chain (cond a 0 (t .0)) ts ≡ cond a (paper.firstFailing ts) (t .0)
     go true h = h
     go false h = let b = ltb-true 0 (t .0) (p .0) in stays (t .0) (λ z. omega arith) ts
 
@@ -99,25 +102,41 @@ module _ (lead : ℕ) (text : Text) (at : ℕ) (r : Numbers) (l : LedFrom lead t
   fields-count : r .ok ≡ true → suc (r .count) ≡ length (fieldsOf (lineAt text at))
   unfolding led
   fields-count e =
-      let t = and-eq-true-iff (paper.formed lead (lineAt text at)) (leb 2 (length (fieldsOf (lineAt text at)))) .0 (sym (l .ok) ∙ e) in
-      omega (arith, l .found e .count, length-drop 1 (fieldsOf (lineAt text at)), leb-true 2 (length (fieldsOf (lineAt text at))) (t .1))
+      let t =
+      and-eq-true-iff (paper.formed lead (lineAt text at)) (leb 2 (length (fieldsOf (lineAt text at)))) .0
+      (sym (l .ok) ∙ e) in
+      omega (
+        arith,
+        l .found e .count,
+        length-drop 1 (fieldsOf (lineAt text at)),
+        leb-true 2 (length (fieldsOf (lineAt text at))) (t .1),
+      )
 
-  -- A first test: it asks something of how many fields there are, two at least, and the code asks the same of how many numbers.
-  first-test : (n : Bool) (p : ℕ → Bool) → (p (length (fieldsOf (lineAt text at))) ≡ true → 2 ≤ length (fieldsOf (lineAt text at)))
-      → (suc (r .count) ≡ length (fieldsOf (lineAt text at)) → n ≡ p (length (fieldsOf (lineAt text at)))) → r .ok && n ≡ paper.formed lead (lineAt text at) && p (length (fieldsOf (lineAt text at)))
+  -- A first test: it asks something of how many fields there are, two at least, and
+  -- the code asks the same of how many numbers.
+  first-test : (n : Bool) (p : ℕ → Bool)
+      → (p (length (fieldsOf (lineAt text at))) ≡ true → 2 ≤ length (fieldsOf (lineAt text at)))
+      → (suc (r .count) ≡ length (fieldsOf (lineAt text at)) → n ≡ p (length (fieldsOf (lineAt text at))))
+      → r .ok && n ≡ paper.formed lead (lineAt text at) && p (length (fieldsOf (lineAt text at)))
   unfolding led
   first-test n p h e = go (r .ok) refl
     where
-      none : (f u : Bool) → f && leb 2 (length (fieldsOf (lineAt text at))) ≡ false → (u ≡ true → 2 ≤ length (fieldsOf (lineAt text at))) → false ≡ f && u
-      none true true q k = let b = leb-false 2 (length (fieldsOf (lineAt text at))) q in let m = k refl in absurd (omega arith)
+      none : (f u : Bool) → f && leb 2 (length (fieldsOf (lineAt text at))) ≡ false
+          → (u ≡ true → 2 ≤ length (fieldsOf (lineAt text at))) → false ≡ f && u
+      none true true q k = let b = leb-false 2 (length (fieldsOf (lineAt text at))) q in let m = k refl in
+          absurd (omega arith)
       none true false q k = refl
       none false u q k = refl
 
-      go : (o : Bool) → r .ok ≡ o → r .ok && n ≡ paper.formed lead (lineAt text at) && p (length (fieldsOf (lineAt text at)))
+      go : (o : Bool) → r .ok ≡ o
+          → r .ok && n ≡ paper.formed lead (lineAt text at) && p (length (fieldsOf (lineAt text at)))
       go true q =
-          let t = and-eq-true-iff (paper.formed lead (lineAt text at)) (leb 2 (length (fieldsOf (lineAt text at)))) .0 (sym (l .ok) ∙ q) in
+          let t =
+          and-eq-true-iff (paper.formed lead (lineAt text at)) (leb 2 (length (fieldsOf (lineAt text at)))) .0
+          (sym (l .ok) ∙ q) in
           rw (q, t .0) (e (fields-count q))
-      go false q = rw q (none (paper.formed lead (lineAt text at)) (p (length (fieldsOf (lineAt text at)))) (sym (l .ok) ∙ q) h)
+      go false q =
+          rw q (none (paper.formed lead (lineAt text at)) (p (length (fieldsOf (lineAt text at)))) (sym (l .ok) ∙ q) h)
 
   numbers-count : (e : r .ok ≡ true) → length (paper.numbersOf (lineAt text at)) ≡ r .count
   numbers-count e = length-map (drop 1 (fieldsOf (lineAt text at))) value ∙ sym (l .found e .count)
@@ -125,7 +144,8 @@ module _ (lead : ℕ) (text : Text) (at : ℕ) (r : Numbers) (l : LedFrom lead t
 -- ---- the header line
 
 module _ (text : Text) (at : ℕ) (r : Numbers) (l : LedFrom paper.headerLead text at r) where
-  head-first : r .ok && eqb (r .count) 8 ≡ paper.formed paper.headerLead (lineAt text at) && eqb (length (fieldsOf (lineAt text at))) 9
+  head-first : r .ok && eqb (r .count) 8
+      ≡ paper.formed paper.headerLead (lineAt text at) && eqb (length (fieldsOf (lineAt text at))) 9
   head-first =
       first-test paper.headerLead text at r l (eqb (r .count) 8) (λ n. eqb n 9)
       (λ e. let q = eqb-true (length (fieldsOf (lineAt text at))) 9 e in omega arith)
@@ -143,7 +163,10 @@ module _ (text : Text) (at : ℕ) (r : Numbers) (l : LedFrom paper.headerLead te
       test-same 1 _ _ _ _ head-first
       (λ e.
       let p = head-passed e in
-      test-same 2 _ _ _ _ (ap paper.headerInRange (sym (header-listed (paper.numbersOf (lineAt text at)) (r .values) (l .found (p .0) .values) (p .1)))) (λ _. refl))
+      test-same 2 _ _ _ _
+      (ap paper.headerInRange
+      (sym (header-listed (paper.numbersOf (lineAt text at)) (r .values) (l .found (p .0) .values) (p .1))))
+      (λ _. refl))
 
   pub head-read : headNumber (r .ok) (r .count) (headerIn (r .values)) ≡ 0
       → (r .ok ≡ true) × (headerOf (headerIn (r .values)) ≡ paper.headerOf (paper.numbersOf (lineAt text at)))
@@ -155,7 +178,8 @@ module _ (text : Text) (at : ℕ) (r : Numbers) (l : LedFrom paper.headerLead te
 -- ---- a cell line
 
 module _ (text : Text) (at : ℕ) (r : Numbers) (l : LedFrom paper.cellLead text at r) where
-  cell-first : r .ok && leb 4 (r .count) ≡ paper.formed paper.cellLead (lineAt text at) && leb 5 (length (fieldsOf (lineAt text at)))
+  cell-first : r .ok && leb 4 (r .count)
+      ≡ paper.formed paper.cellLead (lineAt text at) && leb 5 (length (fieldsOf (lineAt text at)))
   cell-first =
       first-test paper.cellLead text at r l (leb 4 (r .count)) (λ n. leb 5 n)
       (λ e. let q = leb-true 5 (length (fieldsOf (lineAt text at))) e in omega arith)
@@ -165,18 +189,24 @@ module _ (text : Text) (at : ℕ) (r : Numbers) (l : LedFrom paper.cellLead text
   numbers = paper.numbersOf (lineAt text at)
 
   -- the cell of a line whose field count fits its row and layouts
-  made : r .ok ≡ true → within 1 2 (getD (r .values) 3 0) ≡ true → eqb (r .count) (4 + getD (r .values) 3 0 * paper.layoutSize (getD (r .values) 0 0)) ≡ true
+  made : r .ok ≡ true → within 1 2 (getD (r .values) 3 0) ≡ true
+      → eqb (r .count) (4 + getD (r .values) 3 0 * paper.layoutSize (getD (r .values) 0 0)) ≡ true
       → cellOf (cellIn (r .values)) ≡ paper.cellOf numbers
   made o w e =
       let v = l .found o .values in
       let k = getD (r .values) 3 0 in
       let b = and-eq-true-iff (leb 1 k) (leb k 2) .0 w in
       let v3 = v 3 (omega arith) in
-      let size = numbers-count paper.cellLead text at r l o ∙ eqb-true (r .count) (4 + k * paper.layoutSize (getD (r .values) 0 0)) e in
-      cell-made numbers (r .values) v (omega (arith, v3, leb-true 1 k (b .0))) (omega (arith, v3, leb-true k 2 (b .1))) (size ∙ rw (v3, v 0 (omega arith)))
+      let size =
+      numbers-count paper.cellLead text at r l o
+      ∙ eqb-true (r .count) (4 + k * paper.layoutSize (getD (r .values) 0 0)) e in
+      cell-made numbers (r .values) v (omega (arith, v3, leb-true 1 k (b .0)))
+      (omega (arith, v3, leb-true k 2 (b .1)))
+      (size ∙ rw (v3, v 0 (omega arith)))
 
   pub cell-number : (t : Tally) (j : paper.Job) → Tallies j t
-      → cellNumber t (r .ok) (r .count) (getD (r .values) 2 0) (cellIn (r .values)) ≡ paper.cellRefusal j (lineAt text at)
+      → cellNumber t (r .ok) (r .count) (getD (r .values) 2 0) (cellIn (r .values))
+      ≡ paper.cellRefusal j (lineAt text at)
   unfolding cellNumber paper.cellRefusal paper.restInRange paper.cellOf cellOf
   cell-number t j s =
       test-same 1 _ _ _ _ cell-first
@@ -189,10 +219,15 @@ module _ (text : Text) (at : ℕ) (r : Numbers) (l : LedFrom paper.cellLead text
       (λ e2.
       test-same 1 _ _ _ _ (rw (v0, v3, numbers-count paper.cellLead text at r l o))
       (λ e3.
-      let c = made o (and-eq-true-iff (leb (getD (r .values) 0 0) (cond (eqb (t .rows) 2) 2 0)) (within 1 2 (getD (r .values) 3 0)) .0 e2 .1) e3 in
+      let c =
+      made o
+      (and-eq-true-iff (leb (getD (r .values) 0 0) (cond (eqb (t .rows) 2) 2 0))
+      (within 1 2 (getD (r .values) 3 0)) .0 e2 .1) e3 in
       let m : layoutsOf (cellIn (r .values)) ≡ paper.cellOf numbers .layouts = ap (λ (x : paper.Cell). x .layouts) c in
       test-same 2 _ _ _ _ (rw (m, v 1 (omega arith), v 2 (omega arith)))
-      (λ e4. test-same 3 _ _ _ _ (ap (room t) v0 ∙ room-cells s (paper.cellOf numbers)) (λ e5. test-same 4 _ _ _ _ (rw (v0, v 1 (omega arith)) (rises-tally s (paper.cellOf numbers))) (λ e6. refl))))))
+      (λ e4. test-same 3 _ _ _ _ (ap (room t) v0 ∙ room-cells s (paper.cellOf numbers))
+      (λ e5. test-same 4 _ _ _ _ (rw (v0, v 1 (omega arith)) (rises-tally s (paper.cellOf numbers)))
+      (λ e6. refl))))))
 
   -- what a line that is not refused says
   pub record Passed (t : Tally) : Type 0 where
@@ -200,7 +235,8 @@ module _ (text : Text) (at : ℕ) (r : Numbers) (l : LedFrom paper.cellLead text
     pub cell : cellOf (cellIn (r .values)) ≡ paper.cellOf numbers
     pub few : t .count < paper.maxCells
 
-  pub cell-passed : (t : Tally) → cellNumber t (r .ok) (r .count) (getD (r .values) 2 0) (cellIn (r .values)) ≡ 0 → Passed t
+  pub cell-passed : (t : Tally) → cellNumber t (r .ok) (r .count) (getD (r .values) 2 0) (cellIn (r .values)) ≡ 0
+      → Passed t
   unfolding cellNumber
   cell-passed t e =
       let p1 = test-passed 0 _ _ e in
@@ -211,6 +247,10 @@ module _ (text : Text) (at : ℕ) (r : Numbers) (l : LedFrom paper.cellLead text
       let o = and-eq-true-iff (r .ok) (leb 4 (r .count)) .0 (p1 .0) .0 in
       record {
         ok = o;
-        cell = made o (and-eq-true-iff (leb (getD (r .values) 0 0) (cond (eqb (t .rows) 2) 2 0)) (within 1 2 (getD (r .values) 3 0)) .0 (p2 .0) .1) (p3 .0);
+        cell =
+            made o
+            (and-eq-true-iff (leb (getD (r .values) 0 0) (cond (eqb (t .rows) 2) 2 0))
+            (within 1 2 (getD (r .values) 3 0)) .0 (p2 .0) .1)
+            (p3 .0);
         few = ltb-true (t .count) paper.maxCells (and-eq-true-iff (ltb (t .count) paper.maxCells) _ .0 (p5 .0) .0);
       }

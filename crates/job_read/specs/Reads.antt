@@ -72,7 +72,8 @@ pub reads-accepted : {o : paper.Reading} {r : Reading} → Reads o r → r .numb
 unfolding readingOf
 reads-accepted {o} {r} s e = sym (s .same) ∙ ap (λ (n : ℕ). readingBy n (r .line) (r .job)) e
 
-pub reads-refused : {o : paper.Reading} {r : Reading} → Reads o r → (r .number ≡ 0 → ⊥) → o ≡ paper.refused (r .number) (r .line)
+pub reads-refused : {o : paper.Reading} {r : Reading} → Reads o r → (r .number ≡ 0 → ⊥)
+    → o ≡ paper.refused (r .number) (r .line)
 unfolding readingOf
 reads-refused {o} {r} s z = sym (s .same) ∙ go (r .number) z
   where
@@ -81,9 +82,11 @@ reads-refused {o} {r} s z = sym (s .same) ∙ go (r .number) z
     go (suc n) z = refl
 
 -- how many cells the job has
-pub reads-count : {o : paper.Reading} {r : Reading} → Reads o r → r .number ≡ 0 → length (jobOf (r .job) .cells) ≡ r .job .count
+pub reads-count : {o : paper.Reading} {r : Reading} → Reads o r → r .number ≡ 0
+    → length (jobOf (r .job) .cells) ≡ r .job .count
 unfolding jobOf
 reads-count {o} {r} s e =
     let l = s .long e in
     let f = s .few e in
-    length-map (take (r .job .count) (r .job .cells)) cellOf ∙ length-take-le (r .job .count) (r .job .cells) (omega arith)
+    length-map (take (r .job .count) (r .job .cells)) cellOf
+    ∙ length-take-le (r .job .count) (r .job .cells) (omega arith)

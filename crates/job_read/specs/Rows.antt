@@ -1,4 +1,5 @@
--- What is kept of the cells read so far, and that it decides whether one more finds room and does not fall. Stated for a row in general.
+-- What is kept of the cells read so far, and that it decides whether one more finds room and
+-- does not fall. Stated for a row in general.
 use Prim.Native.Nat.{ℕ, suc, _+_, _≤_, max}
 use mathlib.Core.Path.{_≡_, refl, sym, _∙_}
 use mathlib.Core.Bool.{Bool, true, false, not, _&&_, _||_, cond}
@@ -38,12 +39,14 @@ tallyWith t row given = record {
   second = max (t .second) (cond (held 1 row) given 0);
 }
 
-top-more : (row : ℕ) (cs : List Cell) (c : Cell) → topIn row (cs ++ c ∷ []) ≡ max (topIn row cs) (cond (inRow row c) (c .given) 0)
+top-more : (row : ℕ) (cs : List Cell) (c : Cell)
+    → topIn row (cs ++ c ∷ []) ≡ max (topIn row cs) (cond (inRow row c) (c .given) 0)
 unfolding topIn
 top-more row [] c = omega arith
 top-more row (d ∷ cs) c = let e = top-more row cs c in omega arith
 
-pub tallies-more : {j : Job} {t : Tally} → Tallies j t → (c : Cell) → Tallies (withCell j c) (tallyWith t (c .row) (c .given))
+pub tallies-more : {j : Job} {t : Tally} → Tallies j t → (c : Cell)
+    → Tallies (withCell j c) (tallyWith t (c .row) (c .given))
 tallies-more {j} {t} s c = record {
   rows = s .rows;
   count = rw (s .count) (sym (length-append (j .cells) (c ∷ [])));
@@ -56,7 +59,8 @@ pub few-tall : (cs : List Cell) → length (keep isTall cs) ≤ length cs
 few-tall [] = omega arith
 few-tall (c ∷ cs) = go (isTall c) (few-tall cs)
   where
-    go : (t : Bool) → length (keep isTall cs) ≤ length cs → length (cond t (c ∷ keep isTall cs) (keep isTall cs)) ≤ suc (length cs)
+    go : (t : Bool) → length (keep isTall cs) ≤ length cs
+        → length (cond t (c ∷ keep isTall cs) (keep isTall cs)) ≤ suc (length cs)
     go true h = omega arith
     go false h = omega arith
 
@@ -77,13 +81,17 @@ leb-max a b g = go (leb a g) (leb b g) refl refl
     go false t p q = lt-leb (max a b) g (omega (arith, leb-false a g p))
 
 -- of one row: no cell of it is given above g, if the test asks about it at all
-row-rises : (row g : ℕ) (asked : Bool) (cs : List Cell) → all (λ d. not (inRow row d && asked) || leb (d .given) g) cs ≡ not asked || leb (topIn row cs) g
+row-rises : (row g : ℕ) (asked : Bool) (cs : List Cell)
+    → all (λ d. not (inRow row d && asked) || leb (d .given) g) cs ≡ not asked || leb (topIn row cs) g
 unfolding topIn
 row-rises row g true [] = sym (leb·zero g)
 row-rises row g false [] = refl
-row-rises row g asked (d ∷ cs) = rw (row-rises row g asked cs, leb-max (cond (inRow row d) (d .given) 0) (topIn row cs) g) (go (inRow row d) asked)
+row-rises row g asked (d ∷ cs) =
+    rw (row-rises row g asked cs, leb-max (cond (inRow row d) (d .given) 0) (topIn row cs) g) (go (inRow row d) asked)
   where
-    go : (t asked : Bool) → (not (t && asked) || leb (d .given) g) && (not asked || leb (topIn row cs) g) ≡ not asked || (leb (cond t (d .given) 0) g && leb (topIn row cs) g)
+    go : (t asked : Bool)
+        → (not (t && asked) || leb (d .given) g) && (not asked || leb (topIn row cs) g)
+        ≡ not asked || (leb (cond t (d .given) 0) g && leb (topIn row cs) g)
     go true true = refl
     go true false = refl
     go false true = rw (leb·zero g)
@@ -100,9 +108,11 @@ all-and f g h e (d ∷ cs) = rw (e d, all-and f g h e cs) (go (g d) (h d) (all g
     go false b c d = refl
 
 rises-cells : (cs : List Cell) (c : Cell)
-    → (not (inRow 0 c) || leb (topIn 0 cs) (c .given)) && (not (inRow 1 c) || leb (topIn 1 cs) (c .given)) ≡ notFalling cs c
+    → (not (inRow 0 c) || leb (topIn 0 cs) (c .given)) && (not (inRow 1 c) || leb (topIn 1 cs) (c .given))
+    ≡ notFalling cs c
 rises-cells cs c =
-    sym (all-and (λ d. not (shareRow d c) || leb (d .given) (c .given)) (one 0) (one 1) (λ d. go (inRow 0 d && inRow 0 c) (inRow 1 d && inRow 1 c) (leb (d .given) (c .given))) cs
+    sym (all-and (λ d. not (shareRow d c) || leb (d .given) (c .given)) (one 0) (one 1)
+    (λ d. go (inRow 0 d && inRow 0 c) (inRow 1 d && inRow 1 c) (leb (d .given) (c .given))) cs
     ∙ rw (row-rises 0 (c .given) (inRow 0 c) cs, row-rises 1 (c .given) (inRow 1 c) cs))
   where
     one : ℕ → Cell → Bool

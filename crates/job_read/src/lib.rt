@@ -19,7 +19,8 @@ use job_ranges::layouts_fit;
 use job_ranges::shape_fits;
 use text_scan::read_led;
 
-// What is kept of the cells read so far: the header's rows, how many cells and tall cells, and the highest given site of each row.
+// What is kept of the cells read so far: the header's rows, how many cells and tall
+// cells, and the highest given site of each row.
 pub struct Tally {
     pub rows: u32,
     pub count: usize,

@@ -16,7 +16,8 @@ module _ (number line : ℕ) (job placement : Text) where
   unfolding partAt
   no-fault e = record { names = rw (eq-eqb number 0 e); which = omega arith; within = omega arith }
 
-  pub in-placement : number ≡ 5 → (s : Span) → LineAt placement line s → PieceOf (partAt number line job placement) job placement (record { which = 1; start = s .start; size = s .size })
+  pub in-placement : number ≡ 5 → (s : Span) → LineAt placement line s
+      → PieceOf (partAt number line job placement) job placement (record { which = 1; start = s .start; size = s .size })
   unfolding partAt
   in-placement e s l = record {
     names = rw (ne-eqb number 0 (λ z. omega arith), eq-eqb number 5 e) (ap₂ ofPlacement (l .start) (l .size));
@@ -24,7 +25,8 @@ module _ (number line : ℕ) (job placement : Text) where
     within = l .within;
   }
 
-  pub in-job : (number ≡ 0 → ⊥) → (number ≡ 5 → ⊥) → (s : Span) → LineAt job line s → PieceOf (partAt number line job placement) job placement (record { which = 0; start = s .start; size = s .size })
+  pub in-job : (number ≡ 0 → ⊥) → (number ≡ 5 → ⊥) → (s : Span) → LineAt job line s
+      → PieceOf (partAt number line job placement) job placement (record { which = 0; start = s .start; size = s .size })
   unfolding partAt
   in-job d e s l = record {
     names = rw (ne-eqb number 0 d, ne-eqb number 5 e) (ap₂ ofJob (l .start) (l .size));

@@ -56,7 +56,8 @@ fn reported(job: &[u8], placement: &[u8]) -> Refusal
 
 // Where the line is that Score reports.
 pub fn fault_piece(job: &[u8], placement: &[u8]) -> Piece
-    ensures { λ r. ⌜ PieceOf (faultLine (now (job .entry)) (now (placement .entry))) (now (job .entry)) (now (placement .entry)) r ⌝ }
+    ensures { λ r. ⌜ PieceOf (faultLine (now (job .entry)) (now (placement .entry)))
+        (now (job .entry)) (now (placement .entry)) r ⌝ }
 {
     let f = reported(job, placement);
     part_at(f.number, f.line, job, placement)
@@ -86,7 +87,8 @@ fn put_words(results: &mut [u64], words: [u64; 3])
 
 // The line that Score reports by which text (0 job, 1 placement), first byte and length; the number of the refusal.
 pub fn tell_fault(job: &[u8], placement: &[u8], results: &mut [u64]) -> u32
-    ensures { λ r. ⌜ ToldFault (now (job .entry)) (now (placement .entry)) r (now (results .entry)) (now (results .exit)) ⌝ }
+    ensures { λ r. ⌜ ToldFault (now (job .entry)) (now (placement .entry)) r
+        (now (results .entry)) (now (results .exit)) ⌝ }
 {
     let f = reported(job, placement);
     let p = part_at(f.number, f.line, job, placement);
@@ -137,9 +139,11 @@ fn line_span(text: &[u8], n: u32) -> Span
     }
 }
 
-// Where the line is that a refusal reports: in the placement text for 5, else in the job text; for 0 the placement's end.
+// Where the line is that a refusal reports: in the placement text for 5, else
+// in the job text; for 0 the placement's end.
 pub fn part_at(number: u32, line: u32, job: &[u8], placement: &[u8]) -> Piece
-    ensures { λ r. ⌜ PieceOf (partAt number line (now (job .entry)) (now (placement .entry))) (now (job .entry)) (now (placement .entry)) r ⌝ }
+    ensures { λ r. ⌜ PieceOf (partAt number line (now (job .entry)) (now (placement .entry)))
+        (now (job .entry)) (now (placement .entry)) r ⌝ }
 {
     if number == 0 {
         return Piece {

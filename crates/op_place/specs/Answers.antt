@@ -14,7 +14,8 @@ use Rattle.definition.specs.Placement as text
 use Rattle.definition.specs.Placement.{textOf}
 use Rattle.definition.specs.Moves.{Cheapest}
 use Rattle.definition.specs.Outcome.{storeNeeded, outputNeeded}
-use Rattle.definition.specs.Outcome.{Outcome, over, refusal, placeAnswer, placeOutcome, bufferRefusal, Buffers, lent, Placed}
+use Rattle.definition.specs.Outcome.{Outcome, over, refusal, placeAnswer, placeOutcome}
+use Rattle.definition.specs.Outcome.{bufferRefusal, Buffers, lent, Placed}
 use Rattle.text_laws.specs.Poses.{Printable, Each}
 use Rattle.text_laws.specs.Room.{Narrow, legal-room, legal-printable, legal-narrow, at-each}
 use Rattle.job.specs.declared.Job.{Job}
@@ -30,12 +31,27 @@ use Rattle.op_place.specs.Fields.{Wrote}
 
 -- ---- the placement made of legal pose numbers
 
-module _ (job : Job) (poses : List ℕ) (room : ℕ) (t : Chosen job poses room) (P : Placement) (n : Numbered job poses P) where
+module _ (job : Job) (poses : List ℕ) (room : ℕ) (t : Chosen job poses room) (P : Placement)
+    (n : Numbered job poses P) where
   pub text-room : length (textOf (placementOf P)) ≤ room
-  text-room = rw (n .same) (omega (arith, legal-room (jobOf job) (placementIn job poses) (t .taken .sound) (t .legal), t .taken .many, t .output))
+  text-room =
+      rw (n .same)
+      (omega (
+        arith,
+        legal-room (jobOf job) (placementIn job poses) (t .taken .sound) (t .legal),
+        t .taken .many,
+        t .output,
+      ))
 
   pub text-short : length (textOf (placementOf P)) ≤ 9 * paper.maxCells
-  text-short = rw (n .same) (omega (arith, legal-room (jobOf job) (placementIn job poses) (t .taken .sound) (t .legal), t .taken .many, t .taken .few))
+  text-short =
+      rw (n .same)
+      (omega (
+        arith,
+        legal-room (jobOf job) (placementIn job poses) (t .taken .sound) (t .legal),
+        t .taken .many,
+        t .taken .few,
+      ))
 
   pub printable : Each Printable (placementOf P)
   printable = rw (n .same) (legal-printable (jobOf job) (placementIn job poses) (t .taken .sound) (t .legal))
@@ -46,7 +62,8 @@ module _ (job : Job) (poses : List ℕ) (room : ℕ) (t : Chosen job poses room)
     few = t .taken .few;
     each = n .count;
     site = λ k h.
-        let all : Each Narrow (placementOf P) = rw (n .same) (legal-narrow (jobOf job) (placementIn job poses) (t .taken .sound) (t .legal)) in
+        let all : Each Narrow (placementOf P) =
+        rw (n .same) (legal-narrow (jobOf job) (placementIn job poses) (t .taken .sound) (t .legal)) in
         let long : length (placementOf P) ≡ job .count = rw (n .same) (t .legal .each ∙ t .taken .many) in
         let low = at-each Narrow (placementOf P) all k (omega arith) .site in
         rw (pose-there P k (omega (arith, n .count))) at low;
@@ -59,8 +76,10 @@ found j least poses s z = omega (arith, s .low, z)
 
 module _ (store output : List ℕ) (results : List ℤ) where
   -- 8: nothing is written to the output, and the store is zero
-  pub answered-none : {j : paper.Job} {store′ : List ℕ} {results′ : List ℤ} → Cheapest j none → store′ ≡ replicate (length store) 0
-      → results′ ≡ over (pos 8 ∷ pos 0 ∷ replicate 7 (pos 0)) results → Answered j 8 (lent store output results) (lent store′ output results′)
+  pub answered-none : {j : paper.Job} {store′ : List ℕ} {results′ : List ℤ} → Cheapest j none
+      → store′ ≡ replicate (length store) 0
+      → results′ ≡ over (pos 8 ∷ pos 0 ∷ replicate 7 (pos 0)) results
+      → Answered j 8 (lent store output results) (lent store′ output results′)
   unfolding over
   answered-none c s r = record {
     answer = none;
@@ -68,7 +87,8 @@ module _ (store output : List ℕ) (results : List ℤ) where
     met = record { told = record { number = refl; array = r }; written = refl; stored = s };
   }
 
-  pub answered-some : (job : Job) (poses : List ℕ) {store′ output′ : List ℕ} {results′ : List ℤ} → Cheapest (jobOf job) (some (placementIn job poses))
+  pub answered-some : (job : Job) (poses : List ℕ) {store′ output′ : List ℕ} {results′ : List ℤ}
+      → Cheapest (jobOf job) (some (placementIn job poses))
       → store′ ≡ replicate (length store) 0 → Wrote job poses output output′ results results′
       → Answered (jobOf job) 0 (lent store output results) (lent store′ output′ results′)
   answered-some job poses c s w = record {
@@ -80,7 +100,8 @@ module _ (store output : List ℕ) (results : List ℤ) where
   -- ---- refusals: only the results are written
 
   module _ (source : Text) where
-    refused-as : (n line : ℕ) {results′ : List ℤ} → ((j : paper.Job) → readJob source ≡ accepted j → bufferRefusal j (length store) (length output) ≡ 0 → ⊥)
+    refused-as : (n line : ℕ) {results′ : List ℤ}
+        → ((j : paper.Job) → readJob source ≡ accepted j → bufferRefusal j (length store) (length output) ≡ 0 → ⊥)
         → refusal 7 n line ≡ placeOutcome (readJob source) (length store) (length output) none
         → results′ ≡ over (pos n ∷ pos line ∷ replicate 7 (pos 0)) results
         → Placed source n (lent store output results) (lent store output results′)
@@ -92,7 +113,8 @@ module _ (store output : List ℕ) (results : List ℤ) where
     }
 
     -- 1 to 4
-    pub placed-refused : {n line : ℕ} {results′ : List ℤ} → readJob source ≡ refused n line → results′ ≡ over (pos n ∷ pos line ∷ replicate 7 (pos 0)) results
+    pub placed-refused : {n line : ℕ} {results′ : List ℤ} → readJob source ≡ refused n line
+        → results′ ≡ over (pos n ∷ pos line ∷ replicate 7 (pos 0)) results
         → Placed source n (lent store output results) (lent store output results′)
     unfolding placeOutcome
     placed-refused {n} {line} e r = refused-as n line
@@ -104,29 +126,36 @@ module _ (store output : List ℕ) (results : List ℤ) where
     module _ (j : paper.Job) (e : readJob source ≡ accepted j) where
       -- the outcome by which refusal the buffers meet, 0 for none
       by-number : (a : Option text.Placement) {n : ℕ} → bufferRefusal j (length store) (length output) ≡ n
-          → placeOutcome (readJob source) (length store) (length output) a ≡ (elim n as (λ x. Outcome) [ zero ↦ placeAnswer j a | suc x ↦ refusal 7 (suc x) 0 ])
+          → placeOutcome (readJob source) (length store) (length output) a
+          ≡ (elim n as (λ x. Outcome) [ zero ↦ placeAnswer j a | suc x ↦ refusal 7 (suc x) 0 ])
       unfolding placeOutcome
       by-number a b =
           ap (λ (x : paper.Reading). placeOutcome x (length store) (length output) a) e
           ∙ ap (λ (m : ℕ). elim m as (λ x. Outcome) [ zero ↦ placeAnswer j a | suc x ↦ refusal 7 (suc x) 0 ]) b
 
       by-buffers : (n : ℕ) {results′ : List ℤ} → bufferRefusal j (length store) (length output) ≡ suc n
-          → results′ ≡ over (pos (suc n) ∷ pos 0 ∷ replicate 7 (pos 0)) results → Placed source (suc n) (lent store output results) (lent store output results′)
-      by-buffers n b r = refused-as (suc n) 0 (λ k a d. let q : k ≡ j = cc in let z = rw q at d in omega arith) (sym (by-number none b)) r
+          → results′ ≡ over (pos (suc n) ∷ pos 0 ∷ replicate 7 (pos 0)) results
+          → Placed source (suc n) (lent store output results) (lent store output results′)
+      by-buffers n b r =
+          refused-as (suc n) 0 (λ k a d. let q : k ≡ j = cc in let z = rw q at d in omega arith)
+          (sym (by-number none b)) r
 
-      pub placed-small : {results′ : List ℤ} → length store < storeNeeded j → results′ ≡ over (pos 6 ∷ pos 0 ∷ replicate 7 (pos 0)) results
+      pub placed-small : {results′ : List ℤ} → length store < storeNeeded j
+          → results′ ≡ over (pos 6 ∷ pos 0 ∷ replicate 7 (pos 0)) results
           → Placed source 6 (lent store output results) (lent store output results′)
       unfolding bufferRefusal firstFailing
       placed-small h r = by-buffers 5 (rw (lt-leb (storeNeeded j) (length store) h)) r
 
       pub placed-narrow : {results′ : List ℤ} → storeNeeded j ≤ length store → length output < outputNeeded j
-          → results′ ≡ over (pos 7 ∷ pos 0 ∷ replicate 7 (pos 0)) results → Placed source 7 (lent store output results) (lent store output results′)
+          → results′ ≡ over (pos 7 ∷ pos 0 ∷ replicate 7 (pos 0)) results
+          → Placed source 7 (lent store output results) (lent store output results′)
       unfolding bufferRefusal firstFailing
       placed-narrow h g r =
           by-buffers 6 (rw (le-leb (storeNeeded j) (length store) h, lt-leb (outputNeeded j) (length output) g)) r
 
       -- an answer
-      pub placed-answered : {returned : ℕ} {end : Buffers} → storeNeeded j ≤ length store → outputNeeded j ≤ length output
+      pub placed-answered : {returned : ℕ} {end : Buffers} → storeNeeded j ≤ length store
+          → outputNeeded j ≤ length output
           → Answered j returned (lent store output results) end → Placed source returned (lent store output results) end
       unfolding bufferRefusal firstFailing
       placed-answered h g a = record {

@@ -19,14 +19,29 @@ use Rattle.op_place.specs.Accepted.{placementIn}
 abbrev pub fieldsIn : paper.Job → Placement → ℕ → List ℤ
 fieldsIn j P bytes = numbers j P ++ (pos bytes ∷ [])
 
-pub fields-listed : (j : paper.Job) (P : Placement) (n : Numbers) (bytes : ℕ) → Counted j P n → SFits w32 (n .drift) → bytes < 2 ^ 31
-    → toZ w32 (n .steps) ∷ toZ w32 (n .shifted) ∷ toZ w32 (n .mirrored) ∷ toZ w32 (n .changed) ∷ toZ w32 (n .cost) ∷ toZ w32 (ofZ w32 (n .drift)) ∷ toZ w32 bytes ∷ [] ≡ fieldsIn j P bytes
+pub fields-listed : (j : paper.Job) (P : Placement) (n : Numbers) (bytes : ℕ) → Counted j P n → SFits w32 (n .drift)
+    → bytes < 2 ^ 31
+    → toZ w32 (n .steps) ∷ toZ w32 (n .shifted) ∷ toZ w32 (n .mirrored) ∷ toZ w32 (n .changed)
+    ∷ toZ w32 (n .cost)
+    ∷ toZ w32 (ofZ w32 (n .drift)) ∷ toZ w32 bytes ∷ []
+    ≡ fieldsIn j P bytes
 fields-listed j P n bytes c f h =
     let s = c .small in
-    rw (toZ-pos w32 (s .steps), toZ-pos w32 (s .shifted), toZ-pos w32 (s .mirrored), toZ-pos w32 (s .changed), toZ-pos w32 (s .cost), toZ-ofZ f, toZ-pos w32 h)
+    rw (
+      toZ-pos w32 (s .steps),
+      toZ-pos w32 (s .shifted),
+      toZ-pos w32 (s .mirrored),
+      toZ-pos w32 (s .changed),
+      toZ-pos w32 (s .cost),
+      toZ-ofZ f,
+      toZ-pos w32 h,
+    )
     (ap (λ (l : List ℤ). l ++ (pos bytes ∷ [])) (numbers-listed j P n c))
 
 -- the placement's text over the output, and 0, 0 and its fields over the results
 pub record Wrote (job : Job) (poses output output′ : List ℕ) (results results′ : List ℤ) : Type 0 where
   pub text : output′ ≡ over (textOf (placementIn job poses)) output
-  pub array : results′ ≡ over (pos 0 ∷ pos 0 ∷ fieldsIn (jobOf job) (placementIn job poses) (length (textOf (placementIn job poses)))) results
+  pub array : results′
+      ≡ over
+      (pos 0 ∷ pos 0
+      ∷ fieldsIn (jobOf job) (placementIn job poses) (length (textOf (placementIn job poses)))) results

@@ -47,7 +47,8 @@ module _ (job : Job) (poses : List ℕ) where
   unfolding cellOf
   given-low t k h = let e = cell-there job k h in let s = t .sound .cell k (omega (arith, t .many)) .given in rw e at s
 
-  pose-numbered : (k : ℕ) (p : Pose) → k < job .count → PoseBy (job .header .displacement) (value.cellAt job k .given) (numbersIn poses k) p
+  pose-numbered : (k : ℕ) (p : Pose) → k < job .count
+      → PoseBy (job .header .displacement) (value.cellAt job k .given) (numbersIn poses k) p
       → poseOf p ≡ poseNumber (jobOf job) k (numbersIn poses k)
   unfolding poseNumber jobOf headerOf cellOf
   pose-numbered k p h b =
@@ -59,9 +60,11 @@ module _ (job : Job) (poses : List ℕ) where
   pub sofar-more : {P : Placement} {k : ℕ} {p : Pose} → Sofar job poses P k → k < job .count → job .count ≤ maxCells
       → PoseBy (job .header .displacement) (value.cellAt job k .given) (numbersIn poses k) p
       → Sofar job poses (record { count = P .count; poses = set (P .poses) k p }) (k + 1)
-  sofar-more {P} {k} {p} s h few b = record { count = s .count; long = simp length-set (s .long); done = λ i l. go i l (ℕ-discrete i k) }
+  sofar-more {P} {k} {p} s h few b =
+      record { count = s .count; long = simp length-set (s .long); done = λ i l. go i l (ℕ-discrete i k) }
     where
-      go : (i : ℕ) → i < k + 1 → Dec (i ≡ k) → poseOf (getD (set (P .poses) k p) i emptyPose) ≡ poseNumber (jobOf job) i (numbersIn poses i)
+      go : (i : ℕ) → i < k + 1 → Dec (i ≡ k)
+          → poseOf (getD (set (P .poses) k p) i emptyPose) ≡ poseNumber (jobOf job) i (numbersIn poses i)
       go i l (yes e) =
           let m : k < length (P .poses) = omega (arith, s .long) in
           rw (e, getD-set-same (P .poses) k p emptyPose m) (pose-numbered k p h b)
@@ -73,14 +76,17 @@ module _ (job : Job) (poses : List ℕ) where
     count = s .count;
     same = ext-getD noPose (placementOf P) (placementIn job poses) (long ∙ sym (size ∙ t .many)) λ i h.
         let l : i < job .count = omega (arith, long) in
-        pose-there P i (omega (arith, s .count)) ∙ s .done i (omega arith) ∙ sym (placement-pose f (length (jobOf job .cells)) i (omega (arith, t .many)));
+        pose-there P i (omega (arith, s .count)) ∙ s .done i (omega arith)
+        ∙ sym (placement-pose f (length (jobOf job .cells)) i (omega (arith, t .many)));
   }
     where
       f : ℕ → text.Pose
       f i = poseNumber (jobOf job) i (numbersIn poses i)
 
       long : length (placementOf P) ≡ job .count
-      long = length-map (take (P .count) (P .poses)) poseOf ∙ length-take-le (P .count) (P .poses) (omega (arith, s .count, s .long, t .few)) ∙ s .count
+      long =
+          length-map (take (P .count) (P .poses)) poseOf
+          ∙ length-take-le (P .count) (P .poses) (omega (arith, s .count, s .long, t .few)) ∙ s .count
 
       size : length (placementIn job poses) ≡ length (jobOf job .cells)
       size = placement-size f (length (jobOf job .cells))

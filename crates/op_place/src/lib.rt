@@ -1,4 +1,5 @@
-// Place: the job is read, a cheapest legal placement is searched for, and its text and numbers are written to what the caller lends.
+// Place: the job is read, a cheapest legal placement is searched for, and its text and
+// numbers are written to what the caller lends.
 ghost use mathlib.Core.Path.{_≡_};
 ghost use mathlib.Core.List.{_∷_};
 ghost use Prim.Native.Nat.{_+_, _^_, _≤_, _<_};
@@ -89,7 +90,8 @@ fn fields_of(job: Job, placement: Placement, bytes: usize) -> [i32; 8]
 // The answer: text and fields of the placement found.
 fn put_answer(job: Job, poses: [u32; Job::MAX_CELLS], output: &mut [u8], results: &mut [i32])
     requires { ⌜ Chosen job poses (length (now output)) ⌝ }
-    ensures { λ _. ⌜ Wrote job poses (now (output .entry)) (now (output .exit)) (now (results .entry)) (now (results .exit)) ⌝ }
+    ensures { λ _. ⌜ Wrote job poses (now (output .entry)) (now (output .exit))
+        (now (results .entry)) (now (results .exit)) ⌝ }
 {
     let placement = placement_of(job, poses);
     let bytes = put_placement(output, placement);
@@ -108,7 +110,9 @@ fn refuse(results: &mut [i32], number: u32, line: u32)
 // Of an accepted job, with buffers that are enough. No word of the store outlives the call.
 fn place_job(job: Job, store: &mut [u32], output: &mut [u8], results: &mut [i32]) -> u32
     requires { ⌜ Enough job (length (now store)) (length (now output)) ⌝ }
-    ensures { λ r. ⌜ Answered (jobOf job) r (lent (now (store .entry)) (now (output .entry)) (now (results .entry))) (lent (now (store .exit)) (now (output .exit)) (now (results .exit))) ⌝ }
+    ensures { λ r. ⌜ Answered (jobOf job) r
+        (lent (now (store .entry)) (now (output .entry)) (now (results .entry)))
+        (lent (now (store .exit)) (now (output .exit)) (now (results .exit))) ⌝ }
 {
     let found = search(job, &mut *store);
     search_lanes::clear(store);
@@ -124,7 +128,9 @@ fn place_job(job: Job, store: &mut [u32], output: &mut [u8], results: &mut [i32]
 
 // Place: refusals 1 to 4 as Read, then 6 and 7 by the buffers, then 8 or an answer.
 pub fn place_texts(job: &[u8], store: &mut [u32], output: &mut [u8], results: &mut [i32]) -> u32
-    ensures { λ r. ⌜ Placed (now (job .entry)) r (lent (now (store .entry)) (now (output .entry)) (now (results .entry))) (lent (now (store .exit)) (now (output .exit)) (now (results .exit))) ⌝ }
+    ensures { λ r. ⌜ Placed (now (job .entry)) r
+        (lent (now (store .entry)) (now (output .entry)) (now (results .entry)))
+        (lent (now (store .exit)) (now (output .exit)) (now (results .exit))) ⌝ }
 {
     let r = read_job(job);
     let number = r.number;

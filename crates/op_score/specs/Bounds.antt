@@ -1,4 +1,5 @@
--- A verdict is of small numbers: a rule up to 7, and a cell that the job has; and no rule goes with no cell. Theorems on the definition.
+-- A verdict is of small numbers: a rule up to 7, and a cell that the job has; and no rule
+-- goes with no cell. Theorems on the definition.
 use Prim.Native.Nat.{ℕ, zero, suc, _+_, _≤_}
 use mathlib.Core.Path.{_≡_, refl}
 use mathlib.Core.Bool.{Bool, true, false, cond}
@@ -30,7 +31,8 @@ broken-small r n [] = record { rule = omega arith; cell = omega arith; none = λ
 broken-small r n (f ∷ fs) = go (lowest f (from 0 n)) (lowest-small f 0 n) (broken-small (suc r) n fs)
   where
     go : (m : ℕ) → m ≤ 0 + n → Small (suc r + length fs) n (firstBroken (suc (suc r)) fs (from 0 n))
-        → Small (r + suc (length fs)) n (elim m [ zero ↦ firstBroken (suc (suc r)) fs (from 0 n) | suc k ↦ record { rule = suc r; cell = suc k } ])
+        → Small (r + suc (length fs)) n
+        (elim m [ zero ↦ firstBroken (suc (suc r)) fs (from 0 n) | suc k ↦ record { rule = suc r; cell = suc k } ])
     go zero h s = record { rule = omega (arith, s .rule); cell = s .cell; none = s .none }
     go (suc k) h s = record { rule = omega arith; cell = omega arith; none = λ e. absurd (omega arith) }
 

@@ -11,7 +11,8 @@ use Rattle.placement_read.specs.declared.PlacementReading.{PlacementReading}
 use Rattle.placement_read.specs.Reading.{readingOf, ReadAs}
 
 module _ (text : Text) (due : ℕ) (r : PlacementReading) (a : ReadAs text due r) where
-  by-test : (t : Bool) → eqb (r .line) 0 ≡ t → readPlacement due text ≡ cond t (poses (placementOf (r .placement))) (fault (r .line))
+  by-test : (t : Bool) → eqb (r .line) 0 ≡ t
+      → readPlacement due text ≡ cond t (poses (placementOf (r .placement))) (fault (r .line))
   unfolding readingOf
   by-test t e = sym (a .equal) ∙ ap (λ (t : Bool). cond t (poses (placementOf (r .placement))) (fault (r .line))) e
 

@@ -27,7 +27,8 @@ pub struct Scored {
 // The fields of a placement: rule and cell, or 0, 0 and the numbers.
 fn fields_of(job: Job, placement: Placement) -> [i32; 8]
     requires { ⌜ Ready job placement ⌝ }
-    ensures { λ r. ⌜ take 8 r ≡ scoreFields (jobOf job) (placementOf placement) (verdict (jobOf job) (placementOf placement)) ⌝ }
+    ensures { λ r. ⌜ take 8 r
+        ≡ scoreFields (jobOf job) (placementOf placement) (verdict (jobOf job) (placementOf placement)) ⌝ }
 {
     let v = verdict_of(job, placement);
     let rule = v.rule;

@@ -36,7 +36,12 @@ module _ (text : Text) (at : ℕ) (n : Numbers) (h : NumbersFrom text at n) wher
         found = λ t. record {
           within = f .within;
           lines = lines-at text at (omega (arith, f .past, f .within)) ∙ rw (f .rest);
-          says = rw (f .values 0 (omega arith) ∙ field-value fields 0, f .values 1 (omega arith) ∙ field-value fields 1, f .values 2 (omega arith) ∙ field-value fields 2);
+          says =
+              rw (
+                f .values 0 (omega arith) ∙ field-value fields 0,
+                f .values 1 (omega arith) ∙ field-value fields 1,
+                f .values 2 (omega arith) ∙ field-value fields 2,
+              );
           small = record { site = f .small 0; layout = f .small 1; mark = f .small 2 };
         };
       }

@@ -20,13 +20,20 @@ none-there (suc n) zero = refl
 none-there (suc n) (suc k) = none-there n k
 
 pub empty-kept : (P : Placement) → P ≡ emptyPlacement → Kept P
-empty-kept P e = rw e (record { long = length-replicate maxCells emptyPose; many = omega arith; small = λ k. rw (none-there maxCells k) (record { site = omega arith; layout = omega arith; mark = omega arith }) })
+empty-kept P e =
+    rw e
+    (record {
+      long = length-replicate maxCells emptyPose;
+      many = omega arith;
+      small = λ k. rw (none-there maxCells k) (record { site = omega arith; layout = omega arith; mark = omega arith });
+    })
 
 map-snoc : (l : List Pose) (p : Pose) → map poseOf (l ++ (p ∷ [])) ≡ map poseOf l ++ (poseOf p ∷ [])
 map-snoc [] p = refl
 map-snoc (q ∷ l) p = ap (λ r. poseOf q ∷ r) (map-snoc l p)
 
-pub grow : (P : Placement) (p : Pose) → Kept P → P .count < maxCells → Printable (poseOf p) → Grown P p (record { count = P .count + 1; poses = set (P .poses) (P .count) p })
+pub grow : (P : Placement) (p : Pose) → Kept P → P .count < maxCells → Printable (poseOf p)
+    → Grown P p (record { count = P .count + 1; poses = set (P .poses) (P .count) p })
 unfolding placementOf
 grow P p k h s = record {
   kept = record { long = simp length-set (k .long); many = omega arith; small = λ i. go i (ℕ-discrete i (P .count)) };

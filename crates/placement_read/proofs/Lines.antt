@@ -26,7 +26,8 @@ module _ (s : Text) where
 
   pub not-three : (length (fieldsOf (firstLine s)) ≡ 3 → ⊥) → isPose (firstLine s) ≡ false
   unfolding isPose
-  not-three n = rw (ne-eqb (length (fieldsOf (firstLine s))) 3 n) (ap (λ (t : Bool). t && all isNumber (fieldsOf (firstLine s))) (and-false (ended (firstLine s))))
+  not-three n =
+      rw (ne-eqb (length (fieldsOf (firstLine s))) 3 n) (ap (λ (t : Bool). t && all isNumber (fieldsOf (firstLine s))) (and-false (ended (firstLine s))))
 
   pub not-readable : readable s ≡ false → isPose (firstLine s) ≡ false
   unfolding readable isPose

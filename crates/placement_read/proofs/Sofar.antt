@@ -27,7 +27,14 @@ pub record Sofar (text : Text) (due : ℕ) (P : Placement) (at : ℕ) : Type 0 w
 
 pub start : (text : Text) (due : ℕ) (P : Placement) → P ≡ emptyPlacement → Sofar text due P 0
 unfolding placementOf readPlacement
-start text due P e = rw e (record { kept = empty-kept emptyPlacement refl; low = omega arith; within = omega arith; reads = ap (λ (n : ℕ). readPoses 1 n (linesOf text)) (sym (sub-zero due)) })
+start text due P e =
+    rw e
+    (record {
+      kept = empty-kept emptyPlacement refl;
+      low = omega arith;
+      within = omega arith;
+      reads = ap (λ (n : ℕ). readPoses 1 n (linesOf text)) (sym (sub-zero due));
+    })
 
 module _ {text : Text} {due : ℕ} {P : Placement} {at : ℕ} (h : Sofar text due P at) where
   module _ (more : P .count < due) {r : PoseReading} (l : PoseFrom text at r) where
@@ -45,9 +52,12 @@ module _ {text : Text} {due : ℕ} {P : Placement} {at : ℕ} (h : Sofar text du
         (read-good (suc (P .count)) (due - suc (P .count)) (firstLine (drop at text)) (linesOf (drop (r .next) text)) (sym (l .ok) ∙ e)
         ∙ ap (λ (p : paper.Pose). withPose p (readPoses (suc (suc (P .count))) (due - suc (P .count)) (linesOf (drop (r .next) text)))) (sym (f .says)))
 
-    later : {Q : Placement} → Grown P (r .pose) Q → withPoses (placementOf Q) (readPoses (suc (Q .count)) (due - Q .count) (linesOf (drop (r .next) text))) ≡ withPoses (placementOf P) this
+    later : {Q : Placement} → Grown P (r .pose) Q
+        → withPoses (placementOf Q) (readPoses (suc (Q .count)) (due - Q .count) (linesOf (drop (r .next) text))) ≡ withPoses (placementOf P) this
     unfolding this
-    later g = rw (g .poses, g .count) (with-snoc (placementOf P) (poseOf (r .pose)) (readPoses (suc (suc (P .count))) (due - suc (P .count)) (linesOf (drop (r .next) text))))
+    later g =
+        rw (g .poses, g .count)
+        (with-snoc (placementOf P) (poseOf (r .pose)) (readPoses (suc (suc (P .count))) (due - suc (P .count)) (linesOf (drop (r .next) text))))
 
     pub step : {Q : Placement} → r .ok ≡ true → Grown P (r .pose) Q → Sofar text due Q (r .next)
     step {Q} e g =
@@ -60,7 +70,8 @@ module _ {text : Text} {due : ℕ} {P : Placement} {at : ℕ} (h : Sofar text du
         }
 
     pub bad : r .ok ≡ false → readPlacement due text ≡ fault (suc (P .count))
-    bad e = h .reads ∙ rw (left, read-fault (drop at text) (suc (P .count)) (due - suc (P .count)) (sym (l .ok) ∙ e)) (with-fault (placementOf P) (suc (P .count)))
+    bad e =
+        h .reads ∙ rw (left, read-fault (drop at text) (suc (P .count)) (due - suc (P .count)) (sym (l .ok) ∙ e)) (with-fault (placementOf P) (suc (P .count)))
 
   module _ (all : due ≤ P .count) where
     whole : P .count ≡ due
@@ -70,7 +81,8 @@ module _ {text : Text} {due : ℕ} {P : Placement} {at : ℕ} (h : Sofar text du
     none-left = omega (arith, all)
 
     pub surplus : at < length text → readPlacement due text ≡ fault (suc due)
-    surplus e = h .reads ∙ rw (none-left, read-surplus text at (suc (P .count)) e, with-fault (placementOf P) (suc (P .count))) (ap (λ (n : ℕ). fault (suc n)) whole)
+    surplus e =
+        h .reads ∙ rw (none-left, read-surplus text at (suc (P .count)) e, with-fault (placementOf P) (suc (P .count))) (ap (λ (n : ℕ). fault (suc n)) whole)
 
     pub complete : length text ≤ at → ReadAs text due (record { line = 0; placement = P })
     unfolding readingOf
@@ -81,7 +93,8 @@ module _ {text : Text} {due : ℕ} {P : Placement} {at : ℕ} (h : Sofar text du
       count = λ z. whole;
     }
 
-pub at-fault : (text : Text) (due n : ℕ) (r : PlacementReading) → readPlacement due text ≡ fault (suc n) → n ≤ due → r .line ≡ suc n → r .placement ≡ emptyPlacement → ReadAs text due r
+pub at-fault : (text : Text) (due n : ℕ) (r : PlacementReading) → readPlacement due text ≡ fault (suc n) → n ≤ due → r .line ≡ suc n
+    → r .placement ≡ emptyPlacement → ReadAs text due r
 unfolding readingOf
 at-fault text due n r e low l p = record {
   equal = rw (ne-eqb (r .line) 0 (λ z. omega arith), l) (sym e);

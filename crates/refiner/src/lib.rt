@@ -28,7 +28,8 @@ pub extern "C" fn refiner_read(job: &[u8], results: &mut [i32]) -> u32
 // Score: number, line, rule, cell and the six numbers go to the results, and the number is returned.
 #[no_mangle]
 pub extern "C" fn refiner_score(job: &[u8], placement: &[u8], results: &mut [i32]) -> u32
-    ensures { λ r. ⌜ Told (score (now (job .entry)) (now (placement .entry))) r (now (results .entry)) (now (results .exit)) ⌝ }
+    ensures { λ r. ⌜ Told (score (now (job .entry)) (now (placement .entry))) r
+        (now (results .entry)) (now (results .exit)) ⌝ }
 {
     let s = score_texts(job, placement);
     let number = s.number;
@@ -38,17 +39,18 @@ pub extern "C" fn refiner_score(job: &[u8], placement: &[u8], results: &mut [i32
     number
 }
 
-// Fault line for the host: which text (0 the job, 1 the placement), first byte and length of the line that Score reports go to `part`, and
-// Score's number is returned.
+// Fault line for the host: which text (0 the job, 1 the placement), first byte and length of the line that Score
+// reports go to `part`, and Score's number is returned.
 #[no_mangle]
 pub extern "C" fn refiner_fault(job: &[u8], placement: &[u8], part: &mut [u64]) -> u32
-    ensures { λ r. ⌜ ToldFault (now (job .entry)) (now (placement .entry)) r (now (part .entry)) (now (part .exit)) ⌝ }
+    ensures { λ r. ⌜ ToldFault (now (job .entry)) (now (placement .entry)) r
+        (now (part .entry)) (now (part .exit)) ⌝ }
 {
     tell_fault(job, placement, part)
 }
 
-// Place: the placement's text goes to the output, number, line, the six numbers and the text's length to the results, and the number is returned.
-// No list of moves ends in a cheaper legal placement.
+// Place: the placement's text goes to the output, number, line, the six numbers and the text's length to the results,
+// and the number is returned. No list of moves ends in a cheaper legal placement.
 #[no_mangle]
 pub extern "C" fn refiner_place(
     job: &[u8],
@@ -56,8 +58,12 @@ pub extern "C" fn refiner_place(
     output: &mut [u8],
     results: &mut [i32],
 ) -> u32
-    ensures { λ r. ⌜ Placed (now (job .entry)) r (lent (now (store .entry)) (now (output .entry)) (now (results .entry))) (lent (now (store .exit)) (now (output .exit)) (now (results .exit))) ⌝ }
-    ensures { λ r. ⌜ Demand3Of (now (job .entry)) r (lent (now (store .entry)) (now (output .entry)) (now (results .entry))) (lent (now (store .exit)) (now (output .exit)) (now (results .exit))) ⌝ }
+    ensures { λ r. ⌜ Placed (now (job .entry)) r
+        (lent (now (store .entry)) (now (output .entry)) (now (results .entry)))
+        (lent (now (store .exit)) (now (output .exit)) (now (results .exit))) ⌝ }
+    ensures { λ r. ⌜ Demand3Of (now (job .entry)) r
+        (lent (now (store .entry)) (now (output .entry)) (now (results .entry)))
+        (lent (now (store .exit)) (now (output .exit)) (now (results .exit))) ⌝ }
 {
     place_texts(job, store, output, results)
 }

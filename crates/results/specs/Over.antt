@@ -1,4 +1,5 @@
--- A list laid over another as far as that reaches, one entry at a time; and the same after two entries that are laid first.
+-- A list laid over another as far as that reaches, one entry at a time; and the
+-- same after two entries that are laid first.
 use Prim.Native.Nat.{ℕ, zero, suc, _+_, _<_, _≤_}
 use mathlib.Core.Path.{_≡_, refl, sym, ap, _∙_}
 use mathlib.Core.List.{List, [], _∷_}
@@ -20,19 +21,22 @@ module _ {A : Type 0} where
   over-nil [] = refl
   over-nil (x ∷ xs) = refl
 
-  over-suc : (xs l : List A) (i : ℕ) (d : A) → i < length xs → i < length l → set (over (take i xs) l) i (getD xs i d) ≡ over (take (suc i) xs) l
+  over-suc : (xs l : List A) (i : ℕ) (d : A) → i < length xs → i < length l
+      → set (over (take i xs) l) i (getD xs i d) ≡ over (take (suc i) xs) l
   unfolding over
   over-suc [] l i d h k = absurd (not-suc-le-zero h)
   over-suc (x ∷ xs) [] i d h k = absurd (not-suc-le-zero k)
   over-suc (x ∷ xs) (y ∷ l) zero d h k = refl
-  over-suc (x ∷ xs) (y ∷ l) (suc i) d h k = ap (λ (t : List A). x ∷ t) (over-suc xs l i d (le-of-suc-le-suc h) (le-of-suc-le-suc k))
+  over-suc (x ∷ xs) (y ∷ l) (suc i) d h k =
+      ap (λ (t : List A). x ∷ t) (over-suc xs l i d (le-of-suc-le-suc h) (le-of-suc-le-suc k))
 
   -- past the end nothing more is laid
   over-full : (xs l : List A) (i n : ℕ) → length l ≤ i → i ≤ n → over (take i xs) l ≡ over (take n xs) l
   unfolding over
   over-full xs [] i n h k = over-nil (take i xs) ∙ sym (over-nil (take n xs))
   over-full [] (y ∷ l) (suc i) (suc n) h k = refl
-  over-full (x ∷ xs) (y ∷ l) (suc i) (suc n) h k = ap (λ (t : List A). x ∷ t) (over-full xs l i n (le-of-suc-le-suc h) (le-of-suc-le-suc k))
+  over-full (x ∷ xs) (y ∷ l) (suc i) (suc n) h k =
+      ap (λ (t : List A). x ∷ t) (over-full xs l i n (le-of-suc-le-suc h) (le-of-suc-le-suc k))
   over-full xs (y ∷ l) zero n h k = absurd (not-suc-le-zero h)
   over-full xs (y ∷ l) (suc i) zero h k = absurd (not-suc-le-zero k)
 
@@ -74,7 +78,8 @@ module _ {A : Type 0} where
         let k′ : i < length l = omega arith in
         rw (e, add-one i) (ap (λ (t : List A). a ∷ b ∷ t) (over-suc xs l i d h k′))
 
-    pub over-short : (xs l : List A) (i n : ℕ) → length l ≤ i + 2 → i ≤ n → over (a ∷ b ∷ take i xs) l ≡ over (a ∷ b ∷ take n xs) l
+    pub over-short : (xs l : List A) (i n : ℕ) → length l ≤ i + 2 → i ≤ n
+        → over (a ∷ b ∷ take i xs) l ≡ over (a ∷ b ∷ take n xs) l
     unfolding over
     over-short xs [] i n h k = refl
     over-short xs (x ∷ []) i n h k = refl

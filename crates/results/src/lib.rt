@@ -1,4 +1,5 @@
-// The result array that a caller lends: number, line and then the fields, as far as it reaches. One writer for every operation.
+// The result array that a caller lends: number, line and then the fields, as far as
+// it reaches. One writer for every operation.
 ghost use mathlib.Core.Path.{_≡_};
 ghost use mathlib.Core.List.{_∷_};
 ghost use Prim.Native.Nat.{_^_, _≤_, _<_};

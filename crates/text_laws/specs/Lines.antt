@@ -1,4 +1,5 @@
--- The lines of a text and the fields of a line, seen from their bytes: lines that end with a line feed, and perhaps a last one that does not.
+-- The lines of a text and the fields of a line, seen from their bytes: lines that end with a line
+-- feed, and perhaps a last one that does not.
 use Prim.Native.Nat.{ℕ, _+_}
 use mathlib.Core.Path.{_≡_, refl, ap, _∙_}
 use mathlib.Core.Bool.{Bool, true, false, cond}
@@ -19,7 +20,8 @@ Unbroken (b ∷ bs) = (b ≡ lineFeed → ⊥) × Unbroken bs
 pub data Lines : Text → List Text → Type 0 where
   none : Lines [] []
   last : {b : ℕ} {body : Text} → Unbroken (b ∷ body) → Lines (b ∷ body) ((b ∷ body) ∷ [])
-  line : (body : Text) {rest : Text} {ls : List Text} → Unbroken body → Lines rest ls → Lines (body ++ (lineFeed ∷ rest)) ((body ++ (lineFeed ∷ [])) ∷ ls)
+  line : (body : Text) {rest : Text} {ls : List Text} → Unbroken body → Lines rest ls
+      → Lines (body ++ (lineFeed ∷ rest)) ((body ++ (lineFeed ∷ [])) ∷ ls)
 
 onto-lines : {t : Text} {ls : List Text} (b : ℕ) → (b ≡ lineFeed → ⊥) → Lines t ls → Lines (b ∷ t) (onto b ls)
 onto-lines b d none = last (d, tt)
@@ -36,7 +38,8 @@ lines (b ∷ bs) = go (eqb b lineFeed) (eqb-true b lineFeed) (eqb-false b lineFe
     go true e d more = rw (e refl) (line [] tt more)
     go false e d more = onto-lines b (d refl) more
 
-pub first-line : (body rest : Text) → Unbroken body → linesOf (body ++ (lineFeed ∷ rest)) ≡ (body ++ (lineFeed ∷ [])) ∷ linesOf rest
+pub first-line : (body rest : Text) → Unbroken body
+    → linesOf (body ++ (lineFeed ∷ rest)) ≡ (body ++ (lineFeed ∷ [])) ∷ linesOf rest
 unfolding linesOf
 first-line [] rest u = refl
 first-line (b ∷ body) rest u = rw (ne-eqb b lineFeed (u .0), first-line body rest (u .1))
@@ -103,7 +106,8 @@ after-comma [] = refl
 after-comma (b ∷ bs) = go (eqb b lineFeed) (eqb b comma) (fieldsOf bs)
   where
     go : (t u : Bool) (fs : List Text)
-        → joined ([] ∷ cond t ([] ∷ []) (cond u ([] ∷ fs) (onto b fs))) ≡ comma ∷ joined (cond t ([] ∷ []) (cond u ([] ∷ fs) (onto b fs)))
+        → joined ([] ∷ cond t ([] ∷ []) (cond u ([] ∷ fs) (onto b fs)))
+        ≡ comma ∷ joined (cond t ([] ∷ []) (cond u ([] ∷ fs) (onto b fs)))
     go true u fs = refl
     go false true fs = refl
     go false false [] = refl
@@ -112,9 +116,11 @@ after-comma (b ∷ bs) = go (eqb b lineFeed) (eqb b comma) (fieldsOf bs)
 pub fields-joined : (body : Text) → Unbroken body → joined (fieldsOf (body ++ (lineFeed ∷ []))) ≡ body
 unfolding fieldsOf
 fields-joined [] u = refl
-fields-joined (b ∷ body) u = rw (ne-eqb b lineFeed (u .0)) (go (eqb b comma) (eqb-true b comma) (fields-joined body (u .1)))
+fields-joined (b ∷ body) u =
+    rw (ne-eqb b lineFeed (u .0)) (go (eqb b comma) (eqb-true b comma) (fields-joined body (u .1)))
   where
     go : (t : Bool) → (t ≡ true → b ≡ comma) → joined (fieldsOf (body ++ (lineFeed ∷ []))) ≡ body
-        → joined (cond t ([] ∷ fieldsOf (body ++ (lineFeed ∷ []))) (onto b (fieldsOf (body ++ (lineFeed ∷ []))))) ≡ b ∷ body
+        → joined (cond t ([] ∷ fieldsOf (body ++ (lineFeed ∷ []))) (onto b (fieldsOf (body ++ (lineFeed ∷ [])))))
+        ≡ b ∷ body
     go true e h = rw (e refl) (after-comma (body ++ (lineFeed ∷ [])) ∙ ap (λ (t : Text). comma ∷ t) h)
     go false e h = onto-joined b (fieldsOf (body ++ (lineFeed ∷ []))) ∙ ap (λ (t : Text). b ∷ t) h

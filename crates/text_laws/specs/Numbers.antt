@@ -1,4 +1,5 @@
--- A number and its digits: what is printed reads back, and what reads is what would be printed. For numbers up to 9,999.
+-- A number and its digits: what is printed reads back, and what reads is what
+-- would be printed. For numbers up to 9,999.
 use Prim.Native.Nat.{ℕ, zero, suc, _+_, _*_, _-_, _/_, _%_, _^_, _<_, _≤_}
 use mathlib.Core.Path.{_≡_, refl, sym, ap, _∙_}
 use mathlib.Core.Bool.{Bool, true, false, not, _&&_, _||_, false≢true, or-true}
@@ -23,7 +24,8 @@ pub also : (a b : Bool) → a ≡ true → b ≡ true → (a && b) ≡ true
 also true b e f = f
 also false b e f = absurd (false≢true e)
 
-pub all-append : {A : Type 0} (t : A → Bool) (xs ys : List A) → all t xs ≡ true → all t ys ≡ true → all t (xs ++ ys) ≡ true
+pub all-append : {A : Type 0} (t : A → Bool) (xs ys : List A) → all t xs ≡ true → all t ys ≡ true
+    → all t (xs ++ ys) ≡ true
 all-append t [] ys e f = f
 all-append t (x ∷ xs) ys e f =
     let b = both (t x) (all t xs) e in
@@ -59,7 +61,8 @@ is-number f e =
       lead = go (eqb (length f) 1) (eqb (getD f 0 0) 48) (eqb-true (length f) 1) (eqb-false (getD f 0 0) 48) (p .1);
     }
   where
-    go : (t u : Bool) → (t ≡ true → length f ≡ 1) → (u ≡ false → getD f 0 0 ≡ 48 → ⊥) → (t || not u) ≡ true → (length f ≡ 1) ⊎ (getD f 0 0 ≡ 48 → ⊥)
+    go : (t u : Bool) → (t ≡ true → length f ≡ 1) → (u ≡ false → getD f 0 0 ≡ 48 → ⊥) → (t || not u) ≡ true
+        → (length f ≡ 1) ⊎ (getD f 0 0 ≡ 48 → ⊥)
     go true u g h e = inl (g refl)
     go false false g h e = inr (h refl)
     go false true g h e = absurd (false≢true e)
@@ -117,7 +120,8 @@ one-stands k n h = record {
 more-stands : (k n : ℕ) (f : Text) → 10 ≤ n → Stands k (n / 10) f → Stands (suc k) n (f ++ ((48 + n % 10) ∷ []))
 more-stands k n f h s =
     let long : length (f ++ ((48 + n % 10) ∷ [])) ≡ length f + 1 = length-append f ((48 + n % 10) ∷ []) in
-    let first : getD (f ++ ((48 + n % 10) ∷ [])) 0 0 ≡ getD f 0 0 = List·getD-append f ((48 + n % 10) ∷ []) 0 0 (s .some) in
+    let first : getD (f ++ ((48 + n % 10) ∷ [])) 0 0 ≡ getD f 0 0 =
+    List·getD-append f ((48 + n % 10) ∷ []) 0 0 (s .some) in
     let start : getD (f ++ ((48 + n % 10) ∷ [])) 0 0 ≡ 48 → ⊥ = λ e. s .start (omega arith) (sym first ∙ e) in
     record {
       some = omega arith;
@@ -133,15 +137,20 @@ stands : (k n : ℕ) → n < 10 ^ suc k → Stands (suc k) n (digitsIn (suc k) n
 stands zero n h = rw (one-digit 0 n (omega arith)) (one-stands 0 n (omega arith))
 stands (suc k) n h = go (decLt n 10) (stands k)
   where
-    go : Dec (n < 10) → ((m : ℕ) → m < 10 ^ suc k → Stands (suc k) m (digitsIn (suc k) m)) → Stands (suc (suc k)) n (digitsIn (suc (suc k)) n)
+    go : Dec (n < 10) → ((m : ℕ) → m < 10 ^ suc k → Stands (suc k) m (digitsIn (suc k) m))
+        → Stands (suc (suc k)) n (digitsIn (suc (suc k)) n)
     go (yes l) f = rw (one-digit (suc k) n l) (one-stands (suc k) n l)
-    go (no l) f = rw (more-digits (suc k) n (omega arith)) (more-stands (suc k) n (digitsIn (suc k) (n / 10)) (omega arith) (f (n / 10) (omega (arith, pow-suc 10 (suc k)))))
+    go (no l) f =
+        rw (more-digits (suc k) n (omega arith))
+        (more-stands (suc k) n (digitsIn (suc k) (n / 10)) (omega arith)
+        (f (n / 10) (omega (arith, pow-suc 10 (suc k)))))
 
 pub value-digits : (n : ℕ) → n ≤ 9999 → value (digits n) ≡ n
 value-digits n h = stands 3 n (omega arith) .reads
 
 pub number-digits : (n : ℕ) → n ≤ 9999 → Number (digits n)
-number-digits n h = let s = stands 3 n (omega arith) in record { some = s .some; few = s .few; each = s .each; lead = s .lead }
+number-digits n h = let s = stands 3 n (omega arith) in
+    record { some = s .some; few = s .few; each = s .each; lead = s .lead }
 
 pub digits-number : (n : ℕ) → n ≤ 9999 → isNumber (digits n) ≡ true
 digits-number n h = number-is (digits n) (number-digits n h)
@@ -149,7 +158,8 @@ digits-number n h = number-is (digits n) (number-digits n h)
 -- ---- a number in its form is the print of its value
 
 -- digits after a number that is not 0 are appended to its print
-digits-after : (k v : ℕ) (xs : Text) → 1 ≤ v → all isDigit xs ≡ true → digitsIn (length xs + k) (valueFrom v xs) ≡ digitsIn k v ++ xs
+digits-after : (k v : ℕ) (xs : Text) → 1 ≤ v → all isDigit xs ≡ true
+    → digitsIn (length xs + k) (valueFrom v xs) ≡ digitsIn k v ++ xs
 unfolding valueFrom
 digits-after k v [] h e = rw (zero-add k) (sym (append-nil (digitsIn k v)))
 digits-after k v (b ∷ xs) h e =
@@ -199,7 +209,8 @@ value-below (suc k) v (b ∷ xs) l e =
     let w : ℕ = v * 10 + (b - 48) in
     let h = value-below k w xs (omega arith) (p .1) in
     let m : suc w * 10 ^ k ≤ suc v * 10 * 10 ^ k = mul-le-mul-right (10 ^ k) (omega arith) in
-    let q : suc v * 10 ^ suc k ≡ suc v * 10 * 10 ^ k = ap (λ (t : ℕ). suc v * t) (pow-succ' 10 k) ∙ sym (mul-assoc (suc v) 10 (10 ^ k)) in
+    let q : suc v * 10 ^ suc k ≡ suc v * 10 * 10 ^ k =
+    ap (λ (t : ℕ). suc v * t) (pow-succ' 10 k) ∙ sym (mul-assoc (suc v) 10 (10 ^ k)) in
     omega arith
 
 pub value-small : (f : Text) → isNumber f ≡ true → value f ≤ 9999

@@ -1,4 +1,5 @@
--- Printing a placement and reading it: each undoes the other, for values from 0 to 9,999. So two placements never share a text.
+-- Printing a placement and reading it: each undoes the other, for values from 0 to
+-- 9,999. So two placements never share a text.
 use Prim.Native.Nat.{ℕ, zero, suc, _+_, _≤_}
 use mathlib.Core.Path.{_≡_, refl, sym, ap, _∙_}
 use mathlib.Core.Bool.{Bool, true, false, _&&_, false≢true}
@@ -9,9 +10,12 @@ use lib.Dec.{eqb}
 use borrow.Author.Tests.{eqb-true}
 use Rattle.definition.specs.Lists.{all}
 use Rattle.definition.specs.Texts.{Text, lineFeed, comma, linesOf, fieldsOf, ended, isNumber, value, digits}
-use Rattle.definition.specs.Placement.{Pose, Placement, Poses, fault, poses, lineOf, textOf, isPose, poseOf, withPose, readPoses, readPlacement}
+use Rattle.definition.specs.Placement.{Pose, Placement, Poses, fault, poses, lineOf, textOf}
+use Rattle.definition.specs.Placement.{isPose, poseOf, withPose, readPoses, readPlacement}
 use Rattle.text_laws.specs.Numbers.{both, number-digits, digits-number, value-digits, digits-value, value-small}
-use Rattle.text_laws.specs.Lines.{Unbroken, Lines, none, last, line, lines, first-line, ended-line, unended, digits-unbroken, unbroken-append, field-then, field-last, joined, fields-joined}
+use Rattle.text_laws.specs.Lines.{Unbroken, Lines, none, last, line, lines, first-line}
+use Rattle.text_laws.specs.Lines.{ended-line, unended, digits-unbroken, unbroken-append}
+use Rattle.text_laws.specs.Lines.{field-then, field-last, joined, fields-joined}
 
 -- "A placement gives each cell a site, a layout number and a mirror mark, each from 0 to 9,999."
 pub record Printable (p : Pose) : Type 0 where
@@ -37,35 +41,53 @@ line-is p = sym (append-nil (lineOf p)) ∙ line-body p []
 module _ (p : Pose) (h : Printable p) where
   body-unbroken : Unbroken (body p)
   body-unbroken =
-      unbroken-append (digits (p .site)) (comma ∷ (digits (p .layout) ++ (comma ∷ digits (p .mark)))) (digits-unbroken (digits (p .site)) (number-digits (p .site) (h .site) .each)) (
+      unbroken-append (digits (p .site)) (comma ∷ (digits (p .layout) ++ (comma ∷ digits (p .mark))))
+      (digits-unbroken (digits (p .site)) (number-digits (p .site) (h .site) .each)) (
         λ e. omega arith,
-        unbroken-append (digits (p .layout)) (comma ∷ digits (p .mark)) (digits-unbroken (digits (p .layout)) (number-digits (p .layout) (h .layout) .each))
+        unbroken-append (digits (p .layout)) (comma ∷ digits (p .mark))
+            (digits-unbroken (digits (p .layout)) (number-digits (p .layout) (h .layout) .each))
             (λ e. omega arith, digits-unbroken (digits (p .mark)) (number-digits (p .mark) (h .mark) .each)),
       )
 
   fields-line : fieldsOf (lineOf p) ≡ digits (p .site) ∷ digits (p .layout) ∷ digits (p .mark) ∷ []
   fields-line =
-      field-then (digits (p .site)) (digits (p .layout) ++ (comma ∷ (digits (p .mark) ++ (lineFeed ∷ [])))) (number-digits (p .site) (h .site) .each)
+      field-then (digits (p .site)) (digits (p .layout) ++ (comma ∷ (digits (p .mark) ++ (lineFeed ∷ []))))
+      (number-digits (p .site) (h .site) .each)
       ∙ ap (λ (fs : List Text). digits (p .site) ∷ fs)
-      (field-then (digits (p .layout)) (digits (p .mark) ++ (lineFeed ∷ [])) (number-digits (p .layout) (h .layout) .each)
-      ∙ ap (λ (fs : List Text). digits (p .layout) ∷ fs) (field-last (digits (p .mark)) [] (number-digits (p .mark) (h .mark) .each)))
+      (field-then (digits (p .layout)) (digits (p .mark) ++ (lineFeed ∷ []))
+      (number-digits (p .layout) (h .layout) .each)
+      ∙ ap (λ (fs : List Text). digits (p .layout) ∷ fs)
+      (field-last (digits (p .mark)) [] (number-digits (p .mark) (h .mark) .each)))
 
   line-good : isPose (lineOf p) ≡ true
   unfolding isPose
   line-good =
       let e : ended (lineOf p) ≡ true = ap ended (line-is p) ∙ ended-line (body p) in
-      rw (e, fields-line, digits-number (p .site) (h .site), digits-number (p .layout) (h .layout), digits-number (p .mark) (h .mark))
+      rw (
+        e,
+        fields-line,
+        digits-number (p .site) (h .site),
+        digits-number (p .layout) (h .layout),
+        digits-number (p .mark) (h .mark),
+      )
 
   line-pose : poseOf (lineOf p) ≡ p
   unfolding poseOf
-  line-pose = rw (fields-line, value-digits (p .site) (h .site), value-digits (p .layout) (h .layout), value-digits (p .mark) (h .mark))
+  line-pose =
+      rw (
+        fields-line,
+        value-digits (p .site) (h .site),
+        value-digits (p .layout) (h .layout),
+        value-digits (p .mark) (h .mark),
+      )
 
 -- what a good line says prints as the line
 pub record Said (l : Text) (p : Pose) : Type 0 where
   pub small : Printable p
   pub prints : lineOf p ≡ l
 
-good-says : (text : Text) → Unbroken text → isPose (text ++ (lineFeed ∷ [])) ≡ true → Said (text ++ (lineFeed ∷ [])) (poseOf (text ++ (lineFeed ∷ [])))
+good-says : (text : Text) → Unbroken text → isPose (text ++ (lineFeed ∷ [])) ≡ true
+    → Said (text ++ (lineFeed ∷ [])) (poseOf (text ++ (lineFeed ∷ [])))
 unfolding isPose poseOf
 good-says text u e =
     let l : Text = text ++ (lineFeed ∷ []) in
@@ -74,14 +96,17 @@ good-says text u e =
     go (fieldsOf l) three (p .1) (fields-joined text u)
   where
     go : (fs : List Text) → length fs ≡ 3 → all isNumber fs ≡ true → joined fs ≡ text
-        → Said (text ++ (lineFeed ∷ [])) (record { site = value (getD fs 0 []); layout = value (getD fs 1 []); mark = value (getD fs 2 []) })
+        → Said (text ++ (lineFeed ∷ []))
+        (record { site = value (getD fs 0 []); layout = value (getD fs 1 []); mark = value (getD fs 2 []) })
     go (f ∷ g ∷ h ∷ []) n a j =
         let x = both (isNumber f) (all isNumber (g ∷ h ∷ [])) a in
         let y = both (isNumber g) (all isNumber (h ∷ [])) (x .1) in
         let z = both (isNumber h) true (y .1) in
         record {
           small = record { site = value-small f (x .0); layout = value-small g (y .0); mark = value-small h (z .0) };
-          prints = rw (digits-value f (x .0), digits-value g (y .0), digits-value h (z .0)) (simp append-assoc at (ap (λ (t : Text). t ++ (lineFeed ∷ [])) j));
+          prints =
+              rw (digits-value f (x .0), digits-value g (y .0), digits-value h (z .0))
+              (simp append-assoc at (ap (λ (t : Text). t ++ (lineFeed ∷ [])) j));
         }
     go [] n a j = absurd (omega arith)
     go (f ∷ []) n a j = absurd (omega arith)
@@ -94,11 +119,14 @@ bad b text u = rw (unended b text u)
 
 -- ---- the reading of a line, by its test
 
-pub read-good : (at due : ℕ) (l : Text) (ls : List Text) → isPose l ≡ true → readPoses at (suc due) (l ∷ ls) ≡ withPose (poseOf l) (readPoses (suc at) due ls)
+pub read-good : (at due : ℕ) (l : Text) (ls : List Text) → isPose l ≡ true
+    → readPoses at (suc due) (l ∷ ls) ≡ withPose (poseOf l) (readPoses (suc at) due ls)
 unfolding readPoses
 read-good at due l ls e = go (isPose l) e
   where
-    go : (t : Bool) → t ≡ true → elim t [ true ↦ withPose (poseOf l) (readPoses (suc at) due ls) | false ↦ fault at ] ≡ withPose (poseOf l) (readPoses (suc at) due ls)
+    go : (t : Bool) → t ≡ true
+        → elim t [ true ↦ withPose (poseOf l) (readPoses (suc at) due ls) | false ↦ fault at ]
+        ≡ withPose (poseOf l) (readPoses (suc at) due ls)
     go true e = refl
     go false e = absurd (false≢true e)
 
@@ -106,7 +134,8 @@ pub read-bad : (at due : ℕ) (l : Text) (ls : List Text) → isPose l ≡ false
 unfolding readPoses
 read-bad at due l ls e = go (isPose l) e
   where
-    go : (t : Bool) → t ≡ false → elim t [ true ↦ withPose (poseOf l) (readPoses (suc at) due ls) | false ↦ fault at ] ≡ fault at
+    go : (t : Bool) → t ≡ false
+        → elim t [ true ↦ withPose (poseOf l) (readPoses (suc at) due ls) | false ↦ fault at ] ≡ fault at
     go true e = absurd (false≢true (sym e))
     go false e = refl
 
@@ -151,8 +180,10 @@ abbrev Fair : Text → ℕ → ℕ → Poses → Type 0
 Fair text at due (fault n) = (at ≤ n) × (n ≤ at + due)
 Fair text at due (poses P) = Prints text due P
 
-one-more : (text rest : Text) (at due : ℕ) (r : Poses) → Said (text ++ (lineFeed ∷ [])) (poseOf (text ++ (lineFeed ∷ [])))
-    → Fair rest (suc at) due r → Fair (text ++ (lineFeed ∷ rest)) at (suc due) (withPose (poseOf (text ++ (lineFeed ∷ []))) r)
+one-more : (text rest : Text) (at due : ℕ) (r : Poses)
+    → Said (text ++ (lineFeed ∷ [])) (poseOf (text ++ (lineFeed ∷ [])))
+    → Fair rest (suc at) due r
+    → Fair (text ++ (lineFeed ∷ rest)) at (suc due) (withPose (poseOf (text ++ (lineFeed ∷ []))) r)
 unfolding textOf
 one-more text rest at due (fault n) s h = (omega arith, omega arith)
 one-more text rest at due (poses P) s h = record {
@@ -166,13 +197,16 @@ unfolding readPoses textOf
 fair none at zero = record { prints = refl; count = refl; small = tt }
 fair none at (suc due) = (omega arith, omega arith)
 fair (last u) at zero = (omega arith, omega arith)
-fair (last {b} {body = text} u) at (suc due) = rw (read-bad at due (b ∷ text) [] (bad b text u)) (omega arith, omega arith)
+fair (last {b} {body = text} u) at (suc due) =
+    rw (read-bad at due (b ∷ text) [] (bad b text u)) (omega arith, omega arith)
 fair (line text u more) at zero = (omega arith, omega arith)
 fair (line text {rest} {ls} u more) at (suc due) = go (isPose (text ++ (lineFeed ∷ []))) refl (fair more (suc at) due)
   where
     go : (t : Bool) → isPose (text ++ (lineFeed ∷ [])) ≡ t → Fair rest (suc at) due (readPoses (suc at) due ls)
         → Fair (text ++ (lineFeed ∷ rest)) at (suc due) (readPoses at (suc due) ((text ++ (lineFeed ∷ [])) ∷ ls))
-    go true e f = rw (read-good at due (text ++ (lineFeed ∷ [])) ls e) (one-more text rest at due (readPoses (suc at) due ls) (good-says text u e) f)
+    go true e f =
+        rw (read-good at due (text ++ (lineFeed ∷ [])) ls e)
+        (one-more text rest at due (readPoses (suc at) due ls) (good-says text u e) f)
     go false e f = rw (read-bad at due (text ++ (lineFeed ∷ [])) ls e) (omega arith, omega arith)
 
 pub read-prints : (n : ℕ) (text : Text) (P : Placement) → readPlacement n text ≡ poses P → Prints text n P
@@ -181,4 +215,5 @@ read-prints n text P e = rw e at (fair (lines text) 1 n)
 
 pub fault-within : (n : ℕ) (text : Text) (l : ℕ) → readPlacement n text ≡ fault l → (1 ≤ l) × (l ≤ suc n)
 unfolding readPlacement
-fault-within n text l e = let f : Fair text 1 n (fault l) = rw e at (fair (lines text) 1 n) in (f .0, omega (arith, f .1))
+fault-within n text l e = let f : Fair text 1 n (fault l) = rw e at (fair (lines text) 1 n) in
+    (f .0, omega (arith, f .1))

@@ -1,4 +1,5 @@
--- How long a printed placement is: at most 15 bytes a cell, and at most 9 where layout and mark are 0 or 1, as in every legal placement.
+-- How long a printed placement is: at most 15 bytes a cell, and at most 9 where layout and
+-- mark are 0 or 1, as in every legal placement.
 use Prim.Native.Nat.{ℕ, zero, suc, _+_, _*_, _<_, _≤_}
 use mathlib.Core.Path.{_≡_, refl, sym, ap, _∙_}
 use mathlib.Core.List.{[], _∷_, _++_, append-assoc, append-nil}
@@ -26,7 +27,8 @@ pub record Narrow (p : Pose) : Type 0 where
 pub narrow-printable : (p : Pose) → Narrow p → Printable p
 narrow-printable p h = record { site = h .site; layout = omega (arith, h .layout); mark = omega (arith, h .mark) }
 
-pub line-long : (p : Pose) → length (lineOf p) ≡ length (digits (p .site)) + length (digits (p .layout)) + length (digits (p .mark)) + 3
+pub line-long : (p : Pose)
+    → length (lineOf p) ≡ length (digits (p .site)) + length (digits (p .layout)) + length (digits (p .mark)) + 3
 line-long p = simp length-append (omega arith)
 
 pub line-room : (p : Pose) → Printable p → length (lineOf p) ≤ 15
@@ -42,11 +44,19 @@ one-long : (n : ℕ) → n ≤ 1 → length (digits n) ≡ 1
 one-long n h = ap length (one-digit 3 n (omega arith))
 
 pub narrow-line-room : (p : Pose) → Narrow p → length (lineOf p) ≤ 9
-narrow-line-room p h = omega (arith, line-long p, number-digits (p .site) (h .site) .few, one-long (p .layout) (h .layout), one-long (p .mark) (h .mark))
+narrow-line-room p h =
+    omega (
+      arith,
+      line-long p,
+      number-digits (p .site) (h .site) .few,
+      one-long (p .layout) (h .layout),
+      one-long (p .mark) (h .mark),
+    )
 
 -- ---- over a placement
 
-text-room : (S : Pose → Type 0) (n : ℕ) → ((p : Pose) → S p → length (lineOf p) ≤ n) → (P : Placement) → Each S P → length (textOf P) ≤ n * length P
+text-room : (S : Pose → Type 0) (n : ℕ) → ((p : Pose) → S p → length (lineOf p) ≤ n) → (P : Placement) → Each S P
+    → length (textOf P) ≤ n * length P
 unfolding textOf
 text-room S n room [] h = omega arith
 text-room S n room (p ∷ P) h =
@@ -68,11 +78,13 @@ unfolding textOf
 text-append [] Q = refl
 text-append (p ∷ P) Q = rw (text-append P Q) (sym (append-assoc (lineOf p) (textOf P) (textOf Q)))
 
-pub text-more : (P : Placement) (i : ℕ) → i < length P → textOf (take (i + 1) P) ≡ textOf (take i P) ++ lineOf (poseAt P i)
+pub text-more : (P : Placement) (i : ℕ) → i < length P
+    → textOf (take (i + 1) P) ≡ textOf (take i P) ++ lineOf (poseAt P i)
 unfolding textOf
 text-more P i h =
     rw (add-one i, take-suc P i noPose)
-    (text-append (take i P) (poseAt P i ∷ []) ∙ ap (λ (t : Text). textOf (take i P) ++ t) (append-nil (lineOf (poseAt P i))))
+    (text-append (take i P) (poseAt P i ∷ [])
+    ∙ ap (λ (t : Text). textOf (take i P) ++ t) (append-nil (lineOf (poseAt P i))))
 
 pub text-within : (P : Placement) (i : ℕ) → length (textOf (take i P)) ≤ length (textOf P)
 text-within P i =
@@ -105,7 +117,8 @@ legal-pose c p few e =
     let low = ltb-true (p .layout) (length (c .layouts)) (b .0) in
     (omega arith, go (eqb (p .mark) 0) (eqb (p .mark) 1) (eqb-true (p .mark) 0) (eqb-true (p .mark) 1) (b .1))
   where
-    go : (t u : Bool) → (t ≡ true → p .mark ≡ 0) → (u ≡ true → p .mark ≡ 1) → (t || (u && c .mirrorable)) ≡ true → p .mark ≤ 1
+    go : (t u : Bool) → (t ≡ true → p .mark ≡ 0) → (u ≡ true → p .mark ≡ 1) → (t || (u && c .mirrorable)) ≡ true
+        → p .mark ≤ 1
     go true u f g e = omega (arith, f refl)
     go false true f g e = omega (arith, g refl)
     go false false f g e = absurd (false≢true e)
@@ -116,7 +129,8 @@ legal-narrow j P s l = each-at Narrow P λ k h.
     let low : k < length (j .cells) = omega (arith, l .each) in
     let few = s .cell k low .few in
     let q = legal-pose (cellAt j k) (poseAt P k) few (not-false (offered (cellAt j k) (poseAt P k)) (l .rule1 k low)) in
-    let inside = leb-true (endAt j P k) (j .header .sites) (not-false (leb (endAt j P k) (j .header .sites)) (l .rule2 k low)) in
+    let inside =
+    leb-true (endAt j P k) (j .header .sites) (not-false (leb (endAt j P k) (j .header .sites)) (l .rule2 k low)) in
     record { site = omega (arith, s .header .fewSites); layout = q .0; mark = q .1 }
 
 pub legal-printable : (j : Job) (P : Placement) → Sound j → Legal j P → Each Printable P

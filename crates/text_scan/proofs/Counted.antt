@@ -112,7 +112,9 @@ module _ {text : Text} {at n i : ℕ} {vs : List ℕ} (s : Counted text at vs n 
         let p : drop i text ≡ f ++ comma ∷ more = t .split ∙ rw e in
         record {
           done = s .done ++ f ∷ [];
-          fields = s .fields ∙ ap (λ (l : Text). s .done ++ fieldsOf l) p ∙ ap (λ (l : List Text). s .done ++ l) (fields-comma f d more) ∙ sym (append-snoc (s .done) f (fieldsOf more));
+          fields =
+              s .fields ∙ ap (λ (l : Text). s .done ++ fieldsOf l) p ∙ ap (λ (l : List Text). s .done ++ l) (fields-comma f d more)
+              ∙ sym (append-snoc (s .done) f (fieldsOf more));
           good = s .good ∙ ap readable p ∙ readable-comma f d more (t .number);
           rest = s .rest ∙ ap afterLine p ∙ after-digits (comma ∷ more) f d ∙ after-on comma more refl;
           count = omega (arith, s .count, length-append (s .done) (f ∷ []));

@@ -53,7 +53,8 @@ module _ (t : Text) where
       let e = digit-no-feed b (first b f d) in
       ap ended (line-on b (f ++ t) e) ∙ ended-on b (f ++ t) e ∙ ended-digits f (rest b f d)
 
-  pub fields-digits : (f : Text) → Digits f → (g : Text) (gs : List Text) → fieldsOf t ≡ g ∷ gs → fieldsOf (f ++ t) ≡ (f ++ g) ∷ gs
+  pub fields-digits : (f : Text) → Digits f → (g : Text) (gs : List Text) → fieldsOf t ≡ g ∷ gs
+      → fieldsOf (f ++ t) ≡ (f ++ g) ∷ gs
   unfolding fieldsOf
   fields-digits [] d g gs e = e
   fields-digits (b ∷ f) d g gs e =
@@ -97,7 +98,8 @@ pub record Form (f : Text) : Type 0 where
 pub number-form : (f : Text) → isNumber f ≡ true → Form f
 unfolding isNumber
 number-form f e =
-    let a = and-eq-true-iff (within 1 4 (length f) && all isDigit f) (eqb (length f) 1 || not (eqb (getD f 0 0) 48)) .0 e in
+    let a =
+    and-eq-true-iff (within 1 4 (length f) && all isDigit f) (eqb (length f) 1 || not (eqb (getD f 0 0) 48)) .0 e in
     let b = and-eq-true-iff (within 1 4 (length f)) (all isDigit f) .0 (a .0) in
     let c = and-eq-true-iff (leb 1 (length f)) (leb (length f) 4) .0 (b .0) in
     record {
@@ -112,7 +114,8 @@ number-form f e =
 
 pub form-number : (f : Text) → Form f → isNumber f ≡ true
 unfolding isNumber
-form-number f r = rw (le-leb 1 (length f) (r .some), le-leb (length f) 4 (r .few), r .digits) (go (ℕ-discrete (length f) 1))
+form-number f r =
+    rw (le-leb 1 (length f) (r .some), le-leb (length f) 4 (r .few), r .digits) (go (ℕ-discrete (length f) 1))
   where
     go : Dec (length f ≡ 1) → eqb (length f) 1 || not (eqb (getD f 0 0) 48) ≡ true
     go (yes e) = rw (eq-eqb (length f) 1 e)
@@ -139,7 +142,9 @@ module _ (f : Text) (b : ℕ) (g : Text) where
   five-digits h = not-form (f ++ b ∷ g) (λ r. let k = r .few in omega (arith, length-append f (b ∷ g)))
 
   pub leading-zero : 1 ≤ length f → getD f 0 0 ≡ 48 → isNumber (f ++ b ∷ g) ≡ false
-  leading-zero h e = not-form (f ++ b ∷ g) (λ r. r .lead (omega (arith, length-append f (b ∷ g))) (List·getD-append f (b ∷ g) 0 0 h ∙ e))
+  leading-zero h e =
+      not-form (f ++ b ∷ g)
+      (λ r. r .lead (omega (arith, length-append f (b ∷ g))) (List·getD-append f (b ∷ g) 0 0 h ∙ e))
 
 module _ (f : Text) (d : Digits f) where
   -- a text's last line without an end
@@ -148,7 +153,8 @@ module _ (f : Text) (d : Digits f) where
   unended = readable-digits [] f d [] [] refl
 
   -- no number begins with f and b
-  pub no-field : (b : ℕ) (r : Text) → eqb b lineFeed ≡ false → eqb b comma ≡ false → ((g : Text) → isNumber (f ++ b ∷ g) ≡ false)
+  pub no-field : (b : ℕ) (r : Text) → eqb b lineFeed ≡ false → eqb b comma ≡ false
+      → ((g : Text) → isNumber (f ++ b ∷ g) ≡ false)
       → readable (f ++ b ∷ r) ≡ false
   unfolding fieldsOf
   no-field b r e k n = go (fieldsOf r) refl

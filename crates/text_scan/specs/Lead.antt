@@ -17,7 +17,10 @@ use Rattle.text_scan.specs.Field.{and-false}
 unfoldable pub led : ℕ → Text → Bool
 led lead s = formed lead (firstLine s) && leb 2 (length (fieldsOf (firstLine s)))
 
-led-fields : (lead : ℕ) (s : Text) → led lead s ≡ ended (firstLine s) && isLead lead (getD (fieldsOf s) 0 []) && all isNumber (drop 1 (fieldsOf s)) && leb 2 (length (fieldsOf s))
+led-fields : (lead : ℕ) (s : Text)
+    → led lead s
+    ≡ ended (firstLine s) && isLead lead (getD (fieldsOf s) 0 []) && all isNumber (drop 1 (fieldsOf s))
+    && leb 2 (length (fieldsOf s))
 unfolding led
 led-fields lead s = rw (fields-first s)
 
@@ -43,7 +46,8 @@ pub led-other : (lead b : ℕ) (s : Text) → (b ≡ lead → ⊥) → led lead 
 unfolding fieldsOf
 led-other lead b s n = led-no lead (b ∷ s) (go (eqb b lineFeed) (eqb b comma) (fieldsOf s))
   where
-    go : (t u : Bool) (gs : List Text) → isLead lead (getD (cond t ([] ∷ []) (cond u ([] ∷ gs) (onto b gs))) 0 []) ≡ false
+    go : (t u : Bool) (gs : List Text)
+        → isLead lead (getD (cond t ([] ∷ []) (cond u ([] ∷ gs) (onto b gs))) 0 []) ≡ false
     go true u gs = refl
     go false true gs = refl
     go false false [] = ne-eqb b lead n
@@ -66,7 +70,8 @@ module _ (lead : ℕ) (high : comma < lead) where
   unfolding fieldsOf
   led-long b s n = go (eqb b lineFeed) refl
     where
-      first : (gs : List Text) → fieldsOf s ≡ gs → eqb b lineFeed ≡ false → isLead lead (getD (fieldsOf (lead ∷ b ∷ s)) 0 []) ≡ false
+      first : (gs : List Text) → fieldsOf s ≡ gs → eqb b lineFeed ≡ false
+          → isLead lead (getD (fieldsOf (lead ∷ b ∷ s)) 0 []) ≡ false
       first [] e f = rw (no-feed, no-comma, f, ne-eqb b comma n, e)
       first (g ∷ gs) e f = rw (no-feed, no-comma, f, ne-eqb b comma n, e)
 
@@ -85,7 +90,16 @@ module _ (lead : ℕ) (high : comma < lead) where
   unfolding readable
   led-on s =
       led-fields lead (lead ∷ comma ∷ s)
-      ∙ rw (fields-led s, line-on lead (comma ∷ s) no-feed, ended-on lead (comma ∷ s) no-feed, line-on comma s refl, ended-on comma s refl, eq-eqb lead lead refl, fields-first s, le-leb 2 (suc (length (fieldsOf s))) (let h = some-field s in omega arith))
+      ∙ rw (
+        fields-led s,
+        line-on lead (comma ∷ s) no-feed,
+        ended-on lead (comma ∷ s) no-feed,
+        line-on comma s refl,
+        ended-on comma s refl,
+        eq-eqb lead lead refl,
+        fields-first s,
+        le-leb 2 (suc (length (fieldsOf s))) (let h = some-field s in omega arith),
+      )
       (ones (ended (firstLine s)) (all isNumber (fieldsOf s)))
     where
       ones : (a b : Bool) → a && true && b && true ≡ a && b

@@ -1,5 +1,5 @@
--- The first line of a text and what follows it, and how they make up the lines of document 01. A line may be read where it stands: its
--- fields and its end are those of the text that begins with it.
+-- The first line of a text and what follows it, and how they make up the lines of document 01. A line may be read where
+-- it stands: its fields and its end are those of the text that begins with it.
 use Prim.Native.Nat.{ℕ}
 use mathlib.Core.Path.{_≡_, refl, ap}
 use mathlib.Core.Bool.{Bool, true, false, _&&_, cond}
@@ -30,7 +30,8 @@ lines-first b [] = go (eqb b lineFeed)
 lines-first b (c ∷ bs) = go (eqb b lineFeed) (lines-first c bs)
   where
     go : (t : Bool) → linesOf (c ∷ bs) ≡ firstLine (c ∷ bs) ∷ linesOf (afterLine (c ∷ bs))
-        → cond t ((b ∷ []) ∷ linesOf (c ∷ bs)) (onto b (linesOf (c ∷ bs))) ≡ cond t (b ∷ []) (b ∷ firstLine (c ∷ bs)) ∷ linesOf (cond t (c ∷ bs) (afterLine (c ∷ bs)))
+        → cond t ((b ∷ []) ∷ linesOf (c ∷ bs)) (onto b (linesOf (c ∷ bs)))
+        ≡ cond t (b ∷ []) (b ∷ firstLine (c ∷ bs)) ∷ linesOf (cond t (c ∷ bs) (afterLine (c ∷ bs)))
     go true e = refl
     go false e = ap (onto b) e
 
@@ -40,7 +41,8 @@ fields-first [] = refl
 fields-first (b ∷ bs) = go (eqb b lineFeed) refl (fields-first bs)
   where
     go : (t : Bool) → eqb b lineFeed ≡ t → fieldsOf (firstLine bs) ≡ fieldsOf bs
-        → fieldsOf (cond t (b ∷ []) (b ∷ firstLine bs)) ≡ cond t ([] ∷ []) (cond (eqb b comma) ([] ∷ fieldsOf bs) (onto b (fieldsOf bs)))
+        → fieldsOf (cond t (b ∷ []) (b ∷ firstLine bs))
+        ≡ cond t ([] ∷ []) (cond (eqb b comma) ([] ∷ fieldsOf bs) (onto b (fieldsOf bs)))
     go true e h = rw e
     go false e h = rw (e, h)
 

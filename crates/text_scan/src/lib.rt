@@ -1,4 +1,5 @@
-// Lines, fields and numbers of a text, read where they stand. A line is read once, from its first byte to its line feed.
+// Lines, fields and numbers of a text, read where they stand. A line is read
+// once, from its first byte to its line feed.
 ghost use mathlib.Core.Path.{_≡_};
 ghost use mathlib.Core.Bool.{false};
 ghost use Prim.Native.Nat.{_≤_, _<_};

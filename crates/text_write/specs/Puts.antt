@@ -16,18 +16,21 @@ put-one l i v h = set-split l i v (omega arith) ∙ rw (add-one i)
 length-put : (l : List ℕ) (at : ℕ) (xs : List ℕ) → at + length xs ≤ length l → length (put l at xs) ≡ length l
 length-put l at xs h = simp (length-append, length-take, length-drop) (omega arith)
 
-put-put : (l : List ℕ) (at : ℕ) (xs ys : List ℕ) → at + length xs + length ys ≤ length l → put (put l at xs) (at + length xs) ys ≡ put l at (xs ++ ys)
+put-put : (l : List ℕ) (at : ℕ) (xs ys : List ℕ) → at + length xs + length ys ≤ length l
+    → put (put l at xs) (at + length xs) ys ≡ put l at (xs ++ ys)
 put-put l at xs ys h =
     let p : List ℕ = take at l ++ xs in
     let q : List ℕ = drop (at + length xs) l in
     let e : put l at xs ≡ p ++ q = sym (append-assoc (take at l) xs q) in
-    let n : length p ≡ at + length xs = length-append (take at l) xs ∙ ap (λ (k : ℕ). k + length xs) (length-take-le at l (omega arith)) in
+    let n : length p ≡ at + length xs =
+    length-append (take at l) xs ∙ ap (λ (k : ℕ). k + length xs) (length-take-le at l (omega arith)) in
     let t : take (at + length xs) (p ++ q) ≡ p = take-at p q (at + length xs) n in
     let d : drop (at + length xs + length ys) (p ++ q) ≡ drop (at + length (xs ++ ys)) l =
     ap (λ (k : ℕ). drop (k + length ys) (p ++ q)) (sym n)
     ∙ drop-append-add p q (length ys)
     ∙ drop-drop (length ys) (at + length xs) l
-    ∙ ap (λ (k : ℕ). drop k l) (add-assoc at (length xs) (length ys) ∙ ap (λ (k : ℕ). at + k) (sym (length-append xs ys))) in
+    ∙ ap (λ (k : ℕ). drop k l)
+    (add-assoc at (length xs) (length ys) ∙ ap (λ (k : ℕ). at + k) (sym (length-append xs ys))) in
     ap (λ (m : List ℕ). put m (at + length xs) ys) e
     ∙ ap (λ (m : List ℕ). m ++ (ys ++ drop (at + length xs + length ys) (p ++ q))) t
     ∙ ap (λ (m : List ℕ). p ++ (ys ++ m)) d
@@ -35,7 +38,8 @@ put-put l at xs ys h =
     ∙ ap (λ (m : List ℕ). take at l ++ m) (sym (append-assoc xs ys (drop (at + length (xs ++ ys)) l)))
 
 -- one text after another, which begins where the first ends
-pub then : {xs ys l m n : List ℕ} {at p r : ℕ} → at + length xs + length ys ≤ length l → Wrote xs l at m p → Wrote ys m p n r → Wrote (xs ++ ys) l at n r
+pub then : {xs ys l m n : List ℕ} {at p r : ℕ} → at + length xs + length ys ≤ length l → Wrote xs l at m p
+    → Wrote ys m p n r → Wrote (xs ++ ys) l at n r
 then {xs} {ys} {l} {m} {n} {at} {p} {r} h a b = record {
   cursor = omega (arith, a .cursor, b .cursor, length-append xs ys);
   bytes = b .bytes ∙ rw (a .bytes, a .cursor) (put-put l at xs ys h);

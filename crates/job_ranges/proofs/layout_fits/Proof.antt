@@ -38,13 +38,15 @@ heights-fit-requires-2 c κs = search needs
 
 returns : tie.Need-returns
 returns c =
-    let a = c .before .before .before .before .before .before .args in
+    let mid = c .before .before .before .before in
+    let a = mid .before .before .args in
     let e : length (a .l .heights) ≡ 8 = search needs in
     rw (c .before .before .heights-fit .ensures, c .heights-fit2 .ensures) (layout-tall (a .l) e (a .row) (c .before .if1 .taken))
 
 returns-2 : tie.Need-returns-2
 returns-2 c =
-    let a = c .before .before .before .before .before .args in
+    let mid = c .before .before .before .before in
+    let a = mid .before .args in
     let e : length (a .l .heights) ≡ 8 = search needs in
     rw (c .before .heights-fit .ensures) (layout-single (a .l) e (a .row) (c .if1 .left))
 

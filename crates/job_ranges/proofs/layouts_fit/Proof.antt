@@ -12,7 +12,9 @@ layout-fits-requires : tie.Need-layout-fits-requires
 layout-fits-requires c κs = search needs
 
 returns-2 : tie.Need-returns-2
-returns-2 c = c .layout-fits .ensures ∙ layouts-one (c .before .before .before .before .before .args .c) (c .before .if2 .taken)
+returns-2 c =
+    let mid = c .before .before .before .before in
+    c .layout-fits .ensures ∙ layouts-one (mid .before .args .c) (c .before .if2 .taken)
 
 layout-fits-requires-2 : tie.Need-layout-fits-requires-2
 layout-fits-requires-2 c κs = search needs
@@ -22,8 +24,9 @@ layout-fits-requires-3 c κs = search needs
 
 returns-3 : tie.Need-returns-3
 returns-3 c =
+    let mid = c .before .before .before .before in
     rw (c .before .layout-fits2 .ensures, c .layout-fits3 .ensures)
-    (layouts-two (c .before .before .before .before .before .before .args .c) (c .before .before .before .if1 .left) (c .before .before .if2 .left))
+    (layouts-two (mid .before .before .args .c) (c .before .before .before .if1 .left) (c .before .before .if2 .left))
 
 pub layouts-fit-spec : {M : Type 1} → statement M
 layouts-fit-spec =

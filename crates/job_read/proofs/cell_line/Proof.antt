@@ -22,7 +22,8 @@ cell-refusal-requires c κs = search needs
 
 returns : tie.Need-returns
 returns c =
-    let a = c .before .before .before .before .before .args in
+    let mid = c .before .before .before .before in
+    let a = mid .before .args in
     let f = c .before .before .before .read-led in
     let r = f .result in
     let n : c .cell-refusal .result ≡ cellNumber (a .t) (r .ok) (r .count) (getD (r .values) 2 0) (cellIn (r .values)) =

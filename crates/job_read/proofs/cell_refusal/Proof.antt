@@ -41,7 +41,8 @@ tried-requires-6 c κs = search needs
 returns : tie.Need-returns
 unfolding cellNumber
 returns c =
-    let t = c .before .before .before .before .before in
+    let mid = c .before .before .before .before in
+    let t = mid .before in
     let r = t .before .before .before in
     rw (
       c .tried6 .ensures,

@@ -18,7 +18,8 @@ header-refusal-requires c κs = search needs
 
 returns : tie.Need-returns
 returns c =
-    let text = c .before .before .before .before .before .args .text .now in
+    let mid = c .before .before .before .before in
+    let text = mid .before .args .text .now in
     let f = c .before .before .before .read-led in
     let n : c .header-refusal .result ≡ headNumber (f .result .ok) (f .result .count) (headerIn (f .result .values)) =
     c .header-refusal .ensures ∙ ap (headNumber (f .result .ok) (f .result .count)) (c .before .header-of .ensures) in

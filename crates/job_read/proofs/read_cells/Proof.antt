@@ -19,8 +19,11 @@ empty-requires c κs = tt
 
 loop-holds : tie.Need-loop-holds Inv-loop μ-loop
 loop-holds c =
-    let a = c .before .before .args in
-    (far-none (a .text .now) (a .from) (a .header) (c .empty .result .cells) (c .before .before .pre) (ap (λ (j : Job). length (j .cells)) (c .empty .ensures)), refl)
+    let a = c .before .before .args in (
+      far-none (a .text .now) (a .from) (a .header) (c .empty .result .cells) (c .before .before .pre)
+          (ap (λ (j : Job). length (j .cells)) (c .empty .ensures)),
+      refl,
+    )
 
 cell-line-requires : tie.Need-cell-line-requires Inv-loop μ-loop
 cell-line-requires c κs = c .loop-test .taken
@@ -44,7 +47,8 @@ tally-with-requires c κs =
 
 add-line : tie.Need-add-line Inv-loop μ-loop
 add-line c =
-    let s = c .before .before .before .before .before .loop .inv .0 in
+    let mid = c .before .before .before .before in
+    let s = mid .before .loop .inv .0 in
     omega (arith, s .number, s .few)
 
 loop-less : tie.Need-loop-less Inv-loop μ-loop

@@ -20,7 +20,8 @@ empty-requires-2 c κs = search needs
 returns-2 : tie.Need-returns-2
 returns-2 c =
     let h = c .before .before in
-    head-refused (h .before .before .before .args .text .now) (omega arith) (h .header-line .result) (h .header-line .ensures) (c .before .if2 .taken) (c .empty2 .result)
+    head-refused (h .before .before .before .args .text .now) (omega arith) (h .header-line .result) (h .header-line .ensures) (c .before .if2 .taken)
+    (c .empty2 .result)
 
 read-cells-requires : tie.Need-read-cells-requires
 read-cells-requires c κs = c .before .before .header-line .ensures .read (c .before .if2 .left) .within
@@ -28,7 +29,8 @@ read-cells-requires c κs = c .before .before .header-line .ensures .read (c .be
 returns-3 : tie.Need-returns-3
 returns-3 c =
     let h = c .before .before .before in
-    let e = head-on (h .before .before .before .args .text .now) (omega arith) (h .header-line .result) (h .header-line .ensures) (c .before .before .if2 .left) in
+    let e =
+    head-on (h .before .before .before .args .text .now) (omega arith) (h .header-line .result) (h .header-line .ensures) (c .before .before .if2 .left) in
     rw e at (c .read-cells .ensures)
 
 pub read-job-spec : {M : Type 1} → statement M

@@ -25,7 +25,8 @@ returns-2 c =
     let n = p .before in
     let r = n .before .before .before in
     let a = r .before .before .before .args in
-    by-placement (a .job .now) (a .placement .now) (r .read-job .result) (r .read-job .ensures) (n .before .if1 .left) (n .cell-count .result) (n .cell-count .ensures .0) (p .read-placement .result) (p .read-placement .ensures) (c .if2 .taken)
+    by-placement (a .job .now) (a .placement .now) (r .read-job .result) (r .read-job .ensures) (n .before .if1 .left) (n .cell-count .result)
+    (n .cell-count .ensures .0) (p .read-placement .result) (p .read-placement .ensures) (c .if2 .taken)
 
 returns-3 : tie.Need-returns-3
 returns-3 c =
@@ -33,7 +34,8 @@ returns-3 c =
     let n = p .before in
     let r = n .before .before .before in
     let a = r .before .before .before .args in
-    by-none (a .job .now) (a .placement .now) (r .read-job .result) (r .read-job .ensures) (n .before .if1 .left) (n .cell-count .result) (n .cell-count .ensures .0) (p .read-placement .result) (p .read-placement .ensures) (c .if2 .left)
+    by-none (a .job .now) (a .placement .now) (r .read-job .result) (r .read-job .ensures) (n .before .if1 .left) (n .cell-count .result)
+    (n .cell-count .ensures .0) (p .read-placement .result) (p .read-placement .ensures) (c .if2 .left)
 
 pub reported-spec : {M : Type 1} → statement M
 reported-spec =

@@ -35,7 +35,10 @@ returns c =
     let piece : PieceOf (faultLine (a .job .now) (a .placement .now)) (a .job .now) (a .placement .now) (p .part-at .result) = rw e at (p .part-at .ensures) in
     record {
       number = r .reported .ensures .number;
-      array = w .put-words .ensures ∙ ap (λ (l : List ℕ). over l (a .results .now)) (told-words (a .job .now) (a .placement .now) (faultLine (a .job .now) (a .placement .now)) (p .part-at .result) piece);
+      array =
+          w .put-words .ensures
+          ∙ ap (λ (l : List ℕ). over l (a .results .now))
+          (told-words (a .job .now) (a .placement .now) (faultLine (a .job .now) (a .placement .now)) (p .part-at .result) piece);
     }
 
 pub tell-fault-spec : {M : Type 1} → statement M

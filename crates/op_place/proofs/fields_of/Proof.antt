@@ -28,7 +28,8 @@ cast-t10 c = search needs
 
 returns : tie.Need-returns
 returns c =
-    let e = c .before .before .before .before .before .before in
+    let mid = c .before .before .before .before in
+    let e = mid .before .before in
     let a = e .before .args in
     fields-listed (jobOf (a .job)) (placementOf (a .placement)) (e .numbers-of .result) (a .bytes) (e .numbers-of .ensures)
     (record { sfits = c .struct-told .given .1 .1 .1 .1 .1 .0 .1 })

@@ -39,7 +39,8 @@ returns c =
 put-answer-requires : tie.Need-put-answer-requires
 put-answer-requires c κs =
     let l = c .before .before .before in
-    let f = l .before .before .before .before .before .before .before in
+    let mid = l .before .before .before .before in
+    let f = mid .before .before .before in
     let s = f .before .before .before .before in
     let o = f .search .ensures in
     record {

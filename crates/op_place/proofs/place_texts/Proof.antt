@@ -21,7 +21,8 @@ returns : tie.Need-returns
 returns c =
     let r = c .before .before .before .before in
     let a = r .before .before .before .before .args in
-    placed-refused (a .store .now) (a .output .now) (a .results .now) (a .job .now) (reads-refused (r .read-job .ensures) (c .before .before .before .if1 .taken))
+    placed-refused (a .store .now) (a .output .now) (a .results .now) (a .job .now)
+    (reads-refused (r .read-job .ensures) (c .before .before .before .if1 .taken))
     (c .before .refuse .ensures)
 
 mul-room : tie.Need-mul-room
@@ -37,7 +38,8 @@ same-length-2 c = search needs
 
 returns-2 : tie.Need-returns-2
 returns-2 c =
-    let l = c .before .before .before .before .before .before in
+    let mid = c .before .before .before .before in
+    let l = mid .before .before in
     let r = l .before in
     let a = r .before .before .before .before .args in
     placed-small (a .store .now) (a .output .now) (a .results .now) (a .job .now) (jobOf (r .read-job .result .job))
@@ -94,7 +96,8 @@ same-length-6 c = search needs
 
 returns-4 : tie.Need-returns-4
 returns-4 c =
-    let p = c .before .before .before .before .before in
+    let mid = c .before .before .before .before in
+    let p = mid .before in
     let t = p .before .before .before .before in
     let k = t .before in
     let l = k .before .before .before in

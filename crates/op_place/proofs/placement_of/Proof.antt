@@ -47,13 +47,19 @@ pose-of-requires c κs =
     (given-low (s .args .t1) (s .args .t2) (s .pre .taken) (h .loop .k) (omega arith), s .pre .low (h .loop .k))
 
 mul-pose : tie.Need-mul-pose Inv-loop μ-loop
-mul-pose c = omega (arith, c .before .before .before .before .before .pre .taken .few)
+mul-pose c =
+    let mid = c .before .before .before .before in
+    omega (arith, mid .before .pre .taken .few)
 
 element-set-from-pose : tie.Need-element-set-from-pose Inv-loop μ-loop
-element-set-from-pose c = omega (arith, c .before .before .before .before .before .pre .taken .few)
+element-set-from-pose c =
+    let mid = c .before .before .before .before in
+    omega (arith, mid .before .pre .taken .few)
 
 add-k : tie.Need-add-k Inv-loop μ-loop
-add-k c = omega (arith, c .before .before .before .before .before .pre .taken .few)
+add-k c =
+    let mid = c .before .before .before .before in
+    omega (arith, mid .before .pre .taken .few)
 
 loop-less : tie.Need-loop-less Inv-loop μ-loop
 loop-less c = omega arith

@@ -56,13 +56,15 @@ cast-t14 c = search needs
 
 returns-2 : tie.Need-returns-2
 returns-2 c =
-    let e = c .before .before .before .before .before .before .before in
+    let mid = c .before .before .before .before in
+    let n = mid .before .before in
+    let e = n .before in
     let a = e .before .before .args in
     let j = jobOf (a .job) in
     let P = placementOf (a .placement) in
     let z : verdict j P .rule ≡ 0 = sym (e .before .verdict-of .ensures .rule) ∙ e .if1 .left in
-    legal-fields j P (verdict j P) (c .before .before .before .before .before .before .numbers-of .result) z (verdict-small j P .none z)
-    (c .before .before .before .before .before .before .numbers-of .ensures)
+    legal-fields j P (verdict j P) (n .numbers-of .result) z (verdict-small j P .none z)
+    (n .numbers-of .ensures)
     (record { sfits = c .struct-told .given .1 .1 .1 .1 .1 .0 .1 })
 
 pub fields-of-spec : {M : Type 1} → statement M

@@ -35,7 +35,8 @@ fields-of-requires c κs =
 
 returns-2 : tie.Need-returns-2
 returns-2 c =
-    let a = c .before .before .before .before .before .args in
+    let mid = c .before .before .before .before in
+    let a = mid .before .args in
     let r = c .before .before .before .read-placement in
     let e = read-whole (a .placement .now) (a .job .count) (r .result) (r .ensures) (c .before .before .if1 .left) in
     scores-as (ap (scorePoses (jobOf (a .job))) e)

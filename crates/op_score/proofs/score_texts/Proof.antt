@@ -29,7 +29,8 @@ score-placement-requires : tie.Need-score-placement-requires
 score-placement-requires c κs =
     let r = c .before .before .read-job in
     let z = c .before .if1 .left in
-    let a = c .before .before .before .before .before .args in
+    let mid = c .before .before .before .before in
+    let a = mid .before .args in
     (accepted-sound (a .job .now) (jobOf (r .result .job)) (reads-accepted (r .ensures) z), r .ensures .few z)
 
 returns-2 : tie.Need-returns-2
@@ -37,7 +38,8 @@ unfolding score
 returns-2 c =
     let r = c .before .before .before .read-job in
     let z = c .before .before .if1 .left in
-    let a = c .before .before .before .before .before .before .args in
+    let mid = c .before .before .before .before in
+    let a = mid .before .before .args in
     let e = reads-accepted (r .ensures) z in
     let n = reads-count (r .ensures) z in
     scores-as

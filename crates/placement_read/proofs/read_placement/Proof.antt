@@ -45,7 +45,9 @@ mul-pose : tie.Need-mul-pose Inv-loop μ-loop
 mul-pose c = omega arith
 
 element-set-from-pose : tie.Need-element-set-from-pose Inv-loop μ-loop
-element-set-from-pose c = omega (arith, c .before .before .before .before .before .loop .inv .kept .long)
+element-set-from-pose c =
+    let mid = c .before .before .before .before in
+    omega (arith, mid .before .loop .inv .kept .long)
 
 add-placement : tie.Need-add-placement Inv-loop μ-loop
 add-placement c = omega arith

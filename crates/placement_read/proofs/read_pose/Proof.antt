@@ -14,7 +14,8 @@ no-pose-requires c κs = search needs
 returns : tie.Need-returns
 returns c =
     let n = c .before .before in
-    pose-bad (n .before .before .args .text .now) (n .before .before .args .at) (n .read-numbers .result) (n .read-numbers .ensures) (not-true _ (c .before .if1 .taken)) (c .no-pose .result) (c .no-pose .ensures)
+    pose-bad (n .before .before .args .text .now) (n .before .before .args .at) (n .read-numbers .result) (n .read-numbers .ensures)
+    (not-true _ (c .before .if1 .taken)) (c .no-pose .result) (c .no-pose .ensures)
 
 no-pose-requires-2 : tie.Need-no-pose-requires-2
 no-pose-requires-2 c κs = search needs
@@ -22,7 +23,8 @@ no-pose-requires-2 c κs = search needs
 returns-2 : tie.Need-returns-2
 returns-2 c =
     let n = c .before .before .before in
-    pose-other (n .before .before .args .text .now) (n .before .before .args .at) (n .read-numbers .result) (n .read-numbers .ensures) (not-false _ (c .before .before .if1 .left)) (c .before .if2 .taken) (c .no-pose2 .result) (c .no-pose2 .ensures)
+    pose-other (n .before .before .args .text .now) (n .before .before .args .at) (n .read-numbers .result) (n .read-numbers .ensures)
+    (not-false _ (c .before .before .if1 .left)) (c .before .if2 .taken) (c .no-pose2 .result) (c .no-pose2 .ensures)
 
 element-copy-out-t10 : tie.Need-element-copy-out-t10
 element-copy-out-t10 c = search needs
@@ -35,8 +37,10 @@ element-copy-out-t16 c = search needs
 
 returns-3 : tie.Need-returns-3
 returns-3 c =
-    let n = c .before .before .before .before .before in
-    pose-good (n .before .before .args .text .now) (n .before .before .args .at) (n .read-numbers .result) (n .read-numbers .ensures) (not-false _ (c .before .before .before .before .if1 .left)) (c .before .before .before .if2 .left)
+    let mid = c .before .before .before .before in
+    let n = mid .before in
+    pose-good (n .before .before .args .text .now) (n .before .before .args .at) (n .read-numbers .result) (n .read-numbers .ensures)
+    (not-false _ (c .before .before .before .before .if1 .left)) (c .before .before .before .if2 .left)
 
 pub read-pose-spec : {M : Type 1} → statement M
 read-pose-spec =

@@ -38,8 +38,10 @@ put-pose-requires c κs =
     let h = c .before .before .before in
     let s = h .before .before in
     let P = s .args .t2 in
-    let many : P .count ≤ length (P .poses) = count-fits s in
-    (next-fits P many (h .loop .i) (omega arith) (s .pre .0) (h .loop .inv .1), rw (placed-at P (h .loop .i) (omega arith)) at (at-each Printable (placementOf P) (s .pre .1 .0) (h .loop .i) (omega (arith, placed-count P many))))
+    let many : P .count ≤ length (P .poses) = count-fits s in (
+      next-fits P many (h .loop .i) (omega arith) (s .pre .0) (h .loop .inv .1),
+      rw (placed-at P (h .loop .i) (omega arith)) at (at-each Printable (placementOf P) (s .pre .1 .0) (h .loop .i) (omega (arith, placed-count P many))),
+    )
 
 add-i : tie.Need-add-i Inv-loop μ-loop
 add-i c = omega arith
@@ -49,7 +51,8 @@ loop-less c = omega arith
 
 loop-again : tie.Need-loop-again Inv-loop μ-loop
 loop-again c =
-    let h = c .before .before .before .before .before .before in
+    let mid = c .before .before .before .before in
+    let h = mid .before .before in
     let s = h .before .before in
     (omega arith, next-wrote (s .args .t2) (count-fits s) (h .loop .i) (omega arith) (s .pre .0) (h .loop .inv .1) (c .before .before .put-pose .ensures))
 

@@ -18,16 +18,35 @@ put-field-requires c κs =
 put-field-requires-2 : tie.Need-put-field-requires-2
 put-field-requires-2 c κs =
     let f = c .before .before .before in
-    let s = f .before .before .before in
-    (omega (arith, line-long (poseOf (s .args .pose)), f .put-field .ensures .cursor, length-append (digits (s .args .pose .site)) (comma ∷ []), f .put-field .kept .0), s .pre .1 .layout)
+    let s = f .before .before .before in (
+      omega (
+        arith,
+        line-long (poseOf (s .args .pose)),
+        f .put-field .ensures .cursor,
+        length-append (digits (s .args .pose .site)) (comma ∷ []),
+        f .put-field .kept .0,
+      ),
+      s .pre .1 .layout,
+    )
 
 put-field-requires-3 : tie.Need-put-field-requires-3
 put-field-requires-3 c κs =
     let g = c .before .before .before in
     let f = g .before .before .before .before in
     let s = f .before .before .before in
-    let p = s .args .pose in
-    (omega (arith, line-long (poseOf p), f .put-field .ensures .cursor, length-append (digits (p .site)) (comma ∷ []), f .put-field .kept .0, g .put-field2 .ensures .cursor, length-append (digits (p .layout)) (comma ∷ []), g .put-field2 .kept .0), s .pre .1 .mark)
+    let p = s .args .pose in (
+      omega (
+        arith,
+        line-long (poseOf p),
+        f .put-field .ensures .cursor,
+        length-append (digits (p .site)) (comma ∷ []),
+        f .put-field .kept .0,
+        g .put-field2 .ensures .cursor,
+        length-append (digits (p .layout)) (comma ∷ []),
+        g .put-field2 .kept .0,
+      ),
+      s .pre .1 .mark,
+    )
 
 same-length : tie.Need-same-length
 same-length c = search needs

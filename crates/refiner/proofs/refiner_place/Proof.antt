@@ -17,7 +17,9 @@ same-length-3 : tie.Need-same-length-3
 same-length-3 c = search needs
 
 returns : tie.Need-returns
-returns c = let p = c .before .before .before .before .before .place-texts .ensures in (p, place-demand3 p)
+returns c =
+    let mid = c .before .before .before .before in
+    let p = mid .before .place-texts .ensures in (p, place-demand3 p)
 
 pub refiner-place-spec : {M : Type 1} → statement M
 refiner-place-spec =

@@ -25,7 +25,8 @@ same-length c = search needs
 returns : tie.Need-returns
 unfolding read
 returns c =
-    let a = c .before .before .before .before .before .before .args in
+    let mid = c .before .before .before .before in
+    let a = mid .before .before .args in
     let e = ap readOutcome (reads-refused (c .before .before .before .before .read-job .ensures) (c .before .before .before .if1 .taken)) in
     record {
       number = ap (λ (o : Outcome). o .number) (sym e);
@@ -46,9 +47,12 @@ same-length-2 c = search needs
 returns-2 : tie.Need-returns-2
 unfolding read
 returns-2 c =
-    let a = c .before .before .before .before .before .before .before .before .args in
-    let r = c .before .before .before .before .before .before .read-job in
-    let z = c .before .before .before .before .before .if1 .left in
+    let mid = c .before .before .before .before in
+    let a = mid .before .before .before .before .args in
+    let mid = c .before .before .before .before in
+    let r = mid .before .before .read-job in
+    let mid = c .before .before .before .before in
+    let z = mid .before .if1 .left in
     let e = ap readOutcome (reads-accepted (r .ensures) z) in
     let n : length (jobOf (r .result .job) .cells) ≡ r .result .job .count = reads-count (r .ensures) z in
     record {

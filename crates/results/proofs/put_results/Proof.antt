@@ -27,7 +27,8 @@ laid c =
     let s = c .before .before .before in
     let a = s .args in
     c .loop .inv .2
-    ∙ rw (toZ-pos w32 (s .pre .0), toZ-pos w32 (s .pre .1)) (two-again (pos (a .number)) (pos (a .line)) (take (c .loop .i) (a .t4)) (a .results .now) (omega arith))
+    ∙ rw (toZ-pos w32 (s .pre .0), toZ-pos w32 (s .pre .1))
+    (two-again (pos (a .number)) (pos (a .line)) (take (c .loop .i) (a .t4)) (a .results .now) (omega arith))
 
 long : (c : tie.At-loop Inv-loop μ-loop) → length (c .loop .results) ≡ length (c .before .before .before .args .results .now)
 long c = ap length (laid c) ∙ simp length-over
@@ -59,8 +60,12 @@ slice-set-from-results-2 c = simp length-set (omega arith)
 
 loop-holds : tie.Need-loop-holds Inv-loop μ-loop
 loop-holds c =
-    let a = c .before .before .args in
-    (omega arith, search needs, rw (toZ-pos w32 (c .before .before .pre .0), toZ-pos w32 (c .before .before .pre .1)) (two-over (pos (a .number)) (pos (a .line)) (a .results .now) (omega arith)))
+    let a = c .before .before .args in (
+      omega arith,
+      search needs,
+      rw (toZ-pos w32 (c .before .before .pre .0), toZ-pos w32 (c .before .before .pre .1))
+          (two-over (pos (a .number)) (pos (a .line)) (a .results .now) (omega arith)),
+    )
 
 add-if3 : tie.Need-add-if3 Inv-loop μ-loop
 add-if3 c = omega arith

@@ -23,7 +23,8 @@ none-requires-2 c κs = search needs
 
 returns-2 : tie.Need-returns-2
 returns-2 c =
-    let a = c .before .before .before .before .before in
+    let mid = c .before .before .before .before in
+    let a = mid .before in
     lead-ends _ _ _ _ (a .pre .0) (a .pre .1) (c .before .before .if1 .left) (c .none2 .ensures) (c .before .if2 .taken)
 
 add-if3 : tie.Need-add-if3
@@ -37,8 +38,10 @@ none-requires-3 c κs = search needs
 
 returns-3 : tie.Need-returns-3
 returns-3 c =
-    let a = c .before .before .before .before .before .before .before in
-    lead-long _ _ _ _ (a .pre .0) (a .pre .1) (c .before .before .before .before .if1 .left) (c .before .before .before .if2 .left) (c .none3 .ensures) (c .before .if3 .taken)
+    let mid = c .before .before .before .before in
+    let a = mid .before .before .before in
+    lead-long _ _ _ _ (a .pre .0) (a .pre .1) (c .before .before .before .before .if1 .left) (c .before .before .before .if2 .left) (c .none3 .ensures)
+    (c .before .if3 .taken)
 
 add-read-numbers : tie.Need-add-read-numbers
 add-read-numbers c = search needs
@@ -48,8 +51,10 @@ read-numbers-requires c κs = search needs
 
 returns-4 : tie.Need-returns-4
 returns-4 c =
-    let a = c .before .before .before .before .before .before .before in
-    lead-on _ _ _ _ (a .pre .0) (a .pre .1) (c .before .before .before .before .if1 .left) (c .before .before .before .if2 .left) (c .before .if3 .left) (c .read-numbers .ensures)
+    let mid = c .before .before .before .before in
+    let a = mid .before .before .before in
+    lead-on _ _ _ _ (a .pre .0) (a .pre .1) (c .before .before .before .before .if1 .left) (c .before .before .before .if2 .left) (c .before .if3 .left)
+    (c .read-numbers .ensures)
 
 pub read-led-spec : {M : Type 1} → statement M
 read-led-spec =

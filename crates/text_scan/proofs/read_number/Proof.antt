@@ -5,7 +5,8 @@ use native.Mathlib.Omega.{arith}
 use mathlib.Core.Bool.{true, false}
 use mathlib.Core.Logic.{⊎-elim}
 use lib.ListN.{length}
-use Rattle.text_scan.proofs.Sofar.{Sofar, sofar-none, sofar-fits, sofar-more, sofar-end, sofar-low, sofar-high, sofar-long, sofar-zero, sofar-out, no-number}
+use Rattle.text_scan.proofs.Sofar.{Sofar, sofar-none, sofar-fits, sofar-more, sofar-end, sofar-low}
+use Rattle.text_scan.proofs.Sofar.{sofar-high, sofar-long, sofar-zero, sofar-out, no-number}
 use Rattle.text_scan.proofs.read_number.Statement.{statement}
 use Rattle.text_scan.proofs.read_number.Tie as tie
 
@@ -44,7 +45,8 @@ returns-3 c =
 
 returns-4 : tie.Need-returns-4 Inv-loop μ-loop
 returns-4 c =
-    let h = c .before .before .before .before .before in
+    let mid = c .before .before .before .before in
+    let h = mid .before in
     no-number _ _ _ refl (sofar-high (h .before .loop .inv) (h .loop-test .taken) (c .if4 .taken))
 
 sub-if5 : tie.Need-sub-if5 Inv-loop μ-loop
@@ -52,7 +54,8 @@ sub-if5 c = omega arith
 
 returns-5 : tie.Need-returns-5 Inv-loop μ-loop
 returns-5 c =
-    let h = c .before .before .before .before .before .before in
+    let mid = c .before .before .before .before in
+    let h = mid .before .before in
     no-number _ _ _ refl (sofar-long (h .before .loop .inv) (h .loop-test .taken) (c .before .before .if3 .left) (c .if5 .taken))
 
 shared-slice-read-if7 : tie.Need-shared-slice-read-if7 Inv-loop μ-loop
@@ -61,13 +64,16 @@ shared-slice-read-if7 c = omega arith
 returns-6 : tie.Need-returns-6 Inv-loop μ-loop
 returns-6 c =
     let z = c .before .before .before in
-    let h = z .before .before .before .before .before .before in
-    no-number _ _ _ refl (sofar-zero (h .before .loop .inv) (h .loop-test .taken) (z .before .before .if3 .left) (c .before .before .if6 .taken) (c .if7 .taken))
+    let mid = z .before .before .before .before in
+    let h = mid .before .before in
+    no-number _ _ _ refl
+    (sofar-zero (h .before .loop .inv) (h .loop-test .taken) (z .before .before .if3 .left) (c .before .before .if6 .taken) (c .if7 .taken))
 
 mul-value : tie.Need-mul-value Inv-loop μ-loop
 mul-value c =
     let z = c .before in
-    omega (arith, sofar-fits (z .before .before .before .before .before .before .before .loop .inv) (z .if5 .left))
+    let mid = z .before .before .before .before in
+    omega (arith, sofar-fits (mid .before .before .before .loop .inv) (z .if5 .left))
 
 cast-value : tie.Need-cast-value Inv-loop μ-loop
 cast-value c = omega arith
@@ -75,7 +81,8 @@ cast-value c = omega arith
 add-value : tie.Need-add-value Inv-loop μ-loop
 add-value c =
     let z = c .before in
-    omega (arith, sofar-fits (z .before .before .before .before .before .before .before .loop .inv) (z .if5 .left))
+    let mid = z .before .before .before .before in
+    omega (arith, sofar-fits (mid .before .before .before .loop .inv) (z .if5 .left))
 
 add-i : tie.Need-add-i Inv-loop μ-loop
 add-i c = omega arith
@@ -86,7 +93,8 @@ loop-less c = omega arith
 loop-again : tie.Need-loop-again Inv-loop μ-loop
 loop-again c =
     let z = c .before in
-    let h = z .before .before .before .before .before .before in
+    let mid = z .before .before .before .before in
+    let h = mid .before .before in
     sofar-more (h .before .loop .inv) (h .loop-test .taken) (z .before .before .if3 .left) (z .before .if4 .left) (z .if5 .left)
     (⊎-elim (λ w l e. w .2 .left e) (λ w l e. let n = w .left in omega arith) (c .if6 .came))
 

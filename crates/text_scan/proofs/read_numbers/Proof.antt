@@ -17,7 +17,8 @@ abbrev μ-loop : tie.MeasureT-loop
 
 -- where the two ways past the array meet: the fields before, the number read, and the values with it
 kept : (c : tie.Joined2 Inv-loop μ-loop)
-    → Kept (c .before .before .before .before .before .loop .values) (c .before .before .before .before .before .loop .count) (c .before .before .before .read-number .result .value) (c .if2 .values)
+    → let r = c .before .before .before in
+    Kept (r .before .before .loop .values) (r .before .before .loop .count) (r .read-number .result .value) (c .if2 .values)
 kept c = ⊎-elim (λ w. inl (w .0 .taken, w .1)) (λ w. inr (w .0 .left, w .1)) (c .if2 .came)
 
 loop-holds : tie.Need-loop-holds Inv-loop μ-loop
@@ -41,13 +42,22 @@ add-count : tie.Need-add-count Inv-loop μ-loop
 add-count c = omega arith
 
 returns-2 : tie.Need-returns-2 Inv-loop μ-loop
-returns-2 c = counted-end (c .before .before .before .before .before .before .loop .inv) (c .before .before .before .before .read-number .ensures .good (not-false _ (c .before .before .if1 .left))) (c .if3 .taken) (c .before .if2 .values) (kept (c .before))
+returns-2 c =
+    let r = c .before .before .before .before in
+    counted-end (r .before .before .loop .inv) (r .read-number .ensures .good (not-false _ (c .before .before .if1 .left))) (c .if3 .taken)
+    (c .before .if2 .values) (kept (c .before))
 
 loop-less : tie.Need-loop-less Inv-loop μ-loop
-loop-less c = let t = c .before .before .before .before .read-number .ensures .good (not-false _ (c .before .before .if1 .left)) in omega (arith, t .past, t .within)
+loop-less c =
+    let r = c .before .before .before .before in
+    let t = r .read-number .ensures .good (not-false _ (c .before .before .if1 .left)) in
+    omega (arith, t .past, t .within)
 
 loop-again : tie.Need-loop-again Inv-loop μ-loop
-loop-again c = counted-more (c .before .before .before .before .before .before .loop .inv) (c .before .before .before .before .read-number .ensures .good (not-false _ (c .before .before .if1 .left))) (c .if3 .left) (c .before .if2 .values) (kept (c .before))
+loop-again c =
+    let r = c .before .before .before .before in
+    counted-more (r .before .before .loop .inv) (r .read-number .ensures .good (not-false _ (c .before .before .if1 .left))) (c .if3 .left)
+    (c .before .if2 .values) (kept (c .before))
 
 returns-3 : tie.Need-returns-3 Inv-loop μ-loop
 returns-3 c = counted-bad (c .before .loop .inv) _ refl (none-readable _ _ (c .loop-test .left))

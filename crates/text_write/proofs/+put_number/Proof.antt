@@ -44,7 +44,8 @@ module _ (t : ℕ) where
 
   returns : lts.Need-returns (byte.Asked, byte.Learnt, below t, number.Post) (here t) number.Post
   returns c =
-      let a = c .before .before .before .before .before .before .args in
+      let mid = c .before .before .before .before in
+      let a = mid .before .before .args in
       rw (single (a .room) (a .n) (omega arith) (omega arith)) (c .before .before .put-byte .ensures)
 
   sub-put-number : lts.Need-sub-put-number (byte.Asked, byte.Learnt, below t, number.Post) (here t) number.Post
@@ -54,7 +55,8 @@ module _ (t : ℕ) where
   put-number-requires c κs =
       let s = c .before .before .before in
       let a = s .args in
-      let long = ap length (several (a .room) (a .n) (omega arith) (omega arith)) ∙ length-append (digitsIn (a .room - 1) (a .n / 10)) ((48 + a .n % 10) ∷ []) in
+      let long =
+      ap length (several (a .room) (a .n) (omega arith) (omega arith)) ∙ length-append (digitsIn (a .room - 1) (a .n / 10)) ((48 + a .n % 10) ∷ []) in
       let f = fewer (a .room) (a .n) (s .pre .1 .1) (omega arith) in
       (omega arith, (omega arith, f .0, f .1))
 
@@ -68,15 +70,19 @@ module _ (t : ℕ) where
   put-byte-requires-2 c κs =
       let n = c .before .before .before in
       let a = n .before .before .before .before .args in
-      let long = ap length (several (a .room) (a .n) (omega arith) (omega arith)) ∙ length-append (digitsIn (a .room - 1) (a .n / 10)) ((48 + a .n % 10) ∷ []) in
+      let long =
+      ap length (several (a .room) (a .n) (omega arith) (omega arith)) ∙ length-append (digitsIn (a .room - 1) (a .n / 10)) ((48 + a .n % 10) ∷ []) in
       omega (arith, n .put-number .kept .0, n .put-number .ensures .cursor)
 
   same-length-2 : lts.Need-same-length-2 (byte.Asked, byte.Learnt, below t, number.Post) (here t) number.Post
-  same-length-2 c = c .before .before .put-byte2 .kept .0 ∙ c .before .before .before .before .before .before .put-number .kept .0
+  same-length-2 c =
+      let mid = c .before .before .before .before in
+      c .before .before .put-byte2 .kept .0 ∙ mid .before .before .put-number .kept .0
 
   returns-2 : lts.Need-returns-2 (byte.Asked, byte.Learnt, below t, number.Post) (here t) number.Post
   returns-2 c =
-      let n = c .before .before .before .before .before .before in
+      let mid = c .before .before .before .before in
+      let n = mid .before .before in
       let a = n .before .before .before .before .args in
       let e = several (a .room) (a .n) (omega arith) (omega arith) in
       let long = ap length e ∙ length-append (digitsIn (a .room - 1) (a .n / 10)) ((48 + a .n % 10) ∷ []) in
