@@ -1,6 +1,6 @@
 -- The job and a placement as values of the program, and those of document 01 that they stand for.
-use Prim.Native.Nat.{ℕ, zero, suc, _+_, _≤_}
-use mathlib.Core.Bool.{Bool, false, cond}
+use Prim.Native.Nat.{ℕ}
+use mathlib.Core.Bool.{false, cond}
 use mathlib.Core.List.{List, [], _∷_, map}
 use lib.ListN.{getD, take, replicate}
 use lib.Dec.{eqb}

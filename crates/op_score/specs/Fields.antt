@@ -1,6 +1,6 @@
 -- The eight fields as the program writes them are the definition's: of a broken rule, and of a legal placement.
 use Prim.Native.Nat.{ℕ, _^_, _<_}
-use mathlib.Core.Path.{_≡_, refl, sym, ap, ap₂, _∙_}
+use mathlib.Core.Path.{_≡_, ap, _∙_}
 use mathlib.Core.List.{[], _∷_}
 use borrow.Author.Tests.{ne-eqb, eq-eqb}
 use mir.Syntax.{w32}
@@ -9,8 +9,8 @@ use mir.Facts.{toZ-pos, toZ-ofZ}
 use lib.IntN.{pos}
 use Rattle.definition.specs.Job.{Job}
 use Rattle.definition.specs.Placement.{Placement}
-use Rattle.definition.specs.Rules.{Verdict, verdict}
-use Rattle.definition.specs.Outcome.{scoreFields, numbers}
+use Rattle.definition.specs.Rules.{Verdict}
+use Rattle.definition.specs.Outcome.{scoreFields}
 use Rattle.score_numbers.specs.declared.Numbers.{Numbers}
 use Rattle.score_numbers.specs.Counted.{Counted, numbers-listed}
 

@@ -1,5 +1,5 @@
 -- What Score's answer stands for: the outcome of document 01, but for the buffers that it does not have.
-use Prim.Native.Nat.{ℕ, _+_, _≤_}
+use Prim.Native.Nat.{_+_, _≤_}
 use mathlib.Core.Path.{_≡_, sym, subst}
 use lib.ListN.{take}
 use Rattle.definition.specs.Job.{maxCells}
