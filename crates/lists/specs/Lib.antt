@@ -1,1 +1,6 @@
-pub mod Lists
+pub mod Compare
+pub mod Numbers
+pub mod Membership
+pub mod Neighbours
+pub mod Zeros
+pub mod Tails

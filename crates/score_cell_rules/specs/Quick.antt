@@ -10,7 +10,7 @@ use lib.ListN.{length, getD, drop, length-drop}
 use lib.Seq.{getD-drop}
 use lib.Dec.{leb, ltb, eqb}
 use borrow.Author.Tests.{le-ltb}
-use Rattle.lists.specs.Lists.{Le?, low, high, le?, Eq?, same, differs, eq?}
+use Rattle.lists.specs.Compare.{Le?, low, high, le?, Eq?, same, differs, eq?}
 use Rattle.definition.specs.Lists.{from, keep}
 use Rattle.definition.specs.Rules.{put, sort}
 use Rattle.score_order.specs.Words.{siteIn, endIn, rowIn, standsIn, cellsIn, Tail}

@@ -8,7 +8,7 @@ use native.Mathlib.Decide.{ℕ-discrete}
 use lib.ListN.{length, getD, drop, set, replicate, length-set, length-drop, getD-replicate}
 use lib.Seq.{drop-cons, getD-set-same, getD-set-other}
 use lib.Dec.{leb, ltb, eqb}
-use Rattle.lists.specs.Lists.{Le?, low, high, le?}
+use Rattle.lists.specs.Compare.{Le?, low, high, le?}
 use borrow.Author.Tests.{eq-eqb, ne-eqb, le-ltb, lt-ltb}
 use Rattle.definition.specs.Lists.{anyNext}
 use Rattle.definition.specs.Rules.{apart, placeIn}

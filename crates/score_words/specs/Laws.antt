@@ -8,8 +8,8 @@ use lib.ListN.{length, getD, take, set, replicate, length-set, length-take, leng
 use lib.Seq.{getD-take, getD-set-same, getD-set-other, length-take-le}
 use mathlib.Core.Bool.{Bool, true, false}
 use lib.Dec.{leb}
-use Rattle.lists.specs.Lists.{Le?, low, high, le?}
 use Rattle.definition_laws.specs.Sound.{SoundCell}
+use Rattle.lists.specs.Compare.{Le?, low, high, le?}
 use Rattle.definition.specs.Job as paper
 use Rattle.definition.specs.Placement as text
 use Rattle.definition.specs.Rules.{noLayout, noCell, noPose, cellAt, poseAt}

@@ -6,7 +6,8 @@ use native.Mathlib.Omega.{arith}
 use lib.ListN.{length, getD}
 use Rattle.definition.specs.Job.{Job}
 use Rattle.definition_laws.specs.Sound.{Sound}
-use Rattle.lists.specs.Lists.{from, Distinct}
+use Rattle.lists.specs.Numbers.{from}
+use Rattle.lists.specs.Membership.{Distinct}
 use Rattle.theory_row.specs.Order.{place}
 use Rattle.theory_pair.specs.Pick.{pick-pairs}
 use Rattle.theory_pair.specs.Members.{at-in, place-at, from-rising, rising-distinct′}

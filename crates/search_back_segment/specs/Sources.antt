@@ -4,7 +4,7 @@ use mathlib.Core.Path.{_≡_, refl, sym, ap, _∙_}
 use mathlib.Core.Bool.{Bool, true, false, cond}
 use mathlib.Core.List.{List}
 use native.Mathlib.Omega.{arith}
-use Rattle.lists.specs.Lists.{from}
+use Rattle.lists.specs.Numbers.{from}
 use Rattle.theory_pair.specs.Coded.{lowest, lowest-from}
 use Rattle.theory_tables.specs.Steps.{B, Deck, Layer, stateCount, lastAt, isThere, isSource, via, reached, nextLayer}
 use Rattle.search_row.specs.Words.{deckOf}

@@ -8,7 +8,7 @@ use mathlib.Core.List.{List, [], _∷_, List·Memᴰ as In, List·Memᴰ·head a
 use native.Mathlib.Omega.{arith}
 use lib.ListN.{getD}
 use lib.Dec.{ltb, eqb}
-use Rattle.lists.specs.Lists.{Le?, low, high, le?, Eq?, same, differs, eq?}
+use Rattle.lists.specs.Compare.{Le?, low, high, le?, Eq?, same, differs, eq?}
 use Rattle.definition.specs.Cost.{charges, charge}
 use Rattle.theory_tables.specs.Steps.{B}
 use Rattle.search_row.specs.Words.{tollAt}

@@ -4,7 +4,7 @@ use mathlib.Core.Path.{_≡_, refl, ap, ap₂, _∙_}
 use mathlib.Core.List.{List, [], _∷_, List·Memᴰ as In, List·Memᴰ·head as here, List·Memᴰ·tail as there}
 use native.Mathlib.Omega.{arith}
 use native.Mathlib.Numerals.{add-one}
-use Rattle.lists.specs.Lists.{from, in-from}
+use Rattle.lists.specs.Numbers.{from, in-from}
 use Rattle.theory_pair.specs.Coded.{lowest, lowest-low, lowest-from}
 use Rattle.theory_tables.specs.Steps.{B}
 use Rattle.theory_tables.specs.Lowest.{lowest-member, lowest-above}

@@ -11,7 +11,8 @@ use lib.Seq.{getD-set-same, getD-set-other}
 use lib.Dec.{eqb}
 use Rattle.theory_tables.specs.Steps.{B, Deck, Layer, lastAt, isSource}
 use Rattle.theory_tables.specs.Lowest.{loop-above}
-use Rattle.lists.specs.Lists.{from, Eq?, same, differs, eq?}
+use Rattle.lists.specs.Compare.{Eq?, same, differs, eq?}
+use Rattle.lists.specs.Numbers.{from}
 use Rattle.theory_pair.specs.Coded.{lowest, lowest-low}
 use Rattle.search_row.specs.Words.{wordOf, LineWords}
 use Rattle.search_buckets.specs.Loops.{lowest-none, lowest-more, lowest-ext}

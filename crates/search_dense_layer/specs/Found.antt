@@ -10,7 +10,8 @@ use borrow.Author.Count.{below-more}
 use lib.ListN.{length, getD, set, length-set, replicate, length-replicate, getD-replicate}
 use lib.Seq.{getD-set-same, getD-set-other}
 use lib.Dec.{eqb}
-use Rattle.lists.specs.Lists.{from, Eq?, same, differs, eq?}
+use Rattle.lists.specs.Compare.{Eq?, same, differs, eq?}
+use Rattle.lists.specs.Numbers.{from}
 use Rattle.theory_pair.specs.Coded.{lowest, lowest-from}
 use Rattle.theory_tables.specs.Steps.{B, Deck, stateCount, nextLayer}
 use Rattle.search_lanes.specs.Store.{Low, Written}

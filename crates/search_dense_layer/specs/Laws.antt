@@ -8,7 +8,8 @@ use native.Mathlib.Omega.{arith}
 use native.Mathlib.Decide.{decLt}
 use lib.ListN.{length, getD, set}
 use lib.Dec.{eqb}
-use Rattle.lists.specs.Lists.{from, Eq?, same, differs, eq?}
+use Rattle.lists.specs.Compare.{Eq?, same, differs, eq?}
+use Rattle.lists.specs.Numbers.{from}
 use Rattle.theory_tables.specs.Steps.{B}
 use Rattle.search_lanes.specs.Lanes.{Lowered}
 use Rattle.search_lanes.specs.Store.{Low}

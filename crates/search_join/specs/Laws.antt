@@ -5,7 +5,7 @@ use mathlib.Core.Path.{_≡_, refl, sym, _∙_}
 use mathlib.Core.Logic.{⊎-elim}
 use native.Mathlib.Omega.{arith}
 use native.Mathlib.Decide.{decLt}
-use Rattle.lists.specs.Lists.{from}
+use Rattle.lists.specs.Numbers.{from}
 use Rattle.theory_pair.specs.Coded.{lowest, lowest-from, lowest-low}
 use Rattle.theory_tables.specs.Steps.{B, Cases, SegmentCosts, joinPose, nextCases}
 use Rattle.theory_tables.specs.Lowest.{loop-member, loop-above}

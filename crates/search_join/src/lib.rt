@@ -3,7 +3,7 @@ ghost use mathlib.Core.Path.{_≡_};
 ghost use mathlib.Core.Bool.{false};
 ghost use Prim.Native.Nat.{_+_, _*_, _≤_, _<_};
 ghost use lib.ListN.{length};
-ghost use Rattle.lists.specs.Lists.{from};
+ghost use Rattle.lists.specs.Numbers.{from};
 ghost use Rattle.theory_pair.specs.Coded.{lowest};
 ghost use Rattle.search_lanes.specs.Store.{Low};
 ghost use Rattle.theory_tables.specs.Steps.{B};

@@ -10,7 +10,7 @@ use lib.Dec.{leb, ltb, eqb, lit≤}
 use Rattle.definition.specs.Job.{Job, isTall}
 use Rattle.definition.specs.Rules.{cellAt}
 use Rattle.definition.specs.Cost.{firstHeight}
-use Rattle.lists.specs.Lists.{Eq?, same, differs, eq?}
+use Rattle.lists.specs.Compare.{Eq?, same, differs, eq?}
 use Rattle.theory_bridge.specs.Tests.{and-true}
 use Rattle.theory_bridge.specs.Paired.{isOffered, poseNumber, widthOf, ownOf, leftOf, rightOf}
 use Rattle.score_words.specs.Flat.{widthIn}

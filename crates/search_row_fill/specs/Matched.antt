@@ -16,7 +16,7 @@ use Rattle.definition.specs.Job as job
 use Rattle.definition.specs.Rules.{cellAt}
 use Rattle.definition.specs.Cost.{charge}
 use Rattle.definition_laws.specs.Sound.{Sound}
-use Rattle.lists.specs.Lists.{Le?, high, le?}
+use Rattle.lists.specs.Compare.{Le?, high, le?}
 use Rattle.theory_pair.specs.Cells.{Side, row₀, row₁, isTall, ownIn, members, cell, line}
 use Rattle.theory_pair.specs.Members.{at-in}
 use Rattle.theory_tables.specs.Steps.{B}

@@ -10,7 +10,7 @@ use lib.Seq.{getD-set-same, getD-set-other}
 use lib.Dec.{eqb}
 use Rattle.definition.specs.Job.{Job}
 use Rattle.definition_laws.specs.Sound.{Sound}
-use Rattle.lists.specs.Lists.{from, in-from}
+use Rattle.lists.specs.Numbers.{from, in-from}
 use Rattle.theory_pair.specs.Pick.{pick}
 use Rattle.theory_pair.specs.Cells.{Side, members, tallCount, pos}
 use Rattle.theory_bridge.specs.Paired.{pairJob}

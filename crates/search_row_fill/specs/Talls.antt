@@ -10,7 +10,8 @@ use Rattle.definition.specs.Job.{Job}
 use Rattle.definition.specs.Job as job
 use Rattle.definition.specs.Rules.{noCell, cellAt}
 use Rattle.definition_laws.specs.Sound.{Sound}
-use Rattle.lists.specs.Lists.{from, in-from, Distinct}
+use Rattle.lists.specs.Numbers.{from, in-from}
+use Rattle.lists.specs.Membership.{Distinct}
 use Rattle.theory_row.specs.Order.{place}
 use Rattle.theory_pair.specs.Pick.{pick, pick-in, pick-pairs}
 use Rattle.theory_pair.specs.Members.{at, images, at-in, place-at, images-all, from-rising, rising-distinct′}

@@ -11,7 +11,7 @@ use lib.Dec.{leb, ltb, eqb}
 use Rattle.definition.specs.Job as paper
 use Rattle.definition.specs.Rules.{noLayout, apart}
 use Rattle.definition_laws.specs.Sound.{SoundHeader, SoundCell}
-use Rattle.lists.specs.Lists.{Eq?, same, differs, eq?, Le?, low, high, le?}
+use Rattle.lists.specs.Compare.{Eq?, same, differs, eq?, Le?, low, high, le?}
 use Rattle.theory_bridge.specs.Paired.{isOffered, poseNumber, widthOf, ownOf}
 use Rattle.job.specs.declared.Header.{Header}
 use Rattle.job.specs.declared.Cell.{Cell}

@@ -9,7 +9,7 @@ use lib.Count.{ones}
 use lib.Dec.{eqb, lit≤}
 use lib.ListN.{length, getD, drop, set, length-set}
 use lib.Seq.{getD-set-same, getD-set-other}
-use Rattle.lists.specs.Lists.{Eq?, same, eq?}
+use Rattle.lists.specs.Compare.{Eq?, same, eq?}
 use Rattle.theory_row.specs.Marks.{bit}
 use Rattle.theory_pair.specs.Pick.{goodMarks}
 use Rattle.theory_pair.specs.Forward.{each}

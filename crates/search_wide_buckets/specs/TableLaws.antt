@@ -11,7 +11,7 @@ use lib.ListN.{length, getD, set, replicate, length-replicate}
 use lib.Seq.{getD-set-same, getD-set-other}
 use lib.Dec.{eqb}
 use Rattle.theory_tables.specs.Steps.{B}
-use Rattle.lists.specs.Lists.{from}
+use Rattle.lists.specs.Numbers.{from}
 use Rattle.theory_pair.specs.Coded.{lowest, lowest-from}
 use Rattle.search_lanes.specs.Lanes.{wordsFrom, alwaysRows}
 use Rattle.search_lanes.specs.Store.{Frame, Low, WrittenRows}

@@ -7,7 +7,7 @@ use native.Mathlib.Omega.{arith}
 use borrow.Author.Tests.{le-leb, lt-leb, eq-eqb, ne-eqb}
 use lib.ListN.{getD}
 use lib.Dec.{leb, eqb}
-use Rattle.lists.specs.Lists.{from}
+use Rattle.lists.specs.Numbers.{from}
 use Rattle.theory_pair.specs.Coded.{lowest-low}
 use Rattle.theory_tables.specs.Steps.{B, Deck, Layer, stateCount, lastAt, isThere, layers, ends, costEnd}
 use Rattle.theory_tables.specs.Spots.{and-both}

@@ -13,7 +13,7 @@ use Rattle.definition.specs.Job.{Cell, Job}
 use Rattle.definition.specs.Placement.{Pose, Placement}
 use Rattle.definition.specs.Rules.{noCell, cellAt, poseAt, endAt, apart, offered, breaks1, breaks2, breaks3}
 use Rattle.definition_laws.specs.Sound.{Sound}
-use Rattle.lists.specs.Lists.{from, in-from, from-in}
+use Rattle.lists.specs.Numbers.{from, in-from, from-in}
 use Rattle.theory_pair.specs.Pick.{pick, pick-in, in-pick}
 use Rattle.theory_bridge.specs.Paired.{poseNumbers, poseNumber, isOffered, offersOf, widthOf, layoutOf}
 use Rattle.theory_bridge.specs.Poses.{pose-same}

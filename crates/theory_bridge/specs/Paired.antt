@@ -10,7 +10,7 @@ use Rattle.definition.specs.Job.{Layout, Job}
 use Rattle.definition.specs.Placement.{Pose}
 use Rattle.definition.specs.Rules.{noLayout, cellAt, apart}
 use Rattle.definition.specs.Cost.{charge, firstHeight}
-use Rattle.lists.specs.Lists.{from}
+use Rattle.lists.specs.Numbers.{from}
 use Rattle.theory_pair.specs.Pick.{pick}
 use Rattle.theory_pair.specs.Cells.{Side, row₀, row₁, Kind, one, both, Job as PairJob}
 

@@ -14,7 +14,7 @@ use Rattle.definition.specs.Placement.{Pose, Placement}
 use Rattle.definition.specs.Rules.{cellAt, poseAt, siteAt, cellsOf, rowCells}
 use Rattle.definition.specs.Rules as rules
 use Rattle.definition_laws.specs.Sound.{Sound}
-use Rattle.lists.specs.Lists.{from, in-from, from-in}
+use Rattle.lists.specs.Numbers.{from, in-from, from-in}
 use Rattle.theory_row.specs.Order.{sort-in}
 use Rattle.theory_pair.specs.Pick.{pick-in, in-pick}
 use Rattle.theory_pair.specs.Cells.{Side, row₀, row₁, inRow, isTall, members, rowOrder}

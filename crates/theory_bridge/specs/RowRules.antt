@@ -13,7 +13,8 @@ use Rattle.definition.specs.Job.{Job, shareRow, inRow}
 use Rattle.definition.specs.Placement.{Pose, Placement}
 use Rattle.definition.specs.Rules.{Holds, cellAt, siteAt, endAt, cellsOf, rowCells, apart, order, gap, overlap, breaks4, breaks5, breaks6, besideOneSite, outOfPlace, placeIn}
 use Rattle.definition_laws.specs.Sound.{Sound}
-use Rattle.lists.specs.Lists.{Chain, Le?, high, le?}
+use Rattle.lists.specs.Compare.{Le?, high, le?}
+use Rattle.lists.specs.Neighbours.{Chain}
 use Rattle.theory_row.specs.Order.{place}
 use Rattle.theory_row.specs.Rules.{Clear, NoGapOne}
 use Rattle.theory_pair.specs.Cells.{Side, members, site, width, rowOrder}

@@ -13,7 +13,7 @@ use Rattle.definition.specs.Placement.{Pose, Placement}
 use Rattle.definition.specs.Rules.{Legal, cellAt, poseAt, apart}
 use Rattle.definition.specs.Cost.{charges, cost}
 use Rattle.definition_laws.specs.Sound.{Sound}
-use Rattle.lists.specs.Lists.{from, length-from, in-from}
+use Rattle.lists.specs.Numbers.{from, length-from, in-from}
 use Rattle.theory_row.specs.Order.{sort-size}
 use Rattle.theory_row.specs.Rules.{sum, sumNext, sumNeighbours}
 use Rattle.theory_pair.specs.Pick.{pick}

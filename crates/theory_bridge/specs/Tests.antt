@@ -8,7 +8,7 @@ use native.Mathlib.Omega.{arith}
 use lib.Dec.{eqb}
 use Rattle.definition.specs.Lists.{any}
 use Rattle.definition.specs.Job.{bothRows}
-use Rattle.lists.specs.Lists.{Eq?, same, differs, eq?}
+use Rattle.lists.specs.Compare.{Eq?, same, differs, eq?}
 use Rattle.theory_pair.specs.Cells.{Side, row₀, row₁}
 use Rattle.theory_bridge.specs.Paired.{rowOf}
 

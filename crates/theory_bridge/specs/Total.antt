@@ -13,7 +13,7 @@ use Rattle.definition.specs.Placement.{Pose, Placement}
 use Rattle.definition.specs.Rules.{cellAt, poseAt, siteAt, cellsOf, apart, order}
 use Rattle.definition.specs.Cost.{isMirrored, differing, stepsAt, stepsIn, steps, shifted, mirrored, changed, cost}
 use Rattle.definition_laws.specs.Sound.{Sound}
-use Rattle.lists.specs.Lists.{from, in-from}
+use Rattle.lists.specs.Numbers.{from, in-from}
 use Rattle.theory_row.specs.Rules.{sum, sumNeighbours}
 use Rattle.theory_pair.specs.Cells.{Side, row₀, row₁, neighbours, total}
 use Rattle.theory_bridge.specs.Paired.{rowOf, siteOf, widthOf, ownOf, differingOf, payOf, pairJob}

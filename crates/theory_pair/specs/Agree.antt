@@ -6,7 +6,8 @@ use mathlib.Core.Option.{Option, none, some}
 use Prim.Native.Nat.{ℕ, zero, suc, _+_, _-_, _*_, _≤_, _<_}
 use native.Mathlib.Omega.{arith}
 use lib.ListN.{length, getD}
-use Rattle.lists.specs.Lists.{from, Pairs}
+use Rattle.lists.specs.Numbers.{from}
+use Rattle.lists.specs.Neighbours.{Pairs}
 use Rattle.theory_row.specs.Order.{order, order-below, order-all, order-size, Rising, rising-same}
 use Rattle.theory_row.specs.Window.{start, good-start}
 use Rattle.theory_row.specs.Choices.{cells, chosen, along, along-size, cells-size}

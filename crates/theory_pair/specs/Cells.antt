@@ -7,7 +7,8 @@ use mathlib.Core.Bool.{Bool, true, cond}
 use Prim.Native.Nat.{ℕ, _+_, _≤_, _<_}
 use native.Mathlib.Omega.{arith}
 use lib.ListN.{length}
-use Rattle.lists.specs.Lists.{from, in-from, from-in, Distinct}
+use Rattle.lists.specs.Numbers.{from, in-from, from-in}
+use Rattle.lists.specs.Membership.{Distinct}
 use Rattle.theory_row.specs.Order.{order, place}
 use Rattle.theory_row.specs.Rules.{Clear, sum, sumNeighbours}
 use Rattle.theory_row.specs.Cheapest.{_⊑_}

@@ -7,7 +7,8 @@ use mathlib.Core.Bool.{Bool, true, false, cond}
 use Prim.Native.Nat.{ℕ, zero, suc, _+_, min, _≤_, _<_}
 use native.Mathlib.Omega.{arith}
 use lib.Dec.{leb}
-use Rattle.lists.specs.Lists.{from, Le?, low, high, le?}
+use Rattle.lists.specs.Compare.{Le?, low, high, le?}
+use Rattle.lists.specs.Numbers.{from}
 use Rattle.theory_row.specs.Cheapest.{lower}
 use Rattle.theory_pair.specs.Forward.{each, add, costIf, leastOf, layer}
 use Rattle.theory_pair.specs.Pick.{pick}

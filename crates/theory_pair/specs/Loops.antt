@@ -5,7 +5,7 @@ use mathlib.Core.Option.{Option, none, some}
 use mathlib.Core.Bool.{Bool, true, false, cond}
 use Prim.Native.Nat.{ℕ, zero, suc, _+_, _-_, _*_, min, _≤_, _<_}
 use native.Mathlib.Omega.{arith}
-use Rattle.lists.specs.Lists.{from}
+use Rattle.lists.specs.Numbers.{from}
 use Rattle.theory_pair.specs.Forward.{each, add, layer, layer-source}
 use Rattle.theory_pair.specs.Pick.{goodMarks}
 use Rattle.theory_pair.specs.Coded.{coded, lowest, coded-layer, coded-add, lowest-each, lowest-low}

@@ -7,7 +7,10 @@ use Prim.Native.Nat.{ℕ, zero, suc, _+_, _≤_, _<_}
 use native.Mathlib.Omega.{arith}
 use lib.ListN.{length, getD}
 use lib.Dec.{leb, eqb}
-use Rattle.lists.specs.Lists.{from, in-from, from-in, Distinct, Pairs, Chain, Next, Eq?, same, differs, eq?}
+use Rattle.lists.specs.Compare.{Eq?, same, differs, eq?}
+use Rattle.lists.specs.Numbers.{from, in-from, from-in}
+use Rattle.lists.specs.Membership.{Distinct}
+use Rattle.lists.specs.Neighbours.{Pairs, Chain, Next}
 use Rattle.theory_row.specs.Order.{put, sort, order, place, order-below, order-all}
 use Rattle.theory_row.specs.Rules.{Clear, NoGapOne, Rule4, Rule5, Rule6, sum, sumNext, sumNeighbours}
 use Rattle.theory_row.specs.Row.{Legal}

@@ -7,7 +7,9 @@ use Prim.Native.Nat.{ℕ, zero, suc, _+_, _*_, _%_, _^_, _≤_, _<_}
 use native.Mathlib.Omega.{arith}
 use lib.Count.{ones}
 use lib.Dec.{eqb}
-use Rattle.lists.specs.Lists.{from, in-from, from-in, Pairs, Eq?, same, differs, eq?}
+use Rattle.lists.specs.Compare.{Eq?, same, differs, eq?}
+use Rattle.lists.specs.Numbers.{from, in-from, from-in}
+use Rattle.lists.specs.Neighbours.{Pairs}
 use Rattle.theory_row.specs.Window.{Good}
 
 unfoldable pub pick : (ℕ → Bool) → List ℕ → List ℕ

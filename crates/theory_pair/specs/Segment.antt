@@ -8,7 +8,7 @@ use Prim.Native.Nat.{ℕ, zero, suc, _+_, _-_, _*_, _/_, _%_, _^_, _≤_, _<_}
 use native.Mathlib.Omega.{arith}
 use native.Mathlib.Decide.{decLe, ℕ-discrete}
 use lib.ListN.{length, length-append}
-use Rattle.lists.specs.Lists.{from, in-from, from-in}
+use Rattle.lists.specs.Numbers.{from, in-from, from-in}
 use Rattle.theory_row.specs.Cheapest.{_⊑_}
 use Rattle.theory_row.specs.Window.{start, step, May, may?, Good, good-start, good-step}
 use Rattle.theory_pair.specs.Pick.{goodMarks, in-goodMarks}

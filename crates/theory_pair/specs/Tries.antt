@@ -8,7 +8,7 @@ use native.Mathlib.Decide.{ℕ-discrete, decLe, decLt}
 use lib.ListN.{getD}
 use lib.Count.{ones}
 use lib.Dec.{eqb}
-use Rattle.lists.specs.Lists.{from}
+use Rattle.lists.specs.Numbers.{from}
 use Rattle.theory_row.specs.Order.{sort, put, place}
 use Rattle.theory_row.specs.Cheapest.{lower}
 use Rattle.theory_row.specs.Marks.{bit}

@@ -8,7 +8,7 @@ use Prim.Native.Nat.{ℕ, zero, suc, _+_, _≤_, _<_}
 use native.Mathlib.Omega.{arith}
 use lib.ListN.{length}
 use lib.Dec.{leb}
-use Rattle.lists.specs.Lists.{Le?, low, high, le?}
+use Rattle.lists.specs.Compare.{Le?, low, high, le?}
 
 infix 20 _⊑_
 -- the lower of two costs, none being above all

@@ -9,7 +9,7 @@ use native.Mathlib.Decide.{ℕ-discrete}
 use lib.ListN.{length}
 use lib.Count.{ones}
 use lib.Dec.{leb, eqb}
-use Rattle.lists.specs.Lists.{Le?, low, high, le?, Eq?, same, differs, eq?}
+use Rattle.lists.specs.Compare.{Le?, low, high, le?, Eq?, same, differs, eq?}
 use Rattle.theory_row.specs.Marks.{bit, bit-lt}
 use Rattle.theory_row.specs.Window.{start, step, Run, walk, May, Partial, partial-run, run-partial, seen, seen-at, seen-keep, seen-set, start-pad, good-start, Good, window-here, window-count, window-small}
 

@@ -9,7 +9,10 @@ use native.Mathlib.Omega.{arith}
 use native.Mathlib.Decide.{ℕ-discrete}
 use lib.ListN.{length}
 use lib.Dec.{T, leb, ltb, eqb, ltb→lt, lt→ltb, nltb→le}
-use Rattle.lists.specs.Lists.{from, length-from, in-from, from-in, distinct-from, Distinct, Pairs, Chain, Next, Near, Eq?, same, differs, eq?, Le?, low, high, le?}
+use Rattle.lists.specs.Compare.{Eq?, same, differs, eq?, Le?, low, high, le?}
+use Rattle.lists.specs.Numbers.{from, length-from, in-from, from-in}
+use Rattle.lists.specs.Membership.{distinct-from, Distinct}
+use Rattle.lists.specs.Neighbours.{Pairs, Chain, Next, Near}
 use Rattle.theory_row.specs.Order.{put, sort, order, place, Rising, order-below, order-all, order-size, sort-rising, rising-same, rising-distinct, near-place, place-near}
 use Rattle.theory_row.specs.Rules.{Clear, Rule4, Rule5, Rule6, NoGapOne, sum, sumNeighbours}
 use Rattle.theory_row.specs.Window.{start, Run, Arranged, arranged-run, run-arranged}

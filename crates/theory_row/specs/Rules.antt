@@ -8,7 +8,9 @@ use Prim.Native.Nat.{ℕ, zero, suc, _+_, _*_, _≤_, _<_}
 use native.Mathlib.Omega.{arith}
 use lib.ListN.{length}
 use lib.Dec.{T, leb, ltb, eqb, eqb-refl}
-use Rattle.lists.specs.Lists.{from, in-from, from-in, Chain, Next, Eq?, same, differs, eq?, Le?, low, high, le?}
+use Rattle.lists.specs.Compare.{Eq?, same, differs, eq?, Le?, low, high, le?}
+use Rattle.lists.specs.Numbers.{from, in-from, from-in}
+use Rattle.lists.specs.Neighbours.{Chain, Next}
 use Rattle.theory_row.specs.Order.{order, place, order-below, order-all}
 
 -- ---- definitions

@@ -8,7 +8,9 @@ use Prim.Native.Nat.{ℕ, zero, suc, _+_, _≤_, _<_}
 use native.Mathlib.Omega.{arith}
 use native.Mathlib.Decide.{decLe, ℕ-discrete}
 use lib.ListN.{length}
-use Rattle.lists.specs.Lists.{from, in-from, from-in, Chain, Next, Distinct}
+use Rattle.lists.specs.Numbers.{from, in-from, from-in}
+use Rattle.lists.specs.Membership.{Distinct}
+use Rattle.lists.specs.Neighbours.{Chain, Next}
 use Rattle.theory_row.specs.Order.{order, order-below, order-size}
 use Rattle.theory_row.specs.Rules.{sum, sumNext, sumNeighbours}
 use Rattle.theory_row.specs.Window.{start, step, May, Run, may?, Arranged, run-arranged}

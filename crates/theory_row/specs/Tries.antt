@@ -8,7 +8,7 @@ use native.Mathlib.Omega.{arith}
 use native.Mathlib.Decide.{ℕ-discrete}
 use lib.ListN.{getD}
 use lib.Count.{ones, onesIn}
-use Rattle.lists.specs.Lists.{from}
+use Rattle.lists.specs.Numbers.{from}
 use Rattle.theory_row.specs.Order.{order, sort, put, place}
 use Rattle.theory_row.specs.Rules.{breaks4, breaks5, breaks6, any, anyNext, lowest}
 use Rattle.theory_row.specs.Window.{start, step, walk, Good}

@@ -9,7 +9,8 @@ use native.Mathlib.Decide.{ℕ-discrete, decLt, decLe}
 use lib.ListN.{length}
 use lib.Count.{ones, ones-step, ones-ones}
 use lib.Pow.{pow-pos, pow-mono}
-use Rattle.lists.specs.Lists.{Distinct, Near, near-in, pigeon}
+use Rattle.lists.specs.Membership.{Distinct, pigeon}
+use Rattle.lists.specs.Neighbours.{Near, near-in}
 use Rattle.theory_row.specs.Marks.{bit, bit-set, bit-keep, ones-set, bit-full, bit-above, set-lt}
 
 -- the marks before anything is placed: digits 0 to R are the R + 1 positions before the row

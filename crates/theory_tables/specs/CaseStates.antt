@@ -7,7 +7,7 @@ use mathlib.Core.Bool.{true}
 use Prim.Native.Nat.{ℕ, zero, suc, _+_, _-_, _*_, min, _≤_, _<_}
 use native.Mathlib.Omega.{arith}
 use native.Mathlib.Decide.{decLt}
-use Rattle.lists.specs.Lists.{from, from-in}
+use Rattle.lists.specs.Numbers.{from, from-in}
 use Rattle.theory_row.specs.Window.{Good, good-start}
 use Rattle.theory_pair.specs.Forward.{in-each, each-in}
 use Rattle.theory_pair.specs.Pick.{goodMarks, in-goodMarks}

@@ -4,7 +4,7 @@ use mathlib.Core.Path.{_≡_, refl, sym, ap₂, _∙_, subst}
 use mathlib.Core.Bool.{Bool, true, false, cond}
 use Prim.Native.Nat.{ℕ, zero, suc, _+_, min, _≤_, _<_}
 use native.Mathlib.Omega.{arith}
-use Rattle.lists.specs.Lists.{from}
+use Rattle.lists.specs.Numbers.{from}
 use Rattle.theory_pair.specs.Segment.{State, least, first, last}
 use Rattle.theory_pair.specs.Pair.{table, ending}
 use Rattle.theory_pair.specs.Coded.{coded, coded-low, lowest, lowest-low}

@@ -7,7 +7,8 @@ use Prim.Native.Nat.{ℕ, suc, _+_, _-_, _≤_, _<_}
 use native.Mathlib.Omega.{arith}
 use lib.Dec.{leb, eqb}
 use borrow.Author.Tests.{not-true}
-use Rattle.lists.specs.Lists.{from, Le?, low, high, le?, Eq?, same, differs, eq?}
+use Rattle.lists.specs.Compare.{Le?, low, high, le?, Eq?, same, differs, eq?}
+use Rattle.lists.specs.Numbers.{from}
 use Rattle.theory_row.specs.Window.{Good}
 use Rattle.theory_pair.specs.Segment.{Line, State, move, least, last}
 use Rattle.theory_pair.specs.Coded.{coded, lowest, lowest-low}

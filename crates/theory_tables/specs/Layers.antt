@@ -9,7 +9,7 @@ use native.Mathlib.Omega.{arith}
 use native.Mathlib.Decide.{decLt}
 use lib.Dec.{eqb}
 use borrow.Author.Tests.{not-true}
-use Rattle.lists.specs.Lists.{from, from-in}
+use Rattle.lists.specs.Numbers.{from, from-in}
 use Rattle.theory_row.specs.Window.{start, Good}
 use Rattle.theory_pair.specs.Pick.{goodMarks, in-goodMarks}
 use Rattle.theory_pair.specs.Segment.{Line, State, move, first}

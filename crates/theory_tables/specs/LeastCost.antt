@@ -4,7 +4,7 @@ use mathlib.Core.List.{List·Memᴰ as In}
 use mathlib.Core.Bool.{Bool, true}
 use Prim.Native.Nat.{ℕ, _<_}
 use native.Mathlib.Omega.{arith}
-use Rattle.lists.specs.Lists.{from}
+use Rattle.lists.specs.Numbers.{from}
 use Rattle.theory_pair.specs.Pick.{pick-in, in-pick}
 use Rattle.theory_pair.specs.Members.{at, at-in, at-place}
 use Rattle.theory_pair.specs.Coded.{coded}

@@ -5,7 +5,7 @@ use mathlib.Core.List.{List, [], _∷_, List·Memᴰ as In, List·Memᴰ·head a
 use Prim.Native.Nat.{ℕ, min, _≤_, _<_}
 use native.Mathlib.Omega.{arith}
 use native.Mathlib.Decide.{decLt}
-use Rattle.lists.specs.Lists.{from, in-from, from-in}
+use Rattle.lists.specs.Numbers.{from, in-from, from-in}
 use Rattle.theory_pair.specs.Forward.{costIf}
 use Rattle.theory_pair.specs.Coded.{coded, lowest}
 

@@ -5,7 +5,7 @@ use mathlib.Core.Logic.{inl, inr}
 use mathlib.Core.Bool.{Bool}
 use native.Mathlib.Omega.{arith}
 use lib.Dec.{leb}
-use Rattle.lists.specs.Lists.{Le?, low, high, le?}
+use Rattle.lists.specs.Compare.{Le?, low, high, le?}
 use Rattle.theory_tables.specs.Steps.{Deck, marks, lastAt, Layer, firstAfter, firstOpen, offset}
 use Rattle.theory_tables.specs.Stages.{placedWith}
 use Rattle.theory_tables.specs.Back.{Source, SegmentTraced, EndTraced, StageTraced, StageBack, Traced}

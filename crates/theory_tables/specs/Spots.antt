@@ -8,7 +8,8 @@ use Prim.Native.Nat.{ℕ, suc, _+_, _-_, min, _≤_, _<_}
 use native.Mathlib.Omega.{arith}
 use lib.Dec.{leb, ltb, eqb}
 use borrow.Author.Tests.{leb-true, ltb-true, le-leb, lt-ltb}
-use Rattle.lists.specs.Lists.{from, in-from, from-in, Eq?, same, differs, eq?}
+use Rattle.lists.specs.Compare.{Eq?, same, differs, eq?}
+use Rattle.lists.specs.Numbers.{from, in-from, from-in}
 use Rattle.theory_row.specs.Window.{start, step, May, Good, good-start}
 use Rattle.theory_pair.specs.Forward.{layer, layer-met}
 use Rattle.theory_pair.specs.Pick.{pick, pick-in, in-pick}

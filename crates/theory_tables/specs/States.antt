@@ -9,7 +9,8 @@ use native.Mathlib.Decide.{ℕ-discrete}
 use lib.ListN.{length, getD}
 use lib.Count.{ones}
 use lib.Dec.{eqb}
-use Rattle.lists.specs.Lists.{from, in-from, from-in, Eq?, same, differs, eq?}
+use Rattle.lists.specs.Compare.{Eq?, same, differs, eq?}
+use Rattle.lists.specs.Numbers.{from, in-from, from-in}
 use Rattle.theory_row.specs.Marks.{bit, bit-set, bit-keep, bit-lt}
 use Rattle.theory_row.specs.Window.{step, May, Good, good-step}
 use Rattle.theory_pair.specs.Forward.{each, in-each, each-in}

@@ -6,7 +6,7 @@ use Prim.Native.Nat.{ℕ, suc, _+_, _≤_, _<_}
 use native.Mathlib.Omega.{arith}
 use native.Mathlib.Decide.{ℕ-discrete}
 use lib.ListN.{length}
-use Rattle.lists.specs.Lists.{Distinct}
+use Rattle.lists.specs.Membership.{Distinct}
 use Rattle.theory_row.specs.Choices.{cells}
 use Rattle.theory_pair.specs.Segment.{Choice}
 

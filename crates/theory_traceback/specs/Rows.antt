@@ -9,7 +9,7 @@ use native.Mathlib.Omega.{arith}
 use lib.ListN.{length, length-append}
 use lib.Dec.{leb, ltb, eqb}
 use borrow.Author.Tests.{lt-ltb}
-use Rattle.lists.specs.Lists.{Le?, low, high, le?}
+use Rattle.lists.specs.Compare.{Le?, low, high, le?}
 use Rattle.theory_row.specs.Window.{Good, good-start}
 use Rattle.theory_pair.specs.Segment.{Line, Choice, State, first, last, after, after-size}
 use Rattle.theory_pair.specs.Pair.{Talls, Upto, upto-begin, upto-on}

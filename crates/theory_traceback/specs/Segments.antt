@@ -8,7 +8,7 @@ use mathlib.Core.Bool.{Bool, true, false, cond}
 use Prim.Native.Nat.{ℕ, zero, suc, _+_, _-_, _<_}
 use native.Mathlib.Omega.{arith}
 use lib.Dec.{leb, eqb}
-use Rattle.lists.specs.Lists.{Le?, low, le?, Eq?, differs, eq?}
+use Rattle.lists.specs.Compare.{Le?, low, le?, Eq?, differs, eq?}
 use Rattle.theory_row.specs.Window.{Good}
 use Rattle.theory_pair.specs.Coded.{coded-some}
 use Rattle.theory_pair.specs.Segment.{Line, Choice, State, last, move, move-met, Listed}

@@ -5,7 +5,7 @@ use mathlib.Core.Bool.{Bool, true, false}
 use mathlib.Core.List.{List}
 use lib.ListN.{length, getD, drop, length-set}
 use lib.Dec.{leb}
-use Rattle.lists.specs.Lists.{Le?, low, high, le?}
+use Rattle.lists.specs.Compare.{Le?, low, high, le?}
 use Rattle.score_row_rules.specs.Marks.{nearIn, Added}
 use Rattle.score_row_rules.specs.Laws.{near-last, near-one, near-other, added-none, added-same}
 use native.Mathlib.Omega.{arith}

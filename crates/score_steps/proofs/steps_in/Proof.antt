@@ -1,7 +1,7 @@
 -- Invariant: the total is the sum over the neighbours from i on. The row is walked from the right.
 use mathlib.Core.Bool.{Bool, true, false}
 use lib.Dec.{leb}
-use Rattle.lists.specs.Lists.{Le?, low, high, le?}
+use Rattle.lists.specs.Compare.{Le?, low, high, le?}
 use Prim.Native.Nat.{ℕ, _+_, _*_, _-_, _≤_, _<_, min}
 use mathlib.Core.Path.{_≡_, sym, ap, ap₂, _∙_}
 use mathlib.Core.List.{List}

@@ -1,5 +1,5 @@
 -- The least over the states of row 1 and the lanes is at most every way, and where it is below B a way of it is found.
-use Rattle.lists.specs.Lists.{from}
+use Rattle.lists.specs.Numbers.{from}
 use Rattle.theory_pair.specs.Coded.{lowest-low}
 use Rattle.theory_tables.specs.Steps.{B}
 use Rattle.search_join.specs.Tables.{MetAt}

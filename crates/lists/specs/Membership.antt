@@ -1,62 +1,15 @@
--- Lists of numbers: counting up, membership, distinct entries, neighbours, entries near their index.
-use mathlib.Core.Path.{_≡_, refl, sym, ap, _∙_, subst}
-use mathlib.Core.Logic.{_≢_, _⊎_, inl, inr}
-use mathlib.Core.List.{List, [], _∷_, _++_, List·Memᴰ as In, List·Memᴰ·head as here, List·Memᴰ·tail as there, Memᴰ·cast}
-use mathlib.Core.Bool.{Bool, true, false, not, _&&_, _||_, cond}
-use Prim.Native.Nat.{ℕ, zero, suc, _+_, _-_, _*_, _≤_, _<_}
+-- Membership in a list of numbers, distinct entries, and where an entry stands.
+use mathlib.Core.Path.{_≡_, refl, sym, _∙_}
+use mathlib.Core.List.{List, [], _∷_, List·Memᴰ as In, List·Memᴰ·head as here, List·Memᴰ·tail as there, Memᴰ·cast}
+use mathlib.Core.Bool.{Bool, true, false, cond}
+use Prim.Native.Nat.{ℕ, zero, suc, _+_, _≤_, _<_}
 use native.Mathlib.Omega.{arith}
 use native.Mathlib.Decide.{ℕ-discrete}
-use lib.ListN.{length, getD, length-append}
-use lib.Dec.{T, leb, ltb, eqb, leb→le, eqb→eq, nleb→lt, eqb-refl, T-not, not-T}
-
--- ---- tests, split with what they say
-
-pub data Le? (a b : ℕ) : Bool → Type 0 where
-  low : a ≤ b → Le? a b true
-  high : b < a → Le? a b false
-
-pub le? : (a b : ℕ) → Le? a b (leb a b)
-le? a b = go (leb a b) (leb→le a b) (nleb→lt a b)
-  where
-    go : (t : Bool) → (T t → a ≤ b) → (T (not t) → b < a) → Le? a b t
-    go true f g = low (f tt)
-    go false f g = high (g tt)
-
-pub data Eq? (a b : ℕ) : Bool → Type 0 where
-  same : a ≡ b → Eq? a b true
-  differs : a ≢ b → Eq? a b false
-
-pub eq? : (a b : ℕ) → Eq? a b (eqb a b)
-eq? a b = go (eqb a b) (eqb→eq a b) (λ e. subst (λ (x : ℕ). T (eqb a x)) e (eqb-refl a))
-  where
-    go : (t : Bool) → (T t → a ≡ b) → (a ≡ b → T t) → Eq? a b t
-    go true f g = same (f tt)
-    go false f g = differs g
-
--- ---- the numbers from a on, n of them
-
-unfoldable pub from : ℕ → ℕ → List ℕ
-from a zero = []
-from a (suc n) = a ∷ from (suc a) n
-
-pub length-from : (a n : ℕ) → length (from a n) ≡ n
-unfolding from
-length-from a zero = refl
-length-from a (suc n) = ap suc (length-from (suc a) n)
-
-pub in-from : {k : ℕ} (a n : ℕ) → In k (from a n) → (a ≤ k) × (k < a + n)
-unfolding from
-in-from a (suc n) (here e) = omega arith
-in-from a (suc n) (there m) = let h = in-from (suc a) n m in omega arith
-
-pub from-in : (k a n : ℕ) → a ≤ k → k < a + n → In k (from a n)
-unfolding from
-from-in k a zero h l = absurd (omega arith)
-from-in k a (suc n) h l = go (ℕ-discrete k a) (λ g. from-in k (suc a) n g (omega arith))
-  where
-    go : Dec (k ≡ a) → (suc a ≤ k → In k (from (suc a) n)) → In k (a ∷ from (suc a) n)
-    go (yes e) f = here e
-    go (no d) f = there (f (omega arith))
+use lib.ListN.{length, getD, drop, length-drop}
+use lib.Seq.{getD-drop}
+use lib.Dec.{eqb}
+use Rattle.lists.specs.Compare.{Eq?, same, differs, eq?}
+use Rattle.lists.specs.Numbers.{from, in-from}
 
 -- ---- distinct entries
 
@@ -150,28 +103,27 @@ pigeon n l d b s k h = go (in? k l)
     go (yes m) = m
     go (no o) = absurd (let z = distinct-size n (k ∷ l) (o, d) below in omega arith)
 
--- ---- neighbours
+-- ---- where an entry stands
 
--- every pair of neighbours in a ∷ l satisfies P
-abbrev pub Next : (ℕ → ℕ → Type 0) → ℕ → List ℕ → Type 0
-Next P a [] = Unit {0}
-Next P a (b ∷ l) = P a b × Next P b l
+pub index-of : {k : ℕ} (l : List ℕ) → In k l → (p : ℕ) × (p < length l) × (getD l p 0 ≡ k)
+index-of (x ∷ l) (here e) = (0, omega arith, sym e)
+index-of (x ∷ l) (there m) = let r = index-of l m in (suc (r .0), omega (arith, r .1), r .2)
 
-abbrev pub Chain : (ℕ → ℕ → Type 0) → List ℕ → Type 0
-Chain P [] = Unit {0}
-Chain P (a ∷ l) = Next P a l
+-- an entry of those from `at` on
+pub record At (array : List ℕ) (at k : ℕ) : Type 0 where
+  pub place : ℕ
+  pub after : at ≤ place
+  pub inside : place < length array
+  pub here-it : getD array place 0 ≡ k
 
--- every pair of entries, the earlier one first, satisfies P
-abbrev pub Pairs : (ℕ → ℕ → Type 0) → List ℕ → Type 0
-Pairs P [] = Unit {0}
-Pairs P (x ∷ l) = ((k : ℕ) → In k l → P x k) × Pairs P l
-
--- ---- entries near their index: entry number m of l, counted from i on, is within R of m
-
-abbrev pub Near : ℕ → ℕ → List ℕ → Type 0
-Near R i [] = Unit {0}
-Near R i (k ∷ l) = (k ≤ i + R) × (i ≤ k + R) × Near R (suc i) l
-
-pub near-in : {k : ℕ} (R i : ℕ) (l : List ℕ) → Near R i l → In k l → i ≤ k + R
-near-in R i (x ∷ l) h (here e) = let g = h .1 in omega arith
-near-in R i (x ∷ l) h (there m) = let g = near-in R (suc i) l (h .2) m in omega arith
+pub at-of : (array : List ℕ) (at k : ℕ) → In k (drop at array) → At array at k
+at-of array at k m =
+    let r = index-of (drop at array) m in
+    let h : r .0 < length (drop at array) = r .1 in
+    let g = simp length-drop at h in
+    record {
+      place = at + r .0;
+      after = omega arith;
+      inside = omega arith;
+      here-it = sym (getD-drop at array (r .0) 0) ∙ r .2;
+    }
