@@ -1,4 +1,3 @@
-pub mod Over
 pub mod Reports
 pub mod Told
 pub mod Lines

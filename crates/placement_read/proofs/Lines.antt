@@ -1,7 +1,7 @@
 -- The lines of a placement text from a byte on: in their form or not, missing or surplus, and what that makes of the whole reading.
 use Prim.Native.Nat.{ℕ, suc, _+_, _-_, _<_, _≤_}
 use mathlib.Core.Path.{_≡_, refl, ap, _∙_}
-use mathlib.Core.Bool.{Bool, true, false, _&&_, and-false}
+use mathlib.Core.Bool.{Bool, true, false, _&&_, and-false, and-eq-true-iff}
 use mathlib.Core.List.{List, [], _∷_, _++_, map}
 use lib.ListN.{length, getD, drop, List·getD-map, drop-of-length-le}
 use lib.Seq.{drop-cons}
@@ -11,7 +11,6 @@ use Rattle.definition.specs.Lists.{all}
 use Rattle.definition.specs.Texts.{Text, linesOf, fieldsOf, ended, isNumber, value, valueFrom}
 use Rattle.definition.specs.Job.{nth}
 use Rattle.definition.specs.Placement.{Pose, Placement, Poses, fault, poses, isPose, withPose, readPoses}
-use Rattle.text_laws.specs.Numbers.{both}
 use Rattle.text_laws.specs.Poses.{read-bad}
 use Rattle.text_scan.specs.Line.{firstLine, afterLine, readable, lines-first}
 
@@ -21,7 +20,7 @@ module _ (s : Text) where
   pub three-numbers : readable s ≡ true → length (fieldsOf (firstLine s)) ≡ 3 → isPose (firstLine s) ≡ true
   unfolding readable isPose
   three-numbers e n =
-      let b = both (ended (firstLine s)) (all isNumber (fieldsOf (firstLine s))) e in
+      let b = and-eq-true-iff (ended (firstLine s)) (all isNumber (fieldsOf (firstLine s))) .0 e in
       rw (b .0, b .1, eq-eqb (length (fieldsOf (firstLine s))) 3 n)
 
   pub not-three : (length (fieldsOf (firstLine s)) ≡ 3 → ⊥) → isPose (firstLine s) ≡ false

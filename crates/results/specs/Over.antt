@@ -30,8 +30,13 @@ module _ {A : Type 0} where
   over-suc (x ∷ xs) (y ∷ l) (suc i) d h k =
       ap (λ (t : List A). x ∷ t) (over-suc xs l i d (le-of-suc-le-suc h) (le-of-suc-le-suc k))
 
+  -- a store of the entry at i, once those before it are laid
+  pub over-more : (xs l : List A) (i : ℕ) (d : A) → i < length xs → i < length l
+      → set (over (take i xs) l) i (getD xs i d) ≡ over (take (i + 1) xs) l
+  over-more xs l i d h k = rw (add-one i) (over-suc xs l i d h k)
+
   -- past the end nothing more is laid
-  over-full : (xs l : List A) (i n : ℕ) → length l ≤ i → i ≤ n → over (take i xs) l ≡ over (take n xs) l
+  pub over-full : (xs l : List A) (i n : ℕ) → length l ≤ i → i ≤ n → over (take i xs) l ≡ over (take n xs) l
   unfolding over
   over-full xs [] i n h k = over-nil (take i xs) ∙ sym (over-nil (take n xs))
   over-full [] (y ∷ l) (suc i) (suc n) h k = refl
@@ -68,19 +73,19 @@ module _ {A : Type 0} where
     two-again xs (x ∷ y ∷ l) h = refl
 
     -- one more of those that follow them
-    pub over-more : (xs l : List A) (i : ℕ) (d : A) → i < length xs → i + 2 < length l
+    pub after-more : (xs l : List A) (i : ℕ) (d : A) → i < length xs → i + 2 < length l
         → set (over (a ∷ b ∷ take i xs) l) (i + 2) (getD xs i d) ≡ over (a ∷ b ∷ take (i + 1) xs) l
     unfolding over
-    over-more xs [] i d h k = absurd (omega arith)
-    over-more xs (x ∷ []) i d h k = absurd (omega arith)
-    over-more xs (x ∷ y ∷ l) i d h k =
+    after-more xs [] i d h k = absurd (omega arith)
+    after-more xs (x ∷ []) i d h k = absurd (omega arith)
+    after-more xs (x ∷ y ∷ l) i d h k =
         let e : i + 2 ≡ suc (suc i) = omega arith in
         let k′ : i < length l = omega arith in
-        rw (e, add-one i) (ap (λ (t : List A). a ∷ b ∷ t) (over-suc xs l i d h k′))
+        rw e (ap (λ (t : List A). a ∷ b ∷ t) (over-more xs l i d h k′))
 
-    pub over-short : (xs l : List A) (i n : ℕ) → length l ≤ i + 2 → i ≤ n
+    pub after-full : (xs l : List A) (i n : ℕ) → length l ≤ i + 2 → i ≤ n
         → over (a ∷ b ∷ take i xs) l ≡ over (a ∷ b ∷ take n xs) l
     unfolding over
-    over-short xs [] i n h k = refl
-    over-short xs (x ∷ []) i n h k = refl
-    over-short xs (x ∷ y ∷ l) i n h k = ap (λ (t : List A). a ∷ b ∷ t) (over-full xs l i n (omega arith) k)
+    after-full xs [] i n h k = refl
+    after-full xs (x ∷ []) i n h k = refl
+    after-full xs (x ∷ y ∷ l) i n h k = ap (λ (t : List A). a ∷ b ∷ t) (over-full xs l i n (omega arith) k)

@@ -2,14 +2,14 @@
 -- feed, and perhaps a last one that does not.
 use Prim.Native.Nat.{ℕ, _+_}
 use mathlib.Core.Path.{_≡_, refl, ap, _∙_}
-use mathlib.Core.Bool.{Bool, true, false, cond}
+use mathlib.Core.Bool.{Bool, true, false, cond, and-eq-true-iff}
 use mathlib.Core.List.{List, [], _∷_, _++_}
 use native.Mathlib.Omega.{arith}
 use lib.Dec.{eqb}
 use borrow.Author.Tests.{eqb-true, eqb-false, ne-eqb}
 use Rattle.definition.specs.Lists.{all}
 use Rattle.definition.specs.Texts.{Text, lineFeed, comma, onto, linesOf, fieldsOf, ended, isDigit}
-use Rattle.text_laws.specs.Numbers.{both, is-digit}
+use Rattle.text_laws.specs.Numbers.{is-digit}
 
 -- no byte of it is a line feed
 abbrev pub Unbroken : Text → Type 0
@@ -67,7 +67,7 @@ no-comma b e = let d = is-digit b e in ne-eqb b comma (λ s. omega arith)
 pub digits-unbroken : (d : Text) → all isDigit d ≡ true → Unbroken d
 digits-unbroken [] e = tt
 digits-unbroken (b ∷ bs) e =
-    let p = both (isDigit b) (all isDigit bs) e in
+    let p = and-eq-true-iff (isDigit b) (all isDigit bs) .0 e in
     (eqb-false b lineFeed (no-feed b (p .0)), digits-unbroken bs (p .1))
 
 pub unbroken-append : (a b : Text) → Unbroken a → Unbroken b → Unbroken (a ++ b)
@@ -78,14 +78,14 @@ pub field-then : (d rest : Text) → all isDigit d ≡ true → fieldsOf (d ++ (
 unfolding fieldsOf
 field-then [] rest e = refl
 field-then (b ∷ d) rest e =
-    let p = both (isDigit b) (all isDigit d) e in
+    let p = and-eq-true-iff (isDigit b) (all isDigit d) .0 e in
     rw (no-feed b (p .0), no-comma b (p .0), field-then d rest (p .1))
 
 pub field-last : (d rest : Text) → all isDigit d ≡ true → fieldsOf (d ++ (lineFeed ∷ rest)) ≡ d ∷ []
 unfolding fieldsOf
 field-last [] rest e = refl
 field-last (b ∷ d) rest e =
-    let p = both (isDigit b) (all isDigit d) e in
+    let p = and-eq-true-iff (isDigit b) (all isDigit d) .0 e in
     rw (no-feed b (p .0), no-comma b (p .0), field-last d rest (p .1))
 
 -- fields with commas between them

@@ -2,7 +2,7 @@
 -- would be printed. For numbers up to 9,999.
 use Prim.Native.Nat.{ℕ, zero, suc, _+_, _*_, _-_, _/_, _%_, _^_, _<_, _≤_}
 use mathlib.Core.Path.{_≡_, refl, sym, ap, _∙_}
-use mathlib.Core.Bool.{Bool, true, false, not, _&&_, _||_, false≢true, or-true}
+use mathlib.Core.Bool.{Bool, true, false, not, _&&_, _||_, false≢true, or-true, and-eq-true-iff}
 use mathlib.Core.List.{List, [], _∷_, _++_, append-assoc, append-nil}
 use mathlib.Core.Logic.{_⊎_, inl, inr, ⊎-elim}
 use native.Mathlib.Omega.{arith}
@@ -16,10 +16,6 @@ use Rattle.definition.specs.Texts.{Text, isDigit, isNumber, within, value, valu
 
 -- ---- tests
 
-pub both : (a b : Bool) → (a && b) ≡ true → (a ≡ true) × (b ≡ true)
-both true b e = (refl, e)
-both false b e = absurd (false≢true e)
-
 pub also : (a b : Bool) → a ≡ true → b ≡ true → (a && b) ≡ true
 also true b e f = f
 also false b e f = absurd (false≢true e)
@@ -28,12 +24,12 @@ pub all-append : {A : Type 0} (t : A → Bool) (xs ys : List A) → all t xs ≡
     → all t (xs ++ ys) ≡ true
 all-append t [] ys e f = f
 all-append t (x ∷ xs) ys e f =
-    let b = both (t x) (all t xs) e in
+    let b = and-eq-true-iff (t x) (all t xs) .0 e in
     also (t x) (all t (xs ++ ys)) (b .0) (all-append t xs ys (b .1) f)
 
 pub is-digit : (b : ℕ) → isDigit b ≡ true → (48 ≤ b) × (b ≤ 57)
 is-digit b e =
-    let p = both (leb 48 b) (leb b 57) e in
+    let p = and-eq-true-iff (leb 48 b) (leb b 57) .0 e in
     (leb-true 48 b (p .0), leb-true b 57 (p .1))
 
 pub digit-is : (b : ℕ) → 48 ≤ b → b ≤ 57 → isDigit b ≡ true
@@ -51,9 +47,9 @@ pub is-number : (f : Text) → isNumber f ≡ true → Number f
 unfolding isNumber
 is-number f e =
     let lead : Bool = eqb (length f) 1 || not (eqb (getD f 0 0) 48) in
-    let p = both (within 1 4 (length f) && all isDigit f) lead e in
-    let q = both (within 1 4 (length f)) (all isDigit f) (p .0) in
-    let r = both (leb 1 (length f)) (leb (length f) 4) (q .0) in
+    let p = and-eq-true-iff (within 1 4 (length f) && all isDigit f) lead .0 e in
+    let q = and-eq-true-iff (within 1 4 (length f)) (all isDigit f) .0 (p .0) in
+    let r = and-eq-true-iff (leb 1 (length f)) (leb (length f) 4) .0 (q .0) in
     record {
       some = leb-true 1 (length f) (r .0);
       few = leb-true (length f) 4 (r .1);
@@ -163,7 +159,7 @@ digits-after : (k v : ℕ) (xs : Text) → 1 ≤ v → all isDigit xs ≡ true
 unfolding valueFrom
 digits-after k v [] h e = rw (zero-add k) (sym (append-nil (digitsIn k v)))
 digits-after k v (b ∷ xs) h e =
-    let p = both (isDigit b) (all isDigit xs) e in
+    let p = and-eq-true-iff (isDigit b) (all isDigit xs) .0 e in
     let d = is-digit b (p .0) in
     let w : ℕ = v * 10 + (b - 48) in
     let q : w / 10 ≡ v = omega arith in
@@ -184,9 +180,9 @@ digits-value f e = go f (is-number f e)
 
     go : (f : Text) → Number f → digits (value f) ≡ f
     go [] n = absurd (omega (arith, n .some))
-    go (a ∷ []) n = one 3 a (both (isDigit a) true (n .each) .0)
+    go (a ∷ []) n = one 3 a (and-eq-true-iff (isDigit a) true .0 (n .each) .0)
     go (a ∷ b ∷ xs) n =
-        let p = both (isDigit a) (all isDigit (b ∷ xs)) (n .each) in
+        let p = and-eq-true-iff (isDigit a) (all isDigit (b ∷ xs)) .0 (n .each) in
         let d = is-digit a (p .0) in
         let start : a ≡ 48 → ⊥ = ⊎-elim (λ l. λ e. omega arith) (λ h. h) (n .lead) in
         let high : 1 ≤ 0 + (a - 48) = go-high a (d .0) start in
@@ -204,7 +200,7 @@ unfolding valueFrom
 value-below k v [] l e = omega (arith, mul-le-mul-left (suc v) (one-le-pow k 10 (omega arith)))
 value-below zero v (b ∷ xs) l e = absurd (omega arith)
 value-below (suc k) v (b ∷ xs) l e =
-    let p = both (isDigit b) (all isDigit xs) e in
+    let p = and-eq-true-iff (isDigit b) (all isDigit xs) .0 e in
     let d = is-digit b (p .0) in
     let w : ℕ = v * 10 + (b - 48) in
     let h = value-below k w xs (omega arith) (p .1) in
@@ -220,6 +216,6 @@ value-small f e = go f (is-number f e)
     go : (f : Text) → Number f → value f ≤ 9999
     go [] n = omega arith
     go (a ∷ xs) n =
-        let p = both (isDigit a) (all isDigit xs) (n .each) in
+        let p = and-eq-true-iff (isDigit a) (all isDigit xs) .0 (n .each) in
         let d = is-digit a (p .0) in
         omega (arith, value-below 3 (0 + (a - 48)) xs (omega (arith, n .few)) (p .1))

@@ -2,7 +2,7 @@
 -- 9,999. So two placements never share a text.
 use Prim.Native.Nat.{ℕ, zero, suc, _+_, _≤_}
 use mathlib.Core.Path.{_≡_, refl, sym, ap, _∙_}
-use mathlib.Core.Bool.{Bool, true, false, _&&_, false≢true}
+use mathlib.Core.Bool.{Bool, true, false, _&&_, false≢true, and-eq-true-iff}
 use mathlib.Core.List.{List, [], _∷_, _++_, append-assoc, append-nil, map}
 use native.Mathlib.Omega.{arith}
 use lib.ListN.{length, getD, length-map}
@@ -10,12 +10,9 @@ use lib.Dec.{eqb}
 use borrow.Author.Tests.{eqb-true}
 use Rattle.definition.specs.Lists.{all}
 use Rattle.definition.specs.Texts.{Text, lineFeed, comma, linesOf, fieldsOf, ended, isNumber, value, digits}
-use Rattle.definition.specs.Placement.{Pose, Placement, Poses, fault, poses, lineOf, textOf}
-use Rattle.definition.specs.Placement.{isPose, poseOf, withPose, readPoses, readPlacement}
-use Rattle.text_laws.specs.Numbers.{both, number-digits, digits-number, value-digits, digits-value, value-small}
-use Rattle.text_laws.specs.Lines.{Unbroken, Lines, none, last, line, lines, first-line}
-use Rattle.text_laws.specs.Lines.{ended-line, unended, digits-unbroken, unbroken-append}
-use Rattle.text_laws.specs.Lines.{field-then, field-last, joined, fields-joined}
+use Rattle.definition.specs.Placement.{Pose, Placement, Poses, fault, poses, lineOf, textOf, isPose, poseOf, withPose, readPoses, readPlacement}
+use Rattle.text_laws.specs.Numbers.{number-digits, digits-number, value-digits, digits-value, value-small}
+use Rattle.text_laws.specs.Lines.{Unbroken, Lines, none, last, line, lines, first-line, ended-line, unended, digits-unbroken, unbroken-append, field-then, field-last, joined, fields-joined}
 
 -- "A placement gives each cell a site, a layout number and a mirror mark, each from 0 to 9,999."
 pub record Printable (p : Pose) : Type 0 where
@@ -91,17 +88,17 @@ good-says : (text : Text) → Unbroken text → isPose (text ++ (lineFeed ∷ []
 unfolding isPose poseOf
 good-says text u e =
     let l : Text = text ++ (lineFeed ∷ []) in
-    let p = both (ended l && eqb (length (fieldsOf l)) 3) (all isNumber (fieldsOf l)) e in
-    let three = eqb-true (length (fieldsOf l)) 3 (both (ended l) (eqb (length (fieldsOf l)) 3) (p .0) .1) in
+    let p = and-eq-true-iff (ended l && eqb (length (fieldsOf l)) 3) (all isNumber (fieldsOf l)) .0 e in
+    let three = eqb-true (length (fieldsOf l)) 3 (and-eq-true-iff (ended l) (eqb (length (fieldsOf l)) 3) .0 (p .0) .1) in
     go (fieldsOf l) three (p .1) (fields-joined text u)
   where
     go : (fs : List Text) → length fs ≡ 3 → all isNumber fs ≡ true → joined fs ≡ text
         → Said (text ++ (lineFeed ∷ []))
         (record { site = value (getD fs 0 []); layout = value (getD fs 1 []); mark = value (getD fs 2 []) })
     go (f ∷ g ∷ h ∷ []) n a j =
-        let x = both (isNumber f) (all isNumber (g ∷ h ∷ [])) a in
-        let y = both (isNumber g) (all isNumber (h ∷ [])) (x .1) in
-        let z = both (isNumber h) true (y .1) in
+        let x = and-eq-true-iff (isNumber f) (all isNumber (g ∷ h ∷ [])) .0 a in
+        let y = and-eq-true-iff (isNumber g) (all isNumber (h ∷ [])) .0 (x .1) in
+        let z = and-eq-true-iff (isNumber h) true .0 (y .1) in
         record {
           small = record { site = value-small f (x .0); layout = value-small g (y .0); mark = value-small h (z .0) };
           prints =

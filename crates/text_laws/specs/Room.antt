@@ -3,7 +3,7 @@
 use Prim.Native.Nat.{ℕ, zero, suc, _+_, _*_, _<_, _≤_}
 use mathlib.Core.Path.{_≡_, refl, sym, ap, _∙_}
 use mathlib.Core.List.{[], _∷_, _++_, append-assoc, append-nil}
-use mathlib.Core.Bool.{Bool, true, false, _&&_, _||_, false≢true}
+use mathlib.Core.Bool.{Bool, true, false, _&&_, _||_, false≢true, and-eq-true-iff}
 use native.Mathlib.Omega.{arith}
 use native.Mathlib.Nat.{mul-suc}
 use native.Mathlib.Numerals.{add-one}
@@ -16,7 +16,7 @@ use Rattle.definition.specs.Job.{Cell, Job}
 use Rattle.definition.specs.Placement.{Pose, Placement, lineOf, textOf}
 use Rattle.definition.specs.Rules.{noPose, cellAt, poseAt, endAt, offered, breaks1, breaks2, Legal}
 use Rattle.definition_laws.specs.Sound.{Sound}
-use Rattle.text_laws.specs.Numbers.{both, number-digits, one-digit}
+use Rattle.text_laws.specs.Numbers.{number-digits, one-digit}
 use Rattle.text_laws.specs.Poses.{Printable, Each}
 
 pub record Narrow (p : Pose) : Type 0 where
@@ -113,7 +113,7 @@ at-each S (p ∷ P) h (suc k) l = at-each S P (h .1) k (omega arith)
 
 legal-pose : (c : Cell) (p : Pose) → length (c .layouts) ≤ 2 → offered c p ≡ true → (p .layout ≤ 1) × (p .mark ≤ 1)
 legal-pose c p few e =
-    let b = both (ltb (p .layout) (length (c .layouts))) (eqb (p .mark) 0 || (eqb (p .mark) 1 && c .mirrorable)) e in
+    let b = and-eq-true-iff (ltb (p .layout) (length (c .layouts))) (eqb (p .mark) 0 || (eqb (p .mark) 1 && c .mirrorable)) .0 e in
     let low = ltb-true (p .layout) (length (c .layouts)) (b .0) in
     (omega arith, go (eqb (p .mark) 0) (eqb (p .mark) 1) (eqb-true (p .mark) 0) (eqb-true (p .mark) 1) (b .1))
   where

@@ -8,6 +8,7 @@ use native.Mathlib.Omega.{arith}
 use native.Mathlib.Decide.{ℕ-discrete}
 use lib.ListN.{length, getD, set, drop, replicate, length-append, length-set, drop-of-length-le}
 use lib.Seq.{append-snoc, getD-set-same, getD-set-other}
+use Rattle.lists.specs.Zeros.{zeros-at}
 use Rattle.definition.specs.Texts.{Text, lineFeed, comma, fieldsOf, value}
 use Rattle.definition.specs.Job.{nth}
 use Rattle.text_scan.specs.Line.{firstLine, afterLine, readable, fields-first, after-on, after-feed}
@@ -36,16 +37,11 @@ counted-none text at h = record {
   rest = refl;
   count = refl;
   long = refl;
-  values = λ k l. zeros 24 k;
-  small = λ k. omega (arith, zeros 24 k);
+  values = λ k l. zeros-at 24 k;
+  small = λ k. omega (arith, zeros-at 24 k);
   below = omega arith;
   within = h;
 }
-  where
-    zeros : (n k : ℕ) → _≡_ {A = ℕ} (getD (replicate n 0) k 0) 0
-    zeros zero k = refl
-    zeros (suc n) zero = refl
-    zeros (suc n) (suc k) = zeros n k
 
 -- ---- one more value
 

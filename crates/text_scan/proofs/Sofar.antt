@@ -2,7 +2,7 @@
 -- other byte says whether the field is a number.
 use Prim.Native.Nat.{ℕ, _+_, _*_, _-_, _^_, _≤_, _<_}
 use mathlib.Core.Path.{_≡_, refl, sym, ap, _∙_}
-use mathlib.Core.Bool.{Bool, true, false, cond, false≢true, and-eq-true-iff}
+use mathlib.Core.Bool.{Bool, true, false, cond, false≢true, and-false, and-eq-true-iff}
 use mathlib.Core.List.{[], _∷_, _++_}
 use native.Mathlib.Omega.{arith}
 use native.Mathlib.Numerals.{add-one}
@@ -14,7 +14,7 @@ use lib.Dec.{leb, ltb}
 use Rattle.definition.specs.Lists.{all}
 use Rattle.definition.specs.Texts.{Text, lineFeed, comma, isDigit, isNumber, valueFrom}
 use Rattle.text_scan.specs.Line.{readable}
-use Rattle.text_scan.specs.Field.{Digits, is-digit, and-false, form-number, no-field, no-digit, five-digits, leading-zero, unended, no-empty}
+use Rattle.text_scan.specs.Field.{Digits, is-digit, form-number, no-field, no-digit, five-digits, leading-zero, unended, no-empty}
 use Rattle.text_scan.specs.Found.{NumberFrom}
 use Rattle.text_scan.specs.declared.Number.{Number}
 

@@ -1,7 +1,7 @@
 -- Digits at the beginning of a line: what they and the byte after them say of the line, its fields and its end.
 use Prim.Native.Nat.{ℕ, _≤_}
 use mathlib.Core.Path.{_≡_, refl, sym, ap, _∙_}
-use mathlib.Core.Bool.{Bool, true, false, not, _&&_, _||_, false≢true, and-eq-true-iff}
+use mathlib.Core.Bool.{Bool, true, false, not, _&&_, _||_, false≢true, and-false, and-eq-true-iff}
 use mathlib.Core.List.{List, [], _∷_, _++_, append-nil}
 use native.Mathlib.Omega.{arith}
 use native.Mathlib.Decide.{ℕ-discrete}
@@ -13,10 +13,6 @@ use Rattle.definition.specs.Texts.{Text, lineFeed, comma, ended, fieldsOf, isDi
 use Rattle.text_scan.specs.Line.{firstLine, afterLine, readable, fields-first, line-on, after-on, ended-on}
 
 -- ---- tests
-
-pub and-false : (t : Bool) → t && false ≡ false
-and-false true = refl
-and-false false = refl
 
 module _ (b : ℕ) (d : isDigit b ≡ true) where
   pub digit-low : 48 ≤ b

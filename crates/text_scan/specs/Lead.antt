@@ -1,7 +1,7 @@
 -- A line with a lead: the byte that it begins with, and the comma after it.
 use Prim.Native.Nat.{ℕ, suc, _≤_, _<_}
 use mathlib.Core.Path.{_≡_, refl, _∙_}
-use mathlib.Core.Bool.{Bool, true, false, _&&_, cond}
+use mathlib.Core.Bool.{Bool, true, false, _&&_, cond, and-false}
 use mathlib.Core.List.{List, [], _∷_}
 use native.Mathlib.Omega.{arith}
 use lib.ListN.{length, getD, drop}
@@ -11,7 +11,6 @@ use Rattle.definition.specs.Lists.{all}
 use Rattle.definition.specs.Texts.{Text, lineFeed, comma, onto, ended, fieldsOf, isNumber}
 use Rattle.definition.specs.Job.{formed, isLead}
 use Rattle.text_scan.specs.Line.{firstLine, afterLine, readable, fields-first, line-on, after-on, ended-on}
-use Rattle.text_scan.specs.Field.{and-false}
 
 -- the first line has the lead, numbers after it, one at least, and an end
 unfoldable pub led : ℕ → Text → Bool

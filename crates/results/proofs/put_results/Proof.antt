@@ -10,7 +10,7 @@ use mir.Syntax.{w32}
 use mir.Val.{toZ}
 use mir.Facts.{toZ-ofZ, toZ-pos}
 use Rattle.definition.specs.Outcome.{over}
-use Rattle.results.specs.Over.{length-over, none-over, one-over, two-over, two-again, over-more, over-short}
+use Rattle.results.specs.Over.{length-over, none-over, one-over, two-over, two-again, after-more, after-full}
 use Rattle.results.proofs.put_results.Statement.{statement}
 use Rattle.results.proofs.put_results.Tie as tie
 
@@ -77,7 +77,7 @@ returns-3 : tie.Need-returns-3 Inv-loop μ-loop
 returns-3 c =
     let h = c .before .before in
     let a = h .before .before .before .args in
-    laid h ∙ over-short (pos (a .number)) (pos (a .line)) (a .t4) (a .results .now) (h .loop .i) (a .n) (c .if3 .taken) (h .loop .inv .0)
+    laid h ∙ after-full (pos (a .number)) (pos (a .line)) (a .t4) (a .results .now) (h .loop .i) (a .n) (c .if3 .taken) (h .loop .inv .0)
 
 mul-v : tie.Need-mul-v Inv-loop μ-loop
 mul-v c = omega arith
@@ -111,7 +111,7 @@ loop-again c =
       s .1,
       ap (λ (z : ℤ). set (h .loop .results) (h .loop .i + 2) z) (toZ-ofZ {w = w32} (record { sfits = c .v .given }))
           ∙ ap (λ (m : List ℤ). set m (h .loop .i + 2) (getD (a .t4) (h .loop .i) (pos 0))) (s .2)
-          ∙ over-more (pos (a .number)) (pos (a .line)) (a .t4) l (h .loop .i) (pos 0) (omega arith) (omega arith),
+          ∙ after-more (pos (a .number)) (pos (a .line)) (a .t4) l (h .loop .i) (pos 0) (omega arith) (omega arith),
     )
 
 same-length-3 : tie.Need-same-length-3 Inv-loop μ-loop
