@@ -1,1 +1,4 @@
 pub mod Value
+pub mod Parts
+pub mod Cells
+pub mod Layouts

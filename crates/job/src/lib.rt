@@ -1,6 +1,9 @@
-// The job and a placement as values: what the reader hands on, and their limits.
+// The job and a placement as values: what the reader hands on, their limits, and what is asked of one cell.
 ghost use mathlib.Core.Path.{_≡_};
+ghost use Prim.Native.Nat.{_+_, _≤_, _<_};
 ghost use Rattle.job.specs.Value.{emptyLayout, emptyCell, emptyHeader, emptyJob, emptyPose, emptyPlacement};
+ghost use Rattle.job.specs.Value.{cellOf, heightCount};
+ghost use Rattle.job.specs.Parts.{standsIn, widthIn, heightIn, firstOf};
 
 // A width and eight heights: left P, left N, right P, right N of row 0 (or of the single cell's row), then of row 1.
 pub struct Layout {
@@ -147,4 +150,59 @@ impl Placement {
             poses: [p; Job::MAX_CELLS],
         }
     }
+}
+
+// A cell of row number `of` stands in a row: 2 is a tall cell's.
+pub fn stands(of: u32, row: u32) -> bool
+    ensures { λ r. ⌜ r ≡ standsIn row of ⌝ }
+{
+    (of == 2) | (of == row)
+}
+
+// The width of a cell in a layout; 0 in one that it lacks.
+pub fn width_of(cell: Cell, layout: u32) -> u32
+    ensures { λ r. ⌜ r ≡ widthIn (cellOf cell) layout ⌝ }
+{
+    if cell.layouts <= layout {
+        return 0;
+    }
+    if layout == 0 {
+        let first = cell.first;
+        return first.width;
+    }
+    if layout == 1 {
+        let second = cell.second;
+        return second.width;
+    }
+    0
+}
+
+// Height number i of a cell in a layout; 0 in one that it lacks.
+pub fn height_of(cell: Cell, layout: u32, i: usize) -> u32
+    requires { ⌜ i < heightCount (cell .row) ⌝ }
+    ensures { λ r. ⌜ r ≡ heightIn (cellOf cell) layout i ⌝ }
+{
+    if cell.layouts <= layout {
+        return 0;
+    }
+    if layout == 0 {
+        let first = cell.first;
+        return first.heights[i];
+    }
+    if layout == 1 {
+        let second = cell.second;
+        return second.heights[i];
+    }
+    0
+}
+
+// Where the row's four heights begin: a tall cell's row 1 has the second four.
+pub fn first_of(of: u32, row: u32) -> usize
+    requires { ⌜ row ≤ 1 ⌝ }
+    ensures { λ r. ⌜ (r ≡ firstOf of row) × (r + 4 ≤ heightCount of) ⌝ }
+{
+    if of == 2 {
+        return 4 * (row as usize);
+    }
+    0
 }

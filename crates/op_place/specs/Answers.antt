@@ -22,7 +22,7 @@ use Rattle.job.specs.declared.Job.{Job}
 use Rattle.job.specs.declared.Placement.{Placement}
 use Rattle.job.specs.Value.{jobOf, placementOf}
 use Rattle.score_words.specs.Ready.{Ready}
-use Rattle.score_words.specs.Laws.{pose-there}
+use Rattle.job.specs.Cells.{pose-there}
 use Rattle.theory_tables.specs.Steps.{B}
 use Rattle.search.specs.Solved.{Solved}
 use Rattle.op_place.specs.Accepted.{Answered, placementIn, Chosen}

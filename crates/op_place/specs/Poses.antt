@@ -14,7 +14,7 @@ use Rattle.job.specs.declared.Job.{Job}
 use Rattle.job.specs.declared.Placement.{Placement}
 use Rattle.job.specs.Value as value
 use Rattle.job.specs.Value.{cellOf, headerOf, jobOf, poseOf, emptyPose, placementOf}
-use Rattle.score_words.specs.Laws.{cell-there, pose-there}
+use Rattle.job.specs.Cells.{cell-there, pose-there}
 use Rattle.theory_bridge.specs.Paired.{poseNumber}
 use Rattle.theory_bridge.specs.Poses.{pose-same, placement-size, placement-pose}
 use Rattle.search.specs.Solved.{numbersIn}

@@ -2,7 +2,7 @@
 -- goes with no cell. Theorems on the definition.
 use Prim.Native.Nat.{ℕ, zero, suc, _+_, _≤_}
 use mathlib.Core.Path.{_≡_, refl}
-use mathlib.Core.Bool.{Bool, true, false, cond}
+use mathlib.Core.Bool.{Bool}
 use mathlib.Core.List.{List, [], _∷_}
 use native.Mathlib.Omega.{arith}
 use lib.ListN.{length}
@@ -10,15 +10,7 @@ use Rattle.definition.specs.Lists.{from}
 use Rattle.definition.specs.Job.{Job}
 use Rattle.definition.specs.Placement.{Placement}
 use Rattle.definition.specs.Rules.{lowest, Verdict, firstBroken, verdict, rules}
-
-lowest-small : (f : ℕ → Bool) (a n : ℕ) → lowest f (from a n) ≤ a + n
-unfolding lowest
-lowest-small f a zero = omega arith
-lowest-small f a (suc n) = go (f a) (lowest-small f (suc a) n)
-  where
-    go : (t : Bool) → lowest f (from (suc a) n) ≤ suc a + n → cond t (suc a) (lowest f (from (suc a) n)) ≤ a + suc n
-    go true h = omega arith
-    go false h = omega arith
+use Rattle.score_cell_rules.specs.Lowest.{lowest-small}
 
 pub record Small (r n : ℕ) (v : Verdict) : Type 0 where
   pub rule : v .rule ≤ r

@@ -1,3 +1,5 @@
 pub mod Tests
-pub mod Laws
+pub mod Lowest
+pub mod Compared
+pub mod Offered
 pub mod Quick

@@ -1,21 +1,24 @@
 -- Quick tests of rules 4 and 7: one pass shows that no two cells clash, or that no tall cell is passed.
-use Prim.Native.Nat.{ℕ, zero, suc, _+_, _≤_, _<_}
+use Prim.Native.Nat.{ℕ, suc, _≤_, _<_}
 use mathlib.Core.Path.{_≡_, refl, sym, ap, _∙_}
 use mathlib.Core.Logic.{_≢_, _⊎_, inl, inr}
-use mathlib.Core.Bool.{Bool, true, false, not, _&&_, _||_, cond}
-use mathlib.Core.List.{List, [], _∷_, List·Memᴰ as In, List·Memᴰ·head as here, List·Memᴰ·tail as there}
+use mathlib.Core.Bool.{Bool, true, false, not, _&&_, _||_, and-false, and-eq-true-iff, false≢true}
+use mathlib.Core.List.{List}
 use native.Mathlib.Omega.{arith}
 use native.Mathlib.Decide.{ℕ-discrete}
-use lib.ListN.{length, getD, drop, length-drop}
-use lib.Seq.{getD-drop}
+use lib.ListN.{getD}
 use lib.Dec.{leb, ltb, eqb}
 use borrow.Author.Tests.{le-ltb}
 use Rattle.lists.specs.Compare.{Le?, low, high, le?, Eq?, same, differs, eq?}
-use Rattle.definition.specs.Lists.{from, keep}
-use Rattle.definition.specs.Rules.{put, sort}
-use Rattle.score_order.specs.Words.{siteIn, endIn, rowIn, standsIn, cellsIn, Tail}
+use Rattle.lists.specs.Membership.{At, at-of}
+use Rattle.definition.specs.Rules.{sort}
+use Rattle.job.specs.Parts.{standsIn}
+use Rattle.score_order.specs.Words.{siteIn, endIn, rowIn, cellsIn, Tail}
+use Rattle.score_order.specs.Sorting.{in-sort}
+use Rattle.score_order.specs.Cells.{in-cells}
 use Rattle.score_cell_rules.specs.Tests.{shareIn, clashIn, clashesIn, wrongIn, passesIn}
-use Rattle.score_cell_rules.specs.Laws.{any-none, and-false, wrong-low, wrong-tall, passes-low, passes-tall}
+use Rattle.score_cell_rules.specs.Lowest.{any-none}
+use Rattle.score_cell_rules.specs.Compared.{wrong-low, wrong-tall, passes-low, passes-tall}
 
 -- ---- one pass: of those below i that count, none begins (g) before an earlier one has ended (f), and all have ended at reach
 
@@ -63,59 +66,12 @@ pub record TallRising (words : List ℕ) (n : ℕ) : Type 0 where
 
 -- ---- rule 4: each cell of a row is an entry of its order
 
-in-from : (f : ℕ → Bool) (k a n : ℕ) → a ≤ k → k < a + n → f k ≡ true → In k (keep f (from a n))
-in-from f k a zero h l t = absurd (omega arith)
-in-from f k a (suc n) h l t = go (ℕ-discrete k a) (λ g. in-from f k (suc a) n g (omega arith) t)
-  where
-    skip : (b : Bool) → In k (keep f (from (suc a) n)) → In k (cond b (a ∷ keep f (from (suc a) n)) (keep f (from (suc a) n)))
-    skip true m = there m
-    skip false m = m
-
-    go : Dec (k ≡ a) → (suc a ≤ k → In k (keep f (from (suc a) n))) → In k (keep f (from a (suc n)))
-    go (yes e) r = let q : f a ≡ true = ap f (sym e) ∙ t in rw q (here e)
-    go (no d) r = skip (f a) (r (omega arith))
-
-module _ (site : ℕ → ℕ) where
-  in-put : {j : ℕ} (k : ℕ) (l : List ℕ) → (j ≡ k) ⊎ In j l → In j (put site k l)
-  unfolding put
-  in-put k [] (inl e) = here e
-  in-put k [] (inr m) = there m
-  in-put {j} k (x ∷ l) s = go (leb (site k) (site x)) s (in-put k l)
-    where
-      go : (t : Bool) → (j ≡ k) ⊎ In j (x ∷ l) → ((j ≡ k) ⊎ In j l → In j (put site k l)) → In j (cond t (k ∷ x ∷ l) (x ∷ put site k l))
-      go true (inl e) f = here e
-      go true (inr m) f = there m
-      go false (inl e) f = there (f (inl e))
-      go false (inr (here e)) f = here e
-      go false (inr (there m)) f = there (f (inr m))
-
-  in-sort : {j : ℕ} (l : List ℕ) → In j l → In j (sort site l)
-  unfolding sort
-  in-sort (k ∷ l) (here e) = in-put k (sort site l) (inl e)
-  in-sort (k ∷ l) (there m) = in-put k (sort site l) (inr (in-sort l m))
-
--- where an entry of a tail stands
-record At (array : List ℕ) (at k : ℕ) : Type 0 where
-  place : ℕ
-  after : at ≤ place
-  inside : place < length array
-  here-it : getD array place 0 ≡ k
-
-index-of : {k : ℕ} (l : List ℕ) → In k l → (p : ℕ) × (p < length l) × (getD l p 0 ≡ k)
-index-of (x ∷ l) (here e) = (0, omega arith, sym e)
-index-of (x ∷ l) (there m) = let r = index-of l m in (suc (r .0), omega (arith, r .1), r .2)
-
-at-of : (array : List ℕ) (at k : ℕ) → In k (drop at array) → At array at k
-at-of array at k m =
-    let r = index-of (drop at array) m in
-    let h : r .0 < length (drop at array) = r .1 in
-    let g = simp length-drop at h in
-    record { place = at + r .0; after = omega arith; inside = omega arith; here-it = sym (getD-drop at array (r .0) 0) ∙ r .2 }
-
-module _ (words order : List ℕ) (row n at : ℕ) (t : Tail at order (sort (siteIn words) (cellsIn words row 0 n))) where
+module _ (words order : List ℕ) (row n at : ℕ)
+    (t : Tail at order (sort (siteIn words) (cellsIn words row 0 n))) where
   in-order : (k : ℕ) → k < n → standsIn row (rowIn words k) ≡ true → At order at k
-  unfolding cellsIn
-  in-order k h s = at-of order at k (rw (t .entries) (in-sort (siteIn words) (cellsIn words row 0 n) (in-from (λ i. standsIn row (rowIn words i)) k 0 n (omega arith) (omega arith) s)))
+  in-order k h s =
+      let m = in-sort (siteIn words) (cellsIn words row 0 n) (in-cells words row n k h s) in
+      at-of order at k (rw (t .entries) m)
 
   pub row-clear : InLine words order at → RowClear words row n
   row-clear l = record { apart = λ a b h g s r d. go a b d (in-order a h s) (in-order b g r) }
@@ -128,14 +84,6 @@ module _ (words order : List ℕ) (row n at : ℕ) (t : Tail at order (sort (sit
           to (no e) true (low h) = inl (rw (x .here-it, y .here-it) at (l .ahead (x .place) (y .place) (omega arith) (omega (arith, t .long)) (x .after) (y .after)))
           to (no e) false (high h) = inr (rw (y .here-it, x .here-it) at (l .ahead (y .place) (x .place) (omega arith) (omega (arith, t .long)) (y .after) (x .after)))
 
-pub never : false ≡ true → ⊥
-never e = let z : _≡_ {A = ℕ} 0 1 = cc in omega arith
-
-pub both : (a b : Bool) → (a && b) ≡ true → (a ≡ true) × (b ≡ true)
-both true true e = (refl, refl)
-both true false e = absurd (never e)
-both false b e = absurd (never e)
-
 -- cells that share a row share row 0 or row 1
 share-cases : (a b : ℕ) → shareIn a b ≡ true → ((standsIn 0 a && standsIn 0 b) ≡ true) ⊎ ((standsIn 1 a && standsIn 1 b) ≡ true)
 unfolding shareIn
@@ -144,14 +92,14 @@ share-cases a b e = go (standsIn 0 a && standsIn 0 b) (standsIn 1 a && standsIn 
     go : (x y : Bool) → (x || (y || false)) ≡ true → (x ≡ true) ⊎ (y ≡ true)
     go true y e = inl refl
     go false true e = inr refl
-    go false false e = absurd (never e)
+    go false false e = absurd (false≢true e)
 
 module _ (words : List ℕ) (n : ℕ) (c₀ : RowClear words 0 n) (c₁ : RowClear words 1 n) where
   -- cells that share a row are apart in it
   shared : (k b : ℕ) → k < n → b < n → k ≢ b → ((standsIn 0 (rowIn words k) && standsIn 0 (rowIn words b)) ≡ true) ⊎ ((standsIn 1 (rowIn words k) && standsIn 1 (rowIn words b)) ≡ true)
       → (endIn words k ≤ siteIn words b) ⊎ (endIn words b ≤ siteIn words k)
-  shared k b h g d (inl e) = let s = both (standsIn 0 (rowIn words k)) (standsIn 0 (rowIn words b)) e in c₀ .apart k b h g (s .0) (s .1) d
-  shared k b h g d (inr e) = let s = both (standsIn 1 (rowIn words k)) (standsIn 1 (rowIn words b)) e in c₁ .apart k b h g (s .0) (s .1) d
+  shared k b h g d (inl e) = let s = and-eq-true-iff (standsIn 0 (rowIn words k)) (standsIn 0 (rowIn words b)) .0 e in c₀ .apart k b h g (s .0) (s .1) d
+  shared k b h g d (inr e) = let s = and-eq-true-iff (standsIn 1 (rowIn words k)) (standsIn 1 (rowIn words b)) .0 e in c₁ .apart k b h g (s .0) (s .1) d
 
   no-clash : (k b : ℕ) → k < n → b < n → clashIn words k b ≡ false
   unfolding clashIn

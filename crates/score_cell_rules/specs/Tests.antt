@@ -7,7 +7,8 @@ use lib.Dec.{leb, ltb, eqb}
 use Rattle.definition.specs.Lists.{from, any}
 use Rattle.definition.specs.Job.{bothRows}
 use Rattle.definition.specs.Rules.{apart}
-use Rattle.score_order.specs.Words.{siteIn, endIn, rowIn, givenIn, standsIn}
+use Rattle.score_order.specs.Words.{siteIn, endIn, rowIn, givenIn}
+use Rattle.job.specs.Parts.{standsIn}
 
 -- rule 2: past the row's end
 unfoldable pub pastIn : List ℕ → ℕ → ℕ → Bool

@@ -14,9 +14,9 @@ use job::Cell;
 use job::Job;
 use job::Placement;
 use job::Pose;
+use job::stands;
 use score_order::entry;
 use score_order::order_row;
-use score_order::stands;
 use score_words::apart_of;
 
 // Rule 1: the cell has that layout, and may bear that mark.

@@ -14,7 +14,7 @@ use Rattle.job.specs.declared.Placement.{Placement}
 use Rattle.job.specs.Value.{jobOf, headerOf, placementOf}
 use Rattle.score_words.specs.Ready.{Ready}
 use Rattle.score_words.specs.Flat.{Flat}
-use Rattle.score_words.specs.Laws.{pose-there}
+use Rattle.job.specs.Cells.{pose-there}
 use Rattle.score_drift.specs.Total.{Digits}
 use Rattle.score_numbers.specs.Sums.{sumFrom, countFrom, shiftIn, isChanged}
 

@@ -1,3 +1,5 @@
 pub mod Words
-pub mod Laws
 pub mod Below
+pub mod Sorting
+pub mod Cells
+pub mod Arrays

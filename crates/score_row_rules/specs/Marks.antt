@@ -1,13 +1,15 @@
--- The rules that are judged along a row, 5 and 6, on the words of a placed job. Who breaks them is marked, for a row in general.
+-- The rules that are judged along a row, 5 and 6, on the words of a placed job. Who breaks them is marked, for a row in
+-- general.
 use Prim.Native.Nat.{ℕ, _-_, _<_}
-use mathlib.Core.Path.{_≡_}
-use mathlib.Core.Bool.{Bool, not, _&&_, _||_, cond}
+use mathlib.Core.Path.{_≡_, ap, _∙_}
+use mathlib.Core.Bool.{Bool, false, not, _&&_, _||_, cond}
 use mathlib.Core.List.{List}
 use lib.ListN.{length, getD}
 use lib.Dec.{leb, eqb}
 use Rattle.definition.specs.Lists.{anyNext}
 use Rattle.definition.specs.Rules.{apart, placeIn, sort}
-use Rattle.score_order.specs.Words.{siteIn, endIn, rowIn, standsIn, cellsIn}
+use Rattle.job.specs.Parts.{standsIn}
+use Rattle.score_order.specs.Words.{siteIn, endIn, rowIn, cellsIn}
 
 -- rule 5: k is one of two neighbours with one empty site between them
 abbrev pub oneSite : List ℕ → ℕ → ℕ → ℕ → Bool
@@ -35,3 +37,18 @@ orderIn words row n = sort (siteIn words) (cellsIn words row 0 n)
 pub record Added (n : ℕ) (f : ℕ → Bool) (marks marks′ : List ℕ) : Type 0 where
   pub long : length marks′ ≡ 64
   pub each : (k : ℕ) → k < n → getD marks′ k 0 ≡ cond (f k) 1 (getD marks k 0)
+
+-- of a test that nobody passes none
+pub added-none : (n : ℕ) (f : ℕ → Bool) (m : List ℕ) → length m ≡ 64 → ((k : ℕ) → f k ≡ false) → Added n f m m
+added-none n f m l h = record { long = l; each = λ k b. rw (h k) }
+
+-- a test that agrees below n
+pub added-below : (n : ℕ) (f g : ℕ → Bool) (m m′ : List ℕ)
+    → ((k : ℕ) → k < n → f k ≡ g k) → Added n f m m′ → Added n g m m′
+added-below n f g m m′ h a =
+    record { long = a .long; each = λ k b. a .each k b ∙ ap (λ t. cond t 1 (getD m k 0)) (h k b) }
+
+-- or agrees everywhere
+pub added-same : (n : ℕ) (f g : ℕ → Bool) (m m′ : List ℕ)
+    → ((k : ℕ) → f k ≡ g k) → Added n f m m′ → Added n g m m′
+added-same n f g m m′ h a = added-below n f g m m′ (λ k b. h k) a

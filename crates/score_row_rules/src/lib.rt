@@ -4,13 +4,13 @@ ghost use Prim.Native.Nat.{_+_, _*_, _≤_, _<_};
 ghost use lib.ListN.{length, drop};
 ghost use Rattle.score_order.specs.Words.{Room, cellsIn};
 ghost use Rattle.score_row_rules.specs.Marks.{nearIn, outBy, outAt, outIn, orderIn, Added};
+use job::stands;
 use score_order::entry;
 use score_order::places;
 use score_order::row_cells;
 use score_order::sort_row;
-use score_order::stands;
-use score_steps::gap_between;
 use score_words::apart_of;
+use score_words::gap_between;
 
 // Rule 5: neighbours with one empty site between them; the row's cells from left to right are the entries of `order` from `at` on.
 fn mark_gaps(words: &[u32], order: &[u32], at: usize, near: &mut [u32])

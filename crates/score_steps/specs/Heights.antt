@@ -1,24 +1,17 @@
 -- The steps between two placed cells, from the cells and their poses alone. It is the definition's: see `differing-of`.
-use Prim.Native.Nat.{ℕ, _+_, _*_}
+use Prim.Native.Nat.{ℕ, _+_}
 use mathlib.Core.Path.{_≡_, refl}
 use mathlib.Core.Bool.{cond}
 use mathlib.Core.List.{[], _∷_}
-use lib.ListN.{getD}
 use lib.Dec.{eqb}
 use Rattle.definition.specs.Lists.{sum}
 use Rattle.definition.specs.Job as paper
 use Rattle.definition.specs.Placement as text
-use Rattle.definition.specs.Rules.{noLayout, cellAt, poseAt}
+use Rattle.definition.specs.Rules.{cellAt, poseAt}
 use Rattle.definition.specs.Cost.{differing}
+use Rattle.job.specs.Parts.{heightIn, firstOf}
 
--- height number i of a cell in a layout
-abbrev pub heightIn : paper.Cell → ℕ → ℕ → ℕ
-heightIn c layout i = getD (getD (c .layouts) layout noLayout .heights) i 0
-
--- where the row's four heights begin, of a cell of row number `of`; its left and its right two
-abbrev pub firstOf : ℕ → ℕ → ℕ
-firstOf of row = cond (eqb of 2) (4 * row) 0
-
+-- where the left and the right two of a row's heights begin, of a cell of row number `of` with a mark
 abbrev pub leftOf : ℕ → ℕ → ℕ → ℕ
 leftOf of mark row = firstOf of row + cond (eqb mark 1) 2 0
 
@@ -31,8 +24,12 @@ unlike x y = cond (eqb x y) 0 1
 
 unfoldable pub differingOf : paper.Cell → text.Pose → paper.Cell → text.Pose → ℕ → ℕ
 differingOf c p d q row =
-    sum (λ type. unlike (heightIn c (p .layout) (rightOf (c .row) (p .mark) row + type)) (heightIn d (q .layout) (leftOf (d .row) (q .mark) row + type))) (0 ∷ 1 ∷ [])
+    sum (λ type. unlike
+    (heightIn c (p .layout) (rightOf (c .row) (p .mark) row + type))
+    (heightIn d (q .layout) (leftOf (d .row) (q .mark) row + type)))
+    (0 ∷ 1 ∷ [])
 
-pub differing-of : (j : paper.Job) (P : text.Placement) (row a b : ℕ) → differing j P row a b ≡ differingOf (cellAt j a) (poseAt P a) (cellAt j b) (poseAt P b) row
+pub differing-of : (j : paper.Job) (P : text.Placement) (row a b : ℕ)
+    → differing j P row a b ≡ differingOf (cellAt j a) (poseAt P a) (cellAt j b) (poseAt P b) row
 unfolding differing differingOf
 differing-of j P row a b = refl

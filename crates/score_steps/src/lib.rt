@@ -8,59 +8,22 @@ ghost use Rattle.job.specs.Value.{cellOf, poseOf, jobOf, placementOf, heightCou
 ghost use Rattle.score_order.specs.Words.{siteIn, endIn, Room};
 ghost use Rattle.score_order.specs.Below.{Below};
 ghost use Rattle.score_words.specs.Flat.{Flat};
-ghost use Rattle.score_steps.specs.Heights.{heightIn, firstOf, leftOf, rightOf, unlike, differingOf};
+ghost use Rattle.score_steps.specs.Heights.{leftOf, rightOf, unlike, differingOf};
 use gap_charge::charge_of;
 use job::Cell;
 use job::Job;
 use job::Placement;
 use job::Pose;
+use job::first_of;
+use job::height_of;
 use score_order::entry;
+use score_words::gap_between;
 
 // What a step costs at a gap.
 pub fn charge_at(gap: u32) -> u32
     ensures { λ r. ⌜ (r ≡ charge gap) × (r ≤ 1) ⌝ }
 {
     charge_of(gap as usize)
-}
-
-// The empty sites between an end and the next site; none if they overlap.
-pub fn gap_between(end: u32, site: u32) -> u32
-    ensures { λ r. ⌜ r ≡ site - end ⌝ }
-{
-    if site <= end {
-        return 0;
-    }
-    site - end
-}
-
-// Height number i of a cell in a layout; 0 in one that it lacks.
-pub fn height_of(cell: Cell, layout: u32, i: usize) -> u32
-    requires { ⌜ i < heightCount (cell .row) ⌝ }
-    ensures { λ r. ⌜ r ≡ heightIn (cellOf cell) layout i ⌝ }
-{
-    if cell.layouts <= layout {
-        return 0;
-    }
-    if layout == 0 {
-        let first = cell.first;
-        return first.heights[i];
-    }
-    if layout == 1 {
-        let second = cell.second;
-        return second.heights[i];
-    }
-    0
-}
-
-// Where the row's four heights begin: a tall cell's row 1 has the second four.
-pub fn first_of(of: u32, row: u32) -> usize
-    requires { ⌜ row ≤ 1 ⌝ }
-    ensures { λ r. ⌜ (r ≡ firstOf of row) × (r + 4 ≤ heightCount of) ⌝ }
-{
-    if of == 2 {
-        return 4 * (row as usize);
-    }
-    0
 }
 
 // The two heights at the left edge, and at the right edge: a mirrored cell has them exchanged.

@@ -1,5 +1,5 @@
 -- The rules by the words of a placed job are the definition's.
-use Prim.Native.Nat.{ℕ, zero, suc, _+_, _-_, _≤_, _<_}
+use Prim.Native.Nat.{ℕ, _-_, _≤_, _<_}
 use mathlib.Core.Path.{_≡_, refl, sym, ap, ap₂, fun-ext, _∙_}
 use mathlib.Core.Bool.{Bool, true, false, not, _&&_, _||_, cond}
 use mathlib.Core.List.{List, [], _∷_}
@@ -13,17 +13,13 @@ use Rattle.definition.specs.Placement as text
 use Rattle.definition.specs.Rules.{apart, placeIn, breaks1, breaks2, breaks3, breaks4, breaks5, breaks6, breaks7, besideOneSite, outOfPlace, rules, lowest, firstBroken, verdict}
 use Rattle.job.specs.declared.Job.{Job}
 use Rattle.job.specs.Value.{jobOf, headerOf}
-use Rattle.score_order.specs.Words.{standsIn, cellsIn}
+use Rattle.score_order.specs.Words.{cellsIn}
 use Rattle.score_words.specs.Flat.{Flat}
 use Rattle.score_words.specs.Rows.{flat-cells, flat-order}
 use Rattle.score_cell_rules.specs.Tests.{pastIn, farIn, shareIn, clashIn, clashesIn, wrongIn, passesIn, markedIn}
+use Rattle.score_cell_rules.specs.Lowest.{lowest-same}
 use Rattle.score_row_rules.specs.Marks.{nearIn, outBy, outIn, orderIn, Added}
-
--- two tests that agree on the cells from a on find the same cell
-lowest-same : (f g : ℕ → Bool) (a n : ℕ) → ((k : ℕ) → a ≤ k → k < a + n → f k ≡ g k) → lowest f (from a n) ≡ lowest g (from a n)
-unfolding lowest
-lowest-same f g a zero h = refl
-lowest-same f g a (suc n) h = ap₂ (λ t x. cond t (suc a) x) (h a (omega arith) (omega arith)) (lowest-same f g (suc a) n (λ k b c. h k (omega arith) (omega arith)))
+use Rattle.job.specs.Parts.{standsIn}
 
 -- rules 5 and 6, in either row
 unfoldable pub nearAny : List ℕ → ℕ → ℕ → Bool

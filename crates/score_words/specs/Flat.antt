@@ -1,20 +1,17 @@
--- The words of a placed job: for each cell its site, its end, its row and its given site. What a layout that the cell lacks reads as.
+-- The words of a placed job: for each cell its site, its end, its row and its given site.
 use Prim.Native.Nat.{ℕ, _+_, _*_}
 use mathlib.Core.Path.{_≡_}
 use mathlib.Core.List.{List}
 use lib.ListN.{length, getD, set}
 use Rattle.definition.specs.Job as paper
 use Rattle.definition.specs.Placement as text
-use Rattle.definition.specs.Rules.{noLayout, cellAt, siteAt, endAt}
+use Rattle.definition.specs.Rules.{cellAt, siteAt, endAt}
 use Rattle.score_order.specs.Words.{siteIn, endIn, rowIn, givenIn}
-
--- the width of a cell in a layout
-abbrev pub widthIn : paper.Cell → ℕ → ℕ
-widthIn c layout = getD (c .layouts) layout noLayout .width
 
 -- four words for cell k
 abbrev pub four : List ℕ → ℕ → ℕ → ℕ → ℕ → ℕ → List ℕ
-four words k site end row given = set (set (set (set words (4 * k) site) (4 * k + 1) end) (4 * k + 2) row) (4 * k + 3) given
+four words k site end row given =
+    set (set (set (set words (4 * k) site) (4 * k + 1) end) (4 * k + 2) row) (4 * k + 3) given
 
 -- the words are those of cell k
 pub record Shows (j : paper.Job) (P : text.Placement) (words : List ℕ) (k : ℕ) : Type 0 where

@@ -1,4 +1,4 @@
 pub mod Ready
 pub mod Flat
-pub mod Laws
+pub mod FourWords
 pub mod Rows

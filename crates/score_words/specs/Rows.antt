@@ -6,8 +6,9 @@ use Rattle.definition.specs.Lists.{from, keep}
 use Rattle.definition.specs.Job as paper
 use Rattle.definition.specs.Placement as text
 use Rattle.definition.specs.Rules.{cellAt, siteAt, rowCells, sort, order}
-use Rattle.score_order.specs.Words.{siteIn, rowIn, standsIn, cellsIn}
+use Rattle.score_order.specs.Words.{siteIn, rowIn, cellsIn}
 use Rattle.score_words.specs.Flat.{Flat}
+use Rattle.job.specs.Parts.{standsIn}
 
 module _ {j : paper.Job} {P : text.Placement} {n : ℕ} {words : List ℕ} (f : Flat j P n words) where
   pub flat-site : siteIn words ≡ siteAt P

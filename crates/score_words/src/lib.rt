@@ -1,14 +1,14 @@
 // A job and a placement laid out flat: for each cell four words, its site, its end, its row and its given site.
 ghost use mathlib.Core.Path.{_≡_};
-ghost use Prim.Native.Nat.{_+_, _*_, _≤_, _<_};
+ghost use Prim.Native.Nat.{_+_, _-_, _≤_, _<_};
 ghost use lib.ListN.{length};
 ghost use Rattle.definition.specs.Rules.{apart};
-ghost use Rattle.job.specs.Value.{cellOf, jobOf, placementOf};
+ghost use Rattle.job.specs.Value.{jobOf, placementOf};
 ghost use Rattle.score_words.specs.Ready.{Ready};
-ghost use Rattle.score_words.specs.Flat.{widthIn, four, Flat, Blank};
-use job::Cell;
+ghost use Rattle.score_words.specs.Flat.{four, Flat, Blank};
 use job::Job;
 use job::Placement;
+use job::width_of;
 
 // How far apart two numbers are.
 pub fn apart_of(a: u32, b: u32) -> u32
@@ -20,22 +20,14 @@ pub fn apart_of(a: u32, b: u32) -> u32
     a - b
 }
 
-// The width of a cell in a layout; 0 in one that it lacks.
-pub fn width_of(cell: Cell, layout: u32) -> u32
-    ensures { λ r. ⌜ r ≡ widthIn (cellOf cell) layout ⌝ }
+// The empty sites between an end and the next site; none if they overlap.
+pub fn gap_between(end: u32, site: u32) -> u32
+    ensures { λ r. ⌜ r ≡ site - end ⌝ }
 {
-    if cell.layouts <= layout {
+    if site <= end {
         return 0;
     }
-    if layout == 0 {
-        let first = cell.first;
-        return first.width;
-    }
-    if layout == 1 {
-        let second = cell.second;
-        return second.width;
-    }
-    0
+    site - end
 }
 
 fn put_four(words: &mut [u32], k: usize, site: u32, end: u32, row: u32, given: u32)

@@ -16,7 +16,7 @@ use Rattle.theory_tables.specs.Notes.{NotedBy}
 use Rattle.theory_traceback.specs.Placed.{TracedBack, places, places-agree}
 use Rattle.theory_bridge.specs.Paired.{siteOf, poseNumbers, poseNumber, isOffered, pairJob}
 use Rattle.theory_claim.specs.Claim.{reorder, searchedCost, placementByNumbers, claim-none, claim-some}
-use Rattle.score_order.specs.Laws.{zeros-at}
+use Rattle.lists.specs.Zeros.{zeros-at}
 use Rattle.search_lanes.specs.Store.{Low}
 use Rattle.search_row.specs.Words.{deckOf}
 use Rattle.search_join.specs.Places.{caseAt}

@@ -7,7 +7,7 @@ use lib.ListN.{length, take, drop, replicate, length-replicate}
 use lib.Seq.{length-take-le, length-front, take-at}
 use Rattle.theory_tables.specs.Steps.{stateCount}
 use Rattle.theory_tables.specs.States.{count-0, count-1}
-use Rattle.score_order.specs.Laws.{zeros-at}
+use Rattle.lists.specs.Zeros.{zeros-at}
 use Rattle.search_lanes.specs.Store.{Low}
 use Rattle.search_join.specs.Places.{pageAt}
 use Rattle.search_stage.specs.Stage.{wide}

@@ -13,8 +13,7 @@ use Rattle.definition.specs.Cost.{firstHeight}
 use Rattle.lists.specs.Compare.{Eq?, same, differs, eq?}
 use Rattle.theory_bridge.specs.Tests.{and-true}
 use Rattle.theory_bridge.specs.Paired.{isOffered, poseNumber, widthOf, ownOf, leftOf, rightOf}
-use Rattle.score_words.specs.Flat.{widthIn}
-use Rattle.score_steps.specs.Heights.{heightIn}
+use Rattle.job.specs.Parts.{widthIn, heightIn}
 use Rattle.search_row.specs.Words.{variant}
 use Rattle.search_row_fill.specs.Words.{alone, edge, ownWord, shapeWord, heightWord, cellWord}
 

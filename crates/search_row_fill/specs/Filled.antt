@@ -16,7 +16,7 @@ use Rattle.definition_laws.specs.Sound.{Sound, SoundCell}
 use Rattle.job.specs.declared.Job as declared
 use Rattle.job.specs.Value as value
 use Rattle.job.specs.Value.{headerOf, jobOf}
-use Rattle.score_words.specs.Laws.{cell-there}
+use Rattle.job.specs.Cells.{cell-there}
 use Rattle.lists.specs.Numbers.{from}
 use Rattle.theory_pair.specs.Cells.{Side, row₀, row₁, members, cell, line}
 use Rattle.theory_tables.specs.Matched.{Matched}

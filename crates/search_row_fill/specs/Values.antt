@@ -16,9 +16,8 @@ use Rattle.theory_bridge.specs.Paired.{isOffered, poseNumber, widthOf, ownOf}
 use Rattle.job.specs.declared.Header.{Header}
 use Rattle.job.specs.declared.Cell.{Cell}
 use Rattle.job.specs.Value.{headerOf, cellOf}
-use Rattle.score_words.specs.Flat.{widthIn}
-use Rattle.score_words.specs.Laws.{width-small}
-use Rattle.score_steps.specs.Heights.{heightIn, firstOf}
+use Rattle.job.specs.Parts.{widthIn, heightIn, firstOf}
+use Rattle.job.specs.Layouts.{width-small}
 use Rattle.theory_tables.specs.Steps.{B}
 use Rattle.search_row_fill.specs.Words.{alone, edge, ownWord, shapeWord, heightWord}
 use Rattle.search_row_fill.specs.Cell.{offered-low}

@@ -7,8 +7,7 @@ use Rattle.definition.specs.Job.{Header, Cell, Job, isTall}
 use Rattle.definition.specs.Rules.{cellAt}
 use Rattle.theory_bridge.specs.Paired.{isOffered, poseNumber, ownOf}
 use Rattle.theory_tables.specs.Steps.{B}
-use Rattle.score_words.specs.Flat.{widthIn}
-use Rattle.score_steps.specs.Heights.{heightIn, firstOf}
+use Rattle.job.specs.Parts.{widthIn, heightIn, firstOf}
 
 -- a job of one cell: what is said of a cell of a job is said of it alone
 abbrev pub alone : Header → Cell → Job

@@ -44,7 +44,7 @@ fn is_offered(header: Header, cell: Cell, a: u32) -> bool
     if !turns(cell.mirrorable, a % 2) {
         return false;
     }
-    x - header.displacement + score_words::width_of(cell, a % 4 / 2) <= header.sites
+    x - header.displacement + job::width_of(cell, a % 4 / 2) <= header.sites
 }
 
 fn apart_of(x: u32, y: u32) -> u32
@@ -109,7 +109,7 @@ fn shape_word(header: Header, cell: Cell, i: u32) -> u32
         return cell.given;
     }
     if i < 67 {
-        return score_words::width_of(cell, i - 65);
+        return job::width_of(cell, i - 65);
     }
     if cell.row == 2 { 1 } else { 0 }
 }
@@ -127,8 +127,8 @@ fn height_word(header: Header, cell: Cell, row: u32, u: u32) -> u32
     requires { ⌜ (u < 16) × (row ≤ 1) ⌝ }
     ensures { λ r. ⌜ r ≡ heightWord (one header cell) row 0 u ⌝ }
 {
-    let i = score_steps::first_of(cell.row, row) + edge_of(u);
-    score_steps::height_of(cell, u % 4 / 2, i)
+    let i = job::first_of(cell.row, row) + edge_of(u);
+    job::height_of(cell, u % 4 / 2, i)
 }
 
 // Word i of a cell that bears a number.
@@ -176,7 +176,7 @@ fn add_cell(line: &mut [u32], n: usize, header: Header, cell: Cell, row: u32, nu
     requires { ⌜ Ranged header cell × (row ≤ 1) × (number < 64) × (n < 64) × (8192 ≤ length (now line)) × Low (now line) ⌝ }
     ensures { λ r. ⌜ Added (one header cell) row number n r (now (line .entry)) (now (line .exit)) ⌝ }
 {
-    if !score_order::stands(cell.row, row) {
+    if !job::stands(cell.row, row) {
         return n;
     }
     fill_cell(line, n * 128, header, cell, row, number);

@@ -3,7 +3,7 @@ use native.Mathlib.Omega.{arith}
 use mathlib.Core.Path.{ap, _∙_}
 use mathlib.Core.Bool.{not, _&&_}
 use lib.Dec.{eqb}
-use Rattle.score_cell_rules.specs.Laws.{clash-left, clash-right, clash-here}
+use Rattle.score_cell_rules.specs.Compared.{clash-left, clash-right, clash-here}
 use borrow.Author.Needs.{needs}
 use Rattle.score_cell_rules.proofs.clash.Statement.{statement}
 use Rattle.score_cell_rules.proofs.clash.Tie as tie

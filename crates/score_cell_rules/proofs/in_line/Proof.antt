@@ -1,9 +1,10 @@
 -- Invariant: of the entries from `at` up to i each has ended at `reach`, and none begins before an earlier one has ended.
 use Prim.Native.Nat.{_-_, _≤_}
+use mathlib.Core.Bool.{false≢true}
 use native.Mathlib.Numerals.{add-one}
 use lib.ListN.{getD}
 use Rattle.score_order.specs.Words.{siteIn, endIn}
-use Rattle.score_cell_rules.specs.Quick.{Clear, clear-more, never}
+use Rattle.score_cell_rules.specs.Quick.{Clear, clear-more}
 use native.Mathlib.Omega.{arith}
 use borrow.Author.Needs.{needs}
 use Rattle.score_cell_rules.proofs.in_line.Statement.{statement}
@@ -31,7 +32,7 @@ shared-slice-read-if1 : tie.Need-shared-slice-read-if1 Inv-loop μ-loop
 shared-slice-read-if1 c = omega arith
 
 returns : tie.Need-returns Inv-loop μ-loop
-returns c = λ e. absurd (never e)
+returns c = λ e. absurd (false≢true e)
 
 mul-farther : tie.Need-mul-farther Inv-loop μ-loop
 mul-farther c = omega arith

@@ -1,6 +1,6 @@
 -- A layout number that is not below the count, or not below 2, is not offered; otherwise the mark decides.
 use native.Mathlib.Omega.{arith}
-use Rattle.score_cell_rules.specs.Laws.{offered-none, offered-beyond, offered-here}
+use Rattle.score_cell_rules.specs.Offered.{offered-none, offered-beyond, offered-here}
 use Rattle.score_cell_rules.proofs.is_offered.Statement.{statement}
 use Rattle.score_cell_rules.proofs.is_offered.Tie as tie
 

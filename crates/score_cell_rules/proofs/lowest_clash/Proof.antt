@@ -1,9 +1,10 @@
 -- If both rows are clear no cell clashes; otherwise the search says.
+use mathlib.Core.Bool.{and-eq-true-iff}
 use mathlib.Core.Path.{sym}
 use native.Mathlib.Omega.{arith}
 use Rattle.score_cell_rules.specs.Tests.{clashesIn}
-use Rattle.score_cell_rules.specs.Laws.{lowest-none}
-use Rattle.score_cell_rules.specs.Quick.{both, no-clashes}
+use Rattle.score_cell_rules.specs.Lowest.{lowest-none}
+use Rattle.score_cell_rules.specs.Quick.{no-clashes}
 use borrow.Author.Needs.{needs}
 use Rattle.score_cell_rules.proofs.lowest_clash.Statement.{statement}
 use Rattle.score_cell_rules.proofs.lowest_clash.Tie as tie
@@ -18,7 +19,7 @@ returns : tie.Need-returns
 returns c =
     let b = c .before in
     let s = b .before .before .before in
-    let t = both (b .before .row-clear .result) (b .row-clear2 .result) (c .if1 .taken) in
+    let t = and-eq-true-iff (b .before .row-clear .result) (b .row-clear2 .result) .0 (c .if1 .taken) in
     sym (lowest-none (clashesIn (s .args .words .now) (s .args .count)) 0 (s .args .count) (λ k _ l. no-clashes (s .args .words .now) (s .args .count) (b .before .row-clear .ensures (t .0)) (b .row-clear2 .ensures (t .1)) k (omega arith)))
 
 search-clash-requires : tie.Need-search-clash-requires

@@ -5,7 +5,7 @@ use native.Mathlib.Numerals.{add-one}
 use Rattle.definition.specs.Lists.{from}
 use Rattle.definition.specs.Rules.{lowest}
 use Rattle.score_cell_rules.specs.Tests.{markedIn}
-use Rattle.score_cell_rules.specs.Laws.{lowest-none, lowest-more, lowest-rest}
+use Rattle.score_cell_rules.specs.Lowest.{lowest-none, lowest-more, lowest-rest}
 use native.Mathlib.Omega.{arith}
 use Rattle.score_cell_rules.proofs.lowest_marked.Statement.{statement}
 use Rattle.score_cell_rules.proofs.lowest_marked.Tie as tie

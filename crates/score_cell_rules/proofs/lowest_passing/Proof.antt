@@ -2,7 +2,7 @@
 use mathlib.Core.Path.{sym}
 use native.Mathlib.Omega.{arith}
 use Rattle.score_cell_rules.specs.Tests.{passesIn}
-use Rattle.score_cell_rules.specs.Laws.{lowest-none}
+use Rattle.score_cell_rules.specs.Lowest.{lowest-none}
 use Rattle.score_cell_rules.specs.Quick.{none-passed}
 use borrow.Author.Needs.{needs}
 use Rattle.score_cell_rules.proofs.lowest_passing.Statement.{statement}

@@ -1,12 +1,12 @@
 -- Invariant: no cell below k breaks the rule.
-use Rattle.score_cell_rules.specs.Laws.{past-true, past-false}
+use Rattle.score_cell_rules.specs.Compared.{past-true, past-false}
+use Rattle.score_cell_rules.specs.Lowest.{lowest-found, lowest-none}
 use Prim.Native.Nat.{ℕ, _-_, _≤_, _<_}
 use mathlib.Core.Path.{_≡_, sym, _∙_}
 use mathlib.Core.Bool.{false}
 use native.Mathlib.Numerals.{add-one}
 use borrow.Author.Count.{below-more}
 use Rattle.score_cell_rules.specs.Tests.{pastIn}
-use Rattle.score_cell_rules.specs.Laws.{lowest-found, lowest-none}
 use native.Mathlib.Omega.{arith}
 use Rattle.score_cell_rules.proofs.lowest_past.Statement.{statement}
 use Rattle.score_cell_rules.proofs.lowest_past.Tie as tie

@@ -1,5 +1,6 @@
 -- Invariant: no cell below k breaks the rule.
-use Rattle.score_cell_rules.specs.Laws.{unoffered}
+use Rattle.score_cell_rules.specs.Offered.{unoffered}
+use Rattle.score_cell_rules.specs.Lowest.{lowest-found, lowest-none}
 use Rattle.definition.specs.Rules.{breaks1}
 use Rattle.job.specs.Value.{jobOf, placementOf}
 use Prim.Native.Nat.{ℕ, _-_, _≤_, _<_}
@@ -7,7 +8,6 @@ use mathlib.Core.Path.{_≡_, sym, _∙_}
 use mathlib.Core.Bool.{false}
 use native.Mathlib.Numerals.{add-one}
 use borrow.Author.Count.{below-more}
-use Rattle.score_cell_rules.specs.Laws.{lowest-found, lowest-none}
 use native.Mathlib.Omega.{arith}
 use borrow.Author.Needs.{needs}
 use Rattle.score_cell_rules.proofs.lowest_unoffered.Statement.{statement}

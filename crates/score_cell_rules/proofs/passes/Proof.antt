@@ -4,7 +4,8 @@ use mathlib.Core.Path.{_≡_, sym, _∙_}
 use mathlib.Core.Bool.{false}
 use borrow.Author.Count.{below-more}
 use Rattle.score_cell_rules.specs.Tests.{wrongIn}
-use Rattle.score_cell_rules.specs.Laws.{any-found, any-none, passes-low, passes-tall}
+use Rattle.score_cell_rules.specs.Lowest.{any-found, any-none}
+use Rattle.score_cell_rules.specs.Compared.{passes-low, passes-tall}
 use native.Mathlib.Omega.{arith}
 use borrow.Author.Needs.{needs}
 use Rattle.score_cell_rules.proofs.passes.Statement.{statement}

@@ -1,6 +1,6 @@
 -- The row's order from left to right is tested.
 use native.Mathlib.Omega.{arith}
-use Rattle.score_order.specs.Laws.{zeros-room}
+use Rattle.score_order.specs.Arrays.{zeros-room}
 use Rattle.score_cell_rules.specs.Quick.{row-clear}
 use borrow.Author.Needs.{needs}
 use Rattle.score_cell_rules.proofs.row_clear.Statement.{statement}

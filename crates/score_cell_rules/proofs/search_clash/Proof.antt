@@ -5,7 +5,7 @@ use mathlib.Core.Bool.{false}
 use native.Mathlib.Numerals.{add-one}
 use borrow.Author.Count.{below-more}
 use Rattle.score_cell_rules.specs.Tests.{clashesIn}
-use Rattle.score_cell_rules.specs.Laws.{lowest-found, lowest-none}
+use Rattle.score_cell_rules.specs.Lowest.{lowest-found, lowest-none}
 use native.Mathlib.Omega.{arith}
 use borrow.Author.Needs.{needs}
 use Rattle.score_cell_rules.proofs.search_clash.Statement.{statement}

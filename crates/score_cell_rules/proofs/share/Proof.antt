@@ -1,5 +1,5 @@
 -- The two rows, one after the other.
-use Rattle.score_cell_rules.specs.Laws.{share-two}
+use Rattle.score_cell_rules.specs.Compared.{share-two}
 use borrow.Author.Needs.{needs}
 use Rattle.score_cell_rules.proofs.share.Statement.{statement}
 use Rattle.score_cell_rules.proofs.share.Tie as tie

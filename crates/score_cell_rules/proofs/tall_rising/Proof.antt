@@ -1,9 +1,10 @@
 -- Invariant: the sites of the tall cells below k do not fall, and none is above `reach`.
 use Prim.Native.Nat.{_-_, _≤_}
 use mathlib.Core.Path.{_≡_}
+use mathlib.Core.Bool.{false≢true}
 use native.Mathlib.Numerals.{add-one}
 use Rattle.score_order.specs.Words.{siteIn, rowIn}
-use Rattle.score_cell_rules.specs.Quick.{Clear, clear-more, clear-skip, never}
+use Rattle.score_cell_rules.specs.Quick.{Clear, clear-more, clear-skip}
 use native.Mathlib.Omega.{arith}
 use Rattle.score_cell_rules.proofs.tall_rising.Statement.{statement}
 use Rattle.score_cell_rules.proofs.tall_rising.Tie as tie
@@ -42,7 +43,7 @@ add-k : tie.Need-add-k Inv-loop μ-loop
 add-k c = omega arith
 
 returns : tie.Need-returns Inv-loop μ-loop
-returns c = λ e. absurd (never e)
+returns c = λ e. absurd (false≢true e)
 
 loop-less : tie.Need-loop-less Inv-loop μ-loop
 loop-less c = omega arith

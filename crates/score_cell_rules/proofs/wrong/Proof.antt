@@ -1,5 +1,5 @@
 -- Only a tall cell can be on the wrong side.
-use Rattle.score_cell_rules.specs.Laws.{wrong-low, wrong-tall}
+use Rattle.score_cell_rules.specs.Compared.{wrong-low, wrong-tall}
 use borrow.Author.Needs.{needs}
 use Rattle.score_cell_rules.proofs.wrong.Statement.{statement}
 use Rattle.score_cell_rules.proofs.wrong.Tie as tie

@@ -1,5 +1,5 @@
 -- The words start as zeros.
-use Rattle.score_words.specs.Laws.{zeros-blank}
+use Rattle.score_words.specs.FourWords.{zeros-blank}
 use borrow.Author.Needs.{needs}
 use Rattle.score_numbers.proofs.numbers_of.Statement.{statement}
 use Rattle.score_numbers.proofs.numbers_of.Tie as tie

@@ -6,7 +6,7 @@ use Rattle.definition.specs.Cost.{stepsIn, stepsAt}
 use Rattle.job.specs.Value.{jobOf, placementOf}
 use Rattle.score_order.specs.Words.{siteIn, cellsIn}
 use Rattle.score_order.specs.Below.{Below, below-sort, below-cells}
-use Rattle.score_order.specs.Laws.{zeros-room}
+use Rattle.score_order.specs.Arrays.{zeros-room}
 use Rattle.score_words.specs.Rows.{flat-order}
 use borrow.Author.Needs.{needs}
 use Rattle.score_numbers.proofs.steps_row.Statement.{statement}

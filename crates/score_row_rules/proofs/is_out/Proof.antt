@@ -2,7 +2,7 @@
 use mathlib.Core.Path.{ap, _∙_}
 use mathlib.Core.Bool.{_&&_}
 use lib.Dec.{ltb}
-use Rattle.score_row_rules.specs.Laws.{out-by}
+use Rattle.score_row_rules.specs.Out.{out-by}
 use borrow.Author.Needs.{needs}
 use Rattle.score_row_rules.proofs.is_out.Statement.{statement}
 use Rattle.score_row_rules.proofs.is_out.Tie as tie

@@ -6,8 +6,8 @@ use mathlib.Core.List.{List}
 use lib.ListN.{length, getD, drop, length-set}
 use lib.Dec.{leb}
 use Rattle.lists.specs.Compare.{Le?, low, high, le?}
-use Rattle.score_row_rules.specs.Marks.{nearIn, Added}
-use Rattle.score_row_rules.specs.Laws.{near-last, near-one, near-other, added-none, added-same}
+use Rattle.score_row_rules.specs.Marks.{nearIn, Added, added-none, added-same}
+use Rattle.score_row_rules.specs.Near.{near-last, near-one, near-other}
 use native.Mathlib.Omega.{arith}
 use borrow.Author.Needs.{needs}
 use Rattle.score_row_rules.proofs.mark_gaps.Statement.{statement}

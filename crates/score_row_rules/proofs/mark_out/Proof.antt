@@ -7,7 +7,7 @@ use native.Mathlib.Decide.{ℕ-discrete}
 use lib.ListN.{length, getD, set, length-set}
 use lib.Seq.{getD-set-same, getD-set-other}
 use Rattle.score_row_rules.specs.Marks.{outAt}
-use Rattle.score_row_rules.specs.Laws.{out-at}
+use Rattle.score_row_rules.specs.Out.{out-at}
 use native.Mathlib.Omega.{arith}
 use borrow.Author.Needs.{needs}
 use Rattle.score_row_rules.proofs.mark_out.Statement.{statement}

@@ -2,8 +2,9 @@
 use Prim.Native.Nat.{ℕ, _<_, _≤_}
 use native.Mathlib.Omega.{arith}
 use lib.ListN.{drop}
-use Rattle.score_row_rules.specs.Marks.{outIn}
-use Rattle.score_row_rules.specs.Laws.{away-placed, added-below, out-same}
+use Rattle.score_row_rules.specs.Marks.{outIn, added-below}
+use Rattle.score_order.specs.Arrays.{away-placed}
+use Rattle.score_row_rules.specs.Out.{out-same}
 use borrow.Author.Needs.{needs}
 use Rattle.score_row_rules.proofs.mark_places.Statement.{statement}
 use Rattle.score_row_rules.proofs.mark_places.Tie as tie

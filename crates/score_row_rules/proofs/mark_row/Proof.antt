@@ -2,7 +2,7 @@
 use mathlib.Core.Path.{ap, _∙_}
 use Rattle.definition.specs.Rules.{sort}
 use Rattle.score_order.specs.Words.{siteIn}
-use Rattle.score_order.specs.Laws.{zeros-room}
+use Rattle.score_order.specs.Arrays.{zeros-room}
 use Rattle.score_row_rules.specs.Marks.{orderIn}
 use borrow.Author.Needs.{needs}
 use Rattle.score_row_rules.proofs.mark_row.Statement.{statement}

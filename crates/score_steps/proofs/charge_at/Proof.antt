@@ -1,6 +1,6 @@
 -- The charge of the gap's crate, which is at most 1.
 use mathlib.Core.Path.{refl}
-use Rattle.score_steps.specs.Laws.{charge-small}
+use Rattle.gap_charge.specs.Charge.{charge-small}
 use borrow.Author.Needs.{needs}
 use Rattle.score_steps.proofs.charge_at.Statement.{statement}
 use Rattle.score_steps.proofs.charge_at.Tie as tie

@@ -4,7 +4,8 @@ use mathlib.Core.Path.{ap₂, _∙_}
 use native.Mathlib.Omega.{arith}
 use Rattle.job.specs.Value.{cellOf, poseOf}
 use Rattle.score_steps.specs.Heights.{unlike}
-use Rattle.score_steps.specs.Laws.{count-small, differing-two}
+use Rattle.job.specs.Layouts.{count-small}
+use Rattle.score_steps.specs.Steps.{differing-two}
 use borrow.Author.Needs.{needs}
 use Rattle.score_steps.proofs.differing_heights.Statement.{statement}
 use Rattle.score_steps.proofs.differing_heights.Tie as tie

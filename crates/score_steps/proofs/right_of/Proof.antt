@@ -2,7 +2,7 @@
 use Rattle.score_steps.specs.Heights.{rightOf}
 use native.Mathlib.Omega.{arith}
 use borrow.Author.Tests.{eq-eqb, ne-eqb}
-use Rattle.score_steps.specs.Laws.{count-small}
+use Rattle.job.specs.Layouts.{count-small}
 use borrow.Author.Needs.{needs}
 use Rattle.score_steps.proofs.right_of.Statement.{statement}
 use Rattle.score_steps.proofs.right_of.Tie as tie

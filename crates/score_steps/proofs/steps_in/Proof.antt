@@ -12,7 +12,7 @@ use Rattle.job.specs.declared.Job.{Job}
 use Rattle.job.specs.declared.Placement.{Placement}
 use Rattle.job.specs.Value.{jobOf, placementOf}
 use Rattle.score_order.specs.Below.{below-tail}
-use Rattle.score_steps.specs.Laws.{sum-last, sum-more, steps-value}
+use Rattle.score_steps.specs.Steps.{sum-last, sum-more, steps-value}
 use native.Mathlib.Omega.{arith}
 use borrow.Author.Needs.{needs}
 use Rattle.score_steps.proofs.steps_in.Statement.{statement}

@@ -3,7 +3,7 @@ use Prim.Native.Nat.{ℕ}
 use mathlib.Core.Path.{refl, subst}
 use mathlib.Core.List.{List, [], _∷_}
 use Rattle.definition.specs.Lists.{from}
-use Rattle.score_order.specs.Laws.{zeros-at}
+use Rattle.lists.specs.Zeros.{zeros-at}
 use Rattle.score_cell_rules.specs.Tests.{passesIn}
 use Rattle.score_verdict.specs.Judged.{Judged, first-same}
 use Rattle.score_verdict.specs.Flat.{nearAny, outAny, near-lowest, out-lowest}

@@ -7,7 +7,7 @@ use mathlib.Core.List.{List, _∷_}
 use Rattle.definition.specs.Lists.{from}
 use Rattle.definition.specs.Rules.{breaks1, firstBroken, verdict}
 use Rattle.job.specs.Value.{jobOf, placementOf}
-use Rattle.score_words.specs.Laws.{zeros-blank}
+use Rattle.score_words.specs.FourWords.{zeros-blank}
 use Rattle.score_verdict.specs.Judged.{Judged, broken-here, holds-here}
 use Rattle.score_verdict.specs.Flat.{wordRules, flat-verdict}
 use borrow.Author.Needs.{needs}

@@ -12,8 +12,11 @@ use Rattle.lists.specs.Compare.{Le?, low, high, le?}
 use Rattle.definition.specs.Rules.{cellAt}
 use Rattle.job.specs.Value as value
 use Rattle.job.specs.Value.{cellOf, jobOf, placementOf, poseAt}
-use Rattle.score_words.specs.Flat.{widthIn, four, Shows}
-use Rattle.score_words.specs.Laws.{cell-there, cell-lacking, pose-lacking, four-long, four-other, shows-keep, shows-four, shows-none, cell-count, width-small}
+use Rattle.score_words.specs.Flat.{four, Shows}
+use Rattle.job.specs.Parts.{widthIn}
+use Rattle.job.specs.Cells.{cell-there, cell-lacking, pose-lacking, cell-count}
+use Rattle.score_words.specs.FourWords.{four-long, four-other, shows-keep, shows-four, shows-none}
+use Rattle.job.specs.Layouts.{width-small}
 use native.Mathlib.Omega.{arith}
 use borrow.Author.Needs.{needs}
 use Rattle.score_words.proofs.flatten.Statement.{statement}

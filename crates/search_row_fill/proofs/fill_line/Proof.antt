@@ -6,7 +6,7 @@ use native.Mathlib.Omega.{arith}
 use lib.ListN.{length, length-map}
 use Rattle.search_row_fill.specs.Filled.{filled-none, filled-value, ranged-at, lined}
 use Rattle.search_row_fill.specs.Filled.{sideOf, Filled}
-use Rattle.score_words.specs.Laws.{cell-count}
+use Rattle.job.specs.Cells.{cell-count}
 use Rattle.job.specs.Value.{jobOf}
 use Rattle.search_row_fill.proofs.fill_line.Statement.{statement}
 use Rattle.search_row_fill.proofs.fill_line.Tie as tie

@@ -4,8 +4,8 @@ use mathlib.Core.Path.{ap, ap₂, _∙_}
 use native.Mathlib.Omega.{arith}
 use borrow.Author.Needs.{needs}
 use Rattle.search_row_fill.specs.Words.{heightWord}
-use Rattle.score_steps.specs.Laws.{count-small}
-use Rattle.score_steps.specs.Heights.{heightIn}
+use Rattle.job.specs.Layouts.{count-small}
+use Rattle.job.specs.Parts.{heightIn}
 use Rattle.job.specs.Value.{cellOf}
 use Rattle.search_row_fill.proofs.height_word.Statement.{statement}
 use Rattle.search_row_fill.proofs.height_word.Tie as tie

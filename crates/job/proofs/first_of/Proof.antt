@@ -2,8 +2,8 @@
 use native.Mathlib.Omega.{arith}
 use borrow.Author.Tests.{eq-eqb, ne-eqb}
 use borrow.Author.Needs.{needs}
-use Rattle.score_steps.proofs.first_of.Statement.{statement}
-use Rattle.score_steps.proofs.first_of.Tie as tie
+use Rattle.job.proofs.first_of.Statement.{statement}
+use Rattle.job.proofs.first_of.Tie as tie
 
 mul-result : tie.Need-mul-result
 mul-result c = search needs

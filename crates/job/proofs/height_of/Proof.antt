@@ -1,8 +1,8 @@
 -- Layout 0 or 1, if the cell has it; a layout that the cell lacks has no heights.
 use native.Mathlib.Omega.{arith}
-use Rattle.score_steps.specs.Laws.{count-small, height-first, height-second, height-lacking, height-beyond}
-use Rattle.score_steps.proofs.height_of.Statement.{statement}
-use Rattle.score_steps.proofs.height_of.Tie as tie
+use Rattle.job.specs.Layouts.{count-small, height-first, height-second, height-lacking, height-beyond}
+use Rattle.job.proofs.height_of.Statement.{statement}
+use Rattle.job.proofs.height_of.Tie as tie
 
 returns : tie.Need-returns
 returns c = let s = c .before .before in height-lacking (s .args .cell) (s .args .layout) (s .args .i) (c .if1 .taken)

@@ -1,9 +1,9 @@
 -- Layout 0 or 1, if the cell has it; a layout that the cell lacks has width 0.
 use mathlib.Core.Path.{sym, ap}
 use native.Mathlib.Omega.{arith}
-use Rattle.score_words.specs.Laws.{width-first, width-second, layout-lacking, layout-beyond}
-use Rattle.score_words.proofs.width_of.Statement.{statement}
-use Rattle.score_words.proofs.width_of.Tie as tie
+use Rattle.job.specs.Layouts.{width-first, width-second, layout-lacking, layout-beyond}
+use Rattle.job.proofs.width_of.Statement.{statement}
+use Rattle.job.proofs.width_of.Tie as tie
 
 returns : tie.Need-returns
 returns c =

@@ -1,0 +1,82 @@
+-- The steps of two neighbours, from the words, the cells and the poses; and their sum over a list, from the right.
+use Prim.Native.Nat.{ℕ, zero, suc, _+_, _*_, _-_, _≤_, _<_}
+use mathlib.Core.Path.{_≡_, refl, sym, ap₂, _∙_}
+use mathlib.Core.List.{List}
+use native.Mathlib.Omega.{arith}
+use native.Mathlib.Nat.{add-zero}
+use lib.ListN.{length, getD, drop}
+use lib.Seq.{drop-cons}
+use Rattle.lists.specs.Tails.{tail-cons, tail-last}
+use Rattle.definition.specs.Lists.{sumNext}
+use Rattle.definition.specs.Job as paper
+use Rattle.definition.specs.Placement as text
+use Rattle.definition.specs.Rules.{cellAt, poseAt, gap}
+use Rattle.definition.specs.Cost.{charge, differing, stepsAt}
+use Rattle.job.specs.declared.Job.{Job}
+use Rattle.job.specs.declared.Placement.{Placement}
+use Rattle.job.specs.Value as value
+use Rattle.job.specs.Value.{cellOf, poseOf, jobOf, placementOf}
+use Rattle.job.specs.Parts.{heightIn}
+use Rattle.job.specs.Cells.{cell-there, pose-there}
+use Rattle.score_order.specs.Words.{siteIn, endIn}
+use Rattle.score_words.specs.Flat.{Flat}
+use Rattle.score_steps.specs.Heights.{leftOf, rightOf, unlike, differingOf, differing-of}
+
+-- the two pairs of heights
+pub differing-two : (c : paper.Cell) (p : text.Pose) (d : paper.Cell) (q : text.Pose) (row x y : ℕ)
+    → x ≡ rightOf (c .row) (p .mark) row → y ≡ leftOf (d .row) (q .mark) row
+    → unlike (heightIn c (p .layout) x) (heightIn d (q .layout) y)
+    + unlike (heightIn c (p .layout) (x + 1)) (heightIn d (q .layout) (y + 1))
+    ≡ differingOf c p d q row
+unfolding differingOf
+differing-two c p d q row x y e f = rw (← e, ← f, add-zero x, add-zero y) (omega arith)
+
+-- ---- the sum over the neighbours of a list, from the right
+
+module _ (f : ℕ → ℕ → ℕ) (l : List ℕ) where
+  pub sum-last : (i : ℕ) → length l ≤ suc i → sumNext f (drop i l) ≡ 0
+  sum-last i h = tail-last (sumNext f) 0 refl (λ x. refl) l i h
+
+  pub sum-more : (i n : ℕ) → n ≡ suc i → n < length l
+      → sumNext f (drop i l) ≡ f (getD l i 0) (getD l n 0) + sumNext f (drop n l)
+  sum-more i n e h = rw (tail-cons l i n 0 e (omega arith), drop-cons l n 0 h)
+
+-- ---- the steps of two neighbours
+
+steps-at : (j : paper.Job) (P : text.Placement) (row a b x y : ℕ) → x ≡ charge (gap j P a b)
+    → y ≡ differing j P row a b → x * y ≡ stepsAt j P row a b
+unfolding stepsAt
+steps-at j P row a b x y e f = ap₂ _*_ e f
+
+pub product-small : (x y : ℕ) → x ≤ 1 → y ≤ 2 → x * y ≤ 2
+product-small zero y h g = omega arith
+product-small (suc zero) y h g = omega arith
+product-small (suc (suc x)) y h g = absurd (omega arith)
+
+-- from the words, the cells and the poses: the definition's steps
+module _ (job : Job) (P : Placement) (words : List ℕ) (row a b r : ℕ) where
+  abbrev differ : ℕ
+  differ =
+      differingOf
+      (cellOf (value.cellAt job a))
+      (poseOf (value.poseAt P a))
+      (cellOf (value.cellAt job b))
+      (poseOf (value.poseAt P b))
+      row
+
+  pub steps-value : Flat (jobOf job) (placementOf P) (job .count) words → P .count ≡ job .count
+      → a < job .count → b < job .count
+      → r ≡ charge (siteIn words b - endIn words a) * differ → r ≡ stepsAt (jobOf job) (placementOf P) row a b
+  steps-value w n g h e =
+      let f : paper.Cell → text.Pose → paper.Cell → text.Pose → ℕ = λ c p d q. differingOf c p d q row in
+      let left = f (cellAt (jobOf job) a) (poseAt (placementOf P) a) in
+      let d =
+      ap₂
+      (λ c p. f c p (cellOf (value.cellAt job b)) (poseOf (value.poseAt P b)))
+      (sym (cell-there job a g))
+      (sym (pose-there P a (omega arith)))
+      ∙ ap₂ left (sym (cell-there job b h)) (sym (pose-there P b (omega arith)))
+      ∙ sym (differing-of (jobOf job) (placementOf P) row a b) in
+      e
+      ∙ steps-at (jobOf job) (placementOf P) row a b _ _
+      (ap₂ (λ x y. charge (x - y)) (w .shows b .site) (w .shows a .end)) d
