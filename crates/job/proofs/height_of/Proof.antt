@@ -15,18 +15,24 @@ element-copy-out-result c = omega (arith, count-small (c .before .before .before
 
 returns-2 : tie.Need-returns-2
 returns-2 c =
-    let s = c .before .before .before .before .before in
+    let mid = c .before .before .before .before in
+    let s = mid .before in
     height-first (s .args .cell) (s .args .layout) (s .args .i) (omega arith) (c .before .before .if2 .taken) (s .pre)
 
 mul-result-2 : tie.Need-mul-result-2
-mul-result-2 c = omega (arith, count-small (c .before .before .before .before .before .args .cell .row))
+mul-result-2 c =
+    let mid = c .before .before .before .before in
+    omega (arith, count-small (mid .before .args .cell .row))
 
 element-copy-out-result-2 : tie.Need-element-copy-out-result-2
-element-copy-out-result-2 c = omega (arith, count-small (c .before .before .before .before .before .args .cell .row))
+element-copy-out-result-2 c =
+    let mid = c .before .before .before .before in
+    omega (arith, count-small (mid .before .args .cell .row))
 
 returns-3 : tie.Need-returns-3
 returns-3 c =
-    let s = c .before .before .before .before .before .before in
+    let mid = c .before .before .before .before in
+    let s = mid .before .before in
     height-second (s .args .cell) (s .args .layout) (s .args .i) (omega arith) (c .before .before .if3 .taken) (s .pre)
 
 returns-4 : tie.Need-returns-4

@@ -17,7 +17,8 @@ returns-2 c =
 
 returns-3 : tie.Need-returns-3
 returns-3 c =
-    let s = c .before .before .before .before .before in
+    let mid = c .before .before .before .before in
+    let s = mid .before in
     width-second (s .args .cell) (s .args .layout) (omega arith) (c .before .if3 .taken)
 
 returns-4 : tie.Need-returns-4

@@ -54,7 +54,9 @@ shared-slice-read-if2-2 : tie.Need-shared-slice-read-if2-2
 shared-slice-read-if2-2 c = search needs
 
 returns-2 : tie.Need-returns-2
-returns-2 c = let s = c .before .before .before .before .before .before .before in clash-left (s .args .words .now) (s .args .k) (s .args .b) (c .if2 .taken)
+returns-2 c =
+    let mid = c .before .before .before .before in
+    let s = mid .before .before .before in clash-left (s .args .words .now) (s .args .k) (s .args .b) (c .if2 .taken)
 
 mul-share : tie.Need-mul-share
 mul-share c = search needs
@@ -85,7 +87,9 @@ share-requires c κs = search needs
 
 returns-3 : tie.Need-returns-3
 returns-3 c =
-    let s = c .before .before .before .before .before .before .before .before .before .before in
+    let mid = c .before .before .before .before in
+    let far = mid .before .before .before .before in
+    let s = far .before .before in
     ap (λ t. not (eqb (s .args .b) (s .args .k)) && t) (c .share .ensures) ∙ clash-here (s .args .words .now) (s .args .k) (s .args .b) (omega arith) (omega arith)
 
 pub clash-spec : {M : Type 1} → statement M

@@ -53,7 +53,8 @@ add-result c = omega arith
 
 returns : tie.Need-returns Inv-loop μ-loop
 returns c =
-    let p = c .before .before .before .before .before in
+    let mid = c .before .before .before .before in
+    let p = mid .before in
     let s = p .before .before in
     let t = far-true (s .args .words .now) (s .args .limit) (p .loop .k) (c .before .apart-of .result) (c .before .apart-of .ensures .0) (c .if1 .taken) in
     add-one (p .loop .k) ∙ sym (lowest-found (farIn (s .args .words .now) (s .args .limit)) 0 (s .args .count) (p .loop .k) (omega arith) (omega arith) t (λ i a b. p .loop .inv .1 i b))
@@ -66,7 +67,8 @@ loop-less c = omega arith
 
 loop-again : tie.Need-loop-again Inv-loop μ-loop
 loop-again c =
-    let p = c .before .before .before .before .before in
+    let mid = c .before .before .before .before in
+    let p = mid .before in
     let s = p .before .before in
     (omega arith, below-more _ _ (p .loop .inv .1) (far-false (s .args .words .now) (s .args .limit) (p .loop .k) (c .before .apart-of .result) (c .before .apart-of .ensures .0) (c .if1 .left)))
 

@@ -45,7 +45,8 @@ add-result c = omega arith
 
 returns : tie.Need-returns Inv-loop μ-loop
 returns c =
-    let p = c .before .before .before .before .before in
+    let mid = c .before .before .before .before in
+    let p = mid .before in
     let s = p .before in
     let t = unoffered (s .args .t1) (s .args .t2) (p .loop .k) (c .before .is-offered .result) (omega arith) (s .pre .each) (c .before .is-offered .ensures) ∙ c .if1 .taken in
     add-one (p .loop .k) ∙ sym (lowest-found (breaks1 (jobOf (s .args .t1)) (placementOf (s .args .t2))) 0 (s .args .t1 .count) (p .loop .k) (omega arith) (omega arith) t (λ i a b. p .loop .inv .1 i b))
@@ -58,7 +59,8 @@ loop-less c = omega arith
 
 loop-again : tie.Need-loop-again Inv-loop μ-loop
 loop-again c =
-    let p = c .before .before .before .before .before in
+    let mid = c .before .before .before .before in
+    let p = mid .before in
     let s = p .before in
     let t = unoffered (s .args .t1) (s .args .t2) (p .loop .k) (c .before .is-offered .result) (omega arith) (s .pre .each) (c .before .is-offered .ensures) ∙ c .if1 .left in
     (omega arith, below-more _ _ (p .loop .inv .1) t)

@@ -39,18 +39,20 @@ negative-requires c κs = search needs
 
 returns-2 : tie.Need-returns-2
 returns-2 c =
-    let s = c .before .before .before .before .before .before in
+    let mid = c .before .before .before .before in
+    let s = mid .before .before in
     read (c .negative .result) (c .negative .ok) ∙ c .negative .ensures
-    ∙ below-zero (s .args .s) (s .args .n) (c .before .before .before .hundredths-of .result) (c .before .before .before .before .before .if1 .left) (hundredths-is (c .before .before .before)) (sign-is (c .before .before) ∙ c .before .if2 .taken)
+    ∙ below-zero (s .args .s) (s .args .n) (c .before .before .before .hundredths-of .result) (mid .before .if1 .left) (hundredths-is (c .before .before .before)) (sign-is (c .before .before) ∙ c .before .if2 .taken)
 
 positive-requires : tie.Need-positive-requires
 positive-requires c κs = search needs
 
 returns-3 : tie.Need-returns-3
 returns-3 c =
-    let s = c .before .before .before .before .before .before in
+    let mid = c .before .before .before .before in
+    let s = mid .before .before in
     read (c .positive .result) (c .positive .ok) ∙ c .positive .ensures
-    ∙ from-zero (s .args .s) (s .args .n) (c .before .before .before .hundredths-of .result) (c .before .before .before .before .before .if1 .left) (hundredths-is (c .before .before .before)) (sign-is (c .before .before) ∙ c .before .if2 .left)
+    ∙ from-zero (s .args .s) (s .args .n) (c .before .before .before .hundredths-of .result) (mid .before .if1 .left) (hundredths-is (c .before .before .before)) (sign-is (c .before .before) ∙ c .before .if2 .left)
 
 pub drift-from-spec : {M : Type 1} → statement M
 drift-from-spec =

@@ -55,9 +55,11 @@ shared-slice-read-displacement-2 c = omega arith
 
 -- the numbers of cell k are in range
 digits : (c : tie.After-shared-slice-known3 Inv-loop μ-loop)
-    → (siteIn (c .before .before .before .before .before .args .words .now) (c .before .before .before .loop .k - 1) ≤ 9999)
-    × (givenIn (c .before .before .before .before .before .args .words .now) (c .before .before .before .loop .k - 1) ≤ 1023)
-digits c = c .before .before .before .before .before .pre .2 (c .before .before .before .loop .k - 1) (omega arith)
+    → let p = c .before .before .before in let w = p .before .before .args .words .now in
+    (siteIn w (p .loop .k - 1) ≤ 9999) × (givenIn w (p .loop .k - 1) ≤ 1023)
+digits c =
+    let p = c .before .before .before in
+    p .before .before .pre .2 (p .loop .k - 1) (omega arith)
 
 displacement-requires : tie.Need-displacement-requires Inv-loop μ-loop
 displacement-requires c κs = digits c
@@ -75,7 +77,8 @@ loop-less c = omega arith
 
 loop-again : tie.Need-loop-again Inv-loop μ-loop
 loop-again c =
-    let p = c .before .before .before .before .before in
+    let mid = c .before .before .before .before in
+    let p = mid .before in
     let s = p .before .before in
     let m = p .loop .inv in
     let w : List ℕ = s .args .words .now in

@@ -35,7 +35,8 @@ changed-in-requires c κs = search needs
 
 weighed-sum-requires : tie.Need-weighed-sum-requires
 weighed-sum-requires c κs =
-    let s = c .before .before .before .before .before .before in
+    let mid = c .before .before .before .before in
+    let s = mid .before .before in
     let w = weights-small (s .args .job) (s .args .placement) (s .pre .0) in
     let a = c .before .before .before .before .steps-row .ensures .1 in
     let b = c .before .before .before .steps-row2 .ensures .1 in
@@ -43,7 +44,8 @@ weighed-sum-requires c κs =
 
 total-shift-requires : tie.Need-total-shift-requires
 total-shift-requires c κs =
-    let s = c .before .before .before .before .before .before .before in
+    let mid = c .before .before .before .before in
+    let s = mid .before .before .before in
     (s .pre .0 .few, s .pre .1 .long, flat-digits (s .args .job) (s .args .placement) (s .args .words .now) (s .pre .0) (s .pre .1))
 
 cast-drift-from : tie.Need-cast-drift-from

@@ -23,7 +23,8 @@ slice-aggregate-steps-in c = search needs
 
 steps-in-requires : tie.Need-steps-in-requires
 steps-in-requires c κs =
-    let s = c .before .before .before .before .before in
+    let mid = c .before .before .before .before in
+    let s = mid .before in
     let t = c .before .before .order-row .ensures in
     let r = s .pre .1 in
     let w = s .args .words .now in
@@ -39,7 +40,8 @@ steps-in-requires c κs =
 returns : tie.Need-returns
 unfolding stepsIn
 returns c =
-    let s = c .before .before .before .before .before .before in
+    let mid = c .before .before .before .before in
+    let s = mid .before .before in
     let t = c .before .before .before .order-row .ensures in
     let f = stepsAt (jobOf (s .args .job)) (placementOf (s .args .placement)) (s .args .row) in
     (c .steps-in .ensures .0 ∙ ap (sumNext f) (t .entries ∙ flat-order (s .pre .2) (s .args .row)), c .steps-in .ensures .1)

@@ -75,30 +75,33 @@ mul-near-2 : tie.Need-mul-near-2 Inv-loop μ-loop
 mul-near-2 c = omega arith
 
 slice-write-near-2 : tie.Need-slice-write-near-2 Inv-loop μ-loop
-slice-write-near-2 c = simp length-set (omega (arith, c .before .before .before .before .before .before .before .loop .inv .added .long))
+slice-write-near-2 c =
+    let mid = c .before .before .before .before in
+    simp length-set (omega (arith, mid .before .before .before .loop .inv .added .long))
 
 loop-less : tie.Need-loop-less Inv-loop μ-loop
 loop-less c = omega arith
 
 loop-again : tie.Need-loop-again Inv-loop μ-loop
 loop-again c =
-    let p = c .before .before .before .before .before .before .before in
+    let mid = c .before .before .before .before in
+    let p = mid .before .before .before in
     let s = p .before .before .before .before in
     let m = p .loop .inv in
     let w : List ℕ = s .args .words .now in
     let o : List ℕ = s .args .order .now in
     let l : length o ≡ 64 = s .pre .1 .long in
     let i : ℕ = p .loop .i - 1 in
-    let a : ℕ = c .before .before .before .before .before .entry .result in
+    let a : ℕ = mid .before .entry .result in
     let b : ℕ = c .before .before .before .before .entry2 .result in
-    let test : s .args .at < p .loop .i = c .before .before .before .before .before .before .loop-test .taken in
+    let test : s .args .at < p .loop .i = mid .before .before .loop-test .taken in
     let next : i + 1 ≡ p .loop .i = omega arith in
-    let ea : a ≡ getD o i 0 = c .before .before .before .before .before .entry .ensures .0 in
+    let ea : a ≡ getD o i 0 = mid .before .entry .ensures .0 in
     let eb : b ≡ getD o (p .loop .i) 0 = c .before .before .before .before .entry2 .ensures .0 ∙ ap (λ x. getD o x 0) next in
     record {
       below = omega arith;
       down = omega arith;
-      added = near-one w o (s .args .near .now) (p .loop .near) i (p .loop .i) a b (c .before .gap-between .result) (omega arith) (omega arith) ea eb (c .before .gap-between .ensures) (c .before .before .before .before .before .entry .ensures .1) (c .before .before .before .before .entry2 .ensures .1) (c .if1 .taken) (m .added);
+      added = near-one w o (s .args .near .now) (p .loop .near) i (p .loop .i) a b (c .before .gap-between .result) (omega arith) (omega arith) ea eb (c .before .gap-between .ensures) (mid .before .entry .ensures .1) (c .before .before .before .before .entry2 .ensures .1) (c .if1 .taken) (m .added);
     }
 
 loop-less-2 : tie.Need-loop-less-2 Inv-loop μ-loop
@@ -106,18 +109,19 @@ loop-less-2 c = omega arith
 
 loop-again-2 : tie.Need-loop-again-2 Inv-loop μ-loop
 loop-again-2 c =
-    let p = c .before .before .before .before .before .before .before in
+    let mid = c .before .before .before .before in
+    let p = mid .before .before .before in
     let s = p .before .before .before .before in
     let m = p .loop .inv in
     let w : List ℕ = s .args .words .now in
     let o : List ℕ = s .args .order .now in
     let l : length o ≡ 64 = s .pre .1 .long in
     let i : ℕ = p .loop .i - 1 in
-    let a : ℕ = c .before .before .before .before .before .entry .result in
+    let a : ℕ = mid .before .entry .result in
     let b : ℕ = c .before .before .before .before .entry2 .result in
-    let test : s .args .at < p .loop .i = c .before .before .before .before .before .before .loop-test .taken in
+    let test : s .args .at < p .loop .i = mid .before .before .loop-test .taken in
     let next : i + 1 ≡ p .loop .i = omega arith in
-    let ea : a ≡ getD o i 0 = c .before .before .before .before .before .entry .ensures .0 in
+    let ea : a ≡ getD o i 0 = mid .before .entry .ensures .0 in
     let eb : b ≡ getD o (p .loop .i) 0 = c .before .before .before .before .entry2 .ensures .0 ∙ ap (λ x. getD o x 0) next in
     record {
       below = omega arith;

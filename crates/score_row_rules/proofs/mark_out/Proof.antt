@@ -90,20 +90,30 @@ unmarked words count row limit place rank out₀ out k n q h t m = record {
 
 loop-again : tie.Need-loop-again Inv-loop μ-loop
 loop-again c =
-    let p = c .before .before .before .before .before in
-    let s = p .before .before .before .before .before in
-    let t = out-at (s .args .words .now) (s .args .row) (s .args .limit) (s .args .place .now) (s .args .rank .now) (p .loop .k - 1) (c .before .is-out .result) (c .before .is-out .ensures) ∙ c .if1 .taken in
-    marked (s .args .words .now) (s .args .count) (s .args .row) (s .args .limit) (s .args .place .now) (s .args .rank .now) (s .args .out .now) (p .loop .out) (p .loop .k - 1) (p .loop .k) (omega arith) (p .loop .inv .below) (s .pre .1) t (p .loop .inv)
+    let late = c .before .before .before .before in
+    let p = late .before in
+    let mid = p .before .before .before .before in
+    let a = mid .before .args in
+    let k : ℕ = p .loop .k - 1 in
+    let r = c .before .is-out in
+    let t = out-at (a .words .now) (a .row) (a .limit) (a .place .now) (a .rank .now) k (r .result) (r .ensures) ∙ c .if1 .taken in
+    marked (a .words .now) (a .count) (a .row) (a .limit) (a .place .now) (a .rank .now) (a .out .now) (p .loop .out) k (p .loop .k)
+    (omega arith) (p .loop .inv .below) (mid .before .pre .1) t (p .loop .inv)
 
 loop-less-2 : tie.Need-loop-less-2 Inv-loop μ-loop
 loop-less-2 c = omega arith
 
 loop-again-2 : tie.Need-loop-again-2 Inv-loop μ-loop
 loop-again-2 c =
-    let p = c .before .before .before .before .before in
-    let s = p .before .before .before .before .before in
-    let t = out-at (s .args .words .now) (s .args .row) (s .args .limit) (s .args .place .now) (s .args .rank .now) (p .loop .k - 1) (c .before .is-out .result) (c .before .is-out .ensures) ∙ c .if1 .left in
-    unmarked (s .args .words .now) (s .args .count) (s .args .row) (s .args .limit) (s .args .place .now) (s .args .rank .now) (s .args .out .now) (p .loop .out) (p .loop .k - 1) (p .loop .k) (omega arith) (p .loop .inv .below) t (p .loop .inv)
+    let late = c .before .before .before .before in
+    let p = late .before in
+    let mid = p .before .before .before .before in
+    let a = mid .before .args in
+    let k : ℕ = p .loop .k - 1 in
+    let r = c .before .is-out in
+    let t = out-at (a .words .now) (a .row) (a .limit) (a .place .now) (a .rank .now) k (r .result) (r .ensures) ∙ c .if1 .left in
+    unmarked (a .words .now) (a .count) (a .row) (a .limit) (a .place .now) (a .rank .now) (a .out .now) (p .loop .out) k (p .loop .k)
+    (omega arith) (p .loop .inv .below) t (p .loop .inv)
 
 same-length : tie.Need-same-length Inv-loop μ-loop
 same-length c = omega arith

@@ -13,13 +13,17 @@ slice-aggregate-places : tie.Need-slice-aggregate-places
 slice-aggregate-places c = search needs
 
 places-requires : tie.Need-places-requires
-places-requires c κs = let s = c .before .before .before .before .before in (s .pre .3, s .pre .4, away-placed)
+places-requires c κs =
+    let mid = c .before .before .before .before in
+    let s = mid .before in (s .pre .3, s .pre .4, away-placed)
 
 slice-aggregate-places-2 : tie.Need-slice-aggregate-places-2
 slice-aggregate-places-2 c = search needs
 
 places-requires-2 : tie.Need-places-requires-2
-places-requires-2 c κs = let s = c .before .before .before .before .before .before .before .before in (s .pre .2, s .pre .4, away-placed)
+places-requires-2 c κs =
+    let mid = c .before .before .before .before in
+    let s = mid .before .before .before .before in (s .pre .2, s .pre .4, away-placed)
 
 slice-aggregate-mark-out : tie.Need-slice-aggregate-mark-out
 slice-aggregate-mark-out c = search needs
@@ -38,13 +42,19 @@ below k n h g = omega arith
 
 returns : tie.Need-returns
 returns c =
-    let left = c .before .before .before .before .before .before .before .before .before .before in
-    let file = c .before .before .before .before .before .before .before in
-    let s = left .before .before .before .before .before .before in
+    let late = c .before .before .before .before in
+    let file = late .before .before .before in
+    let left = file .before .before .before in
+    let mid = left .before .before .before .before in
+    let s = mid .before .before in
+    let a = s .args in
     let p = left .places .ensures in
     let q = file .places2 .ensures in
-    added-below (s .args .count) _ (outIn (s .args .words .now) (s .args .row) (s .args .limit) (drop (s .args .at) (s .args .order .now)) (drop (s .args .at) (s .args .cells .now))) (s .args .out .now) _
-    (λ k h. out-same (s .args .words .now) (s .args .row) (s .args .limit) (s .args .at) (drop (s .args .at) (s .args .order .now)) (drop (s .args .at) (s .args .cells .now)) _ _ k (p .at-place k (below k (s .args .count) h (s .pre .1))) (q .at-place k (below k (s .args .count) h (s .pre .1))))
+    let o = drop (a .at) (a .order .now) in
+    let f = drop (a .at) (a .cells .now) in
+    added-below (a .count) _ (outIn (a .words .now) (a .row) (a .limit) o f) (a .out .now) _
+    (λ k h. let b = below k (a .count) h (s .pre .1) in
+    out-same (a .words .now) (a .row) (a .limit) (a .at) o f _ _ k (p .at-place k b) (q .at-place k b))
     (c .before .before .mark-out .ensures)
 
 pub mark-places-spec : {M : Type 1} → statement M

@@ -22,7 +22,8 @@ slice-aggregate-sort-row-2 c = search needs
 
 sort-row-requires : tie.Need-sort-row-requires
 sort-row-requires c κs =
-    let s = c .before .before .before .before .before .before .before .before in
+    let mid = c .before .before .before .before in
+    let s = mid .before .before .before .before in
     let t = c .before .before .before .row-cells .ensures in
     (s .pre .0, record { long = t .long; low = t .low }, zeros-room, t .start)
 
@@ -50,10 +51,12 @@ same-length-2 c = search needs
 returns : tie.Need-returns
 unfolding orderIn
 returns c =
-    let gaps = c .before .before .before .before .before .before .before .before in
+    let late = c .before .before .before .before in
+    let gaps = late .before .before .before .before in
     let sorted = gaps .before .before .before .before in
     let listed = sorted .before .before .before .before in
-    let s = listed .before .before .before .before .before in
+    let early = listed .before .before .before .before in
+    let s = early .before in
     let e = listed .row-cells .ensures .entries in
     let f = sorted .sort-row .ensures .entries ∙ ap (sort (siteIn (s .args .words .now))) e in
     (rw f at (gaps .mark-gaps .ensures), rw (f, e) at (c .before .before .mark-places .ensures))

@@ -26,13 +26,17 @@ unlike-heights-requires : tie.Need-unlike-heights-requires
 unlike-heights-requires c κs = search needs
 
 add-height-of : tie.Need-add-height-of
-add-height-of c = omega (arith, count-small (c .before .before .before .before .before .args .a .row))
+add-height-of c =
+    let mid = c .before .before .before .before in
+    omega (arith, count-small (mid .before .args .a .row))
 
 height-of-requires-3 : tie.Need-height-of-requires-3
 height-of-requires-3 c κs = search needs
 
 add-height-of-2 : tie.Need-add-height-of-2
-add-height-of-2 c = omega (arith, count-small (c .before .before .before .before .before .before .args .b .row))
+add-height-of-2 c =
+    let mid = c .before .before .before .before in
+    omega (arith, count-small (mid .before .before .args .b .row))
 
 height-of-requires-4 : tie.Need-height-of-requires-4
 height-of-requires-4 c κs = search needs
@@ -46,10 +50,11 @@ add-result c = search needs
 returns : tie.Need-returns
 unfolding cellOf
 returns c =
-    let s = c .before .before .before .before .before .before .before .before in
-    let x = c .before .before .before .before .before .before .before .right-of in
-    let y = c .before .before .before .before .before .before .left-of in
-    let high = c .before .before .before .unlike-heights .ensures .0 ∙ ap₂ unlike (c .before .before .before .before .before .height-of .ensures) (c .before .before .before .before .height-of2 .ensures) in
+    let mid = c .before .before .before .before in
+    let s = mid .before .before .before .before in
+    let x = mid .before .before .before .right-of in
+    let y = mid .before .before .left-of in
+    let high = c .before .before .before .unlike-heights .ensures .0 ∙ ap₂ unlike (mid .before .height-of .ensures) (c .before .before .before .before .height-of2 .ensures) in
     let low = c .unlike-heights2 .ensures .0 ∙ ap₂ unlike (c .before .before .height-of3 .ensures) (c .before .height-of4 .ensures) in
     (ap₂ _+_ high low ∙ differing-two (cellOf (s .args .a)) (poseOf (s .args .p)) (cellOf (s .args .b)) (poseOf (s .args .q)) (s .args .row) (x .result) (y .result) (x .ensures .0) (y .ensures .0), omega arith)
 

@@ -25,46 +25,65 @@ module _ (s : tie.Start) where
   abbrev six : List (ℕ → Bool)
   six = markedIn (s .args .out .now) ∷ seven
 
--- rule 5 holds, and rule 6
-held5 : (c : tie.Else1) (v : Verdict) → Judged (firstBroken 6 (six (c .before .before .before .before .before)) (cells (c .before .before .before .before .before))) v
-    → Judged (firstBroken 5 (markedIn (c .before .before .before .before .before .args .near .now) ∷ six (c .before .before .before .before .before)) (cells (c .before .before .before .before .before))) v
-held5 c v j =
-    let s = c .before .before .before .before .before in
-    holds-here 5 (markedIn (s .args .near .now)) (six s) (cells s) (c .before .lowest-marked .result) (c .before .lowest-marked .ensures) (c .if1 .left) v j
+-- that entry, once rule 5 holds, and once rule 6 does
+abbrev entry5 : tie.Else1 → tie.Start
+entry5 c = let mid = c .before .before .before .before in mid .before
 
-held6 : (c : tie.Else2) (v : Verdict) → Judged (firstBroken 7 (seven (c .before .before .before .before .before .before .before)) (cells (c .before .before .before .before .before .before .before))) v
-    → Judged (firstBroken 6 (six (c .before .before .before .before .before .before .before)) (cells (c .before .before .before .before .before .before .before))) v
+abbrev entry6 : tie.Else2 → tie.Start
+entry6 c = let mid = c .before .before .before .before in mid .before .before .before
+
+held5 : (c : tie.Else1) (v : Verdict) → let s = entry5 c in Judged (firstBroken 6 (six s) (cells s)) v
+    → Judged (firstBroken 5 (markedIn (s .args .near .now) ∷ six s) (cells s)) v
+held5 c v j =
+    let s = entry5 c in
+    let r = c .before .lowest-marked in
+    holds-here 5 (markedIn (s .args .near .now)) (six s) (cells s) (r .result) (r .ensures) (c .if1 .left) v j
+
+held6 : (c : tie.Else2) (v : Verdict) → let s = entry6 c in Judged (firstBroken 7 (seven s) (cells s)) v
+    → Judged (firstBroken 6 (six s) (cells s)) v
 held6 c v j =
-    let s = c .before .before .before .before .before .before .before in
-    holds-here 6 (markedIn (s .args .out .now)) (seven s) (cells s) (c .before .lowest-marked2 .result) (c .before .lowest-marked2 .ensures) (c .if2 .left) v j
+    let s = entry6 c in
+    let r = c .before .lowest-marked2 in
+    holds-here 6 (markedIn (s .args .out .now)) (seven s) (cells s) (r .result) (r .ensures) (c .if2 .left) v j
 
 returns : tie.Need-returns
 returns c =
-    let s = c .before .before .before .before .before in
-    broken-here 5 (markedIn (s .args .near .now)) (six s) (cells s) (c .before .lowest-marked .result) (c .before .lowest-marked .ensures) (c .if1 .taken)
+    let mid = c .before .before .before .before in
+    let s = mid .before in
+    let r = c .before .lowest-marked in
+    broken-here 5 (markedIn (s .args .near .now)) (six s) (cells s) (r .result) (r .ensures) (c .if1 .taken)
 
 lowest-marked-requires-2 : tie.Need-lowest-marked-requires-2
 lowest-marked-requires-2 c κs = search needs
 
 returns-2 : tie.Need-returns-2
 returns-2 c =
-    let s = c .before .before .before .before .before .before .before in
-    held5 (c .before .before) _ (broken-here 6 (markedIn (s .args .out .now)) (seven s) (cells s) (c .before .lowest-marked2 .result) (c .before .lowest-marked2 .ensures) (c .if2 .taken))
+    let mid = c .before .before .before .before in
+    let s = mid .before .before .before in
+    let r = c .before .lowest-marked2 in
+    held5 (c .before .before) _
+    (broken-here 6 (markedIn (s .args .out .now)) (seven s) (cells s) (r .result) (r .ensures) (c .if2 .taken))
 
 lowest-passing-requires : tie.Need-lowest-passing-requires
 lowest-passing-requires c κs = search needs
 
 returns-3 : tie.Need-returns-3
 returns-3 c =
-    let s = c .before .before .before .before .before .before .before .before .before in
+    let mid = c .before .before .before .before in
+    let far = mid .before .before .before .before in
+    let s = far .before in
+    let r = c .before .lowest-passing in
     held5 (c .before .before .before .before) _ (held6 (c .before .before) _
-    (broken-here 7 (passesIn (s .args .words .now) (s .args .count)) [] (cells s) (c .before .lowest-passing .result) (c .before .lowest-passing .ensures) (c .if3 .taken)))
+    (broken-here 7 (passesIn (s .args .words .now) (s .args .count)) [] (cells s) (r .result) (r .ensures) (c .if3 .taken)))
 
 returns-4 : tie.Need-returns-4
 returns-4 c =
-    let s = c .before .before .before .before .before .before .before .before .before in
+    let mid = c .before .before .before .before in
+    let far = mid .before .before .before .before in
+    let s = far .before in
+    let r = c .before .lowest-passing in
     held5 (c .before .before .before .before) _ (held6 (c .before .before) _
-    (holds-here 7 (passesIn (s .args .words .now) (s .args .count)) [] (cells s) (c .before .lowest-passing .result) (c .before .lowest-passing .ensures) (c .if3 .left) _ (all-hold 8 (cells s))))
+    (holds-here 7 (passesIn (s .args .words .now) (s .args .count)) [] (cells s) (r .result) (r .ensures) (c .if3 .left) _ (all-hold 8 (cells s))))
 
 pub judge-marks-spec : {M : Type 1} → statement M
 judge-marks-spec =

@@ -40,15 +40,18 @@ judge-marks-requires c κs = search needs
 
 returns : tie.Need-returns
 returns c =
-    let two = c .before .before .before .before .before in
-    let one = two .before .before .before .before .before in
+    let late = c .before .before .before .before in
+    let two = late .before in
+    let mid = two .before .before .before .before in
+    let one = mid .before in
     let s = one .before .before .before .before in
     let w : List ℕ = s .args .words .now in
     let n : ℕ = s .args .count in
     let ks : List ℕ = from 0 n in
     let a = near-lowest w n _ _ _ (zeros-at 64) (s .pre .1) (one .mark-row .ensures .0) (two .mark-row2 .ensures .0) in
     let b = out-lowest w n _ _ _ (zeros-at 64) (s .pre .1) (s .args .reordering) (one .mark-row .ensures .1) (two .mark-row2 .ensures .1) in
-    let e = first-same 5 _ (nearAny w n) _ _ ks a (first-same 6 _ (outAny w n (s .args .reordering)) (passesIn w n ∷ []) (passesIn w n ∷ []) ks b refl) in
+    let q = passesIn w n ∷ [] in
+    let e = first-same 5 _ (nearAny w n) _ _ ks a (first-same 6 _ (outAny w n (s .args .reordering)) q q ks b refl) in
     subst (λ v. Judged v (c .judge-marks .result)) e (c .judge-marks .ensures)
 
 pub judge-rows-spec : {M : Type 1} → statement M

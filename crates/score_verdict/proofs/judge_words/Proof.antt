@@ -29,49 +29,64 @@ module _ (s : tie.Start) where
   abbrev three : List (ℕ → Bool)
   three = farIn (s .args .words .now) (s .args .displacement) ∷ four
 
--- rule 2 holds, and rule 3, and rule 4
-held2 : (c : tie.Else1) (v : Verdict) → Judged (firstBroken 3 (three (c .before .before .before)) (cells (c .before .before .before))) v
-    → Judged (firstBroken 2 (pastIn (c .before .before .before .args .words .now) (c .before .before .before .args .sites) ∷ three (c .before .before .before)) (cells (c .before .before .before))) v
+-- that entry, once rule 3 holds
+abbrev entry3 : tie.Else2 → tie.Start
+entry3 c = let mid = c .before .before .before .before in mid .before
+
+-- rule 2 holds, and rule 3
+held2 : (c : tie.Else1) (v : Verdict) → let s = c .before .before .before in Judged (firstBroken 3 (three s) (cells s)) v
+    → Judged (firstBroken 2 (pastIn (s .args .words .now) (s .args .sites) ∷ three s) (cells s)) v
 held2 c v j =
     let s = c .before .before .before in
-    holds-here 2 (pastIn (s .args .words .now) (s .args .sites)) (three s) (cells s) (c .before .lowest-past .result) (c .before .lowest-past .ensures) (c .if1 .left) v j
+    let r = c .before .lowest-past in
+    holds-here 2 (pastIn (s .args .words .now) (s .args .sites)) (three s) (cells s) (r .result) (r .ensures) (c .if1 .left) v j
 
-held3 : (c : tie.Else2) (v : Verdict) → Judged (firstBroken 4 (four (c .before .before .before .before .before)) (cells (c .before .before .before .before .before))) v
-    → Judged (firstBroken 3 (three (c .before .before .before .before .before)) (cells (c .before .before .before .before .before))) v
+held3 : (c : tie.Else2) (v : Verdict) → let s = entry3 c in Judged (firstBroken 4 (four s) (cells s)) v
+    → Judged (firstBroken 3 (three s) (cells s)) v
 held3 c v j =
-    let s = c .before .before .before .before .before in
-    holds-here 3 (farIn (s .args .words .now) (s .args .displacement)) (four s) (cells s) (c .before .lowest-far .result) (c .before .lowest-far .ensures) (c .if2 .left) v j
+    let s = entry3 c in
+    let r = c .before .lowest-far in
+    holds-here 3 (farIn (s .args .words .now) (s .args .displacement)) (four s) (cells s) (r .result) (r .ensures) (c .if2 .left) v j
 
 returns : tie.Need-returns
 returns c =
     let s = c .before .before .before in
-    broken-here 2 (pastIn (s .args .words .now) (s .args .sites)) (three s) (cells s) (c .before .lowest-past .result) (c .before .lowest-past .ensures) (c .if1 .taken)
+    let r = c .before .lowest-past in
+    broken-here 2 (pastIn (s .args .words .now) (s .args .sites)) (three s) (cells s) (r .result) (r .ensures) (c .if1 .taken)
 
 lowest-far-requires : tie.Need-lowest-far-requires
 lowest-far-requires c κs = search needs
 
 returns-2 : tie.Need-returns-2
 returns-2 c =
-    let s = c .before .before .before .before .before in
-    held2 (c .before .before) _ (broken-here 3 (farIn (s .args .words .now) (s .args .displacement)) (four s) (cells s) (c .before .lowest-far .result) (c .before .lowest-far .ensures) (c .if2 .taken))
+    let mid = c .before .before .before .before in
+    let s = mid .before in
+    let r = c .before .lowest-far in
+    held2 (c .before .before) _
+    (broken-here 3 (farIn (s .args .words .now) (s .args .displacement)) (four s) (cells s) (r .result) (r .ensures) (c .if2 .taken))
 
 lowest-clash-requires : tie.Need-lowest-clash-requires
 lowest-clash-requires c κs = search needs
 
 returns-3 : tie.Need-returns-3
 returns-3 c =
-    let s = c .before .before .before .before .before .before .before in
-    held2 (c .before .before .before .before) _ (held3 (c .before .before) _
-    (broken-here 4 (clashesIn (s .args .words .now) (s .args .count)) (five s) (cells s) (c .before .lowest-clash .result) (c .before .lowest-clash .ensures) (c .if3 .taken)))
+    let mid = c .before .before .before .before in
+    let s = mid .before .before .before in
+    let r = c .before .lowest-clash in
+    held2 mid _ (held3 (c .before .before) _
+    (broken-here 4 (clashesIn (s .args .words .now) (s .args .count)) (five s) (cells s) (r .result) (r .ensures) (c .if3 .taken)))
 
 judge-rows-requires : tie.Need-judge-rows-requires
 judge-rows-requires c κs = search needs
 
 returns-4 : tie.Need-returns-4
 returns-4 c =
-    let s = c .before .before .before .before .before .before .before .before in
-    held2 (c .before .before .before .before .before) _ (held3 (c .before .before .before) _
-    (holds-here 4 (clashesIn (s .args .words .now) (s .args .count)) (five s) (cells s) (c .before .before .lowest-clash .result) (c .before .before .lowest-clash .ensures) (c .before .if3 .left) (c .judge-rows .result) (c .judge-rows .ensures)))
+    let mid = c .before .before .before .before in
+    let s = mid .before .before .before .before in
+    let r = c .before .before .lowest-clash in
+    held2 (mid .before) _ (held3 (c .before .before .before) _
+    (holds-here 4 (clashesIn (s .args .words .now) (s .args .count)) (five s) (cells s) (r .result) (r .ensures) (c .before .if3 .left)
+    (c .judge-rows .result) (c .judge-rows .ensures)))
 
 pub judge-words-spec : {M : Type 1} → statement M
 judge-words-spec =

@@ -34,8 +34,8 @@ later c =
     wordRules (c .flatten .last .1 .1 .0) (c .before .before .args .job .count) (h .sites) (h .displacement) (h .reordering)
 
 same : (c : tie.After-flatten) (v : Verdict)
-    → Judged (firstBroken 1 (breaks1 (jobOf (c .before .before .args .job)) (placementOf (c .before .before .args .placement)) ∷ later c) (cells (c .before .before))) v
-    → Judged (verdict (jobOf (c .before .before .args .job)) (placementOf (c .before .before .args .placement))) v
+    → let s = c .before .before in let j = jobOf (s .args .job) in let P = placementOf (s .args .placement) in
+    Judged (firstBroken 1 (breaks1 j P ∷ later c) (cells s)) v → Judged (verdict j P) v
 same c v j =
     let s = c .before .before in
     subst (λ x. Judged x v) (flat-verdict (s .args .job) (placementOf (s .args .placement)) _ (c .flatten .ensures)) j
@@ -44,7 +44,9 @@ returns : tie.Need-returns
 returns c =
     let f = c .before .before .before in
     let s = f .before .before in
-    same f _ (broken-here 1 (breaks1 (jobOf (s .args .job)) (placementOf (s .args .placement))) (later f) (cells s) (c .before .lowest-unoffered .result) (c .before .lowest-unoffered .ensures) (c .if1 .taken))
+    let r = c .before .lowest-unoffered in
+    let broken = breaks1 (jobOf (s .args .job)) (placementOf (s .args .placement)) in
+    same f _ (broken-here 1 broken (later f) (cells s) (r .result) (r .ensures) (c .if1 .taken))
 
 slice-aggregate-judge-words : tie.Need-slice-aggregate-judge-words
 slice-aggregate-judge-words c = search needs
@@ -57,9 +59,10 @@ returns-2 c =
     let e = c .before .before .before in
     let f = e .before .before .before in
     let s = f .before .before in
+    let r = e .before .lowest-unoffered in
+    let broken = breaks1 (jobOf (s .args .job)) (placementOf (s .args .placement)) in
     same f _
-    (holds-here 1 (breaks1 (jobOf (s .args .job)) (placementOf (s .args .placement))) (later f) (cells s) (e .before .lowest-unoffered .result) (e .before .lowest-unoffered .ensures) (e .if1 .left)
-    (c .judge-words .result) (c .judge-words .ensures))
+    (holds-here 1 broken (later f) (cells s) (r .result) (r .ensures) (e .if1 .left) (c .judge-words .result) (c .judge-words .ensures))
 
 pub verdict-of-spec : {M : Type 1} → statement M
 verdict-of-spec =

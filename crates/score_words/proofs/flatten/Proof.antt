@@ -58,7 +58,8 @@ counted s = cell-count (s .args .t1) (simp length-map at (s .good .0 .1 .1 .1 .1
 
 add-put-four : tie.Need-add-put-four Inv-loop μ-loop
 add-put-four c =
-    let p = c .before .before .before .before .before in
+    let mid = c .before .before .before .before in
+    let p = mid .before in
     let s = p .before .before in
     let k : ℕ = p .loop .k in
     let job : Job = s .args .t1 in
@@ -94,7 +95,8 @@ more job P w k end g h f e m =
 
 loop-again : tie.Need-loop-again Inv-loop μ-loop
 loop-again c =
-    let p = c .before .before .before .before .before .before .before .before in
+    let mid = c .before .before .before .before in
+    let p = mid .before .before .before .before in
     let s = p .before .before in
     let m = p .loop .inv in
     let k : ℕ = p .loop .k in
