@@ -31,7 +31,8 @@ module _ (words : List ℕ) where
   unfolding farIn
   far-true limit k a e h = not-low (apart (siteIn words k) (givenIn words k)) limit (omega arith)
 
-  pub far-false : (limit k a : ℕ) → a ≡ apart (siteIn words k) (givenIn words k) → a ≤ limit → farIn words limit k ≡ false
+  pub far-false : (limit k a : ℕ) → a ≡ apart (siteIn words k) (givenIn words k) → a ≤ limit
+      → farIn words limit k ≡ false
   unfolding farIn
   far-false limit k a e h = not-high (apart (siteIn words k) (givenIn words k)) limit (omega arith)
 

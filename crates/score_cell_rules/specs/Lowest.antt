@@ -1,4 +1,4 @@
--- What a search through n cells from a on finds: whether any passes a test, and the lowest. Laws of the definition's words.
+-- What a search through n cells from a on finds: whether any passes a test, and the lowest. On the definition's words.
 use Prim.Native.Nat.{ℕ, zero, suc, _+_, _≤_, _<_}
 use mathlib.Core.Path.{_≡_, refl, sym, ap, ap₂, _∙_}
 use mathlib.Core.Bool.{Bool, true, false, _||_, cond, or-true}

@@ -20,15 +20,17 @@ use Rattle.score_cell_rules.specs.Tests.{shareIn, clashIn, clashesIn, wr
 use Rattle.score_cell_rules.specs.Lowest.{any-none}
 use Rattle.score_cell_rules.specs.Compared.{wrong-low, wrong-tall, passes-low, passes-tall}
 
--- ---- one pass: of those below i that count, none begins (g) before an earlier one has ended (f), and all have ended at reach
+-- ---- one pass
 
+-- of those below i that count, none begins (g) before an earlier one has ended (f), and all have ended at reach
 pub record Clear (S : ℕ → Type 0) (f g : ℕ → ℕ) (i reach : ℕ) : Type 0 where
   pub most : (p : ℕ) → p < i → S p → f p ≤ reach
   pub clear : (p q : ℕ) → p < q → q < i → S p → S q → f p ≤ g q
 
 module _ {S : ℕ → Type 0} {f g : ℕ → ℕ} {i reach n : ℕ} (e : n ≡ suc i) (c : Clear S f g i reach) where
   pub clear-skip : (S i → ⊥) → Clear S f g n reach
-  clear-skip h = record { most = λ p l s. go p l s (ℕ-discrete p i); clear = λ p q l m s t. to p q l m s t (ℕ-discrete q i) }
+  clear-skip h =
+      record { most = λ p l s. go p l s (ℕ-discrete p i); clear = λ p q l m s t. to p q l m s t (ℕ-discrete q i) }
     where
       go : (p : ℕ) → p < n → S p → Dec (p ≡ i) → f p ≤ reach
       go p l s (yes d) = absurd (h (rw d at s))
@@ -39,7 +41,8 @@ module _ {S : ℕ → Type 0} {f g : ℕ → ℕ} {i reach n : ℕ} (e : n ≡ s
       to p q l m s t (no d) = c .clear p q l (omega arith) s t
 
   pub clear-more : (r : ℕ) → reach ≤ g i → reach ≤ r → f i ≤ r → Clear S f g n r
-  clear-more r h a b = record { most = λ p l s. go p l s (ℕ-discrete p i); clear = λ p q l m s t. to p q l m s t (ℕ-discrete q i) }
+  clear-more r h a b =
+      record { most = λ p l s. go p l s (ℕ-discrete p i); clear = λ p q l m s t. to p q l m s t (ℕ-discrete q i) }
     where
       go : (p : ℕ) → p < n → S p → Dec (p ≡ i) → f p ≤ r
       go p l s (yes d) = rw d b
@@ -57,7 +60,8 @@ pub record InLine (words list : List ℕ) (at : ℕ) : Type 0 where
 
 -- of any two of the first n cells that stand in a row, one ends at or before the other's site
 pub record RowClear (words : List ℕ) (row n : ℕ) : Type 0 where
-  pub apart : (a b : ℕ) → a < n → b < n → standsIn row (rowIn words a) ≡ true → standsIn row (rowIn words b) ≡ true → a ≢ b
+  pub apart : (a b : ℕ) → a < n → b < n
+      → standsIn row (rowIn words a) ≡ true → standsIn row (rowIn words b) ≡ true → a ≢ b
       → (endIn words a ≤ siteIn words b) ⊎ (endIn words b ≤ siteIn words a)
 
 -- the sites of tall cells do not fall in file order
@@ -76,16 +80,27 @@ module _ (words order : List ℕ) (row n at : ℕ)
   pub row-clear : InLine words order at → RowClear words row n
   row-clear l = record { apart = λ a b h g s r d. go a b d (in-order a h s) (in-order b g r) }
     where
-      go : (a b : ℕ) → a ≢ b → At order at a → At order at b → (endIn words a ≤ siteIn words b) ⊎ (endIn words b ≤ siteIn words a)
+      go : (a b : ℕ) → a ≢ b → At order at a → At order at b
+          → (endIn words a ≤ siteIn words b) ⊎ (endIn words b ≤ siteIn words a)
       go a b d x y = to (ℕ-discrete (x .place) (y .place)) (leb (x .place) (y .place)) (le? (x .place) (y .place))
         where
-          to : Dec (x .place ≡ y .place) → (t : Bool) → Le? (x .place) (y .place) t → (endIn words a ≤ siteIn words b) ⊎ (endIn words b ≤ siteIn words a)
+          to : Dec (x .place ≡ y .place) → (t : Bool) → Le? (x .place) (y .place) t
+              → (endIn words a ≤ siteIn words b) ⊎ (endIn words b ≤ siteIn words a)
           to (yes e) b′ c = absurd (d (sym (x .here-it) ∙ ap (λ p. getD order p 0) e ∙ y .here-it))
-          to (no e) true (low h) = inl (rw (x .here-it, y .here-it) at (l .ahead (x .place) (y .place) (omega arith) (omega (arith, t .long)) (x .after) (y .after)))
-          to (no e) false (high h) = inr (rw (y .here-it, x .here-it) at (l .ahead (y .place) (x .place) (omega arith) (omega (arith, t .long)) (y .after) (x .after)))
+          to (no e) true (low h) =
+              inl
+              (rw (x .here-it, y .here-it) at
+              (l .ahead (x .place) (y .place) (omega arith) (omega (arith, t .long)) (x .after) (y .after)))
+          to (no e) false (high h) =
+              inr
+              (rw (y .here-it, x .here-it) at
+              (l .ahead (y .place) (x .place) (omega arith) (omega (arith, t .long)) (y .after) (x .after)))
 
--- cells that share a row share row 0 or row 1
-share-cases : (a b : ℕ) → shareIn a b ≡ true → ((standsIn 0 a && standsIn 0 b) ≡ true) ⊎ ((standsIn 1 a && standsIn 1 b) ≡ true)
+-- cells of two row numbers stand in row 0 both, or in row 1
+abbrev Both : ℕ → ℕ → Type 0
+Both a b = ((standsIn 0 a && standsIn 0 b) ≡ true) ⊎ ((standsIn 1 a && standsIn 1 b) ≡ true)
+
+share-cases : (a b : ℕ) → shareIn a b ≡ true → Both a b
 unfolding shareIn
 share-cases a b e = go (standsIn 0 a && standsIn 0 b) (standsIn 1 a && standsIn 1 b) e
   where
@@ -96,20 +111,26 @@ share-cases a b e = go (standsIn 0 a && standsIn 0 b) (standsIn 1 a && standsIn 
 
 module _ (words : List ℕ) (n : ℕ) (c₀ : RowClear words 0 n) (c₁ : RowClear words 1 n) where
   -- cells that share a row are apart in it
-  shared : (k b : ℕ) → k < n → b < n → k ≢ b → ((standsIn 0 (rowIn words k) && standsIn 0 (rowIn words b)) ≡ true) ⊎ ((standsIn 1 (rowIn words k) && standsIn 1 (rowIn words b)) ≡ true)
+  shared : (k b : ℕ) → k < n → b < n → k ≢ b → Both (rowIn words k) (rowIn words b)
       → (endIn words k ≤ siteIn words b) ⊎ (endIn words b ≤ siteIn words k)
-  shared k b h g d (inl e) = let s = and-eq-true-iff (standsIn 0 (rowIn words k)) (standsIn 0 (rowIn words b)) .0 e in c₀ .apart k b h g (s .0) (s .1) d
-  shared k b h g d (inr e) = let s = and-eq-true-iff (standsIn 1 (rowIn words k)) (standsIn 1 (rowIn words b)) .0 e in c₁ .apart k b h g (s .0) (s .1) d
+  shared k b h g d (inl e) =
+      let s = and-eq-true-iff (standsIn 0 (rowIn words k)) (standsIn 0 (rowIn words b)) .0 e in
+      c₀ .apart k b h g (s .0) (s .1) d
+  shared k b h g d (inr e) =
+      let s = and-eq-true-iff (standsIn 1 (rowIn words k)) (standsIn 1 (rowIn words b)) .0 e in
+      c₁ .apart k b h g (s .0) (s .1) d
 
   no-clash : (k b : ℕ) → k < n → b < n → clashIn words k b ≡ false
   unfolding clashIn
-  no-clash k b h g = go (eqb b k) (eq? b k) (shareIn (rowIn words k) (rowIn words b)) (share-cases (rowIn words k) (rowIn words b))
+  no-clash k b h g =
+      go (eqb b k) (eq? b k) (shareIn (rowIn words k) (rowIn words b)) (share-cases (rowIn words k) (rowIn words b))
     where
-      far : (endIn words k ≤ siteIn words b) ⊎ (endIn words b ≤ siteIn words k) → (ltb (siteIn words k) (endIn words b) && ltb (siteIn words b) (endIn words k)) ≡ false
+      far : (endIn words k ≤ siteIn words b) ⊎ (endIn words b ≤ siteIn words k)
+          → (ltb (siteIn words k) (endIn words b) && ltb (siteIn words b) (endIn words k)) ≡ false
       far (inl l) = rw (le-ltb (siteIn words b) (endIn words k) l) (and-false (ltb (siteIn words k) (endIn words b)))
       far (inr l) = rw (le-ltb (siteIn words k) (endIn words b) l)
 
-      go : (t : Bool) → Eq? b k t → (s : Bool) → (s ≡ true → ((standsIn 0 (rowIn words k) && standsIn 0 (rowIn words b)) ≡ true) ⊎ ((standsIn 1 (rowIn words k) && standsIn 1 (rowIn words b)) ≡ true))
+      go : (t : Bool) → Eq? b k t → (s : Bool) → (s ≡ true → Both (rowIn words k) (rowIn words b))
           → (not t && (s && ltb (siteIn words k) (endIn words b) && ltb (siteIn words b) (endIn words k))) ≡ false
       go true (same e) s f = refl
       go false (differs d) false f = refl
@@ -130,11 +151,15 @@ not-wrong b k x y f = go (leb (suc b) k) (le? (suc b) k)
     go false (high h) = refl
 
 module _ (words : List ℕ) (n : ℕ) (c : TallRising words n) where
-  right-side : (k b : ℕ) → k < n → b < n → rowIn words k ≡ 2 → (t : Bool) → Eq? (rowIn words b) 2 t → wrongIn words k b ≡ false
+  right-side : (k b : ℕ) → k < n → b < n → rowIn words k ≡ 2 → (t : Bool) → Eq? (rowIn words b) 2 t
+      → wrongIn words k b ≡ false
   right-side k b h g s false (differs d) = sym (wrong-low words k b d)
   right-side k b h g s true (same e) =
       sym (wrong-tall words k b e)
-      ∙ rw (not-wrong b k (siteIn words b) (siteIn words k) (λ l. c .rising b k l h e s), not-wrong k b (siteIn words k) (siteIn words b) (λ l. c .rising k b l g s e))
+      ∙ rw (
+        not-wrong b k (siteIn words b) (siteIn words k) (λ l. c .rising b k l h e s),
+        not-wrong k b (siteIn words k) (siteIn words b) (λ l. c .rising k b l g s e),
+      )
 
   pub none-passed : (k : ℕ) → k < n → passesIn words n k ≡ false
   none-passed k h = go (eqb (rowIn words k) 2) (eq? (rowIn words k) 2)
@@ -142,4 +167,6 @@ module _ (words : List ℕ) (n : ℕ) (c : TallRising words n) where
       go : (t : Bool) → Eq? (rowIn words k) 2 t → passesIn words n k ≡ false
       go false (differs d) = sym (passes-low words n k d)
       go true (same e) =
-          sym (passes-tall words n k e) ∙ any-none (wrongIn words k) 0 n (λ b _ g. right-side k b h (omega arith) e (eqb (rowIn words b) 2) (eq? (rowIn words b) 2))
+          sym (passes-tall words n k e)
+          ∙ any-none (wrongIn words k) 0 n
+          (λ b _ g. right-side k b h (omega arith) e (eqb (rowIn words b) 2) (eq? (rowIn words b) 2))

@@ -1,4 +1,5 @@
--- The rules that are judged cell by cell, on the words of a placed job. They are the definition's: see Flat in crate rules.
+-- The rules that are judged cell by cell, on the words of a placed job. They are the definition's: see
+-- Flat in score_verdict.
 use Prim.Native.Nat.{ℕ}
 use mathlib.Core.Bool.{Bool, not, _&&_, _||_}
 use mathlib.Core.List.{List}
@@ -23,14 +24,20 @@ unfoldable pub shareIn : ℕ → ℕ → Bool
 shareIn a b = any (λ row. standsIn row a && standsIn row b) bothRows
 
 unfoldable pub clashIn : List ℕ → ℕ → ℕ → Bool
-clashIn words k b = not (eqb b k) && (shareIn (rowIn words k) (rowIn words b) && ltb (siteIn words k) (endIn words b) && ltb (siteIn words b) (endIn words k))
+clashIn words k b =
+    not (eqb b k)
+    && (shareIn (rowIn words k) (rowIn words b)
+    && ltb (siteIn words k) (endIn words b)
+    && ltb (siteIn words b) (endIn words k))
 
 unfoldable pub clashesIn : List ℕ → ℕ → ℕ → Bool
 clashesIn words n k = any (clashIn words k) (from 0 n)
 
 -- rule 7: a tall cell is on the wrong side of cell k; any of n is
 unfoldable pub wrongIn : List ℕ → ℕ → ℕ → Bool
-wrongIn words k b = eqb (rowIn words b) 2 && ((ltb b k && ltb (siteIn words k) (siteIn words b)) || (ltb k b && ltb (siteIn words b) (siteIn words k)))
+wrongIn words k b =
+    eqb (rowIn words b) 2
+    && ((ltb b k && ltb (siteIn words k) (siteIn words b)) || (ltb k b && ltb (siteIn words b) (siteIn words k)))
 
 unfoldable pub passesIn : List ℕ → ℕ → ℕ → Bool
 passesIn words n k = eqb (rowIn words k) 2 && any (wrongIn words k) (from 0 n)

@@ -26,7 +26,8 @@ abbrev pub driftOf : ℤ → ℕ → ℤ
 driftOf s n = cond (eqb n 0) (pos 0) (hundredths s n)
 
 -- one more cell, and none
-pub total-more : (words : List ℕ) (i k n m : ℕ) → k ≡ suc i → n ≡ suc m → totalIn words i n ≡ (pos (siteIn words i) -ℤ pos (givenIn words i)) +ℤ totalIn words k m
+pub total-more : (words : List ℕ) (i k n m : ℕ) → k ≡ suc i → n ≡ suc m
+    → totalIn words i n ≡ (pos (siteIn words i) -ℤ pos (givenIn words i)) +ℤ totalIn words k m
 unfolding totalIn
 total-more words i k n m e f = rw (f, e)
 
@@ -36,11 +37,15 @@ total-none words k n e = rw e
 
 -- ---- they are the definition's
 
-pub flat-total : (j : paper.Job) (P : text.Placement) (n : ℕ) (words : List ℕ) → Flat j P n words → (k m : ℕ) → totalIn words k m ≡ totalShift j P (from k m)
+pub flat-total : (j : paper.Job) (P : text.Placement) (n : ℕ) (words : List ℕ) → Flat j P n words → (k m : ℕ)
+    → totalIn words k m ≡ totalShift j P (from k m)
 unfolding totalIn totalShift
 flat-total j P n words f k zero = refl
-flat-total j P n words f k (suc m) = ap₂ _+ℤ_ (ap₂ (λ x y. pos x -ℤ pos y) (f .shows k .site) (f .shows k .given)) (flat-total j P n words f (suc k) m)
+flat-total j P n words f k (suc m) =
+    ap₂ _+ℤ_ (ap₂ (λ x y. pos x -ℤ pos y) (f .shows k .site) (f .shows k .given)) (flat-total j P n words f (suc k) m)
 
-pub flat-drift : (j : paper.Job) (P : text.Placement) (n : ℕ) (words : List ℕ) → Flat j P n words → driftOf (totalIn words 0 n) n ≡ drift j P
+pub flat-drift : (j : paper.Job) (P : text.Placement) (n : ℕ) (words : List ℕ) → Flat j P n words
+    → driftOf (totalIn words 0 n) n ≡ drift j P
 unfolding drift
-flat-drift j P n words f = ap₂ driftOf (flat-total j P n words f 0 n ∙ ap (λ m. totalShift j P (from 0 m)) (sym (f .count))) (sym (f .count))
+flat-drift j P n words f =
+    ap₂ driftOf (flat-total j P n words f 0 n ∙ ap (λ m. totalShift j P (from 0 m)) (sym (f .count))) (sym (f .count))

@@ -1,4 +1,5 @@
-// Drift: the signed sum of displacements, divided by the number of cells and rounded, with halves away from zero on both sides.
+// Drift: the signed sum of displacements, divided by the number of cells and rounded, with halves away from zero on
+// both sides.
 ghost use mathlib.Core.Path.{_≡_};
 ghost use Prim.Native.Nat.{_+_, _*_, _<_, _≤_, _^_};
 ghost use lib.IntN.{ℤ, pos, negℤ, natAbs, _+ℤ_, _-ℤ_};
@@ -78,7 +79,8 @@ fn hundredths_of(d: u32, n: u32) -> u32
     (2 * (100 * d) + n) / (2 * n)
 }
 
-// A signed sum over n cells, in hundredths of a site: rounded by its size, so that halves go away from zero on both sides.
+// A signed sum over n cells, in hundredths of a site: rounded by its size, so that halves go away from zero on both
+// sides.
 pub fn drift_from(s: i32, n: u32) -> i32
     requires { ⌜ (natAbs s ≤ 1000000) × (n ≤ 64) ⌝ }
     ensures { λ r. ⌜ r ≡ driftOf s n ⌝ }

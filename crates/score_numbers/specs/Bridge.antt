@@ -18,20 +18,26 @@ use Rattle.job.specs.Cells.{pose-there}
 use Rattle.score_drift.specs.Total.{Digits}
 use Rattle.score_numbers.specs.Sums.{sumFrom, countFrom, shiftIn, isChanged}
 
-pub flat-digits : (job : Job) (P : Placement) (words : List ℕ) → Ready job P → Flat (jobOf job) (placementOf P) (job .count) words → Digits words (job .count)
+pub flat-digits : (job : Job) (P : Placement) (words : List ℕ) → Ready job P
+    → Flat (jobOf job) (placementOf P) (job .count) words → Digits words (job .count)
 flat-digits job P words r f k h =
     let s = f .shows k in
-    let l : k < length (jobOf job .cells) = omega (arith, f .count) in
-    (omega (arith, s .site, ap (λ p. p .site) (pose-there P k (omega (arith, r .each))), r .site k h), omega (arith, s .given, r .sound .cell k l .given))
+    let l : k < length (jobOf job .cells) = omega (arith, f .count) in (
+      omega (arith, s .site, ap (λ p. p .site) (pose-there P k (omega (arith, r .each))), r .site k h),
+      omega (arith, s .given, r .sound .cell k l .given),
+    )
 
-pub steps-sum : (j : paper.Job) (P : text.Placement) (a b : ℕ) → a ≡ stepsIn j P 0 → b ≡ stepsIn j P 1 → a + b ≡ steps j P
+pub steps-sum : (j : paper.Job) (P : text.Placement) (a b : ℕ) → a ≡ stepsIn j P 0 → b ≡ stepsIn j P 1
+    → a + b ≡ steps j P
 unfolding steps
 steps-sum j P a b e f = omega arith
 
 module _ {j : paper.Job} {P : text.Placement} {n : ℕ} {words : List ℕ} (f : Flat j P n words) where
   pub flat-shifted : sumFrom (shiftIn words) 0 n ≡ shifted j P
   unfolding sumFrom shiftIn shifted
-  flat-shifted = ap₂ (λ (g : ℕ → ℕ) m. sum g (from 0 m)) (fun-ext (λ k. ap₂ apart (f .shows k .site) (f .shows k .given))) (sym (f .count))
+  flat-shifted =
+      ap₂ (λ (g : ℕ → ℕ) m. sum g (from 0 m)) (fun-ext (λ k. ap₂ apart (f .shows k .site) (f .shows k .given)))
+      (sym (f .count))
 
   pub flat-mirrored : countFrom (isMirrored P) 0 n ≡ mirrored j P
   unfolding countFrom mirrored
@@ -42,8 +48,10 @@ module _ {j : paper.Job} {P : text.Placement} {n : ℕ} {words : List ℕ} (f : 
   flat-changed = ap (λ m. length (keep (isChanged P) (from 0 m))) (sym (f .count))
 
 -- the weights are the header's
-pub cost-sum : (job : Job) (P : text.Placement) (a b c d : ℕ) → a ≡ steps (jobOf job) P → b ≡ shifted (jobOf job) P → c ≡ mirrored (jobOf job) P → d ≡ changed (jobOf job) P
-    → job .header .step * a + job .header .shift * b + job .header .mirror * c + job .header .swap * d ≡ cost (jobOf job) P
+pub cost-sum : (job : Job) (P : text.Placement) (a b c d : ℕ) → a ≡ steps (jobOf job) P → b ≡ shifted (jobOf job) P
+    → c ≡ mirrored (jobOf job) P → d ≡ changed (jobOf job) P
+    → job .header .step * a + job .header .shift * b + job .header .mirror * c + job .header .swap * d
+    ≡ cost (jobOf job) P
 unfolding cost jobOf headerOf
 cost-sum job P a b c d e f g h = rw (e, f, g, h)
 
@@ -55,4 +63,5 @@ pub record Weights (job : Job) : Type 0 where
 
 pub weights-small : (job : Job) (P : Placement) → Ready job P → Weights job
 unfolding jobOf headerOf
-weights-small job P r = let h = r .sound .header in record { step = h .step; shift = h .shift; mirror = h .mirror; swap = h .swap }
+weights-small job P r =
+    let h = r .sound .header in record { step = h .step; shift = h .shift; mirror = h .mirror; swap = h .swap }

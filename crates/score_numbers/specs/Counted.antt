@@ -28,6 +28,7 @@ pub record Counted (j : paper.Job) (P : text.Placement) (r : Numbers) : Type 0 w
 
 -- as the definition lists them
 pub numbers-listed : (j : paper.Job) (P : text.Placement) (r : Numbers) → Counted j P r
-    → pos (r .steps) ∷ pos (r .shifted) ∷ pos (r .mirrored) ∷ pos (r .changed) ∷ pos (r .cost) ∷ r .drift ∷ [] ≡ numbers j P
+    → pos (r .steps) ∷ pos (r .shifted) ∷ pos (r .mirrored) ∷ pos (r .changed) ∷ pos (r .cost) ∷ r .drift ∷ []
+    ≡ numbers j P
 unfolding numbers
 numbers-listed j P r c = rw (c .steps, c .shifted, c .mirrored, c .changed, c .cost, c .drift)

@@ -33,7 +33,8 @@ pub struct Numbers {
 // Sites shifted, of one cell: once, in whichever rows it stands.
 fn shift_of(words: &[u32], k: usize) -> u32
     requires { ⌜ (length (now words) ≡ 256) × (k < 64) ⌝ }
-    ensures { λ r. ⌜ (r ≡ apart (siteIn (now (words .entry)) k) (givenIn (now (words .entry)) k)) × (r ≤ siteIn (now (words .entry)) k + givenIn (now (words .entry)) k) ⌝ }
+    ensures { λ r. ⌜ (r ≡ apart (siteIn (now (words .entry)) k) (givenIn (now (words .entry)) k))
+        × (r ≤ siteIn (now (words .entry)) k + givenIn (now (words .entry)) k) ⌝ }
 {
     apart_of(words[4 * k], words[4 * k + 3])
 }
@@ -100,7 +101,9 @@ fn steps_row(job: Job, placement: Placement, words: &[u32], row: u32) -> u32
 fn weighed_sum(header: Header, steps: u32, shifted: u32, mirrored: u32, changed: u32) -> u32
     requires { ⌜ (header .step ≤ 1000) × (header .shift ≤ 1000) × (header .mirror ≤ 1000) × (header .swap ≤ 1000) ⌝ }
     requires { ⌜ (steps ≤ 252) × (shifted ≤ 800000) × (mirrored ≤ 64) × (changed ≤ 64) ⌝ }
-    ensures { λ r. ⌜ (r ≡ header .step * steps + header .shift * shifted + header .mirror * mirrored + header .swap * changed) × (r ≤ 1000000000) ⌝ }
+    ensures { λ r. ⌜ (r ≡ header .step * steps + header .shift * shifted
+        + header .mirror * mirrored + header .swap * changed)
+        × (r ≤ 1000000000) ⌝ }
 {
     header.step * steps + header.shift * shifted + header.mirror * mirrored + header.swap * changed
 }

@@ -12,10 +12,12 @@ use score_order::sort_row;
 use score_words::apart_of;
 use score_words::gap_between;
 
-// Rule 5: neighbours with one empty site between them; the row's cells from left to right are the entries of `order` from `at` on.
+// Rule 5: neighbours with one empty site between them; the row's cells from left to right are the entries of
+// `order` from `at` on.
 fn mark_gaps(words: &[u32], order: &[u32], at: usize, near: &mut [u32])
     requires { ⌜ (length (now words) ≡ 256) × Room (now order) × (at ≤ 64) × (length (now near) ≡ 64) ⌝ }
-    ensures { λ r. ⌜ Added 64 (nearIn (now (words .entry)) (drop at (now (order .entry)))) (now (near .entry)) (now (near .exit)) ⌝ }
+    ensures { λ r. ⌜ Added 64 (nearIn (now (words .entry)) (drop at (now (order .entry))))
+        (now (near .entry)) (now (near .exit)) ⌝ }
 {
     let mut i: usize = 63;
     while at < i {
@@ -46,8 +48,10 @@ fn mark_out(
     rank: &[u32],
     out: &mut [u32],
 )
-    requires { ⌜ (length (now words) ≡ 256) × (count ≤ 64) × (length (now place) ≡ 64) × (length (now rank) ≡ 64) × (length (now out) ≡ 64) ⌝ }
-    ensures { λ r. ⌜ Added count (outAt (now (words .entry)) row limit (now (place .entry)) (now (rank .entry))) (now (out .entry)) (now (out .exit)) ⌝ }
+    requires { ⌜ (length (now words) ≡ 256) × (count ≤ 64) × (length (now place) ≡ 64) × (length (now rank) ≡ 64)
+        × (length (now out) ≡ 64) ⌝ }
+    ensures { λ r. ⌜ Added count (outAt (now (words .entry)) row limit (now (place .entry)) (now (rank .entry)))
+        (now (out .entry)) (now (out .exit)) ⌝ }
 {
     let mut k: usize = count;
     while 0 < k {
@@ -68,8 +72,11 @@ fn mark_places(
     limit: u32,
     out: &mut [u32],
 )
-    requires { ⌜ (length (now words) ≡ 256) × (count ≤ 64) × Room (now cells) × Room (now order) × (at ≤ 64) × (length (now out) ≡ 64) ⌝ }
-    ensures { λ r. ⌜ Added count (outIn (now (words .entry)) row limit (drop at (now (order .entry))) (drop at (now (cells .entry)))) (now (out .entry)) (now (out .exit)) ⌝ }
+    requires { ⌜ (length (now words) ≡ 256) × (count ≤ 64) × Room (now cells) × Room (now order) × (at ≤ 64)
+        × (length (now out) ≡ 64) ⌝ }
+    ensures { λ r. ⌜ Added count
+        (outIn (now (words .entry)) row limit (drop at (now (order .entry))) (drop at (now (cells .entry))))
+        (now (out .entry)) (now (out .exit)) ⌝ }
 {
     let mut place = [64u32; 64];
     places(order, at, &mut place);
@@ -88,8 +95,12 @@ pub fn mark_row(
     out: &mut [u32],
 )
     requires { ⌜ (length (now words) ≡ 256) × (count ≤ 64) × (length (now near) ≡ 64) × (length (now out) ≡ 64) ⌝ }
-    ensures near { λ r. ⌜ Added 64 (nearIn (now (words .entry)) (orderIn (now (words .entry)) row count)) (now (near .entry)) (now (near .exit)) ⌝ }
-    ensures out { λ r. ⌜ Added count (outIn (now (words .entry)) row limit (orderIn (now (words .entry)) row count) (cellsIn (now (words .entry)) row 0 count)) (now (out .entry)) (now (out .exit)) ⌝ }
+    ensures near { λ r. ⌜ Added 64 (nearIn (now (words .entry)) (orderIn (now (words .entry)) row count))
+        (now (near .entry)) (now (near .exit)) ⌝ }
+    ensures out { λ r. ⌜ Added count
+        (outIn (now (words .entry)) row limit
+        (orderIn (now (words .entry)) row count) (cellsIn (now (words .entry)) row 0 count))
+        (now (out .entry)) (now (out .exit)) ⌝ }
 {
     let mut cells = [0u32; 64];
     let at = row_cells(words, count, row, &mut cells);

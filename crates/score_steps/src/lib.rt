@@ -80,7 +80,9 @@ fn steps_of(
     row: u32,
 ) -> u32
     requires { ⌜ (length (now words) ≡ 256) × (a < 64) × (b < 64) × (row ≤ 1) ⌝ }
-    ensures { λ r. ⌜ (r ≡ charge (siteIn (now (words .entry)) b - endIn (now (words .entry)) a) * differingOf (cellOf left) (poseOf p) (cellOf right) (poseOf q) row) × (r ≤ 2) ⌝ }
+    ensures { λ r. ⌜ (r ≡ charge (siteIn (now (words .entry)) b - endIn (now (words .entry)) a)
+        * differingOf (cellOf left) (poseOf p) (cellOf right) (poseOf q) row)
+        × (r ≤ 2) ⌝ }
 {
     let gap = gap_between(words[4 * a + 1], words[4 * b]);
     charge_at(gap) * differing_heights(left, p, right, q, row)
@@ -95,9 +97,11 @@ pub fn steps_in(
     at: usize,
     row: u32,
 ) -> u32
-    requires { ⌜ (row ≤ 1) × (job .count ≤ 64) × (placement .count ≡ job .count) × Flat (jobOf job) (placementOf placement) (job .count) (now words) ⌝ }
+    requires { ⌜ (row ≤ 1) × (job .count ≤ 64) × (placement .count ≡ job .count)
+        × Flat (jobOf job) (placementOf placement) (job .count) (now words) ⌝ }
     requires { ⌜ Room (now order) × (at ≤ 64) × Below (job .count) (drop at (now order)) ⌝ }
-    ensures { λ r. ⌜ (r ≡ sumNext (stepsAt (jobOf job) (placementOf placement) row) (drop at (now (order .entry)))) × (r ≤ 126) ⌝ }
+    ensures { λ r. ⌜ (r ≡ sumNext (stepsAt (jobOf job) (placementOf placement) row) (drop at (now (order .entry))))
+        × (r ≤ 126) ⌝ }
 {
     let mut total: u32 = 0;
     let mut i: usize = 63;

@@ -19,7 +19,9 @@ module _ (r : ℕ) (f : ℕ → Bool) (fs : List (ℕ → Bool)) (ks : List ℕ)
   unfolding firstBroken
   broken-here d = go (lowest f ks) e d
     where
-      go : (m : ℕ) → c ≡ m → (c ≡ 0 → ⊥) → Judged (elim m [ zero ↦ firstBroken (suc r) fs ks | suc k ↦ record { rule = r; cell = suc k } ]) (record { rule = r; cell = c })
+      go : (m : ℕ) → c ≡ m → (c ≡ 0 → ⊥)
+          → Judged (elim m [ zero ↦ firstBroken (suc r) fs ks | suc k ↦ record { rule = r; cell = suc k } ])
+          (record { rule = r; cell = c })
       go zero q d = absurd (d q)
       go (suc k) q d = record { rule = refl; cell = q }
 
@@ -27,7 +29,8 @@ module _ (r : ℕ) (f : ℕ → Bool) (fs : List (ℕ → Bool)) (ks : List ℕ)
   unfolding firstBroken
   holds-here z v j = go (lowest f ks) (sym e ∙ z)
     where
-      go : (m : ℕ) → m ≡ 0 → Judged (elim m [ zero ↦ firstBroken (suc r) fs ks | suc k ↦ record { rule = r; cell = suc k } ]) v
+      go : (m : ℕ) → m ≡ 0
+          → Judged (elim m [ zero ↦ firstBroken (suc r) fs ks | suc k ↦ record { rule = r; cell = suc k } ]) v
       go zero q = j
       go (suc k) q = absurd (omega arith)
 
@@ -36,6 +39,7 @@ unfolding firstBroken
 all-hold r ks = record { rule = refl; cell = refl }
 
 -- rules whose lowest cells are the same
-pub first-same : (r : ℕ) (f g : ℕ → Bool) (fs gs : List (ℕ → Bool)) (ks : List ℕ) → lowest f ks ≡ lowest g ks → firstBroken (suc r) fs ks ≡ firstBroken (suc r) gs ks → firstBroken r (f ∷ fs) ks ≡ firstBroken r (g ∷ gs) ks
+pub first-same : (r : ℕ) (f g : ℕ → Bool) (fs gs : List (ℕ → Bool)) (ks : List ℕ) → lowest f ks ≡ lowest g ks
+    → firstBroken (suc r) fs ks ≡ firstBroken (suc r) gs ks → firstBroken r (f ∷ fs) ks ≡ firstBroken r (g ∷ gs) ks
 unfolding firstBroken
 first-same r f g fs gs ks p q = λ i. elim (p i) [ zero ↦ q i | suc k ↦ record { rule = r; cell = suc k } ]

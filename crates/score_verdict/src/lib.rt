@@ -30,7 +30,9 @@ pub struct Verdict {
 // Rules 5 to 7, of which the breakers of 5 and 6 are marked.
 fn judge_marks(words: &[u32], count: usize, near: &[u32], out: &[u32]) -> Verdict
     requires { ⌜ (length (now words) ≡ 256) × (count ≤ 64) × (length (now near) ≡ 64) × (length (now out) ≡ 64) ⌝ }
-    ensures { λ r. ⌜ Judged (firstBroken 5 (markedIn (now (near .entry)) ∷ markedIn (now (out .entry)) ∷ passesIn (now (words .entry)) count ∷ []) (from 0 count)) r ⌝ }
+    ensures { λ r. ⌜ Judged (firstBroken 5
+        (markedIn (now (near .entry)) ∷ markedIn (now (out .entry)) ∷ passesIn (now (words .entry)) count ∷ [])
+        (from 0 count)) r ⌝ }
 {
     let beside = lowest_marked(near, count);
     if beside != 0 {
@@ -77,7 +79,9 @@ fn judge_words(
     reordering: u32,
 ) -> Verdict
     requires { ⌜ (length (now words) ≡ 256) × (count ≤ 64) ⌝ }
-    ensures { λ r. ⌜ Judged (firstBroken 2 (wordRules (now (words .entry)) count sites displacement reordering) (from 0 count)) r ⌝ }
+    ensures { λ r. ⌜ Judged (firstBroken 2
+        (wordRules (now (words .entry)) count sites displacement reordering)
+        (from 0 count)) r ⌝ }
 {
     let past = lowest_past(words, count, sites);
     if past != 0 {

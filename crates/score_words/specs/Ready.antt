@@ -1,4 +1,5 @@
--- What Score presumes of a job and a placement: the reader accepted the job, and the placement has a pose for each cell, of four digits.
+-- What Score presumes of a job and a placement: the reader accepted the job, and the placement has a pose for each
+-- cell, of four digits.
 use Prim.Native.Nat.{ℕ, _≤_, _<_}
 use mathlib.Core.Path.{_≡_}
 use Rattle.definition_laws.specs.Sound.{Sound}

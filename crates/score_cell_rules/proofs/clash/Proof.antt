@@ -90,7 +90,8 @@ returns-3 c =
     let mid = c .before .before .before .before in
     let far = mid .before .before .before .before in
     let s = far .before .before in
-    ap (λ t. not (eqb (s .args .b) (s .args .k)) && t) (c .share .ensures) ∙ clash-here (s .args .words .now) (s .args .k) (s .args .b) (omega arith) (omega arith)
+    ap (λ t. not (eqb (s .args .b) (s .args .k)) && t) (c .share .ensures)
+    ∙ clash-here (s .args .words .now) (s .args .k) (s .args .b) (omega arith) (omega arith)
 
 pub clash-spec : {M : Type 1} → statement M
 clash-spec =

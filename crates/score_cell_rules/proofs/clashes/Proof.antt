@@ -27,7 +27,9 @@ unfolding clashesIn
 returns c =
     let p = c .before .before .before in
     let s = p .before .before in
-    sym (any-found (clashIn (s .args .words .now) (s .args .k)) 0 (s .args .count) (p .loop .b) (omega arith) (omega arith) (sym (c .before .clash .ensures) ∙ c .if1 .taken))
+    sym
+    (any-found (clashIn (s .args .words .now) (s .args .k)) 0 (s .args .count) (p .loop .b) (omega arith) (omega arith)
+    (sym (c .before .clash .ensures) ∙ c .if1 .taken))
 
 add-b : tie.Need-add-b Inv-loop μ-loop
 add-b c = omega arith

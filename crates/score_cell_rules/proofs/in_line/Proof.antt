@@ -59,8 +59,11 @@ loop-again : tie.Need-loop-again Inv-loop μ-loop
 loop-again c =
     let g = c .before .before in
     let e = g .before .before .entry .ensures .0 in
-    let p = g .before .before .before .before in
-    (omega arith, clear-more (add-one (p .loop .i)) (p .loop .inv .1) (c .farther .result) (rw e at (g .if1 .left)) (c .farther .ensures .0) (rw e at (c .farther .ensures .1)))
+    let p = g .before .before .before .before in (
+      omega arith,
+      clear-more (add-one (p .loop .i)) (p .loop .inv .1) (c .farther .result) (rw e at (g .if1 .left)) (c .farther .ensures .0)
+          (rw e at (c .farther .ensures .1)),
+    )
 
 returns-2 : tie.Need-returns-2 Inv-loop μ-loop
 returns-2 c = λ e. record { ahead = λ p q l m s t. c .before .loop .inv .1 .clear p q l (omega arith) s t }

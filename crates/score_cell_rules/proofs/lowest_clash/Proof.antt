@@ -20,7 +20,9 @@ returns c =
     let b = c .before in
     let s = b .before .before .before in
     let t = and-eq-true-iff (b .before .row-clear .result) (b .row-clear2 .result) .0 (c .if1 .taken) in
-    sym (lowest-none (clashesIn (s .args .words .now) (s .args .count)) 0 (s .args .count) (λ k _ l. no-clashes (s .args .words .now) (s .args .count) (b .before .row-clear .ensures (t .0)) (b .row-clear2 .ensures (t .1)) k (omega arith)))
+    sym
+    (lowest-none (clashesIn (s .args .words .now) (s .args .count)) 0 (s .args .count)
+    (λ k _ l. no-clashes (s .args .words .now) (s .args .count) (b .before .row-clear .ensures (t .0)) (b .row-clear2 .ensures (t .1)) k (omega arith)))
 
 search-clash-requires : tie.Need-search-clash-requires
 search-clash-requires c κs = search needs

@@ -57,7 +57,10 @@ returns c =
     let p = mid .before in
     let s = p .before .before in
     let t = far-true (s .args .words .now) (s .args .limit) (p .loop .k) (c .before .apart-of .result) (c .before .apart-of .ensures .0) (c .if1 .taken) in
-    add-one (p .loop .k) ∙ sym (lowest-found (farIn (s .args .words .now) (s .args .limit)) 0 (s .args .count) (p .loop .k) (omega arith) (omega arith) t (λ i a b. p .loop .inv .1 i b))
+    add-one (p .loop .k)
+    ∙ sym
+    (lowest-found (farIn (s .args .words .now) (s .args .limit)) 0 (s .args .count) (p .loop .k) (omega arith) (omega arith) t
+    (λ i a b. p .loop .inv .1 i b))
 
 add-k : tie.Need-add-k Inv-loop μ-loop
 add-k c = omega arith
@@ -69,8 +72,11 @@ loop-again : tie.Need-loop-again Inv-loop μ-loop
 loop-again c =
     let mid = c .before .before .before .before in
     let p = mid .before in
-    let s = p .before .before in
-    (omega arith, below-more _ _ (p .loop .inv .1) (far-false (s .args .words .now) (s .args .limit) (p .loop .k) (c .before .apart-of .result) (c .before .apart-of .ensures .0) (c .if1 .left)))
+    let s = p .before .before in (
+      omega arith,
+      below-more _ _ (p .loop .inv .1)
+          (far-false (s .args .words .now) (s .args .limit) (p .loop .k) (c .before .apart-of .result) (c .before .apart-of .ensures .0) (c .if1 .left)),
+    )
 
 returns-2 : tie.Need-returns-2 Inv-loop μ-loop
 returns-2 c =

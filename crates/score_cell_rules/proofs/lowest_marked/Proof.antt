@@ -17,7 +17,8 @@ abbrev μ-loop : tie.MeasureT-loop
 μ-loop marks count cell₀ k₀ cell k = k
 
 loop-holds : tie.Need-loop-holds Inv-loop μ-loop
-loop-holds c = (omega arith, sym (lowest-none (markedIn (c .args .marks .now)) (c .args .count) (c .args .count - c .args .count) (λ k a b. absurd (omega arith))))
+loop-holds c =
+    (omega arith, sym (lowest-none (markedIn (c .args .marks .now)) (c .args .count) (c .args .count - c .args .count) (λ k a b. absurd (omega arith))))
 
 sub-k : tie.Need-sub-k Inv-loop μ-loop
 sub-k c = omega arith
@@ -42,8 +43,13 @@ unfolding markedIn
 loop-again c =
     let p = c .before .before .before in
     let s = p .before in
-    let k : ℕ = p .loop .k - 1 in
-    (omega arith, add-one k ∙ sym (lowest-more (markedIn (s .args .marks .now)) k (p .loop .k) (s .args .count - k) (s .args .count - p .loop .k) (omega arith) (omega arith) (c .if1 .taken)))
+    let k : ℕ = p .loop .k - 1 in (
+      omega arith,
+      add-one k
+          ∙ sym
+          (lowest-more (markedIn (s .args .marks .now)) k (p .loop .k) (s .args .count - k) (s .args .count - p .loop .k) (omega arith) (omega arith)
+          (c .if1 .taken)),
+    )
 
 loop-less-2 : tie.Need-loop-less-2 Inv-loop μ-loop
 loop-less-2 c = omega arith
@@ -53,8 +59,13 @@ unfolding markedIn
 loop-again-2 c =
     let p = c .before .before .before in
     let s = p .before in
-    let k : ℕ = p .loop .k - 1 in
-    (omega arith, p .loop .inv .1 ∙ sym (lowest-rest (markedIn (s .args .marks .now)) k (p .loop .k) (s .args .count - k) (s .args .count - p .loop .k) (omega arith) (omega arith) (c .if1 .left)))
+    let k : ℕ = p .loop .k - 1 in (
+      omega arith,
+      p .loop .inv .1
+          ∙ sym
+          (lowest-rest (markedIn (s .args .marks .now)) k (p .loop .k) (s .args .count - k) (s .args .count - p .loop .k) (omega arith) (omega arith)
+          (c .if1 .left)),
+    )
 
 returns : tie.Need-returns Inv-loop μ-loop
 returns c =

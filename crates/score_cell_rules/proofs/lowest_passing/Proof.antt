@@ -14,7 +14,9 @@ tall-rising-requires c κs = search needs
 returns : tie.Need-returns
 returns c =
     let s = c .before .before .before in
-    sym (lowest-none (passesIn (s .args .words .now) (s .args .count)) 0 (s .args .count) (λ k _ l. none-passed (s .args .words .now) (s .args .count) (c .before .tall-rising .ensures (c .if1 .taken)) k (omega arith)))
+    sym
+    (lowest-none (passesIn (s .args .words .now) (s .args .count)) 0 (s .args .count)
+    (λ k _ l. none-passed (s .args .words .now) (s .args .count) (c .before .tall-rising .ensures (c .if1 .taken)) k (omega arith)))
 
 search-passing-requires : tie.Need-search-passing-requires
 search-passing-requires c κs = search needs

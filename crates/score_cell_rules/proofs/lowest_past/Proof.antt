@@ -42,7 +42,10 @@ returns : tie.Need-returns Inv-loop μ-loop
 returns c =
     let p = c .before .before .before in
     let s = p .before in
-    add-one (p .loop .k) ∙ sym (lowest-found (pastIn (s .args .words .now) (s .args .sites)) 0 (s .args .count) (p .loop .k) (omega arith) (omega arith) (past-true (s .args .words .now) (s .args .sites) (p .loop .k) (c .if1 .taken)) (λ i a b. p .loop .inv .1 i b))
+    add-one (p .loop .k)
+    ∙ sym
+    (lowest-found (pastIn (s .args .words .now) (s .args .sites)) 0 (s .args .count) (p .loop .k) (omega arith) (omega arith)
+    (past-true (s .args .words .now) (s .args .sites) (p .loop .k) (c .if1 .taken)) (λ i a b. p .loop .inv .1 i b))
 
 add-k : tie.Need-add-k Inv-loop μ-loop
 add-k c = omega arith

@@ -48,8 +48,13 @@ returns c =
     let mid = c .before .before .before .before in
     let p = mid .before in
     let s = p .before in
-    let t = unoffered (s .args .t1) (s .args .t2) (p .loop .k) (c .before .is-offered .result) (omega arith) (s .pre .each) (c .before .is-offered .ensures) ∙ c .if1 .taken in
-    add-one (p .loop .k) ∙ sym (lowest-found (breaks1 (jobOf (s .args .t1)) (placementOf (s .args .t2))) 0 (s .args .t1 .count) (p .loop .k) (omega arith) (omega arith) t (λ i a b. p .loop .inv .1 i b))
+    let t =
+    unoffered (s .args .t1) (s .args .t2) (p .loop .k) (c .before .is-offered .result) (omega arith) (s .pre .each) (c .before .is-offered .ensures)
+    ∙ c .if1 .taken in
+    add-one (p .loop .k)
+    ∙ sym
+    (lowest-found (breaks1 (jobOf (s .args .t1)) (placementOf (s .args .t2))) 0 (s .args .t1 .count) (p .loop .k) (omega arith) (omega arith) t
+    (λ i a b. p .loop .inv .1 i b))
 
 add-k : tie.Need-add-k Inv-loop μ-loop
 add-k c = omega arith
@@ -62,7 +67,9 @@ loop-again c =
     let mid = c .before .before .before .before in
     let p = mid .before in
     let s = p .before in
-    let t = unoffered (s .args .t1) (s .args .t2) (p .loop .k) (c .before .is-offered .result) (omega arith) (s .pre .each) (c .before .is-offered .ensures) ∙ c .if1 .left in
+    let t =
+    unoffered (s .args .t1) (s .args .t2) (p .loop .k) (c .before .is-offered .result) (omega arith) (s .pre .each) (c .before .is-offered .ensures)
+    ∙ c .if1 .left in
     (omega arith, below-more _ _ (p .loop .inv .1) t)
 
 returns-2 : tie.Need-returns-2 Inv-loop μ-loop

@@ -42,7 +42,9 @@ returns-2 : tie.Need-returns-2 Inv-loop μ-loop
 returns-2 c =
     let p = c .before .before .before in
     let s = p .before .before .before .before in
-    sym (any-found (wrongIn (s .args .words .now) (s .args .k)) 0 (s .args .count) (p .loop .b) (omega arith) (omega arith) (sym (c .before .wrong .ensures) ∙ c .if2 .taken))
+    sym
+    (any-found (wrongIn (s .args .words .now) (s .args .k)) 0 (s .args .count) (p .loop .b) (omega arith) (omega arith)
+    (sym (c .before .wrong .ensures) ∙ c .if2 .taken))
     ∙ passes-tall (s .args .words .now) (s .args .count) (s .args .k) (p .before .if1 .left)
 
 add-b : tie.Need-add-b Inv-loop μ-loop

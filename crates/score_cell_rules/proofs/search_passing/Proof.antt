@@ -33,7 +33,10 @@ returns : tie.Need-returns Inv-loop μ-loop
 returns c =
     let p = c .before .before .before in
     let s = p .before .before in
-    add-one (p .loop .k) ∙ sym (lowest-found (passesIn (s .args .words .now) (s .args .count)) 0 (s .args .count) (p .loop .k) (omega arith) (omega arith) (sym (c .before .passes .ensures) ∙ c .if1 .taken) (λ i a b. p .loop .inv .1 i b))
+    add-one (p .loop .k)
+    ∙ sym
+    (lowest-found (passesIn (s .args .words .now) (s .args .count)) 0 (s .args .count) (p .loop .k) (omega arith) (omega arith)
+    (sym (c .before .passes .ensures) ∙ c .if1 .taken) (λ i a b. p .loop .inv .1 i b))
 
 add-k : tie.Need-add-k Inv-loop μ-loop
 add-k c = omega arith

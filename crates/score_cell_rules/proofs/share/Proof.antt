@@ -17,7 +17,9 @@ stands-requires-4 : tie.Need-stands-requires-4
 stands-requires-4 c κs = search needs
 
 returns : tie.Need-returns
-returns c = rw (c .before .before .before .stands .ensures, c .before .before .stands2 .ensures, c .before .stands3 .ensures, c .stands4 .ensures) (share-two (c .before .before .before .before .args .a) (c .before .before .before .before .args .b))
+returns c =
+    rw (c .before .before .before .stands .ensures, c .before .before .stands2 .ensures, c .before .stands3 .ensures, c .stands4 .ensures)
+    (share-two (c .before .before .before .before .args .a) (c .before .before .before .before .args .b))
 
 pub share-spec : {M : Type 1} → statement M
 share-spec =

@@ -51,8 +51,10 @@ loop-less c = omega arith
 loop-again : tie.Need-loop-again Inv-loop μ-loop
 loop-again c =
     let mid = c .before .before .before .before in
-    let p = mid .before in
-    (omega arith, clear-more (add-one (p .loop .k)) (p .loop .inv .1) (siteIn (p .before .args .words .now) (p .loop .k)) (c .if2 .left) (c .if2 .left) (omega arith))
+    let p = mid .before in (
+      omega arith,
+      clear-more (add-one (p .loop .k)) (p .loop .inv .1) (siteIn (p .before .args .words .now) (p .loop .k)) (c .if2 .left) (c .if2 .left) (omega arith),
+    )
 
 loop-less-2 : tie.Need-loop-less-2 Inv-loop μ-loop
 loop-less-2 c = omega arith

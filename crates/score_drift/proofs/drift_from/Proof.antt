@@ -22,7 +22,8 @@ size-requires : tie.Need-size-requires
 size-requires c κs = subst (λ (y : ℤ). natAbs y < 2 ^ 31) (sym (toZ-ofZ (c .before .fits .s))) (omega arith)
 
 -- what the calls have found, of the sum itself
-hundredths-is : (c : tie.After-hundredths-of) → c .hundredths-of .result ≡ nearest (100 * natAbs (c .before .before .before .args .s)) (c .before .before .before .args .n)
+hundredths-is : (c : tie.After-hundredths-of)
+    → c .hundredths-of .result ≡ nearest (100 * natAbs (c .before .before .before .args .s)) (c .before .before .before .args .n)
 hundredths-is c = c .hundredths-of .ensures .0 ∙ ap (λ (k : ℕ). nearest (100 * k) (c .before .before .before .args .n)) (whole (c .before))
 
 sign-is : (c : tie.After-is-negative) → ltZ (c .before .before .before .before .args .s) (pos 0) ≡ c .is-negative .result
@@ -42,7 +43,8 @@ returns-2 c =
     let mid = c .before .before .before .before in
     let s = mid .before .before in
     read (c .negative .result) (c .negative .ok) ∙ c .negative .ensures
-    ∙ below-zero (s .args .s) (s .args .n) (c .before .before .before .hundredths-of .result) (mid .before .if1 .left) (hundredths-is (c .before .before .before)) (sign-is (c .before .before) ∙ c .before .if2 .taken)
+    ∙ below-zero (s .args .s) (s .args .n) (c .before .before .before .hundredths-of .result) (mid .before .if1 .left)
+    (hundredths-is (c .before .before .before)) (sign-is (c .before .before) ∙ c .before .if2 .taken)
 
 positive-requires : tie.Need-positive-requires
 positive-requires c κs = search needs
@@ -52,7 +54,8 @@ returns-3 c =
     let mid = c .before .before .before .before in
     let s = mid .before .before in
     read (c .positive .result) (c .positive .ok) ∙ c .positive .ensures
-    ∙ from-zero (s .args .s) (s .args .n) (c .before .before .before .hundredths-of .result) (mid .before .if1 .left) (hundredths-is (c .before .before .before)) (sign-is (c .before .before) ∙ c .before .if2 .left)
+    ∙ from-zero (s .args .s) (s .args .n) (c .before .before .before .hundredths-of .result) (mid .before .if1 .left)
+    (hundredths-is (c .before .before .before)) (sign-is (c .before .before) ∙ c .before .if2 .left)
 
 pub drift-from-spec : {M : Type 1} → statement M
 drift-from-spec =

@@ -88,14 +88,21 @@ loop-again c =
     record {
       below = omega arith;
       sum = read (c .plus .result) (c .plus .ok) ∙ c .plus .ensures ∙ ap₂ _+ℤ_ a (m .sum) ∙ sym more;
-      small = omega (arith, ap natAbs more, sum-size (pos (siteIn w k) -ℤ pos (givenIn w k)) (totalIn w (p .loop .k) (s .args .count - p .loop .k)), gap-size (siteIn w k) (givenIn w k), digits (c .before .before));
+      small = omega (
+        arith,
+        ap natAbs more,
+        sum-size (pos (siteIn w k) -ℤ pos (givenIn w k)) (totalIn w (p .loop .k) (s .args .count - p .loop .k)),
+        gap-size (siteIn w k) (givenIn w k),
+        digits (c .before .before),
+      );
     }
 
 returns : tie.Need-returns Inv-loop μ-loop
 returns c =
     let p = c .before in
     let s = p .before .before in
-    let e : totalIn (s .args .words .now) (p .loop .k) (s .args .count - p .loop .k) ≡ totalIn (s .args .words .now) 0 (s .args .count) = ap₂ (totalIn (s .args .words .now)) (omega arith) (omega arith) in
+    let e : totalIn (s .args .words .now) (p .loop .k) (s .args .count - p .loop .k) ≡ totalIn (s .args .words .now) 0 (s .args .count) =
+    ap₂ (totalIn (s .args .words .now)) (omega arith) (omega arith) in
     (p .loop .inv .sum ∙ e, omega (arith, ap natAbs (p .loop .inv .sum)))
 
 pub total-shift-spec : {M : Type 1} → statement M

@@ -39,8 +39,10 @@ weighed-sum-requires c κs =
     let s = mid .before .before in
     let w = weights-small (s .args .job) (s .args .placement) (s .pre .0) in
     let a = c .before .before .before .before .steps-row .ensures .1 in
-    let b = c .before .before .before .steps-row2 .ensures .1 in
-    ((w .step, w .shift, w .mirror, w .swap), (omega arith, c .before .before .shifted-in .ensures .1, c .before .mirrored-in .ensures .1, c .changed-in .ensures .1))
+    let b = c .before .before .before .steps-row2 .ensures .1 in (
+      (w .step, w .shift, w .mirror, w .swap),
+      (omega arith, c .before .before .shifted-in .ensures .1, c .before .mirrored-in .ensures .1, c .changed-in .ensures .1),
+    )
 
 total-shift-requires : tie.Need-total-shift-requires
 total-shift-requires c κs =
@@ -68,7 +70,8 @@ returns c =
     let P : Placement = s .args .placement in
     let f = s .pre .1 in
     let n = s .pre .0 .each in
-    let ea = steps-sum (jobOf job) (placementOf P) (one .steps-row .result) (two .steps-row2 .result) (one .steps-row .ensures .0) (two .steps-row2 .ensures .0) in
+    let ea =
+    steps-sum (jobOf job) (placementOf P) (one .steps-row .result) (two .steps-row2 .result) (one .steps-row .ensures .0) (two .steps-row2 .ensures .0) in
     let eb = shift .shifted-in .ensures .0 ∙ flat-shifted f in
     let ec = mirror .mirrored-in .ensures .0 ∙ ap (countFrom (isMirrored (placementOf P)) 0) n ∙ flat-mirrored f in
     let ed = change .changed-in .ensures .0 ∙ ap (countFrom (isChanged (placementOf P)) 0) n ∙ flat-changed f in

@@ -22,7 +22,11 @@ abbrev μ-loop : tie.MeasureT-loop
 loop-holds : tie.Need-loop-holds Inv-loop μ-loop
 loop-holds c =
     let s = c .before in
-    record { below = omega arith; sum = sym (sum-none (shiftIn (s .args .words .now)) (s .args .count) (s .args .count - s .args .count) (omega arith)); small = omega arith }
+    record {
+      below = omega arith;
+      sum = sym (sum-none (shiftIn (s .args .words .now)) (s .args .count) (s .args .count - s .args .count) (omega arith));
+      small = omega arith;
+    }
 
 sub-k : tie.Need-sub-k Inv-loop μ-loop
 sub-k c = omega arith

@@ -7,7 +7,11 @@ use Rattle.score_numbers.proofs.weighed_sum.Statement.{statement}
 use Rattle.score_numbers.proofs.weighed_sum.Tie as tie
 
 -- each product is at most a thousand times its number's bound
-parts : (s : tie.Start) → (s .args .header .step * s .args .steps ≤ 252000) × (s .args .header .shift * s .args .shifted ≤ 800000000) × (s .args .header .mirror * s .args .mirrored ≤ 64000) × (s .args .header .swap * s .args .changed ≤ 64000)
+parts : (s : tie.Start)
+    → (s .args .header .step * s .args .steps ≤ 252000)
+    × (s .args .header .shift * s .args .shifted ≤ 800000000)
+    × (s .args .header .mirror * s .args .mirrored ≤ 64000)
+    × (s .args .header .swap * s .args .changed ≤ 64000)
 parts s =
     let w = s .pre .0 in
     let n = s .pre .1 in

@@ -27,7 +27,12 @@ abbrev μ-loop : tie.MeasureT-loop
 loop-holds : tie.Need-loop-holds Inv-loop μ-loop
 loop-holds c =
     let s = c .before .before .before in
-    record { below = omega arith; down = omega arith; added = added-none 64 _ (s .args .near .now) (s .pre .3) (λ k. near-last (s .args .words .now) (s .args .order .now) 63 k (omega (arith, s .pre .1 .long))) }
+    record {
+      below = omega arith;
+      down = omega arith;
+      added = added-none 64 _ (s .args .near .now) (s .pre .3)
+          (λ k. near-last (s .args .words .now) (s .args .order .now) 63 k (omega (arith, s .pre .1 .long)));
+    }
 
 sub-i : tie.Need-sub-i Inv-loop μ-loop
 sub-i c = omega arith
@@ -101,7 +106,8 @@ loop-again c =
     record {
       below = omega arith;
       down = omega arith;
-      added = near-one w o (s .args .near .now) (p .loop .near) i (p .loop .i) a b (c .before .gap-between .result) (omega arith) (omega arith) ea eb (c .before .gap-between .ensures) (mid .before .entry .ensures .1) (c .before .before .before .before .entry2 .ensures .1) (c .if1 .taken) (m .added);
+      added = near-one w o (s .args .near .now) (p .loop .near) i (p .loop .i) a b (c .before .gap-between .result) (omega arith) (omega arith) ea eb
+          (c .before .gap-between .ensures) (mid .before .entry .ensures .1) (c .before .before .before .before .entry2 .ensures .1) (c .if1 .taken) (m .added);
     }
 
 loop-less-2 : tie.Need-loop-less-2 Inv-loop μ-loop
@@ -126,14 +132,16 @@ loop-again-2 c =
     record {
       below = omega arith;
       down = omega arith;
-      added = near-other w o (s .args .near .now) (p .loop .near) i (p .loop .i) a b (c .before .gap-between .result) (omega arith) (omega arith) ea eb (c .before .gap-between .ensures) (c .if1 .left) (m .added);
+      added = near-other w o (s .args .near .now) (p .loop .near) i (p .loop .i) a b (c .before .gap-between .result) (omega arith) (omega arith) ea eb
+          (c .before .gap-between .ensures) (c .if1 .left) (m .added);
     }
 
 same-length : tie.Need-same-length Inv-loop μ-loop
 same-length c = omega arith
 
 -- the loop stops at the row's first cell, or at once in an empty row
-down : (w o : List ℕ) (i at : ℕ) → length o ≡ 64 → i ≤ 63 → min at 63 ≤ i → i ≤ at → (t : Bool) → Le? at 63 t → (k : ℕ) → nearIn w (drop i o) k ≡ nearIn w (drop at o) k
+down : (w o : List ℕ) (i at : ℕ) → length o ≡ 64 → i ≤ 63 → min at 63 ≤ i → i ≤ at → (t : Bool) → Le? at 63 t → (k : ℕ)
+    → nearIn w (drop i o) k ≡ nearIn w (drop at o) k
 down w o i at l b d h true (low g) k = let e : i ≡ at = omega arith in ap (λ x. nearIn w (drop x o) k) e
 down w o i at l b d h false (high g) k = near-last w o i k (omega arith) ∙ sym (near-last w o at k (omega arith))
 

@@ -59,7 +59,8 @@ loop-less : tie.Need-loop-less Inv-loop μ-loop
 loop-less c = omega arith
 
 -- one more cell, marked or not
-marked : (words : List ℕ) (count row limit : ℕ) (place rank out₀ out : List ℕ) (k n : ℕ) → n ≡ suc k → n ≤ count → count ≤ 64 → outAt words row limit place rank k ≡ true
+marked : (words : List ℕ) (count row limit : ℕ) (place rank out₀ out : List ℕ) (k n : ℕ) → n ≡ suc k → n ≤ count → count ≤ 64
+    → outAt words row limit place rank k ≡ true
     → Judged words count row limit place rank out₀ out n → Judged words count row limit place rank out₀ (set out k 1) k
 marked words count row limit place rank out₀ out k n q h g t m = record {
   below = omega arith;

@@ -54,9 +54,15 @@ returns c =
     let s = mid .before .before .before .before in
     let x = mid .before .before .before .right-of in
     let y = mid .before .before .left-of in
-    let high = c .before .before .before .unlike-heights .ensures .0 ∙ ap₂ unlike (mid .before .height-of .ensures) (c .before .before .before .before .height-of2 .ensures) in
-    let low = c .unlike-heights2 .ensures .0 ∙ ap₂ unlike (c .before .before .height-of3 .ensures) (c .before .height-of4 .ensures) in
-    (ap₂ _+_ high low ∙ differing-two (cellOf (s .args .a)) (poseOf (s .args .p)) (cellOf (s .args .b)) (poseOf (s .args .q)) (s .args .row) (x .result) (y .result) (x .ensures .0) (y .ensures .0), omega arith)
+    let high =
+    c .before .before .before .unlike-heights .ensures .0
+    ∙ ap₂ unlike (mid .before .height-of .ensures) (c .before .before .before .before .height-of2 .ensures) in
+    let low = c .unlike-heights2 .ensures .0 ∙ ap₂ unlike (c .before .before .height-of3 .ensures) (c .before .height-of4 .ensures) in (
+      ap₂ _+_ high low
+          ∙ differing-two (cellOf (s .args .a)) (poseOf (s .args .p)) (cellOf (s .args .b)) (poseOf (s .args .q)) (s .args .row) (x .result) (y .result)
+          (x .ensures .0) (y .ensures .0),
+      omega arith,
+    )
 
 pub differing-heights-spec : {M : Type 1} → statement M
 differing-heights-spec =

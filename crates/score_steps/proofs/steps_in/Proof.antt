@@ -102,7 +102,9 @@ loop-again c =
     let eb : b ≡ getD o (p .loop .i) 0 = mid .before .entry2 .ensures .0 ∙ ap (λ x. getD o x 0) next in
     let ha : getD o i 0 < job .count = below-tail (job .count) o (s .args .at) i (s .pre .1 .2) (omega arith) (omega arith) in
     let hb : getD o (p .loop .i) 0 < job .count = below-tail (job .count) o (s .args .at) (p .loop .i) (s .pre .1 .2) (omega arith) (omega arith) in
-    let e : c .steps-of .result ≡ f a b = steps-value job P (s .args .words .now) (s .args .row) a b (c .steps-of .result) (s .pre .0 .3) (s .pre .0 .2) (omega arith) (omega arith) (c .steps-of .ensures .0) in
+    let e : c .steps-of .result ≡ f a b =
+    steps-value job P (s .args .words .now) (s .args .row) a b (c .steps-of .result) (s .pre .0 .3) (s .pre .0 .2) (omega arith) (omega arith)
+    (c .steps-of .ensures .0) in
     let g = ap₂ f ea eb in
     record {
       below = omega arith;
@@ -112,7 +114,8 @@ loop-again c =
     }
 
 -- the loop stops at the row's first cell, or at once in an empty row
-down : (f : ℕ → ℕ → ℕ) (o : List ℕ) (i at : ℕ) → length o ≡ 64 → i ≤ 63 → min at 63 ≤ i → i ≤ at → (t : Bool) → Le? at 63 t → sumNext f (drop i o) ≡ sumNext f (drop at o)
+down : (f : ℕ → ℕ → ℕ) (o : List ℕ) (i at : ℕ) → length o ≡ 64 → i ≤ 63 → min at 63 ≤ i → i ≤ at → (t : Bool) → Le? at 63 t
+    → sumNext f (drop i o) ≡ sumNext f (drop at o)
 down f o i at l b d h true (low g) = let e : i ≡ at = omega arith in ap (λ x. sumNext f (drop x o)) e
 down f o i at l b d h false (high g) = sum-last f o i (omega arith) ∙ sym (sum-last f o at (omega arith))
 
@@ -122,8 +125,10 @@ returns c =
     let s = p .before .before .before in
     let m = p .loop .inv in
     let o : List ℕ = s .args .order .now in
-    let f : ℕ → ℕ → ℕ = stepsAt (jobOf (s .args .t1)) (placementOf (s .args .t2)) (s .args .row) in
-    (m .sum ∙ down f o (p .loop .i) (s .args .at) (s .pre .1 .0 .long) (m .below) (m .down) (omega arith) (leb (s .args .at) 63) (le? (s .args .at) 63), omega arith)
+    let f : ℕ → ℕ → ℕ = stepsAt (jobOf (s .args .t1)) (placementOf (s .args .t2)) (s .args .row) in (
+      m .sum ∙ down f o (p .loop .i) (s .args .at) (s .pre .1 .0 .long) (m .below) (m .down) (omega arith) (leb (s .args .at) 63) (le? (s .args .at) 63),
+      omega arith,
+    )
 
 pub steps-in-spec : {M : Type 1} → statement M
 steps-in-spec =

@@ -88,7 +88,8 @@ more job P w k end g h f e m =
       below = omega arith;
       long = four-long w k (poseAt P k .site) end (value.cellAt job k .row) (value.cellAt job k .given) (m .long) h;
       shown = below-more (λ i. Shows (jobOf job) (placementOf P) w′ i) k
-          (λ i l. shows-keep (jobOf job) (placementOf P) w w′ k i (λ x b. other x (λ q. omega arith) (λ q. omega arith) (λ q. omega arith) (λ q. omega arith)) l (m .shown i l))
+          (λ i l. shows-keep (jobOf job) (placementOf P) w w′ k i (λ x b. other x (λ q. omega arith) (λ q. omega arith) (λ q. omega arith) (λ q. omega arith)) l
+          (m .shown i l))
           (shows-four job P w k end (m .long) h g f e);
       blank = λ x b. other x (λ q. omega arith) (λ q. omega arith) (λ q. omega arith) (λ q. omega arith) ∙ m .blank x (omega arith);
     }
@@ -103,15 +104,19 @@ loop-again c =
     let job : Job = s .args .t1 in
     let P : Placement = s .args .t2 in
     let w : List ℕ = p .loop .words in
-    rw (c .before .before .put-four .ensures) (more job P w k _ (omega arith) (omega (arith, s .pre .0 .few)) (omega (arith, s .pre .0 .each)) (ap (λ x. poseAt P k .site + x) (c .before .before .before .width-of .ensures)) m)
+    rw (c .before .before .put-four .ensures)
+    (more job P w k _ (omega arith) (omega (arith, s .pre .0 .few)) (omega (arith, s .pre .0 .each))
+    (ap (λ x. poseAt P k .site + x) (c .before .before .before .width-of .ensures)) m)
 
 same-length : tie.Need-same-length Inv-loop μ-loop
 same-length c = omega arith
 
 -- all cells, and those that there are not
-all : (job : Job) (P : Placement) (w : List ℕ) (n : ℕ) → Filled job P w n → n ≡ job .count → P .count ≡ job .count → (k : ℕ) (t : Bool) → Le? (suc k) (job .count) t → Shows (jobOf job) (placementOf P) w k
+all : (job : Job) (P : Placement) (w : List ℕ) (n : ℕ) → Filled job P w n → n ≡ job .count → P .count ≡ job .count → (k : ℕ) (t : Bool)
+    → Le? (suc k) (job .count) t → Shows (jobOf job) (placementOf P) w k
 all job P w n m e f k true (low h) = m .shown k (omega arith)
-all job P w n m e f k false (high h) = shows-none (jobOf job) (placementOf P) w k (λ x b. m .blank x (omega arith)) (cell-lacking job k (omega arith)) (pose-lacking P k (omega arith))
+all job P w n m e f k false (high h) =
+    shows-none (jobOf job) (placementOf P) w k (λ x b. m .blank x (omega arith)) (cell-lacking job k (omega arith)) (pose-lacking P k (omega arith))
 
 returns : tie.Need-returns Inv-loop μ-loop
 returns c =
