@@ -182,7 +182,7 @@ pub fn height_of(cell: Cell, layout: u32, i: usize) -> u32
     requires { ⌜ i < heightCount (cell .row) ⌝ }
     ensures { λ r. ⌜ r ≡ heightIn (cellOf cell) layout i ⌝ }
 {
-    if cell.layouts <= layout {
+    if layout >= cell.layouts {
         return 0;
     }
     if layout == 0 {

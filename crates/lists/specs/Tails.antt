@@ -1,5 +1,5 @@
 -- The entries of a list from i on.
-use mathlib.Core.Path.{_≡_, refl, sym, ap, _∙_}
+use mathlib.Core.Path.{_≡_, sym, ap, _∙_}
 use mathlib.Core.List.{List, [], _∷_}
 use Prim.Native.Nat.{ℕ, suc, _≤_, _<_}
 use native.Mathlib.Omega.{arith}
@@ -10,11 +10,6 @@ module _ {A : Type 0} where
   -- the entry at i, and those from the next on
   pub tail-cons : (l : List A) (i n : ℕ) (d : A) → n ≡ suc i → i < length l → drop i l ≡ getD l i d ∷ drop n l
   tail-cons l i n d e h = drop-cons l i d h ∙ ap (λ x. getD l i d ∷ drop x l) (sym e)
-
-  -- two entries and those that follow
-  pub tail-two : (l : List A) (i n : ℕ) (d : A) → n ≡ suc i → n < length l
-      → drop i l ≡ getD l i d ∷ getD l n d ∷ drop (suc n) l
-  tail-two l i n d e h = tail-cons l i n d e (omega arith) ∙ ap (λ t. getD l i d ∷ t) (drop-cons l n d h)
 
   -- what is the same for no entry and for one, from the last one on
   pub tail-last : {C : Type 0} (f : List A → C) (z : C) → f [] ≡ z → ((x : A) → f (x ∷ []) ≡ z)
