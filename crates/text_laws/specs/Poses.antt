@@ -10,9 +10,12 @@ use lib.Dec.{eqb}
 use borrow.Author.Tests.{eqb-true}
 use Rattle.definition.specs.Lists.{all}
 use Rattle.definition.specs.Texts.{Text, lineFeed, comma, linesOf, fieldsOf, ended, isNumber, value, digits}
-use Rattle.definition.specs.Placement.{Pose, Placement, Poses, fault, poses, lineOf, textOf, isPose, poseOf, withPose, readPoses, readPlacement}
+use Rattle.definition.specs.Placement.{Pose, Placement, Poses, fault, poses, lineOf, textOf}
+use Rattle.definition.specs.Placement.{isPose, poseOf, withPose, readPoses, readPlacement}
 use Rattle.text_laws.specs.Numbers.{number-digits, digits-number, value-digits, digits-value, value-small}
-use Rattle.text_laws.specs.Lines.{Unbroken, Lines, none, last, line, lines, first-line, ended-line, unended, digits-unbroken, unbroken-append, field-then, field-last, joined, fields-joined}
+use Rattle.text_laws.specs.Lines.{Unbroken, Lines, none, last, line, lines, first-line}
+use Rattle.text_laws.specs.Lines.{ended-line, unended, digits-unbroken, unbroken-append}
+use Rattle.text_laws.specs.Lines.{field-then, field-last, joined, fields-joined}
 
 -- "A placement gives each cell a site, a layout number and a mirror mark, each from 0 to 9,999."
 pub record Printable (p : Pose) : Type 0 where
@@ -89,7 +92,8 @@ unfolding isPose poseOf
 good-says text u e =
     let l : Text = text ++ (lineFeed ∷ []) in
     let p = and-eq-true-iff (ended l && eqb (length (fieldsOf l)) 3) (all isNumber (fieldsOf l)) .0 e in
-    let three = eqb-true (length (fieldsOf l)) 3 (and-eq-true-iff (ended l) (eqb (length (fieldsOf l)) 3) .0 (p .0) .1) in
+    let q = and-eq-true-iff (ended l) (eqb (length (fieldsOf l)) 3) .0 (p .0) in
+    let three = eqb-true (length (fieldsOf l)) 3 (q .1) in
     go (fieldsOf l) three (p .1) (fields-joined text u)
   where
     go : (fs : List Text) → length fs ≡ 3 → all isNumber fs ≡ true → joined fs ≡ text

@@ -113,7 +113,8 @@ at-each S (p ∷ P) h (suc k) l = at-each S P (h .1) k (omega arith)
 
 legal-pose : (c : Cell) (p : Pose) → length (c .layouts) ≤ 2 → offered c p ≡ true → (p .layout ≤ 1) × (p .mark ≤ 1)
 legal-pose c p few e =
-    let b = and-eq-true-iff (ltb (p .layout) (length (c .layouts))) (eqb (p .mark) 0 || (eqb (p .mark) 1 && c .mirrorable)) .0 e in
+    let marked : Bool = eqb (p .mark) 0 || (eqb (p .mark) 1 && c .mirrorable) in
+    let b = and-eq-true-iff (ltb (p .layout) (length (c .layouts))) marked .0 e in
     let low = ltb-true (p .layout) (length (c .layouts)) (b .0) in
     (omega arith, go (eqb (p .mark) 0) (eqb (p .mark) 1) (eqb-true (p .mark) 0) (eqb-true (p .mark) 1) (b .1))
   where
