@@ -4,7 +4,7 @@ use mathlib.Core.Path.{_≡_, refl, sym, ap, _∙_, subst}
 use mathlib.Core.Option.{some}
 use mathlib.Core.List.{List}
 use native.Mathlib.Omega.{arith}
-use lib.ListN.{length, getD, replicate}
+use lib.ListN.{length, getD}
 use Rattle.definition.specs.Job.{Job}
 use Rattle.definition.specs.Cost.{cost}
 use Rattle.definition.specs.Moves.{Cheapest}
@@ -16,41 +16,38 @@ use Rattle.theory_tables.specs.Notes.{NotedBy}
 use Rattle.theory_traceback.specs.Placed.{TracedBack, places, places-agree}
 use Rattle.theory_bridge.specs.Paired.{siteOf, poseNumbers, poseNumber, isOffered, pairJob}
 use Rattle.theory_claim.specs.Claim.{reorder, searchedCost, placementByNumbers, claim-none, claim-some}
-use Rattle.lists.specs.Zeros.{zeros-at}
 use Rattle.search_lanes.specs.Store.{Low}
-use Rattle.search_row.specs.Words.{deckOf}
+use Rattle.search_row.specs.declared.Sizes.{Sizes}
+use Rattle.search_row.specs.Words.{deckOf, posIn}
+use Rattle.search_row_fill.specs.Ready.{sizesOf}
 use Rattle.search_join.specs.Places.{caseAt}
 use Rattle.search_join.specs.Tables.{casesIn}
-use Rattle.search_stage.specs.Stage.{wide, posIn, StagesDone}
+use Rattle.search_stage.specs.Stage.{wide, StagesDone, RowsStages}
 use Rattle.search_stage.specs.Laws.{wide-last}
 use Rattle.search_back_segment.specs.Traces.{wordAt}
-use Rattle.search_back.specs.Trace.{Ways, stages-ways, Trace, TraceDone, TracedTo}
+use Rattle.search_back.specs.Trace.{stages-ways, Trace, RowsTrace, TracedTo}
 use Rattle.search_back.specs.Laws.{trace-given}
 use Rattle.search_back.specs.Scatter.{cellAt, poseAt, Given, Scattered}
 use Rattle.search_back.specs.ScatterLaws.{both-scattered, scattered-small}
 use Rattle.search.specs.Solved.{numbersIn, Solved}
 use Rattle.search.specs.Words.{wordsFor}
-use Rattle.search.specs.Ready.{Ready, ready-talls, ready-searched, stages-given}
+use Rattle.search.specs.Ready.{Ready, ready-searched, stages-given}
 use Rattle.search.specs.Row.{RowPath, path-cell, path-given, path-numbers}
 
--- zeros are pose numbers
-pub zeros-small : (n k : ℕ) → getD (replicate n 0) k 0 < 64
-zeros-small n k = omega (arith, zeros-at n k)
-
-module _ (j : Job) (line₀ line₁ places₀ places₁ : List ℕ) (n₀ n₁ talls : ℕ) where
+module _ (j : Job) (words₀ words₁ : List ℕ) (n₀ n₁ talls : ℕ) where
   abbrev pub deck₀ : Deck
-  deck₀ = deckOf line₀ n₀ (poseNumbers j)
+  deck₀ = deckOf words₀ n₀ (poseNumbers j)
 
   abbrev pub deck₁ : Deck
-  deck₁ = deckOf line₁ n₁ (poseNumbers j)
+  deck₁ = deckOf words₁ n₁ (poseNumbers j)
 
   -- what the tables come to
   abbrev pub least : ℕ
-  least = leastCost deck₀ deck₁ (reorder j) talls (posIn places₀) (posIn places₁)
+  least = leastCost deck₀ deck₁ (reorder j) talls (posIn words₀) (posIn words₁)
 
   -- the stages are done, and this is the least cost
   pub record Costed (old new : List ℕ) (x : ℕ) : Type 0 where
-    pub done : StagesDone deck₀ deck₁ (reorder j) talls (posIn places₀) (posIn places₁) old new
+    pub done : StagesDone deck₀ deck₁ (reorder j) talls (posIn words₀) (posIn words₁) old new
     pub cost : x ≡ least
     pub low : x ≤ B
 
@@ -59,7 +56,7 @@ module _ (j : Job) (line₀ line₁ places₀ places₁ : List ℕ) (n₀ n₁ t
     pub old : List ℕ
     pub long : wordsFor talls count ≤ length old
     pub low : Low old
-    pub done : StagesDone deck₀ deck₁ (reorder j) talls (posIn places₀) (posIn places₁) old st
+    pub done : StagesDone deck₀ deck₁ (reorder j) talls (posIn words₀) (posIn words₁) old st
     pub some : least < B
 
   -- the pose numbers of a cheapest placement
@@ -69,11 +66,10 @@ module _ (j : Job) (line₀ line₁ places₀ places₁ : List ℕ) (n₀ n₁ t
     pub numbers : (k : ℕ) → getD out k 0 < 64
 
   -- the one case of the last table is the least cost
-  pub costed : {old new : List ℕ} {x poses at : ℕ} → poses ≡ poseNumbers j → at ≡ caseAt (talls + 1) 0 0 → x ≡ getD new at 0
-      → StagesDone (deckOf line₀ n₀ poses) (deckOf line₁ n₁ poses) (reorder j) talls (posIn places₀) (posIn places₁) old new → Costed old new x
+  pub costed : {old new : List ℕ} {x at : ℕ} → at ≡ caseAt (talls + 1) 0 0 → x ≡ getD new at 0
+      → StagesDone deck₀ deck₁ (reorder j) talls (posIn words₀) (posIn words₁) old new → Costed old new x
   unfolding casesIn
-  costed {old} {new} {at = at} z w e g =
-      let d = subst (λ (p : ℕ). StagesDone (deckOf line₀ n₀ p) (deckOf line₁ n₁ p) (reorder j) talls (posIn places₀) (posIn places₁) old new) z g in
+  costed {old} {new} {at = at} w e d =
       let i : at ≡ caseAt (suc talls) 0 0 + 0 = omega arith in
       record {
         done = d;
@@ -88,23 +84,33 @@ module _ (j : Job) (line₀ line₁ places₀ places₁ : List ℕ) (n₀ n₁ t
   pub traceable : {old new : List ℕ} {x count : ℕ} → Costed old new x → wordsFor talls count ≤ length old → Low old → x < B → Tables count new
   traceable {old} c h l u = record { old = old; long = h; low = l; done = c .done; some = subst (λ (y : ℕ). y < B) (c .cost) u }
 
-module _ {j : Job} {line₀ line₁ states places₀ places₁ : List ℕ} {n₀ n₁ count talls : ℕ} (r : Ready j line₀ line₁ states places₀ places₁ n₀ n₁ count talls) where
+module _ {j : Job} {words₀ words₁ : List ℕ} {sizes : Sizes} {n₁ : ℕ} (r : Ready j words₀ words₁ sizes n₁) where
+  abbrev n₀ : ℕ
+  n₀ = sizes .cells
+
+  abbrev talls : ℕ
+  talls = sizes .talls
+
+  -- the sizes are the job's own
+  exact : sizes ≡ sizesOf j (sizes .cells) (sizes .states) (sizes .talls)
+  exact = r .first .sizes
+
   abbrev D₀ : Deck
-  D₀ = deckOf line₀ n₀ (poseNumbers j)
+  D₀ = deckOf words₀ n₀ (poseNumbers j)
 
   abbrev D₁ : Deck
-  D₁ = deckOf line₁ n₁ (poseNumbers j)
+  D₁ = deckOf words₁ n₁ (poseNumbers j)
 
   abbrev found : ℕ
-  found = least j line₀ line₁ places₀ places₁ n₀ n₁ talls
+  found = least j words₀ words₁ n₀ n₁ talls
 
-  as-searched : found ≡ searchedCost j D₀ D₁ (posIn places₀) (posIn places₁)
-  as-searched = ap (λ (t : ℕ). leastCost D₀ D₁ (reorder j) t (posIn places₀) (posIn places₁)) (ready-talls (r .row₀))
+  as-searched : found ≡ searchedCost j D₀ D₁ (posIn words₀) (posIn words₁)
+  as-searched = ap (λ (t : ℕ). leastCost D₀ D₁ (reorder j) t (posIn words₀) (posIn words₁)) (r .first .talls)
 
-  pub none-solved : {old new : List ℕ} {x y : ℕ} {out : List ℕ} → Costed j line₀ line₁ places₀ places₁ n₀ n₁ talls old new y → B ≤ y → x ≡ B → ((k : ℕ) → getD out k 0 < 64) → Solved j x out
+  pub none-solved : {old new : List ℕ} {x y : ℕ} {out : List ℕ} → Costed j words₀ words₁ n₀ n₁ talls old new y → B ≤ y → x ≡ B → ((k : ℕ) → getD out k 0 < 64) → Solved j x out
   none-solved {y = y} c h z small = record {
     low = omega arith;
-    none-when = λ _. claim-none j (r .sound) D₀ D₁ (posIn places₀) (posIn places₁) (ready-searched (r .row₀)) (ready-searched (r .row₁)) refl (sym as-searched ∙ sym (c .cost) ∙ whole);
+    none-when = λ _. claim-none j (r .sound) D₀ D₁ (posIn words₀) (posIn words₁) (ready-searched (r .first)) (ready-searched (r .second)) refl (sym as-searched ∙ sym (c .cost) ∙ whole);
     some-when = λ h. absurd (omega arith);
     stated = λ h. absurd (omega arith);
     numbers = small;
@@ -113,62 +119,61 @@ module _ {j : Job} {line₀ line₁ states places₀ places₁ : List ℕ} {n₀
       whole : y ≡ B
       whole = omega (arith, c .low)
 
-  pub some-solved : {x : ℕ} {out : List ℕ} → x < B → x ≡ found → Answered j line₀ line₁ places₀ places₁ n₀ n₁ talls out → Solved j x out
+  pub some-solved : {x : ℕ} {out : List ℕ} → x < B → x ≡ found → Answered j words₀ words₁ n₀ n₁ talls out → Solved j x out
   some-solved h e a = record { low = omega arith; none-when = λ z. absurd (omega arith); some-when = λ _. a .cheapest; stated = λ _. a .stated ∙ sym e; numbers = a .numbers }
 
   -- ---- the trace
 
-  pub may-trace : {st path₀ path₁ : List ℕ} {poses : ℕ} → poses ≡ poseNumbers j → Tables j line₀ line₁ places₀ places₁ n₀ n₁ talls count st → 67 ≤ length path₀ → 67 ≤ length path₁
-      → Trace line₀ line₁ states places₀ places₁ st path₀ path₁ (reorder j) n₀ n₁ poses count talls talls 0 0 0
-  may-trace z t h l = trace-given (stages-given r z (omega (arith, t .long, t .done .long)) (t .done .low)) h l
+  -- the stages by the job's numbers
+  pub stages-exact : {old new : List ℕ} → RowsStages words₀ words₁ sizes n₁ old new
+      → StagesDone D₀ D₁ (reorder j) talls (posIn words₀) (posIn words₁) old new
+  stages-exact {old} {new} d = subst (λ (z : Sizes). RowsStages words₀ words₁ z n₁ old new) exact d
+
+  pub may-trace : {st path₀ path₁ : List ℕ} → Tables j words₀ words₁ n₀ n₁ talls (sizes .states) st → 67 ≤ length path₀ → 67 ≤ length path₁
+      → Trace words₀ words₁ st path₀ path₁ sizes n₁ talls 0 0 0
+  may-trace t h l = trace-given (stages-given r (omega (arith, t .long, t .done .long)) (t .done .low)) h l
 
   -- what the trace leaves, with these tables
-  pub was-traced : {st st′ path₀ path₀′ path₁ path₁′ : List ℕ} {poses : ℕ} → poses ≡ poseNumbers j → Tables j line₀ line₁ places₀ places₁ n₀ n₁ talls count st
-      → TraceDone (deckOf line₀ n₀ poses) (deckOf line₁ n₁ poses) (reorder j) talls (posIn places₀) (posIn places₁) talls 0 0 0 st st′ path₀ path₀′ path₁ path₁′
-      → TracedTo (deckOf line₀ n₀ poses) (deckOf line₁ n₁ poses) (reorder j) talls (posIn places₀) (posIn places₁) talls 0 0 0 path₀ path₀′ path₁ path₁′
-  was-traced {st} z t w =
-      w .done
-      (subst (λ (p : ℕ). Ways (deckOf line₀ n₀ p) (deckOf line₁ n₁ p) (reorder j) talls (posIn places₀) (posIn places₁) st) (sym z) (stages-ways (t .done)))
-      (subst (λ (p : ℕ). leastCost (deckOf line₀ n₀ p) (deckOf line₁ n₁ p) (reorder j) talls (posIn places₀) (posIn places₁) < B) (sym z) (t .some))
+  pub was-traced : {st st′ path₀ path₀′ path₁ path₁′ : List ℕ} → Tables j words₀ words₁ n₀ n₁ talls (sizes .states) st
+      → RowsTrace words₀ words₁ sizes n₁ talls 0 0 0 st st′ path₀ path₀′ path₁ path₁′
+      → TracedTo D₀ D₁ (reorder j) talls (posIn words₀) (posIn words₁) talls 0 0 0 path₀ path₀′ path₁ path₁′
+  was-traced {st} {st′} {path₀} {path₀′} {path₁} {path₁′} t w =
+      subst (λ (z : Sizes). RowsTrace words₀ words₁ z n₁ talls 0 0 0 st st′ path₀ path₀′ path₁ path₁′) exact w .done (stages-ways (t .done)) (t .some)
 
-  module _ (path₀ path₁ : List ℕ) (poses : ℕ) (z : poses ≡ poseNumbers j) (u : found < B)
-      (t : Traced (deckOf line₀ n₀ poses) (deckOf line₁ n₁ poses) (reorder j) talls (posIn places₀) (posIn places₁) (NotedBy (wordAt path₀)) (NotedBy (wordAt path₁)) talls 0 0 0) where
-    tracedAt : Traced D₀ D₁ (reorder j) talls (posIn places₀) (posIn places₁) (NotedBy (wordAt path₀)) (NotedBy (wordAt path₁)) talls 0 0 0
-    tracedAt =
-        subst (λ (p : ℕ). Traced (deckOf line₀ n₀ p) (deckOf line₁ n₁ p) (reorder j) talls (posIn places₀) (posIn places₁) (NotedBy (wordAt path₀)) (NotedBy (wordAt path₁)) talls 0 0 0) z t
-
-    rowTraced : TracedBack (reorder j) siteOf (pairJob j) (poseNumber j) (isOffered j) D₀ D₁ (posIn places₀) (posIn places₁) (wordAt path₀) (wordAt path₁)
+  module _ (path₀ path₁ : List ℕ) (u : found < B)
+      (t : Traced D₀ D₁ (reorder j) talls (posIn words₀) (posIn words₁) (NotedBy (wordAt path₀)) (NotedBy (wordAt path₁)) talls 0 0 0) where
+    rowTraced : TracedBack (reorder j) siteOf (pairJob j) (poseNumber j) (isOffered j) D₀ D₁ (posIn words₀) (posIn words₁) (wordAt path₀) (wordAt path₁)
     rowTraced = record {
-      first = ready-searched (r .row₀);
-      second = ready-searched (r .row₁);
+      first = ready-searched (r .first);
+      second = ready-searched (r .second);
       poses = refl;
-      small = let a = r .row₀ .lined .few in omega arith;
+      small = let a = r .first .lined .few in omega arith;
       cost = subst (λ (x : ℕ). x < B) as-searched u;
-      traced = subst (λ (m : ℕ). Traced D₀ D₁ (reorder j) m (posIn places₀) (posIn places₁) (NotedBy (wordAt path₀)) (NotedBy (wordAt path₁)) m 0 0 0) (ready-talls (r .row₀)) tracedAt;
+      traced = subst (λ (m : ℕ). Traced D₀ D₁ (reorder j) m (posIn words₀) (posIn words₁) (NotedBy (wordAt path₀)) (NotedBy (wordAt path₁)) m 0 0 0) (r .first .talls) t;
     }
 
     both : RowPath j row₀ path₀ × RowPath j row₁ path₁
-    both = places (reorder j) siteOf (pairJob j) (poseNumber j) (isOffered j) D₀ D₁ (posIn places₀) (posIn places₁) (wordAt path₀) (wordAt path₁) rowTraced
+    both = places (reorder j) siteOf (pairJob j) (poseNumber j) (isOffered j) D₀ D₁ (posIn words₀) (posIn words₁) (wordAt path₀) (wordAt path₁) rowTraced
 
-    pub first-given : {out : List ℕ} → 67 ≤ length path₀ → 64 ≤ length out → Given line₀ path₀ out n₀
-    first-given = path-given (r .row₀) path₀ (both .0) (r .sound)
+    pub first-given : {out : List ℕ} → 67 ≤ length path₀ → 64 ≤ length out → Given words₀ path₀ out n₀
+    first-given = path-given (r .first) path₀ (both .0) (r .sound)
 
-    pub second-given : {out : List ℕ} → 67 ≤ length path₁ → 64 ≤ length out → Given line₁ path₁ out n₁
-    second-given = path-given (r .row₁) path₁ (both .1) (r .sound)
+    pub second-given : {out : List ℕ} → 67 ≤ length path₁ → 64 ≤ length out → Given words₁ path₁ out n₁
+    second-given = path-given (r .second) path₁ (both .1) (r .sound)
 
     -- both rows are scattered, one after the other
-    pub answered : {old mid new : List ℕ} → ((k : ℕ) → getD old k 0 < 64) → Scattered line₀ path₀ n₀ old mid → Scattered line₁ path₁ n₁ mid new
-        → Answered j line₀ line₁ places₀ places₁ n₀ n₁ talls new
+    pub answered : {old mid new : List ℕ} → ((k : ℕ) → getD old k 0 < 64) → Scattered words₀ path₀ n₀ old mid → Scattered words₁ path₁ n₁ mid new
+        → Answered j words₀ words₁ n₀ n₁ talls new
     answered {old} {mid} {new} small v w = record { cheapest = c .0; stated = c .1 ∙ sym as-searched; numbers = scattered-small w (scattered-small v small) }
       where
-        agree : (i k : ℕ) → 0 < i → i ≤ n₀ → 0 < k → k ≤ n₁ → cellAt line₀ path₀ i ≡ cellAt line₁ path₁ k → poseAt path₀ i ≡ poseAt path₁ k
+        agree : (i k : ℕ) → 0 < i → i ≤ n₀ → 0 < k → k ≤ n₁ → cellAt words₀ path₀ i ≡ cellAt words₁ path₁ k → poseAt path₀ i ≡ poseAt path₁ k
         agree i k h l g m e =
-            let z₀ = r .row₀ .lined .matched .size in
-            let z₁ = r .row₁ .lined .matched .size in
-            places-agree (reorder j) siteOf (pairJob j) (poseNumber j) (isOffered j) D₀ D₁ (posIn places₀) (posIn places₁) (wordAt path₀) (wordAt path₁) rowTraced i k
-            h (omega arith) g (omega arith) (sym (path-cell (r .row₀) path₀ (both .0) i h l) ∙ e ∙ path-cell (r .row₁) path₁ (both .1) k g m)
+            let z₀ = r .first .lined .matched .size in
+            let z₁ = r .second .lined .matched .size in
+            places-agree (reorder j) siteOf (pairJob j) (poseNumber j) (isOffered j) D₀ D₁ (posIn words₀) (posIn words₁) (wordAt path₀) (wordAt path₁) rowTraced i k
+            h (omega arith) g (omega arith) (sym (path-cell (r .first) path₀ (both .0) i h l) ∙ e ∙ path-cell (r .second) path₁ (both .1) k g m)
 
-        c : Cheapest j (some (placementByNumbers j (numbersIn new))) × (cost j (placementByNumbers j (numbersIn new)) ≡ searchedCost j D₀ D₁ (posIn places₀) (posIn places₁))
+        c : Cheapest j (some (placementByNumbers j (numbersIn new))) × (cost j (placementByNumbers j (numbersIn new)) ≡ searchedCost j D₀ D₁ (posIn words₀) (posIn words₁))
         c =
-            claim-some j (r .sound) D₀ D₁ (posIn places₀) (posIn places₁) (ready-searched (r .row₀)) (ready-searched (r .row₁)) refl (wordAt path₀) (wordAt path₁) rowTraced (numbersIn new)
-            (path-numbers (r .row₀) path₀ (both .0) new (both-scattered v w agree)) (path-numbers (r .row₁) path₁ (both .1) new (w .done))
+            claim-some j (r .sound) D₀ D₁ (posIn words₀) (posIn words₁) (ready-searched (r .first)) (ready-searched (r .second)) refl (wordAt path₀) (wordAt path₁) rowTraced (numbersIn new)
+            (path-numbers (r .first) path₀ (both .0) new (both-scattered v w agree)) (path-numbers (r .second) path₁ (both .1) new (w .done))

@@ -1,77 +1,41 @@
--- The rows as words, ready for the search: what the stages and the claim are owed of them.
+-- Both rows as words, ready for the search: what the stages and the claim are owed of them.
 use Prim.Native.Nat.{ℕ, _≤_}
-use mathlib.Core.Path.{_≡_, sym, _∙_, subst}
+use mathlib.Core.Path.{_≡_, subst}
 use mathlib.Core.List.{List}
-use native.Mathlib.Omega.{arith}
 use lib.ListN.{length}
 use Rattle.definition.specs.Job.{Job}
 use Rattle.definition_laws.specs.Sound.{Sound}
-use Rattle.theory_pair.specs.Cells.{Side, row₀, row₁, tallCount, cell-pos}
-use Rattle.theory_bridge.specs.Paired.{poseNumbers, pairJob}
-use Rattle.theory_claim.specs.Claim.{RowSearched, reorder}
+use Rattle.theory_pair.specs.Cells.{Side, row₀, row₁}
+use Rattle.theory_bridge.specs.Paired.{poseNumbers}
+use Rattle.theory_claim.specs.Claim.{RowSearched}
 use Rattle.search_lanes.specs.Store.{Low}
-use Rattle.search_row.specs.Words.{deckOf}
-use Rattle.search_states.specs.Upto.{Paired}
-use Rattle.search_row_fill.specs.Filled.{Lined}
-use Rattle.search_row_fill.specs.TallWords.{TallWords, talls-count, talls-few, talls-pos}
-use Rattle.search_stage.specs.Stage.{posIn, RowGiven, StagesGiven}
+use Rattle.search_row.specs.declared.Sizes.{Sizes}
+use Rattle.search_row.specs.Words.{deckOf, posIn, withCells}
+use Rattle.search_row_fill.specs.Ready.{RowReady, same-sizes, ready-given}
+use Rattle.search_stage.specs.Stage.{StagesGiven}
 use Rattle.search.specs.Words.{wordsFor}
 
--- a row's n cells as words, and the positions of its tall cells
-pub record RowReady (j : Job) (s : Side) (line places : List ℕ) (n talls : ℕ) : Type 0 where
-  pub lined : Lined j s line n
-  pub tall : TallWords line n places talls
-  pub room : talls ≤ length places
-
--- both rows, and the states
-pub record Ready (j : Job) (line₀ line₁ states places₀ places₁ : List ℕ) (n₀ n₁ count talls : ℕ) : Type 0 where
+-- both rows' words, of which row 1 has n₁ cells
+pub record Ready (j : Job) (words₀ words₁ : List ℕ) (sizes : Sizes) (n₁ : ℕ) : Type 0 where
   pub sound : Sound j
-  pub paired : Paired (reorder j) states count
-  pub row₀ : RowReady j row₀ line₀ places₀ n₀ talls
-  pub row₁ : RowReady j row₁ line₁ places₁ n₁ talls
+  pub first : RowReady j row₀ words₀ sizes
+  pub second : RowReady j row₁ words₁ (withCells sizes n₁)
 
--- ---- one row
+pub ready : {j : Job} {words₀ words₁ : List ℕ} {z y : Sizes}
+    → Sound j → RowReady j row₀ words₀ z → RowReady j row₁ words₁ y → Ready j words₀ words₁ z (y .cells)
+ready {j} {words₁ = words₁} sound r₀ r₁ =
+    record { sound = sound; first = r₀; second = subst (λ (x : Sizes). RowReady j row₁ words₁ x) (same-sizes r₀ r₁) r₁ }
 
-module _ {j : Job} {s : Side} {line places : List ℕ} {n talls : ℕ} (r : RowReady j s line places n talls) where
-  pub ready-talls : talls ≡ tallCount (pairJob j)
-  ready-talls = talls-pos (r .lined) (r .tall) .0
+-- a row as the claim wants it
+pub ready-searched : {j : Job} {s : Side} {words : List ℕ} {z : Sizes}
+    → RowReady j s words z → RowSearched j s (deckOf words (z .cells) (poseNumbers j)) (posIn words)
+ready-searched r = record { matched = r .lined .matched; stands = r .stands }
 
-  pub ready-searched : RowSearched j s (deckOf line n (poseNumbers j)) (posIn places)
-  unfolding posIn
-  ready-searched = record { matched = r .lined .matched; stands = talls-pos (r .lined) (r .tall) .1 }
+module _ {j : Job} {words₀ words₁ : List ℕ} {sizes : Sizes} {n₁ : ℕ} (r : Ready j words₀ words₁ sizes n₁) where
+  pub stages-given : {st : List ℕ} → wordsFor (sizes .talls) (sizes .states) ≤ length st → Low st
+      → StagesGiven words₀ words₁ st sizes n₁
+  stages-given h l =
+      record { given₀ = ready-given (r .sound) (r .first); given₁ = ready-given (r .sound) (r .second); long = h; low = l }
 
-  pub ready-given : {states : List ℕ} {count : ℕ} → Sound j → Paired (reorder j) states count → RowGiven line states places (reorder j) n (poseNumbers j) count talls
-  ready-given sound p = record {
-    ground = record { size = r .lined .size; few = r .lined .few; all = p .all; row = r .lined .row; coded = p .coded };
-    few = let a = ready-talls in let b = talls-count (r .lined) in let c = talls-few (r .lined) sound in omega arith;
-    long = r .room;
-    inside = λ I h.
-        let a = ready-talls in
-        let e = ready-searched .stands I (omega arith) in
-        let b = cell-pos (pairJob j) s I (omega arith) .1 in
-        let c = r .lined .matched .size in
-        omega arith;
-  }
-
--- ---- both rows
-
-pub ready : {j : Job} {line₀ line₁ states places₀ places₁ : List ℕ} {n₀ n₁ count talls talls₁ : ℕ} → Sound j → Paired (reorder j) states count
-    → RowReady j row₀ line₀ places₀ n₀ talls → RowReady j row₁ line₁ places₁ n₁ talls₁ → Ready j line₀ line₁ states places₀ places₁ n₀ n₁ count talls
-ready {j} {line₁ = line₁} {places₁ = places₁} {n₁ = n₁} sound p r₀ r₁ = record {
-  sound = sound;
-  paired = p;
-  row₀ = r₀;
-  row₁ = subst (λ (t : ℕ). RowReady j row₁ line₁ places₁ n₁ t) (ready-talls r₁ ∙ sym (ready-talls r₀)) r₁;
-}
-
-module _ {j : Job} {line₀ line₁ states places₀ places₁ : List ℕ} {n₀ n₁ count talls : ℕ} (r : Ready j line₀ line₁ states places₀ places₁ n₀ n₁ count talls) where
-  pub stages-given : {st : List ℕ} {poses : ℕ} → poses ≡ poseNumbers j → wordsFor talls count ≤ length st → Low st → StagesGiven line₀ line₁ states places₀ places₁ st (reorder j) n₀ n₁ poses count talls
-  stages-given {st} z h l = subst (λ (p : ℕ). StagesGiven line₀ line₁ states places₀ places₁ st (reorder j) n₀ n₁ p count talls) (sym z) record {
-    row₀ = ready-given (r .row₀) (r .sound) (r .paired);
-    row₁ = ready-given (r .row₁) (r .sound) (r .paired);
-    long = h;
-    low = l;
-  }
-
-  pub few-talls : talls ≤ 24
-  few-talls = ready-given (r .row₀) (r .sound) (r .paired) .few
+  pub few-talls : sizes .talls ≤ 24
+  few-talls = ready-given (r .sound) (r .first) .few

@@ -16,7 +16,8 @@ use Rattle.theory_bridge.specs.Paired.{poseNumbers, pairJob}
 use Rattle.theory_bridge.specs.Row.{member}
 use Rattle.theory_traceback.specs.Words.{Places}
 use Rattle.search_back.specs.Scatter.{cellAt, poseAt, Given}
-use Rattle.search.specs.Ready.{RowReady}
+use Rattle.search_row.specs.declared.Sizes.{Sizes}
+use Rattle.search_row_fill.specs.Ready.{RowReady}
 
 -- no cell is twice in a row
 members-distinct : (j : Job) (s : Side) → Distinct (members (pairJob j) s)
@@ -33,20 +34,20 @@ cells-apart j s k m h l e =
 abbrev pub RowPath : Job → Side → List ℕ → Type 0
 RowPath j s path = Places (length (members (pairJob j) s)) (poseNumbers j) (λ i. getD path i 0)
 
-module _ {j : Job} {s : Side} {line places : List ℕ} {n talls : ℕ} (r : RowReady j s line places n talls) (path : List ℕ) (p : RowPath j s path) where
-  pub path-cell : (i : ℕ) → 0 < i → i ≤ n → cellAt line path i ≡ cell (pairJob j) s (getD path i 0 / 64)
+module _ {j : Job} {s : Side} {row : List ℕ} {z : Sizes} (r : RowReady j s row z) (path : List ℕ) (p : RowPath j s path) where
+  pub path-cell : (i : ℕ) → 0 < i → i ≤ z .cells → cellAt row path i ≡ cell (pairJob j) s (getD path i 0 / 64)
   path-cell i h l =
       let e = r .lined .matched .size in
       let b = p .inside i h (omega arith) in
       r .lined .number (getD path i 0 / 64) (omega arith)
 
-  pub path-given : {out : List ℕ} → Sound j → 67 ≤ length path → 64 ≤ length out → Given line path out n
+  pub path-given : {out : List ℕ} → Sound j → 67 ≤ length path → 64 ≤ length out → Given row path out (z .cells)
   path-given {out} sound h l =
       let e = r .lined .matched .size in
-      let z = r .lined .size in
+      let few = r .lined .size in
       record {
-        words = r .lined .row;
-        size = z;
+        words = r .lined .words;
+        size = few;
         room = omega arith;
         poses = poseNumbers j;
         places = rw (sym e) at p;
@@ -59,9 +60,9 @@ module _ {j : Job} {s : Side} {line places : List ℕ} {n talls : ℕ} (r : RowR
       }
 
   -- numbers by cell number
-  pub path-numbers : (new : List ℕ) → ((i : ℕ) → 0 < i → i ≤ n → getD new (cellAt line path i) 0 ≡ poseAt path i)
+  pub path-numbers : (new : List ℕ) → ((i : ℕ) → 0 < i → i ≤ z .cells → getD new (cellAt row path i) 0 ≡ poseAt path i)
       → (i : ℕ) → 0 < i → i ≤ length (members (pairJob j) s) → getD new (cell (pairJob j) s (getD path i 0 / 64)) 0 ≡ getD path i 0 % 64
   path-numbers new f i h l =
       let e = r .lined .matched .size in
-      let u : i ≤ n = omega arith in
+      let u : i ≤ z .cells = omega arith in
       ap (λ (c : ℕ). getD new c 0) (sym (path-cell i h u)) ∙ f i h u

@@ -12,7 +12,6 @@ use Rattle.search_lanes.specs.Store.{Low}
 use Rattle.search_join.specs.Places.{pageAt}
 use Rattle.search_stage.specs.Stage.{wide}
 use Rattle.search_stage.specs.Laws.{wide-low}
-use Rattle.search_states.specs.Upto.{Paired}
 
 -- with so many tall cells and states: the layers, and a page for each state of the largest table
 abbrev pub wordsFor : ℕ → ℕ → ℕ
@@ -25,9 +24,12 @@ few-states (suc zero) h = omega (arith, count-1)
 few-states (suc (suc R)) h = absurd (omega arith)
 
 -- a store of 1,048,576 words has them
-pub words-lent : (talls : ℕ) {R : ℕ} {states : List ℕ} {count : ℕ} → R ≤ 1 → Paired R states count → wordsFor talls count ≤ 1048576
-words-lent talls {R} {count = count} h p =
-    omega (arith, wide-low talls talls count 3 (omega arith) (omega (arith, few-states R h, p .all)))
+pub words-lent : (talls R count : ℕ) → R ≤ 1 → count ≡ stateCount R → wordsFor talls count ≤ 1048576
+words-lent talls R count h e = omega (arith, wide-low talls talls count 3 (omega arith) (omega (arith, few-states R h, e)))
+
+-- a table has at most twelve states
+pub few-pages : (talls R count : ℕ) → R ≤ 1 → count ≡ stateCount R → wide talls talls count ≤ 12
+few-pages talls R count h e = wide-low talls talls count 12 (omega arith) (omega (arith, few-states R h, e))
 
 pub zeros-low : (n : ℕ) → Low (replicate n 0)
 zeros-low n = record { word = λ k. omega (arith, zeros-at n k) }

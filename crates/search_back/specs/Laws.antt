@@ -6,16 +6,17 @@ use mathlib.Core.List.{List}
 use native.Mathlib.Omega.{arith}
 use native.Mathlib.Decide.{decLt}
 use lib.ListN.{length}
+use Rattle.search_row.specs.declared.Sizes.{Sizes}
+use Rattle.search_row.specs.Words.{deckIn, posIn, withCells, RowGiven}
 use Rattle.theory_tables.specs.Steps.{B, Deck, Layer, stateCount}
 use Rattle.theory_tables.specs.Stages.{placedWith, openCost, stageCost, caseTable}
 use Rattle.theory_tables.specs.Back.{EndTraced, StageTraced}
 use Rattle.theory_tables.specs.Notes.{NotedBy, stage-words}
 use Rattle.search_lanes.specs.Laws.{frame-refl, frame-join}
 use Rattle.search_lanes.specs.Store.{Frame, Low}
-use Rattle.search_row.specs.Words.{deckOf}
 use Rattle.search_join.specs.Places.{pointerAt, Pages, case-above}
 use Rattle.search_join.specs.Tables.{pointersIn, Way}
-use Rattle.search_stage.specs.Stage.{wide, posIn, RowGiven, StagesGiven}
+use Rattle.search_stage.specs.Stage.{wide, StagesGiven}
 use Rattle.search_stage.specs.Laws.{wide-all, wide-last, given-states, given-wide}
 use Rattle.search_back_segment.specs.Traces.{wordAt}
 use Rattle.search_back_stage.specs.Rows.{startCells, startLayer, startEnd, endPlace, Stage, StageDone}
@@ -53,29 +54,29 @@ notes-join D R talls pos J s q h l f g =
     frame-join 1 (suc (endPlace (D .size) R talls pos (suc J) q)) f g (omega arith) (omega arith) (omega arith) (omega (arith, end-tall (D .size) R talls pos J s h))
 
 -- one row of a stage, as a traceback wants it
-row-stage : {line states places st path : List ℕ} {n poses R count talls I s l q a : ℕ}
-    → RowGiven line states places R n poses count talls → Low st → 148992 ≤ length st → 67 ≤ length path → I ≤ talls → (0 < I → s < stateCount R) → (0 < I → l < poses)
-    → q < wide talls (suc I) (stateCount R) → a < wide talls (suc I) poses
-    → Stage line states places st path n poses R count talls I s l q a
-row-stage {poses = poses} {R = R} {talls = talls} {I = I} g w l r i s p x y =
+row-stage : {row st path : List ℕ} {z : Sizes} {I s l q a : ℕ}
+    → RowGiven row z → Low st → 148992 ≤ length st → 67 ≤ length path → I ≤ z .talls → (0 < I → s < stateCount (z .reordering)) → (0 < I → l < (z .poses))
+    → q < wide (z .talls) (suc I) (stateCount (z .reordering)) → a < wide (z .talls) (suc I) (z .poses)
+    → Stage row st path z I s l q a
+row-stage {z = z} {I = I} g w l r i s p x y =
     record {
-      start = record { row = g; low = w; long = l; stage = i; state = s; pose = p };
+      start = record { given = g; low = w; long = l; stage = i; state = s; pose = p };
       room = r;
-      state = λ h. omega (arith, wide-all talls I (stateCount R) h);
-      pose = λ h. omega (arith, wide-all talls I poses h);
+      state = λ h. omega (arith, wide-all (z .talls) I (stateCount (z .reordering)) h);
+      pose = λ h. omega (arith, wide-all (z .talls) I (z .poses) h);
     }
 
 -- ---- one stage of both rows
 
-module _ {line₀ line₁ states places₀ places₁ st path₀ path₁ : List ℕ} {R n₀ n₁ poses count talls I s t l q₀ q₁ a : ℕ}
-    (g : Leg line₀ line₁ states places₀ places₁ st path₀ path₁ R n₀ n₁ poses count talls I s t l q₀ q₁ a) where
-  pub leg-row₀ : Stage line₀ states places₀ st path₀ n₀ poses R count talls I s l q₀ a
+module _ {row₀ row₁ st path₀ path₁ : List ℕ} {z : Sizes} {n₁ I s t l q₀ q₁ a : ℕ}
+    (g : Leg row₀ row₁ st path₀ path₁ z n₁ I s t l q₀ q₁ a) where
+  pub leg-row₀ : Stage row₀ st path₀ z I s l q₀ a
   leg-row₀ =
-      row-stage (g .both .given .row₀) (g .both .given .low) (omega (arith, g .both .given .long)) (g .both .room₀) (g .stage) (g .state₀) (g .pose) (g .case .state₀) (g .case .pose)
+      row-stage (g .both .given .given₀) (g .both .given .low) (omega (arith, g .both .given .long)) (g .both .room₀) (g .stage) (g .state₀) (g .pose) (g .case .state₀) (g .case .pose)
 
-  pub leg-row₁ : {mid : List ℕ} → Low mid → length mid ≡ length st → Stage line₁ states places₁ mid path₁ n₁ poses R count talls I t l q₁ a
+  pub leg-row₁ : {mid : List ℕ} → Low mid → length mid ≡ length st → Stage row₁ mid path₁ (withCells z n₁) I t l q₁ a
   leg-row₁ w e =
-      row-stage (g .both .given .row₁) w (omega (arith, g .both .given .long)) (g .both .room₁) (g .stage) (g .state₁) (g .pose) (g .case .state₁) (g .case .pose)
+      row-stage (g .both .given .given₁) w (omega (arith, g .both .given .long)) (g .both .room₁) (g .stage) (g .state₁) (g .pose) (g .case .state₁) (g .case .pose)
 
 pub leg-done : {D₀ D₁ : Deck} {R talls : ℕ} {pos₀ pos₁ : ℕ → ℕ} {I s t l q₀ q₁ a : ℕ} {st mid new path₀ path₀′ path₁ path₁′ : List ℕ}
     → StageDone D₀ R talls pos₀ I s l q₀ a st mid path₀ path₀′ → StageDone D₁ R talls pos₁ I t l q₁ a mid new path₁ path₁′
@@ -92,23 +93,23 @@ leg-done v w =
 
 -- ---- the first stage
 
-module _ {line₀ line₁ states places₀ places₁ st path₀ path₁ : List ℕ} {R n₀ n₁ poses count talls I q₀ q₁ a : ℕ}
-    (g : Trace line₀ line₁ states places₀ places₁ st path₀ path₁ R n₀ n₁ poses count talls I q₀ q₁ a) where
-  trace-at : (K : ℕ) → I ≡ K → Trace line₀ line₁ states places₀ places₁ st path₀ path₁ R n₀ n₁ poses count talls K q₀ q₁ a
-  trace-at K e = subst (λ (k : ℕ). Trace line₀ line₁ states places₀ places₁ st path₀ path₁ R n₀ n₁ poses count talls k q₀ q₁ a) e g
+module _ {row₀ row₁ st path₀ path₁ : List ℕ} {z : Sizes} {n₁ I q₀ q₁ a : ℕ}
+    (g : Trace row₀ row₁ st path₀ path₁ z n₁ I q₀ q₁ a) where
+  trace-at : (K : ℕ) → I ≡ K → Trace row₀ row₁ st path₀ path₁ z n₁ K q₀ q₁ a
+  trace-at K e = subst (λ (k : ℕ). Trace row₀ row₁ st path₀ path₁ z n₁ k q₀ q₁ a) e g
 
   -- the case's source word is in the store
-  pub source-room : (I ≤ 24) × (q₀ < 12) × (q₁ < 12) × (a < 64) × Pages (q₀ + 1) st
-  source-room =
+  pub pointer-room : (I ≤ 24) × (q₀ < 12) × (q₁ < 12) × (a < 64) × Pages (q₀ + 1) st
+  pointer-room =
       let v = g .both .given in
       let p = given-states v in
       let w = given-wide v (suc I) in
-      let n = v .row₀ .ground .all in
-      let e : wide talls (suc I) (stateCount R) ≡ wide talls (suc I) count = ap (wide talls (suc I)) (sym n) in
+      let n = v .given₀ .ground .all in
+      let e : wide (z .talls) (suc I) (stateCount (z .reordering)) ≡ wide (z .talls) (suc I) (z .states) = ap (wide (z .talls) (suc I)) (sym n) in
       let c = g .case in
       (omega (arith, g .stage), omega arith, omega arith, omega arith, omega (arith, w .2))
 
-  pub open-leg : I ≡ 0 → Leg line₀ line₁ states places₀ places₁ st path₀ path₁ R n₀ n₁ poses count talls 0 0 0 0 q₀ q₁ a
+  pub open-leg : I ≡ 0 → Leg row₀ row₁ st path₀ path₁ z n₁ 0 0 0 0 q₀ q₁ a
   open-leg e =
       let h = trace-at 0 e in
       record {
@@ -141,45 +142,45 @@ ways-kept : {D₀ D₁ : Deck} {R talls : ℕ} {pos₀ pos₁ : ℕ → ℕ} {ol
 unfolding pointersIn
 ways-kept f w = record { way = λ I q₀ q₁ a h c l. rw (f .high (pointerAt (suc (suc I)) q₀ q₁ + a) (case-above (suc (suc I)) q₀ q₁ a .1)) (w .way I q₀ q₁ a h c l) }
 
-module _ {line₀ line₁ states places₀ places₁ st path₀ path₁ : List ℕ} {R n₀ n₁ poses count talls I q₀ q₁ a : ℕ}
-    (g : Trace line₀ line₁ states places₀ places₁ st path₀ path₁ R n₀ n₁ poses count talls I q₀ q₁ a)
+module _ {row₀ row₁ st path₀ path₁ : List ℕ} {z : Sizes} {n₁ I q₀ q₁ a : ℕ}
+    (g : Trace row₀ row₁ st path₀ path₁ z n₁ I q₀ q₁ a)
     (J code : ℕ) (e : I ≡ suc J) (c : code ≡ pointersIn st (suc I) q₀ q₁ a) where
   abbrev D₀ : Deck
-  D₀ = deckOf line₀ n₀ poses
+  D₀ = deckIn row₀ z
 
   abbrev D₁ : Deck
-  D₁ = deckOf line₁ n₁ poses
+  D₁ = deckIn row₁ (withCells z n₁)
 
   abbrev Known : Type 0
-  Known = Ways (deckOf line₀ n₀ poses) (deckOf line₁ n₁ poses) R talls (posIn places₀) (posIn places₁) st
-      × (caseTable (deckOf line₀ n₀ poses) (deckOf line₁ n₁ poses) R talls (posIn places₀) (posIn places₁) (suc J) q₀ q₁ a < B)
+  Known = Ways (deckIn row₀ z) (deckIn row₁ (withCells z n₁)) (z .reordering) (z .talls) (posIn row₀) (posIn row₁) st
+      × (caseTable (deckIn row₀ z) (deckIn row₁ (withCells z n₁)) (z .reordering) (z .talls) (posIn row₀) (posIn row₁) (suc J) q₀ q₁ a < B)
 
-  way : Known → Way (stateCount R) poses (caseTable D₀ D₁ R talls (posIn places₀) (posIn places₁) J)
-      (stageCost D₀ R talls (posIn places₀) J)
-      (stageCost D₁ R talls (posIn places₁) J)
+  way : Known → Way (stateCount (z .reordering)) (z .poses) (caseTable D₀ D₁ (z .reordering) (z .talls) (posIn row₀) (posIn row₁) J)
+      (stageCost D₀ (z .reordering) (z .talls) (posIn row₀) J)
+      (stageCost D₁ (z .reordering) (z .talls) (posIn row₁) J)
       q₀
       q₁
       a
-      (caseTable D₀ D₁ R talls (posIn places₀) (posIn places₁) (suc J) q₀ q₁ a)
+      (caseTable D₀ D₁ (z .reordering) (z .talls) (posIn row₀) (posIn row₁) (suc J) q₀ q₁ a)
       code
   way k =
       let h = trace-at g (suc J) e in
       let z = c ∙ ap (λ (k : ℕ). pointersIn st (suc k) q₀ q₁ a) e in
       rw z (k .0 .way J q₀ q₁ a (omega (arith, h .stage)) (h .case) (k .1))
 
-  costs : Known → (caseTable D₀ D₁ R talls (posIn places₀) (posIn places₁) J (code / 768) (code % 768 / 64) (code % 64) < B)
-      × (stageCost D₀ R talls (posIn places₀) J (code / 768) (code % 64) q₀ a < B)
-      × (stageCost D₁ R talls (posIn places₁) J (code % 768 / 64) (code % 64) q₁ a < B)
+  costs : Known → (caseTable D₀ D₁ (z .reordering) (z .talls) (posIn row₀) (posIn row₁) J (code / 768) (code % 768 / 64) (code % 64) < B)
+      × (stageCost D₀ (z .reordering) (z .talls) (posIn row₀) J (code / 768) (code % 64) q₀ a < B)
+      × (stageCost D₁ (z .reordering) (z .talls) (posIn row₁) J (code % 768 / 64) (code % 64) q₁ a < B)
   costs k =
       let l = k .1 in
       let s = way k .sum in
       (omega arith, omega arith, omega arith)
 
   -- a code that stands for no case: there is no way
-  pub stray-done : ((code / 768 < count) → (code % 768 / 64 < count) → (code % 64 < poses) → ⊥)
-      → TraceDone D₀ D₁ R talls (posIn places₀) (posIn places₁) I q₀ q₁ a st st path₀ path₀ path₁ path₁
+  pub stray-done : ((code / 768 < (z .states)) → (code % 768 / 64 < (z .states)) → (code % 64 < (z .poses)) → ⊥)
+      → TraceDone D₀ D₁ (z .reordering) (z .talls) (posIn row₀) (posIn row₁) I q₀ q₁ a st st path₀ path₀ path₁ path₁
   stray-done z =
-      let all = g .both .given .row₀ .ground .all in
+      let all = g .both .given .given₀ .ground .all in
       done-at (suc J) e record {
         frame = frame-refl 0 148992 st;
         low = g .both .given .low;
@@ -188,10 +189,10 @@ module _ {line₀ line₁ states places₀ places₁ st path₀ path₁ : List �
         done = λ x y. let w = way (x, y) in absurd (z (omega (arith, w .state₀)) (omega (arith, w .state₁)) (w .lane));
       }
 
-  module _ (in₀ : code / 768 < count) (in₁ : code % 768 / 64 < count) (inl′ : code % 64 < poses) where
-    pub back-leg : Leg line₀ line₁ states places₀ places₁ st path₀ path₁ R n₀ n₁ poses count talls I (code / 768) (code % 768 / 64) (code % 64) q₀ q₁ a
+  module _ (in₀ : code / 768 < (z .states)) (in₁ : code % 768 / 64 < (z .states)) (inl′ : code % 64 < (z .poses)) where
+    pub back-leg : Leg row₀ row₁ st path₀ path₁ z n₁ I (code / 768) (code % 768 / 64) (code % 64) q₀ q₁ a
     back-leg =
-        let all = g .both .given .row₀ .ground .all in
+        let all = g .both .given .given₀ .ground .all in
         record {
           both = g .both;
           stage = g .stage;
@@ -202,36 +203,36 @@ module _ {line₀ line₁ states places₀ places₁ st path₀ path₁ : List �
         }
 
     module _ {mid mid₀ mid₁ : List ℕ}
-        (d : LegDone (deckOf line₀ n₀ poses) (deckOf line₁ n₁ poses) R talls (posIn places₀) (posIn places₁) I (code / 768) (code % 768 / 64) (code % 64) q₀ q₁ a st mid path₀ mid₀ path₁ mid₁) where
+        (d : LegDone (deckIn row₀ z) (deckIn row₁ (withCells z n₁)) (z .reordering) (z .talls) (posIn row₀) (posIn row₁) I (code / 768) (code % 768 / 64) (code % 64) q₀ q₁ a st mid path₀ mid₀ path₁ mid₁) where
       -- the case to go on from
-      pub back-rest : Trace line₀ line₁ states places₀ places₁ mid mid₀ mid₁ R n₀ n₁ poses count talls J (code / 768) (code % 768 / 64) (code % 64)
+      pub back-rest : Trace row₀ row₁ mid mid₀ mid₁ z n₁ J (code / 768) (code % 768 / 64) (code % 64)
       back-rest =
-          let h : J < talls = omega (arith, g .stage) in
-          let all = g .both .given .row₀ .ground .all in
+          let h : J < z .talls = omega (arith, g .stage) in
+          let all = g .both .given .given₀ .ground .all in
           record {
             both = record {
-              given = record { row₀ = g .both .given .row₀; row₁ = g .both .given .row₁; long = omega (arith, g .both .given .long, d .frame .long); low = d .low };
+              given = record { given₀ = g .both .given .given₀; given₁ = g .both .given .given₁; long = omega (arith, g .both .given .long, d .frame .long); low = d .low };
               room₀ = omega (arith, g .both .room₀, d .notes₀ .long);
               room₁ = omega (arith, g .both .room₁, d .notes₁ .long);
             };
             stage = omega arith;
             case = record {
-              state₀ = omega (arith, wide-all talls J (stateCount R) h);
-              state₁ = omega (arith, wide-all talls J (stateCount R) h);
-              pose = omega (arith, wide-all talls J poses h);
+              state₀ = omega (arith, wide-all (z .talls) J (stateCount (z .reordering)) h);
+              state₁ = omega (arith, wide-all (z .talls) J (stateCount (z .reordering)) h);
+              pose = omega (arith, wide-all (z .talls) J (z .poses) h);
             };
           }
 
       pub back-done : {new new₀ new₁ : List ℕ}
-          → TraceDone (deckOf line₀ n₀ poses) (deckOf line₁ n₁ poses) R talls (posIn places₀) (posIn places₁) J (code / 768) (code % 768 / 64) (code % 64) mid new mid₀ new₀ mid₁ new₁
-          → TraceDone (deckOf line₀ n₀ poses) (deckOf line₁ n₁ poses) R talls (posIn places₀) (posIn places₁) I q₀ q₁ a st new path₀ new₀ path₁ new₁
+          → TraceDone (deckIn row₀ z) (deckIn row₁ (withCells z n₁)) (z .reordering) (z .talls) (posIn row₀) (posIn row₁) J (code / 768) (code % 768 / 64) (code % 64) mid new mid₀ new₀ mid₁ new₁
+          → TraceDone (deckIn row₀ z) (deckIn row₁ (withCells z n₁)) (z .reordering) (z .talls) (posIn row₀) (posIn row₁) I q₀ q₁ a st new path₀ new₀ path₁ new₁
       unfolding stageCost startLayer startCells startEnd
       back-done {new} {new₀} {new₁} r =
           let s = code / 768 in
           let t = code % 768 / 64 in
           let l = code % 64 in
-          let h : J < talls = omega (arith, g .stage) in
-          let u = subst (λ (k : ℕ). LegDone D₀ D₁ R talls (posIn places₀) (posIn places₁) k s t l q₀ q₁ a st mid path₀ mid₀ path₁ mid₁) e d in
+          let h : J < z .talls = omega (arith, g .stage) in
+          let u = subst (λ (k : ℕ). LegDone D₀ D₁ (z .reordering) (z .talls) (posIn row₀) (posIn row₁) k s t l q₀ q₁ a st mid path₀ mid₀ path₁ mid₁) e d in
           done-at (suc J) e record {
             frame = frame-join 0 148992 (d .frame) (r .frame) (omega arith) (omega arith) (omega arith) (omega arith);
             low = r .low;
@@ -244,8 +245,8 @@ module _ {line₀ line₁ states places₀ places₁ st path₀ path₁ : List �
                 let w₀ = u .traced₀ (k .1) in
                 let w₁ = u .traced₁ (k .2) in
                 record {
-                  notes₀ = notes-join D₀ R talls (posIn places₀) J s q₀ h (traced-on D₀ R talls (posIn places₀) (NotedBy (wordAt mid₀)) (suc J) _ _ _ q₀ a w₀) (u .notes₀) (v .notes₀);
-                  notes₁ = notes-join D₁ R talls (posIn places₁) J t q₁ h (traced-on D₁ R talls (posIn places₁) (NotedBy (wordAt mid₁)) (suc J) _ _ _ q₁ a w₁) (u .notes₁) (v .notes₁);
+                  notes₀ = notes-join D₀ (z .reordering) (z .talls) (posIn row₀) J s q₀ h (traced-on D₀ (z .reordering) (z .talls) (posIn row₀) (NotedBy (wordAt mid₀)) (suc J) _ _ _ q₀ a w₀) (u .notes₀) (v .notes₀);
+                  notes₁ = notes-join D₁ (z .reordering) (z .talls) (posIn row₁) J t q₁ h (traced-on D₁ (z .reordering) (z .talls) (posIn row₁) (NotedBy (wordAt mid₁)) (suc J) _ _ _ q₁ a w₁) (u .notes₁) (v .notes₁);
                   traced = (
                     s,
                     t,
@@ -255,8 +256,8 @@ module _ {line₀ line₁ states places₀ places₁ st path₀ path₁ : List �
                       state₁ = w .state₁;
                       pose = w .lane;
                       sum = w .sum;
-                      row₀ = traced-kept D₀ R talls (posIn places₀) J s _ _ q₀ a mid₀ new₀ h (v .notes₀) w₀;
-                      row₁ = traced-kept D₁ R talls (posIn places₁) J t _ _ q₁ a mid₁ new₁ h (v .notes₁) w₁;
+                      row₀ = traced-kept D₀ (z .reordering) (z .talls) (posIn row₀) J s _ _ q₀ a mid₀ new₀ h (v .notes₀) w₀;
+                      row₁ = traced-kept D₁ (z .reordering) (z .talls) (posIn row₁) J t _ _ q₁ a mid₁ new₁ h (v .notes₁) w₁;
                     },
                     v .traced,
                   );
@@ -265,15 +266,15 @@ module _ {line₀ line₁ states places₀ places₁ st path₀ path₁ : List �
 
 -- ---- the whole trace
 
-pub trace-given : {line₀ line₁ states places₀ places₁ st path₀ path₁ : List ℕ} {R n₀ n₁ poses count talls : ℕ}
-    → StagesGiven line₀ line₁ states places₀ places₁ st R n₀ n₁ poses count talls → 67 ≤ length path₀ → 67 ≤ length path₁
-    → Trace line₀ line₁ states places₀ places₁ st path₀ path₁ R n₀ n₁ poses count talls talls 0 0 0
-trace-given {R = R} {poses = poses} {talls = talls} g x y =
+pub trace-given : {row₀ row₁ st path₀ path₁ : List ℕ} {z : Sizes} {n₁ : ℕ}
+    → StagesGiven row₀ row₁ st z n₁ → 67 ≤ length path₀ → 67 ≤ length path₁
+    → Trace row₀ row₁ st path₀ path₁ z n₁ (z .talls) 0 0 0
+trace-given {z = z} g x y =
     record {
       both = record { given = g; room₀ = x; room₁ = y };
       stage = omega arith;
-      case = record { state₀ = one (stateCount R); state₁ = one (stateCount R); pose = one poses };
+      case = record { state₀ = one (stateCount (z .reordering)); state₁ = one (stateCount (z .reordering)); pose = one (z .poses) };
     }
   where
-    one : (k : ℕ) → 0 < wide talls (suc talls) k
-    one k = omega (arith, wide-last talls (suc talls) k (omega arith))
+    one : (k : ℕ) → 0 < wide (z .talls) (suc (z .talls)) k
+    one k = omega (arith, wide-last (z .talls) (suc (z .talls)) k (omega arith))

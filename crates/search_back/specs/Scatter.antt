@@ -3,34 +3,34 @@ use Prim.Native.Nat.{ℕ, _/_, _%_, _≤_, _<_}
 use mathlib.Core.Path.{_≡_}
 use mathlib.Core.List.{List}
 use lib.ListN.{length, getD}
-use Rattle.search_row.specs.Words.{wordOf, LineWords}
+use Rattle.search_row.specs.Words.{wordOf, RowWords}
 use Rattle.theory_traceback.specs.Words.{Places}
 
 -- the number of the cell at place i of a path, and its pose number
 abbrev pub cellAt : List ℕ → List ℕ → ℕ → ℕ
-cellAt line path i = wordOf line (getD path i 0 / 64) 85
+cellAt row path i = wordOf row (getD path i 0 / 64) 85
 
 abbrev pub poseAt : List ℕ → ℕ → ℕ
 poseAt path i = getD path i 0 % 64
 
 -- a row's path: each place has another position of the row, and no two positions have the same number
-pub record Given (line path out : List ℕ) (n : ℕ) : Type 0 where
-  pub words : LineWords line
+pub record Given (row path out : List ℕ) (n : ℕ) : Type 0 where
+  pub words : RowWords row
   pub size : n ≤ 64
   pub room : n < length path
   pub poses : ℕ
   pub places : Places n poses (λ i. getD path i 0)
-  pub small : (k : ℕ) → k < n → wordOf line k 85 < length out
-  pub apart : (k m : ℕ) → k < n → m < n → wordOf line k 85 ≡ wordOf line m 85 → k ≡ m
+  pub small : (k : ℕ) → k < n → wordOf row k 85 < length out
+  pub apart : (k m : ℕ) → k < n → m < n → wordOf row k 85 ≡ wordOf row m 85 → k ≡ m
 
 -- the places below m have their pose numbers, and nothing else is changed
-pub record Upto (line path : List ℕ) (m : ℕ) (old new : List ℕ) : Type 0 where
+pub record Upto (row path : List ℕ) (m : ℕ) (old new : List ℕ) : Type 0 where
   pub long : length new ≡ length old
-  pub done : (i : ℕ) → 0 < i → i < m → getD new (cellAt line path i) 0 ≡ poseAt path i
-  pub kept : (c : ℕ) → ((i : ℕ) → 0 < i → i < m → cellAt line path i ≡ c → ⊥) → getD new c 0 ≡ getD old c 0
+  pub done : (i : ℕ) → 0 < i → i < m → getD new (cellAt row path i) 0 ≡ poseAt path i
+  pub kept : (c : ℕ) → ((i : ℕ) → 0 < i → i < m → cellAt row path i ≡ c → ⊥) → getD new c 0 ≡ getD old c 0
 
 -- all n places
-pub record Scattered (line path : List ℕ) (n : ℕ) (old new : List ℕ) : Type 0 where
+pub record Scattered (row path : List ℕ) (n : ℕ) (old new : List ℕ) : Type 0 where
   pub long : length new ≡ length old
-  pub done : (i : ℕ) → 0 < i → i ≤ n → getD new (cellAt line path i) 0 ≡ poseAt path i
-  pub kept : (c : ℕ) → ((i : ℕ) → 0 < i → i ≤ n → cellAt line path i ≡ c → ⊥) → getD new c 0 ≡ getD old c 0
+  pub done : (i : ℕ) → 0 < i → i ≤ n → getD new (cellAt row path i) 0 ≡ poseAt path i
+  pub kept : (c : ℕ) → ((i : ℕ) → 0 < i → i ≤ n → cellAt row path i ≡ c → ⊥) → getD new c 0 ≡ getD old c 0

@@ -3,14 +3,15 @@ use Prim.Native.Nat.{ℕ, suc, _≤_, _<_}
 use mathlib.Core.Path.{_≡_}
 use mathlib.Core.List.{List}
 use lib.ListN.{length}
+use Rattle.search_row.specs.Words.{deckIn, posIn, withCells}
+use Rattle.search_row.specs.declared.Sizes.{Sizes}
 use Rattle.theory_tables.specs.Steps.{B, Deck, stateCount}
 use Rattle.theory_tables.specs.Stages.{stageCost, caseTable}
 use Rattle.theory_tables.specs.Back.{StageTraced, Traced}
 use Rattle.theory_tables.specs.Notes.{NotedBy}
 use Rattle.search_lanes.specs.Store.{Frame, Low}
-use Rattle.search_row.specs.Words.{deckOf}
 use Rattle.search_join.specs.Tables.{pointersIn, Way}
-use Rattle.search_stage.specs.Stage.{wide, posIn, StagesGiven, StagesDone}
+use Rattle.search_stage.specs.Stage.{wide, StagesGiven, StagesDone}
 use Rattle.search_back_segment.specs.Traces.{wordAt}
 use Rattle.search_back_stage.specs.Rows.{startCells, startLayer, startEnd, costFrom, endPlace}
 
@@ -42,25 +43,25 @@ pub stages-ways : {D₀ D₁ : Deck} {R talls : ℕ} {pos₀ pos₁ : ℕ → �
 stages-ways d = record { way = λ I q₀ q₁ a h c. d .way I q₀ q₁ a h (c .state₀) (c .state₁) (c .pose) }
 
 -- two rows with the tables, and a path for each row
-pub record Both (line₀ line₁ states places₀ places₁ st path₀ path₁ : List ℕ) (R n₀ n₁ poses count talls : ℕ) : Type 0 where
-  pub given : StagesGiven line₀ line₁ states places₀ places₁ st R n₀ n₁ poses count talls
+pub record Both (row₀ row₁ st path₀ path₁ : List ℕ) (z : Sizes) (n₁ : ℕ) : Type 0 where
+  pub given : StagesGiven row₀ row₁ st z n₁
   pub room₀ : 67 ≤ length path₀
   pub room₁ : 67 ≤ length path₁
 
 -- stage I to the case (q₀, q₁, a), from tall cell I - 1 as the states s and t in pose l
-pub record Leg (line₀ line₁ states places₀ places₁ st path₀ path₁ : List ℕ) (R n₀ n₁ poses count talls I s t l q₀ q₁ a : ℕ) : Type 0 where
-  pub both : Both line₀ line₁ states places₀ places₁ st path₀ path₁ R n₀ n₁ poses count talls
-  pub stage : I ≤ talls
-  pub state₀ : 0 < I → s < stateCount R
-  pub state₁ : 0 < I → t < stateCount R
-  pub pose : 0 < I → l < poses
-  pub case : Case R talls poses I q₀ q₁ a
+pub record Leg (row₀ row₁ st path₀ path₁ : List ℕ) (z : Sizes) (n₁ I s t l q₀ q₁ a : ℕ) : Type 0 where
+  pub both : Both row₀ row₁ st path₀ path₁ z n₁
+  pub stage : I ≤ z .talls
+  pub state₀ : 0 < I → s < stateCount (z .reordering)
+  pub state₁ : 0 < I → t < stateCount (z .reordering)
+  pub pose : 0 < I → l < z .poses
+  pub case : Case (z .reordering) (z .talls) (z .poses) I q₀ q₁ a
 
 -- a case of stage I
-pub record Trace (line₀ line₁ states places₀ places₁ st path₀ path₁ : List ℕ) (R n₀ n₁ poses count talls I q₀ q₁ a : ℕ) : Type 0 where
-  pub both : Both line₀ line₁ states places₀ places₁ st path₀ path₁ R n₀ n₁ poses count talls
-  pub stage : I ≤ talls
-  pub case : Case R talls poses I q₀ q₁ a
+pub record Trace (row₀ row₁ st path₀ path₁ : List ℕ) (z : Sizes) (n₁ I q₀ q₁ a : ℕ) : Type 0 where
+  pub both : Both row₀ row₁ st path₀ path₁ z n₁
+  pub stage : I ≤ z .talls
+  pub case : Case (z .reordering) (z .talls) (z .poses) I q₀ q₁ a
 
 -- ---- what is left
 
@@ -89,3 +90,13 @@ module _ (D₀ D₁ : Deck) (R talls : ℕ) (pos₀ pos₁ : ℕ → ℕ) where
     pub long₀ : length path₀′ ≡ length path₀
     pub long₁ : length path₁′ ≡ length path₁
     pub done : Ways D₀ D₁ R talls pos₀ pos₁ st → caseTable D₀ D₁ R talls pos₀ pos₁ I q₀ q₁ a < B → TracedTo I q₀ q₁ a path₀ path₀′ path₁ path₁′
+
+-- ---- what is left, by the rows' words
+
+abbrev pub RowsLeg : List ℕ → List ℕ → Sizes → ℕ → ℕ → ℕ → ℕ → ℕ → ℕ → ℕ → ℕ → List ℕ → List ℕ → List ℕ → List ℕ → List ℕ → List ℕ → Type 0
+RowsLeg row₀ row₁ z n₁ =
+    LegDone (deckIn row₀ z) (deckIn row₁ (withCells z n₁)) (z .reordering) (z .talls) (posIn row₀) (posIn row₁)
+
+abbrev pub RowsTrace : List ℕ → List ℕ → Sizes → ℕ → ℕ → ℕ → ℕ → ℕ → List ℕ → List ℕ → List ℕ → List ℕ → List ℕ → List ℕ → Type 0
+RowsTrace row₀ row₁ z n₁ =
+    TraceDone (deckIn row₀ z) (deckIn row₁ (withCells z n₁)) (z .reordering) (z .talls) (posIn row₀) (posIn row₁)

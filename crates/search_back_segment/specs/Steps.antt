@@ -9,6 +9,7 @@ use borrow.Author.Tests.{le-leb, lt-leb, eqb-true}
 use lib.ListN.{length, set}
 use lib.Seq.{getD-set-same}
 use lib.Dec.{eqb}
+use Rattle.search_row.specs.declared.Sizes.{Sizes}
 use Rattle.theory_tables.specs.Steps.{B, Deck, Layer, stateCount, lastAt, nextLayer, layers, ends, costEnd}
 use Rattle.theory_tables.specs.Back.{Source, SegmentTraced, Last}
 use Rattle.theory_tables.specs.Notes.{NotedBy}
@@ -17,7 +18,7 @@ use Rattle.search_lanes.specs.Store.{Frame}
 use Rattle.search_buckets.specs.Next.{next-ext, ends-ext}
 use Rattle.search_dense_layer.specs.Kept.{keptIn, KeptLayers}
 use Rattle.search_dense_layer.specs.KeptLaws.{kept-fewer}
-use Rattle.search_row.specs.Words.{deckOf}
+use Rattle.search_row.specs.Words.{deckIn}
 use Rattle.search_back_segment.specs.Traces.{EntrySource, Entry, SegmentTrace, End, wordAt, SegmentTraceDone, EndDone, LastFound}
 
 -- ---- kept layers
@@ -34,7 +35,7 @@ kept-next {D} {R} {f} {i} {st = st} j q a h x y k =
 -- ---- a traceback
 
 -- an entry of a later layer
-pub trace-entry : {line states st path : List ℕ} {n poses R count i d q a : ℕ} → 0 < d → SegmentTrace line states st path n poses R count i d q a → Entry line states st n poses R count (i + (d - 1)) q a
+pub trace-entry : {row st path : List ℕ} {z : Sizes} {i d q a : ℕ} → 0 < d → SegmentTrace row st path z i d q a → Entry row st z (i + (d - 1)) q a
 trace-entry {st = st} {i = i} {d = d} {q = q} {a = a} h w =
     let e : i + d ≡ suc (i + (d - 1)) = omega arith in
     record {
@@ -48,8 +49,8 @@ trace-entry {st = st} {i = i} {d = d} {q = q} {a = a} h w =
     }
 
 -- the traceback from its source
-pub trace-rest : {line states st old new : List ℕ} {n poses R count i d q a p b : ℕ} → 0 < d → length new ≡ length old → SegmentTrace line states st old n poses R count i d q a
-    → EntrySource (deckOf line n poses) R st (i + (d - 1)) q a p b → SegmentTrace line states st new n poses R count i (d - 1) p b
+pub trace-rest : {row st old new : List ℕ} {z : Sizes} {i d q a p b : ℕ} → 0 < d → length new ≡ length old → SegmentTrace row st old z i d q a
+    → EntrySource (deckIn row z) (z .reordering) st (i + (d - 1)) q a p b → SegmentTrace row st new z i (d - 1) p b
 trace-rest {i = i} {d = d} h l w s =
     record {
       back = w .back;
@@ -169,10 +170,10 @@ pub end-closed : {D : Deck} {R : ℕ} {st : List ℕ} {i : ℕ} (path : List ℕ
 end-closed {D} {i = i} path h b = record { frame = frame-refl i (suc (D .size)) path; rowTraced = λ f e k l. absurd (omega (arith, end-kept f e h k)) }
 
 -- the traceback from where the least is found
-pub end-trace : {line states st path : List ℕ} {n poses R count i q b : ℕ} → i ≤ n → End line states st path n poses R count i → LastFound (deckOf line n poses) R (keptIn st n) q b
-    → keptIn st n q b < B → SegmentTrace line states st path n poses R count i (n - i) q b
-end-trace {st = st} {n = n} {i = i} {q = q} {b = b} h w l c =
-    let e : n ≡ i + (n - i) = omega arith in
+pub end-trace : {row st path : List ℕ} {z : Sizes} {i q b : ℕ} → i ≤ (z .cells) → End row st path z i → LastFound (deckIn row z) (z .reordering) (keptIn st (z .cells)) q b
+    → keptIn st (z .cells) q b < B → SegmentTrace row st path z i ((z .cells) - i) q b
+end-trace {st = st} {z = z} {i = i} {q = q} {b = b} h w l c =
+    let e : (z .cells) ≡ i + ((z .cells) - i) = omega arith in
     record {
       back = w .back;
       room = w .room;
@@ -181,6 +182,6 @@ end-trace {st = st} {n = n} {i = i} {q = q} {b = b} h w l c =
       state = l .state;
       pose = l .pose;
       first = w .first;
-      kept = kept-fewer (i + (n - i)) (omega arith) (w .kept);
+      kept = kept-fewer (i + ((z .cells) - i)) (omega arith) (w .kept);
       cost = subst (λ (j : ℕ). keptIn st j q b < B) e c;
     }

@@ -5,11 +5,12 @@ use mathlib.Core.Bool.{true, false, cond}
 use mathlib.Core.List.{List}
 use lib.ListN.{length, getD}
 use lib.Dec.{ltb}
+use Rattle.search_row.specs.declared.Sizes.{Sizes}
 use Rattle.theory_tables.specs.Steps.{B, Deck, Layer, stateCount, lastAt, isThere, isSource, nextLayer, ends, costEnd}
 use Rattle.theory_tables.specs.Back.{SegmentTraced, EndTraced}
 use Rattle.theory_tables.specs.Notes.{NotedBy}
 use Rattle.search_lanes.specs.Store.{Frame, Low}
-use Rattle.search_row.specs.Words.{tollIn, deckOf, Ground}
+use Rattle.search_row.specs.Words.{deckIn, tollIn, Ground}
 use Rattle.search_dense_layer.specs.Kept.{keptIn, KeptLayers}
 
 -- ---- searches
@@ -53,40 +54,40 @@ pub record EntrySource (D : Deck) (R : ℕ) (st : List ℕ) (i q a p b : ℕ) : 
 -- ---- what is given
 
 -- the kept layers of a row
-pub record Back (line states st : List ℕ) (n poses R count : ℕ) : Type 0 where
-  pub ground : Ground line states R n poses count
+pub record Back (row st : List ℕ) (z : Sizes) : Type 0 where
+  pub ground : Ground row z
   pub low : Low st
   pub long : 148992 ≤ length st
 
 -- an entry after layer i
-pub record Entry (line states st : List ℕ) (n poses R count i q a : ℕ) : Type 0 where
-  pub back : Back line states st n poses R count
+pub record Entry (row st : List ℕ) (z : Sizes) (i q a : ℕ) : Type 0 where
+  pub back : Back row st z
   pub some : 0 < i
   pub last : i < 66
-  pub state : q < stateCount R
-  pub pose : a < poses
+  pub state : q < stateCount (z .reordering)
+  pub pose : a < (z .poses)
   pub cost : keptIn st (suc i) q a < B
-  pub next : keptIn st (suc i) q a ≡ nextLayer (deckOf line n poses) R (keptIn st i) i q a
+  pub next : keptIn st (suc i) q a ≡ nextLayer (deckIn row z) (z .reordering) (keptIn st i) i q a
 
 -- an entry d layers on from the first of a segment, which has i cells; the layers are those from `first`
-pub record SegmentTrace (line states st path : List ℕ) (n poses R count i d q a : ℕ) : Type 0 where
-  pub back : Back line states st n poses R count
+pub record SegmentTrace (row st path : List ℕ) (z : Sizes) (i d q a : ℕ) : Type 0 where
+  pub back : Back row st z
   pub room : 67 ≤ length path
   pub some : 0 < i
   pub last : i + d ≤ 66
-  pub state : q < stateCount R
-  pub pose : a < poses
+  pub state : q < stateCount (z .reordering)
+  pub pose : a < (z .poses)
   pub first : Layer
-  pub kept : KeptLayers (deckOf line n poses) R first i (i + d) st
+  pub kept : KeptLayers (deckIn row z) (z .reordering) first i (i + d) st
   pub cost : keptIn st (i + d) q a < B
 
 -- the row's end, from a segment whose first layer has i cells
-pub record End (line states st path : List ℕ) (n poses R count i : ℕ) : Type 0 where
-  pub back : Back line states st n poses R count
+pub record End (row st path : List ℕ) (z : Sizes) (i : ℕ) : Type 0 where
+  pub back : Back row st z
   pub room : 67 ≤ length path
   pub some : 0 < i
   pub first : Layer
-  pub kept : KeptLayers (deckOf line n poses) R first i n st
+  pub kept : KeptLayers (deckIn row z) (z .reordering) first i (z .cells) st
 
 -- ---- what is left
 

@@ -8,19 +8,19 @@ use native.Mathlib.Decide.{decLt}
 use borrow.Author.Tests.{lt-ltb, le-ltb, leb-true}
 use lib.ListN.{length, getD}
 use lib.Dec.{ltb, leb, eqb}
+use Rattle.search_row.specs.declared.Sizes.{Sizes}
 use Rattle.theory_tables.specs.Steps.{B, Deck, Layer, stateCount, offset, marks, firstAfter, firstOpen, layers, costTo, costEnd}
 use Rattle.theory_tables.specs.Stages.{placedWith, stageEnd}
 use Rattle.theory_tables.specs.Back.{SegmentTraced, EndTraced}
 use Rattle.theory_tables.specs.Notes.{NotedBy}
 use Rattle.search_lanes.specs.Laws.{frame-refl, frame-join}
 use Rattle.search_lanes.specs.Store.{Frame, Low}
-use Rattle.search_row.specs.Words.{deckOf}
+use Rattle.search_row.specs.Words.{deckIn, posIn}
 use Rattle.search_dense_first.specs.Begun.{Begun}
 use Rattle.search_dense_layer.specs.Kept.{keptAt, keptIn, KeptLayers, Segment, SegmentKept}
 use Rattle.search_dense_layer.specs.KeptLaws.{kept-ext, kept-fewer}
 use Rattle.search_back_segment.specs.Traces.{Back, SegmentTrace, End, SegmentTraceDone, EndDone, wordAt}
 use Rattle.search_back_segment.specs.Steps.{end-full}
-use Rattle.search_stage.specs.Stage.{posIn}
 use Rattle.search_back_stage.specs.Rows.{startCells, startLayer, startEnd, costFrom, endPlace, Stage, Started, StageDone}
 
 -- ---- the start
@@ -107,90 +107,90 @@ end-last n R talls pos I q h = ap (λ t. cond t (placedWith R (pos I) q) n) (le-
 
 -- ---- a stage
 
-module _ {line states places st path : List ℕ} {n poses R count talls I s l q a : ℕ} (g : Stage line states places st path n poses R count talls I s l q a) where
+module _ {row st path : List ℕ} {z : Sizes} {I s l q a : ℕ} (g : Stage row st path z I s l q a) where
   abbrev D : Deck
-  D = deckOf line n poses
+  D = deckIn row z
 
   abbrev f : Layer
-  f = startLayer (deckOf line n poses) R (posIn places) I s l
+  f = startLayer (deckIn row z) (z .reordering) (posIn row) I s l
 
   abbrev pays : ℕ
-  pays = startEnd (deckOf line n poses) (posIn places) I l
+  pays = startEnd (deckIn row z) (posIn row) I l
 
   abbrev SegmentCosted : Type 0
-  SegmentCosted = costFrom (deckOf line n poses) R talls (posIn places) I s l q a < B
+  SegmentCosted = costFrom (deckIn row z) (z .reordering) (z .talls) (posIn row) I s l q a < B
 
   -- nothing is noted
-  none-noted : {new : List ℕ} → Frame 0 148992 st new → Low new → (SegmentCosted → ⊥) → StageDone (deckOf line n poses) R talls (posIn places) I s l q a st new path path
-  none-noted u w z = record { frame = u; low = w; notes = frame-refl (startCells R (posIn places) I s) (suc (endPlace n R talls (posIn places) I q)) path; rowTraced = λ c. absurd (z c) }
+  none-noted : {new : List ℕ} → Frame 0 148992 st new → Low new → (SegmentCosted → ⊥) → StageDone (deckIn row z) (z .reordering) (z .talls) (posIn row) I s l q a st new path path
+  none-noted u w none = record { frame = u; low = w; notes = frame-refl (startCells (z .reordering) (posIn row) I s) (suc (endPlace (z .cells) (z .reordering) (z .talls) (posIn row) I q)) path; rowTraced = λ c. absurd (none c) }
 
   -- the first layer has its place among those that are kept
-  start-fits : SegmentCosted → startCells R (posIn places) I s ≤ 66
-  start-fits c = go (decLt I talls)
+  start-fits : SegmentCosted → startCells (z .reordering) (posIn row) I s ≤ 66
+  start-fits c = go (decLt I (z .talls))
     where
-      size : n ≤ 64
-      size = g .start .row .ground .size
+      size : (z .cells) ≤ 64
+      size = g .start .given .ground .size
 
-      go : Dec (I < talls) → startCells R (posIn places) I s ≤ 66
+      go : Dec (I < (z .talls)) → startCells (z .reordering) (posIn row) I s ≤ 66
       go (yes h) =
-          let p = tall-cost D R talls (posIn places) I f (startCells R (posIn places) I s) pays q a h c in
-          omega (arith, p .0, g .start .row .inside I h, size, g .start .row .ground .coded .reorder)
+          let p = tall-cost D (z .reordering) (z .talls) (posIn row) I f (startCells (z .reordering) (posIn row) I s) pays q a h c in
+          omega (arith, p .0, g .start .given .inside I h, size, g .start .given .ground .coded .reorder)
       go (no h) =
-          let p = end-cost D R talls (posIn places) I f (startCells R (posIn places) I s) pays q a (omega arith) c in
-          omega (arith, size, end-bound D R f (startCells R (posIn places) I s) pays p)
+          let p = end-cost D (z .reordering) (z .talls) (posIn row) I f (startCells (z .reordering) (posIn row) I s) pays q a (omega arith) c in
+          omega (arith, size, end-bound D (z .reordering) f (startCells (z .reordering) (posIn row) I s) pays p)
 
-  pub start-late : 66 < startCells R (posIn places) I s → StageDone (deckOf line n poses) R talls (posIn places) I s l q a st st path path
+  pub start-late : 66 < startCells (z .reordering) (posIn row) I s → StageDone (deckIn row z) (z .reordering) (z .talls) (posIn row) I s l q a st st path path
   start-late h = none-noted (frame-refl 0 148992 st) (g .start .low) (λ c. omega (arith, start-fits c))
 
-  module _ {cells : ℕ} {mid : List ℕ} (w : Started (deckOf line n poses) R (posIn places) I s l cells st mid) (few : cells ≤ 66) where
+  module _ {cells : ℕ} {mid : List ℕ} (w : Started (deckIn row z) (z .reordering) (posIn row) I s l cells st mid) (few : cells ≤ 66) where
     some : 0 < cells
-    some = omega (arith, w .count, start-some R (posIn places) I s)
+    some = omega (arith, w .count, start-some (z .reordering) (posIn row) I s)
 
     -- the cost, from as many cells as were counted
-    cost : SegmentCosted → stageEnd D R talls (posIn places) I f cells pays q a < B
-    cost c = subst (λ (i : ℕ). stageEnd D R talls (posIn places) I f i pays q a < B) (sym (w .count)) c
+    cost : SegmentCosted → stageEnd D (z .reordering) (z .talls) (posIn row) I f cells pays q a < B
+    cost c = subst (λ (i : ℕ). stageEnd D (z .reordering) (z .talls) (posIn row) I f i pays q a < B) (sym (w .count)) c
 
     -- the first layer is the one that is kept
-    kept-start : {end : ℕ} {new : List ℕ} → KeptLayers D R (keptIn mid cells) cells end new → KeptLayers D R f cells end new
+    kept-start : {end : ℕ} {new : List ℕ} → KeptLayers D (z .reordering) (keptIn mid cells) cells end new → KeptLayers D (z .reordering) f cells end new
     kept-start k = kept-ext (keptIn mid cells) f (w .right) k
 
-    back : {new : List ℕ} → Low new → length new ≡ length mid → Back line states new n poses R count
-    back u e = record { ground = g .start .row .ground; low = u; long = omega (arith, g .start .long, w .frame .long) }
+    back : {new : List ℕ} → Low new → length new ≡ length mid → Back row new z
+    back u e = record { ground = g .start .given .ground; low = u; long = omega (arith, g .start .long, w .frame .long) }
 
-    segment : (end : ℕ) → end ≤ 66 → Segment line states mid n poses R count cells end
-    segment end k = record { ground = g .start .row .ground; low = w .low; long = omega (arith, g .start .long, w .frame .long); some = some; cells = few; last = k }
+    segment : (end : ℕ) → end ≤ 66 → Segment row mid z cells end
+    segment end k = record { ground = g .start .given .ground; low = w .low; long = omega (arith, g .start .long, w .frame .long); some = some; cells = few; last = k }
 
     store-kept : {new : List ℕ} → Frame 98304 148992 mid new → Frame 0 148992 st new
     store-kept u = frame-join 0 148992 (w .frame) u (omega arith) (omega arith) (omega arith) (omega arith)
 
     -- ---- to a tall cell
 
-    module _ (h : I < talls) {end : ℕ} (e : end ≡ placedWith R (posIn places I) q) where
-      tall-room : SegmentCosted → (cells + offset R q ≤ posIn places I + suc R) × (layers D R f cells (end - cells) q a < B)
+    module _ (h : I < (z .talls)) {end : ℕ} (e : end ≡ placedWith (z .reordering) (posIn row I) q) where
+      tall-room : SegmentCosted → (cells + offset (z .reordering) q ≤ posIn row I + suc (z .reordering)) × (layers D (z .reordering) f cells (end - cells) q a < B)
       tall-room c =
-          let p = tall-cost D R talls (posIn places) I f cells pays q a h (cost c) in
-          (p .0, subst (λ (j : ℕ). layers D R f cells (j - cells) q a < B) (sym e) (p .1))
+          let p = tall-cost D (z .reordering) (z .talls) (posIn row) I f cells pays q a h (cost c) in
+          (p .0, subst (λ (j : ℕ). layers D (z .reordering) f cells (j - cells) q a < B) (sym e) (p .1))
 
-      pub tall-late : end < cells → StageDone D R talls (posIn places) I s l q a st mid path path
+      pub tall-late : end < cells → StageDone D (z .reordering) (z .talls) (posIn row) I s l q a st mid path path
       tall-late o = none-noted (frame-join 0 148992 (frame-refl 0 148992 st) (w .frame) (omega arith) (omega arith) (omega arith) (omega arith)) (w .low) (λ c. omega (arith, tall-room c .0))
 
       pub end-low : end ≤ 66
-      end-low = let c = g .start .row .ground .coded .reorder in omega (arith, g .start .row .inside I h, g .start .row .ground .size)
+      end-low = let c = g .start .given .ground .coded .reorder in omega (arith, g .start .given .inside I h, g .start .given .ground .size)
 
-      pub tall-segment : Segment line states mid n poses R count cells end
+      pub tall-segment : Segment row mid z cells end
       tall-segment = segment end end-low
 
-      module _ (o : cells ≤ end) {new : List ℕ} (k : SegmentKept D R cells end mid new) where
-        tall-kept : KeptLayers D R f cells (cells + (end - cells)) new
+      module _ (o : cells ≤ end) {new : List ℕ} (k : SegmentKept D (z .reordering) cells end mid new) where
+        tall-kept : KeptLayers D (z .reordering) f cells (cells + (end - cells)) new
         tall-kept = kept-start (kept-fewer (cells + (end - cells)) (omega arith) (k .kept))
 
         tall-word : keptIn new (cells + (end - cells)) q a ≡ keptIn new end q a
         tall-word = ap (λ (j : ℕ). keptIn new j q a) (omega arith)
 
-        pub tall-none : B ≤ keptIn new end q a → StageDone D R talls (posIn places) I s l q a st new path path
+        pub tall-none : B ≤ keptIn new end q a → StageDone D (z .reordering) (z .talls) (posIn row) I s l q a st new path path
         tall-none b = none-noted (store-kept (k .frame)) (k .low) (λ c. omega (arith, tall-word, tall-kept .right (end - cells) q a (omega arith) (g .state h) (g .pose h), tall-room c .1))
 
-        pub tall-trace : keptIn new end q a < B → SegmentTrace line states new path n poses R count cells (end - cells) q a
+        pub tall-trace : keptIn new end q a < B → SegmentTrace row new path z cells (end - cells) q a
         tall-trace b =
             record {
               back = back (k .low) (k .frame .long);
@@ -204,48 +204,48 @@ module _ {line states places st path : List ℕ} {n poses R count talls I s l q 
               cost = omega (arith, tall-word);
             }
 
-        pub tall-done : {path′ : List ℕ} → SegmentTraceDone D R new cells (end - cells) q a path path′ → StageDone D R talls (posIn places) I s l q a st new path path′
+        pub tall-done : {path′ : List ℕ} → SegmentTraceDone D (z .reordering) new cells (end - cells) q a path path′ → StageDone D (z .reordering) (z .talls) (posIn row) I s l q a st new path path′
         tall-done {path′} d =
             record {
               frame = store-kept (k .frame);
               low = k .low;
-              notes = frame-join (startCells R (posIn places) I s) (suc (endPlace n R talls (posIn places) I q)) (frame-refl (startCells R (posIn places) I s) 0 path) (d .frame)
-                  (omega arith) (omega (arith, w .count)) (omega arith) (omega (arith, z));
+              notes = frame-join (startCells (z .reordering) (posIn row) I s) (suc (endPlace (z .cells) (z .reordering) (z .talls) (posIn row) I q)) (frame-refl (startCells (z .reordering) (posIn row) I s) 0 path) (d .frame)
+                  (omega arith) (omega (arith, w .count)) (omega arith) (omega (arith, last));
               rowTraced = λ c. record {
-                toTall = λ y. subst (λ (i : ℕ). (i + offset R q ≤ posIn places I + suc R) × SegmentTraced D R (NotedBy (wordAt path′)) f i (posIn places I + suc R - offset R q - i) q a) (w .count)
-                    (tall-room c .0, subst (λ (j : ℕ). SegmentTraced D R (NotedBy (wordAt path′)) f cells (j - cells) q a) e (d .rowTraced f tall-kept));
+                toTall = λ y. subst (λ (i : ℕ). (i + offset (z .reordering) q ≤ posIn row I + suc (z .reordering)) × SegmentTraced D (z .reordering) (NotedBy (wordAt path′)) f i (posIn row I + suc (z .reordering) - offset (z .reordering) q - i) q a) (w .count)
+                    (tall-room c .0, subst (λ (j : ℕ). SegmentTraced D (z .reordering) (NotedBy (wordAt path′)) f cells (j - cells) q a) e (d .rowTraced f tall-kept));
                 toEnd = λ y. absurd (omega arith);
               };
             }
           where
-            z : endPlace n R talls (posIn places) I q ≡ end
-            z = end-tall n R talls (posIn places) I q h ∙ sym e
+            last : endPlace (z .cells) (z .reordering) (z .talls) (posIn row) I q ≡ end
+            last = end-tall (z .cells) (z .reordering) (z .talls) (posIn row) I q h ∙ sym e
 
     -- ---- to the row's end
 
-    module _ (h : talls ≤ I) where
-      segmentCost : SegmentCosted → costEnd D R f cells pays < B
-      segmentCost c = end-cost D R talls (posIn places) I f cells pays q a h (cost c)
+    module _ (h : (z .talls) ≤ I) where
+      segmentCost : SegmentCosted → costEnd D (z .reordering) f cells pays < B
+      segmentCost c = end-cost D (z .reordering) (z .talls) (posIn row) I f cells pays q a h (cost c)
 
-      pub last-segment : Segment line states mid n poses R count cells n
-      last-segment = let z = g .start .row .ground .size in segment n (omega arith)
+      pub last-segment : Segment row mid z cells (z .cells)
+      last-segment = let size = g .start .given .ground .size in segment (z .cells) (omega arith)
 
-      module _ {new : List ℕ} (k : SegmentKept D R cells n mid new) where
-        pub last-trace : End line states new path n poses R count cells
+      module _ {new : List ℕ} (k : SegmentKept D (z .reordering) cells (z .cells) mid new) where
+        pub last-trace : End row new path z cells
         last-trace = record { back = back (k .low) (k .frame .long); room = g .room; some = some; first = f; kept = kept-start (k .kept) }
 
-        pub last-done : {path′ : List ℕ} → EndDone D R new cells path path′ → StageDone D R talls (posIn places) I s l q a st new path path′
+        pub last-done : {path′ : List ℕ} → EndDone D (z .reordering) new cells path path′ → StageDone D (z .reordering) (z .talls) (posIn row) I s l q a st new path path′
         last-done {path′} d =
             record {
               frame = store-kept (k .frame);
               low = k .low;
-              notes = frame-join (startCells R (posIn places) I s) (suc (endPlace n R talls (posIn places) I q)) (frame-refl (startCells R (posIn places) I s) 0 path) (d .frame)
-                  (omega arith) (omega (arith, w .count)) (omega arith) (omega (arith, z));
+              notes = frame-join (startCells (z .reordering) (posIn row) I s) (suc (endPlace (z .cells) (z .reordering) (z .talls) (posIn row) I q)) (frame-refl (startCells (z .reordering) (posIn row) I s) 0 path) (d .frame)
+                  (omega arith) (omega (arith, w .count)) (omega arith) (omega (arith, last));
               rowTraced = λ c. record {
                 toTall = λ y. absurd (omega arith);
-                toEnd = λ y. subst (λ (i : ℕ). EndTraced D R (NotedBy (wordAt path′)) f i pays) (w .count) (d .rowTraced f pays (kept-start (k .kept)) (segmentCost c));
+                toEnd = λ y. subst (λ (i : ℕ). EndTraced D (z .reordering) (NotedBy (wordAt path′)) f i pays) (w .count) (d .rowTraced f pays (kept-start (k .kept)) (segmentCost c));
               };
             }
           where
-            z : endPlace n R talls (posIn places) I q ≡ n
-            z = end-last n R talls (posIn places) I q h
+            last : endPlace (z .cells) (z .reordering) (z .talls) (posIn row) I q ≡ (z .cells)
+            last = end-last (z .cells) (z .reordering) (z .talls) (posIn row) I q h

@@ -5,13 +5,13 @@ use mathlib.Core.Bool.{cond}
 use mathlib.Core.List.{List}
 use lib.ListN.{length}
 use lib.Dec.{ltb}
+use Rattle.search_row.specs.declared.Sizes.{Sizes}
 use Rattle.theory_tables.specs.Steps.{B, Deck, Layer, stateCount, marks, firstAfter, firstOpen}
 use Rattle.theory_tables.specs.Stages.{placedWith, stageEnd}
 use Rattle.theory_tables.specs.Back.{StageTraced}
 use Rattle.theory_tables.specs.Notes.{NotedBy}
 use Rattle.search_lanes.specs.Store.{Frame, Low}
-use Rattle.search_row.specs.Words.{deckOf}
-use Rattle.search_stage.specs.Stage.{posIn, RowGiven}
+use Rattle.search_row.specs.Words.{RowGiven}
 use Rattle.search_dense_layer.specs.Kept.{keptIn}
 use Rattle.search_back_segment.specs.Traces.{wordAt}
 
@@ -42,20 +42,20 @@ endPlace n R talls pos I q = cond (ltb I talls) (placedWith R (pos I) q) n
 -- ---- what is given
 
 -- a start of stage I
-pub record Start (line states places st : List ℕ) (n poses R count talls I s l : ℕ) : Type 0 where
-  pub row : RowGiven line states places R n poses count talls
+pub record Start (row st : List ℕ) (z : Sizes) (I s l : ℕ) : Type 0 where
+  pub given : RowGiven row z
   pub low : Low st
   pub long : 148992 ≤ length st
-  pub stage : I ≤ talls
-  pub state : 0 < I → s < stateCount R
-  pub pose : 0 < I → l < poses
+  pub stage : I ≤ (z .talls)
+  pub state : 0 < I → s < stateCount (z .reordering)
+  pub pose : 0 < I → l < (z .poses)
 
 -- a stage to be walked: from state q in pose a of tall cell I, or from the row's end
-pub record Stage (line states places st path : List ℕ) (n poses R count talls I s l q a : ℕ) : Type 0 where
-  pub start : Start line states places st n poses R count talls I s l
+pub record Stage (row st path : List ℕ) (z : Sizes) (I s l q a : ℕ) : Type 0 where
+  pub start : Start row st z I s l
   pub room : 67 ≤ length path
-  pub state : I < talls → q < stateCount R
-  pub pose : I < talls → a < poses
+  pub state : I < z .talls → q < stateCount (z .reordering)
+  pub pose : I < z .talls → a < (z .poses)
 
 -- ---- what is left
 

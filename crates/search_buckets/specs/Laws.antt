@@ -14,7 +14,7 @@ use Rattle.lists.specs.Numbers.{from, in-from, from-in}
 use Rattle.theory_pair.specs.Coded.{lowest, lowest-low}
 use Rattle.theory_tables.specs.Steps.{B, Deck, Layer, stateCount, lastAt, isSource, via, reached}
 use Rattle.theory_tables.specs.Lowest.{lowest-member, lowest-above, loop-member, loop-above}
-use Rattle.search_row.specs.Words.{wordOf, variant, siteIn, endIn, differIn, weightIn, tollAt, tollIn, deckOf, LineWords}
+use Rattle.search_row.specs.Words.{wordOf, variant, siteIn, endIn, differIn, weightIn, tollAt, tollIn, deckOf, RowWords}
 use Rattle.search_row.specs.Laws.{differ-low, pay-low}
 use Rattle.search_buckets.specs.Loops.{lowest-cap, lowest-same, lowest-min, lowest-swap, lowest-none, lowest-more}
 use Rattle.search_buckets.specs.Gaps.{paying, paying-low, Toll, pays, free, barred, toll?}
@@ -167,7 +167,7 @@ module _ (line : List ℕ) (k b m : ℕ) where
       ∙ ap₂ (λ (w u : ℕ). w * differIn line k b m u) (sym e) x
       ∙ sym (pay-touching (1 + v) (omega arith) (omega arith))
 
-  pub pay-small : (v : ℕ) → LineWords line → payIn line k b m v ≤ B
+  pub pay-small : (v : ℕ) → RowWords line → payIn line k b m v ≤ B
   pay-small v w = go (decLt v 1) (decLt v 5)
     where
       go : Dec (v < 1) → Dec (v < 5) → payIn line k b m v ≤ B

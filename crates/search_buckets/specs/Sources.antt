@@ -14,7 +14,7 @@ use Rattle.theory_tables.specs.Lowest.{loop-above}
 use Rattle.lists.specs.Compare.{Eq?, same, differs, eq?}
 use Rattle.lists.specs.Numbers.{from}
 use Rattle.theory_pair.specs.Coded.{lowest, lowest-low}
-use Rattle.search_row.specs.Words.{wordOf, LineWords}
+use Rattle.search_row.specs.Words.{wordOf, RowWords}
 use Rattle.search_buckets.specs.Loops.{lowest-none, lowest-more, lowest-ext}
 use Rattle.search_buckets.specs.Rows.{inRow, bucketsIn, endRow, payIn, Pays, PaysLow, onePose, byPoses, oneState, byStates}
 use Rattle.search_buckets.specs.Laws.{pay-same, pay-small, pay-twin}
@@ -48,7 +48,7 @@ pub pays-row :
     → Pays line k m buckets (u * 9 + buckets) pays → buckets ≤ 9 → Pays line k m buckets (u * 9 + 9) pays
 pays-row {buckets = buckets} u w h = record { long = w .long; pay = λ j g c. w .pay j (omega arith) c }
 
-pub pays-low : {line pays : List ℕ} {k m buckets : ℕ} → LineWords line → Pays line k m buckets 36 pays → PaysLow buckets pays
+pub pays-low : {line pays : List ℕ} {k m buckets : ℕ} → RowWords line → Pays line k m buckets 36 pays → PaysLow buckets pays
 pays-low {line} {k = k} {m = m} w p = record { long = p .long; low = λ j h c. omega (arith, p .pay j h c, pay-small line k (j / 9) m (j % 9) w) }
 
 -- a source's pose in the buckets, from the words of what it pays

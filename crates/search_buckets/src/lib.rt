@@ -4,16 +4,16 @@
 ghost use mathlib.Core.Path.{_≡_};
 ghost use Prim.Native.Nat.{ℕ, _+_, _*_, _≤_, _<_};
 ghost use lib.ListN.{length};
-ghost use Rattle.search_row.specs.Words.{LineWords};
+ghost use Rattle.search_row.specs.Words.{RowWords};
 ghost use Rattle.search_buckets.specs.Rows.{rowsOf, bucketsIn, endRow, payIn, Pays};
 
 // The row in which pose b of the cell at position k counts for the cell at position m.
-pub fn end_row(line: &[u32], k: usize, b: usize, m: usize) -> usize
-    requires { ⌜ LineWords (now line) × (k < 64) × (b < 64) × (m < 64) ⌝ }
-    ensures { λ t. ⌜ t ≡ endRow (now (line .entry)) k b m ⌝ }
+pub fn end_row(row: &[u32], k: usize, b: usize, m: usize) -> usize
+    requires { ⌜ RowWords (now row) × (k < 64) × (b < 64) × (m < 64) ⌝ }
+    ensures { λ t. ⌜ t ≡ endRow (now (row .entry)) k b m ⌝ }
 {
-    let y = search_row::end(line, k, b) + 4;
-    let first = search_row::word(line, m * 128 + 64);
+    let y = search_row::end(row, k, b) + 4;
+    let first = search_row::word(row, m * 128 + 64);
     if y < first {
         return 0;
     }
@@ -29,50 +29,50 @@ pub fn rows_of(poses: usize) -> usize
 }
 
 // How many buckets the cell at position m needs: where all gaps that pay have one weight, those of gap 0 serve them all.
-pub fn buckets_of(line: &[u32], m: usize) -> usize
-    requires { ⌜ LineWords (now line) × (m < 64) ⌝ }
-    ensures { λ buckets. ⌜ buckets ≡ bucketsIn (now (line .entry)) m ⌝ }
+pub fn buckets_of(row: &[u32], m: usize) -> usize
+    requires { ⌜ RowWords (now row) × (m < 64) ⌝ }
+    ensures { λ buckets. ⌜ buckets ≡ bucketsIn (now (row .entry)) m ⌝ }
 {
-    if line[m * 128 + 84] == line[m * 128 + 86] {
+    if row[m * 128 + 84] == row[m * 128 + 86] {
         return 5;
     }
     9
 }
 
 // What variant u of the cell at position k pays in bucket v of the cell at position m.
-fn pay(line: &[u32], k: usize, u: usize, m: usize, v: usize) -> u32
-    requires { ⌜ LineWords (now line) × (k < 64) × (u < 4) × (m < 64) × (v < 9) ⌝ }
-    ensures { λ z. ⌜ z ≡ payIn (now (line .entry)) k u m v ⌝ }
+fn pay(row: &[u32], k: usize, u: usize, m: usize, v: usize) -> u32
+    requires { ⌜ RowWords (now row) × (k < 64) × (u < 4) × (m < 64) × (v < 9) ⌝ }
+    ensures { λ z. ⌜ z ≡ payIn (now (row .entry)) k u m v ⌝ }
 {
     if v == 0 {
         return 0;
     }
     if v < 5 {
-        return line[m * 128 + 84] * search_row::differ(line, k, u, m, v - 1);
+        return row[m * 128 + 84] * search_row::differ(row, k, u, m, v - 1);
     }
-    line[m * 128 + 86] * search_row::differ(line, k, u, m, v - 5)
+    row[m * 128 + 86] * search_row::differ(row, k, u, m, v - 5)
 }
 
 // What variant u pays in each of so many buckets, after the variants before it.
-fn pay_row(pays: &mut [u32; 36], line: &[u32], k: usize, u: usize, m: usize, buckets: usize)
-    requires { ⌜ LineWords (now line) × (k < 64) × (u < 4) × (m < 64) × (buckets ≤ 9) × Pays (now line) k m buckets (u * 9) (now pays) ⌝ }
-    ensures { λ _. ⌜ Pays (now (line .entry)) k m buckets (u * 9 + 9) (now (pays .exit)) ⌝ }
+fn pay_row(pays: &mut [u32; 36], row: &[u32], k: usize, u: usize, m: usize, buckets: usize)
+    requires { ⌜ RowWords (now row) × (k < 64) × (u < 4) × (m < 64) × (buckets ≤ 9) × Pays (now row) k m buckets (u * 9) (now pays) ⌝ }
+    ensures { λ _. ⌜ Pays (now (row .entry)) k m buckets (u * 9 + 9) (now (pays .exit)) ⌝ }
 {
     let mut v: usize = 0;
     while v < buckets {
-        pays[u * 9 + v] = pay(line, k, u, m, v);
+        pays[u * 9 + v] = pay(row, k, u, m, v);
         v += 1;
     }
 }
 
 // All of them, by variant and bucket.
-pub fn fill_pays(pays: &mut [u32; 36], line: &[u32], k: usize, m: usize, buckets: usize)
-    requires { ⌜ LineWords (now line) × (k < 64) × (m < 64) × (buckets ≤ 9) × (length (now pays) ≡ 36) ⌝ }
-    ensures { λ _. ⌜ Pays (now (line .entry)) k m buckets 36 (now (pays .exit)) ⌝ }
+pub fn fill_pays(pays: &mut [u32; 36], row: &[u32], k: usize, m: usize, buckets: usize)
+    requires { ⌜ RowWords (now row) × (k < 64) × (m < 64) × (buckets ≤ 9) × (length (now pays) ≡ 36) ⌝ }
+    ensures { λ _. ⌜ Pays (now (row .entry)) k m buckets 36 (now (pays .exit)) ⌝ }
 {
     let mut u: usize = 0;
     while u < 4 {
-        pay_row(pays, line, k, u, m, buckets);
+        pay_row(pays, row, k, u, m, buckets);
         u += 1;
     }
 }

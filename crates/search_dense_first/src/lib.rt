@@ -5,19 +5,20 @@ ghost use lib.ListN.{length};
 ghost use Rattle.theory_row.specs.Window.{start};
 ghost use Rattle.theory_tables.specs.Steps.{stateCount, marks, firstAfter, firstOpen};
 ghost use Rattle.search_lanes.specs.Store.{Low, Written};
-ghost use Rattle.search_row.specs.Words.{deckOf, StateWords, LineWords, Ground};
+ghost use Rattle.search_row.specs.Words.{deckIn, StateWords, RowWords, Ground};
 ghost use Rattle.search_dense_first.specs.Firsts.{startsAt};
 ghost use Rattle.search_dense_first.specs.Begun.{openPose, afterPose, Begun};
+use search_row::Sizes;
 
 // Whether state q, the last of i cells, can come first after marks m.
-pub fn starts(states: &[u32], n: usize, r: usize, i: usize, m: u32, q: usize) -> bool
-    requires { ⌜ StateWords r (now states) × (q < stateCount r) × (i ≤ 100) ⌝ }
-    ensures { λ t. ⌜ t ≡ startsAt n r i m q ⌝ }
+pub fn starts(row: &[u32], sizes: Sizes, i: usize, m: u32, q: usize) -> bool
+    requires { ⌜ StateWords (sizes .reordering) (now row) × (q < stateCount (sizes .reordering)) × (i ≤ 100) ⌝ }
+    ensures { λ t. ⌜ t ≡ startsAt (sizes .cells) (sizes .reordering) i m q ⌝ }
 {
-    if !search_row::is_there(states, n, r, i, q) {
+    if !search_row::is_there(row, sizes, i, q) {
         return false;
     }
-    m == states[q * 4 + 2]
+    m == row[8192 + q * 4 + 2]
 }
 
 // ---- at the row's start
@@ -37,14 +38,14 @@ pub fn start_marks(r: usize) -> u32
 }
 
 // The words of a state that can come first: the cell at position k, each pose with what it pays as the row's first.
-fn open_poses(store: &mut [u32], line: &[u32], at: usize, k: usize, poses: usize)
-    requires { ⌜ LineWords (now line) × Low (now store) × (at + poses ≤ length (now store)) × (k < 64) × (poses ≤ 60) ⌝ }
-    ensures { λ _. ⌜ Written (openPose (now (line .entry)) k) at poses (now (store .entry)) (now (store .exit)) ⌝ }
+fn open_poses(store: &mut [u32], row: &[u32], at: usize, k: usize, poses: usize)
+    requires { ⌜ RowWords (now row) × Low (now store) × (at + poses ≤ length (now store)) × (k < 64) × (poses ≤ 60) ⌝ }
+    ensures { λ _. ⌜ Written (openPose (now (row .entry)) k) at poses (now (store .entry)) (now (store .exit)) ⌝ }
 {
     let mut a: usize = 0;
     while a < poses {
         store[at + a] = search_lanes::least(
-            line[k * 128 + a] + search_row::front(line, k, a),
+            row[k * 128 + a] + search_row::front(row, k, a),
             search_lanes::NONE,
         );
         a += 1;
@@ -52,45 +53,26 @@ fn open_poses(store: &mut [u32], line: &[u32], at: usize, k: usize, poses: usize
 }
 
 // The words of state q.
-fn open_state(
-    store: &mut [u32],
-    line: &[u32],
-    states: &[u32],
-    n: usize,
-    poses: usize,
-    r: usize,
-    count: usize,
-    at: usize,
-    q: usize,
-)
-    requires { ⌜ Ground (now line) (now states) r n poses count × Low (now store) × (at + poses ≤ length (now store)) × (q < count) ⌝ }
-    ensures { λ _. ⌜ Written (firstOpen (deckOf (now (line .entry)) n poses) r q) at poses (now (store .entry)) (now (store .exit)) ⌝ }
+fn open_state(store: &mut [u32], row: &[u32], sizes: Sizes, at: usize, q: usize)
+    requires { ⌜ Ground (now row) sizes × Low (now store) × (at + sizes .poses ≤ length (now store)) × (q < sizes .states) ⌝ }
+    ensures { λ _. ⌜ Written (firstOpen (deckIn (now (row .entry)) sizes) (sizes .reordering) q) at (sizes .poses) (now (store .entry)) (now (store .exit)) ⌝ }
 {
-    if !starts(states, n, r, 1, start_marks(r), q) {
-        search_lanes::fill(store, at, poses, search_lanes::NONE);
+    if !starts(row, sizes, 1, start_marks(sizes.reordering), q) {
+        search_lanes::fill(store, at, sizes.poses, search_lanes::NONE);
         return;
     }
-    let k = search_row::last_at(states, r, 1, q);
-    open_poses(store, line, at, k, poses);
+    let k = search_row::last_at(row, sizes, 1, q);
+    open_poses(store, row, at, k, sizes.poses);
 }
 
 // The layer with one cell.
-pub fn open(
-    store: &mut [u32],
-    line: &[u32],
-    states: &[u32],
-    n: usize,
-    poses: usize,
-    r: usize,
-    count: usize,
-    to: usize,
-)
-    requires { ⌜ Ground (now line) (now states) r n poses count × Low (now store) × (to + 768 ≤ length (now store)) ⌝ }
-    ensures { λ _. ⌜ Begun (firstOpen (deckOf (now (line .entry)) n poses) r) poses count to (now (store .entry)) (now (store .exit)) ⌝ }
+pub fn open(store: &mut [u32], row: &[u32], sizes: Sizes, to: usize)
+    requires { ⌜ Ground (now row) sizes × Low (now store) × (to + 768 ≤ length (now store)) ⌝ }
+    ensures { λ _. ⌜ Begun (firstOpen (deckIn (now (row .entry)) sizes) (sizes .reordering)) (sizes .poses) (sizes .states) to (now (store .entry)) (now (store .exit)) ⌝ }
 {
     let mut q: usize = 0;
-    while q < count {
-        open_state(store, line, states, n, poses, r, count, to + q * 64, q);
+    while q < sizes.states {
+        open_state(store, row, sizes, to + q * 64, q);
         q += 1;
     }
 }
@@ -100,20 +82,20 @@ pub fn open(
 // The words of a state that can come first: the cell at position k, after pose l of the cell at position p.
 fn after_poses(
     store: &mut [u32],
-    line: &[u32],
+    row: &[u32],
     p: usize,
     l: usize,
     at: usize,
     k: usize,
     poses: usize,
 )
-    requires { ⌜ LineWords (now line) × Low (now store) × (p < 64) × (l < 60) × (at + poses ≤ length (now store)) × (k < 64) × (poses ≤ 60) ⌝ }
-    ensures { λ _. ⌜ Written (afterPose (now (line .entry)) p l k) at poses (now (store .entry)) (now (store .exit)) ⌝ }
+    requires { ⌜ RowWords (now row) × Low (now store) × (p < 64) × (l < 60) × (at + poses ≤ length (now store)) × (k < 64) × (poses ≤ 60) ⌝ }
+    ensures { λ _. ⌜ Written (afterPose (now (row .entry)) p l k) at poses (now (store .entry)) (now (store .exit)) ⌝ }
 {
     let mut a: usize = 0;
     while a < poses {
         store[at + a] = search_lanes::least(
-            line[k * 128 + a] + search_row::toll(line, p, l, k, a),
+            row[k * 128 + a] + search_row::toll(row, p, l, k, a),
             search_lanes::NONE,
         );
         a += 1;
@@ -123,12 +105,8 @@ fn after_poses(
 // The words of state q, after i cells with marks m.
 fn after_state(
     store: &mut [u32],
-    line: &[u32],
-    states: &[u32],
-    n: usize,
-    poses: usize,
-    r: usize,
-    count: usize,
+    row: &[u32],
+    sizes: Sizes,
     i: usize,
     m: u32,
     p: usize,
@@ -136,53 +114,35 @@ fn after_state(
     at: usize,
     q: usize,
 )
-    requires { ⌜ Ground (now line) (now states) r n poses count × Low (now store) × (i ≤ 67) × (p < 64) × (l < 60) × (at + poses ≤ length (now store)) × (q < count) ⌝ }
-    ensures { λ _. ⌜ Written (firstAfter (deckOf (now (line .entry)) n poses) r i m p l q) at poses (now (store .entry)) (now (store .exit)) ⌝ }
+    requires { ⌜ Ground (now row) sizes × Low (now store) × (i ≤ 67) × (p < 64) × (l < 60) × (at + sizes .poses ≤ length (now store)) × (q < sizes .states) ⌝ }
+    ensures { λ _. ⌜ Written (firstAfter (deckIn (now (row .entry)) sizes) (sizes .reordering) i m p l q) at (sizes .poses) (now (store .entry)) (now (store .exit)) ⌝ }
 {
-    if !starts(states, n, r, i + 1, m, q) {
-        search_lanes::fill(store, at, poses, search_lanes::NONE);
+    if !starts(row, sizes, i + 1, m, q) {
+        search_lanes::fill(store, at, sizes.poses, search_lanes::NONE);
         return;
     }
-    let k = search_row::last_at(states, r, i + 1, q);
-    after_poses(store, line, p, l, at, k, poses);
+    let k = search_row::last_at(row, sizes, i + 1, q);
+    after_poses(store, row, p, l, at, k, sizes.poses);
 }
 
 // The layer after the cell at position p in pose l, as state s, the last of i placed.
 pub fn after(
     store: &mut [u32],
-    line: &[u32],
-    states: &[u32],
-    n: usize,
-    poses: usize,
-    r: usize,
-    count: usize,
+    row: &[u32],
+    sizes: Sizes,
     i: usize,
     s: usize,
     p: usize,
     l: usize,
     to: usize,
 )
-    requires { ⌜ Ground (now line) (now states) r n poses count × Low (now store) × (to + 768 ≤ length (now store)) × (i ≤ 67) × (s < count) × (p < 64) × (l < 60) ⌝ }
-    ensures { λ _. ⌜ Begun (firstAfter (deckOf (now (line .entry)) n poses) r i (marks r s) p l) poses count to (now (store .entry)) (now (store .exit)) ⌝ }
+    requires { ⌜ Ground (now row) sizes × Low (now store) × (to + 768 ≤ length (now store)) × (i ≤ 67) × (s < sizes .states) × (p < 64) × (l < 60) ⌝ }
+    ensures { λ _. ⌜ Begun (firstAfter (deckIn (now (row .entry)) sizes) (sizes .reordering) i (marks (sizes .reordering) s) p l) (sizes .poses) (sizes .states) to (now (store .entry)) (now (store .exit)) ⌝ }
 {
-    let m = states[s * 4 + 1];
+    let m = row[8192 + s * 4 + 1];
     let mut q: usize = 0;
-    while q < count {
-        after_state(
-            store,
-            line,
-            states,
-            n,
-            poses,
-            r,
-            count,
-            i,
-            m,
-            p,
-            l,
-            to + q * 64,
-            q,
-        );
+    while q < sizes.states {
+        after_state(store, row, sizes, i, m, p, l, to + q * 64, q);
         q += 1;
     }
 }

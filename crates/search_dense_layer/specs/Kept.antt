@@ -3,6 +3,7 @@ use Prim.Native.Nat.{ℕ, _+_, _*_, _≤_, _<_}
 use mathlib.Core.Path.{_≡_}
 use mathlib.Core.List.{List}
 use lib.ListN.{length}
+use Rattle.search_row.specs.declared.Sizes.{Sizes}
 use Rattle.theory_tables.specs.Steps.{Deck, Layer, stateCount, layers}
 use Rattle.search_lanes.specs.Store.{Frame, Low}
 use Rattle.search_row.specs.Words.{Ground}
@@ -20,8 +21,8 @@ pub record KeptLayers (D : Deck) (R : ℕ) (f : Layer) (i end : ℕ) (st : List 
   pub right : (j q a : ℕ) → i + j ≤ end → q < stateCount R → a < D .poses → keptIn st (i + j) q a ≡ layers D R f i j q a
 
 -- what keeping a segment is given: its first layer has i cells
-pub record Segment (line states st : List ℕ) (n poses R count i end : ℕ) : Type 0 where
-  pub ground : Ground line states R n poses count
+pub record Segment (row st : List ℕ) (z : Sizes) (i end : ℕ) : Type 0 where
+  pub ground : Ground row z
   pub low : Low st
   pub long : 148992 ≤ length st
   pub some : 0 < i

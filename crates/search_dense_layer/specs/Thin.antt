@@ -6,12 +6,13 @@ use mathlib.Core.Bool.{cond}
 use mathlib.Core.List.{List}
 use lib.ListN.{length, getD}
 use lib.Dec.{eqb}
+use Rattle.search_row.specs.declared.Sizes.{Sizes}
 use Rattle.lists.specs.Numbers.{from}
 use Rattle.theory_pair.specs.Coded.{lowest}
 use Rattle.theory_tables.specs.Steps.{B, Deck, Layer, nextLayer}
 use Rattle.search_lanes.specs.Lanes.{Lowered}
 use Rattle.search_lanes.specs.Store.{Frame, Low}
-use Rattle.search_row.specs.Words.{wordOf, LineWords, Ground}
+use Rattle.search_row.specs.Words.{wordOf, RowWords, Ground}
 use Rattle.search_buckets.specs.Rows.{inRow}
 
 -- the layer whose block begins at `at`
@@ -54,7 +55,7 @@ spreadOf t x pays u v s = inRow t s (x + getD pays (u * 9 + v) 0)
 
 -- the cell at position k, whose words begin at `at`, for the cell at position m
 pub record ThinSource (st line : List ℕ) (at k m : ℕ) : Type 0 where
-  pub words : LineWords line
+  pub words : RowWords line
   pub low : Low st
   pub room : at + 64 ≤ length st
   pub left : k < 64
@@ -93,8 +94,8 @@ foundFour line near apart far k e v = foundOf line near apart far k (e * 4 + v)
 -- ---- a layer from the layer before
 
 -- a layer with i cells in the block at `at`, and room for the next
-pub record ThinGiven (line states st : List ℕ) (n poses R count i at : ℕ) : Type 0 where
-  pub ground : Ground line states R n poses count
+pub record ThinGiven (row st : List ℕ) (z : Sizes) (i at : ℕ) : Type 0 where
+  pub ground : Ground row z
   pub low : Low st
   pub early : i ≤ 67
   pub room : at + 1536 ≤ length st

@@ -6,11 +6,12 @@ ghost use lib.ListN.{length, getD};
 ghost use Rattle.theory_tables.specs.Steps.{B, lastAt};
 ghost use Rattle.search_lanes.specs.Lanes.{Lowered};
 ghost use Rattle.search_lanes.specs.Store.{Low, Written};
-ghost use Rattle.search_row.specs.Words.{deckOf, LineWords, Ground};
+ghost use Rattle.search_row.specs.Words.{deckIn, RowWords, Ground};
 ghost use Rattle.search_buckets.specs.Next.{Target};
 ghost use Rattle.search_buckets.specs.Rows.{bucketsIn, Pays, PaysLow, onePose, byPoses, oneState, byStates};
 ghost use Rattle.search_dense_layer.specs.Thin.{thinIn, posesAt, fourOf, spreadOf, Arrays, ThinGathered, ThinSource, FarRunUp, foundBy, foundOf, foundFour, otherOf, ThinGiven, Put, Stepped};
 ghost use Rattle.search_dense_layer.specs.Kept.{keptAt, Segment, SegmentKept};
+use search_row::Sizes;
 
 // ---- one source
 
@@ -54,7 +55,7 @@ fn from_pose(
     apart: &mut [u32; 76],
     far: &mut [u32; 19],
     store: &[u32],
-    line: &[u32],
+    row: &[u32],
     pays: &[u32; 36],
     at: usize,
     k: usize,
@@ -62,14 +63,14 @@ fn from_pose(
     b: usize,
     buckets: usize,
 )
-    requires { ⌜ Arrays (now near) (now apart) (now far) × ThinSource (now store) (now line) at k m × Pays (now line) k m buckets 36 (now pays) × (b < 60) × (5 ≤ buckets) × (buckets ≤ 9) ⌝ }
-    ensures { λ _. ⌜ ThinGathered (onePose (now (line .entry)) k m b (posesAt (now (store .entry)) at b)) buckets (now (near .entry)) (now (near .exit)) (now (apart .entry)) (now (apart .exit)) (now (far .entry)) (now (far .exit)) ⌝ }
+    requires { ⌜ Arrays (now near) (now apart) (now far) × ThinSource (now store) (now row) at k m × Pays (now row) k m buckets 36 (now pays) × (b < 60) × (5 ≤ buckets) × (buckets ≤ 9) ⌝ }
+    ensures { λ _. ⌜ ThinGathered (onePose (now (row .entry)) k m b (posesAt (now (store .entry)) at b)) buckets (now (near .entry)) (now (near .exit)) (now (apart .entry)) (now (apart .exit)) (now (far .entry)) (now (far .exit)) ⌝ }
 {
     let x = store[at + b];
     if x >= search_lanes::NONE {
         return;
     }
-    let t = search_buckets::end_row(line, k, b, m);
+    let t = search_buckets::end_row(row, k, b, m);
     if t >= 19 {
         return;
     }
@@ -82,7 +83,7 @@ fn from_poses(
     apart: &mut [u32; 76],
     far: &mut [u32; 19],
     store: &[u32],
-    line: &[u32],
+    row: &[u32],
     pays: &[u32; 36],
     at: usize,
     k: usize,
@@ -90,12 +91,12 @@ fn from_poses(
     poses: usize,
     buckets: usize,
 )
-    requires { ⌜ Arrays (now near) (now apart) (now far) × ThinSource (now store) (now line) at k m × Pays (now line) k m buckets 36 (now pays) × (poses ≤ 60) × (5 ≤ buckets) × (buckets ≤ 9) ⌝ }
-    ensures { λ _. ⌜ ThinGathered (byPoses (now (line .entry)) k m (posesAt (now (store .entry)) at) poses) buckets (now (near .entry)) (now (near .exit)) (now (apart .entry)) (now (apart .exit)) (now (far .entry)) (now (far .exit)) ⌝ }
+    requires { ⌜ Arrays (now near) (now apart) (now far) × ThinSource (now store) (now row) at k m × Pays (now row) k m buckets 36 (now pays) × (poses ≤ 60) × (5 ≤ buckets) × (buckets ≤ 9) ⌝ }
+    ensures { λ _. ⌜ ThinGathered (byPoses (now (row .entry)) k m (posesAt (now (store .entry)) at) poses) buckets (now (near .entry)) (now (near .exit)) (now (apart .entry)) (now (apart .exit)) (now (far .entry)) (now (far .exit)) ⌝ }
 {
     let mut b: usize = 0;
     while b < poses {
-        from_pose(near, apart, far, store, line, pays, at, k, m, b, buckets);
+        from_pose(near, apart, far, store, row, pays, at, k, m, b, buckets);
         b += 1;
     }
 }
@@ -126,19 +127,19 @@ fn found(near: &[u32; 76], apart: &[u32; 76], far: &[u32; 19], e: usize, v: usiz
 // What the four poses at site e of the cell at position k find, with the cell's own cost, capped. A pose that is not offered comes out NONE.
 fn found_four(
     words: &mut [u32; 4],
-    line: &[u32],
+    row: &[u32],
     near: &[u32; 76],
     apart: &[u32; 76],
     far: &[u32; 19],
     k: usize,
     e: usize,
 )
-    requires { ⌜ Arrays (now near) (now apart) (now far) × LineWords (now line) × Low (now words) × (length (now words) ≡ 4) × (k < 64) × (e < 15) ⌝ }
-    ensures { λ _. ⌜ Written (foundFour (now (line .entry)) (now (near .entry)) (now (apart .entry)) (now (far .entry)) k e) 0 4 (now (words .entry)) (now (words .exit)) ⌝ }
+    requires { ⌜ Arrays (now near) (now apart) (now far) × RowWords (now row) × Low (now words) × (length (now words) ≡ 4) × (k < 64) × (e < 15) ⌝ }
+    ensures { λ _. ⌜ Written (foundFour (now (row .entry)) (now (near .entry)) (now (apart .entry)) (now (far .entry)) k e) 0 4 (now (words .entry)) (now (words .exit)) ⌝ }
 {
     let mut v: usize = 0;
     while v < 4 {
-        let x = line[k * 128 + (e * 4 + v)] + found(near, apart, far, e, v);
+        let x = row[k * 128 + (e * 4 + v)] + found(near, apart, far, e, v);
         words[v] = search_lanes::lesser(x, search_lanes::NONE);
         v += 1;
     }
@@ -147,7 +148,7 @@ fn found_four(
 // They are written once all four are found, so that nothing written can be read again.
 fn put_four(
     store: &mut [u32],
-    line: &[u32],
+    row: &[u32],
     near: &[u32; 76],
     apart: &[u32; 76],
     far: &[u32; 19],
@@ -155,11 +156,11 @@ fn put_four(
     k: usize,
     e: usize,
 )
-    requires { ⌜ Arrays (now near) (now apart) (now far) × LineWords (now line) × Low (now store) × (to + 64 ≤ length (now store)) × (k < 64) × (e < 15) ⌝ }
-    ensures { λ _. ⌜ Written (foundFour (now (line .entry)) (now (near .entry)) (now (apart .entry)) (now (far .entry)) k e) (to + e * 4) 4 (now (store .entry)) (now (store .exit)) ⌝ }
+    requires { ⌜ Arrays (now near) (now apart) (now far) × RowWords (now row) × Low (now store) × (to + 64 ≤ length (now store)) × (k < 64) × (e < 15) ⌝ }
+    ensures { λ _. ⌜ Written (foundFour (now (row .entry)) (now (near .entry)) (now (apart .entry)) (now (far .entry)) k e) (to + e * 4) 4 (now (store .entry)) (now (store .exit)) ⌝ }
 {
     let mut words = [0u32; 4];
-    found_four(&mut words, line, near, apart, far, k, e);
+    found_four(&mut words, row, near, apart, far, k, e);
     let mut v: usize = 0;
     while v < 4 {
         store[to + e * 4 + v] = words[v];
@@ -170,7 +171,7 @@ fn put_four(
 // All poses of the cell at position k, four at a time.
 fn put(
     store: &mut [u32],
-    line: &[u32],
+    row: &[u32],
     near: &[u32; 76],
     apart: &[u32; 76],
     far: &[u32; 19],
@@ -178,12 +179,12 @@ fn put(
     k: usize,
     poses: usize,
 )
-    requires { ⌜ Arrays (now near) (now apart) (now far) × LineWords (now line) × Low (now store) × (to + 64 ≤ length (now store)) × (k < 64) × (poses ≤ 60) ⌝ }
-    ensures { λ _. ⌜ Written (foundOf (now (line .entry)) (now (near .entry)) (now (apart .entry)) (now (far .entry)) k) to ((poses + 3) / 4 * 4) (now (store .entry)) (now (store .exit)) ⌝ }
+    requires { ⌜ Arrays (now near) (now apart) (now far) × RowWords (now row) × Low (now store) × (to + 64 ≤ length (now store)) × (k < 64) × (poses ≤ 60) ⌝ }
+    ensures { λ _. ⌜ Written (foundOf (now (row .entry)) (now (near .entry)) (now (apart .entry)) (now (far .entry)) k) to ((poses + 3) / 4 * 4) (now (store .entry)) (now (store .exit)) ⌝ }
 {
     let mut e: usize = 0;
     while e * 4 < poses {
-        put_four(store, line, near, apart, far, to, k, e);
+        put_four(store, row, near, apart, far, to, k, e);
         e += 1;
     }
 }
@@ -191,7 +192,7 @@ fn put(
 // As many buckets as are needed: where one weight serves for all gaps, the buckets of gap 0 do for the others.
 fn put_found(
     store: &mut [u32],
-    line: &[u32],
+    row: &[u32],
     near: &[u32; 76],
     apart: &[u32; 76],
     far: &[u32; 19],
@@ -200,14 +201,14 @@ fn put_found(
     poses: usize,
     buckets: usize,
 )
-    requires { ⌜ Arrays (now near) (now apart) (now far) × LineWords (now line) × Low (now store) × (to + 64 ≤ length (now store)) × (k < 64) × (poses ≤ 60) ⌝ }
-    ensures { λ _. ⌜ Written (foundOf (now (line .entry)) (now (near .entry)) (otherOf buckets (now (near .entry)) (now (apart .entry))) (now (far .entry)) k) to ((poses + 3) / 4 * 4) (now (store .entry)) (now (store .exit)) ⌝ }
+    requires { ⌜ Arrays (now near) (now apart) (now far) × RowWords (now row) × Low (now store) × (to + 64 ≤ length (now store)) × (k < 64) × (poses ≤ 60) ⌝ }
+    ensures { λ _. ⌜ Written (foundOf (now (row .entry)) (now (near .entry)) (otherOf buckets (now (near .entry)) (now (apart .entry))) (now (far .entry)) k) to ((poses + 3) / 4 * 4) (now (store .entry)) (now (store .exit)) ⌝ }
 {
     if buckets == 9 {
-        put(store, line, near, apart, far, to, k, poses);
+        put(store, row, near, apart, far, to, k, poses);
         return;
     }
-    put(store, line, near, near, far, to, k, poses);
+    put(store, row, near, near, far, to, k, poses);
 }
 
 // ---- one layer
@@ -218,40 +219,36 @@ fn from_source(
     apart: &mut [u32; 76],
     far: &mut [u32; 19],
     store: &[u32],
-    line: &[u32],
-    states: &[u32],
-    n: usize,
-    poses: usize,
-    r: usize,
-    count: usize,
+    row: &[u32],
+    sizes: Sizes,
     i: usize,
     from: usize,
     q: usize,
     p: usize,
 )
-    requires { ⌜ Arrays (now near) (now apart) (now far) × ThinGiven (now line) (now states) (now store) n poses r count i from × Target n r i q × (p < count) ⌝ }
-    ensures { λ _. ⌜ ThinGathered (oneState (now (line .entry)) (deckOf (now (line .entry)) n poses) r (thinIn (now (store .entry)) from) i q p) (bucketsIn (now (line .entry)) (lastAt r (suc i) q)) (now (near .entry)) (now (near .exit)) (now (apart .entry)) (now (apart .exit)) (now (far .entry)) (now (far .exit)) ⌝ }
+    requires { ⌜ Arrays (now near) (now apart) (now far) × ThinGiven (now row) (now store) sizes i from × Target (sizes .cells) (sizes .reordering) i q × (p < sizes .states) ⌝ }
+    ensures { λ _. ⌜ ThinGathered (oneState (now (row .entry)) (deckIn (now (row .entry)) sizes) (sizes .reordering) (thinIn (now (store .entry)) from) i q p) (bucketsIn (now (row .entry)) (lastAt (sizes .reordering) (suc i) q)) (now (near .entry)) (now (near .exit)) (now (apart .entry)) (now (apart .exit)) (now (far .entry)) (now (far .exit)) ⌝ }
 {
-    if !search_row::is_source(line, states, n, r, i, q, p) {
+    if !search_row::is_source(row, sizes, i, q, p) {
         return;
     }
-    let k = search_row::last_at(states, r, i, p);
-    let m = search_row::last_at(states, r, i + 1, q);
-    let buckets = search_buckets::buckets_of(line, m);
+    let k = search_row::last_at(row, sizes, i, p);
+    let m = search_row::last_at(row, sizes, i + 1, q);
+    let buckets = search_buckets::buckets_of(row, m);
     let mut pay = [0u32; 36];
-    search_buckets::fill_pays(&mut pay, line, k, m, buckets);
+    search_buckets::fill_pays(&mut pay, row, k, m, buckets);
     let at = from + p * 64;
     from_poses(
         near,
         apart,
         far,
         store,
-        line,
+        row,
         &pay,
         at,
         k,
         m,
-        poses,
+        sizes.poses,
         buckets,
     );
 }
@@ -262,59 +259,29 @@ fn gather(
     apart: &mut [u32; 76],
     far: &mut [u32; 19],
     store: &[u32],
-    line: &[u32],
-    states: &[u32],
-    n: usize,
-    poses: usize,
-    r: usize,
-    count: usize,
+    row: &[u32],
+    sizes: Sizes,
     i: usize,
     from: usize,
     q: usize,
 )
-    requires { ⌜ Arrays (now near) (now apart) (now far) × ThinGiven (now line) (now states) (now store) n poses r count i from × Target n r i q ⌝ }
-    ensures { λ _. ⌜ ThinGathered (byStates (now (line .entry)) (deckOf (now (line .entry)) n poses) r (thinIn (now (store .entry)) from) i q count) (bucketsIn (now (line .entry)) (lastAt r (suc i) q)) (now (near .entry)) (now (near .exit)) (now (apart .entry)) (now (apart .exit)) (now (far .entry)) (now (far .exit)) ⌝ }
+    requires { ⌜ Arrays (now near) (now apart) (now far) × ThinGiven (now row) (now store) sizes i from × Target (sizes .cells) (sizes .reordering) i q ⌝ }
+    ensures { λ _. ⌜ ThinGathered (byStates (now (row .entry)) (deckIn (now (row .entry)) sizes) (sizes .reordering) (thinIn (now (store .entry)) from) i q (sizes .states)) (bucketsIn (now (row .entry)) (lastAt (sizes .reordering) (suc i) q)) (now (near .entry)) (now (near .exit)) (now (apart .entry)) (now (apart .exit)) (now (far .entry)) (now (far .exit)) ⌝ }
 {
     let mut p: usize = 0;
-    while p < count {
-        from_source(
-            near,
-            apart,
-            far,
-            store,
-            line,
-            states,
-            n,
-            poses,
-            r,
-            count,
-            i,
-            from,
-            q,
-            p,
-        );
+    while p < sizes.states {
+        from_source(near, apart, far, store, row, sizes, i, from, q, p);
         p += 1;
     }
 }
 
 // The words of state q, whose cell is there: its sources gathered, then what each pose finds.
-fn target_there(
-    store: &mut [u32],
-    line: &[u32],
-    states: &[u32],
-    n: usize,
-    poses: usize,
-    r: usize,
-    count: usize,
-    i: usize,
-    from: usize,
-    q: usize,
-)
-    requires { ⌜ ThinGiven (now line) (now states) (now store) n poses r count i from × Target n r i q ⌝ }
-    ensures { λ _. ⌜ Put (deckOf (now (line .entry)) n poses) r i from q (now (store .entry)) (now (store .exit)) ⌝ }
+fn target_there(store: &mut [u32], row: &[u32], sizes: Sizes, i: usize, from: usize, q: usize)
+    requires { ⌜ ThinGiven (now row) (now store) sizes i from × Target (sizes .cells) (sizes .reordering) i q ⌝ }
+    ensures { λ _. ⌜ Put (deckIn (now (row .entry)) sizes) (sizes .reordering) i from q (now (store .entry)) (now (store .exit)) ⌝ }
 {
-    let m = search_row::last_at(states, r, i + 1, q);
-    let buckets = search_buckets::buckets_of(line, m);
+    let m = search_row::last_at(row, sizes, i + 1, q);
+    let buckets = search_buckets::buckets_of(row, m);
     let mut near = [search_lanes::NONE; 76];
     let mut apart = [search_lanes::NONE; 76];
     let mut far = [search_lanes::NONE; 19];
@@ -323,62 +290,37 @@ fn target_there(
         &mut apart,
         &mut far,
         store,
-        line,
-        states,
-        n,
-        poses,
-        r,
-        count,
+        row,
+        sizes,
         i,
         from,
         q,
     );
     run_up(&mut far);
     let to = from + 768 + q * 64;
-    put_found(store, line, &near, &apart, &far, to, m, poses, buckets);
+    put_found(store, row, &near, &apart, &far, to, m, sizes.poses, buckets);
 }
 
 // The words of state q: all NONE if the row has no such cell.
-fn put_state(
-    store: &mut [u32],
-    line: &[u32],
-    states: &[u32],
-    n: usize,
-    poses: usize,
-    r: usize,
-    count: usize,
-    i: usize,
-    from: usize,
-    q: usize,
-)
-    requires { ⌜ ThinGiven (now line) (now states) (now store) n poses r count i from × (q < count) ⌝ }
-    ensures { λ _. ⌜ Put (deckOf (now (line .entry)) n poses) r i from q (now (store .entry)) (now (store .exit)) ⌝ }
+fn put_state(store: &mut [u32], row: &[u32], sizes: Sizes, i: usize, from: usize, q: usize)
+    requires { ⌜ ThinGiven (now row) (now store) sizes i from × (q < sizes .states) ⌝ }
+    ensures { λ _. ⌜ Put (deckIn (now (row .entry)) sizes) (sizes .reordering) i from q (now (store .entry)) (now (store .exit)) ⌝ }
 {
-    if !search_row::is_there(states, n, r, i + 1, q) {
+    if !search_row::is_there(row, sizes, i + 1, q) {
         search_lanes::fill(store, from + 768 + q * 64, 64, search_lanes::NONE);
         return;
     }
-    target_there(store, line, states, n, poses, r, count, i, from, q);
+    target_there(store, row, sizes, i, from, q);
 }
 
 // The layer with one cell more than the layer at `from`, which has i, to the block after it.
-pub fn step(
-    store: &mut [u32],
-    line: &[u32],
-    states: &[u32],
-    n: usize,
-    poses: usize,
-    r: usize,
-    count: usize,
-    i: usize,
-    from: usize,
-)
-    requires { ⌜ Ground (now line) (now states) r n poses count × Low (now store) × (i ≤ 67) × (from + 1536 ≤ length (now store)) ⌝ }
-    ensures { λ _. ⌜ Stepped (deckOf (now (line .entry)) n poses) r count i from (now (store .entry)) (now (store .exit)) ⌝ }
+pub fn step(store: &mut [u32], row: &[u32], sizes: Sizes, i: usize, from: usize)
+    requires { ⌜ Ground (now row) sizes × Low (now store) × (i ≤ 67) × (from + 1536 ≤ length (now store)) ⌝ }
+    ensures { λ _. ⌜ Stepped (deckIn (now (row .entry)) sizes) (sizes .reordering) (sizes .states) i from (now (store .entry)) (now (store .exit)) ⌝ }
 {
     let mut q: usize = 0;
-    while q < count {
-        put_state(store, line, states, n, poses, r, count, i, from, q);
+    while q < sizes.states {
+        put_state(store, row, sizes, i, from, q);
         q += 1;
     }
 }
@@ -394,24 +336,14 @@ pub fn kept_at(i: usize) -> usize
 }
 
 // All layers of a segment from its first, layer i, which is in its place, up to layer `end`.
-pub fn segment_kept(
-    store: &mut [u32],
-    line: &[u32],
-    states: &[u32],
-    n: usize,
-    poses: usize,
-    r: usize,
-    count: usize,
-    i: usize,
-    end: usize,
-)
-    requires { ⌜ Segment (now line) (now states) (now store) n poses r count i end ⌝ }
-    ensures { λ _. ⌜ SegmentKept (deckOf (now (line .entry)) n poses) r i end (now (store .entry)) (now (store .exit)) ⌝ }
+pub fn segment_kept(store: &mut [u32], row: &[u32], sizes: Sizes, i: usize, end: usize)
+    requires { ⌜ Segment (now row) (now store) sizes i end ⌝ }
+    ensures { λ _. ⌜ SegmentKept (deckIn (now (row .entry)) sizes) (sizes .reordering) i end (now (store .entry)) (now (store .exit)) ⌝ }
 {
     let mut j: usize = 0;
     while i + j < end {
         let from = kept_at(i + j);
-        step(store, line, states, n, poses, r, count, i + j, from);
+        step(store, row, sizes, i + j, from);
         j += 1;
     }
 }

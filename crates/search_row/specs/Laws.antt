@@ -10,7 +10,7 @@ use lib.ListN.{getD}
 use lib.Dec.{leb, ltb, eqb}
 use Rattle.definition.specs.Cost.{charges, charge}
 use Rattle.theory_tables.specs.Steps.{B, offset, lastAt, isSource}
-use Rattle.search_row.specs.Words.{wordOf, weightIn, differIn, siteIn, endIn, tollIn, frontIn, backIn, deckOf, thereIn, LineWords}
+use Rattle.search_row.specs.Words.{wordOf, weightIn, differIn, siteIn, endIn, tollIn, frontIn, backIn, deckOf, thereIn, RowWords}
 
 pub charge-low : (gap : ℕ) → charge gap ≤ 1
 charge-low gap = go (min gap 4) (omega arith)
@@ -42,10 +42,10 @@ pay-low p q = mul-le-mul p q
 pub charged-low : {c x : ℕ} → c ≤ 1 → x ≤ 262144 → c * x ≤ 262144
 charged-low p q = mul-le-mul p q
 
-pub weight-low : {line : List ℕ} (m gap : ℕ) → LineWords line → weightIn line m gap ≤ 131072
+pub weight-low : {line : List ℕ} (m gap : ℕ) → RowWords line → weightIn line m gap ≤ 131072
 weight-low {line} m gap w = cond-low (eqb gap 0) {x = wordOf line m 84} {y = wordOf line m 86} (w .weight m) (w .filled m)
 
-pub toll-low : {line : List ℕ} (k b m a : ℕ) → LineWords line → tollIn line k b m a ≤ B
+pub toll-low : {line : List ℕ} (k b m a : ℕ) → RowWords line → tollIn line k b m a ≤ B
 unfolding tollIn
 toll-low {line} k b m a w =
     let x = siteIn line m a in

@@ -7,6 +7,7 @@ use lib.ListN.{length, getD}
 use lib.Dec.{leb, ltb, eqb}
 use Rattle.definition.specs.Cost.{charge}
 use Rattle.theory_tables.specs.Steps.{B, Deck, stateCount, offset, marks, before, lastAt}
+use Rattle.search_row.specs.declared.Sizes.{Sizes}
 
 -- The cell at position k has the words from 128 k on: 0 to 59 what it costs by pose (B: not offered), 64 given, 65 and 66 the widths of its
 -- layouts, 67 whether it is tall; by variant (2 layout + mark) 68 left P, 72 left N, 76 right P, 80 right N; 84 the weight of a step where it touches
@@ -59,28 +60,50 @@ deckOf line n poses =
 abbrev pub thereIn : ℕ → ℕ → ℕ → ℕ → Bool
 thereIn n R i q = leb (suc R) (i + offset R q) && ltb (lastAt R i q) n
 
--- the states: state q has the words from 4 q on, its digit, its marks, and the marks before
-pub record StateWords (R : ℕ) (states : List ℕ) : Type 0 where
+-- the words of the states, after those of the cells: state q has four, its digit, its marks, and the marks before
+abbrev pub stateAt : ℕ → ℕ
+stateAt q = 8192 + q * 4
+
+pub record StateWords (R : ℕ) (row : List ℕ) : Type 0 where
   pub reorder : R ≤ 2
   pub few : stateCount R ≤ 12
   pub small : (q : ℕ) → q < stateCount R → offset R q ≤ 4
-  pub long : 48 ≤ length states
-  pub digit : (q : ℕ) → q < stateCount R → getD states (q * 4) 0 ≡ offset R q
-  pub mark : (q : ℕ) → q < stateCount R → getD states (q * 4 + 1) 0 ≡ marks R q
-  pub earlier : (q : ℕ) → q < stateCount R → getD states (q * 4 + 2) 0 ≡ before R q
+  pub long : 8240 ≤ length row
+  pub digit : (q : ℕ) → q < stateCount R → getD row (stateAt q) 0 ≡ offset R q
+  pub mark : (q : ℕ) → q < stateCount R → getD row (stateAt q + 1) 0 ≡ marks R q
+  pub earlier : (q : ℕ) → q < stateCount R → getD row (stateAt q + 2) 0 ≡ before R q
 
 -- a row's words: none is over B, and the step weights are so small that what is paid stays below it (document 01 has weights up to 1,000; a request that ranks
 -- equal costs, A14, is to scale them by 128)
-pub record LineWords (line : List ℕ) : Type 0 where
-  pub long : 8192 ≤ length line
-  pub word : (k : ℕ) → getD line k 0 ≤ B
-  pub weight : (k : ℕ) → wordOf line k 84 ≤ 131072
-  pub filled : (k : ℕ) → wordOf line k 86 ≤ 131072
+pub record RowWords (row : List ℕ) : Type 0 where
+  pub long : 8288 ≤ length row
+  pub word : (k : ℕ) → getD row k 0 ≤ B
+  pub weight : (k : ℕ) → wordOf row k 84 ≤ 131072
+  pub filled : (k : ℕ) → wordOf row k 86 ≤ 131072
 
--- what every function of the search is given: a row's words and the states
-pub record Ground (line states : List ℕ) (R n poses count : ℕ) : Type 0 where
-  pub size : n ≤ 64
-  pub few : poses ≤ 60
-  pub all : count ≡ stateCount R
-  pub row : LineWords line
-  pub coded : StateWords R states
+-- the row as the tables' numbers
+abbrev pub deckIn : List ℕ → Sizes → Deck
+deckIn row z = deckOf row (z .cells) (z .poses)
+
+-- where its tall cells stand: their words come after those of the states
+unfoldable pub posIn : List ℕ → ℕ → ℕ
+posIn row I = getD row (8256 + I) 0
+
+-- the sizes of a row with another number of cells
+abbrev pub withCells : Sizes → ℕ → Sizes
+withCells z n =
+    record { cells = n; poses = z .poses; reordering = z .reordering; states = z .states; talls = z .talls }
+
+-- what every function of the search is given: a row's words and its sizes
+pub record Ground (row : List ℕ) (z : Sizes) : Type 0 where
+  pub size : z .cells ≤ 64
+  pub few : z .poses ≤ 60
+  pub all : z .states ≡ stateCount (z .reordering)
+  pub words : RowWords row
+  pub coded : StateWords (z .reordering) row
+
+-- a row: its words, and its tall cells' positions
+pub record RowGiven (row : List ℕ) (z : Sizes) : Type 0 where
+  pub ground : Ground row z
+  pub few : z .talls ≤ 24
+  pub inside : (I : ℕ) → I < z .talls → posIn row I < z .cells

@@ -25,12 +25,12 @@ use Rattle.theory_bridge.specs.Words.{keep-pick}
 use Rattle.theory_bridge.specs.Row.{cells-same, members-same}
 use Rattle.search_lanes.specs.Lanes.{always}
 use Rattle.search_lanes.specs.Store.{Low, Written}
-use Rattle.search_row.specs.Words.{wordOf, deckOf, LineWords}
+use Rattle.search_row.specs.Words.{wordOf, deckOf, RowWords}
 use Rattle.search_states.specs.Rest.{rest, rest-none, rest-more, rest-all, next, done}
 use Rattle.search_row_fill.specs.Words.{alone, cellWord}
 use Rattle.search_row_fill.specs.Cell.{word-alone, CellWords, cell-words}
 use Rattle.search_row_fill.specs.Values.{one, Ranged, ranged}
-use Rattle.search_row_fill.specs.Matched.{RowWords, matched, few-poses}
+use Rattle.search_row_fill.specs.Matched.{RowCells, matched, few-poses}
 
 -- the side of a row number
 abbrev pub sideOf : ℕ → Side
@@ -64,25 +64,29 @@ module _ (j : Job) (s : Side) where
 
   -- the first k cells are looked at, and n of them stand in the row
   pub record Filled (l : List ℕ) (n k : ℕ) : Type 0 where
-    pub long : 8192 ≤ length l
+    pub long : 8288 ≤ length l
+    pub most : length (j .cells) ≤ 64
     pub below : n ≤ k
     pub few : k ≤ length (j .cells)
     pub upto : n ≤ length (members (pairJob j) s)
     pub left : drop n (members (pairJob j) s) ≡ rest stands k (length (j .cells))
     pub low : Low l
     pub words : (p : ℕ) → p < n → (i : ℕ) → i < 87 → wordOf l p i ≡ cellWord j (rowOf s) (cell (pairJob j) s p) (cell (pairJob j) s p) i
-    pub zero : (q : ℕ) → n * 128 ≤ q → getD l q 0 ≡ 0
+    pub zero : (q : ℕ) → n * 128 ≤ q → q < 8192 → getD l q 0 ≡ 0
+    pub upper : (q : ℕ) → 8256 ≤ q → getD l q 0 ≤ 63
 
-  pub filled-none : Sound j → {old new : List ℕ} → 8192 ≤ length old → Written (always 0) 0 (length old) old new → Filled new 0 0
+  pub filled-none : Sound j → {old new : List ℕ} → 8288 ≤ length old → Written (always 0) 0 (length old) old new → Filled new 0 0
   filled-none sound {old} {new} h w = record {
     long = let e = w .frame .long in omega arith;
+    most = sound .few;
     below = omega arith;
     few = omega arith;
     upto = omega arith;
     left = members-rest sound;
     low = w .low;
     words = λ p g. absurd (omega arith);
-    zero = λ q _. go q (decLt q (length old));
+    zero = λ q _ _. go q (decLt q (length old));
+    upper = λ q _. let z = go q (decLt q (length old)) in omega arith;
   }
     where
       go : (q : ℕ) → Dec (q < length old) → getD new q 0 ≡ 0
@@ -96,6 +100,7 @@ module _ (j : Job) (s : Side) where
       let i = x .inside in
       record {
         long = let e = w .frame .long in let g = f .long in omega arith;
+        most = f .most;
         below = let g = f .below in omega arith;
         few = omega arith;
         upto = omega arith;
@@ -104,12 +109,14 @@ module _ (j : Job) (s : Side) where
         words = below-more (λ p. (i : ℕ) → i < 87 → wordOf l′ p i ≡ cellWord j (rowOf s) (cell (pairJob j) s p) (cell (pairJob j) s p) i) n
             (λ p g i q. w .frame .low (p * 128 + i) (omega arith) ∙ f .words p g i q)
             (λ i q. w .words i q ∙ word-alone j (rowOf s) k i ∙ ap (λ c. cellWord j (rowOf s) c c i) (sym (x .here)));
-        zero = λ q g. w .frame .high q (omega arith) ∙ f .zero q (omega arith);
+        zero = λ q g b. w .frame .high q (omega arith) ∙ f .zero q (omega arith) b;
+        upper = λ q g. omega (arith, w .frame .high q (omega (arith, f .most, f .below, h)), f .upper q g);
       }
 
   filled-skip : {l : List ℕ} {n k : ℕ} → Filled l n k → k < length (j .cells) → stands k ≡ false → Filled l n (k + 1)
   filled-skip {l} {n} {k} f h e = record {
     long = f .long;
+    most = f .most;
     below = let g = f .below in omega arith;
     few = omega arith;
     upto = f .upto;
@@ -117,6 +124,7 @@ module _ (j : Job) (s : Side) where
     low = f .low;
     words = f .words;
     zero = f .zero;
+    upper = f .upper;
   }
 
   pub filled-step : {l l′ : List ℕ} {n n′ k : ℕ} → Filled l n k → k < length (j .cells) → Added (alone (j .header) (cellAt j k)) (rowOf s) k n n′ l l′ → Filled l′ n′ (k + 1)
@@ -126,39 +134,64 @@ module _ (j : Job) (s : Side) where
       go true e = let r = a .there e in subst (λ x. Filled l′ x (k + 1)) (sym (r .0)) (filled-more f h e (r .1))
       go false e = let r = a .away e in subst (λ x. Filled l′ x (k + 1)) (sym (r .0)) (subst (λ x. Filled x n (k + 1)) (sym (r .1)) (filled-skip f h e))
 
+  -- what is written above the cells' words does not alter them
+  pub filled-on : {l l′ : List ℕ} {n k : ℕ} → Filled l n k → length l′ ≡ length l → Low l′ → ((q : ℕ) → q < 8192 → getD l′ q 0 ≡ getD l q 0)
+      → ((q : ℕ) → 8256 ≤ q → getD l′ q 0 ≤ 63) → Filled l′ n k
+  filled-on {l} {l′} f e w same small = record {
+    long = omega (arith, e, f .long);
+    most = f .most;
+    below = f .below;
+    few = f .few;
+    upto = f .upto;
+    left = f .left;
+    low = w;
+    words = λ p g i h. same (p * 128 + i) (omega (arith, f .most, f .below, f .few)) ∙ f .words p g i h;
+    zero = λ q g b. same q b ∙ f .zero q g b;
+    upper = small;
+  }
+
 -- ---- all cells
+
+-- the cells of a row, all written
+abbrev pub CellsIn : Job → Side → List ℕ → ℕ → Type 0
+CellsIn j s l n = Filled j s l n (length (j .cells))
 
 -- what the search is given of a row
 pub record Lined (j : Job) (s : Side) (l : List ℕ) (n : ℕ) : Type 0 where
   pub matched : Matched siteOf (line (pairJob j) s) (deckOf l n (poseNumbers j)) (λ p a. poseNumber j (cell (pairJob j) s p) a) (λ p a. isOffered j (cell (pairJob j) s p) a)
-  pub row : LineWords l
+  pub words : RowWords l
   pub size : n ≤ 64
   pub few : poseNumbers j ≤ 60
   pub number : (p : ℕ) → p < n → wordOf l p 85 ≡ cell (pairJob j) s p
 
 module _ (j : Job) (sound : Sound j) (s : Side) (l : List ℕ) (n k : ℕ) (f : Filled j s l n k) (e : k ≡ length (j .cells)) where
-  row-words : RowWords j s l n
+  row-words : RowCells j s l n
   row-words = record {
     size = done (members (pairJob j) s) n (f .upto) (f .left ∙ rest-none (stands j s) k (length (j .cells)) (omega arith));
     cells = cells;
-    row = record { long = f .long; word = f .low .word; weight = λ p. weight p (decLt p n); filled = λ p. filled p (decLt p n) };
+    words = record { long = f .long; word = f .low .word; weight = λ p. weight p (decLt p n); filled = λ p. filled p (decLt p n) };
   }
     where
       cells : (p : ℕ) → p < n → CellWords j (rowOf s) (cell (pairJob j) s p) (wordOf l p)
       cells p h = cell-words j (rowOf s) (cell (pairJob j) s p) (wordOf l p) (f .words p h)
 
+      -- past the row's cells there is 0, and past all cells no large word
+      beyond : (p i : ℕ) → (p < n → ⊥) → (84 ≤ i) × (i < 128) → Dec (p < 64) → wordOf l p i ≤ 131072
+      beyond p i h b (yes g) = omega (arith, f .zero (p * 128 + i) (omega arith) (omega arith))
+      beyond p i h b (no g) = omega (arith, f .upper (p * 128 + i) (omega arith))
+
       weight : (p : ℕ) → Dec (p < n) → wordOf l p 84 ≤ 131072
       weight p (yes h) = let w = cells p h .weight in let b = sound .header .step in omega arith
-      weight p (no h) = let z = f .zero (p * 128 + 84) (omega arith) in omega arith
+      weight p (no h) = beyond p 84 h (omega arith, omega arith) (decLt p 64)
 
       filled : (p : ℕ) → Dec (p < n) → wordOf l p 86 ≤ 131072
       filled p (yes h) = let w = cells p h .filled in let b = sound .header .step in omega arith
-      filled p (no h) = let z = f .zero (p * 128 + 86) (omega arith) in omega arith
+      filled p (no h) = beyond p 86 h (omega arith, omega arith) (decLt p 64)
 
   pub lined : Lined j s l n
   lined = record {
     matched = matched j sound s l n row-words;
-    row = row-words .row;
+    words = row-words .words;
     size = let a = sound .few in let b = f .below in omega arith;
     few = few-poses j sound s l n row-words;
     number = λ p h. row-words .cells p h .number;

@@ -5,3 +5,4 @@ pub mod Values
 pub mod Filled
 pub mod Talls
 pub mod TallWords
+pub mod Ready

@@ -24,15 +24,15 @@ use Rattle.theory_tables.specs.Matched.{Matched}
 use Rattle.theory_bridge.specs.Paired.{kindOf, rowOf, siteOf, poseNumbers, poseNumber, isOffered, offersOf, widthOf, ownOf, differingOf, payOf, pairJob}
 use Rattle.theory_bridge.specs.Row.{isTall-same, member}
 use Rattle.theory_bridge.specs.Legal.{end-allowed}
-use Rattle.search_row.specs.Words.{wordOf, siteIn, endIn, differIn, weightIn, tollAt, tollIn, frontIn, backIn, deckOf, LineWords}
+use Rattle.search_row.specs.Words.{wordOf, siteIn, endIn, differIn, weightIn, tollAt, tollIn, frontIn, backIn, deckOf, RowWords}
 use Rattle.search_row_fill.specs.Words.{ownWord}
 use Rattle.search_row_fill.specs.Cell.{offered-low, CellWords}
 
 -- the words are those of the row's cells, in file order, and there are so many
-pub record RowWords (j : Job) (s : Side) (l : List ℕ) (n : ℕ) : Type 0 where
+pub record RowCells (j : Job) (s : Side) (l : List ℕ) (n : ℕ) : Type 0 where
   pub size : n ≡ length (members (pairJob j) s)
   pub cells : (p : ℕ) → p < n → CellWords j (rowOf s) (cell (pairJob j) s p) (wordOf l p)
-  pub row : LineWords l
+  pub words : RowWords l
 
 -- ---- what a cell costs
 
@@ -118,7 +118,7 @@ module _ (j : Job) (s : Side) (l : List ℕ) (k m : ℕ) (b a : ℕ) (K M : ℕ)
 
 -- ---- the row
 
-module _ (j : Job) (sound : Sound j) (s : Side) (l : List ℕ) (n : ℕ) (w : RowWords j s l n) where
+module _ (j : Job) (sound : Sound j) (s : Side) (l : List ℕ) (n : ℕ) (w : RowCells j s l n) where
   -- the cells are cells of the job
   inside : (p : ℕ) → p < length (members (pairJob j) s) → cell (pairJob j) s p < length (j .cells)
   inside p h = member j sound s (cell (pairJob j) s p) .0 (at-in (members (pairJob j) s) p h) .0

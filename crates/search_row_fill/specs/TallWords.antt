@@ -4,6 +4,7 @@ use mathlib.Core.Path.{_≡_, sym, ap, _∙_}
 use mathlib.Core.Bool.{Bool, true, false, cond}
 use mathlib.Core.List.{List, _∷_}
 use native.Mathlib.Omega.{arith}
+use native.Mathlib.Decide.{ℕ-discrete}
 use borrow.Author.Count.{below-more}
 use lib.ListN.{length, getD, drop, set, length-set}
 use lib.Seq.{getD-set-same, getD-set-other}
@@ -32,16 +33,19 @@ pub record TallsUpto (line : List ℕ) (n : ℕ) (talls : List ℕ) (count p : �
   pub below : count ≤ length (tallsIn line n)
   pub left : drop count (tallsIn line n) ≡ rest (tallAt line) p n
   pub words : (I : ℕ) → I < count → getD talls I 0 ≡ getD (tallsIn line n) I 0
+  pub small : (I : ℕ) → getD talls I 0 < 64
 
 -- all are written, so many
 pub record TallWords (line : List ℕ) (n : ℕ) (talls : List ℕ) (count : ℕ) : Type 0 where
   pub all : count ≡ length (tallsIn line n)
   pub words : (I : ℕ) → I < count → getD talls I 0 ≡ getD (tallsIn line n) I 0
+  pub small : (I : ℕ) → getD talls I 0 < 64
 
 module _ {line : List ℕ} {n : ℕ} where
-  pub talls-none : {talls : List ℕ} → length (tallsIn line n) ≤ length talls → TallsUpto line n talls 0 0
+  pub talls-none : {talls : List ℕ} → length (tallsIn line n) ≤ length talls → ((I : ℕ) → getD talls I 0 < 64) → TallsUpto line n talls 0 0
   unfolding tallsIn
-  talls-none h = record { room = h; below = omega arith; left = sym (rest-all (tallAt line) n); words = λ I g. absurd (omega arith) }
+  talls-none h s =
+      record { room = h; below = omega arith; left = sym (rest-all (tallAt line) n); words = λ I g. absurd (omega arith); small = s }
 
   module _ {talls : List ℕ} {count p : ℕ} (u : TallsUpto line n talls count p) where
     abbrev coming : List ℕ
@@ -54,15 +58,20 @@ module _ {line : List ℕ} {n : ℕ} where
       pub talls-room : count < length talls
       talls-room = let r = u .room in let i = upcoming .inside in omega arith
 
-      pub talls-more : TallsUpto line n (set talls count p) (count + 1) (p + 1)
-      talls-more = record {
+      pub talls-more : n ≤ 64 → TallsUpto line n (set talls count p) (count + 1) (p + 1)
+      talls-more few = record {
         room = simp length-set (u .room);
         below = let i = upcoming .inside in omega arith;
         left = upcoming .after;
         words = below-more (λ I. getD (set talls count p) I 0 ≡ getD (tallsIn line n) I 0) count
             (λ I g. getD-set-other talls count I p 0 (omega arith) ∙ u .words I g)
             (getD-set-same talls count p 0 talls-room ∙ sym (upcoming .here));
+        small = λ I. one I (ℕ-discrete count I);
       }
+        where
+          one : (I : ℕ) → Dec (count ≡ I) → getD (set talls count p) I 0 < 64
+          one I (yes z) = omega (arith, ap (λ k. getD (set talls count p) k 0) z, getD-set-same talls count p 0 talls-room)
+          one I (no z) = omega (arith, getD-set-other talls count I p 0 (λ y. z (sym y)), u .small I)
 
     pub talls-skip : p < n → tallAt line p ≡ false → TallsUpto line n talls count (p + 1)
     talls-skip h e = record {
@@ -70,10 +79,11 @@ module _ {line : List ℕ} {n : ℕ} where
       below = u .below;
       left = u .left ∙ rest-more (tallAt line) p n h ∙ ap (λ t. cond t (p ∷ coming) coming) e;
       words = u .words;
+      small = u .small;
     }
 
     pub talls-all : n ≤ p → TallWords line n talls count
-    talls-all h = record { all = done (tallsIn line n) count (u .below) (u .left ∙ rest-none (tallAt line) p n h); words = u .words }
+    talls-all h = record { all = done (tallsIn line n) count (u .below) (u .left ∙ rest-none (tallAt line) p n h); words = u .words; small = u .small }
 
 -- ---- the tall cells of a row of a job
 

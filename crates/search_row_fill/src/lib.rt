@@ -1,22 +1,24 @@
-// The rows of a job as the words that the search reads. The words' places stand in deck/specs/Words.antt.
+// The rows of a job as the words that the search reads. The words' places stand in crate search_row, specs/Words.antt.
 ghost use mathlib.Core.Path.{_≡_};
 ghost use mathlib.Core.Bool.{_&&_, _||_};
-ghost use Prim.Native.Nat.{_+_, _*_, _/_, _≤_, _<_};
-ghost use lib.ListN.{length};
+ghost use Prim.Native.Nat.{ℕ, _+_, _*_, _/_, _≤_, _<_};
+ghost use lib.ListN.{length, getD};
 ghost use lib.Dec.{eqb};
 ghost use Rattle.definition.specs.Rules.{apart};
 ghost use Rattle.definition_laws.specs.Sound.{Sound};
 ghost use Rattle.job.specs.Value.{jobOf};
 ghost use Rattle.theory_tables.specs.Steps.{B};
 ghost use Rattle.search_lanes.specs.Store.{Low, Written};
-ghost use Rattle.theory_bridge.specs.Paired.{isOffered, poseNumber, ownOf};
+ghost use Rattle.theory_bridge.specs.Paired.{isOffered, poseNumber, poseNumbers, ownOf};
 ghost use Rattle.search_row_fill.specs.Words.{edge, ownWord, shapeWord, heightWord, cellWord};
 ghost use Rattle.search_row_fill.specs.Values.{one, Ranged};
-ghost use Rattle.search_row_fill.specs.Filled.{sideOf, Added, Lined};
+ghost use Rattle.search_row_fill.specs.Filled.{sideOf, Added, CellsIn};
+ghost use Rattle.search_row_fill.specs.Ready.{wordsOf, RowReady};
 ghost use Rattle.search_row_fill.specs.TallWords.{tallsIn, TallsUpto, TallWords};
 use job::Cell;
 use job::Header;
 use job::Job;
+use search_row::Sizes;
 
 // ---- what a cell costs
 
@@ -184,9 +186,9 @@ fn add_cell(line: &mut [u32], n: usize, header: Header, cell: Cell, row: u32, nu
 }
 
 // The words of the row's cells, in file order; how many cells it has.
-pub fn fill_line(line: &mut [u32], job: Job, row: u32) -> usize
-    requires { ⌜ Sound (jobOf job) × (job .count ≤ 64) × (row ≤ 1) × (8192 ≤ length (now line)) × Low (now line) ⌝ }
-    ensures { λ n. ⌜ Lined (jobOf job) (sideOf row) (now (line .exit)) n ⌝ }
+fn fill_line(line: &mut [u32], job: Job, row: u32) -> usize
+    requires { ⌜ Sound (jobOf job) × (job .count ≤ 64) × (row ≤ 1) × (8288 ≤ length (now line)) × Low (now line) ⌝ }
+    ensures { λ n. ⌜ CellsIn (jobOf job) (sideOf row) (now (line .exit)) n ⌝ }
 {
     let long = line.len();
     search_lanes::fill(line, 0, long, 0);
@@ -215,8 +217,8 @@ fn add_tall(talls: &mut [u32], count: usize, line: &[u32], n: usize, p: usize) -
 }
 
 // The positions of the tall cells of a row of n cells, in rising order; how many there are.
-pub fn fill_talls(talls: &mut [u32], line: &[u32], n: usize) -> usize
-    requires { ⌜ (n ≤ 64) × (8192 ≤ length (now line)) × (length (tallsIn (now line) n) ≤ length (now talls)) ⌝ }
+fn fill_talls(talls: &mut [u32], line: &[u32], n: usize) -> usize
+    requires { ⌜ (n ≤ 64) × (8192 ≤ length (now line)) × (length (tallsIn (now line) n) ≤ length (now talls)) × ((i : ℕ) → getD (now talls) i 0 < 64) ⌝ }
     ensures { λ r. ⌜ TallWords (now (line .entry)) n (now (talls .exit)) r ⌝ }
 {
     let mut count: usize = 0;
@@ -226,4 +228,47 @@ pub fn fill_talls(talls: &mut [u32], line: &[u32], n: usize) -> usize
         p += 1;
     }
     count
+}
+
+// The positions, to their place after the words of the states.
+fn put_talls(row: &mut [u32], places: &[u32; 32])
+    requires { ⌜ (8288 ≤ length (now row)) × Low (now row) × (length (now places) ≡ 32) × ((i : ℕ) → getD (now places) i 0 < 64) ⌝ }
+    ensures { λ _. ⌜ Written (wordsOf (now (places .entry))) 8256 32 (now (row .entry)) (now (row .exit)) ⌝ }
+{
+    let mut i: usize = 0;
+    while i < 32 {
+        row[8256 + i] = places[i];
+        i += 1;
+    }
+}
+
+// ---- all of a row
+
+fn pose_numbers(job: Job) -> usize
+    requires { ⌜ Sound (jobOf job) ⌝ }
+    ensures { λ n. ⌜ n ≡ poseNumbers (jobOf job) ⌝ }
+{
+    let d = job.header.displacement as usize;
+    4 * (2 * d + 1)
+}
+
+// The cells of a row, the positions of the tall ones and the states; its sizes.
+pub fn fill_row(row: &mut [u32], job: Job, side: u32) -> Sizes
+    requires { ⌜ Sound (jobOf job) × (job .count ≤ 64) × (side ≤ 1) × (8288 ≤ length (now row)) × Low (now row) ⌝ }
+    ensures { λ z. ⌜ RowReady (jobOf job) (sideOf side) (now (row .exit)) z ⌝ }
+{
+    let cells = fill_line(row, job, side);
+    let mut places = [0u32; 32];
+    let talls = fill_talls(&mut places, row, cells);
+    put_talls(row, &places);
+    let poses = pose_numbers(job);
+    let reordering = job.header.reordering as usize;
+    let states = search_states::fill_states(row, reordering);
+    Sizes {
+        cells,
+        poses,
+        reordering,
+        states,
+        talls,
+    }
 }

@@ -22,6 +22,7 @@ use Rattle.search_join.specs.Tables.{casesIn, pointersIn, costsIn, Table, Least
 use Rattle.search_join.specs.Laws.{least-open}
 use Rattle.search_join.specs.SumLaws.{table-for}
 use Rattle.search_join.specs.Parts.{least-ext}
+use Rattle.search_row.specs.declared.Sizes.{Sizes}
 use Rattle.search_stage.specs.Stage.{wide, widthOf, costOf, tableOf, Right, Staged, StageDone, Through, StagesDone, BothCosted, StagesGiven}
 use Rattle.search_stage.specs.Starts.{ways-same}
 
@@ -237,33 +238,33 @@ module _ (D₀ D₁ : Deck) (R talls : ℕ) (pos₀ pos₁ : ℕ → ℕ) where
 
 -- ---- what a stage is given
 
-module _ {line₀ line₁ states places₀ places₁ st : List ℕ} {R n₀ n₁ poses count talls : ℕ} (g : StagesGiven line₀ line₁ states places₀ places₁ st R n₀ n₁ poses count talls) where
-  pub given-states : (count ≤ 12) × (1 ≤ count) × (poses ≤ 60) × (talls ≤ 24)
+module _ {row₀ row₁ st : List ℕ} {z : Sizes} {n₁ : ℕ} (g : StagesGiven row₀ row₁ st z n₁) where
+  pub given-states : (z .states ≤ 12) × (1 ≤ z .states) × (z .poses ≤ 60) × (z .talls ≤ 24)
   given-states =
-      let r = g .row₀ .ground in (
+      let r = g .given₀ .ground in (
         omega (arith, r .all, r .coded .few),
-        omega (arith, r .all, count-some R (r .coded .reorder)),
+        omega (arith, r .all, count-some (z .reordering) (r .coded .reorder)),
         r .few,
-        g .row₀ .few,
+        g .given₀ .few,
       )
 
-  pub given-wide : (I : ℕ) → (wide talls I count ≤ 12) × (wide talls I poses ≤ 60) × Pages (wide talls I count) st
+  pub given-wide : (I : ℕ) → (wide (z .talls) I (z .states) ≤ 12) × (wide (z .talls) I (z .poses) ≤ 60) × Pages (wide (z .talls) I (z .states)) st
   given-wide I = (
-    wide-low talls I count 12 (omega arith) (given-states .0),
-    wide-low talls I poses 60 (omega arith) (given-states .2),
-    omega (arith, g .long, wide-most talls I count (given-states .1)),
+    wide-low (z .talls) I (z .states) 12 (omega arith) (given-states .0),
+    wide-low (z .talls) I (z .poses) 60 (omega arith) (given-states .2),
+    omega (arith, g .long, wide-most (z .talls) I (z .states) (given-states .1)),
   )
 
   -- every table has the case (0, 0, 0)
   pub given-first : (I : ℕ) → I ≤ 25 → caseAt I 0 0 < length st
-  given-first I h = omega (arith, given-wide 0 .2, wide-first talls 0 count refl)
+  given-first I h = omega (arith, given-wide 0 .2, wide-first (z .talls) 0 (z .states) refl)
 
   -- the tables that stage I reads, whatever was written before
-  pub given-table : (I : ℕ) (new : List ℕ) → I ≤ talls → length new ≡ length st → Low new → Table (wide talls I count) (wide talls I poses) I new
+  pub given-table : (I : ℕ) (new : List ℕ) → I ≤ z .talls → length new ≡ length st → Low new → Table (wide (z .talls) I (z .states)) (wide (z .talls) I (z .poses)) I new
   given-table I new h e w =
       let n = given-wide I in
       record { states = n .0; few = omega (arith, n .1); stage = omega (arith, given-states .3); long = omega (arith, n .2); low = w }
 
   -- the same with the lanes that it is run in
-  pub given-join : (I : ℕ) (new : List ℕ) → I ≤ talls → length new ≡ length st → Low new → Table (wide talls I count) (wide talls I (widthOf poses)) I new
-  given-join I new h e w = let t = given-table I new h e w in table-for _ I t (wide-lanes talls I poses (given-states .2) .1) (t .stage)
+  pub given-join : (I : ℕ) (new : List ℕ) → I ≤ z .talls → length new ≡ length st → Low new → Table (wide (z .talls) I (z .states)) (wide (z .talls) I (widthOf (z .poses))) I new
+  given-join I new h e w = let t = given-table I new h e w in table-for _ I t (wide-lanes (z .talls) I (z .poses) (given-states .2) .1) (t .stage)

@@ -7,6 +7,8 @@ use native.Mathlib.Omega.{arith}
 use native.Mathlib.Numerals.{add-one}
 use native.Mathlib.Decide.{decLt}
 use lib.ListN.{getD, replicate, length-replicate, getD-replicate, List·getD-eq-default}
+use Rattle.search_row.specs.declared.Sizes.{Sizes}
+use Rattle.search_row.specs.Words.{posIn, RowGiven}
 use Rattle.theory_tables.specs.Steps.{B, Deck, Layer, stateCount, marks, firstAfter, firstOpen}
 use Rattle.theory_tables.specs.Stages.{placedWith, stageEnd, openCost, stageCost}
 use Rattle.search_lanes.specs.Store.{Frame, Low, layerIn, Filled}
@@ -14,7 +16,7 @@ use Rattle.search_wide_first.specs.Firsts.{afterFrom}
 use Rattle.search_wide_segment.specs.Runs.{SegmentCosted}
 use Rattle.search_wide_end.specs.Ends.{Ended}
 use Rattle.search_dense_segment.specs.Opened.{tallCost, endCost, Opened}
-use Rattle.search_stage.specs.Stage.{wide, posIn, costOf, endFrom, RowCosted, RowGiven}
+use Rattle.search_stage.specs.Stage.{wide, costOf, endFrom, RowCosted}
 use Rattle.search_stage.specs.Laws.{wide-all, wide-last, wide-tall}
 use Rattle.search_stage.specs.Same.{stage-ext, stage-tall, stage-last}
 
@@ -141,10 +143,9 @@ module _ (D : Deck) (R talls : ℕ) (pos : ℕ → ℕ) where
 
 -- ---- a start after a tall cell
 
-pub start-place : {line states places : List ℕ} {R n poses count talls : ℕ} (I p : ℕ)
-    → RowGiven line states places R n poses count talls → (I ≡ 0 → ⊥) → I ≤ talls → p ≡ getD places (I - 1) 0 → p < 64
-unfolding posIn
-start-place I p g z h e = omega (arith, g .inside (I - 1) (omega (arith, z)), g .ground .size)
+pub start-place : {row : List ℕ} {z : Sizes} (I p : ℕ)
+    → RowGiven row z → (I ≡ 0 → ⊥) → I ≤ z .talls → p ≡ posIn row (I - 1) → p < 64
+start-place I p g e h k = omega (arith, g .inside (I - 1) (omega (arith, e)), g .ground .size)
 
 pub start-state : (talls I count s : ℕ) → s < wide talls I count → (I ≡ 0 → ⊥) → I ≤ talls → s < count
 start-state talls I count s h z g = omega (arith, wide-tall talls I count z g)

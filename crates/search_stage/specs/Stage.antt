@@ -6,10 +6,11 @@ use mathlib.Core.Logic.{_⊎_}
 use mathlib.Core.List.{List}
 use lib.ListN.{length, getD}
 use lib.Dec.{ltb}
+use Rattle.search_row.specs.declared.Sizes.{Sizes}
 use Rattle.theory_tables.specs.Steps.{B, Deck, Layer, Cases, SegmentCosts, stateCount}
 use Rattle.theory_tables.specs.Stages.{stageEnd, openCost, stageCost, caseTable}
 use Rattle.search_lanes.specs.Store.{Low, layerIn}
-use Rattle.search_row.specs.Words.{Ground}
+use Rattle.search_row.specs.Words.{deckIn, posIn, withCells, RowGiven}
 use Rattle.search_join.specs.Places.{caseAt, costsAt, Pages, Slot, OutsideCosts}
 use Rattle.search_join.specs.Tables.{casesIn, pointersIn, costsIn, SameCase, SameTables, Least, Way}
 
@@ -21,10 +22,6 @@ wide talls (suc I) x = cond (ltb I talls) x 1
 -- how many lanes a stage is run in: the poses, up to a multiple of 16
 unfoldable pub widthOf : ℕ → ℕ
 widthOf poses = (poses + 15) / 16 * 16
-
--- where a row's tall cells stand
-unfoldable pub posIn : List ℕ → ℕ → ℕ
-posIn places I = getD places I 0
 
 -- ---- what a stage goes by
 
@@ -143,16 +140,47 @@ pub record BothCosted (x₀ x₁ : SegmentCosts) (I starts lanes ends poses m : 
 
 -- ---- what a function of the stages is given
 
--- a row: its words, and the tall cells' positions
-pub record RowGiven (line states places : List ℕ) (R n poses count talls : ℕ) : Type 0 where
-  pub ground : Ground line states R n poses count
-  pub few : talls ≤ 24
-  pub long : talls ≤ length places
-  pub inside : (I : ℕ) → I < talls → posIn places I < n
-
--- both rows, and the store: a page for each state that a table has, and no word over B
-pub record StagesGiven (line₀ line₁ states places₀ places₁ st : List ℕ) (R n₀ n₁ poses count talls : ℕ) : Type 0 where
-  pub row₀ : RowGiven line₀ states places₀ R n₀ poses count talls
-  pub row₁ : RowGiven line₁ states places₁ R n₁ poses count talls
-  pub long : Pages (wide talls talls count) st
+-- both rows, of which row 1 has n₁ cells, and the store: a page for each state that a table has, and no word over B
+pub record StagesGiven (row₀ row₁ st : List ℕ) (z : Sizes) (n₁ : ℕ) : Type 0 where
+  pub given₀ : RowGiven row₀ z
+  pub given₁ : RowGiven row₁ (withCells z n₁)
+  pub long : Pages (wide (z .talls) (z .talls) (z .states)) st
   pub low : Low st
+
+-- ---- what they leave, by the rows' words
+
+-- how many states and poses table number I has
+abbrev pub statesAt : Sizes → ℕ → ℕ
+statesAt z I = wide (z .talls) I (z .states)
+
+abbrev pub posesAt : Sizes → ℕ → ℕ
+posesAt z I = wide (z .talls) I (z .poses)
+
+-- the costs of stage I in a row
+abbrev pub costIn : List ℕ → Sizes → ℕ → SegmentCosts
+costIn row z I = costOf (deckIn row z) (z .reordering) (z .talls) (posIn row) I
+
+-- those from start state s, in the block at `costs`
+abbrev pub RowCost : List ℕ → Sizes → ℕ → ℕ → ℕ → List ℕ → List ℕ → Type 0
+RowCost row z I s costs old new =
+    RowCosted (costIn row z I s) (posesAt z I) (statesAt z (suc I)) (posesAt z (suc I)) costs old new
+
+-- those from start state s, in their place
+abbrev pub RowStart : ℕ → List ℕ → Sizes → ℕ → ℕ → List ℕ → List ℕ → Type 0
+RowStart side row z I s old new =
+    StartCosted side (costIn row z I) I (statesAt z I) (posesAt z I) (statesAt z (suc I)) (posesAt z (suc I)) s old new
+
+-- those of both rows, from every start state
+abbrev pub RowsStart : List ℕ → List ℕ → Sizes → ℕ → ℕ → List ℕ → List ℕ → Type 0
+RowsStart row₀ row₁ z n₁ I old new =
+    BothCosted (costIn row₀ z I) (costIn row₁ (withCells z n₁) I) I (statesAt z I) (posesAt z I) (statesAt z (suc I)) (posesAt z (suc I))
+    (statesAt z I) old new
+
+-- stage I, and all stages
+abbrev pub RowsStage : List ℕ → List ℕ → Sizes → ℕ → ℕ → List ℕ → List ℕ → Type 0
+RowsStage row₀ row₁ z n₁ I old new =
+    StageDone (deckIn row₀ z) (deckIn row₁ (withCells z n₁)) (z .reordering) (z .talls) (posIn row₀) (posIn row₁) I old new
+
+abbrev pub RowsStages : List ℕ → List ℕ → Sizes → ℕ → List ℕ → List ℕ → Type 0
+RowsStages row₀ row₁ z n₁ old new =
+    StagesDone (deckIn row₀ z) (deckIn row₁ (withCells z n₁)) (z .reordering) (z .talls) (posIn row₀) (posIn row₁) old new

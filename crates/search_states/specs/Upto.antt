@@ -15,7 +15,9 @@ use Rattle.theory_pair.specs.Pick.{goodMarks}
 use Rattle.theory_pair.specs.Forward.{each}
 use Rattle.theory_tables.specs.Steps.{mayBeLast, pairsOf, stateCount, offset, marks, marksBefore, before}
 use Rattle.theory_tables.specs.States.{state-at, count-0, count-1, count-2}
-use Rattle.search_row.specs.Words.{StateWords}
+use Rattle.search_lanes.specs.Store.{Frame, Low}
+use Rattle.search_lanes.specs.Laws.{frame-refl, frame-set, low-set}
+use Rattle.search_row.specs.Words.{stateAt, StateWords}
 use Rattle.search_states.specs.Rest.{rest, rest-none, rest-more, rest-all, next, done}
 
 -- m has R + 1 ones, the lowest digit among them
@@ -63,25 +65,27 @@ marks-all R = simp rest-all
 
 -- what one state is written as
 abbrev pub withState : List ℕ → ℕ → ℕ → ℕ → List ℕ
-withState states q d m = set (set (set states (q * 4) d) (q * 4 + 1) m) (q * 4 + 2) (marksBefore d m)
+withState row q d m = set (set (set row (stateAt q) d) (stateAt q + 1) m) (stateAt q + 2) (marksBefore d m)
 
 -- the first `count` states are written, and `l` is still to come
-pub record Upto (R : ℕ) (states : List ℕ) (count : ℕ) (l : List (ℕ × ℕ)) : Type 0 where
-  pub long : 48 ≤ length states
+pub record Upto (R : ℕ) (row : List ℕ) (count : ℕ) (l : List (ℕ × ℕ)) : Type 0 where
+  pub long : 8288 ≤ length row
   pub below : count ≤ stateCount R
   pub left : drop count (pairsOf R) ≡ l
-  pub digit : (q : ℕ) → q < count → getD states (q * 4) 0 ≡ offset R q
-  pub mark : (q : ℕ) → q < count → getD states (q * 4 + 1) 0 ≡ marks R q
-  pub earlier : (q : ℕ) → q < count → getD states (q * 4 + 2) 0 ≡ before R q
+  pub digit : (q : ℕ) → q < count → getD row (stateAt q) 0 ≡ offset R q
+  pub mark : (q : ℕ) → q < count → getD row (stateAt q + 1) 0 ≡ marks R q
+  pub earlier : (q : ℕ) → q < count → getD row (stateAt q + 2) 0 ≡ before R q
+  pub low : Low row
 
-pub upto-none : (R : ℕ) (states : List ℕ) → 48 ≤ length states → Upto R states 0 (marksFrom R 0)
-upto-none R states h = record {
+pub upto-none : (R : ℕ) (row : List ℕ) → 8288 ≤ length row → Low row → Upto R row 0 (marksFrom R 0)
+upto-none R row h w = record {
   long = h;
   below = omega arith;
   left = marks-all R;
   digit = λ q h. absurd (omega arith);
   mark = λ q h. absurd (omega arith);
   earlier = λ q h. absurd (omega arith);
+  low = w;
 }
 
 -- twelve states at most, and at least one
@@ -93,35 +97,54 @@ few (suc (suc (suc R))) h = absurd (omega arith)
 
 -- ---- one state more
 
-module _ (p : List ℕ) (n d m : ℕ) (h : n * 4 + 2 < length p) where
-  with-other : (i : ℕ) → i < n * 4 → getD (withState p n d m) i 0 ≡ getD p i 0
+module _ (p : List ℕ) (n d m : ℕ) (h : stateAt n + 2 < length p) where
+  with-other : (i : ℕ) → i < stateAt n → getD (withState p n d m) i 0 ≡ getD p i 0
   with-other i l =
-      getD-set-other (set (set p (n * 4) d) (n * 4 + 1) m) (n * 4 + 2) i (marksBefore d m) 0 (omega arith)
-      ∙ getD-set-other (set p (n * 4) d) (n * 4 + 1) i m 0 (omega arith)
-      ∙ getD-set-other p (n * 4) i d 0 (omega arith)
+      getD-set-other (set (set p (stateAt n) d) (stateAt n + 1) m) (stateAt n + 2) i (marksBefore d m) 0 (omega arith)
+      ∙ getD-set-other (set p (stateAt n) d) (stateAt n + 1) i m 0 (omega arith)
+      ∙ getD-set-other p (stateAt n) i d 0 (omega arith)
 
-  with-digit : getD (withState p n d m) (n * 4) 0 ≡ d
+  with-digit : getD (withState p n d m) (stateAt n) 0 ≡ d
   with-digit =
-      getD-set-other (set (set p (n * 4) d) (n * 4 + 1) m) (n * 4 + 2) (n * 4) (marksBefore d m) 0 (omega arith)
-      ∙ getD-set-other (set p (n * 4) d) (n * 4 + 1) (n * 4) m 0 (omega arith)
-      ∙ getD-set-same p (n * 4) d 0 (omega arith)
+      getD-set-other (set (set p (stateAt n) d) (stateAt n + 1) m) (stateAt n + 2) (stateAt n) (marksBefore d m) 0 (omega arith)
+      ∙ getD-set-other (set p (stateAt n) d) (stateAt n + 1) (stateAt n) m 0 (omega arith)
+      ∙ getD-set-same p (stateAt n) d 0 (omega arith)
 
-  with-mark : getD (withState p n d m) (n * 4 + 1) 0 ≡ m
+  with-mark : getD (withState p n d m) (stateAt n + 1) 0 ≡ m
   with-mark =
-      getD-set-other (set (set p (n * 4) d) (n * 4 + 1) m) (n * 4 + 2) (n * 4 + 1) (marksBefore d m) 0 (omega arith)
-      ∙ getD-set-same (set p (n * 4) d) (n * 4 + 1) m 0 (simp length-set (omega arith))
+      getD-set-other (set (set p (stateAt n) d) (stateAt n + 1) m) (stateAt n + 2) (stateAt n + 1) (marksBefore d m) 0 (omega arith)
+      ∙ getD-set-same (set p (stateAt n) d) (stateAt n + 1) m 0 (simp length-set (omega arith))
 
-  with-before : getD (withState p n d m) (n * 4 + 2) 0 ≡ marksBefore d m
-  with-before = getD-set-same (set (set p (n * 4) d) (n * 4 + 1) m) (n * 4 + 2) (marksBefore d m) 0 (simp length-set (omega arith))
+  with-before : getD (withState p n d m) (stateAt n + 2) 0 ≡ marksBefore d m
+  with-before =
+      getD-set-same (set (set p (stateAt n) d) (stateAt n + 1) m) (stateAt n + 2) (marksBefore d m) 0
+      (simp length-set (omega arith))
 
 pub room : {R : ℕ} {p : List ℕ} {n d m : ℕ} {l : List (ℕ × ℕ)} → R ≤ 2 → Upto R p n ((d, m) ∷ l) → n < 12
 room {R} {n = n} r u = let k = next {d = (0, 0)} (pairsOf R) n (u .left) in omega (arith, k .inside, few R r)
 
-pub upto-more : {R : ℕ} {p : List ℕ} {n d m : ℕ} {l : List (ℕ × ℕ)} → R ≤ 2 → Upto R p n ((d, m) ∷ l) → Upto R (withState p n d m) (n + 1) l
-upto-more {R} {p} {n} {d} {m} {l} r u =
+-- the word for the marks before is small too
+before-low : (d m : ℕ) → m < 32 → marksBefore d m ≤ 64
+before-low d m h = omega arith
+
+with-low : (p : List ℕ) (n d m : ℕ) → stateAt n + 2 < length p → d ≤ 4 → m < 32 → Low p → Low (withState p n d m)
+with-low p n d m h x y w =
+    low-set (stateAt n + 2) (marksBefore d m)
+    (low-set (stateAt n + 1) m (low-set (stateAt n) d w (omega arith) (omega arith)) (simp length-set (omega arith)) (omega arith))
+    (simp length-set (omega arith)) (omega (arith, before-low d m y))
+
+pub with-frame : (o p : List ℕ) (n d m : ℕ) → n < 12 → Frame 8192 8240 o p → Frame 8192 8240 o (withState p n d m)
+with-frame o p n d m h f =
+    frame-set 8240 (stateAt n + 2) (marksBefore d m)
+    (frame-set 8240 (stateAt n + 1) m (frame-set 8240 (stateAt n) d f (omega arith) (omega arith) (omega arith)) (omega arith) (omega arith) (omega arith))
+    (omega arith) (omega arith) (omega arith)
+
+pub upto-more : {R : ℕ} {p : List ℕ} {n d m : ℕ} {l : List (ℕ × ℕ)}
+    → R ≤ 2 → d ≤ 4 → m < 32 → Upto R p n ((d, m) ∷ l) → Upto R (withState p n d m) (n + 1) l
+upto-more {R} {p} {n} {d} {m} {l} r low₁ low₂ u =
     let k = next {d = (0, 0)} (pairsOf R) n (u .left) in
     let x : n < 12 = room r u in
-    let h : n * 4 + 2 < length p = omega (arith, u .long) in
+    let h : stateAt n + 2 < length p = omega (arith, u .long) in
     let i : n < length (pairsOf R) = k .inside in
     let y : offset R n ≡ d = ap (λ z. z .0) (k .here) in
     let z : marks R n ≡ m = ap (λ z. z .1) (k .here) in
@@ -129,35 +152,43 @@ upto-more {R} {p} {n} {d} {m} {l} r u =
       long = simp length-set (u .long);
       below = omega arith;
       left = k .after;
-      digit = below-more (λ q. getD (withState p n d m) (q * 4) 0 ≡ offset R q) n (λ q g. with-other p n d m h (q * 4) (omega arith) ∙ u .digit q g) (with-digit p n d m h ∙ sym y);
-      mark = below-more (λ q. getD (withState p n d m) (q * 4 + 1) 0 ≡ marks R q) n (λ q g. with-other p n d m h (q * 4 + 1) (omega arith) ∙ u .mark q g) (with-mark p n d m h ∙ sym z);
-      earlier = below-more (λ q. getD (withState p n d m) (q * 4 + 2) 0 ≡ before R q) n (λ q g. with-other p n d m h (q * 4 + 2) (omega arith) ∙ u .earlier q g)
+      digit = below-more (λ q. getD (withState p n d m) (stateAt q) 0 ≡ offset R q) n
+          (λ q g. with-other p n d m h (stateAt q) (omega arith) ∙ u .digit q g) (with-digit p n d m h ∙ sym y);
+      mark = below-more (λ q. getD (withState p n d m) (stateAt q + 1) 0 ≡ marks R q) n
+          (λ q g. with-other p n d m h (stateAt q + 1) (omega arith) ∙ u .mark q g) (with-mark p n d m h ∙ sym z);
+      earlier = below-more (λ q. getD (withState p n d m) (stateAt q + 2) 0 ≡ before R q) n
+          (λ q g. with-other p n d m h (stateAt q + 2) (omega arith) ∙ u .earlier q g)
           (with-before p n d m h ∙ sym (ap₂ marksBefore y z));
+      low = with-low p n d m h low₁ low₂ (u .low);
     }
 
 -- ---- all states
 
 -- what is written in the end: all states, so many
-pub record Paired (R : ℕ) (states : List ℕ) (count : ℕ) : Type 0 where
-  pub coded : StateWords R states
+pub record Coded (R : ℕ) (old row : List ℕ) (count : ℕ) : Type 0 where
+  pub coded : StateWords R row
   pub all : count ≡ stateCount R
   pub some : 1 ≤ count
+  pub frame : Frame 8192 8240 old row
+  pub low : Low row
 
-pub upto-all : {R : ℕ} {p : List ℕ} {n : ℕ} → R ≤ 2 → Upto R p n [] → Paired R p n
-upto-all {R} {p} {n} r u =
+pub upto-all : {R : ℕ} {o p : List ℕ} {n : ℕ} → R ≤ 2 → Upto R p n [] → Frame 8192 8240 o p → Coded R o p n
+upto-all {R} {o} {p} {n} r u f₀ =
     let e : n ≡ stateCount R = done (pairsOf R) n (u .below) (u .left) in
     record {
       coded = record {
         reorder = r;
         few = few R r .0;
         small = λ q h. let f = state-at R q h .far in omega arith;
-        long = u .long;
+        long = omega (arith, u .long);
         digit = λ q h. u .digit q (omega arith);
         mark = λ q h. u .mark q (omega arith);
         earlier = λ q h. u .earlier q (omega arith);
       };
       all = e;
       some = omega (arith, few R r);
+      frame = f₀;
+      low = u .low;
     }
 
 -- ---- what a test says

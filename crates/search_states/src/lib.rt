@@ -5,7 +5,8 @@ ghost use mathlib.Core.List.{_++_};
 ghost use Prim.Native.Nat.{suc, _+_, _*_, _^_, _≤_, _<_};
 ghost use lib.ListN.{length};
 ghost use Rattle.theory_tables.specs.Steps.{mayBeLast};
-ghost use Rattle.search_states.specs.Upto.{isMarks, digitsFrom, marksFrom, withState, Upto, Paired};
+ghost use Rattle.search_lanes.specs.Store.{Frame, Low};
+ghost use Rattle.search_states.specs.Upto.{isMarks, digitsFrom, marksFrom, withState, Upto, Coded};
 ghost use Rattle.theory_row.specs.Marks.{bit};
 
 // Whether m has r + 1 ones, the lowest digit among them.
@@ -33,32 +34,32 @@ fn may_be_last(r: u32, m: u32, d: u32) -> bool
     d == 2 * r
 }
 
-// Pair q: its digit, its marks, and the only marks from which placing the cell at that digit leads to them.
-fn put_state(states: &mut [u32], q: usize, d: u32, m: u32)
-    requires { ⌜ (48 ≤ length (now states)) × (q < 12) × (d ≤ 4) × (m < 32) × (2 ^ d ≤ m) ⌝ }
-    ensures { λ _. ⌜ now (states .exit) ≡ withState (now (states .entry)) q d m ⌝ }
+// State q: its digit, its marks, and the only marks from which placing the cell at that digit leads to them.
+fn put_state(row: &mut [u32], q: usize, d: u32, m: u32)
+    requires { ⌜ (8240 ≤ length (now row)) × (q < 12) × (d ≤ 4) × (m < 32) × (2 ^ d ≤ m) ⌝ }
+    ensures { λ _. ⌜ now (row .exit) ≡ withState (now (row .entry)) q d m ⌝ }
 {
-    states[q * 4] = d;
-    states[q * 4 + 1] = m;
-    states[q * 4 + 2] = 2 * (m - (1 << d)) + 1;
+    row[8192 + q * 4] = d;
+    row[8192 + q * 4 + 1] = m;
+    row[8192 + q * 4 + 2] = 2 * (m - (1 << d)) + 1;
 }
 
 // The state of digit d, if it is one; how many there are then.
-fn add_digit(states: &mut [u32], count: usize, r: u32, m: u32, d: u32) -> usize
-    requires { ⌜ (r ≤ 2) × (m < 32) × (d ≤ 2 * r) × Upto r (now states) count (digitsFrom r m d ++ marksFrom r (m + 1)) ⌝ }
-    ensures { λ n. ⌜ Upto r (now (states .exit)) n (digitsFrom r m (d + 1) ++ marksFrom r (m + 1)) ⌝ }
+fn add_digit(row: &mut [u32], count: usize, r: u32, m: u32, d: u32) -> usize
+    requires { ⌜ (r ≤ 2) × (m < 32) × (d ≤ 2 * r) × Upto r (now row) count (digitsFrom r m d ++ marksFrom r (m + 1)) ⌝ }
+    ensures { λ n. ⌜ Upto r (now (row .exit)) n (digitsFrom r m (d + 1) ++ marksFrom r (m + 1)) × Frame 8192 8240 (now (row .entry)) (now (row .exit)) ⌝ }
 {
     if !may_be_last(r, m, d) {
         return count;
     }
-    put_state(states, count, d, m);
+    put_state(row, count, d, m);
     count + 1
 }
 
 // The states of m, if it is marks; how many there are then.
-fn add_marks(states: &mut [u32], count: usize, r: u32, m: u32) -> usize
-    requires { ⌜ (r ≤ 2) × (m < 2 ^ suc (2 * r)) × (m < 32) × Upto r (now states) count (marksFrom r m) ⌝ }
-    ensures { λ n. ⌜ Upto r (now (states .exit)) n (marksFrom r (m + 1)) ⌝ }
+fn add_marks(row: &mut [u32], count: usize, r: u32, m: u32) -> usize
+    requires { ⌜ (r ≤ 2) × (m < 2 ^ suc (2 * r)) × (m < 32) × Upto r (now row) count (marksFrom r m) ⌝ }
+    ensures { λ n. ⌜ Upto r (now (row .exit)) n (marksFrom r (m + 1)) × Frame 8192 8240 (now (row .entry)) (now (row .exit)) ⌝ }
 {
     if !is_marks(r, m) {
         return count;
@@ -66,23 +67,23 @@ fn add_marks(states: &mut [u32], count: usize, r: u32, m: u32) -> usize
     let mut n = count;
     let mut d: u32 = 0;
     while d <= 2 * r {
-        n = add_digit(states, n, r, m, d);
+        n = add_digit(row, n, r, m, d);
         d += 1;
     }
     n
 }
 
 // All states; how many there are.
-pub fn fill_states(states: &mut [u32], r: usize) -> usize
-    requires { ⌜ (48 ≤ length (now states)) × (r ≤ 2) ⌝ }
-    ensures { λ n. ⌜ Paired r (now (states .exit)) n ⌝ }
+pub fn fill_states(row: &mut [u32], r: usize) -> usize
+    requires { ⌜ (8288 ≤ length (now row)) × Low (now row) × (r ≤ 2) ⌝ }
+    ensures { λ n. ⌜ Coded r (now (row .entry)) (now (row .exit)) n ⌝ }
 {
     let limit = r as u32;
     let end: u32 = 2 << (2 * limit);
     let mut n: usize = 0;
     let mut m: u32 = 0;
     while m < end {
-        n = add_marks(states, n, limit, m);
+        n = add_marks(row, n, limit, m);
         m += 1;
     }
     n

@@ -8,7 +8,7 @@ use Rattle.lists.specs.Numbers.{from}
 use Rattle.theory_pair.specs.Coded.{lowest}
 use Rattle.theory_tables.specs.Steps.{B, Deck, Layer}
 use Rattle.search_lanes.specs.Store.{Frame, Low, layerIn}
-use Rattle.search_row.specs.Words.{wordOf, LineWords}
+use Rattle.search_row.specs.Words.{wordOf, RowWords}
 use Rattle.search_buckets.specs.Gaps.{paying}
 use Rattle.search_buckets.specs.Rows.{inRow, bucketIn, onePose, byPoses, oneState, byStates, found}
 
@@ -61,7 +61,7 @@ chargedOne x pays u v l = x + getD pays (u * 9 + v) 0
 
 -- a table to be lowered by the cell at position k, whose rows begin at `at`, for the cell at position m, which needs so many buckets
 pub record Source (table st line : List ℕ) (at k m buckets lanes : ℕ) : Type 0 where
-  pub words : LineWords line
+  pub words : RowWords line
   pub low : Low st
   pub tableLow : Low table
   pub tableLong : length table ≡ 10944
@@ -126,7 +126,7 @@ foundRows buckets line table k l q a = foundRowOf buckets line table k a l
 
 -- rows to be written from a table of so many buckets
 pub record ToRows (st line table : List ℕ) (k buckets lanes : ℕ) : Type 0 where
-  pub words : LineWords line
+  pub words : RowWords line
   pub low : Low st
   pub tableLow : Low table
   pub tableLong : length table ≡ 10944

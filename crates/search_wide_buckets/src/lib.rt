@@ -160,7 +160,7 @@ fn spread_row(
 fn from_pose(
     table: &mut [u32; 10944],
     store: &[u32],
-    line: &[u32],
+    row: &[u32],
     pays: &[u32; 36],
     at: usize,
     k: usize,
@@ -170,10 +170,10 @@ fn from_pose(
     buckets: usize,
     lanes: usize,
 ) -> bool
-    requires { ⌜ Source (now table) (now store) (now line) at k m buckets lanes × Pays (now line) k m buckets 36 (now pays) × (b < 60) × (rows ≤ 19) ⌝ }
-    ensures { λ used. ⌜ Gathered (poseIn (now (store .entry)) (now (line .entry)) at k m b) rows buckets lanes (now (table .entry)) (now (table .exit)) × (used ≡ false → now (table .exit) ≡ now (table .entry)) ⌝ }
+    requires { ⌜ Source (now table) (now store) (now row) at k m buckets lanes × Pays (now row) k m buckets 36 (now pays) × (b < 60) × (rows ≤ 19) ⌝ }
+    ensures { λ used. ⌜ Gathered (poseIn (now (store .entry)) (now (row .entry)) at k m b) rows buckets lanes (now (table .entry)) (now (table .exit)) × (used ≡ false → now (table .exit) ≡ now (table .entry)) ⌝ }
 {
-    let t = search_buckets::end_row(line, k, b, m);
+    let t = search_buckets::end_row(row, k, b, m);
     if t >= rows {
         return false;
     }
@@ -188,7 +188,7 @@ fn from_pose(
 pub fn from_poses(
     table: &mut [u32; 10944],
     store: &[u32],
-    line: &[u32],
+    row: &[u32],
     pays: &[u32; 36],
     at: usize,
     k: usize,
@@ -197,14 +197,14 @@ pub fn from_poses(
     buckets: usize,
     lanes: usize,
 ) -> bool
-    requires { ⌜ Source (now table) (now store) (now line) at k m buckets lanes × Pays (now line) k m buckets 36 (now pays) × (poses ≤ 60) ⌝ }
-    ensures { λ used. ⌜ Gathered (posesIn (now (store .entry)) (now (line .entry)) at k m poses) (rowsOf poses) buckets lanes (now (table .entry)) (now (table .exit)) × (used ≡ false → now (table .exit) ≡ now (table .entry)) ⌝ }
+    requires { ⌜ Source (now table) (now store) (now row) at k m buckets lanes × Pays (now row) k m buckets 36 (now pays) × (poses ≤ 60) ⌝ }
+    ensures { λ used. ⌜ Gathered (posesIn (now (store .entry)) (now (row .entry)) at k m poses) (rowsOf poses) buckets lanes (now (table .entry)) (now (table .exit)) × (used ≡ false → now (table .exit) ≡ now (table .entry)) ⌝ }
 {
     let rows = search_buckets::rows_of(poses);
     let mut used = false;
     let mut b: usize = 0;
     while b < poses {
-        if from_pose(table, store, line, pays, at, k, m, b, rows, buckets, lanes) {
+        if from_pose(table, store, row, pays, at, k, m, b, rows, buckets, lanes) {
             used = true;
         }
         b += 1;
@@ -277,7 +277,7 @@ fn put_row(
 // The row of pose a of the cell at position k: NONE where the pose is not offered.
 fn put_pose(
     store: &mut [u32],
-    line: &[u32],
+    row: &[u32],
     table: &[u32; 10944],
     at: usize,
     k: usize,
@@ -285,10 +285,10 @@ fn put_pose(
     buckets: usize,
     lanes: usize,
 )
-    requires { ⌜ ToRows (now store) (now line) (now table) k buckets lanes × (at + lanes ≤ length (now store)) × (a < 60) ⌝ }
-    ensures { λ _. ⌜ Written (foundRowOf buckets (now (line .entry)) (now (table .entry)) k a) at lanes (now (store .entry)) (now (store .exit)) ⌝ }
+    requires { ⌜ ToRows (now store) (now row) (now table) k buckets lanes × (at + lanes ≤ length (now store)) × (a < 60) ⌝ }
+    ensures { λ _. ⌜ Written (foundRowOf buckets (now (row .entry)) (now (table .entry)) k a) at lanes (now (store .entry)) (now (store .exit)) ⌝ }
 {
-    let own = line[k * 128 + a];
+    let own = row[k * 128 + a];
     if own >= search_lanes::NONE {
         search_lanes::fill(store, at, lanes, search_lanes::NONE);
         return;
@@ -299,7 +299,7 @@ fn put_pose(
 // The rows of state q, whose cell stands at position k.
 pub fn put_rows(
     store: &mut [u32],
-    line: &[u32],
+    row: &[u32],
     table: &[u32; 10944],
     to: usize,
     q: usize,
@@ -308,14 +308,14 @@ pub fn put_rows(
     buckets: usize,
     lanes: usize,
 )
-    requires { ⌜ ToRows (now store) (now line) (now table) k buckets lanes × (to + 49152 ≤ length (now store)) × (q < 12) × (poses ≤ 60) ⌝ }
-    ensures { λ _. ⌜ FilledState (foundRows buckets (now (line .entry)) (now (table .entry)) k) lanes to q poses (now (store .entry)) (now (store .exit)) ⌝ }
+    requires { ⌜ ToRows (now store) (now row) (now table) k buckets lanes × (to + 49152 ≤ length (now store)) × (q < 12) × (poses ≤ 60) ⌝ }
+    ensures { λ _. ⌜ FilledState (foundRows buckets (now (row .entry)) (now (table .entry)) k) lanes to q poses (now (store .entry)) (now (store .exit)) ⌝ }
 {
     let mut a: usize = 0;
     while a < poses {
         put_pose(
             store,
-            line,
+            row,
             table,
             to + q * 4096 + a * 64,
             k,

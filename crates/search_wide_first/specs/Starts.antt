@@ -10,7 +10,7 @@ use lib.ListN.{length}
 use lib.Dec.{eqb}
 use Rattle.theory_tables.specs.Steps.{B}
 use Rattle.search_lanes.specs.Store.{Low}
-use Rattle.search_row.specs.Words.{wordOf, LineWords}
+use Rattle.search_row.specs.Words.{wordOf, RowWords}
 use Rattle.search_buckets.specs.Rows.{inRow, bucketsIn, endRow, payIn, onePose}
 use Rattle.search_buckets.specs.Laws.{row-miss, pay-small, found-one}
 use Rattle.search_buckets.specs.Sources.{pose-twin, buckets-last}
@@ -97,7 +97,7 @@ starts-all s = record { long = s .long; low = s .low; done = s .done }
 
 -- ---- what is found
 
-pub starts-low : {line : List ℕ} (p k l v t : ℕ) → LineWords line → startIn line p k l v t ≤ B
+pub starts-low : {line : List ℕ} (p k l v t : ℕ) → RowWords line → startIn line p k l v t ≤ B
 starts-low {line} p k l v t w = go (eqb (endRow line p l k) t) (pay-small line p l k v w)
   where
     go : (z : Bool) → payIn line p l k v ≤ B → cond z (0 + payIn line p l k v) B ≤ B

@@ -5,6 +5,7 @@ use mathlib.Core.List.{List}
 use native.Mathlib.Omega.{arith}
 use native.Mathlib.Decide.{decLt}
 use lib.ListN.{getD}
+use Rattle.search_row.specs.declared.Sizes.{Sizes}
 use Rattle.theory_tables.specs.Steps.{Deck, stateCount, nextLayer}
 use Rattle.search_lanes.specs.Store.{Frame, Low, layerIn}
 use Rattle.search_buckets.specs.Next.{next-ext}
@@ -34,9 +35,9 @@ next-kept D R {at} {old} {new} i q a l s w p h =
 
 -- what a function was given holds on, whatever another one wrote
 pub given-on :
-    {line states old new : List ℕ} {n poses R count lanes i at a b : ℕ}
-    → Given line states old n poses R count lanes i at → Frame a b old new → Low new
-    → Given line states new n poses R count lanes i at
+    {row old new : List ℕ} {z : Sizes} {lanes i at a b : ℕ}
+    → Given row old z lanes i at → Frame a b old new → Low new
+    → Given row new z lanes i at
 given-on g f w = record { ground = g .ground; low = w; narrow = g .narrow; early = g .early; room = omega (arith, g .room, f .long) }
 
 pub beside-on : {old new : List ℕ} {at to a b : ℕ} → Beside old at to → Frame a b old new → Beside new at to

@@ -4,6 +4,7 @@ use mathlib.Core.List.{List}
 use lib.ListN.{length}
 use Rattle.theory_tables.specs.Steps.{Deck, Layer, nextLayer}
 use Rattle.search_lanes.specs.Store.{Low, layerIn}
+use Rattle.search_row.specs.declared.Sizes.{Sizes}
 use Rattle.search_row.specs.Words.{Ground}
 
 -- the next layer in each lane
@@ -13,8 +14,8 @@ nextFrom D R st at i l q a = nextLayer D R (layerIn st at l) i q a
 -- ---- what is given
 
 -- a layer with i cells in the block at `at`
-pub record Given (line states st : List ℕ) (n poses R count lanes i at : ℕ) : Type 0 where
-  pub ground : Ground line states R n poses count
+pub record Given (row st : List ℕ) (z : Sizes) (lanes i at : ℕ) : Type 0 where
+  pub ground : Ground row z
   pub low : Low st
   pub narrow : lanes ≤ 64
   pub early : i ≤ 67

@@ -10,9 +10,10 @@ use native.Mathlib.Numerals.{add-one}
 use borrow.Author.Tests.{lt-ltb, le-ltb, le-leb, lt-leb, eq-eqb, ne-eqb}
 use lib.ListN.{length, getD}
 use lib.Dec.{leb}
+use Rattle.search_row.specs.declared.Sizes.{Sizes}
 use Rattle.theory_tables.specs.Steps.{B, Deck, Layer, stateCount, offset, layers, costTo}
 use Rattle.search_lanes.specs.Store.{Frame, layerIn, Filled}
-use Rattle.search_row.specs.Words.{deckOf}
+use Rattle.search_row.specs.Words.{deckIn}
 use Rattle.search_wide_layer.specs.Loops.{nextFrom, Given, Beside}
 use Rattle.search_buckets.specs.Next.{next-ext, layers-ext}
 use Rattle.search_wide_segment.specs.Runs.{Buffer, Running, Small, Outside, CostRoom, lateIn, delivered, lastIn, CostedBy, CostedRun, SegmentCosted}
@@ -37,8 +38,8 @@ buffer-costs b h = record { room = h .room; apart = λ k x y z w. omega (arith, 
 -- ---- the layers run on
 
 pub given-small :
-    {line states st : List ℕ} {n poses R count lanes i at : ℕ}
-    → Given line states st n poses R count lanes i at → Small (deckOf line n poses) R lanes
+    {row st : List ℕ} {z : Sizes} {lanes i at : ℕ}
+    → Given row st z lanes i at → Small (deckIn row z) (z .reordering) lanes
 given-small g = record { narrow = g .narrow; few = g .ground .few; states = g .ground .coded .few }
 
 pub run-none :

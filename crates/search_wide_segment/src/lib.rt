@@ -5,50 +5,54 @@ ghost use Prim.Native.Nat.{ℕ, suc, _+_, _*_, _-_, _≤_, _<_};
 ghost use lib.ListN.{length};
 ghost use Rattle.theory_tables.specs.Steps.{stateCount};
 ghost use Rattle.search_lanes.specs.Store.{Low, FilledState, Filled};
-ghost use Rattle.search_row.specs.Words.{deckOf, StateWords};
+ghost use Rattle.search_row.specs.Words.{deckIn, StateWords};
 ghost use Rattle.search_wide_buckets.specs.Table.{Lent};
 ghost use Rattle.search_wide_layer.specs.Loops.{Given, Beside};
 ghost use Rattle.search_wide_segment.specs.Runs.{CostRoom, lateIn, delivered, lastIn, CostedRun, SegmentCosted};
+use search_row::Sizes;
 
 // NONE for state q, if it comes to the tall cell with no layer from the one with i cells on.
 fn late_state(
     store: &mut [u32],
-    states: &[u32],
-    poses: usize,
-    r: usize,
+    row: &[u32],
+    sizes: Sizes,
     lanes: usize,
     i: usize,
     tall: usize,
     costs: usize,
     q: usize,
 )
-    requires { ⌜ StateWords r (now states) × Low (now store) × CostRoom (now store) costs × (q < stateCount r) × (poses ≤ 60) × (lanes ≤ 64) × (i ≤ 100) × (tall < 64) ⌝ }
-    ensures { λ _. ⌜ FilledState (lateIn r i tall (now (store .entry)) costs) lanes costs q poses (now (store .entry)) (now (store .exit)) ⌝ }
+    requires { ⌜ StateWords (sizes .reordering) (now row) × Low (now store) × CostRoom (now store) costs × (q < stateCount (sizes .reordering)) × (sizes .poses ≤ 60) × (lanes ≤ 64) × (i ≤ 100) × (tall < 64) ⌝ }
+    ensures { λ _. ⌜ FilledState (lateIn (sizes .reordering) i tall (now (store .entry)) costs) lanes costs q (sizes .poses) (now (store .entry)) (now (store .exit)) ⌝ }
 {
-    if i + search_row::word(states, q * 4) <= tall + r + 1 {
+    if i + search_row::word(row, 8192 + q * 4) <= tall + sizes.reordering + 1 {
         return;
     }
-    search_lanes::fill_rows(store, costs + q * 4096, poses, lanes, search_lanes::NONE);
+    search_lanes::fill_rows(
+        store,
+        costs + q * 4096,
+        sizes.poses,
+        lanes,
+        search_lanes::NONE,
+    );
 }
 
 // NONE for every such state: the costs of the others are delivered.
 fn fill_late(
     store: &mut [u32],
-    states: &[u32],
-    poses: usize,
-    r: usize,
-    count: usize,
+    row: &[u32],
+    sizes: Sizes,
     lanes: usize,
     i: usize,
     tall: usize,
     costs: usize,
 )
-    requires { ⌜ StateWords r (now states) × Low (now store) × CostRoom (now store) costs × (count ≡ stateCount r) × (poses ≤ 60) × (lanes ≤ 64) × (i ≤ 100) × (tall < 64) ⌝ }
-    ensures { λ _. ⌜ Filled (lateIn r i tall (now (store .entry)) costs) lanes poses costs count (now (store .entry)) (now (store .exit)) ⌝ }
+    requires { ⌜ StateWords (sizes .reordering) (now row) × Low (now store) × CostRoom (now store) costs × (sizes .states ≡ stateCount (sizes .reordering)) × (sizes .poses ≤ 60) × (lanes ≤ 64) × (i ≤ 100) × (tall < 64) ⌝ }
+    ensures { λ _. ⌜ Filled (lateIn (sizes .reordering) i tall (now (store .entry)) costs) lanes (sizes .poses) costs (sizes .states) (now (store .entry)) (now (store .exit)) ⌝ }
 {
     let mut q: usize = 0;
-    while q < count {
-        late_state(store, states, poses, r, lanes, i, tall, costs, q);
+    while q < sizes.states {
+        late_state(store, row, sizes, lanes, i, tall, costs, q);
         q += 1;
     }
 }
@@ -56,9 +60,8 @@ fn fill_late(
 // The costs of state q, if it comes to the tall cell with the layer at `from`, which has i cells.
 fn deliver_state(
     store: &mut [u32],
-    states: &[u32],
-    poses: usize,
-    r: usize,
+    row: &[u32],
+    sizes: Sizes,
     lanes: usize,
     i: usize,
     tall: usize,
@@ -66,34 +69,32 @@ fn deliver_state(
     costs: usize,
     q: usize,
 )
-    requires { ⌜ StateWords r (now states) × Low (now store) × CostRoom (now store) costs × (q < stateCount r) × (poses ≤ 60) × (lanes ≤ 64) × (i ≤ 100) × (tall < 64) × (from ≤ 49152) ⌝ }
-    ensures { λ _. ⌜ FilledState (delivered r i tall (now (store .entry)) from costs) lanes costs q poses (now (store .entry)) (now (store .exit)) ⌝ }
+    requires { ⌜ StateWords (sizes .reordering) (now row) × Low (now store) × CostRoom (now store) costs × (q < stateCount (sizes .reordering)) × (sizes .poses ≤ 60) × (lanes ≤ 64) × (i ≤ 100) × (tall < 64) × (from ≤ 49152) ⌝ }
+    ensures { λ _. ⌜ FilledState (delivered (sizes .reordering) i tall (now (store .entry)) from costs) lanes costs q (sizes .poses) (now (store .entry)) (now (store .exit)) ⌝ }
 {
-    if i + search_row::word(states, q * 4) != tall + r + 1 {
+    if i + search_row::word(row, 8192 + q * 4) != tall + sizes.reordering + 1 {
         return;
     }
-    search_lanes::copy_rows(store, from + q * 4096, costs + q * 4096, poses, lanes);
+    search_lanes::copy_rows(store, from + q * 4096, costs + q * 4096, sizes.poses, lanes);
 }
 
 // The costs of every state that comes with that layer.
 fn deliver(
     store: &mut [u32],
-    states: &[u32],
-    poses: usize,
-    r: usize,
-    count: usize,
+    row: &[u32],
+    sizes: Sizes,
     lanes: usize,
     i: usize,
     tall: usize,
     from: usize,
     costs: usize,
 )
-    requires { ⌜ StateWords r (now states) × Low (now store) × CostRoom (now store) costs × (count ≡ stateCount r) × (poses ≤ 60) × (lanes ≤ 64) × (i ≤ 100) × (tall < 64) × (from ≤ 49152) ⌝ }
-    ensures { λ _. ⌜ Filled (delivered r i tall (now (store .entry)) from costs) lanes poses costs count (now (store .entry)) (now (store .exit)) ⌝ }
+    requires { ⌜ StateWords (sizes .reordering) (now row) × Low (now store) × CostRoom (now store) costs × (sizes .states ≡ stateCount (sizes .reordering)) × (sizes .poses ≤ 60) × (lanes ≤ 64) × (i ≤ 100) × (tall < 64) × (from ≤ 49152) ⌝ }
+    ensures { λ _. ⌜ Filled (delivered (sizes .reordering) i tall (now (store .entry)) from costs) lanes (sizes .poses) costs (sizes .states) (now (store .entry)) (now (store .exit)) ⌝ }
 {
     let mut q: usize = 0;
-    while q < count {
-        deliver_state(store, states, poses, r, lanes, i, tall, from, costs, q);
+    while q < sizes.states {
+        deliver_state(store, row, sizes, lanes, i, tall, from, costs, q);
         q += 1;
     }
 }
@@ -102,53 +103,26 @@ fn deliver(
 fn run_to(
     table: &mut [u32; 10944],
     store: &mut [u32],
-    line: &[u32],
-    states: &[u32],
-    n: usize,
-    poses: usize,
-    r: usize,
-    count: usize,
+    row: &[u32],
+    sizes: Sizes,
     lanes: usize,
     i: usize,
     tall: usize,
     costs: usize,
 ) -> usize
-    requires { ⌜ Lent (now table) × Given (now line) (now states) (now store) n poses r count lanes i 0 × CostRoom (now store) costs × (tall < 64) ⌝ }
-    ensures { λ at. ⌜ CostedRun (deckOf (now (line .entry)) n poses) r lanes i tall (tall + r - i) at costs (now (store .entry)) (now (store .exit)) × Lent (now (table .exit)) ⌝ }
+    requires { ⌜ Lent (now table) × Given (now row) (now store) sizes lanes i 0 × CostRoom (now store) costs × (tall < 64) ⌝ }
+    ensures { λ at. ⌜ CostedRun (deckIn (now (row .entry)) sizes) (sizes .reordering) lanes i tall (tall + sizes .reordering - i) at costs (now (store .entry)) (now (store .exit)) × Lent (now (table .exit)) ⌝ }
 {
-    fill_late(store, states, poses, r, count, lanes, i, tall, costs);
-    deliver(store, states, poses, r, count, lanes, i, tall, 0, costs);
+    fill_late(store, row, sizes, lanes, i, tall, costs);
+    deliver(store, row, sizes, lanes, i, tall, 0, costs);
+    let r = sizes.reordering;
     let mut from: usize = 0;
     let mut d: usize = 0;
     while i + d < tall + r {
-        search_wide_layer::step_layer(
-            table,
-            store,
-            line,
-            states,
-            n,
-            poses,
-            r,
-            count,
-            lanes,
-            i + d,
-            from,
-            49152 - from,
-        );
+        search_wide_layer::step_layer(table, store, row, sizes, lanes, i + d, from, 49152 - from);
         from = 49152 - from;
         d += 1;
-        deliver(
-            store,
-            states,
-            poses,
-            r,
-            count,
-            lanes,
-            i + d,
-            tall,
-            from,
-            costs,
-        );
+        deliver(store, row, sizes, lanes, i + d, tall, from, costs);
     }
     from
 }
@@ -157,12 +131,8 @@ fn run_to(
 fn last_state(
     table: &mut [u32; 10944],
     store: &mut [u32],
-    line: &[u32],
-    states: &[u32],
-    n: usize,
-    poses: usize,
-    r: usize,
-    count: usize,
+    row: &[u32],
+    sizes: Sizes,
     lanes: usize,
     i: usize,
     tall: usize,
@@ -170,66 +140,33 @@ fn last_state(
     costs: usize,
     q: usize,
 )
-    requires { ⌜ Lent (now table) × Given (now line) (now states) (now store) n poses r count lanes i from × Beside (now store) from costs × (tall < 64) × (q < count) ⌝ }
-    ensures { λ _. ⌜ FilledState (lastIn (deckOf (now (line .entry)) n poses) r i tall (now (store .entry)) from costs) lanes costs q poses (now (store .entry)) (now (store .exit)) × Lent (now (table .exit)) ⌝ }
+    requires { ⌜ Lent (now table) × Given (now row) (now store) sizes lanes i from × Beside (now store) from costs × (tall < 64) × (q < sizes .states) ⌝ }
+    ensures { λ _. ⌜ FilledState (lastIn (deckIn (now (row .entry)) sizes) (sizes .reordering) i tall (now (store .entry)) from costs) lanes costs q (sizes .poses) (now (store .entry)) (now (store .exit)) × Lent (now (table .exit)) ⌝ }
 {
-    if i + 1 + search_row::word(states, q * 4) != tall + r + 1 {
+    if i + 1 + search_row::word(row, 8192 + q * 4) != tall + sizes.reordering + 1 {
         return;
     }
-    search_wide_layer::target_block(
-        table,
-        store,
-        line,
-        states,
-        n,
-        poses,
-        r,
-        count,
-        lanes,
-        i,
-        from,
-        costs,
-        q,
-    );
+    search_wide_layer::target_block(table, store, row, sizes, lanes, i, from, costs, q);
 }
 
 // The costs of every such state: of the last layer nothing else is wanted.
 fn last_layer(
     table: &mut [u32; 10944],
     store: &mut [u32],
-    line: &[u32],
-    states: &[u32],
-    n: usize,
-    poses: usize,
-    r: usize,
-    count: usize,
+    row: &[u32],
+    sizes: Sizes,
     lanes: usize,
     i: usize,
     tall: usize,
     from: usize,
     costs: usize,
 )
-    requires { ⌜ Lent (now table) × Given (now line) (now states) (now store) n poses r count lanes i from × Beside (now store) from costs × (tall < 64) ⌝ }
-    ensures { λ _. ⌜ Filled (lastIn (deckOf (now (line .entry)) n poses) r i tall (now (store .entry)) from costs) lanes poses costs count (now (store .entry)) (now (store .exit)) × Lent (now (table .exit)) ⌝ }
+    requires { ⌜ Lent (now table) × Given (now row) (now store) sizes lanes i from × Beside (now store) from costs × (tall < 64) ⌝ }
+    ensures { λ _. ⌜ Filled (lastIn (deckIn (now (row .entry)) sizes) (sizes .reordering) i tall (now (store .entry)) from costs) lanes (sizes .poses) costs (sizes .states) (now (store .entry)) (now (store .exit)) × Lent (now (table .exit)) ⌝ }
 {
     let mut q: usize = 0;
-    while q < count {
-        last_state(
-            table,
-            store,
-            line,
-            states,
-            n,
-            poses,
-            r,
-            count,
-            lanes,
-            i,
-            tall,
-            from,
-            costs,
-            q,
-        );
+    while q < sizes.states {
+        last_state(table, store, row, sizes, lanes, i, tall, from, costs, q);
         q += 1;
     }
 }
@@ -238,48 +175,27 @@ fn last_layer(
 pub fn segment_to(
     table: &mut [u32; 10944],
     store: &mut [u32],
-    line: &[u32],
-    states: &[u32],
-    n: usize,
-    poses: usize,
-    r: usize,
-    count: usize,
+    row: &[u32],
+    sizes: Sizes,
     lanes: usize,
     i: usize,
     tall: usize,
     costs: usize,
 )
-    requires { ⌜ Lent (now table) × Given (now line) (now states) (now store) n poses r count lanes i 0 × CostRoom (now store) costs × (tall < 64) ⌝ }
-    ensures { λ _. ⌜ SegmentCosted (deckOf (now (line .entry)) n poses) r lanes i tall costs (now (store .entry)) (now (store .exit)) × Lent (now (table .exit)) ⌝ }
+    requires { ⌜ Lent (now table) × Given (now row) (now store) sizes lanes i 0 × CostRoom (now store) costs × (tall < 64) ⌝ }
+    ensures { λ _. ⌜ SegmentCosted (deckIn (now (row .entry)) sizes) (sizes .reordering) lanes i tall costs (now (store .entry)) (now (store .exit)) × Lent (now (table .exit)) ⌝ }
 {
-    let from = run_to(
-        table,
-        store,
-        line,
-        states,
-        n,
-        poses,
-        r,
-        count,
-        lanes,
-        i,
-        tall,
-        costs,
-    );
-    if i > tall + r {
+    let from = run_to(table, store, row, sizes, lanes, i, tall, costs);
+    if i > tall + sizes.reordering {
         return;
     }
     last_layer(
         table,
         store,
-        line,
-        states,
-        n,
-        poses,
-        r,
-        count,
+        row,
+        sizes,
         lanes,
-        tall + r,
+        tall + sizes.reordering,
         tall,
         from,
         costs,

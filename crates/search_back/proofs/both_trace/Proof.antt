@@ -6,12 +6,12 @@ use Rattle.search_back.proofs.both_trace.Tie as tie
 
 stage-trace-requires : tie.Need-stage-trace-requires
 stage-trace-requires c κs =
-    leg-row₀ (c .before .before .before .before .before .before .before .before .before .before .pre)
+    leg-row₀ (c .before .before .before .before .before .before .before .pre)
 
 stage-trace-requires-2 : tie.Need-stage-trace-requires-2
 stage-trace-requires-2 c κs =
     let w = c .before .before .before .before .before .before .stage-trace .ensures in
-    leg-row₁ (c .before .before .before .before .before .before .before .before .before .before .before .before .before .before .before .before .before .pre) (w .low) (w .frame .long)
+    leg-row₁ (c .before .before .before .before .before .before .before .before .before .before .before .before .before .before .pre) (w .low) (w .frame .long)
 
 same-length : tie.Need-same-length
 same-length c = search needs

@@ -10,11 +10,11 @@ use Rattle.search_back.proofs.scatter.Statement.{statement}
 use Rattle.search_back.proofs.scatter.Tie as tie
 
 abbrev Inv-loop : tie.InvT-loop
-Inv-loop out₀ path line n i₀ out i =
-    (0 < i) × (i ≤ n + 1) × Upto line path i out₀ out
+Inv-loop out₀ path row n i₀ out i =
+    (0 < i) × (i ≤ n + 1) × Upto row path i out₀ out
 
 abbrev μ-loop : tie.MeasureT-loop
-μ-loop out₀ path line n i₀ out i =
+μ-loop out₀ path row n i₀ out i =
     n + 1 - i
 
 -- the place's position is in the row, and its cell has a word

@@ -2,7 +2,7 @@
 use Prim.Native.Nat.{_+_, _-_, _/_, _%_}
 use mathlib.Core.Path.{_∙_}
 use native.Mathlib.Omega.{arith}
-use Rattle.search_row.specs.Words.{deckOf}
+use Rattle.search_row.specs.Words.{deckIn}
 use Rattle.search_back_segment.specs.Steps.{trace-entry, trace-rest, trace-none, trace-more}
 use borrow.Author.Needs.{needs}
 use Prim.Native.Nat.{ℕ, _<_}
@@ -16,15 +16,15 @@ use Rattle.search_back_segment.proofs.note.Reads as note-reads
 use Rattle.search_back_segment.proofs.+trace.{statement}
 use Rattle.search_back_segment.proofs.+trace.Tie.{close}
 
-abbrev μ-trace : Measures 4 trace-kinds.ps ℕ
+abbrev μ-trace : Measures 3 trace-kinds.ps ℕ
 μ-trace κs a =
-    a .1 .1 .1 .1 .1 .1 .1 .1 .1 .0
+    a .1 .1 .1 .1 .1 .0
 
-abbrev trace-at : ℕ → In 4 trace-kinds.ps
-trace-at t = and 4 trace-kinds.ps (is 4 trace-kinds.ps μ-trace t) trace.Pre
+abbrev trace-at : ℕ → In 3 trace-kinds.ps
+trace-at t = and 3 trace-kinds.ps (is 3 trace-kinds.ps μ-trace t) trace.Pre
 
-abbrev trace-below : ℕ → In 4 trace-kinds.ps
-trace-below t = and 4 trace-kinds.ps (falls 4 trace-kinds.ps _<_ μ-trace t) trace.Pre
+abbrev trace-below : ℕ → In 3 trace-kinds.ps
+trace-below t = and 3 trace-kinds.ps (falls 3 trace-kinds.ps _<_ μ-trace t) trace.Pre
 
 trace-add-note : (t : ℕ) → trace-lts.Need-add-note (
   note-reads.Asked,
@@ -45,7 +45,7 @@ trace-note-requires : (t : ℕ) → trace-lts.Need-note-requires (
   trace.Post,
 ) (trace-at t) trace.Post
 trace-note-requires t c κs =
-    let g = c .before .before .before .before .before .pre .1 in
+    let g = c .before .before .before .before .pre .1 in
     (g .back .ground .coded, g .state, omega (arith, g .pose, g .back .ground .few), g .last, g .room)
 
 trace-same-length : (t : ℕ) → trace-lts.Need-same-length (
@@ -68,10 +68,10 @@ trace-returns : (t : ℕ) → trace-lts.Need-returns (
   trace.Post,
 ) (trace-at t) trace.Post
 trace-returns t c =
-    let k = c .before .before .before .before .before .before .before .before .before in
+    let k = c .before .before .before .before .before .before .before .before in
     let a = k .args in
     let g = k .pre .1 in
-    trace-none (deckOf (a .line .now) (a .n) (a .poses)) (a .r) (a .store .now) (a .i) (a .d) (a .q) (a .a) (c .if1 .taken) (c .before .before .before .note .ensures) (omega (arith, g .last, g .room))
+    trace-none (deckIn (a .row .now) (a .sizes)) (a .sizes .reordering) (a .store .now) (a .i) (a .d) (a .q) (a .a) (c .if1 .taken) (c .before .before .before .note .ensures) (omega (arith, g .last, g .room))
 
 trace-sub-entry-source : (t : ℕ) → trace-lts.Need-sub-entry-source (
   note-reads.Asked,
@@ -101,7 +101,7 @@ trace-entry-source-requires : (t : ℕ) → trace-lts.Need-entry-source-requires
   trace-below t,
   trace.Post,
 ) (trace-at t) trace.Post
-trace-entry-source-requires t c κs = trace-entry (omega arith) (c .before .before .before .before .before .before .before .before .before .pre .1)
+trace-entry-source-requires t c κs = trace-entry (omega arith) (c .before .before .before .before .before .before .before .before .pre .1)
 
 trace-sub-trace : (t : ℕ) → trace-lts.Need-sub-trace (
   note-reads.Asked,
@@ -122,7 +122,7 @@ trace-trace-requires : (t : ℕ) → trace-lts.Need-trace-requires (
   trace.Post,
 ) (trace-at t) trace.Post
 trace-trace-requires t c κs =
-    let k = c .before .before .before .before .before .before .before .before .before .before .before in
+    let k = c .before .before .before .before .before .before .before .before .before .before in
     (omega arith, trace-rest (omega arith) (c .before .before .before .before .before .note .kept .0) (k .pre .1) (c .before .entry-source .ensures))
 
 trace-same-length-2 : (t : ℕ) → trace-lts.Need-same-length-2 (
@@ -145,11 +145,11 @@ trace-returns-2 : (t : ℕ) → trace-lts.Need-returns-2 (
   trace.Post,
 ) (trace-at t) trace.Post
 trace-returns-2 t c =
-    let k = c .before .before .before .before .before .before .before .before .before .before .before .before .before .before in
+    let k = c .before .before .before .before .before .before .before .before .before .before .before .before .before in
     let a = k .args in
     let g = k .pre .1 in
     let n = c .before .before .before .before .entry-source in
-    trace-more (deckOf (a .line .now) (a .n) (a .poses)) (a .r) (a .store .now) (a .i) (a .d) (a .d - 1) (a .q) (a .a) (n .result / 64) (n .result % 64) (omega arith)
+    trace-more (deckIn (a .row .now) (a .sizes)) (a .sizes .reordering) (a .store .now) (a .i) (a .d) (a .d - 1) (a .q) (a .a) (n .result / 64) (n .result % 64) (omega arith)
     (c .before .before .before .before .before .before .before .before .note .ensures) (omega (arith, g .last, g .room)) (g .state) (g .pose) (n .ensures) (c .before .before .trace .ensures)
 
 pub +trace-spec : {M : Type 1} → statement M

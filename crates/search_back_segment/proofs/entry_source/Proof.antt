@@ -5,7 +5,7 @@ use native.Mathlib.Omega.{arith}
 use borrow.Author.Needs.{needs}
 use lib.ListN.{getD}
 use Rattle.theory_tables.specs.Steps.{lastAt, reached}
-use Rattle.search_row.specs.Words.{deckOf}
+use Rattle.search_row.specs.Words.{deckIn}
 use Rattle.search_row.specs.Laws.{there-size}
 use Rattle.search_dense_layer.specs.Kept.{keptIn}
 use Rattle.search_back_segment.specs.Sources.{entry-parts, entry-source}
@@ -13,30 +13,30 @@ use Rattle.search_back_segment.proofs.entry_source.Statement.{statement
 use Rattle.search_back_segment.proofs.entry_source.Tie as tie
 
 -- the cell is in the row; and its place, as read
-inside : (c : tie.After-last-at) → let a = c .before .before .before .before .args in (lastAt (a .r) (suc (a .i)) (a .q) < a .n) × (c .last-at .result ≡ lastAt (a .r) (suc (a .i)) (a .q))
+inside : (c : tie.After-last-at) → let a = c .before .before .before .args in (lastAt (a .sizes .reordering) (suc (a .i)) (a .q) < a .sizes .cells) × (c .last-at .result ≡ lastAt (a .sizes .reordering) (suc (a .i)) (a .q))
 inside c =
-    let k = c .before .before .before .before in
+    let k = c .before .before .before in
     let a = k .args in
-    let w = entry-parts (deckOf (a .line .now) (a .n) (a .poses)) (a .r) (a .store .now) (a .i) (a .q) (a .a) (k .pre .next) (k .pre .cost) in
-    (there-size (a .n) (a .r) (suc (a .i)) (a .q) (w .0), omega (arith, c .last-at .ensures))
+    let w = entry-parts (deckIn (a .row .now) (a .sizes)) (a .sizes .reordering) (a .store .now) (a .i) (a .q) (a .a) (k .pre .next) (k .pre .cost) in
+    (there-size (a .sizes .cells) (a .sizes .reordering) (suc (a .i)) (a .q) (w .0), omega (arith, c .last-at .ensures))
 
 -- the cost read is the own cost read and what the entry was reached by
-abbrev Parts : tie.After-shared-slice-known5 → Type 0
+abbrev Parts : tie.After-shared-slice-known4 → Type 0
 Parts c =
-    let a = c .before .before .before .before .before .before .before .args in
+    let a = c .before .before .before .before .before .before .args in
     (getD (a .store .now) (c .before .kept-at .result + a .q * 64 + a .a) 0 ≡ keptIn (a .store .now) (suc (a .i)) (a .q) (a .a))
     × (keptIn (a .store .now) (suc (a .i)) (a .q) (a .a)
-    ≡ getD (a .line .now) (c .before .before .before .last-at .result * 128 + a .a) 0 + reached (deckOf (a .line .now) (a .n) (a .poses)) (a .r) (keptIn (a .store .now) (a .i)) (a .i) (a .q) (a .a))
+    ≡ getD (a .row .now) (c .before .before .before .last-at .result * 128 + a .a) 0 + reached (deckIn (a .row .now) (a .sizes)) (a .sizes .reordering) (keptIn (a .store .now) (a .i)) (a .i) (a .q) (a .a))
 
-parts : (c : tie.After-shared-slice-known5) → Parts c
+parts : (c : tie.After-shared-slice-known4) → Parts c
 parts c =
-    let k = c .before .before .before .before .before .before .before in
+    let k = c .before .before .before .before .before .before in
     let a = k .args in
-    let D = deckOf (a .line .now) (a .n) (a .poses) in
-    let w = entry-parts D (a .r) (a .store .now) (a .i) (a .q) (a .a) (k .pre .next) (k .pre .cost) in
+    let D = deckIn (a .row .now) (a .sizes) in
+    let w = entry-parts D (a .sizes .reordering) (a .store .now) (a .i) (a .q) (a .a) (k .pre .next) (k .pre .cost) in
     let e = inside (c .before .before .before) .1 in (
       ap (λ (j : ℕ). getD (a .store .now) j 0) (omega (arith, c .before .kept-at .ensures)),
-      w .1 ∙ ap (λ (p : ℕ). getD (a .line .now) (p * 128 + a .a) 0 + reached D (a .r) (keptIn (a .store .now) (a .i)) (a .i) (a .q) (a .a)) (sym e),
+      w .1 ∙ ap (λ (p : ℕ). getD (a .row .now) (p * 128 + a .a) 0 + reached D (a .sizes .reordering) (keptIn (a .store .now) (a .i)) (a .i) (a .q) (a .a)) (sym e),
     )
 
 add-last-at : tie.Need-add-last-at
@@ -47,23 +47,23 @@ last-at-requires c κs = search needs
 
 mul-own : tie.Need-mul-own
 mul-own c =
-    let k = c .before .before .before .before in
+    let k = c .before .before .before in
     omega (arith, inside c, k .pre .back .ground .size, k .pre .back .ground .few, k .pre .pose)
 
 add-own : tie.Need-add-own
 add-own c =
-    let k = c .before .before .before .before in
+    let k = c .before .before .before in
     omega (arith, inside c, k .pre .back .ground .size, k .pre .back .ground .few, k .pre .pose)
 
 mul-own-2 : tie.Need-mul-own-2
 mul-own-2 c =
-    let k = c .before .before .before .before in
+    let k = c .before .before .before in
     omega (arith, inside c, k .pre .back .ground .size, k .pre .back .ground .few, k .pre .pose)
 
 shared-slice-read-own : tie.Need-shared-slice-read-own
 shared-slice-read-own c =
-    let k = c .before .before .before .before .before in
-    omega (arith, inside (c .before), k .pre .back .ground .size, k .pre .back .ground .few, k .pre .pose, k .pre .back .ground .row .long)
+    let k = c .before .before .before .before in
+    omega (arith, inside (c .before), k .pre .back .ground .size, k .pre .back .ground .few, k .pre .pose, k .pre .back .ground .words .long)
 
 add-kept-at : tie.Need-add-kept-at
 add-kept-at c = search needs
@@ -92,17 +92,17 @@ sub-find-source c =
 
 find-source-requires : tie.Need-find-source-requires
 find-source-requires c κs =
-    let k = c .before .before .before .before .before .before .before in
+    let k = c .before .before .before .before .before .before in
     let p = parts c in
     (k .pre .back, k .pre .last, k .pre .state, inside (c .before .before .before) .0, k .pre .pose, omega (arith, k .pre .cost), omega arith)
 
 returns : tie.Need-returns
 returns c =
-    let k = c .before .before .before .before .before .before .before .before in
+    let k = c .before .before .before .before .before .before .before in
     let a = k .args in
     let p = parts (c .before) in
-    let o = ap (λ (p : ℕ). getD (a .line .now) (p * 128 + a .a) 0) (inside (c .before .before .before .before) .1) in
-    entry-source (deckOf (a .line .now) (a .n) (a .poses)) (a .r) (a .store .now) (a .i) (a .q) (a .a) (c .find-source .ensures) (omega arith)
+    let o = ap (λ (p : ℕ). getD (a .row .now) (p * 128 + a .a) 0) (inside (c .before .before .before .before) .1) in
+    entry-source (deckIn (a .row .now) (a .sizes)) (a .sizes .reordering) (a .store .now) (a .i) (a .q) (a .a) (c .find-source .ensures) (omega arith)
 
 pub entry-source-spec : {M : Type 1} → statement M
 entry-source-spec =

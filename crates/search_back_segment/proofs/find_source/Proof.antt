@@ -4,19 +4,19 @@ use mathlib.Core.Path.{_≡_}
 use native.Mathlib.Omega.{arith}
 use borrow.Author.Count.{below-more}
 use borrow.Author.Needs.{needs}
-use Rattle.search_row.specs.Words.{deckOf}
+use Rattle.search_row.specs.Words.{deckIn}
 use Rattle.search_dense_layer.specs.Kept.{keptIn}
 use Rattle.search_back_segment.specs.Sources.{Misses, reached-missed, state-fits}
 use Rattle.search_back_segment.proofs.find_source.Statement.{statement}
 use Rattle.search_back_segment.proofs.find_source.Tie as tie
 
 abbrev Inv-loop : tie.InvT-loop
-Inv-loop store line states n poses r count i q a want p₀ p =
-    (p ≤ count) × ((j : ℕ) → j < p → Misses (deckOf line n poses) r (keptIn store i) i q a want j)
+Inv-loop store row sizes i q a want p₀ p =
+    (p ≤ (sizes .states)) × ((j : ℕ) → j < p → Misses (deckIn row sizes) (sizes .reordering) (keptIn store i) i q a want j)
 
 abbrev μ-loop : tie.MeasureT-loop
-μ-loop store line states n poses r count i q a want p₀ p =
-    count - p
+μ-loop store row sizes i q a want p₀ p =
+    (sizes .states) - p
 
 loop-holds : tie.Need-loop-holds Inv-loop μ-loop
 loop-holds c =
@@ -29,26 +29,26 @@ state-pose-requires c κs =
 
 mul-result : tie.Need-mul-result Inv-loop μ-loop
 mul-result c =
-    let p = c .before .before .before .before .before .before .before .pre in
+    let p = c .before .before .before .before .before .before .before .before .pre in
     omega (arith, p .0 .ground .all, p .0 .ground .coded .few)
 
 add-result : tie.Need-add-result Inv-loop μ-loop
 add-result c =
-    let p = c .before .before .before .before .before .before .before .pre in
+    let p = c .before .before .before .before .before .before .before .before .pre in
     omega (arith, p .0 .ground .all, p .0 .ground .coded .few, p .0 .ground .few)
 
 returns : tie.Need-returns Inv-loop μ-loop
 returns c =
-    let k = c .before .before .before .before .before .before .before in
+    let k = c .before .before .before .before .before .before .before .before in
     let a = k .args in
-    let p = c .before .before .before .loop .p in
-    let b = c .before .state-pose .result in
+    let p = c .before .before .before .before .before .loop .p in
+    let b = c .before .before .state-pose .result in
     let l = k .pre .0 .ground .few in
     let x : (p * 64 + b) / 64 ≡ p = omega arith in
     let y : (p * 64 + b) % 64 ≡ b = omega arith in
     rw (x, y)
-    (state-fits (deckOf (a .line .now) (a .n) (a .poses)) (a .r) (keptIn (a .store .now) (a .i)) (a .i) (a .q) (a .a) (a .want) p b
-    (omega (arith, k .pre .0 .ground .all)) (omega arith) (k .pre .5) (c .before .state-pose .ensures .hit (omega arith)))
+    (state-fits (deckIn (a .row .now) (a .sizes)) (a .sizes .reordering) (keptIn (a .store .now) (a .i)) (a .i) (a .q) (a .a) (a .want) p b
+    (omega (arith, k .pre .0 .ground .all)) (omega arith) (k .pre .5) (c .before .before .state-pose .ensures .hit (omega arith)))
 
 add-p : tie.Need-add-p Inv-loop μ-loop
 add-p c = search needs
@@ -58,16 +58,16 @@ loop-less c = search needs
 
 loop-again : tie.Need-loop-again Inv-loop μ-loop
 loop-again c =
-    let l = c .before .before .before .loop in
-    (omega arith, below-more _ _ (l .inv .1) (λ b h. c .before .state-pose .ensures .miss b (omega arith)))
+    let l = c .before .before .before .before .before .loop in
+    (omega arith, below-more _ _ (l .inv .1) (λ b h. c .before .before .state-pose .ensures .miss b (omega arith)))
 
 returns-2 : tie.Need-returns-2 Inv-loop μ-loop
 returns-2 c =
     let k = c .before .before .before .before .before in
     let a = k .args in
     absurd
-    (reached-missed (deckOf (a .line .now) (a .n) (a .poses)) (a .r) (keptIn (a .store .now) (a .i)) (a .i) (a .q) (a .a) (a .want) (k .pre .5)
-    (λ j h. c .before .loop .inv .1 j (omega (arith, k .pre .0 .ground .all))) (k .pre .6))
+    (reached-missed (deckIn (a .row .now) (a .sizes)) (a .sizes .reordering) (keptIn (a .store .now) (a .i)) (a .i) (a .q) (a .a) (a .want) (k .pre .5)
+    (λ j h. c .before .before .loop .inv .1 j (omega (arith, k .pre .0 .ground .all))) (k .pre .6))
 
 pub find-source-spec : {M : Type 1} → statement M
 find-source-spec =

@@ -7,7 +7,7 @@ use lib.Dec.{eqb}
 use lib.ListN.{getD}
 use borrow.Author.Needs.{needs}
 use borrow.Author.Tests.{eq-eqb, ne-eqb, not-true, not-false}
-use Rattle.search_row.specs.Words.{wordOf, backIn, deckOf, thereIn}
+use Rattle.search_row.specs.Words.{wordOf, backIn, deckIn, thereIn}
 use Rattle.search_row.specs.Laws.{there-size, back-low}
 use Rattle.search_dense_layer.specs.Kept.{keptIn}
 use Rattle.search_back_segment.specs.Lasts.{last-in, last-beyond, last-out, last-tall}
@@ -16,7 +16,7 @@ use Rattle.search_back_segment.proofs.last_word.Tie as tie
 
 -- past the second test the position is in the row
 abbrev There : tie.Else2 → Type 0
-There c = let a = c .before .before .before .before .before .before .args in thereIn (a .n) (a .r) (a .n) (a .c / 64) ≡ true
+There c = let a = c .before .before .before .before .before .before .args in thereIn (a .sizes .cells) (a .sizes .reordering) (a .sizes .cells) (a .c / 64) ≡ true
 
 there : (c : tie.Else2) → There c
 there c = sym (c .before .is-there .ensures) ∙ not-false _ (c .if2 .left)
@@ -25,12 +25,12 @@ inside : (c : tie.After-last-at) → c .last-at .result < 64
 inside c =
     let k = c .before .before .before .before .before .before .before in
     let a = k .args in
-    omega (arith, c .last-at .ensures, there-size (a .n) (a .r) (a .n) (a .c / 64) (there (c .before)), k .pre .0 .ground .size)
+    omega (arith, c .last-at .ensures, there-size (a .sizes .cells) (a .sizes .reordering) (a .sizes .cells) (a .c / 64) (there (c .before)), k .pre .0 .ground .size)
 
 returns : tie.Need-returns
 returns c =
     let a = c .before .before .before .before .args in
-    sym (last-beyond (deckOf (a .line .now) (a .n) (a .poses)) (a .r) (keptIn (a .store .now) (a .n)) (a .c / 64) (a .c % 64) (omega arith))
+    sym (last-beyond (deckIn (a .row .now) (a .sizes)) (a .sizes .reordering) (keptIn (a .store .now) (a .sizes .cells)) (a .c / 64) (a .c % 64) (omega arith))
 
 is-there-requires : tie.Need-is-there-requires
 is-there-requires c κs = search needs
@@ -39,7 +39,7 @@ returns-2 : tie.Need-returns-2
 returns-2 c =
     let a = c .before .before .before .before .before .before .args in
     sym
-    (last-out (deckOf (a .line .now) (a .n) (a .poses)) (a .r) (keptIn (a .store .now) (a .n)) (a .c / 64) (a .c % 64)
+    (last-out (deckIn (a .row .now) (a .sizes)) (a .sizes .reordering) (keptIn (a .store .now) (a .sizes .cells)) (a .c / 64) (a .c % 64)
     (sym (c .before .is-there .ensures) ∙ not-true _ (c .if2 .taken)))
 
 last-at-requires : tie.Need-last-at-requires
@@ -55,14 +55,14 @@ mul-if3-2 : tie.Need-mul-if3-2
 mul-if3-2 c = omega (arith, inside c)
 
 shared-slice-read-if3 : tie.Need-shared-slice-read-if3
-shared-slice-read-if3 c = omega (arith, inside (c .before), c .before .before .before .before .before .before .before .before .pre .0 .ground .row .long)
+shared-slice-read-if3 c = omega (arith, inside (c .before), c .before .before .before .before .before .before .before .before .pre .0 .ground .words .long)
 
 returns-3 : tie.Need-returns-3
 returns-3 c =
     let a = c .before .before .before .before .before .before .before .before .before .args in
-    let e = ap (λ (p : ℕ). eqb (wordOf (a .line .now) p 67) 1) (c .before .before .last-at .ensures) in
+    let e = ap (λ (p : ℕ). eqb (wordOf (a .row .now) p 67) 1) (c .before .before .last-at .ensures) in
     sym
-    (last-tall (deckOf (a .line .now) (a .n) (a .poses)) (a .r) (keptIn (a .store .now) (a .n)) (a .c / 64) (a .c % 64)
+    (last-tall (deckIn (a .row .now) (a .sizes)) (a .sizes .reordering) (keptIn (a .store .now) (a .sizes .cells)) (a .c / 64) (a .c % 64)
     (sym e ∙ eq-eqb _ _ (c .if3 .taken)))
 
 kept-at-requires : tie.Need-kept-at-requires
@@ -80,22 +80,22 @@ shared-slice-read-result c = search needs
 back-requires : tie.Need-back-requires
 back-requires c κs =
     let k = c .before .before .before .before .before .before .before .before .before .before .before in
-    (k .pre .0 .ground .row, inside (c .before .before .before .before), omega (arith, k .pre .0 .ground .few))
+    (k .pre .0 .ground .words, inside (c .before .before .before .before), omega (arith, k .pre .0 .ground .few))
 
 add-result-2 : tie.Need-add-result-2
 add-result-2 c =
     let k = c .before .before .before .before .before .before .before .before .before .before .before .before in
     let a = k .args in
-    omega (arith, k .pre .0 .low .word (c .before .before .kept-at .result + a .c), c .back .ensures, back-low (a .line .now) (c .before .before .before .before .before .last-at .result) (a .c % 64))
+    omega (arith, k .pre .0 .low .word (c .before .before .kept-at .result + a .c), c .back .ensures, back-low (a .row .now) (c .before .before .before .before .before .last-at .result) (a .c % 64))
 
 returns-4 : tie.Need-returns-4
 returns-4 c =
     let a = c .before .before .before .before .before .before .before .before .before .before .before .before .args in
-    let e = ap (λ (p : ℕ). eqb (wordOf (a .line .now) p 67) 1) (c .before .before .before .before .before .last-at .ensures) in
+    let e = ap (λ (p : ℕ). eqb (wordOf (a .row .now) p 67) 1) (c .before .before .before .before .before .last-at .ensures) in
     ap₂ (λ (x y : ℕ). x + y) (ap (λ (k : ℕ). getD (a .store .now) k 0) (omega (arith, c .before .before .kept-at .ensures)))
-    (c .back .ensures ∙ ap (λ (k : ℕ). backIn (a .line .now) k (a .c % 64)) (c .before .before .before .before .before .last-at .ensures))
+    (c .back .ensures ∙ ap (λ (k : ℕ). backIn (a .row .now) k (a .c % 64)) (c .before .before .before .before .before .last-at .ensures))
     ∙ sym
-    (last-in (deckOf (a .line .now) (a .n) (a .poses)) (a .r) (keptIn (a .store .now) (a .n)) (a .c / 64) (a .c % 64)
+    (last-in (deckIn (a .row .now) (a .sizes)) (a .sizes .reordering) (keptIn (a .store .now) (a .sizes .cells)) (a .c / 64) (a .c % 64)
     (omega arith) (there (c .before .before .before .before .before .before)) (sym e ∙ ne-eqb _ _ (c .before .before .before .if3 .left)))
 
 pub last-word-spec : {M : Type 1} → statement M

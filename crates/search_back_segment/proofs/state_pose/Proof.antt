@@ -6,7 +6,7 @@ use native.Mathlib.Omega.{arith}
 use borrow.Author.Needs.{needs}
 use borrow.Author.Tests.{not-true, not-false}
 use Rattle.theory_tables.specs.Steps.{isSource, lastAt}
-use Rattle.search_row.specs.Words.{deckOf}
+use Rattle.search_row.specs.Words.{deckIn}
 use Rattle.search_row.specs.Laws.{source-size}
 use Rattle.search_dense_layer.specs.Kept.{keptIn}
 use Rattle.search_back_segment.specs.Sources.{poses-first, poses-none}
@@ -15,7 +15,7 @@ use Rattle.search_back_segment.proofs.state_pose.Tie as tie
 
 -- past the test the state is a source
 abbrev Source : tie.Else1 → Type 0
-Source c = let a = c .before .before .before .before .before .args in isSource (deckOf (a .line .now) (a .n) (a .poses)) (a .r) (a .i) (a .q) (a .p) ≡ true
+Source c = let a = c .before .before .before .before .args in isSource (deckIn (a .row .now) (a .sizes)) (a .sizes .reordering) (a .i) (a .q) (a .p) ≡ true
 
 source : (c : tie.Else1) → Source c
 source c = sym (c .before .is-source .ensures) ∙ not-false _ (c .if1 .left)
@@ -25,9 +25,9 @@ is-source-requires c κs = search needs
 
 returns : tie.Need-returns
 returns c =
-    let k = c .before .before .before .before .before in
+    let k = c .before .before .before .before in
     let a = k .args in
-    poses-none (deckOf (a .line .now) (a .n) (a .poses)) (a .r) (keptIn (a .store .now) (a .i)) (a .i) (a .q) (a .a) (a .p) (a .want)
+    poses-none (deckIn (a .row .now) (a .sizes)) (a .sizes .reordering) (keptIn (a .store .now) (a .i)) (a .i) (a .q) (a .a) (a .p) (a .want)
     (sym (c .before .is-source .ensures) ∙ not-true _ (c .if1 .taken)) (k .pre .6)
 
 last-at-requires : tie.Need-last-at-requires
@@ -50,11 +50,11 @@ add-find-pose c = search needs
 
 find-pose-requires : tie.Need-find-pose-requires
 find-pose-requires c κs =
-    let k = c .before .before .before .before .before .before .before .before in
+    let k = c .before .before .before .before .before .before .before in
     let a = k .args in
     let g = k .pre .0 .ground in
-    let i = source-size (a .line .now) (a .n) (a .poses) (a .r) (a .i) (a .q) (a .p) (source (c .before .before .before)) in (
-      g .row,
+    let i = source-size (a .row .now) (a .sizes .cells) (a .sizes .poses) (a .sizes .reordering) (a .i) (a .q) (a .p) (source (c .before .before .before)) in (
+      g .words,
       k .pre .0 .low,
       omega (arith, c .kept-at .ensures, k .pre .0 .long, g .coded .few, g .few),
       omega (arith, c .before .before .last-at .ensures, g .size),
@@ -65,10 +65,10 @@ find-pose-requires c κs =
 
 returns-2 : tie.Need-returns-2
 returns-2 c =
-    let k = c .before .before .before .before .before .before .before .before .before in
+    let k = c .before .before .before .before .before .before .before .before in
     let a = k .args in
-    let m : c .before .before .last-at2 .result ≡ lastAt (a .r) (suc (a .i)) (a .q) = omega (arith, c .before .before .last-at2 .ensures) in
-    poses-first (a .store .now) (a .line .now) (a .n) (a .poses) (a .r) (a .i) (a .q) (a .a) (a .p) (a .want)
+    let m : c .before .before .last-at2 .result ≡ lastAt (a .sizes .reordering) (suc (a .i)) (a .q) = omega (arith, c .before .before .last-at2 .ensures) in
+    poses-first (a .store .now) (a .row .now) (a .sizes .cells) (a .sizes .poses) (a .sizes .reordering) (a .i) (a .q) (a .a) (a .p) (a .want)
     (source (c .before .before .before .before)) (omega (arith, c .before .kept-at .ensures)) (c .before .before .before .last-at .ensures) m (c .find-pose .ensures)
 
 pub state-pose-spec : {M : Type 1} → statement M

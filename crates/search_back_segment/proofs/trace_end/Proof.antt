@@ -4,7 +4,7 @@ use mathlib.Core.Path.{refl}
 use borrow.Author.Needs.{needs}
 use Prim.Native.Nat.{_*_, _<_}
 use Rattle.theory_tables.specs.Steps.{B}
-use Rattle.search_row.specs.Words.{deckOf}
+use Rattle.search_row.specs.Words.{deckIn}
 use Rattle.search_dense_layer.specs.Kept.{keptIn}
 use Rattle.search_back_segment.specs.Steps.{end-none, end-closed, end-traced, end-trace}
 use Rattle.search_back_segment.specs.Lasts.{least-ends, last-found, last-low}
@@ -14,7 +14,7 @@ use Rattle.search_back_segment.proofs.trace_end.Tie as tie
 returns : tie.Need-returns
 returns c =
     let a = c .before .before .before .before .before .args in
-    end-none (deckOf (a .line .now) (a .n) (a .poses)) (a .r) (a .store .now) (a .i) (a .path .now) (omega arith)
+    end-none (deckIn (a .row .now) (a .sizes)) (a .sizes .reordering) (a .store .now) (a .i) (a .path .now) (omega arith)
 
 find-last-requires : tie.Need-find-last-requires
 find-last-requires c κs = c .before .before .before .before .before .pre .back
@@ -25,27 +25,27 @@ returns-2 c =
     let a = k .args in
     let g = k .pre .back .ground in
     let l = c .before .before .find-last in
-    end-closed (a .path .now) (omega arith) (omega (arith, least-ends (deckOf (a .line .now) (a .n) (a .poses)) (a .r) (keptIn (a .store .now) (a .n)) (l .result .value) (l .result .code) (a .count * 64) (omega (arith, g .all)) (g .few) (l .ensures), c .if2 .taken))
+    end-closed (a .path .now) (omega arith) (omega (arith, least-ends (deckIn (a .row .now) (a .sizes)) (a .sizes .reordering) (keptIn (a .store .now) (a .sizes .cells)) (l .result .value) (l .result .code) (a .sizes .states * 64) (omega (arith, g .all)) (g .few) (l .ensures), c .if2 .taken))
 
 trace-requires : tie.Need-trace-requires
 trace-requires c κs =
-    let k = c .before .before .before .before .before .before .before .before .before in
+    let k = c .before .before .before .before .before .before .before .before .before .before in
     let a = k .args in
     let g = k .pre .back .ground in
-    let l = c .before .before .before .find-last in
+    let l = c .before .before .before .before .find-last in
     let low : l .result .value < B = omega arith in
-    end-trace (omega arith) (k .pre) (last-found (deckOf (a .line .now) (a .n) (a .poses)) (a .r) (keptIn (a .store .now) (a .n)) (l .result .value) (l .result .code) (a .count * 64) (omega (arith, g .all)) (g .few) (l .ensures) low) (last-low (deckOf (a .line .now) (a .n) (a .poses)) (a .r) (keptIn (a .store .now) (a .n)) (l .result .value) (l .result .code) (a .count * 64) (omega (arith, g .all)) (g .few) (l .ensures) low)
+    end-trace (omega arith) (k .pre) (last-found (deckIn (a .row .now) (a .sizes)) (a .sizes .reordering) (keptIn (a .store .now) (a .sizes .cells)) (l .result .value) (l .result .code) (a .sizes .states * 64) (omega (arith, g .all)) (g .few) (l .ensures) low) (last-low (deckIn (a .row .now) (a .sizes)) (a .sizes .reordering) (keptIn (a .store .now) (a .sizes .cells)) (l .result .value) (l .result .code) (a .sizes .states * 64) (omega (arith, g .all)) (g .few) (l .ensures) low)
 
 same-length : tie.Need-same-length
 same-length c = search needs
 
 returns-3 : tie.Need-returns-3
 returns-3 c =
-    let k = c .before .before .before .before .before .before .before .before .before .before .before .before in
+    let k = c .before .before .before .before .before .before .before .before .before .before .before .before .before in
     let a = k .args in
     let g = k .pre .back .ground in
-    let l = c .before .before .before .before .before .before .find-last in
-    end-traced (omega arith) refl (last-found (deckOf (a .line .now) (a .n) (a .poses)) (a .r) (keptIn (a .store .now) (a .n)) (l .result .value) (l .result .code) (a .count * 64) (omega (arith, g .all)) (g .few) (l .ensures) (omega arith)) (c .before .before .trace .ensures)
+    let l = c .before .before .before .before .before .before .before .find-last in
+    end-traced (omega arith) refl (last-found (deckIn (a .row .now) (a .sizes)) (a .sizes .reordering) (keptIn (a .store .now) (a .sizes .cells)) (l .result .value) (l .result .code) (a .sizes .states * 64) (omega (arith, g .all)) (g .few) (l .ensures) (omega arith)) (c .before .before .trace .ensures)
 
 pub trace-end-spec : {M : Type 1} → statement M
 trace-end-spec = tie.close (tie.spec returns find-last-requires returns-2 trace-requires same-length returns-3)

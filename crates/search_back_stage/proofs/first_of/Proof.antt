@@ -2,8 +2,7 @@
 use Prim.Native.Nat.{_+_, _-_, _≤_}
 use native.Mathlib.Omega.{arith}
 use borrow.Author.Needs.{needs}
-use Rattle.search_row.specs.Words.{deckOf}
-use Rattle.search_stage.specs.Stage.{posIn}
+use Rattle.search_row.specs.Words.{deckIn, posIn}
 use Rattle.search_back_stage.specs.Laws.{started-open, started-after, start-count}
 use Rattle.search_back_stage.proofs.first_of.Statement.{statement}
 use Rattle.search_back_stage.proofs.first_of.Tie as tie
@@ -15,43 +14,42 @@ Room c = c .placed-with .result + 1 ≤ 66
 room : (c : tie.After-placed-with) → Room c
 unfolding posIn
 room c =
-    let k = c .before .before .before .before .before .before .before in
+    let k = c .before .before .before .before .before in
     let a = k .args in
-    omega (arith, c .placed-with .ensures, c .before .word .ensures, k .pre .1, start-count (a .r) (posIn (a .places .now)) (a .stage) (a .stage - 1) (a .s) (omega arith))
+    omega (arith, c .placed-with .ensures, c .before .tall-at .ensures, k .pre .1, start-count (a .sizes .reordering) (posIn (a .row .now)) (a .stage) (a .stage - 1) (a .s) (omega arith))
 
 kept-at-requires : tie.Need-kept-at-requires
 kept-at-requires c κs = search needs
 
 open-requires : tie.Need-open-requires
 open-requires c κs =
-    let g = c .before .before .before .before .before .before .before .pre .0 in
-    (g .row .ground, g .low, omega (arith, c .before .kept-at .ensures, g .long))
+    let g = c .before .before .before .before .before .pre .0 in
+    (g .given .ground, g .low, omega (arith, c .before .kept-at .ensures, g .long))
 
 same-length : tie.Need-same-length
 same-length c = search needs
 
 returns : tie.Need-returns
 returns c =
-    let k = c .before .before .before .before .before .before .before .before .before .before in
+    let k = c .before .before .before .before .before .before .before .before in
     let a = k .args in
-    started-open (deckOf (a .line .now) (a .n) (a .poses)) (a .r) (posIn (a .places .now)) (c .before .before .before .before .before .if1 .taken) (k .pre .0 .row .ground .all)
+    started-open (deckIn (a .row .now) (a .sizes)) (a .sizes .reordering) (posIn (a .row .now)) (c .before .before .before .before .before .if1 .taken) (k .pre .0 .given .ground .all)
     (c .before .before .before .before .kept-at .ensures) (c .before .before .open .ensures)
 
-sub-word : tie.Need-sub-word
-sub-word c = search needs
+sub-tall-at : tie.Need-sub-tall-at
+sub-tall-at c = search needs
 
-word-requires : tie.Need-word-requires
-word-requires c κs =
-    let k = c .before .before .before .before .before in
-    let g = k .pre .0 in
-    omega (arith, g .row .long, g .stage)
+tall-at-requires : tie.Need-tall-at-requires
+tall-at-requires c κs =
+    let g = c .before .before .before .pre .0 in
+    (g .given .ground .words, omega (arith, g .given .few, g .stage))
 
 placed-with-requires : tie.Need-placed-with-requires
 unfolding posIn
 placed-with-requires c κs =
-    let k = c .before .before .before .before .before .before in
+    let k = c .before .before .before .before in
     let g = k .pre .0 in
-    (g .row .ground .coded, g .state (omega arith), omega (arith, c .word .ensures, g .row .inside (k .args .stage - 1) (omega (arith, g .stage)), g .row .ground .size))
+    (g .given .ground .coded, g .state (omega arith), omega (arith, c .tall-at .ensures, g .given .inside (k .args .stage - 1) (omega (arith, g .stage)), g .given .ground .size))
 
 add-kept-at : tie.Need-add-kept-at
 add-kept-at c = let r = room c in search needs
@@ -62,17 +60,17 @@ kept-at-requires-2 c κs = room c
 after-requires : tie.Need-after-requires
 unfolding posIn
 after-requires c κs =
-    let k = c .before .before .before .before .before .before .before .before .before in
+    let k = c .before .before .before .before .before .before .before in
     let g = k .pre .0 in
-    let p = g .row .inside (k .args .stage - 1) (omega (arith, g .stage)) in
+    let p = g .given .inside (k .args .stage - 1) (omega (arith, g .stage)) in
     let r = room (c .before .before) in (
-      g .row .ground,
+      g .given .ground,
       g .low,
       omega (arith, c .before .kept-at2 .ensures, g .long),
       omega arith,
-      omega (arith, g .state (omega arith), g .row .ground .all),
-      omega (arith, c .before .before .before .word .ensures, g .row .ground .size),
-      omega (arith, g .pose (omega arith), g .row .ground .few),
+      omega (arith, g .state (omega arith), g .given .ground .all),
+      omega (arith, c .before .before .before .tall-at .ensures, g .given .ground .size),
+      omega (arith, g .pose (omega arith), g .given .ground .few),
     )
 
 add-result : tie.Need-add-result
@@ -84,10 +82,10 @@ same-length-2 c = search needs
 returns-2 : tie.Need-returns-2
 unfolding posIn
 returns-2 c =
-    let k = c .before .before .before .before .before .before .before .before .before .before .before .before in
+    let k = c .before .before .before .before .before .before .before .before .before .before in
     let a = k .args in
-    started-after (deckOf (a .line .now) (a .n) (a .poses)) (a .r) (posIn (a .places .now)) (a .stage - 1) (omega arith)
-    (c .before .before .before .before .before .before .word .ensures) (c .before .before .before .before .before .placed-with .ensures) (k .pre .0 .row .ground .all)
+    started-after (deckIn (a .row .now) (a .sizes)) (a .sizes .reordering) (posIn (a .row .now)) (a .stage - 1) (omega arith)
+    (c .before .before .before .before .before .before .tall-at .ensures) (c .before .before .before .before .before .placed-with .ensures) (k .pre .0 .given .ground .all)
     (c .before .before .before .before .kept-at2 .ensures) (room (c .before .before .before .before .before)) (c .before .before .after .ensures)
 
 pub first-of-spec : {M : Type 1} → statement M
@@ -98,8 +96,8 @@ first-of-spec =
     open-requires
     same-length
     returns
-    sub-word
-    word-requires
+    sub-tall-at
+    tall-at-requires
     placed-with-requires
     add-kept-at
     kept-at-requires-2

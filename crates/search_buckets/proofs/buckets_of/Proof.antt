@@ -34,13 +34,13 @@ returns : tie.Need-returns
 unfolding bucketsIn
 returns c =
     let a = c .before .before .before .args in
-    rw (eq-eqb (wordOf (a .line .now) (a .m) 84) (wordOf (a .line .now) (a .m) 86) (c .if1 .taken))
+    rw (eq-eqb (wordOf (a .row .now) (a .m) 84) (wordOf (a .row .now) (a .m) 86) (c .if1 .taken))
 
 returns-2 : tie.Need-returns-2
 unfolding bucketsIn
 returns-2 c =
     let a = c .before .before .before .args in
-    rw (ne-eqb (wordOf (a .line .now) (a .m) 84) (wordOf (a .line .now) (a .m) 86) (c .if1 .left))
+    rw (ne-eqb (wordOf (a .row .now) (a .m) 84) (wordOf (a .row .now) (a .m) 86) (c .if1 .left))
 
 pub buckets-of-spec : {M : Type 1} → statement M
 buckets-of-spec =

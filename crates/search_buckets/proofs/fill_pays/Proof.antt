@@ -19,7 +19,7 @@ abbrev μ-loop : tie.MeasureT-loop
 loop-holds : tie.Need-loop-holds Inv-loop μ-loop
 loop-holds c =
     let a = c .before .args in
-    (omega arith, pays-none (a .line .now) (a .k) (a .m) (a .buckets) (omega arith))
+    (omega arith, pays-none (a .row .now) (a .k) (a .m) (a .buckets) (omega arith))
 
 pay-row-requires : tie.Need-pay-row-requires Inv-loop μ-loop
 pay-row-requires c κs = search needs

@@ -13,7 +13,7 @@ returns : tie.Need-returns
 returns c =
     let a = c .before .before .args in
     let e : a .v ≡ 0 = omega arith in
-    rw e (sym (pay-none (a .line .now) (a .k) (a .u) (a .m)))
+    rw e (sym (pay-none (a .row .now) (a .k) (a .u) (a .m)))
 
 mul-result : tie.Need-mul-result
 mul-result c = search needs
@@ -37,14 +37,14 @@ mul-result-3 : tie.Need-mul-result-3
 mul-result-3 c =
     let k = c .before .before .before .before .before in
     let a = k .args in
-    let d : c .differ .result ≤ 2 = omega (arith, c .differ .ensures, differ-low (a .line .now) (a .k) (a .u) (a .m) (a .v - 1)) in
+    let d : c .differ .result ≤ 2 = omega (arith, c .differ .ensures, differ-low (a .row .now) (a .k) (a .u) (a .m) (a .v - 1)) in
     omega (arith, pay-low (k .pre .0 .weight (a .m)) d)
 
 returns-2 : tie.Need-returns-2
 returns-2 c =
     let a = c .before .before .before .before .before .args in
-    ap (λ (d : ℕ). wordOf (a .line .now) (a .m) 84 * d) (c .differ .ensures)
-    ∙ sym (pay-touching (a .line .now) (a .k) (a .u) (a .m) (a .v) (omega arith) (omega arith))
+    ap (λ (d : ℕ). wordOf (a .row .now) (a .m) 84 * d) (c .differ .ensures)
+    ∙ sym (pay-touching (a .row .now) (a .k) (a .u) (a .m) (a .v) (omega arith) (omega arith))
 
 mul-result-4 : tie.Need-mul-result-4
 mul-result-4 c = search needs
@@ -65,14 +65,14 @@ mul-result-6 : tie.Need-mul-result-6
 mul-result-6 c =
     let k = c .before .before .before .before .before in
     let a = k .args in
-    let d : c .differ2 .result ≤ 2 = omega (arith, c .differ2 .ensures, differ-low (a .line .now) (a .k) (a .u) (a .m) (a .v - 5)) in
+    let d : c .differ2 .result ≤ 2 = omega (arith, c .differ2 .ensures, differ-low (a .row .now) (a .k) (a .u) (a .m) (a .v - 5)) in
     omega (arith, pay-low (k .pre .0 .filled (a .m)) d)
 
 returns-3 : tie.Need-returns-3
 returns-3 c =
     let a = c .before .before .before .before .before .args in
-    ap (λ (d : ℕ). wordOf (a .line .now) (a .m) 86 * d) (c .differ2 .ensures)
-    ∙ sym (pay-apart (a .line .now) (a .k) (a .u) (a .m) (a .v) (omega arith))
+    ap (λ (d : ℕ). wordOf (a .row .now) (a .m) 86 * d) (c .differ2 .ensures)
+    ∙ sym (pay-apart (a .row .now) (a .k) (a .u) (a .m) (a .v) (omega arith))
 
 pub pay-spec : {M : Type 1} → statement M
 pay-spec =

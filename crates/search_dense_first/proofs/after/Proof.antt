@@ -4,18 +4,18 @@ use mathlib.Core.Path.{_≡_}
 use native.Mathlib.Omega.{arith}
 use borrow.Author.Needs.{needs}
 use Rattle.theory_tables.specs.Steps.{marks, firstAfter}
-use Rattle.search_row.specs.Words.{deckOf}
+use Rattle.search_row.specs.Words.{deckIn}
 use Rattle.search_dense_first.specs.Begun.{Begun, begun-none, begun-more}
 use Rattle.search_dense_first.proofs.after.Statement.{statement}
 use Rattle.search_dense_first.proofs.after.Tie as tie
 
 abbrev Inv-loop : tie.InvT-loop
-Inv-loop store₀ line states n poses r count i s p l to m q₀ store q =
-    (q ≤ count) × (m ≡ marks r s) × Begun (firstAfter (deckOf line n poses) r i m p l) poses q to store₀ store
+Inv-loop store₀ row sizes i s p l to m q₀ store q =
+    (q ≤ (sizes .states)) × (m ≡ marks (sizes .reordering) s) × Begun (firstAfter (deckIn row sizes) (sizes .reordering) i m p l) (sizes .poses) q to store₀ store
 
 abbrev μ-loop : tie.MeasureT-loop
-μ-loop store₀ line states n poses r count i s p l to m q₀ store q =
-    count - q
+μ-loop store₀ row sizes i s p l to m q₀ store q =
+    (sizes .states) - q
 
 mul-m : tie.Need-mul-m Inv-loop μ-loop
 mul-m c = search needs
@@ -31,7 +31,7 @@ shared-slice-read-m c = search needs
 
 loop-holds : tie.Need-loop-holds Inv-loop μ-loop
 loop-holds c =
-    let k = c .before .before .before .before in
+    let k = c .before .before .before in
     let g = k .pre .0 in
     (omega arith, omega (arith, g .coded .mark (k .args .s) (omega (arith, g .all))), begun-none _ _ _ (k .pre .1))
 
@@ -47,7 +47,7 @@ after-state-requires : tie.Need-after-state-requires Inv-loop μ-loop
 after-state-requires c κs =
     let k = c .before .before .before .before .before .before .before in
     let g = k .pre .0 in
-    let s = c .before .before .loop .inv .2 in
+    let s = c .before .before .before .loop .inv .2 in
     (g, s .low, k .pre .3, k .pre .5, k .pre .6, omega (arith, g .all, g .coded .few, g .few, s .frame .long), omega arith)
 
 add-q : tie.Need-add-q Inv-loop μ-loop
@@ -59,34 +59,22 @@ loop-less c = search needs
 loop-again : tie.Need-loop-again Inv-loop μ-loop
 loop-again c =
     let g = c .before .before .before .before .before .before .before .before .before .before .pre .0 in
-    let l = c .before .before .before .before .before .loop in
+    let l = c .before .before .before .before .before .before .loop in
     (omega arith, l .inv .1, begun-more (l .q) (omega (arith, g .few)) (omega (arith, g .all, g .coded .few)) (l .inv .2) (c .before .before .after-state .ensures))
 
 same-length : tie.Need-same-length Inv-loop μ-loop
-same-length c = c .before .loop .inv .2 .frame .long
+same-length c = c .before .before .loop .inv .2 .frame .long
 
 returns : tie.Need-returns Inv-loop μ-loop
 returns c =
-    let l = c .before .loop in
-    let e : l .q ≡ c .before .before .before .before .before .before .args .count = omega arith in
+    let l = c .before .before .loop in
+    let e : l .q ≡ c .before .before .before .before .before .before .args .sizes .states = omega arith in
     rw (e, l .inv .1) at (l .inv .2)
+
+add-m-2 : tie.Need-add-m-2 Inv-loop μ-loop
+add-m-2 c = search needs
 
 pub after-spec : {M : Type 1} → statement M
 after-spec =
     tie.close
-    (tie.spec
-    Inv-loop
-    μ-loop
-    mul-m
-    add-m
-    mul-m-2
-    shared-slice-read-m
-    loop-holds
-    mul-after-state
-    add-after-state
-    after-state-requires
-    add-q
-    loop-less
-    loop-again
-    same-length
-    returns)
+    (tie.spec Inv-loop μ-loop mul-m add-m add-m-2 mul-m-2 shared-slice-read-m loop-holds mul-after-state add-after-state after-state-requires add-q loop-less loop-again same-length returns)

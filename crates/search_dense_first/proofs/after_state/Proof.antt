@@ -8,7 +8,7 @@ use borrow.Author.Needs.{needs}
 use borrow.Author.Tests.{not-true, not-false}
 use Rattle.theory_tables.specs.Steps.{lastAt}
 use Rattle.search_lanes.specs.Laws.{written-ext}
-use Rattle.search_row.specs.Words.{deckOf}
+use Rattle.search_row.specs.Words.{deckIn}
 use Rattle.search_dense_first.specs.Firsts.{startsAt, after-there, after-away, starts-size}
 use Rattle.search_dense_first.specs.Begun.{afterPose}
 use Rattle.search_dense_first.proofs.after_state.Statement.{statement}
@@ -16,14 +16,14 @@ use Rattle.search_dense_first.proofs.after_state.Tie as tie
 
 -- past the test the state can come first
 abbrev Starts : tie.Else1 → Type 0
-Starts c = let a = c .before .before .before .before .before .args in startsAt (a .n) (a .r) (suc (a .i)) (a .m) (a .q) ≡ true
+Starts c = let a = c .before .before .before .before .args in startsAt (a .sizes .cells) (a .sizes .reordering) (suc (a .i)) (a .m) (a .q) ≡ true
 
 can : (c : tie.Else1) → Starts c
 can c =
-    let a = c .before .before .before .before .before .args in
-    ap (λ (j : ℕ). startsAt (a .n) (a .r) j (a .m) (a .q)) (sym (add-one (a .i))) ∙ sym (c .before .starts .ensures) ∙ not-false _ (c .if1 .left)
+    let a = c .before .before .before .before .args in
+    ap (λ (j : ℕ). startsAt (a .sizes .cells) (a .sizes .reordering) j (a .m) (a .q)) (sym (add-one (a .i))) ∙ sym (c .before .starts .ensures) ∙ not-false _ (c .if1 .left)
 
-here : (c : tie.After-last-at) → (let a = c .before .before .before .before .before .before .args in c .last-at .result ≡ lastAt (a .r) (suc (a .i)) (a .q))
+here : (c : tie.After-last-at) → (let a = c .before .before .before .before .before .args in c .last-at .result ≡ lastAt (a .sizes .reordering) (suc (a .i)) (a .q))
 here c = omega (arith, c .last-at .ensures)
 
 add-starts : tie.Need-add-starts
@@ -40,11 +40,11 @@ same-length c = search needs
 
 returns : tie.Need-returns
 returns c =
-    let a = c .before .before .before .before .before .before .before .before .before .args in
+    let a = c .before .before .before .before .before .before .before .before .args in
     let t = sym (c .before .before .before .before .before .starts .ensures) ∙ not-true _ (c .before .before .before .before .if1 .taken) in
-    let u = ap (λ (j : ℕ). startsAt (a .n) (a .r) j (a .m) (a .q)) (sym (add-one (a .i))) ∙ t in
+    let u = ap (λ (j : ℕ). startsAt (a .sizes .cells) (a .sizes .reordering) j (a .m) (a .q)) (sym (add-one (a .i))) ∙ t in
     written-ext (c .before .before .fill .ensures)
-    (λ b h. after-away (deckOf (a .line .now) (a .n) (a .poses)) (a .r) (a .i) (a .m) (a .p) (a .l) (a .q) b u)
+    (λ b h. after-away (deckIn (a .row .now) (a .sizes)) (a .sizes .reordering) (a .i) (a .m) (a .p) (a .l) (a .q) b u)
 
 add-last-at : tie.Need-add-last-at
 add-last-at c = search needs
@@ -54,15 +54,15 @@ last-at-requires c κs = search needs
 
 after-poses-requires : tie.Need-after-poses-requires
 after-poses-requires c κs =
-    let k = c .before .before .before .before .before .before .before in
+    let k = c .before .before .before .before .before .before in
     let a = k .args in
     let g = k .pre .0 in (
-      g .row,
+      g .words,
       k .pre .1,
       k .pre .3,
       k .pre .4,
       k .pre .5,
-      omega (arith, here (c .before), starts-size (a .n) (a .r) (suc (a .i)) (a .m) (a .q) (can (c .before .before)), g .size),
+      omega (arith, here (c .before), starts-size (a .sizes .cells) (a .sizes .reordering) (suc (a .i)) (a .m) (a .q) (can (c .before .before)), g .size),
       g .few,
     )
 
@@ -71,12 +71,12 @@ same-length-2 c = search needs
 
 returns-2 : tie.Need-returns-2
 returns-2 c =
-    let a = c .before .before .before .before .before .before .before .before .before .before .args in
+    let a = c .before .before .before .before .before .before .before .before .before .args in
     let e = here (c .before .before .before .before) in
     written-ext (c .before .before .after-poses .ensures)
     (λ b h.
-    after-there (deckOf (a .line .now) (a .n) (a .poses)) (a .r) (a .i) (a .m) (a .p) (a .l) (a .q) b (can (c .before .before .before .before .before))
-    ∙ ap (λ (j : ℕ). afterPose (a .line .now) (a .p) (a .l) j b) (sym e))
+    after-there (deckIn (a .row .now) (a .sizes)) (a .sizes .reordering) (a .i) (a .m) (a .p) (a .l) (a .q) b (can (c .before .before .before .before .before))
+    ∙ ap (λ (j : ℕ). afterPose (a .row .now) (a .p) (a .l) j b) (sym e))
 
 pub after-state-spec : {M : Type 1} → statement M
 after-state-spec =

@@ -4,21 +4,21 @@ use mathlib.Core.Path.{_≡_}
 use native.Mathlib.Omega.{arith}
 use borrow.Author.Needs.{needs}
 use Rattle.theory_tables.specs.Steps.{firstOpen}
-use Rattle.search_row.specs.Words.{deckOf}
+use Rattle.search_row.specs.Words.{deckIn}
 use Rattle.search_dense_first.specs.Begun.{Begun, begun-none, begun-more}
 use Rattle.search_dense_first.proofs.open.Statement.{statement}
 use Rattle.search_dense_first.proofs.open.Tie as tie
 
 abbrev Inv-loop : tie.InvT-loop
-Inv-loop store₀ line states n poses r count to q₀ store q =
-    (q ≤ count) × Begun (firstOpen (deckOf line n poses) r) poses q to store₀ store
+Inv-loop store₀ row sizes to q₀ store q =
+    (q ≤ (sizes .states)) × Begun (firstOpen (deckIn row sizes) (sizes .reordering)) (sizes .poses) q to store₀ store
 
 abbrev μ-loop : tie.MeasureT-loop
-μ-loop store₀ line states n poses r count to q₀ store q =
-    count - q
+μ-loop store₀ row sizes to q₀ store q =
+    (sizes .states) - q
 
 loop-holds : tie.Need-loop-holds Inv-loop μ-loop
-loop-holds c = (omega arith, begun-none _ _ _ (c .before .before .before .pre .1))
+loop-holds c = (omega arith, begun-none _ _ _ (c .before .before .pre .1))
 
 mul-open-state : tie.Need-mul-open-state Inv-loop μ-loop
 mul-open-state c = search needs
@@ -32,7 +32,7 @@ open-state-requires : tie.Need-open-state-requires Inv-loop μ-loop
 open-state-requires c κs =
     let k = c .before .before .before .before .before .before in
     let g = k .pre .0 in
-    let s = c .before .before .loop .inv .1 in
+    let s = c .before .before .before .loop .inv .1 in
     (g, s .low, omega (arith, g .all, g .coded .few, g .few, s .frame .long), omega arith)
 
 add-q : tie.Need-add-q Inv-loop μ-loop
@@ -44,16 +44,16 @@ loop-less c = search needs
 loop-again : tie.Need-loop-again Inv-loop μ-loop
 loop-again c =
     let g = c .before .before .before .before .before .before .before .before .before .pre .0 in
-    let l = c .before .before .before .before .before .loop in
+    let l = c .before .before .before .before .before .before .loop in
     (omega arith, begun-more (l .q) (omega (arith, g .few)) (omega (arith, g .all, g .coded .few)) (l .inv .1) (c .before .before .open-state .ensures))
 
 same-length : tie.Need-same-length Inv-loop μ-loop
-same-length c = c .before .loop .inv .1 .frame .long
+same-length c = c .before .before .loop .inv .1 .frame .long
 
 returns : tie.Need-returns Inv-loop μ-loop
 returns c =
-    let e : c .before .loop .q ≡ c .before .before .before .before .before .args .count = omega arith in
-    rw e at (c .before .loop .inv .1)
+    let e : c .before .before .loop .q ≡ c .before .before .before .before .before .args .sizes .states = omega arith in
+    rw e at (c .before .before .loop .inv .1)
 
 pub open-spec : {M : Type 1} → statement M
 open-spec =

@@ -39,7 +39,7 @@ add-least-2 c =
     let k = c .before .before .before .before .before .before in
     let a = k .args in
     let b = c .before .before .before .loop .a in
-    omega (arith, k .pre .0 .word (a .k * 128 + b), c .front .ensures, front-low (a .line .now) (a .k) b)
+    omega (arith, k .pre .0 .word (a .k * 128 + b), c .front .ensures, front-low (a .row .now) (a .k) b)
 
 least-requires : tie.Need-least-requires Inv-loop μ-loop
 least-requires c κs = search needs

@@ -7,7 +7,7 @@ use borrow.Author.Needs.{needs}
 use borrow.Author.Tests.{not-true, not-false}
 use Rattle.theory_row.specs.Window.{start}
 use Rattle.search_lanes.specs.Laws.{written-ext}
-use Rattle.search_row.specs.Words.{deckOf}
+use Rattle.search_row.specs.Words.{deckIn}
 use Rattle.search_dense_first.specs.Firsts.{startsAt, open-there, open-away, starts-size}
 use Rattle.search_dense_first.specs.Begun.{openPose}
 use Rattle.search_dense_first.proofs.open_state.Statement.{statement}
@@ -15,12 +15,12 @@ use Rattle.search_dense_first.proofs.open_state.Tie as tie
 
 -- past the test the state can come first
 abbrev Starts : tie.Else1 → Type 0
-Starts c = let a = c .before .before .before .before .before .before .args in startsAt (a .n) (a .r) 1 (start (a .r)) (a .q) ≡ true
+Starts c = let a = c .before .before .before .before .before .args in startsAt (a .sizes .cells) (a .sizes .reordering) 1 (start (a .sizes .reordering)) (a .q) ≡ true
 
 can : (c : tie.Else1) → Starts c
 can c =
-    let a = c .before .before .before .before .before .before .args in
-    ap (λ (m : ℕ). startsAt (a .n) (a .r) 1 m (a .q)) (sym (c .before .before .start-marks .ensures)) ∙ sym (c .before .starts .ensures) ∙ not-false _ (c .if1 .left)
+    let a = c .before .before .before .before .before .args in
+    ap (λ (m : ℕ). startsAt (a .sizes .cells) (a .sizes .reordering) 1 m (a .q)) (sym (c .before .before .start-marks .ensures)) ∙ sym (c .before .starts .ensures) ∙ not-false _ (c .if1 .left)
 
 start-marks-requires : tie.Need-start-marks-requires
 start-marks-requires c κs = search needs
@@ -36,23 +36,23 @@ same-length c = search needs
 
 returns : tie.Need-returns
 returns c =
-    let a = c .before .before .before .before .before .before .before .before .before .before .args in
+    let a = c .before .before .before .before .before .before .before .before .before .args in
     let t = sym (c .before .before .before .before .before .starts .ensures) ∙ not-true _ (c .before .before .before .before .if1 .taken) in
-    let u = ap (λ (m : ℕ). startsAt (a .n) (a .r) 1 m (a .q)) (sym (c .before .before .before .before .before .before .start-marks .ensures)) ∙ t in
-    written-ext (c .before .before .fill .ensures) (λ b h. open-away (deckOf (a .line .now) (a .n) (a .poses)) (a .r) (a .q) b u)
+    let u = ap (λ (m : ℕ). startsAt (a .sizes .cells) (a .sizes .reordering) 1 m (a .q)) (sym (c .before .before .before .before .before .before .start-marks .ensures)) ∙ t in
+    written-ext (c .before .before .fill .ensures) (λ b h. open-away (deckIn (a .row .now) (a .sizes)) (a .sizes .reordering) (a .q) b u)
 
 last-at-requires : tie.Need-last-at-requires
 last-at-requires c κs = search needs
 
 open-poses-requires : tie.Need-open-poses-requires
 open-poses-requires c κs =
-    let k = c .before .before .before .before .before .before .before .before in
+    let k = c .before .before .before .before .before .before .before in
     let a = k .args in
     let g = k .pre .0 in (
-      g .row,
+      g .words,
       k .pre .1,
       k .pre .2,
-      omega (arith, c .before .last-at .ensures, starts-size (a .n) (a .r) 1 (start (a .r)) (a .q) (can (c .before .before)), g .size),
+      omega (arith, c .before .last-at .ensures, starts-size (a .sizes .cells) (a .sizes .reordering) 1 (start (a .sizes .reordering)) (a .q) (can (c .before .before)), g .size),
       g .few,
     )
 
@@ -61,10 +61,10 @@ same-length-2 c = search needs
 
 returns-2 : tie.Need-returns-2
 returns-2 c =
-    let a = c .before .before .before .before .before .before .before .before .before .before .before .args in
+    let a = c .before .before .before .before .before .before .before .before .before .before .args in
     let e = c .before .before .before .before .last-at .ensures in
     written-ext (c .before .before .open-poses .ensures)
-    (λ b h. open-there (deckOf (a .line .now) (a .n) (a .poses)) (a .r) (a .q) b (can (c .before .before .before .before .before)) ∙ ap (λ (j : ℕ). openPose (a .line .now) j b) (sym e))
+    (λ b h. open-there (deckIn (a .row .now) (a .sizes)) (a .sizes .reordering) (a .q) b (can (c .before .before .before .before .before)) ∙ ap (λ (j : ℕ). openPose (a .row .now) j b) (sym e))
 
 pub open-state-spec : {M : Type 1} → statement M
 open-state-spec =

@@ -79,7 +79,7 @@ loop-again c =
     let room : 0 + l .v < length (a .words .now) = omega arith in
     let low : c .lesser .result ≤ B = omega (arith, c .lesser .ensures) in
     let at : 0 + l .v ≡ l .v = omega arith in
-    let own : ℕ = wordOf (a .line .now) (a .k) (a .e * 4 + l .v) in
+    let own : ℕ = wordOf (a .row .now) (a .k) (a .e * 4 + l .v) in
     let f = pose-by (a .near .now) (a .apart .now) (a .far .now) (a .e) (l .v) (omega arith) in
     let z = c .lesser .ensures ∙ ap (λ (x : ℕ). min (own + x) B) (c .before .found .ensures ∙ f) in
     (next, rw at at (written-more (l .v) (c .lesser .result) (l .inv .1) room z low))

@@ -24,7 +24,7 @@ returns c =
     let k = c .before .before .before .before in
     let a = k .args in
     gathered-none (a .buckets) (k .pre .0)
-    (λ v s h. omega (arith, row-above (endRow (a .line .now) (a .k) (a .b) (a .m)) s (getD (a .store .now) (a .at + a .b) 0 + payIn (a .line .now) (a .k) (a .b) (a .m) v)))
+    (λ v s h. omega (arith, row-above (endRow (a .row .now) (a .k) (a .b) (a .m)) s (getD (a .store .now) (a .at + a .b) 0 + payIn (a .row .now) (a .k) (a .b) (a .m) v)))
 
 end-row-requires : tie.Need-end-row-requires
 end-row-requires c κs = search needs
@@ -35,7 +35,7 @@ returns-2 c =
     let a = k .args in
     gathered-none (a .buckets) (k .pre .0)
     (λ v s h.
-    omega (arith, row-miss (endRow (a .line .now) (a .k) (a .b) (a .m)) s (getD (a .store .now) (a .at + a .b) 0 + payIn (a .line .now) (a .k) (a .b) (a .m) v) (λ e. omega (arith, c .before .end-row .ensures))))
+    omega (arith, row-miss (endRow (a .row .now) (a .k) (a .b) (a .m)) s (getD (a .store .now) (a .at + a .b) 0 + payIn (a .row .now) (a .k) (a .b) (a .m) v) (λ e. omega (arith, c .before .end-row .ensures))))
 
 spread-requires : tie.Need-spread-requires
 spread-requires c κs =

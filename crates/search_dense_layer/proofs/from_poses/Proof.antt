@@ -21,7 +21,7 @@ loop-holds : tie.Need-loop-holds Inv-loop μ-loop
 loop-holds c =
     let k = c .before .before in
     let a = k .args in
-    (omega arith, gathered-none (a .buckets) (k .pre .0) (λ v t h. omega (arith, poses-none (a .line .now) (a .k) (a .m) (posesAt (a .store .now) (a .at)) v t)))
+    (omega arith, gathered-none (a .buckets) (k .pre .0) (λ v t h. omega (arith, poses-none (a .row .now) (a .k) (a .m) (posesAt (a .store .now) (a .at)) v t)))
 
 from-pose-requires : tie.Need-from-pose-requires Inv-loop μ-loop
 from-pose-requires c κs =
@@ -38,7 +38,7 @@ loop-again : tie.Need-loop-again Inv-loop μ-loop
 loop-again c =
     let a = c .before .before .before .before .before .before .before .before .args in
     let l = c .before .before .before .before .before .loop in
-    (omega arith, gathered-join (l .inv .1) (c .from-pose .ensures) (λ v t. poses-more (a .line .now) (a .k) (a .m) (posesAt (a .store .now) (a .at)) (l .b) v t))
+    (omega arith, gathered-join (l .inv .1) (c .from-pose .ensures) (λ v t. poses-more (a .row .now) (a .k) (a .m) (posesAt (a .store .now) (a .at)) (l .b) v t))
 
 returns : tie.Need-returns Inv-loop μ-loop
 returns c =

@@ -5,7 +5,7 @@ use mathlib.Core.Bool.{true}
 use native.Mathlib.Omega.{arith}
 use borrow.Author.Tests.{not-true, not-false}
 use Rattle.theory_tables.specs.Steps.{lastAt, isSource}
-use Rattle.search_row.specs.Words.{deckOf}
+use Rattle.search_row.specs.Words.{deckIn}
 use Rattle.search_row.specs.Laws.{there-size, source-size}
 use Rattle.search_buckets.specs.Rows.{bucketsIn, byPoses}
 use Rattle.search_buckets.specs.Sources.{state-in, state-out}
@@ -17,7 +17,7 @@ use Rattle.search_dense_layer.proofs.from_source.Tie as tie
 
 -- past the test the state is a source
 abbrev ThinSource : tie.Else1 → Type 0
-ThinSource c = let a = c .before .before .before .before .before .args in isSource (deckOf (a .line .now) (a .n) (a .poses)) (a .r) (a .i) (a .q) (a .p) ≡ true
+ThinSource c = let a = c .before .before .before .before .args in isSource (deckIn (a .row .now) (a .sizes)) (a .sizes .reordering) (a .i) (a .q) (a .p) ≡ true
 
 source : (c : tie.Else1) → ThinSource c
 source c = sym (c .before .is-source .ensures) ∙ not-false _ (c .if1 .left)
@@ -25,26 +25,26 @@ source c = sym (c .before .is-source .ensures) ∙ not-false _ (c .if1 .left)
 -- both cells stand in the row
 left : (c : tie.After-last-at2) → c .before .last-at .result < 64
 left c =
-    let k = c .before .before .before .before .before .before .before in
+    let k = c .before .before .before .before .before .before in
     let a = k .args in
-    omega (arith, c .before .last-at .ensures, source-size (a .line .now) (a .n) (a .poses) (a .r) (a .i) (a .q) (a .p) (source (c .before .before)), k .pre .1 .ground .size)
+    omega (arith, c .before .last-at .ensures, source-size (a .row .now) (a .sizes .cells) (a .sizes .poses) (a .sizes .reordering) (a .i) (a .q) (a .p) (source (c .before .before)), k .pre .1 .ground .size)
 
-here : (c : tie.After-last-at2) → (let a = c .before .before .before .before .before .before .before .args in c .last-at2 .result ≡ lastAt (a .r) (suc (a .i)) (a .q))
+here : (c : tie.After-last-at2) → (let a = c .before .before .before .before .before .before .args in c .last-at2 .result ≡ lastAt (a .sizes .reordering) (suc (a .i)) (a .q))
 here c = omega (arith, c .last-at2 .ensures)
 
 right : (c : tie.After-last-at2) → c .last-at2 .result < 64
 right c =
-    let k = c .before .before .before .before .before .before .before in
+    let k = c .before .before .before .before .before .before in
     let a = k .args in
-    omega (arith, here c, there-size (a .n) (a .r) (suc (a .i)) (a .q) (k .pre .2 .there), k .pre .1 .ground .size)
+    omega (arith, here c, there-size (a .sizes .cells) (a .sizes .reordering) (suc (a .i)) (a .q) (k .pre .2 .there), k .pre .1 .ground .size)
 
 -- how many buckets the target needs
-buckets : (c : tie.After-buckets-of) → (let a = c .before .before .before .before .before .before .before .before .args in c .buckets-of .result ≡ bucketsIn (a .line .now) (lastAt (a .r) (suc (a .i)) (a .q)))
-buckets c = c .buckets-of .ensures ∙ ap (bucketsIn (c .before .before .before .before .before .before .before .before .args .line .now)) (here (c .before))
+buckets : (c : tie.After-buckets-of) → (let a = c .before .before .before .before .before .before .before .args in c .buckets-of .result ≡ bucketsIn (a .row .now) (lastAt (a .sizes .reordering) (suc (a .i)) (a .q)))
+buckets c = c .buckets-of .ensures ∙ ap (bucketsIn (c .before .before .before .before .before .before .before .args .row .now)) (here (c .before))
 
 few : (c : tie.After-buckets-of) → (5 ≤ c .buckets-of .result) × (c .buckets-of .result ≤ 9)
 few c =
-    let f = buckets-few (c .before .before .before .before .before .before .before .before .args .line .now) (c .before .last-at2 .result) in
+    let f = buckets-few (c .before .before .before .before .before .before .before .args .row .now) (c .before .last-at2 .result) in
     (omega (arith, c .buckets-of .ensures), omega (arith, c .buckets-of .ensures))
 
 is-source-requires : tie.Need-is-source-requires
@@ -52,12 +52,12 @@ is-source-requires c κs = search needs
 
 returns : tie.Need-returns
 returns c =
-    let k = c .before .before .before .before .before in
+    let k = c .before .before .before .before in
     let a = k .args in
-    let D = deckOf (a .line .now) (a .n) (a .poses) in
+    let D = deckIn (a .row .now) (a .sizes) in
     let away = sym (c .before .is-source .ensures) ∙ not-true _ (c .if1 .taken) in
-    gathered-none (bucketsIn (a .line .now) (lastAt (a .r) (suc (a .i)) (a .q))) (k .pre .0)
-    (λ v t h. omega (arith, state-out (a .line .now) D (a .r) (thinIn (a .store .now) (a .from)) (a .i) (a .q) (a .p) v t away))
+    gathered-none (bucketsIn (a .row .now) (lastAt (a .sizes .reordering) (suc (a .i)) (a .q))) (k .pre .0)
+    (λ v t h. omega (arith, state-out (a .row .now) D (a .sizes .reordering) (thinIn (a .store .now) (a .from)) (a .i) (a .q) (a .p) v t away))
 
 last-at-requires : tie.Need-last-at-requires
 last-at-requires c κs = search needs
@@ -69,12 +69,12 @@ last-at-requires-2 : tie.Need-last-at-requires-2
 last-at-requires-2 c κs = search needs
 
 buckets-of-requires : tie.Need-buckets-of-requires
-buckets-of-requires c κs = (c .before .before .before .before .before .before .before .pre .1 .ground .row, right c)
+buckets-of-requires c κs = (c .before .before .before .before .before .before .pre .1 .ground .words, right c)
 
 fill-pays-requires : tie.Need-fill-pays-requires
 fill-pays-requires c κs =
-    let k = c .before .before .before .before .before .before .before .before .before in
-    (k .pre .1 .ground .row, left (c .before .before), right (c .before .before), few (c .before) .1, refl)
+    let k = c .before .before .before .before .before .before .before .before in
+    (k .pre .1 .ground .words, left (c .before .before), right (c .before .before), few (c .before) .1, refl)
 
 mul-at : tie.Need-mul-at
 mul-at c = search needs
@@ -84,12 +84,12 @@ add-at c = search needs
 
 from-poses-requires : tie.Need-from-poses-requires
 from-poses-requires c κs =
-    let k = c .before .before .before .before .before .before .before .before .before .before .before .before .before .before in
+    let k = c .before .before .before .before .before .before .before .before .before .before .before .before .before in
     let g = k .pre .1 in
     let f = few (c .before .before .before .before .before .before) in (
       k .pre .0,
       record {
-        words = g .ground .row;
+        words = g .ground .words;
         low = g .low;
         room = omega (arith, g .room, g .ground .all, g .ground .coded .few);
         left = left (c .before .before .before .before .before .before .before);
@@ -103,16 +103,16 @@ from-poses-requires c κs =
 
 returns-2 : tie.Need-returns-2
 returns-2 c =
-    let k = c .before .before .before .before .before .before .before .before .before .before .before .before .before .before .before in
+    let k = c .before .before .before .before .before .before .before .before .before .before .before .before .before .before in
     let a = k .args in
-    let D = deckOf (a .line .now) (a .n) (a .poses) in
+    let D = deckIn (a .row .now) (a .sizes) in
     let f = thinIn (a .store .now) (a .from) in
     let e = buckets (c .before .before .before .before .before .before .before) in
     let m = here (c .before .before .before .before .before .before .before .before) in
     let w = gathered-ext (c .from-poses .ensures) (few (c .before .before .before .before .before .before .before) .0)
     (λ v t h.
-    state-in (a .line .now) D (a .r) f (a .i) (a .q) (a .p) v t (source (c .before .before .before .before .before .before .before .before .before .before))
-    ∙ ap₂ (λ (x y : ℕ). byPoses (a .line .now) x y (f (a .p)) (a .poses) v t) (sym (c .before .before .before .before .before .before .before .before .before .last-at .ensures)) (sym m)) in
+    state-in (a .row .now) D (a .sizes .reordering) f (a .i) (a .q) (a .p) v t (source (c .before .before .before .before .before .before .before .before .before .before))
+    ∙ ap₂ (λ (x y : ℕ). byPoses (a .row .now) x y (f (a .p)) (a .sizes .poses) v t) (sym (c .before .before .before .before .before .before .before .before .before .last-at .ensures)) (sym m)) in
     rw e at w
 
 pub from-source-spec : {M : Type 1} → statement M

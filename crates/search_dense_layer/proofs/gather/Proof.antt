@@ -3,7 +3,7 @@ use Prim.Native.Nat.{suc, _-_, _≤_}
 use mathlib.Core.Path.{_≡_}
 use native.Mathlib.Omega.{arith}
 use Rattle.theory_tables.specs.Steps.{lastAt}
-use Rattle.search_row.specs.Words.{deckOf}
+use Rattle.search_row.specs.Words.{deckIn}
 use Rattle.search_buckets.specs.Rows.{bucketsIn, byStates}
 use Rattle.search_buckets.specs.Sources.{states-none, states-more}
 use Rattle.search_dense_layer.specs.Thin.{thinIn, ThinGathered}
@@ -13,27 +13,27 @@ use Rattle.search_dense_layer.proofs.gather.Statement.{statement}
 use Rattle.search_dense_layer.proofs.gather.Tie as tie
 
 abbrev Inv-loop : tie.InvT-loop
-Inv-loop near₀ apart₀ far₀ store line states n poses r count i from q p₀ near apart far p =
-    (p ≤ count)
-    × ThinGathered (byStates line (deckOf line n poses) r (thinIn store from) i q p) (bucketsIn line (lastAt r (suc i) q)) near₀ near apart₀ apart far₀ far
+Inv-loop near₀ apart₀ far₀ store row sizes i from q p₀ near apart far p =
+    (p ≤ (sizes .states))
+    × ThinGathered (byStates row (deckIn row sizes) (sizes .reordering) (thinIn store from) i q p) (bucketsIn row (lastAt (sizes .reordering) (suc i) q)) near₀ near apart₀ apart far₀ far
 
 abbrev μ-loop : tie.MeasureT-loop
-μ-loop near₀ apart₀ far₀ store line states n poses r count i from q p₀ near apart far p = count - p
+μ-loop near₀ apart₀ far₀ store row sizes i from q p₀ near apart far p = (sizes .states) - p
 
 loop-holds : tie.Need-loop-holds Inv-loop μ-loop
 loop-holds c =
-    let k = c .before .before .before in
+    let k = c .before .before in
     let a = k .args in
-    let D = deckOf (a .line .now) (a .n) (a .poses) in (
+    let D = deckIn (a .row .now) (a .sizes) in (
       omega arith,
-      gathered-none (bucketsIn (a .line .now) (lastAt (a .r) (suc (a .i)) (a .q))) (k .pre .0)
-          (λ v t h. omega (arith, states-none (a .line .now) D (a .r) (thinIn (a .store .now) (a .from)) (a .i) (a .q) v t)),
+      gathered-none (bucketsIn (a .row .now) (lastAt (a .sizes .reordering) (suc (a .i)) (a .q))) (k .pre .0)
+          (λ v t h. omega (arith, states-none (a .row .now) D (a .sizes .reordering) (thinIn (a .store .now) (a .from)) (a .i) (a .q) v t)),
     )
 
 from-source-requires : tie.Need-from-source-requires Inv-loop μ-loop
 from-source-requires c κs =
     let k = c .before .before .before .before .before .before .before .before in
-    (lent-on (k .pre .0) (c .before .before .before .before .loop .inv .1), k .pre .1, k .pre .2, omega arith)
+    (lent-on (k .pre .0) (c .before .before .before .before .before .loop .inv .1), k .pre .1, k .pre .2, omega arith)
 
 add-p : tie.Need-add-p Inv-loop μ-loop
 add-p c = search needs
@@ -44,14 +44,14 @@ loop-less c = search needs
 loop-again : tie.Need-loop-again Inv-loop μ-loop
 loop-again c =
     let a = c .before .before .before .before .before .before .before .before .before .args in
-    let D = deckOf (a .line .now) (a .n) (a .poses) in
-    let l = c .before .before .before .before .before .loop in
-    (omega arith, gathered-join (l .inv .1) (c .from-source .ensures) (λ v t. states-more (a .line .now) D (a .r) (thinIn (a .store .now) (a .from)) (a .i) (a .q) (l .p) v t))
+    let D = deckIn (a .row .now) (a .sizes) in
+    let l = c .before .before .before .before .before .before .loop in
+    (omega arith, gathered-join (l .inv .1) (c .from-source .ensures) (λ v t. states-more (a .row .now) D (a .sizes .reordering) (thinIn (a .store .now) (a .from)) (a .i) (a .q) (l .p) v t))
 
 returns : tie.Need-returns Inv-loop μ-loop
 returns c =
-    let e : c .before .loop .p ≡ c .before .before .before .before .before .args .count = omega arith in
-    rw e at (c .before .loop .inv .1)
+    let e : c .before .before .loop .p ≡ c .before .before .before .before .before .args .sizes .states = omega arith in
+    rw e at (c .before .before .loop .inv .1)
 
 pub gather-spec : {M : Type 1} → statement M
 gather-spec =

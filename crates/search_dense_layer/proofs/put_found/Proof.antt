@@ -19,7 +19,7 @@ returns : tie.Need-returns
 returns c =
     let a = c .before .before .before .before .before .before .before .args in
     subst
-    (λ other. Written (foundOf (a .line .now) (a .near .now) other (a .far .now) (a .k)) (a .to) ((a .poses + 3) / 4 * 4) (a .store .now) (c .before .before .put .last .0))
+    (λ other. Written (foundOf (a .row .now) (a .near .now) other (a .far .now) (a .k)) (a .to) ((a .poses + 3) / 4 * 4) (a .store .now) (c .before .before .put .last .0))
     (sym (other-nine (a .buckets) (a .near .now) (a .apart .now) (omega arith)))
     (c .before .before .put .ensures)
 
@@ -35,7 +35,7 @@ returns-2 : tie.Need-returns-2
 returns-2 c =
     let a = c .before .before .before .before .before .before .before .args in
     subst
-    (λ other. Written (foundOf (a .line .now) (a .near .now) other (a .far .now) (a .k)) (a .to) ((a .poses + 3) / 4 * 4) (a .store .now) (c .before .before .put2 .last .0))
+    (λ other. Written (foundOf (a .row .now) (a .near .now) other (a .far .now) (a .k)) (a .to) ((a .poses + 3) / 4 * 4) (a .store .now) (c .before .before .put2 .last .0))
     (sym (other-five (a .buckets) (a .near .now) (a .apart .now) (λ e. omega arith)))
     (c .before .before .put2 .ensures)
 

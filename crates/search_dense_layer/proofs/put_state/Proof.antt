@@ -4,7 +4,7 @@ use mathlib.Core.Path.{sym, ap, _∙_}
 use native.Mathlib.Omega.{arith}
 use native.Mathlib.Numerals.{add-one}
 use borrow.Author.Tests.{not-true, not-false}
-use Rattle.search_row.specs.Words.{deckOf, thereIn}
+use Rattle.search_row.specs.Words.{deckIn, thereIn}
 use Rattle.search_buckets.specs.Next.{next-away}
 use Rattle.search_dense_layer.specs.Thin.{thinIn}
 use Rattle.search_dense_layer.specs.Found.{put-words}
@@ -29,7 +29,7 @@ add-fill-2 c = search needs
 
 fill-requires : tie.Need-fill-requires
 fill-requires c κs =
-    let k = c .before .before .before .before .before .before in
+    let k = c .before .before .before .before .before in
     let g = k .pre .0 in
     (omega (arith, g .room, g .ground .all, g .ground .coded .few), omega arith, g .low)
 
@@ -38,20 +38,20 @@ same-length c = search needs
 
 returns : tie.Need-returns
 returns c =
-    let k = c .before .before .before .before .before .before .before .before .before in
+    let k = c .before .before .before .before .before .before .before .before in
     let a = k .args in
-    let D = deckOf (a .line .now) (a .n) (a .poses) in
+    let D = deckIn (a .row .now) (a .sizes) in
     let t = sym (c .before .before .before .before .before .is-there .ensures) ∙ not-true _ (c .before .before .before .before .if1 .taken) in
-    let u = ap (λ (j : ℕ). thereIn (a .n) (a .r) j (a .q)) (sym (add-one (a .i))) ∙ t in
-    put-words D (a .r) (a .i) (a .from) (a .q) (c .before .before .fill .ensures) (omega (arith, k .pre .0 .ground .few)) (omega arith)
-    (λ b l. next-away D (a .r) (thinIn (a .store .now) (a .from)) (a .i) (a .q) b u)
+    let u = ap (λ (j : ℕ). thereIn (a .sizes .cells) (a .sizes .reordering) j (a .q)) (sym (add-one (a .i))) ∙ t in
+    put-words D (a .sizes .reordering) (a .i) (a .from) (a .q) (c .before .before .fill .ensures) (omega (arith, k .pre .0 .ground .few)) (omega arith)
+    (λ b l. next-away D (a .sizes .reordering) (thinIn (a .store .now) (a .from)) (a .i) (a .q) b u)
 
 target-there-requires : tie.Need-target-there-requires
 target-there-requires c κs =
-    let k = c .before .before .before .before .before .before in
+    let k = c .before .before .before .before .before in
     let a = k .args in
     let t = sym (c .before .before .is-there .ensures) ∙ not-false _ (c .before .if1 .left) in
-    (k .pre .0, record { state = omega (arith, k .pre .0 .ground .all); there = ap (λ (j : ℕ). thereIn (a .n) (a .r) j (a .q)) (sym (add-one (a .i))) ∙ t })
+    (k .pre .0, record { state = omega (arith, k .pre .0 .ground .all); there = ap (λ (j : ℕ). thereIn (a .sizes .cells) (a .sizes .reordering) j (a .q)) (sym (add-one (a .i))) ∙ t })
 
 same-length-2 : tie.Need-same-length-2
 same-length-2 c = search needs

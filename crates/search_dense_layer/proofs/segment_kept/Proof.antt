@@ -1,7 +1,7 @@
 -- After j steps the layers up to i + j are kept.
 use Prim.Native.Nat.{_+_, _-_, _≤_}
 use native.Mathlib.Omega.{arith}
-use Rattle.search_row.specs.Words.{deckOf}
+use Rattle.search_row.specs.Words.{deckIn}
 use Rattle.search_dense_layer.specs.Kept.{SegmentKept}
 use Rattle.search_dense_layer.specs.KeptLaws.{kept-none, kept-more, segment-fewer}
 use borrow.Author.Needs.{needs}
@@ -9,18 +9,18 @@ use Rattle.search_dense_layer.proofs.segment_kept.Statement.{statement}
 use Rattle.search_dense_layer.proofs.segment_kept.Tie as tie
 
 abbrev Inv-loop : tie.InvT-loop
-Inv-loop store₀ line states n poses r count i end j₀ store j =
-    (i + j ≤ 66) × SegmentKept (deckOf line n poses) r i (i + j) store₀ store
+Inv-loop store₀ row sizes i end j₀ store j =
+    (i + j ≤ 66) × SegmentKept (deckIn row sizes) (sizes .reordering) i (i + j) store₀ store
 
 abbrev μ-loop : tie.MeasureT-loop
-μ-loop store₀ line states n poses r count i end j₀ store j =
+μ-loop store₀ row sizes i end j₀ store j =
     end - (i + j)
 
 loop-holds : tie.Need-loop-holds Inv-loop μ-loop
 loop-holds c =
-    let k = c .before .before .before in
+    let k = c .before .before in
     let a = k .args in
-    (omega (arith, k .pre .cells), kept-none (deckOf (a .line .now) (a .n) (a .poses)) (a .r) (a .i) (k .pre .low))
+    (omega (arith, k .pre .cells), kept-none (deckIn (a .row .now) (a .sizes)) (a .sizes .reordering) (a .i) (k .pre .low))
 
 add-loop : tie.Need-add-loop Inv-loop μ-loop
 add-loop c = search needs
@@ -36,7 +36,7 @@ add-step c = search needs
 
 step-requires : tie.Need-step-requires Inv-loop μ-loop
 step-requires c κs =
-    let g = c .before .before .before .before .before .before .before .pre in
+    let g = c .before .before .before .before .before .before .pre in
     let s = c .before .before .before .loop .inv .1 in
     (g .ground, s .low, omega arith, omega (arith, c .before .kept-at .ensures, g .long, g .last, s .frame .long))
 
@@ -48,12 +48,12 @@ loop-less c = search needs
 
 loop-again : tie.Need-loop-again Inv-loop μ-loop
 loop-again c =
-    let k = c .before .before .before .before .before .before .before .before .before .before in
+    let k = c .before .before .before .before .before .before .before .before .before in
     let a = k .args in
     let g = k .pre in
     let l = c .before .before .before .before .before .before .loop in (
       omega (arith, g .last),
-      kept-more (deckOf (a .line .now) (a .n) (a .poses)) (a .r) (a .i) (g .some) (g .ground .few) (g .ground .coded .few) (l .j)
+      kept-more (deckIn (a .row .now) (a .sizes)) (a .sizes .reordering) (a .i) (g .some) (g .ground .few) (g .ground .coded .few) (l .j)
           (omega (arith, g .last)) (g .ground .all) (c .before .before .before .before .kept-at .ensures) (l .inv .1) (c .before .before .step .ensures),
     )
 
@@ -61,7 +61,7 @@ same-length : tie.Need-same-length Inv-loop μ-loop
 same-length c = c .before .loop .inv .1 .frame .long
 
 returns : tie.Need-returns Inv-loop μ-loop
-returns c = segment-fewer (c .before .before .before .before .before .args .end) (omega arith) (c .before .loop .inv .1)
+returns c = segment-fewer (c .before .before .before .before .args .end) (omega arith) (c .before .loop .inv .1)
 
 pub segment-kept-spec : {M : Type 1} → statement M
 segment-kept-spec =

@@ -2,7 +2,7 @@
 use Prim.Native.Nat.{_-_, _≤_}
 use mathlib.Core.Path.{_≡_}
 use native.Mathlib.Omega.{arith}
-use Rattle.search_row.specs.Words.{deckOf}
+use Rattle.search_row.specs.Words.{deckIn}
 use Rattle.search_dense_layer.specs.Thin.{Stepped}
 use Rattle.search_dense_layer.specs.Found.{stepped-none, stepped-more}
 use borrow.Author.Needs.{needs}
@@ -10,22 +10,22 @@ use Rattle.search_dense_layer.proofs.step.Statement.{statement}
 use Rattle.search_dense_layer.proofs.step.Tie as tie
 
 abbrev Inv-loop : tie.InvT-loop
-Inv-loop store₀ line states n poses r count i from q₀ store q =
-    (q ≤ count) × Stepped (deckOf line n poses) r q i from store₀ store
+Inv-loop store₀ row sizes i from q₀ store q =
+    (q ≤ (sizes .states)) × Stepped (deckIn row sizes) (sizes .reordering) q i from store₀ store
 
 abbrev μ-loop : tie.MeasureT-loop
-μ-loop store₀ line states n poses r count i from q₀ store q = count - q
+μ-loop store₀ row sizes i from q₀ store q = (sizes .states) - q
 
 loop-holds : tie.Need-loop-holds Inv-loop μ-loop
 loop-holds c =
-    let k = c .before .before .before in
+    let k = c .before .before in
     let a = k .args in
-    (omega arith, stepped-none (deckOf (a .line .now) (a .n) (a .poses)) (a .r) (a .i) (a .from) (k .pre .1))
+    (omega arith, stepped-none (deckIn (a .row .now) (a .sizes)) (a .sizes .reordering) (a .i) (a .from) (k .pre .1))
 
 put-state-requires : tie.Need-put-state-requires Inv-loop μ-loop
 put-state-requires c κs =
     let k = c .before .before .before .before .before .before in
-    let s = c .before .before .loop .inv .1 in
+    let s = c .before .before .before .loop .inv .1 in
     (record { ground = k .pre .0; low = s .low; early = k .pre .2; room = omega (arith, s .frame .long) }, omega arith)
 
 add-q : tie.Need-add-q Inv-loop μ-loop
@@ -37,16 +37,16 @@ loop-less c = search needs
 loop-again : tie.Need-loop-again Inv-loop μ-loop
 loop-again c =
     let g = c .before .before .before .before .before .before .before .before .before .pre .0 in
-    let l = c .before .before .before .before .before .loop in
+    let l = c .before .before .before .before .before .before .loop in
     (omega arith, stepped-more (l .q) (l .inv .1) (c .before .before .put-state .ensures) (omega (arith, g .all, g .coded .few)) (g .coded .few) (g .few))
 
 same-length : tie.Need-same-length Inv-loop μ-loop
-same-length c = c .before .loop .inv .1 .frame .long
+same-length c = c .before .before .loop .inv .1 .frame .long
 
 returns : tie.Need-returns Inv-loop μ-loop
 returns c =
-    let e : c .before .loop .q ≡ c .before .before .before .before .before .args .count = omega arith in
-    rw e at (c .before .loop .inv .1)
+    let e : c .before .before .loop .q ≡ c .before .before .before .before .before .args .sizes .states = omega arith in
+    rw e at (c .before .before .loop .inv .1)
 
 pub step-spec : {M : Type 1} → statement M
 step-spec =

@@ -20,7 +20,7 @@ abbrev μ-loop : tie.MeasureT-loop
 loop-holds : tie.Need-loop-holds Inv-loop μ-loop
 loop-holds c =
     let a = c .before .before .args in
-    (omega arith, sym (poses-none (backIn (a .line .now) (a .k)) (thinIn (a .store .now) (a .at)) (a .q)))
+    (omega arith, sym (poses-none (backIn (a .row .now) (a .k)) (thinIn (a .store .now) (a .at)) (a .q)))
 
 mul-least : tie.Need-mul-least Inv-loop μ-loop
 mul-least c = search needs
@@ -45,7 +45,7 @@ add-least-3 c =
     let k = c .before .before .before .before .before .before in
     let a = k .args in
     let b = c .before .before .before .loop .a in
-    omega (arith, k .pre .1 .word (a .at + a .q * 64 + b), c .back .ensures, back-low (a .line .now) (a .k) b)
+    omega (arith, k .pre .1 .word (a .at + a .q * 64 + b), c .back .ensures, back-low (a .row .now) (a .k) b)
 
 least-requires : tie.Need-least-requires Inv-loop μ-loop
 least-requires c κs = search needs
@@ -60,7 +60,7 @@ loop-again : tie.Need-loop-again Inv-loop μ-loop
 loop-again c =
     let a = c .before .before .before .before .before .before .before .args in
     let l = c .before .before .before .before .loop in
-    (omega arith, omega (arith, c .least .ensures, c .before .back .ensures, l .inv .1, poses-more (backIn (a .line .now) (a .k)) (thinIn (a .store .now) (a .at)) (a .q) (l .a)))
+    (omega arith, omega (arith, c .least .ensures, c .before .back .ensures, l .inv .1, poses-more (backIn (a .row .now) (a .k)) (thinIn (a .store .now) (a .at)) (a .q) (l .a)))
 
 returns : tie.Need-returns Inv-loop μ-loop
 returns c =

@@ -3,7 +3,7 @@ use Prim.Native.Nat.{_-_, _≤_}
 use mathlib.Core.Path.{_≡_, sym}
 use native.Mathlib.Omega.{arith}
 use borrow.Author.Needs.{needs}
-use Rattle.search_row.specs.Words.{deckOf}
+use Rattle.search_row.specs.Words.{deckIn}
 use Rattle.search_dense_layer.specs.Thin.{thinIn}
 use Rattle.search_wide_end.specs.Ends.{leastStates}
 use Rattle.search_wide_end.specs.Laws.{states-none, states-more}
@@ -11,17 +11,17 @@ use Rattle.search_dense_segment.proofs.least_states.Statement.{statemen
 use Rattle.search_dense_segment.proofs.least_states.Tie as tie
 
 abbrev Inv-loop : tie.InvT-loop
-Inv-loop store line states n poses r count at x₀ q₀ x q =
-    (q ≤ count) × (x ≡ leastStates (deckOf line n poses) r (thinIn store at) q)
+Inv-loop store row sizes at x₀ q₀ x q =
+    (q ≤ (sizes .states)) × (x ≡ leastStates (deckIn row sizes) (sizes .reordering) (thinIn store at) q)
 
 abbrev μ-loop : tie.MeasureT-loop
-μ-loop store line states n poses r count at x₀ q₀ x q =
-    count - q
+μ-loop store row sizes at x₀ q₀ x q =
+    (sizes .states) - q
 
 loop-holds : tie.Need-loop-holds Inv-loop μ-loop
 loop-holds c =
-    let a = c .before .before .before .args in
-    (omega arith, sym (states-none (deckOf (a .line .now) (a .n) (a .poses)) (a .r) (thinIn (a .store .now) (a .at))))
+    let a = c .before .before .args in
+    (omega arith, sym (states-none (deckIn (a .row .now) (a .sizes)) (a .sizes .reordering) (thinIn (a .store .now) (a .at))))
 
 least-state-requires : tie.Need-least-state-requires Inv-loop μ-loop
 least-state-requires c κs = search needs
@@ -38,13 +38,13 @@ loop-less c = search needs
 loop-again : tie.Need-loop-again Inv-loop μ-loop
 loop-again c =
     let a = c .before .before .before .before .before .before .before .args in
-    let l = c .before .before .before .loop in
-    (omega arith, omega (arith, c .least .ensures, c .before .least-state .ensures, l .inv .1, states-more (deckOf (a .line .now) (a .n) (a .poses)) (a .r) (thinIn (a .store .now) (a .at)) (l .q)))
+    let l = c .before .before .before .before .loop in
+    (omega arith, omega (arith, c .least .ensures, c .before .least-state .ensures, l .inv .1, states-more (deckIn (a .row .now) (a .sizes)) (a .sizes .reordering) (thinIn (a .store .now) (a .at)) (l .q)))
 
 returns : tie.Need-returns Inv-loop μ-loop
 returns c =
-    let e : c .before .loop .q ≡ c .before .before .before .before .before .args .count = omega arith in
-    rw e at (c .before .loop .inv .1)
+    let e : c .before .before .loop .q ≡ c .before .before .before .before .before .args .sizes .states = omega arith in
+    rw e at (c .before .before .loop .inv .1)
 
 pub least-states-spec : {M : Type 1} → statement M
 least-states-spec =

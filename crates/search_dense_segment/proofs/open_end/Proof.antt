@@ -1,7 +1,7 @@
 -- The row has no cell, or the least of the layer with all its cells.
 use native.Mathlib.Omega.{arith}
 use borrow.Author.Needs.{needs}
-use Rattle.search_row.specs.Words.{deckOf}
+use Rattle.search_row.specs.Words.{deckIn}
 use Rattle.search_dense_segment.specs.Laws.{opened-none, opened-end}
 use Rattle.search_dense_segment.proofs.open_end.Statement.{statement}
 use Rattle.search_dense_segment.proofs.open_end.Tie as tie
@@ -20,7 +20,7 @@ returns c =
     let k = c .before .before .before .before in
     let a = k .args in
     let g = k .pre .1 in
-    opened-none (deckOf (a .line .now) (a .n) (a .poses)) (a .r) (a .costs) (c .if1 .taken) (g .over) (omega (arith, g .room)) (g .low)
+    opened-none (deckIn (a .row .now) (a .sizes)) (a .sizes .reordering) (a .costs) (c .if1 .taken) (g .over) (omega (arith, g .room)) (g .low)
 
 run-open-requires : tie.Need-run-open-requires
 run-open-requires c κs = search needs
@@ -45,7 +45,7 @@ returns-2 c =
     let k = c .before .before .before .before .before .before .before .before .before .before .before in
     let a = k .args in
     let g = k .pre .1 in
-    opened-end (deckOf (a .line .now) (a .n) (a .poses)) (a .r) (a .costs) (c .least-states .result) (c .before .kept-at .result)
+    opened-end (deckIn (a .row .now) (a .sizes)) (a .sizes .reordering) (a .costs) (c .least-states .result) (c .before .kept-at .result)
     (omega (arith, c .before .before .before .before .before .before .before .if1 .left)) (g .over) (omega (arith, g .room)) (g .all) (c .before .kept-at .ensures) (c .before .before .before .before .before .run-open .ensures) (c .least-states .ensures)
 
 pub open-end-spec : {M : Type 1} → statement M

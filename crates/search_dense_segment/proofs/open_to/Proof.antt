@@ -1,7 +1,7 @@
 -- The layers, then from each the costs of the states that come with it.
 use native.Mathlib.Omega.{arith}
 use borrow.Author.Needs.{needs}
-use Rattle.search_row.specs.Words.{deckOf}
+use Rattle.search_row.specs.Words.{deckIn}
 use Rattle.search_dense_segment.specs.Laws.{opened-to}
 use Rattle.search_dense_segment.proofs.open_to.Statement.{statement}
 use Rattle.search_dense_segment.proofs.open_to.Tie as tie
@@ -29,7 +29,7 @@ returns : tie.Need-returns
 returns c =
     let k = c .before .before .before .before .before .before .before .before .before .before .before in
     let a = k .args in
-    opened-to (deckOf (a .line .now) (a .n) (a .poses)) (a .r) (a .tall) (omega arith) (k .pre .1 .over) (k .pre .1 .all)
+    opened-to (deckIn (a .row .now) (a .sizes)) (a .sizes .reordering) (a .tall) (omega arith) (k .pre .1 .over) (k .pre .1 .all)
     (c .before .before .before .before .before .before .run-open .ensures) (c .before .before .put-states .ensures)
 
 pub open-to-spec : {M : Type 1} → statement M

@@ -12,7 +12,7 @@ use Rattle.search_dense_segment.proofs.put_state.Tie as tie
 
 -- the word that is read
 abbrev Digit : tie.After-word → Type 0
-Digit c = let a = c .before .before .before .args in (c .word .result ≡ offset (a .r) (a .q)) × (offset (a .r) (a .q) ≤ 4)
+Digit c = let a = c .before .before .before .args in (c .word .result ≡ offset (a .sizes .reordering) (a .q)) × (offset (a .sizes .reordering) (a .q) ≤ 4)
 
 digit : (c : tie.After-word) → Digit c
 digit c =
@@ -34,7 +34,7 @@ add-all-2 : tie.Need-add-all-2
 add-all-2 c = search needs
 
 add-if1 : tie.Need-add-if1
-add-if1 c = omega (arith, digit c)
+add-if1 c = omega (arith, digit (c .before))
 
 mul-fill-rows : tie.Need-mul-fill-rows
 mul-fill-rows c = search needs
@@ -50,10 +50,10 @@ same-length c = search needs
 
 returns : tie.Need-returns
 returns c =
-    let k = c .before .before .before .before .before .before .before .before in
+    let k = c .before .before .before .before .before .before .before .before .before in
     let a = k .args in
-    let e : a .tall + suc (a .r) < 1 + offset (a .r) (a .q) = omega (arith, c .before .before .before .before .if1 .taken, digit (c .before .before .before .before .before)) in
-    state-rows (omega (arith, k .pre .1 .few)) (c .before .before .fill-rows .ensures) (λ b l x y. comes-late (a .r) (a .tall) (a .store .now) l (a .q) b e)
+    let e : a .tall + suc (a .sizes .reordering) < 1 + offset (a .sizes .reordering) (a .q) = omega (arith, c .before .before .before .before .if1 .taken, digit (c .before .before .before .before .before .before)) in
+    state-rows (omega (arith, k .pre .1 .few)) (c .before .before .fill-rows .ensures) (λ b l x y. comes-late (a .sizes .reordering) (a .tall) (a .store .now) l (a .q) b e)
 
 sub-kept-at : tie.Need-sub-kept-at
 sub-kept-at c = search needs
@@ -81,35 +81,19 @@ same-length-2 c = search needs
 
 returns-2 : tie.Need-returns-2
 returns-2 c =
-    let k = c .before .before .before .before .before .before .before .before .before in
+    let k = c .before .before .before .before .before .before .before .before .before .before in
     let a = k .args in
-    let d = digit (c .before .before .before .before .before .before) in
-    let e : 1 + offset (a .r) (a .q) ≤ a .tall + suc (a .r) = omega (arith, c .before .before .before .before .before .if1 .left, d) in
+    let d = digit (c .before .before .before .before .before .before .before) in
+    let e : 1 + offset (a .sizes .reordering) (a .q) ≤ a .tall + suc (a .sizes .reordering) = omega (arith, c .before .before .before .before .before .if1 .left, d) in
     state-rows (omega (arith, k .pre .1 .few)) (c .before .before .spread .ensures)
     (λ b l x y.
-    comes-with (a .r) (a .tall) (a .store .now) l (a .q) b e
+    comes-with (a .sizes .reordering) (a .tall) (a .store .now) l (a .q) b e
     ∙ ap (λ (j : ℕ). getD (a .store .now) j 0) (omega (arith, c .before .before .before .before .kept-at .ensures, d)))
+
+add-word : tie.Need-add-word
+add-word c = search needs
 
 pub put-state-spec : {M : Type 1} → statement M
 put-state-spec =
     tie.close
-    (tie.spec
-    mul-word
-    word-requires
-    add-all
-    add-all-2
-    add-if1
-    mul-fill-rows
-    add-fill-rows
-    fill-rows-requires
-    same-length
-    returns
-    sub-kept-at
-    kept-at-requires
-    mul-from
-    add-from
-    mul-spread
-    add-spread
-    spread-requires
-    same-length-2
-    returns-2)
+    (tie.spec mul-word add-word word-requires add-all add-all-2 add-if1 mul-fill-rows add-fill-rows fill-rows-requires same-length returns sub-kept-at kept-at-requires mul-from add-from mul-spread add-spread spread-requires same-length-2 returns-2)

@@ -1,7 +1,7 @@
 -- The first layer, then those after it.
 use native.Mathlib.Omega.{arith}
 use borrow.Author.Needs.{needs}
-use Rattle.search_row.specs.Words.{deckOf}
+use Rattle.search_row.specs.Words.{deckIn}
 use Rattle.search_dense_segment.specs.Laws.{open-kept}
 use Rattle.search_dense_segment.proofs.run_open.Statement.{statement}
 use Rattle.search_dense_segment.proofs.run_open.Tie as tie
@@ -14,7 +14,7 @@ open-requires c κs = search needs
 
 segment-kept-requires : tie.Need-segment-kept-requires
 segment-kept-requires c κs =
-    let k = c .before .before .before .before .before .before .before .before .before in
+    let k = c .before .before .before .before .before .before .before .before in
     let b = c .before .before .before .open .ensures in
     record { ground = k .pre .0; low = b .low; long = omega (arith, k .pre .2, b .frame .long); some = omega arith; cells = omega arith; last = k .pre .3 }
 
@@ -23,9 +23,9 @@ same-length c = search needs
 
 returns : tie.Need-returns
 returns c =
-    let k = c .before .before .before .before .before .before .before .before .before .before .before .before in
+    let k = c .before .before .before .before .before .before .before .before .before .before .before in
     let a = k .args in
-    open-kept (deckOf (a .line .now) (a .n) (a .poses)) (a .r) (c .before .before .before .before .before .before .before .kept-at .ensures) (k .pre .0 .all)
+    open-kept (deckIn (a .row .now) (a .sizes)) (a .sizes .reordering) (c .before .before .before .before .before .before .before .kept-at .ensures) (k .pre .0 .all)
     (c .before .before .before .before .before .before .open .ensures) (c .before .before .segment-kept .ensures)
 
 pub run-open-spec : {M : Type 1} → statement M

@@ -24,26 +24,30 @@ single false t u e g = absurd (let z : _≡_ {A = ℕ} 0 1 = cc in omega arith)
 
 -- past the first test the position is in the row
 abbrev There : tie.Else1 → Type 0
-There c = let a = c .before .before .before .before .args in thereIn (a .n) (a .r) (a .i) (a .q) ≡ true
+There c = let a = c .before .before .before .args in thereIn (a .sizes .cells) (a .sizes .reordering) (a .i) (a .q) ≡ true
 
 there : (c : tie.Else1) → There c
 there c = sym (c .before .is-there .ensures) ∙ not-false _ (c .if1 .left)
 
 inside : (c : tie.After-last-at) → c .last-at .result < 64
 inside c =
-    let k = c .before .before .before .before .before in
+    let k = c .before .before .before .before in
     let a = k .args in
-    omega (arith, c .last-at .ensures, there-size (a .n) (a .r) (a .i) (a .q) (there (c .before)), k .pre .1)
+    omega (arith, c .last-at .ensures, there-size (a .sizes .cells) (a .sizes .reordering) (a .i) (a .q) (there (c .before)), k .pre .0 .size)
 
 is-there-requires : tie.Need-is-there-requires
-is-there-requires c κs = search needs
+is-there-requires c κs =
+    let k = c .before in
+    (k .pre .0 .coded, omega (arith, k .pre .0 .all), omega arith)
 
 returns : tie.Need-returns
 returns c =
     and-away _ _ (sym (c .before .is-there .ensures) ∙ not-true _ (c .if1 .taken))
 
 last-at-requires : tie.Need-last-at-requires
-last-at-requires c κs = search needs
+last-at-requires c κs =
+    let k = c .before .before .before in
+    (k .pre .0 .coded, omega (arith, k .pre .0 .all), omega arith)
 
 mul-if2 : tie.Need-mul-if2
 mul-if2 c =
@@ -59,13 +63,13 @@ mul-if2-2 c =
 
 shared-slice-read-if2 : tie.Need-shared-slice-read-if2
 shared-slice-read-if2 c =
-    omega (arith, inside (c .before), c .before .before .before .before .before .before .pre .0 .long)
+    omega (arith, inside (c .before), c .before .before .before .before .before .pre .0 .words .long)
 
 returns-2 : tie.Need-returns-2
 returns-2 c =
-    let a = c .before .before .before .before .before .before .before .args in
-    let e = ap (λ (p : ℕ). eqb (wordOf (a .line .now) p 67) 1) (c .before .before .last-at .ensures) in
-    tall (thereIn (a .n) (a .r) (a .i) (a .q)) (eqb (wordOf (a .line .now) (lastAt (a .r) (a .i) (a .q)) 67) 1) (eqb (marks (a .r) (a .q)) (before (a .r) (a .q1)))
+    let a = c .before .before .before .before .before .before .args in
+    let e = ap (λ (p : ℕ). eqb (wordOf (a .row .now) p 67) 1) (c .before .before .last-at .ensures) in
+    tall (thereIn (a .sizes .cells) (a .sizes .reordering) (a .i) (a .q)) (eqb (wordOf (a .row .now) (lastAt (a .sizes .reordering) (a .i) (a .q)) 67) 1) (eqb (marks (a .sizes .reordering) (a .q)) (before (a .sizes .reordering) (a .q1)))
     (sym e ∙ eq-eqb _ _ (c .if2 .taken))
 
 mul-result : tie.Need-mul-result
@@ -94,31 +98,21 @@ shared-slice-read-result-2 c = search needs
 
 returns-3 : tie.Need-returns-3
 returns-3 c =
-    let k = c .before .before .before .before .before .before .before .before .before in
+    let k = c .before .before .before .before .before .before .before .before in
     let a = k .args in
-    let e = ap (λ (p : ℕ). eqb (wordOf (a .line .now) p 67) 1) (c .before .before .before .before .last-at .ensures) in
-    ap₂ eqb (k .pre .2 .mark (a .q) (k .pre .4)) (k .pre .2 .earlier (a .q1) (k .pre .3))
-    ∙ single (thereIn (a .n) (a .r) (a .i) (a .q)) (eqb (wordOf (a .line .now) (lastAt (a .r) (a .i) (a .q)) 67) 1) (eqb (marks (a .r) (a .q)) (before (a .r) (a .q1)))
+    let g = k .pre .0 in
+    let e = ap (λ (p : ℕ). eqb (wordOf (a .row .now) p 67) 1) (c .before .before .before .before .last-at .ensures) in
+    ap₂ eqb (g .coded .mark (a .q) (omega (arith, g .all))) (g .coded .earlier (a .q1) (omega (arith, g .all)))
+    ∙ single (thereIn (a .sizes .cells) (a .sizes .reordering) (a .i) (a .q)) (eqb (wordOf (a .row .now) (lastAt (a .sizes .reordering) (a .i) (a .q)) 67) 1) (eqb (marks (a .sizes .reordering) (a .q)) (before (a .sizes .reordering) (a .q1)))
     (there (c .before .before .before .before .before)) (sym e ∙ ne-eqb _ _ (c .before .before .if2 .left))
+
+add-result-3 : tie.Need-add-result-3
+add-result-3 c = search needs
+
+add-result-4 : tie.Need-add-result-4
+add-result-4 c = search needs
 
 pub is-source-spec : {M : Type 1} → statement M
 is-source-spec =
     tie.close
-    (tie.spec
-    is-there-requires
-    returns
-    last-at-requires
-    mul-if2
-    add-if2
-    mul-if2-2
-    shared-slice-read-if2
-    returns-2
-    mul-result
-    add-result
-    mul-result-2
-    shared-slice-read-result
-    mul-result-3
-    add-result-2
-    mul-result-4
-    shared-slice-read-result-2
-    returns-3)
+    (tie.spec is-there-requires returns last-at-requires mul-if2 add-if2 mul-if2-2 shared-slice-read-if2 returns-2 mul-result add-result add-result-2 mul-result-2 shared-slice-read-result mul-result-3 add-result-3 add-result-4 mul-result-4 shared-slice-read-result-2 returns-3)

@@ -10,6 +10,9 @@ use Rattle.search_row.proofs.is_there.Tie as tie
 mul-word : tie.Need-mul-word
 mul-word c = search needs
 
+add-word : tie.Need-add-word
+add-word c = search needs
+
 word-requires : tie.Need-word-requires
 word-requires c κs = search needs
 
@@ -24,7 +27,7 @@ add-if1-2 c = search needs
 returns : tie.Need-returns
 returns c =
     let k = c .before .before .before in
-    let h : k .args .i + offset (k .args .r) (k .args .q) < suc (k .args .r) = omega (arith, c .before .word .ensures, k .pre .0 .digit (k .args .q) (k .pre .1)) in
+    let h : k .args .i + offset (k .args .sizes .reordering) (k .args .q) < suc (k .args .sizes .reordering) = omega (arith, c .before .word .ensures, k .pre .0 .digit (k .args .q) (k .pre .1)) in
     simp (lt-leb _ _ h)
 
 last-at-requires : tie.Need-last-at-requires
@@ -32,11 +35,11 @@ last-at-requires c κs = search needs
 
 returns-2 : tie.Need-returns-2
 returns-2 c =
-    let k = c .before .before .before .before in
-    let h : suc (k .args .r) ≤ k .args .i + offset (k .args .r) (k .args .q) = omega (arith, c .before .before .word .ensures, k .pre .0 .digit (k .args .q) (k .pre .1)) in
-    simp (le-leb _ _ h, c .last-at .ensures)
+    let k = c .before .before .before .before .before in
+    let h : suc (k .args .sizes .reordering) ≤ k .args .i + offset (k .args .sizes .reordering) (k .args .q) = omega (arith, c .before .before .before .word .ensures, k .pre .0 .digit (k .args .q) (k .pre .1)) in
+    simp (le-leb _ _ h, c .before .last-at .ensures)
 
 pub is-there-spec : {M : Type 1} → statement M
 is-there-spec =
     tie.close
-    (tie.spec mul-word word-requires add-if1 add-if1-2 returns last-at-requires returns-2)
+    (tie.spec mul-word add-word word-requires add-if1 add-if1-2 returns last-at-requires returns-2)

@@ -7,6 +7,9 @@ use Rattle.search_row.proofs.last_at.Tie as tie
 mul-word : tie.Need-mul-word
 mul-word c = search needs
 
+add-word : tie.Need-add-word
+add-word c = search needs
+
 word-requires : tie.Need-word-requires
 word-requires c κs = search needs
 
@@ -37,4 +40,4 @@ returns-2 c =
 pub last-at-spec : {M : Type 1} → statement M
 last-at-spec =
     tie.close
-    (tie.spec mul-word word-requires add-k add-if1 returns add-result sub-result returns-2)
+    (tie.spec mul-word add-word word-requires add-k add-if1 returns add-result sub-result returns-2)

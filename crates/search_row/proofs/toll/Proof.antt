@@ -39,14 +39,14 @@ end-requires c κs = search needs
 returns : tie.Need-returns
 returns c =
     let a = c .before .before .before .before .args in
-    over (c .before .before .site .result) (c .before .end .result) (λ gap. weightIn (a .line .now) (a .m) gap * differIn (a .line .now) (a .k) (a .b) (a .m) (a .a)) (c .if1 .taken)
-    ∙ same (a .line .now) (a .k) (a .b) (a .m) (a .a) _ (c .before .before .site .ensures) (c .before .end .ensures) refl
+    over (c .before .before .site .result) (c .before .end .result) (λ gap. weightIn (a .row .now) (a .m) gap * differIn (a .row .now) (a .k) (a .b) (a .m) (a .a)) (c .if1 .taken)
+    ∙ same (a .row .now) (a .k) (a .b) (a .m) (a .a) _ (c .before .before .site .ensures) (c .before .end .ensures) refl
 
 returns-2 : tie.Need-returns-2
 returns-2 c =
     let a = c .before .before .before .before .before .args in
-    near (c .before .before .before .site .result) (c .before .before .end .result) (λ gap. weightIn (a .line .now) (a .m) gap * differIn (a .line .now) (a .k) (a .b) (a .m) (a .a)) (c .before .if1 .left) (c .if2 .taken)
-    ∙ same (a .line .now) (a .k) (a .b) (a .m) (a .a) _ (c .before .before .before .site .ensures) (c .before .before .end .ensures) refl
+    near (c .before .before .before .site .result) (c .before .before .end .result) (λ gap. weightIn (a .row .now) (a .m) gap * differIn (a .row .now) (a .k) (a .b) (a .m) (a .a)) (c .before .if1 .left) (c .if2 .taken)
+    ∙ same (a .row .now) (a .k) (a .b) (a .m) (a .a) _ (c .before .before .before .site .ensures) (c .before .before .end .ensures) refl
 
 charge-of-requires : tie.Need-charge-of-requires
 charge-of-requires c κs = search needs
@@ -61,7 +61,7 @@ mul-result : tie.Need-mul-result
 mul-result c =
     let k = c .before .before .before .before .before .before .before .before in
     let a = k .args in
-    let d : c .differ .result ≤ 2 = omega (arith, c .differ .ensures, differ-low (a .line .now) (a .k) (a .b) (a .m) (a .a)) in
+    let d : c .differ .result ≤ 2 = omega (arith, c .differ .ensures, differ-low (a .row .now) (a .k) (a .b) (a .m) (a .a)) in
     let w : c .before .weight .result ≤ 131072 = omega (arith, c .before .weight .ensures, weight-low (a .m) (c .before .before .before .before .before .before .site .result - c .before .before .before .before .before .end .result) (k .pre .0)) in
     omega (arith, pay-low w d)
 
@@ -69,7 +69,7 @@ mul-result-2 : tie.Need-mul-result-2
 mul-result-2 c =
     let k = c .before .before .before .before .before .before .before .before in
     let a = k .args in
-    let d : c .differ .result ≤ 2 = omega (arith, c .differ .ensures, differ-low (a .line .now) (a .k) (a .b) (a .m) (a .a)) in
+    let d : c .differ .result ≤ 2 = omega (arith, c .differ .ensures, differ-low (a .row .now) (a .k) (a .b) (a .m) (a .a)) in
     let w : c .before .weight .result ≤ 131072 = omega (arith, c .before .weight .ensures, weight-low (a .m) (c .before .before .before .before .before .before .site .result - c .before .before .before .before .before .end .result) (k .pre .0)) in
     let g : c .before .before .charge-of .result ≤ 1 = omega (arith, c .before .before .charge-of .ensures, charge-low (c .before .before .before .before .before .before .site .result - c .before .before .before .before .before .end .result)) in
     omega (arith, charged-low g (pay-low w d))
@@ -81,8 +81,8 @@ returns-3 c =
     let x = b .before .before .site .result in
     let y = b .before .end .result in
     ap₂ (λ (g w : ℕ). g * (w * c .differ .result)) (c .before .before .charge-of .ensures) (c .before .weight .ensures)
-    ∙ apart x y (λ gap. weightIn (a .line .now) (a .m) gap * c .differ .result) (b .if1 .left) (c .before .before .before .if2 .left)
-    ∙ same (a .line .now) (a .k) (a .b) (a .m) (a .a) _ (b .before .before .site .ensures) (b .before .end .ensures) (c .differ .ensures)
+    ∙ apart x y (λ gap. weightIn (a .row .now) (a .m) gap * c .differ .result) (b .if1 .left) (c .before .before .before .if2 .left)
+    ∙ same (a .row .now) (a .k) (a .b) (a .m) (a .a) _ (b .before .before .site .ensures) (b .before .end .ensures) (c .differ .ensures)
 
 pub toll-spec : {M : Type 1} → statement M
 toll-spec =

@@ -42,7 +42,7 @@ same-length c = search needs
 returns-2 : tie.Need-returns-2
 returns-2 c =
     let k = c .before .before in
-    talls-more (k .pre .3) (k .pre .0) (eq-eqb _ 1 (c .if1 .left))
+    talls-more (k .pre .3) (k .pre .0) (eq-eqb _ 1 (c .if1 .left)) (k .pre .1)
 
 pub add-tall-spec : {M : Type 1} → statement M
 add-tall-spec =

@@ -51,7 +51,7 @@ add-cell-requires c κs =
     let f = p .loop .inv .1 in
     let g = c .before .before .loop-test .taken in
     let h : p .loop .k < length (jobOf (s .args .t2) .cells) = rw (counted s) g in
-    (ranged-at (s .args .t2) (p .loop .k) g h (s .pre .0), s .pre .2, omega (arith, g, s .pre .1), omega (arith, g, s .pre .1, f .below), f .long, f .low)
+    (ranged-at (s .args .t2) (p .loop .k) g h (s .pre .0), s .pre .2, omega (arith, g, s .pre .1), omega (arith, g, s .pre .1, f .below), omega (arith, f .long), f .low)
 
 add-k : tie.Need-add-k Inv-loop μ-loop
 add-k c =
@@ -80,7 +80,8 @@ returns c =
     let p = c .before in
     let s = p .before .before .before .before .before .before .before in
     let few = p .loop .inv .1 .few in
-    lined (jobOf (s .args .t2)) (s .pre .0) (sideOf (s .args .row)) (p .loop .line) (p .loop .n) (p .loop .k) (p .loop .inv .1) (omega (arith, counted s, c .loop-test .left))
+    let e : p .loop .k ≡ length (jobOf (s .args .t2) .cells) = omega (arith, counted s, c .loop-test .left) in
+    rw e at (p .loop .inv .1)
 
 pub fill-line-spec : {M : Type 1} → statement M
 fill-line-spec =

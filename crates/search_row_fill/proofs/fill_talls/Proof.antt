@@ -15,7 +15,7 @@ abbrev μ-loop : tie.MeasureT-loop
 μ-loop talls₀ line n count₀ p₀ talls count p = n - p
 
 loop-holds : tie.Need-loop-holds Inv-loop μ-loop
-loop-holds c = (omega arith, refl, talls-none (c .before .before .pre .2))
+loop-holds c = (omega arith, refl, talls-none (c .before .before .pre .2) (c .before .before .pre .3))
 
 add-tall-requires : tie.Need-add-tall-requires Inv-loop μ-loop
 add-tall-requires c κs =

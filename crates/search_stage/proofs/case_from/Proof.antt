@@ -11,7 +11,7 @@ case-at-requires c κs = search needs
 returns : tie.Need-returns
 returns c =
     let a = c .before .before .args in
-    c .case-at .ensures ∙ from-0 (a .row) (a .i) (a .s) (a .t) (c .before .if1 .taken)
+    c .case-at .ensures ∙ from-0 (a .side) (a .i) (a .s) (a .t) (c .before .if1 .taken)
 
 case-at-requires-2 : tie.Need-case-at-requires-2
 case-at-requires-2 c κs = search needs
@@ -19,7 +19,7 @@ case-at-requires-2 c κs = search needs
 returns-2 : tie.Need-returns-2
 returns-2 c =
     let a = c .before .before .args in
-    c .case-at2 .ensures ∙ from-1 (a .row) (a .i) (a .s) (a .t) (c .before .if1 .left)
+    c .case-at2 .ensures ∙ from-1 (a .side) (a .i) (a .s) (a .t) (c .before .if1 .left)
 
 pub case-from-spec : {M : Type 1} → statement M
 case-from-spec = tie.close (tie.spec case-at-requires returns case-at-requires-2 returns-2)

@@ -3,10 +3,10 @@ use mathlib.Core.Path.{_≡_}
 use native.Mathlib.Omega.{arith}
 use borrow.Author.Tests.{not-true}
 use borrow.Author.Needs.{needs}
-use Rattle.search_row.specs.Words.{deckOf}
+use Rattle.search_row.specs.Words.{deckIn, posIn}
 use Rattle.search_join.specs.Places.{costsAt}
 use Rattle.search_join.specs.SumLaws.{table-for}
-use Rattle.search_stage.specs.Stage.{posIn, costOf}
+use Rattle.search_stage.specs.Stage.{costOf}
 use Rattle.search_stage.specs.Laws.{wide-lanes}
 use Rattle.search_stage.specs.Starts.{dead-fewer, start-dead, start-live}
 use Rattle.search_stage.proofs.cost_start.Statement.{statement}
@@ -16,14 +16,14 @@ wide-of-requires : tie.Need-wide-of-requires
 wide-of-requires c κs = search needs
 
 lanes-of-requires : tie.Need-lanes-of-requires
-lanes-of-requires c κs = c .before .before .before .before .before .pre .1 .ground .few
+lanes-of-requires c κs = c .before .before .before .pre .1 .ground .few
 
 live-requires : tie.Need-live-requires
 live-requires c κs =
-    let k = c .before .before .before .before .before .before .before in
+    let k = c .before .before .before .before .before in
     let a = k .args in
     let t = k .pre .2 in
-    let w = wide-lanes (a .talls) (a .i) (a .poses) (k .pre .1 .ground .few) in
+    let w = wide-lanes (a .sizes .talls) (a .i) (a .sizes .poses) (k .pre .1 .ground .few) in
     (rw (c .before .before .wide-of .ensures, c .before .lanes-of .ensures) (table-for _ _ t (w .1) (t .stage)), omega (arith, c .before .before .wide-of .ensures))
 
 same-length : tie.Need-same-length
@@ -31,10 +31,10 @@ same-length c = search needs
 
 returns : tie.Need-returns
 returns c =
-    let k = c .before .before .before .before .before .before .before .before .before in
+    let k = c .before .before .before .before .before .before .before in
     let a = k .args in
     let d = c .before .live .ensures (not-true _ (c .if1 .taken)) in
-    let w = wide-lanes (a .talls) (a .i) (a .poses) (k .pre .1 .ground .few) in
+    let w = wide-lanes (a .sizes .talls) (a .i) (a .sizes .poses) (k .pre .1 .ground .few) in
     (start-dead (k .pre .2 .low) (dead-fewer (w .0) (rw (c .before .before .before .before .wide-of .ensures, c .before .before .before .lanes-of .ensures) at d)), k .pre .0)
 
 cost-at-requires : tie.Need-cost-at-requires
@@ -42,7 +42,7 @@ cost-at-requires c κs = search needs
 
 row-cost-requires : tie.Need-row-cost-requires
 row-cost-requires c κs =
-    let k = c .before .before .before .before .before .before .before .before .before .before .before .before in
+    let k = c .before .before .before .before .before .before .before .before .before .before in
     let w = k .pre .2 in
     let g = k .pre .1 .ground in
     let e = c .before .before .cost-at .ensures in
@@ -53,10 +53,10 @@ same-length-2 c = search needs
 
 returns-2 : tie.Need-returns-2
 returns-2 c =
-    let k = c .before .before .before .before .before .before .before .before .before .before .before .before .before .before .before in
+    let k = c .before .before .before .before .before .before .before .before .before .before .before .before .before in
     let a = k .args in
-    let e : c .before .before .before .before .before .cost-at .result ≡ costsAt (a .row) (a .s) = omega (arith, c .before .before .before .before .before .cost-at .ensures) in
-    (start-live (a .row) (a .s) _ (costOf (deckOf (a .line .now) (a .n) (a .poses)) (a .r) (a .talls) (posIn (a .places .now)) (a .i)) e (c .before .before .row-cost .ensures .0), c .before .before .row-cost .ensures .1)
+    let e : c .before .before .before .before .before .cost-at .result ≡ costsAt (a .side) (a .s) = omega (arith, c .before .before .before .before .before .cost-at .ensures) in
+    (start-live (a .side) (a .s) _ (costOf (deckIn (a .row .now) (a .sizes)) (a .sizes .reordering) (a .sizes .talls) (posIn (a .row .now)) (a .i)) e (c .before .before .row-cost .ensures .0), c .before .before .row-cost .ensures .1)
 
 pub cost-start-spec : {M : Type 1} → statement M
 cost-start-spec =

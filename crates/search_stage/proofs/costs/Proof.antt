@@ -3,30 +3,30 @@ use Prim.Native.Nat.{suc, _-_, _≤_}
 use mathlib.Core.Path.{_≡_, _∙_}
 use native.Mathlib.Omega.{arith}
 use borrow.Author.Needs.{needs}
-use Rattle.search_row.specs.Words.{deckOf}
+use Rattle.search_row.specs.Words.{deckIn, posIn, withCells}
 use Rattle.search_wide_buckets.specs.Table.{Lent}
-use Rattle.search_stage.specs.Stage.{wide, posIn, costOf, BothCosted}
+use Rattle.search_stage.specs.Stage.{wide, costOf, BothCosted}
 use Rattle.search_stage.specs.Starts.{both-none, both-more}
 use Rattle.search_stage.specs.Laws.{given-states, given-wide, given-table}
 use Rattle.search_stage.proofs.costs.Statement.{statement}
 use Rattle.search_stage.proofs.costs.Tie as tie
 
 abbrev Inv-loop : tie.InvT-loop
-Inv-loop table₀ store₀ line0 line1 states places0 places1 n0 n1 poses r count talls i starts s₀ table store s =
+Inv-loop table₀ store₀ row0 row1 sizes cells1 i sizes1 starts s₀ table store s =
     (s ≤ starts)
-    × BothCosted (costOf (deckOf line0 n0 poses) r talls (posIn places0) i) (costOf (deckOf line1 n1 poses) r talls (posIn places1) i)
-    i (wide talls i count) (wide talls i poses) (wide talls (suc i) count) (wide talls (suc i) poses) s store₀ store
+    × BothCosted (costOf (deckIn row0 sizes) (sizes .reordering) (sizes .talls) (posIn row0) i) (costOf (deckIn row1 (withCells sizes cells1)) (sizes .reordering) (sizes .talls) (posIn row1) i)
+    i (wide (sizes .talls) i (sizes .states)) (wide (sizes .talls) i (sizes .poses)) (wide (sizes .talls) (suc i) (sizes .states)) (wide (sizes .talls) (suc i) (sizes .poses)) s store₀ store
     × Lent table
 
 abbrev μ-loop : tie.MeasureT-loop
-μ-loop table₀ store₀ line0 line1 states places0 places1 n0 n1 poses r count talls i starts s₀ table store s = starts - s
+μ-loop table₀ store₀ row0 row1 sizes cells1 i sizes1 starts s₀ table store s = starts - s
 
 wide-of-requires : tie.Need-wide-of-requires Inv-loop μ-loop
 wide-of-requires c κs = search needs
 
 loop-holds : tie.Need-loop-holds Inv-loop μ-loop
 loop-holds c =
-    let k = c .before .before .before .before .before .before .before in
+    let k = c .before .before .before .before in
     let g = k .pre .1 in
     let w = given-wide g (k .args .i) in
     let x = given-wide g (suc (k .args .i)) in
@@ -34,18 +34,18 @@ loop-holds c =
 
 cost-start-requires : tie.Need-cost-start-requires Inv-loop μ-loop
 cost-start-requires c κs =
-    let k = c .before .before .before .before .before .before .before .before .before .before .before in
+    let k = c .before .before .before .before .before .before .before .before in
     let g = k .pre .1 in
     let v = c .before .before .before .loop .inv .1 in
-    (c .before .before .before .loop .inv .2, g .row₀, given-table g (k .args .i) _ (k .pre .2) (v .long) (v .low), omega arith, k .pre .2, omega (arith, c .before .before .before .before .wide-of .ensures))
+    (c .before .before .before .loop .inv .2, g .given₀, given-table g (k .args .i) _ (k .pre .2) (v .long) (v .low), omega arith, k .pre .2, omega (arith, c .before .before .before .before .wide-of .ensures))
 
 cost-start-requires-2 : tie.Need-cost-start-requires-2 Inv-loop μ-loop
 cost-start-requires-2 c κs =
-    let k = c .before .before .before .before .before .before .before .before .before .before .before .before .before .before .before .before in
+    let k = c .before .before .before .before .before .before .before .before .before .before .before .before .before in
     let g = k .pre .1 in
     let v = c .before .before .before .before .before .before .before .before .loop .inv .1 in
     let o = c .before .before .before .before .cost-start .ensures .0 in
-    (c .before .before .before .before .cost-start .ensures .1, g .row₁, given-table g (k .args .i) _ (k .pre .2) (o .long ∙ v .long) (o .low), omega arith, k .pre .2, omega (arith, c .before .before .before .before .before .before .before .before .before .wide-of .ensures))
+    (c .before .before .before .before .cost-start .ensures .1, g .given₁, given-table g (k .args .i) _ (k .pre .2) (o .long ∙ v .long) (o .low), omega arith, k .pre .2, omega (arith, c .before .before .before .before .before .before .before .before .before .wide-of .ensures))
 
 add-s : tie.Need-add-s Inv-loop μ-loop
 add-s c = search needs
@@ -55,7 +55,7 @@ loop-less c = search needs
 
 loop-again : tie.Need-loop-again Inv-loop μ-loop
 loop-again c =
-    let k = c .before .before .before .before .before .before .before .before .before .before .before .before .before .before .before .before .before .before .before in
+    let k = c .before .before .before .before .before .before .before .before .before .before .before .before .before .before .before .before in
     let g = k .pre .1 in
     let w = given-wide g (k .args .i) in
     let x = given-wide g (suc (k .args .i)) in
@@ -71,8 +71,8 @@ same-length c = c .before .loop .inv .1 .long
 
 returns : tie.Need-returns Inv-loop μ-loop
 returns c =
-    let k = c .before .before .before .before .before .before .before .before .before in
-    let e : c .before .loop .s ≡ wide (k .args .talls) (k .args .i) (k .args .count) = omega (arith, c .before .before .wide-of .ensures) in
+    let k = c .before .before .before .before .before .before in
+    let e : c .before .loop .s ≡ wide (k .args .sizes .talls) (k .args .i) (k .args .sizes .states) = omega (arith, c .before .before .wide-of .ensures) in
     ((rw e at (c .before .loop .inv .1)), c .before .loop .inv .2)
 
 pub costs-spec : {M : Type 1} → statement M

@@ -12,11 +12,11 @@ use Rattle.search_stage.proofs.live.Statement.{statement}
 use Rattle.search_stage.proofs.live.Tie as tie
 
 abbrev Inv-loop : tie.InvT-loop
-Inv-loop store row i starts lanes s t₀ t =
-    (t ≤ starts) × ((u : ℕ) → u < t → (l : ℕ) → l < lanes → B ≤ getD store (fromAt row i s u + l) 0)
+Inv-loop store side i starts lanes s t₀ t =
+    (t ≤ starts) × ((u : ℕ) → u < t → (l : ℕ) → l < lanes → B ≤ getD store (fromAt side i s u + l) 0)
 
 abbrev μ-loop : tie.MeasureT-loop
-μ-loop store row i starts lanes s t₀ t = starts - t
+μ-loop store side i starts lanes s t₀ t = starts - t
 
 loop-holds : tie.Need-loop-holds Inv-loop μ-loop
 loop-holds c = (omega arith, λ u h. absurd (omega arith))
@@ -30,7 +30,7 @@ common-requires : tie.Need-common-requires Inv-loop μ-loop
 common-requires c κs =
     let k = c .before .before .before .before in
     let a = k .args in
-    omega (arith, c .case-from .ensures, from-room (a .row) (a .i) (a .s) (c .before .before .loop .t) (k .pre .0) (omega arith) (omega arith))
+    omega (arith, c .case-from .ensures, from-room (a .side) (a .i) (a .s) (c .before .before .loop .t) (k .pre .0) (omega arith) (omega arith))
 
 returns : tie.Need-returns Inv-loop μ-loop
 returns c = λ e. absurd (let z : _≡_ {A = ℕ} 0 1 = cc in omega arith)
@@ -46,7 +46,7 @@ loop-again c =
     let a = c .before .before .before .before .before .before .args in
     let l = c .before .before .before .before .loop in (
       omega arith,
-      below-more (λ (u : ℕ). (l : ℕ) → l < a .lanes → B ≤ getD (a .store .now) (fromAt (a .row) (a .i) (a .s) u + l) 0) (l .t) (l .inv .1)
+      below-more (λ (u : ℕ). (l : ℕ) → l < a .lanes → B ≤ getD (a .store .now) (fromAt (a .side) (a .i) (a .s) u + l) 0) (l .t) (l .inv .1)
           (λ l h. let w : B ≤ getD (a .store .now) (c .before .before .case-from .result + l) 0 = omega (arith, c .before .common .ensures l h) in rw (c .before .before .case-from .ensures) at w),
     )
 

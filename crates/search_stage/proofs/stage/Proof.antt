@@ -1,8 +1,7 @@
 -- The costs of both rows, joined with the table before; then the lanes beyond the poses are closed.
 use Prim.Native.Nat.{_+_}
 use mathlib.Core.Path.{_∙_}
-use Rattle.search_row.specs.Words.{deckOf}
-use Rattle.search_stage.specs.Stage.{posIn}
+use Rattle.search_row.specs.Words.{deckIn, posIn, withCells}
 use Rattle.search_stage.specs.Laws.{wide-lanes, stage-made, given-states, given-wide, given-join}
 use native.Mathlib.Omega.{arith}
 use borrow.Author.Needs.{needs}
@@ -16,7 +15,7 @@ wide-of-requires : tie.Need-wide-of-requires
 wide-of-requires c κs = search needs
 
 lanes-of-requires : tie.Need-lanes-of-requires
-lanes-of-requires c κs = given-states (c .before .before .before .before .before .before .before .before .before .before .before .before .pre .1) .2
+lanes-of-requires c κs = given-states (c .before .before .before .before .before .before .before .before .before .pre .1) .2
 
 add-wide-of : tie.Need-add-wide-of
 add-wide-of c = search needs
@@ -32,7 +31,7 @@ wide-of-requires-3 c κs = search needs
 
 join-stage-requires : tie.Need-join-stage-requires
 join-stage-requires c κs =
-    let k = c .before .before .before .before .before .before .before .before .before .before .before .before .before .before .before .before in
+    let k = c .before .before .before .before .before .before .before .before .before .before .before .before .before in
     let g = k .pre .1 in
     let x = given-wide g (k .args .i + 1) in
     let p = c .before .before .before .before .before .before .before .costs .ensures .0 in (
@@ -43,20 +42,20 @@ join-stage-requires c κs =
     )
 
 add-lanes-of : tie.Need-add-lanes-of
-add-lanes-of c = let k = c .before .before .before .before .before .before .before .before .before .before .before .before .before .before .before .before .before .before .before in omega (arith, k .pre .2, given-states (k .pre .1) .3)
+add-lanes-of c = let k = c .before .before .before .before .before .before .before .before .before .before .before .before .before .before .before .before in omega (arith, k .pre .2, given-states (k .pre .1) .3)
 
 lanes-of-requires-2 : tie.Need-lanes-of-requires-2
-lanes-of-requires-2 c κs = given-states (c .before .before .before .before .before .before .before .before .before .before .before .before .before .before .before .before .before .before .before .pre .1) .2
+lanes-of-requires-2 c κs = given-states (c .before .before .before .before .before .before .before .before .before .before .before .before .before .before .before .before .pre .1) .2
 
 add-close-lanes : tie.Need-add-close-lanes
-add-close-lanes c = let k = c .before .before .before .before .before .before .before .before .before .before .before .before .before .before .before .before .before .before .before .before .before in omega (arith, k .pre .2, given-states (k .pre .1) .3)
+add-close-lanes c = let k = c .before .before .before .before .before .before .before .before .before .before .before .before .before .before .before .before .before .before in omega (arith, k .pre .2, given-states (k .pre .1) .3)
 
 close-lanes-requires : tie.Need-close-lanes-requires
 close-lanes-requires c κs =
-    let k = c .before .before .before .before .before .before .before .before .before .before .before .before .before .before .before .before .before .before .before .before .before in
+    let k = c .before .before .before .before .before .before .before .before .before .before .before .before .before .before .before .before .before .before in
     let g = k .pre .1 in
     let x = given-wide g (k .args .i + 1) in
-    let y = wide-lanes (k .args .talls) (k .args .i + 1) (k .args .poses) (given-states g .2) in
+    let y = wide-lanes (k .args .sizes .talls) (k .args .i + 1) (k .args .sizes .poses) (given-states g .2) in
     let p = c .before .before .before .before .before .before .before .before .before .before .before .before .costs .ensures .0 in
     let j = c .before .before .before .before .join-stage .ensures in
     let ends = c .before .before .before .before .before .before .before .wide-of2 .ensures in
@@ -76,13 +75,13 @@ same-length c =
 
 returns : tie.Need-returns
 returns c =
-    let k = c .before .before .before .before .before .before .before .before .before .before .before .before .before .before .before .before .before .before .before .before .before .before .before .before in
+    let k = c .before .before .before .before .before .before .before .before .before .before .before .before .before .before .before .before .before .before .before .before .before in
     let a = k .args in
     let g = k .pre .1 in
     let n = given-states g in
-    let all = g .row₀ .ground .all in (
-      stage-made (deckOf (a .line0 .now) (a .n0) (a .poses)) (deckOf (a .line1 .now) (a .n1) (a .poses)) (a .r) (a .talls) (posIn (a .places0 .now)) (posIn (a .places1 .now))
-          (omega (arith, all, n .0)) (omega (arith, all, n .1)) (n .2) (a .i) (a .count) _ _ _ _ _
+    let all = g .given₀ .ground .all in (
+      stage-made (deckIn (a .row0 .now) (a .sizes)) (deckIn (a .row1 .now) (withCells (a .sizes) (a .cells1))) (a .sizes .reordering) (a .sizes .talls) (posIn (a .row0 .now)) (posIn (a .row1 .now))
+          (omega (arith, all, n .0)) (omega (arith, all, n .1)) (n .2) (a .i) (a .sizes .states) _ _ _ _ _
           (c .before .before .before .before .before .before .before .before .before .before .before .before .wide-of .ensures) (c .before .before .before .before .before .before .before .before .before .before .before .lanes-of .ensures) (c .before .before .before .before .before .before .before .before .before .before .wide-of2 .ensures) (c .before .before .before .before .before .before .before .before .before .wide-of3 .ensures) (c .before .before .before .before .lanes-of2 .ensures)
           all (k .pre .2) (n .3) (c .before .before .before .before .before .before .before .before .before .before .before .before .before .before .before .costs .ensures .0) (c .before .before .before .before .before .before .before .join-stage .ensures) (c .before .before .close-lanes .ensures),
       c .before .before .before .before .before .before .before .before .before .before .before .before .before .before .before .costs .ensures .1,

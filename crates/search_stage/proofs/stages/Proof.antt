@@ -2,21 +2,21 @@
 use Prim.Native.Nat.{suc, _-_, _≤_}
 use mathlib.Core.Path.{_∙_}
 use lib.ListN.{length-set}
-use Rattle.search_row.specs.Words.{deckOf}
+use Rattle.search_row.specs.Words.{deckIn, posIn, withCells}
 use Rattle.search_wide_buckets.specs.Table.{Lent}
 use Rattle.search_wide_buckets.specs.TableLaws.{lent-zeros}
-use Rattle.search_stage.specs.Stage.{posIn, Through}
+use Rattle.search_stage.specs.Stage.{Through}
 use Rattle.search_stage.specs.Laws.{through-none, through-more, through-all, given-states, given-first}
 use native.Mathlib.Omega.{arith}
 use Rattle.search_stage.proofs.stages.Statement.{statement}
 use Rattle.search_stage.proofs.stages.Tie as tie
 
 abbrev Inv-loop : tie.InvT-loop
-Inv-loop store₀ line0 line1 states places0 places1 n0 n1 poses r count talls table₀ i₀ store table i =
-    (i ≤ suc talls) × Through (deckOf line0 n0 poses) (deckOf line1 n1 poses) r talls (posIn places0) (posIn places1) i store₀ store × Lent table
+Inv-loop store₀ row0 row1 sizes cells1 table₀ talls i₀ store table i =
+    (i ≤ suc (sizes .talls)) × Through (deckIn row0 sizes) (deckIn row1 (withCells sizes cells1)) (sizes .reordering) (sizes .talls) (posIn row0) (posIn row1) i store₀ store × Lent table
 
 abbrev μ-loop : tie.MeasureT-loop
-μ-loop store₀ line0 line1 states places0 places1 n0 n1 poses r count talls table₀ i₀ store table i = suc talls - i
+μ-loop store₀ row0 row1 sizes cells1 table₀ talls i₀ store table i = suc (sizes .talls) - i
 
 case-at-requires : tie.Need-case-at-requires Inv-loop μ-loop
 case-at-requires c κs = (omega arith, omega arith, omega arith)
@@ -26,47 +26,47 @@ mul-store c = omega (arith, c .case-at .ensures)
 
 slice-write-store : tie.Need-slice-write-store Inv-loop μ-loop
 slice-write-store c =
-    let k = c .before .before .before .before .before .before .before in
+    let k = c .before .before .before .before in
     omega (arith, c .case-at .ensures, given-first (k .pre) 0 (omega arith))
 
 loop-holds : tie.Need-loop-holds Inv-loop μ-loop
 loop-holds c =
-    let k = c .before .before .before .before .before .before .before in
+    let k = c .before .before .before .before in
     let a = k .args in
-    (omega arith, through-none (deckOf (a .line0 .now) (a .n0) (a .poses)) (deckOf (a .line1 .now) (a .n1) (a .poses)) (a .r) (a .talls) (posIn (a .places0 .now)) (posIn (a .places1 .now)) _ (c .case-at .ensures) (k .pre .low) (omega (arith, c .case-at .ensures, given-first (k .pre) 0 (omega arith))), lent-zeros)
+    (omega arith, through-none (deckIn (a .row0 .now) (a .sizes)) (deckIn (a .row1 .now) (withCells (a .sizes) (a .cells1))) (a .sizes .reordering) (a .sizes .talls) (posIn (a .row0 .now)) (posIn (a .row1 .now)) _ (c .case-at .ensures) (k .pre .low) (omega (arith, c .case-at .ensures, given-first (k .pre) 0 (omega arith))), lent-zeros)
 
 stage-requires : tie.Need-stage-requires Inv-loop μ-loop
 stage-requires c κs =
-    let k = c .before .before .before .before .before .before .before .before .before .before .before in
+    let k = c .before .before .before .before .before .before .before .before in
     let g = k .pre in
     let t = c .before .before .before .loop .inv .1 in
-    (c .before .before .before .loop .inv .2, record { row₀ = g .row₀; row₁ = g .row₁; long = omega (arith, g .long, t .long, length-set (k .args .store .now) (c .before .before .before .before .case-at .result) 0); low = t .low }, omega (arith, c .before .before .loop-test .taken))
+    (c .before .before .before .loop .inv .2, record { given₀ = g .given₀; given₁ = g .given₁; long = omega (arith, g .long, t .long, length-set (k .args .store .now) (c .before .before .before .before .case-at .result) 0); low = t .low }, omega (arith, c .before .before .loop-test .taken))
 
 add-i : tie.Need-add-i Inv-loop μ-loop
-add-i c = omega (arith, c .before .before .before .before .before .before .before .before .before .before .before .before .before .before .pre .row₀ .few, c .before .before .before .before .before .loop-test .taken)
+add-i c = omega (arith, c .before .before .before .before .before .before .before .before .before .before .before .pre .given₀ .few, c .before .before .before .before .before .loop-test .taken)
 
 loop-less : tie.Need-loop-less Inv-loop μ-loop
 loop-less c = omega (arith, c .before .before .before .before .before .loop-test .taken)
 
 loop-again : tie.Need-loop-again Inv-loop μ-loop
 loop-again c =
-    let k = c .before .before .before .before .before .before .before .before .before .before .before .before .before .before in
+    let k = c .before .before .before .before .before .before .before .before .before .before .before in
     let a = k .args in
     let n = given-states (k .pre) in
-    let all = k .pre .row₀ .ground .all in (
+    let all = k .pre .given₀ .ground .all in (
       omega (arith, c .before .before .before .before .before .loop-test .taken),
-      through-more (deckOf (a .line0 .now) (a .n0) (a .poses)) (deckOf (a .line1 .now) (a .n1) (a .poses)) (a .r) (a .talls) (posIn (a .places0 .now)) (posIn (a .places1 .now)) (omega (arith, all, n .0)) (omega (arith, all, n .1)) (n .2) (omega (arith, n .3, c .before .before .before .before .before .loop-test .taken)) (c .before .before .before .before .before .before .loop .inv .1) (c .before .before .stage .ensures .0),
+      through-more (deckIn (a .row0 .now) (a .sizes)) (deckIn (a .row1 .now) (withCells (a .sizes) (a .cells1))) (a .sizes .reordering) (a .sizes .talls) (posIn (a .row0 .now)) (posIn (a .row1 .now)) (omega (arith, all, n .0)) (omega (arith, all, n .1)) (n .2) (omega (arith, n .3, c .before .before .before .before .before .loop-test .taken)) (c .before .before .before .before .before .before .loop .inv .1) (c .before .before .stage .ensures .0),
       c .before .before .stage .ensures .1,
     )
 
 same-length : tie.Need-same-length Inv-loop μ-loop
-same-length c = c .before .loop .inv .1 .long ∙ length-set (c .before .before .before .before .before .before .before .before .before .args .store .now) (c .before .before .case-at .result) 0
+same-length c = c .before .loop .inv .1 .long ∙ length-set (c .before .before .before .before .before .before .args .store .now) (c .before .before .case-at .result) 0
 
 returns : tie.Need-returns Inv-loop μ-loop
 returns c =
-    let k = c .before .before .before .before .before .before .before .before .before in
+    let k = c .before .before .before .before .before .before in
     let a = k .args in
-    through-all (deckOf (a .line0 .now) (a .n0) (a .poses)) (deckOf (a .line1 .now) (a .n1) (a .poses)) (a .r) (a .talls) (posIn (a .places0 .now)) (posIn (a .places1 .now)) (length-set (a .store .now) (c .before .before .case-at .result) 0) (c .before .loop .inv .1) (c .loop-test .left)
+    through-all (deckIn (a .row0 .now) (a .sizes)) (deckIn (a .row1 .now) (withCells (a .sizes) (a .cells1))) (a .sizes .reordering) (a .sizes .talls) (posIn (a .row0 .now)) (posIn (a .row1 .now)) (length-set (a .store .now) (c .before .before .case-at .result) 0) (c .before .loop .inv .1) (c .loop-test .left)
 
 pub stages-spec : {M : Type 1} → statement M
 stages-spec =

@@ -3,7 +3,8 @@ use mathlib.Core.Path.{sym, _∙_}
 use native.Mathlib.Omega.{arith}
 use borrow.Author.Tests.{not-true, not-false}
 use borrow.Author.Needs.{needs}
-use Rattle.search_states.specs.Upto.{skip-digit, next-digit, may-low, room, upto-more, few}
+use Rattle.search_lanes.specs.Laws.{frame-refl}
+use Rattle.search_states.specs.Upto.{skip-digit, next-digit, may-low, room, upto-more, with-frame, few}
 use Rattle.search_states.proofs.add_digit.Statement.{statement}
 use Rattle.search_states.proofs.add_digit.Tie as tie
 
@@ -13,14 +14,14 @@ may-be-last-requires c κs = search needs
 returns : tie.Need-returns
 returns c =
     let k = c .before .before .before in
-    skip-digit _ _ _ (omega arith) (sym (c .before .may-be-last .ensures) ∙ not-true (c .before .may-be-last .result) (c .if1 .taken)) (k .pre .3)
+    (skip-digit _ _ _ (omega arith) (sym (c .before .may-be-last .ensures) ∙ not-true (c .before .may-be-last .result) (c .if1 .taken)) (k .pre .3), frame-refl _ _ _)
 
 put-state-requires : tie.Need-put-state-requires
 put-state-requires c κs =
     let k = c .before .before .before .before in
     let t = sym (c .before .before .may-be-last .ensures) ∙ not-false (c .before .before .may-be-last .result) (c .before .if1 .left) in
     let u = next-digit (k .args .m) (k .args .d) _ (omega arith) t (k .pre .3) in
-    (u .long, room (k .pre .0) u, omega arith, k .pre .1, may-low _ _ _ t)
+    (omega (arith, u .long), room (k .pre .0) u, omega arith, k .pre .1, may-low _ _ _ t)
 
 add-result : tie.Need-add-result
 add-result c =
@@ -35,7 +36,7 @@ returns-2 c =
     let k = c .before .before .before .before .before .before .before in
     let t = sym (c .before .before .before .before .before .may-be-last .ensures) ∙ not-false (c .before .before .before .before .before .may-be-last .result) (c .before .before .before .before .if1 .left) in
     let u = next-digit (k .args .m) (k .args .d) _ (omega arith) t (k .pre .3) in
-    rw (c .before .before .put-state .ensures) (upto-more (k .pre .0) u)
+    rw (c .before .before .put-state .ensures) (upto-more (k .pre .0) (omega arith) (k .pre .1) u, with-frame _ _ _ _ _ (room (k .pre .0) u) (frame-refl _ _ _))
 
 pub add-digit-spec : {M : Type 1} → statement M
 add-digit-spec =

@@ -6,15 +6,18 @@ use native.Mathlib.Omega.{arith}
 use borrow.Author.Tests.{not-true, not-false}
 use borrow.Author.Needs.{needs}
 use lib.ListN.{length}
+use Rattle.search_lanes.specs.Store.{Frame}
+use Rattle.search_lanes.specs.Laws.{frame-refl, frame-join}
 use Rattle.search_states.specs.Upto.{digitsFrom, marksFrom, Upto, skip-marks, next-marks, no-digit}
 use Rattle.search_states.proofs.add_marks.Statement.{statement}
 use Rattle.search_states.proofs.add_marks.Tie as tie
 
 abbrev Inv-loop : tie.InvT-loop
-Inv-loop states₀ count r m n₀ d₀ states n d = (d ≤ suc (2 * r)) × (length states ≡ length states₀) × Upto r states n (digitsFrom r m d ++ marksFrom r (m + 1))
+Inv-loop row₀ count r m n₀ d₀ row n d =
+    (d ≤ suc (2 * r)) × Frame 8192 8240 row₀ row × Upto r row n (digitsFrom r m d ++ marksFrom r (m + 1))
 
 abbrev μ-loop : tie.MeasureT-loop
-μ-loop states₀ count r m n₀ d₀ states n d = suc (2 * r) - d
+μ-loop row₀ count r m n₀ d₀ row n d = suc (2 * r) - d
 
 is-marks-requires : tie.Need-is-marks-requires Inv-loop μ-loop
 is-marks-requires c κs = search needs
@@ -22,12 +25,12 @@ is-marks-requires c κs = search needs
 returns : tie.Need-returns Inv-loop μ-loop
 returns c =
     let k = c .before .before .before in
-    skip-marks (k .args .m) (k .pre .1) (sym (c .before .is-marks .ensures) ∙ not-true (c .before .is-marks .result) (c .if1 .taken)) (k .pre .3)
+    (skip-marks (k .args .m) (k .pre .1) (sym (c .before .is-marks .ensures) ∙ not-true (c .before .is-marks .result) (c .if1 .taken)) (k .pre .3), frame-refl _ _ _)
 
 loop-holds : tie.Need-loop-holds Inv-loop μ-loop
 loop-holds c =
     let k = c .before .before .before in
-    (omega arith, refl, next-marks (k .args .m) (k .pre .1) (sym (c .before .is-marks .ensures) ∙ not-false (c .before .is-marks .result) (c .if1 .left)) (k .pre .3))
+    (omega arith, frame-refl _ _ _, next-marks (k .args .m) (k .pre .1) (sym (c .before .is-marks .ensures) ∙ not-false (c .before .is-marks .result) (c .if1 .left)) (k .pre .3))
 
 mul-loop : tie.Need-mul-loop Inv-loop μ-loop
 mul-loop c = omega arith
@@ -45,7 +48,10 @@ loop-less : tie.Need-loop-less Inv-loop μ-loop
 loop-less c = omega arith
 
 loop-again : tie.Need-loop-again Inv-loop μ-loop
-loop-again c = (omega arith, omega arith, c .before .before .add-digit .ensures)
+loop-again c =
+    let l = c .before .before .before .before .before .loop in
+    let e = c .before .before .add-digit .ensures in
+    (omega arith, frame-join 8192 8240 (l .inv .1) (e .1) (omega arith) (omega arith) (omega arith) (omega arith), e .0)
 
 same-length : tie.Need-same-length Inv-loop μ-loop
 same-length c = search needs
@@ -54,7 +60,7 @@ returns-2 : tie.Need-returns-2 Inv-loop μ-loop
 returns-2 c =
     let l = c .before in
     let k = l .before .before .before .before in
-    no-digit (k .args .m) (l .loop .d) _ (c .loop-test .left) (l .loop .inv .2)
+    (no-digit (k .args .m) (l .loop .d) _ (c .loop-test .left) (l .loop .inv .2), l .loop .inv .1)
 
 pub add-marks-spec : {M : Type 1} → statement M
 add-marks-spec =

@@ -4,15 +4,18 @@ use mathlib.Core.Path.{_≡_, refl}
 use native.Mathlib.Omega.{arith}
 use borrow.Author.Needs.{needs}
 use lib.ListN.{length}
+use Rattle.search_lanes.specs.Store.{Frame}
+use Rattle.search_lanes.specs.Laws.{frame-refl, frame-join}
 use Rattle.search_states.specs.Upto.{marksFrom, Upto, upto-none, upto-all, no-marks, marks-end}
 use Rattle.search_states.proofs.fill_states.Statement.{statement}
 use Rattle.search_states.proofs.fill_states.Tie as tie
 
 abbrev Inv-loop : tie.InvT-loop
-Inv-loop states₀ r limit end n₀ m₀ states n m = (m ≤ end) × (length states ≡ length states₀) × Upto r states n (marksFrom r m)
+Inv-loop row₀ r limit end n₀ m₀ row n m =
+    (m ≤ end) × Frame 8192 8240 row₀ row × Upto r row n (marksFrom r m)
 
 abbrev μ-loop : tie.MeasureT-loop
-μ-loop states₀ r limit end n₀ m₀ states n m = end - m
+μ-loop row₀ r limit end n₀ m₀ row n m = end - m
 
 cast-limit : tie.Need-cast-limit Inv-loop μ-loop
 cast-limit c = search needs
@@ -24,13 +27,13 @@ shl-end : tie.Need-shl-end Inv-loop μ-loop
 shl-end c = search needs
 
 loop-holds : tie.Need-loop-holds Inv-loop μ-loop
-loop-holds c = (omega arith, refl, upto-none _ _ (c .before .pre .0))
+loop-holds c = (omega arith, frame-refl _ _ _, upto-none _ _ (c .before .pre .0) (c .before .pre .1))
 
 add-marks-requires : tie.Need-add-marks-requires Inv-loop μ-loop
 add-marks-requires c κs =
     let k = c .before .before .before .before in
-    let e = marks-end (k .args .r) (k .pre .1) in
-    (k .pre .1, omega (arith, e), omega (arith, e), c .before .before .loop .inv .2)
+    let e = marks-end (k .args .r) (k .pre .2) in
+    (k .pre .2, omega (arith, e), omega (arith, e), c .before .before .loop .inv .2)
 
 add-m : tie.Need-add-m Inv-loop μ-loop
 add-m c = omega arith
@@ -39,7 +42,10 @@ loop-less : tie.Need-loop-less Inv-loop μ-loop
 loop-less c = omega arith
 
 loop-again : tie.Need-loop-again Inv-loop μ-loop
-loop-again c = (omega arith, omega arith, c .before .before .add-marks .ensures)
+loop-again c =
+    let l = c .before .before .before .before .before .loop in
+    let e = c .before .before .add-marks .ensures in
+    (omega arith, frame-join 8192 8240 (l .inv .1) (e .1) (omega arith) (omega arith) (omega arith) (omega arith), e .0)
 
 same-length : tie.Need-same-length Inv-loop μ-loop
 same-length c = search needs
@@ -47,7 +53,8 @@ same-length c = search needs
 returns : tie.Need-returns Inv-loop μ-loop
 returns c =
     let k = c .before .before .before in
-    upto-all (k .pre .1) (no-marks (c .before .loop .m) (omega (arith, marks-end (k .args .r) (k .pre .1))) (c .before .loop .inv .2))
+    upto-all (k .pre .2) (no-marks (c .before .loop .m) (omega (arith, marks-end (k .args .r) (k .pre .2))) (c .before .loop .inv .2))
+    (c .before .loop .inv .1)
 
 pub fill-states-spec : {M : Type 1} → statement M
 fill-states-spec =

@@ -8,50 +8,50 @@ use Rattle.theory_row.specs.Marks.{shl-one}
 use Rattle.search_states.proofs.put_state.Statement.{statement}
 use Rattle.search_states.proofs.put_state.Tie as tie
 
-mul-states : tie.Need-mul-states
-mul-states c = search needs
+mul-row : tie.Need-mul-row
+mul-row c = search needs
 
-mul-states-2 : tie.Need-mul-states-2
-mul-states-2 c = search needs
+mul-row-2 : tie.Need-mul-row-2
+mul-row-2 c = search needs
 
-slice-write-states : tie.Need-slice-write-states
-slice-write-states c = search needs
+slice-write-row : tie.Need-slice-write-row
+slice-write-row c = search needs
 
-mul-states-3 : tie.Need-mul-states-3
-mul-states-3 c = search needs
+mul-row-3 : tie.Need-mul-row-3
+mul-row-3 c = search needs
 
-add-states : tie.Need-add-states
-add-states c = search needs
+add-row : tie.Need-add-row
+add-row c = search needs
 
-mul-states-4 : tie.Need-mul-states-4
-mul-states-4 c = search needs
+mul-row-4 : tie.Need-mul-row-4
+mul-row-4 c = search needs
 
-slice-write-states-2 : tie.Need-slice-write-states-2
-slice-write-states-2 c = simp length-set (omega arith)
+slice-write-row-2 : tie.Need-slice-write-row-2
+slice-write-row-2 c = simp length-set (omega arith)
 
-shl-states : tie.Need-shl-states
-shl-states c = search needs
+shl-row : tie.Need-shl-row
+shl-row c = search needs
 
-sub-states : tie.Need-sub-states
-sub-states c = search needs
+sub-row : tie.Need-sub-row
+sub-row c = search needs
 
-mul-states-5 : tie.Need-mul-states-5
-mul-states-5 c = search needs
+mul-row-5 : tie.Need-mul-row-5
+mul-row-5 c = search needs
 
-add-states-2 : tie.Need-add-states-2
-add-states-2 c = search needs
+add-row-2 : tie.Need-add-row-2
+add-row-2 c = search needs
 
-mul-states-6 : tie.Need-mul-states-6
-mul-states-6 c = search needs
+mul-row-6 : tie.Need-mul-row-6
+mul-row-6 c = search needs
 
-add-states-3 : tie.Need-add-states-3
-add-states-3 c = search needs
+add-row-3 : tie.Need-add-row-3
+add-row-3 c = search needs
 
-mul-states-7 : tie.Need-mul-states-7
-mul-states-7 c = search needs
+mul-row-7 : tie.Need-mul-row-7
+mul-row-7 c = search needs
 
-slice-write-states-3 : tie.Need-slice-write-states-3
-slice-write-states-3 c = simp length-set (omega arith)
+slice-write-row-3 : tie.Need-slice-write-row-3
+slice-write-row-3 c = simp length-set (omega arith)
 
 same-length : tie.Need-same-length
 same-length c = search needs
@@ -59,24 +59,16 @@ same-length c = search needs
 returns : tie.Need-returns
 returns c = let k = c .args in let e : 1 * 2 ^ k .d % 4294967296 ≡ 2 ^ k .d = shl-one (k .d) 32 (omega arith) in rw e
 
+add-row-4 : tie.Need-add-row-4
+add-row-4 c = search needs
+
+add-row-5 : tie.Need-add-row-5
+add-row-5 c = search needs
+
+add-row-6 : tie.Need-add-row-6
+add-row-6 c = search needs
+
 pub put-state-spec : {M : Type 1} → statement M
 put-state-spec =
     tie.close
-    (tie.spec
-    mul-states
-    mul-states-2
-    slice-write-states
-    mul-states-3
-    add-states
-    mul-states-4
-    slice-write-states-2
-    shl-states
-    sub-states
-    mul-states-5
-    add-states-2
-    mul-states-6
-    add-states-3
-    mul-states-7
-    slice-write-states-3
-    same-length
-    returns)
+    (tie.spec mul-row add-row mul-row-2 slice-write-row mul-row-3 add-row-2 add-row-3 mul-row-4 slice-write-row-2 shl-row sub-row mul-row-5 add-row-4 mul-row-6 add-row-5 add-row-6 mul-row-7 slice-write-row-3 same-length returns)

@@ -20,7 +20,7 @@ returns c =
     let k = c .before .before .before .before in
     let a = k .args in (
       gathered-none _ _ _ (k .pre .0 .tableLow)
-          (λ l v s i j h. omega (arith, row-miss (endRow (a .line .now) (a .k) (a .b) (a .m)) s (getD (a .store .now) (a .at + a .b * 64 + l) 0 + payIn (a .line .now) (a .k) (a .b) (a .m) v) (λ e. omega (arith, c .before .end-row .ensures)))),
+          (λ l v s i j h. omega (arith, row-miss (endRow (a .row .now) (a .k) (a .b) (a .m)) s (getD (a .store .now) (a .at + a .b * 64 + l) 0 + payIn (a .row .now) (a .k) (a .b) (a .m) v) (λ e. omega (arith, c .before .end-row .ensures)))),
       λ e. refl,
     )
 
@@ -39,7 +39,7 @@ returns-2 c =
     let a = k .args in (
       gathered-none _ _ _ (k .pre .0 .tableLow)
           (λ l v s i j h.
-          omega (arith, c .before .common .ensures l i, row-above (endRow (a .line .now) (a .k) (a .b) (a .m)) s (getD (a .store .now) (a .at + a .b * 64 + l) 0 + payIn (a .line .now) (a .k) (a .b) (a .m) v))),
+          omega (arith, c .before .common .ensures l i, row-above (endRow (a .row .now) (a .k) (a .b) (a .m)) s (getD (a .store .now) (a .at + a .b * 64 + l) 0 + payIn (a .row .now) (a .k) (a .b) (a .m) v))),
       λ e. refl,
     )
 

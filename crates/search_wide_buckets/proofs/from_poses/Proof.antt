@@ -32,7 +32,7 @@ loop-holds c =
     let a = k .args in (
       omega arith,
       c .rows-of .ensures,
-      gathered-none _ _ _ (k .pre .0 .tableLow) (λ l v t i j h. omega (arith, poses-none (a .line .now) (a .k) (a .m) (rowIn (a .store .now) (a .at) l) v t)),
+      gathered-none _ _ _ (k .pre .0 .tableLow) (λ l v t i j h. omega (arith, poses-none (a .row .now) (a .k) (a .m) (rowIn (a .store .now) (a .at) l) v t)),
       λ e. refl,
     )
 
@@ -55,7 +55,7 @@ loop-again c =
     let l = c .before .before .before .before .loop in (
       omega arith,
       l .inv .1,
-      gathered-join (l .inv .2) (c .before .from-pose .ensures .0) (λ j v t i. poses-more (a .line .now) (a .k) (a .m) (rowIn (a .store .now) (a .at) j) (l .b) v t),
+      gathered-join (l .inv .2) (c .before .from-pose .ensures .0) (λ j v t i. poses-more (a .row .now) (a .k) (a .m) (rowIn (a .store .now) (a .at) j) (l .b) v t),
       λ e.
           ⊎-elim
           (λ w. absurd (true-false (sym (w .1) ∙ e)))

@@ -14,16 +14,16 @@ use Rattle.search_wide_end.proofs.ends_with.Tie as tie
 
 -- past the test the position is in the row
 abbrev There : tie.Else1 → Type 0
-There c = let a = c .before .before .before .before .args in thereIn (a .n) (a .r) (a .n) (a .q) ≡ true
+There c = let a = c .before .before .before .args in thereIn (a .sizes .cells) (a .sizes .reordering) (a .sizes .cells) (a .q) ≡ true
 
 there : (c : tie.Else1) → There c
 there c = sym (c .before .is-there .ensures) ∙ not-false _ (c .if1 .left)
 
 inside : (c : tie.After-last-at) → c .last-at .result < 64
 inside c =
-    let k = c .before .before .before .before .before in
+    let k = c .before .before .before .before in
     let a = k .args in
-    omega (arith, c .last-at .ensures, there-size (a .n) (a .r) (a .n) (a .q) (there (c .before)), k .pre .1)
+    omega (arith, c .last-at .ensures, there-size (a .sizes .cells) (a .sizes .reordering) (a .sizes .cells) (a .q) (there (c .before)), k .pre .1)
 
 is-there-requires : tie.Need-is-there-requires
 is-there-requires c κs = search needs
@@ -49,13 +49,13 @@ mul-result-2 c =
 
 shared-slice-read-result : tie.Need-shared-slice-read-result
 shared-slice-read-result c =
-    omega (arith, inside (c .before), c .before .before .before .before .before .before .pre .0 .long)
+    omega (arith, inside (c .before), c .before .before .before .before .before .pre .0 .long)
 
 returns-2 : tie.Need-returns-2
 returns-2 c =
-    let a = c .before .before .before .before .before .before .args in
-    ap (λ (p : ℕ). not (eqb (wordOf (a .line .now) p 67) 1)) (c .before .last-at .ensures)
-    ∙ and-there (thereIn (a .n) (a .r) (a .n) (a .q)) (not (eqb (wordOf (a .line .now) (lastAt (a .r) (a .n) (a .q)) 67) 1)) (there (c .before .before))
+    let a = c .before .before .before .before .before .args in
+    ap (λ (p : ℕ). not (eqb (wordOf (a .row .now) p 67) 1)) (c .before .last-at .ensures)
+    ∙ and-there (thereIn (a .sizes .cells) (a .sizes .reordering) (a .sizes .cells) (a .q)) (not (eqb (wordOf (a .row .now) (lastAt (a .sizes .reordering) (a .sizes .cells) (a .q)) 67) 1)) (there (c .before .before))
 
 pub ends-with-spec : {M : Type 1} → statement M
 ends-with-spec =

@@ -23,7 +23,7 @@ loop-holds : tie.Need-loop-holds Inv-loop μ-loop
 loop-holds c =
     let k = c .before .before in
     let a = k .args in
-    (omega arith, lowered-to _ (k .pre .2) (λ l h. omega (arith, poses-none (backIn (a .line .now) (a .k)) (layerIn (a .store .now) (a .at) l) (a .q))))
+    (omega arith, lowered-to _ (k .pre .2) (λ l h. omega (arith, poses-none (backIn (a .row .now) (a .k)) (layerIn (a .store .now) (a .at) l) (a .q))))
 
 mul-relax : tie.Need-mul-relax Inv-loop μ-loop
 mul-relax c = search needs
@@ -45,7 +45,7 @@ relax-requires c κs =
     let k = c .before .before .before .before .before .before in
     let a = k .args in
     let l = c .before .before .before .loop in
-    (omega arith, omega arith, l .inv .1 .long ∙ k .pre .3, omega (arith, c .back .ensures, back-low (a .line .now) (a .k) (l .a)), k .pre .1)
+    (omega arith, omega arith, l .inv .1 .long ∙ k .pre .3, omega (arith, c .back .ensures, back-low (a .row .now) (a .k) (l .a)), k .pre .1)
 
 add-a : tie.Need-add-a Inv-loop μ-loop
 add-a c = search needs
@@ -58,7 +58,7 @@ loop-again c =
     let a = c .before .before .before .before .before .before .before .args in
     let l = c .before .before .before .before .loop in (
       omega arith,
-      lowered-join (l .inv .1) (c .relax .ensures) (λ j h. omega (arith, c .before .back .ensures, poses-more (backIn (a .line .now) (a .k)) (layerIn (a .store .now) (a .at) j) (a .q) (l .a))),
+      lowered-join (l .inv .1) (c .relax .ensures) (λ j h. omega (arith, c .before .back .ensures, poses-more (backIn (a .row .now) (a .k)) (layerIn (a .store .now) (a .at) j) (a .q) (l .a))),
     )
 
 returns : tie.Need-returns Inv-loop μ-loop

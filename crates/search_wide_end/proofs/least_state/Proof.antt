@@ -7,7 +7,7 @@ use borrow.Author.Needs.{needs}
 use borrow.Author.Tests.{not-true, not-false}
 use Rattle.search_lanes.specs.Store.{layerIn}
 use Rattle.search_lanes.specs.Laws.{lowered-to, lowered-ext}
-use Rattle.search_row.specs.Words.{backIn, deckOf}
+use Rattle.search_row.specs.Words.{backIn, deckIn}
 use Rattle.search_wide_end.specs.Ends.{endsWith, leastPoses}
 use Rattle.search_wide_end.specs.Laws.{state-in, state-out, ends-size}
 use Rattle.search_wide_end.proofs.least_state.Statement.{statement}
@@ -15,7 +15,7 @@ use Rattle.search_wide_end.proofs.least_state.Tie as tie
 
 -- past the test the cell can be the last
 abbrev Can : tie.Else1 → Type 0
-Can c = let a = c .before .before .before .before .before .args in endsWith (a .line .now) (a .n) (a .r) (a .q) ≡ true
+Can c = let a = c .before .before .before .before .args in endsWith (a .row .now) (a .sizes .cells) (a .sizes .reordering) (a .q) ≡ true
 
 can : (c : tie.Else1) → Can c
 can c = sym (c .before .ends-with .ensures) ∙ not-false _ (c .if1 .left)
@@ -25,37 +25,37 @@ ends-with-requires c κs = search needs
 
 returns : tie.Need-returns
 returns c =
-    let k = c .before .before .before .before .before in
+    let k = c .before .before .before .before in
     let a = k .args in
     lowered-to _ (k .pre .1)
-    (λ l h. omega (arith, state-out (deckOf (a .line .now) (a .n) (a .poses)) (a .r) (layerIn (a .store .now) (a .at) l) (a .q) (sym (c .before .ends-with .ensures) ∙ not-true _ (c .if1 .taken))))
+    (λ l h. omega (arith, state-out (deckIn (a .row .now) (a .sizes)) (a .sizes .reordering) (layerIn (a .store .now) (a .at) l) (a .q) (sym (c .before .ends-with .ensures) ∙ not-true _ (c .if1 .taken))))
 
 last-at-requires : tie.Need-last-at-requires
 last-at-requires c κs = search needs
 
 least-poses-requires : tie.Need-least-poses-requires
 least-poses-requires c κs =
-    let k = c .before .before .before .before .before .before .before in
+    let k = c .before .before .before .before .before .before in
     let a = k .args in
     let g = k .pre .0 in (
-      g .ground .row,
+      g .ground .words,
       g .low,
       k .pre .1,
       k .pre .2,
       g .room,
       omega (arith, g .ground .all, g .ground .coded .few, k .pre .3),
-      omega (arith, c .before .last-at .ensures, ends-size (a .line .now) (a .n) (a .r) (a .q) (can (c .before .before)), g .ground .size),
+      omega (arith, c .before .last-at .ensures, ends-size (a .row .now) (a .sizes .cells) (a .sizes .reordering) (a .q) (can (c .before .before)), g .ground .size),
       g .ground .few,
       g .narrow,
     )
 
 returns-2 : tie.Need-returns-2
 returns-2 c =
-    let a = c .before .before .before .before .before .before .before .before .args in
+    let a = c .before .before .before .before .before .before .before .args in
     lowered-ext (c .least-poses .ensures)
     (λ l h.
-    state-in (deckOf (a .line .now) (a .n) (a .poses)) (a .r) (layerIn (a .store .now) (a .at) l) (a .q) (can (c .before .before .before))
-    ∙ ap (λ (j : ℕ). leastPoses (backIn (a .line .now) j) (layerIn (a .store .now) (a .at) l) (a .q) (a .poses)) (sym (c .before .before .last-at .ensures)))
+    state-in (deckIn (a .row .now) (a .sizes)) (a .sizes .reordering) (layerIn (a .store .now) (a .at) l) (a .q) (can (c .before .before .before))
+    ∙ ap (λ (j : ℕ). leastPoses (backIn (a .row .now) j) (layerIn (a .store .now) (a .at) l) (a .q) (a .sizes .poses)) (sym (c .before .before .last-at .ensures)))
 
 pub least-state-spec : {M : Type 1} → statement M
 least-state-spec =

@@ -6,30 +6,30 @@ use borrow.Author.Needs.{needs}
 use Rattle.search_lanes.specs.Lanes.{Lowered}
 use Rattle.search_lanes.specs.Store.{layerIn}
 use Rattle.search_lanes.specs.Laws.{lowered-to, lowered-join, lowered-low}
-use Rattle.search_row.specs.Words.{deckOf}
+use Rattle.search_row.specs.Words.{deckIn}
 use Rattle.search_wide_end.specs.Ends.{leastStatesIn}
 use Rattle.search_wide_end.specs.Laws.{states-none, states-more}
 use Rattle.search_wide_end.proofs.least_states.Statement.{statement}
 use Rattle.search_wide_end.proofs.least_states.Tie as tie
 
 abbrev Inv-loop : tie.InvT-loop
-Inv-loop acc₀ store line states n poses r count lanes at q₀ acc q =
-    (q ≤ count) × Lowered (leastStatesIn (deckOf line n poses) r store at q) lanes acc₀ acc
+Inv-loop acc₀ store row sizes lanes at q₀ acc q =
+    (q ≤ (sizes .states)) × Lowered (leastStatesIn (deckIn row sizes) (sizes .reordering) store at q) lanes acc₀ acc
 
 abbrev μ-loop : tie.MeasureT-loop
-μ-loop acc₀ store line states n poses r count lanes at q₀ acc q =
-    count - q
+μ-loop acc₀ store row sizes lanes at q₀ acc q =
+    (sizes .states) - q
 
 loop-holds : tie.Need-loop-holds Inv-loop μ-loop
 loop-holds c =
-    let k = c .before .before .before in
+    let k = c .before .before in
     let a = k .args in
-    (omega arith, lowered-to _ (k .pre .1) (λ l h. omega (arith, states-none (deckOf (a .line .now) (a .n) (a .poses)) (a .r) (layerIn (a .store .now) (a .at) l))))
+    (omega arith, lowered-to _ (k .pre .1) (λ l h. omega (arith, states-none (deckIn (a .row .now) (a .sizes)) (a .sizes .reordering) (layerIn (a .store .now) (a .at) l))))
 
 least-state-requires : tie.Need-least-state-requires Inv-loop μ-loop
 least-state-requires c κs =
     let k = c .before .before .before .before .before .before in
-    let w = c .before .before .loop .inv .1 in
+    let w = c .before .before .before .loop .inv .1 in
     (k .pre .0, lowered-low w (k .pre .1), w .long ∙ k .pre .2, omega arith)
 
 add-q : tie.Need-add-q Inv-loop μ-loop
@@ -41,15 +41,15 @@ loop-less c = search needs
 loop-again : tie.Need-loop-again Inv-loop μ-loop
 loop-again c =
     let a = c .before .before .before .before .before .before .before .args in
-    let l = c .before .before .before .loop in (
+    let l = c .before .before .before .before .loop in (
       omega arith,
-      lowered-join (l .inv .1) (c .least-state .ensures) (λ j h. states-more (deckOf (a .line .now) (a .n) (a .poses)) (a .r) (layerIn (a .store .now) (a .at) j) (l .q)),
+      lowered-join (l .inv .1) (c .least-state .ensures) (λ j h. states-more (deckIn (a .row .now) (a .sizes)) (a .sizes .reordering) (layerIn (a .store .now) (a .at) j) (l .q)),
     )
 
 returns : tie.Need-returns Inv-loop μ-loop
 returns c =
-    let e : c .before .loop .q ≡ c .before .before .before .before .before .args .count = omega arith in
-    rw e at (c .before .loop .inv .1)
+    let e : c .before .before .loop .q ≡ c .before .before .before .before .before .args .sizes .states = omega arith in
+    rw e at (c .before .before .loop .inv .1)
 
 pub least-states-spec : {M : Type 1} → statement M
 least-states-spec =

@@ -4,18 +4,18 @@ use native.Mathlib.Omega.{arith}
 use borrow.Author.Needs.{needs}
 use Rattle.search_lanes.specs.Store.{layerIn}
 use Rattle.search_lanes.specs.Laws.{lowered-low, written-ext, none-at, none-low}
-use Rattle.search_row.specs.Words.{deckOf}
+use Rattle.search_row.specs.Words.{deckIn}
 use Rattle.search_wide_end.specs.Laws.{ends-gathered}
 use Rattle.search_wide_end.proofs.put_ends.Statement.{statement}
 use Rattle.search_wide_end.proofs.put_ends.Tie as tie
 
 least-states-requires : tie.Need-least-states-requires
 least-states-requires c κs =
-    (c .before .before .before .before .before .pre .0, none-low, refl)
+    (c .before .before .before .before .pre .0, none-low, refl)
 
 put-requires : tie.Need-put-requires
 put-requires c κs =
-    let k = c .before .before .before .before .before .before .before .before in
+    let k = c .before .before .before .before .before .before .before in
     let w = c .before .before .least-states .ensures in
     (omega (arith, k .pre .1 .room, k .pre .0 .narrow), omega (arith, k .pre .0 .narrow), w .long, omega arith, k .pre .0 .low, λ l. lowered-low w none-low .word l)
 
@@ -24,13 +24,13 @@ same-length c = search needs
 
 returns : tie.Need-returns
 returns c =
-    let k = c .before .before .before .before .before .before .before .before .before .before .before in
+    let k = c .before .before .before .before .before .before .before .before .before .before in
     let a = k .args in
     let w = c .before .before .before .before .before .least-states .ensures in
     let g = k .pre .0 in
     written-ext (c .before .before .put .ensures)
     (λ l h.
-    ends-gathered (deckOf (a .line .now) (a .n) (a .poses)) (a .r) (layerIn (a .store .now) (a .at) l) (g .ground .all)
+    ends-gathered (deckIn (a .row .now) (a .sizes)) (a .sizes .reordering) (layerIn (a .store .now) (a .at) l) (g .ground .all)
     (omega (arith, w .done l h, none-at l (omega (arith, g .narrow)))))
 
 pub put-ends-spec : {M : Type 1} → statement M

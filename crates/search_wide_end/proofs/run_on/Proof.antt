@@ -4,7 +4,7 @@ use mathlib.Core.Path.{_≡_, refl}
 use native.Mathlib.Omega.{arith}
 use lib.ListN.{length}
 use Rattle.search_lanes.specs.Laws.{frame-refl}
-use Rattle.search_row.specs.Words.{deckOf}
+use Rattle.search_row.specs.Words.{deckIn}
 use Rattle.search_wide_buckets.specs.Table.{Lent}
 use Rattle.search_wide_segment.specs.Laws.{given-small, buffer-low, buffer-beside, run-none}
 use Rattle.search_wide_end.specs.Ends.{Ran}
@@ -14,41 +14,38 @@ use Rattle.search_wide_end.proofs.run_on.Statement.{statement}
 use Rattle.search_wide_end.proofs.run_on.Tie as tie
 
 abbrev Inv-loop : tie.InvT-loop
-Inv-loop table₀ store₀ line states n poses r count lanes i from₀ d₀ table store from d =
-    (i + d ≤ n) × Ran (deckOf line n poses) r lanes i d from store₀ store × Lent table
+Inv-loop table₀ store₀ row sizes lanes i from₀ d₀ table store from d =
+    (i + d ≤ (sizes .cells)) × Ran (deckIn row sizes) (sizes .reordering) lanes i d from store₀ store × Lent table
 
 abbrev μ-loop : tie.MeasureT-loop
-μ-loop table₀ store₀ line states n poses r count lanes i from₀ d₀ table store from d =
-    n - (i + d)
+μ-loop table₀ store₀ row sizes lanes i from₀ d₀ table store from d =
+    (sizes .cells) - (i + d)
 
 loop-holds : tie.Need-loop-holds Inv-loop μ-loop
 loop-holds c =
-    let k = c .before .before .before in
+    let k = c .before .before in
     let a = k .args in (
       omega arith,
       record {
-        running = run-none (deckOf (a .line .now) (a .n) (a .poses)) (a .r) (a .lanes) (a .i) (given-small (k .pre .1)) (λ j h. refl);
+        running = run-none (deckIn (a .row .now) (a .sizes)) (a .sizes .reordering) (a .lanes) (a .i) (given-small (k .pre .1)) (λ j h. refl);
         frame = frame-refl _ _ _;
         low = k .pre .1 .low;
       },
       k .pre .0,
     )
 
-add-loop : tie.Need-add-loop Inv-loop μ-loop
-add-loop c = search needs
-
 add-step-layer : tie.Need-add-step-layer Inv-loop μ-loop
 add-step-layer c = search needs
 
 sub-step-layer : tie.Need-sub-step-layer Inv-loop μ-loop
 sub-step-layer c =
-    omega (arith, buffer-low (c .before .before .before .loop .inv .1 .running .buffer))
+    omega (arith, buffer-low (c .before .before .before .before .loop .inv .1 .running .buffer))
 
 step-layer-requires : tie.Need-step-layer-requires Inv-loop μ-loop
 step-layer-requires c κs =
     let k = c .before .before .before .before .before .before .before in
     let g = k .pre .1 in
-    let l = c .before .before .before .loop in
+    let l = c .before .before .before .before .loop in
     let v = l .inv .1 in
     let b = buffer-low (v .running .buffer) in
     let n : 98304 ≤ length (l .store) = omega (arith, v .frame .long, k .pre .2) in
@@ -56,7 +53,7 @@ step-layer-requires c κs =
 
 sub-from : tie.Need-sub-from Inv-loop μ-loop
 sub-from c =
-    omega (arith, buffer-low (c .before .before .before .before .before .before .loop .inv .1 .running .buffer))
+    omega (arith, buffer-low (c .before .before .before .before .before .before .before .loop .inv .1 .running .buffer))
 
 add-d : tie.Need-add-d Inv-loop μ-loop
 add-d c = search needs
@@ -66,32 +63,22 @@ loop-less c = search needs
 
 loop-again : tie.Need-loop-again Inv-loop μ-loop
 loop-again c =
-    (omega arith, ran-more (c .before .before .before .before .before .before .before .before .before .before .pre .1 .ground .all) (c .before .before .before .before .before .before .loop .inv .1) (c .before .before .step-layer .ensures .0), c .before .before .step-layer .ensures .1)
+    (omega arith, ran-more (c .before .before .before .before .before .before .before .before .before .before .pre .1 .ground .all) (c .before .before .before .before .before .before .before .loop .inv .1) (c .before .before .step-layer .ensures .0), c .before .before .step-layer .ensures .1)
 
 same-length : tie.Need-same-length Inv-loop μ-loop
 same-length c =
-    c .before .loop .inv .1 .frame .long
+    c .before .before .loop .inv .1 .frame .long
 
 returns : tie.Need-returns Inv-loop μ-loop
 returns c =
     let a = c .before .before .before .before .before .args in
-    let e : c .before .loop .d ≡ a .n - a .i = omega arith in
-    (rw e at (c .before .loop .inv .1), c .before .loop .inv .2)
+    let e : c .before .before .loop .d ≡ a .sizes .cells - a .i = omega arith in
+    (rw e at (c .before .before .loop .inv .1), c .before .before .loop .inv .2)
+
+add-if1 : tie.Need-add-if1 Inv-loop μ-loop
+add-if1 c = search needs
 
 pub run-on-spec : {M : Type 1} → statement M
 run-on-spec =
     tie.close
-    (tie.spec
-    Inv-loop
-    μ-loop
-    loop-holds
-    add-loop
-    add-step-layer
-    sub-step-layer
-    step-layer-requires
-    sub-from
-    add-d
-    loop-less
-    loop-again
-    same-length
-    returns)
+    (tie.spec Inv-loop μ-loop loop-holds add-if1 add-step-layer sub-step-layer step-layer-requires sub-from add-d loop-less loop-again same-length returns)

@@ -4,14 +4,14 @@ use mathlib.Core.Path.{_∙_}
 use native.Mathlib.Omega.{arith}
 use lib.ListN.{getD}
 use borrow.Author.Needs.{needs}
-use Rattle.search_row.specs.Words.{deckOf}
+use Rattle.search_row.specs.Words.{deckIn}
 use Rattle.search_wide_segment.specs.Laws.{buffer-low, outside-join, outside-layers, outside-costs}
 use Rattle.search_wide_end.specs.Laws.{cost-done, cost-past, ran-cost, end-words}
 use Rattle.search_wide_end.proofs.segment_end.Statement.{statement}
 use Rattle.search_wide_end.proofs.segment_end.Tie as tie
 
 -- past both tests the row has room for what was placed
-left : (c : tie.Else2) → (let a = c .before .before .before .before .before .args in a .i ≤ a .n)
+left : (c : tie.Else2) → (let a = c .before .before .before .before .before .before .args in a .i ≤ a .sizes .cells)
 left c = omega arith
 
 add-if1 : tie.Need-add-if1
@@ -27,7 +27,7 @@ returns : tie.Need-returns
 returns c =
     let k = c .before .before .before .before .before .before .before .before in
     let a = k .args in (
-      end-words (k .pre .1 .narrow) (c .before .before .fill .ensures) (λ f l. cost-past (deckOf (a .line .now) (a .n) (a .poses)) (a .r) f (a .i) (getD (a .starts .now) l 0) (omega arith)),
+      end-words (k .pre .1 .narrow) (c .before .before .fill .ensures) (λ f l. cost-past (deckIn (a .row .now) (a .sizes)) (a .sizes .reordering) f (a .i) (getD (a .starts .now) l 0) (omega arith)),
       k .pre .0,
     )
 
@@ -36,7 +36,7 @@ add-if2 c = search needs
 
 put-requires : tie.Need-put-requires
 put-requires c κs =
-    let k = c .before .before .before .before .before .before in
+    let k = c .before .before .before .before .before .before .before in
     (omega (arith, k .pre .2 .room, k .pre .1 .narrow), omega (arith, k .pre .1 .narrow), k .pre .4, omega arith, k .pre .1 .low, k .pre .3 .word)
 
 same-length-2 : tie.Need-same-length-2
@@ -44,21 +44,21 @@ same-length-2 c = search needs
 
 returns-2 : tie.Need-returns-2
 returns-2 c =
-    let k = c .before .before .before .before .before .before .before .before .before in
+    let k = c .before .before .before .before .before .before .before .before .before .before in
     let a = k .args in (
       end-words (k .pre .1 .narrow) (c .before .before .put .ensures)
-          (λ f l. omega (arith, cost-done (deckOf (a .line .now) (a .n) (a .poses)) (a .r) f (a .i) (getD (a .starts .now) l 0) (omega arith), k .pre .3 .word l)),
+          (λ f l. omega (arith, cost-done (deckIn (a .row .now) (a .sizes)) (a .sizes .reordering) f (a .i) (getD (a .starts .now) l 0) (omega arith), k .pre .3 .word l)),
       k .pre .0,
     )
 
 run-on-requires : tie.Need-run-on-requires
 run-on-requires c κs =
-    let k = c .before .before .before .before .before .before .before in
+    let k = c .before .before .before .before .before .before .before .before in
     (k .pre .0, k .pre .1, omega (arith, k .pre .2 .over, k .pre .2 .room), left (c .before .before))
 
 put-ends-requires : tie.Need-put-ends-requires
 put-ends-requires c κs =
-    let k = c .before .before .before .before .before .before .before .before .before .before .before in
+    let k = c .before .before .before .before .before .before .before .before .before .before .before .before in
     let g = k .pre .1 in
     let v = c .before .before .before .run-on .ensures .0 in
     let b = buffer-low (v .running .buffer) in (
@@ -77,7 +77,7 @@ same-length-3 c = c .before .before .put-ends .ensures .frame .long ∙ c .befor
 
 returns-3 : tie.Need-returns-3
 returns-3 c =
-    let k = c .before .before .before .before .before .before .before .before .before .before .before .before .before .before in
+    let k = c .before .before .before .before .before .before .before .before .before .before .before .before .before .before .before in
     let a = k .args in
     let g = k .pre .1 in
     let v = c .before .before .before .before .before .before .run-on .ensures .0 in

@@ -7,7 +7,7 @@ use native.Mathlib.Numerals.{add-one}
 use borrow.Author.Tests.{not-true, not-false}
 use Rattle.theory_tables.specs.Steps.{lastAt}
 use Rattle.search_lanes.specs.Laws.{state-rows, state-ext}
-use Rattle.search_row.specs.Words.{deckOf}
+use Rattle.search_row.specs.Words.{deckIn}
 use Rattle.search_dense_first.specs.Firsts.{startsAt, after-there, after-away, starts-size}
 use Rattle.search_wide_first.specs.Firsts.{afterRow}
 use borrow.Author.Needs.{needs}
@@ -16,14 +16,14 @@ use Rattle.search_wide_first.proofs.first_block.Tie as tie
 
 -- past the test the state can come first
 abbrev Starts : tie.Else1 → Type 0
-Starts c = let a = c .before .before .before .before .before .args in startsAt (a .n) (a .r) (suc (a .i)) (a .m) (a .q) ≡ true
+Starts c = let a = c .before .before .before .before .args in startsAt (a .sizes .cells) (a .sizes .reordering) (suc (a .i)) (a .m) (a .q) ≡ true
 
 can : (c : tie.Else1) → Starts c
 can c =
-    let a = c .before .before .before .before .before .args in
-    ap (λ (j : ℕ). startsAt (a .n) (a .r) j (a .m) (a .q)) (sym (add-one (a .i))) ∙ sym (c .before .starts .ensures) ∙ not-false _ (c .if1 .left)
+    let a = c .before .before .before .before .args in
+    ap (λ (j : ℕ). startsAt (a .sizes .cells) (a .sizes .reordering) j (a .m) (a .q)) (sym (add-one (a .i))) ∙ sym (c .before .starts .ensures) ∙ not-false _ (c .if1 .left)
 
-here : (c : tie.After-last-at) → (let a = c .before .before .before .before .before .before .args in c .last-at .result ≡ lastAt (a .r) (suc (a .i)) (a .q))
+here : (c : tie.After-last-at) → (let a = c .before .before .before .before .before .args in c .last-at .result ≡ lastAt (a .sizes .reordering) (suc (a .i)) (a .q))
 here c = omega (arith, c .last-at .ensures)
 
 add-starts : tie.Need-add-starts
@@ -46,12 +46,12 @@ same-length c = search needs
 
 returns : tie.Need-returns
 returns c =
-    let k = c .before .before .before .before .before .before .before .before .before in
+    let k = c .before .before .before .before .before .before .before .before in
     let a = k .args in
     let t = sym (c .before .before .before .before .before .starts .ensures) ∙ not-true _ (c .before .before .before .before .if1 .taken) in
-    let u = ap (λ (j : ℕ). startsAt (a .n) (a .r) j (a .m) (a .q)) (sym (add-one (a .i))) ∙ t in (
+    let u = ap (λ (j : ℕ). startsAt (a .sizes .cells) (a .sizes .reordering) j (a .m) (a .q)) (sym (add-one (a .i))) ∙ t in (
       state-rows (omega (arith, k .pre .1 .ground .few)) (c .before .before .fill-rows .ensures)
-          (λ b l x y. after-away (deckOf (a .line .now) (a .n) (a .poses)) (a .r) (a .i) (a .m) (a .p) l (a .q) b u),
+          (λ b l x y. after-away (deckIn (a .row .now) (a .sizes)) (a .sizes .reordering) (a .i) (a .m) (a .p) l (a .q) b u),
       k .pre .0,
     )
 
@@ -63,17 +63,17 @@ last-at-requires c κs = search needs
 
 first-rows-requires : tie.Need-first-rows-requires
 first-rows-requires c κs =
-    let k = c .before .before .before .before .before .before .before .before in
+    let k = c .before .before .before .before .before .before .before in
     let a = k .args in
     let g = k .pre .1 in (
       k .pre .0,
-      g .ground .row,
+      g .ground .words,
       g .low,
       g .room,
       omega (arith, g .ground .all, g .ground .coded .few),
       k .pre .2,
       k .pre .3,
-      omega (arith, here (c .before .before), starts-size (a .n) (a .r) (suc (a .i)) (a .m) (a .q) (can (c .before .before .before)), g .ground .size),
+      omega (arith, here (c .before .before), starts-size (a .sizes .cells) (a .sizes .reordering) (suc (a .i)) (a .m) (a .q) (can (c .before .before .before)), g .ground .size),
       g .ground .few,
     )
 
@@ -82,14 +82,14 @@ same-length-2 c = search needs
 
 returns-2 : tie.Need-returns-2
 returns-2 c =
-    let k = c .before .before .before .before .before .before .before .before .before .before .before in
+    let k = c .before .before .before .before .before .before .before .before .before .before in
     let a = k .args in
     let e = here (c .before .before .before .before .before) in
     let w = c .before .before .first-rows .ensures in (
       state-ext (w .0)
           (λ b l x y.
-          after-there (deckOf (a .line .now) (a .n) (a .poses)) (a .r) (a .i) (a .m) (a .p) l (a .q) b (can (c .before .before .before .before .before .before))
-          ∙ ap (λ (j : ℕ). afterRow (a .line .now) (a .p) j b l) (sym e)),
+          after-there (deckIn (a .row .now) (a .sizes)) (a .sizes .reordering) (a .i) (a .m) (a .p) l (a .q) b (can (c .before .before .before .before .before .before))
+          ∙ ap (λ (j : ℕ). afterRow (a .row .now) (a .p) j b l) (sym e)),
       w .1,
     )
 

@@ -6,7 +6,7 @@ use borrow.Author.Needs.{needs}
 use Rattle.theory_tables.specs.Steps.{before}
 use Rattle.search_lanes.specs.Store.{Filled}
 use Rattle.search_lanes.specs.Laws.{filled-none, filled-more}
-use Rattle.search_row.specs.Words.{deckOf}
+use Rattle.search_row.specs.Words.{deckIn}
 use Rattle.search_wide_buckets.specs.Table.{Lent}
 use Rattle.search_wide_layer.specs.Laws.{given-on}
 use Rattle.search_wide_first.specs.Firsts.{afterFrom}
@@ -14,12 +14,12 @@ use Rattle.search_wide_first.proofs.first_layer.Statement.{statement}
 use Rattle.search_wide_first.proofs.first_layer.Tie as tie
 
 abbrev Inv-loop : tie.InvT-loop
-Inv-loop table₀ store₀ line states n poses r count lanes i s p to m q₀ table store q =
-    (q ≤ count) × Filled (afterFrom (deckOf line n poses) r i m p) lanes poses to q store₀ store × Lent table
+Inv-loop table₀ store₀ row sizes lanes i s p to m q₀ table store q =
+    (q ≤ (sizes .states)) × Filled (afterFrom (deckIn row sizes) (sizes .reordering) i m p) lanes (sizes .poses) to q store₀ store × Lent table
 
 abbrev μ-loop : tie.MeasureT-loop
-μ-loop table₀ store₀ line states n poses r count lanes i s p to m q₀ table store q =
-    count - q
+μ-loop table₀ store₀ row sizes lanes i s p to m q₀ table store q =
+    (sizes .states) - q
 
 mul-m : tie.Need-mul-m Inv-loop μ-loop
 mul-m c = search needs
@@ -35,13 +35,13 @@ shared-slice-read-m c = search needs
 
 loop-holds : tie.Need-loop-holds Inv-loop μ-loop
 loop-holds c =
-    let k = c .before .before .before .before in
+    let k = c .before .before .before in
     (omega arith, filled-none _ _ _ _ (k .pre .1 .low), k .pre .0)
 
 first-block-requires : tie.Need-first-block-requires Inv-loop μ-loop
 first-block-requires c κs =
     let k = c .before .before .before .before .before .before .before .before in
-    let l = c .before .before .before .loop in
+    let l = c .before .before .before .before .loop in
     let s = l .inv .1 in
     (l .inv .2, given-on (k .pre .1) (s .frame) (s .low), k .pre .2, k .pre .3, omega arith)
 
@@ -55,7 +55,7 @@ loop-again : tie.Need-loop-again Inv-loop μ-loop
 loop-again c =
     let k = c .before .before .before .before .before .before .before .before .before .before .before in
     let g = k .pre .1 in
-    let l = c .before .before .before .before .before .before .loop in
+    let l = c .before .before .before .before .before .before .before .loop in
     let w = c .before .before .first-block .ensures in (
       omega arith,
       filled-more (l .q) (omega (arith, g .narrow)) (omega (arith, g .ground .few)) (omega (arith, g .ground .all, g .ground .coded .few)) (l .inv .1) (w .0) (λ b j x y. refl),
@@ -64,30 +64,20 @@ loop-again c =
 
 same-length : tie.Need-same-length Inv-loop μ-loop
 same-length c =
-    c .before .loop .inv .1 .frame .long
+    c .before .before .loop .inv .1 .frame .long
 
 returns : tie.Need-returns Inv-loop μ-loop
 returns c =
     let k = c .before .before .before .before .before .before in
     let a = k .args in
-    let e : c .before .loop .q ≡ a .count = omega arith in
+    let e : c .before .before .loop .q ≡ a .sizes .states = omega arith in
     let f = k .pre .1 .ground .coded .mark (a .s) (omega (arith, k .pre .1 .ground .all)) in
-    (rw (e, f) at (c .before .loop .inv .1), c .before .loop .inv .2)
+    (rw (e, f) at (c .before .before .loop .inv .1), c .before .before .loop .inv .2)
+
+add-m-2 : tie.Need-add-m-2 Inv-loop μ-loop
+add-m-2 c = search needs
 
 pub first-layer-spec : {M : Type 1} → statement M
 first-layer-spec =
     tie.close
-    (tie.spec
-    Inv-loop
-    μ-loop
-    mul-m
-    add-m
-    mul-m-2
-    shared-slice-read-m
-    loop-holds
-    first-block-requires
-    add-q
-    loop-less
-    loop-again
-    same-length
-    returns)
+    (tie.spec Inv-loop μ-loop mul-m add-m add-m-2 mul-m-2 shared-slice-read-m loop-holds first-block-requires add-q loop-less loop-again same-length returns)

@@ -15,28 +15,28 @@ use Rattle.search_wide_first.proofs.first_rows.Tie as tie
 
 -- how many buckets the cell needs, and that the last four are those of gaps 2 and 3
 needed : (c : tie.After-buckets-of) → FiveOrNine (c .buckets-of .result)
-needed c = let a = c .before .before .before .args in rw (c .buckets-of .ensures) (buckets-either (a .line .now) (a .k))
+needed c = let a = c .before .before .before .args in rw (c .buckets-of .ensures) (buckets-either (a .row .now) (a .k))
 
 abbrev Last : tie.After-buckets-of → Type 0
 Last c =
     let a = c .before .before .before .args in
-    (l v t : ℕ) → v < 4 → startIn (a .line .now) (a .p) (a .k) l (c .buckets-of .result - 4 + v) t ≡ startIn (a .line .now) (a .p) (a .k) l (5 + v) t
+    (l v t : ℕ) → v < 4 → startIn (a .row .now) (a .p) (a .k) l (c .buckets-of .result - 4 + v) t ≡ startIn (a .row .now) (a .p) (a .k) l (5 + v) t
 
 last : (c : tie.After-buckets-of) → Last c
-last c l v t h = let a = c .before .before .before .args in rw (c .buckets-of .ensures) (starts-last (a .line .now) (a .p) (a .k) l v t h)
+last c l v t h = let a = c .before .before .before .args in rw (c .buckets-of .ensures) (starts-last (a .row .now) (a .p) (a .k) l v t h)
 
 -- the starts in the rows that count
 abbrev Starts : tie.After-run-up → Type 0
 Starts c =
     let a = c .before .before .before .before .before .before .before .before .before .before .args in
-    Gathered (startIn (a .line .now) (a .p) (a .k)) (rowsOf (a .poses)) (c .before .before .before .before .before .before .before .buckets-of .result) (a .lanes) (c .before .before .before .before .before .reset .last .0) (c .before .before .from-starts .last .0)
+    Gathered (startIn (a .row .now) (a .p) (a .k)) (rowsOf (a .poses)) (c .before .before .before .before .before .before .before .buckets-of .result) (a .lanes) (c .before .before .before .before .before .reset .last .0) (c .before .before .from-starts .last .0)
 
 starts : (c : tie.After-run-up) → Starts c
 starts c = rw (c .before .before .before .rows-of .ensures) at (starts-all (c .before .before .from-starts .ensures))
 
 -- the table once bucket 0 ran up
 abbrev Table : tie.After-run-up → Type 0
-Table c = let a = c .before .before .before .before .before .before .before .before .before .before .args in Ready (startIn (a .line .now) (a .p) (a .k)) (a .poses) (c .before .before .before .before .before .before .before .buckets-of .result) (a .lanes) (c .run-up .last .0)
+Table c = let a = c .before .before .before .before .before .before .before .before .before .before .args in Ready (startIn (a .row .now) (a .p) (a .k)) (a .poses) (c .before .before .before .before .before .before .before .buckets-of .result) (a .lanes) (c .run-up .last .0)
 
 table : (c : tie.After-run-up) → Table c
 table c =
@@ -93,7 +93,7 @@ returns c =
     let k = c .before .before .before .before .before .before .before .before .before .before .before .before .before .before .before in
     let a = k .args in
     let t = table (c .before .before .before .before .before) in (
-      state-ext (c .before .before .put-rows .ensures) (λ b l x y. after-found (a .line .now) (a .p) (a .k) b l t x y),
+      state-ext (c .before .before .put-rows .ensures) (λ b l x y. after-found (a .row .now) (a .p) (a .k) b l t x y),
       record { long = t .long; low = t .low },
     )
 

@@ -14,7 +14,7 @@ returns : tie.Need-returns
 returns c =
     let k = c .before .before .before in
     let a = k .args in
-    started-out (a .line .now) (a .p) (a .k) (a .b) (k .pre .2) (omega (arith, c .before .end-row .ensures))
+    started-out (a .row .now) (a .p) (a .k) (a .b) (k .pre .2) (omega (arith, c .before .end-row .ensures))
 
 spread-lane-requires : tie.Need-spread-lane-requires
 spread-lane-requires c κs =

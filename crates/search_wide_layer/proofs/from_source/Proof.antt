@@ -7,7 +7,7 @@ use borrow.Author.Needs.{needs}
 use borrow.Author.Tests.{not-true, not-false}
 use Rattle.theory_tables.specs.Steps.{lastAt, isSource}
 use Rattle.search_lanes.specs.Store.{layerIn}
-use Rattle.search_row.specs.Words.{deckOf}
+use Rattle.search_row.specs.Words.{deckIn}
 use Rattle.search_row.specs.Laws.{there-size, source-size}
 use Rattle.search_buckets.specs.Rows.{byPoses}
 use Rattle.search_buckets.specs.Sources.{state-in, state-out}
@@ -18,7 +18,7 @@ use Rattle.search_wide_layer.proofs.from_source.Tie as tie
 
 -- past the test the state is a source
 abbrev Source : tie.Else1 → Type 0
-Source c = let a = c .before .before .before .before .before .args in isSource (deckOf (a .line .now) (a .n) (a .poses)) (a .r) (a .i) (a .q) (a .p) ≡ true
+Source c = let a = c .before .before .before .before .args in isSource (deckIn (a .row .now) (a .sizes)) (a .sizes .reordering) (a .i) (a .q) (a .p) ≡ true
 
 source : (c : tie.Else1) → Source c
 source c = sym (c .before .is-source .ensures) ∙ not-false _ (c .if1 .left)
@@ -26,26 +26,26 @@ source c = sym (c .before .is-source .ensures) ∙ not-false _ (c .if1 .left)
 -- both cells stand in the row
 left : (c : tie.After-pays) → c .before .before .last-at .result < 64
 left c =
-    let k = c .before .before .before .before .before .before .before .before in
+    let k = c .before .before .before .before .before .before .before in
     let a = k .args in
-    omega (arith, c .before .before .last-at .ensures, source-size (a .line .now) (a .n) (a .poses) (a .r) (a .i) (a .q) (a .p) (source (c .before .before .before)), k .pre .0 .ground .size)
+    omega (arith, c .before .before .last-at .ensures, source-size (a .row .now) (a .sizes .cells) (a .sizes .poses) (a .sizes .reordering) (a .i) (a .q) (a .p) (source (c .before .before .before)), k .pre .0 .ground .size)
 
 right : (c : tie.After-pays) → c .before .last-at2 .result < 64
 right c =
-    let k = c .before .before .before .before .before .before .before .before in
+    let k = c .before .before .before .before .before .before .before in
     let a = k .args in
-    omega (arith, c .before .last-at2 .ensures, there-size (a .n) (a .r) (suc (a .i)) (a .q) (k .pre .1 .there), k .pre .0 .ground .size)
+    omega (arith, c .before .last-at2 .ensures, there-size (a .sizes .cells) (a .sizes .reordering) (suc (a .i)) (a .q) (k .pre .1 .there), k .pre .0 .ground .size)
 
 is-source-requires : tie.Need-is-source-requires
 is-source-requires c κs = search needs
 
 returns : tie.Need-returns
 returns c =
-    let k = c .before .before .before .before .before in
+    let k = c .before .before .before .before in
     let a = k .args in (
       gathered-none _ _ _ (k .pre .2 .low)
           (λ l v t i j h.
-          omega (arith, state-out (a .line .now) (deckOf (a .line .now) (a .n) (a .poses)) (a .r) (layerIn (a .store .now) (a .from) l) (a .i) (a .q) (a .p) v t (sym (c .before .is-source .ensures) ∙ not-true _ (c .if1 .taken)))),
+          omega (arith, state-out (a .row .now) (deckIn (a .row .now) (a .sizes)) (a .sizes .reordering) (layerIn (a .store .now) (a .from) l) (a .i) (a .q) (a .p) v t (sym (c .before .is-source .ensures) ∙ not-true _ (c .if1 .taken)))),
       λ e. refl,
     )
 
@@ -60,8 +60,8 @@ last-at-requires-2 c κs = search needs
 
 fill-pays-requires : tie.Need-fill-pays-requires
 fill-pays-requires c κs =
-    let k = c .before .before .before .before .before .before .before .before in
-    (k .pre .0 .ground .row, left c, right c, nine-most (k .pre .4), refl)
+    let k = c .before .before .before .before .before .before .before in
+    (k .pre .0 .ground .words, left c, right c, nine-most (k .pre .4), refl)
 
 mul-from-poses : tie.Need-mul-from-poses
 mul-from-poses c = search needs
@@ -71,10 +71,10 @@ add-from-poses c = search needs
 
 from-poses-requires : tie.Need-from-poses-requires
 from-poses-requires c κs =
-    let k = c .before .before .before .before .before .before .before .before .before .before .before in
+    let k = c .before .before .before .before .before .before .before .before .before .before in
     let g = k .pre .0 in (
       record {
-        words = g .ground .row;
+        words = g .ground .words;
         low = g .low;
         tableLow = k .pre .2 .low;
         tableLong = k .pre .2 .long;
@@ -90,13 +90,13 @@ from-poses-requires c κs =
 
 returns-2 : tie.Need-returns-2
 returns-2 c =
-    let k = c .before .before .before .before .before .before .before .before .before .before .before .before in
+    let k = c .before .before .before .before .before .before .before .before .before .before .before in
     let a = k .args in
-    let m : c .before .before .before .before .before .last-at2 .result ≡ lastAt (a .r) (suc (a .i)) (a .q) = omega (arith, c .before .before .before .before .before .last-at2 .ensures) in (
+    let m : c .before .before .before .before .before .last-at2 .result ≡ lastAt (a .sizes .reordering) (suc (a .i)) (a .q) = omega (arith, c .before .before .before .before .before .last-at2 .ensures) in (
       gathered-ext (c .from-poses .ensures .0)
           (λ l v t h.
-          state-in (a .line .now) (deckOf (a .line .now) (a .n) (a .poses)) (a .r) (layerIn (a .store .now) (a .from) l) (a .i) (a .q) (a .p) v t (source (c .before .before .before .before .before .before .before))
-          ∙ ap₂ (λ (x y : ℕ). byPoses (a .line .now) x y (layerIn (a .store .now) (a .from) l (a .p)) (a .poses) v t) (sym (c .before .before .before .before .before .before .last-at .ensures)) (sym m)),
+          state-in (a .row .now) (deckIn (a .row .now) (a .sizes)) (a .sizes .reordering) (layerIn (a .store .now) (a .from) l) (a .i) (a .q) (a .p) v t (source (c .before .before .before .before .before .before .before))
+          ∙ ap₂ (λ (x y : ℕ). byPoses (a .row .now) x y (layerIn (a .store .now) (a .from) l (a .p)) (a .sizes .poses) v t) (sym (c .before .before .before .before .before .before .last-at .ensures)) (sym m)),
       c .from-poses .ensures .1,
     )
 

@@ -6,7 +6,7 @@ use mathlib.Core.Logic.{⊎-elim}
 use native.Mathlib.Omega.{arith}
 use borrow.Author.Needs.{needs}
 use Rattle.search_lanes.specs.Store.{layerIn}
-use Rattle.search_row.specs.Words.{deckOf}
+use Rattle.search_row.specs.Words.{deckIn}
 use Rattle.search_buckets.specs.Rows.{rowsOf}
 use Rattle.search_buckets.specs.Sources.{states-none, states-more}
 use Rattle.search_wide_buckets.specs.Table.{Gathered, statesIn}
@@ -15,26 +15,26 @@ use Rattle.search_wide_layer.proofs.gather.Statement.{statement}
 use Rattle.search_wide_layer.proofs.gather.Tie as tie
 
 abbrev Inv-loop : tie.InvT-loop
-Inv-loop table₀ store line states n poses r count lanes i from q buckets used₀ p₀ table used p =
-    (p ≤ count) × Gathered (statesIn store line (deckOf line n poses) r from i q p) (rowsOf poses) buckets lanes table₀ table × (used ≡ false → table ≡ table₀)
+Inv-loop table₀ store row sizes lanes i from q buckets used₀ p₀ table used p =
+    (p ≤ (sizes .states)) × Gathered (statesIn store row (deckIn row sizes) (sizes .reordering) from i q p) (rowsOf (sizes .poses)) buckets lanes table₀ table × (used ≡ false → table ≡ table₀)
 
 abbrev μ-loop : tie.MeasureT-loop
-μ-loop table₀ store line states n poses r count lanes i from q buckets used₀ p₀ table used p = count - p
+μ-loop table₀ store row sizes lanes i from q buckets used₀ p₀ table used p = (sizes .states) - p
 
 loop-holds : tie.Need-loop-holds Inv-loop μ-loop
 loop-holds c =
-    let k = c .before .before .before in
+    let k = c .before .before in
     let a = k .args in (
       omega arith,
       gathered-none _ _ _ (k .pre .2 .low)
-          (λ l v t i j h. omega (arith, states-none (a .line .now) (deckOf (a .line .now) (a .n) (a .poses)) (a .r) (layerIn (a .store .now) (a .from) l) (a .i) (a .q) v t)),
+          (λ l v t i j h. omega (arith, states-none (a .row .now) (deckIn (a .row .now) (a .sizes)) (a .sizes .reordering) (layerIn (a .store .now) (a .from) l) (a .i) (a .q) v t)),
       λ e. refl,
     )
 
 from-source-requires : tie.Need-from-source-requires Inv-loop μ-loop
 from-source-requires c κs =
     let k = c .before .before .before .before .before .before in
-    let w = c .before .before .loop .inv .1 in
+    let w = c .before .before .before .loop .inv .1 in
     (k .pre .0, k .pre .1, record { long = w .long ∙ k .pre .2 .long; low = w .low }, omega arith, k .pre .3)
 
 add-p : tie.Need-add-p Inv-loop μ-loop
@@ -47,21 +47,21 @@ loop-again : tie.Need-loop-again Inv-loop μ-loop
 loop-again c =
     let k = c .before .before .before .before .before .before .before .before in
     let a = k .args in
-    let l = c .before .before .before .before .loop in (
+    let l = c .before .before .before .before .before .loop in (
       omega arith,
       gathered-join (l .inv .1) (c .before .from-source .ensures .0)
-          (λ j v t h. states-more (a .line .now) (deckOf (a .line .now) (a .n) (a .poses)) (a .r) (layerIn (a .store .now) (a .from) j) (a .i) (a .q) (l .p) v t),
+          (λ j v t h. states-more (a .row .now) (deckIn (a .row .now) (a .sizes)) (a .sizes .reordering) (layerIn (a .store .now) (a .from) j) (a .i) (a .q) (l .p) v t),
       λ e.
           ⊎-elim
           (λ w. absurd (let z = sym (w .1) ∙ e in let y : _≡_ {A = ℕ} 0 1 = cc in omega arith))
           (λ w. c .before .from-source .ensures .1 (w .0 .left) ∙ l .inv .2 (sym (w .1) ∙ e))
-          (c .if1 .came),
+          (c .if2 .came),
     )
 
 returns : tie.Need-returns Inv-loop μ-loop
 returns c =
-    let e : c .before .loop .p ≡ c .before .before .before .before .before .args .count = omega arith in
-    (rw e at (c .before .loop .inv .1), c .before .loop .inv .2)
+    let e : c .before .before .loop .p ≡ c .before .before .before .before .before .args .sizes .states = omega arith in
+    (rw e at (c .before .before .loop .inv .1), c .before .before .loop .inv .2)
 
 pub gather-spec : {M : Type 1} → statement M
 gather-spec =

@@ -5,18 +5,18 @@ use mathlib.Core.Bool.{false}
 use native.Mathlib.Omega.{arith}
 use borrow.Author.Count.{below-more}
 use Rattle.theory_tables.specs.Steps.{isSource}
-use Rattle.search_row.specs.Words.{deckOf}
+use Rattle.search_row.specs.Words.{deckIn}
 use borrow.Author.Needs.{needs}
 use Rattle.search_wide_layer.proofs.has_source.Statement.{statement}
 use Rattle.search_wide_layer.proofs.has_source.Tie as tie
 
 abbrev Inv-loop : tie.InvT-loop
-Inv-loop line states n r count i q s₀ s =
-    (s ≤ count) × ((j : ℕ) → j < s → isSource (deckOf line n 0) r i q j ≡ false)
+Inv-loop row sizes i q s₀ s =
+    (s ≤ (sizes .states)) × ((j : ℕ) → j < s → isSource (deckIn row sizes) (sizes .reordering) i q j ≡ false)
 
 abbrev μ-loop : tie.MeasureT-loop
-μ-loop line states n r count i q s₀ s =
-    count - s
+μ-loop row sizes i q s₀ s =
+    (sizes .states) - s
 
 loop-holds : tie.Need-loop-holds Inv-loop μ-loop
 loop-holds c =
@@ -38,14 +38,14 @@ loop-less c = search needs
 loop-again : tie.Need-loop-again Inv-loop μ-loop
 loop-again c =
     let a = c .before .before .before .before .before .before .args in
-    let l = c .before .before .before .loop in (
+    let l = c .before .before .before .before .loop in (
       omega arith,
-      below-more (λ (j : ℕ). isSource (deckOf (a .line .now) (a .n) 0) (a .r) (a .i) (a .q) j ≡ false) (l .s) (l .inv .1) (sym (c .before .is-source .ensures) ∙ c .if1 .left),
+      below-more (λ (j : ℕ). isSource (deckIn (a .row .now) (a .sizes)) (a .sizes .reordering) (a .i) (a .q) j ≡ false) (l .s) (l .inv .1) (sym (c .before .is-source .ensures) ∙ c .if2 .left),
     )
 
 returns-2 : tie.Need-returns-2 Inv-loop μ-loop
 returns-2 c =
-    λ e p h. c .before .loop .inv .1 p (omega arith)
+    λ e p h. c .before .before .loop .inv .1 p (omega arith)
 
 pub has-source-spec : {M : Type 1} → statement M
 has-source-spec =

@@ -2,7 +2,7 @@
 use Prim.Native.Nat.{_-_, _≤_}
 use mathlib.Core.Path.{_≡_, sym}
 use native.Mathlib.Omega.{arith}
-use Rattle.search_row.specs.Words.{deckOf}
+use Rattle.search_row.specs.Words.{deckIn}
 use Rattle.search_wide_buckets.specs.Table.{Lent}
 use Rattle.search_wide_layer.specs.Loops.{nextFrom}
 use Rattle.search_wide_layer.specs.Laws.{given-on, beside-on, beside-kept, next-kept}
@@ -13,21 +13,21 @@ use Rattle.search_wide_layer.proofs.step_layer.Statement.{statement}
 use Rattle.search_wide_layer.proofs.step_layer.Tie as tie
 
 abbrev Inv-loop : tie.InvT-loop
-Inv-loop table₀ store₀ line states n poses r count lanes i from to q₀ table store q =
-    (q ≤ count) × Filled (nextFrom (deckOf line n poses) r store₀ from i) lanes poses to q store₀ store × Lent table
+Inv-loop table₀ store₀ row sizes lanes i from to q₀ table store q =
+    (q ≤ (sizes .states)) × Filled (nextFrom (deckIn row sizes) (sizes .reordering) store₀ from i) lanes (sizes .poses) to q store₀ store × Lent table
 
 abbrev μ-loop : tie.MeasureT-loop
-μ-loop table₀ store₀ line states n poses r count lanes i from to q₀ table store q =
-    count - q
+μ-loop table₀ store₀ row sizes lanes i from to q₀ table store q =
+    (sizes .states) - q
 
 loop-holds : tie.Need-loop-holds Inv-loop μ-loop
 loop-holds c =
-    (omega arith, filled-none _ _ _ _ (c .before .before .before .pre .1 .low), c .before .before .before .pre .0)
+    (omega arith, filled-none _ _ _ _ (c .before .before .pre .1 .low), c .before .before .pre .0)
 
 target-block-requires : tie.Need-target-block-requires Inv-loop μ-loop
 target-block-requires c κs =
     let k = c .before .before .before .before .before .before .before in
-    let l = c .before .before .before .loop in
+    let l = c .before .before .before .before .loop in
     let s = l .inv .1 in
     (l .inv .2, given-on (k .pre .1) (s .frame) (s .low), beside-on (k .pre .2) (s .frame), omega arith)
 
@@ -42,23 +42,23 @@ loop-again c =
     let k = c .before .before .before .before .before .before .before .before .before .before in
     let a = k .args in
     let g = k .pre .1 in
-    let l = c .before .before .before .before .before .before .loop in
+    let l = c .before .before .before .before .before .before .before .loop in
     let s = l .inv .1 in
     let kept = beside-kept (k .pre .2) (s .frame) (omega arith) (omega arith) in (
       omega arith,
       filled-more (l .q) (g .narrow) (omega (arith, g .ground .few)) (omega (arith, g .ground .all, g .ground .coded .few)) s (c .before .before .target-block .ensures .0)
-          (λ b j x y. sym (next-kept (deckOf (a .line .now) (a .n) (a .poses)) (a .r) (a .i) (l .q) b j kept (g .ground .coded .few) (g .ground .few) (omega (arith, g .narrow)))),
+          (λ b j x y. sym (next-kept (deckIn (a .row .now) (a .sizes)) (a .sizes .reordering) (a .i) (l .q) b j kept (g .ground .coded .few) (g .ground .few) (omega (arith, g .narrow)))),
       c .before .before .target-block .ensures .1,
     )
 
 same-length : tie.Need-same-length Inv-loop μ-loop
 same-length c =
-    c .before .loop .inv .1 .frame .long
+    c .before .before .loop .inv .1 .frame .long
 
 returns : tie.Need-returns Inv-loop μ-loop
 returns c =
-    let e : c .before .loop .q ≡ c .before .before .before .before .before .args .count = omega arith in
-    (rw e at (c .before .loop .inv .1), c .before .loop .inv .2)
+    let e : c .before .before .loop .q ≡ c .before .before .before .before .before .args .sizes .states = omega arith in
+    (rw e at (c .before .before .loop .inv .1), c .before .before .loop .inv .2)
 
 pub step-layer-spec : {M : Type 1} → statement M
 step-layer-spec =

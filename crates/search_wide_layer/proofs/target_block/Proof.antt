@@ -4,7 +4,7 @@ use mathlib.Core.Path.{sym, ap, _∙_}
 use native.Mathlib.Omega.{arith}
 use native.Mathlib.Numerals.{add-one}
 use borrow.Author.Tests.{not-true, not-false}
-use Rattle.search_row.specs.Words.{deckOf, thereIn}
+use Rattle.search_row.specs.Words.{deckIn, thereIn}
 use Rattle.search_buckets.specs.Next.{next-away}
 use Rattle.search_lanes.specs.Store.{layerIn}
 use Rattle.search_lanes.specs.Laws.{state-rows}
@@ -32,21 +32,21 @@ same-length c = search needs
 
 returns : tie.Need-returns
 returns c =
-    let k = c .before .before .before .before .before .before .before .before .before in
+    let k = c .before .before .before .before .before .before .before .before in
     let a = k .args in
     let t = sym (c .before .before .before .before .before .is-there .ensures) ∙ not-true _ (c .before .before .before .before .if1 .taken) in
-    let u = ap (λ (j : ℕ). thereIn (a .n) (a .r) j (a .q)) (sym (add-one (a .i))) ∙ t in (
+    let u = ap (λ (j : ℕ). thereIn (a .sizes .cells) (a .sizes .reordering) j (a .q)) (sym (add-one (a .i))) ∙ t in (
       state-rows (omega (arith, k .pre .1 .ground .few)) (c .before .before .fill-rows .ensures)
-          (λ b l x y. next-away (deckOf (a .line .now) (a .n) (a .poses)) (a .r) (layerIn (a .store .now) (a .from) l) (a .i) (a .q) b u),
+          (λ b l x y. next-away (deckIn (a .row .now) (a .sizes)) (a .sizes .reordering) (layerIn (a .store .now) (a .from) l) (a .i) (a .q) b u),
       k .pre .0,
     )
 
 target-rows-requires : tie.Need-target-rows-requires
 target-rows-requires c κs =
-    let k = c .before .before .before .before .before .before .before in
+    let k = c .before .before .before .before .before .before in
     let a = k .args in
     let t = sym (c .before .before .before .is-there .ensures) ∙ not-false _ (c .before .before .if1 .left) in
-    (k .pre .0, k .pre .1, k .pre .2, record { state = omega (arith, k .pre .1 .ground .all); there = ap (λ (j : ℕ). thereIn (a .n) (a .r) j (a .q)) (sym (add-one (a .i))) ∙ t })
+    (k .pre .0, k .pre .1, k .pre .2, record { state = omega (arith, k .pre .1 .ground .all); there = ap (λ (j : ℕ). thereIn (a .sizes .cells) (a .sizes .reordering) j (a .q)) (sym (add-one (a .i))) ∙ t })
 
 same-length-2 : tie.Need-same-length-2
 same-length-2 c = search needs

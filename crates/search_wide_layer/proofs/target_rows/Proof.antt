@@ -8,7 +8,7 @@ use lib.ListN.{length}
 use Rattle.theory_tables.specs.Steps.{B, lastAt}
 use Rattle.search_lanes.specs.Store.{layerIn}
 use Rattle.search_lanes.specs.Laws.{state-rows, state-ext}
-use Rattle.search_row.specs.Words.{deckOf}
+use Rattle.search_row.specs.Words.{deckIn}
 use Rattle.search_row.specs.Laws.{there-size}
 use Rattle.search_buckets.specs.Rows.{bucketsIn, byStates}
 use Rattle.search_buckets.specs.Sources.{states-low, states-twin, buckets-either, buckets-last}
@@ -20,55 +20,55 @@ use borrow.Author.Needs.{needs}
 use Rattle.search_wide_layer.proofs.target_rows.Statement.{statement}
 use Rattle.search_wide_layer.proofs.target_rows.Tie as tie
 
-buckets-low : (k : tie.Start) → (let a = k .args in (l v t : ℕ) → statesIn (a .store .now) (a .line .now) (deckOf (a .line .now) (a .n) (a .poses)) (a .r) (a .from) (a .i) (a .q) (a .count) l v t ≤ B)
+buckets-low : (k : tie.Start) → (let a = k .args in (l v t : ℕ) → statesIn (a .store .now) (a .row .now) (deckIn (a .row .now) (a .sizes)) (a .sizes .reordering) (a .from) (a .i) (a .q) (a .sizes .states) l v t ≤ B)
 buckets-low k l v t =
     let a = k .args in
-    states-low (a .line .now) (deckOf (a .line .now) (a .n) (a .poses)) (a .r) (layerIn (a .store .now) (a .from) l) (a .i) (a .q) (a .count) v t
+    states-low (a .row .now) (deckIn (a .row .now) (a .sizes)) (a .sizes .reordering) (layerIn (a .store .now) (a .from) l) (a .i) (a .q) (a .sizes .states) v t
 
 -- the state's rows lie in the store
-room : (k : tie.Start) → (let a = k .args in a .to + a .q * 4096 + a .poses * 64 ≤ length (a .store .now))
+room : (k : tie.Start) → (let a = k .args in a .to + a .q * 4096 + a .sizes .poses * 64 ≤ length (a .store .now))
 room k = omega (arith, k .pre .2 .room, k .pre .3 .state, k .pre .1 .ground .coded .few, k .pre .1 .ground .few)
 
 -- the target's position
-here : (c : tie.After-last-at) → (let a = c .before .before .before .before .before .before .args in c .last-at .result ≡ lastAt (a .r) (suc (a .i)) (a .q))
+here : (c : tie.After-last-at) → (let a = c .before .before .before .before .before .args in c .last-at .result ≡ lastAt (a .sizes .reordering) (suc (a .i)) (a .q))
 here c = omega (arith, c .last-at .ensures)
 
 inside : (c : tie.After-last-at) → c .last-at .result < 64
 inside c =
-    let k = c .before .before .before .before .before .before in
+    let k = c .before .before .before .before .before in
     let a = k .args in
-    omega (arith, here c, there-size (a .n) (a .r) (suc (a .i)) (a .q) (k .pre .3 .there), k .pre .1 .ground .size)
+    omega (arith, here c, there-size (a .sizes .cells) (a .sizes .reordering) (suc (a .i)) (a .q) (k .pre .3 .there), k .pre .1 .ground .size)
 
 -- how many buckets it needs, and that the last four are those of gaps 2 and 3
 needed : (c : tie.After-buckets-of) → FiveOrNine (c .buckets-of .result)
-needed c = rw (c .buckets-of .ensures) (buckets-either (c .before .before .before .before .before .before .before .args .line .now) (c .before .last-at .result))
+needed c = rw (c .buckets-of .ensures) (buckets-either (c .before .before .before .before .before .before .args .row .now) (c .before .last-at .result))
 
 abbrev Last : tie.After-buckets-of → Type 0
 Last c =
-    let a = c .before .before .before .before .before .before .before .args in
-    let bucket = statesIn (a .store .now) (a .line .now) (deckOf (a .line .now) (a .n) (a .poses)) (a .r) (a .from) (a .i) (a .q) (a .count) in
+    let a = c .before .before .before .before .before .before .args in
+    let bucket = statesIn (a .store .now) (a .row .now) (deckIn (a .row .now) (a .sizes)) (a .sizes .reordering) (a .from) (a .i) (a .q) (a .sizes .states) in
     (l v t : ℕ) → v < 4 → bucket l (c .buckets-of .result - 4 + v) t ≡ bucket l (5 + v) t
 
 last : (c : tie.After-buckets-of) → Last c
 last c l v t h =
-    let a = c .before .before .before .before .before .before .before .args in
-    let D = deckOf (a .line .now) (a .n) (a .poses) in
+    let a = c .before .before .before .before .before .before .args in
+    let D = deckIn (a .row .now) (a .sizes) in
     let f = layerIn (a .store .now) (a .from) l in
-    let m = lastAt (a .r) (suc (a .i)) (a .q) in
-    let e : c .buckets-of .result ≡ bucketsIn (a .line .now) m = c .buckets-of .ensures ∙ ap (bucketsIn (a .line .now)) (here (c .before)) in
-    rw e (buckets-last (λ (w : ℕ). byStates (a .line .now) D (a .r) f (a .i) (a .q) (a .count) w t) (a .line .now) m v (λ g. states-twin (a .line .now) D (a .r) f (a .i) (a .q) (a .count) v t g h))
+    let m = lastAt (a .sizes .reordering) (suc (a .i)) (a .q) in
+    let e : c .buckets-of .result ≡ bucketsIn (a .row .now) m = c .buckets-of .ensures ∙ ap (bucketsIn (a .row .now)) (here (c .before)) in
+    rw e (buckets-last (λ (w : ℕ). byStates (a .row .now) D (a .sizes .reordering) f (a .i) (a .q) (a .sizes .states) w t) (a .row .now) m v (λ g. states-twin (a .row .now) D (a .sizes .reordering) f (a .i) (a .q) (a .sizes .states) v t g h))
 
 -- the table once bucket 0 ran up
 abbrev Table : tie.After-run-up → Type 0
 Table c =
     let p = c .before .before .before .before .before .before .before .before in
-    let a = p .before .before .before .before .before .before .before .args in
-    let bucket = statesIn (a .store .now) (a .line .now) (deckOf (a .line .now) (a .n) (a .poses)) (a .r) (a .from) (a .i) (a .q) (a .count) in
-    Ready bucket (a .poses) (p .buckets-of .result) (a .lanes) (c .run-up .last .0)
+    let a = p .before .before .before .before .before .before .args in
+    let bucket = statesIn (a .store .now) (a .row .now) (deckIn (a .row .now) (a .sizes)) (a .sizes .reordering) (a .from) (a .i) (a .q) (a .sizes .states) in
+    Ready bucket (a .sizes .poses) (p .buckets-of .result) (a .lanes) (c .run-up .last .0)
 
 table : (c : tie.After-run-up) → Table c
 table c =
-    let k = c .before .before .before .before .before .before .before .before .before .before .before .before .before .before .before in
+    let k = c .before .before .before .before .before .before .before .before .before .before .before .before .before .before in
     let p = c .before .before .before .before .before .before .before .before in
     let none = c .before .before .before .before .before .before .reset .ensures in
     let w = c .before .before .before .gather .ensures in
@@ -91,12 +91,12 @@ same-length c = search needs
 
 returns : tie.Need-returns
 returns c =
-    let k = c .before .before .before .before .before .before .before .before .before in
+    let k = c .before .before .before .before .before .before .before .before in
     let a = k .args in
     let g = k .pre .1 in (
       state-rows (omega (arith, g .ground .few)) (c .before .before .fill-rows .ensures)
           (λ b l p i.
-          next-alone (a .line .now) (a .n) (a .poses) (a .r) (layerIn (a .store .now) (a .from) l) (a .i) (a .q) b (k .pre .3 .there) (g .ground .all)
+          next-alone (a .row .now) (a .sizes .cells) (a .sizes .poses) (a .sizes .reordering) (layerIn (a .store .now) (a .from) l) (a .i) (a .q) b (k .pre .3 .there) (g .ground .all)
           (c .before .before .before .before .before .has-source .ensures (not-true _ (c .before .before .before .before .if1 .taken)))),
       k .pre .0,
     )
@@ -109,34 +109,34 @@ last-at-requires c κs = search needs
 
 buckets-of-requires : tie.Need-buckets-of-requires
 buckets-of-requires c κs =
-    (c .before .before .before .before .before .before .pre .1 .ground .row, inside c)
+    (c .before .before .before .before .before .pre .1 .ground .words, inside c)
 
 reset-requires : tie.Need-reset-requires
 reset-requires c κs =
-    let k = c .before .before .before .before .before .before .before .before in
+    let k = c .before .before .before .before .before .before .before in
     (k .pre .0 .low, k .pre .0 .long, nine-most (needed (c .before)), k .pre .1 .ground .few, k .pre .1 .narrow)
 
 gather-requires : tie.Need-gather-requires
 gather-requires c κs =
-    let k = c .before .before .before .before .before .before .before .before .before .before .before in
+    let k = c .before .before .before .before .before .before .before .before .before .before in
     let w = c .before .before .reset .ensures in
     (k .pre .1, k .pre .3, record { long = w .long; low = w .low }, needed (c .before .before .before .before))
 
 mul-fill-rows-2 : tie.Need-mul-fill-rows-2
 mul-fill-rows-2 c =
-    let k = c .before .before .before .before .before .before .before .before .before .before .before .before .before .before in
+    let k = c .before .before .before .before .before .before .before .before .before .before .before .before .before in
     let h = room k in
     search needs
 
 add-fill-rows-2 : tie.Need-add-fill-rows-2
 add-fill-rows-2 c =
-    let k = c .before .before .before .before .before .before .before .before .before .before .before .before .before .before in
+    let k = c .before .before .before .before .before .before .before .before .before .before .before .before .before in
     let h = room k in
     search needs
 
 fill-rows-requires-2 : tie.Need-fill-rows-requires-2
 fill-rows-requires-2 c κs =
-    let k = c .before .before .before .before .before .before .before .before .before .before .before .before .before .before in
+    let k = c .before .before .before .before .before .before .before .before .before .before .before .before .before in
     (room k, k .pre .1 .narrow, omega arith, k .pre .1 .low)
 
 same-length-2 : tie.Need-same-length-2
@@ -144,7 +144,7 @@ same-length-2 c = search needs
 
 returns-2 : tie.Need-returns-2
 returns-2 c =
-    let k = c .before .before .before .before .before .before .before .before .before .before .before .before .before .before .before .before .before in
+    let k = c .before .before .before .before .before .before .before .before .before .before .before .before .before .before .before .before in
     let a = k .args in
     let g = k .pre .1 in
     let h = c .before .before .before .before .before .before .before .before .before .before in
@@ -152,25 +152,25 @@ returns-2 c =
     let none = c .before .before .before .before .before .before .before .before .reset .ensures in (
       state-rows (omega (arith, g .ground .few)) (c .before .before .fill-rows2 .ensures)
           (λ b l p i.
-          next-none (a .line .now) (a .n) (a .poses) (a .r) (layerIn (a .store .now) (a .from) l) (a .i) (a .q) b (k .pre .3 .there) (g .ground .all)
+          next-none (a .row .now) (a .sizes .cells) (a .sizes .poses) (a .sizes .reordering) (layerIn (a .store .now) (a .from) l) (a .i) (a .q) b (k .pre .3 .there) (g .ground .all)
           (unused (g .ground .few) (five-least (needed h)) (nine-most (needed h)) (buckets-low k) (last h) none (w .0) (w .1 (not-true _ (c .before .before .before .before .if2 .taken))) b l p i)),
       record { long = w .0 .long ∙ none .long; low = w .0 .low },
     )
 
 run-up-requires : tie.Need-run-up-requires
 run-up-requires c κs =
-    let k = c .before .before .before .before .before .before .before .before .before .before .before .before .before .before in
+    let k = c .before .before .before .before .before .before .before .before .before .before .before .before .before in
     let w = c .before .before .gather .ensures .0 in
     (w .low, w .long ∙ c .before .before .before .before .before .reset .ensures .long, k .pre .1 .ground .few, k .pre .1 .narrow)
 
 put-rows-requires : tie.Need-put-rows-requires
 put-rows-requires c κs =
-    let k = c .before .before .before .before .before .before .before .before .before .before .before .before .before .before .before .before .before in
+    let k = c .before .before .before .before .before .before .before .before .before .before .before .before .before .before .before .before in
     let g = k .pre .1 in
     let t = table (c .before .before) in
     let h = needed (c .before .before .before .before .before .before .before .before .before .before) in (
       record {
-        words = g .ground .row;
+        words = g .ground .words;
         low = g .low;
         tableLow = t .low;
         tableLong = t .long;
@@ -189,13 +189,13 @@ same-length-3 c = search needs
 
 returns-3 : tie.Need-returns-3
 returns-3 c =
-    let k = c .before .before .before .before .before .before .before .before .before .before .before .before .before .before .before .before .before .before .before .before in
+    let k = c .before .before .before .before .before .before .before .before .before .before .before .before .before .before .before .before .before .before .before in
     let a = k .args in
     let g = k .pre .1 in
     let t = table (c .before .before .before .before .before) in (
       state-ext (c .before .before .put-rows .ensures)
           (λ b l p i.
-          next-found (a .line .now) (a .n) (a .poses) (a .r) (layerIn (a .store .now) (a .from) l) (a .i) (a .q) b (k .pre .3 .there) (g .ground .all) (here (c .before .before .before .before .before .before .before .before .before .before .before .before .before .before))
+          next-found (a .row .now) (a .sizes .cells) (a .sizes .poses) (a .sizes .reordering) (layerIn (a .store .now) (a .from) l) (a .i) (a .q) b (k .pre .3 .there) (g .ground .all) (here (c .before .before .before .before .before .before .before .before .before .before .before .before .before .before))
           (t .right b l p i)),
       record { long = t .long; low = t .low },
     )

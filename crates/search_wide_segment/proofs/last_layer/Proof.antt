@@ -7,7 +7,7 @@ use native.Mathlib.Omega.{arith}
 use Rattle.theory_tables.specs.Steps.{offset}
 use Rattle.search_lanes.specs.Store.{Frame, Filled}
 use Rattle.search_lanes.specs.Laws.{frame-refl, frame-join, filled-none, filled-more}
-use Rattle.search_row.specs.Words.{deckOf}
+use Rattle.search_row.specs.Words.{deckIn}
 use Rattle.search_wide_buckets.specs.Table.{Lent}
 use Rattle.search_wide_layer.specs.Laws.{given-on, beside-on, beside-kept, next-kept}
 use Rattle.search_wide_segment.specs.Runs.{lastIn}
@@ -16,22 +16,22 @@ use Rattle.search_wide_segment.proofs.last_layer.Statement.{statement}
 use Rattle.search_wide_segment.proofs.last_layer.Tie as tie
 
 abbrev Inv-loop : tie.InvT-loop
-Inv-loop table₀ store₀ line states n poses r count lanes i tall from costs q₀ table store q =
-    (q ≤ count) × Filled (lastIn (deckOf line n poses) r i tall store₀ from costs) lanes poses costs q store₀ store × Frame costs (costs + q * 4096) store₀ store × Lent table
+Inv-loop table₀ store₀ row sizes lanes i tall from costs q₀ table store q =
+    (q ≤ (sizes .states)) × Filled (lastIn (deckIn row sizes) (sizes .reordering) i tall store₀ from costs) lanes (sizes .poses) costs q store₀ store × Frame costs (costs + q * 4096) store₀ store × Lent table
 
 abbrev μ-loop : tie.MeasureT-loop
-μ-loop table₀ store₀ line states n poses r count lanes i tall from costs q₀ table store q =
-    count - q
+μ-loop table₀ store₀ row sizes lanes i tall from costs q₀ table store q =
+    (sizes .states) - q
 
 loop-holds : tie.Need-loop-holds Inv-loop μ-loop
 loop-holds c =
-    let k = c .before .before .before in
+    let k = c .before .before in
     (omega arith, filled-none _ _ _ _ (k .pre .1 .low), frame-refl _ _ _, k .pre .0)
 
 last-state-requires : tie.Need-last-state-requires Inv-loop μ-loop
 last-state-requires c κs =
     let k = c .before .before .before .before .before .before .before in
-    let l = c .before .before .before .loop in
+    let l = c .before .before .before .before .loop in
     let s = l .inv .1 in
     (l .inv .3, given-on (k .pre .1) (s .frame) (s .low), beside-on (k .pre .2) (s .frame), k .pre .3, omega arith)
 
@@ -46,7 +46,7 @@ loop-again c =
     let k = c .before .before .before .before .before .before .before .before .before .before in
     let a = k .args in
     let g = k .pre .1 in
-    let l = c .before .before .before .before .before .before .loop in
+    let l = c .before .before .before .before .before .before .before .loop in
     let w = c .before .before .last-state .ensures in
     let s = l .inv .1 in
     let f = l .inv .2 in
@@ -54,8 +54,8 @@ loop-again c =
       omega arith,
       filled-more (l .q) (g .narrow) (omega (arith, g .ground .few)) (omega (arith, g .ground .all, g .ground .coded .few)) s (w .0)
           (λ b j x y.
-          ap₂ (cond (eqb (suc (a .i) + offset (a .r) (l .q)) (a .tall + suc (a .r))))
-          (sym (next-kept (deckOf (a .line .now) (a .n) (a .poses)) (a .r) (a .i) (l .q) b j kept (g .ground .coded .few) (g .ground .few) (omega (arith, g .narrow))))
+          ap₂ (cond (eqb (suc (a .i) + offset (a .sizes .reordering) (l .q)) (a .tall + suc (a .sizes .reordering))))
+          (sym (next-kept (deckIn (a .row .now) (a .sizes)) (a .sizes .reordering) (a .i) (l .q) b j kept (g .ground .coded .few) (g .ground .few) (omega (arith, g .narrow))))
           (sym (f .high (a .costs + l .q * 4096 + b * 64 + j) (omega arith)))),
       frame-join (a .costs) (a .costs + (l .q + 1) * 4096) f (w .0 .frame) (omega arith) (omega arith) (omega arith) (omega arith),
       w .1,
@@ -63,12 +63,12 @@ loop-again c =
 
 same-length : tie.Need-same-length Inv-loop μ-loop
 same-length c =
-    c .before .loop .inv .2 .long
+    c .before .before .loop .inv .2 .long
 
 returns : tie.Need-returns Inv-loop μ-loop
 returns c =
-    let e : c .before .loop .q ≡ c .before .before .before .before .before .args .count = omega arith in
-    (rw e at (c .before .loop .inv .1), c .before .loop .inv .3)
+    let e : c .before .before .loop .q ≡ c .before .before .before .before .before .args .sizes .states = omega arith in
+    (rw e at (c .before .before .loop .inv .1), c .before .before .loop .inv .3)
 
 pub last-layer-spec : {M : Type 1} → statement M
 last-layer-spec =

@@ -4,7 +4,7 @@ use mathlib.Core.Path.{_≡_, sym}
 use native.Mathlib.Omega.{arith}
 use Rattle.theory_tables.specs.Steps.{offset}
 use Rattle.search_lanes.specs.Laws.{frame-refl, state-ext}
-use Rattle.search_row.specs.Words.{deckOf}
+use Rattle.search_row.specs.Words.{deckIn}
 use Rattle.search_wide_segment.specs.Laws.{last-skip, last-take}
 use borrow.Author.Needs.{needs}
 use Rattle.search_wide_segment.proofs.last_state.Statement.{statement}
@@ -21,7 +21,7 @@ word-requires c κs = search needs
 
 add-if1-2 : tie.Need-add-if1-2
 add-if1-2 c =
-    let k = c .before .before .before .before in
+    let k = c .before .before .before in
     let g = k .pre .1 .ground in
     let h = k .pre .4 in
     omega (arith, c .word .ensures, g .coded .digit (k .args .q) (omega (arith, g .all)), g .coded .small (k .args .q) (omega (arith, g .all)))
@@ -37,12 +37,12 @@ returns c =
     let k = c .before .before .before .before .before in
     let a = k .args in
     let g = k .pre .1 .ground in
-    let e : suc (a .i) + offset (a .r) (a .q) ≡ a .tall + suc (a .r) → ⊥ =
-    λ h. c .if1 .taken (omega (arith, c .before .word .ensures, g .coded .digit (a .q) (omega (arith, g .all)))) in (
+    let e : suc (a .i) + offset (a .sizes .reordering) (a .q) ≡ a .tall + suc (a .sizes .reordering) → ⊥ =
+    λ h. c .if1 .taken (omega (arith, c .before .before .word .ensures, g .coded .digit (a .q) (omega (arith, g .all)))) in (
       record {
         frame = frame-refl _ _ _;
         low = k .pre .1 .low;
-        right = λ b x l y. sym (last-skip (deckOf (a .line .now) (a .n) (a .poses)) (a .r) (a .i) (a .tall) (a .store .now) (a .from) (a .costs) l (a .q) b e);
+        right = λ b x l y. sym (last-skip (deckIn (a .row .now) (a .sizes)) (a .sizes .reordering) (a .i) (a .tall) (a .store .now) (a .from) (a .costs) l (a .q) b e);
       },
       k .pre .0,
     )
@@ -58,24 +58,17 @@ returns-2 c =
     let k = c .before .before .before .before .before .before .before .before .before .before in
     let a = k .args in
     let g = k .pre .1 .ground in
-    let e : suc (a .i) + offset (a .r) (a .q) ≡ a .tall + suc (a .r) =
-    omega (arith, c .before .before .before .before .before .if1 .left, c .before .before .before .before .before .before .word .ensures, g .coded .digit (a .q) (omega (arith, g .all))) in (
+    let e : suc (a .i) + offset (a .sizes .reordering) (a .q) ≡ a .tall + suc (a .sizes .reordering) =
+    omega (arith, c .before .before .before .before .before .if1 .left, c .before .before .before .before .before .before .before .word .ensures, g .coded .digit (a .q) (omega (arith, g .all))) in (
       state-ext (c .before .before .target-block .ensures .0)
-          (λ b l x y. last-take (deckOf (a .line .now) (a .n) (a .poses)) (a .r) (a .i) (a .tall) (a .store .now) (a .from) (a .costs) l (a .q) b e),
+          (λ b l x y. last-take (deckIn (a .row .now) (a .sizes)) (a .sizes .reordering) (a .i) (a .tall) (a .store .now) (a .from) (a .costs) l (a .q) b e),
       c .before .before .target-block .ensures .1,
     )
+
+add-word : tie.Need-add-word
+add-word c = search needs
 
 pub last-state-spec : {M : Type 1} → statement M
 last-state-spec =
     tie.close
-    (tie.spec
-    add-if1
-    mul-word
-    word-requires
-    add-if1-2
-    add-if1-3
-    add-if1-4
-    returns
-    target-block-requires
-    same-length
-    returns-2)
+    (tie.spec add-if1 mul-word add-word word-requires add-if1-2 add-if1-3 add-if1-4 returns target-block-requires same-length returns-2)

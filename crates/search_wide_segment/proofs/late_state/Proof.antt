@@ -28,13 +28,13 @@ add-if1-3 c = search needs
 
 returns : tie.Need-returns
 returns c =
-    let k = c .before .before .before .before in
+    let k = c .before .before .before .before .before in
     let a = k .args in
-    let e : a .i + offset (a .r) (a .q) ≤ a .tall + suc (a .r) = omega (arith, c .if1 .taken, c .before .word .ensures, k .pre .0 .digit (a .q) (k .pre .3)) in
+    let e : a .i + offset (a .sizes .reordering) (a .q) ≤ a .tall + suc (a .sizes .reordering) = omega (arith, c .if1 .taken, c .before .before .word .ensures, k .pre .0 .digit (a .q) (k .pre .3)) in
     record {
       frame = frame-refl _ _ _;
       low = k .pre .1;
-      right = λ b x l y. sym (late-skip (a .r) (a .i) (a .tall) (a .store .now) (a .costs) l (a .q) b e);
+      right = λ b x l y. sym (late-skip (a .sizes .reordering) (a .i) (a .tall) (a .store .now) (a .costs) l (a .q) b e);
     }
 
 mul-fill-rows : tie.Need-mul-fill-rows
@@ -51,23 +51,15 @@ same-length c = search needs
 
 returns-2 : tie.Need-returns-2
 returns-2 c =
-    let k = c .before .before .before .before .before .before .before .before in
+    let k = c .before .before .before .before .before .before .before .before .before in
     let a = k .args in
-    let e : a .tall + suc (a .r) < a .i + offset (a .r) (a .q) = omega (arith, c .before .before .before .before .if1 .left, c .before .before .before .before .before .word .ensures, k .pre .0 .digit (a .q) (k .pre .3)) in
-    state-rows (omega arith) (c .before .before .fill-rows .ensures) (λ b l x y. late-take (a .r) (a .i) (a .tall) (a .store .now) (a .costs) l (a .q) b e)
+    let e : a .tall + suc (a .sizes .reordering) < a .i + offset (a .sizes .reordering) (a .q) = omega (arith, c .before .before .before .before .if1 .left, c .before .before .before .before .before .before .word .ensures, k .pre .0 .digit (a .q) (k .pre .3)) in
+    state-rows (omega arith) (c .before .before .fill-rows .ensures) (λ b l x y. late-take (a .sizes .reordering) (a .i) (a .tall) (a .store .now) (a .costs) l (a .q) b e)
+
+add-word : tie.Need-add-word
+add-word c = search needs
 
 pub late-state-spec : {M : Type 1} → statement M
 late-state-spec =
     tie.close
-    (tie.spec
-    mul-word
-    word-requires
-    add-if1
-    add-if1-2
-    add-if1-3
-    returns
-    mul-fill-rows
-    add-fill-rows
-    fill-rows-requires
-    same-length
-    returns-2)
+    (tie.spec mul-word add-word word-requires add-if1 add-if1-2 add-if1-3 returns mul-fill-rows add-fill-rows fill-rows-requires same-length returns-2)

@@ -3,7 +3,7 @@ use Prim.Native.Nat.{ℕ, _+_, _-_, _≤_, _<_}
 use mathlib.Core.Path.{_≡_, _∙_}
 use native.Mathlib.Omega.{arith}
 use lib.ListN.{length, getD}
-use Rattle.search_row.specs.Words.{deckOf}
+use Rattle.search_row.specs.Words.{deckIn}
 use Rattle.search_wide_buckets.specs.Table.{Lent}
 use Rattle.search_wide_segment.specs.Runs.{Outside, CostedRun}
 use Rattle.search_wide_segment.specs.Laws.{given-small, buffer-low, buffer-beside, costed-start, costed-step, costed-from, outside-join, outside-costs}
@@ -12,43 +12,43 @@ use Rattle.search_wide_segment.proofs.run_to.Statement.{statement}
 use Rattle.search_wide_segment.proofs.run_to.Tie as tie
 
 abbrev Inv-loop : tie.InvT-loop
-Inv-loop table₀ store₀ line states n poses r count lanes i tall costs from₀ d₀ table store from d =
-    (i + d ≤ 67) × CostedRun (deckOf line n poses) r lanes i tall d from costs store₀ store × Lent table × (d ≤ tall + r - i)
+Inv-loop table₀ store₀ row sizes lanes i tall costs r from₀ d₀ table store from d =
+    (i + d ≤ 67) × CostedRun (deckIn row sizes) (sizes .reordering) lanes i tall d from costs store₀ store × Lent table × (d ≤ tall + (sizes .reordering) - i)
 
 abbrev μ-loop : tie.MeasureT-loop
-μ-loop table₀ store₀ line states n poses r count lanes i tall costs from₀ d₀ table store from d =
-    tall + r - (i + d)
+μ-loop table₀ store₀ row sizes lanes i tall costs r from₀ d₀ table store from d =
+    tall + (sizes .reordering) - (i + d)
 
 -- the store is as long as it was, where the loop begins
-long : (c : tie.After-slice-known3 Inv-loop μ-loop) → length (c .before .before .deliver .last .0) ≡ length (c .before .before .before .before .before .before .before .before .before .before .before .args .store .now)
+long : (c : tie.After-slice-known3 Inv-loop μ-loop) → length (c .before .before .deliver .last .0) ≡ length (c .before .before .before .before .before .before .before .before .before .before .args .store .now)
 long c = c .before .before .deliver .ensures .frame .long ∙ c .before .before .before .before .before .before .fill-late .ensures .frame .long
 
 -- the first layer too
-kept : (c : tie.After-slice-known3 Inv-loop μ-loop) (k : ℕ) → k < 49152 → getD (c .before .before .deliver .last .0) k 0 ≡ getD (c .before .before .before .before .before .before .before .before .before .before .before .args .store .now) k 0
+kept : (c : tie.After-slice-known3 Inv-loop μ-loop) (k : ℕ) → k < 49152 → getD (c .before .before .deliver .last .0) k 0 ≡ getD (c .before .before .before .before .before .before .before .before .before .before .args .store .now) k 0
 kept c k h =
-    let p = c .before .before .before .before .before .before .before .before .before .before .before .pre .2 .over in
+    let p = c .before .before .before .before .before .before .before .before .before .before .pre .2 .over in
     c .before .before .deliver .ensures .frame .low k (omega arith) ∙ c .before .before .before .before .before .before .fill-late .ensures .frame .low k (omega arith)
 
 fill-late-requires : tie.Need-fill-late-requires Inv-loop μ-loop
 fill-late-requires c κs =
-    let k = c .before .before .before .before in
+    let k = c .before .before .before in
     let g = k .pre .1 in
     (g .ground .coded, g .low, k .pre .2, g .ground .all, g .ground .few, g .narrow, omega (arith, g .early), k .pre .3)
 
 deliver-requires : tie.Need-deliver-requires Inv-loop μ-loop
 deliver-requires c κs =
-    let k = c .before .before .before .before .before .before .before .before in
+    let k = c .before .before .before .before .before .before .before in
     let g = k .pre .1 in
     let w = c .before .before .before .fill-late .ensures in
     (g .ground .coded, w .low, record { over = k .pre .2 .over; room = omega (arith, k .pre .2 .room, w .frame .long) }, g .ground .all, g .ground .few, g .narrow, omega (arith, g .early), k .pre .3, omega arith)
 
 loop-holds : tie.Need-loop-holds Inv-loop μ-loop
 loop-holds c =
-    let k = c .before .before .before .before .before .before .before .before .before .before .before in
+    let k = c .before .before .before .before .before .before .before .before .before .before in
     let a = k .args in
     let g = k .pre .1 in (
       omega (arith, g .early),
-      costed-start (deckOf (a .line .now) (a .n) (a .poses)) (a .r) (a .lanes) (a .i) (a .tall) (a .costs) (a .count) (given-small g) (g .ground .all) (k .pre .2 .over)
+      costed-start (deckIn (a .row .now) (a .sizes)) (a .sizes .reordering) (a .lanes) (a .i) (a .tall) (a .costs) (a .sizes .states) (given-small g) (g .ground .all) (k .pre .2 .over)
           (c .before .before .before .before .before .before .fill-late .ensures) (c .before .before .deliver .ensures),
       k .pre .0,
       omega arith,
@@ -69,7 +69,7 @@ sub-step-layer c =
 
 step-layer-requires : tie.Need-step-layer-requires Inv-loop μ-loop
 step-layer-requires c κs =
-    let k = c .before .before .before .before .before .before .before .before .before .before .before .before .before .before .before in
+    let k = c .before .before .before .before .before .before .before .before .before .before .before .before .before .before in
     let g = k .pre .1 in
     let l = c .before .before .before .loop in
     let v = l .inv .1 in
@@ -89,7 +89,7 @@ add-deliver c = search needs
 
 deliver-requires-2 : tie.Need-deliver-requires-2 Inv-loop μ-loop
 deliver-requires-2 c κs =
-    let k = c .before .before .before .before .before .before .before .before .before .before .before .before .before .before .before .before .before .before .before in
+    let k = c .before .before .before .before .before .before .before .before .before .before .before .before .before .before .before .before .before .before in
     let g = k .pre .1 in
     let l = c .before .before .before .before .before .before .before .loop in
     let w = c .before .before .before .step-layer .ensures .0 in (
@@ -109,7 +109,7 @@ loop-less c = search needs
 
 loop-again : tie.Need-loop-again Inv-loop μ-loop
 loop-again c =
-    let k = c .before .before .before .before .before .before .before .before .before .before .before .before .before .before .before .before .before .before .before .before .before .before in
+    let k = c .before .before .before .before .before .before .before .before .before .before .before .before .before .before .before .before .before .before .before .before .before in
     let g = k .pre .1 in
     let l = c .before .before .before .before .before .before .before .before .before .before .loop in (
       omega (arith, g .ground .coded .reorder),
@@ -124,10 +124,10 @@ same-length c =
 
 returns : tie.Need-returns Inv-loop μ-loop
 returns c =
-    let k = c .before .before .before .before .before .before .before .before .before .before .before .before .before in
+    let k = c .before .before .before .before .before .before .before .before .before .before .before .before in
     let a = k .args in
     let l = c .before .loop in
-    let e : l .d ≡ a .tall + a .r - a .i = omega (arith, l .inv .3) in
+    let e : l .d ≡ a .tall + a .sizes .reordering - a .i = omega (arith, l .inv .3) in
     let o : Outside (a .costs) 49152 (a .store .now) (c .before .before .before .before .deliver .last .0) =
     outside-join (outside-costs (c .before .before .before .before .before .before .before .before .fill-late .ensures .frame) (omega arith) (omega arith))
     (outside-costs (c .before .before .before .before .deliver .ensures .frame) (omega arith) (omega arith)) in

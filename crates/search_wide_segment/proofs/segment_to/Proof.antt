@@ -16,7 +16,7 @@ same-length c = search needs
 
 returns : tie.Need-returns
 returns c =
-    let w = c .before .before .before .run-to .ensures in
+    let w = c .before .before .before .before .run-to .ensures in
     (costed-past (w .0) (omega (arith, c .if1 .taken)), w .1)
 
 add-last-layer : tie.Need-add-last-layer
@@ -24,10 +24,10 @@ add-last-layer c = search needs
 
 last-layer-requires : tie.Need-last-layer-requires
 last-layer-requires c κs =
-    let k = c .before .before .before .before .before .before .before .before .before .before .before in
+    let k = c .before .before .before .before .before .before .before .before .before .before .before .before in
     let g = k .pre .1 in
     let p = k .pre .2 in
-    let w = c .before .before .before .before .before .run-to .ensures in
+    let w = c .before .before .before .before .before .before .before .run-to .ensures in
     let v = w .0 in
     let b = v .running .buffer in (
       w .1,
@@ -47,10 +47,10 @@ same-length-2 c = search needs
 
 returns-2 : tie.Need-returns-2
 returns-2 c =
-    let k = c .before .before .before .before .before .before .before .before .before .before .before .before .before .before in
-    let w = c .before .before .before .before .before .before .before .before .run-to .ensures in
+    let k = c .before .before .before .before .before .before .before .before .before .before .before .before .before .before .before in
+    let w = c .before .before .before .before .before .before .before .before .before .before .run-to .ensures in
     let f = c .before .before .last-layer .ensures in
-    (costed-last (k .pre .1 .ground .all) (w .0) (omega (arith, c .before .before .before .before .before .if1 .left)) (f .0), f .1)
+    (costed-last (k .pre .1 .ground .all) (w .0) (omega (arith, c .before .before .before .before .before .before .if1 .left)) (f .0), f .1)
 
 pub segment-to-spec : {M : Type 1} → statement M
 segment-to-spec =

@@ -1,21 +1,20 @@
 -- Stage 0 ends at the first tall cell, or at the row's end.
 use native.Mathlib.Omega.{arith}
 use borrow.Author.Needs.{needs}
-use Rattle.search_row.specs.Words.{deckOf}
-use Rattle.search_stage.specs.Stage.{posIn}
+use Rattle.search_row.specs.Words.{deckIn, posIn}
 use Rattle.search_stage.specs.Rows.{open-tall, open-last}
 use Rattle.search_stage.proofs.row.open_cost.Statement.{statement}
 use Rattle.search_stage.proofs.row.open_cost.Tie as tie
 
-word-requires : tie.Need-word-requires
-word-requires c κs = search needs
+tall-at-requires : tie.Need-tall-at-requires
+tall-at-requires c κs = search needs
 
 open-to-requires : tie.Need-open-to-requires
 unfolding posIn
 open-to-requires c κs =
-    let k = c .before .before .before .before .before .before .before in
+    let k = c .before .before .before .before .before .before in
     let g = k .pre .0 in
-    (g .ground, k .pre .1, omega (arith, c .before .word .ensures, g .inside 0 (c .before .before .if1 .taken), g .ground .size))
+    (g .ground, k .pre .1, omega (arith, c .before .tall-at .ensures, g .inside 0 (c .before .before .if1 .taken), g .ground .size))
 
 same-length : tie.Need-same-length
 same-length c = search needs
@@ -23,8 +22,8 @@ same-length c = search needs
 returns : tie.Need-returns
 unfolding posIn
 returns c =
-    let a = c .before .before .before .before .before .before .before .before .before .before .args in
-    open-tall (deckOf (a .line .now) (a .n) (a .poses)) (a .r) (a .talls) (posIn (a .places .now)) (c .before .before .before .before .before .if1 .taken) (c .before .before .before .before .word .ensures) (c .before .before .open-to .ensures)
+    let a = c .before .before .before .before .before .before .before .before .before .args in
+    open-tall (deckIn (a .row .now) (a .sizes)) (a .sizes .reordering) (a .sizes .talls) (posIn (a .row .now)) (c .before .before .before .before .before .if1 .taken) (c .before .before .before .before .tall-at .ensures) (c .before .before .open-to .ensures)
 
 open-end-requires : tie.Need-open-end-requires
 open-end-requires c κs = search needs
@@ -34,14 +33,14 @@ same-length-2 c = search needs
 
 returns-2 : tie.Need-returns-2
 returns-2 c =
-    let a = c .before .before .before .before .before .before .before .before .before .args in
-    open-last (deckOf (a .line .now) (a .n) (a .poses)) (a .r) (a .talls) (posIn (a .places .now)) (a .count) (omega (arith, c .before .before .before .before .if1 .left)) (c .before .before .open-end .ensures)
+    let a = c .before .before .before .before .before .before .before .before .args in
+    open-last (deckIn (a .row .now) (a .sizes)) (a .sizes .reordering) (a .sizes .talls) (posIn (a .row .now)) (a .sizes .states) (omega (arith, c .before .before .before .before .if1 .left)) (c .before .before .open-end .ensures)
 
 pub open-cost-spec : {M : Type 1} → statement M
 open-cost-spec =
     tie.close
     (tie.spec
-    word-requires
+    tall-at-requires
     open-to-requires
     same-length
     returns

@@ -1,8 +1,7 @@
 -- The costs of stage 0; else the first layer, then the segment on from it.
 use Prim.Native.Nat.{_+_, _-_}
 use mathlib.Core.Path.{_≡_, refl}
-use Rattle.search_row.specs.Words.{deckOf}
-use Rattle.search_stage.specs.Stage.{posIn}
+use Rattle.search_row.specs.Words.{deckIn, posIn}
 use Rattle.search_stage.specs.Laws.{width-room}
 use Rattle.search_stage.specs.Rows.{row-open, row-after, start-place, start-state, zeros-low}
 use native.Mathlib.Omega.{arith}
@@ -12,7 +11,7 @@ use Rattle.search_stage.proofs.row.row_cost.Tie as tie
 
 open-cost-requires : tie.Need-open-cost-requires
 open-cost-requires c κs =
-    let k = c .before .before .before .before .before .before in
+    let k = c .before .before .before .before in
     (k .pre .1, k .pre .2)
 
 same-length : tie.Need-same-length
@@ -20,34 +19,31 @@ same-length c = search needs
 
 returns : tie.Need-returns
 returns c =
-    let k = c .before .before .before .before .before .before .before .before .before in
+    let k = c .before .before .before .before .before .before .before in
     let a = k .args in
-    (row-open (deckOf (a .line .now) (a .n) (a .poses)) (a .r) (a .talls) (posIn (a .places .now)) (a .count) (a .s) (c .before .before .before .before .if1 .taken) (c .before .before .open-cost .ensures), k .pre .0)
+    (row-open (deckIn (a .row .now) (a .sizes)) (a .sizes .reordering) (a .sizes .talls) (posIn (a .row .now)) (a .sizes .states) (a .s) (c .before .before .before .before .if1 .taken) (c .before .before .open-cost .ensures), k .pre .0)
 
-sub-word : tie.Need-sub-word
-sub-word c = search needs
-
-word-requires : tie.Need-word-requires
-word-requires c κs = search needs
+tall-at-requires : tie.Need-tall-at-requires
+tall-at-requires c κs = search needs
 
 placed-with-requires : tie.Need-placed-with-requires
 placed-with-requires c κs =
-    let k = c .before .before .before .before .before .before in
-    let s = start-state (k .args .talls) (k .args .i) (k .args .count) (k .args .s) (k .pre .4) (c .before .if1 .left) (k .pre .3) in
-    (k .pre .1 .ground .coded, omega (arith, k .pre .1 .ground .all), start-place (k .args .i) (c .word .result) (k .pre .1) (c .before .if1 .left) (k .pre .3) (c .word .ensures))
+    let k = c .before .before .before .before in
+    let s = start-state (k .args .sizes .talls) (k .args .i) (k .args .sizes .states) (k .args .s) (k .pre .4) (c .before .if1 .left) (k .pre .3) in
+    (k .pre .1 .ground .coded, omega (arith, k .pre .1 .ground .all), start-place (k .args .i) (c .tall-at .result) (k .pre .1) (c .before .if1 .left) (k .pre .3) (c .tall-at .ensures))
 
 width-of-requires : tie.Need-width-of-requires
 width-of-requires c κs =
-    let k = c .before .before .before .before .before .before .before in
+    let k = c .before .before .before .before .before in
     k .pre .1 .ground .few
 
 first-layer-requires : tie.Need-first-layer-requires
 first-layer-requires c κs =
-    let k = c .before .before .before .before .before .before .before .before .before .before in
+    let k = c .before .before .before .before .before .before .before .before in
     let g = k .pre .1 .ground in
-    let s = start-state (k .args .talls) (k .args .i) (k .args .count) (k .args .s) (k .pre .4) (c .before .before .before .before .before .if1 .left) (k .pre .3) in
-    let p = start-place (k .args .i) (c .before .before .before .before .word .result) (k .pre .1) (c .before .before .before .before .before .if1 .left) (k .pre .3) (c .before .before .before .before .word .ensures) in
-    let w = width-room (k .args .poses) (g .few) in
+    let s = start-state (k .args .sizes .talls) (k .args .i) (k .args .sizes .states) (k .args .s) (k .pre .4) (c .before .before .before .before .before .if1 .left) (k .pre .3) in
+    let p = start-place (k .args .i) (c .before .before .before .before .tall-at .result) (k .pre .1) (c .before .before .before .before .before .if1 .left) (k .pre .3) (c .before .before .before .before .tall-at .ensures) in
+    let w = width-room (k .args .sizes .poses) (g .few) in
     let r = k .pre .2 in (
       k .pre .0,
       record { ground = g; low = k .pre .2 .low; narrow = omega (arith, c .before .before .width-of .ensures, w .1); early = omega (arith, c .before .before .before .placed-with .ensures, g .coded .reorder); room = omega (arith, r .over, r .room) },
@@ -58,27 +54,27 @@ first-layer-requires c κs =
 
 backs-requires : tie.Need-backs-requires
 backs-requires c κs =
-    let k = c .before .before .before .before .before .before .before .before .before .before .before .before .before .before in
+    let k = c .before .before .before .before .before .before .before .before .before .before .before .before in
     let g = k .pre .1 .ground in
-    (g .row, zeros-low 64, refl, start-place (k .args .i) (c .before .before .before .before .before .before .before .before .word .result) (k .pre .1) (c .before .before .before .before .before .before .before .before .before .if1 .left) (k .pre .3) (c .before .before .before .before .before .before .before .before .word .ensures), g .few)
+    (g .words, zeros-low 64, refl, start-place (k .args .i) (c .before .before .before .before .before .before .before .before .tall-at .result) (k .pre .1) (c .before .before .before .before .before .before .before .before .before .if1 .left) (k .pre .3) (c .before .before .before .before .before .before .before .before .tall-at .ensures), g .few)
 
 add-stage-end : tie.Need-add-stage-end
 add-stage-end c =
-    let k = c .before .before .before .before .before .before .before .before .before .before .before .before .before .before .before .before .before .before in
-    let p = start-place (k .args .i) (c .before .before .before .before .before .before .before .before .before .before .before .before .word .result) (k .pre .1) (c .before .before .before .before .before .before .before .before .before .before .before .before .before .if1 .left) (k .pre .3) (c .before .before .before .before .before .before .before .before .before .before .before .before .word .ensures) in
+    let k = c .before .before .before .before .before .before .before .before .before .before .before .before .before .before .before .before in
+    let p = start-place (k .args .i) (c .before .before .before .before .before .before .before .before .before .before .before .before .tall-at .result) (k .pre .1) (c .before .before .before .before .before .before .before .before .before .before .before .before .before .if1 .left) (k .pre .3) (c .before .before .before .before .before .before .before .before .before .before .before .before .tall-at .ensures) in
     omega (arith, c .before .before .before .before .before .before .before .before .before .before .before .placed-with .ensures, k .pre .1 .ground .coded .reorder)
 
 stage-end-requires : tie.Need-stage-end-requires
 stage-end-requires c κs =
-    let k = c .before .before .before .before .before .before .before .before .before .before .before .before .before .before .before .before .before .before in
+    let k = c .before .before .before .before .before .before .before .before .before .before .before .before .before .before .before .before in
     let g = k .pre .1 .ground in
-    let p = start-place (k .args .i) (c .before .before .before .before .before .before .before .before .before .before .before .before .word .result) (k .pre .1) (c .before .before .before .before .before .before .before .before .before .before .before .before .before .if1 .left) (k .pre .3) (c .before .before .before .before .before .before .before .before .before .before .before .before .word .ensures) in
+    let p = start-place (k .args .i) (c .before .before .before .before .before .before .before .before .before .before .before .before .tall-at .result) (k .pre .1) (c .before .before .before .before .before .before .before .before .before .before .before .before .before .if1 .left) (k .pre .3) (c .before .before .before .before .before .before .before .before .before .before .before .before .tall-at .ensures) in
     let f = c .before .before .before .before .before .before .before .first-layer .ensures .0 in
     let b = c .before .before .before .backs .ensures in
     let r = k .pre .2 in (
       c .before .before .before .before .before .before .before .first-layer .ensures .1,
       k .pre .1,
-      record { ground = g; low = f .low; narrow = omega (arith, c .before .before .before .before .before .before .before .before .before .before .width-of .ensures, width-room (k .args .poses) (g .few) .1); early = omega (arith, c .before .before .before .before .before .before .before .before .before .before .before .placed-with .ensures, g .coded .reorder); room = omega (arith, r .over, r .room, f .frame .long) },
+      record { ground = g; low = f .low; narrow = omega (arith, c .before .before .before .before .before .before .before .before .before .before .width-of .ensures, width-room (k .args .sizes .poses) (g .few) .1); early = omega (arith, c .before .before .before .before .before .before .before .before .before .before .before .placed-with .ensures, g .coded .reorder); room = omega (arith, r .over, r .room, f .frame .long) },
       record { over = omega (arith, r .over); room = omega (arith, r .room, f .frame .long) },
       b .low,
       b .frame .long,
@@ -90,30 +86,20 @@ same-length-2 c = search needs
 returns-2 : tie.Need-returns-2
 unfolding posIn
 returns-2 c =
-    let k = c .before .before .before .before .before .before .before .before .before .before .before .before .before .before .before .before .before .before .before .before .before in
+    let k = c .before .before .before .before .before .before .before .before .before .before .before .before .before .before .before .before .before .before .before in
     let a = k .args in (
-      row-after (deckOf (a .line .now) (a .n) (a .poses)) (a .r) (a .talls) (posIn (a .places .now)) (a .i) (a .i - 1) (a .count) (a .s)
-          (c .before .before .before .before .before .before .before .before .before .before .before .before .before .before .before .word .result) (c .before .before .before .before .before .before .before .before .before .before .before .before .before .before .placed-with .result) (c .before .before .before .before .before .before .backs .last .0) (omega (arith, c .before .before .before .before .before .before .before .before .before .before .before .before .before .before .before .before .if1 .left)) (k .pre .3) (omega (arith, c .before .before .before .before .before .before .before .before .before .before .before .before .before .width-of .ensures, width-room (a .poses) (k .pre .1 .ground .few) .0)) (k .pre .1 .ground .all)
-          (c .before .before .before .before .before .before .before .before .before .before .before .before .before .before .before .word .ensures) (c .before .before .before .before .before .before .before .before .before .before .before .before .before .before .placed-with .ensures)
+      row-after (deckIn (a .row .now) (a .sizes)) (a .sizes .reordering) (a .sizes .talls) (posIn (a .row .now)) (a .i) (a .i - 1) (a .sizes .states) (a .s)
+          (c .before .before .before .before .before .before .before .before .before .before .before .before .before .before .before .tall-at .result) (c .before .before .before .before .before .before .before .before .before .before .before .before .before .before .placed-with .result) (c .before .before .before .before .before .before .backs .last .0) (omega (arith, c .before .before .before .before .before .before .before .before .before .before .before .before .before .before .before .before .if1 .left)) (k .pre .3) (omega (arith, c .before .before .before .before .before .before .before .before .before .before .before .before .before .width-of .ensures, width-room (a .sizes .poses) (k .pre .1 .ground .few) .0)) (k .pre .1 .ground .all)
+          (c .before .before .before .before .before .before .before .before .before .before .before .before .before .before .before .tall-at .ensures) (c .before .before .before .before .before .before .before .before .before .before .before .before .before .before .placed-with .ensures)
           (λ l h. let z : 0 + l ≡ l = omega arith in rw z at (c .before .before .before .before .before .before .backs .ensures .words l h))
           (c .before .before .before .before .before .before .before .before .before .before .first-layer .ensures .0) (c .before .before .stage-end .ensures .0),
       c .before .before .stage-end .ensures .1,
     )
 
+sub-tall-at : tie.Need-sub-tall-at
+sub-tall-at c = search needs
+
 pub row-cost-spec : {M : Type 1} → statement M
 row-cost-spec =
     tie.close
-    (tie.spec
-    open-cost-requires
-    same-length
-    returns
-    sub-word
-    word-requires
-    placed-with-requires
-    width-of-requires
-    first-layer-requires
-    backs-requires
-    add-stage-end
-    stage-end-requires
-    same-length-2
-    returns-2)
+    (tie.spec open-cost-requires same-length returns sub-tall-at tall-at-requires placed-with-requires width-of-requires first-layer-requires backs-requires add-stage-end stage-end-requires same-length-2 returns-2)

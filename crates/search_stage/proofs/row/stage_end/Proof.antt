@@ -1,21 +1,21 @@
 -- A stage ends at tall cell i, or at the row's end.
-use Rattle.search_row.specs.Words.{deckOf}
-use Rattle.search_stage.specs.Stage.{posIn}
+
+use Rattle.search_row.specs.Words.{deckIn, posIn}
 use Rattle.search_stage.specs.Rows.{row-tall, row-last}
 use native.Mathlib.Omega.{arith}
 use borrow.Author.Needs.{needs}
 use Rattle.search_stage.proofs.row.stage_end.Statement.{statement}
 use Rattle.search_stage.proofs.row.stage_end.Tie as tie
 
-word-requires : tie.Need-word-requires
-word-requires c κs = search needs
+tall-at-requires : tie.Need-tall-at-requires
+tall-at-requires c κs = search needs
 
 segment-to-requires : tie.Need-segment-to-requires
 unfolding posIn
 segment-to-requires c κs =
-    let k = c .before .before .before .before .before .before .before .before in
+    let k = c .before .before .before .before .before .before .before in
     let g = k .pre .1 in
-    (k .pre .0, k .pre .2, k .pre .3, omega (arith, c .before .before .word .ensures, g .inside (k .args .i) (c .before .before .before .if1 .taken), g .ground .size))
+    (k .pre .0, k .pre .2, k .pre .3, omega (arith, c .before .before .tall-at .ensures, g .inside (k .args .i) (c .before .before .before .if1 .taken), g .ground .size))
 
 same-length : tie.Need-same-length
 same-length c = search needs
@@ -23,9 +23,9 @@ same-length c = search needs
 returns : tie.Need-returns
 unfolding posIn
 returns c =
-    let k = c .before .before .before .before .before .before .before .before .before .before .before in
+    let k = c .before .before .before .before .before .before .before .before .before .before in
     let a = k .args in
-    (row-tall (deckOf (a .line .now) (a .n) (a .poses)) (a .r) (a .talls) (posIn (a .places .now)) (a .starts .now) (c .before .before .before .before .before .before .if1 .taken) (k .pre .1 .ground .all) (c .before .before .before .before .before .word .ensures) (c .before .before .segment-to .ensures .0), c .before .before .segment-to .ensures .1)
+    (row-tall (deckIn (a .row .now) (a .sizes)) (a .sizes .reordering) (a .sizes .talls) (posIn (a .row .now)) (a .starts .now) (c .before .before .before .before .before .before .if1 .taken) (k .pre .1 .ground .all) (c .before .before .before .before .before .tall-at .ensures) (c .before .before .segment-to .ensures .0), c .before .before .segment-to .ensures .1)
 
 segment-end-requires : tie.Need-segment-end-requires
 segment-end-requires c κs = search needs
@@ -35,15 +35,15 @@ same-length-2 c = search needs
 
 returns-2 : tie.Need-returns-2
 returns-2 c =
-    let k = c .before .before .before .before .before .before .before .before .before .before in
+    let k = c .before .before .before .before .before .before .before .before .before in
     let a = k .args in
-    (row-last (deckOf (a .line .now) (a .n) (a .poses)) (a .r) (a .talls) (posIn (a .places .now)) (a .count) (c .before .before .before .before .before .if1 .left) (c .before .before .segment-end .ensures .0), c .before .before .segment-end .ensures .1)
+    (row-last (deckIn (a .row .now) (a .sizes)) (a .sizes .reordering) (a .sizes .talls) (posIn (a .row .now)) (a .sizes .states) (c .before .before .before .before .before .if1 .left) (c .before .before .segment-end .ensures .0), c .before .before .segment-end .ensures .1)
 
 pub stage-end-spec : {M : Type 1} → statement M
 stage-end-spec =
     tie.close
     (tie.spec
-    word-requires
+    tall-at-requires
     segment-to-requires
     same-length
     returns

@@ -1,8 +1,8 @@
 -- The digit of state s is in the states' words.
 use native.Mathlib.Omega.{arith}
 use borrow.Author.Needs.{needs}
-use Rattle.search_stage.proofs.placed_with.Statement.{statement}
-use Rattle.search_stage.proofs.placed_with.Tie as tie
+use Rattle.search_row.proofs.placed_with.Statement.{statement}
+use Rattle.search_row.proofs.placed_with.Tie as tie
 
 add-all : tie.Need-add-all
 add-all c = search needs
@@ -12,6 +12,9 @@ add-all-2 c = search needs
 
 mul-word : tie.Need-mul-word
 mul-word c = search needs
+
+add-word : tie.Need-add-word
+add-word c = search needs
 
 word-requires : tie.Need-word-requires
 word-requires c κs = search needs
@@ -27,4 +30,4 @@ returns-2 c =
     omega (arith, k .pre .0 .digit (k .args .s) (k .pre .1))
 
 pub placed-with-spec : {M : Type 1} → statement M
-placed-with-spec = tie.close (tie.spec add-all add-all-2 mul-word word-requires returns returns-2)
+placed-with-spec = tie.close (tie.spec add-all add-all-2 mul-word add-word word-requires returns returns-2)

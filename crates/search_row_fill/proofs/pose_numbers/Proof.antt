@@ -2,8 +2,8 @@
 use mathlib.Core.Path.{refl}
 use Rattle.job.specs.Value.{headerOf, jobOf}
 use borrow.Author.Needs.{needs}
-use Rattle.search.proofs.pose_numbers.Statement.{statement}
-use Rattle.search.proofs.pose_numbers.Tie as tie
+use Rattle.search_row_fill.proofs.pose_numbers.Statement.{statement}
+use Rattle.search_row_fill.proofs.pose_numbers.Tie as tie
 
 cast-d : tie.Need-cast-d
 cast-d c = search needs

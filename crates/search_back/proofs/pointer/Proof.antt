@@ -5,8 +5,8 @@ use native.Mathlib.Omega.{arith}
 use lib.ListN.{getD}
 use borrow.Author.Needs.{needs}
 use Rattle.search_join.specs.Tables.{pointersIn}
-use Rattle.search_back.proofs.source.Statement.{statement}
-use Rattle.search_back.proofs.source.Tie as tie
+use Rattle.search_back.proofs.pointer.Statement.{statement}
+use Rattle.search_back.proofs.pointer.Tie as tie
 
 add-pointer-at : tie.Need-add-pointer-at
 add-pointer-at c = search needs
@@ -25,5 +25,5 @@ unfolding pointersIn
 returns c =
     c .word .ensures ∙ ap (λ (k : ℕ). getD (c .before .before .before .args .store .now) k 0) (omega arith)
 
-pub source-spec : {M : Type 1} → statement M
-source-spec = tie.close (tie.spec add-pointer-at pointer-at-requires add-word word-requires returns)
+pub pointer-spec : {M : Type 1} → statement M
+pointer-spec = tie.close (tie.spec add-pointer-at pointer-at-requires add-word word-requires returns)

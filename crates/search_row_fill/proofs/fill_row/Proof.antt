@@ -1,0 +1,67 @@
+-- The cells first, which leave zeros beyond them; then the positions of the tall ones and the states, which leave the cells as they are.
+use mathlib.Core.Path.{sym, _∙_}
+use native.Mathlib.Omega.{arith}
+use borrow.Author.Needs.{needs}
+use Rattle.job.specs.Value.{headerOf, jobOf}
+use Rattle.search_row_fill.specs.Ready.{cells-talls, zeros-small, row-ready}
+use Rattle.search_row_fill.proofs.fill_row.Statement.{statement}
+use Rattle.search_row_fill.proofs.fill_row.Tie as tie
+
+fill-line-requires : tie.Need-fill-line-requires
+fill-line-requires c κs = search needs
+
+slice-aggregate-fill-talls : tie.Need-slice-aggregate-fill-talls
+slice-aggregate-fill-talls c = search needs
+
+fill-talls-requires : tie.Need-fill-talls-requires
+fill-talls-requires c κs =
+    let k = c .before .before .before .before .before .before .before in
+    let f = c .before .before .before .before .fill-line .ensures in
+    let t = cells-talls (k .pre .0) f in
+    (t .0, omega (arith, f .long), omega (arith, t .1), zeros-small 32)
+
+put-talls-requires : tie.Need-put-talls-requires
+put-talls-requires c κs =
+    let f = c .before .before .before .before .before .before .before .before .fill-line .ensures in
+    (f .long, f .low, omega arith, c .before .before .before .fill-talls .ensures .small)
+
+pose-numbers-requires : tie.Need-pose-numbers-requires
+pose-numbers-requires c κs = search needs
+
+cast-reordering : tie.Need-cast-reordering
+cast-reordering c = search needs
+
+fill-states-requires : tie.Need-fill-states-requires
+unfolding jobOf headerOf
+fill-states-requires c κs =
+    let k = c .before .before .before .before .before .before .before .before .before .before .before .before .before .before .before .before .before in
+    let f = c .before .before .before .before .before .before .before .before .before .before .before .before .before .before .fill-line .ensures in
+    let w = c .before .before .before .before .before .put-talls .ensures in
+    (omega (arith, f .long, w .frame .long), w .low, omega (arith, k .pre .0 .header .reordering))
+
+same-length : tie.Need-same-length
+same-length c = search needs
+
+returns : tie.Need-returns
+unfolding jobOf headerOf
+returns c =
+    let k = c .before .before .before .before .before .before .before .before .before .before .before .before .before .before .before .before .before .before .before .before in
+    let f = c .before .before .before .before .before .before .before .before .before .before .before .before .before .before .before .before .before .fill-line .ensures in
+    let t = c .before .before .before .before .before .before .before .before .before .before .before .before .fill-talls .ensures in
+    let w = c .before .before .before .before .before .before .before .before .put-talls .ensures in
+    rw (c .before .before .before .before .before .pose-numbers .ensures)
+    (row-ready (k .pre .0) f t w (c .before .before .fill-states .ensures))
+
+pub fill-row-spec : {M : Type 1} → statement M
+fill-row-spec =
+    tie.close
+    (tie.spec
+    fill-line-requires
+    slice-aggregate-fill-talls
+    fill-talls-requires
+    put-talls-requires
+    pose-numbers-requires
+    cast-reordering
+    fill-states-requires
+    same-length
+    returns)
