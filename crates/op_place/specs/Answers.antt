@@ -23,8 +23,6 @@ use Rattle.job.specs.declared.Placement.{Placement}
 use Rattle.job.specs.Value.{jobOf, placementOf}
 use Rattle.score_words.specs.Ready.{Ready}
 use Rattle.job.specs.Cells.{pose-there}
-use Rattle.theory_tables.specs.Steps.{B}
-use Rattle.search.specs.Solved.{Solved}
 use Rattle.op_place.specs.Accepted.{Answered, placementIn, Chosen}
 use Rattle.op_place.specs.Poses.{Numbered}
 use Rattle.op_place.specs.Fields.{Wrote}
@@ -70,9 +68,6 @@ module _ (job : Job) (poses : List ℕ) (room : ℕ) (t : Chosen job poses room)
   }
 
 -- ---- what is found
-
-pub found : (j : paper.Job) (least : ℕ) (poses : List ℕ) → Solved j least poses → (least ≡ B → ⊥) → least < B
-found j least poses s z = omega (arith, s .low, z)
 
 module _ (store output : List ℕ) (results : List ℤ) where
   -- 8: nothing is written to the output, and the store is zero

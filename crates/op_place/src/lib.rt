@@ -116,8 +116,8 @@ fn place_job(job: Job, store: &mut [u32], output: &mut [u8], results: &mut [i32]
 {
     let found = search(job, &mut *store);
     search_lanes::clear(store);
-    let cost = found.cost;
-    if cost == search_lanes::NONE {
+    let some = found.some;
+    if !some {
         refuse(results, 8, 0);
         return 8;
     }

@@ -1,10 +1,12 @@
 -- From the stages and the trace to the answer: the least cost, and the placement that both paths note.
 use Prim.Native.Nat.{ℕ, suc, _+_, _≤_, _<_}
 use mathlib.Core.Path.{_≡_, refl, sym, ap, _∙_, subst}
+use mathlib.Core.Bool.{true, false, true≢false, false≢true}
 use mathlib.Core.Option.{some}
 use mathlib.Core.List.{List}
 use native.Mathlib.Omega.{arith}
 use lib.ListN.{length, getD}
+use Rattle.search_store.specs.Map.{caseAt}
 use Rattle.definition.specs.Job.{Job}
 use Rattle.definition.specs.Cost.{cost}
 use Rattle.definition.specs.Moves.{Cheapest}
@@ -20,7 +22,6 @@ use Rattle.search_lanes.specs.Store.{Low}
 use Rattle.search_row.specs.declared.Sizes.{Sizes}
 use Rattle.search_row.specs.Words.{deckOf, posIn}
 use Rattle.search_row_fill.specs.Ready.{sizesOf}
-use Rattle.search_join.specs.Places.{caseAt}
 use Rattle.search_join.specs.Tables.{casesIn}
 use Rattle.search_stage.specs.Stage.{wide, StagesDone, RowsStages}
 use Rattle.search_stage.specs.Laws.{wide-last}
@@ -107,20 +108,27 @@ module _ {j : Job} {words₀ words₁ : List ℕ} {sizes : Sizes} {n₁ : ℕ} (
   as-searched : found ≡ searchedCost j D₀ D₁ (posIn words₀) (posIn words₁)
   as-searched = ap (λ (t : ℕ). leastCost D₀ D₁ (reorder j) t (posIn words₀) (posIn words₁)) (r .first .talls)
 
-  pub none-solved : {old new : List ℕ} {x y : ℕ} {out : List ℕ} → Costed j words₀ words₁ n₀ n₁ talls old new y → B ≤ y → x ≡ B → ((k : ℕ) → getD out k 0 < 64) → Solved j x out
-  none-solved {y = y} c h z small = record {
-    low = omega arith;
-    none-when = λ _. claim-none j (r .sound) D₀ D₁ (posIn words₀) (posIn words₁) (ready-searched (r .first)) (ready-searched (r .second)) refl (sym as-searched ∙ sym (c .cost) ∙ whole);
-    some-when = λ h. absurd (omega arith);
-    stated = λ h. absurd (omega arith);
+  pub none-solved : {old new : List ℕ} {x y : ℕ} {out : List ℕ}
+      → Costed j words₀ words₁ n₀ n₁ talls old new y → B ≤ y → ((k : ℕ) → getD out k 0 < 64) → Solved j false x out
+  none-solved {y = y} c h small = record {
+    none-when = λ _.
+        claim-none j (r .sound) D₀ D₁ (posIn words₀) (posIn words₁) (ready-searched (r .first)) (ready-searched (r .second)) refl
+        (sym as-searched ∙ sym (c .cost) ∙ whole);
+    some-when = λ e. absurd (false≢true e);
+    stated = λ e. absurd (false≢true e);
     numbers = small;
   }
     where
       whole : y ≡ B
       whole = omega (arith, c .low)
 
-  pub some-solved : {x : ℕ} {out : List ℕ} → x < B → x ≡ found → Answered j words₀ words₁ n₀ n₁ talls out → Solved j x out
-  some-solved h e a = record { low = omega arith; none-when = λ z. absurd (omega arith); some-when = λ _. a .cheapest; stated = λ _. a .stated ∙ sym e; numbers = a .numbers }
+  pub some-solved : {x : ℕ} {out : List ℕ} → x ≡ found → Answered j words₀ words₁ n₀ n₁ talls out → Solved j true x out
+  some-solved e a = record {
+    none-when = λ e. absurd (true≢false e);
+    some-when = λ _. a .cheapest;
+    stated = λ _. a .stated ∙ sym e;
+    numbers = a .numbers;
+  }
 
   -- ---- the trace
 

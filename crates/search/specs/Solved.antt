@@ -1,6 +1,7 @@
 -- What the search is given, and what it finds.
 use Prim.Native.Nat.{ℕ, _≤_, _<_}
 use mathlib.Core.Path.{_≡_}
+use mathlib.Core.Bool.{Bool, true, false}
 use mathlib.Core.Option.{none, some}
 use mathlib.Core.List.{List}
 use lib.ListN.{length, getD}
@@ -10,7 +11,6 @@ use Rattle.definition.specs.Moves.{Cheapest}
 use Rattle.definition_laws.specs.Sound.{Sound}
 use Rattle.job.specs.declared.Job.{Job}
 use Rattle.job.specs.Value.{jobOf}
-use Rattle.theory_tables.specs.Steps.{B}
 use Rattle.theory_claim.specs.Claim.{placementByNumbers}
 
 -- an accepted job, and a store that is large enough, whatever its words
@@ -23,10 +23,9 @@ pub record Asked (job : Job) (store : List ℕ) : Type 0 where
 abbrev pub numbersIn : List ℕ → ℕ → ℕ
 numbersIn poses k = getD poses k 0
 
--- a cost below B with the pose numbers of a cheapest placement of that cost, or B where there is none
-pub record Solved (j : paper.Job) (least : ℕ) (poses : List ℕ) : Type 0 where
-  pub low : least ≤ B
-  pub none-when : least ≡ B → Cheapest j none
-  pub some-when : least < B → Cheapest j (some (placementByNumbers j (numbersIn poses)))
-  pub stated : least < B → cost j (placementByNumbers j (numbersIn poses)) ≡ least
+-- nothing, where no list of moves ends legally; otherwise the pose numbers of a cheapest placement, and its cost
+pub record Solved (j : paper.Job) (found : Bool) (least : ℕ) (poses : List ℕ) : Type 0 where
+  pub none-when : found ≡ false → Cheapest j none
+  pub some-when : found ≡ true → Cheapest j (some (placementByNumbers j (numbersIn poses)))
+  pub stated : found ≡ true → cost j (placementByNumbers j (numbersIn poses)) ≡ least
   pub numbers : (k : ℕ) → getD poses k 0 < 64

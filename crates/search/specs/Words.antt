@@ -5,11 +5,11 @@ use mathlib.Core.List.{List, _++_}
 use native.Mathlib.Omega.{arith}
 use lib.ListN.{length, take, drop, replicate, length-replicate}
 use lib.Seq.{length-take-le, length-front, take-at}
+use Rattle.search_store.specs.Map.{pageAt}
 use Rattle.theory_tables.specs.Steps.{stateCount}
 use Rattle.theory_tables.specs.States.{count-0, count-1}
 use Rattle.lists.specs.Zeros.{zeros-at}
 use Rattle.search_lanes.specs.Store.{Low}
-use Rattle.search_join.specs.Places.{pageAt}
 use Rattle.search_stage.specs.Stage.{wide}
 use Rattle.search_stage.specs.Laws.{wide-low}
 

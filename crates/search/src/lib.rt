@@ -12,8 +12,9 @@ ghost use Rattle.search.specs.Answer.{Costed, Tables, Answered};
 use job::Job;
 use search_row::Sizes;
 
-// The least cost, with the pose number of each cell; NONE where no placement is legal.
+// Whether a placement is legal; if so, the least cost and the pose number of each cell.
 pub struct Found {
+    pub some: bool,
     pub cost: u32,
     pub poses: [u32; 64],
 }
@@ -31,7 +32,7 @@ fn least_cost(
     ensures { λ x. ⌜ Costed (jobOf job) (now (row0 .entry)) (now (row1 .entry)) (sizes .cells) cells1 (sizes .talls) (now (store .entry)) (now (store .exit)) x ⌝ }
 {
     search_stage::stages(store, row0, row1, sizes, cells1);
-    store[search_join::case_at(sizes.talls + 1, 0, 0)]
+    store[search_store::case_at(sizes.talls + 1, 0, 0)]
 }
 
 // The pose numbers of a cheapest placement, by cell number: both rows traced, then noted one after the other.
@@ -64,18 +65,23 @@ fn find(
     cells1: usize,
 ) -> Found
     requires { ⌜ Ready (jobOf job) (now row0) (now row1) sizes cells1 × (wordsFor (sizes .talls) (sizes .states) ≤ length (now store)) × Low (now store) ⌝ }
-    ensures { λ r. ⌜ Solved (jobOf job) (r .cost) (r .poses) ⌝ }
+    ensures { λ r. ⌜ Solved (jobOf job) (r .some) (r .cost) (r .poses) ⌝ }
 {
     let mut poses = [0u32; 64];
     let cost = least_cost(store, job, row0, row1, sizes, cells1);
     if cost >= search_lanes::NONE {
         return Found {
-            cost: search_lanes::NONE,
+            some: false,
+            cost: 0,
             poses,
         };
     }
     note(&mut poses, store, job, row0, row1, sizes, cells1);
-    Found { cost, poses }
+    Found {
+        some: true,
+        cost,
+        poses,
+    }
 }
 
 // How many words of the store a search needs: a page for each state of the largest table.
@@ -84,16 +90,16 @@ fn store_words(talls: usize, count: usize) -> usize
     ensures { λ r. ⌜ r ≡ wordsFor talls count ⌝ }
 {
     let pages = search_stage::wide_of(talls, talls, count);
-    search_join::cost_at(0, pages, 0, 0)
+    search_store::cost_at(0, pages, 0, 0)
 }
 
 // Only the words that are needed are cleared and used.
 pub fn search(job: Job, store: &mut [u32]) -> Found
     requires { ⌜ Asked job (now store) ⌝ }
-    ensures { λ r. ⌜ Solved (jobOf job) (r .cost) (r .poses) ⌝ }
+    ensures { λ r. ⌜ Solved (jobOf job) (r .some) (r .cost) (r .poses) ⌝ }
 {
-    let mut row0 = [0u32; 8288];
-    let mut row1 = [0u32; 8288];
+    let mut row0 = [0u32; search_row::WORDS];
+    let mut row1 = [0u32; search_row::WORDS];
     let sizes = search_row_fill::fill_row(&mut row0, job, 0);
     let other = search_row_fill::fill_row(&mut row1, job, 1);
     let words = store_words(sizes.talls, sizes.states);

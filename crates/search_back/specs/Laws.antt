@@ -1,4 +1,4 @@
--- Laws of the trace: a case's way gives what both rows are to be walked by, and the case to go on from; later walks keep the places already noted.
+-- Laws of the trace: a case's way gives what both rows are to be traced by, and the case to go on from; later traces keep the places already noted.
 use Prim.Native.Nat.{ℕ, suc, _+_, _/_, _%_, _≤_, _<_}
 use mathlib.Core.Path.{_≡_, refl, sym, ap, _∙_, subst}
 use mathlib.Core.Logic.{inl, inr}
@@ -6,6 +6,7 @@ use mathlib.Core.List.{List}
 use native.Mathlib.Omega.{arith}
 use native.Mathlib.Decide.{decLt}
 use lib.ListN.{length}
+use Rattle.search_store.specs.Map.{pointerAt, Pages, pagesFrom}
 use Rattle.search_row.specs.declared.Sizes.{Sizes}
 use Rattle.search_row.specs.Words.{deckIn, posIn, withCells, RowGiven}
 use Rattle.theory_tables.specs.Steps.{B, Deck, Layer, stateCount}
@@ -14,7 +15,7 @@ use Rattle.theory_tables.specs.Back.{EndTraced, StageTraced}
 use Rattle.theory_tables.specs.Notes.{NotedBy, stage-words}
 use Rattle.search_lanes.specs.Laws.{frame-refl, frame-join}
 use Rattle.search_lanes.specs.Store.{Frame, Low}
-use Rattle.search_join.specs.Places.{pointerAt, Pages, case-above}
+use Rattle.search_store.specs.Places.{case-above}
 use Rattle.search_join.specs.Tables.{pointersIn, Way}
 use Rattle.search_stage.specs.Stage.{wide, StagesGiven}
 use Rattle.search_stage.specs.Laws.{wide-all, wide-last, given-states, given-wide}
@@ -25,7 +26,7 @@ use Rattle.search_back.specs.Trace.{Ways, Leg, Trace, LegDone, TraceDone
 
 -- ---- one row
 
--- a walked stage goes on from its start
+-- a traced stage goes on from its start
 pub traced-on : (D : Deck) (R talls : ℕ) (pos : ℕ → ℕ) (Noted : ℕ → ℕ → ℕ → Type 0) (I : ℕ) (f : Layer) (i x q a : ℕ) → StageTraced D R talls pos Noted I f i x q a
     → i ≤ suc (endPlace (D .size) R talls pos I q)
 traced-on D R talls pos Noted I f i x q a w = go (decLt I talls)
@@ -38,7 +39,7 @@ traced-on D R talls pos Noted I f i x q a w = go (decLt I talls)
     go (yes h) = omega (arith, end-tall (D .size) R talls pos I q h, w .toTall h .0)
     go (no h) = omega (arith, end-last (D .size) R talls pos I q (omega arith), ended (w .toEnd (omega arith)))
 
--- what was noted after tall cell J stays when the stages up to it are walked
+-- what was noted after tall cell J stays when the stages up to it are traced
 pub traced-kept : (D : Deck) (R talls : ℕ) (pos : ℕ → ℕ) (J s : ℕ) (f : Layer) (x q a : ℕ) (mid new : List ℕ) → J < talls → Frame 1 (suc (endPlace (D .size) R talls pos J s)) mid new
     → StageTraced D R talls pos (NotedBy (wordAt mid)) (suc J) f (suc (placedWith R (pos J) s)) x q a
     → StageTraced D R talls pos (NotedBy (wordAt new)) (suc J) f (suc (placedWith R (pos J) s)) x q a
@@ -55,7 +56,7 @@ notes-join D R talls pos J s q h l f g =
 
 -- one row of a stage, as a traceback wants it
 row-stage : {row st path : List ℕ} {z : Sizes} {I s l q a : ℕ}
-    → RowGiven row z → Low st → 148992 ≤ length st → 67 ≤ length path → I ≤ z .talls → (0 < I → s < stateCount (z .reordering)) → (0 < I → l < (z .poses))
+    → RowGiven row z → Low st → pagesFrom ≤ length st → 67 ≤ length path → I ≤ z .talls → (0 < I → s < stateCount (z .reordering)) → (0 < I → l < (z .poses))
     → q < wide (z .talls) (suc I) (stateCount (z .reordering)) → a < wide (z .talls) (suc I) (z .poses)
     → Stage row st path z I s l q a
 row-stage {z = z} {I = I} g w l r i s p x y =
@@ -83,7 +84,7 @@ pub leg-done : {D₀ D₁ : Deck} {R talls : ℕ} {pos₀ pos₁ : ℕ → ℕ} 
     → LegDone D₀ D₁ R talls pos₀ pos₁ I s t l q₀ q₁ a st new path₀ path₀′ path₁ path₁′
 leg-done v w =
     record {
-      frame = frame-join 0 148992 (v .frame) (w .frame) (omega arith) (omega arith) (omega arith) (omega arith);
+      frame = frame-join 0 pagesFrom (v .frame) (w .frame) (omega arith) (omega arith) (omega arith) (omega arith);
       low = w .low;
       notes₀ = v .notes;
       notes₁ = w .notes;
@@ -98,7 +99,7 @@ module _ {row₀ row₁ st path₀ path₁ : List ℕ} {z : Sizes} {n₁ I q₀ 
   trace-at : (K : ℕ) → I ≡ K → Trace row₀ row₁ st path₀ path₁ z n₁ K q₀ q₁ a
   trace-at K e = subst (λ (k : ℕ). Trace row₀ row₁ st path₀ path₁ z n₁ k q₀ q₁ a) e g
 
-  -- the case's source word is in the store
+  -- the case's back pointer is in the store
   pub pointer-room : (I ≤ 24) × (q₀ < 12) × (q₁ < 12) × (a < 64) × Pages (q₀ + 1) st
   pointer-room =
       let v = g .both .given in
@@ -138,7 +139,7 @@ module _ {D₀ D₁ : Deck} {R talls : ℕ} {pos₀ pos₁ : ℕ → ℕ} {I q�
 -- ---- a later stage
 
 -- the tables are kept
-ways-kept : {D₀ D₁ : Deck} {R talls : ℕ} {pos₀ pos₁ : ℕ → ℕ} {old new : List ℕ} → Frame 0 148992 old new → Ways D₀ D₁ R talls pos₀ pos₁ old → Ways D₀ D₁ R talls pos₀ pos₁ new
+ways-kept : {D₀ D₁ : Deck} {R talls : ℕ} {pos₀ pos₁ : ℕ → ℕ} {old new : List ℕ} → Frame 0 pagesFrom old new → Ways D₀ D₁ R talls pos₀ pos₁ old → Ways D₀ D₁ R talls pos₀ pos₁ new
 unfolding pointersIn
 ways-kept f w = record { way = λ I q₀ q₁ a h c l. rw (f .high (pointerAt (suc (suc I)) q₀ q₁ + a) (case-above (suc (suc I)) q₀ q₁ a .1)) (w .way I q₀ q₁ a h c l) }
 
@@ -182,7 +183,7 @@ module _ {row₀ row₁ st path₀ path₁ : List ℕ} {z : Sizes} {n₁ I q₀ 
   stray-done z =
       let all = g .both .given .given₀ .ground .all in
       done-at (suc J) e record {
-        frame = frame-refl 0 148992 st;
+        frame = frame-refl 0 pagesFrom st;
         low = g .both .given .low;
         long₀ = refl;
         long₁ = refl;
@@ -234,7 +235,7 @@ module _ {row₀ row₁ st path₀ path₁ : List ℕ} {z : Sizes} {n₁ I q₀ 
           let h : J < z .talls = omega (arith, g .stage) in
           let u = subst (λ (k : ℕ). LegDone D₀ D₁ (z .reordering) (z .talls) (posIn row₀) (posIn row₁) k s t l q₀ q₁ a st mid path₀ mid₀ path₁ mid₁) e d in
           done-at (suc J) e record {
-            frame = frame-join 0 148992 (d .frame) (r .frame) (omega arith) (omega arith) (omega arith) (omega arith);
+            frame = frame-join 0 pagesFrom (d .frame) (r .frame) (omega arith) (omega arith) (omega arith) (omega arith);
             low = r .low;
             long₀ = r .long₀ ∙ u .notes₀ .long;
             long₁ = r .long₁ ∙ u .notes₁ .long;

@@ -3,12 +3,12 @@ use Prim.Native.Nat.{ℕ, _/_, _%_, _≤_, _<_}
 use mathlib.Core.Path.{_≡_}
 use mathlib.Core.List.{List}
 use lib.ListN.{length, getD}
-use Rattle.search_row.specs.Words.{wordOf, RowWords}
+use Rattle.search_row.specs.Words.{wordOf, RowWords, numberWord}
 use Rattle.theory_traceback.specs.Words.{Places}
 
 -- the number of the cell at place i of a path, and its pose number
 abbrev pub cellAt : List ℕ → List ℕ → ℕ → ℕ
-cellAt row path i = wordOf row (getD path i 0 / 64) 85
+cellAt row path i = wordOf row (getD path i 0 / 64) numberWord
 
 abbrev pub poseAt : List ℕ → ℕ → ℕ
 poseAt path i = getD path i 0 % 64
@@ -20,8 +20,8 @@ pub record Given (row path out : List ℕ) (n : ℕ) : Type 0 where
   pub room : n < length path
   pub poses : ℕ
   pub places : Places n poses (λ i. getD path i 0)
-  pub small : (k : ℕ) → k < n → wordOf row k 85 < length out
-  pub apart : (k m : ℕ) → k < n → m < n → wordOf row k 85 ≡ wordOf row m 85 → k ≡ m
+  pub small : (k : ℕ) → k < n → wordOf row k numberWord < length out
+  pub apart : (k m : ℕ) → k < n → m < n → wordOf row k numberWord ≡ wordOf row m numberWord → k ≡ m
 
 -- the places below m have their pose numbers, and nothing else is changed
 pub record Upto (row path : List ℕ) (m : ℕ) (old new : List ℕ) : Type 0 where

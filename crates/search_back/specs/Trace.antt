@@ -1,8 +1,9 @@
--- The trace: from the last case table's one case back over the source words, both rows walked stage by stage.
+-- The trace: from the last case table's one case back over the back pointers, both rows traced stage by stage.
 use Prim.Native.Nat.{ℕ, suc, _≤_, _<_}
 use mathlib.Core.Path.{_≡_}
 use mathlib.Core.List.{List}
 use lib.ListN.{length}
+use Rattle.search_store.specs.Map.{pagesFrom}
 use Rattle.search_row.specs.Words.{deckIn, posIn, withCells}
 use Rattle.search_row.specs.declared.Sizes.{Sizes}
 use Rattle.theory_tables.specs.Steps.{B, Deck, stateCount}
@@ -23,7 +24,7 @@ pub record Case (R talls poses I q₀ q₁ a : ℕ) : Type 0 where
   pub state₁ : q₁ < wide talls (suc I) (stateCount R)
   pub pose : a < wide talls (suc I) poses
 
--- the source words: a way to each case after the first tall cell's, where it is below B
+-- the back pointers: a way to each case after the first tall cell's, where it is below B
 pub record Ways (D₀ D₁ : Deck) (R talls : ℕ) (pos₀ pos₁ : ℕ → ℕ) (st : List ℕ) : Type 0 where
   pub way : (I q₀ q₁ a : ℕ) → I < talls → Case R talls (D₀ .poses) (suc I) q₀ q₁ a → caseTable D₀ D₁ R talls pos₀ pos₁ (suc I) q₀ q₁ a < B
       → Way
@@ -66,9 +67,9 @@ pub record Trace (row₀ row₁ st path₀ path₁ : List ℕ) (z : Sizes) (n₁
 -- ---- what is left
 
 module _ (D₀ D₁ : Deck) (R talls : ℕ) (pos₀ pos₁ : ℕ → ℕ) where
-  -- both rows are walked through stage I, where it has a cost; the tables are kept
+  -- both rows are traced through stage I, where it has a cost; the tables are kept
   pub record LegDone (I s t l q₀ q₁ a : ℕ) (st st′ path₀ path₀′ path₁ path₁′ : List ℕ) : Type 0 where
-    pub frame : Frame 0 148992 st st′
+    pub frame : Frame 0 pagesFrom st st′
     pub low : Low st′
     pub notes₀ : Frame (startCells R pos₀ I s) (suc (endPlace (D₀ .size) R talls pos₀ I q₀)) path₀ path₀′
     pub notes₁ : Frame (startCells R pos₁ I t) (suc (endPlace (D₁ .size) R talls pos₁ I q₁)) path₁ path₁′
@@ -77,7 +78,7 @@ module _ (D₀ D₁ : Deck) (R talls : ℕ) (pos₀ pos₁ : ℕ → ℕ) where
     pub traced₁ : costFrom D₁ R talls pos₁ I t l q₁ a < B
         → StageTraced D₁ R talls pos₁ (NotedBy (wordAt path₁′)) I (startLayer D₁ R pos₁ I t l) (startCells R pos₁ I t) (startEnd D₁ pos₁ I l) q₁ a
 
-  -- both rows are walked through all stages up to stage I
+  -- both rows are traced through all stages up to stage I
   pub record TracedTo (I q₀ q₁ a : ℕ) (path₀ path₀′ path₁ path₁′ : List ℕ) : Type 0 where
     pub notes₀ : Frame 1 (suc (endPlace (D₀ .size) R talls pos₀ I q₀)) path₀ path₀′
     pub notes₁ : Frame 1 (suc (endPlace (D₁ .size) R talls pos₁ I q₁)) path₁ path₁′
@@ -85,7 +86,7 @@ module _ (D₀ D₁ : Deck) (R talls : ℕ) (pos₀ pos₁ : ℕ → ℕ) where
 
   -- the tables are kept, whatever they are; if their sources are ways, and the case has a cost, it is traced
   pub record TraceDone (I q₀ q₁ a : ℕ) (st st′ path₀ path₀′ path₁ path₁′ : List ℕ) : Type 0 where
-    pub frame : Frame 0 148992 st st′
+    pub frame : Frame 0 pagesFrom st st′
     pub low : Low st′
     pub long₀ : length path₀′ ≡ length path₀
     pub long₁ : length path₁′ ≡ length path₁

@@ -1,7 +1,7 @@
-// The trace: from the last case table's one case back over the source words, both rows walked stage by stage.
+// The trace: from the last case table's one case back over the back pointers, both rows traced stage by stage.
 ghost use mathlib.Core.Path.{_≡_};
 ghost use Prim.Native.Nat.{suc, _+_, _≤_, _<_};
-ghost use Rattle.search_join.specs.Places.{Pages};
+ghost use Rattle.search_store.specs.Map.{Pages};
 ghost use Rattle.search_join.specs.Tables.{pointersIn};
 ghost use Rattle.search_back.specs.Trace.{Leg, Trace, RowsLeg, RowsTrace};
 ghost use Rattle.search_back.specs.Scatter.{Given, Scattered};
@@ -12,7 +12,7 @@ fn pointer(store: &[u32], i: usize, q0: usize, q1: usize, a: usize) -> usize
     requires { ⌜ (i ≤ 24) × (q0 < 12) × (q1 < 12) × (a < 64) × Pages (q0 + 1) (now store) ⌝ }
     ensures { λ t. ⌜ t ≡ pointersIn (now (store .entry)) (suc i) q0 q1 a ⌝ }
 {
-    search_row::word(store, search_join::pointer_at(i + 1, q0, q1) + a)
+    search_row::word(store, search_store::pointer_at(i + 1, q0, q1) + a)
 }
 
 // Both rows through one stage; row 1 has so many cells.
@@ -163,7 +163,10 @@ pub fn scatter(out: &mut [u32], path: &[u32], row: &[u32], n: usize)
     let mut i: usize = 1;
     while i <= n {
         let word = path[i];
-        let cell = search_row::word(row, (word / 64) as usize * 128 + 85);
+        let cell = search_row::word(
+            row,
+            (word / 64) as usize * search_row::CELL + search_row::NUMBER,
+        );
         out[cell] = word % 64;
         i += 1;
     }

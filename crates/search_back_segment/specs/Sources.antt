@@ -4,11 +4,12 @@ use mathlib.Core.Path.{_≡_, refl, sym, ap, _∙_}
 use mathlib.Core.Bool.{Bool, true, false, cond}
 use mathlib.Core.List.{List}
 use native.Mathlib.Omega.{arith}
+use Rattle.search_store.specs.Map.{keptAt}
 use Rattle.lists.specs.Numbers.{from}
 use Rattle.theory_pair.specs.Coded.{lowest, lowest-from}
 use Rattle.theory_tables.specs.Steps.{B, Deck, Layer, stateCount, lastAt, isThere, isSource, via, reached, nextLayer}
 use Rattle.search_row.specs.Words.{deckOf}
-use Rattle.search_dense_layer.specs.Kept.{keptAt, keptIn}
+use Rattle.search_dense_layer.specs.Kept.{keptIn}
 use Rattle.search_back_segment.specs.Traces.{First, fromPose, fromState, Fits, EntrySource}
 
 -- a loop's least is one of its numbers

@@ -85,7 +85,7 @@ module _ (D : Deck) (R : ℕ) (st : List ℕ) (i : ℕ) where
         rowTraced = λ f k. subst (λ c. SegmentTraced D R (NotedBy (wordAt new)) f i c q a) (sym z) (subst (λ (j : ℕ). wordAt new j ≡ lastAt R j q * 64 + a) y (noted-word d q a old new e h));
       }
 
-  -- an entry of a later layer, noted before the rest is walked
+  -- an entry of a later layer, noted before the rest is traced
   pub trace-more : (d e q a p b : ℕ) {old mid new : List ℕ}
       → d ≡ suc e → Noted d q a old mid → i + d < length old → q < stateCount R → a < D .poses → EntrySource D R st (i + e) q a p b
       → SegmentTraceDone D R st i e p b mid new → SegmentTraceDone D R st i d q a old new

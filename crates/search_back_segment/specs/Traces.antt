@@ -5,6 +5,7 @@ use mathlib.Core.Bool.{true, false, cond}
 use mathlib.Core.List.{List}
 use lib.ListN.{length, getD}
 use lib.Dec.{ltb}
+use Rattle.search_store.specs.Map.{pagesFrom}
 use Rattle.search_row.specs.declared.Sizes.{Sizes}
 use Rattle.theory_tables.specs.Steps.{B, Deck, Layer, stateCount, lastAt, isThere, isSource, nextLayer, ends, costEnd}
 use Rattle.theory_tables.specs.Back.{SegmentTraced, EndTraced}
@@ -57,7 +58,7 @@ pub record EntrySource (D : Deck) (R : ℕ) (st : List ℕ) (i q a p b : ℕ) : 
 pub record Back (row st : List ℕ) (z : Sizes) : Type 0 where
   pub ground : Ground row z
   pub low : Low st
-  pub long : 148992 ≤ length st
+  pub long : pagesFrom ≤ length st
 
 -- an entry after layer i
 pub record Entry (row st : List ℕ) (z : Sizes) (i q a : ℕ) : Type 0 where

@@ -55,7 +55,7 @@ fn state_pose(
     find_pose(
         store,
         row,
-        search_dense_layer::kept_at(i) + p * 64,
+        search_store::kept_at(i) + p * 64,
         k,
         m,
         a,
@@ -93,8 +93,8 @@ fn entry_source(store: &[u32], row: &[u32], sizes: Sizes, i: usize, q: usize, a:
     requires { ⌜ Entry (now row) (now store) sizes i q a ⌝ }
     ensures { λ t. ⌜ EntrySource (deckIn (now (row .entry)) sizes) (sizes .reordering) (now (store .entry)) i q a (t / 64) (t % 64) ⌝ }
 {
-    let own = row[search_row::last_at(row, sizes, i + 1, q) * 128 + a];
-    let cost = store[search_dense_layer::kept_at(i + 1) + q * 64 + a];
+    let own = row[search_row::last_at(row, sizes, i + 1, q) * search_row::CELL + a];
+    let cost = store[search_store::kept_at(i + 1) + q * 64 + a];
     find_source(store, row, sizes, i, q, a, cost - own)
 }
 
@@ -142,10 +142,10 @@ fn last_word(store: &[u32], row: &[u32], sizes: Sizes, c: usize) -> u32
         return search_lanes::NONE;
     }
     let k = search_row::last_at(row, sizes, sizes.cells, q);
-    if row[k * 128 + 67] == 1 {
+    if row[k * search_row::CELL + search_row::TALL] == 1 {
         return search_lanes::NONE;
     }
-    store[search_dense_layer::kept_at(sizes.cells) + c] + search_row::back(row, k, c % 64)
+    store[search_store::kept_at(sizes.cells) + c] + search_row::back(row, k, c % 64)
 }
 
 // The least cost of the last cells, and the code of the first that has it, state before pose.

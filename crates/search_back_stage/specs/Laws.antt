@@ -1,4 +1,4 @@
--- Laws of a stage walked back: from its first layer to what the traceback leaves, by whether it ends at a tall cell.
+-- Laws of a stage traced back: from its first layer to what the traceback leaves, by whether it ends at a tall cell.
 use Prim.Native.Nat.{ℕ, zero, suc, _+_, _*_, _-_, _≤_, _<_}
 use mathlib.Core.Path.{_≡_, refl, sym, ap, _∙_, subst}
 use mathlib.Core.Bool.{Bool, true, false, cond, _&&_}
@@ -8,6 +8,7 @@ use native.Mathlib.Decide.{decLt}
 use borrow.Author.Tests.{lt-ltb, le-ltb, leb-true}
 use lib.ListN.{length, getD}
 use lib.Dec.{ltb, leb, eqb}
+use Rattle.search_store.specs.Map.{keptAt, keptFrom, pagesFrom}
 use Rattle.search_row.specs.declared.Sizes.{Sizes}
 use Rattle.theory_tables.specs.Steps.{B, Deck, Layer, stateCount, offset, marks, firstAfter, firstOpen, layers, costTo, costEnd}
 use Rattle.theory_tables.specs.Stages.{placedWith, stageEnd}
@@ -17,7 +18,7 @@ use Rattle.search_lanes.specs.Laws.{frame-refl, frame-join}
 use Rattle.search_lanes.specs.Store.{Frame, Low}
 use Rattle.search_row.specs.Words.{deckIn, posIn}
 use Rattle.search_dense_first.specs.Begun.{Begun}
-use Rattle.search_dense_layer.specs.Kept.{keptAt, keptIn, KeptLayers, Segment, SegmentKept}
+use Rattle.search_dense_layer.specs.Kept.{keptIn, KeptLayers, Segment, SegmentKept}
 use Rattle.search_dense_layer.specs.KeptLaws.{kept-ext, kept-fewer}
 use Rattle.search_back_segment.specs.Traces.{Back, SegmentTrace, End, SegmentTraceDone, EndDone, wordAt}
 use Rattle.search_back_segment.specs.Steps.{end-full}
@@ -44,7 +45,7 @@ module _ (D : Deck) (R : ℕ) (pos : ℕ → ℕ) where
   unfolding startCells startLayer
   started-open {count} {I} {s} {l} {to} {old} {new} e n z w = subst (λ (k : ℕ). Started D R pos k s l 1 old new) (sym e) record {
     count = refl;
-    frame = frame-join 98304 148992 (frame-refl 98304 148992 old) (w .frame) (omega arith) (omega arith) (omega arith) (omega arith);
+    frame = frame-join keptFrom pagesFrom (frame-refl keptFrom pagesFrom old) (w .frame) (omega arith) (omega arith) (omega arith) (omega arith);
     low = w .low;
     right = λ q a x y. ap (λ (k : ℕ). getD new (k + q * 64 + a) 0) (sym z) ∙ w .right q a (omega arith) y;
   }
@@ -55,7 +56,7 @@ module _ (D : Deck) (R : ℕ) (pos : ℕ → ℕ) where
   unfolding startCells startLayer
   started-after {count} {I} {s} {l} {i} {p} {to} {old} {new} J e f g n z h w = subst (λ (k : ℕ). Started D R pos k s l (i + 1) old new) (sym e) record {
     count = omega arith;
-    frame = frame-join 98304 148992 (frame-refl 98304 148992 old) (w .frame) (omega arith) (omega arith) (omega arith) (omega arith);
+    frame = frame-join keptFrom pagesFrom (frame-refl keptFrom pagesFrom old) (w .frame) (omega arith) (omega arith) (omega arith) (omega arith);
     low = w .low;
     right = λ q a x y.
         ap (λ (k : ℕ). getD new (k + q * 64 + a) 0) (sym z)
@@ -121,7 +122,7 @@ module _ {row st path : List ℕ} {z : Sizes} {I s l q a : ℕ} (g : Stage row s
   SegmentCosted = costFrom (deckIn row z) (z .reordering) (z .talls) (posIn row) I s l q a < B
 
   -- nothing is noted
-  none-noted : {new : List ℕ} → Frame 0 148992 st new → Low new → (SegmentCosted → ⊥) → StageDone (deckIn row z) (z .reordering) (z .talls) (posIn row) I s l q a st new path path
+  none-noted : {new : List ℕ} → Frame 0 pagesFrom st new → Low new → (SegmentCosted → ⊥) → StageDone (deckIn row z) (z .reordering) (z .talls) (posIn row) I s l q a st new path path
   none-noted u w none = record { frame = u; low = w; notes = frame-refl (startCells (z .reordering) (posIn row) I s) (suc (endPlace (z .cells) (z .reordering) (z .talls) (posIn row) I q)) path; rowTraced = λ c. absurd (none c) }
 
   -- the first layer has its place among those that are kept
@@ -140,7 +141,7 @@ module _ {row st path : List ℕ} {z : Sizes} {I s l q a : ℕ} (g : Stage row s
           omega (arith, size, end-bound D (z .reordering) f (startCells (z .reordering) (posIn row) I s) pays p)
 
   pub start-late : 66 < startCells (z .reordering) (posIn row) I s → StageDone (deckIn row z) (z .reordering) (z .talls) (posIn row) I s l q a st st path path
-  start-late h = none-noted (frame-refl 0 148992 st) (g .start .low) (λ c. omega (arith, start-fits c))
+  start-late h = none-noted (frame-refl 0 pagesFrom st) (g .start .low) (λ c. omega (arith, start-fits c))
 
   module _ {cells : ℕ} {mid : List ℕ} (w : Started (deckIn row z) (z .reordering) (posIn row) I s l cells st mid) (few : cells ≤ 66) where
     some : 0 < cells
@@ -160,8 +161,8 @@ module _ {row st path : List ℕ} {z : Sizes} {I s l q a : ℕ} (g : Stage row s
     segment : (end : ℕ) → end ≤ 66 → Segment row mid z cells end
     segment end k = record { ground = g .start .given .ground; low = w .low; long = omega (arith, g .start .long, w .frame .long); some = some; cells = few; last = k }
 
-    store-kept : {new : List ℕ} → Frame 98304 148992 mid new → Frame 0 148992 st new
-    store-kept u = frame-join 0 148992 (w .frame) u (omega arith) (omega arith) (omega arith) (omega arith)
+    store-kept : {new : List ℕ} → Frame keptFrom pagesFrom mid new → Frame 0 pagesFrom st new
+    store-kept u = frame-join 0 pagesFrom (w .frame) u (omega arith) (omega arith) (omega arith) (omega arith)
 
     -- ---- to a tall cell
 
@@ -172,7 +173,7 @@ module _ {row st path : List ℕ} {z : Sizes} {I s l q a : ℕ} (g : Stage row s
           (p .0, subst (λ (j : ℕ). layers D (z .reordering) f cells (j - cells) q a < B) (sym e) (p .1))
 
       pub tall-late : end < cells → StageDone D (z .reordering) (z .talls) (posIn row) I s l q a st mid path path
-      tall-late o = none-noted (frame-join 0 148992 (frame-refl 0 148992 st) (w .frame) (omega arith) (omega arith) (omega arith) (omega arith)) (w .low) (λ c. omega (arith, tall-room c .0))
+      tall-late o = none-noted (frame-join 0 pagesFrom (frame-refl 0 pagesFrom st) (w .frame) (omega arith) (omega arith) (omega arith) (omega arith)) (w .low) (λ c. omega (arith, tall-room c .0))
 
       pub end-low : end ≤ 66
       end-low = let c = g .start .given .ground .coded .reorder in omega (arith, g .start .given .inside I h, g .start .given .ground .size)

@@ -5,6 +5,7 @@ use mathlib.Core.Bool.{cond}
 use mathlib.Core.List.{List}
 use lib.ListN.{length}
 use lib.Dec.{ltb}
+use Rattle.search_store.specs.Map.{keptFrom, pagesFrom}
 use Rattle.search_row.specs.declared.Sizes.{Sizes}
 use Rattle.theory_tables.specs.Steps.{B, Deck, Layer, stateCount, marks, firstAfter, firstOpen}
 use Rattle.theory_tables.specs.Stages.{placedWith, stageEnd}
@@ -45,12 +46,12 @@ endPlace n R talls pos I q = cond (ltb I talls) (placedWith R (pos I) q) n
 pub record Start (row st : List ℕ) (z : Sizes) (I s l : ℕ) : Type 0 where
   pub given : RowGiven row z
   pub low : Low st
-  pub long : 148992 ≤ length st
+  pub long : pagesFrom ≤ length st
   pub stage : I ≤ (z .talls)
   pub state : 0 < I → s < stateCount (z .reordering)
   pub pose : 0 < I → l < (z .poses)
 
--- a stage to be walked: from state q in pose a of tall cell I, or from the row's end
+-- a stage to be traced: from state q in pose a of tall cell I, or from the row's end
 pub record Stage (row st path : List ℕ) (z : Sizes) (I s l q a : ℕ) : Type 0 where
   pub start : Start row st z I s l
   pub room : 67 ≤ length path
@@ -62,13 +63,13 @@ pub record Stage (row st path : List ℕ) (z : Sizes) (I s l q a : ℕ) : Type 0
 -- the first layer is kept, and has so many cells
 pub record Started (D : Deck) (R : ℕ) (pos : ℕ → ℕ) (I s l cells : ℕ) (old new : List ℕ) : Type 0 where
   pub count : cells ≡ startCells R pos I s
-  pub frame : Frame 98304 148992 old new
+  pub frame : Frame keptFrom pagesFrom old new
   pub low : Low new
   pub right : (q a : ℕ) → q < stateCount R → a < D .poses → keptIn new cells q a ≡ startLayer D R pos I s l q a
 
--- the stage is walked, if it has a cost: the cells from its first place to its last are noted, and nothing else; the tables are kept
+-- the stage is traced, if it has a cost: the cells from its first place to its last are noted, and nothing else; the tables are kept
 pub record StageDone (D : Deck) (R talls : ℕ) (pos : ℕ → ℕ) (I s l q a : ℕ) (st st′ path path′ : List ℕ) : Type 0 where
-  pub frame : Frame 0 148992 st st′
+  pub frame : Frame 0 pagesFrom st st′
   pub low : Low st′
   pub notes : Frame (startCells R pos I s) (suc (endPlace (D .size) R talls pos I q)) path path′
   pub rowTraced : costFrom D R talls pos I s l q a < B

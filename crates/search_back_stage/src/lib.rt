@@ -14,13 +14,13 @@ fn first_of(store: &mut [u32], row: &[u32], sizes: Sizes, stage: usize, s: usize
     ensures { λ i. ⌜ Started (deckIn (now (row .entry)) sizes) (sizes .reordering) (posIn (now (row .entry))) stage s l i (now (store .entry)) (now (store .exit)) ⌝ }
 {
     if stage == 0 {
-        let to = search_dense_layer::kept_at(1);
+        let to = search_store::kept_at(1);
         search_dense_first::open(store, row, sizes, to);
         return 1;
     }
     let p = tall_at(row, stage - 1);
     let i = placed_with(row, sizes, p, s);
-    let to = search_dense_layer::kept_at(i + 1);
+    let to = search_store::kept_at(i + 1);
     search_dense_first::after(store, row, sizes, i, s, p, l, to);
     i + 1
 }
@@ -62,7 +62,7 @@ pub fn stage_trace(
             return;
         }
         search_dense_layer::segment_kept(store, row, sizes, i, end);
-        if store[search_dense_layer::kept_at(end) + q * 64 + a] >= search_lanes::NONE {
+        if store[search_store::kept_at(end) + q * 64 + a] >= search_lanes::NONE {
             return;
         }
         search_back_segment::trace(store, path, row, sizes, i, end - i, q, a);

@@ -14,7 +14,7 @@ use Rattle.lists.specs.Numbers.{from, in-from, from-in}
 use Rattle.theory_pair.specs.Coded.{lowest, lowest-low}
 use Rattle.theory_tables.specs.Steps.{B, Deck, Layer, stateCount, lastAt, isSource, via, reached}
 use Rattle.theory_tables.specs.Lowest.{lowest-member, lowest-above, loop-member, loop-above}
-use Rattle.search_row.specs.Words.{wordOf, variant, siteIn, endIn, differIn, weightIn, tollAt, tollIn, deckOf, RowWords}
+use Rattle.search_row.specs.Words.{wordOf, variant, siteIn, endIn, differIn, weightIn, tollAt, tollIn, deckOf, RowWords, apartWord, givenWord, touchingWord}
 use Rattle.search_row.specs.Laws.{differ-low, pay-low}
 use Rattle.search_buckets.specs.Loops.{lowest-cap, lowest-same, lowest-min, lowest-swap, lowest-none, lowest-more}
 use Rattle.search_buckets.specs.Gaps.{paying, paying-low, Toll, pays, free, barred, toll?}
@@ -124,11 +124,11 @@ bucket-low other gap v h g = go (eqb gap 0)
 
 module _ (line : List ℕ) (k b m : ℕ) where
   -- what is paid in the buckets of gap 0, in those of the other gaps, and in bucket 0
-  pub pay-touching : (v : ℕ) → 1 ≤ v → v < 5 → payIn line k b m v ≡ wordOf line m 84 * differIn line k b m (v - 1)
+  pub pay-touching : (v : ℕ) → 1 ≤ v → v < 5 → payIn line k b m v ≡ wordOf line m touchingWord * differIn line k b m (v - 1)
   unfolding payIn
   pay-touching v h g = rw (le-ltb v 1 h, lt-ltb v 5 g)
 
-  pub pay-apart : (v : ℕ) → 5 ≤ v → payIn line k b m v ≡ wordOf line m 86 * differIn line k b m (v - 5)
+  pub pay-apart : (v : ℕ) → 5 ≤ v → payIn line k b m v ≡ wordOf line m apartWord * differIn line k b m (v - 5)
   unfolding payIn
   pay-apart v h = rw (le-ltb v 1 (omega arith), le-ltb v 5 h)
 
@@ -141,7 +141,7 @@ module _ (line : List ℕ) (k b m : ℕ) where
   unfolding payIn
   pay-same v =
       let e : variant (variant b) ≡ variant b = omega arith in
-      ap (λ (u : ℕ). cond (ltb v 1) 0 (cond (ltb v 5) (wordOf line m 84 * differBy u (v - 1)) (wordOf line m 86 * differBy u (v - 5)))) e
+      ap (λ (u : ℕ). cond (ltb v 1) 0 (cond (ltb v 5) (wordOf line m touchingWord * differBy u (v - 1)) (wordOf line m apartWord * differBy u (v - 5)))) e
     where
       differBy : ℕ → ℕ → ℕ
       differBy u a =
@@ -155,12 +155,12 @@ module _ (line : List ℕ) (k b m : ℕ) where
       vary v e =
           ap (λ (u : ℕ). cond (eqb (wordOf line k (76 + variant b)) (wordOf line m (68 + u))) 0 1 + cond (eqb (wordOf line k (80 + variant b)) (wordOf line m (72 + u))) 0 1) e
 
-      go : (z : Bool) → payIn line k b m (cond z (1 + a % 4) (5 + a % 4)) ≡ cond z (wordOf line m 84) (wordOf line m 86) * differIn line k b m a
-      go true = pay-touching (1 + a % 4) (omega arith) (omega arith) ∙ ap (λ (d : ℕ). wordOf line m 84 * d) (vary (1 + a % 4 - 1) (omega arith))
-      go false = pay-apart (5 + a % 4) (omega arith) ∙ ap (λ (d : ℕ). wordOf line m 86 * d) (vary (5 + a % 4 - 5) (omega arith))
+      go : (z : Bool) → payIn line k b m (cond z (1 + a % 4) (5 + a % 4)) ≡ cond z (wordOf line m touchingWord) (wordOf line m apartWord) * differIn line k b m a
+      go true = pay-touching (1 + a % 4) (omega arith) (omega arith) ∙ ap (λ (d : ℕ). wordOf line m touchingWord * d) (vary (1 + a % 4 - 1) (omega arith))
+      go false = pay-apart (5 + a % 4) (omega arith) ∙ ap (λ (d : ℕ). wordOf line m apartWord * d) (vary (5 + a % 4 - 5) (omega arith))
 
   -- one weight for all gaps: the buckets of the other gaps are those of gap 0
-  pub pay-twin : (v : ℕ) → v < 4 → wordOf line m 84 ≡ wordOf line m 86 → payIn line k b m (5 + v) ≡ payIn line k b m (1 + v)
+  pub pay-twin : (v : ℕ) → v < 4 → wordOf line m touchingWord ≡ wordOf line m apartWord → payIn line k b m (5 + v) ≡ payIn line k b m (1 + v)
   pay-twin v h e =
       let x : 5 + v - 5 ≡ 1 + v - 1 = omega arith in
       pay-apart (5 + v) (omega arith)
@@ -178,7 +178,7 @@ module _ (line : List ℕ) (k b m : ℕ) where
 pub found-one : (line : List ℕ) (k b m a c : ℕ) → min (c + tollIn line k b m a) B ≡ found (onePose line k m b c) a
 unfolding tollIn found endRow
 found-one line k b m a c =
-    found-toll (wordOf line m 64) (a / 4) (endIn line k b) c (λ gap. weightIn line m gap * differIn line k b m a)
+    found-toll (wordOf line m givenWord) (a / 4) (endIn line k b) c (λ gap. weightIn line m gap * differIn line k b m a)
     (λ gap. onePose line k m b c (bucketIn 5 gap (a % 4))) (onePose line k m b c 0)
     (λ gap t. ap (λ (z : ℕ). inRow (endRow line k b m) t (c + z)) (pay-bucket line k b m gap a))
     (λ t. ap (λ (z : ℕ). inRow (endRow line k b m) t z) (let e = pay-none line k b m in omega arith))

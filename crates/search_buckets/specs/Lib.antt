@@ -4,3 +4,4 @@ pub mod Rows
 pub mod Laws
 pub mod Sources
 pub mod Next
+pub mod Ends

@@ -9,7 +9,7 @@ use lib.Dec.{ltb, eqb}
 use Rattle.lists.specs.Numbers.{from}
 use Rattle.theory_pair.specs.Coded.{lowest}
 use Rattle.theory_tables.specs.Steps.{B, Deck, Layer, lastAt, isSource}
-use Rattle.search_row.specs.Words.{wordOf, variant, endIn, differIn}
+use Rattle.search_row.specs.Words.{wordOf, variant, endIn, differIn, apartWord, givenWord, touchingWord}
 use Rattle.search_buckets.specs.Gaps.{paying}
 
 -- what a source in row r that costs c is in row t
@@ -28,7 +28,7 @@ found bucket a = min (lowest B (λ gap. bucket (bucketIn 5 gap (a % 4)) (a / 4 +
 
 -- how many buckets a target at position m needs: where all gaps that pay have one weight, buckets 5 to 8 are as buckets 1 to 4
 unfoldable pub bucketsIn : List ℕ → ℕ → ℕ
-bucketsIn line m = cond (eqb (wordOf line m 84) (wordOf line m 86)) 5 9
+bucketsIn line m = cond (eqb (wordOf line m touchingWord) (wordOf line m apartWord)) 5 9
 
 -- the rows that the poses below `poses` look at
 abbrev pub rowsOf : ℕ → ℕ
@@ -38,12 +38,12 @@ rowsOf poses = (poses + 3) / 4 + 4
 
 -- the row in which pose b of the cell at position k counts for the cell at position m
 unfoldable pub endRow : List ℕ → ℕ → ℕ → ℕ → ℕ
-endRow line k b m = endIn line k b + 4 - wordOf line m 64
+endRow line k b m = endIn line k b + 4 - wordOf line m givenWord
 
 -- what pose b of k pays in bucket v of m: by the variant of m that the bucket is for, in bucket 0 nothing
 unfoldable pub payIn : List ℕ → ℕ → ℕ → ℕ → ℕ → ℕ
 payIn line k b m v =
-    cond (ltb v 1) 0 (cond (ltb v 5) (wordOf line m 84 * differIn line k b m (v - 1)) (wordOf line m 86 * differIn line k b m (v - 5)))
+    cond (ltb v 1) 0 (cond (ltb v 5) (wordOf line m touchingWord * differIn line k b m (v - 1)) (wordOf line m apartWord * differIn line k b m (v - 5)))
 
 -- what each variant of the cell at position k pays in each bucket below `buckets` of the cell at position m: 9 words for each variant, those below n of 36
 pub record Pays (line : List ℕ) (k m buckets n : ℕ) (pays : List ℕ) : Type 0 where

@@ -14,7 +14,7 @@ use Rattle.theory_tables.specs.Lowest.{loop-above}
 use Rattle.lists.specs.Compare.{Eq?, same, differs, eq?}
 use Rattle.lists.specs.Numbers.{from}
 use Rattle.theory_pair.specs.Coded.{lowest, lowest-low}
-use Rattle.search_row.specs.Words.{wordOf, RowWords}
+use Rattle.search_row.specs.Words.{wordOf, RowWords, apartWord, touchingWord}
 use Rattle.search_buckets.specs.Loops.{lowest-none, lowest-more, lowest-ext}
 use Rattle.search_buckets.specs.Rows.{inRow, bucketsIn, endRow, payIn, Pays, PaysLow, onePose, byPoses, oneState, byStates}
 use Rattle.search_buckets.specs.Laws.{pay-same, pay-small, pay-twin}
@@ -105,7 +105,7 @@ module _ (line : List ℕ) (D : Deck) (R : ℕ) (f : Layer) (i q : ℕ) where
 
 -- ---- one weight for all gaps
 
-module _ (line : List ℕ) (m : ℕ) (e : wordOf line m 84 ≡ wordOf line m 86) where
+module _ (line : List ℕ) (m : ℕ) (e : wordOf line m touchingWord ≡ wordOf line m apartWord) where
   pub pose-twin : (k b c v t : ℕ) → v < 4 → onePose line k m b c (5 + v) t ≡ onePose line k m b c (1 + v) t
   pose-twin k b c v t h = ap (λ (z : ℕ). inRow (endRow line k b m) t (c + z)) (pay-twin line k b m v h e)
 
@@ -124,7 +124,7 @@ states-twin line D R f i q n v t e h =
 
 pub buckets-either : (line : List ℕ) (m : ℕ) → (bucketsIn line m ≡ 5) ⊎ (bucketsIn line m ≡ 9)
 unfolding bucketsIn
-buckets-either line m = go (eqb (wordOf line m 84) (wordOf line m 86))
+buckets-either line m = go (eqb (wordOf line m touchingWord) (wordOf line m apartWord))
   where
     go : (z : Bool) → (_≡_ {A = ℕ} (cond z 5 9) 5) ⊎ (_≡_ {A = ℕ} (cond z 5 9) 9)
     go true = inl refl
@@ -133,11 +133,11 @@ buckets-either line m = go (eqb (wordOf line m 84) (wordOf line m 86))
 -- the last four of them are as the buckets of the other gaps, for what is the same in buckets 5 + v and 1 + v where there is one weight
 pub buckets-last :
     (P : ℕ → ℕ) (line : List ℕ) (m v : ℕ)
-    → (wordOf line m 84 ≡ wordOf line m 86 → P (5 + v) ≡ P (1 + v))
+    → (wordOf line m touchingWord ≡ wordOf line m apartWord → P (5 + v) ≡ P (1 + v))
     → P (bucketsIn line m - 4 + v) ≡ P (5 + v)
 unfolding bucketsIn
-buckets-last P line m v h = go (eqb (wordOf line m 84) (wordOf line m 86)) (eq? (wordOf line m 84) (wordOf line m 86))
+buckets-last P line m v h = go (eqb (wordOf line m touchingWord) (wordOf line m apartWord)) (eq? (wordOf line m touchingWord) (wordOf line m apartWord))
   where
-    go : (z : Bool) → Eq? (wordOf line m 84) (wordOf line m 86) z → P (cond z 5 9 - 4 + v) ≡ P (5 + v)
+    go : (z : Bool) → Eq? (wordOf line m touchingWord) (wordOf line m apartWord) z → P (cond z 5 9 - 4 + v) ≡ P (5 + v)
     go true (same e) = sym (h e)
     go false (differs n) = refl

@@ -1,5 +1,5 @@
 // The buckets in which the sources of a target are gathered by their end site: which row a source counts in, what it pays in each bucket, and which buckets
-// are needed. Plane 0 has the sources by themselves, buckets 1 to 4 with what they pay at gap 0 to each variant of the target, buckets 5 to 8 with what they
+// are needed. Bucket 0 has the sources by themselves, buckets 1 to 4 with what they pay at gap 0 to each variant of the target, buckets 5 to 8 with what they
 // pay at the other gaps that pay.
 ghost use mathlib.Core.Path.{_≡_};
 ghost use Prim.Native.Nat.{ℕ, _+_, _*_, _≤_, _<_};
@@ -13,7 +13,7 @@ pub fn end_row(row: &[u32], k: usize, b: usize, m: usize) -> usize
     ensures { λ t. ⌜ t ≡ endRow (now (row .entry)) k b m ⌝ }
 {
     let y = search_row::end(row, k, b) + 4;
-    let first = search_row::word(row, m * 128 + 64);
+    let first = search_row::word(row, m * search_row::CELL + search_row::GIVEN);
     if y < first {
         return 0;
     }
@@ -33,7 +33,9 @@ pub fn buckets_of(row: &[u32], m: usize) -> usize
     requires { ⌜ RowWords (now row) × (m < 64) ⌝ }
     ensures { λ buckets. ⌜ buckets ≡ bucketsIn (now (row .entry)) m ⌝ }
 {
-    if row[m * 128 + 84] == row[m * 128 + 86] {
+    if row[m * search_row::CELL + search_row::TOUCHING]
+        == row[m * search_row::CELL + search_row::APART]
+    {
         return 5;
     }
     9
@@ -48,9 +50,10 @@ fn pay(row: &[u32], k: usize, u: usize, m: usize, v: usize) -> u32
         return 0;
     }
     if v < 5 {
-        return row[m * 128 + 84] * search_row::differ(row, k, u, m, v - 1);
+        return row[m * search_row::CELL + search_row::TOUCHING]
+            * search_row::differ(row, k, u, m, v - 1);
     }
-    row[m * 128 + 86] * search_row::differ(row, k, u, m, v - 5)
+    row[m * search_row::CELL + search_row::APART] * search_row::differ(row, k, u, m, v - 5)
 }
 
 // What variant u pays in each of so many buckets, after the variants before it.

@@ -18,7 +18,7 @@ pub fn starts(row: &[u32], sizes: Sizes, i: usize, m: u32, q: usize) -> bool
     if !search_row::is_there(row, sizes, i, q) {
         return false;
     }
-    m == row[8192 + q * 4 + 2]
+    m == row[search_row::STATES + q * 4 + 2]
 }
 
 // ---- at the row's start
@@ -45,7 +45,7 @@ fn open_poses(store: &mut [u32], row: &[u32], at: usize, k: usize, poses: usize)
     let mut a: usize = 0;
     while a < poses {
         store[at + a] = search_lanes::least(
-            row[k * 128 + a] + search_row::front(row, k, a),
+            row[k * search_row::CELL + a] + search_row::front(row, k, a),
             search_lanes::NONE,
         );
         a += 1;
@@ -95,7 +95,7 @@ fn after_poses(
     let mut a: usize = 0;
     while a < poses {
         store[at + a] = search_lanes::least(
-            row[k * 128 + a] + search_row::toll(row, p, l, k, a),
+            row[k * search_row::CELL + a] + search_row::toll(row, p, l, k, a),
             search_lanes::NONE,
         );
         a += 1;
@@ -139,7 +139,7 @@ pub fn after(
     requires { ⌜ Ground (now row) sizes × Low (now store) × (to + 768 ≤ length (now store)) × (i ≤ 67) × (s < sizes .states) × (p < 64) × (l < 60) ⌝ }
     ensures { λ _. ⌜ Begun (firstAfter (deckIn (now (row .entry)) sizes) (sizes .reordering) i (marks (sizes .reordering) s) p l) (sizes .poses) (sizes .states) to (now (store .entry)) (now (store .exit)) ⌝ }
 {
-    let m = row[8192 + s * 4 + 1];
+    let m = row[search_row::STATES + s * 4 + 1];
     let mut q: usize = 0;
     while q < sizes.states {
         after_state(store, row, sizes, i, m, p, l, to + q * 64, q);

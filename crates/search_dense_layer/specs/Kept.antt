@@ -3,15 +3,12 @@ use Prim.Native.Nat.{ℕ, _+_, _*_, _≤_, _<_}
 use mathlib.Core.Path.{_≡_}
 use mathlib.Core.List.{List}
 use lib.ListN.{length}
+use Rattle.search_store.specs.Map.{keptAt, keptFrom, pagesFrom}
 use Rattle.search_row.specs.declared.Sizes.{Sizes}
 use Rattle.theory_tables.specs.Steps.{Deck, Layer, stateCount, layers}
 use Rattle.search_lanes.specs.Store.{Frame, Low}
 use Rattle.search_row.specs.Words.{Ground}
 use Rattle.search_dense_layer.specs.Thin.{thinIn}
-
--- where layer i is kept, which has at least one cell: state q has 64 words, one for each pose
-abbrev pub keptAt : ℕ → ℕ
-keptAt i = 97536 + i * 768
 
 abbrev pub keptIn : List ℕ → ℕ → Layer
 keptIn st i q a = thinIn st (keptAt i) q a
@@ -24,13 +21,13 @@ pub record KeptLayers (D : Deck) (R : ℕ) (f : Layer) (i end : ℕ) (st : List 
 pub record Segment (row st : List ℕ) (z : Sizes) (i end : ℕ) : Type 0 where
   pub ground : Ground row z
   pub low : Low st
-  pub long : 148992 ≤ length st
+  pub long : pagesFrom ≤ length st
   pub some : 0 < i
   pub cells : i ≤ 66
   pub last : end ≤ 66
 
 -- what it leaves
 pub record SegmentKept (D : Deck) (R i end : ℕ) (old new : List ℕ) : Type 0 where
-  pub frame : Frame 98304 148992 old new
+  pub frame : Frame keptFrom pagesFrom old new
   pub low : Low new
   pub kept : KeptLayers D R (keptIn old i) i end new

@@ -5,12 +5,13 @@ use mathlib.Core.List.{List}
 use native.Mathlib.Omega.{arith}
 use native.Mathlib.Decide.{ℕ-discrete}
 use lib.ListN.{getD}
+use Rattle.search_store.specs.Map.{keptAt, keptFrom, pagesFrom}
 use Rattle.theory_tables.specs.Steps.{Deck, Layer, stateCount, layers, nextLayer}
 use Rattle.search_lanes.specs.Laws.{frame-refl, frame-join}
 use Rattle.search_lanes.specs.Store.{Low}
 use Rattle.search_buckets.specs.Next.{next-ext, layers-ext}
 use Rattle.search_dense_layer.specs.Thin.{Stepped}
-use Rattle.search_dense_layer.specs.Kept.{keptAt, keptIn, KeptLayers, SegmentKept}
+use Rattle.search_dense_layer.specs.Kept.{keptIn, KeptLayers, SegmentKept}
 
 -- ---- layers from the same first layer
 
@@ -48,7 +49,7 @@ module _ (D : Deck) (R i : ℕ) (some : 0 < i) (few : D .poses ≤ 60) (statesFe
       → SegmentKept D R i (i + (j + 1)) old new
   kept-more {count} {from} {old} {mid} {new} j l n e s w =
       record {
-        frame = frame-join 98304 148992 (s .frame) (w .frame) (omega arith) (omega arith) (omega arith) (omega arith);
+        frame = frame-join keptFrom pagesFrom (s .frame) (w .frame) (omega arith) (omega arith) (omega arith) (omega arith);
         low = w .low;
         kept = record { right = λ k q a h x y. kept k q a x y h (ℕ-discrete k (j + 1)) };
       }

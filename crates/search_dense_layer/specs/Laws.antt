@@ -14,7 +14,7 @@ use Rattle.theory_tables.specs.Steps.{B}
 use Rattle.search_lanes.specs.Lanes.{Lowered}
 use Rattle.search_lanes.specs.Store.{Low}
 use Rattle.search_lanes.specs.Laws.{lowered-more, lowered-to, lowered-ext, lowered-join, lowered-low}
-use Rattle.search_row.specs.Words.{wordOf}
+use Rattle.search_row.specs.Words.{wordOf, apartWord, touchingWord}
 use Rattle.search_buckets.specs.Rows.{inRow, endRow, bucketsIn, payIn, Pays, onePose}
 use Rattle.search_buckets.specs.Laws.{row-hit, row-miss, pay-none}
 use Rattle.search_buckets.specs.Sources.{pose-pays}
@@ -177,18 +177,18 @@ gathered-join {P} {Q} {buckets = buckets} p q e =
 module _ (line : List ℕ) (m : ℕ) where
   pub buckets-few : (5 ≤ bucketsIn line m) × (bucketsIn line m ≤ 9)
   unfolding bucketsIn
-  buckets-few = go (eqb (wordOf line m 84) (wordOf line m 86))
+  buckets-few = go (eqb (wordOf line m touchingWord) (wordOf line m apartWord))
     where
       go : (z : Bool) → (5 ≤ cond z 5 9) × (cond z 5 9 ≤ 9)
       go true = (omega arith, omega arith)
       go false = (omega arith, omega arith)
 
   -- fewer than 9 only where one weight serves for all gaps
-  pub buckets-twin : bucketsIn line m ≢ 9 → wordOf line m 84 ≡ wordOf line m 86
+  pub buckets-twin : bucketsIn line m ≢ 9 → wordOf line m touchingWord ≡ wordOf line m apartWord
   unfolding bucketsIn
-  buckets-twin n = go (eqb (wordOf line m 84) (wordOf line m 86)) (eq? (wordOf line m 84) (wordOf line m 86)) n
+  buckets-twin n = go (eqb (wordOf line m touchingWord) (wordOf line m apartWord)) (eq? (wordOf line m touchingWord) (wordOf line m apartWord)) n
     where
-      go : (z : Bool) → Eq? (wordOf line m 84) (wordOf line m 86) z → _≢_ {A = ℕ} (cond z 5 9) 9 → wordOf line m 84 ≡ wordOf line m 86
+      go : (z : Bool) → Eq? (wordOf line m touchingWord) (wordOf line m apartWord) z → _≢_ {A = ℕ} (cond z 5 9) 9 → wordOf line m touchingWord ≡ wordOf line m apartWord
       go true (same e) d = e
       go false (differs f) d = absurd (d refl)
 

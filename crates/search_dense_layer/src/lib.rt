@@ -3,6 +3,7 @@
 ghost use mathlib.Core.Path.{_≡_};
 ghost use Prim.Native.Nat.{ℕ, suc, _+_, _*_, _/_, _≤_, _<_};
 ghost use lib.ListN.{length, getD};
+ghost use Rattle.search_store.specs.Map.{keptAt};
 ghost use Rattle.theory_tables.specs.Steps.{B, lastAt};
 ghost use Rattle.search_lanes.specs.Lanes.{Lowered};
 ghost use Rattle.search_lanes.specs.Store.{Low, Written};
@@ -10,7 +11,7 @@ ghost use Rattle.search_row.specs.Words.{deckIn, RowWords, Ground};
 ghost use Rattle.search_buckets.specs.Next.{Target};
 ghost use Rattle.search_buckets.specs.Rows.{bucketsIn, Pays, PaysLow, onePose, byPoses, oneState, byStates};
 ghost use Rattle.search_dense_layer.specs.Thin.{thinIn, posesAt, fourOf, spreadOf, Arrays, ThinGathered, ThinSource, FarRunUp, foundBy, foundOf, foundFour, otherOf, ThinGiven, Put, Stepped};
-ghost use Rattle.search_dense_layer.specs.Kept.{keptAt, Segment, SegmentKept};
+ghost use Rattle.search_dense_layer.specs.Kept.{Segment, SegmentKept};
 use search_row::Sizes;
 
 // ---- one source
@@ -139,7 +140,7 @@ fn found_four(
 {
     let mut v: usize = 0;
     while v < 4 {
-        let x = row[k * 128 + (e * 4 + v)] + found(near, apart, far, e, v);
+        let x = row[k * search_row::CELL + (e * 4 + v)] + found(near, apart, far, e, v);
         words[v] = search_lanes::lesser(x, search_lanes::NONE);
         v += 1;
     }
@@ -213,7 +214,7 @@ fn put_found(
 
 // ---- one layer
 
-// Pair p of the layer with i cells, if it is a source of state q.
+// State p of the layer with i cells, if it is a source of state q.
 fn from_source(
     near: &mut [u32; 76],
     apart: &mut [u32; 76],
@@ -327,14 +328,6 @@ pub fn step(store: &mut [u32], row: &[u32], sizes: Sizes, i: usize, from: usize)
 
 // The layers of a segment from one start, kept one after the other: each is dense and comes from the one before.
 
-// Where layer i is kept.
-pub fn kept_at(i: usize) -> usize
-    requires { ⌜ i ≤ 66 ⌝ }
-    ensures { λ r. ⌜ r ≡ keptAt i ⌝ }
-{
-    97536 + i * 768
-}
-
 // All layers of a segment from its first, layer i, which is in its place, up to layer `end`.
 pub fn segment_kept(store: &mut [u32], row: &[u32], sizes: Sizes, i: usize, end: usize)
     requires { ⌜ Segment (now row) (now store) sizes i end ⌝ }
@@ -342,7 +335,7 @@ pub fn segment_kept(store: &mut [u32], row: &[u32], sizes: Sizes, i: usize, end:
 {
     let mut j: usize = 0;
     while i + j < end {
-        let from = kept_at(i + j);
+        let from = search_store::kept_at(i + j);
         step(store, row, sizes, i + j, from);
         j += 1;
     }

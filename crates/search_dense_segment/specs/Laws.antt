@@ -8,19 +8,19 @@ use borrow.Author.Tests.{le-leb, lt-leb, eq-eqb, ne-eqb}
 use native.Mathlib.Decide.{decLt}
 use lib.ListN.{length, getD, set}
 use lib.Dec.{leb}
+use Rattle.search_buckets.specs.Ends.{leastPoses, leastState, leastStates, state-in, state-out, states-low, ends-gathered, cost-run, cost-done}
+use Rattle.search_store.specs.Map.{keptAt, keptFrom, pagesFrom}
 use Rattle.theory_tables.specs.Steps.{B, Deck, Layer, stateCount, offset, lastAt, layers, firstOpen, costTo, ends, costEnd}
 use Rattle.search_lanes.specs.Store.{Low, Written, Filled}
 use Rattle.search_lanes.specs.Lanes.{always}
 use Rattle.search_lanes.specs.Laws.{frame-join, written-one}
-use Rattle.search_row.specs.Words.{wordOf, backIn, deckOf, thereIn}
+use Rattle.search_row.specs.Words.{wordOf, backIn, deckOf, thereIn, tallWord}
 use Rattle.search_row.specs.Laws.{and-away, and-there}
 use Rattle.search_dense_layer.specs.Thin.{thinIn}
 use Rattle.search_dense_first.specs.Begun.{Begun}
-use Rattle.search_dense_layer.specs.Kept.{keptAt, keptIn, KeptLayers, SegmentKept}
+use Rattle.search_dense_layer.specs.Kept.{keptIn, KeptLayers, SegmentKept}
 use Rattle.search_dense_layer.specs.KeptLaws.{kept-ext}
-use Rattle.search_wide_end.specs.Ends.{leastPoses, leastState, leastStates}
 use Rattle.search_buckets.specs.Next.{ends-ext}
-use Rattle.search_wide_end.specs.Laws.{state-in, state-out, states-low, ends-gathered, cost-run, cost-done}
 use Rattle.search_dense_segment.specs.Opened.{comesIn, tallCost, endCost, OpenKept, Opened}
 
 -- ---- the layers
@@ -28,11 +28,11 @@ use Rattle.search_dense_segment.specs.Opened.{comesIn, tallCost, endCost
 -- the first layer, then those after it
 pub open-kept :
     (D : Deck) (R : ℕ) {count to end : ℕ} {old mid new : List ℕ}
-    → to ≡ 98304 → count ≡ stateCount R → Begun (firstOpen D R) (D .poses) count to old mid → SegmentKept D R 1 end mid new
+    → to ≡ keptFrom → count ≡ stateCount R → Begun (firstOpen D R) (D .poses) count to old mid → SegmentKept D R 1 end mid new
     → OpenKept D R end old new
 open-kept D R {mid = mid} e n b s =
     record {
-      frame = frame-join 98304 148992 (b .frame) (s .frame) (omega arith) (omega arith) (omega arith) (omega arith);
+      frame = frame-join keptFrom pagesFrom (b .frame) (s .frame) (omega arith) (omega arith) (omega arith) (omega arith);
       low = s .low;
       kept = kept-ext (keptIn mid 1) (firstOpen D R)
           (λ q a x y. ap (λ (k : ℕ). getD mid k 0) (omega arith) ∙ b .right q a (omega arith) y)
@@ -49,7 +49,7 @@ module _ (R p : ℕ) (st : List ℕ) (l q a : ℕ) where
   comes-late h = ap (λ t. cond t (keptIn st (p + suc R - offset R q) q a) B) (lt-leb (1 + offset R q) (p + suc R) h)
 
 -- they stand below the costs
-pub comes-kept : (R p q a l : ℕ) (old new : List ℕ) → p + suc R ≤ 66 → q < 12 → a < 64 → ((k : ℕ) → k < 148992 → getD new k 0 ≡ getD old k 0)
+pub comes-kept : (R p q a l : ℕ) (old new : List ℕ) → p + suc R ≤ 66 → q < 12 → a < 64 → ((k : ℕ) → k < pagesFrom → getD new k 0 ≡ getD old k 0)
     → comesIn R p old l q a ≡ comesIn R p new l q a
 comes-kept R p q a l old new h g k same =
     ap (λ (x : ℕ). cond (leb (1 + offset R q) (p + suc R)) x B) (sym (same (keptAt (p + suc R - offset R q) + q * 64 + a) (omega arith)))
@@ -70,7 +70,7 @@ comes-cost D R p q a end l {st} e x y k = go (decLt (p + suc R) (1 + offset R q)
 
 pub opened-to :
     (D : Deck) (R p : ℕ) {count costs end : ℕ} {old mid new : List ℕ}
-    → end ≡ p + suc R → 148992 ≤ costs → count ≡ stateCount R → OpenKept D R end old mid → Filled (comesIn R p mid) 1 (D .poses) costs count mid new
+    → end ≡ p + suc R → pagesFrom ≤ costs → count ≡ stateCount R → OpenKept D R end old mid → Filled (comesIn R p mid) 1 (D .poses) costs count mid new
     → Opened (tallCost D R p) count (D .poses) costs old new
 opened-to D R p {end = end} e o n k f =
     record {
@@ -88,25 +88,25 @@ module _ (line : List ℕ) (n poses R k q : ℕ) (f : Layer) where
   pub state-away : thereIn n R n q ≡ false → leastState (deckOf line n poses) R f q ≡ B
   state-away h = state-out (deckOf line n poses) R f q (sym (and-away (thereIn n R n q) _ h))
 
-  pub state-tall : k ≡ lastAt R n q → wordOf line k 67 ≡ 1 → leastState (deckOf line n poses) R f q ≡ B
-  state-tall e h = state-out (deckOf line n poses) R f q (go (thereIn n R n q) (eq-eqb (wordOf line (lastAt R n q) 67) 1 (ap (λ (k : ℕ). wordOf line k 67) (sym e) ∙ h)))
+  pub state-tall : k ≡ lastAt R n q → wordOf line k tallWord ≡ 1 → leastState (deckOf line n poses) R f q ≡ B
+  state-tall e h = state-out (deckOf line n poses) R f q (go (thereIn n R n q) (eq-eqb (wordOf line (lastAt R n q) tallWord) 1 (ap (λ (k : ℕ). wordOf line k tallWord) (sym e) ∙ h)))
     where
       go : (s : Bool) {t : Bool} → t ≡ true → (s && not t) ≡ false
       go true h = ap not h
       go false h = refl
 
-  pub state-single : k ≡ lastAt R n q → thereIn n R n q ≡ true → (wordOf line k 67 ≡ 1 → ⊥)
+  pub state-single : k ≡ lastAt R n q → thereIn n R n q ≡ true → (wordOf line k tallWord ≡ 1 → ⊥)
       → leastState (deckOf line n poses) R f q ≡ leastPoses (backIn line k) f q poses
   state-single e h z =
       state-in (deckOf line n poses) R f q
-      (sym (and-there (thereIn n R n q) _ h) ∙ ap not (ne-eqb (wordOf line (lastAt R n q) 67) 1 (λ w. z (ap (λ (k : ℕ). wordOf line k 67) e ∙ w))))
+      (sym (and-there (thereIn n R n q) _ h) ∙ ap not (ne-eqb (wordOf line (lastAt R n q) tallWord) 1 (λ w. z (ap (λ (k : ℕ). wordOf line k tallWord) e ∙ w))))
       ∙ ap (λ (k : ℕ). leastPoses (backIn line k) f q poses) (sym e)
 
 -- the least of all states is the least of the layer
 module _ (D : Deck) (R : ℕ) where
   -- one word is written, and it is the cost
   opened-word : (costs x : ℕ) {old mid new : List ℕ}
-      → 148992 ≤ costs → length mid ≡ length old → ((j : ℕ) → 148992 ≤ j → getD mid j 0 ≡ getD old j 0)
+      → pagesFrom ≤ costs → length mid ≡ length old → ((j : ℕ) → pagesFrom ≤ j → getD mid j 0 ≡ getD old j 0)
       → Written (always x) costs 1 mid new → x ≡ costEnd D R (firstOpen D R) 1 0
       → Opened (endCost D R) 1 1 costs old new
   opened-word costs x {new = new} o n same w e =
@@ -119,14 +119,14 @@ module _ (D : Deck) (R : ℕ) where
       }
 
   -- the row has no cell
-  pub opened-none : (costs : ℕ) {st : List ℕ} → D .size ≡ 0 → 148992 ≤ costs → costs < length st → Low st
+  pub opened-none : (costs : ℕ) {st : List ℕ} → D .size ≡ 0 → pagesFrom ≤ costs → costs < length st → Low st
       → Opened (endCost D R) 1 1 costs st (set st costs 0)
   opened-none costs z o h w =
       opened-word costs 0 o refl (λ j g. refl) (written-one (always 0) costs 0 w h refl (omega arith)) (sym (cost-done D R (firstOpen D R) 1 0 (omega arith)))
 
   -- the least of the layer with all cells
   pub opened-end : (costs x at : ℕ) {count : ℕ} {old mid : List ℕ}
-      → 1 ≤ D .size → 148992 ≤ costs → costs < length old → count ≡ stateCount R → at ≡ keptAt (D .size)
+      → 1 ≤ D .size → pagesFrom ≤ costs → costs < length old → count ≡ stateCount R → at ≡ keptAt (D .size)
       → OpenKept D R (D .size) old mid → x ≡ leastStates D R (thinIn mid at) count
       → Opened (endCost D R) 1 1 costs old (set mid costs x)
   opened-end costs x at {count} {old} {mid} z o h n e k g =

@@ -5,6 +5,7 @@ use mathlib.Core.Bool.{cond}
 use mathlib.Core.List.{List}
 use lib.ListN.{length, getD}
 use lib.Dec.{leb}
+use Rattle.search_store.specs.Map.{keptFrom, layerBlock, pagesFrom}
 use Rattle.theory_tables.specs.Steps.{B, Deck, Layer, stateCount, offset, firstOpen, costTo, costEnd}
 use Rattle.search_lanes.specs.Store.{Frame, Low, layerIn}
 use Rattle.search_dense_layer.specs.Kept.{keptIn, KeptLayers}
@@ -30,12 +31,12 @@ pub record OpenRoom (st : List ℕ) (R poses count costs : ℕ) : Type 0 where
   pub low : Low st
   pub few : poses ≤ 60
   pub all : count ≡ stateCount R
-  pub over : 148992 ≤ costs
-  pub room : costs + 49152 ≤ length st
+  pub over : pagesFrom ≤ costs
+  pub room : costs + layerBlock ≤ length st
 
 -- the layers from the row's start are kept up to layer `end`
 pub record OpenKept (D : Deck) (R end : ℕ) (old new : List ℕ) : Type 0 where
-  pub frame : Frame 98304 148992 old new
+  pub frame : Frame keptFrom pagesFrom old new
   pub low : Low new
   pub kept : KeptLayers D R (firstOpen D R) 1 end new
 
@@ -43,6 +44,6 @@ pub record OpenKept (D : Deck) (R end : ℕ) (old new : List ℕ) : Type 0 where
 pub record Opened (F : Layer) (ends poses costs : ℕ) (old new : List ℕ) : Type 0 where
   pub long : length new ≡ length old
   pub low : Low new
-  pub below : (k : ℕ) → 148992 ≤ k → k < costs → getD new k 0 ≡ getD old k 0
-  pub above : (k : ℕ) → costs + 49152 ≤ k → getD new k 0 ≡ getD old k 0
+  pub below : (k : ℕ) → pagesFrom ≤ k → k < costs → getD new k 0 ≡ getD old k 0
+  pub above : (k : ℕ) → costs + layerBlock ≤ k → getD new k 0 ≡ getD old k 0
   pub right : (q a : ℕ) → q < ends → a < poses → layerIn new costs 0 q a ≡ F q a

@@ -2,19 +2,20 @@
 ghost use mathlib.Core.Path.{_≡_};
 ghost use Prim.Native.Nat.{_+_, _*_, _≤_, _<_};
 ghost use lib.ListN.{length};
+ghost use Rattle.search_buckets.specs.Ends.{leastPoses, leastState, leastStates};
+ghost use Rattle.search_store.specs.Map.{pagesFrom};
 ghost use Rattle.search_lanes.specs.Store.{Low, WrittenRows, FilledState, Filled};
 ghost use Rattle.search_row.specs.Words.{backIn, deckIn, StateWords, RowWords, Ground};
 ghost use Rattle.search_dense_layer.specs.Thin.{thinIn};
-ghost use Rattle.search_wide_end.specs.Ends.{leastPoses, leastState, leastStates};
 ghost use Rattle.search_dense_segment.specs.Opened.{spreadFrom, comesIn, tallCost, endCost, OpenRoom, OpenKept, Opened};
 use search_row::Sizes;
 
 // The layers from the row's start up to layer `end`, each in its place.
 fn run_open(store: &mut [u32], row: &[u32], sizes: Sizes, end: usize)
-    requires { ⌜ Ground (now row) sizes × Low (now store) × (148992 ≤ length (now store)) × (end ≤ 66) ⌝ }
+    requires { ⌜ Ground (now row) sizes × Low (now store) × (pagesFrom ≤ length (now store)) × (end ≤ 66) ⌝ }
     ensures { λ _. ⌜ OpenKept (deckIn (now (row .entry)) sizes) (sizes .reordering) end (now (store .entry)) (now (store .exit)) ⌝ }
 {
-    search_dense_first::open(store, row, sizes, search_dense_layer::kept_at(1));
+    search_dense_first::open(store, row, sizes, search_store::kept_at(1));
     search_dense_layer::segment_kept(store, row, sizes, 1, end);
 }
 
@@ -37,14 +38,20 @@ fn put_state(store: &mut [u32], row: &[u32], sizes: Sizes, tall: usize, costs: u
     requires { ⌜ StateWords (sizes .reordering) (now row) × OpenRoom (now store) (sizes .reordering) (sizes .poses) (sizes .states) costs × (tall < 64) × (q < sizes .states) ⌝ }
     ensures { λ _. ⌜ FilledState (comesIn (sizes .reordering) tall (now (store .entry))) 1 costs q (sizes .poses) (now (store .entry)) (now (store .exit)) ⌝ }
 {
-    let digit = search_row::word(row, 8192 + q * 4);
+    let digit = search_row::word(row, search_row::STATES + q * 4);
     let all = tall + sizes.reordering + 1;
     if all < 1 + digit {
-        search_lanes::fill_rows(store, costs + q * 4096, sizes.poses, 1, search_lanes::NONE);
+        search_lanes::fill_rows(
+            store,
+            costs + q * search_store::STATE,
+            sizes.poses,
+            1,
+            search_lanes::NONE,
+        );
         return;
     }
-    let from = search_dense_layer::kept_at(all - digit) + q * 64;
-    spread(store, from, costs + q * 4096, sizes.poses);
+    let from = search_store::kept_at(all - digit) + q * 64;
+    spread(store, from, costs + q * search_store::STATE, sizes.poses);
 }
 
 // The costs of every state.
@@ -93,7 +100,7 @@ fn least_state(store: &[u32], row: &[u32], sizes: Sizes, at: usize, q: usize) ->
         return search_lanes::NONE;
     }
     let k = search_row::last_at(row, sizes, sizes.cells, q);
-    if row[k * 128 + 67] == 1 {
+    if row[k * search_row::CELL + search_row::TALL] == 1 {
         return search_lanes::NONE;
     }
     least_poses(store, row, at, q, k, sizes.poses)
@@ -123,5 +130,5 @@ pub fn open_end(store: &mut [u32], row: &[u32], sizes: Sizes, costs: usize)
         return;
     }
     run_open(store, row, sizes, sizes.cells);
-    store[costs] = least_states(store, row, sizes, search_dense_layer::kept_at(sizes.cells));
+    store[costs] = least_states(store, row, sizes, search_store::kept_at(sizes.cells));
 }

@@ -6,10 +6,11 @@ use mathlib.Core.List.{List}
 use native.Mathlib.Omega.{arith}
 use native.Mathlib.Decide.{decLt}
 use lib.ListN.{getD}
+use Rattle.search_store.specs.Map.{caseAt, Slot}
 use Rattle.theory_tables.specs.Steps.{B}
 use Rattle.search_lanes.specs.Lanes.{always}
 use Rattle.search_lanes.specs.Store.{Low, Written}
-use Rattle.search_join.specs.Places.{caseAt, Slot, case-one, case-pointer}
+use Rattle.search_store.specs.Places.{case-one, case-pointer}
 use Rattle.search_join.specs.Tables.{casesIn, pointersIn, OneState, StateWith, AllStates, Closed}
 use Rattle.search_join.specs.Parts.{last}
 

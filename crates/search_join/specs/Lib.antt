@@ -1,4 +1,3 @@
-pub mod Places
 pub mod Tables
 pub mod Sums
 pub mod Laws

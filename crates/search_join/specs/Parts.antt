@@ -8,10 +8,11 @@ use native.Mathlib.Omega.{arith}
 use native.Mathlib.Decide.{decLt}
 use lib.ListN.{length, getD, set, length-set}
 use lib.Seq.{getD-set-same, getD-set-other}
+use Rattle.search_store.specs.Map.{caseAt, pointerAt, Pages, Slot}
 use Rattle.theory_tables.specs.Steps.{B, Cases, SegmentCosts, joinPose, nextCases}
 use Rattle.search_lanes.specs.Store.{Low}
 use Rattle.search_lanes.specs.Laws.{low-set}
-use Rattle.search_join.specs.Places.{caseAt, pointerAt, Pages, Slot, case-one, case-pointer, case-room, case-beside}
+use Rattle.search_store.specs.Places.{case-one, case-pointer, case-room, case-beside}
 use Rattle.search_join.specs.Tables.{
   casesIn,
   pointersIn,

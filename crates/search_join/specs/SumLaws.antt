@@ -7,6 +7,7 @@ use native.Mathlib.Omega.{arith}
 use native.Mathlib.Decide.{ℕ-discrete}
 use lib.ListN.{getD, set, length-set}
 use lib.Seq.{getD-set-same, getD-set-other}
+use Rattle.search_store.specs.Map.{caseAt, costsAt, stateBlock}
 use Rattle.lists.specs.Numbers.{from}
 use Rattle.theory_pair.specs.Coded.{lowest, lowest-low}
 use Rattle.theory_tables.specs.Steps.{B}
@@ -14,7 +15,6 @@ use Rattle.theory_tables.specs.Lowest.{loop-member}
 use Rattle.search_lanes.specs.Lanes.{always}
 use Rattle.search_lanes.specs.Store.{Written}
 use Rattle.search_lanes.specs.Laws.{low-set}
-use Rattle.search_join.specs.Places.{caseAt, costsAt}
 use Rattle.search_join.specs.Tables.{casesIn, costsIn, Table, Least, MetAt, SumAt, WayIn, nextIn}
 use Rattle.search_join.specs.Sums.{startSum, laneSum, endSum, Room, Sums, Nones, Summed}
 use Rattle.search_join.specs.Laws.{lowest-zero, lowest-more, lowest-same, lowest-at, next-is}
@@ -26,18 +26,18 @@ table-for l i t h g = record { states = t .states; few = h; stage = g; long = t 
 -- ---- the words of a sum
 
 pub start-words : (I : ℕ) (st : List ℕ) (q₀ a s t l at p₀ : ℕ)
-    → at ≡ caseAt I s t → p₀ ≡ costsAt 0 s + q₀ * 4096 + a * 64
+    → at ≡ caseAt I s t → p₀ ≡ costsAt 0 s + q₀ * stateBlock + a * 64
     → getD st (at + l) 0 + getD st (p₀ + l) 0 ≡ startSum I st q₀ a t l s
 unfolding startSum casesIn costsIn
 start-words I st q₀ a s t l at p₀ e d =
     let w : (i j : ℕ) → i ≡ j → getD st i 0 ≡ getD st j 0 = λ i j h. ap (λ (k : ℕ). getD st k 0) h in
-    omega (arith, w (at + l) (caseAt I s t + l) (omega arith), w (p₀ + l) (costsAt 0 s + q₀ * 4096 + a * 64 + l) (omega arith))
+    omega (arith, w (at + l) (caseAt I s t + l) (omega arith), w (p₀ + l) (costsAt 0 s + q₀ * stateBlock + a * 64 + l) (omega arith))
 
 -- a start state without any way to q₀ in pose a
-pub start-none : (I : ℕ) (st : List ℕ) (q₀ a s t l p₀ : ℕ) → p₀ ≡ costsAt 0 s + q₀ * 4096 + a * 64 → B ≤ getD st (p₀ + l) 0 → B ≤ startSum I st q₀ a t l s
+pub start-none : (I : ℕ) (st : List ℕ) (q₀ a s t l p₀ : ℕ) → p₀ ≡ costsAt 0 s + q₀ * stateBlock + a * 64 → B ≤ getD st (p₀ + l) 0 → B ≤ startSum I st q₀ a t l s
 unfolding startSum casesIn costsIn
 start-none I st q₀ a s t l p₀ e h =
-    let w : getD st (p₀ + l) 0 ≡ getD st (costsAt 0 s + q₀ * 4096 + a * 64 + l) 0 = ap (λ (k : ℕ). getD st k 0) (omega arith) in
+    let w : getD st (p₀ + l) 0 ≡ getD st (costsAt 0 s + q₀ * stateBlock + a * 64 + l) 0 = ap (λ (k : ℕ). getD st k 0) (omega arith) in
     omega arith
 
 -- ---- the sums, one after the other
@@ -137,7 +137,7 @@ sums-filled starts lanes I st q₀ a {new = new} r w h b =
 -- ---- a case from the sums
 
 -- the least over the lanes of state t, with t for its code
-pub end-met : (starts lanes : ℕ) (sums st : List ℕ) (q₁ a t p₁ : ℕ) {v : ℕ} → t < starts → starts ≤ 12 → p₁ ≡ costsAt 1 t + q₁ * 4096 + a * 64
+pub end-met : (starts lanes : ℕ) (sums st : List ℕ) (q₁ a t p₁ : ℕ) {v : ℕ} → t < starts → starts ≤ 12 → p₁ ≡ costsAt 1 t + q₁ * stateBlock + a * 64
     → v ≡ lowest B (laneSum sums (t * 64) st p₁) (from 0 lanes)
     → Least (endSum lanes sums st q₁ a t) (MetAt (endSum lanes sums st q₁ a) starts) v t
 unfolding endSum
@@ -168,17 +168,17 @@ module _ (starts lanes I : ℕ) (st : List ℕ) (q₀ q₁ a : ℕ) {sums : List
       omega (
         arith,
         loop-member B (endSum lanes sums st q₁ a) starts t g,
-        loop-member B (laneSum sums (t * 64) st (costsAt 1 t + q₁ * 4096 + a * 64)) lanes l k,
+        loop-member B (laneSum sums (t * 64) st (costsAt 1 t + q₁ * stateBlock + a * 64)) lanes l k,
         sum-below s t l h g k,
       )
 
   -- a lane that has the least of state t
-  pub lane-met : (v t p₁ lane : ℕ) → v < B → endSum lanes sums st q₁ a t ≡ v → p₁ ≡ costsAt 1 t + q₁ * 4096 + a * 64
+  pub lane-met : (v t p₁ lane : ℕ) → v < B → endSum lanes sums st q₁ a t ≡ v → p₁ ≡ costsAt 1 t + q₁ * stateBlock + a * 64
       → SumAt (laneSum sums (t * 64) st p₁) lanes v lane
       → (lane < lanes) × (v ≡ getD sums (t * 64 + lane) 0 + costsIn st 1 t lane q₁ a)
   unfolding endSum laneSum costsIn
   lane-met v t p₁ lane b e d found =
-      let p = costsAt 1 t + q₁ * 4096 + a * 64 in
+      let p = costsAt 1 t + q₁ * stateBlock + a * 64 in
       let at = lowest-at (laneSum sums (t * 64) st p) lanes (omega arith) in
       let m = found (at .0) (at .1) (rw d (at .2 ∙ e)) in
       (m .0, sym (rw d at (m .1)))

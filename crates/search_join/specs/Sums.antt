@@ -5,11 +5,11 @@ use mathlib.Core.Path.{_≡_}
 use mathlib.Core.Bool.{Bool, false}
 use mathlib.Core.List.{List}
 use lib.ListN.{length, getD}
+use Rattle.search_store.specs.Map.{costsAt, stateBlock}
 use Rattle.lists.specs.Numbers.{from}
 use Rattle.theory_pair.specs.Coded.{lowest}
 use Rattle.theory_tables.specs.Steps.{B}
 use Rattle.search_lanes.specs.Store.{Low}
-use Rattle.search_join.specs.Places.{costsAt}
 use Rattle.search_join.specs.Tables.{casesIn, costsIn}
 
 -- from start state s to state q₀ in pose a, in lane l of case (s, t)
@@ -21,7 +21,7 @@ unfoldable pub laneSum : List ℕ → ℕ → List ℕ → ℕ → ℕ → ℕ
 laneSum sums at st p₁ l = getD sums (at + l) 0 + getD st (p₁ + l) 0
 
 unfoldable pub endSum : ℕ → List ℕ → List ℕ → ℕ → ℕ → ℕ → ℕ
-endSum lanes sums st q₁ a t = lowest B (laneSum sums (t * 64) st (costsAt 1 t + q₁ * 4096 + a * 64)) (from 0 lanes)
+endSum lanes sums st q₁ a t = lowest B (laneSum sums (t * 64) st (costsAt 1 t + q₁ * stateBlock + a * 64)) (from 0 lanes)
 
 -- room for the sums
 pub record Room (sums : List ℕ) : Type 0 where

@@ -4,9 +4,9 @@ use mathlib.Core.Path.{_≡_}
 use mathlib.Core.Logic.{_⊎_}
 use mathlib.Core.List.{List}
 use lib.ListN.{length, getD}
+use Rattle.search_store.specs.Map.{caseAt, pointerAt, costsAt, Pages, Slot, stateBlock}
 use Rattle.theory_tables.specs.Steps.{B, Cases, SegmentCosts, nextCases}
 use Rattle.search_lanes.specs.Store.{Low}
-use Rattle.search_join.specs.Places.{caseAt, pointerAt, costsAt, Pages, Slot}
 
 -- case table I, its sources, and the costs of a row
 unfoldable pub casesIn : List ℕ → ℕ → Cases
@@ -16,7 +16,7 @@ unfoldable pub pointersIn : List ℕ → ℕ → Cases
 pointersIn st I q₀ q₁ a = getD st (pointerAt I q₀ q₁ + a) 0
 
 unfoldable pub costsIn : List ℕ → ℕ → SegmentCosts
-costsIn st row s l q a = getD st (costsAt row s + q * 4096 + a * 64 + l) 0
+costsIn st row s l q a = getD st (costsAt row s + q * stateBlock + a * 64 + l) 0
 
 -- a case and its source are as they were; and those of all tables
 pub record SameCase (I q₀ q₁ a : ℕ) (old new : List ℕ) : Type 0 where

@@ -3,11 +3,11 @@ ghost use mathlib.Core.Path.{_≡_};
 ghost use mathlib.Core.Bool.{false};
 ghost use Prim.Native.Nat.{_+_, _*_, _≤_, _<_};
 ghost use lib.ListN.{length};
+ghost use Rattle.search_store.specs.Map.{caseAt, pointerAt, costsAt, Pages};
 ghost use Rattle.lists.specs.Numbers.{from};
 ghost use Rattle.theory_pair.specs.Coded.{lowest};
 ghost use Rattle.search_lanes.specs.Store.{Low};
 ghost use Rattle.theory_tables.specs.Steps.{B};
-ghost use Rattle.search_join.specs.Places.{caseAt, pointerAt, costsAt, Pages};
 ghost use Rattle.search_join.specs.Tables.{Table, Better, Least, MetAt, SumAt, WayIn, nextIn, OneCase, PoseCases, BlockCases, Part, Joined, StateWith, AllStates, Closed};
 ghost use Rattle.search_join.specs.Sums.{startSum, laneSum, endSum, Room, Sums, Summed};
 
@@ -15,30 +15,6 @@ ghost use Rattle.search_join.specs.Sums.{startSum, laneSum, endSum, Room
 pub struct Best {
     pub value: u32,
     pub code: u32,
-}
-
-// Where the row of case (q0, q1) of table i begins.
-pub fn case_at(i: usize, q0: usize, q1: usize) -> usize
-    requires { ⌜ (i ≤ 25) × (q0 ≤ 12) × (q1 ≤ 12) ⌝ }
-    ensures { λ r. ⌜ r ≡ caseAt i q0 q1 ⌝ }
-{
-    247296 + q0 * 138240 + q1 * 1664 + i * 64
-}
-
-// Where the row of its sources begins.
-pub fn pointer_at(i: usize, q0: usize, q1: usize) -> usize
-    requires { ⌜ (i ≤ 25) × (q0 ≤ 12) × (q1 ≤ 12) ⌝ }
-    ensures { λ r. ⌜ r ≡ pointerAt i q0 q1 ⌝ }
-{
-    case_at(i, q0, q1) + 19968
-}
-
-// Where the costs of start state s to state q in pose a begin, in a row.
-pub fn cost_at(row: usize, s: usize, q: usize, a: usize) -> usize
-    requires { ⌜ (row ≤ 1) × (s ≤ 12) × (q ≤ 12) × (a ≤ 64) ⌝ }
-    ensures { λ r. ⌜ r ≡ costsAt row s + q * 4096 + a * 64 ⌝ }
-{
-    148992 + s * 138240 + row * 49152 + q * 4096 + a * 64
 }
 
 // The lower of two, the first if they are equal.
@@ -69,8 +45,8 @@ fn lower_sums(
     requires { ⌜ Table starts lanes i (now store) × Sums starts lanes i (now store) q0 a s (t * 64) (now sums) × (s < starts) × (t < starts) × (q0 < 12) × (a < 60) ⌝ }
     ensures { λ _. ⌜ Sums starts lanes i (now (store .entry)) q0 a s (t * 64 + 64) (now (sums .exit)) ⌝ }
 {
-    let at = case_at(i, s, t);
-    let p0 = cost_at(0, s, q0, a);
+    let at = search_store::case_at(i, s, t);
+    let p0 = search_store::cost_at(0, s, q0, a);
     let to = t * 64;
     let mut l: usize = 0;
     while l < lanes {
@@ -93,7 +69,9 @@ fn sums_from(
     requires { ⌜ Table starts lanes i (now store) × Sums starts lanes i (now store) q0 a s 0 (now sums) × (s < starts) × (q0 < 12) × (a < 60) ⌝ }
     ensures { λ live. ⌜ Sums starts lanes i (now (store .entry)) q0 a (s + 1) 0 (now (sums .exit)) × (live ≡ false → now (sums .exit) ≡ now (sums .entry)) ⌝ }
 {
-    if search_lanes::common(store, cost_at(0, s, q0, a), lanes) >= search_lanes::NONE {
+    if search_lanes::common(store, search_store::cost_at(0, s, q0, a), lanes)
+        >= search_lanes::NONE
+    {
         return false;
     }
     let mut t: usize = 0;
@@ -176,7 +154,10 @@ fn start_of(
 {
     let mut s: usize = 0;
     while s < starts {
-        if store[case_at(i, s, t) + lane] + store[cost_at(0, s, q0, a) + lane] == sum {
+        if store[search_store::case_at(i, s, t) + lane]
+            + store[search_store::cost_at(0, s, q0, a) + lane]
+            == sum
+        {
             return s;
         }
         s += 1;
@@ -202,7 +183,13 @@ fn best_end(
     };
     let mut t: usize = 0;
     while t < starts {
-        let sum = least_lane(sums, t * 64, store, cost_at(1, t, q1, a), lanes);
+        let sum = least_lane(
+            sums,
+            t * 64,
+            store,
+            search_store::cost_at(1, t, q1, a),
+            lanes,
+        );
         best = better(best, sum, t as u32);
         t += 1;
     }
@@ -225,7 +212,14 @@ fn pointer_of(
     requires { ⌜ Table starts lanes i (now store) × Sums starts lanes i (now store) q0 a starts 0 (now sums) × (q0 < 12) × (q1 < 12) × (a < 60) × (t < starts) × (endSum lanes (now sums) (now store) q1 a t ≡ value) × (value < B) ⌝ }
     ensures { λ code. ⌜ WayIn starts lanes i (now (store .entry)) q0 q1 a value code × (code < 9216) ⌝ }
 {
-    let lane = lane_of(sums, t * 64, store, cost_at(1, t, q1, a), lanes, value);
+    let lane = lane_of(
+        sums,
+        t * 64,
+        store,
+        search_store::cost_at(1, t, q1, a),
+        lanes,
+        value,
+    );
     let at = t * 64 + lane;
     let s = start_of(store, i, starts, q0, a, t, lane, sums[at]);
     (s * 768 + at) as u32
@@ -282,8 +276,8 @@ fn put_case(
     ensures { λ _. ⌜ Part starts lanes i (OneCase q0 q1 a) (now (store .entry)) (now (store .exit)) ⌝ }
 {
     let best = join_case(sums, live, store, i, starts, lanes, q0, q1, a);
-    store[case_at(i + 1, q0, q1) + a] = best.value;
-    store[pointer_at(i + 1, q0, q1) + a] = best.code;
+    store[search_store::case_at(i + 1, q0, q1) + a] = best.value;
+    store[search_store::pointer_at(i + 1, q0, q1) + a] = best.code;
 }
 
 // The cases of a state of row 0 in a pose, for every state of row 1.
@@ -360,7 +354,7 @@ fn close_state(store: &mut [u32], i: usize, q0: usize, ends: usize, low: usize, 
     while t < ends {
         search_lanes::fill(
             store,
-            case_at(i, q0, t) + low,
+            search_store::case_at(i, q0, t) + low,
             high - low,
             search_lanes::NONE,
         );

@@ -7,6 +7,7 @@ use native.Mathlib.Decide.{ℕ-discrete, decLt}
 use borrow.Author.Count.{below-more}
 use lib.ListN.{length, getD, set, length-set, replicate, length-replicate, getD-replicate, List·getD-eq-default}
 use lib.Seq.{getD-set-same, getD-set-other}
+use Rattle.search_store.specs.Map.{layerBlock, stateBlock}
 use Rattle.theory_tables.specs.Steps.{B, Layer}
 use Rattle.search_lanes.specs.Lanes.{Lowered, always}
 use Rattle.search_lanes.specs.Store.{Frame, Low, Written, WrittenRows, layerIn, FilledState, Filled}
@@ -149,14 +150,14 @@ state-none F lanes to q {st} w = record { frame = frame-refl _ _ st; low = w; ri
 
 pub state-more :
     {F : ℕ → Layer} {g : ℕ → ℕ} {lanes to q : ℕ} {old mid new : List ℕ} (a : ℕ)
-    → lanes ≤ 64 → a < 64 → FilledState F lanes to q a old mid → Written g (to + q * 4096 + a * 64) lanes mid new → ((l : ℕ) → l < lanes → F l q a ≡ g l)
+    → lanes ≤ 64 → a < 64 → FilledState F lanes to q a old mid → Written g (to + q * stateBlock + a * 64) lanes mid new → ((l : ℕ) → l < lanes → F l q a ≡ g l)
     → FilledState F lanes to q (a + 1) old new
 state-more {F} {g} {lanes} {to} {q} {new = new} a n k s w e =
     record {
-      frame = frame-join (to + q * 4096) (to + q * 4096 + 4096) (s .frame) (w .frame) (omega arith) (omega arith) (omega arith) (omega arith);
+      frame = frame-join (to + q * stateBlock) (to + q * stateBlock + stateBlock) (s .frame) (w .frame) (omega arith) (omega arith) (omega arith) (omega arith);
       low = w .low;
       right = below-more (λ (a : ℕ). (l : ℕ) → l < lanes → layerIn new to l q a ≡ F l q a) a
-          (λ b p l r. w .frame .low (to + q * 4096 + b * 64 + l) (omega arith) ∙ s .right b p l r)
+          (λ b p l r. w .frame .low (to + q * stateBlock + b * 64 + l) (omega arith) ∙ s .right b p l r)
           (λ l r. w .words l r ∙ sym (e l r));
     }
 
@@ -170,11 +171,11 @@ state-ext w e = record { frame = w .frame; low = w .low; right = λ a p l r. w .
 -- so many rows of a state's block
 pub state-rows :
     {F : ℕ → Layer} {f : ℕ → ℕ → ℕ} {lanes to q m : ℕ} {old new : List ℕ}
-    → m ≤ 64 → WrittenRows f (to + q * 4096) m lanes old new → ((a l : ℕ) → a < m → l < lanes → F l q a ≡ f a l)
+    → m ≤ 64 → WrittenRows f (to + q * stateBlock) m lanes old new → ((a l : ℕ) → a < m → l < lanes → F l q a ≡ f a l)
     → FilledState F lanes to q m old new
 state-rows {to = to} {q = q} {old = old} {new = new} k w e =
     record {
-      frame = frame-join (to + q * 4096) (to + q * 4096 + 4096) (frame-refl (to + q * 4096) (to + q * 4096) old) (w .frame) (omega arith) (omega arith) (omega arith) (omega arith);
+      frame = frame-join (to + q * stateBlock) (to + q * stateBlock + stateBlock) (frame-refl (to + q * stateBlock) (to + q * stateBlock) old) (w .frame) (omega arith) (omega arith) (omega arith) (omega arith);
       low = w .low;
       right = λ a p l r. w .words a l p r ∙ sym (e a l p r);
     }
@@ -189,10 +190,10 @@ pub filled-more :
     → Filled F lanes poses to (q + 1) old new
 filled-more {F} {G} {lanes} {poses} {to} {new = new} q n k h s w e =
     record {
-      frame = frame-join to (to + 49152) (s .frame) (w .frame) (omega arith) (omega arith) (omega arith) (omega arith);
+      frame = frame-join to (to + layerBlock) (s .frame) (w .frame) (omega arith) (omega arith) (omega arith) (omega arith);
       low = w .low;
       right = below-more (λ (q : ℕ). (a l : ℕ) → a < poses → l < lanes → layerIn new to l q a ≡ F l q a) q
-          (λ p j a l x y. w .frame .low (to + p * 4096 + a * 64 + l) (omega arith) ∙ s .right p j a l x y)
+          (λ p j a l x y. w .frame .low (to + p * stateBlock + a * 64 + l) (omega arith) ∙ s .right p j a l x y)
           (λ a l x y. w .right a x l y ∙ sym (e a l x y));
     }
 

@@ -3,6 +3,7 @@ use Prim.Native.Nat.{ℕ, _+_, _*_, _≤_, _<_}
 use mathlib.Core.Path.{_≡_}
 use mathlib.Core.List.{List}
 use lib.ListN.{length, getD}
+use Rattle.search_store.specs.Map.{layerBlock, stateBlock}
 use Rattle.theory_tables.specs.Steps.{B, Layer}
 
 -- the words from a to b may be other ones, and nothing else is
@@ -29,16 +30,16 @@ pub record WrittenRows (f : ℕ → ℕ → ℕ) (at rows lanes : ℕ) (old new 
 
 -- lane l of a layer whose block begins at `at`: state q has 64 rows of 64 words, a row for each pose, a word for each lane
 abbrev pub layerIn : List ℕ → ℕ → ℕ → Layer
-layerIn st at l q a = getD st (at + q * 4096 + a * 64 + l) 0
+layerIn st at l q a = getD st (at + q * stateBlock + a * 64 + l) 0
 
 -- lane by lane, the layers F are in the block at `to`: the rows below m of state q
 pub record FilledState (F : ℕ → Layer) (lanes to q m : ℕ) (old new : List ℕ) : Type 0 where
-  pub frame : Frame (to + q * 4096) (to + q * 4096 + 4096) old new
+  pub frame : Frame (to + q * stateBlock) (to + q * stateBlock + stateBlock) old new
   pub low : Low new
   pub right : (a : ℕ) → a < m → (l : ℕ) → l < lanes → layerIn new to l q a ≡ F l q a
 
 -- the states below m, with so many poses
 pub record Filled (F : ℕ → Layer) (lanes poses to m : ℕ) (old new : List ℕ) : Type 0 where
-  pub frame : Frame to (to + 49152) old new
+  pub frame : Frame to (to + layerBlock) old new
   pub low : Low new
   pub right : (q : ℕ) → q < m → (a l : ℕ) → a < poses → l < lanes → layerIn new to l q a ≡ F l q a

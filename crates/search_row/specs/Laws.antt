@@ -10,7 +10,7 @@ use lib.ListN.{getD}
 use lib.Dec.{leb, ltb, eqb}
 use Rattle.definition.specs.Cost.{charges, charge}
 use Rattle.theory_tables.specs.Steps.{B, offset, lastAt, isSource}
-use Rattle.search_row.specs.Words.{wordOf, weightIn, differIn, siteIn, endIn, tollIn, frontIn, backIn, deckOf, thereIn, RowWords}
+use Rattle.search_row.specs.Words.{wordOf, weightIn, differIn, siteIn, endIn, tollIn, frontIn, backIn, deckOf, thereIn, RowWords, apartWord, touchingWord}
 
 pub charge-low : (gap : ℕ) → charge gap ≤ 1
 charge-low gap = go (min gap 4) (omega arith)
@@ -43,7 +43,7 @@ pub charged-low : {c x : ℕ} → c ≤ 1 → x ≤ 262144 → c * x ≤ 262144
 charged-low p q = mul-le-mul p q
 
 pub weight-low : {line : List ℕ} (m gap : ℕ) → RowWords line → weightIn line m gap ≤ 131072
-weight-low {line} m gap w = cond-low (eqb gap 0) {x = wordOf line m 84} {y = wordOf line m 86} (w .weight m) (w .filled m)
+weight-low {line} m gap w = cond-low (eqb gap 0) {x = wordOf line m touchingWord} {y = wordOf line m apartWord} (w .weight m) (w .filled m)
 
 pub toll-low : {line : List ℕ} (k b m a : ℕ) → RowWords line → tollIn line k b m a ≤ B
 unfolding tollIn

@@ -9,33 +9,78 @@ use Rattle.definition.specs.Cost.{charge}
 use Rattle.theory_tables.specs.Steps.{B, Deck, stateCount, offset, marks, before, lastAt}
 use Rattle.search_row.specs.declared.Sizes.{Sizes}
 
--- The cell at position k has the words from 128 k on: 0 to 59 what it costs by pose (B: not offered), 64 given, 65 and 66 the widths of its
--- layouts, 67 whether it is tall; by variant (2 layout + mark) 68 left P, 72 left N, 76 right P, 80 right N; 84 the weight of a step where it touches
--- the cell on its left, 85 its number, 86 the weight of a step at every other gap.
+-- The words of a row: those of its cells, then those of the states, then the positions of its tall cells.
+abbrev pub cellWords : ℕ
+cellWords = 128
+
+abbrev pub statesFrom : ℕ
+statesFrom = 8192
+
+abbrev pub statesEnd : ℕ
+statesEnd = 8240
+
+abbrev pub tallsFrom : ℕ
+tallsFrom = 8256
+
+abbrev pub rowLength : ℕ
+rowLength = 8288
+
+-- The words of a cell: first what it costs by pose (B: not offered); then its given site, the widths of its layouts, whether it is
+-- tall; by variant (2 layout + mark) its heights left P, left N, right P, right N; the weight of a step where it touches the cell on
+-- its left, its number, and the weight of a step at every other gap.
+abbrev pub givenWord : ℕ
+givenWord = 64
+
+abbrev pub widthWord : ℕ
+widthWord = 65
+
+abbrev pub tallWord : ℕ
+tallWord = 67
+
+abbrev pub leftP : ℕ
+leftP = 68
+
+abbrev pub leftN : ℕ
+leftN = 72
+
+abbrev pub rightP : ℕ
+rightP = 76
+
+abbrev pub rightN : ℕ
+rightN = 80
+
+abbrev pub touchingWord : ℕ
+touchingWord = 84
+
+abbrev pub numberWord : ℕ
+numberWord = 85
+
+abbrev pub apartWord : ℕ
+apartWord = 86
+
 -- Pose a is 4 e + 2 layout + mark, at site given + e - D. Sites are compared with D added to both.
 abbrev pub wordOf : List ℕ → ℕ → ℕ → ℕ
-wordOf line k i = getD line (k * 128 + i) 0
+wordOf line k i = getD line (k * cellWords + i) 0
 
 abbrev pub variant : ℕ → ℕ
 variant a = a % 4
 
 -- the left site of pose a, and the first site right of pose b; both with D added
 abbrev pub siteIn : List ℕ → ℕ → ℕ → ℕ
-siteIn line k a = wordOf line k 64 + a / 4
+siteIn line k a = wordOf line k givenWord + a / 4
 
 abbrev pub endIn : List ℕ → ℕ → ℕ → ℕ
-endIn line k b = siteIn line k b + wordOf line k (65 + variant b / 2)
+endIn line k b = siteIn line k b + wordOf line k (widthWord + variant b / 2)
 
 -- how many of the heights differ where pose b of k has pose a of m on its right
 abbrev pub differIn : List ℕ → ℕ → ℕ → ℕ → ℕ → ℕ
 differIn line k b m a =
-    cond (eqb (wordOf line k (76 + variant b)) (wordOf line m (68 + variant a))) 0 1
-    + cond (eqb (wordOf line k (80 + variant b)) (wordOf line m (72 + variant a))) 0 1
+    cond (eqb (wordOf line k (rightP + variant b)) (wordOf line m (leftP + variant a))) 0 1
+    + cond (eqb (wordOf line k (rightN + variant b)) (wordOf line m (leftN + variant a))) 0 1
 
--- the weight of a step between m and the cell on its left, by the gap between them: document 01 has one weight (request A7 is to give words 84 and 86
--- two)
+-- the weight of a step between m and the cell on its left, by the gap between them: document 01 has one weight (request A7 is to give words two)
 abbrev pub weightIn : List ℕ → ℕ → ℕ → ℕ
-weightIn line m gap = cond (eqb gap 0) (wordOf line m 84) (wordOf line m 86)
+weightIn line m gap = cond (eqb gap 0) (wordOf line m touchingWord) (wordOf line m apartWord)
 
 -- what the right one's left site x and the left one's end y make of what they pay by their gap
 abbrev pub tollAt : ℕ → ℕ → (ℕ → ℕ) → ℕ
@@ -54,7 +99,7 @@ backIn line k a = 0
 
 abbrev pub deckOf : List ℕ → ℕ → ℕ → Deck
 deckOf line n poses =
-    record { size = n; poses = poses; own = λ k a. wordOf line k a; toll = tollIn line; tall = λ k. eqb (wordOf line k 67) 1; front = frontIn line; back = backIn line }
+    record { size = n; poses = poses; own = λ k a. wordOf line k a; toll = tollIn line; tall = λ k. eqb (wordOf line k tallWord) 1; front = frontIn line; back = backIn line }
 
 -- with i cells placed, the row of n cells has the last of them, that of state q; so it is with every deck of n cells
 abbrev pub thereIn : ℕ → ℕ → ℕ → ℕ → Bool
@@ -62,13 +107,13 @@ thereIn n R i q = leb (suc R) (i + offset R q) && ltb (lastAt R i q) n
 
 -- the words of the states, after those of the cells: state q has four, its digit, its marks, and the marks before
 abbrev pub stateAt : ℕ → ℕ
-stateAt q = 8192 + q * 4
+stateAt q = statesFrom + q * 4
 
 pub record StateWords (R : ℕ) (row : List ℕ) : Type 0 where
   pub reorder : R ≤ 2
   pub few : stateCount R ≤ 12
   pub small : (q : ℕ) → q < stateCount R → offset R q ≤ 4
-  pub long : 8240 ≤ length row
+  pub long : statesEnd ≤ length row
   pub digit : (q : ℕ) → q < stateCount R → getD row (stateAt q) 0 ≡ offset R q
   pub mark : (q : ℕ) → q < stateCount R → getD row (stateAt q + 1) 0 ≡ marks R q
   pub earlier : (q : ℕ) → q < stateCount R → getD row (stateAt q + 2) 0 ≡ before R q
@@ -76,10 +121,10 @@ pub record StateWords (R : ℕ) (row : List ℕ) : Type 0 where
 -- a row's words: none is over B, and the step weights are so small that what is paid stays below it (document 01 has weights up to 1,000; a request that ranks
 -- equal costs, A14, is to scale them by 128)
 pub record RowWords (row : List ℕ) : Type 0 where
-  pub long : 8288 ≤ length row
+  pub long : rowLength ≤ length row
   pub word : (k : ℕ) → getD row k 0 ≤ B
-  pub weight : (k : ℕ) → wordOf row k 84 ≤ 131072
-  pub filled : (k : ℕ) → wordOf row k 86 ≤ 131072
+  pub weight : (k : ℕ) → wordOf row k touchingWord ≤ 131072
+  pub filled : (k : ℕ) → wordOf row k apartWord ≤ 131072
 
 -- the row as the tables' numbers
 abbrev pub deckIn : List ℕ → Sizes → Deck
@@ -87,7 +132,7 @@ deckIn row z = deckOf row (z .cells) (z .poses)
 
 -- where its tall cells stand: their words come after those of the states
 unfoldable pub posIn : List ℕ → ℕ → ℕ
-posIn row I = getD row (8256 + I) 0
+posIn row I = getD row (tallsFrom + I) 0
 
 -- the sizes of a row with another number of cells
 abbrev pub withCells : Sizes → ℕ → Sizes

@@ -9,6 +9,36 @@ ghost use Rattle.theory_tables.specs.Steps.{stateCount, lastAt, isSource};
 ghost use Rattle.theory_tables.specs.Stages.{placedWith};
 ghost use Rattle.search_row.specs.Words.{siteIn, endIn, differIn, weightIn, tollIn, frontIn, backIn, deckIn, thereIn, posIn, StateWords, RowWords, Ground};
 
+// The words of a row: those of a cell; where the states begin, the tall cells' positions, and how many words there are.
+pub const CELL: usize = 128;
+
+pub const STATES: usize = 8192;
+
+pub const TALLS: usize = 8256;
+
+pub const WORDS: usize = 8288;
+
+// The words of a cell after its costs by pose; the heights have one for each variant.
+pub const GIVEN: usize = 64;
+
+const WIDTH: usize = 65;
+
+pub const TALL: usize = 67;
+
+const LEFT_P: usize = 68;
+
+const LEFT_N: usize = 72;
+
+const RIGHT_P: usize = 76;
+
+const RIGHT_N: usize = 80;
+
+pub const TOUCHING: usize = 84;
+
+pub const NUMBER: usize = 85;
+
+pub const APART: usize = 86;
+
 // The sizes of a search in one row: how many cells, poses of a cell, places a cell may move, states and tall cells there are.
 pub struct Sizes {
     pub cells: usize,
@@ -32,7 +62,7 @@ pub fn last_at(row: &[u32], sizes: Sizes, i: usize, q: usize) -> usize
     ensures { λ p. ⌜ p ≡ lastAt (sizes .reordering) i q ⌝ }
 {
     let r = sizes.reordering;
-    let k = i + word(row, 8192 + q * 4);
+    let k = i + word(row, STATES + q * 4);
     if k < r + 1 {
         return 0;
     }
@@ -45,7 +75,7 @@ pub fn is_there(row: &[u32], sizes: Sizes, i: usize, q: usize) -> bool
     ensures { λ t. ⌜ t ≡ thereIn (sizes .cells) (sizes .reordering) i q ⌝ }
 {
     let r = sizes.reordering;
-    if i + word(row, 8192 + q * 4) < r + 1 {
+    if i + word(row, STATES + q * 4) < r + 1 {
         return false;
     }
     last_at(row, sizes, i, q) < sizes.cells
@@ -60,10 +90,10 @@ pub fn is_source(row: &[u32], sizes: Sizes, i: usize, q1: usize, q: usize) -> bo
         return false;
     }
     let k = last_at(row, sizes, i, q);
-    if row[k * 128 + 67] == 1 {
+    if row[k * CELL + TALL] == 1 {
         return false;
     }
-    row[8192 + q * 4 + 1] == row[8192 + q1 * 4 + 2]
+    row[STATES + q * 4 + 1] == row[STATES + q1 * 4 + 2]
 }
 
 // The left site of the cell at position k in pose a, with D added.
@@ -71,7 +101,7 @@ pub fn site(row: &[u32], k: usize, a: usize) -> usize
     requires { ⌜ RowWords (now row) × (k < 64) × (a < 64) ⌝ }
     ensures { λ x. ⌜ x ≡ siteIn (now (row .entry)) k a ⌝ }
 {
-    word(row, k * 128 + 64) + a / 4
+    word(row, k * CELL + GIVEN) + a / 4
 }
 
 // The first site right of it.
@@ -79,7 +109,7 @@ pub fn end(row: &[u32], k: usize, b: usize) -> usize
     requires { ⌜ RowWords (now row) × (k < 64) × (b < 64) ⌝ }
     ensures { λ y. ⌜ y ≡ endIn (now (row .entry)) k b ⌝ }
 {
-    site(row, k, b) + word(row, k * 128 + (65 + b % 4 / 2))
+    site(row, k, b) + word(row, k * CELL + (WIDTH + b % 4 / 2))
 }
 
 // 1 if two heights differ.
@@ -94,8 +124,14 @@ pub fn differ(row: &[u32], k: usize, b: usize, m: usize, a: usize) -> u32
     requires { ⌜ RowWords (now row) × (k < 64) × (b < 60) × (m < 64) × (a < 60) ⌝ }
     ensures { λ d. ⌜ d ≡ differIn (now (row .entry)) k b m a ⌝ }
 {
-    let p = unlike(row[k * 128 + (76 + b % 4)], row[m * 128 + (68 + a % 4)]);
-    let n = unlike(row[k * 128 + (80 + b % 4)], row[m * 128 + (72 + a % 4)]);
+    let p = unlike(
+        row[k * CELL + (RIGHT_P + b % 4)],
+        row[m * CELL + (LEFT_P + a % 4)],
+    );
+    let n = unlike(
+        row[k * CELL + (RIGHT_N + b % 4)],
+        row[m * CELL + (LEFT_N + a % 4)],
+    );
     p + n
 }
 
@@ -105,9 +141,9 @@ fn weight(row: &[u32], m: usize, gap: usize) -> u32
     ensures { λ w. ⌜ w ≡ weightIn (now (row .entry)) m gap ⌝ }
 {
     if gap == 0 {
-        return row[m * 128 + 84];
+        return row[m * CELL + TOUCHING];
     }
-    row[m * 128 + 86]
+    row[m * CELL + APART]
 }
 
 // What the two pay; NONE where they may not stand so.
@@ -148,7 +184,7 @@ pub fn tall_at(row: &[u32], i: usize) -> usize
     requires { ⌜ RowWords (now row) × (i < 32) ⌝ }
     ensures { λ p. ⌜ p ≡ posIn (now (row .entry)) i ⌝ }
 {
-    word(row, 8256 + i)
+    word(row, TALLS + i)
 }
 
 // How many cells are placed once the cell at position p stands as state s.
@@ -158,7 +194,7 @@ pub fn placed_with(row: &[u32], sizes: Sizes, p: usize, s: usize) -> usize
 {
     let r = sizes.reordering;
     let all = p + r + 1;
-    let d = word(row, 8192 + s * 4);
+    let d = word(row, STATES + s * 4);
     if all < d {
         return 0;
     }

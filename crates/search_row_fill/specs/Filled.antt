@@ -25,7 +25,7 @@ use Rattle.theory_bridge.specs.Words.{keep-pick}
 use Rattle.theory_bridge.specs.Row.{cells-same, members-same}
 use Rattle.search_lanes.specs.Lanes.{always}
 use Rattle.search_lanes.specs.Store.{Low, Written}
-use Rattle.search_row.specs.Words.{wordOf, deckOf, RowWords}
+use Rattle.search_row.specs.Words.{wordOf, deckOf, RowWords, apartWord, cellWords, numberWord, rowLength, statesFrom, tallsFrom, touchingWord}
 use Rattle.search_states.specs.Rest.{rest, rest-none, rest-more, rest-all, next, done}
 use Rattle.search_row_fill.specs.Words.{alone, cellWord}
 use Rattle.search_row_fill.specs.Cell.{word-alone, CellWords, cell-words}
@@ -46,7 +46,7 @@ row-side (suc (suc n)) h = absurd (omega arith)
 
 -- the cell of a job of one cell is written at position n, if it stands in the row
 pub record Added (j : Job) (row number n n′ : ℕ) (old new : List ℕ) : Type 0 where
-  pub there : job.inRow row (cellAt j 0) ≡ true → (n′ ≡ n + 1) × Written (cellWord j row 0 number) (n * 128) 87 old new
+  pub there : job.inRow row (cellAt j 0) ≡ true → (n′ ≡ n + 1) × Written (cellWord j row 0 number) (n * cellWords) 87 old new
   pub away : job.inRow row (cellAt j 0) ≡ false → (n′ ≡ n) × (new ≡ old)
 
 -- ---- the row
@@ -64,7 +64,7 @@ module _ (j : Job) (s : Side) where
 
   -- the first k cells are looked at, and n of them stand in the row
   pub record Filled (l : List ℕ) (n k : ℕ) : Type 0 where
-    pub long : 8288 ≤ length l
+    pub long : rowLength ≤ length l
     pub most : length (j .cells) ≤ 64
     pub below : n ≤ k
     pub few : k ≤ length (j .cells)
@@ -72,10 +72,10 @@ module _ (j : Job) (s : Side) where
     pub left : drop n (members (pairJob j) s) ≡ rest stands k (length (j .cells))
     pub low : Low l
     pub words : (p : ℕ) → p < n → (i : ℕ) → i < 87 → wordOf l p i ≡ cellWord j (rowOf s) (cell (pairJob j) s p) (cell (pairJob j) s p) i
-    pub zero : (q : ℕ) → n * 128 ≤ q → q < 8192 → getD l q 0 ≡ 0
-    pub upper : (q : ℕ) → 8256 ≤ q → getD l q 0 ≤ 63
+    pub zero : (q : ℕ) → n * cellWords ≤ q → q < statesFrom → getD l q 0 ≡ 0
+    pub upper : (q : ℕ) → tallsFrom ≤ q → getD l q 0 ≤ 63
 
-  pub filled-none : Sound j → {old new : List ℕ} → 8288 ≤ length old → Written (always 0) 0 (length old) old new → Filled new 0 0
+  pub filled-none : Sound j → {old new : List ℕ} → rowLength ≤ length old → Written (always 0) 0 (length old) old new → Filled new 0 0
   filled-none sound {old} {new} h w = record {
     long = let e = w .frame .long in omega arith;
     most = sound .few;
@@ -94,7 +94,7 @@ module _ (j : Job) (s : Side) where
       go q (no g) = w .frame .high q (omega arith) ∙ List·getD-eq-default old 0 (omega arith)
 
   filled-more : {l l′ : List ℕ} {n k : ℕ} → Filled l n k → k < length (j .cells) → stands k ≡ true
-      → Written (cellWord (alone (j .header) (cellAt j k)) (rowOf s) 0 k) (n * 128) 87 l l′ → Filled l′ (n + 1) (k + 1)
+      → Written (cellWord (alone (j .header) (cellAt j k)) (rowOf s) 0 k) (n * cellWords) 87 l l′ → Filled l′ (n + 1) (k + 1)
   filled-more {l} {l′} {n} {k} f h e w =
       let x = next {d = 0} (members (pairJob j) s) n (f .left ∙ rest-more stands k (length (j .cells)) h ∙ ap (λ t. cond t (k ∷ rest stands (k + 1) (length (j .cells))) (rest stands (k + 1) (length (j .cells)))) e) in
       let i = x .inside in
@@ -107,7 +107,7 @@ module _ (j : Job) (s : Side) where
         left = x .after;
         low = w .low;
         words = below-more (λ p. (i : ℕ) → i < 87 → wordOf l′ p i ≡ cellWord j (rowOf s) (cell (pairJob j) s p) (cell (pairJob j) s p) i) n
-            (λ p g i q. w .frame .low (p * 128 + i) (omega arith) ∙ f .words p g i q)
+            (λ p g i q. w .frame .low (p * cellWords + i) (omega arith) ∙ f .words p g i q)
             (λ i q. w .words i q ∙ word-alone j (rowOf s) k i ∙ ap (λ c. cellWord j (rowOf s) c c i) (sym (x .here)));
         zero = λ q g b. w .frame .high q (omega arith) ∙ f .zero q (omega arith) b;
         upper = λ q g. omega (arith, w .frame .high q (omega (arith, f .most, f .below, h)), f .upper q g);
@@ -135,8 +135,8 @@ module _ (j : Job) (s : Side) where
       go false e = let r = a .away e in subst (λ x. Filled l′ x (k + 1)) (sym (r .0)) (subst (λ x. Filled x n (k + 1)) (sym (r .1)) (filled-skip f h e))
 
   -- what is written above the cells' words does not alter them
-  pub filled-on : {l l′ : List ℕ} {n k : ℕ} → Filled l n k → length l′ ≡ length l → Low l′ → ((q : ℕ) → q < 8192 → getD l′ q 0 ≡ getD l q 0)
-      → ((q : ℕ) → 8256 ≤ q → getD l′ q 0 ≤ 63) → Filled l′ n k
+  pub filled-on : {l l′ : List ℕ} {n k : ℕ} → Filled l n k → length l′ ≡ length l → Low l′ → ((q : ℕ) → q < statesFrom → getD l′ q 0 ≡ getD l q 0)
+      → ((q : ℕ) → tallsFrom ≤ q → getD l′ q 0 ≤ 63) → Filled l′ n k
   filled-on {l} {l′} f e w same small = record {
     long = omega (arith, e, f .long);
     most = f .most;
@@ -145,7 +145,7 @@ module _ (j : Job) (s : Side) where
     upto = f .upto;
     left = f .left;
     low = w;
-    words = λ p g i h. same (p * 128 + i) (omega (arith, f .most, f .below, f .few)) ∙ f .words p g i h;
+    words = λ p g i h. same (p * cellWords + i) (omega (arith, f .most, f .below, f .few)) ∙ f .words p g i h;
     zero = λ q g b. same q b ∙ f .zero q g b;
     upper = small;
   }
@@ -162,7 +162,7 @@ pub record Lined (j : Job) (s : Side) (l : List ℕ) (n : ℕ) : Type 0 where
   pub words : RowWords l
   pub size : n ≤ 64
   pub few : poseNumbers j ≤ 60
-  pub number : (p : ℕ) → p < n → wordOf l p 85 ≡ cell (pairJob j) s p
+  pub number : (p : ℕ) → p < n → wordOf l p numberWord ≡ cell (pairJob j) s p
 
 module _ (j : Job) (sound : Sound j) (s : Side) (l : List ℕ) (n k : ℕ) (f : Filled j s l n k) (e : k ≡ length (j .cells)) where
   row-words : RowCells j s l n
@@ -177,14 +177,14 @@ module _ (j : Job) (sound : Sound j) (s : Side) (l : List ℕ) (n k : ℕ) (f : 
 
       -- past the row's cells there is 0, and past all cells no large word
       beyond : (p i : ℕ) → (p < n → ⊥) → (84 ≤ i) × (i < 128) → Dec (p < 64) → wordOf l p i ≤ 131072
-      beyond p i h b (yes g) = omega (arith, f .zero (p * 128 + i) (omega arith) (omega arith))
-      beyond p i h b (no g) = omega (arith, f .upper (p * 128 + i) (omega arith))
+      beyond p i h b (yes g) = omega (arith, f .zero (p * cellWords + i) (omega arith) (omega arith))
+      beyond p i h b (no g) = omega (arith, f .upper (p * cellWords + i) (omega arith))
 
-      weight : (p : ℕ) → Dec (p < n) → wordOf l p 84 ≤ 131072
+      weight : (p : ℕ) → Dec (p < n) → wordOf l p touchingWord ≤ 131072
       weight p (yes h) = let w = cells p h .weight in let b = sound .header .step in omega arith
       weight p (no h) = beyond p 84 h (omega arith, omega arith) (decLt p 64)
 
-      filled : (p : ℕ) → Dec (p < n) → wordOf l p 86 ≤ 131072
+      filled : (p : ℕ) → Dec (p < n) → wordOf l p apartWord ≤ 131072
       filled p (yes h) = let w = cells p h .filled in let b = sound .header .step in omega arith
       filled p (no h) = beyond p 86 h (omega arith, omega arith) (decLt p 64)
 

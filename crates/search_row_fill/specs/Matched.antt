@@ -1,4 +1,4 @@
--- A row's words stand for the row of the state's theory: what a cell costs, and what two neighbours pay and the cells at the row's ends. Sites are
+-- A row's words stand for the row of the pair theory: what a cell costs, and what two neighbours pay and the cells at the row's ends. Sites are
 -- compared with D added to both.
 use Prim.Native.Nat.{ℕ, zero, suc, _+_, _-_, _*_, _≤_, _<_}
 use mathlib.Core.Path.{_≡_, refl, sym, ap, ap₂, _∙_}
@@ -24,7 +24,7 @@ use Rattle.theory_tables.specs.Matched.{Matched}
 use Rattle.theory_bridge.specs.Paired.{kindOf, rowOf, siteOf, poseNumbers, poseNumber, isOffered, offersOf, widthOf, ownOf, differingOf, payOf, pairJob}
 use Rattle.theory_bridge.specs.Row.{isTall-same, member}
 use Rattle.theory_bridge.specs.Legal.{end-allowed}
-use Rattle.search_row.specs.Words.{wordOf, siteIn, endIn, differIn, weightIn, tollAt, tollIn, frontIn, backIn, deckOf, RowWords}
+use Rattle.search_row.specs.Words.{wordOf, siteIn, endIn, differIn, weightIn, tollAt, tollIn, frontIn, backIn, deckOf, RowWords, apartWord, touchingWord}
 use Rattle.search_row_fill.specs.Words.{ownWord}
 use Rattle.search_row_fill.specs.Cell.{offered-low, CellWords}
 
@@ -70,7 +70,7 @@ module _ (j : Job) (s : Side) (l : List ℕ) (k m : ℕ) (b a : ℕ) (K M : ℕ)
   weight-same : (gap : ℕ) → weightIn l m gap ≡ j .header .stepWeight
   weight-same gap = go (eqb gap 0)
     where
-      go : (t : Bool) → cond t (wordOf l m 84) (wordOf l m 86) ≡ j .header .stepWeight
+      go : (t : Bool) → cond t (wordOf l m touchingWord) (wordOf l m apartWord) ≡ j .header .stepWeight
       go true = v .weight
       go false = v .filled
 

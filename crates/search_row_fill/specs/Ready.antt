@@ -12,7 +12,7 @@ use Rattle.theory_pair.specs.Cells.{Side, tallCount, pos, cell-pos}
 use Rattle.theory_bridge.specs.Paired.{poseNumbers, pairJob}
 use Rattle.search_lanes.specs.Store.{Written}
 use Rattle.search_row.specs.declared.Sizes.{Sizes}
-use Rattle.search_row.specs.Words.{posIn, withCells, StateWords, RowGiven}
+use Rattle.search_row.specs.Words.{posIn, withCells, StateWords, RowGiven, rowLength, tallsFrom}
 use Rattle.search_states.specs.Upto.{Coded}
 use Rattle.search_row_fill.specs.Filled.{CellsIn, Lined, filled-on, lined}
 use Rattle.search_row_fill.specs.TallWords.{tallsIn, TallWords, talls-count, talls-few, talls-pos}
@@ -53,15 +53,15 @@ wordsOf l k = getD l k 0
 
 module _ {j : Job} {s : Side} {cells talls row places : List ℕ} {n count states : ℕ} (sound : Sound j)
     (f : CellsIn j s cells n) (t : TallWords cells n places count)
-    (w : Written (wordsOf places) 8256 32 cells talls) (c : Coded (j .header .reordering) talls row states) where
+    (w : Written (wordsOf places) tallsFrom 32 cells talls) (c : Coded (j .header .reordering) talls row states) where
   -- the words above all states are positions
-  upper : (q : ℕ) → 8256 ≤ q → getD row q 0 ≤ 63
-  upper q h = go (decLt q 8288)
+  upper : (q : ℕ) → tallsFrom ≤ q → getD row q 0 ≤ 63
+  upper q h = go (decLt q rowLength)
     where
-      go : Dec (q < 8288) → getD row q 0 ≤ 63
+      go : Dec (q < rowLength) → getD row q 0 ≤ 63
       go (yes g) =
-          let k = q - 8256 in
-          let e : 8256 + k ≡ q = omega arith in
+          let k = q - tallsFrom in
+          let e : tallsFrom + k ≡ q = omega arith in
           omega (arith, c .frame .high q (omega arith), ap (λ (i : ℕ). getD talls i 0) e, w .words k (omega arith), t .small k)
       go (no g) = omega (arith, c .frame .high q (omega arith), w .frame .high q (omega arith), f .upper q h)
 
@@ -79,7 +79,7 @@ module _ {j : Job} {s : Side} {cells talls row places : List ℕ} {n count state
   stands I h =
       let few = talls-few first sound in
       let all = talls-count first in
-      c .frame .high (8256 + I) (omega arith) ∙ w .words I (omega arith) ∙ talls-pos first t .1 I h
+      c .frame .high (tallsFrom + I) (omega arith) ∙ w .words I (omega arith) ∙ talls-pos first t .1 I h
 
   pub row-ready : RowReady j s row (sizesOf j n states count)
   row-ready = record {

@@ -15,14 +15,14 @@ use Rattle.lists.specs.Numbers.{from, in-from}
 use Rattle.theory_pair.specs.Pick.{pick}
 use Rattle.theory_pair.specs.Cells.{Side, members, tallCount, pos}
 use Rattle.theory_bridge.specs.Paired.{pairJob}
-use Rattle.search_row.specs.Words.{wordOf}
+use Rattle.search_row.specs.Words.{wordOf, tallWord}
 use Rattle.search_states.specs.Rest.{rest, rest-none, rest-more, rest-all, Next, next, done}
 use Rattle.search_row_fill.specs.Filled.{Lined}
 use Rattle.search_row_fill.specs.Talls.{pick-same, few-talls, tallPlaces, places-count, places-pos}
 
 -- the positions whose word says tall, of the first n
 abbrev pub tallAt : List ℕ → ℕ → Bool
-tallAt line p = eqb (wordOf line p 67) 1
+tallAt line p = eqb (wordOf line p tallWord) 1
 
 unfoldable pub tallsIn : List ℕ → ℕ → List ℕ
 tallsIn line n = pick (tallAt line) (from 0 n)

@@ -1,4 +1,4 @@
--- The tall cells of a row, by their positions in rising order: the I-th of them stands where the state's theory has tall cell I.
+-- The tall cells of a row, by their positions in rising order: the I-th of them stands where the pair theory has tall cell I.
 use Prim.Native.Nat.{ℕ, zero, suc, _≤_, _<_}
 use mathlib.Core.Path.{_≡_, refl, sym, ap, ap₂, _∙_}
 use mathlib.Core.Bool.{Bool, true, false, cond}

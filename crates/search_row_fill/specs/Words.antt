@@ -1,4 +1,4 @@
--- The words of a cell in a row, by their places in deck/specs/Words.antt. Nothing to believe: Matched.antt proves that they stand for the state's row.
+-- The words of a cell in a row, by their places in search_row/specs/Words.antt. Nothing to believe: Matched.antt proves that they stand for the state's row.
 use Prim.Native.Nat.{ℕ, _+_, _-_, _*_, _/_, _%_}
 use mathlib.Core.Bool.{_&&_, cond}
 use mathlib.Core.List.{[], _∷_}

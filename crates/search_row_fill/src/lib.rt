@@ -4,6 +4,7 @@ ghost use mathlib.Core.Bool.{_&&_, _||_};
 ghost use Prim.Native.Nat.{ℕ, _+_, _*_, _/_, _≤_, _<_};
 ghost use lib.ListN.{length, getD};
 ghost use lib.Dec.{eqb};
+ghost use Rattle.search_row.specs.Words.{rowLength, statesFrom, tallsFrom};
 ghost use Rattle.definition.specs.Rules.{apart};
 ghost use Rattle.definition_laws.specs.Sound.{Sound};
 ghost use Rattle.job.specs.Value.{jobOf};
@@ -175,19 +176,19 @@ fn fill_cell(line: &mut [u32], at: usize, header: Header, cell: Cell, row: u32, 
 
 // The cell at position n, if it stands in the row; how many cells there are then.
 fn add_cell(line: &mut [u32], n: usize, header: Header, cell: Cell, row: u32, number: u32) -> usize
-    requires { ⌜ Ranged header cell × (row ≤ 1) × (number < 64) × (n < 64) × (8192 ≤ length (now line)) × Low (now line) ⌝ }
+    requires { ⌜ Ranged header cell × (row ≤ 1) × (number < 64) × (n < 64) × (statesFrom ≤ length (now line)) × Low (now line) ⌝ }
     ensures { λ r. ⌜ Added (one header cell) row number n r (now (line .entry)) (now (line .exit)) ⌝ }
 {
     if !job::stands(cell.row, row) {
         return n;
     }
-    fill_cell(line, n * 128, header, cell, row, number);
+    fill_cell(line, n * search_row::CELL, header, cell, row, number);
     n + 1
 }
 
 // The words of the row's cells, in file order; how many cells it has.
 fn fill_line(line: &mut [u32], job: Job, row: u32) -> usize
-    requires { ⌜ Sound (jobOf job) × (job .count ≤ 64) × (row ≤ 1) × (8288 ≤ length (now line)) × Low (now line) ⌝ }
+    requires { ⌜ Sound (jobOf job) × (job .count ≤ 64) × (row ≤ 1) × (rowLength ≤ length (now line)) × Low (now line) ⌝ }
     ensures { λ n. ⌜ CellsIn (jobOf job) (sideOf row) (now (line .exit)) n ⌝ }
 {
     let long = line.len();
@@ -206,10 +207,10 @@ fn fill_line(line: &mut [u32], job: Job, row: u32) -> usize
 
 // Position p, if its cell is tall; how many there are then.
 fn add_tall(talls: &mut [u32], count: usize, line: &[u32], n: usize, p: usize) -> usize
-    requires { ⌜ (p < n) × (n ≤ 64) × (8192 ≤ length (now line)) × TallsUpto (now line) n (now talls) count p ⌝ }
+    requires { ⌜ (p < n) × (n ≤ 64) × (statesFrom ≤ length (now line)) × TallsUpto (now line) n (now talls) count p ⌝ }
     ensures { λ r. ⌜ TallsUpto (now (line .entry)) n (now (talls .exit)) r (p + 1) ⌝ }
 {
-    if line[p * 128 + 67] != 1 {
+    if line[p * search_row::CELL + search_row::TALL] != 1 {
         return count;
     }
     talls[count] = p as u32;
@@ -218,7 +219,7 @@ fn add_tall(talls: &mut [u32], count: usize, line: &[u32], n: usize, p: usize) -
 
 // The positions of the tall cells of a row of n cells, in rising order; how many there are.
 fn fill_talls(talls: &mut [u32], line: &[u32], n: usize) -> usize
-    requires { ⌜ (n ≤ 64) × (8192 ≤ length (now line)) × (length (tallsIn (now line) n) ≤ length (now talls)) × ((i : ℕ) → getD (now talls) i 0 < 64) ⌝ }
+    requires { ⌜ (n ≤ 64) × (statesFrom ≤ length (now line)) × (length (tallsIn (now line) n) ≤ length (now talls)) × ((i : ℕ) → getD (now talls) i 0 < 64) ⌝ }
     ensures { λ r. ⌜ TallWords (now (line .entry)) n (now (talls .exit)) r ⌝ }
 {
     let mut count: usize = 0;
@@ -232,12 +233,12 @@ fn fill_talls(talls: &mut [u32], line: &[u32], n: usize) -> usize
 
 // The positions, to their place after the words of the states.
 fn put_talls(row: &mut [u32], places: &[u32; 32])
-    requires { ⌜ (8288 ≤ length (now row)) × Low (now row) × (length (now places) ≡ 32) × ((i : ℕ) → getD (now places) i 0 < 64) ⌝ }
-    ensures { λ _. ⌜ Written (wordsOf (now (places .entry))) 8256 32 (now (row .entry)) (now (row .exit)) ⌝ }
+    requires { ⌜ (rowLength ≤ length (now row)) × Low (now row) × (length (now places) ≡ 32) × ((i : ℕ) → getD (now places) i 0 < 64) ⌝ }
+    ensures { λ _. ⌜ Written (wordsOf (now (places .entry))) tallsFrom 32 (now (row .entry)) (now (row .exit)) ⌝ }
 {
     let mut i: usize = 0;
     while i < 32 {
-        row[8256 + i] = places[i];
+        row[search_row::TALLS + i] = places[i];
         i += 1;
     }
 }
@@ -254,7 +255,7 @@ fn pose_numbers(job: Job) -> usize
 
 // The cells of a row, the positions of the tall ones and the states; its sizes.
 pub fn fill_row(row: &mut [u32], job: Job, side: u32) -> Sizes
-    requires { ⌜ Sound (jobOf job) × (job .count ≤ 64) × (side ≤ 1) × (8288 ≤ length (now row)) × Low (now row) ⌝ }
+    requires { ⌜ Sound (jobOf job) × (job .count ≤ 64) × (side ≤ 1) × (rowLength ≤ length (now row)) × Low (now row) ⌝ }
     ensures { λ z. ⌜ RowReady (jobOf job) (sideOf side) (now (row .exit)) z ⌝ }
 {
     let cells = fill_line(row, job, side);

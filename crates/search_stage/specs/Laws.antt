@@ -10,6 +10,7 @@ use native.Mathlib.Numerals.{add-one}
 use lib.ListN.{length, getD, set}
 use lib.Seq.{getD-set-same}
 use lib.Dec.{ltb}
+use Rattle.search_store.specs.Map.{caseAt, Pages}
 use Rattle.lists.specs.Numbers.{from}
 use Rattle.theory_pair.specs.Coded.{lowest}
 use Rattle.theory_tables.specs.Steps.{B, Deck, stateCount, joinPose, nextCases}
@@ -17,7 +18,6 @@ use Rattle.theory_tables.specs.Stages.{caseTable}
 use Rattle.theory_tables.specs.States.{count-0, count-1, count-2}
 use Rattle.search_lanes.specs.Store.{Low}
 use Rattle.search_lanes.specs.Laws.{low-set}
-use Rattle.search_join.specs.Places.{caseAt, Pages}
 use Rattle.search_join.specs.Tables.{casesIn, pointersIn, costsIn, Table, Least, Way, Joined, AllStates, Closed}
 use Rattle.search_join.specs.Laws.{least-open}
 use Rattle.search_join.specs.SumLaws.{table-for}

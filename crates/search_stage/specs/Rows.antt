@@ -7,6 +7,7 @@ use native.Mathlib.Omega.{arith}
 use native.Mathlib.Numerals.{add-one}
 use native.Mathlib.Decide.{decLt}
 use lib.ListN.{getD, replicate, length-replicate, getD-replicate, List·getD-eq-default}
+use Rattle.search_store.specs.Map.{layerBlock}
 use Rattle.search_row.specs.declared.Sizes.{Sizes}
 use Rattle.search_row.specs.Words.{posIn, RowGiven}
 use Rattle.theory_tables.specs.Steps.{B, Deck, Layer, stateCount, marks, firstAfter, firstOpen}
@@ -57,7 +58,7 @@ module _ (D : Deck) (R talls : ℕ) (pos : ℕ → ℕ) where
 
   -- after the first layer in block 0; there may be more lanes than are asked for
   row-from : (I i : ℕ) (starts : List ℕ) {lanes width ends poses costs : ℕ} {F : ℕ → Layer} {old mid new : List ℕ}
-      → lanes ≤ width → Frame 0 49152 old mid → RowCosted (endFrom D R talls pos I mid i starts) width ends poses costs mid new
+      → lanes ≤ width → Frame 0 layerBlock old mid → RowCosted (endFrom D R talls pos I mid i starts) width ends poses costs mid new
       → ((q a l : ℕ) → q < ends → a < poses → l < lanes → stageEnd D R talls pos I (layerIn mid 0 l) i (getD starts l 0) q a ≡ F l q a)
       → RowCosted F lanes ends poses costs old new
   row-from I i starts m f w e =

@@ -6,12 +6,12 @@ use mathlib.Core.Logic.{_⊎_}
 use mathlib.Core.List.{List}
 use lib.ListN.{length, getD}
 use lib.Dec.{ltb}
+use Rattle.search_store.specs.Map.{caseAt, costsAt, Pages, Slot, OutsideCosts, pagesFrom}
 use Rattle.search_row.specs.declared.Sizes.{Sizes}
 use Rattle.theory_tables.specs.Steps.{B, Deck, Layer, Cases, SegmentCosts, stateCount}
 use Rattle.theory_tables.specs.Stages.{stageEnd, openCost, stageCost, caseTable}
 use Rattle.search_lanes.specs.Store.{Low, layerIn}
 use Rattle.search_row.specs.Words.{deckIn, posIn, withCells, RowGiven}
-use Rattle.search_join.specs.Places.{caseAt, costsAt, Pages, Slot, OutsideCosts}
 use Rattle.search_join.specs.Tables.{casesIn, pointersIn, costsIn, SameCase, SameTables, Least, Way}
 
 -- how many of x states or poses table number I has: the tables of the tall cells all of them, the first table and the last one
@@ -99,7 +99,7 @@ module _ (D₀ D₁ : Deck) (R talls : ℕ) (pos₀ pos₁ : ℕ → ℕ) where
 pub record RowCosted (F : ℕ → Layer) (lanes ends poses costs : ℕ) (old new : List ℕ) : Type 0 where
   pub long : length new ≡ length old
   pub low : Low new
-  pub kept : (k : ℕ) → 148992 ≤ k → OutsideCosts costs k → getD new k 0 ≡ getD old k 0
+  pub kept : (k : ℕ) → pagesFrom ≤ k → OutsideCosts costs k → getD new k 0 ≡ getD old k 0
   pub right : (q a l : ℕ) → q < ends → a < poses → l < lanes → layerIn new costs l q a ≡ F l q a
 
 -- stage I on from the layer in block 0, which has i cells; `starts` has what the start of each lane pays as the row's last
@@ -127,7 +127,7 @@ SegmentCosted row x I starts lanes ends poses s old new = Dead old row I starts 
 pub record StartCosted (row : ℕ) (x : SegmentCosts) (I starts lanes ends poses s : ℕ) (old new : List ℕ) : Type 0 where
   pub long : length new ≡ length old
   pub low : Low new
-  pub kept : (k : ℕ) → 148992 ≤ k → OutsideCosts (costsAt row s) k → getD new k 0 ≡ getD old k 0
+  pub kept : (k : ℕ) → pagesFrom ≤ k → OutsideCosts (costsAt row s) k → getD new k 0 ≡ getD old k 0
   pub right : SegmentCosted row x I starts lanes ends poses s old new
 
 -- that of both rows for the start states below m; the tables are kept

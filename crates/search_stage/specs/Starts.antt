@@ -6,9 +6,10 @@ use mathlib.Core.List.{List}
 use native.Mathlib.Omega.{arith}
 use borrow.Author.Count.{below-more}
 use lib.ListN.{length}
+use Rattle.search_store.specs.Map.{caseAt, costsAt}
 use Rattle.theory_tables.specs.Steps.{B, SegmentCosts}
 use Rattle.search_lanes.specs.Store.{Low}
-use Rattle.search_join.specs.Places.{caseAt, costsAt, case-beside, cost-before}
+use Rattle.search_store.specs.Places.{case-beside, cost-before}
 use Rattle.search_join.specs.Tables.{casesIn, pointersIn, costsIn, SameCase, SameTables, Table}
 use Rattle.search_stage.specs.Stage.{fromAt, Dead, SegmentCosted, StartCosted, RowCosted, BothCosted}
 

@@ -47,9 +47,9 @@ fn case_from(side: usize, i: usize, s: usize, t: usize) -> usize
     ensures { λ r. ⌜ r ≡ fromAt side i s t ⌝ }
 {
     if side == 0 {
-        return search_join::case_at(i, s, t);
+        return search_store::case_at(i, s, t);
     }
-    search_join::case_at(i, t, s)
+    search_store::case_at(i, t, s)
 }
 
 // Whether some case goes from start state s of a row.
@@ -69,7 +69,7 @@ fn live(store: &[u32], side: usize, i: usize, starts: usize, lanes: usize, s: us
 
 // The costs of stage i in a row from start state s, if some case goes from it.
 fn cost_start(
-    table: &mut [u32; 10944],
+    table: &mut [u32; search_store::TABLE],
     store: &mut [u32],
     side: usize,
     row: &[u32],
@@ -85,13 +85,13 @@ fn cost_start(
     if !live(store, side, i, starts, lanes, s) {
         return;
     }
-    let costs = search_join::cost_at(side, s, 0, 0);
+    let costs = search_store::cost_at(side, s, 0, 0);
     row_cost(table, store, row, sizes, i, s, costs);
 }
 
 // The costs of stage i in both rows, from every start state; row 1 has so many cells.
 fn costs(
-    table: &mut [u32; 10944],
+    table: &mut [u32; search_store::TABLE],
     store: &mut [u32],
     row0: &[u32],
     row1: &[u32],
@@ -120,7 +120,7 @@ fn costs(
 
 // Stage i: case table number i + 1 from table number i, whatever the words of the store.
 pub fn stage(
-    table: &mut [u32; 10944],
+    table: &mut [u32; search_store::TABLE],
     store: &mut [u32],
     row0: &[u32],
     row1: &[u32],
@@ -146,9 +146,9 @@ pub fn stages(store: &mut [u32], row0: &[u32], row1: &[u32], sizes: Sizes, cells
     requires { ⌜ StagesGiven (now row0) (now row1) (now store) sizes cells1 ⌝ }
     ensures { λ _. ⌜ RowsStages (now (row0 .entry)) (now (row1 .entry)) sizes cells1 (now (store .entry)) (now (store .exit)) ⌝ }
 {
-    let mut table = [0u32; 10944];
+    let mut table = [0u32; search_store::TABLE];
     let talls = sizes.talls;
-    store[search_join::case_at(0, 0, 0)] = 0;
+    store[search_store::case_at(0, 0, 0)] = 0;
     let mut i: usize = 0;
     while i <= talls {
         stage(&mut table, store, row0, row1, sizes, cells1, i);

@@ -27,7 +27,7 @@ fn backs(starts: &mut [u32; 64], row: &[u32], p: usize, poses: usize)
 // On from the layer in block 0, which has `cells` cells, to tall cell i or the row's end; `starts` has what the start of each lane
 // pays as the last.
 fn stage_end(
-    table: &mut [u32; 10944],
+    table: &mut [u32; search_store::TABLE],
     store: &mut [u32],
     row: &[u32],
     sizes: Sizes,
@@ -64,7 +64,7 @@ fn open_cost(store: &mut [u32], row: &[u32], sizes: Sizes, costs: usize)
 
 // The costs of stage i in a row from start state s, to the block at `costs`.
 pub fn row_cost(
-    table: &mut [u32; 10944],
+    table: &mut [u32; search_store::TABLE],
     store: &mut [u32],
     row: &[u32],
     sizes: Sizes,

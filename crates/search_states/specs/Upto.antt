@@ -17,7 +17,7 @@ use Rattle.theory_tables.specs.Steps.{mayBeLast, pairsOf, stateCount, offset, m
 use Rattle.theory_tables.specs.States.{state-at, count-0, count-1, count-2}
 use Rattle.search_lanes.specs.Store.{Frame, Low}
 use Rattle.search_lanes.specs.Laws.{frame-refl, frame-set, low-set}
-use Rattle.search_row.specs.Words.{stateAt, StateWords}
+use Rattle.search_row.specs.Words.{stateAt, StateWords, rowLength, statesEnd, statesFrom}
 use Rattle.search_states.specs.Rest.{rest, rest-none, rest-more, rest-all, next, done}
 
 -- m has R + 1 ones, the lowest digit among them
@@ -69,7 +69,7 @@ withState row q d m = set (set (set row (stateAt q) d) (stateAt q + 1) m) (state
 
 -- the first `count` states are written, and `l` is still to come
 pub record Upto (R : ℕ) (row : List ℕ) (count : ℕ) (l : List (ℕ × ℕ)) : Type 0 where
-  pub long : 8288 ≤ length row
+  pub long : rowLength ≤ length row
   pub below : count ≤ stateCount R
   pub left : drop count (pairsOf R) ≡ l
   pub digit : (q : ℕ) → q < count → getD row (stateAt q) 0 ≡ offset R q
@@ -77,7 +77,7 @@ pub record Upto (R : ℕ) (row : List ℕ) (count : ℕ) (l : List (ℕ × ℕ))
   pub earlier : (q : ℕ) → q < count → getD row (stateAt q + 2) 0 ≡ before R q
   pub low : Low row
 
-pub upto-none : (R : ℕ) (row : List ℕ) → 8288 ≤ length row → Low row → Upto R row 0 (marksFrom R 0)
+pub upto-none : (R : ℕ) (row : List ℕ) → rowLength ≤ length row → Low row → Upto R row 0 (marksFrom R 0)
 upto-none R row h w = record {
   long = h;
   below = omega arith;
@@ -133,10 +133,10 @@ with-low p n d m h x y w =
     (low-set (stateAt n + 1) m (low-set (stateAt n) d w (omega arith) (omega arith)) (simp length-set (omega arith)) (omega arith))
     (simp length-set (omega arith)) (omega (arith, before-low d m y))
 
-pub with-frame : (o p : List ℕ) (n d m : ℕ) → n < 12 → Frame 8192 8240 o p → Frame 8192 8240 o (withState p n d m)
+pub with-frame : (o p : List ℕ) (n d m : ℕ) → n < 12 → Frame statesFrom statesEnd o p → Frame statesFrom statesEnd o (withState p n d m)
 with-frame o p n d m h f =
-    frame-set 8240 (stateAt n + 2) (marksBefore d m)
-    (frame-set 8240 (stateAt n + 1) m (frame-set 8240 (stateAt n) d f (omega arith) (omega arith) (omega arith)) (omega arith) (omega arith) (omega arith))
+    frame-set statesEnd (stateAt n + 2) (marksBefore d m)
+    (frame-set statesEnd (stateAt n + 1) m (frame-set statesEnd (stateAt n) d f (omega arith) (omega arith) (omega arith)) (omega arith) (omega arith) (omega arith))
     (omega arith) (omega arith) (omega arith)
 
 pub upto-more : {R : ℕ} {p : List ℕ} {n d m : ℕ} {l : List (ℕ × ℕ)}
@@ -169,10 +169,10 @@ pub record Coded (R : ℕ) (old row : List ℕ) (count : ℕ) : Type 0 where
   pub coded : StateWords R row
   pub all : count ≡ stateCount R
   pub some : 1 ≤ count
-  pub frame : Frame 8192 8240 old row
+  pub frame : Frame statesFrom statesEnd old row
   pub low : Low row
 
-pub upto-all : {R : ℕ} {o p : List ℕ} {n : ℕ} → R ≤ 2 → Upto R p n [] → Frame 8192 8240 o p → Coded R o p n
+pub upto-all : {R : ℕ} {o p : List ℕ} {n : ℕ} → R ≤ 2 → Upto R p n [] → Frame statesFrom statesEnd o p → Coded R o p n
 upto-all {R} {o} {p} {n} r u f₀ =
     let e : n ≡ stateCount R = done (pairsOf R) n (u .below) (u .left) in
     record {

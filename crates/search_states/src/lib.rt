@@ -4,6 +4,7 @@ ghost use mathlib.Core.Bool.{true};
 ghost use mathlib.Core.List.{_++_};
 ghost use Prim.Native.Nat.{suc, _+_, _*_, _^_, _≤_, _<_};
 ghost use lib.ListN.{length};
+ghost use Rattle.search_row.specs.Words.{rowLength, statesEnd, statesFrom};
 ghost use Rattle.theory_tables.specs.Steps.{mayBeLast};
 ghost use Rattle.search_lanes.specs.Store.{Frame, Low};
 ghost use Rattle.search_states.specs.Upto.{isMarks, digitsFrom, marksFrom, withState, Upto, Coded};
@@ -36,18 +37,18 @@ fn may_be_last(r: u32, m: u32, d: u32) -> bool
 
 // State q: its digit, its marks, and the only marks from which placing the cell at that digit leads to them.
 fn put_state(row: &mut [u32], q: usize, d: u32, m: u32)
-    requires { ⌜ (8240 ≤ length (now row)) × (q < 12) × (d ≤ 4) × (m < 32) × (2 ^ d ≤ m) ⌝ }
+    requires { ⌜ (statesEnd ≤ length (now row)) × (q < 12) × (d ≤ 4) × (m < 32) × (2 ^ d ≤ m) ⌝ }
     ensures { λ _. ⌜ now (row .exit) ≡ withState (now (row .entry)) q d m ⌝ }
 {
-    row[8192 + q * 4] = d;
-    row[8192 + q * 4 + 1] = m;
-    row[8192 + q * 4 + 2] = 2 * (m - (1 << d)) + 1;
+    row[search_row::STATES + q * 4] = d;
+    row[search_row::STATES + q * 4 + 1] = m;
+    row[search_row::STATES + q * 4 + 2] = 2 * (m - (1 << d)) + 1;
 }
 
 // The state of digit d, if it is one; how many there are then.
 fn add_digit(row: &mut [u32], count: usize, r: u32, m: u32, d: u32) -> usize
     requires { ⌜ (r ≤ 2) × (m < 32) × (d ≤ 2 * r) × Upto r (now row) count (digitsFrom r m d ++ marksFrom r (m + 1)) ⌝ }
-    ensures { λ n. ⌜ Upto r (now (row .exit)) n (digitsFrom r m (d + 1) ++ marksFrom r (m + 1)) × Frame 8192 8240 (now (row .entry)) (now (row .exit)) ⌝ }
+    ensures { λ n. ⌜ Upto r (now (row .exit)) n (digitsFrom r m (d + 1) ++ marksFrom r (m + 1)) × Frame statesFrom statesEnd (now (row .entry)) (now (row .exit)) ⌝ }
 {
     if !may_be_last(r, m, d) {
         return count;
@@ -59,7 +60,7 @@ fn add_digit(row: &mut [u32], count: usize, r: u32, m: u32, d: u32) -> usize
 // The states of m, if it is marks; how many there are then.
 fn add_marks(row: &mut [u32], count: usize, r: u32, m: u32) -> usize
     requires { ⌜ (r ≤ 2) × (m < 2 ^ suc (2 * r)) × (m < 32) × Upto r (now row) count (marksFrom r m) ⌝ }
-    ensures { λ n. ⌜ Upto r (now (row .exit)) n (marksFrom r (m + 1)) × Frame 8192 8240 (now (row .entry)) (now (row .exit)) ⌝ }
+    ensures { λ n. ⌜ Upto r (now (row .exit)) n (marksFrom r (m + 1)) × Frame statesFrom statesEnd (now (row .entry)) (now (row .exit)) ⌝ }
 {
     if !is_marks(r, m) {
         return count;
@@ -75,7 +76,7 @@ fn add_marks(row: &mut [u32], count: usize, r: u32, m: u32) -> usize
 
 // All states; how many there are.
 pub fn fill_states(row: &mut [u32], r: usize) -> usize
-    requires { ⌜ (8288 ≤ length (now row)) × Low (now row) × (r ≤ 2) ⌝ }
+    requires { ⌜ (rowLength ≤ length (now row)) × Low (now row) × (r ≤ 2) ⌝ }
     ensures { λ n. ⌜ Coded r (now (row .entry)) (now (row .exit)) n ⌝ }
 {
     let limit = r as u32;

@@ -4,6 +4,7 @@ use mathlib.Core.Path.{_≡_}
 use mathlib.Core.Logic.{_⊎_}
 use mathlib.Core.List.{List}
 use lib.ListN.{length, getD}
+use Rattle.search_store.specs.Map.{stateBlock, tableWords}
 use Rattle.lists.specs.Numbers.{from}
 use Rattle.theory_pair.specs.Coded.{lowest}
 use Rattle.theory_tables.specs.Steps.{B, Deck, Layer}
@@ -23,7 +24,7 @@ pub record LoweredAt (f : ℕ → ℕ) (to lanes : ℕ) (old new : List ℕ) : T
 
 -- a table lent to gather sources in: any words, none over B
 pub record Lent (table : List ℕ) : Type 0 where
-  pub long : length table ≡ 10944
+  pub long : length table ≡ tableWords
   pub low : Low table
 
 -- how many buckets a target may need
@@ -32,7 +33,7 @@ FiveOrNine buckets = (buckets ≡ 5) ⊎ (buckets ≡ 9)
 
 -- no source yet in the buckets below v, in so many rows and lanes
 pub record Cleared (rows lanes v : ℕ) (table : List ℕ) : Type 0 where
-  pub long : length table ≡ 10944
+  pub long : length table ≡ tableWords
   pub low : Low table
   pub none : (l u t : ℕ) → l < lanes → u < v → t < rows → wordAt table l u t ≡ B
 
@@ -64,9 +65,9 @@ pub record Source (table st line : List ℕ) (at k m buckets lanes : ℕ) : Type
   pub words : RowWords line
   pub low : Low st
   pub tableLow : Low table
-  pub tableLong : length table ≡ 10944
+  pub tableLong : length table ≡ tableWords
   pub narrow : lanes ≤ 64
-  pub room : at + 4096 ≤ length st
+  pub room : at + stateBlock ≤ length st
   pub left : k < 64
   pub right : m < 64
   pub needed : FiveOrNine buckets
@@ -109,7 +110,7 @@ pub record RunUp (rows lanes : ℕ) (old new : List ℕ) : Type 0 where
 
 -- what every pose below `poses` finds is what it finds in the buckets
 pub record Ready (bucket : ℕ → ℕ → ℕ → ℕ) (poses buckets lanes : ℕ) (table : List ℕ) : Type 0 where
-  pub long : length table ≡ 10944
+  pub long : length table ≡ tableWords
   pub low : Low table
   pub right : (a l : ℕ) → a < poses → l < lanes → foundIn buckets table a l ≡ found (bucket l) a
 
@@ -129,7 +130,7 @@ pub record ToRows (st line table : List ℕ) (k buckets lanes : ℕ) : Type 0 wh
   pub words : RowWords line
   pub low : Low st
   pub tableLow : Low table
-  pub tableLong : length table ≡ 10944
+  pub tableLong : length table ≡ tableWords
   pub narrow : lanes ≤ 64
   pub cell : k < 64
   pub least : 5 ≤ buckets

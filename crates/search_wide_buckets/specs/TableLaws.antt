@@ -10,6 +10,7 @@ use borrow.Author.Count.{below-more}
 use lib.ListN.{length, getD, set, replicate, length-replicate}
 use lib.Seq.{getD-set-same, getD-set-other}
 use lib.Dec.{eqb}
+use Rattle.search_store.specs.Map.{tableWords}
 use Rattle.theory_tables.specs.Steps.{B}
 use Rattle.lists.specs.Numbers.{from}
 use Rattle.theory_pair.specs.Coded.{lowest, lowest-from}
@@ -74,10 +75,10 @@ lowered-at-ext {to = to} {old = old} w e = record { frame = w .frame; done = λ 
 -- ---- rows without sources
 
 -- a table of zeros may be lent
-pub lent-zeros : Lent (replicate 10944 0)
-lent-zeros = record { long = length-replicate {A = ℕ} 10944 0; low = same-low 10944 0 (omega arith) }
+pub lent-zeros : Lent (replicate tableWords 0)
+lent-zeros = record { long = length-replicate {A = ℕ} tableWords 0; low = same-low tableWords 0 (omega arith) }
 
-pub cleared-none : (rows lanes : ℕ) {table : List ℕ} → length table ≡ 10944 → Low table → Cleared rows lanes 0 table
+pub cleared-none : (rows lanes : ℕ) {table : List ℕ} → length table ≡ tableWords → Low table → Cleared rows lanes 0 table
 cleared-none rows lanes h w = record { long = h; low = w; none = λ l u t i j k. absurd (omega arith) }
 
 -- one bucket more

@@ -1,11 +1,12 @@
 // Sources gathered by their end site, for one target cell: a table of 9 buckets of 19 rows of 64 lanes, bucket v from 1216 v on (crate buckets tells what
-// the buckets are). Row t has the sources that end at the target's first site - 4 + t, row 0 those further left too. Plane 0 has them by themselves, buckets 1
+// the buckets are). Row t has the sources that end at the target's first site - 4 + t, row 0 those further left too. Bucket 0 has them by themselves, buckets 1
 // to 4 with what they pay at gap 0 to each variant of the target, buckets 5 to 8 with what they pay at gaps 2 and 3. A target whose weights are all equal
 // needs 5 buckets: buckets 1 to 4 serve for gaps 2 and 3 too. Only the rows that some pose looks at count.
 ghost use mathlib.Core.Path.{_≡_};
 ghost use mathlib.Core.Bool.{false};
 ghost use Prim.Native.Nat.{suc, _+_, _*_, _-_, _≤_, _<_};
 ghost use lib.ListN.{length};
+ghost use Rattle.search_store.specs.Map.{layerBlock, tableWords};
 ghost use Rattle.theory_tables.specs.Steps.{B};
 ghost use Rattle.search_lanes.specs.Lanes.{always, wordsFrom};
 ghost use Rattle.search_lanes.specs.Store.{Low, Written, FilledState};
@@ -16,8 +17,8 @@ ghost use Rattle.search_wide_buckets.specs.Table.{RunUp, foundIn, foundR
 // ---- the rows that count
 
 // NONE in the lanes and rows that count, in so many buckets.
-pub fn reset(table: &mut [u32; 10944], buckets: usize, poses: usize, lanes: usize)
-    requires { ⌜ Low (now table) × (length (now table) ≡ 10944) × (buckets ≤ 9) × (poses ≤ 60) × (lanes ≤ 64) ⌝ }
+pub fn reset(table: &mut [u32; search_store::TABLE], buckets: usize, poses: usize, lanes: usize)
+    requires { ⌜ Low (now table) × (length (now table) ≡ tableWords) × (buckets ≤ 9) × (poses ≤ 60) × (lanes ≤ 64) ⌝ }
     ensures { λ _. ⌜ Cleared (rowsOf poses) lanes buckets (now (table .exit)) ⌝ }
 {
     let rows = search_buckets::rows_of(poses);
@@ -31,8 +32,8 @@ pub fn reset(table: &mut [u32; 10944], buckets: usize, poses: usize, lanes: usiz
 // ---- one source
 
 // One word lowered.
-fn lower_one(table: &mut [u32; 10944], to: usize, x: u32)
-    requires { ⌜ (to < 10944) × (length (now table) ≡ 10944) × Low (now table) × (x ≤ 536870912) ⌝ }
+fn lower_one(table: &mut [u32; search_store::TABLE], to: usize, x: u32)
+    requires { ⌜ (to < tableWords) × (length (now table) ≡ tableWords) × Low (now table) × (x ≤ 536870912) ⌝ }
     ensures { λ _. ⌜ LoweredAt (always x) to 1 (now (table .entry)) (now (table .exit)) ⌝ }
 {
     table[to] = search_lanes::lesser(table[to], x);
@@ -40,7 +41,7 @@ fn lower_one(table: &mut [u32; 10944], to: usize, x: u32)
 
 // A source of cost x in one lane to row t of four buckets, those from `first` on: buckets 1 to 4 or 5 to 8, where row 0 does not count.
 fn spread_near(
-    table: &mut [u32; 10944],
+    table: &mut [u32; search_store::TABLE],
     x: u32,
     pays: &[u32; 36],
     u: usize,
@@ -48,7 +49,7 @@ fn spread_near(
     lane: usize,
     first: usize,
 )
-    requires { ⌜ Low (now table) × (length (now table) ≡ 10944) × (x ≤ B) × PaysLow (first + 4) (now pays) × (u < 4) × (t < 19) × (lane < 64) × (1 ≤ first) × (first ≤ 5) ⌝ }
+    requires { ⌜ Low (now table) × (length (now table) ≡ tableWords) × (x ≤ B) × PaysLow (first + 4) (now pays) × (u < 4) × (t < 19) × (lane < 64) × (1 ≤ first) × (first ≤ 5) ⌝ }
     ensures { λ _. ⌜ Spread (chargedOne x (now (pays .entry)) u) t first (first + 4) lane 1 (now (table .entry)) (now (table .exit)) ⌝ }
 {
     if t == 0 {
@@ -66,8 +67,15 @@ fn spread_near(
 }
 
 // The same to bucket 0 and buckets 1 to 4.
-fn spread_one(table: &mut [u32; 10944], x: u32, pays: &[u32; 36], u: usize, t: usize, lane: usize)
-    requires { ⌜ Low (now table) × (length (now table) ≡ 10944) × (x ≤ B) × PaysLow 5 (now pays) × (u < 4) × (t < 19) × (lane < 64) ⌝ }
+fn spread_one(
+    table: &mut [u32; search_store::TABLE],
+    x: u32,
+    pays: &[u32; 36],
+    u: usize,
+    t: usize,
+    lane: usize,
+)
+    requires { ⌜ Low (now table) × (length (now table) ≡ tableWords) × (x ≤ B) × PaysLow 5 (now pays) × (u < 4) × (t < 19) × (lane < 64) ⌝ }
     ensures { λ _. ⌜ Spread (chargedOne x (now (pays .entry)) u) t 0 5 lane 1 (now (table .entry)) (now (table .exit)) ⌝ }
 {
     lower_one(table, t * 64 + lane, x + pays[u * 9]);
@@ -76,7 +84,7 @@ fn spread_one(table: &mut [u32; 10944], x: u32, pays: &[u32; 36], u: usize, t: u
 
 // The same to all buckets that are needed.
 pub fn spread_lane(
-    table: &mut [u32; 10944],
+    table: &mut [u32; search_store::TABLE],
     x: u32,
     pays: &[u32; 36],
     u: usize,
@@ -84,7 +92,7 @@ pub fn spread_lane(
     lane: usize,
     buckets: usize,
 )
-    requires { ⌜ Low (now table) × (length (now table) ≡ 10944) × (x ≤ B) × PaysLow buckets (now pays) × (u < 4) × (t < 19) × (lane < 64) × FiveOrNine buckets ⌝ }
+    requires { ⌜ Low (now table) × (length (now table) ≡ tableWords) × (x ≤ B) × PaysLow buckets (now pays) × (u < 4) × (t < 19) × (lane < 64) × FiveOrNine buckets ⌝ }
     ensures { λ _. ⌜ Spread (chargedOne x (now (pays .entry)) u) t 0 buckets lane 1 (now (table .entry)) (now (table .exit)) ⌝ }
 {
     spread_one(table, x, pays, u, t, lane);
@@ -97,7 +105,7 @@ pub fn spread_lane(
 // A source row, so many lanes, by its variant u: to row t of buckets 0 to 4, or of bucket 0 alone if t is 0. The buckets of a lane are lowered together,
 // so that each word of the row is read once.
 fn spread(
-    table: &mut [u32; 10944],
+    table: &mut [u32; search_store::TABLE],
     row: &[u32],
     at: usize,
     pays: &[u32; 36],
@@ -105,7 +113,7 @@ fn spread(
     t: usize,
     lanes: usize,
 )
-    requires { ⌜ Low (now table) × (length (now table) ≡ 10944) × Low (now row) × (at + lanes ≤ length (now row)) × PaysLow 5 (now pays) × (u < 4) × (t < 19) × (lanes ≤ 64) ⌝ }
+    requires { ⌜ Low (now table) × (length (now table) ≡ tableWords) × Low (now row) × (at + lanes ≤ length (now row)) × PaysLow 5 (now pays) × (u < 4) × (t < 19) × (lanes ≤ 64) ⌝ }
     ensures { λ _. ⌜ Spread (chargedBy (now (row .entry)) at (now (pays .entry)) u) t 0 5 0 lanes (now (table .entry)) (now (table .exit)) ⌝ }
 {
     let mut l: usize = 0;
@@ -117,7 +125,7 @@ fn spread(
 
 // The same to buckets 5 to 8.
 fn spread_apart(
-    table: &mut [u32; 10944],
+    table: &mut [u32; search_store::TABLE],
     row: &[u32],
     at: usize,
     pays: &[u32; 36],
@@ -125,7 +133,7 @@ fn spread_apart(
     t: usize,
     lanes: usize,
 )
-    requires { ⌜ Low (now table) × (length (now table) ≡ 10944) × Low (now row) × (at + lanes ≤ length (now row)) × PaysLow 9 (now pays) × (u < 4) × (t < 19) × (lanes ≤ 64) ⌝ }
+    requires { ⌜ Low (now table) × (length (now table) ≡ tableWords) × Low (now row) × (at + lanes ≤ length (now row)) × PaysLow 9 (now pays) × (u < 4) × (t < 19) × (lanes ≤ 64) ⌝ }
     ensures { λ _. ⌜ Spread (chargedBy (now (row .entry)) at (now (pays .entry)) u) t 5 9 0 lanes (now (table .entry)) (now (table .exit)) ⌝ }
 {
     let mut l: usize = 0;
@@ -137,7 +145,7 @@ fn spread_apart(
 
 // The same to all buckets that are needed.
 fn spread_row(
-    table: &mut [u32; 10944],
+    table: &mut [u32; search_store::TABLE],
     row: &[u32],
     at: usize,
     pays: &[u32; 36],
@@ -146,7 +154,7 @@ fn spread_row(
     buckets: usize,
     lanes: usize,
 )
-    requires { ⌜ Low (now table) × (length (now table) ≡ 10944) × Low (now row) × (at + lanes ≤ length (now row)) × PaysLow buckets (now pays) × (u < 4) × (t < 19) × (lanes ≤ 64) × FiveOrNine buckets ⌝ }
+    requires { ⌜ Low (now table) × (length (now table) ≡ tableWords) × Low (now row) × (at + lanes ≤ length (now row)) × PaysLow buckets (now pays) × (u < 4) × (t < 19) × (lanes ≤ 64) × FiveOrNine buckets ⌝ }
     ensures { λ _. ⌜ Spread (chargedBy (now (row .entry)) at (now (pays .entry)) u) t 0 buckets 0 lanes (now (table .entry)) (now (table .exit)) ⌝ }
 {
     spread(table, row, at, pays, u, t, lanes);
@@ -158,7 +166,7 @@ fn spread_row(
 
 // Pose b of the cell at position k: whether it lowered anything.
 fn from_pose(
-    table: &mut [u32; 10944],
+    table: &mut [u32; search_store::TABLE],
     store: &[u32],
     row: &[u32],
     pays: &[u32; 36],
@@ -186,7 +194,7 @@ fn from_pose(
 
 // All poses of the cell at position k: whether one lowered anything.
 pub fn from_poses(
-    table: &mut [u32; 10944],
+    table: &mut [u32; search_store::TABLE],
     store: &[u32],
     row: &[u32],
     pays: &[u32; 36],
@@ -215,8 +223,8 @@ pub fn from_poses(
 // ---- what a pose finds
 
 // The lanes from `to` on lowered to those from `from` on.
-fn lower_by(table: &mut [u32; 10944], to: usize, from: usize, lanes: usize)
-    requires { ⌜ (to + lanes ≤ 10944) × (length (now table) ≡ 10944) × (from + lanes ≤ to) × Low (now table) ⌝ }
+fn lower_by(table: &mut [u32; search_store::TABLE], to: usize, from: usize, lanes: usize)
+    requires { ⌜ (to + lanes ≤ tableWords) × (length (now table) ≡ tableWords) × (from + lanes ≤ to) × Low (now table) ⌝ }
     ensures { λ _. ⌜ LoweredAt (wordsFrom (now (table .entry)) from) to lanes (now (table .entry)) (now (table .exit)) ⌝ }
 {
     let mut l: usize = 0;
@@ -227,8 +235,8 @@ fn lower_by(table: &mut [u32; 10944], to: usize, from: usize, lanes: usize)
 }
 
 // Each row of bucket 0, as far as so many poses look, lowered to all rows before it.
-pub fn run_up(table: &mut [u32; 10944], poses: usize, lanes: usize)
-    requires { ⌜ Low (now table) × (length (now table) ≡ 10944) × (poses ≤ 60) × (lanes ≤ 64) ⌝ }
+pub fn run_up(table: &mut [u32; search_store::TABLE], poses: usize, lanes: usize)
+    requires { ⌜ Low (now table) × (length (now table) ≡ tableWords) × (poses ≤ 60) × (lanes ≤ 64) ⌝ }
     ensures { λ _. ⌜ RunUp (rowsOf poses - 3) lanes (now (table .entry)) (now (table .exit)) ⌝ }
 {
     let last = (poses + 3) / 4;
@@ -240,8 +248,8 @@ pub fn run_up(table: &mut [u32; 10944], poses: usize, lanes: usize)
 }
 
 // What pose a finds in lane l: at gaps 0, 2 and 3, and further left.
-fn found_lane(table: &[u32; 10944], a: usize, l: usize, buckets: usize) -> u32
-    requires { ⌜ (length (now table) ≡ 10944) × Low (now table) × (a < 60) × (l < 64) × (5 ≤ buckets) × (buckets ≤ 9) ⌝ }
+fn found_lane(table: &[u32; search_store::TABLE], a: usize, l: usize, buckets: usize) -> u32
+    requires { ⌜ (length (now table) ≡ tableWords) × Low (now table) × (a < 60) × (l < 64) × (5 ≤ buckets) × (buckets ≤ 9) ⌝ }
     ensures { λ x. ⌜ x ≡ foundIn buckets (now (table .entry)) a l ⌝ }
 {
     let far = a / 4 * 64 + l;
@@ -255,13 +263,13 @@ fn found_lane(table: &[u32; 10944], a: usize, l: usize, buckets: usize) -> u32
 fn put_row(
     store: &mut [u32],
     at: usize,
-    table: &[u32; 10944],
+    table: &[u32; search_store::TABLE],
     a: usize,
     own: u32,
     buckets: usize,
     lanes: usize,
 )
-    requires { ⌜ (at + lanes ≤ length (now store)) × (lanes ≤ 64) × (length (now table) ≡ 10944) × (own ≤ B) × Low (now store) × Low (now table) × (a < 60) × (5 ≤ buckets) × (buckets ≤ 9) ⌝ }
+    requires { ⌜ (at + lanes ≤ length (now store)) × (lanes ≤ 64) × (length (now table) ≡ tableWords) × (own ≤ B) × Low (now store) × Low (now table) × (a < 60) × (5 ≤ buckets) × (buckets ≤ 9) ⌝ }
     ensures { λ _. ⌜ Written (foundRow buckets (now (table .entry)) own a) at lanes (now (store .entry)) (now (store .exit)) ⌝ }
 {
     let mut l: usize = 0;
@@ -278,7 +286,7 @@ fn put_row(
 fn put_pose(
     store: &mut [u32],
     row: &[u32],
-    table: &[u32; 10944],
+    table: &[u32; search_store::TABLE],
     at: usize,
     k: usize,
     a: usize,
@@ -288,7 +296,7 @@ fn put_pose(
     requires { ⌜ ToRows (now store) (now row) (now table) k buckets lanes × (at + lanes ≤ length (now store)) × (a < 60) ⌝ }
     ensures { λ _. ⌜ Written (foundRowOf buckets (now (row .entry)) (now (table .entry)) k a) at lanes (now (store .entry)) (now (store .exit)) ⌝ }
 {
-    let own = row[k * 128 + a];
+    let own = row[k * search_row::CELL + a];
     if own >= search_lanes::NONE {
         search_lanes::fill(store, at, lanes, search_lanes::NONE);
         return;
@@ -300,7 +308,7 @@ fn put_pose(
 pub fn put_rows(
     store: &mut [u32],
     row: &[u32],
-    table: &[u32; 10944],
+    table: &[u32; search_store::TABLE],
     to: usize,
     q: usize,
     k: usize,
@@ -308,7 +316,7 @@ pub fn put_rows(
     buckets: usize,
     lanes: usize,
 )
-    requires { ⌜ ToRows (now store) (now row) (now table) k buckets lanes × (to + 49152 ≤ length (now store)) × (q < 12) × (poses ≤ 60) ⌝ }
+    requires { ⌜ ToRows (now store) (now row) (now table) k buckets lanes × (to + layerBlock ≤ length (now store)) × (q < 12) × (poses ≤ 60) ⌝ }
     ensures { λ _. ⌜ FilledState (foundRows buckets (now (row .entry)) (now (table .entry)) k) lanes to q poses (now (store .entry)) (now (store .exit)) ⌝ }
 {
     let mut a: usize = 0;
@@ -317,7 +325,7 @@ pub fn put_rows(
             store,
             row,
             table,
-            to + q * 4096 + a * 64,
+            to + q * search_store::STATE + a * 64,
             k,
             a,
             buckets,

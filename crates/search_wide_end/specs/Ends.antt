@@ -1,37 +1,24 @@
 -- The cost of a segment to the row's end: the least of the layer with all cells placed. What the loops come to, and what they leave.
 use Prim.Native.Nat.{ℕ, _+_, _<_}
 use mathlib.Core.Path.{_≡_}
-use mathlib.Core.Bool.{Bool, not, _&&_, cond}
+use mathlib.Core.Bool.{Bool, not, _&&_}
 use mathlib.Core.List.{List}
 use lib.ListN.{getD}
 use lib.Dec.{eqb}
-use Rattle.lists.specs.Numbers.{from}
-use Rattle.theory_pair.specs.Coded.{lowest}
-use Rattle.theory_tables.specs.Steps.{B, Deck, Layer, lastAt, isThere, ends, costEnd}
+use Rattle.search_store.specs.Map.{keptFrom}
+use Rattle.theory_tables.specs.Steps.{Deck, lastAt, ends, costEnd}
 use Rattle.search_lanes.specs.Store.{Frame, Low, layerIn}
-use Rattle.search_row.specs.Words.{wordOf, backIn, thereIn}
+use Rattle.search_row.specs.Words.{wordOf, backIn, thereIn, tallWord}
+use Rattle.search_buckets.specs.Ends.{leastPoses, leastState, leastStates}
 use Rattle.search_wide_segment.specs.Runs.{Running, Outside}
 
 -- state q's cell can be the last of the row: the row has it, and it is single
 abbrev pub endsWith : List ℕ → ℕ → ℕ → ℕ → Bool
-endsWith line n R q = thereIn n R n q && not (eqb (wordOf line (lastAt R n q) 67) 1)
+endsWith line n R q = thereIn n R n q && not (eqb (wordOf line (lastAt R n q) tallWord) 1)
 
 -- ---- the loops
 
--- the least of the poses below m of state q, each with what it pays as the last
-unfoldable pub leastPoses : (ℕ → ℕ) → Layer → ℕ → ℕ → ℕ
-leastPoses back f q m = lowest B (λ a. f q a + back a) (from 0 m)
-
--- of state q, if its cell can be the last
-unfoldable pub leastState : Deck → ℕ → Layer → ℕ → ℕ
-leastState D R f q =
-    cond (isThere D R (D .size) q && not (D .tall (lastAt R (D .size) q))) (leastPoses (D .back (lastAt R (D .size) q)) f q (D .poses)) B
-
--- of the states below m
-unfoldable pub leastStates : Deck → ℕ → Layer → ℕ → ℕ
-leastStates D R f m = lowest B (leastState D R f) (from 0 m)
-
--- the same in lane l of a layer in the store; the cell is at position k
+-- the least of the poses, of a state and of the states below m, in lane l of a layer in the store; the cell is at position k
 abbrev pub leastPosesIn : List ℕ → ℕ → List ℕ → ℕ → ℕ → ℕ → ℕ → ℕ
 leastPosesIn line k st at q m l = leastPoses (backIn line k) (layerIn st at l) q m
 
@@ -49,7 +36,7 @@ endsIn D R st at l = ends D R (layerIn st at l)
 -- d layers on, in the block at `at`
 pub record Ran (D : Deck) (R lanes i d at : ℕ) (old new : List ℕ) : Type 0 where
   pub running : Running D R lanes i d at old new
-  pub frame : Frame 0 98304 old new
+  pub frame : Frame 0 keptFrom old new
   pub low : Low new
 
 -- the costs to the row's end, a word for each lane; `starts` has what the start of each lane pays as the last

@@ -2,6 +2,7 @@
 ghost use mathlib.Core.Path.{_≡_};
 ghost use Prim.Native.Nat.{ℕ, suc, _+_, _*_, _-_, _≤_, _<_};
 ghost use lib.ListN.{length};
+ghost use Rattle.search_store.specs.Map.{keptFrom, layerBlock};
 ghost use Rattle.theory_tables.specs.Steps.{stateCount};
 ghost use Rattle.search_lanes.specs.Lanes.{Lowered};
 ghost use Rattle.search_lanes.specs.Store.{Low, Written};
@@ -14,21 +15,30 @@ use search_row::Sizes;
 
 // On to the layer with all cells placed: the block that it is in. The table that is lent serves all layers.
 fn run_on(
-    table: &mut [u32; 10944],
+    table: &mut [u32; search_store::TABLE],
     store: &mut [u32],
     row: &[u32],
     sizes: Sizes,
     lanes: usize,
     i: usize,
 ) -> usize
-    requires { ⌜ Lent (now table) × Given (now row) (now store) sizes lanes i 0 × (98304 ≤ length (now store)) × (i ≤ sizes .cells) ⌝ }
+    requires { ⌜ Lent (now table) × Given (now row) (now store) sizes lanes i 0 × (keptFrom ≤ length (now store)) × (i ≤ sizes .cells) ⌝ }
     ensures { λ at. ⌜ Ran (deckIn (now (row .entry)) sizes) (sizes .reordering) lanes i (sizes .cells - i) at (now (store .entry)) (now (store .exit)) × Lent (now (table .exit)) ⌝ }
 {
     let mut from: usize = 0;
     let mut d: usize = 0;
     while i + d < sizes.cells {
-        search_wide_layer::step_layer(table, store, row, sizes, lanes, i + d, from, 49152 - from);
-        from = 49152 - from;
+        search_wide_layer::step_layer(
+            table,
+            store,
+            row,
+            sizes,
+            lanes,
+            i + d,
+            from,
+            search_store::LAYER - from,
+        );
+        from = search_store::LAYER - from;
         d += 1;
     }
     from
@@ -43,7 +53,7 @@ fn ends_with(row: &[u32], sizes: Sizes, q: usize) -> bool
         return false;
     }
     let k = search_row::last_at(row, sizes, sizes.cells, q);
-    row[k * 128 + 67] != 1
+    row[k * search_row::CELL + search_row::TALL] != 1
 }
 
 // The least of all poses of state q, in each lane; its cell is at position k, and each pose pays as the row's last.
@@ -57,7 +67,7 @@ fn least_poses(
     poses: usize,
     lanes: usize,
 )
-    requires { ⌜ RowWords (now row) × Low (now store) × Low (now acc) × (length (now acc) ≡ 64) × (at + 49152 ≤ length (now store)) × (q < 12) × (k < 64) × (poses ≤ 60) × (lanes ≤ 64) ⌝ }
+    requires { ⌜ RowWords (now row) × Low (now store) × Low (now acc) × (length (now acc) ≡ 64) × (at + layerBlock ≤ length (now store)) × (q < 12) × (k < 64) × (poses ≤ 60) × (lanes ≤ 64) ⌝ }
     ensures { λ _. ⌜ Lowered (leastPosesIn (now (row .entry)) k (now (store .entry)) at q poses) lanes (now (acc .entry)) (now (acc .exit)) ⌝ }
 {
     let mut a: usize = 0;
@@ -65,7 +75,7 @@ fn least_poses(
         search_lanes::relax(
             acc,
             store,
-            at + q * 4096 + a * 64,
+            at + q * search_store::STATE + a * 64,
             search_row::back(row, k, a),
             lanes,
         );
@@ -125,7 +135,7 @@ fn put_ends(store: &mut [u32], row: &[u32], sizes: Sizes, lanes: usize, at: usiz
 // The costs to the row's end, to the row at `costs`, a word for each lane. If nothing is left to place it is the lane's word of `starts`, what its
 // start pays as the row's last; NONE if too much was placed.
 pub fn segment_end(
-    table: &mut [u32; 10944],
+    table: &mut [u32; search_store::TABLE],
     store: &mut [u32],
     row: &[u32],
     sizes: Sizes,

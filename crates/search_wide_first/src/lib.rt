@@ -2,6 +2,7 @@
 ghost use mathlib.Core.Path.{_≡_};
 ghost use Prim.Native.Nat.{ℕ, suc, _+_, _*_, _≤_, _<_};
 ghost use lib.ListN.{length};
+ghost use Rattle.search_store.specs.Map.{layerBlock, tableWords};
 ghost use Rattle.theory_tables.specs.Steps.{marks};
 ghost use Rattle.search_lanes.specs.Store.{Low, FilledState, Filled};
 ghost use Rattle.search_row.specs.Words.{deckIn, RowWords};
@@ -14,7 +15,7 @@ use search_row::Sizes;
 
 // Lane `lane` of a table lowered to pose b of the cell at position p, where it starts, for the cell at position k.
 fn from_start(
-    table: &mut [u32; 10944],
+    table: &mut [u32; search_store::TABLE],
     row: &[u32],
     pays: &[u32; 36],
     p: usize,
@@ -24,7 +25,7 @@ fn from_start(
     buckets: usize,
     lane: usize,
 )
-    requires { ⌜ RowWords (now row) × Pays (now row) p k buckets 36 (now pays) × Low (now table) × (length (now table) ≡ 10944) × (p < 64) × (k < 64) × (b < 64) × (rows ≤ 19) × (lane < 64) × FiveOrNine buckets ⌝ }
+    requires { ⌜ RowWords (now row) × Pays (now row) p k buckets 36 (now pays) × Low (now table) × (length (now table) ≡ tableWords) × (p < 64) × (k < 64) × (b < 64) × (rows ≤ 19) × (lane < 64) × FiveOrNine buckets ⌝ }
     ensures { λ _. ⌜ Started (onePose (now (row .entry)) p k b 0) rows buckets lane (now (table .entry)) (now (table .exit)) ⌝ }
 {
     let t = search_buckets::end_row(row, p, b, k);
@@ -36,7 +37,7 @@ fn from_start(
 
 // Every lane: pose l in lane l.
 fn from_starts(
-    table: &mut [u32; 10944],
+    table: &mut [u32; search_store::TABLE],
     row: &[u32],
     p: usize,
     k: usize,
@@ -44,7 +45,7 @@ fn from_starts(
     buckets: usize,
     lanes: usize,
 )
-    requires { ⌜ RowWords (now row) × Low (now table) × (length (now table) ≡ 10944) × (p < 64) × (lanes ≤ 64) × (k < 64) × (rows ≤ 19) × FiveOrNine buckets ⌝ }
+    requires { ⌜ RowWords (now row) × Low (now table) × (length (now table) ≡ tableWords) × (p < 64) × (lanes ≤ 64) × (k < 64) × (rows ≤ 19) × FiveOrNine buckets ⌝ }
     ensures { λ _. ⌜ StartedTo (startIn (now (row .entry)) p k) rows buckets lanes (now (table .entry)) (now (table .exit)) ⌝ }
 {
     let mut pays = [0u32; 36];
@@ -59,7 +60,7 @@ fn from_starts(
 // The rows of a state that can come first: the cell at position k, after each pose of the cell at position p. The starts are put in the
 // table that is lent, whatever it has.
 fn first_rows(
-    table: &mut [u32; 10944],
+    table: &mut [u32; search_store::TABLE],
     store: &mut [u32],
     row: &[u32],
     to: usize,
@@ -69,7 +70,7 @@ fn first_rows(
     poses: usize,
     lanes: usize,
 )
-    requires { ⌜ Lent (now table) × RowWords (now row) × Low (now store) × (to + 49152 ≤ length (now store)) × (q < 12) × (p < 64) × (lanes ≤ 64) × (k < 64) × (poses ≤ 60) ⌝ }
+    requires { ⌜ Lent (now table) × RowWords (now row) × Low (now store) × (to + layerBlock ≤ length (now store)) × (q < 12) × (p < 64) × (lanes ≤ 64) × (k < 64) × (poses ≤ 60) ⌝ }
     ensures { λ _. ⌜ FilledState (afterRows (now (row .entry)) p k) lanes to q poses (now (store .entry)) (now (store .exit)) × Lent (now (table .exit)) ⌝ }
 {
     let buckets = search_buckets::buckets_of(row, k);
@@ -89,7 +90,7 @@ fn first_rows(
 
 // The block of state q.
 fn first_block(
-    table: &mut [u32; 10944],
+    table: &mut [u32; search_store::TABLE],
     store: &mut [u32],
     row: &[u32],
     sizes: Sizes,
@@ -104,7 +105,13 @@ fn first_block(
     ensures { λ _. ⌜ FilledState (afterFrom (deckIn (now (row .entry)) sizes) (sizes .reordering) i m p) lanes to q (sizes .poses) (now (store .entry)) (now (store .exit)) × Lent (now (table .exit)) ⌝ }
 {
     if !search_dense_first::starts(row, sizes, i + 1, m, q) {
-        search_lanes::fill_rows(store, to + q * 4096, sizes.poses, lanes, search_lanes::NONE);
+        search_lanes::fill_rows(
+            store,
+            to + q * search_store::STATE,
+            sizes.poses,
+            lanes,
+            search_lanes::NONE,
+        );
         return;
     }
     let k = search_row::last_at(row, sizes, i + 1, q);
@@ -113,7 +120,7 @@ fn first_block(
 
 // The layer after the cell at position p as state s, the last of i placed: one lane for each of its poses.
 pub fn first_layer(
-    table: &mut [u32; 10944],
+    table: &mut [u32; search_store::TABLE],
     store: &mut [u32],
     row: &[u32],
     sizes: Sizes,
@@ -126,7 +133,7 @@ pub fn first_layer(
     requires { ⌜ Lent (now table) × Given (now row) (now store) sizes lanes i to × (p < 64) × (lanes ≤ 64) × (s < sizes .states) ⌝ }
     ensures { λ _. ⌜ Filled (afterFrom (deckIn (now (row .entry)) sizes) (sizes .reordering) i (marks (sizes .reordering) s) p) lanes (sizes .poses) to (sizes .states) (now (store .entry)) (now (store .exit)) × Lent (now (table .exit)) ⌝ }
 {
-    let m = row[8192 + s * 4 + 1];
+    let m = row[search_row::STATES + s * 4 + 1];
     let mut q: usize = 0;
     while q < sizes.states {
         first_block(table, store, row, sizes, lanes, i, m, p, to, q);

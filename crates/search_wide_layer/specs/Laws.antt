@@ -5,6 +5,7 @@ use mathlib.Core.List.{List}
 use native.Mathlib.Omega.{arith}
 use native.Mathlib.Decide.{decLt}
 use lib.ListN.{getD}
+use Rattle.search_store.specs.Map.{layerBlock, stateBlock}
 use Rattle.search_row.specs.declared.Sizes.{Sizes}
 use Rattle.theory_tables.specs.Steps.{Deck, stateCount, nextLayer}
 use Rattle.search_lanes.specs.Store.{Frame, Low, layerIn}
@@ -13,13 +14,13 @@ use Rattle.search_wide_layer.specs.Loops.{Given, Beside}
 
 -- a block's entries are as they were
 pub record Kept (at : ℕ) (old new : List ℕ) : Type 0 where
-  pub word : (k : ℕ) → at ≤ k → k < at + 49152 → getD new k 0 ≡ getD old k 0
+  pub word : (k : ℕ) → at ≤ k → k < at + layerBlock → getD new k 0 ≡ getD old k 0
 
 -- what is written in one block keeps the other
-pub beside-kept : {st old new : List ℕ} {at to a b : ℕ} → Beside st at to → Frame a b old new → to ≤ a → b ≤ to + 49152 → Kept at old new
+pub beside-kept : {st old new : List ℕ} {at to a b : ℕ} → Beside st at to → Frame a b old new → to ≤ a → b ≤ to + layerBlock → Kept at old new
 beside-kept {old = old} {new = new} {at} {to} {a} {b} v f p q = record { word = λ k x y. go k x y (decLt k a) (decLt k b) }
   where
-    go : (k : ℕ) → at ≤ k → k < at + 49152 → Dec (k < a) → Dec (k < b) → getD new k 0 ≡ getD old k 0
+    go : (k : ℕ) → at ≤ k → k < at + layerBlock → Dec (k < a) → Dec (k < b) → getD new k 0 ≡ getD old k 0
     go k x y (yes h) t = f .low k h
     go k x y (no h) (no t) = f .high k (omega arith)
     go k x y (no h) (yes t) = absurd (v .apart k x y (omega arith) (omega arith))
@@ -30,7 +31,7 @@ pub next-kept :
     → nextLayer D R (layerIn new at l) i q a ≡ nextLayer D R (layerIn old at l) i q a
 next-kept D R {at} {old} {new} i q a l s w p h =
     next-ext D R (layerIn new at l) (layerIn old at l)
-    (λ q b x y. s .word (at + q * 4096 + b * 64 + l) (omega arith) (omega arith))
+    (λ q b x y. s .word (at + q * stateBlock + b * 64 + l) (omega arith) (omega arith))
     i q a
 
 -- what a function was given holds on, whatever another one wrote

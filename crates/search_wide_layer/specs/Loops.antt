@@ -2,6 +2,7 @@
 use Prim.Native.Nat.{ℕ, _+_, _≤_, _<_}
 use mathlib.Core.List.{List}
 use lib.ListN.{length}
+use Rattle.search_store.specs.Map.{layerBlock}
 use Rattle.theory_tables.specs.Steps.{Deck, Layer, nextLayer}
 use Rattle.search_lanes.specs.Store.{Low, layerIn}
 use Rattle.search_row.specs.declared.Sizes.{Sizes}
@@ -19,9 +20,9 @@ pub record Given (row st : List ℕ) (z : Sizes) (lanes i at : ℕ) : Type 0 whe
   pub low : Low st
   pub narrow : lanes ≤ 64
   pub early : i ≤ 67
-  pub room : at + 49152 ≤ length st
+  pub room : at + layerBlock ≤ length st
 
 -- another block, with room, that has no word in common with the block at `at`
 pub record Beside (st : List ℕ) (at to : ℕ) : Type 0 where
-  pub room : to + 49152 ≤ length st
-  pub apart : (k : ℕ) → at ≤ k → k < at + 49152 → to ≤ k → k < to + 49152 → ⊥
+  pub room : to + layerBlock ≤ length st
+  pub apart : (k : ℕ) → at ≤ k → k < at + layerBlock → to ≤ k → k < to + layerBlock → ⊥

@@ -1,5 +1,5 @@
 // One layer of the search from the layer before, in all lanes at once. A layer is a block of 49152 words: state, pose, lane.
-// For each state of the next layer its sources are gathered by their end sites (crate near), and each of its poses looks up what it needs.
+// For each state of the next layer its sources are gathered by their end sites (crate search_wide_buckets), and each of its poses looks up what it needs.
 ghost use mathlib.Core.Path.{_≡_};
 ghost use mathlib.Core.Bool.{true, false};
 ghost use Prim.Native.Nat.{ℕ, suc, _+_, _*_, _≤_, _<_};
@@ -12,9 +12,9 @@ ghost use Rattle.search_wide_buckets.specs.Table.{Lent, FiveOrNine, Gathered, s
 ghost use Rattle.search_wide_layer.specs.Loops.{nextFrom, Given, Beside};
 use search_row::Sizes;
 
-// Pair p of the layer with i cells, if it is a source: whether it lowered anything.
+// State p of the layer with i cells, if it is a source: whether it lowered anything.
 fn from_source(
-    table: &mut [u32; 10944],
+    table: &mut [u32; search_store::TABLE],
     store: &[u32],
     row: &[u32],
     sizes: Sizes,
@@ -40,7 +40,7 @@ fn from_source(
         store,
         row,
         &pays,
-        from + p * 4096,
+        from + p * search_store::STATE,
         k,
         m,
         sizes.poses,
@@ -51,7 +51,7 @@ fn from_source(
 
 // Every source: whether one lowered anything.
 fn gather(
-    table: &mut [u32; 10944],
+    table: &mut [u32; search_store::TABLE],
     store: &[u32],
     row: &[u32],
     sizes: Sizes,
@@ -92,7 +92,7 @@ fn has_source(row: &[u32], sizes: Sizes, i: usize, q: usize) -> bool
 
 // The rows of state q, whose cell is there: all NONE if nothing leads to it. Sources are gathered in the table that is lent, whatever it has.
 fn target_rows(
-    table: &mut [u32; 10944],
+    table: &mut [u32; search_store::TABLE],
     store: &mut [u32],
     row: &[u32],
     sizes: Sizes,
@@ -106,14 +106,26 @@ fn target_rows(
     ensures { λ _. ⌜ FilledState (nextFrom (deckIn (now (row .entry)) sizes) (sizes .reordering) (now (store .entry)) from i) lanes to q (sizes .poses) (now (store .entry)) (now (store .exit)) × Lent (now (table .exit)) ⌝ }
 {
     if !has_source(row, sizes, i, q) {
-        search_lanes::fill_rows(store, to + q * 4096, sizes.poses, lanes, search_lanes::NONE);
+        search_lanes::fill_rows(
+            store,
+            to + q * search_store::STATE,
+            sizes.poses,
+            lanes,
+            search_lanes::NONE,
+        );
         return;
     }
     let m = search_row::last_at(row, sizes, i + 1, q);
     let buckets = search_buckets::buckets_of(row, m);
     search_wide_buckets::reset(table, buckets, sizes.poses, lanes);
     if !gather(table, store, row, sizes, lanes, i, from, q, buckets) {
-        search_lanes::fill_rows(store, to + q * 4096, sizes.poses, lanes, search_lanes::NONE);
+        search_lanes::fill_rows(
+            store,
+            to + q * search_store::STATE,
+            sizes.poses,
+            lanes,
+            search_lanes::NONE,
+        );
         return;
     }
     search_wide_buckets::run_up(table, sizes.poses, lanes);
@@ -122,7 +134,7 @@ fn target_rows(
 
 // The block of state q: all NONE if the row has no such cell.
 pub fn target_block(
-    table: &mut [u32; 10944],
+    table: &mut [u32; search_store::TABLE],
     store: &mut [u32],
     row: &[u32],
     sizes: Sizes,
@@ -136,7 +148,13 @@ pub fn target_block(
     ensures { λ _. ⌜ FilledState (nextFrom (deckIn (now (row .entry)) sizes) (sizes .reordering) (now (store .entry)) from i) lanes to q (sizes .poses) (now (store .entry)) (now (store .exit)) × Lent (now (table .exit)) ⌝ }
 {
     if !search_row::is_there(row, sizes, i + 1, q) {
-        search_lanes::fill_rows(store, to + q * 4096, sizes.poses, lanes, search_lanes::NONE);
+        search_lanes::fill_rows(
+            store,
+            to + q * search_store::STATE,
+            sizes.poses,
+            lanes,
+            search_lanes::NONE,
+        );
         return;
     }
     target_rows(table, store, row, sizes, lanes, i, from, to, q);
@@ -144,7 +162,7 @@ pub fn target_block(
 
 // The layer with one cell more than the layer at `from`, which has i, to the block at `to`.
 pub fn step_layer(
-    table: &mut [u32; 10944],
+    table: &mut [u32; search_store::TABLE],
     store: &mut [u32],
     row: &[u32],
     sizes: Sizes,

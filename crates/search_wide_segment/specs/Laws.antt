@@ -10,6 +10,7 @@ use native.Mathlib.Numerals.{add-one}
 use borrow.Author.Tests.{lt-ltb, le-ltb, le-leb, lt-leb, eq-eqb, ne-eqb}
 use lib.ListN.{length, getD}
 use lib.Dec.{leb}
+use Rattle.search_store.specs.Map.{keptFrom, layerBlock, stateBlock}
 use Rattle.search_row.specs.declared.Sizes.{Sizes}
 use Rattle.theory_tables.specs.Steps.{B, Deck, Layer, stateCount, offset, layers, costTo}
 use Rattle.search_lanes.specs.Store.{Frame, layerIn, Filled}
@@ -20,15 +21,15 @@ use Rattle.search_wide_segment.specs.Runs.{Buffer, Running, Small, Outsi
 
 -- ---- the two blocks by turns
 
-pub buffer-low : {at : ℕ} → Buffer at → at ≤ 49152
+pub buffer-low : {at : ℕ} → Buffer at → at ≤ layerBlock
 buffer-low (inl e) = omega arith
 buffer-low (inr e) = omega arith
 
-pub buffer-turn : {at : ℕ} → Buffer at → Buffer (49152 - at)
+pub buffer-turn : {at : ℕ} → Buffer at → Buffer (layerBlock - at)
 buffer-turn (inl e) = inr (omega arith)
 buffer-turn (inr e) = inl (omega arith)
 
-pub buffer-beside : {st : List ℕ} {at : ℕ} → Buffer at → 98304 ≤ length st → Beside st at (49152 - at)
+pub buffer-beside : {st : List ℕ} {at : ℕ} → Buffer at → keptFrom ≤ length st → Beside st at (layerBlock - at)
 buffer-beside (inl e) h = record { room = omega arith; apart = λ k x y z w. omega arith }
 buffer-beside (inr e) h = record { room = omega arith; apart = λ k x y z w. omega arith }
 
@@ -44,10 +45,10 @@ given-small g = record { narrow = g .narrow; few = g .ground .few; states = g .g
 
 pub run-none :
     (D : Deck) (R lanes i : ℕ) {old st : List ℕ}
-    → Small D R lanes → ((k : ℕ) → k < 49152 → getD st k 0 ≡ getD old k 0) → Running D R lanes i 0 0 old st
+    → Small D R lanes → ((k : ℕ) → k < layerBlock → getD st k 0 ≡ getD old k 0) → Running D R lanes i 0 0 old st
 unfolding layers
 run-none D R lanes i s e =
-    record { buffer = inl refl; right = λ q a l x y z. e (0 + q * 4096 + a * 64 + l) (omega (arith, s .narrow, s .few, s .states)) }
+    record { buffer = inl refl; right = λ q a l x y z. e (0 + q * stateBlock + a * 64 + l) (omega (arith, s .narrow, s .few, s .states)) }
 
 -- the layer after the one at `at`
 next-run :
@@ -60,8 +61,8 @@ next-run {D} {R} {i = i} {d} {at} {old} {st} r q a l z =
 
 pub run-more :
     {D : Deck} {R lanes i d at count : ℕ} {old mid new : List ℕ}
-    → count ≡ stateCount R → Running D R lanes i d at old mid → Filled (nextFrom D R mid at (i + d)) lanes (D .poses) (49152 - at) count mid new
-    → Running D R lanes i (d + 1) (49152 - at) old new
+    → count ≡ stateCount R → Running D R lanes i d at old mid → Filled (nextFrom D R mid at (i + d)) lanes (D .poses) (layerBlock - at) count mid new
+    → Running D R lanes i (d + 1) (layerBlock - at) old new
 run-more {D} {R} {i = i} {d} {old = old} c r f =
     record {
       buffer = buffer-turn (r .buffer);
@@ -71,13 +72,13 @@ run-more {D} {R} {i = i} {d} {old = old} c r f =
 -- what is written above the layers keeps them
 pub run-kept :
     {D : Deck} {R lanes i d at a b : ℕ} {old mid new : List ℕ}
-    → Small D R lanes → Running D R lanes i d at old mid → Frame a b mid new → 98304 ≤ a
+    → Small D R lanes → Running D R lanes i d at old mid → Frame a b mid new → keptFrom ≤ a
     → Running D R lanes i d at old new
 run-kept {at = at} s r f h =
     record {
       buffer = r .buffer;
       right = λ q a l x y z.
-          f .low (at + q * 4096 + a * 64 + l) (omega (arith, s .narrow, s .few, s .states, buffer-low (r .buffer))) ∙ r .right q a l x y z;
+          f .low (at + q * stateBlock + a * 64 + l) (omega (arith, s .narrow, s .few, s .states, buffer-low (r .buffer))) ∙ r .right q a l x y z;
     }
 
 -- ---- what is kept
@@ -89,7 +90,7 @@ pub outside-join : {costs wide : ℕ} {x y z : List ℕ} → Outside costs wide 
 outside-join f g =
     record { long = g .long ∙ f .long; below = λ k x y. g .below k x y ∙ f .below k x y; above = λ k x. g .above k x ∙ f .above k x }
 
-pub outside-layers : {costs wide a b : ℕ} {old new : List ℕ} → 98304 ≤ costs → Frame a b old new → b ≤ 98304 → Outside costs wide old new
+pub outside-layers : {costs wide a b : ℕ} {old new : List ℕ} → keptFrom ≤ costs → Frame a b old new → b ≤ keptFrom → Outside costs wide old new
 outside-layers p f h = record { long = f .long; below = λ k x y. f .high k (omega arith); above = λ k x. f .high k (omega arith) }
 
 pub outside-costs : {costs wide a b : ℕ} {old new : List ℕ} → Frame a b old new → costs ≤ a → b ≤ costs + wide → Outside costs wide old new
@@ -144,17 +145,17 @@ costed-more {D} {R} {lanes} {i} {p} {d} {at = at} {costs = costs} {old = old} {m
 -- one step more of the segment: a layer, and what it delivers
 pub costed-step :
     {D : Deck} {R lanes i p d at costs count : ℕ} {old mid step new : List ℕ}
-    → Small D R lanes → count ≡ stateCount R → 98304 ≤ costs → CostedRun D R lanes i p d at costs old mid
-    → Filled (nextFrom D R mid at (i + d)) lanes (D .poses) (49152 - at) count mid step
-    → Filled (delivered R (i + (d + 1)) p step (49152 - at) costs) lanes (D .poses) costs count step new
-    → CostedRun D R lanes i p (d + 1) (49152 - at) costs old new
+    → Small D R lanes → count ≡ stateCount R → keptFrom ≤ costs → CostedRun D R lanes i p d at costs old mid
+    → Filled (nextFrom D R mid at (i + d)) lanes (D .poses) (layerBlock - at) count mid step
+    → Filled (delivered R (i + (d + 1)) p step (layerBlock - at) costs) lanes (D .poses) costs count step new
+    → CostedRun D R lanes i p (d + 1) (layerBlock - at) costs old new
 costed-step {D} {R} {lanes} {i} {p} {d} {at} {costs} s c h r f g =
     let run = run-more c (r .running) f in
     let b = buffer-low (r .running .buffer) in
     record {
       running = run-kept s run (g .frame) h;
       costed = costed-more c run
-          (record { right = λ q a l x y z k. f .frame .high (costs + q * 4096 + a * 64 + l) (omega arith) ∙ r .costed .right q a l x y z k })
+          (record { right = λ q a l x y z k. f .frame .high (costs + q * stateBlock + a * 64 + l) (omega arith) ∙ r .costed .right q a l x y z k })
           g;
       outside = outside-join (r .outside) (outside-join (outside-layers h (f .frame) (omega arith)) (outside-costs (g .frame) (omega arith) (omega arith)));
       low = g .low;
@@ -163,7 +164,7 @@ costed-step {D} {R} {lanes} {i} {p} {d} {at} {costs} s c h r f g =
 -- the segment begins: the costs of the states that come with no layer are B, and the first layer is delivered
 pub costed-start :
     (D : Deck) (R lanes i p costs count : ℕ) {old mid new : List ℕ}
-    → Small D R lanes → count ≡ stateCount R → 98304 ≤ costs
+    → Small D R lanes → count ≡ stateCount R → keptFrom ≤ costs
     → Filled (lateIn R i p old costs) lanes (D .poses) costs count old mid
     → Filled (delivered R i p mid 0 costs) lanes (D .poses) costs count mid new
     → CostedRun D R lanes i p 0 0 costs new new
@@ -180,7 +181,7 @@ costed-start D R lanes i p costs count {old} {mid} {new} s c h late g =
                 ∙ sym (costTo-past D R (layerIn new 0 l) i p q a (omega arith));
           })
           (subst (λ (j : ℕ). Filled (delivered R j p mid 0 costs) lanes (D .poses) costs count mid new) e g);
-      outside = outside-refl costs 49152 new;
+      outside = outside-refl costs layerBlock new;
       low = g .low;
     }
 
@@ -194,7 +195,7 @@ module _ (D : Deck) (R : ℕ) (f g : Layer) (same : (q b : ℕ) → q < stateCou
 -- what came before a segment left its first layer as it was
 pub costed-from :
     {D : Deck} {R lanes i p d at costs : ℕ} {old mid new : List ℕ}
-    → Small D R lanes → ((k : ℕ) → k < 49152 → getD mid k 0 ≡ getD old k 0) → Outside costs 49152 old mid
+    → Small D R lanes → ((k : ℕ) → k < layerBlock → getD mid k 0 ≡ getD old k 0) → Outside costs layerBlock old mid
     → CostedRun D R lanes i p d at costs mid new → CostedRun D R lanes i p d at costs old new
 costed-from {D} {R} {lanes} {i} {p} {d} {old = old} {mid = mid} s e o r =
     record {
@@ -208,7 +209,7 @@ costed-from {D} {R} {lanes} {i} {p} {d} {old = old} {mid = mid} s e o r =
     }
   where
     same : (l : ℕ) → l < lanes → (q b : ℕ) → q < stateCount R → b < D .poses → layerIn mid 0 l q b ≡ layerIn old 0 l q b
-    same l z q b x y = e (0 + q * 4096 + b * 64 + l) (omega (arith, s .narrow, s .few, s .states))
+    same l z q b x y = e (0 + q * stateBlock + b * 64 + l) (omega (arith, s .narrow, s .few, s .states))
 
 -- ---- the last layer
 

@@ -6,13 +6,14 @@ use mathlib.Core.Bool.{cond}
 use mathlib.Core.List.{List}
 use lib.ListN.{length, getD}
 use lib.Dec.{ltb, eqb}
+use Rattle.search_store.specs.Map.{keptFrom, layerBlock}
 use Rattle.theory_tables.specs.Steps.{B, Deck, Layer, stateCount, offset, layers, costTo}
 use Rattle.search_lanes.specs.Store.{Low, layerIn}
 use Rattle.search_wide_layer.specs.Loops.{nextFrom}
 
 -- the two blocks of layers, at 0 and at 49152
 abbrev pub Buffer : ℕ → Type 0
-Buffer at = (at ≡ 0) ⊎ (at ≡ 49152)
+Buffer at = (at ≡ 0) ⊎ (at ≡ layerBlock)
 
 -- d layers on from the layer in block 0, which has i cells, are in the block at `at`, in each lane
 pub record Running (D : Deck) (R lanes i d at : ℕ) (old new : List ℕ) : Type 0 where
@@ -22,7 +23,7 @@ pub record Running (D : Deck) (R lanes i d at : ℕ) (old new : List ℕ) : Type
 -- only the layers' blocks and so many words of costs changed
 pub record Outside (costs wide : ℕ) (old new : List ℕ) : Type 0 where
   pub long : length new ≡ length old
-  pub below : (k : ℕ) → 98304 ≤ k → k < costs → getD new k 0 ≡ getD old k 0
+  pub below : (k : ℕ) → keptFrom ≤ k → k < costs → getD new k 0 ≡ getD old k 0
   pub above : (k : ℕ) → costs + wide ≤ k → getD new k 0 ≡ getD old k 0
 
 -- few poses, states and lanes
@@ -33,8 +34,8 @@ pub record Small (D : Deck) (R lanes : ℕ) : Type 0 where
 
 -- room for costs, above the layers
 pub record CostRoom (st : List ℕ) (costs : ℕ) : Type 0 where
-  pub over : 98304 ≤ costs
-  pub room : costs + 49152 ≤ length st
+  pub over : keptFrom ≤ costs
+  pub room : costs + layerBlock ≤ length st
 
 -- ---- costs to the tall cell at position p
 
@@ -59,11 +60,11 @@ pub record CostedBy (D : Deck) (R lanes i p d costs : ℕ) (old new : List ℕ) 
 pub record CostedRun (D : Deck) (R lanes i p d at costs : ℕ) (old new : List ℕ) : Type 0 where
   pub running : Running D R lanes i d at old new
   pub costed : CostedBy D R lanes i p (d + 1) costs old new
-  pub outside : Outside costs 49152 old new
+  pub outside : Outside costs layerBlock old new
   pub low : Low new
 
 -- what a segment to the tall cell leaves
 pub record SegmentCosted (D : Deck) (R lanes i p costs : ℕ) (old new : List ℕ) : Type 0 where
-  pub outside : Outside costs 49152 old new
+  pub outside : Outside costs layerBlock old new
   pub low : Low new
   pub right : (q a l : ℕ) → q < stateCount R → a < D .poses → l < lanes → layerIn new costs l q a ≡ costTo D R (layerIn old 0 l) i p q a

@@ -3,6 +3,7 @@
 ghost use mathlib.Core.Path.{_≡_};
 ghost use Prim.Native.Nat.{ℕ, suc, _+_, _*_, _-_, _≤_, _<_};
 ghost use lib.ListN.{length};
+ghost use Rattle.search_store.specs.Map.{layerBlock};
 ghost use Rattle.theory_tables.specs.Steps.{stateCount};
 ghost use Rattle.search_lanes.specs.Store.{Low, FilledState, Filled};
 ghost use Rattle.search_row.specs.Words.{deckIn, StateWords};
@@ -25,12 +26,12 @@ fn late_state(
     requires { ⌜ StateWords (sizes .reordering) (now row) × Low (now store) × CostRoom (now store) costs × (q < stateCount (sizes .reordering)) × (sizes .poses ≤ 60) × (lanes ≤ 64) × (i ≤ 100) × (tall < 64) ⌝ }
     ensures { λ _. ⌜ FilledState (lateIn (sizes .reordering) i tall (now (store .entry)) costs) lanes costs q (sizes .poses) (now (store .entry)) (now (store .exit)) ⌝ }
 {
-    if i + search_row::word(row, 8192 + q * 4) <= tall + sizes.reordering + 1 {
+    if i + search_row::word(row, search_row::STATES + q * 4) <= tall + sizes.reordering + 1 {
         return;
     }
     search_lanes::fill_rows(
         store,
-        costs + q * 4096,
+        costs + q * search_store::STATE,
         sizes.poses,
         lanes,
         search_lanes::NONE,
@@ -69,13 +70,19 @@ fn deliver_state(
     costs: usize,
     q: usize,
 )
-    requires { ⌜ StateWords (sizes .reordering) (now row) × Low (now store) × CostRoom (now store) costs × (q < stateCount (sizes .reordering)) × (sizes .poses ≤ 60) × (lanes ≤ 64) × (i ≤ 100) × (tall < 64) × (from ≤ 49152) ⌝ }
+    requires { ⌜ StateWords (sizes .reordering) (now row) × Low (now store) × CostRoom (now store) costs × (q < stateCount (sizes .reordering)) × (sizes .poses ≤ 60) × (lanes ≤ 64) × (i ≤ 100) × (tall < 64) × (from ≤ layerBlock) ⌝ }
     ensures { λ _. ⌜ FilledState (delivered (sizes .reordering) i tall (now (store .entry)) from costs) lanes costs q (sizes .poses) (now (store .entry)) (now (store .exit)) ⌝ }
 {
-    if i + search_row::word(row, 8192 + q * 4) != tall + sizes.reordering + 1 {
+    if i + search_row::word(row, search_row::STATES + q * 4) != tall + sizes.reordering + 1 {
         return;
     }
-    search_lanes::copy_rows(store, from + q * 4096, costs + q * 4096, sizes.poses, lanes);
+    search_lanes::copy_rows(
+        store,
+        from + q * search_store::STATE,
+        costs + q * search_store::STATE,
+        sizes.poses,
+        lanes,
+    );
 }
 
 // The costs of every state that comes with that layer.
@@ -89,7 +96,7 @@ fn deliver(
     from: usize,
     costs: usize,
 )
-    requires { ⌜ StateWords (sizes .reordering) (now row) × Low (now store) × CostRoom (now store) costs × (sizes .states ≡ stateCount (sizes .reordering)) × (sizes .poses ≤ 60) × (lanes ≤ 64) × (i ≤ 100) × (tall < 64) × (from ≤ 49152) ⌝ }
+    requires { ⌜ StateWords (sizes .reordering) (now row) × Low (now store) × CostRoom (now store) costs × (sizes .states ≡ stateCount (sizes .reordering)) × (sizes .poses ≤ 60) × (lanes ≤ 64) × (i ≤ 100) × (tall < 64) × (from ≤ layerBlock) ⌝ }
     ensures { λ _. ⌜ Filled (delivered (sizes .reordering) i tall (now (store .entry)) from costs) lanes (sizes .poses) costs (sizes .states) (now (store .entry)) (now (store .exit)) ⌝ }
 {
     let mut q: usize = 0;
@@ -101,7 +108,7 @@ fn deliver(
 
 // The layers up to the one with tall + r cells and the costs that come with them; answers the block of the last.
 fn run_to(
-    table: &mut [u32; 10944],
+    table: &mut [u32; search_store::TABLE],
     store: &mut [u32],
     row: &[u32],
     sizes: Sizes,
@@ -119,8 +126,17 @@ fn run_to(
     let mut from: usize = 0;
     let mut d: usize = 0;
     while i + d < tall + r {
-        search_wide_layer::step_layer(table, store, row, sizes, lanes, i + d, from, 49152 - from);
-        from = 49152 - from;
+        search_wide_layer::step_layer(
+            table,
+            store,
+            row,
+            sizes,
+            lanes,
+            i + d,
+            from,
+            search_store::LAYER - from,
+        );
+        from = search_store::LAYER - from;
         d += 1;
         deliver(store, row, sizes, lanes, i + d, tall, from, costs);
     }
@@ -129,7 +145,7 @@ fn run_to(
 
 // The costs of state q straight from the layer before, if it comes to the tall cell with the layer that has i + 1 cells.
 fn last_state(
-    table: &mut [u32; 10944],
+    table: &mut [u32; search_store::TABLE],
     store: &mut [u32],
     row: &[u32],
     sizes: Sizes,
@@ -143,7 +159,7 @@ fn last_state(
     requires { ⌜ Lent (now table) × Given (now row) (now store) sizes lanes i from × Beside (now store) from costs × (tall < 64) × (q < sizes .states) ⌝ }
     ensures { λ _. ⌜ FilledState (lastIn (deckIn (now (row .entry)) sizes) (sizes .reordering) i tall (now (store .entry)) from costs) lanes costs q (sizes .poses) (now (store .entry)) (now (store .exit)) × Lent (now (table .exit)) ⌝ }
 {
-    if i + 1 + search_row::word(row, 8192 + q * 4) != tall + sizes.reordering + 1 {
+    if i + 1 + search_row::word(row, search_row::STATES + q * 4) != tall + sizes.reordering + 1 {
         return;
     }
     search_wide_layer::target_block(table, store, row, sizes, lanes, i, from, costs, q);
@@ -151,7 +167,7 @@ fn last_state(
 
 // The costs of every such state: of the last layer nothing else is wanted.
 fn last_layer(
-    table: &mut [u32; 10944],
+    table: &mut [u32; search_store::TABLE],
     store: &mut [u32],
     row: &[u32],
     sizes: Sizes,
@@ -173,7 +189,7 @@ fn last_layer(
 
 // The costs to the tall cell, to the block at `costs`. The table that is lent serves all layers.
 pub fn segment_to(
-    table: &mut [u32; 10944],
+    table: &mut [u32; search_store::TABLE],
     store: &mut [u32],
     row: &[u32],
     sizes: Sizes,

@@ -1,5 +1,5 @@
 -- A job of document 01 as a job of the pair's theory, where what a cell is offered is a list of poses: those that rules 1 to 3 allow it, by their
--- numbers. A cell's own cost and what neighbours pay are the terms of the cost. Definitions; crate `bridge` proves that they say the same.
+-- numbers. A cell's own cost and what neighbours pay are the terms of the cost. Definitions; crate `theory_bridge` proves that they say the same.
 use Prim.Native.Nat.{ℕ, zero, suc, _+_, _-_, _*_, _/_, _%_}
 use mathlib.Core.Bool.{Bool, true, _&&_, _||_, cond}
 use mathlib.Core.List.{List, [], _∷_, map}

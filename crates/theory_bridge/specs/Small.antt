@@ -1,4 +1,4 @@
--- A legal placement costs little: at most 64 cells, each at most 9000 by itself, and at most 2000 between neighbours in either row. So prices that
+-- A legal placement costs little: at most 64 cells, each at most 9000 by itself, and at most 2000 between neighbours in either row. So costs that
 -- stop at 2^28 are exact.
 use mathlib.Core.Path.{refl}
 use mathlib.Core.Bool.{Bool, true, false, cond}
@@ -22,7 +22,7 @@ use Rattle.theory_bridge.specs.Paired.{rowOf, siteOf, widthOf, leftOf, r
 use Rattle.theory_bridge.specs.Offers.{Allowed, keeps-allowed}
 use Rattle.theory_bridge.specs.Total.{cost-total}
 
--- where prices stop
+-- where costs stop
 abbrev pub bound : ℕ
 bound = 268435456
 

@@ -46,7 +46,7 @@ module _ (D : Deck) (R talls : ℕ) (pos : ℕ → ℕ) (Noted : ℕ → ℕ →
 -- ---- all stages of two rows
 
 module _ (D₀ D₁ : Deck) (R talls : ℕ) (pos₀ pos₁ : ℕ → ℕ) (Noted₀ Noted₁ : ℕ → ℕ → ℕ → Type 0) where
-  -- stage I + 1 to the case (q₀, q₁, a) comes from the case (s, t, l) of tall cell I, and both rows were walked
+  -- stage I + 1 to the case (q₀, q₁, a) comes from the case (s, t, l) of tall cell I, and both rows were traced
   pub record StageBack (I q₀ q₁ a s t l : ℕ) : Type 0 where
     pub state₀ : s < stateCount R
     pub state₁ : t < stateCount R

@@ -1,4 +1,4 @@
--- The notes of a traceback as words; and what was walked stays walked when other notes keep those of the places it passed.
+-- The notes of a traceback as words; and what was traced stays traced when other notes keep those of the places it passed.
 use Prim.Native.Nat.{ℕ, zero, suc, _+_, _-_, _*_, _≤_, _<_}
 use mathlib.Core.Path.{_≡_, sym, _∙_}
 use mathlib.Core.Logic.{inl, inr}

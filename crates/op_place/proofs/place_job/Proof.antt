@@ -3,7 +3,8 @@ use mathlib.Core.Path.{_≡_, refl, ap, _∙_}
 use native.Mathlib.Omega.{arith}
 use lib.ListN.{length, replicate}
 use Rattle.job.specs.Value.{jobOf}
-use Rattle.op_place.specs.Answers.{found, answered-none, answered-some}
+use Rattle.op_place.specs.Answers.{answered-none, answered-some}
+use borrow.Author.Tests.{not-true, not-false}
 use borrow.Author.Needs.{needs}
 use Rattle.op_place.proofs.place_job.Statement.{statement}
 use Rattle.op_place.proofs.place_job.Tie as tie
@@ -32,7 +33,7 @@ returns c =
     let a = s .args in
     let long : length (f .search .last .1 .0) ≡ length (a .store .now) = omega arith in
     answered-none (a .store .now) (a .output .now) (a .results .now)
-    (f .search .ensures .none-when (k .if1 .taken))
+    (f .search .ensures .none-when (not-true _ (k .if1 .taken)))
     (z .clear .ensures ∙ ap (λ n. replicate n 0) long)
     (c .before .refuse .ensures)
 
@@ -46,7 +47,7 @@ put-answer-requires c κs =
     record {
       taken = s .pre .taken;
       numbers = o .numbers;
-      legal = o .some-when (found (jobOf (s .args .job)) _ _ o (l .if1 .left)) .legal _ refl;
+      legal = o .some-when (not-false _ (l .if1 .left)) .legal _ refl;
       output = s .pre .output;
     }
 
@@ -70,7 +71,7 @@ returns-2 c =
     let o = f .search .ensures in
     let long : length (f .search .last .1 .0) ≡ length (a .store .now) = omega arith in
     answered-some (a .store .now) (a .output .now) (a .results .now) (a .job) (f .search .result .poses)
-    (o .some-when (found (jobOf (a .job)) _ _ o (l .if1 .left)))
+    (o .some-when (not-false _ (l .if1 .left)))
     (z .clear .ensures ∙ ap (λ n. replicate n 0) long)
     (w .put-answer .ensures)
 

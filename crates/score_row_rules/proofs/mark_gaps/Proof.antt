@@ -1,4 +1,4 @@
--- Invariant: marked are the neighbours at one site among the cells from i on. The row is walked from the right.
+-- Invariant: marked are the neighbours at one site among the cells from i on. The row is traced from the right.
 use Prim.Native.Nat.{ℕ, _+_, _-_, _≤_, _<_, min}
 use mathlib.Core.Path.{_≡_, sym, ap, _∙_}
 use mathlib.Core.Bool.{Bool, true, false}

@@ -1,4 +1,4 @@
--- Invariant: the total is the sum over the neighbours from i on. The row is walked from the right.
+-- Invariant: the total is the sum over the neighbours from i on. The row is traced from the right.
 use mathlib.Core.Bool.{Bool, true, false}
 use lib.Dec.{leb}
 use Rattle.lists.specs.Compare.{Le?, low, high, le?}

@@ -1,5 +1,4 @@
 -- A cost of NONE: no list of moves ends legally. A lower one can be traced.
-use mathlib.Core.Path.{refl}
 use native.Mathlib.Omega.{arith}
 use borrow.Author.Needs.{needs}
 use Rattle.job.specs.Value.{jobOf}
@@ -15,7 +14,7 @@ same-length : tie.Need-same-length
 same-length c = search needs
 
 returns : tie.Need-returns
-returns c = none-solved (c .before .before .before .before .before .before .before .before .pre .0) (c .before .before .before .least-cost .ensures) (omega arith) refl (zeros-small 64)
+returns c = none-solved (c .before .before .before .before .before .before .before .before .pre .0) (c .before .before .before .least-cost .ensures) (omega arith) (zeros-small 64)
 
 slice-aggregate-note : tie.Need-slice-aggregate-note
 slice-aggregate-note c = search needs
@@ -33,7 +32,7 @@ same-length-2 c = search needs
 returns-2 : tie.Need-returns-2
 returns-2 c =
     let k = c .before .before .before .before .before .before .before .before .before .before .before .before .before .before in
-    some-solved (k .pre .0) (omega arith) (c .before .before .before .before .before .before .before .before .before .least-cost .ensures .cost) (c .before .before .before .note .ensures)
+    some-solved (k .pre .0) (c .before .before .before .before .before .before .before .before .before .least-cost .ensures .cost) (c .before .before .before .note .ensures)
 
 pub find-spec : {M : Type 1} → statement M
 find-spec = tie.close (tie.spec least-cost-requires same-length returns slice-aggregate-note note-requires same-length-2 returns-2)

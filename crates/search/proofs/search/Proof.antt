@@ -6,6 +6,7 @@ use native.Mathlib.Omega.{arith}
 use borrow.Author.Needs.{needs}
 use lib.ListN.{length}
 use lib.Seq.{length-take-le}
+use Rattle.search_row.specs.Words.{rowLength}
 use Rattle.job.specs.Value.{headerOf, jobOf}
 use Rattle.search.specs.Words.{words-lent, few-pages, zeros-low, again-room, again-long, again-low}
 use Rattle.search.specs.Ready.{ready}
@@ -30,13 +31,13 @@ slice-aggregate-fill-row : tie.Need-slice-aggregate-fill-row
 slice-aggregate-fill-row c = search needs
 
 fill-row-requires : tie.Need-fill-row-requires
-fill-row-requires c κs = let k = c .before .before .pre in (k .sound, k .few, omega arith, omega arith, zeros-low 8288)
+fill-row-requires c κs = let k = c .before .before .pre in (k .sound, k .few, omega arith, omega arith, zeros-low rowLength)
 
 slice-aggregate-fill-row-2 : tie.Need-slice-aggregate-fill-row-2
 slice-aggregate-fill-row-2 c = search needs
 
 fill-row-requires-2 : tie.Need-fill-row-requires-2
-fill-row-requires-2 c κs = let k = c .before .before .before .before .before .pre in (k .sound, k .few, omega arith, omega arith, zeros-low 8288)
+fill-row-requires-2 c κs = let k = c .before .before .before .before .before .pre in (k .sound, k .few, omega arith, omega arith, zeros-low rowLength)
 
 store-words-requires : tie.Need-store-words-requires
 unfolding jobOf headerOf

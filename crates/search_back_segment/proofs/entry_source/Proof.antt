@@ -5,7 +5,7 @@ use native.Mathlib.Omega.{arith}
 use borrow.Author.Needs.{needs}
 use lib.ListN.{getD}
 use Rattle.theory_tables.specs.Steps.{lastAt, reached}
-use Rattle.search_row.specs.Words.{deckIn}
+use Rattle.search_row.specs.Words.{deckIn, cellWords}
 use Rattle.search_row.specs.Laws.{there-size}
 use Rattle.search_dense_layer.specs.Kept.{keptIn}
 use Rattle.search_back_segment.specs.Sources.{entry-parts, entry-source}
@@ -26,7 +26,7 @@ Parts c =
     let a = c .before .before .before .before .before .before .args in
     (getD (a .store .now) (c .before .kept-at .result + a .q * 64 + a .a) 0 ≡ keptIn (a .store .now) (suc (a .i)) (a .q) (a .a))
     × (keptIn (a .store .now) (suc (a .i)) (a .q) (a .a)
-    ≡ getD (a .row .now) (c .before .before .before .last-at .result * 128 + a .a) 0 + reached (deckIn (a .row .now) (a .sizes)) (a .sizes .reordering) (keptIn (a .store .now) (a .i)) (a .i) (a .q) (a .a))
+    ≡ getD (a .row .now) (c .before .before .before .last-at .result * cellWords + a .a) 0 + reached (deckIn (a .row .now) (a .sizes)) (a .sizes .reordering) (keptIn (a .store .now) (a .i)) (a .i) (a .q) (a .a))
 
 parts : (c : tie.After-shared-slice-known4) → Parts c
 parts c =
@@ -36,7 +36,7 @@ parts c =
     let w = entry-parts D (a .sizes .reordering) (a .store .now) (a .i) (a .q) (a .a) (k .pre .next) (k .pre .cost) in
     let e = inside (c .before .before .before) .1 in (
       ap (λ (j : ℕ). getD (a .store .now) j 0) (omega (arith, c .before .kept-at .ensures)),
-      w .1 ∙ ap (λ (p : ℕ). getD (a .row .now) (p * 128 + a .a) 0 + reached D (a .sizes .reordering) (keptIn (a .store .now) (a .i)) (a .i) (a .q) (a .a)) (sym e),
+      w .1 ∙ ap (λ (p : ℕ). getD (a .row .now) (p * cellWords + a .a) 0 + reached D (a .sizes .reordering) (keptIn (a .store .now) (a .i)) (a .i) (a .q) (a .a)) (sym e),
     )
 
 add-last-at : tie.Need-add-last-at
@@ -101,7 +101,7 @@ returns c =
     let k = c .before .before .before .before .before .before .before in
     let a = k .args in
     let p = parts (c .before) in
-    let o = ap (λ (p : ℕ). getD (a .row .now) (p * 128 + a .a) 0) (inside (c .before .before .before .before) .1) in
+    let o = ap (λ (p : ℕ). getD (a .row .now) (p * cellWords + a .a) 0) (inside (c .before .before .before .before) .1) in
     entry-source (deckIn (a .row .now) (a .sizes)) (a .sizes .reordering) (a .store .now) (a .i) (a .q) (a .a) (c .find-source .ensures) (omega arith)
 
 pub entry-source-spec : {M : Type 1} → statement M

@@ -7,7 +7,7 @@ use lib.Dec.{eqb}
 use lib.ListN.{getD}
 use borrow.Author.Needs.{needs}
 use borrow.Author.Tests.{eq-eqb, ne-eqb, not-true, not-false}
-use Rattle.search_row.specs.Words.{wordOf, backIn, deckIn, thereIn}
+use Rattle.search_row.specs.Words.{wordOf, backIn, deckIn, thereIn, tallWord}
 use Rattle.search_row.specs.Laws.{there-size, back-low}
 use Rattle.search_dense_layer.specs.Kept.{keptIn}
 use Rattle.search_back_segment.specs.Lasts.{last-in, last-beyond, last-out, last-tall}
@@ -60,7 +60,7 @@ shared-slice-read-if3 c = omega (arith, inside (c .before), c .before .before .b
 returns-3 : tie.Need-returns-3
 returns-3 c =
     let a = c .before .before .before .before .before .before .before .before .before .args in
-    let e = ap (λ (p : ℕ). eqb (wordOf (a .row .now) p 67) 1) (c .before .before .last-at .ensures) in
+    let e = ap (λ (p : ℕ). eqb (wordOf (a .row .now) p tallWord) 1) (c .before .before .last-at .ensures) in
     sym
     (last-tall (deckIn (a .row .now) (a .sizes)) (a .sizes .reordering) (keptIn (a .store .now) (a .sizes .cells)) (a .c / 64) (a .c % 64)
     (sym e ∙ eq-eqb _ _ (c .if3 .taken)))
@@ -91,7 +91,7 @@ add-result-2 c =
 returns-4 : tie.Need-returns-4
 returns-4 c =
     let a = c .before .before .before .before .before .before .before .before .before .before .before .before .args in
-    let e = ap (λ (p : ℕ). eqb (wordOf (a .row .now) p 67) 1) (c .before .before .before .before .before .last-at .ensures) in
+    let e = ap (λ (p : ℕ). eqb (wordOf (a .row .now) p tallWord) 1) (c .before .before .before .before .before .last-at .ensures) in
     ap₂ (λ (x y : ℕ). x + y) (ap (λ (k : ℕ). getD (a .store .now) k 0) (omega (arith, c .before .before .kept-at .ensures)))
     (c .back .ensures ∙ ap (λ (k : ℕ). backIn (a .row .now) k (a .c % 64)) (c .before .before .before .before .before .last-at .ensures))
     ∙ sym

@@ -1,6 +1,7 @@
 -- Words are at most B, so that the sum fits.
 use Prim.Native.Nat.{_+_, _*_, _/_, _%_}
 use native.Mathlib.Omega.{arith}
+use Rattle.search_row.specs.Words.{cellWords}
 use Rattle.search_buckets.specs.Rows.{endRow}
 use borrow.Author.Needs.{needs}
 use Rattle.search_buckets.proofs.end_row.Statement.{statement}
@@ -13,7 +14,7 @@ add-y : tie.Need-add-y
 add-y c =
     let k = c .before .before in
     let a = k .args in
-    omega (arith, c .end .ensures, k .pre .0 .word (a .k * 128 + 64), k .pre .0 .word (a .k * 128 + (65 + a .b % 4 / 2)))
+    omega (arith, c .end .ensures, k .pre .0 .word (a .k * cellWords + 64), k .pre .0 .word (a .k * cellWords + (65 + a .b % 4 / 2)))
 
 mul-word : tie.Need-mul-word
 mul-word c = search needs

@@ -1,8 +1,8 @@
--- Plane 0 is free; in the others a weight times the heights that differ, by variants.
+-- Bucket 0 is free; in the others a weight times the heights that differ, by variants.
 use Prim.Native.Nat.{ℕ, _*_, _-_, _≤_}
 use mathlib.Core.Path.{_≡_, sym, ap, _∙_}
 use native.Mathlib.Omega.{arith}
-use Rattle.search_row.specs.Words.{wordOf}
+use Rattle.search_row.specs.Words.{wordOf, apartWord, touchingWord}
 use Rattle.search_row.specs.Laws.{differ-low, pay-low}
 use Rattle.search_buckets.specs.Laws.{pay-touching, pay-apart, pay-none}
 use borrow.Author.Needs.{needs}
@@ -43,7 +43,7 @@ mul-result-3 c =
 returns-2 : tie.Need-returns-2
 returns-2 c =
     let a = c .before .before .before .before .before .args in
-    ap (λ (d : ℕ). wordOf (a .row .now) (a .m) 84 * d) (c .differ .ensures)
+    ap (λ (d : ℕ). wordOf (a .row .now) (a .m) touchingWord * d) (c .differ .ensures)
     ∙ sym (pay-touching (a .row .now) (a .k) (a .u) (a .m) (a .v) (omega arith) (omega arith))
 
 mul-result-4 : tie.Need-mul-result-4
@@ -71,7 +71,7 @@ mul-result-6 c =
 returns-3 : tie.Need-returns-3
 returns-3 c =
     let a = c .before .before .before .before .before .args in
-    ap (λ (d : ℕ). wordOf (a .row .now) (a .m) 86 * d) (c .differ2 .ensures)
+    ap (λ (d : ℕ). wordOf (a .row .now) (a .m) apartWord * d) (c .differ2 .ensures)
     ∙ sym (pay-apart (a .row .now) (a .k) (a .u) (a .m) (a .v) (omega arith))
 
 pub pay-spec : {M : Type 1} → statement M

@@ -6,7 +6,7 @@ use lib.ListN.{length}
 use Rattle.theory_tables.specs.Steps.{B}
 use Rattle.search_lanes.specs.Store.{Written}
 use Rattle.search_lanes.specs.Laws.{written-none, written-more}
-use Rattle.search_row.specs.Words.{wordOf}
+use Rattle.search_row.specs.Words.{wordOf, cellWords}
 use Rattle.search_dense_layer.specs.Thin.{foundFour}
 use Rattle.search_dense_layer.specs.Found.{pose-by}
 use borrow.Author.Needs.{needs}
@@ -49,14 +49,14 @@ add-x-3 c =
     let k = c .before .before .before .before .before in
     let a = k .args in
     let l = c .before .before .before .loop in
-    omega (arith, c .found .ensures, k .pre .0 .farLow .word (a .e), k .pre .1 .word (a .k * 128 + (a .e * 4 + l .v)))
+    omega (arith, c .found .ensures, k .pre .0 .farLow .word (a .e), k .pre .1 .word (a .k * cellWords + (a .e * 4 + l .v)))
 
 lesser-requires : tie.Need-lesser-requires Inv-loop μ-loop
 lesser-requires c κs =
     let k = c .before .before .before .before .before in
     let a = k .args in
     let l = c .before .before .before .loop in
-    (omega (arith, c .found .ensures, k .pre .0 .farLow .word (a .e), k .pre .1 .word (a .k * 128 + (a .e * 4 + l .v))), omega arith)
+    (omega (arith, c .found .ensures, k .pre .0 .farLow .word (a .e), k .pre .1 .word (a .k * cellWords + (a .e * 4 + l .v))), omega arith)
 
 mul-words : tie.Need-mul-words Inv-loop μ-loop
 mul-words c = search needs

@@ -3,11 +3,10 @@ use Prim.Native.Nat.{_+_, _*_, _-_, _≤_}
 use mathlib.Core.Path.{_≡_, sym}
 use native.Mathlib.Omega.{arith}
 use borrow.Author.Needs.{needs}
+use Rattle.search_buckets.specs.Ends.{leastPoses, poses-none, poses-more}
 use Rattle.search_row.specs.Words.{backIn}
 use Rattle.search_row.specs.Laws.{back-low}
 use Rattle.search_dense_layer.specs.Thin.{thinIn}
-use Rattle.search_wide_end.specs.Ends.{leastPoses}
-use Rattle.search_wide_end.specs.Laws.{poses-none, poses-more}
 use Rattle.search_dense_segment.proofs.least_poses.Statement.{statement}
 use Rattle.search_dense_segment.proofs.least_poses.Tie as tie
 

@@ -3,10 +3,9 @@ use Prim.Native.Nat.{_-_, _≤_}
 use mathlib.Core.Path.{_≡_, sym}
 use native.Mathlib.Omega.{arith}
 use borrow.Author.Needs.{needs}
+use Rattle.search_buckets.specs.Ends.{leastStates, states-none, states-more}
 use Rattle.search_row.specs.Words.{deckIn}
 use Rattle.search_dense_layer.specs.Thin.{thinIn}
-use Rattle.search_wide_end.specs.Ends.{leastStates}
-use Rattle.search_wide_end.specs.Laws.{states-none, states-more}
 use Rattle.search_dense_segment.proofs.least_states.Statement.{statement}
 use Rattle.search_dense_segment.proofs.least_states.Tie as tie
 

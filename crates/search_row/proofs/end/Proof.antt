@@ -2,6 +2,7 @@
 use Prim.Native.Nat.{_+_, _*_, _/_, _%_}
 use native.Mathlib.Omega.{arith}
 use borrow.Author.Needs.{needs}
+use Rattle.search_row.specs.Words.{cellWords}
 use Rattle.search_row.proofs.end.Statement.{statement}
 use Rattle.search_row.proofs.end.Tie as tie
 
@@ -23,7 +24,7 @@ word-requires c κs = search needs
 add-result : tie.Need-add-result
 add-result c =
     let k = c .before .before .before in
-    omega (arith, c .word .ensures, c .before .site .ensures, k .pre .0 .word (k .args .k * 128 + 64), k .pre .0 .word (k .args .k * 128 + (65 + k .args .b % 4 / 2)))
+    omega (arith, c .word .ensures, c .before .site .ensures, k .pre .0 .word (k .args .k * cellWords + 64), k .pre .0 .word (k .args .k * cellWords + (65 + k .args .b % 4 / 2)))
 
 returns : tie.Need-returns
 returns c = search needs

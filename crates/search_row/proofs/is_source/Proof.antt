@@ -6,7 +6,7 @@ use native.Mathlib.Omega.{arith}
 use lib.Dec.{eqb}
 use borrow.Author.Tests.{eq-eqb, ne-eqb, not-true, not-false}
 use Rattle.theory_tables.specs.Steps.{lastAt, marks, before}
-use Rattle.search_row.specs.Words.{wordOf, thereIn}
+use Rattle.search_row.specs.Words.{wordOf, thereIn, tallWord}
 use Rattle.search_row.specs.Laws.{there-size, and-away}
 use borrow.Author.Needs.{needs}
 use Rattle.search_row.proofs.is_source.Statement.{statement}
@@ -68,7 +68,7 @@ shared-slice-read-if2 c =
 returns-2 : tie.Need-returns-2
 returns-2 c =
     let a = c .before .before .before .before .before .before .args in
-    let e = ap (λ (p : ℕ). eqb (wordOf (a .row .now) p 67) 1) (c .before .before .last-at .ensures) in
+    let e = ap (λ (p : ℕ). eqb (wordOf (a .row .now) p tallWord) 1) (c .before .before .last-at .ensures) in
     tall (thereIn (a .sizes .cells) (a .sizes .reordering) (a .i) (a .q)) (eqb (wordOf (a .row .now) (lastAt (a .sizes .reordering) (a .i) (a .q)) 67) 1) (eqb (marks (a .sizes .reordering) (a .q)) (before (a .sizes .reordering) (a .q1)))
     (sym e ∙ eq-eqb _ _ (c .if2 .taken))
 
@@ -101,7 +101,7 @@ returns-3 c =
     let k = c .before .before .before .before .before .before .before .before in
     let a = k .args in
     let g = k .pre .0 in
-    let e = ap (λ (p : ℕ). eqb (wordOf (a .row .now) p 67) 1) (c .before .before .before .before .last-at .ensures) in
+    let e = ap (λ (p : ℕ). eqb (wordOf (a .row .now) p tallWord) 1) (c .before .before .before .before .last-at .ensures) in
     ap₂ eqb (g .coded .mark (a .q) (omega (arith, g .all))) (g .coded .earlier (a .q1) (omega (arith, g .all)))
     ∙ single (thereIn (a .sizes .cells) (a .sizes .reordering) (a .i) (a .q)) (eqb (wordOf (a .row .now) (lastAt (a .sizes .reordering) (a .i) (a .q)) 67) 1) (eqb (marks (a .sizes .reordering) (a .q)) (before (a .sizes .reordering) (a .q1)))
     (there (c .before .before .before .before .before)) (sym e ∙ ne-eqb _ _ (c .before .before .if2 .left))

@@ -3,6 +3,7 @@ use Prim.Native.Nat.{_-_, _≤_}
 use mathlib.Core.Path.{_≡_, refl}
 use native.Mathlib.Omega.{arith}
 use borrow.Author.Needs.{needs}
+use Rattle.search_row.specs.Words.{tallsFrom}
 use Rattle.search_lanes.specs.Store.{Written}
 use Rattle.search_lanes.specs.Laws.{written-none, written-more}
 use Rattle.search_row_fill.specs.Ready.{wordsOf}
@@ -11,7 +12,7 @@ use Rattle.search_row_fill.proofs.put_talls.Tie as tie
 
 abbrev Inv-loop : tie.InvT-loop
 Inv-loop row₀ places i₀ row i =
-    (i ≤ 32) × Written (wordsOf places) 8256 i row₀ row
+    (i ≤ 32) × Written (wordsOf places) tallsFrom i row₀ row
 
 abbrev μ-loop : tie.MeasureT-loop
 μ-loop row₀ places i₀ row i = 32 - i

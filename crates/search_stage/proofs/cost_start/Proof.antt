@@ -3,8 +3,8 @@ use mathlib.Core.Path.{_≡_}
 use native.Mathlib.Omega.{arith}
 use borrow.Author.Tests.{not-true}
 use borrow.Author.Needs.{needs}
+use Rattle.search_store.specs.Map.{costsAt}
 use Rattle.search_row.specs.Words.{deckIn, posIn}
-use Rattle.search_join.specs.Places.{costsAt}
 use Rattle.search_join.specs.SumLaws.{table-for}
 use Rattle.search_stage.specs.Stage.{costOf}
 use Rattle.search_stage.specs.Laws.{wide-lanes}

@@ -6,6 +6,7 @@ use native.Mathlib.Omega.{arith}
 use borrow.Author.Tests.{not-true, not-false}
 use borrow.Author.Needs.{needs}
 use lib.ListN.{length}
+use Rattle.search_row.specs.Words.{statesEnd, statesFrom}
 use Rattle.search_lanes.specs.Store.{Frame}
 use Rattle.search_lanes.specs.Laws.{frame-refl, frame-join}
 use Rattle.search_states.specs.Upto.{digitsFrom, marksFrom, Upto, skip-marks, next-marks, no-digit}
@@ -14,7 +15,7 @@ use Rattle.search_states.proofs.add_marks.Tie as tie
 
 abbrev Inv-loop : tie.InvT-loop
 Inv-loop row₀ count r m n₀ d₀ row n d =
-    (d ≤ suc (2 * r)) × Frame 8192 8240 row₀ row × Upto r row n (digitsFrom r m d ++ marksFrom r (m + 1))
+    (d ≤ suc (2 * r)) × Frame statesFrom statesEnd row₀ row × Upto r row n (digitsFrom r m d ++ marksFrom r (m + 1))
 
 abbrev μ-loop : tie.MeasureT-loop
 μ-loop row₀ count r m n₀ d₀ row n d = suc (2 * r) - d
@@ -51,7 +52,7 @@ loop-again : tie.Need-loop-again Inv-loop μ-loop
 loop-again c =
     let l = c .before .before .before .before .before .loop in
     let e = c .before .before .add-digit .ensures in
-    (omega arith, frame-join 8192 8240 (l .inv .1) (e .1) (omega arith) (omega arith) (omega arith) (omega arith), e .0)
+    (omega arith, frame-join statesFrom statesEnd (l .inv .1) (e .1) (omega arith) (omega arith) (omega arith) (omega arith), e .0)
 
 same-length : tie.Need-same-length Inv-loop μ-loop
 same-length c = search needs

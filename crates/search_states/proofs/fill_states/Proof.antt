@@ -4,6 +4,7 @@ use mathlib.Core.Path.{_≡_, refl}
 use native.Mathlib.Omega.{arith}
 use borrow.Author.Needs.{needs}
 use lib.ListN.{length}
+use Rattle.search_row.specs.Words.{statesEnd, statesFrom}
 use Rattle.search_lanes.specs.Store.{Frame}
 use Rattle.search_lanes.specs.Laws.{frame-refl, frame-join}
 use Rattle.search_states.specs.Upto.{marksFrom, Upto, upto-none, upto-all, no-marks, marks-end}
@@ -12,7 +13,7 @@ use Rattle.search_states.proofs.fill_states.Tie as tie
 
 abbrev Inv-loop : tie.InvT-loop
 Inv-loop row₀ r limit end n₀ m₀ row n m =
-    (m ≤ end) × Frame 8192 8240 row₀ row × Upto r row n (marksFrom r m)
+    (m ≤ end) × Frame statesFrom statesEnd row₀ row × Upto r row n (marksFrom r m)
 
 abbrev μ-loop : tie.MeasureT-loop
 μ-loop row₀ r limit end n₀ m₀ row n m = end - m
@@ -45,7 +46,7 @@ loop-again : tie.Need-loop-again Inv-loop μ-loop
 loop-again c =
     let l = c .before .before .before .before .before .loop in
     let e = c .before .before .add-marks .ensures in
-    (omega arith, frame-join 8192 8240 (l .inv .1) (e .1) (omega arith) (omega arith) (omega arith) (omega arith), e .0)
+    (omega arith, frame-join statesFrom statesEnd (l .inv .1) (e .1) (omega arith) (omega arith) (omega arith) (omega arith), e .0)
 
 same-length : tie.Need-same-length Inv-loop μ-loop
 same-length c = search needs

@@ -1,4 +1,4 @@
--- Plane 0, then the buckets of gap 0.
+-- Bucket 0, then the buckets of gap 0.
 use Prim.Native.Nat.{ℕ, _+_, _*_}
 use mathlib.Core.Path.{_≡_, ap, _∙_}
 use native.Mathlib.Omega.{arith}

@@ -7,7 +7,7 @@ use lib.Dec.{eqb}
 use borrow.Author.Needs.{needs}
 use borrow.Author.Tests.{not-true, not-false}
 use Rattle.theory_tables.specs.Steps.{lastAt}
-use Rattle.search_row.specs.Words.{wordOf, thereIn}
+use Rattle.search_row.specs.Words.{wordOf, thereIn, tallWord}
 use Rattle.search_row.specs.Laws.{there-size, and-away, and-there}
 use Rattle.search_wide_end.proofs.ends_with.Statement.{statement}
 use Rattle.search_wide_end.proofs.ends_with.Tie as tie
@@ -54,7 +54,7 @@ shared-slice-read-result c =
 returns-2 : tie.Need-returns-2
 returns-2 c =
     let a = c .before .before .before .before .before .args in
-    ap (λ (p : ℕ). not (eqb (wordOf (a .row .now) p 67) 1)) (c .before .last-at .ensures)
+    ap (λ (p : ℕ). not (eqb (wordOf (a .row .now) p tallWord) 1)) (c .before .last-at .ensures)
     ∙ and-there (thereIn (a .sizes .cells) (a .sizes .reordering) (a .sizes .cells) (a .q)) (not (eqb (wordOf (a .row .now) (lastAt (a .sizes .reordering) (a .sizes .cells) (a .q)) 67) 1)) (there (c .before .before))
 
 pub ends-with-spec : {M : Type 1} → statement M

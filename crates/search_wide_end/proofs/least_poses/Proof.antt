@@ -3,13 +3,13 @@ use Prim.Native.Nat.{_-_, _≤_}
 use mathlib.Core.Path.{_≡_, _∙_}
 use native.Mathlib.Omega.{arith}
 use borrow.Author.Needs.{needs}
+use Rattle.search_buckets.specs.Ends.{poses-none, poses-more}
 use Rattle.search_lanes.specs.Lanes.{Lowered}
 use Rattle.search_lanes.specs.Store.{layerIn}
 use Rattle.search_lanes.specs.Laws.{lowered-to, lowered-join}
 use Rattle.search_row.specs.Words.{backIn}
 use Rattle.search_row.specs.Laws.{back-low}
 use Rattle.search_wide_end.specs.Ends.{leastPosesIn}
-use Rattle.search_wide_end.specs.Laws.{poses-none, poses-more}
 use Rattle.search_wide_end.proofs.least_poses.Statement.{statement}
 use Rattle.search_wide_end.proofs.least_poses.Tie as tie
 

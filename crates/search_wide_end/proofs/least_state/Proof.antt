@@ -5,11 +5,12 @@ use mathlib.Core.Bool.{true}
 use native.Mathlib.Omega.{arith}
 use borrow.Author.Needs.{needs}
 use borrow.Author.Tests.{not-true, not-false}
+use Rattle.search_buckets.specs.Ends.{leastPoses, state-in, state-out}
 use Rattle.search_lanes.specs.Store.{layerIn}
 use Rattle.search_lanes.specs.Laws.{lowered-to, lowered-ext}
 use Rattle.search_row.specs.Words.{backIn, deckIn}
-use Rattle.search_wide_end.specs.Ends.{endsWith, leastPoses}
-use Rattle.search_wide_end.specs.Laws.{state-in, state-out, ends-size}
+use Rattle.search_wide_end.specs.Ends.{endsWith}
+use Rattle.search_wide_end.specs.Laws.{ends-size}
 use Rattle.search_wide_end.proofs.least_state.Statement.{statement}
 use Rattle.search_wide_end.proofs.least_state.Tie as tie
 

@@ -3,12 +3,12 @@ use Prim.Native.Nat.{_-_, _≤_}
 use mathlib.Core.Path.{_≡_, _∙_}
 use native.Mathlib.Omega.{arith}
 use borrow.Author.Needs.{needs}
+use Rattle.search_buckets.specs.Ends.{states-none, states-more}
 use Rattle.search_lanes.specs.Lanes.{Lowered}
 use Rattle.search_lanes.specs.Store.{layerIn}
 use Rattle.search_lanes.specs.Laws.{lowered-to, lowered-join, lowered-low}
 use Rattle.search_row.specs.Words.{deckIn}
 use Rattle.search_wide_end.specs.Ends.{leastStatesIn}
-use Rattle.search_wide_end.specs.Laws.{states-none, states-more}
 use Rattle.search_wide_end.proofs.least_states.Statement.{statement}
 use Rattle.search_wide_end.proofs.least_states.Tie as tie
 

@@ -2,10 +2,10 @@
 use mathlib.Core.Path.{refl}
 use native.Mathlib.Omega.{arith}
 use borrow.Author.Needs.{needs}
+use Rattle.search_buckets.specs.Ends.{ends-gathered}
 use Rattle.search_lanes.specs.Store.{layerIn}
 use Rattle.search_lanes.specs.Laws.{lowered-low, written-ext, none-at, none-low}
 use Rattle.search_row.specs.Words.{deckIn}
-use Rattle.search_wide_end.specs.Laws.{ends-gathered}
 use Rattle.search_wide_end.proofs.put_ends.Statement.{statement}
 use Rattle.search_wide_end.proofs.put_ends.Tie as tie
 

@@ -3,6 +3,7 @@ use Prim.Native.Nat.{_+_, _-_, _≤_}
 use mathlib.Core.Path.{_≡_, refl}
 use native.Mathlib.Omega.{arith}
 use lib.ListN.{length}
+use Rattle.search_store.specs.Map.{keptFrom}
 use Rattle.search_lanes.specs.Laws.{frame-refl}
 use Rattle.search_row.specs.Words.{deckIn}
 use Rattle.search_wide_buckets.specs.Table.{Lent}
@@ -48,7 +49,7 @@ step-layer-requires c κs =
     let l = c .before .before .before .before .loop in
     let v = l .inv .1 in
     let b = buffer-low (v .running .buffer) in
-    let n : 98304 ≤ length (l .store) = omega (arith, v .frame .long, k .pre .2) in
+    let n : keptFrom ≤ length (l .store) = omega (arith, v .frame .long, k .pre .2) in
     (l .inv .2, record { ground = g .ground; low = v .low; narrow = g .narrow; early = omega (arith, l .inv .0, g .ground .size); room = omega arith }, buffer-beside (v .running .buffer) n)
 
 sub-from : tie.Need-sub-from Inv-loop μ-loop

@@ -4,9 +4,10 @@ use mathlib.Core.Path.{_∙_}
 use native.Mathlib.Omega.{arith}
 use lib.ListN.{getD}
 use borrow.Author.Needs.{needs}
+use Rattle.search_buckets.specs.Ends.{cost-done, cost-past}
 use Rattle.search_row.specs.Words.{deckIn}
 use Rattle.search_wide_segment.specs.Laws.{buffer-low, outside-join, outside-layers, outside-costs}
-use Rattle.search_wide_end.specs.Laws.{cost-done, cost-past, ran-cost, end-words}
+use Rattle.search_wide_end.specs.Laws.{ran-cost, end-words}
 use Rattle.search_wide_end.proofs.segment_end.Statement.{statement}
 use Rattle.search_wide_end.proofs.segment_end.Tie as tie
 

@@ -5,6 +5,7 @@ use mathlib.Core.Path.{_≡_, ap, _∙_}
 use native.Mathlib.Omega.{arith}
 use borrow.Author.Tests.{not-true}
 use lib.ListN.{length}
+use Rattle.search_store.specs.Map.{stateBlock}
 use Rattle.theory_tables.specs.Steps.{B, lastAt}
 use Rattle.search_lanes.specs.Store.{layerIn}
 use Rattle.search_lanes.specs.Laws.{state-rows, state-ext}
@@ -26,7 +27,7 @@ buckets-low k l v t =
     states-low (a .row .now) (deckIn (a .row .now) (a .sizes)) (a .sizes .reordering) (layerIn (a .store .now) (a .from) l) (a .i) (a .q) (a .sizes .states) v t
 
 -- the state's rows lie in the store
-room : (k : tie.Start) → (let a = k .args in a .to + a .q * 4096 + a .sizes .poses * 64 ≤ length (a .store .now))
+room : (k : tie.Start) → (let a = k .args in a .to + a .q * stateBlock + a .sizes .poses * 64 ≤ length (a .store .now))
 room k = omega (arith, k .pre .2 .room, k .pre .3 .state, k .pre .1 .ground .coded .few, k .pre .1 .ground .few)
 
 -- the target's position

@@ -4,6 +4,7 @@ use mathlib.Core.Path.{_≡_, sym, ap₂}
 use lib.Dec.{eqb}
 use mathlib.Core.Bool.{cond}
 use native.Mathlib.Omega.{arith}
+use Rattle.search_store.specs.Map.{stateBlock}
 use Rattle.theory_tables.specs.Steps.{offset}
 use Rattle.search_lanes.specs.Store.{Frame, Filled}
 use Rattle.search_lanes.specs.Laws.{frame-refl, frame-join, filled-none, filled-more}
@@ -14,7 +15,7 @@ use Rattle.search_wide_segment.proofs.deliver.Tie as tie
 
 abbrev Inv-loop : tie.InvT-loop
 Inv-loop store₀ row sizes lanes i tall from costs q₀ store q =
-    (q ≤ (sizes .states)) × Filled (delivered (sizes .reordering) i tall store₀ from costs) lanes (sizes .poses) costs q store₀ store × Frame costs (costs + q * 4096) store₀ store
+    (q ≤ (sizes .states)) × Filled (delivered (sizes .reordering) i tall store₀ from costs) lanes (sizes .poses) costs q store₀ store × Frame costs (costs + q * stateBlock) store₀ store
 
 abbrev μ-loop : tie.MeasureT-loop
 μ-loop store₀ row sizes lanes i tall from costs q₀ store q =
@@ -47,9 +48,9 @@ loop-again c =
       filled-more (l .q) (k .pre .5) (omega arith) (omega (arith, k .pre .3, k .pre .0 .few)) (l .inv .1) w
           (λ b j x y.
           ap₂ (cond (eqb (a .i + offset (a .sizes .reordering) (l .q)) (a .tall + suc (a .sizes .reordering))))
-          (sym (f .low (a .from + l .q * 4096 + b * 64 + j) (omega (arith, k .pre .2 .over, k .pre .3, k .pre .0 .few, k .pre .8))))
-          (sym (f .high (a .costs + l .q * 4096 + b * 64 + j) (omega arith)))),
-      frame-join (a .costs) (a .costs + (l .q + 1) * 4096) f (w .frame) (omega arith) (omega arith) (omega arith) (omega arith),
+          (sym (f .low (a .from + l .q * stateBlock + b * 64 + j) (omega (arith, k .pre .2 .over, k .pre .3, k .pre .0 .few, k .pre .8))))
+          (sym (f .high (a .costs + l .q * stateBlock + b * 64 + j) (omega arith)))),
+      frame-join (a .costs) (a .costs + (l .q + 1) * stateBlock) f (w .frame) (omega arith) (omega arith) (omega arith) (omega arith),
     )
 
 same-length : tie.Need-same-length Inv-loop μ-loop

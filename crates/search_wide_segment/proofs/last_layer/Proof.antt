@@ -4,6 +4,7 @@ use mathlib.Core.Path.{_≡_, sym, ap₂}
 use lib.Dec.{eqb}
 use mathlib.Core.Bool.{cond}
 use native.Mathlib.Omega.{arith}
+use Rattle.search_store.specs.Map.{stateBlock}
 use Rattle.theory_tables.specs.Steps.{offset}
 use Rattle.search_lanes.specs.Store.{Frame, Filled}
 use Rattle.search_lanes.specs.Laws.{frame-refl, frame-join, filled-none, filled-more}
@@ -17,7 +18,7 @@ use Rattle.search_wide_segment.proofs.last_layer.Tie as tie
 
 abbrev Inv-loop : tie.InvT-loop
 Inv-loop table₀ store₀ row sizes lanes i tall from costs q₀ table store q =
-    (q ≤ (sizes .states)) × Filled (lastIn (deckIn row sizes) (sizes .reordering) i tall store₀ from costs) lanes (sizes .poses) costs q store₀ store × Frame costs (costs + q * 4096) store₀ store × Lent table
+    (q ≤ (sizes .states)) × Filled (lastIn (deckIn row sizes) (sizes .reordering) i tall store₀ from costs) lanes (sizes .poses) costs q store₀ store × Frame costs (costs + q * stateBlock) store₀ store × Lent table
 
 abbrev μ-loop : tie.MeasureT-loop
 μ-loop table₀ store₀ row sizes lanes i tall from costs q₀ table store q =
@@ -56,8 +57,8 @@ loop-again c =
           (λ b j x y.
           ap₂ (cond (eqb (suc (a .i) + offset (a .sizes .reordering) (l .q)) (a .tall + suc (a .sizes .reordering))))
           (sym (next-kept (deckIn (a .row .now) (a .sizes)) (a .sizes .reordering) (a .i) (l .q) b j kept (g .ground .coded .few) (g .ground .few) (omega (arith, g .narrow))))
-          (sym (f .high (a .costs + l .q * 4096 + b * 64 + j) (omega arith)))),
-      frame-join (a .costs) (a .costs + (l .q + 1) * 4096) f (w .0 .frame) (omega arith) (omega arith) (omega arith) (omega arith),
+          (sym (f .high (a .costs + l .q * stateBlock + b * 64 + j) (omega arith)))),
+      frame-join (a .costs) (a .costs + (l .q + 1) * stateBlock) f (w .0 .frame) (omega arith) (omega arith) (omega arith) (omega arith),
       w .1,
     )
 

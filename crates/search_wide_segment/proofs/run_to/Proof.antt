@@ -3,6 +3,7 @@ use Prim.Native.Nat.{ℕ, _+_, _-_, _≤_, _<_}
 use mathlib.Core.Path.{_≡_, _∙_}
 use native.Mathlib.Omega.{arith}
 use lib.ListN.{length, getD}
+use Rattle.search_store.specs.Map.{keptFrom, layerBlock}
 use Rattle.search_row.specs.Words.{deckIn}
 use Rattle.search_wide_buckets.specs.Table.{Lent}
 use Rattle.search_wide_segment.specs.Runs.{Outside, CostedRun}
@@ -24,7 +25,7 @@ long : (c : tie.After-slice-known3 Inv-loop μ-loop) → length (c .before .befo
 long c = c .before .before .deliver .ensures .frame .long ∙ c .before .before .before .before .before .before .fill-late .ensures .frame .long
 
 -- the first layer too
-kept : (c : tie.After-slice-known3 Inv-loop μ-loop) (k : ℕ) → k < 49152 → getD (c .before .before .deliver .last .0) k 0 ≡ getD (c .before .before .before .before .before .before .before .before .before .before .args .store .now) k 0
+kept : (c : tie.After-slice-known3 Inv-loop μ-loop) (k : ℕ) → k < layerBlock → getD (c .before .before .deliver .last .0) k 0 ≡ getD (c .before .before .before .before .before .before .before .before .before .before .args .store .now) k 0
 kept c k h =
     let p = c .before .before .before .before .before .before .before .before .before .before .pre .2 .over in
     c .before .before .deliver .ensures .frame .low k (omega arith) ∙ c .before .before .before .before .before .before .fill-late .ensures .frame .low k (omega arith)
@@ -74,7 +75,7 @@ step-layer-requires c κs =
     let l = c .before .before .before .loop in
     let v = l .inv .1 in
     let b = buffer-low (v .running .buffer) in
-    let n : 98304 ≤ length (l .store) = omega (arith, v .outside .long, long (c .before .before .before .before), k .pre .2 .over, k .pre .2 .room) in
+    let n : keptFrom ≤ length (l .store) = omega (arith, v .outside .long, long (c .before .before .before .before), k .pre .2 .over, k .pre .2 .room) in
     (l .inv .2, record { ground = g .ground; low = v .low; narrow = g .narrow; early = l .inv .0; room = omega arith }, buffer-beside (v .running .buffer) n)
 
 sub-from : tie.Need-sub-from Inv-loop μ-loop
@@ -128,7 +129,7 @@ returns c =
     let a = k .args in
     let l = c .before .loop in
     let e : l .d ≡ a .tall + a .sizes .reordering - a .i = omega (arith, l .inv .3) in
-    let o : Outside (a .costs) 49152 (a .store .now) (c .before .before .before .before .deliver .last .0) =
+    let o : Outside (a .costs) layerBlock (a .store .now) (c .before .before .before .before .deliver .last .0) =
     outside-join (outside-costs (c .before .before .before .before .before .before .before .before .fill-late .ensures .frame) (omega arith) (omega arith))
     (outside-costs (c .before .before .before .before .deliver .ensures .frame) (omega arith) (omega arith)) in
     (rw e at (costed-from (given-small (k .pre .1)) (kept (c .before .before)) o (l .inv .1)), l .inv .2)

@@ -1,5 +1,4 @@
--- Where the tables stand in the store: a page for each state has its costs as a start state, both rows', then the cases and the sources of the
--- tables in which it is row 0's state. Laws: different words stand in different places, and above the layers.
+-- Laws of the store's map: different words stand in different places, and above the layers.
 use Prim.Native.Nat.{ℕ, _+_, _*_, _≤_, _<_}
 use mathlib.Core.Path.{_≡_}
 use mathlib.Core.Logic.{_⊎_, inl, inr}
@@ -7,33 +6,7 @@ use mathlib.Core.List.{List}
 use native.Mathlib.Omega.{arith}
 use native.Mathlib.Decide.{decLt}
 use lib.ListN.{length}
-
--- the page of state p
-abbrev pub pageAt : ℕ → ℕ
-pageAt p = 148992 + p * 138240
-
--- the costs of start state s in a row
-abbrev pub costsAt : ℕ → ℕ → ℕ
-costsAt row s = pageAt s + row * 49152
-
--- the cases of the states q₀ and q₁ in table I, and their sources
-abbrev pub caseAt : ℕ → ℕ → ℕ → ℕ
-caseAt I q₀ q₁ = 247296 + q₀ * 138240 + q₁ * 1664 + I * 64
-
-abbrev pub pointerAt : ℕ → ℕ → ℕ → ℕ
-pointerAt I q₀ q₁ = caseAt I q₀ q₁ + 19968
-
--- the store has so many pages
-abbrev pub Pages : ℕ → List ℕ → Type 0
-Pages n st = pageAt n ≤ length st
-
--- there is such a case in the map
-abbrev pub Slot : ℕ → ℕ → ℕ → ℕ → Type 0
-Slot I q₀ q₁ a = (I ≤ 25) × (q₀ < 12) × (q₁ < 12) × (a < 64)
-
--- a word outside the costs that begin at `costs`
-abbrev pub OutsideCosts : ℕ → ℕ → Type 0
-OutsideCosts costs k = (k < costs) ⊎ (costs + 49152 ≤ k)
+use Rattle.search_store.specs.Map.{stateBlock, layerBlock, pagesFrom, costsAt, caseAt, pointerAt, Pages, Slot, OutsideCosts}
 
 -- ---- the words of a case
 
@@ -50,7 +23,7 @@ pub case-pointer : (I q₀ q₁ a J p₀ p₁ b : ℕ) → Slot I q₀ q₁ a �
 case-pointer I q₀ q₁ a j p₀ p₁ b h g e = let e₀ : q₀ ≡ p₀ = omega arith in omega arith
 
 -- both stand above the layers
-pub case-above : (I q₀ q₁ a : ℕ) → (148992 ≤ caseAt I q₀ q₁ + a) × (148992 ≤ pointerAt I q₀ q₁ + a)
+pub case-above : (I q₀ q₁ a : ℕ) → (pagesFrom ≤ caseAt I q₀ q₁ + a) × (pagesFrom ≤ pointerAt I q₀ q₁ + a)
 case-above I q₀ q₁ a = (omega arith, omega arith)
 
 -- a page has room for its cases and sources
@@ -70,5 +43,5 @@ case-beside row s I q₀ q₁ a b h = go (decLt q₀ s)
 
 -- and the costs of an earlier start state, or of row 0, stand before
 pub cost-before : (other t row s q a l : ℕ) → row ≤ 1 → q < 12 → a < 64 → l < 64 → t * 2 + other < s * 2 + row
-    → costsAt other t + q * 4096 + a * 64 + l < costsAt row s
+    → costsAt other t + q * stateBlock + a * 64 + l < costsAt row s
 cost-before other t row s q a l b h g k e = omega arith
