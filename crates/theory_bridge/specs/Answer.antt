@@ -1,5 +1,5 @@
--- What Place may answer, from the tables of the pair's theory: none where they come to the bound, and otherwise any legal placement that costs what
--- they come to.
+-- What Place may answer, from the tables of the pair's theory: none where they come to the bound, and otherwise any
+-- legal placement that costs what they come to.
 use mathlib.Core.Path.{_≡_, refl}
 use mathlib.Core.Option.{Option, none, some}
 use Prim.Native.Nat.{ℕ, _≤_}
@@ -25,7 +25,8 @@ use Rattle.theory_bridge.specs.Small.{bound, cost-small}
 use Rattle.theory_bridge.specs.Reached.{reached}
 
 -- a legal placement that no legal one undercuts
-pub cheapest : (j : Job) → Sound j → (P : Placement) → Legal j P → ((Q : Placement) → Legal j Q → cost j P ≤ cost j Q) → Cheapest j (some P)
+pub cheapest : (j : Job) → Sound j → (P : Placement) → Legal j P → ((Q : Placement) → Legal j Q → cost j P ≤ cost j Q)
+    → Cheapest j (some P)
 cheapest j sound P l least = let r = reached j sound P l in cheapest-some j P (r .0) (r .1) l least
 
 coded-below : (B x : ℕ) (o : Option ℕ) → o ⊑ x → coded B o ≤ x
@@ -47,14 +48,16 @@ tables j sound = coded bound (answer (j .header .reordering) siteOf (pairJob j) 
 -- what Place may answer on a job
 pub record Answers (j : Job) (sound : Sound j) : Type 0 where
   pub none-when : tables j sound ≡ bound → Cheapest j none
-  pub some-when : (f : ℕ → Pose) → PairLegal j f → total siteOf (pairJob j) f ≡ tables j sound → Cheapest j (some (placementBy j f))
+  pub some-when : (f : ℕ → Pose) → PairLegal j f → total siteOf (pairJob j) f ≡ tables j sound
+      → Cheapest j (some (placementBy j f))
   pub stated : (f : ℕ → Pose) → cost j (placementBy j f) ≡ total siteOf (pairJob j) f
 
 module _ (j : Job) (sound : Sound j) where
   tables-low : (Q : Placement) → Legal j Q → tables j sound ≤ cost j Q
   tables-low Q l =
       let p = legal-pair j sound Q (poseAt Q) (λ k h. refl) (l .each) .0 l in
-      let b = coded-below bound (total siteOf (pairJob j) (poseAt Q)) (answer (j .header .reordering) siteOf (pairJob j) (wide-positive j sound))
+      let b = coded-below bound (total siteOf (pairJob j) (poseAt Q))
+      (answer (j .header .reordering) siteOf (pairJob j) (wide-positive j sound))
       (answer-below (j .header .reordering) siteOf (pairJob j) (wide-positive j sound) (poseAt Q) p)
       in
       let e = cost-total j sound Q (poseAt Q) (λ k h. refl) in
@@ -72,6 +75,7 @@ module _ (j : Job) (sound : Sound j) where
   pub place-answer : Answers j sound
   place-answer = record {
     none-when = λ e. cheapest-none j (λ Q l. let a = tables-low Q l in let b = cost-small j sound Q l in omega arith);
-    some-when = λ f p e. cheapest j sound (placementBy j f) (legal-by f p) (λ Q l. let a = tables-low Q l in let b = cost-by f in omega arith);
+    some-when = λ f p e. cheapest j sound (placementBy j f) (legal-by f p)
+        (λ Q l. let a = tables-low Q l in let b = cost-by f in omega arith);
     stated = cost-by;
   }

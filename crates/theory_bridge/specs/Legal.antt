@@ -30,14 +30,16 @@ unfolding endAllowed
 end-allowed gap = refl
 
 -- cells each of which may be the first of a row, and the last
-free-ends : (opens closes : ℕ → Bool) → ((k : ℕ) → opens k ≡ true) → ((k : ℕ) → closes k ≡ true) → (l : List ℕ) → Ended opens closes l
+free-ends : (opens closes : ℕ → Bool) → ((k : ℕ) → opens k ≡ true) → ((k : ℕ) → closes k ≡ true) → (l : List ℕ)
+    → Ended opens closes l
 free-ends opens closes o c [] = tt
 free-ends opens closes o c (a ∷ l) = (o a, c (lastFrom a l))
 
 module _ (j : Job) (sound : Sound j) (P : Placement) (f : ℕ → Pose) (g : Gives P (length (j .cells)) f) where
   -- rule 7
   abbrev pub InOrder : Type 0
-  InOrder = (a b : ℕ) → a < b → b < length (j .cells) → isTall (pairJob j .kind a) ≡ true → isTall (pairJob j .kind b) ≡ true → siteOf (f a) ≤ siteOf (f b)
+  InOrder = (a b : ℕ) → a < b → b < length (j .cells) → isTall (pairJob j .kind a) ≡ true
+      → isTall (pairJob j .kind b) ≡ true → siteOf (f a) ≤ siteOf (f b)
 
   pub rule7-same : Holds j (breaks7 j P) ↔ InOrder
   unfolding breaks7
@@ -59,14 +61,17 @@ module _ (j : Job) (sound : Sound j) (P : Placement) (f : ℕ → Pose) (g : Giv
       to h a b l q ta tb =
           let p : a < length (j .cells) = omega arith in
           let any-at = and-false (tall a) (any (test a) (cellsOf j)) .0 (h a p) (isTall-same j sound a p ∙ ta) in
-          let here = and-false (tall b) (wrongSide P a b) .0 (any-false (test a) (cellsOf j) .0 any-at b (in-cells j sound b .1 q)) (isTall-same j sound b q ∙ tb) in
+          let here = and-false (tall b) (wrongSide P a b) .0
+          (any-false (test a) (cellsOf j) .0 any-at b (in-cells j sound b .1 q)) (isTall-same j sound b q ∙ tb) in
           let beyond = or-false (left a b) (right a b) .0 here .1 in
-          let z = ltb-false (siteAt P b) (siteAt P a) (and-false (ltb a b) (ltb (siteAt P b) (siteAt P a)) .0 beyond (lt-ltb a b l)) in
+          let z = ltb-false (siteAt P b) (siteAt P a)
+          (and-false (ltb a b) (ltb (siteAt P b) (siteAt P a)) .0 beyond (lt-ltb a b l)) in
           let x = ap siteOf (g a p) in
           let y = ap siteOf (g b q) in
           omega arith
 
-      keeps : InOrder → (a b : ℕ) → a < b → b < length (j .cells) → tall a ≡ true → tall b ≡ true → siteAt P a ≤ siteAt P b
+      keeps : InOrder → (a b : ℕ) → a < b → b < length (j .cells) → tall a ≡ true → tall b ≡ true
+          → siteAt P a ≤ siteAt P b
       keeps c a b l q ta tb =
           let p : a < length (j .cells) = omega arith in
           let z = c a b l q (sym (isTall-same j sound a p) ∙ ta) (sym (isTall-same j sound b q) ∙ tb) in
@@ -77,21 +82,26 @@ module _ (j : Job) (sound : Sound j) (P : Placement) (f : ℕ → Pose) (g : Giv
       back : InOrder → Holds j (breaks7 j P)
       back c k h =
           and-false (tall k) (any (test k) (cellsOf j)) .1
-          (λ tk. any-false (test k) (cellsOf j) .1 (λ b m. and-false (tall b) (wrongSide P k b) .1 (λ tb. or-false (left k b) (right k b) .1 (
-            and-false (ltb b k) (ltb (siteAt P k) (siteAt P b)) .1 (λ e. le-ltb (siteAt P k) (siteAt P b) (keeps c b k (ltb-true b k e) h tb tk)),
-            and-false (ltb k b) (ltb (siteAt P b) (siteAt P k)) .1 (λ e. le-ltb (siteAt P b) (siteAt P k) (keeps c k b (ltb-true k b e) (in-cells j sound b .0 m) tk tb)),
+          (λ tk. any-false (test k) (cellsOf j) .1
+          (λ b m. and-false (tall b) (wrongSide P k b) .1 (λ tb. or-false (left k b) (right k b) .1 (
+            and-false (ltb b k) (ltb (siteAt P k) (siteAt P b)) .1
+                (λ e. le-ltb (siteAt P k) (siteAt P b) (keeps c b k (ltb-true b k e) h tb tk)),
+            and-false (ltb k b) (ltb (siteAt P b) (siteAt P k)) .1
+                (λ e. le-ltb (siteAt P b) (siteAt P k) (keeps c k b (ltb-true k b e) (in-cells j sound b .0 m) tk tb)),
           ))))
 
   -- no rule speaks of the row's ends, and each is allowed
   row-ended : (s : Side) → RowEnded siteOf (pairJob j) f s
-  row-ended s = free-ends (λ k. opensOf j k (f k)) (λ k. closesOf j k (f k)) (λ k. end-allowed _) (λ k. end-allowed _) (rowOrder siteOf (pairJob j) f s)
+  row-ended s = free-ends (λ k. opensOf j k (f k)) (λ k. closesOf j k (f k)) (λ k. end-allowed _) (λ k. end-allowed _)
+      (rowOrder siteOf (pairJob j) f s)
 
   pub legal-pair : length P ≡ length (j .cells) → Legal j P ↔ LegalPair (j .header .reordering) siteOf (pairJob j) f
   legal-pair size = (to, back)
     where
       to : Legal j P → LegalPair (j .header .reordering) siteOf (pairJob j) f
       to l = record {
-        offered = λ k h. subst (λ p. In p (offersOf j k)) (g k h) (offered-rules j sound k P .1 (l .rule1 k h, l .rule2 k h, l .rule3 k h));
+        offered = λ k h. subst (λ p. In p (offersOf j k)) (g k h)
+            (offered-rules j sound k P .1 (l .rule1 k h, l .rule2 k h, l .rule3 k h));
         rows = λ s. record {
           rule4 = rule4-same j sound P f g .0 (l .rule4) s;
           rule5 = rule5-same j sound P f g .0 (l .rule5) s;
@@ -103,7 +113,8 @@ module _ (j : Job) (sound : Sound j) (P : Placement) (f : ℕ → Pose) (g : Giv
 
       back : LegalPair (j .header .reordering) siteOf (pairJob j) f → Legal j P
       back l =
-          let kept : (k : ℕ) → k < length (j .cells) → Keeps j k P = λ k h. offered-rules j sound k P .0 (subst (λ p. In p (offersOf j k)) (sym (g k h)) (l .offered k h)) in
+          let kept : (k : ℕ) → k < length (j .cells) → Keeps j k P =
+          λ k h. offered-rules j sound k P .0 (subst (λ p. In p (offersOf j k)) (sym (g k h)) (l .offered k h)) in
           record {
             each = size;
             rule1 = λ k h. kept k h .0;

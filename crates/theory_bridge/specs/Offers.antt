@@ -56,15 +56,27 @@ module _ (j : Job) (k : ℕ) where
       to b =
           let o = and-true some marked .0 (not-false (some && marked) .0 (b .0)) in
           let m = mark-test (p .mark) (c .mirrorable) .0 (o .1) in
-          let e = leb-true (endAt j P k) (j .header .sites) (not-false (leb (endAt j P k) (j .header .sites)) .0 (b .1)) in
+          let e =
+          leb-true (endAt j P k) (j .header .sites) (not-false (leb (endAt j P k) (j .header .sites)) .0 (b .1)) in
           let d = leb-true (apart (p .site) (c .given)) D (not-false (leb (apart (p .site) (c .given)) D) .0 (b .2)) in
-          record { layout = ltb-true (p .layout) (length (c .layouts)) (o .0); mark = m .0; mirrorable = m .1; fits = e; left = omega arith; right = omega arith }
+          record {
+            layout = ltb-true (p .layout) (length (c .layouts)) (o .0);
+            mark = m .0;
+            mirrorable = m .1;
+            fits = e;
+            left = omega arith;
+            right = omega arith;
+          }
 
       back : Allowed j k p → Keeps P
       back a = (
-        not-false (some && marked) .1 (and-true some marked .1 (lt-ltb (p .layout) (length (c .layouts)) (a .layout), mark-test (p .mark) (c .mirrorable) .1 (a .mark, a .mirrorable))),
+        not-false (some && marked) .1 (and-true some marked .1 (
+          lt-ltb (p .layout) (length (c .layouts)) (a .layout),
+          mark-test (p .mark) (c .mirrorable) .1 (a .mark, a .mirrorable),
+        )),
         not-false (leb (endAt j P k) (j .header .sites)) .1 (le-leb (endAt j P k) (j .header .sites) (a .fits)),
-        not-false (leb (apart (p .site) (c .given)) D) .1 (le-leb (apart (p .site) (c .given)) D (let l = a .left in let r = a .right in omega arith)),
+        not-false (leb (apart (p .site) (c .given)) D) .1
+            (le-leb (apart (p .site) (c .given)) D (let l = a .left in let r = a .right in omega arith)),
       )
 
   -- ---- pose numbers
@@ -81,7 +93,8 @@ module _ (j : Job) (k : ℕ) where
   abbrev inside : ℕ → Bool
   inside a = leb (poseNumber j k a .site + widthOf j k (poseNumber j k a)) (j .header .sites)
 
-  offered-test : (a : ℕ) → isOffered j k a ≡ true ↔ ((low a ≡ true) × (known a ≡ true) × (turned a ≡ true) × (inside a ≡ true))
+  offered-test : (a : ℕ)
+      → isOffered j k a ≡ true ↔ ((low a ≡ true) × (known a ≡ true) × (turned a ≡ true) × (inside a ≡ true))
   unfolding isOffered
   offered-test a = (
     λ e.
@@ -89,10 +102,12 @@ module _ (j : Job) (k : ℕ) where
         let y = and-true (low a && known a) (turned a) .0 (x .0) in
         let z = and-true (low a) (known a) .0 (y .0) in
         (z .0, z .1, y .1, x .1),
-    λ q. and-true (low a && known a && turned a) (inside a) .1 (and-true (low a && known a) (turned a) .1 (and-true (low a) (known a) .1 (q .0, q .1), q .2), q .3),
+    λ q. and-true (low a && known a && turned a) (inside a) .1
+        (and-true (low a && known a) (turned a) .1 (and-true (low a) (known a) .1 (q .0, q .1), q .2), q .3),
   )
 
-  number-test : (a : ℕ) → a < poseNumbers j → isOffered j k a ≡ true ↔ (Allowed j k (poseNumber j k a) × (j .header .displacement ≤ cellAt j k .given + a / 4))
+  number-test : (a : ℕ) → a < poseNumbers j → isOffered j k a ≡ true
+      ↔ (Allowed j k (poseNumber j k a) × (j .header .displacement ≤ cellAt j k .given + a / 4))
   unfolding poseNumber
   number-test a h = (to, back)
     where
@@ -132,7 +147,8 @@ module _ (j : Job) (k : ℕ) where
   number-below : (p : Pose) → Allowed j k p → p .layout < 2 → numberOf p < poseNumbers j
   number-below p a h = omega arith
 
-  number-pose : (p : Pose) → Allowed j k p → p .layout < 2 → (poseNumber j k (numberOf p) ≡ p) × (j .header .displacement ≤ cellAt j k .given + numberOf p / 4)
+  number-pose : (p : Pose) → Allowed j k p → p .layout < 2
+      → (poseNumber j k (numberOf p) ≡ p) × (j .header .displacement ≤ cellAt j k .given + numberOf p / 4)
   unfolding poseNumber
   number-pose p a h =
       let s : cellAt j k .given + numberOf p / 4 - j .header .displacement ≡ p .site = omega arith in
@@ -178,7 +194,8 @@ module _ (j : Job) (sound : Sound j) (k : ℕ) where
           let h = number-below j k p a s in
           let e = number-pose j k p a s in
           Memᴰ·cast (sym (e .0))
-          (Memᴰ·map (poseNumber j k) (in-pick (isOffered j k) (from 0 (poseNumbers j)) (from-in n 0 (poseNumbers j) (omega arith) (omega arith))
+          (Memᴰ·map (poseNumber j k)
+          (in-pick (isOffered j k) (from 0 (poseNumbers j)) (from-in n 0 (poseNumbers j) (omega arith) (omega arith))
           (number-test j k n h .1 (subst (Allowed j k) (sym (e .0)) a, e .1))))
 
   -- what is offered is wide
@@ -187,4 +204,7 @@ module _ (j : Job) (sound : Sound j) (k : ℕ) where
 
   -- a cell's pose is offered just if the cell keeps rules 1 to 3
   pub offered-rules : (P : Placement) → In (poseAt P k) (offersOf j k) ↔ Keeps j k P
-  offered-rules P = let a = offered-allowed (poseAt P k) in let b = keeps-allowed j k P in (λ m. b .1 (a .0 m), λ h. a .1 (b .0 h))
+  offered-rules P =
+      let a = offered-allowed (poseAt P k) in
+      let b = keeps-allowed j k P in
+      (λ m. b .1 (a .0 m), λ h. a .1 (b .0 h))

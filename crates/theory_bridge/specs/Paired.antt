@@ -1,5 +1,6 @@
--- A job of document 01 as a job of the pair's theory, where what a cell is offered is a list of poses: those that rules 1 to 3 allow it, by their
--- numbers. A cell's own cost and what neighbours pay are the terms of the cost. Definitions; crate `theory_bridge` proves that they say the same.
+-- A job of document 01 as a job of the pair's theory, where what a cell is offered is a list of poses: those that rules
+-- 1 to 3 allow it, by their numbers. A cell's own cost and what neighbours pay are the terms of the cost. Definitions;
+-- crate `theory_bridge` proves that they say the same.
 use Prim.Native.Nat.{ℕ, zero, suc, _+_, _-_, _*_, _/_, _%_}
 use mathlib.Core.Bool.{Bool, true, _&&_, _||_, cond}
 use mathlib.Core.List.{List, [], _∷_, map}
@@ -41,7 +42,8 @@ poseNumbers j = 4 * (2 * j .header .displacement + 1)
 
 -- pose number a
 unfoldable pub poseNumber : Job → ℕ → ℕ → Pose
-poseNumber j k a = record { site = cellAt j k .given + a / 4 - j .header .displacement; layout = a % 4 / 2; mark = a % 2 }
+poseNumber j k a =
+    record { site = cellAt j k .given + a / 4 - j .header .displacement; layout = a % 4 / 2; mark = a % 2 }
 
 -- its site is not left of site 0; rule 1; rule 2. Every pose number keeps rule 3.
 unfoldable pub isOffered : Job → ℕ → ℕ → Bool
@@ -56,7 +58,8 @@ offersOf j k = map (poseNumber j k) (pick (isOffered j k) (from 0 (poseNumbers j
 
 -- ---- what the row's ends allow
 
--- how many sites may be empty between a row's end and the cell nearest to it: any number. A rule of row ends changes this line, and its laws
+-- how many sites may be empty between a row's end and the cell nearest to it: any number. A rule
+-- of row ends changes this line, and its laws
 -- `end-allowed` and `row-ended` in Legal.antt.
 unfoldable pub endAllowed : ℕ → Bool
 endAllowed gap = true
@@ -86,11 +89,13 @@ rightOf j row k p type = getD (layoutOf j k p .heights) (firstHeight j row k + c
 
 -- the pairs of heights that differ between neighbours
 unfoldable pub differingOf : Job → ℕ → ℕ × Pose → ℕ × Pose → ℕ
-differingOf j row x y = sum (λ type. cond (eqb (rightOf j row (x .0) (x .1) type) (leftOf j row (y .0) (y .1) type)) 0 1) (0 ∷ 1 ∷ [])
+differingOf j row x y =
+    sum (λ type. cond (eqb (rightOf j row (x .0) (x .1) type) (leftOf j row (y .0) (y .1) type)) 0 1) (0 ∷ 1 ∷ [])
 
 -- the steps between neighbours, at the step weight
 unfoldable pub payOf : Job → Side → ℕ × Pose → ℕ × Pose → ℕ
-payOf j s x y = j .header .stepWeight * (charge (y .1 .site - (x .1 .site + widthOf j (x .0) (x .1))) * differingOf j (rowOf s) x y)
+payOf j s x y =
+    j .header .stepWeight * (charge (y .1 .site - (x .1 .site + widthOf j (x .0) (x .1))) * differingOf j (rowOf s) x y)
 
 abbrev pub pairJob : Job → PairJob Pose
 pairJob j = record {

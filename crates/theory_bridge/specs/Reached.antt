@@ -1,4 +1,5 @@
--- A list of moves reaches every legal placement: cell by cell, shifts from the given site, then a mirroring and a layout change where they are due.
+-- A list of moves reaches every legal placement: cell by cell, shifts from the given site, then a
+-- mirroring and a layout change where they are due.
 -- What a list reaches has a pose for each cell.
 use mathlib.Core.Path.{_≡_, refl, sym, ap, _∙_, subst}
 use mathlib.Core.Bool.{cond}
@@ -12,7 +13,8 @@ use lib.Dec.{ltb}
 use Rattle.definition.specs.Job.{Job}
 use Rattle.definition.specs.Placement.{Pose, Placement}
 use Rattle.definition.specs.Rules.{Legal, noCell, cellAt, poseAt}
-use Rattle.definition.specs.Moves.{Change, left, right, mirroring, layoutChange, Move, changeBy, alter, moved, movedBy, asGiven, givenRows, after}
+use Rattle.definition.specs.Moves.{Change, left, right, mirroring, layoutChange, Move}
+use Rattle.definition.specs.Moves.{changeBy, alter, moved, movedBy, asGiven, givenRows, after}
 use Rattle.definition_laws.specs.Sound.{Sound}
 use Rattle.theory_bridge.specs.Offers.{keeps-allowed, few-layouts}
 
@@ -33,7 +35,10 @@ changes-append p [] ds = refl
 changes-append p (c ∷ cs) ds = changes-append (changeBy c p) cs ds
 
 changes-then : {p q r : Pose} → Changes p q → Changes q r → Changes p r
-changes-then {p} a b = record { list = a .list ++ b .list; ends = changes-append p (a .list) (b .list) ∙ ap (λ x. changesBy x (b .list)) (a .ends) ∙ b .ends }
+changes-then {p} a b = record {
+  list = a .list ++ b .list;
+  ends = changes-append p (a .list) (b .list) ∙ ap (λ x. changesBy x (b .list)) (a .ends) ∙ b .ends;
+}
 
 abbrev pose : ℕ → ℕ → ℕ → Pose
 pose s l m = record { site = s; layout = l; mark = m }
@@ -75,7 +80,8 @@ layouts s (suc zero) m h = record { list = layoutChange ∷ []; ends = refl }
 layouts s (suc (suc l)) m h = absurd (omega arith)
 
 changes-to : (s : ℕ) (p : Pose) → p .site ≤ 9999 → p .layout < 2 → p .mark < 2 → Changes (pose s 0 0) p
-changes-to s p a b c = changes-then (shifts 0 0 s (p .site) a) (changes-then (mirrors (p .site) 0 (p .mark) c) (layouts (p .site) (p .layout) (p .mark) b))
+changes-to s p a b c = changes-then (shifts 0 0 s (p .site) a)
+    (changes-then (mirrors (p .site) 0 (p .mark) c) (layouts (p .site) (p .layout) (p .mark) b))
 
 -- ---- all cells: moves
 
@@ -100,7 +106,8 @@ unfolding movedBy alter
 moved-later p ps [] = refl
 moved-later p ps (m ∷ ms) = moved-later p (moved ps m) ms
 
-moves-to : (P Q : Placement) → length P ≡ length Q → ((k : ℕ) → k < length P → Changes (poseAt P k) (poseAt Q k)) → (ms : List Move) × (movedBy P ms ≡ Q)
+moves-to : (P Q : Placement) → length P ≡ length Q → ((k : ℕ) → k < length P → Changes (poseAt P k) (poseAt Q k))
+    → (ms : List Move) × (movedBy P ms ≡ Q)
 unfolding movedBy
 moves-to [] [] e h = ([], refl)
 moves-to [] (q ∷ qs) e h = absurd (omega arith)
@@ -117,7 +124,8 @@ moves-to (p ∷ ps) (q ∷ qs) e h =
 
 pub reached : (j : Job) → Sound j → (P : Placement) → Legal j P → (ms : List Move) × (after j ms ≡ P)
 unfolding after
-reached j sound P l = moves-to (givenRows j) P (length-map (j .cells) asGiven ∙ sym (l .each)) (λ k h. each k (let e = length-map (j .cells) asGiven in omega arith))
+reached j sound P l = moves-to (givenRows j) P (length-map (j .cells) asGiven ∙ sym (l .each))
+    (λ k h. each k (let e = length-map (j .cells) asGiven in omega arith))
   where
     each : (k : ℕ) → k < length (j .cells) → Changes (poseAt (givenRows j) k) (poseAt P k)
     each k h =
@@ -126,7 +134,8 @@ reached j sound P l = moves-to (givenRows j) P (length-map (j .cells) asGiven �
         let f = few-layouts j sound k in
         let e = a .layout in
         let s = a .fits in
-        subst (λ p. Changes p (poseAt P k)) (sym (List·getD-map asGiven (j .cells) k noCell)) (changes-to (cellAt j k .given) (poseAt P k) (omega arith) (omega arith) (a .mark))
+        subst (λ p. Changes p (poseAt P k)) (sym (List·getD-map asGiven (j .cells) k noCell))
+        (changes-to (cellAt j k .given) (poseAt P k) (omega arith) (omega arith) (a .mark))
 
 -- ---- what a list reaches
 

@@ -1,4 +1,5 @@
--- A row of a job, in the definitions and in the pair's theory: the same cells in file order, and the same order from left to right.
+-- A row of a job, in the definitions and in the pair's theory: the same cells in file
+-- order, and the same order from left to right.
 use mathlib.Core.Path.{_≡_, refl, sym, ap, _∙_, subst}
 use mathlib.Core.Logic.{_↔_}
 use mathlib.Core.Bool.{Bool, true, false, cond, _||_}
@@ -50,7 +51,8 @@ module _ (j : Job) (sound : Sound j) where
       go true l = l
       go false l = omega arith
 
-  inRow-same : (s : Side) (k : ℕ) → k < length (j .cells) → job.inRow (rowOf s) (cellAt j k) ≡ inRow s (pairJob j .kind k)
+  inRow-same : (s : Side) (k : ℕ) → k < length (j .cells)
+      → job.inRow (rowOf s) (cellAt j k) ≡ inRow s (pairJob j .kind k)
   inRow-same s k h = row-kind s (cellAt j k .row) (row-low k h)
 
   pub isTall-same : (k : ℕ) → k < length (j .cells) → job.isTall (cellAt j k) ≡ isTall (pairJob j .kind k)
@@ -71,15 +73,19 @@ module _ (j : Job) (sound : Sound j) where
   unfolding members
   members-same s =
       ap (lists.keep (λ k. job.inRow (rowOf s) (cellAt j k))) cells-same
-      ∙ keep-pick (λ k. job.inRow (rowOf s) (cellAt j k)) (λ k. inRow s (pairJob j .kind k)) (from 0 (length (j .cells)))
+      ∙ keep-pick (λ k. job.inRow (rowOf s) (cellAt j k)) (λ k. inRow s (pairJob j .kind k))
+      (from 0 (length (j .cells)))
       (λ k m. let h = in-from 0 (length (j .cells)) m in inRow-same s k (omega arith))
 
   -- which cells they are
-  pub member : (s : Side) (k : ℕ) → In k (members (pairJob j) s) ↔ ((k < length (j .cells)) × (job.inRow (rowOf s) (cellAt j k) ≡ true))
+  pub member : (s : Side) (k : ℕ)
+      → In k (members (pairJob j) s) ↔ ((k < length (j .cells)) × (job.inRow (rowOf s) (cellAt j k) ≡ true))
   unfolding members
   member s k = (
-    λ m. let r = pick-in test (from 0 n) m in let h = in-from 0 n (r .0) in let b : k < n = omega arith in (b, inRow-same s k b ∙ r .1),
-    λ p. in-pick test (from 0 n) (from-in k 0 n (omega arith) (let h = p .0 in omega arith)) (sym (inRow-same s k (p .0)) ∙ p .1),
+    λ m. let r = pick-in test (from 0 n) m in let h = in-from 0 n (r .0) in let b : k < n = omega arith in
+        (b, inRow-same s k b ∙ r .1),
+    λ p. in-pick test (from 0 n) (from-in k 0 n (omega arith) (let h = p .0 in omega arith))
+        (sym (inRow-same s k (p .0)) ∙ p .1),
   )
     where
       n : ℕ
@@ -88,12 +94,15 @@ module _ (j : Job) (sound : Sound j) where
       test : ℕ → Bool
       test k = inRow s (pairJob j .kind k)
 
-  pub order-same : (P : Placement) (f : ℕ → Pose) → Gives P (length (j .cells)) f → (s : Side) → rules.order j P (rowOf s) ≡ rowOrder siteOf (pairJob j) f s
+  pub order-same : (P : Placement) (f : ℕ → Pose) → Gives P (length (j .cells)) f → (s : Side)
+      → rules.order j P (rowOf s) ≡ rowOrder siteOf (pairJob j) f s
   unfolding rules.order
   order-same P f g s =
       ap (rules.sort (siteAt P)) (members-same s)
       ∙ sort-same (siteAt P) (λ k. siteOf (f k)) (members (pairJob j) s) (λ k m. ap siteOf (g k (member s k .0 m .0)))
 
-  pub ordered-below : (P : Placement) (f : ℕ → Pose) → Gives P (length (j .cells)) f → (s : Side) (k : ℕ) → In k (rules.order j P (rowOf s)) → k < length (j .cells)
+  pub ordered-below : (P : Placement) (f : ℕ → Pose) → Gives P (length (j .cells)) f → (s : Side) (k : ℕ)
+      → In k (rules.order j P (rowOf s)) → k < length (j .cells)
   ordered-below P f g s k m =
-      member s k .0 (sort-in (λ k. siteOf (f k)) (members (pairJob j) s) (subst (λ l. In k l) (order-same P f g s) m)) .0
+      member s k .0
+      (sort-in (λ k. siteOf (f k)) (members (pairJob j) s) (subst (λ l. In k l) (order-same P f g s) m)) .0

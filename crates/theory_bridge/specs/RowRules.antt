@@ -1,4 +1,5 @@
--- Rules 4 to 6, tested cell by cell in the definitions, and stated of each row in the pair's theory: the same. f gives the poses of P.
+-- Rules 4 to 6, tested cell by cell in the definitions, and stated of each row in the
+-- pair's theory: the same. f gives the poses of P.
 use mathlib.Core.Path.{_≡_, refl, sym, ap, _∙_, subst}
 use mathlib.Core.Logic.{_≢_, _↔_, _⊎_, inl, inr}
 use mathlib.Core.Bool.{Bool, true, false, not, _&&_, _||_}
@@ -11,7 +12,8 @@ use lib.Dec.{leb, ltb, eqb}
 use Rattle.definition.specs.Lists.{anyNext}
 use Rattle.definition.specs.Job.{Job, shareRow, inRow}
 use Rattle.definition.specs.Placement.{Pose, Placement}
-use Rattle.definition.specs.Rules.{Holds, cellAt, siteAt, endAt, cellsOf, rowCells, apart, order, gap, overlap, breaks4, breaks5, breaks6, besideOneSite, outOfPlace, placeIn}
+use Rattle.definition.specs.Rules.{Holds, cellAt, siteAt, endAt, cellsOf, rowCells, apart, order, gap}
+use Rattle.definition.specs.Rules.{overlap, breaks4, breaks5, breaks6, besideOneSite, outOfPlace, placeIn}
 use Rattle.definition_laws.specs.Sound.{Sound}
 use Rattle.lists.specs.Compare.{Le?, high, le?}
 use Rattle.lists.specs.Neighbours.{Chain}
@@ -29,17 +31,20 @@ module _ (t : ℕ → ℕ → Bool) (Q : ℕ → ℕ → Type 0) where
   abbrev beside : ℕ → ℕ → ℕ → Bool
   beside k a b = (eqb k a || eqb k b) && t a b
 
-  test-chain : (l : List ℕ) → ((a b : ℕ) → In a l → In b l → t a b ≡ false → Q a b) → ((k : ℕ) → In k l → anyNext (beside k) l ≡ false) → Chain Q l
+  test-chain : (l : List ℕ) → ((a b : ℕ) → In a l → In b l → t a b ≡ false → Q a b)
+      → ((k : ℕ) → In k l → anyNext (beside k) l ≡ false) → Chain Q l
   test-chain [] q h = tt
   test-chain (a ∷ []) q h = tt
   test-chain (a ∷ b ∷ l) q h =
       let z = or-false (beside a a b) (anyNext (beside a) (b ∷ l)) .0 (h a (here refl)) in
       let m : (eqb a a || eqb a b) ≡ true = ap (λ x. x || eqb a b) (eq-eqb a a refl) in (
         q a b (here refl) (there (here refl)) (and-false (eqb a a || eqb a b) (t a b) .0 (z .0) m),
-        test-chain (b ∷ l) (λ x y m n. q x y (there m) (there n)) (λ k m. or-false (beside k a b) (anyNext (beside k) (b ∷ l)) .0 (h k (there m)) .1),
+        test-chain (b ∷ l) (λ x y m n. q x y (there m) (there n))
+            (λ k m. or-false (beside k a b) (anyNext (beside k) (b ∷ l)) .0 (h k (there m)) .1),
       )
 
-  chain-test : (l : List ℕ) → ((a b : ℕ) → In a l → In b l → Q a b → t a b ≡ false) → Chain Q l → (k : ℕ) → anyNext (beside k) l ≡ false
+  chain-test : (l : List ℕ) → ((a b : ℕ) → In a l → In b l → Q a b → t a b ≡ false) → Chain Q l → (k : ℕ)
+      → anyNext (beside k) l ≡ false
   chain-test [] q h k = refl
   chain-test (a ∷ []) q h k = refl
   chain-test (a ∷ b ∷ l) q h k =
@@ -68,24 +73,30 @@ module _ (j : Job) (sound : Sound j) (P : Placement) (f : ℕ → Pose) (g : Giv
   -- ---- rule 4
 
   abbrev pub Apart : Type 0
-  Apart = (s : Side) (a b : ℕ) → In a (members (pairJob j) s) → In b (members (pairJob j) s) → a ≢ b → Clear S W a b ⊎ Clear S W b a
+  Apart = (s : Side) (a b : ℕ) → In a (members (pairJob j) s) → In b (members (pairJob j) s) → a ≢ b
+      → Clear S W a b ⊎ Clear S W b a
 
   abbrev together : ℕ → ℕ → Bool
   together a b = shareRow (cellAt j a) (cellAt j b)
 
-  overlap-apart : (a b : ℕ) → a < n → b < n → together a b ≡ true → overlap j P a b ≡ false → Clear S W a b ⊎ Clear S W b a
+  overlap-apart : (a b : ℕ) → a < n → b < n → together a b ≡ true → overlap j P a b ≡ false
+      → Clear S W a b ⊎ Clear S W b a
   overlap-apart a b p q e o = go (ltb (siteAt P a) (endAt j P b)) (le? (suc (siteAt P a)) (endAt j P b)) o
     where
-      go : (t : Bool) → Le? (suc (siteAt P a)) (endAt j P b) t → (together a b && t && ltb (siteAt P b) (endAt j P a)) ≡ false → Clear S W a b ⊎ Clear S W b a
+      go : (t : Bool) → Le? (suc (siteAt P a)) (endAt j P b) t
+          → (together a b && t && ltb (siteAt P b) (endAt j P a)) ≡ false → Clear S W a b ⊎ Clear S W b a
       go false (high h) z = inr (let x = site-at a p in let y = end-at b q in omega arith)
       go true v z =
-          let l = ltb-false (siteAt P b) (endAt j P a) (and-false (together a b && true) (ltb (siteAt P b) (endAt j P a)) .0 z (and-true (together a b) true .1 (e, refl))) in
+          let l = ltb-false (siteAt P b) (endAt j P a) (and-false (together a b
+          && true) (ltb (siteAt P b) (endAt j P a)) .0 z (and-true (together a b) true .1 (e, refl))) in
           inl (let x = site-at b q in let y = end-at a p in omega arith)
 
-  apart-overlap : (a b : ℕ) → a < n → b < n → (together a b ≡ true → Clear S W a b ⊎ Clear S W b a) → overlap j P a b ≡ false
+  apart-overlap : (a b : ℕ) → a < n → b < n → (together a b ≡ true → Clear S W a b ⊎ Clear S W b a)
+      → overlap j P a b ≡ false
   apart-overlap a b p q c =
       and-false (together a b && ltb (siteAt P a) (endAt j P b)) (ltb (siteAt P b) (endAt j P a)) .1
-      (λ e. let z = and-true (together a b) (ltb (siteAt P a) (endAt j P b)) .0 e in go (ltb-true (siteAt P a) (endAt j P b) (z .1)) (c (z .0)))
+      (λ e. let z = and-true (together a b) (ltb (siteAt P a) (endAt j P b)) .0 e in
+      go (ltb-true (siteAt P a) (endAt j P b) (z .1)) (c (z .0)))
     where
       go : siteAt P a < endAt j P b → Clear S W a b ⊎ Clear S W b a → ltb (siteAt P b) (endAt j P a) ≡ false
       go l (inl h) = le-ltb (siteAt P b) (endAt j P a) (let x = site-at b q in let y = end-at a p in omega arith)
@@ -107,17 +118,20 @@ module _ (j : Job) (sound : Sound j) (P : Placement) (f : ℕ → Pose) (g : Giv
           let q = member j sound s b .0 mb in
           let z = any-false (test a) (cellsOf j) .0 (h a (p .0)) b (in-cells j sound b .1 (q .0)) in
           overlap-apart a b (p .0) (q .0)
-          (some-row (rowed a b) .1 (s, and-true (inRow (rowOf s) (cellAt j a)) (inRow (rowOf s) (cellAt j b)) .1 (p .1, q .1)))
+          (some-row (rowed a b) .1
+          (s, and-true (inRow (rowOf s) (cellAt j a)) (inRow (rowOf s) (cellAt j b)) .1 (p .1, q .1)))
           (and-false (not (eqb b a)) (overlap j P a b) .0 z (ap not (ne-eqb b a (λ e. d (sym e)))))
 
       back : Apart → Holds j (breaks4 j P)
-      back c k h = any-false (test k) (cellsOf j) .1 (λ b m. and-false (not (eqb b k)) (overlap j P k b) .1 (λ e. apart-overlap k b h (in-cells j sound b .0 m) (both b (in-cells j sound b .0 m) e)))
+      back c k h = any-false (test k) (cellsOf j) .1 (λ b m. and-false (not (eqb b k)) (overlap j P k b) .1
+          (λ e. apart-overlap k b h (in-cells j sound b .0 m) (both b (in-cells j sound b .0 m) e)))
         where
           both : (b : ℕ) → b < n → not (eqb b k) ≡ true → together k b ≡ true → Clear S W k b ⊎ Clear S W b k
           both b l e t =
               let r = some-row (rowed k b) .0 t in
               let i = and-true (inRow (rowOf (r .0)) (cellAt j k)) (inRow (rowOf (r .0)) (cellAt j b)) .0 (r .1) in
-              c (r .0) k b (member j sound (r .0) k .1 (h, i .0)) (member j sound (r .0) b .1 (l, i .1)) (λ q. eqb-false b k (not-true (eqb b k) e) (sym q))
+              c (r .0) k b (member j sound (r .0) k .1 (h, i .0)) (member j sound (r .0) b .1 (l, i .1))
+              (λ q. eqb-false b k (not-true (eqb b k) e) (sym q))
 
   -- ---- rule 5
 
@@ -131,13 +145,15 @@ module _ (j : Job) (sound : Sound j) (P : Placement) (f : ℕ → Pose) (g : Giv
       one : ℕ → ℕ → Bool
       one a b = eqb (gap j P a b) 1
 
-      none-is : (s : Side) (a b : ℕ) → In a (order j P (rowOf s)) → In b (order j P (rowOf s)) → one a b ≡ false → NoGapOne S W a b
+      none-is : (s : Side) (a b : ℕ) → In a (order j P (rowOf s)) → In b (order j P (rowOf s)) → one a b ≡ false
+          → NoGapOne S W a b
       none-is s a b ma mb e q =
           let x = end-at a (ordered-below j sound P f g s a ma) in
           let y = site-at b (ordered-below j sound P f g s b mb) in
           eqb-false (gap j P a b) 1 e (omega arith)
 
-      is-none : (s : Side) (a b : ℕ) → In a (order j P (rowOf s)) → In b (order j P (rowOf s)) → NoGapOne S W a b → one a b ≡ false
+      is-none : (s : Side) (a b : ℕ) → In a (order j P (rowOf s)) → In b (order j P (rowOf s)) → NoGapOne S W a b
+          → one a b ≡ false
       is-none s a b ma mb d =
           let x = end-at a (ordered-below j sound P f g s a ma) in
           let y = site-at b (ordered-below j sound P f g s b mb) in
@@ -146,12 +162,14 @@ module _ (j : Job) (sound : Sound j) (P : Placement) (f : ℕ → Pose) (g : Giv
       to : Holds j (breaks5 j P) → Gapped
       to h s =
           subst (Chain (NoGapOne S W)) (order-same j sound P f g s)
-          (test-chain one (NoGapOne S W) (order j P (rowOf s)) (none-is s) (λ k m. any-row (λ row. besideOneSite j P row k) .0 (h k (ordered-below j sound P f g s k m)) s))
+          (test-chain one (NoGapOne S W) (order j P (rowOf s)) (none-is s)
+          (λ k m. any-row (λ row. besideOneSite j P row k) .0 (h k (ordered-below j sound P f g s k m)) s))
 
       back : Gapped → Holds j (breaks5 j P)
       back c k h =
           any-row (λ row. besideOneSite j P row k) .1
-          (λ s. chain-test one (NoGapOne S W) (order j P (rowOf s)) (is-none s) (subst (Chain (NoGapOne S W)) (sym (order-same j sound P f g s)) (c s)) k)
+          (λ s. chain-test one (NoGapOne S W) (order j P (rowOf s)) (is-none s)
+          (subst (Chain (NoGapOne S W)) (sym (order-same j sound P f g s)) (c s)) k)
 
   -- ---- rule 6
 
@@ -179,7 +197,8 @@ module _ (j : Job) (sound : Sound j) (P : Placement) (f : ℕ → Pose) (g : Giv
       to : Holds j (breaks6 j P) → (s : Side) (k : ℕ) → In k (members (pairJob j) s) → Near s k
       to h s k m =
           let p = member j sound s k .0 m in
-          let z = and-false (inRow (rowOf s) (cellAt j k)) (not (close s k)) .0 (any-row (λ row. outOfPlace j P row k) .0 (h k (p .0)) s) (p .1) in
+          let z = and-false (inRow (rowOf s) (cellAt j k)) (not (close s k)) .0
+          (any-row (λ row. outOfPlace j P row k) .0 (h k (p .0)) s) (p .1) in
           let l = leb-true (off s k) (j .header .reordering) (not-false (close s k) .0 z) in
           let x = from-left s k in
           let y = in-file s k in
@@ -188,5 +207,7 @@ module _ (j : Job) (sound : Sound j) (P : Placement) (f : ℕ → Pose) (g : Giv
       back : ((s : Side) (k : ℕ) → In k (members (pairJob j) s) → Near s k) → Holds j (breaks6 j P)
       back c k h =
           any-row (λ row. outOfPlace j P row k) .1
-          (λ s. and-false (inRow (rowOf s) (cellAt j k)) (not (close s k)) .1 (λ e. not-false (close s k) .1 (le-leb (off s k) (j .header .reordering)
-          (let z = c s k (member j sound s k .1 (h, e)) in let x = from-left s k in let y = in-file s k in omega arith))))
+          (λ s. and-false (inRow (rowOf s) (cellAt j k)) (not (close s k)) .1
+          (λ e. not-false (close s k) .1 (le-leb (off s k) (j .header .reordering)
+          (let z = c s k (member j sound s k .1 (h, e)) in let x = from-left s k in
+          let y = in-file s k in omega arith))))

@@ -1,5 +1,5 @@
--- A legal placement costs little: at most 64 cells, each at most 9000 by itself, and at most 2000 between neighbours in either row. So costs that
--- stop at 2^28 are exact.
+-- A legal placement costs little: at most 64 cells, each at most 9000 by itself, and at most 2000 between neighbours in
+-- either row. So costs that stop at 2^28 are exact.
 use mathlib.Core.Path.{refl}
 use mathlib.Core.Bool.{Bool, true, false, cond}
 use mathlib.Core.List.{List, [], _∷_, List·Memᴰ as In, List·Memᴰ·head as here, List·Memᴰ·tail as there}
@@ -18,7 +18,8 @@ use Rattle.theory_row.specs.Order.{sort-size}
 use Rattle.theory_row.specs.Rules.{sum, sumNext, sumNeighbours}
 use Rattle.theory_pair.specs.Pick.{pick}
 use Rattle.theory_pair.specs.Cells.{Side, row₀, row₁, inRow, members, rowOrder, neighbours}
-use Rattle.theory_bridge.specs.Paired.{rowOf, siteOf, widthOf, leftOf, rightOf, ownOf, differingOf, payOf, pairJob}
+use Rattle.theory_bridge.specs.Paired.{rowOf, siteOf, widthOf, leftOf, rightOf}
+use Rattle.theory_bridge.specs.Paired.{ownOf, differingOf, payOf, pairJob}
 use Rattle.theory_bridge.specs.Offers.{Allowed, keeps-allowed}
 use Rattle.theory_bridge.specs.Total.{cost-total}
 
@@ -32,7 +33,10 @@ module _ (c : ℕ) where
   sum-most : (f : ℕ → ℕ) (l : List ℕ) → ((k : ℕ) → In k l → f k ≤ c) → sum f l ≤ length l * c
   unfolding sum
   sum-most f [] h = omega arith
-  sum-most f (x ∷ l) h = let a = h x (here refl) in let r = sum-most f l (λ k m. h k (there m)) in omega (arith, suc-mul (length l) c)
+  sum-most f (x ∷ l) h =
+      let a = h x (here refl) in
+      let r = sum-most f l (λ k m. h k (there m)) in
+      omega (arith, suc-mul (length l) c)
 
   next-most : (f : ℕ → ℕ → ℕ) → ((a b : ℕ) → f a b ≤ c) → (a : ℕ) (l : List ℕ) → sumNext f a l ≤ length l * c
   unfolding sumNext
@@ -75,7 +79,8 @@ module _ (j : Job) (sound : Sound j) where
   unfolding payOf differingOf
   pay-most s x y =
       let two : differingOf j (rowOf s) x y ≤ 2 = omega (arith, differs-most (differs 0), differs-most (differs 1)) in
-      mul-le-mul (sound .header .step) (mul-le-mul (charge-most (min (y .1 .site - (x .1 .site + widthOf j (x .0) (x .1))) 4)) two)
+      mul-le-mul (sound .header .step)
+      (mul-le-mul (charge-most (min (y .1 .site - (x .1 .site + widthOf j (x .0) (x .1))) 4)) two)
     where
       differs : ℕ → Bool
       differs type = eqb (rightOf j (rowOf s) (x .0) (x .1) type) (leftOf j (rowOf s) (y .0) (y .1) type)
@@ -99,7 +104,8 @@ module _ (j : Job) (sound : Sound j) where
   row-most f s =
       let n = length (j .cells) in
       let site : ℕ → ℕ = λ k. siteOf (f k) in
-      let a = neighbours-most 2000 (λ a b. payOf j s (a, f a) (b, f b)) (λ a b. pay-most s (a, f a) (b, f b)) (rowOrder siteOf (pairJob j) f s) in
+      let a = neighbours-most 2000 (λ a b. payOf j s (a, f a) (b, f b)) (λ a b. pay-most s (a, f a) (b, f b))
+      (rowOrder siteOf (pairJob j) f s) in
       let b = sort-size site (members (pairJob j) s) in
       let c = pick-most (λ k. inRow s (pairJob j .kind k)) (from 0 n) in
       let d = length-from 0 n in
@@ -110,7 +116,8 @@ module _ (j : Job) (sound : Sound j) where
   cost-small P l =
       let n = length (j .cells) in
       let own : (k : ℕ) → In k (from 0 n) → ownOf j k (poseAt P k) ≤ 9000 =
-      λ k m. let h = in-from 0 n m in let b : k < n = omega arith in own-most k (poseAt P k) (keeps-allowed j k P .0 (l .rule1 k b, l .rule2 k b, l .rule3 k b))
+      λ k m. let h = in-from 0 n m in let b : k < n = omega arith in
+      own-most k (poseAt P k) (keeps-allowed j k P .0 (l .rule1 k b, l .rule2 k b, l .rule3 k b))
       in
       let a = sum-most 9000 (λ k. ownOf j k (poseAt P k)) (from 0 n) own in
       let b = length-from 0 n in

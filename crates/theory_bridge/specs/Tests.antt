@@ -1,4 +1,5 @@
--- Tests of the definitions and what they say: of two tests together, of the marks, of the entries of a list, of both rows.
+-- Tests of the definitions and what they say: of two tests together, of the
+-- marks, of the entries of a list, of both rows.
 use mathlib.Core.Path.{_≡_, refl, sym, ap, _∙_}
 use mathlib.Core.Logic.{_↔_}
 use mathlib.Core.Bool.{Bool, true, false, not, _&&_, _||_, true≢false, false≢true}
@@ -58,7 +59,10 @@ any-false {A} f (y ∷ l) = (
 
 -- a test of both rows
 pub any-row : (f : ℕ → Bool) → any f bothRows ≡ false ↔ ((s : Side) → f (rowOf s) ≡ false)
-any-row f = (λ e. each (any-false f bothRows .0 e), λ g. or-false (f 0) (f 1 || false) .1 (g row₀, or-false (f 1) false .1 (g row₁, refl)))
+any-row f = (
+  λ e. each (any-false f bothRows .0 e),
+  λ g. or-false (f 0) (f 1 || false) .1 (g row₀, or-false (f 1) false .1 (g row₁, refl)),
+)
   where
     each : ((x : ℕ) → In x bothRows → f x ≡ false) → (s : Side) → f (rowOf s) ≡ false
     each h row₀ = h 0 (here refl)

@@ -22,7 +22,8 @@ use Rattle.theory_bridge.specs.Row.{Gives, cells-same, order-same, order
 
 -- ---- sums at a weight
 
-keep-more : (t : ℕ → Bool) (x : ℕ) (l : List ℕ) → length (lists.keep t (x ∷ l)) ≡ cond (t x) 1 0 + length (lists.keep t l)
+keep-more : (t : ℕ → Bool) (x : ℕ) (l : List ℕ)
+    → length (lists.keep t (x ∷ l)) ≡ cond (t x) 1 0 + length (lists.keep t l)
 keep-more t x l = go (t x)
   where
     go : (b : Bool) → length (cond b (x ∷ lists.keep t l) (lists.keep t l)) ≡ cond b 1 0 + length (lists.keep t l)
@@ -30,7 +31,8 @@ keep-more t x l = go (t x)
     go false = omega arith
 
 own-sum : (w u v : ℕ) (A : ℕ → ℕ) (B C : ℕ → Bool) (l : List ℕ)
-    → lists.sum (λ k. w * A k + u * cond (B k) 1 0 + v * cond (C k) 1 0) l ≡ w * lists.sum A l + u * length (lists.keep B l) + v * length (lists.keep C l)
+    → lists.sum (λ k. w * A k + u * cond (B k) 1 0 + v * cond (C k) 1 0) l
+    ≡ w * lists.sum A l + u * length (lists.keep B l) + v * length (lists.keep C l)
 own-sum w u v A B C [] = omega arith
 own-sum w u v A B C (x ∷ l) =
     let r = own-sum w u v A B C l in
@@ -46,7 +48,8 @@ next-sum w f (a ∷ b ∷ l) = mul-add w (f a b) (lists.sumNext f (b ∷ l)) ∙
 
 module _ (j : Job) (sound : Sound j) (P : Placement) (f : ℕ → Pose) (g : Gives P (length (j .cells)) f) where
   -- what neighbours pay in a row
-  pay-at : (s : Side) (a b : ℕ) → a < length (j .cells) → b < length (j .cells) → j .header .stepWeight * stepsAt j P (rowOf s) a b ≡ payOf j s (a, f a) (b, f b)
+  pay-at : (s : Side) (a b : ℕ) → a < length (j .cells) → b < length (j .cells)
+      → j .header .stepWeight * stepsAt j P (rowOf s) a b ≡ payOf j s (a, f a) (b, f b)
   unfolding stepsAt differing payOf widthOf differingOf
   pay-at s a b p q = ap₂ (λ x y. payOf j s (a, x) (b, y)) (g a p) (g b q)
 
@@ -61,7 +64,8 @@ module _ (j : Job) (sound : Sound j) (P : Placement) (f : ℕ → Pose) (g : Giv
       pays : ℕ → ℕ → ℕ
       pays a b = payOf j s (a, f a) (b, f b)
 
-  pay-all : j .header .stepWeight * steps j P ≡ neighbours siteOf (pairJob j) f row₀ + neighbours siteOf (pairJob j) f row₁
+  pay-all : j .header .stepWeight * steps j P
+      ≡ neighbours siteOf (pairJob j) f row₀ + neighbours siteOf (pairJob j) f row₁
   unfolding steps
   pay-all =
       let a = mul-add (j .header .stepWeight) (stepsIn j P 0) (stepsIn j P 1) in
@@ -72,10 +76,12 @@ module _ (j : Job) (sound : Sound j) (P : Placement) (f : ℕ → Pose) (g : Giv
       omega arith
 
   -- what each cell costs by itself
-  own-all : j .header .shiftWeight * shifted j P + j .header .mirrorWeight * mirrored j P + j .header .swapWeight * changed j P ≡ sum (λ k. ownOf j k (f k)) (from 0 (length (j .cells)))
+  own-all : j .header .shiftWeight * shifted j P + j .header .mirrorWeight * mirrored j P
+      + j .header .swapWeight * changed j P ≡ sum (λ k. ownOf j k (f k)) (from 0 (length (j .cells)))
   unfolding shifted mirrored changed ownOf
   own-all =
-      sym (own-sum (j .header .shiftWeight) (j .header .mirrorWeight) (j .header .swapWeight) (λ k. apart (siteAt P k) (cellAt j k .given)) (isMirrored P) (λ k. eqb (poseAt P k .layout) 1) (cellsOf j))
+      sym (own-sum (j .header .shiftWeight) (j .header .mirrorWeight) (j .header .swapWeight)
+      (λ k. apart (siteAt P k) (cellAt j k .given)) (isMirrored P) (λ k. eqb (poseAt P k .layout) 1) (cellsOf j))
       ∙ ap (lists.sum (λ k. ownOf j k (poseAt P k))) (cells-same j sound)
       ∙ sum-same (λ k. ownOf j k (poseAt P k)) (λ k. ownOf j k (f k)) (from 0 (length (j .cells)))
       (λ k m. let h = in-from 0 (length (j .cells)) m in ap (ownOf j k) (g k (omega arith)))

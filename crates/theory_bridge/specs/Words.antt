@@ -1,4 +1,5 @@
--- The definitions' words on lists and those of the rows' theory say the same, where what they are given agrees on the list's entries.
+-- The definitions' words on lists and those of the rows' theory say the same, where what
+-- they are given agrees on the list's entries.
 use mathlib.Core.Path.{_≡_, refl, ap, ap₂, _∙_}
 use mathlib.Core.Bool.{Bool, cond}
 use mathlib.Core.List.{List, [], _∷_, List·Memᴰ as In, List·Memᴰ·head as here, List·Memᴰ·tail as there}
@@ -45,8 +46,10 @@ unfolding sum
 sum-same f g [] h = refl
 sum-same f g (x ∷ l) h = ap₂ _+_ (h x (here refl)) (sum-same f g l (λ k m. h k (there m)))
 
-pub sumNext-same : (f g : ℕ → ℕ → ℕ) (l : List ℕ) → ((a b : ℕ) → In a l → In b l → f a b ≡ g a b) → lists.sumNext f l ≡ sumNeighbours g l
+pub sumNext-same : (f g : ℕ → ℕ → ℕ) (l : List ℕ) → ((a b : ℕ) → In a l → In b l → f a b ≡ g a b)
+    → lists.sumNext f l ≡ sumNeighbours g l
 unfolding sumNext
 sumNext-same f g [] h = refl
 sumNext-same f g (a ∷ []) h = refl
-sumNext-same f g (a ∷ b ∷ l) h = ap₂ _+_ (h a b (here refl) (there (here refl))) (sumNext-same f g (b ∷ l) (λ x y m n. h x y (there m) (there n)))
+sumNext-same f g (a ∷ b ∷ l) h =
+    ap₂ _+_ (h a b (here refl) (there (here refl))) (sumNext-same f g (b ∷ l) (λ x y m n. h x y (there m) (there n)))

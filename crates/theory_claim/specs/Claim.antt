@@ -1,5 +1,5 @@
--- What a search of both rows comes to is what Place may answer. This is the theorem that Place cites: from the numbers of the tables and the notes of
--- the traceback to the claim over lists of moves.
+-- What a search of both rows comes to is what Place may answer. This is the theorem that Place cites: from the numbers
+-- of the tables and the notes of the traceback to the claim over lists of moves.
 use mathlib.Core.Path.{_≡_, refl, sym, ap, _∙_}
 use mathlib.Core.Option.{none, some}
 use Prim.Native.Nat.{ℕ, _/_, _%_, _≤_, _<_}
@@ -35,7 +35,8 @@ searchedCost j D₀ D₁ tallAt₀ tallAt₁ = leastCost D₀ D₁ (reorder j) (
 abbrev pub placementByNumbers : Job → (ℕ → ℕ) → Placement
 placementByNumbers j outOf = placementBy j (λ k. poseNumber j k (outOf k))
 
-module _ (j : Job) (sound : Sound j) (D₀ D₁ : Deck) (tallAt₀ tallAt₁ : ℕ → ℕ) (S₀ : RowSearched j row₀ D₀ tallAt₀) (S₁ : RowSearched j row₁ D₁ tallAt₁)
+module _ (j : Job) (sound : Sound j) (D₀ D₁ : Deck) (tallAt₀ tallAt₁ : ℕ → ℕ) (S₀ : RowSearched j row₀ D₀ tallAt₀)
+    (S₁ : RowSearched j row₁ D₁ tallAt₁)
     (same : D₀ .poses ≡ D₁ .poses) where
   decks : Side → Deck
   decks row₀ = D₀
@@ -45,11 +46,13 @@ module _ (j : Job) (sound : Sound j) (D₀ D₁ : Deck) (tallAt₀ tallAt₁ : �
   unfolding decks
   searched-tables =
       let J = pairJob j in
-      ap (λ t. t 0 0 0) (table-same (tallCount J) D₀ D₁ (reorder j) tallAt₀ (pos J row₀) tallAt₁ (pos J row₁) (S₀ .stands) (S₁ .stands) (tallCount J) (omega arith))
+      ap (λ t. t 0 0 0) (table-same (tallCount J) D₀ D₁ (reorder j) tallAt₀ (pos J row₀) tallAt₁ (pos J row₁)
+      (S₀ .stands) (S₁ .stands) (tallCount J) (omega arith))
       ∙ least-cost (reorder j) siteOf J (wide-positive j sound) D₀ D₁ _ _ _ _ (S₀ .matched) (S₁ .matched)
       (cells-alike siteOf J decks (poseNumber j) (isOffered j) matched same)
     where
-      matched : (s : Side) → Matched siteOf (line (pairJob j) s) (decks s) (λ k a. poseNumber j (cell (pairJob j) s k) a) (λ k a. isOffered j (cell (pairJob j) s k) a)
+      matched : (s : Side) → Matched siteOf (line (pairJob j) s) (decks s)
+          (λ k a. poseNumber j (cell (pairJob j) s k) a) (λ k a. isOffered j (cell (pairJob j) s k) a)
       matched row₀ = S₀ .matched
       matched row₁ = S₁ .matched
 
@@ -58,11 +61,15 @@ module _ (j : Job) (sound : Sound j) (D₀ D₁ : Deck) (tallAt₀ tallAt₁ : �
   claim-none e = place-answer j sound .none-when (sym searched-tables ∙ e)
 
   -- otherwise the placement that the traceback noted
-  pub claim-some : (w₀ w₁ : ℕ → ℕ) → TracedBack (reorder j) siteOf (pairJob j) (poseNumber j) (isOffered j) D₀ D₁ tallAt₀ tallAt₁ w₀ w₁ → (outOf : ℕ → ℕ)
+  pub claim-some : (w₀ w₁ : ℕ → ℕ)
+      → TracedBack (reorder j) siteOf (pairJob j) (poseNumber j) (isOffered j) D₀ D₁ tallAt₀ tallAt₁ w₀ w₁
+      → (outOf : ℕ → ℕ)
       → ((i : ℕ) → 0 < i → i ≤ line (pairJob j) row₀ .size → outOf (cell (pairJob j) row₀ (w₀ i / 64)) ≡ w₀ i % 64)
       → ((i : ℕ) → 0 < i → i ≤ line (pairJob j) row₁ .size → outOf (cell (pairJob j) row₁ (w₁ i / 64)) ≡ w₁ i % 64)
-      → Cheapest j (some (placementByNumbers j outOf)) × (cost j (placementByNumbers j outOf) ≡ searchedCost j D₀ D₁ tallAt₀ tallAt₁)
+      → Cheapest j (some (placementByNumbers j outOf))
+      × (cost j (placementByNumbers j outOf) ≡ searchedCost j D₀ D₁ tallAt₀ tallAt₁)
   claim-some w₀ w₁ W outOf g₀ g₁ =
-      let r = placed-legal (reorder j) siteOf (pairJob j) (poseNumber j) (isOffered j) D₀ D₁ tallAt₀ tallAt₁ w₀ w₁ W (wide-positive j sound) outOf g₀ g₁ in
+      let r = placed-legal (reorder j) siteOf (pairJob j) (poseNumber j) (isOffered j) D₀ D₁ tallAt₀ tallAt₁ w₀ w₁ W
+      (wide-positive j sound) outOf g₀ g₁ in
       let f : ℕ → Pose = λ k. poseNumber j k (outOf k) in
       (place-answer j sound .some-when f (r .0) (r .1 ∙ searched-tables), place-answer j sound .stated f ∙ r .1)

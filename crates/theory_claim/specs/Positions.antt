@@ -5,7 +5,8 @@ use Prim.Native.Nat.{ℕ, zero, suc, _+_, min, _≤_, _<_}
 use native.Mathlib.Omega.{arith}
 use borrow.Author.Tests.{ltb-true}
 use lib.Dec.{ltb}
-use Rattle.theory_tables.specs.Steps.{B, Deck, Layer, Cases, SegmentCosts, marks, stateCount, nextCases, costTo, firstAfter, firstOpen}
+use Rattle.theory_tables.specs.Steps.{B, Deck, Layer, Cases, SegmentCosts, marks}
+use Rattle.theory_tables.specs.Steps.{stateCount, nextCases, costTo, firstAfter, firstOpen}
 use Rattle.theory_tables.specs.Stages.{placedWith, stageEnd, openCost, stageCost, caseTable}
 
 module _ (talls : ℕ) where
@@ -18,7 +19,8 @@ module _ (talls : ℕ) where
     unfolding stageEnd
     end-same I x i e q a = go (ltb I talls) (ltb-true I talls) _
       where
-        go : (t : Bool) → (t ≡ true → I < talls) → (y : ℕ) → cond t (costTo D R x i (f I) q a) y ≡ cond t (costTo D R x i (g I) q a) y
+        go : (t : Bool) → (t ≡ true → I < talls) → (y : ℕ)
+            → cond t (costTo D R x i (f I) q a) y ≡ cond t (costTo D R x i (g I) q a) y
         go true l y = ap (λ p. costTo D R x i p q a) (h I (l refl))
         go false l y = refl
 
@@ -31,7 +33,8 @@ module _ (talls : ℕ) where
     stage-same I l = fun-ext (λ s. fun-ext (λ t. fun-ext (λ q. fun-ext (λ a. at s t q a))))
       where
         from : ℕ → ℕ → ℕ → ℕ → ℕ → ℕ
-        from p s t q a = stageEnd D R talls g (suc I) (firstAfter D R (placedWith R p s) (marks R s) p t) (suc (placedWith R p s)) (D .back p t) q a
+        from p s t q a = stageEnd D R talls g (suc I) (firstAfter D R (placedWith R p s) (marks R s) p t)
+            (suc (placedWith R p s)) (D .back p t) q a
 
         at : (s t q a : ℕ) → stageCost D R talls f I s t q a ≡ stageCost D R talls g I s t q a
         at s t q a = end-same (suc I) _ _ _ q a ∙ ap (λ p. from p s t q a) (h I l)
@@ -50,4 +53,5 @@ module _ (talls : ℕ) where
             → caseTable D₀ D₁ R talls f₀ f₁ (suc I) q₀ q₁ a ≡ caseTable D₀ D₁ R talls g₀ g₁ (suc I) q₀ q₁ a
         at q₀ q₁ a e =
             ap (λ f. by f (stageCost D₀ R talls f₀ I) (stageCost D₁ R talls f₁ I) q₀ q₁ a) e
-            ∙ ap₂ (λ x₀ x₁. by (caseTable D₀ D₁ R talls g₀ g₁ I) x₀ x₁ q₀ q₁ a) (stage-same D₀ R f₀ g₀ h₀ I (omega arith)) (stage-same D₁ R f₁ g₁ h₁ I (omega arith))
+            ∙ ap₂ (λ x₀ x₁. by (caseTable D₀ D₁ R talls g₀ g₁ I) x₀ x₁ q₀ q₁ a)
+            (stage-same D₀ R f₀ g₀ h₀ I (omega arith)) (stage-same D₁ R f₁ g₁ h₁ I (omega arith))

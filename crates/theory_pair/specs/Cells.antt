@@ -20,8 +20,11 @@ use Rattle.theory_pair.specs.Pair.{Talls, Upto, Stages, ending, table, t
 use Rattle.theory_pair.specs.Agree.{Agree, agree-stages, stages-agree, paths-agree}
 use Rattle.theory_pair.specs.Pick.{pick, pick-in, in-pick, pick-pairs}
 unfoldable pub use Rattle.theory_pair.specs.Legal.{members, tallCells}
-pub use Rattle.theory_pair.specs.Legal.{Side, row₀, row₁, Kind, one, both, Job, inRow, isTall, ownIn, site, width, rowOrder, RowEnded, neighbours, total, LegalPair}
-use Rattle.theory_pair.specs.Members.{at, at-in, at-place, place-at, images-all, sort-order, ended-images, sum-images, sumNeighbours-images, row-positions, positions-row, from-rising, rising-at, rising-distinct′}
+pub use Rattle.theory_pair.specs.Legal.{Side, row₀, row₁, Kind, one, both, Job, inRow, isTall, ownIn}
+pub use Rattle.theory_pair.specs.Legal.{site, width, rowOrder, RowEnded, neighbours, total, LegalPair}
+use Rattle.theory_pair.specs.Members.{at, at-in, at-place, place-at, images-all, sort-order}
+use Rattle.theory_pair.specs.Members.{ended-images, sum-images, sumNeighbours-images, row-positions}
+use Rattle.theory_pair.specs.Members.{positions-row, from-rising, rising-at, rising-distinct′}
 
 module _ {A : Type 0} (J : Job A) where
   abbrev pub cell : Side → ℕ → ℕ
@@ -49,27 +52,37 @@ module _ {A : Type 0} (J : Job A) where
 
   members-in : (s : Side) {k : ℕ} → In k (members J s) → (k < J .count) × (inRow s (J .kind k) ≡ true)
   unfolding members
-  members-in s m = let r = pick-in (λ k. inRow s (J .kind k)) (from 0 (J .count)) m in let h = in-from 0 (J .count) (r .0) in (omega arith, r .1)
+  members-in s m =
+      let r = pick-in (λ k. inRow s (J .kind k)) (from 0 (J .count)) m in
+      let h = in-from 0 (J .count) (r .0) in
+      (omega arith, r .1)
 
   in-members : (s : Side) (k : ℕ) → k < J .count → inRow s (J .kind k) ≡ true → In k (members J s)
   unfolding members
-  in-members s k h e = in-pick (λ k. inRow s (J .kind k)) (from 0 (J .count)) (from-in k 0 (J .count) (omega arith) (omega arith)) e
+  in-members s k h e =
+      in-pick (λ k. inRow s (J .kind k)) (from 0 (J .count)) (from-in k 0 (J .count) (omega arith) (omega arith)) e
 
   members-distinct : (s : Side) → Distinct (members J s)
   unfolding members
-  members-distinct s = rising-distinct′ (members J s) (pick-pairs (λ k. inRow s (J .kind k)) (λ x y. x < y) (from 0 (J .count)) (from-rising 0 (J .count)))
+  members-distinct s = rising-distinct′ (members J s)
+      (pick-pairs (λ k. inRow s (J .kind k)) (λ x y. x < y) (from 0 (J .count)) (from-rising 0 (J .count)))
 
   talls-in : {k : ℕ} → In k (tallCells J) → (k < J .count) × (isTall (J .kind k) ≡ true)
   unfolding tallCells
-  talls-in m = let r = pick-in (λ k. isTall (J .kind k)) (from 0 (J .count)) m in let h = in-from 0 (J .count) (r .0) in (omega arith, r .1)
+  talls-in m =
+      let r = pick-in (λ k. isTall (J .kind k)) (from 0 (J .count)) m in
+      let h = in-from 0 (J .count) (r .0) in
+      (omega arith, r .1)
 
   in-talls : (k : ℕ) → k < J .count → isTall (J .kind k) ≡ true → In k (tallCells J)
   unfolding tallCells
-  in-talls k h e = in-pick (λ k. isTall (J .kind k)) (from 0 (J .count)) (from-in k 0 (J .count) (omega arith) (omega arith)) e
+  in-talls k h e =
+      in-pick (λ k. isTall (J .kind k)) (from 0 (J .count)) (from-in k 0 (J .count) (omega arith) (omega arith)) e
 
   talls-rising : (I K : ℕ) → I < K → K < tallCount → at (tallCells J) I < at (tallCells J) K
   unfolding tallCells
-  talls-rising I K h k = rising-at (tallCells J) (pick-pairs (λ k. isTall (J .kind k)) (λ x y. x < y) (from 0 (J .count)) (from-rising 0 (J .count))) I K h k
+  talls-rising I K h k = rising-at (tallCells J)
+      (pick-pairs (λ k. isTall (J .kind k)) (λ x y. x < y) (from 0 (J .count)) (from-rising 0 (J .count))) I K h k
 
   tall-inRow : (s : Side) (k : Kind) → isTall k ≡ true → inRow s k ≡ true
   tall-inRow row₀ both e = refl
@@ -78,10 +91,12 @@ module _ {A : Type 0} (J : Job A) where
   tall-inRow row₁ (one t) e = absurd (let y : _≡_ {A = ℕ} 0 1 = cc in omega arith)
 
   -- tall cell I, found in a row
-  pub cell-pos : (s : Side) (I : ℕ) → I < tallCount → (cell s (pos s I) ≡ at (tallCells J) I) × (pos s I < length (members J s))
+  pub cell-pos : (s : Side) (I : ℕ) → I < tallCount
+      → (cell s (pos s I) ≡ at (tallCells J) I) × (pos s I < length (members J s))
   cell-pos s I h =
       let t = talls-in (at-in (tallCells J) I h) in
-      at-place (members J s) (at (tallCells J) I) (in-members s (at (tallCells J) I) (t .0) (tall-inRow s (J .kind (at (tallCells J) I)) (t .1)))
+      at-place (members J s) (at (tallCells J) I)
+      (in-members s (at (tallCells J) I) (t .0) (tall-inRow s (J .kind (at (tallCells J) I)) (t .1)))
 
   pub line-talls : (s : Side) → Talls (line s) tallCount (pos s)
   line-talls s = record {
@@ -89,8 +104,11 @@ module _ {A : Type 0} (J : Job A) where
     inside = λ I h. cell-pos s I h .1;
     only = λ k h e.
         let m = members-in s (at-in (members J s) k h) in
-        let t = at-place (tallCells J) (cell s k) (in-talls (cell s k) (m .0) e) in
-        (place (cell s k) (tallCells J), t .1, sym (place-at (members J s) k (members-distinct s) h) ∙ ap (λ x. place x (members J s)) (sym (t .0)));
+        let t = at-place (tallCells J) (cell s k) (in-talls (cell s k) (m .0) e) in (
+          place (cell s k) (tallCells J),
+          t .1,
+          sym (place-at (members J s) k (members-distinct s) h) ∙ ap (λ x. place x (members J s)) (sym (t .0)),
+        );
   }
 
   same-options : (I : ℕ) → I < tallCount → line row₀ .options (pos row₀ I) ≡ line row₁ .options (pos row₁ I)
@@ -98,7 +116,8 @@ module _ {A : Type 0} (J : Job A) where
 
   -- the sum over all cells is the sum over both rows
   split-sum : (f : ℕ → ℕ) (l : List ℕ)
-      → sum f l ≡ sum (λ k. ownIn row₀ (J .kind k) (f k)) (pick (λ k. inRow row₀ (J .kind k)) l) + sum (λ k. ownIn row₁ (J .kind k) (f k)) (pick (λ k. inRow row₁ (J .kind k)) l)
+      → sum f l ≡ sum (λ k. ownIn row₀ (J .kind k) (f k)) (pick (λ k. inRow row₀ (J .kind k)) l)
+      + sum (λ k. ownIn row₁ (J .kind k) (f k)) (pick (λ k. inRow row₁ (J .kind k)) l)
   unfolding sum pick
   split-sum f [] = refl
   split-sum f (x ∷ l) = go (J .kind x) refl (split-sum f l)
@@ -127,7 +146,8 @@ module _ {A : Type 0} (R : ℕ) (siteOf : A → ℕ) (J : Job A) where
   by f s p = f (cell J s p)
 
   -- what the ends say of a row's cells, said of their positions
-  ends-positions : (f : ℕ → A) (s : Side) → RowEnded siteOf J f s ↔ Ended (opensIn siteOf (line J s) (by f s)) (closesIn siteOf (line J s) (by f s)) (order (siteIn siteOf (line J s) (by f s)) (line J s .size))
+  ends-positions : (f : ℕ → A) (s : Side) → RowEnded siteOf J f s ↔ Ended (opensIn siteOf (line J s) (by f s))
+      (closesIn siteOf (line J s) (by f s)) (order (siteIn siteOf (line J s) (by f s)) (line J s .size))
   ends-positions f s =
       let opens : ℕ → Bool = λ k. J .opens k (f k) in
       let closes : ℕ → Bool = λ k. J .closes k (f k) in
@@ -143,7 +163,8 @@ module _ {A : Type 0} (R : ℕ) (siteOf : A → ℕ) (J : Job A) where
   }
 
   -- what a row costs, by cells
-  row-total : (f : ℕ → A) (s : Side) → rowTotal siteOf (line J s) (by f s) ≡ sum (λ k. ownIn s (J .kind k) (J .own k (f k))) (members J s) + neighbours siteOf J f s
+  row-total : (f : ℕ → A) (s : Side) → rowTotal siteOf (line J s) (by f s)
+      ≡ sum (λ k. ownIn s (J .kind k) (J .own k (f k))) (members J s) + neighbours siteOf J f s
   row-total f s =
       let ms = members J s in
       let l = order (λ p. siteOf (f (at ms p))) (length ms) in
@@ -152,7 +173,8 @@ module _ {A : Type 0} (R : ℕ) (siteOf : A → ℕ) (J : Job A) where
       ap₂ _+_ (sym (sum-images owns (at ms) (from 0 (length ms))) ∙ ap (sum owns) (images-all ms))
       (sym (sumNeighbours-images pays (at ms) l) ∙ ap (sumNeighbours pays) (sym (sort-order (site siteOf J f) ms)))
 
-  pub total-rows : (f : ℕ → A) → rowTotal siteOf (line J row₀) (by f row₀) + rowTotal siteOf (line J row₁) (by f row₁) ≡ total siteOf J f
+  pub total-rows : (f : ℕ → A)
+      → rowTotal siteOf (line J row₀) (by f row₀) + rowTotal siteOf (line J row₁) (by f row₁) ≡ total siteOf J f
   unfolding members
   total-rows f =
       let a = row-total f row₀ in
@@ -186,12 +208,14 @@ module _ {A : Type 0} (R : ℕ) (siteOf : A → ℕ) (J : Job A) where
       keeps = keeps;
     }
       where
-        strict : (j k : ℕ) → In j (members J row₀) → In k (members J row₀) → siteOf (f j) ≤ siteOf (f k) → Clear (site siteOf J f) (width siteOf J f) j k ⊎ Clear (site siteOf J f) (width siteOf J f) k j
+        strict : (j k : ℕ) → In j (members J row₀) → In k (members J row₀) → siteOf (f j) ≤ siteOf (f k)
+            → Clear (site siteOf J f) (width siteOf J f) j k ⊎ Clear (site siteOf J f) (width siteOf J f) k j
             → siteOf (f j) < siteOf (f k)
         strict j k m q h (inl c) = let z = w j (f j) (p .offered j (members-in J row₀ m .0)) in omega arith
         strict j k m q h (inr c) = absurd (let z = w k (f k) (p .offered k (members-in J row₀ q .0)) in omega arith)
 
-        keeps : (I K : ℕ) → I < K → K < tallCount J → siteOf (f (cell J row₀ (pos J row₀ I))) < siteOf (f (cell J row₀ (pos J row₀ K)))
+        keeps : (I K : ℕ) → I < K → K < tallCount J
+            → siteOf (f (cell J row₀ (pos J row₀ I))) < siteOf (f (cell J row₀ (pos J row₀ K)))
         keeps I K h l =
             let i : I < tallCount J = omega arith in
             let a = cell-pos J row₀ I i in
@@ -203,7 +227,8 @@ module _ {A : Type 0} (R : ℕ) (siteOf : A → ℕ) (J : Job A) where
             let r = talls-rising J I K h l in
             let mj = in-members J row₀ j (tj .0) (tall-inRow J row₀ (J .kind j) (tj .1)) in
             let mk = in-members J row₀ k (tk .0) (tall-inRow J row₀ (J .kind k) (tk .1)) in
-            let z : siteOf (f j) < siteOf (f k) = strict j k mj mk (p .inOrder j k r (tk .0) (tj .1) (tk .1)) (p .rows row₀ .rule4 j k mj mk (λ e. omega arith)) in
+            let z : siteOf (f j) < siteOf (f k) = strict j k mj mk (p .inOrder j k r (tk .0) (tj .1) (tk .1))
+            (p .rows row₀ .rule4 j k mj mk (λ e. omega arith)) in
             let ea = ap (λ x. siteOf (f x)) (a .0) in
             let eb = ap (λ x. siteOf (f x)) (b .0) in
             omega arith
@@ -215,7 +240,8 @@ module _ {A : Type 0} (R : ℕ) (siteOf : A → ℕ) (J : Job A) where
           here₀ : g₀ p ≡ g₀ (place (cell J row₀ p) (members J row₀))
           here₀ = ap g₀ (sym (place-at (members J row₀) p (members-distinct J row₀) h))
 
-          go : (t : Kind) → inRow row₀ t ≡ true → g₀ p ≡ merge t (g₀ (place (cell J row₀ p) (members J row₀))) (g₁ (place (cell J row₀ p) (members J row₁)))
+          go : (t : Kind) → inRow row₀ t ≡ true → g₀ p
+              ≡ merge t (g₀ (place (cell J row₀ p) (members J row₀))) (g₁ (place (cell J row₀ p) (members J row₁)))
           go (one row₀) e = here₀
           go (one row₁) e = absurd (let y : _≡_ {A = ℕ} 0 1 = cc in omega arith)
           go both e = here₀
@@ -233,13 +259,15 @@ module _ {A : Type 0} (R : ℕ) (siteOf : A → ℕ) (J : Job A) where
               let c : k ≡ at (tallCells J) I = ap (cell J row₁) (o .2) ∙ cell-pos J row₁ I (o .1) .0 in
               ap g₁ (o .2) ∙ sym (agree .shared I (o .1)) ∙ ap (λ x. g₀ (place x (members J row₀))) (sym c)
 
-          go : (t : Kind) → J .kind k ≡ t → inRow row₁ t ≡ true → g₁ p ≡ merge t (g₀ (place k (members J row₀))) (g₁ (place k (members J row₁)))
+          go : (t : Kind) → J .kind k ≡ t → inRow row₁ t ≡ true
+              → g₁ p ≡ merge t (g₀ (place k (members J row₀))) (g₁ (place k (members J row₁)))
           go (one row₀) z e = absurd (let y : _≡_ {A = ℕ} 0 1 = cc in omega arith)
           go (one row₁) z e = ap g₁ (sym (place-at (members J row₁) p (members-distinct J row₁) h))
           go both z e = shared (ap isTall z)
 
     -- a placement that has the poses of two rows that agree
-    module _ (f g₀ g₁ : ℕ → A) (agree : Agreed g₀ g₁) (is₀ : (p : ℕ) → p < length (members J row₀) → g₀ p ≡ by f row₀ p) (is₁ : (p : ℕ) → p < length (members J row₁) → g₁ p ≡ by f row₁ p) where
+    module _ (f g₀ g₁ : ℕ → A) (agree : Agreed g₀ g₁) (is₀ : (p : ℕ) → p < length (members J row₀) → g₀ p ≡ by f row₀ p)
+        (is₁ : (p : ℕ) → p < length (members J row₁) → g₁ p ≡ by f row₁ p) where
       placed : (s : Side) → Placed R siteOf (line J s) (by f s)
       placed row₀ = placed-same R siteOf (line J row₀) (wide-line row₀) g₀ (by f row₀) is₀ (agree .row₀) .0
       placed row₁ = placed-same R siteOf (line J row₁) (wide-line row₁) g₁ (by f row₁) is₁ (agree .row₁) .0
@@ -264,7 +292,8 @@ module _ {A : Type 0} (R : ℕ) (siteOf : A → ℕ) (J : Job A) where
           go (one row₁) z = from-row row₁ (ap (inRow row₁) z)
           go both z = from-row row₀ (ap (inRow row₀) z)
 
-      agree-order : (j k : ℕ) → j < k → k < J .count → isTall (J .kind j) ≡ true → isTall (J .kind k) ≡ true → siteOf (f j) ≤ siteOf (f k)
+      agree-order : (j k : ℕ) → j < k → k < J .count → isTall (J .kind j) ≡ true → isTall (J .kind k) ≡ true
+          → siteOf (f j) ≤ siteOf (f k)
       agree-order j k l h tj tk = go (native.Mathlib.Decide.decLt I K)
         where
           I : ℕ
@@ -280,7 +309,8 @@ module _ {A : Type 0} (R : ℕ) (siteOf : A → ℕ) (J : Job A) where
           mk = at-place (tallCells J) k (in-talls J k h tk)
 
           pose : (i I : ℕ) → (at (tallCells J) I ≡ i) × (I < tallCount J) → siteOf (g₀ (pos J row₀ I)) ≡ siteOf (f i)
-          pose i I m = ap siteOf (is₀ (pos J row₀ I) (cell-pos J row₀ I (m .1) .1) ∙ ap f (cell-pos J row₀ I (m .1) .0 ∙ m .0))
+          pose i I m =
+              ap siteOf (is₀ (pos J row₀ I) (cell-pos J row₀ I (m .1) .1) ∙ ap f (cell-pos J row₀ I (m .1) .0 ∙ m .0))
 
           wrong : Dec (I ≡ K) → ¬ (I < K) → ⊥
           wrong (yes e) n = let a = ap (at (tallCells J)) e in omega (arith, mj .0, mk .0)
@@ -293,7 +323,8 @@ module _ {A : Type 0} (R : ℕ) (siteOf : A → ℕ) (J : Job A) where
       agree-legal : LegalPair R siteOf J f
       agree-legal = record {
         offered = agree-offered;
-        rows = λ s. positions-row R (site siteOf J f) (width siteOf J f) (members J s) (members-distinct J s) (placed s .legal);
+        rows = λ s. positions-row R (site siteOf J f) (width siteOf J f) (members J s) (members-distinct J s)
+            (placed s .legal);
         inOrder = agree-order;
         ended = λ s. ends-positions f s .1 (placed s .ended);
       }
@@ -302,52 +333,64 @@ module _ {A : Type 0} (R : ℕ) (siteOf : A → ℕ) (J : Job A) where
 
     -- stages over all tall cells, to the end, at cost x
     abbrev pub StagesTo : ℕ → Type 0
-    StagesTo x = Stages R siteOf (line J row₀) (line J row₁) (pos J row₀) (pos J row₁) (tallCount J) (ending R siteOf (line J row₀) (line J row₁) (pos J row₀) (pos J row₁)) x
+    StagesTo x = Stages R siteOf (line J row₀) (line J row₁) (pos J row₀) (pos J row₁) (tallCount J)
+        (ending R siteOf (line J row₀) (line J row₁) (pos J row₀) (pos J row₁)) x
 
     -- the least cost that the tables come to
     abbrev pub answer : Option ℕ
-    answer = table R siteOf (line J row₀) (line J row₁) (pos J row₀) (pos J row₁) (tallCount J) (ending R siteOf (line J row₀) (line J row₁) (pos J row₀) (pos J row₁))
+    answer = table R siteOf (line J row₀) (line J row₁) (pos J row₀) (pos J row₁) (tallCount J)
+        (ending R siteOf (line J row₀) (line J row₁) (pos J row₀) (pos J row₁))
 
     -- a legal placement is cut into stages that cost what it costs
     pub cut : (f : ℕ → A) → LegalPair R siteOf J f → StagesTo (total siteOf J f)
     cut f p =
         subst StagesTo (total-rows f)
-        (agree-stages R siteOf (line J row₀) (line J row₁) (pos J row₀) (pos J row₁) (tallCount J) (wide-line row₀) (wide-line row₁) (line-talls J row₀) (line-talls J row₁) (same-options J)
+        (agree-stages R siteOf (line J row₀) (line J row₁) (pos J row₀) (pos J row₁) (tallCount J) (wide-line row₀)
+        (wide-line row₁) (line-talls J row₀) (line-talls J row₁) (same-options J)
         (by f row₀) (by f row₁) (legal-agree f p))
 
     -- stages to the end join to a legal placement that costs what they cost
     pub join : A → (x : ℕ) → StagesTo x → (f : ℕ → A) × LegalPair R siteOf J f × (total siteOf J f ≡ x)
     join d x s =
         let r =
-        stages-agree R siteOf (line J row₀) (line J row₁) (pos J row₀) (pos J row₁) (tallCount J) (wide-line row₀) (wide-line row₁) (line-talls J row₀) (line-talls J row₁) (same-options J) d x s
+        stages-agree R siteOf (line J row₀) (line J row₁) (pos J row₀) (pos J row₁) (tallCount J) (wide-line row₀)
+        (wide-line row₁) (line-talls J row₀) (line-talls J row₁) (same-options J) d x s
         in
         let f = joinRows (r .0) (r .1) in
         let i₀ = is₀ (r .0) (r .1) (r .2) in
         let i₁ = is₁ (r .0) (r .1) (r .2) in
         (f, agree-legal f (r .0) (r .1) (r .2) i₀ i₁, agree-total f (r .0) (r .1) (r .2) i₀ i₁ ∙ r .3)
 
-    -- what a trace owes: a path to the end of each row, the tall cells with the same poses in both, and a placement that has the paths' poses
+    -- what a trace owes: a path to the end of each row, the tall cells with the same poses in
+    -- both, and a placement that has the paths' poses
     pub traced : A → (f : ℕ → A) (ps : List A) (x₀ x₁ : ℕ) → length ps ≡ tallCount J
-        → (u₀ : Upto R siteOf (line J row₀) (last R siteOf (line J row₀)) (picks (pos J row₀) 0 ps) x₀) → along (by f row₀) (cells (u₀ .path)) ≡ u₀ .path
-        → (u₁ : Upto R siteOf (line J row₁) (last R siteOf (line J row₁)) (picks (pos J row₁) 0 ps) x₁) → along (by f row₁) (cells (u₁ .path)) ≡ u₁ .path
+        → (u₀ : Upto R siteOf (line J row₀) (last R siteOf (line J row₀)) (picks (pos J row₀) 0 ps) x₀)
+        → along (by f row₀) (cells (u₀ .path)) ≡ u₀ .path
+        → (u₁ : Upto R siteOf (line J row₁) (last R siteOf (line J row₁)) (picks (pos J row₁) 0 ps) x₁)
+        → along (by f row₁) (cells (u₁ .path)) ≡ u₁ .path
         → LegalPair R siteOf J f × (total siteOf J f ≡ x₀ + x₁)
     traced d f ps x₀ x₁ s u₀ b₀ u₁ b₁ =
         let r =
-        paths-agree R siteOf (line J row₀) (line J row₁) (pos J row₀) (pos J row₁) (tallCount J) (wide-line row₀) (wide-line row₁) (line-talls J row₀) (line-talls J row₁) (same-options J)
+        paths-agree R siteOf (line J row₀) (line J row₁) (pos J row₀) (pos J row₁) (tallCount J) (wide-line row₀)
+        (wide-line row₁) (line-talls J row₀) (line-talls J row₁) (same-options J)
         d (by f row₀) (by f row₁) ps x₀ x₁ s u₀ b₀ u₁ b₁
-        in
-        (agree-legal f (by f row₀) (by f row₁) (r .0) (λ p h. refl) (λ p h. refl), agree-total f (by f row₀) (by f row₁) (r .0) (λ p h. refl) (λ p h. refl) ∙ r .1)
+        in (
+          agree-legal f (by f row₀) (by f row₁) (r .0) (λ p h. refl) (λ p h. refl),
+          agree-total f (by f row₀) (by f row₁) (r .0) (λ p h. refl) (λ p h. refl) ∙ r .1,
+        )
 
     -- no legal placement is cheaper than the answer
     pub answer-below : (f : ℕ → A) → LegalPair R siteOf J f → answer ⊑ total siteOf J f
     answer-below f p =
-        table-below R siteOf (line J row₀) (line J row₁) (pos J row₀) (pos J row₁) (tallCount J) (ending R siteOf (line J row₀) (line J row₁) (pos J row₀) (pos J row₁)) (total siteOf J f) (cut f p)
+        table-below R siteOf (line J row₀) (line J row₁) (pos J row₀) (pos J row₁) (tallCount J)
+        (ending R siteOf (line J row₀) (line J row₁) (pos J row₀) (pos J row₁)) (total siteOf J f) (cut f p)
 
     -- if there is an answer, some legal placement costs just that
     pub answer-met : A → (x : ℕ) → answer ≡ some x → (f : ℕ → A) × LegalPair R siteOf J f × (total siteOf J f ≡ x)
     answer-met d x e =
         join d x
-        (table-met R siteOf (line J row₀) (line J row₁) (pos J row₀) (pos J row₁) (tallCount J) (ending R siteOf (line J row₀) (line J row₁) (pos J row₀) (pos J row₁)) x e)
+        (table-met R siteOf (line J row₀) (line J row₁) (pos J row₀) (pos J row₁) (tallCount J)
+        (ending R siteOf (line J row₀) (line J row₁) (pos J row₀) (pos J row₁)) x e)
 
     -- there is no answer just if no placement is legal
     pub answer-none : A → (answer ≡ none) ↔ ((f : ℕ → A) → ¬ LegalPair R siteOf J f)

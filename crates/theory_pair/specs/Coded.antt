@@ -54,14 +54,16 @@ coded-add B none b = omega arith
 coded-add B (some a) none = omega arith
 coded-add B (some a) (some b) = omega arith
 
-pub coded-least : {S : Type 0} (B : ℕ) (f : S → Option ℕ) (l : List S) → coded B (leastOf f l) ≡ lowest B (λ u. coded B (f u)) l
+pub coded-least : {S : Type 0} (B : ℕ) (f : S → Option ℕ) (l : List S)
+    → coded B (leastOf f l) ≡ lowest B (λ u. coded B (f u)) l
 unfolding leastOf lowest coded
 coded-least B f [] = refl
 coded-least B f (u ∷ l) = coded-lower B (f u) (leastOf f l) ∙ ap (λ x. min (coded B (f u)) x) (coded-least B f l)
 
 -- an entry of a layer, from the codes of the layer before
 pub coded-layer : {S : Type 0} (B : ℕ) (states : ℕ → List S) (step : ℕ → S → S → Option ℕ) (s : S) (j : ℕ) (t : S)
-    → coded B (layer states step s (suc j) t) ≡ lowest B (λ u. coded B (add (layer states step s j u) (step (suc j) u t))) (states j)
+    → coded B (layer states step s (suc j) t)
+    ≡ lowest B (λ u. coded B (add (layer states step s j u) (step (suc j) u t))) (states j)
 unfolding layer
 coded-layer B states step s j t = coded-least B (λ u. add (layer states step s j u) (step (suc j) u t)) (states j)
 
@@ -72,19 +74,23 @@ unfolding lowest
 lowest-low B h [] = omega arith
 lowest-low B h (u ∷ l) = let r = lowest-low B h l in omega arith
 
-pub lowest-append : {S : Type 0} (B : ℕ) (h : S → ℕ) (l m : List S) → lowest B h (l ++ m) ≡ min (lowest B h l) (lowest B h m)
+pub lowest-append : {S : Type 0} (B : ℕ) (h : S → ℕ) (l m : List S)
+    → lowest B h (l ++ m) ≡ min (lowest B h l) (lowest B h m)
 unfolding lowest
 lowest-append B h [] m = omega (arith, lowest-low B h m)
 lowest-append B h (u ∷ l) m = let r = lowest-append B h l m in omega arith
 
 -- a loop in a loop
-pub lowest-each : {A S : Type 0} (B : ℕ) (h : S → ℕ) (l : List A) (f : A → List S) → lowest B h (each l f) ≡ lowest B (λ a. lowest B h (f a)) l
+pub lowest-each : {A S : Type 0} (B : ℕ) (h : S → ℕ) (l : List A) (f : A → List S)
+    → lowest B h (each l f) ≡ lowest B (λ a. lowest B h (f a)) l
 unfolding lowest each
 lowest-each B h [] f = refl
-lowest-each B h (a ∷ l) f = lowest-append B h (f a) (each l f) ∙ ap (λ x. min (lowest B h (f a)) x) (lowest-each B h l f)
+lowest-each B h (a ∷ l) f =
+    lowest-append B h (f a) (each l f) ∙ ap (λ x. min (lowest B h (f a)) x) (lowest-each B h l f)
 
 -- a loop with a test in it
-pub lowest-pick : (B : ℕ) (h : ℕ → ℕ) (t : ℕ → Bool) (l : List ℕ) → lowest B h (pick t l) ≡ lowest B (λ k. cond (t k) (h k) B) l
+pub lowest-pick : (B : ℕ) (h : ℕ → ℕ) (t : ℕ → Bool) (l : List ℕ)
+    → lowest B h (pick t l) ≡ lowest B (λ k. cond (t k) (h k) B) l
 unfolding lowest pick
 lowest-pick B h t [] = refl
 lowest-pick B h t (k ∷ l) = go (t k) (lowest-pick B h t l)

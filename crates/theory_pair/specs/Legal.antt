@@ -1,5 +1,5 @@
--- A pair of rows by its cells, numbered from 0 in file order, each in row 0, in row 1 or tall; one pose for each. Which placements are legal, and what
--- they cost.
+-- A pair of rows by its cells, numbered from 0 in file order, each in row 0, in row 1 or tall; one pose for each.
+-- Which placements are legal, and what they cost.
 use mathlib.Core.Path.{_≡_}
 use mathlib.Core.List.{List, List·Memᴰ as In}
 use mathlib.Core.Bool.{Bool, true, false}
@@ -83,5 +83,6 @@ module _ {A : Type 0} (siteOf : A → ℕ) (J : Job A) (f : ℕ → A) where
 pub record LegalPair {A : Type 0} (R : ℕ) (siteOf : A → ℕ) (J : Job A) (f : ℕ → A) : Type 0 where
   pub offered : (k : ℕ) → k < J .count → In (f k) (J .offers k)
   pub rows : (s : Side) → RowLegal R (site siteOf J f) (width siteOf J f) (members J s)
-  pub inOrder : (j k : ℕ) → j < k → k < J .count → isTall (J .kind j) ≡ true → isTall (J .kind k) ≡ true → siteOf (f j) ≤ siteOf (f k)
+  pub inOrder : (j k : ℕ) → j < k → k < J .count → isTall (J .kind j) ≡ true → isTall (J .kind k) ≡ true
+      → siteOf (f j) ≤ siteOf (f k)
   pub ended : (s : Side) → RowEnded siteOf J f s

@@ -21,7 +21,8 @@ unfolding lowest
 lowest-same B h g [] e = refl
 lowest-same B h g (u ∷ l) e = ap₂ min (e u) (lowest-same B h g l e)
 
-lowest-single : {S : Type 0} (B : ℕ) (h : S → ℕ) (t : Bool) (l : List S) → lowest B h (ifSingle t l) ≡ cond t B (lowest B h l)
+lowest-single : {S : Type 0} (B : ℕ) (h : S → ℕ) (t : Bool) (l : List S)
+    → lowest B h (ifSingle t l) ≡ cond t B (lowest B h l)
 unfolding lowest ifSingle
 lowest-single B h true l = refl
 lowest-single B h false l = refl
@@ -63,11 +64,14 @@ module _ {A : Type 0} (B R : ℕ) (siteOf : A → ℕ) (L : Line A) (s : State A
       lowest-each B h (goodMarks R) _ ∙ lowest-same B _ _ (goodMarks R) (λ m. at (s .0 + suc j, m, some (k, a))))))
     where
       h : State A → ℕ
-      h u = coded B (add (layer (λ i. singles R siteOf L (s .0 + suc i)) (λ i u v. move R siteOf L u v) s j u) (move R siteOf L u t))
+      h u = coded B (add (layer (λ i. singles R siteOf L (s .0 + suc i)) (λ i u v. move R siteOf L u v) s j u)
+          (move R siteOf L u t))
 
       at : (u : State A) → lowest B h (u ∷ [])
-          ≡ min (coded B (layer (λ i. singles R siteOf L (s .0 + suc i)) (λ i u v. move R siteOf L u v) s j u) + coded B (move R siteOf L u t)) B
-      at u = let e = coded-add B (layer (λ i. singles R siteOf L (s .0 + suc i)) (λ i u v. move R siteOf L u v) s j u) (move R siteOf L u t) in
+          ≡ min (coded B (layer (λ i. singles R siteOf L (s .0 + suc i)) (λ i u v. move R siteOf L u v) s j u)
+          + coded B (move R siteOf L u t)) B
+      at u = let e = coded-add B (layer (λ i. singles R siteOf L (s .0 + suc i)) (λ i u v. move R siteOf L u v) s j u)
+          (move R siteOf L u t) in
           lowest-one B h u (omega arith) ∙ e
 
   -- a state that no move leads to has no cost: a loop may pass over it
@@ -76,7 +80,8 @@ module _ {A : Type 0} (B R : ℕ) (siteOf : A → ℕ) (L : Line A) (s : State A
   entry-none zero t n = none-coded (move R siteOf L s t) (λ x e. n s x (move-met R siteOf L s t x e))
   entry-none (suc j) t n =
       none-coded (layer (λ i. singles R siteOf L (s .0 + suc i)) (λ i u v. move R siteOf L u v) s (suc j) t)
-      (λ x e. let r = layer-source (λ i. singles R siteOf L (s .0 + suc i)) (λ i u v y. Move R siteOf L u v y) (λ i u v. move R siteOf L u v) s j t x e in
+      (λ x e. let r = layer-source (λ i. singles R siteOf L (s .0 + suc i)) (λ i u v y. Move R siteOf L u v y)
+      (λ i u v. move R siteOf L u v) s j t x e in
       n (r .0) (r .3) (move-met R siteOf L (r .0) t (r .3) (r .5)))
 
   pub entry-outside : (j i m k : ℕ) (a : A) → L .size ≤ k → entry j (i, m, some (k, a)) ≡ B
@@ -94,25 +99,30 @@ module _ {A : Type 0} (B R : ℕ) (siteOf : A → ℕ) (L₀ L₁ : Line A) (pos
 
   pub case-first : (c : Case A) → caseEntry 0 c ≡ costs (opening R siteOf L₀ L₁ pos₀ pos₁) c
   unfolding caseEntry table layer stageLeast
-  case-first c = coded-add B (least R siteOf L₀ (opening R siteOf L₀ L₁ pos₀ pos₁ .0) (c .0)) (least R siteOf L₁ (opening R siteOf L₀ L₁ pos₀ pos₁ .1) (c .1))
+  case-first c = coded-add B (least R siteOf L₀ (opening R siteOf L₀ L₁ pos₀ pos₁ .0) (c .0))
+      (least R siteOf L₁ (opening R siteOf L₀ L₁ pos₀ pos₁ .1) (c .1))
 
   -- over the poses of tall cell I, and its place and marks in each row
   pub case-next : (I : ℕ) (c : Case A) → caseEntry (suc I) c
       ≡ lowest B (λ a. lowest B (λ s. lowest B (λ t.
-      min (caseEntry I ((s .0, s .1, some (pos₀ I, a)), (t .0, t .1, some (pos₁ I, a))) + costs ((s .0, s .1, some (pos₀ I, a)), (t .0, t .1, some (pos₁ I, a))) c) B)
+      min (caseEntry I ((s .0, s .1, some (pos₀ I, a)), (t .0, t .1, some (pos₁ I, a)))
+      + costs ((s .0, s .1, some (pos₀ I, a)), (t .0, t .1, some (pos₁ I, a))) c) B)
       (spots R (pos₁ I))) (spots R (pos₀ I))) (L₀ .options (pos₀ I))
   unfolding caseEntry table cases stageLeast
   case-next I c =
-      coded-layer B (cases R siteOf L₀ L₁ pos₀ pos₁) (stageLeast R siteOf L₀ L₁ pos₀ pos₁) (opening R siteOf L₀ L₁ pos₀ pos₁) I c
+      coded-layer B (cases R siteOf L₀ L₁ pos₀ pos₁) (stageLeast R siteOf L₀ L₁ pos₀ pos₁)
+      (opening R siteOf L₀ L₁ pos₀ pos₁) I c
       ∙ lowest-each B h (L₀ .options (pos₀ I)) _
       ∙ lowest-same B _ _ (L₀ .options (pos₀ I)) (λ a.
       lowest-each B h (spots R (pos₀ I)) _
       ∙ lowest-same B _ _ (spots R (pos₀ I)) (λ s.
       lowest-each B h (spots R (pos₁ I)) _
-      ∙ lowest-same B _ _ (spots R (pos₁ I)) (λ t. at ((s .0, s .1, some (pos₀ I, a)), (t .0, t .1, some (pos₁ I, a))))))
+      ∙ lowest-same B _ _ (spots R (pos₁ I))
+      (λ t. at ((s .0, s .1, some (pos₀ I, a)), (t .0, t .1, some (pos₁ I, a))))))
     where
       before : Case A → Option ℕ
-      before u = layer (cases R siteOf L₀ L₁ pos₀ pos₁) (stageLeast R siteOf L₀ L₁ pos₀ pos₁) (opening R siteOf L₀ L₁ pos₀ pos₁) I u
+      before u = layer (cases R siteOf L₀ L₁ pos₀ pos₁) (stageLeast R siteOf L₀ L₁ pos₀ pos₁)
+          (opening R siteOf L₀ L₁ pos₀ pos₁) I u
 
       costIf : Case A → Option ℕ
       costIf u = add (least R siteOf L₀ (u .0) (c .0)) (least R siteOf L₁ (u .1) (c .1))

@@ -1,4 +1,5 @@
--- A row as a list of cells: the cells of the list, and their positions in it. What is said of the cells is said of the positions.
+-- A row as a list of cells: the cells of the list, and their positions in it. What is
+-- said of the cells is said of the positions.
 use mathlib.Core.Path.{_≡_, refl, sym, ap, ap₂, _∙_, subst}
 use mathlib.Core.Logic.{_≢_, _↔_, _⊎_, inl, inr}
 use mathlib.Core.List.{List, [], _∷_, _++_, List·Memᴰ as In, List·Memᴰ·head as here, List·Memᴰ·tail as there, Memᴰ·cast}
@@ -72,7 +73,8 @@ put-images site c k [] = refl
 put-images site c k (x ∷ l) = go (leb (site (c k)) (site (c x))) (put-images site c k l)
   where
     go : (t : Bool) → put site (c k) (images c l) ≡ images c (put (λ p. site (c p)) k l)
-        → cond t (c k ∷ c x ∷ images c l) (c x ∷ put site (c k) (images c l)) ≡ images c (cond t (k ∷ x ∷ l) (x ∷ put (λ p. site (c p)) k l))
+        → cond t (c k ∷ c x ∷ images c l) (c x ∷ put site (c k) (images c l))
+        ≡ images c (cond t (k ∷ x ∷ l) (x ∷ put (λ p. site (c p)) k l))
     go true e = refl
     go false e = ap (λ y. c x ∷ y) e
 
@@ -86,18 +88,22 @@ pub sort-order : (site : ℕ → ℕ) (ms : List ℕ) → sort site ms ≡ image
 unfolding order
 sort-order site ms = ap (sort site) (sym (images-all ms)) ∙ sort-images site (at ms) (from 0 (length ms))
 
-images-place : (c : ℕ → ℕ) (p : ℕ) (l : List ℕ) → ((x : ℕ) → In x l → c p ≡ c x → p ≡ x) → place (c p) (images c l) ≡ place p l
+images-place : (c : ℕ → ℕ) (p : ℕ) (l : List ℕ) → ((x : ℕ) → In x l → c p ≡ c x → p ≡ x)
+    → place (c p) (images c l) ≡ place p l
 unfolding place images
 images-place c p [] h = refl
-images-place c p (x ∷ l) h = go (eqb (c p) (c x)) (eqb p x) (eq? (c p) (c x)) (eq? p x) (images-place c p l (λ y m. h y (there m)))
+images-place c p (x ∷ l) h =
+    go (eqb (c p) (c x)) (eqb p x) (eq? (c p) (c x)) (eq? p x) (images-place c p l (λ y m. h y (there m)))
   where
-    go : (t u : Bool) → Eq? (c p) (c x) t → Eq? p x u → place (c p) (images c l) ≡ place p l → cond t 0 (suc (place (c p) (images c l))) ≡ cond u 0 (suc (place p l))
+    go : (t u : Bool) → Eq? (c p) (c x) t → Eq? p x u → place (c p) (images c l) ≡ place p l
+        → cond t 0 (suc (place (c p) (images c l))) ≡ cond u 0 (suc (place p l))
     go true true a b e = refl
     go true false (same a) (differs b) e = absurd (b (h x (here refl) a))
     go false true (differs a) (same b) e = absurd (a (ap c b))
     go false false a b e = ap suc e
 
-next-images : (P : ℕ → ℕ → Type 0) (c : ℕ → ℕ) (a : ℕ) (l : List ℕ) → Next P (c a) (images c l) ↔ Next (λ x y. P (c x) (c y)) a l
+next-images : (P : ℕ → ℕ → Type 0) (c : ℕ → ℕ) (a : ℕ) (l : List ℕ)
+    → Next P (c a) (images c l) ↔ Next (λ x y. P (c x) (c y)) a l
 unfolding images
 next-images P c a [] = (λ h. tt, λ h. tt)
 next-images P c a (b ∷ l) = let r = next-images P c b l in (λ h. (h .0, r .0 (h .1)), λ h. (h .0, r .1 (h .1)))
@@ -112,22 +118,27 @@ unfolding images
 lastFrom-images c a [] = refl
 lastFrom-images c a (b ∷ l) = lastFrom-images c b l
 
-pub ended-images : (opens closes : ℕ → Bool) (c : ℕ → ℕ) (l : List ℕ) → Ended opens closes (images c l) ↔ Ended (λ p. opens (c p)) (λ p. closes (c p)) l
+pub ended-images : (opens closes : ℕ → Bool) (c : ℕ → ℕ) (l : List ℕ)
+    → Ended opens closes (images c l) ↔ Ended (λ p. opens (c p)) (λ p. closes (c p)) l
 unfolding images
 ended-images opens closes c [] = (λ h. tt, λ h. tt)
-ended-images opens closes c (a ∷ l) = let e = ap closes (lastFrom-images c a l) in (λ h. (h .0, sym e ∙ h .1), λ h. (h .0, e ∙ h .1))
+ended-images opens closes c (a ∷ l) =
+    let e = ap closes (lastFrom-images c a l) in
+    (λ h. (h .0, sym e ∙ h .1), λ h. (h .0, e ∙ h .1))
 
 pub sum-images : (f c : ℕ → ℕ) (l : List ℕ) → sum f (images c l) ≡ sum (λ p. f (c p)) l
 unfolding sum images
 sum-images f c [] = refl
 sum-images f c (p ∷ l) = ap (λ x. f (c p) + x) (sum-images f c l)
 
-sumNext-images : (f : ℕ → ℕ → ℕ) (c : ℕ → ℕ) (a : ℕ) (l : List ℕ) → sumNext f (c a) (images c l) ≡ sumNext (λ x y. f (c x) (c y)) a l
+sumNext-images : (f : ℕ → ℕ → ℕ) (c : ℕ → ℕ) (a : ℕ) (l : List ℕ)
+    → sumNext f (c a) (images c l) ≡ sumNext (λ x y. f (c x) (c y)) a l
 unfolding sumNext images
 sumNext-images f c a [] = refl
 sumNext-images f c a (b ∷ l) = ap (λ x. f (c a) (c b) + x) (sumNext-images f c b l)
 
-pub sumNeighbours-images : (f : ℕ → ℕ → ℕ) (c : ℕ → ℕ) (l : List ℕ) → sumNeighbours f (images c l) ≡ sumNeighbours (λ x y. f (c x) (c y)) l
+pub sumNeighbours-images : (f : ℕ → ℕ → ℕ) (c : ℕ → ℕ) (l : List ℕ)
+    → sumNeighbours f (images c l) ≡ sumNeighbours (λ x y. f (c x) (c y)) l
 unfolding images
 sumNeighbours-images f c [] = refl
 sumNeighbours-images f c (a ∷ l) = sumNext-images f c a l
@@ -152,33 +163,40 @@ module _ (R : ℕ) (site wide : ℕ → ℕ) (ms : List ℕ) (d : Distinct ms) w
   place-sorted : (p : ℕ) → p < length ms → place (at ms p) (sort site ms) ≡ place p (order siteAt (length ms))
   place-sorted p h =
       ap (place (at ms p)) (sort-order site ms)
-      ∙ images-place (at ms) p (order siteAt (length ms)) (λ x m e. injective p x h (order-below siteAt (length ms) x m) e)
+      ∙ images-place (at ms) p (order siteAt (length ms))
+      (λ x m e. injective p x h (order-below siteAt (length ms) x m) e)
 
   pub row-positions : RowLegal R site wide ms → Legal R siteAt wideAt (length ms)
   row-positions r = record {
     rule4 = λ a b p q n. r .rule4 (at ms a) (at ms b) (at-in ms a p) (at-in ms b q) (λ e. n (injective a b p q e));
-    rule5 = chain-images (NoGapOne site wide) (at ms) (order siteAt (length ms)) .0 (subst (λ l. Chain (NoGapOne site wide) l) (sort-order site ms) (r .rule5));
-    rule6 = λ k h. let a = r .rule6 (at ms k) (at-in ms k h) in let b = place-sorted k h in let c = place-at ms k d h in omega arith;
+    rule5 = chain-images (NoGapOne site wide) (at ms) (order siteAt (length ms)) .0
+        (subst (λ l. Chain (NoGapOne site wide) l) (sort-order site ms) (r .rule5));
+    rule6 = λ k h. let a = r .rule6 (at ms k) (at-in ms k h) in let b = place-sorted k h in
+        let c = place-at ms k d h in omega arith;
   }
 
   pub positions-row : Legal R siteAt wideAt (length ms) → RowLegal R site wide ms
   positions-row r = record {
     rule4 = λ a b p q n. four a b (at-place ms a p) (at-place ms b q) n;
-    rule5 = subst (λ l. Chain (NoGapOne site wide) l) (sym (sort-order site ms)) (chain-images (NoGapOne site wide) (at ms) (order siteAt (length ms)) .1 (r .rule5));
+    rule5 = subst (λ l. Chain (NoGapOne site wide) l) (sym (sort-order site ms))
+        (chain-images (NoGapOne site wide) (at ms) (order siteAt (length ms)) .1 (r .rule5));
     rule6 = λ k m. six k (at-place ms k m);
   }
     where
-      four : (a b : ℕ) → (at ms (place a ms) ≡ a) × (place a ms < length ms) → (at ms (place b ms) ≡ b) × (place b ms < length ms) → a ≢ b → Clear site wide a b ⊎ Clear site wide b a
+      four : (a b : ℕ) → (at ms (place a ms) ≡ a) × (place a ms < length ms)
+          → (at ms (place b ms) ≡ b) × (place b ms < length ms) → a ≢ b → Clear site wide a b ⊎ Clear site wide b a
       four a b p q n =
           subst (λ x. Clear site wide x b ⊎ Clear site wide b x) (p .0)
           (subst (λ y. Clear site wide (at ms (place a ms)) y ⊎ Clear site wide y (at ms (place a ms))) (q .0)
           (r .rule4 (place a ms) (place b ms) (p .1) (q .1) (λ e. n (sym (p .0) ∙ ap (at ms) e ∙ q .0))))
 
-      six : (k : ℕ) → (at ms (place k ms) ≡ k) × (place k ms < length ms) → (place k (sort site ms) ≤ place k ms + R) × (place k ms ≤ place k (sort site ms) + R)
+      six : (k : ℕ) → (at ms (place k ms) ≡ k) × (place k ms < length ms)
+          → (place k (sort site ms) ≤ place k ms + R) × (place k ms ≤ place k (sort site ms) + R)
       six k p =
           let a = r .rule6 (place k ms) (p .1) in
           let b = place-sorted (place k ms) (p .1) in
-          let c : place (at ms (place k ms)) (sort site ms) ≡ place k (sort site ms) = ap (λ x. place x (sort site ms)) (p .0) in
+          let c : place (at ms (place k ms)) (sort site ms) ≡ place k (sort site ms) =
+          ap (λ x. place x (sort site ms)) (p .0) in
           omega arith
 
 -- the numbers from a on rise, and so does what is picked from them

@@ -1,8 +1,10 @@
--- Two rows that share their tall cells. A case of a tall cell is the state of each row just after it. Stages go from case to case, over the single
--- cells of either row; a legal pair of rows is cut into stages, and stages join to a legal pair, at the same cost.
+-- Two rows that share their tall cells. A case of a tall cell is the state of each row just after it. Stages
+-- go from case to case, over the single cells of either row; a legal pair of rows is cut into stages, and
+-- stages join to a legal pair, at the same cost.
 use mathlib.Core.Path.{_≡_, refl, sym, ap, ap₂, _∙_, subst}
 use mathlib.Core.Logic.{_≢_, _↔_, _⊎_, inl, inr}
-use mathlib.Core.List.{List, [], _∷_, _++_, List·Memᴰ as In, List·Memᴰ·head as here, List·Memᴰ·tail as there, List·Memᴰ·eq-of-singleton}
+use mathlib.Core.List.{List, [], _∷_, _++_, List·Memᴰ as In, List·Memᴰ·head as here}
+use mathlib.Core.List.{List·Memᴰ·tail as there, List·Memᴰ·eq-of-singleton}
 use mathlib.Core.Option.{Option, none, some}
 use mathlib.Core.Bool.{Bool, true, false, cond}
 use Prim.Native.Nat.{ℕ, zero, suc, _+_, _-_, _*_, _^_, _≤_, _<_}
@@ -14,10 +16,15 @@ use Rattle.theory_row.specs.Order.{order, order-below, order-all, order-size, R
 use Rattle.theory_row.specs.Cheapest.{_⊑_}
 use Rattle.theory_row.specs.Window.{start, step, May, Good, good-start, good-step}
 use Rattle.theory_row.specs.Choices.{cells, chosen, along, cells-along, along-chosen, along-size, cells-size}
-use Rattle.theory_pair.specs.Forward.{each, in-each, each-in, add, add-below, add-met, Trail, layer, layer-below, layer-met}
+use Rattle.theory_pair.specs.Forward.{each, in-each, each-in, add, add-below}
+use Rattle.theory_pair.specs.Forward.{add-met, Trail, layer, layer-below, layer-met}
 use Rattle.theory_pair.specs.Pick.{goodMarks, in-goodMarks}
-use Rattle.theory_pair.specs.Segment.{Line, Choice, State, Goes, Ok, Done, next, first, last, cost, charge, after, Move, Way, least, least-below, least-met, Plain, Listed, segment-list, list-way, next-move, goes-append, goes-good, after-append, after-size, cost-append}
-use Rattle.theory_pair.specs.Whole.{siteIn, wideIn, mine, ours, rowTotal, Placed, Wide, placed-goes, placed-cost, placed-rising, goes-placed, goes-along, tallOf, picks}
+use Rattle.theory_pair.specs.Segment.{Line, Choice, State, Goes, Ok, Done, next, first, last, cost}
+use Rattle.theory_pair.specs.Segment.{charge, after, Move, Way, least, least-below, least-met}
+use Rattle.theory_pair.specs.Segment.{Plain, Listed, segment-list, list-way, next-move, goes-append}
+use Rattle.theory_pair.specs.Segment.{goes-good, after-append, after-size, cost-append}
+use Rattle.theory_pair.specs.Whole.{siteIn, wideIn, mine, ours, rowTotal, Placed, Wide, placed-goes}
+use Rattle.theory_pair.specs.Whole.{placed-cost, placed-rising, goes-placed, goes-along, tallOf, picks}
 
 -- ---- one row: its tall ones in a list
 
@@ -27,7 +34,8 @@ module _ {A : Type 0} (L : Line A) where
   none-plain [] e = tt
   none-plain (c ∷ p) e = go (L .tall (c .0)) refl e (none-plain p)
     where
-      go : (t : Bool) → L .tall (c .0) ≡ t → cond t (c ∷ tallOf L p) (tallOf L p) ≡ [] → (tallOf L p ≡ [] → Plain 0 (λ a. 0) L p) → (L .tall (c .0) ≡ false) × Plain 0 (λ a. 0) L p
+      go : (t : Bool) → L .tall (c .0) ≡ t → cond t (c ∷ tallOf L p) (tallOf L p) ≡ []
+          → (tallOf L p ≡ [] → Plain 0 (λ a. 0) L p) → (L .tall (c .0) ≡ false) × Plain 0 (λ a. 0) L p
       go true z e f = absurd (let y : _≡_ {A = ℕ} 0 1 = cc in omega arith)
       go false z e f = (z, f e)
 
@@ -41,11 +49,13 @@ module _ {A : Type 0} (L : Line A) where
   tallOf-append [] q = refl
   tallOf-append (c ∷ p) q = go (L .tall (c .0)) (tallOf-append p q)
     where
-      go : (t : Bool) → tallOf L (p ++ q) ≡ tallOf L p ++ tallOf L q → cond t (c ∷ tallOf L (p ++ q)) (tallOf L (p ++ q)) ≡ cond t (c ∷ tallOf L p) (tallOf L p) ++ tallOf L q
+      go : (t : Bool) → tallOf L (p ++ q) ≡ tallOf L p ++ tallOf L q
+          → cond t (c ∷ tallOf L (p ++ q)) (tallOf L (p ++ q)) ≡ cond t (c ∷ tallOf L p) (tallOf L p) ++ tallOf L q
       go true e = ap (λ x. c ∷ x) e
       go false e = e
 
-  pub tallOf-one : (c : Choice A) (q : List (Choice A)) → L .tall (c .0) ≡ true → Plain 0 (λ a. 0) L q → tallOf L (c ∷ q) ≡ c ∷ []
+  pub tallOf-one : (c : Choice A) (q : List (Choice A)) → L .tall (c .0) ≡ true → Plain 0 (λ a. 0) L q
+      → tallOf L (c ∷ q) ≡ c ∷ []
   unfolding tallOf
   tallOf-one c q e h = ap (λ t. cond t (c ∷ tallOf L q) (tallOf L q)) e ∙ ap (λ x. c ∷ x) (plain-none q h)
 
@@ -61,13 +71,23 @@ module _ {A : Type 0} (L : Line A) where
   split [] c ts e = absurd (let y : _≡_ {A = ℕ} 0 1 = cc in omega arith)
   split (x ∷ p) c ts e = go (L .tall (x .0)) refl e (split p c ts)
     where
-      go : (t : Bool) → L .tall (x .0) ≡ t → cond t (x ∷ tallOf L p) (tallOf L p) ≡ c ∷ ts → (tallOf L p ≡ c ∷ ts → Split p c ts) → Split (x ∷ p) c ts
-      go true z e f = let h : x ≡ c = cc in record { before = []; beyond = p; whole = ap (λ y. y ∷ p) h; plain = tt; talls = cc }
+      go : (t : Bool) → L .tall (x .0) ≡ t → cond t (x ∷ tallOf L p) (tallOf L p) ≡ c ∷ ts
+          → (tallOf L p ≡ c ∷ ts → Split p c ts) → Split (x ∷ p) c ts
+      go true z e f =
+          let h : x ≡ c = cc in
+          record { before = []; beyond = p; whole = ap (λ y. y ∷ p) h; plain = tt; talls = cc }
       go false z e f =
           let r = f e in
-          record { before = x ∷ r .before; beyond = r .beyond; whole = ap (λ y. x ∷ y) (r .whole); plain = (z, r .plain); talls = r .talls }
+          record {
+            before = x ∷ r .before;
+            beyond = r .beyond;
+            whole = ap (λ y. x ∷ y) (r .whole);
+            plain = (z, r .plain);
+            talls = r .talls;
+          }
 
-pub picks-snoc : {A : Type 0} (pos : ℕ → ℕ) (i j : ℕ) (ps : List A) (a : A) → j ≡ i + length ps → picks pos i (ps ++ (a ∷ [])) ≡ picks pos i ps ++ ((pos j, a) ∷ [])
+pub picks-snoc : {A : Type 0} (pos : ℕ → ℕ) (i j : ℕ) (ps : List A) (a : A) → j ≡ i + length ps
+    → picks pos i (ps ++ (a ∷ [])) ≡ picks pos i ps ++ ((pos j, a) ∷ [])
 unfolding picks
 picks-snoc pos i j [] a e = let z : i ≡ j = omega arith in ap (λ x. (pos x, a) ∷ []) z
 picks-snoc pos i j (p ∷ ps) a e = ap (λ x. (pos i, p) ∷ x) (picks-snoc pos (suc i) j ps a (omega arith))
@@ -91,7 +111,8 @@ module _ {A : Type 0} (R : ℕ) (siteOf : A → ℕ) (L : Line A) where
     pub ends : after R siteOf L (place, marks, some (k, a)) rest ≡ after R siteOf L s p
     pub offered : In a (L .options k)
 
-  cut-at : (s : State A) (q r : List (Choice A)) (k : ℕ) (a : A) (ts : List (Choice A)) → Good R (s .1) → Plain R siteOf L q → tallOf L r ≡ ts
+  cut-at : (s : State A) (q r : List (Choice A)) (k : ℕ) (a : A) (ts : List (Choice A)) → Good R (s .1)
+      → Plain R siteOf L q → tallOf L r ≡ ts
       → Goes R siteOf L s (q ++ ((k, a) ∷ r)) → Cut s (q ++ ((k, a) ∷ r)) k a ts
   cut-at s q r k a ts h p e g =
       let c : Choice A = (k, a) in
@@ -107,7 +128,8 @@ module _ {A : Type 0} (R : ℕ) (siteOf : A → ℕ) (L : Line A) where
         marks = step R (u .0) (u .1) k;
         rest = r;
         costIf = cost R siteOf L s q + charge R siteOf L u c;
-        way = list-way R siteOf L s h q p (b .0) v (charge R siteOf L u c) (cost R siteOf L s q + charge R siteOf L u c) (next-move R siteOf L u c (b .1 .0)) refl refl;
+        way = list-way R siteOf L s h q p (b .0) v (charge R siteOf L u c) (cost R siteOf L s q + charge R siteOf L u c)
+            (next-move R siteOf L u c (b .1 .0)) refl refl;
         goes = b .1 .2;
         talls = e;
         good = good-step R (L .size) (u .0) (u .1) k (goes-good R siteOf L s q h (b .0)) may;
@@ -118,17 +140,21 @@ module _ {A : Type 0} (R : ℕ) (siteOf : A → ℕ) (L : Line A) where
         offered = b .1 .1;
       }
 
-  row-cut : (s : State A) (p : List (Choice A)) (k : ℕ) (a : A) (ts : List (Choice A)) → Good R (s .1) → Goes R siteOf L s p → tallOf L p ≡ (k, a) ∷ ts → Cut s p k a ts
+  row-cut : (s : State A) (p : List (Choice A)) (k : ℕ) (a : A) (ts : List (Choice A)) → Good R (s .1)
+      → Goes R siteOf L s p → tallOf L p ≡ (k, a) ∷ ts → Cut s p k a ts
   row-cut s p k a ts h g e =
       let r = split L p (k, a) ts e in
-      subst (λ x. Cut s x k a ts) (sym (r .whole)) (cut-at s (r .before) (r .beyond) k a ts h (r .plain) (r .talls) (subst (λ x. Goes R siteOf L s x) (r .whole) g))
+      subst (λ x. Cut s x k a ts) (sym (r .whole))
+      (cut-at s (r .before) (r .beyond) k a ts h (r .plain) (r .talls) (subst (λ x. Goes R siteOf L s x) (r .whole) g))
 
   -- a path with no tall cell, to the row's end
-  row-end : (s : State A) (p : List (Choice A)) → Good R (s .1) → Goes R siteOf L s p → tallOf L p ≡ [] → Done R siteOf L (after R siteOf L s p)
+  row-end : (s : State A) (p : List (Choice A)) → Good R (s .1) → Goes R siteOf L s p → tallOf L p ≡ []
+      → Done R siteOf L (after R siteOf L s p)
       → Way R siteOf L s (last R siteOf L) (cost R siteOf L s p)
   row-end s p h g e d =
       let z = d .0 in
-      list-way R siteOf L s h p (none-plain L p e) g (last R siteOf L) 0 (cost R siteOf L s p) ((d, (omega arith, refl)), refl) (omega arith) (omega arith)
+      list-way R siteOf L s h p (none-plain L p e) g (last R siteOf L) 0 (cost R siteOf L s p)
+      ((d, (omega arith, refl)), refl) (omega arith) (omega arith)
 
   -- a path from the row's start, and a move from there to t
   pub record Upto (t : State A) (ts : List (Choice A)) (x : ℕ) : Type 0 where
@@ -141,37 +167,51 @@ module _ {A : Type 0} (R : ℕ) (siteOf : A → ℕ) (L : Line A) where
 
   -- the first segment of a row, as a path
   unfoldable pub upto-begin : (j : ℕ) (t : State A) (x : ℕ) → Listed R siteOf L (first R siteOf L) j t x → Upto t [] x
-  upto-begin j t x l = record { path = l .path; goes = l .goes; talls = plain-none L (l .path) (l .plain); toll = l .toll; move = l .move; sum = l .sum }
+  upto-begin j t x l = record {
+    path = l .path;
+    goes = l .goes;
+    talls = plain-none L (l .path) (l .plain);
+    toll = l .toll;
+    move = l .move;
+    sum = l .sum;
+  }
 
   -- a path, on to a tall cell and over one segment more
-  unfoldable pub upto-on : (i m k j : ℕ) (a : A) (ts : List (Choice A)) (x y : ℕ) (t : State A) → Upto (i, m, some (k, a)) ts x → In a (L .options k) → L .tall k ≡ true
+  unfoldable pub upto-on : (i m k j : ℕ) (a : A) (ts : List (Choice A)) (x y : ℕ) (t : State A)
+      → Upto (i, m, some (k, a)) ts x → In a (L .options k) → L .tall k ≡ true
       → Listed R siteOf L (i, m, some (k, a)) j t y → Upto t (ts ++ ((k, a) ∷ [])) (x + y)
   upto-on i m k j a ts x y t u o e l =
       let c : Choice A = (k, a) in
       let f = first R siteOf L in
       let v = after R siteOf L f (u .path) in
       let p = l .path in
-      let same : _≡_ {A = State A} (i, m, some c) (next R siteOf L v c) = ap₂ (λ f g. (f, g, some c)) (u .move .0 .1 .0) (u .move .0 .1 .1) in
+      let same : _≡_ {A = State A} (i, m, some c) (next R siteOf L v c) =
+      ap₂ (λ f g. (f, g, some c)) (u .move .0 .1 .0) (u .move .0 .1 .1) in
       let e₁ = cost-append R siteOf L f (u .path) (c ∷ p) in
       let e₂ = u .sum in
       let e₃ = l .sum in
       let e₄ = u .move .1 in
-      let e₅ : cost R siteOf L (i, m, some c) p ≡ cost R siteOf L (next R siteOf L v c) p = ap (λ s. cost R siteOf L s p) same in
+      let e₅ : cost R siteOf L (i, m, some c) p ≡ cost R siteOf L (next R siteOf L v c) p =
+      ap (λ s. cost R siteOf L s p) same in
       record {
         path = u .path ++ (c ∷ p);
-        goes = goes-append R siteOf L f (u .path) (c ∷ p) .1 (u .goes, (u .move .0 .0, o, subst (λ s. Goes R siteOf L s p) same (l .goes)));
+        goes = goes-append R siteOf L f (u .path) (c ∷ p) .1
+            (u .goes, (u .move .0 .0, o, subst (λ s. Goes R siteOf L s p) same (l .goes)));
         talls = tallOf-append L (u .path) (c ∷ p) ∙ ap₂ _++_ (u .talls) (tallOf-one L c p e (l .plain));
         toll = l .toll;
-        move = subst (λ s. Move R siteOf L s t (l .toll)) (ap (λ s. after R siteOf L s p) same ∙ sym (after-append R siteOf L f (u .path) (c ∷ p))) (l .move);
+        move = subst (λ s. Move R siteOf L s t (l .toll))
+            (ap (λ s. after R siteOf L s p) same ∙ sym (after-append R siteOf L f (u .path) (c ∷ p))) (l .move);
         sum = omega arith;
       }
 
   upto-first : (t : State A) (x : ℕ) → Way R siteOf L (first R siteOf L) t x → Upto t [] x
   upto-first t x w = upto-begin (t .0 - 1) t x (segment-list R siteOf L (first R siteOf L) (t .0 - 1) t x w)
 
-  upto-more : (i m k : ℕ) (a : A) (ts : List (Choice A)) (x y : ℕ) (t : State A) → Upto (i, m, some (k, a)) ts x → In a (L .options k) → L .tall k ≡ true
+  upto-more : (i m k : ℕ) (a : A) (ts : List (Choice A)) (x y : ℕ) (t : State A) → Upto (i, m, some (k, a)) ts x
+      → In a (L .options k) → L .tall k ≡ true
       → Way R siteOf L (i, m, some (k, a)) t y → Upto t (ts ++ ((k, a) ∷ [])) (x + y)
-  upto-more i m k a ts x y t u o e w = upto-on i m k (t .0 - suc i) a ts x y t u o e (segment-list R siteOf L (i, m, some (k, a)) (t .0 - suc i) t y w)
+  upto-more i m k a ts x y t u o e w =
+      upto-on i m k (t .0 - suc i) a ts x y t u o e (segment-list R siteOf L (i, m, some (k, a)) (t .0 - suc i) t y w)
 
 -- ---- two rows
 
@@ -223,7 +263,8 @@ module _ {A : Type 0} (R : ℕ) (siteOf : A → ℕ) (L₀ L₁ : Line A) (pos�
       below : (j : ℕ) (u t : Case A) (y : ℕ) → Stage j u t y → stageLeast j u t ⊑ y
       below j u t y s =
           subst (λ v. stageLeast j u t ⊑ v) (s .4)
-          (add-below (least R siteOf L₀ (u .0) (t .0)) (least R siteOf L₁ (u .1) (t .1)) (s .0) (s .1) (least-below R siteOf L₀ (u .0) (t .0) (s .0) (s .2)) (least-below R siteOf L₁ (u .1) (t .1) (s .1) (s .3)))
+          (add-below (least R siteOf L₀ (u .0) (t .0)) (least R siteOf L₁ (u .1) (t .1)) (s .0) (s .1)
+          (least-below R siteOf L₀ (u .0) (t .0) (s .0) (s .2)) (least-below R siteOf L₁ (u .1) (t .1) (s .1) (s .3)))
 
   pub table-met : (I : ℕ) (c : Case A) (x : ℕ) → table I c ≡ some x → Stages I c x
   unfolding table stageLeast
@@ -231,8 +272,13 @@ module _ {A : Type 0} (R : ℕ) (siteOf : A → ℕ) (L₀ L₁ : Line A) (pos�
     where
       met : (j : ℕ) (u t : Case A) (y : ℕ) → stageLeast j u t ≡ some y → Stage j u t y
       met j u t y z =
-          let r = add-met (least R siteOf L₀ (u .0) (t .0)) (least R siteOf L₁ (u .1) (t .1)) y z in
-          (r .0, r .1, least-met R siteOf L₀ (u .0) (t .0) (r .0) (r .2), least-met R siteOf L₁ (u .1) (t .1) (r .1) (r .3), r .4)
+          let r = add-met (least R siteOf L₀ (u .0) (t .0)) (least R siteOf L₁ (u .1) (t .1)) y z in (
+            r .0,
+            r .1,
+            least-met R siteOf L₀ (u .0) (t .0) (r .0) (r .2),
+            least-met R siteOf L₁ (u .1) (t .1) (r .1) (r .3),
+            r .4,
+          )
 
   -- ---- stages join to two paths
 
@@ -245,8 +291,10 @@ module _ {A : Type 0} (R : ℕ) (siteOf : A → ℕ) (L₀ L₁ : Line A) (pos�
     pub row₁ : Upto R siteOf L₁ (c .1) (picks pos₁ 0 ps) x₁
     pub sum : x₀ + x₁ ≡ x
 
-  module _ (N : ℕ) (T₀ : Talls L₀ N pos₀) (T₁ : Talls L₁ N pos₁) (same : (I : ℕ) → I < N → L₀ .options (pos₀ I) ≡ L₁ .options (pos₁ I)) where
-    joined-more : (c t : Case A) (I x y : ℕ) → I < N → In c (cases I) → Joined c I x → Stage (suc I) c t y → Joined t (suc I) (x + y)
+  module _ (N : ℕ) (T₀ : Talls L₀ N pos₀) (T₁ : Talls L₁ N pos₁)
+      (same : (I : ℕ) → I < N → L₀ .options (pos₀ I) ≡ L₁ .options (pos₁ I)) where
+    joined-more : (c t : Case A) (I x y : ℕ) → I < N → In c (cases I) → Joined c I x → Stage (suc I) c t y
+        → Joined t (suc I) (x + y)
     unfolding cases spots picks
     joined-more c t I x y h m j s =
         let r₁ = each-in (L₀ .options (pos₀ I)) _ m in
@@ -257,12 +305,16 @@ module _ {A : Type 0} (R : ℕ) (siteOf : A → ℕ) (L₀ L₁ : Line A) (pos�
         let d₁ : State A = (r₃ .0 .0, r₃ .0 .1, some (pos₁ I, a)) in
         let e : c ≡ (d₀, d₁) = List·Memᴰ·eq-of-singleton (r₃ .2) in
         let z : I ≡ 0 + length (j .ps) = omega (arith, j .size) in
-        let u₀ : Upto R siteOf L₀ d₀ (picks pos₀ 0 (j .ps)) (j .x₀) = subst (λ w. Upto R siteOf L₀ (w .0) (picks pos₀ 0 (j .ps)) (j .x₀)) e (j .row₀) in
-        let u₁ : Upto R siteOf L₁ d₁ (picks pos₁ 0 (j .ps)) (j .x₁) = subst (λ w. Upto R siteOf L₁ (w .1) (picks pos₁ 0 (j .ps)) (j .x₁)) e (j .row₁) in
+        let u₀ : Upto R siteOf L₀ d₀ (picks pos₀ 0 (j .ps)) (j .x₀) =
+        subst (λ w. Upto R siteOf L₀ (w .0) (picks pos₀ 0 (j .ps)) (j .x₀)) e (j .row₀) in
+        let u₁ : Upto R siteOf L₁ d₁ (picks pos₁ 0 (j .ps)) (j .x₁) =
+        subst (λ w. Upto R siteOf L₁ (w .1) (picks pos₁ 0 (j .ps)) (j .x₁)) e (j .row₁) in
         let w₀ : Way R siteOf L₀ d₀ (t .0) (s .0) = subst (λ w. Way R siteOf L₀ (w .0) (t .0) (s .0)) e (s .2) in
         let w₁ : Way R siteOf L₁ d₁ (t .1) (s .1) = subst (λ w. Way R siteOf L₁ (w .1) (t .1) (s .1)) e (s .3) in
-        let v₀ = upto-more R siteOf L₀ (r₂ .0 .0) (r₂ .0 .1) (pos₀ I) a (picks pos₀ 0 (j .ps)) (j .x₀) (s .0) (t .0) u₀ (r₁ .1) (T₀ .tall I h) w₀ in
-        let v₁ = upto-more R siteOf L₁ (r₃ .0 .0) (r₃ .0 .1) (pos₁ I) a (picks pos₁ 0 (j .ps)) (j .x₁) (s .1) (t .1) u₁ (subst (λ l. In a l) (same I h) (r₁ .1)) (T₁ .tall I h) w₁ in
+        let v₀ = upto-more R siteOf L₀ (r₂ .0 .0) (r₂ .0 .1) (pos₀ I) a (picks pos₀ 0 (j .ps)) (j .x₀) (s .0) (t .0) u₀
+        (r₁ .1) (T₀ .tall I h) w₀ in
+        let v₁ = upto-more R siteOf L₁ (r₃ .0 .0) (r₃ .0 .1) (pos₁ I) a (picks pos₁ 0 (j .ps)) (j .x₁) (s .1) (t .1) u₁
+        (subst (λ l. In a l) (same I h) (r₁ .1)) (T₁ .tall I h) w₁ in
         let e₀ = j .size in
         let e₁ = j .sum in
         let e₂ = s .4 in
@@ -289,17 +341,21 @@ module _ {A : Type 0} (R : ℕ) (siteOf : A → ℕ) (L₀ L₁ : Line A) (pos�
       sum = s .4;
     }
     stages-joined (suc I) c x h s =
-        subst (λ y. Joined c (suc I) y) (s .6) (joined-more (s .0) c I (s .2) (s .3) (omega arith) (s .1) (stages-joined I (s .0) (s .2) (omega arith) (s .4)) (s .5))
+        subst (λ y. Joined c (suc I) y) (s .6) (joined-more (s .0) c I (s .2) (s .3) (omega arith) (s .1)
+        (stages-joined I (s .0) (s .2) (omega arith) (s .4)) (s .5))
 
     -- ---- two paths are cut into stages
 
     in-spots : (k i m : ℕ) → suc k - R ≤ i → i < suc k - R + suc (2 * R) → Good R m → In (i, m) (spots R k)
     unfolding spots
     in-spots k i m l h g =
-        in-each (from (suc k - R) (suc (2 * R))) _ (from-in i (suc k - R) (suc (2 * R)) l h) (in-each (goodMarks R) _ (in-goodMarks R m .1 g) (here refl))
+        in-each (from (suc k - R) (suc (2 * R))) _ (from-in i (suc k - R) (suc (2 * R)) l h)
+        (in-each (goodMarks R) _ (in-goodMarks R m .1 g) (here refl))
 
-    pub stages-go : (ps : List A) (I : ℕ) (c : Case A) (x z : ℕ) → I + length ps ≡ N → ((t : Case A) (y : ℕ) → Stage I c t y → Stages I t (x + y))
-        → Good R (c .0 .1) → Good R (c .1 .1) → (p₀ p₁ : List (Choice A)) → Goes R siteOf L₀ (c .0) p₀ → Goes R siteOf L₁ (c .1) p₁
+    pub stages-go : (ps : List A) (I : ℕ) (c : Case A) (x z : ℕ) → I + length ps ≡ N
+        → ((t : Case A) (y : ℕ) → Stage I c t y → Stages I t (x + y))
+        → Good R (c .0 .1) → Good R (c .1 .1) → (p₀ p₁ : List (Choice A)) → Goes R siteOf L₀ (c .0) p₀
+        → Goes R siteOf L₁ (c .1) p₁
         → tallOf L₀ p₀ ≡ picks pos₀ I ps → tallOf L₁ p₁ ≡ picks pos₁ I ps
         → Done R siteOf L₀ (after R siteOf L₀ (c .0) p₀) → Done R siteOf L₁ (after R siteOf L₁ (c .1) p₁)
         → x + (cost R siteOf L₀ (c .0) p₀ + cost R siteOf L₁ (c .1) p₁) ≡ z → Stages N ending z
@@ -309,7 +365,8 @@ module _ {A : Type 0} (R : ℕ) (siteOf : A → ℕ) (L₀ L₁ : Line A) (pos�
         let y₀ = cost R siteOf L₀ (c .0) p₀ in
         let y₁ = cost R siteOf L₁ (c .1) p₁ in
         subst (λ d. Stages d ending z) eI
-        (subst (λ v. Stages I ending v) w (k ending (y₀ + y₁) (y₀, y₁, row-end R siteOf L₀ (c .0) p₀ h₀ g₀ t₀ n₀, row-end R siteOf L₁ (c .1) p₁ h₁ g₁ t₁ n₁, refl)))
+        (subst (λ v. Stages I ending v) w (k ending
+        (y₀ + y₁) (y₀, y₁, row-end R siteOf L₀ (c .0) p₀ h₀ g₀ t₀ n₀, row-end R siteOf L₁ (c .1) p₁ h₁ g₁ t₁ n₁, refl)))
     stages-go (a ∷ ps) I c x z e k h₀ h₁ p₀ p₁ g₀ g₁ t₀ t₁ n₀ n₁ w =
         let r₀ = row-cut R siteOf L₀ (c .0) p₀ (pos₀ I) a (picks pos₀ (suc I) ps) h₀ g₀ t₀ in
         let r₁ = row-cut R siteOf L₁ (c .1) p₁ (pos₁ I) a (picks pos₁ (suc I) ps) h₁ g₁ t₁ in
@@ -318,7 +375,8 @@ module _ {A : Type 0} (R : ℕ) (siteOf : A → ℕ) (L₀ L₁ : Line A) (pos�
         let m : In (d₀, d₁) (cases I) =
         in-each (L₀ .options (pos₀ I)) _ (r₀ .offered)
         (in-each (spots R (pos₀ I)) _ (in-spots (pos₀ I) (r₀ .place) (r₀ .marks) (r₀ .low) (r₀ .high) (r₀ .good))
-        (in-each (spots R (pos₁ I)) _ (in-spots (pos₁ I) (r₁ .place) (r₁ .marks) (r₁ .low) (r₁ .high) (r₁ .good)) (here refl)))
+        (in-each (spots R (pos₁ I)) _
+        (in-spots (pos₁ I) (r₁ .place) (r₁ .marks) (r₁ .low) (r₁ .high) (r₁ .good)) (here refl)))
         in
         let y = r₀ .costIf + r₁ .costIf in
         let e₀ = r₀ .sum in
@@ -331,21 +389,26 @@ module _ {A : Type 0} (R : ℕ) (siteOf : A → ℕ) (L₀ L₁ : Line A) (pos�
     -- ---- two starts of rows, up to a tall cell, are cut into stages; and stages to a tall cell are such starts
 
     -- a start of a row, on to the tall cell c, whose other tall cells are ts
-    start-way : (L : Line A) (s : State A) (q : List (Choice A)) (c : Choice A) → Good R (s .1) → tallOf L q ≡ [] → Goes R siteOf L s (q ++ (c ∷ []))
+    start-way : (L : Line A) (s : State A) (q : List (Choice A)) (c : Choice A) → Good R (s .1) → tallOf L q ≡ []
+        → Goes R siteOf L s (q ++ (c ∷ []))
         → Way R siteOf L s (after R siteOf L s (q ++ (c ∷ []))) (cost R siteOf L s (q ++ (c ∷ [])))
     start-way L s q c h e g =
         let b = goes-append R siteOf L s q (c ∷ []) .0 g in
         let u = after R siteOf L s q in
         let z = cost-append R siteOf L s q (c ∷ []) in
         subst (λ t. Way R siteOf L s t (cost R siteOf L s (q ++ (c ∷ [])))) (sym (after-append R siteOf L s q (c ∷ [])))
-        (list-way R siteOf L s h q (none-plain L q e) (b .0) (next R siteOf L u c) (charge R siteOf L u c) (cost R siteOf L s (q ++ (c ∷ []))) (next-move R siteOf L u c (b .1 .0)) refl (omega arith))
+        (list-way R siteOf L s h q (none-plain L q e) (b .0) (next R siteOf L u c) (charge R siteOf L u c)
+        (cost R siteOf L s (q ++ (c ∷ []))) (next-move R siteOf L u c (b .1 .0)) refl (omega arith))
 
-    pub starts-stages : (ps : List A) (a : A) (I J : ℕ) (c : Case A) (x z : ℕ) → I + length ps ≡ J → ((t : Case A) (y : ℕ) → Stage I c t y → Stages I t (x + y))
+    pub starts-stages : (ps : List A) (a : A) (I J : ℕ) (c : Case A) (x z : ℕ) → I + length ps ≡ J
+        → ((t : Case A) (y : ℕ) → Stage I c t y → Stages I t (x + y))
         → Good R (c .0 .1) → Good R (c .1 .1) → (q₀ q₁ : List (Choice A))
         → Goes R siteOf L₀ (c .0) (q₀ ++ ((pos₀ J, a) ∷ [])) → Goes R siteOf L₁ (c .1) (q₁ ++ ((pos₁ J, a) ∷ []))
         → tallOf L₀ q₀ ≡ picks pos₀ I ps → tallOf L₁ q₁ ≡ picks pos₁ I ps
-        → x + (cost R siteOf L₀ (c .0) (q₀ ++ ((pos₀ J, a) ∷ [])) + cost R siteOf L₁ (c .1) (q₁ ++ ((pos₁ J, a) ∷ []))) ≡ z
-        → Stages J (after R siteOf L₀ (c .0) (q₀ ++ ((pos₀ J, a) ∷ [])), after R siteOf L₁ (c .1) (q₁ ++ ((pos₁ J, a) ∷ []))) z
+        → x + (cost R siteOf L₀ (c .0) (q₀ ++ ((pos₀ J, a) ∷ [])) + cost R siteOf L₁ (c .1) (q₁ ++ ((pos₁ J, a) ∷ [])))
+        ≡ z
+        → Stages J
+        (after R siteOf L₀ (c .0) (q₀ ++ ((pos₀ J, a) ∷ [])), after R siteOf L₁ (c .1) (q₁ ++ ((pos₁ J, a) ∷ []))) z
     unfolding picks cases
     starts-stages [] a I J c x z e k h₀ h₁ q₀ q₁ g₀ g₁ t₀ t₁ w =
         let p₀ = q₀ ++ ((pos₀ J, a) ∷ []) in
@@ -354,7 +417,8 @@ module _ {A : Type 0} (R : ℕ) (siteOf : A → ℕ) (L₀ L₁ : Line A) (pos�
         let y₁ = cost R siteOf L₁ (c .1) p₁ in
         let t : Case A = (after R siteOf L₀ (c .0) p₀, after R siteOf L₁ (c .1) p₁) in
         let i : I ≡ J = omega arith in
-        subst (λ d. Stages d t z) i (subst (λ v. Stages I t v) w (k t (y₀ + y₁) (y₀, y₁, start-way L₀ (c .0) q₀ (pos₀ J, a) h₀ t₀ g₀, start-way L₁ (c .1) q₁ (pos₁ J, a) h₁ t₁ g₁, refl)))
+        subst (λ d. Stages d t z) i (subst (λ v. Stages I t v) w (k t (y₀ + y₁)
+        (y₀, y₁, start-way L₀ (c .0) q₀ (pos₀ J, a) h₀ t₀ g₀, start-way L₁ (c .1) q₁ (pos₁ J, a) h₁ t₁ g₁, refl)))
     starts-stages (b ∷ ps) a I J c x z e k h₀ h₁ q₀ q₁ g₀ g₁ t₀ t₁ w =
         let e₀ : List (Choice A) = (pos₀ J, a) ∷ [] in
         let e₁ : List (Choice A) = (pos₁ J, a) ∷ [] in
@@ -367,15 +431,20 @@ module _ {A : Type 0} (R : ℕ) (siteOf : A → ℕ) (L₀ L₁ : Line A) (pos�
         let m : In (d₀, d₁) (cases I) =
         in-each (L₀ .options (pos₀ I)) _ (r₀ .offered)
         (in-each (spots R (pos₀ I)) _ (in-spots (pos₀ I) (r₀ .place) (r₀ .marks) (r₀ .low) (r₀ .high) (r₀ .good))
-        (in-each (spots R (pos₁ I)) _ (in-spots (pos₁ I) (r₁ .place) (r₁ .marks) (r₁ .low) (r₁ .high) (r₁ .good)) (here refl)))
+        (in-each (spots R (pos₁ I)) _
+        (in-spots (pos₁ I) (r₁ .place) (r₁ .marks) (r₁ .low) (r₁ .high) (r₁ .good)) (here refl)))
         in
         let y = r₀ .costIf + r₁ .costIf in
-        let n₀ = goes-append R siteOf L₀ d₀ (r₀ .rest) e₀ .1 (r₀ .goes, subst (λ s. Goes R siteOf L₀ s e₀) (sym (r₀ .ends)) (s₀ .1)) in
-        let n₁ = goes-append R siteOf L₁ d₁ (r₁ .rest) e₁ .1 (r₁ .goes, subst (λ s. Goes R siteOf L₁ s e₁) (sym (r₁ .ends)) (s₁ .1)) in
+        let n₀ = goes-append R siteOf L₀ d₀ (r₀ .rest) e₀ .1
+        (r₀ .goes, subst (λ s. Goes R siteOf L₀ s e₀) (sym (r₀ .ends)) (s₀ .1)) in
+        let n₁ = goes-append R siteOf L₁ d₁ (r₁ .rest) e₁ .1
+        (r₁ .goes, subst (λ s. Goes R siteOf L₁ s e₁) (sym (r₁ .ends)) (s₁ .1)) in
         let f₀ : after R siteOf L₀ d₀ (r₀ .rest ++ e₀) ≡ after R siteOf L₀ (c .0) (q₀ ++ e₀) =
-        after-append R siteOf L₀ d₀ (r₀ .rest) e₀ ∙ ap (λ s. after R siteOf L₀ s e₀) (r₀ .ends) ∙ sym (after-append R siteOf L₀ (c .0) q₀ e₀) in
+        after-append R siteOf L₀ d₀ (r₀ .rest) e₀ ∙ ap (λ s. after R siteOf L₀ s e₀) (r₀ .ends)
+        ∙ sym (after-append R siteOf L₀ (c .0) q₀ e₀) in
         let f₁ : after R siteOf L₁ d₁ (r₁ .rest ++ e₁) ≡ after R siteOf L₁ (c .1) (q₁ ++ e₁) =
-        after-append R siteOf L₁ d₁ (r₁ .rest) e₁ ∙ ap (λ s. after R siteOf L₁ s e₁) (r₁ .ends) ∙ sym (after-append R siteOf L₁ (c .1) q₁ e₁) in
+        after-append R siteOf L₁ d₁ (r₁ .rest) e₁ ∙ ap (λ s. after R siteOf L₁ s e₁) (r₁ .ends)
+        ∙ sym (after-append R siteOf L₁ (c .1) q₁ e₁) in
         let v₀ = cost-append R siteOf L₀ (c .0) q₀ e₀ in
         let v₁ = cost-append R siteOf L₁ (c .1) q₁ e₁ in
         let w₀ = cost-append R siteOf L₀ d₀ (r₀ .rest) e₀ in
@@ -397,7 +466,8 @@ module _ {A : Type 0} (R : ℕ) (siteOf : A → ℕ) (L₀ L₁ : Line A) (pos�
       pub ends : after R siteOf L (first R siteOf L) (path ++ (c ∷ [])) ≡ t
       pub sum : cost R siteOf L (first R siteOf L) (path ++ (c ∷ [])) ≡ x
 
-    upto-start : (L : Line A) (c : Choice A) (ts : List (Choice A)) (i m x : ℕ) → In (c .1) (L .options (c .0)) → Upto R siteOf L (i, m, some c) ts x → StartOf L c ts (i, m, some c) x
+    upto-start : (L : Line A) (c : Choice A) (ts : List (Choice A)) (i m x : ℕ) → In (c .1) (L .options (c .0))
+        → Upto R siteOf L (i, m, some c) ts x → StartOf L c ts (i, m, some c) x
     upto-start L c ts i m x o u =
         let f = first R siteOf L in
         let v = after R siteOf L f (u .path) in
@@ -408,13 +478,16 @@ module _ {A : Type 0} (R : ℕ) (siteOf : A → ℕ) (L₀ L₁ : Line A) (pos�
           path = u .path;
           goes = goes-append R siteOf L f (u .path) (c ∷ []) .1 (u .goes, (u .move .0 .0, o, tt));
           talls = u .talls;
-          ends = after-append R siteOf L f (u .path) (c ∷ []) ∙ ap₂ (λ (k n : ℕ). (k, n, some c)) (sym (u .move .0 .1 .0)) (sym (u .move .0 .1 .1));
+          ends = after-append R siteOf L f (u .path) (c ∷ [])
+              ∙ ap₂ (λ (k n : ℕ). (k, n, some c)) (sym (u .move .0 .1 .0)) (sym (u .move .0 .1 .1));
           sum = omega arith;
         }
 
     -- stages to tall cell I in pose a are starts of both rows whose tall cells before it have the same poses
-    pub stages-starts : (I : ℕ) (a : A) (i₀ m₀ i₁ m₁ x : ℕ) → I < N → In a (L₀ .options (pos₀ I)) → Stages I ((i₀, m₀, some (pos₀ I, a)), (i₁, m₁, some (pos₁ I, a))) x
-        → (ps : List A) × (x₀ : ℕ) × (x₁ : ℕ) × (length ps ≡ I) × StartOf L₀ (pos₀ I, a) (picks pos₀ 0 ps) (i₀, m₀, some (pos₀ I, a)) x₀
+    pub stages-starts : (I : ℕ) (a : A) (i₀ m₀ i₁ m₁ x : ℕ) → I < N → In a (L₀ .options (pos₀ I))
+        → Stages I ((i₀, m₀, some (pos₀ I, a)), (i₁, m₁, some (pos₁ I, a))) x
+        → (ps : List A) × (x₀ : ℕ) × (x₁ : ℕ) × (length ps ≡ I)
+        × StartOf L₀ (pos₀ I, a) (picks pos₀ 0 ps) (i₀, m₀, some (pos₀ I, a)) x₀
         × StartOf L₁ (pos₁ I, a) (picks pos₁ 0 ps) (i₁, m₁, some (pos₁ I, a)) x₁ × (x₀ + x₁ ≡ x)
     stages-starts I a i₀ m₀ i₁ m₁ x h o s =
         let j = stages-joined I ((i₀, m₀, some (pos₀ I, a)), (i₁, m₁, some (pos₁ I, a))) x (omega arith) s in (

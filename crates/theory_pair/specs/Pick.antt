@@ -21,7 +21,8 @@ module _ (f : ℕ → Bool) where
   unfolding pick
   pick-in {k} (x ∷ l) m = go (f x) refl m (pick-in l)
     where
-      go : (t : Bool) → f x ≡ t → In k (cond t (x ∷ pick f l) (pick f l)) → (In k (pick f l) → In k l × (f k ≡ true)) → In k (x ∷ l) × (f k ≡ true)
+      go : (t : Bool) → f x ≡ t → In k (cond t (x ∷ pick f l) (pick f l)) → (In k (pick f l) → In k l × (f k ≡ true))
+          → In k (x ∷ l) × (f k ≡ true)
       go true e (here z) g = (here z, ap f z ∙ e)
       go true e (there q) g = let r = g q in (there (r .0), r .1)
       go false e q g = let r = g q in (there (r .0), r .1)
@@ -56,7 +57,11 @@ goodMarks R = pick (λ m. eqb (m % 2) 1 && eqb (ones m) (suc R)) (from 0 (2 ^ su
 
 pub in-goodMarks : (R m : ℕ) → In m (goodMarks R) ↔ Good R m
 unfolding goodMarks
-in-goodMarks R m = (λ q. let r = pick-in test (from 0 (2 ^ suc (2 * R))) q in go (eqb (m % 2) 1) (eqb (ones m) (suc R)) (eq? (m % 2) 1) (eq? (ones m) (suc R)) (in-from 0 (2 ^ suc (2 * R)) (r .0) .1) (r .1), λ g. back g)
+in-goodMarks R m = (
+  λ q. let r = pick-in test (from 0 (2 ^ suc (2 * R))) q in go (eqb (m % 2) 1) (eqb (ones m) (suc R)) (eq? (m % 2) 1)
+      (eq? (ones m) (suc R)) (in-from 0 (2 ^ suc (2 * R)) (r .0) .1) (r .1),
+  λ g. back g,
+)
   where
     test : ℕ → Bool
     test m = eqb (m % 2) 1 && eqb (ones m) (suc R)

@@ -1,7 +1,8 @@
 -- One row in general, and its segments: from a state of the row over single cells to another state.
 use mathlib.Core.Path.{_≡_, refl, sym, ap, ap₂, _∙_, subst}
 use mathlib.Core.Logic.{_≢_, _↔_, _⊎_, inl, inr}
-use mathlib.Core.List.{List, [], _∷_, _++_, List·Memᴰ as In, List·Memᴰ·head as here, List·Memᴰ·tail as there, List·Memᴰ·eq-of-singleton}
+use mathlib.Core.List.{List, [], _∷_, _++_, List·Memᴰ as In, List·Memᴰ·head as here}
+use mathlib.Core.List.{List·Memᴰ·tail as there, List·Memᴰ·eq-of-singleton}
 use mathlib.Core.Option.{Option, none, some}
 use mathlib.Core.Bool.{Bool, true, false, cond, Bool-discrete}
 use Prim.Native.Nat.{ℕ, zero, suc, _+_, _-_, _*_, _/_, _%_, _^_, _≤_, _<_}
@@ -12,10 +13,11 @@ use Rattle.lists.specs.Numbers.{from, in-from, from-in}
 use Rattle.theory_row.specs.Cheapest.{_⊑_}
 use Rattle.theory_row.specs.Window.{start, step, May, may?, Good, good-start, good-step}
 use Rattle.theory_pair.specs.Pick.{goodMarks, in-goodMarks}
-use Rattle.theory_pair.specs.Forward.{each, in-each, each-in, costIf, cost-below, cost-met, Trail, layer, layer-below, layer-met}
+use Rattle.theory_pair.specs.Forward.{each, in-each, each-in, costIf, cost-below}
+use Rattle.theory_pair.specs.Forward.{cost-met, Trail, layer, layer-below, layer-met}
 
--- A row: its cells, numbered from 0 in file order; the poses that each is offered; how wide a cell is in a pose, what it costs there in this row,
--- what two neighbours pay, which cells are tall, and what the row's ends allow.
+-- A row: its cells, numbered from 0 in file order; the poses that each is offered; how wide a cell is in a pose, what
+-- it costs there in this row, what two neighbours pay, which cells are tall, and what the row's ends allow.
 pub record Line (A : Type 0) : Type 0 where
   pub size : ℕ
   pub options : ℕ → List A
@@ -44,7 +46,8 @@ module _ {A : Type 0} (R : ℕ) (siteOf : A → ℕ) (L : Line A) where
   -- c may stand right of the last one placed: rules 4 and 5; or be the row's first
   abbrev pub FitsTo : Option (Choice A) → Choice A → Type 0
   FitsTo none c = L .opens (c .0) (c .1) ≡ true
-  FitsTo (some b) c = (siteOf (b .1) + L .wide (b .0) (b .1) ≤ siteOf (c .1)) × (siteOf (c .1) ≢ siteOf (b .1) + L .wide (b .0) (b .1) + 1)
+  FitsTo (some b) c = (siteOf (b .1) + L .wide (b .0) (b .1) ≤ siteOf (c .1))
+      × (siteOf (c .1) ≢ siteOf (b .1) + L .wide (b .0) (b .1) + 1)
 
   -- a row may end after its last cell; a row without cells may end
   abbrev pub EndsWith : Option (Choice A) → Type 0
@@ -135,16 +138,19 @@ module _ {A : Type 0} (R : ℕ) (siteOf : A → ℕ) (L : Line A) where
 
   unfoldable pub fitsTo? : (o : Option (Choice A)) (c : Choice A) → Dec (FitsTo o c)
   fitsTo? none c = Bool-discrete (L .opens (c .0) (c .1)) true
-  fitsTo? (some b) c = both? (decLe (siteOf (b .1) + L .wide (b .0) (b .1)) (siteOf (c .1))) (not? (ℕ-discrete (siteOf (c .1)) (siteOf (b .1) + L .wide (b .0) (b .1) + 1)))
+  fitsTo? (some b) c = both? (decLe (siteOf (b .1) + L .wide (b .0) (b .1)) (siteOf (c .1)))
+      (not? (ℕ-discrete (siteOf (c .1)) (siteOf (b .1) + L .wide (b .0) (b .1) + 1)))
 
   unfoldable pub endsWith? : (o : Option (Choice A)) → Dec (EndsWith o)
   endsWith? none = yes tt
   endsWith? (some c) = Bool-discrete (L .closes (c .0) (c .1)) true
 
   unfoldable pub into? : (u : State A) (i m : ℕ) (o : Option (Choice A)) → Dec (Into u i m o)
-  into? u i m none = both? (both? (ℕ-discrete (u .0) (L .size)) (endsWith? (u .2))) (both? (ℕ-discrete i (suc (u .0))) (ℕ-discrete m 0))
+  into? u i m none = both? (both? (ℕ-discrete (u .0) (L .size)) (endsWith? (u .2)))
+      (both? (ℕ-discrete i (suc (u .0))) (ℕ-discrete m 0))
   into? u i m (some c) =
-      both? (both? (may? R (L .size) (u .0) (u .1) (c .0)) (fitsTo? (u .2) c)) (both? (ℕ-discrete i (suc (u .0))) (ℕ-discrete m (step R (u .0) (u .1) (c .0))))
+      both? (both? (may? R (L .size) (u .0) (u .1) (c .0)) (fitsTo? (u .2) c))
+      (both? (ℕ-discrete i (suc (u .0))) (ℕ-discrete m (step R (u .0) (u .1) (c .0))))
 
   -- the cost of a move: what the code looks up between two entries
   unfoldable pub move : State A → State A → Option ℕ
@@ -152,7 +158,8 @@ module _ {A : Type 0} (R : ℕ) (siteOf : A → ℕ) (L : Line A) where
 
   pub move-below : (u t : State A) (x : ℕ) → Move u t x → move u t ⊑ x
   unfolding move
-  move-below u t x h = subst (λ v. costIf (into? u (t .0) (t .1) (t .2)) (tollTo u (t .2)) ⊑ v) (sym (h .1)) (cost-below (into? u (t .0) (t .1) (t .2)) (tollTo u (t .2)) (h .0))
+  move-below u t x h = subst (λ v. costIf (into? u (t .0) (t .1) (t .2)) (tollTo u (t .2)) ⊑ v) (sym (h .1))
+      (cost-below (into? u (t .0) (t .1) (t .2)) (tollTo u (t .2)) (h .0))
 
   pub move-met : (u t : State A) (x : ℕ) → move u t ≡ some x → Move u t x
   unfolding move
@@ -160,9 +167,11 @@ module _ {A : Type 0} (R : ℕ) (siteOf : A → ℕ) (L : Line A) where
 
   -- ---- segments
 
-  -- the states with i cells placed, the last of them single: that cell is within R of its place, and the marks have R + 1 ones
+  -- the states with i cells placed, the last of them single: that cell is within R
+  -- of its place, and the marks have R + 1 ones
   unfoldable pub singles : ℕ → List (State A)
-  singles i = each (from (i - suc R) (suc (2 * R))) λ k. ifSingle (L .tall k) (each (L .options k) λ a. each (goodMarks R) λ m. (i, m, some (k, a)) ∷ [])
+  singles i = each (from (i - suc R) (suc (2 * R))) λ k. ifSingle (L .tall k)
+      (each (L .options k) λ a. each (goodMarks R) λ m. (i, m, some (k, a)) ∷ [])
 
   -- from s over j single cells to t, and what that costs, t's charge among it
   abbrev pub Segment : State A → ℕ → State A → ℕ → Type 0
@@ -178,11 +187,13 @@ module _ {A : Type 0} (R : ℕ) (siteOf : A → ℕ) (L : Line A) where
 
   pub least-below : (s t : State A) (x : ℕ) → Way s t x → least s t ⊑ x
   unfolding least
-  least-below s t x h = layer-below (λ i. singles (s .0 + suc i)) (λ i u v y. Move u v y) (λ i u v. move u v) (λ j u v y. move-below u v y) s (t .0 - suc (s .0)) t x h
+  least-below s t x h = layer-below (λ i. singles (s .0 + suc i)) (λ i u v y. Move u v y) (λ i u v. move u v)
+      (λ j u v y. move-below u v y) s (t .0 - suc (s .0)) t x h
 
   pub least-met : (s t : State A) (x : ℕ) → least s t ≡ some x → Way s t x
   unfolding least
-  least-met s t x e = layer-met (λ i. singles (s .0 + suc i)) (λ i u v y. Move u v y) (λ i u v. move u v) (λ j u v y. move-met u v y) s (t .0 - suc (s .0)) t x e
+  least-met s t x e = layer-met (λ i. singles (s .0 + suc i)) (λ i u v y. Move u v y) (λ i u v. move u v)
+      (λ j u v y. move-met u v y) s (t .0 - suc (s .0)) t x e
 
   -- ---- a segment and its list of choices
 
@@ -208,7 +219,8 @@ module _ {A : Type 0} (R : ℕ) (siteOf : A → ℕ) (L : Line A) where
   single-in true l m = elim m [ ]
   single-in false l m = (refl, m)
 
-  in-singles : (u : State A) (c : Choice A) → Good R (u .1) → Ok u c → In (c .1) (L .options (c .0)) → L .tall (c .0) ≡ false → (i : ℕ) → i ≡ suc (u .0)
+  in-singles : (u : State A) (c : Choice A) → Good R (u .1) → Ok u c → In (c .1) (L .options (c .0))
+      → L .tall (c .0) ≡ false → (i : ℕ) → i ≡ suc (u .0)
       → In (next u c) (singles i)
   unfolding singles
   in-singles u c h o p e i z =
@@ -230,13 +242,15 @@ module _ {A : Type 0} (R : ℕ) (siteOf : A → ℕ) (L : Line A) where
       let e = each-in (goodMarks R) _ (d .2) in
       (a .0, d .0, e .0, d .1, b .0, List·Memᴰ·eq-of-singleton (e .2))
 
-  move-choice : (u v : State A) (x i m k : ℕ) (a : A) → v ≡ (i, m, some (k, a)) → Move u v x → Ok u (k, a) × (next u (k, a) ≡ v) × (x ≡ charge u (k, a))
+  move-choice : (u v : State A) (x i m k : ℕ) (a : A) → v ≡ (i, m, some (k, a)) → Move u v x
+      → Ok u (k, a) × (next u (k, a) ≡ v) × (x ≡ charge u (k, a))
   move-choice u v x i m k a e h =
       let g : Move u (i, m, some (k, a)) x = subst (λ w. Move u w x) e h in
       (g .0 .0, ap₂ (λ y z. (y, z, some (k, a))) (sym (g .0 .1 .0)) (sym (g .0 .1 .1)) ∙ sym e, g .1)
 
   singles-move : (u v : State A) (i x : ℕ) → In v (singles i) → Move u v x
-      → (c : Choice A) × Ok u c × In (c .1) (L .options (c .0)) × (L .tall (c .0) ≡ false) × (next u c ≡ v) × (x ≡ charge u c)
+      → (c : Choice A) × Ok u c × In (c .1) (L .options (c .0)) × (L .tall (c .0) ≡ false) × (next u c ≡ v)
+      × (x ≡ charge u c)
   singles-move u v i x q h =
       let s = singles-shape v i q in
       let r = move-choice u v x i (s .2) (s .0) (s .1) (s .5) h in
@@ -252,7 +266,8 @@ module _ {A : Type 0} (R : ℕ) (siteOf : A → ℕ) (L : Line A) where
     pub sum : cost s path + toll ≡ x
 
   pub segment-list : (s : State A) (j : ℕ) (t : State A) (x : ℕ) → Segment s j t x → Listed s j t x
-  segment-list s zero t x h = record { path = []; size = refl; plain = tt; goes = tt; toll = x; move = h; sum = omega arith }
+  segment-list s zero t x h =
+      record { path = []; size = refl; plain = tt; goes = tt; toll = x; move = h; sum = omega arith }
   segment-list s (suc j) t x h =
       let r = segment-list s j (h .0) (h .2) (h .4) in
       let a = singles-move (after s (r .path)) (h .0) (s .0 + suc j) (r .toll) (h .1) (r .move) in
@@ -273,19 +288,33 @@ module _ {A : Type 0} (R : ℕ) (siteOf : A → ℕ) (L : Line A) where
         sum = omega arith;
       }
 
-  segment-go : (s u : State A) (j e x : ℕ) → ((t : State A) (y : ℕ) → Move u t y → Segment s j t (x + y)) → u .0 ≡ s .0 + j → Good R (u .1)
-      → (q : List (Choice A)) → Plain q → Goes u q → (t : State A) (y z : ℕ) → Move (after u q) t y → e ≡ j + length q → z ≡ x + (cost u q + y) → Segment s e t z
+  segment-go : (s u : State A) (j e x : ℕ) → ((t : State A) (y : ℕ) → Move u t y → Segment s j t (x + y))
+      → u .0 ≡ s .0 + j → Good R (u .1)
+      → (q : List (Choice A)) → Plain q → Goes u q → (t : State A) (y z : ℕ) → Move (after u q) t y → e ≡ j + length q
+      → z ≡ x + (cost u q + y) → Segment s e t z
   segment-go s u j e x k i h [] p g t y z m v w =
       let a : j ≡ e = omega arith in
       let b : x + y ≡ z = omega arith in
       subst (λ d. Segment s d t z) a (subst (λ d. Segment s j t d) b (k t y m))
   segment-go s u j e x k i h (c ∷ q) p g t y z m v w =
       segment-go s (next u c) (suc j) e (x + charge u c)
-      (λ t′ y′ m′. (next u c, in-singles u c h (g .0) (g .1) (p .0) (s .0 + suc j) (omega arith), x + charge u c, y′, k (next u c) (charge u c) (next-move u c (g .0)), m′, refl))
-      (omega arith) (good-step R (L .size) (u .0) (u .1) (c .0) h (g .0 .0)) q (p .1) (g .2) t y z m (omega arith) (omega arith)
+      (λ t′ y′ m′. (
+        next u c,
+        in-singles u c h (g .0) (g .1) (p .0) (s .0 + suc j) (omega arith),
+        x + charge u c,
+        y′,
+        k (next u c) (charge u c) (next-move u c (g .0)),
+        m′,
+        refl,
+      ))
+      (omega arith) (good-step R (L .size) (u .0) (u .1) (c .0) h (g .0 .0)) q (p .1) (g .2) t y z m
+      (omega arith) (omega arith)
 
-  pub list-way : (s : State A) → Good R (s .1) → (q : List (Choice A)) → Plain q → Goes s q → (t : State A) (y z : ℕ) → Move (after s q) t y → t .0 ≡ suc (after s q .0)
+  pub list-way : (s : State A) → Good R (s .1) → (q : List (Choice A)) → Plain q → Goes s q → (t : State A) (y z : ℕ)
+      → Move (after s q) t y → t .0 ≡ suc (after s q .0)
       → z ≡ cost s q + y → Way s t z
   list-way s h q p g t y z m e w =
       let a = after-size s q in
-      segment-go s s 0 (t .0 - suc (s .0)) 0 (λ t′ y′ m′. let f : y′ ≡ 0 + y′ = omega arith in subst (λ d. Move s t′ d) f m′) (omega arith) h q p g t y z m (omega arith) (omega arith)
+      segment-go s s 0 (t .0 - suc (s .0)) 0
+      (λ t′ y′ m′. let f : y′ ≡ 0 + y′ = omega arith in subst (λ d. Move s t′ d) f m′) (omega arith) h q p g t y z m
+      (omega arith) (omega arith)

@@ -1,7 +1,8 @@
--- What a program that walks back through the tables owes, and gets: each segment as a list, built from its right end; each row's path, built stage by
--- stage; and the placement written on the way, which has the paths' poses.
+-- What a program that walks back through the tables owes, and gets: each segment as a list, built from its right end;
+-- each row's path, built stage by stage; and the placement written on the way, which has the paths' poses.
 use mathlib.Core.Path.{_≡_, refl, sym, ap, ap₂, _∙_, subst}
-use mathlib.Core.List.{List, [], _∷_, _++_, List·Memᴰ as In, List·Memᴰ·head as here, List·Memᴰ·tail as there, List·Memᴰ·append-cases}
+use mathlib.Core.List.{List, [], _∷_, _++_, List·Memᴰ as In, List·Memᴰ·head as here}
+use mathlib.Core.List.{List·Memᴰ·tail as there, List·Memᴰ·append-cases}
 use mathlib.Core.Logic.{_⊎_, inl, inr}
 use mathlib.Core.Option.{Option, none, some}
 use mathlib.Core.Bool.{Bool, true, false}
@@ -9,7 +10,8 @@ use Prim.Native.Nat.{ℕ, zero, suc, _+_, _-_, _≤_, _<_}
 use native.Mathlib.Omega.{arith}
 use lib.ListN.{length}
 use Rattle.theory_row.specs.Choices.{cells, along}
-use Rattle.theory_pair.specs.Segment.{Line, Choice, State, Goes, Move, move, move-met, next, last, cost, after, Listed}
+use Rattle.theory_pair.specs.Segment.{Line, Choice, State, Goes, Move, move}
+use Rattle.theory_pair.specs.Segment.{move-met, next, last, cost, after, Listed}
 use Rattle.theory_pair.specs.Whole.{picks}
 use Rattle.theory_pair.specs.Pair.{Upto}
 use Rattle.theory_pair.specs.Cells.{Side, row₀, row₁, Job, line, pos, tallCount, cell, LegalPair, total, traced}
@@ -36,20 +38,31 @@ obeys-append {A} g p q h k c m = go (List·Memᴰ·append-cases p m)
 module _ {A : Type 0} (R : ℕ) (siteOf : A → ℕ) (L : Line A) where
   -- a segment of no single cell
   unfoldable pub listed-last : (u t : State A) (x : ℕ) → move R siteOf L u t ≡ some x → Listed R siteOf L u 0 t x
-  listed-last u t x e = record { path = []; size = refl; plain = tt; goes = tt; toll = x; move = move-met R siteOf L u t x e; sum = omega arith }
+  listed-last u t x e = record {
+    path = [];
+    size = refl;
+    plain = tt;
+    goes = tt;
+    toll = x;
+    move = move-met R siteOf L u t x e;
+    sum = omega arith;
+  }
 
   -- one cell more at the left end of a segment: (k, a), placed from u on, costs z
-  unfoldable pub listed-back : (u t : State A) (i m k j y z : ℕ) (a : A) → In a (L .options k) → L .tall k ≡ false → move R siteOf L u (i, m, some (k, a)) ≡ some z
+  unfoldable pub listed-back : (u t : State A) (i m k j y z : ℕ) (a : A) → In a (L .options k) → L .tall k ≡ false
+      → move R siteOf L u (i, m, some (k, a)) ≡ some z
       → Listed R siteOf L (i, m, some (k, a)) j t y → Listed R siteOf L u (suc j) t (z + y)
   listed-back u t i m k j y z a o e w l =
       let c : Choice A = (k, a) in
       let v = move-met R siteOf L u (i, m, some c) z w in
-      let same : _≡_ {A = State A} (i, m, some c) (next R siteOf L u c) = ap₂ (λ f g. (f, g, some c)) (v .0 .1 .0) (v .0 .1 .1) in
+      let same : _≡_ {A = State A} (i, m, some c) (next R siteOf L u c) =
+      ap₂ (λ f g. (f, g, some c)) (v .0 .1 .0) (v .0 .1 .1) in
       let p = l .path in
       let e₀ = l .size in
       let e₁ = l .sum in
       let e₂ = v .1 in
-      let e₃ : cost R siteOf L (i, m, some c) p ≡ cost R siteOf L (next R siteOf L u c) p = ap (λ s. cost R siteOf L s p) same in
+      let e₃ : cost R siteOf L (i, m, some c) p ≡ cost R siteOf L (next R siteOf L u c) p =
+      ap (λ s. cost R siteOf L s p) same in
       record {
         path = c ∷ p;
         size = omega arith;
@@ -62,11 +75,16 @@ module _ {A : Type 0} (R : ℕ) (siteOf : A → ℕ) (L : Line A) where
 
 -- ---- the pair
 
-module _ {A : Type 0} (R : ℕ) (siteOf : A → ℕ) (J : Job A) (w : (k : ℕ) (a : A) → In a (J .offers k) → 0 < J .wide k a) where
-  -- a placement f that obeys a path to the end of each row, the tall cells with the poses ps in both, is legal and costs what the paths cost
+module _ {A : Type 0} (R : ℕ) (siteOf : A → ℕ) (J : Job A)
+    (w : (k : ℕ) (a : A) → In a (J .offers k) → 0 < J .wide k a) where
+  -- a placement f that obeys a path to the end of each row, the tall cells with the poses ps in
+  -- both, is legal and costs what the paths cost
   pub trace : A → (f : ℕ → A) (ps : List A) (x₀ x₁ : ℕ) → length ps ≡ tallCount J
-      → (u₀ : Upto R siteOf (line J row₀) (last R siteOf (line J row₀)) (picks (pos J row₀) 0 ps) x₀) → Obeys (λ p. f (cell J row₀ p)) (u₀ .path)
-      → (u₁ : Upto R siteOf (line J row₁) (last R siteOf (line J row₁)) (picks (pos J row₁) 0 ps) x₁) → Obeys (λ p. f (cell J row₁ p)) (u₁ .path)
+      → (u₀ : Upto R siteOf (line J row₀) (last R siteOf (line J row₀)) (picks (pos J row₀) 0 ps) x₀)
+      → Obeys (λ p. f (cell J row₀ p)) (u₀ .path)
+      → (u₁ : Upto R siteOf (line J row₁) (last R siteOf (line J row₁)) (picks (pos J row₁) 0 ps) x₁)
+      → Obeys (λ p. f (cell J row₁ p)) (u₁ .path)
       → LegalPair R siteOf J f × (total siteOf J f ≡ x₀ + x₁)
   trace d f ps x₀ x₁ s u₀ h₀ u₁ h₁ =
-      traced R siteOf J w d f ps x₀ x₁ s u₀ (obeys-along (λ p. f (cell J row₀ p)) (u₀ .path) h₀) u₁ (obeys-along (λ p. f (cell J row₁ p)) (u₁ .path) h₁)
+      traced R siteOf J w d f ps x₀ x₁ s u₀ (obeys-along (λ p. f (cell J row₀ p)) (u₀ .path) h₀) u₁
+      (obeys-along (λ p. f (cell J row₁ p)) (u₁ .path) h₁)

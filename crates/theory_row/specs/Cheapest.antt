@@ -83,21 +83,26 @@ module _ {S C : Type 0} (moves : S → List C) (next : S → C → S) (toll : S 
   best (suc d) s = least (best d) s (moves s)
 
   -- no path of d moves is cheaper
-  least-below : (f : S → Option ℕ) (s : S) (l : List C) (c : C) (x : ℕ) → In c l → f (next s c) ⊑ x → least f s l ⊑ (toll s c + x)
+  least-below : (f : S → Option ℕ) (s : S) (l : List C) (c : C) (x : ℕ) → In c l → f (next s c) ⊑ x
+      → least f s l ⊑ (toll s c + x)
   unfolding least
   least-below f s (y ∷ l) c x (here e) h =
-      lower-left (plus (toll s y) (f (next s y))) (least f s l) (toll s c + x) (rw e (plus-below (toll s y) (f (next s y)) x (rw e at h)))
-  least-below f s (y ∷ l) c x (there m) h = lower-right (plus (toll s y) (f (next s y))) (least f s l) (toll s c + x) (least-below f s l c x m h)
+      lower-left (plus (toll s y) (f (next s y))) (least f s l)
+      (toll s c + x) (rw e (plus-below (toll s y) (f (next s y)) x (rw e at h)))
+  least-below f s (y ∷ l) c x (there m) h =
+      lower-right (plus (toll s y) (f (next s y))) (least f s l) (toll s c + x) (least-below f s l c x m h)
 
   pub best-below : (d : ℕ) (s : S) (p : List C) → length p ≡ d → Path′ s p → best d s ⊑ cost s p
   unfolding best
   best-below zero s [] e h = omega arith
   best-below zero s (c ∷ p) e h = absurd (omega arith)
   best-below (suc d) s [] e h = absurd (omega arith)
-  best-below (suc d) s (c ∷ p) e h = least-below (best d) s (moves s) c (cost (next s c) p) (h .0) (best-below d (next s c) p (omega arith) (h .1))
+  best-below (suc d) s (c ∷ p) e h =
+      least-below (best d) s (moves s) c (cost (next s c) p) (h .0) (best-below d (next s c) p (omega arith) (h .1))
 
   -- and some path of d moves costs just that
-  least-met : (f : S → Option ℕ) (s : S) (l : List C) (v : ℕ) → least f s l ≡ some v → (c : C) × In c l × (plus (toll s c) (f (next s c)) ≡ some v)
+  least-met : (f : S → Option ℕ) (s : S) (l : List C) (v : ℕ) → least f s l ≡ some v
+      → (c : C) × In c l × (plus (toll s c) (f (next s c)) ≡ some v)
   unfolding least
   least-met f s [] v e = absurd (let z : _≡_ {A = ℕ} 0 1 = cc in omega arith)
   least-met f s (y ∷ l) v e = go (lower-met (plus (toll s y) (f (next s y))) (least f s l) v e) (least-met f s l v)
@@ -108,7 +113,8 @@ module _ {S C : Type 0} (moves : S → List C) (next : S → C → S) (toll : S 
       go (inl z) g = (y, here refl, z)
       go (inr z) g = let r = g z in (r .0, there (r .1), r .2)
 
-  pub best-met : (d : ℕ) (s : S) (v : ℕ) → best d s ≡ some v → (p : List C) × (length p ≡ d) × Path′ s p × (cost s p ≡ v)
+  pub best-met : (d : ℕ) (s : S) (v : ℕ) → best d s ≡ some v
+      → (p : List C) × (length p ≡ d) × Path′ s p × (cost s p ≡ v)
   unfolding best
   best-met zero s v e = ([], refl, tt, cc)
   best-met (suc d) s v e =

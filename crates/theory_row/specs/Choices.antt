@@ -67,5 +67,6 @@ module _ {A : Type 0} where
   along-chosen d [] h = refl
   along-chosen d (c ∷ cs) h =
       ap₂ (λ x y. (c .0, x) ∷ y) (chosen-head d (c .0) (c .1) cs)
-      (along-same (chosen d (c ∷ cs)) (chosen d cs) (cells cs) (λ k m. chosen-tail d c cs k (λ e. h .0 (Memᴰ·cast (sym e) m)))
+      (along-same (chosen d (c ∷ cs)) (chosen d cs) (cells cs)
+      (λ k m. chosen-tail d c cs k (λ e. h .0 (Memᴰ·cast (sym e) m)))
       ∙ along-chosen d cs (h .1))

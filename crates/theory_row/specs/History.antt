@@ -11,14 +11,17 @@ use lib.Count.{ones}
 use lib.Dec.{leb, eqb}
 use Rattle.lists.specs.Compare.{Le?, low, high, le?, Eq?, same, differs, eq?}
 use Rattle.theory_row.specs.Marks.{bit, bit-lt}
-use Rattle.theory_row.specs.Window.{start, step, Run, walk, May, Partial, partial-run, run-partial, seen, seen-at, seen-keep, seen-set, start-pad, good-start, Good, window-here, window-count, window-small}
+use Rattle.theory_row.specs.Window.{start, step, Run, walk, May, Partial, partial-run}
+use Rattle.theory_row.specs.Window.{run-partial, seen, seen-at, seen-keep, seen-set, start-pad}
+use Rattle.theory_row.specs.Window.{good-start, Good, window-here, window-count, window-small}
 
 -- 1 if k is among the entries of h, else 0
 unfoldable pub has : ℕ → List ℕ → ℕ
 has k [] = 0
 has k (x ∷ h) = cond (eqb k x) 1 (has k h)
 
--- With i = length h positions placed, digit j of the window stands for position i + j - (R + 1), that is for cell i - R + j numbered from 1.
+-- With i = length h positions placed, digit j of the window stands for position i + j - (R + 1),
+-- that is for cell i - R + j numbered from 1.
 -- Its mark is 1 if that is before the row or in h.
 unfoldable pub mark : ℕ → List ℕ → ℕ → ℕ
 mark R h j = cond (leb (length h + j) R) 1 (has (length h + j - suc R) h)
@@ -57,9 +60,11 @@ has-in k (x ∷ h) b l e = go (eqb k x) (eq? k x) (λ e′. has-in k h b l e′)
     go false (differs d) f = f (λ m. e .0 (there m), λ z. tail d (e .1 z))
 
 -- what is marked stays marked
-walk-one : (R n i m q e : ℕ) (l : List ℕ) → e ≡ i + length l → m % 2 ≡ 1 → Run R n i m l → seen i m q ≡ 1 → seen e (walk R i m l) q ≡ 1
+walk-one : (R n i m q e : ℕ) (l : List ℕ) → e ≡ i + length l → m % 2 ≡ 1 → Run R n i m l → seen i m q ≡ 1
+    → seen e (walk R i m l) q ≡ 1
 walk-one R n i m q e [] z o r h = subst (λ x. seen x m q ≡ 1) (omega arith) h
-walk-one R n i m q e (x ∷ l) z o r h = walk-one R n (suc i) (step R i m x) q e l (omega arith) (r .0 .kept) (r .1) (go (ℕ-discrete q (x + suc R)))
+walk-one R n i m q e (x ∷ l) z o r h =
+    walk-one R n (suc i) (step R i m x) q e l (omega arith) (r .0 .kept) (r .1) (go (ℕ-discrete q (x + suc R)))
   where
     go : Dec (q ≡ x + suc R) → seen (suc i) (step R i m x) q ≡ 1
     go (yes d) = rw d (seen-set R n i m x (r .0))
@@ -74,11 +79,13 @@ module _ (R n : ℕ) (h : List ℕ) (p : Partial R n h) where
       m = walk R 0 (start R) h
 
       before : length h + j ≤ R → seen (length h) m (length h + j) ≡ 1
-      before g = walk-one R n 0 (start R) (length h + j) (length h) h (omega arith) (good-start R .odd) (partial-run R n h p) (start-pad R (length h + j) g)
+      before g = walk-one R n 0 (start R) (length h + j) (length h) h (omega arith) (good-start R .odd)
+          (partial-run R n h p) (start-pad R (length h + j) g)
 
       go : (t : Bool) → Le? (length h + j) R t → cond t 1 (has (length h + j - suc R) h) ≡ bit m j
       go true (low g) = sym (before g) ∙ seen-at (length h) m (length h + j) j refl
-      go false (high g) = has-in (length h + j - suc R) h (bit m j) (bit-lt j m) (window-here R n h p (length h + j - suc R) j (omega arith))
+      go false (high g) = has-in (length h + j - suc R) h (bit m j) (bit-lt j m)
+          (window-here R n h p (length h + j - suc R) j (omega arith))
 
   -- the window carries the mark array along
   pub marks-walk : marks R h ≡ walk R 0 (start R) h

@@ -1,5 +1,5 @@
--- A row in general: n cells in file order, numbered from 0; cell k stands at site k and is wide k sites wide. What rules 4 and 6 say of the
--- order of the cells from left to right, and the way back.
+-- A row in general: n cells in file order, numbered from 0; cell k stands at site k and is wide k sites wide. What
+-- rules 4 and 6 say of the order of the cells from left to right, and the way back.
 use mathlib.Core.Path.{_≡_, refl, sym, ap, _∙_, subst}
 use mathlib.Core.Logic.{_≢_, _↔_, _⊎_, inl, inr}
 use mathlib.Core.List.{List, [], _∷_, List·Memᴰ as In, List·Memᴰ·head as here, List·Memᴰ·tail as there, Memᴰ·cast}
@@ -13,7 +13,8 @@ use Rattle.lists.specs.Compare.{Eq?, same, differs, eq?, Le?, low, high, le?}
 use Rattle.lists.specs.Numbers.{from, length-from, in-from, from-in}
 use Rattle.lists.specs.Membership.{distinct-from, Distinct}
 use Rattle.lists.specs.Neighbours.{Pairs, Chain, Next, Near}
-use Rattle.theory_row.specs.Order.{put, sort, order, place, Rising, order-below, order-all, order-size, sort-rising, rising-same, rising-distinct, near-place, place-near}
+use Rattle.theory_row.specs.Order.{put, sort, order, place, Rising, order-below, order-all, order-size}
+use Rattle.theory_row.specs.Order.{sort-rising, rising-same, rising-distinct, near-place, place-near}
 use Rattle.theory_row.specs.Rules.{Clear, Rule4, Rule5, Rule6, NoGapOne, sum, sumNeighbours}
 use Rattle.theory_row.specs.Window.{start, Run, Arranged, arranged-run, run-arranged}
 
@@ -22,7 +23,10 @@ use Rattle.theory_row.specs.Window.{start, Run, Arranged, arranged-run, 
 module _ (P : ℕ → ℕ → Type 0) where
   pub all-pairs : (l : List ℕ) → Distinct l → ((a b : ℕ) → In a l → In b l → a ≢ b → P a b) → Pairs P l
   all-pairs [] d f = tt
-  all-pairs (x ∷ l) d f = (λ k m. f x k (here refl) (there m) (λ e. d .0 (Memᴰ·cast e m)), all-pairs l (d .1) (λ a b p q. f a b (there p) (there q)))
+  all-pairs (x ∷ l) d f = (
+    λ k m. f x k (here refl) (there m) (λ e. d .0 (Memᴰ·cast e m)),
+    all-pairs l (d .1) (λ a b p q. f a b (there p) (there q)),
+  )
 
   pub in-pairs : (l : List ℕ) → Pairs P l → (a b : ℕ) → In a l → In b l → a ≢ b → P a b ⊎ P b a
   in-pairs (x ∷ l) h a b (here e) (here e′) d = absurd (d (e ∙ sym e′))
@@ -39,7 +43,8 @@ module _ (P : ℕ → ℕ → Type 0) where
   pairs-chain (a ∷ l) h = pairs-next a l h
 
 module _ (site wide : ℕ → ℕ) where
-  next-pairs : (a : ℕ) (l : List ℕ) → ((k : ℕ) → In k l → 0 < wide k) → Next (Clear site wide) a l → Pairs (Clear site wide) (a ∷ l)
+  next-pairs : (a : ℕ) (l : List ℕ) → ((k : ℕ) → In k l → 0 < wide k) → Next (Clear site wide) a l
+      → Pairs (Clear site wide) (a ∷ l)
   next-pairs a [] w h = (λ k m. elim m [ ], tt)
   next-pairs a (b ∷ l) w h = let r = next-pairs b l (λ k m. w k (there m)) (h .1) in (λ k m. go r k m, r)
     where
@@ -47,17 +52,25 @@ module _ (site wide : ℕ → ℕ) where
       go r k (here e) = rw e (h .0)
       go r k (there m) = let f = r .0 k m in let g = h .0 in omega arith
 
-  pub chain-pairs : (l : List ℕ) → ((k : ℕ) → In k l → 0 < wide k) → Chain (Clear site wide) l → Pairs (Clear site wide) l
+  pub chain-pairs : (l : List ℕ) → ((k : ℕ) → In k l → 0 < wide k) → Chain (Clear site wide) l
+      → Pairs (Clear site wide) l
   chain-pairs [] w h = tt
   chain-pairs (a ∷ l) w h = next-pairs a l (λ k m. w k (there m)) h
 
   pairs-rising : (l : List ℕ) → ((k : ℕ) → In k l → 0 < wide k) → Pairs (Clear site wide) l → Rising site l
   pairs-rising [] w h = tt
-  pairs-rising (x ∷ l) w h = (λ k m. let f = h .0 k m in let g = w x (here refl) in omega arith, pairs-rising l (λ k m. w k (there m)) (h .1))
+  pairs-rising (x ∷ l) w h = (
+    λ k m. let f = h .0 k m in let g = w x (here refl) in omega arith,
+    pairs-rising l (λ k m. w k (there m)) (h .1),
+  )
 
-  rising-clear : (l : List ℕ) → ((a b : ℕ) → In a l → In b l → a ≢ b → Clear site wide a b ⊎ Clear site wide b a) → Rising site l → Pairs (Clear site wide) l
+  rising-clear : (l : List ℕ) → ((a b : ℕ) → In a l → In b l → a ≢ b → Clear site wide a b ⊎ Clear site wide b a)
+      → Rising site l → Pairs (Clear site wide) l
   rising-clear [] f r = tt
-  rising-clear (x ∷ l) f r = (λ k m. go k (r .0 k m) (f x k (here refl) (there m) (λ e. let h = r .0 k m in let g = ap site e in omega arith)), rising-clear l (λ a b p q. f a b (there p) (there q)) (r .1))
+  rising-clear (x ∷ l) f r = (
+    λ k m. go k (r .0 k m) (f x k (here refl) (there m) (λ e. let h = r .0 k m in let g = ap site e in omega arith)),
+    rising-clear l (λ a b p q. f a b (there p) (there q)) (r .1),
+  )
     where
       go : (k : ℕ) → site x < site k → Clear site wide x k ⊎ Clear site wide k x → Clear site wide x k
       go k h (inl c) = c
@@ -66,7 +79,8 @@ module _ (site wide : ℕ → ℕ) where
 module _ (site wide : ℕ → ℕ) (n R : ℕ) (w : (k : ℕ) → k < n → 0 < wide k) where
   pub order-rising : ((a b : ℕ) → a < n → b < n → a ≢ b → site a ≢ site b) → Rising site (order site n)
   unfolding order
-  order-rising f = sort-rising site (from 0 n) (all-pairs (λ a b. site a ≢ site b) (from 0 n) (distinct-from 0 n) (λ a b p q. f a b (lt a p) (lt b q)))
+  order-rising f = sort-rising site (from 0 n)
+      (all-pairs (λ a b. site a ≢ site b) (from 0 n) (distinct-from 0 n) (λ a b p q. f a b (lt a p) (lt b q)))
     where
       lt : (a : ℕ) → In a (from 0 n) → a < n
       lt a p = let h = in-from 0 n p in omega arith
@@ -93,9 +107,11 @@ module _ (site wide : ℕ → ℕ) (n R : ℕ) (w : (k : ℕ) → k < n → 0 < 
   pub legal-chain : Rule4 site wide n → Chain (Clear site wide) (order site n)
   legal-chain f =
       pairs-chain (Clear site wide) (order site n)
-      (rising-clear site wide (order site n) (λ a b p q. f a b (order-below site n a p) (order-below site n b q)) (order-rising (rule4-sites f)))
+      (rising-clear site wide (order site n) (λ a b p q. f a b (order-below site n a p) (order-below site n b q))
+      (order-rising (rule4-sites f)))
 
-  -- and the way back: an arrangement whose neighbours are clear of each other is the order of the row, and rules 4 and 6 hold
+  -- and the way back: an arrangement whose neighbours are clear of each other is
+  -- the order of the row, and rules 4 and 6 hold
   module _ (l : List ℕ) (a : Arranged R n l) (c : Chain (Clear site wide) l) where
     wide-in : (k : ℕ) → In k l → 0 < wide k
     wide-in k m = w k (a .below k m)
@@ -108,7 +124,8 @@ module _ (site wide : ℕ → ℕ) (n R : ℕ) (w : (k : ℕ) → k < n → 0 < 
 
     pub arranged-order : order site n ≡ l
     arranged-order =
-        rising-same site (order site n) l (order-rising (rule4-sites arranged-rule4)) (pairs-rising site wide l wide-in clear-pairs)
+        rising-same site (order site n) l (order-rising (rule4-sites arranged-rule4))
+        (pairs-rising site wide l wide-in clear-pairs)
         (λ k m. a .all k (order-below site n k m)) (λ k m. order-all site n k (a .below k m))
 
     pub arranged-rule6 : Rule6 R site n
@@ -145,11 +162,13 @@ module _ (R : ℕ) (site wide : ℕ → ℕ) (n : ℕ) (w : (k : ℕ) → k < n 
   pub legal-run : Legal R site wide n → Run R n 0 (start R) (order site n) × Chain (Fits site wide) (order site n)
   legal-run g = (
     arranged-run R n (order site n) (legal-arranged site wide n R w (g .rule4) (g .rule6)),
-    chain-both (Clear site wide) (NoGapOne site wide) (order site n) (legal-chain site wide n R w (g .rule4)) (g .rule5),
+    chain-both (Clear site wide) (NoGapOne site wide) (order site n)
+        (legal-chain site wide n R w (g .rule4)) (g .rule5),
   )
 
   pub run-order : (l : List ℕ) → length l ≡ n → Run R n 0 (start R) l → Chain (Fits site wide) l → order site n ≡ l
-  run-order l s r c = arranged-order site wide n R w l (run-arranged R n l s r) (chain-map (Fits site wide) (Clear site wide) (λ x y p. p .0) l c)
+  run-order l s r c = arranged-order site wide n R w l (run-arranged R n l s r)
+      (chain-map (Fits site wide) (Clear site wide) (λ x y p. p .0) l c)
 
   pub run-legal : (l : List ℕ) → length l ≡ n → Run R n 0 (start R) l → Chain (Fits site wide) l → Legal R site wide n
   run-legal l s r c =
@@ -168,7 +187,8 @@ unfolding sum put
 put-sum f site k [] = refl
 put-sum f site k (x ∷ l) = go (leb (site k) (site x)) (put-sum f site k l)
   where
-    go : (t : Bool) → sum f (put site k l) ≡ f k + sum f l → sum f (cond t (k ∷ x ∷ l) (x ∷ put site k l)) ≡ f k + (f x + sum f l)
+    go : (t : Bool) → sum f (put site k l) ≡ f k + sum f l
+        → sum f (cond t (k ∷ x ∷ l) (x ∷ put site k l)) ≡ f k + (f x + sum f l)
     go true e = refl
     go false e = omega arith
 

@@ -1,5 +1,6 @@
--- Rules 4, 5 and 6 for a row in general, and the sum over neighbours. The row has n cells, numbered from 0 in file order; cell k stands at
--- site k and is wide k sites wide. Each rule is a test of one cell, and then a statement about the row; the two agree.
+-- Rules 4, 5 and 6 for a row in general, and the sum over neighbours. The row has n cells, numbered from 0
+-- in file order; cell k stands at site k and is wide k sites wide. Each rule is a test of one cell, and
+-- then a statement about the row; the two agree.
 use mathlib.Core.Path.{_≡_, refl, sym, ap, _∙_, subst}
 use mathlib.Core.Logic.{_≢_, _↔_, _⊎_, inl, inr}
 use mathlib.Core.List.{List, [], _∷_, List·Memᴰ as In, List·Memᴰ·head as here, List·Memᴰ·tail as there, Memᴰ·cast}
@@ -164,7 +165,8 @@ any-none f n = (
 )
 
 pub lowest-none : (f : ℕ → Bool) (n : ℕ) → lowest f (from 0 n) ≡ 0 ↔ None f n
-lowest-none f n = (λ e. any-none f n .0 (lowest-false f (from 0 n) .0 e), λ g. lowest-false f (from 0 n) .1 (any-none f n .1 g))
+lowest-none f n =
+    (λ e. any-none f n .0 (lowest-false f (from 0 n) .0 e), λ g. lowest-false f (from 0 n) .1 (any-none f n .1 g))
 
 -- ---- each rule's test and statement agree
 
@@ -178,7 +180,8 @@ rule4-test site wide n = (
     test : ℕ → ℕ → Bool
     test k b = not (eqb b k) && share site wide k b
 
-    cases : (a b : ℕ) (s t u : Bool) → Eq? b a s → Le? (suc (site a)) (site b + wide b) t → Le? (suc (site b)) (site a + wide a) u
+    cases : (a b : ℕ) (s t u : Bool) → Eq? b a s → Le? (suc (site a)) (site b + wide b) t
+        → Le? (suc (site b)) (site a + wide a) u
         → a ≢ b → (not s && (t && u)) ≡ false → Clear site wide a b ⊎ Clear site wide b a
     cases a b true t u (same e) v w d z = absurd (d (sym e))
     cases a b false true true e v w d z = absurd (clash z)
@@ -186,9 +189,11 @@ rule4-test site wide n = (
     cases a b false false u e (high h) w d z = inr (omega arith)
 
     go : (a b : ℕ) → a ≢ b → test a b ≡ false → Clear site wide a b ⊎ Clear site wide b a
-    go a b d z = cases a b (eqb b a) (ltb (site a) (site b + wide b)) (ltb (site b) (site a + wide a)) (eq? b a) (le? _ _) (le? _ _) d z
+    go a b d z = cases a b (eqb b a) (ltb (site a) (site b + wide b)) (ltb (site b) (site a + wide a)) (eq? b a)
+        (le? _ _) (le? _ _) d z
 
-    case₂ : (a b : ℕ) (s t u : Bool) → Eq? b a s → Le? (suc (site a)) (site b + wide b) t → Le? (suc (site b)) (site a + wide a) u
+    case₂ : (a b : ℕ) (s t u : Bool) → Eq? b a s → Le? (suc (site a)) (site b + wide b) t
+        → Le? (suc (site b)) (site a + wide a) u
         → (a ≢ b → Clear site wide a b ⊎ Clear site wide b a) → (not s && (t && u)) ≡ false
     case₂ a b true t u e v w c = refl
     case₂ a b false false u e v w c = refl
@@ -200,7 +205,8 @@ rule4-test site wide n = (
         not-both (inr h) = omega arith
 
     back : (a b : ℕ) → (a ≢ b → Clear site wide a b ⊎ Clear site wide b a) → test a b ≡ false
-    back a b c = case₂ a b (eqb b a) (ltb (site a) (site b + wide b)) (ltb (site b) (site a + wide a)) (eq? b a) (le? _ _) (le? _ _) c
+    back a b c = case₂ a b (eqb b a) (ltb (site a) (site b + wide b)) (ltb (site b) (site a + wide a)) (eq? b a)
+        (le? _ _) (le? _ _) c
 
 module _ (site wide : ℕ → ℕ) where
   at5 : ℕ → ℕ → ℕ → Bool
@@ -211,7 +217,8 @@ module _ (site wide : ℕ → ℕ) where
   next5 a [] g = tt
   next5 a (b ∷ l) g =
       let f = or-false (at5 a a b) (anyNext (at5 a) b l) .0 (g a (here refl)) in (
-        eqb-false (site b) (site a + wide a + 1) .0 (and-rest (eqb a a || eqb a b) (or-left (eqb a a) (eqb a b) (eqb-refl a)) (f .0)),
+        eqb-false (site b) (site a + wide a + 1) .0
+            (and-rest (eqb a a || eqb a b) (or-left (eqb a a) (eqb a b) (eqb-refl a)) (f .0)),
         next5 b l (λ k m. or-false (at5 k a b) (anyNext (at5 k) b l) .0 (g k (there m)) .1),
       )
 
@@ -246,4 +253,5 @@ rule6-test R site n = (λ g k h. go k (place k (order site n)) (g k h), λ r k h
 
     back : (k p : ℕ) → (p ≤ k + R) × (k ≤ p + R) → (ltb (k + R) p || ltb (p + R) k) ≡ false
     back k p c =
-        or-false (ltb (k + R) p) (ltb (p + R) k) .1 (leb-false (suc (k + R)) p .1 (omega arith), leb-false (suc (p + R)) k .1 (omega arith))
+        or-false (ltb (k + R) p) (ltb (p + R) k) .1
+        (leb-false (suc (k + R)) p .1 (omega arith), leb-false (suc (p + R)) k .1 (omega arith))

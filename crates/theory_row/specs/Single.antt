@@ -1,8 +1,10 @@
--- One row, whole: the cheapest path through the windows is the cheapest legal placement of the row. Each cell k has a finite list of options; an
--- option has a site and, for its cell, a width; a cell's option has its own cost, and two neighbours pay a charge.
+-- One row, whole: the cheapest path through the windows is the cheapest legal placement of the row. Each cell
+-- k has a finite list of options; an option has a site and, for its cell, a width; a cell's option has its
+-- own cost, and two neighbours pay a charge.
 use mathlib.Core.Path.{_≡_, refl, sym, ap, ap₂, _∙_, subst}
 use mathlib.Core.Logic.{_≢_, _↔_, _⊎_, inl, inr}
-use mathlib.Core.List.{List, [], _∷_, _++_, List·Memᴰ as In, List·Memᴰ·head as here, List·Memᴰ·tail as there, Memᴰ·append-left, Memᴰ·append-right, List·Memᴰ·append-cases}
+use mathlib.Core.List.{List, [], _∷_, _++_, List·Memᴰ as In, List·Memᴰ·head as here}
+use mathlib.Core.List.{List·Memᴰ·tail as there, Memᴰ·append-left, Memᴰ·append-right, List·Memᴰ·append-cases}
 use mathlib.Core.Option.{Option, none, some}
 use Prim.Native.Nat.{ℕ, zero, suc, _+_, _≤_, _<_}
 use native.Mathlib.Omega.{arith}
@@ -56,10 +58,12 @@ module _ {C : Type 0} (P : C → Type 0) where
 
     in-sift : {x : C} (l : List C) → In x l → P x → In x (sift l)
     unfolding sift
-    in-sift {x} (c ∷ l) (here e) p = subst (λ y. In y (keep c (dec c) (sift l))) (sym e) (in-keep c (dec c) (sift l) (subst P e p))
+    in-sift {x} (c ∷ l) (here e) p =
+        subst (λ y. In y (keep c (dec c) (sift l))) (sym e) (in-keep c (dec c) (sift l) (subst P e p))
     in-sift (c ∷ l) (there m) p = keep-more c (dec c) (sift l) (in-sift l m p)
 
-module _ {A : Type 0} (R n : ℕ) (options : ℕ → List A) (siteOf : A → ℕ) (widthOf : ℕ → A → ℕ) (own : ℕ → A → ℕ) (pay : ℕ × A → ℕ × A → ℕ) where
+module _ {A : Type 0} (R n : ℕ) (options : ℕ → List A) (siteOf : A → ℕ) (widthOf : ℕ → A → ℕ) (own : ℕ → A → ℕ)
+    (pay : ℕ × A → ℕ × A → ℕ) where
   -- a cell with an option; how many are placed, the marks, and the last one placed
   abbrev Choice : Type 0
   Choice = ℕ × A
@@ -79,13 +83,16 @@ module _ {A : Type 0} (R n : ℕ) (options : ℕ → List A) (siteOf : A → ℕ
   -- c may stand right of the last one placed
   abbrev FitsTo : Option Choice → Choice → Type 0
   FitsTo none c = Unit {0}
-  FitsTo (some b) c = (siteOf (b .1) + widthOf (b .0) (b .1) ≤ siteOf (c .1)) × (siteOf (c .1) ≢ siteOf (b .1) + widthOf (b .0) (b .1) + 1)
+  FitsTo (some b) c = (siteOf (b .1) + widthOf (b .0) (b .1) ≤ siteOf (c .1))
+      × (siteOf (c .1) ≢ siteOf (b .1) + widthOf (b .0) (b .1) + 1)
 
   fitsTo? : (o : Option Choice) (c : Choice) → Dec (FitsTo o c)
   fitsTo? none c = yes tt
-  fitsTo? (some b) c = go (decLe (siteOf (b .1) + widthOf (b .0) (b .1)) (siteOf (c .1))) (ℕ-discrete (siteOf (c .1)) (siteOf (b .1) + widthOf (b .0) (b .1) + 1))
+  fitsTo? (some b) c = go (decLe (siteOf (b .1) + widthOf (b .0) (b .1)) (siteOf (c .1)))
+      (ℕ-discrete (siteOf (c .1)) (siteOf (b .1) + widthOf (b .0) (b .1) + 1))
     where
-      go : Dec (siteOf (b .1) + widthOf (b .0) (b .1) ≤ siteOf (c .1)) → Dec (siteOf (c .1) ≡ siteOf (b .1) + widthOf (b .0) (b .1) + 1) → Dec (FitsTo (some b) c)
+      go : Dec (siteOf (b .1) + widthOf (b .0) (b .1) ≤ siteOf (c .1))
+          → Dec (siteOf (c .1) ≡ siteOf (b .1) + widthOf (b .0) (b .1) + 1) → Dec (FitsTo (some b) c)
       go (yes p) (no q) = yes (p, q)
       go (yes p) (yes q) = no (λ f. f .1 q)
       go (no p) q = no (λ f. p (f .0))
@@ -128,14 +135,16 @@ module _ {A : Type 0} (R n : ℕ) (options : ℕ → List A) (siteOf : A → ℕ
   unfolding candidates
   candidates-in {c} (k ∷ l) m = go (List·Memᴰ·append-cases (pairsOf k (options k)) m) (candidates-in l)
     where
-      go : In c (pairsOf k (options k)) ⊎ In c (candidates l) → (In c (candidates l) → In (c .1) (options (c .0))) → In (c .1) (options (c .0))
+      go : In c (pairsOf k (options k)) ⊎ In c (candidates l) → (In c (candidates l) → In (c .1) (options (c .0)))
+          → In (c .1) (options (c .0))
       go (inl p) f = let r = pairs-in k (options k) p in subst (λ x. In (c .1) (options x)) (sym (r .0)) (r .1)
       go (inr p) f = f p
 
   in-candidates : {k : ℕ} {a : A} (l : List ℕ) → In k l → In a (options k) → In (k, a) (candidates l)
   unfolding candidates
   in-candidates {k} {a} (x ∷ l) (here e) p =
-      subst (λ y. In (y, a) (candidates (x ∷ l))) (sym e) (Memᴰ·append-left (candidates l) (in-pairs x (options x) (subst (λ y. In a (options y)) e p)))
+      subst (λ y. In (y, a) (candidates (x ∷ l))) (sym e)
+      (Memᴰ·append-left (candidates l) (in-pairs x (options x) (subst (λ y. In a (options y)) e p)))
   in-candidates (x ∷ l) (there m) p = Memᴰ·append-right (pairsOf x (options x)) (in-candidates l m p)
 
   moves-in : (s : State) (c : Choice) → In c (moves s) → In (c .1) (options (c .0)) × Ok s c
@@ -146,7 +155,8 @@ module _ {A : Type 0} (R n : ℕ) (options : ℕ → List A) (siteOf : A → ℕ
   unfolding moves
   in-moves s c p o =
       let h = o .0 .inside in
-      in-sift (Ok s) (ok? s) (candidates (from 0 n)) (in-candidates (from 0 n) (from-in (c .0) 0 n (omega arith) (omega arith)) p) o
+      in-sift (Ok s) (ok? s) (candidates (from 0 n))
+      (in-candidates (from 0 n) (from-in (c .0) 0 n (omega arith) (omega arith)) p) o
 
   path-run : (s : State) (p : List Choice) → Path′ moves next toll s p → Run R n (s .0) (s .1) (cells p)
   unfolding cells next
@@ -172,19 +182,25 @@ module _ {A : Type 0} (R n : ℕ) (options : ℕ → List A) (siteOf : A → ℕ
     abbrev after : ℕ → ℕ → ℕ → State
     after i m a = (i, m, some (a, f a))
 
-    next-path : (i m a : ℕ) (l : List ℕ) → Run R n i m l → ((k : ℕ) → In k l → In (f k) (options k)) → Next (Fits site wide) a l
+    next-path : (i m a : ℕ) (l : List ℕ) → Run R n i m l → ((k : ℕ) → In k l → In (f k) (options k))
+        → Next (Fits site wide) a l
         → Path′ moves next toll (after i m a) (along f l)
     unfolding along next
     next-path i m a [] r o c = tt
-    next-path i m a (k ∷ l) r o c =
-        (in-moves (after i m a) (k, f k) (o k (here refl)) (r .0, c .0), next-path (suc i) (step R i m k) k l (r .1) (λ j p. o j (there p)) (c .1))
+    next-path i m a (k ∷ l) r o c = (
+      in-moves (after i m a) (k, f k) (o k (here refl)) (r .0, c .0),
+      next-path (suc i) (step R i m k) k l (r .1) (λ j p. o j (there p)) (c .1),
+    )
 
-    chain-path : (l : List ℕ) → Run R n 0 (start R) l → ((k : ℕ) → In k l → In (f k) (options k)) → Chain (Fits site wide) l
+    chain-path : (l : List ℕ) → Run R n 0 (start R) l → ((k : ℕ) → In k l → In (f k) (options k))
+        → Chain (Fits site wide) l
         → Path′ moves next toll (0, start R, none) (along f l)
     unfolding along next
     chain-path [] r o c = tt
-    chain-path (k ∷ l) r o c =
-        (in-moves (0, start R, none) (k, f k) (o k (here refl)) (r .0, tt), next-path 1 (step R 0 (start R) k) k l (r .1) (λ j p. o j (there p)) c)
+    chain-path (k ∷ l) r o c = (
+      in-moves (0, start R, none) (k, f k) (o k (here refl)) (r .0, tt),
+      next-path 1 (step R 0 (start R) k) k l (r .1) (λ j p. o j (there p)) c,
+    )
 
     path-next : (i m a : ℕ) (l : List ℕ) → Path′ moves next toll (after i m a) (along f l)
         → Run R n i m l × ((k : ℕ) → In k l → In (f k) (options k)) × Next (Fits site wide) a l
@@ -212,7 +228,8 @@ module _ {A : Type 0} (R n : ℕ) (options : ℕ → List A) (siteOf : A → ℕ
         go j (here e) x g = rw e x
         go j (there q) x g = g q
 
-    cost-next : (i m a : ℕ) (l : List ℕ) → cost moves next toll (after i m a) (along f l) ≡ sum mine l + sumNext ours a l
+    cost-next : (i m a : ℕ) (l : List ℕ)
+        → cost moves next toll (after i m a) (along f l) ≡ sum mine l + sumNext ours a l
     unfolding along next toll sum sumNext
     cost-next i m a [] = refl
     cost-next i m a (k ∷ l) = let r = cost-next (suc i) (step R i m k) k l in omega arith
@@ -237,11 +254,13 @@ module _ {A : Type 0} (R n : ℕ) (options : ℕ → List A) (siteOf : A → ℕ
         let r = legal-run R (site f) (wide f) n (λ k h. w k (f k) (p .offered k h)) (p .legal) in
         let l = order (site f) n in
         let q = chain-path f l (r .0) (λ k m. p .offered k (order-below (site f) n k m)) (r .1) in
-        subst (λ x. best moves next toll n (0, start R, none) ⊑ x) (cost-chain f l ∙ ap (λ x. x + sumNeighbours (ours f) l) (order-sum (mine f) (site f) n))
+        subst (λ x. best moves next toll n (0, start R, none) ⊑ x) (cost-chain f l
+        ∙ ap (λ x. x + sumNeighbours (ours f) l) (order-sum (mine f) (site f) n))
         (best-below moves next toll n (0, start R, none) (along f l) (along-size f l ∙ order-size (site f) n) q)
 
     -- some legal placement costs just that
-    pub single-met : (v : ℕ) → best moves next toll n (0, start R, none) ≡ some v → (f : ℕ → A) × Placed f × (total f ≡ v)
+    pub single-met : (v : ℕ) → best moves next toll n (0, start R, none) ≡ some v
+        → (f : ℕ → A) × Placed f × (total f ≡ v)
     single-met v e =
         let r = best-met moves next toll n (0, start R, none) v e in
         let p = r .0 in
@@ -253,7 +272,10 @@ module _ {A : Type 0} (R n : ℕ) (options : ℕ → List A) (siteOf : A → ℕ
         let wd : (k : ℕ) → k < n → 0 < wide f k = λ k h. w k (f k) (q .1 k (a .all k h)) in
         let o : order (site f) n ≡ l = run-order R (site f) (wide f) n wd l (a .size) (q .0) (q .2) in (
           f,
-          record { offered = λ k h. q .1 k (a .all k h); legal = run-legal R (site f) (wide f) n wd l (a .size) (q .0) (q .2) },
+          record {
+            offered = λ k h. q .1 k (a .all k h);
+            legal = run-legal R (site f) (wide f) n wd l (a .size) (q .0) (q .2);
+          },
           ap₂ (λ x y. x + sumNeighbours (ours f) y) (sym (order-sum (mine f) (site f) n) ∙ ap (sum (mine f)) o) o
               ∙ sym (cost-chain f l) ∙ ap (cost moves next toll (0, start R, none)) same ∙ r .3,
         )

@@ -1,5 +1,6 @@
--- Which file position may be placed next: the window of marks. Positions and places count from 0. With i positions placed, digit j of the
--- marks m stands for position i + j - (R + 1), for j from 0 to 2 R: positions before the row count as placed.
+-- Which file position may be placed next: the window of marks. Positions and places count from 0.
+-- With i positions placed, digit j of the marks m stands for position i + j - (R + 1), for j from 0
+-- to 2 R: positions before the row count as placed.
 use mathlib.Core.Path.{_≡_, refl, sym, ap, _∙_, subst}
 use mathlib.Core.Logic.{_≢_, _↔_, _⊎_, inl, inr}
 use mathlib.Core.List.{List, [], _∷_, _++_, List·Memᴰ as In, List·Memᴰ·head as here, List·Memᴰ·tail as there, Memᴰ·cast}
@@ -21,7 +22,8 @@ start R = 2 ^ suc R - 1
 unfoldable pub step : ℕ → ℕ → ℕ → ℕ → ℕ
 step R i m k = m / 2 + 2 ^ (k + R - i)
 
--- position k may be placed as number i: it is in the row, in the window and not marked, and no unmarked position leaves the window
+-- position k may be placed as number i: it is in the row, in the window and not marked,
+-- and no unmarked position leaves the window
 pub record May (R n i m k : ℕ) : Type 0 where
   pub inside : k < n
   pub low : i ≤ k + R
@@ -104,7 +106,9 @@ seen-here i m q o h = go (ℕ-discrete q i)
 module _ (R n i m k : ℕ) (a : May R n i m k) where
   pub seen-set : seen (suc i) (step R i m k) (k + suc R) ≡ 1
   unfolding step
-  seen-set = let l = a .low in seen-at (suc i) (step R i m k) (k + suc R) (k + R - i) (omega arith) ∙ bit-set (k + R - i) (m / 2) (a .free)
+  seen-set =
+      let l = a .low in
+      seen-at (suc i) (step R i m k) (k + suc R) (k + R - i) (omega arith) ∙ bit-set (k + R - i) (m / 2) (a .free)
 
   pub seen-keep : (q : ℕ) → m % 2 ≡ 1 → q ≢ k + suc R → seen (suc i) (step R i m k) q ≡ seen i m q
   unfolding step bit
@@ -218,11 +222,15 @@ module _ (R n i m k : ℕ) (l : List ℕ) (o : m % 2 ≡ 1) where
       due′ j h z (yes e) = here e
       due′ j h z (no d) = there (r .due j (omega arith) (seen-keep R n i m k a (j + suc R) o (omega arith) ∙ z))
 
-pub rest-run : (R n i m : ℕ) (l : List ℕ) → m % 2 ≡ 1 → ((q : ℕ) → q ≤ R → seen i m q ≡ 1) → Rest R n i m l → Run R n i m l
+pub rest-run : (R n i m : ℕ) (l : List ℕ) → m % 2 ≡ 1 → ((q : ℕ) → q ≤ R → seen i m q ≡ 1)
+    → Rest R n i m l → Run R n i m l
 rest-run R n i m [] o pad r = tt
 rest-run R n i m (k ∷ l) o pad r =
-    let a = rest-may R n i m k l o pad r in
-    (a, rest-run R n (suc i) (step R i m k) l (a .kept) (λ q h. pad′ q h (ℕ-discrete q (k + suc R)) a) (rest-tail R n i m k l o a r))
+    let a = rest-may R n i m k l o pad r in (
+      a,
+      rest-run R n (suc i) (step R i m k) l (a .kept) (λ q h. pad′ q h (ℕ-discrete q (k + suc R)) a)
+          (rest-tail R n i m k l o a r),
+    )
   where
     pad′ : (q : ℕ) → q ≤ R → Dec (q ≡ k + suc R) → May R n i m k → seen (suc i) (step R i m k) q ≡ 1
     pad′ q h (yes e) a = absurd (omega arith)
@@ -236,7 +244,8 @@ run-rest R n i m [] o r = record {
   fresh = λ k p. elim p [ ];
   due = λ k h z. absurd (let e = seen-here i m (k + suc R) o (omega arith) in omega arith);
 }
-run-rest R n i m (k ∷ l) o r = tail-rest R n i m k l o (r .0) (run-rest R n (suc i) (step R i m k) l (r .0 .kept) (r .1))
+run-rest R n i m (k ∷ l) o r =
+    tail-rest R n i m k l o (r .0) (run-rest R n (suc i) (step R i m k) l (r .0 .kept) (r .1))
 
 -- ---- a whole list, from the beginning
 
@@ -267,16 +276,23 @@ partial-run R n h p = rest-run R n 0 (start R) h (good-start R .odd) (start-pad 
 pub run-partial : (R n : ℕ) (h : List ℕ) → Run R n 0 (start R) h → Partial R n h
 run-partial R n h r =
     let s = run-rest R n 0 (start R) h (good-start R .odd) r in
-    record { near = s .near; distinct = s .distinct; below = s .below; due = λ k g. s .due k (omega arith) (start-free R k) }
+    record {
+      near = s .near;
+      distinct = s .distinct;
+      below = s .below;
+      due = λ k g. s .due k (omega arith) (start-free R k);
+    }
 
 -- ---- what the marks say after h: position k is in h just if its mark is set
 
 pub walk-seen : (R n i m k e : ℕ) (l : List ℕ) → e ≡ i + length l → m % 2 ≡ 1 → Run R n i m l
     → (seen i m (k + suc R) ≡ 1) ⊎ In k l → seen e (walk R i m l) (k + suc R) ≡ 1
 walk-seen R n i m k e [] z o r (inl h) = subst (λ x. seen x m (k + suc R) ≡ 1) (omega arith) h
-walk-seen R n i m k e (x ∷ l) z o r h = walk-seen R n (suc i) (step R i m x) k e l (omega arith) (r .0 .kept) (r .1) (go h (ℕ-discrete k x))
+walk-seen R n i m k e (x ∷ l) z o r h =
+    walk-seen R n (suc i) (step R i m x) k e l (omega arith) (r .0 .kept) (r .1) (go h (ℕ-discrete k x))
   where
-    go : (seen i m (k + suc R) ≡ 1) ⊎ In k (x ∷ l) → Dec (k ≡ x) → (seen (suc i) (step R i m x) (k + suc R) ≡ 1) ⊎ In k l
+    go : (seen i m (k + suc R) ≡ 1) ⊎ In k (x ∷ l) → Dec (k ≡ x)
+        → (seen (suc i) (step R i m x) (k + suc R) ≡ 1) ⊎ In k l
     go h (yes d) = inl (rw d (seen-set R n i m x (r .0)))
     go (inl h) (no d) = inl (seen-keep R n i m x (r .0) (k + suc R) o (omega arith) ∙ h)
     go (inr (here d′)) (no d) = absurd (d d′)
@@ -285,9 +301,11 @@ walk-seen R n i m k e (x ∷ l) z o r h = walk-seen R n (suc i) (step R i m x) k
 pub seen-walk : (R n i m k e : ℕ) (l : List ℕ) → e ≡ i + length l → m % 2 ≡ 1 → Run R n i m l
     → seen e (walk R i m l) (k + suc R) ≡ 1 → (seen i m (k + suc R) ≡ 1) ⊎ In k l
 seen-walk R n i m k e [] z o r h = inl (subst (λ x. seen x m (k + suc R) ≡ 1) (omega arith) h)
-seen-walk R n i m k e (x ∷ l) z o r h = go (seen-walk R n (suc i) (step R i m x) k e l (omega arith) (r .0 .kept) (r .1) h) (ℕ-discrete k x)
+seen-walk R n i m k e (x ∷ l) z o r h =
+    go (seen-walk R n (suc i) (step R i m x) k e l (omega arith) (r .0 .kept) (r .1) h) (ℕ-discrete k x)
   where
-    go : (seen (suc i) (step R i m x) (k + suc R) ≡ 1) ⊎ In k l → Dec (k ≡ x) → (seen i m (k + suc R) ≡ 1) ⊎ In k (x ∷ l)
+    go : (seen (suc i) (step R i m x) (k + suc R) ≡ 1) ⊎ In k l → Dec (k ≡ x)
+        → (seen i m (k + suc R) ≡ 1) ⊎ In k (x ∷ l)
     go h (yes d) = inr (here d)
     go (inl h) (no d) = inl (sym (seen-keep R n i m x (r .0) (k + suc R) o (omega arith)) ∙ h)
     go (inr p) (no d) = inr (there p)
@@ -313,7 +331,8 @@ module _ (R n : ℕ) (h : List ℕ) (p : Partial R n h) where
       go (inl e) = absurd (omega (arith, start-free R k))
       go (inr q) = q
 
-  -- in words: a position left of the window is in h, one in the window just if its digit is 1, and one right of it is not
+  -- in words: a position left of the window is in h, one in the window just if
+  -- its digit is 1, and one right of it is not
   pub window-left : (k : ℕ) → k + R < length h → In k h
   window-left k g = p .due k g
 
@@ -324,13 +343,16 @@ module _ (R n : ℕ) (h : List ℕ) (p : Partial R n h) where
 
 -- ---- one more position after h: whether it may be placed depends on the length and the marks alone
 
-pub run-append : (R n i m e : ℕ) (l t : List ℕ) → e ≡ i + length l → Run R n i m (l ++ t) ↔ (Run R n i m l × Run R n e (walk R i m l) t)
-run-append R n i m e [] t z = (λ r. (tt, subst (λ x. Run R n x m t) (omega arith) r), λ r. subst (λ x. Run R n x m t) (omega arith) (r .1))
+pub run-append : (R n i m e : ℕ) (l t : List ℕ) → e ≡ i + length l
+    → Run R n i m (l ++ t) ↔ (Run R n i m l × Run R n e (walk R i m l) t)
+run-append R n i m e [] t z =
+    (λ r. (tt, subst (λ x. Run R n x m t) (omega arith) r), λ r. subst (λ x. Run R n x m t) (omega arith) (r .1))
 run-append R n i m e (k ∷ l) t z =
     let b = run-append R n (suc i) (step R i m k) e l t (omega arith) in
     (λ r. let c = b .0 (r .1) in ((r .0, c .0), c .1), λ r. (r .0 .0, b .1 (r .0 .1, r .1)))
 
-pub next-after : (R n k : ℕ) (h : List ℕ) → Partial R n h → Partial R n (h ++ (k ∷ [])) ↔ May R n (length h) (walk R 0 (start R) h) k
+pub next-after : (R n k : ℕ) (h : List ℕ) → Partial R n h
+    → Partial R n (h ++ (k ∷ [])) ↔ May R n (length h) (walk R 0 (start R) h) k
 next-after R n k h p =
     let b = run-append R n 0 (start R) (length h) h (k ∷ []) (omega arith) in (
       λ q. b .0 (partial-run R n (h ++ (k ∷ [])) q) .1 .0,
@@ -350,23 +372,33 @@ pub record Arranged (R n : ℕ) (l : List ℕ) : Type 0 where
 pub arranged-run : (R n : ℕ) (l : List ℕ) → Arranged R n l → Run R n 0 (start R) l
 arranged-run R n l a =
     let s = a .size in
-    partial-run R n l record { near = a .near; distinct = a .distinct; below = a .below; due = λ k h. a .all k (omega arith) }
+    partial-run R n l
+    record { near = a .near; distinct = a .distinct; below = a .below; due = λ k h. a .all k (omega arith) }
 
 pub run-arranged : (R n : ℕ) (l : List ℕ) → length l ≡ n → Run R n 0 (start R) l → Arranged R n l
 run-arranged R n l s r =
     let p = run-partial R n l r in
-    record { size = s; near = p .near; distinct = p .distinct; below = p .below; all = pigeon n l (p .distinct) (p .below) (omega arith) }
+    record {
+      size = s;
+      near = p .near;
+      distinct = p .distinct;
+      below = p .below;
+      all = pigeon n l (p .distinct) (p .below) (omega arith);
+    }
 
 -- what has been placed at any time on the way to an arrangement
 pub prefix-partial : (R n : ℕ) (h t : List ℕ) → Arranged R n (h ++ t) → Partial R n h
-prefix-partial R n h t a = run-partial R n h (run-append R n 0 (start R) (length h) h t (omega arith) .0 (arranged-run R n (h ++ t) a) .0)
+prefix-partial R n h t a =
+    run-partial R n h (run-append R n 0 (start R) (length h) h t (omega arith) .0 (arranged-run R n (h ++ t) a) .0)
 
 -- ---- the test that a program makes
 
 unfoldable pub may? : (R n i m k : ℕ) → Dec (May R n i m k)
-may? R n i m k = go (decLt k n) (decLe i (k + R)) (decLe k (i + R)) (ℕ-discrete (bit (m / 2) (k + R - i)) 0) (ℕ-discrete (step R i m k % 2) 1)
+may? R n i m k = go (decLt k n) (decLe i (k + R)) (decLe k (i + R)) (ℕ-discrete (bit (m / 2) (k + R - i)) 0)
+    (ℕ-discrete (step R i m k % 2) 1)
   where
-    go : Dec (k < n) → Dec (i ≤ k + R) → Dec (k ≤ i + R) → Dec (bit (m / 2) (k + R - i) ≡ 0) → Dec (step R i m k % 2 ≡ 1) → Dec (May R n i m k)
+    go : Dec (k < n) → Dec (i ≤ k + R) → Dec (k ≤ i + R) → Dec (bit (m / 2) (k + R - i) ≡ 0)
+        → Dec (step R i m k % 2 ≡ 1) → Dec (May R n i m k)
     go (yes a) (yes b) (yes c) (yes d) (yes e) = yes record { inside = a; low = b; high = c; free = d; kept = e }
     go (no a) b c d e = no (λ q. a (q .inside))
     go (yes a) (no b) c d e = no (λ q. b (q .low))

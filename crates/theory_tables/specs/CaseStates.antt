@@ -1,5 +1,5 @@
--- The cases of a tall cell that two states and a pose number stand for: every case with a cost is one of them, so that an entry of the case table is
--- the lowest by way of those.
+-- The cases of a tall cell that two states and a pose number stand for: every case with a cost is one of them, so that
+-- an entry of the case table is the lowest by way of those.
 use mathlib.Core.Path.{_≡_, refl, sym, ap, ap₂, _∙_, subst}
 use mathlib.Core.List.{List·Memᴰ as In, List·Memᴰ·head as here, List·Memᴰ·eq-of-singleton}
 use mathlib.Core.Option.{some}
@@ -36,7 +36,8 @@ unfolding spots
 states-spots R k q h =
     let p = state-at R q h in
     let f = p .far in
-    in-each (from (suc k - R) (suc (2 * R))) _ (from-in (placedWith R k q) (suc k - R) (suc (2 * R)) (omega arith) (omega arith))
+    in-each (from (suc k - R) (suc (2 * R))) _
+    (from-in (placedWith R k q) (suc k - R) (suc (2 * R)) (omega arith) (omega arith))
     (in-each (goodMarks R) _ (in-goodMarks R (marks R q) .1 (p .good)) (here refl))
 
 -- ---- one row
@@ -53,12 +54,18 @@ module _ {A : Type 0} (R : ℕ) (siteOf : A → ℕ) (L : Line A) where
 
 module _ {A : Type 0} (R : ℕ) (siteOf : A → ℕ) (talls : ℕ) (X : Row siteOf talls) where
   -- the state that a tall cell stands as
-  reached-state : (I i m b : ℕ) (x : A) → X .pose (X .pos I) b ≡ x → Reached R siteOf (X .line) (i, m, some (X .pos I, x))
+  reached-state : (I i m b : ℕ) (x : A) → X .pose (X .pos I) b ≡ x
+      → Reached R siteOf (X .line) (i, m, some (X .pos I, x))
       → (q : ℕ) × (q < stateCount R) × (_≡_ {A = State A} (i, m, some (X .pos I, x)) (tallAs R siteOf talls X I q b))
   reached-state I i m b x e v =
-      let r = into-state R siteOf (X .line) (X .deck) (X .pose) (X .offered) (X .matched) (v .0) i m (X .pos I) x (v .1) (v .2) in
-      let z = r .2 in
-      (r .0, r .1, same-state i (placedWith R (X .pos I) (r .0)) m (marks R (r .0)) (X .pos I) (X .pos I) x (X .pose (X .pos I) b) (omega arith) (sym (r .3)) refl (sym e))
+      let r = into-state R siteOf (X .line) (X .deck) (X .pose) (X .offered) (X .matched) (v .0) i m (X .pos I) x
+      (v .1) (v .2) in
+      let z = r .2 in (
+        r .0,
+        r .1,
+        same-state i (placedWith R (X .pos I) (r .0)) m (marks R (r .0)) (X .pos I) (X .pos I) x (X .pose (X .pos I) b)
+            (omega arith) (sym (r .3)) refl (sym e),
+      )
 
 -- ---- two rows
 
@@ -96,10 +103,15 @@ module _ {A : Type 0} (R : ℕ) (siteOf : A → ℕ) (talls : ℕ) (X₀ X₁ : 
   loops I c = case-next B R siteOf (X₀ .line) (X₁ .line) (X₀ .pos) (X₁ .pos) I c
 
   -- a case with a cost is reached in both rows
-  stage-moves : (u c : Case A) → Good R (u .0 .1) → Good R (u .1 .1) → stage u c < B → Reached R siteOf (X₀ .line) (c .0) × Reached R siteOf (X₁ .line) (c .1)
-  stage-moves u c g₀ g₁ h = (least-move R siteOf (X₀ .line) (u .0) (c .0) g₀ (omega arith), least-move R siteOf (X₁ .line) (u .1) (c .1) g₁ (omega arith))
+  stage-moves : (u c : Case A) → Good R (u .0 .1) → Good R (u .1 .1) → stage u c < B
+      → Reached R siteOf (X₀ .line) (c .0) × Reached R siteOf (X₁ .line) (c .1)
+  stage-moves u c g₀ g₁ h = (
+    least-move R siteOf (X₀ .line) (u .0) (c .0) g₀ (omega arith),
+    least-move R siteOf (X₁ .line) (u .1) (c .1) g₁ (omega arith),
+  )
 
-  case-moves : (I : ℕ) (c : Case A) → entryOf I c < B → Reached R siteOf (X₀ .line) (c .0) × Reached R siteOf (X₁ .line) (c .1)
+  case-moves : (I : ℕ) (c : Case A) → entryOf I c < B
+      → Reached R siteOf (X₀ .line) (c .0) × Reached R siteOf (X₁ .line) (c .1)
   unfolding by-way by-spot by-pose
   case-moves zero c h =
       let e = case-first B R siteOf (X₀ .line) (X₁ .line) (X₀ .pos) (X₁ .pos) c in
@@ -110,12 +122,14 @@ module _ {A : Type 0} (R : ℕ) (siteOf : A → ℕ) (talls : ℕ) (X₀ X₁ : 
       let s = lowest-met B (by-spot I c (a .0)) (spots R (X₀ .pos I)) (a .2) in
       let t = lowest-met B (by-way I c (a .0) (s .0)) (spots R (X₁ .pos I)) (s .2) in
       let k = t .2 in
-      stage-moves (caseFrom I (a .0) (s .0) (t .0)) c (spots-good R (X₀ .pos I) (s .0) (s .1)) (spots-good R (X₁ .pos I) (t .0) (t .1)) (omega arith)
+      stage-moves (caseFrom I (a .0) (s .0) (t .0)) c (spots-good R (X₀ .pos I) (s .0) (s .1))
+      (spots-good R (X₁ .pos I) (t .0) (t .1)) (omega arith)
 
   -- ---- an entry by the entries of the tall cell before
 
   module _ (I : ℕ) (h : I < talls) (c : Case A) where
-    pub case-below : (s t l : ℕ) → s < stateCount R → t < stateCount R → l < X₀ .deck .poses → X₀ .offered (X₀ .pos I) l ≡ true
+    pub case-below : (s t l : ℕ) → s < stateCount R → t < stateCount R → l < X₀ .deck .poses
+        → X₀ .offered (X₀ .pos I) l ≡ true
         → entryOf (suc I) c ≤ entryOf I (caseAs I s t l) + stage (caseAs I s t l) c
     unfolding by-way by-spot by-pose
     case-below s t l hs ht hl o =
@@ -124,31 +138,40 @@ module _ {A : Type 0} (R : ℕ) (siteOf : A → ℕ) (talls : ℕ) (X₀ X₁ : 
         let t′ : ℕ × ℕ = (placedWith R (X₁ .pos I) t, marks R t) in
         let size = X₀ .matched .size in
         let i₀ = X₀ .inside I h in
-        let x = lowest-member B (by-pose I c) (X₀ .line .options (X₀ .pos I)) (pose-offer R siteOf (X₀ .line) (X₀ .deck) (X₀ .pose) (X₀ .offered) (X₀ .matched) (X₀ .pos I) l (omega arith) hl o) in
+        let x = lowest-member B (by-pose I c) (X₀ .line .options (X₀ .pos I)) (pose-offer R siteOf (X₀ .line) (X₀ .deck)
+        (X₀ .pose) (X₀ .offered) (X₀ .matched) (X₀ .pos I) l (omega arith) hl o) in
         let y = lowest-member B (by-spot I c p) (spots R (X₀ .pos I)) (states-spots R (X₀ .pos I) s hs) in
         let z = lowest-member B (by-way I c p s′) (spots R (X₁ .pos I)) (states-spots R (X₁ .pos I) t ht) in
-        let e : entryOf I (caseFrom I p s′ t′) + stage (caseFrom I p s′ t′) c ≡ entryOf I (caseAs I s t l) + stage (caseAs I s t l) c =
-        ap (λ (v : A). entryOf I (tallAs R siteOf talls X₀ I s l, (t′ .0, t′ .1, some (X₁ .pos I, v))) + stage (tallAs R siteOf talls X₀ I s l, (t′ .0, t′ .1, some (X₁ .pos I, v))) c) (same .pose I l h hl)
+        let e : entryOf I (caseFrom I p s′ t′) + stage (caseFrom I p s′ t′) c
+        ≡ entryOf I (caseAs I s t l) + stage (caseAs I s t l) c =
+        ap (λ (v : A). entryOf I (tallAs R siteOf talls X₀ I s l, (t′ .0, t′ .1, some (X₁ .pos I, v)))
+        + stage (tallAs R siteOf talls X₀ I s l, (t′ .0, t′ .1, some (X₁ .pos I, v))) c) (same .pose I l h hl)
         in
         omega (arith, loops I c)
 
     pub case-above : (x : ℕ) → x ≤ B
-        → ((s t l : ℕ) → s < stateCount R → t < stateCount R → l < X₀ .deck .poses → X₀ .offered (X₀ .pos I) l ≡ true → x ≤ entryOf I (caseAs I s t l) + stage (caseAs I s t l) c)
+        → ((s t l : ℕ) → s < stateCount R → t < stateCount R → l < X₀ .deck .poses → X₀ .offered (X₀ .pos I) l ≡ true
+        → x ≤ entryOf I (caseAs I s t l) + stage (caseAs I s t l) c)
         → x ≤ entryOf (suc I) c
     unfolding by-way by-spot by-pose
     case-above x b f =
-        let r = lowest-above B (by-pose I c) x (X₀ .line .options (X₀ .pos I)) b (λ p m. lowest-above B (by-spot I c p) x (spots R (X₀ .pos I)) b (λ s k. lowest-above B (by-way I c p s) x (spots R (X₁ .pos I)) b (λ t n.
+        let r =
+        lowest-above B (by-pose I c) x (X₀ .line .options (X₀ .pos I)) b (λ p m. lowest-above B (by-spot I c p) x
+        (spots R (X₀ .pos I)) b (λ s k. lowest-above B (by-way I c p s) x (spots R (X₁ .pos I)) b (λ t n.
         go p m s t (decLt (entryOf I (caseFrom I p s t)) B)))) in
         omega (arith, loops I c)
       where
-        go : (p : A) → In p (X₀ .line .options (X₀ .pos I)) → (s t : ℕ × ℕ) → Dec (entryOf I (caseFrom I p s t) < B) → x ≤ by-way I c p s t
+        go : (p : A) → In p (X₀ .line .options (X₀ .pos I)) → (s t : ℕ × ℕ) → Dec (entryOf I (caseFrom I p s t) < B)
+            → x ≤ by-way I c p s t
         go p m s t (yes k) =
             let size = X₀ .matched .size in
             let i₀ = X₀ .inside I h in
-            let o = offer-pose R siteOf (X₀ .line) (X₀ .deck) (X₀ .pose) (X₀ .offered) (X₀ .matched) (X₀ .pos I) p (omega arith) m in
+            let o = offer-pose R siteOf (X₀ .line) (X₀ .deck) (X₀ .pose) (X₀ .offered) (X₀ .matched) (X₀ .pos I) p
+            (omega arith) m in
             let v = case-moves I (caseFrom I p s t) k in
             let r₀ = reached-state R siteOf talls X₀ I (s .0) (s .1) (o .0) p (o .3) (v .0) in
-            let r₁ = reached-state R siteOf talls X₁ I (t .0) (t .1) (o .0) p (sym (same .pose I (o .0) h (o .1)) ∙ o .3) (v .1) in
+            let r₁ = reached-state R siteOf talls X₁ I (t .0) (t .1) (o .0) p
+            (sym (same .pose I (o .0) h (o .1)) ∙ o .3) (v .1) in
             let y = f (r₀ .0) (r₁ .0) (o .0) (r₀ .1) (r₁ .1) (o .1) (o .2) in
             let e = ap₂ (λ (w₀ w₁ : State A). entryOf I (w₀, w₁) + stage (w₀, w₁) c) (r₀ .2) (r₁ .2) in
             omega arith

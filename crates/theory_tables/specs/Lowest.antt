@@ -1,5 +1,5 @@
--- The lowest of a loop by its two laws: it is at most every member's, and a bound of every member's is at most it. With them loops over
--- different lists are compared member by member. The same for a cost and its code.
+-- The lowest of a loop by its two laws: it is at most every member's, and a bound of every member's is at most it. With
+-- them loops over different lists are compared member by member. The same for a cost and its code.
 use mathlib.Core.Path.{_≡_, refl, ap}
 use mathlib.Core.List.{List, [], _∷_, List·Memᴰ as In, List·Memᴰ·head as here, List·Memᴰ·tail as there}
 use Prim.Native.Nat.{ℕ, min, _≤_, _<_}
@@ -18,7 +18,10 @@ module _ {S : Type 0} (B : ℕ) (h : S → ℕ) where
   pub lowest-above : (x : ℕ) (l : List S) → x ≤ B → ((u : S) → In u l → x ≤ h u) → x ≤ lowest B h l
   unfolding lowest
   lowest-above x [] b g = b
-  lowest-above x (u ∷ l) b g = let r = lowest-above x l b (λ v m. g v (there m)) in let z = g u (here refl) in omega arith
+  lowest-above x (u ∷ l) b g =
+      let r = lowest-above x l b (λ v m. g v (there m)) in
+      let z = g u (here refl) in
+      omega arith
 
   -- below the bound it is a member's
   pub lowest-met : (l : List S) → lowest B h l < B → (u : S) × In u l × (h u < B)

@@ -1,7 +1,9 @@
--- The states of a digit and marks: just those in which a cell can have been placed last, and each has one source of marks.
+-- The states of a digit and marks: just those in which a cell can have been
+-- placed last, and each has one source of marks.
 use mathlib.Core.Path.{_≡_, refl, sym, ap, ap₂, _∙_, subst}
 use mathlib.Core.Logic.{_↔_}
-use mathlib.Core.List.{List, [], _∷_, List·Memᴰ as In, List·Memᴰ·head as here, List·Memᴰ·tail as there, Memᴰ·map, Memᴰ·of-map}
+use mathlib.Core.List.{List, [], _∷_, List·Memᴰ as In, List·Memᴰ·head as here}
+use mathlib.Core.List.{List·Memᴰ·tail as there, Memᴰ·map, Memᴰ·of-map}
 use mathlib.Core.Bool.{Bool, true, false, _&&_, _||_}
 use Prim.Native.Nat.{ℕ, zero, suc, _+_, _-_, _*_, _/_, _%_, _^_, _≤_, _<_}
 use native.Mathlib.Omega.{arith}
@@ -38,16 +40,19 @@ in-getD e (y ∷ l) (there m) = let r = in-getD e l m in let h = r .1 in (suc (r
 -- ---- the test
 
 may-last : (R d m : ℕ) → mayBeLast R m d ≡ true → (bit m d ≡ 1) × (bit m (2 * R) ≡ 1 → d ≡ 2 * R)
-may-last R d m e = go (eqb (bit m d) 1) (eqb (bit m (2 * R)) 0) (eqb d (2 * R)) (eq? (bit m d) 1) (eq? (bit m (2 * R)) 0) (eq? d (2 * R)) e
+may-last R d m e = go (eqb (bit m d) 1) (eqb (bit m (2 * R)) 0) (eqb d (2 * R)) (eq? (bit m d) 1)
+    (eq? (bit m (2 * R)) 0) (eq? d (2 * R)) e
   where
-    go : (t u v : Bool) → Eq? (bit m d) 1 t → Eq? (bit m (2 * R)) 0 u → Eq? d (2 * R) v → (t && (u || v)) ≡ true → (bit m d ≡ 1) × (bit m (2 * R) ≡ 1 → d ≡ 2 * R)
+    go : (t u v : Bool) → Eq? (bit m d) 1 t → Eq? (bit m (2 * R)) 0 u → Eq? d (2 * R) v → (t && (u || v)) ≡ true
+        → (bit m d ≡ 1) × (bit m (2 * R) ≡ 1 → d ≡ 2 * R)
     go true true v (same a) (same b) c e = (a, λ z. absurd (omega arith))
     go true false true (same a) b (same c) e = (a, λ z. c)
     go true false false a b c e = absurd (let z : _≡_ {A = ℕ} 0 1 = cc in omega arith)
     go false u v a b c e = absurd (let z : _≡_ {A = ℕ} 0 1 = cc in omega arith)
 
 last-may : (R d m : ℕ) → IsState R d m → mayBeLast R m d ≡ true
-last-may R d m p = go (eqb (bit m d) 1) (eqb (bit m (2 * R)) 0) (eqb d (2 * R)) (eq? (bit m d) 1) (eq? (bit m (2 * R)) 0) (eq? d (2 * R))
+last-may R d m p = go (eqb (bit m d) 1) (eqb (bit m (2 * R)) 0) (eqb d (2 * R)) (eq? (bit m d) 1)
+    (eq? (bit m (2 * R)) 0) (eq? d (2 * R))
   where
     go : (t u v : Bool) → Eq? (bit m d) 1 t → Eq? (bit m (2 * R)) 0 u → Eq? d (2 * R) v → (t && (u || v)) ≡ true
     go true true v a b c = refl
@@ -68,20 +73,24 @@ in-pairs R d m = (there-is, λ p. there-in p)
         let c = pick-in (mayBeLast R (a .0)) (from 0 (suc (2 * R))) (b .1) in
         let h = in-from 0 (suc (2 * R)) (c .0) in
         let e = may-last R (b .0) (a .0) (c .1) in
-        let z : IsState R (b .0) (a .0) = record { good = in-goodMarks R (a .0) .0 (a .1); far = omega arith; set = e .0; top = e .1 } in
+        let z : IsState R (b .0) (a .0) =
+        record { good = in-goodMarks R (a .0) .0 (a .1); far = omega arith; set = e .0; top = e .1 } in
         subst (λ (x : ℕ × ℕ). IsState R (x .0) (x .1)) (b .2) z
 
     there-in : IsState R d m → In (d, m) (pairsOf R)
     there-in p =
         let h = p .far in
         in-each (goodMarks R) _ (in-goodMarks R m .1 (p .good))
-        (Memᴰ·map (λ x. (x, m)) (in-pick (mayBeLast R m) (from 0 (suc (2 * R))) (from-in d 0 (suc (2 * R)) (omega arith) (omega arith)) (last-may R d m p)))
+        (Memᴰ·map (λ x. (x, m)) (in-pick (mayBeLast R m)
+        (from 0 (suc (2 * R))) (from-in d 0 (suc (2 * R)) (omega arith) (omega arith)) (last-may R d m p)))
 
 pub state-at : (R q : ℕ) → q < stateCount R → IsState R (offset R q) (marks R q)
 state-at R q h = in-pairs R (offset R q) (marks R q) .0 (getD-in (0, 0) (pairsOf R) q h)
 
 pub at-state : (R d m : ℕ) → IsState R d m → (q : ℕ) × (q < stateCount R) × (offset R q ≡ d) × (marks R q ≡ m)
-at-state R d m p = let r = in-getD (0, 0) (pairsOf R) (in-pairs R d m .1 p) in (r .0, r .1, ap (λ x. x .0) (r .2), ap (λ x. x .1) (r .2))
+at-state R d m p =
+    let r = in-getD (0, 0) (pairsOf R) (in-pairs R d m .1 p) in
+    (r .0, r .1, ap (λ x. x .0) (r .2), ap (λ x. x .1) (r .2))
 
 -- ---- how many there are
 
@@ -121,7 +130,12 @@ module _ (R n i m k : ℕ) where
   may-state g a =
       let l = a .low in
       let h = a .high in
-      record { good = good-step R n i m k g a; far = omega arith; set = bit-set (k + R - i) (m / 2) (a .free); top = λ e. go e (ℕ-discrete (k + R - i) (2 * R)) }
+      record {
+        good = good-step R n i m k g a;
+        far = omega arith;
+        set = bit-set (k + R - i) (m / 2) (a .free);
+        top = λ e. go e (ℕ-discrete (k + R - i) (2 * R));
+      }
     where
       go : bit (m / 2 + 2 ^ (k + R - i)) (2 * R) ≡ 1 → Dec (k + R - i ≡ 2 * R) → k + R - i ≡ 2 * R
       go e (yes z) = z
@@ -135,9 +149,13 @@ module _ (R n i m k : ℕ) where
   unfolding step
   may-before o a = omega arith
 
-pub before-may : (R n i k d m : ℕ) → IsState R d m → k + R ≡ i + d → k < n → May R n i (marksBefore d m) k × (step R i (marksBefore d m) k ≡ m)
+pub before-may : (R n i k d m : ℕ) → IsState R d m → k + R ≡ i + d → k < n
+    → May R n i (marksBefore d m) k × (step R i (marksBefore d m) k ≡ m)
 unfolding step
-before-may R n i k d m p e h = (record { inside = h; low = omega arith; high = omega arith; free = free; kept = ap (λ x. x % 2) back ∙ p .good .odd }, back)
+before-may R n i k d m p e h = (
+  record { inside = h; low = omega arith; high = omega arith; free = free; kept = ap (λ x. x % 2) back ∙ p .good .odd },
+  back,
+)
   where
     far : d ≤ 2 * R
     far = p .far

@@ -1,5 +1,7 @@
--- The search as tables of numbers: what a program computes, by positions, pose numbers and states (place of the last cell in the window, marks).
--- A number below B is a cost; B says that there is no way. Matched.antt says which row of the pair theory a deck stands for.
+-- The search as tables of numbers: what a program computes, by positions, pose numbers and states
+-- (place of the last cell in the window, marks).
+-- A number below B is a cost; B says that there is no way. Matched.antt says
+-- which row of the pair theory a deck stands for.
 use Prim.Native.Nat.{ℕ, zero, suc, _+_, _-_, _*_, _^_, min}
 use mathlib.Core.Bool.{Bool, not, _&&_, _||_, cond}
 use mathlib.Core.List.{List, [], _∷_, map}
@@ -68,7 +70,8 @@ abbrev pub Layer : Type 0
 Layer = ℕ → ℕ → ℕ
 
 module _ (D : Deck) (R : ℕ) where
-  -- state q of the layer with i cells is a source of state q′ of the next: the row has its cell, which is single, and the marks fit
+  -- state q of the layer with i cells is a source of state q′ of the next: the row has
+  -- its cell, which is single, and the marks fit
   abbrev pub isSource : ℕ → ℕ → ℕ → Bool
   isSource i q′ q = isThere D R i q && (not (D .tall (lastAt R i q)) && eqb (marks R q) (before R q′))
 
@@ -78,20 +81,24 @@ module _ (D : Deck) (R : ℕ) where
 
   -- by way of any source
   unfoldable pub reached : Layer → ℕ → Layer
-  reached f i q′ a = lowest B (λ q. cond (isSource i q′ q) (via f i q (lastAt R (suc i) q′) a) B) (from 0 (stateCount R))
+  reached f i q′ a =
+      lowest B (λ q. cond (isSource i q′ q) (via f i q (lastAt R (suc i) q′) a) B) (from 0 (stateCount R))
 
   -- the layer with one cell more than f, which has i
   unfoldable pub nextLayer : Layer → ℕ → Layer
   nextLayer f i q a = cond (isThere D R (suc i) q) (min (D .own (lastAt R (suc i) q) a + reached f i q a) B) B
 
-  -- the first layer of a segment: one cell after the cell at position p in pose l, which is the last of i placed, with marks m
+  -- the first layer of a segment: one cell after the cell at position p in pose l,
+  -- which is the last of i placed, with marks m
   unfoldable pub firstAfter : ℕ → ℕ → ℕ → ℕ → Layer
   firstAfter i m p l q a =
-      cond (isThere D R (suc i) q && eqb m (before R q)) (min (D .own (lastAt R (suc i) q) a + D .toll p l (lastAt R (suc i) q) a) B) B
+      cond (isThere D R (suc i) q && eqb m (before R q))
+      (min (D .own (lastAt R (suc i) q) a + D .toll p l (lastAt R (suc i) q) a) B) B
 
   -- the first layer of a row
   unfoldable pub firstOpen : Layer
-  firstOpen q a = cond (isThere D R 1 q && eqb (start R) (before R q)) (min (D .own (lastAt R 1 q) a + D .front (lastAt R 1 q) a) B) B
+  firstOpen q a = cond (isThere D R 1 q && eqb (start R) (before R q))
+      (min (D .own (lastAt R 1 q) a + D .front (lastAt R 1 q) a) B) B
 
   -- j layers on from the layer f, which has i cells
   unfoldable pub layers : Layer → ℕ → ℕ → Layer

@@ -1,5 +1,5 @@
--- Two rows, stage by stage: what the traceback left of the stages is a path in each row, the tall cells in the same poses in both and noted by the same
--- numbers, and the two paths cost what the case table says.
+-- Two rows, stage by stage: what the traceback left of the stages is a path in each row, the tall cells in the same
+-- poses in both and noted by the same numbers, and the two paths cost what the case table says.
 use mathlib.Core.Path.{_≡_, refl, sym, ap, _∙_, subst}
 use mathlib.Core.List.{List, [], _∷_, _++_}
 use Prim.Native.Nat.{ℕ, zero, suc, _+_, _≤_, _<_}
@@ -15,7 +15,8 @@ use Rattle.theory_traceback.specs.Noted.{NotedUpto}
 use Rattle.theory_traceback.specs.Rows.{Row, Within, Stood, RowTo, row-begin, row-on}
 
 -- a row's path with one tall cell more, which stands in the pose p
-picks-more : {A : Type 0} (R : ℕ) (siteOf : A → ℕ) (talls : ℕ) (W : Row siteOf talls) (Noted : ℕ → ℕ → ℕ → Type 0) (I l q a n x : ℕ) (ps : List A) (p : A) → length ps ≡ I → W .pose (W .pos I) l ≡ p
+picks-more : {A : Type 0} (R : ℕ) (siteOf : A → ℕ) (talls : ℕ) (W : Row siteOf talls) (Noted : ℕ → ℕ → ℕ → Type 0)
+    (I l q a n x : ℕ) (ps : List A) (p : A) → length ps ≡ I → W .pose (W .pos I) l ≡ p
     → RowTo R siteOf talls W Noted (suc I) q a (picks (W .pos) 0 ps ++ ((W .pos I, W .pose (W .pos I) l) ∷ [])) n x
     → RowTo R siteOf talls W Noted (suc I) q a (picks (W .pos) 0 (ps ++ (p ∷ []))) n x
 picks-more R siteOf talls W Noted I l q a n x ps p e z r =
@@ -27,7 +28,8 @@ pub record Twins {A : Type 0} {siteOf : A → ℕ} {talls : ℕ} (W₀ W₁ : Ro
   pub poses : W₀ .deck .poses ≡ W₁ .deck .poses
   pub pose : (I l : ℕ) → I < talls → W₀ .pose (W₀ .pos I) l ≡ W₁ .pose (W₁ .pos I) l
 
-module _ {A : Type 0} (R : ℕ) (siteOf : A → ℕ) (talls : ℕ) (W₀ W₁ : Row siteOf talls) (Noted₀ Noted₁ : ℕ → ℕ → ℕ → Type 0) where
+module _ {A : Type 0} (R : ℕ) (siteOf : A → ℕ) (talls : ℕ) (W₀ W₁ : Row siteOf talls)
+    (Noted₀ Noted₁ : ℕ → ℕ → ℕ → Type 0) where
   -- tall cell K was noted by the same number in both rows, among the first n₀ cells and the first n₁
   pub record TallNoted (K n₀ n₁ : ℕ) : Type 0 where
     pub number : ℕ
@@ -49,8 +51,10 @@ module _ {A : Type 0} (R : ℕ) (siteOf : A → ℕ) (talls : ℕ) (W₀ W₁ : 
     pub sum : x₀ + x₁ ≡ x
 
   -- one tall cell more
-  tall-more : (I s t l n₀ n₁ j₀ j₁ : ℕ) → placedWith R (W₀ .pos I) s ≡ suc n₀ → placedWith R (W₁ .pos I) t ≡ suc n₁ → l < W₀ .deck .poses → Stood R siteOf talls W₀ Noted₀ I s l
-      → Stood R siteOf talls W₁ Noted₁ I t l → ((K : ℕ) → K < I → TallNoted K n₀ n₁) → (K : ℕ) → K < suc I → TallNoted K (suc n₀ + j₀) (suc n₁ + j₁)
+  tall-more : (I s t l n₀ n₁ j₀ j₁ : ℕ) → placedWith R (W₀ .pos I) s ≡ suc n₀ → placedWith R (W₁ .pos I) t ≡ suc n₁
+      → l < W₀ .deck .poses → Stood R siteOf talls W₀ Noted₀ I s l
+      → Stood R siteOf talls W₁ Noted₁ I t l → ((K : ℕ) → K < I → TallNoted K n₀ n₁) → (K : ℕ) → K < suc I
+      → TallNoted K (suc n₀ + j₀) (suc n₁ + j₁)
   tall-more I s t l n₀ n₁ j₀ j₁ z₀ z₁ h d₀ d₁ f K u = go (ℕ-discrete K I)
     where
       go : Dec (K ≡ I) → TallNoted K (suc n₀ + j₀) (suc n₁ + j₁)
@@ -67,8 +71,10 @@ module _ {A : Type 0} (R : ℕ) (siteOf : A → ℕ) (talls : ℕ) (W₀ W₁ : 
           record {
             number = r .number;
             below = r .below;
-            first = record { place = r .first .place; low = r .first .low; high = omega arith; noted = r .first .noted };
-            second = record { place = r .second .place; low = r .second .low; high = omega arith; noted = r .second .noted };
+            first =
+                record { place = r .first .place; low = r .first .low; high = omega arith; noted = r .first .noted };
+            second =
+                record { place = r .second .place; low = r .second .low; high = omega arith; noted = r .second .noted };
           }
 
   abbrev table : ℕ → ℕ → ℕ → ℕ → ℕ
@@ -77,11 +83,13 @@ module _ {A : Type 0} (R : ℕ) (siteOf : A → ℕ) (talls : ℕ) (W₀ W₁ : 
   abbrev Traces : ℕ → ℕ → ℕ → ℕ → Type 0
   Traces I q₀ q₁ a = Traced (W₀ .deck) (W₁ .deck) R talls (W₀ .pos) (W₁ .pos) Noted₀ Noted₁ I q₀ q₁ a
 
-  pub both-to : Twins W₀ W₁ → (I q₀ q₁ a : ℕ) → I ≤ talls → Within R siteOf talls W₀ I q₀ a → Within R siteOf talls W₁ I q₁ a → table I q₀ q₁ a < B → Traces I q₀ q₁ a
+  pub both-to : Twins W₀ W₁ → (I q₀ q₁ a : ℕ) → I ≤ talls → Within R siteOf talls W₀ I q₀ a
+      → Within R siteOf talls W₁ I q₁ a → table I q₀ q₁ a < B → Traces I q₀ q₁ a
       → BothTo I q₀ q₁ a (table I q₀ q₁ a)
   unfolding caseTable picks
   both-to T zero q₀ q₁ a h g₀ g₁ u w =
-      let e : table 0 q₀ q₁ a ≡ openCost (W₀ .deck) R talls (W₀ .pos) q₀ a + openCost (W₁ .deck) R talls (W₁ .pos) q₁ a = omega arith in
+      let e : table 0 q₀ q₁ a
+      ≡ openCost (W₀ .deck) R talls (W₀ .pos) q₀ a + openCost (W₁ .deck) R talls (W₁ .pos) q₁ a = omega arith in
       let f₀ = row-begin R siteOf talls W₀ Noted₀ q₀ a g₀ (omega arith) (w .0) in
       let f₁ = row-begin R siteOf talls W₁ Noted₁ q₁ a g₁ (omega arith) (w .1) in
       record {
@@ -105,8 +113,10 @@ module _ {A : Type 0} (R : ℕ) (siteOf : A → ℕ) (talls : ℕ) (W₀ W₁ : 
       let l₀ = k .pose in
       let l₁ : l < W₁ .deck .poses = omega (arith, T .poses) in
       let r = both-to T I s t l (omega arith) (λ b. (k .state₀, l₀)) (λ b. (k .state₁, l₁)) (omega arith) (w .4) in
-      let f₀ = row-on R siteOf talls W₀ Noted₀ I s l q₀ a (picks (W₀ .pos) 0 (r .ps)) (r .n₀) (r .x₀) h (k .state₀) l₀ g₀ (r .first) (omega arith) (k .row₀) in
-      let f₁ = row-on R siteOf talls W₁ Noted₁ I t l q₁ a (picks (W₁ .pos) 0 (r .ps)) (r .n₁) (r .x₁) h (k .state₁) l₁ g₁ (r .second) (omega arith) (k .row₁) in
+      let f₀ = row-on R siteOf talls W₀ Noted₀ I s l q₀ a (picks (W₀ .pos) 0 (r .ps)) (r .n₀) (r .x₀) h
+      (k .state₀) l₀ g₀ (r .first) (omega arith) (k .row₀) in
+      let f₁ = row-on R siteOf talls W₁ Noted₁ I t l q₁ a (picks (W₁ .pos) 0 (r .ps)) (r .n₁) (r .x₁) h
+      (k .state₁) l₁ g₁ (r .second) (omega arith) (k .row₁) in
       let p = W₀ .pose (W₀ .pos I) l in
       let n₀ = suc (r .n₀) + f₀ .1 in
       let n₁ = suc (r .n₁) + f₁ .1 in
@@ -124,6 +134,7 @@ module _ {A : Type 0} (R : ℕ) (siteOf : A → ℕ) (talls : ℕ) (W₀ W₁ : 
         x₁ = x₁;
         first = picks-more R siteOf talls W₀ Noted₀ I l q₀ a n₀ x₀ (r .ps) p e₂ refl (f₀ .2);
         second = picks-more R siteOf talls W₁ Noted₁ I l q₁ a n₁ x₁ (r .ps) p e₂ (sym (T .pose I l h)) (f₁ .2);
-        tall = tall-more I s t l (r .n₀) (r .n₁) (f₀ .1) (f₁ .1) (f₀ .0) (f₁ .0) l₀ (r .first .stood h) (r .second .stood h) (r .tall);
+        tall = tall-more I s t l (r .n₀) (r .n₁) (f₀ .1) (f₁ .1) (f₀ .0) (f₁ .0) l₀ (r .first .stood h)
+            (r .second .stood h) (r .tall);
         sum = omega arith;
       }

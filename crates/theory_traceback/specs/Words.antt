@@ -1,4 +1,5 @@
--- The words of one row's path, if its choices were noted by them: each place holds another position of the row and a pose number.
+-- The words of one row's path, if its choices were noted by them: each place holds
+-- another position of the row and a pose number.
 use mathlib.Core.Path.{_≡_, sym, ap, _∙_}
 use mathlib.Core.Logic.{_≢_}
 use mathlib.Core.List.{List, [], _∷_}
@@ -11,7 +12,8 @@ use Rattle.theory_row.specs.Choices.{cells, cells-size}
 use Rattle.theory_pair.specs.Segment.{Line, Choice, State, Goes, next, first}
 use Rattle.theory_pair.specs.Trace.{Obeys}
 use Rattle.theory_tables.specs.Notes.{NotedBy}
-use Rattle.theory_traceback.specs.Noted.{NotedAs, NotedUpto, NotedPath, in-cells, cells-in, noted-choice, noted-place, noted-apart}
+use Rattle.theory_traceback.specs.Noted.{NotedAs, NotedUpto, NotedPath, in-cells}
+use Rattle.theory_traceback.specs.Noted.{cells-in, noted-choice, noted-place, noted-apart}
 
 -- the words w at the places 1 to n: each holds one of n positions, no two the same, and a pose number
 pub record Places (n poses : ℕ) (w : ℕ → ℕ) : Type 0 where
@@ -25,7 +27,8 @@ word-is : (w : ℕ → ℕ) (i k a : ℕ) → a < 64 → NotedBy w i k a → (w 
 word-is w i k a h e = (omega arith, omega arith)
 
 -- the number noted for a position is the one of the word that has the position
-pub number-is : (n poses : ℕ) (w : ℕ → ℕ) → Places n poses w → (k a : ℕ) → a < 64 → NotedUpto (NotedBy w) n k a → (i : ℕ) → 0 < i → i ≤ n → w i / 64 ≡ k → w i % 64 ≡ a
+pub number-is : (n poses : ℕ) (w : ℕ → ℕ) → Places n poses w → (k a : ℕ) → a < 64 → NotedUpto (NotedBy w) n k a
+    → (i : ℕ) → 0 < i → i ≤ n → w i / 64 ≡ k → w i % 64 ≡ a
 number-is n poses w p k a h u i l m e = go (decLt i j) (decLt j i)
   where
     j : ℕ
@@ -53,7 +56,8 @@ module _ {A : Type 0} (R : ℕ) (siteOf : A → ℕ) (L : Line A) (poses : ℕ) 
   word-at i c h a = let b = a .below in word-is w i (c .0) (a .number) (omega arith) (a .noted)
 
   -- a path over the whole row
-  pub row-places : (p : List (Choice A)) → poses ≤ 64 → Goes R siteOf L (first R siteOf L) p → length p ≡ L .size → NotedPath At 1 p → Places (L .size) poses w
+  pub row-places : (p : List (Choice A)) → poses ≤ 64 → Goes R siteOf L (first R siteOf L) p → length p ≡ L .size
+      → NotedPath At 1 p → Places (L .size) poses w
   row-places p h g s n = record {
     inside = λ i l m.
         let r = noted-place At 1 i p n l (omega arith) in
@@ -80,7 +84,8 @@ module _ {A : Type 0} (R : ℕ) (siteOf : A → ℕ) (L : Line A) (poses : ℕ) 
       arranged = run-arranged R (L .size) (cells p) (cells-size p ∙ s) (path-run (first R siteOf L) p g)
 
   -- poses by numbers that the words have
-  pub row-obeys : (p : List (Choice A)) → poses ≤ 64 → NotedPath At 1 p → (number : ℕ → ℕ) → ((i : ℕ) → 0 < i → i ≤ length p → number (w i / 64) ≡ w i % 64)
+  pub row-obeys : (p : List (Choice A)) → poses ≤ 64 → NotedPath At 1 p → (number : ℕ → ℕ)
+      → ((i : ℕ) → 0 < i → i ≤ length p → number (w i / 64) ≡ w i % 64)
       → Obeys (λ k. pose k (number k)) p
   row-obeys p h n number g c m =
       let r = noted-choice At 1 p n m in
