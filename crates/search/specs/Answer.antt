@@ -74,7 +74,8 @@ module _ (j : Job) (words₀ words₁ : List ℕ) (n₀ n₁ talls : ℕ) where
       let i : at ≡ caseAt (suc talls) 0 0 + 0 = omega arith in
       record {
         done = d;
-        cost = e ∙ ap (λ (k : ℕ). getD new k 0) i ∙ d .right talls 0 0 0 (omega arith) (one (stateCount (reorder j))) (one (stateCount (reorder j))) (one (poseNumbers j));
+        cost = e ∙ ap (λ (k : ℕ). getD new k 0) i ∙ d .right talls 0 0 0 (omega arith) (one (stateCount (reorder j)))
+            (one (stateCount (reorder j))) (one (poseNumbers j));
         low = omega (arith, d .low .word at);
       }
     where
@@ -82,8 +83,10 @@ module _ (j : Job) (words₀ words₁ : List ℕ) (n₀ n₁ talls : ℕ) where
       one k = omega (arith, wide-last talls (suc talls) k (omega arith))
 
   -- a cost below B can be traced
-  pub traceable : {old new : List ℕ} {x count : ℕ} → Costed old new x → wordsFor talls count ≤ length old → Low old → x < B → Tables count new
-  traceable {old} c h l u = record { old = old; long = h; low = l; done = c .done; some = subst (λ (y : ℕ). y < B) (c .cost) u }
+  pub traceable : {old new : List ℕ} {x count : ℕ} → Costed old new x → wordsFor talls count ≤ length old → Low old
+      → x < B → Tables count new
+  traceable {old} c h l u =
+      record { old = old; long = h; low = l; done = c .done; some = subst (λ (y : ℕ). y < B) (c .cost) u }
 
 module _ {j : Job} {words₀ words₁ : List ℕ} {sizes : Sizes} {n₁ : ℕ} (r : Ready j words₀ words₁ sizes n₁) where
   abbrev n₀ : ℕ
@@ -112,7 +115,8 @@ module _ {j : Job} {words₀ words₁ : List ℕ} {sizes : Sizes} {n₁ : ℕ} (
       → Costed j words₀ words₁ n₀ n₁ talls old new y → B ≤ y → ((k : ℕ) → getD out k 0 < 64) → Solved j false x out
   none-solved {y = y} c h small = record {
     none-when = λ _.
-        claim-none j (r .sound) D₀ D₁ (posIn words₀) (posIn words₁) (ready-searched (r .first)) (ready-searched (r .second)) refl
+        claim-none j (r .sound) D₀ D₁ (posIn words₀) (posIn words₁) (ready-searched (r .first))
+        (ready-searched (r .second)) refl
         (sym as-searched ∙ sym (c .cost) ∙ whole);
     some-when = λ e. absurd (false≢true e);
     stated = λ e. absurd (false≢true e);
@@ -137,7 +141,8 @@ module _ {j : Job} {words₀ words₁ : List ℕ} {sizes : Sizes} {n₁ : ℕ} (
       → StagesDone D₀ D₁ (reorder j) talls (posIn words₀) (posIn words₁) old new
   stages-exact {old} {new} d = subst (λ (z : Sizes). RowsStages words₀ words₁ z n₁ old new) exact d
 
-  pub may-trace : {st path₀ path₁ : List ℕ} → Tables j words₀ words₁ n₀ n₁ talls (sizes .states) st → 67 ≤ length path₀ → 67 ≤ length path₁
+  pub may-trace : {st path₀ path₁ : List ℕ} → Tables j words₀ words₁ n₀ n₁ talls (sizes .states) st → 67 ≤ length path₀
+      → 67 ≤ length path₁
       → Trace words₀ words₁ st path₀ path₁ sizes n₁ talls 0 0 0
   may-trace t h l = trace-given (stages-given r (omega (arith, t .long, t .done .long)) (t .done .low)) h l
 
@@ -146,22 +151,27 @@ module _ {j : Job} {words₀ words₁ : List ℕ} {sizes : Sizes} {n₁ : ℕ} (
       → RowsTrace words₀ words₁ sizes n₁ talls 0 0 0 st st′ path₀ path₀′ path₁ path₁′
       → TracedTo D₀ D₁ (reorder j) talls (posIn words₀) (posIn words₁) talls 0 0 0 path₀ path₀′ path₁ path₁′
   was-traced {st} {st′} {path₀} {path₀′} {path₁} {path₁′} t w =
-      subst (λ (z : Sizes). RowsTrace words₀ words₁ z n₁ talls 0 0 0 st st′ path₀ path₀′ path₁ path₁′) exact w .done (stages-ways (t .done)) (t .some)
+      subst (λ (z : Sizes). RowsTrace words₀ words₁ z n₁ talls 0 0 0 st st′ path₀ path₀′ path₁ path₁′) exact w .done
+      (stages-ways (t .done)) (t .some)
 
   module _ (path₀ path₁ : List ℕ) (u : found < B)
-      (t : Traced D₀ D₁ (reorder j) talls (posIn words₀) (posIn words₁) (NotedBy (wordAt path₀)) (NotedBy (wordAt path₁)) talls 0 0 0) where
-    rowTraced : TracedBack (reorder j) siteOf (pairJob j) (poseNumber j) (isOffered j) D₀ D₁ (posIn words₀) (posIn words₁) (wordAt path₀) (wordAt path₁)
+      (t : Traced D₀ D₁ (reorder j) talls (posIn words₀) (posIn words₁) (NotedBy (wordAt path₀))
+      (NotedBy (wordAt path₁)) talls 0 0 0) where
+    rowTraced : TracedBack (reorder j) siteOf (pairJob j) (poseNumber j) (isOffered j) D₀ D₁ (posIn words₀)
+        (posIn words₁) (wordAt path₀) (wordAt path₁)
     rowTraced = record {
       first = ready-searched (r .first);
       second = ready-searched (r .second);
       poses = refl;
       small = let a = r .first .lined .few in omega arith;
       cost = subst (λ (x : ℕ). x < B) as-searched u;
-      traced = subst (λ (m : ℕ). Traced D₀ D₁ (reorder j) m (posIn words₀) (posIn words₁) (NotedBy (wordAt path₀)) (NotedBy (wordAt path₁)) m 0 0 0) (r .first .talls) t;
+      traced = subst (λ (m : ℕ). Traced D₀ D₁ (reorder j) m (posIn words₀) (posIn words₁) (NotedBy (wordAt path₀))
+          (NotedBy (wordAt path₁)) m 0 0 0) (r .first .talls) t;
     }
 
     both : RowPath j row₀ path₀ × RowPath j row₁ path₁
-    both = places (reorder j) siteOf (pairJob j) (poseNumber j) (isOffered j) D₀ D₁ (posIn words₀) (posIn words₁) (wordAt path₀) (wordAt path₁) rowTraced
+    both = places (reorder j) siteOf (pairJob j) (poseNumber j) (isOffered j) D₀ D₁ (posIn words₀) (posIn words₁)
+        (wordAt path₀) (wordAt path₁) rowTraced
 
     pub first-given : {out : List ℕ} → 67 ≤ length path₀ → 64 ≤ length out → Given words₀ path₀ out n₀
     first-given = path-given (r .first) path₀ (both .0) (r .sound)
@@ -170,18 +180,30 @@ module _ {j : Job} {words₀ words₁ : List ℕ} {sizes : Sizes} {n₁ : ℕ} (
     second-given = path-given (r .second) path₁ (both .1) (r .sound)
 
     -- both rows are scattered, one after the other
-    pub answered : {old mid new : List ℕ} → ((k : ℕ) → getD old k 0 < 64) → Scattered words₀ path₀ n₀ old mid → Scattered words₁ path₁ n₁ mid new
+    pub answered : {old mid new : List ℕ} → ((k : ℕ) → getD old k 0 < 64) → Scattered words₀ path₀ n₀ old mid
+        → Scattered words₁ path₁ n₁ mid new
         → Answered j words₀ words₁ n₀ n₁ talls new
-    answered {old} {mid} {new} small v w = record { cheapest = c .0; stated = c .1 ∙ sym as-searched; numbers = scattered-small w (scattered-small v small) }
+    answered {old} {mid} {new} small v w = record {
+      cheapest = c .0;
+      stated = c .1
+          ∙ sym as-searched;
+      numbers = scattered-small w (scattered-small v small);
+    }
       where
-        agree : (i k : ℕ) → 0 < i → i ≤ n₀ → 0 < k → k ≤ n₁ → cellAt words₀ path₀ i ≡ cellAt words₁ path₁ k → poseAt path₀ i ≡ poseAt path₁ k
+        agree : (i k : ℕ) → 0 < i → i ≤ n₀ → 0 < k → k ≤ n₁ → cellAt words₀ path₀ i ≡ cellAt words₁ path₁ k
+            → poseAt path₀ i ≡ poseAt path₁ k
         agree i k h l g m e =
             let z₀ = r .first .lined .matched .size in
             let z₁ = r .second .lined .matched .size in
-            places-agree (reorder j) siteOf (pairJob j) (poseNumber j) (isOffered j) D₀ D₁ (posIn words₀) (posIn words₁) (wordAt path₀) (wordAt path₁) rowTraced i k
-            h (omega arith) g (omega arith) (sym (path-cell (r .first) path₀ (both .0) i h l) ∙ e ∙ path-cell (r .second) path₁ (both .1) k g m)
+            places-agree (reorder j) siteOf (pairJob j) (poseNumber j) (isOffered j) D₀ D₁ (posIn words₀) (posIn words₁)
+            (wordAt path₀) (wordAt path₁) rowTraced i k
+            h (omega arith) g (omega arith)
+            (sym (path-cell (r .first) path₀ (both .0) i h l) ∙ e ∙ path-cell (r .second) path₁ (both .1) k g m)
 
-        c : Cheapest j (some (placementByNumbers j (numbersIn new))) × (cost j (placementByNumbers j (numbersIn new)) ≡ searchedCost j D₀ D₁ (posIn words₀) (posIn words₁))
+        c : Cheapest j (some (placementByNumbers j (numbersIn new)))
+            × (cost j (placementByNumbers j (numbersIn new)) ≡ searchedCost j D₀ D₁ (posIn words₀) (posIn words₁))
         c =
-            claim-some j (r .sound) D₀ D₁ (posIn words₀) (posIn words₁) (ready-searched (r .first)) (ready-searched (r .second)) refl (wordAt path₀) (wordAt path₁) rowTraced (numbersIn new)
-            (path-numbers (r .first) path₀ (both .0) new (both-scattered v w agree)) (path-numbers (r .second) path₁ (both .1) new (w .done))
+            claim-some j (r .sound) D₀ D₁ (posIn words₀) (posIn words₁) (ready-searched (r .first))
+            (ready-searched (r .second)) refl (wordAt path₀) (wordAt path₁) rowTraced (numbersIn new)
+            (path-numbers (r .first) path₀ (both .0) new (both-scattered v w agree))
+            (path-numbers (r .second) path₁ (both .1) new (w .done))

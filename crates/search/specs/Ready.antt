@@ -35,7 +35,12 @@ module _ {j : Job} {words₀ words₁ : List ℕ} {sizes : Sizes} {n₁ : ℕ} (
   pub stages-given : {st : List ℕ} → wordsFor (sizes .talls) (sizes .states) ≤ length st → Low st
       → StagesGiven words₀ words₁ st sizes n₁
   stages-given h l =
-      record { given₀ = ready-given (r .sound) (r .first); given₁ = ready-given (r .sound) (r .second); long = h; low = l }
+      record {
+        given₀ = ready-given (r .sound) (r .first);
+        given₁ = ready-given (r .sound) (r .second);
+        long = h;
+        low = l;
+      }
 
   pub few-talls : sizes .talls ≤ 24
   few-talls = ready-given (r .sound) (r .first) .few

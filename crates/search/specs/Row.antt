@@ -23,18 +23,22 @@ use Rattle.search_row_fill.specs.Ready.{RowReady}
 members-distinct : (j : Job) (s : Side) → Distinct (members (pairJob j) s)
 unfolding members
 members-distinct j s =
-    rising-distinct′ (members (pairJob j) s) (pick-pairs (λ k. inRow s (pairJob j .kind k)) (λ x y. x < y) (from 0 (length (j .cells))) (from-rising 0 (length (j .cells))))
+    rising-distinct′ (members (pairJob j) s) (pick-pairs (λ k. inRow s (pairJob j .kind k))
+    (λ x y. x < y) (from 0 (length (j .cells))) (from-rising 0 (length (j .cells))))
 
-cells-apart : (j : Job) (s : Side) (k m : ℕ) → k < length (members (pairJob j) s) → m < length (members (pairJob j) s) → cell (pairJob j) s k ≡ cell (pairJob j) s m → k ≡ m
+cells-apart : (j : Job) (s : Side) (k m : ℕ) → k < length (members (pairJob j) s) → m < length (members (pairJob j) s)
+    → cell (pairJob j) s k ≡ cell (pairJob j) s m → k ≡ m
 cells-apart j s k m h l e =
-    let f : (p : ℕ) → p < length (members (pairJob j) s) → place (cell (pairJob j) s p) (members (pairJob j) s) ≡ p = λ p. place-at (members (pairJob j) s) p (members-distinct j s) in
+    let f : (p : ℕ) → p < length (members (pairJob j) s) → place (cell (pairJob j) s p) (members (pairJob j) s) ≡ p =
+    λ p. place-at (members (pairJob j) s) p (members-distinct j s) in
     sym (f k h) ∙ ap (λ (c : ℕ). place c (members (pairJob j) s)) e ∙ f m l
 
 -- a path by whose words each place has another position of the row
 abbrev pub RowPath : Job → Side → List ℕ → Type 0
 RowPath j s path = Places (length (members (pairJob j) s)) (poseNumbers j) (λ i. getD path i 0)
 
-module _ {j : Job} {s : Side} {row : List ℕ} {z : Sizes} (r : RowReady j s row z) (path : List ℕ) (p : RowPath j s path) where
+module _ {j : Job} {s : Side} {row : List ℕ} {z : Sizes} (r : RowReady j s row z) (path : List ℕ)
+    (p : RowPath j s path) where
   pub path-cell : (i : ℕ) → 0 < i → i ≤ z .cells → cellAt row path i ≡ cell (pairJob j) s (getD path i 0 / 64)
   path-cell i h l =
       let e = r .lined .matched .size in
@@ -56,12 +60,14 @@ module _ {j : Job} {s : Side} {row : List ℕ} {z : Sizes} (r : RowReady j s row
             let b = member j sound s (cell (pairJob j) s k) .0 (at-in (members (pairJob j) s) k (omega arith)) .0 in
             let c = sound .few in
             omega arith;
-        apart = λ k m g u d. cells-apart j s k m (omega arith) (omega arith) (sym (r .lined .number k g) ∙ d ∙ r .lined .number m u);
+        apart = λ k m g u d. cells-apart j s k m (omega arith) (omega arith)
+            (sym (r .lined .number k g) ∙ d ∙ r .lined .number m u);
       }
 
   -- numbers by cell number
   pub path-numbers : (new : List ℕ) → ((i : ℕ) → 0 < i → i ≤ z .cells → getD new (cellAt row path i) 0 ≡ poseAt path i)
-      → (i : ℕ) → 0 < i → i ≤ length (members (pairJob j) s) → getD new (cell (pairJob j) s (getD path i 0 / 64)) 0 ≡ getD path i 0 % 64
+      → (i : ℕ) → 0 < i → i ≤ length (members (pairJob j) s)
+      → getD new (cell (pairJob j) s (getD path i 0 / 64)) 0 ≡ getD path i 0 % 64
   path-numbers new f i h l =
       let e = r .lined .matched .size in
       let u : i ≤ z .cells = omega arith in

@@ -8,6 +8,7 @@ use lib.ListN.{length, getD}
 use Rattle.definition.specs.Job as paper
 use Rattle.definition.specs.Cost.{cost}
 use Rattle.definition.specs.Moves.{Cheapest}
+use Rattle.definition.specs.Outcome.{storeNeeded}
 use Rattle.definition_laws.specs.Sound.{Sound}
 use Rattle.job.specs.declared.Job.{Job}
 use Rattle.job.specs.Value.{jobOf}
@@ -17,7 +18,7 @@ use Rattle.theory_claim.specs.Claim.{placementByNumbers}
 pub record Asked (job : Job) (store : List ℕ) : Type 0 where
   pub sound : Sound (jobOf job)
   pub few : job .count ≤ 64
-  pub long : 1048576 ≤ length store
+  pub long : storeNeeded (jobOf job) ≤ length store
 
 -- pose numbers, cell by cell
 abbrev pub numbersIn : List ℕ → ℕ → ℕ

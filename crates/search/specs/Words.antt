@@ -25,7 +25,8 @@ few-states (suc (suc R)) h = absurd (omega arith)
 
 -- a store of 1,048,576 words has them
 pub words-lent : (talls R count : ℕ) → R ≤ 1 → count ≡ stateCount R → wordsFor talls count ≤ 1048576
-words-lent talls R count h e = omega (arith, wide-low talls talls count 3 (omega arith) (omega (arith, few-states R h, e)))
+words-lent talls R count h e =
+    omega (arith, wide-low talls talls count 3 (omega arith) (omega (arith, few-states R h, e)))
 
 -- a table has at most twelve states
 pub few-pages : (talls R count : ℕ) → R ≤ 1 → count ≡ stateCount R → wide talls talls count ≤ 12
@@ -35,7 +36,8 @@ pub zeros-low : (n : ℕ) → Low (replicate n 0)
 zeros-low n = record { word = λ k. omega (arith, zeros-at n k) }
 
 -- the first n words of a store, lent for clearing and left as `part`, then lent again
-module _ (n : ℕ) (store : List ℕ) {part : List ℕ} (h : n ≤ length store) (e : part ≡ replicate (length (take n store)) 0) where
+module _ (n : ℕ) (store : List ℕ) {part : List ℕ} (h : n ≤ length store)
+    (e : part ≡ replicate (length (take n store)) 0) where
   cleared-long : length part ≡ length (take n store)
   cleared-long = ap length e ∙ length-replicate (length (take n store)) 0
 

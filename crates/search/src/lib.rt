@@ -28,8 +28,10 @@ fn least_cost(
     sizes: Sizes,
     cells1: usize,
 ) -> u32
-    requires { ⌜ Ready (jobOf job) (now row0) (now row1) sizes cells1 × (wordsFor (sizes .talls) (sizes .states) ≤ length (now store)) × Low (now store) ⌝ }
-    ensures { λ x. ⌜ Costed (jobOf job) (now (row0 .entry)) (now (row1 .entry)) (sizes .cells) cells1 (sizes .talls) (now (store .entry)) (now (store .exit)) x ⌝ }
+    requires { ⌜ Ready (jobOf job) (now row0) (now row1) sizes cells1
+        × (wordsFor (sizes .talls) (sizes .states) ≤ length (now store)) × Low (now store) ⌝ }
+    ensures { λ x. ⌜ Costed (jobOf job) (now (row0 .entry)) (now (row1 .entry)) (sizes .cells) cells1 (sizes .talls)
+        (now (store .entry)) (now (store .exit)) x ⌝ }
 {
     search_stage::stages(store, row0, row1, sizes, cells1);
     store[search_store::case_at(sizes.talls + 1, 0, 0)]
@@ -45,8 +47,11 @@ fn note(
     sizes: Sizes,
     cells1: usize,
 )
-    requires { ⌜ Ready (jobOf job) (now row0) (now row1) sizes cells1 × Tables (jobOf job) (now row0) (now row1) (sizes .cells) cells1 (sizes .talls) (sizes .states) (now store) × (64 ≤ length (now out)) × ((k : ℕ) → getD (now out) k 0 < 64) ⌝ }
-    ensures { λ _. ⌜ Answered (jobOf job) (now (row0 .entry)) (now (row1 .entry)) (sizes .cells) cells1 (sizes .talls) (now (out .exit)) ⌝ }
+    requires { ⌜ Ready (jobOf job) (now row0) (now row1) sizes cells1
+        × Tables (jobOf job) (now row0) (now row1) (sizes .cells) cells1 (sizes .talls) (sizes .states) (now store)
+        × (64 ≤ length (now out)) × ((k : ℕ) → getD (now out) k 0 < 64) ⌝ }
+    ensures { λ _. ⌜ Answered (jobOf job) (now (row0 .entry)) (now (row1 .entry)) (sizes .cells) cells1 (sizes .talls)
+        (now (out .exit)) ⌝ }
 {
     let mut path0 = [0u32; 128];
     let mut path1 = [0u32; 128];
@@ -64,7 +69,8 @@ fn find(
     sizes: Sizes,
     cells1: usize,
 ) -> Found
-    requires { ⌜ Ready (jobOf job) (now row0) (now row1) sizes cells1 × (wordsFor (sizes .talls) (sizes .states) ≤ length (now store)) × Low (now store) ⌝ }
+    requires { ⌜ Ready (jobOf job) (now row0) (now row1) sizes cells1
+        × (wordsFor (sizes .talls) (sizes .states) ≤ length (now store)) × Low (now store) ⌝ }
     ensures { λ r. ⌜ Solved (jobOf job) (r .some) (r .cost) (r .poses) ⌝ }
 {
     let mut poses = [0u32; 64];

@@ -1,4 +1,5 @@
--- Laws of the trace: a case's way gives what both rows are to be traced by, and the case to go on from; later traces keep the places already noted.
+-- Laws of the trace: a case's way gives what both rows are to be traced by, and the case to go on from;
+-- later traces keep the places already noted.
 use Prim.Native.Nat.{ℕ, suc, _+_, _/_, _%_, _≤_, _<_}
 use mathlib.Core.Path.{_≡_, refl, sym, ap, _∙_, subst}
 use mathlib.Core.Logic.{inl, inr}
@@ -27,7 +28,8 @@ use Rattle.search_back.specs.Trace.{Ways, Leg, Trace, LegDone, TraceDone
 -- ---- one row
 
 -- a traced stage goes on from its start
-pub traced-on : (D : Deck) (R talls : ℕ) (pos : ℕ → ℕ) (Noted : ℕ → ℕ → ℕ → Type 0) (I : ℕ) (f : Layer) (i x q a : ℕ) → StageTraced D R talls pos Noted I f i x q a
+pub traced-on : (D : Deck) (R talls : ℕ) (pos : ℕ → ℕ) (Noted : ℕ → ℕ → ℕ → Type 0) (I : ℕ) (f : Layer) (i x q a : ℕ)
+    → StageTraced D R talls pos Noted I f i x q a
     → i ≤ suc (endPlace (D .size) R talls pos I q)
 traced-on D R talls pos Noted I f i x q a w = go (decLt I talls)
   where
@@ -40,7 +42,8 @@ traced-on D R talls pos Noted I f i x q a w = go (decLt I talls)
     go (no h) = omega (arith, end-last (D .size) R talls pos I q (omega arith), ended (w .toEnd (omega arith)))
 
 -- what was noted after tall cell J stays when the stages up to it are traced
-pub traced-kept : (D : Deck) (R talls : ℕ) (pos : ℕ → ℕ) (J s : ℕ) (f : Layer) (x q a : ℕ) (mid new : List ℕ) → J < talls → Frame 1 (suc (endPlace (D .size) R talls pos J s)) mid new
+pub traced-kept : (D : Deck) (R talls : ℕ) (pos : ℕ → ℕ) (J s : ℕ) (f : Layer) (x q a : ℕ) (mid new : List ℕ)
+    → J < talls → Frame 1 (suc (endPlace (D .size) R talls pos J s)) mid new
     → StageTraced D R talls pos (NotedBy (wordAt mid)) (suc J) f (suc (placedWith R (pos J) s)) x q a
     → StageTraced D R talls pos (NotedBy (wordAt new)) (suc J) f (suc (placedWith R (pos J) s)) x q a
 traced-kept D R talls pos J s f x q a mid new h n w =
@@ -48,15 +51,19 @@ traced-kept D R talls pos J s f x q a mid new h n w =
     (λ e u v. sym (n .high e (omega (arith, end-tall (D .size) R talls pos J s h)))) w
 
 -- the places of a stage and of those before it
-pub notes-join : (D : Deck) (R talls : ℕ) (pos : ℕ → ℕ) (J s q : ℕ) {old mid new : List ℕ} → J < talls → suc (placedWith R (pos J) s) ≤ suc (endPlace (D .size) R talls pos (suc J) q)
-    → Frame (suc (placedWith R (pos J) s)) (suc (endPlace (D .size) R talls pos (suc J) q)) old mid → Frame 1 (suc (endPlace (D .size) R talls pos J s)) mid new
+pub notes-join : (D : Deck) (R talls : ℕ) (pos : ℕ → ℕ) (J s q : ℕ) {old mid new : List ℕ} → J < talls
+    → suc (placedWith R (pos J) s) ≤ suc (endPlace (D .size) R talls pos (suc J) q)
+    → Frame (suc (placedWith R (pos J) s)) (suc (endPlace (D .size) R talls pos (suc J) q)) old mid
+    → Frame 1 (suc (endPlace (D .size) R talls pos J s)) mid new
     → Frame 1 (suc (endPlace (D .size) R talls pos (suc J) q)) old new
 notes-join D R talls pos J s q h l f g =
-    frame-join 1 (suc (endPlace (D .size) R talls pos (suc J) q)) f g (omega arith) (omega arith) (omega arith) (omega (arith, end-tall (D .size) R talls pos J s h))
+    frame-join 1 (suc (endPlace (D .size) R talls pos (suc J) q)) f g (omega arith) (omega arith) (omega arith)
+    (omega (arith, end-tall (D .size) R talls pos J s h))
 
 -- one row of a stage, as a traceback wants it
 row-stage : {row st path : List ℕ} {z : Sizes} {I s l q a : ℕ}
-    → RowGiven row z → Low st → pagesFrom ≤ length st → 67 ≤ length path → I ≤ z .talls → (0 < I → s < stateCount (z .reordering)) → (0 < I → l < (z .poses))
+    → RowGiven row z → Low st → pagesFrom ≤ length st → 67 ≤ length path → I ≤ z .talls
+    → (0 < I → s < stateCount (z .reordering)) → (0 < I → l < (z .poses))
     → q < wide (z .talls) (suc I) (stateCount (z .reordering)) → a < wide (z .talls) (suc I) (z .poses)
     → Stage row st path z I s l q a
 row-stage {z = z} {I = I} g w l r i s p x y =
@@ -73,14 +80,18 @@ module _ {row₀ row₁ st path₀ path₁ : List ℕ} {z : Sizes} {n₁ I s t l
     (g : Leg row₀ row₁ st path₀ path₁ z n₁ I s t l q₀ q₁ a) where
   pub leg-row₀ : Stage row₀ st path₀ z I s l q₀ a
   leg-row₀ =
-      row-stage (g .both .given .given₀) (g .both .given .low) (omega (arith, g .both .given .long)) (g .both .room₀) (g .stage) (g .state₀) (g .pose) (g .case .state₀) (g .case .pose)
+      row-stage (g .both .given .given₀) (g .both .given .low) (omega (arith, g .both .given .long)) (g .both .room₀)
+      (g .stage) (g .state₀) (g .pose) (g .case .state₀) (g .case .pose)
 
   pub leg-row₁ : {mid : List ℕ} → Low mid → length mid ≡ length st → Stage row₁ mid path₁ (withCells z n₁) I t l q₁ a
   leg-row₁ w e =
-      row-stage (g .both .given .given₁) w (omega (arith, g .both .given .long)) (g .both .room₁) (g .stage) (g .state₁) (g .pose) (g .case .state₁) (g .case .pose)
+      row-stage (g .both .given .given₁) w (omega (arith, g .both .given .long)) (g .both .room₁) (g .stage) (g .state₁)
+      (g .pose) (g .case .state₁) (g .case .pose)
 
-pub leg-done : {D₀ D₁ : Deck} {R talls : ℕ} {pos₀ pos₁ : ℕ → ℕ} {I s t l q₀ q₁ a : ℕ} {st mid new path₀ path₀′ path₁ path₁′ : List ℕ}
-    → StageDone D₀ R talls pos₀ I s l q₀ a st mid path₀ path₀′ → StageDone D₁ R talls pos₁ I t l q₁ a mid new path₁ path₁′
+pub leg-done : {D₀ D₁ : Deck} {R talls : ℕ} {pos₀ pos₁ : ℕ → ℕ} {I s t l q₀ q₁ a : ℕ}
+    {st mid new path₀ path₀′ path₁ path₁′ : List ℕ}
+    → StageDone D₀ R talls pos₀ I s l q₀ a st mid path₀ path₀′
+    → StageDone D₁ R talls pos₁ I t l q₁ a mid new path₁ path₁′
     → LegDone D₀ D₁ R talls pos₀ pos₁ I s t l q₀ q₁ a st new path₀ path₀′ path₁ path₁′
 leg-done v w =
     record {
@@ -106,7 +117,8 @@ module _ {row₀ row₁ st path₀ path₁ : List ℕ} {z : Sizes} {n₁ I q₀ 
       let p = given-states v in
       let w = given-wide v (suc I) in
       let n = v .given₀ .ground .all in
-      let e : wide (z .talls) (suc I) (stateCount (z .reordering)) ≡ wide (z .talls) (suc I) (z .states) = ap (wide (z .talls) (suc I)) (sym n) in
+      let e : wide (z .talls) (suc I) (stateCount (z .reordering)) ≡ wide (z .talls) (suc I) (z .states) =
+      ap (wide (z .talls) (suc I)) (sym n) in
       let c = g .case in
       (omega (arith, g .stage), omega arith, omega arith, omega arith, omega (arith, w .2))
 
@@ -122,26 +134,39 @@ module _ {row₀ row₁ st path₀ path₁ : List ℕ} {z : Sizes} {n₁ I q₀ 
         case = h .case;
       }
 
-module _ {D₀ D₁ : Deck} {R talls : ℕ} {pos₀ pos₁ : ℕ → ℕ} {I q₀ q₁ a : ℕ} {st new path₀ path₀′ path₁ path₁′ : List ℕ} where
-  done-at : (K : ℕ) → I ≡ K → TraceDone D₀ D₁ R talls pos₀ pos₁ K q₀ q₁ a st new path₀ path₀′ path₁ path₁′ → TraceDone D₀ D₁ R talls pos₀ pos₁ I q₀ q₁ a st new path₀ path₀′ path₁ path₁′
-  done-at K e w = subst (λ (k : ℕ). TraceDone D₀ D₁ R talls pos₀ pos₁ k q₀ q₁ a st new path₀ path₀′ path₁ path₁′) (sym e) w
+module _ {D₀ D₁ : Deck} {R talls : ℕ} {pos₀ pos₁ : ℕ → ℕ} {I q₀ q₁ a : ℕ}
+    {st new path₀ path₀′ path₁ path₁′ : List ℕ} where
+  done-at : (K : ℕ) → I ≡ K → TraceDone D₀ D₁ R talls pos₀ pos₁ K q₀ q₁ a st new path₀ path₀′ path₁ path₁′
+      → TraceDone D₀ D₁ R talls pos₀ pos₁ I q₀ q₁ a st new path₀ path₀′ path₁ path₁′
+  done-at K e w =
+      subst (λ (k : ℕ). TraceDone D₀ D₁ R talls pos₀ pos₁ k q₀ q₁ a st new path₀ path₀′ path₁ path₁′) (sym e) w
 
-  pub open-done : I ≡ 0 → LegDone D₀ D₁ R talls pos₀ pos₁ 0 0 0 0 q₀ q₁ a st new path₀ path₀′ path₁ path₁′ → TraceDone D₀ D₁ R talls pos₀ pos₁ I q₀ q₁ a st new path₀ path₀′ path₁ path₁′
+  pub open-done : I ≡ 0 → LegDone D₀ D₁ R talls pos₀ pos₁ 0 0 0 0 q₀ q₁ a st new path₀ path₀′ path₁ path₁′
+      → TraceDone D₀ D₁ R talls pos₀ pos₁ I q₀ q₁ a st new path₀ path₀′ path₁ path₁′
   unfolding startLayer startCells startEnd caseTable openCost
   open-done e w = done-at 0 e record {
     frame = w .frame;
     low = w .low;
     long₀ = w .notes₀ .long;
     long₁ = w .notes₁ .long;
-    done = λ x c. record { notes₀ = w .notes₀; notes₁ = w .notes₁; traced = (w .traced₀ (omega arith), w .traced₁ (omega arith)) };
+    done = λ x c. record {
+      notes₀ = w .notes₀;
+      notes₁ = w .notes₁;
+      traced =
+          (w .traced₀ (omega arith), w .traced₁ (omega arith));
+    };
   }
 
 -- ---- a later stage
 
 -- the tables are kept
-ways-kept : {D₀ D₁ : Deck} {R talls : ℕ} {pos₀ pos₁ : ℕ → ℕ} {old new : List ℕ} → Frame 0 pagesFrom old new → Ways D₀ D₁ R talls pos₀ pos₁ old → Ways D₀ D₁ R talls pos₀ pos₁ new
+ways-kept : {D₀ D₁ : Deck} {R talls : ℕ} {pos₀ pos₁ : ℕ → ℕ} {old new : List ℕ} → Frame 0 pagesFrom old new
+    → Ways D₀ D₁ R talls pos₀ pos₁ old → Ways D₀ D₁ R talls pos₀ pos₁ new
 unfolding pointersIn
-ways-kept f w = record { way = λ I q₀ q₁ a h c l. rw (f .high (pointerAt (suc (suc I)) q₀ q₁ + a) (case-above (suc (suc I)) q₀ q₁ a .1)) (w .way I q₀ q₁ a h c l) }
+ways-kept f w = record {
+  way = λ I q₀ q₁ a h c l. rw (f .high (pointerAt (suc (suc I)) q₀ q₁ + a) (case-above (suc (suc I)) q₀ q₁ a .1))
+      (w .way I q₀ q₁ a h c l);
+}
 
 module _ {row₀ row₁ st path₀ path₁ : List ℕ} {z : Sizes} {n₁ I q₀ q₁ a : ℕ}
     (g : Trace row₀ row₁ st path₀ path₁ z n₁ I q₀ q₁ a)
@@ -154,9 +179,11 @@ module _ {row₀ row₁ st path₀ path₁ : List ℕ} {z : Sizes} {n₁ I q₀ 
 
   abbrev Known : Type 0
   Known = Ways (deckIn row₀ z) (deckIn row₁ (withCells z n₁)) (z .reordering) (z .talls) (posIn row₀) (posIn row₁) st
-      × (caseTable (deckIn row₀ z) (deckIn row₁ (withCells z n₁)) (z .reordering) (z .talls) (posIn row₀) (posIn row₁) (suc J) q₀ q₁ a < B)
+      × (caseTable (deckIn row₀ z) (deckIn row₁ (withCells z n₁)) (z .reordering) (z .talls) (posIn row₀) (posIn row₁)
+      (suc J) q₀ q₁ a < B)
 
-  way : Known → Way (stateCount (z .reordering)) (z .poses) (caseTable D₀ D₁ (z .reordering) (z .talls) (posIn row₀) (posIn row₁) J)
+  way : Known → Way (stateCount (z .reordering)) (z .poses)
+      (caseTable D₀ D₁ (z .reordering) (z .talls) (posIn row₀) (posIn row₁) J)
       (stageCost D₀ (z .reordering) (z .talls) (posIn row₀) J)
       (stageCost D₁ (z .reordering) (z .talls) (posIn row₁) J)
       q₀
@@ -169,7 +196,8 @@ module _ {row₀ row₁ st path₀ path₁ : List ℕ} {z : Sizes} {n₁ I q₀ 
       let z = c ∙ ap (λ (k : ℕ). pointersIn st (suc k) q₀ q₁ a) e in
       rw z (k .0 .way J q₀ q₁ a (omega (arith, h .stage)) (h .case) (k .1))
 
-  costs : Known → (caseTable D₀ D₁ (z .reordering) (z .talls) (posIn row₀) (posIn row₁) J (code / 768) (code % 768 / 64) (code % 64) < B)
+  costs : Known → (caseTable D₀ D₁ (z .reordering) (z .talls) (posIn row₀) (posIn row₁) J
+      (code / 768) (code % 768 / 64) (code % 64) < B)
       × (stageCost D₀ (z .reordering) (z .talls) (posIn row₀) J (code / 768) (code % 64) q₀ a < B)
       × (stageCost D₁ (z .reordering) (z .talls) (posIn row₁) J (code % 768 / 64) (code % 64) q₁ a < B)
   costs k =
@@ -204,7 +232,8 @@ module _ {row₀ row₁ st path₀ path₁ : List ℕ} {z : Sizes} {n₁ I q₀ 
         }
 
     module _ {mid mid₀ mid₁ : List ℕ}
-        (d : LegDone (deckIn row₀ z) (deckIn row₁ (withCells z n₁)) (z .reordering) (z .talls) (posIn row₀) (posIn row₁) I (code / 768) (code % 768 / 64) (code % 64) q₀ q₁ a st mid path₀ mid₀ path₁ mid₁) where
+        (d : LegDone (deckIn row₀ z) (deckIn row₁ (withCells z n₁)) (z .reordering) (z .talls) (posIn row₀)
+        (posIn row₁) I (code / 768) (code % 768 / 64) (code % 64) q₀ q₁ a st mid path₀ mid₀ path₁ mid₁) where
       -- the case to go on from
       pub back-rest : Trace row₀ row₁ mid mid₀ mid₁ z n₁ J (code / 768) (code % 768 / 64) (code % 64)
       back-rest =
@@ -212,7 +241,12 @@ module _ {row₀ row₁ st path₀ path₁ : List ℕ} {z : Sizes} {n₁ I q₀ 
           let all = g .both .given .given₀ .ground .all in
           record {
             both = record {
-              given = record { given₀ = g .both .given .given₀; given₁ = g .both .given .given₁; long = omega (arith, g .both .given .long, d .frame .long); low = d .low };
+              given = record {
+                given₀ = g .both .given .given₀;
+                given₁ = g .both .given .given₁;
+                long = omega (arith, g .both .given .long, d .frame .long);
+                low = d .low;
+              };
               room₀ = omega (arith, g .both .room₀, d .notes₀ .long);
               room₁ = omega (arith, g .both .room₁, d .notes₁ .long);
             };
@@ -225,17 +259,21 @@ module _ {row₀ row₁ st path₀ path₁ : List ℕ} {z : Sizes} {n₁ I q₀ 
           }
 
       pub back-done : {new new₀ new₁ : List ℕ}
-          → TraceDone (deckIn row₀ z) (deckIn row₁ (withCells z n₁)) (z .reordering) (z .talls) (posIn row₀) (posIn row₁) J (code / 768) (code % 768 / 64) (code % 64) mid new mid₀ new₀ mid₁ new₁
-          → TraceDone (deckIn row₀ z) (deckIn row₁ (withCells z n₁)) (z .reordering) (z .talls) (posIn row₀) (posIn row₁) I q₀ q₁ a st new path₀ new₀ path₁ new₁
+          → TraceDone (deckIn row₀ z) (deckIn row₁ (withCells z n₁)) (z .reordering) (z .talls) (posIn row₀)
+          (posIn row₁) J (code / 768) (code % 768 / 64) (code % 64) mid new mid₀ new₀ mid₁ new₁
+          → TraceDone (deckIn row₀ z) (deckIn row₁ (withCells z n₁)) (z .reordering) (z .talls) (posIn row₀)
+          (posIn row₁) I q₀ q₁ a st new path₀ new₀ path₁ new₁
       unfolding stageCost startLayer startCells startEnd
       back-done {new} {new₀} {new₁} r =
           let s = code / 768 in
           let t = code % 768 / 64 in
           let l = code % 64 in
           let h : J < z .talls = omega (arith, g .stage) in
-          let u = subst (λ (k : ℕ). LegDone D₀ D₁ (z .reordering) (z .talls) (posIn row₀) (posIn row₁) k s t l q₀ q₁ a st mid path₀ mid₀ path₁ mid₁) e d in
+          let u = subst (λ (k : ℕ). LegDone D₀ D₁ (z .reordering) (z .talls) (posIn row₀)
+          (posIn row₁) k s t l q₀ q₁ a st mid path₀ mid₀ path₁ mid₁) e d in
           done-at (suc J) e record {
-            frame = frame-join 0 pagesFrom (d .frame) (r .frame) (omega arith) (omega arith) (omega arith) (omega arith);
+            frame =
+                frame-join 0 pagesFrom (d .frame) (r .frame) (omega arith) (omega arith) (omega arith) (omega arith);
             low = r .low;
             long₀ = r .long₀ ∙ u .notes₀ .long;
             long₁ = r .long₁ ∙ u .notes₁ .long;
@@ -246,8 +284,10 @@ module _ {row₀ row₁ st path₀ path₁ : List ℕ} {z : Sizes} {n₁ I q₀ 
                 let w₀ = u .traced₀ (k .1) in
                 let w₁ = u .traced₁ (k .2) in
                 record {
-                  notes₀ = notes-join D₀ (z .reordering) (z .talls) (posIn row₀) J s q₀ h (traced-on D₀ (z .reordering) (z .talls) (posIn row₀) (NotedBy (wordAt mid₀)) (suc J) _ _ _ q₀ a w₀) (u .notes₀) (v .notes₀);
-                  notes₁ = notes-join D₁ (z .reordering) (z .talls) (posIn row₁) J t q₁ h (traced-on D₁ (z .reordering) (z .talls) (posIn row₁) (NotedBy (wordAt mid₁)) (suc J) _ _ _ q₁ a w₁) (u .notes₁) (v .notes₁);
+                  notes₀ = notes-join D₀ (z .reordering) (z .talls) (posIn row₀) J s q₀ h (traced-on D₀ (z .reordering)
+                      (z .talls) (posIn row₀) (NotedBy (wordAt mid₀)) (suc J) _ _ _ q₀ a w₀) (u .notes₀) (v .notes₀);
+                  notes₁ = notes-join D₁ (z .reordering) (z .talls) (posIn row₁) J t q₁ h (traced-on D₁ (z .reordering)
+                      (z .talls) (posIn row₁) (NotedBy (wordAt mid₁)) (suc J) _ _ _ q₁ a w₁) (u .notes₁) (v .notes₁);
                   traced = (
                     s,
                     t,
@@ -257,8 +297,10 @@ module _ {row₀ row₁ st path₀ path₁ : List ℕ} {z : Sizes} {n₁ I q₀ 
                       state₁ = w .state₁;
                       pose = w .lane;
                       sum = w .sum;
-                      row₀ = traced-kept D₀ (z .reordering) (z .talls) (posIn row₀) J s _ _ q₀ a mid₀ new₀ h (v .notes₀) w₀;
-                      row₁ = traced-kept D₁ (z .reordering) (z .talls) (posIn row₁) J t _ _ q₁ a mid₁ new₁ h (v .notes₁) w₁;
+                      row₀ = traced-kept D₀ (z .reordering) (z .talls)
+                          (posIn row₀) J s _ _ q₀ a mid₀ new₀ h (v .notes₀) w₀;
+                      row₁ = traced-kept D₁ (z .reordering) (z .talls)
+                          (posIn row₁) J t _ _ q₁ a mid₁ new₁ h (v .notes₁) w₁;
                     },
                     v .traced,
                   );
@@ -274,7 +316,11 @@ trace-given {z = z} g x y =
     record {
       both = record { given = g; room₀ = x; room₁ = y };
       stage = omega arith;
-      case = record { state₀ = one (stateCount (z .reordering)); state₁ = one (stateCount (z .reordering)); pose = one (z .poses) };
+      case = record {
+        state₀ = one (stateCount (z .reordering));
+        state₁ = one (stateCount (z .reordering));
+        pose = one (z .poses);
+      };
     }
   where
     one : (k : ℕ) → 0 < wide (z .talls) (suc (z .talls)) k

@@ -26,7 +26,8 @@ pub record Case (R talls poses I q₀ q₁ a : ℕ) : Type 0 where
 
 -- the back pointers: a way to each case after the first tall cell's, where it is below B
 pub record Ways (D₀ D₁ : Deck) (R talls : ℕ) (pos₀ pos₁ : ℕ → ℕ) (st : List ℕ) : Type 0 where
-  pub way : (I q₀ q₁ a : ℕ) → I < talls → Case R talls (D₀ .poses) (suc I) q₀ q₁ a → caseTable D₀ D₁ R talls pos₀ pos₁ (suc I) q₀ q₁ a < B
+  pub way : (I q₀ q₁ a : ℕ) → I < talls → Case R talls (D₀ .poses) (suc I) q₀ q₁ a
+      → caseTable D₀ D₁ R talls pos₀ pos₁ (suc I) q₀ q₁ a < B
       → Way
       (stateCount R)
       (D₀ .poses)
@@ -40,7 +41,8 @@ pub record Ways (D₀ D₁ : Deck) (R talls : ℕ) (pos₀ pos₁ : ℕ → ℕ)
       (pointersIn st (suc (suc I)) q₀ q₁ a)
 
 -- the stages leave them
-pub stages-ways : {D₀ D₁ : Deck} {R talls : ℕ} {pos₀ pos₁ : ℕ → ℕ} {old new : List ℕ} → StagesDone D₀ D₁ R talls pos₀ pos₁ old new → Ways D₀ D₁ R talls pos₀ pos₁ new
+pub stages-ways : {D₀ D₁ : Deck} {R talls : ℕ} {pos₀ pos₁ : ℕ → ℕ} {old new : List ℕ}
+    → StagesDone D₀ D₁ R talls pos₀ pos₁ old new → Ways D₀ D₁ R talls pos₀ pos₁ new
 stages-ways d = record { way = λ I q₀ q₁ a h c. d .way I q₀ q₁ a h (c .state₀) (c .state₁) (c .pose) }
 
 -- two rows with the tables, and a path for each row
@@ -74,9 +76,11 @@ module _ (D₀ D₁ : Deck) (R talls : ℕ) (pos₀ pos₁ : ℕ → ℕ) where
     pub notes₀ : Frame (startCells R pos₀ I s) (suc (endPlace (D₀ .size) R talls pos₀ I q₀)) path₀ path₀′
     pub notes₁ : Frame (startCells R pos₁ I t) (suc (endPlace (D₁ .size) R talls pos₁ I q₁)) path₁ path₁′
     pub traced₀ : costFrom D₀ R talls pos₀ I s l q₀ a < B
-        → StageTraced D₀ R talls pos₀ (NotedBy (wordAt path₀′)) I (startLayer D₀ R pos₀ I s l) (startCells R pos₀ I s) (startEnd D₀ pos₀ I l) q₀ a
+        → StageTraced D₀ R talls pos₀ (NotedBy (wordAt path₀′)) I (startLayer D₀ R pos₀ I s l) (startCells R pos₀ I s)
+        (startEnd D₀ pos₀ I l) q₀ a
     pub traced₁ : costFrom D₁ R talls pos₁ I t l q₁ a < B
-        → StageTraced D₁ R talls pos₁ (NotedBy (wordAt path₁′)) I (startLayer D₁ R pos₁ I t l) (startCells R pos₁ I t) (startEnd D₁ pos₁ I l) q₁ a
+        → StageTraced D₁ R talls pos₁ (NotedBy (wordAt path₁′)) I (startLayer D₁ R pos₁ I t l) (startCells R pos₁ I t)
+        (startEnd D₁ pos₁ I l) q₁ a
 
   -- both rows are traced through all stages up to stage I
   pub record TracedTo (I q₀ q₁ a : ℕ) (path₀ path₀′ path₁ path₁′ : List ℕ) : Type 0 where
@@ -90,14 +94,17 @@ module _ (D₀ D₁ : Deck) (R talls : ℕ) (pos₀ pos₁ : ℕ → ℕ) where
     pub low : Low st′
     pub long₀ : length path₀′ ≡ length path₀
     pub long₁ : length path₁′ ≡ length path₁
-    pub done : Ways D₀ D₁ R talls pos₀ pos₁ st → caseTable D₀ D₁ R talls pos₀ pos₁ I q₀ q₁ a < B → TracedTo I q₀ q₁ a path₀ path₀′ path₁ path₁′
+    pub done : Ways D₀ D₁ R talls pos₀ pos₁ st → caseTable D₀ D₁ R talls pos₀ pos₁ I q₀ q₁ a < B
+        → TracedTo I q₀ q₁ a path₀ path₀′ path₁ path₁′
 
 -- ---- what is left, by the rows' words
 
-abbrev pub RowsLeg : List ℕ → List ℕ → Sizes → ℕ → ℕ → ℕ → ℕ → ℕ → ℕ → ℕ → ℕ → List ℕ → List ℕ → List ℕ → List ℕ → List ℕ → List ℕ → Type 0
+abbrev pub RowsLeg : List ℕ → List ℕ → Sizes → ℕ → ℕ → ℕ → ℕ → ℕ → ℕ → ℕ → ℕ → List ℕ → List ℕ → List ℕ → List ℕ
+    → List ℕ → List ℕ → Type 0
 RowsLeg row₀ row₁ z n₁ =
     LegDone (deckIn row₀ z) (deckIn row₁ (withCells z n₁)) (z .reordering) (z .talls) (posIn row₀) (posIn row₁)
 
-abbrev pub RowsTrace : List ℕ → List ℕ → Sizes → ℕ → ℕ → ℕ → ℕ → ℕ → List ℕ → List ℕ → List ℕ → List ℕ → List ℕ → List ℕ → Type 0
+abbrev pub RowsTrace : List ℕ → List ℕ → Sizes → ℕ → ℕ → ℕ → ℕ → ℕ → List ℕ → List ℕ → List ℕ → List ℕ → List ℕ
+    → List ℕ → Type 0
 RowsTrace row₀ row₁ z n₁ =
     TraceDone (deckIn row₀ z) (deckIn row₁ (withCells z n₁)) (z .reordering) (z .talls) (posIn row₀) (posIn row₁)

@@ -33,7 +33,8 @@ fn both_trace(
     a: usize,
 )
     requires { ⌜ Leg (now row0) (now row1) (now store) (now path0) (now path1) sizes cells1 i s t l q0 q1 a ⌝ }
-    ensures { λ _. ⌜ RowsLeg (now (row0 .entry)) (now (row1 .entry)) sizes cells1 i s t l q0 q1 a (now (store .entry)) (now (store .exit)) (now (path0 .entry)) (now (path0 .exit)) (now (path1 .entry)) (now (path1 .exit)) ⌝ }
+    ensures { λ _. ⌜ RowsLeg (now (row0 .entry)) (now (row1 .entry)) sizes cells1 i s t l q0 q1 a (now (store .entry))
+        (now (store .exit)) (now (path0 .entry)) (now (path0 .exit)) (now (path1 .entry)) (now (path1 .exit)) ⌝ }
 {
     let sizes1 = Sizes {
         cells: cells1,
@@ -61,7 +62,8 @@ fn trace_from(
     a: usize,
 )
     requires { ⌜ Trace (now row0) (now row1) (now store) (now path0) (now path1) sizes cells1 i q0 q1 a ⌝ }
-    ensures { λ _. ⌜ RowsTrace (now (row0 .entry)) (now (row1 .entry)) sizes cells1 i q0 q1 a (now (store .entry)) (now (store .exit)) (now (path0 .entry)) (now (path0 .exit)) (now (path1 .entry)) (now (path1 .exit)) ⌝ }
+    ensures { λ _. ⌜ RowsTrace (now (row0 .entry)) (now (row1 .entry)) sizes cells1 i q0 q1 a (now (store .entry))
+        (now (store .exit)) (now (path0 .entry)) (now (path0 .exit)) (now (path1 .entry)) (now (path1 .exit)) ⌝ }
 {
     if i == 0 {
         both_trace(
@@ -137,7 +139,9 @@ pub fn trace(
     cells1: usize,
 )
     requires { ⌜ Trace (now row0) (now row1) (now store) (now path0) (now path1) sizes cells1 (sizes .talls) 0 0 0 ⌝ }
-    ensures { λ _. ⌜ RowsTrace (now (row0 .entry)) (now (row1 .entry)) sizes cells1 (sizes .talls) 0 0 0 (now (store .entry)) (now (store .exit)) (now (path0 .entry)) (now (path0 .exit)) (now (path1 .entry)) (now (path1 .exit)) ⌝ }
+    ensures { λ _. ⌜ RowsTrace (now (row0 .entry)) (now (row1 .entry)) sizes cells1 (sizes .talls) 0 0 0
+        (now (store .entry)) (now (store .exit)) (now (path0 .entry)) (now (path0 .exit)) (now (path1 .entry))
+        (now (path1 .exit)) ⌝ }
 {
     trace_from(
         store,

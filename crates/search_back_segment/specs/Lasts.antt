@@ -15,7 +15,8 @@ use Rattle.search_back_segment.specs.Traces.{LeastOf, lastPays, lastOf, 
 
 module _ (D : Deck) (R : ℕ) (f : Layer) where
   -- one of the words that the end is the least of
-  pub last-in : (q b : ℕ) → b < D .poses → isThere D R (D .size) q ≡ true → D .tall (lastAt R (D .size) q) ≡ false → lastOf D R f q b ≡ lastPays D R f q b
+  pub last-in : (q b : ℕ) → b < D .poses → isThere D R (D .size) q ≡ true → D .tall (lastAt R (D .size) q) ≡ false
+      → lastOf D R f q b ≡ lastPays D R f q b
   unfolding lastOf
   last-in q b h e s = rw (lt-ltb b (D .poses) h, e, s) refl
 
@@ -28,7 +29,8 @@ module _ (D : Deck) (R : ℕ) (f : Layer) where
   unfolding lastOf
   last-out q b e = go (ltb b (D .poses)) (isThere D R (D .size) q) e
     where
-      go : (t s : Bool) → s ≡ false → cond t (cond s (cond (D .tall (lastAt R (D .size) q)) B (lastPays D R f q b)) B) B ≡ B
+      go : (t s : Bool) → s ≡ false
+          → cond t (cond s (cond (D .tall (lastAt R (D .size) q)) B (lastPays D R f q b)) B) B ≡ B
       go true s z = ap (λ s. cond s (cond (D .tall (lastAt R (D .size) q)) B (lastPays D R f q b)) B) z
       go false s z = refl
 
@@ -52,21 +54,31 @@ module _ (D : Deck) (R : ℕ) (f : Layer) where
   unfolding lastOf
   last-met q b l = go (ltb b (D .poses)) refl (isThere D R (D .size) q) refl (D .tall (lastAt R (D .size) q)) refl l
     where
-      go : (t : Bool) → ltb b (D .poses) ≡ t → (s : Bool) → isThere D R (D .size) q ≡ s → (u : Bool) → D .tall (lastAt R (D .size) q) ≡ u
+      go : (t : Bool) → ltb b (D .poses) ≡ t → (s : Bool) → isThere D R (D .size) q ≡ s → (u : Bool)
+          → D .tall (lastAt R (D .size) q) ≡ u
           → cond t (cond s (cond u B (lastPays D R f q b)) B) B < B → Met q b
-      go true x true y false z h = record { pose = ltb-true b (D .poses) x; there = y; single = z; word = last-in q b (ltb-true b (D .poses) x) y z }
+      go true x true y false z h = record {
+        pose = ltb-true b (D .poses) x;
+        there = y;
+        single = z;
+        word = last-in q b (ltb-true b (D .poses) x) y z;
+      }
       go false x s y u z h = absurd (omega arith)
       go true x false y u z h = absurd (omega arith)
       go true x true y true z h = absurd (omega arith)
 
   -- a bound below all of them
-  above : (best : ℕ) → best ≤ B → ((q b : ℕ) → q < stateCount R → b < D .poses → best ≤ lastOf D R f q b) → best ≤ ends D R f
+  above : (best : ℕ) → best ≤ B → ((q b : ℕ) → q < stateCount R → b < D .poses → best ≤ lastOf D R f q b)
+      → best ≤ ends D R f
   unfolding ends
-  above best c g = loop-above B _ (stateCount R) best c λ q x. go q x (isThere D R (D .size) q) refl (D .tall (lastAt R (D .size) q)) refl
+  above best c g = loop-above B _ (stateCount R) best c λ q x. go q x (isThere D R (D .size) q) refl
+      (D .tall (lastAt R (D .size) q)) refl
     where
-      go : (q : ℕ) → q < stateCount R → (s : Bool) → isThere D R (D .size) q ≡ s → (u : Bool) → D .tall (lastAt R (D .size) q) ≡ u
+      go : (q : ℕ) → q < stateCount R → (s : Bool) → isThere D R (D .size) q ≡ s → (u : Bool)
+          → D .tall (lastAt R (D .size) q) ≡ u
           → best ≤ cond (s && not u) (lowest B (lastPays D R f q) (from 0 (D .poses))) B
-      go q x true y false z = loop-above B (lastPays D R f q) (D .poses) best c (λ b h. omega (arith, g q b x h, last-in q b h y z))
+      go q x true y false z =
+          loop-above B (lastPays D R f q) (D .poses) best c (λ b h. omega (arith, g q b x h, last-in q b h y z))
       go q x true y true z = c
       go q x false y u z = c
 
@@ -75,13 +87,15 @@ module _ (D : Deck) (R : ℕ) (f : Layer) where
   member q b x m =
       omega (
         arith,
-        loop-member B (λ q. cond (isThere D R (D .size) q && not (D .tall (lastAt R (D .size) q))) (lowest B (lastPays D R f q) (from 0 (D .poses))) B) (stateCount R) q x,
+        loop-member B (λ q. cond (isThere D R (D .size) q && not (D .tall (lastAt R (D .size) q)))
+            (lowest B (lastPays D R f q) (from 0 (D .poses))) B) (stateCount R) q x,
         ap₂ (λ s u. cond (s && not u) (lowest B (lastPays D R f q) (from 0 (D .poses))) B) (m .there) (m .single),
         loop-member B (lastPays D R f q) (D .poses) b (m .pose),
       )
 
   -- the least of their words is below what ending costs; below B it is that
-  module _ (best code all : ℕ) (e : all ≡ stateCount R * 64) (few : D .poses ≤ 60) (w : LeastOf (lastCode D R f) all best code) where
+  module _ (best code all : ℕ) (e : all ≡ stateCount R * 64) (few : D .poses ≤ 60)
+      (w : LeastOf (lastCode D R f) all best code) where
     part : (q b : ℕ) → q < stateCount R → b < D .poses → best ≤ lastOf D R f q b
     part q b x y =
         let c : (q * 64 + b) / 64 ≡ q = omega arith in
@@ -97,7 +111,13 @@ module _ (D : Deck) (R : ℕ) (f : Layer) where
         let x = m .0 in
         let h : code / 64 < stateCount R = omega arith in
         let n = last-met (code / 64) (code % 64) (omega (arith, m .1)) in
-        record { state = h; pose = n .pose; there = n .there; single = n .single; word = omega (arith, member (code / 64) (code % 64) h n, n .word, m .1, least-ends) }
+        record {
+          state = h;
+          pose = n .pose;
+          there = n .there;
+          single = n .single;
+          word = omega (arith, member (code / 64) (code % 64) h n, n .word, m .1, least-ends);
+        }
 
     pub last-low : best < B → f (code / 64) (code % 64) < B
     last-low l = let m = w .met l in omega (arith, m .1, last-met (code / 64) (code % 64) (omega (arith, m .1)) .word)

@@ -25,7 +25,8 @@ lowest-missed h (suc n) v l m e =
     omega arith
 
 module _ (D : Deck) (R : ℕ) (f : Layer) (i q a : ℕ) where
-  pub state-in : (p b : ℕ) → isSource D R i q p ≡ true → fromState D R f i q a p b ≡ f p b + D .toll (lastAt R i p) b (lastAt R (suc i) q) a
+  pub state-in : (p b : ℕ) → isSource D R i q p ≡ true
+      → fromState D R f i q a p b ≡ f p b + D .toll (lastAt R i p) b (lastAt R (suc i) q) a
   unfolding fromState
   state-in p b e = ap (λ t. cond t (f p b + D .toll (lastAt R i p) b (lastAt R (suc i) q) a) B) e
 
@@ -37,18 +38,21 @@ module _ (D : Deck) (R : ℕ) (f : Layer) (i q a : ℕ) where
   abbrev pub Misses : ℕ → ℕ → Type 0
   Misses want p = (b : ℕ) → b < D .poses → fromState D R f i q a p b ≡ want → ⊥
 
-  pub reached-missed : (want : ℕ) → want < B → ((p : ℕ) → p < stateCount R → Misses want p) → reached D R f i q a ≡ want → ⊥
+  pub reached-missed : (want : ℕ) → want < B → ((p : ℕ) → p < stateCount R → Misses want p)
+      → reached D R f i q a ≡ want → ⊥
   unfolding reached via fromState
   reached-missed want l m = lowest-missed _ (stateCount R) want l λ p x. go p x (isSource D R i q p) (m p x)
     where
       go : (p : ℕ) → p < stateCount R → (t : Bool)
           → ((b : ℕ) → b < D .poses → cond t (f p b + D .toll (lastAt R i p) b (lastAt R (suc i) q) a) B ≡ want → ⊥)
-          → cond t (lowest B (λ b. f p b + D .toll (lastAt R i p) b (lastAt R (suc i) q) a) (from 0 (D .poses))) B ≡ want → ⊥
+          → cond t (lowest B (λ b. f p b + D .toll (lastAt R i p) b (lastAt R (suc i) q) a)
+          (from 0 (D .poses))) B ≡ want → ⊥
       go p x true g = lowest-missed _ (D .poses) want l g
       go p x false g = λ e. omega arith
 
   -- a hit
-  pub state-fits : (want p b : ℕ) → p < stateCount R → b < D .poses → want < B → fromState D R f i q a p b ≡ want → Fits D R f i q a want p b
+  pub state-fits : (want p b : ℕ) → p < stateCount R → b < D .poses → want < B → fromState D R f i q a p b ≡ want
+      → Fits D R f i q a want p b
   unfolding fromState
   state-fits want p b x y l e = go (isSource D R i q p) refl
     where
@@ -57,7 +61,8 @@ module _ (D : Deck) (R : ℕ) (f : Layer) (i q a : ℕ) where
       go false s = absurd (omega (arith, state-out p b s, e))
 
   -- an entry below B is its own cost and what it was reached by
-  pub next-below : nextLayer D R f i q a < B → (isThere D R (suc i) q ≡ true) × (nextLayer D R f i q a ≡ D .own (lastAt R (suc i) q) a + reached D R f i q a)
+  pub next-below : nextLayer D R f i q a < B
+      → (isThere D R (suc i) q ≡ true) × (nextLayer D R f i q a ≡ D .own (lastAt R (suc i) q) a + reached D R f i q a)
   unfolding nextLayer
   next-below = go (isThere D R (suc i) q) (D .own (lastAt R (suc i) q) a + reached D R f i q a)
     where
@@ -76,19 +81,32 @@ poses-first st line n poses R i q a p want {at} {k} {m} {r} s x y z w =
     same : (b : ℕ) → fromState (deckOf line n poses) R (keptIn st i) i q a p b ≡ fromPose st line at k m a b
     same b = state-in (deckOf line n poses) R (keptIn st i) i q a p b s ∙ rw (x, y, z) refl
 
-pub poses-none : (D : Deck) (R : ℕ) (f : Layer) (i q a p want : ℕ) → isSource D R i q p ≡ false → want < B → First (fromState D R f i q a p) (D .poses) want (D .poses)
+pub poses-none : (D : Deck) (R : ℕ) (f : Layer) (i q a p want : ℕ) → isSource D R i q p ≡ false → want < B
+    → First (fromState D R f i q a p) (D .poses) want (D .poses)
 poses-none D R f i q a p want s l =
-    record { upto = omega arith; hit = λ h. absurd (omega arith); miss = λ b h e. omega (arith, state-out D R f i q a p b s, e) }
+    record {
+      upto = omega arith;
+      hit = λ h. absurd (omega arith);
+      miss = λ b h e. omega (arith, state-out D R f i q a p b s, e);
+    }
 
 -- the source of a kept entry
 pub entry-source : (D : Deck) (R : ℕ) (st : List ℕ) (i q a : ℕ) {want p b : ℕ}
-    → Fits D R (keptIn st i) i q a want p b → keptIn st (suc i) q a ≡ D .own (lastAt R (suc i) q) a + want → EntrySource D R st i q a p b
+    → Fits D R (keptIn st i) i q a want p b → keptIn st (suc i) q a ≡ D .own (lastAt R (suc i) q) a + want
+    → EntrySource D R st i q a p b
 entry-source D R st i q a w e =
-    record { state = w .state; pose = w .pose; source = w .source; sum = e ∙ ap (λ (x : ℕ). D .own (lastAt R (suc i) q) a + x) (sym (w .sum)) }
+    record {
+      state = w .state;
+      pose = w .pose;
+      source = w .source;
+      sum = e ∙ ap (λ (x : ℕ). D .own (lastAt R (suc i) q) a + x) (sym (w .sum));
+    }
 
 -- what an entry's cost is made of
-pub entry-parts : (D : Deck) (R : ℕ) (st : List ℕ) (i q a : ℕ) → keptIn st (suc i) q a ≡ nextLayer D R (keptIn st i) i q a → keptIn st (suc i) q a < B
-    → (isThere D R (suc i) q ≡ true) × (keptIn st (suc i) q a ≡ D .own (lastAt R (suc i) q) a + reached D R (keptIn st i) i q a)
+pub entry-parts : (D : Deck) (R : ℕ) (st : List ℕ) (i q a : ℕ)
+    → keptIn st (suc i) q a ≡ nextLayer D R (keptIn st i) i q a → keptIn st (suc i) q a < B
+    → (isThere D R (suc i) q ≡ true)
+    × (keptIn st (suc i) q a ≡ D .own (lastAt R (suc i) q) a + reached D R (keptIn st i) i q a)
 entry-parts D R st i q a e l =
     let w = next-below D R (keptIn st i) i q a (omega arith) in
     (w .0, e ∙ w .1)

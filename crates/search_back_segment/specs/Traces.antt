@@ -50,7 +50,8 @@ pub record EntrySource (D : Deck) (R : ℕ) (st : List ℕ) (i q a p b : ℕ) : 
   pub state : p < stateCount R
   pub pose : b < D .poses
   pub source : isSource D R i q p ≡ true
-  pub sum : keptIn st (suc i) q a ≡ D .own (lastAt R (suc i) q) a + (keptIn st i p b + D .toll (lastAt R i p) b (lastAt R (suc i) q) a)
+  pub sum : keptIn st (suc i) q a
+      ≡ D .own (lastAt R (suc i) q) a + (keptIn st i p b + D .toll (lastAt R i p) b (lastAt R (suc i) q) a)
 
 -- ---- what is given
 
@@ -102,7 +103,8 @@ pub record SegmentTraceDone (D : Deck) (R : ℕ) (st : List ℕ) (i d q a : ℕ)
 
 pub record EndDone (D : Deck) (R : ℕ) (st : List ℕ) (i : ℕ) (old new : List ℕ) : Type 0 where
   pub frame : Frame i (suc (D .size)) old new
-  pub rowTraced : (f : Layer) (e : ℕ) → KeptLayers D R f i (D .size) st → costEnd D R f i e < B → EndTraced D R (NotedBy (wordAt new)) f i e
+  pub rowTraced : (f : Layer) (e : ℕ) → KeptLayers D R f i (D .size) st → costEnd D R f i e < B
+      → EndTraced D R (NotedBy (wordAt new)) f i e
 
 -- ---- the last cell
 
@@ -112,7 +114,8 @@ lastPays D R f q b = f q b + D .back (lastAt R (D .size) q) b
 
 -- the same, or B if the row has no such cell, or it is tall
 unfoldable pub lastOf : Deck → ℕ → Layer → ℕ → ℕ → ℕ
-lastOf D R f q b = cond (ltb b (D .poses)) (cond (isThere D R (D .size) q) (cond (D .tall (lastAt R (D .size) q)) B (lastPays D R f q b)) B) B
+lastOf D R f q b = cond (ltb b (D .poses))
+    (cond (isThere D R (D .size) q) (cond (D .tall (lastAt R (D .size) q)) B (lastPays D R f q b)) B) B
 
 -- the same by a code, q * 64 + b
 abbrev pub lastCode : Deck → ℕ → Layer → ℕ → ℕ

@@ -1,4 +1,5 @@
-// The traceback through the kept layers of one segment: each entry's source is found again by its cost, and each cell passed is noted.
+// The traceback through the kept layers of one segment: each entry's source is found again
+// by its cost, and each cell passed is noted.
 ghost use mathlib.Core.Path.{_≡_};
 ghost use Prim.Native.Nat.{suc, _+_, _*_, _/_, _%_, _≤_, _<_};
 ghost use lib.ListN.{length, set};
@@ -6,7 +7,9 @@ ghost use Rattle.theory_tables.specs.Steps.{B, stateCount, lastAt, reached};
 ghost use Rattle.search_lanes.specs.Store.{Low};
 ghost use Rattle.search_row.specs.Words.{deckIn, RowWords, StateWords};
 ghost use Rattle.search_dense_layer.specs.Kept.{keptIn};
-ghost use Rattle.search_back_segment.specs.Traces.{First, fromPose, fromState, Fits, EntrySource, Back, Entry, SegmentTrace, End, SegmentTraceDone, EndDone, lastCode, LeastOf};
+ghost use Rattle.search_back_segment.specs.Traces.{First, fromPose, fromState, Fits};
+ghost use Rattle.search_back_segment.specs.Traces.{EntrySource, Back, Entry, SegmentTrace, End};
+ghost use Rattle.search_back_segment.specs.Traces.{SegmentTraceDone, EndDone, lastCode, LeastOf};
 use search_row::Sizes;
 
 // The first pose of the cell at position k by way of which pose a of position m costs `want`; or `poses`.
@@ -20,7 +23,8 @@ fn find_pose(
     poses: usize,
     want: u32,
 ) -> usize
-    requires { ⌜ RowWords (now row) × Low (now store) × (at + poses ≤ length (now store)) × (k < 64) × (m < 64) × (a < 60) × (poses ≤ 60) ⌝ }
+    requires { ⌜ RowWords (now row) × Low (now store) × (at + poses ≤ length (now store)) × (k < 64) × (m < 64)
+        × (a < 60) × (poses ≤ 60) ⌝ }
     ensures { λ b. ⌜ First (fromPose (now (store .entry)) (now (row .entry)) at k m a) poses want b ⌝ }
 {
     let mut b: usize = 0;
@@ -44,8 +48,11 @@ fn state_pose(
     p: usize,
     want: u32,
 ) -> usize
-    requires { ⌜ Back (now row) (now store) sizes × (i < 66) × (q < stateCount (sizes .reordering)) × (lastAt (sizes .reordering) (suc i) q < sizes .cells) × (a < sizes .poses) × (p < stateCount (sizes .reordering)) × (want < B) ⌝ }
-    ensures { λ b. ⌜ First (fromState (deckIn (now (row .entry)) sizes) (sizes .reordering) (keptIn (now (store .entry)) i) i q a p) (sizes .poses) want b ⌝ }
+    requires { ⌜ Back (now row) (now store) sizes × (i < 66) × (q < stateCount (sizes .reordering))
+        × (lastAt (sizes .reordering) (suc i) q < sizes .cells) × (a < sizes .poses)
+        × (p < stateCount (sizes .reordering)) × (want < B) ⌝ }
+    ensures { λ b. ⌜ First (fromState (deckIn (now (row .entry)) sizes) (sizes .reordering)
+        (keptIn (now (store .entry)) i) i q a p) (sizes .poses) want b ⌝ }
 {
     if !search_row::is_source(row, sizes, i, q, p) {
         return sizes.poses;
@@ -74,8 +81,11 @@ fn find_source(
     a: usize,
     want: u32,
 ) -> usize
-    requires { ⌜ Back (now row) (now store) sizes × (i < 66) × (q < stateCount (sizes .reordering)) × (lastAt (sizes .reordering) (suc i) q < sizes .cells) × (a < sizes .poses) × (want < B) × (reached (deckIn (now row) sizes) (sizes .reordering) (keptIn (now store) i) i q a ≡ want) ⌝ }
-    ensures { λ t. ⌜ Fits (deckIn (now (row .entry)) sizes) (sizes .reordering) (keptIn (now (store .entry)) i) i q a want (t / 64) (t % 64) ⌝ }
+    requires { ⌜ Back (now row) (now store) sizes × (i < 66) × (q < stateCount (sizes .reordering))
+        × (lastAt (sizes .reordering) (suc i) q < sizes .cells) × (a < sizes .poses) × (want < B)
+        × (reached (deckIn (now row) sizes) (sizes .reordering) (keptIn (now store) i) i q a ≡ want) ⌝ }
+    ensures { λ t. ⌜ Fits (deckIn (now (row .entry)) sizes) (sizes .reordering)
+        (keptIn (now (store .entry)) i) i q a want (t / 64) (t % 64) ⌝ }
 {
     let mut p: usize = 0;
     while p < sizes.states {
@@ -91,7 +101,8 @@ fn find_source(
 // Where the kept entry of state q in pose a, one layer after layer i, comes from.
 fn entry_source(store: &[u32], row: &[u32], sizes: Sizes, i: usize, q: usize, a: usize) -> usize
     requires { ⌜ Entry (now row) (now store) sizes i q a ⌝ }
-    ensures { λ t. ⌜ EntrySource (deckIn (now (row .entry)) sizes) (sizes .reordering) (now (store .entry)) i q a (t / 64) (t % 64) ⌝ }
+    ensures { λ t. ⌜ EntrySource (deckIn (now (row .entry)) sizes) (sizes .reordering) (now (store .entry)) i q a
+        (t / 64) (t % 64) ⌝ }
 {
     let own = row[search_row::last_at(row, sizes, i + 1, q) * search_row::CELL + a];
     let cost = store[search_store::kept_at(i + 1) + q * 64 + a];
@@ -100,7 +111,8 @@ fn entry_source(store: &[u32], row: &[u32], sizes: Sizes, i: usize, q: usize, a:
 
 // Notes state q in pose a as the i-th cell.
 fn note(path: &mut [u32], row: &[u32], sizes: Sizes, i: usize, q: usize, a: usize)
-    requires { ⌜ StateWords (sizes .reordering) (now row) × (q < stateCount (sizes .reordering)) × (a < 60) × (i ≤ 66) × (67 ≤ length (now path)) ⌝ }
+    requires { ⌜ StateWords (sizes .reordering) (now row) × (q < stateCount (sizes .reordering)) × (a < 60) × (i ≤ 66)
+        × (67 ≤ length (now path)) ⌝ }
     ensures { λ _. ⌜ now (path .exit) ≡ set (now (path .entry)) i (lastAt (sizes .reordering) i q * 64 + a) ⌝ }
 {
     path[i] = (search_row::last_at(row, sizes, i, q) * 64 + a) as u32;
@@ -118,7 +130,8 @@ pub fn trace(
     a: usize,
 )
     requires { ⌜ SegmentTrace (now row) (now store) (now path) sizes i d q a ⌝ }
-    ensures { λ _. ⌜ SegmentTraceDone (deckIn (now (row .entry)) sizes) (sizes .reordering) (now (store .entry)) i d q a (now (path .entry)) (now (path .exit)) ⌝ }
+    ensures { λ _. ⌜ SegmentTraceDone (deckIn (now (row .entry)) sizes) (sizes .reordering) (now (store .entry)) i d q a
+        (now (path .entry)) (now (path .exit)) ⌝ }
 {
     note(path, row, sizes, i + d, q, a);
     if d == 0 {
@@ -128,11 +141,12 @@ pub fn trace(
     trace(store, path, row, sizes, i, d - 1, t / 64, t % 64);
 }
 
-// The kept word of state c / 64 in pose c % 64 with all n cells placed, with what its cell pays as the row's last; NONE if the row has no such cell, or
-// it is tall.
+// The kept word of state c / 64 in pose c % 64 with all n cells placed, with what its cell pays as the row's last; NONE
+// if the row has no such cell, or it is tall.
 fn last_word(store: &[u32], row: &[u32], sizes: Sizes, c: usize) -> u32
     requires { ⌜ Back (now row) (now store) sizes × (c < sizes .states * 64) ⌝ }
-    ensures { λ x. ⌜ x ≡ lastCode (deckIn (now (row .entry)) sizes) (sizes .reordering) (keptIn (now (store .entry)) (sizes .cells)) c ⌝ }
+    ensures { λ x. ⌜ x ≡ lastCode (deckIn (now (row .entry)) sizes) (sizes .reordering)
+        (keptIn (now (store .entry)) (sizes .cells)) c ⌝ }
 {
     let q = c / 64;
     if c % 64 >= sizes.poses {
@@ -156,7 +170,8 @@ pub struct Last {
 
 fn find_last(store: &[u32], row: &[u32], sizes: Sizes) -> Last
     requires { ⌜ Back (now row) (now store) sizes ⌝ }
-    ensures { λ l. ⌜ LeastOf (lastCode (deckIn (now (row .entry)) sizes) (sizes .reordering) (keptIn (now (store .entry)) (sizes .cells))) (sizes .states * 64) (l .value) (l .code) ⌝ }
+    ensures { λ l. ⌜ LeastOf (lastCode (deckIn (now (row .entry)) sizes) (sizes .reordering)
+        (keptIn (now (store .entry)) (sizes .cells))) (sizes .states * 64) (l .value) (l .code) ⌝ }
 {
     let mut best = search_lanes::NONE;
     let mut code: usize = 0;
@@ -175,7 +190,8 @@ fn find_last(store: &[u32], row: &[u32], sizes: Sizes) -> Last
 // From the row's end back to layer i; nothing if no cell was left to place, or the row cannot end.
 pub fn trace_end(store: &[u32], path: &mut [u32], row: &[u32], sizes: Sizes, i: usize)
     requires { ⌜ End (now row) (now store) (now path) sizes i ⌝ }
-    ensures { λ _. ⌜ EndDone (deckIn (now (row .entry)) sizes) (sizes .reordering) (now (store .entry)) i (now (path .entry)) (now (path .exit)) ⌝ }
+    ensures { λ _. ⌜ EndDone (deckIn (now (row .entry)) sizes) (sizes .reordering) (now (store .entry)) i
+        (now (path .entry)) (now (path .exit)) ⌝ }
 {
     if sizes.cells < i {
         return;

@@ -1,4 +1,5 @@
--- One stage of the traceback in one row: its first layer made once more from its one start, its layers kept, and the traceback through them.
+-- One stage of the traceback in one row: its first layer made once more from its one start, its
+-- layers kept, and the traceback through them.
 use Prim.Native.Nat.{ℕ, zero, suc, _≤_, _<_}
 use mathlib.Core.Path.{_≡_}
 use mathlib.Core.Bool.{cond}
@@ -34,7 +35,8 @@ startEnd D pos (suc I) l = D .back (pos I) l
 
 -- what the stage costs from there to state q in pose a at its end
 abbrev pub costFrom : Deck → ℕ → ℕ → (ℕ → ℕ) → ℕ → ℕ → ℕ → ℕ → ℕ → ℕ
-costFrom D R talls pos I s l q a = stageEnd D R talls pos I (startLayer D R pos I s l) (startCells R pos I s) (startEnd D pos I l) q a
+costFrom D R talls pos I s l q a =
+    stageEnd D R talls pos I (startLayer D R pos I s l) (startCells R pos I s) (startEnd D pos I l) q a
 
 -- the last place of stage I: that of tall cell I as state q, or the row's last
 unfoldable pub endPlace : ℕ → ℕ → ℕ → (ℕ → ℕ) → ℕ → ℕ → ℕ
@@ -67,10 +69,12 @@ pub record Started (D : Deck) (R : ℕ) (pos : ℕ → ℕ) (I s l cells : ℕ) 
   pub low : Low new
   pub right : (q a : ℕ) → q < stateCount R → a < D .poses → keptIn new cells q a ≡ startLayer D R pos I s l q a
 
--- the stage is traced, if it has a cost: the cells from its first place to its last are noted, and nothing else; the tables are kept
+-- the stage is traced, if it has a cost: the cells from its first place to its last are
+-- noted, and nothing else; the tables are kept
 pub record StageDone (D : Deck) (R talls : ℕ) (pos : ℕ → ℕ) (I s l q a : ℕ) (st st′ path path′ : List ℕ) : Type 0 where
   pub frame : Frame 0 pagesFrom st st′
   pub low : Low st′
   pub notes : Frame (startCells R pos I s) (suc (endPlace (D .size) R talls pos I q)) path path′
   pub rowTraced : costFrom D R talls pos I s l q a < B
-      → StageTraced D R talls pos (NotedBy (wordAt path′)) I (startLayer D R pos I s l) (startCells R pos I s) (startEnd D pos I l) q a
+      → StageTraced D R talls pos (NotedBy (wordAt path′)) I (startLayer D R pos I s l) (startCells R pos I s)
+      (startEnd D pos I l) q a

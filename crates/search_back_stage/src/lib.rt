@@ -1,4 +1,5 @@
-// One stage of the traceback in one row: its first layer is made once more from its one start, its layers are kept, and the traceback goes back through them.
+// One stage of the traceback in one row: its first layer is made once more from its one start, its layers are
+// kept, and the traceback goes back through them.
 ghost use Rattle.search_row.specs.Words.{deckIn, posIn, Ground};
 ghost use mathlib.Core.Path.{_≡_};
 ghost use Prim.Native.Nat.{ℕ, _≤_, _<_};
@@ -10,8 +11,10 @@ use search_row::tall_at;
 
 // The first layer of a stage, kept; the result is how many cells it has.
 fn first_of(store: &mut [u32], row: &[u32], sizes: Sizes, stage: usize, s: usize, l: usize) -> usize
-    requires { ⌜ Start (now row) (now store) sizes stage s l × (startCells (sizes .reordering) (posIn (now row)) stage s ≤ 66) ⌝ }
-    ensures { λ i. ⌜ Started (deckIn (now (row .entry)) sizes) (sizes .reordering) (posIn (now (row .entry))) stage s l i (now (store .entry)) (now (store .exit)) ⌝ }
+    requires { ⌜ Start (now row) (now store) sizes stage s l
+        × (startCells (sizes .reordering) (posIn (now row)) stage s ≤ 66) ⌝ }
+    ensures { λ i. ⌜ Started (deckIn (now (row .entry)) sizes) (sizes .reordering)
+        (posIn (now (row .entry))) stage s l i (now (store .entry)) (now (store .exit)) ⌝ }
 {
     if stage == 0 {
         let to = search_store::kept_at(1);
@@ -27,7 +30,8 @@ fn first_of(store: &mut [u32], row: &[u32], sizes: Sizes, stage: usize, s: usize
 
 // How many cells the first layer of a stage has.
 fn cells_of(row: &[u32], sizes: Sizes, stage: usize, s: usize) -> usize
-    requires { ⌜ Ground (now row) sizes × (stage ≤ 24) × ((i : ℕ) → i < stage → posIn (now row) i < 64) × (0 < stage → s < stateCount (sizes .reordering)) ⌝ }
+    requires { ⌜ Ground (now row) sizes × (stage ≤ 24) × ((i : ℕ) → i < stage → posIn (now row) i < 64)
+        × (0 < stage → s < stateCount (sizes .reordering)) ⌝ }
     ensures { λ i. ⌜ i ≡ startCells (sizes .reordering) (posIn (now (row .entry))) stage s ⌝ }
 {
     if stage == 0 {
@@ -37,7 +41,8 @@ fn cells_of(row: &[u32], sizes: Sizes, stage: usize, s: usize) -> usize
     placed_with(row, sizes, p, s) + 1
 }
 
-// Back from state q in pose a of the stage's tall cell, or from the row's end, to the stage's start; nothing is noted where the stage has no cost.
+// Back from state q in pose a of the stage's tall cell, or from the row's end, to the stage's start;
+// nothing is noted where the stage has no cost.
 pub fn stage_trace(
     store: &mut [u32],
     path: &mut [u32],
@@ -50,7 +55,9 @@ pub fn stage_trace(
     a: usize,
 )
     requires { ⌜ Stage (now row) (now store) (now path) sizes stage s l q a ⌝ }
-    ensures { λ _. ⌜ StageDone (deckIn (now (row .entry)) sizes) (sizes .reordering) (sizes .talls) (posIn (now (row .entry))) stage s l q a (now (store .entry)) (now (store .exit)) (now (path .entry)) (now (path .exit)) ⌝ }
+    ensures { λ _. ⌜ StageDone (deckIn (now (row .entry)) sizes) (sizes .reordering) (sizes .talls)
+        (posIn (now (row .entry))) stage s l q a (now (store .entry)) (now (store .exit)) (now (path .entry))
+        (now (path .exit)) ⌝ }
 {
     if cells_of(row, sizes, stage, s) > 66 {
         return;

@@ -1,5 +1,5 @@
--- A row's end: the least of the layer with all cells placed, as the loops come to it, and what the cost to the end is by how many
--- cells the start has placed.
+-- A row's end: the least of the layer with all cells placed, as the loops come to it, and what the cost to the end
+-- is by how many cells the start has placed.
 use Prim.Native.Nat.{ℕ, suc, _+_, _-_, _≤_, _<_, min}
 use mathlib.Core.Path.{_≡_, refl, ap, _∙_}
 use mathlib.Core.Bool.{true, false, not, _&&_, cond}
@@ -19,7 +19,8 @@ leastPoses back f q m = lowest B (λ a. f q a + back a) (from 0 m)
 -- of state q, if its cell can be the last
 unfoldable pub leastState : Deck → ℕ → Layer → ℕ → ℕ
 leastState D R f q =
-    cond (isThere D R (D .size) q && not (D .tall (lastAt R (D .size) q))) (leastPoses (D .back (lastAt R (D .size) q)) f q (D .poses)) B
+    cond (isThere D R (D .size) q && not (D .tall (lastAt R (D .size) q)))
+    (leastPoses (D .back (lastAt R (D .size) q)) f q (D .poses)) B
 
 -- of the states below m
 unfoldable pub leastStates : Deck → ℕ → Layer → ℕ → ℕ
@@ -42,7 +43,8 @@ module _ (D : Deck) (R : ℕ) (f : Layer) where
   unfolding leastState
   state-in q e = ap (λ t. cond t (leastPoses (D .back (lastAt R (D .size) q)) f q (D .poses)) B) e
 
-  pub state-out : (q : ℕ) → (isThere D R (D .size) q && not (D .tall (lastAt R (D .size) q))) ≡ false → leastState D R f q ≡ B
+  pub state-out : (q : ℕ) → (isThere D R (D .size) q && not (D .tall (lastAt R (D .size) q))) ≡ false
+      → leastState D R f q ≡ B
   unfolding leastState
   state-out q e = ap (λ t. cond t (leastPoses (D .back (lastAt R (D .size) q)) f q (D .poses)) B) e
 
@@ -63,7 +65,8 @@ module _ (D : Deck) (R : ℕ) (f : Layer) where
   states-all = refl
 
   -- from lanes that were B at first
-  pub ends-gathered : {count x : ℕ} → count ≡ stateCount R → x ≡ min B (leastStates D R f count) → ends D R f ≡ min (0 + x) B
+  pub ends-gathered : {count x : ℕ} → count ≡ stateCount R → x ≡ min B (leastStates D R f count)
+      → ends D R f ≡ min (0 + x) B
   ends-gathered {count} n e =
       let b = ap (leastStates D R f) n ∙ states-all in
       omega (arith, b, states-low count)

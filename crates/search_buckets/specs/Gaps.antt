@@ -1,5 +1,5 @@
--- Which gaps pay, as the one law of the charge that the tables are built on: at some gaps neighbours pay for their steps, from gap 4 on
--- they pay nothing, at the others they may not stand.
+-- Which gaps pay, as the one law of the charge that the tables are built on: at some gaps neighbours pay for their
+-- steps, from gap 4 on they pay nothing, at the others they may not stand.
 use Prim.Native.Nat.{ℕ, zero, suc, _+_, _*_, _-_, _≤_, _<_, min}
 use mathlib.Core.Path.{_≡_, refl, sym, ap, subst}
 use mathlib.Core.Logic.{_≢_}
@@ -53,6 +53,7 @@ toll? x y pay = left (ltb x y) (le? (suc x) y)
         no1 gap (there (there (here e))) = λ f. omega arith
     one false (differs n) h = at (x - y) n (omega arith)
 
-    left : (t : Bool) → Le? (suc x) y t → Toll x y pay (cond t B (cond (eqb (x - y) 1) B (charge (x - y) * pay (x - y))))
+    left : (t : Bool) → Le? (suc x) y t
+        → Toll x y pay (cond t B (cond (eqb (x - y) 1) B (charge (x - y) * pay (x - y))))
     left true (low h) = barred (omega arith) λ gap i e. omega arith
     left false (high h) = one (eqb (x - y) 1) (eq? (x - y) 1) (omega arith)

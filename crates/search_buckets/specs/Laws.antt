@@ -1,5 +1,5 @@
--- What is found in the buckets is the least by way of every source: for one source by the law of its toll, and a bucket of the lowest of many
--- sources finds the lowest of what each finds.
+-- What is found in the buckets is the least by way of every source: for one source by the law of its toll, and a bucket
+-- of the lowest of many sources finds the lowest of what each finds.
 use Prim.Native.Nat.{ℕ, zero, suc, _+_, _*_, _-_, _/_, _%_, _≤_, _<_, min}
 use mathlib.Core.Path.{_≡_, refl, sym, ap, ap₂, _∙_}
 use mathlib.Core.Logic.{_≢_}
@@ -14,7 +14,8 @@ use Rattle.lists.specs.Numbers.{from, in-from, from-in}
 use Rattle.theory_pair.specs.Coded.{lowest, lowest-low}
 use Rattle.theory_tables.specs.Steps.{B, Deck, Layer, stateCount, lastAt, isSource, via, reached}
 use Rattle.theory_tables.specs.Lowest.{lowest-member, lowest-above, loop-member, loop-above}
-use Rattle.search_row.specs.Words.{wordOf, variant, siteIn, endIn, differIn, weightIn, tollAt, tollIn, deckOf, RowWords, apartWord, givenWord, touchingWord}
+use Rattle.search_row.specs.Words.{wordOf, variant, siteIn, endIn, differIn, weightIn, tollAt}
+use Rattle.search_row.specs.Words.{tollIn, deckOf, RowWords, apartWord, givenWord, touchingWord}
 use Rattle.search_row.specs.Laws.{differ-low, pay-low}
 use Rattle.search_buckets.specs.Loops.{lowest-cap, lowest-same, lowest-min, lowest-swap, lowest-none, lowest-more}
 use Rattle.search_buckets.specs.Gaps.{paying, paying-low, Toll, pays, free, barred, toll?}
@@ -49,9 +50,11 @@ module _ (r e : ℕ) where
   -- in the rows of the gaps that pay, where the source has a cost for each gap
   module _ (cost : ℕ → ℕ) (bucket : ℕ → ℕ → ℕ) (only : (gap t : ℕ) → bucket gap t ≡ inRow r t (cost gap)) where
     gap-miss : ((gap : ℕ) → In gap paying → r ≢ e + 4 - gap) → B ≤ lowest B (λ gap. bucket gap (e + 4 - gap)) paying
-    gap-miss h = lowest-above B _ B paying (omega arith) (λ gap i. omega (arith, only gap (e + 4 - gap), row-miss r (e + 4 - gap) (cost gap) (h gap i)))
+    gap-miss h = lowest-above B _ B paying (omega arith)
+        (λ gap i. omega (arith, only gap (e + 4 - gap), row-miss r (e + 4 - gap) (cost gap) (h gap i)))
 
-    gap-hit : (gap : ℕ) → In gap paying → r ≡ e + 4 - gap → lowest B (λ gap. bucket gap (e + 4 - gap)) paying ≡ min (cost gap) B
+    gap-hit : (gap : ℕ) → In gap paying → r ≡ e + 4 - gap
+        → lowest B (λ gap. bucket gap (e + 4 - gap)) paying ≡ min (cost gap) B
     gap-hit gap i h =
         omega (
           arith,
@@ -59,7 +62,8 @@ module _ (r e : ℕ) where
           only gap (e + 4 - gap),
           row-hit r (e + 4 - gap) (cost gap) h,
           lowest-low B (λ gap. bucket gap (e + 4 - gap)) paying,
-          lowest-above B (λ gap. bucket gap (e + 4 - gap)) (min (cost gap) B) paying (omega arith) (λ g j. other g j (ℕ-discrete g gap)),
+          lowest-above B (λ gap. bucket gap (e + 4 - gap)) (min (cost gap) B) paying (omega arith)
+              (λ g j. other g j (ℕ-discrete g gap)),
         )
       where
         -- no other gap has this row
@@ -73,7 +77,8 @@ module _ (r e : ℕ) where
   -- in the rows up to e, where it costs c
   module _ (c : ℕ) (bucket : ℕ → ℕ) (only : (t : ℕ) → bucket t ≡ inRow r t c) where
     up-miss : e < r → B ≤ lowest B bucket (from 0 (suc e))
-    up-miss h = loop-above B bucket (suc e) B (omega arith) (λ t i. omega (arith, only t, row-miss r t c (λ z. omega arith)))
+    up-miss h =
+        loop-above B bucket (suc e) B (omega arith) (λ t i. omega (arith, only t, row-miss r t c (λ z. omega arith)))
 
     up-hit : r ≤ e → lowest B bucket (from 0 (suc e)) ≡ min c B
     up-hit h =
@@ -89,7 +94,8 @@ module _ (r e : ℕ) where
 -- a source that ends at y, by sites: the law of its toll
 found-toll : (g e y c : ℕ) (pay : ℕ → ℕ) (near : ℕ → ℕ → ℕ) (far : ℕ → ℕ)
     → ((gap t : ℕ) → near gap t ≡ inRow (y + 4 - g) t (c + pay gap)) → ((t : ℕ) → far t ≡ inRow (y + 4 - g) t c)
-    → min (c + tollAt (g + e) y pay) B ≡ min (lowest B (λ gap. near gap (e + 4 - gap)) paying) (lowest B far (from 0 (suc e)))
+    → min (c + tollAt (g + e) y pay) B
+    ≡ min (lowest B (λ gap. near gap (e + 4 - gap)) paying) (lowest B far (from 0 (suc e)))
 found-toll g e y c pay near far n f = go (tollAt (g + e) y pay) (toll? (g + e) y pay)
   where
     r : ℕ
@@ -98,11 +104,16 @@ found-toll g e y c pay near far n f = go (tollAt (g + e) y pay) (toll? (g + e) y
     cost : ℕ → ℕ
     cost gap = c + pay gap
 
-    go : (z : ℕ) → Toll (g + e) y pay z → min (c + z) B ≡ min (lowest B (λ gap. near gap (e + 4 - gap)) paying) (lowest B far (from 0 (suc e)))
+    go : (z : ℕ) → Toll (g + e) y pay z
+        → min (c + z) B ≡ min (lowest B (λ gap. near gap (e + 4 - gap)) paying) (lowest B far (from 0 (suc e)))
     go z (pays gap i h) =
         let l = paying-low gap i in
         omega (arith, gap-hit r e cost near n gap i (omega arith), up-miss r e c far f (omega arith))
-    go z (free h) = omega (arith, gap-miss r e cost near n (λ gap i q. let l = paying-low gap i in omega arith), up-hit r e c far f (omega arith))
+    go z (free h) = omega (
+      arith,
+      gap-miss r e cost near n (λ gap i q. let l = paying-low gap i in omega arith),
+      up-hit r e c far f (omega arith),
+    )
     go z (barred h o) =
         omega (
           arith,
@@ -124,7 +135,8 @@ bucket-low other gap v h g = go (eqb gap 0)
 
 module _ (line : List ℕ) (k b m : ℕ) where
   -- what is paid in the buckets of gap 0, in those of the other gaps, and in bucket 0
-  pub pay-touching : (v : ℕ) → 1 ≤ v → v < 5 → payIn line k b m v ≡ wordOf line m touchingWord * differIn line k b m (v - 1)
+  pub pay-touching : (v : ℕ) → 1 ≤ v → v < 5
+      → payIn line k b m v ≡ wordOf line m touchingWord * differIn line k b m (v - 1)
   unfolding payIn
   pay-touching v h g = rw (le-ltb v 1 h, lt-ltb v 5 g)
 
@@ -141,11 +153,13 @@ module _ (line : List ℕ) (k b m : ℕ) where
   unfolding payIn
   pay-same v =
       let e : variant (variant b) ≡ variant b = omega arith in
-      ap (λ (u : ℕ). cond (ltb v 1) 0 (cond (ltb v 5) (wordOf line m touchingWord * differBy u (v - 1)) (wordOf line m apartWord * differBy u (v - 5)))) e
+      ap (λ (u : ℕ). cond (ltb v 1) 0 (cond (ltb v 5)
+      (wordOf line m touchingWord * differBy u (v - 1)) (wordOf line m apartWord * differBy u (v - 5)))) e
     where
       differBy : ℕ → ℕ → ℕ
       differBy u a =
-          cond (eqb (wordOf line k (76 + u)) (wordOf line m (68 + variant a))) 0 1 + cond (eqb (wordOf line k (80 + u)) (wordOf line m (72 + variant a))) 0 1
+          cond (eqb (wordOf line k (76 + u)) (wordOf line m (68 + variant a))) 0 1
+          + cond (eqb (wordOf line k (80 + u)) (wordOf line m (72 + variant a))) 0 1
 
   -- what pose a of m pays at a gap is what is paid in its bucket of that gap
   pay-bucket : (gap a : ℕ) → payIn line k b m (bucketIn 5 gap (a % 4)) ≡ weightIn line m gap * differIn line k b m a
@@ -153,14 +167,19 @@ module _ (line : List ℕ) (k b m : ℕ) where
     where
       vary : (v : ℕ) → variant v ≡ variant a → differIn line k b m v ≡ differIn line k b m a
       vary v e =
-          ap (λ (u : ℕ). cond (eqb (wordOf line k (76 + variant b)) (wordOf line m (68 + u))) 0 1 + cond (eqb (wordOf line k (80 + variant b)) (wordOf line m (72 + u))) 0 1) e
+          ap (λ (u : ℕ). cond (eqb (wordOf line k (76 + variant b)) (wordOf line m (68 + u))) 0 1
+          + cond (eqb (wordOf line k (80 + variant b)) (wordOf line m (72 + u))) 0 1) e
 
-      go : (z : Bool) → payIn line k b m (cond z (1 + a % 4) (5 + a % 4)) ≡ cond z (wordOf line m touchingWord) (wordOf line m apartWord) * differIn line k b m a
-      go true = pay-touching (1 + a % 4) (omega arith) (omega arith) ∙ ap (λ (d : ℕ). wordOf line m touchingWord * d) (vary (1 + a % 4 - 1) (omega arith))
-      go false = pay-apart (5 + a % 4) (omega arith) ∙ ap (λ (d : ℕ). wordOf line m apartWord * d) (vary (5 + a % 4 - 5) (omega arith))
+      go : (z : Bool) → payIn line k b m (cond z (1 + a % 4) (5 + a % 4))
+          ≡ cond z (wordOf line m touchingWord) (wordOf line m apartWord) * differIn line k b m a
+      go true = pay-touching (1 + a % 4) (omega arith) (omega arith)
+          ∙ ap (λ (d : ℕ). wordOf line m touchingWord * d) (vary (1 + a % 4 - 1) (omega arith))
+      go false = pay-apart (5 + a % 4) (omega arith)
+          ∙ ap (λ (d : ℕ). wordOf line m apartWord * d) (vary (5 + a % 4 - 5) (omega arith))
 
   -- one weight for all gaps: the buckets of the other gaps are those of gap 0
-  pub pay-twin : (v : ℕ) → v < 4 → wordOf line m touchingWord ≡ wordOf line m apartWord → payIn line k b m (5 + v) ≡ payIn line k b m (1 + v)
+  pub pay-twin : (v : ℕ) → v < 4 → wordOf line m touchingWord ≡ wordOf line m apartWord
+      → payIn line k b m (5 + v) ≡ payIn line k b m (1 + v)
   pay-twin v h e =
       let x : 5 + v - 5 ≡ 1 + v - 1 = omega arith in
       pay-apart (5 + v) (omega arith)
@@ -172,7 +191,8 @@ module _ (line : List ℕ) (k b m : ℕ) where
     where
       go : Dec (v < 1) → Dec (v < 5) → payIn line k b m v ≤ B
       go (yes h) g = let e : v ≡ 0 = omega arith in rw e (omega (arith, pay-none))
-      go (no h) (yes g) = omega (arith, pay-touching v (omega arith) g, pay-low (w .weight m) (differ-low line k b m (v - 1)))
+      go (no h) (yes g) =
+          omega (arith, pay-touching v (omega arith) g, pay-low (w .weight m) (differ-low line k b m (v - 1)))
       go (no h) (no g) = omega (arith, pay-apart v (omega arith), pay-low (w .filled m) (differ-low line k b m (v - 5)))
 
 pub found-one : (line : List ℕ) (k b m a c : ℕ) → min (c + tollIn line k b m a) B ≡ found (onePose line k m b c) a
@@ -186,10 +206,12 @@ found-one line k b m a c =
 -- ---- many sources
 
 -- the lowest of many buckets finds the lowest of what each finds
-pub found-lowest : {S : Type 0} (bucket : S → ℕ → ℕ → ℕ) (a : ℕ) (l : List S) → lowest B (λ s. found (bucket s) a) l ≡ found (λ v t. lowest B (λ s. bucket s v t) l) a
+pub found-lowest : {S : Type 0} (bucket : S → ℕ → ℕ → ℕ) (a : ℕ) (l : List S)
+    → lowest B (λ s. found (bucket s) a) l ≡ found (λ v t. lowest B (λ s. bucket s v t) l) a
 unfolding found
 found-lowest bucket a l =
-    lowest-min (λ s. lowest B (λ gap. bucket s (bucketIn 5 gap (a % 4)) (a / 4 + 4 - gap)) paying) (λ s. lowest B (bucket s 0) (from 0 (suc (a / 4)))) l
+    lowest-min (λ s. lowest B (λ gap. bucket s (bucketIn 5 gap (a % 4)) (a / 4 + 4 - gap)) paying)
+    (λ s. lowest B (bucket s 0) (from 0 (suc (a / 4)))) l
     ∙ ap₂ min
     (lowest-swap (λ s gap. bucket s (bucketIn 5 gap (a % 4)) (a / 4 + 4 - gap)) l paying)
     (lowest-swap (λ s t. bucket s 0 t) l (from 0 (suc (a / 4))))
@@ -222,17 +244,22 @@ reached-found line n poses R f i q a =
     let src : ℕ → Bool = isSource (deckOf line n poses) R i q in
     let bucket : ℕ → ℕ → ℕ → ℕ = λ p. byPoses line (lastAt R i p) (lastAt R (suc i) q) (f p) poses in
     lowest-cap _ _ (from 0 (stateCount R))
-    (λ p. ap (λ (x : ℕ). min x B) (ap (λ (x : ℕ). cond (src p) x B) (via-found line n poses R f i p (lastAt R (suc i) q) a) ∙ found-if (src p) (bucket p) a))
+    (λ p. ap (λ (x : ℕ). min x B) (ap (λ (x : ℕ). cond (src p) x B)
+    (via-found line n poses R f i p (lastAt R (suc i) q) a) ∙ found-if (src p) (bucket p) a))
     ∙ found-lowest (λ p v t. cond (src p) (bucket p v t) B) a (from 0 (stateCount R))
 
 -- only the rows that the gaps name count: row 0 in bucket 0 alone
-pub found-ext : (P Q : ℕ → ℕ → ℕ) (a : ℕ) {rows : ℕ} → a / 4 + 4 < rows → ((v t : ℕ) → v < 9 → t < rows → v ≤ 8 * t → P v t ≡ Q v t) → found P a ≡ found Q a
+pub found-ext : (P Q : ℕ → ℕ → ℕ) (a : ℕ) {rows : ℕ} → a / 4 + 4 < rows
+    → ((v t : ℕ) → v < 9 → t < rows → v ≤ 8 * t → P v t ≡ Q v t) → found P a ≡ found Q a
 unfolding found
 found-ext P Q a {rows} h e =
     ap₂ min
-    (lowest-same (λ gap. P (bucketIn 5 gap (a % 4)) (a / 4 + 4 - gap)) (λ gap. Q (bucketIn 5 gap (a % 4)) (a / 4 + 4 - gap)) paying
-    (λ gap i. let l = paying-low gap i in let p = bucket-low 5 gap (a % 4) (omega arith) (omega arith) in e (bucketIn 5 gap (a % 4)) (a / 4 + 4 - gap) (omega arith) (omega arith) (omega arith)))
-    (lowest-same (P 0) (Q 0) (from 0 (suc (a / 4))) (λ t i. let l = in-from 0 (suc (a / 4)) i in e 0 t (omega arith) (omega arith) (omega arith)))
+    (lowest-same (λ gap. P (bucketIn 5 gap (a % 4)) (a / 4 + 4 - gap))
+    (λ gap. Q (bucketIn 5 gap (a % 4)) (a / 4 + 4 - gap)) paying
+    (λ gap i. let l = paying-low gap i in let p = bucket-low 5 gap (a % 4) (omega arith) (omega arith) in
+    e (bucketIn 5 gap (a % 4)) (a / 4 + 4 - gap) (omega arith) (omega arith) (omega arith)))
+    (lowest-same (P 0) (Q 0) (from 0 (suc (a / 4))) (λ t i. let l = in-from 0 (suc (a / 4)) i in
+    e 0 t (omega arith) (omega arith) (omega arith)))
 
 -- nothing is found where there is nothing
 pub found-away : (P : ℕ → ℕ → ℕ) (a : ℕ) → ((v t : ℕ) → P v t ≡ B) → found P a ≡ B

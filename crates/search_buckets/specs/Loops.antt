@@ -18,7 +18,8 @@ lowest-none h = refl
 pub lowest-more : (h : ℕ → ℕ) (n : ℕ) → lowest B h (from 0 (n + 1)) ≡ min (lowest B h (from 0 n)) (h n)
 lowest-more h n =
     let z : 0 + n ≡ n = omega arith in
-    ap (λ (k : ℕ). lowest B h (from 0 k)) (add-one n) ∙ lowest-from B h 0 n ∙ ap (λ (k : ℕ). min (lowest B h (from 0 n)) (h k)) z
+    ap (λ (k : ℕ). lowest B h (from 0 k)) (add-one n) ∙ lowest-from B h 0 n
+    ∙ ap (λ (k : ℕ). min (lowest B h (from 0 n)) (h k)) z
 
 -- ---- loops over any list
 
@@ -40,16 +41,19 @@ module _ {S : Type 0} where
   lowest-min f g (s ∷ l) = omega (arith, lowest-min f g l)
 
 module _ {S T : Type 0} where
-  lowest-turn : (h : S → T → ℕ) (l : List S) (m : List T) → lowest B (λ s. lowest B (h s) m) l ≤ lowest B (λ t. lowest B (λ s. h s t) l) m
+  lowest-turn : (h : S → T → ℕ) (l : List S) (m : List T)
+      → lowest B (λ s. lowest B (h s) m) l ≤ lowest B (λ t. lowest B (λ s. h s t) l) m
   lowest-turn h l m =
       lowest-above B (λ t. lowest B (λ s. h s t) l) _ m (lowest-low B _ l)
       (λ t j. lowest-above B (λ s. h s t) _ l (lowest-low B _ l)
       (λ s i. let p = lowest-member B (λ s. lowest B (h s) m) l i in let q = lowest-member B (h s) m j in omega arith))
 
 -- loops in either order
-pub lowest-swap : {S T : Type 0} (h : S → T → ℕ) (l : List S) (m : List T) → lowest B (λ s. lowest B (h s) m) l ≡ lowest B (λ t. lowest B (λ s. h s t) l) m
+pub lowest-swap : {S T : Type 0} (h : S → T → ℕ) (l : List S) (m : List T)
+    → lowest B (λ s. lowest B (h s) m) l ≡ lowest B (λ t. lowest B (λ s. h s t) l) m
 lowest-swap h l m = let p = lowest-turn h l m in let q = lowest-turn (λ t s. h s t) m l in omega arith
 
 -- the same for each number
-pub lowest-ext : (f g : ℕ → ℕ) (a n : ℕ) → ((k : ℕ) → k < a + n → f k ≡ g k) → lowest B f (from a n) ≡ lowest B g (from a n)
+pub lowest-ext : (f g : ℕ → ℕ) (a n : ℕ) → ((k : ℕ) → k < a + n → f k ≡ g k)
+    → lowest B f (from a n) ≡ lowest B g (from a n)
 lowest-ext f g a n e = lowest-same f g (from a n) (λ k i. e k (in-from a n i .1))

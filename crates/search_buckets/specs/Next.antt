@@ -4,7 +4,8 @@ use mathlib.Core.Path.{_≡_, refl, sym, ap, ap₂, _∙_}
 use mathlib.Core.Bool.{true, false, not, _&&_, cond}
 use mathlib.Core.List.{List}
 use native.Mathlib.Omega.{arith}
-use Rattle.theory_tables.specs.Steps.{B, Deck, Layer, stateCount, lastAt, isThere, isSource, via, reached, nextLayer, layers, ends}
+use Rattle.theory_tables.specs.Steps.{B, Deck, Layer, stateCount, lastAt, isThere}
+use Rattle.theory_tables.specs.Steps.{isSource, via, reached, nextLayer, layers, ends}
 use Rattle.search_row.specs.Words.{wordOf, deckOf, thereIn}
 use Rattle.search_buckets.specs.Loops.{lowest-ext}
 use Rattle.search_buckets.specs.Rows.{found, byStates}
@@ -20,7 +21,8 @@ pub record Target (n R i q : ℕ) : Type 0 where
 
 module _ (D : Deck) (R : ℕ) (f : Layer) (i q a : ℕ) where
   -- a target that is there, and one that is not
-  next-there : isThere D R (suc i) q ≡ true → nextLayer D R f i q a ≡ min (D .own (lastAt R (suc i) q) a + reached D R f i q a) B
+  next-there : isThere D R (suc i) q ≡ true
+      → nextLayer D R f i q a ≡ min (D .own (lastAt R (suc i) q) a + reached D R f i q a) B
   unfolding nextLayer
   next-there e = ap (λ t. cond t (min (D .own (lastAt R (suc i) q) a + reached D R f i q a) B) B) e
 
@@ -30,41 +32,51 @@ module _ (D : Deck) (R : ℕ) (f : Layer) (i q a : ℕ) where
 
 -- from what is found in the buckets of all sources
 module _ (line : List ℕ) (n poses R : ℕ) (f : Layer) (i q a : ℕ) (there : thereIn n R (suc i) q ≡ true) where
-  pub next-found : {count m x : ℕ} → count ≡ stateCount R → m ≡ lastAt R (suc i) q → x ≡ found (byStates line (deckOf line n poses) R f i q count) a
+  pub next-found : {count m x : ℕ} → count ≡ stateCount R → m ≡ lastAt R (suc i) q
+      → x ≡ found (byStates line (deckOf line n poses) R f i q count) a
       → nextLayer (deckOf line n poses) R f i q a ≡ min (wordOf line m a + x) B
   next-found {count} {m} {x} e p h =
       next-there (deckOf line n poses) R f i q a there
       ∙ ap₂ (λ (k y : ℕ). min (wordOf line k a + y) B) (sym p)
-      (reached-found line n poses R f i q a ∙ ap (λ (c : ℕ). found (byStates line (deckOf line n poses) R f i q c) a) (sym e) ∙ sym h)
+      (reached-found line n poses R f i q a
+      ∙ ap (λ (c : ℕ). found (byStates line (deckOf line n poses) R f i q c) a) (sym e) ∙ sym h)
 
-  pub next-none : {count : ℕ} → count ≡ stateCount R → found (byStates line (deckOf line n poses) R f i q count) a ≡ B → nextLayer (deckOf line n poses) R f i q a ≡ B
+  pub next-none : {count : ℕ} → count ≡ stateCount R → found (byStates line (deckOf line n poses) R f i q count) a ≡ B
+      → nextLayer (deckOf line n poses) R f i q a ≡ B
   next-none e h = let z = next-found e refl (sym h) in omega arith
 
-  pub next-alone : {count : ℕ} → count ≡ stateCount R → ((p : ℕ) → p < count → isSource (deckOf line n poses) R i q p ≡ false) → nextLayer (deckOf line n poses) R f i q a ≡ B
+  pub next-alone : {count : ℕ} → count ≡ stateCount R
+      → ((p : ℕ) → p < count → isSource (deckOf line n poses) R i q p ≡ false)
+      → nextLayer (deckOf line n poses) R f i q a ≡ B
   next-alone {count} e h =
-      next-none e (found-away (byStates line (deckOf line n poses) R f i q count) a (λ v t. states-away line (deckOf line n poses) R f i q count v t h))
+      next-none e (found-away (byStates line (deckOf line n poses) R f i q count) a
+      (λ v t. states-away line (deckOf line n poses) R f i q count v t h))
 
 -- ---- only the entries of the first layer count, in the next one, in all that follow, and where the row ends
 
 module _ (D : Deck) (R : ℕ) (f g : Layer) (same : (q b : ℕ) → q < stateCount R → b < D .poses → f q b ≡ g q b) where
   via-ext : (i q k a : ℕ) → q < stateCount R → via D R f i q k a ≡ via D R g i q k a
   unfolding via
-  via-ext i q k a h = lowest-ext _ _ 0 (D .poses) (λ b p. ap (λ (x : ℕ). x + D .toll (lastAt R i q) b k a) (same q b h (omega arith)))
+  via-ext i q k a h =
+      lowest-ext _ _ 0 (D .poses) (λ b p. ap (λ (x : ℕ). x + D .toll (lastAt R i q) b k a) (same q b h (omega arith)))
 
   reached-ext : (i q a : ℕ) → reached D R f i q a ≡ reached D R g i q a
   unfolding reached
   reached-ext i q a =
-      lowest-ext _ _ 0 (stateCount R) (λ p h. ap (λ (x : ℕ). cond (isSource D R i q p) x B) (via-ext i p (lastAt R (suc i) q) a (omega arith)))
+      lowest-ext _ _ 0 (stateCount R)
+      (λ p h. ap (λ (x : ℕ). cond (isSource D R i q p) x B) (via-ext i p (lastAt R (suc i) q) a (omega arith)))
 
   pub next-ext : (i q a : ℕ) → nextLayer D R f i q a ≡ nextLayer D R g i q a
   unfolding nextLayer
-  next-ext i q a = ap (λ (x : ℕ). cond (isThere D R (suc i) q) (min (D .own (lastAt R (suc i) q) a + x) B) B) (reached-ext i q a)
+  next-ext i q a =
+      ap (λ (x : ℕ). cond (isThere D R (suc i) q) (min (D .own (lastAt R (suc i) q) a + x) B) B) (reached-ext i q a)
 
 module _ (D : Deck) (R : ℕ) (f g : Layer) (same : (q b : ℕ) → q < stateCount R → b < D .poses → f q b ≡ g q b) where
   pub layers-ext : (i d q a : ℕ) → q < stateCount R → a < D .poses → layers D R f i d q a ≡ layers D R g i d q a
   unfolding layers
   layers-ext i zero q a x y = same q a x y
-  layers-ext i (suc d) q a x y = next-ext D R (layers D R f i d) (layers D R g i d) (λ p b v w. layers-ext i d p b v w) (i + d) q a
+  layers-ext i (suc d) q a x y =
+      next-ext D R (layers D R f i d) (layers D R g i d) (λ p b v w. layers-ext i d p b v w) (i + d) q a
 
   pub ends-ext : ends D R f ≡ ends D R g
   unfolding ends
@@ -72,4 +84,5 @@ module _ (D : Deck) (R : ℕ) (f g : Layer) (same : (q b : ℕ) → q < stateCou
       lowest-ext _ _ 0 (stateCount R)
       (λ q h.
       ap (λ (x : ℕ). cond (isThere D R (D .size) q && not (D .tall (lastAt R (D .size) q))) x B)
-      (lowest-ext _ _ 0 (D .poses) (λ b k. ap (λ (x : ℕ). x + D .back (lastAt R (D .size) q) b) (same q b (omega arith) (omega arith)))))
+      (lowest-ext _ _ 0 (D .poses)
+      (λ b k. ap (λ (x : ℕ). x + D .back (lastAt R (D .size) q) b) (same q b (omega arith) (omega arith)))))

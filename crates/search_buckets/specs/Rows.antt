@@ -1,5 +1,7 @@
--- Sources gathered by their end site. Row t of a target cell has the sources that end at its first site - 4 + t; row 0 those further left too.
--- The least cost of a pose e sites right of the first one is found in few rows: one for each gap that pays, and one for all gaps that are free.
+-- Sources gathered by their end site. Row t of a target cell has the sources that end at its first
+-- site - 4 + t; row 0 those further left too.
+-- The least cost of a pose e sites right of the first one is found in few rows: one for each gap
+-- that pays, and one for all gaps that are free.
 use Prim.Native.Nat.{ℕ, zero, suc, _+_, _*_, _-_, _/_, _%_, _≤_, _<_, min}
 use mathlib.Core.Path.{_≡_}
 use mathlib.Core.Bool.{Bool, cond}
@@ -16,17 +18,19 @@ use Rattle.search_buckets.specs.Gaps.{paying}
 abbrev pub inRow : ℕ → ℕ → ℕ → ℕ
 inRow r t c = cond (eqb r t) c B
 
--- the bucket in which the sources at a gap are found by a target in variant v: bucket 0 is that of the gaps that are free, buckets 1 to 4 are those of gap 0, the
--- buckets from `other` on those of the other gaps that pay
+-- the bucket in which the sources at a gap are found by a target in variant v: bucket 0 is that of the gaps that are
+-- free, buckets 1 to 4 are those of gap 0, the buckets from `other` on those of the other gaps that pay
 abbrev pub bucketIn : ℕ → ℕ → ℕ → ℕ
 bucketIn other gap v = cond (eqb gap 0) (1 + v) (other + v)
 
--- a bucket has a cost for each row; what pose a finds in the buckets: in its variant's bucket of a gap that pays the row of that gap, in bucket 0 all rows that
--- end four sites or more left of it
+-- a bucket has a cost for each row; what pose a finds in the buckets: in its variant's bucket of a gap that pays the
+-- row of that gap, in bucket 0 all rows that end four sites or more left of it
 unfoldable pub found : (ℕ → ℕ → ℕ) → ℕ → ℕ
-found bucket a = min (lowest B (λ gap. bucket (bucketIn 5 gap (a % 4)) (a / 4 + 4 - gap)) paying) (lowest B (bucket 0) (from 0 (suc (a / 4))))
+found bucket a = min (lowest B (λ gap. bucket (bucketIn 5 gap (a % 4)) (a / 4 + 4 - gap)) paying)
+    (lowest B (bucket 0) (from 0 (suc (a / 4))))
 
--- how many buckets a target at position m needs: where all gaps that pay have one weight, buckets 5 to 8 are as buckets 1 to 4
+-- how many buckets a target at position m needs: where all gaps that pay have one
+-- weight, buckets 5 to 8 are as buckets 1 to 4
 unfoldable pub bucketsIn : List ℕ → ℕ → ℕ
 bucketsIn line m = cond (eqb (wordOf line m touchingWord) (wordOf line m apartWord)) 5 9
 
@@ -43,9 +47,11 @@ endRow line k b m = endIn line k b + 4 - wordOf line m givenWord
 -- what pose b of k pays in bucket v of m: by the variant of m that the bucket is for, in bucket 0 nothing
 unfoldable pub payIn : List ℕ → ℕ → ℕ → ℕ → ℕ → ℕ
 payIn line k b m v =
-    cond (ltb v 1) 0 (cond (ltb v 5) (wordOf line m touchingWord * differIn line k b m (v - 1)) (wordOf line m apartWord * differIn line k b m (v - 5)))
+    cond (ltb v 1) 0 (cond (ltb v 5)
+    (wordOf line m touchingWord * differIn line k b m (v - 1)) (wordOf line m apartWord * differIn line k b m (v - 5)))
 
--- what each variant of the cell at position k pays in each bucket below `buckets` of the cell at position m: 9 words for each variant, those below n of 36
+-- what each variant of the cell at position k pays in each bucket below `buckets` of the cell at position m: 9
+-- words for each variant, those below n of 36
 pub record Pays (line : List ℕ) (k m buckets n : ℕ) (pays : List ℕ) : Type 0 where
   pub long : length pays ≡ 36
   pub pay : (j : ℕ) → j < n → j % 9 < buckets → getD pays j 0 ≡ payIn line k (j / 9) m (j % 9)
@@ -65,7 +71,8 @@ byPoses line k m f n v t = lowest B (λ b. onePose line k m b (f b) v t) (from 0
 
 -- by way of state p of the layer f, which has i cells, if it is a source of state q
 unfoldable pub oneState : List ℕ → Deck → ℕ → Layer → ℕ → ℕ → ℕ → ℕ → ℕ → ℕ
-oneState line D R f i q p v t = cond (isSource D R i q p) (byPoses line (lastAt R i p) (lastAt R (suc i) q) (f p) (D .poses) v t) B
+oneState line D R f i q p v t =
+    cond (isSource D R i q p) (byPoses line (lastAt R i p) (lastAt R (suc i) q) (f p) (D .poses) v t) B
 
 -- by way of the states below n
 unfoldable pub byStates : List ℕ → Deck → ℕ → Layer → ℕ → ℕ → ℕ → ℕ → ℕ → ℕ

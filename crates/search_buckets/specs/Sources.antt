@@ -16,7 +16,8 @@ use Rattle.lists.specs.Numbers.{from}
 use Rattle.theory_pair.specs.Coded.{lowest, lowest-low}
 use Rattle.search_row.specs.Words.{wordOf, RowWords, apartWord, touchingWord}
 use Rattle.search_buckets.specs.Loops.{lowest-none, lowest-more, lowest-ext}
-use Rattle.search_buckets.specs.Rows.{inRow, bucketsIn, endRow, payIn, Pays, PaysLow, onePose, byPoses, oneState, byStates}
+use Rattle.search_buckets.specs.Rows.{inRow, bucketsIn, endRow, payIn, Pays}
+use Rattle.search_buckets.specs.Rows.{PaysLow, onePose, byPoses, oneState, byStates}
 use Rattle.search_buckets.specs.Laws.{pay-same, pay-small, pay-twin}
 
 -- ---- what is paid, as words
@@ -33,7 +34,8 @@ pays-next {line} {pays} {k} {m} {buckets} u v x w h i e =
     let n = w .long in
     let j : ℕ = u * 9 + v in
     let z : j + 1 ≡ u * 9 + (v + 1) = omega arith in
-    let here : x ≡ payIn line k (j / 9) m (j % 9) = e ∙ ap₂ (λ (a b : ℕ). payIn line k a m b) (omega arith) (omega arith) in
+    let here : x ≡ payIn line k (j / 9) m (j % 9) = e
+    ∙ ap₂ (λ (a b : ℕ). payIn line k a m b) (omega arith) (omega arith) in
     let r : Pays line k m buckets (j + 1) (set pays j x) = record {
       long = length-set pays j x ∙ n;
       pay = below-more (λ (i : ℕ). i % 9 < buckets → getD (set pays j x) i 0 ≡ payIn line k (i / 9) m (i % 9)) j
@@ -48,8 +50,10 @@ pub pays-row :
     → Pays line k m buckets (u * 9 + buckets) pays → buckets ≤ 9 → Pays line k m buckets (u * 9 + 9) pays
 pays-row {buckets = buckets} u w h = record { long = w .long; pay = λ j g c. w .pay j (omega arith) c }
 
-pub pays-low : {line pays : List ℕ} {k m buckets : ℕ} → RowWords line → Pays line k m buckets 36 pays → PaysLow buckets pays
-pays-low {line} {k = k} {m = m} w p = record { long = p .long; low = λ j h c. omega (arith, p .pay j h c, pay-small line k (j / 9) m (j % 9) w) }
+pub pays-low : {line pays : List ℕ} {k m buckets : ℕ} → RowWords line → Pays line k m buckets 36 pays
+    → PaysLow buckets pays
+pays-low {line} {k = k} {m = m} w p =
+    record { long = p .long; low = λ j h c. omega (arith, p .pay j h c, pay-small line k (j / 9) m (j % 9) w) }
 
 -- a source's pose in the buckets, from the words of what it pays
 pub pose-pays :
@@ -59,7 +63,8 @@ pub pose-pays :
 pose-pays {line} {pays} {k} {m} b v s x p e h g =
     let j : ℕ = b % 4 * 9 + v in
     let c : j % 9 ≡ v = omega arith in
-    let z : getD pays j 0 ≡ payIn line k b m v = p .pay j (omega arith) (omega arith) ∙ ap₂ (λ (u w : ℕ). payIn line k u m w) (omega arith) c ∙ pay-same line k b m v in
+    let z : getD pays j 0 ≡ payIn line k b m v = p .pay j (omega arith) (omega arith)
+    ∙ ap₂ (λ (u w : ℕ). payIn line k u m w) (omega arith) c ∙ pay-same line k b m v in
     ap₂ (λ (r y : ℕ). inRow r s (x + y)) (sym e) (sym z)
 
 -- ---- many sources
@@ -70,7 +75,8 @@ module _ (line : List ℕ) (k m : ℕ) (f : ℕ → ℕ) where
   unfolding byPoses
   poses-none v t = lowest-none _
 
-  pub poses-more : (n v t : ℕ) → byPoses line k m f (n + 1) v t ≡ min (byPoses line k m f n v t) (onePose line k m n (f n) v t)
+  pub poses-more : (n v t : ℕ)
+      → byPoses line k m f (n + 1) v t ≡ min (byPoses line k m f n v t) (onePose line k m n (f n) v t)
   unfolding byPoses
   poses-more n v t = lowest-more _ n
 
@@ -89,7 +95,8 @@ module _ (line : List ℕ) (D : Deck) (R : ℕ) (f : Layer) (i q : ℕ) where
   unfolding byStates
   states-none v t = lowest-none _
 
-  pub states-more : (n v t : ℕ) → byStates line D R f i q (n + 1) v t ≡ min (byStates line D R f i q n v t) (oneState line D R f i q n v t)
+  pub states-more : (n v t : ℕ)
+      → byStates line D R f i q (n + 1) v t ≡ min (byStates line D R f i q n v t) (oneState line D R f i q n v t)
   unfolding byStates
   states-more n v t = lowest-more _ n
 
@@ -97,7 +104,12 @@ module _ (line : List ℕ) (D : Deck) (R : ℕ) (f : Layer) (i q : ℕ) where
   pub states-away : (n v t : ℕ) → ((p : ℕ) → p < n → isSource D R i q p ≡ false) → byStates line D R f i q n v t ≡ B
   unfolding byStates
   states-away n v t h =
-      omega (arith, lowest-low B (λ p. oneState line D R f i q p v t) (from 0 n), loop-above B (λ p. oneState line D R f i q p v t) n B (omega arith) (λ p k. omega (arith, state-out p v t (h p k))))
+      omega (
+        arith,
+        lowest-low B (λ p. oneState line D R f i q p v t) (from 0 n),
+        loop-above B (λ p. oneState line D R f i q p v t) n B (omega arith)
+            (λ p k. omega (arith, state-out p v t (h p k))),
+      )
 
   pub states-low : (n v t : ℕ) → byStates line D R f i q n v t ≤ B
   unfolding byStates
@@ -114,11 +126,13 @@ module _ (line : List ℕ) (m : ℕ) (e : wordOf line m touchingWord ≡ wordOf 
   poses-twin k f n v t h = lowest-ext _ _ 0 n (λ b i. pose-twin k b (f b) v t h)
 
 pub states-twin :
-    (line : List ℕ) (D : Deck) (R : ℕ) (f : Layer) (i q n v t : ℕ) → wordOf line (lastAt R (suc i) q) 84 ≡ wordOf line (lastAt R (suc i) q) 86 → v < 4
+    (line : List ℕ) (D : Deck) (R : ℕ) (f : Layer) (i q n v t : ℕ)
+    → wordOf line (lastAt R (suc i) q) 84 ≡ wordOf line (lastAt R (suc i) q) 86 → v < 4
     → byStates line D R f i q n (5 + v) t ≡ byStates line D R f i q n (1 + v) t
 unfolding byStates oneState
 states-twin line D R f i q n v t e h =
-    lowest-ext _ _ 0 n (λ p j. ap (λ (x : ℕ). cond (isSource D R i q p) x B) (poses-twin line (lastAt R (suc i) q) e (lastAt R i p) (f p) (D .poses) v t h))
+    lowest-ext _ _ 0 n (λ p j. ap (λ (x : ℕ). cond (isSource D R i q p) x B)
+    (poses-twin line (lastAt R (suc i) q) e (lastAt R i p) (f p) (D .poses) v t h))
 
 -- ---- how many buckets
 
@@ -130,13 +144,15 @@ buckets-either line m = go (eqb (wordOf line m touchingWord) (wordOf line m apar
     go true = inl refl
     go false = inr refl
 
--- the last four of them are as the buckets of the other gaps, for what is the same in buckets 5 + v and 1 + v where there is one weight
+-- the last four of them are as the buckets of the other gaps, for what is the same in
+-- buckets 5 + v and 1 + v where there is one weight
 pub buckets-last :
     (P : ℕ → ℕ) (line : List ℕ) (m v : ℕ)
     → (wordOf line m touchingWord ≡ wordOf line m apartWord → P (5 + v) ≡ P (1 + v))
     → P (bucketsIn line m - 4 + v) ≡ P (5 + v)
 unfolding bucketsIn
-buckets-last P line m v h = go (eqb (wordOf line m touchingWord) (wordOf line m apartWord)) (eq? (wordOf line m touchingWord) (wordOf line m apartWord))
+buckets-last P line m v h = go (eqb (wordOf line m touchingWord) (wordOf line m apartWord))
+    (eq? (wordOf line m touchingWord) (wordOf line m apartWord))
   where
     go : (z : Bool) → Eq? (wordOf line m touchingWord) (wordOf line m apartWord) z → P (cond z 5 9 - 4 + v) ≡ P (5 + v)
     go true (same e) = sym (h e)

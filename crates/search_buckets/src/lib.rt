@@ -1,6 +1,6 @@
-// The buckets in which the sources of a target are gathered by their end site: which row a source counts in, what it pays in each bucket, and which buckets
-// are needed. Bucket 0 has the sources by themselves, buckets 1 to 4 with what they pay at gap 0 to each variant of the target, buckets 5 to 8 with what they
-// pay at the other gaps that pay.
+// The buckets in which the sources of a target are gathered by their end site: which row a source counts in, what it
+// pays in each bucket, and which buckets are needed. Bucket 0 has the sources by themselves, buckets 1 to 4 with what
+// they pay at gap 0 to each variant of the target, buckets 5 to 8 with what they pay at the other gaps that pay.
 ghost use mathlib.Core.Path.{_≡_};
 ghost use Prim.Native.Nat.{ℕ, _+_, _*_, _≤_, _<_};
 ghost use lib.ListN.{length};
@@ -28,7 +28,8 @@ pub fn rows_of(poses: usize) -> usize
     (poses + 3) / 4 + 4
 }
 
-// How many buckets the cell at position m needs: where all gaps that pay have one weight, those of gap 0 serve them all.
+// How many buckets the cell at position m needs: where all gaps that pay have
+// one weight, those of gap 0 serve them all.
 pub fn buckets_of(row: &[u32], m: usize) -> usize
     requires { ⌜ RowWords (now row) × (m < 64) ⌝ }
     ensures { λ buckets. ⌜ buckets ≡ bucketsIn (now (row .entry)) m ⌝ }
@@ -58,7 +59,8 @@ fn pay(row: &[u32], k: usize, u: usize, m: usize, v: usize) -> u32
 
 // What variant u pays in each of so many buckets, after the variants before it.
 fn pay_row(pays: &mut [u32; 36], row: &[u32], k: usize, u: usize, m: usize, buckets: usize)
-    requires { ⌜ RowWords (now row) × (k < 64) × (u < 4) × (m < 64) × (buckets ≤ 9) × Pays (now row) k m buckets (u * 9) (now pays) ⌝ }
+    requires { ⌜ RowWords (now row) × (k < 64) × (u < 4) × (m < 64) × (buckets ≤ 9)
+        × Pays (now row) k m buckets (u * 9) (now pays) ⌝ }
     ensures { λ _. ⌜ Pays (now (row .entry)) k m buckets (u * 9 + 9) (now (pays .exit)) ⌝ }
 {
     let mut v: usize = 0;

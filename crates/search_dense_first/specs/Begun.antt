@@ -17,7 +17,8 @@ openPose line k a = min (wordOf line k a + frontIn line k a) B
 abbrev pub afterPose : List ℕ → ℕ → ℕ → ℕ → ℕ → ℕ
 afterPose line p l k a = min (wordOf line k a + tollIn line p l k a) B
 
--- the states below `count` of the layer f, with so many poses, are in the block at `to`; nothing outside the block changed
+-- the states below `count` of the layer f, with so many poses, are in the block
+-- at `to`; nothing outside the block changed
 pub record Begun (f : Layer) (poses count to : ℕ) (old new : List ℕ) : Type 0 where
   pub frame : Frame to (to + 768) old new
   pub low : Low new

@@ -54,8 +54,10 @@ fn open_poses(store: &mut [u32], row: &[u32], at: usize, k: usize, poses: usize)
 
 // The words of state q.
 fn open_state(store: &mut [u32], row: &[u32], sizes: Sizes, at: usize, q: usize)
-    requires { ⌜ Ground (now row) sizes × Low (now store) × (at + sizes .poses ≤ length (now store)) × (q < sizes .states) ⌝ }
-    ensures { λ _. ⌜ Written (firstOpen (deckIn (now (row .entry)) sizes) (sizes .reordering) q) at (sizes .poses) (now (store .entry)) (now (store .exit)) ⌝ }
+    requires { ⌜ Ground (now row) sizes × Low (now store) × (at + sizes .poses ≤ length (now store))
+        × (q < sizes .states) ⌝ }
+    ensures { λ _. ⌜ Written (firstOpen (deckIn (now (row .entry)) sizes) (sizes .reordering) q) at (sizes .poses)
+        (now (store .entry)) (now (store .exit)) ⌝ }
 {
     if !starts(row, sizes, 1, start_marks(sizes.reordering), q) {
         search_lanes::fill(store, at, sizes.poses, search_lanes::NONE);
@@ -68,7 +70,8 @@ fn open_state(store: &mut [u32], row: &[u32], sizes: Sizes, at: usize, q: usize)
 // The layer with one cell.
 pub fn open(store: &mut [u32], row: &[u32], sizes: Sizes, to: usize)
     requires { ⌜ Ground (now row) sizes × Low (now store) × (to + 768 ≤ length (now store)) ⌝ }
-    ensures { λ _. ⌜ Begun (firstOpen (deckIn (now (row .entry)) sizes) (sizes .reordering)) (sizes .poses) (sizes .states) to (now (store .entry)) (now (store .exit)) ⌝ }
+    ensures { λ _. ⌜ Begun (firstOpen (deckIn (now (row .entry)) sizes) (sizes .reordering)) (sizes .poses)
+        (sizes .states) to (now (store .entry)) (now (store .exit)) ⌝ }
 {
     let mut q: usize = 0;
     while q < sizes.states {
@@ -89,7 +92,8 @@ fn after_poses(
     k: usize,
     poses: usize,
 )
-    requires { ⌜ RowWords (now row) × Low (now store) × (p < 64) × (l < 60) × (at + poses ≤ length (now store)) × (k < 64) × (poses ≤ 60) ⌝ }
+    requires { ⌜ RowWords (now row) × Low (now store) × (p < 64) × (l < 60) × (at + poses ≤ length (now store))
+        × (k < 64) × (poses ≤ 60) ⌝ }
     ensures { λ _. ⌜ Written (afterPose (now (row .entry)) p l k) at poses (now (store .entry)) (now (store .exit)) ⌝ }
 {
     let mut a: usize = 0;
@@ -114,8 +118,10 @@ fn after_state(
     at: usize,
     q: usize,
 )
-    requires { ⌜ Ground (now row) sizes × Low (now store) × (i ≤ 67) × (p < 64) × (l < 60) × (at + sizes .poses ≤ length (now store)) × (q < sizes .states) ⌝ }
-    ensures { λ _. ⌜ Written (firstAfter (deckIn (now (row .entry)) sizes) (sizes .reordering) i m p l q) at (sizes .poses) (now (store .entry)) (now (store .exit)) ⌝ }
+    requires { ⌜ Ground (now row) sizes × Low (now store) × (i ≤ 67) × (p < 64) × (l < 60)
+        × (at + sizes .poses ≤ length (now store)) × (q < sizes .states) ⌝ }
+    ensures { λ _. ⌜ Written (firstAfter (deckIn (now (row .entry)) sizes)
+        (sizes .reordering) i m p l q) at (sizes .poses) (now (store .entry)) (now (store .exit)) ⌝ }
 {
     if !starts(row, sizes, i + 1, m, q) {
         search_lanes::fill(store, at, sizes.poses, search_lanes::NONE);
@@ -136,8 +142,11 @@ pub fn after(
     l: usize,
     to: usize,
 )
-    requires { ⌜ Ground (now row) sizes × Low (now store) × (to + 768 ≤ length (now store)) × (i ≤ 67) × (s < sizes .states) × (p < 64) × (l < 60) ⌝ }
-    ensures { λ _. ⌜ Begun (firstAfter (deckIn (now (row .entry)) sizes) (sizes .reordering) i (marks (sizes .reordering) s) p l) (sizes .poses) (sizes .states) to (now (store .entry)) (now (store .exit)) ⌝ }
+    requires { ⌜ Ground (now row) sizes × Low (now store) × (to + 768 ≤ length (now store)) × (i ≤ 67)
+        × (s < sizes .states) × (p < 64) × (l < 60) ⌝ }
+    ensures { λ _. ⌜ Begun
+        (firstAfter (deckIn (now (row .entry)) sizes) (sizes .reordering) i (marks (sizes .reordering) s) p l)
+        (sizes .poses) (sizes .states) to (now (store .entry)) (now (store .exit)) ⌝ }
 {
     let m = row[search_row::STATES + s * 4 + 1];
     let mut q: usize = 0;

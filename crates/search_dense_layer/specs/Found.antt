@@ -56,7 +56,8 @@ run-more {old} {new} t z w h e =
     last : z ≡ lowest B at (from 0 (suc (t + 1)))
     last =
         let y : at (0 + (t + 1)) ≡ at (t + 1) = ap at (omega arith) in
-        let d : lowest B at (from 0 (suc t)) ≡ lowest B at (from 0 (t + 1)) = ap (λ (k : ℕ). lowest B at (from 0 k)) (omega arith) in
+        let d : lowest B at (from 0 (suc t)) ≡ lowest B at (from 0 (t + 1)) =
+        ap (λ (k : ℕ). lowest B at (from 0 k)) (omega arith) in
         omega (arith, e, y, d, w .far t (omega arith), w .rest (t + 1) (omega arith), lowest-from B at 0 (t + 1))
 
 paying-min : (h : ℕ → ℕ) → h 3 ≤ B → lowest B h paying ≡ min (h 0) (min (h 2) (h 3))
@@ -81,7 +82,8 @@ found-words bucket near apart far a low n p f h =
     ap₂ min
     (ap₂ min (n v (e + 4) (omega arith) (omega arith) ∙ x0)
     (ap₂ min (p v (e + 2) (omega arith) (omega arith) ∙ x2) (p v (e + 1) (omega arith) (omega arith) ∙ x3))
-    ∙ sym (paying-min (λ gap. bucket (cond (eqb gap 0) (1 + a % 4) (5 + a % 4)) (a / 4 + 4 - gap)) (low (5 + a % 4) (a / 4 + 4 - 3))))
+    ∙ sym (paying-min (λ gap. bucket (cond (eqb gap 0) (1 + a % 4) (5 + a % 4)) (a / 4 + 4 - gap))
+    (low (5 + a % 4) (a / 4 + 4 - 3))))
     (f (a / 4) (omega arith))
 
 -- where buckets 5 to 8 are
@@ -100,7 +102,8 @@ other-five buckets near apart h = go (eqb buckets 9) (eq? buckets 9)
     go false (differs d) = refl
 
 -- a pose by its site and its variant
-pub pose-by : (near apart far : List ℕ) (e v : ℕ) → v < 4 → foundBy near apart far e v ≡ foundBy near apart far ((e * 4 + v) / 4) ((e * 4 + v) % 4)
+pub pose-by : (near apart far : List ℕ) (e v : ℕ) → v < 4
+    → foundBy near apart far e v ≡ foundBy near apart far ((e * 4 + v) / 4) ((e * 4 + v) % 4)
 pose-by near apart far e v h = ap₂ (λ (s w : ℕ). foundBy near apart far s w) (omega arith) (omega arith)
 
 -- arrays in which nothing is gathered yet
@@ -116,7 +119,8 @@ lent-none =
     }
 
 -- far rows that ran up, and one array in two places
-pub lent-run : {near apart far far′ : List ℕ} {n : ℕ} → Arrays near apart far → FarRunUp n far far′ → Arrays near apart far′
+pub lent-run : {near apart far far′ : List ℕ} {n : ℕ} → Arrays near apart far → FarRunUp n far far′
+    → Arrays near apart far′
 lent-run l r =
     record {
       nearLong = l .nearLong;
@@ -138,20 +142,30 @@ lent-twin l =
       farLow = l .farLow;
     }
 
--- what is gathered from there, once the far rows ran up, is what is found: all buckets are needed, or four serve for eight
+-- what is gathered from there, once the far rows ran up, is what is found: all
+-- buckets are needed, or four serve for eight
 module _
     {bucket : ℕ → ℕ → ℕ} {buckets : ℕ} {near apart far far′ : List ℕ} (low : (v t : ℕ) → bucket v t ≤ B)
-    (g : ThinGathered bucket buckets (replicate 76 B) near (replicate 76 B) apart (replicate 19 B) far) (r : FarRunUp 15 far far′)
+    (g : ThinGathered bucket buckets (replicate 76 B) near (replicate 76 B) apart (replicate 19 B) far)
+    (r : FarRunUp 15 far far′)
   where
     near-words : (v t : ℕ) → v < 4 → t < 19 → getD near (t * 4 + v) 0 ≡ bucket (1 + v) t
     near-words v t h i =
-        let e : bucket (1 + (t * 4 + v) % 4) ((t * 4 + v) / 4) ≡ bucket (1 + v) t = ap₂ (λ (x y : ℕ). bucket (1 + x) y) (omega arith) (omega arith) in
-        omega (arith, g .nearTo .done (t * 4 + v) (omega arith), getD-replicate 76 (t * 4 + v) B 0 (omega arith), e, low (1 + v) t)
+        let e : bucket (1 + (t * 4 + v) % 4) ((t * 4 + v) / 4) ≡ bucket (1 + v) t =
+        ap₂ (λ (x y : ℕ). bucket (1 + x) y) (omega arith) (omega arith) in
+        omega (
+          arith,
+          g .nearTo .done (t * 4 + v) (omega arith),
+          getD-replicate 76 (t * 4 + v) B 0 (omega arith),
+          e,
+          low (1 + v) t,
+        )
 
     apart-words : buckets ≡ 9 → (v t : ℕ) → v < 4 → t < 19 → getD apart (t * 4 + v) 0 ≡ bucket (5 + v) t
     apart-words n v t h i =
         let j : ℕ = t * 4 + v in
-        let e : bucket (5 + j % 4) (j / 4) ≡ bucket (5 + v) t = ap₂ (λ (x y : ℕ). bucket (5 + x) y) (omega arith) (omega arith) in
+        let e : bucket (5 + j % 4) (j / 4) ≡ bucket (5 + v) t =
+        ap₂ (λ (x y : ℕ). bucket (5 + x) y) (omega arith) (omega arith) in
         omega (
           arith,
           g .apartTo .done j (omega arith),
@@ -174,7 +188,8 @@ module _
       where
         go : (z : Bool) → Eq? buckets 9 z → foundBy near (cond z apart near) far′ (a / 4) (a % 4) ≡ found bucket a
         go true (same n) = found-words bucket near apart far′ a low near-words (apart-words n) far-words h
-        go false (differs n) = found-words bucket near near far′ a low near-words (λ v t i j. near-words v t i j ∙ sym (e n v t i)) far-words h
+        go false (differs n) = found-words bucket near near far′ a low near-words
+            (λ v t i j. near-words v t i j ∙ sym (e n v t i)) far-words h
 
 -- ---- words written
 
@@ -184,7 +199,8 @@ pub written-join :
     → Written f at (n + m) old new
 written-join {f} {g} {at} {n} {m} {old} {mid} {new} v w e =
     record {
-      frame = frame-join at (at + (n + m)) (v .frame) (w .frame) (omega arith) (omega arith) (omega arith) (omega arith);
+      frame =
+          frame-join at (at + (n + m)) (v .frame) (w .frame) (omega arith) (omega arith) (omega arith) (omega arith);
       words = λ k h. go k h (decLt k n);
       low = w .low;
     }
@@ -201,18 +217,21 @@ written-join {f} {g} {at} {n} {m} {old} {mid} {new} v w e =
 -- a state's words
 pub put-words :
     {f : ℕ → ℕ} (D : Deck) (R i from q : ℕ) {n : ℕ} {old new : List ℕ}
-    → Written f (from + 768 + q * 64) n old new → D .poses ≤ n → n ≤ 64 → ((a : ℕ) → a < D .poses → nextLayer D R (thinIn old from) i q a ≡ f a)
+    → Written f (from + 768 + q * 64) n old new → D .poses ≤ n → n ≤ 64
+    → ((a : ℕ) → a < D .poses → nextLayer D R (thinIn old from) i q a ≡ f a)
     → Put D R i from q old new
 put-words D R i from q {old = old} w h k e =
     record {
-      frame = frame-join (from + 768 + q * 64) (from + 768 + q * 64 + 64) (frame-refl (from + 768 + q * 64) (from + 768 + q * 64) old) (w .frame)
+      frame = frame-join (from + 768 + q * 64) (from + 768 + q * 64 + 64)
+          (frame-refl (from + 768 + q * 64) (from + 768 + q * 64) old) (w .frame)
           (omega arith) (omega arith) (omega arith) (omega arith);
       low = w .low;
       right = λ a l. w .words a (omega arith) ∙ sym (e a l);
     }
 
 pub stepped-none : (D : Deck) (R i from : ℕ) {st : List ℕ} → Low st → Stepped D R 0 i from st st
-stepped-none D R i from {st} w = record { frame = frame-refl (from + 768) (from + 1536) st; low = w; right = λ q a h. absurd (omega arith) }
+stepped-none D R i from {st} w =
+    record { frame = frame-refl (from + 768) (from + 1536) st; low = w; right = λ q a h. absurd (omega arith) }
 
 -- one state more: the layer before is as it was
 pub stepped-more :
@@ -221,11 +240,14 @@ pub stepped-more :
     → Stepped D R (q + 1) i from old new
 stepped-more {D} {R} {i} {from} {old} {mid} {new} q s w h c p =
     record {
-      frame = frame-join (from + 768) (from + 1536) (s .frame) (w .frame) (omega arith) (omega arith) (omega arith) (omega arith);
+      frame = frame-join (from + 768) (from + 1536) (s .frame) (w .frame) (omega arith) (omega arith)
+          (omega arith) (omega arith);
       low = w .low;
       right = λ r a l k.
-          below-more (λ (r : ℕ). (a : ℕ) → a < D .poses → thinIn new (from + 768) r a ≡ nextLayer D R (thinIn old from) i r a) q
+          below-more (λ (r : ℕ). (a : ℕ) → a < D .poses
+          → thinIn new (from + 768) r a ≡ nextLayer D R (thinIn old from) i r a) q
           (λ r l a k. w .frame .low (from + 768 + r * 64 + a) (omega arith) ∙ s .right r a l k)
-          (λ a k. w .right a k ∙ next-ext D R (thinIn mid from) (thinIn old from) (λ r b x y. s .frame .low (from + r * 64 + b) (omega arith)) i q a)
+          (λ a k. w .right a k ∙ next-ext D R (thinIn mid from) (thinIn old from)
+          (λ r b x y. s .frame .low (from + r * 64 + b) (omega arith)) i q a)
           r l a k;
     }

@@ -27,7 +27,8 @@ pub lowered-end :
     {f : ℕ → ℕ} (n m : ℕ) {old new : List ℕ}
     → Lowered f n old new → Low old → n ≤ m → ((k : ℕ) → n ≤ k → k < m → B ≤ f k)
     → Lowered f m old new
-lowered-end {f} n m {old} {new} v w h e = record { long = v .long; done = λ k p. go k p (decLt k n); rest = λ k p. v .rest k (omega arith) }
+lowered-end {f} n m {old} {new} v w h e =
+    record { long = v .long; done = λ k p. go k p (decLt k n); rest = λ k p. v .rest k (omega arith) }
   where
     go : (k : ℕ) → k < m → Dec (k < n) → getD new k 0 ≡ min (getD old k 0) (f k)
     go k p (yes l) = v .done k l
@@ -47,24 +48,29 @@ row-one t c z {old} w n h e =
 -- four words of it, one after the other
 module _ (t x : ℕ) (pays : List ℕ) (p : ℕ) where
   pub four-none : {old : List ℕ} → Low old → Lowered (fourOf t x pays p) (t * 4 + 0) old old
-  four-none w = lowered-to (t * 4 + 0) w (λ k h. omega (arith, row-miss t (k / 4) (x + getD pays (p + k % 4) 0) (λ q. omega arith)))
+  four-none w = lowered-to (t * 4 + 0) w
+      (λ k h. omega (arith, row-miss t (k / 4) (x + getD pays (p + k % 4) 0) (λ q. omega arith)))
 
   pub four-more :
       {old new : List ℕ} (v z : ℕ)
-      → Lowered (fourOf t x pays p) (t * 4 + v) old new → length old ≡ 76 → t < 19 → v < 4 → z ≡ min (getD old (t * 4 + v) 0) (x + getD pays (p + v) 0)
+      → Lowered (fourOf t x pays p) (t * 4 + v) old new → length old ≡ 76 → t < 19 → v < 4
+      → z ≡ min (getD old (t * 4 + v) 0) (x + getD pays (p + v) 0)
       → Lowered (fourOf t x pays p) (t * 4 + (v + 1)) old (set new (t * 4 + v) z)
   four-more {old} {new} v z w n h g e =
       let j : ℕ = t * 4 + v in
       let i : v ≡ j % 4 = omega arith in
       let y : j + 1 ≡ t * 4 + (v + 1) = omega arith in
       let d : getD pays (p + v) 0 ≡ getD pays (p + j % 4) 0 = ap (λ (a : ℕ). getD pays (p + a) 0) i in
-      let f : z ≡ min (getD old j 0) (fourOf t x pays p j) = omega (arith, e, d, row-hit t (j / 4) (x + getD pays (p + j % 4) 0) (omega arith)) in
+      let f : z ≡ min (getD old j 0) (fourOf t x pays p j) =
+      omega (arith, e, d, row-hit t (j / 4) (x + getD pays (p + j % 4) 0) (omega arith)) in
       let r : Lowered (fourOf t x pays p) (j + 1) old (set new j z) = lowered-more j z w (omega arith) f in
       rw y at r
 
-  pub four-all : {old new : List ℕ} → Lowered (fourOf t x pays p) (t * 4 + 4) old new → Low old → t < 19 → Lowered (fourOf t x pays p) 76 old new
+  pub four-all : {old new : List ℕ} → Lowered (fourOf t x pays p) (t * 4 + 4) old new → Low old → t < 19
+      → Lowered (fourOf t x pays p) 76 old new
   four-all w l h =
-      lowered-end (t * 4 + 4) 76 w l (omega arith) (λ k q r. omega (arith, row-miss t (k / 4) (x + getD pays (p + k % 4) 0) (λ e. omega arith)))
+      lowered-end (t * 4 + 4) 76 w l (omega arith)
+      (λ k q r. omega (arith, row-miss t (k / 4) (x + getD pays (p + k % 4) 0) (λ e. omega arith)))
 
 -- ---- the three arrays
 
@@ -87,7 +93,8 @@ apart-min false x y h = omega arith
 
 module _ {buckets : ℕ} {near near′ apart apart′ far far′ : List ℕ} where
   -- what was lent stays so
-  pub lent-on : {bucket : ℕ → ℕ → ℕ} → Arrays near apart far → ThinGathered bucket buckets near near′ apart apart′ far far′ → Arrays near′ apart′ far′
+  pub lent-on : {bucket : ℕ → ℕ → ℕ} → Arrays near apart far
+      → ThinGathered bucket buckets near near′ apart apart′ far far′ → Arrays near′ apart′ far′
   lent-on l g =
       record {
         nearLong = g .nearTo .long ∙ l .nearLong;
@@ -101,12 +108,14 @@ module _ {buckets : ℕ} {near near′ apart apart′ far far′ : List ℕ} whe
   -- the same by another name
   pub gathered-ext :
       {P Q : ℕ → ℕ → ℕ}
-      → ThinGathered P buckets near near′ apart apart′ far far′ → 5 ≤ buckets → ((v t : ℕ) → v < buckets → Q v t ≡ P v t)
+      → ThinGathered P buckets near near′ apart apart′ far far′ → 5 ≤ buckets
+      → ((v t : ℕ) → v < buckets → Q v t ≡ P v t)
       → ThinGathered Q buckets near near′ apart apart′ far far′
   gathered-ext g h e =
       record {
         nearTo = lowered-ext (g .nearTo) (λ k p. e (1 + k % 4) (k / 4) (omega arith));
-        apartTo = lowered-ext (g .apartTo) (λ k p. apart-same (eqb buckets 9) (eq? buckets 9) (λ n. e (5 + k % 4) (k / 4) (omega arith)));
+        apartTo = lowered-ext (g .apartTo)
+            (λ k p. apart-same (eqb buckets 9) (eq? buckets 9) (λ n. e (5 + k % 4) (k / 4) (omega arith)));
         farTo = lowered-ext (g .farTo) (λ k p. e 0 k (omega arith));
       }
 
@@ -129,7 +138,8 @@ module _ (t x u : ℕ) (pays : List ℕ) where
     spread-nine v f n w =
         record {
           nearTo = lowered-ext v (λ k p. four 1 (u * 9 + 1) k refl);
-          apartTo = lowered-ext w (λ k p. apart-yes (eqb buckets 9) (spreadOf t x pays u (5 + k % 4) (k / 4)) (eq? buckets 9) n ∙ four 5 (u * 9 + 5) k refl);
+          apartTo = lowered-ext w (λ k p. apart-yes (eqb buckets 9)
+              (spreadOf t x pays u (5 + k % 4) (k / 4)) (eq? buckets 9) n ∙ four 5 (u * 9 + 5) k refl);
           farTo = lowered-ext f (λ k p. one k free);
         }
 
@@ -140,7 +150,8 @@ module _ (t x u : ℕ) (pays : List ℕ) where
     spread-five v f n w e =
         record {
           nearTo = lowered-ext v (λ k p. four 1 (u * 9 + 1) k refl);
-          apartTo = rw e (lowered-to 76 w (λ k p. omega (arith, apart-no (eqb buckets 9) (spreadOf t x pays u (5 + k % 4) (k / 4)) (eq? buckets 9) n)));
+          apartTo = rw e (lowered-to 76 w (λ k p.
+              omega (arith, apart-no (eqb buckets 9) (spreadOf t x pays u (5 + k % 4) (k / 4)) (eq? buckets 9) n)));
           farTo = lowered-ext f (λ k p. one k free);
         }
 
@@ -163,12 +174,14 @@ gathered-none {bucket} buckets l h =
 -- one after the other
 pub gathered-join :
     {P Q S : ℕ → ℕ → ℕ} {buckets : ℕ} {near near′ near″ apart apart′ apart″ far far′ far″ : List ℕ}
-    → ThinGathered P buckets near near′ apart apart′ far far′ → ThinGathered Q buckets near′ near″ apart′ apart″ far′ far″ → ((v t : ℕ) → S v t ≡ min (P v t) (Q v t))
+    → ThinGathered P buckets near near′ apart apart′ far far′
+    → ThinGathered Q buckets near′ near″ apart′ apart″ far′ far″ → ((v t : ℕ) → S v t ≡ min (P v t) (Q v t))
     → ThinGathered S buckets near near″ apart apart″ far far″
 gathered-join {P} {Q} {buckets = buckets} p q e =
     record {
       nearTo = lowered-join (p .nearTo) (q .nearTo) (λ k h. e (1 + k % 4) (k / 4));
-      apartTo = lowered-join (p .apartTo) (q .apartTo) (λ k h. apart-min (eqb buckets 9) (P (5 + k % 4) (k / 4)) (Q (5 + k % 4) (k / 4)) (e (5 + k % 4) (k / 4)));
+      apartTo = lowered-join (p .apartTo) (q .apartTo)
+          (λ k h. apart-min (eqb buckets 9) (P (5 + k % 4) (k / 4)) (Q (5 + k % 4) (k / 4)) (e (5 + k % 4) (k / 4)));
       farTo = lowered-join (p .farTo) (q .farTo) (λ k h. e 0 k);
     }
 
@@ -186,16 +199,19 @@ module _ (line : List ℕ) (m : ℕ) where
   -- fewer than 9 only where one weight serves for all gaps
   pub buckets-twin : bucketsIn line m ≢ 9 → wordOf line m touchingWord ≡ wordOf line m apartWord
   unfolding bucketsIn
-  buckets-twin n = go (eqb (wordOf line m touchingWord) (wordOf line m apartWord)) (eq? (wordOf line m touchingWord) (wordOf line m apartWord)) n
+  buckets-twin n = go (eqb (wordOf line m touchingWord) (wordOf line m apartWord))
+      (eq? (wordOf line m touchingWord) (wordOf line m apartWord)) n
     where
-      go : (z : Bool) → Eq? (wordOf line m touchingWord) (wordOf line m apartWord) z → _≢_ {A = ℕ} (cond z 5 9) 9 → wordOf line m touchingWord ≡ wordOf line m apartWord
+      go : (z : Bool) → Eq? (wordOf line m touchingWord) (wordOf line m apartWord) z → _≢_ {A = ℕ} (cond z 5 9) 9
+          → wordOf line m touchingWord ≡ wordOf line m apartWord
       go true (same e) d = e
       go false (differs f) d = absurd (d refl)
 
 -- ---- one source
 
 -- it pays nothing in bucket 0
-pub pays-free : {line pays : List ℕ} {k m buckets : ℕ} (u : ℕ) → Pays line k m buckets 36 pays → 5 ≤ buckets → u < 4 → getD pays (u * 9) 0 ≡ 0
+pub pays-free : {line pays : List ℕ} {k m buckets : ℕ} (u : ℕ) → Pays line k m buckets 36 pays → 5 ≤ buckets → u < 4
+    → getD pays (u * 9) 0 ≡ 0
 pays-free {line} {pays} {k} {m} u p h g =
     let e : u * 9 % 9 ≡ 0 = omega arith in
     p .pay (u * 9) (omega arith) (omega arith) ∙ ap (payBy (u * 9 / 9)) e ∙ pay-none line k (u * 9 / 9) m
@@ -206,6 +222,7 @@ pays-free {line} {pays} {k} {m} u p h g =
 -- a pose of a source, from its words
 pub gathered-pose :
     {line pays near near′ apart apart′ far far′ : List ℕ} {k m buckets : ℕ} (b t x : ℕ)
-    → Pays line k m buckets 36 pays → t ≡ endRow line k b m → 5 ≤ buckets → buckets ≤ 9 → ThinGathered (spreadOf t x pays (b % 4)) buckets near near′ apart apart′ far far′
+    → Pays line k m buckets 36 pays → t ≡ endRow line k b m → 5 ≤ buckets → buckets ≤ 9
+    → ThinGathered (spreadOf t x pays (b % 4)) buckets near near′ apart apart′ far far′
     → ThinGathered (onePose line k m b x) buckets near near′ apart apart′ far far′
 gathered-pose b t x p e h g w = gathered-ext w h (λ v s l. pose-pays b v s x p e l g)

@@ -1,5 +1,7 @@
--- Layers of one lane, dense: a block has 768 words, 64 for each of 12 states, one for each pose. The sources of a target are gathered in three arrays of buckets:
--- `far` has bucket 0, row t at t; `near` buckets 1 to 4, row t of bucket 1 + v at 4 t + v; `apart` likewise buckets 5 to 8, where they are needed.
+-- Layers of one lane, dense: a block has 768 words, 64 for each of 12 states, one for each pose. The sources of a
+-- target are gathered in three arrays of buckets:
+-- `far` has bucket 0, row t at t; `near` buckets 1 to 4, row t of bucket 1 + v at 4 t + v; `apart`
+-- likewise buckets 5 to 8, where they are needed.
 use Prim.Native.Nat.{ℕ, suc, _+_, _*_, _/_, _%_, _≤_, _<_, min}
 use mathlib.Core.Path.{_≡_}
 use mathlib.Core.Bool.{cond}
@@ -77,7 +79,8 @@ pub record FarRunUp (rows : ℕ) (old new : List ℕ) : Type 0 where
 -- what the pose at site e in variant v finds, where `far` ran up
 abbrev pub foundBy : List ℕ → List ℕ → List ℕ → ℕ → ℕ → ℕ
 foundBy near apart far e v =
-    min (min (getD near ((e + 4) * 4 + v) 0) (min (getD apart ((e + 2) * 4 + v) 0) (getD apart ((e + 1) * 4 + v) 0))) (getD far e 0)
+    min (min (getD near ((e + 4) * 4 + v) 0) (min (getD apart ((e + 2) * 4 + v) 0) (getD apart ((e + 1) * 4 + v) 0)))
+    (getD far e 0)
 
 -- with the own cost of the cell at position k, capped
 abbrev pub foundOf : List ℕ → List ℕ → List ℕ → List ℕ → ℕ → ℕ → ℕ

@@ -1,5 +1,6 @@
-// Layers of one lane, dense: state q has 64 words of a block, one for each pose. The four variants of a site stand side by side, so that four are done at
-// a time. The sources of a target are gathered by their end sites in the buckets of crate buckets.
+// Layers of one lane, dense: state q has 64 words of a block, one for each pose. The four variants of a
+// site stand side by side, so that four are done at a time. The sources of a target are gathered by their
+// end sites in the buckets of crate buckets.
 ghost use mathlib.Core.Path.{_≡_};
 ghost use Prim.Native.Nat.{ℕ, suc, _+_, _*_, _/_, _≤_, _<_};
 ghost use lib.ListN.{length, getD};
@@ -10,7 +11,9 @@ ghost use Rattle.search_lanes.specs.Store.{Low, Written};
 ghost use Rattle.search_row.specs.Words.{deckIn, RowWords, Ground};
 ghost use Rattle.search_buckets.specs.Next.{Target};
 ghost use Rattle.search_buckets.specs.Rows.{bucketsIn, Pays, PaysLow, onePose, byPoses, oneState, byStates};
-ghost use Rattle.search_dense_layer.specs.Thin.{thinIn, posesAt, fourOf, spreadOf, Arrays, ThinGathered, ThinSource, FarRunUp, foundBy, foundOf, foundFour, otherOf, ThinGiven, Put, Stepped};
+ghost use Rattle.search_dense_layer.specs.Thin.{thinIn, posesAt, fourOf, spreadOf, Arrays};
+ghost use Rattle.search_dense_layer.specs.Thin.{ThinGathered, ThinSource, FarRunUp, foundBy, foundOf};
+ghost use Rattle.search_dense_layer.specs.Thin.{foundFour, otherOf, ThinGiven, Put, Stepped};
 ghost use Rattle.search_dense_layer.specs.Kept.{Segment, SegmentKept};
 use search_row::Sizes;
 
@@ -18,7 +21,8 @@ use search_row::Sizes;
 
 // A source of cost x to row t of four buckets, where it pays the words from p on.
 fn lower_four(words: &mut [u32; 76], t: usize, x: u32, pays: &[u32; 36], p: usize)
-    requires { ⌜ (t < 19) × (length (now words) ≡ 76) × Low (now words) × (x ≤ B) × (p + 4 ≤ 36) × (length (now pays) ≡ 36) × ((v : ℕ) → v < 4 → getD (now pays) (p + v) 0 ≤ B) ⌝ }
+    requires { ⌜ (t < 19) × (length (now words) ≡ 76) × Low (now words) × (x ≤ B) × (p + 4 ≤ 36)
+        × (length (now pays) ≡ 36) × ((v : ℕ) → v < 4 → getD (now pays) (p + v) 0 ≤ B) ⌝ }
     ensures { λ _. ⌜ Lowered (fourOf t x (now (pays .entry)) p) 76 (now (words .entry)) (now (words .exit)) ⌝ }
 {
     let mut v: usize = 0;
@@ -39,8 +43,10 @@ fn spread(
     t: usize,
     buckets: usize,
 )
-    requires { ⌜ Arrays (now near) (now apart) (now far) × (x ≤ B) × PaysLow buckets (now pays) × (getD (now pays) (u * 9) 0 ≡ 0) × (u < 4) × (t < 19) × (5 ≤ buckets) × (buckets ≤ 9) ⌝ }
-    ensures { λ _. ⌜ ThinGathered (spreadOf t x (now (pays .entry)) u) buckets (now (near .entry)) (now (near .exit)) (now (apart .entry)) (now (apart .exit)) (now (far .entry)) (now (far .exit)) ⌝ }
+    requires { ⌜ Arrays (now near) (now apart) (now far) × (x ≤ B) × PaysLow buckets (now pays)
+        × (getD (now pays) (u * 9) 0 ≡ 0) × (u < 4) × (t < 19) × (5 ≤ buckets) × (buckets ≤ 9) ⌝ }
+    ensures { λ _. ⌜ ThinGathered (spreadOf t x (now (pays .entry)) u) buckets (now (near .entry)) (now (near .exit))
+        (now (apart .entry)) (now (apart .exit)) (now (far .entry)) (now (far .exit)) ⌝ }
 {
     far[t] = search_lanes::lesser(far[t], x);
     lower_four(near, t, x, pays, u * 9 + 1);
@@ -64,8 +70,11 @@ fn from_pose(
     b: usize,
     buckets: usize,
 )
-    requires { ⌜ Arrays (now near) (now apart) (now far) × ThinSource (now store) (now row) at k m × Pays (now row) k m buckets 36 (now pays) × (b < 60) × (5 ≤ buckets) × (buckets ≤ 9) ⌝ }
-    ensures { λ _. ⌜ ThinGathered (onePose (now (row .entry)) k m b (posesAt (now (store .entry)) at b)) buckets (now (near .entry)) (now (near .exit)) (now (apart .entry)) (now (apart .exit)) (now (far .entry)) (now (far .exit)) ⌝ }
+    requires { ⌜ Arrays (now near) (now apart) (now far) × ThinSource (now store) (now row) at k m
+        × Pays (now row) k m buckets 36 (now pays) × (b < 60) × (5 ≤ buckets) × (buckets ≤ 9) ⌝ }
+    ensures { λ _. ⌜ ThinGathered (onePose (now (row .entry)) k m b (posesAt (now (store .entry)) at b)) buckets
+        (now (near .entry)) (now (near .exit)) (now (apart .entry)) (now (apart .exit)) (now (far .entry))
+        (now (far .exit)) ⌝ }
 {
     let x = store[at + b];
     if x >= search_lanes::NONE {
@@ -92,8 +101,11 @@ fn from_poses(
     poses: usize,
     buckets: usize,
 )
-    requires { ⌜ Arrays (now near) (now apart) (now far) × ThinSource (now store) (now row) at k m × Pays (now row) k m buckets 36 (now pays) × (poses ≤ 60) × (5 ≤ buckets) × (buckets ≤ 9) ⌝ }
-    ensures { λ _. ⌜ ThinGathered (byPoses (now (row .entry)) k m (posesAt (now (store .entry)) at) poses) buckets (now (near .entry)) (now (near .exit)) (now (apart .entry)) (now (apart .exit)) (now (far .entry)) (now (far .exit)) ⌝ }
+    requires { ⌜ Arrays (now near) (now apart) (now far) × ThinSource (now store) (now row) at k m
+        × Pays (now row) k m buckets 36 (now pays) × (poses ≤ 60) × (5 ≤ buckets) × (buckets ≤ 9) ⌝ }
+    ensures { λ _. ⌜ ThinGathered (byPoses (now (row .entry)) k m (posesAt (now (store .entry)) at) poses) buckets
+        (now (near .entry)) (now (near .exit)) (now (apart .entry)) (now (apart .exit)) (now (far .entry))
+        (now (far .exit)) ⌝ }
 {
     let mut b: usize = 0;
     while b < poses {
@@ -125,7 +137,8 @@ fn found(near: &[u32; 76], apart: &[u32; 76], far: &[u32; 19], e: usize, v: usiz
     search_lanes::lesser(search_lanes::lesser(near[(e + 4) * 4 + v], between), far[e])
 }
 
-// What the four poses at site e of the cell at position k find, with the cell's own cost, capped. A pose that is not offered comes out NONE.
+// What the four poses at site e of the cell at position k find, with the cell's own cost, capped.
+// A pose that is not offered comes out NONE.
 fn found_four(
     words: &mut [u32; 4],
     row: &[u32],
@@ -135,8 +148,10 @@ fn found_four(
     k: usize,
     e: usize,
 )
-    requires { ⌜ Arrays (now near) (now apart) (now far) × RowWords (now row) × Low (now words) × (length (now words) ≡ 4) × (k < 64) × (e < 15) ⌝ }
-    ensures { λ _. ⌜ Written (foundFour (now (row .entry)) (now (near .entry)) (now (apart .entry)) (now (far .entry)) k e) 0 4 (now (words .entry)) (now (words .exit)) ⌝ }
+    requires { ⌜ Arrays (now near) (now apart) (now far) × RowWords (now row) × Low (now words)
+        × (length (now words) ≡ 4) × (k < 64) × (e < 15) ⌝ }
+    ensures { λ _. ⌜ Written (foundFour (now (row .entry)) (now (near .entry)) (now (apart .entry))
+        (now (far .entry)) k e) 0 4 (now (words .entry)) (now (words .exit)) ⌝ }
 {
     let mut v: usize = 0;
     while v < 4 {
@@ -157,8 +172,10 @@ fn put_four(
     k: usize,
     e: usize,
 )
-    requires { ⌜ Arrays (now near) (now apart) (now far) × RowWords (now row) × Low (now store) × (to + 64 ≤ length (now store)) × (k < 64) × (e < 15) ⌝ }
-    ensures { λ _. ⌜ Written (foundFour (now (row .entry)) (now (near .entry)) (now (apart .entry)) (now (far .entry)) k e) (to + e * 4) 4 (now (store .entry)) (now (store .exit)) ⌝ }
+    requires { ⌜ Arrays (now near) (now apart) (now far) × RowWords (now row) × Low (now store)
+        × (to + 64 ≤ length (now store)) × (k < 64) × (e < 15) ⌝ }
+    ensures { λ _. ⌜ Written (foundFour (now (row .entry)) (now (near .entry)) (now (apart .entry))
+        (now (far .entry)) k e) (to + e * 4) 4 (now (store .entry)) (now (store .exit)) ⌝ }
 {
     let mut words = [0u32; 4];
     found_four(&mut words, row, near, apart, far, k, e);
@@ -180,8 +197,10 @@ fn put(
     k: usize,
     poses: usize,
 )
-    requires { ⌜ Arrays (now near) (now apart) (now far) × RowWords (now row) × Low (now store) × (to + 64 ≤ length (now store)) × (k < 64) × (poses ≤ 60) ⌝ }
-    ensures { λ _. ⌜ Written (foundOf (now (row .entry)) (now (near .entry)) (now (apart .entry)) (now (far .entry)) k) to ((poses + 3) / 4 * 4) (now (store .entry)) (now (store .exit)) ⌝ }
+    requires { ⌜ Arrays (now near) (now apart) (now far) × RowWords (now row) × Low (now store)
+        × (to + 64 ≤ length (now store)) × (k < 64) × (poses ≤ 60) ⌝ }
+    ensures { λ _. ⌜ Written (foundOf (now (row .entry)) (now (near .entry)) (now (apart .entry))
+        (now (far .entry)) k) to ((poses + 3) / 4 * 4) (now (store .entry)) (now (store .exit)) ⌝ }
 {
     let mut e: usize = 0;
     while e * 4 < poses {
@@ -202,8 +221,11 @@ fn put_found(
     poses: usize,
     buckets: usize,
 )
-    requires { ⌜ Arrays (now near) (now apart) (now far) × RowWords (now row) × Low (now store) × (to + 64 ≤ length (now store)) × (k < 64) × (poses ≤ 60) ⌝ }
-    ensures { λ _. ⌜ Written (foundOf (now (row .entry)) (now (near .entry)) (otherOf buckets (now (near .entry)) (now (apart .entry))) (now (far .entry)) k) to ((poses + 3) / 4 * 4) (now (store .entry)) (now (store .exit)) ⌝ }
+    requires { ⌜ Arrays (now near) (now apart) (now far) × RowWords (now row) × Low (now store)
+        × (to + 64 ≤ length (now store)) × (k < 64) × (poses ≤ 60) ⌝ }
+    ensures { λ _. ⌜ Written (foundOf (now (row .entry)) (now (near .entry))
+        (otherOf buckets (now (near .entry)) (now (apart .entry))) (now (far .entry)) k) to
+        ((poses + 3) / 4 * 4) (now (store .entry)) (now (store .exit)) ⌝ }
 {
     if buckets == 9 {
         put(store, row, near, apart, far, to, k, poses);
@@ -227,8 +249,12 @@ fn from_source(
     q: usize,
     p: usize,
 )
-    requires { ⌜ Arrays (now near) (now apart) (now far) × ThinGiven (now row) (now store) sizes i from × Target (sizes .cells) (sizes .reordering) i q × (p < sizes .states) ⌝ }
-    ensures { λ _. ⌜ ThinGathered (oneState (now (row .entry)) (deckIn (now (row .entry)) sizes) (sizes .reordering) (thinIn (now (store .entry)) from) i q p) (bucketsIn (now (row .entry)) (lastAt (sizes .reordering) (suc i) q)) (now (near .entry)) (now (near .exit)) (now (apart .entry)) (now (apart .exit)) (now (far .entry)) (now (far .exit)) ⌝ }
+    requires { ⌜ Arrays (now near) (now apart) (now far) × ThinGiven (now row) (now store) sizes i from
+        × Target (sizes .cells) (sizes .reordering) i q × (p < sizes .states) ⌝ }
+    ensures { λ _. ⌜ ThinGathered (oneState (now (row .entry)) (deckIn (now (row .entry)) sizes) (sizes .reordering)
+        (thinIn (now (store .entry)) from) i q p) (bucketsIn (now (row .entry)) (lastAt (sizes .reordering) (suc i) q))
+        (now (near .entry)) (now (near .exit)) (now (apart .entry)) (now (apart .exit)) (now (far .entry))
+        (now (far .exit)) ⌝ }
 {
     if !search_row::is_source(row, sizes, i, q, p) {
         return;
@@ -266,8 +292,12 @@ fn gather(
     from: usize,
     q: usize,
 )
-    requires { ⌜ Arrays (now near) (now apart) (now far) × ThinGiven (now row) (now store) sizes i from × Target (sizes .cells) (sizes .reordering) i q ⌝ }
-    ensures { λ _. ⌜ ThinGathered (byStates (now (row .entry)) (deckIn (now (row .entry)) sizes) (sizes .reordering) (thinIn (now (store .entry)) from) i q (sizes .states)) (bucketsIn (now (row .entry)) (lastAt (sizes .reordering) (suc i) q)) (now (near .entry)) (now (near .exit)) (now (apart .entry)) (now (apart .exit)) (now (far .entry)) (now (far .exit)) ⌝ }
+    requires { ⌜ Arrays (now near) (now apart) (now far) × ThinGiven (now row) (now store) sizes i from
+        × Target (sizes .cells) (sizes .reordering) i q ⌝ }
+    ensures { λ _. ⌜ ThinGathered (byStates (now (row .entry)) (deckIn (now (row .entry)) sizes) (sizes .reordering)
+        (thinIn (now (store .entry)) from) i q (sizes .states))
+        (bucketsIn (now (row .entry)) (lastAt (sizes .reordering) (suc i) q)) (now (near .entry)) (now (near .exit))
+        (now (apart .entry)) (now (apart .exit)) (now (far .entry)) (now (far .exit)) ⌝ }
 {
     let mut p: usize = 0;
     while p < sizes.states {
@@ -279,7 +309,8 @@ fn gather(
 // The words of state q, whose cell is there: its sources gathered, then what each pose finds.
 fn target_there(store: &mut [u32], row: &[u32], sizes: Sizes, i: usize, from: usize, q: usize)
     requires { ⌜ ThinGiven (now row) (now store) sizes i from × Target (sizes .cells) (sizes .reordering) i q ⌝ }
-    ensures { λ _. ⌜ Put (deckIn (now (row .entry)) sizes) (sizes .reordering) i from q (now (store .entry)) (now (store .exit)) ⌝ }
+    ensures { λ _. ⌜ Put (deckIn (now (row .entry)) sizes) (sizes .reordering) i from q (now (store .entry))
+        (now (store .exit)) ⌝ }
 {
     let m = search_row::last_at(row, sizes, i + 1, q);
     let buckets = search_buckets::buckets_of(row, m);
@@ -305,7 +336,8 @@ fn target_there(store: &mut [u32], row: &[u32], sizes: Sizes, i: usize, from: us
 // The words of state q: all NONE if the row has no such cell.
 fn put_state(store: &mut [u32], row: &[u32], sizes: Sizes, i: usize, from: usize, q: usize)
     requires { ⌜ ThinGiven (now row) (now store) sizes i from × (q < sizes .states) ⌝ }
-    ensures { λ _. ⌜ Put (deckIn (now (row .entry)) sizes) (sizes .reordering) i from q (now (store .entry)) (now (store .exit)) ⌝ }
+    ensures { λ _. ⌜ Put (deckIn (now (row .entry)) sizes) (sizes .reordering) i from q (now (store .entry))
+        (now (store .exit)) ⌝ }
 {
     if !search_row::is_there(row, sizes, i + 1, q) {
         search_lanes::fill(store, from + 768 + q * 64, 64, search_lanes::NONE);
@@ -317,7 +349,8 @@ fn put_state(store: &mut [u32], row: &[u32], sizes: Sizes, i: usize, from: usize
 // The layer with one cell more than the layer at `from`, which has i, to the block after it.
 pub fn step(store: &mut [u32], row: &[u32], sizes: Sizes, i: usize, from: usize)
     requires { ⌜ Ground (now row) sizes × Low (now store) × (i ≤ 67) × (from + 1536 ≤ length (now store)) ⌝ }
-    ensures { λ _. ⌜ Stepped (deckIn (now (row .entry)) sizes) (sizes .reordering) (sizes .states) i from (now (store .entry)) (now (store .exit)) ⌝ }
+    ensures { λ _. ⌜ Stepped (deckIn (now (row .entry)) sizes) (sizes .reordering) (sizes .states) i from
+        (now (store .entry)) (now (store .exit)) ⌝ }
 {
     let mut q: usize = 0;
     while q < sizes.states {
@@ -331,7 +364,8 @@ pub fn step(store: &mut [u32], row: &[u32], sizes: Sizes, i: usize, from: usize)
 // All layers of a segment from its first, layer i, which is in its place, up to layer `end`.
 pub fn segment_kept(store: &mut [u32], row: &[u32], sizes: Sizes, i: usize, end: usize)
     requires { ⌜ Segment (now row) (now store) sizes i end ⌝ }
-    ensures { λ _. ⌜ SegmentKept (deckIn (now (row .entry)) sizes) (sizes .reordering) i end (now (store .entry)) (now (store .exit)) ⌝ }
+    ensures { λ _. ⌜ SegmentKept (deckIn (now (row .entry)) sizes) (sizes .reordering) i end (now (store .entry))
+        (now (store .exit)) ⌝ }
 {
     let mut j: usize = 0;
     while i + j < end {

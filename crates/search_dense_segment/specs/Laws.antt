@@ -8,9 +8,11 @@ use borrow.Author.Tests.{le-leb, lt-leb, eq-eqb, ne-eqb}
 use native.Mathlib.Decide.{decLt}
 use lib.ListN.{length, getD, set}
 use lib.Dec.{leb}
-use Rattle.search_buckets.specs.Ends.{leastPoses, leastState, leastStates, state-in, state-out, states-low, ends-gathered, cost-run, cost-done}
+use Rattle.search_buckets.specs.Ends.{leastPoses, leastState, leastStates, state-in, state-out}
+use Rattle.search_buckets.specs.Ends.{states-low, ends-gathered, cost-run, cost-done}
 use Rattle.search_store.specs.Map.{keptAt, keptFrom, pagesFrom}
-use Rattle.theory_tables.specs.Steps.{B, Deck, Layer, stateCount, offset, lastAt, layers, firstOpen, costTo, ends, costEnd}
+use Rattle.theory_tables.specs.Steps.{B, Deck, Layer, stateCount, offset, lastAt}
+use Rattle.theory_tables.specs.Steps.{layers, firstOpen, costTo, ends, costEnd}
 use Rattle.search_lanes.specs.Store.{Low, Written, Filled}
 use Rattle.search_lanes.specs.Lanes.{always}
 use Rattle.search_lanes.specs.Laws.{frame-join, written-one}
@@ -28,11 +30,13 @@ use Rattle.search_dense_segment.specs.Opened.{comesIn, tallCost, endCost
 -- the first layer, then those after it
 pub open-kept :
     (D : Deck) (R : ℕ) {count to end : ℕ} {old mid new : List ℕ}
-    → to ≡ keptFrom → count ≡ stateCount R → Begun (firstOpen D R) (D .poses) count to old mid → SegmentKept D R 1 end mid new
+    → to ≡ keptFrom → count ≡ stateCount R → Begun (firstOpen D R) (D .poses) count to old mid
+    → SegmentKept D R 1 end mid new
     → OpenKept D R end old new
 open-kept D R {mid = mid} e n b s =
     record {
-      frame = frame-join keptFrom pagesFrom (b .frame) (s .frame) (omega arith) (omega arith) (omega arith) (omega arith);
+      frame =
+          frame-join keptFrom pagesFrom (b .frame) (s .frame) (omega arith) (omega arith) (omega arith) (omega arith);
       low = s .low;
       kept = kept-ext (keptIn mid 1) (firstOpen D R)
           (λ q a x y. ap (λ (k : ℕ). getD mid k 0) (omega arith) ∙ b .right q a (omega arith) y)
@@ -49,19 +53,23 @@ module _ (R p : ℕ) (st : List ℕ) (l q a : ℕ) where
   comes-late h = ap (λ t. cond t (keptIn st (p + suc R - offset R q) q a) B) (lt-leb (1 + offset R q) (p + suc R) h)
 
 -- they stand below the costs
-pub comes-kept : (R p q a l : ℕ) (old new : List ℕ) → p + suc R ≤ 66 → q < 12 → a < 64 → ((k : ℕ) → k < pagesFrom → getD new k 0 ≡ getD old k 0)
+pub comes-kept : (R p q a l : ℕ) (old new : List ℕ) → p + suc R ≤ 66 → q < 12 → a < 64
+    → ((k : ℕ) → k < pagesFrom → getD new k 0 ≡ getD old k 0)
     → comesIn R p old l q a ≡ comesIn R p new l q a
 comes-kept R p q a l old new h g k same =
-    ap (λ (x : ℕ). cond (leb (1 + offset R q) (p + suc R)) x B) (sym (same (keptAt (p + suc R - offset R q) + q * 64 + a) (omega arith)))
+    ap (λ (x : ℕ). cond (leb (1 + offset R q) (p + suc R)) x B)
+    (sym (same (keptAt (p + suc R - offset R q) + q * 64 + a) (omega arith)))
 
 -- by the kept layers these are the costs
-comes-cost : (D : Deck) (R p q a end l : ℕ) {st : List ℕ} → end ≡ p + suc R → q < stateCount R → a < D .poses → KeptLayers D R (firstOpen D R) 1 end st
+comes-cost : (D : Deck) (R p q a end l : ℕ) {st : List ℕ} → end ≡ p + suc R → q < stateCount R → a < D .poses
+    → KeptLayers D R (firstOpen D R) 1 end st
     → comesIn R p st l q a ≡ tallCost D R p q a
 unfolding costTo
 comes-cost D R p q a end l {st} e x y k = go (decLt (p + suc R) (1 + offset R q))
   where
     go : Dec (p + suc R < 1 + offset R q)
-        → comesIn R p st l q a ≡ cond (leb (1 + offset R q) (p + suc R)) (layers D R (firstOpen D R) 1 (p + suc R - offset R q - 1) q a) B
+        → comesIn R p st l q a
+        ≡ cond (leb (1 + offset R q) (p + suc R)) (layers D R (firstOpen D R) 1 (p + suc R - offset R q - 1) q a) B
     go (yes h) = rw (lt-leb (1 + offset R q) (p + suc R) h) refl
     go (no h) =
         let i : p + suc R - offset R q ≡ 1 + (p + suc R - offset R q - 1) = omega arith in
@@ -70,7 +78,8 @@ comes-cost D R p q a end l {st} e x y k = go (decLt (p + suc R) (1 + offset R q)
 
 pub opened-to :
     (D : Deck) (R p : ℕ) {count costs end : ℕ} {old mid new : List ℕ}
-    → end ≡ p + suc R → pagesFrom ≤ costs → count ≡ stateCount R → OpenKept D R end old mid → Filled (comesIn R p mid) 1 (D .poses) costs count mid new
+    → end ≡ p + suc R → pagesFrom ≤ costs → count ≡ stateCount R → OpenKept D R end old mid
+    → Filled (comesIn R p mid) 1 (D .poses) costs count mid new
     → Opened (tallCost D R p) count (D .poses) costs old new
 opened-to D R p {end = end} e o n k f =
     record {
@@ -89,7 +98,8 @@ module _ (line : List ℕ) (n poses R k q : ℕ) (f : Layer) where
   state-away h = state-out (deckOf line n poses) R f q (sym (and-away (thereIn n R n q) _ h))
 
   pub state-tall : k ≡ lastAt R n q → wordOf line k tallWord ≡ 1 → leastState (deckOf line n poses) R f q ≡ B
-  state-tall e h = state-out (deckOf line n poses) R f q (go (thereIn n R n q) (eq-eqb (wordOf line (lastAt R n q) tallWord) 1 (ap (λ (k : ℕ). wordOf line k tallWord) (sym e) ∙ h)))
+  state-tall e h = state-out (deckOf line n poses) R f q (go (thereIn n R n q)
+      (eq-eqb (wordOf line (lastAt R n q) tallWord) 1 (ap (λ (k : ℕ). wordOf line k tallWord) (sym e) ∙ h)))
     where
       go : (s : Bool) {t : Bool} → t ≡ true → (s && not t) ≡ false
       go true h = ap not h
@@ -99,7 +109,8 @@ module _ (line : List ℕ) (n poses R k q : ℕ) (f : Layer) where
       → leastState (deckOf line n poses) R f q ≡ leastPoses (backIn line k) f q poses
   state-single e h z =
       state-in (deckOf line n poses) R f q
-      (sym (and-there (thereIn n R n q) _ h) ∙ ap not (ne-eqb (wordOf line (lastAt R n q) tallWord) 1 (λ w. z (ap (λ (k : ℕ). wordOf line k tallWord) e ∙ w))))
+      (sym (and-there (thereIn n R n q) _ h)
+      ∙ ap not (ne-eqb (wordOf line (lastAt R n q) tallWord) 1 (λ w. z (ap (λ (k : ℕ). wordOf line k tallWord) e ∙ w))))
       ∙ ap (λ (k : ℕ). leastPoses (backIn line k) f q poses) (sym e)
 
 -- the least of all states is the least of the layer
@@ -122,7 +133,8 @@ module _ (D : Deck) (R : ℕ) where
   pub opened-none : (costs : ℕ) {st : List ℕ} → D .size ≡ 0 → pagesFrom ≤ costs → costs < length st → Low st
       → Opened (endCost D R) 1 1 costs st (set st costs 0)
   opened-none costs z o h w =
-      opened-word costs 0 o refl (λ j g. refl) (written-one (always 0) costs 0 w h refl (omega arith)) (sym (cost-done D R (firstOpen D R) 1 0 (omega arith)))
+      opened-word costs 0 o refl (λ j g. refl) (written-one (always 0) costs 0 w h refl (omega arith))
+      (sym (cost-done D R (firstOpen D R) 1 0 (omega arith)))
 
   -- the least of the layer with all cells
   pub opened-end : (costs x at : ℕ) {count : ℕ} {old mid : List ℕ}
@@ -132,9 +144,12 @@ module _ (D : Deck) (R : ℕ) where
   opened-end costs x at {count} {old} {mid} z o h n e k g =
       let b = states-low D R (thinIn mid at) count in
       let w = ends-gathered D R (thinIn mid at) {x = x} n (omega arith) in
-      opened-word costs x o (k .frame .long) (k .frame .high) (written-one (always x) costs x (k .low) (omega (arith, k .frame .long)) refl (omega arith))
+      opened-word costs x o (k .frame .long) (k .frame .high)
+      (written-one (always x) costs x (k .low) (omega (arith, k .frame .long)) refl (omega arith))
       (let y : x ≡ ends D R (thinIn mid at) = omega arith in
-      y ∙ ends-ext D R (thinIn mid at) (layers D R (firstOpen D R) 1 (D .size - 1)) last ∙ sym (cost-run D R (firstOpen D R) 1 0 z))
+      y ∙ ends-ext D R (thinIn mid at) (layers D R (firstOpen D R) 1 (D .size - 1)) last
+      ∙ sym (cost-run D R (firstOpen D R) 1 0 z))
     where
-      last : (q a : ℕ) → q < stateCount R → a < D .poses → thinIn mid at q a ≡ layers D R (firstOpen D R) 1 (D .size - 1) q a
+      last : (q a : ℕ) → q < stateCount R → a < D .poses
+          → thinIn mid at q a ≡ layers D R (firstOpen D R) 1 (D .size - 1) q a
       last q a u v = ap (λ (j : ℕ). getD mid j 0) (omega arith) ∙ k .kept .right (D .size - 1) q a (omega arith) u v

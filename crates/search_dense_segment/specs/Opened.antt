@@ -14,7 +14,8 @@ use Rattle.search_dense_layer.specs.Kept.{keptIn, KeptLayers}
 abbrev pub spreadFrom : List ℕ → ℕ → ℕ → ℕ → ℕ
 spreadFrom st from a l = getD st (from + a) 0
 
--- the words of state q from the kept layer that it comes to the tall cell at position p with; B if it comes with no layer
+-- the words of state q from the kept layer that it comes to the tall cell at
+-- position p with; B if it comes with no layer
 abbrev pub comesIn : ℕ → ℕ → List ℕ → ℕ → Layer
 comesIn R p st l q a = cond (leb (1 + offset R q) (p + suc R)) (keptIn st (p + suc R - offset R q) q a) B
 

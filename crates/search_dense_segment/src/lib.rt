@@ -7,13 +7,15 @@ ghost use Rattle.search_store.specs.Map.{pagesFrom};
 ghost use Rattle.search_lanes.specs.Store.{Low, WrittenRows, FilledState, Filled};
 ghost use Rattle.search_row.specs.Words.{backIn, deckIn, StateWords, RowWords, Ground};
 ghost use Rattle.search_dense_layer.specs.Thin.{thinIn};
-ghost use Rattle.search_dense_segment.specs.Opened.{spreadFrom, comesIn, tallCost, endCost, OpenRoom, OpenKept, Opened};
+ghost use Rattle.search_dense_segment.specs.Opened.{spreadFrom, comesIn, tallCost};
+ghost use Rattle.search_dense_segment.specs.Opened.{endCost, OpenRoom, OpenKept, Opened};
 use search_row::Sizes;
 
 // The layers from the row's start up to layer `end`, each in its place.
 fn run_open(store: &mut [u32], row: &[u32], sizes: Sizes, end: usize)
     requires { ⌜ Ground (now row) sizes × Low (now store) × (pagesFrom ≤ length (now store)) × (end ≤ 66) ⌝ }
-    ensures { λ _. ⌜ OpenKept (deckIn (now (row .entry)) sizes) (sizes .reordering) end (now (store .entry)) (now (store .exit)) ⌝ }
+    ensures { λ _. ⌜ OpenKept (deckIn (now (row .entry)) sizes) (sizes .reordering) end (now (store .entry))
+        (now (store .exit)) ⌝ }
 {
     search_dense_first::open(store, row, sizes, search_store::kept_at(1));
     search_dense_layer::segment_kept(store, row, sizes, 1, end);
@@ -24,7 +26,8 @@ fn run_open(store: &mut [u32], row: &[u32], sizes: Sizes, end: usize)
 // Words that stand side by side, to lane 0 of so many rows of 64 words.
 fn spread(store: &mut [u32], from: usize, at: usize, rows: usize)
     requires { ⌜ (at + rows * 64 ≤ length (now store)) × (from + rows ≤ at) × Low (now store) ⌝ }
-    ensures { λ _. ⌜ WrittenRows (spreadFrom (now (store .entry)) from) at rows 1 (now (store .entry)) (now (store .exit)) ⌝ }
+    ensures { λ _. ⌜ WrittenRows (spreadFrom (now (store .entry)) from) at rows 1 (now (store .entry))
+        (now (store .exit)) ⌝ }
 {
     let mut a: usize = 0;
     while a < rows {
@@ -35,8 +38,11 @@ fn spread(store: &mut [u32], from: usize, at: usize, rows: usize)
 
 // The costs of state q: the words of the layer that it comes to the tall cell with; NONE if it comes with no layer.
 fn put_state(store: &mut [u32], row: &[u32], sizes: Sizes, tall: usize, costs: usize, q: usize)
-    requires { ⌜ StateWords (sizes .reordering) (now row) × OpenRoom (now store) (sizes .reordering) (sizes .poses) (sizes .states) costs × (tall < 64) × (q < sizes .states) ⌝ }
-    ensures { λ _. ⌜ FilledState (comesIn (sizes .reordering) tall (now (store .entry))) 1 costs q (sizes .poses) (now (store .entry)) (now (store .exit)) ⌝ }
+    requires { ⌜ StateWords (sizes .reordering) (now row)
+        × OpenRoom (now store) (sizes .reordering) (sizes .poses) (sizes .states) costs × (tall < 64)
+        × (q < sizes .states) ⌝ }
+    ensures { λ _. ⌜ FilledState (comesIn (sizes .reordering) tall (now (store .entry))) 1 costs q (sizes .poses)
+        (now (store .entry)) (now (store .exit)) ⌝ }
 {
     let digit = search_row::word(row, search_row::STATES + q * 4);
     let all = tall + sizes.reordering + 1;
@@ -56,8 +62,10 @@ fn put_state(store: &mut [u32], row: &[u32], sizes: Sizes, tall: usize, costs: u
 
 // The costs of every state.
 fn put_states(store: &mut [u32], row: &[u32], sizes: Sizes, tall: usize, costs: usize)
-    requires { ⌜ StateWords (sizes .reordering) (now row) × OpenRoom (now store) (sizes .reordering) (sizes .poses) (sizes .states) costs × (tall < 64) ⌝ }
-    ensures { λ _. ⌜ Filled (comesIn (sizes .reordering) tall (now (store .entry))) 1 (sizes .poses) costs (sizes .states) (now (store .entry)) (now (store .exit)) ⌝ }
+    requires { ⌜ StateWords (sizes .reordering) (now row)
+        × OpenRoom (now store) (sizes .reordering) (sizes .poses) (sizes .states) costs × (tall < 64) ⌝ }
+    ensures { λ _. ⌜ Filled (comesIn (sizes .reordering) tall (now (store .entry))) 1 (sizes .poses) costs
+        (sizes .states) (now (store .entry)) (now (store .exit)) ⌝ }
 {
     let mut q: usize = 0;
     while q < sizes.states {
@@ -68,8 +76,10 @@ fn put_states(store: &mut [u32], row: &[u32], sizes: Sizes, tall: usize, costs: 
 
 // The costs from the row's start to the tall cell at position `tall`, in lane 0 of the block at `costs`.
 pub fn open_to(store: &mut [u32], row: &[u32], sizes: Sizes, tall: usize, costs: usize)
-    requires { ⌜ Ground (now row) sizes × OpenRoom (now store) (sizes .reordering) (sizes .poses) (sizes .states) costs × (tall < 64) ⌝ }
-    ensures { λ _. ⌜ Opened (tallCost (deckIn (now (row .entry)) sizes) (sizes .reordering) tall) (sizes .states) (sizes .poses) costs (now (store .entry)) (now (store .exit)) ⌝ }
+    requires { ⌜ Ground (now row) sizes × OpenRoom (now store) (sizes .reordering) (sizes .poses) (sizes .states) costs
+        × (tall < 64) ⌝ }
+    ensures { λ _. ⌜ Opened (tallCost (deckIn (now (row .entry)) sizes) (sizes .reordering) tall) (sizes .states)
+        (sizes .poses) costs (now (store .entry)) (now (store .exit)) ⌝ }
 {
     run_open(store, row, sizes, tall + sizes.reordering + 1);
     put_states(store, row, sizes, tall, costs);
@@ -77,9 +87,11 @@ pub fn open_to(store: &mut [u32], row: &[u32], sizes: Sizes, tall: usize, costs:
 
 // ---- to the row's end
 
-// The least of all poses of state q in the layer at `at`; its cell is at position k, and each pose pays as the row's last.
+// The least of all poses of state q in the layer at `at`; its cell is at
+// position k, and each pose pays as the row's last.
 fn least_poses(store: &[u32], row: &[u32], at: usize, q: usize, k: usize, poses: usize) -> u32
-    requires { ⌜ RowWords (now row) × Low (now store) × (at + 768 ≤ length (now store)) × (q < 12) × (k < 64) × (poses ≤ 60) ⌝ }
+    requires { ⌜ RowWords (now row) × Low (now store) × (at + 768 ≤ length (now store)) × (q < 12) × (k < 64)
+        × (poses ≤ 60) ⌝ }
     ensures { λ x. ⌜ x ≡ leastPoses (backIn (now (row .entry)) k) (thinIn (now (store .entry)) at) q poses ⌝ }
 {
     let mut x = search_lanes::NONE;
@@ -94,7 +106,8 @@ fn least_poses(store: &[u32], row: &[u32], at: usize, q: usize, k: usize, poses:
 // The same, if its cell can be the last.
 fn least_state(store: &[u32], row: &[u32], sizes: Sizes, at: usize, q: usize) -> u32
     requires { ⌜ Ground (now row) sizes × Low (now store) × (at + 768 ≤ length (now store)) × (q < sizes .states) ⌝ }
-    ensures { λ x. ⌜ x ≡ leastState (deckIn (now (row .entry)) sizes) (sizes .reordering) (thinIn (now (store .entry)) at) q ⌝ }
+    ensures { λ x. ⌜ x
+        ≡ leastState (deckIn (now (row .entry)) sizes) (sizes .reordering) (thinIn (now (store .entry)) at) q ⌝ }
 {
     if !search_row::is_there(row, sizes, sizes.cells, q) {
         return search_lanes::NONE;
@@ -109,7 +122,8 @@ fn least_state(store: &[u32], row: &[u32], sizes: Sizes, at: usize, q: usize) ->
 // The least of all states.
 fn least_states(store: &[u32], row: &[u32], sizes: Sizes, at: usize) -> u32
     requires { ⌜ Ground (now row) sizes × Low (now store) × (at + 768 ≤ length (now store)) ⌝ }
-    ensures { λ x. ⌜ x ≡ leastStates (deckIn (now (row .entry)) sizes) (sizes .reordering) (thinIn (now (store .entry)) at) (sizes .states) ⌝ }
+    ensures { λ x. ⌜ x ≡ leastStates (deckIn (now (row .entry)) sizes) (sizes .reordering)
+        (thinIn (now (store .entry)) at) (sizes .states) ⌝ }
 {
     let mut x = search_lanes::NONE;
     let mut q: usize = 0;
@@ -122,8 +136,10 @@ fn least_states(store: &[u32], row: &[u32], sizes: Sizes, at: usize) -> u32
 
 // The cost from the row's start to its end, to the word at `costs`; nothing is paid where there is no cell.
 pub fn open_end(store: &mut [u32], row: &[u32], sizes: Sizes, costs: usize)
-    requires { ⌜ Ground (now row) sizes × OpenRoom (now store) (sizes .reordering) (sizes .poses) (sizes .states) costs ⌝ }
-    ensures { λ _. ⌜ Opened (endCost (deckIn (now (row .entry)) sizes) (sizes .reordering)) 1 1 costs (now (store .entry)) (now (store .exit)) ⌝ }
+    requires { ⌜ Ground (now row) sizes
+        × OpenRoom (now store) (sizes .reordering) (sizes .poses) (sizes .states) costs ⌝ }
+    ensures { λ _. ⌜ Opened (endCost (deckIn (now (row .entry)) sizes) (sizes .reordering)) 1 1 costs
+        (now (store .entry)) (now (store .exit)) ⌝ }
 {
     if sizes.cells == 0 {
         store[costs] = 0;

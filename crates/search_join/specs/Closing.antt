@@ -15,7 +15,8 @@ use Rattle.search_join.specs.Tables.{casesIn, pointersIn, OneState, Stat
 use Rattle.search_join.specs.Parts.{last}
 
 -- a word that is none of those written is as it was
-written-away : {f : ℕ → ℕ} {at n : ℕ} {old new : List ℕ} (k : ℕ) → Written f at n old new → ((j : ℕ) → j < n → k ≡ at + j → ⊥)
+written-away : {f : ℕ → ℕ} {at n : ℕ} {old new : List ℕ} (k : ℕ) → Written f at n old new
+    → ((j : ℕ) → j < n → k ≡ at + j → ⊥)
     → getD new k 0 ≡ getD old k 0
 written-away {at = at} {n} {old} {new} k w away = go (decLt k at) (decLt k (at + n))
   where
@@ -26,7 +27,8 @@ written-away {at = at} {n} {old} {new} k w away = go (decLt k at) (decLt k (at +
 
 module _ (I low high : ℕ) where
   -- no state
-  pub closed-none : {P : ℕ → ℕ → Type 0} {st : List ℕ} → Low st → ((q₀ q₁ : ℕ) → P q₀ q₁ → ⊥) → Closed I low high P st st
+  pub closed-none : {P : ℕ → ℕ → Type 0} {st : List ℕ} → Low st → ((q₀ q₁ : ℕ) → P q₀ q₁ → ⊥)
+      → Closed I low high P st st
   closed-none w away =
       record {
         long = refl;
@@ -36,7 +38,8 @@ module _ (I low high : ℕ) where
       }
 
   -- one state
-  pub closed-one : (p₀ p₁ at : ℕ) {old new : List ℕ} → I ≤ 25 → p₀ < 12 → p₁ < 12 → low ≤ high → high ≤ 64 → at ≡ caseAt I p₀ p₁
+  pub closed-one : (p₀ p₁ at : ℕ) {old new : List ℕ} → I ≤ 25 → p₀ < 12 → p₁ < 12 → low ≤ high → high ≤ 64
+      → at ≡ caseAt I p₀ p₁
       → Written (always B) (at + low) (high - low) old new → Closed I low high (OneState p₀ p₁) old new
   unfolding casesIn pointersIn
   closed-one p₀ p₁ at {new = new} b h g m n e w =
@@ -49,7 +52,8 @@ module _ (I low high : ℕ) where
                   (λ j k d.
                   let i = case-one J q₀ q₁ a I p₀ p₁ (low + j) s (b, h, g, omega arith) (omega arith) in
                   away (i .0) (i .1, i .2) (omega (arith, i .3)));
-              source = written-away _ w (λ j k d. case-pointer I p₀ p₁ (low + j) J q₀ q₁ a (b, h, g, omega arith) s (omega arith));
+              source = written-away _ w
+                  (λ j k d. case-pointer I p₀ p₁ (low + j) J q₀ q₁ a (b, h, g, omega arith) s (omega arith));
             };
         none = λ q₀ q₁ l p i j.
             ap (λ (k : ℕ). getD new k 0) (omega arith) ∙ w .words (l - low) (omega arith);
@@ -74,14 +78,16 @@ module _ (I low high : ℕ) where
             none = λ q₀ q₁ l r h g.
                 let i = room q₀ q₁ r in
                 ⊎-elim
-                (λ d. q .kept I q₀ q₁ l (b, i .0, i .1, omega arith) (λ e k. absurd (d .1 k)) .case ∙ p .none q₀ q₁ l (d .0) h g)
+                (λ d. q .kept I q₀ q₁ l (b, i .0, i .1, omega arith) (λ e k. absurd (d .1 k)) .case
+                ∙ p .none q₀ q₁ l (d .0) h g)
                 (λ d. q .none q₀ q₁ l d h g)
                 (either q₀ q₁ r);
           }
 
   -- one state of row 1 more
   pub closed-more : (p₀ m : ℕ) {x y z : List ℕ} → I ≤ 25 → high ≤ 64 → p₀ < 12 → m < 12
-      → Closed I low high (StateWith p₀ m) x y → Closed I low high (OneState p₀ m) y z → Closed I low high (StateWith p₀ (m + 1)) x z
+      → Closed I low high (StateWith p₀ m) x y → Closed I low high (OneState p₀ m) y z
+      → Closed I low high (StateWith p₀ (m + 1)) x z
   closed-more p₀ m b n h g =
       closed-then (StateWith p₀ m) (OneState p₀ m) (StateWith p₀ (m + 1)) b n
       (λ q₀ q₁ r. (omega arith, omega arith))
@@ -91,7 +97,8 @@ module _ (I low high : ℕ) where
 
   -- one state of row 0 more
   pub closed-next : (k m : ℕ) {x y z : List ℕ} → I ≤ 25 → high ≤ 64 → k < 12 → m ≤ 12
-      → Closed I low high (AllStates k m) x y → Closed I low high (StateWith k m) y z → Closed I low high (AllStates (k + 1) m) x z
+      → Closed I low high (AllStates k m) x y → Closed I low high (StateWith k m) y z
+      → Closed I low high (AllStates (k + 1) m) x z
   closed-next k m b n h g =
       closed-then (AllStates k m) (StateWith k m) (AllStates (k + 1) m) b n
       (λ q₀ q₁ r. (omega arith, omega arith))

@@ -1,5 +1,5 @@
--- Laws of loops that keep the least: one round more, where the least is, the least of costs that are equal below B; and when a number is the least of all ways to
--- a case.
+-- Laws of loops that keep the least: one round more, where the least is, the least of costs that are equal below B; and
+-- when a number is the least of all ways to a case.
 use Prim.Native.Nat.{ℕ, zero, suc, _+_, _/_, _%_, _≤_, _<_, min}
 use mathlib.Core.Path.{_≡_, refl, sym, _∙_}
 use mathlib.Core.Logic.{⊎-elim}
@@ -25,7 +25,8 @@ pub lowest-more : (h : ℕ → ℕ) (n : ℕ) → lowest B h (from 0 (n + 1)) �
 lowest-more h n = let e : n + 1 ≡ suc n = omega arith in rw e (lowest-suc h n)
 
 -- the least of costs that are equal below B
-pub lowest-same : (h g : ℕ → ℕ) (n : ℕ) → ((k : ℕ) → k < n → min (h k) B ≡ min (g k) B) → lowest B h (from 0 n) ≡ lowest B g (from 0 n)
+pub lowest-same : (h g : ℕ → ℕ) (n : ℕ) → ((k : ℕ) → k < n → min (h k) B ≡ min (g k) B)
+    → lowest B h (from 0 n) ≡ lowest B g (from 0 n)
 lowest-same h g zero e = lowest-zero h ∙ sym (lowest-zero g)
 lowest-same h g (suc n) e =
     let r = lowest-same h g n (λ k l. e k (omega arith)) in
@@ -36,7 +37,8 @@ pub lowest-at : (h : ℕ → ℕ) (n : ℕ) → lowest B h (from 0 n) < B → (k
 lowest-at h zero l = absurd (omega (arith, lowest-zero h))
 lowest-at h (suc n) l = go (decLt (h n) (lowest B h (from 0 n))) (lowest-at h n)
   where
-    go : Dec (h n < lowest B h (from 0 n)) → (lowest B h (from 0 n) < B → (k : ℕ) × (k < n) × (h k ≡ lowest B h (from 0 n)))
+    go : Dec (h n < lowest B h (from 0 n))
+        → (lowest B h (from 0 n) < B → (k : ℕ) × (k < n) × (h k ≡ lowest B h (from 0 n)))
         → (k : ℕ) × (k < suc n) × (h k ≡ lowest B h (from 0 (suc n)))
     go (yes d) f = (n, omega arith, omega (arith, lowest-suc h n))
     go (no d) f = let r = f (omega (arith, lowest-suc h n)) in (r .0, omega arith, omega (arith, r .2, lowest-suc h n))
@@ -61,7 +63,8 @@ least-more h n p q b =
     }
 
 -- a least that is not B is found
-pub least-met : {least value code : ℕ} {W : ℕ → ℕ → Type 0} → least ≤ B → Least least W value code → (value ≡ B → ⊥) → W value code × (value < B)
+pub least-met : {least value code : ℕ} {W : ℕ → ℕ → Type 0} → least ≤ B → Least least W value code → (value ≡ B → ⊥)
+    → W value code × (value < B)
 least-met {value = value} b w h = let l : value < B = omega (arith, w .right, h) in (w .found l, l)
 
 -- ---- the least of all ways to a case
@@ -75,7 +78,8 @@ module _ (starts lanes : ℕ) (f : Cases) (x₀ x₁ : SegmentCosts) (q₀ q₁ 
   unfolding nextCases
   next-low = lowest-low B _ (from 0 starts)
 
-  pub next-below : (s t l : ℕ) → s < starts → t < starts → l < lanes → nextCases starts lanes f x₀ x₁ q₀ q₁ a ≤ cost s t l
+  pub next-below : (s t l : ℕ) → s < starts → t < starts → l < lanes
+      → nextCases starts lanes f x₀ x₁ q₀ q₁ a ≤ cost s t l
   unfolding nextCases joinPose
   next-below s t l h g k =
       omega (
@@ -85,10 +89,12 @@ module _ (starts lanes : ℕ) (f : Cases) (x₀ x₁ : SegmentCosts) (q₀ q₁ 
         loop-member B (cost s t) lanes l k,
       )
 
-  pub next-above : (v : ℕ) → v ≤ B → ((s t l : ℕ) → s < starts → t < starts → l < lanes → v ≤ cost s t l) → v ≤ nextCases starts lanes f x₀ x₁ q₀ q₁ a
+  pub next-above : (v : ℕ) → v ≤ B → ((s t l : ℕ) → s < starts → t < starts → l < lanes → v ≤ cost s t l)
+      → v ≤ nextCases starts lanes f x₀ x₁ q₀ q₁ a
   unfolding nextCases joinPose
   next-above v b all =
-      loop-above B _ starts v b (λ s h. loop-above B _ starts v b (λ t g. loop-above B _ lanes v b (λ l k. all s t l h g k)))
+      loop-above B _ starts v b
+      (λ s h. loop-above B _ starts v b (λ t g. loop-above B _ lanes v b (λ l k. all s t l h g k)))
 
   -- a number that is at most every cost, and is one of them if it is below B, is the least
   pub next-is : (v : ℕ) {code : ℕ} → v ≤ B → ((s t l : ℕ) → s < starts → t < starts → l < lanes → v ≤ cost s t l)
@@ -99,20 +105,32 @@ module _ (starts lanes : ℕ) (f : Cases) (x₀ x₁ : SegmentCosts) (q₀ q₁ 
       go : Dec (v < B) → v ≡ nextCases starts lanes f x₀ x₁ q₀ q₁ a
       go (yes h) =
           let w = met h in
-          omega (arith, next-above v b all, w .sum, next-below (code / 768) (code % 768 / 64) (code % 64) (w .state₀) (w .state₁) (w .lane))
+          omega (
+            arith,
+            next-above v b all,
+            w .sum,
+            next-below (code / 768) (code % 768 / 64) (code % 64) (w .state₀) (w .state₁) (w .lane),
+          )
       go (no h) = omega (arith, next-above v b all, next-low)
 
 -- lanes in which no case is below B do not count: the least over more lanes is the least over the poses
 module _ (starts lanes poses : ℕ) (f : Cases) (x₀ x₁ : SegmentCosts) (q₀ q₁ a : ℕ)
     (more : poses ≤ lanes) (none : (s t l : ℕ) → s < starts → t < starts → poses ≤ l → l < lanes → B ≤ f s t l) where
-  way-open : {value code : ℕ} → value < B → Way starts lanes f x₀ x₁ q₀ q₁ a value code → Way starts poses f x₀ x₁ q₀ q₁ a value code
-  way-open {code = code} b w = record { state₀ = w .state₀; state₁ = w .state₁; lane = go (decLt (code % 64) poses); sum = w .sum }
+  way-open : {value code : ℕ} → value < B → Way starts lanes f x₀ x₁ q₀ q₁ a value code
+      → Way starts poses f x₀ x₁ q₀ q₁ a value code
+  way-open {code = code} b w =
+      record { state₀ = w .state₀; state₁ = w .state₁; lane = go (decLt (code % 64) poses); sum = w .sum }
     where
       go : Dec (code % 64 < poses) → code % 64 < poses
       go (yes h) = h
-      go (no h) = absurd (omega (arith, w .sum, none (code / 768) (code % 768 / 64) (code % 64) (w .state₀) (w .state₁) (omega arith) (w .lane)))
+      go (no h) = absurd (omega (
+        arith,
+        w .sum,
+        none (code / 768) (code % 768 / 64) (code % 64) (w .state₀) (w .state₁) (omega arith) (w .lane),
+      ))
 
-  pub least-open : {value code : ℕ} → Least (nextCases starts lanes f x₀ x₁ q₀ q₁ a) (Way starts lanes f x₀ x₁ q₀ q₁ a) value code
+  pub least-open : {value code : ℕ}
+      → Least (nextCases starts lanes f x₀ x₁ q₀ q₁ a) (Way starts lanes f x₀ x₁ q₀ q₁ a) value code
       → Least (nextCases starts poses f x₀ x₁ q₀ q₁ a) (Way starts poses f x₀ x₁ q₀ q₁ a) value code
   least-open {value} w =
       next-is starts poses f x₀ x₁ q₀ q₁ a value

@@ -43,9 +43,11 @@ module _ (starts lanes : ℕ) (f g : Cases) (x₀ x₁ y₀ y₁ : SegmentCosts)
   unfolding nextCases joinPose
   next-ext =
       let cap : (x y : ℕ) → x ≡ y → min x B ≡ min y B = λ x y e. ap (λ (x : ℕ). min x B) e in
-      lowest-same _ _ starts (λ s h. cap _ _ (lowest-same _ _ starts (λ t g. cap _ _ (lowest-same _ _ lanes (λ l k. same s t l h g k)))))
+      lowest-same _ _ starts
+      (λ s h. cap _ _ (lowest-same _ _ starts (λ t g. cap _ _ (lowest-same _ _ lanes (λ l k. same s t l h g k)))))
 
-  pub way-ext : {value code : ℕ} → value < B → Way starts lanes f x₀ x₁ q₀ q₁ a value code → Way starts lanes g y₀ y₁ q₀ q₁ a value code
+  pub way-ext : {value code : ℕ} → value < B → Way starts lanes f x₀ x₁ q₀ q₁ a value code
+      → Way starts lanes g y₀ y₁ q₀ q₁ a value code
   way-ext {code = code} b w =
       record {
         state₀ = w .state₀;
@@ -54,7 +56,8 @@ module _ (starts lanes : ℕ) (f g : Cases) (x₀ x₁ y₀ y₁ : SegmentCosts)
         sum = omega (arith, w .sum, same (code / 768) (code % 768 / 64) (code % 64) (w .state₀) (w .state₁) (w .lane));
       }
 
-  pub least-ext : {value code : ℕ} → Least (nextCases starts lanes f x₀ x₁ q₀ q₁ a) (Way starts lanes f x₀ x₁ q₀ q₁ a) value code
+  pub least-ext : {value code : ℕ}
+      → Least (nextCases starts lanes f x₀ x₁ q₀ q₁ a) (Way starts lanes f x₀ x₁ q₀ q₁ a) value code
       → Least (nextCases starts lanes g y₀ y₁ q₀ q₁ a) (Way starts lanes g y₀ y₁ q₀ q₁ a) value code
   least-ext w = record { right = w .right ∙ next-ext; found = λ h. way-ext h (w .found h); small = w .small }
 
@@ -70,33 +73,51 @@ last k n h = go (decLt k n)
 
 module _ (starts lanes I : ℕ) where
   -- what a part leaves as it was, if its cases are in the map
-  module _ (P : ℕ → ℕ → ℕ → Type 0) {x y : List ℕ} (b : I ≤ 24) (room : (q₀ q₁ a : ℕ) → P q₀ q₁ a → (q₀ < 12) × (q₁ < 12) × (a < 64)) (p : Part starts lanes I P x y) where
+  module _ (P : ℕ → ℕ → ℕ → Type 0) {x y : List ℕ} (b : I ≤ 24)
+      (room : (q₀ q₁ a : ℕ) → P q₀ q₁ a → (q₀ < 12) × (q₁ < 12) × (a < 64)) (p : Part starts lanes I P x y) where
     pub kept-case : (J q₀ q₁ a : ℕ) → Slot J q₀ q₁ a → (J ≡ suc I → P q₀ q₁ a → ⊥) → SameCase J q₀ q₁ a x y
     unfolding casesIn pointersIn
     kept-case j q₀ q₁ a h away =
         record {
-          case = p .kept _ (λ p₀ p₁ c r. (λ e. same p₀ p₁ c r e, λ e. case-pointer j q₀ q₁ a (suc I) p₀ p₁ c h (slot p₀ p₁ c r) e));
-          source = p .kept _ (λ p₀ p₁ c r. (λ e. case-pointer (suc I) p₀ p₁ c j q₀ q₁ a (slot p₀ p₁ c r) h (sym e), λ e. same p₀ p₁ c r (omega arith)));
+          case = p .kept _
+              (λ p₀ p₁ c r. (λ e. same p₀ p₁ c r e, λ e. case-pointer j q₀ q₁ a (suc I) p₀ p₁ c h (slot p₀ p₁ c r) e));
+          source = p .kept _ (λ p₀ p₁ c r. (
+            λ e. case-pointer (suc I) p₀ p₁ c j q₀ q₁ a (slot p₀ p₁ c r) h (sym e),
+            λ e. same p₀ p₁ c r (omega arith),
+          ));
         }
       where
         slot : (p₀ p₁ c : ℕ) → P p₀ p₁ c → Slot (suc I) p₀ p₁ c
         slot p₀ p₁ c r = let i = room p₀ p₁ c r in (omega arith, i .0, i .1, i .2)
 
         same : (p₀ p₁ c : ℕ) → P p₀ p₁ c → caseAt j q₀ q₁ + a ≡ caseAt (suc I) p₀ p₁ + c → ⊥
-        same p₀ p₁ c r e = let d = case-one j q₀ q₁ a (suc I) p₀ p₁ c h (slot p₀ p₁ c r) e in away (d .0) (rw (d .1, d .2, d .3) r)
+        same p₀ p₁ c r e =
+            let d = case-one j q₀ q₁ a (suc I) p₀ p₁ c h (slot p₀ p₁ c r) e in
+            away (d .0) (rw (d .1, d .2, d .3) r)
 
-    pub kept-cost : (row s l q a : ℕ) → row ≤ 1 → l < 64 → q < 12 → a < 64 → costsIn y row s l q a ≡ costsIn x row s l q a
+    pub kept-cost : (row s l q a : ℕ) → row ≤ 1 → l < 64 → q < 12 → a < 64
+        → costsIn y row s l q a ≡ costsIn x row s l q a
     unfolding costsIn
     kept-cost row s l q a h k i g =
         p .kept _
         (λ p₀ p₁ c r.
         let m = room p₀ p₁ c r in
-        let w = case-beside row s (suc I) p₀ p₁ c h (omega arith, m .0, m .1, m .2) in
-        (λ e. ⊎-elim (λ z. omega arith) (λ z. omega arith) (w .0), λ e. ⊎-elim (λ z. omega arith) (λ z. omega arith) (w .1)))
+        let w = case-beside row s (suc I) p₀ p₁ c h (omega arith, m .0, m .1, m .2) in (
+          λ e. ⊎-elim (λ z. omega arith) (λ z. omega arith) (w .0),
+          λ e. ⊎-elim (λ z. omega arith) (λ z. omega arith) (w .1),
+        ))
 
   -- what is read is as before
-  pub table-part : {P : ℕ → ℕ → ℕ → Type 0} {x y : List ℕ} → Table starts lanes I x → Part starts lanes I P x y → Table starts lanes I y
-  table-part t p = record { states = t .states; few = t .few; stage = t .stage; long = omega (arith, t .long, p .long); low = p .low }
+  pub table-part : {P : ℕ → ℕ → ℕ → Type 0} {x y : List ℕ} → Table starts lanes I x → Part starts lanes I P x y
+      → Table starts lanes I y
+  table-part t p = record {
+    states = t .states;
+    few = t .few;
+    stage = t .stage;
+    long =
+        omega (arith, t .long, p .long);
+    low = p .low;
+  }
 
   pub summed-part : (P : ℕ → ℕ → ℕ → Type 0) {x y sums : List ℕ} {live : Bool} (q₀ a : ℕ) → Table starts lanes I x
       → ((q₀ q₁ a : ℕ) → P q₀ q₁ a → (q₀ < 12) × (q₁ < 12) × (a < 64)) → Part starts lanes I P x y → q₀ < 12 → a < 64
@@ -115,7 +136,8 @@ module _ (starts lanes I : ℕ) where
       ))
 
   -- no case
-  pub part-none : {P : ℕ → ℕ → ℕ → Type 0} {st : List ℕ} → Low st → ((q₀ q₁ a : ℕ) → P q₀ q₁ a → ⊥) → Part starts lanes I P st st
+  pub part-none : {P : ℕ → ℕ → ℕ → Type 0} {st : List ℕ} → Low st → ((q₀ q₁ a : ℕ) → P q₀ q₁ a → ⊥)
+      → Part starts lanes I P st st
   part-none w none =
       record { long = refl; low = w; kept = λ k h. refl; done = λ q₀ q₁ a h. absurd (none q₀ q₁ a h) }
 
@@ -131,20 +153,25 @@ module _ (starts lanes I : ℕ) where
           let b : I ≤ 24 = t .stage in
           let u = t .states in
           let v = t .few in
-          let roomP : (q₀ q₁ a : ℕ) → P q₀ q₁ a → (q₀ < 12) × (q₁ < 12) × (a < 64) = λ q₀ q₁ a m. room q₀ q₁ a (first q₀ q₁ a m) in
-          let roomQ : (q₀ q₁ a : ℕ) → Q q₀ q₁ a → (q₀ < 12) × (q₁ < 12) × (a < 64) = λ q₀ q₁ a m. room q₀ q₁ a (second q₀ q₁ a m) in
+          let roomP : (q₀ q₁ a : ℕ) → P q₀ q₁ a → (q₀ < 12) × (q₁ < 12) × (a < 64) =
+          λ q₀ q₁ a m. room q₀ q₁ a (first q₀ q₁ a m) in
+          let roomQ : (q₀ q₁ a : ℕ) → Q q₀ q₁ a → (q₀ < 12) × (q₁ < 12) × (a < 64) =
+          λ q₀ q₁ a m. room q₀ q₁ a (second q₀ q₁ a m) in
           record {
             long = q .long ∙ p .long;
             low = q .low;
-            kept = λ k n. q .kept k (λ q₀ q₁ a m. n q₀ q₁ a (second q₀ q₁ a m)) ∙ p .kept k (λ q₀ q₁ a m. n q₀ q₁ a (first q₀ q₁ a m));
+            kept = λ k n. q .kept k (λ q₀ q₁ a m. n q₀ q₁ a (second q₀ q₁ a m))
+                ∙ p .kept k (λ q₀ q₁ a m. n q₀ q₁ a (first q₀ q₁ a m));
             done = λ q₀ q₁ a r.
                 let i = room q₀ q₁ a r in
                 ⊎-elim
-                (λ m. let e = kept-case Q b roomQ q (suc I) q₀ q₁ a (omega arith, i .0, i .1, i .2) (λ e. m .1) in rw (e .case, e .source) (p .done q₀ q₁ a (m .0)))
+                (λ m. let e = kept-case Q b roomQ q (suc I) q₀ q₁ a (omega arith, i .0, i .1, i .2) (λ e. m .1) in
+                rw (e .case, e .source) (p .done q₀ q₁ a (m .0)))
                 (λ m.
                 least-ext starts lanes _ _ _ _ _ _ q₀ q₁ a
                 (λ s t l h g k.
-                let c = kept-case P b roomP p I s t l (omega arith, omega arith, omega arith, omega arith) (λ e. omega arith) .case in
+                let c = kept-case P b roomP p I s t l (omega arith, omega arith, omega arith, omega arith)
+                (λ e. omega arith) .case in
                 let d = kept-cost P b roomP p 0 s l q₀ a (omega arith) (omega arith) (i .0) (i .2) in
                 let e = kept-cost P b roomP p 1 t l q₁ a (omega arith) (omega arith) (i .1) (i .2) in
                 rw (c, d, e) refl)
@@ -154,7 +181,8 @@ module _ (starts lanes I : ℕ) where
 
   -- one case, with its source
   pub part-put : (p₀ p₁ b at to v c : ℕ) (st : List ℕ)
-      → Table starts lanes I st → Pages (p₀ + 1) st → p₀ < 12 → p₁ < 12 → b < 64 → at ≡ caseAt (suc I) p₀ p₁ + b → to ≡ pointerAt (suc I) p₀ p₁ + b
+      → Table starts lanes I st → Pages (p₀ + 1) st → p₀ < 12 → p₁ < 12 → b < 64 → at ≡ caseAt (suc I) p₀ p₁ + b
+      → to ≡ pointerAt (suc I) p₀ p₁ + b
       → Least (nextIn starts lanes I st p₀ p₁ b) (WayIn starts lanes I st p₀ p₁ b) v c
       → Part starts lanes I (OneCase p₀ p₁ b) st (set (set st at v) to c)
   unfolding casesIn pointersIn
@@ -165,19 +193,23 @@ module _ (starts lanes I : ℕ) where
       let long = case-room (suc I) p₀ p₁ b st (omega arith, f, h, g) p in
       record {
         long = length-set y to c ∙ n;
-        low = low-set to c (low-set at v (t .low) (omega arith) (omega (arith, w .right, next-low starts lanes (casesIn st I) (costsIn st 0) (costsIn st 1) p₀ p₁ b))) (omega arith) (omega (arith, w .small));
+        low = low-set to c (low-set at v (t .low) (omega arith)
+            (omega (arith, w .right, next-low starts lanes (casesIn st I) (costsIn st 0) (costsIn st 1) p₀ p₁ b)))
+            (omega arith) (omega (arith, w .small));
         kept = λ k away.
             let u = away p₀ p₁ b (refl, refl, refl) in
             getD-set-other y to k c 0 (λ z. u .1 (z ∙ d)) ∙ getD-set-other st at k v 0 (λ z. u .0 (z ∙ e));
         done = λ q₀ q₁ a m.
-            let d₀ : getD (set y to c) at 0 ≡ v = getD-set-other y to at c 0 (omega arith) ∙ getD-set-same st at v 0 (omega arith) in
+            let d₀ : getD (set y to c) at 0 ≡ v = getD-set-other y to at c 0 (omega arith)
+            ∙ getD-set-same st at v 0 (omega arith) in
             let d₁ : getD (set y to c) to 0 ≡ c = getD-set-same y to c 0 (omega arith) in
             rw (m .0, m .1, m .2, sym e, sym d, d₀, d₁) w;
       }
 
   -- one state of row 1 more
   pub pose-more : (p₀ m b : ℕ) {x y z : List ℕ} → Table starts lanes I x → p₀ < 12 → m < 12 → b < 64
-      → Part starts lanes I (PoseCases p₀ m b) x y → Part starts lanes I (OneCase p₀ m b) y z → Part starts lanes I (PoseCases p₀ (m + 1) b) x z
+      → Part starts lanes I (PoseCases p₀ m b) x y → Part starts lanes I (OneCase p₀ m b) y z
+      → Part starts lanes I (PoseCases p₀ (m + 1) b) x z
   pose-more p₀ m b t h g k =
       part-then (PoseCases p₀ m b) (OneCase p₀ m b) (PoseCases p₀ (m + 1) b) t
       (λ q₀ q₁ a r. (omega arith, omega arith, omega arith))
@@ -187,7 +219,8 @@ module _ (starts lanes I : ℕ) where
 
   -- one pose more
   pub block-more : (p₀ m n : ℕ) {x y z : List ℕ} → Table starts lanes I x → p₀ < 12 → m ≤ 12 → n < 64
-      → Part starts lanes I (BlockCases p₀ m n) x y → Part starts lanes I (PoseCases p₀ m n) y z → Part starts lanes I (BlockCases p₀ m (n + 1)) x z
+      → Part starts lanes I (BlockCases p₀ m n) x y → Part starts lanes I (PoseCases p₀ m n) y z
+      → Part starts lanes I (BlockCases p₀ m (n + 1)) x z
   block-more p₀ m n t h g k =
       part-then (BlockCases p₀ m n) (PoseCases p₀ m n) (BlockCases p₀ m (n + 1)) t
       (λ q₀ q₁ a r. (omega arith, omega arith, omega arith))
@@ -197,7 +230,8 @@ module _ (starts lanes I : ℕ) where
 
   -- one state of row 0 more
   pub stage-more : (k m n : ℕ) {x y z : List ℕ} → Table starts lanes I x → k < 12 → m ≤ 12 → n ≤ 64
-      → Part starts lanes I (StageCases k m n) x y → Part starts lanes I (BlockCases k m n) y z → Part starts lanes I (StageCases (k + 1) m n) x z
+      → Part starts lanes I (StageCases k m n) x y → Part starts lanes I (BlockCases k m n) y z
+      → Part starts lanes I (StageCases (k + 1) m n) x z
   stage-more k m n t h g j =
       part-then (StageCases k m n) (BlockCases k m n) (StageCases (k + 1) m n) t
       (λ q₀ q₁ a r. (omega arith, omega arith, omega arith))
@@ -206,12 +240,14 @@ module _ (starts lanes I : ℕ) where
       (λ q₀ q₁ a d. (omega arith, d .1, d .2))
 
   -- all of it
-  pub part-joined : {ends poses : ℕ} {x y : List ℕ} → I ≤ 24 → ends ≤ 12 → poses ≤ 64 → Part starts lanes I (StageCases ends ends poses) x y
+  pub part-joined : {ends poses : ℕ} {x y : List ℕ} → I ≤ 24 → ends ≤ 12 → poses ≤ 64
+      → Part starts lanes I (StageCases ends ends poses) x y
       → Joined starts lanes ends poses I x y
   part-joined {ends} {poses} b h g p =
       record {
         long = p .long;
         low = p .low;
-        tables = λ j q₀ q₁ a n m. kept-case (StageCases ends ends poses) b (λ q₀ q₁ a r. (omega arith, omega arith, omega arith)) p j q₀ q₁ a m (λ e r. n e);
+        tables = λ j q₀ q₁ a n m. kept-case (StageCases ends ends poses) b
+            (λ q₀ q₁ a r. (omega arith, omega arith, omega arith)) p j q₀ q₁ a m (λ e r. n e);
         done = λ q₀ q₁ a h g k. p .done q₀ q₁ a (h, g, k);
       }

@@ -20,7 +20,8 @@ use Rattle.search_join.specs.Sums.{startSum, laneSum, endSum, Room, Sums
 use Rattle.search_join.specs.Laws.{lowest-zero, lowest-more, lowest-same, lowest-at, next-is}
 
 -- the costs are there for other lanes, whatever the table
-pub table-for : {starts lanes I : ℕ} {st : List ℕ} (l i : ℕ) → Table starts lanes I st → l ≤ 64 → i ≤ 24 → Table starts l i st
+pub table-for : {starts lanes I : ℕ} {st : List ℕ} (l i : ℕ) → Table starts lanes I st → l ≤ 64 → i ≤ 24
+    → Table starts l i st
 table-for l i t h g = record { states = t .states; few = h; stage = g; long = t .long; low = t .low }
 
 -- ---- the words of a sum
@@ -31,13 +32,19 @@ pub start-words : (I : ℕ) (st : List ℕ) (q₀ a s t l at p₀ : ℕ)
 unfolding startSum casesIn costsIn
 start-words I st q₀ a s t l at p₀ e d =
     let w : (i j : ℕ) → i ≡ j → getD st i 0 ≡ getD st j 0 = λ i j h. ap (λ (k : ℕ). getD st k 0) h in
-    omega (arith, w (at + l) (caseAt I s t + l) (omega arith), w (p₀ + l) (costsAt 0 s + q₀ * stateBlock + a * 64 + l) (omega arith))
+    omega (
+      arith,
+      w (at + l) (caseAt I s t + l) (omega arith),
+      w (p₀ + l) (costsAt 0 s + q₀ * stateBlock + a * 64 + l) (omega arith),
+    )
 
 -- a start state without any way to q₀ in pose a
-pub start-none : (I : ℕ) (st : List ℕ) (q₀ a s t l p₀ : ℕ) → p₀ ≡ costsAt 0 s + q₀ * stateBlock + a * 64 → B ≤ getD st (p₀ + l) 0 → B ≤ startSum I st q₀ a t l s
+pub start-none : (I : ℕ) (st : List ℕ) (q₀ a s t l p₀ : ℕ) → p₀ ≡ costsAt 0 s + q₀ * stateBlock + a * 64
+    → B ≤ getD st (p₀ + l) 0 → B ≤ startSum I st q₀ a t l s
 unfolding startSum casesIn costsIn
 start-none I st q₀ a s t l p₀ e h =
-    let w : getD st (p₀ + l) 0 ≡ getD st (costsAt 0 s + q₀ * stateBlock + a * 64 + l) 0 = ap (λ (k : ℕ). getD st k 0) (omega arith) in
+    let w : getD st (p₀ + l) 0 ≡ getD st (costsAt 0 s + q₀ * stateBlock + a * 64 + l) 0 =
+    ap (λ (k : ℕ). getD st k 0) (omega arith) in
     omega arith
 
 -- ---- the sums, one after the other
@@ -45,10 +52,16 @@ start-none I st q₀ a s t l p₀ e h =
 module _ (starts lanes I : ℕ) (st : List ℕ) (q₀ a : ℕ) where
   -- over no start state at all
   pub sums-none : {sums : List ℕ} → Room sums → Nones starts lanes sums → Sums starts lanes I st q₀ a 0 0 sums
-  sums-none r w = record { room = r; upTo = λ t l h g k. absurd (omega arith); before = λ t l h g k. w t l h g ∙ sym (lowest-zero _) }
+  sums-none r w = record {
+    room = r;
+    upTo = λ t l h g k. absurd (omega arith);
+    before = λ t l h g k. w t l h g
+        ∙ sym (lowest-zero _);
+  }
 
   -- one lane more of state t
-  pub sums-lane : {sums : List ℕ} (s t l v : ℕ) → Sums starts lanes I st q₀ a s (t * 64 + l) sums → starts ≤ 12 → lanes ≤ 64 → t < starts → l < lanes
+  pub sums-lane : {sums : List ℕ} (s t l v : ℕ) → Sums starts lanes I st q₀ a s (t * 64 + l) sums → starts ≤ 12
+      → lanes ≤ 64 → t < starts → l < lanes
       → v ≡ min (getD sums (t * 64 + l) 0) (startSum I st q₀ a t l s)
       → Sums starts lanes I st q₀ a s (t * 64 + (l + 1)) (set sums (t * 64 + l) v)
   sums-lane {sums} s t l v w b d h g e =
@@ -101,7 +114,8 @@ module _ (starts lanes I : ℕ) (st : List ℕ) (q₀ a : ℕ) where
       }
 
   -- one that has no way
-  pub sums-skip : {sums : List ℕ} (s : ℕ) → Sums starts lanes I st q₀ a s 0 sums → ((t l : ℕ) → l < lanes → B ≤ startSum I st q₀ a t l s)
+  pub sums-skip : {sums : List ℕ} (s : ℕ) → Sums starts lanes I st q₀ a s 0 sums
+      → ((t l : ℕ) → l < lanes → B ≤ startSum I st q₀ a t l s)
       → Sums starts lanes I st q₀ a (s + 1) 0 sums
   sums-skip s w none =
       record {
@@ -121,13 +135,15 @@ module _ (starts lanes I : ℕ) (st : List ℕ) (q₀ a : ℕ) where
         all = record {
           room = w .all .room;
           upTo = λ t l h g z. absurd (omega arith);
-          before = λ t l h g z. w .all .before t l h g z ∙ sym (lowest-same (startSum I new q₀ a t l) (startSum I st q₀ a t l) starts (λ s k. ap (λ (x : ℕ). min x B) (same s t l k h g)));
+          before = λ t l h g z. w .all .before t l h g z ∙ sym (lowest-same (startSum I new q₀ a t l)
+              (startSum I st q₀ a t l) starts (λ s k. ap (λ (x : ℕ). min x B) (same s t l k h g)));
         };
         dead = w .dead;
       }
 
 -- the sums of no start state are all NONE
-pub sums-filled : (starts lanes I : ℕ) (st : List ℕ) (q₀ a : ℕ) {n : ℕ} {old new : List ℕ} → Room old → Written (always B) 0 n old new → starts * 64 ≤ n → lanes ≤ 64
+pub sums-filled : (starts lanes I : ℕ) (st : List ℕ) (q₀ a : ℕ) {n : ℕ} {old new : List ℕ} → Room old
+    → Written (always B) 0 n old new → starts * 64 ≤ n → lanes ≤ 64
     → Sums starts lanes I st q₀ a 0 0 new × Nones starts lanes new
 sums-filled starts lanes I st q₀ a {new = new} r w h b =
     let nones : Nones starts lanes new =
@@ -137,7 +153,8 @@ sums-filled starts lanes I st q₀ a {new = new} r w h b =
 -- ---- a case from the sums
 
 -- the least over the lanes of state t, with t for its code
-pub end-met : (starts lanes : ℕ) (sums st : List ℕ) (q₁ a t p₁ : ℕ) {v : ℕ} → t < starts → starts ≤ 12 → p₁ ≡ costsAt 1 t + q₁ * stateBlock + a * 64
+pub end-met : (starts lanes : ℕ) (sums st : List ℕ) (q₁ a t p₁ : ℕ) {v : ℕ} → t < starts → starts ≤ 12
+    → p₁ ≡ costsAt 1 t + q₁ * stateBlock + a * 64
     → v ≡ lowest B (laneSum sums (t * 64) st p₁) (from 0 lanes)
     → Least (endSum lanes sums st q₁ a t) (MetAt (endSum lanes sums st q₁ a) starts) v t
 unfolding endSum
@@ -145,14 +162,16 @@ end-met starts lanes sums st q₁ a t p₁ h b e d =
     let r = rw e at d in
     record { right = r; found = λ l. (h, sym r); small = omega arith }
 
-module _ (starts lanes I : ℕ) (st : List ℕ) (q₀ q₁ a : ℕ) {sums : List ℕ} (w : Sums starts lanes I st q₀ a starts 0 sums) where
+module _ (starts lanes I : ℕ) (st : List ℕ) (q₀ q₁ a : ℕ) {sums : List ℕ}
+    (w : Sums starts lanes I st q₀ a starts 0 sums) where
   -- a sum is at most what it is the least of
   sum-below : (s t l : ℕ) → s < starts → t < starts → l < lanes → getD sums (t * 64 + l) 0 ≤ startSum I st q₀ a t l s
   sum-below s t l h g k =
       omega (arith, w .before t l g k (omega arith), loop-member B (startSum I st q₀ a t l) starts s h)
 
   -- there is no way at all
-  pub case-dead : Nones starts lanes sums → Least (nextIn starts lanes I st q₀ q₁ a) (WayIn starts lanes I st q₀ q₁ a) B 0
+  pub case-dead : Nones starts lanes sums
+      → Least (nextIn starts lanes I st q₀ q₁ a) (WayIn starts lanes I st q₀ q₁ a) B 0
   unfolding startSum
   case-dead none =
       next-is starts lanes _ _ _ q₀ q₁ a B (omega arith)
@@ -162,7 +181,8 @@ module _ (starts lanes I : ℕ) (st : List ℕ) (q₀ q₁ a : ℕ) {sums : List
 
   -- the least of the sums with row 1's costs is at most every way
   pub case-below : (v : ℕ) → v ≡ lowest B (endSum lanes sums st q₁ a) (from 0 starts)
-      → (s t l : ℕ) → s < starts → t < starts → l < lanes → v ≤ casesIn st I s t l + (costsIn st 0 s l q₀ a + costsIn st 1 t l q₁ a)
+      → (s t l : ℕ) → s < starts → t < starts → l < lanes
+      → v ≤ casesIn st I s t l + (costsIn st 0 s l q₀ a + costsIn st 1 t l q₁ a)
   unfolding startSum endSum laneSum costsIn
   case-below v e s t l h g k =
       omega (
@@ -173,7 +193,8 @@ module _ (starts lanes I : ℕ) (st : List ℕ) (q₀ q₁ a : ℕ) {sums : List
       )
 
   -- a lane that has the least of state t
-  pub lane-met : (v t p₁ lane : ℕ) → v < B → endSum lanes sums st q₁ a t ≡ v → p₁ ≡ costsAt 1 t + q₁ * stateBlock + a * 64
+  pub lane-met : (v t p₁ lane : ℕ) → v < B → endSum lanes sums st q₁ a t ≡ v
+      → p₁ ≡ costsAt 1 t + q₁ * stateBlock + a * 64
       → SumAt (laneSum sums (t * 64) st p₁) lanes v lane
       → (lane < lanes) × (v ≡ getD sums (t * 64 + lane) 0 + costsIn st 1 t lane q₁ a)
   unfolding endSum laneSum costsIn
@@ -184,7 +205,8 @@ module _ (starts lanes I : ℕ) (st : List ℕ) (q₀ q₁ a : ℕ) {sums : List
       (m .0, sym (rw d at (m .1)))
 
   -- with a start state that has the sum there, it is a way
-  pub case-way : (v s t lane : ℕ) → v < B → starts ≤ 12 → lanes ≤ 64 → t < starts → lane < lanes → v ≡ getD sums (t * 64 + lane) 0 + costsIn st 1 t lane q₁ a
+  pub case-way : (v s t lane : ℕ) → v < B → starts ≤ 12 → lanes ≤ 64 → t < starts → lane < lanes
+      → v ≡ getD sums (t * 64 + lane) 0 + costsIn st 1 t lane q₁ a
       → SumAt (startSum I st q₀ a t lane) starts (getD sums (t * 64 + lane) 0) s
       → WayIn starts lanes I st q₀ q₁ a v (s * 768 + t * 64 + lane) × (s < starts)
   unfolding startSum
@@ -196,5 +218,12 @@ module _ (starts lanes I : ℕ) (st : List ℕ) (q₀ q₁ a : ℕ) {sums : List
       let c = s * 768 + t * 64 + lane in
       let x : c / 768 ≡ s = omega arith in
       let y : c % 768 / 64 ≡ t = omega arith in
-      let l : c % 64 ≡ lane = omega arith in
-      (record { state₀ = omega arith; state₁ = omega arith; lane = omega arith; sum = rw (x, y, l) (omega (arith, m .1)) }, h)
+      let l : c % 64 ≡ lane = omega arith in (
+        record {
+          state₀ = omega arith;
+          state₁ = omega arith;
+          lane = omega arith;
+          sum = rw (x, y, l) (omega (arith, m .1));
+        },
+        h,
+      )

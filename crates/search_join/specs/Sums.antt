@@ -1,5 +1,5 @@
--- The sums of a state of row 0 in a pose, in an array beside the store: for each state t of row 1 and each lane the least over the start states
--- of row 0. A case is the least of them with the costs of row 1.
+-- The sums of a state of row 0 in a pose, in an array beside the store: for each state t of row 1 and each lane the
+-- least over the start states of row 0. A case is the least of them with the costs of row 1.
 use Prim.Native.Nat.{ℕ, _+_, _*_, _≤_, _<_}
 use mathlib.Core.Path.{_≡_}
 use mathlib.Core.Bool.{Bool, false}
@@ -21,7 +21,8 @@ unfoldable pub laneSum : List ℕ → ℕ → List ℕ → ℕ → ℕ → ℕ
 laneSum sums at st p₁ l = getD sums (at + l) 0 + getD st (p₁ + l) 0
 
 unfoldable pub endSum : ℕ → List ℕ → List ℕ → ℕ → ℕ → ℕ → ℕ
-endSum lanes sums st q₁ a t = lowest B (laneSum sums (t * 64) st (costsAt 1 t + q₁ * stateBlock + a * 64)) (from 0 lanes)
+endSum lanes sums st q₁ a t =
+    lowest B (laneSum sums (t * 64) st (costsAt 1 t + q₁ * stateBlock + a * 64)) (from 0 lanes)
 
 -- room for the sums
 pub record Room (sums : List ℕ) : Type 0 where
@@ -31,8 +32,10 @@ pub record Room (sums : List ℕ) : Type 0 where
 -- the sums at places below k are the least over the start states up to s, the others over those before s
 pub record Sums (starts lanes I : ℕ) (st : List ℕ) (q₀ a s k : ℕ) (sums : List ℕ) : Type 0 where
   pub room : Room sums
-  pub upTo : (t l : ℕ) → t < starts → l < lanes → t * 64 + l < k → getD sums (t * 64 + l) 0 ≡ lowest B (startSum I st q₀ a t l) (from 0 (s + 1))
-  pub before : (t l : ℕ) → t < starts → l < lanes → k ≤ t * 64 + l → getD sums (t * 64 + l) 0 ≡ lowest B (startSum I st q₀ a t l) (from 0 s)
+  pub upTo : (t l : ℕ) → t < starts → l < lanes → t * 64 + l < k
+      → getD sums (t * 64 + l) 0 ≡ lowest B (startSum I st q₀ a t l) (from 0 (s + 1))
+  pub before : (t l : ℕ) → t < starts → l < lanes → k ≤ t * 64 + l
+      → getD sums (t * 64 + l) 0 ≡ lowest B (startSum I st q₀ a t l) (from 0 s)
 
 -- all sums are NONE
 abbrev pub Nones : ℕ → ℕ → List ℕ → Type 0

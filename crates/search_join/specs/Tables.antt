@@ -62,7 +62,8 @@ pub record Way (starts lanes : ℕ) (f : Cases) (x₀ x₁ : SegmentCosts) (q₀
   pub state₀ : code / 768 < starts
   pub state₁ : code % 768 / 64 < starts
   pub lane : code % 64 < lanes
-  pub sum : value ≡ f (code / 768) (code % 768 / 64) (code % 64) + (x₀ (code / 768) (code % 64) q₀ a + x₁ (code % 768 / 64) (code % 64) q₁ a)
+  pub sum : value ≡ f (code / 768) (code % 768 / 64) (code % 64)
+      + (x₀ (code / 768) (code % 64) q₀ a + x₁ (code % 768 / 64) (code % 64) q₁ a)
 
 -- the same of case table I and the costs in the store
 abbrev pub WayIn : ℕ → ℕ → ℕ → List ℕ → ℕ → ℕ → ℕ → ℕ → ℕ → Type 0
@@ -73,7 +74,8 @@ nextIn starts lanes I st = nextCases starts lanes (casesIn st I) (costsIn st 0) 
 
 -- ---- a stage joined: case table I + 1 and its sources
 
--- one case; those of a state of row 0 in a pose, of a state of row 0, of all states: states of row 1 below m, poses below n
+-- one case; those of a state of row 0 in a pose, of a state of row 0, of all
+-- states: states of row 1 below m, poses below n
 abbrev pub OneCase : ℕ → ℕ → ℕ → ℕ → ℕ → ℕ → Type 0
 OneCase p₀ p₁ b q₀ q₁ a = (q₀ ≡ p₀) × (q₁ ≡ p₁) × (a ≡ b)
 

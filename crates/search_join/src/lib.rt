@@ -8,7 +8,8 @@ ghost use Rattle.lists.specs.Numbers.{from};
 ghost use Rattle.theory_pair.specs.Coded.{lowest};
 ghost use Rattle.search_lanes.specs.Store.{Low};
 ghost use Rattle.theory_tables.specs.Steps.{B};
-ghost use Rattle.search_join.specs.Tables.{Table, Better, Least, MetAt, SumAt, WayIn, nextIn, OneCase, PoseCases, BlockCases, Part, Joined, StateWith, AllStates, Closed};
+ghost use Rattle.search_join.specs.Tables.{Table, Better, Least, MetAt, SumAt, WayIn, nextIn, OneCase};
+ghost use Rattle.search_join.specs.Tables.{PoseCases, BlockCases, Part, Joined, StateWith, AllStates, Closed};
 ghost use Rattle.search_join.specs.Sums.{startSum, laneSum, endSum, Room, Sums, Summed};
 
 // The least of some costs, and a code of where it is.
@@ -42,7 +43,8 @@ fn lower_sums(
     q0: usize,
     a: usize,
 )
-    requires { ⌜ Table starts lanes i (now store) × Sums starts lanes i (now store) q0 a s (t * 64) (now sums) × (s < starts) × (t < starts) × (q0 < 12) × (a < 60) ⌝ }
+    requires { ⌜ Table starts lanes i (now store) × Sums starts lanes i (now store) q0 a s (t * 64) (now sums)
+        × (s < starts) × (t < starts) × (q0 < 12) × (a < 60) ⌝ }
     ensures { λ _. ⌜ Sums starts lanes i (now (store .entry)) q0 a s (t * 64 + 64) (now (sums .exit)) ⌝ }
 {
     let at = search_store::case_at(i, s, t);
@@ -66,8 +68,10 @@ fn sums_from(
     q0: usize,
     a: usize,
 ) -> bool
-    requires { ⌜ Table starts lanes i (now store) × Sums starts lanes i (now store) q0 a s 0 (now sums) × (s < starts) × (q0 < 12) × (a < 60) ⌝ }
-    ensures { λ live. ⌜ Sums starts lanes i (now (store .entry)) q0 a (s + 1) 0 (now (sums .exit)) × (live ≡ false → now (sums .exit) ≡ now (sums .entry)) ⌝ }
+    requires { ⌜ Table starts lanes i (now store) × Sums starts lanes i (now store) q0 a s 0 (now sums) × (s < starts)
+        × (q0 < 12) × (a < 60) ⌝ }
+    ensures { λ live. ⌜ Sums starts lanes i (now (store .entry)) q0 a (s + 1) 0 (now (sums .exit))
+        × (live ≡ false → now (sums .exit) ≡ now (sums .entry)) ⌝ }
 {
     if search_lanes::common(store, search_store::cost_at(0, s, q0, a), lanes)
         >= search_lanes::NONE
@@ -175,7 +179,8 @@ fn best_end(
     a: usize,
 ) -> Best
     requires { ⌜ Table starts lanes 0 (now store) × Room (now sums) × (q1 < 12) × (a < 60) ⌝ }
-    ensures { λ b. ⌜ Least (lowest B (endSum lanes (now (sums .entry)) (now (store .entry)) q1 a) (from 0 starts)) (MetAt (endSum lanes (now (sums .entry)) (now (store .entry)) q1 a) starts) (b .value) (b .code) ⌝ }
+    ensures { λ b. ⌜ Least (lowest B (endSum lanes (now (sums .entry)) (now (store .entry)) q1 a) (from 0 starts))
+        (MetAt (endSum lanes (now (sums .entry)) (now (store .entry)) q1 a) starts) (b .value) (b .code) ⌝ }
 {
     let mut best = Best {
         value: search_lanes::NONE,
@@ -209,7 +214,8 @@ fn pointer_of(
     t: usize,
     value: u32,
 ) -> u32
-    requires { ⌜ Table starts lanes i (now store) × Sums starts lanes i (now store) q0 a starts 0 (now sums) × (q0 < 12) × (q1 < 12) × (a < 60) × (t < starts) × (endSum lanes (now sums) (now store) q1 a t ≡ value) × (value < B) ⌝ }
+    requires { ⌜ Table starts lanes i (now store) × Sums starts lanes i (now store) q0 a starts 0 (now sums) × (q0 < 12)
+        × (q1 < 12) × (a < 60) × (t < starts) × (endSum lanes (now sums) (now store) q1 a t ≡ value) × (value < B) ⌝ }
     ensures { λ code. ⌜ WayIn starts lanes i (now (store .entry)) q0 q1 a value code × (code < 9216) ⌝ }
 {
     let lane = lane_of(
@@ -237,8 +243,10 @@ fn join_case(
     q1: usize,
     a: usize,
 ) -> Best
-    requires { ⌜ Table starts lanes i (now store) × Summed starts lanes i (now store) q0 a (now sums) live × (q0 < 12) × (q1 < 12) × (a < 60) ⌝ }
-    ensures { λ b. ⌜ Least (nextIn starts lanes i (now (store .entry)) q0 q1 a) (WayIn starts lanes i (now (store .entry)) q0 q1 a) (b .value) (b .code) ⌝ }
+    requires { ⌜ Table starts lanes i (now store) × Summed starts lanes i (now store) q0 a (now sums) live × (q0 < 12)
+        × (q1 < 12) × (a < 60) ⌝ }
+    ensures { λ b. ⌜ Least (nextIn starts lanes i (now (store .entry)) q0 q1 a)
+        (WayIn starts lanes i (now (store .entry)) q0 q1 a) (b .value) (b .code) ⌝ }
 {
     if !live {
         return Best {
@@ -272,7 +280,8 @@ fn put_case(
     q1: usize,
     a: usize,
 )
-    requires { ⌜ Table starts lanes i (now store) × Summed starts lanes i (now store) q0 a (now sums) live × Pages (q0 + 1) (now store) × (q0 < 12) × (q1 < 12) × (a < 60) ⌝ }
+    requires { ⌜ Table starts lanes i (now store) × Summed starts lanes i (now store) q0 a (now sums) live
+        × Pages (q0 + 1) (now store) × (q0 < 12) × (q1 < 12) × (a < 60) ⌝ }
     ensures { λ _. ⌜ Part starts lanes i (OneCase q0 q1 a) (now (store .entry)) (now (store .exit)) ⌝ }
 {
     let best = join_case(sums, live, store, i, starts, lanes, q0, q1, a);
@@ -291,8 +300,10 @@ fn case_pose(
     ends: usize,
     a: usize,
 )
-    requires { ⌜ Table starts lanes i (now store) × Room (now sums) × Pages (q0 + 1) (now store) × (q0 < 12) × (ends ≤ 12) × (a < 60) ⌝ }
-    ensures { λ _. ⌜ Part starts lanes i (PoseCases q0 ends a) (now (store .entry)) (now (store .exit)) × Room (now (sums .exit)) ⌝ }
+    requires { ⌜ Table starts lanes i (now store) × Room (now sums) × Pages (q0 + 1) (now store) × (q0 < 12)
+        × (ends ≤ 12) × (a < 60) ⌝ }
+    ensures { λ _. ⌜ Part starts lanes i (PoseCases q0 ends a) (now (store .entry)) (now (store .exit))
+        × Room (now (sums .exit)) ⌝ }
 {
     let live = fill_sums(sums, store, i, starts, lanes, q0, a);
     let mut q1: usize = 0;
@@ -313,8 +324,10 @@ fn case_block(
     ends: usize,
     poses: usize,
 )
-    requires { ⌜ Table starts lanes i (now store) × Room (now sums) × Pages (q0 + 1) (now store) × (q0 < 12) × (ends ≤ 12) × (poses ≤ 60) ⌝ }
-    ensures { λ _. ⌜ Part starts lanes i (BlockCases q0 ends poses) (now (store .entry)) (now (store .exit)) × Room (now (sums .exit)) ⌝ }
+    requires { ⌜ Table starts lanes i (now store) × Room (now sums) × Pages (q0 + 1) (now store) × (q0 < 12)
+        × (ends ≤ 12) × (poses ≤ 60) ⌝ }
+    ensures { λ _. ⌜ Part starts lanes i (BlockCases q0 ends poses) (now (store .entry)) (now (store .exit))
+        × Room (now (sums .exit)) ⌝ }
 {
     let mut a: usize = 0;
     while a < poses {
@@ -323,7 +336,8 @@ fn case_block(
     }
 }
 
-// Case table i + 1 from case table i and the costs of a stage. There may be more lanes than poses, if no case of table i goes by the others.
+// Case table i + 1 from case table i and the costs of a stage. There may be more lanes than
+// poses, if no case of table i goes by the others.
 pub fn join_stage(
     store: &mut [u32],
     i: usize,
@@ -347,7 +361,8 @@ pub fn join_stage(
 
 // The lanes from `low` to `high` of table i closed for a state of row 0 with every state of row 1.
 fn close_state(store: &mut [u32], i: usize, q0: usize, ends: usize, low: usize, high: usize)
-    requires { ⌜ Low (now store) × Pages (q0 + 1) (now store) × (i ≤ 25) × (q0 < 12) × (ends ≤ 12) × (low ≤ high) × (high ≤ 64) ⌝ }
+    requires { ⌜ Low (now store) × Pages (q0 + 1) (now store) × (i ≤ 25) × (q0 < 12) × (ends ≤ 12) × (low ≤ high)
+        × (high ≤ 64) ⌝ }
     ensures { λ _. ⌜ Closed i low high (StateWith q0 ends) (now (store .entry)) (now (store .exit)) ⌝ }
 {
     let mut t: usize = 0;

@@ -37,7 +37,8 @@ pub lowered-to : {f : ℕ → ℕ} (n : ℕ) {acc : List ℕ} → Low acc → ((
 lowered-to n w h = record { long = refl; done = λ k p. omega (arith, w .word k, h k p); rest = λ k p. refl }
 
 -- lowered to the same, by another name
-pub lowered-ext : {f g : ℕ → ℕ} {n : ℕ} {old new : List ℕ} → Lowered f n old new → ((k : ℕ) → k < n → g k ≡ f k) → Lowered g n old new
+pub lowered-ext : {f g : ℕ → ℕ} {n : ℕ} {old new : List ℕ} → Lowered f n old new → ((k : ℕ) → k < n → g k ≡ f k)
+    → Lowered g n old new
 lowered-ext w e = record { long = w .long; done = λ k p. omega (arith, w .done k p, e k p); rest = w .rest }
 
 -- lowered twice
@@ -66,7 +67,8 @@ pub frame-refl : (a b : ℕ) (l : List ℕ) → Frame a b l l
 frame-refl a b l = record { long = refl; low = λ k h. refl; high = λ k h. refl }
 
 -- one word more is set
-pub frame-set : {a b : ℕ} {old new : List ℕ} (d k v : ℕ) → Frame a b old new → a ≤ k → k < d → b ≤ d → Frame a d old (set new k v)
+pub frame-set : {a b : ℕ} {old new : List ℕ} (d k v : ℕ) → Frame a b old new → a ≤ k → k < d → b ≤ d
+    → Frame a d old (set new k v)
 frame-set {new = new} d k v f p q r =
     record {
       long = length-set new k v ∙ f .long;
@@ -115,27 +117,32 @@ written-more {f} {at} {old} {new} l v w h e b =
     }
 
 -- one word
-pub written-one : (f : ℕ → ℕ) (at v : ℕ) {st : List ℕ} → Low st → at < length st → v ≡ f 0 → v ≤ B → Written f at 1 st (set st at v)
+pub written-one : (f : ℕ → ℕ) (at v : ℕ) {st : List ℕ} → Low st → at < length st → v ≡ f 0 → v ≤ B
+    → Written f at 1 st (set st at v)
 written-one f at v w h e b =
     let z : at + 0 ≡ at = omega arith in
     rw z at (written-more 0 v (written-none f at w) (omega arith) e b)
 
 -- the same by another name
-pub written-ext : {f g : ℕ → ℕ} {at n : ℕ} {old new : List ℕ} → Written f at n old new → ((k : ℕ) → k < n → g k ≡ f k) → Written g at n old new
+pub written-ext : {f g : ℕ → ℕ} {at n : ℕ} {old new : List ℕ} → Written f at n old new → ((k : ℕ) → k < n → g k ≡ f k)
+    → Written g at n old new
 written-ext w e = record { frame = w .frame; words = λ k p. w .words k p ∙ sym (e k p); low = w .low }
 
 -- ---- rows written one after the other
 
 pub rows-none : (f : ℕ → ℕ → ℕ) (at lanes : ℕ) {st : List ℕ} → Low st → WrittenRows f at 0 lanes st st
-rows-none f at lanes {st} w = record { frame = frame-refl at (at + 0 * 64) st; words = λ a l h. absurd (omega arith); low = w }
+rows-none f at lanes {st} w =
+    record { frame = frame-refl at (at + 0 * 64) st; words = λ a l h. absurd (omega arith); low = w }
 
 pub rows-more :
     {f : ℕ → ℕ → ℕ} {g : ℕ → ℕ} {at lanes : ℕ} {old mid new : List ℕ} (a : ℕ)
-    → lanes ≤ 64 → WrittenRows f at a lanes old mid → Written g (at + a * 64) lanes mid new → ((l : ℕ) → l < lanes → f a l ≡ g l)
+    → lanes ≤ 64 → WrittenRows f at a lanes old mid → Written g (at + a * 64) lanes mid new
+    → ((l : ℕ) → l < lanes → f a l ≡ g l)
     → WrittenRows f at (a + 1) lanes old new
 rows-more {f} {g} {at} {lanes} {new = new} a n s w e =
     record {
-      frame = frame-join at (at + (a + 1) * 64) (s .frame) (w .frame) (omega arith) (omega arith) (omega arith) (omega arith);
+      frame = frame-join at (at + (a + 1) * 64) (s .frame) (w .frame) (omega arith) (omega arith)
+          (omega arith) (omega arith);
       words = λ b l p r. below-more (λ (b : ℕ). (l : ℕ) → l < lanes → getD new (at + b * 64 + l) 0 ≡ f b l) a
           (λ b p l r. w .frame .low (at + b * 64 + l) (omega arith) ∙ s .words b l p r)
           (λ l r. w .words l r ∙ sym (e l r))
@@ -150,11 +157,13 @@ state-none F lanes to q {st} w = record { frame = frame-refl _ _ st; low = w; ri
 
 pub state-more :
     {F : ℕ → Layer} {g : ℕ → ℕ} {lanes to q : ℕ} {old mid new : List ℕ} (a : ℕ)
-    → lanes ≤ 64 → a < 64 → FilledState F lanes to q a old mid → Written g (to + q * stateBlock + a * 64) lanes mid new → ((l : ℕ) → l < lanes → F l q a ≡ g l)
+    → lanes ≤ 64 → a < 64 → FilledState F lanes to q a old mid → Written g (to + q * stateBlock + a * 64) lanes mid new
+    → ((l : ℕ) → l < lanes → F l q a ≡ g l)
     → FilledState F lanes to q (a + 1) old new
 state-more {F} {g} {lanes} {to} {q} {new = new} a n k s w e =
     record {
-      frame = frame-join (to + q * stateBlock) (to + q * stateBlock + stateBlock) (s .frame) (w .frame) (omega arith) (omega arith) (omega arith) (omega arith);
+      frame = frame-join (to + q * stateBlock) (to + q * stateBlock + stateBlock) (s .frame) (w .frame) (omega arith)
+          (omega arith) (omega arith) (omega arith);
       low = w .low;
       right = below-more (λ (a : ℕ). (l : ℕ) → l < lanes → layerIn new to l q a ≡ F l q a) a
           (λ b p l r. w .frame .low (to + q * stateBlock + b * 64 + l) (omega arith) ∙ s .right b p l r)
@@ -175,7 +184,8 @@ pub state-rows :
     → FilledState F lanes to q m old new
 state-rows {to = to} {q = q} {old = old} {new = new} k w e =
     record {
-      frame = frame-join (to + q * stateBlock) (to + q * stateBlock + stateBlock) (frame-refl (to + q * stateBlock) (to + q * stateBlock) old) (w .frame) (omega arith) (omega arith) (omega arith) (omega arith);
+      frame = frame-join (to + q * stateBlock) (to + q * stateBlock + stateBlock) (frame-refl (to + q * stateBlock)
+          (to + q * stateBlock) old) (w .frame) (omega arith) (omega arith) (omega arith) (omega arith);
       low = w .low;
       right = λ a p l r. w .words a l p r ∙ sym (e a l p r);
     }
@@ -190,7 +200,8 @@ pub filled-more :
     → Filled F lanes poses to (q + 1) old new
 filled-more {F} {G} {lanes} {poses} {to} {new = new} q n k h s w e =
     record {
-      frame = frame-join to (to + layerBlock) (s .frame) (w .frame) (omega arith) (omega arith) (omega arith) (omega arith);
+      frame =
+          frame-join to (to + layerBlock) (s .frame) (w .frame) (omega arith) (omega arith) (omega arith) (omega arith);
       low = w .low;
       right = below-more (λ (q : ℕ). (a l : ℕ) → a < poses → l < lanes → layerIn new to l q a ≡ F l q a) q
           (λ p j a l x y. w .frame .low (to + p * stateBlock + a * 64 + l) (omega arith) ∙ s .right p j a l x y)

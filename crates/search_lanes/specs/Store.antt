@@ -22,13 +22,15 @@ pub record Written (f : ℕ → ℕ) (at count : ℕ) (old new : List ℕ) : Typ
   pub words : (k : ℕ) → k < count → getD new (at + k) 0 ≡ f k
   pub low : Low new
 
--- the first lanes of the rows from `at` on, 64 words each and so many of them, are f's; nothing outside these rows changed
+-- the first lanes of the rows from `at` on, 64 words each and so many of them,
+-- are f's; nothing outside these rows changed
 pub record WrittenRows (f : ℕ → ℕ → ℕ) (at rows lanes : ℕ) (old new : List ℕ) : Type 0 where
   pub frame : Frame at (at + rows * 64) old new
   pub words : (a l : ℕ) → a < rows → l < lanes → getD new (at + a * 64 + l) 0 ≡ f a l
   pub low : Low new
 
--- lane l of a layer whose block begins at `at`: state q has 64 rows of 64 words, a row for each pose, a word for each lane
+-- lane l of a layer whose block begins at `at`: state q has 64 rows of 64
+-- words, a row for each pose, a word for each lane
 abbrev pub layerIn : List ℕ → ℕ → ℕ → Layer
 layerIn st at l q a = getD st (at + q * stateBlock + a * 64 + l) 0
 

@@ -39,7 +39,8 @@ pub fn common(row: &[u32], at: usize, lanes: usize) -> u32
 
 // Each lane of `acc` lowered to the row's word plus a charge.
 pub fn relax(acc: &mut [u32; 64], row: &[u32], at: usize, charge: u32, lanes: usize)
-    requires { ⌜ (at + lanes ≤ length (now row)) × (lanes ≤ 64) × (length (now acc) ≡ 64) × (charge ≤ B) × Low (now row) ⌝ }
+    requires { ⌜ (at + lanes ≤ length (now row)) × (lanes ≤ 64) × (length (now acc) ≡ 64) × (charge ≤ B)
+        × Low (now row) ⌝ }
     ensures { λ _. ⌜ Lowered (charged (now (row .entry)) at charge) lanes (now (acc .entry)) (now (acc .exit)) ⌝ }
 {
     let mut l: usize = 0;
@@ -51,7 +52,8 @@ pub fn relax(acc: &mut [u32; 64], row: &[u32], at: usize, charge: u32, lanes: us
 
 // A row from its lanes, each with the cell's own cost, capped.
 pub fn put(store: &mut [u32], at: usize, acc: &[u32; 64], own: u32, lanes: usize)
-    requires { ⌜ (at + lanes ≤ length (now store)) × (lanes ≤ 64) × (length (now acc) ≡ 64) × (own ≤ B) × Low (now store) × ((l : ℕ) → getD (now acc) l 0 ≤ B) ⌝ }
+    requires { ⌜ (at + lanes ≤ length (now store)) × (lanes ≤ 64) × (length (now acc) ≡ 64) × (own ≤ B)
+        × Low (now store) × ((l : ℕ) → getD (now acc) l 0 ≤ B) ⌝ }
     ensures { λ _. ⌜ Written (withOwn own (now (acc .entry))) at lanes (now (store .entry)) (now (store .exit)) ⌝ }
 {
     let mut l: usize = 0;
@@ -100,7 +102,8 @@ pub fn fill_rows(store: &mut [u32], at: usize, rows: usize, lanes: usize, x: u32
 // The first lanes of so many rows from one part of the store to another that does not overlap it.
 pub fn copy_rows(store: &mut [u32], from: usize, at: usize, rows: usize, lanes: usize)
     requires { ⌜ (at + rows * 64 ≤ length (now store)) × (from + rows * 64 ≤ at) × (lanes ≤ 64) × Low (now store) ⌝ }
-    ensures { λ _. ⌜ WrittenRows (rowsFrom (now (store .entry)) from) at rows lanes (now (store .entry)) (now (store .exit)) ⌝ }
+    ensures { λ _. ⌜ WrittenRows (rowsFrom (now (store .entry)) from) at rows lanes (now (store .entry))
+        (now (store .exit)) ⌝ }
 {
     let mut a: usize = 0;
     while a < rows {

@@ -10,7 +10,8 @@ use lib.ListN.{getD}
 use lib.Dec.{leb, ltb, eqb}
 use Rattle.definition.specs.Cost.{charges, charge}
 use Rattle.theory_tables.specs.Steps.{B, offset, lastAt, isSource}
-use Rattle.search_row.specs.Words.{wordOf, weightIn, differIn, siteIn, endIn, tollIn, frontIn, backIn, deckOf, thereIn, RowWords, apartWord, touchingWord}
+use Rattle.search_row.specs.Words.{wordOf, weightIn, differIn, siteIn, endIn, tollIn, frontIn}
+use Rattle.search_row.specs.Words.{backIn, deckOf, thereIn, RowWords, apartWord, touchingWord}
 
 pub charge-low : (gap : ℕ) → charge gap ≤ 1
 charge-low gap = go (min gap 4) (omega arith)
@@ -31,8 +32,10 @@ pub differ-low : (line : List ℕ) (k b m a : ℕ) → differIn line k b m a ≤
 differ-low line k b m a =
     omega (
       arith,
-      cond-low (eqb (wordOf line k (76 + b % 4)) (wordOf line m (68 + a % 4))) {x = 0} {y = 1} {z = 1} (omega arith) (omega arith),
-      cond-low (eqb (wordOf line k (80 + b % 4)) (wordOf line m (72 + a % 4))) {x = 0} {y = 1} {z = 1} (omega arith) (omega arith),
+      cond-low (eqb (wordOf line k (76 + b % 4)) (wordOf line m (68 + a % 4))) {x = 0} {y = 1} {z = 1} (omega arith)
+          (omega arith),
+      cond-low (eqb (wordOf line k (80 + b % 4)) (wordOf line m (72 + a % 4))) {x = 0} {y = 1} {z = 1} (omega arith)
+          (omega arith),
     )
 
 -- a weight times a count of heights, and a charge times that
@@ -43,7 +46,8 @@ pub charged-low : {c x : ℕ} → c ≤ 1 → x ≤ 262144 → c * x ≤ 262144
 charged-low p q = mul-le-mul p q
 
 pub weight-low : {line : List ℕ} (m gap : ℕ) → RowWords line → weightIn line m gap ≤ 131072
-weight-low {line} m gap w = cond-low (eqb gap 0) {x = wordOf line m touchingWord} {y = wordOf line m apartWord} (w .weight m) (w .filled m)
+weight-low {line} m gap w =
+    cond-low (eqb gap 0) {x = wordOf line m touchingWord} {y = wordOf line m apartWord} (w .weight m) (w .filled m)
 
 pub toll-low : {line : List ℕ} (k b m a : ℕ) → RowWords line → tollIn line k b m a ≤ B
 unfolding tollIn
@@ -78,5 +82,6 @@ both false t h = absurd (let z : _≡_ {A = ℕ} 0 1 = cc in omega arith)
 pub there-size : (n R i q : ℕ) → thereIn n R i q ≡ true → lastAt R i q < n
 there-size n R i q e = ltb-true _ _ (both (leb (suc R) (i + offset R q)) _ e .1)
 
-pub source-size : (line : List ℕ) (n poses R i q p : ℕ) → isSource (deckOf line n poses) R i q p ≡ true → lastAt R i p < n
+pub source-size : (line : List ℕ) (n poses R i q p : ℕ) → isSource (deckOf line n poses) R i q p ≡ true
+    → lastAt R i p < n
 source-size line n poses R i q p e = there-size n R i p (both (thereIn n R i p) _ e .0)

@@ -25,9 +25,9 @@ tallsFrom = 8256
 abbrev pub rowLength : ℕ
 rowLength = 8288
 
--- The words of a cell: first what it costs by pose (B: not offered); then its given site, the widths of its layouts, whether it is
--- tall; by variant (2 layout + mark) its heights left P, left N, right P, right N; the weight of a step where it touches the cell on
--- its left, its number, and the weight of a step at every other gap.
+-- The words of a cell: first what it costs by pose (B: not offered); then its given site, the widths of its layouts,
+-- whether it is tall; by variant (2 layout + mark) its heights left P, left N, right P, right N; the weight of a step
+-- where it touches the cell on its left, its number, and the weight of a step at every other gap.
 abbrev pub givenWord : ℕ
 givenWord = 64
 
@@ -78,7 +78,8 @@ differIn line k b m a =
     cond (eqb (wordOf line k (rightP + variant b)) (wordOf line m (leftP + variant a))) 0 1
     + cond (eqb (wordOf line k (rightN + variant b)) (wordOf line m (leftN + variant a))) 0 1
 
--- the weight of a step between m and the cell on its left, by the gap between them: document 01 has one weight (request A7 is to give words two)
+-- the weight of a step between m and the cell on its left, by the gap between them: document 01 has
+-- one weight (request A7 is to give words two)
 abbrev pub weightIn : List ℕ → ℕ → ℕ → ℕ
 weightIn line m gap = cond (eqb gap 0) (wordOf line m touchingWord) (wordOf line m apartWord)
 
@@ -89,8 +90,8 @@ tollAt x y pay = cond (ltb x y) B (cond (eqb (x - y) 1) B (charge (x - y) * pay 
 unfoldable pub tollIn : List ℕ → ℕ → ℕ → ℕ → ℕ → ℕ
 tollIn line k b m a = tollAt (siteIn line m a) (endIn line k b) (λ gap. weightIn line m gap * differIn line k b m a)
 
--- what a cell pays as the first of its row, and as the last: document 01 lets a row begin and end anywhere (request A1 is to change these lines and
--- their laws)
+-- what a cell pays as the first of its row, and as the last: document 01 lets a row begin and end anywhere (request
+-- A1 is to change these lines and their laws)
 unfoldable pub frontIn : List ℕ → ℕ → ℕ → ℕ
 frontIn line k a = 0
 
@@ -99,7 +100,15 @@ backIn line k a = 0
 
 abbrev pub deckOf : List ℕ → ℕ → ℕ → Deck
 deckOf line n poses =
-    record { size = n; poses = poses; own = λ k a. wordOf line k a; toll = tollIn line; tall = λ k. eqb (wordOf line k tallWord) 1; front = frontIn line; back = backIn line }
+    record {
+      size = n;
+      poses = poses;
+      own = λ k a. wordOf line k a;
+      toll = tollIn line;
+      tall = λ k. eqb (wordOf line k tallWord) 1;
+      front = frontIn line;
+      back = backIn line;
+    }
 
 -- with i cells placed, the row of n cells has the last of them, that of state q; so it is with every deck of n cells
 abbrev pub thereIn : ℕ → ℕ → ℕ → ℕ → Bool
@@ -118,8 +127,8 @@ pub record StateWords (R : ℕ) (row : List ℕ) : Type 0 where
   pub mark : (q : ℕ) → q < stateCount R → getD row (stateAt q + 1) 0 ≡ marks R q
   pub earlier : (q : ℕ) → q < stateCount R → getD row (stateAt q + 2) 0 ≡ before R q
 
--- a row's words: none is over B, and the step weights are so small that what is paid stays below it (document 01 has weights up to 1,000; a request that ranks
--- equal costs, A14, is to scale them by 128)
+-- a row's words: none is over B, and the step weights are so small that what is paid stays below it (document 01 has
+-- weights up to 1,000; a request that ranks equal costs, A14, is to scale them by 128)
 pub record RowWords (row : List ℕ) : Type 0 where
   pub long : rowLength ≤ length row
   pub word : (k : ℕ) → getD row k 0 ≤ B

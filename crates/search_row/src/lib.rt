@@ -1,5 +1,5 @@
-// Reading a row's words: the cells, the states and the tall cells' positions, then sources and tolls. The words' places stand in
-// specs/Words.antt.
+// Reading a row's words: the cells, the states and the tall cells' positions, then sources and tolls.
+// The words' places stand in specs/Words.antt.
 ghost use mathlib.Core.Path.{_≡_};
 ghost use mathlib.Core.Bool.{cond};
 ghost use Prim.Native.Nat.{ℕ, suc, _+_, _*_, _≤_, _<_};
@@ -7,7 +7,8 @@ ghost use lib.ListN.{length, getD};
 ghost use lib.Dec.{eqb};
 ghost use Rattle.theory_tables.specs.Steps.{stateCount, lastAt, isSource};
 ghost use Rattle.theory_tables.specs.Stages.{placedWith};
-ghost use Rattle.search_row.specs.Words.{siteIn, endIn, differIn, weightIn, tollIn, frontIn, backIn, deckIn, thereIn, posIn, StateWords, RowWords, Ground};
+ghost use Rattle.search_row.specs.Words.{siteIn, endIn, differIn, weightIn, tollIn, frontIn, backIn};
+ghost use Rattle.search_row.specs.Words.{deckIn, thereIn, posIn, StateWords, RowWords, Ground};
 
 // The words of a row: those of a cell; where the states begin, the tall cells' positions, and how many words there are.
 pub const CELL: usize = 128;
@@ -39,7 +40,8 @@ pub const NUMBER: usize = 85;
 
 pub const APART: usize = 86;
 
-// The sizes of a search in one row: how many cells, poses of a cell, places a cell may move, states and tall cells there are.
+// The sizes of a search in one row: how many cells, poses of a cell, places a cell
+// may move, states and tall cells there are.
 pub struct Sizes {
     pub cells: usize,
     pub poses: usize,

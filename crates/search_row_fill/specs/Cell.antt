@@ -107,12 +107,14 @@ low-digit a = omega arith
 module _ (first type a : ℕ) (h : type < 2) where
   place-left : first + edge (4 * type + a % 4) ≡ first + cond (eqb (a % 2) 1) 2 0 + type
   place-left =
-      ap (λ x. first + x) (edge-left type (a % 4) h (omega arith) ∙ ap (λ x. x * 2 + type) (low-digit a) ∙ ap (λ x. x + type) (sym (mark-two (a % 2) (omega arith))))
+      ap (λ x. first + x) (edge-left type (a % 4) h (omega arith) ∙ ap (λ x. x * 2 + type) (low-digit a)
+      ∙ ap (λ x. x + type) (sym (mark-two (a % 2) (omega arith))))
       ∙ sym (add-assoc first (cond (eqb (a % 2) 1) 2 0) type)
 
   place-right : first + edge (8 + 4 * type + a % 4) ≡ first + cond (eqb (a % 2) 1) 0 2 + type
   place-right =
-      ap (λ x. first + x) (edge-right type (a % 4) h (omega arith) ∙ ap (λ x. 2 - x * 2 + type) (low-digit a) ∙ ap (λ x. x + type) (sym (mark-none (a % 2) (omega arith))))
+      ap (λ x. first + x) (edge-right type (a % 4) h (omega arith) ∙ ap (λ x. 2 - x * 2 + type) (low-digit a)
+      ∙ ap (λ x. x + type) (sym (mark-none (a % 2) (omega arith))))
       ∙ sym (add-assoc first (cond (eqb (a % 2) 1) 0 2) type)
 
   layout-left : (4 * type + a % 4) % 4 / 2 ≡ a % 4 / 2
@@ -124,11 +126,14 @@ module _ (first type a : ℕ) (h : type < 2) where
 module _ (j : Job) (row k : ℕ) where
   left-word : (type a : ℕ) → type < 2 → heightWord j row k (4 * type + a % 4) ≡ leftOf j row k (poseNumber j k a) type
   unfolding heightWord poseNumber
-  left-word type a h = ap₂ (heightIn (cellAt j k)) (layout-left (firstHeight j row k) type a h) (place-left (firstHeight j row k) type a h)
+  left-word type a h = ap₂ (heightIn (cellAt j k)) (layout-left (firstHeight j row k) type a h)
+      (place-left (firstHeight j row k) type a h)
 
-  right-word : (type a : ℕ) → type < 2 → heightWord j row k (8 + 4 * type + a % 4) ≡ rightOf j row k (poseNumber j k a) type
+  right-word : (type a : ℕ) → type < 2
+      → heightWord j row k (8 + 4 * type + a % 4) ≡ rightOf j row k (poseNumber j k a) type
   unfolding heightWord poseNumber
-  right-word type a h = ap₂ (heightIn (cellAt j k)) (layout-right (firstHeight j row k) type a h) (place-right (firstHeight j row k) type a h)
+  right-word type a h = ap₂ (heightIn (cellAt j k)) (layout-right (firstHeight j row k) type a h)
+      (place-right (firstHeight j row k) type a h)
 
   module _ (n : ℕ) where
     pub own-at : (a : ℕ) → a < 64 → cellWord j row k n a ≡ ownWord j row k a
@@ -182,10 +187,14 @@ module _ (j : Job) (row k : ℕ) where
     given = w 64 (lit≤ tt);
     width = λ a. w (65 + a % 4 / 2) (omega arith) ∙ width-at k (a % 4 / 2) (omega arith);
     tall = w 67 (lit≤ tt);
-    leftP = λ a. w (68 + a % 4) (omega arith) ∙ height-at k (68 + a % 4) (4 * 0 + a % 4) (omega arith) (omega arith) ∙ left-word 0 a (lit≤ tt);
-    leftN = λ a. w (72 + a % 4) (omega arith) ∙ height-at k (72 + a % 4) (4 * 1 + a % 4) (omega arith) (omega arith) ∙ left-word 1 a (lit≤ tt);
-    rightP = λ a. w (76 + a % 4) (omega arith) ∙ height-at k (76 + a % 4) (8 + 4 * 0 + a % 4) (omega arith) (omega arith) ∙ right-word 0 a (lit≤ tt);
-    rightN = λ a. w (80 + a % 4) (omega arith) ∙ height-at k (80 + a % 4) (8 + 4 * 1 + a % 4) (omega arith) (omega arith) ∙ right-word 1 a (lit≤ tt);
+    leftP = λ a. w (68 + a % 4) (omega arith) ∙ height-at k (68 + a % 4) (4 * 0 + a % 4) (omega arith) (omega arith)
+        ∙ left-word 0 a (lit≤ tt);
+    leftN = λ a. w (72 + a % 4) (omega arith) ∙ height-at k (72 + a % 4) (4 * 1 + a % 4) (omega arith) (omega arith)
+        ∙ left-word 1 a (lit≤ tt);
+    rightP = λ a. w (76 + a % 4) (omega arith)
+        ∙ height-at k (76 + a % 4) (8 + 4 * 0 + a % 4) (omega arith) (omega arith) ∙ right-word 0 a (lit≤ tt);
+    rightN = λ a. w (80 + a % 4) (omega arith)
+        ∙ height-at k (80 + a % 4) (8 + 4 * 1 + a % 4) (omega arith) (omega arith) ∙ right-word 1 a (lit≤ tt);
     weight = w 84 (lit≤ tt);
     number = w 85 (lit≤ tt);
     filled = w 86 (lit≤ tt);

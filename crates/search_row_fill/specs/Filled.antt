@@ -1,4 +1,5 @@
--- A row's words while they are written: those of the first n cells of the row are right, the others are still to come, and what lies beyond is 0.
+-- A row's words while they are written: those of the first n cells of the row are right, the others
+-- are still to come, and what lies beyond is 0.
 use Prim.Native.Nat.{ℕ, zero, suc, _+_, _*_, _≤_, _<_}
 use mathlib.Core.Path.{_≡_, refl, sym, ap, subst, _∙_}
 use mathlib.Core.Bool.{Bool, true, false, cond}
@@ -25,7 +26,8 @@ use Rattle.theory_bridge.specs.Words.{keep-pick}
 use Rattle.theory_bridge.specs.Row.{cells-same, members-same}
 use Rattle.search_lanes.specs.Lanes.{always}
 use Rattle.search_lanes.specs.Store.{Low, Written}
-use Rattle.search_row.specs.Words.{wordOf, deckOf, RowWords, apartWord, cellWords, numberWord, rowLength, statesFrom, tallsFrom, touchingWord}
+use Rattle.search_row.specs.Words.{wordOf, deckOf, RowWords, apartWord, cellWords, numberWord}
+use Rattle.search_row.specs.Words.{rowLength, statesFrom, tallsFrom, touchingWord}
 use Rattle.search_states.specs.Rest.{rest, rest-none, rest-more, rest-all, next, done}
 use Rattle.search_row_fill.specs.Words.{alone, cellWord}
 use Rattle.search_row_fill.specs.Cell.{word-alone, CellWords, cell-words}
@@ -46,7 +48,8 @@ row-side (suc (suc n)) h = absurd (omega arith)
 
 -- the cell of a job of one cell is written at position n, if it stands in the row
 pub record Added (j : Job) (row number n n′ : ℕ) (old new : List ℕ) : Type 0 where
-  pub there : job.inRow row (cellAt j 0) ≡ true → (n′ ≡ n + 1) × Written (cellWord j row 0 number) (n * cellWords) 87 old new
+  pub there : job.inRow row (cellAt j 0) ≡ true
+      → (n′ ≡ n + 1) × Written (cellWord j row 0 number) (n * cellWords) 87 old new
   pub away : job.inRow row (cellAt j 0) ≡ false → (n′ ≡ n) × (new ≡ old)
 
 -- ---- the row
@@ -71,11 +74,13 @@ module _ (j : Job) (s : Side) where
     pub upto : n ≤ length (members (pairJob j) s)
     pub left : drop n (members (pairJob j) s) ≡ rest stands k (length (j .cells))
     pub low : Low l
-    pub words : (p : ℕ) → p < n → (i : ℕ) → i < 87 → wordOf l p i ≡ cellWord j (rowOf s) (cell (pairJob j) s p) (cell (pairJob j) s p) i
+    pub words : (p : ℕ) → p < n → (i : ℕ) → i < 87
+        → wordOf l p i ≡ cellWord j (rowOf s) (cell (pairJob j) s p) (cell (pairJob j) s p) i
     pub zero : (q : ℕ) → n * cellWords ≤ q → q < statesFrom → getD l q 0 ≡ 0
     pub upper : (q : ℕ) → tallsFrom ≤ q → getD l q 0 ≤ 63
 
-  pub filled-none : Sound j → {old new : List ℕ} → rowLength ≤ length old → Written (always 0) 0 (length old) old new → Filled new 0 0
+  pub filled-none : Sound j → {old new : List ℕ} → rowLength ≤ length old → Written (always 0) 0 (length old) old new
+      → Filled new 0 0
   filled-none sound {old} {new} h w = record {
     long = let e = w .frame .long in omega arith;
     most = sound .few;
@@ -94,9 +99,11 @@ module _ (j : Job) (s : Side) where
       go q (no g) = w .frame .high q (omega arith) ∙ List·getD-eq-default old 0 (omega arith)
 
   filled-more : {l l′ : List ℕ} {n k : ℕ} → Filled l n k → k < length (j .cells) → stands k ≡ true
-      → Written (cellWord (alone (j .header) (cellAt j k)) (rowOf s) 0 k) (n * cellWords) 87 l l′ → Filled l′ (n + 1) (k + 1)
+      → Written (cellWord (alone (j .header) (cellAt j k)) (rowOf s) 0 k) (n * cellWords) 87 l l′
+      → Filled l′ (n + 1) (k + 1)
   filled-more {l} {l′} {n} {k} f h e w =
-      let x = next {d = 0} (members (pairJob j) s) n (f .left ∙ rest-more stands k (length (j .cells)) h ∙ ap (λ t. cond t (k ∷ rest stands (k + 1) (length (j .cells))) (rest stands (k + 1) (length (j .cells)))) e) in
+      let x = next {d = 0} (members (pairJob j) s) n (f .left ∙ rest-more stands k (length (j .cells)) h
+      ∙ ap (λ t. cond t (k ∷ rest stands (k + 1) (length (j .cells))) (rest stands (k + 1) (length (j .cells)))) e) in
       let i = x .inside in
       record {
         long = let e = w .frame .long in let g = f .long in omega arith;
@@ -106,7 +113,8 @@ module _ (j : Job) (s : Side) where
         upto = omega arith;
         left = x .after;
         low = w .low;
-        words = below-more (λ p. (i : ℕ) → i < 87 → wordOf l′ p i ≡ cellWord j (rowOf s) (cell (pairJob j) s p) (cell (pairJob j) s p) i) n
+        words = below-more (λ p. (i : ℕ) → i < 87
+            → wordOf l′ p i ≡ cellWord j (rowOf s) (cell (pairJob j) s p) (cell (pairJob j) s p) i) n
             (λ p g i q. w .frame .low (p * cellWords + i) (omega arith) ∙ f .words p g i q)
             (λ i q. w .words i q ∙ word-alone j (rowOf s) k i ∙ ap (λ c. cellWord j (rowOf s) c c i) (sym (x .here)));
         zero = λ q g b. w .frame .high q (omega arith) ∙ f .zero q (omega arith) b;
@@ -120,22 +128,28 @@ module _ (j : Job) (s : Side) where
     below = let g = f .below in omega arith;
     few = omega arith;
     upto = f .upto;
-    left = f .left ∙ rest-more stands k (length (j .cells)) h ∙ ap (λ t. cond t (k ∷ rest stands (k + 1) (length (j .cells))) (rest stands (k + 1) (length (j .cells)))) e;
+    left = f .left ∙ rest-more stands k (length (j .cells)) h
+        ∙ ap (λ t. cond t (k ∷ rest stands (k + 1) (length (j .cells))) (rest stands (k + 1) (length (j .cells)))) e;
     low = f .low;
     words = f .words;
     zero = f .zero;
     upper = f .upper;
   }
 
-  pub filled-step : {l l′ : List ℕ} {n n′ k : ℕ} → Filled l n k → k < length (j .cells) → Added (alone (j .header) (cellAt j k)) (rowOf s) k n n′ l l′ → Filled l′ n′ (k + 1)
+  pub filled-step : {l l′ : List ℕ} {n n′ k : ℕ} → Filled l n k → k < length (j .cells)
+      → Added (alone (j .header) (cellAt j k)) (rowOf s) k n n′ l l′ → Filled l′ n′ (k + 1)
   filled-step {l} {l′} {n} {n′} {k} f h a = go (stands k) refl
     where
       go : (t : Bool) → stands k ≡ t → Filled l′ n′ (k + 1)
       go true e = let r = a .there e in subst (λ x. Filled l′ x (k + 1)) (sym (r .0)) (filled-more f h e (r .1))
-      go false e = let r = a .away e in subst (λ x. Filled l′ x (k + 1)) (sym (r .0)) (subst (λ x. Filled x n (k + 1)) (sym (r .1)) (filled-skip f h e))
+      go false e =
+          let r = a .away e in
+          subst (λ x. Filled l′ x (k + 1)) (sym (r .0))
+          (subst (λ x. Filled x n (k + 1)) (sym (r .1)) (filled-skip f h e))
 
   -- what is written above the cells' words does not alter them
-  pub filled-on : {l l′ : List ℕ} {n k : ℕ} → Filled l n k → length l′ ≡ length l → Low l′ → ((q : ℕ) → q < statesFrom → getD l′ q 0 ≡ getD l q 0)
+  pub filled-on : {l l′ : List ℕ} {n k : ℕ} → Filled l n k → length l′ ≡ length l → Low l′
+      → ((q : ℕ) → q < statesFrom → getD l′ q 0 ≡ getD l q 0)
       → ((q : ℕ) → tallsFrom ≤ q → getD l′ q 0 ≤ 63) → Filled l′ n k
   filled-on {l} {l′} f e w same small = record {
     long = omega (arith, e, f .long);
@@ -158,18 +172,26 @@ CellsIn j s l n = Filled j s l n (length (j .cells))
 
 -- what the search is given of a row
 pub record Lined (j : Job) (s : Side) (l : List ℕ) (n : ℕ) : Type 0 where
-  pub matched : Matched siteOf (line (pairJob j) s) (deckOf l n (poseNumbers j)) (λ p a. poseNumber j (cell (pairJob j) s p) a) (λ p a. isOffered j (cell (pairJob j) s p) a)
+  pub matched : Matched siteOf (line (pairJob j) s) (deckOf l n (poseNumbers j))
+      (λ p a. poseNumber j (cell (pairJob j) s p) a) (λ p a. isOffered j (cell (pairJob j) s p) a)
   pub words : RowWords l
   pub size : n ≤ 64
   pub few : poseNumbers j ≤ 60
   pub number : (p : ℕ) → p < n → wordOf l p numberWord ≡ cell (pairJob j) s p
 
-module _ (j : Job) (sound : Sound j) (s : Side) (l : List ℕ) (n k : ℕ) (f : Filled j s l n k) (e : k ≡ length (j .cells)) where
+module _ (j : Job) (sound : Sound j) (s : Side) (l : List ℕ) (n k : ℕ) (f : Filled j s l n k)
+    (e : k ≡ length (j .cells)) where
   row-words : RowCells j s l n
   row-words = record {
-    size = done (members (pairJob j) s) n (f .upto) (f .left ∙ rest-none (stands j s) k (length (j .cells)) (omega arith));
+    size =
+        done (members (pairJob j) s) n (f .upto) (f .left ∙ rest-none (stands j s) k (length (j .cells)) (omega arith));
     cells = cells;
-    words = record { long = f .long; word = f .low .word; weight = λ p. weight p (decLt p n); filled = λ p. filled p (decLt p n) };
+    words = record {
+      long = f .long;
+      word = f .low .word;
+      weight = λ p. weight p (decLt p n);
+      filled = λ p. filled p (decLt p n);
+    };
   }
     where
       cells : (p : ℕ) → p < n → CellWords j (rowOf s) (cell (pairJob j) s p) (wordOf l p)
@@ -202,9 +224,11 @@ module _ (j : Job) (sound : Sound j) (s : Side) (l : List ℕ) (n k : ℕ) (f : 
 module _ (v : declared.Job) (k : ℕ) (g : k < v .count) (h : k < length (jobOf v .cells)) where
   pub ranged-at : Sound (jobOf v) → Ranged (v .header) (value.cellAt v k)
   unfolding jobOf
-  ranged-at sound = ranged (v .header) (value.cellAt v k) (sound .header) (subst (SoundCell (headerOf (v .header))) (cell-there v k g) (sound .cell k h))
+  ranged-at sound = ranged (v .header) (value.cellAt v k) (sound .header)
+      (subst (SoundCell (headerOf (v .header))) (cell-there v k g) (sound .cell k h))
 
-  pub filled-value : (row : ℕ) → row ≤ 1 → {l l′ : List ℕ} {n n′ : ℕ} → Filled (jobOf v) (sideOf row) l n k → Added (one (v .header) (value.cellAt v k)) row k n n′ l l′
+  pub filled-value : (row : ℕ) → row ≤ 1 → {l l′ : List ℕ} {n n′ : ℕ} → Filled (jobOf v) (sideOf row) l n k
+      → Added (one (v .header) (value.cellAt v k)) row k n n′ l l′
       → Filled (jobOf v) (sideOf row) l′ n′ (k + 1)
   unfolding jobOf
   filled-value row r {l} {l′} {n} {n′} f a =

@@ -1,5 +1,5 @@
--- A row's words stand for the row of the pair theory: what a cell costs, and what two neighbours pay and the cells at the row's ends. Sites are
--- compared with D added to both.
+-- A row's words stand for the row of the pair theory: what a cell costs, and what two neighbours pay and the cells at
+-- the row's ends. Sites are compared with D added to both.
 use Prim.Native.Nat.{ℕ, zero, suc, _+_, _-_, _*_, _≤_, _<_}
 use mathlib.Core.Path.{_≡_, refl, sym, ap, ap₂, _∙_}
 use mathlib.Core.Logic.{_≢_}
@@ -21,10 +21,12 @@ use Rattle.theory_pair.specs.Cells.{Side, row₀, row₁, isTall, ownIn, member
 use Rattle.theory_pair.specs.Members.{at-in}
 use Rattle.theory_tables.specs.Steps.{B}
 use Rattle.theory_tables.specs.Matched.{Matched}
-use Rattle.theory_bridge.specs.Paired.{kindOf, rowOf, siteOf, poseNumbers, poseNumber, isOffered, offersOf, widthOf, ownOf, differingOf, payOf, pairJob}
+use Rattle.theory_bridge.specs.Paired.{kindOf, rowOf, siteOf, poseNumbers, poseNumber, isOffered}
+use Rattle.theory_bridge.specs.Paired.{offersOf, widthOf, ownOf, differingOf, payOf, pairJob}
 use Rattle.theory_bridge.specs.Row.{isTall-same, member}
 use Rattle.theory_bridge.specs.Legal.{end-allowed}
-use Rattle.search_row.specs.Words.{wordOf, siteIn, endIn, differIn, weightIn, tollAt, tollIn, frontIn, backIn, deckOf, RowWords, apartWord, touchingWord}
+use Rattle.search_row.specs.Words.{wordOf, siteIn, endIn, differIn, weightIn, tollAt, tollIn}
+use Rattle.search_row.specs.Words.{frontIn, backIn, deckOf, RowWords, apartWord, touchingWord}
 use Rattle.search_row_fill.specs.Words.{ownWord}
 use Rattle.search_row_fill.specs.Cell.{offered-low, CellWords}
 
@@ -61,7 +63,8 @@ toll-barred x y pay f = go (ltb x y) (le? (suc x) y)
     go true h = refl
     go false (high h) = rw (eq-eqb (x - y) 1 (f (omega arith)))
 
-module _ (j : Job) (s : Side) (l : List ℕ) (k m : ℕ) (b a : ℕ) (K M : ℕ) (w : CellWords j (rowOf s) K (wordOf l k)) (v : CellWords j (rowOf s) M (wordOf l m)) where
+module _ (j : Job) (s : Side) (l : List ℕ) (k m : ℕ) (b a : ℕ) (K M : ℕ) (w : CellWords j (rowOf s) K (wordOf l k))
+    (v : CellWords j (rowOf s) M (wordOf l m)) where
   differ-same : differIn l k b m a ≡ differingOf j (rowOf s) (K, poseNumber j K b) (M, poseNumber j M a)
   unfolding differingOf
   differ-same = rw (w .rightP b, w .rightN b, v .leftP a, v .leftN a) (omega arith)
@@ -79,7 +82,8 @@ module _ (j : Job) (s : Side) (l : List ℕ) (k m : ℕ) (b a : ℕ) (K M : ℕ)
   gapTo = poseNumber j M a .site - (poseNumber j K b .site + widthOf j K (poseNumber j K b))
 
   sites : isOffered j K b ≡ true → isOffered j M a ≡ true
-      → (siteIn l m a ≡ poseNumber j M a .site + j .header .displacement) × (endIn l k b ≡ poseNumber j K b .site + widthOf j K (poseNumber j K b) + j .header .displacement)
+      → (siteIn l m a ≡ poseNumber j M a .site + j .header .displacement)
+      × (endIn l k b ≡ poseNumber j K b .site + widthOf j K (poseNumber j K b) + j .header .displacement)
   unfolding poseNumber
   sites p q =
       let x = offered-low j K b p in
@@ -97,19 +101,24 @@ module _ (j : Job) (s : Side) (l : List ℕ) (k m : ℕ) (b a : ℕ) (K M : ℕ)
   pays p q h d =
       let z = sites p q in
       let g : siteIn l m a - endIn l k b ≡ gapTo = rw (z .0, z .1) (omega arith) in
-      toll-pays (siteIn l m a) (endIn l k b) (λ gap. weightIn l m gap * differIn l k b m a) (rw (z .0, z .1) (omega arith)) (λ e. d (omega (arith, sym g ∙ e)))
+      toll-pays (siteIn l m a) (endIn l k b) (λ gap. weightIn l m gap * differIn l k b m a)
+      (rw (z .0, z .1) (omega arith)) (λ e. d (omega (arith, sym g ∙ e)))
       ∙ ap₂ (λ x y. charge x * y) g (ap₂ _*_ (weight-same (siteIn l m a - endIn l k b)) differ-same)
-      ∙ mul-left-comm (charge gapTo) (j .header .stepWeight) (differingOf j (rowOf s) (K, poseNumber j K b) (M, poseNumber j M a))
+      ∙ mul-left-comm (charge gapTo) (j .header .stepWeight)
+      (differingOf j (rowOf s) (K, poseNumber j K b) (M, poseNumber j M a))
 
   barred : isOffered j K b ≡ true → isOffered j M a ≡ true
-      → ¬ ((poseNumber j K b .site + widthOf j K (poseNumber j K b) ≤ poseNumber j M a .site) × (poseNumber j M a .site ≢ poseNumber j K b .site + widthOf j K (poseNumber j K b) + 1))
+      → ¬ ((poseNumber j K b .site + widthOf j K (poseNumber j K b) ≤ poseNumber j M a .site)
+      × (poseNumber j M a .site ≢ poseNumber j K b .site + widthOf j K (poseNumber j K b) + 1))
       → tollIn l k b m a ≡ B
   unfolding tollIn
   barred p q n =
       let z = sites p q in
-      toll-barred (siteIn l m a) (endIn l k b) (λ gap. weightIn l m gap * differIn l k b m a) (λ h. near (siteIn l m a) (endIn l k b) (z .0) (z .1) h)
+      toll-barred (siteIn l m a) (endIn l k b) (λ gap. weightIn l m gap * differIn l k b m a)
+      (λ h. near (siteIn l m a) (endIn l k b) (z .0) (z .1) h)
     where
-      near : (x y : ℕ) → x ≡ poseNumber j M a .site + j .header .displacement → y ≡ poseNumber j K b .site + widthOf j K (poseNumber j K b) + j .header .displacement → y ≤ x → x - y ≡ 1
+      near : (x y : ℕ) → x ≡ poseNumber j M a .site + j .header .displacement
+          → y ≡ poseNumber j K b .site + widthOf j K (poseNumber j K b) + j .header .displacement → y ≤ x → x - y ≡ 1
       near x y e f h = go (ℕ-discrete (x - y) 1)
         where
           go : Dec (x - y ≡ 1) → x - y ≡ 1
@@ -137,14 +146,17 @@ module _ (j : Job) (sound : Sound j) (s : Side) (l : List ℕ) (n : ℕ) (w : Ro
   few-poses = let d = sound .header .displacement in omega arith
 
   own-same : (p a : ℕ) → p < length (members (pairJob j) s) → a < poseNumbers j
-      → wordOf l p a ≡ cond (isOffered j (cell (pairJob j) s p) a) (line (pairJob j) s .own p (poseNumber j (cell (pairJob j) s p) a)) B
+      → wordOf l p a ≡ cond (isOffered j (cell (pairJob j) s p) a)
+      (line (pairJob j) s .own p (poseNumber j (cell (pairJob j) s p) a)) B
   unfolding ownWord
   own-same p a h g =
       words-at p h .own a (let f = few-poses in omega arith)
-      ∙ ap (λ x. cond (isOffered j (cell (pairJob j) s p) a) x B) (own-counts s (cellAt j (cell (pairJob j) s p) .row) (ownOf j (cell (pairJob j) s p) (poseNumber j (cell (pairJob j) s p) a)) (row-low p h))
+      ∙ ap (λ x. cond (isOffered j (cell (pairJob j) s p) a) x B) (own-counts s (cellAt j (cell (pairJob j) s p) .row)
+      (ownOf j (cell (pairJob j) s p) (poseNumber j (cell (pairJob j) s p) a)) (row-low p h))
 
   -- the row's ends: a cell pays nothing there, where it may stand
-  front-same : (p a : ℕ) → frontIn l p a ≡ cond (line (pairJob j) s .opens p (poseNumber j (cell (pairJob j) s p) a)) 0 B
+  front-same : (p a : ℕ)
+      → frontIn l p a ≡ cond (line (pairJob j) s .opens p (poseNumber j (cell (pairJob j) s p) a)) 0 B
   unfolding frontIn
   front-same p a = ap (λ t. cond t 0 B) (sym (end-allowed _))
 
@@ -152,12 +164,14 @@ module _ (j : Job) (sound : Sound j) (s : Side) (l : List ℕ) (n : ℕ) (w : Ro
   unfolding backIn
   back-same p a = ap (λ t. cond t 0 B) (sym (end-allowed _))
 
-  pub matched : Matched siteOf (line (pairJob j) s) (deckOf l n (poseNumbers j)) (λ p a. poseNumber j (cell (pairJob j) s p) a) (λ p a. isOffered j (cell (pairJob j) s p) a)
+  pub matched : Matched siteOf (line (pairJob j) s) (deckOf l n (poseNumbers j))
+      (λ p a. poseNumber j (cell (pairJob j) s p) a) (λ p a. isOffered j (cell (pairJob j) s p) a)
   unfolding offersOf
   matched = record {
     size = w .size;
     options = λ p h. refl;
-    tall = λ p h. ap (λ x. eqb x 1) (words-at p h .tall) ∙ one-true (job.isTall (cellAt j (cell (pairJob j) s p))) ∙ isTall-same j sound (cell (pairJob j) s p) (inside p h);
+    tall = λ p h. ap (λ x. eqb x 1) (words-at p h .tall) ∙ one-true (job.isTall (cellAt j (cell (pairJob j) s p)))
+        ∙ isTall-same j sound (cell (pairJob j) s p) (inside p h);
     own = own-same;
     front = λ p a h g o. front-same p a;
     back = λ p a h g o. back-same p a;

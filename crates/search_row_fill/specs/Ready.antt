@@ -38,7 +38,8 @@ pub cells-lined : {j : Job} {s : Side} {l : List ℕ} {n : ℕ} → Sound j → 
 cells-lined {j} {s} {l} {n} sound f = lined j sound s l n (length (j .cells)) f refl
 
 -- room for all positions
-pub cells-talls : {j : Job} {s : Side} {l : List ℕ} {n : ℕ} → Sound j → CellsIn j s l n → (n ≤ 64) × (length (tallsIn l n) ≤ 24)
+pub cells-talls : {j : Job} {s : Side} {l : List ℕ} {n : ℕ} → Sound j → CellsIn j s l n
+    → (n ≤ 64) × (length (tallsIn l n) ≤ 24)
 cells-talls sound f = let w = cells-lined sound f in (w .size, talls-few w sound)
 
 pub zeros-small : (n k : ℕ) → getD (replicate n 0) k 0 < 64
@@ -46,7 +47,10 @@ zeros-small n k = go (decLt k n)
   where
     go : Dec (k < n) → getD (replicate n 0) k 0 < 64
     go (yes h) = omega (arith, getD-replicate {A = ℕ} n k 0 0 h)
-    go (no h) = omega (arith, List·getD-eq-default {A = ℕ} (replicate n 0) 0 {n = k} (omega (arith, length-replicate {A = ℕ} n 0)))
+    go (no h) = omega (
+      arith,
+      List·getD-eq-default {A = ℕ} (replicate n 0) 0 {n = k} (omega (arith, length-replicate {A = ℕ} n 0)),
+    )
 
 abbrev pub wordsOf : List ℕ → ℕ → ℕ
 wordsOf l k = getD l k 0
@@ -62,7 +66,13 @@ module _ {j : Job} {s : Side} {cells talls row places : List ℕ} {n count state
       go (yes g) =
           let k = q - tallsFrom in
           let e : tallsFrom + k ≡ q = omega arith in
-          omega (arith, c .frame .high q (omega arith), ap (λ (i : ℕ). getD talls i 0) e, w .words k (omega arith), t .small k)
+          omega (
+            arith,
+            c .frame .high q (omega arith),
+            ap (λ (i : ℕ). getD talls i 0) e,
+            w .words k (omega arith),
+            t .small k,
+          )
       go (no g) = omega (arith, c .frame .high q (omega arith), w .frame .high q (omega arith), f .upper q h)
 
   first : Lined j s cells n
@@ -95,7 +105,8 @@ module _ {j : Job} {s : Side} {cells talls row places : List ℕ} {n count state
 -- ---- both rows
 
 -- the rows differ in their cells alone
-pub same-sizes : {j : Job} {s t : Side} {a b : List ℕ} {z y : Sizes} → RowReady j s a z → RowReady j t b y → y ≡ withCells z (y .cells)
+pub same-sizes : {j : Job} {s t : Side} {a b : List ℕ} {z y : Sizes} → RowReady j s a z → RowReady j t b y
+    → y ≡ withCells z (y .cells)
 same-sizes {j} {z = z} {y = y} r u =
     u .sizes
     ∙ ap₂ (sizesOf j (y .cells)) (u .all ∙ sym (r .all)) (u .talls ∙ sym (r .talls))

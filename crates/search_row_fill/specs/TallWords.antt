@@ -42,10 +42,17 @@ pub record TallWords (line : List ℕ) (n : ℕ) (talls : List ℕ) (count : ℕ
   pub small : (I : ℕ) → getD talls I 0 < 64
 
 module _ {line : List ℕ} {n : ℕ} where
-  pub talls-none : {talls : List ℕ} → length (tallsIn line n) ≤ length talls → ((I : ℕ) → getD talls I 0 < 64) → TallsUpto line n talls 0 0
+  pub talls-none : {talls : List ℕ} → length (tallsIn line n) ≤ length talls → ((I : ℕ) → getD talls I 0 < 64)
+      → TallsUpto line n talls 0 0
   unfolding tallsIn
   talls-none h s =
-      record { room = h; below = omega arith; left = sym (rest-all (tallAt line) n); words = λ I g. absurd (omega arith); small = s }
+      record {
+        room = h;
+        below = omega arith;
+        left = sym (rest-all (tallAt line) n);
+        words = λ I g. absurd (omega arith);
+        small = s;
+      }
 
   module _ {talls : List ℕ} {count p : ℕ} (u : TallsUpto line n talls count p) where
     abbrev coming : List ℕ
@@ -53,7 +60,8 @@ module _ {line : List ℕ} {n : ℕ} where
 
     module _ (h : p < n) (e : tallAt line p ≡ true) where
       upcoming : Next 0 (tallsIn line n) count p coming
-      upcoming = next (tallsIn line n) count (u .left ∙ rest-more (tallAt line) p n h ∙ ap (λ t. cond t (p ∷ coming) coming) e)
+      upcoming =
+          next (tallsIn line n) count (u .left ∙ rest-more (tallAt line) p n h ∙ ap (λ t. cond t (p ∷ coming) coming) e)
 
       pub talls-room : count < length talls
       talls-room = let r = u .room in let i = upcoming .inside in omega arith
@@ -70,7 +78,8 @@ module _ {line : List ℕ} {n : ℕ} where
       }
         where
           one : (I : ℕ) → Dec (count ≡ I) → getD (set talls count p) I 0 < 64
-          one I (yes z) = omega (arith, ap (λ k. getD (set talls count p) k 0) z, getD-set-same talls count p 0 talls-room)
+          one I (yes z) =
+              omega (arith, ap (λ k. getD (set talls count p) k 0) z, getD-set-same talls count p 0 talls-room)
           one I (no z) = omega (arith, getD-set-other talls count I p 0 (λ y. z (sym y)), u .small I)
 
     pub talls-skip : p < n → tallAt line p ≡ false → TallsUpto line n talls count (p + 1)
@@ -83,7 +92,11 @@ module _ {line : List ℕ} {n : ℕ} where
     }
 
     pub talls-all : n ≤ p → TallWords line n talls count
-    talls-all h = record { all = done (tallsIn line n) count (u .below) (u .left ∙ rest-none (tallAt line) p n h); words = u .words; small = u .small }
+    talls-all h = record {
+      all = done (tallsIn line n) count (u .below) (u .left ∙ rest-none (tallAt line) p n h);
+      words = u .words;
+      small = u .small;
+    }
 
 -- ---- the tall cells of a row of a job
 
@@ -92,7 +105,8 @@ module _ {j : Job} {s : Side} {line : List ℕ} {n : ℕ} (w : Lined j s line n)
   unfolding tallsIn
   places =
       ap (λ m. pick (tallAt line) (from 0 m)) (w .matched .size)
-      ∙ pick-same (tallAt line) _ (from 0 (length (members (pairJob j) s))) (λ p m. let h = in-from 0 (length (members (pairJob j) s)) m in w .matched .tall p (omega arith))
+      ∙ pick-same (tallAt line) _ (from 0 (length (members (pairJob j) s)))
+      (λ p m. let h = in-from 0 (length (members (pairJob j) s)) m in w .matched .tall p (omega arith))
 
   pub talls-count : length (tallsIn line n) ≡ tallCount (pairJob j)
   talls-count = ap length places ∙ places-count (pairJob j) s
@@ -102,7 +116,8 @@ module _ {j : Job} {s : Side} {line : List ℕ} {n : ℕ} (w : Lined j s line n)
   talls-few sound = let a = talls-count in let b = few-talls j sound in omega arith
 
   -- the words are the positions of the tall cells, and there are so many
-  pub talls-pos : {talls : List ℕ} {count : ℕ} → TallWords line n talls count → (count ≡ tallCount (pairJob j)) × ((I : ℕ) → I < tallCount (pairJob j) → getD talls I 0 ≡ pos (pairJob j) s I)
+  pub talls-pos : {talls : List ℕ} {count : ℕ} → TallWords line n talls count
+      → (count ≡ tallCount (pairJob j)) × ((I : ℕ) → I < tallCount (pairJob j) → getD talls I 0 ≡ pos (pairJob j) s I)
   talls-pos {talls} {count} t = (
     t .all ∙ talls-count,
     λ I h. t .words I (let a = t .all in let b = talls-count in omega arith)

@@ -62,11 +62,13 @@ ranged h c p q = record {
 count-two : {A : Type 0} (x y : A) (l n : ℕ) → l < 2 → ltb l (length (take n (x ∷ y ∷ []))) ≡ ltb l n
 count-two x y l zero h = refl
 count-two x y l (suc zero) h = refl
-count-two x y l (suc (suc n)) h = ap (λ m. ltb l (suc (suc (length m)))) (take-nil n) ∙ lt-ltb l 2 h ∙ sym (lt-ltb l (suc (suc n)) (omega arith))
+count-two x y l (suc (suc n)) h =
+    ap (λ m. ltb l (suc (suc (length m)))) (take-nil n) ∙ lt-ltb l 2 h ∙ sym (lt-ltb l (suc (suc n)) (omega arith))
 
 pub offered-same : (h : Header) (c : Cell) (a : ℕ)
     → isOffered (one h c) 0 a
-    ≡ (leb (h .displacement) (c .given + a / 4) && ltb (a % 4 / 2) (c .layouts) && (eqb (a % 2) 0 || c .mirrorable) && leb (c .given + a / 4 - h .displacement + widthIn (cellOf c) (a % 4 / 2)) (h .sites))
+    ≡ (leb (h .displacement) (c .given + a / 4) && ltb (a % 4 / 2) (c .layouts) && (eqb (a % 2) 0 || c .mirrorable)
+    && leb (c .given + a / 4 - h .displacement + widthIn (cellOf c) (a % 4 / 2)) (h .sites))
 unfolding isOffered poseNumber widthOf headerOf cellOf
 offered-same h c a = rw (count-two _ _ (a % 4 / 2) (c .layouts) (omega arith))
 
@@ -83,7 +85,8 @@ pub cost-same : (h : Header) (c : Cell) (a : ℕ)
     → ownOf (one h c) 0 (poseNumber (one h c) 0 a)
     ≡ h .shift * apart (c .given + a / 4 - h .displacement) (c .given) + h .mirror * (a % 2) + h .swap * (a % 4 / 2)
 unfolding ownOf poseNumber headerOf cellOf
-cost-same h c a = ap₂ (λ x y. h .shift * apart (c .given + a / 4 - h .displacement) (c .given) + h .mirror * x + h .swap * y) (one-digit (a % 2) (omega arith)) (one-digit (a % 4 / 2) (omega arith))
+cost-same h c a = ap₂ (λ x y. h .shift * apart (c .given + a / 4 - h .displacement) (c .given) + h .mirror * x
+    + h .swap * y) (one-digit (a % 2) (omega arith)) (one-digit (a % 4 / 2) (omega arith))
 
 -- not offered; a tall cell's in row 1; otherwise
 module _ (h : Header) (c : Cell) (row a : ℕ) where
@@ -95,7 +98,8 @@ module _ (h : Header) (c : Cell) (row a : ℕ) where
   unfolding ownWord cellOf
   own-there e t = rw (e, t)
 
-  pub own-here : isOffered (one h c) 0 a ≡ true → (eqb (c .row) 2 && eqb row 1) ≡ false → ownOf (one h c) 0 (poseNumber (one h c) 0 a) ≡ ownWord (one h c) row 0 a
+  pub own-here : isOffered (one h c) 0 a ≡ true → (eqb (c .row) 2 && eqb row 1) ≡ false
+      → ownOf (one h c) 0 (poseNumber (one h c) 0 a) ≡ ownWord (one h c) row 0 a
   unfolding ownWord cellOf
   own-here e t = rw (e, t)
 

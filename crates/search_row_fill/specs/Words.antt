@@ -1,4 +1,5 @@
--- The words of a cell in a row, by their places in search_row/specs/Words.antt. Nothing to believe: Matched.antt proves that they stand for the state's row.
+-- The words of a cell in a row, by their places in search_row/specs/Words.antt. Nothing to believe: Matched.antt
+-- proves that they stand for the state's row.
 use Prim.Native.Nat.{ℕ, _+_, _-_, _*_, _/_, _%_}
 use mathlib.Core.Bool.{_&&_, cond}
 use mathlib.Core.List.{[], _∷_}
@@ -19,9 +20,11 @@ ownWord j row k a = cond (isOffered j k a) (cond (isTall (cellAt j k) && eqb row
 
 -- words 64 to 67
 unfoldable pub shapeWord : Job → ℕ → ℕ → ℕ
-shapeWord j k i = cond (eqb i 64) (cellAt j k .given) (cond (ltb i 67) (widthIn (cellAt j k) (i - 65)) (cond (isTall (cellAt j k)) 1 0))
+shapeWord j k i = cond (eqb i 64) (cellAt j k .given)
+    (cond (ltb i 67) (widthIn (cellAt j k) (i - 65)) (cond (isTall (cellAt j k)) 1 0))
 
--- word 68 + u, a height: u / 8 is 1 for the right edge, u / 4 % 2 is 1 for N, u % 4 / 2 is the layout and u % 2 the mark, which exchanges the edges
+-- word 68 + u, a height: u / 8 is 1 for the right edge, u / 4 % 2 is 1 for N, u % 4 / 2 is the layout
+-- and u % 2 the mark, which exchanges the edges
 abbrev pub edge : ℕ → ℕ
 edge u = (u / 8 + u % 2) % 2 * 2 + u / 4 % 2
 
@@ -32,4 +35,5 @@ heightWord j row k u = heightIn (cellAt j k) (u % 4 / 2) (firstOf (cellAt j k .r
 unfoldable pub cellWord : Job → ℕ → ℕ → ℕ → ℕ → ℕ
 cellWord j row k number i =
     cond (ltb i 64) (ownWord j row k i)
-    (cond (ltb i 68) (shapeWord j k i) (cond (ltb i 84) (heightWord j row k (i - 68)) (cond (eqb i 84) (j .header .stepWeight) (cond (eqb i 85) number (cond (eqb i 86) (j .header .stepWeight) 0)))))
+    (cond (ltb i 68) (shapeWord j k i) (cond (ltb i 84) (heightWord j row k (i - 68))
+    (cond (eqb i 84) (j .header .stepWeight) (cond (eqb i 85) number (cond (eqb i 86) (j .header .stepWeight) 0)))))

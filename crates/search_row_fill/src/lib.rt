@@ -176,7 +176,8 @@ fn fill_cell(line: &mut [u32], at: usize, header: Header, cell: Cell, row: u32, 
 
 // The cell at position n, if it stands in the row; how many cells there are then.
 fn add_cell(line: &mut [u32], n: usize, header: Header, cell: Cell, row: u32, number: u32) -> usize
-    requires { ⌜ Ranged header cell × (row ≤ 1) × (number < 64) × (n < 64) × (statesFrom ≤ length (now line)) × Low (now line) ⌝ }
+    requires { ⌜ Ranged header cell × (row ≤ 1) × (number < 64) × (n < 64) × (statesFrom ≤ length (now line))
+        × Low (now line) ⌝ }
     ensures { λ r. ⌜ Added (one header cell) row number n r (now (line .entry)) (now (line .exit)) ⌝ }
 {
     if !job::stands(cell.row, row) {
@@ -188,7 +189,8 @@ fn add_cell(line: &mut [u32], n: usize, header: Header, cell: Cell, row: u32, nu
 
 // The words of the row's cells, in file order; how many cells it has.
 fn fill_line(line: &mut [u32], job: Job, row: u32) -> usize
-    requires { ⌜ Sound (jobOf job) × (job .count ≤ 64) × (row ≤ 1) × (rowLength ≤ length (now line)) × Low (now line) ⌝ }
+    requires { ⌜ Sound (jobOf job) × (job .count ≤ 64) × (row ≤ 1) × (rowLength ≤ length (now line))
+        × Low (now line) ⌝ }
     ensures { λ n. ⌜ CellsIn (jobOf job) (sideOf row) (now (line .exit)) n ⌝ }
 {
     let long = line.len();
@@ -219,7 +221,8 @@ fn add_tall(talls: &mut [u32], count: usize, line: &[u32], n: usize, p: usize) -
 
 // The positions of the tall cells of a row of n cells, in rising order; how many there are.
 fn fill_talls(talls: &mut [u32], line: &[u32], n: usize) -> usize
-    requires { ⌜ (n ≤ 64) × (statesFrom ≤ length (now line)) × (length (tallsIn (now line) n) ≤ length (now talls)) × ((i : ℕ) → getD (now talls) i 0 < 64) ⌝ }
+    requires { ⌜ (n ≤ 64) × (statesFrom ≤ length (now line)) × (length (tallsIn (now line) n) ≤ length (now talls))
+        × ((i : ℕ) → getD (now talls) i 0 < 64) ⌝ }
     ensures { λ r. ⌜ TallWords (now (line .entry)) n (now (talls .exit)) r ⌝ }
 {
     let mut count: usize = 0;
@@ -233,7 +236,8 @@ fn fill_talls(talls: &mut [u32], line: &[u32], n: usize) -> usize
 
 // The positions, to their place after the words of the states.
 fn put_talls(row: &mut [u32], places: &[u32; 32])
-    requires { ⌜ (rowLength ≤ length (now row)) × Low (now row) × (length (now places) ≡ 32) × ((i : ℕ) → getD (now places) i 0 < 64) ⌝ }
+    requires { ⌜ (rowLength ≤ length (now row)) × Low (now row) × (length (now places) ≡ 32)
+        × ((i : ℕ) → getD (now places) i 0 < 64) ⌝ }
     ensures { λ _. ⌜ Written (wordsOf (now (places .entry))) tallsFrom 32 (now (row .entry)) (now (row .exit)) ⌝ }
 {
     let mut i: usize = 0;

@@ -1,4 +1,5 @@
--- Laws of the stages: a table is the least over the table before and the costs, from number 0 on; what a stage's parts make together.
+-- Laws of the stages: a table is the least over the table before and the costs, from
+-- number 0 on; what a stage's parts make together.
 use Prim.Native.Nat.{ℕ, zero, suc, _+_, _≤_, _<_, min}
 use mathlib.Core.Path.{_≡_, refl, sym, ap, _∙_}
 use mathlib.Core.Bool.{Bool, true, false, cond}
@@ -23,7 +24,8 @@ use Rattle.search_join.specs.Laws.{least-open}
 use Rattle.search_join.specs.SumLaws.{table-for}
 use Rattle.search_join.specs.Parts.{least-ext}
 use Rattle.search_row.specs.declared.Sizes.{Sizes}
-use Rattle.search_stage.specs.Stage.{wide, widthOf, costOf, tableOf, Right, Staged, StageDone, Through, StagesDone, BothCosted, StagesGiven}
+use Rattle.search_stage.specs.Stage.{wide, widthOf, costOf, tableOf, Right, Staged}
+use Rattle.search_stage.specs.Stage.{StageDone, Through, StagesDone, BothCosted, StagesGiven}
 use Rattle.search_stage.specs.Starts.{ways-same}
 
 -- ---- counts
@@ -77,7 +79,8 @@ pub width-room : (poses : ℕ) → poses ≤ 60 → (poses ≤ widthOf poses) ×
 unfolding widthOf
 width-room poses h = (omega arith, omega arith)
 
-pub wide-lanes : (talls I poses : ℕ) → poses ≤ 60 → (wide talls I poses ≤ wide talls I (widthOf poses)) × (wide talls I (widthOf poses) ≤ 64)
+pub wide-lanes : (talls I poses : ℕ) → poses ≤ 60
+    → (wide talls I poses ≤ wide talls I (widthOf poses)) × (wide talls I (widthOf poses) ≤ 64)
 wide-lanes talls I poses h =
     let w = width-room poses h in
     (wide-mono talls I poses (widthOf poses) (w .0), wide-low talls I (widthOf poses) 64 (omega arith) (w .1))
@@ -86,18 +89,22 @@ wide-lanes talls I poses h =
 pub wide-most : (talls I x : ℕ) → 1 ≤ x → wide talls I x ≤ wide talls talls x
 wide-most zero zero x h = omega arith
 wide-most zero (suc I) x h = omega (arith, wide-first 0 0 x refl, wide-last 0 (suc I) x (omega arith))
-wide-most (suc talls) I x h = rw (wide-all (suc talls) talls x (omega arith)) (wide-low (suc talls) I x x h (omega arith))
+wide-most (suc talls) I x h =
+    rw (wide-all (suc talls) talls x (omega arith)) (wide-low (suc talls) I x x h (omega arith))
 
 module _ (D₀ D₁ : Deck) (R talls : ℕ) (pos₀ pos₁ : ℕ → ℕ) where
   -- ---- each table from the one before
   pub table-step : (I q₀ q₁ a : ℕ) → I ≤ talls
-      → nextCases (wide talls I (stateCount R)) (wide talls I (D₀ .poses)) (tableOf D₀ D₁ R talls pos₀ pos₁ I) (costOf D₀ R talls pos₀ I) (costOf D₁ R talls pos₁ I) q₀ q₁ a
+      → nextCases (wide talls I (stateCount R)) (wide talls I (D₀ .poses)) (tableOf D₀ D₁ R talls pos₀ pos₁ I)
+      (costOf D₀ R talls pos₀ I) (costOf D₁ R talls pos₁ I) q₀ q₁ a
       ≡ tableOf D₀ D₁ R talls pos₀ pos₁ (suc I) q₀ q₁ a
   unfolding tableOf costOf caseTable nextCases joinPose lowest from wide
   table-step zero q₀ q₁ a h = omega arith
-  table-step (suc I) q₀ q₁ a h = rw (wide-all talls I (stateCount R) (omega arith), wide-all talls I (D₀ .poses) (omega arith)) refl
+  table-step (suc I) q₀ q₁ a h =
+      rw (wide-all talls I (stateCount R) (omega arith), wide-all talls I (D₀ .poses) (omega arith)) refl
 
-  pub staged-right : (I : ℕ) {st : List ℕ} → Staged D₀ D₁ R talls pos₀ pos₁ I st → Right D₀ D₁ R talls pos₀ pos₁ (suc I) st
+  pub staged-right : (I : ℕ) {st : List ℕ} → Staged D₀ D₁ R talls pos₀ pos₁ I st
+      → Right D₀ D₁ R talls pos₀ pos₁ (suc I) st
   staged-right I w = record { word = λ q₀ q₁ a h g f. w .case q₀ q₁ a h g f .right; beyond = w .beyond }
 
   module _ (few : stateCount R ≤ 12) (some : 1 ≤ stateCount R) (narrow : D₀ .poses ≤ 60) where
@@ -109,9 +116,13 @@ module _ (D₀ D₁ : Deck) (R talls : ℕ) (pos₀ pos₁ : ℕ → ℕ) where
 
     -- a stage from its costs and the table before
     pub stage-done : (I : ℕ) {old mid one new : List ℕ} → I ≤ talls → talls ≤ 24
-        → BothCosted (costOf D₀ R talls pos₀ I) (costOf D₁ R talls pos₁ I) I (wide talls I (stateCount R)) (wide talls I (D₀ .poses)) (wide talls (suc I) (stateCount R)) (wide talls (suc I) (D₀ .poses)) (wide talls I (stateCount R)) old mid
-        → Joined (wide talls I (stateCount R)) (wide talls I (widthOf (D₀ .poses))) (wide talls (suc I) (stateCount R)) (wide talls (suc I) (D₀ .poses)) I mid one
-        → Closed (suc I) (wide talls (suc I) (D₀ .poses)) (wide talls (suc I) (widthOf (D₀ .poses))) (AllStates (wide talls (suc I) (stateCount R)) (wide talls (suc I) (stateCount R))) one new
+        → BothCosted (costOf D₀ R talls pos₀ I) (costOf D₁ R talls pos₁ I) I (wide talls I (stateCount R))
+        (wide talls I (D₀ .poses)) (wide talls (suc I) (stateCount R)) (wide talls (suc I) (D₀ .poses))
+        (wide talls I (stateCount R)) old mid
+        → Joined (wide talls I (stateCount R)) (wide talls I (widthOf (D₀ .poses))) (wide talls (suc I) (stateCount R))
+        (wide talls (suc I) (D₀ .poses)) I mid one
+        → Closed (suc I) (wide talls (suc I) (D₀ .poses)) (wide talls (suc I) (widthOf (D₀ .poses)))
+        (AllStates (wide talls (suc I) (stateCount R)) (wide talls (suc I) (stateCount R))) one new
         → StageDone D₀ D₁ R talls pos₀ pos₁ I old new
     stage-done I {old} {mid} {one} {new} h g p j c =
         record {
@@ -126,17 +137,20 @@ module _ (D₀ D₁ : Deck) (R talls : ℕ) (pos₀ pos₁ : ℕ → ℕ) where
             case = λ q₀ q₁ a x y z.
                 let m = wide-states (suc I) in
                 let n = wide-poses (suc I) in
-                let e = c .kept (suc I) q₀ q₁ a (omega arith, omega arith, omega arith, omega arith) (λ e k l. omega arith) in
+                let e =
+                c .kept (suc I) q₀ q₁ a (omega arith, omega arith, omega arith, omega arith) (λ e k l. omega arith) in
                 rw (e .case, e .source) (go r q₀ q₁ a x y z);
             beyond = record { none = λ q₀ q₁ l x y. c .none q₀ q₁ l (x, y) };
           };
         }
       where
         -- the ways below B are the model's
-        same : Right D₀ D₁ R talls pos₀ pos₁ I old → (q₀ q₁ a s t l : ℕ) → q₀ < wide talls (suc I) (stateCount R) → q₁ < wide talls (suc I) (stateCount R) → a < wide talls (suc I) (D₀ .poses)
+        same : Right D₀ D₁ R talls pos₀ pos₁ I old → (q₀ q₁ a s t l : ℕ) → q₀ < wide talls (suc I) (stateCount R)
+            → q₁ < wide talls (suc I) (stateCount R) → a < wide talls (suc I) (D₀ .poses)
             → s < wide talls I (stateCount R) → t < wide talls I (stateCount R) → l < wide talls I (D₀ .poses)
             → min (casesIn mid I s t l + (costsIn mid 0 s l q₀ a + costsIn mid 1 t l q₁ a)) B
-            ≡ min (tableOf D₀ D₁ R talls pos₀ pos₁ I s t l + (costOf D₀ R talls pos₀ I s l q₀ a + costOf D₁ R talls pos₁ I t l q₁ a)) B
+            ≡ min (tableOf D₀ D₁ R talls pos₀ pos₁ I s t l
+            + (costOf D₀ R talls pos₀ I s l q₀ a + costOf D₁ R talls pos₁ I t l q₁ a)) B
         same r q₀ q₁ a s t l x y z b d e =
             let m = wide-states I in
             let n = wide-poses I in
@@ -145,33 +159,44 @@ module _ (D₀ D₁ : Deck) (R talls : ℕ) (pos₀ pos₁ : ℕ → ℕ) where
             ways-same _ _ (p .right₀ s b) (p .right₁ t d) q₀ q₁ a l x y z b d e u v
 
         -- no case goes by a lane beyond the poses
-        beyond : Right D₀ D₁ R talls pos₀ pos₁ I old → (s t l : ℕ) → s < wide talls I (stateCount R) → t < wide talls I (stateCount R) → wide talls I (D₀ .poses) ≤ l → l < wide talls I (widthOf (D₀ .poses))
+        beyond : Right D₀ D₁ R talls pos₀ pos₁ I old → (s t l : ℕ) → s < wide talls I (stateCount R)
+            → t < wide talls I (stateCount R) → wide talls I (D₀ .poses) ≤ l → l < wide talls I (widthOf (D₀ .poses))
             → B ≤ casesIn mid I s t l
         beyond r s t l b d u v =
             let m = wide-states I in
             let n = wide-lanes talls I (D₀ .poses) narrow in
-            omega (arith, p .tables I s t l (omega arith, omega arith, omega arith, omega arith) .case, r .beyond .none s t l b d u v)
+            omega (
+              arith,
+              p .tables I s t l (omega arith, omega arith, omega arith, omega arith) .case,
+              r .beyond .none s t l b d u v,
+            )
 
-        go : Right D₀ D₁ R talls pos₀ pos₁ I old → (q₀ q₁ a : ℕ) → q₀ < wide talls (suc I) (stateCount R) → q₁ < wide talls (suc I) (stateCount R) → a < wide talls (suc I) (D₀ .poses)
+        go : Right D₀ D₁ R talls pos₀ pos₁ I old → (q₀ q₁ a : ℕ) → q₀ < wide talls (suc I) (stateCount R)
+            → q₁ < wide talls (suc I) (stateCount R) → a < wide talls (suc I) (D₀ .poses)
             → Least
             (tableOf D₀ D₁ R talls pos₀ pos₁ (suc I) q₀ q₁ a)
-            (Way (wide talls I (stateCount R)) (wide talls I (D₀ .poses)) (tableOf D₀ D₁ R talls pos₀ pos₁ I) (costOf D₀ R talls pos₀ I) (costOf D₁ R talls pos₁ I) q₀ q₁ a)
+            (Way (wide talls I (stateCount R)) (wide talls I (D₀ .poses)) (tableOf D₀ D₁ R talls pos₀ pos₁ I)
+            (costOf D₀ R talls pos₀ I) (costOf D₁ R talls pos₁ I) q₀ q₁ a)
             (casesIn one (suc I) q₀ q₁ a)
             (pointersIn one (suc I) q₀ q₁ a)
         go r q₀ q₁ a x y z =
-            let d = least-open (wide talls I (stateCount R)) (wide talls I (widthOf (D₀ .poses))) (wide talls I (D₀ .poses)) (casesIn mid I) (costsIn mid 0) (costsIn mid 1) q₀ q₁ a
+            let d = least-open (wide talls I (stateCount R)) (wide talls I (widthOf (D₀ .poses)))
+            (wide talls I (D₀ .poses)) (casesIn mid I) (costsIn mid 0) (costsIn mid 1) q₀ q₁ a
             (wide-lanes talls I (D₀ .poses) narrow .0) (beyond r) (j .done q₀ q₁ a x y z) in
-            let w = least-ext (wide talls I (stateCount R)) (wide talls I (D₀ .poses)) (casesIn mid I) (tableOf D₀ D₁ R talls pos₀ pos₁ I)
+            let w = least-ext (wide talls I (stateCount R)) (wide talls I (D₀ .poses)) (casesIn mid I)
+            (tableOf D₀ D₁ R talls pos₀ pos₁ I)
             (costsIn mid 0) (costsIn mid 1) (costOf D₀ R talls pos₀ I) (costOf D₁ R talls pos₁ I) q₀ q₁ a
             (λ s t l b d e. same r q₀ q₁ a s t l x y z b d e) d in
             record { right = w .right ∙ table-step I q₀ q₁ a h; found = w .found; small = w .small }
 
     -- the same by the code's names
     pub stage-made : (I count starts lanes ends last width : ℕ) {old mid one new : List ℕ}
-        → starts ≡ wide talls I count → lanes ≡ wide talls I (widthOf (D₀ .poses)) → ends ≡ wide talls (I + 1) count → last ≡ wide talls (I + 1) (D₀ .poses)
+        → starts ≡ wide talls I count → lanes ≡ wide talls I (widthOf (D₀ .poses)) → ends ≡ wide talls (I + 1) count
+        → last ≡ wide talls (I + 1) (D₀ .poses)
         → width ≡ wide talls (I + 1) (widthOf (D₀ .poses))
         → count ≡ stateCount R → I ≤ talls → talls ≤ 24
-        → BothCosted (costOf D₀ R talls pos₀ I) (costOf D₁ R talls pos₁ I) I (wide talls I count) (wide talls I (D₀ .poses)) (wide talls (suc I) count) (wide talls (suc I) (D₀ .poses)) (wide talls I count) old mid
+        → BothCosted (costOf D₀ R talls pos₀ I) (costOf D₁ R talls pos₁ I) I (wide talls I count) (wide talls I
+        (D₀ .poses)) (wide talls (suc I) count) (wide talls (suc I) (D₀ .poses)) (wide talls I count) old mid
         → Joined starts lanes ends last I mid one → Closed (I + 1) last width (AllStates ends ends) one new
         → StageDone D₀ D₁ R talls pos₀ pos₁ I old new
     stage-made I count starts lanes ends last width e₁ e₂ e₃ e₄ e₅ all h g p j c =
@@ -193,22 +218,26 @@ module _ (D₀ D₁ : Deck) (R talls : ℕ) (pos₀ pos₁ : ℕ → ℕ) where
         none = λ q₀ q₁ l x y u v.
             let m = wide-states (suc j) in
             let n = wide-lanes talls (suc j) (D₀ .poses) narrow in
-            d .tables (suc j) q₀ q₁ l (λ e. omega arith) (omega arith, omega arith, omega arith, omega arith) .case ∙ w .beyond .none q₀ q₁ l x y u v;
+            d .tables (suc j) q₀ q₁ l (λ e. omega arith) (omega arith, omega arith, omega arith, omega arith) .case
+            ∙ w .beyond .none q₀ q₁ l x y u v;
       };
     }
 
-    pub through-more : {I : ℕ} {old mid new : List ℕ} → I ≤ 24 → Through D₀ D₁ R talls pos₀ pos₁ I old mid → StageDone D₀ D₁ R talls pos₀ pos₁ I mid new
+    pub through-more : {I : ℕ} {old mid new : List ℕ} → I ≤ 24 → Through D₀ D₁ R talls pos₀ pos₁ I old mid
+        → StageDone D₀ D₁ R talls pos₀ pos₁ I mid new
         → Through D₀ D₁ R talls pos₀ pos₁ (I + 1) old new
     through-more {I} {new = new} b t d =
         record {
           long = d .long ∙ t .long;
           low = d .low;
           right = rw (add-one I) (staged-right I (d .staged (t .right)));
-          staged = below-more (λ (J : ℕ). Staged D₀ D₁ R talls pos₀ pos₁ J new) I (λ J h. staged-kept J I h b d (t .staged J h)) (d .staged (t .right));
+          staged = below-more (λ (J : ℕ). Staged D₀ D₁ R talls pos₀ pos₁ J new) I
+              (λ J h. staged-kept J I h b d (t .staged J h)) (d .staged (t .right));
         }
 
   -- before anything: the word of case (0, 0, 0) is 0
-  pub through-none : {st : List ℕ} (at : ℕ) → at ≡ caseAt 0 0 0 → Low st → at < length st → Through D₀ D₁ R talls pos₀ pos₁ 0 (set st at 0) (set st at 0)
+  pub through-none : {st : List ℕ} (at : ℕ) → at ≡ caseAt 0 0 0 → Low st → at < length st
+      → Through D₀ D₁ R talls pos₀ pos₁ 0 (set st at 0) (set st at 0)
   unfolding casesIn tableOf wide
   through-none {st} at e w h =
       record {
@@ -222,7 +251,8 @@ module _ (D₀ D₁ : Deck) (R talls : ℕ) (pos₀ pos₁ : ℕ → ℕ) where
       }
 
   -- all stages
-  pub through-all : {I : ℕ} {old mid new : List ℕ} → length mid ≡ length old → Through D₀ D₁ R talls pos₀ pos₁ I mid new → talls < I
+  pub through-all : {I : ℕ} {old mid new : List ℕ} → length mid ≡ length old
+      → Through D₀ D₁ R talls pos₀ pos₁ I mid new → talls < I
       → StagesDone D₀ D₁ R talls pos₀ pos₁ old new
   unfolding tableOf costOf
   through-all e t m =
@@ -233,7 +263,12 @@ module _ (D₀ D₁ : Deck) (R talls : ℕ) (pos₀ pos₁ : ℕ → ℕ) where
         way = λ I q₀ q₁ a h x y z b.
             let c = t .staged (suc I) (omega arith) .case q₀ q₁ a x y z in
             let g = c .found (omega (arith, c .right)) in
-            rw (wide-all talls I (stateCount R) (omega arith), wide-all talls I (D₀ .poses) (omega arith), c .right) at g;
+            rw (
+              wide-all talls I (stateCount R) (omega arith),
+              wide-all talls I (D₀ .poses)
+                  (omega arith),
+              c .right,
+            ) at g;
       }
 
 -- ---- what a stage is given
@@ -248,7 +283,8 @@ module _ {row₀ row₁ st : List ℕ} {z : Sizes} {n₁ : ℕ} (g : StagesGiven
         g .given₀ .few,
       )
 
-  pub given-wide : (I : ℕ) → (wide (z .talls) I (z .states) ≤ 12) × (wide (z .talls) I (z .poses) ≤ 60) × Pages (wide (z .talls) I (z .states)) st
+  pub given-wide : (I : ℕ) → (wide (z .talls) I (z .states) ≤ 12) × (wide (z .talls) I (z .poses) ≤ 60)
+      × Pages (wide (z .talls) I (z .states)) st
   given-wide I = (
     wide-low (z .talls) I (z .states) 12 (omega arith) (given-states .0),
     wide-low (z .talls) I (z .poses) 60 (omega arith) (given-states .2),
@@ -260,11 +296,21 @@ module _ {row₀ row₁ st : List ℕ} {z : Sizes} {n₁ : ℕ} (g : StagesGiven
   given-first I h = omega (arith, given-wide 0 .2, wide-first (z .talls) 0 (z .states) refl)
 
   -- the tables that stage I reads, whatever was written before
-  pub given-table : (I : ℕ) (new : List ℕ) → I ≤ z .talls → length new ≡ length st → Low new → Table (wide (z .talls) I (z .states)) (wide (z .talls) I (z .poses)) I new
+  pub given-table : (I : ℕ) (new : List ℕ) → I ≤ z .talls → length new ≡ length st → Low new
+      → Table (wide (z .talls) I (z .states)) (wide (z .talls) I (z .poses)) I new
   given-table I new h e w =
       let n = given-wide I in
-      record { states = n .0; few = omega (arith, n .1); stage = omega (arith, given-states .3); long = omega (arith, n .2); low = w }
+      record {
+        states = n .0;
+        few = omega (arith, n .1);
+        stage = omega (arith, given-states .3);
+        long = omega (arith, n .2);
+        low = w;
+      }
 
   -- the same with the lanes that it is run in
-  pub given-join : (I : ℕ) (new : List ℕ) → I ≤ z .talls → length new ≡ length st → Low new → Table (wide (z .talls) I (z .states)) (wide (z .talls) I (widthOf (z .poses))) I new
-  given-join I new h e w = let t = given-table I new h e w in table-for _ I t (wide-lanes (z .talls) I (z .poses) (given-states .2) .1) (t .stage)
+  pub given-join : (I : ℕ) (new : List ℕ) → I ≤ z .talls → length new ≡ length st → Low new
+      → Table (wide (z .talls) I (z .states)) (wide (z .talls) I (widthOf (z .poses))) I new
+  given-join I new h e w =
+      let t = given-table I new h e w in
+      table-for _ I t (wide-lanes (z .talls) I (z .poses) (given-states .2) .1) (t .stage)

@@ -25,7 +25,8 @@ module _ (D : Deck) (R talls : ℕ) (pos : ℕ → ℕ) where
   -- to a tall cell
   pub row-tall : {I lanes count i p costs : ℕ} {old new : List ℕ} (starts : List ℕ)
       → I < talls → count ≡ stateCount R → p ≡ pos I → SegmentCosted D R lanes i p costs old new
-      → RowCosted (endFrom D R talls pos I old i starts) lanes (wide talls (suc I) count) (wide talls (suc I) (D .poses)) costs old new
+      → RowCosted (endFrom D R talls pos I old i starts) lanes (wide talls (suc I) count)
+      (wide talls (suc I) (D .poses)) costs old new
   row-tall {I} {lanes} {count} {i} {p} {costs} {old} starts h n e w =
       let c = wide-all talls I count h in
       let d = wide-all talls I (D .poses) h in
@@ -42,7 +43,8 @@ module _ (D : Deck) (R talls : ℕ) (pos : ℕ → ℕ) where
   -- to the row's end
   pub row-last : (count : ℕ) {I lanes i costs : ℕ} {starts old new : List ℕ}
       → talls ≤ I → Ended D R lanes i costs starts old new
-      → RowCosted (endFrom D R talls pos I old i starts) lanes (wide talls (suc I) count) (wide talls (suc I) (D .poses)) costs old new
+      → RowCosted (endFrom D R talls pos I old i starts) lanes (wide talls (suc I) count)
+      (wide talls (suc I) (D .poses)) costs old new
   row-last count {I} {lanes} {i} {costs} {starts} {old} {new} h w =
       let c = wide-last talls (suc I) count (omega arith) in
       let d = wide-last talls (suc I) (D .poses) (omega arith) in
@@ -58,8 +60,10 @@ module _ (D : Deck) (R talls : ℕ) (pos : ℕ → ℕ) where
 
   -- after the first layer in block 0; there may be more lanes than are asked for
   row-from : (I i : ℕ) (starts : List ℕ) {lanes width ends poses costs : ℕ} {F : ℕ → Layer} {old mid new : List ℕ}
-      → lanes ≤ width → Frame 0 layerBlock old mid → RowCosted (endFrom D R talls pos I mid i starts) width ends poses costs mid new
-      → ((q a l : ℕ) → q < ends → a < poses → l < lanes → stageEnd D R talls pos I (layerIn mid 0 l) i (getD starts l 0) q a ≡ F l q a)
+      → lanes ≤ width → Frame 0 layerBlock old mid
+      → RowCosted (endFrom D R talls pos I mid i starts) width ends poses costs mid new
+      → ((q a l : ℕ) → q < ends → a < poses → l < lanes
+      → stageEnd D R talls pos I (layerIn mid 0 l) i (getD starts l 0) q a ≡ F l q a)
       → RowCosted F lanes ends poses costs old new
   row-from I i starts m f w e =
       record {
@@ -83,7 +87,8 @@ module _ (D : Deck) (R talls : ℕ) (pos : ℕ → ℕ) where
         kept = λ k g b. ⊎-elim (w .below k g) (w .above k) b;
         right = λ q a l x y z.
             let v = w .right q a (omega arith) (omega arith) in
-            ap (λ (k : ℕ). getD new k 0) (omega arith) ∙ rw (e) at v ∙ sym (stage-tall D R talls pos (firstOpen D R) 0 1 0 q a h);
+            ap (λ (k : ℕ). getD new k 0) (omega arith) ∙ rw (e) at v
+            ∙ sym (stage-tall D R talls pos (firstOpen D R) 0 1 0 q a h);
       }
 
   -- and to the end of a row that has none
@@ -107,7 +112,8 @@ module _ (D : Deck) (R talls : ℕ) (pos : ℕ → ℕ) where
   -- it is the same from every start state
   pub row-open : {I : ℕ} (count s : ℕ) {costs : ℕ} {old new : List ℕ}
       → I ≡ 0 → RowCosted (costOf D R talls pos 0 0) 1 (wide talls 1 count) (wide talls 1 (D .poses)) costs old new
-      → RowCosted (costOf D R talls pos I s) (wide talls I (D .poses)) (wide talls (suc I) count) (wide talls (suc I) (D .poses)) costs old new
+      → RowCosted (costOf D R talls pos I s) (wide talls I (D .poses)) (wide talls (suc I) count)
+      (wide talls (suc I) (D .poses)) costs old new
   unfolding costOf wide
   row-open count s {costs} {old} {new} e w =
       let v : RowCosted (costOf D R talls pos 0 s) 1 (wide talls 1 count) (wide talls 1 (D .poses)) costs old new =
@@ -116,10 +122,13 @@ module _ (D : Deck) (R talls : ℕ) (pos : ℕ → ℕ) where
 
   -- the stage after tall cell I, which stands as state s
   after-tall : (I count s : ℕ) (starts : List ℕ) {width costs : ℕ} {old mid new : List ℕ}
-      → I < talls → D .poses ≤ width → count ≡ stateCount R → ((l : ℕ) → l < D .poses → getD starts l 0 ≡ D .back (pos I) l)
+      → I < talls → D .poses ≤ width → count ≡ stateCount R
+      → ((l : ℕ) → l < D .poses → getD starts l 0 ≡ D .back (pos I) l)
       → Filled (afterFrom D R (placedWith R (pos I) s) (marks R s) (pos I)) width (D .poses) 0 count old mid
-      → RowCosted (endFrom D R talls pos (suc I) mid (suc (placedWith R (pos I) s)) starts) width (wide talls (suc (suc I)) count) (wide talls (suc (suc I)) (D .poses)) costs mid new
-      → RowCosted (costOf D R talls pos (suc I) s) (wide talls (suc I) (D .poses)) (wide talls (suc (suc I)) count) (wide talls (suc (suc I)) (D .poses)) costs old new
+      → RowCosted (endFrom D R talls pos (suc I) mid (suc (placedWith R (pos I) s)) starts) width
+      (wide talls (suc (suc I)) count) (wide talls (suc (suc I)) (D .poses)) costs mid new
+      → RowCosted (costOf D R talls pos (suc I) s) (wide talls (suc I) (D .poses)) (wide talls (suc (suc I)) count)
+      (wide talls (suc (suc I)) (D .poses)) costs old new
   unfolding costOf stageCost
   after-tall I count s starts {mid = mid} h m n b f w =
       let i = placedWith R (pos I) s in
@@ -135,8 +144,10 @@ module _ (D : Deck) (R talls : ℕ) (pos : ℕ → ℕ) where
       → I ≡ suc J → I ≤ talls → D .poses ≤ width → count ≡ stateCount R → p ≡ pos J → placed ≡ placedWith R p s
       → ((l : ℕ) → l < D .poses → getD starts l 0 ≡ D .back p l)
       → Filled (afterFrom D R placed (marks R s) p) width (D .poses) 0 count old mid
-      → RowCosted (endFrom D R talls pos I mid (placed + 1) starts) width (wide talls (suc I) count) (wide talls (suc I) (D .poses)) costs mid new
-      → RowCosted (costOf D R talls pos I s) (wide talls I (D .poses)) (wide talls (suc I) count) (wide talls (suc I) (D .poses)) costs old new
+      → RowCosted (endFrom D R talls pos I mid (placed + 1) starts) width (wide talls (suc I) count)
+      (wide talls (suc I) (D .poses)) costs mid new
+      → RowCosted (costOf D R talls pos I s) (wide talls I (D .poses)) (wide talls (suc I) count)
+      (wide talls (suc I) (D .poses)) costs old new
   row-after I J count s p placed starts e h m n g k b f w =
       let v = rw (k, g) at f in
       let u = rw (add-one, k, g, e) at w in
@@ -157,4 +168,7 @@ zeros-low n = record { word = λ k. go k (decLt k n) }
   where
     go : (k : ℕ) → Dec (k < n) → getD (replicate n 0) k 0 ≤ B
     go k (yes h) = omega (arith, getD-replicate {A = ℕ} n k 0 0 h)
-    go k (no h) = omega (arith, List·getD-eq-default {A = ℕ} (replicate n 0) 0 {n = k} (omega (arith, length-replicate {A = ℕ} n 0)))
+    go k (no h) = omega (
+      arith,
+      List·getD-eq-default {A = ℕ} (replicate n 0) 0 {n = k} (omega (arith, length-replicate {A = ℕ} n 0)),
+    )

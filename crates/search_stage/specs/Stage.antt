@@ -1,4 +1,5 @@
--- The stages of the search in the store: case table number 0 is the state before anything, table number I + 1 is that of stage I.
+-- The stages of the search in the store: case table number 0 is the state before
+-- anything, table number I + 1 is that of stage I.
 use Prim.Native.Nat.{ℕ, zero, suc, _+_, _*_, _/_, _≤_, _<_}
 use mathlib.Core.Path.{_≡_}
 use mathlib.Core.Bool.{cond}
@@ -14,7 +15,8 @@ use Rattle.search_lanes.specs.Store.{Low, layerIn}
 use Rattle.search_row.specs.Words.{deckIn, posIn, withCells, RowGiven}
 use Rattle.search_join.specs.Tables.{casesIn, pointersIn, costsIn, SameCase, SameTables, Least, Way}
 
--- how many of x states or poses table number I has: the tables of the tall cells all of them, the first table and the last one
+-- how many of x states or poses table number I has: the tables of the tall cells
+-- all of them, the first table and the last one
 unfoldable pub wide : ℕ → ℕ → ℕ → ℕ
 wide talls zero x = 1
 wide talls (suc I) x = cond (ltb I talls) x 1
@@ -32,7 +34,8 @@ costOf D R talls pos (suc I) s l q a = stageCost D R talls pos I s l q a
 
 -- no case of table number I goes by a lane beyond the poses
 pub record NoneBeyond (talls count poses I : ℕ) (st : List ℕ) : Type 0 where
-  pub none : (q₀ q₁ l : ℕ) → q₀ < wide talls I count → q₁ < wide talls I count → wide talls I poses ≤ l → l < wide talls I (widthOf poses)
+  pub none : (q₀ q₁ l : ℕ) → q₀ < wide talls I count → q₁ < wide talls I count → wide talls I poses ≤ l
+      → l < wide talls I (widthOf poses)
       → casesIn st I q₀ q₁ l ≡ B
 
 module _ (D₀ D₁ : Deck) (R talls : ℕ) (pos₀ pos₁ : ℕ → ℕ) where
@@ -43,21 +46,25 @@ module _ (D₀ D₁ : Deck) (R talls : ℕ) (pos₀ pos₁ : ℕ → ℕ) where
 
   -- table number I in the store
   pub record Right (I : ℕ) (st : List ℕ) : Type 0 where
-    pub word : (q₀ q₁ a : ℕ) → q₀ < wide talls I (stateCount R) → q₁ < wide talls I (stateCount R) → a < wide talls I (D₀ .poses)
+    pub word : (q₀ q₁ a : ℕ) → q₀ < wide talls I (stateCount R) → q₁ < wide talls I (stateCount R)
+        → a < wide talls I (D₀ .poses)
         → casesIn st I q₀ q₁ a ≡ tableOf I q₀ q₁ a
     pub beyond : NoneBeyond talls (stateCount R) (D₀ .poses) I st
 
   -- the table that stage I leaves, each case with a way to it where it is below B
   pub record Staged (I : ℕ) (st : List ℕ) : Type 0 where
-    pub case : (q₀ q₁ a : ℕ) → q₀ < wide talls (suc I) (stateCount R) → q₁ < wide talls (suc I) (stateCount R) → a < wide talls (suc I) (D₀ .poses)
+    pub case : (q₀ q₁ a : ℕ) → q₀ < wide talls (suc I) (stateCount R) → q₁ < wide talls (suc I) (stateCount R)
+        → a < wide talls (suc I) (D₀ .poses)
         → Least
         (tableOf (suc I) q₀ q₁ a)
-        (Way (wide talls I (stateCount R)) (wide talls I (D₀ .poses)) (tableOf I) (costOf D₀ R talls pos₀ I) (costOf D₁ R talls pos₁ I) q₀ q₁ a)
+        (Way (wide talls I (stateCount R)) (wide talls I (D₀ .poses)) (tableOf I) (costOf D₀ R talls pos₀ I)
+        (costOf D₁ R talls pos₁ I) q₀ q₁ a)
         (casesIn st (suc I) q₀ q₁ a)
         (pointersIn st (suc I) q₀ q₁ a)
     pub beyond : NoneBeyond talls (stateCount R) (D₀ .poses) (suc I) st
 
-  -- what stage I does to the store, whatever its words; the tables other than number I + 1 are kept. If table number I is right, so is the next.
+  -- what stage I does to the store, whatever its words; the tables other than number I + 1 are kept.
+  -- If table number I is right, so is the next.
   pub record StageDone (I : ℕ) (old new : List ℕ) : Type 0 where
     pub long : length new ≡ length old
     pub low : Low new
@@ -76,10 +83,12 @@ module _ (D₀ D₁ : Deck) (R talls : ℕ) (pos₀ pos₁ : ℕ → ℕ) where
     pub long : length new ≡ length old
     pub low : Low new
     -- the least costs
-    pub right : (I q₀ q₁ a : ℕ) → I ≤ talls → q₀ < wide talls (suc I) (stateCount R) → q₁ < wide talls (suc I) (stateCount R) → a < wide talls (suc I) (D₀ .poses)
+    pub right : (I q₀ q₁ a : ℕ) → I ≤ talls → q₀ < wide talls (suc I) (stateCount R)
+        → q₁ < wide talls (suc I) (stateCount R) → a < wide talls (suc I) (D₀ .poses)
         → casesIn new (suc I) q₀ q₁ a ≡ caseTable D₀ D₁ R talls pos₀ pos₁ I q₀ q₁ a
     -- a way to each case after the first tall cell's, where it is below B
-    pub way : (I q₀ q₁ a : ℕ) → I < talls → q₀ < wide talls (suc (suc I)) (stateCount R) → q₁ < wide talls (suc (suc I)) (stateCount R) → a < wide talls (suc (suc I)) (D₀ .poses)
+    pub way : (I q₀ q₁ a : ℕ) → I < talls → q₀ < wide talls (suc (suc I)) (stateCount R)
+        → q₁ < wide talls (suc (suc I)) (stateCount R) → a < wide talls (suc (suc I)) (D₀ .poses)
         → caseTable D₀ D₁ R talls pos₀ pos₁ (suc I) q₀ q₁ a < B
         → Way
         (stateCount R)
@@ -102,7 +111,8 @@ pub record RowCosted (F : ℕ → Layer) (lanes ends poses costs : ℕ) (old new
   pub kept : (k : ℕ) → pagesFrom ≤ k → OutsideCosts costs k → getD new k 0 ≡ getD old k 0
   pub right : (q a l : ℕ) → q < ends → a < poses → l < lanes → layerIn new costs l q a ≡ F l q a
 
--- stage I on from the layer in block 0, which has i cells; `starts` has what the start of each lane pays as the row's last
+-- stage I on from the layer in block 0, which has i cells; `starts` has what
+-- the start of each lane pays as the row's last
 abbrev pub endFrom : Deck → ℕ → ℕ → (ℕ → ℕ) → ℕ → List ℕ → ℕ → List ℕ → ℕ → Layer
 endFrom D R talls pos I st i starts l q a = stageEnd D R talls pos I (layerIn st 0 l) i (getD starts l 0) q a
 
@@ -121,7 +131,8 @@ pub record StartRight (st : List ℕ) (row : ℕ) (x : SegmentCosts) (lanes ends
 
 -- they are right, unless no case goes from it
 abbrev pub SegmentCosted : ℕ → SegmentCosts → ℕ → ℕ → ℕ → ℕ → ℕ → ℕ → List ℕ → List ℕ → Type 0
-SegmentCosted row x I starts lanes ends poses s old new = Dead old row I starts lanes s ⊎ StartRight new row x lanes ends poses s
+SegmentCosted row x I starts lanes ends poses s old new =
+    Dead old row I starts lanes s ⊎ StartRight new row x lanes ends poses s
 
 -- that of one start state; above all layers nothing else is changed
 pub record StartCosted (row : ℕ) (x : SegmentCosts) (I starts lanes ends poses s : ℕ) (old new : List ℕ) : Type 0 where
@@ -173,14 +184,17 @@ RowStart side row z I s old new =
 -- those of both rows, from every start state
 abbrev pub RowsStart : List ℕ → List ℕ → Sizes → ℕ → ℕ → List ℕ → List ℕ → Type 0
 RowsStart row₀ row₁ z n₁ I old new =
-    BothCosted (costIn row₀ z I) (costIn row₁ (withCells z n₁) I) I (statesAt z I) (posesAt z I) (statesAt z (suc I)) (posesAt z (suc I))
+    BothCosted (costIn row₀ z I) (costIn row₁ (withCells z n₁) I) I (statesAt z I) (posesAt z I) (statesAt z (suc I))
+    (posesAt z (suc I))
     (statesAt z I) old new
 
 -- stage I, and all stages
 abbrev pub RowsStage : List ℕ → List ℕ → Sizes → ℕ → ℕ → List ℕ → List ℕ → Type 0
 RowsStage row₀ row₁ z n₁ I old new =
-    StageDone (deckIn row₀ z) (deckIn row₁ (withCells z n₁)) (z .reordering) (z .talls) (posIn row₀) (posIn row₁) I old new
+    StageDone (deckIn row₀ z) (deckIn row₁ (withCells z n₁)) (z .reordering) (z .talls) (posIn row₀)
+    (posIn row₁) I old new
 
 abbrev pub RowsStages : List ℕ → List ℕ → Sizes → ℕ → List ℕ → List ℕ → Type 0
 RowsStages row₀ row₁ z n₁ old new =
-    StagesDone (deckIn row₀ z) (deckIn row₁ (withCells z n₁)) (z .reordering) (z .talls) (posIn row₀) (posIn row₁) old new
+    StagesDone (deckIn row₀ z) (deckIn row₁ (withCells z n₁)) (z .reordering) (z .talls) (posIn row₀)
+    (posIn row₁) old new

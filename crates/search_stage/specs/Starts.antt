@@ -24,7 +24,8 @@ unfolding fromAt
 from-1 zero I s t n = absurd (n refl)
 from-1 (suc row) I s t n = refl
 
-pub from-room : (row I s t : ℕ) {starts lanes : ℕ} {st : List ℕ} → Table starts lanes I st → s < starts → t < starts → fromAt row I s t + lanes ≤ length st
+pub from-room : (row I s t : ℕ) {starts lanes : ℕ} {st : List ℕ} → Table starts lanes I st → s < starts → t < starts
+    → fromAt row I s t + lanes ≤ length st
 unfolding fromAt
 from-room zero I s t w h g = omega (arith, w .states, w .few, w .stage, w .long)
 from-room (suc row) I s t w h g = omega (arith, w .states, w .few, w .stage, w .long)
@@ -34,26 +35,31 @@ from-room (suc row) I s t w h g = omega (arith, w .states, w .few, w .stage, w .
 -- a way costs what it should, or both are B or more
 pub ways-same : {x₀ x₁ : SegmentCosts} {I starts lanes ends poses s t : ℕ} {old new : List ℕ} (c f : ℕ)
     → SegmentCosted 0 x₀ I starts lanes ends poses s old new → SegmentCosted 1 x₁ I starts lanes ends poses t old new
-    → (q₀ q₁ a l : ℕ) → q₀ < ends → q₁ < ends → a < poses → s < starts → t < starts → l < lanes → c ≡ casesIn old I s t l → casesIn old I s t l ≡ f
+    → (q₀ q₁ a l : ℕ) → q₀ < ends → q₁ < ends → a < poses → s < starts → t < starts → l < lanes
+    → c ≡ casesIn old I s t l → casesIn old I s t l ≡ f
     → min (c + (costsIn new 0 s l q₀ a + costsIn new 1 t l q₁ a)) B ≡ min (f + (x₀ s l q₀ a + x₁ t l q₁ a)) B
 unfolding fromAt casesIn
 ways-same {s = s} {t} c f r₀ r₁ q₀ q₁ a l x y z h g k e d =
     ⊎-elim
     (λ w. omega (arith, w .none t l g k))
-    (λ w₀. ⊎-elim (λ w. omega (arith, w .none s l h k)) (λ w₁. rw (e, d, w₀ .word q₀ a l x z k, w₁ .word q₁ a l y z k) refl) r₁)
+    (λ w₀. ⊎-elim (λ w. omega (arith, w .none s l h k))
+    (λ w₁. rw (e, d, w₀ .word q₀ a l x z k, w₁ .word q₁ a l y z k) refl) r₁)
     r₀
 
 -- ---- one start state
 
 -- in fewer lanes it is dead as well
-pub dead-fewer : {row I starts lanes more s : ℕ} {st : List ℕ} → lanes ≤ more → Dead st row I starts more s → Dead st row I starts lanes s
+pub dead-fewer : {row I starts lanes more s : ℕ} {st : List ℕ} → lanes ≤ more → Dead st row I starts more s
+    → Dead st row I starts lanes s
 dead-fewer h d = record { none = λ t l g k. d .none t l g (omega arith) }
 
 -- nothing is done for a dead one
-pub start-dead : {row I starts lanes ends poses s : ℕ} {x : SegmentCosts} {st : List ℕ} → Low st → Dead st row I starts lanes s → StartCosted row x I starts lanes ends poses s st st
+pub start-dead : {row I starts lanes ends poses s : ℕ} {x : SegmentCosts} {st : List ℕ} → Low st
+    → Dead st row I starts lanes s → StartCosted row x I starts lanes ends poses s st st
 start-dead w d = record { long = refl; low = w; kept = λ k h b. refl; right = inl d }
 
-pub start-live : (row : ℕ) {I starts lanes ends poses : ℕ} (s costs : ℕ) (x : SegmentCosts) {old new : List ℕ} → costs ≡ costsAt row s
+pub start-live : (row : ℕ) {I starts lanes ends poses : ℕ} (s costs : ℕ) (x : SegmentCosts) {old new : List ℕ}
+    → costs ≡ costsAt row s
     → RowCosted (x s) lanes ends poses costs old new → StartCosted row x I starts lanes ends poses s old new
 unfolding costsIn
 start-live row s costs x e p =
@@ -65,18 +71,23 @@ start-live row s costs x e p =
 then : {j q₀ q₁ a : ℕ} {x y z : List ℕ} → SameCase j q₀ q₁ a y z → SameCase j q₀ q₁ a x y → SameCase j q₀ q₁ a x z
 then u v = record { case = u .case ∙ v .case; source = u .source ∙ v .source }
 
-module _ (I starts lanes ends poses : ℕ) (few : starts ≤ 12) (narrow : lanes ≤ 64) (to : ends ≤ 12) (thin : poses ≤ 64) (stage : I ≤ 25) where
+module _ (I starts lanes ends poses : ℕ) (few : starts ≤ 12) (narrow : lanes ≤ 64) (to : ends ≤ 12) (thin : poses ≤ 64)
+    (stage : I ≤ 25) where
   -- a dead one, if the tables are the same
-  dead-kept : (row s : ℕ) {old new : List ℕ} → s < starts → SameTables old new → Dead new row I starts lanes s → Dead old row I starts lanes s
+  dead-kept : (row s : ℕ) {old new : List ℕ} → s < starts → SameTables old new → Dead new row I starts lanes s
+      → Dead old row I starts lanes s
   unfolding fromAt casesIn
   dead-kept zero s h same d = record {
-    none = λ t l g k. let e = same I s t l (omega arith, omega arith, omega arith, omega arith) .case in omega (arith, d .none t l g k);
+    none = λ t l g k. let e = same I s t l (omega arith, omega arith, omega arith, omega arith) .case in
+        omega (arith, d .none t l g k);
   }
   dead-kept (suc row) s h same d = record {
-    none = λ t l g k. let e = same I t s l (omega arith, omega arith, omega arith, omega arith) .case in omega (arith, d .none t l g k);
+    none = λ t l g k. let e = same I t s l (omega arith, omega arith, omega arith, omega arith) .case in
+        omega (arith, d .none t l g k);
   }
 
-  module _ (row : ℕ) (x : SegmentCosts) (s : ℕ) {old new : List ℕ} (b : row ≤ 1) (p : StartCosted row x I starts lanes ends poses s old new) where
+  module _ (row : ℕ) (x : SegmentCosts) (s : ℕ) {old new : List ℕ} (b : row ≤ 1)
+      (p : StartCosted row x I starts lanes ends poses s old new) where
     -- the tables are kept
     pub start-tables : SameTables old new
     unfolding casesIn pointersIn
@@ -86,19 +97,23 @@ module _ (I starts lanes ends poses : ℕ) (few : starts ≤ 12) (narrow : lanes
 
     -- and the costs before it
     pub start-before : (other : ℕ) (y : SegmentCosts) (t : ℕ) {first : List ℕ} → t * 2 + other < s * 2 + row
-        → SegmentCosted other y I starts lanes ends poses t first old → SegmentCosted other y I starts lanes ends poses t first new
+        → SegmentCosted other y I starts lanes ends poses t first old
+        → SegmentCosted other y I starts lanes ends poses t first new
     unfolding costsIn
     start-before other y t h r =
         ⊎-elim
         inl
         (λ w. inr (record {
           word = λ q a l i j k.
-              p .kept _ (omega arith) (inl (cost-before other t row s q a l b (omega arith) (omega arith) (omega arith) h)) ∙ w .word q a l i j k;
+              p .kept _ (omega arith)
+              (inl (cost-before other t row s q a l b (omega arith) (omega arith) (omega arith) h))
+              ∙ w .word q a l i j k;
         }))
         r
 
     -- itself, seen from an earlier store with the same tables
-    pub start-since : {first : List ℕ} → s < starts → SameTables first old → SegmentCosted row x I starts lanes ends poses s first new
+    pub start-since : {first : List ℕ} → s < starts → SameTables first old
+        → SegmentCosted row x I starts lanes ends poses s first new
     start-since h same = ⊎-elim (λ d. inl (dead-kept row s h same d)) inr (p .right)
 
   pub both-none : (x₀ x₁ : SegmentCosts) {st : List ℕ} → Low st → BothCosted x₀ x₁ I starts lanes ends poses 0 st st
@@ -113,7 +128,8 @@ module _ (I starts lanes ends poses : ℕ) (few : starts ≤ 12) (narrow : lanes
 
   -- in row 0, then in row 1
   pub both-more : (x₀ x₁ : SegmentCosts) (s : ℕ) {old mid one new : List ℕ} → s < starts
-      → BothCosted x₀ x₁ I starts lanes ends poses s old mid → StartCosted 0 x₀ I starts lanes ends poses s mid one → StartCosted 1 x₁ I starts lanes ends poses s one new
+      → BothCosted x₀ x₁ I starts lanes ends poses s old mid → StartCosted 0 x₀ I starts lanes ends poses s mid one
+      → StartCosted 1 x₁ I starts lanes ends poses s one new
       → BothCosted x₀ x₁ I starts lanes ends poses (s + 1) old new
   both-more x₀ x₁ s {old} {mid} {one} {new} h b p₀ p₁ =
       record {
@@ -121,15 +137,19 @@ module _ (I starts lanes ends poses : ℕ) (few : starts ≤ 12) (narrow : lanes
         low = p₁ .low;
         tables = λ j q₀ q₁ a m. then (start-tables 1 x₁ s (omega arith) p₁ j q₀ q₁ a m) (since j q₀ q₁ a m);
         right₀ = below-more (λ (t : ℕ). SegmentCosted 0 x₀ I starts lanes ends poses t old new) s
-            (λ t m. after 0 x₀ t (omega arith) (start-before 0 x₀ s (omega arith) p₀ 0 x₀ t (omega arith) (b .right₀ t m)))
+            (λ t m. after 0 x₀ t (omega arith)
+            (start-before 0 x₀ s (omega arith) p₀ 0 x₀ t (omega arith) (b .right₀ t m)))
             (after 0 x₀ s (omega arith) (start-since 0 x₀ s (omega arith) p₀ h (b .tables)));
         right₁ = below-more (λ (t : ℕ). SegmentCosted 1 x₁ I starts lanes ends poses t old new) s
-            (λ t m. after 1 x₁ t (omega arith) (start-before 0 x₀ s (omega arith) p₀ 1 x₁ t (omega arith) (b .right₁ t m)))
+            (λ t m. after 1 x₁ t (omega arith)
+            (start-before 0 x₀ s (omega arith) p₀ 1 x₁ t (omega arith) (b .right₁ t m)))
             (start-since 1 x₁ s (omega arith) p₁ h since);
       }
     where
       since : SameTables old one
       since j q₀ q₁ a m = then (start-tables 0 x₀ s (omega arith) p₀ j q₀ q₁ a m) (b .tables j q₀ q₁ a m)
 
-      after : (row : ℕ) (y : SegmentCosts) (t : ℕ) → t * 2 + row < s * 2 + 1 → SegmentCosted row y I starts lanes ends poses t old one → SegmentCosted row y I starts lanes ends poses t old new
+      after : (row : ℕ) (y : SegmentCosts) (t : ℕ) → t * 2 + row < s * 2 + 1
+          → SegmentCosted row y I starts lanes ends poses t old one
+          → SegmentCosted row y I starts lanes ends poses t old new
       after row y t m r = start-before 1 x₁ s (omega arith) p₁ row y t m r

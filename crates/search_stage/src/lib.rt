@@ -7,7 +7,8 @@ ghost use Prim.Native.Nat.{suc, _≤_, _<_};
 ghost use Rattle.search_row.specs.Words.{RowGiven};
 ghost use Rattle.search_wide_buckets.specs.Table.{Lent};
 ghost use Rattle.search_join.specs.Tables.{Table};
-ghost use Rattle.search_stage.specs.Stage.{wide, widthOf, fromAt, statesAt, posesAt, Dead, StagesGiven, RowStart, RowsStart, RowsStage, RowsStages};
+ghost use Rattle.search_stage.specs.Stage.{wide, widthOf, fromAt, statesAt, posesAt, Dead};
+ghost use Rattle.search_stage.specs.Stage.{StagesGiven, RowStart, RowsStart, RowsStage, RowsStages};
 use row::row_cost;
 use search_row::Sizes;
 
@@ -24,8 +25,8 @@ pub fn wide_of(talls: usize, i: usize, x: usize) -> usize
     x
 }
 
-// How many lanes a segment is run in: a multiple of 16, so that loops over lanes, many at a time, leave no rest. No case goes by
-// those beyond the poses.
+// How many lanes a segment is run in: a multiple of 16, so that loops over lanes, many at a time, leave no
+// rest. No case goes by those beyond the poses.
 fn width_of(poses: usize) -> usize
     requires { ⌜ poses ≤ 60 ⌝ }
     ensures { λ w. ⌜ w ≡ widthOf poses ⌝ }
@@ -77,8 +78,10 @@ fn cost_start(
     i: usize,
     s: usize,
 )
-    requires { ⌜ Lent (now table) × RowGiven (now row) sizes × Table (statesAt sizes i) (posesAt sizes i) i (now store) × (side ≤ 1) × (i ≤ sizes .talls) × (s < statesAt sizes i) ⌝ }
-    ensures { λ _. ⌜ RowStart side (now (row .entry)) sizes i s (now (store .entry)) (now (store .exit)) × Lent (now (table .exit)) ⌝ }
+    requires { ⌜ Lent (now table) × RowGiven (now row) sizes × Table (statesAt sizes i) (posesAt sizes i) i (now store)
+        × (side ≤ 1) × (i ≤ sizes .talls) × (s < statesAt sizes i) ⌝ }
+    ensures { λ _. ⌜ RowStart side (now (row .entry)) sizes i s (now (store .entry)) (now (store .exit))
+        × Lent (now (table .exit)) ⌝ }
 {
     let starts = wide_of(sizes.talls, i, sizes.states);
     let lanes = lanes_of(sizes.talls, i, sizes.poses);
@@ -100,7 +103,8 @@ fn costs(
     i: usize,
 )
     requires { ⌜ Lent (now table) × StagesGiven (now row0) (now row1) (now store) sizes cells1 × (i ≤ sizes .talls) ⌝ }
-    ensures { λ _. ⌜ RowsStart (now (row0 .entry)) (now (row1 .entry)) sizes cells1 i (now (store .entry)) (now (store .exit)) × Lent (now (table .exit)) ⌝ }
+    ensures { λ _. ⌜ RowsStart (now (row0 .entry)) (now (row1 .entry)) sizes cells1 i (now (store .entry))
+        (now (store .exit)) × Lent (now (table .exit)) ⌝ }
 {
     let sizes1 = Sizes {
         cells: cells1,
@@ -129,7 +133,8 @@ pub fn stage(
     i: usize,
 )
     requires { ⌜ Lent (now table) × StagesGiven (now row0) (now row1) (now store) sizes cells1 × (i ≤ sizes .talls) ⌝ }
-    ensures { λ _. ⌜ RowsStage (now (row0 .entry)) (now (row1 .entry)) sizes cells1 i (now (store .entry)) (now (store .exit)) × Lent (now (table .exit)) ⌝ }
+    ensures { λ _. ⌜ RowsStage (now (row0 .entry)) (now (row1 .entry)) sizes cells1 i (now (store .entry))
+        (now (store .exit)) × Lent (now (table .exit)) ⌝ }
 {
     costs(table, store, row0, row1, sizes, cells1, i);
     let starts = wide_of(sizes.talls, i, sizes.states);
@@ -144,7 +149,8 @@ pub fn stage(
 // Every stage, from the state before anything.
 pub fn stages(store: &mut [u32], row0: &[u32], row1: &[u32], sizes: Sizes, cells1: usize)
     requires { ⌜ StagesGiven (now row0) (now row1) (now store) sizes cells1 ⌝ }
-    ensures { λ _. ⌜ RowsStages (now (row0 .entry)) (now (row1 .entry)) sizes cells1 (now (store .entry)) (now (store .exit)) ⌝ }
+    ensures { λ _. ⌜ RowsStages (now (row0 .entry)) (now (row1 .entry)) sizes cells1 (now (store .entry))
+        (now (store .exit)) ⌝ }
 {
     let mut table = [0u32; search_store::TABLE];
     let talls = sizes.talls;

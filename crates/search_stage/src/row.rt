@@ -24,8 +24,8 @@ fn backs(starts: &mut [u32; 64], row: &[u32], p: usize, poses: usize)
     }
 }
 
-// On from the layer in block 0, which has `cells` cells, to tall cell i or the row's end; `starts` has what the start of each lane
-// pays as the last.
+// On from the layer in block 0, which has `cells` cells, to tall cell i or the row's end; `starts` has
+// what the start of each lane pays as the last.
 fn stage_end(
     table: &mut [u32; search_store::TABLE],
     store: &mut [u32],
@@ -37,8 +37,11 @@ fn stage_end(
     cells: usize,
     costs: usize,
 )
-    requires { ⌜ Lent (now table) × RowGiven (now row) sizes × Given (now row) (now store) sizes lanes cells 0 × CostRoom (now store) costs × Low (now starts) × (length (now starts) ≡ 64) ⌝ }
-    ensures { λ _. ⌜ RowCosted (endFrom (deckIn (now (row .entry)) sizes) (sizes .reordering) (sizes .talls) (posIn (now (row .entry))) i (now (store .entry)) cells (now (starts .entry))) lanes (statesAt sizes (suc i)) (posesAt sizes (suc i)) costs (now (store .entry)) (now (store .exit)) × Lent (now (table .exit)) ⌝ }
+    requires { ⌜ Lent (now table) × RowGiven (now row) sizes × Given (now row) (now store) sizes lanes cells 0
+        × CostRoom (now store) costs × Low (now starts) × (length (now starts) ≡ 64) ⌝ }
+    ensures { λ _. ⌜ RowCosted (endFrom (deckIn (now (row .entry)) sizes) (sizes .reordering) (sizes .talls)
+        (posIn (now (row .entry))) i (now (store .entry)) cells (now (starts .entry))) lanes (statesAt sizes (suc i))
+        (posesAt sizes (suc i)) costs (now (store .entry)) (now (store .exit)) × Lent (now (table .exit)) ⌝ }
 {
     if i < sizes.talls {
         let p = search_row::tall_at(row, i);
@@ -48,11 +51,13 @@ fn stage_end(
     search_wide_end::segment_end(table, store, row, sizes, starts, lanes, cells, costs);
 }
 
-// The costs of stage 0 in a row, to the block at `costs`: from the row's start to the first tall cell, or to the row's end if it has
-// none.
+// The costs of stage 0 in a row, to the block at `costs`: from the row's start to the first
+// tall cell, or to the row's end if it has none.
 fn open_cost(store: &mut [u32], row: &[u32], sizes: Sizes, costs: usize)
-    requires { ⌜ RowGiven (now row) sizes × OpenRoom (now store) (sizes .reordering) (sizes .poses) (sizes .states) costs ⌝ }
-    ensures { λ _. ⌜ RowCosted (costIn (now (row .entry)) sizes 0 0) 1 (statesAt sizes 1) (posesAt sizes 1) costs (now (store .entry)) (now (store .exit)) ⌝ }
+    requires { ⌜ RowGiven (now row) sizes
+        × OpenRoom (now store) (sizes .reordering) (sizes .poses) (sizes .states) costs ⌝ }
+    ensures { λ _. ⌜ RowCosted (costIn (now (row .entry)) sizes 0 0) 1 (statesAt sizes 1) (posesAt sizes 1) costs
+        (now (store .entry)) (now (store .exit)) ⌝ }
 {
     if sizes.talls > 0 {
         let p = search_row::tall_at(row, 0);
@@ -72,8 +77,11 @@ pub fn row_cost(
     s: usize,
     costs: usize,
 )
-    requires { ⌜ Lent (now table) × RowGiven (now row) sizes × OpenRoom (now store) (sizes .reordering) (sizes .poses) (sizes .states) costs × (i ≤ sizes .talls) × (s < statesAt sizes i) ⌝ }
-    ensures { λ _. ⌜ RowCost (now (row .entry)) sizes i s costs (now (store .entry)) (now (store .exit)) × Lent (now (table .exit)) ⌝ }
+    requires { ⌜ Lent (now table) × RowGiven (now row) sizes
+        × OpenRoom (now store) (sizes .reordering) (sizes .poses) (sizes .states) costs × (i ≤ sizes .talls)
+        × (s < statesAt sizes i) ⌝ }
+    ensures { λ _. ⌜ RowCost (now (row .entry)) sizes i s costs (now (store .entry)) (now (store .exit))
+        × Lent (now (table .exit)) ⌝ }
 {
     if i == 0 {
         open_cost(store, row, sizes, costs);

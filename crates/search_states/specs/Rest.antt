@@ -32,12 +32,14 @@ pub record Next {A : Type 0} (d : A) (whole : List A) (count : ℕ) (x : A) (l :
   pub here : getD whole count d ≡ x
   pub after : drop (count + 1) whole ≡ l
 
-pub next : {A : Type 0} {d : A} (whole : List A) (count : ℕ) {x : A} {l : List A} → drop count whole ≡ x ∷ l → Next d whole count x l
+pub next : {A : Type 0} {d : A} (whole : List A) (count : ℕ) {x : A} {l : List A} → drop count whole ≡ x ∷ l
+    → Next d whole count x l
 next {d = d} whole count {x} {l} e =
     let h : count < length whole = omega (arith, simp length-drop at (ap length e)) in
     let s : getD whole count d ∷ drop (suc count) whole ≡ x ∷ l = sym (drop-cons whole count d h) ∙ e in
     record { inside = h; here = cc; after = rw add-one (cc) }
 
 -- nothing is to come
-pub done : {A : Type 0} (whole : List A) (count : ℕ) → count ≤ length whole → drop count whole ≡ [] → count ≡ length whole
+pub done : {A : Type 0} (whole : List A) (count : ℕ) → count ≤ length whole → drop count whole ≡ []
+    → count ≡ length whole
 done whole count h e = omega (arith, simp length-drop at (ap length e))

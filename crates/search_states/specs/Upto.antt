@@ -1,4 +1,5 @@
--- The words of the states while they are written: those below a count are right, and the others are still to come, marks by marks and digit by digit.
+-- The words of the states while they are written: those below a count are right, and the others are still
+-- to come, marks by marks and digit by digit.
 use Prim.Native.Nat.{ℕ, zero, suc, _+_, _*_, _/_, _%_, _^_, _≤_, _<_}
 use mathlib.Core.Path.{_≡_, refl, sym, ap, ap₂, _∙_}
 use mathlib.Core.Bool.{Bool, true, false, _&&_, _||_, cond, false≢true}
@@ -35,11 +36,14 @@ pub digits-none : (R m d : ℕ) → 2 * R < d → digitsFrom R m d ≡ []
 unfolding digitsFrom
 digits-none R m d h = rw (rest-none (mayBeLast R m) d (suc (2 * R)) h)
 
-pub digits-more : (R m d : ℕ) → d ≤ 2 * R → digitsFrom R m d ≡ cond (mayBeLast R m d) ((d, m) ∷ digitsFrom R m (d + 1)) (digitsFrom R m (d + 1))
+pub digits-more : (R m d : ℕ) → d ≤ 2 * R
+    → digitsFrom R m d ≡ cond (mayBeLast R m d) ((d, m) ∷ digitsFrom R m (d + 1)) (digitsFrom R m (d + 1))
 unfolding digitsFrom
-digits-more R m d h = ap (map (λ d. (d, m))) (rest-more (mayBeLast R m) d (suc (2 * R)) (omega arith)) ∙ go (mayBeLast R m d)
+digits-more R m d h =
+    ap (map (λ d. (d, m))) (rest-more (mayBeLast R m) d (suc (2 * R)) (omega arith)) ∙ go (mayBeLast R m d)
   where
-    go : (t : Bool) → map (λ d. (d, m)) (cond t (d ∷ rest (mayBeLast R m) (d + 1) (suc (2 * R))) (rest (mayBeLast R m) (d + 1) (suc (2 * R))))
+    go : (t : Bool) → map (λ d. (d, m))
+        (cond t (d ∷ rest (mayBeLast R m) (d + 1) (suc (2 * R))) (rest (mayBeLast R m) (d + 1) (suc (2 * R))))
         ≡ cond t ((d, m) ∷ digitsFrom R m (d + 1)) (digitsFrom R m (d + 1))
     go true = refl
     go false = refl
@@ -48,11 +52,14 @@ pub marks-none : (R m : ℕ) → 2 ^ suc (2 * R) ≤ m → marksFrom R m ≡ []
 unfolding marksFrom each
 marks-none R m h = rw (rest-none (isMarks R) m (2 ^ suc (2 * R)) h)
 
-pub marks-more : (R m : ℕ) → m < 2 ^ suc (2 * R) → marksFrom R m ≡ cond (isMarks R m) (digitsFrom R m 0 ++ marksFrom R (m + 1)) (marksFrom R (m + 1))
+pub marks-more : (R m : ℕ) → m < 2 ^ suc (2 * R)
+    → marksFrom R m ≡ cond (isMarks R m) (digitsFrom R m 0 ++ marksFrom R (m + 1)) (marksFrom R (m + 1))
 unfolding marksFrom each
-marks-more R m h = ap (λ l. each l λ m. digitsFrom R m 0) (rest-more (isMarks R) m (2 ^ suc (2 * R)) h) ∙ go (isMarks R m)
+marks-more R m h =
+    ap (λ l. each l λ m. digitsFrom R m 0) (rest-more (isMarks R) m (2 ^ suc (2 * R)) h) ∙ go (isMarks R m)
   where
-    go : (t : Bool) → each (cond t (m ∷ rest (isMarks R) (m + 1) (2 ^ suc (2 * R))) (rest (isMarks R) (m + 1) (2 ^ suc (2 * R)))) (λ m. digitsFrom R m 0)
+    go : (t : Bool) → each (cond t (m ∷ rest (isMarks R) (m + 1) (2 ^ suc (2 * R)))
+        (rest (isMarks R) (m + 1) (2 ^ suc (2 * R)))) (λ m. digitsFrom R m 0)
         ≡ cond t (digitsFrom R m 0 ++ marksFrom R (m + 1)) (marksFrom R (m + 1))
     go true = refl
     go false = refl
@@ -106,13 +113,15 @@ module _ (p : List ℕ) (n d m : ℕ) (h : stateAt n + 2 < length p) where
 
   with-digit : getD (withState p n d m) (stateAt n) 0 ≡ d
   with-digit =
-      getD-set-other (set (set p (stateAt n) d) (stateAt n + 1) m) (stateAt n + 2) (stateAt n) (marksBefore d m) 0 (omega arith)
+      getD-set-other (set (set p (stateAt n) d) (stateAt n + 1) m) (stateAt n + 2) (stateAt n)
+      (marksBefore d m) 0 (omega arith)
       ∙ getD-set-other (set p (stateAt n) d) (stateAt n + 1) (stateAt n) m 0 (omega arith)
       ∙ getD-set-same p (stateAt n) d 0 (omega arith)
 
   with-mark : getD (withState p n d m) (stateAt n + 1) 0 ≡ m
   with-mark =
-      getD-set-other (set (set p (stateAt n) d) (stateAt n + 1) m) (stateAt n + 2) (stateAt n + 1) (marksBefore d m) 0 (omega arith)
+      getD-set-other (set (set p (stateAt n) d) (stateAt n + 1) m)
+      (stateAt n + 2) (stateAt n + 1) (marksBefore d m) 0 (omega arith)
       ∙ getD-set-same (set p (stateAt n) d) (stateAt n + 1) m 0 (simp length-set (omega arith))
 
   with-before : getD (withState p n d m) (stateAt n + 2) 0 ≡ marksBefore d m
@@ -130,13 +139,16 @@ before-low d m h = omega arith
 with-low : (p : List ℕ) (n d m : ℕ) → stateAt n + 2 < length p → d ≤ 4 → m < 32 → Low p → Low (withState p n d m)
 with-low p n d m h x y w =
     low-set (stateAt n + 2) (marksBefore d m)
-    (low-set (stateAt n + 1) m (low-set (stateAt n) d w (omega arith) (omega arith)) (simp length-set (omega arith)) (omega arith))
+    (low-set (stateAt n + 1) m (low-set (stateAt n) d w (omega arith) (omega arith))
+    (simp length-set (omega arith)) (omega arith))
     (simp length-set (omega arith)) (omega (arith, before-low d m y))
 
-pub with-frame : (o p : List ℕ) (n d m : ℕ) → n < 12 → Frame statesFrom statesEnd o p → Frame statesFrom statesEnd o (withState p n d m)
+pub with-frame : (o p : List ℕ) (n d m : ℕ) → n < 12 → Frame statesFrom statesEnd o p
+    → Frame statesFrom statesEnd o (withState p n d m)
 with-frame o p n d m h f =
     frame-set statesEnd (stateAt n + 2) (marksBefore d m)
-    (frame-set statesEnd (stateAt n + 1) m (frame-set statesEnd (stateAt n) d f (omega arith) (omega arith) (omega arith)) (omega arith) (omega arith) (omega arith))
+    (frame-set statesEnd (stateAt n + 1) m (frame-set statesEnd (stateAt n) d f (omega arith) (omega arith)
+    (omega arith)) (omega arith) (omega arith) (omega arith))
     (omega arith) (omega arith) (omega arith)
 
 pub upto-more : {R : ℕ} {p : List ℕ} {n d m : ℕ} {l : List (ℕ × ℕ)}
@@ -210,19 +222,23 @@ pub may-low : (R m d : ℕ) → mayBeLast R m d ≡ true → 2 ^ d ≤ m
 may-low R m d e = set-low d m (may-set R m d e)
 
 module _ {R : ℕ} {p : List ℕ} {n : ℕ} where
-  pub skip-digit : (m d : ℕ) (l : List (ℕ × ℕ)) → d ≤ 2 * R → mayBeLast R m d ≡ false → Upto R p n (digitsFrom R m d ++ l) → Upto R p n (digitsFrom R m (d + 1) ++ l)
+  pub skip-digit : (m d : ℕ) (l : List (ℕ × ℕ)) → d ≤ 2 * R → mayBeLast R m d ≡ false
+      → Upto R p n (digitsFrom R m d ++ l) → Upto R p n (digitsFrom R m (d + 1) ++ l)
   skip-digit m d l h e u = rw (digits-more R m d h, e) at u
 
-  pub next-digit : (m d : ℕ) (l : List (ℕ × ℕ)) → d ≤ 2 * R → mayBeLast R m d ≡ true → Upto R p n (digitsFrom R m d ++ l) → Upto R p n ((d, m) ∷ (digitsFrom R m (d + 1) ++ l))
+  pub next-digit : (m d : ℕ) (l : List (ℕ × ℕ)) → d ≤ 2 * R → mayBeLast R m d ≡ true
+      → Upto R p n (digitsFrom R m d ++ l) → Upto R p n ((d, m) ∷ (digitsFrom R m (d + 1) ++ l))
   next-digit m d l h e u = rw (digits-more R m d h, e) at u
 
   pub no-digit : (m d : ℕ) (l : List (ℕ × ℕ)) → 2 * R < d → Upto R p n (digitsFrom R m d ++ l) → Upto R p n l
   no-digit m d l h u = rw (digits-none R m d h) at u
 
-  pub skip-marks : (m : ℕ) → m < 2 ^ suc (2 * R) → isMarks R m ≡ false → Upto R p n (marksFrom R m) → Upto R p n (marksFrom R (m + 1))
+  pub skip-marks : (m : ℕ) → m < 2 ^ suc (2 * R) → isMarks R m ≡ false → Upto R p n (marksFrom R m)
+      → Upto R p n (marksFrom R (m + 1))
   skip-marks m h e u = rw (marks-more R m h, e) at u
 
-  pub next-marks : (m : ℕ) → m < 2 ^ suc (2 * R) → isMarks R m ≡ true → Upto R p n (marksFrom R m) → Upto R p n (digitsFrom R m 0 ++ marksFrom R (m + 1))
+  pub next-marks : (m : ℕ) → m < 2 ^ suc (2 * R) → isMarks R m ≡ true → Upto R p n (marksFrom R m)
+      → Upto R p n (digitsFrom R m 0 ++ marksFrom R (m + 1))
   next-marks m h e u = rw (marks-more R m h, e) at u
 
   pub no-marks : (m : ℕ) → 2 ^ suc (2 * R) ≤ m → Upto R p n (marksFrom R m) → Upto R p n []

@@ -1,4 +1,5 @@
-// The states of a digit and marks in which a cell can have been placed last, as the words that the search reads: marks rising, digits rising.
+// The states of a digit and marks in which a cell can have been placed last, as the words that the
+// search reads: marks rising, digits rising.
 ghost use mathlib.Core.Path.{_≡_};
 ghost use mathlib.Core.Bool.{true};
 ghost use mathlib.Core.List.{_++_};
@@ -48,7 +49,8 @@ fn put_state(row: &mut [u32], q: usize, d: u32, m: u32)
 // The state of digit d, if it is one; how many there are then.
 fn add_digit(row: &mut [u32], count: usize, r: u32, m: u32, d: u32) -> usize
     requires { ⌜ (r ≤ 2) × (m < 32) × (d ≤ 2 * r) × Upto r (now row) count (digitsFrom r m d ++ marksFrom r (m + 1)) ⌝ }
-    ensures { λ n. ⌜ Upto r (now (row .exit)) n (digitsFrom r m (d + 1) ++ marksFrom r (m + 1)) × Frame statesFrom statesEnd (now (row .entry)) (now (row .exit)) ⌝ }
+    ensures { λ n. ⌜ Upto r (now (row .exit)) n (digitsFrom r m (d + 1) ++ marksFrom r (m + 1))
+        × Frame statesFrom statesEnd (now (row .entry)) (now (row .exit)) ⌝ }
 {
     if !may_be_last(r, m, d) {
         return count;
@@ -60,7 +62,8 @@ fn add_digit(row: &mut [u32], count: usize, r: u32, m: u32, d: u32) -> usize
 // The states of m, if it is marks; how many there are then.
 fn add_marks(row: &mut [u32], count: usize, r: u32, m: u32) -> usize
     requires { ⌜ (r ≤ 2) × (m < 2 ^ suc (2 * r)) × (m < 32) × Upto r (now row) count (marksFrom r m) ⌝ }
-    ensures { λ n. ⌜ Upto r (now (row .exit)) n (marksFrom r (m + 1)) × Frame statesFrom statesEnd (now (row .entry)) (now (row .exit)) ⌝ }
+    ensures { λ n. ⌜ Upto r (now (row .exit)) n (marksFrom r (m + 1))
+        × Frame statesFrom statesEnd (now (row .entry)) (now (row .exit)) ⌝ }
 {
     if !is_marks(r, m) {
         return count;

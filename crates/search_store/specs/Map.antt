@@ -1,6 +1,6 @@
--- The map of the store. A layer is a block: twelve states, each 64 poses of 64 lanes. Two layers stand at its start, then the
--- layers of a segment in one lane, kept one after the other; then a page for each state, which has its segment costs as a start
--- state in both rows, and the cases and back pointers of the tables in which it is row 0's state.
+-- The map of the store. A layer is a block: twelve states, each 64 poses of 64 lanes. Two layers stand at its start,
+-- then the layers of a segment in one lane, kept one after the other; then a page for each state, which has its segment
+-- costs as a start state in both rows, and the cases and back pointers of the tables in which it is row 0's state.
 use Prim.Native.Nat.{ℕ, _+_, _*_, _≤_, _<_}
 use mathlib.Core.Logic.{_⊎_}
 use mathlib.Core.List.{List}

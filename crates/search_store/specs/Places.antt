@@ -6,7 +6,8 @@ use mathlib.Core.List.{List}
 use native.Mathlib.Omega.{arith}
 use native.Mathlib.Decide.{decLt}
 use lib.ListN.{length}
-use Rattle.search_store.specs.Map.{stateBlock, layerBlock, pagesFrom, costsAt, caseAt, pointerAt, Pages, Slot, OutsideCosts}
+use Rattle.search_store.specs.Map.{stateBlock, layerBlock, pagesFrom, costsAt}
+use Rattle.search_store.specs.Map.{caseAt, pointerAt, Pages, Slot, OutsideCosts}
 
 -- ---- the words of a case
 
@@ -19,7 +20,8 @@ case-one I q₀ q₁ a j p₀ p₁ b h g e =
     (omega arith, e₀, e₁, omega arith)
 
 -- no case is a source
-pub case-pointer : (I q₀ q₁ a J p₀ p₁ b : ℕ) → Slot I q₀ q₁ a → Slot J p₀ p₁ b → caseAt I q₀ q₁ + a ≡ pointerAt J p₀ p₁ + b → ⊥
+pub case-pointer : (I q₀ q₁ a J p₀ p₁ b : ℕ) → Slot I q₀ q₁ a → Slot J p₀ p₁ b
+    → caseAt I q₀ q₁ + a ≡ pointerAt J p₀ p₁ + b → ⊥
 case-pointer I q₀ q₁ a j p₀ p₁ b h g e = let e₀ : q₀ ≡ p₀ = omega arith in omega arith
 
 -- both stand above the layers
@@ -37,7 +39,8 @@ pub case-beside : (row s I q₀ q₁ a : ℕ) → row ≤ 1 → Slot I q₀ q₁
     → OutsideCosts (costsAt row s) (caseAt I q₀ q₁ + a) × OutsideCosts (costsAt row s) (pointerAt I q₀ q₁ + a)
 case-beside row s I q₀ q₁ a b h = go (decLt q₀ s)
   where
-    go : Dec (q₀ < s) → OutsideCosts (costsAt row s) (caseAt I q₀ q₁ + a) × OutsideCosts (costsAt row s) (pointerAt I q₀ q₁ + a)
+    go : Dec (q₀ < s)
+        → OutsideCosts (costsAt row s) (caseAt I q₀ q₁ + a) × OutsideCosts (costsAt row s) (pointerAt I q₀ q₁ + a)
     go (yes l) = (inl (omega arith), inl (omega arith))
     go (no l) = (inr (omega arith), inr (omega arith))
 

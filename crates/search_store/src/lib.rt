@@ -1,5 +1,5 @@
-// The map of the lent store: where layers, kept layers, segment costs, cases and back pointers stand. The map is drawn in
-// specs/Map.antt; its laws stand in specs/Places.antt.
+// The map of the lent store: where layers, kept layers, segment costs, cases and back pointers stand. The map is drawn
+// in specs/Map.antt; its laws stand in specs/Places.antt.
 ghost use mathlib.Core.Path.{_≡_};
 ghost use Prim.Native.Nat.{_+_, _*_, _≤_};
 ghost use Rattle.search_store.specs.Map.{stateBlock, keptAt, costsAt, caseAt, pointerAt};
@@ -19,7 +19,8 @@ const PAGES: usize = 148992;
 
 const PAGE: usize = 138240;
 
-// In a page: where its cases begin, the words of a pair of states in all tables, and how far behind a case its pointer stands.
+// In a page: where its cases begin, the words of a pair of states in all tables,
+// and how far behind a case its pointer stands.
 const CASES: usize = 98304;
 
 const CASE: usize = 1664;

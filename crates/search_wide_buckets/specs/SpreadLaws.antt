@@ -33,23 +33,33 @@ spread-join {f} {t} {least} {mid} {last} {first} {lanes} {old} {on} {new} p q s 
       long = w .long ∙ s .long;
       low = w .low;
       done = λ j v r i a b k c. go j v r i a b k c (decLt v mid);
-      rest = λ j v r i a k. w .rest j v r i (⊎-elim (λ h. inl (omega arith)) (λ h. inr h) a) k ∙ s .rest j v r i (⊎-elim (λ h. inl h) (λ h. inr (omega arith)) a) k;
+      rest = λ j v r i a k. w .rest j v r i (⊎-elim (λ h. inl (omega arith)) (λ h. inr h) a) k
+          ∙ s .rest j v r i (⊎-elim (λ h. inl h) (λ h. inr (omega arith)) a) k;
       other = λ l v r i a k. w .other l v r i a k ∙ s .other l v r i a k;
     }
   where
     go : (j v r : ℕ) → j < lanes → least ≤ v → v < last → r < 19 → v ≤ 8 * r → Dec (v < mid)
         → wordAt new (first + j) v r ≡ min (wordAt old (first + j) v r) (inRow t r (f v j))
     go j v r i a b k c (yes h) = w .rest j v r i (inl h) k ∙ s .done j v r i a h k c
-    go j v r i a b k c (no h) = omega (arith, w .done j v r i (omega arith) b k c, s .rest j v r i (inr (omega arith)) k)
+    go j v r i a b k c (no h) =
+        omega (arith, w .done j v r i (omega arith) b k c, s .rest j v r i (inr (omega arith)) k)
 
 -- no lane yet, and one lane more
-pub spread-no-lane : (f : ℕ → ℕ → ℕ) (t least last first : ℕ) {table : List ℕ} → Low table → Spread f t least last first 0 table table
+pub spread-no-lane : (f : ℕ → ℕ → ℕ) (t least last first : ℕ) {table : List ℕ} → Low table
+    → Spread f t least last first 0 table table
 spread-no-lane f t least last first w =
-    record { long = refl; low = w; done = λ l v s i. absurd (omega arith); rest = λ l v s i. absurd (omega arith); other = λ l v s i j k. refl }
+    record {
+      long = refl;
+      low = w;
+      done = λ l v s i. absurd (omega arith);
+      rest = λ l v s i. absurd (omega arith);
+      other = λ l v s i j k. refl;
+    }
 
 pub spread-lane :
     {f : ℕ → ℕ → ℕ} {g : ℕ → ℕ → ℕ} {t least last first lanes : ℕ} {old mid new : List ℕ} (lane : ℕ)
-    → lane ≡ first + lanes → lane < 64 → ((v : ℕ) → g v 0 ≡ f v lanes) → Spread f t least last first lanes old mid → Spread g t least last lane 1 mid new
+    → lane ≡ first + lanes → lane < 64 → ((v : ℕ) → g v 0 ≡ f v lanes) → Spread f t least last first lanes old mid
+    → Spread g t least last lane 1 mid new
     → Spread f t least last first (lanes + 1) old new
 spread-lane {f} {g} {t} {least} {last} {first} {lanes} {old} {mid} {new} lane z n e s w =
     record {
@@ -57,7 +67,8 @@ spread-lane {f} {g} {t} {least} {last} {first} {lanes} {old} {mid} {new} lane z 
       low = w .low;
       done = λ l v r i a j k c. go l v r i a j k c (decLt l lanes);
       rest = λ l v r i j k. keep l v r i j k (decLt l lanes);
-      other = λ l v r i j k. w .other l v r i (⊎-elim (λ p. inl (omega arith)) (λ p. inr (omega arith)) j) k ∙ s .other l v r i (⊎-elim (λ p. inl p) (λ p. inr (omega arith)) j) k;
+      other = λ l v r i j k. w .other l v r i (⊎-elim (λ p. inl (omega arith)) (λ p. inr (omega arith)) j) k
+          ∙ s .other l v r i (⊎-elim (λ p. inl p) (λ p. inr (omega arith)) j) k;
     }
   where
     -- the lane that is new, and those before it
@@ -78,7 +89,8 @@ spread-lane {f} {g} {t} {least} {last} {first} {lanes} {old} {mid} {new} lane z 
         let m = rw b at (fresh v r k) in
         rw y (d ∙ ap₂ (λ (p q : ℕ). min p (inRow t r q)) m (e v ∙ ap (f v) (sym x)))
 
-    keep : (l v r : ℕ) → l < lanes + 1 → (v < least) ⊎ (last ≤ v) → r < 19 → Dec (l < lanes) → wordAt new (first + l) v r ≡ wordAt old (first + l) v r
+    keep : (l v r : ℕ) → l < lanes + 1 → (v < least) ⊎ (last ≤ v) → r < 19 → Dec (l < lanes)
+        → wordAt new (first + l) v r ≡ wordAt old (first + l) v r
     keep l v r i j k (yes h) = before l v r h k ∙ s .rest l v r h j k
     keep l v r i j k (no h) =
         let y : first + l ≡ lane + 0 = omega arith in

@@ -37,19 +37,23 @@ pub record Cleared (rows lanes v : ℕ) (table : List ℕ) : Type 0 where
   pub low : Low table
   pub none : (l u t : ℕ) → l < lanes → u < v → t < rows → wordAt table l u t ≡ B
 
--- the buckets of each lane are lowered to other ones, so many buckets, in all rows that count, which are those below `rows`: row 0 counts in bucket 0 alone
+-- the buckets of each lane are lowered to other ones, so many buckets, in all rows that count, which are those
+-- below `rows`: row 0 counts in bucket 0 alone
 pub record Gathered (bucket : ℕ → ℕ → ℕ → ℕ) (rows buckets lanes : ℕ) (old new : List ℕ) : Type 0 where
   pub long : length new ≡ length old
   pub low : Low new
-  pub done : (l v t : ℕ) → l < lanes → v < buckets → t < rows → v ≤ 8 * t → wordAt new l v t ≡ min (wordAt old l v t) (bucket l v t)
+  pub done : (l v t : ℕ) → l < lanes → v < buckets → t < rows → v ≤ 8 * t
+      → wordAt new l v t ≡ min (wordAt old l v t) (bucket l v t)
 
--- the same in all rows and the buckets from `least` on below `last`, so many lanes from `first` on, by one source in row t, whose cost in bucket v and the j-th of
--- these lanes is f v j; the other buckets and lanes are as they were
+-- the same in all rows and the buckets from `least` on below `last`, so many lanes from `first` on, by one source in
+-- row t, whose cost in bucket v and the j-th of these lanes is f v j; the other buckets and lanes are as they were
 pub record Spread (f : ℕ → ℕ → ℕ) (t least last first lanes : ℕ) (old new : List ℕ) : Type 0 where
   pub long : length new ≡ length old
   pub low : Low new
-  pub done : (j v s : ℕ) → j < lanes → least ≤ v → v < last → s < 19 → v ≤ 8 * s → wordAt new (first + j) v s ≡ min (wordAt old (first + j) v s) (inRow t s (f v j))
-  pub rest : (j v s : ℕ) → j < lanes → (v < least) ⊎ (last ≤ v) → s < 19 → wordAt new (first + j) v s ≡ wordAt old (first + j) v s
+  pub done : (j v s : ℕ) → j < lanes → least ≤ v → v < last → s < 19 → v ≤ 8 * s
+      → wordAt new (first + j) v s ≡ min (wordAt old (first + j) v s) (inRow t s (f v j))
+  pub rest : (j v s : ℕ) → j < lanes → (v < least) ⊎ (last ≤ v) → s < 19
+      → wordAt new (first + j) v s ≡ wordAt old (first + j) v s
   pub other : (l v s : ℕ) → l < 64 → (l < first) ⊎ (first + lanes ≤ l) → s < 19 → wordAt new l v s ≡ wordAt old l v s
 
 -- a variant's pays for a row's lanes, by bucket
@@ -60,7 +64,8 @@ chargedBy row at pays u v l = getD row (at + l) 0 + getD pays (u * 9 + v) 0
 abbrev pub chargedOne : ℕ → List ℕ → ℕ → ℕ → ℕ → ℕ
 chargedOne x pays u v l = x + getD pays (u * 9 + v) 0
 
--- a table to be lowered by the cell at position k, whose rows begin at `at`, for the cell at position m, which needs so many buckets
+-- a table to be lowered by the cell at position k, whose rows begin at `at`, for the cell
+-- at position m, which needs so many buckets
 pub record Source (table st line : List ℕ) (at k m buckets lanes : ℕ) : Type 0 where
   pub words : RowWords line
   pub low : Low st
@@ -96,9 +101,12 @@ statesIn st line D R at i q n l = byStates line D R (layerIn st at l) i q n
 
 -- ---- what is found
 
--- in a table of so many buckets, the last four of them those of gaps 2 and 3, whose bucket 0 has in each row the lowest of all rows up to it
+-- in a table of so many buckets, the last four of them those of gaps 2 and 3, whose bucket 0 has
+-- in each row the lowest of all rows up to it
 abbrev pub foundIn : ℕ → List ℕ → ℕ → ℕ → ℕ
-foundIn buckets table a l = min (lowest B (λ gap. wordAt table l (bucketIn (buckets - 4) gap (a % 4)) (a / 4 + 4 - gap)) paying) (wordAt table l 0 (a / 4))
+foundIn buckets table a l =
+    min (lowest B (λ gap. wordAt table l (bucketIn (buckets - 4) gap (a % 4)) (a / 4 + 4 - gap)) paying)
+    (wordAt table l 0 (a / 4))
 
 -- bucket 0 has in each row below `rows` the lowest of all rows up to it; the other buckets are as they were
 pub record RunUp (rows lanes : ℕ) (old new : List ℕ) : Type 0 where

@@ -21,12 +21,14 @@ use Rattle.search_buckets.specs.Loops.{lowest-same, lowest-ext}
 use Rattle.search_buckets.specs.Gaps.{paying, paying-low}
 use Rattle.search_buckets.specs.Rows.{rowsOf, inRow, bucketIn, found}
 use Rattle.search_buckets.specs.Laws.{row-hit, row-miss, found-none, found-ext}
-use Rattle.search_wide_buckets.specs.Table.{wordAt, LoweredAt, Lent, Cleared, Gathered, Spread, Source, RunUp, foundIn, Ready, ToRows}
+use Rattle.search_wide_buckets.specs.Table.{wordAt, LoweredAt, Lent, Cleared, Gathered}
+use Rattle.search_wide_buckets.specs.Table.{Spread, Source, RunUp, foundIn, Ready, ToRows}
 
 -- ---- one row
 
 -- a word that is not in the frame
-pub frame-other : {a b : ℕ} {old new : List ℕ} (k : ℕ) → Frame a b old new → (a ≤ k → b ≤ k) → getD new k 0 ≡ getD old k 0
+pub frame-other : {a b : ℕ} {old new : List ℕ} (k : ℕ) → Frame a b old new → (a ≤ k → b ≤ k)
+    → getD new k 0 ≡ getD old k 0
 frame-other {a} {b} {old} {new} k f h = go (decLt k a)
   where
     go : Dec (k < a) → getD new k 0 ≡ getD old k 0
@@ -51,10 +53,12 @@ lowered-at-more {f} {to} {old} {new} l v w h e =
     }
 
 -- one word
-pub lowered-at-one : (f : ℕ → ℕ) (to v : ℕ) {l : List ℕ} → to < length l → v ≡ min (getD l to 0) (f 0) → LoweredAt f to 1 l (set l to v)
+pub lowered-at-one : (f : ℕ → ℕ) (to v : ℕ) {l : List ℕ} → to < length l → v ≡ min (getD l to 0) (f 0)
+    → LoweredAt f to 1 l (set l to v)
 lowered-at-one f to v {l} h e =
     let z : to + 0 ≡ to = omega arith in
-    rw z at (lowered-at-more 0 v (lowered-at-none f to l) (omega arith) (e ∙ ap (λ (k : ℕ). min (getD l k 0) (f 0)) (sym z)))
+    rw z at (lowered-at-more 0 v (lowered-at-none f to l) (omega arith)
+    (e ∙ ap (λ (k : ℕ). min (getD l k 0) (f 0)) (sym z)))
 
 -- what is lowered stays at most B
 pub lowered-at-low : {f : ℕ → ℕ} {to lanes : ℕ} {old new : List ℕ} → LoweredAt f to lanes old new → Low old → Low new
@@ -65,12 +69,15 @@ lowered-at-low {f} {to} {lanes} {old} {new} v w = record { word = λ k. go k (de
     go k (no p) (no q) = omega (arith, v .frame .high k (omega arith), w .word k)
     go k (no p) (yes q) =
         let e : to + (k - to) ≡ k = omega arith in
-        let d : getD new k 0 ≡ min (getD old (to + (k - to)) 0) (f (k - to)) = ap (λ (j : ℕ). getD new j 0) (sym e) ∙ v .done (k - to) (omega arith) in
+        let d : getD new k 0 ≡ min (getD old (to + (k - to)) 0) (f (k - to)) = ap (λ (j : ℕ). getD new j 0) (sym e)
+        ∙ v .done (k - to) (omega arith) in
         omega (arith, w .word (to + (k - to)))
 
 -- the same by another name
-pub lowered-at-ext : {f g : ℕ → ℕ} {to lanes : ℕ} {old new : List ℕ} → LoweredAt f to lanes old new → ((l : ℕ) → l < lanes → f l ≡ g l) → LoweredAt g to lanes old new
-lowered-at-ext {to = to} {old = old} w e = record { frame = w .frame; done = λ l h. w .done l h ∙ ap (min (getD old (to + l) 0)) (e l h) }
+pub lowered-at-ext : {f g : ℕ → ℕ} {to lanes : ℕ} {old new : List ℕ} → LoweredAt f to lanes old new
+    → ((l : ℕ) → l < lanes → f l ≡ g l) → LoweredAt g to lanes old new
+lowered-at-ext {to = to} {old = old} w e =
+    record { frame = w .frame; done = λ l h. w .done l h ∙ ap (min (getD old (to + l) 0)) (e l h) }
 
 -- ---- rows without sources
 
@@ -78,7 +85,8 @@ lowered-at-ext {to = to} {old = old} w e = record { frame = w .frame; done = λ 
 pub lent-zeros : Lent (replicate tableWords 0)
 lent-zeros = record { long = length-replicate {A = ℕ} tableWords 0; low = same-low tableWords 0 (omega arith) }
 
-pub cleared-none : (rows lanes : ℕ) {table : List ℕ} → length table ≡ tableWords → Low table → Cleared rows lanes 0 table
+pub cleared-none : (rows lanes : ℕ) {table : List ℕ} → length table ≡ tableWords → Low table
+    → Cleared rows lanes 0 table
 cleared-none rows lanes h w = record { long = h; low = w; none = λ l u t i j k. absurd (omega arith) }
 
 -- one bucket more
@@ -108,7 +116,8 @@ spread-none f t least last first lanes {table} w h =
     record {
       long = refl;
       low = w;
-      done = λ l v s i b j k c. omega (arith, w .word (v * 1216 + s * 64 + (first + l)), row-miss t s (f v l) (h v s b j c));
+      done = λ l v s i b j k c.
+          omega (arith, w .word (v * 1216 + s * 64 + (first + l)), row-miss t s (f v l) (h v s b j c));
       rest = λ l v s i j k. refl;
       other = λ l v s i j k. refl;
     }
@@ -116,7 +125,8 @@ spread-none f t least last first lanes {table} w h =
 -- one bucket more
 pub spread-more :
     {f : ℕ → ℕ → ℕ} {t least first lanes : ℕ} {old mid new : List ℕ} (v : ℕ)
-    → first + lanes ≤ 64 → t < 19 → least ≤ v → Low old → Spread f t least v first lanes old mid → LoweredAt (f v) (v * 1216 + t * 64 + first) lanes mid new
+    → first + lanes ≤ 64 → t < 19 → least ≤ v → Low old → Spread f t least v first lanes old mid
+    → LoweredAt (f v) (v * 1216 + t * 64 + first) lanes mid new
     → Spread f t least (v + 1) first lanes old new
 spread-more {f} {t} {least} {first} {lanes} {old} {mid} {new} v n h c b s w =
     record {
@@ -132,7 +142,8 @@ spread-more {f} {t} {least} {first} {lanes} {old} {mid} {new} v n h c b s w =
     }
   where
     away :
-        (l u r : ℕ) → (v * 1216 + t * 64 + first ≤ u * 1216 + r * 64 + l → v * 1216 + t * 64 + first + lanes ≤ u * 1216 + r * 64 + l)
+        (l u r : ℕ) → (v * 1216 + t * 64 + first ≤ u * 1216 + r * 64 + l
+        → v * 1216 + t * 64 + first + lanes ≤ u * 1216 + r * 64 + l)
         → wordAt new l u r ≡ wordAt mid l u r
     away l u r e = frame-other (u * 1216 + r * 64 + l) (w .frame) e
 
@@ -148,14 +159,17 @@ spread-more {f} {t} {least} {first} {lanes} {old} {mid} {new} v n h c b s w =
           b .word (u * 1216 + r * 64 + (first + l)),
         )
     go l u r i p j k g (yes e) (yes d) =
-        let z : getD new (v * 1216 + t * 64 + (first + l)) 0 ≡ getD new (v * 1216 + t * 64 + first + l) 0 = ap (λ (k : ℕ). getD new k 0) (omega arith) in
-        let y : getD mid (v * 1216 + t * 64 + (first + l)) 0 ≡ getD mid (v * 1216 + t * 64 + first + l) 0 = ap (λ (k : ℕ). getD mid k 0) (omega arith) in
+        let z : getD new (v * 1216 + t * 64 + (first + l)) 0 ≡ getD new (v * 1216 + t * 64 + first + l) 0 =
+        ap (λ (k : ℕ). getD new k 0) (omega arith) in
+        let y : getD mid (v * 1216 + t * 64 + (first + l)) 0 ≡ getD mid (v * 1216 + t * 64 + first + l) 0 =
+        ap (λ (k : ℕ). getD mid k 0) (omega arith) in
         rw (e, d) (omega (arith, w .done l i, s .rest l v t i (inr (omega arith)) h, row-hit t t (f v l) refl))
 
 -- all buckets, in all lanes: the source is gathered
 pub spread-all :
     {f : ℕ → ℕ → ℕ} {bucket : ℕ → ℕ → ℕ → ℕ} {t rows buckets lanes : ℕ} {old new : List ℕ}
-    → rows ≤ 19 → Spread f t 0 buckets 0 lanes old new → ((l v s : ℕ) → l < lanes → v < buckets → bucket l v s ≡ inRow t s (f v l))
+    → rows ≤ 19 → Spread f t 0 buckets 0 lanes old new
+    → ((l v s : ℕ) → l < lanes → v < buckets → bucket l v s ≡ inRow t s (f v l))
     → Gathered bucket rows buckets lanes old new
 spread-all {old = old} {new = new} h s e =
     record {
@@ -173,7 +187,8 @@ spread-all {old = old} {new = new} h s e =
 pub found-words :
     {table : List ℕ} (buckets a l near other far : ℕ)
     → Low table → far ≡ a / 4 * 64 + l → near ≡ (1 + a % 4) * 1216 + far → other ≡ (buckets - 4 + a % 4) * 1216 + far
-    → min (min (getD table (near + 256) 0) (min (getD table (other + 128) 0) (getD table (other + 64) 0))) (getD table far 0) ≡ foundIn buckets table a l
+    → min (min (getD table (near + 256) 0) (min (getD table (other + 128) 0) (getD table (other + 64) 0)))
+    (getD table far 0) ≡ foundIn buckets table a l
 unfolding lowest
 found-words {table} buckets a l near other far w p q o =
     let at : ℕ → ℕ = λ k. getD table k 0 in
@@ -211,7 +226,8 @@ run-more {lanes} {old} {mid} {new} t n g s w =
       rest = λ l r i j k. away l 0 r i (λ e. omega arith) ∙ s .rest l r i (omega arith) k;
     }
   where
-    away : (l u r : ℕ) → l < lanes → (64 + t * 64 ≤ u * 1216 + r * 64 + l → 64 + t * 64 + lanes ≤ u * 1216 + r * 64 + l) → wordAt new l u r ≡ wordAt mid l u r
+    away : (l u r : ℕ) → l < lanes → (64 + t * 64 ≤ u * 1216 + r * 64 + l → 64 + t * 64 + lanes ≤ u * 1216 + r * 64 + l)
+        → wordAt new l u r ≡ wordAt mid l u r
     away l u r i e = frame-other (u * 1216 + r * 64 + l) (w .frame) e
 
     last : (l : ℕ) → l < lanes → wordAt new l 0 (t + 1) ≡ lowest B (wordAt old l 0) (from 0 (suc (t + 1)))
@@ -221,8 +237,15 @@ run-more {lanes} {old} {mid} {new} t n g s w =
         let y : getD mid (64 + t * 64 + l) 0 ≡ wordAt mid l 0 (t + 1) = ap (λ (k : ℕ). getD mid k 0) (omega arith) in
         let v : getD mid (t * 64 + l) 0 ≡ wordAt mid l 0 t = ap (λ (k : ℕ). getD mid k 0) (omega arith) in
         let z : wordAt old l 0 (0 + (t + 1)) ≡ wordAt old l 0 (t + 1) = ap (wordAt old l 0) (omega arith) in
-        let e : lowest B (wordAt old l 0) (from 0 (suc t)) ≡ lowest B (wordAt old l 0) (from 0 (t + 1)) = ap (λ (k : ℕ). lowest B (wordAt old l 0) (from 0 k)) (omega arith) in
-        omega (arith, w .done l i, s .rest l (t + 1) i (omega arith) (omega arith), s .far l t i (omega arith), lowest-from B (wordAt old l 0) 0 (t + 1))
+        let e : lowest B (wordAt old l 0) (from 0 (suc t)) ≡ lowest B (wordAt old l 0) (from 0 (t + 1)) =
+        ap (λ (k : ℕ). lowest B (wordAt old l 0) (from 0 k)) (omega arith) in
+        omega (
+          arith,
+          w .done l i,
+          s .rest l (t + 1) i (omega arith) (omega arith),
+          s .far l t i (omega arith),
+          lowest-from B (wordAt old l 0) 0 (t + 1),
+        )
 
 pub found-small : {table : List ℕ} (buckets a l : ℕ) → Low table → foundIn buckets table a l ≤ B
 found-small buckets a l w = omega (arith, w .word (0 * 1216 + a / 4 * 64 + l))
@@ -235,12 +258,18 @@ pub gathered-none :
     → Low table → ((l v t : ℕ) → l < lanes → v < buckets → t < rows → B ≤ bucket l v t)
     → Gathered bucket rows buckets lanes table table
 gathered-none rows buckets lanes {table} w h =
-    record { long = refl; low = w; done = λ l v t i j k g. omega (arith, w .word (v * 1216 + t * 64 + l), h l v t i j k) }
+    record {
+      long = refl;
+      low = w;
+      done = λ l v t i j k g. omega
+          (arith, w .word (v * 1216 + t * 64 + l), h l v t i j k);
+    }
 
 -- one after the other
 pub gathered-join :
     {P Q S : ℕ → ℕ → ℕ → ℕ} {rows buckets lanes : ℕ} {old mid new : List ℕ}
-    → Gathered P rows buckets lanes old mid → Gathered Q rows buckets lanes mid new → ((l v t : ℕ) → l < lanes → S l v t ≡ min (P l v t) (Q l v t))
+    → Gathered P rows buckets lanes old mid → Gathered Q rows buckets lanes mid new
+    → ((l v t : ℕ) → l < lanes → S l v t ≡ min (P l v t) (Q l v t))
     → Gathered S rows buckets lanes old new
 gathered-join p q e =
     record {
@@ -254,12 +283,14 @@ pub gathered-ext :
     {P Q : ℕ → ℕ → ℕ → ℕ} {rows buckets lanes : ℕ} {old new : List ℕ}
     → Gathered P rows buckets lanes old new → ((l v t : ℕ) → l < lanes → Q l v t ≡ P l v t)
     → Gathered Q rows buckets lanes old new
-gathered-ext p e = record { long = p .long; low = p .low; done = λ l v t i j k g. omega (arith, p .done l v t i j k g, e l v t i) }
+gathered-ext p e =
+    record { long = p .long; low = p .low; done = λ l v t i j k g. omega (arith, p .done l v t i j k g, e l v t i) }
 
 -- what a function was given holds on
 pub source-on :
     {bucket : ℕ → ℕ → ℕ → ℕ} {table table′ st line : List ℕ} {at k m rows buckets lanes : ℕ}
-    → Source table st line at k m buckets lanes → Gathered bucket rows buckets lanes table table′ → Source table′ st line at k m buckets lanes
+    → Source table st line at k m buckets lanes → Gathered bucket rows buckets lanes table table′
+    → Source table′ st line at k m buckets lanes
 source-on g w =
     record {
       words = g .words;
@@ -273,7 +304,8 @@ source-on g w =
       needed = g .needed;
     }
 
-pub rows-on : {st st′ line table : List ℕ} {k buckets lanes : ℕ} → ToRows st line table k buckets lanes → Low st′ → ToRows st′ line table k buckets lanes
+pub rows-on : {st st′ line table : List ℕ} {k buckets lanes : ℕ} → ToRows st line table k buckets lanes → Low st′
+    → ToRows st′ line table k buckets lanes
 rows-on g w =
     record {
       words = g .words;
@@ -290,8 +322,10 @@ rows-on g w =
 
 -- so many buckets are filled, and the last four of them are the buckets of gaps 2 and 3
 module _
-    {bucket : ℕ → ℕ → ℕ → ℕ} {poses buckets lanes : ℕ} {clear table : List ℕ} (few : poses ≤ 60) (least : 5 ≤ buckets) (most : buckets ≤ 9)
-    (low : (l v t : ℕ) → bucket l v t ≤ B) (last : (l v t : ℕ) → v < 4 → bucket l (buckets - 4 + v) t ≡ bucket l (5 + v) t)
+    {bucket : ℕ → ℕ → ℕ → ℕ} {poses buckets lanes : ℕ} {clear table : List ℕ}
+    (few : poses ≤ 60) (least : 5 ≤ buckets) (most : buckets ≤ 9)
+    (low : (l v t : ℕ) → bucket l v t ≤ B)
+    (last : (l v t : ℕ) → v < 4 → bucket l (buckets - 4 + v) t ≡ bucket l (5 + v) t)
     (none : Cleared (rowsOf poses) lanes buckets clear) (w : Gathered bucket (rowsOf poses) buckets lanes clear table)
   where
     -- it has the buckets
@@ -299,7 +333,8 @@ module _
     filled l v t i j k g = omega (arith, w .done l v t i j k g, none .none l v t i j (omega arith), low l v t)
 
     -- those of the gaps that pay are found where they are looked for
-    looked : (l gap v t : ℕ) → l < lanes → v < 4 → 1 ≤ t → t < rowsOf poses → wordAt table l (bucketIn (buckets - 4) gap v) t ≡ bucket l (bucketIn 5 gap v) t
+    looked : (l gap v t : ℕ) → l < lanes → v < 4 → 1 ≤ t → t < rowsOf poses
+        → wordAt table l (bucketIn (buckets - 4) gap v) t ≡ bucket l (bucketIn 5 gap v) t
     looked l gap v t i j b k = go (eqb gap 0)
       where
         go : (z : Bool) → wordAt table l (cond z (1 + v) (buckets - 4 + v)) t ≡ bucket l (cond z (1 + v) (5 + v)) t
@@ -307,7 +342,8 @@ module _
         go false = filled l (buckets - 4 + v) t i (omega arith) k (omega arith) ∙ last l v t j
 
     -- and once bucket 0 ran up, what is found in them
-    pub ready : {table′ : List ℕ} → RunUp (rowsOf poses - 3) lanes table table′ → Ready bucket poses buckets lanes table′
+    pub ready : {table′ : List ℕ} → RunUp (rowsOf poses - 3) lanes table table′
+        → Ready bucket poses buckets lanes table′
     unfolding found
     ready {table′} u =
         record {
@@ -315,12 +351,14 @@ module _
           low = u .low;
           right = λ a l h i.
               ap₂ min
-              (lowest-same (λ gap. wordAt table′ l (bucketIn (buckets - 4) gap (a % 4)) (a / 4 + 4 - gap)) (λ gap. bucket l (bucketIn 5 gap (a % 4)) (a / 4 + 4 - gap)) paying
+              (lowest-same (λ gap. wordAt table′ l (bucketIn (buckets - 4) gap (a % 4)) (a / 4 + 4 - gap))
+              (λ gap. bucket l (bucketIn 5 gap (a % 4)) (a / 4 + 4 - gap)) paying
               (λ gap g.
               let b = paying-low gap g in
               u .near l (bucketIn (buckets - 4) gap (a % 4)) (a / 4 + 4 - gap) i (above gap (a % 4)) (omega arith)
               ∙ looked l gap (a % 4) (a / 4 + 4 - gap) i (omega arith) (omega arith) (omega arith)))
-              (u .far l (a / 4) i (omega arith) ∙ lowest-ext (wordAt table l 0) (bucket l 0) 0 (suc (a / 4)) (λ t k. filled l 0 t i (omega arith) (omega arith) (omega arith)));
+              (u .far l (a / 4) i (omega arith) ∙ lowest-ext (wordAt table l 0) (bucket l 0) 0
+              (suc (a / 4)) (λ t k. filled l 0 t i (omega arith) (omega arith) (omega arith)));
         }
       where
         above : (gap v : ℕ) → 1 ≤ bucketIn (buckets - 4) gap v
@@ -333,7 +371,8 @@ module _
     -- if nothing lowered it, nothing is found
     pub unused : table ≡ clear → (a l : ℕ) → a < poses → l < lanes → found (bucket l) a ≡ B
     unused e a l h i =
-        found-ext (bucket l) (λ v t. B) a {rows = rowsOf poses} (omega arith) (λ v t j k g. go v t j k g (decLt v buckets))
+        found-ext (bucket l) (λ v t. B) a {rows = rowsOf poses} (omega arith)
+        (λ v t j k g. go v t j k g (decLt v buckets))
         ∙ found-none a
       where
         away : (v t : ℕ) → v < buckets → t < rowsOf poses → v ≤ 8 * t → bucket l v t ≡ B

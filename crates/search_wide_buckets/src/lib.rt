@@ -1,7 +1,8 @@
-// Sources gathered by their end site, for one target cell: a table of 9 buckets of 19 rows of 64 lanes, bucket v from 1216 v on (crate buckets tells what
-// the buckets are). Row t has the sources that end at the target's first site - 4 + t, row 0 those further left too. Bucket 0 has them by themselves, buckets 1
-// to 4 with what they pay at gap 0 to each variant of the target, buckets 5 to 8 with what they pay at gaps 2 and 3. A target whose weights are all equal
-// needs 5 buckets: buckets 1 to 4 serve for gaps 2 and 3 too. Only the rows that some pose looks at count.
+// Sources gathered by their end site, for one target cell: a table of 9 buckets of 19 rows of 64 lanes, bucket v from
+// 1216 v on (crate buckets tells what the buckets are). Row t has the sources that end at the target's first site - 4 +
+// t, row 0 those further left too. Bucket 0 has them by themselves, buckets 1 to 4 with what they pay at gap 0 to each
+// variant of the target, buckets 5 to 8 with what they pay at gaps 2 and 3. A target whose weights are all equal needs
+// 5 buckets: buckets 1 to 4 serve for gaps 2 and 3 too. Only the rows that some pose looks at count.
 ghost use mathlib.Core.Path.{_≡_};
 ghost use mathlib.Core.Bool.{false};
 ghost use Prim.Native.Nat.{suc, _+_, _*_, _-_, _≤_, _<_};
@@ -11,7 +12,8 @@ ghost use Rattle.theory_tables.specs.Steps.{B};
 ghost use Rattle.search_lanes.specs.Lanes.{always, wordsFrom};
 ghost use Rattle.search_lanes.specs.Store.{Low, Written, FilledState};
 ghost use Rattle.search_buckets.specs.Rows.{rowsOf, Pays, PaysLow};
-ghost use Rattle.search_wide_buckets.specs.Table.{LoweredAt, Cleared, Gathered, FiveOrNine, chargedBy, chargedOne, Spread, Source, poseIn, posesIn};
+ghost use Rattle.search_wide_buckets.specs.Table.{LoweredAt, Cleared, Gathered, FiveOrNine, chargedBy};
+ghost use Rattle.search_wide_buckets.specs.Table.{chargedOne, Spread, Source, poseIn, posesIn};
 ghost use Rattle.search_wide_buckets.specs.Table.{RunUp, foundIn, foundRow, foundRowOf, foundRows, ToRows};
 
 // ---- the rows that count
@@ -39,7 +41,8 @@ fn lower_one(table: &mut [u32; search_store::TABLE], to: usize, x: u32)
     table[to] = search_lanes::lesser(table[to], x);
 }
 
-// A source of cost x in one lane to row t of four buckets, those from `first` on: buckets 1 to 4 or 5 to 8, where row 0 does not count.
+// A source of cost x in one lane to row t of four buckets, those from `first` on: buckets 1
+// to 4 or 5 to 8, where row 0 does not count.
 fn spread_near(
     table: &mut [u32; search_store::TABLE],
     x: u32,
@@ -49,8 +52,10 @@ fn spread_near(
     lane: usize,
     first: usize,
 )
-    requires { ⌜ Low (now table) × (length (now table) ≡ tableWords) × (x ≤ B) × PaysLow (first + 4) (now pays) × (u < 4) × (t < 19) × (lane < 64) × (1 ≤ first) × (first ≤ 5) ⌝ }
-    ensures { λ _. ⌜ Spread (chargedOne x (now (pays .entry)) u) t first (first + 4) lane 1 (now (table .entry)) (now (table .exit)) ⌝ }
+    requires { ⌜ Low (now table) × (length (now table) ≡ tableWords) × (x ≤ B) × PaysLow (first + 4) (now pays)
+        × (u < 4) × (t < 19) × (lane < 64) × (1 ≤ first) × (first ≤ 5) ⌝ }
+    ensures { λ _. ⌜ Spread (chargedOne x (now (pays .entry)) u) t first (first + 4) lane 1 (now (table .entry))
+        (now (table .exit)) ⌝ }
 {
     if t == 0 {
         return;
@@ -75,8 +80,10 @@ fn spread_one(
     t: usize,
     lane: usize,
 )
-    requires { ⌜ Low (now table) × (length (now table) ≡ tableWords) × (x ≤ B) × PaysLow 5 (now pays) × (u < 4) × (t < 19) × (lane < 64) ⌝ }
-    ensures { λ _. ⌜ Spread (chargedOne x (now (pays .entry)) u) t 0 5 lane 1 (now (table .entry)) (now (table .exit)) ⌝ }
+    requires { ⌜ Low (now table) × (length (now table) ≡ tableWords) × (x ≤ B) × PaysLow 5 (now pays) × (u < 4)
+        × (t < 19) × (lane < 64) ⌝ }
+    ensures { λ _. ⌜ Spread (chargedOne x (now (pays .entry)) u) t 0 5 lane 1 (now (table .entry))
+        (now (table .exit)) ⌝ }
 {
     lower_one(table, t * 64 + lane, x + pays[u * 9]);
     spread_near(table, x, pays, u, t, lane, 1);
@@ -92,8 +99,10 @@ pub fn spread_lane(
     lane: usize,
     buckets: usize,
 )
-    requires { ⌜ Low (now table) × (length (now table) ≡ tableWords) × (x ≤ B) × PaysLow buckets (now pays) × (u < 4) × (t < 19) × (lane < 64) × FiveOrNine buckets ⌝ }
-    ensures { λ _. ⌜ Spread (chargedOne x (now (pays .entry)) u) t 0 buckets lane 1 (now (table .entry)) (now (table .exit)) ⌝ }
+    requires { ⌜ Low (now table) × (length (now table) ≡ tableWords) × (x ≤ B) × PaysLow buckets (now pays) × (u < 4)
+        × (t < 19) × (lane < 64) × FiveOrNine buckets ⌝ }
+    ensures { λ _. ⌜ Spread (chargedOne x (now (pays .entry)) u) t 0 buckets lane 1 (now (table .entry))
+        (now (table .exit)) ⌝ }
 {
     spread_one(table, x, pays, u, t, lane);
     if buckets == 5 {
@@ -102,8 +111,8 @@ pub fn spread_lane(
     spread_near(table, x, pays, u, t, lane, 5);
 }
 
-// A source row, so many lanes, by its variant u: to row t of buckets 0 to 4, or of bucket 0 alone if t is 0. The buckets of a lane are lowered together,
-// so that each word of the row is read once.
+// A source row, so many lanes, by its variant u: to row t of buckets 0 to 4, or of bucket 0 alone if t is 0. The
+// buckets of a lane are lowered together, so that each word of the row is read once.
 fn spread(
     table: &mut [u32; search_store::TABLE],
     row: &[u32],
@@ -113,8 +122,10 @@ fn spread(
     t: usize,
     lanes: usize,
 )
-    requires { ⌜ Low (now table) × (length (now table) ≡ tableWords) × Low (now row) × (at + lanes ≤ length (now row)) × PaysLow 5 (now pays) × (u < 4) × (t < 19) × (lanes ≤ 64) ⌝ }
-    ensures { λ _. ⌜ Spread (chargedBy (now (row .entry)) at (now (pays .entry)) u) t 0 5 0 lanes (now (table .entry)) (now (table .exit)) ⌝ }
+    requires { ⌜ Low (now table) × (length (now table) ≡ tableWords) × Low (now row) × (at + lanes ≤ length (now row))
+        × PaysLow 5 (now pays) × (u < 4) × (t < 19) × (lanes ≤ 64) ⌝ }
+    ensures { λ _. ⌜ Spread (chargedBy (now (row .entry)) at (now (pays .entry)) u) t 0 5 0 lanes (now (table .entry))
+        (now (table .exit)) ⌝ }
 {
     let mut l: usize = 0;
     while l < lanes {
@@ -133,8 +144,10 @@ fn spread_apart(
     t: usize,
     lanes: usize,
 )
-    requires { ⌜ Low (now table) × (length (now table) ≡ tableWords) × Low (now row) × (at + lanes ≤ length (now row)) × PaysLow 9 (now pays) × (u < 4) × (t < 19) × (lanes ≤ 64) ⌝ }
-    ensures { λ _. ⌜ Spread (chargedBy (now (row .entry)) at (now (pays .entry)) u) t 5 9 0 lanes (now (table .entry)) (now (table .exit)) ⌝ }
+    requires { ⌜ Low (now table) × (length (now table) ≡ tableWords) × Low (now row) × (at + lanes ≤ length (now row))
+        × PaysLow 9 (now pays) × (u < 4) × (t < 19) × (lanes ≤ 64) ⌝ }
+    ensures { λ _. ⌜ Spread (chargedBy (now (row .entry)) at (now (pays .entry)) u) t 5 9 0 lanes (now (table .entry))
+        (now (table .exit)) ⌝ }
 {
     let mut l: usize = 0;
     while l < lanes {
@@ -154,8 +167,10 @@ fn spread_row(
     buckets: usize,
     lanes: usize,
 )
-    requires { ⌜ Low (now table) × (length (now table) ≡ tableWords) × Low (now row) × (at + lanes ≤ length (now row)) × PaysLow buckets (now pays) × (u < 4) × (t < 19) × (lanes ≤ 64) × FiveOrNine buckets ⌝ }
-    ensures { λ _. ⌜ Spread (chargedBy (now (row .entry)) at (now (pays .entry)) u) t 0 buckets 0 lanes (now (table .entry)) (now (table .exit)) ⌝ }
+    requires { ⌜ Low (now table) × (length (now table) ≡ tableWords) × Low (now row) × (at + lanes ≤ length (now row))
+        × PaysLow buckets (now pays) × (u < 4) × (t < 19) × (lanes ≤ 64) × FiveOrNine buckets ⌝ }
+    ensures { λ _. ⌜ Spread (chargedBy (now (row .entry)) at (now (pays .entry)) u) t 0 buckets 0 lanes
+        (now (table .entry)) (now (table .exit)) ⌝ }
 {
     spread(table, row, at, pays, u, t, lanes);
     if buckets == 5 {
@@ -178,8 +193,10 @@ fn from_pose(
     buckets: usize,
     lanes: usize,
 ) -> bool
-    requires { ⌜ Source (now table) (now store) (now row) at k m buckets lanes × Pays (now row) k m buckets 36 (now pays) × (b < 60) × (rows ≤ 19) ⌝ }
-    ensures { λ used. ⌜ Gathered (poseIn (now (store .entry)) (now (row .entry)) at k m b) rows buckets lanes (now (table .entry)) (now (table .exit)) × (used ≡ false → now (table .exit) ≡ now (table .entry)) ⌝ }
+    requires { ⌜ Source (now table) (now store) (now row) at k m buckets lanes
+        × Pays (now row) k m buckets 36 (now pays) × (b < 60) × (rows ≤ 19) ⌝ }
+    ensures { λ used. ⌜ Gathered (poseIn (now (store .entry)) (now (row .entry)) at k m b) rows buckets lanes
+        (now (table .entry)) (now (table .exit)) × (used ≡ false → now (table .exit) ≡ now (table .entry)) ⌝ }
 {
     let t = search_buckets::end_row(row, k, b, m);
     if t >= rows {
@@ -205,8 +222,11 @@ pub fn from_poses(
     buckets: usize,
     lanes: usize,
 ) -> bool
-    requires { ⌜ Source (now table) (now store) (now row) at k m buckets lanes × Pays (now row) k m buckets 36 (now pays) × (poses ≤ 60) ⌝ }
-    ensures { λ used. ⌜ Gathered (posesIn (now (store .entry)) (now (row .entry)) at k m poses) (rowsOf poses) buckets lanes (now (table .entry)) (now (table .exit)) × (used ≡ false → now (table .exit) ≡ now (table .entry)) ⌝ }
+    requires { ⌜ Source (now table) (now store) (now row) at k m buckets lanes
+        × Pays (now row) k m buckets 36 (now pays) × (poses ≤ 60) ⌝ }
+    ensures { λ used. ⌜ Gathered (posesIn (now (store .entry)) (now (row .entry)) at k m poses)
+        (rowsOf poses) buckets lanes (now (table .entry)) (now (table .exit))
+        × (used ≡ false → now (table .exit) ≡ now (table .entry)) ⌝ }
 {
     let rows = search_buckets::rows_of(poses);
     let mut used = false;
@@ -224,8 +244,10 @@ pub fn from_poses(
 
 // The lanes from `to` on lowered to those from `from` on.
 fn lower_by(table: &mut [u32; search_store::TABLE], to: usize, from: usize, lanes: usize)
-    requires { ⌜ (to + lanes ≤ tableWords) × (length (now table) ≡ tableWords) × (from + lanes ≤ to) × Low (now table) ⌝ }
-    ensures { λ _. ⌜ LoweredAt (wordsFrom (now (table .entry)) from) to lanes (now (table .entry)) (now (table .exit)) ⌝ }
+    requires { ⌜ (to + lanes ≤ tableWords) × (length (now table) ≡ tableWords) × (from + lanes ≤ to)
+        × Low (now table) ⌝ }
+    ensures { λ _. ⌜ LoweredAt (wordsFrom (now (table .entry)) from) to lanes (now (table .entry))
+        (now (table .exit)) ⌝ }
 {
     let mut l: usize = 0;
     while l < lanes {
@@ -249,7 +271,8 @@ pub fn run_up(table: &mut [u32; search_store::TABLE], poses: usize, lanes: usize
 
 // What pose a finds in lane l: at gaps 0, 2 and 3, and further left.
 fn found_lane(table: &[u32; search_store::TABLE], a: usize, l: usize, buckets: usize) -> u32
-    requires { ⌜ (length (now table) ≡ tableWords) × Low (now table) × (a < 60) × (l < 64) × (5 ≤ buckets) × (buckets ≤ 9) ⌝ }
+    requires { ⌜ (length (now table) ≡ tableWords) × Low (now table) × (a < 60) × (l < 64) × (5 ≤ buckets)
+        × (buckets ≤ 9) ⌝ }
     ensures { λ x. ⌜ x ≡ foundIn buckets (now (table .entry)) a l ⌝ }
 {
     let far = a / 4 * 64 + l;
@@ -269,8 +292,10 @@ fn put_row(
     buckets: usize,
     lanes: usize,
 )
-    requires { ⌜ (at + lanes ≤ length (now store)) × (lanes ≤ 64) × (length (now table) ≡ tableWords) × (own ≤ B) × Low (now store) × Low (now table) × (a < 60) × (5 ≤ buckets) × (buckets ≤ 9) ⌝ }
-    ensures { λ _. ⌜ Written (foundRow buckets (now (table .entry)) own a) at lanes (now (store .entry)) (now (store .exit)) ⌝ }
+    requires { ⌜ (at + lanes ≤ length (now store)) × (lanes ≤ 64) × (length (now table) ≡ tableWords) × (own ≤ B)
+        × Low (now store) × Low (now table) × (a < 60) × (5 ≤ buckets) × (buckets ≤ 9) ⌝ }
+    ensures { λ _. ⌜ Written (foundRow buckets (now (table .entry)) own a) at lanes (now (store .entry))
+        (now (store .exit)) ⌝ }
 {
     let mut l: usize = 0;
     while l < lanes {
@@ -293,8 +318,10 @@ fn put_pose(
     buckets: usize,
     lanes: usize,
 )
-    requires { ⌜ ToRows (now store) (now row) (now table) k buckets lanes × (at + lanes ≤ length (now store)) × (a < 60) ⌝ }
-    ensures { λ _. ⌜ Written (foundRowOf buckets (now (row .entry)) (now (table .entry)) k a) at lanes (now (store .entry)) (now (store .exit)) ⌝ }
+    requires { ⌜ ToRows (now store) (now row) (now table) k buckets lanes
+        × (at + lanes ≤ length (now store)) × (a < 60) ⌝ }
+    ensures { λ _. ⌜ Written (foundRowOf buckets (now (row .entry)) (now (table .entry)) k a) at lanes
+        (now (store .entry)) (now (store .exit)) ⌝ }
 {
     let own = row[k * search_row::CELL + a];
     if own >= search_lanes::NONE {
@@ -316,8 +343,10 @@ pub fn put_rows(
     buckets: usize,
     lanes: usize,
 )
-    requires { ⌜ ToRows (now store) (now row) (now table) k buckets lanes × (to + layerBlock ≤ length (now store)) × (q < 12) × (poses ≤ 60) ⌝ }
-    ensures { λ _. ⌜ FilledState (foundRows buckets (now (row .entry)) (now (table .entry)) k) lanes to q poses (now (store .entry)) (now (store .exit)) ⌝ }
+    requires { ⌜ ToRows (now store) (now row) (now table) k buckets lanes × (to + layerBlock ≤ length (now store))
+        × (q < 12) × (poses ≤ 60) ⌝ }
+    ensures { λ _. ⌜ FilledState (foundRows buckets (now (row .entry)) (now (table .entry)) k) lanes to q poses
+        (now (store .entry)) (now (store .exit)) ⌝ }
 {
     let mut a: usize = 0;
     while a < poses {

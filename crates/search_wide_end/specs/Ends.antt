@@ -1,4 +1,5 @@
--- The cost of a segment to the row's end: the least of the layer with all cells placed. What the loops come to, and what they leave.
+-- The cost of a segment to the row's end: the least of the layer with all cells placed.
+-- What the loops come to, and what they leave.
 use Prim.Native.Nat.{ℕ, _+_, _<_}
 use mathlib.Core.Path.{_≡_}
 use mathlib.Core.Bool.{Bool, not, _&&_}
@@ -18,7 +19,8 @@ endsWith line n R q = thereIn n R n q && not (eqb (wordOf line (lastAt R n q) ta
 
 -- ---- the loops
 
--- the least of the poses, of a state and of the states below m, in lane l of a layer in the store; the cell is at position k
+-- the least of the poses, of a state and of the states below m, in lane l of a
+-- layer in the store; the cell is at position k
 abbrev pub leastPosesIn : List ℕ → ℕ → List ℕ → ℕ → ℕ → ℕ → ℕ → ℕ
 leastPosesIn line k st at q m l = leastPoses (backIn line k) (layerIn st at l) q m
 

@@ -36,7 +36,8 @@ pub costEnd-ext :
 unfolding costEnd
 costEnd-ext D R f g alike i e =
     ap (λ (x : ℕ). cond (leb i (D .size)) x (cond (eqb i (suc (D .size))) e B))
-    (ends-ext D R (layers D R f i (D .size - i)) (layers D R g i (D .size - i)) (λ q b x y. layers-ext D R f g alike i (D .size - i) q b x y))
+    (ends-ext D R (layers D R f i (D .size - i)) (layers D R g i (D .size - i))
+    (λ q b x y. layers-ext D R f g alike i (D .size - i) q b x y))
 
 -- the least of the last layer is the cost
 pub ran-cost :
@@ -50,7 +51,8 @@ ran-cost {D} {R} {i = i} {at = at} {old = old} {new = new} l e h r z =
 -- one layer more
 pub ran-more :
     {D : Deck} {R lanes i d at count : ℕ} {old mid new : List ℕ}
-    → count ≡ stateCount R → Ran D R lanes i d at old mid → Filled (nextFrom D R mid at (i + d)) lanes (D .poses) (layerBlock - at) count mid new
+    → count ≡ stateCount R → Ran D R lanes i d at old mid
+    → Filled (nextFrom D R mid at (i + d)) lanes (D .poses) (layerBlock - at) count mid new
     → Ran D R lanes i (d + 1) (layerBlock - at) old new
 ran-more c r f =
     let b = buffer-low (r .running .buffer) in

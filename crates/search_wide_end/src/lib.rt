@@ -10,7 +10,8 @@ ghost use Rattle.search_row.specs.Words.{deckIn, StateWords, RowWords};
 ghost use Rattle.search_wide_buckets.specs.Table.{Lent};
 ghost use Rattle.search_wide_layer.specs.Loops.{Given};
 ghost use Rattle.search_wide_segment.specs.Runs.{CostRoom};
-ghost use Rattle.search_wide_end.specs.Ends.{endsWith, leastPosesIn, leastStateIn, leastStatesIn, endsIn, Ran, Ended};
+ghost use Rattle.search_wide_end.specs.Ends.{endsWith, leastPosesIn, leastStateIn};
+ghost use Rattle.search_wide_end.specs.Ends.{leastStatesIn, endsIn, Ran, Ended};
 use search_row::Sizes;
 
 // On to the layer with all cells placed: the block that it is in. The table that is lent serves all layers.
@@ -22,8 +23,10 @@ fn run_on(
     lanes: usize,
     i: usize,
 ) -> usize
-    requires { ⌜ Lent (now table) × Given (now row) (now store) sizes lanes i 0 × (keptFrom ≤ length (now store)) × (i ≤ sizes .cells) ⌝ }
-    ensures { λ at. ⌜ Ran (deckIn (now (row .entry)) sizes) (sizes .reordering) lanes i (sizes .cells - i) at (now (store .entry)) (now (store .exit)) × Lent (now (table .exit)) ⌝ }
+    requires { ⌜ Lent (now table) × Given (now row) (now store) sizes lanes i 0 × (keptFrom ≤ length (now store))
+        × (i ≤ sizes .cells) ⌝ }
+    ensures { λ at. ⌜ Ran (deckIn (now (row .entry)) sizes) (sizes .reordering) lanes i
+        (sizes .cells - i) at (now (store .entry)) (now (store .exit)) × Lent (now (table .exit)) ⌝ }
 {
     let mut from: usize = 0;
     let mut d: usize = 0;
@@ -46,7 +49,8 @@ fn run_on(
 
 // Whether state q's cell can be the last of the row.
 fn ends_with(row: &[u32], sizes: Sizes, q: usize) -> bool
-    requires { ⌜ RowWords (now row) × (sizes .cells ≤ 64) × StateWords (sizes .reordering) (now row) × (q < stateCount (sizes .reordering)) ⌝ }
+    requires { ⌜ RowWords (now row) × (sizes .cells ≤ 64) × StateWords (sizes .reordering) (now row)
+        × (q < stateCount (sizes .reordering)) ⌝ }
     ensures { λ t. ⌜ t ≡ endsWith (now (row .entry)) (sizes .cells) (sizes .reordering) q ⌝ }
 {
     if !search_row::is_there(row, sizes, sizes.cells, q) {
@@ -67,8 +71,10 @@ fn least_poses(
     poses: usize,
     lanes: usize,
 )
-    requires { ⌜ RowWords (now row) × Low (now store) × Low (now acc) × (length (now acc) ≡ 64) × (at + layerBlock ≤ length (now store)) × (q < 12) × (k < 64) × (poses ≤ 60) × (lanes ≤ 64) ⌝ }
-    ensures { λ _. ⌜ Lowered (leastPosesIn (now (row .entry)) k (now (store .entry)) at q poses) lanes (now (acc .entry)) (now (acc .exit)) ⌝ }
+    requires { ⌜ RowWords (now row) × Low (now store) × Low (now acc) × (length (now acc) ≡ 64)
+        × (at + layerBlock ≤ length (now store)) × (q < 12) × (k < 64) × (poses ≤ 60) × (lanes ≤ 64) ⌝ }
+    ensures { λ _. ⌜ Lowered (leastPosesIn (now (row .entry)) k (now (store .entry)) at q poses) lanes
+        (now (acc .entry)) (now (acc .exit)) ⌝ }
 {
     let mut a: usize = 0;
     while a < poses {
@@ -93,8 +99,10 @@ fn least_state(
     at: usize,
     q: usize,
 )
-    requires { ⌜ Given (now row) (now store) sizes lanes (sizes .cells) at × Low (now acc) × (length (now acc) ≡ 64) × (q < sizes .states) ⌝ }
-    ensures { λ _. ⌜ Lowered (leastStateIn (deckIn (now (row .entry)) sizes) (sizes .reordering) (now (store .entry)) at q) lanes (now (acc .entry)) (now (acc .exit)) ⌝ }
+    requires { ⌜ Given (now row) (now store) sizes lanes (sizes .cells) at × Low (now acc) × (length (now acc) ≡ 64)
+        × (q < sizes .states) ⌝ }
+    ensures { λ _. ⌜ Lowered (leastStateIn (deckIn (now (row .entry)) sizes) (sizes .reordering)
+        (now (store .entry)) at q) lanes (now (acc .entry)) (now (acc .exit)) ⌝ }
 {
     if !ends_with(row, sizes, q) {
         return;
@@ -113,7 +121,8 @@ fn least_states(
     at: usize,
 )
     requires { ⌜ Given (now row) (now store) sizes lanes (sizes .cells) at × Low (now acc) × (length (now acc) ≡ 64) ⌝ }
-    ensures { λ _. ⌜ Lowered (leastStatesIn (deckIn (now (row .entry)) sizes) (sizes .reordering) (now (store .entry)) at (sizes .states)) lanes (now (acc .entry)) (now (acc .exit)) ⌝ }
+    ensures { λ _. ⌜ Lowered (leastStatesIn (deckIn (now (row .entry)) sizes) (sizes .reordering)
+        (now (store .entry)) at (sizes .states)) lanes (now (acc .entry)) (now (acc .exit)) ⌝ }
 {
     let mut q: usize = 0;
     while q < sizes.states {
@@ -125,15 +134,16 @@ fn least_states(
 // The least of the layer with all cells placed, to a row of costs.
 fn put_ends(store: &mut [u32], row: &[u32], sizes: Sizes, lanes: usize, at: usize, costs: usize)
     requires { ⌜ Given (now row) (now store) sizes lanes (sizes .cells) at × CostRoom (now store) costs ⌝ }
-    ensures { λ _. ⌜ Written (endsIn (deckIn (now (row .entry)) sizes) (sizes .reordering) (now (store .entry)) at) costs lanes (now (store .entry)) (now (store .exit)) ⌝ }
+    ensures { λ _. ⌜ Written (endsIn (deckIn (now (row .entry)) sizes) (sizes .reordering)
+        (now (store .entry)) at) costs lanes (now (store .entry)) (now (store .exit)) ⌝ }
 {
     let mut acc = [search_lanes::NONE; 64];
     least_states(&mut acc, store, row, sizes, lanes, at);
     search_lanes::put(store, costs, &acc, 0, lanes);
 }
 
-// The costs to the row's end, to the row at `costs`, a word for each lane. If nothing is left to place it is the lane's word of `starts`, what its
-// start pays as the row's last; NONE if too much was placed.
+// The costs to the row's end, to the row at `costs`, a word for each lane. If nothing is left to place it is the lane's
+// word of `starts`, what its start pays as the row's last; NONE if too much was placed.
 pub fn segment_end(
     table: &mut [u32; search_store::TABLE],
     store: &mut [u32],
@@ -144,8 +154,10 @@ pub fn segment_end(
     i: usize,
     costs: usize,
 )
-    requires { ⌜ Lent (now table) × Given (now row) (now store) sizes lanes i 0 × CostRoom (now store) costs × Low (now starts) × (length (now starts) ≡ 64) ⌝ }
-    ensures { λ _. ⌜ Ended (deckIn (now (row .entry)) sizes) (sizes .reordering) lanes i costs (now (starts .entry)) (now (store .entry)) (now (store .exit)) × Lent (now (table .exit)) ⌝ }
+    requires { ⌜ Lent (now table) × Given (now row) (now store) sizes lanes i 0 × CostRoom (now store) costs
+        × Low (now starts) × (length (now starts) ≡ 64) ⌝ }
+    ensures { λ _. ⌜ Ended (deckIn (now (row .entry)) sizes) (sizes .reordering) lanes i costs (now (starts .entry))
+        (now (store .entry)) (now (store .exit)) × Lent (now (table .exit)) ⌝ }
 {
     if i > sizes.cells + 1 {
         search_lanes::fill(store, costs, lanes, search_lanes::NONE);

@@ -25,14 +25,16 @@ startIn line p k l = onePose line p k l 0
 pub record Started (bucket : ℕ → ℕ → ℕ) (rows buckets lane : ℕ) (old new : List ℕ) : Type 0 where
   pub long : length new ≡ length old
   pub low : Low new
-  pub done : (v t : ℕ) → v < buckets → t < rows → v ≤ 8 * t → wordAt new lane v t ≡ min (wordAt old lane v t) (bucket v t)
+  pub done : (v t : ℕ) → v < buckets → t < rows → v ≤ 8 * t
+      → wordAt new lane v t ≡ min (wordAt old lane v t) (bucket v t)
   pub other : (l v t : ℕ) → l < 64 → l ≢ lane → t < rows → wordAt new l v t ≡ wordAt old l v t
 
 -- the lanes below n
 pub record StartedTo (bucket : ℕ → ℕ → ℕ → ℕ) (rows buckets n : ℕ) (old new : List ℕ) : Type 0 where
   pub long : length new ≡ length old
   pub low : Low new
-  pub done : (l v t : ℕ) → l < n → v < buckets → t < rows → v ≤ 8 * t → wordAt new l v t ≡ min (wordAt old l v t) (bucket l v t)
+  pub done : (l v t : ℕ) → l < n → v < buckets → t < rows → v ≤ 8 * t
+      → wordAt new l v t ≡ min (wordAt old l v t) (bucket l v t)
   pub rest : (l v t : ℕ) → n ≤ l → l < 64 → t < rows → wordAt new l v t ≡ wordAt old l v t
 
 -- ---- one lane
@@ -45,7 +47,11 @@ started-out line {table} p k b {lane = lane} w h =
     record {
       long = refl;
       low = w;
-      done = λ v t i j g. omega (arith, w .word (v * 1216 + t * 64 + lane), row-miss (endRow line p b k) t (0 + payIn line p b k v) (λ e. omega arith));
+      done = λ v t i j g. omega (
+        arith,
+        w .word (v * 1216 + t * 64 + lane),
+        row-miss (endRow line p b k) t (0 + payIn line p b k v) (λ e. omega arith),
+      );
       other = λ l v t i j k. refl;
     }
 
@@ -71,8 +77,10 @@ started-in {lane = lane} h s e =
 
 -- ---- every lane
 
-pub starts-none : (bucket : ℕ → ℕ → ℕ → ℕ) (rows buckets : ℕ) {table : List ℕ} → Low table → StartedTo bucket rows buckets 0 table table
-starts-none bucket rows buckets w = record { long = refl; low = w; done = λ l v t i j k g. absurd (omega arith); rest = λ l v t i j k. refl }
+pub starts-none : (bucket : ℕ → ℕ → ℕ → ℕ) (rows buckets : ℕ) {table : List ℕ} → Low table
+    → StartedTo bucket rows buckets 0 table table
+starts-none bucket rows buckets w =
+    record { long = refl; low = w; done = λ l v t i j k g. absurd (omega arith); rest = λ l v t i j k. refl }
 
 pub starts-more :
     {bucket : ℕ → ℕ → ℕ → ℕ} {rows buckets : ℕ} {old mid new : List ℕ} (n : ℕ)
@@ -86,7 +94,8 @@ starts-more {bucket} {rows} {buckets} {old} {mid} {new} n h s w =
       rest = λ l v t i j k. w .other l v t j (λ e. omega arith) k ∙ s .rest l v t (omega arith) j k;
     }
   where
-    go : (l v t : ℕ) → l < n + 1 → v < buckets → t < rows → v ≤ 8 * t → Dec (l ≡ n) → wordAt new l v t ≡ min (wordAt old l v t) (bucket l v t)
+    go : (l v t : ℕ) → l < n + 1 → v < buckets → t < rows → v ≤ 8 * t → Dec (l ≡ n)
+        → wordAt new l v t ≡ min (wordAt old l v t) (bucket l v t)
     go l v t i j k g (yes e) = rw e (omega (arith, w .done v t j k g, s .rest n v t (omega arith) h k))
     go l v t i j k g (no d) = w .other l v t (omega arith) d k ∙ s .done l v t (omega arith) j k g
 
@@ -105,8 +114,10 @@ starts-low {line} p k l v t w = go (eqb (endRow line p l k) t) (pay-small line p
     go false h = omega arith
 
 -- the last four of the buckets that are needed are those of gaps 2 and 3
-pub starts-last : (line : List ℕ) (p k l v t : ℕ) → v < 4 → startIn line p k l (bucketsIn line k - 4 + v) t ≡ startIn line p k l (5 + v) t
-starts-last line p k l v t h = buckets-last (λ (u : ℕ). startIn line p k l u t) line k v (λ e. pose-twin line k e p l 0 v t h)
+pub starts-last : (line : List ℕ) (p k l v t : ℕ) → v < 4
+    → startIn line p k l (bucketsIn line k - 4 + v) t ≡ startIn line p k l (5 + v) t
+starts-last line p k l v t h =
+    buckets-last (λ (u : ℕ). startIn line p k l u t) line k v (λ e. pose-twin line k e p l 0 v t h)
 
 pub after-found :
     (line : List ℕ) (p k a l : ℕ) {table : List ℕ} {poses buckets lanes : ℕ}

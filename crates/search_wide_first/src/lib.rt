@@ -25,8 +25,11 @@ fn from_start(
     buckets: usize,
     lane: usize,
 )
-    requires { ⌜ RowWords (now row) × Pays (now row) p k buckets 36 (now pays) × Low (now table) × (length (now table) ≡ tableWords) × (p < 64) × (k < 64) × (b < 64) × (rows ≤ 19) × (lane < 64) × FiveOrNine buckets ⌝ }
-    ensures { λ _. ⌜ Started (onePose (now (row .entry)) p k b 0) rows buckets lane (now (table .entry)) (now (table .exit)) ⌝ }
+    requires { ⌜ RowWords (now row) × Pays (now row) p k buckets 36 (now pays) × Low (now table)
+        × (length (now table) ≡ tableWords) × (p < 64) × (k < 64) × (b < 64) × (rows ≤ 19) × (lane < 64)
+        × FiveOrNine buckets ⌝ }
+    ensures { λ _. ⌜ Started (onePose (now (row .entry)) p k b 0) rows buckets lane (now (table .entry))
+        (now (table .exit)) ⌝ }
 {
     let t = search_buckets::end_row(row, p, b, k);
     if t >= rows {
@@ -45,8 +48,10 @@ fn from_starts(
     buckets: usize,
     lanes: usize,
 )
-    requires { ⌜ RowWords (now row) × Low (now table) × (length (now table) ≡ tableWords) × (p < 64) × (lanes ≤ 64) × (k < 64) × (rows ≤ 19) × FiveOrNine buckets ⌝ }
-    ensures { λ _. ⌜ StartedTo (startIn (now (row .entry)) p k) rows buckets lanes (now (table .entry)) (now (table .exit)) ⌝ }
+    requires { ⌜ RowWords (now row) × Low (now table) × (length (now table) ≡ tableWords) × (p < 64) × (lanes ≤ 64)
+        × (k < 64) × (rows ≤ 19) × FiveOrNine buckets ⌝ }
+    ensures { λ _. ⌜ StartedTo (startIn (now (row .entry)) p k) rows buckets lanes (now (table .entry))
+        (now (table .exit)) ⌝ }
 {
     let mut pays = [0u32; 36];
     search_buckets::fill_pays(&mut pays, row, p, k, buckets);
@@ -57,8 +62,8 @@ fn from_starts(
     }
 }
 
-// The rows of a state that can come first: the cell at position k, after each pose of the cell at position p. The starts are put in the
-// table that is lent, whatever it has.
+// The rows of a state that can come first: the cell at position k, after each pose of the cell at position p. The
+// starts are put in the table that is lent, whatever it has.
 fn first_rows(
     table: &mut [u32; search_store::TABLE],
     store: &mut [u32],
@@ -70,8 +75,10 @@ fn first_rows(
     poses: usize,
     lanes: usize,
 )
-    requires { ⌜ Lent (now table) × RowWords (now row) × Low (now store) × (to + layerBlock ≤ length (now store)) × (q < 12) × (p < 64) × (lanes ≤ 64) × (k < 64) × (poses ≤ 60) ⌝ }
-    ensures { λ _. ⌜ FilledState (afterRows (now (row .entry)) p k) lanes to q poses (now (store .entry)) (now (store .exit)) × Lent (now (table .exit)) ⌝ }
+    requires { ⌜ Lent (now table) × RowWords (now row) × Low (now store) × (to + layerBlock ≤ length (now store))
+        × (q < 12) × (p < 64) × (lanes ≤ 64) × (k < 64) × (poses ≤ 60) ⌝ }
+    ensures { λ _. ⌜ FilledState (afterRows (now (row .entry)) p k) lanes to q poses (now (store .entry))
+        (now (store .exit)) × Lent (now (table .exit)) ⌝ }
 {
     let buckets = search_buckets::buckets_of(row, k);
     search_wide_buckets::reset(table, buckets, poses, lanes);
@@ -101,8 +108,10 @@ fn first_block(
     to: usize,
     q: usize,
 )
-    requires { ⌜ Lent (now table) × Given (now row) (now store) sizes lanes i to × (p < 64) × (lanes ≤ 64) × (q < sizes .states) ⌝ }
-    ensures { λ _. ⌜ FilledState (afterFrom (deckIn (now (row .entry)) sizes) (sizes .reordering) i m p) lanes to q (sizes .poses) (now (store .entry)) (now (store .exit)) × Lent (now (table .exit)) ⌝ }
+    requires { ⌜ Lent (now table) × Given (now row) (now store) sizes lanes i to × (p < 64) × (lanes ≤ 64)
+        × (q < sizes .states) ⌝ }
+    ensures { λ _. ⌜ FilledState (afterFrom (deckIn (now (row .entry)) sizes) (sizes .reordering) i m p) lanes to q
+        (sizes .poses) (now (store .entry)) (now (store .exit)) × Lent (now (table .exit)) ⌝ }
 {
     if !search_dense_first::starts(row, sizes, i + 1, m, q) {
         search_lanes::fill_rows(
@@ -130,8 +139,11 @@ pub fn first_layer(
     p: usize,
     to: usize,
 )
-    requires { ⌜ Lent (now table) × Given (now row) (now store) sizes lanes i to × (p < 64) × (lanes ≤ 64) × (s < sizes .states) ⌝ }
-    ensures { λ _. ⌜ Filled (afterFrom (deckIn (now (row .entry)) sizes) (sizes .reordering) i (marks (sizes .reordering) s) p) lanes (sizes .poses) to (sizes .states) (now (store .entry)) (now (store .exit)) × Lent (now (table .exit)) ⌝ }
+    requires { ⌜ Lent (now table) × Given (now row) (now store) sizes lanes i to × (p < 64) × (lanes ≤ 64)
+        × (s < sizes .states) ⌝ }
+    ensures { λ _. ⌜ Filled
+        (afterFrom (deckIn (now (row .entry)) sizes) (sizes .reordering) i (marks (sizes .reordering) s) p) lanes
+        (sizes .poses) to (sizes .states) (now (store .entry)) (now (store .exit)) × Lent (now (table .exit)) ⌝ }
 {
     let m = row[search_row::STATES + s * 4 + 1];
     let mut q: usize = 0;

@@ -17,8 +17,10 @@ pub record Kept (at : ℕ) (old new : List ℕ) : Type 0 where
   pub word : (k : ℕ) → at ≤ k → k < at + layerBlock → getD new k 0 ≡ getD old k 0
 
 -- what is written in one block keeps the other
-pub beside-kept : {st old new : List ℕ} {at to a b : ℕ} → Beside st at to → Frame a b old new → to ≤ a → b ≤ to + layerBlock → Kept at old new
-beside-kept {old = old} {new = new} {at} {to} {a} {b} v f p q = record { word = λ k x y. go k x y (decLt k a) (decLt k b) }
+pub beside-kept : {st old new : List ℕ} {at to a b : ℕ} → Beside st at to → Frame a b old new → to ≤ a
+    → b ≤ to + layerBlock → Kept at old new
+beside-kept {old = old} {new = new} {at} {to} {a} {b} v f p q =
+    record { word = λ k x y. go k x y (decLt k a) (decLt k b) }
   where
     go : (k : ℕ) → at ≤ k → k < at + layerBlock → Dec (k < a) → Dec (k < b) → getD new k 0 ≡ getD old k 0
     go k x y (yes h) t = f .low k h
@@ -39,7 +41,8 @@ pub given-on :
     {row old new : List ℕ} {z : Sizes} {lanes i at a b : ℕ}
     → Given row old z lanes i at → Frame a b old new → Low new
     → Given row new z lanes i at
-given-on g f w = record { ground = g .ground; low = w; narrow = g .narrow; early = g .early; room = omega (arith, g .room, f .long) }
+given-on g f w =
+    record { ground = g .ground; low = w; narrow = g .narrow; early = g .early; room = omega (arith, g .room, f .long) }
 
 pub beside-on : {old new : List ℕ} {at to a b : ℕ} → Beside old at to → Frame a b old new → Beside new at to
 beside-on v f = record { room = omega (arith, v .room, f .long); apart = v .apart }

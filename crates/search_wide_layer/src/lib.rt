@@ -1,5 +1,7 @@
-// One layer of the search from the layer before, in all lanes at once. A layer is a block of 49152 words: state, pose, lane.
-// For each state of the next layer its sources are gathered by their end sites (crate search_wide_buckets), and each of its poses looks up what it needs.
+// One layer of the search from the layer before, in all lanes at once. A layer is
+// a block of 49152 words: state, pose, lane.
+// For each state of the next layer its sources are gathered by their end sites (crate search_wide_buckets),
+// and each of its poses looks up what it needs.
 ghost use mathlib.Core.Path.{_≡_};
 ghost use mathlib.Core.Bool.{true, false};
 ghost use Prim.Native.Nat.{ℕ, suc, _+_, _*_, _≤_, _<_};
@@ -25,8 +27,11 @@ fn from_source(
     p: usize,
     buckets: usize,
 ) -> bool
-    requires { ⌜ Given (now row) (now store) sizes lanes i from × Target (sizes .cells) (sizes .reordering) i q × Lent (now table) × (p < sizes .states) × FiveOrNine buckets ⌝ }
-    ensures { λ used. ⌜ Gathered (stateIn (now (store .entry)) (now (row .entry)) (deckIn (now (row .entry)) sizes) (sizes .reordering) from i q p) (rowsOf (sizes .poses)) buckets lanes (now (table .entry)) (now (table .exit)) × (used ≡ false → now (table .exit) ≡ now (table .entry)) ⌝ }
+    requires { ⌜ Given (now row) (now store) sizes lanes i from × Target (sizes .cells) (sizes .reordering) i q
+        × Lent (now table) × (p < sizes .states) × FiveOrNine buckets ⌝ }
+    ensures { λ used. ⌜ Gathered (stateIn (now (store .entry)) (now (row .entry)) (deckIn (now (row .entry)) sizes)
+        (sizes .reordering) from i q p) (rowsOf (sizes .poses)) buckets lanes (now (table .entry)) (now (table .exit))
+        × (used ≡ false → now (table .exit) ≡ now (table .entry)) ⌝ }
 {
     if !search_row::is_source(row, sizes, i, q, p) {
         return false;
@@ -61,8 +66,11 @@ fn gather(
     q: usize,
     buckets: usize,
 ) -> bool
-    requires { ⌜ Given (now row) (now store) sizes lanes i from × Target (sizes .cells) (sizes .reordering) i q × Lent (now table) × FiveOrNine buckets ⌝ }
-    ensures { λ used. ⌜ Gathered (statesIn (now (store .entry)) (now (row .entry)) (deckIn (now (row .entry)) sizes) (sizes .reordering) from i q (sizes .states)) (rowsOf (sizes .poses)) buckets lanes (now (table .entry)) (now (table .exit)) × (used ≡ false → now (table .exit) ≡ now (table .entry)) ⌝ }
+    requires { ⌜ Given (now row) (now store) sizes lanes i from × Target (sizes .cells) (sizes .reordering) i q
+        × Lent (now table) × FiveOrNine buckets ⌝ }
+    ensures { λ used. ⌜ Gathered (statesIn (now (store .entry)) (now (row .entry)) (deckIn (now (row .entry)) sizes)
+        (sizes .reordering) from i q (sizes .states)) (rowsOf (sizes .poses)) buckets lanes (now (table .entry))
+        (now (table .exit)) × (used ≡ false → now (table .exit) ≡ now (table .entry)) ⌝ }
 {
     let mut used = false;
     let mut p: usize = 0;
@@ -78,7 +86,8 @@ fn gather(
 // Whether state q has a source.
 fn has_source(row: &[u32], sizes: Sizes, i: usize, q: usize) -> bool
     requires { ⌜ Ground (now row) sizes × (q < sizes .states) × (i ≤ 100) ⌝ }
-    ensures { λ some. ⌜ (some ≡ false → (p : ℕ) → p < sizes .states → isSource (deckIn (now (row .entry)) sizes) (sizes .reordering) i q p ≡ false) ⌝ }
+    ensures { λ some. ⌜ (some ≡ false → (p : ℕ) → p < sizes .states
+        → isSource (deckIn (now (row .entry)) sizes) (sizes .reordering) i q p ≡ false) ⌝ }
 {
     let mut s: usize = 0;
     while s < sizes.states {
@@ -90,7 +99,8 @@ fn has_source(row: &[u32], sizes: Sizes, i: usize, q: usize) -> bool
     false
 }
 
-// The rows of state q, whose cell is there: all NONE if nothing leads to it. Sources are gathered in the table that is lent, whatever it has.
+// The rows of state q, whose cell is there: all NONE if nothing leads to it. Sources are gathered
+// in the table that is lent, whatever it has.
 fn target_rows(
     table: &mut [u32; search_store::TABLE],
     store: &mut [u32],
@@ -102,8 +112,11 @@ fn target_rows(
     to: usize,
     q: usize,
 )
-    requires { ⌜ Lent (now table) × Given (now row) (now store) sizes lanes i from × Beside (now store) from to × Target (sizes .cells) (sizes .reordering) i q ⌝ }
-    ensures { λ _. ⌜ FilledState (nextFrom (deckIn (now (row .entry)) sizes) (sizes .reordering) (now (store .entry)) from i) lanes to q (sizes .poses) (now (store .entry)) (now (store .exit)) × Lent (now (table .exit)) ⌝ }
+    requires { ⌜ Lent (now table) × Given (now row) (now store) sizes lanes i from × Beside (now store) from to
+        × Target (sizes .cells) (sizes .reordering) i q ⌝ }
+    ensures { λ _. ⌜ FilledState (nextFrom (deckIn (now (row .entry)) sizes) (sizes .reordering)
+        (now (store .entry)) from i) lanes to q (sizes .poses) (now (store .entry)) (now (store .exit))
+        × Lent (now (table .exit)) ⌝ }
 {
     if !has_source(row, sizes, i, q) {
         search_lanes::fill_rows(
@@ -144,8 +157,11 @@ pub fn target_block(
     to: usize,
     q: usize,
 )
-    requires { ⌜ Lent (now table) × Given (now row) (now store) sizes lanes i from × Beside (now store) from to × (q < sizes .states) ⌝ }
-    ensures { λ _. ⌜ FilledState (nextFrom (deckIn (now (row .entry)) sizes) (sizes .reordering) (now (store .entry)) from i) lanes to q (sizes .poses) (now (store .entry)) (now (store .exit)) × Lent (now (table .exit)) ⌝ }
+    requires { ⌜ Lent (now table) × Given (now row) (now store) sizes lanes i from × Beside (now store) from to
+        × (q < sizes .states) ⌝ }
+    ensures { λ _. ⌜ FilledState (nextFrom (deckIn (now (row .entry)) sizes) (sizes .reordering)
+        (now (store .entry)) from i) lanes to q (sizes .poses) (now (store .entry)) (now (store .exit))
+        × Lent (now (table .exit)) ⌝ }
 {
     if !search_row::is_there(row, sizes, i + 1, q) {
         search_lanes::fill_rows(
@@ -172,7 +188,9 @@ pub fn step_layer(
     to: usize,
 )
     requires { ⌜ Lent (now table) × Given (now row) (now store) sizes lanes i from × Beside (now store) from to ⌝ }
-    ensures { λ _. ⌜ Filled (nextFrom (deckIn (now (row .entry)) sizes) (sizes .reordering) (now (store .entry)) from i) lanes (sizes .poses) to (sizes .states) (now (store .entry)) (now (store .exit)) × Lent (now (table .exit)) ⌝ }
+    ensures { λ _. ⌜ Filled (nextFrom (deckIn (now (row .entry)) sizes) (sizes .reordering)
+        (now (store .entry)) from i) lanes (sizes .poses) to (sizes .states) (now (store .entry)) (now (store .exit))
+        × Lent (now (table .exit)) ⌝ }
 {
     let mut q: usize = 0;
     while q < sizes.states {

@@ -17,7 +17,8 @@ use Rattle.search_lanes.specs.Store.{Frame, layerIn, Filled}
 use Rattle.search_row.specs.Words.{deckIn}
 use Rattle.search_wide_layer.specs.Loops.{nextFrom, Given, Beside}
 use Rattle.search_buckets.specs.Next.{next-ext, layers-ext}
-use Rattle.search_wide_segment.specs.Runs.{Buffer, Running, Small, Outside, CostRoom, lateIn, delivered, lastIn, CostedBy, CostedRun, SegmentCosted}
+use Rattle.search_wide_segment.specs.Runs.{Buffer, Running, Small, Outside, CostRoom, lateIn}
+use Rattle.search_wide_segment.specs.Runs.{delivered, lastIn, CostedBy, CostedRun, SegmentCosted}
 
 -- ---- the two blocks by turns
 
@@ -48,7 +49,10 @@ pub run-none :
     → Small D R lanes → ((k : ℕ) → k < layerBlock → getD st k 0 ≡ getD old k 0) → Running D R lanes i 0 0 old st
 unfolding layers
 run-none D R lanes i s e =
-    record { buffer = inl refl; right = λ q a l x y z. e (0 + q * stateBlock + a * 64 + l) (omega (arith, s .narrow, s .few, s .states)) }
+    record {
+      buffer = inl refl;
+      right = λ q a l x y z. e (0 + q * stateBlock + a * 64 + l) (omega (arith, s .narrow, s .few, s .states));
+    }
 
 -- the layer after the one at `at`
 next-run :
@@ -61,12 +65,14 @@ next-run {D} {R} {i = i} {d} {at} {old} {st} r q a l z =
 
 pub run-more :
     {D : Deck} {R lanes i d at count : ℕ} {old mid new : List ℕ}
-    → count ≡ stateCount R → Running D R lanes i d at old mid → Filled (nextFrom D R mid at (i + d)) lanes (D .poses) (layerBlock - at) count mid new
+    → count ≡ stateCount R → Running D R lanes i d at old mid
+    → Filled (nextFrom D R mid at (i + d)) lanes (D .poses) (layerBlock - at) count mid new
     → Running D R lanes i (d + 1) (layerBlock - at) old new
 run-more {D} {R} {i = i} {d} {old = old} c r f =
     record {
       buffer = buffer-turn (r .buffer);
-      right = λ q a l x y z. f .right q (omega arith) a l y z ∙ next-run r q a l z ∙ ap (λ (k : ℕ). layers D R (layerIn old 0 l) i k q a) (sym (add-one d));
+      right = λ q a l x y z. f .right q (omega arith) a l y z ∙ next-run r q a l z
+          ∙ ap (λ (k : ℕ). layers D R (layerIn old 0 l) i k q a) (sym (add-one d));
     }
 
 -- what is written above the layers keeps them
@@ -78,7 +84,8 @@ run-kept {at = at} s r f h =
     record {
       buffer = r .buffer;
       right = λ q a l x y z.
-          f .low (at + q * stateBlock + a * 64 + l) (omega (arith, s .narrow, s .few, s .states, buffer-low (r .buffer))) ∙ r .right q a l x y z;
+          f .low (at + q * stateBlock + a * 64
+          + l) (omega (arith, s .narrow, s .few, s .states, buffer-low (r .buffer))) ∙ r .right q a l x y z;
     }
 
 -- ---- what is kept
@@ -86,15 +93,24 @@ run-kept {at = at} s r f h =
 pub outside-refl : (costs wide : ℕ) (st : List ℕ) → Outside costs wide st st
 outside-refl costs wide st = record { long = refl; below = λ k x y. refl; above = λ k x. refl }
 
-pub outside-join : {costs wide : ℕ} {x y z : List ℕ} → Outside costs wide x y → Outside costs wide y z → Outside costs wide x z
+pub outside-join : {costs wide : ℕ} {x y z : List ℕ} → Outside costs wide x y → Outside costs wide y z
+    → Outside costs wide x z
 outside-join f g =
-    record { long = g .long ∙ f .long; below = λ k x y. g .below k x y ∙ f .below k x y; above = λ k x. g .above k x ∙ f .above k x }
+    record {
+      long = g .long ∙ f .long;
+      below = λ k x y. g .below k x y ∙ f .below k x y;
+      above = λ k x. g .above k x ∙ f .above k x;
+    }
 
-pub outside-layers : {costs wide a b : ℕ} {old new : List ℕ} → keptFrom ≤ costs → Frame a b old new → b ≤ keptFrom → Outside costs wide old new
-outside-layers p f h = record { long = f .long; below = λ k x y. f .high k (omega arith); above = λ k x. f .high k (omega arith) }
+pub outside-layers : {costs wide a b : ℕ} {old new : List ℕ} → keptFrom ≤ costs → Frame a b old new → b ≤ keptFrom
+    → Outside costs wide old new
+outside-layers p f h =
+    record { long = f .long; below = λ k x y. f .high k (omega arith); above = λ k x. f .high k (omega arith) }
 
-pub outside-costs : {costs wide a b : ℕ} {old new : List ℕ} → Frame a b old new → costs ≤ a → b ≤ costs + wide → Outside costs wide old new
-outside-costs f p q = record { long = f .long; below = λ k x y. f .low k (omega arith); above = λ k x. f .high k (omega arith) }
+pub outside-costs : {costs wide a b : ℕ} {old new : List ℕ} → Frame a b old new → costs ≤ a → b ≤ costs + wide
+    → Outside costs wide old new
+outside-costs f p q =
+    record { long = f .long; below = λ k x y. f .low k (omega arith); above = λ k x. f .high k (omega arith) }
 
 -- ---- the cost of a state by the layer that it comes with
 
@@ -134,12 +150,17 @@ pub costed-more :
     → Filled (delivered R (i + d) p mid at costs) lanes (D .poses) costs count mid new
     → CostedBy D R lanes i p (d + 1) costs old new
 costed-more {D} {R} {lanes} {i} {p} {d} {at = at} {costs = costs} {old = old} {mid = mid} {new = new} c r b f =
-    record { right = λ q a l x y z h. f .right q (omega arith) a l y z ∙ go q a l x y z h (ℕ-discrete (i + d + offset R q) (p + suc R)) }
+    record {
+      right = λ q a l x y z h. f .right q (omega arith) a l y z
+          ∙ go q a l x y z h (ℕ-discrete (i + d + offset R q) (p + suc R));
+    }
   where
-    go : (q a l : ℕ) → q < stateCount R → a < D .poses → l < lanes → p + suc R < i + (d + 1) + offset R q → Dec (i + d + offset R q ≡ p + suc R)
+    go : (q a l : ℕ) → q < stateCount R → a < D .poses → l < lanes → p + suc R < i + (d + 1) + offset R q
+        → Dec (i + d + offset R q ≡ p + suc R)
         → delivered R (i + d) p mid at costs l q a ≡ costTo D R (layerIn old 0 l) i p q a
     go q a l x y z h (yes e) =
-        delivered-take R (i + d) p mid at costs l q a e ∙ r .right q a l x y z ∙ sym (costTo-at D R (layerIn old 0 l) i p q a d e)
+        delivered-take R (i + d) p mid at costs l q a e ∙ r .right q a l x y z
+        ∙ sym (costTo-at D R (layerIn old 0 l) i p q a d e)
     go q a l x y z h (no n) = delivered-skip R (i + d) p mid at costs l q a n ∙ b .right q a l x y z (omega arith)
 
 -- one step more of the segment: a layer, and what it delivers
@@ -155,9 +176,13 @@ costed-step {D} {R} {lanes} {i} {p} {d} {at} {costs} s c h r f g =
     record {
       running = run-kept s run (g .frame) h;
       costed = costed-more c run
-          (record { right = λ q a l x y z k. f .frame .high (costs + q * stateBlock + a * 64 + l) (omega arith) ∙ r .costed .right q a l x y z k })
+          (record {
+            right = λ q a l x y z k. f .frame .high (costs + q * stateBlock + a * 64 + l) (omega arith)
+                ∙ r .costed .right q a l x y z k;
+          })
           g;
-      outside = outside-join (r .outside) (outside-join (outside-layers h (f .frame) (omega arith)) (outside-costs (g .frame) (omega arith) (omega arith)));
+      outside = outside-join (r .outside) (outside-join (outside-layers h (f .frame) (omega arith))
+          (outside-costs (g .frame) (omega arith) (omega arith)));
       low = g .low;
     }
 
@@ -190,7 +215,8 @@ costed-start D R lanes i p costs count {old} {mid} {new} s c h late g =
 module _ (D : Deck) (R : ℕ) (f g : Layer) (same : (q b : ℕ) → q < stateCount R → b < D .poses → f q b ≡ g q b) where
   pub costTo-ext : (i p q a : ℕ) → q < stateCount R → a < D .poses → costTo D R f i p q a ≡ costTo D R g i p q a
   unfolding costTo
-  costTo-ext i p q a x y = ap (λ (z : ℕ). cond (leb (i + offset R q) (p + suc R)) z B) (layers-ext D R f g same i (p + suc R - offset R q - i) q a x y)
+  costTo-ext i p q a x y = ap (λ (z : ℕ). cond (leb (i + offset R q) (p + suc R)) z B)
+      (layers-ext D R f g same i (p + suc R - offset R q - i) q a x y)
 
 -- what came before a segment left its first layer as it was
 pub costed-from :
@@ -201,9 +227,13 @@ costed-from {D} {R} {lanes} {i} {p} {d} {old = old} {mid = mid} s e o r =
     record {
       running = record {
         buffer = r .running .buffer;
-        right = λ q a l x y z. r .running .right q a l x y z ∙ layers-ext D R (layerIn mid 0 l) (layerIn old 0 l) (same l z) i d q a x y;
+        right = λ q a l x y z. r .running .right q a l x y z
+            ∙ layers-ext D R (layerIn mid 0 l) (layerIn old 0 l) (same l z) i d q a x y;
       };
-      costed = record { right = λ q a l x y z h. r .costed .right q a l x y z h ∙ costTo-ext D R (layerIn mid 0 l) (layerIn old 0 l) (same l z) i p q a x y };
+      costed = record {
+        right = λ q a l x y z h. r .costed .right q a l x y z h
+            ∙ costTo-ext D R (layerIn mid 0 l) (layerIn old 0 l) (same l z) i p q a x y;
+      };
       outside = outside-join o (r .outside);
       low = r .low;
     }
@@ -224,7 +254,8 @@ module _ (D : Deck) (R i p : ℕ) (st : List ℕ) (at costs l q a : ℕ) where
 pub costed-past :
     {D : Deck} {R lanes i p d at costs : ℕ} {old new : List ℕ}
     → CostedRun D R lanes i p d at costs old new → p + R < i + d → SegmentCosted D R lanes i p costs old new
-costed-past r h = record { outside = r .outside; low = r .low; right = λ q a l x y z. r .costed .right q a l x y z (omega arith) }
+costed-past r h =
+    record { outside = r .outside; low = r .low; right = λ q a l x y z. r .costed .right q a l x y z (omega arith) }
 
 -- one layer is left, and is delivered from the layer before
 pub costed-last :
@@ -236,7 +267,8 @@ costed-last {D} {R} {lanes} {i} {p} {d} {at} {costs} {old = old} {mid = mid} c r
     record {
       outside = outside-join (r .outside) (outside-costs (f .frame) (omega arith) (omega arith));
       low = f .low;
-      right = λ q a l x y z. f .right q (omega arith) a l y z ∙ go q a l x y z (ℕ-discrete (suc (p + R) + offset R q) (p + suc R));
+      right = λ q a l x y z. f .right q (omega arith) a l y z
+          ∙ go q a l x y z (ℕ-discrete (suc (p + R) + offset R q) (p + suc R));
     }
   where
     go : (q a l : ℕ) → q < stateCount R → a < D .poses → l < lanes → Dec (suc (p + R) + offset R q ≡ p + suc R)

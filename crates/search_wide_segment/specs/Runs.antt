@@ -1,4 +1,5 @@
--- A segment in the store: the layers run on in two blocks by turns, and the costs to a tall cell are delivered as their layers come.
+-- A segment in the store: the layers run on in two blocks by turns, and the costs to a
+-- tall cell are delivered as their layers come.
 use Prim.Native.Nat.{ℕ, suc, _+_, _≤_, _<_}
 use mathlib.Core.Path.{_≡_}
 use mathlib.Core.Logic.{_⊎_}
@@ -18,7 +19,8 @@ Buffer at = (at ≡ 0) ⊎ (at ≡ layerBlock)
 -- d layers on from the layer in block 0, which has i cells, are in the block at `at`, in each lane
 pub record Running (D : Deck) (R lanes i d at : ℕ) (old new : List ℕ) : Type 0 where
   pub buffer : Buffer at
-  pub right : (q a l : ℕ) → q < stateCount R → a < D .poses → l < lanes → layerIn new at l q a ≡ layers D R (layerIn old 0 l) i d q a
+  pub right : (q a l : ℕ) → q < stateCount R → a < D .poses → l < lanes
+      → layerIn new at l q a ≡ layers D R (layerIn old 0 l) i d q a
 
 -- only the layers' blocks and so many words of costs changed
 pub record Outside (costs wide : ℕ) (old new : List ℕ) : Type 0 where
@@ -45,11 +47,14 @@ lateIn R i p st costs l q a = cond (ltb (p + suc R) (i + offset R q)) B (layerIn
 
 -- where the layer at `at`, with i cells, is the one that state q comes with, its entries; else what was there
 abbrev pub delivered : ℕ → ℕ → ℕ → List ℕ → ℕ → ℕ → ℕ → Layer
-delivered R i p st at costs l q a = cond (eqb (i + offset R q) (p + suc R)) (layerIn st at l q a) (layerIn st costs l q a)
+delivered R i p st at costs l q a =
+    cond (eqb (i + offset R q) (p + suc R)) (layerIn st at l q a) (layerIn st costs l q a)
 
--- where state q comes with the layer after the one at `at`, which has i cells, the entries of that layer; else what was there
+-- where state q comes with the layer after the one at `at`, which has i cells, the
+-- entries of that layer; else what was there
 abbrev pub lastIn : Deck → ℕ → ℕ → ℕ → List ℕ → ℕ → ℕ → ℕ → Layer
-lastIn D R i p st at costs l q a = cond (eqb (suc i + offset R q) (p + suc R)) (nextFrom D R st at i l q a) (layerIn st costs l q a)
+lastIn D R i p st at costs l q a =
+    cond (eqb (suc i + offset R q) (p + suc R)) (nextFrom D R st at i l q a) (layerIn st costs l q a)
 
 -- the costs of the states that come with the first d layers, or with none
 pub record CostedBy (D : Deck) (R lanes i p d costs : ℕ) (old new : List ℕ) : Type 0 where
@@ -67,4 +72,5 @@ pub record CostedRun (D : Deck) (R lanes i p d at costs : ℕ) (old new : List �
 pub record SegmentCosted (D : Deck) (R lanes i p costs : ℕ) (old new : List ℕ) : Type 0 where
   pub outside : Outside costs layerBlock old new
   pub low : Low new
-  pub right : (q a l : ℕ) → q < stateCount R → a < D .poses → l < lanes → layerIn new costs l q a ≡ costTo D R (layerIn old 0 l) i p q a
+  pub right : (q a l : ℕ) → q < stateCount R → a < D .poses → l < lanes
+      → layerIn new costs l q a ≡ costTo D R (layerIn old 0 l) i p q a

@@ -1,5 +1,6 @@
-// A segment: from its first layer, in block 0, to a tall cell; all lanes at once. The layers run on in the blocks at 0 and 49152 by turns; of the last one only
-// the states that come to the tall cell with it are computed, straight to the costs.
+// A segment: from its first layer, in block 0, to a tall cell; all lanes at once. The layers run on
+// in the blocks at 0 and 49152 by turns; of the last one only the states that come to the tall cell
+// with it are computed, straight to the costs.
 ghost use mathlib.Core.Path.{_≡_};
 ghost use Prim.Native.Nat.{ℕ, suc, _+_, _*_, _-_, _≤_, _<_};
 ghost use lib.ListN.{length};
@@ -23,8 +24,10 @@ fn late_state(
     costs: usize,
     q: usize,
 )
-    requires { ⌜ StateWords (sizes .reordering) (now row) × Low (now store) × CostRoom (now store) costs × (q < stateCount (sizes .reordering)) × (sizes .poses ≤ 60) × (lanes ≤ 64) × (i ≤ 100) × (tall < 64) ⌝ }
-    ensures { λ _. ⌜ FilledState (lateIn (sizes .reordering) i tall (now (store .entry)) costs) lanes costs q (sizes .poses) (now (store .entry)) (now (store .exit)) ⌝ }
+    requires { ⌜ StateWords (sizes .reordering) (now row) × Low (now store) × CostRoom (now store) costs
+        × (q < stateCount (sizes .reordering)) × (sizes .poses ≤ 60) × (lanes ≤ 64) × (i ≤ 100) × (tall < 64) ⌝ }
+    ensures { λ _. ⌜ FilledState (lateIn (sizes .reordering) i tall (now (store .entry)) costs) lanes costs q
+        (sizes .poses) (now (store .entry)) (now (store .exit)) ⌝ }
 {
     if i + search_row::word(row, search_row::STATES + q * 4) <= tall + sizes.reordering + 1 {
         return;
@@ -48,8 +51,11 @@ fn fill_late(
     tall: usize,
     costs: usize,
 )
-    requires { ⌜ StateWords (sizes .reordering) (now row) × Low (now store) × CostRoom (now store) costs × (sizes .states ≡ stateCount (sizes .reordering)) × (sizes .poses ≤ 60) × (lanes ≤ 64) × (i ≤ 100) × (tall < 64) ⌝ }
-    ensures { λ _. ⌜ Filled (lateIn (sizes .reordering) i tall (now (store .entry)) costs) lanes (sizes .poses) costs (sizes .states) (now (store .entry)) (now (store .exit)) ⌝ }
+    requires { ⌜ StateWords (sizes .reordering) (now row) × Low (now store) × CostRoom (now store) costs
+        × (sizes .states ≡ stateCount (sizes .reordering)) × (sizes .poses ≤ 60) × (lanes ≤ 64) × (i ≤ 100)
+        × (tall < 64) ⌝ }
+    ensures { λ _. ⌜ Filled (lateIn (sizes .reordering) i tall (now (store .entry)) costs) lanes (sizes .poses) costs
+        (sizes .states) (now (store .entry)) (now (store .exit)) ⌝ }
 {
     let mut q: usize = 0;
     while q < sizes.states {
@@ -70,8 +76,11 @@ fn deliver_state(
     costs: usize,
     q: usize,
 )
-    requires { ⌜ StateWords (sizes .reordering) (now row) × Low (now store) × CostRoom (now store) costs × (q < stateCount (sizes .reordering)) × (sizes .poses ≤ 60) × (lanes ≤ 64) × (i ≤ 100) × (tall < 64) × (from ≤ layerBlock) ⌝ }
-    ensures { λ _. ⌜ FilledState (delivered (sizes .reordering) i tall (now (store .entry)) from costs) lanes costs q (sizes .poses) (now (store .entry)) (now (store .exit)) ⌝ }
+    requires { ⌜ StateWords (sizes .reordering) (now row) × Low (now store) × CostRoom (now store) costs
+        × (q < stateCount (sizes .reordering)) × (sizes .poses ≤ 60) × (lanes ≤ 64) × (i ≤ 100) × (tall < 64)
+        × (from ≤ layerBlock) ⌝ }
+    ensures { λ _. ⌜ FilledState (delivered (sizes .reordering) i tall (now (store .entry)) from costs) lanes costs q
+        (sizes .poses) (now (store .entry)) (now (store .exit)) ⌝ }
 {
     if i + search_row::word(row, search_row::STATES + q * 4) != tall + sizes.reordering + 1 {
         return;
@@ -96,8 +105,11 @@ fn deliver(
     from: usize,
     costs: usize,
 )
-    requires { ⌜ StateWords (sizes .reordering) (now row) × Low (now store) × CostRoom (now store) costs × (sizes .states ≡ stateCount (sizes .reordering)) × (sizes .poses ≤ 60) × (lanes ≤ 64) × (i ≤ 100) × (tall < 64) × (from ≤ layerBlock) ⌝ }
-    ensures { λ _. ⌜ Filled (delivered (sizes .reordering) i tall (now (store .entry)) from costs) lanes (sizes .poses) costs (sizes .states) (now (store .entry)) (now (store .exit)) ⌝ }
+    requires { ⌜ StateWords (sizes .reordering) (now row) × Low (now store) × CostRoom (now store) costs
+        × (sizes .states ≡ stateCount (sizes .reordering)) × (sizes .poses ≤ 60) × (lanes ≤ 64) × (i ≤ 100)
+        × (tall < 64) × (from ≤ layerBlock) ⌝ }
+    ensures { λ _. ⌜ Filled (delivered (sizes .reordering) i tall (now (store .entry)) from costs) lanes
+        (sizes .poses) costs (sizes .states) (now (store .entry)) (now (store .exit)) ⌝ }
 {
     let mut q: usize = 0;
     while q < sizes.states {
@@ -117,8 +129,10 @@ fn run_to(
     tall: usize,
     costs: usize,
 ) -> usize
-    requires { ⌜ Lent (now table) × Given (now row) (now store) sizes lanes i 0 × CostRoom (now store) costs × (tall < 64) ⌝ }
-    ensures { λ at. ⌜ CostedRun (deckIn (now (row .entry)) sizes) (sizes .reordering) lanes i tall (tall + sizes .reordering - i) at costs (now (store .entry)) (now (store .exit)) × Lent (now (table .exit)) ⌝ }
+    requires { ⌜ Lent (now table) × Given (now row) (now store) sizes lanes i 0 × CostRoom (now store) costs
+        × (tall < 64) ⌝ }
+    ensures { λ at. ⌜ CostedRun (deckIn (now (row .entry)) sizes) (sizes .reordering) lanes i tall
+        (tall + sizes .reordering - i) at costs (now (store .entry)) (now (store .exit)) × Lent (now (table .exit)) ⌝ }
 {
     fill_late(store, row, sizes, lanes, i, tall, costs);
     deliver(store, row, sizes, lanes, i, tall, 0, costs);
@@ -143,7 +157,8 @@ fn run_to(
     from
 }
 
-// The costs of state q straight from the layer before, if it comes to the tall cell with the layer that has i + 1 cells.
+// The costs of state q straight from the layer before, if it comes to the
+// tall cell with the layer that has i + 1 cells.
 fn last_state(
     table: &mut [u32; search_store::TABLE],
     store: &mut [u32],
@@ -156,8 +171,11 @@ fn last_state(
     costs: usize,
     q: usize,
 )
-    requires { ⌜ Lent (now table) × Given (now row) (now store) sizes lanes i from × Beside (now store) from costs × (tall < 64) × (q < sizes .states) ⌝ }
-    ensures { λ _. ⌜ FilledState (lastIn (deckIn (now (row .entry)) sizes) (sizes .reordering) i tall (now (store .entry)) from costs) lanes costs q (sizes .poses) (now (store .entry)) (now (store .exit)) × Lent (now (table .exit)) ⌝ }
+    requires { ⌜ Lent (now table) × Given (now row) (now store) sizes lanes i from × Beside (now store) from costs
+        × (tall < 64) × (q < sizes .states) ⌝ }
+    ensures { λ _. ⌜ FilledState (lastIn (deckIn (now (row .entry)) sizes) (sizes .reordering) i tall
+        (now (store .entry)) from costs) lanes costs q (sizes .poses) (now (store .entry)) (now (store .exit))
+        × Lent (now (table .exit)) ⌝ }
 {
     if i + 1 + search_row::word(row, search_row::STATES + q * 4) != tall + sizes.reordering + 1 {
         return;
@@ -177,8 +195,11 @@ fn last_layer(
     from: usize,
     costs: usize,
 )
-    requires { ⌜ Lent (now table) × Given (now row) (now store) sizes lanes i from × Beside (now store) from costs × (tall < 64) ⌝ }
-    ensures { λ _. ⌜ Filled (lastIn (deckIn (now (row .entry)) sizes) (sizes .reordering) i tall (now (store .entry)) from costs) lanes (sizes .poses) costs (sizes .states) (now (store .entry)) (now (store .exit)) × Lent (now (table .exit)) ⌝ }
+    requires { ⌜ Lent (now table) × Given (now row) (now store) sizes lanes i from × Beside (now store) from costs
+        × (tall < 64) ⌝ }
+    ensures { λ _. ⌜ Filled
+        (lastIn (deckIn (now (row .entry)) sizes) (sizes .reordering) i tall (now (store .entry)) from costs) lanes
+        (sizes .poses) costs (sizes .states) (now (store .entry)) (now (store .exit)) × Lent (now (table .exit)) ⌝ }
 {
     let mut q: usize = 0;
     while q < sizes.states {
@@ -198,8 +219,10 @@ pub fn segment_to(
     tall: usize,
     costs: usize,
 )
-    requires { ⌜ Lent (now table) × Given (now row) (now store) sizes lanes i 0 × CostRoom (now store) costs × (tall < 64) ⌝ }
-    ensures { λ _. ⌜ SegmentCosted (deckIn (now (row .entry)) sizes) (sizes .reordering) lanes i tall costs (now (store .entry)) (now (store .exit)) × Lent (now (table .exit)) ⌝ }
+    requires { ⌜ Lent (now table) × Given (now row) (now store) sizes lanes i 0 × CostRoom (now store) costs
+        × (tall < 64) ⌝ }
+    ensures { λ _. ⌜ SegmentCosted (deckIn (now (row .entry)) sizes) (sizes .reordering) lanes i tall costs
+        (now (store .entry)) (now (store .exit)) × Lent (now (table .exit)) ⌝ }
 {
     let from = run_to(table, store, row, sizes, lanes, i, tall, costs);
     if i > tall + sizes.reordering {

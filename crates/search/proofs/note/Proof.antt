@@ -12,15 +12,21 @@ slice-aggregate-trace-2 : tie.Need-slice-aggregate-trace-2
 slice-aggregate-trace-2 c = search needs
 
 trace-requires : tie.Need-trace-requires
-trace-requires c κs = let k = c .before .before .before .before .before .before .before in may-trace (k .pre .0) (k .pre .1) (omega arith) (omega arith)
+trace-requires c κs =
+    let mid = c .before .before .before .before in
+    let k = mid .before .before .before in
+    may-trace (k .pre .0) (k .pre .1) (omega arith) (omega arith)
 
 slice-aggregate-scatter : tie.Need-slice-aggregate-scatter
 slice-aggregate-scatter c = search needs
 
 scatter-requires : tie.Need-scatter-requires
 scatter-requires c κs =
-    let k = c .before .before .before .before .before .before .before .before .before .before .before .before .before .before in
-    let w = c .before .before .before .before .before .before .trace in
+    let mid = c .before .before .before .before in
+    let after-trace = mid .before .before in
+    let mid₂ = after-trace .before .before .before .before in
+    let k = mid₂ .before .before .before .before in
+    let w = after-trace .trace in
     let t = was-traced (k .pre .0) (k .pre .1) (w .ensures) .traced in
     first-given (k .pre .0) (w .last .1 .0) (w .last .1 .1 .0) (k .pre .1 .some) t (omega (arith, w .ensures .long₀)) (k .pre .2)
 
@@ -29,11 +35,15 @@ slice-aggregate-scatter-2 c = search needs
 
 scatter-requires-2 : tie.Need-scatter-requires-2
 scatter-requires-2 c κs =
-    let k = c .before .before .before .before .before .before .before .before .before .before .before .before .before .before .before .before .before .before .before in
-    let w = c .before .before .before .before .before .before .before .before .before .before .before .trace in
+    let after-scatter = c .before .before .before .before in
+    let mid = after-scatter .before .before .before .before in
+    let after-trace = mid .before .before .before in
+    let mid₂ = after-trace .before .before .before .before in
+    let k = mid₂ .before .before .before .before in
+    let w = after-trace .trace in
     let t = was-traced (k .pre .0) (k .pre .1) (w .ensures) .traced in
     second-given (k .pre .0) (w .last .1 .0) (w .last .1 .1 .0) (k .pre .1 .some) t (omega (arith, w .ensures .long₁))
-    (omega (arith, k .pre .2, c .before .before .before .before .scatter .ensures .long))
+    (omega (arith, k .pre .2, after-scatter .scatter .ensures .long))
 
 same-length : tie.Need-same-length
 same-length c = search needs
@@ -43,10 +53,17 @@ same-length-2 c = search needs
 
 returns : tie.Need-returns
 returns c =
-    let k = c .before .before .before .before .before .before .before .before .before .before .before .before .before .before .before .before .before .before .before .before .before .before in
-    let w = c .before .before .before .before .before .before .before .before .before .before .before .before .before .before .trace in
+    let mid = c .before .before .before .before in
+    let after-scatter = mid .before .before .before in
+    let mid₂ = after-scatter .before .before .before .before in
+    let after-trace = mid₂ .before .before .before in
+    let mid₃ = after-trace .before .before .before .before in
+    let k = mid₃ .before .before .before .before in
+    let w = after-trace .trace in
     let t = was-traced (k .pre .0) (k .pre .1) (w .ensures) .traced in
-    answered (k .pre .0) (w .last .1 .0) (w .last .1 .1 .0) (k .pre .1 .some) t (k .pre .3) (c .before .before .before .before .before .before .before .scatter .ensures) (c .before .before .scatter2 .ensures)
+    answered (k .pre .0) (w .last .1 .0) (w .last .1 .1 .0) (k .pre .1 .some) t (k .pre .3) (after-scatter .scatter .ensures)
+    (c .before .before .scatter2 .ensures)
 
 pub note-spec : {M : Type 1} → statement M
-note-spec = tie.close (tie.spec slice-aggregate-trace slice-aggregate-trace-2 trace-requires slice-aggregate-scatter scatter-requires slice-aggregate-scatter-2 scatter-requires-2 same-length same-length-2 returns)
+note-spec = tie.close (tie.spec slice-aggregate-trace slice-aggregate-trace-2 trace-requires slice-aggregate-scatter scatter-requires slice-aggregate-scatter-2
+    scatter-requires-2 same-length same-length-2 returns)

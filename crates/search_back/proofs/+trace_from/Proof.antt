@@ -35,7 +35,9 @@ trace-from-both-trace-requires : (t : ℕ) → trace-from-lts.Need-both-trace-re
   trace-from.Post,
 ) (trace-from-at t) trace-from.Post
 trace-from-both-trace-requires t c κs =
-    open-leg (c .before .before .before .before .before .before .before .before .before .pre .1) (c .before .before .before .if1 .taken)
+    let after-if1 = c .before .before .before in
+    let mid = after-if1 .before .before .before .before in
+    open-leg (mid .before .before .pre .1) (after-if1 .if1 .taken)
 
 -- src/lib.rt:129:9
 trace-from-same-length : (t : ℕ) → trace-from-lts.Need-same-length (
@@ -47,7 +49,8 @@ trace-from-same-length : (t : ℕ) → trace-from-lts.Need-same-length (
   trace-from.Post,
 ) (trace-from-at t) trace-from.Post
 trace-from-same-length t c =
-    c .before .before .before .before .before .before .both-trace .kept .0
+    let mid = c .before .before .before .before in
+    mid .before .before .both-trace .kept .0
 
 -- src/lib.rt:129:9
 trace-from-same-length-2 : (t : ℕ) → trace-from-lts.Need-same-length-2 (
@@ -59,7 +62,8 @@ trace-from-same-length-2 : (t : ℕ) → trace-from-lts.Need-same-length-2 (
   trace-from.Post,
 ) (trace-from-at t) trace-from.Post
 trace-from-same-length-2 t c =
-    c .before .before .before .before .before .before .both-trace .kept .1 .0
+    let mid = c .before .before .before .before in
+    mid .before .before .both-trace .kept .1 .0
 
 -- src/lib.rt:129:9
 trace-from-same-length-3 : (t : ℕ) → trace-from-lts.Need-same-length-3 (
@@ -71,7 +75,8 @@ trace-from-same-length-3 : (t : ℕ) → trace-from-lts.Need-same-length-3 (
   trace-from.Post,
 ) (trace-from-at t) trace-from.Post
 trace-from-same-length-3 t c =
-    c .before .before .before .before .before .before .both-trace .kept .1 .1 .0
+    let mid = c .before .before .before .before in
+    mid .before .before .both-trace .kept .1 .1 .0
 
 -- src/lib.rt:129:9
 trace-from-returns : (t : ℕ) → trace-from-lts.Need-returns (
@@ -83,7 +88,9 @@ trace-from-returns : (t : ℕ) → trace-from-lts.Need-returns (
   trace-from.Post,
 ) (trace-from-at t) trace-from.Post
 trace-from-returns t c =
-    open-done (c .before .before .before .before .before .before .before .before .before .before .if1 .taken) (c .before .before .before .before .before .before .both-trace .ensures)
+    let mid = c .before .before .before .before in
+    let after-both-trace = mid .before .before in
+    open-done (after-both-trace .before .before .before .before .if1 .taken) (after-both-trace .both-trace .ensures)
 
 -- src/lib.rt:131:9
 trace-from-pointer-requires : (t : ℕ) → trace-from-lts.Need-pointer-requires (
@@ -95,7 +102,8 @@ trace-from-pointer-requires : (t : ℕ) → trace-from-lts.Need-pointer-requires
   trace-from.Post,
 ) (trace-from-at t) trace-from.Post
 trace-from-pointer-requires t c κs =
-    pointer-room (c .before .before .before .before .before .before .before .pre .1)
+    let mid = c .before .before .before .before in
+    pointer-room (mid .before .before .before .pre .1)
 
 -- src/lib.rt:136:9
 trace-from-same-length-4 : (t : ℕ) → trace-from-lts.Need-same-length-4 (
@@ -119,7 +127,10 @@ trace-from-returns-2 : (t : ℕ) → trace-from-lts.Need-returns-2 (
   trace-from.Post,
 ) (trace-from-at t) trace-from.Post
 trace-from-returns-2 t c =
-    stray-done (c .before .before .before .before .before .before .before .before .before .before .pre .1) (c .before .before .before .before .before .before .before .before .before .before .args .i - 1) (c .before .before .pointer .result) (omega arith) (c .before .before .pointer .ensures) (λ x y z. omega (arith, c .if2 .taken))
+    let after-pointer = c .before .before in
+    let mid = after-pointer .before .before .before .before in
+    stray-done (mid .before .before .before .before .pre .1) (mid .before .before .before .before .args .i - 1) (after-pointer .pointer .result) (omega arith)
+    (after-pointer .pointer .ensures) (λ x y z. omega (arith, c .if2 .taken))
 
 -- src/lib.rt:139:9
 trace-from-same-length-5 : (t : ℕ) → trace-from-lts.Need-same-length-5 (
@@ -143,7 +154,10 @@ trace-from-returns-3 : (t : ℕ) → trace-from-lts.Need-returns-3 (
   trace-from.Post,
 ) (trace-from-at t) trace-from.Post
 trace-from-returns-3 t c =
-    stray-done (c .before .before .before .before .before .before .before .before .before .before .before .before .pre .1) (c .before .before .before .before .before .before .before .before .before .before .before .before .args .i - 1) (c .before .before .before .before .pointer .result) (omega arith) (c .before .before .before .before .pointer .ensures) (λ x y z. omega (arith, c .if3 .taken))
+    let after-pointer = c .before .before .before .before in
+    let mid = after-pointer .before .before .before .before in
+    stray-done (mid .before .before .before .before .pre .1) (mid .before .before .before .before .args .i - 1) (after-pointer .pointer .result) (omega arith)
+    (after-pointer .pointer .ensures) (λ x y z. omega (arith, c .if3 .taken))
 
 -- src/lib.rt:142:9
 trace-from-same-length-6 : (t : ℕ) → trace-from-lts.Need-same-length-6 (
@@ -167,7 +181,11 @@ trace-from-returns-4 : (t : ℕ) → trace-from-lts.Need-returns-4 (
   trace-from.Post,
 ) (trace-from-at t) trace-from.Post
 trace-from-returns-4 t c =
-    stray-done (c .before .before .before .before .before .before .before .before .before .before .before .before .before .before .pre .1) (c .before .before .before .before .before .before .before .before .before .before .before .before .before .before .args .i - 1) (c .before .before .before .before .before .before .pointer .result) (omega arith) (c .before .before .before .before .before .before .pointer .ensures) (λ x y z. omega (arith, c .if4 .taken))
+    let mid = c .before .before .before .before in
+    let after-pointer = mid .before .before in
+    let mid₂ = after-pointer .before .before .before .before in
+    stray-done (mid₂ .before .before .before .before .pre .1) (mid₂ .before .before .before .before .args .i - 1) (after-pointer .pointer .result) (omega arith)
+    (after-pointer .pointer .ensures) (λ x y z. omega (arith, c .if4 .taken))
 
 -- src/lib.rt:144:5
 trace-from-both-trace-requires-2 : (t : ℕ) → trace-from-lts.Need-both-trace-requires-2 (
@@ -179,7 +197,13 @@ trace-from-both-trace-requires-2 : (t : ℕ) → trace-from-lts.Need-both-trace-
   trace-from.Post,
 ) (trace-from-at t) trace-from.Post
 trace-from-both-trace-requires-2 t c κs =
-    back-leg (c .before .before .before .before .before .before .before .before .before .before .before .before .before .before .before .before .before .pre .1) (c .before .before .before .before .before .before .before .before .before .before .before .before .before .before .before .before .before .args .i - 1) (c .before .before .before .before .before .before .before .before .before .pointer .result) (omega arith) (c .before .before .before .before .before .before .before .before .before .pointer .ensures) (omega (arith, c .before .before .before .before .before .before .before .if2 .left)) (omega (arith, c .before .before .before .before .before .if3 .left)) (omega (arith, c .before .before .before .if4 .left))
+    let after-if4 = c .before .before .before in
+    let after-if2 = after-if4 .before .before .before .before in
+    let after-pointer = after-if2 .before .before in
+    let mid = after-pointer .before .before .before .before in
+    back-leg (mid .before .before .before .before .pre .1) (mid .before .before .before .before .args .i - 1) (after-pointer .pointer .result) (omega arith)
+    (after-pointer .pointer .ensures) (omega (arith, after-if2 .if2 .left)) (omega (arith, after-if4 .before .before .if3 .left))
+    (omega (arith, after-if4 .if4 .left))
 
 -- src/lib.rt:182:9
 trace-from-sub-trace-from : (t : ℕ) → trace-from-lts.Need-sub-trace-from (
@@ -203,9 +227,20 @@ trace-from-trace-from-requires : (t : ℕ) → trace-from-lts.Need-trace-from-re
   trace-from.Post,
 ) (trace-from-at t) trace-from.Post
 trace-from-trace-from-requires t c κs =
-    let k = c .before .before .before .before .before .before .before .before .before .before .before .before .before .before .before .before .before .before .before .before .before .before .before .before .before .before .before in
-    let some = c .before .before .before .before .before .before .before .before .before .before .before .before .before .before .before .before .before .before .before .before .before .if1 .left in
-    (omega (arith, k .pre .0, some), back-rest (c .before .before .before .before .before .before .before .before .before .before .before .before .before .before .before .before .before .before .before .before .before .before .before .before .before .before .before .pre .1) (c .before .before .before .before .before .before .before .before .before .before .before .before .before .before .before .before .before .before .before .before .before .before .before .before .before .before .before .args .i - 1) (c .before .before .before .before .before .before .before .before .before .before .before .before .before .before .before .before .before .before .before .pointer .result) (omega (arith, some)) (c .before .before .before .before .before .before .before .before .before .before .before .before .before .before .before .before .before .before .before .pointer .ensures) (omega (arith, c .before .before .before .before .before .before .before .before .before .before .before .before .before .before .before .before .before .if2 .left)) (omega (arith, c .before .before .before .before .before .before .before .before .before .before .before .before .before .before .before .if3 .left)) (omega (arith, c .before .before .before .before .before .before .before .before .before .before .before .before .before .if4 .left)) (c .before .before .before .before .before .before .before .before .before .both-trace2 .ensures))
+    let mid = c .before .before .before .before in
+    let mid₂ = mid .before .before .before .before in
+    let after-both-trace2 = mid₂ .before in
+    let after-if4 = after-both-trace2 .before .before .before .before in
+    let after-if2 = after-if4 .before .before .before .before in
+    let after-if1 = after-if2 .before .before .before .before in
+    let mid₃ = after-if1 .before .before .before .before in
+    let k = mid₃ .before .before in
+    let some = after-if1 .if1 .left in (
+      omega (arith, k .pre .0, some),
+      back-rest (k .pre .1) (k .args .i - 1) (after-if2 .before .before .pointer .result) (omega (arith, some)) (after-if2 .before .before .pointer .ensures)
+          (omega (arith, after-if2 .if2 .left)) (omega (arith, after-if4 .before .before .if3 .left)) (omega (arith, after-if4 .if4 .left))
+          (after-both-trace2 .both-trace2 .ensures),
+    )
 
 -- src/lib.rt:82:1
 trace-from-same-length-7 : (t : ℕ) → trace-from-lts.Need-same-length-7 (
@@ -217,7 +252,10 @@ trace-from-same-length-7 : (t : ℕ) → trace-from-lts.Need-same-length-7 (
   trace-from.Post,
 ) (trace-from-at t) trace-from.Post
 trace-from-same-length-7 t c =
-    c .before .before .before .before .before .before .trace-from .kept .0 ∙ c .before .before .before .before .before .before .before .before .before .before .before .before .before .before .before .before .both-trace2 .kept .0
+    let mid = c .before .before .before .before in
+    let mid₂ = mid .before .before .before .before in
+    let mid₃ = mid₂ .before .before .before .before in
+    mid .before .before .trace-from .kept .0 ∙ mid₃ .before .before .before .before .both-trace2 .kept .0
 
 -- src/lib.rt:82:1
 trace-from-same-length-8 : (t : ℕ) → trace-from-lts.Need-same-length-8 (
@@ -229,7 +267,10 @@ trace-from-same-length-8 : (t : ℕ) → trace-from-lts.Need-same-length-8 (
   trace-from.Post,
 ) (trace-from-at t) trace-from.Post
 trace-from-same-length-8 t c =
-    c .before .before .before .before .before .before .trace-from .kept .1 .0 ∙ c .before .before .before .before .before .before .before .before .before .before .before .before .before .before .before .before .both-trace2 .kept .1 .0
+    let mid = c .before .before .before .before in
+    let mid₂ = mid .before .before .before .before in
+    let mid₃ = mid₂ .before .before .before .before in
+    mid .before .before .trace-from .kept .1 .0 ∙ mid₃ .before .before .before .before .both-trace2 .kept .1 .0
 
 -- src/lib.rt:82:1
 trace-from-same-length-9 : (t : ℕ) → trace-from-lts.Need-same-length-9 (
@@ -241,7 +282,10 @@ trace-from-same-length-9 : (t : ℕ) → trace-from-lts.Need-same-length-9 (
   trace-from.Post,
 ) (trace-from-at t) trace-from.Post
 trace-from-same-length-9 t c =
-    c .before .before .before .before .before .before .trace-from .kept .1 .1 .0 ∙ c .before .before .before .before .before .before .before .before .before .before .before .before .before .before .before .before .both-trace2 .kept .1 .1 .0
+    let mid = c .before .before .before .before in
+    let mid₂ = mid .before .before .before .before in
+    let mid₃ = mid₂ .before .before .before .before in
+    mid .before .before .trace-from .kept .1 .1 .0 ∙ mid₃ .before .before .before .before .both-trace2 .kept .1 .1 .0
 
 -- src/lib.rt:82:1
 trace-from-returns-5 : (t : ℕ) → trace-from-lts.Need-returns-5 (
@@ -253,7 +297,18 @@ trace-from-returns-5 : (t : ℕ) → trace-from-lts.Need-returns-5 (
   trace-from.Post,
 ) (trace-from-at t) trace-from.Post
 trace-from-returns-5 t c =
-    back-done (c .before .before .before .before .before .before .before .before .before .before .before .before .before .before .before .before .before .before .before .before .before .before .before .before .before .before .before .before .before .before .before .before .before .before .pre .1) (c .before .before .before .before .before .before .before .before .before .before .before .before .before .before .before .before .before .before .before .before .before .before .before .before .before .before .before .before .before .before .before .before .before .before .args .i - 1) (c .before .before .before .before .before .before .before .before .before .before .before .before .before .before .before .before .before .before .before .before .before .before .before .before .before .before .pointer .result) (omega (arith, c .before .before .before .before .before .before .before .before .before .before .before .before .before .before .before .before .before .before .before .before .before .before .before .before .before .before .before .before .if1 .left)) (c .before .before .before .before .before .before .before .before .before .before .before .before .before .before .before .before .before .before .before .before .before .before .before .before .before .before .pointer .ensures) (omega (arith, c .before .before .before .before .before .before .before .before .before .before .before .before .before .before .before .before .before .before .before .before .before .before .before .before .if2 .left)) (omega (arith, c .before .before .before .before .before .before .before .before .before .before .before .before .before .before .before .before .before .before .before .before .before .before .if3 .left)) (omega (arith, c .before .before .before .before .before .before .before .before .before .before .before .before .before .before .before .before .before .before .before .before .if4 .left)) (c .before .before .before .before .before .before .before .before .before .before .before .before .before .before .before .before .both-trace2 .ensures) (c .before .before .before .before .before .before .trace-from .ensures)
+    let mid = c .before .before .before .before in
+    let mid₂ = mid .before .before .before .before in
+    let mid₃ = mid₂ .before .before .before .before in
+    let after-both-trace2 = mid₃ .before .before .before .before in
+    let after-if4 = after-both-trace2 .before .before .before .before in
+    let after-if2 = after-if4 .before .before .before .before in
+    let after-if1 = after-if2 .before .before .before .before in
+    let mid₄ = after-if1 .before .before .before .before in
+    back-done (mid₄ .before .before .pre .1) (mid₄ .before .before .args .i - 1) (after-if2 .before .before .pointer .result)
+    (omega (arith, after-if1 .if1 .left)) (after-if2 .before .before .pointer .ensures) (omega (arith, after-if2 .if2 .left))
+    (omega (arith, after-if4 .before .before .if3 .left)) (omega (arith, after-if4 .if4 .left)) (after-both-trace2 .both-trace2 .ensures)
+    (mid .before .before .trace-from .ensures)
 
 pub +trace-from-spec : {M : Type 1} → statement M
 +trace-from-spec = close μ-trace-from λ t. trace-from-lts.spec (

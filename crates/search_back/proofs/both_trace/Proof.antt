@@ -6,12 +6,16 @@ use Rattle.search_back.proofs.both_trace.Tie as tie
 
 stage-trace-requires : tie.Need-stage-trace-requires
 stage-trace-requires c κs =
-    leg-row₀ (c .before .before .before .before .before .before .before .pre)
+    let mid = c .before .before .before .before in
+    leg-row₀ (mid .before .before .before .pre)
 
 stage-trace-requires-2 : tie.Need-stage-trace-requires-2
 stage-trace-requires-2 c κs =
-    let w = c .before .before .before .before .before .before .stage-trace .ensures in
-    leg-row₁ (c .before .before .before .before .before .before .before .before .before .before .before .before .before .before .pre) (w .low) (w .frame .long)
+    let mid = c .before .before .before .before in
+    let after-stage-trace = mid .before .before in
+    let mid₂ = after-stage-trace .before .before .before .before in
+    let w = after-stage-trace .stage-trace .ensures in
+    leg-row₁ (mid₂ .before .before .before .before .pre) (w .low) (w .frame .long)
 
 same-length : tie.Need-same-length
 same-length c = search needs
@@ -24,7 +28,9 @@ same-length-3 c = search needs
 
 returns : tie.Need-returns
 returns c =
-    leg-done (c .before .before .before .before .before .before .before .before .before .before .before .stage-trace .ensures) (c .before .before .before .before .stage-trace2 .ensures)
+    let after-stage-trace2 = c .before .before .before .before in
+    let mid = after-stage-trace2 .before .before .before .before in
+    leg-done (mid .before .before .before .stage-trace .ensures) (after-stage-trace2 .stage-trace2 .ensures)
 
 pub both-trace-spec : {M : Type 1} → statement M
 both-trace-spec =

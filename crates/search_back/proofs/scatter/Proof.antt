@@ -18,13 +18,17 @@ abbrev μ-loop : tie.MeasureT-loop
     n + 1 - i
 
 -- the place's position is in the row, and its cell has a word
-inside : (c : tie.After-shared-slice-known3 Inv-loop μ-loop) → let a = c .before .before .before .before .before .before .args in getD (a .path .now) (c .before .before .loop .i) 0 / 64 < a .n
-inside c = c .before .before .before .before .before .before .pre .places .inside (c .before .before .loop .i) (omega arith) (omega arith)
+inside : (c : tie.After-shared-slice-known3 Inv-loop μ-loop) → let mid = c .before .before .before .before in let a = mid .before .before .args in
+    getD (a .path .now) (c .before .before .loop .i) 0 / 64 < a .n
+inside c =
+    let at-loop = c .before .before in
+    at-loop .before .before .before .before .pre .places .inside (at-loop .loop .i) (omega arith) (omega arith)
 
 small : (c : tie.After-word Inv-loop μ-loop) → c .word .result < length (c .before .before .before .before .before .before .before .args .out .now)
 small c =
-    let k = c .before .before .before .before .before .before .before in
-    omega (arith, c .word .ensures, k .pre .small (getD (k .args .path .now) (c .before .before .before .loop .i) 0 / 64) (inside (c .before)))
+    let at-loop = c .before .before .before in
+    let k = at-loop .before .before .before .before in
+    omega (arith, c .word .ensures, k .pre .small (getD (k .args .path .now) (at-loop .loop .i) 0 / 64) (inside (c .before)))
 
 loop-holds : tie.Need-loop-holds Inv-loop μ-loop
 loop-holds c =
@@ -38,19 +42,23 @@ shared-slice-read-word c = search needs
 
 cast-word : tie.Need-cast-word Inv-loop μ-loop
 cast-word c =
-    omega (arith, inside c, c .before .before .before .before .before .before .pre .size)
+    let mid = c .before .before .before .before in
+    omega (arith, inside c, mid .before .before .pre .size)
 
 mul-word-2 : tie.Need-mul-word-2 Inv-loop μ-loop
 mul-word-2 c =
-    omega (arith, inside c, c .before .before .before .before .before .before .pre .size)
+    let mid = c .before .before .before .before in
+    omega (arith, inside c, mid .before .before .pre .size)
 
 add-word : tie.Need-add-word Inv-loop μ-loop
 add-word c =
-    omega (arith, inside c, c .before .before .before .before .before .before .pre .size)
+    let mid = c .before .before .before .before in
+    omega (arith, inside c, mid .before .before .pre .size)
 
 word-requires : tie.Need-word-requires Inv-loop μ-loop
 word-requires c κs =
-    omega (arith, inside c, c .before .before .before .before .before .before .pre .size, c .before .before .before .before .before .before .pre .words .long)
+    let mid = c .before .before .before .before in
+    omega (arith, inside c, mid .before .before .pre .size, mid .before .before .pre .words .long)
 
 mul-out : tie.Need-mul-out Inv-loop μ-loop
 mul-out c =
@@ -68,8 +76,9 @@ loop-less c = search needs
 
 loop-again : tie.Need-loop-again Inv-loop μ-loop
 loop-again c =
-    let k = c .before .before .before .before .before .before .before in
-    let l = c .before .before .before .loop in
+    let at-loop = c .before .before .before in
+    let k = at-loop .before .before .before .before in
+    let l = at-loop .loop in
     (omega arith, omega arith, upto-more (l .i) (c .word .result) _ (k .pre) (l .inv .0) (omega arith) (c .word .ensures) refl (small c) (l .inv .2))
 
 same-length : tie.Need-same-length Inv-loop μ-loop

@@ -68,10 +68,12 @@ trace-returns : (t : ℕ) → trace-lts.Need-returns (
   trace.Post,
 ) (trace-at t) trace.Post
 trace-returns t c =
-    let k = c .before .before .before .before .before .before .before .before in
+    let mid = c .before .before .before .before in
+    let k = mid .before .before .before .before in
     let a = k .args in
     let g = k .pre .1 in
-    trace-none (deckIn (a .row .now) (a .sizes)) (a .sizes .reordering) (a .store .now) (a .i) (a .d) (a .q) (a .a) (c .if1 .taken) (c .before .before .before .note .ensures) (omega (arith, g .last, g .room))
+    trace-none (deckIn (a .row .now) (a .sizes)) (a .sizes .reordering) (a .store .now) (a .i) (a .d) (a .q) (a .a) (c .if1 .taken)
+    (c .before .before .before .note .ensures) (omega (arith, g .last, g .room))
 
 trace-sub-entry-source : (t : ℕ) → trace-lts.Need-sub-entry-source (
   note-reads.Asked,
@@ -101,7 +103,9 @@ trace-entry-source-requires : (t : ℕ) → trace-lts.Need-entry-source-requires
   trace-below t,
   trace.Post,
 ) (trace-at t) trace.Post
-trace-entry-source-requires t c κs = trace-entry (omega arith) (c .before .before .before .before .before .before .before .before .pre .1)
+trace-entry-source-requires t c κs =
+    let mid = c .before .before .before .before in
+    trace-entry (omega arith) (mid .before .before .before .before .pre .1)
 
 trace-sub-trace : (t : ℕ) → trace-lts.Need-sub-trace (
   note-reads.Asked,
@@ -122,8 +126,11 @@ trace-trace-requires : (t : ℕ) → trace-lts.Need-trace-requires (
   trace.Post,
 ) (trace-at t) trace.Post
 trace-trace-requires t c κs =
-    let k = c .before .before .before .before .before .before .before .before .before .before in
-    (omega arith, trace-rest (omega arith) (c .before .before .before .before .before .note .kept .0) (k .pre .1) (c .before .entry-source .ensures))
+    let after-entry-source = c .before in
+    let after-note = after-entry-source .before .before .before .before in
+    let mid = after-note .before .before .before .before in
+    let k = mid .before in
+    (omega arith, trace-rest (omega arith) (after-note .note .kept .0) (k .pre .1) (after-entry-source .entry-source .ensures))
 
 trace-same-length-2 : (t : ℕ) → trace-lts.Need-same-length-2 (
   note-reads.Asked,
@@ -134,7 +141,8 @@ trace-same-length-2 : (t : ℕ) → trace-lts.Need-same-length-2 (
   trace.Post,
 ) (trace-at t) trace.Post
 trace-same-length-2 t c =
-    c .before .before .trace .kept .1 .0 ∙ c .before .before .before .before .before .before .before .before .note .kept .0
+    let mid = c .before .before .before .before in
+    c .before .before .trace .kept .1 .0 ∙ mid .before .before .before .before .note .kept .0
 
 trace-returns-2 : (t : ℕ) → trace-lts.Need-returns-2 (
   note-reads.Asked,
@@ -145,12 +153,16 @@ trace-returns-2 : (t : ℕ) → trace-lts.Need-returns-2 (
   trace.Post,
 ) (trace-at t) trace.Post
 trace-returns-2 t c =
-    let k = c .before .before .before .before .before .before .before .before .before .before .before .before .before in
+    let after-entry-source = c .before .before .before .before in
+    let after-note = after-entry-source .before .before .before .before in
+    let mid = after-note .before .before .before .before in
+    let k = mid .before in
     let a = k .args in
     let g = k .pre .1 in
-    let n = c .before .before .before .before .entry-source in
-    trace-more (deckIn (a .row .now) (a .sizes)) (a .sizes .reordering) (a .store .now) (a .i) (a .d) (a .d - 1) (a .q) (a .a) (n .result / 64) (n .result % 64) (omega arith)
-    (c .before .before .before .before .before .before .before .before .note .ensures) (omega (arith, g .last, g .room)) (g .state) (g .pose) (n .ensures) (c .before .before .trace .ensures)
+    let n = after-entry-source .entry-source in
+    trace-more (deckIn (a .row .now) (a .sizes)) (a .sizes .reordering) (a .store .now) (a .i) (a .d) (a .d - 1) (a .q) (a .a)
+    (n .result / 64) (n .result % 64) (omega arith)
+    (after-note .note .ensures) (omega (arith, g .last, g .room)) (g .state) (g .pose) (n .ensures) (c .before .before .trace .ensures)
 
 pub +trace-spec : {M : Type 1} → statement M
 +trace-spec = close μ-trace λ t. trace-lts.spec (

@@ -13,7 +13,8 @@ use Rattle.search_back_segment.proofs.entry_source.Statement.{statement
 use Rattle.search_back_segment.proofs.entry_source.Tie as tie
 
 -- the cell is in the row; and its place, as read
-inside : (c : tie.After-last-at) → let a = c .before .before .before .args in (lastAt (a .sizes .reordering) (suc (a .i)) (a .q) < a .sizes .cells) × (c .last-at .result ≡ lastAt (a .sizes .reordering) (suc (a .i)) (a .q))
+inside : (c : tie.After-last-at) → let a = c .before .before .before .args in
+    (lastAt (a .sizes .reordering) (suc (a .i)) (a .q) < a .sizes .cells) × (c .last-at .result ≡ lastAt (a .sizes .reordering) (suc (a .i)) (a .q))
 inside c =
     let k = c .before .before .before in
     let a = k .args in
@@ -23,20 +24,24 @@ inside c =
 -- the cost read is the own cost read and what the entry was reached by
 abbrev Parts : tie.After-shared-slice-known4 → Type 0
 Parts c =
-    let a = c .before .before .before .before .before .before .args in
+    let after-last-at = c .before .before .before in
+    let a = after-last-at .before .before .before .args in
     (getD (a .store .now) (c .before .kept-at .result + a .q * 64 + a .a) 0 ≡ keptIn (a .store .now) (suc (a .i)) (a .q) (a .a))
     × (keptIn (a .store .now) (suc (a .i)) (a .q) (a .a)
-    ≡ getD (a .row .now) (c .before .before .before .last-at .result * cellWords + a .a) 0 + reached (deckIn (a .row .now) (a .sizes)) (a .sizes .reordering) (keptIn (a .store .now) (a .i)) (a .i) (a .q) (a .a))
+    ≡ getD (a .row .now) (after-last-at .last-at .result * cellWords + a .a) 0
+    + reached (deckIn (a .row .now) (a .sizes)) (a .sizes .reordering) (keptIn (a .store .now) (a .i)) (a .i) (a .q) (a .a))
 
 parts : (c : tie.After-shared-slice-known4) → Parts c
 parts c =
-    let k = c .before .before .before .before .before .before in
+    let mid = c .before .before .before in
+    let k = mid .before .before .before in
     let a = k .args in
     let D = deckIn (a .row .now) (a .sizes) in
     let w = entry-parts D (a .sizes .reordering) (a .store .now) (a .i) (a .q) (a .a) (k .pre .next) (k .pre .cost) in
-    let e = inside (c .before .before .before) .1 in (
+    let e = inside mid .1 in (
       ap (λ (j : ℕ). getD (a .store .now) j 0) (omega (arith, c .before .kept-at .ensures)),
-      w .1 ∙ ap (λ (p : ℕ). getD (a .row .now) (p * cellWords + a .a) 0 + reached D (a .sizes .reordering) (keptIn (a .store .now) (a .i)) (a .i) (a .q) (a .a)) (sym e),
+      w .1 ∙ ap (λ (p : ℕ). getD (a .row .now) (p * cellWords + a .a) 0
+          + reached D (a .sizes .reordering) (keptIn (a .store .now) (a .i)) (a .i) (a .q) (a .a)) (sym e),
     )
 
 add-last-at : tie.Need-add-last-at
@@ -92,16 +97,18 @@ sub-find-source c =
 
 find-source-requires : tie.Need-find-source-requires
 find-source-requires c κs =
-    let k = c .before .before .before .before .before .before in
+    let mid = c .before .before .before in
+    let k = mid .before .before .before in
     let p = parts c in
-    (k .pre .back, k .pre .last, k .pre .state, inside (c .before .before .before) .0, k .pre .pose, omega (arith, k .pre .cost), omega arith)
+    (k .pre .back, k .pre .last, k .pre .state, inside mid .0, k .pre .pose, omega (arith, k .pre .cost), omega arith)
 
 returns : tie.Need-returns
 returns c =
-    let k = c .before .before .before .before .before .before .before in
+    let mid = c .before .before .before .before in
+    let k = mid .before .before .before in
     let a = k .args in
     let p = parts (c .before) in
-    let o = ap (λ (p : ℕ). getD (a .row .now) (p * cellWords + a .a) 0) (inside (c .before .before .before .before) .1) in
+    let o = ap (λ (p : ℕ). getD (a .row .now) (p * cellWords + a .a) 0) (inside mid .1) in
     entry-source (deckIn (a .row .now) (a .sizes)) (a .sizes .reordering) (a .store .now) (a .i) (a .q) (a .a) (c .find-source .ensures) (omega arith)
 
 pub entry-source-spec : {M : Type 1} → statement M

@@ -25,11 +25,13 @@ loop-holds c =
 
 last-word-requires : tie.Need-last-word-requires Inv-loop μ-loop
 last-word-requires c κs =
-    (c .before .before .before .before .before .pre, omega arith)
+    let mid = c .before .before .before .before in
+    (mid .before .pre, omega arith)
 
 add-c : tie.Need-add-c Inv-loop μ-loop
 add-c c =
-    let g = c .before .before .before .before .before .before .before .pre .ground in
+    let mid = c .before .before .before .before in
+    let g = mid .before .before .before .pre .ground in
     omega (arith, g .all, g .coded .few)
 
 loop-less : tie.Need-loop-less Inv-loop μ-loop
@@ -38,8 +40,9 @@ loop-less c =
 
 loop-again : tie.Need-loop-again Inv-loop μ-loop
 loop-again c =
-    let a = c .before .before .before .before .before .before .before .args in
-    let l = c .before .before .before .before .loop in
+    let at-loop = c .before .before .before .before in
+    let a = at-loop .before .before .before .args in
+    let l = at-loop .loop in
     let h : ℕ → ℕ = lastCode (deckIn (a .row .now) (a .sizes)) (a .sizes .reordering) (keptIn (a .store .now) (a .sizes .cells)) in
     let e = c .before .last-word .ensures in (
       omega arith,
@@ -51,10 +54,11 @@ loop-again c =
 
 returns : tie.Need-returns Inv-loop μ-loop
 returns c =
-    let a = c .before .before .before .before .before .args in
+    let at-loop = c .before .before in
+    let a = at-loop .before .before .before .args in
     let h : ℕ → ℕ = lastCode (deckIn (a .row .now) (a .sizes)) (a .sizes .reordering) (keptIn (a .store .now) (a .sizes .cells)) in
-    let e : c .before .before .loop .c ≡ a .sizes .states * 64 = omega arith in
-    subst (λ (k : ℕ). LeastOf h k (c .before .before .loop .best) (c .before .before .loop .code)) e (c .before .before .loop .inv .1)
+    let e : at-loop .loop .c ≡ a .sizes .states * 64 = omega arith in
+    subst (λ (k : ℕ). LeastOf h k (at-loop .loop .best) (at-loop .loop .code)) e (at-loop .loop .inv .1)
 
 mul-if1 : tie.Need-mul-if1 Inv-loop μ-loop
 mul-if1 c = search needs

@@ -34,9 +34,10 @@ toll-requires c κs = search needs
 
 add-if1-2 : tie.Need-add-if1-2 Inv-loop μ-loop
 add-if1-2 c =
-    let k = c .before .before .before .before .before .before in
+    let at-loop = c .before .before .before in
+    let k = at-loop .before .before .before in
     let a = k .args in
-    let b = c .before .before .before .loop .b in
+    let b = at-loop .loop .b in
     omega (arith, k .pre .1 .word (a .at + b), c .toll .ensures, toll-low (a .k) b (a .m) (a .a) (k .pre .0))
 
 returns : tie.Need-returns Inv-loop μ-loop

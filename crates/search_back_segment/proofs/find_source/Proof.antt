@@ -24,31 +24,36 @@ loop-holds c =
 
 state-pose-requires : tie.Need-state-pose-requires Inv-loop μ-loop
 state-pose-requires c κs =
-    let p = c .before .before .before .before .before .pre in
+    let mid = c .before .before .before .before in
+    let p = mid .before .pre in
     (p .0, p .1, p .2, p .3, p .4, omega (arith, p .0 .ground .all), p .5)
 
 mul-result : tie.Need-mul-result Inv-loop μ-loop
 mul-result c =
-    let p = c .before .before .before .before .before .before .before .before .pre in
+    let mid = c .before .before .before .before in
+    let p = mid .before .before .before .before .pre in
     omega (arith, p .0 .ground .all, p .0 .ground .coded .few)
 
 add-result : tie.Need-add-result Inv-loop μ-loop
 add-result c =
-    let p = c .before .before .before .before .before .before .before .before .pre in
+    let mid = c .before .before .before .before in
+    let p = mid .before .before .before .before .pre in
     omega (arith, p .0 .ground .all, p .0 .ground .coded .few, p .0 .ground .few)
 
 returns : tie.Need-returns Inv-loop μ-loop
 returns c =
-    let k = c .before .before .before .before .before .before .before .before in
+    let after-state-pose = c .before .before in
+    let at-loop = after-state-pose .before .before .before in
+    let k = at-loop .before .before .before in
     let a = k .args in
-    let p = c .before .before .before .before .before .loop .p in
-    let b = c .before .before .state-pose .result in
+    let p = at-loop .loop .p in
+    let b = after-state-pose .state-pose .result in
     let l = k .pre .0 .ground .few in
     let x : (p * 64 + b) / 64 ≡ p = omega arith in
     let y : (p * 64 + b) % 64 ≡ b = omega arith in
     rw (x, y)
     (state-fits (deckIn (a .row .now) (a .sizes)) (a .sizes .reordering) (keptIn (a .store .now) (a .i)) (a .i) (a .q) (a .a) (a .want) p b
-    (omega (arith, k .pre .0 .ground .all)) (omega arith) (k .pre .5) (c .before .before .state-pose .ensures .hit (omega arith)))
+    (omega (arith, k .pre .0 .ground .all)) (omega arith) (k .pre .5) (after-state-pose .state-pose .ensures .hit (omega arith)))
 
 add-p : tie.Need-add-p Inv-loop μ-loop
 add-p c = search needs
@@ -58,16 +63,18 @@ loop-less c = search needs
 
 loop-again : tie.Need-loop-again Inv-loop μ-loop
 loop-again c =
-    let l = c .before .before .before .before .before .loop in
-    (omega arith, below-more _ _ (l .inv .1) (λ b h. c .before .before .state-pose .ensures .miss b (omega arith)))
+    let after-state-pose = c .before .before in
+    let l = after-state-pose .before .before .before .loop in
+    (omega arith, below-more _ _ (l .inv .1) (λ b h. after-state-pose .state-pose .ensures .miss b (omega arith)))
 
 returns-2 : tie.Need-returns-2 Inv-loop μ-loop
 returns-2 c =
-    let k = c .before .before .before .before .before in
+    let at-loop = c .before .before in
+    let k = at-loop .before .before .before in
     let a = k .args in
     absurd
     (reached-missed (deckIn (a .row .now) (a .sizes)) (a .sizes .reordering) (keptIn (a .store .now) (a .i)) (a .i) (a .q) (a .a) (a .want) (k .pre .5)
-    (λ j h. c .before .before .loop .inv .1 j (omega (arith, k .pre .0 .ground .all))) (k .pre .6))
+    (λ j h. at-loop .loop .inv .1 j (omega (arith, k .pre .0 .ground .all))) (k .pre .6))
 
 pub find-source-spec : {M : Type 1} → statement M
 find-source-spec =

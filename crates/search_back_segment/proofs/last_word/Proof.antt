@@ -16,16 +16,24 @@ use Rattle.search_back_segment.proofs.last_word.Tie as tie
 
 -- past the second test the position is in the row
 abbrev There : tie.Else2 → Type 0
-There c = let a = c .before .before .before .before .before .before .args in thereIn (a .sizes .cells) (a .sizes .reordering) (a .sizes .cells) (a .c / 64) ≡ true
+There c =
+    let mid = c .before .before .before .before in
+    let a = mid .before .before .args in thereIn (a .sizes .cells) (a .sizes .reordering) (a .sizes .cells) (a .c / 64) ≡ true
 
 there : (c : tie.Else2) → There c
 there c = sym (c .before .is-there .ensures) ∙ not-false _ (c .if2 .left)
 
 inside : (c : tie.After-last-at) → c .last-at .result < 64
 inside c =
-    let k = c .before .before .before .before .before .before .before in
+    let mid = c .before .before .before .before in
+    let k = mid .before .before .before in
     let a = k .args in
-    omega (arith, c .last-at .ensures, there-size (a .sizes .cells) (a .sizes .reordering) (a .sizes .cells) (a .c / 64) (there (c .before)), k .pre .0 .ground .size)
+    omega (
+      arith,
+      c .last-at .ensures,
+      there-size (a .sizes .cells) (a .sizes .reordering) (a .sizes .cells) (a .c / 64) (there (c .before)),
+      k .pre .0 .ground .size,
+    )
 
 returns : tie.Need-returns
 returns c =
@@ -37,7 +45,8 @@ is-there-requires c κs = search needs
 
 returns-2 : tie.Need-returns-2
 returns-2 c =
-    let a = c .before .before .before .before .before .before .args in
+    let mid = c .before .before .before .before in
+    let a = mid .before .before .args in
     sym
     (last-out (deckIn (a .row .now) (a .sizes)) (a .sizes .reordering) (keptIn (a .store .now) (a .sizes .cells)) (a .c / 64) (a .c % 64)
     (sym (c .before .is-there .ensures) ∙ not-true _ (c .if2 .taken)))
@@ -55,12 +64,16 @@ mul-if3-2 : tie.Need-mul-if3-2
 mul-if3-2 c = omega (arith, inside c)
 
 shared-slice-read-if3 : tie.Need-shared-slice-read-if3
-shared-slice-read-if3 c = omega (arith, inside (c .before), c .before .before .before .before .before .before .before .before .pre .0 .ground .words .long)
+shared-slice-read-if3 c =
+    let mid = c .before .before .before .before in
+    omega (arith, inside (c .before), mid .before .before .before .before .pre .0 .ground .words .long)
 
 returns-3 : tie.Need-returns-3
 returns-3 c =
-    let a = c .before .before .before .before .before .before .before .before .before .args in
-    let e = ap (λ (p : ℕ). eqb (wordOf (a .row .now) p tallWord) 1) (c .before .before .last-at .ensures) in
+    let after-last-at = c .before .before in
+    let mid = after-last-at .before .before .before .before in
+    let a = mid .before .before .before .args in
+    let e = ap (λ (p : ℕ). eqb (wordOf (a .row .now) p tallWord) 1) (after-last-at .last-at .ensures) in
     sym
     (last-tall (deckIn (a .row .now) (a .sizes)) (a .sizes .reordering) (keptIn (a .store .now) (a .sizes .cells)) (a .c / 64) (a .c % 64)
     (sym e ∙ eq-eqb _ _ (c .if3 .taken)))
@@ -79,24 +92,37 @@ shared-slice-read-result c = search needs
 
 back-requires : tie.Need-back-requires
 back-requires c κs =
-    let k = c .before .before .before .before .before .before .before .before .before .before .before in
-    (k .pre .0 .ground .words, inside (c .before .before .before .before), omega (arith, k .pre .0 .ground .few))
+    let mid = c .before .before .before .before in
+    let mid₂ = mid .before .before .before .before in
+    let k = mid₂ .before .before .before in
+    (k .pre .0 .ground .words, inside mid, omega (arith, k .pre .0 .ground .few))
 
 add-result-2 : tie.Need-add-result-2
 add-result-2 c =
-    let k = c .before .before .before .before .before .before .before .before .before .before .before .before in
+    let after-kept-at = c .before .before in
+    let after-last-at = after-kept-at .before .before .before in
+    let mid = after-last-at .before .before .before .before in
+    let k = mid .before .before .before in
     let a = k .args in
-    omega (arith, k .pre .0 .low .word (c .before .before .kept-at .result + a .c), c .back .ensures, back-low (a .row .now) (c .before .before .before .before .before .last-at .result) (a .c % 64))
+    omega (
+      arith,
+      k .pre .0 .low .word (after-kept-at .kept-at .result + a .c),
+      c .back .ensures,
+      back-low (a .row .now) (after-last-at .last-at .result) (a .c % 64),
+    )
 
 returns-4 : tie.Need-returns-4
 returns-4 c =
-    let a = c .before .before .before .before .before .before .before .before .before .before .before .before .args in
-    let e = ap (λ (p : ℕ). eqb (wordOf (a .row .now) p tallWord) 1) (c .before .before .before .before .before .last-at .ensures) in
+    let after-if3 = c .before .before .before in
+    let mid = after-if3 .before .before .before in
+    let mid₂ = mid .before .before .before .before in
+    let a = mid₂ .before .before .args in
+    let e = ap (λ (p : ℕ). eqb (wordOf (a .row .now) p tallWord) 1) (after-if3 .before .before .last-at .ensures) in
     ap₂ (λ (x y : ℕ). x + y) (ap (λ (k : ℕ). getD (a .store .now) k 0) (omega (arith, c .before .before .kept-at .ensures)))
-    (c .back .ensures ∙ ap (λ (k : ℕ). backIn (a .row .now) k (a .c % 64)) (c .before .before .before .before .before .last-at .ensures))
+    (c .back .ensures ∙ ap (λ (k : ℕ). backIn (a .row .now) k (a .c % 64)) (after-if3 .before .before .last-at .ensures))
     ∙ sym
     (last-in (deckIn (a .row .now) (a .sizes)) (a .sizes .reordering) (keptIn (a .store .now) (a .sizes .cells)) (a .c / 64) (a .c % 64)
-    (omega arith) (there (c .before .before .before .before .before .before)) (sym e ∙ ne-eqb _ _ (c .before .before .before .if3 .left)))
+    (omega arith) (there mid) (sym e ∙ ne-eqb _ _ (after-if3 .if3 .left)))
 
 pub last-word-spec : {M : Type 1} → statement M
 last-word-spec =

@@ -50,10 +50,11 @@ add-find-pose c = search needs
 
 find-pose-requires : tie.Need-find-pose-requires
 find-pose-requires c κs =
-    let k = c .before .before .before .before .before .before .before in
+    let mid = c .before .before .before in
+    let k = mid .before .before .before .before in
     let a = k .args in
     let g = k .pre .0 .ground in
-    let i = source-size (a .row .now) (a .sizes .cells) (a .sizes .poses) (a .sizes .reordering) (a .i) (a .q) (a .p) (source (c .before .before .before)) in (
+    let i = source-size (a .row .now) (a .sizes .cells) (a .sizes .poses) (a .sizes .reordering) (a .i) (a .q) (a .p) (source mid) in (
       g .words,
       k .pre .0 .low,
       omega (arith, c .kept-at .ensures, k .pre .0 .long, g .coded .few, g .few),
@@ -65,11 +66,12 @@ find-pose-requires c κs =
 
 returns-2 : tie.Need-returns-2
 returns-2 c =
-    let k = c .before .before .before .before .before .before .before .before in
+    let mid = c .before .before .before .before in
+    let k = mid .before .before .before .before in
     let a = k .args in
     let m : c .before .before .last-at2 .result ≡ lastAt (a .sizes .reordering) (suc (a .i)) (a .q) = omega (arith, c .before .before .last-at2 .ensures) in
     poses-first (a .store .now) (a .row .now) (a .sizes .cells) (a .sizes .poses) (a .sizes .reordering) (a .i) (a .q) (a .a) (a .p) (a .want)
-    (source (c .before .before .before .before)) (omega (arith, c .before .kept-at .ensures)) (c .before .before .before .last-at .ensures) m (c .find-pose .ensures)
+    (source mid) (omega (arith, c .before .kept-at .ensures)) (c .before .before .before .last-at .ensures) m (c .find-pose .ensures)
 
 pub state-pose-spec : {M : Type 1} → statement M
 state-pose-spec =

@@ -39,7 +39,12 @@ returns-2 : tie.Need-returns-2
 unfolding posIn
 returns-2 c =
     let a = c .before .before .before .before .args in
-    omega (arith, c .placed-with .ensures, c .before .tall-at .ensures, start-count (a .sizes .reordering) (posIn (a .row .now)) (a .stage) (a .stage - 1) (a .s) (omega arith))
+    omega (
+      arith,
+      c .placed-with .ensures,
+      c .before .tall-at .ensures,
+      start-count (a .sizes .reordering) (posIn (a .row .now)) (a .stage) (a .stage - 1) (a .s) (omega arith),
+    )
 
 pub cells-of-spec : {M : Type 1} → statement M
 cells-of-spec = tie.close (tie.spec returns sub-tall-at tall-at-requires placed-with-requires add-result returns-2)

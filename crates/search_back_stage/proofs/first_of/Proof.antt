@@ -14,27 +14,37 @@ Room c = c .placed-with .result + 1 ≤ 66
 room : (c : tie.After-placed-with) → Room c
 unfolding posIn
 room c =
-    let k = c .before .before .before .before .before in
+    let after-tall-at = c .before in
+    let k = after-tall-at .before .before .before .before in
     let a = k .args in
-    omega (arith, c .placed-with .ensures, c .before .tall-at .ensures, k .pre .1, start-count (a .sizes .reordering) (posIn (a .row .now)) (a .stage) (a .stage - 1) (a .s) (omega arith))
+    omega (
+      arith,
+      c .placed-with .ensures,
+      after-tall-at .tall-at .ensures,
+      k .pre .1,
+      start-count (a .sizes .reordering) (posIn (a .row .now)) (a .stage) (a .stage - 1) (a .s) (omega arith),
+    )
 
 kept-at-requires : tie.Need-kept-at-requires
 kept-at-requires c κs = search needs
 
 open-requires : tie.Need-open-requires
 open-requires c κs =
-    let g = c .before .before .before .before .before .pre .0 in
-    (g .given .ground, g .low, omega (arith, c .before .kept-at .ensures, g .long))
+    let after-kept-at = c .before in
+    let g = after-kept-at .before .before .before .before .pre .0 in
+    (g .given .ground, g .low, omega (arith, after-kept-at .kept-at .ensures, g .long))
 
 same-length : tie.Need-same-length
 same-length c = search needs
 
 returns : tie.Need-returns
 returns c =
-    let k = c .before .before .before .before .before .before .before .before in
+    let after-kept-at = c .before .before .before .before in
+    let k = after-kept-at .before .before .before .before in
     let a = k .args in
-    started-open (deckIn (a .row .now) (a .sizes)) (a .sizes .reordering) (posIn (a .row .now)) (c .before .before .before .before .before .if1 .taken) (k .pre .0 .given .ground .all)
-    (c .before .before .before .before .kept-at .ensures) (c .before .before .open .ensures)
+    started-open (deckIn (a .row .now) (a .sizes)) (a .sizes .reordering) (posIn (a .row .now)) (after-kept-at .before .if1 .taken)
+    (k .pre .0 .given .ground .all)
+    (after-kept-at .kept-at .ensures) (c .before .before .open .ensures)
 
 sub-tall-at : tie.Need-sub-tall-at
 sub-tall-at c = search needs
@@ -48,8 +58,11 @@ placed-with-requires : tie.Need-placed-with-requires
 unfolding posIn
 placed-with-requires c κs =
     let k = c .before .before .before .before in
-    let g = k .pre .0 in
-    (g .given .ground .coded, g .state (omega arith), omega (arith, c .tall-at .ensures, g .given .inside (k .args .stage - 1) (omega (arith, g .stage)), g .given .ground .size))
+    let g = k .pre .0 in (
+      g .given .ground .coded,
+      g .state (omega arith),
+      omega (arith, c .tall-at .ensures, g .given .inside (k .args .stage - 1) (omega (arith, g .stage)), g .given .ground .size),
+    )
 
 add-kept-at : tie.Need-add-kept-at
 add-kept-at c = let r = room c in search needs
@@ -60,7 +73,8 @@ kept-at-requires-2 c κs = room c
 after-requires : tie.Need-after-requires
 unfolding posIn
 after-requires c κs =
-    let k = c .before .before .before .before .before .before .before in
+    let after-tall-at = c .before .before .before in
+    let k = after-tall-at .before .before .before .before in
     let g = k .pre .0 in
     let p = g .given .inside (k .args .stage - 1) (omega (arith, g .stage)) in
     let r = room (c .before .before) in (
@@ -69,12 +83,14 @@ after-requires c κs =
       omega (arith, c .before .kept-at2 .ensures, g .long),
       omega arith,
       omega (arith, g .state (omega arith), g .given .ground .all),
-      omega (arith, c .before .before .before .tall-at .ensures, g .given .ground .size),
+      omega (arith, after-tall-at .tall-at .ensures, g .given .ground .size),
       omega (arith, g .pose (omega arith), g .given .ground .few),
     )
 
 add-result : tie.Need-add-result
-add-result c = let r = room (c .before .before .before .before .before) in search needs
+add-result c =
+    let mid = c .before .before .before .before in
+    let r = room (mid .before) in search needs
 
 same-length-2 : tie.Need-same-length-2
 same-length-2 c = search needs
@@ -82,11 +98,13 @@ same-length-2 c = search needs
 returns-2 : tie.Need-returns-2
 unfolding posIn
 returns-2 c =
-    let k = c .before .before .before .before .before .before .before .before .before .before in
+    let after-kept-at2 = c .before .before .before .before in
+    let after-tall-at = after-kept-at2 .before .before in
+    let k = after-tall-at .before .before .before .before in
     let a = k .args in
     started-after (deckIn (a .row .now) (a .sizes)) (a .sizes .reordering) (posIn (a .row .now)) (a .stage - 1) (omega arith)
-    (c .before .before .before .before .before .before .tall-at .ensures) (c .before .before .before .before .before .placed-with .ensures) (k .pre .0 .given .ground .all)
-    (c .before .before .before .before .kept-at2 .ensures) (room (c .before .before .before .before .before)) (c .before .before .after .ensures)
+    (after-tall-at .tall-at .ensures) (after-kept-at2 .before .placed-with .ensures) (k .pre .0 .given .ground .all)
+    (after-kept-at2 .kept-at2 .ensures) (room (after-kept-at2 .before)) (c .before .before .after .ensures)
 
 pub first-of-spec : {M : Type 1} → statement M
 first-of-spec =

@@ -35,14 +35,16 @@ differ-requires c κs = search needs
 
 mul-result-3 : tie.Need-mul-result-3
 mul-result-3 c =
-    let k = c .before .before .before .before .before in
+    let mid = c .before .before .before .before in
+    let k = mid .before in
     let a = k .args in
     let d : c .differ .result ≤ 2 = omega (arith, c .differ .ensures, differ-low (a .row .now) (a .k) (a .u) (a .m) (a .v - 1)) in
     omega (arith, pay-low (k .pre .0 .weight (a .m)) d)
 
 returns-2 : tie.Need-returns-2
 returns-2 c =
-    let a = c .before .before .before .before .before .args in
+    let mid = c .before .before .before .before in
+    let a = mid .before .args in
     ap (λ (d : ℕ). wordOf (a .row .now) (a .m) touchingWord * d) (c .differ .ensures)
     ∙ sym (pay-touching (a .row .now) (a .k) (a .u) (a .m) (a .v) (omega arith) (omega arith))
 
@@ -63,14 +65,16 @@ differ-requires-2 c κs = search needs
 
 mul-result-6 : tie.Need-mul-result-6
 mul-result-6 c =
-    let k = c .before .before .before .before .before in
+    let mid = c .before .before .before .before in
+    let k = mid .before in
     let a = k .args in
     let d : c .differ2 .result ≤ 2 = omega (arith, c .differ2 .ensures, differ-low (a .row .now) (a .k) (a .u) (a .m) (a .v - 5)) in
     omega (arith, pay-low (k .pre .0 .filled (a .m)) d)
 
 returns-3 : tie.Need-returns-3
 returns-3 c =
-    let a = c .before .before .before .before .before .args in
+    let mid = c .before .before .before .before in
+    let a = mid .before .args in
     ap (λ (d : ℕ). wordOf (a .row .now) (a .m) apartWord * d) (c .differ2 .ensures)
     ∙ sym (pay-apart (a .row .now) (a .k) (a .u) (a .m) (a .v) (omega arith))
 

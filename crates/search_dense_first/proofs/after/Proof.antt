@@ -11,7 +11,8 @@ use Rattle.search_dense_first.proofs.after.Tie as tie
 
 abbrev Inv-loop : tie.InvT-loop
 Inv-loop store₀ row sizes i s p l to m q₀ store q =
-    (q ≤ (sizes .states)) × (m ≡ marks (sizes .reordering) s) × Begun (firstAfter (deckIn row sizes) (sizes .reordering) i m p l) (sizes .poses) q to store₀ store
+    (q ≤ (sizes .states)) × (m ≡ marks (sizes .reordering) s)
+    × Begun (firstAfter (deckIn row sizes) (sizes .reordering) i m p l) (sizes .poses) q to store₀ store
 
 abbrev μ-loop : tie.MeasureT-loop
 μ-loop store₀ row sizes i s p l to m q₀ store q =
@@ -40,14 +41,16 @@ mul-after-state c = search needs
 
 add-after-state : tie.Need-add-after-state Inv-loop μ-loop
 add-after-state c =
-    let g = c .before .before .before .before .before .before .before .pre .0 in
+    let mid = c .before .before .before .before in
+    let g = mid .before .before .before .pre .0 in
     omega (arith, g .all, g .coded .few)
 
 after-state-requires : tie.Need-after-state-requires Inv-loop μ-loop
 after-state-requires c κs =
-    let k = c .before .before .before .before .before .before .before in
+    let at-loop = c .before .before .before in
+    let k = at-loop .before .before .before .before in
     let g = k .pre .0 in
-    let s = c .before .before .before .loop .inv .2 in
+    let s = at-loop .loop .inv .2 in
     (g, s .low, k .pre .3, k .pre .5, k .pre .6, omega (arith, g .all, g .coded .few, g .few, s .frame .long), omega arith)
 
 add-q : tie.Need-add-q Inv-loop μ-loop
@@ -58,17 +61,23 @@ loop-less c = search needs
 
 loop-again : tie.Need-loop-again Inv-loop μ-loop
 loop-again c =
-    let g = c .before .before .before .before .before .before .before .before .before .before .pre .0 in
-    let l = c .before .before .before .before .before .before .loop in
-    (omega arith, l .inv .1, begun-more (l .q) (omega (arith, g .few)) (omega (arith, g .all, g .coded .few)) (l .inv .2) (c .before .before .after-state .ensures))
+    let after-after-state = c .before .before in
+    let at-loop = after-after-state .before .before .before .before in
+    let g = at-loop .before .before .before .before .pre .0 in
+    let l = at-loop .loop in (
+      omega arith,
+      l .inv .1,
+      begun-more (l .q) (omega (arith, g .few)) (omega (arith, g .all, g .coded .few)) (l .inv .2) (after-after-state .after-state .ensures),
+    )
 
 same-length : tie.Need-same-length Inv-loop μ-loop
 same-length c = c .before .before .loop .inv .2 .frame .long
 
 returns : tie.Need-returns Inv-loop μ-loop
 returns c =
-    let l = c .before .before .loop in
-    let e : l .q ≡ c .before .before .before .before .before .before .args .sizes .states = omega arith in
+    let at-loop = c .before .before in
+    let l = at-loop .loop in
+    let e : l .q ≡ at-loop .before .before .before .before .args .sizes .states = omega arith in
     rw (e, l .inv .1) at (l .inv .2)
 
 add-m-2 : tie.Need-add-m-2 Inv-loop μ-loop
@@ -77,4 +86,5 @@ add-m-2 c = search needs
 pub after-spec : {M : Type 1} → statement M
 after-spec =
     tie.close
-    (tie.spec Inv-loop μ-loop mul-m add-m add-m-2 mul-m-2 shared-slice-read-m loop-holds mul-after-state add-after-state after-state-requires add-q loop-less loop-again same-length returns)
+    (tie.spec Inv-loop μ-loop mul-m add-m add-m-2 mul-m-2 shared-slice-read-m loop-holds mul-after-state add-after-state after-state-requires add-q loop-less
+    loop-again same-length returns)

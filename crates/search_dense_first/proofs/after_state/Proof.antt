@@ -21,9 +21,11 @@ Starts c = let a = c .before .before .before .before .args in startsAt (a .sizes
 can : (c : tie.Else1) → Starts c
 can c =
     let a = c .before .before .before .before .args in
-    ap (λ (j : ℕ). startsAt (a .sizes .cells) (a .sizes .reordering) j (a .m) (a .q)) (sym (add-one (a .i))) ∙ sym (c .before .starts .ensures) ∙ not-false _ (c .if1 .left)
+    ap (λ (j : ℕ). startsAt (a .sizes .cells) (a .sizes .reordering) j (a .m) (a .q)) (sym (add-one (a .i))) ∙ sym (c .before .starts .ensures)
+    ∙ not-false _ (c .if1 .left)
 
-here : (c : tie.After-last-at) → (let a = c .before .before .before .before .before .args in c .last-at .result ≡ lastAt (a .sizes .reordering) (suc (a .i)) (a .q))
+here : (c : tie.After-last-at)
+    → (let mid = c .before .before .before .before in let a = mid .before .args in c .last-at .result ≡ lastAt (a .sizes .reordering) (suc (a .i)) (a .q))
 here c = omega (arith, c .last-at .ensures)
 
 add-starts : tie.Need-add-starts
@@ -40,8 +42,9 @@ same-length c = search needs
 
 returns : tie.Need-returns
 returns c =
-    let a = c .before .before .before .before .before .before .before .before .args in
-    let t = sym (c .before .before .before .before .before .starts .ensures) ∙ not-true _ (c .before .before .before .before .if1 .taken) in
+    let after-if1 = c .before .before .before .before in
+    let a = after-if1 .before .before .before .before .args in
+    let t = sym (after-if1 .before .starts .ensures) ∙ not-true _ (after-if1 .if1 .taken) in
     let u = ap (λ (j : ℕ). startsAt (a .sizes .cells) (a .sizes .reordering) j (a .m) (a .q)) (sym (add-one (a .i))) ∙ t in
     written-ext (c .before .before .fill .ensures)
     (λ b h. after-away (deckIn (a .row .now) (a .sizes)) (a .sizes .reordering) (a .i) (a .m) (a .p) (a .l) (a .q) b u)
@@ -54,7 +57,8 @@ last-at-requires c κs = search needs
 
 after-poses-requires : tie.Need-after-poses-requires
 after-poses-requires c κs =
-    let k = c .before .before .before .before .before .before in
+    let mid = c .before .before in
+    let k = mid .before .before .before .before in
     let a = k .args in
     let g = k .pre .0 in (
       g .words,
@@ -62,7 +66,7 @@ after-poses-requires c κs =
       k .pre .3,
       k .pre .4,
       k .pre .5,
-      omega (arith, here (c .before), starts-size (a .sizes .cells) (a .sizes .reordering) (suc (a .i)) (a .m) (a .q) (can (c .before .before)), g .size),
+      omega (arith, here (c .before), starts-size (a .sizes .cells) (a .sizes .reordering) (suc (a .i)) (a .m) (a .q) (can mid), g .size),
       g .few,
     )
 
@@ -71,11 +75,13 @@ same-length-2 c = search needs
 
 returns-2 : tie.Need-returns-2
 returns-2 c =
-    let a = c .before .before .before .before .before .before .before .before .before .args in
-    let e = here (c .before .before .before .before) in
+    let mid = c .before .before .before .before in
+    let mid₂ = mid .before in
+    let a = mid₂ .before .before .before .before .args in
+    let e = here mid in
     written-ext (c .before .before .after-poses .ensures)
     (λ b h.
-    after-there (deckIn (a .row .now) (a .sizes)) (a .sizes .reordering) (a .i) (a .m) (a .p) (a .l) (a .q) b (can (c .before .before .before .before .before))
+    after-there (deckIn (a .row .now) (a .sizes)) (a .sizes .reordering) (a .i) (a .m) (a .p) (a .l) (a .q) b (can mid₂)
     ∙ ap (λ (j : ℕ). afterPose (a .row .now) (a .p) (a .l) j b) (sym e))
 
 pub after-state-spec : {M : Type 1} → statement M

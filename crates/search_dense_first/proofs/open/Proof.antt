@@ -25,14 +25,16 @@ mul-open-state c = search needs
 
 add-open-state : tie.Need-add-open-state Inv-loop μ-loop
 add-open-state c =
-    let g = c .before .before .before .before .before .before .pre .0 in
+    let mid = c .before .before .before .before in
+    let g = mid .before .before .pre .0 in
     omega (arith, g .all, g .coded .few)
 
 open-state-requires : tie.Need-open-state-requires Inv-loop μ-loop
 open-state-requires c κs =
-    let k = c .before .before .before .before .before .before in
+    let at-loop = c .before .before .before in
+    let k = at-loop .before .before .before in
     let g = k .pre .0 in
-    let s = c .before .before .before .loop .inv .1 in
+    let s = at-loop .loop .inv .1 in
     (g, s .low, omega (arith, g .all, g .coded .few, g .few, s .frame .long), omega arith)
 
 add-q : tie.Need-add-q Inv-loop μ-loop
@@ -43,17 +45,20 @@ loop-less c = search needs
 
 loop-again : tie.Need-loop-again Inv-loop μ-loop
 loop-again c =
-    let g = c .before .before .before .before .before .before .before .before .before .pre .0 in
-    let l = c .before .before .before .before .before .before .loop in
-    (omega arith, begun-more (l .q) (omega (arith, g .few)) (omega (arith, g .all, g .coded .few)) (l .inv .1) (c .before .before .open-state .ensures))
+    let after-open-state = c .before .before in
+    let at-loop = after-open-state .before .before .before .before in
+    let g = at-loop .before .before .before .pre .0 in
+    let l = at-loop .loop in
+    (omega arith, begun-more (l .q) (omega (arith, g .few)) (omega (arith, g .all, g .coded .few)) (l .inv .1) (after-open-state .open-state .ensures))
 
 same-length : tie.Need-same-length Inv-loop μ-loop
 same-length c = c .before .before .loop .inv .1 .frame .long
 
 returns : tie.Need-returns Inv-loop μ-loop
 returns c =
-    let e : c .before .before .loop .q ≡ c .before .before .before .before .before .args .sizes .states = omega arith in
-    rw e at (c .before .before .loop .inv .1)
+    let at-loop = c .before .before in
+    let e : at-loop .loop .q ≡ at-loop .before .before .before .args .sizes .states = omega arith in
+    rw e at (at-loop .loop .inv .1)
 
 pub open-spec : {M : Type 1} → statement M
 open-spec =

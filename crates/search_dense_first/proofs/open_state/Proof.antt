@@ -15,12 +15,16 @@ use Rattle.search_dense_first.proofs.open_state.Tie as tie
 
 -- past the test the state can come first
 abbrev Starts : tie.Else1 → Type 0
-Starts c = let a = c .before .before .before .before .before .args in startsAt (a .sizes .cells) (a .sizes .reordering) 1 (start (a .sizes .reordering)) (a .q) ≡ true
+Starts c =
+    let mid = c .before .before .before .before in
+    let a = mid .before .args in startsAt (a .sizes .cells) (a .sizes .reordering) 1 (start (a .sizes .reordering)) (a .q) ≡ true
 
 can : (c : tie.Else1) → Starts c
 can c =
-    let a = c .before .before .before .before .before .args in
-    ap (λ (m : ℕ). startsAt (a .sizes .cells) (a .sizes .reordering) 1 m (a .q)) (sym (c .before .before .start-marks .ensures)) ∙ sym (c .before .starts .ensures) ∙ not-false _ (c .if1 .left)
+    let after-start-marks = c .before .before in
+    let a = after-start-marks .before .before .before .args in
+    ap (λ (m : ℕ). startsAt (a .sizes .cells) (a .sizes .reordering) 1 m (a .q)) (sym (after-start-marks .start-marks .ensures))
+    ∙ sym (c .before .starts .ensures) ∙ not-false _ (c .if1 .left)
 
 start-marks-requires : tie.Need-start-marks-requires
 start-marks-requires c κs = search needs
@@ -36,9 +40,11 @@ same-length c = search needs
 
 returns : tie.Need-returns
 returns c =
-    let a = c .before .before .before .before .before .before .before .before .before .args in
-    let t = sym (c .before .before .before .before .before .starts .ensures) ∙ not-true _ (c .before .before .before .before .if1 .taken) in
-    let u = ap (λ (m : ℕ). startsAt (a .sizes .cells) (a .sizes .reordering) 1 m (a .q)) (sym (c .before .before .before .before .before .before .start-marks .ensures)) ∙ t in
+    let after-if1 = c .before .before .before .before in
+    let after-start-marks = after-if1 .before .before in
+    let a = after-start-marks .before .before .before .args in
+    let t = sym (after-if1 .before .starts .ensures) ∙ not-true _ (after-if1 .if1 .taken) in
+    let u = ap (λ (m : ℕ). startsAt (a .sizes .cells) (a .sizes .reordering) 1 m (a .q)) (sym (after-start-marks .start-marks .ensures)) ∙ t in
     written-ext (c .before .before .fill .ensures) (λ b h. open-away (deckIn (a .row .now) (a .sizes)) (a .sizes .reordering) (a .q) b u)
 
 last-at-requires : tie.Need-last-at-requires
@@ -46,13 +52,19 @@ last-at-requires c κs = search needs
 
 open-poses-requires : tie.Need-open-poses-requires
 open-poses-requires c κs =
-    let k = c .before .before .before .before .before .before .before in
+    let mid = c .before .before .before .before in
+    let k = mid .before .before .before in
     let a = k .args in
     let g = k .pre .0 in (
       g .words,
       k .pre .1,
       k .pre .2,
-      omega (arith, c .before .last-at .ensures, starts-size (a .sizes .cells) (a .sizes .reordering) 1 (start (a .sizes .reordering)) (a .q) (can (c .before .before)), g .size),
+      omega (
+        arith,
+        c .before .last-at .ensures,
+        starts-size (a .sizes .cells) (a .sizes .reordering) 1 (start (a .sizes .reordering)) (a .q) (can (c .before .before)),
+        g .size,
+      ),
       g .few,
     )
 
@@ -61,10 +73,13 @@ same-length-2 c = search needs
 
 returns-2 : tie.Need-returns-2
 returns-2 c =
-    let a = c .before .before .before .before .before .before .before .before .before .before .args in
-    let e = c .before .before .before .before .last-at .ensures in
+    let after-last-at = c .before .before .before .before in
+    let mid = after-last-at .before .before .before .before in
+    let a = mid .before .before .args in
+    let e = after-last-at .last-at .ensures in
     written-ext (c .before .before .open-poses .ensures)
-    (λ b h. open-there (deckIn (a .row .now) (a .sizes)) (a .sizes .reordering) (a .q) b (can (c .before .before .before .before .before)) ∙ ap (λ (j : ℕ). openPose (a .row .now) j b) (sym e))
+    (λ b h. open-there (deckIn (a .row .now) (a .sizes)) (a .sizes .reordering) (a .q) b (can (after-last-at .before))
+    ∙ ap (λ (j : ℕ). openPose (a .row .now) j b) (sym e))
 
 pub open-state-spec : {M : Type 1} → statement M
 open-state-spec =

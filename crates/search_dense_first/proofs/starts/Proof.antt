@@ -33,7 +33,8 @@ returns-2 c =
     let k = c .before .before .before .before in
     let a = k .args in
     ap (eqb (a .m)) (k .pre .0 .earlier (a .q) (k .pre .1))
-    ∙ and-there (thereIn (a .sizes .cells) (a .sizes .reordering) (a .i) (a .q)) (eqb (a .m) (before (a .sizes .reordering) (a .q))) (sym (c .before .before .is-there .ensures) ∙ not-false _ (c .before .if1 .left))
+    ∙ and-there (thereIn (a .sizes .cells) (a .sizes .reordering) (a .i) (a .q)) (eqb (a .m) (before (a .sizes .reordering) (a .q)))
+    (sym (c .before .before .is-there .ensures) ∙ not-false _ (c .before .if1 .left))
 
 add-result-2 : tie.Need-add-result-2
 add-result-2 c = search needs

@@ -59,8 +59,10 @@ element-copy-out-lesser-3 c = search needs
 lesser-requires-2 : tie.Need-lesser-requires-2
 lesser-requires-2 c κs =
     let k = c .before .before .before .before in
-    let a = k .args in
-    (omega (arith, k .pre .0 .nearLow .word ((a .e + 4) * 4 + a .v)), omega (arith, c .before .lesser .ensures, k .pre .0 .apartLow .word ((a .e + 2) * 4 + a .v)))
+    let a = k .args in (
+      omega (arith, k .pre .0 .nearLow .word ((a .e + 4) * 4 + a .v)),
+      omega (arith, c .before .lesser .ensures, k .pre .0 .apartLow .word ((a .e + 2) * 4 + a .v)),
+    )
 
 mul-lesser-7 : tie.Need-mul-lesser-7
 mul-lesser-7 c = search needs
@@ -70,7 +72,8 @@ element-copy-out-lesser-4 c = search needs
 
 lesser-requires-3 : tie.Need-lesser-requires-3
 lesser-requires-3 c κs =
-    let k = c .before .before .before .before .before .before in
+    let mid = c .before .before .before .before in
+    let k = mid .before .before in
     let a = k .args in
     (omega (arith, c .before .lesser2 .ensures, k .pre .0 .nearLow .word ((a .e + 4) * 4 + a .v)), omega (arith, k .pre .0 .farLow .word (a .e)))
 

@@ -46,16 +46,18 @@ found-requires c κs = search needs
 
 add-x-3 : tie.Need-add-x-3 Inv-loop μ-loop
 add-x-3 c =
-    let k = c .before .before .before .before .before in
+    let at-loop = c .before .before .before in
+    let k = at-loop .before .before in
     let a = k .args in
-    let l = c .before .before .before .loop in
+    let l = at-loop .loop in
     omega (arith, c .found .ensures, k .pre .0 .farLow .word (a .e), k .pre .1 .word (a .k * cellWords + (a .e * 4 + l .v)))
 
 lesser-requires : tie.Need-lesser-requires Inv-loop μ-loop
 lesser-requires c κs =
-    let k = c .before .before .before .before .before in
+    let at-loop = c .before .before .before in
+    let k = at-loop .before .before in
     let a = k .args in
-    let l = c .before .before .before .loop in
+    let l = at-loop .loop in
     (omega (arith, c .found .ensures, k .pre .0 .farLow .word (a .e), k .pre .1 .word (a .k * cellWords + (a .e * 4 + l .v))), omega arith)
 
 mul-words : tie.Need-mul-words Inv-loop μ-loop
@@ -72,9 +74,10 @@ loop-less c = search needs
 
 loop-again : tie.Need-loop-again Inv-loop μ-loop
 loop-again c =
-    let k = c .before .before .before .before .before .before in
+    let at-loop = c .before .before .before .before in
+    let k = at-loop .before .before in
     let a = k .args in
-    let l = c .before .before .before .before .loop in
+    let l = at-loop .loop in
     let next : l .v + 1 ≤ 4 = omega arith in
     let room : 0 + l .v < length (a .words .now) = omega arith in
     let low : c .lesser .result ≤ B = omega (arith, c .lesser .ensures) in

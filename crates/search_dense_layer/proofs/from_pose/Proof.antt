@@ -24,30 +24,49 @@ returns c =
     let k = c .before .before .before .before in
     let a = k .args in
     gathered-none (a .buckets) (k .pre .0)
-    (λ v s h. omega (arith, row-above (endRow (a .row .now) (a .k) (a .b) (a .m)) s (getD (a .store .now) (a .at + a .b) 0 + payIn (a .row .now) (a .k) (a .b) (a .m) v)))
+    (λ v s h.
+    omega (arith, row-above (endRow (a .row .now) (a .k) (a .b) (a .m)) s (getD (a .store .now) (a .at + a .b) 0 + payIn (a .row .now) (a .k) (a .b) (a .m) v)))
 
 end-row-requires : tie.Need-end-row-requires
 end-row-requires c κs = search needs
 
 returns-2 : tie.Need-returns-2
 returns-2 c =
-    let k = c .before .before .before .before .before .before in
+    let mid = c .before .before .before .before in
+    let k = mid .before .before in
     let a = k .args in
     gathered-none (a .buckets) (k .pre .0)
     (λ v s h.
-    omega (arith, row-miss (endRow (a .row .now) (a .k) (a .b) (a .m)) s (getD (a .store .now) (a .at + a .b) 0 + payIn (a .row .now) (a .k) (a .b) (a .m) v) (λ e. omega (arith, c .before .end-row .ensures))))
+    omega (
+      arith,
+      row-miss (endRow (a .row .now) (a .k) (a .b) (a .m)) s (getD (a .store .now) (a .at + a .b) 0 + payIn (a .row .now) (a .k) (a .b) (a .m) v)
+          (λ e. omega (arith, c .before .end-row .ensures)),
+    ))
 
 spread-requires : tie.Need-spread-requires
 spread-requires c κs =
-    let k = c .before .before .before .before .before .before .before .before .before in
-    let a = k .args in
-    (k .pre .0, omega arith, pays-low (k .pre .1 .words) (k .pre .2), pays-free (a .b % 4) (k .pre .2) (k .pre .4) (omega arith), omega arith, omega arith, k .pre .4, k .pre .5)
+    let mid = c .before .before .before .before in
+    let mid₂ = mid .before .before .before .before in
+    let k = mid₂ .before in
+    let a = k .args in (
+      k .pre .0,
+      omega arith,
+      pays-low (k .pre .1 .words) (k .pre .2),
+      pays-free (a .b % 4) (k .pre .2) (k .pre .4) (omega arith),
+      omega arith,
+      omega arith,
+      k .pre .4,
+      k .pre .5,
+    )
 
 returns-3 : tie.Need-returns-3
 returns-3 c =
-    let k = c .before .before .before .before .before .before .before .before .before .before in
+    let mid = c .before .before .before .before in
+    let mid₂ = mid .before .before .before .before in
+    let k = mid₂ .before .before in
     let a = k .args in
-    gathered-pose (a .b) (c .before .before .before .before .before .end-row .result) (getD (a .store .now) (a .at + a .b) 0) (k .pre .2) (c .before .before .before .before .before .end-row .ensures) (k .pre .4) (k .pre .5) (c .spread .ensures)
+    gathered-pose (a .b) (mid .before .end-row .result) (getD (a .store .now) (a .at + a .b) 0) (k .pre .2) (mid .before .end-row .ensures) (k .pre .4)
+    (k .pre .5) (c .spread .ensures)
 
 pub from-pose-spec : {M : Type 1} → statement M
 from-pose-spec =

@@ -25,8 +25,9 @@ loop-holds c =
 
 from-pose-requires : tie.Need-from-pose-requires Inv-loop μ-loop
 from-pose-requires c κs =
-    let k = c .before .before .before .before .before .before .before in
-    (lent-on (k .pre .0) (c .before .before .before .before .loop .inv .1), k .pre .1, k .pre .2, omega arith, k .pre .4, k .pre .5)
+    let at-loop = c .before .before .before .before in
+    let k = at-loop .before .before .before in
+    (lent-on (k .pre .0) (at-loop .loop .inv .1), k .pre .1, k .pre .2, omega arith, k .pre .4, k .pre .5)
 
 add-b : tie.Need-add-b Inv-loop μ-loop
 add-b c = search needs
@@ -36,9 +37,12 @@ loop-less c = search needs
 
 loop-again : tie.Need-loop-again Inv-loop μ-loop
 loop-again c =
-    let a = c .before .before .before .before .before .before .before .before .args in
-    let l = c .before .before .before .before .before .loop in
-    (omega arith, gathered-join (l .inv .1) (c .from-pose .ensures) (λ v t. poses-more (a .row .now) (a .k) (a .m) (posesAt (a .store .now) (a .at)) (l .b) v t))
+    let mid = c .before .before .before .before in
+    let a = mid .before .before .before .before .args in
+    let l = mid .before .loop in (
+      omega arith,
+      gathered-join (l .inv .1) (c .from-pose .ensures) (λ v t. poses-more (a .row .now) (a .k) (a .m) (posesAt (a .store .now) (a .at)) (l .b) v t),
+    )
 
 returns : tie.Need-returns Inv-loop μ-loop
 returns c =

@@ -15,7 +15,8 @@ use Rattle.search_dense_layer.proofs.gather.Tie as tie
 abbrev Inv-loop : tie.InvT-loop
 Inv-loop near₀ apart₀ far₀ store row sizes i from q p₀ near apart far p =
     (p ≤ (sizes .states))
-    × ThinGathered (byStates row (deckIn row sizes) (sizes .reordering) (thinIn store from) i q p) (bucketsIn row (lastAt (sizes .reordering) (suc i) q)) near₀ near apart₀ apart far₀ far
+    × ThinGathered (byStates row (deckIn row sizes) (sizes .reordering) (thinIn store from) i q p)
+    (bucketsIn row (lastAt (sizes .reordering) (suc i) q)) near₀ near apart₀ apart far₀ far
 
 abbrev μ-loop : tie.MeasureT-loop
 μ-loop near₀ apart₀ far₀ store row sizes i from q p₀ near apart far p = (sizes .states) - p
@@ -32,8 +33,9 @@ loop-holds c =
 
 from-source-requires : tie.Need-from-source-requires Inv-loop μ-loop
 from-source-requires c κs =
-    let k = c .before .before .before .before .before .before .before .before in
-    (lent-on (k .pre .0) (c .before .before .before .before .before .loop .inv .1), k .pre .1, k .pre .2, omega arith)
+    let mid = c .before .before .before .before in
+    let k = mid .before .before .before .before in
+    (lent-on (k .pre .0) (mid .before .loop .inv .1), k .pre .1, k .pre .2, omega arith)
 
 add-p : tie.Need-add-p Inv-loop μ-loop
 add-p c = search needs
@@ -43,15 +45,21 @@ loop-less c = search needs
 
 loop-again : tie.Need-loop-again Inv-loop μ-loop
 loop-again c =
-    let a = c .before .before .before .before .before .before .before .before .before .args in
+    let mid = c .before .before .before .before in
+    let at-loop = mid .before .before in
+    let a = at-loop .before .before .before .args in
     let D = deckIn (a .row .now) (a .sizes) in
-    let l = c .before .before .before .before .before .before .loop in
-    (omega arith, gathered-join (l .inv .1) (c .from-source .ensures) (λ v t. states-more (a .row .now) D (a .sizes .reordering) (thinIn (a .store .now) (a .from)) (a .i) (a .q) (l .p) v t))
+    let l = at-loop .loop in (
+      omega arith,
+      gathered-join (l .inv .1) (c .from-source .ensures)
+          (λ v t. states-more (a .row .now) D (a .sizes .reordering) (thinIn (a .store .now) (a .from)) (a .i) (a .q) (l .p) v t),
+    )
 
 returns : tie.Need-returns Inv-loop μ-loop
 returns c =
-    let e : c .before .before .loop .p ≡ c .before .before .before .before .before .args .sizes .states = omega arith in
-    rw e at (c .before .before .loop .inv .1)
+    let at-loop = c .before .before in
+    let e : at-loop .loop .p ≡ at-loop .before .before .before .args .sizes .states = omega arith in
+    rw e at (at-loop .loop .inv .1)
 
 pub gather-spec : {M : Type 1} → statement M
 gather-spec =

@@ -73,11 +73,15 @@ loop-less c = search needs
 
 loop-again : tie.Need-loop-again Inv-loop μ-loop
 loop-again c =
-    let k = c .before .before .before .before .before in
+    let at-loop = c .before .before .before .before in
+    let k = at-loop .before in
     let a = k .args in
-    let l = c .before .before .before .before .loop in
-    let e = l .inv .1 .rest (a .t * 4 + l .v) (omega arith) in
-    (omega arith, four-more (a .t) (a .x) (a .pays .now) (a .p) (l .v) (c .lesser .result) (l .inv .1) (k .pre .1) (omega arith) (omega arith) (omega (arith, c .lesser .ensures, e)))
+    let l = at-loop .loop in
+    let e = l .inv .1 .rest (a .t * 4 + l .v) (omega arith) in (
+      omega arith,
+      four-more (a .t) (a .x) (a .pays .now) (a .p) (l .v) (c .lesser .result) (l .inv .1) (k .pre .1) (omega arith) (omega arith)
+          (omega (arith, c .lesser .ensures, e)),
+    )
 
 returns : tie.Need-returns Inv-loop μ-loop
 returns c =

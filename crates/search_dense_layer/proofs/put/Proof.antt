@@ -25,8 +25,9 @@ mul-loop c = search needs
 
 put-four-requires : tie.Need-put-four-requires Inv-loop μ-loop
 put-four-requires c κs =
-    let k = c .before .before .before .before .before in
-    let l = c .before .before .loop in
+    let at-loop = c .before .before in
+    let k = at-loop .before .before .before in
+    let l = at-loop .loop in
     (k .pre .0, k .pre .1, l .inv .1 .low, omega (arith, l .inv .1 .frame .long), k .pre .4, omega arith)
 
 add-e : tie.Need-add-e Inv-loop μ-loop
@@ -37,9 +38,10 @@ loop-less c = search needs
 
 loop-again : tie.Need-loop-again Inv-loop μ-loop
 loop-again c =
-    let l = c .before .before .before .before .before .loop in
+    let after-put-four = c .before .before in
+    let l = after-put-four .before .before .before .loop in
     let e : l .e * 4 + 4 ≡ (l .e + 1) * 4 = omega arith in
-    (omega arith, rw e at (written-join (l .inv .1) (c .before .before .put-four .ensures) (λ k h. refl)))
+    (omega arith, rw e at (written-join (l .inv .1) (after-put-four .put-four .ensures) (λ k h. refl)))
 
 same-length : tie.Need-same-length Inv-loop μ-loop
 same-length c = c .before .loop .inv .1 .frame .long

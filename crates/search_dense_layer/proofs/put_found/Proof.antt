@@ -17,9 +17,11 @@ same-length c = search needs
 
 returns : tie.Need-returns
 returns c =
-    let a = c .before .before .before .before .before .before .before .args in
+    let mid = c .before .before .before .before in
+    let a = mid .before .before .before .args in
     subst
-    (λ other. Written (foundOf (a .row .now) (a .near .now) other (a .far .now) (a .k)) (a .to) ((a .poses + 3) / 4 * 4) (a .store .now) (c .before .before .put .last .0))
+    (λ other. Written (foundOf (a .row .now) (a .near .now) other (a .far .now) (a .k)) (a .to) ((a .poses + 3) / 4 * 4) (a .store .now)
+    (c .before .before .put .last .0))
     (sym (other-nine (a .buckets) (a .near .now) (a .apart .now) (omega arith)))
     (c .before .before .put .ensures)
 
@@ -33,9 +35,11 @@ same-length-2 c = search needs
 
 returns-2 : tie.Need-returns-2
 returns-2 c =
-    let a = c .before .before .before .before .before .before .before .args in
+    let mid = c .before .before .before .before in
+    let a = mid .before .before .before .args in
     subst
-    (λ other. Written (foundOf (a .row .now) (a .near .now) other (a .far .now) (a .k)) (a .to) ((a .poses + 3) / 4 * 4) (a .store .now) (c .before .before .put2 .last .0))
+    (λ other. Written (foundOf (a .row .now) (a .near .now) other (a .far .now) (a .k)) (a .to) ((a .poses + 3) / 4 * 4) (a .store .now)
+    (c .before .before .put2 .last .0))
     (sym (other-five (a .buckets) (a .near .now) (a .apart .now) (λ e. omega arith)))
     (c .before .before .put2 .ensures)
 

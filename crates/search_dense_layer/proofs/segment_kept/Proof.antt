@@ -36,8 +36,9 @@ add-step c = search needs
 
 step-requires : tie.Need-step-requires Inv-loop μ-loop
 step-requires c κs =
-    let g = c .before .before .before .before .before .before .pre in
-    let s = c .before .before .before .loop .inv .1 in
+    let at-loop = c .before .before .before in
+    let g = at-loop .before .before .before .pre in
+    let s = at-loop .loop .inv .1 in
     (g .ground, s .low, omega arith, omega (arith, c .before .kept-at .ensures, g .long, g .last, s .frame .long))
 
 add-j : tie.Need-add-j Inv-loop μ-loop
@@ -48,13 +49,15 @@ loop-less c = search needs
 
 loop-again : tie.Need-loop-again Inv-loop μ-loop
 loop-again c =
-    let k = c .before .before .before .before .before .before .before .before .before in
+    let after-kept-at = c .before .before .before .before in
+    let at-loop = after-kept-at .before .before in
+    let k = at-loop .before .before .before in
     let a = k .args in
     let g = k .pre in
-    let l = c .before .before .before .before .before .before .loop in (
+    let l = at-loop .loop in (
       omega (arith, g .last),
       kept-more (deckIn (a .row .now) (a .sizes)) (a .sizes .reordering) (a .i) (g .some) (g .ground .few) (g .ground .coded .few) (l .j)
-          (omega (arith, g .last)) (g .ground .all) (c .before .before .before .before .kept-at .ensures) (l .inv .1) (c .before .before .step .ensures),
+          (omega (arith, g .last)) (g .ground .all) (after-kept-at .kept-at .ensures) (l .inv .1) (c .before .before .step .ensures),
     )
 
 same-length : tie.Need-same-length Inv-loop μ-loop

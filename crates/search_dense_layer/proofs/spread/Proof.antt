@@ -44,24 +44,28 @@ add-lower-four-2 c = search needs
 
 lower-four-requires-2 : tie.Need-lower-four-requires-2
 lower-four-requires-2 c κs =
-    let k = c .before .before .before .before .before .before in
+    let mid = c .before .before .before .before in
+    let k = mid .before .before in
     let w = k .pre .2 in
     (k .pre .5, k .pre .0 .apartLong, k .pre .0 .apartLow, k .pre .1, omega arith, w .long, λ v h. w .low (k .args .u * 9 + 5 + v) (omega arith) (omega arith))
 
 returns : tie.Need-returns
 returns c =
-    let k = c .before .before .before .before .before .before .before in
+    let after-lower-four = c .before .before .before in
+    let k = after-lower-four .before .before .before .before in
     let a = k .args in
     let g = k .pre .0 in
-    let f = row-one (a .t) (a .x) (c .before .before .before .before .before .lesser .result) (g .farLow) (g .farLong) (k .pre .5) (c .before .before .before .before .before .lesser .ensures) in
-    spread-nine (a .t) (a .x) (a .u) (a .pays .now) (k .pre .3) (c .before .before .before .lower-four .ensures) f (omega arith) (c .lower-four2 .ensures)
+    let f = row-one (a .t) (a .x) (after-lower-four .before .before .lesser .result) (g .farLow) (g .farLong) (k .pre .5)
+    (after-lower-four .before .before .lesser .ensures) in
+    spread-nine (a .t) (a .x) (a .u) (a .pays .now) (k .pre .3) (after-lower-four .lower-four .ensures) f (omega arith) (c .lower-four2 .ensures)
 
 returns-2 : tie.Need-returns-2
 returns-2 c =
-    let k = c .before .before .before .before .before in
+    let after-lesser = c .before .before .before in
+    let k = after-lesser .before .before in
     let a = k .args in
     let g = k .pre .0 in
-    let f = row-one (a .t) (a .x) (c .before .before .before .lesser .result) (g .farLow) (g .farLong) (k .pre .5) (c .before .before .before .lesser .ensures) in
+    let f = row-one (a .t) (a .x) (after-lesser .lesser .result) (g .farLow) (g .farLong) (k .pre .5) (after-lesser .lesser .ensures) in
     spread-five (a .t) (a .x) (a .u) (a .pays .now) (k .pre .3) (c .before .lower-four .ensures) f (λ e. omega arith) (g .apartLow) refl
 
 pub spread-spec : {M : Type 1} → statement M

@@ -24,8 +24,9 @@ loop-holds c =
 
 put-state-requires : tie.Need-put-state-requires Inv-loop μ-loop
 put-state-requires c κs =
-    let k = c .before .before .before .before .before .before in
-    let s = c .before .before .before .loop .inv .1 in
+    let at-loop = c .before .before .before in
+    let k = at-loop .before .before .before in
+    let s = at-loop .loop .inv .1 in
     (record { ground = k .pre .0; low = s .low; early = k .pre .2; room = omega (arith, s .frame .long) }, omega arith)
 
 add-q : tie.Need-add-q Inv-loop μ-loop
@@ -36,17 +37,20 @@ loop-less c = search needs
 
 loop-again : tie.Need-loop-again Inv-loop μ-loop
 loop-again c =
-    let g = c .before .before .before .before .before .before .before .before .before .pre .0 in
-    let l = c .before .before .before .before .before .before .loop in
-    (omega arith, stepped-more (l .q) (l .inv .1) (c .before .before .put-state .ensures) (omega (arith, g .all, g .coded .few)) (g .coded .few) (g .few))
+    let after-put-state = c .before .before in
+    let at-loop = after-put-state .before .before .before .before in
+    let g = at-loop .before .before .before .pre .0 in
+    let l = at-loop .loop in
+    (omega arith, stepped-more (l .q) (l .inv .1) (after-put-state .put-state .ensures) (omega (arith, g .all, g .coded .few)) (g .coded .few) (g .few))
 
 same-length : tie.Need-same-length Inv-loop μ-loop
 same-length c = c .before .before .loop .inv .1 .frame .long
 
 returns : tie.Need-returns Inv-loop μ-loop
 returns c =
-    let e : c .before .before .loop .q ≡ c .before .before .before .before .before .args .sizes .states = omega arith in
-    rw e at (c .before .before .loop .inv .1)
+    let at-loop = c .before .before in
+    let e : at-loop .loop .q ≡ at-loop .before .before .before .args .sizes .states = omega arith in
+    rw e at (at-loop .loop .inv .1)
 
 pub step-spec : {M : Type 1} → statement M
 step-spec =

@@ -25,14 +25,16 @@ inside c =
     let a = k .args in
     omega (arith, here c, there-size (a .sizes .cells) (a .sizes .reordering) (suc (a .i)) (a .q) (k .pre .1 .there), k .pre .0 .ground .size)
 
-buckets : (c : tie.After-buckets-of) → (let a = c .before .before .before .before .args in c .buckets-of .result ≡ bucketsIn (a .row .now) (lastAt (a .sizes .reordering) (suc (a .i)) (a .q)))
+buckets : (c : tie.After-buckets-of)
+    → (let a = c .before .before .before .before .args in c .buckets-of .result ≡ bucketsIn (a .row .now) (lastAt (a .sizes .reordering) (suc (a .i)) (a .q)))
 buckets c = c .buckets-of .ensures ∙ ap (bucketsIn (c .before .before .before .before .args .row .now)) (here (c .before))
 
 -- the arrays once the far rows ran up
 arrays : (c : tie.After-run-up) → Arrays (c .before .before .gather .last .0) (c .before .before .gather .last .1 .0) (c .run-up .last .0)
 arrays c = lent-run (lent-on lent-none (c .before .before .gather .ensures)) (c .run-up .ensures)
 
-buckets-low : (k : tie.Start) → (let a = k .args in (v t : ℕ) → byStates (a .row .now) (deckIn (a .row .now) (a .sizes)) (a .sizes .reordering) (thinIn (a .store .now) (a .from)) (a .i) (a .q) (a .sizes .states) v t ≤ B)
+buckets-low : (k : tie.Start) → (let a = k .args in (v t : ℕ) → byStates (a .row .now) (deckIn (a .row .now) (a .sizes)) (a .sizes .reordering)
+    (thinIn (a .store .now) (a .from)) (a .i) (a .q) (a .sizes .states) v t ≤ B)
 buckets-low k v t =
     let a = k .args in
     states-low (a .row .now) (deckIn (a .row .now) (a .sizes)) (a .sizes .reordering) (thinIn (a .store .now) (a .from)) (a .i) (a .q) (a .sizes .states) v t
@@ -48,7 +50,8 @@ buckets-of-requires c κs = (c .before .before .before .pre .0 .ground .words, i
 
 gather-requires : tie.Need-gather-requires
 gather-requires c κs =
-    let k = c .before .before .before .before .before .before .before .before in
+    let mid = c .before .before .before .before in
+    let k = mid .before .before .before .before in
     (lent-none, k .pre .0, k .pre .1)
 
 run-up-requires : tie.Need-run-up-requires
@@ -67,26 +70,35 @@ add-to-2 c = search needs
 
 put-found-requires : tie.Need-put-found-requires
 put-found-requires c κs =
-    let k = c .before .before .before .before .before .before .before .before .before .before .before .before .before .before .before in
+    let mid = c .before .before .before .before in
+    let mid₂ = mid .before .before .before .before in
+    let mid₃ = mid₂ .before .before .before .before in
+    let k = mid₃ .before .before .before in
     let g = k .pre .0 in
-    (arrays (c .before .before .before .before), g .ground .words, g .low, omega (arith, g .room, k .pre .1 .state, g .ground .coded .few), inside (c .before .before .before .before .before .before .before .before .before .before .before .before), g .ground .few)
+    (arrays mid, g .ground .words, g .low, omega (arith, g .room, k .pre .1 .state, g .ground .coded .few), inside mid₃, g .ground .few)
 
 same-length : tie.Need-same-length
 same-length c = search needs
 
 returns : tie.Need-returns
 returns c =
-    let k = c .before .before .before .before .before .before .before .before .before .before .before .before .before .before .before .before .before .before in
+    let mid = c .before .before .before .before in
+    let after-run-up = mid .before .before .before in
+    let mid₂ = after-run-up .before .before .before .before in
+    let mid₃ = mid₂ .before .before .before .before in
+    let k = mid₃ .before .before .before in
     let a = k .args in
     let g = k .pre .0 in
     let D = deckIn (a .row .now) (a .sizes) in
     let f = thinIn (a .store .now) (a .from) in
-    let m = here (c .before .before .before .before .before .before .before .before .before .before .before .before .before .before .before) in
-    let e = sym (buckets (c .before .before .before .before .before .before .before .before .before .before .before .before .before .before)) in
-    let found = found-there (buckets-low k) (rw e at (c .before .before .before .before .before .before .before .before .before .gather .ensures)) (c .before .before .before .before .before .before .before .run-up .ensures)
-    (λ n v t i. states-twin (a .row .now) D (a .sizes .reordering) f (a .i) (a .q) (a .sizes .states) v t (buckets-twin (a .row .now) (lastAt (a .sizes .reordering) (suc (a .i)) (a .q)) (λ z. n (sym e ∙ z))) i) in
+    let m = here mid₃ in
+    let e = sym (buckets (mid₂ .before .before .before)) in
+    let found = found-there (buckets-low k) (rw e at (after-run-up .before .before .gather .ensures)) (after-run-up .run-up .ensures)
+    (λ n v t i. states-twin (a .row .now) D (a .sizes .reordering) f (a .i) (a .q) (a .sizes .states) v t
+    (buckets-twin (a .row .now) (lastAt (a .sizes .reordering) (suc (a .i)) (a .q)) (λ z. n (sym e ∙ z))) i) in
     put-words D (a .sizes .reordering) (a .i) (a .from) (a .q) (c .before .before .put-found .ensures) (omega arith) (omega (arith, g .ground .few))
-    (λ b l. next-found (a .row .now) (a .sizes .cells) (a .sizes .poses) (a .sizes .reordering) f (a .i) (a .q) b (k .pre .1 .there) (g .ground .all) m (found b (omega (arith, g .ground .few))))
+    (λ b l. next-found (a .row .now) (a .sizes .cells) (a .sizes .poses) (a .sizes .reordering) f (a .i) (a .q) b (k .pre .1 .there) (g .ground .all) m
+    (found b (omega (arith, g .ground .few))))
 
 pub target-there-spec : {M : Type 1} → statement M
 target-there-spec =

@@ -41,9 +41,10 @@ back-requires c κs = search needs
 
 add-least-3 : tie.Need-add-least-3 Inv-loop μ-loop
 add-least-3 c =
-    let k = c .before .before .before .before .before .before in
+    let at-loop = c .before .before .before in
+    let k = at-loop .before .before .before in
     let a = k .args in
-    let b = c .before .before .before .loop .a in
+    let b = at-loop .loop .a in
     omega (arith, k .pre .1 .word (a .at + a .q * 64 + b), c .back .ensures, back-low (a .row .now) (a .k) b)
 
 least-requires : tie.Need-least-requires Inv-loop μ-loop
@@ -57,9 +58,18 @@ loop-less c = search needs
 
 loop-again : tie.Need-loop-again Inv-loop μ-loop
 loop-again c =
-    let a = c .before .before .before .before .before .before .before .args in
-    let l = c .before .before .before .before .loop in
-    (omega arith, omega (arith, c .least .ensures, c .before .back .ensures, l .inv .1, poses-more (backIn (a .row .now) (a .k)) (thinIn (a .store .now) (a .at)) (a .q) (l .a)))
+    let at-loop = c .before .before .before .before in
+    let a = at-loop .before .before .before .args in
+    let l = at-loop .loop in (
+      omega arith,
+      omega (
+        arith,
+        c .least .ensures,
+        c .before .back .ensures,
+        l .inv .1,
+        poses-more (backIn (a .row .now) (a .k)) (thinIn (a .store .now) (a .at)) (a .q) (l .a),
+      ),
+    )
 
 returns : tie.Need-returns Inv-loop μ-loop
 returns c =

@@ -21,9 +21,10 @@ there c = sym (c .before .is-there .ensures) ∙ not-false _ (c .if1 .left)
 
 inside : (c : tie.After-last-at) → c .last-at .result < 64
 inside c =
-    let k = c .before .before .before .before .before in
+    let mid = c .before in
+    let k = mid .before .before .before .before in
     let a = k .args in
-    omega (arith, c .last-at .ensures, there-size (a .sizes .cells) (a .sizes .reordering) (a .sizes .cells) (a .q) (there (c .before)), k .pre .0 .size)
+    omega (arith, c .last-at .ensures, there-size (a .sizes .cells) (a .sizes .reordering) (a .sizes .cells) (a .q) (there mid), k .pre .0 .size)
 
 is-there-requires : tie.Need-is-there-requires
 is-there-requires c κs = search needs
@@ -31,7 +32,8 @@ is-there-requires c κs = search needs
 returns : tie.Need-returns
 returns c =
     let a = c .before .before .before .before .args in
-    sym (state-away (a .row .now) (a .sizes .cells) (a .sizes .poses) (a .sizes .reordering) 0 (a .q) (thinIn (a .store .now) (a .at)) (sym (c .before .is-there .ensures) ∙ not-true _ (c .if1 .taken)))
+    sym (state-away (a .row .now) (a .sizes .cells) (a .sizes .poses) (a .sizes .reordering) 0 (a .q) (thinIn (a .store .now) (a .at))
+    (sym (c .before .is-there .ensures) ∙ not-true _ (c .if1 .taken)))
 
 last-at-requires : tie.Need-last-at-requires
 last-at-requires c κs = search needs
@@ -47,26 +49,32 @@ mul-if2-2 c = omega (arith, inside c)
 
 shared-slice-read-if2 : tie.Need-shared-slice-read-if2
 shared-slice-read-if2 c =
-    omega (arith, inside (c .before), c .before .before .before .before .before .before .pre .0 .words .long)
+    let mid = c .before .before .before .before in
+    omega (arith, inside (c .before), mid .before .before .pre .0 .words .long)
 
 returns-2 : tie.Need-returns-2
 returns-2 c =
-    let a = c .before .before .before .before .before .before .before .args in
+    let mid = c .before .before .before .before in
+    let a = mid .before .before .before .args in
     let l = c .before .before .last-at in
-    sym (state-tall (a .row .now) (a .sizes .cells) (a .sizes .poses) (a .sizes .reordering) (l .result) (a .q) (thinIn (a .store .now) (a .at)) (l .ensures) (c .if2 .taken))
+    sym (state-tall (a .row .now) (a .sizes .cells) (a .sizes .poses) (a .sizes .reordering) (l .result) (a .q) (thinIn (a .store .now) (a .at)) (l .ensures)
+    (c .if2 .taken))
 
 least-poses-requires : tie.Need-least-poses-requires
 least-poses-requires c κs =
-    let k = c .before .before .before .before .before .before .before in
+    let mid = c .before .before .before .before in
+    let k = mid .before .before .before in
     let g = k .pre .0 in
     (g .words, k .pre .1, k .pre .2, omega (arith, g .all, g .coded .few, k .pre .3), inside (c .before .before), g .few)
 
 returns-3 : tie.Need-returns-3
 returns-3 c =
-    let a = c .before .before .before .before .before .before .before .before .args in
+    let mid = c .before .before .before .before in
+    let a = mid .before .before .before .before .args in
     let l = c .before .before .before .last-at in
     c .least-poses .ensures
-    ∙ sym (state-single (a .row .now) (a .sizes .cells) (a .sizes .poses) (a .sizes .reordering) (l .result) (a .q) (thinIn (a .store .now) (a .at)) (l .ensures) (there (c .before .before .before .before)) (c .before .if2 .left))
+    ∙ sym (state-single (a .row .now) (a .sizes .cells) (a .sizes .poses) (a .sizes .reordering) (l .result) (a .q) (thinIn (a .store .now) (a .at))
+    (l .ensures) (there mid) (c .before .if2 .left))
 
 pub least-state-spec : {M : Type 1} → statement M
 least-state-spec =

@@ -36,14 +36,24 @@ loop-less c = search needs
 
 loop-again : tie.Need-loop-again Inv-loop μ-loop
 loop-again c =
-    let a = c .before .before .before .before .before .before .before .args in
-    let l = c .before .before .before .before .loop in
-    (omega arith, omega (arith, c .least .ensures, c .before .least-state .ensures, l .inv .1, states-more (deckIn (a .row .now) (a .sizes)) (a .sizes .reordering) (thinIn (a .store .now) (a .at)) (l .q)))
+    let at-loop = c .before .before .before .before in
+    let a = at-loop .before .before .before .args in
+    let l = at-loop .loop in (
+      omega arith,
+      omega (
+        arith,
+        c .least .ensures,
+        c .before .least-state .ensures,
+        l .inv .1,
+        states-more (deckIn (a .row .now) (a .sizes)) (a .sizes .reordering) (thinIn (a .store .now) (a .at)) (l .q),
+      ),
+    )
 
 returns : tie.Need-returns Inv-loop μ-loop
 returns c =
-    let e : c .before .before .loop .q ≡ c .before .before .before .before .before .args .sizes .states = omega arith in
-    rw e at (c .before .before .loop .inv .1)
+    let at-loop = c .before .before in
+    let e : at-loop .loop .q ≡ at-loop .before .before .before .args .sizes .states = omega arith in
+    rw e at (at-loop .loop .inv .1)
 
 pub least-states-spec : {M : Type 1} → statement M
 least-states-spec =

@@ -42,11 +42,15 @@ same-length-2 c = search needs
 
 returns-2 : tie.Need-returns-2
 returns-2 c =
-    let k = c .before .before .before .before .before .before .before .before .before .before .before in
+    let after-kept-at = c .before in
+    let after-run-open = after-kept-at .before .before .before .before in
+    let after-if1 = after-run-open .before .before in
+    let k = after-if1 .before .before .before .before in
     let a = k .args in
     let g = k .pre .1 in
-    opened-end (deckIn (a .row .now) (a .sizes)) (a .sizes .reordering) (a .costs) (c .least-states .result) (c .before .kept-at .result)
-    (omega (arith, c .before .before .before .before .before .before .before .if1 .left)) (g .over) (omega (arith, g .room)) (g .all) (c .before .kept-at .ensures) (c .before .before .before .before .before .run-open .ensures) (c .least-states .ensures)
+    opened-end (deckIn (a .row .now) (a .sizes)) (a .sizes .reordering) (a .costs) (c .least-states .result) (after-kept-at .kept-at .result)
+    (omega (arith, after-if1 .if1 .left)) (g .over) (omega (arith, g .room)) (g .all) (after-kept-at .kept-at .ensures) (after-run-open .run-open .ensures)
+    (c .least-states .ensures)
 
 pub open-end-spec : {M : Type 1} → statement M
 open-end-spec =

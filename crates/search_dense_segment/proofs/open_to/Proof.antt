@@ -17,7 +17,8 @@ run-open-requires c κs = search needs
 
 put-states-requires : tie.Need-put-states-requires
 put-states-requires c κs =
-    let k = c .before .before .before .before .before .before .before .before in
+    let mid = c .before .before .before .before in
+    let k = mid .before .before .before .before in
     let g = k .pre .1 in
     let f = c .before .before .before .run-open .ensures in
     (k .pre .0 .coded, record { low = f .low; few = g .few; all = g .all; over = g .over; room = omega (arith, g .room, f .frame .long) }, k .pre .2)
@@ -27,10 +28,13 @@ same-length c = search needs
 
 returns : tie.Need-returns
 returns c =
-    let k = c .before .before .before .before .before .before .before .before .before .before .before in
+    let after-put-states = c .before .before in
+    let after-run-open = after-put-states .before .before .before .before in
+    let mid = after-run-open .before .before .before .before in
+    let k = mid .before in
     let a = k .args in
     opened-to (deckIn (a .row .now) (a .sizes)) (a .sizes .reordering) (a .tall) (omega arith) (k .pre .1 .over) (k .pre .1 .all)
-    (c .before .before .before .before .before .before .run-open .ensures) (c .before .before .put-states .ensures)
+    (after-run-open .run-open .ensures) (after-put-states .put-states .ensures)
 
 pub open-to-spec : {M : Type 1} → statement M
 open-to-spec =

@@ -50,10 +50,13 @@ same-length c = search needs
 
 returns : tie.Need-returns
 returns c =
-    let k = c .before .before .before .before .before .before .before .before .before in
+    let after-if1 = c .before .before .before .before in
+    let mid = after-if1 .before .before in
+    let k = mid .before .before .before in
     let a = k .args in
-    let e : a .tall + suc (a .sizes .reordering) < 1 + offset (a .sizes .reordering) (a .q) = omega (arith, c .before .before .before .before .if1 .taken, digit (c .before .before .before .before .before .before)) in
-    state-rows (omega (arith, k .pre .1 .few)) (c .before .before .fill-rows .ensures) (λ b l x y. comes-late (a .sizes .reordering) (a .tall) (a .store .now) l (a .q) b e)
+    let e : a .tall + suc (a .sizes .reordering) < 1 + offset (a .sizes .reordering) (a .q) = omega (arith, after-if1 .if1 .taken, digit mid) in
+    state-rows (omega (arith, k .pre .1 .few)) (c .before .before .fill-rows .ensures)
+    (λ b l x y. comes-late (a .sizes .reordering) (a .tall) (a .store .now) l (a .q) b e)
 
 sub-kept-at : tie.Need-sub-kept-at
 sub-kept-at c = search needs
@@ -81,14 +84,16 @@ same-length-2 c = search needs
 
 returns-2 : tie.Need-returns-2
 returns-2 c =
-    let k = c .before .before .before .before .before .before .before .before .before .before in
+    let after-kept-at = c .before .before .before .before in
+    let mid = after-kept-at .before .before .before in
+    let k = mid .before .before .before in
     let a = k .args in
-    let d = digit (c .before .before .before .before .before .before .before) in
-    let e : 1 + offset (a .sizes .reordering) (a .q) ≤ a .tall + suc (a .sizes .reordering) = omega (arith, c .before .before .before .before .before .if1 .left, d) in
+    let d = digit mid in
+    let e : 1 + offset (a .sizes .reordering) (a .q) ≤ a .tall + suc (a .sizes .reordering) = omega (arith, after-kept-at .before .if1 .left, d) in
     state-rows (omega (arith, k .pre .1 .few)) (c .before .before .spread .ensures)
     (λ b l x y.
     comes-with (a .sizes .reordering) (a .tall) (a .store .now) l (a .q) b e
-    ∙ ap (λ (j : ℕ). getD (a .store .now) j 0) (omega (arith, c .before .before .before .before .kept-at .ensures, d)))
+    ∙ ap (λ (j : ℕ). getD (a .store .now) j 0) (omega (arith, after-kept-at .kept-at .ensures, d)))
 
 add-word : tie.Need-add-word
 add-word c = search needs
@@ -96,4 +101,5 @@ add-word c = search needs
 pub put-state-spec : {M : Type 1} → statement M
 put-state-spec =
     tie.close
-    (tie.spec mul-word add-word word-requires add-all add-all-2 add-if1 mul-fill-rows add-fill-rows fill-rows-requires same-length returns sub-kept-at kept-at-requires mul-from add-from mul-spread add-spread spread-requires same-length-2 returns-2)
+    (tie.spec mul-word add-word word-requires add-all add-all-2 add-if1 mul-fill-rows add-fill-rows fill-rows-requires same-length returns sub-kept-at
+    kept-at-requires mul-from add-from mul-spread add-spread spread-requires same-length-2 returns-2)

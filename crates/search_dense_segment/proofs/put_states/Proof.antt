@@ -23,9 +23,10 @@ loop-holds c = (omega arith, filled-none _ _ _ _ (c .before .before .pre .1 .low
 
 put-state-requires : tie.Need-put-state-requires Inv-loop μ-loop
 put-state-requires c κs =
-    let k = c .before .before .before .before .before .before in
+    let at-loop = c .before .before .before in
+    let k = at-loop .before .before .before in
     let g = k .pre .1 in
-    let f = c .before .before .before .loop .inv .1 in
+    let f = at-loop .loop .inv .1 in
     (k .pre .0, record { low = f .low; few = g .few; all = g .all; over = g .over; room = omega (arith, g .room, f .frame .long) }, k .pre .2, omega arith)
 
 add-q : tie.Need-add-q Inv-loop μ-loop
@@ -36,14 +37,17 @@ loop-less c = search needs
 
 loop-again : tie.Need-loop-again Inv-loop μ-loop
 loop-again c =
-    let k = c .before .before .before .before .before .before .before .before .before in
+    let after-put-state = c .before .before in
+    let at-loop = after-put-state .before .before .before .before in
+    let k = at-loop .before .before .before in
     let a = k .args in
     let g = k .pre .1 in
-    let l = c .before .before .before .before .before .before .loop in
+    let l = at-loop .loop in
     let n : l .q < 12 = omega (arith, g .all, k .pre .0 .few) in (
       omega arith,
-      filled-more (l .q) (omega arith) (omega (arith, g .few)) n (l .inv .1) (c .before .before .put-state .ensures)
-          (λ b j x y. comes-kept (a .sizes .reordering) (a .tall) (l .q) b j (a .store .now) (l .store) (omega (arith, k .pre .0 .reorder)) n (omega (arith, g .few)) (λ i h. l .inv .1 .frame .low i (omega (arith, g .over)))),
+      filled-more (l .q) (omega arith) (omega (arith, g .few)) n (l .inv .1) (after-put-state .put-state .ensures)
+          (λ b j x y. comes-kept (a .sizes .reordering) (a .tall) (l .q) b j (a .store .now) (l .store) (omega (arith, k .pre .0 .reorder)) n
+          (omega (arith, g .few)) (λ i h. l .inv .1 .frame .low i (omega (arith, g .over)))),
     )
 
 same-length : tie.Need-same-length Inv-loop μ-loop
@@ -51,8 +55,9 @@ same-length c = c .before .before .loop .inv .1 .frame .long
 
 returns : tie.Need-returns Inv-loop μ-loop
 returns c =
-    let e : c .before .before .loop .q ≡ c .before .before .before .before .before .args .sizes .states = omega arith in
-    rw e at (c .before .before .loop .inv .1)
+    let at-loop = c .before .before in
+    let e : at-loop .loop .q ≡ at-loop .before .before .before .args .sizes .states = omega arith in
+    rw e at (at-loop .loop .inv .1)
 
 pub put-states-spec : {M : Type 1} → statement M
 put-states-spec =

@@ -14,7 +14,8 @@ open-requires c κs = search needs
 
 segment-kept-requires : tie.Need-segment-kept-requires
 segment-kept-requires c κs =
-    let k = c .before .before .before .before .before .before .before .before in
+    let mid = c .before .before .before .before in
+    let k = mid .before .before .before .before in
     let b = c .before .before .before .open .ensures in
     record { ground = k .pre .0; low = b .low; long = omega (arith, k .pre .2, b .frame .long); some = omega arith; cells = omega arith; last = k .pre .3 }
 
@@ -23,10 +24,13 @@ same-length c = search needs
 
 returns : tie.Need-returns
 returns c =
-    let k = c .before .before .before .before .before .before .before .before .before .before .before in
+    let after-segment-kept = c .before .before in
+    let after-open = after-segment-kept .before .before .before .before in
+    let after-kept-at = after-open .before in
+    let k = after-kept-at .before .before .before .before in
     let a = k .args in
-    open-kept (deckIn (a .row .now) (a .sizes)) (a .sizes .reordering) (c .before .before .before .before .before .before .before .kept-at .ensures) (k .pre .0 .all)
-    (c .before .before .before .before .before .before .open .ensures) (c .before .before .segment-kept .ensures)
+    open-kept (deckIn (a .row .now) (a .sizes)) (a .sizes .reordering) (after-kept-at .kept-at .ensures) (k .pre .0 .all)
+    (after-open .open .ensures) (after-segment-kept .segment-kept .ensures)
 
 pub run-open-spec : {M : Type 1} → statement M
 run-open-spec =

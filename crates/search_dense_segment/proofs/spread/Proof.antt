@@ -52,8 +52,11 @@ loop-again c =
     let b = c .before .before .before .args in
     let l = c .before .before .loop in
     let s = l .inv .1 in
-    let x = getD (l .store) (b .from + l .a) 0 in
-    (omega arith, rows-more (l .a) (omega arith) s (written-one (always x) (b .at + l .a * 64) x (s .low) (omega (arith, s .frame .long)) refl (s .low .word (b .from + l .a))) (λ j h. sym (s .frame .low (b .from + l .a) (omega arith))))
+    let x = getD (l .store) (b .from + l .a) 0 in (
+      omega arith,
+      rows-more (l .a) (omega arith) s (written-one (always x) (b .at + l .a * 64) x (s .low) (omega (arith, s .frame .long)) refl
+          (s .low .word (b .from + l .a))) (λ j h. sym (s .frame .low (b .from + l .a) (omega arith))),
+    )
 
 same-length : tie.Need-same-length Inv-loop μ-loop
 same-length c = c .before .loop .inv .1 .frame .long

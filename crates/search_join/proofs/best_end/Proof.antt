@@ -35,7 +35,9 @@ least-lane-requires c κs =
     (c .before .before .before .before .pre .1, w .low, omega (arith, w .states, w .few), omega (arith, w .states, w .few, w .long, c .cost-at .ensures))
 
 cast-better : tie.Need-cast-better Inv-loop μ-loop
-cast-better c = let w = c .before .before .before .before .before .pre .0 .states in omega arith
+cast-better c =
+    let mid = c .before .before .before .before in
+    let w = mid .before .pre .0 .states in omega arith
 
 better-requires : tie.Need-better-requires Inv-loop μ-loop
 better-requires c κs = search needs
@@ -48,12 +50,14 @@ loop-less c = search needs
 
 loop-again : tie.Need-loop-again Inv-loop μ-loop
 loop-again c =
-    let k = c .before .before .before .before .before .before in
+    let at-loop = c .before .before .before .before in
+    let k = at-loop .before .before in
     let a = k .args in
-    let t = c .before .before .before .before .loop .t in (
+    let t = at-loop .loop .t in (
       omega arith,
-      least-more _ t (c .before .before .before .before .loop .inv .1)
-          (end-met (a .starts) (a .lanes) (a .sums .now) (a .store .now) (a .q1) (a .a) t _ (omega arith) (k .pre .0 .states) (c .before .before .cost-at .ensures) (c .before .least-lane .ensures))
+      least-more _ t (at-loop .loop .inv .1)
+          (end-met (a .starts) (a .lanes) (a .sums .now) (a .store .now) (a .q1) (a .a) t _ (omega arith) (k .pre .0 .states)
+          (c .before .before .cost-at .ensures) (c .before .least-lane .ensures))
           (c .better .ensures),
     )
 

@@ -21,9 +21,16 @@ loop-holds c = (omega arith, part-none _ _ _ (c .before .pre .0 .low) (λ q₀ q
 
 case-pose-requires : tie.Need-case-pose-requires Inv-loop μ-loop
 case-pose-requires c κs =
-    let k = c .before .before .before .before .before in
-    let l = c .before .before .before .loop .inv in
-    (table-part (k .args .starts) (k .args .lanes) (k .args .i) (k .pre .0) (l .1), l .2, omega (arith, k .pre .2, l .1 .long), omega arith, omega arith, omega arith)
+    let at-loop = c .before .before .before in
+    let k = at-loop .before .before in
+    let l = at-loop .loop .inv in (
+      table-part (k .args .starts) (k .args .lanes) (k .args .i) (k .pre .0) (l .1),
+      l .2,
+      omega (arith, k .pre .2, l .1 .long),
+      omega arith,
+      omega arith,
+      omega arith,
+    )
 
 add-a : tie.Need-add-a Inv-loop μ-loop
 add-a c = search needs
@@ -33,11 +40,16 @@ loop-less c = search needs
 
 loop-again : tie.Need-loop-again Inv-loop μ-loop
 loop-again c =
-    let k = c .before .before .before .before .before .before .before .before in
+    let after-case-pose = c .before .before in
+    let at-loop = after-case-pose .before .before .before .before in
+    let k = at-loop .before .before in
     let a = k .args in
-    let l = c .before .before .before .before .before .before .loop in
-    let w = c .before .before .case-pose .ensures in
-    (omega arith, block-more (a .starts) (a .lanes) (a .i) (a .q0) (a .ends) (l .a) (k .pre .0) (omega arith) (omega arith) (omega arith) (l .inv .1) (w .0), w .1)
+    let l = at-loop .loop in
+    let w = after-case-pose .case-pose .ensures in (
+      omega arith,
+      block-more (a .starts) (a .lanes) (a .i) (a .q0) (a .ends) (l .a) (k .pre .0) (omega arith) (omega arith) (omega arith) (l .inv .1) (w .0),
+      w .1,
+    )
 
 same-length : tie.Need-same-length Inv-loop μ-loop
 same-length c = c .before .loop .inv .1 .long

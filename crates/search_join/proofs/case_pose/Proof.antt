@@ -23,10 +23,18 @@ loop-holds c = (omega arith, part-none _ _ _ (c .before .before .before .before 
 
 put-case-requires : tie.Need-put-case-requires Inv-loop μ-loop
 put-case-requires c κs =
-    let k = c .before .before .before .before .before .before .before .before in
+    let after-fill-sums = c .before .before .before .before in
+    let k = after-fill-sums .before .before .before .before in
     let a = k .args in
-    let p = c .before .before .before .loop .inv .1 in
-    (table-part (a .starts) (a .lanes) (a .i) (k .pre .0) p, summed-part (a .starts) (a .lanes) (a .i) (PoseCases (a .q0) (c .before .before .before .loop .q1) (a .a)) (a .q0) (a .a) (k .pre .0) (λ q₀ q₁ b r. (omega arith, omega arith, omega arith)) p (omega arith) (omega arith) (c .before .before .before .before .fill-sums .ensures), omega (arith, k .pre .2, p .long), omega arith, omega arith, omega arith)
+    let p = c .before .before .before .loop .inv .1 in (
+      table-part (a .starts) (a .lanes) (a .i) (k .pre .0) p,
+      summed-part (a .starts) (a .lanes) (a .i) (PoseCases (a .q0) (c .before .before .before .loop .q1) (a .a)) (a .q0) (a .a) (k .pre .0)
+          (λ q₀ q₁ b r. (omega arith, omega arith, omega arith)) p (omega arith) (omega arith) (after-fill-sums .fill-sums .ensures),
+      omega (arith, k .pre .2, p .long),
+      omega arith,
+      omega arith,
+      omega arith,
+    )
 
 add-q1 : tie.Need-add-q1 Inv-loop μ-loop
 add-q1 c = search needs
@@ -36,18 +44,25 @@ loop-less c = search needs
 
 loop-again : tie.Need-loop-again Inv-loop μ-loop
 loop-again c =
-    let k = c .before .before .before .before .before .before .before .before .before .before .before in
+    let after-put-case = c .before .before in
+    let at-loop = after-put-case .before .before .before .before in
+    let mid = at-loop .before .before .before .before in
+    let k = mid .before in
     let a = k .args in
-    let l = c .before .before .before .before .before .before .loop in
-    (omega arith, pose-more (a .starts) (a .lanes) (a .i) (a .q0) (l .q1) (a .a) (k .pre .0) (omega arith) (omega arith) (omega arith) (l .inv .1) (c .before .before .put-case .ensures))
+    let l = at-loop .loop in (
+      omega arith,
+      pose-more (a .starts) (a .lanes) (a .i) (a .q0) (l .q1) (a .a) (k .pre .0) (omega arith) (omega arith) (omega arith) (l .inv .1)
+          (after-put-case .put-case .ensures),
+    )
 
 same-length : tie.Need-same-length Inv-loop μ-loop
 same-length c = c .before .loop .inv .1 .long
 
 returns : tie.Need-returns Inv-loop μ-loop
 returns c =
-    let e : c .before .loop .q1 ≡ c .before .before .before .before .before .before .args .ends = omega arith in
-    (rw e at (c .before .loop .inv .1), c .before .before .fill-sums .ensures .all .room)
+    let after-fill-sums = c .before .before in
+    let e : c .before .loop .q1 ≡ after-fill-sums .before .before .before .before .args .ends = omega arith in
+    (rw e at (c .before .loop .inv .1), after-fill-sums .fill-sums .ensures .all .room)
 
 pub case-pose-spec : {M : Type 1} → statement M
 case-pose-spec =

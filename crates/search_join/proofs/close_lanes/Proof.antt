@@ -31,10 +31,15 @@ loop-less c = search needs
 
 loop-again : tie.Need-loop-again Inv-loop μ-loop
 loop-again c =
-    let k = c .before .before .before .before .before .before .before in
+    let after-close-state = c .before .before in
+    let at-loop = after-close-state .before .before .before in
+    let k = at-loop .before .before in
     let a = k .args in
-    let l = c .before .before .before .before .before .loop in
-    (omega arith, closed-next (a .i) (a .low) (a .high) (l .s) (a .ends) (omega arith) (omega arith) (omega arith) (omega arith) (l .inv .1) (c .before .before .close-state .ensures))
+    let l = at-loop .loop in (
+      omega arith,
+      closed-next (a .i) (a .low) (a .high) (l .s) (a .ends) (omega arith) (omega arith) (omega arith) (omega arith) (l .inv .1)
+          (after-close-state .close-state .ensures),
+    )
 
 same-length : tie.Need-same-length Inv-loop μ-loop
 same-length c = c .before .loop .inv .1 .long

@@ -28,8 +28,9 @@ sub-fill c = search needs
 
 fill-requires : tie.Need-fill-requires Inv-loop μ-loop
 fill-requires c κs =
-    let k = c .before .before .before .before .before in
-    let w = c .before .before .before .loop .inv .1 in
+    let at-loop = c .before .before .before in
+    let k = at-loop .before .before in
+    let w = at-loop .loop .inv .1 in
     (omega (arith, c .case-at .ensures, k .pre .1, w .long), omega arith, w .fits)
 
 add-t : tie.Need-add-t Inv-loop μ-loop
@@ -40,10 +41,13 @@ loop-less c = search needs
 
 loop-again : tie.Need-loop-again Inv-loop μ-loop
 loop-again c =
-    let k = c .before .before .before .before .before .before .before .before in
+    let after-case-at = c .before .before .before in
+    let at-loop = after-case-at .before .before .before in
+    let k = at-loop .before .before in
     let a = k .args in
-    let l = c .before .before .before .before .before .before .loop in
-    let one = closed-one (a .i) (a .low) (a .high) (a .q0) (l .t) _ (omega arith) (omega arith) (omega arith) (omega arith) (omega arith) (c .before .before .before .case-at .ensures) (c .before .before .fill .ensures) in
+    let l = at-loop .loop in
+    let one = closed-one (a .i) (a .low) (a .high) (a .q0) (l .t) _ (omega arith) (omega arith) (omega arith) (omega arith) (omega arith)
+    (after-case-at .case-at .ensures) (c .before .before .fill .ensures) in
     (omega arith, closed-more (a .i) (a .low) (a .high) (a .q0) (l .t) (omega arith) (omega arith) (omega arith) (omega arith) (l .inv .1) one)
 
 same-length : tie.Need-same-length Inv-loop μ-loop

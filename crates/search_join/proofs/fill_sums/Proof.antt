@@ -34,8 +34,9 @@ loop-holds c =
 
 sums-from-requires : tie.Need-sums-from-requires Inv-loop μ-loop
 sums-from-requires c κs =
-    let k = c .before .before .before .before .before .before in
-    (k .pre .0, c .before .before .loop .inv .1, omega arith, omega arith, omega arith)
+    let at-loop = c .before .before in
+    let k = at-loop .before .before .before .before in
+    (k .pre .0, at-loop .loop .inv .1, omega arith, omega arith, omega arith)
 
 add-s : tie.Need-add-s Inv-loop μ-loop
 add-s c = search needs
@@ -45,9 +46,10 @@ loop-less c = search needs
 
 loop-again : tie.Need-loop-again Inv-loop μ-loop
 loop-again c =
-    let k = c .before .before .before .before .before .before .before .before in
+    let at-loop = c .before .before .before .before in
+    let k = at-loop .before .before .before .before in
     let a = k .args in
-    let l = c .before .before .before .before .loop in
+    let l = at-loop .loop in
     let w = c .before .sums-from .ensures in (
       omega arith,
       w .0,
@@ -60,8 +62,9 @@ loop-again c =
 
 returns : tie.Need-returns Inv-loop μ-loop
 returns c =
-    let e : c .before .loop .s ≡ c .before .before .before .before .before .args .starts = omega arith in
-    record { all = rw e at (c .before .loop .inv .1); dead = c .before .loop .inv .2 }
+    let at-loop = c .before in
+    let e : at-loop .loop .s ≡ at-loop .before .before .before .before .args .starts = omega arith in
+    record { all = rw e at (at-loop .loop .inv .1); dead = at-loop .loop .inv .2 }
 
 pub fill-sums-spec : {M : Type 1} → statement M
 fill-sums-spec =

@@ -36,19 +36,22 @@ cast-t c = search needs
 
 pointer-of-requires : tie.Need-pointer-of-requires
 pointer-of-requires c κs =
-    let k = c .before .before .before .before .before in
+    let after-best-end = c .before .before in
+    let k = after-best-end .before .before .before in
     let a = k .args in
     let ends = endSum (a .lanes) (a .sums .now) (a .store .now) (a .q1) (a .a) in
-    let met = least-met {W = MetAt ends (a .starts)} (lowest-low B ends (from 0 (a .starts))) (c .before .before .best-end .ensures) (c .before .if2 .left) in
+    let met = least-met {W = MetAt ends (a .starts)} (lowest-low B ends (from 0 (a .starts))) (after-best-end .best-end .ensures) (c .before .if2 .left) in
     (k .pre .0, k .pre .1 .all, omega arith, omega arith, omega arith, met .0 .0, met .0 .1, met .1)
 
 returns-3 : tie.Need-returns-3
 returns-3 c =
-    let k = c .before .before .before .before .before .before in
+    let after-best-end = c .before .before .before in
+    let k = after-best-end .before .before .before in
     let a = k .args in
-    let best = c .before .before .before .best-end .ensures in
+    let best = after-best-end .best-end .ensures in
     let way = c .pointer-of .ensures in
-    next-is (a .starts) (a .lanes) _ _ _ (a .q0) (a .q1) (a .a) _ (omega (arith, best .right, lowest-low B (endSum (a .lanes) (a .sums .now) (a .store .now) (a .q1) (a .a)) (from 0 (a .starts))))
+    next-is (a .starts) (a .lanes) _ _ _ (a .q0) (a .q1) (a .a) _
+    (omega (arith, best .right, lowest-low B (endSum (a .lanes) (a .sums .now) (a .store .now) (a .q1) (a .a)) (from 0 (a .starts))))
     (case-below (a .starts) (a .lanes) (a .i) (a .store .now) (a .q0) (a .q1) (a .a) (k .pre .1 .all) _ (best .right))
     (λ h. way .0)
     (way .1)

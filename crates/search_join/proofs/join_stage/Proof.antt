@@ -25,9 +25,16 @@ loop-holds c =
 
 case-block-requires : tie.Need-case-block-requires Inv-loop μ-loop
 case-block-requires c κs =
-    let k = c .before .before .before .before .before in
-    let l = c .before .before .before .loop .inv in
-    (table-part (k .args .starts) (k .args .lanes) (k .args .i) (k .pre .0) (l .1), l .2, omega (arith, k .pre .1, l .1 .long), omega arith, omega arith, omega arith)
+    let at-loop = c .before .before .before in
+    let k = at-loop .before .before in
+    let l = at-loop .loop .inv in (
+      table-part (k .args .starts) (k .args .lanes) (k .args .i) (k .pre .0) (l .1),
+      l .2,
+      omega (arith, k .pre .1, l .1 .long),
+      omega arith,
+      omega arith,
+      omega arith,
+    )
 
 add-q0 : tie.Need-add-q0 Inv-loop μ-loop
 add-q0 c = search needs
@@ -37,11 +44,16 @@ loop-less c = search needs
 
 loop-again : tie.Need-loop-again Inv-loop μ-loop
 loop-again c =
-    let k = c .before .before .before .before .before .before .before .before in
+    let after-case-block = c .before .before in
+    let at-loop = after-case-block .before .before .before .before in
+    let k = at-loop .before .before in
     let a = k .args in
-    let l = c .before .before .before .before .before .before .loop in
-    let w = c .before .before .case-block .ensures in
-    (omega arith, stage-more (a .starts) (a .lanes) (a .i) (l .q0) (a .ends) (a .poses) (k .pre .0) (omega arith) (omega arith) (omega arith) (l .inv .1) (w .0), w .1)
+    let l = at-loop .loop in
+    let w = after-case-block .case-block .ensures in (
+      omega arith,
+      stage-more (a .starts) (a .lanes) (a .i) (l .q0) (a .ends) (a .poses) (k .pre .0) (omega arith) (omega arith) (omega arith) (l .inv .1) (w .0),
+      w .1,
+    )
 
 same-length : tie.Need-same-length Inv-loop μ-loop
 same-length c = c .before .loop .inv .1 .long

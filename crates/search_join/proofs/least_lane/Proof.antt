@@ -41,16 +41,20 @@ shared-slice-read-lesser c = search needs
 
 add-lesser-3 : tie.Need-add-lesser-3 Inv-loop μ-loop
 add-lesser-3 c =
-    let k = c .before .before .before .before .before in
-    let l = c .before .before .before .loop .l in
+    let at-loop = c .before .before .before in
+    let k = at-loop .before .before in
+    let l = at-loop .loop .l in
     omega (arith, k .pre .0 .low .word (k .args .at + l), k .pre .1 .word (k .args .p1 + l))
 
 lesser-requires : tie.Need-lesser-requires Inv-loop μ-loop
 lesser-requires c κs =
-    let k = c .before .before .before .before .before in
+    let at-loop = c .before .before .before in
+    let k = at-loop .before .before in
     let a = k .args in
-    let l = c .before .before .before .loop in
-    (omega (arith, lowest-low B (laneSum (a .sums .now) (a .at) (a .store .now) (a .p1)) (from 0 (l .l))), omega (arith, k .pre .0 .low .word (a .at + l .l), k .pre .1 .word (a .p1 + l .l)))
+    let l = at-loop .loop in (
+      omega (arith, lowest-low B (laneSum (a .sums .now) (a .at) (a .store .now) (a .p1)) (from 0 (l .l))),
+      omega (arith, k .pre .0 .low .word (a .at + l .l), k .pre .1 .word (a .p1 + l .l)),
+    )
 
 add-l : tie.Need-add-l Inv-loop μ-loop
 add-l c = search needs
@@ -61,8 +65,9 @@ loop-less c = search needs
 loop-again : tie.Need-loop-again Inv-loop μ-loop
 unfolding laneSum
 loop-again c =
-    let a = c .before .before .before .before .before .before .args in
-    let l = c .before .before .before .before .loop .l in
+    let at-loop = c .before .before .before .before in
+    let a = at-loop .before .before .args in
+    let l = at-loop .loop .l in
     (omega arith, omega (arith, c .lesser .ensures, lowest-more (laneSum (a .sums .now) (a .at) (a .store .now) (a .p1)) l))
 
 returns : tie.Need-returns Inv-loop μ-loop

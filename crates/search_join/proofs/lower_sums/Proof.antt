@@ -59,17 +59,21 @@ shared-slice-read-lesser-2 c = search needs
 
 add-lesser-4 : tie.Need-add-lesser-4 Inv-loop μ-loop
 add-lesser-4 c =
-    let k = c .before .before .before .before .before .before .before .before in
-    let l = c .before .before .before .before .loop .l in
+    let at-loop = c .before .before .before .before in
+    let k = at-loop .before .before .before .before in
+    let l = at-loop .loop .l in
     let w = k .pre .0 .low .word in
-    omega (arith, w (c .before .before .before .before .before .before .case-at .result + l), w (c .before .before .before .before .before .cost-at .result + l))
+    omega (arith, w (at-loop .before .before .case-at .result + l), w (at-loop .before .cost-at .result + l))
 
 lesser-requires : tie.Need-lesser-requires Inv-loop μ-loop
 lesser-requires c κs =
-    let k = c .before .before .before .before .before .before .before .before in
-    let l = c .before .before .before .before .loop in
-    let w = k .pre .0 .low .word in
-    (omega (arith, l .inv .1 .room .low .word (k .args .t * 64 + l .l)), omega (arith, w (c .before .before .before .before .before .before .case-at .result + l .l), w (c .before .before .before .before .before .cost-at .result + l .l)))
+    let at-loop = c .before .before .before .before in
+    let k = at-loop .before .before .before .before in
+    let l = at-loop .loop in
+    let w = k .pre .0 .low .word in (
+      omega (arith, l .inv .1 .room .low .word (k .args .t * 64 + l .l)),
+      omega (arith, w (at-loop .before .before .case-at .result + l .l), w (at-loop .before .cost-at .result + l .l)),
+    )
 
 add-sums : tie.Need-add-sums Inv-loop μ-loop
 add-sums c = search needs
@@ -88,10 +92,13 @@ loop-less c = search needs
 
 loop-again : tie.Need-loop-again Inv-loop μ-loop
 loop-again c =
-    let k = c .before .before .before .before .before .before .before .before .before in
+    let mid = c .before .before .before .before in
+    let after-case-at = mid .before .before .before in
+    let k = after-case-at .before .before in
     let a = k .args in
-    let l = c .before .before .before .before .before .loop in
-    let e = start-words (a .i) (a .store .now) (a .q0) (a .a) (a .s) (a .t) (l .l) _ _ (c .before .before .before .before .before .before .before .case-at .ensures) (c .before .before .before .before .before .before .cost-at .ensures) in (
+    let l = mid .before .loop in
+    let e =
+    start-words (a .i) (a .store .now) (a .q0) (a .a) (a .s) (a .t) (l .l) _ _ (after-case-at .case-at .ensures) (mid .before .before .cost-at .ensures) in (
       omega arith,
       sums-lane (a .starts) (a .lanes) (a .i) (a .store .now) (a .q0) (a .a) (a .s) (a .t) (l .l) (c .lesser .result) (l .inv .1)
           (k .pre .0 .states) (k .pre .0 .few) (omega arith) (omega arith) (omega (arith, c .lesser .ensures)),
@@ -99,11 +106,12 @@ loop-again c =
 
 returns : tie.Need-returns Inv-loop μ-loop
 returns c =
-    let k = c .before .before .before .before .before in
+    let at-loop = c .before in
+    let k = at-loop .before .before .before .before in
     let a = k .args in
     let few = k .pre .0 .few in
-    let e : c .before .loop .l ≡ a .lanes = omega arith in
-    sums-to (a .starts) (a .lanes) (a .i) (a .store .now) (a .q0) (a .a) _ (c .before .loop .inv .1) (omega arith) (λ t l h g z. omega arith)
+    let e : at-loop .loop .l ≡ a .lanes = omega arith in
+    sums-to (a .starts) (a .lanes) (a .i) (a .store .now) (a .q0) (a .a) _ (at-loop .loop .inv .1) (omega arith) (λ t l h g z. omega arith)
 
 pub lower-sums-spec : {M : Type 1} → statement M
 lower-sums-spec =

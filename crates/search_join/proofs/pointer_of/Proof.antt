@@ -24,7 +24,8 @@ add-at c =
     let k = c .before .before .before in
     let a = k .args in
     let t = k .pre .0 in
-    let m = lane-met (a .starts) (a .lanes) (a .i) (a .store .now) (a .q0) (a .q1) (a .a) (k .pre .1) (a .value) (a .t) _ _ (k .pre .7) (k .pre .6) (c .before .cost-at .ensures) (c .lane-of .ensures) in
+    let m = lane-met (a .starts) (a .lanes) (a .i) (a .store .now) (a .q0) (a .q1) (a .a) (k .pre .1) (a .value) (a .t) _ _ (k .pre .7) (k .pre .6)
+    (c .before .cost-at .ensures) (c .lane-of .ensures) in
     omega (arith, m .0, t .few, t .states)
 
 mul-start-of : tie.Need-mul-start-of
@@ -32,7 +33,8 @@ mul-start-of c =
     let k = c .before .before .before in
     let a = k .args in
     let t = k .pre .0 in
-    let m = lane-met (a .starts) (a .lanes) (a .i) (a .store .now) (a .q0) (a .q1) (a .a) (k .pre .1) (a .value) (a .t) _ _ (k .pre .7) (k .pre .6) (c .before .cost-at .ensures) (c .lane-of .ensures) in
+    let m = lane-met (a .starts) (a .lanes) (a .i) (a .store .now) (a .q0) (a .q1) (a .a) (k .pre .1) (a .value) (a .t) _ _ (k .pre .7) (k .pre .6)
+    (c .before .cost-at .ensures) (c .lane-of .ensures) in
     omega (arith, m .0, t .few, t .states)
 
 element-copy-out-start-of : tie.Need-element-copy-out-start-of
@@ -40,7 +42,8 @@ element-copy-out-start-of c =
     let k = c .before .before .before in
     let a = k .args in
     let t = k .pre .0 in
-    let m = lane-met (a .starts) (a .lanes) (a .i) (a .store .now) (a .q0) (a .q1) (a .a) (k .pre .1) (a .value) (a .t) _ _ (k .pre .7) (k .pre .6) (c .before .cost-at .ensures) (c .lane-of .ensures) in
+    let m = lane-met (a .starts) (a .lanes) (a .i) (a .store .now) (a .q0) (a .q1) (a .a) (k .pre .1) (a .value) (a .t) _ _ (k .pre .7) (k .pre .6)
+    (c .before .cost-at .ensures) (c .lane-of .ensures) in
     omega (arith, m .0, t .few, t .states)
 
 start-of-requires : tie.Need-start-of-requires
@@ -48,44 +51,59 @@ start-of-requires c κs =
     let k = c .before .before .before .before in
     let a = k .args in
     let t = k .pre .0 in
-    let m = lane-met (a .starts) (a .lanes) (a .i) (a .store .now) (a .q0) (a .q1) (a .a) (k .pre .1) (a .value) (a .t) _ _ (k .pre .7) (k .pre .6) (c .before .before .cost-at .ensures) (c .before .lane-of .ensures) in
+    let m = lane-met (a .starts) (a .lanes) (a .i) (a .store .now) (a .q0) (a .q1) (a .a) (k .pre .1) (a .value) (a .t) _ _ (k .pre .7) (k .pre .6)
+    (c .before .before .cost-at .ensures) (c .before .lane-of .ensures) in
     (table-for _ _ t (omega arith) (t .stage), omega arith, omega arith, omega arith, omega (arith, m .0, t .few))
 
 mul-result : tie.Need-mul-result
 mul-result c =
-    let k = c .before .before .before .before .before in
+    let after-cost-at = c .before .before .before in
+    let k = after-cost-at .before .before in
     let a = k .args in
     let t = k .pre .0 in
-    let m = lane-met (a .starts) (a .lanes) (a .i) (a .store .now) (a .q0) (a .q1) (a .a) (k .pre .1) (a .value) (a .t) _ _ (k .pre .7) (k .pre .6) (c .before .before .before .cost-at .ensures) (c .before .before .lane-of .ensures) in
-    let w = case-way (a .starts) (a .lanes) (a .i) (a .store .now) (a .q0) (a .q1) (a .a) (k .pre .1) (a .value) (c .start-of .result) (a .t) (c .before .before .lane-of .result) (k .pre .7) (t .states) (t .few) (k .pre .5) (m .0) (m .1) (c .start-of .ensures) in
+    let m = lane-met (a .starts) (a .lanes) (a .i) (a .store .now) (a .q0) (a .q1) (a .a) (k .pre .1) (a .value) (a .t) _ _ (k .pre .7) (k .pre .6)
+    (after-cost-at .cost-at .ensures) (c .before .before .lane-of .ensures) in
+    let w = case-way (a .starts) (a .lanes) (a .i) (a .store .now) (a .q0) (a .q1) (a .a) (k .pre .1) (a .value) (c .start-of .result) (a .t)
+    (c .before .before .lane-of .result) (k .pre .7) (t .states) (t .few) (k .pre .5) (m .0) (m .1) (c .start-of .ensures) in
     omega (arith, w .1, t .states)
 
 add-result : tie.Need-add-result
 add-result c =
-    let k = c .before .before .before .before .before in
+    let after-cost-at = c .before .before .before in
+    let k = after-cost-at .before .before in
     let a = k .args in
     let t = k .pre .0 in
-    let m = lane-met (a .starts) (a .lanes) (a .i) (a .store .now) (a .q0) (a .q1) (a .a) (k .pre .1) (a .value) (a .t) _ _ (k .pre .7) (k .pre .6) (c .before .before .before .cost-at .ensures) (c .before .before .lane-of .ensures) in
-    let w = case-way (a .starts) (a .lanes) (a .i) (a .store .now) (a .q0) (a .q1) (a .a) (k .pre .1) (a .value) (c .start-of .result) (a .t) (c .before .before .lane-of .result) (k .pre .7) (t .states) (t .few) (k .pre .5) (m .0) (m .1) (c .start-of .ensures) in
+    let m = lane-met (a .starts) (a .lanes) (a .i) (a .store .now) (a .q0) (a .q1) (a .a) (k .pre .1) (a .value) (a .t) _ _ (k .pre .7) (k .pre .6)
+    (after-cost-at .cost-at .ensures) (c .before .before .lane-of .ensures) in
+    let w = case-way (a .starts) (a .lanes) (a .i) (a .store .now) (a .q0) (a .q1) (a .a) (k .pre .1) (a .value) (c .start-of .result) (a .t)
+    (c .before .before .lane-of .result) (k .pre .7) (t .states) (t .few) (k .pre .5) (m .0) (m .1) (c .start-of .ensures) in
     omega (arith, w .1, m .0, t .few, t .states)
 
 cast-result : tie.Need-cast-result
 cast-result c =
-    let k = c .before .before .before .before .before in
+    let after-cost-at = c .before .before .before in
+    let k = after-cost-at .before .before in
     let a = k .args in
     let t = k .pre .0 in
-    let m = lane-met (a .starts) (a .lanes) (a .i) (a .store .now) (a .q0) (a .q1) (a .a) (k .pre .1) (a .value) (a .t) _ _ (k .pre .7) (k .pre .6) (c .before .before .before .cost-at .ensures) (c .before .before .lane-of .ensures) in
-    let w = case-way (a .starts) (a .lanes) (a .i) (a .store .now) (a .q0) (a .q1) (a .a) (k .pre .1) (a .value) (c .start-of .result) (a .t) (c .before .before .lane-of .result) (k .pre .7) (t .states) (t .few) (k .pre .5) (m .0) (m .1) (c .start-of .ensures) in
+    let m = lane-met (a .starts) (a .lanes) (a .i) (a .store .now) (a .q0) (a .q1) (a .a) (k .pre .1) (a .value) (a .t) _ _ (k .pre .7) (k .pre .6)
+    (after-cost-at .cost-at .ensures) (c .before .before .lane-of .ensures) in
+    let w = case-way (a .starts) (a .lanes) (a .i) (a .store .now) (a .q0) (a .q1) (a .a) (k .pre .1) (a .value) (c .start-of .result) (a .t)
+    (c .before .before .lane-of .result) (k .pre .7) (t .states) (t .few) (k .pre .5) (m .0) (m .1) (c .start-of .ensures) in
     omega (arith, w .1, m .0, t .few, t .states)
 
 returns : tie.Need-returns
 returns c =
-    let k = c .before .before .before .before .before in
+    let after-cost-at = c .before .before .before in
+    let k = after-cost-at .before .before in
     let a = k .args in
     let t = k .pre .0 in
-    let m = lane-met (a .starts) (a .lanes) (a .i) (a .store .now) (a .q0) (a .q1) (a .a) (k .pre .1) (a .value) (a .t) _ _ (k .pre .7) (k .pre .6) (c .before .before .before .cost-at .ensures) (c .before .before .lane-of .ensures) in
-    let w = case-way (a .starts) (a .lanes) (a .i) (a .store .now) (a .q0) (a .q1) (a .a) (k .pre .1) (a .value) (c .start-of .result) (a .t) (c .before .before .lane-of .result) (k .pre .7) (t .states) (t .few) (k .pre .5) (m .0) (m .1) (c .start-of .ensures) in
-    (subst (WayIn (a .starts) (a .lanes) (a .i) (a .store .now) (a .q0) (a .q1) (a .a) (a .value)) (omega arith) (w .0), omega (arith, w .1, m .0, t .few, t .states))
+    let m = lane-met (a .starts) (a .lanes) (a .i) (a .store .now) (a .q0) (a .q1) (a .a) (k .pre .1) (a .value) (a .t) _ _ (k .pre .7) (k .pre .6)
+    (after-cost-at .cost-at .ensures) (c .before .before .lane-of .ensures) in
+    let w = case-way (a .starts) (a .lanes) (a .i) (a .store .now) (a .q0) (a .q1) (a .a) (k .pre .1) (a .value) (c .start-of .result) (a .t)
+    (c .before .before .lane-of .result) (k .pre .7) (t .states) (t .few) (k .pre .5) (m .0) (m .1) (c .start-of .ensures) in (
+      subst (WayIn (a .starts) (a .lanes) (a .i) (a .store .now) (a .q0) (a .q1) (a .a) (a .value)) (omega arith) (w .0),
+      omega (arith, w .1, m .0, t .few, t .states),
+    )
 
 pub pointer-of-spec : {M : Type 1} → statement M
 pointer-of-spec =

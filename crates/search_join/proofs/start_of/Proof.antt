@@ -45,14 +45,17 @@ shared-slice-read-if1-2 c = search needs
 
 add-if1-3 : tie.Need-add-if1-3 Inv-loop μ-loop
 add-if1-3 c =
-    let k = c .before .before .before .before .before .before .before in
+    let after-case-at = c .before .before .before in
+    let k = after-case-at .before .before .before .before in
     let w = k .pre .0 .low .word in
-    omega (arith, w (c .before .before .before .case-at .result + k .args .lane), w (c .before .cost-at .result + k .args .lane))
+    omega (arith, w (after-case-at .case-at .result + k .args .lane), w (c .before .cost-at .result + k .args .lane))
 
 returns : tie.Need-returns Inv-loop μ-loop
 returns c =
-    let a = c .before .before .before .before .before .before .before .before .args in
-    let e = start-words (a .i) (a .store .now) (a .q0) (a .a) (c .before .before .before .before .before .before .loop .s) (a .t) (a .lane) _ _ (c .before .before .before .before .case-at .ensures) (c .before .before .cost-at .ensures) in
+    let after-case-at = c .before .before .before .before in
+    let a = after-case-at .before .before .before .before .args in
+    let e = start-words (a .i) (a .store .now) (a .q0) (a .a) (after-case-at .before .before .loop .s) (a .t) (a .lane) _ _ (after-case-at .case-at .ensures)
+    (c .before .before .cost-at .ensures) in
     λ k h g. (omega arith, omega arith)
 
 add-s : tie.Need-add-s Inv-loop μ-loop
@@ -63,9 +66,11 @@ loop-less c = search needs
 
 loop-again : tie.Need-loop-again Inv-loop μ-loop
 loop-again c =
-    let a = c .before .before .before .before .before .before .before .before .args in
-    let e = start-words (a .i) (a .store .now) (a .q0) (a .a) (c .before .before .before .before .before .before .loop .s) (a .t) (a .lane) _ _ (c .before .before .before .before .case-at .ensures) (c .before .before .cost-at .ensures) in
-    (omega arith, below-more _ _ (c .before .before .before .before .before .before .loop .inv .1) (λ g. c .if1 .left (e ∙ g)))
+    let after-case-at = c .before .before .before .before in
+    let a = after-case-at .before .before .before .before .args in
+    let e = start-words (a .i) (a .store .now) (a .q0) (a .a) (after-case-at .before .before .loop .s) (a .t) (a .lane) _ _ (after-case-at .case-at .ensures)
+    (c .before .before .cost-at .ensures) in
+    (omega arith, below-more _ _ (after-case-at .before .before .loop .inv .1) (λ g. c .if1 .left (e ∙ g)))
 
 returns-2 : tie.Need-returns-2 Inv-loop μ-loop
 returns-2 c = λ k h e. absurd (c .before .loop .inv .1 k (omega arith) e)

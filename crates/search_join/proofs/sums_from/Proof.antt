@@ -26,7 +26,8 @@ returns c =
     let k = c .before .before .before .before in
     let a = k .args in (
       sums-skip (a .starts) (a .lanes) (a .i) (a .store .now) (a .q0) (a .a) (a .s) (k .pre .1)
-          (λ t l g. start-none (a .i) (a .store .now) (a .q0) (a .a) (a .s) t l _ (c .before .before .cost-at .ensures) (omega (arith, c .before .common .ensures l g))),
+          (λ t l g. start-none (a .i) (a .store .now) (a .q0) (a .a) (a .s) t l _ (c .before .before .cost-at .ensures)
+          (omega (arith, c .before .common .ensures l g))),
       λ e. refl,
     )
 
@@ -35,7 +36,8 @@ loop-holds c = (omega arith, c .before .before .before .before .pre .1)
 
 lower-sums-requires : tie.Need-lower-sums-requires Inv-loop μ-loop
 lower-sums-requires c κs =
-    let k = c .before .before .before .before .before .before .before in
+    let mid = c .before .before .before .before in
+    let k = mid .before .before .before in
     (k .pre .0, c .before .before .loop .inv .1, omega arith, omega arith, omega arith, omega arith)
 
 add-t : tie.Need-add-t Inv-loop μ-loop
@@ -52,7 +54,8 @@ loop-again c =
 
 returns-2 : tie.Need-returns-2 Inv-loop μ-loop
 returns-2 c =
-    let k = c .before .before .before .before .before .before in
+    let mid = c .before .before .before .before in
+    let k = mid .before .before in
     let a = k .args in
     let few = k .pre .0 .few in (
       sums-next (a .starts) (a .lanes) (a .i) (a .store .now) (a .q0) (a .a) (a .s) _ (c .before .loop .inv .1) (λ t l h g. omega arith),

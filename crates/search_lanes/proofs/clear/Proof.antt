@@ -32,8 +32,11 @@ loop-less c = omega arith
 
 loop-again : tie.Need-loop-again Inv-loop μ-loop
 loop-again c =
-    let h = c .before in
-    (omega arith, simp length-set (h .loop .inv .1), ap (λ (l : List ℕ). set l (h .loop .i) 0) (h .loop .inv .2) ∙ fill-more (h .loop .i) 0 (h .before .args .store .now) (omega arith))
+    let h = c .before in (
+      omega arith,
+      simp length-set (h .loop .inv .1),
+      ap (λ (l : List ℕ). set l (h .loop .i) 0) (h .loop .inv .2) ∙ fill-more (h .loop .i) 0 (h .before .args .store .now) (omega arith),
+    )
 
 same-length : tie.Need-same-length Inv-loop μ-loop
 same-length c = c .before .loop .inv .1

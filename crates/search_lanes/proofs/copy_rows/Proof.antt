@@ -46,9 +46,13 @@ loop-less c = search needs
 
 loop-again : tie.Need-loop-again Inv-loop μ-loop
 loop-again c =
-    let l = c .before .before .before .before .before .loop in
-    let k = c .before .before .before .before .before .before .before in
-    (omega arith, rows-more (l .a) (omega arith) (l .inv .1) (c .before .before .copy .ensures) (λ j h. sym (l .inv .1 .frame .low (k .args .from + l .a * 64 + j) (omega arith))))
+    let after-copy = c .before .before in
+    let at-loop = after-copy .before .before .before in
+    let k = at-loop .before .before in
+    let l = at-loop .loop in (
+      omega arith,
+      rows-more (l .a) (omega arith) (l .inv .1) (after-copy .copy .ensures) (λ j h. sym (l .inv .1 .frame .low (k .args .from + l .a * 64 + j) (omega arith))),
+    )
 
 same-length : tie.Need-same-length Inv-loop μ-loop
 same-length c =

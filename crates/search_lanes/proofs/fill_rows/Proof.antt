@@ -40,8 +40,9 @@ loop-less c = search needs
 
 loop-again : tie.Need-loop-again Inv-loop μ-loop
 loop-again c =
-    let l = c .before .before .before .before .before .loop in
-    (omega arith, rows-more (l .a) (omega arith) (l .inv .1) (c .before .before .fill .ensures) (λ j h. refl))
+    let after-fill = c .before .before in
+    let l = after-fill .before .before .before .loop in
+    (omega arith, rows-more (l .a) (omega arith) (l .inv .1) (after-fill .fill .ensures) (λ j h. refl))
 
 same-length : tie.Need-same-length Inv-loop μ-loop
 same-length c =

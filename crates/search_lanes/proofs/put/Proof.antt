@@ -51,8 +51,9 @@ loop-less c = search needs
 
 loop-again : tie.Need-loop-again Inv-loop μ-loop
 loop-again c =
-    let k = c .before .before .before .before .before in
-    let l = c .before .before .before .loop in
+    let at-loop = c .before .before .before in
+    let k = at-loop .before .before in
+    let l = at-loop .loop in
     (omega arith, written-more (l .l) (c .least .result) (l .inv .1) (omega arith) (c .least .ensures) (omega (arith, c .least .ensures)))
 
 same-length : tie.Need-same-length Inv-loop μ-loop

@@ -37,8 +37,9 @@ shared-slice-read-least c = search needs
 
 add-least-2 : tie.Need-add-least-2 Inv-loop μ-loop
 add-least-2 c =
-    let k = c .before .before .before .before .before in
-    omega (arith, k .pre .4 .word (k .args .at + c .before .before .before .loop .l))
+    let at-loop = c .before .before .before in
+    let k = at-loop .before .before in
+    omega (arith, k .pre .4 .word (k .args .at + at-loop .loop .l))
 
 least-requires : tie.Need-least-requires Inv-loop μ-loop
 least-requires c κs = search needs
@@ -57,8 +58,9 @@ loop-less c = search needs
 
 loop-again : tie.Need-loop-again Inv-loop μ-loop
 loop-again c =
-    let k = c .before .before .before .before .before .before in
-    let l = c .before .before .before .before .loop in
+    let at-loop = c .before .before .before .before in
+    let k = at-loop .before .before in
+    let l = at-loop .loop in
     let e = l .inv .1 .rest (l .l) (omega arith) in
     (omega arith, lowered-more (l .l) (c .least .result) (l .inv .1) (omega arith) (omega (arith, c .least .ensures, e)))
 

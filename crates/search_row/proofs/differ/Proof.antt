@@ -8,7 +8,8 @@ use borrow.Author.Needs.{needs}
 use Rattle.search_row.proofs.differ.Statement.{statement}
 use Rattle.search_row.proofs.differ.Tie as tie
 
-sum : (c : tie.After-unlike2) → (let a = c .before .before .before .before .before .before .before .args in c .before .before .before .unlike .result + c .unlike2 .result ≡ differIn (a .row .now) (a .k) (a .b) (a .m) (a .a))
+sum : (c : tie.After-unlike2) → (let mid = c .before .before .before .before in let a = mid .before .before .before .args in
+    c .before .before .before .unlike .result + c .unlike2 .result ≡ differIn (a .row .now) (a .k) (a .b) (a .m) (a .a))
 sum c = ap₂ _+_ (c .before .before .before .unlike .ensures) (c .unlike2 .ensures)
 
 mul-unlike : tie.Need-mul-unlike
@@ -79,7 +80,8 @@ unlike-requires-2 c κs = search needs
 
 add-result : tie.Need-add-result
 add-result c =
-    let a = c .before .before .before .before .before .before .before .args in
+    let mid = c .before .before .before .before in
+    let a = mid .before .before .before .args in
     omega (arith, sum c, differ-low (a .row .now) (a .k) (a .b) (a .m) (a .a))
 
 returns : tie.Need-returns

@@ -24,7 +24,13 @@ word-requires c κs = search needs
 add-result : tie.Need-add-result
 add-result c =
     let k = c .before .before .before in
-    omega (arith, c .word .ensures, c .before .site .ensures, k .pre .0 .word (k .args .k * cellWords + 64), k .pre .0 .word (k .args .k * cellWords + (65 + k .args .b % 4 / 2)))
+    omega (
+      arith,
+      c .word .ensures,
+      c .before .site .ensures,
+      k .pre .0 .word (k .args .k * cellWords + 64),
+      k .pre .0 .word (k .args .k * cellWords + (65 + k .args .b % 4 / 2)),
+    )
 
 returns : tie.Need-returns
 returns c = search needs

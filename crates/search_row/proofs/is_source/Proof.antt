@@ -63,13 +63,16 @@ mul-if2-2 c =
 
 shared-slice-read-if2 : tie.Need-shared-slice-read-if2
 shared-slice-read-if2 c =
-    omega (arith, inside (c .before), c .before .before .before .before .before .pre .0 .words .long)
+    let mid = c .before in
+    omega (arith, inside mid, mid .before .before .before .before .pre .0 .words .long)
 
 returns-2 : tie.Need-returns-2
 returns-2 c =
-    let a = c .before .before .before .before .before .before .args in
-    let e = ap (λ (p : ℕ). eqb (wordOf (a .row .now) p tallWord) 1) (c .before .before .last-at .ensures) in
-    tall (thereIn (a .sizes .cells) (a .sizes .reordering) (a .i) (a .q)) (eqb (wordOf (a .row .now) (lastAt (a .sizes .reordering) (a .i) (a .q)) 67) 1) (eqb (marks (a .sizes .reordering) (a .q)) (before (a .sizes .reordering) (a .q1)))
+    let after-last-at = c .before .before in
+    let a = after-last-at .before .before .before .before .args in
+    let e = ap (λ (p : ℕ). eqb (wordOf (a .row .now) p tallWord) 1) (after-last-at .last-at .ensures) in
+    tall (thereIn (a .sizes .cells) (a .sizes .reordering) (a .i) (a .q)) (eqb (wordOf (a .row .now) (lastAt (a .sizes .reordering) (a .i) (a .q)) 67) 1)
+    (eqb (marks (a .sizes .reordering) (a .q)) (before (a .sizes .reordering) (a .q1)))
     (sym e ∙ eq-eqb _ _ (c .if2 .taken))
 
 mul-result : tie.Need-mul-result
@@ -98,13 +101,15 @@ shared-slice-read-result-2 c = search needs
 
 returns-3 : tie.Need-returns-3
 returns-3 c =
-    let k = c .before .before .before .before .before .before .before .before in
+    let after-last-at = c .before .before .before .before in
+    let k = after-last-at .before .before .before .before in
     let a = k .args in
     let g = k .pre .0 in
-    let e = ap (λ (p : ℕ). eqb (wordOf (a .row .now) p tallWord) 1) (c .before .before .before .before .last-at .ensures) in
+    let e = ap (λ (p : ℕ). eqb (wordOf (a .row .now) p tallWord) 1) (after-last-at .last-at .ensures) in
     ap₂ eqb (g .coded .mark (a .q) (omega (arith, g .all))) (g .coded .earlier (a .q1) (omega (arith, g .all)))
-    ∙ single (thereIn (a .sizes .cells) (a .sizes .reordering) (a .i) (a .q)) (eqb (wordOf (a .row .now) (lastAt (a .sizes .reordering) (a .i) (a .q)) 67) 1) (eqb (marks (a .sizes .reordering) (a .q)) (before (a .sizes .reordering) (a .q1)))
-    (there (c .before .before .before .before .before)) (sym e ∙ ne-eqb _ _ (c .before .before .if2 .left))
+    ∙ single (thereIn (a .sizes .cells) (a .sizes .reordering) (a .i) (a .q)) (eqb (wordOf (a .row .now) (lastAt (a .sizes .reordering) (a .i) (a .q)) 67) 1)
+    (eqb (marks (a .sizes .reordering) (a .q)) (before (a .sizes .reordering) (a .q1)))
+    (there (after-last-at .before)) (sym e ∙ ne-eqb _ _ (c .before .before .if2 .left))
 
 add-result-3 : tie.Need-add-result-3
 add-result-3 c = search needs
@@ -115,4 +120,5 @@ add-result-4 c = search needs
 pub is-source-spec : {M : Type 1} → statement M
 is-source-spec =
     tie.close
-    (tie.spec is-there-requires returns last-at-requires mul-if2 add-if2 mul-if2-2 shared-slice-read-if2 returns-2 mul-result add-result add-result-2 mul-result-2 shared-slice-read-result mul-result-3 add-result-3 add-result-4 mul-result-4 shared-slice-read-result-2 returns-3)
+    (tie.spec is-there-requires returns last-at-requires mul-if2 add-if2 mul-if2-2 shared-slice-read-if2 returns-2 mul-result add-result add-result-2
+    mul-result-2 shared-slice-read-result mul-result-3 add-result-3 add-result-4 mul-result-4 shared-slice-read-result-2 returns-3)

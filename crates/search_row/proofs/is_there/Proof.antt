@@ -27,7 +27,8 @@ add-if1-2 c = search needs
 returns : tie.Need-returns
 returns c =
     let k = c .before .before .before in
-    let h : k .args .i + offset (k .args .sizes .reordering) (k .args .q) < suc (k .args .sizes .reordering) = omega (arith, c .before .word .ensures, k .pre .0 .digit (k .args .q) (k .pre .1)) in
+    let h : k .args .i + offset (k .args .sizes .reordering) (k .args .q) < suc (k .args .sizes .reordering) =
+    omega (arith, c .before .word .ensures, k .pre .0 .digit (k .args .q) (k .pre .1)) in
     simp (lt-leb _ _ h)
 
 last-at-requires : tie.Need-last-at-requires
@@ -35,8 +36,10 @@ last-at-requires c κs = search needs
 
 returns-2 : tie.Need-returns-2
 returns-2 c =
-    let k = c .before .before .before .before .before in
-    let h : suc (k .args .sizes .reordering) ≤ k .args .i + offset (k .args .sizes .reordering) (k .args .q) = omega (arith, c .before .before .before .word .ensures, k .pre .0 .digit (k .args .q) (k .pre .1)) in
+    let after-word = c .before .before .before in
+    let k = after-word .before .before in
+    let h : suc (k .args .sizes .reordering) ≤ k .args .i + offset (k .args .sizes .reordering) (k .args .q) =
+    omega (arith, after-word .word .ensures, k .pre .0 .digit (k .args .q) (k .pre .1)) in
     simp (le-leb _ _ h, c .before .last-at .ensures)
 
 pub is-there-spec : {M : Type 1} → statement M

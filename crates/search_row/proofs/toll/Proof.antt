@@ -39,14 +39,17 @@ end-requires c κs = search needs
 returns : tie.Need-returns
 returns c =
     let a = c .before .before .before .before .args in
-    over (c .before .before .site .result) (c .before .end .result) (λ gap. weightIn (a .row .now) (a .m) gap * differIn (a .row .now) (a .k) (a .b) (a .m) (a .a)) (c .if1 .taken)
+    over (c .before .before .site .result) (c .before .end .result)
+    (λ gap. weightIn (a .row .now) (a .m) gap * differIn (a .row .now) (a .k) (a .b) (a .m) (a .a)) (c .if1 .taken)
     ∙ same (a .row .now) (a .k) (a .b) (a .m) (a .a) _ (c .before .before .site .ensures) (c .before .end .ensures) refl
 
 returns-2 : tie.Need-returns-2
 returns-2 c =
-    let a = c .before .before .before .before .before .args in
-    near (c .before .before .before .site .result) (c .before .before .end .result) (λ gap. weightIn (a .row .now) (a .m) gap * differIn (a .row .now) (a .k) (a .b) (a .m) (a .a)) (c .before .if1 .left) (c .if2 .taken)
-    ∙ same (a .row .now) (a .k) (a .b) (a .m) (a .a) _ (c .before .before .before .site .ensures) (c .before .before .end .ensures) refl
+    let after-site = c .before .before .before in
+    let a = after-site .before .before .args in
+    near (after-site .site .result) (c .before .before .end .result)
+    (λ gap. weightIn (a .row .now) (a .m) gap * differIn (a .row .now) (a .k) (a .b) (a .m) (a .a)) (c .before .if1 .left) (c .if2 .taken)
+    ∙ same (a .row .now) (a .k) (a .b) (a .m) (a .a) _ (after-site .site .ensures) (c .before .before .end .ensures) refl
 
 charge-of-requires : tie.Need-charge-of-requires
 charge-of-requires c κs = search needs
@@ -59,25 +62,32 @@ differ-requires c κs = search needs
 
 mul-result : tie.Need-mul-result
 mul-result c =
-    let k = c .before .before .before .before .before .before .before .before in
+    let after-weight = c .before in
+    let after-end = after-weight .before .before .before .before in
+    let k = after-end .before .before .before in
     let a = k .args in
     let d : c .differ .result ≤ 2 = omega (arith, c .differ .ensures, differ-low (a .row .now) (a .k) (a .b) (a .m) (a .a)) in
-    let w : c .before .weight .result ≤ 131072 = omega (arith, c .before .weight .ensures, weight-low (a .m) (c .before .before .before .before .before .before .site .result - c .before .before .before .before .before .end .result) (k .pre .0)) in
+    let w : after-weight .weight .result ≤ 131072 =
+    omega (arith, after-weight .weight .ensures, weight-low (a .m) (after-end .before .site .result - after-end .end .result) (k .pre .0)) in
     omega (arith, pay-low w d)
 
 mul-result-2 : tie.Need-mul-result-2
 mul-result-2 c =
-    let k = c .before .before .before .before .before .before .before .before in
+    let after-charge-of = c .before .before in
+    let after-site = after-charge-of .before .before .before .before in
+    let k = after-site .before .before in
     let a = k .args in
     let d : c .differ .result ≤ 2 = omega (arith, c .differ .ensures, differ-low (a .row .now) (a .k) (a .b) (a .m) (a .a)) in
-    let w : c .before .weight .result ≤ 131072 = omega (arith, c .before .weight .ensures, weight-low (a .m) (c .before .before .before .before .before .before .site .result - c .before .before .before .before .before .end .result) (k .pre .0)) in
-    let g : c .before .before .charge-of .result ≤ 1 = omega (arith, c .before .before .charge-of .ensures, charge-low (c .before .before .before .before .before .before .site .result - c .before .before .before .before .before .end .result)) in
+    let w : c .before .weight .result ≤ 131072 = omega
+    (arith, c .before .weight .ensures, weight-low (a .m) (after-site .site .result - after-charge-of .before .before .before .end .result) (k .pre .0)) in
+    let g : after-charge-of .charge-of .result ≤ 1 =
+    omega (arith, after-charge-of .charge-of .ensures, charge-low (after-site .site .result - after-charge-of .before .before .before .end .result)) in
     omega (arith, charged-low g (pay-low w d))
 
 returns-3 : tie.Need-returns-3
 returns-3 c =
-    let a = c .before .before .before .before .before .before .before .before .args in
     let b = c .before .before .before .before in
+    let a = b .before .before .before .before .args in
     let x = b .before .before .site .result in
     let y = b .before .end .result in
     ap₂ (λ (g w : ℕ). g * (w * c .differ .result)) (c .before .before .charge-of .ensures) (c .before .weight .ensures)

@@ -24,8 +24,10 @@ shape-word-requires c κs = search needs
 returns-2 : tie.Need-returns-2
 returns-2 c =
     let k = c .before .before .before in
-    let j = one (k .args .header) (k .args .cell) in
-    (c .shape-word .ensures ∙ sym (shape-at j (k .args .row) 0 (k .args .number) (k .args .i) (omega arith) (omega arith)), omega (arith, c .shape-word .ensures, shape-low (k .args .header) (k .args .cell) (k .pre .0) (k .args .i)))
+    let j = one (k .args .header) (k .args .cell) in (
+      c .shape-word .ensures ∙ sym (shape-at j (k .args .row) 0 (k .args .number) (k .args .i) (omega arith) (omega arith)),
+      omega (arith, c .shape-word .ensures, shape-low (k .args .header) (k .args .cell) (k .pre .0) (k .args .i)),
+    )
 
 height-word-requires : tie.Need-height-word-requires
 height-word-requires c κs = search needs
@@ -33,8 +35,10 @@ height-word-requires c κs = search needs
 returns-3 : tie.Need-returns-3
 returns-3 c =
     let k = c .before .before .before .before in
-    let j = one (k .args .header) (k .args .cell) in
-    (c .height-word .ensures ∙ sym (height-at j (k .args .row) 0 (k .args .number) (k .args .i) (k .args .i - 68) (omega arith) (omega arith)), omega (arith, c .height-word .ensures, height-low (k .args .header) (k .args .cell) (k .pre .0) (k .args .row) (k .args .i - 68)))
+    let j = one (k .args .header) (k .args .cell) in (
+      c .height-word .ensures ∙ sym (height-at j (k .args .row) 0 (k .args .number) (k .args .i) (k .args .i - 68) (omega arith) (omega arith)),
+      omega (arith, c .height-word .ensures, height-low (k .args .header) (k .args .cell) (k .pre .0) (k .args .row) (k .args .i - 68)),
+    )
 
 returns-4 : tie.Need-returns-4
 unfolding headerOf
@@ -45,20 +49,23 @@ returns-4 c =
 
 returns-5 : tie.Need-returns-5
 returns-5 c =
-    let k = c .before .before .before .before .before in
+    let mid = c .before .before .before .before in
+    let k = mid .before in
     let j = one (k .args .header) (k .args .cell) in
     (sym (number-at j (k .args .row) 0 (k .args .number) (k .args .i) (c .if5 .taken)), omega arith)
 
 returns-6 : tie.Need-returns-6
 unfolding headerOf
 returns-6 c =
-    let k = c .before .before .before .before .before .before in
+    let mid = c .before .before .before .before in
+    let k = mid .before .before in
     let j = one (k .args .header) (k .args .cell) in
     (sym (filled-at j (k .args .row) 0 (k .args .number) (k .args .i) (c .if6 .taken)), omega (arith, k .pre .0 .step))
 
 returns-7 : tie.Need-returns-7
 returns-7 c =
-    let k = c .before .before .before .before .before .before in
+    let mid = c .before .before .before .before in
+    let k = mid .before .before in
     let j = one (k .args .header) (k .args .cell) in
     (sym (none-at j (k .args .row) 0 (k .args .number) (k .args .i) (omega arith)), omega arith)
 

@@ -26,59 +26,81 @@ fill-requires c κs = (omega arith, omega arith, c .before .before .pre .4)
 
 loop-holds : tie.Need-loop-holds Inv-loop μ-loop
 loop-holds c =
-    let s = c .before .before .before .before .before .before in
-    (refl, filled-none (jobOf (s .args .t2)) (sideOf (s .args .row)) (s .pre .0) (s .pre .3) (c .before .before .before .fill .ensures))
+    let after-fill = c .before .before .before in
+    let s = after-fill .before .before .before in
+    (refl, filled-none (jobOf (s .args .t2)) (sideOf (s .args .row)) (s .pre .0) (s .pre .3) (after-fill .fill .ensures))
 
 mul-add-cell : tie.Need-mul-add-cell Inv-loop μ-loop
 mul-add-cell c =
-    let s = c .before .before .before .before .before .before .before .before .before in
-    omega (arith, c .before .loop-test .taken, s .pre .1)
+    let after-loop-test = c .before in
+    let mid = after-loop-test .before .before .before .before in
+    let s = mid .before .before .before .before in
+    omega (arith, after-loop-test .loop-test .taken, s .pre .1)
 
 element-copy-out-add-cell : tie.Need-element-copy-out-add-cell Inv-loop μ-loop
 element-copy-out-add-cell c =
-    let s = c .before .before .before .before .before .before .before .before .before in
-    omega (arith, c .before .loop-test .taken, s .pre .1)
+    let after-loop-test = c .before in
+    let mid = after-loop-test .before .before .before .before in
+    let s = mid .before .before .before .before in
+    omega (arith, after-loop-test .loop-test .taken, s .pre .1)
 
 cast-add-cell : tie.Need-cast-add-cell Inv-loop μ-loop
 cast-add-cell c =
-    let s = c .before .before .before .before .before .before .before .before .before .before in
-    omega (arith, c .before .before .loop-test .taken, s .pre .1)
+    let after-loop-test = c .before .before in
+    let mid = after-loop-test .before .before .before .before in
+    let s = mid .before .before .before .before in
+    omega (arith, after-loop-test .loop-test .taken, s .pre .1)
 
 add-cell-requires : tie.Need-add-cell-requires Inv-loop μ-loop
 add-cell-requires c κs =
     let p = c .before .before .before in
-    let s = p .before .before .before .before .before .before .before in
+    let mid = p .before .before .before .before in
+    let s = mid .before .before .before in
     let f = p .loop .inv .1 in
     let g = c .before .before .loop-test .taken in
-    let h : p .loop .k < length (jobOf (s .args .t2) .cells) = rw (counted s) g in
-    (ranged-at (s .args .t2) (p .loop .k) g h (s .pre .0), s .pre .2, omega (arith, g, s .pre .1), omega (arith, g, s .pre .1, f .below), omega (arith, f .long), f .low)
+    let h : p .loop .k < length (jobOf (s .args .t2) .cells) = rw (counted s) g in (
+      ranged-at (s .args .t2) (p .loop .k) g h (s .pre .0),
+      s .pre .2,
+      omega (arith, g, s .pre .1),
+      omega (arith, g, s .pre .1, f .below),
+      omega (arith, f .long),
+      f .low,
+    )
 
 add-k : tie.Need-add-k Inv-loop μ-loop
 add-k c =
-    let p = c .before .before .before .before .before in
-    let s = p .before .before .before .before .before .before .before .before in
+    let mid = c .before .before .before .before in
+    let p = mid .before in
+    let mid₂ = p .before .before .before .before in
+    let s = mid₂ .before .before .before .before in
     omega (arith, p .loop-test .taken, s .pre .1)
 
 loop-less : tie.Need-loop-less Inv-loop μ-loop
 loop-less c =
-    let p = c .before .before .before .before .before in
+    let mid = c .before .before .before .before in
+    let p = mid .before in
     omega (arith, p .loop-test .taken)
 
 loop-again : tie.Need-loop-again Inv-loop μ-loop
 loop-again c =
-    let p = c .before .before .before .before .before in
+    let after-add-cell = c .before .before in
+    let p = after-add-cell .before .before .before in
+    let mid = p .before .before .before .before in
+    let s = mid .before .before .before .before in
     let l = p .before .loop in
-    let s = p .before .before .before .before .before .before .before .before in
     let h : l .k < length (jobOf (s .args .t2) .cells) = rw (counted s) (p .loop-test .taken) in
-    (omega arith, filled-value (s .args .t2) (l .k) (p .loop-test .taken) h (s .args .row) (s .pre .2) (l .inv .1) (c .before .before .add-cell .ensures))
+    (omega arith, filled-value (s .args .t2) (l .k) (p .loop-test .taken) h (s .args .row) (s .pre .2) (l .inv .1) (after-add-cell .add-cell .ensures))
 
 same-length : tie.Need-same-length Inv-loop μ-loop
-same-length c = c .before .loop .inv .0 ∙ c .before .before .before .before .before .fill .ensures .frame .long
+same-length c =
+    let at-loop = c .before in
+    at-loop .loop .inv .0 ∙ at-loop .before .before .before .before .fill .ensures .frame .long
 
 returns : tie.Need-returns Inv-loop μ-loop
 returns c =
     let p = c .before in
-    let s = p .before .before .before .before .before .before .before in
+    let mid = p .before .before .before .before in
+    let s = mid .before .before .before in
     let few = p .loop .inv .1 .few in
     let e : p .loop .k ≡ length (jobOf (s .args .t2) .cells) = omega (arith, counted s, c .loop-test .left) in
     rw e at (p .loop .inv .1)

@@ -15,14 +15,16 @@ slice-aggregate-fill-talls c = search needs
 
 fill-talls-requires : tie.Need-fill-talls-requires
 fill-talls-requires c κs =
-    let k = c .before .before .before .before .before .before .before in
-    let f = c .before .before .before .before .fill-line .ensures in
+    let after-fill-line = c .before .before .before .before in
+    let k = after-fill-line .before .before .before in
+    let f = after-fill-line .fill-line .ensures in
     let t = cells-talls (k .pre .0) f in
     (t .0, omega (arith, f .long), omega (arith, t .1), zeros-small 32)
 
 put-talls-requires : tie.Need-put-talls-requires
 put-talls-requires c κs =
-    let f = c .before .before .before .before .before .before .before .before .fill-line .ensures in
+    let mid = c .before .before .before .before in
+    let f = mid .before .before .before .before .fill-line .ensures in
     (f .long, f .low, omega arith, c .before .before .before .fill-talls .ensures .small)
 
 pose-numbers-requires : tie.Need-pose-numbers-requires
@@ -34,9 +36,13 @@ cast-reordering c = search needs
 fill-states-requires : tie.Need-fill-states-requires
 unfolding jobOf headerOf
 fill-states-requires c κs =
-    let k = c .before .before .before .before .before .before .before .before .before .before .before .before .before .before .before .before .before in
-    let f = c .before .before .before .before .before .before .before .before .before .before .before .before .before .before .fill-line .ensures in
-    let w = c .before .before .before .before .before .put-talls .ensures in
+    let mid = c .before .before .before .before in
+    let mid₂ = mid .before .before .before .before in
+    let mid₃ = mid₂ .before .before .before .before in
+    let after-fill-line = mid₃ .before .before in
+    let k = after-fill-line .before .before .before in
+    let f = after-fill-line .fill-line .ensures in
+    let w = mid .before .put-talls .ensures in
     (omega (arith, f .long, w .frame .long), w .low, omega (arith, k .pre .0 .header .reordering))
 
 same-length : tie.Need-same-length
@@ -45,12 +51,17 @@ same-length c = search needs
 returns : tie.Need-returns
 unfolding jobOf headerOf
 returns c =
-    let k = c .before .before .before .before .before .before .before .before .before .before .before .before .before .before .before .before .before .before .before .before in
-    let f = c .before .before .before .before .before .before .before .before .before .before .before .before .before .before .before .before .before .fill-line .ensures in
-    let t = c .before .before .before .before .before .before .before .before .before .before .before .before .fill-talls .ensures in
-    let w = c .before .before .before .before .before .before .before .before .put-talls .ensures in
-    rw (c .before .before .before .before .before .pose-numbers .ensures)
-    (row-ready (k .pre .0) f t w (c .before .before .fill-states .ensures))
+    let after-fill-states = c .before .before in
+    let after-pose-numbers = after-fill-states .before .before .before in
+    let after-put-talls = after-pose-numbers .before .before .before in
+    let after-fill-talls = after-put-talls .before .before .before .before in
+    let mid = after-fill-talls .before .before .before .before in
+    let k = mid .before .before .before .before in
+    let f = mid .before .fill-line .ensures in
+    let t = after-fill-talls .fill-talls .ensures in
+    let w = after-put-talls .put-talls .ensures in
+    rw (after-pose-numbers .pose-numbers .ensures)
+    (row-ready (k .pre .0) f t w (after-fill-states .fill-states .ensures))
 
 pub fill-row-spec : {M : Type 1} → statement M
 fill-row-spec =

@@ -29,7 +29,8 @@ returns : tie.Need-returns
 unfolding heightWord cellOf
 returns c =
     let k = c .before .before .before in
-    c .height-of .ensures ∙ ap (heightIn (cellOf (k .args .cell)) (k .args .u % 4 / 2)) (ap₂ _+_ (c .before .before .first-of .ensures .0) (c .before .edge-of .ensures .0))
+    c .height-of .ensures
+    ∙ ap (heightIn (cellOf (k .args .cell)) (k .args .u % 4 / 2)) (ap₂ _+_ (c .before .before .first-of .ensures .0) (c .before .edge-of .ensures .0))
 
 pub height-word-spec : {M : Type 1} → statement M
 height-word-spec =

@@ -15,42 +15,65 @@ add-x c = search needs
 returns : tie.Need-returns
 returns c =
     let k = c .before .before .before in
-    rw (offered-same (k .args .header) (k .args .cell) (k .args .a), lt-leb (k .args .header .displacement) (k .args .cell .given + k .args .a / 4) (c .if1 .taken))
+    rw (
+      offered-same (k .args .header) (k .args .cell) (k .args .a),
+      lt-leb (k .args .header .displacement) (k .args .cell .given + k .args .a / 4) (c .if1 .taken),
+    )
 
 returns-2 : tie.Need-returns-2
 returns-2 c =
-    let k = c .before .before .before .before .before in
+    let after-if1 = c .before .before in
+    let k = after-if1 .before .before .before in
     let d = k .args .header .displacement in
     let x = k .args .cell .given + k .args .a / 4 in
-    rw (offered-same (k .args .header) (k .args .cell) (k .args .a), le-leb d x (c .before .before .if1 .left), le-ltb (k .args .a % 4 / 2) (k .args .cell .layouts) (c .if2 .taken))
+    rw (
+      offered-same (k .args .header) (k .args .cell) (k .args .a),
+      le-leb d x (after-if1 .if1 .left),
+      le-ltb (k .args .a % 4 / 2) (k .args .cell .layouts) (c .if2 .taken),
+    )
 
 turns-requires : tie.Need-turns-requires
 turns-requires c κs = search needs
 
 returns-3 : tie.Need-returns-3
 returns-3 c =
-    let k = c .before .before .before .before .before .before .before in
+    let after-if1 = c .before .before .before .before in
+    let k = after-if1 .before .before .before in
     let d = k .args .header .displacement in
     let x = k .args .cell .given + k .args .a / 4 in
     let t = sym (c .before .turns .ensures) ∙ not-true (c .before .turns .result) (c .if3 .taken) in
-    rw (offered-same (k .args .header) (k .args .cell) (k .args .a), le-leb d x (c .before .before .before .before .if1 .left), lt-ltb (k .args .a % 4 / 2) (k .args .cell .layouts) (c .before .before .if2 .left), t)
+    rw (
+      offered-same (k .args .header) (k .args .cell) (k .args .a),
+      le-leb d x (after-if1 .if1 .left),
+      lt-ltb (k .args .a % 4 / 2) (k .args .cell .layouts) (c .before .before .if2 .left),
+      t,
+    )
 
 width-of-requires : tie.Need-width-of-requires
 width-of-requires c κs = search needs
 
 add-result : tie.Need-add-result
 add-result c =
-    let k = c .before .before .before .before .before .before .before .before .before in
+    let mid = c .before .before .before .before in
+    let mid₂ = mid .before .before .before .before in
+    let k = mid₂ .before in
     omega (arith, c .width-of .ensures, k .pre .0 .given, k .pre .0 .width (k .args .a % 4 / 2))
 
 returns-4 : tie.Need-returns-4
 returns-4 c =
     let f = c .before .before .before in
-    let k = f .before .before .before .before .before .before .before in
+    let after-if1 = f .before .before .before .before in
+    let k = after-if1 .before .before .before in
     let d = k .args .header .displacement in
     let x = k .args .cell .given + k .args .a / 4 in
     let t = sym (f .before .turns .ensures) ∙ not-false (f .before .turns .result) (f .if3 .left) in
-    rw (offered-same (k .args .header) (k .args .cell) (k .args .a), le-leb d x (f .before .before .before .before .if1 .left), lt-ltb (k .args .a % 4 / 2) (k .args .cell .layouts) (f .before .before .if2 .left), t, c .before .width-of .ensures)
+    rw (
+      offered-same (k .args .header) (k .args .cell) (k .args .a),
+      le-leb d x (after-if1 .if1 .left),
+      lt-ltb (k .args .a % 4 / 2) (k .args .cell .layouts) (f .before .before .if2 .left),
+      t,
+      c .before .width-of .ensures,
+    )
 
 pub is-offered-spec : {M : Type 1} → statement M
 is-offered-spec =

@@ -13,8 +13,11 @@ is-offered-requires c κs = search needs
 
 returns : tie.Need-returns
 returns c =
-    let k = c .before .before in
-    (own-none (k .args .header) (k .args .cell) (k .args .row) (k .args .a) (sym (c .before .is-offered .ensures) ∙ not-true (c .before .is-offered .result) (c .if1 .taken)), lit≤ tt)
+    let k = c .before .before in (
+      own-none (k .args .header) (k .args .cell) (k .args .row) (k .args .a)
+          (sym (c .before .is-offered .ensures) ∙ not-true (c .before .is-offered .result) (c .if1 .taken)),
+      lit≤ tt,
+    )
 
 counts-there-requires : tie.Need-counts-there-requires
 counts-there-requires c κs = search needs
@@ -35,8 +38,11 @@ returns-3 : tie.Need-returns-3
 returns-3 c =
     let e = c .before in
     let k = e .before .before .before .before in
-    let o = sym (e .before .before .before .is-offered .ensures) ∙ not-false (e .before .before .before .is-offered .result) (e .before .before .if1 .left) in
-    (c .pose-cost .ensures .0 ∙ own-here (k .args .header) (k .args .cell) (k .args .row) (k .args .a) o (sym (e .before .counts-there .ensures) ∙ e .if2 .left), omega (arith, c .pose-cost .ensures))
+    let o = sym (e .before .before .before .is-offered .ensures) ∙ not-false (e .before .before .before .is-offered .result) (e .before .before .if1 .left) in (
+      c .pose-cost .ensures .0
+          ∙ own-here (k .args .header) (k .args .cell) (k .args .row) (k .args .a) o (sym (e .before .counts-there .ensures) ∙ e .if2 .left),
+      omega (arith, c .pose-cost .ensures),
+    )
 
 pub own-word-spec : {M : Type 1} → statement M
 own-word-spec =

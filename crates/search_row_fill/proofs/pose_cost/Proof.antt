@@ -33,8 +33,9 @@ add-result-2 c = search needs
 
 returns : tie.Need-returns
 returns c =
-    let k = c .before .before .before .before .before in
-    let e = c .before .before .times .ensures .0 ∙ ap (λ x. k .args .header .shift * x) (c .before .before .before .apart-of .ensures) in
+    let after-apart-of = c .before .before .before in
+    let k = after-apart-of .before .before in
+    let e = c .before .before .times .ensures .0 ∙ ap (λ x. k .args .header .shift * x) (after-apart-of .apart-of .ensures) in
     (ap₂ _+_ (ap₂ _+_ e (c .before .times2 .ensures .0)) (c .times3 .ensures .0) ∙ sym (cost-same (k .args .header) (k .args .cell) (k .args .a)), omega arith)
 
 pub pose-cost-spec : {M : Type 1} → statement M

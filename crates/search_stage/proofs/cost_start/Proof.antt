@@ -20,32 +20,36 @@ lanes-of-requires c κs = c .before .before .before .pre .1 .ground .few
 
 live-requires : tie.Need-live-requires
 live-requires c κs =
-    let k = c .before .before .before .before .before in
+    let after-wide-of = c .before .before in
+    let k = after-wide-of .before .before .before in
     let a = k .args in
     let t = k .pre .2 in
     let w = wide-lanes (a .sizes .talls) (a .i) (a .sizes .poses) (k .pre .1 .ground .few) in
-    (rw (c .before .before .wide-of .ensures, c .before .lanes-of .ensures) (table-for _ _ t (w .1) (t .stage)), omega (arith, c .before .before .wide-of .ensures))
+    (rw (after-wide-of .wide-of .ensures, c .before .lanes-of .ensures) (table-for _ _ t (w .1) (t .stage)), omega (arith, after-wide-of .wide-of .ensures))
 
 same-length : tie.Need-same-length
 same-length c = search needs
 
 returns : tie.Need-returns
 returns c =
-    let k = c .before .before .before .before .before .before .before in
+    let after-wide-of = c .before .before .before .before in
+    let k = after-wide-of .before .before .before in
     let a = k .args in
     let d = c .before .live .ensures (not-true _ (c .if1 .taken)) in
     let w = wide-lanes (a .sizes .talls) (a .i) (a .sizes .poses) (k .pre .1 .ground .few) in
-    (start-dead (k .pre .2 .low) (dead-fewer (w .0) (rw (c .before .before .before .before .wide-of .ensures, c .before .before .before .lanes-of .ensures) at d)), k .pre .0)
+    (start-dead (k .pre .2 .low) (dead-fewer (w .0) (rw (after-wide-of .wide-of .ensures, c .before .before .before .lanes-of .ensures) at d)), k .pre .0)
 
 cost-at-requires : tie.Need-cost-at-requires
 cost-at-requires c κs = search needs
 
 row-cost-requires : tie.Need-row-cost-requires
 row-cost-requires c κs =
-    let k = c .before .before .before .before .before .before .before .before .before .before in
+    let after-cost-at = c .before .before in
+    let mid = after-cost-at .before .before .before .before in
+    let k = mid .before .before .before .before in
     let w = k .pre .2 in
     let g = k .pre .1 .ground in
-    let e = c .before .before .cost-at .ensures in
+    let e = after-cost-at .cost-at .ensures in
     (k .pre .0, k .pre .1, record { low = w .low; few = g .few; all = g .all; over = omega (arith, e); room = omega (arith, w .long, e) }, k .pre .4, k .pre .5)
 
 same-length-2 : tie.Need-same-length-2
@@ -53,10 +57,16 @@ same-length-2 c = search needs
 
 returns-2 : tie.Need-returns-2
 returns-2 c =
-    let k = c .before .before .before .before .before .before .before .before .before .before .before .before .before in
+    let after-row-cost = c .before .before in
+    let after-cost-at = after-row-cost .before .before .before in
+    let mid = after-cost-at .before .before .before .before in
+    let k = mid .before .before .before .before in
     let a = k .args in
-    let e : c .before .before .before .before .before .cost-at .result ≡ costsAt (a .side) (a .s) = omega (arith, c .before .before .before .before .before .cost-at .ensures) in
-    (start-live (a .side) (a .s) _ (costOf (deckIn (a .row .now) (a .sizes)) (a .sizes .reordering) (a .sizes .talls) (posIn (a .row .now)) (a .i)) e (c .before .before .row-cost .ensures .0), c .before .before .row-cost .ensures .1)
+    let e : after-cost-at .cost-at .result ≡ costsAt (a .side) (a .s) = omega (arith, after-cost-at .cost-at .ensures) in (
+      start-live (a .side) (a .s) _ (costOf (deckIn (a .row .now) (a .sizes)) (a .sizes .reordering) (a .sizes .talls) (posIn (a .row .now)) (a .i)) e
+          (after-row-cost .row-cost .ensures .0),
+      after-row-cost .row-cost .ensures .1,
+    )
 
 pub cost-start-spec : {M : Type 1} → statement M
 cost-start-spec =

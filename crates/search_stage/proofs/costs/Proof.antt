@@ -14,8 +14,10 @@ use Rattle.search_stage.proofs.costs.Tie as tie
 abbrev Inv-loop : tie.InvT-loop
 Inv-loop table₀ store₀ row0 row1 sizes cells1 i sizes1 starts s₀ table store s =
     (s ≤ starts)
-    × BothCosted (costOf (deckIn row0 sizes) (sizes .reordering) (sizes .talls) (posIn row0) i) (costOf (deckIn row1 (withCells sizes cells1)) (sizes .reordering) (sizes .talls) (posIn row1) i)
-    i (wide (sizes .talls) i (sizes .states)) (wide (sizes .talls) i (sizes .poses)) (wide (sizes .talls) (suc i) (sizes .states)) (wide (sizes .talls) (suc i) (sizes .poses)) s store₀ store
+    × BothCosted (costOf (deckIn row0 sizes) (sizes .reordering) (sizes .talls) (posIn row0) i)
+    (costOf (deckIn row1 (withCells sizes cells1)) (sizes .reordering) (sizes .talls) (posIn row1) i)
+    i (wide (sizes .talls) i (sizes .states)) (wide (sizes .talls) i (sizes .poses)) (wide (sizes .talls) (suc i) (sizes .states))
+    (wide (sizes .talls) (suc i) (sizes .poses)) s store₀ store
     × Lent table
 
 abbrev μ-loop : tie.MeasureT-loop
@@ -29,23 +31,42 @@ loop-holds c =
     let k = c .before .before .before .before in
     let g = k .pre .1 in
     let w = given-wide g (k .args .i) in
-    let x = given-wide g (suc (k .args .i)) in
-    (omega arith, both-none _ _ _ _ _ (w .0) (omega (arith, w .1)) (x .0) (omega (arith, x .1)) (omega (arith, k .pre .2, given-states g .3)) _ _ (g .low), k .pre .0)
+    let x = given-wide g (suc (k .args .i)) in (
+      omega arith,
+      both-none _ _ _ _ _ (w .0) (omega (arith, w .1)) (x .0) (omega (arith, x .1)) (omega (arith, k .pre .2, given-states g .3)) _ _ (g .low),
+      k .pre .0,
+    )
 
 cost-start-requires : tie.Need-cost-start-requires Inv-loop μ-loop
 cost-start-requires c κs =
-    let k = c .before .before .before .before .before .before .before .before in
+    let after-wide-of = c .before .before .before .before in
+    let k = after-wide-of .before .before .before .before in
     let g = k .pre .1 in
-    let v = c .before .before .before .loop .inv .1 in
-    (c .before .before .before .loop .inv .2, g .given₀, given-table g (k .args .i) _ (k .pre .2) (v .long) (v .low), omega arith, k .pre .2, omega (arith, c .before .before .before .before .wide-of .ensures))
+    let v = c .before .before .before .loop .inv .1 in (
+      c .before .before .before .loop .inv .2,
+      g .given₀,
+      given-table g (k .args .i) _ (k .pre .2) (v .long) (v .low),
+      omega arith,
+      k .pre .2,
+      omega (arith, after-wide-of .wide-of .ensures),
+    )
 
 cost-start-requires-2 : tie.Need-cost-start-requires-2 Inv-loop μ-loop
 cost-start-requires-2 c κs =
-    let k = c .before .before .before .before .before .before .before .before .before .before .before .before .before in
+    let after-cost-start = c .before .before .before .before in
+    let at-loop = after-cost-start .before .before .before .before in
+    let after-wide-of = at-loop .before in
+    let k = after-wide-of .before .before .before .before in
     let g = k .pre .1 in
-    let v = c .before .before .before .before .before .before .before .before .loop .inv .1 in
-    let o = c .before .before .before .before .cost-start .ensures .0 in
-    (c .before .before .before .before .cost-start .ensures .1, g .given₁, given-table g (k .args .i) _ (k .pre .2) (o .long ∙ v .long) (o .low), omega arith, k .pre .2, omega (arith, c .before .before .before .before .before .before .before .before .before .wide-of .ensures))
+    let v = at-loop .loop .inv .1 in
+    let o = after-cost-start .cost-start .ensures .0 in (
+      after-cost-start .cost-start .ensures .1,
+      g .given₁,
+      given-table g (k .args .i) _ (k .pre .2) (o .long ∙ v .long) (o .low),
+      omega arith,
+      k .pre .2,
+      omega (arith, after-wide-of .wide-of .ensures),
+    )
 
 add-s : tie.Need-add-s Inv-loop μ-loop
 add-s c = search needs
@@ -55,14 +76,19 @@ loop-less c = search needs
 
 loop-again : tie.Need-loop-again Inv-loop μ-loop
 loop-again c =
-    let k = c .before .before .before .before .before .before .before .before .before .before .before .before .before .before .before .before in
+    let mid = c .before .before .before .before in
+    let after-cost-start = mid .before .before .before in
+    let at-loop = after-cost-start .before .before .before .before in
+    let after-wide-of = at-loop .before in
+    let k = after-wide-of .before .before .before .before in
     let g = k .pre .1 in
     let w = given-wide g (k .args .i) in
     let x = given-wide g (suc (k .args .i)) in
-    let l = c .before .before .before .before .before .before .before .before .before .before .before .loop in (
-      omega (arith, c .before .before .before .before .before .before .before .before .before .before .loop-test .taken),
+    let l = at-loop .loop in (
+      omega (arith, after-cost-start .before .before .before .loop-test .taken),
       both-more _ _ _ _ _ (w .0) (omega (arith, w .1)) (x .0) (omega (arith, x .1)) (omega (arith, k .pre .2, given-states g .3)) _ _ (l .s)
-          (omega (arith, c .before .before .before .before .before .before .before .before .before .before .loop-test .taken, c .before .before .before .before .before .before .before .before .before .before .before .before .wide-of .ensures)) (l .inv .1) (c .before .before .before .before .before .before .before .cost-start .ensures .0) (c .before .before .cost-start2 .ensures .0),
+          (omega (arith, after-cost-start .before .before .before .loop-test .taken, after-wide-of .wide-of .ensures)) (l .inv .1)
+          (after-cost-start .cost-start .ensures .0) (c .before .before .cost-start2 .ensures .0),
       c .before .before .cost-start2 .ensures .1,
     )
 
@@ -71,8 +97,9 @@ same-length c = c .before .loop .inv .1 .long
 
 returns : tie.Need-returns Inv-loop μ-loop
 returns c =
-    let k = c .before .before .before .before .before .before in
-    let e : c .before .loop .s ≡ wide (k .args .sizes .talls) (k .args .i) (k .args .sizes .states) = omega (arith, c .before .before .wide-of .ensures) in
+    let after-wide-of = c .before .before in
+    let k = after-wide-of .before .before .before .before in
+    let e : c .before .loop .s ≡ wide (k .args .sizes .talls) (k .args .i) (k .args .sizes .states) = omega (arith, after-wide-of .wide-of .ensures) in
     ((rw e at (c .before .loop .inv .1)), c .before .loop .inv .2)
 
 pub costs-spec : {M : Type 1} → statement M

@@ -43,11 +43,13 @@ loop-less c = search needs
 
 loop-again : tie.Need-loop-again Inv-loop μ-loop
 loop-again c =
-    let a = c .before .before .before .before .before .before .args in
-    let l = c .before .before .before .before .loop in (
+    let at-loop = c .before .before .before .before in
+    let a = at-loop .before .before .args in
+    let l = at-loop .loop in (
       omega arith,
       below-more (λ (u : ℕ). (l : ℕ) → l < a .lanes → B ≤ getD (a .store .now) (fromAt (a .side) (a .i) (a .s) u + l) 0) (l .t) (l .inv .1)
-          (λ l h. let w : B ≤ getD (a .store .now) (c .before .before .case-from .result + l) 0 = omega (arith, c .before .common .ensures l h) in rw (c .before .before .case-from .ensures) at w),
+          (λ l h. let w : B ≤ getD (a .store .now) (c .before .before .case-from .result + l) 0 = omega (arith, c .before .common .ensures l h) in
+          rw (c .before .before .case-from .ensures) at w),
     )
 
 returns-2 : tie.Need-returns-2 Inv-loop μ-loop

@@ -15,7 +15,10 @@ wide-of-requires : tie.Need-wide-of-requires
 wide-of-requires c κs = search needs
 
 lanes-of-requires : tie.Need-lanes-of-requires
-lanes-of-requires c κs = given-states (c .before .before .before .before .before .before .before .before .before .pre .1) .2
+lanes-of-requires c κs =
+    let mid = c .before .before .before .before in
+    let mid₂ = mid .before .before .before .before in
+    given-states (mid₂ .before .pre .1) .2
 
 add-wide-of : tie.Need-add-wide-of
 add-wide-of c = search needs
@@ -31,35 +34,57 @@ wide-of-requires-3 c κs = search needs
 
 join-stage-requires : tie.Need-join-stage-requires
 join-stage-requires c κs =
-    let k = c .before .before .before .before .before .before .before .before .before .before .before .before .before in
+    let after-wide-of = c .before .before .before .before in
+    let after-costs = after-wide-of .before .before .before in
+    let mid = after-costs .before .before .before .before in
+    let k = mid .before .before in
     let g = k .pre .1 in
     let x = given-wide g (k .args .i + 1) in
-    let p = c .before .before .before .before .before .before .before .costs .ensures .0 in (
-      rw (c .before .before .before .before .wide-of .ensures, c .before .before .before .lanes-of .ensures) (given-join g (k .args .i) _ (k .pre .2) (p .long) (p .low)),
+    let p = after-costs .costs .ensures .0 in (
+      rw (after-wide-of .wide-of .ensures, c .before .before .before .lanes-of .ensures) (given-join g (k .args .i) _ (k .pre .2) (p .long) (p .low)),
       omega (arith, c .before .before .wide-of2 .ensures, x .2, p .long),
       omega (arith, c .before .before .wide-of2 .ensures, x .0),
       omega (arith, c .before .wide-of3 .ensures, x .1),
     )
 
 add-lanes-of : tie.Need-add-lanes-of
-add-lanes-of c = let k = c .before .before .before .before .before .before .before .before .before .before .before .before .before .before .before .before in omega (arith, k .pre .2, given-states (k .pre .1) .3)
+add-lanes-of c =
+    let mid = c .before .before .before .before in
+    let mid₂ = mid .before .before .before .before in
+    let mid₃ = mid₂ .before .before .before .before in
+    let k = mid₃ .before .before .before .before in
+    omega (arith, k .pre .2, given-states (k .pre .1) .3)
 
 lanes-of-requires-2 : tie.Need-lanes-of-requires-2
-lanes-of-requires-2 c κs = given-states (c .before .before .before .before .before .before .before .before .before .before .before .before .before .before .before .before .pre .1) .2
+lanes-of-requires-2 c κs =
+    let mid = c .before .before .before .before in
+    let mid₂ = mid .before .before .before .before in
+    let mid₃ = mid₂ .before .before .before .before in
+    given-states (mid₃ .before .before .before .before .pre .1) .2
 
 add-close-lanes : tie.Need-add-close-lanes
-add-close-lanes c = let k = c .before .before .before .before .before .before .before .before .before .before .before .before .before .before .before .before .before .before in omega (arith, k .pre .2, given-states (k .pre .1) .3)
+add-close-lanes c =
+    let mid = c .before .before .before .before in
+    let mid₂ = mid .before .before .before .before in
+    let mid₃ = mid₂ .before .before .before .before in
+    let mid₄ = mid₃ .before .before .before .before in
+    let k = mid₄ .before .before in
+    omega (arith, k .pre .2, given-states (k .pre .1) .3)
 
 close-lanes-requires : tie.Need-close-lanes-requires
 close-lanes-requires c κs =
-    let k = c .before .before .before .before .before .before .before .before .before .before .before .before .before .before .before .before .before .before in
+    let after-join-stage = c .before .before .before .before in
+    let mid = after-join-stage .before .before .before .before in
+    let after-costs = mid .before .before .before .before in
+    let mid₂ = after-costs .before .before .before .before in
+    let k = mid₂ .before .before in
     let g = k .pre .1 in
     let x = given-wide g (k .args .i + 1) in
     let y = wide-lanes (k .args .sizes .talls) (k .args .i + 1) (k .args .sizes .poses) (given-states g .2) in
-    let p = c .before .before .before .before .before .before .before .before .before .before .before .before .costs .ensures .0 in
-    let j = c .before .before .before .before .join-stage .ensures in
-    let ends = c .before .before .before .before .before .before .before .wide-of2 .ensures in
-    let last = c .before .before .before .before .before .before .wide-of3 .ensures in
+    let p = after-costs .costs .ensures .0 in
+    let j = after-join-stage .join-stage .ensures in
+    let ends = after-join-stage .before .before .before .wide-of2 .ensures in
+    let last = after-join-stage .before .before .wide-of3 .ensures in
     let width = c .before .lanes-of2 .ensures in (
       j .low,
       omega (arith, ends, x .2, j .long, p .long),
@@ -71,20 +96,30 @@ close-lanes-requires c κs =
 
 same-length : tie.Need-same-length
 same-length c =
-    c .before .before .close-lanes .ensures .long ∙ c .before .before .before .before .before .before .before .join-stage .ensures .long ∙ c .before .before .before .before .before .before .before .before .before .before .before .before .before .before .before .costs .ensures .0 .long
+    let mid = c .before .before .before .before in
+    let after-join-stage = mid .before .before .before in
+    let mid₂ = after-join-stage .before .before .before .before in
+    c .before .before .close-lanes .ensures .long ∙ after-join-stage .join-stage .ensures .long ∙ mid₂ .before .before .before .before .costs .ensures .0 .long
 
 returns : tie.Need-returns
 returns c =
-    let k = c .before .before .before .before .before .before .before .before .before .before .before .before .before .before .before .before .before .before .before .before .before in
+    let after-lanes-of2 = c .before .before .before .before in
+    let after-join-stage = after-lanes-of2 .before .before .before in
+    let after-lanes-of = after-join-stage .before .before .before .before in
+    let after-costs = after-lanes-of .before .before .before .before in
+    let mid = after-costs .before .before .before .before in
+    let k = mid .before .before in
     let a = k .args in
     let g = k .pre .1 in
     let n = given-states g in
     let all = g .given₀ .ground .all in (
-      stage-made (deckIn (a .row0 .now) (a .sizes)) (deckIn (a .row1 .now) (withCells (a .sizes) (a .cells1))) (a .sizes .reordering) (a .sizes .talls) (posIn (a .row0 .now)) (posIn (a .row1 .now))
+      stage-made (deckIn (a .row0 .now) (a .sizes)) (deckIn (a .row1 .now) (withCells (a .sizes) (a .cells1))) (a .sizes .reordering) (a .sizes .talls)
+          (posIn (a .row0 .now)) (posIn (a .row1 .now))
           (omega (arith, all, n .0)) (omega (arith, all, n .1)) (n .2) (a .i) (a .sizes .states) _ _ _ _ _
-          (c .before .before .before .before .before .before .before .before .before .before .before .before .wide-of .ensures) (c .before .before .before .before .before .before .before .before .before .before .before .lanes-of .ensures) (c .before .before .before .before .before .before .before .before .before .before .wide-of2 .ensures) (c .before .before .before .before .before .before .before .before .before .wide-of3 .ensures) (c .before .before .before .before .lanes-of2 .ensures)
-          all (k .pre .2) (n .3) (c .before .before .before .before .before .before .before .before .before .before .before .before .before .before .before .costs .ensures .0) (c .before .before .before .before .before .before .before .join-stage .ensures) (c .before .before .close-lanes .ensures),
-      c .before .before .before .before .before .before .before .before .before .before .before .before .before .before .before .costs .ensures .1,
+          (after-lanes-of .before .wide-of .ensures) (after-lanes-of .lanes-of .ensures) (after-join-stage .before .before .before .wide-of2 .ensures)
+          (after-join-stage .before .before .wide-of3 .ensures) (after-lanes-of2 .lanes-of2 .ensures)
+          all (k .pre .2) (n .3) (after-costs .costs .ensures .0) (after-join-stage .join-stage .ensures) (c .before .before .close-lanes .ensures),
+      after-costs .costs .ensures .1,
     )
 
 pub stage-spec : {M : Type 1} → statement M

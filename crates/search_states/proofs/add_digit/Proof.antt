@@ -13,8 +13,10 @@ may-be-last-requires c κs = search needs
 
 returns : tie.Need-returns
 returns c =
-    let k = c .before .before .before in
-    (skip-digit _ _ _ (omega arith) (sym (c .before .may-be-last .ensures) ∙ not-true (c .before .may-be-last .result) (c .if1 .taken)) (k .pre .3), frame-refl _ _ _)
+    let k = c .before .before .before in (
+      skip-digit _ _ _ (omega arith) (sym (c .before .may-be-last .ensures) ∙ not-true (c .before .may-be-last .result) (c .if1 .taken)) (k .pre .3),
+      frame-refl _ _ _,
+    )
 
 put-state-requires : tie.Need-put-state-requires
 put-state-requires c κs =
@@ -25,7 +27,8 @@ put-state-requires c κs =
 
 add-result : tie.Need-add-result
 add-result c =
-    let k = c .before .before .before .before .before .before .before in
+    let mid = c .before .before .before .before in
+    let k = mid .before .before .before in
     omega (arith, k .pre .3 .below, few (k .args .r) (k .pre .0))
 
 same-length : tie.Need-same-length
@@ -33,8 +36,9 @@ same-length c = search needs
 
 returns-2 : tie.Need-returns-2
 returns-2 c =
-    let k = c .before .before .before .before .before .before .before in
-    let t = sym (c .before .before .before .before .before .may-be-last .ensures) ∙ not-false (c .before .before .before .before .before .may-be-last .result) (c .before .before .before .before .if1 .left) in
+    let after-if1 = c .before .before .before .before in
+    let k = after-if1 .before .before .before in
+    let t = sym (after-if1 .before .may-be-last .ensures) ∙ not-false (after-if1 .before .may-be-last .result) (after-if1 .if1 .left) in
     let u = next-digit (k .args .m) (k .args .d) _ (omega arith) t (k .pre .3) in
     rw (c .before .before .put-state .ensures) (upto-more (k .pre .0) (omega arith) (k .pre .1) u, with-frame _ _ _ _ _ (room (k .pre .0) u) (frame-refl _ _ _))
 

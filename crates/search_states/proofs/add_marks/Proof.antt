@@ -25,13 +25,18 @@ is-marks-requires c κs = search needs
 
 returns : tie.Need-returns Inv-loop μ-loop
 returns c =
-    let k = c .before .before .before in
-    (skip-marks (k .args .m) (k .pre .1) (sym (c .before .is-marks .ensures) ∙ not-true (c .before .is-marks .result) (c .if1 .taken)) (k .pre .3), frame-refl _ _ _)
+    let k = c .before .before .before in (
+      skip-marks (k .args .m) (k .pre .1) (sym (c .before .is-marks .ensures) ∙ not-true (c .before .is-marks .result) (c .if1 .taken)) (k .pre .3),
+      frame-refl _ _ _,
+    )
 
 loop-holds : tie.Need-loop-holds Inv-loop μ-loop
 loop-holds c =
-    let k = c .before .before .before in
-    (omega arith, frame-refl _ _ _, next-marks (k .args .m) (k .pre .1) (sym (c .before .is-marks .ensures) ∙ not-false (c .before .is-marks .result) (c .if1 .left)) (k .pre .3))
+    let k = c .before .before .before in (
+      omega arith,
+      frame-refl _ _ _,
+      next-marks (k .args .m) (k .pre .1) (sym (c .before .is-marks .ensures) ∙ not-false (c .before .is-marks .result) (c .if1 .left)) (k .pre .3),
+    )
 
 mul-loop : tie.Need-mul-loop Inv-loop μ-loop
 mul-loop c = omega arith
@@ -50,8 +55,9 @@ loop-less c = omega arith
 
 loop-again : tie.Need-loop-again Inv-loop μ-loop
 loop-again c =
-    let l = c .before .before .before .before .before .loop in
-    let e = c .before .before .add-digit .ensures in
+    let after-add-digit = c .before .before in
+    let l = after-add-digit .before .before .before .loop in
+    let e = after-add-digit .add-digit .ensures in
     (omega arith, frame-join statesFrom statesEnd (l .inv .1) (e .1) (omega arith) (omega arith) (omega arith) (omega arith), e .0)
 
 same-length : tie.Need-same-length Inv-loop μ-loop

@@ -44,8 +44,9 @@ loop-less c = omega arith
 
 loop-again : tie.Need-loop-again Inv-loop μ-loop
 loop-again c =
-    let l = c .before .before .before .before .before .loop in
-    let e = c .before .before .add-marks .ensures in
+    let after-add-marks = c .before .before in
+    let l = after-add-marks .before .before .before .loop in
+    let e = after-add-marks .add-marks .ensures in
     (omega arith, frame-join statesFrom statesEnd (l .inv .1) (e .1) (omega arith) (omega arith) (omega arith) (omega arith), e .0)
 
 same-length : tie.Need-same-length Inv-loop μ-loop

@@ -17,13 +17,15 @@ digit-requires-2 : tie.Need-digit-requires-2
 digit-requires-2 c κs = search needs
 
 returns-2 : tie.Need-returns-2
-returns-2 c = rw (← c .before .digit2 .ensures, ← c .before .before .before .digit .ensures, eq-eqb _ 1 (c .before .before .if1 .left), eq-eqb _ 0 (c .if2 .taken))
+returns-2 c =
+    rw (← c .before .digit2 .ensures, ← c .before .before .before .digit .ensures, eq-eqb _ 1 (c .before .before .if1 .left), eq-eqb _ 0 (c .if2 .taken))
 
 mul-result : tie.Need-mul-result
 mul-result c = search needs
 
 returns-3 : tie.Need-returns-3
-returns-3 c = rw (← c .before .digit2 .ensures, ← c .before .before .before .digit .ensures, eq-eqb _ 1 (c .before .before .if1 .left), ne-eqb _ 0 (c .if2 .left))
+returns-3 c =
+    rw (← c .before .digit2 .ensures, ← c .before .before .before .digit .ensures, eq-eqb _ 1 (c .before .before .if1 .left), ne-eqb _ 0 (c .if2 .left))
 
 pub may-be-last-spec : {M : Type 1} → statement M
 may-be-last-spec =

@@ -71,4 +71,5 @@ add-row-6 c = search needs
 pub put-state-spec : {M : Type 1} → statement M
 put-state-spec =
     tie.close
-    (tie.spec mul-row add-row mul-row-2 slice-write-row mul-row-3 add-row-2 add-row-3 mul-row-4 slice-write-row-2 shl-row sub-row mul-row-5 add-row-4 mul-row-6 add-row-5 add-row-6 mul-row-7 slice-write-row-3 same-length returns)
+    (tie.spec mul-row add-row mul-row-2 slice-write-row mul-row-3 add-row-2 add-row-3 mul-row-4 slice-write-row-2 shl-row sub-row mul-row-5 add-row-4 mul-row-6
+    add-row-5 add-row-6 mul-row-7 slice-write-row-3 same-length returns)

@@ -89,14 +89,16 @@ element-copy-out-lesser-4 c = search needs
 
 lesser-requires-3 : tie.Need-lesser-requires-3
 lesser-requires-3 c κs =
-    let k = c .before .before .before .before .before .before in
+    let mid = c .before .before .before .before in
+    let k = mid .before .before in
     (omega (arith, c .before .lesser2 .ensures, k .pre .1 .word (near k + 256)), omega (arith, k .pre .1 .word (far k)))
 
 returns : tie.Need-returns
 returns c =
-    let k = c .before .before .before .before .before .before .before in
+    let after-lesser = c .before .before .before .before in
+    let k = after-lesser .before .before .before in
     let e = found-words (k .args .buckets) (k .args .a) (k .args .l) (near k) (other k) (far k) (k .pre .1) refl refl refl in
-    omega (arith, e, c .lesser3 .ensures, c .before .before .lesser2 .ensures, c .before .before .before .before .lesser .ensures)
+    omega (arith, e, c .lesser3 .ensures, c .before .before .lesser2 .ensures, after-lesser .lesser .ensures)
 
 pub found-lane-spec : {M : Type 1} → statement M
 found-lane-spec =

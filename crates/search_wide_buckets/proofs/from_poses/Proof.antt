@@ -38,8 +38,9 @@ loop-holds c =
 
 from-pose-requires : tie.Need-from-pose-requires Inv-loop μ-loop
 from-pose-requires c κs =
-    let k = c .before .before .before .before .before .before in
-    let l = c .before .before .loop in
+    let at-loop = c .before .before in
+    let k = at-loop .before .before .before .before in
+    let l = at-loop .loop in
     (source-on (k .pre .0) (l .inv .2), k .pre .1, omega arith, omega arith)
 
 add-b : tie.Need-add-b Inv-loop μ-loop
@@ -50,12 +51,14 @@ loop-less c = search needs
 
 loop-again : tie.Need-loop-again Inv-loop μ-loop
 loop-again c =
-    let k = c .before .before .before .before .before .before .before .before in
+    let at-loop = c .before .before .before .before in
+    let k = at-loop .before .before .before .before in
     let a = k .args in
-    let l = c .before .before .before .before .loop in (
+    let l = at-loop .loop in (
       omega arith,
       l .inv .1,
-      gathered-join (l .inv .2) (c .before .from-pose .ensures .0) (λ j v t i. poses-more (a .row .now) (a .k) (a .m) (rowIn (a .store .now) (a .at) j) (l .b) v t),
+      gathered-join (l .inv .2) (c .before .from-pose .ensures .0)
+          (λ j v t i. poses-more (a .row .now) (a .k) (a .m) (rowIn (a .store .now) (a .at) j) (l .b) v t),
       λ e.
           ⊎-elim
           (λ w. absurd (true-false (sym (w .1) ∙ e)))
@@ -65,8 +68,9 @@ loop-again c =
 
 returns : tie.Need-returns Inv-loop μ-loop
 returns c =
-    let l = c .before .loop in
-    let e : l .b ≡ c .before .before .before .before .before .args .poses = omega arith in
+    let at-loop = c .before in
+    let l = at-loop .loop in
+    let e : l .b ≡ at-loop .before .before .before .before .args .poses = omega arith in
     (rw (e, l .inv .1) at (l .inv .2), l .inv .3)
 
 pub from-poses-spec : {M : Type 1} → statement M

@@ -62,8 +62,9 @@ loop-less c = search needs
 
 loop-again : tie.Need-loop-again Inv-loop μ-loop
 loop-again c =
-    let k = c .before .before .before .before .before in
-    let l = c .before .before .before .before .loop in
+    let at-loop = c .before .before .before .before in
+    let k = at-loop .before in
+    let l = at-loop .loop in
     let w = l .inv .1 .frame in
     let e = w .high (k .args .to + l .l) (omega arith) in
     let f = w .low (k .args .from + l .l) (omega arith) in

@@ -50,8 +50,9 @@ loop-less c = search needs
 
 loop-again : tie.Need-loop-again Inv-loop μ-loop
 loop-again c =
-    let k = c .before .before .before .before .before in
-    let l = c .before .before .before .loop in
+    let at-loop = c .before .before .before in
+    let k = at-loop .before .before in
+    let l = at-loop .loop in
     let e = c .before .found-lane .ensures in
     (omega arith, written-more (l .l) (c .lesser .result) (l .inv .1) (omega arith) (omega (arith, c .lesser .ensures, e)) (omega (arith, c .lesser .ensures)))
 

@@ -34,8 +34,9 @@ add-put-pose-2 c = search needs
 
 put-pose-requires : tie.Need-put-pose-requires Inv-loop μ-loop
 put-pose-requires c κs =
-    let k = c .before .before .before .before .before in
-    let l = c .before .before .loop in
+    let at-loop = c .before .before in
+    let k = at-loop .before .before .before in
+    let l = at-loop .loop in
     (rows-on (k .pre .0) (l .inv .1 .low), omega (arith, l .inv .1 .frame .long, k .pre .0 .narrow), omega arith)
 
 add-a : tie.Need-add-a Inv-loop μ-loop
@@ -46,9 +47,11 @@ loop-less c = search needs
 
 loop-again : tie.Need-loop-again Inv-loop μ-loop
 loop-again c =
-    let k = c .before .before .before .before .before .before .before .before in
-    let l = c .before .before .before .before .before .loop in
-    (omega arith, state-more (l .a) (omega (arith, k .pre .0 .narrow)) (omega arith) (l .inv .1) (c .before .before .put-pose .ensures) (λ j h. refl))
+    let after-put-pose = c .before .before in
+    let at-loop = after-put-pose .before .before .before in
+    let k = at-loop .before .before .before in
+    let l = at-loop .loop in
+    (omega arith, state-more (l .a) (omega (arith, k .pre .0 .narrow)) (omega arith) (l .inv .1) (after-put-pose .put-pose .ensures) (λ j h. refl))
 
 same-length : tie.Need-same-length Inv-loop μ-loop
 same-length c = c .before .loop .inv .1 .frame .long

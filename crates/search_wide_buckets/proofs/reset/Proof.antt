@@ -40,8 +40,9 @@ loop-less c = search needs
 
 loop-again : tie.Need-loop-again Inv-loop μ-loop
 loop-again c =
-    let l = c .before .before .before .loop in
-    (omega arith, l .inv .1, cleared-more (l .v) (omega arith) (c .before .before .before .before .before .pre .4) (l .inv .2) (c .fill-rows .ensures))
+    let at-loop = c .before .before .before in
+    let l = at-loop .loop in
+    (omega arith, l .inv .1, cleared-more (l .v) (omega arith) (at-loop .before .before .pre .4) (l .inv .2) (c .fill-rows .ensures))
 
 returns : tie.Need-returns Inv-loop μ-loop
 returns c =

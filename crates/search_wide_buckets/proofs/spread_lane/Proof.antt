@@ -24,9 +24,10 @@ spread-near-requires c κs =
 
 returns-2 : tie.Need-returns-2
 returns-2 c =
-    let k = c .before .before .before .before .before in
+    let after-spread-one = c .before .before .before in
+    let k = after-spread-one .before .before in
     let e = nine-else (k .pre .7) (λ h. omega arith) in
-    rw e (spread-join (omega arith) (omega arith) (c .before .before .before .spread-one .ensures) (c .spread-near .ensures))
+    rw e (spread-join (omega arith) (omega arith) (after-spread-one .spread-one .ensures) (c .spread-near .ensures))
 
 pub spread-lane-spec : {M : Type 1} → statement M
 spread-lane-spec = tie.close (tie.spec spread-one-requires returns spread-near-requires returns-2)

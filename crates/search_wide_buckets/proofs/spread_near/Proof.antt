@@ -56,15 +56,21 @@ element-copy-out-lower-one c = search needs
 
 add-lower-one-6 : tie.Need-add-lower-one-6 Inv-loop μ-loop
 add-lower-one-6 c =
-    let k = c .before .before .before .before .before in
-    let l = c .before .before .before .loop in
+    let at-loop = c .before .before .before in
+    let k = at-loop .before .before in
+    let l = at-loop .loop in
     omega (arith, k .pre .3 .low (k .args .u * 9 + (k .args .first + l .v)) (omega arith) (omega arith))
 
 lower-one-requires : tie.Need-lower-one-requires Inv-loop μ-loop
 lower-one-requires c κs =
-    let k = c .before .before .before .before .before in
-    let l = c .before .before .before .loop in
-    (omega arith, l .inv .1 .long ∙ k .pre .1, l .inv .1 .low, omega (arith, k .pre .3 .low (k .args .u * 9 + (k .args .first + l .v)) (omega arith) (omega arith)))
+    let at-loop = c .before .before .before in
+    let k = at-loop .before .before in
+    let l = at-loop .loop in (
+      omega arith,
+      l .inv .1 .long ∙ k .pre .1,
+      l .inv .1 .low,
+      omega (arith, k .pre .3 .low (k .args .u * 9 + (k .args .first + l .v)) (omega arith) (omega arith)),
+    )
 
 add-v : tie.Need-add-v Inv-loop μ-loop
 add-v c = search needs
@@ -74,8 +80,9 @@ loop-less c = search needs
 
 loop-again : tie.Need-loop-again Inv-loop μ-loop
 loop-again c =
-    let k = c .before .before .before .before .before .before in
-    let l = c .before .before .before .before .loop in
+    let at-loop = c .before .before .before .before in
+    let k = at-loop .before .before in
+    let l = at-loop .loop in
     let z : k .args .first + l .v + 1 ≡ k .args .first + (l .v + 1) = omega arith in
     (omega arith, rw z at (spread-more (k .args .first + l .v) (omega arith) (omega arith) (omega arith) (k .pre .0) (l .inv .1) (c .lower-one .ensures)))
 

@@ -12,14 +12,17 @@ use Rattle.search_wide_buckets.proofs.spread_one.Tie as tie
 
 -- after bucket 0
 abbrev Alone : tie.After-lower-one → Type 0
-Alone c = let a = c .before .before .before .args in Spread (chargedOne (a .x) (a .pays .now) (a .u)) (a .t) 0 1 (a .lane) 1 (a .table .now) (c .lower-one .last .0)
+Alone c =
+    let a = c .before .before .before .args in
+    Spread (chargedOne (a .x) (a .pays .now) (a .u)) (a .t) 0 1 (a .lane) 1 (a .table .now) (c .lower-one .last .0)
 
 alone : (c : tie.After-lower-one) → Alone c
 alone c =
     let k = c .before .before .before in
     let a = k .args in
     let z : a .t * 64 + a .lane ≡ 0 * 1216 + a .t * 64 + a .lane = omega arith in
-    let w = rw z at (lowered-at-ext {g = chargedOne (a .x) (a .pays .now) (a .u) 0} (c .lower-one .ensures) (λ l h. ap (λ (j : ℕ). a .x + getD (a .pays .now) j 0) (omega arith))) in
+    let w = rw z at (lowered-at-ext {g = chargedOne (a .x) (a .pays .now) (a .u) 0} (c .lower-one .ensures)
+    (λ l h. ap (λ (j : ℕ). a .x + getD (a .pays .now) j 0) (omega arith))) in
     spread-more 0 (omega arith) (omega arith) (omega arith) (k .pre .0) (spread-none _ _ 0 0 _ _ (k .pre .0) (λ v s b h. absurd (omega arith))) w
 
 mul-lower-one : tie.Need-mul-lower-one

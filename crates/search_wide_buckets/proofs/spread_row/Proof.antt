@@ -17,16 +17,18 @@ returns c =
 
 spread-apart-requires : tie.Need-spread-apart-requires
 spread-apart-requires c κs =
-    let k = c .before .before .before .before .before in
-    let w = c .before .before .spread .ensures in
+    let after-spread = c .before .before in
+    let k = after-spread .before .before .before in
+    let w = after-spread .spread .ensures in
     let e = nine-else (k .pre .8) (λ h. omega arith) in
     (w .low, w .long ∙ k .pre .1, k .pre .2, k .pre .3, pays-fewer 9 (k .pre .4) (omega arith), k .pre .5, k .pre .6, k .pre .7)
 
 returns-2 : tie.Need-returns-2
 returns-2 c =
-    let k = c .before .before .before .before .before .before in
+    let after-spread = c .before .before .before in
+    let k = after-spread .before .before .before in
     let e = nine-else (k .pre .8) (λ h. omega arith) in
-    rw e (spread-join (omega arith) (omega arith) (c .before .before .before .spread .ensures) (c .spread-apart .ensures))
+    rw e (spread-join (omega arith) (omega arith) (after-spread .spread .ensures) (c .spread-apart .ensures))
 
 pub spread-row-spec : {M : Type 1} → statement M
 spread-row-spec = tie.close (tie.spec spread-requires returns spread-apart-requires returns-2)

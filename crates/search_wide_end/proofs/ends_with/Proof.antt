@@ -49,13 +49,16 @@ mul-result-2 c =
 
 shared-slice-read-result : tie.Need-shared-slice-read-result
 shared-slice-read-result c =
-    omega (arith, inside (c .before), c .before .before .before .before .before .pre .0 .long)
+    let mid = c .before in
+    omega (arith, inside mid, mid .before .before .before .before .pre .0 .long)
 
 returns-2 : tie.Need-returns-2
 returns-2 c =
-    let a = c .before .before .before .before .before .args in
+    let mid = c .before .before in
+    let a = mid .before .before .before .args in
     ap (λ (p : ℕ). not (eqb (wordOf (a .row .now) p tallWord) 1)) (c .before .last-at .ensures)
-    ∙ and-there (thereIn (a .sizes .cells) (a .sizes .reordering) (a .sizes .cells) (a .q)) (not (eqb (wordOf (a .row .now) (lastAt (a .sizes .reordering) (a .sizes .cells) (a .q)) 67) 1)) (there (c .before .before))
+    ∙ and-there (thereIn (a .sizes .cells) (a .sizes .reordering) (a .sizes .cells) (a .q))
+    (not (eqb (wordOf (a .row .now) (lastAt (a .sizes .reordering) (a .sizes .cells) (a .q)) 67) 1)) (there mid)
 
 pub ends-with-spec : {M : Type 1} → statement M
 ends-with-spec =

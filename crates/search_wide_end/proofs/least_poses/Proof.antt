@@ -42,9 +42,10 @@ back-requires c κs = search needs
 
 relax-requires : tie.Need-relax-requires Inv-loop μ-loop
 relax-requires c κs =
-    let k = c .before .before .before .before .before .before in
+    let at-loop = c .before .before .before in
+    let k = at-loop .before .before .before in
     let a = k .args in
-    let l = c .before .before .before .loop in
+    let l = at-loop .loop in
     (omega arith, omega arith, l .inv .1 .long ∙ k .pre .3, omega (arith, c .back .ensures, back-low (a .row .now) (a .k) (l .a)), k .pre .1)
 
 add-a : tie.Need-add-a Inv-loop μ-loop
@@ -55,10 +56,12 @@ loop-less c = search needs
 
 loop-again : tie.Need-loop-again Inv-loop μ-loop
 loop-again c =
-    let a = c .before .before .before .before .before .before .before .args in
-    let l = c .before .before .before .before .loop in (
+    let at-loop = c .before .before .before .before in
+    let a = at-loop .before .before .before .args in
+    let l = at-loop .loop in (
       omega arith,
-      lowered-join (l .inv .1) (c .relax .ensures) (λ j h. omega (arith, c .before .back .ensures, poses-more (backIn (a .row .now) (a .k)) (layerIn (a .store .now) (a .at) j) (a .q) (l .a))),
+      lowered-join (l .inv .1) (c .relax .ensures)
+          (λ j h. omega (arith, c .before .back .ensures, poses-more (backIn (a .row .now) (a .k)) (layerIn (a .store .now) (a .at) j) (a .q) (l .a))),
     )
 
 returns : tie.Need-returns Inv-loop μ-loop

@@ -29,14 +29,19 @@ returns c =
     let k = c .before .before .before .before in
     let a = k .args in
     lowered-to _ (k .pre .1)
-    (λ l h. omega (arith, state-out (deckIn (a .row .now) (a .sizes)) (a .sizes .reordering) (layerIn (a .store .now) (a .at) l) (a .q) (sym (c .before .ends-with .ensures) ∙ not-true _ (c .if1 .taken))))
+    (λ l h. omega (
+      arith,
+      state-out (deckIn (a .row .now) (a .sizes)) (a .sizes .reordering) (layerIn (a .store .now) (a .at) l) (a .q)
+          (sym (c .before .ends-with .ensures) ∙ not-true _ (c .if1 .taken)),
+    ))
 
 last-at-requires : tie.Need-last-at-requires
 last-at-requires c κs = search needs
 
 least-poses-requires : tie.Need-least-poses-requires
 least-poses-requires c κs =
-    let k = c .before .before .before .before .before .before in
+    let mid = c .before .before in
+    let k = mid .before .before .before .before in
     let a = k .args in
     let g = k .pre .0 in (
       g .ground .words,
@@ -45,18 +50,20 @@ least-poses-requires c κs =
       k .pre .2,
       g .room,
       omega (arith, g .ground .all, g .ground .coded .few, k .pre .3),
-      omega (arith, c .before .last-at .ensures, ends-size (a .row .now) (a .sizes .cells) (a .sizes .reordering) (a .q) (can (c .before .before)), g .ground .size),
+      omega (arith, c .before .last-at .ensures, ends-size (a .row .now) (a .sizes .cells) (a .sizes .reordering) (a .q) (can mid), g .ground .size),
       g .ground .few,
       g .narrow,
     )
 
 returns-2 : tie.Need-returns-2
 returns-2 c =
-    let a = c .before .before .before .before .before .before .before .args in
+    let mid = c .before .before .before in
+    let a = mid .before .before .before .before .args in
     lowered-ext (c .least-poses .ensures)
     (λ l h.
-    state-in (deckIn (a .row .now) (a .sizes)) (a .sizes .reordering) (layerIn (a .store .now) (a .at) l) (a .q) (can (c .before .before .before))
-    ∙ ap (λ (j : ℕ). leastPoses (backIn (a .row .now) j) (layerIn (a .store .now) (a .at) l) (a .q) (a .sizes .poses)) (sym (c .before .before .last-at .ensures)))
+    state-in (deckIn (a .row .now) (a .sizes)) (a .sizes .reordering) (layerIn (a .store .now) (a .at) l) (a .q) (can mid)
+    ∙ ap (λ (j : ℕ). leastPoses (backIn (a .row .now) j) (layerIn (a .store .now) (a .at) l) (a .q) (a .sizes .poses))
+    (sym (c .before .before .last-at .ensures)))
 
 pub least-state-spec : {M : Type 1} → statement M
 least-state-spec =

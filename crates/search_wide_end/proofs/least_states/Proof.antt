@@ -23,13 +23,16 @@ abbrev μ-loop : tie.MeasureT-loop
 loop-holds : tie.Need-loop-holds Inv-loop μ-loop
 loop-holds c =
     let k = c .before .before in
-    let a = k .args in
-    (omega arith, lowered-to _ (k .pre .1) (λ l h. omega (arith, states-none (deckIn (a .row .now) (a .sizes)) (a .sizes .reordering) (layerIn (a .store .now) (a .at) l))))
+    let a = k .args in (
+      omega arith,
+      lowered-to _ (k .pre .1) (λ l h. omega (arith, states-none (deckIn (a .row .now) (a .sizes)) (a .sizes .reordering) (layerIn (a .store .now) (a .at) l))),
+    )
 
 least-state-requires : tie.Need-least-state-requires Inv-loop μ-loop
 least-state-requires c κs =
-    let k = c .before .before .before .before .before .before in
-    let w = c .before .before .before .loop .inv .1 in
+    let at-loop = c .before .before .before in
+    let k = at-loop .before .before .before in
+    let w = at-loop .loop .inv .1 in
     (k .pre .0, lowered-low w (k .pre .1), w .long ∙ k .pre .2, omega arith)
 
 add-q : tie.Need-add-q Inv-loop μ-loop
@@ -40,16 +43,19 @@ loop-less c = search needs
 
 loop-again : tie.Need-loop-again Inv-loop μ-loop
 loop-again c =
-    let a = c .before .before .before .before .before .before .before .args in
-    let l = c .before .before .before .before .loop in (
+    let at-loop = c .before .before .before .before in
+    let a = at-loop .before .before .before .args in
+    let l = at-loop .loop in (
       omega arith,
-      lowered-join (l .inv .1) (c .least-state .ensures) (λ j h. states-more (deckIn (a .row .now) (a .sizes)) (a .sizes .reordering) (layerIn (a .store .now) (a .at) j) (l .q)),
+      lowered-join (l .inv .1) (c .least-state .ensures)
+          (λ j h. states-more (deckIn (a .row .now) (a .sizes)) (a .sizes .reordering) (layerIn (a .store .now) (a .at) j) (l .q)),
     )
 
 returns : tie.Need-returns Inv-loop μ-loop
 returns c =
-    let e : c .before .before .loop .q ≡ c .before .before .before .before .before .args .sizes .states = omega arith in
-    rw e at (c .before .before .loop .inv .1)
+    let at-loop = c .before .before in
+    let e : at-loop .loop .q ≡ at-loop .before .before .before .args .sizes .states = omega arith in
+    rw e at (at-loop .loop .inv .1)
 
 pub least-states-spec : {M : Type 1} → statement M
 least-states-spec =

@@ -15,20 +15,29 @@ least-states-requires c κs =
 
 put-requires : tie.Need-put-requires
 put-requires c κs =
-    let k = c .before .before .before .before .before .before .before in
-    let w = c .before .before .least-states .ensures in
-    (omega (arith, k .pre .1 .room, k .pre .0 .narrow), omega (arith, k .pre .0 .narrow), w .long, omega arith, k .pre .0 .low, λ l. lowered-low w none-low .word l)
+    let mid = c .before .before .before .before in
+    let k = mid .before .before .before in
+    let w = c .before .before .least-states .ensures in (
+      omega (arith, k .pre .1 .room, k .pre .0 .narrow),
+      omega (arith, k .pre .0 .narrow),
+      w .long,
+      omega arith,
+      k .pre .0 .low,
+      λ l. lowered-low w none-low .word l,
+    )
 
 same-length : tie.Need-same-length
 same-length c = search needs
 
 returns : tie.Need-returns
 returns c =
-    let k = c .before .before .before .before .before .before .before .before .before .before in
+    let after-put = c .before .before in
+    let mid = after-put .before .before .before .before in
+    let k = mid .before .before .before .before in
     let a = k .args in
-    let w = c .before .before .before .before .before .least-states .ensures in
+    let w = after-put .before .before .before .least-states .ensures in
     let g = k .pre .0 in
-    written-ext (c .before .before .put .ensures)
+    written-ext (after-put .put .ensures)
     (λ l h.
     ends-gathered (deckIn (a .row .now) (a .sizes)) (a .sizes .reordering) (layerIn (a .store .now) (a .at) l) (g .ground .all)
     (omega (arith, w .done l h, none-at l (omega (arith, g .narrow)))))

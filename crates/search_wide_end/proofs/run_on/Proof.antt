@@ -44,17 +44,22 @@ sub-step-layer c =
 
 step-layer-requires : tie.Need-step-layer-requires Inv-loop μ-loop
 step-layer-requires c κs =
-    let k = c .before .before .before .before .before .before .before in
+    let at-loop = c .before .before .before .before in
+    let k = at-loop .before .before .before in
     let g = k .pre .1 in
-    let l = c .before .before .before .before .loop in
+    let l = at-loop .loop in
     let v = l .inv .1 in
     let b = buffer-low (v .running .buffer) in
-    let n : keptFrom ≤ length (l .store) = omega (arith, v .frame .long, k .pre .2) in
-    (l .inv .2, record { ground = g .ground; low = v .low; narrow = g .narrow; early = omega (arith, l .inv .0, g .ground .size); room = omega arith }, buffer-beside (v .running .buffer) n)
+    let n : keptFrom ≤ length (l .store) = omega (arith, v .frame .long, k .pre .2) in (
+      l .inv .2,
+      record { ground = g .ground; low = v .low; narrow = g .narrow; early = omega (arith, l .inv .0, g .ground .size); room = omega arith },
+      buffer-beside (v .running .buffer) n,
+    )
 
 sub-from : tie.Need-sub-from Inv-loop μ-loop
 sub-from c =
-    omega (arith, buffer-low (c .before .before .before .before .before .before .before .loop .inv .1 .running .buffer))
+    let mid = c .before .before .before .before in
+    omega (arith, buffer-low (mid .before .before .before .loop .inv .1 .running .buffer))
 
 add-d : tie.Need-add-d Inv-loop μ-loop
 add-d c = search needs
@@ -64,7 +69,12 @@ loop-less c = search needs
 
 loop-again : tie.Need-loop-again Inv-loop μ-loop
 loop-again c =
-    (omega arith, ran-more (c .before .before .before .before .before .before .before .before .before .before .pre .1 .ground .all) (c .before .before .before .before .before .before .before .loop .inv .1) (c .before .before .step-layer .ensures .0), c .before .before .step-layer .ensures .1)
+    let mid = c .before .before .before .before in
+    let at-loop = mid .before .before .before in (
+      omega arith,
+      ran-more (at-loop .before .before .before .pre .1 .ground .all) (at-loop .loop .inv .1) (c .before .before .step-layer .ensures .0),
+      c .before .before .step-layer .ensures .1,
+    )
 
 same-length : tie.Need-same-length Inv-loop μ-loop
 same-length c =
@@ -72,9 +82,10 @@ same-length c =
 
 returns : tie.Need-returns Inv-loop μ-loop
 returns c =
-    let a = c .before .before .before .before .before .args in
-    let e : c .before .before .loop .d ≡ a .sizes .cells - a .i = omega arith in
-    (rw e at (c .before .before .loop .inv .1), c .before .before .loop .inv .2)
+    let at-loop = c .before .before in
+    let a = at-loop .before .before .before .args in
+    let e : at-loop .loop .d ≡ a .sizes .cells - a .i = omega arith in
+    (rw e at (at-loop .loop .inv .1), at-loop .loop .inv .2)
 
 add-if1 : tie.Need-add-if1 Inv-loop μ-loop
 add-if1 c = search needs

@@ -12,7 +12,7 @@ use Rattle.search_wide_end.proofs.segment_end.Statement.{statement}
 use Rattle.search_wide_end.proofs.segment_end.Tie as tie
 
 -- past both tests the row has room for what was placed
-left : (c : tie.Else2) → (let a = c .before .before .before .before .before .before .args in a .i ≤ a .sizes .cells)
+left : (c : tie.Else2) → (let mid = c .before .before .before .before in let a = mid .before .before .args in a .i ≤ a .sizes .cells)
 left c = omega arith
 
 add-if1 : tie.Need-add-if1
@@ -26,9 +26,11 @@ same-length c = search needs
 
 returns : tie.Need-returns
 returns c =
-    let k = c .before .before .before .before .before .before .before .before in
+    let mid = c .before .before .before .before in
+    let k = mid .before .before .before .before in
     let a = k .args in (
-      end-words (k .pre .1 .narrow) (c .before .before .fill .ensures) (λ f l. cost-past (deckIn (a .row .now) (a .sizes)) (a .sizes .reordering) f (a .i) (getD (a .starts .now) l 0) (omega arith)),
+      end-words (k .pre .1 .narrow) (c .before .before .fill .ensures)
+          (λ f l. cost-past (deckIn (a .row .now) (a .sizes)) (a .sizes .reordering) f (a .i) (getD (a .starts .now) l 0) (omega arith)),
       k .pre .0,
     )
 
@@ -37,7 +39,8 @@ add-if2 c = search needs
 
 put-requires : tie.Need-put-requires
 put-requires c κs =
-    let k = c .before .before .before .before .before .before .before in
+    let mid = c .before .before .before .before in
+    let k = mid .before .before .before in
     (omega (arith, k .pre .2 .room, k .pre .1 .narrow), omega (arith, k .pre .1 .narrow), k .pre .4, omega arith, k .pre .1 .low, k .pre .3 .word)
 
 same-length-2 : tie.Need-same-length-2
@@ -45,21 +48,27 @@ same-length-2 c = search needs
 
 returns-2 : tie.Need-returns-2
 returns-2 c =
-    let k = c .before .before .before .before .before .before .before .before .before .before in
+    let after-put = c .before .before in
+    let mid = after-put .before .before .before .before in
+    let k = mid .before .before .before .before in
     let a = k .args in (
-      end-words (k .pre .1 .narrow) (c .before .before .put .ensures)
-          (λ f l. omega (arith, cost-done (deckIn (a .row .now) (a .sizes)) (a .sizes .reordering) f (a .i) (getD (a .starts .now) l 0) (omega arith), k .pre .3 .word l)),
+      end-words (k .pre .1 .narrow) (after-put .put .ensures)
+          (λ f l. omega
+          (arith, cost-done (deckIn (a .row .now) (a .sizes)) (a .sizes .reordering) f (a .i) (getD (a .starts .now) l 0) (omega arith), k .pre .3 .word l)),
       k .pre .0,
     )
 
 run-on-requires : tie.Need-run-on-requires
 run-on-requires c κs =
-    let k = c .before .before .before .before .before .before .before .before in
+    let mid = c .before .before .before .before in
+    let k = mid .before .before .before .before in
     (k .pre .0, k .pre .1, omega (arith, k .pre .2 .over, k .pre .2 .room), left (c .before .before))
 
 put-ends-requires : tie.Need-put-ends-requires
 put-ends-requires c κs =
-    let k = c .before .before .before .before .before .before .before .before .before .before .before .before in
+    let mid = c .before .before .before .before in
+    let mid₂ = mid .before .before .before .before in
+    let k = mid₂ .before .before .before .before in
     let g = k .pre .1 in
     let v = c .before .before .before .run-on .ensures .0 in
     let b = buffer-low (v .running .buffer) in (
@@ -74,21 +83,27 @@ put-ends-requires c κs =
     )
 
 same-length-3 : tie.Need-same-length-3
-same-length-3 c = c .before .before .put-ends .ensures .frame .long ∙ c .before .before .before .before .before .before .run-on .ensures .0 .frame .long
+same-length-3 c =
+    let after-put-ends = c .before .before in
+    after-put-ends .put-ends .ensures .frame .long ∙ after-put-ends .before .before .before .before .run-on .ensures .0 .frame .long
 
 returns-3 : tie.Need-returns-3
 returns-3 c =
-    let k = c .before .before .before .before .before .before .before .before .before .before .before .before .before .before .before in
+    let after-put-ends = c .before .before in
+    let after-run-on = after-put-ends .before .before .before .before in
+    let mid = after-run-on .before .before .before in
+    let mid₂ = mid .before .before .before .before in
+    let k = mid₂ .before .before in
     let a = k .args in
     let g = k .pre .1 in
-    let v = c .before .before .before .before .before .before .run-on .ensures .0 in
-    let w = c .before .before .put-ends .ensures in (
+    let v = after-run-on .run-on .ensures .0 in
+    let w = after-put-ends .put-ends .ensures in (
       record {
         outside = outside-join (outside-layers (k .pre .2 .over) (v .frame) (omega arith)) (outside-costs (w .frame) (omega arith) (omega (arith, g .narrow)));
         low = w .low;
-        right = λ l h. w .words l h ∙ ran-cost l (getD (a .starts .now) l 0) (left (c .before .before .before .before .before .before .before .before .before)) (v .running) h;
+        right = λ l h. w .words l h ∙ ran-cost l (getD (a .starts .now) l 0) (left mid) (v .running) h;
       },
-      c .before .before .before .before .before .before .run-on .ensures .1,
+      after-run-on .run-on .ensures .1,
     )
 
 pub segment-end-spec : {M : Type 1} → statement M

@@ -21,9 +21,11 @@ Starts c = let a = c .before .before .before .before .args in startsAt (a .sizes
 can : (c : tie.Else1) → Starts c
 can c =
     let a = c .before .before .before .before .args in
-    ap (λ (j : ℕ). startsAt (a .sizes .cells) (a .sizes .reordering) j (a .m) (a .q)) (sym (add-one (a .i))) ∙ sym (c .before .starts .ensures) ∙ not-false _ (c .if1 .left)
+    ap (λ (j : ℕ). startsAt (a .sizes .cells) (a .sizes .reordering) j (a .m) (a .q)) (sym (add-one (a .i))) ∙ sym (c .before .starts .ensures)
+    ∙ not-false _ (c .if1 .left)
 
-here : (c : tie.After-last-at) → (let a = c .before .before .before .before .before .args in c .last-at .result ≡ lastAt (a .sizes .reordering) (suc (a .i)) (a .q))
+here : (c : tie.After-last-at)
+    → (let mid = c .before .before .before .before in let a = mid .before .args in c .last-at .result ≡ lastAt (a .sizes .reordering) (suc (a .i)) (a .q))
 here c = omega (arith, c .last-at .ensures)
 
 add-starts : tie.Need-add-starts
@@ -46,9 +48,10 @@ same-length c = search needs
 
 returns : tie.Need-returns
 returns c =
-    let k = c .before .before .before .before .before .before .before .before in
+    let after-if1 = c .before .before .before .before in
+    let k = after-if1 .before .before .before .before in
     let a = k .args in
-    let t = sym (c .before .before .before .before .before .starts .ensures) ∙ not-true _ (c .before .before .before .before .if1 .taken) in
+    let t = sym (after-if1 .before .starts .ensures) ∙ not-true _ (after-if1 .if1 .taken) in
     let u = ap (λ (j : ℕ). startsAt (a .sizes .cells) (a .sizes .reordering) j (a .m) (a .q)) (sym (add-one (a .i))) ∙ t in (
       state-rows (omega (arith, k .pre .1 .ground .few)) (c .before .before .fill-rows .ensures)
           (λ b l x y. after-away (deckIn (a .row .now) (a .sizes)) (a .sizes .reordering) (a .i) (a .m) (a .p) l (a .q) b u),
@@ -63,7 +66,8 @@ last-at-requires c κs = search needs
 
 first-rows-requires : tie.Need-first-rows-requires
 first-rows-requires c κs =
-    let k = c .before .before .before .before .before .before .before in
+    let mid = c .before .before .before in
+    let k = mid .before .before .before .before in
     let a = k .args in
     let g = k .pre .1 in (
       k .pre .0,
@@ -73,7 +77,7 @@ first-rows-requires c κs =
       omega (arith, g .ground .all, g .ground .coded .few),
       k .pre .2,
       k .pre .3,
-      omega (arith, here (c .before .before), starts-size (a .sizes .cells) (a .sizes .reordering) (suc (a .i)) (a .m) (a .q) (can (c .before .before .before)), g .ground .size),
+      omega (arith, here (c .before .before), starts-size (a .sizes .cells) (a .sizes .reordering) (suc (a .i)) (a .m) (a .q) (can mid), g .ground .size),
       g .ground .few,
     )
 
@@ -82,13 +86,15 @@ same-length-2 c = search needs
 
 returns-2 : tie.Need-returns-2
 returns-2 c =
-    let k = c .before .before .before .before .before .before .before .before .before .before in
+    let after-first-rows = c .before .before in
+    let mid = after-first-rows .before .before .before .before in
+    let k = mid .before .before .before .before in
     let a = k .args in
-    let e = here (c .before .before .before .before .before) in
-    let w = c .before .before .first-rows .ensures in (
+    let e = here (after-first-rows .before .before .before) in
+    let w = after-first-rows .first-rows .ensures in (
       state-ext (w .0)
           (λ b l x y.
-          after-there (deckIn (a .row .now) (a .sizes)) (a .sizes .reordering) (a .i) (a .m) (a .p) l (a .q) b (can (c .before .before .before .before .before .before))
+          after-there (deckIn (a .row .now) (a .sizes)) (a .sizes .reordering) (a .i) (a .m) (a .p) l (a .q) b (can mid)
           ∙ ap (λ (j : ℕ). afterRow (a .row .now) (a .p) j b l) (sym e)),
       w .1,
     )

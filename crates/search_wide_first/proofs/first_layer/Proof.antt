@@ -40,8 +40,9 @@ loop-holds c =
 
 first-block-requires : tie.Need-first-block-requires Inv-loop μ-loop
 first-block-requires c κs =
-    let k = c .before .before .before .before .before .before .before .before in
-    let l = c .before .before .before .before .loop in
+    let at-loop = c .before .before .before .before in
+    let k = at-loop .before .before .before .before in
+    let l = at-loop .loop in
     let s = l .inv .1 in
     (l .inv .2, given-on (k .pre .1) (s .frame) (s .low), k .pre .2, k .pre .3, omega arith)
 
@@ -53,12 +54,15 @@ loop-less c = search needs
 
 loop-again : tie.Need-loop-again Inv-loop μ-loop
 loop-again c =
-    let k = c .before .before .before .before .before .before .before .before .before .before .before in
+    let mid = c .before .before .before .before in
+    let at-loop = mid .before .before .before in
+    let k = at-loop .before .before .before .before in
     let g = k .pre .1 in
-    let l = c .before .before .before .before .before .before .before .loop in
+    let l = at-loop .loop in
     let w = c .before .before .first-block .ensures in (
       omega arith,
-      filled-more (l .q) (omega (arith, g .narrow)) (omega (arith, g .ground .few)) (omega (arith, g .ground .all, g .ground .coded .few)) (l .inv .1) (w .0) (λ b j x y. refl),
+      filled-more (l .q) (omega (arith, g .narrow)) (omega (arith, g .ground .few)) (omega (arith, g .ground .all, g .ground .coded .few)) (l .inv .1) (w .0)
+          (λ b j x y. refl),
       w .1,
     )
 
@@ -68,11 +72,12 @@ same-length c =
 
 returns : tie.Need-returns Inv-loop μ-loop
 returns c =
-    let k = c .before .before .before .before .before .before in
+    let at-loop = c .before .before in
+    let k = at-loop .before .before .before .before in
     let a = k .args in
-    let e : c .before .before .loop .q ≡ a .sizes .states = omega arith in
+    let e : at-loop .loop .q ≡ a .sizes .states = omega arith in
     let f = k .pre .1 .ground .coded .mark (a .s) (omega (arith, k .pre .1 .ground .all)) in
-    (rw (e, f) at (c .before .before .loop .inv .1), c .before .before .loop .inv .2)
+    (rw (e, f) at (at-loop .loop .inv .1), at-loop .loop .inv .2)
 
 add-m-2 : tie.Need-add-m-2 Inv-loop μ-loop
 add-m-2 c = search needs

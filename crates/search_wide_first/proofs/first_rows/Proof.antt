@@ -28,22 +28,32 @@ last c l v t h = let a = c .before .before .before .args in rw (c .buckets-of .e
 -- the starts in the rows that count
 abbrev Starts : tie.After-run-up → Type 0
 Starts c =
-    let a = c .before .before .before .before .before .before .before .before .before .before .args in
-    Gathered (startIn (a .row .now) (a .p) (a .k)) (rowsOf (a .poses)) (c .before .before .before .before .before .before .before .buckets-of .result) (a .lanes) (c .before .before .before .before .before .reset .last .0) (c .before .before .from-starts .last .0)
+    let after-from-starts = c .before .before in
+    let after-reset = after-from-starts .before .before .before in
+    let after-buckets-of = after-reset .before .before in
+    let a = after-buckets-of .before .before .before .args in
+    Gathered (startIn (a .row .now) (a .p) (a .k)) (rowsOf (a .poses)) (after-buckets-of .buckets-of .result) (a .lanes) (after-reset .reset .last .0)
+    (after-from-starts .from-starts .last .0)
 
 starts : (c : tie.After-run-up) → Starts c
 starts c = rw (c .before .before .before .rows-of .ensures) at (starts-all (c .before .before .from-starts .ensures))
 
 -- the table once bucket 0 ran up
 abbrev Table : tie.After-run-up → Type 0
-Table c = let a = c .before .before .before .before .before .before .before .before .before .before .args in Ready (startIn (a .row .now) (a .p) (a .k)) (a .poses) (c .before .before .before .before .before .before .before .buckets-of .result) (a .lanes) (c .run-up .last .0)
+Table c =
+    let mid = c .before .before .before .before in
+    let after-buckets-of = mid .before .before .before in
+    let a = after-buckets-of .before .before .before .args in
+    Ready (startIn (a .row .now) (a .p) (a .k)) (a .poses) (after-buckets-of .buckets-of .result) (a .lanes) (c .run-up .last .0)
 
 table : (c : tie.After-run-up) → Table c
 table c =
-    let k = c .before .before .before .before .before .before .before .before .before .before in
+    let mid = c .before .before .before .before in
+    let h = mid .before .before .before in
+    let k = h .before .before .before in
     let a = k .args in
-    let h = c .before .before .before .before .before .before .before in
-    ready (k .pre .8) (five-least (needed h)) (nine-most (needed h)) (λ l v t. starts-low (a .p) (a .k) l v t (k .pre .1)) (last h) (c .before .before .before .before .before .reset .ensures) (starts c) (c .run-up .ensures)
+    ready (k .pre .8) (five-least (needed h)) (nine-most (needed h)) (λ l v t. starts-low (a .p) (a .k) l v t (k .pre .1)) (last h)
+    (mid .before .reset .ensures) (starts c) (c .run-up .ensures)
 
 buckets-of-requires : tie.Need-buckets-of-requires
 buckets-of-requires c κs = search needs
@@ -58,18 +68,22 @@ rows-of-requires c κs = search needs
 
 from-starts-requires : tie.Need-from-starts-requires
 from-starts-requires c κs =
-    let k = c .before .before .before .before .before .before .before in
+    let mid = c .before .before .before .before in
+    let k = mid .before .before .before in
     let w = c .before .before .reset .ensures in
-    (k .pre .1, w .low, w .long, k .pre .5, k .pre .6, k .pre .7, omega (arith, c .rows-of .ensures), needed (c .before .before .before .before))
+    (k .pre .1, w .low, w .long, k .pre .5, k .pre .6, k .pre .7, omega (arith, c .rows-of .ensures), needed mid)
 
 run-up-requires : tie.Need-run-up-requires
 run-up-requires c κs = search needs
 
 put-rows-requires : tie.Need-put-rows-requires
 put-rows-requires c κs =
-    let k = c .before .before .before .before .before .before .before .before .before .before .before .before in
-    let t = table (c .before .before) in
-    let h = needed (c .before .before .before .before .before .before .before .before .before) in (
+    let mid = c .before .before in
+    let mid₂ = mid .before .before .before .before in
+    let mid₃ = mid₂ .before .before .before in
+    let k = mid₃ .before .before .before in
+    let t = table mid in
+    let h = needed mid₃ in (
       record {
         words = k .pre .1;
         low = k .pre .2;
@@ -90,10 +104,14 @@ same-length c = search needs
 
 returns : tie.Need-returns
 returns c =
-    let k = c .before .before .before .before .before .before .before .before .before .before .before .before .before .before .before in
+    let after-put-rows = c .before .before in
+    let mid = after-put-rows .before .before .before in
+    let mid₂ = mid .before .before .before .before in
+    let mid₃ = mid₂ .before .before .before .before in
+    let k = mid₃ .before .before in
     let a = k .args in
-    let t = table (c .before .before .before .before .before) in (
-      state-ext (c .before .before .put-rows .ensures) (λ b l x y. after-found (a .row .now) (a .p) (a .k) b l t x y),
+    let t = table mid in (
+      state-ext (after-put-rows .put-rows .ensures) (λ b l x y. after-found (a .row .now) (a .p) (a .k) b l t x y),
       record { long = t .long; low = t .low },
     )
 

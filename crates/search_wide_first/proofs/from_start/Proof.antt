@@ -23,8 +23,10 @@ spread-lane-requires c κs =
 
 returns-2 : tie.Need-returns-2
 returns-2 c =
-    let k = c .before .before .before .before .before in
-    started-in (k .pre .7) (c .spread-lane .ensures) (λ v s i. pose-pays (k .args .b) v s 0 (k .pre .1) (c .before .before .before .end-row .ensures) i (nine-most (k .pre .9)))
+    let after-end-row = c .before .before .before in
+    let k = after-end-row .before .before in
+    started-in (k .pre .7) (c .spread-lane .ensures)
+    (λ v s i. pose-pays (k .args .b) v s 0 (k .pre .1) (after-end-row .end-row .ensures) i (nine-most (k .pre .9)))
 
 pub from-start-spec : {M : Type 1} → statement M
 from-start-spec = tie.close (tie.spec end-row-requires returns spread-lane-requires returns-2)

@@ -27,9 +27,10 @@ loop-holds c =
 
 from-start-requires : tie.Need-from-start-requires Inv-loop μ-loop
 from-start-requires c κs =
-    let k = c .before .before .before .before .before .before .before in
+    let after-fill-pays = c .before .before .before .before in
+    let k = after-fill-pays .before .before .before in
     let w = c .before .before .before .loop .inv .1 in
-    (k .pre .0, c .before .before .before .before .fill-pays .ensures, w .low, w .long ∙ k .pre .2, k .pre .3, k .pre .5, omega arith, k .pre .6, omega arith, k .pre .7)
+    (k .pre .0, after-fill-pays .fill-pays .ensures, w .low, w .long ∙ k .pre .2, k .pre .3, k .pre .5, omega arith, k .pre .6, omega arith, k .pre .7)
 
 add-l : tie.Need-add-l Inv-loop μ-loop
 add-l c = search needs
@@ -44,8 +45,9 @@ loop-again c =
 
 returns : tie.Need-returns Inv-loop μ-loop
 returns c =
-    let e : c .before .loop .l ≡ c .before .before .before .before .before .args .lanes = omega arith in
-    rw e at (c .before .loop .inv .1)
+    let at-loop = c .before in
+    let e : at-loop .loop .l ≡ at-loop .before .before .before .before .args .lanes = omega arith in
+    rw e at (at-loop .loop .inv .1)
 
 pub from-starts-spec : {M : Type 1} → statement M
 from-starts-spec =

@@ -26,15 +26,27 @@ source c = sym (c .before .is-source .ensures) ∙ not-false _ (c .if1 .left)
 -- both cells stand in the row
 left : (c : tie.After-pays) → c .before .before .last-at .result < 64
 left c =
-    let k = c .before .before .before .before .before .before .before in
+    let mid = c .before .before .before in
+    let k = mid .before .before .before .before in
     let a = k .args in
-    omega (arith, c .before .before .last-at .ensures, source-size (a .row .now) (a .sizes .cells) (a .sizes .poses) (a .sizes .reordering) (a .i) (a .q) (a .p) (source (c .before .before .before)), k .pre .0 .ground .size)
+    omega (
+      arith,
+      c .before .before .last-at .ensures,
+      source-size (a .row .now) (a .sizes .cells) (a .sizes .poses) (a .sizes .reordering) (a .i) (a .q) (a .p) (source mid),
+      k .pre .0 .ground .size,
+    )
 
 right : (c : tie.After-pays) → c .before .last-at2 .result < 64
 right c =
-    let k = c .before .before .before .before .before .before .before in
+    let mid = c .before .before .before .before in
+    let k = mid .before .before .before in
     let a = k .args in
-    omega (arith, c .before .last-at2 .ensures, there-size (a .sizes .cells) (a .sizes .reordering) (suc (a .i)) (a .q) (k .pre .1 .there), k .pre .0 .ground .size)
+    omega (
+      arith,
+      c .before .last-at2 .ensures,
+      there-size (a .sizes .cells) (a .sizes .reordering) (suc (a .i)) (a .q) (k .pre .1 .there),
+      k .pre .0 .ground .size,
+    )
 
 is-source-requires : tie.Need-is-source-requires
 is-source-requires c κs = search needs
@@ -45,7 +57,11 @@ returns c =
     let a = k .args in (
       gathered-none _ _ _ (k .pre .2 .low)
           (λ l v t i j h.
-          omega (arith, state-out (a .row .now) (deckIn (a .row .now) (a .sizes)) (a .sizes .reordering) (layerIn (a .store .now) (a .from) l) (a .i) (a .q) (a .p) v t (sym (c .before .is-source .ensures) ∙ not-true _ (c .if1 .taken)))),
+          omega (
+            arith,
+            state-out (a .row .now) (deckIn (a .row .now) (a .sizes)) (a .sizes .reordering) (layerIn (a .store .now) (a .from) l) (a .i) (a .q) (a .p) v t
+                (sym (c .before .is-source .ensures) ∙ not-true _ (c .if1 .taken)),
+          )),
       λ e. refl,
     )
 
@@ -60,7 +76,8 @@ last-at-requires-2 c κs = search needs
 
 fill-pays-requires : tie.Need-fill-pays-requires
 fill-pays-requires c κs =
-    let k = c .before .before .before .before .before .before .before in
+    let mid = c .before .before .before .before in
+    let k = mid .before .before .before in
     (k .pre .0 .ground .words, left c, right c, nine-most (k .pre .4), refl)
 
 mul-from-poses : tie.Need-mul-from-poses
@@ -71,7 +88,9 @@ add-from-poses c = search needs
 
 from-poses-requires : tie.Need-from-poses-requires
 from-poses-requires c κs =
-    let k = c .before .before .before .before .before .before .before .before .before .before in
+    let mid = c .before .before .before in
+    let mid₂ = mid .before .before .before .before in
+    let k = mid₂ .before .before .before in
     let g = k .pre .0 in (
       record {
         words = g .ground .words;
@@ -80,8 +99,8 @@ from-poses-requires c κs =
         tableLong = k .pre .2 .long;
         narrow = g .narrow;
         room = omega (arith, g .room, g .ground .all, g .ground .coded .few);
-        left = left (c .before .before .before);
-        right = right (c .before .before .before);
+        left = left mid;
+        right = right mid;
         needed = k .pre .4;
       },
       c .before .before .fill-pays .ensures,
@@ -90,13 +109,17 @@ from-poses-requires c κs =
 
 returns-2 : tie.Need-returns-2
 returns-2 c =
-    let k = c .before .before .before .before .before .before .before .before .before .before .before in
+    let mid = c .before .before .before .before in
+    let mid₂ = mid .before .before .before in
+    let k = mid₂ .before .before .before .before in
     let a = k .args in
-    let m : c .before .before .before .before .before .last-at2 .result ≡ lastAt (a .sizes .reordering) (suc (a .i)) (a .q) = omega (arith, c .before .before .before .before .before .last-at2 .ensures) in (
+    let m : mid .before .last-at2 .result ≡ lastAt (a .sizes .reordering) (suc (a .i)) (a .q) = omega (arith, mid .before .last-at2 .ensures) in (
       gathered-ext (c .from-poses .ensures .0)
           (λ l v t h.
-          state-in (a .row .now) (deckIn (a .row .now) (a .sizes)) (a .sizes .reordering) (layerIn (a .store .now) (a .from) l) (a .i) (a .q) (a .p) v t (source (c .before .before .before .before .before .before .before))
-          ∙ ap₂ (λ (x y : ℕ). byPoses (a .row .now) x y (layerIn (a .store .now) (a .from) l (a .p)) (a .sizes .poses) v t) (sym (c .before .before .before .before .before .before .last-at .ensures)) (sym m)),
+          state-in (a .row .now) (deckIn (a .row .now) (a .sizes)) (a .sizes .reordering) (layerIn (a .store .now) (a .from) l) (a .i) (a .q)
+          (a .p) v t (source mid₂)
+          ∙ ap₂ (λ (x y : ℕ). byPoses (a .row .now) x y (layerIn (a .store .now) (a .from) l (a .p)) (a .sizes .poses) v t)
+          (sym (mid .before .before .last-at .ensures)) (sym m)),
       c .from-poses .ensures .1,
     )
 

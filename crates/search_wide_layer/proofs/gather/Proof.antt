@@ -16,7 +16,8 @@ use Rattle.search_wide_layer.proofs.gather.Tie as tie
 
 abbrev Inv-loop : tie.InvT-loop
 Inv-loop table₀ store row sizes lanes i from q buckets used₀ p₀ table used p =
-    (p ≤ (sizes .states)) × Gathered (statesIn store row (deckIn row sizes) (sizes .reordering) from i q p) (rowsOf (sizes .poses)) buckets lanes table₀ table × (used ≡ false → table ≡ table₀)
+    (p ≤ (sizes .states)) × Gathered (statesIn store row (deckIn row sizes) (sizes .reordering) from i q p) (rowsOf (sizes .poses)) buckets lanes table₀ table
+    × (used ≡ false → table ≡ table₀)
 
 abbrev μ-loop : tie.MeasureT-loop
 μ-loop table₀ store row sizes lanes i from q buckets used₀ p₀ table used p = (sizes .states) - p
@@ -27,14 +28,18 @@ loop-holds c =
     let a = k .args in (
       omega arith,
       gathered-none _ _ _ (k .pre .2 .low)
-          (λ l v t i j h. omega (arith, states-none (a .row .now) (deckIn (a .row .now) (a .sizes)) (a .sizes .reordering) (layerIn (a .store .now) (a .from) l) (a .i) (a .q) v t)),
+          (λ l v t i j h. omega (
+            arith,
+            states-none (a .row .now) (deckIn (a .row .now) (a .sizes)) (a .sizes .reordering) (layerIn (a .store .now) (a .from) l) (a .i) (a .q) v t,
+          )),
       λ e. refl,
     )
 
 from-source-requires : tie.Need-from-source-requires Inv-loop μ-loop
 from-source-requires c κs =
-    let k = c .before .before .before .before .before .before in
-    let w = c .before .before .before .loop .inv .1 in
+    let at-loop = c .before .before .before in
+    let k = at-loop .before .before .before in
+    let w = at-loop .loop .inv .1 in
     (k .pre .0, k .pre .1, record { long = w .long ∙ k .pre .2 .long; low = w .low }, omega arith, k .pre .3)
 
 add-p : tie.Need-add-p Inv-loop μ-loop
@@ -45,23 +50,27 @@ loop-less c = search needs
 
 loop-again : tie.Need-loop-again Inv-loop μ-loop
 loop-again c =
-    let k = c .before .before .before .before .before .before .before .before in
+    let after-from-source = c .before in
+    let at-loop = after-from-source .before .before .before .before in
+    let k = at-loop .before .before .before in
     let a = k .args in
-    let l = c .before .before .before .before .before .loop in (
+    let l = at-loop .loop in (
       omega arith,
-      gathered-join (l .inv .1) (c .before .from-source .ensures .0)
-          (λ j v t h. states-more (a .row .now) (deckIn (a .row .now) (a .sizes)) (a .sizes .reordering) (layerIn (a .store .now) (a .from) j) (a .i) (a .q) (l .p) v t),
+      gathered-join (l .inv .1) (after-from-source .from-source .ensures .0)
+          (λ j v t h. states-more (a .row .now) (deckIn (a .row .now) (a .sizes)) (a .sizes .reordering) (layerIn (a .store .now) (a .from) j) (a .i)
+          (a .q) (l .p) v t),
       λ e.
           ⊎-elim
           (λ w. absurd (let z = sym (w .1) ∙ e in let y : _≡_ {A = ℕ} 0 1 = cc in omega arith))
-          (λ w. c .before .from-source .ensures .1 (w .0 .left) ∙ l .inv .2 (sym (w .1) ∙ e))
+          (λ w. after-from-source .from-source .ensures .1 (w .0 .left) ∙ l .inv .2 (sym (w .1) ∙ e))
           (c .if2 .came),
     )
 
 returns : tie.Need-returns Inv-loop μ-loop
 returns c =
-    let e : c .before .before .loop .p ≡ c .before .before .before .before .before .args .sizes .states = omega arith in
-    (rw e at (c .before .before .loop .inv .1), c .before .before .loop .inv .2)
+    let at-loop = c .before .before in
+    let e : at-loop .loop .p ≡ at-loop .before .before .before .args .sizes .states = omega arith in
+    (rw e at (at-loop .loop .inv .1), at-loop .loop .inv .2)
 
 pub gather-spec : {M : Type 1} → statement M
 gather-spec =

@@ -37,10 +37,12 @@ loop-less c = search needs
 
 loop-again : tie.Need-loop-again Inv-loop μ-loop
 loop-again c =
-    let a = c .before .before .before .before .before .before .args in
-    let l = c .before .before .before .before .loop in (
+    let at-loop = c .before .before .before .before in
+    let a = at-loop .before .before .args in
+    let l = at-loop .loop in (
       omega arith,
-      below-more (λ (j : ℕ). isSource (deckIn (a .row .now) (a .sizes)) (a .sizes .reordering) (a .i) (a .q) j ≡ false) (l .s) (l .inv .1) (sym (c .before .is-source .ensures) ∙ c .if2 .left),
+      below-more (λ (j : ℕ). isSource (deckIn (a .row .now) (a .sizes)) (a .sizes .reordering) (a .i) (a .q) j ≡ false) (l .s) (l .inv .1)
+          (sym (c .before .is-source .ensures) ∙ c .if2 .left),
     )
 
 returns-2 : tie.Need-returns-2 Inv-loop μ-loop

@@ -26,8 +26,9 @@ loop-holds c =
 
 target-block-requires : tie.Need-target-block-requires Inv-loop μ-loop
 target-block-requires c κs =
-    let k = c .before .before .before .before .before .before .before in
-    let l = c .before .before .before .before .loop in
+    let at-loop = c .before .before .before .before in
+    let k = at-loop .before .before .before in
+    let l = at-loop .loop in
     let s = l .inv .1 in
     (l .inv .2, given-on (k .pre .1) (s .frame) (s .low), beside-on (k .pre .2) (s .frame), omega arith)
 
@@ -39,15 +40,19 @@ loop-less c = search needs
 
 loop-again : tie.Need-loop-again Inv-loop μ-loop
 loop-again c =
-    let k = c .before .before .before .before .before .before .before .before .before .before in
+    let mid = c .before .before .before .before in
+    let at-loop = mid .before .before .before in
+    let k = at-loop .before .before .before in
     let a = k .args in
     let g = k .pre .1 in
-    let l = c .before .before .before .before .before .before .before .loop in
+    let l = at-loop .loop in
     let s = l .inv .1 in
     let kept = beside-kept (k .pre .2) (s .frame) (omega arith) (omega arith) in (
       omega arith,
-      filled-more (l .q) (g .narrow) (omega (arith, g .ground .few)) (omega (arith, g .ground .all, g .ground .coded .few)) s (c .before .before .target-block .ensures .0)
-          (λ b j x y. sym (next-kept (deckIn (a .row .now) (a .sizes)) (a .sizes .reordering) (a .i) (l .q) b j kept (g .ground .coded .few) (g .ground .few) (omega (arith, g .narrow)))),
+      filled-more (l .q) (g .narrow) (omega (arith, g .ground .few)) (omega (arith, g .ground .all, g .ground .coded .few)) s
+          (c .before .before .target-block .ensures .0)
+          (λ b j x y. sym (next-kept (deckIn (a .row .now) (a .sizes)) (a .sizes .reordering) (a .i) (l .q) b j kept (g .ground .coded .few) (g .ground .few)
+          (omega (arith, g .narrow)))),
       c .before .before .target-block .ensures .1,
     )
 
@@ -57,8 +62,9 @@ same-length c =
 
 returns : tie.Need-returns Inv-loop μ-loop
 returns c =
-    let e : c .before .before .loop .q ≡ c .before .before .before .before .before .args .sizes .states = omega arith in
-    (rw e at (c .before .before .loop .inv .1), c .before .before .loop .inv .2)
+    let at-loop = c .before .before in
+    let e : at-loop .loop .q ≡ at-loop .before .before .before .args .sizes .states = omega arith in
+    (rw e at (at-loop .loop .inv .1), at-loop .loop .inv .2)
 
 pub step-layer-spec : {M : Type 1} → statement M
 step-layer-spec =

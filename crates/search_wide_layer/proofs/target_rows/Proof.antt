@@ -21,7 +21,8 @@ use borrow.Author.Needs.{needs}
 use Rattle.search_wide_layer.proofs.target_rows.Statement.{statement}
 use Rattle.search_wide_layer.proofs.target_rows.Tie as tie
 
-buckets-low : (k : tie.Start) → (let a = k .args in (l v t : ℕ) → statesIn (a .store .now) (a .row .now) (deckIn (a .row .now) (a .sizes)) (a .sizes .reordering) (a .from) (a .i) (a .q) (a .sizes .states) l v t ≤ B)
+buckets-low : (k : tie.Start) → (let a = k .args in (l v t : ℕ)
+    → statesIn (a .store .now) (a .row .now) (deckIn (a .row .now) (a .sizes)) (a .sizes .reordering) (a .from) (a .i) (a .q) (a .sizes .states) l v t ≤ B)
 buckets-low k l v t =
     let a = k .args in
     states-low (a .row .now) (deckIn (a .row .now) (a .sizes)) (a .sizes .reordering) (layerIn (a .store .now) (a .from) l) (a .i) (a .q) (a .sizes .states) v t
@@ -31,48 +32,60 @@ room : (k : tie.Start) → (let a = k .args in a .to + a .q * stateBlock + a .si
 room k = omega (arith, k .pre .2 .room, k .pre .3 .state, k .pre .1 .ground .coded .few, k .pre .1 .ground .few)
 
 -- the target's position
-here : (c : tie.After-last-at) → (let a = c .before .before .before .before .before .args in c .last-at .result ≡ lastAt (a .sizes .reordering) (suc (a .i)) (a .q))
+here : (c : tie.After-last-at)
+    → (let mid = c .before .before .before .before in let a = mid .before .args in c .last-at .result ≡ lastAt (a .sizes .reordering) (suc (a .i)) (a .q))
 here c = omega (arith, c .last-at .ensures)
 
 inside : (c : tie.After-last-at) → c .last-at .result < 64
 inside c =
-    let k = c .before .before .before .before .before in
+    let mid = c .before .before .before .before in
+    let k = mid .before in
     let a = k .args in
     omega (arith, here c, there-size (a .sizes .cells) (a .sizes .reordering) (suc (a .i)) (a .q) (k .pre .3 .there), k .pre .1 .ground .size)
 
 -- how many buckets it needs, and that the last four are those of gaps 2 and 3
 needed : (c : tie.After-buckets-of) → FiveOrNine (c .buckets-of .result)
-needed c = rw (c .buckets-of .ensures) (buckets-either (c .before .before .before .before .before .before .args .row .now) (c .before .last-at .result))
+needed c =
+    let mid = c .before .before .before .before in
+    rw (c .buckets-of .ensures) (buckets-either (mid .before .before .args .row .now) (c .before .last-at .result))
 
 abbrev Last : tie.After-buckets-of → Type 0
 Last c =
-    let a = c .before .before .before .before .before .before .args in
+    let mid = c .before .before .before .before in
+    let a = mid .before .before .args in
     let bucket = statesIn (a .store .now) (a .row .now) (deckIn (a .row .now) (a .sizes)) (a .sizes .reordering) (a .from) (a .i) (a .q) (a .sizes .states) in
     (l v t : ℕ) → v < 4 → bucket l (c .buckets-of .result - 4 + v) t ≡ bucket l (5 + v) t
 
 last : (c : tie.After-buckets-of) → Last c
 last c l v t h =
-    let a = c .before .before .before .before .before .before .args in
+    let mid = c .before .before .before .before in
+    let a = mid .before .before .args in
     let D = deckIn (a .row .now) (a .sizes) in
     let f = layerIn (a .store .now) (a .from) l in
     let m = lastAt (a .sizes .reordering) (suc (a .i)) (a .q) in
     let e : c .buckets-of .result ≡ bucketsIn (a .row .now) m = c .buckets-of .ensures ∙ ap (bucketsIn (a .row .now)) (here (c .before)) in
-    rw e (buckets-last (λ (w : ℕ). byStates (a .row .now) D (a .sizes .reordering) f (a .i) (a .q) (a .sizes .states) w t) (a .row .now) m v (λ g. states-twin (a .row .now) D (a .sizes .reordering) f (a .i) (a .q) (a .sizes .states) v t g h))
+    rw e (buckets-last (λ (w : ℕ). byStates (a .row .now) D (a .sizes .reordering) f (a .i) (a .q) (a .sizes .states) w t) (a .row .now) m v
+    (λ g. states-twin (a .row .now) D (a .sizes .reordering) f (a .i) (a .q) (a .sizes .states) v t g h))
 
 -- the table once bucket 0 ran up
 abbrev Table : tie.After-run-up → Type 0
 Table c =
-    let p = c .before .before .before .before .before .before .before .before in
-    let a = p .before .before .before .before .before .before .args in
+    let mid = c .before .before .before .before in
+    let p = mid .before .before .before .before in
+    let mid₂ = p .before .before .before .before in
+    let a = mid₂ .before .before .args in
     let bucket = statesIn (a .store .now) (a .row .now) (deckIn (a .row .now) (a .sizes)) (a .sizes .reordering) (a .from) (a .i) (a .q) (a .sizes .states) in
     Ready bucket (a .sizes .poses) (p .buckets-of .result) (a .lanes) (c .run-up .last .0)
 
 table : (c : tie.After-run-up) → Table c
 table c =
-    let k = c .before .before .before .before .before .before .before .before .before .before .before .before .before .before in
-    let p = c .before .before .before .before .before .before .before .before in
-    let none = c .before .before .before .before .before .before .reset .ensures in
-    let w = c .before .before .before .gather .ensures in
+    let after-gather = c .before .before .before in
+    let after-reset = after-gather .before .before .before in
+    let p = after-reset .before .before in
+    let mid = p .before .before .before .before in
+    let k = mid .before .before in
+    let none = after-reset .reset .ensures in
+    let w = after-gather .gather .ensures in
     ready (k .pre .1 .ground .few) (five-least (needed p)) (nine-most (needed p)) (buckets-low k) (last p) none (w .0) (c .run-up .ensures)
 
 has-source-requires : tie.Need-has-source-requires
@@ -92,13 +105,15 @@ same-length c = search needs
 
 returns : tie.Need-returns
 returns c =
-    let k = c .before .before .before .before .before .before .before .before in
+    let after-if1 = c .before .before .before .before in
+    let k = after-if1 .before .before .before .before in
     let a = k .args in
     let g = k .pre .1 in (
       state-rows (omega (arith, g .ground .few)) (c .before .before .fill-rows .ensures)
           (λ b l p i.
-          next-alone (a .row .now) (a .sizes .cells) (a .sizes .poses) (a .sizes .reordering) (layerIn (a .store .now) (a .from) l) (a .i) (a .q) b (k .pre .3 .there) (g .ground .all)
-          (c .before .before .before .before .before .has-source .ensures (not-true _ (c .before .before .before .before .if1 .taken)))),
+          next-alone (a .row .now) (a .sizes .cells) (a .sizes .poses) (a .sizes .reordering) (layerIn (a .store .now) (a .from) l) (a .i) (a .q) b
+          (k .pre .3 .there) (g .ground .all)
+          (after-if1 .before .has-source .ensures (not-true _ (after-if1 .if1 .taken)))),
       k .pre .0,
     )
 
@@ -110,34 +125,47 @@ last-at-requires c κs = search needs
 
 buckets-of-requires : tie.Need-buckets-of-requires
 buckets-of-requires c κs =
-    (c .before .before .before .before .before .pre .1 .ground .words, inside c)
+    let mid = c .before .before .before .before in
+    (mid .before .pre .1 .ground .words, inside c)
 
 reset-requires : tie.Need-reset-requires
 reset-requires c κs =
-    let k = c .before .before .before .before .before .before .before in
+    let mid = c .before .before .before .before in
+    let k = mid .before .before .before in
     (k .pre .0 .low, k .pre .0 .long, nine-most (needed (c .before)), k .pre .1 .ground .few, k .pre .1 .narrow)
 
 gather-requires : tie.Need-gather-requires
 gather-requires c κs =
-    let k = c .before .before .before .before .before .before .before .before .before .before in
+    let mid = c .before .before .before .before in
+    let mid₂ = mid .before .before .before .before in
+    let k = mid₂ .before .before in
     let w = c .before .before .reset .ensures in
-    (k .pre .1, k .pre .3, record { long = w .long; low = w .low }, needed (c .before .before .before .before))
+    (k .pre .1, k .pre .3, record { long = w .long; low = w .low }, needed mid)
 
 mul-fill-rows-2 : tie.Need-mul-fill-rows-2
 mul-fill-rows-2 c =
-    let k = c .before .before .before .before .before .before .before .before .before .before .before .before .before in
+    let mid = c .before .before .before .before in
+    let mid₂ = mid .before .before .before .before in
+    let mid₃ = mid₂ .before .before .before .before in
+    let k = mid₃ .before in
     let h = room k in
     search needs
 
 add-fill-rows-2 : tie.Need-add-fill-rows-2
 add-fill-rows-2 c =
-    let k = c .before .before .before .before .before .before .before .before .before .before .before .before .before in
+    let mid = c .before .before .before .before in
+    let mid₂ = mid .before .before .before .before in
+    let mid₃ = mid₂ .before .before .before .before in
+    let k = mid₃ .before in
     let h = room k in
     search needs
 
 fill-rows-requires-2 : tie.Need-fill-rows-requires-2
 fill-rows-requires-2 c κs =
-    let k = c .before .before .before .before .before .before .before .before .before .before .before .before .before in
+    let mid = c .before .before .before .before in
+    let mid₂ = mid .before .before .before .before in
+    let mid₃ = mid₂ .before .before .before .before in
+    let k = mid₃ .before in
     (room k, k .pre .1 .narrow, omega arith, k .pre .1 .low)
 
 same-length-2 : tie.Need-same-length-2
@@ -145,38 +173,50 @@ same-length-2 c = search needs
 
 returns-2 : tie.Need-returns-2
 returns-2 c =
-    let k = c .before .before .before .before .before .before .before .before .before .before .before .before .before .before .before .before in
+    let after-if2 = c .before .before .before .before in
+    let after-reset = after-if2 .before .before .before .before in
+    let h = after-reset .before .before in
+    let mid = h .before .before .before .before in
+    let k = mid .before .before in
     let a = k .args in
     let g = k .pre .1 in
-    let h = c .before .before .before .before .before .before .before .before .before .before in
-    let w = c .before .before .before .before .before .gather .ensures in
-    let none = c .before .before .before .before .before .before .before .before .reset .ensures in (
+    let w = after-if2 .before .gather .ensures in
+    let none = after-reset .reset .ensures in (
       state-rows (omega (arith, g .ground .few)) (c .before .before .fill-rows2 .ensures)
           (λ b l p i.
-          next-none (a .row .now) (a .sizes .cells) (a .sizes .poses) (a .sizes .reordering) (layerIn (a .store .now) (a .from) l) (a .i) (a .q) b (k .pre .3 .there) (g .ground .all)
-          (unused (g .ground .few) (five-least (needed h)) (nine-most (needed h)) (buckets-low k) (last h) none (w .0) (w .1 (not-true _ (c .before .before .before .before .if2 .taken))) b l p i)),
+          next-none (a .row .now) (a .sizes .cells) (a .sizes .poses) (a .sizes .reordering) (layerIn (a .store .now) (a .from) l) (a .i) (a .q) b
+          (k .pre .3 .there) (g .ground .all)
+          (unused (g .ground .few) (five-least (needed h)) (nine-most (needed h)) (buckets-low k) (last h) none (w .0)
+          (w .1 (not-true _ (after-if2 .if2 .taken))) b l p i)),
       record { long = w .0 .long ∙ none .long; low = w .0 .low },
     )
 
 run-up-requires : tie.Need-run-up-requires
 run-up-requires c κs =
-    let k = c .before .before .before .before .before .before .before .before .before .before .before .before .before in
-    let w = c .before .before .gather .ensures .0 in
-    (w .low, w .long ∙ c .before .before .before .before .before .reset .ensures .long, k .pre .1 .ground .few, k .pre .1 .narrow)
+    let after-gather = c .before .before in
+    let after-reset = after-gather .before .before .before in
+    let mid = after-reset .before .before .before .before in
+    let k = mid .before .before .before .before in
+    let w = after-gather .gather .ensures .0 in
+    (w .low, w .long ∙ after-reset .reset .ensures .long, k .pre .1 .ground .few, k .pre .1 .narrow)
 
 put-rows-requires : tie.Need-put-rows-requires
 put-rows-requires c κs =
-    let k = c .before .before .before .before .before .before .before .before .before .before .before .before .before .before .before .before in
+    let mid = c .before .before in
+    let mid₂ = mid .before .before .before .before in
+    let mid₃ = mid₂ .before .before .before .before in
+    let mid₄ = mid₃ .before .before .before .before in
+    let k = mid₄ .before .before in
     let g = k .pre .1 in
-    let t = table (c .before .before) in
-    let h = needed (c .before .before .before .before .before .before .before .before .before .before) in (
+    let t = table mid in
+    let h = needed mid₃ in (
       record {
         words = g .ground .words;
         low = g .low;
         tableLow = t .low;
         tableLong = t .long;
         narrow = g .narrow;
-        cell = inside (c .before .before .before .before .before .before .before .before .before .before .before);
+        cell = inside (mid₃ .before);
         least = five-least h;
         most = nine-most h;
       },
@@ -190,13 +230,19 @@ same-length-3 c = search needs
 
 returns-3 : tie.Need-returns-3
 returns-3 c =
-    let k = c .before .before .before .before .before .before .before .before .before .before .before .before .before .before .before .before .before .before .before in
+    let after-put-rows = c .before .before in
+    let mid = after-put-rows .before .before .before .before in
+    let mid₂ = mid .before .before .before .before in
+    let mid₃ = mid₂ .before .before .before .before in
+    let mid₄ = mid₃ .before .before .before .before in
+    let k = mid₄ .before in
     let a = k .args in
     let g = k .pre .1 in
-    let t = table (c .before .before .before .before .before) in (
-      state-ext (c .before .before .put-rows .ensures)
+    let t = table (after-put-rows .before .before .before) in (
+      state-ext (after-put-rows .put-rows .ensures)
           (λ b l p i.
-          next-found (a .row .now) (a .sizes .cells) (a .sizes .poses) (a .sizes .reordering) (layerIn (a .store .now) (a .from) l) (a .i) (a .q) b (k .pre .3 .there) (g .ground .all) (here (c .before .before .before .before .before .before .before .before .before .before .before .before .before .before))
+          next-found (a .row .now) (a .sizes .cells) (a .sizes .poses) (a .sizes .reordering) (layerIn (a .store .now) (a .from) l) (a .i) (a .q) b
+          (k .pre .3 .there) (g .ground .all) (here mid₃)
           (t .right b l p i)),
       record { long = t .long; low = t .low },
     )

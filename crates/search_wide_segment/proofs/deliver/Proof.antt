@@ -15,7 +15,8 @@ use Rattle.search_wide_segment.proofs.deliver.Tie as tie
 
 abbrev Inv-loop : tie.InvT-loop
 Inv-loop store₀ row sizes lanes i tall from costs q₀ store q =
-    (q ≤ (sizes .states)) × Filled (delivered (sizes .reordering) i tall store₀ from costs) lanes (sizes .poses) costs q store₀ store × Frame costs (costs + q * stateBlock) store₀ store
+    (q ≤ (sizes .states)) × Filled (delivered (sizes .reordering) i tall store₀ from costs) lanes (sizes .poses) costs q store₀ store
+    × Frame costs (costs + q * stateBlock) store₀ store
 
 abbrev μ-loop : tie.MeasureT-loop
 μ-loop store₀ row sizes lanes i tall from costs q₀ store q =
@@ -27,9 +28,19 @@ loop-holds c =
 
 deliver-state-requires : tie.Need-deliver-state-requires Inv-loop μ-loop
 deliver-state-requires c κs =
-    let k = c .before .before .before .before .before .before in
-    let l = c .before .before .before .loop in
-    (k .pre .0, l .inv .1 .low, record { over = k .pre .2 .over; room = omega (arith, k .pre .2 .room, l .inv .2 .long) }, omega (arith, k .pre .3), k .pre .4, k .pre .5, k .pre .6, k .pre .7, k .pre .8)
+    let at-loop = c .before .before .before in
+    let k = at-loop .before .before .before in
+    let l = at-loop .loop in (
+      k .pre .0,
+      l .inv .1 .low,
+      record { over = k .pre .2 .over; room = omega (arith, k .pre .2 .room, l .inv .2 .long) },
+      omega (arith, k .pre .3),
+      k .pre .4,
+      k .pre .5,
+      k .pre .6,
+      k .pre .7,
+      k .pre .8,
+    )
 
 add-q : tie.Need-add-q Inv-loop μ-loop
 add-q c = search needs
@@ -39,10 +50,12 @@ loop-less c = search needs
 
 loop-again : tie.Need-loop-again Inv-loop μ-loop
 loop-again c =
-    let k = c .before .before .before .before .before .before .before .before .before in
+    let after-deliver-state = c .before .before in
+    let at-loop = after-deliver-state .before .before .before .before in
+    let k = at-loop .before .before .before in
     let a = k .args in
-    let l = c .before .before .before .before .before .before .loop in
-    let w = c .before .before .deliver-state .ensures in
+    let l = at-loop .loop in
+    let w = after-deliver-state .deliver-state .ensures in
     let f = l .inv .2 in (
       omega arith,
       filled-more (l .q) (k .pre .5) (omega arith) (omega (arith, k .pre .3, k .pre .0 .few)) (l .inv .1) w
@@ -59,8 +72,9 @@ same-length c =
 
 returns : tie.Need-returns Inv-loop μ-loop
 returns c =
-    let e : c .before .before .loop .q ≡ c .before .before .before .before .before .args .sizes .states = omega arith in
-    rw e at (c .before .before .loop .inv .1)
+    let at-loop = c .before .before in
+    let e : at-loop .loop .q ≡ at-loop .before .before .before .args .sizes .states = omega arith in
+    rw e at (at-loop .loop .inv .1)
 
 pub deliver-spec : {M : Type 1} → statement M
 deliver-spec =

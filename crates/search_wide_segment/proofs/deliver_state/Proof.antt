@@ -28,9 +28,11 @@ add-if1-3 c = search needs
 
 returns : tie.Need-returns
 returns c =
-    let k = c .before .before .before .before .before in
+    let after-word = c .before .before in
+    let k = after-word .before .before .before in
     let a = k .args in
-    let e : a .i + offset (a .sizes .reordering) (a .q) ≡ a .tall + suc (a .sizes .reordering) → ⊥ = λ h. c .if1 .taken (omega (arith, c .before .before .word .ensures, k .pre .0 .digit (a .q) (k .pre .3))) in
+    let e : a .i + offset (a .sizes .reordering) (a .q) ≡ a .tall + suc (a .sizes .reordering) → ⊥ =
+    λ h. c .if1 .taken (omega (arith, after-word .word .ensures, k .pre .0 .digit (a .q) (k .pre .3))) in
     record {
       frame = frame-refl _ _ _;
       low = k .pre .1;
@@ -57,10 +59,14 @@ same-length c = search needs
 
 returns-2 : tie.Need-returns-2
 returns-2 c =
-    let k = c .before .before .before .before .before .before .before .before .before in
+    let after-if1 = c .before .before .before .before in
+    let after-word = after-if1 .before .before in
+    let k = after-word .before .before .before in
     let a = k .args in
-    let e : a .i + offset (a .sizes .reordering) (a .q) ≡ a .tall + suc (a .sizes .reordering) = omega (arith, c .before .before .before .before .if1 .left, c .before .before .before .before .before .before .word .ensures, k .pre .0 .digit (a .q) (k .pre .3)) in
-    state-rows (omega arith) (c .before .before .copy-rows .ensures) (λ b l x y. delivered-take (a .sizes .reordering) (a .i) (a .tall) (a .store .now) (a .from) (a .costs) l (a .q) b e)
+    let e : a .i + offset (a .sizes .reordering) (a .q) ≡ a .tall + suc (a .sizes .reordering) =
+    omega (arith, after-if1 .if1 .left, after-word .word .ensures, k .pre .0 .digit (a .q) (k .pre .3)) in
+    state-rows (omega arith) (c .before .before .copy-rows .ensures)
+    (λ b l x y. delivered-take (a .sizes .reordering) (a .i) (a .tall) (a .store .now) (a .from) (a .costs) l (a .q) b e)
 
 add-word : tie.Need-add-word
 add-word c = search needs
@@ -68,4 +74,5 @@ add-word c = search needs
 pub deliver-state-spec : {M : Type 1} → statement M
 deliver-state-spec =
     tie.close
-    (tie.spec mul-word add-word word-requires add-if1 add-if1-2 add-if1-3 returns mul-copy-rows add-copy-rows mul-copy-rows-2 add-copy-rows-2 copy-rows-requires same-length returns-2)
+    (tie.spec mul-word add-word word-requires add-if1 add-if1-2 add-if1-3 returns mul-copy-rows add-copy-rows mul-copy-rows-2 add-copy-rows-2 copy-rows-requires
+    same-length returns-2)

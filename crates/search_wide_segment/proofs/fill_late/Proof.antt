@@ -15,7 +15,8 @@ use Rattle.search_wide_segment.proofs.fill_late.Tie as tie
 
 abbrev Inv-loop : tie.InvT-loop
 Inv-loop store₀ row sizes lanes i tall costs q₀ store q =
-    (q ≤ (sizes .states)) × Filled (lateIn (sizes .reordering) i tall store₀ costs) lanes (sizes .poses) costs q store₀ store × Frame costs (costs + q * stateBlock) store₀ store
+    (q ≤ (sizes .states)) × Filled (lateIn (sizes .reordering) i tall store₀ costs) lanes (sizes .poses) costs q store₀ store
+    × Frame costs (costs + q * stateBlock) store₀ store
 
 abbrev μ-loop : tie.MeasureT-loop
 μ-loop store₀ row sizes lanes i tall costs q₀ store q =
@@ -27,9 +28,18 @@ loop-holds c =
 
 late-state-requires : tie.Need-late-state-requires Inv-loop μ-loop
 late-state-requires c κs =
-    let k = c .before .before .before .before .before .before in
-    let l = c .before .before .before .loop in
-    (k .pre .0, l .inv .1 .low, record { over = k .pre .2 .over; room = omega (arith, k .pre .2 .room, l .inv .2 .long) }, omega (arith, k .pre .3), k .pre .4, k .pre .5, k .pre .6, k .pre .7)
+    let at-loop = c .before .before .before in
+    let k = at-loop .before .before .before in
+    let l = at-loop .loop in (
+      k .pre .0,
+      l .inv .1 .low,
+      record { over = k .pre .2 .over; room = omega (arith, k .pre .2 .room, l .inv .2 .long) },
+      omega (arith, k .pre .3),
+      k .pre .4,
+      k .pre .5,
+      k .pre .6,
+      k .pre .7,
+    )
 
 add-q : tie.Need-add-q Inv-loop μ-loop
 add-q c = search needs
@@ -39,14 +49,17 @@ loop-less c = search needs
 
 loop-again : tie.Need-loop-again Inv-loop μ-loop
 loop-again c =
-    let k = c .before .before .before .before .before .before .before .before .before in
+    let after-late-state = c .before .before in
+    let at-loop = after-late-state .before .before .before .before in
+    let k = at-loop .before .before .before in
     let a = k .args in
-    let l = c .before .before .before .before .before .before .loop in
-    let w = c .before .before .late-state .ensures in
+    let l = at-loop .loop in
+    let w = after-late-state .late-state .ensures in
     let f = l .inv .2 in (
       omega arith,
       filled-more (l .q) (k .pre .5) (omega arith) (omega (arith, k .pre .3, k .pre .0 .few)) (l .inv .1) w
-          (λ b j x y. ap (cond (ltb (a .tall + suc (a .sizes .reordering)) (a .i + offset (a .sizes .reordering) (l .q))) B) (sym (f .high (a .costs + l .q * stateBlock + b * 64 + j) (omega arith)))),
+          (λ b j x y. ap (cond (ltb (a .tall + suc (a .sizes .reordering)) (a .i + offset (a .sizes .reordering) (l .q))) B)
+          (sym (f .high (a .costs + l .q * stateBlock + b * 64 + j) (omega arith)))),
       frame-join (a .costs) (a .costs + (l .q + 1) * stateBlock) f (w .frame) (omega arith) (omega arith) (omega arith) (omega arith),
     )
 
@@ -56,8 +69,9 @@ same-length c =
 
 returns : tie.Need-returns Inv-loop μ-loop
 returns c =
-    let e : c .before .before .loop .q ≡ c .before .before .before .before .before .args .sizes .states = omega arith in
-    rw e at (c .before .before .loop .inv .1)
+    let at-loop = c .before .before in
+    let e : at-loop .loop .q ≡ at-loop .before .before .before .args .sizes .states = omega arith in
+    rw e at (at-loop .loop .inv .1)
 
 pub fill-late-spec : {M : Type 1} → statement M
 fill-late-spec =

@@ -18,7 +18,8 @@ use Rattle.search_wide_segment.proofs.last_layer.Tie as tie
 
 abbrev Inv-loop : tie.InvT-loop
 Inv-loop table₀ store₀ row sizes lanes i tall from costs q₀ table store q =
-    (q ≤ (sizes .states)) × Filled (lastIn (deckIn row sizes) (sizes .reordering) i tall store₀ from costs) lanes (sizes .poses) costs q store₀ store × Frame costs (costs + q * stateBlock) store₀ store × Lent table
+    (q ≤ (sizes .states)) × Filled (lastIn (deckIn row sizes) (sizes .reordering) i tall store₀ from costs) lanes (sizes .poses) costs q store₀ store
+    × Frame costs (costs + q * stateBlock) store₀ store × Lent table
 
 abbrev μ-loop : tie.MeasureT-loop
 μ-loop table₀ store₀ row sizes lanes i tall from costs q₀ table store q =
@@ -31,8 +32,9 @@ loop-holds c =
 
 last-state-requires : tie.Need-last-state-requires Inv-loop μ-loop
 last-state-requires c κs =
-    let k = c .before .before .before .before .before .before .before in
-    let l = c .before .before .before .before .loop in
+    let at-loop = c .before .before .before .before in
+    let k = at-loop .before .before .before in
+    let l = at-loop .loop in
     let s = l .inv .1 in
     (l .inv .3, given-on (k .pre .1) (s .frame) (s .low), beside-on (k .pre .2) (s .frame), k .pre .3, omega arith)
 
@@ -44,10 +46,12 @@ loop-less c = search needs
 
 loop-again : tie.Need-loop-again Inv-loop μ-loop
 loop-again c =
-    let k = c .before .before .before .before .before .before .before .before .before .before in
+    let mid = c .before .before .before .before in
+    let at-loop = mid .before .before .before in
+    let k = at-loop .before .before .before in
     let a = k .args in
     let g = k .pre .1 in
-    let l = c .before .before .before .before .before .before .before .loop in
+    let l = at-loop .loop in
     let w = c .before .before .last-state .ensures in
     let s = l .inv .1 in
     let f = l .inv .2 in
@@ -56,7 +60,8 @@ loop-again c =
       filled-more (l .q) (g .narrow) (omega (arith, g .ground .few)) (omega (arith, g .ground .all, g .ground .coded .few)) s (w .0)
           (λ b j x y.
           ap₂ (cond (eqb (suc (a .i) + offset (a .sizes .reordering) (l .q)) (a .tall + suc (a .sizes .reordering))))
-          (sym (next-kept (deckIn (a .row .now) (a .sizes)) (a .sizes .reordering) (a .i) (l .q) b j kept (g .ground .coded .few) (g .ground .few) (omega (arith, g .narrow))))
+          (sym (next-kept (deckIn (a .row .now) (a .sizes)) (a .sizes .reordering) (a .i) (l .q) b j kept (g .ground .coded .few) (g .ground .few)
+          (omega (arith, g .narrow))))
           (sym (f .high (a .costs + l .q * stateBlock + b * 64 + j) (omega arith)))),
       frame-join (a .costs) (a .costs + (l .q + 1) * stateBlock) f (w .0 .frame) (omega arith) (omega arith) (omega arith) (omega arith),
       w .1,
@@ -68,8 +73,9 @@ same-length c =
 
 returns : tie.Need-returns Inv-loop μ-loop
 returns c =
-    let e : c .before .before .loop .q ≡ c .before .before .before .before .before .args .sizes .states = omega arith in
-    (rw e at (c .before .before .loop .inv .1), c .before .before .loop .inv .3)
+    let at-loop = c .before .before in
+    let e : at-loop .loop .q ≡ at-loop .before .before .before .args .sizes .states = omega arith in
+    (rw e at (at-loop .loop .inv .1), at-loop .loop .inv .3)
 
 pub last-layer-spec : {M : Type 1} → statement M
 last-layer-spec =

@@ -34,15 +34,17 @@ add-if1-4 c = search needs
 
 returns : tie.Need-returns
 returns c =
-    let k = c .before .before .before .before .before in
+    let after-word = c .before .before in
+    let k = after-word .before .before .before in
     let a = k .args in
     let g = k .pre .1 .ground in
     let e : suc (a .i) + offset (a .sizes .reordering) (a .q) ≡ a .tall + suc (a .sizes .reordering) → ⊥ =
-    λ h. c .if1 .taken (omega (arith, c .before .before .word .ensures, g .coded .digit (a .q) (omega (arith, g .all)))) in (
+    λ h. c .if1 .taken (omega (arith, after-word .word .ensures, g .coded .digit (a .q) (omega (arith, g .all)))) in (
       record {
         frame = frame-refl _ _ _;
         low = k .pre .1 .low;
-        right = λ b x l y. sym (last-skip (deckIn (a .row .now) (a .sizes)) (a .sizes .reordering) (a .i) (a .tall) (a .store .now) (a .from) (a .costs) l (a .q) b e);
+        right = λ b x l y.
+            sym (last-skip (deckIn (a .row .now) (a .sizes)) (a .sizes .reordering) (a .i) (a .tall) (a .store .now) (a .from) (a .costs) l (a .q) b e);
       },
       k .pre .0,
     )
@@ -55,14 +57,17 @@ same-length c = search needs
 
 returns-2 : tie.Need-returns-2
 returns-2 c =
-    let k = c .before .before .before .before .before .before .before .before .before .before in
+    let after-target-block = c .before .before in
+    let after-if1 = after-target-block .before .before .before in
+    let after-word = after-if1 .before .before in
+    let k = after-word .before .before .before in
     let a = k .args in
     let g = k .pre .1 .ground in
     let e : suc (a .i) + offset (a .sizes .reordering) (a .q) ≡ a .tall + suc (a .sizes .reordering) =
-    omega (arith, c .before .before .before .before .before .if1 .left, c .before .before .before .before .before .before .before .word .ensures, g .coded .digit (a .q) (omega (arith, g .all))) in (
-      state-ext (c .before .before .target-block .ensures .0)
+    omega (arith, after-if1 .if1 .left, after-word .word .ensures, g .coded .digit (a .q) (omega (arith, g .all))) in (
+      state-ext (after-target-block .target-block .ensures .0)
           (λ b l x y. last-take (deckIn (a .row .now) (a .sizes)) (a .sizes .reordering) (a .i) (a .tall) (a .store .now) (a .from) (a .costs) l (a .q) b e),
-      c .before .before .target-block .ensures .1,
+      after-target-block .target-block .ensures .1,
     )
 
 add-word : tie.Need-add-word

@@ -28,9 +28,11 @@ add-if1-3 c = search needs
 
 returns : tie.Need-returns
 returns c =
-    let k = c .before .before .before .before .before in
+    let after-word = c .before .before in
+    let k = after-word .before .before .before in
     let a = k .args in
-    let e : a .i + offset (a .sizes .reordering) (a .q) ≤ a .tall + suc (a .sizes .reordering) = omega (arith, c .if1 .taken, c .before .before .word .ensures, k .pre .0 .digit (a .q) (k .pre .3)) in
+    let e : a .i + offset (a .sizes .reordering) (a .q) ≤ a .tall + suc (a .sizes .reordering) =
+    omega (arith, c .if1 .taken, after-word .word .ensures, k .pre .0 .digit (a .q) (k .pre .3)) in
     record {
       frame = frame-refl _ _ _;
       low = k .pre .1;
@@ -51,10 +53,14 @@ same-length c = search needs
 
 returns-2 : tie.Need-returns-2
 returns-2 c =
-    let k = c .before .before .before .before .before .before .before .before .before in
+    let after-if1 = c .before .before .before .before in
+    let after-word = after-if1 .before .before in
+    let k = after-word .before .before .before in
     let a = k .args in
-    let e : a .tall + suc (a .sizes .reordering) < a .i + offset (a .sizes .reordering) (a .q) = omega (arith, c .before .before .before .before .if1 .left, c .before .before .before .before .before .before .word .ensures, k .pre .0 .digit (a .q) (k .pre .3)) in
-    state-rows (omega arith) (c .before .before .fill-rows .ensures) (λ b l x y. late-take (a .sizes .reordering) (a .i) (a .tall) (a .store .now) (a .costs) l (a .q) b e)
+    let e : a .tall + suc (a .sizes .reordering) < a .i + offset (a .sizes .reordering) (a .q) =
+    omega (arith, after-if1 .if1 .left, after-word .word .ensures, k .pre .0 .digit (a .q) (k .pre .3)) in
+    state-rows (omega arith) (c .before .before .fill-rows .ensures)
+    (λ b l x y. late-take (a .sizes .reordering) (a .i) (a .tall) (a .store .now) (a .costs) l (a .q) b e)
 
 add-word : tie.Need-add-word
 add-word c = search needs

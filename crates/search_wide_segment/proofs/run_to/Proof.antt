@@ -21,14 +21,20 @@ abbrev μ-loop : tie.MeasureT-loop
     tall + (sizes .reordering) - (i + d)
 
 -- the store is as long as it was, where the loop begins
-long : (c : tie.After-slice-known3 Inv-loop μ-loop) → length (c .before .before .deliver .last .0) ≡ length (c .before .before .before .before .before .before .before .before .before .before .args .store .now)
-long c = c .before .before .deliver .ensures .frame .long ∙ c .before .before .before .before .before .before .fill-late .ensures .frame .long
+long : (c : tie.After-slice-known3 Inv-loop μ-loop) → length (c .before .before .deliver .last .0)
+    ≡ length (c .before .before .before .before .before .before .before .before .before .before .args .store .now)
+long c =
+    let after-deliver = c .before .before in
+    after-deliver .deliver .ensures .frame .long ∙ after-deliver .before .before .before .before .fill-late .ensures .frame .long
 
 -- the first layer too
-kept : (c : tie.After-slice-known3 Inv-loop μ-loop) (k : ℕ) → k < layerBlock → getD (c .before .before .deliver .last .0) k 0 ≡ getD (c .before .before .before .before .before .before .before .before .before .before .args .store .now) k 0
+kept : (c : tie.After-slice-known3 Inv-loop μ-loop) (k : ℕ) → k < layerBlock → getD (c .before .before .deliver .last .0) k 0
+    ≡ getD (c .before .before .before .before .before .before .before .before .before .before .args .store .now) k 0
 kept c k h =
-    let p = c .before .before .before .before .before .before .before .before .before .before .pre .2 .over in
-    c .before .before .deliver .ensures .frame .low k (omega arith) ∙ c .before .before .before .before .before .before .fill-late .ensures .frame .low k (omega arith)
+    let after-deliver = c .before .before in
+    let after-fill-late = after-deliver .before .before .before .before in
+    let p = after-fill-late .before .before .before .before .pre .2 .over in
+    after-deliver .deliver .ensures .frame .low k (omega arith) ∙ after-fill-late .fill-late .ensures .frame .low k (omega arith)
 
 fill-late-requires : tie.Need-fill-late-requires Inv-loop μ-loop
 fill-late-requires c κs =
@@ -38,19 +44,32 @@ fill-late-requires c κs =
 
 deliver-requires : tie.Need-deliver-requires Inv-loop μ-loop
 deliver-requires c κs =
-    let k = c .before .before .before .before .before .before .before in
+    let after-fill-late = c .before .before .before in
+    let k = after-fill-late .before .before .before .before in
     let g = k .pre .1 in
-    let w = c .before .before .before .fill-late .ensures in
-    (g .ground .coded, w .low, record { over = k .pre .2 .over; room = omega (arith, k .pre .2 .room, w .frame .long) }, g .ground .all, g .ground .few, g .narrow, omega (arith, g .early), k .pre .3, omega arith)
+    let w = after-fill-late .fill-late .ensures in (
+      g .ground .coded,
+      w .low,
+      record { over = k .pre .2 .over; room = omega (arith, k .pre .2 .room, w .frame .long) },
+      g .ground .all,
+      g .ground .few,
+      g .narrow,
+      omega (arith, g .early),
+      k .pre .3,
+      omega arith,
+    )
 
 loop-holds : tie.Need-loop-holds Inv-loop μ-loop
 loop-holds c =
-    let k = c .before .before .before .before .before .before .before .before .before .before in
+    let after-deliver = c .before .before in
+    let after-fill-late = after-deliver .before .before .before .before in
+    let k = after-fill-late .before .before .before .before in
     let a = k .args in
     let g = k .pre .1 in (
       omega (arith, g .early),
-      costed-start (deckIn (a .row .now) (a .sizes)) (a .sizes .reordering) (a .lanes) (a .i) (a .tall) (a .costs) (a .sizes .states) (given-small g) (g .ground .all) (k .pre .2 .over)
-          (c .before .before .before .before .before .before .fill-late .ensures) (c .before .before .deliver .ensures),
+      costed-start (deckIn (a .row .now) (a .sizes)) (a .sizes .reordering) (a .lanes) (a .i) (a .tall) (a .costs) (a .sizes .states) (given-small g)
+          (g .ground .all) (k .pre .2 .over)
+          (after-fill-late .fill-late .ensures) (after-deliver .deliver .ensures),
       k .pre .0,
       omega arith,
     )
@@ -70,17 +89,21 @@ sub-step-layer c =
 
 step-layer-requires : tie.Need-step-layer-requires Inv-loop μ-loop
 step-layer-requires c κs =
-    let k = c .before .before .before .before .before .before .before .before .before .before .before .before .before .before in
+    let mid = c .before .before .before .before in
+    let mid₂ = mid .before .before .before .before in
+    let mid₃ = mid₂ .before .before .before .before in
+    let k = mid₃ .before .before in
     let g = k .pre .1 in
     let l = c .before .before .before .loop in
     let v = l .inv .1 in
     let b = buffer-low (v .running .buffer) in
-    let n : keptFrom ≤ length (l .store) = omega (arith, v .outside .long, long (c .before .before .before .before), k .pre .2 .over, k .pre .2 .room) in
+    let n : keptFrom ≤ length (l .store) = omega (arith, v .outside .long, long mid, k .pre .2 .over, k .pre .2 .room) in
     (l .inv .2, record { ground = g .ground; low = v .low; narrow = g .narrow; early = l .inv .0; room = omega arith }, buffer-beside (v .running .buffer) n)
 
 sub-from : tie.Need-sub-from Inv-loop μ-loop
 sub-from c =
-    omega (arith, buffer-low (c .before .before .before .before .before .before .loop .inv .1 .running .buffer))
+    let mid = c .before .before .before .before in
+    omega (arith, buffer-low (mid .before .before .loop .inv .1 .running .buffer))
 
 add-d : tie.Need-add-d Inv-loop μ-loop
 add-d c = search needs
@@ -90,13 +113,17 @@ add-deliver c = search needs
 
 deliver-requires-2 : tie.Need-deliver-requires-2 Inv-loop μ-loop
 deliver-requires-2 c κs =
-    let k = c .before .before .before .before .before .before .before .before .before .before .before .before .before .before .before .before .before .before in
+    let after-step-layer = c .before .before .before in
+    let at-loop = after-step-layer .before .before .before .before in
+    let mid = at-loop .before .before .before .before in
+    let mid₂ = mid .before .before .before .before in
+    let k = mid₂ .before .before .before in
     let g = k .pre .1 in
-    let l = c .before .before .before .before .before .before .before .loop in
-    let w = c .before .before .before .step-layer .ensures .0 in (
+    let l = at-loop .loop in
+    let w = after-step-layer .step-layer .ensures .0 in (
       g .ground .coded,
       w .low,
-      record { over = k .pre .2 .over; room = omega (arith, k .pre .2 .room, w .frame .long, l .inv .1 .outside .long, long (c .before .before .before .before .before .before .before .before)) },
+      record { over = k .pre .2 .over; room = omega (arith, k .pre .2 .room, w .frame .long, l .inv .1 .outside .long, long (at-loop .before)) },
       g .ground .all,
       g .ground .few,
       g .narrow,
@@ -110,12 +137,17 @@ loop-less c = search needs
 
 loop-again : tie.Need-loop-again Inv-loop μ-loop
 loop-again c =
-    let k = c .before .before .before .before .before .before .before .before .before .before .before .before .before .before .before .before .before .before .before .before .before in
+    let after-deliver2 = c .before .before in
+    let after-step-layer = after-deliver2 .before .before .before .before in
+    let at-loop = after-step-layer .before .before .before .before in
+    let mid = at-loop .before .before .before .before in
+    let mid₂ = mid .before .before .before .before in
+    let k = mid₂ .before .before .before in
     let g = k .pre .1 in
-    let l = c .before .before .before .before .before .before .before .before .before .before .loop in (
+    let l = at-loop .loop in (
       omega (arith, g .ground .coded .reorder),
-      costed-step (given-small g) (g .ground .all) (k .pre .2 .over) (l .inv .1) (c .before .before .before .before .before .before .step-layer .ensures .0) (c .before .before .deliver2 .ensures),
-      c .before .before .before .before .before .before .step-layer .ensures .1,
+      costed-step (given-small g) (g .ground .all) (k .pre .2 .over) (l .inv .1) (after-step-layer .step-layer .ensures .0) (after-deliver2 .deliver2 .ensures),
+      after-step-layer .step-layer .ensures .1,
       omega arith,
     )
 
@@ -125,13 +157,15 @@ same-length c =
 
 returns : tie.Need-returns Inv-loop μ-loop
 returns c =
-    let k = c .before .before .before .before .before .before .before .before .before .before .before .before in
+    let after-deliver = c .before .before .before .before in
+    let after-fill-late = after-deliver .before .before .before .before in
+    let k = after-fill-late .before .before .before .before in
     let a = k .args in
     let l = c .before .loop in
     let e : l .d ≡ a .tall + a .sizes .reordering - a .i = omega (arith, l .inv .3) in
-    let o : Outside (a .costs) layerBlock (a .store .now) (c .before .before .before .before .deliver .last .0) =
-    outside-join (outside-costs (c .before .before .before .before .before .before .before .before .fill-late .ensures .frame) (omega arith) (omega arith))
-    (outside-costs (c .before .before .before .before .deliver .ensures .frame) (omega arith) (omega arith)) in
+    let o : Outside (a .costs) layerBlock (a .store .now) (after-deliver .deliver .last .0) =
+    outside-join (outside-costs (after-fill-late .fill-late .ensures .frame) (omega arith) (omega arith))
+    (outside-costs (after-deliver .deliver .ensures .frame) (omega arith) (omega arith)) in
     (rw e at (costed-from (given-small (k .pre .1)) (kept (c .before .before)) o (l .inv .1)), l .inv .2)
 
 pub run-to-spec : {M : Type 1} → statement M

@@ -24,10 +24,12 @@ add-last-layer c = search needs
 
 last-layer-requires : tie.Need-last-layer-requires
 last-layer-requires c κs =
-    let k = c .before .before .before .before .before .before .before .before .before .before .before .before in
+    let mid = c .before .before .before .before in
+    let mid₂ = mid .before .before .before .before in
+    let k = mid₂ .before .before .before .before in
     let g = k .pre .1 in
     let p = k .pre .2 in
-    let w = c .before .before .before .before .before .before .before .run-to .ensures in
+    let w = mid .before .before .before .run-to .ensures in
     let v = w .0 in
     let b = v .running .buffer in (
       w .1,
@@ -47,10 +49,14 @@ same-length-2 c = search needs
 
 returns-2 : tie.Need-returns-2
 returns-2 c =
-    let k = c .before .before .before .before .before .before .before .before .before .before .before .before .before .before .before in
-    let w = c .before .before .before .before .before .before .before .before .before .before .run-to .ensures in
-    let f = c .before .before .last-layer .ensures in
-    (costed-last (k .pre .1 .ground .all) (w .0) (omega (arith, c .before .before .before .before .before .before .if1 .left)) (f .0), f .1)
+    let after-last-layer = c .before .before in
+    let after-if1 = after-last-layer .before .before .before .before in
+    let after-run-to = after-if1 .before .before .before .before in
+    let mid = after-run-to .before .before .before .before in
+    let k = mid .before in
+    let w = after-run-to .run-to .ensures in
+    let f = after-last-layer .last-layer .ensures in
+    (costed-last (k .pre .1 .ground .all) (w .0) (omega (arith, after-if1 .if1 .left)) (f .0), f .1)
 
 pub segment-to-spec : {M : Type 1} → statement M
 segment-to-spec =

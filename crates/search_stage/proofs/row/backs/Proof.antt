@@ -39,8 +39,11 @@ loop-again c =
     let k = c .before .before .before .before in
     let l = c .before .before .loop in
     let r = c .back in
-    let z : 0 + l .l ≡ l .l = omega arith in
-    (omega arith, rw z at (written-more (l .l) (r .result) (l .inv .1) (omega (arith, k .pre .2)) (r .ensures) (omega (arith, r .ensures, back-low (k .args .row .now) (k .args .p) (l .l)))))
+    let z : 0 + l .l ≡ l .l = omega arith in (
+      omega arith,
+      rw z at (written-more (l .l) (r .result) (l .inv .1) (omega (arith, k .pre .2)) (r .ensures)
+          (omega (arith, r .ensures, back-low (k .args .row .now) (k .args .p) (l .l)))),
+    )
 
 returns : tie.Need-returns Inv-loop μ-loop
 returns c =

@@ -12,9 +12,10 @@ tall-at-requires c κs = search needs
 open-to-requires : tie.Need-open-to-requires
 unfolding posIn
 open-to-requires c κs =
-    let k = c .before .before .before .before .before .before in
+    let after-if1 = c .before .before in
+    let k = after-if1 .before .before .before .before in
     let g = k .pre .0 in
-    (g .ground, k .pre .1, omega (arith, c .before .tall-at .ensures, g .inside 0 (c .before .before .if1 .taken), g .ground .size))
+    (g .ground, k .pre .1, omega (arith, c .before .tall-at .ensures, g .inside 0 (after-if1 .if1 .taken), g .ground .size))
 
 same-length : tie.Need-same-length
 same-length c = search needs
@@ -22,8 +23,11 @@ same-length c = search needs
 returns : tie.Need-returns
 unfolding posIn
 returns c =
-    let a = c .before .before .before .before .before .before .before .before .before .args in
-    open-tall (deckIn (a .row .now) (a .sizes)) (a .sizes .reordering) (a .sizes .talls) (posIn (a .row .now)) (c .before .before .before .before .before .if1 .taken) (c .before .before .before .before .tall-at .ensures) (c .before .before .open-to .ensures)
+    let after-tall-at = c .before .before .before .before in
+    let after-if1 = after-tall-at .before in
+    let a = after-if1 .before .before .before .before .args in
+    open-tall (deckIn (a .row .now) (a .sizes)) (a .sizes .reordering) (a .sizes .talls) (posIn (a .row .now)) (after-if1 .if1 .taken)
+    (after-tall-at .tall-at .ensures) (c .before .before .open-to .ensures)
 
 open-end-requires : tie.Need-open-end-requires
 open-end-requires c κs = search needs
@@ -33,8 +37,10 @@ same-length-2 c = search needs
 
 returns-2 : tie.Need-returns-2
 returns-2 c =
-    let a = c .before .before .before .before .before .before .before .before .args in
-    open-last (deckIn (a .row .now) (a .sizes)) (a .sizes .reordering) (a .sizes .talls) (posIn (a .row .now)) (a .sizes .states) (omega (arith, c .before .before .before .before .if1 .left)) (c .before .before .open-end .ensures)
+    let after-if1 = c .before .before .before .before in
+    let a = after-if1 .before .before .before .before .args in
+    open-last (deckIn (a .row .now) (a .sizes)) (a .sizes .reordering) (a .sizes .talls) (posIn (a .row .now)) (a .sizes .states)
+    (omega (arith, after-if1 .if1 .left)) (c .before .before .open-end .ensures)
 
 pub open-cost-spec : {M : Type 1} → statement M
 open-cost-spec =

@@ -19,9 +19,13 @@ same-length c = search needs
 
 returns : tie.Need-returns
 returns c =
-    let k = c .before .before .before .before .before .before .before in
-    let a = k .args in
-    (row-open (deckIn (a .row .now) (a .sizes)) (a .sizes .reordering) (a .sizes .talls) (posIn (a .row .now)) (a .sizes .states) (a .s) (c .before .before .before .before .if1 .taken) (c .before .before .open-cost .ensures), k .pre .0)
+    let after-if1 = c .before .before .before .before in
+    let k = after-if1 .before .before .before in
+    let a = k .args in (
+      row-open (deckIn (a .row .now) (a .sizes)) (a .sizes .reordering) (a .sizes .talls) (posIn (a .row .now)) (a .sizes .states) (a .s)
+          (after-if1 .if1 .taken) (c .before .before .open-cost .ensures),
+      k .pre .0,
+    )
 
 tall-at-requires : tie.Need-tall-at-requires
 tall-at-requires c κs = search needs
@@ -29,24 +33,36 @@ tall-at-requires c κs = search needs
 placed-with-requires : tie.Need-placed-with-requires
 placed-with-requires c κs =
     let k = c .before .before .before .before in
-    let s = start-state (k .args .sizes .talls) (k .args .i) (k .args .sizes .states) (k .args .s) (k .pre .4) (c .before .if1 .left) (k .pre .3) in
-    (k .pre .1 .ground .coded, omega (arith, k .pre .1 .ground .all), start-place (k .args .i) (c .tall-at .result) (k .pre .1) (c .before .if1 .left) (k .pre .3) (c .tall-at .ensures))
+    let s = start-state (k .args .sizes .talls) (k .args .i) (k .args .sizes .states) (k .args .s) (k .pre .4) (c .before .if1 .left) (k .pre .3) in (
+      k .pre .1 .ground .coded,
+      omega (arith, k .pre .1 .ground .all),
+      start-place (k .args .i) (c .tall-at .result) (k .pre .1) (c .before .if1 .left) (k .pre .3) (c .tall-at .ensures),
+    )
 
 width-of-requires : tie.Need-width-of-requires
 width-of-requires c κs =
-    let k = c .before .before .before .before .before in
+    let mid = c .before .before .before .before in
+    let k = mid .before in
     k .pre .1 .ground .few
 
 first-layer-requires : tie.Need-first-layer-requires
 first-layer-requires c κs =
-    let k = c .before .before .before .before .before .before .before .before in
+    let after-tall-at = c .before .before .before .before in
+    let k = after-tall-at .before .before .before .before in
     let g = k .pre .1 .ground in
-    let s = start-state (k .args .sizes .talls) (k .args .i) (k .args .sizes .states) (k .args .s) (k .pre .4) (c .before .before .before .before .before .if1 .left) (k .pre .3) in
-    let p = start-place (k .args .i) (c .before .before .before .before .tall-at .result) (k .pre .1) (c .before .before .before .before .before .if1 .left) (k .pre .3) (c .before .before .before .before .tall-at .ensures) in
+    let s = start-state (k .args .sizes .talls) (k .args .i) (k .args .sizes .states) (k .args .s) (k .pre .4) (after-tall-at .before .if1 .left) (k .pre .3) in
+    let p =
+    start-place (k .args .i) (after-tall-at .tall-at .result) (k .pre .1) (after-tall-at .before .if1 .left) (k .pre .3) (after-tall-at .tall-at .ensures) in
     let w = width-room (k .args .sizes .poses) (g .few) in
     let r = k .pre .2 in (
       k .pre .0,
-      record { ground = g; low = k .pre .2 .low; narrow = omega (arith, c .before .before .width-of .ensures, w .1); early = omega (arith, c .before .before .before .placed-with .ensures, g .coded .reorder); room = omega (arith, r .over, r .room) },
+      record {
+        ground = g;
+        low = k .pre .2 .low;
+        narrow = omega (arith, c .before .before .width-of .ensures, w .1);
+        early = omega (arith, c .before .before .before .placed-with .ensures, g .coded .reorder);
+        room = omega (arith, r .over, r .room);
+      },
       p,
       omega (arith, c .before .before .width-of .ensures, w .1),
       s,
@@ -54,27 +70,49 @@ first-layer-requires c κs =
 
 backs-requires : tie.Need-backs-requires
 backs-requires c κs =
-    let k = c .before .before .before .before .before .before .before .before .before .before .before .before in
-    let g = k .pre .1 .ground in
-    (g .words, zeros-low 64, refl, start-place (k .args .i) (c .before .before .before .before .before .before .before .before .tall-at .result) (k .pre .1) (c .before .before .before .before .before .before .before .before .before .if1 .left) (k .pre .3) (c .before .before .before .before .before .before .before .before .tall-at .ensures), g .few)
+    let mid = c .before .before .before .before in
+    let after-tall-at = mid .before .before .before .before in
+    let k = after-tall-at .before .before .before .before in
+    let g = k .pre .1 .ground in (
+      g .words,
+      zeros-low 64,
+      refl,
+      start-place (k .args .i) (after-tall-at .tall-at .result) (k .pre .1) (after-tall-at .before .if1 .left) (k .pre .3) (after-tall-at .tall-at .ensures),
+      g .few,
+    )
 
 add-stage-end : tie.Need-add-stage-end
 add-stage-end c =
-    let k = c .before .before .before .before .before .before .before .before .before .before .before .before .before .before .before .before in
-    let p = start-place (k .args .i) (c .before .before .before .before .before .before .before .before .before .before .before .before .tall-at .result) (k .pre .1) (c .before .before .before .before .before .before .before .before .before .before .before .before .before .if1 .left) (k .pre .3) (c .before .before .before .before .before .before .before .before .before .before .before .before .tall-at .ensures) in
-    omega (arith, c .before .before .before .before .before .before .before .before .before .before .before .placed-with .ensures, k .pre .1 .ground .coded .reorder)
+    let mid = c .before .before .before .before in
+    let mid₂ = mid .before .before .before .before in
+    let after-tall-at = mid₂ .before .before .before .before in
+    let k = after-tall-at .before .before .before .before in
+    let p =
+    start-place (k .args .i) (after-tall-at .tall-at .result) (k .pre .1) (after-tall-at .before .if1 .left) (k .pre .3) (after-tall-at .tall-at .ensures) in
+    omega (arith, mid₂ .before .before .before .placed-with .ensures, k .pre .1 .ground .coded .reorder)
 
 stage-end-requires : tie.Need-stage-end-requires
 stage-end-requires c κs =
-    let k = c .before .before .before .before .before .before .before .before .before .before .before .before .before .before .before .before in
+    let after-backs = c .before .before .before in
+    let after-first-layer = after-backs .before .before .before .before in
+    let after-placed-with = after-first-layer .before .before .before .before in
+    let after-if1 = after-placed-with .before .before in
+    let k = after-if1 .before .before .before in
     let g = k .pre .1 .ground in
-    let p = start-place (k .args .i) (c .before .before .before .before .before .before .before .before .before .before .before .before .tall-at .result) (k .pre .1) (c .before .before .before .before .before .before .before .before .before .before .before .before .before .if1 .left) (k .pre .3) (c .before .before .before .before .before .before .before .before .before .before .before .before .tall-at .ensures) in
-    let f = c .before .before .before .before .before .before .before .first-layer .ensures .0 in
-    let b = c .before .before .before .backs .ensures in
+    let p = start-place (k .args .i) (after-placed-with .before .tall-at .result) (k .pre .1) (after-if1 .if1 .left) (k .pre .3)
+    (after-placed-with .before .tall-at .ensures) in
+    let f = after-first-layer .first-layer .ensures .0 in
+    let b = after-backs .backs .ensures in
     let r = k .pre .2 in (
-      c .before .before .before .before .before .before .before .first-layer .ensures .1,
+      after-first-layer .first-layer .ensures .1,
       k .pre .1,
-      record { ground = g; low = f .low; narrow = omega (arith, c .before .before .before .before .before .before .before .before .before .before .width-of .ensures, width-room (k .args .sizes .poses) (g .few) .1); early = omega (arith, c .before .before .before .before .before .before .before .before .before .before .before .placed-with .ensures, g .coded .reorder); room = omega (arith, r .over, r .room, f .frame .long) },
+      record {
+        ground = g;
+        low = f .low;
+        narrow = omega (arith, after-first-layer .before .before .before .width-of .ensures, width-room (k .args .sizes .poses) (g .few) .1);
+        early = omega (arith, after-placed-with .placed-with .ensures, g .coded .reorder);
+        room = omega (arith, r .over, r .room, f .frame .long);
+      },
       record { over = omega (arith, r .over); room = omega (arith, r .room, f .frame .long) },
       b .low,
       b .frame .long,
@@ -86,14 +124,22 @@ same-length-2 c = search needs
 returns-2 : tie.Need-returns-2
 unfolding posIn
 returns-2 c =
-    let k = c .before .before .before .before .before .before .before .before .before .before .before .before .before .before .before .before .before .before .before in
+    let after-stage-end = c .before .before in
+    let after-backs = after-stage-end .before .before .before .before in
+    let after-first-layer = after-backs .before .before .before .before in
+    let after-placed-with = after-first-layer .before .before .before .before in
+    let after-if1 = after-placed-with .before .before in
+    let k = after-if1 .before .before .before in
     let a = k .args in (
       row-after (deckIn (a .row .now) (a .sizes)) (a .sizes .reordering) (a .sizes .talls) (posIn (a .row .now)) (a .i) (a .i - 1) (a .sizes .states) (a .s)
-          (c .before .before .before .before .before .before .before .before .before .before .before .before .before .before .before .tall-at .result) (c .before .before .before .before .before .before .before .before .before .before .before .before .before .before .placed-with .result) (c .before .before .before .before .before .before .backs .last .0) (omega (arith, c .before .before .before .before .before .before .before .before .before .before .before .before .before .before .before .before .if1 .left)) (k .pre .3) (omega (arith, c .before .before .before .before .before .before .before .before .before .before .before .before .before .width-of .ensures, width-room (a .sizes .poses) (k .pre .1 .ground .few) .0)) (k .pre .1 .ground .all)
-          (c .before .before .before .before .before .before .before .before .before .before .before .before .before .before .before .tall-at .ensures) (c .before .before .before .before .before .before .before .before .before .before .before .before .before .before .placed-with .ensures)
-          (λ l h. let z : 0 + l ≡ l = omega arith in rw z at (c .before .before .before .before .before .before .backs .ensures .words l h))
-          (c .before .before .before .before .before .before .before .before .before .before .first-layer .ensures .0) (c .before .before .stage-end .ensures .0),
-      c .before .before .stage-end .ensures .1,
+          (after-placed-with .before .tall-at .result) (after-placed-with .placed-with .result) (after-backs .backs .last .0)
+          (omega (arith, after-if1 .if1 .left)) (k .pre .3)
+          (omega (arith, after-first-layer .before .before .before .width-of .ensures, width-room (a .sizes .poses) (k .pre .1 .ground .few) .0))
+          (k .pre .1 .ground .all)
+          (after-placed-with .before .tall-at .ensures) (after-placed-with .placed-with .ensures)
+          (λ l h. let z : 0 + l ≡ l = omega arith in rw z at (after-backs .backs .ensures .words l h))
+          (after-first-layer .first-layer .ensures .0) (after-stage-end .stage-end .ensures .0),
+      after-stage-end .stage-end .ensures .1,
     )
 
 sub-tall-at : tie.Need-sub-tall-at
@@ -102,4 +148,5 @@ sub-tall-at c = search needs
 pub row-cost-spec : {M : Type 1} → statement M
 row-cost-spec =
     tie.close
-    (tie.spec open-cost-requires same-length returns sub-tall-at tall-at-requires placed-with-requires width-of-requires first-layer-requires backs-requires add-stage-end stage-end-requires same-length-2 returns-2)
+    (tie.spec open-cost-requires same-length returns sub-tall-at tall-at-requires placed-with-requires width-of-requires first-layer-requires backs-requires
+    add-stage-end stage-end-requires same-length-2 returns-2)

@@ -13,9 +13,10 @@ tall-at-requires c κs = search needs
 segment-to-requires : tie.Need-segment-to-requires
 unfolding posIn
 segment-to-requires c κs =
-    let k = c .before .before .before .before .before .before .before in
+    let after-if1 = c .before .before .before in
+    let k = after-if1 .before .before .before .before in
     let g = k .pre .1 in
-    (k .pre .0, k .pre .2, k .pre .3, omega (arith, c .before .before .tall-at .ensures, g .inside (k .args .i) (c .before .before .before .if1 .taken), g .ground .size))
+    (k .pre .0, k .pre .2, k .pre .3, omega (arith, c .before .before .tall-at .ensures, g .inside (k .args .i) (after-if1 .if1 .taken), g .ground .size))
 
 same-length : tie.Need-same-length
 same-length c = search needs
@@ -23,9 +24,14 @@ same-length c = search needs
 returns : tie.Need-returns
 unfolding posIn
 returns c =
-    let k = c .before .before .before .before .before .before .before .before .before .before in
-    let a = k .args in
-    (row-tall (deckIn (a .row .now) (a .sizes)) (a .sizes .reordering) (a .sizes .talls) (posIn (a .row .now)) (a .starts .now) (c .before .before .before .before .before .before .if1 .taken) (k .pre .1 .ground .all) (c .before .before .before .before .before .tall-at .ensures) (c .before .before .segment-to .ensures .0), c .before .before .segment-to .ensures .1)
+    let after-segment-to = c .before .before in
+    let after-if1 = after-segment-to .before .before .before .before in
+    let k = after-if1 .before .before .before .before in
+    let a = k .args in (
+      row-tall (deckIn (a .row .now) (a .sizes)) (a .sizes .reordering) (a .sizes .talls) (posIn (a .row .now)) (a .starts .now) (after-if1 .if1 .taken)
+          (k .pre .1 .ground .all) (after-segment-to .before .before .before .tall-at .ensures) (after-segment-to .segment-to .ensures .0),
+      after-segment-to .segment-to .ensures .1,
+    )
 
 segment-end-requires : tie.Need-segment-end-requires
 segment-end-requires c κs = search needs
@@ -35,9 +41,14 @@ same-length-2 c = search needs
 
 returns-2 : tie.Need-returns-2
 returns-2 c =
-    let k = c .before .before .before .before .before .before .before .before .before in
-    let a = k .args in
-    (row-last (deckIn (a .row .now) (a .sizes)) (a .sizes .reordering) (a .sizes .talls) (posIn (a .row .now)) (a .sizes .states) (c .before .before .before .before .before .if1 .left) (c .before .before .segment-end .ensures .0), c .before .before .segment-end .ensures .1)
+    let after-segment-end = c .before .before in
+    let after-if1 = after-segment-end .before .before .before in
+    let k = after-if1 .before .before .before .before in
+    let a = k .args in (
+      row-last (deckIn (a .row .now) (a .sizes)) (a .sizes .reordering) (a .sizes .talls) (posIn (a .row .now)) (a .sizes .states) (after-if1 .if1 .left)
+          (after-segment-end .segment-end .ensures .0),
+      after-segment-end .segment-end .ensures .1,
+    )
 
 pub stage-end-spec : {M : Type 1} → statement M
 stage-end-spec =
