@@ -79,7 +79,7 @@ differIn line k b m a =
     + cond (eqb (wordOf line k (rightN + variant b)) (wordOf line m (leftN + variant a))) 0 1
 
 -- the weight of a step between m and the cell on its left, by the gap between them: document 01 has
--- one weight (request A7 is to give words two)
+-- one weight (request A7 is to give it two)
 abbrev pub weightIn : List ℕ → ℕ → ℕ → ℕ
 weightIn line m gap = cond (eqb gap 0) (wordOf line m touchingWord) (wordOf line m apartWord)
 

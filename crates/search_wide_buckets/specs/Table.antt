@@ -1,4 +1,4 @@
--- The buckets in a table of 10944 words: 9 buckets of 19 rows of 64 lanes. What is given, and what the loops leave.
+-- The buckets in one table: 9 buckets of 19 rows of 64 lanes. What is given, and what the loops leave.
 use Prim.Native.Nat.{ℕ, suc, _+_, _*_, _-_, _/_, _%_, _≤_, _<_, min}
 use mathlib.Core.Path.{_≡_}
 use mathlib.Core.Logic.{_⊎_}

@@ -1,5 +1,4 @@
-// One layer of the search from the layer before, in all lanes at once. A layer is
-// a block of 49152 words: state, pose, lane.
+// One layer of the search from the layer before, in all lanes at once. A layer is a block of words: state, pose, lane.
 // For each state of the next layer its sources are gathered by their end sites (crate search_wide_buckets),
 // and each of its poses looks up what it needs.
 ghost use mathlib.Core.Path.{_≡_};

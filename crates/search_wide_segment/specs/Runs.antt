@@ -12,7 +12,7 @@ use Rattle.theory_tables.specs.Steps.{B, Deck, Layer, stateCount, offset, layer
 use Rattle.search_lanes.specs.Store.{Low, layerIn}
 use Rattle.search_wide_layer.specs.Loops.{nextFrom}
 
--- the two blocks of layers, at 0 and at 49152
+-- the two blocks of layers, at 0 and after the first
 abbrev pub Buffer : ℕ → Type 0
 Buffer at = (at ≡ 0) ⊎ (at ≡ layerBlock)
 
