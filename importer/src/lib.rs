@@ -7,13 +7,16 @@
 
 pub mod calls;
 mod fault;
+mod fields;
+mod numbers;
 mod placing;
 mod reading;
 mod refused;
 mod scoring;
 
 pub use fault::fault_line;
+pub use numbers::Numbers;
 pub use placing::{place, refine, Placed, Refined, OUTPUT_BYTES, STORE_WORDS};
 pub use reading::{read, Read};
 pub use refused::Refused;
-pub use scoring::{score, Broken, Numbers, Verdict};
+pub use scoring::{score, Broken, Verdict};

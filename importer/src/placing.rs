@@ -1,5 +1,6 @@
 //! Place, with its answer as a struct.
 
+use crate::fields::Fields;
 use crate::{calls, Numbers, Refused};
 
 /// How many words of store Place needs.
@@ -7,6 +8,9 @@ pub const STORE_WORDS: usize = 1_048_576;
 
 /// How many bytes of output Place needs for any job: 9 for each of 64 cells.
 pub const OUTPUT_BYTES: usize = 9 * 64;
+
+/// The numbers, then the text's length.
+const FIELDS: usize = Numbers::FIELDS + 1;
 
 /// What Place answers of a job that has a legal placement.
 #[derive(Clone, Copy, Debug, PartialEq, Eq)]
@@ -19,16 +23,12 @@ pub struct Placed {
 /// Places a job: writes the text of a cheapest legal placement to the start of `output`. The
 /// store is all zero after an answer and after refusal 8.
 pub fn place(job: &[u8], store: &mut [u32], output: &mut [u8]) -> Result<Placed, Refused> {
-    let mut results = [0; 9];
-    calls::place(job, store, output, &mut results);
-    let [_, _, numbers @ .., text_length] = &results;
-    match Refused::told(&results) {
-        Some(refused) => Err(refused),
-        None => Ok(Placed {
-            numbers: Numbers::told(numbers),
-            text_length: text_length.unsigned_abs() as usize,
-        }),
-    }
+    let call = |results: &mut [i32]| calls::place(job, store, output, results);
+    let mut fields = Fields::of(FIELDS, call)?;
+    Ok(Placed {
+        numbers: Numbers::taken(&mut fields),
+        text_length: fields.length(),
+    })
 }
 
 /// A placed job: the numbers and the text of its placement.

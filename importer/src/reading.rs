@@ -1,5 +1,6 @@
 //! Read, with its answer as a struct.
 
+use crate::fields::Fields;
 use crate::{calls, Refused};
 
 /// What Read answers of a job that it accepts.
@@ -11,12 +12,8 @@ pub struct Read {
 
 /// Reads a job text.
 pub fn read(job: &[u8]) -> Result<Read, Refused> {
-    let mut results = [0; 3];
-    calls::read(job, &mut results);
-    match Refused::told(&results) {
-        Some(refused) => Err(refused),
-        None => Ok(Read {
-            cells: results[2].unsigned_abs(),
-        }),
-    }
+    let mut fields = Fields::of(1, |results| calls::read(job, results))?;
+    Ok(Read {
+        cells: fields.natural(),
+    })
 }

@@ -12,18 +12,6 @@ pub struct Refused {
 }
 
 impl Refused {
-    /// The refusal that the first two entries of a result array tell, if they tell one.
-    pub(crate) fn told(results: &[i32]) -> Option<Refused> {
-        let entry = |at: usize| results.get(at).map_or(0, |&value| value.unsigned_abs());
-        match entry(0) {
-            0 => None,
-            number => Some(Refused {
-                number,
-                line: entry(1),
-            }),
-        }
-    }
-
     /// What is wrong.
     pub fn reason(&self) -> &'static str {
         match self.number {

@@ -1,43 +1,16 @@
 //! Score, with its answer as an enum.
 
-use crate::{calls, Refused};
+use crate::fields::Fields;
+use crate::{calls, Numbers, Refused};
+
+/// Rule and cell, then the numbers.
+const FIELDS: usize = 2 + Numbers::FIELDS;
 
 /// What Score says of a placement.
 #[derive(Clone, Copy, Debug, PartialEq, Eq)]
 pub enum Verdict {
     Legal(Numbers),
     Broken(Broken),
-}
-
-/// The numbers of a legal placement.
-#[derive(Clone, Copy, Debug, PartialEq, Eq)]
-pub struct Numbers {
-    pub steps: u32,
-    /// Sites shifted.
-    pub shifted: u32,
-    /// Cells mirrored.
-    pub mirrored: u32,
-    /// Cells in layout 1.
-    pub changed: u32,
-    pub cost: u32,
-    /// Mean signed shift in hundredths of a site.
-    pub drift: i32,
-}
-
-impl Numbers {
-    /// The numbers in the order in which they stand in a result array.
-    pub(crate) fn told(fields: &[i32; 6]) -> Numbers {
-        let [steps, shifted, mirrored, changed, cost] =
-            [0, 1, 2, 3, 4].map(|at: usize| fields[at].unsigned_abs());
-        Numbers {
-            steps,
-            shifted,
-            mirrored,
-            changed,
-            cost,
-            drift: fields[5],
-        }
-    }
 }
 
 /// The first broken rule, from 1 to 7, and its lowest cell, counted from 1.
@@ -65,15 +38,10 @@ impl Broken {
 
 /// Scores a placement text by a job text.
 pub fn score(job: &[u8], placement: &[u8]) -> Result<Verdict, Refused> {
-    let mut results = [0; 10];
-    calls::score(job, placement, &mut results);
-    let [_, _, rule, cell, numbers @ ..] = &results;
-    match Refused::told(&results) {
-        Some(refused) => Err(refused),
-        None if *rule == 0 => Ok(Verdict::Legal(Numbers::told(numbers))),
-        None => Ok(Verdict::Broken(Broken {
-            rule: rule.unsigned_abs(),
-            cell: cell.unsigned_abs(),
-        })),
-    }
+    let mut fields = Fields::of(FIELDS, |results| calls::score(job, placement, results))?;
+    let (rule, cell) = (fields.natural(), fields.natural());
+    Ok(match rule {
+        0 => Verdict::Legal(Numbers::taken(&mut fields)),
+        _ => Verdict::Broken(Broken { rule, cell }),
+    })
 }
