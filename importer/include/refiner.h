@@ -9,8 +9,7 @@
  * operation's fields, which are all 0 after a refusal. Entries after the fields stay as they were.
  *
  *   number  meaning
- *   1       the line is not in the job's form: lead, line end, a field that is no number, or
- *           the number of fields
+ *   1       the line is not in the job's form
  *   2       a field of the line is out of range
  *   3       the line's cell is the 65th, or the 25th tall one
  *   4       the line's given site is below an earlier one in its row
@@ -18,6 +17,8 @@
  *   6       the store has fewer than 1,048,576 words
  *   7       the output has fewer than 9 bytes per cell
  *   8       no legal placement exists
+ *
+ * README.md has the same table with what to do about each.
  */
 #ifndef REFINER_H
 #define REFINER_H

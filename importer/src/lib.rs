@@ -18,5 +18,5 @@ pub use fault::fault_line;
 pub use numbers::Numbers;
 pub use placing::{place, refine, Placed, Refined, OUTPUT_BYTES, STORE_WORDS};
 pub use reading::{read, Read};
-pub use refused::Refused;
+pub use refused::{Refusal, Refused, REFUSALS};
 pub use scoring::{score, Broken, Verdict};

@@ -2,6 +2,61 @@
 
 use std::fmt;
 
+/// What a refusal number means, and what to do about it.
+#[derive(Clone, Copy, Debug, PartialEq, Eq)]
+pub struct Refusal {
+    pub number: u32,
+    /// What is wrong.
+    pub meaning: &'static str,
+    /// What to do about it.
+    pub remedy: &'static str,
+}
+
+/// Every refusal number, once and in rising order. README's table and the header's say the same
+/// in the same words; `tests/tables.rs` holds them to it.
+pub const REFUSALS: &[Refusal] = &[
+    Refusal {
+        number: 1,
+        meaning: "the line is not in the job's form",
+        remedy: "check the lead, the commas, the numbers, the number of fields and the line feed",
+    },
+    Refusal {
+        number: 2,
+        meaning: "a field of the line is out of range",
+        remedy: "bring each field of the line into its range",
+    },
+    Refusal {
+        number: 3,
+        meaning: "the line's cell is the 65th, or the 25th tall one",
+        remedy: "split the job: it holds at most 64 cells, of which at most 24 are tall",
+    },
+    Refusal {
+        number: 4,
+        meaning: "the line's given site is below an earlier one in its row",
+        remedy: "sort the cell lines so that given sites do not fall within a row",
+    },
+    Refusal {
+        number: 5,
+        meaning: "the placement's line is bad, missing or surplus",
+        remedy: "give one line `site,layout,mirror` for each cell, in file order",
+    },
+    Refusal {
+        number: 6,
+        meaning: "the store has fewer than 1,048,576 words",
+        remedy: "lend a larger store",
+    },
+    Refusal {
+        number: 7,
+        meaning: "the output has fewer than 9 bytes per cell",
+        remedy: "lend a larger output",
+    },
+    Refusal {
+        number: 8,
+        meaning: "no legal placement exists",
+        remedy: "raise D or R, give the rows more sites, or move cells to other rows",
+    },
+];
+
 /// A call was refused.
 #[derive(Clone, Copy, Debug, PartialEq, Eq)]
 pub struct Refused {
@@ -14,32 +69,25 @@ pub struct Refused {
 impl Refused {
     /// What is wrong.
     pub fn reason(&self) -> &'static str {
-        match self.number {
-            1 => "the line is not in the job's form",
-            2 => "a field of the line is out of range",
-            3 => "the line's cell is the 65th, or the 25th tall one",
-            4 => "the line's given site is below an earlier one in its row",
-            5 => "the placement's line is bad, missing or surplus",
-            6 => "the store has fewer than 1,048,576 words",
-            7 => "the output has fewer than 9 bytes per cell",
-            8 => "no legal placement exists",
-            _ => "the refiner gave a number that this program does not know",
+        match self.entry() {
+            Some(refusal) => refusal.meaning,
+            None => "the refiner gave a number that this program does not know",
         }
     }
 
     /// What to do about it.
     pub fn remedy(&self) -> &'static str {
-        match self.number {
-            1 => "check the lead, the commas, the numbers, the number of fields and the line feed",
-            2 => "bring each field of the line into its range",
-            3 => "split the job: it holds at most 64 cells, of which at most 24 are tall",
-            4 => "sort the cell lines so that given sites do not fall within a row",
-            5 => "give one line `site,layout,mirror` for each cell, in file order",
-            6 => "lend a larger store",
-            7 => "lend a larger output",
-            8 => "raise D or R, give the rows more sites, or move cells to other rows",
-            _ => "build program and archive from the same sources",
+        match self.entry() {
+            Some(refusal) => refusal.remedy,
+            None => "build program and archive from the same sources",
         }
+    }
+
+    /// The number's entry in the table. There is none if the archive is newer than this program.
+    fn entry(&self) -> Option<&'static Refusal> {
+        REFUSALS
+            .iter()
+            .find(|refusal| refusal.number == self.number)
     }
 }
 

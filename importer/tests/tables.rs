@@ -1,0 +1,108 @@
+//! README and the C header show the library's tables row by row, in the same words.
+
+use importer::{Refused, REFUSALS};
+
+const README: &str = include_str!("../../README.md");
+const HEADER: &str = include_str!("../include/refiner.h");
+
+/// The cells of a table's row, with single spaces between words.
+type Row = Vec<String>;
+
+fn words(text: &str) -> String {
+    text.split_whitespace().collect::<Vec<_>>().join(" ")
+}
+
+/// The first table behind a heading of README, without its own two heading lines.
+fn readme_rows(heading: &str) -> Vec<Row> {
+    README
+        .lines()
+        .skip_while(|line| *line != heading)
+        .skip_while(|line| !line.starts_with('|'))
+        .take_while(|line| line.starts_with('|'))
+        .skip(2)
+        .map(|line| line.trim_matches('|').split('|').map(words).collect())
+        .collect()
+}
+
+/// The header's table of refusals. A row begins with its number; a line that begins with a space
+/// goes on with the row above it.
+fn header_rows() -> Vec<Row> {
+    let lines = HEADER
+        .lines()
+        .skip_while(|line| words(line) != "* number meaning")
+        .skip(1)
+        .map_while(|line| line.strip_prefix(" *   "));
+    let mut rows: Vec<Row> = Vec::new();
+    for line in lines {
+        match (line.split_once(' '), rows.last_mut()) {
+            (Some(("", more)), Some(row)) => row[1] += &format!(" {}", words(more)),
+            (Some((number, meaning)), _) => rows.push(vec![number.into(), words(meaning)]),
+            (None, _) => rows.push(vec![line.into()]),
+        }
+    }
+    rows
+}
+
+/// Fails with the first row that is missing or surplus, then if rows stand twice or in another
+/// order.
+fn check_rows(place: &str, shown: &[Row], table: &[Row]) {
+    for row in table {
+        assert!(shown.contains(row), "{place} lacks the row {row:?}");
+    }
+    for row in shown {
+        assert!(table.contains(row), "{place} has a row too many: {row:?}");
+    }
+    assert_eq!(shown, table, "{place} has a row twice, or another order");
+}
+
+#[test]
+fn readme_shows_each_refusal() {
+    let row = |entry: &importer::Refusal| {
+        vec![
+            entry.number.to_string(),
+            words(entry.meaning),
+            words(entry.remedy),
+        ]
+    };
+    let table: Vec<Row> = REFUSALS.iter().map(row).collect();
+    check_rows("README", &readme_rows("## Refusals"), &table);
+}
+
+#[test]
+fn the_header_shows_each_refusal() {
+    let row = |entry: &importer::Refusal| vec![entry.number.to_string(), words(entry.meaning)];
+    let table: Vec<Row> = REFUSALS.iter().map(row).collect();
+    check_rows("refiner.h", &header_rows(), &table);
+}
+
+#[test]
+fn each_refusal_number_stands_once_in_rising_order() {
+    assert!(REFUSALS.is_sorted_by(|earlier, later| earlier.number < later.number));
+}
+
+#[test]
+fn a_refusal_is_told_in_the_words_of_its_entry() {
+    for entry in REFUSALS {
+        let refused = Refused {
+            number: entry.number,
+            line: 12,
+        };
+        assert_eq!(refused.reason(), entry.meaning);
+        assert_eq!(refused.remedy(), entry.remedy);
+        let told = format!(
+            "refusal {} at line 12: {}; {}",
+            entry.number, entry.meaning, entry.remedy
+        );
+        assert_eq!(refused.to_string(), told);
+    }
+}
+
+#[test]
+fn a_refusal_that_the_table_lacks_is_told_too() {
+    for number in [0, 999, u32::MAX] {
+        let told = Refused { number, line: 0 }.to_string();
+        let start = format!("refusal {number}: the refiner gave a number that this program");
+        assert!(told.starts_with(&start), "{told}");
+        assert!(told.ends_with("from the same sources"), "{told}");
+    }
+}
