@@ -3,7 +3,8 @@
 //! The refiner itself is written in Rattle, proved, and linked as the archive `librefiner.a`
 //! (`include/refiner.h` is its C interface). This library makes its functions safe to call:
 //! [`calls`] has each of them with slices for addresses and lengths, and the modules beside it
-//! turn the numbers that a call leaves behind into plain structs.
+//! turn the numbers that a call leaves behind into plain structs. [`REFUSALS`] and [`RULES`] say in
+//! words what refusal numbers and rules mean.
 
 pub mod calls;
 mod fault;
@@ -12,6 +13,7 @@ mod numbers;
 mod placing;
 mod reading;
 mod refused;
+mod rules;
 mod scoring;
 
 pub use fault::fault_line;
@@ -19,4 +21,5 @@ pub use numbers::Numbers;
 pub use placing::{place, refine, Placed, Refined, OUTPUT_BYTES, STORE_WORDS};
 pub use reading::{read, Read};
 pub use refused::{Refusal, Refused, REFUSALS};
-pub use scoring::{score, Broken, Verdict};
+pub use rules::{Broken, Rule, RULES};
+pub use scoring::{score, Verdict};

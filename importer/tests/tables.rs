@@ -1,6 +1,6 @@
 //! README and the C header show the library's tables row by row, in the same words.
 
-use importer::{Refused, REFUSALS};
+use importer::{Broken, Refused, REFUSALS, RULES};
 
 const README: &str = include_str!("../../README.md");
 const HEADER: &str = include_str!("../include/refiner.h");
@@ -105,4 +105,31 @@ fn a_refusal_that_the_table_lacks_is_told_too() {
         assert!(told.starts_with(&start), "{told}");
         assert!(told.ends_with("from the same sources"), "{told}");
     }
+}
+
+#[test]
+fn readme_shows_each_rule() {
+    let row = |rule: &importer::Rule| vec![rule.number.to_string(), words(rule.asks)];
+    let table: Vec<Row> = RULES.iter().map(row).collect();
+    check_rows("README", &readme_rows("## Rules of a placement"), &table);
+}
+
+#[test]
+fn rules_are_numbered_from_1_in_their_order() {
+    let numbers: Vec<u32> = RULES.iter().map(|rule| rule.number).collect();
+    let counted: Vec<u32> = (1..).take(RULES.len()).collect();
+    assert_eq!(numbers, counted);
+}
+
+#[test]
+fn a_broken_rule_is_told_in_the_words_of_its_entry() {
+    for entry in RULES {
+        let broken = Broken {
+            rule: entry.number,
+            cell: 1,
+        };
+        assert_eq!(broken.meaning(), entry.asks);
+    }
+    let broken = Broken { rule: 999, cell: 1 };
+    assert_eq!(broken.meaning(), "a rule that this program does not know");
 }
