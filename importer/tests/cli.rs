@@ -85,17 +85,48 @@ fn input_that_is_no_text_is_a_refusal() {
 }
 
 #[test]
-fn an_unknown_word_is_a_usage_error() {
-    let (output, notes, status) = told(&refine(&["polish"], b""));
-    assert_eq!((&*output, status), ("", Some(2)));
-    assert!(notes.contains("usage"), "{notes}");
+fn help_is_an_answer() {
+    let (usage, notes, status) = told(&refine(&["help"], b""));
+    assert_eq!((&*notes, status), ("", Some(0)));
+    for command in [
+        "refine < JOB",
+        "refine score JOBFILE PLACEMENTFILE",
+        "refine help",
+    ] {
+        assert!(usage.contains(&format!("\n  {command}\n")), "{usage}");
+    }
+    for word in ["--help", "-h"] {
+        let said = told(&refine(&[word], b""));
+        assert_eq!(said, (usage.clone(), String::new(), Some(0)));
+    }
+}
+
+/// Checks that the arguments are a usage error: the mistake, then the usage, on standard error.
+fn check_usage_error(arguments: &[&str], mistake: &str) {
+    let (usage, ..) = told(&refine(&["help"], b""));
+    let said = told(&refine(arguments, WORKED.as_bytes()));
+    let expected = format!("refine: {mistake}\n{usage}");
+    assert_eq!(said, (String::new(), expected, Some(2)));
 }
 
 #[test]
-fn help_is_an_answer() {
-    let (output, _, status) = told(&refine(&["--help"], b""));
-    assert_eq!(status, Some(0));
-    assert!(output.starts_with("usage"), "{output}");
+fn an_unknown_word_is_a_usage_error() {
+    check_usage_error(&["polish"], "there is no command \"polish\"");
+    check_usage_error(&["polish", "help"], "there is no command \"polish\"");
+    check_usage_error(&[""], "there is no command \"\"");
+}
+
+#[test]
+fn another_number_of_arguments_is_a_usage_error() {
+    let score = "the command is `refine score JOBFILE PLACEMENTFILE`";
+    let job = &*file("count.job", WORKED);
+    for arguments in [&["score"][..], &["score", job], &["score", job, job, job]] {
+        let count = arguments.len() - 1;
+        let mistake = format!("wrong number of arguments: {count}; {score}");
+        check_usage_error(arguments, &mistake);
+    }
+    let help = "wrong number of arguments: 1; the command is `refine help`";
+    check_usage_error(&["--help", "score"], help);
 }
 
 /// A file for one test, in the folder that cargo keeps for tests.
@@ -158,21 +189,21 @@ fn files_that_cannot_be_read_are_input_errors() {
         let (output, notes, status) = told(&refine(&["score", &job, placement], b""));
         assert_eq!((&*output, status), ("", Some(2)));
         assert!(notes.starts_with("refine: cannot"), "{notes}");
+        assert_eq!(notes.lines().count(), 1, "{notes}");
     }
-    assert_eq!(told(&refine(&["score", &job], b"")).2, Some(2));
 }
 
 #[cfg(unix)]
 #[test]
-fn arguments_that_are_no_text_are_input_errors() {
+fn arguments_that_are_no_text_are_errors_without_a_panic() {
     use std::ffi::OsStr;
     use std::os::unix::ffi::OsStrExt;
     let name = OsStr::from_bytes(b"\xff\xfe");
-    let output = Command::new(env!("CARGO_BIN_EXE_refine"))
-        .args([OsStr::new("score"), name, name])
-        .output()
-        .expect("refine ends");
-    assert_eq!(output.status.code(), Some(2));
+    for arguments in [&[OsStr::new("score"), name, name][..], &[name]] {
+        let mut refine = Command::new(env!("CARGO_BIN_EXE_refine"));
+        let output = refine.args(arguments).output().expect("refine ends");
+        assert_eq!(output.status.code(), Some(2));
+    }
 }
 
 #[cfg(unix)]

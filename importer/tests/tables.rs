@@ -1,6 +1,8 @@
-//! README and the C header show the library's tables row by row, in the same words.
+//! README and the C header show the host's tables row by row, in the same words: refusals, rules,
+//! and the commands of `refine`.
 
 use importer::{Broken, Refused, REFUSALS, RULES};
+use std::process::Command;
 
 const README: &str = include_str!("../../README.md");
 const HEADER: &str = include_str!("../include/refiner.h");
@@ -132,4 +134,22 @@ fn a_broken_rule_is_told_in_the_words_of_its_entry() {
     }
     let broken = Broken { rule: 999, cell: 1 };
     assert_eq!(broken.meaning(), "a rule that this program does not know");
+}
+
+/// The usage text as rows: how a command is typed, and below it what it prints.
+fn usage_rows() -> Vec<Row> {
+    let refine = Command::new(env!("CARGO_BIN_EXE_refine"))
+        .arg("help")
+        .output();
+    let usage = String::from_utf8(refine.expect("refine ends").stdout).expect("usage is a text");
+    let lines: Vec<&str> = usage.lines().filter(|line| line.starts_with(' ')).collect();
+    lines
+        .chunks(2)
+        .map(|entry| vec![format!("`{}`", words(entry[0])), words(entry[1])])
+        .collect()
+}
+
+#[test]
+fn readme_shows_each_command() {
+    check_rows("README", &readme_rows("### Commands"), &usage_rows());
 }

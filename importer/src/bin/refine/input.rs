@@ -1,5 +1,6 @@
 //! Texts from standard input and from files: bytes as they are, with a limit on their length.
 
+use crate::mistake::Mistake;
 use std::ffi::OsStr;
 use std::fmt::Display;
 use std::fs::File;
@@ -9,25 +10,25 @@ use std::path::Path;
 /// The longest text that is taken in. The longest job that is accepted has under 8 KiB.
 const LONGEST: u64 = 256 << 20;
 
-pub fn standard_input() -> Result<Vec<u8>, String> {
+pub fn standard_input() -> Result<Vec<u8>, Mistake> {
     whole(io::stdin().lock(), "standard input")
 }
 
-pub fn file(path: &OsStr) -> Result<Vec<u8>, String> {
+pub fn file(path: &OsStr) -> Result<Vec<u8>, Mistake> {
     let name = Path::new(path).display();
     match File::open(path) {
         Ok(file) => whole(file, name),
-        Err(error) => Err(format!("cannot open {name}: {error}")),
+        Err(error) => Err(Mistake::Input(format!("cannot open {name}: {error}"))),
     }
 }
 
-fn whole(source: impl Read, name: impl Display) -> Result<Vec<u8>, String> {
+fn whole(source: impl Read, name: impl Display) -> Result<Vec<u8>, Mistake> {
     let mut text = Vec::new();
     match source.take(LONGEST + 1).read_to_end(&mut text) {
-        Err(error) => Err(format!("cannot read {name}: {error}")),
-        Ok(_) if text.len() as u64 > LONGEST => {
-            Err(format!("{name} is longer than {LONGEST} bytes"))
-        }
+        Err(error) => Err(Mistake::Input(format!("cannot read {name}: {error}"))),
+        Ok(_) if text.len() as u64 > LONGEST => Err(Mistake::Input(format!(
+            "{name} is longer than {LONGEST} bytes"
+        ))),
         Ok(_) => Ok(text),
     }
 }
