@@ -1,5 +1,5 @@
 //! README and the C header show the host's tables row by row, in the same words: refusals, rules,
-//! and the commands of `refine`.
+//! and the commands of `refine`. README declares the same C functions as the header.
 
 use importer::{Broken, Refused, REFUSALS, RULES};
 use std::process::Command;
@@ -33,7 +33,8 @@ fn header_rows() -> Vec<Row> {
         .lines()
         .skip_while(|line| words(line) != "* number meaning")
         .skip(1)
-        .map_while(|line| line.strip_prefix(" *   "));
+        .take_while(|line| *line != " */")
+        .filter_map(|line| line.strip_prefix(" *   "));
     let mut rows: Vec<Row> = Vec::new();
     for line in lines {
         match (line.split_once(' '), rows.last_mut()) {
@@ -152,4 +153,18 @@ fn usage_rows() -> Vec<Row> {
 #[test]
 fn readme_shows_each_command() {
     check_rows("README", &readme_rows("### Commands"), &usage_rows());
+}
+
+/// The C functions that a text declares.
+fn declared(text: &str) -> Vec<String> {
+    let up_to_semicolon = |rest: &str| rest.split(';').next().map_or(String::new(), words);
+    let declarations = text.split("uint32_t refiner_").skip(1);
+    declarations.map(up_to_semicolon).collect()
+}
+
+#[test]
+fn readme_declares_the_functions_of_the_header() {
+    let header = declared(HEADER);
+    assert!(!header.is_empty(), "the header declares nothing");
+    assert_eq!(declared(README), header);
 }
