@@ -1,5 +1,6 @@
 pub mod Sound
 pub mod Agree
+pub mod FirstBroken
 pub mod Search
 pub mod PlaceClaim
 pub mod EdgesHold

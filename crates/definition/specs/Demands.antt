@@ -1,0 +1,125 @@
+-- The demands that every operation serves, each as one statement about what a caller can see. Demand 3 stands with
+-- Place, in Outcome. Crate `demand_laws` proves each of what the operations give.
+use Prim.Native.Nat.{ℕ, _-_, _≤_, _<_}
+use mathlib.Core.Path.{_≡_}
+use mathlib.Core.Logic.{_↔_}
+use mathlib.Core.Bool.{Bool, true, false, cond}
+use mathlib.Core.List.{List, [], _∷_, _++_}
+use lib.ListN.{length, getD, replicate}
+use lib.Dec.{ltb, eqb}
+use lib.IntN.{ℤ, pos}
+use Rattle.definition.specs.Lists.{any}
+use Rattle.definition.specs.Texts.{Text}
+use Rattle.definition.specs.Job.{Job, readJob, accepted}
+use Rattle.definition.specs.Placement.{Placement, poses, readPlacement, textOf}
+use Rattle.definition.specs.Rules.{Legal, rules}
+use Rattle.definition.specs.Outcome.{Outcome, numbers, score, Buffers, over}
+
+-- ---- Demand 1: "the call ends, stays within [its buffers], and answers or gives a numbered refusal with its line"
+
+abbrev pub isOneOf : List ℕ → ℕ → Bool
+isOneOf l n = any (eqb n) l
+
+-- What is known of an operation beforehand: the refusals that it may give, those of them that name a line, the numbers
+-- that it returns after a search, and how many fields it has.
+pub record Shape : Type 0 where
+  pub refusals : List ℕ
+  pub lined : List ℕ
+  pub searched : List ℕ
+  pub fieldCount : ℕ
+
+-- "1 to 4"; "1 to 4 as Read does, then 5"; "1 to 4; then 6 [..]; then 7 [..]; then 8". "Line is 0 for 6, 7 and 8."
+-- "After 8 or an answer the whole store is zero."
+abbrev pub readShape : Shape
+readShape = record {
+  refusals = 1 ∷ 2 ∷ 3 ∷ 4 ∷ [];
+  lined = 1 ∷ 2 ∷ 3 ∷ 4 ∷ [];
+  searched = [];
+  fieldCount = 1;
+}
+
+abbrev pub scoreShape : Shape
+scoreShape = record {
+  refusals = 1 ∷ 2 ∷ 3 ∷ 4 ∷ 5 ∷ [];
+  lined = 1 ∷ 2 ∷ 3 ∷ 4 ∷ 5 ∷ [];
+  searched = [];
+  fieldCount = 8;
+}
+
+abbrev pub placeShape : Shape
+placeShape = record {
+  refusals = 1 ∷ 2 ∷ 3 ∷ 4 ∷ 6 ∷ 7 ∷ 8 ∷ [];
+  lined = 1 ∷ 2 ∷ 3 ∷ 4 ∷ [];
+  searched = 0 ∷ 8 ∷ [];
+  fieldCount = 7;
+}
+
+-- A call of an operation, by the number that it returns and its buffers before and after it; one that takes no store or
+-- no output is seen with empty ones. That the call ends, and reads and writes nothing else, is part of every proof.
+pub record Demand1 (shape : Shape) (returned : ℕ) (before end : Buffers) : Type 0 where
+  pub line : ℕ
+  pub fields : List ℤ
+  pub text : Text
+  -- "answers or gives a numbered refusal with its line": 0, or one of the operation's own
+  pub numbered : isOneOf (0 ∷ shape .refusals) returned ≡ true
+  -- "line (0 if no line is at fault)"
+  pub located : isOneOf (shape .lined) returned ≡ ltb 0 line
+  -- number, line and fields as far as the array reaches, and nothing after them
+  pub counted : length fields ≡ shape .fieldCount
+  pub array : end .results ≡ over (pos returned ∷ pos line ∷ fields) (before .results)
+  -- a text that fits, and nothing after it
+  pub fits : length text ≤ length (before .output)
+  pub written : end .output ≡ over text (before .output)
+  -- "A refused call writes nothing into the output and leaves zero in every result field but number and line"
+  pub no-fields : ¬ (returned ≡ 0) → fields ≡ replicate (shape .fieldCount) (pos 0)
+  pub no-text : ¬ (returned ≡ 0) → text ≡ []
+  -- "the store is untouched, or all zero if a search was made"
+  pub stored : end .store
+      ≡ cond (isOneOf (shape .searched) returned) (replicate (length (before .store)) 0) (before .store)
+
+-- Fault line has no fields of its own: Score's number is returned, and three numbers say where its line is.
+pub record FaultDemand1 (returned : ℕ) (part part′ : List ℕ) : Type 0 where
+  pub words : List ℕ
+  pub numbered : isOneOf (0 ∷ scoreShape .refusals) returned ≡ true
+  pub counted : length words ≡ 3
+  pub array : part′ ≡ over words part
+
+-- ---- Demand 2: "Scoring says legal just when the rules hold; otherwise the first broken rule and its lowest cell."
+
+-- a cell breaks a rule, both counted from 1
+abbrev pub broken : Job → Placement → ℕ → ℕ → Bool
+broken j P rule cell = getD (rules j P) (rule - 1) (λ k. false) (cell - 1)
+
+-- Score's outcome on an accepted job and a placement that was read
+pub record Demand2 (j : Job) (P : Placement) (o : Outcome) : Type 0 where
+  pub rule : ℕ
+  pub cell : ℕ
+  pub legal-when : rule ≡ 0 ↔ Legal j P
+  -- "rule and cell, both 0 when legal"
+  pub no-cell : rule ≡ 0 → cell ≡ 0
+  -- that cell breaks that rule; no cell breaks an earlier one, and no lower cell this one
+  pub breaks : ¬ (rule ≡ 0) → (rule ≤ length (rules j P)) × (0 < cell) × (cell ≤ length (j .cells))
+      × (broken j P rule cell ≡ true)
+  pub first : (r k : ℕ) → 0 < r → r < rule → 0 < k → k ≤ length (j .cells) → broken j P r k ≡ false
+  pub lowest : ¬ (rule ≡ 0) → (k : ℕ) → 0 < k → k < cell → broken j P rule k ≡ false
+  -- "Steps, sites shifted, mirrorings, layout changes, cost are the definition's", "all 0 unless legal"
+  pub number : o .number ≡ 0
+  pub fields : o .fields ≡ pos rule ∷ pos cell ∷ cond (eqb rule 0) (numbers j P) (replicate 6 (pos 0))
+
+abbrev pub Demand2Of : Text → Text → Type 0
+Demand2Of job placement =
+    (j : Job) → readJob job ≡ accepted j
+    → (P : Placement) → readPlacement (length (j .cells)) placement ≡ poses P → Demand2 j P (score job placement)
+
+-- What Place writes, Score reads as legal, with the very numbers that Place gave.
+pub record Rescored (job : Text) (before end : Buffers) : Type 0 where
+  pub text : Text
+  pub given : List ℤ
+  pub fits : length text ≤ length (before .output)
+  pub written : end .output ≡ over text (before .output)
+  pub array : end .results ≡ over (pos 0 ∷ pos 0 ∷ given ++ (pos (length text) ∷ [])) (before .results)
+  pub number : score job text .number ≡ 0
+  pub fields : score job text .fields ≡ pos 0 ∷ pos 0 ∷ given
+
+abbrev pub RescoredOf : Text → ℕ → Buffers → Buffers → Type 0
+RescoredOf job returned before end = returned ≡ 0 → Rescored job before end

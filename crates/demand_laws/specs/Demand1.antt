@@ -1,0 +1,235 @@
+-- Demand 1 of Read, Score, Place and Fault line.
+use Prim.Native.Nat.{ℕ, zero, suc, _*_, _≤_, _<_}
+use mathlib.Core.Path.{_≡_, refl, sym, ap, _∙_, subst}
+use mathlib.Core.Logic.{_⊎_, inl, inr}
+use mathlib.Core.Bool.{Bool, true, false, cond}
+use mathlib.Core.List.{List, [], _∷_, _++_}
+use mathlib.Core.Option.{Option, none, some}
+use native.Mathlib.Omega.{arith}
+use borrow.Author.Tests.{lt-ltb, leb-true}
+use lib.ListN.{length, replicate}
+use lib.Dec.{ltb, leb, eqb}
+use lib.IntN.{ℤ, pos}
+use Rattle.definition.specs.Texts.{Text}
+use Rattle.definition.specs.Job.{Job, Reading, refused, accepted, readJob, firstFailing}
+use Rattle.definition.specs.Placement.{Placement, Poses, fault, poses, readPlacement, textOf}
+use Rattle.definition.specs.Rules.{Verdict, verdict}
+use Rattle.definition.specs.Moves.{Cheapest}
+use Rattle.definition.specs.Outcome.{Outcome, read, readOutcome, score, scoreOutcome, scorePoses, scoreFields, numbers}
+use Rattle.definition.specs.Outcome.{placeOutcome, placeAnswer, PlaceGives, storeNeeded, outputNeeded, bufferRefusal}
+use Rattle.definition.specs.Outcome.{refusal, Told, Buffers, lent, Met, Placed, over}
+use Rattle.definition.specs.FaultLine.{ToldFault, Part, ofJob, ofPlacement, wordsOf, faultLine}
+use Rattle.definition.specs.Demands.{isOneOf, Shape, readShape, scoreShape, placeShape, Demand1, FaultDemand1}
+use Rattle.definition_laws.specs.Sound.{Sound}
+use Rattle.job_laws.specs.Refused.{Refused, job-refused}
+use Rattle.job_laws.specs.Whole.{accepted-sound}
+use Rattle.text_laws.specs.Poses.{fault-within}
+use Rattle.text_laws.specs.Room.{legal-room}
+use Rattle.demand_laws.specs.Fair.{Fair, fair-demand1, refusal-fair}
+
+-- ---- the refusals of a job text
+
+-- what is so of 1 to 4 is so of every refusal of Read
+of-read : (T : ℕ → Type 0) {n line : ℕ} → Refused n line → T 1 → T 2 → T 3 → T 4 → T n
+of-read T {n} r a b c d = go n (r .some) (r .few)
+  where
+    go : (n : ℕ) → 0 < n → n ≤ 4 → T n
+    go zero h g = absurd (omega arith)
+    go (suc zero) h g = a
+    go (suc (suc zero)) h g = b
+    go (suc (suc (suc zero))) h g = c
+    go (suc (suc (suc (suc zero)))) h g = d
+    go (suc (suc (suc (suc (suc n))))) h g = absurd (omega arith)
+
+-- an operation that refuses as Read does, at its line and before any search
+pub record AsRead (shape : Shape) : Type 0 where
+  pub known : (n line : ℕ) → Refused n line → isOneOf (0 ∷ shape .refusals) n ≡ true
+  pub lines : (n line : ℕ) → Refused n line → isOneOf (shape .lined) n ≡ true
+  pub before-search : (n line : ℕ) → Refused n line → isOneOf (shape .searched) n ≡ false
+
+read-fair : (shape : Shape) → AsRead shape → (room : ℕ) (job : Text) (n line : ℕ) → readJob job ≡ refused n line
+    → Fair shape room (refusal (shape .fieldCount) n line)
+read-fair shape s room job n line e =
+    let r = job-refused job n line e in
+    refusal-fair shape room n line (s .known n line r) (s .lines n line r ∙ sym (lt-ltb 0 line (r .located))) (s .before-search n line r)
+
+read-as-read : AsRead readShape
+read-as-read = record {
+  known = λ n line r. of-read (λ n. isOneOf (0 ∷ readShape .refusals) n ≡ true) r refl refl refl refl;
+  lines = λ n line r. of-read (λ n. isOneOf (readShape .lined) n ≡ true) r refl refl refl refl;
+  before-search = λ n line r. refl;
+}
+
+score-as-read : AsRead scoreShape
+score-as-read = record {
+  known = λ n line r. of-read (λ n. isOneOf (0 ∷ scoreShape .refusals) n ≡ true) r refl refl refl refl;
+  lines = λ n line r. of-read (λ n. isOneOf (scoreShape .lined) n ≡ true) r refl refl refl refl;
+  before-search = λ n line r. refl;
+}
+
+place-as-read : AsRead placeShape
+place-as-read = record {
+  known = λ n line r. of-read (λ n. isOneOf (0 ∷ placeShape .refusals) n ≡ true) r refl refl refl refl;
+  lines = λ n line r. of-read (λ n. isOneOf (placeShape .lined) n ≡ true) r refl refl refl refl;
+  before-search = λ n line r. of-read (λ n. isOneOf (placeShape .searched) n ≡ false) r refl refl refl refl;
+}
+
+-- ---- Read and Score
+
+read-keeps : (job : Text) → Fair readShape 0 (read job)
+unfolding read
+read-keeps job = go (readJob job) refl
+  where
+    go : (r : Reading) → readJob job ≡ r → Fair readShape 0 (readOutcome r)
+    go (refused n line) e = read-fair readShape read-as-read 0 job n line e
+    go (accepted j) e = record {
+      numbered = refl;
+      located = refl;
+      counted = refl;
+      fits = omega arith;
+      no-fields = λ z. absurd (z refl);
+      no-text = λ z. refl;
+      searches = refl;
+    }
+
+fields-eight : (j : Job) (P : Placement) (v : Verdict) → length (scoreFields j P v) ≡ 8
+unfolding scoreFields numbers
+fields-eight j P v = eight (eqb (v .rule) 0)
+  where
+    eight : (t : Bool) → length (pos (v .rule) ∷ pos (v .cell) ∷ cond t (numbers j P) (replicate 6 (pos 0))) ≡ 8
+    eight true = refl
+    eight false = refl
+
+score-keeps : (job placement : Text) → Fair scoreShape 0 (score job placement)
+unfolding score
+score-keeps job placement = go (readJob job) refl
+  where
+    posed : (j : Job) (p : Poses) → readPlacement (length (j .cells)) placement ≡ p → Fair scoreShape 0 (scorePoses j p)
+    posed j (fault line) e =
+        let w = fault-within (length (j .cells)) placement line e in
+        refusal-fair scoreShape 0 5 line refl (sym (lt-ltb 0 line (omega (arith, w .0)))) refl
+    posed j (poses P) e = record {
+      numbered = refl;
+      located = refl;
+      counted = fields-eight j P (verdict j P);
+      fits = omega arith;
+      no-fields = λ z. absurd (z refl);
+      no-text = λ z. refl;
+      searches = refl;
+    }
+
+    go : (r : Reading) → readJob job ≡ r → Fair scoreShape 0 (scoreOutcome r placement)
+    go (refused n line) e = read-fair scoreShape score-as-read 0 job n line e
+    go (accepted j) e = posed j (readPlacement (length (j .cells)) placement) refl
+
+-- an operation that is lent results alone
+abbrev alone : List ℤ → Buffers
+alone results = lent [] [] results
+
+told-demand1 : {shape : Shape} {o : Outcome} {returned : ℕ} {results results′ : List ℤ} → shape .searched ≡ []
+    → Fair shape 0 o → Told o returned results results′ → Demand1 shape returned (alone results) (alone results′)
+unfolding over
+told-demand1 {shape} {o} s f t = fair-demand1 f (record {
+  told = t;
+  written = sym (ap (λ x. over x []) (empty (o .text) (f .fits)));
+  stored = sym (ap (λ x. cond x [] []) (f .searches ∙ ap (λ l. isOneOf l (o .number)) s));
+})
+  where
+    empty : (l : Text) → length l ≤ 0 → l ≡ []
+    empty [] h = refl
+    empty (x ∷ l) h = absurd (omega arith)
+
+pub read-demand1 : (job : Text) {returned : ℕ} {results results′ : List ℤ} → Told (read job) returned results results′
+    → Demand1 readShape returned (alone results) (alone results′)
+read-demand1 job t = told-demand1 refl (read-keeps job) t
+
+pub score-demand1 : (job placement : Text) {returned : ℕ} {results results′ : List ℤ}
+    → Told (score job placement) returned results results′
+    → Demand1 scoreShape returned (alone results) (alone results′)
+score-demand1 job placement t = told-demand1 refl (score-keeps job placement) t
+
+pub fault-demand1 : {job placement : Text} {returned : ℕ} {part part′ : List ℕ}
+    → ToldFault job placement returned part part′ → FaultDemand1 returned part part′
+fault-demand1 {job} {placement} t = record {
+  words = wordsOf (faultLine job placement);
+  numbered = ap (isOneOf (0 ∷ scoreShape .refusals)) (t .number) ∙ score-keeps job placement .numbered;
+  counted = three (faultLine job placement);
+  array = t .array;
+}
+  where
+    three : (p : Part) → length (wordsOf p) ≡ 3
+    three (ofJob i n) = refl
+    three (ofPlacement i n) = refl
+
+-- ---- Place
+
+fields-seven : (j : Job) (P : Placement) → length (placeAnswer j (some P) .fields) ≡ 7
+unfolding numbers
+fields-seven j P = refl
+
+-- 6, 7 or neither
+pub record Lent (j : Job) (words room n : ℕ) : Type 0 where
+  pub either : (n ≡ 0) ⊎ (n ≡ 6) ⊎ (n ≡ 7)
+  pub enough : n ≡ 0 → outputNeeded j ≤ room
+
+pub buffers : (j : Job) (words room : ℕ) → Lent j words room (bufferRefusal j words room)
+unfolding bufferRefusal firstFailing
+buffers j words room =
+    go (leb (storeNeeded j) words) (leb (outputNeeded j) room) (leb-true (outputNeeded j) room)
+  where
+    go : (s t : Bool) → (t ≡ true → outputNeeded j ≤ room)
+        → Lent j words room (cond s (cond t 0 7) 6)
+    go true true h = record { either = inl refl; enough = λ z. h refl }
+    go true false h = record { either = inr (inr refl); enough = λ z. absurd (omega arith) }
+    go false t h = record { either = inr (inl refl); enough = λ z. absurd (omega arith) }
+
+-- a text of a legal placement of an accepted job fits where 7 was not given
+place-keeps : {job : Text} {words room : ℕ} {o : Outcome} → PlaceGives job words room o → Fair placeShape room o
+unfolding placeOutcome
+place-keeps {job} {words} {room} {o} g = subst (Fair placeShape room) (sym (g .outcome)) (go (readJob job) refl)
+  where
+    answer : (j : Job) → Sound j → outputNeeded j ≤ room → (a : Option Placement) → Cheapest j a
+        → Fair placeShape room (placeAnswer j a)
+    answer j s h none c = record {
+      numbered = refl;
+      located = refl;
+      counted = refl;
+      fits = omega arith;
+      no-fields = λ z. refl;
+      no-text = λ z. refl;
+      searches = refl;
+    }
+    answer j s h (some P) c = record {
+      numbered = refl;
+      located = refl;
+      counted = fields-seven j P;
+      fits = omega (arith, legal-room j P s (c .legal P refl));
+      no-fields = λ z. absurd (z refl);
+      no-text = λ z. absurd (z refl);
+      searches = refl;
+    }
+
+    short : (n : ℕ) → (n ≡ 0) ⊎ (n ≡ 6) ⊎ (n ≡ 7) → (n ≡ 0 → ⊥) → Fair placeShape room (refusal 7 n 0)
+    short n (inl e) z = absurd (z e)
+    short n (inr (inl e)) z =
+        subst (λ m. Fair placeShape room (refusal 7 m 0)) (sym e) (refusal-fair placeShape room 6 0 refl refl refl)
+    short n (inr (inr e)) z =
+        subst (λ m. Fair placeShape room (refusal 7 m 0)) (sym e) (refusal-fair placeShape room 7 0 refl refl refl)
+
+    lent-enough : (j : Job) → readJob job ≡ accepted j → (n : ℕ) → bufferRefusal j words room ≡ n
+        → Fair placeShape room (elim n as (λ m. Outcome) [
+          | zero ↦ placeAnswer j (g .answer)
+          | suc m ↦ refusal 7 (suc m) 0
+        ])
+    lent-enough j r zero e =
+        answer j (accepted-sound job j r) (buffers j words room .enough e) (g .answer) (g .cheapest j r e)
+    lent-enough j r (suc n) e = short (suc n) (subst (λ m. (m ≡ 0) ⊎ (m ≡ 6) ⊎ (m ≡ 7)) e (buffers j words room .either))
+        (λ z. omega arith)
+
+    go : (r : Reading) → readJob job ≡ r → Fair placeShape room (placeOutcome r words room (g .answer))
+    go (refused n line) e = read-fair placeShape place-as-read room job n line e
+    go (accepted j) e = lent-enough j e (bufferRefusal j words room) refl
+
+pub place-demand1 : {job : Text} {returned : ℕ} {before end : Buffers} → Placed job returned before end
+    → Demand1 placeShape returned before end
+place-demand1 p = fair-demand1 (place-keeps (p .gives)) (p .met)

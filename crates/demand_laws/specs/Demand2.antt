@@ -1,0 +1,150 @@
+-- Demand 2 of Score, and that Score reads what Place writes as legal, with the very numbers that Place gave.
+use Prim.Native.Nat.{ℕ, zero, suc, _-_, _≤_, _<_}
+use mathlib.Core.Path.{_≡_, refl, sym, ap, ap₂, _∙_, subst}
+use mathlib.Core.Option.{Option, none, some}
+use mathlib.Core.Bool.{Bool, true, false, cond}
+use mathlib.Core.List.{List, [], _∷_, _++_}
+use native.Mathlib.Omega.{arith}
+use native.Mathlib.Decide.{ℕ-discrete}
+use lib.ListN.{length, replicate}
+use lib.Dec.{eqb}
+use lib.IntN.{pos}
+use Rattle.definition.specs.Texts.{Text}
+use Rattle.definition.specs.Job.{Job, Reading, refused, accepted, readJob}
+use Rattle.definition.specs.Placement.{Placement, Poses, poses, readPlacement, textOf}
+use Rattle.definition.specs.Rules.{Legal, rules, Verdict, verdict}
+use Rattle.definition.specs.Moves.{Cheapest}
+use Rattle.definition.specs.Outcome.{Outcome, answered, refusal, score, scoreOutcome, scorePoses, scoreFields, numbers}
+use Rattle.definition.specs.Outcome.{placeOutcome, placeAnswer, bufferRefusal, Buffers, Placed, over, resultsOf}
+use Rattle.definition.specs.Demands.{broken, Demand2, Demand2Of, Rescored, RescoredOf}
+use Rattle.definition_laws.specs.Agree.{verdict-legal}
+use Rattle.definition_laws.specs.FirstBroken.{ruleIn, Broken, first-broken, none-broken}
+use Rattle.job_laws.specs.Refused.{Refused, job-refused}
+use Rattle.job_laws.specs.Whole.{accepted-sound}
+use Rattle.text_laws.specs.Poses.{read-prints, read-printed}
+use Rattle.text_laws.specs.Room.{legal-room, legal-printable}
+use Rattle.demand_laws.specs.Demand1.{Lent, buffers}
+
+-- the verdict names a rule: which, and of which cell
+named : (j : Job) (P : Placement) → ¬ (verdict j P .rule ≡ 0) → Broken (rules j P) 0 (length (j .cells)) (verdict j P)
+unfolding verdict
+named j P z = first-broken (rules j P) 0 (length (j .cells)) z
+
+scored : (job placement : Text) (j : Job) (P : Placement) → readJob job ≡ accepted j
+    → readPlacement (length (j .cells)) placement ≡ poses P → score job placement ≡ scorePoses j (poses P)
+unfolding score
+scored job placement j P r e = ap (λ x. scoreOutcome x placement) r ∙ ap (scorePoses j) e
+
+module _ (j : Job) (P : Placement) (n : length P ≡ length (j .cells)) where
+  abbrev v : Verdict
+  v = verdict j P
+
+  no-cell : v .rule ≡ 0 → v .cell ≡ 0
+  unfolding verdict
+  no-cell e = none-broken (rules j P) 0 (length (j .cells)) e
+
+  -- where the rule and the cell stand, counted from 0
+  module _ (b : Broken (rules j P) 0 (length (j .cells)) v) where
+    rule-at : v .rule - 1 ≡ b .index
+    rule-at = let e = b .rule-is in omega arith
+
+    cell-at : v .cell - 1 ≡ b .cell
+    cell-at = let e = b .cell-is in omega arith
+
+    that-cell : broken j P (v .rule) (v .cell) ≡ true
+    that-cell = ap₂ (ruleIn (rules j P)) rule-at cell-at ∙ b .breaks
+
+    no-lower : (k : ℕ) → 0 < k → k < v .cell → broken j P (v .rule) k ≡ false
+    no-lower k h g =
+        ap (λ i. ruleIn (rules j P) i (k - 1)) rule-at ∙ b .lower (k - 1) (let e = b .cell-is in omega arith)
+
+  pub judged : Demand2 j P (scorePoses j (poses P))
+  unfolding scoreFields
+  judged = record {
+    rule = v .rule;
+    cell = v .cell;
+    legal-when = verdict-legal j P n;
+    no-cell = no-cell;
+    breaks = λ z.
+        let b = named j P z in
+        let e = b .rule-is in
+        let f = b .cell-is in
+        let w = b .within in
+        let t = b .there in
+        (omega arith, omega arith, omega arith, that-cell b);
+    first = λ r k h g i l.
+        let b = named j P (λ z. omega arith) in
+        let e = b .rule-is in
+        b .earlier (r - 1) (k - 1) (omega arith) (omega arith);
+    lowest = λ z k h g. no-lower (named j P z) k h g;
+    number = refl;
+    fields = refl;
+  }
+
+pub score-demand2 : (job placement : Text) → Demand2Of job placement
+score-demand2 job placement j r P e =
+    let p = read-prints (length (j .cells)) placement P e in
+    subst (Demand2 j P) (sym (scored job placement j P r e)) (judged j P (p .count))
+
+-- ---- what Place writes
+
+-- the text of a legal placement of an accepted job
+module _ (job : Text) (j : Job) (r : readJob job ≡ accepted j) (P : Placement) (l : Legal j P) where
+  read-back : readPlacement (length (j .cells)) (textOf P) ≡ poses P
+  read-back =
+      ap (λ n. readPlacement n (textOf P)) (sym (l .each))
+      ∙ read-printed P (legal-printable j P (accepted-sound job j r) l)
+
+  fine : verdict j P .rule ≡ 0
+  fine = verdict-legal j P (l .each) .1 l
+
+  pub rescored : score job (textOf P) ≡ answered (pos 0 ∷ pos 0 ∷ numbers j P)
+  unfolding scoreFields
+  rescored =
+      scored job (textOf P) j P r read-back
+      ∙ ap₂ (λ (x y : ℕ). answered (pos x ∷ pos y ∷ cond (eqb x 0) (numbers j P) (replicate 6 (pos 0)))) fine
+      (no-cell j P (l .each) fine)
+
+pub place-rescored : {job : Text} {returned : ℕ} {before end : Buffers} → Placed job returned before end
+    → RescoredOf job returned before end
+unfolding placeOutcome
+place-rescored {job} {returned} {before} {end} p z = go (readJob job) refl (p .gives .outcome)
+  where
+    words : ℕ
+    words = length (before .store)
+
+    room : ℕ
+    room = length (before .output)
+
+    o : Outcome
+    o = p .outcome
+
+    number : o .number ≡ 0
+    number = sym (p .met .told .number) ∙ z
+
+    answer : (j : Job) → readJob job ≡ accepted j → bufferRefusal j words room ≡ 0 → (a : Option Placement)
+        → Cheapest j a → o ≡ placeAnswer j a → Rescored job before end
+    answer j r b none c e = absurd (let n = ap (λ x. x .number) e in omega (arith, number))
+    answer j r b (some P) c e =
+        let s = rescored job j r P (c .legal P refl) in record {
+          text = textOf P;
+          given = numbers j P;
+          fits = omega (arith, legal-room j P (accepted-sound job j r) (c .legal P refl), buffers j words room .enough b);
+          written = p .met .written ∙ ap (λ x. over (x .text) (before .output)) e;
+          array = p .met .told .array ∙ ap (λ x. over (resultsOf x) (before .results)) e;
+          number = ap (λ x. x .number) s;
+          fields = ap (λ x. x .fields) s;
+        }
+
+    lent-enough : (j : Job) → readJob job ≡ accepted j → (n : ℕ) → bufferRefusal j words room ≡ n
+        → o ≡ (elim n as (λ m. Outcome) [
+          | zero ↦ placeAnswer j (p .gives .answer)
+          | suc m ↦ refusal 7 (suc m) 0
+        ]) → Rescored job before end
+    lent-enough j r zero b e = answer j r b (p .gives .answer) (p .gives .cheapest j r b) e
+    lent-enough j r (suc n) b e = absurd (let q = ap (λ x. x .number) e in omega (arith, number))
+
+    go : (x : Reading) → readJob job ≡ x → o ≡ placeOutcome x words room (p .gives .answer) → Rescored job before end
+    go (refused n line) r e =
+        absurd (let q = ap (λ x. x .number) e in omega (arith, number, job-refused job n line r .some))
+    go (accepted j) r e = lent-enough j r (bufferRefusal j words room) refl e

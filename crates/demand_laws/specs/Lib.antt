@@ -1,0 +1,3 @@
+pub mod Fair
+pub mod Demand1
+pub mod Demand2

@@ -1,0 +1,1 @@
+// Theory only: what the operations give meets the demands.
