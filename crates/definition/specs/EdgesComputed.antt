@@ -34,7 +34,7 @@ AllComputed (scoring job placement Expected ∷ cs) = Expected (score (bytes job
 AllComputed (placing job Expected ∷ cs) = AllComputed cs
 
 infixr 4 _&_
-_&_ : {A B : Type 0} → A → B → A × B
+unfoldable pub _&_ : {A B : Type 0} → A → B → A × B
 a & b = (a, b)
 
 pub edges-computed : AllComputed edges

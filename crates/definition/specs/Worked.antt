@@ -1,0 +1,134 @@
+-- Worked cases: whole results of Score, and small facts of buffers, moves and Fault line. Their values were worked out
+-- from document 01 by a program apart from these definitions; here they are computed, so that a definition that is
+-- wrong in a mark, a layout, a weight, a row, a refusal or a short array is refused in this crate.
+use Prim.Native.Nat.{ℕ}
+use Prim.Native.String.{String, _++_}
+use mathlib.Core.Path.{_≡_, refl}
+use mathlib.Core.Bool.{true}
+use mathlib.Core.List.{List, [], _∷_}
+use mathlib.Core.Option.{none}
+use lib.IntN.{ℤ, pos}
+use Rattle.definition.specs.Texts.{bytes}
+use Rattle.definition.specs.Job.{Job, Reading, refused, accepted, readJob, maxCells, maxTall}
+use Rattle.definition.specs.Moves.{right, changeBy}
+use Rattle.definition.specs.Outcome.{Outcome, resultsOf, over, bufferRefusal, placeOutcome}
+use Rattle.definition.specs.FaultLine.{ofJob, ofPlacement, partAt, faultLine}
+use Rattle.definition.specs.Edges.{Case, scoring, fiveSites}
+use Rattle.definition.specs.EdgesComputed.{opened, AllComputed, _&_}
+
+-- ---- whole results of Score
+
+abbrev pub giving : List ℤ → Outcome → Type 0
+giving results o = resultsOf o ≡ results
+
+-- a refusal, with its eight fields
+abbrev pub refusingAt : ℕ → ℕ → Outcome → Type 0
+refusingAt number line =
+    giving (pos number ∷ pos line ∷ pos 0 ∷ pos 0 ∷ pos 0 ∷ pos 0 ∷ pos 0 ∷ pos 0 ∷ pos 0 ∷ pos 0 ∷ [])
+
+-- a broken rule and its lowest cell
+abbrev pub naming : ℕ → ℕ → Outcome → Type 0
+naming rule cell =
+    giving (pos 0 ∷ pos 0 ∷ pos rule ∷ pos cell ∷ pos 0 ∷ pos 0 ∷ pos 0 ∷ pos 0 ∷ pos 0 ∷ pos 0 ∷ [])
+
+-- two rows, a tall cell, all four weights
+abbrev pub rich : String
+rich =
+    "J,2,30,7,1,1000,100,10,1\nC,0,2,1,2,3,1,2,3,4,4,5,6,7,8\nC,1,2,0,1,2,1,1,7,9\n"
+    ++ "C,2,6,1,1,3,3,4,5,9,5,6,7,8\nC,0,12,1,1,2,9,3,1,1\nC,1,15,0,1,2,7,6,2,2\n"
+
+-- a cell in row 0 and two in row 1 at one site, with R 1 and with R 0
+abbrev pub rowOneCells : String
+rowOneCells = "C,0,0,0,1,2,1,1,1,1\nC,1,5,0,1,2,1,1,1,1\nC,1,5,0,1,2,1,1,1,1\n"
+
+-- one cell
+abbrev pub oneCell : String
+oneCell = "J,1,20,1,1,100,1,100,50\nC,0,2,1,1,4,3,3,2,2\n"
+
+abbrev pub worked : List Case
+worked =
+    -- all weights, both rows, a tall cell mirrored, layout 1
+    scoring rich "3,1,1\n4,0,0\n9,0,1\n12,0,0\n14,0,0\n"
+    (giving (pos 0 ∷ pos 0 ∷ pos 0 ∷ pos 0 ∷ pos 5 ∷ pos 7 ∷ pos 2 ∷ pos 1 ∷ pos 5721 ∷ pos 100 ∷ []))
+    -- a mark on a cell that may not be mirrored: rule 1, cell 2
+    ∷ scoring rich "3,1,1\n4,0,1\n9,0,1\n12,0,0\n14,0,0\n" (naming 1 2)
+    -- a layout number equal to the count
+    ∷ scoring rich "3,1,1\n4,1,0\n9,0,1\n12,0,0\n14,0,0\n" (naming 1 2)
+    -- an overlap in row 1 alone: rule 4, of cells 3 and 5
+    ∷ scoring rich "3,1,1\n4,0,0\n9,0,1\n12,0,0\n11,0,0\n" (naming 4 3)
+    -- one empty site in row 1 between cells that are exchanged: rule 5, of cells 2 and 3
+    ∷ scoring ("J,2,30,7,1,1,1,1,1\n" ++ rowOneCells) "0,0,0\n8,0,0\n5,0,0\n" (naming 5 2)
+    -- exchanged in row 1 with R 0: rule 6
+    ∷ scoring ("J,2,30,7,0,1,1,1,1\n" ++ rowOneCells) "0,0,0\n7,0,0\n5,0,0\n" (naming 6 2)
+    -- the last line has no line feed
+    ∷ scoring "J,1,20,1,1,100,1,100,50\nC,0,2,1,1,4,3,3,2,2" "" (refusingAt 1 2)
+    -- a leading zero
+    ∷ scoring "J,1,20,1,1,100,1,100,50\nC,0,02,1,1,4,3,3,2,2\n" "" (refusingAt 1 2)
+    -- five digits
+    ∷ scoring "J,1,20,1,1,100,1,100,50\nC,0,10000,1,1,4,3,3,2,2\n" "" (refusingAt 1 2)
+    -- D 8
+    ∷ scoring "J,1,20,8,1,100,1,100,50\n" "" (refusingAt 2 1)
+    -- a given site that falls in row 1, by a tall cell
+    ∷ scoring ("J,2,20,1,1,1,1,1,1\nC,1,5,0,1,2,1,1,1,1\n"
+    ++ "C,0,1,0,1,2,1,1,1,1\nC,2,4,0,1,2,1,1,1,1,1,1,1,1\n") "" (refusingAt 4 4)
+    -- an empty job
+    ∷ scoring "" "2,0,1\n" (refusingAt 1 1)
+    -- a surplus line
+    ∷ scoring oneCell "2,0,0\n6,0,0\n" (refusingAt 5 2)
+    -- a missing line
+    ∷ scoring (oneCell ++ "C,0,2,1,1,4,3,3,2,2\n") "2,0,0\n" (refusingAt 5 2)
+    ∷ []
+
+pub worked-hold : AllComputed worked
+unfolding opened _&_
+worked-hold =
+    refl & refl & refl & refl & refl & refl & refl & refl & refl & refl & refl & refl & refl & refl & tt
+
+-- ---- buffers, moves, limits
+
+-- "as far as it reaches; its entries after them are untouched"
+pub longer-array : over {A = ℕ} (1 ∷ 2 ∷ []) (7 ∷ 8 ∷ 9 ∷ []) ≡ (1 ∷ 2 ∷ 9 ∷ [])
+unfolding over
+longer-array = refl
+
+pub shorter-array : over {A = ℕ} (1 ∷ 2 ∷ 3 ∷ []) (7 ∷ 8 ∷ []) ≡ (1 ∷ 2 ∷ [])
+unfolding over
+shorter-array = refl
+
+-- "Store 1,048,575 words: 6. Two cells, 17 output bytes: 7; 18 pass."
+abbrev twoCells : Reading → ℕ → ℕ → ℕ
+twoCells (refused n line) words room = 0
+twoCells (accepted j) words room = bufferRefusal j words room
+
+pub buffers-tried :
+    (twoCells (readJob (bytes (oneCell ++ "C,0,6,0,1,4,3,3,2,2\n"))) 1048575 17 ≡ 6)
+    × (twoCells (readJob (bytes (oneCell ++ "C,0,6,0,1,4,3,3,2,2\n"))) 1048576 17 ≡ 7)
+    × (twoCells (readJob (bytes (oneCell ++ "C,0,6,0,1,4,3,3,2,2\n"))) 1048576 18 ≡ 0)
+unfolding opened bufferRefusal
+buffers-tried = (refl, refl, refl)
+
+-- "After 8 or an answer the whole store is zero."
+pub zero-after-eight : placeOutcome (readJob (bytes fiveSites)) 1048576 18 none .zeroed ≡ true
+unfolding opened bufferRefusal placeOutcome
+zero-after-eight = refl
+
+-- "A shift [..] right at site 9,999 [..] has no effect"
+pub no-further : changeBy right (record { site = 9999; layout = 0; mark = 0 }) .site ≡ 9999
+unfolding changeBy
+no-further = refl
+
+pub limits : (maxCells ≡ 64) × (maxTall ≡ 24)
+limits = (refl, refl)
+
+-- ---- Fault line
+
+-- a bad line of the job; a bad line of the placement; "A missing line, or no fault, gives the empty part at the
+-- placement's end. A missing first job line gives the empty job text."
+pub faults :
+    (faultLine (bytes "J,1,20,8,1,100,1,100,50\n") (bytes "2,0,0\n") ≡ ofJob 0 24)
+    × (faultLine (bytes oneCell) (bytes "2,0,0\n6,0,0") ≡ ofPlacement 6 5)
+    × (faultLine (bytes (oneCell ++ "C,0,6,0,1,4,3,3,2,2\n")) (bytes "2,0,0\n") ≡ ofPlacement 6 0)
+    × (faultLine (bytes oneCell) (bytes "2,0,0\n") ≡ ofPlacement 6 0)
+    × (faultLine [] (bytes "2,0,1\n") ≡ ofJob 0 0)
+unfolding opened faultLine partAt
+faults = (refl, refl, refl, refl, refl)
