@@ -4,3 +4,4 @@ pub mod FirstBroken
 pub mod Search
 pub mod PlaceClaim
 pub mod EdgesHold
+pub mod AtWork
