@@ -11,12 +11,12 @@ use Rattle.definition.specs.Texts.{Text}
 use Rattle.definition.specs.Job as paper
 use Rattle.definition.specs.Job.{refused, accepted, readJob, firstFailing}
 use Rattle.definition.specs.Placement as text
-use Rattle.definition.specs.Placement.{textOf}
+use Rattle.definition.specs.Placement.{Printable, textOf}
 use Rattle.definition.specs.Moves.{Cheapest}
 use Rattle.definition.specs.Outcome.{storeNeeded, outputNeeded}
 use Rattle.definition.specs.Outcome.{Outcome, over, refusal, placeAnswer, placeOutcome}
 use Rattle.definition.specs.Outcome.{bufferRefusal, Buffers, lent, Placed}
-use Rattle.text_laws.specs.Poses.{Printable, Each}
+use Rattle.text_laws.specs.Poses.{Each}
 use Rattle.text_laws.specs.Room.{Narrow, legal-room, legal-printable, legal-narrow, at-each}
 use Rattle.job.specs.declared.Job.{Job}
 use Rattle.job.specs.declared.Placement.{Placement}

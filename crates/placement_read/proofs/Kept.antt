@@ -8,7 +8,7 @@ use native.Mathlib.Numerals.{add-one}
 use lib.ListN.{length, getD, set, take, replicate, length-set, length-replicate}
 use lib.Seq.{take-suc-set, getD-set-same, getD-set-other}
 use Rattle.definition.specs.Job.{maxCells}
-use Rattle.text_laws.specs.Poses.{Printable}
+use Rattle.definition.specs.Placement.{Printable}
 use Rattle.job.specs.Value.{emptyPose, emptyPlacement, poseOf, placementOf}
 use Rattle.job.specs.declared.Pose.{Pose}
 use Rattle.job.specs.declared.Placement.{Placement}

@@ -8,8 +8,7 @@ use lib.ListN.{length, drop}
 use Rattle.definition.specs.Texts.{Text, linesOf}
 use Rattle.definition.specs.Job.{maxCells}
 use Rattle.definition.specs.Placement as paper
-use Rattle.definition.specs.Placement.{Poses, fault, poses, isPose, readPlacement}
-use Rattle.text_laws.specs.Poses.{Printable}
+use Rattle.definition.specs.Placement.{Printable, Poses, fault, poses, isPose, readPlacement}
 use Rattle.text_scan.specs.Line.{firstLine}
 use Rattle.job.specs.Value.{poseAt, poseOf, placementOf}
 use Rattle.job.specs.declared.Pose.{Pose}

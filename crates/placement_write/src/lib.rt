@@ -3,9 +3,9 @@ ghost use mathlib.Core.Path.{_≡_};
 ghost use Prim.Native.Nat.{_+_, _≤_};
 ghost use lib.ListN.{length};
 ghost use Rattle.definition.specs.Job.{maxCells};
-ghost use Rattle.definition.specs.Placement.{lineOf, textOf};
+ghost use Rattle.definition.specs.Placement.{Printable, lineOf, textOf};
 ghost use Rattle.definition.specs.Outcome.{over};
-ghost use Rattle.text_laws.specs.Poses.{Printable, Each};
+ghost use Rattle.text_laws.specs.Poses.{Each};
 ghost use Rattle.text_write.specs.Put.{Wrote};
 ghost use Rattle.job.specs.Value.{poseOf, placementOf};
 use job::Placement;
@@ -14,7 +14,7 @@ use text_write::put_field;
 
 // The line of one cell.
 fn put_pose(output: &mut [u8], at: usize, pose: Pose) -> usize
-    requires { ⌜ (at + length (lineOf (poseOf pose)) ≤ length (now output)) × Printable (poseOf pose) ⌝ }
+    requires { ⌜ at + length (lineOf (poseOf pose)) ≤ length (now output) ⌝ }
     ensures { λ r. ⌜ Wrote (lineOf (poseOf pose)) (now (output .entry)) at (now (output .exit)) r ⌝ }
 {
     let p = put_field(&mut *output, at, pose.site, b',');

@@ -1,18 +1,20 @@
--- A number and its digits: what is printed reads back, and what reads is what
--- would be printed. For numbers up to 9,999.
+-- A number and its digits: what is printed reads back, for every number; and what reads is what would be printed,
+-- for numbers up to 9,999, which a text may hold.
 use Prim.Native.Nat.{ℕ, zero, suc, _+_, _*_, _-_, _/_, _%_, _^_, _<_, _≤_}
 use mathlib.Core.Path.{_≡_, refl, sym, ap, _∙_}
 use mathlib.Core.Bool.{Bool, true, false, not, _&&_, _||_, false≢true, or-true, and-eq-true-iff}
 use mathlib.Core.List.{List, [], _∷_, _++_, append-assoc, append-nil}
 use mathlib.Core.Logic.{_⊎_, inl, inr, ⊎-elim}
 use native.Mathlib.Omega.{arith}
-use native.Mathlib.Nat.{pow-suc, pow-succ', one-le-pow, mul-le-mul-left, mul-le-mul-right, mul-assoc, zero-add}
+use native.Mathlib.Nat.{pow-suc, pow-succ', one-le-pow, mul-le-mul-left, mul-le-mul-right, mul-assoc}
 use native.Mathlib.Decide.{decLt}
 use lib.ListN.{length, getD, length-append, List·getD-append}
 use lib.Dec.{leb, eqb}
-use borrow.Author.Tests.{lt-ltb, le-ltb, leb-true, le-leb, eqb-true, eq-eqb, ne-eqb, eqb-false}
+use lib.IntN.{ℤ, pos, negsuc, natAbs}
+use lib.Signed.{ltZ}
+use borrow.Author.Tests.{lt-ltb, le-ltb, ltb-true, leb-true, le-leb, eqb-true, eq-eqb, ne-eqb, eqb-false}
 use Rattle.definition.specs.Lists.{all}
-use Rattle.definition.specs.Texts.{Text, isDigit, isNumber, within, value, valueFrom, digits, digitsIn}
+use Rattle.definition.specs.Texts.{Text, isDigit, isNumber, within, value, valueFrom, digits, digitsIn, minus, signed}
 
 -- ---- tests
 
@@ -76,15 +78,65 @@ number-is f n =
     go (inl e) = rw (eq-eqb (length f) 1 e)
     go (inr d) = rw (ne-eqb (getD f 0 0) 48 d) (or-true (eqb (length f) 1))
 
--- ---- printing, a digit at a time
+-- ---- digits, as many as a number needs
 
-pub one-digit : (k n : ℕ) → n < 10 → digitsIn (suc k) n ≡ (48 + n) ∷ []
+-- a single digit, or the digits before the last and the last, within a bound on their count
+one-in : (k n : ℕ) → n < 10 → digitsIn (suc k) n ≡ (48 + n) ∷ []
 unfolding digitsIn
-one-digit k n h = rw (lt-ltb n 10 h)
+one-in k n h = rw (lt-ltb n 10 h)
 
-pub more-digits : (k n : ℕ) → 10 ≤ n → digitsIn (suc k) n ≡ digitsIn k (n / 10) ++ ((48 + n % 10) ∷ [])
+more-in : (k n : ℕ) → 10 ≤ n → digitsIn (suc k) n ≡ digitsIn k (n / 10) ++ ((48 + n % 10) ∷ [])
 unfolding digitsIn
-more-digits k n h = rw (le-ltb n 10 h)
+more-in k n h = rw (le-ltb n 10 h)
+
+power-above : (n : ℕ) → n < 10 ^ suc n
+power-above zero = omega arith
+power-above (suc n) = omega (arith, power-above n, pow-suc 10 (suc n))
+
+-- two bounds that suffice give the same digits
+same-in : (k m n : ℕ) → n < 10 ^ suc k → n < 10 ^ suc m → digitsIn (suc k) n ≡ digitsIn (suc m) n
+same-in zero m n g h = one-in 0 n (omega arith) ∙ sym (one-in m n (omega arith))
+same-in (suc k) zero n g h = one-in (suc k) n (omega arith) ∙ sym (one-in 0 n (omega arith))
+same-in (suc k) (suc m) n g h = go (decLt n 10) (same-in k m)
+  where
+    go : Dec (n < 10) → ((i : ℕ) → i < 10 ^ suc k → i < 10 ^ suc m → digitsIn (suc k) i ≡ digitsIn (suc m) i)
+        → digitsIn (suc (suc k)) n ≡ digitsIn (suc (suc m)) n
+    go (yes l) f = one-in (suc k) n l ∙ sym (one-in (suc m) n l)
+    go (no l) f =
+        more-in (suc k) n (omega arith)
+        ∙ ap (λ (t : Text). t ++ ((48 + n % 10) ∷ []))
+        (f (n / 10) (omega (arith, pow-suc 10 (suc k))) (omega (arith, pow-suc 10 (suc m))))
+        ∙ sym (more-in (suc m) n (omega arith))
+
+-- a number below 10 ^ room has at most room digits, so a bound of room leaves none out
+pub digits-in : (room n : ℕ) → 0 < room → n < 10 ^ room → digitsIn room n ≡ digits n
+unfolding digits
+digits-in zero n g h = absurd (omega arith)
+digits-in (suc k) n g h = same-in k n n h (power-above n)
+
+pub one-digit : (n : ℕ) → n < 10 → digits n ≡ (48 + n) ∷ []
+unfolding digits
+one-digit n h = one-in n n h
+
+pub more-digits : (n : ℕ) → 10 ≤ n → digits n ≡ digits (n / 10) ++ ((48 + n % 10) ∷ [])
+unfolding digits
+more-digits zero h = absurd (omega arith)
+more-digits (suc j) h =
+    more-in (suc j) (suc j) h
+    ∙ ap (λ (t : Text). t ++ ((48 + suc j % 10) ∷ []))
+    (digits-in (suc j) (suc j / 10) (omega arith) (omega (arith, power-above j)))
+
+-- ---- a signed number, on each side of zero
+
+pub signed-below : (z : ℤ) → ltZ z (pos 0) ≡ true → signed z ≡ minus ∷ digits (natAbs z)
+unfolding signed
+signed-below (pos n) t = absurd (omega (arith, ltb-true n 0 t))
+signed-below (negsuc n) t = refl
+
+pub signed-from : (z : ℤ) → ltZ z (pos 0) ≡ false → signed z ≡ digits (natAbs z)
+unfolding signed
+signed-from (pos n) t = refl
+signed-from (negsuc n) t = absurd (false≢true (sym t))
 
 -- ---- what is printed is a number in its form, and reads as what was printed
 
@@ -129,20 +181,29 @@ more-stands k n f h s =
       reads = value-snoc 0 f (48 + n % 10) ∙ rw (s .reads) (omega arith);
     }
 
-stands : (k n : ℕ) → n < 10 ^ suc k → Stands (suc k) n (digitsIn (suc k) n)
-stands zero n h = rw (one-digit 0 n (omega arith)) (one-stands 0 n (omega arith))
+stands : (k n : ℕ) → n < 10 ^ suc k → Stands (suc k) n (digits n)
+stands zero n h = rw (one-digit n (omega arith)) (one-stands 0 n (omega arith))
 stands (suc k) n h = go (decLt n 10) (stands k)
   where
-    go : Dec (n < 10) → ((m : ℕ) → m < 10 ^ suc k → Stands (suc k) m (digitsIn (suc k) m))
-        → Stands (suc (suc k)) n (digitsIn (suc (suc k)) n)
-    go (yes l) f = rw (one-digit (suc k) n l) (one-stands (suc k) n l)
+    go : Dec (n < 10) → ((m : ℕ) → m < 10 ^ suc k → Stands (suc k) m (digits m)) → Stands (suc (suc k)) n (digits n)
+    go (yes l) f = rw (one-digit n l) (one-stands (suc k) n l)
     go (no l) f =
-        rw (more-digits (suc k) n (omega arith))
-        (more-stands (suc k) n (digitsIn (suc k) (n / 10)) (omega arith)
-        (f (n / 10) (omega (arith, pow-suc 10 (suc k)))))
+        rw (more-digits n (omega arith))
+        (more-stands (suc k) n (digits (n / 10)) (omega arith) (f (n / 10) (omega (arith, pow-suc 10 (suc k)))))
 
-pub value-digits : (n : ℕ) → n ≤ 9999 → value (digits n) ≡ n
-value-digits n h = stands 3 n (omega arith) .reads
+pub value-digits : (n : ℕ) → value (digits n) ≡ n
+value-digits n = stands n n (power-above n) .reads
+
+-- two different numbers never share their digits
+pub digits-tell : (m n : ℕ) → digits m ≡ digits n → m ≡ n
+digits-tell m n e = sym (value-digits m) ∙ ap value e ∙ value-digits n
+
+pub digits-long : (k n : ℕ) → 0 < k → n < 10 ^ k → length (digits n) ≤ k
+digits-long zero n g h = absurd (omega arith)
+digits-long (suc k) n g h = stands k n h .few
+
+pub digits-each : (n : ℕ) → all isDigit (digits n) ≡ true
+digits-each n = stands n n (power-above n) .each
 
 pub number-digits : (n : ℕ) → n ≤ 9999 → Number (digits n)
 number-digits n h = let s = stands 3 n (omega arith) in
@@ -154,41 +215,37 @@ digits-number n h = number-is (digits n) (number-digits n h)
 -- ---- a number in its form is the print of its value
 
 -- digits after a number that is not 0 are appended to its print
-digits-after : (k v : ℕ) (xs : Text) → 1 ≤ v → all isDigit xs ≡ true
-    → digitsIn (length xs + k) (valueFrom v xs) ≡ digitsIn k v ++ xs
+digits-after : (v : ℕ) (xs : Text) → 1 ≤ v → all isDigit xs ≡ true → digits (valueFrom v xs) ≡ digits v ++ xs
 unfolding valueFrom
-digits-after k v [] h e = rw (zero-add k) (sym (append-nil (digitsIn k v)))
-digits-after k v (b ∷ xs) h e =
+digits-after v [] h e = sym (append-nil (digits v))
+digits-after v (b ∷ xs) h e =
     let p = and-eq-true-iff (isDigit b) (all isDigit xs) .0 e in
     let d = is-digit b (p .0) in
     let w : ℕ = v * 10 + (b - 48) in
     let q : w / 10 ≡ v = omega arith in
     let r : 48 + w % 10 ≡ b = omega arith in
-    let one : digitsIn (suc k) w ≡ digitsIn k v ++ (b ∷ []) = more-digits k w (omega arith) ∙ rw (q, r) in
-    let n : suc (length xs) + k ≡ length xs + suc k = omega arith in
-    rw n (digits-after (suc k) w xs (omega arith) (p .1) ∙ rw one (append-assoc (digitsIn k v) (b ∷ []) xs))
+    let one : digits w ≡ digits v ++ (b ∷ []) = more-digits w (omega arith) ∙ rw (q, r) in
+    digits-after w xs (omega arith) (p .1) ∙ rw one (append-assoc (digits v) (b ∷ []) xs)
 
 pub digits-value : (f : Text) → isNumber f ≡ true → digits (value f) ≡ f
 unfolding valueFrom
 digits-value f e = go f (is-number f e)
   where
-    one : (k a : ℕ) → isDigit a ≡ true → digitsIn (suc k) (0 + (a - 48)) ≡ a ∷ []
-    one k a e =
+    one : (a : ℕ) → isDigit a ≡ true → digits (0 + (a - 48)) ≡ a ∷ []
+    one a e =
         let d = is-digit a e in
         let r : 48 + (0 + (a - 48)) ≡ a = omega arith in
-        one-digit k (0 + (a - 48)) (omega arith) ∙ rw r
+        one-digit (0 + (a - 48)) (omega arith) ∙ rw r
 
     go : (f : Text) → Number f → digits (value f) ≡ f
     go [] n = absurd (omega (arith, n .some))
-    go (a ∷ []) n = one 3 a (and-eq-true-iff (isDigit a) true .0 (n .each) .0)
+    go (a ∷ []) n = one a (and-eq-true-iff (isDigit a) true .0 (n .each) .0)
     go (a ∷ b ∷ xs) n =
         let p = and-eq-true-iff (isDigit a) (all isDigit (b ∷ xs)) .0 (n .each) in
         let d = is-digit a (p .0) in
         let start : a ≡ 48 → ⊥ = ⊎-elim (λ l. λ e. omega arith) (λ h. h) (n .lead) in
         let high : 1 ≤ 0 + (a - 48) = go-high a (d .0) start in
-        let k : length (b ∷ xs) + suc (2 - length xs) ≡ 4 = omega (arith, n .few) in
-        let all4 = rw k at (digits-after (suc (2 - length xs)) (0 + (a - 48)) (b ∷ xs) high (p .1)) in
-        all4 ∙ ap (λ (t : Text). t ++ (b ∷ xs)) (one (2 - length xs) a (p .0))
+        digits-after (0 + (a - 48)) (b ∷ xs) high (p .1) ∙ ap (λ (t : Text). t ++ (b ∷ xs)) (one a (p .0))
       where
         go-high : (a : ℕ) → 48 ≤ a → (a ≡ 48 → ⊥) → 1 ≤ 0 + (a - 48)
         go-high a h d = omega (arith, d)

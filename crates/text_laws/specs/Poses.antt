@@ -1,27 +1,21 @@
--- Printing a placement and reading it: each undoes the other, for values from 0 to
--- 9,999. So two placements never share a text.
+-- Printing a placement and reading it: each undoes the other, for values from 0 to 9,999. Two placements never share
+-- a text, whatever their values.
 use Prim.Native.Nat.{ℕ, zero, suc, _+_, _≤_}
 use mathlib.Core.Path.{_≡_, refl, sym, ap, _∙_}
 use mathlib.Core.Bool.{Bool, true, false, _&&_, false≢true, and-eq-true-iff}
 use mathlib.Core.List.{List, [], _∷_, _++_, append-assoc, append-nil, map}
 use native.Mathlib.Omega.{arith}
-use lib.ListN.{length, getD, length-map}
+use lib.ListN.{length, getD}
 use lib.Dec.{eqb}
 use borrow.Author.Tests.{eqb-true}
 use Rattle.definition.specs.Lists.{all}
 use Rattle.definition.specs.Texts.{Text, lineFeed, comma, linesOf, fieldsOf, ended, isNumber, value, digits}
-use Rattle.definition.specs.Placement.{Pose, Placement, Poses, fault, poses, lineOf, textOf}
+use Rattle.definition.specs.Placement.{Pose, Printable, Placement, Poses, fault, poses, lineOf, textOf}
 use Rattle.definition.specs.Placement.{isPose, poseOf, withPose, readPoses, readPlacement}
-use Rattle.text_laws.specs.Numbers.{number-digits, digits-number, value-digits, digits-value, value-small}
+use Rattle.text_laws.specs.Numbers.{digits-each, digits-number, value-digits, digits-value, value-small}
 use Rattle.text_laws.specs.Lines.{Unbroken, Lines, none, last, line, lines, first-line}
 use Rattle.text_laws.specs.Lines.{ended-line, unended, digits-unbroken, unbroken-append}
 use Rattle.text_laws.specs.Lines.{field-then, field-last, joined, fields-joined}
-
--- "A placement gives each cell a site, a layout number and a mirror mark, each from 0 to 9,999."
-pub record Printable (p : Pose) : Type 0 where
-  pub site : p .site ≤ 9999
-  pub layout : p .layout ≤ 9999
-  pub mark : p .mark ≤ 9999
 
 abbrev pub Each : (Pose → Type 0) → Placement → Type 0
 Each S [] = Unit {0}
@@ -38,30 +32,29 @@ line-body p rest = simp append-assoc
 line-is : (p : Pose) → lineOf p ≡ body p ++ (lineFeed ∷ [])
 line-is p = sym (append-nil (lineOf p)) ∙ line-body p []
 
-module _ (p : Pose) (h : Printable p) where
+module _ (p : Pose) where
   body-unbroken : Unbroken (body p)
   body-unbroken =
       unbroken-append (digits (p .site)) (comma ∷ (digits (p .layout) ++ (comma ∷ digits (p .mark))))
-      (digits-unbroken (digits (p .site)) (number-digits (p .site) (h .site) .each)) (
+      (digits-unbroken (digits (p .site)) (digits-each (p .site))) (
         λ e. omega arith,
         unbroken-append (digits (p .layout)) (comma ∷ digits (p .mark))
-            (digits-unbroken (digits (p .layout)) (number-digits (p .layout) (h .layout) .each))
-            (λ e. omega arith, digits-unbroken (digits (p .mark)) (number-digits (p .mark) (h .mark) .each)),
+            (digits-unbroken (digits (p .layout)) (digits-each (p .layout)))
+            (λ e. omega arith, digits-unbroken (digits (p .mark)) (digits-each (p .mark))),
       )
 
   fields-line : fieldsOf (lineOf p) ≡ digits (p .site) ∷ digits (p .layout) ∷ digits (p .mark) ∷ []
   fields-line =
       field-then (digits (p .site)) (digits (p .layout) ++ (comma ∷ (digits (p .mark) ++ (lineFeed ∷ []))))
-      (number-digits (p .site) (h .site) .each)
+      (digits-each (p .site))
       ∙ ap (λ (fs : List Text). digits (p .site) ∷ fs)
-      (field-then (digits (p .layout)) (digits (p .mark) ++ (lineFeed ∷ []))
-      (number-digits (p .layout) (h .layout) .each)
+      (field-then (digits (p .layout)) (digits (p .mark) ++ (lineFeed ∷ [])) (digits-each (p .layout))
       ∙ ap (λ (fs : List Text). digits (p .layout) ∷ fs)
-      (field-last (digits (p .mark)) [] (number-digits (p .mark) (h .mark) .each)))
+      (field-last (digits (p .mark)) [] (digits-each (p .mark))))
 
-  line-good : isPose (lineOf p) ≡ true
+  line-good : Printable p → isPose (lineOf p) ≡ true
   unfolding isPose
-  line-good =
+  line-good h =
       let e : ended (lineOf p) ≡ true = ap ended (line-is p) ∙ ended-line (body p) in
       rw (
         e,
@@ -73,13 +66,7 @@ module _ (p : Pose) (h : Printable p) where
 
   line-pose : poseOf (lineOf p) ≡ p
   unfolding poseOf
-  line-pose =
-      rw (
-        fields-line,
-        value-digits (p .site) (h .site),
-        value-digits (p .layout) (h .layout),
-        value-digits (p .mark) (h .mark),
-      )
+  line-pose = rw (fields-line, value-digits (p .site), value-digits (p .layout), value-digits (p .mark))
 
 -- what a good line says prints as the line
 pub record Said (l : Text) (p : Pose) : Type 0 where
@@ -142,32 +129,34 @@ read-bad at due l ls e = go (isPose l) e
 
 -- ---- "printing a placement and reading it gives it back"
 
-lines-printed : (P : Placement) → Each Printable P → linesOf (textOf P) ≡ map lineOf P
+lines-printed : (P : Placement) → linesOf (textOf P) ≡ map lineOf P
 unfolding textOf linesOf
-lines-printed [] h = refl
-lines-printed (p ∷ P) h =
+lines-printed [] = refl
+lines-printed (p ∷ P) =
     ap linesOf (line-body p (textOf P))
-    ∙ first-line (body p) (textOf P) (body-unbroken p (h .0))
-    ∙ rw (← line-is p, lines-printed P (h .1))
+    ∙ first-line (body p) (textOf P) (body-unbroken p)
+    ∙ rw (← line-is p, lines-printed P)
 
 read-lines : (at : ℕ) (P : Placement) → Each Printable P → readPoses at (length P) (map lineOf P) ≡ poses P
 unfolding readPoses
 read-lines at [] h = refl
 read-lines at (p ∷ P) h =
     read-good at (length P) (lineOf p) (map lineOf P) (line-good p (h .0))
-    ∙ rw (line-pose p (h .0), read-lines (suc at) P (h .1))
+    ∙ rw (line-pose p, read-lines (suc at) P (h .1))
 
 pub read-printed : (P : Placement) → Each Printable P → readPlacement (length P) (textOf P) ≡ poses P
 unfolding readPlacement
-read-printed P h = rw (lines-printed P h) (read-lines 1 P h)
+read-printed P h = rw (lines-printed P) (read-lines 1 P h)
 
 -- "two different placements never share a text"
-pub text-tells : (P Q : Placement) → Each Printable P → Each Printable Q → textOf P ≡ textOf Q → P ≡ Q
-text-tells P Q h k e =
-    let ls : map lineOf P ≡ map lineOf Q = sym (lines-printed P h) ∙ ap linesOf e ∙ lines-printed Q k in
-    let n : length P ≡ length Q = sym (length-map P lineOf) ∙ ap length ls ∙ length-map Q lineOf in
-    let r : poses P ≡ poses Q = sym (read-printed P h) ∙ rw (n, e) (read-printed Q k) in
-    cc
+lines-say : (P : Placement) → map poseOf (map lineOf P) ≡ P
+lines-say [] = refl
+lines-say (p ∷ P) = rw (line-pose p, lines-say P)
+
+pub text-tells : (P Q : Placement) → textOf P ≡ textOf Q → P ≡ Q
+text-tells P Q e =
+    let ls : map lineOf P ≡ map lineOf Q = sym (lines-printed P) ∙ ap linesOf e ∙ lines-printed Q in
+    sym (lines-say P) ∙ ap (map poseOf) ls ∙ lines-say Q
 
 -- ---- "a text that reads is the print of what it reads as"
 

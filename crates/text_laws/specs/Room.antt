@@ -13,11 +13,11 @@ use lib.Dec.{leb, ltb, eqb}
 use borrow.Author.Tests.{ltb-true, leb-true, eqb-true, not-false}
 use Rattle.definition.specs.Texts.{Text, digits}
 use Rattle.definition.specs.Job.{Cell, Job}
-use Rattle.definition.specs.Placement.{Pose, Placement, lineOf, textOf}
+use Rattle.definition.specs.Placement.{Pose, Printable, Placement, lineOf, textOf}
 use Rattle.definition.specs.Rules.{noPose, cellAt, poseAt, endAt, offered, breaks1, breaks2, Legal}
 use Rattle.definition_laws.specs.Sound.{Sound}
-use Rattle.text_laws.specs.Numbers.{number-digits, one-digit}
-use Rattle.text_laws.specs.Poses.{Printable, Each}
+use Rattle.text_laws.specs.Numbers.{digits-long, one-digit}
+use Rattle.text_laws.specs.Poses.{Each}
 
 pub record Narrow (p : Pose) : Type 0 where
   pub site : p .site ≤ 9999
@@ -31,24 +31,27 @@ pub line-long : (p : Pose)
     → length (lineOf p) ≡ length (digits (p .site)) + length (digits (p .layout)) + length (digits (p .mark)) + 3
 line-long p = simp length-append (omega arith)
 
+four-long : (n : ℕ) → n ≤ 9999 → length (digits n) ≤ 4
+four-long n h = digits-long 4 n (omega arith) (omega arith)
+
 pub line-room : (p : Pose) → Printable p → length (lineOf p) ≤ 15
 line-room p h = omega (
   arith,
   line-long p,
-  number-digits (p .site) (h .site) .few,
-  number-digits (p .layout) (h .layout) .few,
-  number-digits (p .mark) (h .mark) .few,
+  four-long (p .site) (h .site),
+  four-long (p .layout) (h .layout),
+  four-long (p .mark) (h .mark),
 )
 
 one-long : (n : ℕ) → n ≤ 1 → length (digits n) ≡ 1
-one-long n h = ap length (one-digit 3 n (omega arith))
+one-long n h = ap length (one-digit n (omega arith))
 
 pub narrow-line-room : (p : Pose) → Narrow p → length (lineOf p) ≤ 9
 narrow-line-room p h =
     omega (
       arith,
       line-long p,
-      number-digits (p .site) (h .site) .few,
+      four-long (p .site) (h .site),
       one-long (p .layout) (h .layout),
       one-long (p .mark) (h .mark),
     )

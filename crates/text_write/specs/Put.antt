@@ -1,12 +1,15 @@
 -- A text put at a place of a buffer.
-use Prim.Native.Nat.{ℕ, _+_}
+use Prim.Native.Nat.{ℕ, zero, suc, _+_}
 use mathlib.Core.Path.{_≡_}
-use mathlib.Core.List.{List, _++_}
-use lib.ListN.{length, take, drop}
+use mathlib.Core.List.{List, [], _∷_}
+use lib.ListN.{length}
+use Rattle.definition.specs.Outcome.{over}
 
--- l with xs from place at on
-abbrev pub put : List ℕ → ℕ → List ℕ → List ℕ
-put l at xs = take at l ++ (xs ++ drop (at + length xs) l)
+-- xs over l from place at on, as far as l reaches
+unfoldable pub put : List ℕ → ℕ → List ℕ → List ℕ
+put l zero xs = over xs l
+put [] (suc at) xs = []
+put (y ∷ l) (suc at) xs = y ∷ put l at xs
 
 -- what a writer of a text leaves of the buffer, and the place after the text, which it returns
 pub record Wrote (text before : List ℕ) (at : ℕ) (end : List ℕ) (r : ℕ) : Type 0 where

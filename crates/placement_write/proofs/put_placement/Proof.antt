@@ -1,15 +1,13 @@
 -- The loop's invariant: the lines of the first i cells stand from the output's first byte on, and the cursor after them.
 use Prim.Native.Nat.{_-_, _≤_}
-use mathlib.Core.Path.{_≡_, refl}
+use mathlib.Core.Path.{_≡_}
 use native.Mathlib.Omega.{arith}
 use lib.ListN.{length, take, length-map}
 use Rattle.definition.specs.Placement.{textOf}
-use Rattle.text_laws.specs.Poses.{Printable}
-use Rattle.text_laws.specs.Room.{text-within, at-each}
 use Rattle.job.specs.Value.{placementOf}
 use Rattle.text_write.specs.Put.{Wrote}
-use Rattle.text_write.specs.Puts.{wrote-length, wrote-over}
-use Rattle.placement_write.proofs.Lines.{placed-count, placed-at, next-fits, next-wrote, all-wrote}
+use Rattle.text_write.specs.Puts.{wrote-none, wrote-length, wrote-over}
+use Rattle.placement_write.proofs.Lines.{next-fits, next-wrote, all-wrote}
 use Rattle.placement_write.proofs.put_placement.Statement.{statement}
 use Rattle.placement_write.proofs.put_placement.Tie as tie
 
@@ -25,7 +23,7 @@ count-fits s = omega (arith, simp length-map at (s .good .1 .0 .1 .1 .1 .0 .1 .0
 
 loop-holds : tie.Need-loop-holds Inv-loop μ-loop
 unfolding textOf
-loop-holds c = (omega arith, record { cursor = refl; bytes = refl })
+loop-holds c = (omega arith, wrote-none (c .before .args .output .now) 0)
 
 mul-put-pose : tie.Need-mul-put-pose Inv-loop μ-loop
 mul-put-pose c = omega arith
@@ -38,10 +36,7 @@ put-pose-requires c κs =
     let h = c .before .before .before in
     let s = h .before .before in
     let P = s .args .t2 in
-    let many : P .count ≤ length (P .poses) = count-fits s in (
-      next-fits P many (h .loop .i) (omega arith) (s .pre .0) (h .loop .inv .1),
-      rw (placed-at P (h .loop .i) (omega arith)) at (at-each Printable (placementOf P) (s .pre .1 .0) (h .loop .i) (omega (arith, placed-count P many))),
-    )
+    next-fits P (count-fits s) (h .loop .i) (omega arith) (s .pre .0) (h .loop .inv .1)
 
 add-i : tie.Need-add-i Inv-loop μ-loop
 add-i c = omega arith
@@ -54,12 +49,10 @@ loop-again c =
     let mid = c .before .before .before .before in
     let h = mid .before .before in
     let s = h .before .before in
-    (omega arith, next-wrote (s .args .t2) (count-fits s) (h .loop .i) (omega arith) (s .pre .0) (h .loop .inv .1) (c .before .before .put-pose .ensures))
+    (omega arith, next-wrote (s .args .t2) (count-fits s) (h .loop .i) (omega arith) (h .loop .inv .1) (c .before .before .put-pose .ensures))
 
 same-length : tie.Need-same-length Inv-loop μ-loop
-same-length c =
-    let s = c .before .before .before in
-    wrote-length (omega (arith, text-within (placementOf (s .args .t2)) (c .before .loop .i))) (c .before .loop .inv .1)
+same-length c = wrote-length (c .before .loop .inv .1)
 
 returns : tie.Need-returns Inv-loop μ-loop
 returns c =
@@ -68,7 +61,7 @@ returns c =
     let P = s .args .t2 in
     let e : h .loop .i ≡ P .count = omega arith in
     let w : Wrote (textOf (take (P .count) (placementOf P))) (s .args .output .now) 0 (h .loop .output) (h .loop .at) = rw e at (h .loop .inv .1) in
-    wrote-over (s .pre .0) (all-wrote P (count-fits s) w)
+    wrote-over (all-wrote P (count-fits s) w)
 
 pub put-placement-spec : {M : Type 1} → statement M
 put-placement-spec =

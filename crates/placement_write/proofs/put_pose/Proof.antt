@@ -13,20 +13,18 @@ use Rattle.placement_write.proofs.put_pose.Tie as tie
 put-field-requires : tie.Need-put-field-requires
 put-field-requires c κs =
     let s = c .before .before in
-    (omega (arith, line-long (poseOf (s .args .pose))), s .pre .1 .site)
+    omega (arith, line-long (poseOf (s .args .pose)))
 
 put-field-requires-2 : tie.Need-put-field-requires-2
 put-field-requires-2 c κs =
     let f = c .before .before .before in
-    let s = f .before .before .before in (
-      omega (
-        arith,
-        line-long (poseOf (s .args .pose)),
-        f .put-field .ensures .cursor,
-        length-append (digits (s .args .pose .site)) (comma ∷ []),
-        f .put-field .kept .0,
-      ),
-      s .pre .1 .layout,
+    let s = f .before .before .before in
+    omega (
+      arith,
+      line-long (poseOf (s .args .pose)),
+      f .put-field .ensures .cursor,
+      length-append (digits (s .args .pose .site)) (comma ∷ []),
+      f .put-field .kept .0,
     )
 
 put-field-requires-3 : tie.Need-put-field-requires-3
@@ -34,18 +32,16 @@ put-field-requires-3 c κs =
     let g = c .before .before .before in
     let f = g .before .before .before .before in
     let s = f .before .before .before in
-    let p = s .args .pose in (
-      omega (
-        arith,
-        line-long (poseOf p),
-        f .put-field .ensures .cursor,
-        length-append (digits (p .site)) (comma ∷ []),
-        f .put-field .kept .0,
-        g .put-field2 .ensures .cursor,
-        length-append (digits (p .layout)) (comma ∷ []),
-        g .put-field2 .kept .0,
-      ),
-      s .pre .1 .mark,
+    let p = s .args .pose in
+    omega (
+      arith,
+      line-long (poseOf p),
+      f .put-field .ensures .cursor,
+      length-append (digits (p .site)) (comma ∷ []),
+      f .put-field .kept .0,
+      g .put-field2 .ensures .cursor,
+      length-append (digits (p .layout)) (comma ∷ []),
+      g .put-field2 .kept .0,
     )
 
 same-length : tie.Need-same-length
@@ -57,7 +53,7 @@ returns c =
     let g = h .before .before .before .before in
     let f = g .before .before .before .before in
     let s = f .before .before .before in
-    line-wrote (poseOf (s .args .pose)) (s .pre .0) (f .put-field .ensures) (g .put-field2 .ensures) (h .put-field3 .ensures)
+    line-wrote (poseOf (s .args .pose)) (f .put-field .ensures) (g .put-field2 .ensures) (h .put-field3 .ensures)
 
 pub put-pose-spec : {M : Type 1} → statement M
 put-pose-spec =

@@ -1,15 +1,15 @@
--- A number below 10 is one byte. Of a longer one the digits before the last are put first, by the function itself with one place less to
--- fill (the measure), and then the last.
-use Prim.Native.Nat.{ℕ, _+_, _-_, _/_, _%_, _<_}
-use mathlib.Core.Path.{ap, _∙_}
+-- A number below 10 is one byte. Of a longer one the digits before the last are put first, by the function itself for the number without its
+-- last digit (the measure), and then the last.
+use Prim.Native.Nat.{ℕ, _+_, _/_, _%_, _<_, _≤_}
+use mathlib.Core.Path.{_≡_, ap, _∙_}
 use mathlib.Core.List.{[], _∷_}
 use native.Mathlib.Omega.{arith}
 use lib.ListN.{length, length-append}
 use borrow.Fn.Kinds.{In}
 use borrow.Fn.PlainCycle.{Measures, is, falls, and}
-use Rattle.definition.specs.Texts.{digitsIn}
+use Rattle.definition.specs.Texts.{digits}
+use Rattle.text_laws.specs.Numbers.{one-digit, more-digits}
 use Rattle.text_write.specs.Puts.{then}
-use Rattle.text_write.proofs.Digits.{single, several, fewer}
 use Rattle.text_write.proofs.put_number.Reads as number
 use Rattle.text_write.proofs.put_number.Kinds as kinds
 use Rattle.text_write.proofs.+put_number.Lts-put_number as lts
@@ -17,15 +17,18 @@ use Rattle.text_write.proofs.put_byte.Reads as byte
 use Rattle.text_write.proofs.+put_number.{statement}
 use Rattle.text_write.proofs.+put_number.Tie.{close}
 
--- the places to fill
-abbrev room : Measures 1 kinds.ps ℕ
-room κs a = a .1 .1 .1 .0
+abbrev what : Measures 1 kinds.ps ℕ
+what κs a = a .1 .1 .0
 
 abbrev here : ℕ → In 1 kinds.ps
-here t = and 1 kinds.ps (is 1 kinds.ps room t) number.Pre
+here t = and 1 kinds.ps (is 1 kinds.ps what t) number.Pre
 
 abbrev below : ℕ → In 1 kinds.ps
-below t = and 1 kinds.ps (falls 1 kinds.ps _<_ room t) number.Pre
+below t = and 1 kinds.ps (falls 1 kinds.ps _<_ what t) number.Pre
+
+-- the length of the digits before the last, and one more
+long-more : (n : ℕ) → 10 ≤ n → length (digits n) ≡ length (digits (n / 10)) + 1
+long-more n h = ap length (more-digits n h) ∙ length-append (digits (n / 10)) ((48 + n % 10) ∷ [])
 
 module _ (t : ℕ) where
   cast-put-byte : lts.Need-cast-put-byte (byte.Asked, byte.Learnt, below t, number.Post) (here t) number.Post
@@ -37,7 +40,7 @@ module _ (t : ℕ) where
   put-byte-requires : lts.Need-put-byte-requires (byte.Asked, byte.Learnt, below t, number.Post) (here t) number.Post
   put-byte-requires c κs =
       let a = c .before .before .before .args in
-      omega (arith, ap length (single (a .room) (a .n) (omega arith) (omega arith)))
+      omega (arith, ap length (one-digit (a .n) (omega arith)))
 
   same-length : lts.Need-same-length (byte.Asked, byte.Learnt, below t, number.Post) (here t) number.Post
   same-length c = c .before .before .put-byte .kept .0
@@ -46,19 +49,13 @@ module _ (t : ℕ) where
   returns c =
       let mid = c .before .before .before .before in
       let a = mid .before .before .args in
-      rw (single (a .room) (a .n) (omega arith) (omega arith)) (c .before .before .put-byte .ensures)
-
-  sub-put-number : lts.Need-sub-put-number (byte.Asked, byte.Learnt, below t, number.Post) (here t) number.Post
-  sub-put-number c = omega arith
+      rw (one-digit (a .n) (omega arith)) (c .before .before .put-byte .ensures)
 
   put-number-requires : lts.Need-put-number-requires (byte.Asked, byte.Learnt, below t, number.Post) (here t) number.Post
   put-number-requires c κs =
       let s = c .before .before .before in
       let a = s .args in
-      let long =
-      ap length (several (a .room) (a .n) (omega arith) (omega arith)) ∙ length-append (digitsIn (a .room - 1) (a .n / 10)) ((48 + a .n % 10) ∷ []) in
-      let f = fewer (a .room) (a .n) (s .pre .1 .1) (omega arith) in
-      (omega arith, (omega arith, f .0, f .1))
+      (omega arith, omega (arith, long-more (a .n) (omega arith)))
 
   cast-put-byte-2 : lts.Need-cast-put-byte-2 (byte.Asked, byte.Learnt, below t, number.Post) (here t) number.Post
   cast-put-byte-2 c = omega arith
@@ -70,9 +67,7 @@ module _ (t : ℕ) where
   put-byte-requires-2 c κs =
       let n = c .before .before .before in
       let a = n .before .before .before .before .args in
-      let long =
-      ap length (several (a .room) (a .n) (omega arith) (omega arith)) ∙ length-append (digitsIn (a .room - 1) (a .n / 10)) ((48 + a .n % 10) ∷ []) in
-      omega (arith, n .put-number .kept .0, n .put-number .ensures .cursor)
+      omega (arith, long-more (a .n) (omega arith), n .put-number .kept .0, n .put-number .ensures .cursor)
 
   same-length-2 : lts.Need-same-length-2 (byte.Asked, byte.Learnt, below t, number.Post) (here t) number.Post
   same-length-2 c =
@@ -84,13 +79,11 @@ module _ (t : ℕ) where
       let mid = c .before .before .before .before in
       let n = mid .before .before in
       let a = n .before .before .before .before .args in
-      let e = several (a .room) (a .n) (omega arith) (omega arith) in
-      let long = ap length e ∙ length-append (digitsIn (a .room - 1) (a .n / 10)) ((48 + a .n % 10) ∷ []) in
-      rw e (then (omega arith) (n .put-number .ensures) (c .before .before .put-byte2 .ensures))
+      rw (more-digits (a .n) (omega arith)) (then (n .put-number .ensures) (c .before .before .put-byte2 .ensures))
 
 pub +put-number-spec : {M : Type 1} → statement M
 +put-number-spec =
-    close room λ t. lts.spec (byte.Asked, byte.Learnt, below t, number.Post)
+    close what λ t. lts.spec (byte.Asked, byte.Learnt, below t, number.Post)
     (here t)
     number.Post
     (cast-put-byte t)
@@ -98,7 +91,6 @@ pub +put-number-spec : {M : Type 1} → statement M
     (put-byte-requires t)
     (same-length t)
     (returns t)
-    (sub-put-number t)
     (put-number-requires t)
     (cast-put-byte-2 t)
     (add-put-byte-2 t)

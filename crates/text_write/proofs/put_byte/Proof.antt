@@ -1,7 +1,6 @@
 -- One byte is stored, and the cursor stands after it.
-use mathlib.Core.Path.{refl}
 use borrow.Author.Needs.{needs}
-use Rattle.text_write.specs.Puts.{put-one}
+use Rattle.text_write.specs.Puts.{wrote-one}
 use Rattle.text_write.proofs.put_byte.Statement.{statement}
 use Rattle.text_write.proofs.put_byte.Tie as tie
 
@@ -15,7 +14,7 @@ same-length : tie.Need-same-length
 same-length c = search needs
 
 returns : tie.Need-returns
-returns c = record { cursor = refl; bytes = put-one (c .args .output .now) (c .args .at) (c .args .b) (c .pre) }
+returns c = wrote-one (c .args .output .now) (c .args .at) (c .args .b)
 
 pub put-byte-spec : {M : Type 1} → statement M
 put-byte-spec = tie.close (tie.spec slice-write-output add-result same-length returns)

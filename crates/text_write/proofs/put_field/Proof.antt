@@ -1,5 +1,4 @@
 -- A number and then a byte, one after another.
-use native.Mathlib.Omega.{arith}
 use Rattle.text_write.specs.Puts.{then}
 use borrow.Author.Needs.{needs}
 use Rattle.text_write.proofs.put_field.Statement.{statement}
@@ -18,7 +17,7 @@ returns : tie.Need-returns
 returns c =
     let mid = c .before .before .before .before in
     let n = mid .before .before in
-    then (omega arith) (n .put-number .ensures) (c .before .before .put-byte .ensures)
+    then (n .put-number .ensures) (c .before .before .put-byte .ensures)
 
 pub put-field-spec : {M : Type 1} → statement M
 put-field-spec = tie.close (tie.spec put-number-requires put-byte-requires same-length returns)
