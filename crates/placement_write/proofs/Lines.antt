@@ -3,7 +3,7 @@ use Prim.Native.Nat.{ℕ, _+_, _<_, _≤_}
 use mathlib.Core.Path.{_≡_, ap, _∙_}
 use mathlib.Core.List.{List, [], _∷_, _++_, append-assoc}
 use native.Mathlib.Omega.{arith}
-use lib.ListN.{length, take, getD, length-map, length-take, length-append, List·getD-map}
+use lib.ListN.{length, take, getD, length-map, length-take, List·getD-map}
 use lib.Seq.{getD-take, take-all}
 use Rattle.definition.specs.Texts.{digits, comma, lineFeed}
 use Rattle.definition.specs.Placement.{Pose, lineOf, textOf}
@@ -11,8 +11,8 @@ use Rattle.definition.specs.Rules.{poseAt}
 use Rattle.text_laws.specs.Room.{text-more, text-within}
 use Rattle.job.specs.Value.{emptyPose, poseOf, placementOf}
 use Rattle.job.specs.declared.Placement.{Placement}
-use Rattle.text_write.specs.Put.{Wrote}
-use Rattle.text_write.specs.Puts.{then, wrote-length}
+use Rattle.text_write.specs.Put.{Room, Wrote}
+use Rattle.text_write.specs.Puts.{then, rest}
 
 pub placed-count : (P : Placement) → P .count ≤ length (P .poses) → length (placementOf P) ≡ P .count
 unfolding placementOf
@@ -22,12 +22,12 @@ pub placed-at : (P : Placement) (i : ℕ) → i < P .count → poseAt (placement
 unfolding placementOf
 placed-at P i h = List·getD-map poseOf (take (P .count) (P .poses)) i emptyPose ∙ ap poseOf (getD-take (P .count) (P .poses) i emptyPose h)
 
-pub line-wrote : (p : Pose) {l m n o : List ℕ} {at a b r : ℕ}
-    → Wrote (digits (p .site) ++ (comma ∷ [])) l at m a
-    → Wrote (digits (p .layout) ++ (comma ∷ [])) m a n b
-    → Wrote (digits (p .mark) ++ (lineFeed ∷ [])) n b o r
-    → Wrote (lineOf p) l at o r
-line-wrote p x y z = simp append-assoc at (then x (then y z))
+-- a line as the three fields that are written
+abbrev pub inFields : Pose → List ℕ
+inFields p = (digits (p .site) ++ (comma ∷ [])) ++ ((digits (p .layout) ++ (comma ∷ [])) ++ (digits (p .mark) ++ (lineFeed ∷ [])))
+
+pub in-fields : (p : Pose) → lineOf p ≡ inFields p
+in-fields p = simp append-assoc
 
 -- one line more
 module _ (P : Placement) (many : P .count ≤ length (P .poses)) (i : ℕ) (low : i < P .count) where
@@ -35,15 +35,11 @@ module _ (P : Placement) (many : P .count ≤ length (P .poses)) (i : ℕ) (low 
   text-next =
       text-more (placementOf P) i (omega (arith, placed-count P many)) ∙ ap (λ (p : Pose). textOf (take i (placementOf P)) ++ lineOf p) (placed-at P i low)
 
-  pub next-fits : {l m : List ℕ} {at : ℕ} → length (textOf (placementOf P)) ≤ length l → Wrote (textOf (take i (placementOf P))) l 0 m at
-      → at + length (lineOf (poseOf (getD (P .poses) i emptyPose))) ≤ length m
-  next-fits room done = omega (
-    arith,
-    ap length text-next ∙ length-append (textOf (take i (placementOf P))) (lineOf (poseOf (getD (P .poses) i emptyPose))),
-    text-within (placementOf P) (i + 1),
-    wrote-length done,
-    done .cursor,
-  )
+  pub next-room : {l m : List ℕ} {at : ℕ} → length (textOf (placementOf P)) ≤ length l → Wrote (textOf (take i (placementOf P))) l 0 m at
+      → Room (lineOf (poseOf (getD (P .poses) i emptyPose))) m at
+  next-room {l} fits done =
+      let more : Room (textOf (take (i + 1) (placementOf P))) l 0 = record { fits = omega (arith, text-within (placementOf P) (i + 1)) } in
+      rest (rw text-next at more) done
 
   pub next-wrote : {l m n : List ℕ} {at r : ℕ} → Wrote (textOf (take i (placementOf P))) l 0 m at
       → Wrote (lineOf (poseOf (getD (P .poses) i emptyPose))) m at n r

@@ -1,12 +1,12 @@
 // Printing a placement: lines and the whole text, into a lent output.
 ghost use mathlib.Core.Path.{_≡_};
-ghost use Prim.Native.Nat.{_+_, _≤_};
+ghost use Prim.Native.Nat.{_≤_};
 ghost use lib.ListN.{length};
 ghost use Rattle.definition.specs.Job.{maxCells};
 ghost use Rattle.definition.specs.Placement.{Printable, lineOf, textOf};
 ghost use Rattle.definition.specs.Outcome.{over};
 ghost use Rattle.text_laws.specs.Poses.{Each};
-ghost use Rattle.text_write.specs.Put.{Wrote};
+ghost use Rattle.text_write.specs.Put.{Room, Wrote};
 ghost use Rattle.job.specs.Value.{poseOf, placementOf};
 use job::Placement;
 use job::Pose;
@@ -14,7 +14,7 @@ use text_write::put_field;
 
 // The line of one cell.
 fn put_pose(output: &mut [u8], at: usize, pose: Pose) -> usize
-    requires { ⌜ at + length (lineOf (poseOf pose)) ≤ length (now output) ⌝ }
+    requires { ⌜ Room (lineOf (poseOf pose)) (now output) at ⌝ }
     ensures { λ r. ⌜ Wrote (lineOf (poseOf pose)) (now (output .entry)) at (now (output .exit)) r ⌝ }
 {
     let p = put_field(&mut *output, at, pose.site, b',');

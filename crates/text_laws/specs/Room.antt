@@ -27,7 +27,7 @@ pub record Narrow (p : Pose) : Type 0 where
 pub narrow-printable : (p : Pose) → Narrow p → Printable p
 narrow-printable p h = record { site = h .site; layout = omega (arith, h .layout); mark = omega (arith, h .mark) }
 
-pub line-long : (p : Pose)
+line-long : (p : Pose)
     → length (lineOf p) ≡ length (digits (p .site)) + length (digits (p .layout)) + length (digits (p .mark)) + 3
 line-long p = simp length-append (omega arith)
 

@@ -1,12 +1,12 @@
--- Laws of a text put into a buffer: nothing, one byte, one text after another, and from the first byte on. None of
--- them asks whether the text fits.
+-- Laws of a text put into a buffer: nothing, one byte, one text after another, and from the first byte on. What is
+-- left does not depend on whether the text fits; that it does is asked before each part is written.
 use Prim.Native.Nat.{ℕ, zero, suc, _+_}
 use mathlib.Core.Path.{_≡_, refl, sym, ap, _∙_}
 use mathlib.Core.List.{List, [], _∷_, _++_}
 use native.Mathlib.Omega.{arith}
 use lib.ListN.{length, set, length-append}
 use Rattle.definition.specs.Outcome.{over}
-use Rattle.text_write.specs.Put.{put, Wrote}
+use Rattle.text_write.specs.Put.{put, Room, Wrote}
 
 -- ---- nothing
 
@@ -55,7 +55,7 @@ then {xs} {ys} {l} {m} {n} {at} {p} {r} a b = record {
   bytes = b .bytes ∙ rw (a .bytes) (put-put l at p xs ys (a .cursor));
 }
 
--- ---- the buffer keeps its length
+-- ---- room: the buffer keeps its length
 
 length-over : (xs l : List ℕ) → length (over xs l) ≡ length l
 unfolding over
@@ -71,6 +71,13 @@ length-put (y ∷ l) (suc at) xs = ap suc (length-put l at xs)
 
 pub wrote-length : {xs l m : List ℕ} {at r : ℕ} → Wrote xs l at m r → length m ≡ length l
 wrote-length {xs} {l} {m} {at} w = ap length (w .bytes) ∙ length-put l at xs
+
+-- where two texts fit, the first does; and where that one ends, the second
+pub first : {xs l : List ℕ} {at : ℕ} (ys : List ℕ) → Room (xs ++ ys) l at → Room xs l at
+first {xs} ys h = record { fits = omega (arith, h .fits, length-append xs ys) }
+
+pub rest : {xs ys l m : List ℕ} {at p : ℕ} → Room (xs ++ ys) l at → Wrote xs l at m p → Room ys m p
+rest {xs} {ys} h w = record { fits = omega (arith, h .fits, length-append xs ys, w .cursor, wrote-length w) }
 
 -- ---- from the first byte on
 

@@ -3,15 +3,13 @@
 ghost use mathlib.Core.Path.{_≡_};
 ghost use mathlib.Core.Bool.{true};
 ghost use mathlib.Core.List.{[], _∷_, _++_};
-ghost use Prim.Native.Nat.{_+_, _≤_, _<_};
-ghost use lib.ListN.{length};
 ghost use lib.IntN.{pos, natAbs};
 ghost use lib.Signed.{ltZ};
 ghost use Rattle.definition.specs.Texts.{digits, signed};
-ghost use Rattle.text_write.specs.Put.{Wrote};
+ghost use Rattle.text_write.specs.Put.{Room, Wrote};
 
 pub fn put_byte(output: &mut [u8], at: usize, b: u8) -> usize
-    requires { ⌜ at < length (now output) ⌝ }
+    requires { ⌜ Room (b ∷ []) (now output) at ⌝ }
     ensures { λ r. ⌜ Wrote (b ∷ []) (now (output .entry)) at (now (output .exit)) r ⌝ }
 {
     output[at] = b;
@@ -20,7 +18,7 @@ pub fn put_byte(output: &mut [u8], at: usize, b: u8) -> usize
 
 // Fixed bytes, as b"cell ".
 pub fn put_bytes(output: &mut [u8], at: usize, text: &[u8]) -> usize
-    requires { ⌜ at + length (now text) ≤ length (now output) ⌝ }
+    requires { ⌜ Room (now text) (now output) at ⌝ }
     ensures { λ r. ⌜ Wrote (now (text .entry)) (now (output .entry)) at (now (output .exit)) r ⌝ }
 {
     let mut p = at;
@@ -34,7 +32,7 @@ pub fn put_bytes(output: &mut [u8], at: usize, text: &[u8]) -> usize
 
 // A number in as many digits as it needs.
 pub fn put_number(output: &mut [u8], at: usize, n: u32) -> usize
-    requires { ⌜ at + length (digits n) ≤ length (now output) ⌝ }
+    requires { ⌜ Room (digits n) (now output) at ⌝ }
     ensures { λ r. ⌜ Wrote (digits n) (now (output .entry)) at (now (output .exit)) r ⌝ }
 {
     if n < 10 {
@@ -46,7 +44,7 @@ pub fn put_number(output: &mut [u8], at: usize, n: u32) -> usize
 
 // A number and the byte after it.
 pub fn put_field(output: &mut [u8], at: usize, n: u32, after: u8) -> usize
-    requires { ⌜ at + length (digits n) < length (now output) ⌝ }
+    requires { ⌜ Room (digits n ++ (after ∷ [])) (now output) at ⌝ }
     ensures { λ r. ⌜ Wrote (digits n ++ (after ∷ [])) (now (output .entry)) at (now (output .exit)) r ⌝ }
 {
     let p = put_number(&mut *output, at, n);
@@ -63,7 +61,7 @@ fn size(z: i32) -> u32
 
 // A number with `-` before it if it is negative.
 pub fn put_signed(output: &mut [u8], at: usize, z: i32) -> usize
-    requires { ⌜ at + length (signed z) ≤ length (now output) ⌝ }
+    requires { ⌜ Room (signed z) (now output) at ⌝ }
     ensures { λ r. ⌜ Wrote (signed z) (now (output .entry)) at (now (output .exit)) r ⌝ }
 {
     if z < 0 {

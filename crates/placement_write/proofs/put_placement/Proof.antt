@@ -7,7 +7,7 @@ use Rattle.definition.specs.Placement.{textOf}
 use Rattle.job.specs.Value.{placementOf}
 use Rattle.text_write.specs.Put.{Wrote}
 use Rattle.text_write.specs.Puts.{wrote-none, wrote-length, wrote-over}
-use Rattle.placement_write.proofs.Lines.{next-fits, next-wrote, all-wrote}
+use Rattle.placement_write.proofs.Lines.{next-room, next-wrote, all-wrote}
 use Rattle.placement_write.proofs.put_placement.Statement.{statement}
 use Rattle.placement_write.proofs.put_placement.Tie as tie
 
@@ -36,7 +36,7 @@ put-pose-requires c κs =
     let h = c .before .before .before in
     let s = h .before .before in
     let P = s .args .t2 in
-    next-fits P (count-fits s) (h .loop .i) (omega arith) (s .pre .0) (h .loop .inv .1)
+    next-room P (count-fits s) (h .loop .i) (omega arith) (s .pre .0) (h .loop .inv .1)
 
 add-i : tie.Need-add-i Inv-loop μ-loop
 add-i c = omega arith

@@ -1,15 +1,12 @@
 -- A number below 10 is one byte. Of a longer one the digits before the last are put first, by the function itself for the number without its
 -- last digit (the measure), and then the last.
-use Prim.Native.Nat.{ℕ, _+_, _/_, _%_, _<_, _≤_}
-use mathlib.Core.Path.{_≡_, ap, _∙_}
-use mathlib.Core.List.{[], _∷_}
+use Prim.Native.Nat.{ℕ, _<_}
+use mathlib.Core.Path.{_∙_}
 use native.Mathlib.Omega.{arith}
-use lib.ListN.{length, length-append}
 use borrow.Fn.Kinds.{In}
 use borrow.Fn.PlainCycle.{Measures, is, falls, and}
-use Rattle.definition.specs.Texts.{digits}
 use Rattle.text_laws.specs.Numbers.{one-digit, more-digits}
-use Rattle.text_write.specs.Puts.{then}
+use Rattle.text_write.specs.Puts.{then, first, rest}
 use Rattle.text_write.proofs.put_number.Reads as number
 use Rattle.text_write.proofs.put_number.Kinds as kinds
 use Rattle.text_write.proofs.+put_number.Lts-put_number as lts
@@ -26,10 +23,6 @@ here t = and 1 kinds.ps (is 1 kinds.ps what t) number.Pre
 abbrev below : ℕ → In 1 kinds.ps
 below t = and 1 kinds.ps (falls 1 kinds.ps _<_ what t) number.Pre
 
--- the length of the digits before the last, and one more
-long-more : (n : ℕ) → 10 ≤ n → length (digits n) ≡ length (digits (n / 10)) + 1
-long-more n h = ap length (more-digits n h) ∙ length-append (digits (n / 10)) ((48 + n % 10) ∷ [])
-
 module _ (t : ℕ) where
   cast-put-byte : lts.Need-cast-put-byte (byte.Asked, byte.Learnt, below t, number.Post) (here t) number.Post
   cast-put-byte c = omega arith
@@ -39,8 +32,8 @@ module _ (t : ℕ) where
 
   put-byte-requires : lts.Need-put-byte-requires (byte.Asked, byte.Learnt, below t, number.Post) (here t) number.Post
   put-byte-requires c κs =
-      let a = c .before .before .before .args in
-      omega (arith, ap length (one-digit (a .n) (omega arith)))
+      let s = c .before .before .before in
+      rw (one-digit (s .args .n) (omega arith)) at (s .pre .1)
 
   same-length : lts.Need-same-length (byte.Asked, byte.Learnt, below t, number.Post) (here t) number.Post
   same-length c = c .before .before .put-byte .kept .0
@@ -54,8 +47,7 @@ module _ (t : ℕ) where
   put-number-requires : lts.Need-put-number-requires (byte.Asked, byte.Learnt, below t, number.Post) (here t) number.Post
   put-number-requires c κs =
       let s = c .before .before .before in
-      let a = s .args in
-      (omega arith, omega (arith, long-more (a .n) (omega arith)))
+      (omega arith, first _ (rw (more-digits (s .args .n) (omega arith)) at (s .pre .1)))
 
   cast-put-byte-2 : lts.Need-cast-put-byte-2 (byte.Asked, byte.Learnt, below t, number.Post) (here t) number.Post
   cast-put-byte-2 c = omega arith
@@ -66,8 +58,8 @@ module _ (t : ℕ) where
   put-byte-requires-2 : lts.Need-put-byte-requires-2 (byte.Asked, byte.Learnt, below t, number.Post) (here t) number.Post
   put-byte-requires-2 c κs =
       let n = c .before .before .before in
-      let a = n .before .before .before .before .args in
-      omega (arith, long-more (a .n) (omega arith), n .put-number .kept .0, n .put-number .ensures .cursor)
+      let s = n .before .before .before .before in
+      rest (rw (more-digits (s .args .n) (omega arith)) at (s .pre .1)) (n .put-number .ensures)
 
   same-length-2 : lts.Need-same-length-2 (byte.Asked, byte.Learnt, below t, number.Post) (here t) number.Post
   same-length-2 c =

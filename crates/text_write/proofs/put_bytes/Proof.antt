@@ -34,7 +34,7 @@ put-byte-requires c κs =
     let h = c .before .before .before in
     let s = h .before .before .before in
     let w = h .loop .inv .1 in
-    omega (arith, w .cursor, wrote-length w, length-take-le (h .loop .i) (s .args .text .now) (omega arith))
+    record { fits = omega (arith, s .pre .fits, w .cursor, wrote-length w, length-take-le (h .loop .i) (s .args .text .now) (omega arith)) }
 
 add-i : tie.Need-add-i Inv-loop μ-loop
 add-i c = omega arith

@@ -1,20 +1,19 @@
 -- By the sign: `-` and then the size, or the size alone.
 use mathlib.Core.Path.{_≡_, sym, ap, subst, _∙_}
 use mathlib.Core.Bool.{true, false}
-use mathlib.Core.List.{List}
-use Prim.Native.Nat.{ℕ, suc, _^_, _<_}
+use mathlib.Core.List.{List, _∷_}
+use Prim.Native.Nat.{ℕ, _^_, _<_}
 use native.Mathlib.Omega.{arith}
 use lib.Dec.{T}
-use lib.ListN.{length}
 use lib.IntN.{ℤ, pos, negsuc, natAbs}
 use lib.Signed.{ltZ, nonNeg, mag}
 use mir.Syntax.{w32}
 use mir.Val.{Fits, SFits, toZ, ofZ}
 use mir.Facts.{toZ-ofZ}
-use Rattle.definition.specs.Texts.{digits, signed}
+use Rattle.definition.specs.Texts.{digits, minus, signed}
 use Rattle.text_laws.specs.Numbers.{signed-below, signed-from}
-use Rattle.text_write.specs.Put.{Wrote}
-use Rattle.text_write.specs.Puts.{then}
+use Rattle.text_write.specs.Put.{Room, Wrote}
+use Rattle.text_write.specs.Puts.{then, first, rest}
 use borrow.Author.Needs.{needs}
 use Rattle.text_write.proofs.put_signed.Statement.{statement}
 use Rattle.text_write.proofs.put_signed.Tie as tie
@@ -44,13 +43,15 @@ above c =
     let s = c .before .before in
     sym (tested (s .args .z) (s .fits .z)) ∙ c .if1 .left
 
-long-below : (c : tie.Then1) → length (signed (c .before .before .args .z)) ≡ suc (length (digits (natAbs (c .before .before .args .z))))
-long-below c = ap length (signed-below (c .before .before .args .z) (below c))
+room-below : (c : tie.Then1) → Room (minus ∷ digits (natAbs (c .before .before .args .z))) (c .before .before .args .output .now) (c .before .before .args .at)
+room-below c =
+    let s = c .before .before in
+    rw (signed-below (s .args .z) (below c)) at (s .pre)
 
 put-byte-requires : tie.Need-put-byte-requires
-put-byte-requires c κs = omega (arith, long-below (c .before))
+put-byte-requires c κs = first _ (room-below (c .before))
 
--- where the number stands, once its size is known
+-- the start, seen from where the size is known
 abbrev start : tie.After-size → tie.Start
 start c =
     let b = c .before .before .before .before in
@@ -67,13 +68,7 @@ size-requires c κs =
 put-number-requires : tie.Need-put-number-requires
 put-number-requires c κs =
     let b = c .before .before .before .before in
-    omega (
-      arith,
-      long-below (b .before .before),
-      ap (λ (n : ℕ). length (digits n)) (sized c),
-      b .put-byte .ensures .cursor,
-      b .put-byte .kept .0,
-    )
+    rw (sized c) (rest (room-below (b .before .before)) (b .put-byte .ensures))
 
 same-length : tie.Need-same-length
 same-length c = search needs
@@ -81,9 +76,10 @@ same-length c = search needs
 returns : tie.Need-returns
 returns c =
     let n = c .before .before in
-    let b = n .before .before .before .before .before in
+    let size = n .before in
+    let b = size .before .before .before .before in
     let t = b .before .before in
-    rw (signed-below (t .before .before .args .z) (below t)) (then (b .put-byte .ensures) (rw (sized (n .before)) at (n .put-number .ensures)))
+    rw (signed-below (t .before .before .args .z) (below t)) (then (b .put-byte .ensures) (rw (sized size) at (n .put-number .ensures)))
 
 cast-put-number : tie.Need-cast-put-number
 cast-put-number c =
@@ -93,7 +89,7 @@ cast-put-number c =
 put-number-requires-2 : tie.Need-put-number-requires-2
 put-number-requires-2 c κs =
     let s = c .before .before .before in
-    omega (arith, ap length (cast-text (s .args .z) (s .fits .z) (above (c .before))))
+    subst (λ (t : List ℕ). Room t (s .args .output .now) (s .args .at)) (sym (cast-text (s .args .z) (s .fits .z) (above (c .before)))) (s .pre)
 
 same-length-2 : tie.Need-same-length-2
 same-length-2 c = search needs
