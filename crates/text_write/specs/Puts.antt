@@ -6,6 +6,7 @@ use mathlib.Core.List.{List, [], _∷_, _++_}
 use native.Mathlib.Omega.{arith}
 use lib.ListN.{length, set, length-append}
 use Rattle.definition.specs.Outcome.{over}
+use Rattle.results.specs.Over.{length-over}
 use Rattle.text_write.specs.Put.{put, Room, Wrote}
 
 -- ---- nothing
@@ -56,12 +57,6 @@ then {xs} {ys} {l} {m} {n} {at} {p} {r} a b = record {
 }
 
 -- ---- room: the buffer keeps its length
-
-length-over : (xs l : List ℕ) → length (over xs l) ≡ length l
-unfolding over
-length-over [] l = refl
-length-over (x ∷ xs) [] = refl
-length-over (x ∷ xs) (y ∷ l) = ap suc (length-over xs l)
 
 length-put : (l : List ℕ) (at : ℕ) (xs : List ℕ) → length (put l at xs) ≡ length l
 unfolding put
