@@ -11,8 +11,8 @@ use lib.IntN.{ℤ, pos}
 use Rattle.definition.specs.Lists.{any}
 use Rattle.definition.specs.Texts.{Text}
 use Rattle.definition.specs.Job.{Job, readJob, accepted}
-use Rattle.definition.specs.Placement.{Placement, poses, readPlacement, textOf}
-use Rattle.definition.specs.Rules.{Legal, rules}
+use Rattle.definition.specs.Placement.{Placement, Printable, poses, readPlacement, textOf}
+use Rattle.definition.specs.Rules.{poseAt, Legal, rules}
 use Rattle.definition.specs.Outcome.{Outcome, numbers, score, Buffers, over}
 
 -- ---- Demand 1: "the call ends, stays within [its buffers], and answers or gives a numbered refusal with its line"
@@ -110,6 +110,14 @@ abbrev pub Demand2Of : Text → Text → Type 0
 Demand2Of job placement =
     (j : Job) → readJob job ≡ accepted j
     → (P : Placement) → readPlacement (length (j .cells)) placement ≡ poses P → Demand2 j P (score job placement)
+
+-- "A placement written as text reads back unchanged, and each placement has one text."
+pub record OneText : Type 0 where
+  pub reads-back : (P : Placement) → ((k : ℕ) → k < length P → Printable (poseAt P k))
+      → readPlacement (length P) (textOf P) ≡ poses P
+  pub one-text : (n : ℕ) (text : Text) (P : Placement) → readPlacement n text ≡ poses P → textOf P ≡ text
+  pub in-range : (n : ℕ) (text : Text) (P : Placement) → readPlacement n text ≡ poses P
+      → (k : ℕ) → k < length P → Printable (poseAt P k)
 
 -- What Place writes, Score reads as legal, with the very numbers that Place gave.
 pub record Rescored (job : Text) (before end : Buffers) : Type 0 where

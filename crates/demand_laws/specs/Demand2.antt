@@ -11,18 +11,18 @@ use lib.Dec.{eqb}
 use lib.IntN.{pos}
 use Rattle.definition.specs.Texts.{Text}
 use Rattle.definition.specs.Job.{Job, Reading, refused, accepted, readJob}
-use Rattle.definition.specs.Placement.{Placement, Poses, poses, readPlacement, textOf}
+use Rattle.definition.specs.Placement.{Placement, Printable, poses, readPlacement, textOf}
 use Rattle.definition.specs.Rules.{Legal, rules, Verdict, verdict}
 use Rattle.definition.specs.Moves.{Cheapest}
 use Rattle.definition.specs.Outcome.{Outcome, answered, refusal, score, scoreOutcome, scorePoses, scoreFields, numbers}
 use Rattle.definition.specs.Outcome.{placeOutcome, placeAnswer, bufferRefusal, Buffers, Placed, over, resultsOf}
-use Rattle.definition.specs.Demands.{broken, Demand2, Demand2Of, Rescored, RescoredOf}
+use Rattle.definition.specs.Demands.{broken, Demand2, Demand2Of, OneText, Rescored, RescoredOf}
 use Rattle.definition_laws.specs.Agree.{verdict-legal}
 use Rattle.definition_laws.specs.FirstBroken.{ruleIn, Broken, first-broken, none-broken}
 use Rattle.job_laws.specs.Refused.{Refused, job-refused}
 use Rattle.job_laws.specs.Whole.{accepted-sound}
 use Rattle.text_laws.specs.Poses.{read-prints, read-printed}
-use Rattle.text_laws.specs.Room.{legal-room, legal-printable}
+use Rattle.text_laws.specs.Room.{each-at, at-each, legal-room, legal-printable}
 use Rattle.demand_laws.specs.Demand1.{Lent, buffers}
 
 -- the verdict names a rule: which, and of which cell
@@ -85,6 +85,13 @@ pub score-demand2 : (job placement : Text) → Demand2Of job placement
 score-demand2 job placement j r P e =
     let p = read-prints (length (j .cells)) placement P e in
     subst (Demand2 j P) (sym (scored job placement j P r e)) (judged j P (p .count))
+
+pub texts : OneText
+texts = record {
+  reads-back = λ P h. read-printed P (each-at Printable P h);
+  one-text = λ n text P e. read-prints n text P e .prints;
+  in-range = λ n text P e. at-each Printable P (read-prints n text P e .small);
+}
 
 -- ---- what Place writes
 
