@@ -9,7 +9,7 @@ use mathlib.Core.List.{List, [], _∷_}
 use mathlib.Core.Option.{none}
 use lib.IntN.{ℤ, pos}
 use Rattle.definition.specs.Texts.{bytes}
-use Rattle.definition.specs.Job.{Job, Reading, refused, accepted, readJob, maxCells, maxTall}
+use Rattle.definition.specs.Job.{Reading, refused, accepted, readJob, maxCells, maxTall}
 use Rattle.definition.specs.Moves.{right, changeBy}
 use Rattle.definition.specs.Outcome.{Outcome, resultsOf, over, bufferRefusal, placeOutcome}
 use Rattle.definition.specs.FaultLine.{ofJob, ofPlacement, partAt, faultLine}

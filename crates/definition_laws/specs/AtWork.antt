@@ -1,6 +1,6 @@
 -- The claims at work on small texts: what a caller who believes them learns. A claim that says less does not give it.
 use Prim.Native.Nat.{ℕ, _+_, _≤_, _<_}
-use mathlib.Core.Path.{_≡_, refl, sym, ap, _∙_, subst}
+use mathlib.Core.Path.{_≡_, refl, ap, _∙_}
 use mathlib.Core.Logic.{inl, inr, _⊎_}
 use mathlib.Core.List.{List, [], _∷_}
 use native.Mathlib.Omega.{arith}
@@ -12,8 +12,8 @@ use Rattle.definition.specs.Placement.{Placement}
 use Rattle.definition.specs.Rules.{Legal}
 use Rattle.definition.specs.Cost.{cost}
 use Rattle.definition.specs.Moves.{Move, left, changeBy, alter, movedBy, after}
-use Rattle.definition.specs.Outcome.{bufferRefusal, Buffers, Returned, Demand3, Demand3Of, score, over}
-use Rattle.definition.specs.FaultLine.{partAt, faultLine, PartOf, Very, ToldFault}
+use Rattle.definition.specs.Outcome.{bufferRefusal, Buffers, Returned, Demand3, Demand3Of, over}
+use Rattle.definition.specs.FaultLine.{partAt, faultLine, Very, ToldFault}
 use Rattle.definition.specs.Edges.{fiveSites, fiveSitesD1}
 use Rattle.definition.specs.EdgesComputed.{opened}
 use Rattle.definition.specs.Worked.{oneCell}

@@ -1,23 +1,23 @@
 -- Demand 1 of Read, Score, Place and Fault line.
-use Prim.Native.Nat.{ℕ, zero, suc, _*_, _≤_, _<_}
+use Prim.Native.Nat.{ℕ, zero, suc, _≤_, _<_}
 use mathlib.Core.Path.{_≡_, refl, sym, ap, _∙_, subst}
 use mathlib.Core.Logic.{_⊎_, inl, inr}
 use mathlib.Core.Bool.{Bool, true, false, cond}
-use mathlib.Core.List.{List, [], _∷_, _++_}
+use mathlib.Core.List.{List, [], _∷_}
 use mathlib.Core.Option.{Option, none, some}
 use native.Mathlib.Omega.{arith}
 use borrow.Author.Tests.{lt-ltb, leb-true}
 use lib.ListN.{length, replicate}
-use lib.Dec.{ltb, leb, eqb}
+use lib.Dec.{leb, eqb}
 use lib.IntN.{ℤ, pos}
 use Rattle.definition.specs.Texts.{Text}
 use Rattle.definition.specs.Job.{Job, Reading, refused, accepted, readJob, firstFailing}
-use Rattle.definition.specs.Placement.{Placement, Poses, fault, poses, readPlacement, textOf}
+use Rattle.definition.specs.Placement.{Placement, Poses, fault, poses, readPlacement}
 use Rattle.definition.specs.Rules.{Verdict, verdict}
 use Rattle.definition.specs.Moves.{Cheapest}
 use Rattle.definition.specs.Outcome.{Outcome, read, readOutcome, score, scoreOutcome, scorePoses, scoreFields, numbers}
 use Rattle.definition.specs.Outcome.{placeOutcome, placeAnswer, PlaceGives, storeNeeded, outputNeeded, bufferRefusal}
-use Rattle.definition.specs.Outcome.{refusal, Told, Buffers, lent, Met, Placed, over}
+use Rattle.definition.specs.Outcome.{refusal, Told, Buffers, lent, Placed, over}
 use Rattle.definition.specs.FaultLine.{ToldFault, Part, ofJob, ofPlacement, wordsOf, faultLine}
 use Rattle.definition.specs.Demands.{isOneOf, Shape, readShape, scoreShape, placeShape, Demand1, FaultDemand1}
 use Rattle.definition_laws.specs.Sound.{Sound}

@@ -1,11 +1,10 @@
 -- Demand 2 of Score, and that Score reads what Place writes as legal, with the very numbers that Place gave.
-use Prim.Native.Nat.{ℕ, zero, suc, _-_, _≤_, _<_}
+use Prim.Native.Nat.{ℕ, zero, suc, _-_, _<_}
 use mathlib.Core.Path.{_≡_, refl, sym, ap, ap₂, _∙_, subst}
 use mathlib.Core.Option.{Option, none, some}
-use mathlib.Core.Bool.{Bool, true, false, cond}
-use mathlib.Core.List.{List, [], _∷_, _++_}
+use mathlib.Core.Bool.{true, false, cond}
+use mathlib.Core.List.{_∷_}
 use native.Mathlib.Omega.{arith}
-use native.Mathlib.Decide.{ℕ-discrete}
 use lib.ListN.{length, replicate}
 use lib.Dec.{eqb}
 use lib.IntN.{pos}
@@ -19,11 +18,11 @@ use Rattle.definition.specs.Outcome.{placeOutcome, placeAnswer, bufferRefusal, 
 use Rattle.definition.specs.Demands.{broken, Demand2, Demand2Of, OneText, Rescored, RescoredOf}
 use Rattle.definition_laws.specs.Agree.{verdict-legal}
 use Rattle.definition_laws.specs.FirstBroken.{ruleIn, Broken, first-broken, none-broken}
-use Rattle.job_laws.specs.Refused.{Refused, job-refused}
+use Rattle.job_laws.specs.Refused.{job-refused}
 use Rattle.job_laws.specs.Whole.{accepted-sound}
 use Rattle.text_laws.specs.Poses.{read-prints, read-printed}
 use Rattle.text_laws.specs.Room.{each-at, at-each, legal-room, legal-printable}
-use Rattle.demand_laws.specs.Demand1.{Lent, buffers}
+use Rattle.demand_laws.specs.Demand1.{buffers}
 
 -- the verdict names a rule: which, and of which cell
 named : (j : Job) (P : Placement) → ¬ (verdict j P .rule ≡ 0) → Broken (rules j P) 0 (length (j .cells)) (verdict j P)

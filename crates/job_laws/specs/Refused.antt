@@ -1,11 +1,11 @@
 -- A refused job text: its refusal is 1 to 4, at a line from 1 on.
 use Prim.Native.Nat.{ℕ, zero, suc, _≤_, _<_}
-use mathlib.Core.Path.{_≡_, refl, sym, _∙_}
+use mathlib.Core.Path.{_≡_, sym, _∙_}
 use mathlib.Core.Bool.{Bool, true, false}
 use mathlib.Core.List.{List, [], _∷_}
 use native.Mathlib.Omega.{arith}
 use Rattle.definition.specs.Texts.{Text, linesOf}
-use Rattle.definition.specs.Job.{Job, Reading, refused, accepted, firstFailing, headerRefusal, cellRefusal, headerOf}
+use Rattle.definition.specs.Job.{Job, Reading, refused, firstFailing, headerRefusal, cellRefusal, headerOf}
 use Rattle.definition.specs.Job.{numbersOf, cellOf, withCell, readCells, readLines, readJob}
 use Rattle.job_laws.specs.Tests.{choose, read-cell-line, read-header-line}
 
