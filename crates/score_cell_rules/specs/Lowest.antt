@@ -2,9 +2,10 @@
 use Prim.Native.Nat.{ℕ, zero, suc, _+_, _≤_, _<_}
 use mathlib.Core.Path.{_≡_, refl, sym, ap, ap₂, _∙_}
 use mathlib.Core.Bool.{Bool, true, false, _||_, cond, or-true}
+use mathlib.Core.List.{List, [], _∷_}
 use native.Mathlib.Omega.{arith}
 use native.Mathlib.Decide.{ℕ-discrete}
-use Rattle.definition.specs.Lists.{from, any}
+use Rattle.definition.specs.Lists.{from, any, keep}
 use Rattle.definition.specs.Rules.{lowest}
 
 module _ (f : ℕ → Bool) where
@@ -21,24 +22,24 @@ module _ (f : ℕ → Bool) where
       go (yes e) r = let q : f a ≡ true = ap f (sym e) ∙ t in rw q
       go (no d) r = rw (r (omega arith)) (or-true (f a))
 
-  -- no cell below i breaks the rule, and i does
-  pub lowest-found : (a n i : ℕ) → a ≤ i → i < a + n → f i ≡ true → ((k : ℕ) → a ≤ k → k < i → f k ≡ false)
-      → lowest f (from a n) ≡ suc i
-  unfolding lowest
-  lowest-found a zero i g l t h = absurd (omega arith)
-  lowest-found a (suc n) i g l t h =
-      go (ℕ-discrete i a) (λ b. lowest-found (suc a) n i b (omega arith) t (λ k c d. h k (omega arith) d))
-    where
-      go : Dec (i ≡ a) → (suc a ≤ i → lowest f (from (suc a) n) ≡ suc i)
-          → cond (f a) (suc a) (lowest f (from (suc a) n)) ≡ suc i
-      go (yes e) r = let q : f a ≡ true = ap f (sym e) ∙ t in rw q (ap suc (sym e))
-      go (no d) r = rw (h a (omega arith) (omega arith)) (r (omega arith))
-
+  -- no cell breaks the rule, by what the cells do and by what is found
   pub lowest-none : (a n : ℕ) → ((k : ℕ) → a ≤ k → k < a + n → f k ≡ false) → lowest f (from a n) ≡ 0
   unfolding lowest
   lowest-none a zero h = refl
   lowest-none a (suc n) h =
       rw (h a (omega arith) (omega arith)) (lowest-none (suc a) n (λ k g l. h k (omega arith) (omega arith)))
+
+  pub lowest-zero : (a n : ℕ) → lowest f (from a n) ≡ 0 → (k : ℕ) → a ≤ k → k < a + n → f k ≡ false
+  unfolding lowest
+  lowest-zero a zero e k h l = absurd (omega arith)
+  lowest-zero a (suc n) e k h l =
+      go (f a) refl e (ℕ-discrete k a) (λ z c. lowest-zero (suc a) n z k c (omega arith))
+    where
+      go : (t : Bool) → f a ≡ t → cond t (suc a) (lowest f (from (suc a) n)) ≡ 0 → Dec (k ≡ a)
+          → (lowest f (from (suc a) n) ≡ 0 → suc a ≤ k → f k ≡ false) → f k ≡ false
+      go true q z d r = absurd (omega arith)
+      go false q z (yes c) r = ap f c ∙ q
+      go false q z (no c) r = r z (omega arith)
 
   -- it is a cell of those, or none
   pub lowest-small : (a n : ℕ) → lowest f (from a n) ≤ a + n
@@ -71,3 +72,27 @@ module _ (f : ℕ → Bool) (i k n m : ℕ) (e : k ≡ suc i) (q : n ≡ suc m) 
   pub lowest-rest : f i ≡ false → lowest f (from i n) ≡ lowest f (from k m)
   unfolding lowest
   lowest-rest t = rw (q, t, e)
+
+  pub keep-more : f i ≡ true → keep f (from i n) ≡ i ∷ keep f (from k m)
+  keep-more t = rw (q, t, e)
+
+  pub keep-rest : f i ≡ false → keep f (from i n) ≡ keep f (from k m)
+  keep-rest t = rw (q, t, e)
+
+-- ---- all cells that break a rule
+
+-- the first of a list of cells, counted from 1; 0 if there is none
+abbrev pub first : List ℕ → ℕ
+first [] = 0
+first (k ∷ l) = suc k
+
+-- the lowest is the first of them
+pub lowest-first : (f : ℕ → Bool) (l : List ℕ) → lowest f l ≡ first (keep f l)
+unfolding lowest
+lowest-first f [] = refl
+lowest-first f (k ∷ l) = go (f k) (lowest-first f l)
+  where
+    go : (t : Bool) → lowest f l ≡ first (keep f l)
+        → cond t (suc k) (lowest f l) ≡ first (cond t (k ∷ keep f l) (keep f l))
+    go true r = refl
+    go false r = r

@@ -1,9 +1,10 @@
 -- The rules that are judged cell by cell, on the words of a placed job. They are the definition's: see
 -- Flat in score_verdict.
-use Prim.Native.Nat.{ℕ}
+use Prim.Native.Nat.{ℕ, _<_}
+use mathlib.Core.Path.{_≡_}
 use mathlib.Core.Bool.{Bool, not, _&&_, _||_}
 use mathlib.Core.List.{List}
-use lib.ListN.{getD}
+use lib.ListN.{length}
 use lib.Dec.{leb, ltb, eqb}
 use Rattle.definition.specs.Lists.{from, any}
 use Rattle.definition.specs.Job.{bothRows}
@@ -42,6 +43,8 @@ wrongIn words k b =
 unfoldable pub passesIn : List ℕ → ℕ → ℕ → Bool
 passesIn words n k = eqb (rowIn words k) 2 && any (wrongIn words k) (from 0 n)
 
--- marks: an entry of 1 says that the cell breaks a rule
-unfoldable pub markedIn : List ℕ → ℕ → Bool
-markedIn marks k = eqb (getD marks k 0) 1
+-- two cells to compare
+pub record Two (words : List ℕ) (k b : ℕ) : Type 0 where
+  pub long : length words ≡ 256
+  pub left : k < 64
+  pub right : b < 64

@@ -1,23 +1,23 @@
-// The lowest cell that breaks a rule, counted from 1, or 0: rules 1 to 4 and 7, and a rule whose breakers are marked.
+// Marks of the cells that break a rule, one word to a cell: made by rules 1 to 4 and 7, and read.
 ghost use mathlib.Core.Path.{_≡_};
 ghost use mathlib.Core.Bool.{true};
-ghost use Prim.Native.Nat.{_+_, _*_, _≤_, _<_};
+ghost use Prim.Native.Nat.{_≤_, _<_};
 ghost use lib.ListN.{length};
-ghost use Rattle.definition.specs.Lists.{from};
+ghost use Rattle.definition.specs.Lists.{from, keep};
 ghost use Rattle.definition.specs.Rules.{offered, lowest, breaks1};
 ghost use Rattle.job.specs.Value.{cellOf, poseOf, jobOf, placementOf};
-ghost use Rattle.score_order.specs.Words.{Room};
+ghost use Rattle.score_order.specs.Words.{Room, Words, Ordered};
 ghost use Rattle.score_words.specs.Ready.{Ready};
 ghost use Rattle.score_cell_rules.specs.Tests.{pastIn, farIn, shareIn, clashIn, clashesIn, wrongIn, passesIn};
-ghost use Rattle.score_cell_rules.specs.Tests.{markedIn};
-ghost use Rattle.score_cell_rules.specs.Quick.{InLine, RowClear, TallRising};
+ghost use Rattle.score_cell_rules.specs.Tests.{Two};
+ghost use Rattle.score_cell_rules.specs.Marks.{markedIn, Arrays, Added, Listed};
+ghost use Rattle.score_cell_rules.specs.Quick.{InLine, TallRising};
 use job::Cell;
 use job::Job;
 use job::Placement;
 use job::Pose;
 use job::stands;
 use score_order::entry;
-use score_order::order_row;
 use score_words::apart_of;
 
 // Rule 1: the cell has that layout, and may bear that mark.
@@ -33,48 +33,60 @@ fn is_offered(cell: Cell, pose: Pose) -> bool
     (pose.mark == 0) | ((pose.mark == 1) & cell.mirrorable)
 }
 
-pub fn lowest_unoffered(job: Job, placement: Placement) -> u32
-    requires { ⌜ Ready job placement ⌝ }
-    ensures { λ r. ⌜ r ≡ lowest (breaks1 (jobOf job) (placementOf placement)) (from 0 (job .count)) ⌝ }
+pub fn mark_unoffered(job: Job, placement: Placement, marks: &mut [u32])
+    requires { ⌜ Ready job placement × (length (now marks) ≡ 64) ⌝ }
+    ensures { λ r. ⌜ Added (job .count) (breaks1 (jobOf job) (placementOf placement))
+        (now (marks .entry)) (now (marks .exit)) ⌝ }
 {
-    let mut k: usize = 0;
-    while k < job.count {
+    let mut k: usize = job.count;
+    while 0 < k {
+        k -= 1;
         if !is_offered(job.cells[k], placement.poses[k]) {
-            return k as u32 + 1;
+            marks[k] = 1;
         }
-        k += 1;
     }
-    0
+}
+
+// A rule whose breakers were marked before.
+pub fn mark_again(made: &[u32], count: usize, marks: &mut [u32])
+    requires { ⌜ Arrays count (now made) (now marks) ⌝ }
+    ensures { λ r. ⌜ Added count (markedIn (now (made .entry))) (now (marks .entry)) (now (marks .exit)) ⌝ }
+{
+    let mut k: usize = count;
+    while 0 < k {
+        k -= 1;
+        if made[k] == 1 {
+            marks[k] = 1;
+        }
+    }
 }
 
 // Rule 2.
-pub fn lowest_past(words: &[u32], count: usize, sites: u32) -> u32
-    requires { ⌜ (count ≤ 64) × (length (now words) ≡ 256) ⌝ }
-    ensures { λ r. ⌜ r ≡ lowest (pastIn (now (words .entry)) sites) (from 0 count) ⌝ }
+pub fn mark_past(words: &[u32], count: usize, sites: u32, marks: &mut [u32])
+    requires { ⌜ Words (now words) count × (length (now marks) ≡ 64) ⌝ }
+    ensures { λ r. ⌜ Added count (pastIn (now (words .entry)) sites) (now (marks .entry)) (now (marks .exit)) ⌝ }
 {
-    let mut k: usize = 0;
-    while k < count {
+    let mut k: usize = count;
+    while 0 < k {
+        k -= 1;
         if sites < words[4 * k + 1] {
-            return k as u32 + 1;
+            marks[k] = 1;
         }
-        k += 1;
     }
-    0
 }
 
 // Rule 3.
-pub fn lowest_far(words: &[u32], count: usize, limit: u32) -> u32
-    requires { ⌜ (count ≤ 64) × (length (now words) ≡ 256) ⌝ }
-    ensures { λ r. ⌜ r ≡ lowest (farIn (now (words .entry)) limit) (from 0 count) ⌝ }
+pub fn mark_far(words: &[u32], count: usize, limit: u32, marks: &mut [u32])
+    requires { ⌜ Words (now words) count × (length (now marks) ≡ 64) ⌝ }
+    ensures { λ r. ⌜ Added count (farIn (now (words .entry)) limit) (now (marks .entry)) (now (marks .exit)) ⌝ }
 {
-    let mut k: usize = 0;
-    while k < count {
+    let mut k: usize = count;
+    while 0 < k {
+        k -= 1;
         if limit < apart_of(words[4 * k], words[4 * k + 3]) {
-            return k as u32 + 1;
+            marks[k] = 1;
         }
-        k += 1;
     }
-    0
 }
 
 // Rule 4: cells of two row numbers share a row.
@@ -86,7 +98,7 @@ fn share(a: u32, b: u32) -> bool
 
 // Two different cells share a site in a row.
 fn clash(words: &[u32], k: usize, b: usize) -> bool
-    requires { ⌜ (length (now words) ≡ 256) × (k < 64) × (b < 64) ⌝ }
+    requires { ⌜ Two (now words) k b ⌝ }
     ensures { λ r. ⌜ r ≡ clashIn (now (words .entry)) k b ⌝ }
 {
     if words[4 * b + 1] <= words[4 * k] {
@@ -99,7 +111,7 @@ fn clash(words: &[u32], k: usize, b: usize) -> bool
 }
 
 fn clashes(words: &[u32], count: usize, k: usize) -> bool
-    requires { ⌜ (length (now words) ≡ 256) × (k < 64) × (count ≤ 64) ⌝ }
+    requires { ⌜ Words (now words) count × (k < 64) ⌝ }
     ensures { λ r. ⌜ r ≡ clashesIn (now (words .entry)) count k ⌝ }
 {
     let mut b: usize = 0;
@@ -112,18 +124,17 @@ fn clashes(words: &[u32], count: usize, k: usize) -> bool
     false
 }
 
-fn search_clash(words: &[u32], count: usize) -> u32
-    requires { ⌜ (count ≤ 64) × (length (now words) ≡ 256) ⌝ }
-    ensures { λ r. ⌜ r ≡ lowest (clashesIn (now (words .entry)) count) (from 0 count) ⌝ }
+fn mark_clashes(words: &[u32], count: usize, marks: &mut [u32])
+    requires { ⌜ Words (now words) count × (length (now marks) ≡ 64) ⌝ }
+    ensures { λ r. ⌜ Added count (clashesIn (now (words .entry)) count) (now (marks .entry)) (now (marks .exit)) ⌝ }
 {
-    let mut k: usize = 0;
-    while k < count {
+    let mut k: usize = count;
+    while 0 < k {
+        k -= 1;
         if clashes(words, count, k) {
-            return k as u32 + 1;
+            marks[k] = 1;
         }
-        k += 1;
     }
-    0
 }
 
 // The quick test: no cell of the list begins before all that precede it have ended.
@@ -150,30 +161,29 @@ fn farther(a: u32, b: u32) -> u32
     if a < b { b } else { a }
 }
 
-fn row_clear(words: &[u32], count: usize, row: u32) -> bool
-    requires { ⌜ (count ≤ 64) × (length (now words) ≡ 256) ⌝ }
-    ensures { λ r. ⌜ (r ≡ true → RowClear (now (words .entry)) row count) ⌝ }
+// Every pair of cells is tried only if a row fails the quick test.
+pub fn mark_overlaps(
+    words: &[u32],
+    count: usize,
+    order0: &[u32],
+    start0: usize,
+    order1: &[u32],
+    start1: usize,
+    marks: &mut [u32],
+)
+    requires { ⌜ Ordered (now words) count (now order0) start0 (now order1) start1 × (length (now marks) ≡ 64) ⌝ }
+    ensures { λ r. ⌜ Added count (clashesIn (now (words .entry)) count) (now (marks .entry)) (now (marks .exit)) ⌝ }
 {
-    let mut order = [0u32; 64];
-    let at = order_row(words, count, row, &mut order);
-    in_line(words, &order, at)
-}
-
-// The search is left for when a row fails the quick test.
-pub fn lowest_clash(words: &[u32], count: usize) -> u32
-    requires { ⌜ (count ≤ 64) × (length (now words) ≡ 256) ⌝ }
-    ensures { λ r. ⌜ r ≡ lowest (clashesIn (now (words .entry)) count) (from 0 count) ⌝ }
-{
-    let clear = row_clear(words, count, 0) & row_clear(words, count, 1);
+    let clear = in_line(words, order0, start0) & in_line(words, order1, start1);
     if clear {
-        return 0;
+        return;
     }
-    search_clash(words, count)
+    mark_clashes(words, count, marks);
 }
 
 // Rule 7: tall cell b is on the wrong side of cell k.
 fn wrong(words: &[u32], k: usize, b: usize) -> bool
-    requires { ⌜ (length (now words) ≡ 256) × (k < 64) × (b < 64) ⌝ }
+    requires { ⌜ Two (now words) k b ⌝ }
     ensures { λ r. ⌜ r ≡ wrongIn (now (words .entry)) k b ⌝ }
 {
     if words[4 * b + 2] != 2 {
@@ -185,7 +195,7 @@ fn wrong(words: &[u32], k: usize, b: usize) -> bool
 }
 
 fn passes(words: &[u32], count: usize, k: usize) -> bool
-    requires { ⌜ (length (now words) ≡ 256) × (k < 64) × (count ≤ 64) ⌝ }
+    requires { ⌜ Words (now words) count × (k < 64) ⌝ }
     ensures { λ r. ⌜ r ≡ passesIn (now (words .entry)) count k ⌝ }
 {
     if words[4 * k + 2] != 2 {
@@ -201,23 +211,22 @@ fn passes(words: &[u32], count: usize, k: usize) -> bool
     false
 }
 
-fn search_passing(words: &[u32], count: usize) -> u32
-    requires { ⌜ (count ≤ 64) × (length (now words) ≡ 256) ⌝ }
-    ensures { λ r. ⌜ r ≡ lowest (passesIn (now (words .entry)) count) (from 0 count) ⌝ }
+fn mark_passes(words: &[u32], count: usize, marks: &mut [u32])
+    requires { ⌜ Words (now words) count × (length (now marks) ≡ 64) ⌝ }
+    ensures { λ r. ⌜ Added count (passesIn (now (words .entry)) count) (now (marks .entry)) (now (marks .exit)) ⌝ }
 {
-    let mut k: usize = 0;
-    while k < count {
+    let mut k: usize = count;
+    while 0 < k {
+        k -= 1;
         if passes(words, count, k) {
-            return k as u32 + 1;
+            marks[k] = 1;
         }
-        k += 1;
     }
-    0
 }
 
 // The quick test: the tall cells' sites do not fall in file order.
 fn tall_rising(words: &[u32], count: usize) -> bool
-    requires { ⌜ (count ≤ 64) × (length (now words) ≡ 256) ⌝ }
+    requires { ⌜ Words (now words) count ⌝ }
     ensures { λ r. ⌜ (r ≡ true → TallRising (now (words .entry)) count) ⌝ }
 {
     let mut reach: u32 = 0;
@@ -236,17 +245,17 @@ fn tall_rising(words: &[u32], count: usize) -> bool
     true
 }
 
-pub fn lowest_passing(words: &[u32], count: usize) -> u32
-    requires { ⌜ (count ≤ 64) × (length (now words) ≡ 256) ⌝ }
-    ensures { λ r. ⌜ r ≡ lowest (passesIn (now (words .entry)) count) (from 0 count) ⌝ }
+pub fn mark_passing(words: &[u32], count: usize, marks: &mut [u32])
+    requires { ⌜ Words (now words) count × (length (now marks) ≡ 64) ⌝ }
+    ensures { λ r. ⌜ Added count (passesIn (now (words .entry)) count) (now (marks .entry)) (now (marks .exit)) ⌝ }
 {
     if tall_rising(words, count) {
-        return 0;
+        return;
     }
-    search_passing(words, count)
+    mark_passes(words, count, marks);
 }
 
-// The lowest cell whose mark is 1: the last that is met from the end.
+// The lowest cell that is marked, counted from 1, or 0: the last that is met from the end.
 pub fn lowest_marked(marks: &[u32], count: usize) -> u32
     requires { ⌜ (count ≤ 64) × (length (now marks) ≡ 64) ⌝ }
     ensures { λ r. ⌜ r ≡ lowest (markedIn (now (marks .entry))) (from 0 count) ⌝ }
@@ -261,4 +270,22 @@ pub fn lowest_marked(marks: &[u32], count: usize) -> u32
         }
     }
     cell
+}
+
+// The marked cells, counted from 0, are written to the start of `list` in rising order; the answer is how many.
+pub fn list_marked(marks: &[u32], count: usize, list: &mut [u32]) -> usize
+    requires { ⌜ Arrays count (now marks) (now list) ⌝ }
+    ensures { λ r. ⌜ Listed (keep (markedIn (now (marks .entry))) (from 0 count)) r (now (list .exit)) ⌝ }
+{
+    let mut n: usize = 0;
+    let mut k: usize = 0;
+    while k < count {
+        let cell = k;
+        k += 1;
+        if marks[cell] == 1 {
+            list[n] = cell as u32;
+            n += 1;
+        }
+    }
+    n
 }

@@ -1,3 +1,3 @@
-pub mod Marks
+pub mod Tests
 pub mod Near
 pub mod Out

@@ -12,7 +12,8 @@ use borrow.Author.Tests.{eq-eqb, ne-eqb}
 use Rattle.lists.specs.Tails.{tail-cons, tail-last}
 use Rattle.definition.specs.Lists.{anyNext}
 use Rattle.score_order.specs.Words.{siteIn, endIn}
-use Rattle.score_row_rules.specs.Marks.{oneSite, nearIn, Added, added-same}
+use Rattle.score_cell_rules.specs.Marks.{Added, added-below}
+use Rattle.score_row_rules.specs.Tests.{oneSite, nearIn}
 
 -- ---- the neighbours of the entries from i on
 
@@ -80,17 +81,17 @@ module _ (words l m m′ : List ℕ) (i n a b g : ℕ) (q : n ≡ suc i) (h : n 
   pub near-one : a < 64 → b < 64 → g ≡ 1 → Added 64 (nearIn words (drop n l)) m m′
       → Added 64 (nearIn words (drop i l)) m (set (set m′ a 1) b 1)
   near-one ha hb e p =
-      added-same
+      added-below
       64
       (λ k. (eqb k a || eqb k b) || nearIn words (drop n l) k)
       (nearIn words (drop i l))
       m
       (set (set m′ a 1) b 1)
-      (λ k. sym (pair k ∙ ap (λ t. t || nearIn words (drop n l) k) (site-one words k a b (sym eg ∙ e))))
+      (λ k _. sym (pair k ∙ ap (λ t. t || nearIn words (drop n l) k) (site-one words k a b (sym eg ∙ e))))
       (added-two (nearIn words (drop n l)) m m′ a b ha hb p)
 
   pub near-other : (g ≡ 1 → ⊥) → Added 64 (nearIn words (drop n l)) m m′
       → Added 64 (nearIn words (drop i l)) m m′
   near-other d p =
-      added-same 64 (nearIn words (drop n l)) (nearIn words (drop i l)) m m′
-      (λ k. sym (pair k ∙ ap (λ t. t || nearIn words (drop n l) k) (site-other words k a b (λ e. d (eg ∙ e))))) p
+      added-below 64 (nearIn words (drop n l)) (nearIn words (drop i l)) m m′
+      (λ k _. sym (pair k ∙ ap (λ t. t || nearIn words (drop n l) k) (site-other words k a b (λ e. d (eg ∙ e))))) p

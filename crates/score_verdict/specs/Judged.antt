@@ -1,16 +1,28 @@
--- A verdict of the program, and that it is the definition's.
-use Prim.Native.Nat.{ℕ, zero, suc}
+-- A verdict of the program: that it is the definition's, and what is left marked.
+use Prim.Native.Nat.{ℕ, zero, suc, _<_}
 use mathlib.Core.Path.{_≡_, refl, sym, _∙_}
 use mathlib.Core.Bool.{Bool}
 use mathlib.Core.List.{List, [], _∷_}
 use native.Mathlib.Omega.{arith}
+use Rattle.definition.specs.Lists.{from, keep}
+use Rattle.definition.specs.Job as paper
+use Rattle.definition.specs.Placement as text
 use Rattle.definition.specs.Rules as definition
-use Rattle.definition.specs.Rules.{lowest, firstBroken}
+use Rattle.definition.specs.Rules.{lowest, firstBroken, verdict}
+use Rattle.score_cell_rules.specs.Lowest.{first}
+use Rattle.score_cell_rules.specs.Marks.{markedIn}
+use Rattle.score_verdict.specs.Rules.{ruleOf}
 use Rattle.score_verdict.specs.declared.Verdict.{Verdict}
 
 pub record Judged (v : definition.Verdict) (r : Verdict) : Type 0 where
   pub rule : r .rule ≡ v .rule
   pub cell : r .cell ≡ v .cell
+
+-- the marks of n cells are those of the rule that is told, and its cell is the first of them
+pub record Told (j : paper.Job) (P : text.Placement) (n : ℕ) (r : Verdict) (marks : List ℕ) : Type 0 where
+  pub judged : Judged (verdict j P) r
+  pub marked : (k : ℕ) → k < n → markedIn marks k ≡ ruleOf j P (r .rule) k
+  pub foremost : r .cell ≡ first (keep (markedIn marks) (from 0 n))
 
 -- ---- the first of some rules is broken by a cell, or holds
 
@@ -37,9 +49,3 @@ module _ (r : ℕ) (f : ℕ → Bool) (fs : List (ℕ → Bool)) (ks : List ℕ)
 pub all-hold : (r : ℕ) (ks : List ℕ) → Judged (firstBroken r [] ks) (record { rule = 0; cell = 0 })
 unfolding firstBroken
 all-hold r ks = record { rule = refl; cell = refl }
-
--- rules whose lowest cells are the same
-pub first-same : (r : ℕ) (f g : ℕ → Bool) (fs gs : List (ℕ → Bool)) (ks : List ℕ) → lowest f ks ≡ lowest g ks
-    → firstBroken (suc r) fs ks ≡ firstBroken (suc r) gs ks → firstBroken r (f ∷ fs) ks ≡ firstBroken r (g ∷ gs) ks
-unfolding firstBroken
-first-same r f g fs gs ks p q = λ i. elim (p i) [ zero ↦ q i | suc k ↦ record { rule = r; cell = suc k } ]

@@ -1,2 +1,5 @@
+pub mod Rules
 pub mod Judged
 pub mod Flat
+pub mod Board
+pub mod Held

@@ -1,25 +1,28 @@
-// The verdict on a placement: the first broken rule and its lowest cell.
+// The verdict on a placement: the first broken rule and its lowest cell. Each rule marks the cells that break it.
 ghost use mathlib.Core.Path.{_≡_};
-ghost use mathlib.Core.List.{[], _∷_};
-ghost use Prim.Native.Nat.{_≤_};
 ghost use lib.ListN.{length};
-ghost use Rattle.definition.specs.Lists.{from};
-ghost use Rattle.definition.specs.Rules.{firstBroken, verdict};
+ghost use Rattle.definition.specs.Rules.{verdict};
 ghost use Rattle.job.specs.Value.{jobOf, placementOf};
 ghost use Rattle.score_words.specs.Ready.{Ready};
-ghost use Rattle.score_cell_rules.specs.Tests.{passesIn, markedIn};
-ghost use Rattle.score_verdict.specs.Judged.{Judged};
-ghost use Rattle.score_verdict.specs.Flat.{rowRules, wordRules};
+ghost use Rattle.score_cell_rules.specs.Marks.{Unmarked};
+ghost use Rattle.score_verdict.specs.Judged.{Judged, Told};
+ghost use Rattle.score_verdict.specs.Board.{Laid, RuleMarked, RulesJudged};
 use job::Job;
 use job::Placement;
-use score_cell_rules::lowest_clash;
-use score_cell_rules::lowest_far;
 use score_cell_rules::lowest_marked;
-use score_cell_rules::lowest_passing;
-use score_cell_rules::lowest_past;
-use score_cell_rules::lowest_unoffered;
-use score_row_rules::mark_row;
+use score_cell_rules::mark_again;
+use score_cell_rules::mark_far;
+use score_cell_rules::mark_overlaps;
+use score_cell_rules::mark_passing;
+use score_cell_rules::mark_past;
+use score_cell_rules::mark_unoffered;
+use score_order::order_row;
+use score_row_rules::mark_gaps;
+use score_row_rules::mark_places;
 use score_words::flatten;
+
+// How many rules there are.
+const RULES: u32 = 7;
 
 // Both 0 if all rules hold; cells count from 1.
 pub struct Verdict {
@@ -27,100 +30,128 @@ pub struct Verdict {
     pub cell: u32,
 }
 
-// Rules 5 to 7, of which the breakers of 5 and 6 are marked.
-fn judge_marks(words: &[u32], count: usize, near: &[u32], out: &[u32]) -> Verdict
-    requires { ⌜ (length (now words) ≡ 256) × (count ≤ 64) × (length (now near) ≡ 64) × (length (now out) ≡ 64) ⌝ }
-    ensures { λ r. ⌜ Judged (firstBroken 5
-        (markedIn (now (near .entry)) ∷ markedIn (now (out .entry)) ∷ passesIn (now (words .entry)) count ∷ [])
-        (from 0 count)) r ⌝ }
+// How many cells the job has, and its limits.
+struct Limits {
+    cells: usize,
+    sites: u32,
+    displacement: u32,
+    reordering: u32,
+}
+
+// Where the order of each row starts in its array.
+struct Starts {
+    row0: usize,
+    row1: usize,
+}
+
+// The cells that break rule number `rule` are marked. A number that no rule has marks none.
+fn mark_rule(
+    rule: u32,
+    limits: Limits,
+    unoffered: &[u32],
+    words: &[u32],
+    order0: &[u32],
+    order1: &[u32],
+    starts: Starts,
+    marks: &mut [u32],
+)
+    requires { ⌜ Laid limits (now unoffered) (now words) (now order0) (now order1) starts
+        × (length (now marks) ≡ 64) ⌝ }
+    ensures { λ r. ⌜ RuleMarked limits (now (unoffered .entry)) (now (words .entry)) rule
+        (now (marks .entry)) (now (marks .exit)) ⌝ }
 {
-    let beside = lowest_marked(near, count);
-    if beside != 0 {
-        return Verdict {
-            rule: 5,
-            cell: beside,
-        };
+    let cells = limits.cells;
+    let start0 = starts.row0;
+    let start1 = starts.row1;
+    match rule {
+        1 => mark_again(unoffered, cells, marks),
+        2 => mark_past(words, cells, limits.sites, marks),
+        3 => mark_far(words, cells, limits.displacement, marks),
+        4 => mark_overlaps(words, cells, order0, start0, order1, start1, marks),
+        5 => mark_gaps(words, cells, order0, start0, order1, start1, marks),
+        6 => mark_places(
+            words,
+            cells,
+            limits.reordering,
+            order0,
+            start0,
+            order1,
+            start1,
+            marks,
+        ),
+        7 => mark_passing(words, cells, marks),
+        _ => {}
     }
-    let misplaced = lowest_marked(out, count);
-    if misplaced != 0 {
-        return Verdict {
-            rule: 6,
-            cell: misplaced,
-        };
-    }
-    let passing = lowest_passing(words, count);
-    if passing != 0 {
-        return Verdict {
-            rule: 7,
-            cell: passing,
-        };
+}
+
+// The rules in their order, up to the first that is broken.
+fn judge_rules(
+    limits: Limits,
+    unoffered: &[u32],
+    words: &[u32],
+    order0: &[u32],
+    order1: &[u32],
+    starts: Starts,
+    marks: &mut [u32],
+) -> Verdict
+    requires { ⌜ Laid limits (now unoffered) (now words) (now order0) (now order1) starts
+        × Unmarked (limits .cells) (now marks) ⌝ }
+    ensures { λ r. ⌜ RulesJudged limits (now (unoffered .entry)) (now (words .entry)) r (now (marks .exit)) ⌝ }
+{
+    let mut rule: u32 = 1;
+    while rule <= RULES {
+        mark_rule(
+            rule,
+            limits,
+            unoffered,
+            words,
+            order0,
+            order1,
+            starts,
+            marks,
+        );
+        let cell = lowest_marked(marks, limits.cells);
+        if cell != 0 {
+            return Verdict { rule, cell };
+        }
+        rule += 1;
     }
     Verdict { rule: 0, cell: 0 }
 }
 
-// Rules 5 to 7.
-fn judge_rows(words: &[u32], count: usize, reordering: u32) -> Verdict
-    requires { ⌜ (length (now words) ≡ 256) × (count ≤ 64) ⌝ }
-    ensures { λ r. ⌜ Judged (firstBroken 5 (rowRules (now (words .entry)) count reordering) (from 0 count)) r ⌝ }
+// The cells that break the first broken rule are left marked.
+pub fn judge(job: Job, placement: Placement, marks: &mut [u32]) -> Verdict
+    requires { ⌜ Ready job placement × Unmarked (job .count) (now marks) ⌝ }
+    ensures { λ r. ⌜ Told (jobOf job) (placementOf placement) (job .count) r (now (marks .exit)) ⌝ }
 {
-    let mut near = [0u32; 64];
-    let mut out = [0u32; 64];
-    mark_row(words, count, 0, reordering, &mut near, &mut out);
-    mark_row(words, count, 1, reordering, &mut near, &mut out);
-    judge_marks(words, count, &near, &out)
+    let mut words = [0u32; 256];
+    flatten(job, placement, &mut words);
+    let mut unoffered = [0u32; 64];
+    mark_unoffered(job, placement, &mut unoffered);
+    let count = job.count;
+    let mut order0 = [0u32; 64];
+    let start0 = order_row(&words, count, 0, &mut order0);
+    let mut order1 = [0u32; 64];
+    let start1 = order_row(&words, count, 1, &mut order1);
+    let header = job.header;
+    let limits = Limits {
+        cells: count,
+        sites: header.sites,
+        displacement: header.displacement,
+        reordering: header.reordering,
+    };
+    let starts = Starts {
+        row0: start0,
+        row1: start1,
+    };
+    judge_rules(limits, &unoffered, &words, &order0, &order1, starts, marks)
 }
 
-// Rules 2 to 7.
-fn judge_words(
-    words: &[u32],
-    count: usize,
-    sites: u32,
-    displacement: u32,
-    reordering: u32,
-) -> Verdict
-    requires { ⌜ (length (now words) ≡ 256) × (count ≤ 64) ⌝ }
-    ensures { λ r. ⌜ Judged (firstBroken 2
-        (wordRules (now (words .entry)) count sites displacement reordering)
-        (from 0 count)) r ⌝ }
-{
-    let past = lowest_past(words, count, sites);
-    if past != 0 {
-        return Verdict {
-            rule: 2,
-            cell: past,
-        };
-    }
-    let far = lowest_far(words, count, displacement);
-    if far != 0 {
-        return Verdict { rule: 3, cell: far };
-    }
-    let clash = lowest_clash(words, count);
-    if clash != 0 {
-        return Verdict {
-            rule: 4,
-            cell: clash,
-        };
-    }
-    judge_rows(words, count, reordering)
-}
-
-// All seven rules.
+// The verdict alone.
 pub fn verdict_of(job: Job, placement: Placement) -> Verdict
     requires { ⌜ Ready job placement ⌝ }
     ensures { λ r. ⌜ Judged (verdict (jobOf job) (placementOf placement)) r ⌝ }
 {
-    let mut words = [0u32; 256];
-    flatten(job, placement, &mut words);
-    let cell = lowest_unoffered(job, placement);
-    if cell != 0 {
-        return Verdict { rule: 1, cell };
-    }
-    let header = job.header;
-    judge_words(
-        &words,
-        job.count,
-        header.sites,
-        header.displacement,
-        header.reordering,
-    )
+    let mut marks = [0u32; 64];
+    judge(job, placement, &mut marks)
 }

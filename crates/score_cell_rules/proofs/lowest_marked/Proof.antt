@@ -4,7 +4,7 @@ use mathlib.Core.Path.{_≡_, sym, ap₂, _∙_}
 use native.Mathlib.Numerals.{add-one}
 use Rattle.definition.specs.Lists.{from}
 use Rattle.definition.specs.Rules.{lowest}
-use Rattle.score_cell_rules.specs.Tests.{markedIn}
+use Rattle.score_cell_rules.specs.Marks.{markedIn}
 use Rattle.score_cell_rules.specs.Lowest.{lowest-none, lowest-more, lowest-rest}
 use native.Mathlib.Omega.{arith}
 use Rattle.score_cell_rules.proofs.lowest_marked.Statement.{statement}
