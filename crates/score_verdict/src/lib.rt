@@ -63,22 +63,14 @@ fn mark_rule(
     let cells = limits.cells;
     let start0 = starts.row0;
     let start1 = starts.row1;
+    let limit = limits.reordering;
     match rule {
         1 => mark_again(unoffered, cells, marks),
         2 => mark_past(words, cells, limits.sites, marks),
         3 => mark_far(words, cells, limits.displacement, marks),
         4 => mark_overlaps(words, cells, order0, start0, order1, start1, marks),
         5 => mark_gaps(words, cells, order0, start0, order1, start1, marks),
-        6 => mark_places(
-            words,
-            cells,
-            limits.reordering,
-            order0,
-            start0,
-            order1,
-            start1,
-            marks,
-        ),
+        6 => mark_places(words, cells, limit, order0, start0, order1, start1, marks),
         7 => mark_passing(words, cells, marks),
         _ => {}
     }
