@@ -1,4 +1,5 @@
 pub mod Sound
+pub mod Offers
 pub mod Agree
 pub mod FirstBroken
 pub mod Search

@@ -1,5 +1,5 @@
 -- Widths and heights of a cell, layout by layout: of one that it has, of one that it lacks.
-use Prim.Native.Nat.{ℕ, suc, _≤_, _<_}
+use Prim.Native.Nat.{ℕ, suc, _≤_, _<_, min}
 use mathlib.Core.Path.{_≡_, sym, ap, _∙_}
 use mathlib.Core.Bool.{Bool, true, false, cond}
 use mathlib.Core.List.{List, [], _∷_}
@@ -9,10 +9,11 @@ use lib.Seq.{getD-take}
 use lib.Dec.{leb, eqb}
 use Rattle.lists.specs.Compare.{Le?, low, high, le?}
 use Rattle.definition.specs.Job as paper
-use Rattle.definition.specs.Rules.{noLayout}
+use Rattle.definition.specs.Rules.{noLayout, Offer, offerOf}
 use Rattle.definition_laws.specs.Sound.{SoundCell}
 use Rattle.job.specs.declared.Cell.{Cell}
-use Rattle.job.specs.Value.{cellOf, layoutOf, heightCount}
+use Rattle.job.specs.declared.Header.{Header}
+use Rattle.job.specs.Value.{headerOf, cellOf, layoutOf, heightCount}
 use Rattle.job.specs.Parts.{widthIn, heightIn}
 
 pub count-small : (row : ℕ) → heightCount row ≤ 8
@@ -76,3 +77,20 @@ width-small h c l s = go (leb (suc l) (length (c .layouts))) (le? (suc l) (lengt
     go : (t : Bool) → Le? (suc l) (length (c .layouts)) t → widthIn c l ≤ 64
     go true (low g) = s .layout l g .narrow
     go false (high g) = rw (widthIn, List·getD-eq-default (c .layouts) noLayout {n = l} (omega arith)) (omega arith)
+
+-- ---- what a cell is offered
+
+layouts-count : (c : Cell) → length (cellOf c .layouts) ≡ min (c .layouts) 2
+unfolding cellOf
+layouts-count c = length-take (c .layouts) (two c)
+
+pub offer-same : (h : Header) (c : Cell) (n : ℕ) → n ≡ min (c .layouts) 2
+    → record { given = c .given; limit = h .displacement; layouts = n; mirrorable = c .mirrorable }
+    ≡ offerOf (headerOf h) (cellOf c)
+unfolding headerOf cellOf
+offer-same h c n e = ap (λ (x : ℕ). record {
+  given = c .given;
+  limit = h .displacement;
+  layouts = x;
+  mirrorable = c .mirrorable;
+}) (e ∙ sym (layouts-count c))

@@ -6,11 +6,13 @@ use lib.ListN.{getD, take, replicate}
 use lib.Dec.{eqb}
 use Rattle.definition.specs.Job as paper
 use Rattle.definition.specs.Placement as text
+use Rattle.definition.specs.Rules as rules
 use Rattle.job.specs.declared.Layout.{Layout}
 use Rattle.job.specs.declared.Cell.{Cell}
 use Rattle.job.specs.declared.Header.{Header}
 use Rattle.job.specs.declared.Job.{Job}
 use Rattle.job.specs.declared.Pose.{Pose}
+use Rattle.job.specs.declared.Offer.{Offer}
 use Rattle.job.specs.declared.Placement.{Placement}
 
 abbrev pub emptyLayout : Layout
@@ -50,6 +52,10 @@ layoutsOf c = take (c .layouts) (layoutOf (c .row) (c .first) ∷ layoutOf (c .r
 
 unfoldable pub cellOf : Cell → paper.Cell
 cellOf c = record { row = c .row; given = c .given; mirrorable = c .mirrorable; layouts = layoutsOf c }
+
+-- what a cell is offered
+abbrev pub offerIn : Offer → rules.Offer
+offerIn o = record { given = o .given; limit = o .limit; layouts = o .layouts; mirrorable = o .mirrorable }
 
 unfoldable pub headerOf : Header → paper.Header
 headerOf h = record {

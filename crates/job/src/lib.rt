@@ -1,8 +1,9 @@
 // The job and a placement as values: what the reader hands on, their limits, and what is asked of one cell.
 ghost use mathlib.Core.Path.{_≡_};
-ghost use Prim.Native.Nat.{_+_, _≤_, _<_};
+ghost use Prim.Native.Nat.{_+_, _≤_, _<_, min};
+ghost use Rattle.definition.specs.Rules.{apart, offerOf, choiceOffered, siteOffered};
 ghost use Rattle.job.specs.Value.{emptyLayout, emptyCell, emptyHeader, emptyJob, emptyPose, emptyPlacement};
-ghost use Rattle.job.specs.Value.{cellOf, heightCount};
+ghost use Rattle.job.specs.Value.{headerOf, cellOf, poseOf, offerIn, heightCount};
 ghost use Rattle.job.specs.Parts.{standsIn, widthIn, heightIn, firstOf};
 
 // A width and eight heights: left P, left N, right P, right N of row 0 (or of the single cell's row), then of row 1.
@@ -157,6 +158,53 @@ pub fn stands(of: u32, row: u32) -> bool
     ensures { λ r. ⌜ r ≡ standsIn row of ⌝ }
 {
     (of == 2) | (of == row)
+}
+
+// How far apart two numbers are.
+pub fn apart_of(a: u32, b: u32) -> u32
+    ensures { λ r. ⌜ r ≡ apart a b ⌝ }
+{
+    if a < b { b - a } else { a - b }
+}
+
+// What rules 1 and 3 leave to a cell: how far from its given site it may stand, which layout numbers it may take,
+// whether it may be mirrored.
+pub struct Offer {
+    pub given: u32,
+    pub limit: u32,
+    pub layouts: u32,
+    pub mirrorable: bool,
+}
+
+fn two_at_most(n: u32) -> u32
+    ensures { λ r. ⌜ r ≡ min n 2 ⌝ }
+{
+    if n < 2 { n } else { 2 }
+}
+
+pub fn offer_of(header: Header, cell: Cell) -> Offer
+    ensures { λ r. ⌜ offerIn r ≡ offerOf (headerOf header) (cellOf cell) ⌝ }
+{
+    Offer {
+        given: cell.given,
+        limit: header.displacement,
+        layouts: two_at_most(cell.layouts),
+        mirrorable: cell.mirrorable,
+    }
+}
+
+// Rule 1, of what is offered.
+pub fn offers_choice(offer: Offer, pose: Pose) -> bool
+    ensures { λ r. ⌜ r ≡ choiceOffered (offerIn offer) (poseOf pose) ⌝ }
+{
+    (pose.layout < offer.layouts) & ((pose.mark == 0) | ((pose.mark == 1) & offer.mirrorable))
+}
+
+// Rule 3, of what is offered.
+pub fn offers_site(offer: Offer, pose: Pose) -> bool
+    ensures { λ r. ⌜ r ≡ siteOffered (offerIn offer) (poseOf pose) ⌝ }
+{
+    apart_of(pose.site, offer.given) <= offer.limit
 }
 
 // The width of a cell in a layout; 0 in one that it lacks.

@@ -1,16 +1,14 @@
--- The tests of rules 2, 3, 4 and 7 on the words, by what they compare.
+-- The tests of rules 2, 4 and 7 on the words, by what they compare.
 use Prim.Native.Nat.{ℕ, _≤_, _<_}
 use mathlib.Core.Path.{_≡_, sym, ap}
 use mathlib.Core.Bool.{true, false, not, _&&_, _||_, and-true, and-false, or-false}
 use mathlib.Core.List.{List}
-use native.Mathlib.Omega.{arith}
 use lib.Dec.{leb, ltb, eqb}
 use borrow.Author.Tests.{lt-ltb, le-ltb, le-leb, lt-leb, eq-eqb, ne-eqb}
 use Rattle.definition.specs.Lists.{from, any}
-use Rattle.definition.specs.Rules.{apart}
 use Rattle.job.specs.Parts.{standsIn}
-use Rattle.score_order.specs.Words.{siteIn, endIn, rowIn, givenIn}
-use Rattle.score_cell_rules.specs.Tests.{pastIn, farIn, shareIn, clashIn, wrongIn, passesIn}
+use Rattle.score_order.specs.Words.{siteIn, endIn, rowIn}
+use Rattle.score_cell_rules.specs.Tests.{pastIn, shareIn, clashIn, wrongIn, passesIn}
 
 not-low : (a b : ℕ) → b < a → not (leb a b) ≡ true
 not-low a b h = ap not (lt-leb a b h)
@@ -26,15 +24,6 @@ module _ (words : List ℕ) where
   pub past-false : (sites k : ℕ) → endIn words k ≤ sites → pastIn words sites k ≡ false
   unfolding pastIn
   past-false sites k h = not-high (endIn words k) sites h
-
-  pub far-true : (limit k a : ℕ) → a ≡ apart (siteIn words k) (givenIn words k) → limit < a → farIn words limit k ≡ true
-  unfolding farIn
-  far-true limit k a e h = not-low (apart (siteIn words k) (givenIn words k)) limit (omega arith)
-
-  pub far-false : (limit k a : ℕ) → a ≡ apart (siteIn words k) (givenIn words k) → a ≤ limit
-      → farIn words limit k ≡ false
-  unfolding farIn
-  far-false limit k a e h = not-high (apart (siteIn words k) (givenIn words k)) limit (omega arith)
 
   -- two cells that do not overlap do not clash
   pub clash-right : (k b : ℕ) → endIn words b ≤ siteIn words k → false ≡ clashIn words k b

@@ -8,17 +8,12 @@ use lib.ListN.{length}
 use lib.Dec.{leb, ltb, eqb}
 use Rattle.definition.specs.Lists.{from, any}
 use Rattle.definition.specs.Job.{bothRows}
-use Rattle.definition.specs.Rules.{apart}
-use Rattle.score_order.specs.Words.{siteIn, endIn, rowIn, givenIn}
+use Rattle.score_order.specs.Words.{siteIn, endIn, rowIn}
 use Rattle.job.specs.Parts.{standsIn}
 
 -- rule 2: past the row's end
 unfoldable pub pastIn : List ℕ → ℕ → ℕ → Bool
 pastIn words sites k = not (leb (endIn words k) sites)
-
--- rule 3: too far from the given site
-unfoldable pub farIn : List ℕ → ℕ → ℕ → Bool
-farIn words limit k = not (leb (apart (siteIn words k) (givenIn words k)) limit)
 
 -- rule 4: cells of two row numbers share a row; two cells clash; a cell clashes with any of n
 unfoldable pub shareIn : ℕ → ℕ → Bool

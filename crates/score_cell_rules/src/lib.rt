@@ -4,44 +4,47 @@ ghost use mathlib.Core.Bool.{true};
 ghost use Prim.Native.Nat.{_≤_, _<_};
 ghost use lib.ListN.{length};
 ghost use Rattle.definition.specs.Lists.{from, keep};
-ghost use Rattle.definition.specs.Rules.{offered, lowest, breaks1};
-ghost use Rattle.job.specs.Value.{cellOf, poseOf, jobOf, placementOf};
+ghost use Rattle.definition.specs.Rules.{lowest};
+ghost use Rattle.job.specs.Value.{offerIn, poseOf, jobOf, placementOf};
 ghost use Rattle.score_order.specs.Words.{Room, Words, Ordered};
 ghost use Rattle.score_words.specs.Ready.{Ready};
-ghost use Rattle.score_cell_rules.specs.Tests.{pastIn, farIn, shareIn, clashIn, clashesIn, wrongIn, passesIn};
+ghost use Rattle.score_cell_rules.specs.Tests.{pastIn, shareIn, clashIn, clashesIn, wrongIn, passesIn};
 ghost use Rattle.score_cell_rules.specs.Tests.{Two};
 ghost use Rattle.score_cell_rules.specs.Marks.{markedIn, Arrays, Added, Listed};
+ghost use Rattle.score_cell_rules.specs.Offered.{offersIn, unofferedIn};
 ghost use Rattle.score_cell_rules.specs.Quick.{InLine, TallRising};
-use job::Cell;
 use job::Job;
+use job::Offer;
 use job::Placement;
 use job::Pose;
+use job::offer_of;
+use job::offers_choice;
+use job::offers_site;
 use job::stands;
 use score_order::entry;
-use score_words::apart_of;
 
-// Rule 1: the cell has that layout, and may bear that mark.
-fn is_offered(cell: Cell, pose: Pose) -> bool
-    ensures { λ r. ⌜ r ≡ offered (cellOf cell) (poseOf pose) ⌝ }
+// Whether a pose keeps rule 1, or otherwise rule 3.
+fn keeps(rule: u32, offer: Offer, pose: Pose) -> bool
+    ensures { λ r. ⌜ r ≡ offersIn rule (offerIn offer) (poseOf pose) ⌝ }
 {
-    if cell.layouts <= pose.layout {
-        return false;
+    if rule == 1 {
+        return offers_choice(offer, pose);
     }
-    if 2 <= pose.layout {
-        return false;
-    }
-    (pose.mark == 0) | ((pose.mark == 1) & cell.mirrorable)
+    offers_site(offer, pose)
 }
 
-pub fn mark_unoffered(job: Job, placement: Placement, marks: &mut [u32])
+// Rule 1, or otherwise rule 3: what the cell is not offered.
+pub fn mark_unoffered(rule: u32, job: Job, placement: Placement, marks: &mut [u32])
     requires { ⌜ Ready job placement × (length (now marks) ≡ 64) ⌝ }
-    ensures { λ r. ⌜ Added (job .count) (breaks1 (jobOf job) (placementOf placement))
+    ensures { λ r. ⌜ Added (job .count) (unofferedIn rule (jobOf job) (placementOf placement))
         (now (marks .entry)) (now (marks .exit)) ⌝ }
 {
+    let header = job.header;
     let mut k: usize = job.count;
     while 0 < k {
         k -= 1;
-        if !is_offered(job.cells[k], placement.poses[k]) {
+        let offer = offer_of(header, job.cells[k]);
+        if !keeps(rule, offer, placement.poses[k]) {
             marks[k] = 1;
         }
     }
@@ -70,20 +73,6 @@ pub fn mark_past(words: &[u32], count: usize, sites: u32, marks: &mut [u32])
     while 0 < k {
         k -= 1;
         if sites < words[4 * k + 1] {
-            marks[k] = 1;
-        }
-    }
-}
-
-// Rule 3.
-pub fn mark_far(words: &[u32], count: usize, limit: u32, marks: &mut [u32])
-    requires { ⌜ Words (now words) count × (length (now marks) ≡ 64) ⌝ }
-    ensures { λ r. ⌜ Added count (farIn (now (words .entry)) limit) (now (marks .entry)) (now (marks .exit)) ⌝ }
-{
-    let mut k: usize = count;
-    while 0 < k {
-        k -= 1;
-        if limit < apart_of(words[4 * k], words[4 * k + 3]) {
             marks[k] = 1;
         }
     }

@@ -1,4 +1,5 @@
--- What the rules are judged by: the words of a placed job, the order of both rows, and which poses are not offered.
+-- What the rules are judged by: the words of a placed job, the order of both rows, and which cells
+-- stand as they are not offered.
 -- The tests on it are the definition's rules by their number.
 use Prim.Native.Nat.{ℕ, _≤_, _<_}
 use mathlib.Core.Path.{_≡_, sym, ap, _∙_}
@@ -7,89 +8,86 @@ use mathlib.Core.List.{List}
 use lib.ListN.{length}
 use Rattle.definition.specs.Job as paper
 use Rattle.definition.specs.Placement as text
-use Rattle.definition.specs.Rules.{breaks1, rules}
+use Rattle.definition.specs.Rules.{breaks1, breaks3, rules}
 use Rattle.score_order.specs.Words.{Ordered}
 use Rattle.score_words.specs.Flat.{Flat}
-use Rattle.score_cell_rules.specs.Tests.{pastIn, farIn, clashesIn, passesIn}
+use Rattle.score_cell_rules.specs.Tests.{pastIn, clashesIn, passesIn}
 use Rattle.score_cell_rules.specs.Marks.{markedIn, Added, added-none, added-below}
 use Rattle.score_row_rules.specs.Tests.{nearAny, outAny}
 use Rattle.score_verdict.specs.declared.Verdict.{Verdict}
 use Rattle.score_verdict.specs.declared.Limits.{Limits}
-use Rattle.score_verdict.specs.declared.Starts.{Starts}
 use Rattle.score_verdict.specs.Rules.{ruleOf, no-rule}
 use Rattle.score_verdict.specs.Judged.{Told}
-use Rattle.score_verdict.specs.Flat.{flat2, flat3, flat4, flat5, flat6, flat7}
+use Rattle.score_verdict.specs.Flat.{flat2, flat4, flat5, flat6, flat7}
 
 -- the sizes of the arrays, and the orders
-pub record Laid (limits : Limits) (unoffered words order₀ order₁ : List ℕ) (starts : Starts) : Type 0 where
+pub record Laid (limits : Limits) (unoffered far words order₀ order₁ : List ℕ) : Type 0 where
   pub offers : length unoffered ≡ 64
-  pub ordered : Ordered words (limits .cells) order₀ (starts .row0) order₁ (starts .row1)
+  pub shifts : length far ≡ 64
+  pub ordered : Ordered words (limits .cells) order₀ (limits .start0) order₁ (limits .start1)
 
 -- it is that of a job and a placement
-pub record Board (j : paper.Job) (P : text.Placement) (limits : Limits) (unoffered words : List ℕ) : Type 0 where
+pub record Board (j : paper.Job) (P : text.Placement) (limits : Limits) (unoffered far words : List ℕ) : Type 0 where
   pub flat : Flat j P (limits .cells) words
   pub sites : limits .sites ≡ j .header .sites
-  pub displacement : limits .displacement ≡ j .header .displacement
   pub reordering : limits .reordering ≡ j .header .reordering
   pub offers : (k : ℕ) → k < limits .cells → markedIn unoffered k ≡ breaks1 j P k
+  pub shifts : (k : ℕ) → k < limits .cells → markedIn far k ≡ breaks3 j P k
 
 -- ---- what is said of every job and placement whose board it is
 
 -- rule number `rule` has marked its cells
-pub record RuleMarked (limits : Limits) (unoffered words : List ℕ) (rule : ℕ) (marks marks′ : List ℕ) : Type 0 where
+pub record RuleMarked (limits : Limits) (unoffered far words : List ℕ) (rule : ℕ) (marks marks′ : List ℕ) : Type 0 where
   pub long : length marks′ ≡ 64
-  pub added : (j : paper.Job) (P : text.Placement) → Board j P limits unoffered words
+  pub added : (j : paper.Job) (P : text.Placement) → Board j P limits unoffered far words
       → Added (limits .cells) (ruleOf j P rule) marks marks′
 
 -- the rules are judged
-pub record RulesJudged (limits : Limits) (unoffered words : List ℕ) (r : Verdict) (marks : List ℕ) : Type 0 where
-  pub told : (j : paper.Job) (P : text.Placement) → Board j P limits unoffered words
+pub record RulesJudged (limits : Limits) (unoffered far words : List ℕ) (r : Verdict) (marks : List ℕ) : Type 0 where
+  pub told : (j : paper.Job) (P : text.Placement) → Board j P limits unoffered far words
       → Told j P (limits .cells) r marks
 
 -- ---- the rules by their number
 
-module _ {limits : Limits} {unoffered words m m′ : List ℕ} {rule : ℕ} where
+module _ {limits : Limits} {unoffered far words m m′ : List ℕ} {rule : ℕ} where
   -- a test that is a rule, on every board
   of-rule : (f : ℕ → Bool)
-      → ((j : paper.Job) (P : text.Placement) → Board j P limits unoffered words → (k : ℕ) → k < limits .cells
-      → f k ≡ ruleOf j P rule k) → Added (limits .cells) f m m′ → RuleMarked limits unoffered words rule m m′
+      → ((j : paper.Job) (P : text.Placement) → Board j P limits unoffered far words → (k : ℕ) → k < limits .cells
+      → f k ≡ ruleOf j P rule k) → Added (limits .cells) f m m′ → RuleMarked limits unoffered far words rule m m′
   of-rule f h a =
       record { long = a .long; added = λ j P b. added-below (limits .cells) f (ruleOf j P rule) m m′ (h j P b) a }
 
   pub marks1 : rule ≡ 1 → Added (limits .cells) (markedIn unoffered) m m′
-      → RuleMarked limits unoffered words rule m m′
+      → RuleMarked limits unoffered far words rule m m′
   unfolding ruleOf
   marks1 e = of-rule (markedIn unoffered) (λ j P b k l. b .offers k l ∙ ap (λ x. ruleOf j P x k) (sym e))
 
   pub marks2 : rule ≡ 2 → Added (limits .cells) (pastIn words (limits .sites)) m m′
-      → RuleMarked limits unoffered words rule m m′
+      → RuleMarked limits unoffered far words rule m m′
   unfolding ruleOf
   marks2 e =
       of-rule (pastIn words (limits .sites))
       (λ j P b k _. ap (λ x. pastIn words x k) (b .sites) ∙ flat2 (b .flat) k ∙ ap (λ x. ruleOf j P x k) (sym e))
 
-  pub marks3 : rule ≡ 3 → Added (limits .cells) (farIn words (limits .displacement)) m m′
-      → RuleMarked limits unoffered words rule m m′
+  pub marks3 : rule ≡ 3 → Added (limits .cells) (markedIn far) m m′
+      → RuleMarked limits unoffered far words rule m m′
   unfolding ruleOf
-  marks3 e =
-      of-rule (farIn words (limits .displacement))
-      (λ j P b k _.
-      ap (λ x. farIn words x k) (b .displacement) ∙ flat3 (b .flat) k ∙ ap (λ x. ruleOf j P x k) (sym e))
+  marks3 e = of-rule (markedIn far) (λ j P b k l. b .shifts k l ∙ ap (λ x. ruleOf j P x k) (sym e))
 
   pub marks4 : rule ≡ 4 → Added (limits .cells) (clashesIn words (limits .cells)) m m′
-      → RuleMarked limits unoffered words rule m m′
+      → RuleMarked limits unoffered far words rule m m′
   unfolding ruleOf
   marks4 e =
       of-rule (clashesIn words (limits .cells)) (λ j P b k _. flat4 (b .flat) k ∙ ap (λ x. ruleOf j P x k) (sym e))
 
   pub marks5 : rule ≡ 5 → Added (limits .cells) (nearAny words (limits .cells)) m m′
-      → RuleMarked limits unoffered words rule m m′
+      → RuleMarked limits unoffered far words rule m m′
   unfolding ruleOf
   marks5 e =
       of-rule (nearAny words (limits .cells)) (λ j P b k _. flat5 (b .flat) k ∙ ap (λ x. ruleOf j P x k) (sym e))
 
   pub marks6 : rule ≡ 6 → Added (limits .cells) (outAny words (limits .cells) (limits .reordering)) m m′
-      → RuleMarked limits unoffered words rule m m′
+      → RuleMarked limits unoffered far words rule m m′
   unfolding ruleOf
   marks6 e =
       of-rule (outAny words (limits .cells) (limits .reordering))
@@ -99,16 +97,16 @@ module _ {limits : Limits} {unoffered words m m′ : List ℕ} {rule : ℕ} wher
       ∙ ap (λ x. ruleOf j P x k) (sym e))
 
   pub marks7 : rule ≡ 7 → Added (limits .cells) (passesIn words (limits .cells)) m m′
-      → RuleMarked limits unoffered words rule m m′
+      → RuleMarked limits unoffered far words rule m m′
   unfolding ruleOf
   marks7 e =
       of-rule (passesIn words (limits .cells)) (λ j P b k _. flat7 (b .flat) k ∙ ap (λ x. ruleOf j P x k) (sym e))
 
 -- a number that no rule has
-pub marks-none : {limits : Limits} {unoffered words m : List ℕ} {rule : ℕ} → length m ≡ 64
+pub marks-none : {limits : Limits} {unoffered far words m : List ℕ} {rule : ℕ} → length m ≡ 64
     → ((j : paper.Job) (P : text.Placement) → 1 ≤ rule → rule ≤ length (rules j P) → ⊥)
-    → RuleMarked limits unoffered words rule m m
-marks-none {limits} {unoffered} {words} {m} {rule} l h = record {
+    → RuleMarked limits unoffered far words rule m m
+marks-none {limits} {unoffered} {far} {words} {m} {rule} l h = record {
   long = l;
   added = λ j P b. added-none (limits .cells) (ruleOf j P rule) m l (λ k _. no-rule j P rule k (h j P));
 }

@@ -1,6 +1,6 @@
 -- The rules by the words of a placed job are the definition's.
 use Prim.Native.Nat.{ℕ, _-_}
-use mathlib.Core.Path.{_≡_, sym, ap, ap₂}
+use mathlib.Core.Path.{_≡_, sym, ap}
 use mathlib.Core.Bool.{not, _&&_, _||_}
 use mathlib.Core.List.{List}
 use lib.Dec.{leb, ltb, eqb}
@@ -8,23 +8,19 @@ use Rattle.definition.specs.Lists.{from, any, anyNext}
 use Rattle.definition.specs.Job as paper
 use Rattle.definition.specs.Job.{bothRows}
 use Rattle.definition.specs.Placement as text
-use Rattle.definition.specs.Rules.{apart, placeIn, breaks2, breaks3, breaks4, breaks5, breaks6, breaks7}
+use Rattle.definition.specs.Rules.{apart, placeIn, breaks2, breaks4, breaks5, breaks6, breaks7}
 use Rattle.definition.specs.Rules.{besideOneSite, outOfPlace}
 use Rattle.job.specs.Parts.{standsIn}
 use Rattle.score_order.specs.Words.{cellsIn, orderIn}
 use Rattle.score_words.specs.Flat.{Flat}
 use Rattle.score_words.specs.Rows.{flat-cells, flat-order}
-use Rattle.score_cell_rules.specs.Tests.{pastIn, farIn, shareIn, clashIn, clashesIn, wrongIn, passesIn}
+use Rattle.score_cell_rules.specs.Tests.{pastIn, shareIn, clashIn, clashesIn, wrongIn, passesIn}
 use Rattle.score_row_rules.specs.Tests.{nearIn, nearAny, outBy, outIn, outAny}
 
 module _ {j : paper.Job} {P : text.Placement} {n : ℕ} {words : List ℕ} (f : Flat j P n words) where
   pub flat2 : (k : ℕ) → pastIn words (j .header .sites) k ≡ breaks2 j P k
   unfolding pastIn breaks2
   flat2 k = ap (λ x. not (leb x (j .header .sites))) (f .shows k .end)
-
-  pub flat3 : (k : ℕ) → farIn words (j .header .displacement) k ≡ breaks3 j P k
-  unfolding farIn breaks3
-  flat3 k = ap₂ (λ x y. not (leb (apart x y) (j .header .displacement))) (f .shows k .site) (f .shows k .given)
 
   pub flat4 : (k : ℕ) → clashesIn words n k ≡ breaks4 j P k
   unfolding shareIn clashIn clashesIn breaks4

@@ -11,7 +11,6 @@ use job::Job;
 use job::Placement;
 use score_cell_rules::lowest_marked;
 use score_cell_rules::mark_again;
-use score_cell_rules::mark_far;
 use score_cell_rules::mark_overlaps;
 use score_cell_rules::mark_passing;
 use score_cell_rules::mark_past;
@@ -30,18 +29,13 @@ pub struct Verdict {
     pub cell: u32,
 }
 
-// How many cells the job has, and its limits.
+// How many cells the job has, its limits, and where the order of each row starts in its array.
 struct Limits {
     cells: usize,
     sites: u32,
-    displacement: u32,
     reordering: u32,
-}
-
-// Where the order of each row starts in its array.
-struct Starts {
-    row0: usize,
-    row1: usize,
+    start0: usize,
+    start1: usize,
 }
 
 // The cells that break rule number `rule` are marked. A number that no rule has marks none.
@@ -49,25 +43,25 @@ fn mark_rule(
     rule: u32,
     limits: Limits,
     unoffered: &[u32],
+    far: &[u32],
     words: &[u32],
     order0: &[u32],
     order1: &[u32],
-    starts: Starts,
     marks: &mut [u32],
 )
-    requires { ⌜ Laid limits (now unoffered) (now words) (now order0) (now order1) starts
+    requires { ⌜ Laid limits (now unoffered) (now far) (now words) (now order0) (now order1)
         × (length (now marks) ≡ 64) ⌝ }
-    ensures { λ r. ⌜ RuleMarked limits (now (unoffered .entry)) (now (words .entry)) rule
+    ensures { λ r. ⌜ RuleMarked limits (now (unoffered .entry)) (now (far .entry)) (now (words .entry)) rule
         (now (marks .entry)) (now (marks .exit)) ⌝ }
 {
     let cells = limits.cells;
-    let start0 = starts.row0;
-    let start1 = starts.row1;
+    let start0 = limits.start0;
+    let start1 = limits.start1;
     let limit = limits.reordering;
     match rule {
         1 => mark_again(unoffered, cells, marks),
         2 => mark_past(words, cells, limits.sites, marks),
-        3 => mark_far(words, cells, limits.displacement, marks),
+        3 => mark_again(far, cells, marks),
         4 => mark_overlaps(words, cells, order0, start0, order1, start1, marks),
         5 => mark_gaps(words, cells, order0, start0, order1, start1, marks),
         6 => mark_places(words, cells, limit, order0, start0, order1, start1, marks),
@@ -80,28 +74,20 @@ fn mark_rule(
 fn judge_rules(
     limits: Limits,
     unoffered: &[u32],
+    far: &[u32],
     words: &[u32],
     order0: &[u32],
     order1: &[u32],
-    starts: Starts,
     marks: &mut [u32],
 ) -> Verdict
-    requires { ⌜ Laid limits (now unoffered) (now words) (now order0) (now order1) starts
+    requires { ⌜ Laid limits (now unoffered) (now far) (now words) (now order0) (now order1)
         × Unmarked (limits .cells) (now marks) ⌝ }
-    ensures { λ r. ⌜ RulesJudged limits (now (unoffered .entry)) (now (words .entry)) r (now (marks .exit)) ⌝ }
+    ensures { λ r. ⌜ RulesJudged limits (now (unoffered .entry)) (now (far .entry)) (now (words .entry)) r
+        (now (marks .exit)) ⌝ }
 {
     let mut rule: u32 = 1;
     while rule <= RULES {
-        mark_rule(
-            rule,
-            limits,
-            unoffered,
-            words,
-            order0,
-            order1,
-            starts,
-            marks,
-        );
+        mark_rule(rule, limits, unoffered, far, words, order0, order1, marks);
         let cell = lowest_marked(marks, limits.cells);
         if cell != 0 {
             return Verdict { rule, cell };
@@ -119,7 +105,9 @@ pub fn judge(job: Job, placement: Placement, marks: &mut [u32]) -> Verdict
     let mut words = [0u32; 256];
     flatten(job, placement, &mut words);
     let mut unoffered = [0u32; 64];
-    mark_unoffered(job, placement, &mut unoffered);
+    mark_unoffered(1, job, placement, &mut unoffered);
+    let mut far = [0u32; 64];
+    mark_unoffered(3, job, placement, &mut far);
     let count = job.count;
     let mut order0 = [0u32; 64];
     let start0 = order_row(&words, count, 0, &mut order0);
@@ -129,14 +117,11 @@ pub fn judge(job: Job, placement: Placement, marks: &mut [u32]) -> Verdict
     let limits = Limits {
         cells: count,
         sites: header.sites,
-        displacement: header.displacement,
         reordering: header.reordering,
+        start0,
+        start1,
     };
-    let starts = Starts {
-        row0: start0,
-        row1: start1,
-    };
-    judge_rules(limits, &unoffered, &words, &order0, &order1, starts, marks)
+    judge_rules(limits, &unoffered, &far, &words, &order0, &order1, marks)
 }
 
 // The verdict alone.

@@ -1,41 +1,19 @@
 -- The words of a cell as the terms of the cost: what the state's row has at its place.
 use Prim.Native.Nat.{ℕ, zero, suc, _+_, _-_, _*_, _/_, _%_, _≤_, _<_}
 use mathlib.Core.Path.{_≡_, refl, sym, ap, ap₂, _∙_}
-use mathlib.Core.Bool.{Bool, true, false, _&&_, _||_, cond}
+use mathlib.Core.Bool.{Bool, true, false, cond}
 use native.Mathlib.Nat.{add-assoc}
 use native.Mathlib.Omega.{arith}
-use borrow.Author.Tests.{leb-true, lt-ltb, le-ltb, ne-eqb}
-use lib.ListN.{length}
-use lib.Dec.{leb, ltb, eqb, lit≤}
+use borrow.Author.Tests.{lt-ltb, le-ltb, ne-eqb}
+use lib.Dec.{ltb, eqb, lit≤}
 use Rattle.definition.specs.Job.{Job, isTall}
 use Rattle.definition.specs.Rules.{cellAt}
 use Rattle.definition.specs.Cost.{firstHeight}
 use Rattle.lists.specs.Compare.{Eq?, same, differs, eq?}
-use Rattle.theory_bridge.specs.Tests.{and-true}
 use Rattle.theory_bridge.specs.Paired.{isOffered, poseNumber, widthOf, ownOf, leftOf, rightOf}
 use Rattle.job.specs.Parts.{widthIn, heightIn}
 use Rattle.search_row.specs.Words.{variant}
 use Rattle.search_row_fill.specs.Words.{alone, edge, ownWord, shapeWord, heightWord, cellWord}
-
--- a pose that is offered is not left of site 0
-pub offered-low : (j : Job) (k a : ℕ) → isOffered j k a ≡ true → j .header .displacement ≤ cellAt j k .given + a / 4
-unfolding isOffered
-offered-low j k a e =
-    let x = and-true (low && known && turned) inside .0 e in
-    let y = and-true (low && known) turned .0 (x .0) in
-    leb-true (j .header .displacement) (cellAt j k .given + a / 4) (and-true low known .0 (y .0) .0)
-  where
-    low : Bool
-    low = leb (j .header .displacement) (cellAt j k .given + a / 4)
-
-    known : Bool
-    known = ltb (poseNumber j k a .layout) (length (cellAt j k .layouts))
-
-    turned : Bool
-    turned = eqb (poseNumber j k a .mark) 0 || cellAt j k .mirrorable
-
-    inside : Bool
-    inside = leb (poseNumber j k a .site + widthOf j k (poseNumber j k a)) (j .header .sites)
 
 -- ---- a cell alone
 

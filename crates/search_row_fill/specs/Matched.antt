@@ -28,7 +28,8 @@ use Rattle.theory_bridge.specs.Legal.{end-allowed}
 use Rattle.search_row.specs.Words.{wordOf, siteIn, endIn, differIn, weightIn, tollAt, tollIn}
 use Rattle.search_row.specs.Words.{frontIn, backIn, deckOf, RowWords, apartWord, touchingWord}
 use Rattle.search_row_fill.specs.Words.{ownWord}
-use Rattle.search_row_fill.specs.Cell.{offered-low, CellWords}
+use Rattle.theory_bridge.specs.Offers.{offered-low}
+use Rattle.search_row_fill.specs.Cell.{CellWords}
 
 -- the words are those of the row's cells, in file order, and there are so many
 pub record RowCells (j : Job) (s : Side) (l : List ℕ) (n : ℕ) : Type 0 where

@@ -1,18 +1,18 @@
 -- A header and a cell as values: what the words are made of, and their ranges.
-use Prim.Native.Nat.{ℕ, zero, suc, _+_, _-_, _*_, _/_, _%_, _≤_, _<_}
-use mathlib.Core.Path.{_≡_, refl, sym, ap, ap₂, _∙_}
-use mathlib.Core.Bool.{Bool, true, false, _&&_, _||_, cond}
-use mathlib.Core.List.{[], _∷_}
+use Prim.Native.Nat.{ℕ, suc, _+_, _-_, _*_, _/_, _%_, _≤_, _<_}
+use mathlib.Core.Path.{_≡_, refl, sym, ap, ap₂}
+use mathlib.Core.Bool.{Bool, true, false, _&&_, cond}
 use native.Mathlib.Omega.{arith}
 use borrow.Author.Tests.{lt-ltb, le-ltb, ne-eqb}
-use lib.ListN.{length, take, List·getD-eq-default}
-use lib.Seq.{take-nil}
+use lib.ListN.{length, List·getD-eq-default}
 use lib.Dec.{leb, ltb, eqb}
 use Rattle.definition.specs.Job as paper
-use Rattle.definition.specs.Rules.{noLayout, apart}
+use Rattle.definition.specs.Placement.{Pose}
+use Rattle.definition.specs.Rules.{noLayout, apart, offerOf, choiceOffered, siteOffered}
 use Rattle.definition_laws.specs.Sound.{SoundHeader, SoundCell}
 use Rattle.lists.specs.Compare.{Eq?, same, differs, eq?, Le?, low, high, le?}
 use Rattle.theory_bridge.specs.Paired.{isOffered, poseNumber, widthOf, ownOf}
+use Rattle.theory_bridge.specs.Offers.{offered-low}
 use Rattle.job.specs.declared.Header.{Header}
 use Rattle.job.specs.declared.Cell.{Cell}
 use Rattle.job.specs.Value.{headerOf, cellOf}
@@ -20,7 +20,6 @@ use Rattle.job.specs.Parts.{widthIn, heightIn, firstOf}
 use Rattle.job.specs.Layouts.{width-small}
 use Rattle.theory_tables.specs.Steps.{B}
 use Rattle.search_row_fill.specs.Words.{alone, edge, ownWord, shapeWord, heightWord}
-use Rattle.search_row_fill.specs.Cell.{offered-low}
 
 -- the values as a job of one cell, and that they are in range
 abbrev pub one : Header → Cell → paper.Job
@@ -58,19 +57,18 @@ ranged h c p q = record {
 
 -- ---- what is offered
 
--- a layout number below 2 is below the count of two layouts at most just if it is below the number given
-count-two : {A : Type 0} (x y : A) (l n : ℕ) → l < 2 → ltb l (length (take n (x ∷ y ∷ []))) ≡ ltb l n
-count-two x y l zero h = refl
-count-two x y l (suc zero) h = refl
-count-two x y l (suc (suc n)) h =
-    ap (λ m. ltb l (suc (suc (length m)))) (take-nil n) ∙ lt-ltb l 2 h ∙ sym (lt-ltb l (suc (suc n)) (omega arith))
+-- pose number a
+abbrev pub numbered : Header → Cell → ℕ → Pose
+numbered h c a = record { site = c .given + a / 4 - h .displacement; layout = a % 4 / 2; mark = a % 2 }
 
+-- the tests of `isOffered` in the order in which the code makes them
 pub offered-same : (h : Header) (c : Cell) (a : ℕ)
     → isOffered (one h c) 0 a
-    ≡ (leb (h .displacement) (c .given + a / 4) && ltb (a % 4 / 2) (c .layouts) && (eqb (a % 2) 0 || c .mirrorable)
-    && leb (c .given + a / 4 - h .displacement + widthIn (cellOf c) (a % 4 / 2)) (h .sites))
+    ≡ (leb (h .displacement) (c .given + a / 4) && choiceOffered (offerOf (headerOf h) (cellOf c)) (numbered h c a)
+    && siteOffered (offerOf (headerOf h) (cellOf c)) (numbered h c a)
+    && leb (numbered h c a .site + widthIn (cellOf c) (a % 4 / 2)) (h .sites))
 unfolding isOffered poseNumber widthOf headerOf cellOf
-offered-same h c a = rw (count-two _ _ (a % 4 / 2) (c .layouts) (omega arith))
+offered-same h c a = refl
 
 -- ---- what it costs
 

@@ -1,11 +1,10 @@
 // The rows of a job as the words that the search reads. The words' places stand in crate search_row, specs/Words.antt.
 ghost use mathlib.Core.Path.{_≡_};
-ghost use mathlib.Core.Bool.{_&&_, _||_};
+ghost use mathlib.Core.Bool.{_&&_};
 ghost use Prim.Native.Nat.{ℕ, _+_, _*_, _/_, _≤_, _<_};
 ghost use lib.ListN.{length, getD};
 ghost use lib.Dec.{eqb};
 ghost use Rattle.search_row.specs.Words.{rowLength, statesFrom, tallsFrom};
-ghost use Rattle.definition.specs.Rules.{apart};
 ghost use Rattle.definition_laws.specs.Sound.{Sound};
 ghost use Rattle.job.specs.Value.{jobOf};
 ghost use Rattle.theory_tables.specs.Steps.{B};
@@ -19,18 +18,10 @@ ghost use Rattle.search_row_fill.specs.TallWords.{tallsIn, TallsUpto, Ta
 use job::Cell;
 use job::Header;
 use job::Job;
+use job::Pose;
 use search_row::Sizes;
 
 // ---- what a cell costs
-
-fn turns(mirrorable: bool, mark: u32) -> bool
-    ensures { λ t. ⌜ t ≡ (eqb mark 0 || mirrorable) ⌝ }
-{
-    if mark == 0 {
-        return true;
-    }
-    mirrorable
-}
 
 // Whether rules 1 to 3 allow the cell pose number a.
 fn is_offered(header: Header, cell: Cell, a: u32) -> bool
@@ -41,19 +32,19 @@ fn is_offered(header: Header, cell: Cell, a: u32) -> bool
     if x < header.displacement {
         return false;
     }
-    if a % 4 / 2 >= cell.layouts {
+    let pose = Pose {
+        site: x - header.displacement,
+        layout: a % 4 / 2,
+        mark: a % 2,
+    };
+    let offer = job::offer_of(header, cell);
+    if !job::offers_choice(offer, pose) {
         return false;
     }
-    if !turns(cell.mirrorable, a % 2) {
+    if !job::offers_site(offer, pose) {
         return false;
     }
-    x - header.displacement + job::width_of(cell, a % 4 / 2) <= header.sites
-}
-
-fn apart_of(x: u32, y: u32) -> u32
-    ensures { λ r. ⌜ r ≡ apart x y ⌝ }
-{
-    if x < y { y - x } else { x - y }
+    pose.site + job::width_of(cell, pose.layout) <= header.sites
 }
 
 // A weight, so many times.
@@ -71,7 +62,7 @@ fn pose_cost(header: Header, cell: Cell, a: u32) -> u32
 {
     let given = cell.given;
     let site = given + a / 4 - header.displacement;
-    let shift = times(header.shift, apart_of(site, given));
+    let shift = times(header.shift, job::apart_of(site, given));
     let mirror = times(header.mirror, a % 2);
     let swap = times(header.swap, a % 4 / 2);
     shift + mirror + swap

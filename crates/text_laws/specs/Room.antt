@@ -12,10 +12,12 @@ use lib.Seq.{take-suc}
 use lib.Dec.{leb, ltb, eqb}
 use borrow.Author.Tests.{ltb-true, leb-true, eqb-true, not-false}
 use Rattle.definition.specs.Texts.{Text, digits}
-use Rattle.definition.specs.Job.{Cell, Job}
+use Rattle.definition.specs.Job.{Job}
 use Rattle.definition.specs.Placement.{Pose, Printable, Placement, lineOf, textOf}
-use Rattle.definition.specs.Rules.{noPose, cellAt, poseAt, endAt, offered, breaks1, breaks2, Legal}
+use Rattle.definition.specs.Rules.{noPose, cellAt, poseAt, endAt, Offer, offerAt, choiceOffered}
+use Rattle.definition.specs.Rules.{breaks1, breaks2, Legal}
 use Rattle.definition_laws.specs.Sound.{Sound}
+use Rattle.definition_laws.specs.Offers.{layouts-within}
 use Rattle.text_laws.specs.Numbers.{digits-long, one-digit}
 use Rattle.text_laws.specs.Poses.{Each}
 
@@ -114,14 +116,14 @@ at-each S (p ∷ P) h (suc k) l = at-each S P (h .1) k (omega arith)
 
 -- ---- a legal placement of an accepted job
 
-legal-pose : (c : Cell) (p : Pose) → length (c .layouts) ≤ 2 → offered c p ≡ true → (p .layout ≤ 1) × (p .mark ≤ 1)
-legal-pose c p few e =
-    let marked : Bool = eqb (p .mark) 0 || (eqb (p .mark) 1 && c .mirrorable) in
-    let b = and-eq-true-iff (ltb (p .layout) (length (c .layouts))) marked .0 e in
-    let low = ltb-true (p .layout) (length (c .layouts)) (b .0) in
+legal-pose : (o : Offer) (p : Pose) → o .layouts ≤ 2 → choiceOffered o p ≡ true → (p .layout ≤ 1) × (p .mark ≤ 1)
+legal-pose o p few e =
+    let marked : Bool = eqb (p .mark) 0 || (eqb (p .mark) 1 && o .mirrorable) in
+    let b = and-eq-true-iff (ltb (p .layout) (o .layouts)) marked .0 e in
+    let low = ltb-true (p .layout) (o .layouts) (b .0) in
     (omega arith, go (eqb (p .mark) 0) (eqb (p .mark) 1) (eqb-true (p .mark) 0) (eqb-true (p .mark) 1) (b .1))
   where
-    go : (t u : Bool) → (t ≡ true → p .mark ≡ 0) → (u ≡ true → p .mark ≡ 1) → (t || (u && c .mirrorable)) ≡ true
+    go : (t u : Bool) → (t ≡ true → p .mark ≡ 0) → (u ≡ true → p .mark ≡ 1) → (t || (u && o .mirrorable)) ≡ true
         → p .mark ≤ 1
     go true u f g e = omega (arith, f refl)
     go false true f g e = omega (arith, g refl)
@@ -131,8 +133,9 @@ pub legal-narrow : (j : Job) (P : Placement) → Sound j → Legal j P → Each 
 unfolding breaks1 breaks2
 legal-narrow j P s l = each-at Narrow P λ k h.
     let low : k < length (j .cells) = omega (arith, l .each) in
-    let few = s .cell k low .few in
-    let q = legal-pose (cellAt j k) (poseAt P k) few (not-false (offered (cellAt j k) (poseAt P k)) (l .rule1 k low)) in
+    let few : offerAt j k .layouts ≤ 2 = omega (arith, s .cell k low .few, layouts-within (j .header) (cellAt j k)) in
+    let chosen = not-false (choiceOffered (offerAt j k) (poseAt P k)) (l .rule1 k low) in
+    let q = legal-pose (offerAt j k) (poseAt P k) few chosen in
     let inside =
     leb-true (endAt j P k) (j .header .sites) (not-false (leb (endAt j P k) (j .header .sites)) (l .rule2 k low)) in
     record { site = omega (arith, s .header .fewSites); layout = q .0; mark = q .1 }

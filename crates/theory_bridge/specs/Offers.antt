@@ -9,26 +9,55 @@ use native.Mathlib.Decide.{decLt}
 use borrow.Author.Tests.{leb-true, le-leb, ltb-true, lt-ltb}
 use lib.ListN.{length, List·getD-eq-default}
 use lib.Dec.{leb, ltb, eqb}
-use Rattle.definition.specs.Job.{Cell, Job}
+use Rattle.definition.specs.Job.{Job}
 use Rattle.definition.specs.Placement.{Pose, Placement}
-use Rattle.definition.specs.Rules.{noCell, cellAt, poseAt, endAt, apart, offered, breaks1, breaks2, breaks3}
+use Rattle.definition.specs.Rules.{noCell, cellAt, poseAt, endAt, apart, offerAt, choiceOffered, siteOffered}
+use Rattle.definition.specs.Rules.{breaks1, breaks2, breaks3}
 use Rattle.definition_laws.specs.Sound.{Sound}
-use Rattle.lists.specs.Numbers.{from, in-from, from-in}
+use Rattle.definition_laws.specs.Offers.{limit-within, layouts-within}
+use Rattle.lists.specs.Numbers.{from, from-in}
 use Rattle.theory_pair.specs.Pick.{pick, pick-in, in-pick}
 use Rattle.theory_bridge.specs.Paired.{poseNumbers, poseNumber, isOffered, offersOf, widthOf, layoutOf}
 use Rattle.theory_bridge.specs.Poses.{pose-same}
-use Rattle.theory_bridge.specs.Tests.{and-true, not-false, mark-test, mirror-test}
+use Rattle.theory_bridge.specs.Tests.{and-true, not-false, mark-test}
 
 -- rules 1 to 3, of cell k in pose p
 pub record Allowed (j : Job) (k : ℕ) (p : Pose) : Type 0 where
-  pub layout : p .layout < length (cellAt j k .layouts)
+  pub layout : p .layout < offerAt j k .layouts
   pub mark : p .mark < 2
-  pub mirrorable : p .mark ≡ 1 → cellAt j k .mirrorable ≡ true
+  pub mirrorable : p .mark ≡ 1 → offerAt j k .mirrorable ≡ true
   pub fits : p .site + widthOf j k p ≤ j .header .sites
-  pub left : cellAt j k .given ≤ p .site + j .header .displacement
-  pub right : p .site ≤ cellAt j k .given + j .header .displacement
+  pub left : cellAt j k .given ≤ p .site + offerAt j k .limit
+  pub right : p .site ≤ cellAt j k .given + offerAt j k .limit
 
 module _ (j : Job) (k : ℕ) where
+  -- its parts, by the tests of rules 1 and 3
+  choice-test : (p : Pose) → choiceOffered (offerAt j k) p ≡ true
+      ↔ ((p .layout < offerAt j k .layouts) × (p .mark < 2) × (p .mark ≡ 1 → offerAt j k .mirrorable ≡ true))
+  choice-test p = (
+    λ e. let x = and-true some marked .0 e in
+        let m = mark-test (p .mark) (offerAt j k .mirrorable) .0 (x .1) in
+        (ltb-true (p .layout) (offerAt j k .layouts) (x .0), m .0, m .1),
+    λ q. and-true some marked .1 (
+      lt-ltb (p .layout) (offerAt j k .layouts) (q .0),
+      mark-test (p .mark) (offerAt j k .mirrorable) .1 (q .1, q .2),
+    ),
+  )
+    where
+      some : Bool
+      some = ltb (p .layout) (offerAt j k .layouts)
+
+      marked : Bool
+      marked = eqb (p .mark) 0 || (eqb (p .mark) 1 && offerAt j k .mirrorable)
+
+  site-test : (p : Pose) → siteOffered (offerAt j k) p ≡ true
+      ↔ ((cellAt j k .given ≤ p .site + offerAt j k .limit) × (p .site ≤ cellAt j k .given + offerAt j k .limit))
+  site-test p = (
+    λ e. let d = leb-true (apart (p .site) (cellAt j k .given)) (offerAt j k .limit) e in (omega arith, omega arith),
+    λ q. le-leb (apart (p .site) (cellAt j k .given)) (offerAt j k .limit)
+        (let l = q .0 in let r = q .1 in omega arith),
+  )
+
   -- cell k keeps rules 1 to 3
   abbrev pub Keeps : Placement → Type 0
   Keeps P = (breaks1 j P k ≡ false) × (breaks2 j P k ≡ false) × (breaks3 j P k ≡ false)
@@ -37,46 +66,36 @@ module _ (j : Job) (k : ℕ) where
   unfolding breaks1 breaks2 breaks3 widthOf
   keeps-allowed P = (to, back)
     where
-      c : Cell
-      c = cellAt j k
-
       p : Pose
       p = poseAt P k
 
-      some : Bool
-      some = ltb (p .layout) (length (c .layouts))
+      chosen : Bool
+      chosen = choiceOffered (offerAt j k) p
 
-      marked : Bool
-      marked = eqb (p .mark) 0 || (eqb (p .mark) 1 && c .mirrorable)
+      near : Bool
+      near = siteOffered (offerAt j k) p
 
-      D : ℕ
-      D = j .header .displacement
+      inside : Bool
+      inside = leb (endAt j P k) (j .header .sites)
 
       to : Keeps P → Allowed j k p
       to b =
-          let o = and-true some marked .0 (not-false (some && marked) .0 (b .0)) in
-          let m = mark-test (p .mark) (c .mirrorable) .0 (o .1) in
-          let e =
-          leb-true (endAt j P k) (j .header .sites) (not-false (leb (endAt j P k) (j .header .sites)) .0 (b .1)) in
-          let d = leb-true (apart (p .site) (c .given)) D (not-false (leb (apart (p .site) (c .given)) D) .0 (b .2)) in
+          let c = choice-test p .0 (not-false chosen .0 (b .0)) in
+          let s = site-test p .0 (not-false near .0 (b .2)) in
           record {
-            layout = ltb-true (p .layout) (length (c .layouts)) (o .0);
-            mark = m .0;
-            mirrorable = m .1;
-            fits = e;
-            left = omega arith;
-            right = omega arith;
+            layout = c .0;
+            mark = c .1;
+            mirrorable = c .2;
+            fits = leb-true (endAt j P k) (j .header .sites) (not-false inside .0 (b .1));
+            left = s .0;
+            right = s .1;
           }
 
       back : Allowed j k p → Keeps P
       back a = (
-        not-false (some && marked) .1 (and-true some marked .1 (
-          lt-ltb (p .layout) (length (c .layouts)) (a .layout),
-          mark-test (p .mark) (c .mirrorable) .1 (a .mark, a .mirrorable),
-        )),
-        not-false (leb (endAt j P k) (j .header .sites)) .1 (le-leb (endAt j P k) (j .header .sites) (a .fits)),
-        not-false (leb (apart (p .site) (c .given)) D) .1
-            (le-leb (apart (p .site) (c .given)) D (let l = a .left in let r = a .right in omega arith)),
+        not-false chosen .1 (choice-test p .1 (a .layout, a .mark, a .mirrorable)),
+        not-false inside .1 (le-leb (endAt j P k) (j .header .sites) (a .fits)),
+        not-false near .1 (site-test p .1 (a .left, a .right)),
       )
 
   -- ---- pose numbers
@@ -84,60 +103,61 @@ module _ (j : Job) (k : ℕ) where
   abbrev low : ℕ → Bool
   low a = leb (j .header .displacement) (cellAt j k .given + a / 4)
 
-  abbrev known : ℕ → Bool
-  known a = ltb (poseNumber j k a .layout) (length (cellAt j k .layouts))
+  abbrev chosen : ℕ → Bool
+  chosen a = choiceOffered (offerAt j k) (poseNumber j k a)
 
-  abbrev turned : ℕ → Bool
-  turned a = eqb (poseNumber j k a .mark) 0 || cellAt j k .mirrorable
+  abbrev near : ℕ → Bool
+  near a = siteOffered (offerAt j k) (poseNumber j k a)
 
   abbrev inside : ℕ → Bool
   inside a = leb (poseNumber j k a .site + widthOf j k (poseNumber j k a)) (j .header .sites)
 
   offered-test : (a : ℕ)
-      → isOffered j k a ≡ true ↔ ((low a ≡ true) × (known a ≡ true) × (turned a ≡ true) × (inside a ≡ true))
+      → isOffered j k a ≡ true ↔ ((low a ≡ true) × (chosen a ≡ true) × (near a ≡ true) × (inside a ≡ true))
   unfolding isOffered
   offered-test a = (
     λ e.
-        let x = and-true (low a && known a && turned a) (inside a) .0 e in
-        let y = and-true (low a && known a) (turned a) .0 (x .0) in
-        let z = and-true (low a) (known a) .0 (y .0) in
+        let x = and-true (low a && chosen a && near a) (inside a) .0 e in
+        let y = and-true (low a && chosen a) (near a) .0 (x .0) in
+        let z = and-true (low a) (chosen a) .0 (y .0) in
         (z .0, z .1, y .1, x .1),
-    λ q. and-true (low a && known a && turned a) (inside a) .1
-        (and-true (low a && known a) (turned a) .1 (and-true (low a) (known a) .1 (q .0, q .1), q .2), q .3),
+    λ q. and-true (low a && chosen a && near a) (inside a) .1
+        (and-true (low a && chosen a) (near a) .1 (and-true (low a) (chosen a) .1 (q .0, q .1), q .2), q .3),
   )
 
-  number-test : (a : ℕ) → a < poseNumbers j → isOffered j k a ≡ true
+  -- a pose that is offered is not left of site 0
+  pub offered-low : (a : ℕ) → isOffered j k a ≡ true → j .header .displacement ≤ cellAt j k .given + a / 4
+  offered-low a e = leb-true (j .header .displacement) (cellAt j k .given + a / 4) (offered-test a .0 e .0)
+
+  number-test : (a : ℕ) → isOffered j k a ≡ true
       ↔ (Allowed j k (poseNumber j k a) × (j .header .displacement ≤ cellAt j k .given + a / 4))
-  unfolding poseNumber
-  number-test a h = (to, back)
+  number-test a = (to, back)
     where
-      D : ℕ
-      D = j .header .displacement
+      p : Pose
+      p = poseNumber j k a
 
-      g : ℕ
-      g = cellAt j k .given
-
-      to : isOffered j k a ≡ true → Allowed j k (poseNumber j k a) × (D ≤ g + a / 4)
+      to : isOffered j k a ≡ true → Allowed j k p × (j .header .displacement ≤ cellAt j k .given + a / 4)
       to e =
           let q = offered-test a .0 e in
-          let l = leb-true D (g + a / 4) (q .0) in (
+          let c = choice-test p .0 (q .1) in
+          let s = site-test p .0 (q .2) in (
             record {
-              layout = ltb-true (poseNumber j k a .layout) (length (cellAt j k .layouts)) (q .1);
-              mark = omega arith;
-              mirrorable = mirror-test (a % 2) (cellAt j k .mirrorable) (omega arith) .0 (q .2);
-              fits = leb-true (poseNumber j k a .site + widthOf j k (poseNumber j k a)) (j .header .sites) (q .3);
-              left = omega arith;
-              right = omega arith;
+              layout = c .0;
+              mark = c .1;
+              mirrorable = c .2;
+              fits = leb-true (p .site + widthOf j k p) (j .header .sites) (q .3);
+              left = s .0;
+              right = s .1;
             },
-            l,
+            offered-low a e,
           )
 
-      back : Allowed j k (poseNumber j k a) × (D ≤ g + a / 4) → isOffered j k a ≡ true
-      back p = offered-test a .1 (
-        le-leb D (g + a / 4) (p .1),
-        lt-ltb (poseNumber j k a .layout) (length (cellAt j k .layouts)) (p .0 .layout),
-        mirror-test (a % 2) (cellAt j k .mirrorable) (omega arith) .1 (p .0 .mirrorable),
-        le-leb (poseNumber j k a .site + widthOf j k (poseNumber j k a)) (j .header .sites) (p .0 .fits),
+      back : Allowed j k p × (j .header .displacement ≤ cellAt j k .given + a / 4) → isOffered j k a ≡ true
+      back q = offered-test a .1 (
+        le-leb (j .header .displacement) (cellAt j k .given + a / 4) (q .1),
+        choice-test p .1 (q .0 .layout, q .0 .mark, q .0 .mirrorable),
+        site-test p .1 (q .0 .left, q .0 .right),
+        le-leb (p .site + widthOf j k p) (j .header .sites) (q .0 .fits),
       )
 
   -- the number of a pose
@@ -145,12 +165,14 @@ module _ (j : Job) (k : ℕ) where
   numberOf p = 4 * (p .site + j .header .displacement - cellAt j k .given) + 2 * p .layout + p .mark
 
   number-below : (p : Pose) → Allowed j k p → p .layout < 2 → numberOf p < poseNumbers j
-  number-below p a h = omega arith
+  number-below p a h = let l = a .left in let r = a .right in omega (arith, limit-within (j .header) (cellAt j k))
 
   number-pose : (p : Pose) → Allowed j k p → p .layout < 2
       → (poseNumber j k (numberOf p) ≡ p) × (j .header .displacement ≤ cellAt j k .given + numberOf p / 4)
   unfolding poseNumber
   number-pose p a h =
+      let within = limit-within (j .header) (cellAt j k) in
+      let left = a .left in
       let s : cellAt j k .given + numberOf p / 4 - j .header .displacement ≡ p .site = omega arith in
       let l : numberOf p % 4 / 2 ≡ p .layout = omega arith in
       let m : numberOf p % 2 ≡ p .mark = omega arith in
@@ -184,23 +206,24 @@ module _ (j : Job) (sound : Sound j) (k : ℕ) where
       to m =
           let r = Memᴰ·of-map (poseNumber j k) (pick (isOffered j k) (from 0 (poseNumbers j))) m in
           let i = pick-in (isOffered j k) (from 0 (poseNumbers j)) (r .1) in
-          let h = in-from 0 (poseNumbers j) (i .0) in
-          subst (Allowed j k) (r .2) (number-test j k (r .0) (omega arith) .0 (i .1) .0)
+          subst (Allowed j k) (r .2) (number-test j k (r .0) .0 (i .1) .0)
 
       back : Allowed j k p → In p (offersOf j k)
       back a =
-          let s : p .layout < 2 = let f = few-layouts in let l = a .layout in omega arith in
+          let s : p .layout < 2 = let l = a .layout in omega (arith, few-layouts, layouts-within (j .header) (cellAt j k)) in
           let n = numberOf j k p in
           let h = number-below j k p a s in
           let e = number-pose j k p a s in
           Memᴰ·cast (sym (e .0))
           (Memᴰ·map (poseNumber j k)
           (in-pick (isOffered j k) (from 0 (poseNumbers j)) (from-in n 0 (poseNumbers j) (omega arith) (omega arith))
-          (number-test j k n h .1 (subst (Allowed j k) (sym (e .0)) a, e .1))))
+          (number-test j k n .1 (subst (Allowed j k) (sym (e .0)) a, e .1))))
 
   -- what is offered is wide
   pub wide-positive : (p : Pose) → In p (offersOf j k) → 0 < widthOf j k p
-  wide-positive p m = wide-layout p (offered-allowed p .0 m .layout)
+  wide-positive p m =
+      let l = offered-allowed p .0 m .layout in
+      wide-layout p (omega (arith, layouts-within (j .header) (cellAt j k)))
 
   -- a cell's pose is offered just if the cell keeps rules 1 to 3
   pub offered-rules : (P : Placement) → In (poseAt P k) (offersOf j k) ↔ Keeps j k P

@@ -2,14 +2,14 @@
 -- 1 to 3 allow it, by their numbers. A cell's own cost and what neighbours pay are the terms of the cost. Definitions;
 -- crate `theory_bridge` proves that they say the same.
 use Prim.Native.Nat.{ℕ, zero, suc, _+_, _-_, _*_, _/_, _%_}
-use mathlib.Core.Bool.{Bool, true, _&&_, _||_, cond}
+use mathlib.Core.Bool.{Bool, true, _&&_, cond}
 use mathlib.Core.List.{List, [], _∷_, map}
 use lib.ListN.{length, getD}
-use lib.Dec.{leb, ltb, eqb}
+use lib.Dec.{leb, eqb}
 use Rattle.definition.specs.Lists.{sum}
 use Rattle.definition.specs.Job.{Layout, Job}
 use Rattle.definition.specs.Placement.{Pose}
-use Rattle.definition.specs.Rules.{noLayout, cellAt, apart}
+use Rattle.definition.specs.Rules.{noLayout, cellAt, apart, offerAt, choiceOffered, siteOffered}
 use Rattle.definition.specs.Cost.{charge, firstHeight}
 use Rattle.lists.specs.Numbers.{from}
 use Rattle.theory_pair.specs.Pick.{pick}
@@ -45,12 +45,12 @@ unfoldable pub poseNumber : Job → ℕ → ℕ → Pose
 poseNumber j k a =
     record { site = cellAt j k .given + a / 4 - j .header .displacement; layout = a % 4 / 2; mark = a % 2 }
 
--- its site is not left of site 0; rule 1; rule 2. Every pose number keeps rule 3.
+-- its site is not left of site 0; rules 1 and 3, by what cell k is offered; rule 2
 unfoldable pub isOffered : Job → ℕ → ℕ → Bool
 isOffered j k a =
     leb (j .header .displacement) (cellAt j k .given + a / 4)
-    && ltb (poseNumber j k a .layout) (length (cellAt j k .layouts))
-    && (eqb (poseNumber j k a .mark) 0 || cellAt j k .mirrorable)
+    && choiceOffered (offerAt j k) (poseNumber j k a)
+    && siteOffered (offerAt j k) (poseNumber j k a)
     && leb (poseNumber j k a .site + widthOf j k (poseNumber j k a)) (j .header .sites)
 
 unfoldable pub offersOf : Job → ℕ → List Pose

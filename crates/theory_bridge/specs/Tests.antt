@@ -38,14 +38,6 @@ mark-test m t = go (eqb m 0) (eqb m 1) (eq? m 0) (eq? m 1)
     go false true u (same o) = (λ e. (omega arith, λ q. e), λ p. p .1 o)
     go false false (differs z) (differs o) = (λ e. absurd (false≢true e), λ p. absurd (let h = p .0 in omega arith))
 
--- and the same of a mark that is 0 or 1
-pub mirror-test : (m : ℕ) (t : Bool) → m < 2 → (eqb m 0 || t) ≡ true ↔ (m ≡ 1 → t ≡ true)
-mirror-test m t h = go (eqb m 0) (eq? m 0)
-  where
-    go : (a : Bool) → Eq? m 0 a → (a || t) ≡ true ↔ (m ≡ 1 → t ≡ true)
-    go true (same z) = (λ e o. absurd (omega arith), λ f. refl)
-    go false (differs z) = (λ e o. e, λ f. f (omega arith))
-
 pub any-false : {A : Type 0} (f : A → Bool) (l : List A) → any f l ≡ false ↔ ((x : A) → In x l → f x ≡ false)
 any-false f [] = (λ e x m. elim m [ ], λ g. refl)
 any-false {A} f (y ∷ l) = (

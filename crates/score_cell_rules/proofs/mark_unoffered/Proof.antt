@@ -1,43 +1,47 @@
 -- Invariant: the cells from k on have been tried.
 use Prim.Native.Nat.{ℕ, _-_}
-use Rattle.score_cell_rules.specs.Marks.{Marking, marking-none, marking-hit, marking-miss, marking-all}
 use mathlib.Core.Path.{_∙_}
-use Rattle.definition.specs.Rules.{breaks1}
-use Rattle.job.specs.Value.{jobOf, placementOf}
-use Rattle.score_cell_rules.specs.Offered.{unoffered}
-use borrow.Author.Needs.{needs}
 use native.Mathlib.Omega.{arith}
+use borrow.Author.Needs.{needs}
+use Rattle.job.specs.Value.{jobOf, placementOf, offerIn}
+use Rattle.score_cell_rules.specs.Marks.{Marking, marking-none, marking-hit, marking-miss, marking-all}
+use Rattle.score_cell_rules.specs.Offered.{unofferedIn, unoffered}
 use Rattle.score_cell_rules.proofs.mark_unoffered.Statement.{statement}
 use Rattle.score_cell_rules.proofs.mark_unoffered.Tie as tie
 
 abbrev Inv-loop : tie.InvT-loop
-Inv-loop marks₀ job placement k₀ marks k = Marking (breaks1 (jobOf job) (placementOf placement)) (job .count) marks₀ marks k
+Inv-loop rule marks₀ job placement header k₀ marks k =
+    Marking (unofferedIn rule (jobOf job) (placementOf placement)) (job .count) marks₀ marks k
 
 abbrev μ-loop : tie.MeasureT-loop
-μ-loop marks₀ job placement k₀ marks k = k
+μ-loop rule marks₀ job placement header k₀ marks k = k
 
 loop-holds : tie.Need-loop-holds Inv-loop μ-loop
 loop-holds c =
-    let s = c .before in
-    marking-none (breaks1 (jobOf (s .args .t1)) (placementOf (s .args .t2))) (s .args .t1 .count) (s .args .marks .now) (s .pre .0 .few) (s .pre .1)
+    let s = c .before .before in
+    marking-none (unofferedIn (s .args .rule) (jobOf (s .args .t2)) (placementOf (s .args .t3))) (s .args .t2 .count)
+    (s .args .marks .now) (s .pre .0 .few) (s .pre .1)
 
 sub-k : tie.Need-sub-k Inv-loop μ-loop
 sub-k c = omega arith
 
-mul-is-offered : tie.Need-mul-is-offered Inv-loop μ-loop
-mul-is-offered c = omega arith
+mul-offer-of : tie.Need-mul-offer-of Inv-loop μ-loop
+mul-offer-of c = omega arith
 
-element-copy-out-is-offered : tie.Need-element-copy-out-is-offered Inv-loop μ-loop
-element-copy-out-is-offered c = omega arith
+element-copy-out-offer-of : tie.Need-element-copy-out-offer-of Inv-loop μ-loop
+element-copy-out-offer-of c = omega arith
 
-mul-is-offered-2 : tie.Need-mul-is-offered-2 Inv-loop μ-loop
-mul-is-offered-2 c = omega arith
+offer-of-requires : tie.Need-offer-of-requires Inv-loop μ-loop
+offer-of-requires c κs = search needs
 
-element-copy-out-is-offered-2 : tie.Need-element-copy-out-is-offered-2 Inv-loop μ-loop
-element-copy-out-is-offered-2 c = omega arith
+mul-keeps : tie.Need-mul-keeps Inv-loop μ-loop
+mul-keeps c = omega arith
 
-is-offered-requires : tie.Need-is-offered-requires Inv-loop μ-loop
-is-offered-requires c κs = search needs
+element-copy-out-keeps : tie.Need-element-copy-out-keeps Inv-loop μ-loop
+element-copy-out-keeps c = omega arith
+
+keeps-requires : tie.Need-keeps-requires Inv-loop μ-loop
+keeps-requires c κs = search needs
 
 mul-marks : tie.Need-mul-marks Inv-loop μ-loop
 mul-marks c = omega arith
@@ -50,12 +54,14 @@ loop-less c = omega arith
 
 loop-again : tie.Need-loop-again Inv-loop μ-loop
 loop-again c =
-    let r = c .before .is-offered in
-    let mid = c .before .before .before .before in
-    let p = mid .before in
-    let s = p .before .before in
+    let r = c .before .keeps in
+    let o = c .before .before .before in
+    let p = o .before .before .before in
+    let s = p .before .before .before in
     let k : ℕ = p .loop .k - 1 in
-    let t = unoffered (s .args .t1) (s .args .t2) k (r .result) (omega arith) (s .pre .0 .each) (r .ensures) ∙ c .if1 .taken in
+    let t =
+    unoffered (s .args .rule) (s .args .t2) (s .args .t3) k (offerIn (o .offer-of .result)) (r .result) (omega arith)
+    (s .pre .0 .each) (o .offer-of .ensures) (r .ensures) ∙ c .if1 .taken in
     marking-hit k (omega arith) (p .loop .inv) t
 
 loop-less-2 : tie.Need-loop-less-2 Inv-loop μ-loop
@@ -63,12 +69,14 @@ loop-less-2 c = omega arith
 
 loop-again-2 : tie.Need-loop-again-2 Inv-loop μ-loop
 loop-again-2 c =
-    let r = c .before .is-offered in
-    let mid = c .before .before .before .before in
-    let p = mid .before in
-    let s = p .before .before in
+    let r = c .before .keeps in
+    let o = c .before .before .before in
+    let p = o .before .before .before in
+    let s = p .before .before .before in
     let k : ℕ = p .loop .k - 1 in
-    let t = unoffered (s .args .t1) (s .args .t2) k (r .result) (omega arith) (s .pre .0 .each) (r .ensures) ∙ c .if1 .left in
+    let t =
+    unoffered (s .args .rule) (s .args .t2) (s .args .t3) k (offerIn (o .offer-of .result)) (r .result) (omega arith)
+    (s .pre .0 .each) (o .offer-of .ensures) (r .ensures) ∙ c .if1 .left in
     marking-miss k (omega arith) (p .loop .inv) t
 
 same-length : tie.Need-same-length Inv-loop μ-loop
@@ -85,11 +93,12 @@ mark-unoffered-spec =
     μ-loop
     loop-holds
     sub-k
-    mul-is-offered
-    element-copy-out-is-offered
-    mul-is-offered-2
-    element-copy-out-is-offered-2
-    is-offered-requires
+    mul-offer-of
+    element-copy-out-offer-of
+    offer-of-requires
+    mul-keeps
+    element-copy-out-keeps
+    keeps-requires
     mul-marks
     slice-write-marks
     loop-less

@@ -1,9 +1,10 @@
 -- The arrays are the board of the job and its placement (specs/Board), and so the rules that are judged are theirs.
-use mathlib.Core.Path.{refl}
+use mathlib.Core.Path.{refl, _∙_}
 use Rattle.job.specs.Value.{jobOf, headerOf, placementOf}
 use Rattle.score_order.specs.Arrays.{zeros-room}
 use Rattle.score_words.specs.FourWords.{zeros-blank}
 use Rattle.score_cell_rules.specs.Marks.{zeros-unmarked, marked-is}
+use Rattle.score_cell_rules.specs.Offered.{unoffered-choice, unoffered-site}
 use borrow.Author.Needs.{needs}
 use Rattle.score_verdict.proofs.judge.Statement.{statement}
 use Rattle.score_verdict.proofs.judge.Tie as tie
@@ -20,6 +21,12 @@ slice-aggregate-mark-unoffered c = search needs
 mark-unoffered-requires : tie.Need-mark-unoffered-requires
 mark-unoffered-requires c κs = search needs
 
+slice-aggregate-mark-unoffered-2 : tie.Need-slice-aggregate-mark-unoffered-2
+slice-aggregate-mark-unoffered-2 c = search needs
+
+mark-unoffered-requires-2 : tie.Need-mark-unoffered-requires-2
+mark-unoffered-requires-2 c κs = search needs
+
 slice-aggregate-order-row : tie.Need-slice-aggregate-order-row
 slice-aggregate-order-row c = search needs
 
@@ -28,8 +35,9 @@ slice-aggregate-order-row-2 c = search needs
 
 order-row-requires : tie.Need-order-row-requires
 order-row-requires c κs =
-    let mid = c .before .before .before .before in
-    let f = mid .before .before in
+    let far = c .before .before .before in
+    let choice = far .before .before .before in
+    let f = choice .before .before .before in
     let s = f .before .before .before in (s .pre .0 .few, f .flatten .ensures .long, zeros-room)
 
 slice-aggregate-order-row-3 : tie.Need-slice-aggregate-order-row-3
@@ -41,8 +49,9 @@ slice-aggregate-order-row-4 c = search needs
 order-row-requires-2 : tie.Need-order-row-requires-2
 order-row-requires-2 c κs =
     let row = c .before .before .before .before in
-    let mid = row .before .before .before .before in
-    let f = mid .before .before in
+    let far = row .before .before .before in
+    let choice = far .before .before .before in
+    let f = choice .before .before .before in
     let s = f .before .before .before in (s .pre .0 .few, f .flatten .ensures .long, zeros-room)
 
 slice-aggregate-judge-rules : tie.Need-slice-aggregate-judge-rules
@@ -57,8 +66,29 @@ slice-aggregate-judge-rules-3 c = search needs
 slice-aggregate-judge-rules-4 : tie.Need-slice-aggregate-judge-rules-4
 slice-aggregate-judge-rules-4 c = search needs
 
+slice-aggregate-judge-rules-5 : tie.Need-slice-aggregate-judge-rules-5
+slice-aggregate-judge-rules-5 c = search needs
+
 judge-rules-requires : tie.Need-judge-rules-requires
-judge-rules-requires c κs = search needs
+judge-rules-requires c κs =
+    let rows = c .before .before .before .before in
+    let two = rows .before .before .before .before in
+    let one = two .before .before .before .before in
+    let far = one .before .before .before .before in
+    let choice = far .before .before .before in
+    let f = choice .before .before .before in
+    let s = f .before .before .before in (
+      record {
+        offers = choice .mark-unoffered .ensures .long;
+        shifts = far .mark-unoffered2 .ensures .long;
+        ordered = record {
+          cells = record { few = s .pre .0 .few; long = f .flatten .ensures .long };
+          row0 = one .order-row .ensures;
+          row1 = two .order-row2 .ensures;
+        };
+      },
+      s .pre .1,
+    )
 
 same-length : tie.Need-same-length
 same-length c = search needs
@@ -66,21 +96,25 @@ same-length c = search needs
 returns : tie.Need-returns
 unfolding jobOf headerOf
 returns c =
-    let late = c .before .before .before .before in
-    let rows = late .before .before .before .before in
-    let two = rows .before .before in
+    let call = c .before .before .before in
+    let rows = call .before .before .before .before in
+    let two = rows .before .before .before .before in
     let one = two .before .before .before .before in
-    let u = one .before .before .before .before in
-    let f = u .before .before .before in
+    let far = one .before .before .before .before in
+    let choice = far .before .before .before in
+    let f = choice .before .before .before in
     let s = f .before .before .before in
     let a = s .args in
+    let marked = zeros-unmarked (a .job .count) in
     c .before .before .judge-rules .ensures .told (jobOf (a .job)) (placementOf (a .placement))
     (record {
       flat = f .flatten .ensures;
       sites = refl;
-      displacement = refl;
       reordering = refl;
-      offers = marked-is (zeros-unmarked (a .job .count)) (u .mark-unoffered .ensures);
+      offers = λ k h. marked-is marked (choice .mark-unoffered .ensures) k h
+          ∙ unoffered-choice (jobOf (a .job)) (placementOf (a .placement)) k;
+      shifts = λ k h. marked-is marked (far .mark-unoffered2 .ensures) k h
+          ∙ unoffered-site (jobOf (a .job)) (placementOf (a .placement)) k;
     })
 
 pub judge-spec : {M : Type 1} → statement M
@@ -91,6 +125,8 @@ judge-spec =
     flatten-requires
     slice-aggregate-mark-unoffered
     mark-unoffered-requires
+    slice-aggregate-mark-unoffered-2
+    mark-unoffered-requires-2
     slice-aggregate-order-row
     slice-aggregate-order-row-2
     order-row-requires
@@ -101,6 +137,7 @@ judge-spec =
     slice-aggregate-judge-rules-2
     slice-aggregate-judge-rules-3
     slice-aggregate-judge-rules-4
+    slice-aggregate-judge-rules-5
     judge-rules-requires
     same-length
     returns)

@@ -15,21 +15,21 @@ use native.Mathlib.Omega.{arith}
 use Rattle.score_verdict.proofs.judge_rules.Statement.{statement}
 use Rattle.score_verdict.proofs.judge_rules.Tie as tie
 
-record Open (limits : Limits) (unoffered words marks : List ℕ) (rule : ℕ) : Type 0 where
+record Open (limits : Limits) (unoffered far words marks : List ℕ) (rule : ℕ) : Type 0 where
   low : 1 ≤ rule
   long : length marks ≡ 64
-  held : (j : paper.Job) (P : text.Placement) → Board j P limits unoffered words → Held j P (limits .cells) rule marks
+  held : (j : paper.Job) (P : text.Placement) → Board j P limits unoffered far words → Held j P (limits .cells) rule marks
 
 abbrev Inv-loop : tie.InvT-loop
-Inv-loop limits unoffered words order0 order1 starts marks₀ rule₀ marks rule = Open limits unoffered words marks rule
+Inv-loop limits unoffered far words order0 order1 marks₀ rule₀ marks rule = Open limits unoffered far words marks rule
 
 abbrev μ-loop : tie.MeasureT-loop
-μ-loop limits unoffered words order0 order1 starts marks₀ rule₀ marks rule = suc ruleCount - rule
+μ-loop limits unoffered far words order0 order1 marks₀ rule₀ marks rule = suc ruleCount - rule
 
 loop-holds : tie.Need-loop-holds Inv-loop μ-loop
 loop-holds c =
     let mid = c .before .before .before .before in
-    let s = mid .before in
+    let s = mid .before .before in
     record { low = omega arith; long = s .pre .1 .long; held = λ j P b. held-first (b .flat .count) (s .pre .1) }
 
 mark-rule-requires : tie.Need-mark-rule-requires Inv-loop μ-loop

@@ -13,8 +13,8 @@ mark-again-requires c κs = search needs
 mark-past-requires : tie.Need-mark-past-requires
 mark-past-requires c κs = search needs
 
-mark-far-requires : tie.Need-mark-far-requires
-mark-far-requires c κs = search needs
+mark-again-requires-2 : tie.Need-mark-again-requires-2
+mark-again-requires-2 c κs = search needs
 
 mark-overlaps-requires : tie.Need-mark-overlaps-requires
 mark-overlaps-requires c κs = search needs
@@ -44,7 +44,7 @@ same-length-3 : tie.Need-same-length-3
 same-length-3 c = search needs
 
 returns-3 : tie.Need-returns-3
-returns-3 c = let call = c .before .before in marks3 (call .before .before .match .keys3) (call .mark-far .ensures)
+returns-3 c = let call = c .before .before in marks3 (call .before .before .match .keys3) (call .mark-again2 .ensures)
 
 same-length-4 : tie.Need-same-length-4
 same-length-4 c = search needs
@@ -80,7 +80,7 @@ nothing x a b = omega arith
 returns-8 : tie.Need-returns-8
 returns-8 c =
     let mid = c .before .before .before .before in
-    let s = mid .before .before in
+    let s = mid .before .before .before in
     let r = c .match .rest in
     marks-none (s .pre .1) (λ j P a b.
     let b₆ = down _ 6 b (r .1) in
@@ -97,7 +97,7 @@ mark-rule-spec =
     (tie.spec
     mark-again-requires
     mark-past-requires
-    mark-far-requires
+    mark-again-requires-2
     mark-overlaps-requires
     mark-gaps-requires
     mark-places-requires
