@@ -10,7 +10,7 @@ use Rattle.definition.specs.Rules.{breaks1, breaks2, breaks3, breaks4, b
 use Rattle.definition.specs.Rules.{lowest, firstBroken, verdict}
 use Rattle.definition.specs.Cost.{differing, stepsAt, stepsIn, steps, shifted, mirrored, changed, cost}
 use Rattle.definition.specs.Cost.{totalShift, drift}
-use Rattle.definition.specs.Outcome.{Outcome, numbers, scoreFields, score}
+use Rattle.definition.specs.Outcome.{Outcome, firstOf, outcomeOf, numbers, scoreFields, score}
 use Rattle.definition.specs.Edges.{Case, scoring, placing, edges}
 
 -- a name that opens the definitions, so that texts compute
@@ -24,7 +24,7 @@ unfolding bytes linesOf ended fieldsOf isNumber valueFrom
     lowest firstBroken verdict
     differing stepsAt stepsIn steps shifted mirrored changed cost
     totalShift drift
-    numbers scoreFields score
+    firstOf outcomeOf numbers scoreFields score
 opened job placement = score job placement
 
 -- Score's cases of a list

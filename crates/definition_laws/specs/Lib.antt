@@ -3,6 +3,7 @@ pub mod Offers
 pub mod Agree
 pub mod FirstBroken
 pub mod Search
+pub mod Outcomes
 pub mod PlaceClaim
 pub mod EdgesHold
 pub mod AtWork

@@ -1,0 +1,98 @@
+-- What Read, Score and Place give, case by case: the first that refuses, or the answer. Theorems, nothing to believe.
+use Prim.Native.Nat.{ℕ}
+use mathlib.Core.Path.{_≡_, refl, ap, _∙_}
+use mathlib.Core.List.{List, [], _∷_}
+use mathlib.Core.Option.{Option}
+use native.Mathlib.Omega.{arith}
+use lib.ListN.{length}
+use lib.IntN.{pos}
+use borrow.Author.Tests.{eq-eqb, ne-eqb}
+use Rattle.definition.specs.Texts.{Text}
+use Rattle.definition.specs.Job.{Job, Reading, refused, accepted, readJob}
+use Rattle.definition.specs.Placement.{Placement, Poses, fault, poses, readPlacement}
+use Rattle.definition.specs.Outcome.{Outcome, Refusal, noLine, firstOf, refusedBy, answered, outcomeOf}
+use Rattle.definition.specs.Outcome.{readFieldCount, readOutcome, read}
+use Rattle.definition.specs.Outcome.{scoreFieldCount, posesRefusal, placementIn, scoreAnswer, scoreOutcome, score}
+use Rattle.definition.specs.Outcome.{placeFieldCount, placeAnswer, bufferRefusal, placeOutcome}
+
+-- ---- any list of refusals
+
+module _ (n : ℕ) (r : Refusal) (rs : List Refusal) (answer : Outcome) where
+  -- one that refuses stands, whatever follows it
+  pub first-refuses : (r .number ≡ 0 → ⊥) → outcomeOf n (r ∷ rs) answer ≡ refusedBy n r
+  unfolding firstOf outcomeOf
+  first-refuses d = let e = ne-eqb (r .number) 0 d in rw (e, e)
+
+  -- one that does not leaves the rest to decide
+  pub first-passes : r .number ≡ 0 → outcomeOf n (r ∷ rs) answer ≡ outcomeOf n rs answer
+  unfolding firstOf outcomeOf
+  first-passes e = rw (eq-eqb (r .number) 0 e)
+
+pub none-refuses : (n : ℕ) (answer : Outcome) → outcomeOf n [] answer ≡ answer
+unfolding firstOf outcomeOf
+none-refuses n answer = refl
+
+-- ---- a job text that is refused
+
+module _ (job : Text) {number line : ℕ} (e : readJob job ≡ refused number line) (d : number ≡ 0 → ⊥) where
+  abbrev r : Refusal
+  r = record { number = number; line = line }
+
+  pub read-refused : read job ≡ refusedBy readFieldCount r
+  unfolding read
+  read-refused = ap readOutcome e ∙ first-refuses readFieldCount r _ _ d
+
+  pub score-refused : (placement : Text) → score job placement ≡ refusedBy scoreFieldCount r
+  unfolding score
+  score-refused placement =
+      ap (λ (x : Reading). scoreOutcome x placement) e ∙ first-refuses scoreFieldCount r _ _ d
+
+  pub place-refused : (words room : ℕ) (a : Option Placement)
+      → placeOutcome (readJob job) words room a ≡ refusedBy placeFieldCount r
+  unfolding placeOutcome
+  place-refused words room a =
+      ap (λ (x : Reading). placeOutcome x words room a) e ∙ first-refuses placeFieldCount r _ _ d
+
+-- ---- one that is accepted
+
+module _ (job : Text) {j : Job} (e : readJob job ≡ accepted j) where
+  pub read-accepted : read job ≡ answered (pos (length (j .cells)) ∷ [])
+  unfolding read
+  read-accepted =
+      ap readOutcome e ∙ first-passes readFieldCount (noLine 0) [] _ refl ∙ none-refuses readFieldCount _
+
+  -- Score, by what the placement text is read as
+  score-by : (placement : Text) {ps : Poses} → readPlacement (length (j .cells)) placement ≡ ps
+      → score job placement ≡ outcomeOf scoreFieldCount (posesRefusal ps ∷ []) (scoreAnswer j (placementIn ps))
+  unfolding score
+  score-by placement p =
+      ap (λ (x : Reading). scoreOutcome x placement) e ∙ first-passes scoreFieldCount (noLine 0) _ _ refl
+      ∙ ap (λ (x : Poses). outcomeOf scoreFieldCount (posesRefusal x ∷ []) (scoreAnswer j (placementIn x))) p
+
+  pub score-fault : (placement : Text) {line : ℕ} → readPlacement (length (j .cells)) placement ≡ fault line
+      → score job placement ≡ refusedBy scoreFieldCount (record { number = 5; line = line })
+  score-fault placement {line} p =
+      score-by placement p
+      ∙ first-refuses scoreFieldCount (record { number = 5; line = line }) [] _ (λ z. omega arith)
+
+  pub score-accepted : (placement : Text) {P : Placement} → readPlacement (length (j .cells)) placement ≡ poses P
+      → score job placement ≡ scoreAnswer j P
+  score-accepted placement p =
+      score-by placement p ∙ first-passes scoreFieldCount (noLine 0) [] _ refl ∙ none-refuses scoreFieldCount _
+
+  -- Place, by its buffers
+  module _ (words room : ℕ) (a : Option Placement) where
+    place-by : placeOutcome (readJob job) words room a
+        ≡ outcomeOf placeFieldCount (noLine (bufferRefusal j words room) ∷ []) (placeAnswer j a)
+    unfolding placeOutcome
+    place-by =
+        ap (λ (x : Reading). placeOutcome x words room a) e ∙ first-passes placeFieldCount (noLine 0) _ _ refl
+
+    pub place-buffers : (bufferRefusal j words room ≡ 0 → ⊥)
+        → placeOutcome (readJob job) words room a ≡ refusedBy placeFieldCount (noLine (bufferRefusal j words room))
+    place-buffers d = place-by ∙ first-refuses placeFieldCount (noLine (bufferRefusal j words room)) [] _ d
+
+    pub place-accepted : bufferRefusal j words room ≡ 0 → placeOutcome (readJob job) words room a ≡ placeAnswer j a
+    place-accepted z =
+        place-by ∙ first-passes placeFieldCount (noLine (bufferRefusal j words room)) [] _ z
+        ∙ none-refuses placeFieldCount _
