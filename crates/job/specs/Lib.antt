@@ -2,3 +2,4 @@ pub mod Value
 pub mod Parts
 pub mod Cells
 pub mod Layouts
+pub mod Accepted

@@ -10,7 +10,7 @@ use lib.Dec.{leb, ltb}
 use borrow.Author.Tests.{leb-true, ltb-true}
 use Rattle.definition.specs.Lists.{keep}
 use Rattle.definition.specs.Texts.{Text, linesOf}
-use Rattle.definition.specs.Job.{Cell, Job, Reading, accepted, isTall, shareRow, maxTall}
+use Rattle.definition.specs.Job.{Cell, Header, Job, Reading, accepted, isTall, shareRow, maxTall}
 use Rattle.definition.specs.Job.{maxCells, numbersOf, headerOf, cellOf, headerRefusal}
 use Rattle.definition.specs.Job.{cellRefusal, withCell, readCells, readLines, readJob}
 use Rattle.definition.specs.Rules.{noCell, cellAt}
@@ -78,7 +78,7 @@ unfolding choose
 chosen zero at r j e = (refl, e)
 chosen (suc n) at r j e = let z : _≡_ {A = ℕ} 0 1 = cc in absurd (omega arith)
 
-cells-sound : (ls : List Text) (at : ℕ) (j j′ : Job) → Sound j → readCells j at ls ≡ accepted j′ → Sound j′
+pub cells-sound : (ls : List Text) (at : ℕ) (j j′ : Job) → Sound j → readCells j at ls ≡ accepted j′ → Sound j′
 unfolding readCells
 cells-sound [] at j j′ s e = let q : j ≡ j′ = cc in rw q at s
 cells-sound (l ∷ ls) at j j′ s e =
@@ -88,22 +88,23 @@ cells-sound (l ∷ ls) at j j′ s e =
     cells-sound ls (suc at) (withCell j (cellOf (numbersOf l))) j′ (more-sound j s (numbersOf l) (taken j l (c .0)))
     (c .1)
 
+-- no cell yet
+pub begun-sound : (h : Header) → SoundHeader h → Sound (record { header = h; cells = [] })
+begun-sound h s = record {
+  header = s;
+  few = omega arith;
+  fewTall = omega arith;
+  cell = λ k l. absurd (omega arith);
+  rising = λ a b p l. absurd (omega arith);
+}
+
 lines-sound : (ls : List Text) (j : Job) → readLines ls ≡ accepted j → Sound j
 unfolding readLines
 lines-sound [] j e = let z : _≡_ {A = ℕ} 0 1 = cc in absurd (omega arith)
 lines-sound (l ∷ ls) j e =
     let begun : Job = record { header = headerOf (numbersOf l); cells = [] } in
     let c = chosen (headerRefusal l) 1 (readCells begun 2 ls) j (sym (read-header-line l ls) ∙ e) in
-    cells-sound ls 2 begun j (first (header-line-sound l (c .0))) (c .1)
-  where
-    first : SoundHeader (headerOf (numbersOf l)) → Sound (record { header = headerOf (numbersOf l); cells = [] })
-    first h = record {
-      header = h;
-      few = omega arith;
-      fewTall = omega arith;
-      cell = λ k l. absurd (omega arith);
-      rising = λ a b p l. absurd (omega arith);
-    }
+    cells-sound ls 2 begun j (begun-sound (headerOf (numbersOf l)) (header-line-sound l (c .0))) (c .1)
 
 pub accepted-sound : (text : Text) (j : Job) → readJob text ≡ accepted j → Sound j
 unfolding readJob

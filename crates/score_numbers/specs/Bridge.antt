@@ -24,7 +24,7 @@ flat-digits job P words r f k h =
     let s = f .shows k in
     let l : k < length (jobOf job .cells) = omega (arith, f .count) in (
       omega (arith, s .site, ap (λ p. p .site) (pose-there P k (omega (arith, r .each))), r .site k h),
-      omega (arith, s .given, r .sound .cell k l .given),
+      omega (arith, s .given, r .accepted .sound .cell k l .given),
     )
 
 pub steps-sum : (j : paper.Job) (P : text.Placement) (a b : ℕ) → a ≡ stepsIn j P 0 → b ≡ stepsIn j P 1
@@ -64,4 +64,5 @@ pub record Weights (job : Job) : Type 0 where
 pub weights-small : (job : Job) (P : Placement) → Ready job P → Weights job
 unfolding jobOf headerOf
 weights-small job P r =
-    let h = r .sound .header in record { step = h .step; shift = h .shift; mirror = h .mirror; swap = h .swap }
+    let h = r .accepted .sound .header in
+    record { step = h .step; shift = h .shift; mirror = h .mirror; swap = h .swap }

@@ -2,13 +2,12 @@
 -- cell, of four digits.
 use Prim.Native.Nat.{ℕ, _≤_, _<_}
 use mathlib.Core.Path.{_≡_}
-use Rattle.definition_laws.specs.Sound.{Sound}
 use Rattle.job.specs.declared.Job.{Job}
 use Rattle.job.specs.declared.Placement.{Placement}
-use Rattle.job.specs.Value.{jobOf, poseAt}
+use Rattle.job.specs.Value.{poseAt}
+use Rattle.job.specs.Accepted.{Accepted}
 
 pub record Ready (job : Job) (placement : Placement) : Type 0 where
-  pub sound : Sound (jobOf job)
-  pub few : job .count ≤ 64
+  pub accepted : Accepted job
   pub each : placement .count ≡ job .count
   pub site : (k : ℕ) → k < job .count → poseAt placement k .site ≤ 9999

@@ -16,7 +16,7 @@ slice-aggregate-order-row : tie.Need-slice-aggregate-order-row
 slice-aggregate-order-row c = search needs
 
 order-row-requires : tie.Need-order-row-requires
-order-row-requires c κs = (omega (arith, c .before .before .pre .1 .few), omega (arith, c .before .before .pre .2 .long), zeros-room)
+order-row-requires c κs = (omega (arith, c .before .before .pre .1 .accepted .few), omega (arith, c .before .before .pre .2 .long), zeros-room)
 
 slice-aggregate-steps-in : tie.Need-slice-aggregate-steps-in
 slice-aggregate-steps-in c = search needs
@@ -29,7 +29,7 @@ steps-in-requires c κs =
     let r = s .pre .1 in
     let w = s .args .words .now in
     let n = s .args .job .count in (
-      (s .pre .0, r .few, r .each, s .pre .2),
+      (s .pre .0, r .accepted .few, r .each, s .pre .2),
       (
         record { long = t .long; low = t .low },
         t .start,

@@ -2,7 +2,7 @@
 use Prim.Native.Nat.{ℕ, suc, _+_, _*_, _-_, _≤_, _<_}
 use mathlib.Core.Path.{_≡_, ap, _∙_}
 use mathlib.Core.List.{List}
-use lib.ListN.{length, getD, length-map}
+use lib.ListN.{length, getD}
 use borrow.Author.Count.{below-more}
 use Rattle.job.specs.declared.Job.{Job}
 use Rattle.job.specs.declared.Placement.{Placement}
@@ -14,7 +14,7 @@ use Rattle.job.specs.Value as value
 use Rattle.job.specs.Value.{cellOf, jobOf, placementOf, poseAt}
 use Rattle.score_words.specs.Flat.{four, Shows}
 use Rattle.job.specs.Parts.{widthIn}
-use Rattle.job.specs.Cells.{cell-there, cell-lacking, pose-lacking, cell-count}
+use Rattle.job.specs.Cells.{cell-there, cell-lacking, pose-lacking}
 use Rattle.score_words.specs.FourWords.{four-long, four-other, shows-keep, shows-four, shows-none}
 use Rattle.job.specs.Layouts.{width-small}
 use native.Mathlib.Omega.{arith}
@@ -52,10 +52,6 @@ element-copy-out-pose c = omega arith
 width-of-requires : tie.Need-width-of-requires Inv-loop μ-loop
 width-of-requires c κs = search needs
 
--- the array has 64 cells, as its type says, so that the job's cells are as many as it counts
-counted : (s : tie.Start Inv-loop μ-loop) → length (jobOf (s .args .t1) .cells) ≡ s .args .t1 .count
-counted s = cell-count (s .args .t1) (simp length-map at (s .good .0 .1 .1 .1 .1 .0 .1 .0 .1)) (s .pre .0 .few)
-
 add-put-four : tie.Need-add-put-four Inv-loop μ-loop
 add-put-four c =
     let mid = c .before .before .before .before in
@@ -63,8 +59,8 @@ add-put-four c =
     let s = p .before .before in
     let k : ℕ = p .loop .k in
     let job : Job = s .args .t1 in
-    let h : k < length (jobOf job .cells) = rw (counted s) (omega arith) in
-    let q = s .pre .0 .sound .cell k h in
+    let h : k < length (jobOf job .cells) = omega (arith, s .pre .0 .accepted .many) in
+    let q = s .pre .0 .accepted .sound .cell k h in
     let w = rw (cell-there job k (omega arith)) at (width-small (jobOf job .header) (cellAt (jobOf job) k) (poseAt (s .args .t2) k .layout) q) in
     omega (arith, s .pre .0 .site k (omega arith), c .width-of .ensures, w)
 
@@ -105,7 +101,7 @@ loop-again c =
     let P : Placement = s .args .t2 in
     let w : List ℕ = p .loop .words in
     rw (c .before .before .put-four .ensures)
-    (more job P w k _ (omega arith) (omega (arith, s .pre .0 .few)) (omega (arith, s .pre .0 .each))
+    (more job P w k _ (omega arith) (omega (arith, s .pre .0 .accepted .few)) (omega (arith, s .pre .0 .each))
     (ap (λ x. poseAt P k .site + x) (c .before .before .before .width-of .ensures)) m)
 
 same-length : tie.Need-same-length Inv-loop μ-loop
@@ -127,7 +123,7 @@ returns c =
     let P : Placement = s .args .t2 in
     record {
       long = m .long;
-      count = counted s;
+      count = s .pre .0 .accepted .many;
       shows = λ k. all job P (p .loop .words) (p .loop .k) m (omega arith) (s .pre .0 .each) k (leb (suc k) (job .count)) (le? (suc k) (job .count));
     }
 
