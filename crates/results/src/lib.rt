@@ -1,17 +1,78 @@
 // The result array that a caller lends: number, line and then the fields, as far as
 // it reaches. One writer for every operation.
 ghost use mathlib.Core.Path.{_≡_};
-ghost use mathlib.Core.List.{_∷_};
-ghost use Prim.Native.Nat.{_^_, _≤_, _<_};
-ghost use lib.ListN.{take};
+ghost use mathlib.Core.List.{[], _∷_};
+ghost use Prim.Native.Nat.{_≤_, _<_};
+ghost use lib.ListN.{replicate};
 ghost use lib.IntN.{pos};
 ghost use Rattle.definition.specs.Outcome.{over};
+ghost use Rattle.results.specs.Fields.{maxFields, listOf, More};
+ghost use Rattle.results.specs.Refusals.{noRefusal, Signed};
 
-// The first `n` of eight fields.
-pub fn put_results(results: &mut [i32], number: u32, line: u32, fields: [i32; 8], n: usize)
-    requires { ⌜ (number < 2 ^ 31) × (line < 2 ^ 31) × (n ≤ 8) ⌝ }
-    ensures { λ _. ⌜ now (results .exit) ≡ over (pos number ∷ pos line ∷ take n fields) (now (results .entry)) ⌝ }
+// A refusal and its line; number 0 refuses nothing.
+pub struct Refusal {
+    pub number: u32,
+    pub line: u32,
+}
+
+// The first `count` values, in the order in which an operation names its fields.
+pub struct Fields {
+    pub count: usize,
+    pub values: [i32; Fields::MAX],
+}
+
+impl Refusal {
+    pub fn none() -> Refusal
+        ensures { λ r. ⌜ r ≡ noRefusal ⌝ }
+    {
+        Refusal { number: 0, line: 0 }
+    }
+}
+
+impl Fields {
+    pub const MAX: usize = 16;
+
+    pub fn empty() -> Fields
+        ensures { λ r. ⌜ (listOf r ≡ []) × (r .count ≡ 0) ⌝ }
+    {
+        Fields::zeros(0)
+    }
+
+    // So many fields of 0.
+    pub fn zeros(count: usize) -> Fields
+        requires { ⌜ count ≤ maxFields ⌝ }
+        ensures { λ r. ⌜ (listOf r ≡ replicate count (pos 0)) × (r .count ≡ count) ⌝ }
+    {
+        Fields {
+            count,
+            values: [0i32; Fields::MAX],
+        }
+    }
+
+    // One field more.
+    pub fn push(self, value: i32) -> Fields
+        requires { ⌜ self .count < maxFields ⌝ }
+        ensures { λ r. ⌜ More self (value ∷ []) r ⌝ }
+    {
+        let at = self.count;
+        let mut values = self.values;
+        values[at] = value;
+        Fields {
+            count: at + 1,
+            values,
+        }
+    }
+}
+
+pub fn put_results(results: &mut [i32], refusal: Refusal, fields: Fields)
+    requires { ⌜ Signed refusal × (fields .count ≤ maxFields) ⌝ }
+    ensures { λ _. ⌜ now (results .exit)
+        ≡ over (pos (refusal .number) ∷ pos (refusal .line) ∷ listOf fields) (now (results .entry)) ⌝ }
 {
+    let number = refusal.number;
+    let line = refusal.line;
+    let count = fields.count;
+    let values = fields.values;
     let len = results.len();
     if len == 0 {
         return;
@@ -22,11 +83,11 @@ pub fn put_results(results: &mut [i32], number: u32, line: u32, fields: [i32; 8]
     }
     results[1] = line as i32;
     let mut i = 0;
-    while i < n {
+    while i < count {
         if len <= i + 2 {
             return;
         }
-        let v = fields[i];
+        let v = values[i];
         results[i + 2] = v;
         i += 1;
     }

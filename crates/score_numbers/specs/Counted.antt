@@ -1,8 +1,8 @@
 -- The numbers of a placement as the program has them, and that they are the definition's.
 use Prim.Native.Nat.{_<_, _^_}
 use mathlib.Core.Path.{_≡_}
-use mathlib.Core.List.{[], _∷_}
-use lib.IntN.{pos}
+use mathlib.Core.List.{List, [], _∷_}
+use lib.IntN.{ℤ, pos}
 use Rattle.definition.specs.Job as paper
 use Rattle.definition.specs.Placement as text
 use Rattle.definition.specs.Cost as definition
@@ -27,8 +27,13 @@ pub record Counted (j : paper.Job) (P : text.Placement) (r : Numbers) : Type 0 w
   pub small : Small r
 
 -- as the definition lists them
-pub numbers-listed : (j : paper.Job) (P : text.Placement) (r : Numbers) → Counted j P r
-    → pos (r .steps) ∷ pos (r .shifted) ∷ pos (r .mirrored) ∷ pos (r .changed) ∷ pos (r .cost) ∷ r .drift ∷ []
-    ≡ numbers j P
+abbrev pub numbersIn : Numbers → List ℤ
+numbersIn r =
+    pos (r .steps) ∷ pos (r .shifted) ∷ pos (r .mirrored) ∷ pos (r .changed) ∷ pos (r .cost) ∷ r .drift ∷ []
+
+abbrev pub noNumbers : Numbers
+noNumbers = record { steps = 0; shifted = 0; mirrored = 0; changed = 0; cost = 0; drift = pos 0 }
+
+pub numbers-listed : (j : paper.Job) (P : text.Placement) (r : Numbers) → Counted j P r → numbersIn r ≡ numbers j P
 unfolding numbers
 numbers-listed j P r c = rw (c .steps, c .shifted, c .mirrored, c .changed, c .cost, c .drift)

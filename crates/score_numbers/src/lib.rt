@@ -4,16 +4,19 @@ ghost use Prim.Native.Nat.{_+_, _*_, _≤_, _<_};
 ghost use lib.ListN.{length};
 ghost use Rattle.definition.specs.Rules.{apart};
 ghost use Rattle.definition.specs.Cost.{stepsIn, isMirrored};
+ghost use Rattle.definition.specs.Outcome.{numberCount};
+ghost use Rattle.results.specs.Fields.{maxFields, More};
 ghost use Rattle.job.specs.Value.{jobOf, placementOf};
 ghost use Rattle.score_order.specs.Words.{siteIn, givenIn};
 ghost use Rattle.score_words.specs.Ready.{Ready};
 ghost use Rattle.score_words.specs.Flat.{Flat};
 ghost use Rattle.score_drift.specs.Total.{Digits};
 ghost use Rattle.score_numbers.specs.Sums.{sumFrom, countFrom, shiftIn, isChanged};
-ghost use Rattle.score_numbers.specs.Counted.{Counted};
+ghost use Rattle.score_numbers.specs.Counted.{noNumbers, numbersIn, Small, Counted};
 use job::Header;
 use job::Job;
 use job::Placement;
+use results::Fields;
 use score_drift::drift_from;
 use score_drift::total_shift;
 use score_order::order_row;
@@ -28,6 +31,37 @@ pub struct Numbers {
     pub changed: u32,
     pub cost: u32,
     pub drift: i32,
+}
+
+impl Numbers {
+    pub const COUNT: usize = 6;
+
+    // Those of a placement that is not legal.
+    pub fn zero() -> Numbers
+        ensures { λ r. ⌜ r ≡ noNumbers ⌝ }
+    {
+        Numbers {
+            steps: 0,
+            shifted: 0,
+            mirrored: 0,
+            changed: 0,
+            cost: 0,
+            drift: 0,
+        }
+    }
+}
+
+// The numbers as fields after others, in the order of document 01.
+pub fn push_numbers(fields: Fields, n: Numbers) -> Fields
+    requires { ⌜ (fields .count + numberCount ≤ maxFields) × Small n ⌝ }
+    ensures { λ r. ⌜ More fields (numbersIn n) r ⌝ }
+{
+    let fields = fields.push(n.steps as i32);
+    let fields = fields.push(n.shifted as i32);
+    let fields = fields.push(n.mirrored as i32);
+    let fields = fields.push(n.changed as i32);
+    let fields = fields.push(n.cost as i32);
+    fields.push(n.drift)
 }
 
 // Sites shifted, of one cell: once, in whichever rows it stands.

@@ -1,0 +1,16 @@
+-- A refusal as the program has it: none, and one that signed numbers can tell.
+use Prim.Native.Nat.{_^_, _<_}
+use Rattle.definition.specs.Outcome as paper
+use Rattle.results.specs.declared.Refusal.{Refusal}
+
+-- the refusal of document 01 that it stands for
+abbrev pub refusalOf : Refusal → paper.Refusal
+refusalOf r = record { number = r .number; line = r .line }
+
+abbrev pub noRefusal : Refusal
+noRefusal = record { number = 0; line = 0 }
+
+-- number and line as signed numbers of 32 bits
+pub record Signed (r : Refusal) : Type 0 where
+  pub number : r .number < 2 ^ 31
+  pub line : r .line < 2 ^ 31
