@@ -12,7 +12,12 @@ use Rattle.job.specs.declared.Cell.{Cell}
 use Rattle.job.specs.declared.Header.{Header}
 use Rattle.job.specs.declared.Job.{Job}
 use Rattle.job.specs.Value.{cellOf, headerOf, jobOf}
+use Rattle.job.specs.Cells.{cell-count}
+use Rattle.definition_laws.specs.Sound.{SoundHeader}
 use Rattle.job_laws.specs.Tests.{choose, read-cell-line, read-header-line}
+use Rattle.job_laws.specs.Line.{header-line-sound}
+use Rattle.job_laws.specs.Whole.{begun-sound, cells-sound}
+use Rattle.results.specs.Refusals.{noRefusal}
 use Rattle.text_scan.specs.Line.{firstLine, afterLine, lines-first}
 use Rattle.job_read.specs.declared.Tally.{Tally}
 use Rattle.job_read.specs.declared.Head.{Head}
@@ -94,7 +99,7 @@ module _ {text : Text} {from : ℕ} {h : Header} {cells : List Cell} {t : Tally}
 
   -- a line is refused
   pub far-refused : at < length text → (l : Line) → CellLine text at t l → (l .number ≡ 0 → ⊥) → (any : Job)
-      → Reads (paper.readCells (begun h) 2 (linesOf (drop from text))) (record { number = l .number; line = line; job = any })
+      → Reads (paper.readCells (begun h) 2 (linesOf (drop from text))) (record { refusal = record { number = l .number; line = line }; job = any })
   unfolding readingOf
   far-refused k l r z any = record {
     same =
@@ -106,28 +111,34 @@ module _ {text : Text} {from : ℕ} {h : Header} {cells : List Cell} {t : Tally}
         ∙ sym (s .same ∙ ap (paper.readCells j line) (lines k) ∙ read-cell-line j line (lineAt text at) ls);
     number = r .few;
     line = omega (arith, s .few, s .number);
-    few = λ e. absurd (z e);
-    long = λ e. absurd (z e);
+    accepted = λ e. absurd (z e);
   }
 
   -- the text ends
-  pub far-out : length text ≤ at
+  pub far-out : length text ≤ at → SoundHeader (headerOf h)
       → Reads (paper.readCells (begun h) 2 (linesOf (drop from text)))
-      (record { number = 0; line = 0; job = record { header = h; count = t .count; cells = cells } })
+      (record { refusal = noRefusal; job = record { header = h; count = t .count; cells = cells } })
   unfolding readingOf jobOf linesOf paper.readCells
-  far-out k = record {
-    same = sym (s .same ∙ ap (λ (l : Text). paper.readCells (sofar h (t .count) cells) line (linesOf l)) (drop-of-length-le text k));
+  far-out k g = record {
+    same = sym all;
     number = omega arith;
     line = omega arith;
-    few = λ e. s .few;
-    long = λ e. s .long;
+    accepted = λ e. record {
+      sound = cells-sound (linesOf (drop from text)) 2 (begun h) (sofar h (t .count) cells) (begun-sound (headerOf h) g) all;
+      few = s .few;
+      many = cell-count (record { header = h; count = t .count; cells = cells }) (s .long) (s .few);
+    };
   }
+    where
+      all : paper.readCells (begun h) 2 (linesOf (drop from text)) ≡ paper.accepted (sofar h (t .count) cells)
+      all = s .same ∙ ap (λ (l : Text). paper.readCells (sofar h (t .count) cells) line (linesOf l)) (drop-of-length-le text k)
 
 -- ---- the whole text
 
-pub no-text : (text : Text) (any : Job) → length text ≡ 0 → Reads (paper.readJob text) (record { number = 1; line = 1; job = any })
+pub no-text : (text : Text) (any : Job) → length text ≡ 0
+    → Reads (paper.readJob text) (record { refusal = record { number = 1; line = 1 }; job = any })
 unfolding readingOf linesOf paper.readJob paper.readLines
-no-text [] any e = record { same = refl; number = omega arith; line = omega arith; few = λ z. absurd (omega arith); long = λ z. absurd (omega arith) }
+no-text [] any e = record { same = refl; number = omega arith; line = omega arith; accepted = λ z. absurd (omega arith) }
 no-text (b ∷ text) any e = absurd (omega arith)
 
 module _ (text : Text) (some : 0 < length text) where
@@ -142,7 +153,7 @@ module _ (text : Text) (some : 0 < length text) where
       all-lines (b ∷ text) k = lines-first b text
 
   pub head-refused : (h : Head) → HeadLine text h → (h .number ≡ 0 → ⊥) → (any : Job)
-      → Reads (paper.readJob text) (record { number = h .number; line = 1; job = any })
+      → Reads (paper.readJob text) (record { refusal = record { number = h .number; line = 1 }; job = any })
   unfolding readingOf
   head-refused h r z any =
       let more = paper.readCells (record { header = paper.headerOf (paper.numbersOf (firstLine text)); cells = [] }) 2 (linesOf (afterLine text)) in
@@ -150,9 +161,11 @@ module _ (text : Text) (some : 0 < length text) where
         same = refuse (h .number) 1 any more z ∙ ap (λ (n : ℕ). choose n 1 more) (r .number) ∙ sym head;
         number = r .few;
         line = omega arith;
-        few = λ e. absurd (z e);
-        long = λ e. absurd (z e);
+        accepted = λ e. absurd (z e);
       }
+
+  pub head-sound : (h : Head) → HeadLine text h → h .number ≡ 0 → SoundHeader (headerOf (h .header))
+  head-sound h r z = rw (r .read z .header) (header-line-sound (firstLine text) (sym (r .number) ∙ z))
 
   pub head-on : (h : Head) → HeadLine text h → h .number ≡ 0 → paper.readCells (begun (h .header)) 2 (linesOf (drop (h .next) text)) ≡ paper.readJob text
   unfolding choose

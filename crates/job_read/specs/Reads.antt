@@ -2,15 +2,14 @@
 use Prim.Native.Nat.{ℕ, zero, suc, _+_, _≤_, _<_}
 use mathlib.Core.Path.{_≡_, refl, sym, ap, _∙_}
 use mathlib.Core.List.{List, [], map}
-use native.Mathlib.Omega.{arith}
-use lib.ListN.{length, take, drop, length-map}
-use lib.Seq.{length-take-le}
+use lib.ListN.{length, take, drop}
 use Rattle.definition.specs.Texts.{Text}
 use Rattle.definition.specs.Job as paper
 use Rattle.job.specs.declared.Cell.{Cell}
 use Rattle.job.specs.declared.Header.{Header}
 use Rattle.job.specs.declared.Job.{Job}
 use Rattle.job.specs.Value.{cellOf, headerOf, jobOf}
+use Rattle.job.specs.Accepted.{Accepted}
 use Rattle.text_scan.specs.Line.{firstLine, afterLine}
 use Rattle.job_read.specs.declared.Tally.{Tally}
 use Rattle.job_read.specs.declared.Head.{Head}
@@ -58,35 +57,25 @@ readingBy zero line j = paper.accepted (jobOf j)
 readingBy (suc n) line j = paper.refused (suc n) line
 
 unfoldable pub readingOf : Reading → paper.Reading
-readingOf r = readingBy (r .number) (r .line) (r .job)
+readingOf r = readingBy (r .refusal .number) (r .refusal .line) (r .job)
 
 -- the 66th line is the 65th cell's
 pub record Reads (o : paper.Reading) (r : Reading) : Type 0 where
   pub same : readingOf r ≡ o
-  pub number : r .number ≤ 4
-  pub line : r .line ≤ paper.maxCells + 2
-  pub few : r .number ≡ 0 → r .job .count ≤ paper.maxCells
-  pub long : r .number ≡ 0 → length (r .job .cells) ≡ paper.maxCells
+  pub number : r .refusal .number ≤ 4
+  pub line : r .refusal .line ≤ paper.maxCells + 2
+  pub accepted : r .refusal .number ≡ 0 → Accepted (r .job)
 
-pub reads-accepted : {o : paper.Reading} {r : Reading} → Reads o r → r .number ≡ 0 → o ≡ paper.accepted (jobOf (r .job))
+pub reads-accepted : {o : paper.Reading} {r : Reading} → Reads o r → r .refusal .number ≡ 0
+    → o ≡ paper.accepted (jobOf (r .job))
 unfolding readingOf
-reads-accepted {o} {r} s e = sym (s .same) ∙ ap (λ (n : ℕ). readingBy n (r .line) (r .job)) e
+reads-accepted {o} {r} s e = sym (s .same) ∙ ap (λ (n : ℕ). readingBy n (r .refusal .line) (r .job)) e
 
-pub reads-refused : {o : paper.Reading} {r : Reading} → Reads o r → (r .number ≡ 0 → ⊥)
-    → o ≡ paper.refused (r .number) (r .line)
+pub reads-refused : {o : paper.Reading} {r : Reading} → Reads o r → (r .refusal .number ≡ 0 → ⊥)
+    → o ≡ paper.refused (r .refusal .number) (r .refusal .line)
 unfolding readingOf
-reads-refused {o} {r} s z = sym (s .same) ∙ go (r .number) z
+reads-refused {o} {r} s z = sym (s .same) ∙ go (r .refusal .number) z
   where
-    go : (n : ℕ) → (n ≡ 0 → ⊥) → readingBy n (r .line) (r .job) ≡ paper.refused n (r .line)
+    go : (n : ℕ) → (n ≡ 0 → ⊥) → readingBy n (r .refusal .line) (r .job) ≡ paper.refused n (r .refusal .line)
     go zero z = absurd (z refl)
     go (suc n) z = refl
-
--- how many cells the job has
-pub reads-count : {o : paper.Reading} {r : Reading} → Reads o r → r .number ≡ 0
-    → length (jobOf (r .job) .cells) ≡ r .job .count
-unfolding jobOf
-reads-count {o} {r} s e =
-    let l = s .long e in
-    let f = s .few e in
-    length-map (take (r .job .count) (r .job .cells)) cellOf
-    ∙ length-take-le (r .job .count) (r .job .cells) (omega arith)

@@ -5,6 +5,8 @@ ghost use Prim.Native.Nat.{_+_, _≤_, _<_, max};
 ghost use lib.ListN.{length, drop};
 ghost use Rattle.definition.specs.Texts.{linesOf};
 ghost use Rattle.definition.specs.Job.{readJob, readCells, maxCells};
+ghost use Rattle.definition_laws.specs.Sound.{SoundHeader};
+ghost use Rattle.job.specs.Value.{headerOf};
 ghost use Rattle.job_read.specs.Rows.{tallyWith, room, rises};
 ghost use Rattle.job_read.specs.Lines.{later, headNumber, cellNumber};
 ghost use Rattle.job_read.specs.Reads.{HeadLine, CellLine, begun, Reads};
@@ -17,6 +19,7 @@ use job_ranges::header_fits;
 use job_ranges::header_of;
 use job_ranges::layouts_fit;
 use job_ranges::shape_fits;
+use results::Refusal;
 use text_scan::read_led;
 
 // What is kept of the cells read so far: the header's rows, how many cells and tall
@@ -43,10 +46,9 @@ pub struct Line {
     pub cell: Cell,
 }
 
-// What a job text is read as: a job if `number` is 0, and otherwise a refusal at a line.
+// What a job text is read as: a job if nothing is refused.
 pub struct Reading {
-    pub number: u32,
-    pub line: u32,
+    pub refusal: Refusal,
     pub job: Job,
 }
 
@@ -185,7 +187,7 @@ fn tally_with(t: Tally, row: u32, given: u32) -> Tally
 
 // The cell lines from `from` on, after a header.
 fn read_cells(text: &[u8], from: usize, header: Header) -> Reading
-    requires { ⌜ from ≤ length (now text) ⌝ }
+    requires { ⌜ (from ≤ length (now text)) × SoundHeader (headerOf header) ⌝ }
     ensures { λ r. ⌜ Reads (readCells (begun header) 2 (linesOf (drop from (now (text .entry))))) r ⌝ }
 {
     let mut job = Job::empty();
@@ -203,7 +205,10 @@ fn read_cells(text: &[u8], from: usize, header: Header) -> Reading
         let l = cell_line(text, at, t);
         let number = l.number;
         if number != 0 {
-            return Reading { number, line, job };
+            return Reading {
+                refusal: Refusal { number, line },
+                job,
+            };
         }
         let cell = l.cell;
         let count = t.count;
@@ -214,8 +219,7 @@ fn read_cells(text: &[u8], from: usize, header: Header) -> Reading
     }
     job.count = t.count;
     Reading {
-        number: 0,
-        line: 0,
+        refusal: Refusal::none(),
         job,
     }
 }
@@ -226,8 +230,7 @@ pub fn read_job(text: &[u8]) -> Reading
 {
     if text.len() == 0 {
         return Reading {
-            number: 1,
-            line: 1,
+            refusal: Refusal { number: 1, line: 1 },
             job: Job::empty(),
         };
     }
@@ -235,8 +238,7 @@ pub fn read_job(text: &[u8]) -> Reading
     let number = h.number;
     if number != 0 {
         return Reading {
-            number,
-            line: 1,
+            refusal: Refusal { number, line: 1 },
             job: Job::empty(),
         };
     }

@@ -11,7 +11,7 @@ use Rattle.definition.specs.FaultLine.{Part, ofJob, ofPlacement, partAt, faultL
 use Rattle.op_fault.specs.Part.{partOf, PieceOf}
 use Rattle.op_fault.specs.declared.Piece.{Piece}
 use Rattle.op_fault.specs.Fault.{Reported}
-use Rattle.op_fault.specs.declared.Refusal.{Refusal}
+use Rattle.results.specs.declared.Refusal.{Refusal}
 
 pub fault-part : (job placement : Text) (f : Refusal) → Reported job placement f → partAt (f .number) (f .line) job placement ≡ faultLine job placement
 unfolding faultLine

@@ -2,7 +2,7 @@
 use mathlib.Core.Path.{_≡_}
 use Rattle.definition.specs.Texts.{Text}
 use Rattle.definition.specs.Outcome.{score}
-use Rattle.op_fault.specs.declared.Refusal.{Refusal}
+use Rattle.results.specs.declared.Refusal.{Refusal}
 
 pub record Reported (job placement : Text) (r : Refusal) : Type 0 where
   pub number : r .number ≡ score job placement .number

@@ -2,56 +2,29 @@
 ghost use mathlib.Core.Path.{_≡_};
 ghost use Prim.Native.Nat.{_≤_, _+_, _<_};
 ghost use lib.ListN.{length};
-ghost use Rattle.definition.specs.Job.{maxCells};
 ghost use Rattle.definition.specs.Outcome.{over};
 ghost use Rattle.definition.specs.FaultLine.{faultLine, partAt, Very, ToldFault};
-ghost use Rattle.job.specs.Value.{jobOf};
 ghost use Rattle.op_fault.specs.Part.{PieceOf, NextLine, LineAt, partOf};
 ghost use Rattle.op_fault.specs.Fault.{Reported};
 ghost use mathlib.Core.Bool.{cond};
 ghost use lib.Dec.{eqb};
-use job::Job;
 use job_read::read_job;
 use placement_read::read_placement;
+use results::Refusal;
 use text_scan::line_end;
-
-// A refusal and its line; number 0 is none.
-pub struct Refusal {
-    pub number: u32,
-    pub line: u32,
-}
-
-// How many cells a job has; its array holds no more.
-fn cell_count(job: Job) -> usize
-    ensures { λ r. ⌜ (r ≡ length (jobOf job .cells)) × (r ≤ maxCells) ⌝ }
-{
-    let count = job.count;
-    if count < Job::MAX_CELLS {
-        return count;
-    }
-    Job::MAX_CELLS
-}
 
 // What Score refuses: 1 to 4 as Read does, then 5.
 fn reported(job: &[u8], placement: &[u8]) -> Refusal
     ensures { λ r. ⌜ Reported (now (job .entry)) (now (placement .entry)) r ⌝ }
 {
-    let j = read_job(job);
-    if j.number != 0 {
-        return Refusal {
-            number: j.number,
-            line: j.line,
-        };
+    let r = read_job(job);
+    let refusal = r.refusal;
+    if refusal.number != 0 {
+        return refusal;
     }
-    let due = cell_count(j.job);
-    let p = read_placement(placement, due);
-    if p.line != 0 {
-        return Refusal {
-            number: 5,
-            line: p.line,
-        };
-    }
-    Refusal { number: 0, line: 0 }
+    let j = r.job;
+    let p = read_placement(placement, j.count);
+    p.refusal
 }
 
 // Where the line is that Score reports.

@@ -1,5 +1,5 @@
 -- The reading of a placement text, line by line: what is read so far, with what the rest reads as, is the reading of the whole.
-use Prim.Native.Nat.{ℕ, suc, _-_, _<_, _≤_}
+use Prim.Native.Nat.{ℕ, suc, _+_, _-_, _<_, _≤_}
 use mathlib.Core.Path.{_≡_, refl, sym, ap, _∙_}
 use mathlib.Core.Bool.{true, false}
 use native.Mathlib.Omega.{arith}
@@ -11,9 +11,10 @@ use Rattle.definition.specs.Placement as paper
 use Rattle.definition.specs.Placement.{Poses, fault, poses, withPose, readPoses, readPlacement}
 use Rattle.text_laws.specs.Poses.{read-good}
 use Rattle.text_scan.specs.Line.{firstLine}
+use Rattle.results.specs.Refusals.{noRefusal}
 use Rattle.job.specs.Value.{emptyPlacement, poseOf, placementOf}
 use Rattle.job.specs.declared.Placement.{Placement}
-use Rattle.placement_read.specs.Reading.{PoseTo, PoseFrom, Kept, Grown, ReadAs, readingOf}
+use Rattle.placement_read.specs.Reading.{PoseTo, PoseFrom, Kept, Grown, FaultAt, ReadAs, readingOf}
 use Rattle.placement_read.specs.declared.PoseReading.{PoseReading}
 use Rattle.placement_read.specs.declared.PlacementReading.{PlacementReading}
 use Rattle.placement_read.proofs.Lines.{read-fault, read-surplus, read-end, withPoses, with-snoc, with-fault, with-none}
@@ -84,21 +85,26 @@ module _ {text : Text} {due : ℕ} {P : Placement} {at : ℕ} (h : Sofar text du
     surplus e =
         h .reads ∙ rw (none-left, read-surplus text at (suc (P .count)) e, with-fault (placementOf P) (suc (P .count))) (ap (λ (n : ℕ). fault (suc n)) whole)
 
-    pub complete : length text ≤ at → ReadAs text due (record { line = 0; placement = P })
+    pub complete : length text ≤ at → ReadAs text due (record { refusal = noRefusal; placement = P })
     unfolding readingOf
     complete e = record {
       equal = sym (h .reads ∙ rw (none-left, read-end text at (suc (P .count)) e) (with-none (placementOf P)));
+      five = λ d. absurd (d refl);
       line = omega arith;
+      none = λ z. refl;
       kept = h .kept;
       count = λ z. whole;
     }
 
-pub at-fault : (text : Text) (due n : ℕ) (r : PlacementReading) → readPlacement due text ≡ fault (suc n) → n ≤ due → r .line ≡ suc n
-    → r .placement ≡ emptyPlacement → ReadAs text due r
+pub at-fault : (text : Text) (due n : ℕ) (r : PlacementReading) → readPlacement due text ≡ fault (suc n) → n ≤ due → FaultAt (n + 1) r → ReadAs text due r
 unfolding readingOf
-at-fault text due n r e low l p = record {
-  equal = rw (ne-eqb (r .line) 0 (λ z. omega arith), l) (sym e);
-  line = omega arith;
-  kept = empty-kept (r .placement) p;
-  count = λ z. absurd (omega arith);
-}
+at-fault text due n r e low f =
+    let l : r .refusal .line ≡ suc n = omega (arith, f .line) in
+    record {
+      equal = rw (ne-eqb (r .refusal .number) 0 (λ z. omega (arith, f .number)), l) (sym e);
+      five = λ d. f .number;
+      line = omega (arith, l);
+      none = λ z. absurd (omega (arith, f .number));
+      kept = empty-kept (r .placement) (f .empty);
+      count = λ z. absurd (omega (arith, f .number));
+    }

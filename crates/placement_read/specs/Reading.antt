@@ -1,16 +1,17 @@
 -- What is read of a placement text: one pose, and the whole, as document 01's reading of it.
 use Prim.Native.Nat.{ℕ, suc, _≤_}
-use mathlib.Core.Path.{_≡_}
-use mathlib.Core.Bool.{true, cond}
+use mathlib.Core.Path.{_≡_, sym, ap, _∙_}
+use mathlib.Core.Bool.{Bool, true, cond}
 use mathlib.Core.List.{[], _∷_, _++_}
 use lib.Dec.{eqb}
 use lib.ListN.{length, drop}
+use borrow.Author.Tests.{ne-eqb, eq-eqb}
 use Rattle.definition.specs.Texts.{Text, linesOf}
 use Rattle.definition.specs.Job.{maxCells}
 use Rattle.definition.specs.Placement as paper
 use Rattle.definition.specs.Placement.{Printable, Poses, fault, poses, isPose, readPlacement}
 use Rattle.text_scan.specs.Line.{firstLine}
-use Rattle.job.specs.Value.{poseAt, poseOf, placementOf}
+use Rattle.job.specs.Value.{emptyPlacement, poseAt, poseOf, placementOf}
 use Rattle.job.specs.declared.Pose.{Pose}
 use Rattle.job.specs.declared.Placement.{Placement}
 use Rattle.placement_read.specs.declared.PoseReading.{PoseReading}
@@ -39,12 +40,33 @@ pub record Grown (P : Placement) (p : Pose) (r : Placement) : Type 0 where
   pub count : r .count ≡ suc (P .count)
   pub poses : placementOf r ≡ placementOf P ++ (poseOf p ∷ [])
 
--- what the answer stands for: line 0 is none
+-- refusal 5 at a line
+pub record FaultAt (at : ℕ) (r : PlacementReading) : Type 0 where
+  pub number : r .refusal .number ≡ 5
+  pub line : r .refusal .line ≡ at
+  pub empty : r .placement ≡ emptyPlacement
+
+-- what the answer stands for
 unfoldable pub readingOf : PlacementReading → Poses
-readingOf r = cond (eqb (r .line) 0) (poses (placementOf (r .placement))) (fault (r .line))
+readingOf r = cond (eqb (r .refusal .number) 0) (poses (placementOf (r .placement))) (fault (r .refusal .line))
 
 pub record ReadAs (text : Text) (due : ℕ) (r : PlacementReading) : Type 0 where
   pub equal : readingOf r ≡ readPlacement due text
-  pub line : r .line ≤ suc due
+  pub five : (r .refusal .number ≡ 0 → ⊥) → r .refusal .number ≡ 5
+  pub line : r .refusal .line ≤ suc due
+  pub none : r .refusal .number ≡ 0 → r .refusal .line ≡ 0
   pub kept : Kept (r .placement)
-  pub count : r .line ≡ 0 → r .placement .count ≡ due
+  pub count : r .refusal .number ≡ 0 → r .placement .count ≡ due
+
+module _ {text : Text} {due : ℕ} {r : PlacementReading} (a : ReadAs text due r) where
+  by-test : (t : Bool) → eqb (r .refusal .number) 0 ≡ t
+      → readPlacement due text ≡ cond t (poses (placementOf (r .placement))) (fault (r .refusal .line))
+  unfolding readingOf
+  by-test t e =
+      sym (a .equal) ∙ ap (λ (t : Bool). cond t (poses (placementOf (r .placement))) (fault (r .refusal .line))) e
+
+  pub read-fault : (r .refusal .number ≡ 0 → ⊥) → readPlacement due text ≡ fault (r .refusal .line)
+  read-fault n = by-test _ (ne-eqb (r .refusal .number) 0 n)
+
+  pub read-whole : r .refusal .number ≡ 0 → readPlacement due text ≡ poses (placementOf (r .placement))
+  read-whole e = by-test _ (eq-eqb (r .refusal .number) 0 e)

@@ -4,10 +4,10 @@ ghost use mathlib.Core.Bool.{false};
 ghost use Prim.Native.Nat.{_+_, _≤_};
 ghost use lib.ListN.{length};
 ghost use Rattle.definition.specs.Job.{maxCells};
-ghost use Rattle.job.specs.Value.{emptyPlacement};
-ghost use Rattle.placement_read.specs.Reading.{PoseFrom, ReadAs};
+ghost use Rattle.placement_read.specs.Reading.{PoseFrom, FaultAt, ReadAs};
 use job::Placement;
 use job::Pose;
+use results::Refusal;
 use text_scan::read_numbers;
 
 // A pose and where the next line begins.
@@ -17,9 +17,9 @@ pub struct PoseReading {
     pub pose: Pose,
 }
 
-// The line at fault, or 0 and the placement.
+// What a placement text is read as: a placement if nothing is refused.
 pub struct PlacementReading {
-    pub line: u32,
+    pub refusal: Refusal,
     pub placement: Placement,
 }
 
@@ -58,11 +58,14 @@ fn no_pose(at: usize) -> PoseReading
 
 fn faulty(line: usize) -> PlacementReading
     requires { ⌜ line ≤ maxCells + 1 ⌝ }
-    ensures { λ r. ⌜ (r .line ≡ line) × (r .placement ≡ emptyPlacement) ⌝ }
+    ensures { λ r. ⌜ FaultAt line r ⌝ }
 {
     let p = Placement::empty();
     PlacementReading {
-        line: line as u32,
+        refusal: Refusal {
+            number: 5,
+            line: line as u32,
+        },
         placement: p,
     }
 }
@@ -88,5 +91,8 @@ pub fn read_placement(text: &[u8], due: usize) -> PlacementReading
     if at < text.len() {
         return faulty(due + 1);
     }
-    PlacementReading { line: 0, placement }
+    PlacementReading {
+        refusal: Refusal::none(),
+        placement,
+    }
 }

@@ -20,7 +20,7 @@ empty-requires c κs = tt
 loop-holds : tie.Need-loop-holds Inv-loop μ-loop
 loop-holds c =
     let a = c .before .before .args in (
-      far-none (a .text .now) (a .from) (a .header) (c .empty .result .cells) (c .before .before .pre)
+      far-none (a .text .now) (a .from) (a .header) (c .empty .result .cells) (c .before .before .pre .0)
           (ap (λ (j : Job). length (j .cells)) (c .empty .ensures)),
       refl,
     )
@@ -63,10 +63,14 @@ loop-again c =
     let s = h .before .loop .inv in
     (rw (c .tally-with .ensures) (far-more (s .0) (h .loop-test .taken) (l .result) (l .ensures) (c .before .before .if1 .left)), s .1)
 
+none-requires : tie.Need-none-requires Inv-loop μ-loop
+none-requires c κs = tt
+
 returns-2 : tie.Need-returns-2 Inv-loop μ-loop
 returns-2 c =
-    let s = c .before .loop .inv in
-    rw (s .1) (far-out (s .0) (c .loop-test .left))
+    let h = c .before .before in
+    let s = h .loop .inv in
+    rw (c .none .ensures, s .1) (far-out (s .0) (c .before .loop-test .left) (h .before .before .before .pre .1))
 
 pub read-cells-spec : {M : Type 1} → statement M
 read-cells-spec =
@@ -84,4 +88,5 @@ read-cells-spec =
     add-line
     loop-less
     loop-again
+    none-requires
     returns-2)

@@ -1,6 +1,6 @@
 -- `job_read::read_job` meets its contract: no text, a refused header line, or the cell lines after it.
 use native.Mathlib.Omega.{arith}
-use Rattle.job_read.proofs.Far.{no-text, head-refused, head-on}
+use Rattle.job_read.proofs.Far.{no-text, head-refused, head-sound, head-on}
 use borrow.Author.Needs.{needs}
 use Rattle.job_read.proofs.read_job.Statement.{statement}
 use Rattle.job_read.proofs.read_job.Tie as tie
@@ -24,7 +24,12 @@ returns-2 c =
     (c .empty2 .result)
 
 read-cells-requires : tie.Need-read-cells-requires
-read-cells-requires c κs = c .before .before .header-line .ensures .read (c .before .if2 .left) .within
+read-cells-requires c κs =
+    let h = c .before .before in
+    let z = c .before .if2 .left in (
+      h .header-line .ensures .read z .within,
+      head-sound (h .before .before .before .args .text .now) (omega arith) (h .header-line .result) (h .header-line .ensures) z,
+    )
 
 returns-3 : tie.Need-returns-3
 returns-3 c =

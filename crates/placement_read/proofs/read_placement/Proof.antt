@@ -34,12 +34,10 @@ returns c =
     let f = c .before .before .before in
     let h = f .before .before in
     let s = h .before .before .before in
-    let e = c .faulty .ensures in
     at-fault (s .args .text .now) (s .args .due) (h .loop .placement .count) (c .faulty .result)
     (bad (h .loop .inv) (f .before .loop-test .taken) (f .read-pose .ensures) (not-true _ (c .before .if1 .taken)))
     (h .loop .inv .low)
-    (omega (arith, e .0))
-    (e .1)
+    (c .faulty .ensures)
 
 mul-pose : tie.Need-mul-pose Inv-loop μ-loop
 mul-pose c = omega arith
@@ -73,15 +71,18 @@ returns-2 : tie.Need-returns-2 Inv-loop μ-loop
 returns-2 c =
     let h = c .before .before .before in
     let s = h .before .before .before in
-    let e = c .faulty2 .ensures in
     at-fault (s .args .text .now) (s .args .due) (s .args .due) (c .faulty2 .result)
     (surplus (h .loop .inv) (c .before .before .loop-test .left) (c .before .if2 .taken))
     (omega arith)
-    (omega (arith, e .0))
-    (e .1)
+    (c .faulty2 .ensures)
+
+none-requires : tie.Need-none-requires Inv-loop μ-loop
+none-requires c κs = search needs
 
 returns-3 : tie.Need-returns-3 Inv-loop μ-loop
-returns-3 c = complete (c .before .before .loop .inv) (c .before .loop-test .left) (c .if2 .left)
+returns-3 c =
+    let t = c .before in
+    rw (c .none .ensures) (complete (t .before .before .loop .inv) (t .before .loop-test .left) (t .if2 .left))
 
 pub read-placement-spec : {M : Type 1} → statement M
 read-placement-spec =
@@ -103,4 +104,5 @@ read-placement-spec =
     add-faulty-2
     faulty-requires-2
     returns-2
+    none-requires
     returns-3)
