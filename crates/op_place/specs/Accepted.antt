@@ -1,29 +1,21 @@
 -- An accepted job with buffers that are enough, what is then answered, and the pose numbers that an answer stands for.
 use Prim.Native.Nat.{ℕ, _≤_, _<_}
-use mathlib.Core.Path.{_≡_}
 use mathlib.Core.List.{List}
 use mathlib.Core.Option.{Option}
-use lib.ListN.{length}
 use Rattle.definition.specs.Job as paper
 use Rattle.definition.specs.Placement.{Placement}
 use Rattle.definition.specs.Rules.{Legal}
 use Rattle.definition.specs.Moves.{Cheapest}
-use Rattle.definition_laws.specs.Sound.{Sound}
 use Rattle.definition.specs.Outcome.{storeNeeded, outputNeeded, placeAnswer, Buffers, Met}
 use Rattle.job.specs.declared.Job.{Job}
 use Rattle.job.specs.Value.{jobOf}
+use Rattle.job.specs.Accepted.{Accepted}
 use Rattle.theory_claim.specs.Claim.{placementByNumbers}
 use Rattle.search.specs.Solved.{numbersIn}
 
--- its count is that of the cells, and there are no more than a job may have
-pub record Taken (job : Job) : Type 0 where
-  pub sound : Sound (jobOf job)
-  pub few : job .count ≤ paper.maxCells
-  pub many : length (jobOf job .cells) ≡ job .count
-
--- with buffers that are enough
+-- buffers that are enough
 pub record Enough (job : Job) (words room : ℕ) : Type 0 where
-  pub taken : Taken job
+  pub taken : Accepted job
   pub store : storeNeeded (jobOf job) ≤ words
   pub output : outputNeeded (jobOf job) ≤ room
 
@@ -39,7 +31,7 @@ abbrev pub placementIn : Job → List ℕ → Placement
 placementIn job poses = placementByNumbers (jobOf job) (numbersIn poses)
 
 pub record Chosen (job : Job) (poses : List ℕ) (room : ℕ) : Type 0 where
-  pub taken : Taken job
+  pub taken : Accepted job
   pub numbers : (k : ℕ) → numbersIn poses k < 64
   pub legal : Legal (jobOf job) (placementIn job poses)
   pub output : outputNeeded (jobOf job) ≤ room

@@ -1,8 +1,8 @@
 -- From what the search finds, and from what is written, to what Place's contract says.
-use Prim.Native.Nat.{ℕ, zero, suc, _*_, _≤_, _<_}
+use Prim.Native.Nat.{ℕ, _*_, _≤_, _<_}
 use mathlib.Core.Path.{_≡_, refl, sym, ap, _∙_}
 use mathlib.Core.List.{List, _∷_}
-use mathlib.Core.Option.{Option, none, some}
+use mathlib.Core.Option.{none, some}
 use native.Mathlib.Omega.{arith}
 use borrow.Author.Tests.{le-leb, lt-leb}
 use lib.ListN.{length, replicate}
@@ -10,12 +10,12 @@ use lib.IntN.{ℤ, pos}
 use Rattle.definition.specs.Texts.{Text}
 use Rattle.definition.specs.Job as paper
 use Rattle.definition.specs.Job.{refused, accepted, readJob, firstFailing}
-use Rattle.definition.specs.Placement as text
 use Rattle.definition.specs.Placement.{Printable, textOf}
 use Rattle.definition.specs.Moves.{Cheapest}
 use Rattle.definition.specs.Outcome.{storeNeeded, outputNeeded}
-use Rattle.definition.specs.Outcome.{Outcome, over, refusal, placeAnswer, placeOutcome}
+use Rattle.definition.specs.Outcome.{Refusal, noLine, refusedBy, over, placeFieldCount, placeAnswer, placeOutcome}
 use Rattle.definition.specs.Outcome.{bufferRefusal, Buffers, lent, Placed}
+use Rattle.definition_laws.specs.Outcomes.{place-refused, place-buffers, place-accepted}
 use Rattle.text_laws.specs.Poses.{Each}
 use Rattle.text_laws.specs.Room.{Narrow, legal-room, legal-printable, legal-narrow, at-each}
 use Rattle.job.specs.declared.Job.{Job}
@@ -56,8 +56,7 @@ module _ (job : Job) (poses : List ℕ) (room : ℕ) (t : Chosen job poses room)
 
   pub ready : Ready job P
   ready = record {
-    sound = t .taken .sound;
-    few = t .taken .few;
+    accepted = t .taken;
     each = n .count;
     site = λ k h.
         let all : Each Narrow (placementOf P) =
@@ -73,7 +72,7 @@ module _ (store output : List ℕ) (results : List ℤ) where
   -- 8: nothing is written to the output, and the store is zero
   pub answered-none : {j : paper.Job} {store′ : List ℕ} {results′ : List ℤ} → Cheapest j none
       → store′ ≡ replicate (length store) 0
-      → results′ ≡ over (pos 8 ∷ pos 0 ∷ replicate 7 (pos 0)) results
+      → results′ ≡ over (pos 8 ∷ pos 0 ∷ replicate placeFieldCount (pos 0)) results
       → Answered j 8 (lent store output results) (lent store′ output results′)
   unfolding over
   answered-none c s r = record {
@@ -95,58 +94,50 @@ module _ (store output : List ℕ) (results : List ℤ) where
   -- ---- refusals: only the results are written
 
   module _ (source : Text) where
-    refused-as : (n line : ℕ) {results′ : List ℤ}
+    refused-as : (r : Refusal) {results′ : List ℤ}
         → ((j : paper.Job) → readJob source ≡ accepted j → bufferRefusal j (length store) (length output) ≡ 0 → ⊥)
-        → refusal 7 n line ≡ placeOutcome (readJob source) (length store) (length output) none
-        → results′ ≡ over (pos n ∷ pos line ∷ replicate 7 (pos 0)) results
-        → Placed source n (lent store output results) (lent store output results′)
+        → placeOutcome (readJob source) (length store) (length output) none ≡ refusedBy placeFieldCount r
+        → results′ ≡ over (pos (r .number) ∷ pos (r .line) ∷ replicate placeFieldCount (pos 0)) results
+        → Placed source (r .number) (lent store output results) (lent store output results′)
     unfolding over
-    refused-as n line z e r = record {
-      outcome = refusal 7 n line;
-      gives = record { answer = none; cheapest = λ j a b. absurd (z j a b); outcome = e };
-      met = record { told = record { number = refl; array = r }; written = refl; stored = refl };
+    refused-as r z e w = record {
+      outcome = refusedBy placeFieldCount r;
+      gives = record { answer = none; cheapest = λ j a b. absurd (z j a b); outcome = sym e };
+      met = record { told = record { number = refl; array = w }; written = refl; stored = refl };
     }
 
     -- 1 to 4
-    pub placed-refused : {n line : ℕ} {results′ : List ℤ} → readJob source ≡ refused n line
-        → results′ ≡ over (pos n ∷ pos line ∷ replicate 7 (pos 0)) results
+    pub placed-refused : {n line : ℕ} {results′ : List ℤ} → readJob source ≡ refused n line → (n ≡ 0 → ⊥)
+        → results′ ≡ over (pos n ∷ pos line ∷ replicate placeFieldCount (pos 0)) results
         → Placed source n (lent store output results) (lent store output results′)
-    unfolding placeOutcome
-    placed-refused {n} {line} e r = refused-as n line
+    placed-refused {n} {line} e d w = refused-as (record { number = n; line = line })
         (λ j a b. let z : _≡_ {A = ℕ} 0 1 = cc in omega arith)
-        (ap (λ (x : paper.Reading). placeOutcome x (length store) (length output) none) (sym e))
-        r
+        (place-refused source e d (length store) (length output) none)
+        w
 
     -- 6 and 7
     module _ (j : paper.Job) (e : readJob source ≡ accepted j) where
-      -- the outcome by which refusal the buffers meet, 0 for none
-      by-number : (a : Option text.Placement) {n : ℕ} → bufferRefusal j (length store) (length output) ≡ n
-          → placeOutcome (readJob source) (length store) (length output) a
-          ≡ (elim n as (λ x. Outcome) [ zero ↦ placeAnswer j a | suc x ↦ refusal 7 (suc x) 0 ])
-      unfolding placeOutcome
-      by-number a b =
-          ap (λ (x : paper.Reading). placeOutcome x (length store) (length output) a) e
-          ∙ ap (λ (m : ℕ). elim m as (λ x. Outcome) [ zero ↦ placeAnswer j a | suc x ↦ refusal 7 (suc x) 0 ]) b
-
-      by-buffers : (n : ℕ) {results′ : List ℤ} → bufferRefusal j (length store) (length output) ≡ suc n
-          → results′ ≡ over (pos (suc n) ∷ pos 0 ∷ replicate 7 (pos 0)) results
-          → Placed source (suc n) (lent store output results) (lent store output results′)
-      by-buffers n b r =
-          refused-as (suc n) 0 (λ k a d. let q : k ≡ j = cc in let z = rw q at d in omega arith)
-          (sym (by-number none b)) r
+      by-buffers : (n : ℕ) {results′ : List ℤ} → bufferRefusal j (length store) (length output) ≡ n → (n ≡ 0 → ⊥)
+          → results′ ≡ over (pos n ∷ pos 0 ∷ replicate placeFieldCount (pos 0)) results
+          → Placed source n (lent store output results) (lent store output results′)
+      by-buffers n b d w =
+          refused-as (noLine n) (λ k a g. let q : k ≡ j = cc in d (sym b ∙ (rw q at g)))
+          (place-buffers source e (length store) (length output) none (λ z. d (sym b ∙ z))
+          ∙ ap (λ (m : ℕ). refusedBy placeFieldCount (noLine m)) b) w
 
       pub placed-small : {results′ : List ℤ} → length store < storeNeeded j
-          → results′ ≡ over (pos 6 ∷ pos 0 ∷ replicate 7 (pos 0)) results
+          → results′ ≡ over (pos 6 ∷ pos 0 ∷ replicate placeFieldCount (pos 0)) results
           → Placed source 6 (lent store output results) (lent store output results′)
       unfolding bufferRefusal firstFailing
-      placed-small h r = by-buffers 5 (rw (lt-leb (storeNeeded j) (length store) h)) r
+      placed-small h w = by-buffers 6 (rw (lt-leb (storeNeeded j) (length store) h)) (λ z. omega arith) w
 
       pub placed-narrow : {results′ : List ℤ} → storeNeeded j ≤ length store → length output < outputNeeded j
-          → results′ ≡ over (pos 7 ∷ pos 0 ∷ replicate 7 (pos 0)) results
+          → results′ ≡ over (pos 7 ∷ pos 0 ∷ replicate placeFieldCount (pos 0)) results
           → Placed source 7 (lent store output results) (lent store output results′)
       unfolding bufferRefusal firstFailing
-      placed-narrow h g r =
-          by-buffers 6 (rw (le-leb (storeNeeded j) (length store) h, lt-leb (outputNeeded j) (length output) g)) r
+      placed-narrow h g w =
+          by-buffers 7 (rw (le-leb (storeNeeded j) (length store) h, lt-leb (outputNeeded j) (length output) g))
+          (λ z. omega arith) w
 
       -- an answer
       pub placed-answered : {returned : ℕ} {end : Buffers} → storeNeeded j ≤ length store
@@ -158,7 +149,7 @@ module _ (store output : List ℕ) (results : List ℤ) where
         gives = record {
           answer = a .answer;
           cheapest = λ k r b. let q : j ≡ k = cc in rw q at (a .cheapest);
-          outcome = sym (by-number (a .answer) enough);
+          outcome = sym (place-accepted source e (length store) (length output) (a .answer) enough);
         };
         met = a .met;
       }

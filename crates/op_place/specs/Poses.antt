@@ -18,7 +18,8 @@ use Rattle.job.specs.Cells.{cell-there, pose-there}
 use Rattle.theory_bridge.specs.Paired.{poseNumber}
 use Rattle.theory_bridge.specs.Poses.{pose-same, placement-size, placement-pose}
 use Rattle.search.specs.Solved.{numbersIn}
-use Rattle.op_place.specs.Accepted.{Taken, placementIn}
+use Rattle.job.specs.Accepted.{Accepted}
+use Rattle.op_place.specs.Accepted.{placementIn}
 
 -- pose number a of a cell with that given site
 pub record PoseBy (displacement given a : ℕ) (p : Pose) : Type 0 where
@@ -28,7 +29,7 @@ pub record PoseBy (displacement given a : ℕ) (p : Pose) : Type 0 where
 
 -- an accepted job, and a pose number for each cell
 pub record ByNumber (job : Job) (poses : List ℕ) : Type 0 where
-  pub taken : Taken job
+  pub taken : Accepted job
   pub low : (k : ℕ) → numbersIn poses k < 64
 
 -- the placement that they stand for
@@ -43,7 +44,7 @@ pub record Sofar (job : Job) (poses : List ℕ) (P : Placement) (k : ℕ) : Type
   pub done : (i : ℕ) → i < k → poseOf (value.poseAt P i) ≡ poseNumber (jobOf job) i (numbersIn poses i)
 
 module _ (job : Job) (poses : List ℕ) where
-  pub given-low : Taken job → (k : ℕ) → k < job .count → value.cellAt job k .given ≤ maxGiven
+  pub given-low : Accepted job → (k : ℕ) → k < job .count → value.cellAt job k .given ≤ maxGiven
   unfolding cellOf
   given-low t k h = let e = cell-there job k h in let s = t .sound .cell k (omega (arith, t .many)) .given in rw e at s
 
@@ -70,7 +71,7 @@ module _ (job : Job) (poses : List ℕ) where
           rw (e, getD-set-same (P .poses) k p emptyPose m) (pose-numbered k p h b)
       go i l (no d) = rw (getD-set-other (P .poses) k i p emptyPose d) (s .done i (omega arith))
 
-  pub sofar-all : {P : Placement} {k : ℕ} → Taken job → Sofar job poses P k → k ≡ job .count → Numbered job poses P
+  pub sofar-all : {P : Placement} {k : ℕ} → Accepted job → Sofar job poses P k → k ≡ job .count → Numbered job poses P
   unfolding placementOf
   sofar-all {P} {k} t s e = record {
     count = s .count;

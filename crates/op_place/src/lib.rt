@@ -2,12 +2,14 @@
 // numbers are written to what the caller lends.
 ghost use mathlib.Core.Path.{_≡_};
 ghost use mathlib.Core.List.{_∷_};
-ghost use Prim.Native.Nat.{_+_, _^_, _≤_, _<_};
-ghost use lib.ListN.{length, take, replicate};
+ghost use Prim.Native.Nat.{_^_, _≤_, _<_};
+ghost use lib.ListN.{length, replicate};
 ghost use lib.IntN.{pos};
-ghost use Rattle.definition.specs.Job.{maxCells, maxGiven};
-ghost use Rattle.definition.specs.Outcome.{over, lent, Placed};
+ghost use Rattle.definition.specs.Job.{maxGiven};
+ghost use Rattle.definition.specs.Outcome.{placeFieldCount, over, lent, Placed};
 ghost use Rattle.job.specs.Value.{jobOf, placementOf};
+ghost use Rattle.results.specs.Fields.{Listed};
+ghost use Rattle.results.specs.Refusals.{Signed};
 ghost use Rattle.score_words.specs.Ready.{Ready};
 ghost use Rattle.op_place.specs.Poses.{PoseBy, ByNumber, Numbered};
 ghost use Rattle.op_place.specs.Fields.{fieldsIn, Wrote};
@@ -18,14 +20,21 @@ use job::Placement;
 use job::Pose;
 use job_read::read_job;
 use placement_write::put_placement;
+use results::Fields;
+use results::Refusal;
 use results::put_results;
+use score_numbers::Numbers;
 use score_numbers::numbers_of;
+use score_numbers::push_numbers;
 use search::search;
 
 // What is asked of the buffers: words of the store, and bytes of the output for each cell.
 const STORE_WORDS: usize = 1048576;
 
 const LINE_BYTES: usize = 9;
+
+// The numbers and the text's length.
+const FIELDS: usize = Numbers::COUNT + 1;
 
 // A pose by its number: a site within the displacement, a layout, a mark.
 fn pose_of(displacement: u32, cell: Cell, a: u32) -> Pose
@@ -69,22 +78,14 @@ fn placement_of(job: Job, poses: [u32; Job::MAX_CELLS]) -> Placement
     placement
 }
 
-// Score's six numbers of a placement, and how long its text is.
-fn fields_of(job: Job, placement: Placement, bytes: usize) -> [i32; 8]
+// Score's numbers of a placement, and how long its text is.
+fn fields_of(job: Job, placement: Placement, bytes: usize) -> Fields
     requires { ⌜ Ready job placement × (bytes < 2 ^ 31) ⌝ }
-    ensures { λ r. ⌜ take 7 r ≡ fieldsIn (jobOf job) (placementOf placement) bytes ⌝ }
+    ensures { λ r. ⌜ Listed (fieldsIn (jobOf job) (placementOf placement) bytes) r ⌝ }
 {
-    let n = numbers_of(job, placement);
-    [
-        n.steps as i32,
-        n.shifted as i32,
-        n.mirrored as i32,
-        n.changed as i32,
-        n.cost as i32,
-        n.drift,
-        bytes as i32,
-        0,
-    ]
+    let numbers = numbers_of(job, placement);
+    let fields = push_numbers(Fields::empty(), numbers);
+    fields.push(bytes as i32)
 }
 
 // The answer: text and fields of the placement found.
@@ -96,15 +97,16 @@ fn put_answer(job: Job, poses: [u32; Job::MAX_CELLS], output: &mut [u8], results
     let placement = placement_of(job, poses);
     let bytes = put_placement(output, placement);
     let fields = fields_of(job, placement, bytes);
-    put_results(results, 0, 0, fields, 7);
+    put_results(results, Refusal::none(), fields);
 }
 
 // A refusal: its number and line, and fields of zero.
-fn refuse(results: &mut [i32], number: u32, line: u32)
-    requires { ⌜ (number ≤ 8) × (line ≤ maxCells + 2) ⌝ }
-    ensures { λ _. ⌜ now (results .exit) ≡ over (pos number ∷ pos line ∷ replicate 7 (pos 0)) (now (results .entry)) ⌝ }
+fn refuse(results: &mut [i32], refusal: Refusal)
+    requires { ⌜ Signed refusal ⌝ }
+    ensures { λ _. ⌜ now (results .exit) ≡ over (pos (refusal .number) ∷ pos (refusal .line)
+        ∷ replicate placeFieldCount (pos 0)) (now (results .entry)) ⌝ }
 {
-    put_results(results, number, line, [0, 0, 0, 0, 0, 0, 0, 0], 7);
+    put_results(results, refusal, Fields::zeros(FIELDS));
 }
 
 // Of an accepted job, with buffers that are enough. No word of the store outlives the call.
@@ -118,7 +120,7 @@ fn place_job(job: Job, store: &mut [u32], output: &mut [u8], results: &mut [i32]
     search_lanes::clear(store);
     let some = found.some;
     if !some {
-        refuse(results, 8, 0);
+        refuse(results, Refusal { number: 8, line: 0 });
         return 8;
     }
     let poses = found.poses;
@@ -133,20 +135,20 @@ pub fn place_texts(job: &[u8], store: &mut [u32], output: &mut [u8], results: &m
         (lent (now (store .exit)) (now (output .exit)) (now (results .exit))) ⌝ }
 {
     let r = read_job(job);
-    let number = r.number;
+    let refusal = r.refusal;
+    let number = refusal.number;
     if number != 0 {
-        let line = r.line;
-        refuse(results, number, line);
+        refuse(results, refusal);
         return number;
     }
     let j = r.job;
     let room = LINE_BYTES * j.count;
     if store.len() < STORE_WORDS {
-        refuse(results, 6, 0);
+        refuse(results, Refusal { number: 6, line: 0 });
         return 6;
     }
     if output.len() < room {
-        refuse(results, 7, 0);
+        refuse(results, Refusal { number: 7, line: 0 });
         return 7;
     }
     place_job(j, store, output, results)

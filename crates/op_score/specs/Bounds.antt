@@ -1,7 +1,5 @@
--- A verdict is of small numbers: a rule up to 7, and a cell that the job has; and no rule
--- goes with no cell. Theorems on the definition.
+-- A verdict is of small numbers: a rule up to 7, and a cell that the job has. Theorems on the definition.
 use Prim.Native.Nat.{ℕ, zero, suc, _+_, _≤_}
-use mathlib.Core.Path.{_≡_, refl}
 use mathlib.Core.Bool.{Bool}
 use mathlib.Core.List.{List, [], _∷_}
 use native.Mathlib.Omega.{arith}
@@ -15,18 +13,17 @@ use Rattle.score_cell_rules.specs.Lowest.{lowest-small}
 pub record Small (r n : ℕ) (v : Verdict) : Type 0 where
   pub rule : v .rule ≤ r
   pub cell : v .cell ≤ n
-  pub none : v .rule ≡ 0 → v .cell ≡ 0
 
 broken-small : (r n : ℕ) (fs : List (ℕ → Bool)) → Small (r + length fs) n (firstBroken (suc r) fs (from 0 n))
 unfolding firstBroken
-broken-small r n [] = record { rule = omega arith; cell = omega arith; none = λ e. refl }
+broken-small r n [] = record { rule = omega arith; cell = omega arith }
 broken-small r n (f ∷ fs) = go (lowest f (from 0 n)) (lowest-small f 0 n) (broken-small (suc r) n fs)
   where
     go : (m : ℕ) → m ≤ 0 + n → Small (suc r + length fs) n (firstBroken (suc (suc r)) fs (from 0 n))
         → Small (r + suc (length fs)) n
         (elim m [ zero ↦ firstBroken (suc (suc r)) fs (from 0 n) | suc k ↦ record { rule = suc r; cell = suc k } ])
-    go zero h s = record { rule = omega (arith, s .rule); cell = s .cell; none = s .none }
-    go (suc k) h s = record { rule = omega arith; cell = omega arith; none = λ e. absurd (omega arith) }
+    go zero h s = record { rule = omega (arith, s .rule); cell = s .cell }
+    go (suc k) h s = record { rule = omega arith; cell = omega arith }
 
 pub verdict-small : (j : Job) (P : Placement) → Small 7 (length (j .cells)) (verdict j P)
 unfolding verdict

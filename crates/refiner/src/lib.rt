@@ -5,7 +5,12 @@ use job_read::read_job;
 use op_fault::tell_fault;
 use op_place::place_texts;
 use op_score::score_texts;
+use results::Fields;
+use results::Refusal;
 use results::put_results;
+
+// Read's fields: the cell count.
+const READ_FIELDS: usize = 1;
 
 // Read: number, line and cell count go to the results, and the number is returned.
 #[no_mangle]
@@ -13,15 +18,16 @@ pub extern "C" fn refiner_read(job: &[u8], results: &mut [i32]) -> u32
     ensures { λ r. ⌜ Told (read (now (job .entry))) r (now (results .entry)) (now (results .exit)) ⌝ }
 {
     let r = read_job(job);
-    let number = r.number;
-    let line = r.line;
+    let refusal = r.refusal;
+    let number = refusal.number;
     if number != 0 {
-        put_results(results, number, line, [0, 0, 0, 0, 0, 0, 0, 0], 1);
+        put_results(results, refusal, Fields::zeros(READ_FIELDS));
         return number;
     }
     let j = r.job;
-    let count = j.count as i32;
-    put_results(results, 0, 0, [count, 0, 0, 0, 0, 0, 0, 0], 1);
+    let fields = Fields::empty();
+    let fields = fields.push(j.count as i32);
+    put_results(results, Refusal::none(), fields);
     0
 }
 
@@ -32,11 +38,10 @@ pub extern "C" fn refiner_score(job: &[u8], placement: &[u8], results: &mut [i32
         (now (results .entry)) (now (results .exit)) ⌝ }
 {
     let s = score_texts(job, placement);
-    let number = s.number;
-    let line = s.line;
+    let refusal = s.refusal;
     let fields = s.fields;
-    put_results(results, number, line, fields, 8);
-    number
+    put_results(results, refusal, fields);
+    refusal.number
 }
 
 // Fault line for the host: which text (0 the job, 1 the placement), first byte and length of the line that Score

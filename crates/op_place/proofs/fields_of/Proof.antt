@@ -1,6 +1,13 @@
--- `op_place::fields_of` meets its contract: each number is a signed number of 32 bits, as the definition lists them.
+-- `op_place::fields_of` meets its contract: the numbers as the definition lists them, then the text's length.
+use mathlib.Core.Path.{ap, _∙_}
+use mathlib.Core.List.{List, [], _∷_, _++_}
+use native.Mathlib.Omega.{arith}
+use lib.IntN.{ℤ, pos}
+use mir.Syntax.{w32}
+use mir.Facts.{toZ-pos}
 use Rattle.job.specs.Value.{jobOf, placementOf}
-use Rattle.op_place.specs.Fields.{fields-listed}
+use Rattle.results.specs.Fields.{more-then}
+use Rattle.score_numbers.specs.Counted.{numbersIn, numbers-listed}
 use borrow.Author.Needs.{needs}
 use Rattle.op_place.proofs.fields_of.Statement.{statement}
 use Rattle.op_place.proofs.fields_of.Tie as tie
@@ -8,34 +15,41 @@ use Rattle.op_place.proofs.fields_of.Tie as tie
 numbers-of-requires : tie.Need-numbers-of-requires
 numbers-of-requires c κs = search needs
 
-cast-t5 : tie.Need-cast-t5
-cast-t5 c = search needs
+empty-requires : tie.Need-empty-requires
+empty-requires c κs = search needs
 
-cast-t6 : tie.Need-cast-t6
-cast-t6 c = search needs
+push-numbers-requires : tie.Need-push-numbers-requires
+push-numbers-requires c κs = (omega (arith, c .empty .ensures .1), c .before .numbers-of .ensures .small)
 
-cast-t7 : tie.Need-cast-t7
-cast-t7 c = search needs
+cast-push : tie.Need-cast-push
+cast-push c = search needs
 
-cast-t8 : tie.Need-cast-t8
-cast-t8 c = search needs
-
-cast-t9 : tie.Need-cast-t9
-cast-t9 c = search needs
-
-cast-t10 : tie.Need-cast-t10
-cast-t10 c = search needs
+push-requires : tie.Need-push-requires
+push-requires c κs = omega (arith, c .push-numbers .ensures .count, c .before .empty .ensures .1)
 
 returns : tie.Need-returns
 returns c =
-    let mid = c .before .before .before .before in
-    let e = mid .before .before in
-    let a = e .before .args in
-    fields-listed (jobOf (a .job)) (placementOf (a .placement)) (e .numbers-of .result) (a .bytes) (e .numbers-of .ensures)
-    (record { sfits = c .struct-told .given .1 .1 .1 .1 .1 .0 .1 })
-    (e .before .pre .1)
+    let e = c .before .before in
+    let n = e .before .numbers-of in
+    let s = e .before .before in
+    let a = s .args in
+    let all = more-then (c .before .push-numbers .ensures) (c .push .ensures) in
+    let told = rw (toZ-pos w32 (s .pre .1)) at (all .list) in
+    record {
+      list =
+          told
+          ∙ ap (λ (l : List ℤ). l ++ (numbersIn (n .result) ++ (pos (a .bytes) ∷ []))) (e .empty .ensures .0)
+          ∙ ap (λ (l : List ℤ). l ++ (pos (a .bytes) ∷ [])) (numbers-listed (jobOf (a .job)) (placementOf (a .placement)) (n .result) (n .ensures));
+      few = omega (arith, all .count, e .empty .ensures .1);
+    }
 
 pub fields-of-spec : {M : Type 1} → statement M
 fields-of-spec =
     tie.close
-    (tie.spec numbers-of-requires cast-t5 cast-t6 cast-t7 cast-t8 cast-t9 cast-t10 returns)
+    (tie.spec
+    numbers-of-requires
+    empty-requires
+    push-numbers-requires
+    cast-push
+    push-requires
+    returns)

@@ -1,8 +1,7 @@
 -- `op_place::place_texts` meets its contract: each refusal in its order, or what the search of the accepted job comes to.
 use native.Mathlib.Omega.{arith}
 use Rattle.job.specs.Value.{jobOf}
-use Rattle.job_laws.specs.Whole.{accepted-sound}
-use Rattle.job_read.specs.Reads.{reads-accepted, reads-refused, reads-count}
+use Rattle.job_read.specs.Reads.{reads-accepted, reads-refused}
 use Rattle.op_place.specs.Answers.{placed-refused, placed-small, placed-narrow, placed-answered}
 use borrow.Author.Needs.{needs}
 use Rattle.op_place.proofs.place_texts.Statement.{statement}
@@ -12,23 +11,27 @@ read-job-requires : tie.Need-read-job-requires
 read-job-requires c κs = search needs
 
 refuse-requires : tie.Need-refuse-requires
-refuse-requires c κs = search needs
+refuse-requires c κs =
+    let o = c .before .before .before .read-job .ensures in
+    record { number = omega (arith, o .number); line = omega (arith, o .line) }
 
 same-length : tie.Need-same-length
 same-length c = search needs
 
 returns : tie.Need-returns
 returns c =
-    let r = c .before .before .before .before in
+    let t = c .before .before .before in
+    let r = t .before .before in
     let a = r .before .before .before .before .args in
     placed-refused (a .store .now) (a .output .now) (a .results .now) (a .job .now)
-    (reads-refused (r .read-job .ensures) (c .before .before .before .if1 .taken))
+    (reads-refused (r .read-job .ensures) (t .if1 .taken))
+    (t .if1 .taken)
     (c .before .refuse .ensures)
 
 mul-room : tie.Need-mul-room
 mul-room c =
     let l = c .before .before in
-    omega (arith, l .before .read-job .ensures .few (l .if1 .left))
+    omega (arith, l .before .before .read-job .ensures .accepted (l .if1 .left) .few)
 
 refuse-requires-2 : tie.Need-refuse-requires-2
 refuse-requires-2 c κs = search needs
@@ -40,7 +43,7 @@ returns-2 : tie.Need-returns-2
 returns-2 c =
     let mid = c .before .before .before .before in
     let l = mid .before .before in
-    let r = l .before in
+    let r = l .before .before in
     let a = r .before .before .before .before .args in
     placed-small (a .store .now) (a .output .now) (a .results .now) (a .job .now) (jobOf (r .read-job .result .job))
     (reads-accepted (r .read-job .ensures) (l .if1 .left))
@@ -58,9 +61,9 @@ returns-3 c =
     let t = c .before .before .before in
     let k = t .before in
     let l = k .before .before .before in
-    let r = l .before in
+    let r = l .before .before in
     let a = r .before .before .before .before .args in
-    let n = reads-count (r .read-job .ensures) (l .if1 .left) in
+    let n = r .read-job .ensures .accepted (l .if1 .left) .many in
     placed-narrow (a .store .now) (a .output .now) (a .results .now) (a .job .now) (jobOf (r .read-job .result .job))
     (reads-accepted (r .read-job .ensures) (l .if1 .left))
     (k .if2 .left)
@@ -72,18 +75,9 @@ place-job-requires c κs =
     let t = c .before .before .before in
     let k = t .before in
     let l = k .before .before .before in
-    let r = l .before in
-    let o = r .read-job .ensures in
-    let z = l .if1 .left in
-    record {
-      taken = record {
-        sound = accepted-sound (r .before .before .before .before .args .job .now) (jobOf (r .read-job .result .job)) (reads-accepted o z);
-        few = o .few z;
-        many = reads-count o z;
-      };
-      store = k .if2 .left;
-      output = omega (arith, t .if3 .left, reads-count o z);
-    }
+    let r = l .before .before in
+    let o = r .read-job .ensures .accepted (l .if1 .left) in
+    record { taken = o; store = k .if2 .left; output = omega (arith, t .if3 .left, o .many) }
 
 same-length-4 : tie.Need-same-length-4
 same-length-4 c = search needs
@@ -101,9 +95,9 @@ returns-4 c =
     let t = p .before .before .before .before in
     let k = t .before in
     let l = k .before .before .before in
-    let r = l .before in
+    let r = l .before .before in
     let a = r .before .before .before .before .args in
-    let n = reads-count (r .read-job .ensures) (l .if1 .left) in
+    let n = r .read-job .ensures .accepted (l .if1 .left) .many in
     placed-answered (a .store .now) (a .output .now) (a .results .now) (a .job .now) (jobOf (r .read-job .result .job))
     (reads-accepted (r .read-job .ensures) (l .if1 .left))
     (k .if2 .left)

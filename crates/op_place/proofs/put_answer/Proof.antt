@@ -8,6 +8,8 @@ use lib.IntN.{ℤ, pos}
 use Rattle.definition.specs.Placement.{Placement, textOf}
 use Rattle.definition.specs.Outcome.{over}
 use Rattle.job.specs.Value.{jobOf, placementOf}
+use Rattle.results.specs.declared.Refusal.{Refusal}
+use Rattle.results.specs.Fields.{listOf}
 use Rattle.op_place.specs.Fields.{fieldsIn}
 use Rattle.op_place.specs.Answers.{text-room, text-short, printable, ready}
 use borrow.Author.Needs.{needs}
@@ -37,8 +39,14 @@ fields-of-requires c κs =
       omega (arith, c .before .before .put-placement .ensures .1, text-short (s .args .job) (s .args .poses) (length (s .args .output .now)) (s .pre) P n),
     )
 
+none-requires : tie.Need-none-requires
+none-requires c κs = search needs
+
 put-results-requires : tie.Need-put-results-requires
-put-results-requires c κs = search needs
+put-results-requires c κs = (
+  rw (c .none .ensures) (record { number = omega arith; line = omega arith }),
+  c .before .before .fields-of .ensures .few,
+)
 
 same-length : tie.Need-same-length
 same-length c = search needs
@@ -49,7 +57,8 @@ same-length-2 c = search needs
 returns : tie.Need-returns
 returns c =
     let w = c .before in
-    let f = w .before .before in
+    let n = w .before in
+    let f = n .before .before in
     let t = f .before .before .before in
     let e = t .before .before in
     let s = e .before .before in
@@ -59,8 +68,9 @@ returns c =
       text = t .put-placement .ensures .0 ∙ ap (λ (Q : Placement). over (textOf Q) (s .args .output .now)) same;
       array =
           w .put-results .ensures
+          ∙ ap (λ (q : Refusal). over (pos (q .number) ∷ pos (q .line) ∷ listOf (f .fields-of .result)) (s .args .results .now)) (n .none .ensures)
           ∙ ap (λ (l : List ℤ). over (pos 0 ∷ pos 0 ∷ l) (s .args .results .now))
-          (f .fields-of .ensures
+          (f .fields-of .ensures .list
           ∙ ap (λ (b : ℕ). fieldsIn j (placementOf (e .placement-of .result)) b) (t .put-placement .ensures .1)
           ∙ ap (λ (Q : Placement). fieldsIn j Q (length (textOf Q))) same);
     }
@@ -72,6 +82,7 @@ put-answer-spec =
     placement-of-requires
     put-placement-requires
     fields-of-requires
+    none-requires
     put-results-requires
     same-length
     same-length-2

@@ -1,84 +1,145 @@
--- `op_score::fields_of` meets its contract: the verdict's rule and cell where a rule is broken, and otherwise the numbers.
-use mathlib.Core.Path.{_≡_, sym, _∙_}
+-- `op_score::fields_of` meets its contract: rule and cell, then the numbers, which are all 0 where a rule is broken.
+use Prim.Native.Nat.{_^_, _<_}
+use mathlib.Core.Path.{_≡_, sym, ap, _∙_}
+use mathlib.Core.List.{List, [], _∷_, _++_}
 use native.Mathlib.Omega.{arith}
-use Rattle.definition.specs.Rules.{verdict}
+use lib.ListN.{length}
+use lib.IntN.{ℤ, pos}
+use mir.Syntax.{w32}
+use mir.Facts.{toZ-pos}
+use Rattle.definition.specs.Rules.{Verdict, verdict}
 use Rattle.job.specs.Value.{jobOf, placementOf}
-use Rattle.op_score.specs.Bounds.{verdict-small}
+use Rattle.results.specs.Fields.{More, more-then}
+use Rattle.score_numbers.specs.declared.Numbers.{Numbers}
+use Rattle.score_numbers.specs.Counted.{numbersIn}
+use Rattle.op_score.specs.Bounds.{Small, verdict-small}
 use Rattle.op_score.specs.Fields.{broken-fields, legal-fields}
 use borrow.Author.Needs.{needs}
 use Rattle.op_score.proofs.fields_of.Statement.{statement}
 use Rattle.op_score.proofs.fields_of.Tie as tie
 
+-- the definition's verdict, which is of small numbers
+verdict-at : tie.Start → Verdict
+verdict-at s = verdict (jobOf (s .args .job)) (placementOf (s .args .placement))
+
+small : (s : tie.Start) → Small 7 (length (jobOf (s .args .job) .cells)) (verdict-at s)
+unfolding verdict-at
+small s = verdict-small (jobOf (s .args .job)) (placementOf (s .args .placement))
+
+same-rule : (v : tie.After-verdict-of) → v .verdict-of .result .rule ≡ verdict-at (v .before) .rule
+unfolding verdict-at
+same-rule v = v .verdict-of .ensures .rule
+
+same-cell : (v : tie.After-verdict-of) → v .verdict-of .result .cell ≡ verdict-at (v .before) .cell
+unfolding verdict-at
+same-cell v = v .verdict-of .ensures .cell
+
+rule-low : (v : tie.After-verdict-of) → v .verdict-of .result .rule < 2 ^ 31
+rule-low v = omega (arith, same-rule v, small (v .before) .rule)
+
+cell-low : (v : tie.After-verdict-of) → v .verdict-of .result .cell < 2 ^ 31
+cell-low v = omega (arith, same-cell v, small (v .before) .cell, v .before .pre .accepted .sound .few)
+
 verdict-of-requires : tie.Need-verdict-of-requires
 verdict-of-requires c κs = search needs
 
-cast-t8 : tie.Need-cast-t8
-cast-t8 c =
-    let a = c .before .before .args in
-    let s = verdict-small (jobOf (a .job)) (placementOf (a .placement)) in
-    record { sfits = omega (arith, c .before .verdict-of .ensures .rule, s .rule) }
+empty-requires : tie.Need-empty-requires
+empty-requires c κs = search needs
 
-cast-t9 : tie.Need-cast-t9
-cast-t9 c =
-    let a = c .before .before .args in
-    let s = verdict-small (jobOf (a .job)) (placementOf (a .placement)) in
-    record { sfits = omega (arith, c .before .verdict-of .ensures .cell, s .cell, c .before .before .pre .sound .few) }
+cast-push : tie.Need-cast-push
+cast-push c = record { sfits = omega (arith, rule-low (c .before)) }
+
+push-requires : tie.Need-push-requires
+push-requires c κs = search needs
+
+cast-push-2 : tie.Need-cast-push-2
+cast-push-2 c = record { sfits = omega (arith, cell-low (c .before .before .before)) }
+
+push-requires-2 : tie.Need-push-requires-2
+push-requires-2 c κs = search needs
+
+-- rule and cell are pushed
+two : (p : tie.After-push2)
+    → let e = p .before .before .before in
+    More (e .empty .result) (pos (verdict-at (e .before .before) .rule) ∷ pos (verdict-at (e .before .before) .cell) ∷ []) (p .push2 .result)
+two p =
+    let first = p .before .before in
+    let v = first .before .before in
+    let m = more-then (first .push .ensures) (p .push2 .ensures) in
+    rw (toZ-pos w32 (rule-low v), toZ-pos w32 (cell-low v), same-rule v, same-cell v) at m
+
+zero-requires : tie.Need-zero-requires
+zero-requires c κs = search needs
+
+push-numbers-requires : tie.Need-push-numbers-requires
+push-numbers-requires c κs =
+    let p = c .before .before in (
+      omega (arith, two p .count, p .before .before .before .empty .ensures .1),
+      rw (c .zero .ensures) (record { steps = omega arith; shifted = omega arith; mirrored = omega arith; changed = omega arith; cost = omega arith }),
+    )
 
 returns : tie.Need-returns
+unfolding verdict-at
 returns c =
-    let a = c .before .before .args in
-    let j = jobOf (a .job) in
-    let P = placementOf (a .placement) in
-    let s = verdict-small j P in
-    let v = c .before .verdict-of in
-    broken-fields j P (verdict j P) (v .result .rule) (v .result .cell) (v .ensures .rule) (v .ensures .cell)
-    (omega (arith, v .ensures .rule, s .rule))
-    (omega (arith, v .ensures .cell, s .cell, c .before .before .pre .sound .few))
-    (c .if1 .taken)
+    let t = c .before .before in
+    let p = t .before in
+    let e = p .before .before .before in
+    let v = e .before in
+    let s = v .before in
+    let j = jobOf (s .args .job) in
+    let P = placementOf (s .args .placement) in
+    let all = more-then (two p) (c .push-numbers .ensures) in
+    let fields : Numbers → List ℤ = λ n. pos (verdict j P .rule) ∷ pos (verdict j P .cell) ∷ numbersIn n in
+    record {
+      list =
+          all .list
+          ∙ ap (λ (l : List ℤ). l ++ fields (c .before .zero .result)) (e .empty .ensures .0)
+          ∙ ap fields (c .before .zero .ensures)
+          ∙ broken-fields j P (verdict j P) (λ z. t .if1 .taken (same-rule v ∙ z));
+      few = omega (arith, all .count, e .empty .ensures .1);
+    }
 
 numbers-of-requires : tie.Need-numbers-of-requires
 numbers-of-requires c κs = search needs
 
-cast-t10 : tie.Need-cast-t10
-cast-t10 c = search needs
-
-cast-t11 : tie.Need-cast-t11
-cast-t11 c = search needs
-
-cast-t12 : tie.Need-cast-t12
-cast-t12 c = search needs
-
-cast-t13 : tie.Need-cast-t13
-cast-t13 c = search needs
-
-cast-t14 : tie.Need-cast-t14
-cast-t14 c = search needs
+push-numbers-requires-2 : tie.Need-push-numbers-requires-2
+push-numbers-requires-2 c κs =
+    let p = c .before .before in
+    (omega (arith, two p .count, p .before .before .before .empty .ensures .1), c .numbers-of .ensures .small)
 
 returns-2 : tie.Need-returns-2
+unfolding verdict-at
 returns-2 c =
-    let mid = c .before .before .before .before in
-    let n = mid .before .before in
-    let e = n .before in
-    let a = e .before .before .args in
-    let j = jobOf (a .job) in
-    let P = placementOf (a .placement) in
-    let z : verdict j P .rule ≡ 0 = sym (e .before .verdict-of .ensures .rule) ∙ e .if1 .left in
-    legal-fields j P (verdict j P) (n .numbers-of .result) z (verdict-small j P .none z)
-    (n .numbers-of .ensures)
-    (record { sfits = c .struct-told .given .1 .1 .1 .1 .1 .0 .1 })
+    let t = c .before .before in
+    let p = t .before in
+    let e = p .before .before .before in
+    let v = e .before in
+    let s = v .before in
+    let j = jobOf (s .args .job) in
+    let P = placementOf (s .args .placement) in
+    let n = c .before .numbers-of in
+    let all = more-then (two p) (c .push-numbers2 .ensures) in
+    record {
+      list =
+          all .list
+          ∙ ap (λ (l : List ℤ). l ++ (pos (verdict j P .rule) ∷ pos (verdict j P .cell) ∷ numbersIn (n .result))) (e .empty .ensures .0)
+          ∙ legal-fields j P (verdict j P) (n .result) (sym (same-rule v) ∙ t .if1 .left) (n .ensures);
+      few = omega (arith, all .count, e .empty .ensures .1);
+    }
 
 pub fields-of-spec : {M : Type 1} → statement M
 fields-of-spec =
     tie.close
     (tie.spec
     verdict-of-requires
-    cast-t8
-    cast-t9
+    empty-requires
+    cast-push
+    push-requires
+    cast-push-2
+    push-requires-2
+    zero-requires
+    push-numbers-requires
     returns
     numbers-of-requires
-    cast-t10
-    cast-t11
-    cast-t12
-    cast-t13
-    cast-t14
+    push-numbers-requires-2
     returns-2)

@@ -1,13 +1,7 @@
 -- `op_score::score_texts` meets its contract: the reader's refusal, or what the placement text of the accepted job comes to.
-use Prim.Native.Nat.{ℕ}
-use mathlib.Core.Path.{refl, ap, _∙_}
 use native.Mathlib.Omega.{arith}
-use Rattle.definition.specs.Job.{Reading}
-use Rattle.definition.specs.Placement.{readPlacement}
-use Rattle.definition.specs.Outcome.{score, scoreOutcome, scorePoses}
-use Rattle.job.specs.Value.{jobOf}
-use Rattle.job_laws.specs.Whole.{accepted-sound}
-use Rattle.job_read.specs.Reads.{reads-accepted, reads-refused, reads-count}
+use Rattle.definition_laws.specs.Outcomes.{score-refused}
+use Rattle.job_read.specs.Reads.{reads-accepted, reads-refused}
 use Rattle.op_score.specs.Scores.{scores-as}
 use borrow.Author.Needs.{needs}
 use Rattle.op_score.proofs.score_texts.Statement.{statement}
@@ -16,36 +10,30 @@ use Rattle.op_score.proofs.score_texts.Tie as tie
 read-job-requires : tie.Need-read-job-requires
 read-job-requires c κs = search needs
 
+refused-requires : tie.Need-refused-requires
+refused-requires c κs =
+    let o = c .before .before .before .read-job .ensures in
+    record { number = omega (arith, o .number); line = omega (arith, o .line) }
+
 returns : tie.Need-returns
-unfolding score
 returns c =
-    let r = c .before .read-job in
-    let a = c .before .before .before .before .args in
-    let e = reads-refused (r .ensures) (c .if1 .taken) in
-    scores-as (ap (λ (o : Reading). scoreOutcome o (a .placement .now)) e)
-    record { number = refl; line = refl; fields = refl; few = omega (arith, r .ensures .number); near = r .ensures .line }
+    let t = c .before in
+    let r = t .before .before .before in
+    let a = r .before .before .before .args in
+    let d = t .if1 .taken in
+    scores-as (score-refused (a .job .now) (reads-refused (r .read-job .ensures) d) d (a .placement .now)) (c .refused .ensures)
 
 score-placement-requires : tie.Need-score-placement-requires
 score-placement-requires c κs =
-    let r = c .before .before .read-job in
-    let z = c .before .if1 .left in
-    let mid = c .before .before .before .before in
-    let a = mid .before .args in
-    (accepted-sound (a .job .now) (jobOf (r .result .job)) (reads-accepted (r .ensures) z), r .ensures .few z)
+    let l = c .before in
+    l .before .before .before .read-job .ensures .accepted (l .if1 .left)
 
 returns-2 : tie.Need-returns-2
-unfolding score
 returns-2 c =
-    let r = c .before .before .before .read-job in
-    let z = c .before .before .if1 .left in
-    let mid = c .before .before .before .before in
-    let a = mid .before .before .args in
-    let e = reads-accepted (r .ensures) z in
-    let n = reads-count (r .ensures) z in
-    scores-as
-    (ap (λ (o : Reading). scoreOutcome o (a .placement .now)) e ∙ ap (λ (m : ℕ). scorePoses (jobOf (r .result .job)) (readPlacement m (a .placement .now))) n)
-    (c .score-placement .ensures)
+    let l = c .before .before in
+    let r = l .before .before .before in
+    c .score-placement .ensures (r .before .before .before .args .job .now) (reads-accepted (r .read-job .ensures) (l .if1 .left))
 
 pub score-texts-spec : {M : Type 1} → statement M
 score-texts-spec =
-    tie.close (tie.spec read-job-requires returns score-placement-requires returns-2)
+    tie.close (tie.spec read-job-requires refused-requires returns score-placement-requires returns-2)

@@ -1,14 +1,18 @@
 -- `refiner::refiner_read` meets its contract: a refusal's number and line, or 0, 0 and the cell count.
-use mathlib.Core.List.{[], _∷_}
+use mathlib.Core.List.{List, [], _∷_, _++_}
+use lib.ListN.{length}
 use lib.IntN.{ℤ, pos}
 use mir.Syntax.{w32}
+use mir.Val.{toZ}
 use mir.Facts.{toZ-pos}
 use mathlib.Core.Path.{_≡_, sym, ap, _∙_}
 use native.Mathlib.Omega.{arith}
-use lib.ListN.{length}
-use Rattle.definition.specs.Outcome.{Outcome, over, resultsOf, readOutcome, read}
+use Rattle.definition.specs.Outcome.{Outcome, over, resultsOf}
+use Rattle.definition_laws.specs.Outcomes.{read-refused, read-accepted}
 use Rattle.job.specs.Value.{jobOf}
-use Rattle.job_read.specs.Reads.{reads-accepted, reads-refused, reads-count}
+use Rattle.job_read.specs.Reads.{reads-accepted, reads-refused}
+use Rattle.results.specs.declared.Refusal.{Refusal}
+use Rattle.results.specs.Fields.{listOf}
 use borrow.Author.Needs.{needs}
 use Rattle.refiner.proofs.refiner_read.Statement.{statement}
 use Rattle.refiner.proofs.refiner_read.Tie as tie
@@ -16,50 +20,81 @@ use Rattle.refiner.proofs.refiner_read.Tie as tie
 read-job-requires : tie.Need-read-job-requires
 read-job-requires c κs = search needs
 
+zeros-requires : tie.Need-zeros-requires
+zeros-requires c κs = search needs
+
 put-results-requires : tie.Need-put-results-requires
-put-results-requires c κs = search needs
+put-results-requires c κs =
+    let o = c .before .before .before .before .read-job .ensures in
+    (record { number = omega (arith, o .number); line = omega (arith, o .line) }, omega (arith, c .zeros .ensures .1))
 
 same-length : tie.Need-same-length
 same-length c = search needs
 
 returns : tie.Need-returns
-unfolding read
 returns c =
-    let mid = c .before .before .before .before in
-    let a = mid .before .before .args in
-    let e = ap readOutcome (reads-refused (c .before .before .before .before .read-job .ensures) (c .before .before .before .if1 .taken)) in
+    let p = c .before in
+    let z = p .before in
+    let t = z .before .before in
+    let r = t .before .before in
+    let a = r .before .before .args in
+    let d = t .if1 .taken in
+    let q = r .read-job .result .refusal in
+    let e = read-refused (a .job .now) (reads-refused (r .read-job .ensures) d) d in
     record {
       number = ap (λ (o : Outcome). o .number) (sym e);
-      array = c .before .put-results .ensures ∙ ap (λ (o : Outcome). over (resultsOf o) (a .results .now)) (sym e);
+      array =
+          p .put-results .ensures
+          ∙ ap (λ (l : List ℤ). over (pos (q .number) ∷ pos (q .line) ∷ l) (a .results .now)) (z .zeros .ensures .0)
+          ∙ ap (λ (o : Outcome). over (resultsOf o) (a .results .now)) (sym e);
     }
 
-cast-count : tie.Need-cast-count
-cast-count c =
-    let r = c .before .before .before .read-job .ensures in
-    record { sfits = omega (arith, r .few (c .before .before .if1 .left)) }
+empty-requires : tie.Need-empty-requires
+empty-requires c κs = search needs
+
+cast-push : tie.Need-cast-push
+cast-push c =
+    let l = c .before .before .before in
+    record { sfits = omega (arith, l .before .before .read-job .ensures .accepted (l .if1 .left) .few) }
+
+push-requires : tie.Need-push-requires
+push-requires c κs = search needs
+
+none-requires : tie.Need-none-requires
+none-requires c κs = search needs
 
 put-results-requires-2 : tie.Need-put-results-requires-2
-put-results-requires-2 c κs = search needs
+put-results-requires-2 c κs =
+    let u = c .before .before in (
+      rw (c .none .ensures) (record { number = omega arith; line = omega arith }),
+      omega (arith, u .push .ensures .count, u .before .before .empty .ensures .1),
+    )
 
 same-length-2 : tie.Need-same-length-2
 same-length-2 c = search needs
 
 returns-2 : tie.Need-returns-2
-unfolding read
 returns-2 c =
-    let mid = c .before .before .before .before in
-    let a = mid .before .before .before .before .args in
-    let mid = c .before .before .before .before in
-    let r = mid .before .before .read-job in
-    let mid = c .before .before .before .before in
-    let z = mid .before .if1 .left in
-    let e = ap readOutcome (reads-accepted (r .ensures) z) in
-    let n : length (jobOf (r .result .job) .cells) ≡ r .result .job .count = reads-count (r .ensures) z in
+    let w = c .before in
+    let n = w .before in
+    let u = n .before .before in
+    let m = u .before .before in
+    let l = m .before .before in
+    let r = l .before .before in
+    let a = r .before .before .args in
+    let z = l .if1 .left in
+    let g = r .read-job .ensures .accepted z in
+    let many : length (jobOf (r .read-job .result .job) .cells) ≡ r .read-job .result .job .count = g .many in
+    let e = read-accepted (a .job .now) (reads-accepted (r .read-job .ensures) z) in
+    let told : List ℤ → List ℤ = λ fields. over (pos 0 ∷ pos 0 ∷ fields) (a .results .now) in
     record {
       number = ap (λ (o : Outcome). o .number) (sym e);
       array =
-          c .before .put-results2 .ensures
-          ∙ ap (λ (v : ℤ). over (pos 0 ∷ pos 0 ∷ v ∷ []) (a .results .now)) (toZ-pos w32 (omega (arith, r .ensures .few z)) ∙ ap pos (sym n))
+          w .put-results2 .ensures
+          ∙ ap (λ (q : Refusal). over (pos (q .number) ∷ pos (q .line) ∷ listOf (u .push .result)) (a .results .now)) (n .none .ensures)
+          ∙ ap told (u .push .ensures .list)
+          ∙ ap (λ (f : List ℤ). told (f ++ (toZ w32 (r .read-job .result .job .count) ∷ []))) (m .empty .ensures .0)
+          ∙ ap (λ (v : ℤ). told (v ∷ [])) (toZ-pos w32 (omega (arith, g .few)) ∙ ap pos (sym many))
           ∙ ap (λ (o : Outcome). over (resultsOf o) (a .results .now)) (sym e);
     }
 
@@ -68,10 +103,14 @@ refiner-read-spec =
     tie.close
     (tie.spec
     read-job-requires
+    zeros-requires
     put-results-requires
     same-length
     returns
-    cast-count
+    empty-requires
+    cast-push
+    push-requires
+    none-requires
     put-results-requires-2
     same-length-2
     returns-2)

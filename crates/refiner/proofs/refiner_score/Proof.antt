@@ -18,12 +18,13 @@ same-length c = search needs
 
 returns : tie.Need-returns
 returns c =
-    let mid = c .before .before .before .before in
-    let a = mid .before .before .before .args in
-    let s = c .before .before .before .before .score-texts .ensures in
+    let w = c .before in
+    let m = w .before .before .before .before in
+    let a = m .before .before .before .args in
+    let s = m .score-texts .ensures in
     record {
       number = s .number;
-      array = c .before .put-results .ensures ∙ ap (λ (l : List ℤ). over l (a .results .now)) (rw (s .number, s .line, s .fields));
+      array = w .put-results .ensures ∙ ap (λ (l : List ℤ). over l (a .results .now)) (rw (s .number, s .line, s .fields .list));
     }
 
 pub refiner-score-spec : {M : Type 1} → statement M
