@@ -11,7 +11,7 @@ use Rattle.job.specs.declared.Job.{Job}
 use Rattle.job.specs.Value.{jobOf}
 use Rattle.job.specs.Accepted.{Accepted}
 use Rattle.theory_claim.specs.Claim.{placementByNumbers}
-use Rattle.search.specs.Solved.{numbersIn}
+use Rattle.search_job.specs.Solved.{numbersIn}
 
 -- buffers that are enough
 pub record Enough (job : Job) (words room : ℕ) : Type 0 where

@@ -17,7 +17,7 @@ use Rattle.job.specs.Value.{cellOf, headerOf, jobOf, poseOf, emptyPose, placeme
 use Rattle.job.specs.Cells.{cell-there, pose-there}
 use Rattle.theory_bridge.specs.Paired.{poseNumber}
 use Rattle.theory_bridge.specs.Poses.{pose-same, placement-size, placement-pose}
-use Rattle.search.specs.Solved.{numbersIn}
+use Rattle.search_job.specs.Solved.{numbersIn}
 use Rattle.job.specs.Accepted.{Accepted}
 use Rattle.op_place.specs.Accepted.{placementIn}
 

@@ -26,7 +26,7 @@ use results::put_results;
 use score_numbers::Numbers;
 use score_numbers::numbers_of;
 use score_numbers::push_numbers;
-use search::search;
+use search_job::search_job;
 
 // What is asked of the buffers: words of the store, and bytes of the output for each cell.
 const STORE_WORDS: usize = 1048576;
@@ -116,7 +116,7 @@ fn place_job(job: Job, store: &mut [u32], output: &mut [u8], results: &mut [i32]
         (lent (now (store .entry)) (now (output .entry)) (now (results .entry)))
         (lent (now (store .exit)) (now (output .exit)) (now (results .exit))) ⌝ }
 {
-    let found = search(job, &mut *store);
+    let found: search::Found = search_job(job, &mut *store);
     search_lanes::clear(store);
     let some = found.some;
     if !some {

@@ -1,5 +1,5 @@
-pub mod Solved
 pub mod Words
-pub mod Ready
-pub mod Row
+pub mod Rows
+pub mod Found
 pub mod Answer
+pub mod Pair

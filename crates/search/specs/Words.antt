@@ -1,15 +1,15 @@
 -- The words of the store that a search uses: how many they are, and that they are zeros before it.
-use Prim.Native.Nat.{ℕ, zero, suc, _+_, _≤_}
+use Prim.Native.Nat.{ℕ, _≤_}
 use mathlib.Core.Path.{_≡_, sym, ap, _∙_, subst}
 use mathlib.Core.List.{List, _++_}
 use native.Mathlib.Omega.{arith}
 use lib.ListN.{length, take, drop, replicate, length-replicate}
 use lib.Seq.{length-take-le, length-front, take-at}
 use Rattle.search_store.specs.Map.{pageAt}
-use Rattle.theory_tables.specs.Steps.{stateCount}
-use Rattle.theory_tables.specs.States.{count-0, count-1}
 use Rattle.lists.specs.Zeros.{zeros-at}
 use Rattle.search_lanes.specs.Store.{Low}
+use Rattle.search_row.specs.declared.Sizes.{Sizes}
+use Rattle.search_row.specs.Words.{RowGiven}
 use Rattle.search_stage.specs.Stage.{wide}
 use Rattle.search_stage.specs.Laws.{wide-low}
 
@@ -17,20 +17,10 @@ use Rattle.search_stage.specs.Laws.{wide-low}
 abbrev pub wordsFor : ℕ → ℕ → ℕ
 wordsFor talls count = pageAt (wide talls talls count)
 
--- at most three states
-few-states : (R : ℕ) → R ≤ 1 → stateCount R ≤ 3
-few-states zero h = omega (arith, count-0)
-few-states (suc zero) h = omega (arith, count-1)
-few-states (suc (suc R)) h = absurd (omega arith)
-
--- a store of 1,048,576 words has them
-pub words-lent : (talls R count : ℕ) → R ≤ 1 → count ≡ stateCount R → wordsFor talls count ≤ 1048576
-words-lent talls R count h e =
-    omega (arith, wide-low talls talls count 3 (omega arith) (omega (arith, few-states R h, e)))
-
 -- a table has at most twelve states
-pub few-pages : (talls R count : ℕ) → R ≤ 1 → count ≡ stateCount R → wide talls talls count ≤ 12
-few-pages talls R count h e = wide-low talls talls count 12 (omega arith) (omega (arith, few-states R h, e))
+pub few-pages : {row : List ℕ} {z : Sizes} → RowGiven row z → wide (z .talls) (z .talls) (z .states) ≤ 12
+few-pages {z = z} g =
+    wide-low (z .talls) (z .talls) (z .states) 12 (omega arith) (omega (arith, g .ground .all, g .ground .coded .few))
 
 pub zeros-low : (n : ℕ) → Low (replicate n 0)
 zeros-low n = record { word = λ k. omega (arith, zeros-at n k) }

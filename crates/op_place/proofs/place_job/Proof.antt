@@ -2,15 +2,16 @@
 use mathlib.Core.Path.{_≡_, refl, ap, _∙_}
 use native.Mathlib.Omega.{arith}
 use lib.ListN.{length, replicate}
-use Rattle.job.specs.Value.{jobOf}
 use Rattle.op_place.specs.Answers.{answered-none, answered-some}
 use borrow.Author.Tests.{not-true, not-false}
 use borrow.Author.Needs.{needs}
 use Rattle.op_place.proofs.place_job.Statement.{statement}
 use Rattle.op_place.proofs.place_job.Tie as tie
 
-search-requires : tie.Need-search-requires
-search-requires c κs = search needs
+search-job-requires : tie.Need-search-job-requires
+search-job-requires c κs =
+    let k = c .before .before .before .pre in
+    record { accepted = record { sound = k .taken .sound; few = k .taken .few; many = k .taken .many }; long = k .store }
 
 clear-requires : tie.Need-clear-requires
 clear-requires c κs = search needs
@@ -31,9 +32,9 @@ returns c =
     let f = z .before .before .before .before in
     let s = f .before .before .before .before in
     let a = s .args in
-    let long : length (f .search .last .1 .0) ≡ length (a .store .now) = omega arith in
+    let long : length (f .search-job .last .1 .0) ≡ length (a .store .now) = omega arith in
     answered-none (a .store .now) (a .output .now) (a .results .now)
-    (f .search .ensures .none-when (not-true _ (k .if1 .taken)))
+    (f .search-job .ensures .none-when (not-true _ (k .if1 .taken)))
     (z .clear .ensures ∙ ap (λ n. replicate n 0) long)
     (c .before .refuse .ensures)
 
@@ -43,7 +44,7 @@ put-answer-requires c κs =
     let mid = l .before .before .before .before in
     let f = mid .before .before .before in
     let s = f .before .before .before .before in
-    let o = f .search .ensures in
+    let o = f .search-job .ensures in
     record {
       taken = s .pre .taken;
       numbers = o .numbers;
@@ -68,9 +69,9 @@ returns-2 c =
     let f = z .before .before .before .before in
     let s = f .before .before .before .before in
     let a = s .args in
-    let o = f .search .ensures in
-    let long : length (f .search .last .1 .0) ≡ length (a .store .now) = omega arith in
-    answered-some (a .store .now) (a .output .now) (a .results .now) (a .job) (f .search .result .poses)
+    let o = f .search-job .ensures in
+    let long : length (f .search-job .last .1 .0) ≡ length (a .store .now) = omega arith in
+    answered-some (a .store .now) (a .output .now) (a .results .now) (a .job) (f .search-job .result .poses)
     (o .some-when (not-false _ (l .if1 .left)))
     (z .clear .ensures ∙ ap (λ n. replicate n 0) long)
     (w .put-answer .ensures)
@@ -79,7 +80,7 @@ pub place-job-spec : {M : Type 1} → statement M
 place-job-spec =
     tie.close
     (tie.spec
-    search-requires
+    search-job-requires
     clear-requires
     refuse-requires
     same-length

@@ -1,14 +1,14 @@
--- A cost of NONE: no list of moves ends legally. A lower one can be traced.
+-- A cost of NONE: there is no way. A lower one can be traced.
 use native.Mathlib.Omega.{arith}
 use borrow.Author.Needs.{needs}
-use Rattle.job.specs.Value.{jobOf}
-use Rattle.search_row_fill.specs.Ready.{zeros-small}
-use Rattle.search.specs.Answer.{traceable, none-solved, some-solved}
+use Rattle.lists.specs.Zeros.{zeros-at}
+use Rattle.search.specs.Rows.{stages-given}
+use Rattle.search.specs.Found.{traceable, found-none, found-some}
 use Rattle.search.proofs.find.Statement.{statement}
 use Rattle.search.proofs.find.Tie as tie
 
 least-cost-requires : tie.Need-least-cost-requires
-least-cost-requires c κs = search needs
+least-cost-requires c κs = let k = c .before .before .before .before in stages-given (k .pre .0) (k .pre .1) (k .pre .2)
 
 same-length : tie.Need-same-length
 same-length c = search needs
@@ -16,7 +16,9 @@ same-length c = search needs
 returns : tie.Need-returns
 returns c =
     let mid = c .before .before .before .before in
-    none-solved (mid .before .before .before .before .pre .0) (c .before .before .before .least-cost .ensures) (omega arith) (zeros-small 64)
+    let a = mid .before .before .before .before .args in
+    found-none (a .row0 .now) (a .row1 .now) (a .sizes) (a .cells1) (c .before .before .before .least-cost .ensures) (omega arith)
+    (λ k. omega (arith, zeros-at 64 k))
 
 slice-aggregate-note : tie.Need-slice-aggregate-note
 slice-aggregate-note c = search needs
@@ -27,8 +29,9 @@ note-requires c κs =
     let mid₂ = mid .before .before .before .before in
     let k = mid₂ .before .before in
     let a = k .args in
-    let t = traceable (jobOf (a .job)) (a .row0 .now) (a .row1 .now) (a .sizes .cells) (a .cells1) (a .sizes .talls) in
-    (k .pre .0, t (mid .before .least-cost .ensures) (k .pre .1) (k .pre .2) (omega arith), omega arith, zeros-small 64)
+    let g = stages-given (k .pre .0) (k .pre .1) (k .pre .2) in
+    let t = traceable (a .row0 .now) (a .row1 .now) (a .sizes) (a .cells1) g (mid .before .least-cost .ensures) (omega arith) in
+    (k .pre .0, t, omega arith, λ i. omega (arith, zeros-at 64 i))
 
 same-length-2 : tie.Need-same-length-2
 same-length-2 c = search needs
@@ -39,7 +42,8 @@ returns-2 c =
     let mid = after-note .before .before .before .before in
     let mid₂ = mid .before .before .before .before in
     let k = mid₂ .before .before .before in
-    some-solved (k .pre .0) (mid .before .before .least-cost .ensures .cost) (after-note .note .ensures)
+    let a = k .args in
+    found-some (a .row0 .now) (a .row1 .now) (a .sizes) (a .cells1) (mid .before .before .least-cost .ensures) (omega arith) (after-note .note .ensures)
 
 pub find-spec : {M : Type 1} → statement M
 find-spec = tie.close (tie.spec least-cost-requires same-length returns slice-aggregate-note note-requires same-length-2 returns-2)

@@ -3,31 +3,29 @@ use Prim.Native.Nat.{_+_}
 use mathlib.Core.Path.{refl}
 use native.Mathlib.Omega.{arith}
 use borrow.Author.Needs.{needs}
-use Rattle.job.specs.Value.{jobOf}
 use Rattle.search_stage.specs.Laws.{given-first}
-use Rattle.search.specs.Ready.{stages-given, few-talls}
-use Rattle.search.specs.Answer.{costed, stages-exact}
+use Rattle.search.specs.Found.{costed}
 use Rattle.search.proofs.least_cost.Statement.{statement}
 use Rattle.search.proofs.least_cost.Tie as tie
 
 stages-requires : tie.Need-stages-requires
-stages-requires c κs = let k = c .before .before .before .before in stages-given (k .pre .0) (k .pre .1) (k .pre .2)
+stages-requires c κs = search needs
 
 add-case-at : tie.Need-add-case-at
 add-case-at c =
     let mid = c .before .before .before .before in
-    omega (arith, few-talls (mid .before .before .before .before .pre .0))
+    omega (arith, mid .before .before .before .before .pre .given₀ .few)
 
 case-at-requires : tie.Need-case-at-requires
 case-at-requires c κs =
     let mid = c .before .before .before .before in
-    (omega (arith, few-talls (mid .before .before .before .before .pre .0)), omega arith, omega arith)
+    (omega (arith, mid .before .before .before .before .pre .given₀ .few), omega arith, omega arith)
 
 mul-result : tie.Need-mul-result
 mul-result c =
     let mid = c .before .before .before .before in
     let mid₂ = mid .before .before .before .before in
-    omega (arith, few-talls (mid₂ .before .pre .0), c .case-at .ensures)
+    omega (arith, mid₂ .before .pre .given₀ .few, c .case-at .ensures)
 
 slice-read-result : tie.Need-slice-read-result
 slice-read-result c =
@@ -35,9 +33,8 @@ slice-read-result c =
     let after-stages = after-case-at .before .before .before .before in
     let mid = after-stages .before .before .before .before in
     let k = mid .before in
-    let g = stages-given (k .pre .0) (k .pre .1) (k .pre .2) in
-    let t = few-talls (k .pre .0) in
-    omega (arith, after-case-at .case-at .ensures, given-first g (k .args .sizes .talls + 1) (omega arith), after-stages .stages .ensures .long)
+    let t = k .pre .given₀ .few in
+    omega (arith, after-case-at .case-at .ensures, given-first (k .pre) (k .args .sizes .talls + 1) (omega arith), after-stages .stages .ensures .long)
 
 same-length : tie.Need-same-length
 same-length c = search needs
@@ -49,8 +46,7 @@ returns c =
     let mid = after-stages .before .before .before .before in
     let k = mid .before in
     let a = k .args in
-    costed (jobOf (a .job)) (a .row0 .now) (a .row1 .now) (a .sizes .cells) (a .cells1) (a .sizes .talls) (after-case-at .case-at .ensures) refl
-    (stages-exact (k .pre .0) (after-stages .stages .ensures))
+    costed (a .row0 .now) (a .row1 .now) (a .sizes) (a .cells1) (after-case-at .case-at .ensures) refl (after-stages .stages .ensures)
 
 pub least-cost-spec : {M : Type 1} → statement M
 least-cost-spec = tie.close (tie.spec stages-requires add-case-at case-at-requires mul-result slice-read-result same-length returns)

@@ -1,7 +1,8 @@
 -- The trace notes both rows' paths; what it noted is what each scatter is given, and both scatters together are the answer.
 use native.Mathlib.Omega.{arith}
 use borrow.Author.Needs.{needs}
-use Rattle.search.specs.Answer.{may-trace, was-traced, first-given, second-given, answered}
+use Rattle.search_back.specs.Laws.{trace-given}
+use Rattle.search.specs.Answer.{was-traced, first-given, second-given, answered}
 use Rattle.search.proofs.note.Statement.{statement}
 use Rattle.search.proofs.note.Tie as tie
 
@@ -15,7 +16,7 @@ trace-requires : tie.Need-trace-requires
 trace-requires c κs =
     let mid = c .before .before .before .before in
     let k = mid .before .before .before in
-    may-trace (k .pre .0) (k .pre .1) (omega arith) (omega arith)
+    trace-given (k .pre .1 .given) (omega arith) (omega arith)
 
 slice-aggregate-scatter : tie.Need-slice-aggregate-scatter
 slice-aggregate-scatter c = search needs
@@ -27,8 +28,8 @@ scatter-requires c κs =
     let mid₂ = after-trace .before .before .before .before in
     let k = mid₂ .before .before .before .before in
     let w = after-trace .trace in
-    let t = was-traced (k .pre .0) (k .pre .1) (w .ensures) .traced in
-    first-given (k .pre .0) (w .last .1 .0) (w .last .1 .1 .0) (k .pre .1 .some) t (omega (arith, w .ensures .long₀)) (k .pre .2)
+    let t = was-traced (k .pre .0) (k .pre .1) (w .ensures) in
+    first-given (k .pre .0) (w .last .1 .0) (w .last .1 .1 .0) t (omega (arith, w .ensures .long₀)) (k .pre .2)
 
 slice-aggregate-scatter-2 : tie.Need-slice-aggregate-scatter-2
 slice-aggregate-scatter-2 c = search needs
@@ -41,8 +42,8 @@ scatter-requires-2 c κs =
     let mid₂ = after-trace .before .before .before .before in
     let k = mid₂ .before .before .before .before in
     let w = after-trace .trace in
-    let t = was-traced (k .pre .0) (k .pre .1) (w .ensures) .traced in
-    second-given (k .pre .0) (w .last .1 .0) (w .last .1 .1 .0) (k .pre .1 .some) t (omega (arith, w .ensures .long₁))
+    let t = was-traced (k .pre .0) (k .pre .1) (w .ensures) in
+    second-given (k .pre .0) (w .last .1 .0) (w .last .1 .1 .0) t (omega (arith, w .ensures .long₁))
     (omega (arith, k .pre .2, after-scatter .scatter .ensures .long))
 
 same-length : tie.Need-same-length
@@ -60,8 +61,8 @@ returns c =
     let mid₃ = after-trace .before .before .before .before in
     let k = mid₃ .before .before .before .before in
     let w = after-trace .trace in
-    let t = was-traced (k .pre .0) (k .pre .1) (w .ensures) .traced in
-    answered (k .pre .0) (w .last .1 .0) (w .last .1 .1 .0) (k .pre .1 .some) t (k .pre .3) (after-scatter .scatter .ensures)
+    let t = was-traced (k .pre .0) (k .pre .1) (w .ensures) in
+    answered (k .pre .0) (w .last .1 .0) (w .last .1 .1 .0) t (k .pre .3) (after-scatter .scatter .ensures)
     (c .before .before .scatter2 .ensures)
 
 pub note-spec : {M : Type 1} → statement M

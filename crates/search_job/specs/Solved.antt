@@ -1,4 +1,4 @@
--- What the search is given, and what it finds.
+-- What the search of a job is given, and what it finds.
 use Prim.Native.Nat.{ℕ, _≤_, _<_}
 use mathlib.Core.Path.{_≡_}
 use mathlib.Core.Bool.{Bool, true, false}
@@ -9,15 +9,14 @@ use Rattle.definition.specs.Job as paper
 use Rattle.definition.specs.Cost.{cost}
 use Rattle.definition.specs.Moves.{Cheapest}
 use Rattle.definition.specs.Outcome.{storeNeeded}
-use Rattle.definition_laws.specs.Sound.{Sound}
 use Rattle.job.specs.declared.Job.{Job}
 use Rattle.job.specs.Value.{jobOf}
+use Rattle.job.specs.Accepted.{Accepted}
 use Rattle.theory_claim.specs.Claim.{placementByNumbers}
 
 -- an accepted job, and a store that is large enough, whatever its words
 pub record Asked (job : Job) (store : List ℕ) : Type 0 where
-  pub sound : Sound (jobOf job)
-  pub few : job .count ≤ 64
+  pub accepted : Accepted job
   pub long : storeNeeded (jobOf job) ≤ length store
 
 -- pose numbers, cell by cell

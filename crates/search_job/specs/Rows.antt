@@ -1,0 +1,90 @@
+-- The rows of a job as words: what the search asks of them, and what it then finds of the job.
+use Prim.Native.Nat.{ℕ, zero, suc, _≤_}
+use mathlib.Core.Path.{_≡_, sym, ap, subst}
+use mathlib.Core.Bool.{Bool}
+use mathlib.Core.List.{List}
+use native.Mathlib.Omega.{arith}
+use Rattle.definition.specs.Job.{Job}
+use Rattle.definition_laws.specs.Sound.{Sound}
+use Rattle.theory_pair.specs.Cells.{Side, row₀, row₁, cell, line}
+use Rattle.theory_tables.specs.Steps.{stateCount}
+use Rattle.theory_tables.specs.States.{count-0, count-1}
+use Rattle.theory_tables.specs.Matched.{Matched}
+use Rattle.theory_traceback.specs.Found.{PairFound}
+use Rattle.theory_bridge.specs.Paired.{siteOf, poseNumbers, poseNumber, isOffered, pairJob}
+use Rattle.theory_bridge.specs.Offers.{wide-positive}
+use Rattle.theory_claim.specs.Claim.{reorder, claim-none, claim-some, claim-stated}
+use Rattle.search_row.specs.declared.Sizes.{Sizes}
+use Rattle.search_row.specs.Words.{deckOf, withCells}
+use Rattle.search_row_fill.specs.Ready.{RowReady, same-sizes, ready-given}
+use Rattle.search_stage.specs.Laws.{wide-low}
+use Rattle.search.specs.Words.{wordsFor}
+use Rattle.search.specs.Rows.{RowsAsked}
+use Rattle.search.specs.Found.{RowsFound}
+use Rattle.search.specs.Pair.{RowOf, PairOf, pair-asked, pair-found}
+use Rattle.search_job.specs.Solved.{numbersIn, Solved}
+
+-- ---- the store
+
+-- at most three states
+few-states : (R : ℕ) → R ≤ 1 → stateCount R ≤ 3
+few-states zero h = omega (arith, count-0)
+few-states (suc zero) h = omega (arith, count-1)
+few-states (suc (suc R)) h = absurd (omega arith)
+
+-- a store of 1,048,576 words has those of the search
+pub words-lent : (talls R count : ℕ) → R ≤ 1 → count ≡ stateCount R → wordsFor talls count ≤ 1048576
+words-lent talls R count h e =
+    omega (arith, wide-low talls talls count 3 (omega arith) (omega (arith, few-states R h, e)))
+
+-- ---- the rows
+
+-- a cell bears its own number
+abbrev self : ℕ → ℕ
+self k = k
+
+row-of : {j : Job} {s : Side} {row : List ℕ} {z : Sizes} → RowReady j s row z
+    → RowOf siteOf (pairJob j) (poseNumber j) (isOffered j) self s row z
+row-of {j} {s} {row} {z} r = record {
+  searched = record {
+    matched = subst (λ (n : ℕ). Matched siteOf (line (pairJob j) s) (deckOf row (z .cells) n)
+        (λ p a. poseNumber j (cell (pairJob j) s p) a) (λ p a. isOffered j (cell (pairJob j) s p) a)) (sym poses)
+        (r .lined .matched);
+    stands = r .stands;
+  };
+  number = r .lined .number;
+  talls = r .talls;
+}
+  where
+    poses : z .poses ≡ poseNumbers j
+    poses = ap (λ (x : Sizes). x .poses) (r .sizes)
+
+module _ {j : Job} {words₀ words₁ : List ℕ} {z y : Sizes} (sound : Sound j) (r₀ : RowReady j row₀ words₀ z)
+    (r₁ : RowReady j row₁ words₁ y) where
+  second : RowReady j row₁ words₁ (withCells z (y .cells))
+  second = subst (λ (x : Sizes). RowReady j row₁ words₁ x) (same-sizes r₀ r₁) r₁
+
+  pair : PairOf siteOf (pairJob j) (poseNumber j) (isOffered j) self words₀ words₁ z (y .cells)
+  pair = record {
+    first = row-of r₀;
+    second = row-of second;
+    small = λ k h. omega (arith, sound .few);
+    apart = λ k m h l e. e;
+  }
+
+  pub asked : RowsAsked words₀ words₁ z (y .cells)
+  asked = pair-asked pair (ready-given sound r₀) (ready-given sound second)
+
+  module _ {found : Bool} {x : ℕ} {poses : List ℕ} (f : RowsFound words₀ words₁ z (y .cells) found x poses) where
+    of-pair : PairFound (reorder j) siteOf (pairJob j) (wide-positive j sound) (poseNumber j) found x (numbersIn poses)
+    of-pair = subst (λ (R : ℕ). PairFound R siteOf (pairJob j) (wide-positive j sound) (poseNumber j) found x
+        (numbersIn poses)) (ap (λ (x : Sizes). x .reordering) (r₀ .sizes))
+        (pair-found pair (wide-positive j sound) asked f)
+
+    pub solved : Solved j found x poses
+    solved = record {
+      none-when = claim-none j sound found x (numbersIn poses) of-pair;
+      some-when = claim-some j sound found x (numbersIn poses) of-pair;
+      stated = claim-stated j sound found x (numbersIn poses) of-pair;
+      numbers = f .numbers;
+    }
