@@ -52,12 +52,12 @@ zeros-small n k = go (decLt k n)
       List·getD-eq-default {A = ℕ} (replicate n 0) 0 {n = k} (omega (arith, length-replicate {A = ℕ} n 0)),
     )
 
-abbrev pub wordsOf : List ℕ → ℕ → ℕ
-wordsOf l k = getD l k 0
+abbrev pub wordIn : List ℕ → ℕ → ℕ
+wordIn l k = getD l k 0
 
 module _ {j : Job} {s : Side} {cells talls row places : List ℕ} {n count states : ℕ} (sound : Sound j)
     (f : CellsIn j s cells n) (t : TallWords cells n places count)
-    (w : Written (wordsOf places) tallsFrom 32 cells talls) (c : Coded (j .header .reordering) talls row states) where
+    (w : Written (wordIn places) tallsFrom 32 cells talls) (c : Coded (j .header .reordering) talls row states) where
   -- the words above all states are positions
   upper : (q : ℕ) → tallsFrom ≤ q → getD row q 0 ≤ 63
   upper q h = go (decLt q rowLength)

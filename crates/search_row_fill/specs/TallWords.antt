@@ -22,56 +22,56 @@ use Rattle.search_row_fill.specs.Talls.{pick-same, few-talls, tallPlaces
 
 -- the positions whose word says tall, of the first n
 abbrev pub tallAt : List ℕ → ℕ → Bool
-tallAt line p = eqb (wordOf line p tallWord) 1
+tallAt row p = eqb (wordOf row p tallWord) 1
 
 unfoldable pub tallsIn : List ℕ → ℕ → List ℕ
-tallsIn line n = pick (tallAt line) (from 0 n)
+tallsIn row n = pick (tallAt row) (from 0 n)
 
 -- the first `count` are written, and those from position p on are still to come
-pub record TallsUpto (line : List ℕ) (n : ℕ) (talls : List ℕ) (count p : ℕ) : Type 0 where
-  pub room : length (tallsIn line n) ≤ length talls
-  pub below : count ≤ length (tallsIn line n)
-  pub left : drop count (tallsIn line n) ≡ rest (tallAt line) p n
-  pub words : (I : ℕ) → I < count → getD talls I 0 ≡ getD (tallsIn line n) I 0
+pub record TallsUpto (row : List ℕ) (n : ℕ) (talls : List ℕ) (count p : ℕ) : Type 0 where
+  pub room : length (tallsIn row n) ≤ length talls
+  pub below : count ≤ length (tallsIn row n)
+  pub left : drop count (tallsIn row n) ≡ rest (tallAt row) p n
+  pub words : (I : ℕ) → I < count → getD talls I 0 ≡ getD (tallsIn row n) I 0
   pub small : (I : ℕ) → getD talls I 0 < 64
 
 -- all are written, so many
-pub record TallWords (line : List ℕ) (n : ℕ) (talls : List ℕ) (count : ℕ) : Type 0 where
-  pub all : count ≡ length (tallsIn line n)
-  pub words : (I : ℕ) → I < count → getD talls I 0 ≡ getD (tallsIn line n) I 0
+pub record TallWords (row : List ℕ) (n : ℕ) (talls : List ℕ) (count : ℕ) : Type 0 where
+  pub all : count ≡ length (tallsIn row n)
+  pub words : (I : ℕ) → I < count → getD talls I 0 ≡ getD (tallsIn row n) I 0
   pub small : (I : ℕ) → getD talls I 0 < 64
 
-module _ {line : List ℕ} {n : ℕ} where
-  pub talls-none : {talls : List ℕ} → length (tallsIn line n) ≤ length talls → ((I : ℕ) → getD talls I 0 < 64)
-      → TallsUpto line n talls 0 0
+module _ {row : List ℕ} {n : ℕ} where
+  pub talls-none : {talls : List ℕ} → length (tallsIn row n) ≤ length talls → ((I : ℕ) → getD talls I 0 < 64)
+      → TallsUpto row n talls 0 0
   unfolding tallsIn
   talls-none h s =
       record {
         room = h;
         below = omega arith;
-        left = sym (rest-all (tallAt line) n);
+        left = sym (rest-all (tallAt row) n);
         words = λ I g. absurd (omega arith);
         small = s;
       }
 
-  module _ {talls : List ℕ} {count p : ℕ} (u : TallsUpto line n talls count p) where
+  module _ {talls : List ℕ} {count p : ℕ} (u : TallsUpto row n talls count p) where
     abbrev coming : List ℕ
-    coming = rest (tallAt line) (p + 1) n
+    coming = rest (tallAt row) (p + 1) n
 
-    module _ (h : p < n) (e : tallAt line p ≡ true) where
-      upcoming : Next 0 (tallsIn line n) count p coming
+    module _ (h : p < n) (e : tallAt row p ≡ true) where
+      upcoming : Next 0 (tallsIn row n) count p coming
       upcoming =
-          next (tallsIn line n) count (u .left ∙ rest-more (tallAt line) p n h ∙ ap (λ t. cond t (p ∷ coming) coming) e)
+          next (tallsIn row n) count (u .left ∙ rest-more (tallAt row) p n h ∙ ap (λ t. cond t (p ∷ coming) coming) e)
 
       pub talls-room : count < length talls
       talls-room = let r = u .room in let i = upcoming .inside in omega arith
 
-      pub talls-more : n ≤ 64 → TallsUpto line n (set talls count p) (count + 1) (p + 1)
+      pub talls-more : n ≤ 64 → TallsUpto row n (set talls count p) (count + 1) (p + 1)
       talls-more few = record {
         room = simp length-set (u .room);
         below = let i = upcoming .inside in omega arith;
         left = upcoming .after;
-        words = below-more (λ I. getD (set talls count p) I 0 ≡ getD (tallsIn line n) I 0) count
+        words = below-more (λ I. getD (set talls count p) I 0 ≡ getD (tallsIn row n) I 0) count
             (λ I g. getD-set-other talls count I p 0 (omega arith) ∙ u .words I g)
             (getD-set-same talls count p 0 talls-room ∙ sym (upcoming .here));
         small = λ I. one I (ℕ-discrete count I);
@@ -82,41 +82,41 @@ module _ {line : List ℕ} {n : ℕ} where
               omega (arith, ap (λ k. getD (set talls count p) k 0) z, getD-set-same talls count p 0 talls-room)
           one I (no z) = omega (arith, getD-set-other talls count I p 0 (λ y. z (sym y)), u .small I)
 
-    pub talls-skip : p < n → tallAt line p ≡ false → TallsUpto line n talls count (p + 1)
+    pub talls-skip : p < n → tallAt row p ≡ false → TallsUpto row n talls count (p + 1)
     talls-skip h e = record {
       room = u .room;
       below = u .below;
-      left = u .left ∙ rest-more (tallAt line) p n h ∙ ap (λ t. cond t (p ∷ coming) coming) e;
+      left = u .left ∙ rest-more (tallAt row) p n h ∙ ap (λ t. cond t (p ∷ coming) coming) e;
       words = u .words;
       small = u .small;
     }
 
-    pub talls-all : n ≤ p → TallWords line n talls count
+    pub talls-all : n ≤ p → TallWords row n talls count
     talls-all h = record {
-      all = done (tallsIn line n) count (u .below) (u .left ∙ rest-none (tallAt line) p n h);
+      all = done (tallsIn row n) count (u .below) (u .left ∙ rest-none (tallAt row) p n h);
       words = u .words;
       small = u .small;
     }
 
 -- ---- the tall cells of a row of a job
 
-module _ {j : Job} {s : Side} {line : List ℕ} {n : ℕ} (w : Lined j s line n) where
-  places : tallsIn line n ≡ tallPlaces (pairJob j) s
+module _ {j : Job} {s : Side} {row : List ℕ} {n : ℕ} (w : Lined j s row n) where
+  places : tallsIn row n ≡ tallPlaces (pairJob j) s
   unfolding tallsIn
   places =
-      ap (λ m. pick (tallAt line) (from 0 m)) (w .matched .size)
-      ∙ pick-same (tallAt line) _ (from 0 (length (members (pairJob j) s)))
+      ap (λ m. pick (tallAt row) (from 0 m)) (w .matched .size)
+      ∙ pick-same (tallAt row) _ (from 0 (length (members (pairJob j) s)))
       (λ p m. let h = in-from 0 (length (members (pairJob j) s)) m in w .matched .tall p (omega arith))
 
-  pub talls-count : length (tallsIn line n) ≡ tallCount (pairJob j)
+  pub talls-count : length (tallsIn row n) ≡ tallCount (pairJob j)
   talls-count = ap length places ∙ places-count (pairJob j) s
 
   -- 24 words are enough
-  pub talls-few : Sound j → length (tallsIn line n) ≤ 24
+  pub talls-few : Sound j → length (tallsIn row n) ≤ 24
   talls-few sound = let a = talls-count in let b = few-talls j sound in omega arith
 
   -- the words are the positions of the tall cells, and there are so many
-  pub talls-pos : {talls : List ℕ} {count : ℕ} → TallWords line n talls count
+  pub talls-pos : {talls : List ℕ} {count : ℕ} → TallWords row n talls count
       → (count ≡ tallCount (pairJob j)) × ((I : ℕ) → I < tallCount (pairJob j) → getD talls I 0 ≡ pos (pairJob j) s I)
   talls-pos {talls} {count} t = (
     t .all ∙ talls-count,

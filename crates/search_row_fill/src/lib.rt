@@ -13,7 +13,7 @@ ghost use Rattle.theory_bridge.specs.Paired.{isOffered, poseNumber, poseNumbers
 ghost use Rattle.search_row_fill.specs.Words.{edge, ownWord, shapeWord, heightWord, cellWord};
 ghost use Rattle.search_row_fill.specs.Values.{one, Ranged};
 ghost use Rattle.search_row_fill.specs.Filled.{sideOf, Added, CellsIn};
-ghost use Rattle.search_row_fill.specs.Ready.{wordsOf, RowReady};
+ghost use Rattle.search_row_fill.specs.Ready.{wordIn, RowReady};
 ghost use Rattle.search_row_fill.specs.TallWords.{tallsIn, TallsUpto, TallWords};
 use job::Cell;
 use job::Header;
@@ -69,24 +69,24 @@ fn pose_cost(header: Header, cell: Cell, a: u32) -> u32
 }
 
 // Whether what a cell costs by itself is left to the other row: a tall cell's counts in row 0.
-fn counts_there(of: u32, row: u32) -> bool
-    ensures { λ t. ⌜ t ≡ (eqb of 2 && eqb row 1) ⌝ }
+fn counts_there(of: u32, side: u32) -> bool
+    ensures { λ t. ⌜ t ≡ (eqb of 2 && eqb side 1) ⌝ }
 {
     if of != 2 {
         return false;
     }
-    row == 1
+    side == 1
 }
 
 // What the cell costs in pose a in a row; NONE where it is not offered.
-fn own_word(header: Header, cell: Cell, row: u32, a: u32) -> u32
+fn own_word(header: Header, cell: Cell, side: u32, a: u32) -> u32
     requires { ⌜ Ranged header cell × (a < 64) ⌝ }
-    ensures { λ r. ⌜ (r ≡ ownWord (one header cell) row 0 a) × (r ≤ B) ⌝ }
+    ensures { λ r. ⌜ (r ≡ ownWord (one header cell) side 0 a) × (r ≤ B) ⌝ }
 {
     if !is_offered(header, cell, a) {
         return search_lanes::NONE;
     }
-    if counts_there(cell.row, row) {
+    if counts_there(cell.row, side) {
         return 0;
     }
     pose_cost(header, cell, a)
@@ -117,27 +117,27 @@ fn edge_of(u: u32) -> usize
 }
 
 // Words 68 to 83: its heights, by edge, type and variant.
-fn height_word(header: Header, cell: Cell, row: u32, u: u32) -> u32
-    requires { ⌜ (u < 16) × (row ≤ 1) ⌝ }
-    ensures { λ r. ⌜ r ≡ heightWord (one header cell) row 0 u ⌝ }
+fn height_word(header: Header, cell: Cell, side: u32, u: u32) -> u32
+    requires { ⌜ (u < 16) × (side ≤ 1) ⌝ }
+    ensures { λ r. ⌜ r ≡ heightWord (one header cell) side 0 u ⌝ }
 {
-    let i = job::first_of(cell.row, row) + edge_of(u);
+    let i = job::first_of(cell.row, side) + edge_of(u);
     job::height_of(cell, u % 4 / 2, i)
 }
 
 // Word i of a cell that bears a number.
-fn cell_word(header: Header, cell: Cell, row: u32, number: u32, i: u32) -> u32
-    requires { ⌜ Ranged header cell × (row ≤ 1) × (number < 64) ⌝ }
-    ensures { λ r. ⌜ (r ≡ cellWord (one header cell) row 0 number i) × (r ≤ B) ⌝ }
+fn cell_word(header: Header, cell: Cell, side: u32, number: u32, i: u32) -> u32
+    requires { ⌜ Ranged header cell × (side ≤ 1) × (number < 64) ⌝ }
+    ensures { λ r. ⌜ (r ≡ cellWord (one header cell) side 0 number i) × (r ≤ B) ⌝ }
 {
     if i < 64 {
-        return own_word(header, cell, row, i);
+        return own_word(header, cell, side, i);
     }
     if i < 68 {
         return shape_word(header, cell, i);
     }
     if i < 84 {
-        return height_word(header, cell, row, i - 68);
+        return height_word(header, cell, side, i - 68);
     }
     if i == 84 {
         return header.step;
@@ -152,13 +152,13 @@ fn cell_word(header: Header, cell: Cell, row: u32, number: u32, i: u32) -> u32
 }
 
 // The words of a cell; those from 87 on are not used.
-fn fill_cell(line: &mut [u32], at: usize, header: Header, cell: Cell, row: u32, number: u32)
-    requires { ⌜ Ranged header cell × (row ≤ 1) × (number < 64) × (at + 128 ≤ length (now line)) × Low (now line) ⌝ }
-    ensures { λ _. ⌜ Written (cellWord (one header cell) row 0 number) at 87 (now (line .entry)) (now (line .exit)) ⌝ }
+fn fill_cell(row: &mut [u32], at: usize, header: Header, cell: Cell, side: u32, number: u32)
+    requires { ⌜ Ranged header cell × (side ≤ 1) × (number < 64) × (at + 128 ≤ length (now row)) × Low (now row) ⌝ }
+    ensures { λ _. ⌜ Written (cellWord (one header cell) side 0 number) at 87 (now (row .entry)) (now (row .exit)) ⌝ }
 {
     let mut i: usize = 0;
     while i < 87 {
-        line[at + i] = cell_word(header, cell, row, number, i as u32);
+        row[at + i] = cell_word(header, cell, side, number, i as u32);
         i += 1;
     }
 }
@@ -166,31 +166,31 @@ fn fill_cell(line: &mut [u32], at: usize, header: Header, cell: Cell, row: u32, 
 // ---- the row
 
 // The cell at position n, if it stands in the row; how many cells there are then.
-fn add_cell(line: &mut [u32], n: usize, header: Header, cell: Cell, row: u32, number: u32) -> usize
-    requires { ⌜ Ranged header cell × (row ≤ 1) × (number < 64) × (n < 64) × (statesFrom ≤ length (now line))
-        × Low (now line) ⌝ }
-    ensures { λ r. ⌜ Added (one header cell) row number n r (now (line .entry)) (now (line .exit)) ⌝ }
+fn add_cell(row: &mut [u32], n: usize, header: Header, cell: Cell, side: u32, number: u32) -> usize
+    requires { ⌜ Ranged header cell × (side ≤ 1) × (number < 64) × (n < 64) × (statesFrom ≤ length (now row))
+        × Low (now row) ⌝ }
+    ensures { λ r. ⌜ Added (one header cell) side number n r (now (row .entry)) (now (row .exit)) ⌝ }
 {
-    if !job::stands(cell.row, row) {
+    if !job::stands(cell.row, side) {
         return n;
     }
-    fill_cell(line, n * search_row::CELL, header, cell, row, number);
+    fill_cell(row, n * search_row::CELL, header, cell, side, number);
     n + 1
 }
 
 // The words of the row's cells, in file order; how many cells it has.
-fn fill_line(line: &mut [u32], job: Job, row: u32) -> usize
-    requires { ⌜ Sound (jobOf job) × (job .count ≤ 64) × (row ≤ 1) × (rowLength ≤ length (now line))
-        × Low (now line) ⌝ }
-    ensures { λ n. ⌜ CellsIn (jobOf job) (sideOf row) (now (line .exit)) n ⌝ }
+fn fill_cells(row: &mut [u32], job: Job, side: u32) -> usize
+    requires { ⌜ Sound (jobOf job) × (job .count ≤ 64) × (side ≤ 1) × (rowLength ≤ length (now row))
+        × Low (now row) ⌝ }
+    ensures { λ n. ⌜ CellsIn (jobOf job) (sideOf side) (now (row .exit)) n ⌝ }
 {
-    let long = line.len();
-    search_lanes::fill(line, 0, long, 0);
+    let long = row.len();
+    search_lanes::fill(row, 0, long, 0);
     let header = job.header;
     let mut n: usize = 0;
     let mut k: usize = 0;
     while k < job.count {
-        n = add_cell(line, n, header, job.cells[k], row, k as u32);
+        n = add_cell(row, n, header, job.cells[k], side, k as u32);
         k += 1;
     }
     n
@@ -199,11 +199,11 @@ fn fill_line(line: &mut [u32], job: Job, row: u32) -> usize
 // ---- the tall cells
 
 // Position p, if its cell is tall; how many there are then.
-fn add_tall(talls: &mut [u32], count: usize, line: &[u32], n: usize, p: usize) -> usize
-    requires { ⌜ (p < n) × (n ≤ 64) × (statesFrom ≤ length (now line)) × TallsUpto (now line) n (now talls) count p ⌝ }
-    ensures { λ r. ⌜ TallsUpto (now (line .entry)) n (now (talls .exit)) r (p + 1) ⌝ }
+fn add_tall(talls: &mut [u32], count: usize, row: &[u32], n: usize, p: usize) -> usize
+    requires { ⌜ (p < n) × (n ≤ 64) × (statesFrom ≤ length (now row)) × TallsUpto (now row) n (now talls) count p ⌝ }
+    ensures { λ r. ⌜ TallsUpto (now (row .entry)) n (now (talls .exit)) r (p + 1) ⌝ }
 {
-    if line[p * search_row::CELL + search_row::TALL] != 1 {
+    if row[p * search_row::CELL + search_row::TALL] != 1 {
         return count;
     }
     talls[count] = p as u32;
@@ -211,15 +211,15 @@ fn add_tall(talls: &mut [u32], count: usize, line: &[u32], n: usize, p: usize) -
 }
 
 // The positions of the tall cells of a row of n cells, in rising order; how many there are.
-fn fill_talls(talls: &mut [u32], line: &[u32], n: usize) -> usize
-    requires { ⌜ (n ≤ 64) × (statesFrom ≤ length (now line)) × (length (tallsIn (now line) n) ≤ length (now talls))
+fn fill_talls(talls: &mut [u32], row: &[u32], n: usize) -> usize
+    requires { ⌜ (n ≤ 64) × (statesFrom ≤ length (now row)) × (length (tallsIn (now row) n) ≤ length (now talls))
         × ((i : ℕ) → getD (now talls) i 0 < 64) ⌝ }
-    ensures { λ r. ⌜ TallWords (now (line .entry)) n (now (talls .exit)) r ⌝ }
+    ensures { λ r. ⌜ TallWords (now (row .entry)) n (now (talls .exit)) r ⌝ }
 {
     let mut count: usize = 0;
     let mut p: usize = 0;
     while p < n {
-        count = add_tall(talls, count, line, n, p);
+        count = add_tall(talls, count, row, n, p);
         p += 1;
     }
     count
@@ -229,7 +229,7 @@ fn fill_talls(talls: &mut [u32], line: &[u32], n: usize) -> usize
 fn put_talls(row: &mut [u32], places: &[u32; 32])
     requires { ⌜ (rowLength ≤ length (now row)) × Low (now row) × (length (now places) ≡ 32)
         × ((i : ℕ) → getD (now places) i 0 < 64) ⌝ }
-    ensures { λ _. ⌜ Written (wordsOf (now (places .entry))) tallsFrom 32 (now (row .entry)) (now (row .exit)) ⌝ }
+    ensures { λ _. ⌜ Written (wordIn (now (places .entry))) tallsFrom 32 (now (row .entry)) (now (row .exit)) ⌝ }
 {
     let mut i: usize = 0;
     while i < 32 {
@@ -253,7 +253,7 @@ pub fn fill_row(row: &mut [u32], job: Job, side: u32) -> Sizes
     requires { ⌜ Sound (jobOf job) × (job .count ≤ 64) × (side ≤ 1) × (rowLength ≤ length (now row)) × Low (now row) ⌝ }
     ensures { λ z. ⌜ RowReady (jobOf job) (sideOf side) (now (row .exit)) z ⌝ }
 {
-    let cells = fill_line(row, job, side);
+    let cells = fill_cells(row, job, side);
     let mut places = [0u32; 32];
     let talls = fill_talls(&mut places, row, cells);
     put_talls(row, &places);

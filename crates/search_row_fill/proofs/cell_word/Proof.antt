@@ -16,7 +16,7 @@ returns : tie.Need-returns
 returns c =
     let k = c .before .before in
     let j = one (k .args .header) (k .args .cell) in
-    (c .own-word .ensures .0 ∙ sym (own-at j (k .args .row) 0 (k .args .number) (k .args .i) (c .before .if1 .taken)), c .own-word .ensures .1)
+    (c .own-word .ensures .0 ∙ sym (own-at j (k .args .side) 0 (k .args .number) (k .args .i) (c .before .if1 .taken)), c .own-word .ensures .1)
 
 shape-word-requires : tie.Need-shape-word-requires
 shape-word-requires c κs = search needs
@@ -25,7 +25,7 @@ returns-2 : tie.Need-returns-2
 returns-2 c =
     let k = c .before .before .before in
     let j = one (k .args .header) (k .args .cell) in (
-      c .shape-word .ensures ∙ sym (shape-at j (k .args .row) 0 (k .args .number) (k .args .i) (omega arith) (omega arith)),
+      c .shape-word .ensures ∙ sym (shape-at j (k .args .side) 0 (k .args .number) (k .args .i) (omega arith) (omega arith)),
       omega (arith, c .shape-word .ensures, shape-low (k .args .header) (k .args .cell) (k .pre .0) (k .args .i)),
     )
 
@@ -36,8 +36,8 @@ returns-3 : tie.Need-returns-3
 returns-3 c =
     let k = c .before .before .before .before in
     let j = one (k .args .header) (k .args .cell) in (
-      c .height-word .ensures ∙ sym (height-at j (k .args .row) 0 (k .args .number) (k .args .i) (k .args .i - 68) (omega arith) (omega arith)),
-      omega (arith, c .height-word .ensures, height-low (k .args .header) (k .args .cell) (k .pre .0) (k .args .row) (k .args .i - 68)),
+      c .height-word .ensures ∙ sym (height-at j (k .args .side) 0 (k .args .number) (k .args .i) (k .args .i - 68) (omega arith) (omega arith)),
+      omega (arith, c .height-word .ensures, height-low (k .args .header) (k .args .cell) (k .pre .0) (k .args .side) (k .args .i - 68)),
     )
 
 returns-4 : tie.Need-returns-4
@@ -45,14 +45,14 @@ unfolding headerOf
 returns-4 c =
     let k = c .before .before .before .before in
     let j = one (k .args .header) (k .args .cell) in
-    (sym (step-at j (k .args .row) 0 (k .args .number) (k .args .i) (c .if4 .taken)), omega (arith, k .pre .0 .step))
+    (sym (step-at j (k .args .side) 0 (k .args .number) (k .args .i) (c .if4 .taken)), omega (arith, k .pre .0 .step))
 
 returns-5 : tie.Need-returns-5
 returns-5 c =
     let mid = c .before .before .before .before in
     let k = mid .before in
     let j = one (k .args .header) (k .args .cell) in
-    (sym (number-at j (k .args .row) 0 (k .args .number) (k .args .i) (c .if5 .taken)), omega arith)
+    (sym (number-at j (k .args .side) 0 (k .args .number) (k .args .i) (c .if5 .taken)), omega arith)
 
 returns-6 : tie.Need-returns-6
 unfolding headerOf
@@ -60,14 +60,14 @@ returns-6 c =
     let mid = c .before .before .before .before in
     let k = mid .before .before in
     let j = one (k .args .header) (k .args .cell) in
-    (sym (filled-at j (k .args .row) 0 (k .args .number) (k .args .i) (c .if6 .taken)), omega (arith, k .pre .0 .step))
+    (sym (filled-at j (k .args .side) 0 (k .args .number) (k .args .i) (c .if6 .taken)), omega (arith, k .pre .0 .step))
 
 returns-7 : tie.Need-returns-7
 returns-7 c =
     let mid = c .before .before .before .before in
     let k = mid .before .before in
     let j = one (k .args .header) (k .args .cell) in
-    (sym (none-at j (k .args .row) 0 (k .args .number) (k .args .i) (omega arith)), omega arith)
+    (sym (none-at j (k .args .side) 0 (k .args .number) (k .args .i) (omega arith)), omega arith)
 
 pub cell-word-spec : {M : Type 1} → statement M
 cell-word-spec =

@@ -11,10 +11,10 @@ use Rattle.search_row_fill.proofs.fill_cell.Statement.{statement}
 use Rattle.search_row_fill.proofs.fill_cell.Tie as tie
 
 abbrev Inv-loop : tie.InvT-loop
-Inv-loop line₀ at header cell row number i₀ line i = (i ≤ 87) × Written (cellWord (one header cell) row 0 number) at i line₀ line
+Inv-loop row₀ at header cell side number i₀ row i = (i ≤ 87) × Written (cellWord (one header cell) side 0 number) at i row₀ row
 
 abbrev μ-loop : tie.MeasureT-loop
-μ-loop line₀ at header cell row number i₀ line i = 87 - i
+μ-loop row₀ at header cell side number i₀ row i = 87 - i
 
 loop-holds : tie.Need-loop-holds Inv-loop μ-loop
 loop-holds c = (omega arith, written-none _ _ (c .before .pre .4))
@@ -27,14 +27,14 @@ cell-word-requires c κs =
     let k = c .before .before .before in
     (k .pre .0, k .pre .1, k .pre .2)
 
-add-line : tie.Need-add-line Inv-loop μ-loop
-add-line c = omega arith
+add-row : tie.Need-add-row Inv-loop μ-loop
+add-row c = omega arith
 
-mul-line : tie.Need-mul-line Inv-loop μ-loop
-mul-line c = omega arith
+mul-row : tie.Need-mul-row Inv-loop μ-loop
+mul-row c = omega arith
 
-slice-write-line : tie.Need-slice-write-line Inv-loop μ-loop
-slice-write-line c = omega (arith, c .before .before .loop .inv .1 .frame .long)
+slice-write-row : tie.Need-slice-write-row Inv-loop μ-loop
+slice-write-row c = omega (arith, c .before .before .loop .inv .1 .frame .long)
 
 add-i : tie.Need-add-i Inv-loop μ-loop
 add-i c = omega arith
@@ -64,9 +64,9 @@ fill-cell-spec =
     loop-holds
     cast-cell-word
     cell-word-requires
-    add-line
-    mul-line
-    slice-write-line
+    add-row
+    mul-row
+    slice-write-row
     add-i
     loop-less
     loop-again

@@ -8,14 +8,14 @@ use Rattle.search_row_fill.specs.Filled.{filled-none, filled-value, rang
 use Rattle.search_row_fill.specs.Filled.{sideOf, Filled}
 use Rattle.job.specs.Cells.{cell-count}
 use Rattle.job.specs.Value.{jobOf}
-use Rattle.search_row_fill.proofs.fill_line.Statement.{statement}
-use Rattle.search_row_fill.proofs.fill_line.Tie as tie
+use Rattle.search_row_fill.proofs.fill_cells.Statement.{statement}
+use Rattle.search_row_fill.proofs.fill_cells.Tie as tie
 
 abbrev Inv-loop : tie.InvT-loop
-Inv-loop line₀ row job long header n₀ k₀ line n k = (length line ≡ length line₀) × Filled (jobOf job) (sideOf row) line n k
+Inv-loop row₀ side job long header n₀ k₀ row n k = (length row ≡ length row₀) × Filled (jobOf job) (sideOf side) row n k
 
 abbrev μ-loop : tie.MeasureT-loop
-μ-loop line₀ row job long header n₀ k₀ line n k = job .count - k
+μ-loop row₀ side job long header n₀ k₀ row n k = job .count - k
 
 -- the array has 64 cells, as its type says, so that the job's cells are as many as it counts
 counted : (s : tie.Start Inv-loop μ-loop) → length (jobOf (s .args .t2) .cells) ≡ s .args .t2 .count
@@ -28,7 +28,7 @@ loop-holds : tie.Need-loop-holds Inv-loop μ-loop
 loop-holds c =
     let after-fill = c .before .before .before in
     let s = after-fill .before .before .before in
-    (refl, filled-none (jobOf (s .args .t2)) (sideOf (s .args .row)) (s .pre .0) (s .pre .3) (after-fill .fill .ensures))
+    (refl, filled-none (jobOf (s .args .t2)) (sideOf (s .args .side)) (s .pre .0) (s .pre .3) (after-fill .fill .ensures))
 
 mul-add-cell : tie.Need-mul-add-cell Inv-loop μ-loop
 mul-add-cell c =
@@ -89,7 +89,7 @@ loop-again c =
     let s = mid .before .before .before .before in
     let l = p .before .loop in
     let h : l .k < length (jobOf (s .args .t2) .cells) = rw (counted s) (p .loop-test .taken) in
-    (omega arith, filled-value (s .args .t2) (l .k) (p .loop-test .taken) h (s .args .row) (s .pre .2) (l .inv .1) (after-add-cell .add-cell .ensures))
+    (omega arith, filled-value (s .args .t2) (l .k) (p .loop-test .taken) h (s .args .side) (s .pre .2) (l .inv .1) (after-add-cell .add-cell .ensures))
 
 same-length : tie.Need-same-length Inv-loop μ-loop
 same-length c =
@@ -105,8 +105,8 @@ returns c =
     let e : p .loop .k ≡ length (jobOf (s .args .t2) .cells) = omega (arith, counted s, c .loop-test .left) in
     rw e at (p .loop .inv .1)
 
-pub fill-line-spec : {M : Type 1} → statement M
-fill-line-spec =
+pub fill-cells-spec : {M : Type 1} → statement M
+fill-cells-spec =
     tie.close
     (tie.spec
     Inv-loop

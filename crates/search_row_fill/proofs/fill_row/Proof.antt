@@ -7,24 +7,24 @@ use Rattle.search_row_fill.specs.Ready.{cells-talls, zeros-small, row-re
 use Rattle.search_row_fill.proofs.fill_row.Statement.{statement}
 use Rattle.search_row_fill.proofs.fill_row.Tie as tie
 
-fill-line-requires : tie.Need-fill-line-requires
-fill-line-requires c κs = search needs
+fill-cells-requires : tie.Need-fill-cells-requires
+fill-cells-requires c κs = search needs
 
 slice-aggregate-fill-talls : tie.Need-slice-aggregate-fill-talls
 slice-aggregate-fill-talls c = search needs
 
 fill-talls-requires : tie.Need-fill-talls-requires
 fill-talls-requires c κs =
-    let after-fill-line = c .before .before .before .before in
-    let k = after-fill-line .before .before .before in
-    let f = after-fill-line .fill-line .ensures in
+    let after-fill-cells = c .before .before .before .before in
+    let k = after-fill-cells .before .before .before in
+    let f = after-fill-cells .fill-cells .ensures in
     let t = cells-talls (k .pre .0) f in
     (t .0, omega (arith, f .long), omega (arith, t .1), zeros-small 32)
 
 put-talls-requires : tie.Need-put-talls-requires
 put-talls-requires c κs =
     let mid = c .before .before .before .before in
-    let f = mid .before .before .before .before .fill-line .ensures in
+    let f = mid .before .before .before .before .fill-cells .ensures in
     (f .long, f .low, omega arith, c .before .before .before .fill-talls .ensures .small)
 
 pose-numbers-requires : tie.Need-pose-numbers-requires
@@ -39,9 +39,9 @@ fill-states-requires c κs =
     let mid = c .before .before .before .before in
     let mid₂ = mid .before .before .before .before in
     let mid₃ = mid₂ .before .before .before .before in
-    let after-fill-line = mid₃ .before .before in
-    let k = after-fill-line .before .before .before in
-    let f = after-fill-line .fill-line .ensures in
+    let after-fill-cells = mid₃ .before .before in
+    let k = after-fill-cells .before .before .before in
+    let f = after-fill-cells .fill-cells .ensures in
     let w = mid .before .put-talls .ensures in
     (omega (arith, f .long, w .frame .long), w .low, omega (arith, k .pre .0 .header .reordering))
 
@@ -57,7 +57,7 @@ returns c =
     let after-fill-talls = after-put-talls .before .before .before .before in
     let mid = after-fill-talls .before .before .before .before in
     let k = mid .before .before .before .before in
-    let f = mid .before .fill-line .ensures in
+    let f = mid .before .fill-cells .ensures in
     let t = after-fill-talls .fill-talls .ensures in
     let w = after-put-talls .put-talls .ensures in
     rw (after-pose-numbers .pose-numbers .ensures)
@@ -67,7 +67,7 @@ pub fill-row-spec : {M : Type 1} → statement M
 fill-row-spec =
     tie.close
     (tie.spec
-    fill-line-requires
+    fill-cells-requires
     slice-aggregate-fill-talls
     fill-talls-requires
     put-talls-requires

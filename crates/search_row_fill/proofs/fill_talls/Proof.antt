@@ -9,10 +9,10 @@ use Rattle.search_row_fill.proofs.fill_talls.Statement.{statement}
 use Rattle.search_row_fill.proofs.fill_talls.Tie as tie
 
 abbrev Inv-loop : tie.InvT-loop
-Inv-loop talls₀ line n count₀ p₀ talls count p = (p ≤ n) × (length talls ≡ length talls₀) × TallsUpto line n talls count p
+Inv-loop talls₀ row n count₀ p₀ talls count p = (p ≤ n) × (length talls ≡ length talls₀) × TallsUpto row n talls count p
 
 abbrev μ-loop : tie.MeasureT-loop
-μ-loop talls₀ line n count₀ p₀ talls count p = n - p
+μ-loop talls₀ row n count₀ p₀ talls count p = n - p
 
 loop-holds : tie.Need-loop-holds Inv-loop μ-loop
 loop-holds c = (omega arith, refl, talls-none (c .before .before .pre .2) (c .before .before .pre .3))

@@ -14,7 +14,7 @@ is-offered-requires c κs = search needs
 returns : tie.Need-returns
 returns c =
     let k = c .before .before in (
-      own-none (k .args .header) (k .args .cell) (k .args .row) (k .args .a)
+      own-none (k .args .header) (k .args .cell) (k .args .side) (k .args .a)
           (sym (c .before .is-offered .ensures) ∙ not-true (c .before .is-offered .result) (c .if1 .taken)),
       lit≤ tt,
     )
@@ -26,13 +26,13 @@ returns-2 : tie.Need-returns-2
 returns-2 c =
     let k = c .before .before .before .before in
     let o = sym (c .before .before .before .is-offered .ensures) ∙ not-false (c .before .before .before .is-offered .result) (c .before .before .if1 .left) in
-    (own-there (k .args .header) (k .args .cell) (k .args .row) (k .args .a) o (sym (c .before .counts-there .ensures) ∙ c .if2 .taken), lit≤ tt)
+    (own-there (k .args .header) (k .args .cell) (k .args .side) (k .args .a) o (sym (c .before .counts-there .ensures) ∙ c .if2 .taken), lit≤ tt)
 
 pose-cost-requires : tie.Need-pose-cost-requires
 pose-cost-requires c κs =
     let k = c .before .before .before .before in
     let o = sym (c .before .before .before .is-offered .ensures) ∙ not-false (c .before .before .before .is-offered .result) (c .before .before .if1 .left) in
-    (k .pre .0, k .pre .1, offered-right (k .args .header) (k .args .cell) (k .args .row) (k .args .a) o)
+    (k .pre .0, k .pre .1, offered-right (k .args .header) (k .args .cell) (k .args .side) (k .args .a) o)
 
 returns-3 : tie.Need-returns-3
 returns-3 c =
@@ -40,7 +40,7 @@ returns-3 c =
     let k = e .before .before .before .before in
     let o = sym (e .before .before .before .is-offered .ensures) ∙ not-false (e .before .before .before .is-offered .result) (e .before .before .if1 .left) in (
       c .pose-cost .ensures .0
-          ∙ own-here (k .args .header) (k .args .cell) (k .args .row) (k .args .a) o (sym (e .before .counts-there .ensures) ∙ e .if2 .left),
+          ∙ own-here (k .args .header) (k .args .cell) (k .args .side) (k .args .a) o (sym (e .before .counts-there .ensures) ∙ e .if2 .left),
       omega (arith, c .pose-cost .ensures),
     )
 
