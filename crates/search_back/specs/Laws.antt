@@ -1,13 +1,13 @@
 -- Laws of the trace: a case's way gives what both rows are to be traced by, and the case to go on from;
 -- later traces keep the places already noted.
-use Prim.Native.Nat.{ℕ, suc, _+_, _/_, _%_, _≤_, _<_}
+use Prim.Native.Nat.{ℕ, suc, _+_, _≤_, _<_}
 use mathlib.Core.Path.{_≡_, refl, sym, ap, _∙_, subst}
 use mathlib.Core.Logic.{inl, inr}
 use mathlib.Core.List.{List}
 use native.Mathlib.Omega.{arith}
 use native.Mathlib.Decide.{decLt}
 use lib.ListN.{length}
-use Rattle.search_store.specs.Map.{pointerAt, Pages, pagesFrom}
+use Rattle.search_store.specs.Map.{pointerAt, pagesFrom}
 use Rattle.search_row.specs.declared.Sizes.{Sizes}
 use Rattle.search_row.specs.Words.{deckIn, posIn, withCells, RowGiven}
 use Rattle.theory_tables.specs.Steps.{B, Deck, Layer, stateCount}
@@ -17,13 +17,13 @@ use Rattle.theory_tables.specs.Notes.{NotedBy, stage-words}
 use Rattle.search_lanes.specs.Laws.{frame-refl, frame-join}
 use Rattle.search_lanes.specs.Store.{Frame, Low}
 use Rattle.search_store.specs.Places.{case-above}
-use Rattle.search_join.specs.Tables.{pointersIn, Way}
+use Rattle.search_join.specs.Tables.{caseState₀, caseState₁, casePose, pointersIn, Way}
 use Rattle.search_stage.specs.Stage.{wide, StagesGiven}
 use Rattle.search_stage.specs.Laws.{wide-all, wide-last, given-states, given-wide}
 use Rattle.search_back_segment.specs.Traces.{wordAt}
 use Rattle.search_back_stage.specs.Rows.{startCells, startLayer, startEnd, endPlace, Stage, StageDone}
 use Rattle.search_back_stage.specs.Laws.{end-tall, end-last}
-use Rattle.search_back.specs.Trace.{Ways, Leg, Trace, LegDone, TraceDone}
+use Rattle.search_back.specs.Trace.{PointerRoom, Ways, LegGiven, Trace, LegDone, TraceDone}
 
 -- ---- one row
 
@@ -77,7 +77,7 @@ row-stage {z = z} {I = I} g w l r i s p x y =
 -- ---- one stage of both rows
 
 module _ {row₀ row₁ st path₀ path₁ : List ℕ} {z : Sizes} {n₁ I s t l q₀ q₁ a : ℕ}
-    (g : Leg row₀ row₁ st path₀ path₁ z n₁ I s t l q₀ q₁ a) where
+    (g : LegGiven row₀ row₁ st path₀ path₁ z n₁ I s t l q₀ q₁ a) where
   pub leg-row₀ : Stage row₀ st path₀ z I s l q₀ a
   leg-row₀ =
       row-stage (g .both .given .given₀) (g .both .given .low) (omega (arith, g .both .given .long)) (g .both .room₀)
@@ -111,7 +111,7 @@ module _ {row₀ row₁ st path₀ path₁ : List ℕ} {z : Sizes} {n₁ I q₀ 
   trace-at K e = subst (λ (k : ℕ). Trace row₀ row₁ st path₀ path₁ z n₁ k q₀ q₁ a) e g
 
   -- the case's back pointer is in the store
-  pub pointer-room : (I ≤ 24) × (q₀ < 12) × (q₁ < 12) × (a < 64) × Pages (q₀ + 1) st
+  pub pointer-room : PointerRoom I q₀ q₁ a st
   pointer-room =
       let v = g .both .given in
       let p = given-states v in
@@ -120,9 +120,15 @@ module _ {row₀ row₁ st path₀ path₁ : List ℕ} {z : Sizes} {n₁ I q₀ 
       let e : wide (z .talls) (suc I) (stateCount (z .reordering)) ≡ wide (z .talls) (suc I) (z .states) =
       ap (wide (z .talls) (suc I)) (sym n) in
       let c = g .case in
-      (omega (arith, g .stage), omega arith, omega arith, omega arith, omega (arith, w .2))
+      record {
+        stage = omega (arith, g .stage);
+        state₀ = omega arith;
+        state₁ = omega arith;
+        pose = omega arith;
+        page = omega (arith, w .2);
+      }
 
-  pub open-leg : I ≡ 0 → Leg row₀ row₁ st path₀ path₁ z n₁ 0 0 0 0 q₀ q₁ a
+  pub open-leg : I ≡ 0 → LegGiven row₀ row₁ st path₀ path₁ z n₁ 0 0 0 0 q₀ q₁ a
   open-leg e =
       let h = trace-at 0 e in
       record {
@@ -197,16 +203,17 @@ module _ {row₀ row₁ st path₀ path₁ : List ℕ} {z : Sizes} {n₁ I q₀ 
       rw z (k .0 .way J q₀ q₁ a (omega (arith, h .stage)) (h .case) (k .1))
 
   costs : Known → (caseTable D₀ D₁ (z .reordering) (z .talls) (posIn row₀) (posIn row₁) J
-      (code / 768) (code % 768 / 64) (code % 64) < B)
-      × (stageCost D₀ (z .reordering) (z .talls) (posIn row₀) J (code / 768) (code % 64) q₀ a < B)
-      × (stageCost D₁ (z .reordering) (z .talls) (posIn row₁) J (code % 768 / 64) (code % 64) q₁ a < B)
+      (caseState₀ code) (caseState₁ code) (casePose code) < B)
+      × (stageCost D₀ (z .reordering) (z .talls) (posIn row₀) J (caseState₀ code) (casePose code) q₀ a < B)
+      × (stageCost D₁ (z .reordering) (z .talls) (posIn row₁) J (caseState₁ code) (casePose code) q₁ a < B)
   costs k =
       let l = k .1 in
       let s = way k .sum in
       (omega arith, omega arith, omega arith)
 
   -- a code that stands for no case: there is no way
-  pub stray-done : ((code / 768 < (z .states)) → (code % 768 / 64 < (z .states)) → (code % 64 < (z .poses)) → ⊥)
+  pub stray-done :
+      (caseState₀ code < z .states → caseState₁ code < z .states → casePose code < z .poses → ⊥)
       → TraceDone D₀ D₁ (z .reordering) (z .talls) (posIn row₀) (posIn row₁) I q₀ q₁ a st st path₀ path₀ path₁ path₁
   stray-done z =
       let all = g .both .given .given₀ .ground .all in
@@ -218,8 +225,9 @@ module _ {row₀ row₁ st path₀ path₁ : List ℕ} {z : Sizes} {n₁ I q₀ 
         done = λ x y. let w = way (x, y) in absurd (z (omega (arith, w .state₀)) (omega (arith, w .state₁)) (w .lane));
       }
 
-  module _ (in₀ : code / 768 < (z .states)) (in₁ : code % 768 / 64 < (z .states)) (inl′ : code % 64 < (z .poses)) where
-    pub back-leg : Leg row₀ row₁ st path₀ path₁ z n₁ I (code / 768) (code % 768 / 64) (code % 64) q₀ q₁ a
+  module _ (in₀ : caseState₀ code < z .states) (in₁ : caseState₁ code < z .states)
+      (inl′ : casePose code < z .poses) where
+    pub back-leg : LegGiven row₀ row₁ st path₀ path₁ z n₁ I (caseState₀ code) (caseState₁ code) (casePose code) q₀ q₁ a
     back-leg =
         let all = g .both .given .given₀ .ground .all in
         record {
@@ -233,9 +241,9 @@ module _ {row₀ row₁ st path₀ path₁ : List ℕ} {z : Sizes} {n₁ I q₀ 
 
     module _ {mid mid₀ mid₁ : List ℕ}
         (d : LegDone (deckIn row₀ z) (deckIn row₁ (withCells z n₁)) (z .reordering) (z .talls) (posIn row₀)
-        (posIn row₁) I (code / 768) (code % 768 / 64) (code % 64) q₀ q₁ a st mid path₀ mid₀ path₁ mid₁) where
+        (posIn row₁) I (caseState₀ code) (caseState₁ code) (casePose code) q₀ q₁ a st mid path₀ mid₀ path₁ mid₁) where
       -- the case to go on from
-      pub back-rest : Trace row₀ row₁ mid mid₀ mid₁ z n₁ J (code / 768) (code % 768 / 64) (code % 64)
+      pub back-rest : Trace row₀ row₁ mid mid₀ mid₁ z n₁ J (caseState₀ code) (caseState₁ code) (casePose code)
       back-rest =
           let h : J < z .talls = omega (arith, g .stage) in
           let all = g .both .given .given₀ .ground .all in
@@ -260,14 +268,14 @@ module _ {row₀ row₁ st path₀ path₁ : List ℕ} {z : Sizes} {n₁ I q₀ 
 
       pub back-done : {new new₀ new₁ : List ℕ}
           → TraceDone (deckIn row₀ z) (deckIn row₁ (withCells z n₁)) (z .reordering) (z .talls) (posIn row₀)
-          (posIn row₁) J (code / 768) (code % 768 / 64) (code % 64) mid new mid₀ new₀ mid₁ new₁
+          (posIn row₁) J (caseState₀ code) (caseState₁ code) (casePose code) mid new mid₀ new₀ mid₁ new₁
           → TraceDone (deckIn row₀ z) (deckIn row₁ (withCells z n₁)) (z .reordering) (z .talls) (posIn row₀)
           (posIn row₁) I q₀ q₁ a st new path₀ new₀ path₁ new₁
       unfolding stageCost startLayer startCells startEnd
       back-done {new} {new₀} {new₁} r =
-          let s = code / 768 in
-          let t = code % 768 / 64 in
-          let l = code % 64 in
+          let s = caseState₀ code in
+          let t = caseState₁ code in
+          let l = casePose code in
           let h : J < z .talls = omega (arith, g .stage) in
           let u = subst (λ (k : ℕ). LegDone D₀ D₁ (z .reordering) (z .talls) (posIn row₀)
           (posIn row₁) k s t l q₀ q₁ a st mid path₀ mid₀ path₁ mid₁) e d in

@@ -1,9 +1,9 @@
 -- The trace: from the last case table's one case back over the back pointers, both rows traced stage by stage.
-use Prim.Native.Nat.{ℕ, suc, _≤_, _<_}
+use Prim.Native.Nat.{ℕ, suc, _+_, _≤_, _<_}
 use mathlib.Core.Path.{_≡_}
 use mathlib.Core.List.{List}
 use lib.ListN.{length}
-use Rattle.search_store.specs.Map.{pagesFrom}
+use Rattle.search_store.specs.Map.{Pages, pagesFrom}
 use Rattle.search_row.specs.Words.{deckIn, posIn, withCells}
 use Rattle.search_row.specs.declared.Sizes.{Sizes}
 use Rattle.theory_tables.specs.Steps.{B, Deck, stateCount}
@@ -19,14 +19,22 @@ use Rattle.search_back_stage.specs.Rows.{startCells, startLayer, startEnd, cost
 -- ---- what is given
 
 -- a case of stage I
-pub record Case (R talls poses I q₀ q₁ a : ℕ) : Type 0 where
+pub record CaseOf (R talls poses I q₀ q₁ a : ℕ) : Type 0 where
   pub state₀ : q₀ < wide talls (suc I) (stateCount R)
   pub state₁ : q₁ < wide talls (suc I) (stateCount R)
   pub pose : a < wide talls (suc I) poses
 
+-- its back pointer is in the store
+pub record PointerRoom (I q₀ q₁ a : ℕ) (st : List ℕ) : Type 0 where
+  pub stage : I ≤ 24
+  pub state₀ : q₀ < 12
+  pub state₁ : q₁ < 12
+  pub pose : a < 64
+  pub page : Pages (q₀ + 1) st
+
 -- the back pointers: a way to each case after the first tall cell's, where it is below B
 pub record Ways (D₀ D₁ : Deck) (R talls : ℕ) (pos₀ pos₁ : ℕ → ℕ) (st : List ℕ) : Type 0 where
-  pub way : (I q₀ q₁ a : ℕ) → I < talls → Case R talls (D₀ .poses) (suc I) q₀ q₁ a
+  pub way : (I q₀ q₁ a : ℕ) → I < talls → CaseOf R talls (D₀ .poses) (suc I) q₀ q₁ a
       → caseTable D₀ D₁ R talls pos₀ pos₁ (suc I) q₀ q₁ a < B
       → Way
       (stateCount R)
@@ -52,19 +60,19 @@ pub record Both (row₀ row₁ st path₀ path₁ : List ℕ) (z : Sizes) (n₁ 
   pub room₁ : 67 ≤ length path₁
 
 -- stage I to the case (q₀, q₁, a), from tall cell I - 1 as the states s and t in pose l
-pub record Leg (row₀ row₁ st path₀ path₁ : List ℕ) (z : Sizes) (n₁ I s t l q₀ q₁ a : ℕ) : Type 0 where
+pub record LegGiven (row₀ row₁ st path₀ path₁ : List ℕ) (z : Sizes) (n₁ I s t l q₀ q₁ a : ℕ) : Type 0 where
   pub both : Both row₀ row₁ st path₀ path₁ z n₁
   pub stage : I ≤ z .talls
   pub state₀ : 0 < I → s < stateCount (z .reordering)
   pub state₁ : 0 < I → t < stateCount (z .reordering)
   pub pose : 0 < I → l < z .poses
-  pub case : Case (z .reordering) (z .talls) (z .poses) I q₀ q₁ a
+  pub case : CaseOf (z .reordering) (z .talls) (z .poses) I q₀ q₁ a
 
 -- a case of stage I
 pub record Trace (row₀ row₁ st path₀ path₁ : List ℕ) (z : Sizes) (n₁ I q₀ q₁ a : ℕ) : Type 0 where
   pub both : Both row₀ row₁ st path₀ path₁ z n₁
   pub stage : I ≤ z .talls
-  pub case : Case (z .reordering) (z .talls) (z .poses) I q₀ q₁ a
+  pub case : CaseOf (z .reordering) (z .talls) (z .poses) I q₀ q₁ a
 
 -- ---- what is left
 

@@ -1,18 +1,28 @@
 // The trace: from the last case table's one case back over the back pointers, both rows traced stage by stage.
 ghost use mathlib.Core.Path.{_≡_};
 ghost use Prim.Native.Nat.{suc, _+_, _≤_, _<_};
-ghost use Rattle.search_store.specs.Map.{Pages};
 ghost use Rattle.search_join.specs.Tables.{pointersIn};
-ghost use Rattle.search_back.specs.Trace.{Leg, Trace, RowsLeg, RowsTrace};
+ghost use Rattle.search_back.specs.Trace.{PointerRoom, LegGiven, Trace, RowsLeg, RowsTrace};
 ghost use Rattle.search_back.specs.Scatter.{Given, Scattered};
+use search_join::Case;
 use search_row::Sizes;
 
-// The back pointer of the case (q0, q1, a) of stage i.
-fn pointer(store: &[u32], i: usize, q0: usize, q1: usize, a: usize) -> usize
-    requires { ⌜ (i ≤ 24) × (q0 < 12) × (q1 < 12) × (a < 64) × Pages (q0 + 1) (now store) ⌝ }
-    ensures { λ t. ⌜ t ≡ pointersIn (now (store .entry)) (suc i) q0 q1 a ⌝ }
+// A stage in both rows: from the tall cell before it, as a case, to a case of its own.
+struct Leg {
+    stage: usize,
+    from: Case,
+    to: Case,
+}
+
+// The back pointer of a case of stage i.
+fn pointer(store: &[u32], i: usize, case: Case) -> usize
+    requires { ⌜ PointerRoom i (case .q0) (case .q1) (case .pose) (now store) ⌝ }
+    ensures { λ t. ⌜ t ≡ pointersIn (now (store .entry)) (suc i) (case .q0) (case .q1) (case .pose) ⌝ }
 {
-    search_row::word(store, search_store::pointer_at(i + 1, q0, q1) + a)
+    search_row::word(
+        store,
+        search_store::pointer_at(i + 1, case.q0, case.q1) + case.pose,
+    )
 }
 
 // Both rows through one stage; row 1 has so many cells.
@@ -24,30 +34,24 @@ fn both_trace(
     row1: &[u32],
     sizes: Sizes,
     cells1: usize,
-    i: usize,
-    s: usize,
-    t: usize,
-    l: usize,
-    q0: usize,
-    q1: usize,
-    a: usize,
+    leg: Leg,
 )
-    requires { ⌜ Leg (now row0) (now row1) (now store) (now path0) (now path1) sizes cells1 i s t l q0 q1 a ⌝ }
-    ensures { λ _. ⌜ RowsLeg (now (row0 .entry)) (now (row1 .entry)) sizes cells1 i s t l q0 q1 a (now (store .entry))
+    requires { ⌜ LegGiven (now row0) (now row1) (now store) (now path0) (now path1) sizes cells1 (leg .stage)
+        (leg .from .q0) (leg .from .q1) (leg .from .pose) (leg .to .q0) (leg .to .q1) (leg .to .pose) ⌝ }
+    ensures { λ _. ⌜ RowsLeg (now (row0 .entry)) (now (row1 .entry)) sizes cells1 (leg .stage) (leg .from .q0)
+        (leg .from .q1) (leg .from .pose) (leg .to .q0) (leg .to .q1) (leg .to .pose) (now (store .entry))
         (now (store .exit)) (now (path0 .entry)) (now (path0 .exit)) (now (path1 .entry)) (now (path1 .exit)) ⌝ }
 {
-    let sizes1 = Sizes {
-        cells: cells1,
-        poses: sizes.poses,
-        reordering: sizes.reordering,
-        states: sizes.states,
-        talls: sizes.talls,
-    };
-    search_back_stage::stage_trace(store, path0, row0, sizes, i, s, l, q0, a);
-    search_back_stage::stage_trace(store, path1, row1, sizes1, i, t, l, q1, a);
+    let from = leg.from;
+    let to = leg.to;
+    let l = from.pose;
+    let a = to.pose;
+    let sizes1 = search_row::with_cells(sizes, cells1);
+    search_back_stage::stage_trace(store, path0, row0, sizes, leg.stage, from.q0, l, to.q0, a);
+    search_back_stage::stage_trace(store, path1, row1, sizes1, leg.stage, from.q1, l, to.q1, a);
 }
 
-// From the case (q0, q1, a) of stage i back to the start of both rows; no further where a pointer stands for no case.
+// From a case of stage i back to the start of both rows; no further where a pointer stands for no case.
 fn trace_from(
     store: &mut [u32],
     path0: &mut [u32],
@@ -57,75 +61,50 @@ fn trace_from(
     sizes: Sizes,
     cells1: usize,
     i: usize,
-    q0: usize,
-    q1: usize,
-    a: usize,
+    case: Case,
 )
-    requires { ⌜ Trace (now row0) (now row1) (now store) (now path0) (now path1) sizes cells1 i q0 q1 a ⌝ }
-    ensures { λ _. ⌜ RowsTrace (now (row0 .entry)) (now (row1 .entry)) sizes cells1 i q0 q1 a (now (store .entry))
-        (now (store .exit)) (now (path0 .entry)) (now (path0 .exit)) (now (path1 .entry)) (now (path1 .exit)) ⌝ }
+    requires { ⌜ Trace (now row0) (now row1) (now store) (now path0) (now path1) sizes cells1 i (case .q0) (case .q1)
+        (case .pose) ⌝ }
+    ensures { λ _. ⌜ RowsTrace (now (row0 .entry)) (now (row1 .entry)) sizes cells1 i (case .q0) (case .q1) (case .pose)
+        (now (store .entry)) (now (store .exit)) (now (path0 .entry)) (now (path0 .exit)) (now (path1 .entry))
+        (now (path1 .exit)) ⌝ }
 {
     if i == 0 {
-        both_trace(
-            store,
-            path0,
-            path1,
-            row0,
-            row1,
-            sizes,
-            cells1,
-            0,
-            0,
-            0,
-            0,
-            q0,
-            q1,
-            a,
-        );
+        let start = Case {
+            q0: 0,
+            q1: 0,
+            pose: 0,
+        };
+        let leg = Leg {
+            stage: 0,
+            from: start,
+            to: case,
+        };
+        both_trace(store, path0, path1, row0, row1, sizes, cells1, leg);
         return;
     }
-    let c = pointer(store, i, q0, q1, a);
-    let s = c / 768;
-    let t = c % 768 / 64;
-    let l = c % 64;
-    if s >= sizes.states {
+    let c = pointer(store, i, case);
+    let from = Case {
+        q0: c / search_store::POINTER_ROW_0,
+        q1: c % search_store::POINTER_ROW_0 / search_store::POINTER_ROW_1,
+        pose: c % search_store::POINTER_ROW_1,
+    };
+    if from.q0 >= sizes.states {
         return;
     }
-    if t >= sizes.states {
+    if from.q1 >= sizes.states {
         return;
     }
-    if l >= sizes.poses {
+    if from.pose >= sizes.poses {
         return;
     }
-    both_trace(
-        store,
-        path0,
-        path1,
-        row0,
-        row1,
-        sizes,
-        cells1,
-        i,
-        s,
-        t,
-        l,
-        q0,
-        q1,
-        a,
-    );
-    trace_from(
-        store,
-        path0,
-        path1,
-        row0,
-        row1,
-        sizes,
-        cells1,
-        i - 1,
-        s,
-        t,
-        l,
-    );
+    let leg = Leg {
+        stage: i,
+        from,
+        to: case,
+    };
+    both_trace(store, path0, path1, row0, row1, sizes, cells1, leg);
+    trace_from(store, path0, path1, row0, row1, sizes, cells1, i - 1, from);
 }
 
 // From the least cost of all.
@@ -143,6 +122,11 @@ pub fn trace(
         (now (store .entry)) (now (store .exit)) (now (path0 .entry)) (now (path0 .exit)) (now (path1 .entry))
         (now (path1 .exit)) ⌝ }
 {
+    let last = Case {
+        q0: 0,
+        q1: 0,
+        pose: 0,
+    };
     trace_from(
         store,
         path0,
@@ -152,9 +136,7 @@ pub fn trace(
         sizes,
         cells1,
         sizes.talls,
-        0,
-        0,
-        0,
+        last,
     );
 }
 

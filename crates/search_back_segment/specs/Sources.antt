@@ -71,15 +71,15 @@ module _ (D : Deck) (R : ℕ) (f : Layer) (i q a : ℕ) where
       go false x l = absurd (omega arith)
 
 -- a search over a state's poses, which are all or none
-pub poses-first : (st line : List ℕ) (n poses R i q a p want : ℕ) {at k m r : ℕ}
-    → isSource (deckOf line n poses) R i q p ≡ true → at ≡ keptAt i + p * 64 → k ≡ lastAt R i p → m ≡ lastAt R (suc i) q
-    → First (fromPose st line at k m a) poses want r
-    → First (fromState (deckOf line n poses) R (keptIn st i) i q a p) poses want r
-poses-first st line n poses R i q a p want {at} {k} {m} {r} s x y z w =
+pub poses-first : (st row : List ℕ) (n poses R i q a p want : ℕ) {at k m r : ℕ}
+    → isSource (deckOf row n poses) R i q p ≡ true → at ≡ keptAt i + p * 64 → k ≡ lastAt R i p → m ≡ lastAt R (suc i) q
+    → First (fromPose st row at k m a) poses want r
+    → First (fromState (deckOf row n poses) R (keptIn st i) i q a p) poses want r
+poses-first st row n poses R i q a p want {at} {k} {m} {r} s x y z w =
     record { upto = w .upto; hit = λ h. same r ∙ w .hit h; miss = λ b h e. w .miss b h (sym (same b) ∙ e) }
   where
-    same : (b : ℕ) → fromState (deckOf line n poses) R (keptIn st i) i q a p b ≡ fromPose st line at k m a b
-    same b = state-in (deckOf line n poses) R (keptIn st i) i q a p b s ∙ rw (x, y, z) refl
+    same : (b : ℕ) → fromState (deckOf row n poses) R (keptIn st i) i q a p b ≡ fromPose st row at k m a b
+    same b = state-in (deckOf row n poses) R (keptIn st i) i q a p b s ∙ rw (x, y, z) refl
 
 pub poses-none : (D : Deck) (R : ℕ) (f : Layer) (i q a p want : ℕ) → isSource D R i q p ≡ false → want < B
     → First (fromState D R f i q a p) (D .poses) want (D .poses)

@@ -32,7 +32,7 @@ pub record LeastOf (h : ℕ → ℕ) (n best code : ℕ) : Type 0 where
 
 -- by way of pose b, whose word is the b-th from `at` on, of the cell at position k, to pose a of position m
 abbrev pub fromPose : List ℕ → List ℕ → ℕ → ℕ → ℕ → ℕ → ℕ → ℕ
-fromPose st line at k m a b = getD st (at + b) 0 + tollIn line k b m a
+fromPose st row at k m a b = getD st (at + b) 0 + tollIn row k b m a
 
 -- by way of state p in pose b of the layer f, which has i cells, to state q in pose a; B if that is no source
 unfoldable pub fromState : Deck → ℕ → Layer → ℕ → ℕ → ℕ → ℕ → ℕ → ℕ

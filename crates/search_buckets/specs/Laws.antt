@@ -133,75 +133,75 @@ bucket-low other gap v h g = go (eqb gap 0)
 
 -- ---- one source by its words
 
-module _ (line : List ℕ) (k b m : ℕ) where
+module _ (row : List ℕ) (k b m : ℕ) where
   -- what is paid in the buckets of gap 0, in those of the other gaps, and in bucket 0
   pub pay-touching : (v : ℕ) → 1 ≤ v → v < 5
-      → payIn line k b m v ≡ wordOf line m touchingWord * differIn line k b m (v - 1)
+      → payIn row k b m v ≡ wordOf row m touchingWord * differIn row k b m (v - 1)
   unfolding payIn
   pay-touching v h g = rw (le-ltb v 1 h, lt-ltb v 5 g)
 
-  pub pay-apart : (v : ℕ) → 5 ≤ v → payIn line k b m v ≡ wordOf line m apartWord * differIn line k b m (v - 5)
+  pub pay-apart : (v : ℕ) → 5 ≤ v → payIn row k b m v ≡ wordOf row m apartWord * differIn row k b m (v - 5)
   unfolding payIn
   pay-apart v h = rw (le-ltb v 1 (omega arith), le-ltb v 5 h)
 
-  pub pay-none : payIn line k b m 0 ≡ 0
+  pub pay-none : payIn row k b m 0 ≡ 0
   unfolding payIn
   pay-none = refl
 
   -- by variants
-  pub pay-same : (v : ℕ) → payIn line k (variant b) m v ≡ payIn line k b m v
+  pub pay-same : (v : ℕ) → payIn row k (variant b) m v ≡ payIn row k b m v
   unfolding payIn
   pay-same v =
       let e : variant (variant b) ≡ variant b = omega arith in
       ap (λ (u : ℕ). cond (ltb v 1) 0 (cond (ltb v 5)
-      (wordOf line m touchingWord * differBy u (v - 1)) (wordOf line m apartWord * differBy u (v - 5)))) e
+      (wordOf row m touchingWord * differBy u (v - 1)) (wordOf row m apartWord * differBy u (v - 5)))) e
     where
       differBy : ℕ → ℕ → ℕ
       differBy u a =
-          cond (eqb (wordOf line k (76 + u)) (wordOf line m (68 + variant a))) 0 1
-          + cond (eqb (wordOf line k (80 + u)) (wordOf line m (72 + variant a))) 0 1
+          cond (eqb (wordOf row k (76 + u)) (wordOf row m (68 + variant a))) 0 1
+          + cond (eqb (wordOf row k (80 + u)) (wordOf row m (72 + variant a))) 0 1
 
   -- what pose a of m pays at a gap is what is paid in its bucket of that gap
-  pay-bucket : (gap a : ℕ) → payIn line k b m (bucketIn 5 gap (a % 4)) ≡ weightIn line m gap * differIn line k b m a
+  pay-bucket : (gap a : ℕ) → payIn row k b m (bucketIn 5 gap (a % 4)) ≡ weightIn row m gap * differIn row k b m a
   pay-bucket gap a = go (eqb gap 0)
     where
-      vary : (v : ℕ) → variant v ≡ variant a → differIn line k b m v ≡ differIn line k b m a
+      vary : (v : ℕ) → variant v ≡ variant a → differIn row k b m v ≡ differIn row k b m a
       vary v e =
-          ap (λ (u : ℕ). cond (eqb (wordOf line k (76 + variant b)) (wordOf line m (68 + u))) 0 1
-          + cond (eqb (wordOf line k (80 + variant b)) (wordOf line m (72 + u))) 0 1) e
+          ap (λ (u : ℕ). cond (eqb (wordOf row k (76 + variant b)) (wordOf row m (68 + u))) 0 1
+          + cond (eqb (wordOf row k (80 + variant b)) (wordOf row m (72 + u))) 0 1) e
 
-      go : (z : Bool) → payIn line k b m (cond z (1 + a % 4) (5 + a % 4))
-          ≡ cond z (wordOf line m touchingWord) (wordOf line m apartWord) * differIn line k b m a
+      go : (z : Bool) → payIn row k b m (cond z (1 + a % 4) (5 + a % 4))
+          ≡ cond z (wordOf row m touchingWord) (wordOf row m apartWord) * differIn row k b m a
       go true = pay-touching (1 + a % 4) (omega arith) (omega arith)
-          ∙ ap (λ (d : ℕ). wordOf line m touchingWord * d) (vary (1 + a % 4 - 1) (omega arith))
+          ∙ ap (λ (d : ℕ). wordOf row m touchingWord * d) (vary (1 + a % 4 - 1) (omega arith))
       go false = pay-apart (5 + a % 4) (omega arith)
-          ∙ ap (λ (d : ℕ). wordOf line m apartWord * d) (vary (5 + a % 4 - 5) (omega arith))
+          ∙ ap (λ (d : ℕ). wordOf row m apartWord * d) (vary (5 + a % 4 - 5) (omega arith))
 
   -- one weight for all gaps: the buckets of the other gaps are those of gap 0
-  pub pay-twin : (v : ℕ) → v < 4 → wordOf line m touchingWord ≡ wordOf line m apartWord
-      → payIn line k b m (5 + v) ≡ payIn line k b m (1 + v)
+  pub pay-twin : (v : ℕ) → v < 4 → wordOf row m touchingWord ≡ wordOf row m apartWord
+      → payIn row k b m (5 + v) ≡ payIn row k b m (1 + v)
   pay-twin v h e =
       let x : 5 + v - 5 ≡ 1 + v - 1 = omega arith in
       pay-apart (5 + v) (omega arith)
-      ∙ ap₂ (λ (w u : ℕ). w * differIn line k b m u) (sym e) x
+      ∙ ap₂ (λ (w u : ℕ). w * differIn row k b m u) (sym e) x
       ∙ sym (pay-touching (1 + v) (omega arith) (omega arith))
 
-  pub pay-small : (v : ℕ) → RowWords line → payIn line k b m v ≤ B
+  pub pay-small : (v : ℕ) → RowWords row → payIn row k b m v ≤ B
   pay-small v w = go (decLt v 1) (decLt v 5)
     where
-      go : Dec (v < 1) → Dec (v < 5) → payIn line k b m v ≤ B
+      go : Dec (v < 1) → Dec (v < 5) → payIn row k b m v ≤ B
       go (yes h) g = let e : v ≡ 0 = omega arith in rw e (omega (arith, pay-none))
       go (no h) (yes g) =
-          omega (arith, pay-touching v (omega arith) g, pay-low (w .weight m) (differ-low line k b m (v - 1)))
-      go (no h) (no g) = omega (arith, pay-apart v (omega arith), pay-low (w .filled m) (differ-low line k b m (v - 5)))
+          omega (arith, pay-touching v (omega arith) g, pay-low (w .weight m) (differ-low row k b m (v - 1)))
+      go (no h) (no g) = omega (arith, pay-apart v (omega arith), pay-low (w .filled m) (differ-low row k b m (v - 5)))
 
-pub found-one : (line : List ℕ) (k b m a c : ℕ) → min (c + tollIn line k b m a) B ≡ found (onePose line k m b c) a
+pub found-one : (row : List ℕ) (k b m a c : ℕ) → min (c + tollIn row k b m a) B ≡ found (onePose row k m b c) a
 unfolding tollIn found endRow
-found-one line k b m a c =
-    found-toll (wordOf line m givenWord) (a / 4) (endIn line k b) c (λ gap. weightIn line m gap * differIn line k b m a)
-    (λ gap. onePose line k m b c (bucketIn 5 gap (a % 4))) (onePose line k m b c 0)
-    (λ gap t. ap (λ (z : ℕ). inRow (endRow line k b m) t (c + z)) (pay-bucket line k b m gap a))
-    (λ t. ap (λ (z : ℕ). inRow (endRow line k b m) t z) (let e = pay-none line k b m in omega arith))
+found-one row k b m a c =
+    found-toll (wordOf row m givenWord) (a / 4) (endIn row k b) c (λ gap. weightIn row m gap * differIn row k b m a)
+    (λ gap. onePose row k m b c (bucketIn 5 gap (a % 4))) (onePose row k m b c 0)
+    (λ gap t. ap (λ (z : ℕ). inRow (endRow row k b m) t (c + z)) (pay-bucket row k b m gap a))
+    (λ t. ap (λ (z : ℕ). inRow (endRow row k b m) t z) (let e = pay-none row k b m in omega arith))
 
 -- ---- many sources
 
@@ -229,23 +229,23 @@ found-if true bucket a = refl
 found-if false bucket a = sym (found-none a)
 
 -- by way of all poses of a cell
-via-found : (line : List ℕ) (n poses R : ℕ) (f : Layer) (i p m a : ℕ)
-    → via (deckOf line n poses) R f i p m a ≡ found (byPoses line (lastAt R i p) m (f p) poses) a
+via-found : (row : List ℕ) (n poses R : ℕ) (f : Layer) (i p m a : ℕ)
+    → via (deckOf row n poses) R f i p m a ≡ found (byPoses row (lastAt R i p) m (f p) poses) a
 unfolding via byPoses
-via-found line n poses R f i p m a =
-    lowest-cap _ _ (from 0 poses) (λ b. let e = found-one line (lastAt R i p) b m a (f p b) in omega arith)
-    ∙ found-lowest (λ b. onePose line (lastAt R i p) m b (f p b)) a (from 0 poses)
+via-found row n poses R f i p m a =
+    lowest-cap _ _ (from 0 poses) (λ b. let e = found-one row (lastAt R i p) b m a (f p b) in omega arith)
+    ∙ found-lowest (λ b. onePose row (lastAt R i p) m b (f p b)) a (from 0 poses)
 
 -- by way of all sources
-pub reached-found : (line : List ℕ) (n poses R : ℕ) (f : Layer) (i q a : ℕ)
-    → reached (deckOf line n poses) R f i q a ≡ found (byStates line (deckOf line n poses) R f i q (stateCount R)) a
+pub reached-found : (row : List ℕ) (n poses R : ℕ) (f : Layer) (i q a : ℕ)
+    → reached (deckOf row n poses) R f i q a ≡ found (byStates row (deckOf row n poses) R f i q (stateCount R)) a
 unfolding reached byStates oneState
-reached-found line n poses R f i q a =
-    let src : ℕ → Bool = isSource (deckOf line n poses) R i q in
-    let bucket : ℕ → ℕ → ℕ → ℕ = λ p. byPoses line (lastAt R i p) (lastAt R (suc i) q) (f p) poses in
+reached-found row n poses R f i q a =
+    let src : ℕ → Bool = isSource (deckOf row n poses) R i q in
+    let bucket : ℕ → ℕ → ℕ → ℕ = λ p. byPoses row (lastAt R i p) (lastAt R (suc i) q) (f p) poses in
     lowest-cap _ _ (from 0 (stateCount R))
     (λ p. ap (λ (x : ℕ). min x B) (ap (λ (x : ℕ). cond (src p) x B)
-    (via-found line n poses R f i p (lastAt R (suc i) q) a) ∙ found-if (src p) (bucket p) a))
+    (via-found row n poses R f i p (lastAt R (suc i) q) a) ∙ found-if (src p) (bucket p) a))
     ∙ found-lowest (λ p v t. cond (src p) (bucket p v t) B) a (from 0 (stateCount R))
 
 -- only the rows that the gaps name count: row 0 in bucket 0 alone

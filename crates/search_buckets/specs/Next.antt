@@ -31,26 +31,26 @@ module _ (D : Deck) (R : ℕ) (f : Layer) (i q a : ℕ) where
   next-away e = ap (λ t. cond t (min (D .own (lastAt R (suc i) q) a + reached D R f i q a) B) B) e
 
 -- from what is found in the buckets of all sources
-module _ (line : List ℕ) (n poses R : ℕ) (f : Layer) (i q a : ℕ) (there : thereIn n R (suc i) q ≡ true) where
+module _ (row : List ℕ) (n poses R : ℕ) (f : Layer) (i q a : ℕ) (there : thereIn n R (suc i) q ≡ true) where
   pub next-found : {count m x : ℕ} → count ≡ stateCount R → m ≡ lastAt R (suc i) q
-      → x ≡ found (byStates line (deckOf line n poses) R f i q count) a
-      → nextLayer (deckOf line n poses) R f i q a ≡ min (wordOf line m a + x) B
+      → x ≡ found (byStates row (deckOf row n poses) R f i q count) a
+      → nextLayer (deckOf row n poses) R f i q a ≡ min (wordOf row m a + x) B
   next-found {count} {m} {x} e p h =
-      next-there (deckOf line n poses) R f i q a there
-      ∙ ap₂ (λ (k y : ℕ). min (wordOf line k a + y) B) (sym p)
-      (reached-found line n poses R f i q a
-      ∙ ap (λ (c : ℕ). found (byStates line (deckOf line n poses) R f i q c) a) (sym e) ∙ sym h)
+      next-there (deckOf row n poses) R f i q a there
+      ∙ ap₂ (λ (k y : ℕ). min (wordOf row k a + y) B) (sym p)
+      (reached-found row n poses R f i q a
+      ∙ ap (λ (c : ℕ). found (byStates row (deckOf row n poses) R f i q c) a) (sym e) ∙ sym h)
 
-  pub next-none : {count : ℕ} → count ≡ stateCount R → found (byStates line (deckOf line n poses) R f i q count) a ≡ B
-      → nextLayer (deckOf line n poses) R f i q a ≡ B
+  pub next-none : {count : ℕ} → count ≡ stateCount R → found (byStates row (deckOf row n poses) R f i q count) a ≡ B
+      → nextLayer (deckOf row n poses) R f i q a ≡ B
   next-none e h = let z = next-found e refl (sym h) in omega arith
 
   pub next-alone : {count : ℕ} → count ≡ stateCount R
-      → ((p : ℕ) → p < count → isSource (deckOf line n poses) R i q p ≡ false)
-      → nextLayer (deckOf line n poses) R f i q a ≡ B
+      → ((p : ℕ) → p < count → isSource (deckOf row n poses) R i q p ≡ false)
+      → nextLayer (deckOf row n poses) R f i q a ≡ B
   next-alone {count} e h =
-      next-none e (found-away (byStates line (deckOf line n poses) R f i q count) a
-      (λ v t. states-away line (deckOf line n poses) R f i q count v t h))
+      next-none e (found-away (byStates row (deckOf row n poses) R f i q count) a
+      (λ v t. states-away row (deckOf row n poses) R f i q count v t h))
 
 -- ---- only the entries of the first layer count, in the next one, in all that follow, and where the row ends
 

@@ -32,7 +32,7 @@ found bucket a = min (lowest B (λ gap. bucket (bucketIn 5 gap (a % 4)) (a / 4 +
 -- how many buckets a target at position m needs: where all gaps that pay have one
 -- weight, buckets 5 to 8 are as buckets 1 to 4
 unfoldable pub bucketsIn : List ℕ → ℕ → ℕ
-bucketsIn line m = cond (eqb (wordOf line m touchingWord) (wordOf line m apartWord)) 5 9
+bucketsIn row m = cond (eqb (wordOf row m touchingWord) (wordOf row m apartWord)) 5 9
 
 -- the rows that the poses below `poses` look at
 abbrev pub rowsOf : ℕ → ℕ
@@ -42,19 +42,19 @@ rowsOf poses = (poses + 3) / 4 + 4
 
 -- the row in which pose b of the cell at position k counts for the cell at position m
 unfoldable pub endRow : List ℕ → ℕ → ℕ → ℕ → ℕ
-endRow line k b m = endIn line k b + 4 - wordOf line m givenWord
+endRow row k b m = endIn row k b + 4 - wordOf row m givenWord
 
 -- what pose b of k pays in bucket v of m: by the variant of m that the bucket is for, in bucket 0 nothing
 unfoldable pub payIn : List ℕ → ℕ → ℕ → ℕ → ℕ → ℕ
-payIn line k b m v =
+payIn row k b m v =
     cond (ltb v 1) 0 (cond (ltb v 5)
-    (wordOf line m touchingWord * differIn line k b m (v - 1)) (wordOf line m apartWord * differIn line k b m (v - 5)))
+    (wordOf row m touchingWord * differIn row k b m (v - 1)) (wordOf row m apartWord * differIn row k b m (v - 5)))
 
 -- what each variant of the cell at position k pays in each bucket below `buckets` of the cell at position m: 9
 -- words for each variant, those below n of 36
-pub record Pays (line : List ℕ) (k m buckets n : ℕ) (pays : List ℕ) : Type 0 where
+pub record Pays (row : List ℕ) (k m buckets n : ℕ) (pays : List ℕ) : Type 0 where
   pub long : length pays ≡ 36
-  pub pay : (j : ℕ) → j < n → j % 9 < buckets → getD pays j 0 ≡ payIn line k (j / 9) m (j % 9)
+  pub pay : (j : ℕ) → j < n → j % 9 < buckets → getD pays j 0 ≡ payIn row k (j / 9) m (j % 9)
 
 -- all of them, none over B
 pub record PaysLow (buckets : ℕ) (pays : List ℕ) : Type 0 where
@@ -63,17 +63,17 @@ pub record PaysLow (buckets : ℕ) (pays : List ℕ) : Type 0 where
 
 -- a source of cost c in the buckets
 abbrev pub onePose : List ℕ → ℕ → ℕ → ℕ → ℕ → ℕ → ℕ → ℕ
-onePose line k m b c v t = inRow (endRow line k b m) t (c + payIn line k b m v)
+onePose row k m b c v t = inRow (endRow row k b m) t (c + payIn row k b m v)
 
 -- by way of the poses below n of the cell at position k, each with a cost
 unfoldable pub byPoses : List ℕ → ℕ → ℕ → (ℕ → ℕ) → ℕ → ℕ → ℕ → ℕ
-byPoses line k m f n v t = lowest B (λ b. onePose line k m b (f b) v t) (from 0 n)
+byPoses row k m f n v t = lowest B (λ b. onePose row k m b (f b) v t) (from 0 n)
 
 -- by way of state p of the layer f, which has i cells, if it is a source of state q
 unfoldable pub oneState : List ℕ → Deck → ℕ → Layer → ℕ → ℕ → ℕ → ℕ → ℕ → ℕ
-oneState line D R f i q p v t =
-    cond (isSource D R i q p) (byPoses line (lastAt R i p) (lastAt R (suc i) q) (f p) (D .poses) v t) B
+oneState row D R f i q p v t =
+    cond (isSource D R i q p) (byPoses row (lastAt R i p) (lastAt R (suc i) q) (f p) (D .poses) v t) B
 
 -- by way of the states below n
 unfoldable pub byStates : List ℕ → Deck → ℕ → Layer → ℕ → ℕ → ℕ → ℕ → ℕ → ℕ
-byStates line D R f i q n v t = lowest B (λ p. oneState line D R f i q p v t) (from 0 n)
+byStates row D R f i q n v t = lowest B (λ p. oneState row D R f i q p v t) (from 0 n)

@@ -22,23 +22,23 @@ use Rattle.search_buckets.specs.Laws.{pay-same, pay-small, pay-twin}
 
 -- ---- what is paid, as words
 
-pub pays-none : (line : List ℕ) (k m buckets : ℕ) {pays : List ℕ} → length pays ≡ 36 → Pays line k m buckets 0 pays
-pays-none line k m buckets h = record { long = h; pay = λ j l. absurd (omega arith) }
+pub pays-none : (row : List ℕ) (k m buckets : ℕ) {pays : List ℕ} → length pays ≡ 36 → Pays row k m buckets 0 pays
+pays-none row k m buckets h = record { long = h; pay = λ j l. absurd (omega arith) }
 
 -- one bucket more of variant u
 pub pays-next :
-    {line pays : List ℕ} {k m buckets : ℕ} (u v x : ℕ)
-    → Pays line k m buckets (u * 9 + v) pays → u < 4 → v < 9 → x ≡ payIn line k u m v
-    → Pays line k m buckets (u * 9 + (v + 1)) (set pays (u * 9 + v) x)
-pays-next {line} {pays} {k} {m} {buckets} u v x w h i e =
+    {row pays : List ℕ} {k m buckets : ℕ} (u v x : ℕ)
+    → Pays row k m buckets (u * 9 + v) pays → u < 4 → v < 9 → x ≡ payIn row k u m v
+    → Pays row k m buckets (u * 9 + (v + 1)) (set pays (u * 9 + v) x)
+pays-next {row} {pays} {k} {m} {buckets} u v x w h i e =
     let n = w .long in
     let j : ℕ = u * 9 + v in
     let z : j + 1 ≡ u * 9 + (v + 1) = omega arith in
-    let here : x ≡ payIn line k (j / 9) m (j % 9) = e
-    ∙ ap₂ (λ (a b : ℕ). payIn line k a m b) (omega arith) (omega arith) in
-    let r : Pays line k m buckets (j + 1) (set pays j x) = record {
+    let here : x ≡ payIn row k (j / 9) m (j % 9) = e
+    ∙ ap₂ (λ (a b : ℕ). payIn row k a m b) (omega arith) (omega arith) in
+    let r : Pays row k m buckets (j + 1) (set pays j x) = record {
       long = length-set pays j x ∙ n;
-      pay = below-more (λ (i : ℕ). i % 9 < buckets → getD (set pays j x) i 0 ≡ payIn line k (i / 9) m (i % 9)) j
+      pay = below-more (λ (i : ℕ). i % 9 < buckets → getD (set pays j x) i 0 ≡ payIn row k (i / 9) m (i % 9)) j
           (λ i g c. getD-set-other pays j i x 0 (omega arith) ∙ w .pay i g c)
           (λ c. getD-set-same pays j x 0 (omega arith) ∙ here);
     } in
@@ -46,99 +46,99 @@ pays-next {line} {pays} {k} {m} {buckets} u v x w h i e =
 
 -- the buckets that are not needed count for nothing
 pub pays-row :
-    {line pays : List ℕ} {k m buckets : ℕ} (u : ℕ)
-    → Pays line k m buckets (u * 9 + buckets) pays → buckets ≤ 9 → Pays line k m buckets (u * 9 + 9) pays
+    {row pays : List ℕ} {k m buckets : ℕ} (u : ℕ)
+    → Pays row k m buckets (u * 9 + buckets) pays → buckets ≤ 9 → Pays row k m buckets (u * 9 + 9) pays
 pays-row {buckets = buckets} u w h = record { long = w .long; pay = λ j g c. w .pay j (omega arith) c }
 
-pub pays-low : {line pays : List ℕ} {k m buckets : ℕ} → RowWords line → Pays line k m buckets 36 pays
+pub pays-low : {row pays : List ℕ} {k m buckets : ℕ} → RowWords row → Pays row k m buckets 36 pays
     → PaysLow buckets pays
-pays-low {line} {k = k} {m = m} w p =
-    record { long = p .long; low = λ j h c. omega (arith, p .pay j h c, pay-small line k (j / 9) m (j % 9) w) }
+pays-low {row} {k = k} {m = m} w p =
+    record { long = p .long; low = λ j h c. omega (arith, p .pay j h c, pay-small row k (j / 9) m (j % 9) w) }
 
 -- a source's pose in the buckets, from the words of what it pays
 pub pose-pays :
-    {line pays : List ℕ} {k m buckets t : ℕ} (b v s x : ℕ)
-    → Pays line k m buckets 36 pays → t ≡ endRow line k b m → v < buckets → buckets ≤ 9
-    → onePose line k m b x v s ≡ inRow t s (x + getD pays (b % 4 * 9 + v) 0)
-pose-pays {line} {pays} {k} {m} b v s x p e h g =
+    {row pays : List ℕ} {k m buckets t : ℕ} (b v s x : ℕ)
+    → Pays row k m buckets 36 pays → t ≡ endRow row k b m → v < buckets → buckets ≤ 9
+    → onePose row k m b x v s ≡ inRow t s (x + getD pays (b % 4 * 9 + v) 0)
+pose-pays {row} {pays} {k} {m} b v s x p e h g =
     let j : ℕ = b % 4 * 9 + v in
     let c : j % 9 ≡ v = omega arith in
-    let z : getD pays j 0 ≡ payIn line k b m v = p .pay j (omega arith) (omega arith)
-    ∙ ap₂ (λ (u w : ℕ). payIn line k u m w) (omega arith) c ∙ pay-same line k b m v in
+    let z : getD pays j 0 ≡ payIn row k b m v = p .pay j (omega arith) (omega arith)
+    ∙ ap₂ (λ (u w : ℕ). payIn row k u m w) (omega arith) c ∙ pay-same row k b m v in
     ap₂ (λ (r y : ℕ). inRow r s (x + y)) (sym e) (sym z)
 
 -- ---- many sources
 
 -- the poses below n
-module _ (line : List ℕ) (k m : ℕ) (f : ℕ → ℕ) where
-  pub poses-none : (v t : ℕ) → byPoses line k m f 0 v t ≡ B
+module _ (row : List ℕ) (k m : ℕ) (f : ℕ → ℕ) where
+  pub poses-none : (v t : ℕ) → byPoses row k m f 0 v t ≡ B
   unfolding byPoses
   poses-none v t = lowest-none _
 
   pub poses-more : (n v t : ℕ)
-      → byPoses line k m f (n + 1) v t ≡ min (byPoses line k m f n v t) (onePose line k m n (f n) v t)
+      → byPoses row k m f (n + 1) v t ≡ min (byPoses row k m f n v t) (onePose row k m n (f n) v t)
   unfolding byPoses
   poses-more n v t = lowest-more _ n
 
 -- the states below n
-module _ (line : List ℕ) (D : Deck) (R : ℕ) (f : Layer) (i q : ℕ) where
+module _ (row : List ℕ) (D : Deck) (R : ℕ) (f : Layer) (i q : ℕ) where
   pub state-in : (p v t : ℕ) → isSource D R i q p ≡ true
-      → oneState line D R f i q p v t ≡ byPoses line (lastAt R i p) (lastAt R (suc i) q) (f p) (D .poses) v t
+      → oneState row D R f i q p v t ≡ byPoses row (lastAt R i p) (lastAt R (suc i) q) (f p) (D .poses) v t
   unfolding oneState
-  state-in p v t e = ap (λ z. cond z (byPoses line (lastAt R i p) (lastAt R (suc i) q) (f p) (D .poses) v t) B) e
+  state-in p v t e = ap (λ z. cond z (byPoses row (lastAt R i p) (lastAt R (suc i) q) (f p) (D .poses) v t) B) e
 
-  pub state-out : (p v t : ℕ) → isSource D R i q p ≡ false → oneState line D R f i q p v t ≡ B
+  pub state-out : (p v t : ℕ) → isSource D R i q p ≡ false → oneState row D R f i q p v t ≡ B
   unfolding oneState
-  state-out p v t e = ap (λ z. cond z (byPoses line (lastAt R i p) (lastAt R (suc i) q) (f p) (D .poses) v t) B) e
+  state-out p v t e = ap (λ z. cond z (byPoses row (lastAt R i p) (lastAt R (suc i) q) (f p) (D .poses) v t) B) e
 
-  pub states-none : (v t : ℕ) → byStates line D R f i q 0 v t ≡ B
+  pub states-none : (v t : ℕ) → byStates row D R f i q 0 v t ≡ B
   unfolding byStates
   states-none v t = lowest-none _
 
   pub states-more : (n v t : ℕ)
-      → byStates line D R f i q (n + 1) v t ≡ min (byStates line D R f i q n v t) (oneState line D R f i q n v t)
+      → byStates row D R f i q (n + 1) v t ≡ min (byStates row D R f i q n v t) (oneState row D R f i q n v t)
   unfolding byStates
   states-more n v t = lowest-more _ n
 
   -- none of them a source
-  pub states-away : (n v t : ℕ) → ((p : ℕ) → p < n → isSource D R i q p ≡ false) → byStates line D R f i q n v t ≡ B
+  pub states-away : (n v t : ℕ) → ((p : ℕ) → p < n → isSource D R i q p ≡ false) → byStates row D R f i q n v t ≡ B
   unfolding byStates
   states-away n v t h =
       omega (
         arith,
-        lowest-low B (λ p. oneState line D R f i q p v t) (from 0 n),
-        loop-above B (λ p. oneState line D R f i q p v t) n B (omega arith)
+        lowest-low B (λ p. oneState row D R f i q p v t) (from 0 n),
+        loop-above B (λ p. oneState row D R f i q p v t) n B (omega arith)
             (λ p k. omega (arith, state-out p v t (h p k))),
       )
 
-  pub states-low : (n v t : ℕ) → byStates line D R f i q n v t ≤ B
+  pub states-low : (n v t : ℕ) → byStates row D R f i q n v t ≤ B
   unfolding byStates
   states-low n v t = lowest-low B _ (from 0 n)
 
 -- ---- one weight for all gaps
 
-module _ (line : List ℕ) (m : ℕ) (e : wordOf line m touchingWord ≡ wordOf line m apartWord) where
-  pub pose-twin : (k b c v t : ℕ) → v < 4 → onePose line k m b c (5 + v) t ≡ onePose line k m b c (1 + v) t
-  pose-twin k b c v t h = ap (λ (z : ℕ). inRow (endRow line k b m) t (c + z)) (pay-twin line k b m v h e)
+module _ (row : List ℕ) (m : ℕ) (e : wordOf row m touchingWord ≡ wordOf row m apartWord) where
+  pub pose-twin : (k b c v t : ℕ) → v < 4 → onePose row k m b c (5 + v) t ≡ onePose row k m b c (1 + v) t
+  pose-twin k b c v t h = ap (λ (z : ℕ). inRow (endRow row k b m) t (c + z)) (pay-twin row k b m v h e)
 
-  poses-twin : (k : ℕ) (f : ℕ → ℕ) (n v t : ℕ) → v < 4 → byPoses line k m f n (5 + v) t ≡ byPoses line k m f n (1 + v) t
+  poses-twin : (k : ℕ) (f : ℕ → ℕ) (n v t : ℕ) → v < 4 → byPoses row k m f n (5 + v) t ≡ byPoses row k m f n (1 + v) t
   unfolding byPoses
   poses-twin k f n v t h = lowest-ext _ _ 0 n (λ b i. pose-twin k b (f b) v t h)
 
 pub states-twin :
-    (line : List ℕ) (D : Deck) (R : ℕ) (f : Layer) (i q n v t : ℕ)
-    → wordOf line (lastAt R (suc i) q) 84 ≡ wordOf line (lastAt R (suc i) q) 86 → v < 4
-    → byStates line D R f i q n (5 + v) t ≡ byStates line D R f i q n (1 + v) t
+    (row : List ℕ) (D : Deck) (R : ℕ) (f : Layer) (i q n v t : ℕ)
+    → wordOf row (lastAt R (suc i) q) 84 ≡ wordOf row (lastAt R (suc i) q) 86 → v < 4
+    → byStates row D R f i q n (5 + v) t ≡ byStates row D R f i q n (1 + v) t
 unfolding byStates oneState
-states-twin line D R f i q n v t e h =
+states-twin row D R f i q n v t e h =
     lowest-ext _ _ 0 n (λ p j. ap (λ (x : ℕ). cond (isSource D R i q p) x B)
-    (poses-twin line (lastAt R (suc i) q) e (lastAt R i p) (f p) (D .poses) v t h))
+    (poses-twin row (lastAt R (suc i) q) e (lastAt R i p) (f p) (D .poses) v t h))
 
 -- ---- how many buckets
 
-pub buckets-either : (line : List ℕ) (m : ℕ) → (bucketsIn line m ≡ 5) ⊎ (bucketsIn line m ≡ 9)
+pub buckets-either : (row : List ℕ) (m : ℕ) → (bucketsIn row m ≡ 5) ⊎ (bucketsIn row m ≡ 9)
 unfolding bucketsIn
-buckets-either line m = go (eqb (wordOf line m touchingWord) (wordOf line m apartWord))
+buckets-either row m = go (eqb (wordOf row m touchingWord) (wordOf row m apartWord))
   where
     go : (z : Bool) → (_≡_ {A = ℕ} (cond z 5 9) 5) ⊎ (_≡_ {A = ℕ} (cond z 5 9) 9)
     go true = inl refl
@@ -147,13 +147,13 @@ buckets-either line m = go (eqb (wordOf line m touchingWord) (wordOf line m apar
 -- the last four of them are as the buckets of the other gaps, for what is the same in
 -- buckets 5 + v and 1 + v where there is one weight
 pub buckets-last :
-    (P : ℕ → ℕ) (line : List ℕ) (m v : ℕ)
-    → (wordOf line m touchingWord ≡ wordOf line m apartWord → P (5 + v) ≡ P (1 + v))
-    → P (bucketsIn line m - 4 + v) ≡ P (5 + v)
+    (P : ℕ → ℕ) (row : List ℕ) (m v : ℕ)
+    → (wordOf row m touchingWord ≡ wordOf row m apartWord → P (5 + v) ≡ P (1 + v))
+    → P (bucketsIn row m - 4 + v) ≡ P (5 + v)
 unfolding bucketsIn
-buckets-last P line m v h = go (eqb (wordOf line m touchingWord) (wordOf line m apartWord))
-    (eq? (wordOf line m touchingWord) (wordOf line m apartWord))
+buckets-last P row m v h = go (eqb (wordOf row m touchingWord) (wordOf row m apartWord))
+    (eq? (wordOf row m touchingWord) (wordOf row m apartWord))
   where
-    go : (z : Bool) → Eq? (wordOf line m touchingWord) (wordOf line m apartWord) z → P (cond z 5 9 - 4 + v) ≡ P (5 + v)
+    go : (z : Bool) → Eq? (wordOf row m touchingWord) (wordOf row m apartWord) z → P (cond z 5 9 - 4 + v) ≡ P (5 + v)
     go true (same e) = sym (h e)
     go false (differs n) = refl

@@ -7,6 +7,15 @@ ghost use lib.ListN.{length};
 ghost use Rattle.search_row.specs.Words.{RowWords};
 ghost use Rattle.search_buckets.specs.Rows.{rowsOf, bucketsIn, endRow, payIn, Pays};
 
+// A state that is a source of a target: where its words begin, the positions of its cell, on the left, and of the
+// target's, and how many buckets the target needs.
+pub struct Source {
+    pub at: usize,
+    pub left: usize,
+    pub right: usize,
+    pub buckets: usize,
+}
+
 // The row in which pose b of the cell at position k counts for the cell at position m.
 pub fn end_row(row: &[u32], k: usize, b: usize, m: usize) -> usize
     requires { ⌜ RowWords (now row) × (k < 64) × (b < 64) × (m < 64) ⌝ }

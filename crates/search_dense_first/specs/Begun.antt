@@ -12,10 +12,10 @@ use Rattle.search_row.specs.Words.{wordOf, tollIn, frontIn}
 
 -- the cell at position k in pose a: first of all, and after pose l of the cell at position p
 abbrev pub openPose : List ℕ → ℕ → ℕ → ℕ
-openPose line k a = min (wordOf line k a + frontIn line k a) B
+openPose row k a = min (wordOf row k a + frontIn row k a) B
 
 abbrev pub afterPose : List ℕ → ℕ → ℕ → ℕ → ℕ → ℕ
-afterPose line p l k a = min (wordOf line k a + tollIn line p l k a) B
+afterPose row p l k a = min (wordOf row k a + tollIn row p l k a) B
 
 -- the states below `count` of the layer f, with so many poses, are in the block
 -- at `to`; nothing outside the block changed

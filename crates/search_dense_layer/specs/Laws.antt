@@ -187,42 +187,42 @@ gathered-join {P} {Q} {buckets = buckets} p q e =
 
 -- ---- how many buckets
 
-module _ (line : List ℕ) (m : ℕ) where
-  pub buckets-few : (5 ≤ bucketsIn line m) × (bucketsIn line m ≤ 9)
+module _ (row : List ℕ) (m : ℕ) where
+  pub buckets-few : (5 ≤ bucketsIn row m) × (bucketsIn row m ≤ 9)
   unfolding bucketsIn
-  buckets-few = go (eqb (wordOf line m touchingWord) (wordOf line m apartWord))
+  buckets-few = go (eqb (wordOf row m touchingWord) (wordOf row m apartWord))
     where
       go : (z : Bool) → (5 ≤ cond z 5 9) × (cond z 5 9 ≤ 9)
       go true = (omega arith, omega arith)
       go false = (omega arith, omega arith)
 
   -- fewer than 9 only where one weight serves for all gaps
-  pub buckets-twin : bucketsIn line m ≢ 9 → wordOf line m touchingWord ≡ wordOf line m apartWord
+  pub buckets-twin : bucketsIn row m ≢ 9 → wordOf row m touchingWord ≡ wordOf row m apartWord
   unfolding bucketsIn
-  buckets-twin n = go (eqb (wordOf line m touchingWord) (wordOf line m apartWord))
-      (eq? (wordOf line m touchingWord) (wordOf line m apartWord)) n
+  buckets-twin n = go (eqb (wordOf row m touchingWord) (wordOf row m apartWord))
+      (eq? (wordOf row m touchingWord) (wordOf row m apartWord)) n
     where
-      go : (z : Bool) → Eq? (wordOf line m touchingWord) (wordOf line m apartWord) z → _≢_ {A = ℕ} (cond z 5 9) 9
-          → wordOf line m touchingWord ≡ wordOf line m apartWord
+      go : (z : Bool) → Eq? (wordOf row m touchingWord) (wordOf row m apartWord) z → _≢_ {A = ℕ} (cond z 5 9) 9
+          → wordOf row m touchingWord ≡ wordOf row m apartWord
       go true (same e) d = e
       go false (differs f) d = absurd (d refl)
 
 -- ---- one source
 
 -- it pays nothing in bucket 0
-pub pays-free : {line pays : List ℕ} {k m buckets : ℕ} (u : ℕ) → Pays line k m buckets 36 pays → 5 ≤ buckets → u < 4
+pub pays-free : {row pays : List ℕ} {k m buckets : ℕ} (u : ℕ) → Pays row k m buckets 36 pays → 5 ≤ buckets → u < 4
     → getD pays (u * 9) 0 ≡ 0
-pays-free {line} {pays} {k} {m} u p h g =
+pays-free {row} {pays} {k} {m} u p h g =
     let e : u * 9 % 9 ≡ 0 = omega arith in
-    p .pay (u * 9) (omega arith) (omega arith) ∙ ap (payBy (u * 9 / 9)) e ∙ pay-none line k (u * 9 / 9) m
+    p .pay (u * 9) (omega arith) (omega arith) ∙ ap (payBy (u * 9 / 9)) e ∙ pay-none row k (u * 9 / 9) m
   where
     payBy : ℕ → ℕ → ℕ
-    payBy b v = payIn line k b m v
+    payBy b v = payIn row k b m v
 
 -- a pose of a source, from its words
 pub gathered-pose :
-    {line pays near near′ apart apart′ far far′ : List ℕ} {k m buckets : ℕ} (b t x : ℕ)
-    → Pays line k m buckets 36 pays → t ≡ endRow line k b m → 5 ≤ buckets → buckets ≤ 9
+    {row pays near near′ apart apart′ far far′ : List ℕ} {k m buckets : ℕ} (b t x : ℕ)
+    → Pays row k m buckets 36 pays → t ≡ endRow row k b m → 5 ≤ buckets → buckets ≤ 9
     → ThinGathered (spreadOf t x pays (b % 4)) buckets near near′ apart apart′ far far′
-    → ThinGathered (onePose line k m b x) buckets near near′ apart apart′ far far′
+    → ThinGathered (onePose row k m b x) buckets near near′ apart apart′ far far′
 gathered-pose b t x p e h g w = gathered-ext w h (λ v s l. pose-pays b v s x p e l g)

@@ -15,7 +15,9 @@ use Rattle.theory_tables.specs.Steps.{B, Deck, Layer, nextLayer}
 use Rattle.search_lanes.specs.Lanes.{Lowered}
 use Rattle.search_lanes.specs.Store.{Frame, Low}
 use Rattle.search_row.specs.Words.{wordOf, RowWords, Ground}
-use Rattle.search_buckets.specs.Rows.{inRow}
+use Rattle.search_buckets.specs.declared.Source.{Source}
+use Rattle.search_buckets.specs.Next.{Target}
+use Rattle.search_buckets.specs.Rows.{inRow, Pays}
 
 -- the layer whose block begins at `at`
 abbrev pub thinIn : List ℕ → ℕ → Layer
@@ -56,12 +58,20 @@ spreadOf t x pays u v s = inRow t s (x + getD pays (u * 9 + v) 0)
 -- ---- sources in the store
 
 -- the cell at position k, whose words begin at `at`, for the cell at position m
-pub record ThinSource (st line : List ℕ) (at k m : ℕ) : Type 0 where
-  pub words : RowWords line
+pub record ThinSource (st row : List ℕ) (at k m : ℕ) : Type 0 where
+  pub words : RowWords row
   pub low : Low st
   pub room : at + 64 ≤ length st
   pub left : k < 64
   pub right : m < 64
+
+-- its poses are to be gathered: there are arrays for them, and what it pays is known
+pub record FromPoses (near apart far st row pays : List ℕ) (s : Source) : Type 0 where
+  pub arrays : Arrays near apart far
+  pub source : ThinSource st row (s .at) (s .left) (s .right)
+  pub paid : Pays row (s .left) (s .right) (s .buckets) 36 pays
+  pub five : 5 ≤ s .buckets
+  pub nine : s .buckets ≤ 9
 
 -- the words from `at` on
 abbrev pub posesAt : List ℕ → ℕ → ℕ → ℕ
@@ -84,7 +94,7 @@ foundBy near apart far e v =
 
 -- with the own cost of the cell at position k, capped
 abbrev pub foundOf : List ℕ → List ℕ → List ℕ → List ℕ → ℕ → ℕ → ℕ
-foundOf line near apart far k a = min (wordOf line k a + foundBy near apart far (a / 4) (a % 4)) B
+foundOf row near apart far k a = min (wordOf row k a + foundBy near apart far (a / 4) (a % 4)) B
 
 -- where buckets 5 to 8 are to be found
 abbrev pub otherOf : ℕ → List ℕ → List ℕ → List ℕ
@@ -92,7 +102,15 @@ otherOf buckets near apart = cond (eqb buckets 9) apart near
 
 -- four poses from pose 4 e on
 abbrev pub foundFour : List ℕ → List ℕ → List ℕ → List ℕ → ℕ → ℕ → ℕ → ℕ
-foundFour line near apart far k e v = foundOf line near apart far k (e * 4 + v)
+foundFour row near apart far k e v = foundOf row near apart far k (e * 4 + v)
+
+-- the words from `to` on are to be those of the cell at position k
+pub record ToPut (near apart far row st : List ℕ) (to k : ℕ) : Type 0 where
+  pub arrays : Arrays near apart far
+  pub words : RowWords row
+  pub low : Low st
+  pub room : to + 64 ≤ length st
+  pub cell : k < 64
 
 -- ---- a layer from the layer before
 
@@ -102,6 +120,12 @@ pub record ThinGiven (row st : List ℕ) (z : Sizes) (i at : ℕ) : Type 0 where
   pub low : Low st
   pub early : i ≤ 67
   pub room : at + 1536 ≤ length st
+
+-- the sources of state q of the next are to be gathered
+pub record ThinGathering (near apart far row st : List ℕ) (z : Sizes) (i at q : ℕ) : Type 0 where
+  pub arrays : Arrays near apart far
+  pub given : ThinGiven row st z i at
+  pub target : Target (z .cells) (z .reordering) i q
 
 -- state q of the next layer, in the block after
 pub record Put (D : Deck) (R i from q : ℕ) (old new : List ℕ) : Type 0 where

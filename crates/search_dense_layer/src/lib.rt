@@ -10,12 +10,20 @@ ghost use Rattle.search_lanes.specs.Lanes.{Lowered};
 ghost use Rattle.search_lanes.specs.Store.{Low, Written};
 ghost use Rattle.search_row.specs.Words.{deckIn, RowWords, Ground};
 ghost use Rattle.search_buckets.specs.Next.{Target};
-ghost use Rattle.search_buckets.specs.Rows.{bucketsIn, Pays, PaysLow, onePose, byPoses, oneState, byStates};
+ghost use Rattle.search_buckets.specs.Rows.{bucketsIn, PaysLow, onePose, byPoses, oneState, byStates};
 ghost use Rattle.search_dense_layer.specs.Thin.{thinIn, posesAt, fourOf, spreadOf, Arrays};
-ghost use Rattle.search_dense_layer.specs.Thin.{ThinGathered, ThinSource, FarRunUp, foundBy, foundOf};
-ghost use Rattle.search_dense_layer.specs.Thin.{foundFour, otherOf, ThinGiven, Put, Stepped};
+ghost use Rattle.search_dense_layer.specs.Thin.{ThinGathered, FarRunUp, foundBy, foundOf};
+ghost use Rattle.search_dense_layer.specs.Thin.{foundFour, otherOf, FromPoses, ToPut, ThinGiven};
+ghost use Rattle.search_dense_layer.specs.Thin.{ThinGathering, Put, Stepped};
 ghost use Rattle.search_dense_layer.specs.Kept.{Segment, SegmentKept};
+use search_buckets::Source;
 use search_row::Sizes;
+
+// A layer in its block: how many cells it has, and where the block begins.
+struct Block {
+    cells: usize,
+    at: usize,
+}
 
 // ---- one source
 
@@ -56,7 +64,7 @@ fn spread(
     }
 }
 
-// Pose b of the cell at position k, for the cell at position m.
+// Pose b of a source.
 fn from_pose(
     near: &mut [u32; 76],
     apart: &mut [u32; 76],
@@ -64,30 +72,26 @@ fn from_pose(
     store: &[u32],
     row: &[u32],
     pays: &[u32; 36],
-    at: usize,
-    k: usize,
-    m: usize,
+    source: Source,
     b: usize,
-    buckets: usize,
 )
-    requires { ⌜ Arrays (now near) (now apart) (now far) × ThinSource (now store) (now row) at k m
-        × Pays (now row) k m buckets 36 (now pays) × (b < 60) × (5 ≤ buckets) × (buckets ≤ 9) ⌝ }
-    ensures { λ _. ⌜ ThinGathered (onePose (now (row .entry)) k m b (posesAt (now (store .entry)) at b)) buckets
-        (now (near .entry)) (now (near .exit)) (now (apart .entry)) (now (apart .exit)) (now (far .entry))
-        (now (far .exit)) ⌝ }
+    requires { ⌜ FromPoses (now near) (now apart) (now far) (now store) (now row) (now pays) source × (b < 60) ⌝ }
+    ensures { λ _. ⌜ ThinGathered (onePose (now (row .entry)) (source .left) (source .right) b
+        (posesAt (now (store .entry)) (source .at) b)) (source .buckets) (now (near .entry)) (now (near .exit))
+        (now (apart .entry)) (now (apart .exit)) (now (far .entry)) (now (far .exit)) ⌝ }
 {
-    let x = store[at + b];
+    let x = store[source.at + b];
     if x >= search_lanes::NONE {
         return;
     }
-    let t = search_buckets::end_row(row, k, b, m);
+    let t = search_buckets::end_row(row, source.left, b, source.right);
     if t >= 19 {
         return;
     }
-    spread(near, apart, far, x, pays, b % 4, t, buckets);
+    spread(near, apart, far, x, pays, b % 4, t, source.buckets);
 }
 
-// All poses of the cell at position k.
+// All its poses.
 fn from_poses(
     near: &mut [u32; 76],
     apart: &mut [u32; 76],
@@ -95,21 +99,17 @@ fn from_poses(
     store: &[u32],
     row: &[u32],
     pays: &[u32; 36],
-    at: usize,
-    k: usize,
-    m: usize,
+    source: Source,
     poses: usize,
-    buckets: usize,
 )
-    requires { ⌜ Arrays (now near) (now apart) (now far) × ThinSource (now store) (now row) at k m
-        × Pays (now row) k m buckets 36 (now pays) × (poses ≤ 60) × (5 ≤ buckets) × (buckets ≤ 9) ⌝ }
-    ensures { λ _. ⌜ ThinGathered (byPoses (now (row .entry)) k m (posesAt (now (store .entry)) at) poses) buckets
-        (now (near .entry)) (now (near .exit)) (now (apart .entry)) (now (apart .exit)) (now (far .entry))
-        (now (far .exit)) ⌝ }
+    requires { ⌜ FromPoses (now near) (now apart) (now far) (now store) (now row) (now pays) source × (poses ≤ 60) ⌝ }
+    ensures { λ _. ⌜ ThinGathered (byPoses (now (row .entry)) (source .left) (source .right)
+        (posesAt (now (store .entry)) (source .at)) poses) (source .buckets) (now (near .entry)) (now (near .exit))
+        (now (apart .entry)) (now (apart .exit)) (now (far .entry)) (now (far .exit)) ⌝ }
 {
     let mut b: usize = 0;
     while b < poses {
-        from_pose(near, apart, far, store, row, pays, at, k, m, b, buckets);
+        from_pose(near, apart, far, store, row, pays, source, b);
         b += 1;
     }
 }
@@ -172,8 +172,7 @@ fn put_four(
     k: usize,
     e: usize,
 )
-    requires { ⌜ Arrays (now near) (now apart) (now far) × RowWords (now row) × Low (now store)
-        × (to + 64 ≤ length (now store)) × (k < 64) × (e < 15) ⌝ }
+    requires { ⌜ ToPut (now near) (now apart) (now far) (now row) (now store) to k × (e < 15) ⌝ }
     ensures { λ _. ⌜ Written (foundFour (now (row .entry)) (now (near .entry)) (now (apart .entry))
         (now (far .entry)) k e) (to + e * 4) 4 (now (store .entry)) (now (store .exit)) ⌝ }
 {
@@ -197,8 +196,7 @@ fn put(
     k: usize,
     poses: usize,
 )
-    requires { ⌜ Arrays (now near) (now apart) (now far) × RowWords (now row) × Low (now store)
-        × (to + 64 ≤ length (now store)) × (k < 64) × (poses ≤ 60) ⌝ }
+    requires { ⌜ ToPut (now near) (now apart) (now far) (now row) (now store) to k × (poses ≤ 60) ⌝ }
     ensures { λ _. ⌜ Written (foundOf (now (row .entry)) (now (near .entry)) (now (apart .entry))
         (now (far .entry)) k) to ((poses + 3) / 4 * 4) (now (store .entry)) (now (store .exit)) ⌝ }
 {
@@ -221,8 +219,7 @@ fn put_found(
     poses: usize,
     buckets: usize,
 )
-    requires { ⌜ Arrays (now near) (now apart) (now far) × RowWords (now row) × Low (now store)
-        × (to + 64 ≤ length (now store)) × (k < 64) × (poses ≤ 60) ⌝ }
+    requires { ⌜ ToPut (now near) (now apart) (now far) (now row) (now store) to k × (poses ≤ 60) ⌝ }
     ensures { λ _. ⌜ Written (foundOf (now (row .entry)) (now (near .entry))
         (otherOf buckets (now (near .entry)) (now (apart .entry))) (now (far .entry)) k) to
         ((poses + 3) / 4 * 4) (now (store .entry)) (now (store .exit)) ⌝ }
@@ -236,7 +233,7 @@ fn put_found(
 
 // ---- one layer
 
-// State p of the layer with i cells, if it is a source of state q.
+// State p of a layer, if it is a source of state q of the next.
 fn from_source(
     near: &mut [u32; 76],
     apart: &mut [u32; 76],
@@ -244,40 +241,34 @@ fn from_source(
     store: &[u32],
     row: &[u32],
     sizes: Sizes,
-    i: usize,
-    from: usize,
+    layer: Block,
     q: usize,
     p: usize,
 )
-    requires { ⌜ Arrays (now near) (now apart) (now far) × ThinGiven (now row) (now store) sizes i from
-        × Target (sizes .cells) (sizes .reordering) i q × (p < sizes .states) ⌝ }
+    requires { ⌜ ThinGathering (now near) (now apart) (now far) (now row) (now store) sizes (layer .cells) (layer .at) q
+        × (p < sizes .states) ⌝ }
     ensures { λ _. ⌜ ThinGathered (oneState (now (row .entry)) (deckIn (now (row .entry)) sizes) (sizes .reordering)
-        (thinIn (now (store .entry)) from) i q p) (bucketsIn (now (row .entry)) (lastAt (sizes .reordering) (suc i) q))
+        (thinIn (now (store .entry)) (layer .at)) (layer .cells) q p)
+        (bucketsIn (now (row .entry)) (lastAt (sizes .reordering) (suc (layer .cells)) q))
         (now (near .entry)) (now (near .exit)) (now (apart .entry)) (now (apart .exit)) (now (far .entry))
         (now (far .exit)) ⌝ }
 {
-    if !search_row::is_source(row, sizes, i, q, p) {
+    if !search_row::is_source(row, sizes, layer.cells, q, p) {
         return;
     }
-    let k = search_row::last_at(row, sizes, i, p);
-    let m = search_row::last_at(row, sizes, i + 1, q);
+    let k = search_row::last_at(row, sizes, layer.cells, p);
+    let m = search_row::last_at(row, sizes, layer.cells + 1, q);
     let buckets = search_buckets::buckets_of(row, m);
     let mut pay = [0u32; 36];
     search_buckets::fill_pays(&mut pay, row, k, m, buckets);
-    let at = from + p * 64;
-    from_poses(
-        near,
-        apart,
-        far,
-        store,
-        row,
-        &pay,
+    let at = layer.at + p * 64;
+    let source = Source {
         at,
-        k,
-        m,
-        sizes.poses,
+        left: k,
+        right: m,
         buckets,
-    );
+    };
+    from_poses(near, apart, far, store, row, &pay, source, sizes.poses);
 }
 
 // Every source.
@@ -288,62 +279,58 @@ fn gather(
     store: &[u32],
     row: &[u32],
     sizes: Sizes,
-    i: usize,
-    from: usize,
+    layer: Block,
     q: usize,
 )
-    requires { ⌜ Arrays (now near) (now apart) (now far) × ThinGiven (now row) (now store) sizes i from
-        × Target (sizes .cells) (sizes .reordering) i q ⌝ }
+    requires { ⌜ ThinGathering (now near) (now apart) (now far) (now row) (now store) sizes (layer .cells)
+        (layer .at) q ⌝ }
     ensures { λ _. ⌜ ThinGathered (byStates (now (row .entry)) (deckIn (now (row .entry)) sizes) (sizes .reordering)
-        (thinIn (now (store .entry)) from) i q (sizes .states))
-        (bucketsIn (now (row .entry)) (lastAt (sizes .reordering) (suc i) q)) (now (near .entry)) (now (near .exit))
+        (thinIn (now (store .entry)) (layer .at)) (layer .cells) q (sizes .states))
+        (bucketsIn (now (row .entry)) (lastAt (sizes .reordering) (suc (layer .cells)) q)) (now (near .entry))
+        (now (near .exit))
         (now (apart .entry)) (now (apart .exit)) (now (far .entry)) (now (far .exit)) ⌝ }
 {
     let mut p: usize = 0;
     while p < sizes.states {
-        from_source(near, apart, far, store, row, sizes, i, from, q, p);
+        from_source(near, apart, far, store, row, sizes, layer, q, p);
         p += 1;
     }
 }
 
 // The words of state q, whose cell is there: its sources gathered, then what each pose finds.
-fn target_there(store: &mut [u32], row: &[u32], sizes: Sizes, i: usize, from: usize, q: usize)
-    requires { ⌜ ThinGiven (now row) (now store) sizes i from × Target (sizes .cells) (sizes .reordering) i q ⌝ }
-    ensures { λ _. ⌜ Put (deckIn (now (row .entry)) sizes) (sizes .reordering) i from q (now (store .entry))
-        (now (store .exit)) ⌝ }
+fn target_there(store: &mut [u32], row: &[u32], sizes: Sizes, layer: Block, q: usize)
+    requires { ⌜ ThinGiven (now row) (now store) sizes (layer .cells) (layer .at) × Target (sizes .cells)
+        (sizes .reordering) (layer .cells) q ⌝ }
+    ensures { λ _. ⌜ Put (deckIn (now (row .entry)) sizes) (sizes .reordering) (layer .cells) (layer .at) q
+        (now (store .entry)) (now (store .exit)) ⌝ }
 {
-    let m = search_row::last_at(row, sizes, i + 1, q);
+    let m = search_row::last_at(row, sizes, layer.cells + 1, q);
     let buckets = search_buckets::buckets_of(row, m);
     let mut near = [search_lanes::NONE; 76];
     let mut apart = [search_lanes::NONE; 76];
     let mut far = [search_lanes::NONE; 19];
-    gather(
-        &mut near,
-        &mut apart,
-        &mut far,
-        store,
-        row,
-        sizes,
-        i,
-        from,
-        q,
-    );
+    gather(&mut near, &mut apart, &mut far, store, row, sizes, layer, q);
     run_up(&mut far);
-    let to = from + 768 + q * 64;
+    let to = layer.at + search_store::KEPT_LAYER + q * 64;
     put_found(store, row, &near, &apart, &far, to, m, sizes.poses, buckets);
 }
 
 // The words of state q: all NONE if the row has no such cell.
-fn put_state(store: &mut [u32], row: &[u32], sizes: Sizes, i: usize, from: usize, q: usize)
-    requires { ⌜ ThinGiven (now row) (now store) sizes i from × (q < sizes .states) ⌝ }
-    ensures { λ _. ⌜ Put (deckIn (now (row .entry)) sizes) (sizes .reordering) i from q (now (store .entry))
-        (now (store .exit)) ⌝ }
+fn put_state(store: &mut [u32], row: &[u32], sizes: Sizes, layer: Block, q: usize)
+    requires { ⌜ ThinGiven (now row) (now store) sizes (layer .cells) (layer .at) × (q < sizes .states) ⌝ }
+    ensures { λ _. ⌜ Put (deckIn (now (row .entry)) sizes) (sizes .reordering) (layer .cells) (layer .at) q
+        (now (store .entry)) (now (store .exit)) ⌝ }
 {
-    if !search_row::is_there(row, sizes, i + 1, q) {
-        search_lanes::fill(store, from + 768 + q * 64, 64, search_lanes::NONE);
+    if !search_row::is_there(row, sizes, layer.cells + 1, q) {
+        search_lanes::fill(
+            store,
+            layer.at + search_store::KEPT_LAYER + q * 64,
+            64,
+            search_lanes::NONE,
+        );
         return;
     }
-    target_there(store, row, sizes, i, from, q);
+    target_there(store, row, sizes, layer, q);
 }
 
 // The layer with one cell more than the layer at `from`, which has i, to the block after it.
@@ -352,9 +339,10 @@ pub fn step(store: &mut [u32], row: &[u32], sizes: Sizes, i: usize, from: usize)
     ensures { λ _. ⌜ Stepped (deckIn (now (row .entry)) sizes) (sizes .reordering) (sizes .states) i from
         (now (store .entry)) (now (store .exit)) ⌝ }
 {
+    let layer = Block { cells: i, at: from };
     let mut q: usize = 0;
     while q < sizes.states {
-        put_state(store, row, sizes, i, from, q);
+        put_state(store, row, sizes, layer, q);
         q += 1;
     }
 }

@@ -93,25 +93,25 @@ opened-to D R p {end = end} e o n k f =
 -- ---- to the row's end
 
 -- the tests of a state: the row does not have its cell; it is tall; it can be the last
-module _ (line : List ℕ) (n poses R k q : ℕ) (f : Layer) where
-  pub state-away : thereIn n R n q ≡ false → leastState (deckOf line n poses) R f q ≡ B
-  state-away h = state-out (deckOf line n poses) R f q (sym (and-away (thereIn n R n q) _ h))
+module _ (row : List ℕ) (n poses R k q : ℕ) (f : Layer) where
+  pub state-away : thereIn n R n q ≡ false → leastState (deckOf row n poses) R f q ≡ B
+  state-away h = state-out (deckOf row n poses) R f q (sym (and-away (thereIn n R n q) _ h))
 
-  pub state-tall : k ≡ lastAt R n q → wordOf line k tallWord ≡ 1 → leastState (deckOf line n poses) R f q ≡ B
-  state-tall e h = state-out (deckOf line n poses) R f q (go (thereIn n R n q)
-      (eq-eqb (wordOf line (lastAt R n q) tallWord) 1 (ap (λ (k : ℕ). wordOf line k tallWord) (sym e) ∙ h)))
+  pub state-tall : k ≡ lastAt R n q → wordOf row k tallWord ≡ 1 → leastState (deckOf row n poses) R f q ≡ B
+  state-tall e h = state-out (deckOf row n poses) R f q (go (thereIn n R n q)
+      (eq-eqb (wordOf row (lastAt R n q) tallWord) 1 (ap (λ (k : ℕ). wordOf row k tallWord) (sym e) ∙ h)))
     where
       go : (s : Bool) {t : Bool} → t ≡ true → (s && not t) ≡ false
       go true h = ap not h
       go false h = refl
 
-  pub state-single : k ≡ lastAt R n q → thereIn n R n q ≡ true → (wordOf line k tallWord ≡ 1 → ⊥)
-      → leastState (deckOf line n poses) R f q ≡ leastPoses (backIn line k) f q poses
+  pub state-single : k ≡ lastAt R n q → thereIn n R n q ≡ true → (wordOf row k tallWord ≡ 1 → ⊥)
+      → leastState (deckOf row n poses) R f q ≡ leastPoses (backIn row k) f q poses
   state-single e h z =
-      state-in (deckOf line n poses) R f q
+      state-in (deckOf row n poses) R f q
       (sym (and-there (thereIn n R n q) _ h)
-      ∙ ap not (ne-eqb (wordOf line (lastAt R n q) tallWord) 1 (λ w. z (ap (λ (k : ℕ). wordOf line k tallWord) e ∙ w))))
-      ∙ ap (λ (k : ℕ). leastPoses (backIn line k) f q poses) (sym e)
+      ∙ ap not (ne-eqb (wordOf row (lastAt R n q) tallWord) 1 (λ w. z (ap (λ (k : ℕ). wordOf row k tallWord) e ∙ w))))
+      ∙ ap (λ (k : ℕ). leastPoses (backIn row k) f q poses) (sym e)
 
 -- the least of all states is the least of the layer
 module _ (D : Deck) (R : ℕ) where

@@ -9,6 +9,7 @@ use Rattle.lists.specs.Numbers.{from}
 use Rattle.theory_pair.specs.Coded.{lowest, lowest-from, lowest-low}
 use Rattle.theory_tables.specs.Steps.{B, Cases, SegmentCosts, joinPose, nextCases}
 use Rattle.theory_tables.specs.Lowest.{loop-member, loop-above}
+use Rattle.search_join.specs.Tables.{caseState₀, caseState₁, casePose, pointerEnd}
 use Rattle.search_join.specs.Tables.{Better, Least, Way}
 
 -- ---- loops
@@ -98,7 +99,7 @@ module _ (starts lanes : ℕ) (f : Cases) (x₀ x₁ : SegmentCosts) (q₀ q₁ 
 
   -- a number that is at most every cost, and is one of them if it is below B, is the least
   pub next-is : (v : ℕ) {code : ℕ} → v ≤ B → ((s t l : ℕ) → s < starts → t < starts → l < lanes → v ≤ cost s t l)
-      → (v < B → Way starts lanes f x₀ x₁ q₀ q₁ a v code) → code < 9216
+      → (v < B → Way starts lanes f x₀ x₁ q₀ q₁ a v code) → code < pointerEnd
       → Least (nextCases starts lanes f x₀ x₁ q₀ q₁ a) (Way starts lanes f x₀ x₁ q₀ q₁ a) v code
   next-is v {code} b all met c = record { right = go (decLt v B); found = met; small = c }
     where
@@ -109,7 +110,7 @@ module _ (starts lanes : ℕ) (f : Cases) (x₀ x₁ : SegmentCosts) (q₀ q₁ 
             arith,
             next-above v b all,
             w .sum,
-            next-below (code / 768) (code % 768 / 64) (code % 64) (w .state₀) (w .state₁) (w .lane),
+            next-below (caseState₀ code) (caseState₁ code) (casePose code) (w .state₀) (w .state₁) (w .lane),
           )
       go (no h) = omega (arith, next-above v b all, next-low)
 
@@ -119,14 +120,14 @@ module _ (starts lanes poses : ℕ) (f : Cases) (x₀ x₁ : SegmentCosts) (q₀
   way-open : {value code : ℕ} → value < B → Way starts lanes f x₀ x₁ q₀ q₁ a value code
       → Way starts poses f x₀ x₁ q₀ q₁ a value code
   way-open {code = code} b w =
-      record { state₀ = w .state₀; state₁ = w .state₁; lane = go (decLt (code % 64) poses); sum = w .sum }
+      record { state₀ = w .state₀; state₁ = w .state₁; lane = go (decLt (casePose code) poses); sum = w .sum }
     where
-      go : Dec (code % 64 < poses) → code % 64 < poses
+      go : Dec (casePose code < poses) → casePose code < poses
       go (yes h) = h
       go (no h) = absurd (omega (
         arith,
         w .sum,
-        none (code / 768) (code % 768 / 64) (code % 64) (w .state₀) (w .state₁) (omega arith) (w .lane),
+        none (caseState₀ code) (caseState₁ code) (casePose code) (w .state₀) (w .state₁) (omega arith) (w .lane),
       ))
 
   pub least-open : {value code : ℕ}

@@ -13,6 +13,7 @@ use Rattle.theory_tables.specs.Steps.{B, Cases, SegmentCosts, joinPose, nextCas
 use Rattle.search_lanes.specs.Store.{Low}
 use Rattle.search_lanes.specs.Laws.{low-set}
 use Rattle.search_store.specs.Places.{case-one, case-pointer, case-room, case-beside}
+use Rattle.search_join.specs.Tables.{caseState₀, caseState₁, casePose}
 use Rattle.search_join.specs.Tables.{
   casesIn,
   pointersIn,
@@ -53,7 +54,12 @@ module _ (starts lanes : ℕ) (f g : Cases) (x₀ x₁ y₀ y₁ : SegmentCosts)
         state₀ = w .state₀;
         state₁ = w .state₁;
         lane = w .lane;
-        sum = omega (arith, w .sum, same (code / 768) (code % 768 / 64) (code % 64) (w .state₀) (w .state₁) (w .lane));
+        sum = omega (
+          arith,
+          w .sum,
+          same (caseState₀ code) (caseState₁ code) (casePose code) (w .state₀) (w .state₁)
+              (w .lane),
+        );
       }
 
   pub least-ext : {value code : ℕ}

@@ -15,6 +15,8 @@ use Rattle.theory_tables.specs.Lowest.{loop-member}
 use Rattle.search_lanes.specs.Lanes.{always}
 use Rattle.search_lanes.specs.Store.{Written}
 use Rattle.search_lanes.specs.Laws.{low-set}
+use Rattle.search_store.specs.Map.{pointerRow₀, pointerRow₁}
+use Rattle.search_join.specs.Tables.{caseState₀, caseState₁, casePose}
 use Rattle.search_join.specs.Tables.{casesIn, costsIn, Table, Least, MetAt, SumAt, WayIn, nextIn}
 use Rattle.search_join.specs.Sums.{startSum, laneSum, endSum, Room, Sums, Nones, Summed}
 use Rattle.search_join.specs.Laws.{lowest-zero, lowest-more, lowest-same, lowest-at, next-is}
@@ -208,17 +210,17 @@ module _ (starts lanes I : ℕ) (st : List ℕ) (q₀ q₁ a : ℕ) {sums : List
   pub case-way : (v s t lane : ℕ) → v < B → starts ≤ 12 → lanes ≤ 64 → t < starts → lane < lanes
       → v ≡ getD sums (t * 64 + lane) 0 + costsIn st 1 t lane q₁ a
       → SumAt (startSum I st q₀ a t lane) starts (getD sums (t * 64 + lane) 0) s
-      → WayIn starts lanes I st q₀ q₁ a v (s * 768 + t * 64 + lane) × (s < starts)
+      → WayIn starts lanes I st q₀ q₁ a v (s * pointerRow₀ + t * pointerRow₁ + lane) × (s < starts)
   unfolding startSum
   case-way v s t lane b few narrow g k e found =
       let z = w .before t lane g k (omega arith) in
       let at = lowest-at (startSum I st q₀ a t lane) starts (omega arith) in
       let m = found (at .0) (at .1) (at .2 ∙ sym z) in
       let h = m .0 in
-      let c = s * 768 + t * 64 + lane in
-      let x : c / 768 ≡ s = omega arith in
-      let y : c % 768 / 64 ≡ t = omega arith in
-      let l : c % 64 ≡ lane = omega arith in (
+      let c = s * pointerRow₀ + t * pointerRow₁ + lane in
+      let x : caseState₀ c ≡ s = omega arith in
+      let y : caseState₁ c ≡ t = omega arith in
+      let l : casePose c ≡ lane = omega arith in (
         record {
           state₀ = omega arith;
           state₁ = omega arith;

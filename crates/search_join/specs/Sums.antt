@@ -5,12 +5,13 @@ use mathlib.Core.Path.{_≡_}
 use mathlib.Core.Bool.{Bool, false}
 use mathlib.Core.List.{List}
 use lib.ListN.{length, getD}
-use Rattle.search_store.specs.Map.{costsAt, stateBlock}
+use Rattle.search_store.specs.Map.{costsAt, stateBlock, Pages}
 use Rattle.lists.specs.Numbers.{from}
 use Rattle.theory_pair.specs.Coded.{lowest}
 use Rattle.theory_tables.specs.Steps.{B}
 use Rattle.search_lanes.specs.Store.{Low}
-use Rattle.search_join.specs.Tables.{casesIn, costsIn}
+use Rattle.search_join.specs.declared.Case.{Case}
+use Rattle.search_join.specs.Tables.{casesIn, costsIn, Table, Fits}
 
 -- from start state s to state q₀ in pose a, in lane l of case (s, t)
 unfoldable pub startSum : ℕ → List ℕ → ℕ → ℕ → ℕ → ℕ → ℕ → ℕ
@@ -45,3 +46,41 @@ Nones starts lanes sums = (t l : ℕ) → t < starts → l < lanes → getD sums
 pub record Summed (starts lanes I : ℕ) (st : List ℕ) (q₀ a : ℕ) (sums : List ℕ) (live : Bool) : Type 0 where
   pub all : Sums starts lanes I st q₀ a starts 0 sums
   pub dead : live ≡ false → Nones starts lanes sums
+
+-- ---- what is given
+
+-- case table I, of which the sums of state q₀ of row 0 in pose a are wanted
+pub record Summing (starts lanes I : ℕ) (st : List ℕ) (q₀ a : ℕ) : Type 0 where
+  pub table : Table starts lanes I st
+  pub state : q₀ < 12
+  pub pose : a < 60
+
+-- the sums at `at`, and the costs of row 1 at p₁
+pub record LaneSums (sums : List ℕ) (at : ℕ) (st : List ℕ) (p₁ lanes : ℕ) : Type 0 where
+  pub room : Room sums
+  pub low : Low st
+  pub inside : at + lanes ≤ 768
+  pub costs : p₁ + lanes ≤ length st
+
+-- the sums of a case
+pub record Joining (starts lanes I : ℕ) (st sums : List ℕ) (live : Bool) (case : Case) : Type 0 where
+  pub table : Table starts lanes I st
+  pub summed : Summed starts lanes I st (case .q0) (case .pose) sums live
+  pub fits : Fits case
+
+-- its least value, by state t of row 1
+pub record Pointing (starts lanes I : ℕ) (st sums : List ℕ) (case : Case) (t value : ℕ) : Type 0 where
+  pub table : Table starts lanes I st
+  pub summed : Sums starts lanes I st (case .q0) (case .pose) starts 0 sums
+  pub fits : Fits case
+  pub state : t < starts
+  pub met : endSum lanes sums st (case .q1) (case .pose) t ≡ value
+  pub below : value < B
+
+-- room for the cases of a state of row 0 with `ends` states of row 1
+pub record CaseRoom (starts lanes I q₀ ends : ℕ) (st sums : List ℕ) : Type 0 where
+  pub table : Table starts lanes I st
+  pub room : Room sums
+  pub pages : Pages (q₀ + 1) st
+  pub state : q₀ < 12
+  pub few : ends ≤ 12

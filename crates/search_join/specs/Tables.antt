@@ -4,9 +4,10 @@ use mathlib.Core.Path.{_≡_}
 use mathlib.Core.Logic.{_⊎_}
 use mathlib.Core.List.{List}
 use lib.ListN.{length, getD}
-use Rattle.search_store.specs.Map.{caseAt, pointerAt, costsAt, Pages, Slot, stateBlock}
+use Rattle.search_store.specs.Map.{caseAt, pointerAt, costsAt, Pages, Slot, stateBlock, pointerRow₀, pointerRow₁}
 use Rattle.theory_tables.specs.Steps.{B, Cases, SegmentCosts, nextCases}
 use Rattle.search_lanes.specs.Store.{Low}
+use Rattle.search_join.specs.declared.Case.{Case}
 
 -- case table I, its sources, and the costs of a row
 unfoldable pub casesIn : List ℕ → ℕ → Cases
@@ -34,6 +35,27 @@ pub record Table (starts lanes I : ℕ) (st : List ℕ) : Type 0 where
   pub long : Pages starts st
   pub low : Low st
 
+-- ---- the code of a case: s and t its states in row 0 and row 1, l its pose or lane
+
+-- s * pointerRow₀ + t * pointerRow₁ + l, below
+abbrev pub pointerEnd : ℕ
+pointerEnd = 9216
+
+abbrev pub caseState₀ : ℕ → ℕ
+caseState₀ code = code / pointerRow₀
+
+abbrev pub caseState₁ : ℕ → ℕ
+caseState₁ code = code % pointerRow₀ / pointerRow₁
+
+abbrev pub casePose : ℕ → ℕ
+casePose code = code % pointerRow₁
+
+-- a case that the map has a place for
+pub record Fits (case : Case) : Type 0 where
+  pub state₀ : case .q0 < 12
+  pub state₁ : case .q1 < 12
+  pub pose : case .pose < 60
+
 -- ---- the least of some costs, and where it is
 
 -- the lower of two costs with their codes
@@ -45,7 +67,7 @@ pub record Better (x c y d z e : ℕ) : Type 0 where
 pub record Least (least : ℕ) (W : ℕ → ℕ → Type 0) (value code : ℕ) : Type 0 where
   pub right : value ≡ least
   pub found : value < B → W value code
-  pub small : code < 9216
+  pub small : code < pointerEnd
 
 -- place r below n has that cost
 abbrev pub MetAt : (ℕ → ℕ) → ℕ → ℕ → ℕ → Type 0
@@ -57,13 +79,13 @@ SumAt h n cost r = (k : ℕ) → k < n → h k ≡ cost → MetAt h n cost r
 
 -- ---- a way to the case (q₀, q₁, a)
 
--- by the states s and t and lane l: the code is s * 768 + t * 64 + l
+-- by the states s and t and lane l, which its code says
 pub record Way (starts lanes : ℕ) (f : Cases) (x₀ x₁ : SegmentCosts) (q₀ q₁ a value code : ℕ) : Type 0 where
-  pub state₀ : code / 768 < starts
-  pub state₁ : code % 768 / 64 < starts
-  pub lane : code % 64 < lanes
-  pub sum : value ≡ f (code / 768) (code % 768 / 64) (code % 64)
-      + (x₀ (code / 768) (code % 64) q₀ a + x₁ (code % 768 / 64) (code % 64) q₁ a)
+  pub state₀ : caseState₀ code < starts
+  pub state₁ : caseState₁ code < starts
+  pub lane : casePose code < lanes
+  pub sum : value ≡ f (caseState₀ code) (caseState₁ code) (casePose code)
+      + (x₀ (caseState₀ code) (casePose code) q₀ a + x₁ (caseState₁ code) (casePose code) q₁ a)
 
 -- the same of case table I and the costs in the store
 abbrev pub WayIn : ℕ → ℕ → ℕ → List ℕ → ℕ → ℕ → ℕ → ℕ → ℕ → Type 0
@@ -117,7 +139,23 @@ pub record Joined (starts lanes ends poses I : ℕ) (old new : List ℕ) : Type 
       (casesIn new (suc I) q₀ q₁ a)
       (pointersIn new (suc I) q₀ q₁ a)
 
+-- what it takes, with the cases of so many ends in so many poses
+pub record JoinGiven (starts lanes ends poses I : ℕ) (st : List ℕ) : Type 0 where
+  pub table : Table starts lanes I st
+  pub pages : Pages ends st
+  pub last : ends ≤ 12
+  pub offered : poses ≤ 60
+
 -- ---- lanes closed: no case goes by them
+
+-- so many pages, of whose cases of `ends` states of row 1 the lanes from `low` to `high` are to be closed
+pub record Closing (I pages ends low high : ℕ) (st : List ℕ) : Type 0 where
+  pub fits : Low st
+  pub long : Pages pages st
+  pub table : I ≤ 25
+  pub few : ends ≤ 12
+  pub order : low ≤ high
+  pub narrow : high ≤ 64
 
 -- one state of both rows; those of a state of row 0; all states: states of row 1 below m
 abbrev pub OneState : ℕ → ℕ → ℕ → ℕ → Type 0

@@ -2,20 +2,27 @@
 ghost use mathlib.Core.Path.{_≡_};
 ghost use mathlib.Core.Bool.{false};
 ghost use Prim.Native.Nat.{_+_, _*_, _≤_, _<_};
-ghost use lib.ListN.{length};
-ghost use Rattle.search_store.specs.Map.{caseAt, pointerAt, costsAt, Pages};
+ghost use Rattle.search_store.specs.Map.{Pages};
 ghost use Rattle.lists.specs.Numbers.{from};
 ghost use Rattle.theory_pair.specs.Coded.{lowest};
-ghost use Rattle.search_lanes.specs.Store.{Low};
 ghost use Rattle.theory_tables.specs.Steps.{B};
-ghost use Rattle.search_join.specs.Tables.{Table, Better, Least, MetAt, SumAt, WayIn, nextIn, OneCase};
-ghost use Rattle.search_join.specs.Tables.{PoseCases, BlockCases, Part, Joined, StateWith, AllStates, Closed};
-ghost use Rattle.search_join.specs.Sums.{startSum, laneSum, endSum, Room, Sums, Summed};
+ghost use Rattle.search_join.specs.Tables.{Better, Least, MetAt, SumAt, WayIn, nextIn, OneCase, pointerEnd};
+ghost use Rattle.search_join.specs.Tables.{PoseCases, BlockCases, Part, Joined, JoinGiven};
+ghost use Rattle.search_join.specs.Tables.{StateWith, AllStates, Closing, Closed};
+ghost use Rattle.search_join.specs.Sums.{startSum, laneSum, endSum, Room, Sums, Summed, Summing};
+ghost use Rattle.search_join.specs.Sums.{LaneSums, Joining, Pointing, CaseRoom};
 
 // The least of some costs, and a code of where it is.
 pub struct Best {
     pub value: u32,
     pub code: u32,
+}
+
+// A case: its states in row 0 and row 1, and its pose.
+pub struct Case {
+    pub q0: usize,
+    pub q1: usize,
+    pub pose: usize,
 }
 
 // The lower of two, the first if they are equal.
@@ -43,8 +50,8 @@ fn lower_sums(
     q0: usize,
     a: usize,
 )
-    requires { ⌜ Table starts lanes i (now store) × Sums starts lanes i (now store) q0 a s (t * 64) (now sums)
-        × (s < starts) × (t < starts) × (q0 < 12) × (a < 60) ⌝ }
+    requires { ⌜ Summing starts lanes i (now store) q0 a × Sums starts lanes i (now store) q0 a s (t * 64) (now sums)
+        × (s < starts) × (t < starts) ⌝ }
     ensures { λ _. ⌜ Sums starts lanes i (now (store .entry)) q0 a s (t * 64 + 64) (now (sums .exit)) ⌝ }
 {
     let at = search_store::case_at(i, s, t);
@@ -68,8 +75,8 @@ fn sums_from(
     q0: usize,
     a: usize,
 ) -> bool
-    requires { ⌜ Table starts lanes i (now store) × Sums starts lanes i (now store) q0 a s 0 (now sums) × (s < starts)
-        × (q0 < 12) × (a < 60) ⌝ }
+    requires { ⌜ Summing starts lanes i (now store) q0 a × Sums starts lanes i (now store) q0 a s 0 (now sums)
+        × (s < starts) ⌝ }
     ensures { λ live. ⌜ Sums starts lanes i (now (store .entry)) q0 a (s + 1) 0 (now (sums .exit))
         × (live ≡ false → now (sums .exit) ≡ now (sums .entry)) ⌝ }
 {
@@ -96,7 +103,7 @@ fn fill_sums(
     q0: usize,
     a: usize,
 ) -> bool
-    requires { ⌜ Table starts lanes i (now store) × Room (now sums) × (q0 < 12) × (a < 60) ⌝ }
+    requires { ⌜ Summing starts lanes i (now store) q0 a × Room (now sums) ⌝ }
     ensures { λ live. ⌜ Summed starts lanes i (now (store .entry)) q0 a (now (sums .exit)) live ⌝ }
 {
     search_lanes::fill(sums, 0, starts * 64, search_lanes::NONE);
@@ -115,7 +122,7 @@ fn fill_sums(
 
 // The least over the lanes.
 fn least_lane(sums: &[u32; 768], at: usize, store: &[u32], p1: usize, lanes: usize) -> u32
-    requires { ⌜ Room (now sums) × Low (now store) × (at + lanes ≤ 768) × (p1 + lanes ≤ length (now store)) ⌝ }
+    requires { ⌜ LaneSums (now sums) at (now store) p1 lanes ⌝ }
     ensures { λ r. ⌜ r ≡ lowest B (laneSum (now (sums .entry)) at (now (store .entry)) p1) (from 0 lanes) ⌝ }
 {
     let mut best = search_lanes::NONE;
@@ -129,7 +136,7 @@ fn least_lane(sums: &[u32; 768], at: usize, store: &[u32], p1: usize, lanes: usi
 
 // The first lane with that sum; 0 where there is none.
 fn lane_of(sums: &[u32; 768], at: usize, store: &[u32], p1: usize, lanes: usize, sum: u32) -> usize
-    requires { ⌜ Room (now sums) × Low (now store) × (at + lanes ≤ 768) × (p1 + lanes ≤ length (now store)) ⌝ }
+    requires { ⌜ LaneSums (now sums) at (now store) p1 lanes ⌝ }
     ensures { λ r. ⌜ SumAt (laneSum (now (sums .entry)) at (now (store .entry)) p1) lanes sum r ⌝ }
 {
     let mut l: usize = 0;
@@ -153,7 +160,7 @@ fn start_of(
     lane: usize,
     sum: u32,
 ) -> usize
-    requires { ⌜ Table starts 64 i (now store) × (q0 < 12) × (a < 60) × (t < starts) × (lane < 64) ⌝ }
+    requires { ⌜ Summing starts 64 i (now store) q0 a × (t < starts) × (lane < 64) ⌝ }
     ensures { λ r. ⌜ SumAt (startSum i (now (store .entry)) q0 a t lane) starts sum r ⌝ }
 {
     let mut s: usize = 0;
@@ -178,7 +185,7 @@ fn best_end(
     q1: usize,
     a: usize,
 ) -> Best
-    requires { ⌜ Table starts lanes 0 (now store) × Room (now sums) × (q1 < 12) × (a < 60) ⌝ }
+    requires { ⌜ Summing starts lanes 0 (now store) q1 a × Room (now sums) ⌝ }
     ensures { λ b. ⌜ Least (lowest B (endSum lanes (now (sums .entry)) (now (store .entry)) q1 a) (from 0 starts))
         (MetAt (endSum lanes (now (sums .entry)) (now (store .entry)) q1 a) starts) (b .value) (b .code) ⌝ }
 {
@@ -208,27 +215,25 @@ fn pointer_of(
     i: usize,
     starts: usize,
     lanes: usize,
-    q0: usize,
-    q1: usize,
-    a: usize,
+    case: Case,
     t: usize,
     value: u32,
 ) -> u32
-    requires { ⌜ Table starts lanes i (now store) × Sums starts lanes i (now store) q0 a starts 0 (now sums) × (q0 < 12)
-        × (q1 < 12) × (a < 60) × (t < starts) × (endSum lanes (now sums) (now store) q1 a t ≡ value) × (value < B) ⌝ }
-    ensures { λ code. ⌜ WayIn starts lanes i (now (store .entry)) q0 q1 a value code × (code < 9216) ⌝ }
+    requires { ⌜ Pointing starts lanes i (now store) (now sums) case t value ⌝ }
+    ensures { λ code. ⌜ WayIn starts lanes i (now (store .entry)) (case .q0) (case .q1) (case .pose) value code
+        × (code < pointerEnd) ⌝ }
 {
     let lane = lane_of(
         sums,
         t * 64,
         store,
-        search_store::cost_at(1, t, q1, a),
+        search_store::cost_at(1, t, case.q1, case.pose),
         lanes,
         value,
     );
-    let at = t * 64 + lane;
-    let s = start_of(store, i, starts, q0, a, t, lane, sums[at]);
-    (s * 768 + at) as u32
+    let at = t * search_store::POINTER_ROW_1 + lane;
+    let s = start_of(store, i, starts, case.q0, case.pose, t, lane, sums[at]);
+    (s * search_store::POINTER_ROW_0 + at) as u32
 }
 
 // A case: the least over states and lanes, and the code of a way to it.
@@ -239,14 +244,11 @@ fn join_case(
     i: usize,
     starts: usize,
     lanes: usize,
-    q0: usize,
-    q1: usize,
-    a: usize,
+    case: Case,
 ) -> Best
-    requires { ⌜ Table starts lanes i (now store) × Summed starts lanes i (now store) q0 a (now sums) live × (q0 < 12)
-        × (q1 < 12) × (a < 60) ⌝ }
-    ensures { λ b. ⌜ Least (nextIn starts lanes i (now (store .entry)) q0 q1 a)
-        (WayIn starts lanes i (now (store .entry)) q0 q1 a) (b .value) (b .code) ⌝ }
+    requires { ⌜ Joining starts lanes i (now store) (now sums) live case ⌝ }
+    ensures { λ b. ⌜ Least (nextIn starts lanes i (now (store .entry)) (case .q0) (case .q1) (case .pose))
+        (WayIn starts lanes i (now (store .entry)) (case .q0) (case .q1) (case .pose)) (b .value) (b .code) ⌝ }
 {
     if !live {
         return Best {
@@ -254,7 +256,7 @@ fn join_case(
             code: 0,
         };
     }
-    let best = best_end(sums, store, starts, lanes, q1, a);
+    let best = best_end(sums, store, starts, lanes, case.q1, case.pose);
     let value = best.value;
     if value == search_lanes::NONE {
         return Best { value, code: 0 };
@@ -262,13 +264,13 @@ fn join_case(
     let t = best.code as usize;
     Best {
         value,
-        code: pointer_of(sums, store, i, starts, lanes, q0, q1, a, t, value),
+        code: pointer_of(sums, store, i, starts, lanes, case, t, value),
     }
 }
 
 // ---- the cases of a stage
 
-// Case (q0, q1, a) of table i + 1, and its source.
+// A case of table i + 1, and its source.
 fn put_case(
     store: &mut [u32],
     sums: &[u32; 768],
@@ -276,17 +278,15 @@ fn put_case(
     i: usize,
     starts: usize,
     lanes: usize,
-    q0: usize,
-    q1: usize,
-    a: usize,
+    case: Case,
 )
-    requires { ⌜ Table starts lanes i (now store) × Summed starts lanes i (now store) q0 a (now sums) live
-        × Pages (q0 + 1) (now store) × (q0 < 12) × (q1 < 12) × (a < 60) ⌝ }
-    ensures { λ _. ⌜ Part starts lanes i (OneCase q0 q1 a) (now (store .entry)) (now (store .exit)) ⌝ }
+    requires { ⌜ Joining starts lanes i (now store) (now sums) live case × Pages (case .q0 + 1) (now store) ⌝ }
+    ensures { λ _. ⌜ Part starts lanes i (OneCase (case .q0) (case .q1) (case .pose)) (now (store .entry))
+        (now (store .exit)) ⌝ }
 {
-    let best = join_case(sums, live, store, i, starts, lanes, q0, q1, a);
-    store[search_store::case_at(i + 1, q0, q1) + a] = best.value;
-    store[search_store::pointer_at(i + 1, q0, q1) + a] = best.code;
+    let best = join_case(sums, live, store, i, starts, lanes, case);
+    store[search_store::case_at(i + 1, case.q0, case.q1) + case.pose] = best.value;
+    store[search_store::pointer_at(i + 1, case.q0, case.q1) + case.pose] = best.code;
 }
 
 // The cases of a state of row 0 in a pose, for every state of row 1.
@@ -300,15 +300,15 @@ fn case_pose(
     ends: usize,
     a: usize,
 )
-    requires { ⌜ Table starts lanes i (now store) × Room (now sums) × Pages (q0 + 1) (now store) × (q0 < 12)
-        × (ends ≤ 12) × (a < 60) ⌝ }
+    requires { ⌜ CaseRoom starts lanes i q0 ends (now store) (now sums) × (a < 60) ⌝ }
     ensures { λ _. ⌜ Part starts lanes i (PoseCases q0 ends a) (now (store .entry)) (now (store .exit))
         × Room (now (sums .exit)) ⌝ }
 {
     let live = fill_sums(sums, store, i, starts, lanes, q0, a);
     let mut q1: usize = 0;
     while q1 < ends {
-        put_case(store, sums, live, i, starts, lanes, q0, q1, a);
+        let case = Case { q0, q1, pose: a };
+        put_case(store, sums, live, i, starts, lanes, case);
         q1 += 1;
     }
 }
@@ -324,8 +324,7 @@ fn case_block(
     ends: usize,
     poses: usize,
 )
-    requires { ⌜ Table starts lanes i (now store) × Room (now sums) × Pages (q0 + 1) (now store) × (q0 < 12)
-        × (ends ≤ 12) × (poses ≤ 60) ⌝ }
+    requires { ⌜ CaseRoom starts lanes i q0 ends (now store) (now sums) × (poses ≤ 60) ⌝ }
     ensures { λ _. ⌜ Part starts lanes i (BlockCases q0 ends poses) (now (store .entry)) (now (store .exit))
         × Room (now (sums .exit)) ⌝ }
 {
@@ -346,7 +345,7 @@ pub fn join_stage(
     ends: usize,
     poses: usize,
 )
-    requires { ⌜ Table starts lanes i (now store) × Pages ends (now store) × (ends ≤ 12) × (poses ≤ 60) ⌝ }
+    requires { ⌜ JoinGiven starts lanes ends poses i (now store) ⌝ }
     ensures { λ _. ⌜ Joined starts lanes ends poses i (now (store .entry)) (now (store .exit)) ⌝ }
 {
     let mut sums = [search_lanes::NONE; 768];
@@ -361,8 +360,7 @@ pub fn join_stage(
 
 // The lanes from `low` to `high` of table i closed for a state of row 0 with every state of row 1.
 fn close_state(store: &mut [u32], i: usize, q0: usize, ends: usize, low: usize, high: usize)
-    requires { ⌜ Low (now store) × Pages (q0 + 1) (now store) × (i ≤ 25) × (q0 < 12) × (ends ≤ 12) × (low ≤ high)
-        × (high ≤ 64) ⌝ }
+    requires { ⌜ Closing i (q0 + 1) ends low high (now store) × (q0 < 12) ⌝ }
     ensures { λ _. ⌜ Closed i low high (StateWith q0 ends) (now (store .entry)) (now (store .exit)) ⌝ }
 {
     let mut t: usize = 0;
@@ -379,7 +377,7 @@ fn close_state(store: &mut [u32], i: usize, q0: usize, ends: usize, low: usize, 
 
 // The same for every state of row 0.
 pub fn close_lanes(store: &mut [u32], i: usize, ends: usize, low: usize, high: usize)
-    requires { ⌜ Low (now store) × Pages ends (now store) × (i ≤ 25) × (ends ≤ 12) × (low ≤ high) × (high ≤ 64) ⌝ }
+    requires { ⌜ Closing i ends ends low high (now store) ⌝ }
     ensures { λ _. ⌜ Closed i low high (AllStates ends ends) (now (store .entry)) (now (store .exit)) ⌝ }
 {
     let mut s: usize = 0;

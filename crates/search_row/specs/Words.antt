@@ -60,54 +60,54 @@ apartWord = 86
 
 -- Pose a is 4 e + 2 layout + mark, at site given + e - D. Sites are compared with D added to both.
 abbrev pub wordOf : List ℕ → ℕ → ℕ → ℕ
-wordOf line k i = getD line (k * cellWords + i) 0
+wordOf row k i = getD row (k * cellWords + i) 0
 
 abbrev pub variant : ℕ → ℕ
 variant a = a % 4
 
 -- the left site of pose a, and the first site right of pose b; both with D added
 abbrev pub siteIn : List ℕ → ℕ → ℕ → ℕ
-siteIn line k a = wordOf line k givenWord + a / 4
+siteIn row k a = wordOf row k givenWord + a / 4
 
 abbrev pub endIn : List ℕ → ℕ → ℕ → ℕ
-endIn line k b = siteIn line k b + wordOf line k (widthWord + variant b / 2)
+endIn row k b = siteIn row k b + wordOf row k (widthWord + variant b / 2)
 
 -- how many of the heights differ where pose b of k has pose a of m on its right
 abbrev pub differIn : List ℕ → ℕ → ℕ → ℕ → ℕ → ℕ
-differIn line k b m a =
-    cond (eqb (wordOf line k (rightP + variant b)) (wordOf line m (leftP + variant a))) 0 1
-    + cond (eqb (wordOf line k (rightN + variant b)) (wordOf line m (leftN + variant a))) 0 1
+differIn row k b m a =
+    cond (eqb (wordOf row k (rightP + variant b)) (wordOf row m (leftP + variant a))) 0 1
+    + cond (eqb (wordOf row k (rightN + variant b)) (wordOf row m (leftN + variant a))) 0 1
 
 -- the weight of a step between m and the cell on its left, by the gap between them: document 01 has
 -- one weight (request A7 is to give it two)
 abbrev pub weightIn : List ℕ → ℕ → ℕ → ℕ
-weightIn line m gap = cond (eqb gap 0) (wordOf line m touchingWord) (wordOf line m apartWord)
+weightIn row m gap = cond (eqb gap 0) (wordOf row m touchingWord) (wordOf row m apartWord)
 
 -- what the right one's left site x and the left one's end y make of what they pay by their gap
 abbrev pub tollAt : ℕ → ℕ → (ℕ → ℕ) → ℕ
 tollAt x y pay = cond (ltb x y) B (cond (eqb (x - y) 1) B (charge (x - y) * pay (x - y)))
 
 unfoldable pub tollIn : List ℕ → ℕ → ℕ → ℕ → ℕ → ℕ
-tollIn line k b m a = tollAt (siteIn line m a) (endIn line k b) (λ gap. weightIn line m gap * differIn line k b m a)
+tollIn row k b m a = tollAt (siteIn row m a) (endIn row k b) (λ gap. weightIn row m gap * differIn row k b m a)
 
 -- what a cell pays as the first of its row, and as the last: document 01 lets a row begin and end anywhere (request
 -- A1 is to change these lines and their laws)
 unfoldable pub frontIn : List ℕ → ℕ → ℕ → ℕ
-frontIn line k a = 0
+frontIn row k a = 0
 
 unfoldable pub backIn : List ℕ → ℕ → ℕ → ℕ
-backIn line k a = 0
+backIn row k a = 0
 
 abbrev pub deckOf : List ℕ → ℕ → ℕ → Deck
-deckOf line n poses =
+deckOf row n poses =
     record {
       size = n;
       poses = poses;
-      own = λ k a. wordOf line k a;
-      toll = tollIn line;
-      tall = λ k. eqb (wordOf line k tallWord) 1;
-      front = frontIn line;
-      back = backIn line;
+      own = λ k a. wordOf row k a;
+      toll = tollIn row;
+      tall = λ k. eqb (wordOf row k tallWord) 1;
+      front = frontIn row;
+      back = backIn row;
     }
 
 -- with i cells placed, the row of n cells has the last of them, that of state q; so it is with every deck of n cells

@@ -8,7 +8,7 @@ ghost use lib.Dec.{eqb};
 ghost use Rattle.theory_tables.specs.Steps.{stateCount, lastAt, isSource};
 ghost use Rattle.theory_tables.specs.Stages.{placedWith};
 ghost use Rattle.search_row.specs.Words.{siteIn, endIn, differIn, weightIn, tollIn, frontIn, backIn};
-ghost use Rattle.search_row.specs.Words.{deckIn, thereIn, posIn, StateWords, RowWords, Ground};
+ghost use Rattle.search_row.specs.Words.{deckIn, thereIn, posIn, withCells, StateWords, RowWords, Ground};
 
 // The words of a row: those of a cell; where the states begin, the tall cells' positions, and how many words there are.
 pub const CELL: usize = 128;
@@ -48,6 +48,19 @@ pub struct Sizes {
     pub reordering: usize,
     pub states: usize,
     pub talls: usize,
+}
+
+// The same with so many cells: the other row's.
+pub fn with_cells(sizes: Sizes, cells: usize) -> Sizes
+    ensures { λ z. ⌜ z ≡ withCells sizes cells ⌝ }
+{
+    Sizes {
+        cells,
+        poses: sizes.poses,
+        reordering: sizes.reordering,
+        states: sizes.states,
+        talls: sizes.talls,
+    }
 }
 
 // A word as a count or a place.

@@ -13,7 +13,11 @@ use Rattle.theory_tables.specs.Steps.{B, Deck, Layer, Cases, SegmentCosts, stat
 use Rattle.theory_tables.specs.Stages.{stageEnd, openCost, stageCost, caseTable}
 use Rattle.search_lanes.specs.Store.{Low, layerIn}
 use Rattle.search_row.specs.Words.{deckIn, posIn, withCells, RowGiven}
-use Rattle.search_join.specs.Tables.{casesIn, pointersIn, costsIn, SameCase, SameTables, Least, Way}
+use Rattle.search_wide_buckets.specs.Table.{Lent}
+use Rattle.search_wide_layer.specs.Loops.{Given}
+use Rattle.search_wide_segment.specs.Runs.{CostRoom}
+use Rattle.search_dense_segment.specs.Opened.{OpenRoom}
+use Rattle.search_join.specs.Tables.{casesIn, pointersIn, costsIn, SameCase, SameTables, Table, Least, Way}
 
 -- how many of x states or poses table number I has: the tables of the tall cells
 -- all of them, the first table and the last one
@@ -158,7 +162,11 @@ pub record StagesGiven (row₀ row₁ st : List ℕ) (z : Sizes) (n₁ : ℕ) : 
   pub long : Pages (wide (z .talls) (z .talls) (z .states)) st
   pub low : Low st
 
--- ---- what they leave, by the rows' words
+-- the same for stage I, with a table lent
+pub record StageGiven (table row₀ row₁ st : List ℕ) (z : Sizes) (n₁ I : ℕ) : Type 0 where
+  pub lent : Lent table
+  pub given : StagesGiven row₀ row₁ st z n₁
+  pub stage : I ≤ z .talls
 
 -- how many states and poses table number I has
 abbrev pub statesAt : Sizes → ℕ → ℕ
@@ -166,6 +174,34 @@ statesAt z I = wide (z .talls) I (z .states)
 
 abbrev pub posesAt : Sizes → ℕ → ℕ
 posesAt z I = wide (z .talls) I (z .poses)
+
+-- start state s of stage I in one row, with the case table that it starts from
+pub record StartGiven (table row st : List ℕ) (side : ℕ) (z : Sizes) (I s : ℕ) : Type 0 where
+  pub lent : Lent table
+  pub given : RowGiven row z
+  pub cases : Table (statesAt z I) (posesAt z I) I st
+  pub one : side ≤ 1
+  pub stage : I ≤ z .talls
+  pub state : s < statesAt z I
+
+-- the same, with room for its costs
+pub record CostGiven (table row st : List ℕ) (z : Sizes) (I s costs : ℕ) : Type 0 where
+  pub lent : Lent table
+  pub given : RowGiven row z
+  pub room : OpenRoom st (z .reordering) (z .poses) (z .states) costs
+  pub stage : I ≤ z .talls
+  pub state : s < statesAt z I
+
+-- the stage's first layer in block 0, and what the start of each lane pays as the row's last
+pub record EndGiven (table row st starts : List ℕ) (z : Sizes) (lanes cells costs : ℕ) : Type 0 where
+  pub lent : Lent table
+  pub given : RowGiven row z
+  pub layer : Given row st z lanes cells 0
+  pub room : CostRoom st costs
+  pub low : Low starts
+  pub long : length starts ≡ 64
+
+-- ---- what they leave, by the rows' words
 
 -- the costs of stage I in a row
 abbrev pub costIn : List ℕ → Sizes → ℕ → SegmentCosts

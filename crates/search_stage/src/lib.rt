@@ -4,11 +4,11 @@ mod row;
 ghost use mathlib.Core.Path.{_≡_};
 ghost use mathlib.Core.Bool.{false};
 ghost use Prim.Native.Nat.{suc, _≤_, _<_};
-ghost use Rattle.search_row.specs.Words.{RowGiven};
 ghost use Rattle.search_wide_buckets.specs.Table.{Lent};
 ghost use Rattle.search_join.specs.Tables.{Table};
-ghost use Rattle.search_stage.specs.Stage.{wide, widthOf, fromAt, statesAt, posesAt, Dead};
-ghost use Rattle.search_stage.specs.Stage.{StagesGiven, RowStart, RowsStart, RowsStage, RowsStages};
+ghost use Rattle.search_stage.specs.Stage.{wide, widthOf, fromAt, Dead};
+ghost use Rattle.search_stage.specs.Stage.{StagesGiven, StageGiven, StartGiven, RowStart};
+ghost use Rattle.search_stage.specs.Stage.{RowsStart, RowsStage, RowsStages};
 use row::row_cost;
 use search_row::Sizes;
 
@@ -78,8 +78,7 @@ fn cost_start(
     i: usize,
     s: usize,
 )
-    requires { ⌜ Lent (now table) × RowGiven (now row) sizes × Table (statesAt sizes i) (posesAt sizes i) i (now store)
-        × (side ≤ 1) × (i ≤ sizes .talls) × (s < statesAt sizes i) ⌝ }
+    requires { ⌜ StartGiven (now table) (now row) (now store) side sizes i s ⌝ }
     ensures { λ _. ⌜ RowStart side (now (row .entry)) sizes i s (now (store .entry)) (now (store .exit))
         × Lent (now (table .exit)) ⌝ }
 {
@@ -102,17 +101,11 @@ fn costs(
     cells1: usize,
     i: usize,
 )
-    requires { ⌜ Lent (now table) × StagesGiven (now row0) (now row1) (now store) sizes cells1 × (i ≤ sizes .talls) ⌝ }
+    requires { ⌜ StageGiven (now table) (now row0) (now row1) (now store) sizes cells1 i ⌝ }
     ensures { λ _. ⌜ RowsStart (now (row0 .entry)) (now (row1 .entry)) sizes cells1 i (now (store .entry))
         (now (store .exit)) × Lent (now (table .exit)) ⌝ }
 {
-    let sizes1 = Sizes {
-        cells: cells1,
-        poses: sizes.poses,
-        reordering: sizes.reordering,
-        states: sizes.states,
-        talls: sizes.talls,
-    };
+    let sizes1 = search_row::with_cells(sizes, cells1);
     let starts = wide_of(sizes.talls, i, sizes.states);
     let mut s: usize = 0;
     while s < starts {
@@ -132,7 +125,7 @@ pub fn stage(
     cells1: usize,
     i: usize,
 )
-    requires { ⌜ Lent (now table) × StagesGiven (now row0) (now row1) (now store) sizes cells1 × (i ≤ sizes .talls) ⌝ }
+    requires { ⌜ StageGiven (now table) (now row0) (now row1) (now store) sizes cells1 i ⌝ }
     ensures { λ _. ⌜ RowsStage (now (row0 .entry)) (now (row1 .entry)) sizes cells1 i (now (store .entry))
         (now (store .exit)) × Lent (now (table .exit)) ⌝ }
 {

@@ -4,11 +4,10 @@ ghost use Prim.Native.Nat.{suc, _≤_, _<_};
 ghost use lib.ListN.{length};
 ghost use Rattle.search_lanes.specs.Store.{Low, Written};
 ghost use Rattle.search_row.specs.Words.{backIn, deckIn, posIn, RowWords, RowGiven};
-ghost use Rattle.search_wide_layer.specs.Loops.{Given};
 ghost use Rattle.search_wide_buckets.specs.Table.{Lent};
-ghost use Rattle.search_wide_segment.specs.Runs.{CostRoom};
 ghost use Rattle.search_dense_segment.specs.Opened.{OpenRoom};
-ghost use Rattle.search_stage.specs.Stage.{statesAt, posesAt, costIn, endFrom, RowCosted, RowCost};
+ghost use Rattle.search_stage.specs.Stage.{statesAt, posesAt, costIn, endFrom, EndGiven, CostGiven};
+ghost use Rattle.search_stage.specs.Stage.{RowCosted, RowCost};
 use crate::width_of;
 use search_row::Sizes;
 
@@ -37,8 +36,7 @@ fn stage_end(
     cells: usize,
     costs: usize,
 )
-    requires { ⌜ Lent (now table) × RowGiven (now row) sizes × Given (now row) (now store) sizes lanes cells 0
-        × CostRoom (now store) costs × Low (now starts) × (length (now starts) ≡ 64) ⌝ }
+    requires { ⌜ EndGiven (now table) (now row) (now store) (now starts) sizes lanes cells costs ⌝ }
     ensures { λ _. ⌜ RowCosted (endFrom (deckIn (now (row .entry)) sizes) (sizes .reordering) (sizes .talls)
         (posIn (now (row .entry))) i (now (store .entry)) cells (now (starts .entry))) lanes (statesAt sizes (suc i))
         (posesAt sizes (suc i)) costs (now (store .entry)) (now (store .exit)) × Lent (now (table .exit)) ⌝ }
@@ -77,9 +75,7 @@ pub fn row_cost(
     s: usize,
     costs: usize,
 )
-    requires { ⌜ Lent (now table) × RowGiven (now row) sizes
-        × OpenRoom (now store) (sizes .reordering) (sizes .poses) (sizes .states) costs × (i ≤ sizes .talls)
-        × (s < statesAt sizes i) ⌝ }
+    requires { ⌜ CostGiven (now table) (now row) (now store) sizes i s costs ⌝ }
     ensures { λ _. ⌜ RowCost (now (row .entry)) sizes i s costs (now (store .entry)) (now (store .exit))
         × Lent (now (table .exit)) ⌝ }
 {

@@ -46,6 +46,13 @@ caseAt I q₀ q₁ = 247296 + q₀ * pageWords + q₁ * 1664 + I * 64
 abbrev pub pointerAt : ℕ → ℕ → ℕ → ℕ
 pointerAt I q₀ q₁ = caseAt I q₀ q₁ + 19968
 
+-- a back pointer: so much for each state of row 0, so much for each of row 1, and the pose
+abbrev pub pointerRow₀ : ℕ
+pointerRow₀ = 768
+
+abbrev pub pointerRow₁ : ℕ
+pointerRow₁ = 64
+
 -- the store has so many pages
 abbrev pub Pages : ℕ → List ℕ → Type 0
 Pages n st = pageAt n ≤ length st

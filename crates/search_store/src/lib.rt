@@ -27,6 +27,11 @@ const CASE: usize = 1664;
 
 const POINTERS: usize = 19968;
 
+// A pointer counts the states of row 0 in such steps, and those of row 1 in these; the rest is the pose.
+pub const POINTER_ROW_0: usize = 768;
+
+pub const POINTER_ROW_1: usize = 64;
+
 // The words of the table in which the sources of a state are gathered, in all lanes.
 pub const TABLE: usize = 10944;
 

@@ -11,7 +11,8 @@ use Rattle.theory_tables.specs.Steps.{B, Deck, Layer}
 use Rattle.search_lanes.specs.Store.{Frame, Low, layerIn}
 use Rattle.search_row.specs.Words.{wordOf, RowWords}
 use Rattle.search_buckets.specs.Gaps.{paying}
-use Rattle.search_buckets.specs.Rows.{inRow, bucketIn, onePose, byPoses, oneState, byStates, found}
+use Rattle.search_buckets.specs.declared.Source.{Source}
+use Rattle.search_buckets.specs.Rows.{inRow, bucketIn, onePose, byPoses, oneState, byStates, found, Pays, PaysLow}
 
 -- the buckets of lane l
 abbrev pub wordAt : List ℕ → ℕ → ℕ → ℕ → ℕ
@@ -26,6 +27,12 @@ pub record LoweredAt (f : ℕ → ℕ) (to lanes : ℕ) (old new : List ℕ) : T
 pub record Lent (table : List ℕ) : Type 0 where
   pub long : length table ≡ tableWords
   pub low : Low table
+
+-- the same for so many poses in so many lanes
+pub record TableFor (table : List ℕ) (poses lanes : ℕ) : Type 0 where
+  pub lent : Lent table
+  pub few : poses ≤ 60
+  pub narrow : lanes ≤ 64
 
 -- how many buckets a target may need
 abbrev pub FiveOrNine : ℕ → Type 0
@@ -64,18 +71,37 @@ chargedBy row at pays u v l = getD row (at + l) 0 + getD pays (u * 9 + v) 0
 abbrev pub chargedOne : ℕ → List ℕ → ℕ → ℕ → ℕ → ℕ
 chargedOne x pays u v l = x + getD pays (u * 9 + v) 0
 
--- a table to be lowered by the cell at position k, whose rows begin at `at`, for the cell
--- at position m, which needs so many buckets
-pub record Source (table st line : List ℕ) (at k m buckets lanes : ℕ) : Type 0 where
-  pub words : RowWords line
+-- a source of cost x in one lane, to be put to row t: by its variant u, what it pays in the buckets below n
+pub record LaneSpread (table pays : List ℕ) (n x u t lane : ℕ) : Type 0 where
+  pub lent : Lent table
+  pub cost : x ≤ B
+  pub paid : PaysLow n pays
+  pub kind : u < 4
+  pub here : t < 19
+  pub inside : lane < 64
+
+-- the same of a source in so many lanes, whose words begin at `at`
+pub record RowSpread (table row pays : List ℕ) (n at u t lanes : ℕ) : Type 0 where
+  pub lent : Lent table
+  pub low : Low row
+  pub room : at + lanes ≤ length row
+  pub paid : PaysLow n pays
+  pub kind : u < 4
+  pub here : t < 19
+  pub narrow : lanes ≤ 64
+
+-- a table to be lowered by a source, what it pays being known
+pub record WideSource (table st row pays : List ℕ) (s : Source) (lanes : ℕ) : Type 0 where
+  pub words : RowWords row
   pub low : Low st
   pub tableLow : Low table
   pub tableLong : length table ≡ tableWords
   pub narrow : lanes ≤ 64
-  pub room : at + stateBlock ≤ length st
-  pub left : k < 64
-  pub right : m < 64
-  pub needed : FiveOrNine buckets
+  pub room : s .at + stateBlock ≤ length st
+  pub left : s .left < 64
+  pub right : s .right < 64
+  pub needed : FiveOrNine (s .buckets)
+  pub paid : Pays row (s .left) (s .right) (s .buckets) 36 pays
 
 -- ---- sources in the store, l is the lane
 
@@ -85,19 +111,19 @@ rowIn st at l b = getD st (at + b * 64 + l) 0
 
 -- pose b of the cell at position k for the cell at position m
 abbrev pub poseIn : List ℕ → List ℕ → ℕ → ℕ → ℕ → ℕ → ℕ → ℕ → ℕ → ℕ
-poseIn st line at k m b l = onePose line k m b (rowIn st at l b)
+poseIn st row at k m b l = onePose row k m b (rowIn st at l b)
 
 -- its poses below n
 abbrev pub posesIn : List ℕ → List ℕ → ℕ → ℕ → ℕ → ℕ → ℕ → ℕ → ℕ → ℕ
-posesIn st line at k m n l = byPoses line k m (rowIn st at l) n
+posesIn st row at k m n l = byPoses row k m (rowIn st at l) n
 
 -- state p of the layer in the block at `at`, which has i cells, if it is a source of state q
 abbrev pub stateIn : List ℕ → List ℕ → Deck → ℕ → ℕ → ℕ → ℕ → ℕ → ℕ → ℕ → ℕ → ℕ
-stateIn st line D R at i q p l = oneState line D R (layerIn st at l) i q p
+stateIn st row D R at i q p l = oneState row D R (layerIn st at l) i q p
 
 -- the states below n
 abbrev pub statesIn : List ℕ → List ℕ → Deck → ℕ → ℕ → ℕ → ℕ → ℕ → ℕ → ℕ → ℕ → ℕ
-statesIn st line D R at i q n l = byStates line D R (layerIn st at l) i q n
+statesIn st row D R at i q n l = byStates row D R (layerIn st at l) i q n
 
 -- ---- what is found
 
@@ -128,14 +154,29 @@ foundRow buckets table own a l = min (own + foundIn buckets table a l) B
 
 -- pose a of the cell at position k, and all its rows
 abbrev pub foundRowOf : ℕ → List ℕ → List ℕ → ℕ → ℕ → ℕ → ℕ
-foundRowOf buckets line table k a l = foundRow buckets table (wordOf line k a) a l
+foundRowOf buckets row table k a l = foundRow buckets table (wordOf row k a) a l
 
 abbrev pub foundRows : ℕ → List ℕ → List ℕ → ℕ → ℕ → Layer
-foundRows buckets line table k l q a = foundRowOf buckets line table k a l
+foundRows buckets row table k l q a = foundRowOf buckets row table k a l
+
+-- a table in which pose a looks up what it finds
+pub record PoseLooks (table : List ℕ) (a buckets : ℕ) : Type 0 where
+  pub lent : Lent table
+  pub pose : a < 60
+  pub least : 5 ≤ buckets
+  pub most : buckets ≤ 9
+
+-- its row is to be written, with the cell's own cost
+pub record ToRow (st table : List ℕ) (at a own buckets lanes : ℕ) : Type 0 where
+  pub looks : PoseLooks table a buckets
+  pub cost : own ≤ B
+  pub low : Low st
+  pub room : at + lanes ≤ length st
+  pub narrow : lanes ≤ 64
 
 -- rows to be written from a table of so many buckets
-pub record ToRows (st line table : List ℕ) (k buckets lanes : ℕ) : Type 0 where
-  pub words : RowWords line
+pub record ToRows (st row table : List ℕ) (k buckets lanes : ℕ) : Type 0 where
+  pub words : RowWords row
   pub low : Low st
   pub tableLow : Low table
   pub tableLong : length table ≡ tableWords

@@ -17,12 +17,13 @@ use Rattle.theory_pair.specs.Coded.{lowest, lowest-from}
 use Rattle.search_lanes.specs.Lanes.{wordsFrom, alwaysRows}
 use Rattle.search_lanes.specs.Store.{Frame, Low, WrittenRows}
 use Rattle.search_lanes.specs.Laws.{frame-refl, frame-set, same-low}
+use Rattle.search_buckets.specs.declared.Source.{Source}
 use Rattle.search_buckets.specs.Loops.{lowest-same, lowest-ext}
 use Rattle.search_buckets.specs.Gaps.{paying, paying-low}
 use Rattle.search_buckets.specs.Rows.{rowsOf, inRow, bucketIn, found}
 use Rattle.search_buckets.specs.Laws.{row-hit, row-miss, found-none, found-ext}
 use Rattle.search_wide_buckets.specs.Table.{wordAt, LoweredAt, Lent, Cleared, Gathered}
-use Rattle.search_wide_buckets.specs.Table.{Spread, Source, RunUp, foundIn, Ready, ToRows}
+use Rattle.search_wide_buckets.specs.Table.{Spread, WideSource, RunUp, foundIn, Ready, ToRows}
 
 -- ---- one row
 
@@ -261,8 +262,7 @@ gathered-none rows buckets lanes {table} w h =
     record {
       long = refl;
       low = w;
-      done = λ l v t i j k g. omega
-          (arith, w .word (v * 1216 + t * 64 + l), h l v t i j k);
+      done = λ l v t i j k g. omega (arith, w .word (v * 1216 + t * 64 + l), h l v t i j k);
     }
 
 -- one after the other
@@ -288,9 +288,9 @@ gathered-ext p e =
 
 -- what a function was given holds on
 pub source-on :
-    {bucket : ℕ → ℕ → ℕ → ℕ} {table table′ st line : List ℕ} {at k m rows buckets lanes : ℕ}
-    → Source table st line at k m buckets lanes → Gathered bucket rows buckets lanes table table′
-    → Source table′ st line at k m buckets lanes
+    {bucket : ℕ → ℕ → ℕ → ℕ} {table table′ st row pays : List ℕ} {s : Source} {rows lanes : ℕ}
+    → WideSource table st row pays s lanes → Gathered bucket rows (s .buckets) lanes table table′
+    → WideSource table′ st row pays s lanes
 source-on g w =
     record {
       words = g .words;
@@ -302,10 +302,11 @@ source-on g w =
       left = g .left;
       right = g .right;
       needed = g .needed;
+      paid = g .paid;
     }
 
-pub rows-on : {st st′ line table : List ℕ} {k buckets lanes : ℕ} → ToRows st line table k buckets lanes → Low st′
-    → ToRows st′ line table k buckets lanes
+pub rows-on : {st st′ row table : List ℕ} {k buckets lanes : ℕ} → ToRows st row table k buckets lanes → Low st′
+    → ToRows st′ row table k buckets lanes
 rows-on g w =
     record {
       words = g .words;

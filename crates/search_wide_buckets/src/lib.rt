@@ -8,19 +8,22 @@ ghost use mathlib.Core.Bool.{false};
 ghost use Prim.Native.Nat.{suc, _+_, _*_, _-_, _≤_, _<_};
 ghost use lib.ListN.{length};
 ghost use Rattle.search_store.specs.Map.{layerBlock, tableWords};
-ghost use Rattle.theory_tables.specs.Steps.{B};
 ghost use Rattle.search_lanes.specs.Lanes.{always, wordsFrom};
-ghost use Rattle.search_lanes.specs.Store.{Low, Written, FilledState};
-ghost use Rattle.search_buckets.specs.Rows.{rowsOf, Pays, PaysLow};
-ghost use Rattle.search_wide_buckets.specs.Table.{LoweredAt, Cleared, Gathered, FiveOrNine, chargedBy};
-ghost use Rattle.search_wide_buckets.specs.Table.{chargedOne, Spread, Source, poseIn, posesIn};
-ghost use Rattle.search_wide_buckets.specs.Table.{RunUp, foundIn, foundRow, foundRowOf, foundRows, ToRows};
+ghost use Rattle.search_lanes.specs.Store.{Written, FilledState};
+ghost use Rattle.search_buckets.specs.Rows.{rowsOf};
+ghost use Rattle.search_wide_buckets.specs.Table.{LoweredAt, Lent, TableFor, Cleared};
+ghost use Rattle.search_wide_buckets.specs.Table.{Gathered, FiveOrNine, chargedBy};
+ghost use Rattle.search_wide_buckets.specs.Table.{chargedOne, LaneSpread, RowSpread, Spread};
+ghost use Rattle.search_wide_buckets.specs.Table.{WideSource, poseIn, posesIn};
+ghost use Rattle.search_wide_buckets.specs.Table.{RunUp, PoseLooks, foundIn, foundRow, foundRowOf};
+ghost use Rattle.search_wide_buckets.specs.Table.{foundRows, ToRow, ToRows};
+use search_buckets::Source;
 
 // ---- the rows that count
 
 // NONE in the lanes and rows that count, in so many buckets.
 pub fn reset(table: &mut [u32; search_store::TABLE], buckets: usize, poses: usize, lanes: usize)
-    requires { ⌜ Low (now table) × (length (now table) ≡ tableWords) × (buckets ≤ 9) × (poses ≤ 60) × (lanes ≤ 64) ⌝ }
+    requires { ⌜ TableFor (now table) poses lanes × (buckets ≤ 9) ⌝ }
     ensures { λ _. ⌜ Cleared (rowsOf poses) lanes buckets (now (table .exit)) ⌝ }
 {
     let rows = search_buckets::rows_of(poses);
@@ -35,7 +38,7 @@ pub fn reset(table: &mut [u32; search_store::TABLE], buckets: usize, poses: usiz
 
 // One word lowered.
 fn lower_one(table: &mut [u32; search_store::TABLE], to: usize, x: u32)
-    requires { ⌜ (to < tableWords) × (length (now table) ≡ tableWords) × Low (now table) × (x ≤ 536870912) ⌝ }
+    requires { ⌜ Lent (now table) × (to < tableWords) × (x ≤ 536870912) ⌝ }
     ensures { λ _. ⌜ LoweredAt (always x) to 1 (now (table .entry)) (now (table .exit)) ⌝ }
 {
     table[to] = search_lanes::lesser(table[to], x);
@@ -52,8 +55,7 @@ fn spread_near(
     lane: usize,
     first: usize,
 )
-    requires { ⌜ Low (now table) × (length (now table) ≡ tableWords) × (x ≤ B) × PaysLow (first + 4) (now pays)
-        × (u < 4) × (t < 19) × (lane < 64) × (1 ≤ first) × (first ≤ 5) ⌝ }
+    requires { ⌜ LaneSpread (now table) (now pays) (first + 4) x u t lane × (1 ≤ first) × (first ≤ 5) ⌝ }
     ensures { λ _. ⌜ Spread (chargedOne x (now (pays .entry)) u) t first (first + 4) lane 1 (now (table .entry))
         (now (table .exit)) ⌝ }
 {
@@ -80,8 +82,7 @@ fn spread_one(
     t: usize,
     lane: usize,
 )
-    requires { ⌜ Low (now table) × (length (now table) ≡ tableWords) × (x ≤ B) × PaysLow 5 (now pays) × (u < 4)
-        × (t < 19) × (lane < 64) ⌝ }
+    requires { ⌜ LaneSpread (now table) (now pays) 5 x u t lane ⌝ }
     ensures { λ _. ⌜ Spread (chargedOne x (now (pays .entry)) u) t 0 5 lane 1 (now (table .entry))
         (now (table .exit)) ⌝ }
 {
@@ -99,8 +100,7 @@ pub fn spread_lane(
     lane: usize,
     buckets: usize,
 )
-    requires { ⌜ Low (now table) × (length (now table) ≡ tableWords) × (x ≤ B) × PaysLow buckets (now pays) × (u < 4)
-        × (t < 19) × (lane < 64) × FiveOrNine buckets ⌝ }
+    requires { ⌜ LaneSpread (now table) (now pays) buckets x u t lane × FiveOrNine buckets ⌝ }
     ensures { λ _. ⌜ Spread (chargedOne x (now (pays .entry)) u) t 0 buckets lane 1 (now (table .entry))
         (now (table .exit)) ⌝ }
 {
@@ -122,8 +122,7 @@ fn spread(
     t: usize,
     lanes: usize,
 )
-    requires { ⌜ Low (now table) × (length (now table) ≡ tableWords) × Low (now row) × (at + lanes ≤ length (now row))
-        × PaysLow 5 (now pays) × (u < 4) × (t < 19) × (lanes ≤ 64) ⌝ }
+    requires { ⌜ RowSpread (now table) (now row) (now pays) 5 at u t lanes ⌝ }
     ensures { λ _. ⌜ Spread (chargedBy (now (row .entry)) at (now (pays .entry)) u) t 0 5 0 lanes (now (table .entry))
         (now (table .exit)) ⌝ }
 {
@@ -144,8 +143,7 @@ fn spread_apart(
     t: usize,
     lanes: usize,
 )
-    requires { ⌜ Low (now table) × (length (now table) ≡ tableWords) × Low (now row) × (at + lanes ≤ length (now row))
-        × PaysLow 9 (now pays) × (u < 4) × (t < 19) × (lanes ≤ 64) ⌝ }
+    requires { ⌜ RowSpread (now table) (now row) (now pays) 9 at u t lanes ⌝ }
     ensures { λ _. ⌜ Spread (chargedBy (now (row .entry)) at (now (pays .entry)) u) t 5 9 0 lanes (now (table .entry))
         (now (table .exit)) ⌝ }
 {
@@ -167,8 +165,7 @@ fn spread_row(
     buckets: usize,
     lanes: usize,
 )
-    requires { ⌜ Low (now table) × (length (now table) ≡ tableWords) × Low (now row) × (at + lanes ≤ length (now row))
-        × PaysLow buckets (now pays) × (u < 4) × (t < 19) × (lanes ≤ 64) × FiveOrNine buckets ⌝ }
+    requires { ⌜ RowSpread (now table) (now row) (now pays) buckets at u t lanes × FiveOrNine buckets ⌝ }
     ensures { λ _. ⌜ Spread (chargedBy (now (row .entry)) at (now (pays .entry)) u) t 0 buckets 0 lanes
         (now (table .entry)) (now (table .exit)) ⌝ }
 {
@@ -179,60 +176,64 @@ fn spread_row(
     spread_apart(table, row, at, pays, u, t, lanes);
 }
 
-// Pose b of the cell at position k: whether it lowered anything.
+// Pose b of a source: whether it lowered anything.
 fn from_pose(
     table: &mut [u32; search_store::TABLE],
     store: &[u32],
     row: &[u32],
     pays: &[u32; 36],
-    at: usize,
-    k: usize,
-    m: usize,
+    source: Source,
     b: usize,
     rows: usize,
-    buckets: usize,
     lanes: usize,
 ) -> bool
-    requires { ⌜ Source (now table) (now store) (now row) at k m buckets lanes
-        × Pays (now row) k m buckets 36 (now pays) × (b < 60) × (rows ≤ 19) ⌝ }
-    ensures { λ used. ⌜ Gathered (poseIn (now (store .entry)) (now (row .entry)) at k m b) rows buckets lanes
-        (now (table .entry)) (now (table .exit)) × (used ≡ false → now (table .exit) ≡ now (table .entry)) ⌝ }
+    requires { ⌜ WideSource (now table) (now store) (now row) (now pays) source lanes × (b < 60) × (rows ≤ 19) ⌝ }
+    ensures { λ used. ⌜ Gathered
+        (poseIn (now (store .entry)) (now (row .entry)) (source .at) (source .left) (source .right) b) rows
+        (source .buckets) lanes (now (table .entry)) (now (table .exit))
+        × (used ≡ false → now (table .exit) ≡ now (table .entry)) ⌝ }
 {
-    let t = search_buckets::end_row(row, k, b, m);
+    let t = search_buckets::end_row(row, source.left, b, source.right);
     if t >= rows {
         return false;
     }
-    if search_lanes::common(store, at + b * 64, lanes) >= search_lanes::NONE {
+    if search_lanes::common(store, source.at + b * 64, lanes) >= search_lanes::NONE {
         return false;
     }
-    spread_row(table, store, at + b * 64, pays, b % 4, t, buckets, lanes);
+    spread_row(
+        table,
+        store,
+        source.at + b * 64,
+        pays,
+        b % 4,
+        t,
+        source.buckets,
+        lanes,
+    );
     true
 }
 
-// All poses of the cell at position k: whether one lowered anything.
+// All its poses: whether one lowered anything.
 pub fn from_poses(
     table: &mut [u32; search_store::TABLE],
     store: &[u32],
     row: &[u32],
     pays: &[u32; 36],
-    at: usize,
-    k: usize,
-    m: usize,
+    source: Source,
     poses: usize,
-    buckets: usize,
     lanes: usize,
 ) -> bool
-    requires { ⌜ Source (now table) (now store) (now row) at k m buckets lanes
-        × Pays (now row) k m buckets 36 (now pays) × (poses ≤ 60) ⌝ }
-    ensures { λ used. ⌜ Gathered (posesIn (now (store .entry)) (now (row .entry)) at k m poses)
-        (rowsOf poses) buckets lanes (now (table .entry)) (now (table .exit))
+    requires { ⌜ WideSource (now table) (now store) (now row) (now pays) source lanes × (poses ≤ 60) ⌝ }
+    ensures { λ used. ⌜ Gathered
+        (posesIn (now (store .entry)) (now (row .entry)) (source .at) (source .left) (source .right) poses)
+        (rowsOf poses) (source .buckets) lanes (now (table .entry)) (now (table .exit))
         × (used ≡ false → now (table .exit) ≡ now (table .entry)) ⌝ }
 {
     let rows = search_buckets::rows_of(poses);
     let mut used = false;
     let mut b: usize = 0;
     while b < poses {
-        if from_pose(table, store, row, pays, at, k, m, b, rows, buckets, lanes) {
+        if from_pose(table, store, row, pays, source, b, rows, lanes) {
             used = true;
         }
         b += 1;
@@ -244,8 +245,7 @@ pub fn from_poses(
 
 // The lanes from `to` on lowered to those from `from` on.
 fn lower_by(table: &mut [u32; search_store::TABLE], to: usize, from: usize, lanes: usize)
-    requires { ⌜ (to + lanes ≤ tableWords) × (length (now table) ≡ tableWords) × (from + lanes ≤ to)
-        × Low (now table) ⌝ }
+    requires { ⌜ Lent (now table) × (to + lanes ≤ tableWords) × (from + lanes ≤ to) ⌝ }
     ensures { λ _. ⌜ LoweredAt (wordsFrom (now (table .entry)) from) to lanes (now (table .entry))
         (now (table .exit)) ⌝ }
 {
@@ -258,7 +258,7 @@ fn lower_by(table: &mut [u32; search_store::TABLE], to: usize, from: usize, lane
 
 // Each row of bucket 0, as far as so many poses look, lowered to all rows before it.
 pub fn run_up(table: &mut [u32; search_store::TABLE], poses: usize, lanes: usize)
-    requires { ⌜ Low (now table) × (length (now table) ≡ tableWords) × (poses ≤ 60) × (lanes ≤ 64) ⌝ }
+    requires { ⌜ TableFor (now table) poses lanes ⌝ }
     ensures { λ _. ⌜ RunUp (rowsOf poses - 3) lanes (now (table .entry)) (now (table .exit)) ⌝ }
 {
     let last = (poses + 3) / 4;
@@ -271,8 +271,7 @@ pub fn run_up(table: &mut [u32; search_store::TABLE], poses: usize, lanes: usize
 
 // What pose a finds in lane l: at gaps 0, 2 and 3, and further left.
 fn found_lane(table: &[u32; search_store::TABLE], a: usize, l: usize, buckets: usize) -> u32
-    requires { ⌜ (length (now table) ≡ tableWords) × Low (now table) × (a < 60) × (l < 64) × (5 ≤ buckets)
-        × (buckets ≤ 9) ⌝ }
+    requires { ⌜ PoseLooks (now table) a buckets × (l < 64) ⌝ }
     ensures { λ x. ⌜ x ≡ foundIn buckets (now (table .entry)) a l ⌝ }
 {
     let far = a / 4 * 64 + l;
@@ -292,8 +291,7 @@ fn put_row(
     buckets: usize,
     lanes: usize,
 )
-    requires { ⌜ (at + lanes ≤ length (now store)) × (lanes ≤ 64) × (length (now table) ≡ tableWords) × (own ≤ B)
-        × Low (now store) × Low (now table) × (a < 60) × (5 ≤ buckets) × (buckets ≤ 9) ⌝ }
+    requires { ⌜ ToRow (now store) (now table) at a own buckets lanes ⌝ }
     ensures { λ _. ⌜ Written (foundRow buckets (now (table .entry)) own a) at lanes (now (store .entry))
         (now (store .exit)) ⌝ }
 {

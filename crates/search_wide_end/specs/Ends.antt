@@ -15,14 +15,14 @@ use Rattle.search_wide_segment.specs.Runs.{Running, Outside}
 
 -- state q's cell can be the last of the row: the row has it, and it is single
 abbrev pub endsWith : List ℕ → ℕ → ℕ → ℕ → Bool
-endsWith line n R q = thereIn n R n q && not (eqb (wordOf line (lastAt R n q) tallWord) 1)
+endsWith row n R q = thereIn n R n q && not (eqb (wordOf row (lastAt R n q) tallWord) 1)
 
 -- ---- the loops
 
 -- the least of the poses, of a state and of the states below m, in lane l of a
 -- layer in the store; the cell is at position k
 abbrev pub leastPosesIn : List ℕ → ℕ → List ℕ → ℕ → ℕ → ℕ → ℕ → ℕ
-leastPosesIn line k st at q m l = leastPoses (backIn line k) (layerIn st at l) q m
+leastPosesIn row k st at q m l = leastPoses (backIn row k) (layerIn st at l) q m
 
 abbrev pub leastStateIn : Deck → ℕ → List ℕ → ℕ → ℕ → ℕ → ℕ
 leastStateIn D R st at q l = leastState D R (layerIn st at l) q

@@ -25,8 +25,8 @@ use Rattle.search_wide_segment.specs.Laws.{buffer-low, run-more, outside-costs}
 use Rattle.search_wide_end.specs.Ends.{endsWith, Ran, Ended}
 
 -- a cell that can be the last stands in the row
-pub ends-size : (line : List ℕ) (n R q : ℕ) → endsWith line n R q ≡ true → lastAt R n q < n
-ends-size line n R q e = there-size n R n q (and-both (thereIn n R n q) _ e .0)
+pub ends-size : (row : List ℕ) (n R q : ℕ) → endsWith row n R q ≡ true → lastAt R n q < n
+ends-size row n R q e = there-size n R n q (and-both (thereIn n R n q) _ e .0)
 
 -- ---- only the entries of the layer count
 

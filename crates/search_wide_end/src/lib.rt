@@ -13,6 +13,7 @@ ghost use Rattle.search_wide_segment.specs.Runs.{CostRoom};
 ghost use Rattle.search_wide_end.specs.Ends.{endsWith, leastPosesIn, leastStateIn};
 ghost use Rattle.search_wide_end.specs.Ends.{leastStatesIn, endsIn, Ran, Ended};
 use search_row::Sizes;
+use search_wide_layer::Block;
 
 // On to the layer with all cells placed: the block that it is in. The table that is lent serves all layers.
 fn run_on(
@@ -31,16 +32,13 @@ fn run_on(
     let mut from: usize = 0;
     let mut d: usize = 0;
     while i + d < sizes.cells {
-        search_wide_layer::step_layer(
-            table,
-            store,
-            row,
-            sizes,
+        let cells = i + d;
+        let layer = Block {
             lanes,
-            i + d,
-            from,
-            search_store::LAYER - from,
-        );
+            cells,
+            at: from,
+        };
+        search_wide_layer::step_layer(table, store, row, sizes, layer, search_store::LAYER - from);
         from = search_store::LAYER - from;
         d += 1;
     }

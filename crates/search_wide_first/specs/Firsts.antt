@@ -1,16 +1,42 @@
 -- The first layer of a segment after a tall cell: what its loops leave, lane by lane.
-use Prim.Native.Nat.{ℕ, _+_, min}
+use Prim.Native.Nat.{ℕ, _+_, _≤_, _<_, min}
 use mathlib.Core.List.{List}
+use lib.ListN.{length}
+use Rattle.search_store.specs.Map.{layerBlock}
 use Rattle.theory_tables.specs.Steps.{B, Deck, Layer, firstAfter}
-use Rattle.search_row.specs.Words.{wordOf, tollIn}
+use Rattle.search_lanes.specs.Store.{Low}
+use Rattle.search_row.specs.declared.Sizes.{Sizes}
+use Rattle.search_row.specs.Words.{wordOf, tollIn, RowWords}
+use Rattle.search_wide_buckets.specs.Table.{Lent}
+use Rattle.search_wide_layer.specs.Loops.{Given}
 
 -- after pose l of the cell at position p: the cell at position k in pose a
 abbrev pub afterRow : List ℕ → ℕ → ℕ → ℕ → ℕ → ℕ
-afterRow line p k a l = min (wordOf line k a + tollIn line p l k a) B
+afterRow row p k a l = min (wordOf row k a + tollIn row p l k a) B
 
 abbrev pub afterRows : List ℕ → ℕ → ℕ → ℕ → Layer
-afterRows line p k l q a = afterRow line p k a l
+afterRows row p k l q a = afterRow row p k a l
 
 -- a segment after pose l of the cell at position p, the last of i placed, with marks m
 abbrev pub afterFrom : Deck → ℕ → ℕ → ℕ → ℕ → ℕ → Layer
 afterFrom D R i m p l q a = firstAfter D R i m p l q a
+
+-- ---- what is given
+
+-- the first layer after the cell at position p, the last of i placed, is to be made in the block at `to`
+pub record FirstGiven (table row st : List ℕ) (z : Sizes) (lanes i to p : ℕ) : Type 0 where
+  pub lent : Lent table
+  pub given : Given row st z lanes i to
+  pub start : p < 64
+
+-- the rows of its state q, whose cell is at position k
+pub record FirstRows (table row st : List ℕ) (to q p k poses lanes : ℕ) : Type 0 where
+  pub lent : Lent table
+  pub words : RowWords row
+  pub low : Low st
+  pub room : to + layerBlock ≤ length st
+  pub state : q < 12
+  pub start : p < 64
+  pub narrow : lanes ≤ 64
+  pub cell : k < 64
+  pub few : poses ≤ 60

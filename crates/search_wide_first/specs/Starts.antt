@@ -14,12 +14,21 @@ use Rattle.search_row.specs.Words.{wordOf, RowWords}
 use Rattle.search_buckets.specs.Rows.{inRow, bucketsIn, endRow, payIn, onePose}
 use Rattle.search_buckets.specs.Laws.{row-miss, pay-small, found-one}
 use Rattle.search_buckets.specs.Sources.{pose-twin, buckets-last}
-use Rattle.search_wide_buckets.specs.Table.{wordAt, Spread, Gathered, Ready, foundRow}
+use Rattle.search_wide_buckets.specs.Table.{wordAt, Lent, FiveOrNine, Spread, Gathered, Ready, foundRow}
 use Rattle.search_wide_first.specs.Firsts.{afterRow}
 
 -- pose l of the cell at position p in lane l, for the cell at position k
 abbrev pub startIn : List ℕ → ℕ → ℕ → ℕ → ℕ → ℕ → ℕ
-startIn line p k l = onePose line p k l 0
+startIn row p k l = onePose row p k l 0
+
+-- a table for the starts after the cell at position p, of the cell at position k
+pub record Starting (table row : List ℕ) (p k rows buckets : ℕ) : Type 0 where
+  pub lent : Lent table
+  pub words : RowWords row
+  pub start : p < 64
+  pub cell : k < 64
+  pub few : rows ≤ 19
+  pub needed : FiveOrNine buckets
 
 -- one lane's buckets are lowered, in the rows that count; the other lanes are as they were
 pub record Started (bucket : ℕ → ℕ → ℕ) (rows buckets lane : ℕ) (old new : List ℕ) : Type 0 where
@@ -41,16 +50,16 @@ pub record StartedTo (bucket : ℕ → ℕ → ℕ → ℕ) (rows buckets n : �
 
 -- a start that ends right of all rows that count
 pub started-out :
-    (line : List ℕ) {table : List ℕ} (p k b : ℕ) {rows buckets lane : ℕ}
-    → Low table → rows ≤ endRow line p b k → Started (onePose line p k b 0) rows buckets lane table table
-started-out line {table} p k b {lane = lane} w h =
+    (row : List ℕ) {table : List ℕ} (p k b : ℕ) {rows buckets lane : ℕ}
+    → Low table → rows ≤ endRow row p b k → Started (onePose row p k b 0) rows buckets lane table table
+started-out row {table} p k b {lane = lane} w h =
     record {
       long = refl;
       low = w;
       done = λ v t i j g. omega (
         arith,
         w .word (v * 1216 + t * 64 + lane),
-        row-miss (endRow line p b k) t (0 + payIn line p b k v) (λ e. omega arith),
+        row-miss (endRow row p b k) t (0 + payIn row p b k v) (λ e. omega arith),
       );
       other = λ l v t i j k. refl;
     }
@@ -106,21 +115,21 @@ starts-all s = record { long = s .long; low = s .low; done = s .done }
 
 -- ---- what is found
 
-pub starts-low : {line : List ℕ} (p k l v t : ℕ) → RowWords line → startIn line p k l v t ≤ B
-starts-low {line} p k l v t w = go (eqb (endRow line p l k) t) (pay-small line p l k v w)
+pub starts-low : {row : List ℕ} (p k l v t : ℕ) → RowWords row → startIn row p k l v t ≤ B
+starts-low {row} p k l v t w = go (eqb (endRow row p l k) t) (pay-small row p l k v w)
   where
-    go : (z : Bool) → payIn line p l k v ≤ B → cond z (0 + payIn line p l k v) B ≤ B
+    go : (z : Bool) → payIn row p l k v ≤ B → cond z (0 + payIn row p l k v) B ≤ B
     go true h = omega arith
     go false h = omega arith
 
 -- the last four of the buckets that are needed are those of gaps 2 and 3
-pub starts-last : (line : List ℕ) (p k l v t : ℕ) → v < 4
-    → startIn line p k l (bucketsIn line k - 4 + v) t ≡ startIn line p k l (5 + v) t
-starts-last line p k l v t h =
-    buckets-last (λ (u : ℕ). startIn line p k l u t) line k v (λ e. pose-twin line k e p l 0 v t h)
+pub starts-last : (row : List ℕ) (p k l v t : ℕ) → v < 4
+    → startIn row p k l (bucketsIn row k - 4 + v) t ≡ startIn row p k l (5 + v) t
+starts-last row p k l v t h =
+    buckets-last (λ (u : ℕ). startIn row p k l u t) row k v (λ e. pose-twin row k e p l 0 v t h)
 
 pub after-found :
-    (line : List ℕ) (p k a l : ℕ) {table : List ℕ} {poses buckets lanes : ℕ}
-    → Ready (startIn line p k) poses buckets lanes table → a < poses → l < lanes
-    → afterRow line p k a l ≡ foundRow buckets table (wordOf line k a) a l
-after-found line p k a l r h i = omega (arith, r .right a l h i, found-one line p l k a 0)
+    (row : List ℕ) (p k a l : ℕ) {table : List ℕ} {poses buckets lanes : ℕ}
+    → Ready (startIn row p k) poses buckets lanes table → a < poses → l < lanes
+    → afterRow row p k a l ≡ foundRow buckets table (wordOf row k a) a l
+after-found row p k a l r h i = omega (arith, r .right a l h i, found-one row p l k a 0)

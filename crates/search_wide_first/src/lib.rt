@@ -1,41 +1,36 @@
 // The first layer of a segment after a tall cell in each of its poses, a lane for each.
-ghost use mathlib.Core.Path.{_≡_};
-ghost use Prim.Native.Nat.{ℕ, suc, _+_, _*_, _≤_, _<_};
-ghost use lib.ListN.{length};
-ghost use Rattle.search_store.specs.Map.{layerBlock, tableWords};
+ghost use Prim.Native.Nat.{_≤_, _<_};
 ghost use Rattle.theory_tables.specs.Steps.{marks};
-ghost use Rattle.search_lanes.specs.Store.{Low, FilledState, Filled};
-ghost use Rattle.search_row.specs.Words.{deckIn, RowWords};
-ghost use Rattle.search_wide_layer.specs.Loops.{Given};
+ghost use Rattle.search_lanes.specs.Store.{FilledState, Filled};
+ghost use Rattle.search_row.specs.Words.{deckIn};
 ghost use Rattle.search_buckets.specs.Rows.{onePose, Pays};
-ghost use Rattle.search_wide_buckets.specs.Table.{Lent, FiveOrNine};
-ghost use Rattle.search_wide_first.specs.Firsts.{afterRows, afterFrom};
-ghost use Rattle.search_wide_first.specs.Starts.{Started, StartedTo, startIn};
+ghost use Rattle.search_wide_buckets.specs.Table.{Lent};
+ghost use Rattle.search_wide_first.specs.Firsts.{afterRows, afterFrom, FirstGiven, FirstRows};
+ghost use Rattle.search_wide_first.specs.Starts.{Starting, Started, StartedTo, startIn};
 use search_row::Sizes;
+use search_wide_layer::Block;
 
-// Lane `lane` of a table lowered to pose b of the cell at position p, where it starts, for the cell at position k.
+// Lane l of a table lowered to pose l of the cell at position p, where it starts, for the cell at position k.
 fn from_start(
     table: &mut [u32; search_store::TABLE],
     row: &[u32],
     pays: &[u32; 36],
     p: usize,
     k: usize,
-    b: usize,
     rows: usize,
     buckets: usize,
-    lane: usize,
+    l: usize,
 )
-    requires { ⌜ RowWords (now row) × Pays (now row) p k buckets 36 (now pays) × Low (now table)
-        × (length (now table) ≡ tableWords) × (p < 64) × (k < 64) × (b < 64) × (rows ≤ 19) × (lane < 64)
-        × FiveOrNine buckets ⌝ }
-    ensures { λ _. ⌜ Started (onePose (now (row .entry)) p k b 0) rows buckets lane (now (table .entry))
+    requires { ⌜ Starting (now table) (now row) p k rows buckets × Pays (now row) p k buckets 36 (now pays)
+        × (l < 64) ⌝ }
+    ensures { λ _. ⌜ Started (onePose (now (row .entry)) p k l 0) rows buckets l (now (table .entry))
         (now (table .exit)) ⌝ }
 {
-    let t = search_buckets::end_row(row, p, b, k);
+    let t = search_buckets::end_row(row, p, l, k);
     if t >= rows {
         return;
     }
-    search_wide_buckets::spread_lane(table, 0, pays, b % 4, t, lane, buckets);
+    search_wide_buckets::spread_lane(table, 0, pays, l % 4, t, l, buckets);
 }
 
 // Every lane: pose l in lane l.
@@ -48,8 +43,7 @@ fn from_starts(
     buckets: usize,
     lanes: usize,
 )
-    requires { ⌜ RowWords (now row) × Low (now table) × (length (now table) ≡ tableWords) × (p < 64) × (lanes ≤ 64)
-        × (k < 64) × (rows ≤ 19) × FiveOrNine buckets ⌝ }
+    requires { ⌜ Starting (now table) (now row) p k rows buckets × (lanes ≤ 64) ⌝ }
     ensures { λ _. ⌜ StartedTo (startIn (now (row .entry)) p k) rows buckets lanes (now (table .entry))
         (now (table .exit)) ⌝ }
 {
@@ -57,7 +51,7 @@ fn from_starts(
     search_buckets::fill_pays(&mut pays, row, p, k, buckets);
     let mut l: usize = 0;
     while l < lanes {
-        from_start(table, row, &pays, p, k, l, rows, buckets, l);
+        from_start(table, row, &pays, p, k, rows, buckets, l);
         l += 1;
     }
 }
@@ -75,8 +69,7 @@ fn first_rows(
     poses: usize,
     lanes: usize,
 )
-    requires { ⌜ Lent (now table) × RowWords (now row) × Low (now store) × (to + layerBlock ≤ length (now store))
-        × (q < 12) × (p < 64) × (lanes ≤ 64) × (k < 64) × (poses ≤ 60) ⌝ }
+    requires { ⌜ FirstRows (now table) (now row) (now store) to q p k poses lanes ⌝ }
     ensures { λ _. ⌜ FilledState (afterRows (now (row .entry)) p k) lanes to q poses (now (store .entry))
         (now (store .exit)) × Lent (now (table .exit)) ⌝ }
 {
@@ -95,36 +88,34 @@ fn first_rows(
     search_wide_buckets::put_rows(store, row, table, to, q, k, poses, buckets, lanes);
 }
 
-// The block of state q.
+// The block of state q, after the i-th cell at position p; `to` has i, and where the layer begins.
 fn first_block(
     table: &mut [u32; search_store::TABLE],
     store: &mut [u32],
     row: &[u32],
     sizes: Sizes,
-    lanes: usize,
-    i: usize,
+    to: Block,
     m: u32,
     p: usize,
-    to: usize,
     q: usize,
 )
-    requires { ⌜ Lent (now table) × Given (now row) (now store) sizes lanes i to × (p < 64) × (lanes ≤ 64)
+    requires { ⌜ FirstGiven (now table) (now row) (now store) sizes (to .lanes) (to .cells) (to .at) p
         × (q < sizes .states) ⌝ }
-    ensures { λ _. ⌜ FilledState (afterFrom (deckIn (now (row .entry)) sizes) (sizes .reordering) i m p) lanes to q
-        (sizes .poses) (now (store .entry)) (now (store .exit)) × Lent (now (table .exit)) ⌝ }
+    ensures { λ _. ⌜ FilledState (afterFrom (deckIn (now (row .entry)) sizes) (sizes .reordering) (to .cells) m p)
+        (to .lanes) (to .at) q (sizes .poses) (now (store .entry)) (now (store .exit)) × Lent (now (table .exit)) ⌝ }
 {
-    if !search_dense_first::starts(row, sizes, i + 1, m, q) {
+    if !search_dense_first::starts(row, sizes, to.cells + 1, m, q) {
         search_lanes::fill_rows(
             store,
-            to + q * search_store::STATE,
+            to.at + q * search_store::STATE,
             sizes.poses,
-            lanes,
+            to.lanes,
             search_lanes::NONE,
         );
         return;
     }
-    let k = search_row::last_at(row, sizes, i + 1, q);
-    first_rows(table, store, row, to, q, p, k, sizes.poses, lanes);
+    let k = search_row::last_at(row, sizes, to.cells + 1, q);
+    first_rows(table, store, row, to.at, q, p, k, sizes.poses, to.lanes);
 }
 
 // The layer after the cell at position p as state s, the last of i placed: one lane for each of its poses.
@@ -139,16 +130,20 @@ pub fn first_layer(
     p: usize,
     to: usize,
 )
-    requires { ⌜ Lent (now table) × Given (now row) (now store) sizes lanes i to × (p < 64) × (lanes ≤ 64)
-        × (s < sizes .states) ⌝ }
+    requires { ⌜ FirstGiven (now table) (now row) (now store) sizes lanes i to p × (s < sizes .states) ⌝ }
     ensures { λ _. ⌜ Filled
         (afterFrom (deckIn (now (row .entry)) sizes) (sizes .reordering) i (marks (sizes .reordering) s) p) lanes
         (sizes .poses) to (sizes .states) (now (store .entry)) (now (store .exit)) × Lent (now (table .exit)) ⌝ }
 {
     let m = row[search_row::STATES + s * 4 + 1];
+    let layer = Block {
+        lanes,
+        cells: i,
+        at: to,
+    };
     let mut q: usize = 0;
     while q < sizes.states {
-        first_block(table, store, row, sizes, lanes, i, m, p, to, q);
+        first_block(table, store, row, sizes, layer, m, p, q);
         q += 1;
     }
 }

@@ -7,6 +7,9 @@ use Rattle.theory_tables.specs.Steps.{Deck, Layer, nextLayer}
 use Rattle.search_lanes.specs.Store.{Low, layerIn}
 use Rattle.search_row.specs.declared.Sizes.{Sizes}
 use Rattle.search_row.specs.Words.{Ground}
+use Rattle.search_buckets.specs.Next.{Target}
+use Rattle.search_wide_buckets.specs.Table.{Lent, FiveOrNine}
+use Rattle.search_wide_layer.specs.declared.Block.{Block}
 
 -- the next layer in each lane
 abbrev pub nextFrom : Deck → ℕ → List ℕ → ℕ → ℕ → ℕ → Layer
@@ -26,3 +29,16 @@ pub record Given (row st : List ℕ) (z : Sizes) (lanes i at : ℕ) : Type 0 whe
 pub record Beside (st : List ℕ) (at to : ℕ) : Type 0 where
   pub room : to + layerBlock ≤ length st
   pub apart : (k : ℕ) → at ≤ k → k < at + layerBlock → to ≤ k → k < to + layerBlock → ⊥
+
+-- the sources of state q in a layer are to be gathered
+pub record Gathering (table row st : List ℕ) (z : Sizes) (layer : Block) (q buckets : ℕ) : Type 0 where
+  pub lent : Lent table
+  pub given : Given row st z (layer .lanes) (layer .cells) (layer .at)
+  pub target : Target (z .cells) (z .reordering) (layer .cells) q
+  pub needed : FiveOrNine buckets
+
+-- the next layer is to be made from a layer, in the block at `to`
+pub record Stepping (table row st : List ℕ) (z : Sizes) (layer : Block) (to : ℕ) : Type 0 where
+  pub lent : Lent table
+  pub given : Given row st z (layer .lanes) (layer .cells) (layer .at)
+  pub beside : Beside st (layer .at) to

@@ -9,48 +9,49 @@ ghost use Rattle.search_lanes.specs.Store.{FilledState, Filled};
 ghost use Rattle.search_row.specs.Words.{deckIn, Ground};
 ghost use Rattle.search_buckets.specs.Next.{Target};
 ghost use Rattle.search_buckets.specs.Rows.{rowsOf};
-ghost use Rattle.search_wide_buckets.specs.Table.{Lent, FiveOrNine, Gathered, stateIn, statesIn};
-ghost use Rattle.search_wide_layer.specs.Loops.{nextFrom, Given, Beside};
+ghost use Rattle.search_wide_buckets.specs.Table.{Lent, Gathered, stateIn, statesIn};
+ghost use Rattle.search_wide_layer.specs.Loops.{nextFrom, Gathering, Stepping};
+use search_buckets::Source;
 use search_row::Sizes;
 
-// State p of the layer with i cells, if it is a source: whether it lowered anything.
+// A layer in its block: how many lanes and cells it has, and where the block begins.
+pub struct Block {
+    pub lanes: usize,
+    pub cells: usize,
+    pub at: usize,
+}
+
+// State p of a layer, if it is a source of state q of the next: whether it lowered anything.
 fn from_source(
     table: &mut [u32; search_store::TABLE],
     store: &[u32],
     row: &[u32],
     sizes: Sizes,
-    lanes: usize,
-    i: usize,
-    from: usize,
+    layer: Block,
     q: usize,
     p: usize,
     buckets: usize,
 ) -> bool
-    requires { ⌜ Given (now row) (now store) sizes lanes i from × Target (sizes .cells) (sizes .reordering) i q
-        × Lent (now table) × (p < sizes .states) × FiveOrNine buckets ⌝ }
+    requires { ⌜ Gathering (now table) (now row) (now store) sizes layer q buckets × (p < sizes .states) ⌝ }
     ensures { λ used. ⌜ Gathered (stateIn (now (store .entry)) (now (row .entry)) (deckIn (now (row .entry)) sizes)
-        (sizes .reordering) from i q p) (rowsOf (sizes .poses)) buckets lanes (now (table .entry)) (now (table .exit))
-        × (used ≡ false → now (table .exit) ≡ now (table .entry)) ⌝ }
+        (sizes .reordering) (layer .at) (layer .cells) q p) (rowsOf (sizes .poses)) buckets (layer .lanes)
+        (now (table .entry)) (now (table .exit)) × (used ≡ false → now (table .exit) ≡ now (table .entry)) ⌝ }
 {
-    if !search_row::is_source(row, sizes, i, q, p) {
+    if !search_row::is_source(row, sizes, layer.cells, q, p) {
         return false;
     }
-    let k = search_row::last_at(row, sizes, i, p);
-    let m = search_row::last_at(row, sizes, i + 1, q);
+    let k = search_row::last_at(row, sizes, layer.cells, p);
+    let m = search_row::last_at(row, sizes, layer.cells + 1, q);
     let mut pays = [0u32; 36];
     search_buckets::fill_pays(&mut pays, row, k, m, buckets);
-    search_wide_buckets::from_poses(
-        table,
-        store,
-        row,
-        &pays,
-        from + p * search_store::STATE,
-        k,
-        m,
-        sizes.poses,
+    let at = layer.at + p * search_store::STATE;
+    let source = Source {
+        at,
+        left: k,
+        right: m,
         buckets,
-        lanes,
-    )
+    };
+    search_wide_buckets::from_poses(table, store, row, &pays, source, sizes.poses, layer.lanes)
 }
 
 // Every source: whether one lowered anything.
@@ -59,22 +60,20 @@ fn gather(
     store: &[u32],
     row: &[u32],
     sizes: Sizes,
-    lanes: usize,
-    i: usize,
-    from: usize,
+    layer: Block,
     q: usize,
     buckets: usize,
 ) -> bool
-    requires { ⌜ Given (now row) (now store) sizes lanes i from × Target (sizes .cells) (sizes .reordering) i q
-        × Lent (now table) × FiveOrNine buckets ⌝ }
+    requires { ⌜ Gathering (now table) (now row) (now store) sizes layer q buckets ⌝ }
     ensures { λ used. ⌜ Gathered (statesIn (now (store .entry)) (now (row .entry)) (deckIn (now (row .entry)) sizes)
-        (sizes .reordering) from i q (sizes .states)) (rowsOf (sizes .poses)) buckets lanes (now (table .entry))
-        (now (table .exit)) × (used ≡ false → now (table .exit) ≡ now (table .entry)) ⌝ }
+        (sizes .reordering) (layer .at) (layer .cells) q (sizes .states)) (rowsOf (sizes .poses)) buckets
+        (layer .lanes) (now (table .entry)) (now (table .exit)) ×
+        (used ≡ false → now (table .exit) ≡ now (table .entry)) ⌝ }
 {
     let mut used = false;
     let mut p: usize = 0;
     while p < sizes.states {
-        if from_source(table, store, row, sizes, lanes, i, from, q, p, buckets) {
+        if from_source(table, store, row, sizes, layer, q, p, buckets) {
             used = true;
         }
         p += 1;
@@ -105,43 +104,52 @@ fn target_rows(
     store: &mut [u32],
     row: &[u32],
     sizes: Sizes,
-    lanes: usize,
-    i: usize,
-    from: usize,
+    layer: Block,
     to: usize,
     q: usize,
 )
-    requires { ⌜ Lent (now table) × Given (now row) (now store) sizes lanes i from × Beside (now store) from to
-        × Target (sizes .cells) (sizes .reordering) i q ⌝ }
+    requires { ⌜ Stepping (now table) (now row) (now store) sizes layer to
+        × Target (sizes .cells) (sizes .reordering) (layer .cells) q ⌝ }
     ensures { λ _. ⌜ FilledState (nextFrom (deckIn (now (row .entry)) sizes) (sizes .reordering)
-        (now (store .entry)) from i) lanes to q (sizes .poses) (now (store .entry)) (now (store .exit))
+        (now (store .entry)) (layer .at) (layer .cells)) (layer .lanes) to q (sizes .poses) (now (store .entry))
+        (now (store .exit))
         × Lent (now (table .exit)) ⌝ }
 {
-    if !has_source(row, sizes, i, q) {
+    if !has_source(row, sizes, layer.cells, q) {
         search_lanes::fill_rows(
             store,
             to + q * search_store::STATE,
             sizes.poses,
-            lanes,
+            layer.lanes,
             search_lanes::NONE,
         );
         return;
     }
-    let m = search_row::last_at(row, sizes, i + 1, q);
+    let m = search_row::last_at(row, sizes, layer.cells + 1, q);
     let buckets = search_buckets::buckets_of(row, m);
-    search_wide_buckets::reset(table, buckets, sizes.poses, lanes);
-    if !gather(table, store, row, sizes, lanes, i, from, q, buckets) {
+    search_wide_buckets::reset(table, buckets, sizes.poses, layer.lanes);
+    if !gather(table, store, row, sizes, layer, q, buckets) {
         search_lanes::fill_rows(
             store,
             to + q * search_store::STATE,
             sizes.poses,
-            lanes,
+            layer.lanes,
             search_lanes::NONE,
         );
         return;
     }
-    search_wide_buckets::run_up(table, sizes.poses, lanes);
-    search_wide_buckets::put_rows(store, row, table, to, q, m, sizes.poses, buckets, lanes);
+    search_wide_buckets::run_up(table, sizes.poses, layer.lanes);
+    search_wide_buckets::put_rows(
+        store,
+        row,
+        table,
+        to,
+        q,
+        m,
+        sizes.poses,
+        buckets,
+        layer.lanes,
+    );
 }
 
 // The block of state q: all NONE if the row has no such cell.
@@ -150,50 +158,47 @@ pub fn target_block(
     store: &mut [u32],
     row: &[u32],
     sizes: Sizes,
-    lanes: usize,
-    i: usize,
-    from: usize,
+    layer: Block,
     to: usize,
     q: usize,
 )
-    requires { ⌜ Lent (now table) × Given (now row) (now store) sizes lanes i from × Beside (now store) from to
-        × (q < sizes .states) ⌝ }
+    requires { ⌜ Stepping (now table) (now row) (now store) sizes layer to × (q < sizes .states) ⌝ }
     ensures { λ _. ⌜ FilledState (nextFrom (deckIn (now (row .entry)) sizes) (sizes .reordering)
-        (now (store .entry)) from i) lanes to q (sizes .poses) (now (store .entry)) (now (store .exit))
+        (now (store .entry)) (layer .at) (layer .cells)) (layer .lanes) to q (sizes .poses) (now (store .entry))
+        (now (store .exit))
         × Lent (now (table .exit)) ⌝ }
 {
-    if !search_row::is_there(row, sizes, i + 1, q) {
+    if !search_row::is_there(row, sizes, layer.cells + 1, q) {
         search_lanes::fill_rows(
             store,
             to + q * search_store::STATE,
             sizes.poses,
-            lanes,
+            layer.lanes,
             search_lanes::NONE,
         );
         return;
     }
-    target_rows(table, store, row, sizes, lanes, i, from, to, q);
+    target_rows(table, store, row, sizes, layer, to, q);
 }
 
-// The layer with one cell more than the layer at `from`, which has i, to the block at `to`.
+// The layer with one cell more, to the block at `to`.
 pub fn step_layer(
     table: &mut [u32; search_store::TABLE],
     store: &mut [u32],
     row: &[u32],
     sizes: Sizes,
-    lanes: usize,
-    i: usize,
-    from: usize,
+    layer: Block,
     to: usize,
 )
-    requires { ⌜ Lent (now table) × Given (now row) (now store) sizes lanes i from × Beside (now store) from to ⌝ }
+    requires { ⌜ Stepping (now table) (now row) (now store) sizes layer to ⌝ }
     ensures { λ _. ⌜ Filled (nextFrom (deckIn (now (row .entry)) sizes) (sizes .reordering)
-        (now (store .entry)) from i) lanes (sizes .poses) to (sizes .states) (now (store .entry)) (now (store .exit))
+        (now (store .entry)) (layer .at) (layer .cells)) (layer .lanes) (sizes .poses) to (sizes .states)
+        (now (store .entry)) (now (store .exit))
         × Lent (now (table .exit)) ⌝ }
 {
     let mut q: usize = 0;
     while q < sizes.states {
-        target_block(table, store, row, sizes, lanes, i, from, to, q);
+        target_block(table, store, row, sizes, layer, to, q);
         q += 1;
     }
 }

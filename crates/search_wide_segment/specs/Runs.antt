@@ -10,6 +10,8 @@ use lib.Dec.{ltb, eqb}
 use Rattle.search_store.specs.Map.{keptFrom, layerBlock}
 use Rattle.theory_tables.specs.Steps.{B, Deck, Layer, stateCount, offset, layers, costTo}
 use Rattle.search_lanes.specs.Store.{Low, layerIn}
+use Rattle.search_row.specs.declared.Sizes.{Sizes}
+use Rattle.search_row.specs.Words.{StateWords}
 use Rattle.search_wide_layer.specs.Loops.{nextFrom}
 
 -- the two blocks of layers, at 0 and after the first
@@ -38,6 +40,17 @@ pub record Small (D : Deck) (R lanes : ℕ) : Type 0 where
 pub record CostRoom (st : List ℕ) (costs : ℕ) : Type 0 where
   pub over : keptFrom ≤ costs
   pub room : costs + layerBlock ≤ length st
+
+-- the costs to a tall cell are to be written, of the states that come to it with a layer of i cells
+pub record ToTall (row st : List ℕ) (z : Sizes) (lanes i tall costs : ℕ) : Type 0 where
+  pub coded : StateWords (z .reordering) row
+  pub low : Low st
+  pub room : CostRoom st costs
+  pub all : z .states ≡ stateCount (z .reordering)
+  pub few : z .poses ≤ 60
+  pub narrow : lanes ≤ 64
+  pub early : i ≤ 100
+  pub inside : tall < 64
 
 -- ---- costs to the tall cell at position p
 

@@ -6,12 +6,14 @@ ghost use Prim.Native.Nat.{ℕ, suc, _+_, _*_, _-_, _≤_, _<_};
 ghost use lib.ListN.{length};
 ghost use Rattle.search_store.specs.Map.{layerBlock};
 ghost use Rattle.theory_tables.specs.Steps.{stateCount};
-ghost use Rattle.search_lanes.specs.Store.{Low, FilledState, Filled};
-ghost use Rattle.search_row.specs.Words.{deckIn, StateWords};
+ghost use Rattle.search_lanes.specs.Store.{FilledState, Filled};
+ghost use Rattle.search_row.specs.Words.{deckIn};
 ghost use Rattle.search_wide_buckets.specs.Table.{Lent};
-ghost use Rattle.search_wide_layer.specs.Loops.{Given, Beside};
-ghost use Rattle.search_wide_segment.specs.Runs.{CostRoom, lateIn, delivered, lastIn, CostedRun, SegmentCosted};
+ghost use Rattle.search_wide_layer.specs.Loops.{Given, Stepping};
+ghost use Rattle.search_wide_segment.specs.Runs.{CostRoom, ToTall, lateIn, delivered};
+ghost use Rattle.search_wide_segment.specs.Runs.{lastIn, CostedRun, SegmentCosted};
 use search_row::Sizes;
+use search_wide_layer::Block;
 
 // NONE for state q, if it comes to the tall cell with no layer from the one with i cells on.
 fn late_state(
@@ -24,8 +26,7 @@ fn late_state(
     costs: usize,
     q: usize,
 )
-    requires { ⌜ StateWords (sizes .reordering) (now row) × Low (now store) × CostRoom (now store) costs
-        × (q < stateCount (sizes .reordering)) × (sizes .poses ≤ 60) × (lanes ≤ 64) × (i ≤ 100) × (tall < 64) ⌝ }
+    requires { ⌜ ToTall (now row) (now store) sizes lanes i tall costs × (q < stateCount (sizes .reordering)) ⌝ }
     ensures { λ _. ⌜ FilledState (lateIn (sizes .reordering) i tall (now (store .entry)) costs) lanes costs q
         (sizes .poses) (now (store .entry)) (now (store .exit)) ⌝ }
 {
@@ -51,9 +52,7 @@ fn fill_late(
     tall: usize,
     costs: usize,
 )
-    requires { ⌜ StateWords (sizes .reordering) (now row) × Low (now store) × CostRoom (now store) costs
-        × (sizes .states ≡ stateCount (sizes .reordering)) × (sizes .poses ≤ 60) × (lanes ≤ 64) × (i ≤ 100)
-        × (tall < 64) ⌝ }
+    requires { ⌜ ToTall (now row) (now store) sizes lanes i tall costs ⌝ }
     ensures { λ _. ⌜ Filled (lateIn (sizes .reordering) i tall (now (store .entry)) costs) lanes (sizes .poses) costs
         (sizes .states) (now (store .entry)) (now (store .exit)) ⌝ }
 {
@@ -76,8 +75,7 @@ fn deliver_state(
     costs: usize,
     q: usize,
 )
-    requires { ⌜ StateWords (sizes .reordering) (now row) × Low (now store) × CostRoom (now store) costs
-        × (q < stateCount (sizes .reordering)) × (sizes .poses ≤ 60) × (lanes ≤ 64) × (i ≤ 100) × (tall < 64)
+    requires { ⌜ ToTall (now row) (now store) sizes lanes i tall costs × (q < stateCount (sizes .reordering))
         × (from ≤ layerBlock) ⌝ }
     ensures { λ _. ⌜ FilledState (delivered (sizes .reordering) i tall (now (store .entry)) from costs) lanes costs q
         (sizes .poses) (now (store .entry)) (now (store .exit)) ⌝ }
@@ -105,9 +103,7 @@ fn deliver(
     from: usize,
     costs: usize,
 )
-    requires { ⌜ StateWords (sizes .reordering) (now row) × Low (now store) × CostRoom (now store) costs
-        × (sizes .states ≡ stateCount (sizes .reordering)) × (sizes .poses ≤ 60) × (lanes ≤ 64) × (i ≤ 100)
-        × (tall < 64) × (from ≤ layerBlock) ⌝ }
+    requires { ⌜ ToTall (now row) (now store) sizes lanes i tall costs × (from ≤ layerBlock) ⌝ }
     ensures { λ _. ⌜ Filled (delivered (sizes .reordering) i tall (now (store .entry)) from costs) lanes
         (sizes .poses) costs (sizes .states) (now (store .entry)) (now (store .exit)) ⌝ }
 {
@@ -140,16 +136,13 @@ fn run_to(
     let mut from: usize = 0;
     let mut d: usize = 0;
     while i + d < tall + r {
-        search_wide_layer::step_layer(
-            table,
-            store,
-            row,
-            sizes,
+        let cells = i + d;
+        let layer = Block {
             lanes,
-            i + d,
-            from,
-            search_store::LAYER - from,
-        );
+            cells,
+            at: from,
+        };
+        search_wide_layer::step_layer(table, store, row, sizes, layer, search_store::LAYER - from);
         from = search_store::LAYER - from;
         d += 1;
         deliver(store, row, sizes, lanes, i + d, tall, from, costs);
@@ -157,30 +150,28 @@ fn run_to(
     from
 }
 
-// The costs of state q straight from the layer before, if it comes to the
-// tall cell with the layer that has i + 1 cells.
+// The costs of state q straight from the layer before, if it comes to the tall cell with the next.
 fn last_state(
     table: &mut [u32; search_store::TABLE],
     store: &mut [u32],
     row: &[u32],
     sizes: Sizes,
-    lanes: usize,
-    i: usize,
+    layer: Block,
     tall: usize,
-    from: usize,
     costs: usize,
     q: usize,
 )
-    requires { ⌜ Lent (now table) × Given (now row) (now store) sizes lanes i from × Beside (now store) from costs
-        × (tall < 64) × (q < sizes .states) ⌝ }
-    ensures { λ _. ⌜ FilledState (lastIn (deckIn (now (row .entry)) sizes) (sizes .reordering) i tall
-        (now (store .entry)) from costs) lanes costs q (sizes .poses) (now (store .entry)) (now (store .exit))
-        × Lent (now (table .exit)) ⌝ }
+    requires { ⌜ Stepping (now table) (now row) (now store) sizes layer costs × (tall < 64) × (q < sizes .states) ⌝ }
+    ensures { λ _. ⌜ FilledState (lastIn (deckIn (now (row .entry)) sizes) (sizes .reordering) (layer .cells) tall
+        (now (store .entry)) (layer .at) costs) (layer .lanes) costs q (sizes .poses) (now (store .entry))
+        (now (store .exit)) × Lent (now (table .exit)) ⌝ }
 {
-    if i + 1 + search_row::word(row, search_row::STATES + q * 4) != tall + sizes.reordering + 1 {
+    if layer.cells + 1 + search_row::word(row, search_row::STATES + q * 4)
+        != tall + sizes.reordering + 1
+    {
         return;
     }
-    search_wide_layer::target_block(table, store, row, sizes, lanes, i, from, costs, q);
+    search_wide_layer::target_block(table, store, row, sizes, layer, costs, q);
 }
 
 // The costs of every such state: of the last layer nothing else is wanted.
@@ -189,21 +180,18 @@ fn last_layer(
     store: &mut [u32],
     row: &[u32],
     sizes: Sizes,
-    lanes: usize,
-    i: usize,
+    layer: Block,
     tall: usize,
-    from: usize,
     costs: usize,
 )
-    requires { ⌜ Lent (now table) × Given (now row) (now store) sizes lanes i from × Beside (now store) from costs
-        × (tall < 64) ⌝ }
-    ensures { λ _. ⌜ Filled
-        (lastIn (deckIn (now (row .entry)) sizes) (sizes .reordering) i tall (now (store .entry)) from costs) lanes
-        (sizes .poses) costs (sizes .states) (now (store .entry)) (now (store .exit)) × Lent (now (table .exit)) ⌝ }
+    requires { ⌜ Stepping (now table) (now row) (now store) sizes layer costs × (tall < 64) ⌝ }
+    ensures { λ _. ⌜ Filled (lastIn (deckIn (now (row .entry)) sizes) (sizes .reordering) (layer .cells) tall
+        (now (store .entry)) (layer .at) costs) (layer .lanes) (sizes .poses) costs (sizes .states)
+        (now (store .entry)) (now (store .exit)) × Lent (now (table .exit)) ⌝ }
 {
     let mut q: usize = 0;
     while q < sizes.states {
-        last_state(table, store, row, sizes, lanes, i, tall, from, costs, q);
+        last_state(table, store, row, sizes, layer, tall, costs, q);
         q += 1;
     }
 }
@@ -228,15 +216,11 @@ pub fn segment_to(
     if i > tall + sizes.reordering {
         return;
     }
-    last_layer(
-        table,
-        store,
-        row,
-        sizes,
+    let cells = tall + sizes.reordering;
+    let layer = Block {
         lanes,
-        tall + sizes.reordering,
-        tall,
-        from,
-        costs,
-    );
+        cells,
+        at: from,
+    };
+    last_layer(table, store, row, sizes, layer, tall, costs);
 }

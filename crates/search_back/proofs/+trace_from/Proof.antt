@@ -127,7 +127,7 @@ trace-from-returns-2 : (t : ℕ) → trace-from-lts.Need-returns-2 (
   trace-from.Post,
 ) (trace-from-at t) trace-from.Post
 trace-from-returns-2 t c =
-    let after-pointer = c .before .before in
+    let after-pointer = c .before .before .before in
     let mid = after-pointer .before .before .before .before in
     stray-done (mid .before .before .before .before .pre .1) (mid .before .before .before .before .args .i - 1) (after-pointer .pointer .result) (omega arith)
     (after-pointer .pointer .ensures) (λ x y z. omega (arith, c .if2 .taken))
@@ -154,7 +154,8 @@ trace-from-returns-3 : (t : ℕ) → trace-from-lts.Need-returns-3 (
   trace-from.Post,
 ) (trace-from-at t) trace-from.Post
 trace-from-returns-3 t c =
-    let after-pointer = c .before .before .before .before in
+    let mid₂ = c .before .before .before .before in
+    let after-pointer = mid₂ .before .before in
     let mid = after-pointer .before .before .before .before in
     stray-done (mid .before .before .before .before .pre .1) (mid .before .before .before .before .args .i - 1) (after-pointer .pointer .result) (omega arith)
     (after-pointer .pointer .ensures) (λ x y z. omega (arith, c .if3 .taken))
@@ -181,8 +182,9 @@ trace-from-returns-4 : (t : ℕ) → trace-from-lts.Need-returns-4 (
   trace-from.Post,
 ) (trace-from-at t) trace-from.Post
 trace-from-returns-4 t c =
-    let mid = c .before .before .before .before in
-    let after-pointer = mid .before .before in
+    let mid₃ = c .before .before .before .before in
+    let mid = mid₃ .before .before in
+    let after-pointer = mid .before .before .before in
     let mid₂ = after-pointer .before .before .before .before in
     stray-done (mid₂ .before .before .before .before .pre .1) (mid₂ .before .before .before .before .args .i - 1) (after-pointer .pointer .result) (omega arith)
     (after-pointer .pointer .ensures) (λ x y z. omega (arith, c .if4 .taken))
@@ -198,11 +200,12 @@ trace-from-both-trace-requires-2 : (t : ℕ) → trace-from-lts.Need-both-trace-
 ) (trace-from-at t) trace-from.Post
 trace-from-both-trace-requires-2 t c κs =
     let after-if4 = c .before .before .before in
-    let after-if2 = after-if4 .before .before .before .before in
-    let after-pointer = after-if2 .before .before in
+    let mid₂ = after-if4 .before .before .before .before in
+    let after-if2 = mid₂ .before .before in
+    let after-pointer = after-if2 .before .before .before in
     let mid = after-pointer .before .before .before .before in
     back-leg (mid .before .before .before .before .pre .1) (mid .before .before .before .before .args .i - 1) (after-pointer .pointer .result) (omega arith)
-    (after-pointer .pointer .ensures) (omega (arith, after-if2 .if2 .left)) (omega (arith, after-if4 .before .before .if3 .left))
+    (after-pointer .pointer .ensures) (omega (arith, after-if2 .if2 .left)) (omega (arith, after-if4 .before .before .before .if3 .left))
     (omega (arith, after-if4 .if4 .left))
 
 -- src/lib.rt:182:9
@@ -231,14 +234,17 @@ trace-from-trace-from-requires t c κs =
     let mid₂ = mid .before .before .before .before in
     let after-both-trace2 = mid₂ .before in
     let after-if4 = after-both-trace2 .before .before .before .before in
-    let after-if2 = after-if4 .before .before .before .before in
-    let after-if1 = after-if2 .before .before .before .before in
+    let mid₄ = after-if4 .before .before .before .before in
+    let after-if2 = mid₄ .before .before in
+    let mid₅ = after-if2 .before .before .before .before in
+    let after-if1 = mid₅ .before in
     let mid₃ = after-if1 .before .before .before .before in
     let k = mid₃ .before .before in
     let some = after-if1 .if1 .left in (
       omega (arith, k .pre .0, some),
-      back-rest (k .pre .1) (k .args .i - 1) (after-if2 .before .before .pointer .result) (omega (arith, some)) (after-if2 .before .before .pointer .ensures)
-          (omega (arith, after-if2 .if2 .left)) (omega (arith, after-if4 .before .before .if3 .left)) (omega (arith, after-if4 .if4 .left))
+      back-rest (k .pre .1) (k .args .i - 1) (after-if2 .before .before .before .pointer .result) (omega (arith, some))
+          (after-if2 .before .before .before .pointer .ensures)
+          (omega (arith, after-if2 .if2 .left)) (omega (arith, after-if4 .before .before .before .if3 .left)) (omega (arith, after-if4 .if4 .left))
           (after-both-trace2 .both-trace2 .ensures),
     )
 
@@ -302,12 +308,14 @@ trace-from-returns-5 t c =
     let mid₃ = mid₂ .before .before .before .before in
     let after-both-trace2 = mid₃ .before .before .before .before in
     let after-if4 = after-both-trace2 .before .before .before .before in
-    let after-if2 = after-if4 .before .before .before .before in
-    let after-if1 = after-if2 .before .before .before .before in
+    let mid₅ = after-if4 .before .before .before .before in
+    let after-if2 = mid₅ .before .before in
+    let mid₆ = after-if2 .before .before .before .before in
+    let after-if1 = mid₆ .before in
     let mid₄ = after-if1 .before .before .before .before in
-    back-done (mid₄ .before .before .pre .1) (mid₄ .before .before .args .i - 1) (after-if2 .before .before .pointer .result)
-    (omega (arith, after-if1 .if1 .left)) (after-if2 .before .before .pointer .ensures) (omega (arith, after-if2 .if2 .left))
-    (omega (arith, after-if4 .before .before .if3 .left)) (omega (arith, after-if4 .if4 .left)) (after-both-trace2 .both-trace2 .ensures)
+    back-done (mid₄ .before .before .pre .1) (mid₄ .before .before .args .i - 1) (after-if2 .before .before .before .pointer .result)
+    (omega (arith, after-if1 .if1 .left)) (after-if2 .before .before .before .pointer .ensures) (omega (arith, after-if2 .if2 .left))
+    (omega (arith, after-if4 .before .before .before .if3 .left)) (omega (arith, after-if4 .if4 .left)) (after-both-trace2 .both-trace2 .ensures)
     (mid .before .before .trace-from .ensures)
 
 pub +trace-from-spec : {M : Type 1} → statement M

@@ -23,7 +23,7 @@ word-requires c κs = search needs
 returns : tie.Need-returns
 unfolding pointersIn
 returns c =
-    c .word .ensures ∙ ap (λ (k : ℕ). getD (c .before .before .before .args .store .now) k 0) (omega arith)
+    c .word .ensures ∙ ap (λ (k : ℕ). getD (c .before .before .before .before .args .store .now) k 0) (omega arith)
 
 pub pointer-spec : {M : Type 1} → statement M
 pointer-spec = tie.close (tie.spec add-pointer-at pointer-at-requires add-word word-requires returns)

@@ -10,11 +10,11 @@ use Rattle.search_back_segment.proofs.find_pose.Statement.{statement}
 use Rattle.search_back_segment.proofs.find_pose.Tie as tie
 
 abbrev Inv-loop : tie.InvT-loop
-Inv-loop store line at k m a poses want b₀ b =
-    (b ≤ poses) × ((j : ℕ) → j < b → fromPose store line at k m a j ≡ want → ⊥)
+Inv-loop store row at k m a poses want b₀ b =
+    (b ≤ poses) × ((j : ℕ) → j < b → fromPose store row at k m a j ≡ want → ⊥)
 
 abbrev μ-loop : tie.MeasureT-loop
-μ-loop store line at k m a poses want b₀ b =
+μ-loop store row at k m a poses want b₀ b =
     poses - b
 
 loop-holds : tie.Need-loop-holds Inv-loop μ-loop

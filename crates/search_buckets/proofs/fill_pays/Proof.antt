@@ -9,11 +9,11 @@ use Rattle.search_buckets.proofs.fill_pays.Statement.{statement}
 use Rattle.search_buckets.proofs.fill_pays.Tie as tie
 
 abbrev Inv-loop : tie.InvT-loop
-Inv-loop pays₀ line k m buckets u₀ pays u =
-    (u ≤ 4) × Pays line k m buckets (u * 9) pays
+Inv-loop pays₀ row k m buckets u₀ pays u =
+    (u ≤ 4) × Pays row k m buckets (u * 9) pays
 
 abbrev μ-loop : tie.MeasureT-loop
-μ-loop pays₀ line k m buckets u₀ pays u =
+μ-loop pays₀ row k m buckets u₀ pays u =
     4 - u
 
 loop-holds : tie.Need-loop-holds Inv-loop μ-loop

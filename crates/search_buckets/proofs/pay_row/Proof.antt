@@ -9,11 +9,11 @@ use Rattle.search_buckets.proofs.pay_row.Statement.{statement}
 use Rattle.search_buckets.proofs.pay_row.Tie as tie
 
 abbrev Inv-loop : tie.InvT-loop
-Inv-loop pays₀ line k u m buckets v₀ pays v =
-    (v ≤ buckets) × Pays line k m buckets (u * 9 + v) pays
+Inv-loop pays₀ row k u m buckets v₀ pays v =
+    (v ≤ buckets) × Pays row k m buckets (u * 9 + v) pays
 
 abbrev μ-loop : tie.MeasureT-loop
-μ-loop pays₀ line k u m buckets v₀ pays v =
+μ-loop pays₀ row k u m buckets v₀ pays v =
     buckets - v
 
 loop-holds : tie.Need-loop-holds Inv-loop μ-loop

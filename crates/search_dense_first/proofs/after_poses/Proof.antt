@@ -12,10 +12,10 @@ use Rattle.search_dense_first.proofs.after_poses.Statement.{statement}
 use Rattle.search_dense_first.proofs.after_poses.Tie as tie
 
 abbrev Inv-loop : tie.InvT-loop
-Inv-loop store₀ line p l at k poses a₀ store a = (a ≤ poses) × Written (afterPose line p l k) at a store₀ store
+Inv-loop store₀ row p l at k poses a₀ store a = (a ≤ poses) × Written (afterPose row p l k) at a store₀ store
 
 abbrev μ-loop : tie.MeasureT-loop
-μ-loop store₀ line p l at k poses a₀ store a = poses - a
+μ-loop store₀ row p l at k poses a₀ store a = poses - a
 
 loop-holds : tie.Need-loop-holds Inv-loop μ-loop
 loop-holds c = (omega arith, written-none _ _ (c .before .before .pre .1))

@@ -14,11 +14,11 @@ use Rattle.search_dense_layer.proofs.found_four.Statement.{statement}
 use Rattle.search_dense_layer.proofs.found_four.Tie as tie
 
 abbrev Inv-loop : tie.InvT-loop
-Inv-loop words₀ line near apart far k e v₀ words v =
-    (v ≤ 4) × Written (foundFour line near apart far k e) 0 v words₀ words
+Inv-loop words₀ row near apart far k e v₀ words v =
+    (v ≤ 4) × Written (foundFour row near apart far k e) 0 v words₀ words
 
 abbrev μ-loop : tie.MeasureT-loop
-μ-loop words₀ line near apart far k e v₀ words v = 4 - v
+μ-loop words₀ row near apart far k e v₀ words v = 4 - v
 
 loop-holds : tie.Need-loop-holds Inv-loop μ-loop
 loop-holds c = (omega arith, written-none _ _ (c .before .pre .2))

@@ -21,52 +21,62 @@ shared-slice-read-x c = search needs
 
 returns : tie.Need-returns
 returns c =
-    let k = c .before .before .before .before in
+    let mid = c .before .before .before .before in
+    let k = mid .before in
     let a = k .args in
-    gathered-none (a .buckets) (k .pre .0)
+    gathered-none (a .source .buckets) (k .pre .0 .arrays)
     (λ v s h.
-    omega (arith, row-above (endRow (a .row .now) (a .k) (a .b) (a .m)) s (getD (a .store .now) (a .at + a .b) 0 + payIn (a .row .now) (a .k) (a .b) (a .m) v)))
+    omega (
+      arith,
+      row-above (endRow (a .row .now) (a .source .left) (a .b) (a .source .right)) s
+          (getD (a .store .now) (a .source .at + a .b) 0 + payIn (a .row .now) (a .source .left) (a .b) (a .source .right) v),
+    ))
 
 end-row-requires : tie.Need-end-row-requires
 end-row-requires c κs = search needs
 
 returns-2 : tie.Need-returns-2
 returns-2 c =
-    let mid = c .before .before .before .before in
+    let mid₂ = c .before .before .before .before in
+    let mid = mid₂ .before in
     let k = mid .before .before in
     let a = k .args in
-    gathered-none (a .buckets) (k .pre .0)
+    gathered-none (a .source .buckets) (k .pre .0 .arrays)
     (λ v s h.
     omega (
       arith,
-      row-miss (endRow (a .row .now) (a .k) (a .b) (a .m)) s (getD (a .store .now) (a .at + a .b) 0 + payIn (a .row .now) (a .k) (a .b) (a .m) v)
+      row-miss (endRow (a .row .now) (a .source .left) (a .b) (a .source .right)) s
+          (getD (a .store .now) (a .source .at + a .b) 0 + payIn (a .row .now) (a .source .left) (a .b) (a .source .right) v)
           (λ e. omega (arith, c .before .end-row .ensures)),
     ))
 
 spread-requires : tie.Need-spread-requires
 spread-requires c κs =
-    let mid = c .before .before .before .before in
-    let mid₂ = mid .before .before .before .before in
-    let k = mid₂ .before in
+    let after-if2 = c .before .before .before in
+    let after-if1 = after-if2 .before .before in
+    let mid = after-if1 .before .before .before .before in
+    let k = mid .before in
     let a = k .args in (
-      k .pre .0,
+      k .pre .0 .arrays,
+      omega (arith, after-if1 .if1 .left),
+      pays-low (k .pre .0 .source .words) (k .pre .0 .paid),
+      pays-free (a .b % 4) (k .pre .0 .paid) (k .pre .0 .five) (omega arith),
       omega arith,
-      pays-low (k .pre .1 .words) (k .pre .2),
-      pays-free (a .b % 4) (k .pre .2) (k .pre .4) (omega arith),
-      omega arith,
-      omega arith,
-      k .pre .4,
-      k .pre .5,
+      omega (arith, after-if2 .if2 .left),
+      k .pre .0 .five,
+      k .pre .0 .nine,
     )
 
 returns-3 : tie.Need-returns-3
 returns-3 c =
     let mid = c .before .before .before .before in
-    let mid₂ = mid .before .before .before .before in
+    let mid₃ = mid .before .before .before .before in
+    let mid₂ = mid₃ .before in
     let k = mid₂ .before .before in
     let a = k .args in
-    gathered-pose (a .b) (mid .before .end-row .result) (getD (a .store .now) (a .at + a .b) 0) (k .pre .2) (mid .before .end-row .ensures) (k .pre .4)
-    (k .pre .5) (c .spread .ensures)
+    gathered-pose (a .b) (mid .before .end-row .result) (getD (a .store .now) (a .source .at + a .b) 0) (k .pre .0 .paid) (mid .before .end-row .ensures)
+    (k .pre .0 .five)
+    (k .pre .0 .nine) (c .spread .ensures)
 
 pub from-pose-spec : {M : Type 1} → statement M
 from-pose-spec =

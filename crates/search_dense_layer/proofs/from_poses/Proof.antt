@@ -11,23 +11,35 @@ use Rattle.search_dense_layer.proofs.from_poses.Statement.{statement}
 use Rattle.search_dense_layer.proofs.from_poses.Tie as tie
 
 abbrev Inv-loop : tie.InvT-loop
-Inv-loop near₀ apart₀ far₀ store line pays at k m poses buckets b₀ near apart far b =
-    (b ≤ poses) × ThinGathered (byPoses line k m (posesAt store at) b) buckets near₀ near apart₀ apart far₀ far
+Inv-loop near₀ apart₀ far₀ store row pays source poses b₀ near apart far b =
+    (b ≤ poses) × ThinGathered (byPoses row (source .left) (source .right) (posesAt store (source .at)) b) (source .buckets) near₀ near apart₀ apart far₀ far
 
 abbrev μ-loop : tie.MeasureT-loop
-μ-loop near₀ apart₀ far₀ store line pays at k m poses buckets b₀ near apart far b = poses - b
+μ-loop near₀ apart₀ far₀ store row pays source poses b₀ near apart far b = poses - b
 
 loop-holds : tie.Need-loop-holds Inv-loop μ-loop
 loop-holds c =
     let k = c .before .before in
-    let a = k .args in
-    (omega arith, gathered-none (a .buckets) (k .pre .0) (λ v t h. omega (arith, poses-none (a .row .now) (a .k) (a .m) (posesAt (a .store .now) (a .at)) v t)))
+    let a = k .args in (
+      omega arith,
+      gathered-none (a .source .buckets) (k .pre .0 .arrays)
+          (λ v t h. omega (arith, poses-none (a .row .now) (a .source .left) (a .source .right) (posesAt (a .store .now) (a .source .at)) v t)),
+    )
 
 from-pose-requires : tie.Need-from-pose-requires Inv-loop μ-loop
 from-pose-requires c κs =
     let at-loop = c .before .before .before .before in
-    let k = at-loop .before .before .before in
-    (lent-on (k .pre .0) (at-loop .loop .inv .1), k .pre .1, k .pre .2, omega arith, k .pre .4, k .pre .5)
+    let k = at-loop .before .before .before in (
+      record {
+        arrays = lent-on (k .pre .0 .arrays)
+            (at-loop .loop .inv .1);
+        source = k .pre .0 .source;
+        paid = k .pre .0 .paid;
+        five = k .pre .0 .five;
+        nine = k .pre .0 .nine;
+      },
+      omega arith,
+    )
 
 add-b : tie.Need-add-b Inv-loop μ-loop
 add-b c = search needs
@@ -41,7 +53,8 @@ loop-again c =
     let a = mid .before .before .before .before .args in
     let l = mid .before .loop in (
       omega arith,
-      gathered-join (l .inv .1) (c .from-pose .ensures) (λ v t. poses-more (a .row .now) (a .k) (a .m) (posesAt (a .store .now) (a .at)) (l .b) v t),
+      gathered-join (l .inv .1) (c .from-pose .ensures)
+          (λ v t. poses-more (a .row .now) (a .source .left) (a .source .right) (posesAt (a .store .now) (a .source .at)) (l .b) v t),
     )
 
 returns : tie.Need-returns Inv-loop μ-loop

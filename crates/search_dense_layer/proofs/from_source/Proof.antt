@@ -17,45 +17,55 @@ use Rattle.search_dense_layer.proofs.from_source.Tie as tie
 
 -- past the test the state is a source
 abbrev ThinSource : tie.Else1 → Type 0
-ThinSource c = let a = c .before .before .before .before .args in isSource (deckIn (a .row .now) (a .sizes)) (a .sizes .reordering) (a .i) (a .q) (a .p) ≡ true
+ThinSource c = let a = c .before .before .before .before .args in isSource (deckIn (a .row .now) (a .sizes)) (a .sizes .reordering) (a .layer .cells) (a .q)
+    (a .p) ≡ true
 
 source : (c : tie.Else1) → ThinSource c
 source c = sym (c .before .is-source .ensures) ∙ not-false _ (c .if1 .left)
 
 -- both cells stand in the row
-left : (c : tie.After-last-at2) → c .before .last-at .result < 64
+left : (c : tie.After-last-at2) → c .before .before .last-at .result < 64
 left c =
-    let mid = c .before .before in
+    let mid = c .before .before .before in
     let k = mid .before .before .before .before in
     let a = k .args in
     omega (
       arith,
-      c .before .last-at .ensures,
-      source-size (a .row .now) (a .sizes .cells) (a .sizes .poses) (a .sizes .reordering) (a .i) (a .q) (a .p) (source mid),
-      k .pre .1 .ground .size,
+      c .before .before .last-at .ensures,
+      source-size (a .row .now) (a .sizes .cells) (a .sizes .poses) (a .sizes .reordering) (a .layer .cells) (a .q) (a .p) (source mid),
+      k .pre .0 .given .ground .size,
     )
 
-here : (c : tie.After-last-at2) → (let mid = c .before .before .before .before in let a = mid .before .before .args in
-    c .last-at2 .result ≡ lastAt (a .sizes .reordering) (suc (a .i)) (a .q))
+here : (c : tie.After-last-at2) → (let mid₂ = c .before .before .before .before in let mid = mid₂ .before in let a = mid .before .before .args in
+    c .last-at2 .result ≡ lastAt (a .sizes .reordering) (suc (a .layer .cells)) (a .q))
 here c = omega (arith, c .last-at2 .ensures)
 
 right : (c : tie.After-last-at2) → c .last-at2 .result < 64
 right c =
-    let mid = c .before .before .before .before in
+    let mid₂ = c .before .before .before .before in
+    let mid = mid₂ .before in
     let k = mid .before .before in
     let a = k .args in
-    omega (arith, here c, there-size (a .sizes .cells) (a .sizes .reordering) (suc (a .i)) (a .q) (k .pre .2 .there), k .pre .1 .ground .size)
+    omega (
+      arith,
+      here c,
+      there-size (a .sizes .cells) (a .sizes .reordering) (suc (a .layer .cells)) (a .q)
+          (k .pre .0 .target .there),
+      k .pre .0 .given .ground .size,
+    )
 
 -- how many buckets the target needs
-buckets : (c : tie.After-buckets-of) → (let mid₂ = c .before .before .before .before in let a = mid₂ .before .before .before .args in
-    c .buckets-of .result ≡ bucketsIn (a .row .now) (lastAt (a .sizes .reordering) (suc (a .i)) (a .q)))
+buckets : (c : tie.After-buckets-of) → (let mid = c .before .before .before .before in let mid₂ = mid .before in let a = mid₂ .before .before .before .args in
+    c .buckets-of .result ≡ bucketsIn (a .row .now) (lastAt (a .sizes .reordering) (suc (a .layer .cells)) (a .q)))
 buckets c =
-    let mid = c .before .before .before .before in
+    let mid₂ = c .before .before .before .before in
+    let mid = mid₂ .before in
     c .buckets-of .ensures ∙ ap (bucketsIn (mid .before .before .before .args .row .now)) (here (c .before))
 
 few : (c : tie.After-buckets-of) → (5 ≤ c .buckets-of .result) × (c .buckets-of .result ≤ 9)
 few c =
-    let mid = c .before .before .before .before in
+    let mid₂ = c .before .before .before .before in
+    let mid = mid₂ .before in
     let f = buckets-few (mid .before .before .before .args .row .now) (c .before .last-at2 .result) in
     (omega (arith, c .buckets-of .ensures), omega (arith, c .buckets-of .ensures))
 
@@ -68,8 +78,8 @@ returns c =
     let a = k .args in
     let D = deckIn (a .row .now) (a .sizes) in
     let away = sym (c .before .is-source .ensures) ∙ not-true _ (c .if1 .taken) in
-    gathered-none (bucketsIn (a .row .now) (lastAt (a .sizes .reordering) (suc (a .i)) (a .q))) (k .pre .0)
-    (λ v t h. omega (arith, state-out (a .row .now) D (a .sizes .reordering) (thinIn (a .store .now) (a .from)) (a .i) (a .q) (a .p) v t away))
+    gathered-none (bucketsIn (a .row .now) (lastAt (a .sizes .reordering) (suc (a .layer .cells)) (a .q))) (k .pre .0 .arrays)
+    (λ v t h. omega (arith, state-out (a .row .now) D (a .sizes .reordering) (thinIn (a .store .now) (a .layer .at)) (a .layer .cells) (a .q) (a .p) v t away))
 
 last-at-requires : tie.Need-last-at-requires
 last-at-requires c κs = search needs
@@ -82,14 +92,16 @@ last-at-requires-2 c κs = search needs
 
 buckets-of-requires : tie.Need-buckets-of-requires
 buckets-of-requires c κs =
-    let mid = c .before .before .before .before in
-    (mid .before .before .pre .1 .ground .words, right c)
+    let mid₂ = c .before .before .before .before in
+    let mid = mid₂ .before in
+    (mid .before .before .pre .0 .given .ground .words, right c)
 
 fill-pays-requires : tie.Need-fill-pays-requires
 fill-pays-requires c κs =
-    let mid = c .before .before .before .before in
+    let mid₂ = c .before .before .before .before in
+    let mid = mid₂ .before in
     let k = mid .before .before .before .before in
-    (k .pre .1 .ground .words, left (c .before .before), right (c .before .before), few (c .before) .1, refl)
+    (k .pre .0 .given .ground .words, left (c .before .before), right (c .before .before), few (c .before) .1, refl)
 
 mul-at : tie.Need-mul-at
 mul-at c = search needs
@@ -99,41 +111,46 @@ add-at c = search needs
 
 from-poses-requires : tie.Need-from-poses-requires
 from-poses-requires c κs =
-    let after-fill-pays = c .before .before .before .before in
+    let mid₃ = c .before .before .before .before in
+    let after-fill-pays = mid₃ .before in
     let mid = after-fill-pays .before .before .before in
-    let mid₂ = mid .before .before .before .before in
+    let mid₄ = mid .before .before .before .before in
+    let mid₂ = mid₄ .before in
     let k = mid₂ .before .before in
-    let g = k .pre .1 in
+    let g = k .pre .0 .given in
     let f = few (after-fill-pays .before .before) in (
-      k .pre .0,
       record {
-        words = g .ground .words;
-        low = g .low;
-        room = omega (arith, g .room, g .ground .all, g .ground .coded .few);
-        left = left mid;
-        right = right mid;
+        arrays = k .pre .0 .arrays;
+        source = record {
+          words = g .ground .words;
+          low = g .low;
+          room = omega (arith, g .room, g .ground .all, g .ground .coded .few);
+          left = left mid;
+          right = right mid;
+        };
+        paid = after-fill-pays .fill-pays .ensures;
+        five = f .0;
+        nine = f .1;
       },
-      after-fill-pays .fill-pays .ensures,
       g .ground .few,
-      f .0,
-      f .1,
     )
 
 returns-2 : tie.Need-returns-2
 returns-2 c =
     let mid = c .before .before .before .before in
-    let mid₂ = mid .before .before .before .before in
-    let mid₃ = mid₂ .before .before in
+    let mid₄ = mid .before .before .before .before in
+    let mid₂ = mid₄ .before in
+    let mid₃ = mid₂ .before .before .before in
     let k = mid₃ .before .before .before .before in
     let a = k .args in
     let D = deckIn (a .row .now) (a .sizes) in
-    let f = thinIn (a .store .now) (a .from) in
-    let e = buckets (mid .before .before .before) in
+    let f = thinIn (a .store .now) (a .layer .at) in
+    let e = buckets (mid .before .before .before .before) in
     let m = here mid₂ in
-    let w = gathered-ext (c .from-poses .ensures) (few (mid .before .before .before) .0)
+    let w = gathered-ext (c .from-poses .ensures) (few (mid .before .before .before .before) .0)
     (λ v t h.
-    state-in (a .row .now) D (a .sizes .reordering) f (a .i) (a .q) (a .p) v t (source mid₃)
-    ∙ ap₂ (λ (x y : ℕ). byPoses (a .row .now) x y (f (a .p)) (a .sizes .poses) v t) (sym (mid₂ .before .last-at .ensures)) (sym m)) in
+    state-in (a .row .now) D (a .sizes .reordering) f (a .layer .cells) (a .q) (a .p) v t (source mid₃)
+    ∙ ap₂ (λ (x y : ℕ). byPoses (a .row .now) x y (f (a .p)) (a .sizes .poses) v t) (sym (mid₂ .before .before .last-at .ensures)) (sym m)) in
     rw e at w
 
 pub from-source-spec : {M : Type 1} → statement M

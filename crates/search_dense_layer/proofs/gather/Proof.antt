@@ -13,13 +13,13 @@ use Rattle.search_dense_layer.proofs.gather.Statement.{statement}
 use Rattle.search_dense_layer.proofs.gather.Tie as tie
 
 abbrev Inv-loop : tie.InvT-loop
-Inv-loop near₀ apart₀ far₀ store row sizes i from q p₀ near apart far p =
+Inv-loop near₀ apart₀ far₀ store row sizes layer q p₀ near apart far p =
     (p ≤ (sizes .states))
-    × ThinGathered (byStates row (deckIn row sizes) (sizes .reordering) (thinIn store from) i q p)
-    (bucketsIn row (lastAt (sizes .reordering) (suc i) q)) near₀ near apart₀ apart far₀ far
+    × ThinGathered (byStates row (deckIn row sizes) (sizes .reordering) (thinIn store (layer .at)) (layer .cells) q p)
+    (bucketsIn row (lastAt (sizes .reordering) (suc (layer .cells)) q)) near₀ near apart₀ apart far₀ far
 
 abbrev μ-loop : tie.MeasureT-loop
-μ-loop near₀ apart₀ far₀ store row sizes i from q p₀ near apart far p = (sizes .states) - p
+μ-loop near₀ apart₀ far₀ store row sizes layer q p₀ near apart far p = (sizes .states) - p
 
 loop-holds : tie.Need-loop-holds Inv-loop μ-loop
 loop-holds c =
@@ -27,15 +27,15 @@ loop-holds c =
     let a = k .args in
     let D = deckIn (a .row .now) (a .sizes) in (
       omega arith,
-      gathered-none (bucketsIn (a .row .now) (lastAt (a .sizes .reordering) (suc (a .i)) (a .q))) (k .pre .0)
-          (λ v t h. omega (arith, states-none (a .row .now) D (a .sizes .reordering) (thinIn (a .store .now) (a .from)) (a .i) (a .q) v t)),
+      gathered-none (bucketsIn (a .row .now) (lastAt (a .sizes .reordering) (suc (a .layer .cells)) (a .q))) (k .pre .arrays)
+          (λ v t h. omega (arith, states-none (a .row .now) D (a .sizes .reordering) (thinIn (a .store .now) (a .layer .at)) (a .layer .cells) (a .q) v t)),
     )
 
 from-source-requires : tie.Need-from-source-requires Inv-loop μ-loop
 from-source-requires c κs =
     let mid = c .before .before .before .before in
     let k = mid .before .before .before .before in
-    (lent-on (k .pre .0) (mid .before .loop .inv .1), k .pre .1, k .pre .2, omega arith)
+    (record { arrays = lent-on (k .pre .arrays) (mid .before .loop .inv .1); given = k .pre .given; target = k .pre .target }, omega arith)
 
 add-p : tie.Need-add-p Inv-loop μ-loop
 add-p c = search needs
@@ -52,7 +52,7 @@ loop-again c =
     let l = at-loop .loop in (
       omega arith,
       gathered-join (l .inv .1) (c .from-source .ensures)
-          (λ v t. states-more (a .row .now) D (a .sizes .reordering) (thinIn (a .store .now) (a .from)) (a .i) (a .q) (l .p) v t),
+          (λ v t. states-more (a .row .now) D (a .sizes .reordering) (thinIn (a .store .now) (a .layer .at)) (a .layer .cells) (a .q) (l .p) v t),
     )
 
 returns : tie.Need-returns Inv-loop μ-loop

@@ -11,14 +11,14 @@ use Rattle.search_dense_layer.proofs.put.Statement.{statement}
 use Rattle.search_dense_layer.proofs.put.Tie as tie
 
 abbrev Inv-loop : tie.InvT-loop
-Inv-loop store₀ line near apart far to k poses e₀ store e =
-    (e * 4 ≤ poses + 3) × Written (foundOf line near apart far k) to (e * 4) store₀ store
+Inv-loop store₀ row near apart far to k poses e₀ store e =
+    (e * 4 ≤ poses + 3) × Written (foundOf row near apart far k) to (e * 4) store₀ store
 
 abbrev μ-loop : tie.MeasureT-loop
-μ-loop store₀ line near apart far to k poses e₀ store e = poses - e * 4
+μ-loop store₀ row near apart far to k poses e₀ store e = poses - e * 4
 
 loop-holds : tie.Need-loop-holds Inv-loop μ-loop
-loop-holds c = (omega arith, written-none _ _ (c .before .before .pre .2))
+loop-holds c = (omega arith, written-none _ _ (c .before .before .pre .0 .low))
 
 mul-loop : tie.Need-mul-loop Inv-loop μ-loop
 mul-loop c = search needs
@@ -28,7 +28,10 @@ put-four-requires c κs =
     let at-loop = c .before .before in
     let k = at-loop .before .before .before in
     let l = at-loop .loop in
-    (k .pre .0, k .pre .1, l .inv .1 .low, omega (arith, l .inv .1 .frame .long), k .pre .4, omega arith)
+    let g = k .pre .0 in (
+      record { arrays = g .arrays; words = g .words; low = l .inv .1 .low; room = omega (arith, l .inv .1 .frame .long); cell = g .cell },
+      omega arith,
+    )
 
 add-e : tie.Need-add-e Inv-loop μ-loop
 add-e c = search needs

@@ -28,7 +28,8 @@ returns c =
 put-requires-2 : tie.Need-put-requires-2
 put-requires-2 c κs =
     let p = c .before .before .before .before .pre in
-    (lent-twin (p .0), p .1, p .2, p .3, p .4, p .5)
+    let g = p .0 in
+    (record { arrays = lent-twin (g .arrays); words = g .words; low = g .low; room = g .room; cell = g .cell }, p .1)
 
 same-length-2 : tie.Need-same-length-2
 same-length-2 c = search needs

@@ -14,19 +14,19 @@ zero-add : (v : ℕ) → 0 + v ≡ v
 zero-add v = omega arith
 
 abbrev Inv-loop : tie.InvT-loop
-Inv-loop store₀ line near apart far to k e words v₀ store v =
-    (v ≤ 4) × Written (foundFour line near apart far k e) (to + e * 4) v store₀ store
+Inv-loop store₀ row near apart far to k e words v₀ store v =
+    (v ≤ 4) × Written (foundFour row near apart far k e) (to + e * 4) v store₀ store
 
 abbrev μ-loop : tie.MeasureT-loop
-μ-loop store₀ line near apart far to k e words v₀ store v = 4 - v
+μ-loop store₀ row near apart far to k e words v₀ store v = 4 - v
 
 found-four-requires : tie.Need-found-four-requires Inv-loop μ-loop
 found-four-requires c κs =
     let p = c .before .before .before .pre in
-    (p .0, p .1, same-low 4 0 (omega arith), refl, p .4, p .5)
+    (p .0 .arrays, p .0 .words, same-low 4 0 (omega arith), refl, p .0 .cell, p .1)
 
 loop-holds : tie.Need-loop-holds Inv-loop μ-loop
-loop-holds c = (omega arith, written-none _ _ (c .before .before .before .before .pre .2))
+loop-holds c = (omega arith, written-none _ _ (c .before .before .before .before .pre .0 .low))
 
 mul-store : tie.Need-mul-store Inv-loop μ-loop
 mul-store c = search needs

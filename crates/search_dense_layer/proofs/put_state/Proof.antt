@@ -29,7 +29,8 @@ add-fill-2 c = search needs
 
 fill-requires : tie.Need-fill-requires
 fill-requires c κs =
-    let mid = c .before .before .before .before in
+    let mid₂ = c .before .before .before .before in
+    let mid = mid₂ .before .before in
     let k = mid .before in
     let g = k .pre .0 in
     (omega (arith, g .room, g .ground .all, g .ground .coded .few), omega arith, g .low)
@@ -39,25 +40,28 @@ same-length c = search needs
 
 returns : tie.Need-returns
 returns c =
-    let after-if1 = c .before .before .before .before in
-    let k = after-if1 .before .before .before .before in
+    let mid = c .before .before .before .before in
+    let after-if1 = mid .before in
+    let mid₂ = after-if1 .before .before .before .before in
+    let k = mid₂ .before in
     let a = k .args in
     let D = deckIn (a .row .now) (a .sizes) in
     let t = sym (after-if1 .before .is-there .ensures) ∙ not-true _ (after-if1 .if1 .taken) in
-    let u = ap (λ (j : ℕ). thereIn (a .sizes .cells) (a .sizes .reordering) j (a .q)) (sym (add-one (a .i))) ∙ t in
-    put-words D (a .sizes .reordering) (a .i) (a .from) (a .q) (c .before .before .fill .ensures) (omega (arith, k .pre .0 .ground .few)) (omega arith)
-    (λ b l. next-away D (a .sizes .reordering) (thinIn (a .store .now) (a .from)) (a .i) (a .q) b u)
+    let u = ap (λ (j : ℕ). thereIn (a .sizes .cells) (a .sizes .reordering) j (a .q)) (sym (add-one (a .layer .cells))) ∙ t in
+    put-words D (a .sizes .reordering) (a .layer .cells) (a .layer .at) (a .q) (c .before .before .fill .ensures) (omega (arith, k .pre .0 .ground .few))
+    (omega arith)
+    (λ b l. next-away D (a .sizes .reordering) (thinIn (a .store .now) (a .layer .at)) (a .layer .cells) (a .q) b u)
 
 target-there-requires : tie.Need-target-there-requires
 target-there-requires c κs =
     let after-is-there = c .before .before in
-    let k = after-is-there .before .before .before in
+    let k = after-is-there .before .before .before .before in
     let a = k .args in
     let t = sym (after-is-there .is-there .ensures) ∙ not-false _ (c .before .if1 .left) in (
       k .pre .0,
       record {
         state = omega (arith, k .pre .0 .ground .all);
-        there = ap (λ (j : ℕ). thereIn (a .sizes .cells) (a .sizes .reordering) j (a .q)) (sym (add-one (a .i))) ∙ t;
+        there = ap (λ (j : ℕ). thereIn (a .sizes .cells) (a .sizes .reordering) j (a .q)) (sym (add-one (a .layer .cells))) ∙ t;
       },
     )
 

@@ -10,11 +10,11 @@ use Rattle.search_dense_layer.proofs.step.Statement.{statement}
 use Rattle.search_dense_layer.proofs.step.Tie as tie
 
 abbrev Inv-loop : tie.InvT-loop
-Inv-loop store₀ row sizes i from q₀ store q =
+Inv-loop store₀ row sizes i from layer q₀ store q =
     (q ≤ (sizes .states)) × Stepped (deckIn row sizes) (sizes .reordering) q i from store₀ store
 
 abbrev μ-loop : tie.MeasureT-loop
-μ-loop store₀ row sizes i from q₀ store q = (sizes .states) - q
+μ-loop store₀ row sizes i from layer q₀ store q = (sizes .states) - q
 
 loop-holds : tie.Need-loop-holds Inv-loop μ-loop
 loop-holds c =

@@ -16,28 +16,33 @@ use Rattle.search_dense_layer.proofs.target_there.Statement.{statement}
 use Rattle.search_dense_layer.proofs.target_there.Tie as tie
 
 -- the target's position, and how many buckets it needs
-here : (c : tie.After-last-at) → (let a = c .before .before .before .args in c .last-at .result ≡ lastAt (a .sizes .reordering) (suc (a .i)) (a .q))
+here : (c : tie.After-last-at) →
+    (let a = c .before .before .before .before .args in c .last-at .result ≡ lastAt (a .sizes .reordering) (suc (a .layer .cells)) (a .q))
 here c = omega (arith, c .last-at .ensures)
 
 inside : (c : tie.After-last-at) → c .last-at .result < 64
 inside c =
-    let k = c .before .before .before in
+    let k = c .before .before .before .before in
     let a = k .args in
-    omega (arith, here c, there-size (a .sizes .cells) (a .sizes .reordering) (suc (a .i)) (a .q) (k .pre .1 .there), k .pre .0 .ground .size)
+    omega (arith, here c, there-size (a .sizes .cells) (a .sizes .reordering) (suc (a .layer .cells)) (a .q) (k .pre .1 .there), k .pre .0 .ground .size)
 
 buckets : (c : tie.After-buckets-of)
-    → (let a = c .before .before .before .before .args in c .buckets-of .result ≡ bucketsIn (a .row .now) (lastAt (a .sizes .reordering) (suc (a .i)) (a .q)))
-buckets c = c .buckets-of .ensures ∙ ap (bucketsIn (c .before .before .before .before .args .row .now)) (here (c .before))
+    → (let mid = c .before .before .before .before in let a = mid .before .args in c .buckets-of .result ≡ bucketsIn (a .row .now)
+    (lastAt (a .sizes .reordering) (suc (a .layer .cells)) (a .q)))
+buckets c =
+    let mid = c .before .before .before .before in
+    c .buckets-of .ensures ∙ ap (bucketsIn (mid .before .args .row .now)) (here (c .before))
 
 -- the arrays once the far rows ran up
 arrays : (c : tie.After-run-up) → Arrays (c .before .before .gather .last .0) (c .before .before .gather .last .1 .0) (c .run-up .last .0)
 arrays c = lent-run (lent-on lent-none (c .before .before .gather .ensures)) (c .run-up .ensures)
 
 buckets-low : (k : tie.Start) → (let a = k .args in (v t : ℕ) → byStates (a .row .now) (deckIn (a .row .now) (a .sizes)) (a .sizes .reordering)
-    (thinIn (a .store .now) (a .from)) (a .i) (a .q) (a .sizes .states) v t ≤ B)
+    (thinIn (a .store .now) (a .layer .at)) (a .layer .cells) (a .q) (a .sizes .states) v t ≤ B)
 buckets-low k v t =
     let a = k .args in
-    states-low (a .row .now) (deckIn (a .row .now) (a .sizes)) (a .sizes .reordering) (thinIn (a .store .now) (a .from)) (a .i) (a .q) (a .sizes .states) v t
+    states-low (a .row .now) (deckIn (a .row .now) (a .sizes)) (a .sizes .reordering) (thinIn (a .store .now) (a .layer .at)) (a .layer .cells) (a .q)
+    (a .sizes .states) v t
 
 add-last-at : tie.Need-add-last-at
 add-last-at c = search needs
@@ -46,13 +51,14 @@ last-at-requires : tie.Need-last-at-requires
 last-at-requires c κs = search needs
 
 buckets-of-requires : tie.Need-buckets-of-requires
-buckets-of-requires c κs = (c .before .before .before .pre .0 .ground .words, inside c)
+buckets-of-requires c κs = (c .before .before .before .before .pre .0 .ground .words, inside c)
 
 gather-requires : tie.Need-gather-requires
 gather-requires c κs =
     let mid = c .before .before .before .before in
-    let k = mid .before .before .before .before in
-    (lent-none, k .pre .0, k .pre .1)
+    let mid₂ = mid .before .before .before .before in
+    let k = mid₂ .before in
+    record { arrays = lent-none; given = k .pre .0; target = k .pre .1 }
 
 run-up-requires : tie.Need-run-up-requires
 run-up-requires c κs =
@@ -70,12 +76,21 @@ add-to-2 c = search needs
 
 put-found-requires : tie.Need-put-found-requires
 put-found-requires c κs =
-    let mid = c .before .before .before .before in
+    let mid₄ = c .before .before .before .before in
+    let mid = mid₄ .before in
     let mid₂ = mid .before .before .before .before in
     let mid₃ = mid₂ .before .before .before .before in
-    let k = mid₃ .before .before .before in
-    let g = k .pre .0 in
-    (arrays mid, g .ground .words, g .low, omega (arith, g .room, k .pre .1 .state, g .ground .coded .few), inside mid₃, g .ground .few)
+    let k = mid₃ .before .before .before .before in
+    let g = k .pre .0 in (
+      record {
+        arrays = arrays mid;
+        words = g .ground .words;
+        low = g .low;
+        room = omega (arith, g .room, k .pre .1 .state, g .ground .coded .few);
+        cell = inside mid₃;
+      },
+      g .ground .few,
+    )
 
 same-length : tie.Need-same-length
 same-length c = search needs
@@ -83,21 +98,23 @@ same-length c = search needs
 returns : tie.Need-returns
 returns c =
     let mid = c .before .before .before .before in
-    let after-run-up = mid .before .before .before in
+    let after-run-up = mid .before .before .before .before in
     let mid₂ = after-run-up .before .before .before .before in
     let mid₃ = mid₂ .before .before .before .before in
-    let k = mid₃ .before .before .before in
+    let k = mid₃ .before .before .before .before in
     let a = k .args in
     let g = k .pre .0 in
     let D = deckIn (a .row .now) (a .sizes) in
-    let f = thinIn (a .store .now) (a .from) in
+    let f = thinIn (a .store .now) (a .layer .at) in
     let m = here mid₃ in
     let e = sym (buckets (mid₂ .before .before .before)) in
     let found = found-there (buckets-low k) (rw e at (after-run-up .before .before .gather .ensures)) (after-run-up .run-up .ensures)
-    (λ n v t i. states-twin (a .row .now) D (a .sizes .reordering) f (a .i) (a .q) (a .sizes .states) v t
-    (buckets-twin (a .row .now) (lastAt (a .sizes .reordering) (suc (a .i)) (a .q)) (λ z. n (sym e ∙ z))) i) in
-    put-words D (a .sizes .reordering) (a .i) (a .from) (a .q) (c .before .before .put-found .ensures) (omega arith) (omega (arith, g .ground .few))
-    (λ b l. next-found (a .row .now) (a .sizes .cells) (a .sizes .poses) (a .sizes .reordering) f (a .i) (a .q) b (k .pre .1 .there) (g .ground .all) m
+    (λ n v t i. states-twin (a .row .now) D (a .sizes .reordering) f (a .layer .cells) (a .q) (a .sizes .states) v t
+    (buckets-twin (a .row .now) (lastAt (a .sizes .reordering) (suc (a .layer .cells)) (a .q)) (λ z. n (sym e ∙ z))) i) in
+    put-words D (a .sizes .reordering) (a .layer .cells) (a .layer .at) (a .q) (c .before .before .put-found .ensures) (omega arith)
+    (omega (arith, g .ground .few))
+    (λ b l. next-found (a .row .now) (a .sizes .cells) (a .sizes .poses) (a .sizes .reordering) f (a .layer .cells) (a .q) b (k .pre .1 .there)
+    (g .ground .all) m
     (found b (omega (arith, g .ground .few))))
 
 pub target-there-spec : {M : Type 1} → statement M

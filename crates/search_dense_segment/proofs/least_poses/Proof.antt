@@ -11,10 +11,10 @@ use Rattle.search_dense_segment.proofs.least_poses.Statement.{statement
 use Rattle.search_dense_segment.proofs.least_poses.Tie as tie
 
 abbrev Inv-loop : tie.InvT-loop
-Inv-loop store line at q k poses x₀ a₀ x a = (a ≤ poses) × (x ≡ leastPoses (backIn line k) (thinIn store at) q a)
+Inv-loop store row at q k poses x₀ a₀ x a = (a ≤ poses) × (x ≡ leastPoses (backIn row k) (thinIn store at) q a)
 
 abbrev μ-loop : tie.MeasureT-loop
-μ-loop store line at q k poses x₀ a₀ x a = poses - a
+μ-loop store row at q k poses x₀ a₀ x a = poses - a
 
 loop-holds : tie.Need-loop-holds Inv-loop μ-loop
 loop-holds c =

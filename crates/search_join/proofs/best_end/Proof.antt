@@ -24,20 +24,25 @@ loop-holds : tie.Need-loop-holds Inv-loop μ-loop
 loop-holds c = (omega arith, least-none _ _)
 
 mul-least-lane : tie.Need-mul-least-lane Inv-loop μ-loop
-mul-least-lane c = let w = c .before .before .before .pre .0 .states in omega arith
+mul-least-lane c = let w = c .before .before .before .pre .0 .table .states in omega arith
 
 cost-at-requires : tie.Need-cost-at-requires Inv-loop μ-loop
-cost-at-requires c κs = let w = c .before .before .before .pre .0 .states in (omega arith, omega arith, omega arith, omega arith)
+cost-at-requires c κs = let w = c .before .before .before .pre .0 .table .states in (omega arith, omega arith, omega arith, omega arith)
 
 least-lane-requires : tie.Need-least-lane-requires Inv-loop μ-loop
 least-lane-requires c κs =
-    let w = c .before .before .before .before .pre .0 in
-    (c .before .before .before .before .pre .1, w .low, omega (arith, w .states, w .few), omega (arith, w .states, w .few, w .long, c .cost-at .ensures))
+    let w = c .before .before .before .before .pre .0 .table in
+    record {
+      room = c .before .before .before .before .pre .1;
+      low = w .low;
+      inside = omega (arith, w .states, w .few);
+      costs = omega (arith, w .states, w .few, w .long, c .cost-at .ensures);
+    }
 
 cast-better : tie.Need-cast-better Inv-loop μ-loop
 cast-better c =
     let mid = c .before .before .before .before in
-    let w = mid .before .pre .0 .states in omega arith
+    let w = mid .before .pre .0 .table .states in omega arith
 
 better-requires : tie.Need-better-requires Inv-loop μ-loop
 better-requires c κs = search needs
@@ -56,7 +61,7 @@ loop-again c =
     let t = at-loop .loop .t in (
       omega arith,
       least-more _ t (at-loop .loop .inv .1)
-          (end-met (a .starts) (a .lanes) (a .sums .now) (a .store .now) (a .q1) (a .a) t _ (omega arith) (k .pre .0 .states)
+          (end-met (a .starts) (a .lanes) (a .sums .now) (a .store .now) (a .q1) (a .a) t _ (omega arith) (k .pre .0 .table .states)
           (c .before .before .cost-at .ensures) (c .before .least-lane .ensures))
           (c .better .ensures),
     )

@@ -17,18 +17,20 @@ abbrev μ-loop : tie.MeasureT-loop
 μ-loop store₀ sums₀ i starts lanes q0 ends poses a₀ store sums a = poses - a
 
 loop-holds : tie.Need-loop-holds Inv-loop μ-loop
-loop-holds c = (omega arith, part-none _ _ _ (c .before .pre .0 .low) (λ q₀ q₁ a h. omega arith), c .before .pre .1)
+loop-holds c = (omega arith, part-none _ _ _ (c .before .pre .0 .table .low) (λ q₀ q₁ a h. omega arith), c .before .pre .0 .room)
 
 case-pose-requires : tie.Need-case-pose-requires Inv-loop μ-loop
 case-pose-requires c κs =
     let at-loop = c .before .before .before in
     let k = at-loop .before .before in
     let l = at-loop .loop .inv in (
-      table-part (k .args .starts) (k .args .lanes) (k .args .i) (k .pre .0) (l .1),
-      l .2,
-      omega (arith, k .pre .2, l .1 .long),
-      omega arith,
-      omega arith,
+      record {
+        table = table-part (k .args .starts) (k .args .lanes) (k .args .i) (k .pre .0 .table) (l .1);
+        room = l .2;
+        pages = omega (arith, k .pre .0 .pages, l .1 .long);
+        state = omega arith;
+        few = omega arith;
+      },
       omega arith,
     )
 
@@ -47,7 +49,7 @@ loop-again c =
     let l = at-loop .loop in
     let w = after-case-pose .case-pose .ensures in (
       omega arith,
-      block-more (a .starts) (a .lanes) (a .i) (a .q0) (a .ends) (l .a) (k .pre .0) (omega arith) (omega arith) (omega arith) (l .inv .1) (w .0),
+      block-more (a .starts) (a .lanes) (a .i) (a .q0) (a .ends) (l .a) (k .pre .0 .table) (omega arith) (omega arith) (omega arith) (l .inv .1) (w .0),
       w .1,
     )
 

@@ -16,10 +16,11 @@ abbrev μ-loop : tie.MeasureT-loop
 μ-loop store₀ sums i starts lanes q0 ends a live q1₀ store q1 = ends - q1
 
 fill-sums-requires : tie.Need-fill-sums-requires Inv-loop μ-loop
-fill-sums-requires c κs = let k = c .before .before .before in (k .pre .0, k .pre .1, omega arith, omega arith)
+fill-sums-requires c κs = let k = c .before .before .before in
+    (record { table = k .pre .0 .table; state = k .pre .0 .state; pose = k .pre .1 }, k .pre .0 .room)
 
 loop-holds : tie.Need-loop-holds Inv-loop μ-loop
-loop-holds c = (omega arith, part-none _ _ _ (c .before .before .before .before .pre .0 .low) (λ q₀ q₁ a h. omega arith))
+loop-holds c = (omega arith, part-none _ _ _ (c .before .before .before .before .pre .0 .table .low) (λ q₀ q₁ a h. omega arith))
 
 put-case-requires : tie.Need-put-case-requires Inv-loop μ-loop
 put-case-requires c κs =
@@ -27,13 +28,13 @@ put-case-requires c κs =
     let k = after-fill-sums .before .before .before .before in
     let a = k .args in
     let p = c .before .before .before .loop .inv .1 in (
-      table-part (a .starts) (a .lanes) (a .i) (k .pre .0) p,
-      summed-part (a .starts) (a .lanes) (a .i) (PoseCases (a .q0) (c .before .before .before .loop .q1) (a .a)) (a .q0) (a .a) (k .pre .0)
-          (λ q₀ q₁ b r. (omega arith, omega arith, omega arith)) p (omega arith) (omega arith) (after-fill-sums .fill-sums .ensures),
-      omega (arith, k .pre .2, p .long),
-      omega arith,
-      omega arith,
-      omega arith,
+      record {
+        table = table-part (a .starts) (a .lanes) (a .i) (k .pre .0 .table) p;
+        summed = summed-part (a .starts) (a .lanes) (a .i) (PoseCases (a .q0) (c .before .before .before .loop .q1) (a .a)) (a .q0) (a .a) (k .pre .0 .table)
+            (λ q₀ q₁ b r. (omega arith, omega arith, omega arith)) p (omega arith) (omega arith) (after-fill-sums .fill-sums .ensures);
+        fits = record { state₀ = k .pre .0 .state; state₁ = omega arith; pose = k .pre .1 };
+      },
+      omega (arith, k .pre .0 .pages, p .long),
     )
 
 add-q1 : tie.Need-add-q1 Inv-loop μ-loop
@@ -51,7 +52,7 @@ loop-again c =
     let a = k .args in
     let l = at-loop .loop in (
       omega arith,
-      pose-more (a .starts) (a .lanes) (a .i) (a .q0) (l .q1) (a .a) (k .pre .0) (omega arith) (omega arith) (omega arith) (l .inv .1)
+      pose-more (a .starts) (a .lanes) (a .i) (a .q0) (l .q1) (a .a) (k .pre .0 .table) (omega arith) (omega arith) (omega arith) (l .inv .1)
           (after-put-case .put-case .ensures),
     )
 

@@ -15,13 +15,16 @@ abbrev μ-loop : tie.MeasureT-loop
 μ-loop store₀ i ends low high s₀ store s = ends - s
 
 loop-holds : tie.Need-loop-holds Inv-loop μ-loop
-loop-holds c = (omega arith, closed-none _ _ _ (c .before .pre .0) (λ q₀ q₁ h. omega arith))
+loop-holds c = (omega arith, closed-none _ _ _ (c .before .pre .fits) (λ q₀ q₁ h. omega arith))
 
 close-state-requires : tie.Need-close-state-requires Inv-loop μ-loop
 close-state-requires c κs =
     let k = c .before .before .before .before in
     let w = c .before .before .loop .inv .1 in
-    (w .fits, omega (arith, k .pre .1, w .long), omega arith, omega arith, omega arith, omega arith, omega arith)
+    let g = k .pre in (
+      record { fits = w .fits; long = omega (arith, g .long, w .long); table = g .table; few = g .few; order = g .order; narrow = g .narrow },
+      omega arith,
+    )
 
 add-s : tie.Need-add-s Inv-loop μ-loop
 add-s c = search needs

@@ -18,25 +18,25 @@ abbrev μ-loop : tie.MeasureT-loop
 μ-loop sums₀ store i starts lanes q0 a live₀ s₀ sums live s = starts - s
 
 mul-fill : tie.Need-mul-fill Inv-loop μ-loop
-mul-fill c = let w = c .before .before .pre .0 .states in omega arith
+mul-fill c = let w = c .before .before .pre .0 .table .states in omega arith
 
 fill-requires : tie.Need-fill-requires Inv-loop μ-loop
 fill-requires c κs =
     let k = c .before .before in
-    (omega (arith, k .pre .0 .states, k .pre .1 .long), omega arith, k .pre .1 .low)
+    (omega (arith, k .pre .0 .table .states, k .pre .1 .long), omega arith, k .pre .1 .low)
 
 loop-holds : tie.Need-loop-holds Inv-loop μ-loop
 loop-holds c =
     let k = c .before .before .before in
     let a = k .args in
-    let w = sums-filled (a .starts) (a .lanes) (a .i) (a .store .now) (a .q0) (a .a) (k .pre .1) (c .fill .ensures) (omega arith) (k .pre .0 .few) in
+    let w = sums-filled (a .starts) (a .lanes) (a .i) (a .store .now) (a .q0) (a .a) (k .pre .1) (c .fill .ensures) (omega arith) (k .pre .0 .table .few) in
     (omega arith, w .0, λ e. w .1)
 
 sums-from-requires : tie.Need-sums-from-requires Inv-loop μ-loop
 sums-from-requires c κs =
     let at-loop = c .before .before in
     let k = at-loop .before .before .before .before in
-    (k .pre .0, at-loop .loop .inv .1, omega arith, omega arith, omega arith)
+    (k .pre .0, at-loop .loop .inv .1, omega arith)
 
 add-s : tie.Need-add-s Inv-loop μ-loop
 add-s c = search needs

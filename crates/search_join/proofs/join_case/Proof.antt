@@ -16,7 +16,8 @@ returns : tie.Need-returns
 returns c =
     let k = c .before .before in
     let a = k .args in
-    case-dead (a .starts) (a .lanes) (a .i) (a .store .now) (a .q0) (a .q1) (a .a) (k .pre .1 .all) (k .pre .1 .dead (not-true _ (c .if1 .taken)))
+    case-dead (a .starts) (a .lanes) (a .i) (a .store .now) (a .case .q0) (a .case .q1) (a .case .pose) (k .pre .summed .all)
+    (k .pre .summed .dead (not-true _ (c .if1 .taken)))
 
 best-end-requires : tie.Need-best-end-requires
 best-end-requires c κs = search needs
@@ -26,8 +27,8 @@ returns-2 c =
     let k = c .before .before .before .before in
     let a = k .args in
     let best = c .before .best-end .ensures in
-    next-is (a .starts) (a .lanes) _ _ _ (a .q0) (a .q1) (a .a) _ (omega arith)
-    (case-below (a .starts) (a .lanes) (a .i) (a .store .now) (a .q0) (a .q1) (a .a) (k .pre .1 .all) _ (best .right))
+    next-is (a .starts) (a .lanes) _ _ _ (a .case .q0) (a .case .q1) (a .case .pose) _ (omega arith)
+    (case-below (a .starts) (a .lanes) (a .i) (a .store .now) (a .case .q0) (a .case .q1) (a .case .pose) (k .pre .summed .all) _ (best .right))
     (λ h. absurd (omega arith))
     (omega arith)
 
@@ -39,9 +40,9 @@ pointer-of-requires c κs =
     let after-best-end = c .before .before in
     let k = after-best-end .before .before .before in
     let a = k .args in
-    let ends = endSum (a .lanes) (a .sums .now) (a .store .now) (a .q1) (a .a) in
+    let ends = endSum (a .lanes) (a .sums .now) (a .store .now) (a .case .q1) (a .case .pose) in
     let met = least-met {W = MetAt ends (a .starts)} (lowest-low B ends (from 0 (a .starts))) (after-best-end .best-end .ensures) (c .before .if2 .left) in
-    (k .pre .0, k .pre .1 .all, omega arith, omega arith, omega arith, met .0 .0, met .0 .1, met .1)
+    record { table = k .pre .table; summed = k .pre .summed .all; fits = k .pre .fits; state = met .0 .0; met = met .0 .1; below = met .1 }
 
 returns-3 : tie.Need-returns-3
 returns-3 c =
@@ -50,9 +51,9 @@ returns-3 c =
     let a = k .args in
     let best = after-best-end .best-end .ensures in
     let way = c .pointer-of .ensures in
-    next-is (a .starts) (a .lanes) _ _ _ (a .q0) (a .q1) (a .a) _
-    (omega (arith, best .right, lowest-low B (endSum (a .lanes) (a .sums .now) (a .store .now) (a .q1) (a .a)) (from 0 (a .starts))))
-    (case-below (a .starts) (a .lanes) (a .i) (a .store .now) (a .q0) (a .q1) (a .a) (k .pre .1 .all) _ (best .right))
+    next-is (a .starts) (a .lanes) _ _ _ (a .case .q0) (a .case .q1) (a .case .pose) _
+    (omega (arith, best .right, lowest-low B (endSum (a .lanes) (a .sums .now) (a .store .now) (a .case .q1) (a .case .pose)) (from 0 (a .starts))))
+    (case-below (a .starts) (a .lanes) (a .i) (a .store .now) (a .case .q0) (a .case .q1) (a .case .pose) (k .pre .summed .all) _ (best .right))
     (λ h. way .0)
     (way .1)
 

@@ -21,18 +21,20 @@ abbrev μ-loop : tie.MeasureT-loop
 
 loop-holds : tie.Need-loop-holds Inv-loop μ-loop
 loop-holds c =
-    (omega arith, part-none _ _ _ (c .before .pre .0 .low) (λ q₀ q₁ a h. omega arith), record { long = length-replicate 768 B; low = nones-low 768 })
+    (omega arith, part-none _ _ _ (c .before .pre .table .low) (λ q₀ q₁ a h. omega arith), record { long = length-replicate 768 B; low = nones-low 768 })
 
 case-block-requires : tie.Need-case-block-requires Inv-loop μ-loop
 case-block-requires c κs =
     let at-loop = c .before .before .before in
     let k = at-loop .before .before in
     let l = at-loop .loop .inv in (
-      table-part (k .args .starts) (k .args .lanes) (k .args .i) (k .pre .0) (l .1),
-      l .2,
-      omega (arith, k .pre .1, l .1 .long),
-      omega arith,
-      omega arith,
+      record {
+        table = table-part (k .args .starts) (k .args .lanes) (k .args .i) (k .pre .table) (l .1);
+        room = l .2;
+        pages = omega (arith, k .pre .pages, l .1 .long);
+        state = omega arith;
+        few = omega arith;
+      },
       omega arith,
     )
 
@@ -51,7 +53,7 @@ loop-again c =
     let l = at-loop .loop in
     let w = after-case-block .case-block .ensures in (
       omega arith,
-      stage-more (a .starts) (a .lanes) (a .i) (l .q0) (a .ends) (a .poses) (k .pre .0) (omega arith) (omega arith) (omega arith) (l .inv .1) (w .0),
+      stage-more (a .starts) (a .lanes) (a .i) (l .q0) (a .ends) (a .poses) (k .pre .table) (omega arith) (omega arith) (omega arith) (l .inv .1) (w .0),
       w .1,
     )
 
@@ -62,7 +64,7 @@ returns : tie.Need-returns Inv-loop μ-loop
 returns c =
     let a = c .before .before .before .args in
     let e : c .before .loop .q0 ≡ a .ends = omega arith in
-    part-joined (a .starts) (a .lanes) (a .i) (c .before .before .before .pre .0 .stage) (omega arith) (omega arith) (rw e at (c .before .loop .inv .1))
+    part-joined (a .starts) (a .lanes) (a .i) (c .before .before .before .pre .table .stage) (omega arith) (omega arith) (rw e at (c .before .loop .inv .1))
 
 pub join-stage-spec : {M : Type 1} → statement M
 join-stage-spec =

@@ -40,7 +40,7 @@ add-if1-3 : tie.Need-add-if1-3 Inv-loop μ-loop
 add-if1-3 c =
     let k = c .before .before .before .before in
     let l = c .before .before .before .loop .l in
-    omega (arith, k .pre .0 .low .word (k .args .at + l), k .pre .1 .word (k .args .p1 + l))
+    omega (arith, k .pre .room .low .word (k .args .at + l), k .pre .low .word (k .args .p1 + l))
 
 returns : tie.Need-returns Inv-loop μ-loop
 unfolding laneSum

@@ -44,7 +44,7 @@ add-lesser-3 c =
     let at-loop = c .before .before .before in
     let k = at-loop .before .before in
     let l = at-loop .loop .l in
-    omega (arith, k .pre .0 .low .word (k .args .at + l), k .pre .1 .word (k .args .p1 + l))
+    omega (arith, k .pre .room .low .word (k .args .at + l), k .pre .low .word (k .args .p1 + l))
 
 lesser-requires : tie.Need-lesser-requires Inv-loop μ-loop
 lesser-requires c κs =
@@ -53,7 +53,7 @@ lesser-requires c κs =
     let a = k .args in
     let l = at-loop .loop in (
       omega (arith, lowest-low B (laneSum (a .sums .now) (a .at) (a .store .now) (a .p1)) (from 0 (l .l))),
-      omega (arith, k .pre .0 .low .word (a .at + l .l), k .pre .1 .word (a .p1 + l .l)),
+      omega (arith, k .pre .room .low .word (a .at + l .l), k .pre .low .word (a .p1 + l .l)),
     )
 
 add-l : tie.Need-add-l Inv-loop μ-loop

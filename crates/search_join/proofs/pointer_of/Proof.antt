@@ -23,8 +23,9 @@ add-at : tie.Need-add-at
 add-at c =
     let k = c .before .before .before in
     let a = k .args in
-    let t = k .pre .0 in
-    let m = lane-met (a .starts) (a .lanes) (a .i) (a .store .now) (a .q0) (a .q1) (a .a) (k .pre .1) (a .value) (a .t) _ _ (k .pre .7) (k .pre .6)
+    let t = k .pre .table in
+    let m = lane-met (a .starts) (a .lanes) (a .i) (a .store .now) (a .case .q0) (a .case .q1) (a .case .pose) (k .pre .summed) (a .value) (a .t) _ _
+    (k .pre .below) (k .pre .met)
     (c .before .cost-at .ensures) (c .lane-of .ensures) in
     omega (arith, m .0, t .few, t .states)
 
@@ -32,8 +33,9 @@ mul-start-of : tie.Need-mul-start-of
 mul-start-of c =
     let k = c .before .before .before in
     let a = k .args in
-    let t = k .pre .0 in
-    let m = lane-met (a .starts) (a .lanes) (a .i) (a .store .now) (a .q0) (a .q1) (a .a) (k .pre .1) (a .value) (a .t) _ _ (k .pre .7) (k .pre .6)
+    let t = k .pre .table in
+    let m = lane-met (a .starts) (a .lanes) (a .i) (a .store .now) (a .case .q0) (a .case .q1) (a .case .pose) (k .pre .summed) (a .value) (a .t) _ _
+    (k .pre .below) (k .pre .met)
     (c .before .cost-at .ensures) (c .lane-of .ensures) in
     omega (arith, m .0, t .few, t .states)
 
@@ -41,8 +43,9 @@ element-copy-out-start-of : tie.Need-element-copy-out-start-of
 element-copy-out-start-of c =
     let k = c .before .before .before in
     let a = k .args in
-    let t = k .pre .0 in
-    let m = lane-met (a .starts) (a .lanes) (a .i) (a .store .now) (a .q0) (a .q1) (a .a) (k .pre .1) (a .value) (a .t) _ _ (k .pre .7) (k .pre .6)
+    let t = k .pre .table in
+    let m = lane-met (a .starts) (a .lanes) (a .i) (a .store .now) (a .case .q0) (a .case .q1) (a .case .pose) (k .pre .summed) (a .value) (a .t) _ _
+    (k .pre .below) (k .pre .met)
     (c .before .cost-at .ensures) (c .lane-of .ensures) in
     omega (arith, m .0, t .few, t .states)
 
@@ -50,21 +53,27 @@ start-of-requires : tie.Need-start-of-requires
 start-of-requires c κs =
     let k = c .before .before .before .before in
     let a = k .args in
-    let t = k .pre .0 in
-    let m = lane-met (a .starts) (a .lanes) (a .i) (a .store .now) (a .q0) (a .q1) (a .a) (k .pre .1) (a .value) (a .t) _ _ (k .pre .7) (k .pre .6)
-    (c .before .before .cost-at .ensures) (c .before .lane-of .ensures) in
-    (table-for _ _ t (omega arith) (t .stage), omega arith, omega arith, omega arith, omega (arith, m .0, t .few))
+    let t = k .pre .table in
+    let m = lane-met (a .starts) (a .lanes) (a .i) (a .store .now) (a .case .q0) (a .case .q1) (a .case .pose) (k .pre .summed) (a .value) (a .t) _ _
+    (k .pre .below) (k .pre .met)
+    (c .before .before .cost-at .ensures) (c .before .lane-of .ensures) in (
+      record { table = table-for _ _ t (omega arith) (t .stage); state = k .pre .fits .state₀; pose = k .pre .fits .pose },
+      k .pre .state,
+      omega (arith, m .0, t .few),
+    )
 
 mul-result : tie.Need-mul-result
 mul-result c =
     let after-cost-at = c .before .before .before in
     let k = after-cost-at .before .before in
     let a = k .args in
-    let t = k .pre .0 in
-    let m = lane-met (a .starts) (a .lanes) (a .i) (a .store .now) (a .q0) (a .q1) (a .a) (k .pre .1) (a .value) (a .t) _ _ (k .pre .7) (k .pre .6)
+    let t = k .pre .table in
+    let m = lane-met (a .starts) (a .lanes) (a .i) (a .store .now) (a .case .q0) (a .case .q1) (a .case .pose) (k .pre .summed) (a .value) (a .t) _ _
+    (k .pre .below) (k .pre .met)
     (after-cost-at .cost-at .ensures) (c .before .before .lane-of .ensures) in
-    let w = case-way (a .starts) (a .lanes) (a .i) (a .store .now) (a .q0) (a .q1) (a .a) (k .pre .1) (a .value) (c .start-of .result) (a .t)
-    (c .before .before .lane-of .result) (k .pre .7) (t .states) (t .few) (k .pre .5) (m .0) (m .1) (c .start-of .ensures) in
+    let w = case-way (a .starts) (a .lanes) (a .i) (a .store .now) (a .case .q0) (a .case .q1) (a .case .pose) (k .pre .summed) (a .value)
+    (c .start-of .result) (a .t)
+    (c .before .before .lane-of .result) (k .pre .below) (t .states) (t .few) (k .pre .state) (m .0) (m .1) (c .start-of .ensures) in
     omega (arith, w .1, t .states)
 
 add-result : tie.Need-add-result
@@ -72,11 +81,13 @@ add-result c =
     let after-cost-at = c .before .before .before in
     let k = after-cost-at .before .before in
     let a = k .args in
-    let t = k .pre .0 in
-    let m = lane-met (a .starts) (a .lanes) (a .i) (a .store .now) (a .q0) (a .q1) (a .a) (k .pre .1) (a .value) (a .t) _ _ (k .pre .7) (k .pre .6)
+    let t = k .pre .table in
+    let m = lane-met (a .starts) (a .lanes) (a .i) (a .store .now) (a .case .q0) (a .case .q1) (a .case .pose) (k .pre .summed) (a .value) (a .t) _ _
+    (k .pre .below) (k .pre .met)
     (after-cost-at .cost-at .ensures) (c .before .before .lane-of .ensures) in
-    let w = case-way (a .starts) (a .lanes) (a .i) (a .store .now) (a .q0) (a .q1) (a .a) (k .pre .1) (a .value) (c .start-of .result) (a .t)
-    (c .before .before .lane-of .result) (k .pre .7) (t .states) (t .few) (k .pre .5) (m .0) (m .1) (c .start-of .ensures) in
+    let w = case-way (a .starts) (a .lanes) (a .i) (a .store .now) (a .case .q0) (a .case .q1) (a .case .pose) (k .pre .summed) (a .value)
+    (c .start-of .result) (a .t)
+    (c .before .before .lane-of .result) (k .pre .below) (t .states) (t .few) (k .pre .state) (m .0) (m .1) (c .start-of .ensures) in
     omega (arith, w .1, m .0, t .few, t .states)
 
 cast-result : tie.Need-cast-result
@@ -84,11 +95,13 @@ cast-result c =
     let after-cost-at = c .before .before .before in
     let k = after-cost-at .before .before in
     let a = k .args in
-    let t = k .pre .0 in
-    let m = lane-met (a .starts) (a .lanes) (a .i) (a .store .now) (a .q0) (a .q1) (a .a) (k .pre .1) (a .value) (a .t) _ _ (k .pre .7) (k .pre .6)
+    let t = k .pre .table in
+    let m = lane-met (a .starts) (a .lanes) (a .i) (a .store .now) (a .case .q0) (a .case .q1) (a .case .pose) (k .pre .summed) (a .value) (a .t) _ _
+    (k .pre .below) (k .pre .met)
     (after-cost-at .cost-at .ensures) (c .before .before .lane-of .ensures) in
-    let w = case-way (a .starts) (a .lanes) (a .i) (a .store .now) (a .q0) (a .q1) (a .a) (k .pre .1) (a .value) (c .start-of .result) (a .t)
-    (c .before .before .lane-of .result) (k .pre .7) (t .states) (t .few) (k .pre .5) (m .0) (m .1) (c .start-of .ensures) in
+    let w = case-way (a .starts) (a .lanes) (a .i) (a .store .now) (a .case .q0) (a .case .q1) (a .case .pose) (k .pre .summed) (a .value)
+    (c .start-of .result) (a .t)
+    (c .before .before .lane-of .result) (k .pre .below) (t .states) (t .few) (k .pre .state) (m .0) (m .1) (c .start-of .ensures) in
     omega (arith, w .1, m .0, t .few, t .states)
 
 returns : tie.Need-returns
@@ -96,12 +109,14 @@ returns c =
     let after-cost-at = c .before .before .before in
     let k = after-cost-at .before .before in
     let a = k .args in
-    let t = k .pre .0 in
-    let m = lane-met (a .starts) (a .lanes) (a .i) (a .store .now) (a .q0) (a .q1) (a .a) (k .pre .1) (a .value) (a .t) _ _ (k .pre .7) (k .pre .6)
+    let t = k .pre .table in
+    let m = lane-met (a .starts) (a .lanes) (a .i) (a .store .now) (a .case .q0) (a .case .q1) (a .case .pose) (k .pre .summed) (a .value) (a .t) _ _
+    (k .pre .below) (k .pre .met)
     (after-cost-at .cost-at .ensures) (c .before .before .lane-of .ensures) in
-    let w = case-way (a .starts) (a .lanes) (a .i) (a .store .now) (a .q0) (a .q1) (a .a) (k .pre .1) (a .value) (c .start-of .result) (a .t)
-    (c .before .before .lane-of .result) (k .pre .7) (t .states) (t .few) (k .pre .5) (m .0) (m .1) (c .start-of .ensures) in (
-      subst (WayIn (a .starts) (a .lanes) (a .i) (a .store .now) (a .q0) (a .q1) (a .a) (a .value)) (omega arith) (w .0),
+    let w = case-way (a .starts) (a .lanes) (a .i) (a .store .now) (a .case .q0) (a .case .q1) (a .case .pose) (k .pre .summed) (a .value)
+    (c .start-of .result) (a .t)
+    (c .before .before .lane-of .result) (k .pre .below) (t .states) (t .few) (k .pre .state) (m .0) (m .1) (c .start-of .ensures) in (
+      subst (WayIn (a .starts) (a .lanes) (a .i) (a .store .now) (a .case .q0) (a .case .q1) (a .case .pose) (a .value)) (omega arith) (w .0),
       omega (arith, w .1, m .0, t .few, t .states),
     )
 

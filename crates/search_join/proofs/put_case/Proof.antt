@@ -45,11 +45,12 @@ same-length c = search needs
 
 returns : tie.Need-returns
 returns c =
-    let after-join-case = c .before .before in
+    let after-join-case = c .before .before .before .before in
     let k = after-join-case .before .before .before in
     let a = k .args in
-    part-put (a .starts) (a .lanes) (a .i) (a .q0) (a .q1) (a .a) (c .before .case-at .result + a .a) (c .pointer-at .result + a .a) _ _ (a .store .now)
-    (k .pre .0) (k .pre .2) (omega arith) (omega arith) (omega arith) (omega arith) (omega arith) (after-join-case .join-case .ensures)
+    part-put (a .starts) (a .lanes) (a .i) (a .case .q0) (a .case .q1) (a .case .pose) (c .before .before .before .case-at .result + a .case .pose)
+    (c .before .pointer-at .result + a .case .pose) _ _ (a .store .now)
+    (k .pre .0 .table) (k .pre .1) (omega arith) (omega arith) (omega arith) (omega arith) (omega arith) (after-join-case .join-case .ensures)
 
 pub put-case-spec : {M : Type 1} → statement M
 put-case-spec =

@@ -7,7 +7,8 @@ use borrow.Author.Tests.{lt-ltb, le-ltb, eq-eqb, ne-eqb}
 use Rattle.definition.specs.Cost.{charge}
 use Rattle.theory_tables.specs.Steps.{B}
 use Rattle.search_row.specs.Words.{tollIn, tollAt, siteIn, endIn, differIn, weightIn}
-use Rattle.search_row.specs.Laws.{charge-low, differ-low, pay-low, charged-low, weight-low}
+use Rattle.gap_charge.specs.Charge.{charge-small}
+use Rattle.search_row.specs.Laws.{differ-low, pay-low, charged-low, weight-low}
 use borrow.Author.Needs.{needs}
 use Rattle.search_row.proofs.toll.Statement.{statement}
 use Rattle.search_row.proofs.toll.Tie as tie
@@ -23,12 +24,12 @@ apart : (x y : ℕ) (p : ℕ → ℕ) → y ≤ x → (x - y ≡ 1 → ⊥) → 
 apart x y p h n = rw (le-ltb x y h, ne-eqb (x - y) 1 n)
 
 -- from the sites and the heights as they were read
-same : (line : List ℕ) (k b m a : ℕ) {x y : ℕ} (d : ℕ) → x ≡ siteIn line m a → y ≡ endIn line k b → d ≡ differIn line k b m a
-    → tollAt x y (λ gap. weightIn line m gap * d) ≡ tollIn line k b m a
+same : (row : List ℕ) (k b m a : ℕ) {x y : ℕ} (d : ℕ) → x ≡ siteIn row m a → y ≡ endIn row k b → d ≡ differIn row k b m a
+    → tollAt x y (λ gap. weightIn row m gap * d) ≡ tollIn row k b m a
 unfolding tollIn
-same line k b m a d e f g =
-    ap₂ (λ (x y : ℕ). tollAt x y (λ gap. weightIn line m gap * d)) e f
-    ∙ ap (λ (d : ℕ). tollAt (siteIn line m a) (endIn line k b) (λ gap. weightIn line m gap * d)) g
+same row k b m a d e f g =
+    ap₂ (λ (x y : ℕ). tollAt x y (λ gap. weightIn row m gap * d)) e f
+    ∙ ap (λ (d : ℕ). tollAt (siteIn row m a) (endIn row k b) (λ gap. weightIn row m gap * d)) g
 
 site-requires : tie.Need-site-requires
 site-requires c κs = search needs
@@ -81,7 +82,7 @@ mul-result-2 c =
     let w : c .before .weight .result ≤ 131072 = omega
     (arith, c .before .weight .ensures, weight-low (a .m) (after-site .site .result - after-charge-of .before .before .before .end .result) (k .pre .0)) in
     let g : after-charge-of .charge-of .result ≤ 1 =
-    omega (arith, after-charge-of .charge-of .ensures, charge-low (after-site .site .result - after-charge-of .before .before .before .end .result)) in
+    omega (arith, after-charge-of .charge-of .ensures, charge-small (after-site .site .result - after-charge-of .before .before .before .end .result)) in
     omega (arith, charged-low g (pay-low w d))
 
 returns-3 : tie.Need-returns-3

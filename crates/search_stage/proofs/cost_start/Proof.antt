@@ -16,15 +16,15 @@ wide-of-requires : tie.Need-wide-of-requires
 wide-of-requires c κs = search needs
 
 lanes-of-requires : tie.Need-lanes-of-requires
-lanes-of-requires c κs = c .before .before .before .pre .1 .ground .few
+lanes-of-requires c κs = c .before .before .before .pre .given .ground .few
 
 live-requires : tie.Need-live-requires
 live-requires c κs =
     let after-wide-of = c .before .before in
     let k = after-wide-of .before .before .before in
     let a = k .args in
-    let t = k .pre .2 in
-    let w = wide-lanes (a .sizes .talls) (a .i) (a .sizes .poses) (k .pre .1 .ground .few) in
+    let t = k .pre .cases in
+    let w = wide-lanes (a .sizes .talls) (a .i) (a .sizes .poses) (k .pre .given .ground .few) in
     (rw (after-wide-of .wide-of .ensures, c .before .lanes-of .ensures) (table-for _ _ t (w .1) (t .stage)), omega (arith, after-wide-of .wide-of .ensures))
 
 same-length : tie.Need-same-length
@@ -36,8 +36,11 @@ returns c =
     let k = after-wide-of .before .before .before in
     let a = k .args in
     let d = c .before .live .ensures (not-true _ (c .if1 .taken)) in
-    let w = wide-lanes (a .sizes .talls) (a .i) (a .sizes .poses) (k .pre .1 .ground .few) in
-    (start-dead (k .pre .2 .low) (dead-fewer (w .0) (rw (after-wide-of .wide-of .ensures, c .before .before .before .lanes-of .ensures) at d)), k .pre .0)
+    let w = wide-lanes (a .sizes .talls) (a .i) (a .sizes .poses) (k .pre .given .ground .few) in (
+      start-dead (k .pre .cases .low)
+          (dead-fewer (w .0) (rw (after-wide-of .wide-of .ensures, c .before .before .before .lanes-of .ensures) at d)),
+      k .pre .lent,
+    )
 
 cost-at-requires : tie.Need-cost-at-requires
 cost-at-requires c κs = search needs
@@ -47,10 +50,16 @@ row-cost-requires c κs =
     let after-cost-at = c .before .before in
     let mid = after-cost-at .before .before .before .before in
     let k = mid .before .before .before .before in
-    let w = k .pre .2 in
-    let g = k .pre .1 .ground in
+    let w = k .pre .cases in
+    let g = k .pre .given .ground in
     let e = after-cost-at .cost-at .ensures in
-    (k .pre .0, k .pre .1, record { low = w .low; few = g .few; all = g .all; over = omega (arith, e); room = omega (arith, w .long, e) }, k .pre .4, k .pre .5)
+    record {
+      lent = k .pre .lent;
+      given = k .pre .given;
+      room = record { low = w .low; few = g .few; all = g .all; over = omega (arith, e); room = omega (arith, w .long, e) };
+      stage = k .pre .stage;
+      state = k .pre .state;
+    }
 
 same-length-2 : tie.Need-same-length-2
 same-length-2 c = search needs

@@ -1,5 +1,5 @@
 -- Each turn costs one start state more, in row 0 and then in row 1.
-use Prim.Native.Nat.{suc, _-_, _≤_}
+use Prim.Native.Nat.{suc, _-_, _≤_, _<_}
 use mathlib.Core.Path.{_≡_, _∙_}
 use native.Mathlib.Omega.{arith}
 use borrow.Author.Needs.{needs}
@@ -23,50 +23,60 @@ Inv-loop table₀ store₀ row0 row1 sizes cells1 i sizes1 starts s₀ table sto
 abbrev μ-loop : tie.MeasureT-loop
 μ-loop table₀ store₀ row0 row1 sizes cells1 i sizes1 starts s₀ table store s = starts - s
 
+with-cells-requires : tie.Need-with-cells-requires Inv-loop μ-loop
+with-cells-requires c κs = search needs
+
 wide-of-requires : tie.Need-wide-of-requires Inv-loop μ-loop
 wide-of-requires c κs = search needs
 
 loop-holds : tie.Need-loop-holds Inv-loop μ-loop
 loop-holds c =
-    let k = c .before .before .before .before in
-    let g = k .pre .1 in
+    let after-with-cells = c .before in
+    let k = after-with-cells .before .before .before .before in
+    let g = k .pre .given in
     let w = given-wide g (k .args .i) in
     let x = given-wide g (suc (k .args .i)) in (
       omega arith,
-      both-none _ _ _ _ _ (w .0) (omega (arith, w .1)) (x .0) (omega (arith, x .1)) (omega (arith, k .pre .2, given-states g .3)) _ _ (g .low),
-      k .pre .0,
+      both-none _ _ _ _ _ (w .0) (omega (arith, w .1)) (x .0) (omega (arith, x .1)) (omega (arith, k .pre .stage, given-states g .3)) _ _ (g .low),
+      k .pre .lent,
     )
 
 cost-start-requires : tie.Need-cost-start-requires Inv-loop μ-loop
 cost-start-requires c κs =
     let after-wide-of = c .before .before .before .before in
-    let k = after-wide-of .before .before .before .before in
-    let g = k .pre .1 in
-    let v = c .before .before .before .loop .inv .1 in (
-      c .before .before .before .loop .inv .2,
-      g .given₀,
-      given-table g (k .args .i) _ (k .pre .2) (v .long) (v .low),
-      omega arith,
-      k .pre .2,
-      omega (arith, after-wide-of .wide-of .ensures),
-    )
+    let after-with-cells = after-wide-of .before in
+    let k = after-with-cells .before .before .before .before in
+    let g = k .pre .given in
+    let v = c .before .before .before .loop .inv .1 in
+    record {
+      lent = c .before .before .before .loop .inv .2;
+      given = g .given₀;
+      cases = given-table g (k .args .i) _ (k .pre .stage) (v .long) (v .low);
+      one = omega arith;
+      stage = k .pre .stage;
+      state = omega (arith, after-wide-of .wide-of .ensures);
+    }
 
 cost-start-requires-2 : tie.Need-cost-start-requires-2 Inv-loop μ-loop
 cost-start-requires-2 c κs =
     let after-cost-start = c .before .before .before .before in
     let at-loop = after-cost-start .before .before .before .before in
     let after-wide-of = at-loop .before in
-    let k = after-wide-of .before .before .before .before in
-    let g = k .pre .1 in
+    let after-with-cells = after-wide-of .before in
+    let k = after-with-cells .before .before .before .before in
+    let g = k .pre .given in
     let v = at-loop .loop .inv .1 in
-    let o = after-cost-start .cost-start .ensures .0 in (
-      after-cost-start .cost-start .ensures .1,
-      g .given₁,
-      given-table g (k .args .i) _ (k .pre .2) (o .long ∙ v .long) (o .low),
-      omega arith,
-      k .pre .2,
-      omega (arith, after-wide-of .wide-of .ensures),
-    )
+    let o = after-cost-start .cost-start .ensures .0 in
+    let h : at-loop .loop .s < wide (k .args .sizes .talls) (k .args .i) (k .args .sizes .states) =
+    omega (arith, after-cost-start .before .before .before .loop-test .taken, after-wide-of .wide-of .ensures) in
+    rw (after-with-cells .with-cells .ensures) record {
+      lent = after-cost-start .cost-start .ensures .1;
+      given = g .given₁;
+      cases = given-table g (k .args .i) _ (k .pre .stage) (o .long ∙ v .long) (o .low);
+      one = omega arith;
+      stage = k .pre .stage;
+      state = h;
+    }
 
 add-s : tie.Need-add-s Inv-loop μ-loop
 add-s c = search needs
@@ -80,15 +90,17 @@ loop-again c =
     let after-cost-start = mid .before .before .before in
     let at-loop = after-cost-start .before .before .before .before in
     let after-wide-of = at-loop .before in
-    let k = after-wide-of .before .before .before .before in
-    let g = k .pre .1 in
+    let after-with-cells = after-wide-of .before in
+    let k = after-with-cells .before .before .before .before in
+    let g = k .pre .given in
     let w = given-wide g (k .args .i) in
     let x = given-wide g (suc (k .args .i)) in
-    let l = at-loop .loop in (
+    let l = at-loop .loop in
+    let one = rw (after-with-cells .with-cells .ensures) at (c .before .before .cost-start2 .ensures .0) in (
       omega (arith, after-cost-start .before .before .before .loop-test .taken),
-      both-more _ _ _ _ _ (w .0) (omega (arith, w .1)) (x .0) (omega (arith, x .1)) (omega (arith, k .pre .2, given-states g .3)) _ _ (l .s)
+      both-more _ _ _ _ _ (w .0) (omega (arith, w .1)) (x .0) (omega (arith, x .1)) (omega (arith, k .pre .stage, given-states g .3)) _ _ (l .s)
           (omega (arith, after-cost-start .before .before .before .loop-test .taken, after-wide-of .wide-of .ensures)) (l .inv .1)
-          (after-cost-start .cost-start .ensures .0) (c .before .before .cost-start2 .ensures .0),
+          (after-cost-start .cost-start .ensures .0) one,
       c .before .before .cost-start2 .ensures .1,
     )
 
@@ -98,7 +110,8 @@ same-length c = c .before .loop .inv .1 .long
 returns : tie.Need-returns Inv-loop μ-loop
 returns c =
     let after-wide-of = c .before .before in
-    let k = after-wide-of .before .before .before .before in
+    let after-with-cells = after-wide-of .before in
+    let k = after-with-cells .before .before .before .before in
     let e : c .before .loop .s ≡ wide (k .args .sizes .talls) (k .args .i) (k .args .sizes .states) = omega (arith, after-wide-of .wide-of .ensures) in
     ((rw e at (c .before .loop .inv .1)), c .before .loop .inv .2)
 
@@ -108,6 +121,7 @@ costs-spec =
     (tie.spec
     Inv-loop
     μ-loop
+    with-cells-requires
     wide-of-requires
     loop-holds
     cost-start-requires

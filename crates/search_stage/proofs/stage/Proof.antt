@@ -18,7 +18,7 @@ lanes-of-requires : tie.Need-lanes-of-requires
 lanes-of-requires c κs =
     let mid = c .before .before .before .before in
     let mid₂ = mid .before .before .before .before in
-    given-states (mid₂ .before .pre .1) .2
+    given-states (mid₂ .before .pre .given) .2
 
 add-wide-of : tie.Need-add-wide-of
 add-wide-of c = search needs
@@ -38,14 +38,16 @@ join-stage-requires c κs =
     let after-costs = after-wide-of .before .before .before in
     let mid = after-costs .before .before .before .before in
     let k = mid .before .before in
-    let g = k .pre .1 in
+    let g = k .pre .given in
     let x = given-wide g (k .args .i + 1) in
-    let p = after-costs .costs .ensures .0 in (
-      rw (after-wide-of .wide-of .ensures, c .before .before .before .lanes-of .ensures) (given-join g (k .args .i) _ (k .pre .2) (p .long) (p .low)),
-      omega (arith, c .before .before .wide-of2 .ensures, x .2, p .long),
-      omega (arith, c .before .before .wide-of2 .ensures, x .0),
-      omega (arith, c .before .wide-of3 .ensures, x .1),
-    )
+    let p = after-costs .costs .ensures .0 in
+    record {
+      table = rw (after-wide-of .wide-of .ensures, c .before .before .before .lanes-of .ensures)
+          (given-join g (k .args .i) _ (k .pre .stage) (p .long) (p .low));
+      pages = omega (arith, c .before .before .wide-of2 .ensures, x .2, p .long);
+      last = omega (arith, c .before .before .wide-of2 .ensures, x .0);
+      offered = omega (arith, c .before .wide-of3 .ensures, x .1);
+    }
 
 add-lanes-of : tie.Need-add-lanes-of
 add-lanes-of c =
@@ -53,14 +55,14 @@ add-lanes-of c =
     let mid₂ = mid .before .before .before .before in
     let mid₃ = mid₂ .before .before .before .before in
     let k = mid₃ .before .before .before .before in
-    omega (arith, k .pre .2, given-states (k .pre .1) .3)
+    omega (arith, k .pre .stage, given-states (k .pre .given) .3)
 
 lanes-of-requires-2 : tie.Need-lanes-of-requires-2
 lanes-of-requires-2 c κs =
     let mid = c .before .before .before .before in
     let mid₂ = mid .before .before .before .before in
     let mid₃ = mid₂ .before .before .before .before in
-    given-states (mid₃ .before .before .before .before .pre .1) .2
+    given-states (mid₃ .before .before .before .before .pre .given) .2
 
 add-close-lanes : tie.Need-add-close-lanes
 add-close-lanes c =
@@ -69,7 +71,7 @@ add-close-lanes c =
     let mid₃ = mid₂ .before .before .before .before in
     let mid₄ = mid₃ .before .before .before .before in
     let k = mid₄ .before .before in
-    omega (arith, k .pre .2, given-states (k .pre .1) .3)
+    omega (arith, k .pre .stage, given-states (k .pre .given) .3)
 
 close-lanes-requires : tie.Need-close-lanes-requires
 close-lanes-requires c κs =
@@ -78,21 +80,22 @@ close-lanes-requires c κs =
     let after-costs = mid .before .before .before .before in
     let mid₂ = after-costs .before .before .before .before in
     let k = mid₂ .before .before in
-    let g = k .pre .1 in
+    let g = k .pre .given in
     let x = given-wide g (k .args .i + 1) in
     let y = wide-lanes (k .args .sizes .talls) (k .args .i + 1) (k .args .sizes .poses) (given-states g .2) in
     let p = after-costs .costs .ensures .0 in
     let j = after-join-stage .join-stage .ensures in
     let ends = after-join-stage .before .before .before .wide-of2 .ensures in
     let last = after-join-stage .before .before .wide-of3 .ensures in
-    let width = c .before .lanes-of2 .ensures in (
-      j .low,
-      omega (arith, ends, x .2, j .long, p .long),
-      omega (arith, k .pre .2, given-states g .3),
-      omega (arith, ends, x .0),
-      omega (arith, last, width, y .0),
-      omega (arith, width, y .1),
-    )
+    let width = c .before .lanes-of2 .ensures in
+    record {
+      fits = j .low;
+      long = omega (arith, ends, x .2, j .long, p .long);
+      table = omega (arith, k .pre .stage, given-states g .3);
+      few = omega (arith, ends, x .0);
+      order = omega (arith, last, width, y .0);
+      narrow = omega (arith, width, y .1);
+    }
 
 same-length : tie.Need-same-length
 same-length c =
@@ -110,7 +113,7 @@ returns c =
     let mid = after-costs .before .before .before .before in
     let k = mid .before .before in
     let a = k .args in
-    let g = k .pre .1 in
+    let g = k .pre .given in
     let n = given-states g in
     let all = g .given₀ .ground .all in (
       stage-made (deckIn (a .row0 .now) (a .sizes)) (deckIn (a .row1 .now) (withCells (a .sizes) (a .cells1))) (a .sizes .reordering) (a .sizes .talls)
@@ -118,7 +121,7 @@ returns c =
           (omega (arith, all, n .0)) (omega (arith, all, n .1)) (n .2) (a .i) (a .sizes .states) _ _ _ _ _
           (after-lanes-of .before .wide-of .ensures) (after-lanes-of .lanes-of .ensures) (after-join-stage .before .before .before .wide-of2 .ensures)
           (after-join-stage .before .before .wide-of3 .ensures) (after-lanes-of2 .lanes-of2 .ensures)
-          all (k .pre .2) (n .3) (after-costs .costs .ensures .0) (after-join-stage .join-stage .ensures) (c .before .before .close-lanes .ensures),
+          all (k .pre .stage) (n .3) (after-costs .costs .ensures .0) (after-join-stage .join-stage .ensures) (c .before .before .close-lanes .ensures),
       after-costs .costs .ensures .1,
     )
 

@@ -46,16 +46,17 @@ stage-requires c κs =
     let after-case-at = c .before .before .before .before in
     let k = after-case-at .before .before .before .before in
     let g = k .pre in
-    let t = c .before .before .before .loop .inv .1 in (
-      c .before .before .before .loop .inv .2,
-      record {
+    let t = c .before .before .before .loop .inv .1 in
+    record {
+      lent = c .before .before .before .loop .inv .2;
+      given = record {
         given₀ = g .given₀;
         given₁ = g .given₁;
         long = omega (arith, g .long, t .long, length-set (k .args .store .now) (after-case-at .case-at .result) 0);
         low = t .low;
-      },
-      omega (arith, c .before .before .loop-test .taken),
-    )
+      };
+      stage = omega (arith, c .before .before .loop-test .taken);
+    }
 
 add-i : tie.Need-add-i Inv-loop μ-loop
 add-i c =

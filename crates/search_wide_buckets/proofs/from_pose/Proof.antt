@@ -22,7 +22,8 @@ returns c =
       gathered-none _ _ _ (k .pre .0 .tableLow)
           (λ l v s i j h. omega (
             arith,
-            row-miss (endRow (a .row .now) (a .k) (a .b) (a .m)) s (getD (a .store .now) (a .at + a .b * 64 + l) 0 + payIn (a .row .now) (a .k) (a .b) (a .m) v)
+            row-miss (endRow (a .row .now) (a .source .left) (a .b) (a .source .right)) s
+                (getD (a .store .now) (a .source .at + a .b * 64 + l) 0 + payIn (a .row .now) (a .source .left) (a .b) (a .source .right) v)
                 (λ e. omega (arith, c .before .end-row .ensures)),
           )),
       λ e. refl,
@@ -39,7 +40,8 @@ common-requires c κs = search needs
 
 returns-2 : tie.Need-returns-2
 returns-2 c =
-    let mid = c .before .before .before .before in
+    let mid₂ = c .before .before .before .before in
+    let mid = mid₂ .before in
     let k = mid .before .before in
     let a = k .args in (
       gathered-none _ _ _ (k .pre .0 .tableLow)
@@ -47,8 +49,8 @@ returns-2 c =
           omega (
             arith,
             c .before .common .ensures l i,
-            row-above (endRow (a .row .now) (a .k) (a .b) (a .m)) s
-                (getD (a .store .now) (a .at + a .b * 64 + l) 0 + payIn (a .row .now) (a .k) (a .b) (a .m) v),
+            row-above (endRow (a .row .now) (a .source .left) (a .b) (a .source .right)) s
+                (getD (a .store .now) (a .source .at + a .b * 64 + l) 0 + payIn (a .row .now) (a .source .left) (a .b) (a .source .right) v),
           )),
       λ e. refl,
     )
@@ -61,26 +63,30 @@ add-spread-row c = search needs
 
 spread-row-requires : tie.Need-spread-row-requires
 spread-row-requires c κs =
-    let mid = c .before .before .before .before in
+    let mid₂ = c .before .before .before .before in
+    let mid = mid₂ .before .before in
     let k = mid .before .before .before in
     let g = k .pre .0 in (
-      g .tableLow,
-      g .tableLong,
-      g .low,
-      omega (arith, g .room, g .narrow),
-      pays-low (g .words) (k .pre .1),
-      omega arith,
-      omega arith,
-      omega (arith, g .narrow),
+      record {
+        lent = record { long = g .tableLong; low = g .tableLow };
+        low = g .low;
+        room = omega (arith, g .room, g .narrow);
+        paid = pays-low (g .words) (g .paid);
+        kind = omega arith;
+        here = omega arith;
+        narrow = g .narrow;
+      },
       g .needed,
     )
 
 returns-3 : tie.Need-returns-3
 returns-3 c =
-    let mid = c .before .before .before .before in
+    let mid₂ = c .before .before .before .before in
+    let mid = mid₂ .before .before in
     let k = mid .before .before .before .before in
     let a = k .args in (
-      spread-all (k .pre .3) (c .spread-row .ensures) (λ l v s i j. pose-pays (a .b) v s (getD (a .store .now) (a .at + a .b * 64 + l) 0) (k .pre .1)
+      spread-all (k .pre .2) (c .spread-row .ensures)
+          (λ l v s i j. pose-pays (a .b) v s (getD (a .store .now) (a .source .at + a .b * 64 + l) 0) (k .pre .0 .paid)
           (mid .before .end-row .ensures) j (nine-most (k .pre .0 .needed))),
       λ e. absurd (let z : _≡_ {A = ℕ} 0 1 = cc in omega arith),
     )

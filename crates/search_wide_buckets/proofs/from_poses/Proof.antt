@@ -16,11 +16,12 @@ true-false : true ≡ false → ⊥
 true-false e = let z : _≡_ {A = ℕ} 0 1 = cc in omega arith
 
 abbrev Inv-loop : tie.InvT-loop
-Inv-loop table₀ store line pays at k m poses buckets lanes rows used₀ b₀ table used b =
-    (b ≤ poses) × (rows ≡ rowsOf poses) × Gathered (posesIn store line at k m b) rows buckets lanes table₀ table × (used ≡ false → table ≡ table₀)
+Inv-loop table₀ store row pays source poses lanes rows used₀ b₀ table used b =
+    (b ≤ poses) × (rows ≡ rowsOf poses) × Gathered (posesIn store row (source .at) (source .left) (source .right) b) rows (source .buckets) lanes table₀ table
+    × (used ≡ false → table ≡ table₀)
 
 abbrev μ-loop : tie.MeasureT-loop
-μ-loop table₀ store line pays at k m poses buckets lanes rows used₀ b₀ table used b =
+μ-loop table₀ store row pays source poses lanes rows used₀ b₀ table used b =
     poses - b
 
 rows-of-requires : tie.Need-rows-of-requires Inv-loop μ-loop
@@ -32,7 +33,8 @@ loop-holds c =
     let a = k .args in (
       omega arith,
       c .rows-of .ensures,
-      gathered-none _ _ _ (k .pre .0 .tableLow) (λ l v t i j h. omega (arith, poses-none (a .row .now) (a .k) (a .m) (rowIn (a .store .now) (a .at) l) v t)),
+      gathered-none _ _ _ (k .pre .0 .tableLow)
+          (λ l v t i j h. omega (arith, poses-none (a .row .now) (a .source .left) (a .source .right) (rowIn (a .store .now) (a .source .at) l) v t)),
       λ e. refl,
     )
 
@@ -41,7 +43,7 @@ from-pose-requires c κs =
     let at-loop = c .before .before in
     let k = at-loop .before .before .before .before in
     let l = at-loop .loop in
-    (source-on (k .pre .0) (l .inv .2), k .pre .1, omega arith, omega arith)
+    (source-on (k .pre .0) (l .inv .2), omega arith, omega arith)
 
 add-b : tie.Need-add-b Inv-loop μ-loop
 add-b c = search needs
@@ -58,7 +60,7 @@ loop-again c =
       omega arith,
       l .inv .1,
       gathered-join (l .inv .2) (c .before .from-pose .ensures .0)
-          (λ j v t i. poses-more (a .row .now) (a .k) (a .m) (rowIn (a .store .now) (a .at) j) (l .b) v t),
+          (λ j v t i. poses-more (a .row .now) (a .source .left) (a .source .right) (rowIn (a .store .now) (a .source .at) j) (l .b) v t),
       λ e.
           ⊎-elim
           (λ w. absurd (true-false (sym (w .1) ∙ e)))

@@ -28,7 +28,17 @@ returns c =
     written-ext (c .before .before .fill .ensures) (λ l h. omega arith)
 
 put-row-requires : tie.Need-put-row-requires
-put-row-requires c κs = search needs
+put-row-requires c κs =
+    let mid = c .before .before .before in
+    let k = mid .before .before in
+    let g = k .pre .0 in
+    record {
+      looks = record { lent = record { long = g .tableLong; low = g .tableLow }; pose = k .pre .2; least = g .least; most = g .most };
+      cost = omega arith;
+      low = g .low;
+      room = k .pre .1;
+      narrow = g .narrow;
+    }
 
 same-length-2 : tie.Need-same-length-2
 same-length-2 c = search needs

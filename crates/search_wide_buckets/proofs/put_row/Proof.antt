@@ -18,20 +18,20 @@ abbrev μ-loop : tie.MeasureT-loop
 μ-loop store₀ at table a own buckets lanes l₀ store l = lanes - l
 
 loop-holds : tie.Need-loop-holds Inv-loop μ-loop
-loop-holds c = (omega arith, written-none _ _ (c .before .pre .4))
+loop-holds c = (omega arith, written-none _ _ (c .before .pre .low))
 
 found-lane-requires : tie.Need-found-lane-requires Inv-loop μ-loop
-found-lane-requires c κs = search needs
+found-lane-requires c κs = let k = c .before .before .before in (k .pre .looks, omega (arith, k .pre .narrow))
 
 add-lesser : tie.Need-add-lesser Inv-loop μ-loop
 add-lesser c =
     let k = c .before .before .before .before in
-    omega (arith, c .found-lane .ensures, found-small (k .args .buckets) (k .args .a) (c .before .before .loop .l) (k .pre .5))
+    omega (arith, c .found-lane .ensures, found-small (k .args .buckets) (k .args .a) (c .before .before .loop .l) (k .pre .looks .lent .low))
 
 lesser-requires : tie.Need-lesser-requires Inv-loop μ-loop
 lesser-requires c κs =
     let k = c .before .before .before .before in
-    (omega (arith, c .found-lane .ensures, found-small (k .args .buckets) (k .args .a) (c .before .before .loop .l) (k .pre .5)), omega arith)
+    (omega (arith, c .found-lane .ensures, found-small (k .args .buckets) (k .args .a) (c .before .before .loop .l) (k .pre .looks .lent .low)), omega arith)
 
 add-store : tie.Need-add-store Inv-loop μ-loop
 add-store c = search needs

@@ -11,11 +11,11 @@ use Rattle.search_wide_buckets.proofs.put_rows.Statement.{statement}
 use Rattle.search_wide_buckets.proofs.put_rows.Tie as tie
 
 abbrev Inv-loop : tie.InvT-loop
-Inv-loop store₀ line table to q k poses buckets lanes a₀ store a =
-    (a ≤ poses) × FilledState (foundRows buckets line table k) lanes to q a store₀ store
+Inv-loop store₀ row table to q k poses buckets lanes a₀ store a =
+    (a ≤ poses) × FilledState (foundRows buckets row table k) lanes to q a store₀ store
 
 abbrev μ-loop : tie.MeasureT-loop
-μ-loop store₀ line table to q k poses buckets lanes a₀ store a = poses - a
+μ-loop store₀ row table to q k poses buckets lanes a₀ store a = poses - a
 
 loop-holds : tie.Need-loop-holds Inv-loop μ-loop
 loop-holds c = (omega arith, state-none _ _ _ _ (c .before .before .pre .0 .low))

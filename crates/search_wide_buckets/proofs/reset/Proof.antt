@@ -22,7 +22,7 @@ rows-of-requires c κs = search needs
 
 loop-holds : tie.Need-loop-holds Inv-loop μ-loop
 loop-holds c =
-    (omega arith, c .rows-of .ensures, cleared-none _ _ (c .before .pre .1) (c .before .pre .0))
+    (omega arith, c .rows-of .ensures, cleared-none _ _ (c .before .pre .0 .lent .long) (c .before .pre .0 .lent .low))
 
 mul-fill-rows : tie.Need-mul-fill-rows Inv-loop μ-loop
 mul-fill-rows c = search needs
@@ -30,7 +30,7 @@ mul-fill-rows c = search needs
 fill-rows-requires : tie.Need-fill-rows-requires Inv-loop μ-loop
 fill-rows-requires c κs =
     let l = c .before .before .loop in
-    (omega (arith, l .inv .2 .long), c .before .before .before .before .pre .4, omega arith, l .inv .2 .low)
+    (omega (arith, l .inv .2 .long), c .before .before .before .before .pre .0 .narrow, omega arith, l .inv .2 .low)
 
 add-v : tie.Need-add-v Inv-loop μ-loop
 add-v c = search needs
@@ -42,7 +42,7 @@ loop-again : tie.Need-loop-again Inv-loop μ-loop
 loop-again c =
     let at-loop = c .before .before .before in
     let l = at-loop .loop in
-    (omega arith, l .inv .1, cleared-more (l .v) (omega arith) (at-loop .before .before .pre .4) (l .inv .2) (c .fill-rows .ensures))
+    (omega arith, l .inv .1, cleared-more (l .v) (omega arith) (at-loop .before .before .pre .0 .narrow) (l .inv .2) (c .fill-rows .ensures))
 
 returns : tie.Need-returns Inv-loop μ-loop
 returns c =

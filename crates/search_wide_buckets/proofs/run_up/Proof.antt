@@ -1,6 +1,6 @@
 -- Each turn lowers one row more to the row before, which ran up already.
 use Prim.Native.Nat.{_+_, _-_, _≤_}
-use mathlib.Core.Path.{_≡_}
+use mathlib.Core.Path.{_≡_, _∙_}
 use native.Mathlib.Omega.{arith}
 use borrow.Author.Needs.{needs}
 use Rattle.search_buckets.specs.Rows.{rowsOf}
@@ -20,7 +20,7 @@ add-last : tie.Need-add-last Inv-loop μ-loop
 add-last c = search needs
 
 loop-holds : tie.Need-loop-holds Inv-loop μ-loop
-loop-holds c = (omega arith, run-none _ (c .pre .0))
+loop-holds c = (omega arith, run-none _ (c .pre .lent .low))
 
 mul-lower-by : tie.Need-mul-lower-by Inv-loop μ-loop
 mul-lower-by c = search needs
@@ -32,7 +32,11 @@ mul-lower-by-2 : tie.Need-mul-lower-by-2 Inv-loop μ-loop
 mul-lower-by-2 c = search needs
 
 lower-by-requires : tie.Need-lower-by-requires Inv-loop μ-loop
-lower-by-requires c κs = search needs
+lower-by-requires c κs =
+    let at-loop = c .before .before in
+    let g = at-loop .before .pre in
+    let w = at-loop .loop .inv .1 in
+    (record { long = w .long ∙ g .lent .long; low = w .low }, omega (arith, g .few, g .narrow), omega (arith, g .narrow))
 
 add-t : tie.Need-add-t Inv-loop μ-loop
 add-t c = search needs

@@ -16,7 +16,7 @@ abbrev μ-loop : tie.MeasureT-loop
 μ-loop table₀ row at pays u t lanes l₀ table l = lanes - l
 
 loop-holds : tie.Need-loop-holds Inv-loop μ-loop
-loop-holds c = (omega arith, spread-no-lane _ _ _ _ _ (c .before .pre .0))
+loop-holds c = (omega arith, spread-no-lane _ _ _ _ _ (c .before .pre .lent .low))
 
 add-spread-one : tie.Need-add-spread-one Inv-loop μ-loop
 add-spread-one c = search needs
@@ -32,7 +32,14 @@ spread-one-requires c κs =
     let at-loop = c .before .before .before in
     let k = at-loop .before .before in
     let l = at-loop .loop in
-    (l .inv .1 .low, l .inv .1 .long ∙ k .pre .1, k .pre .2 .word (k .args .at + l .l), k .pre .4, k .pre .5, k .pre .6, omega arith)
+    record {
+      lent = record { long = l .inv .1 .long ∙ k .pre .lent .long; low = l .inv .1 .low };
+      cost = k .pre .low .word (k .args .at + l .l);
+      paid = k .pre .paid;
+      kind = k .pre .kind;
+      here = k .pre .here;
+      inside = omega arith;
+    }
 
 add-l : tie.Need-add-l Inv-loop μ-loop
 add-l c = search needs

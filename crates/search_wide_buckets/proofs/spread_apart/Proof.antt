@@ -16,7 +16,7 @@ abbrev μ-loop : tie.MeasureT-loop
 μ-loop table₀ row at pays u t lanes l₀ table l = lanes - l
 
 loop-holds : tie.Need-loop-holds Inv-loop μ-loop
-loop-holds c = (omega arith, spread-no-lane _ _ _ _ _ (c .before .pre .0))
+loop-holds c = (omega arith, spread-no-lane _ _ _ _ _ (c .before .pre .lent .low))
 
 add-spread-near : tie.Need-add-spread-near Inv-loop μ-loop
 add-spread-near c = search needs
@@ -31,8 +31,18 @@ spread-near-requires : tie.Need-spread-near-requires Inv-loop μ-loop
 spread-near-requires c κs =
     let at-loop = c .before .before .before in
     let k = at-loop .before .before in
-    let l = at-loop .loop in
-    (l .inv .1 .low, l .inv .1 .long ∙ k .pre .1, k .pre .2 .word (k .args .at + l .l), k .pre .4, k .pre .5, k .pre .6, omega arith, omega arith, omega arith)
+    let l = at-loop .loop in (
+      record {
+        lent = record { long = l .inv .1 .long ∙ k .pre .lent .long; low = l .inv .1 .low };
+        cost = k .pre .low .word (k .args .at + l .l);
+        paid = k .pre .paid;
+        kind = k .pre .kind;
+        here = k .pre .here;
+        inside = omega arith;
+      },
+      omega arith,
+      omega arith,
+    )
 
 add-l : tie.Need-add-l Inv-loop μ-loop
 add-l c = search needs

@@ -8,7 +8,15 @@ use Rattle.search_wide_buckets.proofs.spread_lane.Tie as tie
 spread-one-requires : tie.Need-spread-one-requires
 spread-one-requires c κs =
     let k = c .before in
-    (k .pre .0, k .pre .1, k .pre .2, pays-fewer 5 (k .pre .3) (five-least (k .pre .7)), k .pre .4, k .pre .5, k .pre .6)
+    let g = k .pre .0 in
+    record {
+      lent = g .lent;
+      cost = g .cost;
+      paid = pays-fewer 5 (g .paid) (five-least (k .pre .1));
+      kind = g .kind;
+      here = g .here;
+      inside = g .inside;
+    }
 
 returns : tie.Need-returns
 returns c =
@@ -19,14 +27,25 @@ spread-near-requires : tie.Need-spread-near-requires
 spread-near-requires c κs =
     let k = c .before .before .before .before in
     let w = c .before .before .spread-one .ensures in
-    let e = nine-else (k .pre .7) (λ h. omega arith) in
-    (w .low, w .long ∙ k .pre .1, k .pre .2, pays-fewer 9 (k .pre .3) (omega arith), k .pre .4, k .pre .5, k .pre .6, omega arith, omega arith)
+    let e = nine-else (k .pre .1) (λ h. omega arith) in
+    let g = k .pre .0 in (
+      record {
+        lent = record { long = w .long ∙ g .lent .long; low = w .low };
+        cost = g .cost;
+        paid = pays-fewer 9 (g .paid) (omega arith);
+        kind = g .kind;
+        here = g .here;
+        inside = g .inside;
+      },
+      omega arith,
+      omega arith,
+    )
 
 returns-2 : tie.Need-returns-2
 returns-2 c =
     let after-spread-one = c .before .before .before in
     let k = after-spread-one .before .before in
-    let e = nine-else (k .pre .7) (λ h. omega arith) in
+    let e = nine-else (k .pre .1) (λ h. omega arith) in
     rw e (spread-join (omega arith) (omega arith) (after-spread-one .spread-one .ensures) (c .spread-near .ensures))
 
 pub spread-lane-spec : {M : Type 1} → statement M

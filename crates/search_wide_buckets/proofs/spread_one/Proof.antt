@@ -23,7 +23,8 @@ alone c =
     let z : a .t * 64 + a .lane ≡ 0 * 1216 + a .t * 64 + a .lane = omega arith in
     let w = rw z at (lowered-at-ext {g = chargedOne (a .x) (a .pays .now) (a .u) 0} (c .lower-one .ensures)
     (λ l h. ap (λ (j : ℕ). a .x + getD (a .pays .now) j 0) (omega arith))) in
-    spread-more 0 (omega arith) (omega arith) (omega arith) (k .pre .0) (spread-none _ _ 0 0 _ _ (k .pre .0) (λ v s b h. absurd (omega arith))) w
+    spread-more 0 (omega arith) (omega arith) (omega arith) (k .pre .lent .low)
+    (spread-none _ _ 0 0 _ _ (k .pre .lent .low) (λ v s b h. absurd (omega arith))) w
 
 mul-lower-one : tie.Need-mul-lower-one
 mul-lower-one c = search needs
@@ -43,18 +44,29 @@ element-copy-out-lower-one c = search needs
 add-lower-one-2 : tie.Need-add-lower-one-2
 add-lower-one-2 c =
     let k = c .before .before in
-    omega (arith, k .pre .3 .low (k .args .u * 9) (omega arith) (omega arith))
+    omega (arith, k .pre .paid .low (k .args .u * 9) (omega arith) (omega arith))
 
 lower-one-requires : tie.Need-lower-one-requires
 lower-one-requires c κs =
     let k = c .before .before in
-    (omega arith, k .pre .1, k .pre .0, omega (arith, k .pre .3 .low (k .args .u * 9) (omega arith) (omega arith)))
+    (k .pre .lent, omega arith, omega (arith, k .pre .paid .low (k .args .u * 9) (omega arith) (omega arith)))
 
 spread-near-requires : tie.Need-spread-near-requires
 spread-near-requires c κs =
     let k = c .before .before .before .before in
     let w = alone (c .before) in
-    (w .low, w .long ∙ k .pre .1, k .pre .2, k .pre .3, k .pre .4, k .pre .5, k .pre .6, omega arith, omega arith)
+    let g = k .pre in (
+      record {
+        lent = record { long = w .long ∙ g .lent .long; low = w .low };
+        cost = g .cost;
+        paid = g .paid;
+        kind = g .kind;
+        here = g .here;
+        inside = g .inside;
+      },
+      omega arith,
+      omega arith,
+    )
 
 returns : tie.Need-returns
 returns c =

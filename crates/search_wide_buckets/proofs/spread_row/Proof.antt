@@ -8,7 +8,16 @@ use Rattle.search_wide_buckets.proofs.spread_row.Tie as tie
 spread-requires : tie.Need-spread-requires
 spread-requires c κs =
     let k = c .before .before in
-    (k .pre .0, k .pre .1, k .pre .2, k .pre .3, pays-fewer 5 (k .pre .4) (five-least (k .pre .8)), k .pre .5, k .pre .6, k .pre .7)
+    let g = k .pre .0 in
+    record {
+      lent = g .lent;
+      low = g .low;
+      room = g .room;
+      paid = pays-fewer 5 (g .paid) (five-least (k .pre .1));
+      kind = g .kind;
+      here = g .here;
+      narrow = g .narrow;
+    }
 
 returns : tie.Need-returns
 returns c =
@@ -20,14 +29,23 @@ spread-apart-requires c κs =
     let after-spread = c .before .before in
     let k = after-spread .before .before .before in
     let w = after-spread .spread .ensures in
-    let e = nine-else (k .pre .8) (λ h. omega arith) in
-    (w .low, w .long ∙ k .pre .1, k .pre .2, k .pre .3, pays-fewer 9 (k .pre .4) (omega arith), k .pre .5, k .pre .6, k .pre .7)
+    let e = nine-else (k .pre .1) (λ h. omega arith) in
+    let g = k .pre .0 in
+    record {
+      lent = record { long = w .long ∙ g .lent .long; low = w .low };
+      low = g .low;
+      room = g .room;
+      paid = pays-fewer 9 (g .paid) (omega arith);
+      kind = g .kind;
+      here = g .here;
+      narrow = g .narrow;
+    }
 
 returns-2 : tie.Need-returns-2
 returns-2 c =
     let after-spread = c .before .before .before in
     let k = after-spread .before .before .before in
-    let e = nine-else (k .pre .8) (λ h. omega arith) in
+    let e = nine-else (k .pre .1) (λ h. omega arith) in
     rw e (spread-join (omega arith) (omega arith) (after-spread .spread .ensures) (c .spread-apart .ensures))
 
 pub spread-row-spec : {M : Type 1} → statement M

@@ -14,10 +14,10 @@ use Rattle.search_wide_end.proofs.least_poses.Statement.{statement}
 use Rattle.search_wide_end.proofs.least_poses.Tie as tie
 
 abbrev Inv-loop : tie.InvT-loop
-Inv-loop acc₀ store line at q k poses lanes a₀ acc a = (a ≤ poses) × Lowered (leastPosesIn line k store at q a) lanes acc₀ acc
+Inv-loop acc₀ store row at q k poses lanes a₀ acc a = (a ≤ poses) × Lowered (leastPosesIn row k store at q a) lanes acc₀ acc
 
 abbrev μ-loop : tie.MeasureT-loop
-μ-loop acc₀ store line at q k poses lanes a₀ acc a = poses - a
+μ-loop acc₀ store row at q k poses lanes a₀ acc a = poses - a
 
 loop-holds : tie.Need-loop-holds Inv-loop μ-loop
 loop-holds c =

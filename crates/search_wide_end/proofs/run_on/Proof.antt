@@ -35,8 +35,8 @@ loop-holds c =
       k .pre .0,
     )
 
-add-step-layer : tie.Need-add-step-layer Inv-loop μ-loop
-add-step-layer c = search needs
+add-cells : tie.Need-add-cells Inv-loop μ-loop
+add-cells c = search needs
 
 sub-step-layer : tie.Need-sub-step-layer Inv-loop μ-loop
 sub-step-layer c =
@@ -50,11 +50,12 @@ step-layer-requires c κs =
     let l = at-loop .loop in
     let v = l .inv .1 in
     let b = buffer-low (v .running .buffer) in
-    let n : keptFrom ≤ length (l .store) = omega (arith, v .frame .long, k .pre .2) in (
-      l .inv .2,
-      record { ground = g .ground; low = v .low; narrow = g .narrow; early = omega (arith, l .inv .0, g .ground .size); room = omega arith },
-      buffer-beside (v .running .buffer) n,
-    )
+    let n : keptFrom ≤ length (l .store) = omega (arith, v .frame .long, k .pre .2) in
+    record {
+      lent = l .inv .2;
+      given = record { ground = g .ground; low = v .low; narrow = g .narrow; early = omega (arith, l .inv .0, g .ground .size); room = omega arith };
+      beside = buffer-beside (v .running .buffer) n;
+    }
 
 sub-from : tie.Need-sub-from Inv-loop μ-loop
 sub-from c =
@@ -93,4 +94,4 @@ add-if1 c = search needs
 pub run-on-spec : {M : Type 1} → statement M
 run-on-spec =
     tie.close
-    (tie.spec Inv-loop μ-loop loop-holds add-if1 add-step-layer sub-step-layer step-layer-requires sub-from add-d loop-less loop-again same-length returns)
+    (tie.spec Inv-loop μ-loop loop-holds add-if1 add-cells sub-step-layer step-layer-requires sub-from add-d loop-less loop-again same-length returns)

@@ -16,16 +16,19 @@ use Rattle.search_wide_first.proofs.first_block.Tie as tie
 
 -- past the test the state can come first
 abbrev Starts : tie.Else1 → Type 0
-Starts c = let a = c .before .before .before .before .args in startsAt (a .sizes .cells) (a .sizes .reordering) (suc (a .i)) (a .m) (a .q) ≡ true
+Starts c = let mid = c .before .before .before .before in let a = mid .before .args in startsAt (a .sizes .cells) (a .sizes .reordering) (suc (a .to .cells))
+    (a .m) (a .q) ≡ true
 
 can : (c : tie.Else1) → Starts c
 can c =
-    let a = c .before .before .before .before .args in
-    ap (λ (j : ℕ). startsAt (a .sizes .cells) (a .sizes .reordering) j (a .m) (a .q)) (sym (add-one (a .i))) ∙ sym (c .before .starts .ensures)
+    let mid = c .before .before .before .before in
+    let a = mid .before .args in
+    ap (λ (j : ℕ). startsAt (a .sizes .cells) (a .sizes .reordering) j (a .m) (a .q)) (sym (add-one (a .to .cells))) ∙ sym (c .before .starts .ensures)
     ∙ not-false _ (c .if1 .left)
 
 here : (c : tie.After-last-at)
-    → (let mid = c .before .before .before .before in let a = mid .before .args in c .last-at .result ≡ lastAt (a .sizes .reordering) (suc (a .i)) (a .q))
+    → (let mid₂ = c .before .before .before .before in let mid = mid₂ .before .before in let a = mid .before .args in c .last-at .result ≡ lastAt
+    (a .sizes .reordering) (suc (a .to .cells)) (a .q))
 here c = omega (arith, c .last-at .ensures)
 
 add-starts : tie.Need-add-starts
@@ -48,38 +51,51 @@ same-length c = search needs
 
 returns : tie.Need-returns
 returns c =
-    let after-if1 = c .before .before .before .before in
-    let k = after-if1 .before .before .before .before in
+    let mid = c .before .before .before .before in
+    let after-if1 = mid .before in
+    let mid₂ = after-if1 .before .before .before .before in
+    let k = mid₂ .before in
     let a = k .args in
     let t = sym (after-if1 .before .starts .ensures) ∙ not-true _ (after-if1 .if1 .taken) in
-    let u = ap (λ (j : ℕ). startsAt (a .sizes .cells) (a .sizes .reordering) j (a .m) (a .q)) (sym (add-one (a .i))) ∙ t in (
-      state-rows (omega (arith, k .pre .1 .ground .few)) (c .before .before .fill-rows .ensures)
-          (λ b l x y. after-away (deckIn (a .row .now) (a .sizes)) (a .sizes .reordering) (a .i) (a .m) (a .p) l (a .q) b u),
-      k .pre .0,
+    let u = ap (λ (j : ℕ). startsAt (a .sizes .cells) (a .sizes .reordering) j (a .m) (a .q)) (sym (add-one (a .to .cells))) ∙ t in (
+      state-rows (omega (arith, k .pre .0 .given .ground .few)) (c .before .before .fill-rows .ensures)
+          (λ b l x y. after-away (deckIn (a .row .now) (a .sizes)) (a .sizes .reordering) (a .to .cells) (a .m) (a .p) l (a .q) b u),
+      k .pre .0 .lent,
     )
 
 add-last-at : tie.Need-add-last-at
 add-last-at c = search needs
 
 last-at-requires : tie.Need-last-at-requires
-last-at-requires c κs = search needs
+last-at-requires c κs =
+    let after-starts = c .before .before in
+    let g = after-starts .before .before .before .before .pre .0 .given in
+    (g .ground .coded, omega (arith, g .ground .all), omega (arith, g .early))
 
 first-rows-requires : tie.Need-first-rows-requires
 first-rows-requires c κs =
-    let mid = c .before .before .before in
-    let k = mid .before .before .before .before in
+    let mid = c .before .before .before .before in
+    let mid₂ = mid .before .before .before .before in
+    let k = mid₂ .before in
     let a = k .args in
-    let g = k .pre .1 in (
-      k .pre .0,
-      g .ground .words,
-      g .low,
-      g .room,
-      omega (arith, g .ground .all, g .ground .coded .few),
-      k .pre .2,
-      k .pre .3,
-      omega (arith, here (c .before .before), starts-size (a .sizes .cells) (a .sizes .reordering) (suc (a .i)) (a .m) (a .q) (can mid), g .ground .size),
-      g .ground .few,
-    )
+    let g = k .pre .0 .given in
+    record {
+      lent = k .pre .0 .lent;
+      words = g .ground .words;
+      low = g .low;
+      room = g .room;
+      state = omega (arith, g .ground .all, g .ground .coded .few);
+      start = k .pre .0 .start;
+      narrow = g .narrow;
+      cell = omega (
+        arith,
+        here (c .before .before),
+        starts-size (a .sizes .cells) (a .sizes .reordering) (suc (a .to .cells)) (a .m) (a .q)
+            (can mid),
+        g .ground .size,
+      );
+      few = g .ground .few;
+    }
 
 same-length-2 : tie.Need-same-length-2
 same-length-2 c = search needs
@@ -87,14 +103,16 @@ same-length-2 c = search needs
 returns-2 : tie.Need-returns-2
 returns-2 c =
     let after-first-rows = c .before .before in
-    let mid = after-first-rows .before .before .before .before in
-    let k = mid .before .before .before .before in
+    let mid₂ = after-first-rows .before .before .before .before in
+    let mid = mid₂ .before in
+    let mid₃ = mid .before .before .before .before in
+    let k = mid₃ .before in
     let a = k .args in
     let e = here (after-first-rows .before .before .before) in
     let w = after-first-rows .first-rows .ensures in (
       state-ext (w .0)
           (λ b l x y.
-          after-there (deckIn (a .row .now) (a .sizes)) (a .sizes .reordering) (a .i) (a .m) (a .p) l (a .q) b (can mid)
+          after-there (deckIn (a .row .now) (a .sizes)) (a .sizes .reordering) (a .to .cells) (a .m) (a .p) l (a .q) b (can mid)
           ∙ ap (λ (j : ℕ). afterRow (a .row .now) (a .p) j b l) (sym e)),
       w .1,
     )

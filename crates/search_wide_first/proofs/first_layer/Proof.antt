@@ -14,11 +14,11 @@ use Rattle.search_wide_first.proofs.first_layer.Statement.{statement}
 use Rattle.search_wide_first.proofs.first_layer.Tie as tie
 
 abbrev Inv-loop : tie.InvT-loop
-Inv-loop table₀ store₀ row sizes lanes i s p to m q₀ table store q =
+Inv-loop table₀ store₀ row sizes lanes i s p to m layer q₀ table store q =
     (q ≤ (sizes .states)) × Filled (afterFrom (deckIn row sizes) (sizes .reordering) i m p) lanes (sizes .poses) to q store₀ store × Lent table
 
 abbrev μ-loop : tie.MeasureT-loop
-μ-loop table₀ store₀ row sizes lanes i s p to m q₀ table store q =
+μ-loop table₀ store₀ row sizes lanes i s p to m layer q₀ table store q =
     (sizes .states) - q
 
 mul-m : tie.Need-mul-m Inv-loop μ-loop
@@ -36,7 +36,7 @@ shared-slice-read-m c = search needs
 loop-holds : tie.Need-loop-holds Inv-loop μ-loop
 loop-holds c =
     let k = c .before .before .before in
-    (omega arith, filled-none _ _ _ _ (k .pre .1 .low), k .pre .0)
+    (omega arith, filled-none _ _ _ _ (k .pre .0 .given .low), k .pre .0 .lent)
 
 first-block-requires : tie.Need-first-block-requires Inv-loop μ-loop
 first-block-requires c κs =
@@ -44,7 +44,7 @@ first-block-requires c κs =
     let k = at-loop .before .before .before .before in
     let l = at-loop .loop in
     let s = l .inv .1 in
-    (l .inv .2, given-on (k .pre .1) (s .frame) (s .low), k .pre .2, k .pre .3, omega arith)
+    (record { lent = l .inv .2; given = given-on (k .pre .0 .given) (s .frame) (s .low); start = k .pre .0 .start }, omega arith)
 
 add-q : tie.Need-add-q Inv-loop μ-loop
 add-q c = search needs
@@ -57,7 +57,7 @@ loop-again c =
     let mid = c .before .before .before .before in
     let at-loop = mid .before .before .before in
     let k = at-loop .before .before .before .before in
-    let g = k .pre .1 in
+    let g = k .pre .0 .given in
     let l = at-loop .loop in
     let w = c .before .before .first-block .ensures in (
       omega arith,
@@ -76,7 +76,7 @@ returns c =
     let k = at-loop .before .before .before .before in
     let a = k .args in
     let e : at-loop .loop .q ≡ a .sizes .states = omega arith in
-    let f = k .pre .1 .ground .coded .mark (a .s) (omega (arith, k .pre .1 .ground .all)) in
+    let f = k .pre .0 .given .ground .coded .mark (a .s) (omega (arith, k .pre .0 .given .ground .all)) in
     (rw (e, f) at (at-loop .loop .inv .1), at-loop .loop .inv .2)
 
 add-m-2 : tie.Need-add-m-2 Inv-loop μ-loop

@@ -1,6 +1,6 @@
 -- Each lane of the table, once it is reset, has its start, and each pose finds there what it pays after it.
 use Prim.Native.Nat.{ℕ, _+_, _-_, _<_}
-use mathlib.Core.Path.{_≡_}
+use mathlib.Core.Path.{_≡_, _∙_}
 use native.Mathlib.Omega.{arith}
 use Rattle.search_buckets.specs.Rows.{rowsOf}
 use Rattle.search_buckets.specs.Sources.{buckets-either}
@@ -52,7 +52,7 @@ table c =
     let h = mid .before .before .before in
     let k = h .before .before .before in
     let a = k .args in
-    ready (k .pre .8) (five-least (needed h)) (nine-most (needed h)) (λ l v t. starts-low (a .p) (a .k) l v t (k .pre .1)) (last h)
+    ready (k .pre .few) (five-least (needed h)) (nine-most (needed h)) (λ l v t. starts-low (a .p) (a .k) l v t (k .pre .words)) (last h)
     (mid .before .reset .ensures) (starts c) (c .run-up .ensures)
 
 buckets-of-requires : tie.Need-buckets-of-requires
@@ -61,7 +61,7 @@ buckets-of-requires c κs = search needs
 reset-requires : tie.Need-reset-requires
 reset-requires c κs =
     let k = c .before .before .before .before in
-    (k .pre .0 .low, k .pre .0 .long, nine-most (needed (c .before)), k .pre .8, omega arith)
+    (record { lent = k .pre .lent; few = k .pre .few; narrow = k .pre .narrow }, nine-most (needed (c .before)))
 
 rows-of-requires : tie.Need-rows-of-requires
 rows-of-requires c κs = search needs
@@ -70,11 +70,26 @@ from-starts-requires : tie.Need-from-starts-requires
 from-starts-requires c κs =
     let mid = c .before .before .before .before in
     let k = mid .before .before .before in
-    let w = c .before .before .reset .ensures in
-    (k .pre .1, w .low, w .long, k .pre .5, k .pre .6, k .pre .7, omega (arith, c .rows-of .ensures), needed mid)
+    let w = c .before .before .reset .ensures in (
+      record {
+        lent = record { long = w .long; low = w .low };
+        words = k .pre .words;
+        start = k .pre .start;
+        cell = k .pre .cell;
+        few = omega (arith, c .rows-of .ensures);
+        needed = needed mid;
+      },
+      k .pre .narrow,
+    )
 
 run-up-requires : tie.Need-run-up-requires
-run-up-requires c κs = search needs
+run-up-requires c κs =
+    let after-from-starts = c .before in
+    let after-reset = after-from-starts .before .before .before in
+    let mid = after-reset .before .before in
+    let k = mid .before .before .before in
+    let w = after-from-starts .from-starts .ensures in
+    record { lent = record { long = w .long ∙ after-reset .reset .ensures .long; low = w .low }; few = k .pre .few; narrow = k .pre .narrow }
 
 put-rows-requires : tie.Need-put-rows-requires
 put-rows-requires c κs =
@@ -85,18 +100,18 @@ put-rows-requires c κs =
     let t = table mid in
     let h = needed mid₃ in (
       record {
-        words = k .pre .1;
-        low = k .pre .2;
+        words = k .pre .words;
+        low = k .pre .low;
         tableLow = t .low;
         tableLong = t .long;
         narrow = omega arith;
-        cell = k .pre .7;
+        cell = k .pre .cell;
         least = five-least h;
         most = nine-most h;
       },
-      k .pre .3,
-      k .pre .4,
-      k .pre .8,
+      k .pre .room,
+      k .pre .state,
+      k .pre .few,
     )
 
 same-length : tie.Need-same-length

@@ -9,28 +9,39 @@ use Rattle.search_wide_first.proofs.from_starts.Statement.{statement}
 use Rattle.search_wide_first.proofs.from_starts.Tie as tie
 
 abbrev Inv-loop : tie.InvT-loop
-Inv-loop table₀ line p k rows buckets lanes pays l₀ table l =
-    (l ≤ lanes) × StartedTo (startIn line p k) rows buckets l table₀ table
+Inv-loop table₀ row p k rows buckets lanes pays l₀ table l =
+    (l ≤ lanes) × StartedTo (startIn row p k) rows buckets l table₀ table
 
 abbrev μ-loop : tie.MeasureT-loop
-μ-loop table₀ line p k rows buckets lanes pays l₀ table l =
+μ-loop table₀ row p k rows buckets lanes pays l₀ table l =
     lanes - l
 
 fill-pays-requires : tie.Need-fill-pays-requires Inv-loop μ-loop
 fill-pays-requires c κs =
     let k = c .before .before in
-    (k .pre .0, k .pre .3, k .pre .5, nine-most (k .pre .7), refl)
+    (k .pre .0 .words, k .pre .0 .start, k .pre .0 .cell, nine-most (k .pre .0 .needed), refl)
 
 loop-holds : tie.Need-loop-holds Inv-loop μ-loop
 loop-holds c =
-    (omega arith, starts-none _ _ _ (c .before .before .before .pre .1))
+    (omega arith, starts-none _ _ _ (c .before .before .before .pre .0 .lent .low))
 
 from-start-requires : tie.Need-from-start-requires Inv-loop μ-loop
 from-start-requires c κs =
     let after-fill-pays = c .before .before .before .before in
     let k = after-fill-pays .before .before .before in
     let w = c .before .before .before .loop .inv .1 in
-    (k .pre .0, after-fill-pays .fill-pays .ensures, w .low, w .long ∙ k .pre .2, k .pre .3, k .pre .5, omega arith, k .pre .6, omega arith, k .pre .7)
+    let g = k .pre .0 in (
+      record {
+        lent = record { long = w .long ∙ g .lent .long; low = w .low };
+        words = g .words;
+        start = g .start;
+        cell = g .cell;
+        few = g .few;
+        needed = g .needed;
+      },
+      after-fill-pays .fill-pays .ensures,
+      omega arith,
+    )
 
 add-l : tie.Need-add-l Inv-loop μ-loop
 add-l c = search needs

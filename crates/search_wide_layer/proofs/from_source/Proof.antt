@@ -18,34 +18,36 @@ use Rattle.search_wide_layer.proofs.from_source.Tie as tie
 
 -- past the test the state is a source
 abbrev Source : tie.Else1 → Type 0
-Source c = let a = c .before .before .before .before .args in isSource (deckIn (a .row .now) (a .sizes)) (a .sizes .reordering) (a .i) (a .q) (a .p) ≡ true
+Source c = let a = c .before .before .before .before .args in isSource (deckIn (a .row .now) (a .sizes)) (a .sizes .reordering) (a .layer .cells) (a .q)
+    (a .p) ≡ true
 
 source : (c : tie.Else1) → Source c
 source c = sym (c .before .is-source .ensures) ∙ not-false _ (c .if1 .left)
 
 -- both cells stand in the row
-left : (c : tie.After-pays) → c .before .before .last-at .result < 64
+left : (c : tie.After-pays) → c .before .before .before .last-at .result < 64
 left c =
-    let mid = c .before .before .before in
+    let mid = c .before .before .before .before in
     let k = mid .before .before .before .before in
     let a = k .args in
     omega (
       arith,
-      c .before .before .last-at .ensures,
-      source-size (a .row .now) (a .sizes .cells) (a .sizes .poses) (a .sizes .reordering) (a .i) (a .q) (a .p) (source mid),
-      k .pre .0 .ground .size,
+      c .before .before .before .last-at .ensures,
+      source-size (a .row .now) (a .sizes .cells) (a .sizes .poses) (a .sizes .reordering) (a .layer .cells) (a .q) (a .p) (source mid),
+      k .pre .0 .given .ground .size,
     )
 
 right : (c : tie.After-pays) → c .before .last-at2 .result < 64
 right c =
-    let mid = c .before .before .before .before in
+    let mid₂ = c .before .before .before .before in
+    let mid = mid₂ .before in
     let k = mid .before .before .before in
     let a = k .args in
     omega (
       arith,
       c .before .last-at2 .ensures,
-      there-size (a .sizes .cells) (a .sizes .reordering) (suc (a .i)) (a .q) (k .pre .1 .there),
-      k .pre .0 .ground .size,
+      there-size (a .sizes .cells) (a .sizes .reordering) (suc (a .layer .cells)) (a .q) (k .pre .0 .target .there),
+      k .pre .0 .given .ground .size,
     )
 
 is-source-requires : tie.Need-is-source-requires
@@ -55,11 +57,12 @@ returns : tie.Need-returns
 returns c =
     let k = c .before .before .before .before in
     let a = k .args in (
-      gathered-none _ _ _ (k .pre .2 .low)
+      gathered-none _ _ _ (k .pre .0 .lent .low)
           (λ l v t i j h.
           omega (
             arith,
-            state-out (a .row .now) (deckIn (a .row .now) (a .sizes)) (a .sizes .reordering) (layerIn (a .store .now) (a .from) l) (a .i) (a .q) (a .p) v t
+            state-out (a .row .now) (deckIn (a .row .now) (a .sizes)) (a .sizes .reordering) (layerIn (a .store .now) (a .layer .at) l) (a .layer .cells)
+                (a .q) (a .p) v t
                 (sym (c .before .is-source .ensures) ∙ not-true _ (c .if1 .taken)),
           )),
       λ e. refl,
@@ -76,50 +79,53 @@ last-at-requires-2 c κs = search needs
 
 fill-pays-requires : tie.Need-fill-pays-requires
 fill-pays-requires c κs =
-    let mid = c .before .before .before .before in
+    let mid₂ = c .before .before .before .before in
+    let mid = mid₂ .before in
     let k = mid .before .before .before in
-    (k .pre .0 .ground .words, left c, right c, nine-most (k .pre .4), refl)
+    (k .pre .0 .given .ground .words, left c, right c, nine-most (k .pre .0 .needed), refl)
 
-mul-from-poses : tie.Need-mul-from-poses
-mul-from-poses c = search needs
+mul-at : tie.Need-mul-at
+mul-at c = search needs
 
-add-from-poses : tie.Need-add-from-poses
-add-from-poses c = search needs
+add-at : tie.Need-add-at
+add-at c = search needs
 
 from-poses-requires : tie.Need-from-poses-requires
 from-poses-requires c κs =
-    let mid = c .before .before .before in
-    let mid₂ = mid .before .before .before .before in
+    let mid = c .before .before .before .before in
+    let mid₃ = mid .before .before .before .before in
+    let mid₂ = mid₃ .before in
     let k = mid₂ .before .before .before in
-    let g = k .pre .0 in (
+    let g = k .pre .0 .given in (
       record {
         words = g .ground .words;
         low = g .low;
-        tableLow = k .pre .2 .low;
-        tableLong = k .pre .2 .long;
+        tableLow = k .pre .0 .lent .low;
+        tableLong = k .pre .0 .lent .long;
         narrow = g .narrow;
         room = omega (arith, g .room, g .ground .all, g .ground .coded .few);
         left = left mid;
         right = right mid;
-        needed = k .pre .4;
+        needed = k .pre .0 .needed;
+        paid = c .before .before .before .fill-pays .ensures;
       },
-      c .before .before .fill-pays .ensures,
       g .ground .few,
     )
 
 returns-2 : tie.Need-returns-2
 returns-2 c =
-    let mid = c .before .before .before .before in
-    let mid₂ = mid .before .before .before in
+    let mid₃ = c .before .before .before .before in
+    let mid = mid₃ .before in
+    let mid₂ = mid .before .before .before .before in
     let k = mid₂ .before .before .before .before in
     let a = k .args in
-    let m : mid .before .last-at2 .result ≡ lastAt (a .sizes .reordering) (suc (a .i)) (a .q) = omega (arith, mid .before .last-at2 .ensures) in (
+    let m : mid .before .last-at2 .result ≡ lastAt (a .sizes .reordering) (suc (a .layer .cells)) (a .q) = omega (arith, mid .before .last-at2 .ensures) in (
       gathered-ext (c .from-poses .ensures .0)
           (λ l v t h.
-          state-in (a .row .now) (deckIn (a .row .now) (a .sizes)) (a .sizes .reordering) (layerIn (a .store .now) (a .from) l) (a .i) (a .q)
+          state-in (a .row .now) (deckIn (a .row .now) (a .sizes)) (a .sizes .reordering) (layerIn (a .store .now) (a .layer .at) l) (a .layer .cells) (a .q)
           (a .p) v t (source mid₂)
-          ∙ ap₂ (λ (x y : ℕ). byPoses (a .row .now) x y (layerIn (a .store .now) (a .from) l (a .p)) (a .sizes .poses) v t)
-          (sym (mid .before .before .last-at .ensures)) (sym m)),
+          ∙ ap₂ (λ (x y : ℕ). byPoses (a .row .now) x y (layerIn (a .store .now) (a .layer .at) l (a .p)) (a .sizes .poses) v t)
+          (sym (mid .before .before .before .last-at .ensures)) (sym m)),
       c .from-poses .ensures .1,
     )
 
@@ -133,7 +139,7 @@ from-source-spec =
     add-last-at
     last-at-requires-2
     fill-pays-requires
-    mul-from-poses
-    add-from-poses
+    mul-at
+    add-at
     from-poses-requires
     returns-2)

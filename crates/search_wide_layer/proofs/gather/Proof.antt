@@ -15,22 +15,24 @@ use Rattle.search_wide_layer.proofs.gather.Statement.{statement}
 use Rattle.search_wide_layer.proofs.gather.Tie as tie
 
 abbrev Inv-loop : tie.InvT-loop
-Inv-loop table₀ store row sizes lanes i from q buckets used₀ p₀ table used p =
-    (p ≤ (sizes .states)) × Gathered (statesIn store row (deckIn row sizes) (sizes .reordering) from i q p) (rowsOf (sizes .poses)) buckets lanes table₀ table
+Inv-loop table₀ store row sizes layer q buckets used₀ p₀ table used p =
+    (p ≤ (sizes .states)) × Gathered (statesIn store row (deckIn row sizes) (sizes .reordering) (layer .at) (layer .cells) q p) (rowsOf (sizes .poses)) buckets
+    (layer .lanes) table₀ table
     × (used ≡ false → table ≡ table₀)
 
 abbrev μ-loop : tie.MeasureT-loop
-μ-loop table₀ store row sizes lanes i from q buckets used₀ p₀ table used p = (sizes .states) - p
+μ-loop table₀ store row sizes layer q buckets used₀ p₀ table used p = (sizes .states) - p
 
 loop-holds : tie.Need-loop-holds Inv-loop μ-loop
 loop-holds c =
     let k = c .before .before in
     let a = k .args in (
       omega arith,
-      gathered-none _ _ _ (k .pre .2 .low)
+      gathered-none _ _ _ (k .pre .lent .low)
           (λ l v t i j h. omega (
             arith,
-            states-none (a .row .now) (deckIn (a .row .now) (a .sizes)) (a .sizes .reordering) (layerIn (a .store .now) (a .from) l) (a .i) (a .q) v t,
+            states-none (a .row .now) (deckIn (a .row .now) (a .sizes)) (a .sizes .reordering) (layerIn (a .store .now) (a .layer .at) l) (a .layer .cells)
+                (a .q) v t,
           )),
       λ e. refl,
     )
@@ -39,8 +41,15 @@ from-source-requires : tie.Need-from-source-requires Inv-loop μ-loop
 from-source-requires c κs =
     let at-loop = c .before .before .before in
     let k = at-loop .before .before .before in
-    let w = at-loop .loop .inv .1 in
-    (k .pre .0, k .pre .1, record { long = w .long ∙ k .pre .2 .long; low = w .low }, omega arith, k .pre .3)
+    let w = at-loop .loop .inv .1 in (
+      record {
+        lent = record { long = w .long ∙ k .pre .lent .long; low = w .low };
+        given = k .pre .given;
+        target = k .pre .target;
+        needed = k .pre .needed;
+      },
+      omega arith,
+    )
 
 add-p : tie.Need-add-p Inv-loop μ-loop
 add-p c = search needs
@@ -57,7 +66,8 @@ loop-again c =
     let l = at-loop .loop in (
       omega arith,
       gathered-join (l .inv .1) (after-from-source .from-source .ensures .0)
-          (λ j v t h. states-more (a .row .now) (deckIn (a .row .now) (a .sizes)) (a .sizes .reordering) (layerIn (a .store .now) (a .from) j) (a .i)
+          (λ j v t h. states-more (a .row .now) (deckIn (a .row .now) (a .sizes)) (a .sizes .reordering) (layerIn (a .store .now) (a .layer .at) j)
+          (a .layer .cells)
           (a .q) (l .p) v t),
       λ e.
           ⊎-elim

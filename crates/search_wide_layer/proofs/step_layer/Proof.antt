@@ -13,16 +13,17 @@ use Rattle.search_wide_layer.proofs.step_layer.Statement.{statement}
 use Rattle.search_wide_layer.proofs.step_layer.Tie as tie
 
 abbrev Inv-loop : tie.InvT-loop
-Inv-loop table₀ store₀ row sizes lanes i from to q₀ table store q =
-    (q ≤ (sizes .states)) × Filled (nextFrom (deckIn row sizes) (sizes .reordering) store₀ from i) lanes (sizes .poses) to q store₀ store × Lent table
+Inv-loop table₀ store₀ row sizes layer to q₀ table store q =
+    (q ≤ (sizes .states)) × Filled (nextFrom (deckIn row sizes) (sizes .reordering) store₀ (layer .at) (layer .cells)) (layer .lanes)
+    (sizes .poses) to q store₀ store × Lent table
 
 abbrev μ-loop : tie.MeasureT-loop
-μ-loop table₀ store₀ row sizes lanes i from to q₀ table store q =
+μ-loop table₀ store₀ row sizes layer to q₀ table store q =
     (sizes .states) - q
 
 loop-holds : tie.Need-loop-holds Inv-loop μ-loop
 loop-holds c =
-    (omega arith, filled-none _ _ _ _ (c .before .before .pre .1 .low), c .before .before .pre .0)
+    (omega arith, filled-none _ _ _ _ (c .before .before .pre .given .low), c .before .before .pre .lent)
 
 target-block-requires : tie.Need-target-block-requires Inv-loop μ-loop
 target-block-requires c κs =
@@ -30,7 +31,7 @@ target-block-requires c κs =
     let k = at-loop .before .before .before in
     let l = at-loop .loop in
     let s = l .inv .1 in
-    (l .inv .2, given-on (k .pre .1) (s .frame) (s .low), beside-on (k .pre .2) (s .frame), omega arith)
+    (record { lent = l .inv .2; given = given-on (k .pre .given) (s .frame) (s .low); beside = beside-on (k .pre .beside) (s .frame) }, omega arith)
 
 add-q : tie.Need-add-q Inv-loop μ-loop
 add-q c = search needs
@@ -44,14 +45,15 @@ loop-again c =
     let at-loop = mid .before .before .before in
     let k = at-loop .before .before .before in
     let a = k .args in
-    let g = k .pre .1 in
+    let g = k .pre .given in
     let l = at-loop .loop in
     let s = l .inv .1 in
-    let kept = beside-kept (k .pre .2) (s .frame) (omega arith) (omega arith) in (
+    let kept = beside-kept (k .pre .beside) (s .frame) (omega arith) (omega arith) in (
       omega arith,
       filled-more (l .q) (g .narrow) (omega (arith, g .ground .few)) (omega (arith, g .ground .all, g .ground .coded .few)) s
           (c .before .before .target-block .ensures .0)
-          (λ b j x y. sym (next-kept (deckIn (a .row .now) (a .sizes)) (a .sizes .reordering) (a .i) (l .q) b j kept (g .ground .coded .few) (g .ground .few)
+          (λ b j x y. sym (next-kept (deckIn (a .row .now) (a .sizes)) (a .sizes .reordering) (a .layer .cells) (l .q) b j kept (g .ground .coded .few)
+          (g .ground .few)
           (omega (arith, g .narrow)))),
       c .before .before .target-block .ensures .1,
     )

@@ -33,27 +33,27 @@ same-length c = search needs
 returns : tie.Need-returns
 returns c =
     let after-if1 = c .before .before .before .before in
-    let k = after-if1 .before .before .before .before in
+    let mid = after-if1 .before .before .before .before in
+    let k = mid .before in
     let a = k .args in
     let t = sym (after-if1 .before .is-there .ensures) ∙ not-true _ (after-if1 .if1 .taken) in
-    let u = ap (λ (j : ℕ). thereIn (a .sizes .cells) (a .sizes .reordering) j (a .q)) (sym (add-one (a .i))) ∙ t in (
-      state-rows (omega (arith, k .pre .1 .ground .few)) (c .before .before .fill-rows .ensures)
-          (λ b l x y. next-away (deckIn (a .row .now) (a .sizes)) (a .sizes .reordering) (layerIn (a .store .now) (a .from) l) (a .i) (a .q) b u),
-      k .pre .0,
+    let u = ap (λ (j : ℕ). thereIn (a .sizes .cells) (a .sizes .reordering) j (a .q)) (sym (add-one (a .layer .cells))) ∙ t in (
+      state-rows (omega (arith, k .pre .0 .given .ground .few)) (c .before .before .fill-rows .ensures)
+          (λ b l x y. next-away (deckIn (a .row .now) (a .sizes)) (a .sizes .reordering) (layerIn (a .store .now) (a .layer .at) l) (a .layer .cells)
+          (a .q) b u),
+      k .pre .0 .lent,
     )
 
 target-rows-requires : tie.Need-target-rows-requires
 target-rows-requires c κs =
     let after-is-there = c .before .before .before in
-    let k = after-is-there .before .before .before in
+    let k = after-is-there .before .before .before .before in
     let a = k .args in
     let t = sym (after-is-there .is-there .ensures) ∙ not-false _ (c .before .before .if1 .left) in (
       k .pre .0,
-      k .pre .1,
-      k .pre .2,
       record {
-        state = omega (arith, k .pre .1 .ground .all);
-        there = ap (λ (j : ℕ). thereIn (a .sizes .cells) (a .sizes .reordering) j (a .q)) (sym (add-one (a .i))) ∙ t;
+        state = omega (arith, k .pre .0 .given .ground .all);
+        there = ap (λ (j : ℕ). thereIn (a .sizes .cells) (a .sizes .reordering) j (a .q)) (sym (add-one (a .layer .cells))) ∙ t;
       },
     )
 

@@ -24,22 +24,25 @@ abbrev μ-loop : tie.MeasureT-loop
 
 loop-holds : tie.Need-loop-holds Inv-loop μ-loop
 loop-holds c =
-    (omega arith, filled-none _ _ _ _ (c .before .before .pre .1), frame-refl _ _ _)
+    (omega arith, filled-none _ _ _ _ (c .before .before .pre .0 .low), frame-refl _ _ _)
 
 deliver-state-requires : tie.Need-deliver-state-requires Inv-loop μ-loop
 deliver-state-requires c κs =
     let at-loop = c .before .before .before in
     let k = at-loop .before .before .before in
     let l = at-loop .loop in (
-      k .pre .0,
-      l .inv .1 .low,
-      record { over = k .pre .2 .over; room = omega (arith, k .pre .2 .room, l .inv .2 .long) },
-      omega (arith, k .pre .3),
-      k .pre .4,
-      k .pre .5,
-      k .pre .6,
-      k .pre .7,
-      k .pre .8,
+      record {
+        coded = k .pre .0 .coded;
+        low = l .inv .1 .low;
+        room = record { over = k .pre .0 .room .over; room = omega (arith, k .pre .0 .room .room, l .inv .2 .long) };
+        all = k .pre .0 .all;
+        few = k .pre .0 .few;
+        narrow = k .pre .0 .narrow;
+        early = k .pre .0 .early;
+        inside = k .pre .0 .inside;
+      },
+      omega (arith, k .pre .0 .all),
+      k .pre .1,
     )
 
 add-q : tie.Need-add-q Inv-loop μ-loop
@@ -58,10 +61,10 @@ loop-again c =
     let w = after-deliver-state .deliver-state .ensures in
     let f = l .inv .2 in (
       omega arith,
-      filled-more (l .q) (k .pre .5) (omega arith) (omega (arith, k .pre .3, k .pre .0 .few)) (l .inv .1) w
+      filled-more (l .q) (k .pre .0 .narrow) (omega arith) (omega (arith, k .pre .0 .all, k .pre .0 .coded .few)) (l .inv .1) w
           (λ b j x y.
           ap₂ (cond (eqb (a .i + offset (a .sizes .reordering) (l .q)) (a .tall + suc (a .sizes .reordering))))
-          (sym (f .low (a .from + l .q * stateBlock + b * 64 + j) (omega (arith, k .pre .2 .over, k .pre .3, k .pre .0 .few, k .pre .8))))
+          (sym (f .low (a .from + l .q * stateBlock + b * 64 + j) (omega (arith, k .pre .0 .room .over, k .pre .0 .all, k .pre .0 .coded .few, k .pre .1))))
           (sym (f .high (a .costs + l .q * stateBlock + b * 64 + j) (omega arith)))),
       frame-join (a .costs) (a .costs + (l .q + 1) * stateBlock) f (w .frame) (omega arith) (omega arith) (omega arith) (omega arith),
     )

@@ -24,21 +24,24 @@ abbrev μ-loop : tie.MeasureT-loop
 
 loop-holds : tie.Need-loop-holds Inv-loop μ-loop
 loop-holds c =
-    (omega arith, filled-none _ _ _ _ (c .before .before .pre .1), frame-refl _ _ _)
+    (omega arith, filled-none _ _ _ _ (c .before .before .pre .low), frame-refl _ _ _)
 
 late-state-requires : tie.Need-late-state-requires Inv-loop μ-loop
 late-state-requires c κs =
     let at-loop = c .before .before .before in
     let k = at-loop .before .before .before in
     let l = at-loop .loop in (
-      k .pre .0,
-      l .inv .1 .low,
-      record { over = k .pre .2 .over; room = omega (arith, k .pre .2 .room, l .inv .2 .long) },
-      omega (arith, k .pre .3),
-      k .pre .4,
-      k .pre .5,
-      k .pre .6,
-      k .pre .7,
+      record {
+        coded = k .pre .coded;
+        low = l .inv .1 .low;
+        room = record { over = k .pre .room .over; room = omega (arith, k .pre .room .room, l .inv .2 .long) };
+        all = k .pre .all;
+        few = k .pre .few;
+        narrow = k .pre .narrow;
+        early = k .pre .early;
+        inside = k .pre .inside;
+      },
+      omega (arith, k .pre .all),
     )
 
 add-q : tie.Need-add-q Inv-loop μ-loop
@@ -57,7 +60,7 @@ loop-again c =
     let w = after-late-state .late-state .ensures in
     let f = l .inv .2 in (
       omega arith,
-      filled-more (l .q) (k .pre .5) (omega arith) (omega (arith, k .pre .3, k .pre .0 .few)) (l .inv .1) w
+      filled-more (l .q) (k .pre .narrow) (omega arith) (omega (arith, k .pre .all, k .pre .coded .few)) (l .inv .1) w
           (λ b j x y. ap (cond (ltb (a .tall + suc (a .sizes .reordering)) (a .i + offset (a .sizes .reordering) (l .q))) B)
           (sym (f .high (a .costs + l .q * stateBlock + b * 64 + j) (omega arith)))),
       frame-join (a .costs) (a .costs + (l .q + 1) * stateBlock) f (w .frame) (omega arith) (omega arith) (omega arith) (omega arith),

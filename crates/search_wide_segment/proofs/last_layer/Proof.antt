@@ -17,26 +17,30 @@ use Rattle.search_wide_segment.proofs.last_layer.Statement.{statement}
 use Rattle.search_wide_segment.proofs.last_layer.Tie as tie
 
 abbrev Inv-loop : tie.InvT-loop
-Inv-loop table₀ store₀ row sizes lanes i tall from costs q₀ table store q =
-    (q ≤ (sizes .states)) × Filled (lastIn (deckIn row sizes) (sizes .reordering) i tall store₀ from costs) lanes (sizes .poses) costs q store₀ store
+Inv-loop table₀ store₀ row sizes layer tall costs q₀ table store q =
+    (q ≤ (sizes .states)) × Filled (lastIn (deckIn row sizes) (sizes .reordering) (layer .cells) tall store₀ (layer .at) costs) (layer .lanes)
+    (sizes .poses) costs q store₀ store
     × Frame costs (costs + q * stateBlock) store₀ store × Lent table
 
 abbrev μ-loop : tie.MeasureT-loop
-μ-loop table₀ store₀ row sizes lanes i tall from costs q₀ table store q =
+μ-loop table₀ store₀ row sizes layer tall costs q₀ table store q =
     (sizes .states) - q
 
 loop-holds : tie.Need-loop-holds Inv-loop μ-loop
 loop-holds c =
     let k = c .before .before in
-    (omega arith, filled-none _ _ _ _ (k .pre .1 .low), frame-refl _ _ _, k .pre .0)
+    (omega arith, filled-none _ _ _ _ (k .pre .0 .given .low), frame-refl _ _ _, k .pre .0 .lent)
 
 last-state-requires : tie.Need-last-state-requires Inv-loop μ-loop
 last-state-requires c κs =
     let at-loop = c .before .before .before .before in
     let k = at-loop .before .before .before in
     let l = at-loop .loop in
-    let s = l .inv .1 in
-    (l .inv .3, given-on (k .pre .1) (s .frame) (s .low), beside-on (k .pre .2) (s .frame), k .pre .3, omega arith)
+    let s = l .inv .1 in (
+      record { lent = l .inv .3; given = given-on (k .pre .0 .given) (s .frame) (s .low); beside = beside-on (k .pre .0 .beside) (s .frame) },
+      k .pre .1,
+      omega arith,
+    )
 
 add-q : tie.Need-add-q Inv-loop μ-loop
 add-q c = search needs
@@ -50,17 +54,17 @@ loop-again c =
     let at-loop = mid .before .before .before in
     let k = at-loop .before .before .before in
     let a = k .args in
-    let g = k .pre .1 in
+    let g = k .pre .0 .given in
     let l = at-loop .loop in
     let w = c .before .before .last-state .ensures in
     let s = l .inv .1 in
     let f = l .inv .2 in
-    let kept = beside-kept (k .pre .2) (s .frame) (omega arith) (omega arith) in (
+    let kept = beside-kept (k .pre .0 .beside) (s .frame) (omega arith) (omega arith) in (
       omega arith,
       filled-more (l .q) (g .narrow) (omega (arith, g .ground .few)) (omega (arith, g .ground .all, g .ground .coded .few)) s (w .0)
           (λ b j x y.
-          ap₂ (cond (eqb (suc (a .i) + offset (a .sizes .reordering) (l .q)) (a .tall + suc (a .sizes .reordering))))
-          (sym (next-kept (deckIn (a .row .now) (a .sizes)) (a .sizes .reordering) (a .i) (l .q) b j kept (g .ground .coded .few) (g .ground .few)
+          ap₂ (cond (eqb (suc (a .layer .cells) + offset (a .sizes .reordering) (l .q)) (a .tall + suc (a .sizes .reordering))))
+          (sym (next-kept (deckIn (a .row .now) (a .sizes)) (a .sizes .reordering) (a .layer .cells) (l .q) b j kept (g .ground .coded .few) (g .ground .few)
           (omega (arith, g .narrow))))
           (sym (f .high (a .costs + l .q * stateBlock + b * 64 + j) (omega arith)))),
       frame-join (a .costs) (a .costs + (l .q + 1) * stateBlock) f (w .0 .frame) (omega arith) (omega arith) (omega arith) (omega arith),

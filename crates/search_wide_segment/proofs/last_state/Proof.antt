@@ -21,9 +21,9 @@ word-requires c κs = search needs
 
 add-if1-2 : tie.Need-add-if1-2
 add-if1-2 c =
-    let k = c .before .before .before in
-    let g = k .pre .1 .ground in
-    let h = k .pre .4 in
+    let k = c .before .before .before .before in
+    let g = k .pre .0 .given .ground in
+    let h = k .pre .2 in
     omega (arith, c .word .ensures, g .coded .digit (k .args .q) (omega (arith, g .all)), g .coded .small (k .args .q) (omega (arith, g .all)))
 
 add-if1-3 : tie.Need-add-if1-3
@@ -35,22 +35,26 @@ add-if1-4 c = search needs
 returns : tie.Need-returns
 returns c =
     let after-word = c .before .before in
-    let k = after-word .before .before .before in
+    let k = after-word .before .before .before .before in
     let a = k .args in
-    let g = k .pre .1 .ground in
-    let e : suc (a .i) + offset (a .sizes .reordering) (a .q) ≡ a .tall + suc (a .sizes .reordering) → ⊥ =
+    let g = k .pre .0 .given .ground in
+    let e : suc (a .layer .cells) + offset (a .sizes .reordering) (a .q) ≡ a .tall + suc (a .sizes .reordering) → ⊥ =
     λ h. c .if1 .taken (omega (arith, after-word .word .ensures, g .coded .digit (a .q) (omega (arith, g .all)))) in (
       record {
         frame = frame-refl _ _ _;
-        low = k .pre .1 .low;
+        low = k .pre .0 .given .low;
         right = λ b x l y.
-            sym (last-skip (deckIn (a .row .now) (a .sizes)) (a .sizes .reordering) (a .i) (a .tall) (a .store .now) (a .from) (a .costs) l (a .q) b e);
+            sym (last-skip (deckIn (a .row .now) (a .sizes)) (a .sizes .reordering) (a .layer .cells) (a .tall) (a .store .now) (a .layer .at) (a .costs) l
+            (a .q) b e);
       },
-      k .pre .0,
+      k .pre .0 .lent,
     )
 
 target-block-requires : tie.Need-target-block-requires
-target-block-requires c κs = search needs
+target-block-requires c κs =
+    let mid = c .before .before .before .before in
+    let k = mid .before .before .before .before in
+    (k .pre .0, k .pre .2)
 
 same-length : tie.Need-same-length
 same-length c = search needs
@@ -60,13 +64,14 @@ returns-2 c =
     let after-target-block = c .before .before in
     let after-if1 = after-target-block .before .before .before in
     let after-word = after-if1 .before .before in
-    let k = after-word .before .before .before in
+    let k = after-word .before .before .before .before in
     let a = k .args in
-    let g = k .pre .1 .ground in
-    let e : suc (a .i) + offset (a .sizes .reordering) (a .q) ≡ a .tall + suc (a .sizes .reordering) =
+    let g = k .pre .0 .given .ground in
+    let e : suc (a .layer .cells) + offset (a .sizes .reordering) (a .q) ≡ a .tall + suc (a .sizes .reordering) =
     omega (arith, after-if1 .if1 .left, after-word .word .ensures, g .coded .digit (a .q) (omega (arith, g .all))) in (
       state-ext (after-target-block .target-block .ensures .0)
-          (λ b l x y. last-take (deckIn (a .row .now) (a .sizes)) (a .sizes .reordering) (a .i) (a .tall) (a .store .now) (a .from) (a .costs) l (a .q) b e),
+          (λ b l x y. last-take (deckIn (a .row .now) (a .sizes)) (a .sizes .reordering) (a .layer .cells) (a .tall) (a .store .now) (a .layer .at)
+          (a .costs) l (a .q) b e),
       after-target-block .target-block .ensures .1,
     )
 

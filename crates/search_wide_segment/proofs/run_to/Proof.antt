@@ -40,7 +40,16 @@ fill-late-requires : tie.Need-fill-late-requires Inv-loop μ-loop
 fill-late-requires c κs =
     let k = c .before .before .before in
     let g = k .pre .1 in
-    (g .ground .coded, g .low, k .pre .2, g .ground .all, g .ground .few, g .narrow, omega (arith, g .early), k .pre .3)
+    record {
+      coded = g .ground .coded;
+      low = g .low;
+      room = k .pre .2;
+      all = g .ground .all;
+      few = g .ground .few;
+      narrow = g .narrow;
+      early = omega (arith, g .early);
+      inside = k .pre .3;
+    }
 
 deliver-requires : tie.Need-deliver-requires Inv-loop μ-loop
 deliver-requires c κs =
@@ -48,14 +57,16 @@ deliver-requires c κs =
     let k = after-fill-late .before .before .before .before in
     let g = k .pre .1 in
     let w = after-fill-late .fill-late .ensures in (
-      g .ground .coded,
-      w .low,
-      record { over = k .pre .2 .over; room = omega (arith, k .pre .2 .room, w .frame .long) },
-      g .ground .all,
-      g .ground .few,
-      g .narrow,
-      omega (arith, g .early),
-      k .pre .3,
+      record {
+        coded = g .ground .coded;
+        low = w .low;
+        room = record { over = k .pre .2 .over; room = omega (arith, k .pre .2 .room, w .frame .long) };
+        all = g .ground .all;
+        few = g .ground .few;
+        narrow = g .narrow;
+        early = omega (arith, g .early);
+        inside = k .pre .3;
+      },
       omega arith,
     )
 
@@ -80,8 +91,8 @@ add-loop c = search needs
 add-loop-2 : tie.Need-add-loop-2 Inv-loop μ-loop
 add-loop-2 c = search needs
 
-add-step-layer : tie.Need-add-step-layer Inv-loop μ-loop
-add-step-layer c = search needs
+add-cells : tie.Need-add-cells Inv-loop μ-loop
+add-cells c = search needs
 
 sub-step-layer : tie.Need-sub-step-layer Inv-loop μ-loop
 sub-step-layer c =
@@ -98,7 +109,11 @@ step-layer-requires c κs =
     let v = l .inv .1 in
     let b = buffer-low (v .running .buffer) in
     let n : keptFrom ≤ length (l .store) = omega (arith, v .outside .long, long mid, k .pre .2 .over, k .pre .2 .room) in
-    (l .inv .2, record { ground = g .ground; low = v .low; narrow = g .narrow; early = l .inv .0; room = omega arith }, buffer-beside (v .running .buffer) n)
+    record {
+      lent = l .inv .2;
+      given = record { ground = g .ground; low = v .low; narrow = g .narrow; early = l .inv .0; room = omega arith };
+      beside = buffer-beside (v .running .buffer) n;
+    }
 
 sub-from : tie.Need-sub-from Inv-loop μ-loop
 sub-from c =
@@ -121,14 +136,16 @@ deliver-requires-2 c κs =
     let g = k .pre .1 in
     let l = at-loop .loop in
     let w = after-step-layer .step-layer .ensures .0 in (
-      g .ground .coded,
-      w .low,
-      record { over = k .pre .2 .over; room = omega (arith, k .pre .2 .room, w .frame .long, l .inv .1 .outside .long, long (at-loop .before)) },
-      g .ground .all,
-      g .ground .few,
-      g .narrow,
-      omega (arith, l .inv .0),
-      k .pre .3,
+      record {
+        coded = g .ground .coded;
+        low = w .low;
+        room = record { over = k .pre .2 .over; room = omega (arith, k .pre .2 .room, w .frame .long, l .inv .1 .outside .long, long (at-loop .before)) };
+        all = g .ground .all;
+        few = g .ground .few;
+        narrow = g .narrow;
+        early = omega (arith, l .inv .0);
+        inside = k .pre .3;
+      },
       omega arith,
     )
 
@@ -179,7 +196,7 @@ run-to-spec =
     loop-holds
     add-loop
     add-loop-2
-    add-step-layer
+    add-cells
     sub-step-layer
     step-layer-requires
     sub-from

@@ -19,8 +19,8 @@ returns c =
     let w = c .before .before .before .before .run-to .ensures in
     (costed-past (w .0) (omega (arith, c .if1 .taken)), w .1)
 
-add-last-layer : tie.Need-add-last-layer
-add-last-layer c = search needs
+add-cells : tie.Need-add-cells
+add-cells c = search needs
 
 last-layer-requires : tie.Need-last-layer-requires
 last-layer-requires c κs =
@@ -32,15 +32,17 @@ last-layer-requires c κs =
     let w = mid .before .before .before .run-to .ensures in
     let v = w .0 in
     let b = v .running .buffer in (
-      w .1,
       record {
-        ground = g .ground;
-        low = v .low;
-        narrow = g .narrow;
-        early = omega (arith, g .ground .coded .reorder, k .pre .3);
-        room = omega (arith, buffer-low b, p .over, p .room, v .outside .long);
+        lent = w .1;
+        given = record {
+          ground = g .ground;
+          low = v .low;
+          narrow = g .narrow;
+          early = omega (arith, g .ground .coded .reorder, k .pre .3);
+          room = omega (arith, buffer-low b, p .over, p .room, v .outside .long);
+        };
+        beside = buffer-costs b (record { over = p .over; room = omega (arith, p .room, v .outside .long) });
       },
-      buffer-costs b (record { over = p .over; room = omega (arith, p .room, v .outside .long) }),
       k .pre .3,
     )
 
@@ -66,7 +68,7 @@ segment-to-spec =
     add-if1
     same-length
     returns
-    add-last-layer
+    add-cells
     last-layer-requires
     same-length-2
     returns-2)

@@ -11,10 +11,10 @@ use Rattle.search_stage.proofs.row.backs.Statement.{statement}
 use Rattle.search_stage.proofs.row.backs.Tie as tie
 
 abbrev Inv-loop : tie.InvT-loop
-Inv-loop starts₀ line p poses l₀ starts l = (l ≤ poses) × Written (backIn line p) 0 l starts₀ starts
+Inv-loop starts₀ row p poses l₀ starts l = (l ≤ poses) × Written (backIn row p) 0 l starts₀ starts
 
 abbrev μ-loop : tie.MeasureT-loop
-μ-loop starts₀ line p poses l₀ starts l = poses - l
+μ-loop starts₀ row p poses l₀ starts l = poses - l
 
 loop-holds : tie.Need-loop-holds Inv-loop μ-loop
 loop-holds c = (omega arith, written-none _ _ (c .before .pre .1))

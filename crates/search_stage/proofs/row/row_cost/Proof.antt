@@ -12,7 +12,7 @@ use Rattle.search_stage.proofs.row.row_cost.Tie as tie
 open-cost-requires : tie.Need-open-cost-requires
 open-cost-requires c κs =
     let k = c .before .before .before .before in
-    (k .pre .1, k .pre .2)
+    (k .pre .given, k .pre .room)
 
 same-length : tie.Need-same-length
 same-length c = search needs
@@ -24,7 +24,7 @@ returns c =
     let a = k .args in (
       row-open (deckIn (a .row .now) (a .sizes)) (a .sizes .reordering) (a .sizes .talls) (posIn (a .row .now)) (a .sizes .states) (a .s)
           (after-if1 .if1 .taken) (c .before .before .open-cost .ensures),
-      k .pre .0,
+      k .pre .lent,
     )
 
 tall-at-requires : tie.Need-tall-at-requires
@@ -33,38 +33,41 @@ tall-at-requires c κs = search needs
 placed-with-requires : tie.Need-placed-with-requires
 placed-with-requires c κs =
     let k = c .before .before .before .before in
-    let s = start-state (k .args .sizes .talls) (k .args .i) (k .args .sizes .states) (k .args .s) (k .pre .4) (c .before .if1 .left) (k .pre .3) in (
-      k .pre .1 .ground .coded,
-      omega (arith, k .pre .1 .ground .all),
-      start-place (k .args .i) (c .tall-at .result) (k .pre .1) (c .before .if1 .left) (k .pre .3) (c .tall-at .ensures),
+    let s = start-state (k .args .sizes .talls) (k .args .i) (k .args .sizes .states) (k .args .s) (k .pre .state) (c .before .if1 .left) (k .pre .stage) in (
+      k .pre .given .ground .coded,
+      omega (arith, k .pre .given .ground .all),
+      start-place (k .args .i) (c .tall-at .result) (k .pre .given) (c .before .if1 .left) (k .pre .stage) (c .tall-at .ensures),
     )
 
 width-of-requires : tie.Need-width-of-requires
 width-of-requires c κs =
     let mid = c .before .before .before .before in
     let k = mid .before in
-    k .pre .1 .ground .few
+    k .pre .given .ground .few
 
 first-layer-requires : tie.Need-first-layer-requires
 first-layer-requires c κs =
     let after-tall-at = c .before .before .before .before in
     let k = after-tall-at .before .before .before .before in
-    let g = k .pre .1 .ground in
-    let s = start-state (k .args .sizes .talls) (k .args .i) (k .args .sizes .states) (k .args .s) (k .pre .4) (after-tall-at .before .if1 .left) (k .pre .3) in
+    let g = k .pre .given .ground in
+    let s = start-state (k .args .sizes .talls) (k .args .i) (k .args .sizes .states) (k .args .s) (k .pre .state) (after-tall-at .before .if1 .left)
+    (k .pre .stage) in
     let p =
-    start-place (k .args .i) (after-tall-at .tall-at .result) (k .pre .1) (after-tall-at .before .if1 .left) (k .pre .3) (after-tall-at .tall-at .ensures) in
+    start-place (k .args .i) (after-tall-at .tall-at .result) (k .pre .given) (after-tall-at .before .if1 .left) (k .pre .stage)
+    (after-tall-at .tall-at .ensures) in
     let w = width-room (k .args .sizes .poses) (g .few) in
-    let r = k .pre .2 in (
-      k .pre .0,
+    let r = k .pre .room in (
       record {
-        ground = g;
-        low = k .pre .2 .low;
-        narrow = omega (arith, c .before .before .width-of .ensures, w .1);
-        early = omega (arith, c .before .before .before .placed-with .ensures, g .coded .reorder);
-        room = omega (arith, r .over, r .room);
+        lent = k .pre .lent;
+        given = record {
+          ground = g;
+          low = r .low;
+          narrow = omega (arith, c .before .before .width-of .ensures, w .1);
+          early = omega (arith, c .before .before .before .placed-with .ensures, g .coded .reorder);
+          room = omega (arith, r .over, r .room);
+        };
+        start = p;
       },
-      p,
-      omega (arith, c .before .before .width-of .ensures, w .1),
       s,
     )
 
@@ -73,11 +76,12 @@ backs-requires c κs =
     let mid = c .before .before .before .before in
     let after-tall-at = mid .before .before .before .before in
     let k = after-tall-at .before .before .before .before in
-    let g = k .pre .1 .ground in (
+    let g = k .pre .given .ground in (
       g .words,
       zeros-low 64,
       refl,
-      start-place (k .args .i) (after-tall-at .tall-at .result) (k .pre .1) (after-tall-at .before .if1 .left) (k .pre .3) (after-tall-at .tall-at .ensures),
+      start-place (k .args .i) (after-tall-at .tall-at .result) (k .pre .given) (after-tall-at .before .if1 .left) (k .pre .stage)
+          (after-tall-at .tall-at .ensures),
       g .few,
     )
 
@@ -88,8 +92,9 @@ add-stage-end c =
     let after-tall-at = mid₂ .before .before .before .before in
     let k = after-tall-at .before .before .before .before in
     let p =
-    start-place (k .args .i) (after-tall-at .tall-at .result) (k .pre .1) (after-tall-at .before .if1 .left) (k .pre .3) (after-tall-at .tall-at .ensures) in
-    omega (arith, mid₂ .before .before .before .placed-with .ensures, k .pre .1 .ground .coded .reorder)
+    start-place (k .args .i) (after-tall-at .tall-at .result) (k .pre .given) (after-tall-at .before .if1 .left) (k .pre .stage)
+    (after-tall-at .tall-at .ensures) in
+    omega (arith, mid₂ .before .before .before .placed-with .ensures, k .pre .given .ground .coded .reorder)
 
 stage-end-requires : tie.Need-stage-end-requires
 stage-end-requires c κs =
@@ -98,25 +103,26 @@ stage-end-requires c κs =
     let after-placed-with = after-first-layer .before .before .before .before in
     let after-if1 = after-placed-with .before .before in
     let k = after-if1 .before .before .before in
-    let g = k .pre .1 .ground in
-    let p = start-place (k .args .i) (after-placed-with .before .tall-at .result) (k .pre .1) (after-if1 .if1 .left) (k .pre .3)
+    let g = k .pre .given .ground in
+    let p = start-place (k .args .i) (after-placed-with .before .tall-at .result) (k .pre .given) (after-if1 .if1 .left) (k .pre .stage)
     (after-placed-with .before .tall-at .ensures) in
     let f = after-first-layer .first-layer .ensures .0 in
     let b = after-backs .backs .ensures in
-    let r = k .pre .2 in (
-      after-first-layer .first-layer .ensures .1,
-      k .pre .1,
-      record {
+    let r = k .pre .room in
+    record {
+      lent = after-first-layer .first-layer .ensures .1;
+      given = k .pre .given;
+      layer = record {
         ground = g;
         low = f .low;
         narrow = omega (arith, after-first-layer .before .before .before .width-of .ensures, width-room (k .args .sizes .poses) (g .few) .1);
         early = omega (arith, after-placed-with .placed-with .ensures, g .coded .reorder);
         room = omega (arith, r .over, r .room, f .frame .long);
-      },
-      record { over = omega (arith, r .over); room = omega (arith, r .room, f .frame .long) },
-      b .low,
-      b .frame .long,
-    )
+      };
+      room = record { over = omega (arith, r .over); room = omega (arith, r .room, f .frame .long) };
+      low = b .low;
+      long = b .frame .long;
+    }
 
 same-length-2 : tie.Need-same-length-2
 same-length-2 c = search needs
@@ -133,9 +139,9 @@ returns-2 c =
     let a = k .args in (
       row-after (deckIn (a .row .now) (a .sizes)) (a .sizes .reordering) (a .sizes .talls) (posIn (a .row .now)) (a .i) (a .i - 1) (a .sizes .states) (a .s)
           (after-placed-with .before .tall-at .result) (after-placed-with .placed-with .result) (after-backs .backs .last .0)
-          (omega (arith, after-if1 .if1 .left)) (k .pre .3)
-          (omega (arith, after-first-layer .before .before .before .width-of .ensures, width-room (a .sizes .poses) (k .pre .1 .ground .few) .0))
-          (k .pre .1 .ground .all)
+          (omega (arith, after-if1 .if1 .left)) (k .pre .stage)
+          (omega (arith, after-first-layer .before .before .before .width-of .ensures, width-room (a .sizes .poses) (k .pre .given .ground .few) .0))
+          (k .pre .given .ground .all)
           (after-placed-with .before .tall-at .ensures) (after-placed-with .placed-with .ensures)
           (λ l h. let z : 0 + l ≡ l = omega arith in rw z at (after-backs .backs .ensures .words l h))
           (after-first-layer .first-layer .ensures .0) (after-stage-end .stage-end .ensures .0),

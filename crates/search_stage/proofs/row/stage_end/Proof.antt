@@ -15,8 +15,12 @@ unfolding posIn
 segment-to-requires c κs =
     let after-if1 = c .before .before .before in
     let k = after-if1 .before .before .before .before in
-    let g = k .pre .1 in
-    (k .pre .0, k .pre .2, k .pre .3, omega (arith, c .before .before .tall-at .ensures, g .inside (k .args .i) (after-if1 .if1 .taken), g .ground .size))
+    let g = k .pre .given in (
+      k .pre .lent,
+      k .pre .layer,
+      k .pre .room,
+      omega (arith, c .before .before .tall-at .ensures, g .inside (k .args .i) (after-if1 .if1 .taken), g .ground .size),
+    )
 
 same-length : tie.Need-same-length
 same-length c = search needs
@@ -29,7 +33,7 @@ returns c =
     let k = after-if1 .before .before .before .before in
     let a = k .args in (
       row-tall (deckIn (a .row .now) (a .sizes)) (a .sizes .reordering) (a .sizes .talls) (posIn (a .row .now)) (a .starts .now) (after-if1 .if1 .taken)
-          (k .pre .1 .ground .all) (after-segment-to .before .before .before .tall-at .ensures) (after-segment-to .segment-to .ensures .0),
+          (k .pre .given .ground .all) (after-segment-to .before .before .before .tall-at .ensures) (after-segment-to .segment-to .ensures .0),
       after-segment-to .segment-to .ensures .1,
     )
 
