@@ -13,7 +13,8 @@ use Rattle.definition.specs.Texts.{Text}
 use Rattle.definition.specs.Job.{Job, readJob, accepted}
 use Rattle.definition.specs.Placement.{Placement, Printable, poses, readPlacement, textOf}
 use Rattle.definition.specs.Rules.{poseAt, Legal, rules}
-use Rattle.definition.specs.Outcome.{Outcome, numbers, score, Buffers, over}
+use Rattle.definition.specs.Outcome.{Outcome, numbers, numberCount, score, Buffers, over}
+use Rattle.definition.specs.Outcome.{readFieldCount, scoreFieldCount, placeFieldCount}
 
 -- ---- Demand 1: "the call ends, stays within [its buffers], and answers or gives a numbered refusal with its line"
 
@@ -35,7 +36,7 @@ readShape = record {
   refusals = 1 ∷ 2 ∷ 3 ∷ 4 ∷ [];
   lined = 1 ∷ 2 ∷ 3 ∷ 4 ∷ [];
   searched = [];
-  fieldCount = 1;
+  fieldCount = readFieldCount;
 }
 
 abbrev pub scoreShape : Shape
@@ -43,7 +44,7 @@ scoreShape = record {
   refusals = 1 ∷ 2 ∷ 3 ∷ 4 ∷ 5 ∷ [];
   lined = 1 ∷ 2 ∷ 3 ∷ 4 ∷ 5 ∷ [];
   searched = [];
-  fieldCount = 8;
+  fieldCount = scoreFieldCount;
 }
 
 abbrev pub placeShape : Shape
@@ -51,7 +52,7 @@ placeShape = record {
   refusals = 1 ∷ 2 ∷ 3 ∷ 4 ∷ 6 ∷ 7 ∷ 8 ∷ [];
   lined = 1 ∷ 2 ∷ 3 ∷ 4 ∷ [];
   searched = 0 ∷ 8 ∷ [];
-  fieldCount = 7;
+  fieldCount = placeFieldCount;
 }
 
 -- A call of an operation, by the number that it returns and its buffers before and after it; one that takes no store or
@@ -104,7 +105,7 @@ pub record Demand2 (j : Job) (P : Placement) (o : Outcome) : Type 0 where
   pub lowest : ¬ (rule ≡ 0) → (k : ℕ) → 0 < k → k < cell → broken j P rule k ≡ false
   -- "Steps, sites shifted, mirrorings, layout changes, cost are the definition's", "all 0 unless legal"
   pub number : o .number ≡ 0
-  pub fields : o .fields ≡ pos rule ∷ pos cell ∷ cond (eqb rule 0) (numbers j P) (replicate 6 (pos 0))
+  pub fields : o .fields ≡ pos rule ∷ pos cell ∷ cond (eqb rule 0) (numbers j P) (replicate numberCount (pos 0))
 
 abbrev pub Demand2Of : Text → Text → Type 0
 Demand2Of job placement =

@@ -15,12 +15,14 @@ use Rattle.definition.specs.Job.{Job, Reading, refused, accepted, readJob, firs
 use Rattle.definition.specs.Placement.{Placement, Poses, fault, poses, readPlacement}
 use Rattle.definition.specs.Rules.{Verdict, verdict}
 use Rattle.definition.specs.Moves.{Cheapest}
-use Rattle.definition.specs.Outcome.{Outcome, read, readOutcome, score, scoreOutcome, scorePoses, scoreFields, numbers}
-use Rattle.definition.specs.Outcome.{placeOutcome, placeAnswer, PlaceGives, storeNeeded, outputNeeded, bufferRefusal}
-use Rattle.definition.specs.Outcome.{refusal, Told, Buffers, lent, Placed, over}
+use Rattle.definition.specs.Outcome.{Outcome, noLine, refusedBy, read, score, scoreFields, numbers, numberCount}
+use Rattle.definition.specs.Outcome.{placeOutcome, placeAnswer, placeFieldCount, PlaceGives, bufferRefusal}
+use Rattle.definition.specs.Outcome.{storeNeeded, outputNeeded, Told, Buffers, lent, Placed, over}
 use Rattle.definition.specs.FaultLine.{ToldFault, Part, ofJob, ofPlacement, wordsOf, faultLine}
 use Rattle.definition.specs.Demands.{isOneOf, Shape, readShape, scoreShape, placeShape, Demand1, FaultDemand1}
 use Rattle.definition_laws.specs.Sound.{Sound}
+use Rattle.definition_laws.specs.Outcomes.{read-refused, read-accepted, score-refused, score-fault, score-accepted}
+use Rattle.definition_laws.specs.Outcomes.{place-refused, place-buffers, place-accepted}
 use Rattle.job_laws.specs.Refused.{Refused, job-refused}
 use Rattle.job_laws.specs.Whole.{accepted-sound}
 use Rattle.text_laws.specs.Poses.{fault-within}
@@ -41,6 +43,9 @@ of-read T {n} r a b c d = go n (r .some) (r .few)
     go (suc (suc (suc (suc zero)))) h g = d
     go (suc (suc (suc (suc (suc n))))) h g = absurd (omega arith)
 
+refused-some : (job : Text) {n line : ℕ} → readJob job ≡ refused n line → n ≡ 0 → ⊥
+refused-some job {n} {line} e z = let s = job-refused job n line e .some in omega arith
+
 -- an operation that refuses as Read does, at its line and before any search
 pub record AsRead (shape : Shape) : Type 0 where
   pub known : (n line : ℕ) → Refused n line → isOneOf (0 ∷ shape .refusals) n ≡ true
@@ -48,10 +53,10 @@ pub record AsRead (shape : Shape) : Type 0 where
   pub before-search : (n line : ℕ) → Refused n line → isOneOf (shape .searched) n ≡ false
 
 read-fair : (shape : Shape) → AsRead shape → (room : ℕ) (job : Text) (n line : ℕ) → readJob job ≡ refused n line
-    → Fair shape room (refusal (shape .fieldCount) n line)
+    → Fair shape room (refusedBy (shape .fieldCount) (record { number = n; line = line }))
 read-fair shape s room job n line e =
     let r = job-refused job n line e in
-    refusal-fair shape room n line (s .known n line r) (s .lines n line r ∙ sym (lt-ltb 0 line (r .located))) (s .before-search n line r)
+    refusal-fair shape room (record { number = n; line = line }) (s .known n line r) (s .lines n line r ∙ sym (lt-ltb 0 line (r .located))) (s .before-search n line r)
 
 read-as-read : AsRead readShape
 read-as-read = record {
@@ -77,12 +82,13 @@ place-as-read = record {
 -- ---- Read and Score
 
 read-keeps : (job : Text) → Fair readShape 0 (read job)
-unfolding read
 read-keeps job = go (readJob job) refl
   where
-    go : (r : Reading) → readJob job ≡ r → Fair readShape 0 (readOutcome r)
-    go (refused n line) e = read-fair readShape read-as-read 0 job n line e
-    go (accepted j) e = record {
+    go : (r : Reading) → readJob job ≡ r → Fair readShape 0 (read job)
+    go (refused n line) e =
+        subst (Fair readShape 0) (sym (read-refused job e (refused-some job e)))
+        (read-fair readShape read-as-read 0 job n line e)
+    go (accepted j) e = subst (Fair readShape 0) (sym (read-accepted job e)) (record {
       numbered = refl;
       located = refl;
       counted = refl;
@@ -90,25 +96,27 @@ read-keeps job = go (readJob job) refl
       no-fields = λ z. absurd (z refl);
       no-text = λ z. refl;
       searches = refl;
-    }
+    })
 
 fields-eight : (j : Job) (P : Placement) (v : Verdict) → length (scoreFields j P v) ≡ 8
 unfolding scoreFields numbers
 fields-eight j P v = eight (eqb (v .rule) 0)
   where
-    eight : (t : Bool) → length (pos (v .rule) ∷ pos (v .cell) ∷ cond t (numbers j P) (replicate 6 (pos 0))) ≡ 8
+    eight : (t : Bool) → length (pos (v .rule) ∷ pos (v .cell) ∷ cond t (numbers j P) (replicate numberCount (pos 0))) ≡ 8
     eight true = refl
     eight false = refl
 
 score-keeps : (job placement : Text) → Fair scoreShape 0 (score job placement)
-unfolding score
 score-keeps job placement = go (readJob job) refl
   where
-    posed : (j : Job) (p : Poses) → readPlacement (length (j .cells)) placement ≡ p → Fair scoreShape 0 (scorePoses j p)
-    posed j (fault line) e =
+    posed : (j : Job) → readJob job ≡ accepted j → (p : Poses) → readPlacement (length (j .cells)) placement ≡ p
+        → Fair scoreShape 0 (score job placement)
+    posed j r (fault line) e =
         let w = fault-within (length (j .cells)) placement line e in
-        refusal-fair scoreShape 0 5 line refl (sym (lt-ltb 0 line (omega (arith, w .0)))) refl
-    posed j (poses P) e = record {
+        subst (Fair scoreShape 0) (sym (score-fault job r placement e))
+        (refusal-fair scoreShape 0 (record { number = 5; line = line }) refl
+        (sym (lt-ltb 0 line (omega (arith, w .0)))) refl)
+    posed j r (poses P) e = subst (Fair scoreShape 0) (sym (score-accepted job r placement e)) (record {
       numbered = refl;
       located = refl;
       counted = fields-eight j P (verdict j P);
@@ -116,11 +124,13 @@ score-keeps job placement = go (readJob job) refl
       no-fields = λ z. absurd (z refl);
       no-text = λ z. refl;
       searches = refl;
-    }
+    })
 
-    go : (r : Reading) → readJob job ≡ r → Fair scoreShape 0 (scoreOutcome r placement)
-    go (refused n line) e = read-fair scoreShape score-as-read 0 job n line e
-    go (accepted j) e = posed j (readPlacement (length (j .cells)) placement) refl
+    go : (r : Reading) → readJob job ≡ r → Fair scoreShape 0 (score job placement)
+    go (refused n line) e =
+        subst (Fair scoreShape 0) (sym (score-refused job e (refused-some job e) placement))
+        (read-fair scoreShape score-as-read 0 job n line e)
+    go (accepted j) e = posed j e (readPlacement (length (j .cells)) placement) refl
 
 -- an operation that is lent results alone
 abbrev alone : List ℤ → Buffers
@@ -185,7 +195,6 @@ buffers j words room =
 
 -- a text of a legal placement of an accepted job fits where 7 was not given
 place-keeps : {job : Text} {words room : ℕ} {o : Outcome} → PlaceGives job words room o → Fair placeShape room o
-unfolding placeOutcome
 place-keeps {job} {words} {room} {o} g = subst (Fair placeShape room) (sym (g .outcome)) (go (readJob job) refl)
   where
     answer : (j : Job) → Sound j → outputNeeded j ≤ room → (a : Option Placement) → Cheapest j a
@@ -209,25 +218,30 @@ place-keeps {job} {words} {room} {o} g = subst (Fair placeShape room) (sym (g .o
       searches = refl;
     }
 
-    short : (n : ℕ) → (n ≡ 0) ⊎ (n ≡ 6) ⊎ (n ≡ 7) → (n ≡ 0 → ⊥) → Fair placeShape room (refusal 7 n 0)
+    short : (n : ℕ) → (n ≡ 0) ⊎ (n ≡ 6) ⊎ (n ≡ 7) → (n ≡ 0 → ⊥)
+        → Fair placeShape room (refusedBy placeFieldCount (noLine n))
     short n (inl e) z = absurd (z e)
     short n (inr (inl e)) z =
-        subst (λ m. Fair placeShape room (refusal 7 m 0)) (sym e) (refusal-fair placeShape room 6 0 refl refl refl)
+        subst (λ m. Fair placeShape room (refusedBy placeFieldCount (noLine m))) (sym e)
+        (refusal-fair placeShape room (noLine 6) refl refl refl)
     short n (inr (inr e)) z =
-        subst (λ m. Fair placeShape room (refusal 7 m 0)) (sym e) (refusal-fair placeShape room 7 0 refl refl refl)
+        subst (λ m. Fair placeShape room (refusedBy placeFieldCount (noLine m))) (sym e)
+        (refusal-fair placeShape room (noLine 7) refl refl refl)
 
     lent-enough : (j : Job) → readJob job ≡ accepted j → (n : ℕ) → bufferRefusal j words room ≡ n
-        → Fair placeShape room (elim n as (λ m. Outcome) [
-          | zero ↦ placeAnswer j (g .answer)
-          | suc m ↦ refusal 7 (suc m) 0
-        ])
+        → Fair placeShape room (placeOutcome (readJob job) words room (g .answer))
     lent-enough j r zero e =
-        answer j (accepted-sound job j r) (buffers j words room .enough e) (g .answer) (g .cheapest j r e)
-    lent-enough j r (suc n) e = short (suc n) (subst (λ m. (m ≡ 0) ⊎ (m ≡ 6) ⊎ (m ≡ 7)) e (buffers j words room .either))
-        (λ z. omega arith)
+        subst (Fair placeShape room) (sym (place-accepted job r words room (g .answer) e))
+        (answer j (accepted-sound job j r) (buffers j words room .enough e) (g .answer) (g .cheapest j r e))
+    lent-enough j r (suc n) e =
+        let z : bufferRefusal j words room ≡ 0 → ⊥ = λ y. omega arith in
+        subst (Fair placeShape room) (sym (place-buffers job r words room (g .answer) z))
+        (short (bufferRefusal j words room) (buffers j words room .either) z)
 
-    go : (r : Reading) → readJob job ≡ r → Fair placeShape room (placeOutcome r words room (g .answer))
-    go (refused n line) e = read-fair placeShape place-as-read room job n line e
+    go : (r : Reading) → readJob job ≡ r → Fair placeShape room (placeOutcome (readJob job) words room (g .answer))
+    go (refused n line) e =
+        subst (Fair placeShape room) (sym (place-refused job e (refused-some job e) words room (g .answer)))
+        (read-fair placeShape place-as-read room job n line e)
     go (accepted j) e = lent-enough j e (bufferRefusal j words room) refl
 
 pub place-demand1 : {job : Text} {returned : ℕ} {before end : Buffers} → Placed job returned before end

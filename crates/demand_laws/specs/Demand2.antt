@@ -13,10 +13,11 @@ use Rattle.definition.specs.Job.{Job, Reading, refused, accepted, readJob}
 use Rattle.definition.specs.Placement.{Placement, Printable, poses, readPlacement, textOf}
 use Rattle.definition.specs.Rules.{Legal, rules, Verdict, verdict}
 use Rattle.definition.specs.Moves.{Cheapest}
-use Rattle.definition.specs.Outcome.{Outcome, answered, refusal, score, scoreOutcome, scorePoses, scoreFields, numbers}
-use Rattle.definition.specs.Outcome.{placeOutcome, placeAnswer, bufferRefusal, Buffers, Placed, over, resultsOf}
+use Rattle.definition.specs.Outcome.{Outcome, answered, score, scoreAnswer, scoreFields, numbers, numberCount}
+use Rattle.definition.specs.Outcome.{placeAnswer, bufferRefusal, Buffers, Placed, over, resultsOf}
 use Rattle.definition.specs.Demands.{broken, Demand2, Demand2Of, OneText, Rescored, RescoredOf}
 use Rattle.definition_laws.specs.Agree.{verdict-legal}
+use Rattle.definition_laws.specs.Outcomes.{score-accepted, place-refused, place-buffers, place-accepted}
 use Rattle.definition_laws.specs.FirstBroken.{ruleIn, Broken, first-broken, none-broken}
 use Rattle.job_laws.specs.Refused.{job-refused}
 use Rattle.job_laws.specs.Whole.{accepted-sound}
@@ -28,11 +29,6 @@ use Rattle.demand_laws.specs.Demand1.{buffers}
 named : (j : Job) (P : Placement) → ¬ (verdict j P .rule ≡ 0) → Broken (rules j P) 0 (length (j .cells)) (verdict j P)
 unfolding verdict
 named j P z = first-broken (rules j P) 0 (length (j .cells)) z
-
-scored : (job placement : Text) (j : Job) (P : Placement) → readJob job ≡ accepted j
-    → readPlacement (length (j .cells)) placement ≡ poses P → score job placement ≡ scorePoses j (poses P)
-unfolding score
-scored job placement j P r e = ap (λ x. scoreOutcome x placement) r ∙ ap (scorePoses j) e
 
 module _ (j : Job) (P : Placement) (n : length P ≡ length (j .cells)) where
   abbrev v : Verdict
@@ -57,7 +53,7 @@ module _ (j : Job) (P : Placement) (n : length P ≡ length (j .cells)) where
     no-lower k h g =
         ap (λ i. ruleIn (rules j P) i (k - 1)) rule-at ∙ b .lower (k - 1) (let e = b .cell-is in omega arith)
 
-  pub judged : Demand2 j P (scorePoses j (poses P))
+  pub judged : Demand2 j P (scoreAnswer j P)
   unfolding scoreFields
   judged = record {
     rule = v .rule;
@@ -83,7 +79,7 @@ module _ (j : Job) (P : Placement) (n : length P ≡ length (j .cells)) where
 pub score-demand2 : (job placement : Text) → Demand2Of job placement
 score-demand2 job placement j r P e =
     let p = read-prints (length (j .cells)) placement P e in
-    subst (Demand2 j P) (sym (scored job placement j P r e)) (judged j P (p .count))
+    subst (Demand2 j P) (sym (score-accepted job r placement e)) (judged j P (p .count))
 
 pub texts : OneText
 texts = record {
@@ -107,14 +103,13 @@ module _ (job : Text) (j : Job) (r : readJob job ≡ accepted j) (P : Placement)
   pub rescored : score job (textOf P) ≡ answered (pos 0 ∷ pos 0 ∷ numbers j P)
   unfolding scoreFields
   rescored =
-      scored job (textOf P) j P r read-back
-      ∙ ap₂ (λ (x y : ℕ). answered (pos x ∷ pos y ∷ cond (eqb x 0) (numbers j P) (replicate 6 (pos 0)))) fine
+      score-accepted job r (textOf P) read-back
+      ∙ ap₂ (λ (x y : ℕ). answered (pos x ∷ pos y ∷ cond (eqb x 0) (numbers j P) (replicate numberCount (pos 0)))) fine
       (no-cell j P (l .each) fine)
 
 pub place-rescored : {job : Text} {returned : ℕ} {before end : Buffers} → Placed job returned before end
     → RescoredOf job returned before end
-unfolding placeOutcome
-place-rescored {job} {returned} {before} {end} p z = go (readJob job) refl (p .gives .outcome)
+place-rescored {job} {returned} {before} {end} p z = go (readJob job) refl
   where
     words : ℕ
     words = length (before .store)
@@ -143,14 +138,18 @@ place-rescored {job} {returned} {before} {end} p z = go (readJob job) refl (p .g
         }
 
     lent-enough : (j : Job) → readJob job ≡ accepted j → (n : ℕ) → bufferRefusal j words room ≡ n
-        → o ≡ (elim n as (λ m. Outcome) [
-          | zero ↦ placeAnswer j (p .gives .answer)
-          | suc m ↦ refusal 7 (suc m) 0
-        ]) → Rescored job before end
-    lent-enough j r zero b e = answer j r b (p .gives .answer) (p .gives .cheapest j r b) e
-    lent-enough j r (suc n) b e = absurd (let q = ap (λ x. x .number) e in omega (arith, number))
+        → Rescored job before end
+    lent-enough j r zero b =
+        answer j r b (p .gives .answer) (p .gives .cheapest j r b)
+        (p .gives .outcome ∙ place-accepted job r words room (p .gives .answer) b)
+    lent-enough j r (suc n) b =
+        let z : bufferRefusal j words room ≡ 0 → ⊥ = λ y. omega arith in
+        let e = p .gives .outcome ∙ place-buffers job r words room (p .gives .answer) z in
+        absurd (let q = ap (λ x. x .number) e in omega (arith, number))
 
-    go : (x : Reading) → readJob job ≡ x → o ≡ placeOutcome x words room (p .gives .answer) → Rescored job before end
-    go (refused n line) r e =
-        absurd (let q = ap (λ x. x .number) e in omega (arith, number, job-refused job n line r .some))
-    go (accepted j) r e = lent-enough j r (bufferRefusal j words room) refl e
+    go : (x : Reading) → readJob job ≡ x → Rescored job before end
+    go (refused n line) r =
+        let s = job-refused job n line r .some in
+        let e = p .gives .outcome ∙ place-refused job r (λ y. omega arith) words room (p .gives .answer) in
+        absurd (let q = ap (λ x. x .number) e in omega (arith, number))
+    go (accepted j) r = lent-enough j r (bufferRefusal j words room) refl

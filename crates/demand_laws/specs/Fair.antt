@@ -7,7 +7,7 @@ use native.Mathlib.Omega.{arith}
 use lib.ListN.{length, replicate, length-replicate}
 use lib.Dec.{ltb}
 use lib.IntN.{pos}
-use Rattle.definition.specs.Outcome.{Outcome, refusal, Buffers, Met}
+use Rattle.definition.specs.Outcome.{Outcome, Refusal, refusedBy, Buffers, Met}
 use Rattle.definition.specs.Demands.{isOneOf, Shape, Demand1}
 
 pub record Fair (shape : Shape) (room : ℕ) (o : Outcome) : Type 0 where
@@ -40,10 +40,10 @@ fair-demand1 {shape} {o} {returned} {before} {end} f m =
     }
 
 -- a refusal of the operation's own that comes before a search
-pub refusal-fair : (shape : Shape) (room n line : ℕ) → isOneOf (0 ∷ shape .refusals) n ≡ true
-    → isOneOf (shape .lined) n ≡ ltb 0 line → isOneOf (shape .searched) n ≡ false
-    → Fair shape room (refusal (shape .fieldCount) n line)
-refusal-fair shape room n line a b c = record {
+pub refusal-fair : (shape : Shape) (room : ℕ) (r : Refusal) → isOneOf (0 ∷ shape .refusals) (r .number) ≡ true
+    → isOneOf (shape .lined) (r .number) ≡ ltb 0 (r .line) → isOneOf (shape .searched) (r .number) ≡ false
+    → Fair shape room (refusedBy (shape .fieldCount) r)
+refusal-fair shape room r a b c = record {
   numbered = a;
   located = b;
   counted = simp length-replicate;
