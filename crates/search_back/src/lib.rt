@@ -1,6 +1,6 @@
 // The trace: from the last case table's one case back over the back pointers, both rows traced stage by stage.
 ghost use mathlib.Core.Path.{_≡_};
-ghost use Prim.Native.Nat.{suc, _+_, _≤_, _<_};
+ghost use Prim.Native.Nat.{suc, _+_, _<_};
 ghost use Rattle.search_join.specs.Tables.{pointersIn};
 ghost use Rattle.search_back.specs.Trace.{PointerRoom, LegGiven, Trace, RowsLeg, RowsTrace};
 ghost use Rattle.search_back.specs.Scatter.{Given, Scattered};

@@ -1,6 +1,6 @@
 -- Laws of loops that keep the least: one round more, where the least is, the least of costs that are equal below B; and
 -- when a number is the least of all ways to a case.
-use Prim.Native.Nat.{ℕ, zero, suc, _+_, _/_, _%_, _≤_, _<_, min}
+use Prim.Native.Nat.{ℕ, zero, suc, _+_, _≤_, _<_, min}
 use mathlib.Core.Path.{_≡_, refl, sym, _∙_}
 use mathlib.Core.Logic.{⊎-elim}
 use native.Mathlib.Omega.{arith}
