@@ -13,7 +13,7 @@ use Rattle.definition.specs.Texts.{Text}
 use Rattle.definition.specs.Job.{Job, readJob, accepted}
 use Rattle.definition.specs.Placement.{Placement, Printable, poses, readPlacement, textOf}
 use Rattle.definition.specs.Rules.{poseAt, Legal, rules}
-use Rattle.definition.specs.Outcome.{Outcome, numbers, numberCount, score, Buffers, over}
+use Rattle.definition.specs.Outcome.{Outcome, numbers, numberCount, score, Buffers, lent, over}
 use Rattle.definition.specs.Outcome.{readFieldCount, scoreFieldCount, placeFieldCount}
 
 -- ---- Demand 1: "the call ends, stays within [its buffers], and answers or gives a numbered refusal with its line"
@@ -77,6 +77,10 @@ pub record Demand1 (shape : Shape) (returned : ℕ) (before end : Buffers) : Typ
   -- "the store is untouched, or all zero if a search was made"
   pub stored : end .store
       ≡ cond (isOneOf (shape .searched) returned) (replicate (length (before .store)) 0) (before .store)
+
+-- an operation that is lent results alone
+abbrev pub alone : List ℤ → Buffers
+alone results = lent [] [] results
 
 -- Fault line has no fields of its own: Score's number is returned, and three numbers say where its line is.
 pub record FaultDemand1 (returned : ℕ) (part part′ : List ℕ) : Type 0 where

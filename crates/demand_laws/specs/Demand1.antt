@@ -17,9 +17,9 @@ use Rattle.definition.specs.Rules.{Verdict, verdict}
 use Rattle.definition.specs.Moves.{Cheapest}
 use Rattle.definition.specs.Outcome.{Outcome, noLine, refusedBy, read, score, scoreFields, numbers, numberCount}
 use Rattle.definition.specs.Outcome.{placeOutcome, placeAnswer, placeFieldCount, PlaceGives, bufferRefusal}
-use Rattle.definition.specs.Outcome.{storeNeeded, outputNeeded, Told, Buffers, lent, Placed, over}
+use Rattle.definition.specs.Outcome.{storeNeeded, outputNeeded, Told, Buffers, Placed, over}
 use Rattle.definition.specs.FaultLine.{ToldFault, Part, ofJob, ofPlacement, wordsOf, faultLine}
-use Rattle.definition.specs.Demands.{isOneOf, Shape, readShape, scoreShape, placeShape, Demand1, FaultDemand1}
+use Rattle.definition.specs.Demands.{isOneOf, Shape, readShape, scoreShape, placeShape, alone, Demand1, FaultDemand1}
 use Rattle.definition_laws.specs.Sound.{Sound}
 use Rattle.definition_laws.specs.Outcomes.{read-refused, read-accepted, score-refused, score-fault, score-accepted}
 use Rattle.definition_laws.specs.Outcomes.{place-refused, place-buffers, place-accepted}
@@ -131,10 +131,6 @@ score-keeps job placement = go (readJob job) refl
         subst (Fair scoreShape 0) (sym (score-refused job e (refused-some job e) placement))
         (read-fair scoreShape score-as-read 0 job n line e)
     go (accepted j) e = posed j e (readPlacement (length (j .cells)) placement) refl
-
--- an operation that is lent results alone
-abbrev alone : List ℤ → Buffers
-alone results = lent [] [] results
 
 told-demand1 : {shape : Shape} {o : Outcome} {returned : ℕ} {results results′ : List ℤ} → shape .searched ≡ []
     → Fair shape 0 o → Told o returned results results′ → Demand1 shape returned (alone results) (alone results′)

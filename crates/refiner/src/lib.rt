@@ -1,5 +1,6 @@
 // The exported C functions, each over slices that are passed as address and length.
 ghost use Rattle.definition.specs.Outcome.{read, score, Told, lent, Placed, Demand3Of};
+ghost use Rattle.definition.specs.Demands.{readShape, scoreShape, placeShape, alone, Demand1, FaultDemand1};
 ghost use Rattle.definition.specs.FaultLine.{ToldFault};
 use job_read::read_job;
 use op_fault::tell_fault;
@@ -16,6 +17,7 @@ const READ_FIELDS: usize = 1;
 #[no_mangle]
 pub extern "C" fn refiner_read(job: &[u8], results: &mut [i32]) -> u32
     ensures { λ r. ⌜ Told (read (now (job .entry))) r (now (results .entry)) (now (results .exit)) ⌝ }
+    ensures { λ r. ⌜ Demand1 readShape r (alone (now (results .entry))) (alone (now (results .exit))) ⌝ }
 {
     let r = read_job(job);
     let refusal = r.refusal;
@@ -36,6 +38,7 @@ pub extern "C" fn refiner_read(job: &[u8], results: &mut [i32]) -> u32
 pub extern "C" fn refiner_score(job: &[u8], placement: &[u8], results: &mut [i32]) -> u32
     ensures { λ r. ⌜ Told (score (now (job .entry)) (now (placement .entry))) r
         (now (results .entry)) (now (results .exit)) ⌝ }
+    ensures { λ r. ⌜ Demand1 scoreShape r (alone (now (results .entry))) (alone (now (results .exit))) ⌝ }
 {
     let s = score_texts(job, placement);
     let refusal = s.refusal;
@@ -50,6 +53,7 @@ pub extern "C" fn refiner_score(job: &[u8], placement: &[u8], results: &mut [i32
 pub extern "C" fn refiner_fault(job: &[u8], placement: &[u8], part: &mut [u64]) -> u32
     ensures { λ r. ⌜ ToldFault (now (job .entry)) (now (placement .entry)) r
         (now (part .entry)) (now (part .exit)) ⌝ }
+    ensures { λ r. ⌜ FaultDemand1 r (now (part .entry)) (now (part .exit)) ⌝ }
 {
     tell_fault(job, placement, part)
 }
@@ -64,6 +68,9 @@ pub extern "C" fn refiner_place(
     results: &mut [i32],
 ) -> u32
     ensures { λ r. ⌜ Placed (now (job .entry)) r
+        (lent (now (store .entry)) (now (output .entry)) (now (results .entry)))
+        (lent (now (store .exit)) (now (output .exit)) (now (results .exit))) ⌝ }
+    ensures { λ r. ⌜ Demand1 placeShape r
         (lent (now (store .entry)) (now (output .entry)) (now (results .entry)))
         (lent (now (store .exit)) (now (output .exit)) (now (results .exit))) ⌝ }
     ensures { λ r. ⌜ Demand3Of (now (job .entry)) r

@@ -4,7 +4,7 @@ use std::array;
 use std::fmt::Debug;
 
 /// The longest array that is tried: more than any operation's number, line and fields.
-pub const LONGEST: usize = 12;
+pub const LONGEST: usize = 14;
 
 /// Lends arrays of each length in turn, filled with a pattern beforehand.
 pub struct Arrays {

@@ -7,7 +7,11 @@ use mir.Val.{toZ}
 use mir.Facts.{toZ-pos}
 use mathlib.Core.Path.{_≡_, sym, ap, _∙_}
 use native.Mathlib.Omega.{arith}
-use Rattle.definition.specs.Outcome.{Outcome, over, resultsOf}
+use Prim.Native.Nat.{ℕ}
+use Rattle.definition.specs.Texts.{Text}
+use Rattle.definition.specs.Outcome.{Outcome, read, Told, over, resultsOf}
+use Rattle.definition.specs.Demands.{readShape, alone, Demand1}
+use Rattle.demand_laws.specs.Demand1.{read-demand1}
 use Rattle.definition_laws.specs.Outcomes.{read-refused, read-accepted}
 use Rattle.job.specs.Value.{jobOf}
 use Rattle.job_read.specs.Reads.{reads-accepted, reads-refused}
@@ -16,6 +20,11 @@ use Rattle.results.specs.Fields.{listOf}
 use borrow.Author.Needs.{needs}
 use Rattle.refiner.proofs.refiner_read.Statement.{statement}
 use Rattle.refiner.proofs.refiner_read.Tie as tie
+
+-- and so demand 1
+kept : (job : Text) {returned : ℕ} {results results′ : List ℤ} → Told (read job) returned results results′
+    → Told (read job) returned results results′ × Demand1 readShape returned (alone results) (alone results′)
+kept job t = (t, read-demand1 job t)
 
 read-job-requires : tie.Need-read-job-requires
 read-job-requires c κs = search needs
@@ -41,13 +50,13 @@ returns c =
     let d = t .if1 .taken in
     let q = r .read-job .result .refusal in
     let e = read-refused (a .job .now) (reads-refused (r .read-job .ensures) d) d in
-    record {
+    kept (a .job .now) (record {
       number = ap (λ (o : Outcome). o .number) (sym e);
       array =
           p .put-results .ensures
           ∙ ap (λ (l : List ℤ). over (pos (q .number) ∷ pos (q .line) ∷ l) (a .results .now)) (z .zeros .ensures .0)
           ∙ ap (λ (o : Outcome). over (resultsOf o) (a .results .now)) (sym e);
-    }
+    })
 
 empty-requires : tie.Need-empty-requires
 empty-requires c κs = search needs
@@ -87,7 +96,7 @@ returns-2 c =
     let many : length (jobOf (r .read-job .result .job) .cells) ≡ r .read-job .result .job .count = g .many in
     let e = read-accepted (a .job .now) (reads-accepted (r .read-job .ensures) z) in
     let told : List ℤ → List ℤ = λ fields. over (pos 0 ∷ pos 0 ∷ fields) (a .results .now) in
-    record {
+    kept (a .job .now) (record {
       number = ap (λ (o : Outcome). o .number) (sym e);
       array =
           w .put-results2 .ensures
@@ -96,7 +105,7 @@ returns-2 c =
           ∙ ap (λ (f : List ℤ). told (f ++ (toZ w32 (r .read-job .result .job .count) ∷ []))) (m .empty .ensures .0)
           ∙ ap (λ (v : ℤ). told (v ∷ [])) (toZ-pos w32 (omega (arith, g .few)) ∙ ap pos (sym many))
           ∙ ap (λ (o : Outcome). over (resultsOf o) (a .results .now)) (sym e);
-    }
+    })
 
 pub refiner-read-spec : {M : Type 1} → statement M
 refiner-read-spec =

@@ -2,10 +2,20 @@
 use mathlib.Core.List.{List}
 use lib.IntN.{ℤ}
 use mathlib.Core.Path.{ap, _∙_}
-use Rattle.definition.specs.Outcome.{over}
+use Prim.Native.Nat.{ℕ}
+use Rattle.definition.specs.Texts.{Text}
+use Rattle.definition.specs.Outcome.{score, Told, over}
+use Rattle.definition.specs.Demands.{scoreShape, alone, Demand1}
+use Rattle.demand_laws.specs.Demand1.{score-demand1}
 use borrow.Author.Needs.{needs}
 use Rattle.refiner.proofs.refiner_score.Statement.{statement}
 use Rattle.refiner.proofs.refiner_score.Tie as tie
+
+-- and so demand 1
+kept : (job placement : Text) {returned : ℕ} {results results′ : List ℤ}
+    → Told (score job placement) returned results results′
+    → Told (score job placement) returned results results′ × Demand1 scoreShape returned (alone results) (alone results′)
+kept job placement t = (t, score-demand1 job placement t)
 
 score-texts-requires : tie.Need-score-texts-requires
 score-texts-requires c κs = search needs
@@ -22,10 +32,10 @@ returns c =
     let m = w .before .before .before .before in
     let a = m .before .before .before .args in
     let s = m .score-texts .ensures in
-    record {
+    kept (a .job .now) (a .placement .now) (record {
       number = s .number;
       array = w .put-results .ensures ∙ ap (λ (l : List ℤ). over l (a .results .now)) (rw (s .number, s .line, s .fields .list));
-    }
+    })
 
 pub refiner-score-spec : {M : Type 1} → statement M
 refiner-score-spec =

@@ -20,7 +20,7 @@ loop-holds : tie.Need-loop-holds Inv-loop μ-loop
 loop-holds c =
     let s = c .before .before in
     marking-none (unofferedIn (s .args .rule) (jobOf (s .args .t2)) (placementOf (s .args .t3))) (s .args .t2 .count)
-    (s .args .marks .now) (s .pre .0 .few) (s .pre .1)
+    (s .args .marks .now) (s .pre .0 .accepted .few) (s .pre .1)
 
 sub-k : tie.Need-sub-k Inv-loop μ-loop
 sub-k c = omega arith

@@ -38,7 +38,7 @@ order-row-requires c κs =
     let far = c .before .before .before in
     let choice = far .before .before .before in
     let f = choice .before .before .before in
-    let s = f .before .before .before in (s .pre .0 .few, f .flatten .ensures .long, zeros-room)
+    let s = f .before .before .before in (s .pre .0 .accepted .few, f .flatten .ensures .long, zeros-room)
 
 slice-aggregate-order-row-3 : tie.Need-slice-aggregate-order-row-3
 slice-aggregate-order-row-3 c = search needs
@@ -52,7 +52,7 @@ order-row-requires-2 c κs =
     let far = row .before .before .before in
     let choice = far .before .before .before in
     let f = choice .before .before .before in
-    let s = f .before .before .before in (s .pre .0 .few, f .flatten .ensures .long, zeros-room)
+    let s = f .before .before .before in (s .pre .0 .accepted .few, f .flatten .ensures .long, zeros-room)
 
 slice-aggregate-judge-rules : tie.Need-slice-aggregate-judge-rules
 slice-aggregate-judge-rules c = search needs
@@ -82,7 +82,7 @@ judge-rules-requires c κs =
         offers = choice .mark-unoffered .ensures .long;
         shifts = far .mark-unoffered2 .ensures .long;
         ordered = record {
-          cells = record { few = s .pre .0 .few; long = f .flatten .ensures .long };
+          cells = record { few = s .pre .0 .accepted .few; long = f .flatten .ensures .long };
           row0 = one .order-row .ensures;
           row1 = two .order-row2 .ensures;
         };
