@@ -4,6 +4,7 @@ pub mod Agree
 pub mod FirstBroken
 pub mod Search
 pub mod Outcomes
+pub mod Over
 pub mod PlaceClaim
 pub mod EdgesHold
 pub mod AtWork

@@ -9,7 +9,7 @@ use lib.Seq.{getD-take}
 use lib.Dec.{leb, eqb}
 use Rattle.lists.specs.Compare.{Le?, low, high, le?}
 use Rattle.definition.specs.Job as paper
-use Rattle.definition.specs.Rules.{noLayout, Offer, offerOf}
+use Rattle.definition.specs.Rules.{noLayout, offerOf}
 use Rattle.definition_laws.specs.Sound.{SoundCell}
 use Rattle.job.specs.declared.Cell.{Cell}
 use Rattle.job.specs.declared.Header.{Header}

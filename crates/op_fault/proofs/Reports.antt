@@ -5,7 +5,7 @@ use lib.ListN.{length}
 use Rattle.definition.specs.Texts.{Text}
 use Rattle.definition.specs.Job.{readJob}
 use Rattle.definition.specs.Placement.{Poses, readPlacement}
-use Rattle.definition.specs.Outcome.{Outcome, score}
+use Rattle.definition.specs.Outcome.{Outcome}
 use Rattle.definition_laws.specs.Outcomes.{score-refused, score-fault, score-accepted}
 use Rattle.job.specs.Value.{jobOf}
 use Rattle.job_read.specs.Reads.{Reads, reads-accepted, reads-refused}

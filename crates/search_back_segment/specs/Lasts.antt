@@ -10,7 +10,6 @@ use Rattle.lists.specs.Numbers.{from}
 use Rattle.theory_pair.specs.Coded.{lowest}
 use Rattle.theory_tables.specs.Lowest.{loop-member, loop-above}
 use Rattle.theory_tables.specs.Steps.{B, Deck, Layer, stateCount, lastAt, isThere, ends}
-use Rattle.search_buckets.specs.Loops.{lowest-ext}
 use Rattle.search_back_segment.specs.Traces.{LeastOf, lastPays, lastOf, lastCode, LastFound}
 
 module _ (D : Deck) (R : ℕ) (f : Layer) where

@@ -1,23 +1,23 @@
 -- What is found in the buckets is the least by way of every source: for one source by the law of its toll, and a bucket
 -- of the lowest of many sources finds the lowest of what each finds.
-use Prim.Native.Nat.{ℕ, zero, suc, _+_, _*_, _-_, _/_, _%_, _≤_, _<_, min}
+use Prim.Native.Nat.{ℕ, suc, _+_, _*_, _-_, _/_, _%_, _≤_, _<_, min}
 use mathlib.Core.Path.{_≡_, refl, sym, ap, ap₂, _∙_}
 use mathlib.Core.Logic.{_≢_}
 use mathlib.Core.Bool.{Bool, true, false, cond}
-use mathlib.Core.List.{List, [], _∷_, List·Memᴰ as In, List·Memᴰ·head as here, List·Memᴰ·tail as there}
+use mathlib.Core.List.{List, List·Memᴰ as In, List·Memᴰ·tail as there}
 use native.Mathlib.Omega.{arith}
 use native.Mathlib.Decide.{ℕ-discrete, decLt}
 use borrow.Author.Tests.{lt-ltb, le-ltb}
-use lib.Dec.{leb, ltb, eqb}
-use Rattle.lists.specs.Compare.{Le?, low, high, le?, Eq?, same, differs, eq?}
-use Rattle.lists.specs.Numbers.{from, in-from, from-in}
+use lib.Dec.{ltb, eqb}
+use Rattle.lists.specs.Compare.{Eq?, same, differs, eq?}
+use Rattle.lists.specs.Numbers.{from, in-from}
 use Rattle.theory_pair.specs.Coded.{lowest, lowest-low}
-use Rattle.theory_tables.specs.Steps.{B, Deck, Layer, stateCount, lastAt, isSource, via, reached}
+use Rattle.theory_tables.specs.Steps.{B, Layer, stateCount, lastAt, isSource, via, reached}
 use Rattle.theory_tables.specs.Lowest.{lowest-member, lowest-above, loop-member, loop-above}
-use Rattle.search_row.specs.Words.{wordOf, variant, siteIn, endIn, differIn, weightIn, tollAt}
+use Rattle.search_row.specs.Words.{wordOf, variant, endIn, differIn, weightIn, tollAt}
 use Rattle.search_row.specs.Words.{tollIn, deckOf, RowWords, apartWord, givenWord, touchingWord}
 use Rattle.search_row.specs.Laws.{differ-low, pay-low}
-use Rattle.search_buckets.specs.Loops.{lowest-cap, lowest-same, lowest-min, lowest-swap, lowest-none, lowest-more}
+use Rattle.search_buckets.specs.Loops.{lowest-cap, lowest-same, lowest-min, lowest-swap}
 use Rattle.search_buckets.specs.Gaps.{paying, paying-low, Toll, pays, free, barred, toll?}
 use Rattle.search_buckets.specs.Rows.{inRow, bucketIn, found, endRow, payIn, onePose, byPoses, oneState, byStates}
 

@@ -1,5 +1,5 @@
 -- Laws of what sources pay, as words, and of the buckets of many sources, one more at a time.
-use Prim.Native.Nat.{ℕ, zero, suc, _+_, _*_, _-_, _/_, _%_, _≤_, _<_, min}
+use Prim.Native.Nat.{ℕ, suc, _+_, _*_, _-_, _/_, _%_, _≤_, _<_, min}
 use mathlib.Core.Path.{_≡_, refl, sym, ap, ap₂, _∙_}
 use mathlib.Core.Logic.{_⊎_, inl, inr}
 use mathlib.Core.Bool.{Bool, true, false, cond}
@@ -13,7 +13,7 @@ use Rattle.theory_tables.specs.Steps.{B, Deck, Layer, lastAt, isSource}
 use Rattle.theory_tables.specs.Lowest.{loop-above}
 use Rattle.lists.specs.Compare.{Eq?, same, differs, eq?}
 use Rattle.lists.specs.Numbers.{from}
-use Rattle.theory_pair.specs.Coded.{lowest, lowest-low}
+use Rattle.theory_pair.specs.Coded.{lowest-low}
 use Rattle.search_row.specs.Words.{wordOf, RowWords, apartWord, touchingWord}
 use Rattle.search_buckets.specs.Loops.{lowest-none, lowest-more, lowest-ext}
 use Rattle.search_buckets.specs.Rows.{inRow, bucketsIn, endRow, payIn, Pays}

@@ -2,7 +2,7 @@
 // pays in each bucket, and which buckets are needed. Bucket 0 has the sources by themselves, buckets 1 to 4 with what
 // they pay at gap 0 to each variant of the target, buckets 5 to 8 with what they pay at the other gaps that pay.
 ghost use mathlib.Core.Path.{_≡_};
-ghost use Prim.Native.Nat.{ℕ, _+_, _*_, _≤_, _<_};
+ghost use Prim.Native.Nat.{_+_, _*_, _≤_, _<_};
 ghost use lib.ListN.{length};
 ghost use Rattle.search_row.specs.Words.{RowWords};
 ghost use Rattle.search_buckets.specs.Rows.{rowsOf, bucketsIn, endRow, payIn, Pays};

@@ -6,7 +6,7 @@ use mathlib.Core.List.{List}
 use native.Mathlib.Omega.{arith}
 use native.Mathlib.Decide.{decLt}
 use lib.ListN.{getD}
-use Rattle.search_store.specs.Map.{caseAt, Slot}
+use Rattle.search_store.specs.Map.{caseAt}
 use Rattle.theory_tables.specs.Steps.{B}
 use Rattle.search_lanes.specs.Lanes.{always}
 use Rattle.search_lanes.specs.Store.{Low, Written}

@@ -1,6 +1,6 @@
 -- Laws of stores and of lanes: what one write keeps, what a loop that writes one word after the other has written.
 use Prim.Native.Nat.{ℕ, _+_, _*_, _≤_, _<_, min}
-use mathlib.Core.Path.{_≡_, refl, sym, ap, _∙_}
+use mathlib.Core.Path.{_≡_, refl, sym, _∙_}
 use mathlib.Core.List.{List}
 use native.Mathlib.Omega.{arith}
 use native.Mathlib.Decide.{ℕ-discrete, decLt}
@@ -9,7 +9,7 @@ use lib.ListN.{length, getD, set, length-set, replicate, length-replicate, getD-
 use lib.Seq.{getD-set-same, getD-set-other}
 use Rattle.search_store.specs.Map.{layerBlock, stateBlock}
 use Rattle.theory_tables.specs.Steps.{B, Layer}
-use Rattle.search_lanes.specs.Lanes.{Lowered, always}
+use Rattle.search_lanes.specs.Lanes.{Lowered}
 use Rattle.search_lanes.specs.Store.{Frame, Low, Written, WrittenRows, layerIn, FilledState, Filled}
 
 -- ---- lanes

@@ -5,7 +5,7 @@ use mathlib.Core.Bool.{Bool, true, false, cond}
 use native.Mathlib.Nat.{add-assoc}
 use native.Mathlib.Omega.{arith}
 use borrow.Author.Tests.{lt-ltb, le-ltb, ne-eqb}
-use lib.Dec.{ltb, eqb, lit≤}
+use lib.Dec.{eqb, lit≤}
 use Rattle.definition.specs.Job.{Job, isTall}
 use Rattle.definition.specs.Rules.{cellAt}
 use Rattle.definition.specs.Cost.{firstHeight}

@@ -3,7 +3,7 @@ mod row;
 
 ghost use mathlib.Core.Path.{_≡_};
 ghost use mathlib.Core.Bool.{false};
-ghost use Prim.Native.Nat.{suc, _≤_, _<_};
+ghost use Prim.Native.Nat.{_≤_, _<_};
 ghost use Rattle.search_wide_buckets.specs.Table.{Lent};
 ghost use Rattle.search_join.specs.Tables.{Table};
 ghost use Rattle.search_stage.specs.Stage.{wide, widthOf, fromAt, Dead};

@@ -17,7 +17,7 @@ use Rattle.theory_pair.specs.Forward.{each}
 use Rattle.theory_tables.specs.Steps.{mayBeLast, pairsOf, stateCount, offset, marks, marksBefore, before}
 use Rattle.theory_tables.specs.States.{state-at, count-0, count-1, count-2}
 use Rattle.search_lanes.specs.Store.{Frame, Low}
-use Rattle.search_lanes.specs.Laws.{frame-refl, frame-set, low-set}
+use Rattle.search_lanes.specs.Laws.{frame-set, low-set}
 use Rattle.search_row.specs.Words.{stateAt, StateWords, rowLength, statesEnd, statesFrom}
 use Rattle.search_states.specs.Rest.{rest, rest-none, rest-more, rest-all, next, done}
 

@@ -1,12 +1,12 @@
 -- Laws of the store's map: different words stand in different places, and above the layers.
 use Prim.Native.Nat.{ℕ, _+_, _*_, _≤_, _<_}
 use mathlib.Core.Path.{_≡_}
-use mathlib.Core.Logic.{_⊎_, inl, inr}
+use mathlib.Core.Logic.{inl, inr}
 use mathlib.Core.List.{List}
 use native.Mathlib.Omega.{arith}
 use native.Mathlib.Decide.{decLt}
 use lib.ListN.{length}
-use Rattle.search_store.specs.Map.{stateBlock, layerBlock, pagesFrom, costsAt}
+use Rattle.search_store.specs.Map.{stateBlock, pagesFrom, costsAt}
 use Rattle.search_store.specs.Map.{caseAt, pointerAt, Pages, Slot, OutsideCosts}
 
 -- ---- the words of a case

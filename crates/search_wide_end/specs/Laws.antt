@@ -1,16 +1,13 @@
 -- Laws of the row's end: one turn more of each loop, and that only the entries of the first layer count.
-use Prim.Native.Nat.{ℕ, suc, _+_, _-_, _≤_, _<_, min}
-use mathlib.Core.Path.{_≡_, refl, sym, ap, _∙_}
-use mathlib.Core.Bool.{true, false, not, _&&_, cond}
+use Prim.Native.Nat.{ℕ, suc, _+_, _-_, _≤_, _<_}
+use mathlib.Core.Path.{_≡_, sym, ap, _∙_}
+use mathlib.Core.Bool.{true, cond}
 use mathlib.Core.List.{List}
 use native.Mathlib.Omega.{arith}
-use borrow.Author.Tests.{le-leb, lt-leb, eq-eqb, ne-eqb}
 use lib.ListN.{getD}
 use lib.Dec.{leb, eqb}
 use Rattle.search_store.specs.Map.{keptFrom, layerBlock}
-use Rattle.lists.specs.Numbers.{from}
-use Rattle.theory_pair.specs.Coded.{lowest-low}
-use Rattle.theory_tables.specs.Steps.{B, Deck, Layer, stateCount, lastAt, isThere, layers, ends, costEnd}
+use Rattle.theory_tables.specs.Steps.{B, Deck, Layer, stateCount, lastAt, layers, ends, costEnd}
 use Rattle.theory_tables.specs.Spots.{and-both}
 use Rattle.search_lanes.specs.Store.{Written, layerIn, Filled}
 use Rattle.search_lanes.specs.Laws.{frame-join}
@@ -18,7 +15,6 @@ use Rattle.search_row.specs.Words.{thereIn}
 use Rattle.search_row.specs.Laws.{there-size}
 use Rattle.search_wide_layer.specs.Loops.{nextFrom}
 use Rattle.search_buckets.specs.Ends.{cost-run}
-use Rattle.search_buckets.specs.Loops.{lowest-ext}
 use Rattle.search_wide_segment.specs.Runs.{Running}
 use Rattle.search_buckets.specs.Next.{layers-ext, ends-ext}
 use Rattle.search_wide_segment.specs.Laws.{buffer-low, run-more, outside-costs}

@@ -1,6 +1,6 @@
 // A segment to the row's end, from its first layer, in block 0; all lanes at once.
 ghost use mathlib.Core.Path.{_≡_};
-ghost use Prim.Native.Nat.{ℕ, suc, _+_, _*_, _-_, _≤_, _<_};
+ghost use Prim.Native.Nat.{_+_, _*_, _-_, _≤_, _<_};
 ghost use lib.ListN.{length};
 ghost use Rattle.search_store.specs.Map.{keptFrom, layerBlock};
 ghost use Rattle.theory_tables.specs.Steps.{stateCount};

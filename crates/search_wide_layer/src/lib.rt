@@ -3,8 +3,8 @@
 // and each of its poses looks up what it needs.
 ghost use mathlib.Core.Path.{_≡_};
 ghost use mathlib.Core.Bool.{true, false};
-ghost use Prim.Native.Nat.{ℕ, suc, _+_, _*_, _≤_, _<_};
-ghost use Rattle.theory_tables.specs.Steps.{stateCount, isSource};
+ghost use Prim.Native.Nat.{ℕ, _+_, _*_, _≤_, _<_};
+ghost use Rattle.theory_tables.specs.Steps.{isSource};
 ghost use Rattle.search_lanes.specs.Store.{FilledState, Filled};
 ghost use Rattle.search_row.specs.Words.{deckIn, Ground};
 ghost use Rattle.search_buckets.specs.Next.{Target};

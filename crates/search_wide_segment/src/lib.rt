@@ -1,8 +1,7 @@
 // A segment: from its first layer, in block 0, to a tall cell; all lanes at once. The layers run on
 // in the first two blocks of the store by turns; of the last one only the states that come to the tall cell
 // with it are computed, straight to the costs.
-ghost use Prim.Native.Nat.{ℕ, suc, _+_, _*_, _-_, _≤_, _<_};
-ghost use lib.ListN.{length};
+ghost use Prim.Native.Nat.{_+_, _*_, _-_, _≤_, _<_};
 ghost use Rattle.search_store.specs.Map.{layerBlock};
 ghost use Rattle.theory_tables.specs.Steps.{stateCount};
 ghost use Rattle.search_lanes.specs.Store.{FilledState, Filled};

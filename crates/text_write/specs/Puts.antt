@@ -6,7 +6,7 @@ use mathlib.Core.List.{List, [], _∷_, _++_}
 use native.Mathlib.Omega.{arith}
 use lib.ListN.{length, set, length-append}
 use Rattle.definition.specs.Outcome.{over}
-use Rattle.results.specs.Over.{length-over}
+use Rattle.definition_laws.specs.Over.{length-over}
 use Rattle.text_write.specs.Put.{put, Room, Wrote}
 
 -- ---- nothing

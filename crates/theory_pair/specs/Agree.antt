@@ -1,24 +1,21 @@
 -- Two rows of poses, one for each row, that agree on the tall cells: cut into stages, and joined from them.
-use mathlib.Core.Path.{_≡_, refl, sym, ap, ap₂, _∙_, subst}
-use mathlib.Core.Logic.{_≢_, _↔_, _⊎_, inl, inr}
-use mathlib.Core.List.{List, [], _∷_, _++_, List·Memᴰ as In, List·Memᴰ·head as here, List·Memᴰ·tail as there}
-use mathlib.Core.Option.{Option, none, some}
-use Prim.Native.Nat.{ℕ, zero, suc, _+_, _-_, _*_, _≤_, _<_}
+use mathlib.Core.Path.{_≡_, refl, sym, ap, _∙_, subst}
+use mathlib.Core.List.{List, List·Memᴰ as In}
+use Prim.Native.Nat.{ℕ, _+_, _-_, _<_}
 use native.Mathlib.Omega.{arith}
 use lib.ListN.{length, getD}
 use Rattle.lists.specs.Numbers.{from}
-use Rattle.lists.specs.Neighbours.{Pairs}
 use Rattle.theory_row.specs.Order.{order, order-below, order-all, order-size, Rising, rising-same}
-use Rattle.theory_row.specs.Window.{start, good-start}
+use Rattle.theory_row.specs.Window.{good-start}
 use Rattle.theory_row.specs.Choices.{cells, chosen, along, along-size, cells-size}
-use Rattle.theory_pair.specs.Segment.{Line, Choice, State, Goes, EndsWith, Done}
-use Rattle.theory_pair.specs.Segment.{first, last, cost, after, Move, after-size}
+use Rattle.theory_pair.specs.Segment.{Line, Choice, Goes, EndsWith, Done}
+use Rattle.theory_pair.specs.Segment.{first, last, cost, after, after-size}
 use Rattle.theory_pair.specs.Pick.{pick-in, in-pick, pick-pairs}
-use Rattle.theory_pair.specs.Whole.{siteIn, wideIn, rowTotal, Placed, Wide, placed-goes, placed-ends}
+use Rattle.theory_pair.specs.Whole.{siteIn, rowTotal, Placed, Wide, placed-goes, placed-ends}
 use Rattle.theory_pair.specs.Whole.{placed-cost, placed-rising, goes-placed, goes-along, talls}
 use Rattle.theory_pair.specs.Whole.{tallOf, talls-along, posts, picks, poses, poses-size, along-posts}
 use Rattle.theory_pair.specs.Whole.{posts-in, in-posts, posts-pairs, pairs-posts, picks-along}
-use Rattle.theory_pair.specs.Pair.{Talls, Case, Upto, Joined, Stages, ending, opening, stages-joined, stages-go}
+use Rattle.theory_pair.specs.Pair.{Talls, Upto, Stages, ending, opening, stages-joined, stages-go}
 
 -- ---- one row
 

@@ -1,6 +1,5 @@
 -- Costs as a program holds them: a number below the bound B, and B for none; sums stop at B.
-use mathlib.Core.Path.{_≡_, refl, sym, ap, ap₂, _∙_, subst}
-use mathlib.Core.Logic.{_↔_}
+use mathlib.Core.Path.{_≡_, refl, ap, _∙_}
 use mathlib.Core.List.{List, [], _∷_, _++_}
 use mathlib.Core.Option.{Option, none, some}
 use mathlib.Core.Bool.{Bool, true, false, cond}
@@ -10,7 +9,7 @@ use lib.Dec.{leb}
 use Rattle.lists.specs.Compare.{Le?, low, high, le?}
 use Rattle.lists.specs.Numbers.{from}
 use Rattle.theory_row.specs.Cheapest.{lower}
-use Rattle.theory_pair.specs.Forward.{each, add, costIf, leastOf, layer}
+use Rattle.theory_pair.specs.Forward.{each, add, leastOf, layer}
 use Rattle.theory_pair.specs.Pick.{pick}
 
 unfoldable pub coded : ℕ → Option ℕ → ℕ

@@ -1,11 +1,11 @@
 -- The cheapest trail, in general: from a source through layers of states, each layer a finite list, each step with a
 -- cost. The least costs are computed layer by layer, an entry from all entries of the layer before.
-use mathlib.Core.Path.{_≡_, refl, sym, ap, _∙_, subst}
-use mathlib.Core.Logic.{_≢_, _⊎_, inl, inr}
+use mathlib.Core.Path.{_≡_, refl, subst}
+use mathlib.Core.Logic.{_⊎_, inl, inr}
 use mathlib.Core.List.{List, [], _∷_, _++_, List·Memᴰ as In, List·Memᴰ·head as here}
 use mathlib.Core.List.{List·Memᴰ·tail as there, Memᴰ·append-left, Memᴰ·append-right, List·Memᴰ·append-cases}
 use mathlib.Core.Option.{Option, none, some}
-use Prim.Native.Nat.{ℕ, zero, suc, _+_, _≤_, _<_}
+use Prim.Native.Nat.{ℕ, zero, suc, _+_}
 use native.Mathlib.Omega.{arith}
 use Rattle.theory_row.specs.Cheapest.{lower, _⊑_, lower-left, lower-right, lower-met}
 

@@ -1,15 +1,15 @@
 -- The tables' entries as the loops that compute them, on coded costs: B for none, sums stop at B.
-use mathlib.Core.Path.{_≡_, refl, sym, ap, ap₂, _∙_, subst, fun-ext}
-use mathlib.Core.List.{List, [], _∷_, _++_}
+use mathlib.Core.Path.{_≡_, refl, ap, ap₂, _∙_}
+use mathlib.Core.List.{List, [], _∷_}
 use mathlib.Core.Option.{Option, none, some}
 use mathlib.Core.Bool.{Bool, true, false, cond}
-use Prim.Native.Nat.{ℕ, zero, suc, _+_, _-_, _*_, min, _≤_, _<_}
+use Prim.Native.Nat.{ℕ, zero, suc, _+_, _-_, _*_, min, _≤_}
 use native.Mathlib.Omega.{arith}
 use Rattle.lists.specs.Numbers.{from}
 use Rattle.theory_pair.specs.Forward.{each, add, layer, layer-source}
 use Rattle.theory_pair.specs.Pick.{goodMarks}
-use Rattle.theory_pair.specs.Coded.{coded, lowest, coded-layer, coded-add, lowest-each, lowest-low}
-use Rattle.theory_pair.specs.Segment.{Line, Choice, State, singles, ifSingle, Move, move, move-met, least}
+use Rattle.theory_pair.specs.Coded.{coded, lowest, coded-layer, coded-add, lowest-each}
+use Rattle.theory_pair.specs.Segment.{Line, State, singles, ifSingle, Move, move, move-met, least}
 use Rattle.theory_pair.specs.Pair.{Case, cases, spots, table, stageLeast, opening}
 
 lowest-one : {S : Type 0} (B : ℕ) (h : S → ℕ) (u : S) → h u ≤ B → lowest B h (u ∷ []) ≡ h u

@@ -1,19 +1,19 @@
 -- A row as a list of cells: the cells of the list, and their positions in it. What is
 -- said of the cells is said of the positions.
 use mathlib.Core.Path.{_≡_, refl, sym, ap, ap₂, _∙_, subst}
-use mathlib.Core.Logic.{_≢_, _↔_, _⊎_, inl, inr}
-use mathlib.Core.List.{List, [], _∷_, _++_, List·Memᴰ as In, List·Memᴰ·head as here, List·Memᴰ·tail as there, Memᴰ·cast}
+use mathlib.Core.Logic.{_≢_, _↔_, _⊎_}
+use mathlib.Core.List.{List, [], _∷_, List·Memᴰ as In, List·Memᴰ·head as here, List·Memᴰ·tail as there, Memᴰ·cast}
 use mathlib.Core.Bool.{Bool, true, false, cond}
 use Prim.Native.Nat.{ℕ, zero, suc, _+_, _≤_, _<_}
 use native.Mathlib.Omega.{arith}
 use lib.ListN.{length, getD}
 use lib.Dec.{leb, eqb}
 use Rattle.lists.specs.Compare.{Eq?, same, differs, eq?}
-use Rattle.lists.specs.Numbers.{from, in-from, from-in}
+use Rattle.lists.specs.Numbers.{from, in-from}
 use Rattle.lists.specs.Membership.{Distinct}
 use Rattle.lists.specs.Neighbours.{Pairs, Chain, Next}
-use Rattle.theory_row.specs.Order.{put, sort, order, place, order-below, order-all}
-use Rattle.theory_row.specs.Rules.{Clear, NoGapOne, Rule4, Rule5, Rule6, sum, sumNext, sumNeighbours}
+use Rattle.theory_row.specs.Order.{put, sort, order, place, order-below}
+use Rattle.theory_row.specs.Rules.{Clear, NoGapOne, sum, sumNext, sumNeighbours}
 use Rattle.theory_row.specs.Row.{Legal}
 use Rattle.theory_pair.specs.Ends.{lastFrom, Ended}
 

@@ -2,29 +2,25 @@
 -- go from case to case, over the single cells of either row; a legal pair of rows is cut into stages, and
 -- stages join to a legal pair, at the same cost.
 use mathlib.Core.Path.{_≡_, refl, sym, ap, ap₂, _∙_, subst}
-use mathlib.Core.Logic.{_≢_, _↔_, _⊎_, inl, inr}
 use mathlib.Core.List.{List, [], _∷_, _++_, List·Memᴰ as In, List·Memᴰ·head as here}
 use mathlib.Core.List.{List·Memᴰ·tail as there, List·Memᴰ·eq-of-singleton}
-use mathlib.Core.Option.{Option, none, some}
+use mathlib.Core.Option.{Option, some}
 use mathlib.Core.Bool.{Bool, true, false, cond}
-use Prim.Native.Nat.{ℕ, zero, suc, _+_, _-_, _*_, _^_, _≤_, _<_}
+use Prim.Native.Nat.{ℕ, zero, suc, _+_, _-_, _*_, _≤_, _<_}
 use native.Mathlib.Omega.{arith}
-use lib.ListN.{length, length-append, getD}
-use Rattle.lists.specs.Numbers.{from, in-from, from-in}
-use Rattle.lists.specs.Neighbours.{Pairs}
-use Rattle.theory_row.specs.Order.{order, order-below, order-all, order-size, Rising, rising-same}
+use lib.ListN.{length, length-append}
+use Rattle.lists.specs.Numbers.{from, from-in}
 use Rattle.theory_row.specs.Cheapest.{_⊑_}
-use Rattle.theory_row.specs.Window.{start, step, May, Good, good-start, good-step}
-use Rattle.theory_row.specs.Choices.{cells, chosen, along, cells-along, along-chosen, along-size, cells-size}
+use Rattle.theory_row.specs.Window.{start, step, Good, good-step}
+use Rattle.theory_row.specs.Choices.{cells}
 use Rattle.theory_pair.specs.Forward.{each, in-each, each-in, add, add-below}
 use Rattle.theory_pair.specs.Forward.{add-met, Trail, layer, layer-below, layer-met}
 use Rattle.theory_pair.specs.Pick.{goodMarks, in-goodMarks}
-use Rattle.theory_pair.specs.Segment.{Line, Choice, State, Goes, Ok, Done, next, first, last, cost}
+use Rattle.theory_pair.specs.Segment.{Line, Choice, State, Goes, Done, next, first, last, cost}
 use Rattle.theory_pair.specs.Segment.{charge, after, Move, Way, least, least-below, least-met}
 use Rattle.theory_pair.specs.Segment.{Plain, Listed, segment-list, list-way, next-move, goes-append}
-use Rattle.theory_pair.specs.Segment.{goes-good, after-append, after-size, cost-append}
-use Rattle.theory_pair.specs.Whole.{siteIn, wideIn, mine, ours, rowTotal, Placed, Wide, placed-goes}
-use Rattle.theory_pair.specs.Whole.{placed-cost, placed-rising, goes-placed, goes-along, tallOf, picks}
+use Rattle.theory_pair.specs.Segment.{goes-good, after-append, cost-append}
+use Rattle.theory_pair.specs.Whole.{tallOf, picks}
 
 -- ---- one row: its tall ones in a list
 

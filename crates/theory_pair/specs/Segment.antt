@@ -1,17 +1,17 @@
 -- One row in general, and its segments: from a state of the row over single cells to another state.
 use mathlib.Core.Path.{_≡_, refl, sym, ap, ap₂, _∙_, subst}
-use mathlib.Core.Logic.{_≢_, _↔_, _⊎_, inl, inr}
+use mathlib.Core.Logic.{_≢_, _↔_}
 use mathlib.Core.List.{List, [], _∷_, _++_, List·Memᴰ as In, List·Memᴰ·head as here}
 use mathlib.Core.List.{List·Memᴰ·tail as there, List·Memᴰ·eq-of-singleton}
 use mathlib.Core.Option.{Option, none, some}
-use mathlib.Core.Bool.{Bool, true, false, cond, Bool-discrete}
-use Prim.Native.Nat.{ℕ, zero, suc, _+_, _-_, _*_, _/_, _%_, _^_, _≤_, _<_}
+use mathlib.Core.Bool.{Bool, true, false, Bool-discrete}
+use Prim.Native.Nat.{ℕ, zero, suc, _+_, _-_, _*_, _≤_}
 use native.Mathlib.Omega.{arith}
 use native.Mathlib.Decide.{decLe, ℕ-discrete}
 use lib.ListN.{length, length-append}
-use Rattle.lists.specs.Numbers.{from, in-from, from-in}
+use Rattle.lists.specs.Numbers.{from, from-in}
 use Rattle.theory_row.specs.Cheapest.{_⊑_}
-use Rattle.theory_row.specs.Window.{start, step, May, may?, Good, good-start, good-step}
+use Rattle.theory_row.specs.Window.{start, step, May, may?, Good, good-step}
 use Rattle.theory_pair.specs.Pick.{goodMarks, in-goodMarks}
 use Rattle.theory_pair.specs.Forward.{each, in-each, each-in, costIf, cost-below}
 use Rattle.theory_pair.specs.Forward.{cost-met, Trail, layer, layer-below, layer-met}

@@ -1,12 +1,12 @@
 -- What a program that walks back through the tables owes, and gets: each segment as a list, built from its right end;
 -- each row's path, built stage by stage; and the placement written on the way, which has the paths' poses.
-use mathlib.Core.Path.{_≡_, refl, sym, ap, ap₂, _∙_, subst}
+use mathlib.Core.Path.{_≡_, refl, ap, ap₂, subst}
 use mathlib.Core.List.{List, [], _∷_, _++_, List·Memᴰ as In, List·Memᴰ·head as here}
 use mathlib.Core.List.{List·Memᴰ·tail as there, List·Memᴰ·append-cases}
 use mathlib.Core.Logic.{_⊎_, inl, inr}
-use mathlib.Core.Option.{Option, none, some}
-use mathlib.Core.Bool.{Bool, true, false}
-use Prim.Native.Nat.{ℕ, zero, suc, _+_, _-_, _≤_, _<_}
+use mathlib.Core.Option.{some}
+use mathlib.Core.Bool.{false}
+use Prim.Native.Nat.{ℕ, suc, _+_, _-_, _<_}
 use native.Mathlib.Omega.{arith}
 use lib.ListN.{length}
 use Rattle.theory_row.specs.Choices.{cells, along}
@@ -14,7 +14,7 @@ use Rattle.theory_pair.specs.Segment.{Line, Choice, State, Goes, Move, m
 use Rattle.theory_pair.specs.Segment.{move-met, next, last, cost, after, Listed}
 use Rattle.theory_pair.specs.Whole.{picks}
 use Rattle.theory_pair.specs.Pair.{Upto}
-use Rattle.theory_pair.specs.Cells.{Side, row₀, row₁, Job, line, pos, tallCount, cell, LegalPair, total, traced}
+use Rattle.theory_pair.specs.Cells.{row₀, row₁, Job, line, pos, tallCount, cell, LegalPair, total, traced}
 
 -- ---- the placement has the path's poses
 

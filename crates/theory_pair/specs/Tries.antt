@@ -1,9 +1,9 @@
 -- The definitions, run on small jobs.
-use mathlib.Core.Path.{_≡_, refl, ap}
+use mathlib.Core.Path.{_≡_, refl}
 use mathlib.Core.List.{List, [], _∷_}
 use mathlib.Core.Option.{Option, none, some}
-use mathlib.Core.Bool.{Bool, true, false, not, cond}
-use Prim.Native.Nat.{ℕ, zero, suc, _+_, _*_, _-_, _<_}
+use mathlib.Core.Bool.{Bool, true, not}
+use Prim.Native.Nat.{ℕ, _-_}
 use native.Mathlib.Decide.{ℕ-discrete, decLe, decLt}
 use lib.ListN.{getD}
 use lib.Count.{ones}
@@ -17,7 +17,7 @@ use Rattle.theory_pair.specs.Forward.{each, add, costIf, leastOf, layer}
 use Rattle.theory_pair.specs.Pick.{pick, goodMarks}
 use Rattle.theory_pair.specs.Segment.{both?, not?, fitsTo?, endsWith?, into?, move, ifSingle, singles, least}
 use Rattle.theory_pair.specs.Pair.{spots, cases, stageLeast, table, ending}
-use Rattle.theory_pair.specs.Cells.{Side, row₀, row₁, Kind, one, both, Job}
+use Rattle.theory_pair.specs.Cells.{row₀, row₁, Kind, one, both, Job}
 use Rattle.theory_pair.specs.Cells.{members, tallCells, line, pos, tallCount}
 
 -- cells one site wide at a site, with a cost, in rows whose ends are as given

@@ -1,24 +1,23 @@
 -- One row, whole: a legal row is a path from the row's start to its end, and back; and where its tall cells stand.
 use mathlib.Core.Path.{_≡_, refl, sym, ap, ap₂, _∙_, subst}
-use mathlib.Core.Logic.{_≢_, _↔_, _⊎_, inl, inr}
-use mathlib.Core.List.{List, [], _∷_, _++_, List·Memᴰ as In, List·Memᴰ·head as here, List·Memᴰ·tail as there}
-use mathlib.Core.Option.{Option, none, some}
+use mathlib.Core.Logic.{_≢_}
+use mathlib.Core.List.{List, [], _∷_, List·Memᴰ as In, List·Memᴰ·head as here, List·Memᴰ·tail as there}
+use mathlib.Core.Option.{some}
 use mathlib.Core.Bool.{Bool, true, false, cond}
-use Prim.Native.Nat.{ℕ, zero, suc, _+_, _-_, _*_, _≤_, _<_}
+use Prim.Native.Nat.{ℕ, zero, suc, _+_, _-_, _≤_, _<_}
 use native.Mathlib.Omega.{arith}
-use lib.ListN.{length, length-append, getD}
-use Rattle.lists.specs.Numbers.{from, in-from, from-in}
-use Rattle.lists.specs.Membership.{Distinct}
+use lib.ListN.{length, getD}
+use Rattle.lists.specs.Numbers.{from}
 use Rattle.lists.specs.Neighbours.{Chain, Next, Pairs}
-use Rattle.theory_row.specs.Order.{order, order-below, order-all, order-size, Rising, rising-same}
+use Rattle.theory_row.specs.Order.{order, order-below, order-size, Rising}
 use Rattle.theory_row.specs.Rules.{sum, sumNext, sumNeighbours}
-use Rattle.theory_row.specs.Window.{start, step, May, Run, Arranged, run-arranged}
+use Rattle.theory_row.specs.Window.{start, step, Run, Arranged, run-arranged}
 use Rattle.theory_row.specs.Row.{Fits, Legal, legal-run, run-legal, run-order, order-sum, order-rising, rule4-sites}
-use Rattle.theory_row.specs.Choices.{cells, chosen, along, cells-along, along-chosen}
-use Rattle.theory_row.specs.Choices.{along-size, along-same, cells-size}
+use Rattle.theory_row.specs.Choices.{cells, chosen, along, along-chosen}
+use Rattle.theory_row.specs.Choices.{along-same, cells-size}
 use Rattle.theory_pair.specs.Pick.{pick}
-use Rattle.theory_pair.specs.Segment.{Line, Choice, State, Goes, Ok, FitsTo}
-use Rattle.theory_pair.specs.Segment.{EndsWith, next, first, cost, charge, after}
+use Rattle.theory_pair.specs.Segment.{Line, Choice, State, Goes}
+use Rattle.theory_pair.specs.Segment.{EndsWith, next, first, cost, after}
 use Rattle.theory_pair.specs.Ends.{lastFrom, Ended}
 
 module _ {A : Type 0} (siteOf : A → ℕ) (L : Line A) (g : ℕ → A) where

@@ -1,7 +1,7 @@
 -- The mark array as the paper has it, from the positions placed so far, and that it is what the window carries along.
-use mathlib.Core.Path.{_≡_, refl, sym, ap, ap₂, _∙_, subst}
-use mathlib.Core.Logic.{_≢_, _↔_, _⊎_, inl, inr}
-use mathlib.Core.List.{List, [], _∷_, _++_, List·Memᴰ as In, List·Memᴰ·head as here, List·Memᴰ·tail as there, Memᴰ·cast}
+use mathlib.Core.Path.{_≡_, refl, sym, ap, _∙_, subst}
+use mathlib.Core.Logic.{_≢_, _↔_}
+use mathlib.Core.List.{List, [], _∷_, List·Memᴰ as In, List·Memᴰ·head as here, List·Memᴰ·tail as there}
 use mathlib.Core.Bool.{Bool, true, false, cond}
 use Prim.Native.Nat.{ℕ, zero, suc, _+_, _-_, _*_, _/_, _%_, _^_, _≤_, _<_}
 use native.Mathlib.Omega.{arith}
@@ -11,9 +11,9 @@ use lib.Count.{ones}
 use lib.Dec.{leb, eqb}
 use Rattle.lists.specs.Compare.{Le?, low, high, le?, Eq?, same, differs, eq?}
 use Rattle.theory_row.specs.Marks.{bit, bit-lt}
-use Rattle.theory_row.specs.Window.{start, step, Run, walk, May, Partial, partial-run}
-use Rattle.theory_row.specs.Window.{run-partial, seen, seen-at, seen-keep, seen-set, start-pad}
-use Rattle.theory_row.specs.Window.{good-start, Good, window-here, window-count, window-small}
+use Rattle.theory_row.specs.Window.{start, step, Run, walk, Partial, partial-run}
+use Rattle.theory_row.specs.Window.{seen, seen-at, seen-keep, seen-set, start-pad}
+use Rattle.theory_row.specs.Window.{good-start, window-here, window-count, window-small}
 
 -- 1 if k is among the entries of h, else 0
 unfoldable pub has : ℕ → List ℕ → ℕ

@@ -1,21 +1,20 @@
 -- A row in general: n cells in file order, numbered from 0; cell k stands at site k and is wide k sites wide. What
 -- rules 4 and 6 say of the order of the cells from left to right, and the way back.
-use mathlib.Core.Path.{_≡_, refl, sym, ap, _∙_, subst}
-use mathlib.Core.Logic.{_≢_, _↔_, _⊎_, inl, inr}
+use mathlib.Core.Path.{_≡_, refl, sym, ap, _∙_}
+use mathlib.Core.Logic.{_≢_, _⊎_, inl, inr}
 use mathlib.Core.List.{List, [], _∷_, List·Memᴰ as In, List·Memᴰ·head as here, List·Memᴰ·tail as there, Memᴰ·cast}
-use mathlib.Core.Bool.{Bool, true, false, not, _&&_, _||_, cond}
-use Prim.Native.Nat.{ℕ, zero, suc, _+_, _*_, _≤_, _<_}
+use mathlib.Core.Bool.{Bool, true, false, cond}
+use Prim.Native.Nat.{ℕ, _+_, _<_}
 use native.Mathlib.Omega.{arith}
-use native.Mathlib.Decide.{ℕ-discrete}
 use lib.ListN.{length}
-use lib.Dec.{T, leb, ltb, eqb, ltb→lt, lt→ltb, nltb→le}
-use Rattle.lists.specs.Compare.{Eq?, same, differs, eq?, Le?, low, high, le?}
-use Rattle.lists.specs.Numbers.{from, length-from, in-from, from-in}
+use lib.Dec.{leb}
+use Rattle.lists.specs.Compare.{same}
+use Rattle.lists.specs.Numbers.{from, in-from}
 use Rattle.lists.specs.Membership.{distinct-from, Distinct}
-use Rattle.lists.specs.Neighbours.{Pairs, Chain, Next, Near}
-use Rattle.theory_row.specs.Order.{put, sort, order, place, Rising, order-below, order-all, order-size}
+use Rattle.lists.specs.Neighbours.{Pairs, Chain, Next}
+use Rattle.theory_row.specs.Order.{put, sort, order, Rising, order-below, order-all, order-size}
 use Rattle.theory_row.specs.Order.{sort-rising, rising-same, rising-distinct, near-place, place-near}
-use Rattle.theory_row.specs.Rules.{Clear, Rule4, Rule5, Rule6, NoGapOne, sum, sumNeighbours}
+use Rattle.theory_row.specs.Rules.{Clear, Rule4, Rule5, Rule6, NoGapOne, sum}
 use Rattle.theory_row.specs.Window.{start, Run, Arranged, arranged-run, run-arranged}
 
 -- ---- pairs and neighbours

@@ -1,13 +1,12 @@
 -- Rules 4, 5 and 6 for a row in general, and the sum over neighbours. The row has n cells, numbered from 0
 -- in file order; cell k stands at site k and is wide k sites wide. Each rule is a test of one cell, and
 -- then a statement about the row; the two agree.
-use mathlib.Core.Path.{_≡_, refl, sym, ap, _∙_, subst}
+use mathlib.Core.Path.{_≡_, refl, sym, subst}
 use mathlib.Core.Logic.{_≢_, _↔_, _⊎_, inl, inr}
-use mathlib.Core.List.{List, [], _∷_, List·Memᴰ as In, List·Memᴰ·head as here, List·Memᴰ·tail as there, Memᴰ·cast}
+use mathlib.Core.List.{List, [], _∷_, List·Memᴰ as In, List·Memᴰ·head as here, List·Memᴰ·tail as there}
 use mathlib.Core.Bool.{Bool, true, false, not, _&&_, _||_, cond}
-use Prim.Native.Nat.{ℕ, zero, suc, _+_, _*_, _≤_, _<_}
+use Prim.Native.Nat.{ℕ, suc, _+_, _≤_, _<_}
 use native.Mathlib.Omega.{arith}
-use lib.ListN.{length}
 use lib.Dec.{T, leb, ltb, eqb, eqb-refl}
 use Rattle.lists.specs.Compare.{Eq?, same, differs, eq?, Le?, low, high, le?}
 use Rattle.lists.specs.Numbers.{from, in-from, from-in}

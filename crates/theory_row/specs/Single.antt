@@ -2,22 +2,20 @@
 -- k has a finite list of options; an option has a site and, for its cell, a width; a cell's option has its
 -- own cost, and two neighbours pay a charge.
 use mathlib.Core.Path.{_≡_, refl, sym, ap, ap₂, _∙_, subst}
-use mathlib.Core.Logic.{_≢_, _↔_, _⊎_, inl, inr}
+use mathlib.Core.Logic.{_≢_, _⊎_, inl, inr}
 use mathlib.Core.List.{List, [], _∷_, _++_, List·Memᴰ as In, List·Memᴰ·head as here}
 use mathlib.Core.List.{List·Memᴰ·tail as there, Memᴰ·append-left, Memᴰ·append-right, List·Memᴰ·append-cases}
 use mathlib.Core.Option.{Option, none, some}
-use Prim.Native.Nat.{ℕ, zero, suc, _+_, _≤_, _<_}
+use Prim.Native.Nat.{ℕ, suc, _+_, _≤_, _<_}
 use native.Mathlib.Omega.{arith}
 use native.Mathlib.Decide.{decLe, ℕ-discrete}
-use lib.ListN.{length}
-use Rattle.lists.specs.Numbers.{from, in-from, from-in}
-use Rattle.lists.specs.Membership.{Distinct}
+use Rattle.lists.specs.Numbers.{from, from-in}
 use Rattle.lists.specs.Neighbours.{Chain, Next}
 use Rattle.theory_row.specs.Order.{order, order-below, order-size}
 use Rattle.theory_row.specs.Rules.{sum, sumNext, sumNeighbours}
 use Rattle.theory_row.specs.Window.{start, step, May, Run, may?, Arranged, run-arranged}
 use Rattle.theory_row.specs.Row.{Fits, Legal, legal-run, run-legal, run-order, order-sum}
-use Rattle.theory_row.specs.Choices.{cells, chosen, along, cells-along, along-chosen, along-size, cells-size}
+use Rattle.theory_row.specs.Choices.{cells, chosen, along, along-chosen, along-size, cells-size}
 use Rattle.theory_row.specs.Cheapest.{_⊑_, Path′, cost, best, best-below, best-met}
 
 -- ---- the entries of a list that pass a decision

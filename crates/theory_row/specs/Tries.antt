@@ -1,16 +1,15 @@
 -- The definitions, run.
 use mathlib.Core.Path.{_≡_, refl, ap}
 use mathlib.Core.Logic.{_⊎_, inl, inr}
-use mathlib.Core.List.{List, [], _∷_}
-use mathlib.Core.Bool.{Bool, true, false}
-use Prim.Native.Nat.{ℕ, zero, suc, _*_, _-_, _%_, _<_}
+use mathlib.Core.List.{[], _∷_}
+use Prim.Native.Nat.{ℕ, _*_, _-_, _%_, _<_}
 use native.Mathlib.Omega.{arith}
 use native.Mathlib.Decide.{ℕ-discrete}
 use lib.ListN.{getD}
 use lib.Count.{ones, onesIn}
 use Rattle.lists.specs.Numbers.{from}
 use Rattle.theory_row.specs.Order.{order, sort, put, place}
-use Rattle.theory_row.specs.Rules.{breaks4, breaks5, breaks6, any, anyNext, lowest}
+use Rattle.theory_row.specs.Rules.{breaks5, breaks6, anyNext, lowest}
 use Rattle.theory_row.specs.Window.{start, step, walk, Good}
 use Rattle.theory_row.specs.History.{marks, mark, has, digits}
 

@@ -5,9 +5,9 @@ use Prim.Native.Nat.{ℕ, zero, suc, _+_, _-_, _≤_, _<_}
 use mathlib.Core.Path.{_≡_}
 use mathlib.Core.Logic.{_⊎_}
 use mathlib.Core.Bool.{true, false}
-use Rattle.theory_tables.specs.Steps.{B, Deck, stateCount, marks, lastAt, isThere, isSource}
+use Rattle.theory_tables.specs.Steps.{Deck, stateCount, marks, lastAt, isThere, isSource}
 use Rattle.theory_tables.specs.Steps.{Layer, layers, firstAfter, firstOpen, costEnd, offset}
-use Rattle.theory_tables.specs.Stages.{placedWith, stageEnd, openCost, stageCost, caseTable}
+use Rattle.theory_tables.specs.Stages.{placedWith, stageCost, caseTable}
 
 -- ---- one segment
 

@@ -7,7 +7,7 @@ use borrow.Author.Needs.{needs}
 use lib.ListN.{length, take, set, getD}
 use lib.Seq.{take-all}
 use Rattle.definition.specs.Outcome.{over}
-use Rattle.results.specs.Over.{length-over, over-more, over-full}
+use Rattle.definition_laws.specs.Over.{length-over, over-more, over-full}
 use Rattle.op_fault.proofs.put_words.Statement.{statement}
 use Rattle.op_fault.proofs.put_words.Tie as tie
 

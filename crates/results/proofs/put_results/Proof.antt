@@ -11,7 +11,7 @@ use mir.Val.{toZ}
 use mir.Facts.{toZ-ofZ, toZ-pos}
 use Rattle.definition.specs.Outcome.{over}
 use Rattle.results.specs.Fields.{maxFields, listOf}
-use Rattle.results.specs.Over.{length-over, none-over, one-over, two-over, two-again, after-more, after-full}
+use Rattle.definition_laws.specs.Over.{length-over, none-over, one-over, two-over, two-again, after-more, after-full}
 use Rattle.results.proofs.put_results.Statement.{statement}
 use Rattle.results.proofs.put_results.Tie as tie
 

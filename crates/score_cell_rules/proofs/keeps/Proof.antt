@@ -1,5 +1,4 @@
 -- By the rule's number, one test or the other.
-use mathlib.Core.Path.{_∙_, sym}
 use borrow.Author.Needs.{needs}
 use borrow.Author.Tests.{eq-eqb, ne-eqb}
 use Rattle.score_cell_rules.proofs.keeps.Statement.{statement}

@@ -1,6 +1,5 @@
 -- The row's start has one cell in its first layer; the tall cell before has those placed with it, and one more.
-use Prim.Native.Nat.{_+_, _-_}
-use mathlib.Core.Path.{_≡_, sym, _∙_}
+use Prim.Native.Nat.{_-_}
 use native.Mathlib.Omega.{arith}
 use borrow.Author.Needs.{needs}
 use Rattle.search_row.specs.Words.{posIn}

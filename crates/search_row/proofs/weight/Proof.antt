@@ -1,10 +1,6 @@
 -- The word that the gap tells.
-use Prim.Native.Nat.{ℕ}
-use mathlib.Core.Path.{_≡_}
-use mathlib.Core.Bool.{Bool, cond}
 use borrow.Author.Needs.{needs}
 use borrow.Author.Tests.{eq-eqb, ne-eqb}
-use Rattle.search_row.specs.Words.{wordOf, weightIn}
 use Rattle.search_row.proofs.weight.Statement.{statement}
 use Rattle.search_row.proofs.weight.Tie as tie
 

@@ -4,7 +4,7 @@ use Prim.Native.Nat.{_-_}
 use mathlib.Core.Path.{_≡_, refl, _∙_}
 use native.Mathlib.Omega.{arith}
 use lib.ListN.{length, length-map}
-use Rattle.search_row_fill.specs.Filled.{filled-none, filled-value, ranged-at, lined}
+use Rattle.search_row_fill.specs.Filled.{filled-none, filled-value, ranged-at}
 use Rattle.search_row_fill.specs.Filled.{sideOf, Filled}
 use Rattle.job.specs.Cells.{cell-count}
 use Rattle.job.specs.Value.{jobOf}

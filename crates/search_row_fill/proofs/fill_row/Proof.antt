@@ -1,5 +1,4 @@
 -- The cells first, which leave zeros beyond them; then the positions of the tall ones and the states, which leave the cells as they are.
-use mathlib.Core.Path.{sym, _∙_}
 use native.Mathlib.Omega.{arith}
 use borrow.Author.Needs.{needs}
 use Rattle.job.specs.Value.{headerOf, jobOf}

@@ -1,11 +1,10 @@
 -- Each turn settles one digit; the marks after m are still to come.
 use Prim.Native.Nat.{suc, _+_, _*_, _-_, _≤_}
-use mathlib.Core.Path.{_≡_, refl, sym, _∙_}
+use mathlib.Core.Path.{sym, _∙_}
 use mathlib.Core.List.{_++_}
 use native.Mathlib.Omega.{arith}
 use borrow.Author.Tests.{not-true, not-false}
 use borrow.Author.Needs.{needs}
-use lib.ListN.{length}
 use Rattle.search_row.specs.Words.{statesEnd, statesFrom}
 use Rattle.search_lanes.specs.Store.{Frame}
 use Rattle.search_lanes.specs.Laws.{frame-refl, frame-join}

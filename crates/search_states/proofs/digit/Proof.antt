@@ -2,7 +2,7 @@
 use borrow.Author.Needs.{needs}
 use Rattle.search_states.proofs.digit.Statement.{statement}
 use Rattle.search_states.proofs.digit.Tie as tie
-use mathlib.Core.Path.{_≡_, refl, sym, ap, _∙_}
+use mathlib.Core.Path.{sym, _∙_}
 use lib.Bits.{and-mask}
 use Rattle.theory_row.specs.Marks.{bit-shr}
 

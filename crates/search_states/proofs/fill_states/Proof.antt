@@ -1,9 +1,7 @@
 -- Each turn settles one number as marks; at the end nothing is to come.
 use Prim.Native.Nat.{_-_, _≤_}
-use mathlib.Core.Path.{_≡_, refl}
 use native.Mathlib.Omega.{arith}
 use borrow.Author.Needs.{needs}
-use lib.ListN.{length}
 use Rattle.search_row.specs.Words.{statesEnd, statesFrom}
 use Rattle.search_lanes.specs.Store.{Frame}
 use Rattle.search_lanes.specs.Laws.{frame-refl, frame-join}

@@ -89,3 +89,11 @@ module _ {A : Type 0} where
     after-full xs [] i n h k = refl
     after-full xs (x ∷ []) i n h k = refl
     after-full xs (x ∷ y ∷ l) i n h k = ap (λ (t : List A). a ∷ b ∷ t) (over-full xs l i n (omega arith) k)
+
+  -- an entry that was laid
+  pub over-at : (xs l : List A) (i : ℕ) (d : A) → i < length xs → i < length l → getD (over xs l) i d ≡ getD xs i d
+  unfolding over
+  over-at [] l i d h g = absurd (omega arith)
+  over-at (x ∷ xs) [] i d h g = absurd (omega arith)
+  over-at (x ∷ xs) (y ∷ l) zero d h g = refl
+  over-at (x ∷ xs) (y ∷ l) (suc i) d h g = over-at xs l i d (omega arith) (omega arith)
