@@ -37,6 +37,11 @@ partAt number line job placement =
 unfoldable pub faultLine : Text → Text → Part
 faultLine job placement = partAt (score job placement .number) (score job placement .line) job placement
 
+-- the bytes of a part
+abbrev pub shown : Text → Text → Part → Text
+shown job placement (ofJob i n) = take n (drop i job)
+shown job placement (ofPlacement i n) = take n (drop i placement)
+
 -- ---- "as that very part of the job text or of the placement text"
 
 -- r is that very part of s: it points i bytes into s's own block, and shows the n bytes there
@@ -61,3 +66,8 @@ wordsOf (ofPlacement i n) = 1 ∷ i ∷ n ∷ []
 pub record ToldFault (job placement : Text) (returned : ℕ) (results results′ : List ℕ) : Type 0 where
   pub number : returned ≡ score job placement .number
   pub array : results′ ≡ over (wordsOf (faultLine job placement)) results
+
+-- the same with the line itself copied to an output, "as far as it reaches"; the bytes after it are untouched
+pub record CopiedFault (job placement : Text) (returned : ℕ) (output output′ part part′ : List ℕ) : Type 0 where
+  pub told : ToldFault job placement returned part part′
+  pub copied : output′ ≡ over (shown job placement (faultLine job placement)) output

@@ -1,13 +1,14 @@
--- The part that Score's refusal names, as a piece and as three numbers.
-use Prim.Native.Nat.{_≤_}
+-- The part that Score's refusal names, as a piece, as three numbers and by its bytes.
+use Prim.Native.Nat.{ℕ, _≤_}
 use mathlib.Core.Path.{_≡_, refl, sym, ap, ap₂, _∙_}
 use mathlib.Core.Bool.{Bool, true, false, cond}
-use mathlib.Core.List.{[], _∷_}
+use mathlib.Core.List.{List, [], _∷_}
 use native.Mathlib.Omega.{arith}
 use lib.Dec.{eqb}
+use denote.Ref.{RefT, now}
 use borrow.Author.Tests.{eqb-true, eqb-false}
 use Rattle.definition.specs.Texts.{Text}
-use Rattle.definition.specs.FaultLine.{Part, ofJob, ofPlacement, partAt, faultLine, wordsOf}
+use Rattle.definition.specs.FaultLine.{Part, ofJob, ofPlacement, partAt, faultLine, wordsOf, Very, shown}
 use Rattle.op_fault.specs.Part.{partOf, PieceOf}
 use Rattle.op_fault.specs.declared.Piece.{Piece}
 use Rattle.op_fault.specs.Fault.{Reported}
@@ -27,3 +28,7 @@ piece-words p h = go (eqb (p .which) 0) (eqb-true (p .which) 0) (eqb-false (p .w
 
 pub told-words : (job placement : Text) (part : Part) (p : Piece) → PieceOf part job placement p → p .which ∷ p .start ∷ p .size ∷ [] ≡ wordsOf part
 told-words job placement part p h = sym (piece-words p (h .which)) ∙ ap wordsOf (h .names)
+
+pub very-shown : (job placement r : RefT (List ℕ)) (part : Part) → Very part job placement r → now r ≡ shown (now job) (now placement) part
+very-shown job placement r (ofJob i n) h = h .shows
+very-shown job placement r (ofPlacement i n) h = h .shows

@@ -3,7 +3,7 @@ ghost use mathlib.Core.Path.{_≡_};
 ghost use Prim.Native.Nat.{_≤_, _+_, _<_};
 ghost use lib.ListN.{length};
 ghost use Rattle.definition.specs.Outcome.{over};
-ghost use Rattle.definition.specs.FaultLine.{faultLine, partAt, Very, ToldFault};
+ghost use Rattle.definition.specs.FaultLine.{faultLine, partAt, Very, ToldFault, CopiedFault};
 ghost use Rattle.op_fault.specs.Part.{PieceOf, NextLine, LineAt, partOf};
 ghost use Rattle.op_fault.specs.Fault.{Reported};
 ghost use mathlib.Core.Bool.{cond};
@@ -67,6 +67,36 @@ pub fn tell_fault(job: &[u8], placement: &[u8], results: &mut [u64]) -> u32
     let p = part_at(f.number, f.line, job, placement);
     put_words(results, [p.which as u64, p.start as u64, p.size as u64]);
     f.number
+}
+
+// A line's bytes, as far as the output reaches.
+fn copy(line: &[u8], output: &mut [u8])
+    ensures { λ _. ⌜ now (output .exit) ≡ over (now (line .entry)) (now (output .entry)) ⌝ }
+{
+    let mut i = 0;
+    while i < line.len() {
+        if output.len() <= i {
+            return;
+        }
+        output[i] = line[i];
+        i += 1;
+    }
+}
+
+// What `tell_fault` tells, and the line itself, copied. One lifetime for both texts: the line may stand in either.
+pub fn copy_fault<'a>(
+    job: &'a [u8],
+    placement: &'a [u8],
+    output: &mut [u8],
+    part: &mut [u64],
+) -> u32
+    ensures { λ r. ⌜ CopiedFault (now (job .entry)) (now (placement .entry)) r
+        (now (output .entry)) (now (output .exit)) (now (part .entry)) (now (part .exit)) ⌝ }
+{
+    let number = tell_fault(job, placement, part);
+    let line = fault_line(job, placement);
+    copy(line, output);
+    number
 }
 
 // Parts of a job text and a placement text: a line by its number, and a part as that very piece of the text lent.
