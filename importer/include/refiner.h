@@ -48,6 +48,14 @@ uint32_t refiner_score(const uint8_t *job, size_t job_len, const uint8_t *placem
 uint32_t refiner_fault(const uint8_t *job, size_t job_len, const uint8_t *placement,
                        size_t placement_len, uint64_t *part, size_t part_len);
 
+/* Fault line, and the line itself: as refiner_fault, and the line's bytes go to the start of
+ * `output` as far as that reaches; bytes past them stay as they were. `part`'s third number is the
+ * length that `output` needs for the whole line.
+ */
+uint32_t refiner_fault_line(const uint8_t *job, size_t job_len, const uint8_t *placement,
+                            size_t placement_len, uint8_t *output, size_t output_len,
+                            uint64_t *part, size_t part_len);
+
 /* Place. Refuses 1 to 4 as Read does, then 6, 7 and 8. Results: number, line, steps, sites
  * shifted, mirrored, changed, cost, drift, text length. An answer's placement is legal and none is
  * cheaper; its text goes to the start of `output`, and bytes past it stay as they were. The whole

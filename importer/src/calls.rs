@@ -32,6 +32,17 @@ mod exported {
             part_len: usize,
         ) -> u32;
 
+        pub fn refiner_fault_line(
+            job: *const u8,
+            job_len: usize,
+            placement: *const u8,
+            placement_len: usize,
+            output: *mut u8,
+            output_len: usize,
+            part: *mut u64,
+            part_len: usize,
+        ) -> u32;
+
         pub fn refiner_place(
             job: *const u8,
             job_len: usize,
@@ -77,6 +88,24 @@ pub fn fault(job: &[u8], placement: &[u8], part: &mut [u64]) -> u32 {
             job.len(),
             placement.as_ptr(),
             placement.len(),
+            part.as_mut_ptr(),
+            part.len(),
+        )
+    }
+}
+
+/// Fault line with the line itself: as `fault`, and its bytes go to the start of `output` as far as
+/// that reaches.
+pub fn fault_line(job: &[u8], placement: &[u8], output: &mut [u8], part: &mut [u64]) -> u32 {
+    // SAFETY: as for `read`; here `output` and `part` are lent for writing.
+    unsafe {
+        exported::refiner_fault_line(
+            job.as_ptr(),
+            job.len(),
+            placement.as_ptr(),
+            placement.len(),
+            output.as_mut_ptr(),
+            output.len(),
             part.as_mut_ptr(),
             part.len(),
         )

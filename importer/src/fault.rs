@@ -13,3 +13,13 @@ pub fn fault_line<'texts>(job: &'texts [u8], placement: &'texts [u8]) -> &'texts
     text.get(start..start.saturating_add(length))
         .unwrap_or_default()
 }
+
+/// The faulty line as the refiner copies it; an empty output is lent first, for the line's length.
+pub fn copied_fault_line(job: &[u8], placement: &[u8]) -> Vec<u8> {
+    let mut part = [0; 3];
+    calls::fault_line(job, placement, &mut [], &mut part);
+    let [_, _, length] = part;
+    let mut line = vec![0; usize::try_from(length).unwrap_or_default()];
+    calls::fault_line(job, placement, &mut line, &mut part);
+    line
+}

@@ -16,7 +16,7 @@ mod refused;
 mod rules;
 mod scoring;
 
-pub use fault::fault_line;
+pub use fault::{copied_fault_line, fault_line};
 pub use numbers::Numbers;
 pub use placing::{place, refine, Placed, Refined, OUTPUT_BYTES, STORE_WORDS};
 pub use reading::{read, Read};

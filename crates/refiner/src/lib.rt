@@ -1,8 +1,9 @@
 // The exported C functions, each over slices that are passed as address and length.
 ghost use Rattle.definition.specs.Outcome.{read, score, Told, lent, Placed, Demand3Of};
 ghost use Rattle.definition.specs.Demands.{readShape, scoreShape, placeShape, alone, Demand1, FaultDemand1};
-ghost use Rattle.definition.specs.FaultLine.{ToldFault};
+ghost use Rattle.definition.specs.FaultLine.{ToldFault, CopiedFault};
 use job_read::read_job;
+use op_fault::copy_fault;
 use op_fault::tell_fault;
 use op_place::place_texts;
 use op_score::score_texts;
@@ -56,6 +57,21 @@ pub extern "C" fn refiner_fault(job: &[u8], placement: &[u8], part: &mut [u64]) 
     ensures { λ r. ⌜ FaultDemand1 r (now (part .entry)) (now (part .exit)) ⌝ }
 {
     tell_fault(job, placement, part)
+}
+
+// Fault line with the line itself, which is copied to the output as far as that reaches.
+#[no_mangle]
+pub extern "C" fn refiner_fault_line<'a>(
+    job: &'a [u8],
+    placement: &'a [u8],
+    output: &mut [u8],
+    part: &mut [u64],
+) -> u32
+    ensures { λ r. ⌜ CopiedFault (now (job .entry)) (now (placement .entry)) r
+        (now (output .entry)) (now (output .exit)) (now (part .entry)) (now (part .exit)) ⌝ }
+    ensures { λ r. ⌜ FaultDemand1 r (now (part .entry)) (now (part .exit)) ⌝ }
+{
+    copy_fault(job, placement, output, part)
 }
 
 // Place: the placement's text goes to the output, number, line, the six numbers and the text's length to the results,

@@ -3,9 +3,12 @@
 use trial::generate::damage::Damage;
 use trial::generate::{jobs, placements, Random};
 use trial::lent::Arrays;
-use trial::plain::fault::fault_line;
+use trial::plain::fault::{fault_line, Part};
 use trial::plain::placement::text_of;
 use trial::plain::scorer::{score, score_results};
+
+/// What stands in an output before a call.
+const UNTOUCHED: u8 = 0xaa;
 
 /// Holds Score and Fault line against the plain ones, pair by pair, and counts what was seen.
 #[derive(Default)]
@@ -21,7 +24,7 @@ impl Comparison {
     fn compare(&mut self, job: &[u8], placement: &[u8]) {
         let expected = score(job, placement);
         let results = score_results(&expected);
-        let part = fault_line(job, placement, &expected).numbers();
+        let part = fault_line(job, placement, &expected);
         self.numbers[results[0] as usize] += 1;
         if results[0] == 0 {
             self.rules[results[2] as usize] += 1;
@@ -29,11 +32,40 @@ impl Comparison {
         let score = |lent: &mut [i32]| importer::calls::score(job, placement, lent);
         let fault = |lent: &mut [u64]| importer::calls::fault(job, placement, lent);
         let scored = self.arrays.lend(score).check(results[0] as u32, &results);
-        let outcome = scored.and(self.arrays.lend_part(fault).check(results[0] as u32, &part));
+        let told = self.arrays.lend_part(fault);
+        let outcome = scored
+            .and_then(|()| told.check(results[0] as u32, &part.numbers()))
+            .and_then(|()| self.copies(job, placement, results[0] as u32, &part));
         if let Err(difference) = outcome {
             let texts = [job, placement].map(<[u8]>::escape_ascii);
             panic!("{difference} of\n{}\nand\n{}", texts[0], texts[1]);
         }
+    }
+
+    /// Holds the copied line against the part, in outputs with room for nothing, for half of it, for
+    /// all of it and for more. Nothing past the line or past the room may be touched.
+    fn copies(
+        &mut self,
+        job: &[u8],
+        placement: &[u8],
+        number: u32,
+        part: &Part,
+    ) -> Result<(), String> {
+        let line = part.bytes(job, placement);
+        for room in [0, line.len() / 2, line.len(), line.len() + 3] {
+            let reached = room.min(line.len());
+            let mut output = vec![UNTOUCHED; line.len() + 5];
+            let copy = |lent: &mut [u64]| {
+                importer::calls::fault_line(job, placement, &mut output[..room], lent)
+            };
+            let left = self.arrays.lend_part(copy);
+            left.check(number, &part.numbers())?;
+            let (copied, rest) = output.split_at(reached);
+            if copied != &line[..reached] || rest.iter().any(|&byte| byte != UNTOUCHED) {
+                return Err(format!("copied {} (room {room})", output.escape_ascii()));
+            }
+        }
+        Ok(())
     }
 }
 

@@ -1,6 +1,6 @@
 //! The edges of the scope that concern Score and Fault line, one by one.
 
-use importer::{fault_line, score, Broken, Refused, Verdict};
+use importer::{copied_fault_line, fault_line, score, Broken, Refused, Verdict};
 
 /// Cost and drift of a legal placement, a broken rule and its cell, or a refusal and its line.
 #[derive(Clone, Copy, Debug, PartialEq, Eq)]
@@ -199,4 +199,18 @@ fn fault_lines() {
 
     assert!(fault_line(b"", b"2,0,1\n").is_empty());
     assert!(fault_line(WORKED.as_bytes(), b"2,0,1\n6,0,0\n").is_empty());
+}
+
+/// Its copy is the whole line, of either text, and empty where the line is.
+#[test]
+fn copied_fault_lines() {
+    let copied = |job: &str, placement: &str| {
+        String::from_utf8(copied_fault_line(job.as_bytes(), placement.as_bytes()))
+    };
+    let bad_cell = "J,1,20,1,1,100,1,100,50\nC,0,2,1,1,4,3,3,2\nx";
+    assert_eq!(copied(bad_cell, ""), Ok("C,0,2,1,1,4,3,3,2\n".into()));
+    assert_eq!(copied("x", "2,0,1\n"), Ok("x".into()));
+    assert_eq!(copied(WORKED, "2,0,1\n6,0\n7,0,0\n"), Ok("6,0\n".into()));
+    assert_eq!(copied(WORKED, "2,0,1\n"), Ok(String::new()));
+    assert_eq!(copied("", "2,0,1\n"), Ok(String::new()));
 }

@@ -6,7 +6,7 @@ use native.Mathlib.Omega.{arith}
 use lib.ListN.{length, take, set, getD}
 use lib.Seq.{take-all}
 use Rattle.definition.specs.Outcome.{over}
-use Rattle.results.specs.Over.{length-over, over-more, over-full}
+use Rattle.definition_laws.specs.Over.{length-over, over-more, over-full}
 use Rattle.op_fault.proofs.copy.Statement.{statement}
 use Rattle.op_fault.proofs.copy.Tie as tie
 

@@ -25,15 +25,14 @@ impl Report {
     }
 
     /// `refused,number,line`; on standard error the line itself, then the reason.
-    pub fn refusal(refused: Refused, line: &[u8]) -> Report {
-        let mut notes = line.to_vec();
-        if notes.last().is_some_and(|&byte| byte != b'\n') {
-            notes.push(b'\n');
+    pub fn refusal(refused: Refused, mut line: Vec<u8>) -> Report {
+        if line.last().is_some_and(|&byte| byte != b'\n') {
+            line.push(b'\n');
         }
         let report = Report {
             status: REFUSAL,
             output: format!("refused,{},{}\n", refused.number, refused.line).into(),
-            notes,
+            notes: line,
         };
         report.with_note(&refused.to_string())
     }

@@ -19,6 +19,14 @@ impl Part {
         };
         [text, range.start as u64, range.len() as u64]
     }
+
+    /// The part itself.
+    pub fn bytes<'texts>(&self, job: &'texts [u8], placement: &'texts [u8]) -> &'texts [u8] {
+        match self {
+            Part::OfJob(range) => &job[range.clone()],
+            Part::OfPlacement(range) => &placement[range.clone()],
+        }
+    }
 }
 
 /// The part that belongs to what Score says of the two texts.

@@ -3,7 +3,7 @@
 use crate::input;
 use crate::mistake::Mistake;
 use crate::report::{line_of, Report};
-use importer::{fault_line, score, Broken, Verdict};
+use importer::{copied_fault_line, score, Broken, Verdict};
 use std::ffi::OsString;
 
 pub fn run(arguments: &[OsString]) -> Result<Report, Mistake> {
@@ -15,7 +15,7 @@ pub fn run(arguments: &[OsString]) -> Result<Report, Mistake> {
     Ok(match score(&job, &placement) {
         Ok(Verdict::Legal(numbers)) => Report::answer(format!("legal,{}\n", line_of(&numbers))),
         Ok(Verdict::Broken(broken)) => answer_of(&broken),
-        Err(refused) => Report::refusal(refused, fault_line(&job, &placement)),
+        Err(refused) => Report::refusal(refused, copied_fault_line(&job, &placement)),
     })
 }
 
