@@ -56,7 +56,8 @@ read-fair : (shape : Shape) → AsRead shape → (room : ℕ) (job : Text) (n li
     → Fair shape room (refusedBy (shape .fieldCount) (record { number = n; line = line }))
 read-fair shape s room job n line e =
     let r = job-refused job n line e in
-    refusal-fair shape room (record { number = n; line = line }) (s .known n line r) (s .lines n line r ∙ sym (lt-ltb 0 line (r .located))) (s .before-search n line r)
+    refusal-fair shape room (record { number = n; line = line }) (s .known n line r)
+    (s .lines n line r ∙ sym (lt-ltb 0 line (r .located))) (s .before-search n line r)
 
 read-as-read : AsRead readShape
 read-as-read = record {
@@ -102,7 +103,8 @@ fields-eight : (j : Job) (P : Placement) (v : Verdict) → length (scoreFields j
 unfolding scoreFields numbers
 fields-eight j P v = eight (eqb (v .rule) 0)
   where
-    eight : (t : Bool) → length (pos (v .rule) ∷ pos (v .cell) ∷ cond t (numbers j P) (replicate numberCount (pos 0))) ≡ 8
+    eight : (t : Bool)
+        → length (pos (v .rule) ∷ pos (v .cell) ∷ cond t (numbers j P) (replicate numberCount (pos 0))) ≡ 8
     eight true = refl
     eight false = refl
 

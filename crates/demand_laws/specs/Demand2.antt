@@ -127,10 +127,12 @@ place-rescored {job} {returned} {before} {end} p z = go (readJob job) refl
         → Cheapest j a → o ≡ placeAnswer j a → Rescored job before end
     answer j r b none c e = absurd (let n = ap (λ x. x .number) e in omega (arith, number))
     answer j r b (some P) c e =
-        let s = rescored job j r P (c .legal P refl) in record {
+        let s = rescored job j r P (c .legal P refl) in
+        let short = legal-room j P (accepted-sound job j r) (c .legal P refl) in
+        record {
           text = textOf P;
           given = numbers j P;
-          fits = omega (arith, legal-room j P (accepted-sound job j r) (c .legal P refl), buffers j words room .enough b);
+          fits = omega (arith, short, buffers j words room .enough b);
           written = p .met .written ∙ ap (λ x. over (x .text) (before .output)) e;
           array = p .met .told .array ∙ ap (λ x. over (resultsOf x) (before .results)) e;
           number = ap (λ x. x .number) s;

@@ -210,7 +210,8 @@ module _ (j : Job) (sound : Sound j) (k : ℕ) where
 
       back : Allowed j k p → In p (offersOf j k)
       back a =
-          let s : p .layout < 2 = let l = a .layout in omega (arith, few-layouts, layouts-within (j .header) (cellAt j k)) in
+          let l = a .layout in
+          let s : p .layout < 2 = omega (arith, few-layouts, layouts-within (j .header) (cellAt j k)) in
           let n = numberOf j k p in
           let h = number-below j k p a s in
           let e = number-pose j k p a s in
