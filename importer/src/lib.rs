@@ -4,9 +4,10 @@
 //! (`include/refiner.h` is its C interface). This library makes its functions safe to call:
 //! [`calls`] has each of them with slices for addresses and lengths, and the modules beside it
 //! turn the numbers that a call leaves behind into plain structs. [`REFUSALS`] and [`RULES`] say in
-//! words what refusal numbers and rules mean.
+//! words what refusal numbers and rules mean, and [`explain`] what is wrong with a text.
 
 pub mod calls;
+pub mod explain;
 mod fault;
 mod fields;
 mod numbers;

@@ -1,0 +1,53 @@
+//! The first line: `J,rows,sites,D,R,step,shift,mirror,swap`.
+
+use crate::explain::field::{in_range, Field};
+use crate::explain::form::{count, Form};
+use crate::explain::line::Line;
+use crate::explain::reason::{Reason, FORM, RANGE};
+use crate::Refused;
+
+const HEADER: Form = Form {
+    lead: Some(("J", "the first line")),
+    fields_of: |_| fields(),
+};
+
+/// Of the numbers, those that rules and cell lines depend on.
+pub struct Header {
+    pub rows: u32,
+    pub sites: u32,
+    /// The displacement limit D.
+    pub displacement: u32,
+    /// The reordering limit R.
+    pub reordering: u32,
+}
+
+fn fields() -> Vec<Field> {
+    vec![
+        Field::new("rows", 1, 2),
+        Field::new("sites", 1, 1024),
+        Field::new("D", 0, 7),
+        Field::new("R", 0, 1),
+        Field::new("step", 0, 1000),
+        Field::new("shift", 0, 1000),
+        Field::new("mirror", 0, 1000),
+        Field::new("swap", 0, 1000),
+    ]
+}
+
+pub fn read(line: &Line) -> Result<Header, Reason<Refused>> {
+    let refuse = |number| move |words| line.refused(number, words);
+    let numbers = HEADER.numbers(line).map_err(refuse(FORM))?;
+    let &[rows, sites, displacement, reordering, _, _, _, _] = &*numbers.values else {
+        let found = count(numbers.fields, "field");
+        let words =
+            format!("{found}, the first line has 9: J,rows,sites,D,R,step,shift,mirror,swap");
+        return Err(line.refused(FORM, words));
+    };
+    in_range(&fields(), &numbers.values).map_err(refuse(RANGE))?;
+    Ok(Header {
+        rows,
+        sites,
+        displacement,
+        reordering,
+    })
+}

@@ -1,0 +1,91 @@
+//! A job text, read as far as an explanation needs it.
+
+mod cell;
+mod header;
+
+pub use cell::{Cell, TALL};
+pub use header::Header;
+
+use super::line::{lines, Line};
+use super::reason::{Reason, FORM, LIMIT, ORDER};
+use crate::Refused;
+
+const MOST_CELLS: usize = 64;
+const MOST_TALL: usize = 24;
+
+/// A cell's line is its place among the cells, counted from 0, and this: lines count from 1, and
+/// the first one is the header's.
+const LINES_BEFORE: usize = 2;
+
+pub struct Job {
+    pub header: Header,
+    pub cells: Vec<Cell>,
+}
+
+/// The job that a text says, or what is wrong with its earliest bad line.
+pub fn read(text: &[u8]) -> Result<Job, Reason<Refused>> {
+    let mut lines = lines(text);
+    let Some(first) = lines.next() else {
+        let answer = Refused {
+            number: FORM,
+            line: 1,
+        };
+        let words = "the job is empty".into();
+        return Err(Reason { answer, words });
+    };
+    let mut job = Job {
+        header: header::read(&first)?,
+        cells: Vec::new(),
+    };
+    for line in lines {
+        let cell = cell::read(&line, job.header.rows)?;
+        job.admit(&line, cell)?;
+    }
+    Ok(job)
+}
+
+impl Job {
+    /// Takes one more cell in, unless it is one too many or its given site falls.
+    fn admit(&mut self, line: &Line, cell: Cell) -> Result<(), Reason<Refused>> {
+        if let Some(words) = self.surplus(&cell) {
+            return Err(line.refused(LIMIT, words));
+        }
+        if let Some(words) = self.falling(&cell) {
+            return Err(line.refused(ORDER, words));
+        }
+        self.cells.push(cell);
+        Ok(())
+    }
+
+    fn surplus(&self, cell: &Cell) -> Option<String> {
+        let number = self.cells.len() + 1;
+        let tall = self.cells.iter().filter(|cell| cell.row == TALL).count();
+        if number > MOST_CELLS {
+            Some(format!(
+                "cell {number}; a job has at most {MOST_CELLS} cells"
+            ))
+        } else if cell.row == TALL && tall >= MOST_TALL {
+            let tall = tall + 1;
+            Some(format!(
+                "cell {number} is tall cell {tall}; a job has at most {MOST_TALL} tall cells"
+            ))
+        } else {
+            None
+        }
+    }
+
+    /// Of the earlier cells that the given site is below, the one furthest right is named.
+    fn falling(&self, cell: &Cell) -> Option<String> {
+        let earlier = self.cells.iter().enumerate();
+        let above = earlier.filter(|(_, other)| other.given > cell.given && other.meets(cell));
+        let (at, other) = above.max_by_key(|(_, other)| other.given)?;
+        Some(format!(
+            "field 3 (given) is {}, below {}, the given site of cell {} (line {}) in {}",
+            cell.given,
+            other.given,
+            at + 1,
+            at + LINES_BEFORE,
+            other.shared_rows(cell),
+        ))
+    }
+}

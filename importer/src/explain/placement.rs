@@ -1,0 +1,74 @@
+//! A placement text: one line `site,layout,mirror` for each cell.
+
+use super::field::Field;
+use super::form::{count, Form};
+use super::line::{lines, Line};
+use super::reason::{Reason, PLACEMENT};
+use crate::Refused;
+
+const POSE: Form = Form {
+    lead: None,
+    fields_of: |_| ["site", "layout", "mirror"].map(any_number).into(),
+};
+
+/// A number's form is all that a placement's fields must have.
+fn any_number(name: &'static str) -> Field {
+    Field::new(name, 0, 9999)
+}
+
+/// How one cell stands.
+pub struct Pose {
+    pub site: u32,
+    pub layout: u32,
+    pub mark: u32,
+}
+
+/// The poses of so many cells, or what is wrong with the earliest line that is bad, missing or
+/// surplus.
+pub fn read(text: &[u8], cells: usize) -> Result<Vec<Pose>, Reason<Refused>> {
+    let mut poses = Vec::new();
+    for line in lines(text) {
+        let pose = if poses.len() < cells {
+            read_pose(&line)
+        } else {
+            Err(surplus(&line, cells))
+        };
+        poses.push(pose.map_err(|words| line.refused(PLACEMENT, words))?);
+    }
+    if poses.len() < cells {
+        return Err(missing(poses.len(), cells));
+    }
+    Ok(poses)
+}
+
+fn read_pose(line: &Line) -> Result<Pose, String> {
+    let numbers = POSE.numbers(line)?;
+    let &[site, layout, mark] = &*numbers.values else {
+        let found = count(numbers.fields, "field");
+        return Err(format!(
+            "{found}, a placement line has 3: site,layout,mirror"
+        ));
+    };
+    Ok(Pose { site, layout, mark })
+}
+
+fn surplus(line: &Line, cells: usize) -> String {
+    let which = match line.body() {
+        [] => "an empty line",
+        _ => "a line",
+    };
+    let cells = count(cells, "cell");
+    format!("{which} too many: the job has {cells}")
+}
+
+fn missing(found: usize, cells: usize) -> Reason<Refused> {
+    let line = u32::try_from(found + 1).unwrap_or(u32::MAX);
+    let (found, cells) = (count(found, "line"), count(cells, "cell"));
+    Reason {
+        answer: Refused {
+            number: PLACEMENT,
+            line,
+        },
+        words: format!("the line is missing: the placement has {found}, the job {cells}"),
+    }
+}
