@@ -67,8 +67,44 @@ fn a_refused_job_gives_number_and_line_and_shows_the_line() {
     let job = WORKED.replace("C,0,6,0", "C,0,1,0");
     let (output, notes, status) = told(&refine(&[], job.as_bytes()));
     assert_eq!((&*output, status), ("refused,4,3\n", Some(1)));
-    assert!(notes.starts_with("C,0,1,0,1,4,3,3,2,2\n"), "{notes}");
-    assert!(notes.contains("given site"), "{notes}");
+    let words = "field 3 (given) is 1, below 2, the given site of cell 1 (line 2) in row 0";
+    let start = format!("C,0,1,0,1,4,3,3,2,2\n<stdin>:3: {words}\nrefine: refusal 4 at line 3: ");
+    assert!(notes.starts_with(&start), "{notes}");
+}
+
+/// Checks what standard error says of a refused job before the meaning of its number.
+fn check_refused_job(job: impl AsRef<[u8]>, answer: &str, shown: &str) {
+    let (output, notes, status) = told(&refine(&[], job.as_ref()));
+    assert_eq!((&*output, status), (answer, Some(1)));
+    let (first, rest) = notes.split_once("refine: refusal ").unwrap_or((&notes, ""));
+    assert_eq!(first, shown);
+    assert_eq!(rest.lines().count(), 1, "{notes}");
+}
+
+#[test]
+fn a_refused_job_is_told_which_field_and_what_is_allowed() {
+    let high = WORKED.replacen("2,2\n", "2,16\n", 1);
+    let words = "<stdin>:2: field 10 (layout 0, right N) is 16; allowed 1 to 15";
+    let shown = format!("C,0,2,1,1,4,3,3,2,16\n{words}\n");
+    check_refused_job(high, "refused,2,2\n", &shown);
+    let shown = "<stdin>:1: the job is empty\n";
+    check_refused_job("", "refused,1,1\n", shown);
+    let shown = "C,0,6,0,1,4,3,3,2,2\n<stdin>:3: the last line has no line feed\n";
+    check_refused_job(WORKED.trim_end(), "refused,1,3\n", shown);
+}
+
+/// A terminal obeys control bytes, and a long line would fill it.
+#[test]
+fn a_line_is_shown_printable_and_cut() {
+    let ends = "<stdin>:1: line ends with CR LF; lines end with LF alone";
+    let shown = format!("J,1,20,1,1,100,1,100,50\\r\n{ends}\n");
+    check_refused_job(WORKED.replace('\n', "\r\n"), "refused,1,1\n", &shown);
+    let lead = "field 1 (lead) is \"\\x1b[2J\\xff\"; the first line begins with J";
+    let shown = format!("\\x1b[2J\\xff\n<stdin>:1: {lead}\n");
+    check_refused_job(b"\x1b[2J\xff\n", "refused,1,1\n", &shown);
+    let (_, notes, _) = told(&refine(&[], &[b'9'; 100_000]));
+    assert!(notes.contains(" ... 99800 more bytes\n"), "{notes}");
+    assert!(notes.len() < 1_000, "{notes}");
 }
 
 #[test]
@@ -162,24 +198,59 @@ fn a_negative_drift_has_its_sign() {
 fn a_broken_rule_is_named_with_its_cell() {
     let (output, notes, status) = score("broken", WORKED, "2,0,0\n7,0,0\n");
     assert_eq!((&*output, status), ("broken,5,1\n", Some(0)));
-    assert!(notes.contains("one empty site"), "{notes}");
+    let takes = "cell 1 takes sites 2 to 5, cell 2 takes sites 7 to 10";
+    let words = format!("rule 5: cells 1 and 2 leave one empty site, 6, in row 0: {takes}\n");
+    assert!(
+        notes.ends_with(&format!("/broken.placement:1: {words}")),
+        "{notes}"
+    );
+    assert_eq!(notes.lines().count(), 1, "{notes}");
+}
+
+#[test]
+fn a_broken_rule_is_told_with_its_numbers() {
+    let (output, notes, status) = score("past", WORKED, "2,0,0\n17,0,0\n");
+    assert_eq!((&*output, status), ("broken,2,2\n", Some(0)));
+    let words = "rule 2: cell 2 ends past the row: 17 + 4 = 21, the row has 20 sites\n";
+    assert!(
+        notes.ends_with(&format!("/past.placement:2: {words}")),
+        "{notes}"
+    );
+}
+
+#[test]
+fn score_tells_of_the_file_that_has_the_line() {
+    let (output, notes, status) = score("job_at_fault", "J,1\n", "2,0,0\n");
+    assert_eq!((&*output, status), ("refused,1,1\n", Some(1)));
+    assert!(notes.contains("/job_at_fault.job:1: 2 fields, "), "{notes}");
+}
+
+#[cfg(unix)]
+#[test]
+fn a_file_is_called_by_a_name_that_stays_in_its_line() {
+    let (_, notes, _) = score("two\nlines", "J,1\n", "");
+    assert!(notes.contains("/two\\nlines.job:1: 2 fields, "), "{notes}");
+    assert_eq!(notes.lines().count(), 3, "{notes}");
 }
 
 #[test]
 fn a_refused_placement_shows_its_line() {
     let (output, notes, status) = score("refused", WORKED, "2,0,0\n7,0\n");
     assert_eq!((&*output, status), ("refused,5,2\n", Some(1)));
-    assert!(
-        notes.starts_with("7,0\nrefine: refusal 5 at line 2"),
-        "{notes}"
-    );
+    let words = "2 fields, a placement line has 3: site,layout,mirror\n";
+    let told = format!("/refused.placement:2: {words}refine: refusal 5 at line 2");
+    assert!(notes.starts_with("7,0\n"), "{notes}");
+    assert!(notes.contains(&told), "{notes}");
 }
 
 #[test]
 fn a_missing_line_shows_nothing_but_the_reason() {
     let (output, notes, status) = score("missing", WORKED, "2,0,0\n");
     assert_eq!((&*output, status), ("refused,5,2\n", Some(1)));
-    assert!(notes.starts_with("refine: refusal 5 at line 2"), "{notes}");
+    let words = "the line is missing: the placement has 1 line, the job 2 cells\n";
+    let told = format!("/missing.placement:2: {words}refine: refusal 5 at line 2");
+    assert!(notes.contains(&told), "{notes}");
+    assert_eq!(notes.lines().count(), 2, "{notes}");
 }
 
 #[test]

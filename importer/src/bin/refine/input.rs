@@ -10,6 +10,23 @@ use std::path::Path;
 /// The longest text that is taken in. The longest job that is accepted has under 8 KiB.
 const LONGEST: u64 = 256 << 20;
 
+/// What messages about a line of standard input call it.
+pub const STANDARD_INPUT: &str = "<stdin>";
+
+/// What messages about a line of a file call it: its path, in which no character moves the cursor.
+pub fn name(path: &OsStr) -> String {
+    let path = path.to_string_lossy();
+    let mut name = String::new();
+    for letter in path.chars() {
+        if letter.is_control() {
+            name.extend(letter.escape_default());
+        } else {
+            name.push(letter);
+        }
+    }
+    name
+}
+
 pub fn standard_input() -> Result<Vec<u8>, Mistake> {
     whole(io::stdin().lock(), "standard input")
 }

@@ -1,5 +1,6 @@
 //! What a run prints and its exit status.
 
+use importer::explain::printable;
 use importer::{Numbers, Refused};
 use std::io::{self, Write};
 use std::process::ExitCode;
@@ -24,16 +25,20 @@ impl Report {
         }
     }
 
-    /// `refused,number,line`; on standard error the line itself, then the reason.
-    pub fn refusal(refused: Refused, mut line: Vec<u8>) -> Report {
-        if line.last().is_some_and(|&byte| byte != b'\n') {
-            line.push(b'\n');
-        }
-        let report = Report {
+    /// `refused,number,line`; on standard error the line itself, what is wrong with it, and what
+    /// the number means. `text` is what the text with the line is called.
+    pub fn refusal(refused: Refused, text: &str, line: &[u8], words: Option<String>) -> Report {
+        let mut report = Report {
             status: REFUSAL,
             output: format!("refused,{},{}\n", refused.number, refused.line).into(),
-            notes: line,
+            notes: Vec::new(),
         };
+        if !line.is_empty() {
+            report = report.with_line(&printable(line));
+        }
+        if let Some(words) = words {
+            report = report.with_words_at(text, refused.line, &words);
+        }
         report.with_note(&refused.to_string())
     }
 
@@ -47,10 +52,19 @@ impl Report {
         report.with_note(reason.trim_end())
     }
 
-    /// The report with one more line on standard error.
-    pub fn with_note(mut self, note: &str) -> Report {
-        self.notes
-            .extend_from_slice(format!("refine: {note}\n").as_bytes());
+    /// The report with one more line on standard error, in the program's name.
+    pub fn with_note(self, note: &str) -> Report {
+        self.with_line(&format!("refine: {note}"))
+    }
+
+    /// The report with words about a line of a text, in the form that editors jump to.
+    pub fn with_words_at(self, text: &str, line: u32, words: &str) -> Report {
+        self.with_line(&format!("{text}:{line}: {words}"))
+    }
+
+    fn with_line(mut self, line: &str) -> Report {
+        self.notes.extend_from_slice(line.as_bytes());
+        self.notes.push(b'\n');
         self
     }
 

@@ -3,7 +3,7 @@
 use crate::input;
 use crate::mistake::Mistake;
 use crate::report::{line_of, Report};
-use importer::{copied_fault_line, refine};
+use importer::{copied_fault_line, explain, refine};
 use std::ffi::OsString;
 
 /// Without a word there are no arguments either.
@@ -15,6 +15,10 @@ pub fn run(_: &[OsString]) -> Result<Report, Mistake> {
             output.extend_from_slice(&refined.text);
             Report::answer(output)
         }
-        Err(refused) => Report::refusal(refused, copied_fault_line(&job, &[])),
+        Err(refused) => {
+            let line = copied_fault_line(&job, &[]);
+            let words = explain::job_line(&job, &refused);
+            Report::refusal(refused, input::STANDARD_INPUT, &line, words)
+        }
     })
 }
