@@ -26,6 +26,69 @@
 #include <stddef.h>
 #include <stdint.h>
 
+#define REFINER_VERSION "0.1.0"
+
+/* A job's limits: cells, and how many of them may be tall. */
+#define REFINER_MAX_CELLS 64
+#define REFINER_MAX_TALL 24
+
+/* What Place needs: words of store, and bytes of output for each cell of the job. */
+#define REFINER_STORE_WORDS 1048576
+#define REFINER_OUTPUT_BYTES_PER_CELL 9
+
+/* What a function returns; the table above has the meanings. */
+enum {
+    REFINER_ANSWERED = 0,
+    REFINER_REFUSED_FORM = 1,
+    REFINER_REFUSED_RANGE = 2,
+    REFINER_REFUSED_COUNT = 3,
+    REFINER_REFUSED_ORDER = 4,
+    REFINER_REFUSED_PLACEMENT = 5,
+    REFINER_REFUSED_STORE = 6,
+    REFINER_REFUSED_OUTPUT = 7,
+    REFINER_REFUSED_NO_LEGAL = 8
+};
+
+/* Where the numbers stand in `results`: these two of every operation, then its own fields. The name
+ * that ends in RESULTS is how many entries the operation has in all.
+ */
+enum { REFINER_NUMBER = 0, REFINER_LINE = 1 };
+
+enum { REFINER_READ_CELLS = 2, REFINER_READ_RESULTS = 3 };
+
+enum {
+    REFINER_SCORE_RULE = 2,
+    REFINER_SCORE_CELL = 3,
+    REFINER_SCORE_STEPS = 4,
+    REFINER_SCORE_SHIFTED = 5,
+    REFINER_SCORE_MIRRORED = 6,
+    REFINER_SCORE_CHANGED = 7,
+    REFINER_SCORE_COST = 8,
+    REFINER_SCORE_DRIFT = 9,
+    REFINER_SCORE_RESULTS = 10
+};
+
+enum {
+    REFINER_PLACE_STEPS = 2,
+    REFINER_PLACE_SHIFTED = 3,
+    REFINER_PLACE_MIRRORED = 4,
+    REFINER_PLACE_CHANGED = 5,
+    REFINER_PLACE_COST = 6,
+    REFINER_PLACE_DRIFT = 7,
+    REFINER_PLACE_TEXT_LENGTH = 8,
+    REFINER_PLACE_RESULTS = 9
+};
+
+/* Where the numbers stand in Fault line's `part`, how many they are, and which text is which. */
+enum {
+    REFINER_PART_TEXT = 0,
+    REFINER_PART_START = 1,
+    REFINER_PART_LENGTH = 2,
+    REFINER_PART_NUMBERS = 3
+};
+
+enum { REFINER_TEXT_JOB = 0, REFINER_TEXT_PLACEMENT = 1 };
+
 #ifdef __cplusplus
 extern "C" {
 #endif
