@@ -1,8 +1,8 @@
 /* The row pair refiner's C interface: the archive librefiner.a, built by `rt staticlib refiner`.
  *
  * Every function takes its texts, buffers and results as address and length; a length counts
- * elements. An address may be anything that is not null if its length is 0. Nothing else is asked
- * of the arguments, except that no buffer which a function may write overlaps another argument.
+ * elements. An address whose length is 0 may be anything, NULL too. Nothing else is asked of the
+ * arguments, except that no buffer which a function may write overlaps another argument.
  *
  * Every operation returns its refusal number, or 0 for an answer. It writes to `results`, as far
  * as that reaches: the number, the line (counted from 1; 0 if no line is at fault), and then the

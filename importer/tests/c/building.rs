@@ -29,6 +29,13 @@ pub fn folder(test: &str) -> PathBuf {
     folder
 }
 
+/// A program of `tests/c`.
+pub fn source(name: &str) -> PathBuf {
+    Path::new(env!("CARGO_MANIFEST_DIR"))
+        .join("tests/c")
+        .join(name)
+}
+
 /// Builds a C program with the header and the archive of the repository.
 pub fn build(source: &Path, program: &Path, flags: &[&str]) {
     let mut gcc = Command::new("gcc");
@@ -47,4 +54,14 @@ pub fn said(command: &mut Command) -> String {
     let said = String::from_utf8_lossy(&output.stdout).into_owned();
     assert!(well, "{command:?}: {}\n{said}{notes}", output.status);
     said
+}
+
+/// Whether a command is there and succeeds; says so if a test goes on without it.
+pub fn is_there(command: &mut Command) -> bool {
+    let output = command.stdin(Stdio::null()).output();
+    let there = output.is_ok_and(|output| output.status.success());
+    if !there {
+        eprintln!("left out, because this does not work here: {command:?}");
+    }
+    there
 }
