@@ -5,3 +5,5 @@
 mod building;
 mod names;
 mod null;
+mod stack;
+mod threads;
