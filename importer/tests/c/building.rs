@@ -2,8 +2,9 @@
 
 use std::env;
 use std::fs;
+use std::io::Write;
 use std::path::{Path, PathBuf};
-use std::process::{Command, Stdio};
+use std::process::{Command, Output, Stdio};
 
 pub const STRICT: &[&str] = &["-std=c99", "-Wall", "-Wextra", "-pedantic", "-Werror"];
 
@@ -54,6 +55,17 @@ pub fn said(command: &mut Command) -> String {
     let said = String::from_utf8_lossy(&output.stdout).into_owned();
     assert!(well, "{command:?}: {}\n{said}{notes}", output.status);
     said
+}
+
+/// Runs a program on a text as standard input.
+pub fn run(program: &Path, input: &[u8]) -> Output {
+    let mut command = Command::new(program);
+    command.stdin(Stdio::piped()).stdout(Stdio::piped());
+    let mut child = command.spawn().expect("the program starts");
+    let mut stdin = child.stdin.take().expect("standard input is a pipe");
+    stdin.write_all(input).expect("the program reads its input");
+    drop(stdin);
+    child.wait_with_output().expect("the program ends")
 }
 
 /// Whether a command is there and succeeds; says so if a test goes on without it.

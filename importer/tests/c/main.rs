@@ -3,6 +3,7 @@
 //! leaves out and says so.
 
 mod building;
+mod example;
 mod names;
 mod null;
 mod stack;

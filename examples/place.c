@@ -1,0 +1,62 @@
+/* Reads a job on standard input, places it and prints what `refine` prints: the numbers
+ * `cost,steps,sites shifted,mirrored,changed,drift` and the placement, or `refused,number,line`.
+ *
+ * Exit status: 0 an answer, 1 a refusal, 2 an input or output error.
+ */
+#include "refiner.h"
+
+#include <inttypes.h>
+#include <stdio.h>
+#include <stdlib.h>
+
+static uint32_t store[REFINER_STORE_WORDS];
+static uint8_t placement[REFINER_MAX_CELLS * REFINER_OUTPUT_BYTES_PER_CELL];
+static int32_t results[REFINER_PLACE_RESULTS];
+
+/* All of standard input, and its length in `length`. */
+static uint8_t *job_text(size_t *length) {
+    uint8_t *text = NULL;
+    size_t room = 0, taken = 1;
+    for (*length = 0; taken > 0; *length += taken) {
+        if (*length == room) {
+            room = 2 * room + 4096;
+            text = (uint8_t *)realloc(text, room);
+            if (text == NULL) {
+                fputs("place: the job does not fit into memory\n", stderr);
+                exit(2);
+            }
+        }
+        taken = fread(text + *length, 1, room - *length, stdin);
+    }
+    if (ferror(stdin)) {
+        perror("place: standard input");
+        exit(2);
+    }
+    return text;
+}
+
+static void print_placement(void) {
+    printf("%" PRId32 ",%" PRId32 ",%" PRId32 ",%" PRId32 ",%" PRId32 ",%" PRId32 "\n",
+           results[REFINER_PLACE_COST], results[REFINER_PLACE_STEPS],
+           results[REFINER_PLACE_SHIFTED], results[REFINER_PLACE_MIRRORED],
+           results[REFINER_PLACE_CHANGED], results[REFINER_PLACE_DRIFT]);
+    fwrite(placement, 1, (size_t)results[REFINER_PLACE_TEXT_LENGTH], stdout);
+}
+
+int main(void) {
+    size_t length;
+    uint8_t *job = job_text(&length);
+    uint32_t number = refiner_place(job, length, store, REFINER_STORE_WORDS, placement,
+                                    sizeof placement, results, REFINER_PLACE_RESULTS);
+    free(job);
+    if (number == REFINER_ANSWERED) {
+        print_placement();
+    } else {
+        printf("refused,%" PRIu32 ",%" PRId32 "\n", number, results[REFINER_LINE]);
+    }
+    if (fflush(stdout) != 0) {
+        perror("place: standard output");
+        return 2;
+    }
+    return number == REFINER_ANSWERED ? 0 : 1;
+}
