@@ -9,7 +9,7 @@ const WORKED: &[u8] = include_bytes!("../../../examples/worked.job");
 const ANSWER: &str = "100,0,0,1,0,0\n2,0,1\n6,0,0\n";
 
 /// Checks that a program built from the example answers and refuses as it should.
-fn check(program: &Path) {
+pub fn check(program: &Path) {
     let jobs: [(&[u8], &str, i32); 4] = [
         (WORKED, ANSWER, 0),
         (

@@ -4,6 +4,7 @@
 
 mod building;
 mod example;
+mod install;
 mod names;
 mod null;
 mod stack;
