@@ -1,6 +1,7 @@
--- Worked cases: whole results of Score, and small facts of buffers, moves and Fault line. Their values were worked out
--- from document 01 by a program apart from these definitions; here they are computed, so that a definition that is
--- wrong in a mark, a layout, a weight, a row, a refusal or a short array is refused in this crate.
+-- Worked cases: whole results of Score, and small facts of buffers, moves and Fault line. The values of Score's were
+-- worked out from document 01 by a program apart from these definitions, the others by hand; here they are computed,
+-- so that a definition that is wrong in a mark, a layout, a weight, a row, a refusal or a short array is refused in
+-- this crate.
 use Prim.Native.Nat.{ℕ}
 use Prim.Native.String.{String, _++_}
 use mathlib.Core.Path.{_≡_, refl}
