@@ -5,8 +5,9 @@ use Rattle.definition.specs.Texts.{Text, bytes, linesOf, ended, fieldsOf
 use Rattle.definition.specs.Job.{firstFailing, headerInRange, headerRefusal, headerOf}
 use Rattle.definition.specs.Job.{layoutsOf, cellOf, restInRange, cellRefusal, readCells, readLines, readJob}
 use Rattle.definition.specs.Placement.{isPose, poseOf, readPoses, readPlacement}
-use Rattle.definition.specs.Rules.{put, sort, order, placeIn, besideOneSite, outOfPlace}
-use Rattle.definition.specs.Rules.{breaks1, breaks2, breaks3, breaks4, breaks5, breaks6, breaks7}
+use Rattle.definition.specs.Rules.{put, sort, order, placeIn, isFirst, isLast}
+use Rattle.definition.specs.Rules.{besideOneSite, outOfPlace, atOneSiteEnd}
+use Rattle.definition.specs.Rules.{breaks1, breaks2, breaks3, breaks4, breaks5, breaks6, breaks7, breaks8}
 use Rattle.definition.specs.Rules.{lowest, firstBroken, verdict}
 use Rattle.definition.specs.Cost.{differing, stepsAt, stepsIn, steps, shifted, mirrored, changed, cost}
 use Rattle.definition.specs.Cost.{totalShift, drift}
@@ -19,8 +20,9 @@ unfolding bytes linesOf ended fieldsOf isNumber valueFrom
     firstFailing headerInRange headerRefusal headerOf
     layoutsOf cellOf restInRange cellRefusal readCells readLines readJob
     isPose poseOf readPoses readPlacement
-    put sort order placeIn besideOneSite outOfPlace
-    breaks1 breaks2 breaks3 breaks4 breaks5 breaks6 breaks7
+    put sort order placeIn isFirst isLast
+    besideOneSite outOfPlace atOneSiteEnd
+    breaks1 breaks2 breaks3 breaks4 breaks5 breaks6 breaks7 breaks8
     lowest firstBroken verdict
     differing stepsAt stepsIn steps shifted mirrored changed cost
     totalShift drift
@@ -47,4 +49,7 @@ edges-computed =
     & (refl, refl) & (refl, refl) & (refl, refl)
     & ((refl, refl), refl)
     & ((refl, refl), refl) & ((refl, refl), refl) & ((refl, refl), refl)
+    & (refl, refl) & ((refl, refl), refl) & ((refl, refl), refl) & (refl, refl)
+    & ((refl, refl), refl) & ((refl, refl), refl) & (refl, refl)
+    & (refl, refl)
     & tt

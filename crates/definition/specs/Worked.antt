@@ -61,6 +61,11 @@ worked =
     ∷ scoring ("J,2,30,7,1,1,1,1,1\n" ++ rowOneCells) "0,0,0\n8,0,0\n5,0,0\n" (naming 5 2)
     -- exchanged in row 1 with R 0: rule 6
     ∷ scoring ("J,2,30,7,0,1,1,1,1\n" ++ rowOneCells) "0,0,0\n7,0,0\n5,0,0\n" (naming 6 2)
+    -- one site after the last cell of row 0, which is cell 3, and before the first of row 1: rule 8, cell 2
+    ∷ scoring ("J,2,10,7,1,1,1,1,1\nC,0,0,0,1,2,1,1,1,1\n"
+    ++ "C,1,1,0,1,2,1,1,1,1\nC,0,7,0,1,2,1,1,1,1\n") "0,0,0\n1,0,0\n7,0,0\n" (naming 8 2)
+    -- one site on either side of a row's only cell
+    ∷ scoring "J,1,4,7,1,1,1,1,1\nC,0,1,0,1,2,1,1,1,1\n" "1,0,0\n" (naming 8 1)
     -- the last line has no line feed
     ∷ scoring "J,1,20,1,1,100,1,100,50\nC,0,2,1,1,4,3,3,2,2" "" (refusingAt 1 2)
     -- a leading zero
@@ -83,7 +88,8 @@ worked =
 pub worked-hold : AllComputed worked
 unfolding opened _&_
 worked-hold =
-    refl & refl & refl & refl & refl & refl & refl & refl & refl & refl & refl & refl & refl & refl & tt
+    refl & refl & refl & refl & refl & refl & refl & refl
+    & refl & refl & refl & refl & refl & refl & refl & refl & tt
 
 -- ---- buffers, moves, limits
 
