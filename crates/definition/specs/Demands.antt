@@ -4,15 +4,15 @@ use Prim.Native.Nat.{ℕ, _-_, _≤_, _<_}
 use mathlib.Core.Path.{_≡_}
 use mathlib.Core.Logic.{_↔_}
 use mathlib.Core.Bool.{Bool, true, false, cond}
-use mathlib.Core.List.{List, [], _∷_, _++_}
-use lib.ListN.{length, getD, replicate}
+use mathlib.Core.List.{List, [], _∷_, _++_, map}
+use lib.ListN.{length, replicate}
 use lib.Dec.{ltb, eqb}
 use lib.IntN.{ℤ, pos}
 use Rattle.definition.specs.Lists.{any}
 use Rattle.definition.specs.Texts.{Text}
 use Rattle.definition.specs.Job.{Job, readJob, accepted}
 use Rattle.definition.specs.Placement.{Placement, Printable, poses, readPlacement, textOf}
-use Rattle.definition.specs.Rules.{poseAt, Legal, rules}
+use Rattle.definition.specs.Rules.{poseAt, Legal, rules, ruleOf}
 use Rattle.definition.specs.Outcome.{Outcome, numbers, numberCount, score, Buffers, lent, over}
 use Rattle.definition.specs.Outcome.{readFieldCount, scoreFieldCount, placeFieldCount}
 
@@ -21,39 +21,66 @@ use Rattle.definition.specs.Outcome.{readFieldCount, scoreFieldCount, pl
 abbrev pub isOneOf : List ℕ → ℕ → Bool
 isOneOf l n = any (eqb n) l
 
--- What is known of an operation beforehand: the refusals that it may give, those of them that name a line, the numbers
--- that it returns after a search, and how many fields it has.
+-- What is known of an operation beforehand: the numbers that it answers with, the refusals that it may give, those of
+-- all these that name a line, and those that it returns after a search; whether number and line lead its results, and
+-- how many fields it has.
 pub record Shape : Type 0 where
+  pub answers : List ℕ
   pub refusals : List ℕ
   pub lined : List ℕ
   pub searched : List ℕ
+  pub led : Bool
   pub fieldCount : ℕ
 
 -- "1 to 4"; "1 to 4 as Read does, then 5"; "1 to 4; then 6 [..]; then 7 [..]; then 8". "Line is 0 for 6, 7 and 8."
 -- "After 8 or an answer the whole store is zero."
 abbrev pub readShape : Shape
 readShape = record {
+  answers = 0 ∷ [];
   refusals = 1 ∷ 2 ∷ 3 ∷ 4 ∷ [];
   lined = 1 ∷ 2 ∷ 3 ∷ 4 ∷ [];
   searched = [];
+  led = true;
   fieldCount = readFieldCount;
 }
 
 abbrev pub scoreShape : Shape
 scoreShape = record {
+  answers = 0 ∷ [];
   refusals = 1 ∷ 2 ∷ 3 ∷ 4 ∷ 5 ∷ [];
   lined = 1 ∷ 2 ∷ 3 ∷ 4 ∷ 5 ∷ [];
   searched = [];
+  led = true;
   fieldCount = scoreFieldCount;
+}
+
+-- Fault line refuses nothing: a number of Score's is its answer, and three numbers say where the line is.
+abbrev pub faultShape : Shape
+faultShape = record {
+  answers = 0 ∷ scoreShape .refusals;
+  refusals = [];
+  lined = scoreShape .lined;
+  searched = [];
+  led = false;
+  fieldCount = 3;
 }
 
 abbrev pub placeShape : Shape
 placeShape = record {
+  answers = 0 ∷ [];
   refusals = 1 ∷ 2 ∷ 3 ∷ 4 ∷ 6 ∷ 7 ∷ 8 ∷ [];
   lined = 1 ∷ 2 ∷ 3 ∷ 4 ∷ [];
   searched = 0 ∷ 8 ∷ [];
+  led = true;
   fieldCount = placeFieldCount;
 }
+
+abbrev pub isRefusal : Shape → ℕ → Bool
+isRefusal shape n = isOneOf (shape .refusals) n
+
+-- "number, line (0 if no line is at fault) and then the fields in the order named"; Fault line has fields alone
+abbrev pub entriesOf : Shape → ℕ → ℕ → List ℤ → List ℤ
+entriesOf shape number line fields = cond (shape .led) (pos number ∷ pos line ∷ fields) fields
 
 -- A call of an operation, by the number that it returns and its buffers before and after it; one that takes no store or
 -- no output is seen with empty ones. That the call ends, and reads and writes nothing else, is part of every proof.
@@ -61,19 +88,19 @@ pub record Demand1 (shape : Shape) (returned : ℕ) (before end : Buffers) : Typ
   pub line : ℕ
   pub fields : List ℤ
   pub text : Text
-  -- "answers or gives a numbered refusal with its line": 0, or one of the operation's own
-  pub numbered : isOneOf (0 ∷ shape .refusals) returned ≡ true
+  -- "answers or gives a numbered refusal with its line": an answer or a refusal of the operation's own
+  pub numbered : isOneOf (shape .answers ++ shape .refusals) returned ≡ true
   -- "line (0 if no line is at fault)"
   pub located : isOneOf (shape .lined) returned ≡ ltb 0 line
   -- number, line and fields as far as the array reaches, and nothing after them
   pub counted : length fields ≡ shape .fieldCount
-  pub array : end .results ≡ over (pos returned ∷ pos line ∷ fields) (before .results)
+  pub array : end .results ≡ over (entriesOf shape returned line fields) (before .results)
   -- a text that fits, and nothing after it
   pub fits : length text ≤ length (before .output)
   pub written : end .output ≡ over text (before .output)
   -- "A refused call writes nothing into the output and leaves zero in every result field but number and line"
-  pub no-fields : ¬ (returned ≡ 0) → fields ≡ replicate (shape .fieldCount) (pos 0)
-  pub no-text : ¬ (returned ≡ 0) → text ≡ []
+  pub no-fields : isRefusal shape returned ≡ true → fields ≡ replicate (shape .fieldCount) (pos 0)
+  pub no-text : isRefusal shape returned ≡ true → text ≡ []
   -- "the store is untouched, or all zero if a search was made"
   pub stored : end .store
       ≡ cond (isOneOf (shape .searched) returned) (replicate (length (before .store)) 0) (before .store)
@@ -82,18 +109,15 @@ pub record Demand1 (shape : Shape) (returned : ℕ) (before end : Buffers) : Typ
 abbrev pub alone : List ℤ → Buffers
 alone results = lent [] [] results
 
--- Fault line has no fields of its own: Score's number is returned, and three numbers say where its line is.
-pub record FaultDemand1 (returned : ℕ) (part part′ : List ℕ) : Type 0 where
-  pub words : List ℕ
-  pub numbered : isOneOf (0 ∷ scoreShape .refusals) returned ≡ true
-  pub counted : length words ≡ 3
-  pub array : part′ ≡ over words part
+-- Fault line is lent results without signs, and perhaps an output
+abbrev pub unsigned : List ℕ → List ℕ → Buffers
+unsigned output part = lent [] output (map pos part)
 
 -- ---- Demand 2: "Scoring says legal just when the rules hold; otherwise the first broken rule and its lowest cell."
 
 -- a cell breaks a rule, both counted from 1
 abbrev pub broken : Job → Placement → ℕ → ℕ → Bool
-broken j P rule cell = getD (rules j P) (rule - 1) (λ k. false) (cell - 1)
+broken j P rule cell = ruleOf j P rule (cell - 1)
 
 -- Score's outcome on an accepted job and a placement that was read
 pub record Demand2 (j : Job) (P : Placement) (o : Outcome) : Type 0 where
