@@ -14,7 +14,7 @@ use Rattle.definition.specs.Cost.{cost}
 use Rattle.definition.specs.Moves.{Move, left, changeBy, alter, movedBy, after}
 use Rattle.definition.specs.Outcome.{bufferRefusal, Buffers, Returned, Demand3, Demand3Of, over}
 use Rattle.definition.specs.FaultLine.{partAt, faultLine, Very, ToldFault}
-use Rattle.definition.specs.Edges.{fiveSites, fiveSitesD1}
+use Rattle.definition.specs.Edges.{fiveSites, inFiveAtOne}
 use Rattle.definition.specs.EdgesComputed.{opened}
 use Rattle.definition.specs.Worked.{oneCell}
 use Rattle.definition_laws.specs.Agree.{verdict-legal}
@@ -31,23 +31,23 @@ unfolding opened allPlacements jobOf
 none-comes-back e d =
     d (jobOf fiveSites) refl e .none-when .1 (λ ms l. all-fail (jobOf fiveSites) refl (after (jobOf fiveSites) ms) l)
 
--- with D 1 a placement comes back, and it costs 1
+-- a cell given one site from its row's start, D 1: a placement comes back, and it costs 1
 shift : List Move
-shift = record { cell = 1; change = left } ∷ []
+shift = record { cell = 0; change = left } ∷ []
 
-shift-legal : Legal (jobOf fiveSitesD1) (after (jobOf fiveSitesD1) shift)
+shift-legal : Legal (jobOf inFiveAtOne) (after (jobOf inFiveAtOne) shift)
 unfolding opened after movedBy alter changeBy jobOf shift
-shift-legal = verdict-legal (jobOf fiveSitesD1) (after (jobOf fiveSitesD1) shift) refl .0 refl
+shift-legal = verdict-legal (jobOf inFiveAtOne) (after (jobOf inFiveAtOne) shift) refl .0 refl
 
-shift-cost : cost (jobOf fiveSitesD1) (after (jobOf fiveSitesD1) shift) ≡ 1
+shift-cost : cost (jobOf inFiveAtOne) (after (jobOf inFiveAtOne) shift) ≡ 1
 unfolding opened after movedBy alter changeBy jobOf shift
 shift-cost = refl
 
-no-less : (P : Placement) → Legal (jobOf fiveSitesD1) P → 1 ≤ cost (jobOf fiveSitesD1) P
+no-less : (P : Placement) → Legal (jobOf inFiveAtOne) P → 1 ≤ cost (jobOf inFiveAtOne) P
 unfolding opened allPlacements jobOf
-no-less P l = all-cost (jobOf fiveSitesD1) 1 refl P l
+no-less P l = all-cost (jobOf inFiveAtOne) 1 refl P l
 
-module _ {returned : ℕ} {before end : Buffers} (d : Demand3 (jobOf fiveSitesD1) returned before end) where
+module _ {returned : ℕ} {before end : Buffers} (d : Demand3 (jobOf inFiveAtOne) returned before end) where
   answered : returned ≡ 0
   answered = go (d .answers)
     where
@@ -55,18 +55,18 @@ module _ {returned : ℕ} {before end : Buffers} (d : Demand3 (jobOf fiveSitesD1
       go (inl e) = e
       go (inr e) = absurd (d .none-when .0 e shift shift-legal)
 
-  costs-one : (P : Placement) → Returned (jobOf fiveSitesD1) before end P → cost (jobOf fiveSitesD1) P ≡ 1
+  costs-one : (P : Placement) → Returned (jobOf inFiveAtOne) before end P → cost (jobOf inFiveAtOne) P ≡ 1
   costs-one P r = omega (arith, no-less P (r .legal), r .least shift shift-legal, shift-cost)
 
   stated-one : 6 < length (before .results) → getD (end .results) 6 (pos 0) ≡ pos 1
   stated-one h = let p = d .returns answered in p .1 .stated h ∙ ap pos (costs-one (p .0) (p .1))
 
 pub one-comes-back : {returned : ℕ} {before end : Buffers}
-    → bufferRefusal (jobOf fiveSitesD1) (length (before .store)) (length (before .output)) ≡ 0
-    → Demand3Of (bytes fiveSitesD1) returned before end → 6 < length (before .results)
+    → bufferRefusal (jobOf inFiveAtOne) (length (before .store)) (length (before .output)) ≡ 0
+    → Demand3Of (bytes inFiveAtOne) returned before end → 6 < length (before .results)
     → (returned ≡ 0) × (getD (end .results) 6 (pos 0) ≡ pos 1)
 unfolding opened jobOf
-one-comes-back e d h = let x = d (jobOf fiveSitesD1) refl e in (answered x, stated-one x h)
+one-comes-back e d h = let x = d (jobOf inFiveAtOne) refl e in (answered x, stated-one x h)
 
 -- ---- Fault line
 

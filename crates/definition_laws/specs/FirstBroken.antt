@@ -7,7 +7,7 @@ use native.Mathlib.Omega.{arith}
 use native.Mathlib.Decide.{ℕ-discrete}
 use lib.ListN.{length, getD}
 use Rattle.definition.specs.Lists.{from}
-use Rattle.definition.specs.Rules.{lowest, firstBroken, Verdict}
+use Rattle.definition.specs.Rules.{never, lowest, firstBroken, Verdict}
 use Rattle.definition_laws.specs.Agree.{lowest-none}
 
 -- a cell that breaks a rule, and none below it does; cells count from 0 here
@@ -46,7 +46,7 @@ lowest-some f a (suc n) c e = go (f a) refl e (lowest-some f (suc a) n c)
 
 -- a rule that is not there is broken by no cell
 abbrev pub ruleIn : List (ℕ → Bool) → ℕ → ℕ → Bool
-ruleIn fs i k = getD fs i (λ k. false) k
+ruleIn fs i k = getD fs i never k
 
 -- the verdict on rules of which the first is numbered suc r, where it names one
 pub record Broken (fs : List (ℕ → Bool)) (r n : ℕ) (v : Verdict) : Type 0 where

@@ -134,10 +134,10 @@ unfolding breaks1 breaks2
 legal-narrow j P s l = each-at Narrow P λ k h.
     let low : k < length (j .cells) = omega (arith, l .each) in
     let few : offerAt j k .layouts ≤ 2 = omega (arith, s .cell k low .few, layouts-within (j .header) (cellAt j k)) in
-    let chosen = not-false (choiceOffered (offerAt j k) (poseAt P k)) (l .rule1 k low) in
+    let chosen = not-false (choiceOffered (offerAt j k) (poseAt P k)) (l .rule 1 k low) in
     let q = legal-pose (offerAt j k) (poseAt P k) few chosen in
     let inside =
-    leb-true (endAt j P k) (j .header .sites) (not-false (leb (endAt j P k) (j .header .sites)) (l .rule2 k low)) in
+    leb-true (endAt j P k) (j .header .sites) (not-false (leb (endAt j P k) (j .header .sites)) (l .rule 2 k low)) in
     record { site = omega (arith, s .header .fewSites); layout = q .0; mark = q .1 }
 
 pub legal-printable : (j : Job) (P : Placement) → Sound j → Legal j P → Each Printable P

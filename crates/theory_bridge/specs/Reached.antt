@@ -129,7 +129,7 @@ reached j sound P l = moves-to (givenRows j) P (length-map (j .cells) asGiven �
   where
     each : (k : ℕ) → k < length (j .cells) → Changes (poseAt (givenRows j) k) (poseAt P k)
     each k h =
-        let a = keeps-allowed j k P .0 (l .rule1 k h, l .rule2 k h, l .rule3 k h) in
+        let a = keeps-allowed j k P .0 (l .rule 1 k h, l .rule 2 k h, l .rule 3 k h) in
         let d = sound .header .fewSites in
         let f = few-layouts j sound k in
         let e = a .layout in

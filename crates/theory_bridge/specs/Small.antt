@@ -117,7 +117,7 @@ module _ (j : Job) (sound : Sound j) where
       let n = length (j .cells) in
       let own : (k : ℕ) → In k (from 0 n) → ownOf j k (poseAt P k) ≤ 9000 =
       λ k m. let h = in-from 0 n m in let b : k < n = omega arith in
-      own-most k (poseAt P k) (keeps-allowed j k P .0 (l .rule1 k b, l .rule2 k b, l .rule3 k b))
+      own-most k (poseAt P k) (keeps-allowed j k P .0 (l .rule 1 k b, l .rule 2 k b, l .rule 3 k b))
       in
       let a = sum-most 9000 (λ k. ownOf j k (poseAt P k)) (from 0 n) own in
       let b = length-from 0 n in
