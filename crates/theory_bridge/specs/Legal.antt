@@ -2,7 +2,7 @@
 use mathlib.Core.Path.{_≡_, refl, sym, ap, _∙_, subst}
 use mathlib.Core.Logic.{_↔_}
 use mathlib.Core.Bool.{Bool, true, _&&_}
-use mathlib.Core.List.{List, [], _∷_, List·Memᴰ as In}
+use mathlib.Core.List.{List·Memᴰ as In}
 use Prim.Native.Nat.{ℕ, _≤_, _<_}
 use native.Mathlib.Omega.{arith}
 use borrow.Author.Tests.{ltb-true, lt-ltb, ltb-false, le-ltb}
@@ -12,28 +12,17 @@ use Rattle.definition.specs.Lists.{any}
 use Rattle.definition.specs.Job.{Job}
 use Rattle.definition.specs.Job as job
 use Rattle.definition.specs.Placement.{Pose, Placement}
-use Rattle.definition.specs.Rules.{Legal, Holds, cellAt, siteAt, cellsOf, wrongSide, breaks7}
+use Rattle.definition.specs.Rules.{Legal, Holds, cellAt, siteAt, cellsOf, wrongSide}
+use Rattle.definition.specs.Rules.{breaks1, breaks2, breaks3, breaks7}
 use Rattle.definition_laws.specs.Sound.{Sound}
-use Rattle.theory_pair.specs.Ends.{Ended, lastFrom}
-use Rattle.theory_pair.specs.Cells.{Side, isTall, rowOrder, RowEnded, LegalPair}
-use Rattle.theory_bridge.specs.Paired.{siteOf, offersOf, endAllowed, opensOf, closesOf, pairJob}
+use Rattle.definition_laws.specs.Agree.{every-legal}
+use Rattle.theory_pair.specs.Cells.{isTall, LegalPair}
+use Rattle.theory_bridge.specs.Paired.{siteOf, offersOf, pairJob}
 use Rattle.theory_bridge.specs.Tests.{and-false, or-false, any-false}
 use Rattle.theory_bridge.specs.Offers.{Keeps, offered-rules}
 use Rattle.theory_bridge.specs.Row.{Gives, in-cells, isTall-same}
 use Rattle.theory_bridge.specs.RowRules.{rule4-same, rule5-same, rule6-same}
-
--- ---- the row's ends
-
--- any number of sites may be empty at them
-pub end-allowed : (gap : ℕ) → endAllowed gap ≡ true
-unfolding endAllowed
-end-allowed gap = refl
-
--- cells each of which may be the first of a row, and the last
-free-ends : (opens closes : ℕ → Bool) → ((k : ℕ) → opens k ≡ true) → ((k : ℕ) → closes k ≡ true) → (l : List ℕ)
-    → Ended opens closes l
-free-ends opens closes o c [] = tt
-free-ends opens closes o c (a ∷ l) = (o a, c (lastFrom a l))
+use Rattle.theory_bridge.specs.RowEnds.{rule8-same}
 
 module _ (j : Job) (sound : Sound j) (P : Placement) (f : ℕ → Pose) (g : Gives P (length (j .cells)) f) where
   -- rule 7
@@ -90,38 +79,32 @@ module _ (j : Job) (sound : Sound j) (P : Placement) (f : ℕ → Pose) (g : Giv
                 (λ e. le-ltb (siteAt P b) (siteAt P k) (keeps c k b (ltb-true k b e) (in-cells j sound b .0 m) tk tb)),
           ))))
 
-  -- no rule speaks of the row's ends, and each is allowed
-  row-ended : (s : Side) → RowEnded siteOf (pairJob j) f s
-  row-ended s = free-ends (λ k. opensOf j k (f k)) (λ k. closesOf j k (f k)) (λ k. end-allowed _) (λ k. end-allowed _)
-      (rowOrder siteOf (pairJob j) f s)
-
   pub legal-pair : length P ≡ length (j .cells) → Legal j P ↔ LegalPair (j .header .reordering) siteOf (pairJob j) f
   legal-pair size = (to, back)
     where
       to : Legal j P → LegalPair (j .header .reordering) siteOf (pairJob j) f
       to l = record {
         offered = λ k h. subst (λ p. In p (offersOf j k)) (g k h)
-            (offered-rules j sound k P .1 (l .rule1 k h, l .rule2 k h, l .rule3 k h));
+            (offered-rules j sound k P .1 (l .rule 1 k h, l .rule 2 k h, l .rule 3 k h));
         rows = λ s. record {
-          rule4 = rule4-same j sound P f g .0 (l .rule4) s;
-          rule5 = rule5-same j sound P f g .0 (l .rule5) s;
-          rule6 = rule6-same j sound P f g .0 (l .rule6) s;
+          rule4 = rule4-same j sound P f g .0 (l .rule 4) s;
+          rule5 = rule5-same j sound P f g .0 (l .rule 5) s;
+          rule6 = rule6-same j sound P f g .0 (l .rule 6) s;
         };
-        inOrder = rule7-same .0 (l .rule7);
-        ended = row-ended;
+        inOrder = rule7-same .0 (l .rule 7);
+        ended = rule8-same j sound P f g .0 (l .rule 8);
       }
 
       back : LegalPair (j .header .reordering) siteOf (pairJob j) f → Legal j P
       back l =
           let kept : (k : ℕ) → k < length (j .cells) → Keeps j k P =
           λ k h. offered-rules j sound k P .0 (subst (λ p. In p (offersOf j k)) (sym (g k h)) (l .offered k h)) in
-          record {
-            each = size;
-            rule1 = λ k h. kept k h .0;
-            rule2 = λ k h. kept k h .1;
-            rule3 = λ k h. kept k h .2;
-            rule4 = rule4-same j sound P f g .1 (λ s. l .rows s .rule4);
-            rule5 = rule5-same j sound P f g .1 (λ s. l .rows s .rule5);
-            rule6 = rule6-same j sound P f g .1 (λ s. l .rows s .rule6);
-            rule7 = rule7-same .1 (l .inOrder);
-          }
+          let r1 : Holds j (breaks1 j P) = λ k h. kept k h .0 in
+          let r2 : Holds j (breaks2 j P) = λ k h. kept k h .1 in
+          let r3 : Holds j (breaks3 j P) = λ k h. kept k h .2 in
+          let r4 = rule4-same j sound P f g .1 (λ s. l .rows s .rule4) in
+          let r5 = rule5-same j sound P f g .1 (λ s. l .rows s .rule5) in
+          let r6 = rule6-same j sound P f g .1 (λ s. l .rows s .rule6) in
+          let r7 = rule7-same .1 (l .inOrder) in
+          let r8 = rule8-same j sound P f g .1 (l .ended) in
+          every-legal j P size (r1, (r2, (r3, (r4, (r5, (r6, (r7, (r8, tt))))))))

@@ -2,7 +2,7 @@
 -- 1 to 3 allow it, by their numbers. A cell's own cost and what neighbours pay are the terms of the cost. Definitions;
 -- crate `theory_bridge` proves that they say the same.
 use Prim.Native.Nat.{ℕ, zero, suc, _+_, _-_, _*_, _/_, _%_}
-use mathlib.Core.Bool.{Bool, true, _&&_, cond}
+use mathlib.Core.Bool.{Bool, not, _&&_, cond}
 use mathlib.Core.List.{List, [], _∷_, map}
 use lib.ListN.{length, getD}
 use lib.Dec.{leb, eqb}
@@ -58,11 +58,9 @@ offersOf j k = map (poseNumber j k) (pick (isOffered j k) (from 0 (poseNumbers j
 
 -- ---- what the row's ends allow
 
--- how many sites may be empty between a row's end and the cell nearest to it: any number. A rule
--- of row ends changes this line, and its laws
--- `end-allowed` and `row-ended` in Legal.antt.
+-- how many sites may be empty between a row's end and the cell nearest to it: any number but one (rule 8)
 unfoldable pub endAllowed : ℕ → Bool
-endAllowed gap = true
+endAllowed gap = not (eqb gap 1)
 
 -- cell k may be the first of its rows, and the last
 abbrev pub opensOf : Job → ℕ → Pose → Bool
