@@ -1,13 +1,14 @@
 -- What the search asks: two rows of words, and a store that is long enough, whatever its words.
 use Prim.Native.Nat.{ℕ, _≤_, _<_}
-use mathlib.Core.Path.{_≡_, refl}
+use mathlib.Core.Path.{_≡_}
 use mathlib.Core.Bool.{true}
 use mathlib.Core.List.{List}
 use lib.ListN.{length}
 use Rattle.theory_traceback.specs.Decks.{Standing}
 use Rattle.search_lanes.specs.Store.{Low}
 use Rattle.search_row.specs.declared.Sizes.{Sizes}
-use Rattle.search_row.specs.Words.{wordOf, numberWord, deckIn, posIn, frontIn, backIn, withCells, RowGiven}
+use Rattle.search_row.specs.Words.{wordOf, numberWord, deckIn, posIn, withCells, RowGiven}
+use Rattle.search_row.specs.Laws.{front-either, back-either}
 use Rattle.search_stage.specs.Stage.{StagesGiven}
 use Rattle.search.specs.Words.{wordsFor}
 
@@ -36,13 +37,12 @@ pub record Asked (row₀ row₁ : List ℕ) (z : Sizes) (n₁ : ℕ) (store : Li
 
 -- its tall cells, as the traceback wants them
 pub standing : {row : List ℕ} {z : Sizes} → RowAsked row z → Standing (deckIn row z) (z .talls) (posIn row)
-unfolding frontIn backIn
-standing r = record {
+standing {row} r = record {
   tall = r .tall;
   inside = r .given .inside;
   only = r .only;
-  front = λ k a. refl;
-  back = λ k a. refl;
+  front = front-either row;
+  back = back-either row;
 }
 
 pub stages-given : {row₀ row₁ st : List ℕ} {z : Sizes} {n₁ : ℕ} → RowsAsked row₀ row₁ z n₁

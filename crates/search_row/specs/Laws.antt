@@ -5,12 +5,13 @@ use mathlib.Core.Bool.{Bool, true, false, _&&_, cond}
 use mathlib.Core.List.{List}
 use native.Mathlib.Omega.{arith}
 use native.Mathlib.Nat.{mul-le-mul}
-use borrow.Author.Tests.{ltb-true}
+use borrow.Author.Tests.{ltb-true, eq-eqb, ne-eqb}
 use lib.Dec.{leb, ltb, eqb}
 use Rattle.gap_charge.specs.Charge.{charge-small}
 use Rattle.theory_tables.specs.Steps.{B, offset, lastAt, isSource}
 use Rattle.search_row.specs.Words.{wordOf, weightIn, differIn, siteIn, endIn, tollIn, frontIn}
-use Rattle.search_row.specs.Words.{backIn, deckOf, thereIn, RowWords, apartWord, touchingWord}
+use Rattle.search_row.specs.Words.{backIn, endToll, deckOf, thereIn, RowWords, apartWord, touchingWord}
+use Rattle.search_row.specs.Words.{frontBarred, backBarred}
 use Rattle.search_row.specs.Words.{variant, leftP, leftN, rightP, rightN}
 
 cond-low : (t : Bool) {x y z : ℕ} → x ≤ z → y ≤ z → cond t x y ≤ z
@@ -48,14 +49,39 @@ toll-low {row} k b m a w =
     let p = charged-low (charge-small (x - y)) (pay-low (weight-low m (x - y) w) (differ-low row k b m a)) in
     cond-low (ltb x y) (omega arith) (cond-low (eqb (x - y) 1) (omega arith) (omega arith))
 
--- what the ends of a row pay is no word over B
-pub front-low : (row : List ℕ) (k a : ℕ) → frontIn row k a ≤ B
-unfolding frontIn
-front-low row k a = omega arith
+-- what the ends of a row pay: B where it is barred, else nothing
+end-low : (at barred : ℕ) → endToll at barred ≤ B
+end-low at barred = cond-low (eqb at barred) (omega arith) (omega arith)
 
-pub back-low : (row : List ℕ) (k a : ℕ) → backIn row k a ≤ B
-unfolding backIn
-back-low row k a = omega arith
+pub end-barred : (at barred : ℕ) → at ≡ barred → B ≡ endToll at barred
+end-barred at barred e = rw (eq-eqb at barred e)
+
+pub end-free : (at barred : ℕ) → (at ≡ barred → ⊥) → 0 ≡ endToll at barred
+end-free at barred d = rw (ne-eqb at barred d)
+
+end-either : (at barred : ℕ) → endToll at barred ≡ cond (eqb (endToll at barred) 0) 0 B
+end-either at barred = go (eqb at barred)
+  where
+    go : (t : Bool) → _≡_ {A = ℕ} (cond t B 0) (cond (eqb (cond t B 0) 0) 0 B)
+    go true = refl
+    go false = refl
+
+module _ (row : List ℕ) (k a : ℕ) where
+  pub front-low : frontIn row k a ≤ B
+  unfolding frontIn
+  front-low = end-low (siteIn row k a) (wordOf row k frontBarred)
+
+  pub front-either : frontIn row k a ≡ cond (eqb (frontIn row k a) 0) 0 B
+  unfolding frontIn
+  front-either = end-either (siteIn row k a) (wordOf row k frontBarred)
+
+  pub back-low : backIn row k a ≤ B
+  unfolding backIn
+  back-low = end-low (endIn row k a) (wordOf row k backBarred)
+
+  pub back-either : backIn row k a ≡ cond (eqb (backIn row k a) 0) 0 B
+  unfolding backIn
+  back-either = end-either (endIn row k a) (wordOf row k backBarred)
 
 -- a test of two parts, whose first part fails or holds
 pub and-away : (s t : Bool) → s ≡ false → false ≡ (s && t)

@@ -27,7 +27,8 @@ rowLength = 8288
 
 -- The words of a cell: first what it costs by pose (B: not offered); then its given site, the widths of its layouts,
 -- whether it is tall; by variant (2 layout + mark) its heights left P, left N, right P, right N; the weight of a step
--- where it touches the cell on its left, its number, and the weight of a step at every other gap.
+-- where it touches the cell on its left, its number, and the weight of a step at every other gap; the site where it may
+-- not stand as the first of its row, and the end that it may not have as the last, both with D added.
 abbrev pub givenWord : ℕ
 givenWord = 64
 
@@ -57,6 +58,16 @@ numberWord = 85
 
 abbrev pub apartWord : ℕ
 apartWord = 86
+
+abbrev pub frontBarred : ℕ
+frontBarred = 87
+
+abbrev pub backBarred : ℕ
+backBarred = 88
+
+-- how many words of a cell are in use
+abbrev pub wordsUsed : ℕ
+wordsUsed = 89
 
 -- Pose a is 4 e + 2 layout + mark, at site given + e - D. Sites are compared with D added to both.
 abbrev pub wordOf : List ℕ → ℕ → ℕ → ℕ
@@ -90,13 +101,15 @@ tollAt x y pay = cond (ltb x y) B (cond (eqb (x - y) 1) B (charge (x - y) * pay 
 unfoldable pub tollIn : List ℕ → ℕ → ℕ → ℕ → ℕ → ℕ
 tollIn row k b m a = tollAt (siteIn row m a) (endIn row k b) (λ gap. weightIn row m gap * differIn row k b m a)
 
--- what a cell pays as the first of its row, and as the last: document 01 lets a row begin and end anywhere (request
--- A1 is to change these lines and their laws)
+-- what a cell pays as the first of its row, and as the last: nothing, but where it is barred
+abbrev pub endToll : ℕ → ℕ → ℕ
+endToll at barred = cond (eqb at barred) B 0
+
 unfoldable pub frontIn : List ℕ → ℕ → ℕ → ℕ
-frontIn row k a = 0
+frontIn row k a = endToll (siteIn row k a) (wordOf row k frontBarred)
 
 unfoldable pub backIn : List ℕ → ℕ → ℕ → ℕ
-backIn row k a = 0
+backIn row k a = endToll (endIn row k a) (wordOf row k backBarred)
 
 abbrev pub deckOf : List ℕ → ℕ → ℕ → Deck
 deckOf row n poses =

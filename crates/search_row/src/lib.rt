@@ -22,11 +22,11 @@ pub const WORDS: usize = 8288;
 // The words of a cell after its costs by pose; the heights have one for each variant.
 pub const GIVEN: usize = 64;
 
-const WIDTH: usize = 65;
+pub const WIDTH: usize = 65;
 
 pub const TALL: usize = 67;
 
-const LEFT_P: usize = 68;
+pub const LEFT_P: usize = 68;
 
 const LEFT_N: usize = 72;
 
@@ -39,6 +39,13 @@ pub const TOUCHING: usize = 84;
 pub const NUMBER: usize = 85;
 
 pub const APART: usize = 86;
+
+pub const FRONT_BARRED: usize = 87;
+
+const BACK_BARRED: usize = 88;
+
+// How many words of a cell are in use.
+pub const USED: usize = 89;
 
 // The sizes of a search in one row: how many cells, poses of a cell, places a cell
 // may move, states and tall cells there are.
@@ -183,6 +190,9 @@ pub fn front(row: &[u32], k: usize, a: usize) -> u32
     requires { ⌜ RowWords (now row) × (k < 64) × (a < 60) ⌝ }
     ensures { λ x. ⌜ x ≡ frontIn (now (row .entry)) k a ⌝ }
 {
+    if site(row, k, a) == word(row, k * CELL + FRONT_BARRED) {
+        return search_lanes::NONE;
+    }
     0
 }
 
@@ -191,6 +201,9 @@ pub fn back(row: &[u32], k: usize, a: usize) -> u32
     requires { ⌜ RowWords (now row) × (k < 64) × (a < 60) ⌝ }
     ensures { λ x. ⌜ x ≡ backIn (now (row .entry)) k a ⌝ }
 {
+    if end(row, k, a) == word(row, k * CELL + BACK_BARRED) {
+        return search_lanes::NONE;
+    }
     0
 }
 

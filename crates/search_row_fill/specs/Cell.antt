@@ -12,29 +12,33 @@ use Rattle.definition.specs.Cost.{firstHeight}
 use Rattle.lists.specs.Compare.{Eq?, same, differs, eq?}
 use Rattle.theory_bridge.specs.Paired.{isOffered, poseNumber, widthOf, ownOf, leftOf, rightOf}
 use Rattle.job.specs.Parts.{widthIn, heightIn}
-use Rattle.search_row.specs.Words.{variant}
-use Rattle.search_row_fill.specs.Words.{alone, edge, ownWord, shapeWord, heightWord, cellWord}
+use Rattle.search_row.specs.Words as words
+use Rattle.search_row.specs.Words.{variant, givenWord, widthWord, tallWord, touchingWord, numberWord, apartWord}
+use Rattle.search_row.specs.Words.{frontBarred, backBarred, wordsUsed}
+use Rattle.search_row_fill.specs.Words.{alone, edge, ownWord, shapeWord, heightWord, endWord, cellWord}
 
 -- ---- a cell alone
 
 pub word-alone : (j : Job) (row k i : ℕ) → cellWord (alone (j .header) (cellAt j k)) row 0 k i ≡ cellWord j row k k i
-unfolding cellWord ownWord shapeWord heightWord isOffered poseNumber widthOf ownOf
+unfolding cellWord ownWord shapeWord heightWord endWord isOffered poseNumber widthOf ownOf
 word-alone j row k i = refl
 
 -- ---- the words of cell k in a row, as the search reads them
 
 pub record CellWords (j : Job) (row k : ℕ) (word : ℕ → ℕ) : Type 0 where
   pub own : (a : ℕ) → a < 60 → word a ≡ ownWord j row k a
-  pub given : word 64 ≡ cellAt j k .given
-  pub width : (a : ℕ) → word (65 + variant a / 2) ≡ widthOf j k (poseNumber j k a)
-  pub tall : word 67 ≡ cond (isTall (cellAt j k)) 1 0
-  pub leftP : (a : ℕ) → word (68 + variant a) ≡ leftOf j row k (poseNumber j k a) 0
-  pub leftN : (a : ℕ) → word (72 + variant a) ≡ leftOf j row k (poseNumber j k a) 1
-  pub rightP : (a : ℕ) → word (76 + variant a) ≡ rightOf j row k (poseNumber j k a) 0
-  pub rightN : (a : ℕ) → word (80 + variant a) ≡ rightOf j row k (poseNumber j k a) 1
-  pub weight : word 84 ≡ j .header .stepWeight
-  pub number : word 85 ≡ k
-  pub filled : word 86 ≡ j .header .stepWeight
+  pub given : word givenWord ≡ cellAt j k .given
+  pub width : (a : ℕ) → word (widthWord + variant a / 2) ≡ widthOf j k (poseNumber j k a)
+  pub tall : word tallWord ≡ cond (isTall (cellAt j k)) 1 0
+  pub leftP : (a : ℕ) → word (words.leftP + variant a) ≡ leftOf j row k (poseNumber j k a) 0
+  pub leftN : (a : ℕ) → word (words.leftN + variant a) ≡ leftOf j row k (poseNumber j k a) 1
+  pub rightP : (a : ℕ) → word (words.rightP + variant a) ≡ rightOf j row k (poseNumber j k a) 0
+  pub rightN : (a : ℕ) → word (words.rightN + variant a) ≡ rightOf j row k (poseNumber j k a) 1
+  pub weight : word touchingWord ≡ j .header .stepWeight
+  pub number : word numberWord ≡ k
+  pub filled : word apartWord ≡ j .header .stepWeight
+  pub front : word frontBarred ≡ j .header .displacement + 1
+  pub back : word backBarred ≡ j .header .sites + j .header .displacement - 1
 
 -- the mark as a number, and the edge that it leaves
 mark-two : (m : ℕ) → m < 2 → cond (eqb m 1) 2 0 ≡ m * 2
@@ -114,66 +118,73 @@ module _ (j : Job) (row k : ℕ) where
       (place-right (firstHeight j row k) type a h)
 
   module _ (n : ℕ) where
-    pub own-at : (a : ℕ) → a < 64 → cellWord j row k n a ≡ ownWord j row k a
+    pub own-at : (a : ℕ) → a < givenWord → cellWord j row k n a ≡ ownWord j row k a
     unfolding cellWord
-    own-at a h = rw (lt-ltb a 64 h)
+    own-at a h = rw (lt-ltb a givenWord h)
 
-    pub shape-at : (i : ℕ) → 64 ≤ i → i < 68 → cellWord j row k n i ≡ shapeWord j k i
+    pub shape-at : (i : ℕ) → givenWord ≤ i → i < words.leftP → cellWord j row k n i ≡ shapeWord j k i
     unfolding cellWord
-    shape-at i g h = rw (le-ltb i 64 g, lt-ltb i 68 h)
+    shape-at i g h = rw (le-ltb i givenWord g, lt-ltb i words.leftP h)
 
-    pub step-at : (i : ℕ) → i ≡ 84 → cellWord j row k n i ≡ j .header .stepWeight
+    pub step-at : (i : ℕ) → i ≡ touchingWord → cellWord j row k n i ≡ j .header .stepWeight
     unfolding cellWord
     step-at i e = rw e
 
-    pub number-at : (i : ℕ) → i ≡ 85 → cellWord j row k n i ≡ n
+    pub number-at : (i : ℕ) → i ≡ numberWord → cellWord j row k n i ≡ n
     unfolding cellWord
     number-at i e = rw e
 
-    pub filled-at : (i : ℕ) → i ≡ 86 → cellWord j row k n i ≡ j .header .stepWeight
+    pub filled-at : (i : ℕ) → i ≡ apartWord → cellWord j row k n i ≡ j .header .stepWeight
     unfolding cellWord
     filled-at i e = rw e
 
-    pub none-at : (i : ℕ) → 86 < i → cellWord j row k n i ≡ 0
+    pub end-at : (i : ℕ) → apartWord < i → cellWord j row k n i ≡ endWord j i
     unfolding cellWord
-    none-at i h =
+    end-at i h =
         rw (
-          le-ltb i 64 (omega arith),
-          le-ltb i 68 (omega arith),
-          le-ltb i 84 (omega arith),
-          ne-eqb i 84 (λ e. omega arith),
-          ne-eqb i 85 (λ e. omega arith),
-          ne-eqb i 86 (λ e. omega arith),
+          le-ltb i givenWord (omega arith),
+          le-ltb i words.leftP (omega arith),
+          le-ltb i touchingWord (omega arith),
+          ne-eqb i touchingWord (λ e. omega arith),
+          ne-eqb i numberWord (λ e. omega arith),
+          ne-eqb i apartWord (λ e. omega arith),
         )
 
-    width-at : (l : ℕ) → l < 2 → cellWord j row k n (65 + l) ≡ widthIn (cellAt j k) l
+    width-at : (l : ℕ) → l < 2 → cellWord j row k n (widthWord + l) ≡ widthIn (cellAt j k) l
     unfolding cellWord shapeWord
     width-at zero h = refl
     width-at (suc zero) h = refl
     width-at (suc (suc l)) h = absurd (omega arith)
 
-    pub height-at : (i u : ℕ) → i ≡ 68 + u → u < 16 → cellWord j row k n i ≡ heightWord j row k u
+    pub height-at : (i u : ℕ) → i ≡ words.leftP + u → u < 16 → cellWord j row k n i ≡ heightWord j row k u
     unfolding cellWord
     height-at i u q h =
-        let e : i - 68 ≡ u = omega arith in
-        rw (le-ltb i 64 (omega arith), le-ltb i 68 (omega arith), lt-ltb i 84 (omega arith), e)
+        let e : i - words.leftP ≡ u = omega arith in
+        rw (
+          le-ltb i givenWord (omega arith),
+          le-ltb i words.leftP (omega arith),
+          lt-ltb i touchingWord (omega arith),
+          e,
+        )
 
-  pub cell-words : (word : ℕ → ℕ) → ((i : ℕ) → i < 87 → word i ≡ cellWord j row k k i) → CellWords j row k word
-  unfolding cellWord shapeWord widthOf poseNumber
+  pub cell-words : (word : ℕ → ℕ) → ((i : ℕ) → i < wordsUsed → word i ≡ cellWord j row k k i) → CellWords j row k word
+  unfolding cellWord shapeWord endWord widthOf poseNumber
   cell-words word w = record {
     own = λ a h. w a (omega arith) ∙ own-at k a (omega arith);
-    given = w 64 (lit≤ tt);
-    width = λ a. w (65 + a % 4 / 2) (omega arith) ∙ width-at k (a % 4 / 2) (omega arith);
-    tall = w 67 (lit≤ tt);
-    leftP = λ a. w (68 + a % 4) (omega arith) ∙ height-at k (68 + a % 4) (4 * 0 + a % 4) (omega arith) (omega arith)
-        ∙ left-word 0 a (lit≤ tt);
-    leftN = λ a. w (72 + a % 4) (omega arith) ∙ height-at k (72 + a % 4) (4 * 1 + a % 4) (omega arith) (omega arith)
-        ∙ left-word 1 a (lit≤ tt);
-    rightP = λ a. w (76 + a % 4) (omega arith)
-        ∙ height-at k (76 + a % 4) (8 + 4 * 0 + a % 4) (omega arith) (omega arith) ∙ right-word 0 a (lit≤ tt);
-    rightN = λ a. w (80 + a % 4) (omega arith)
-        ∙ height-at k (80 + a % 4) (8 + 4 * 1 + a % 4) (omega arith) (omega arith) ∙ right-word 1 a (lit≤ tt);
-    weight = w 84 (lit≤ tt);
-    number = w 85 (lit≤ tt);
-    filled = w 86 (lit≤ tt);
+    given = w givenWord (lit≤ tt);
+    width = λ a. w (widthWord + a % 4 / 2) (omega arith) ∙ width-at k (a % 4 / 2) (omega arith);
+    tall = w tallWord (lit≤ tt);
+    leftP = λ a. height words.leftP 0 a refl (lit≤ tt) ∙ left-word 0 a (lit≤ tt);
+    leftN = λ a. height words.leftN (4 * 1) a refl (lit≤ tt) ∙ left-word 1 a (lit≤ tt);
+    rightP = λ a. height words.rightP 8 a refl (lit≤ tt) ∙ right-word 0 a (lit≤ tt);
+    rightN = λ a. height words.rightN (8 + 4 * 1) a refl (lit≤ tt) ∙ right-word 1 a (lit≤ tt);
+    weight = w touchingWord (lit≤ tt);
+    number = w numberWord (lit≤ tt);
+    filled = w apartWord (lit≤ tt);
+    front = w frontBarred (lit≤ tt);
+    back = w backBarred (lit≤ tt);
   }
+    where
+      -- the word of a height, u of whose kind come first
+      height : (at u a : ℕ) → at ≡ words.leftP + u → u ≤ 12 → word (at + a % 4) ≡ heightWord j row k (u + a % 4)
+      height at u a e h = w (at + a % 4) (omega arith) ∙ height-at k (at + a % 4) (u + a % 4) (omega arith) (omega arith)

@@ -27,7 +27,7 @@ use Rattle.theory_bridge.specs.Row.{cells-same, members-same}
 use Rattle.search_lanes.specs.Lanes.{always}
 use Rattle.search_lanes.specs.Store.{Low, Written}
 use Rattle.search_row.specs.Words.{wordOf, deckOf, RowWords, apartWord, cellWords, numberWord}
-use Rattle.search_row.specs.Words.{rowLength, statesFrom, tallsFrom, touchingWord}
+use Rattle.search_row.specs.Words.{rowLength, statesFrom, tallsFrom, touchingWord, wordsUsed}
 use Rattle.search_states.specs.Rest.{rest, rest-none, rest-more, rest-all, next, done}
 use Rattle.search_row_fill.specs.Words.{alone, cellWord}
 use Rattle.search_row_fill.specs.Cell.{word-alone, CellWords, cell-words}
@@ -49,7 +49,7 @@ row-side (suc (suc n)) h = absurd (omega arith)
 -- the cell of a job of one cell is written at position n, if it stands in the row
 pub record Added (j : Job) (row number n n′ : ℕ) (old new : List ℕ) : Type 0 where
   pub there : job.inRow row (cellAt j 0) ≡ true
-      → (n′ ≡ n + 1) × Written (cellWord j row 0 number) (n * cellWords) 87 old new
+      → (n′ ≡ n + 1) × Written (cellWord j row 0 number) (n * cellWords) wordsUsed old new
   pub away : job.inRow row (cellAt j 0) ≡ false → (n′ ≡ n) × (new ≡ old)
 
 -- ---- the row
@@ -74,7 +74,7 @@ module _ (j : Job) (s : Side) where
     pub upto : n ≤ length (members (pairJob j) s)
     pub left : drop n (members (pairJob j) s) ≡ rest stands k (length (j .cells))
     pub low : Low l
-    pub words : (p : ℕ) → p < n → (i : ℕ) → i < 87
+    pub words : (p : ℕ) → p < n → (i : ℕ) → i < wordsUsed
         → wordOf l p i ≡ cellWord j (rowOf s) (cell (pairJob j) s p) (cell (pairJob j) s p) i
     pub zero : (q : ℕ) → n * cellWords ≤ q → q < statesFrom → getD l q 0 ≡ 0
     pub upper : (q : ℕ) → tallsFrom ≤ q → getD l q 0 ≤ 63
@@ -99,7 +99,7 @@ module _ (j : Job) (s : Side) where
       go q (no g) = w .frame .high q (omega arith) ∙ List·getD-eq-default old 0 (omega arith)
 
   filled-more : {l l′ : List ℕ} {n k : ℕ} → Filled l n k → k < length (j .cells) → stands k ≡ true
-      → Written (cellWord (alone (j .header) (cellAt j k)) (rowOf s) 0 k) (n * cellWords) 87 l l′
+      → Written (cellWord (alone (j .header) (cellAt j k)) (rowOf s) 0 k) (n * cellWords) wordsUsed l l′
       → Filled l′ (n + 1) (k + 1)
   filled-more {l} {l′} {n} {k} f h e w =
       let x = next {d = 0} (members (pairJob j) s) n (f .left ∙ rest-more stands k (length (j .cells)) h
@@ -113,7 +113,7 @@ module _ (j : Job) (s : Side) where
         upto = omega arith;
         left = x .after;
         low = w .low;
-        words = below-more (λ p. (i : ℕ) → i < 87
+        words = below-more (λ p. (i : ℕ) → i < wordsUsed
             → wordOf l′ p i ≡ cellWord j (rowOf s) (cell (pairJob j) s p) (cell (pairJob j) s p) i) n
             (λ p g i q. w .frame .low (p * cellWords + i) (omega arith) ∙ f .words p g i q)
             (λ i q. w .words i q ∙ word-alone j (rowOf s) k i ∙ ap (λ c. cellWord j (rowOf s) c c i) (sym (x .here)));

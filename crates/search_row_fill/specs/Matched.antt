@@ -2,8 +2,8 @@
 -- the row's ends. Sites are compared with D added to both.
 use Prim.Native.Nat.{ℕ, zero, suc, _+_, _-_, _*_, _≤_, _<_}
 use mathlib.Core.Path.{_≡_, refl, sym, ap, ap₂, _∙_}
-use mathlib.Core.Logic.{_≢_}
-use mathlib.Core.Bool.{Bool, true, false, _&&_, cond}
+use mathlib.Core.Logic.{_≢_, _↔_}
+use mathlib.Core.Bool.{Bool, true, false, not, _&&_, cond}
 use mathlib.Core.List.{List}
 use native.Mathlib.Nat.{mul-left-comm}
 use native.Mathlib.Omega.{arith}
@@ -16,17 +16,18 @@ use Rattle.definition.specs.Job as job
 use Rattle.definition.specs.Rules.{cellAt}
 use Rattle.definition.specs.Cost.{charge}
 use Rattle.definition_laws.specs.Sound.{Sound}
-use Rattle.lists.specs.Compare.{Le?, high, le?}
+use Rattle.lists.specs.Compare.{Eq?, same, differs, eq?, Le?, high, le?}
 use Rattle.theory_pair.specs.Cells.{Side, row₀, row₁, isTall, ownIn, members, cell, line}
 use Rattle.theory_pair.specs.Members.{at-in}
 use Rattle.theory_tables.specs.Steps.{B}
 use Rattle.theory_tables.specs.Matched.{Matched}
 use Rattle.theory_bridge.specs.Paired.{kindOf, rowOf, siteOf, poseNumbers, poseNumber, isOffered}
-use Rattle.theory_bridge.specs.Paired.{offersOf, widthOf, ownOf, differingOf, payOf, pairJob}
+use Rattle.theory_bridge.specs.Paired.{offersOf, widthOf, ownOf, differingOf, payOf, endAllowed, pairJob}
 use Rattle.theory_bridge.specs.Row.{isTall-same, member}
-use Rattle.theory_bridge.specs.Legal.{end-allowed}
 use Rattle.search_row.specs.Words.{wordOf, siteIn, endIn, differIn, weightIn, tollAt, tollIn}
-use Rattle.search_row.specs.Words.{frontIn, backIn, deckOf, RowWords, apartWord, touchingWord}
+use Rattle.search_row.specs.Words.{frontIn, backIn, endToll, deckOf, RowWords, apartWord, touchingWord}
+use Rattle.search_row.specs.Words.{frontBarred, backBarred}
+use Rattle.search_row.specs.Laws.{end-barred, end-free}
 use Rattle.search_row_fill.specs.Words.{ownWord}
 use Rattle.theory_bridge.specs.Offers.{offered-low}
 use Rattle.search_row_fill.specs.Cell.{CellWords}
@@ -155,15 +156,36 @@ module _ (j : Job) (sound : Sound j) (s : Side) (l : List ℕ) (n : ℕ) (w : Ro
       ∙ ap (λ x. cond (isOffered j (cell (pairJob j) s p) a) x B) (own-counts s (cellAt j (cell (pairJob j) s p) .row)
       (ownOf j (cell (pairJob j) s p) (poseNumber j (cell (pairJob j) s p) a)) (row-low p h))
 
-  -- the row's ends: a cell pays nothing there, where it may stand
-  front-same : (p a : ℕ)
-      → frontIn l p a ≡ cond (line (pairJob j) s .opens p (poseNumber j (cell (pairJob j) s p) a)) 0 B
-  unfolding frontIn
-  front-same p a = ap (λ t. cond t 0 B) (sym (end-allowed _))
+  -- the row's ends: a cell pays nothing there, where it may stand. Sites and ends have D added, as the words have
+  end-toll : (x y gap : ℕ) → (x ≡ y) ↔ (gap ≡ 1) → endToll x y ≡ cond (endAllowed gap) 0 B
+  unfolding endAllowed
+  end-toll x y gap e = go (eqb gap 1) (eq? gap 1)
+    where
+      go : (t : Bool) → Eq? gap 1 t → endToll x y ≡ cond (not t) 0 B
+      go true (same h) = sym (end-barred x y (e .1 h))
+      go false (differs d) = sym (end-free x y (λ h. d (e .0 h)))
 
-  back-same : (p a : ℕ) → backIn l p a ≡ cond (line (pairJob j) s .closes p (poseNumber j (cell (pairJob j) s p) a)) 0 B
-  unfolding backIn
-  back-same p a = ap (λ t. cond t 0 B) (sym (end-allowed _))
+  module _ (p a : ℕ) (h : p < length (members (pairJob j) s)) (o : isOffered j (cell (pairJob j) s p) a ≡ true) where
+    abbrev k : ℕ
+    k = cell (pairJob j) s p
+
+    front-same : frontIn l p a ≡ cond (line (pairJob j) s .opens p (poseNumber j k a)) 0 B
+    unfolding frontIn poseNumber
+    front-same =
+        let v = words-at p h in
+        let low = offered-low j k a o in
+        end-toll (siteIn l p a) (wordOf l p frontBarred) (poseNumber j k a .site)
+        (λ e. omega (arith, v .given, v .front), λ e. omega (arith, v .given, v .front))
+
+    back-same : backIn l p a ≡ cond (line (pairJob j) s .closes p (poseNumber j k a)) 0 B
+    unfolding backIn poseNumber
+    back-same =
+        let v = words-at p h in
+        let low = offered-low j k a o in
+        let some = sound .header .someSites in
+        end-toll (endIn l p a) (wordOf l p backBarred)
+        (j .header .sites - (poseNumber j k a .site + widthOf j k (poseNumber j k a)))
+        (λ e. omega (arith, v .given, v .width a, v .back), λ e. omega (arith, v .given, v .width a, v .back))
 
   pub matched : Matched siteOf (line (pairJob j) s) (deckOf l n (poseNumbers j))
       (λ p a. poseNumber j (cell (pairJob j) s p) a) (λ p a. isOffered j (cell (pairJob j) s p) a)
@@ -174,8 +196,8 @@ module _ (j : Job) (sound : Sound j) (s : Side) (l : List ℕ) (n : ℕ) (w : Ro
     tall = λ p h. ap (λ x. eqb x 1) (words-at p h .tall) ∙ one-true (job.isTall (cellAt j (cell (pairJob j) s p)))
         ∙ isTall-same j sound (cell (pairJob j) s p) (inside p h);
     own = own-same;
-    front = λ p a h g o. front-same p a;
-    back = λ p a h g o. back-same p a;
+    front = λ p a h g o. front-same p a h o;
+    back = λ p a h g o. back-same p a h o;
     pays = λ p b m a h _ g _ x y f. pays j s l p m b a _ _ (words-at p h) (words-at m g) x y (f .0) (f .1);
     barred = λ p b m a h _ g _ x y f. barred j s l p m b a _ _ (words-at p h) (words-at m g) x y f;
   }

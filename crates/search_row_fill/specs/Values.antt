@@ -7,6 +7,7 @@ use borrow.Author.Tests.{lt-ltb, le-ltb, ne-eqb}
 use lib.ListN.{length, List·getD-eq-default}
 use lib.Dec.{leb, ltb, eqb}
 use Rattle.definition.specs.Job as paper
+use Rattle.definition.specs.Job.{maxSites, maxDisplacement}
 use Rattle.definition.specs.Placement.{Pose}
 use Rattle.definition.specs.Rules.{noLayout, apart, offerOf, choiceOffered, siteOffered}
 use Rattle.definition_laws.specs.Sound.{SoundHeader, SoundCell}
@@ -19,14 +20,17 @@ use Rattle.job.specs.Value.{headerOf, cellOf}
 use Rattle.job.specs.Parts.{widthIn, heightIn, firstOf}
 use Rattle.job.specs.Layouts.{width-small}
 use Rattle.theory_tables.specs.Steps.{B}
-use Rattle.search_row_fill.specs.Words.{alone, edge, ownWord, shapeWord, heightWord}
+use Rattle.search_row.specs.Words.{givenWord, widthWord, tallWord, frontBarred}
+use Rattle.search_row_fill.specs.Words.{alone, edge, ownWord, shapeWord, heightWord, endWord}
 
 -- the values as a job of one cell, and that they are in range
 abbrev pub one : Header → Cell → paper.Job
 one h c = alone (headerOf h) (cellOf c)
 
 pub record Ranged (h : Header) (c : Cell) : Type 0 where
-  pub displacement : h .displacement ≤ 7
+  pub someSites : 1 ≤ h .sites
+  pub fewSites : h .sites ≤ maxSites
+  pub displacement : h .displacement ≤ maxDisplacement
   pub step : h .step ≤ 1000
   pub shift : h .shift ≤ 1000
   pub mirror : h .mirror ≤ 1000
@@ -45,6 +49,8 @@ height-small h c l i s = go (leb (suc l) (length (c .layouts))) (le? (suc l) (le
 pub ranged : (h : Header) (c : Cell) → SoundHeader (headerOf h) → SoundCell (headerOf h) (cellOf c) → Ranged h c
 unfolding headerOf cellOf
 ranged h c p q = record {
+  someSites = p .someSites;
+  fewSites = p .fewSites;
   displacement = p .displacement;
   step = p .step;
   shift = p .shift;
@@ -108,26 +114,34 @@ module _ (h : Header) (c : Cell) (row a : ℕ) where
 -- ---- the other words
 
 module _ (h : Header) (c : Cell) (i : ℕ) where
-  pub shape-given : i ≡ 64 → c .given ≡ shapeWord (one h c) 0 i
+  pub shape-given : i ≡ givenWord → c .given ≡ shapeWord (one h c) 0 i
   unfolding shapeWord cellOf
   shape-given e = rw e
 
-  pub shape-width : 64 < i → i < 67 → widthIn (cellOf c) (i - 65) ≡ shapeWord (one h c) 0 i
+  pub shape-width : givenWord < i → i < tallWord → widthIn (cellOf c) (i - widthWord) ≡ shapeWord (one h c) 0 i
   unfolding shapeWord
-  shape-width g k = rw (ne-eqb i 64 (λ e. omega arith), lt-ltb i 67 k)
+  shape-width g k = rw (ne-eqb i givenWord (λ e. omega arith), lt-ltb i tallWord k)
 
-  pub shape-tall : 67 ≤ i → cond (eqb (c .row) 2) 1 0 ≡ shapeWord (one h c) 0 i
+  pub shape-tall : tallWord ≤ i → cond (eqb (c .row) 2) 1 0 ≡ shapeWord (one h c) 0 i
   unfolding shapeWord cellOf
-  shape-tall g = rw (ne-eqb i 64 (λ e. omega arith), le-ltb i 67 g)
+  shape-tall g = rw (ne-eqb i givenWord (λ e. omega arith), le-ltb i tallWord g)
+
+  pub end-front : i ≡ frontBarred → h .displacement + 1 ≡ endWord (one h c) i
+  unfolding endWord headerOf
+  end-front e = rw e
+
+  pub end-back : (i ≡ frontBarred → ⊥) → h .sites + h .displacement - 1 ≡ endWord (one h c) i
+  unfolding endWord headerOf
+  end-back d = rw (ne-eqb i frontBarred d)
 
 module _ (h : Header) (c : Cell) (r : Ranged h c) where
   pub shape-low : (i : ℕ) → shapeWord (one h c) 0 i ≤ B
   unfolding shapeWord cellOf
-  shape-low i = go (eqb i 64) (ltb i 67) (eqb (c .row) 2)
+  shape-low i = go (eqb i givenWord) (ltb i tallWord) (eqb (c .row) 2)
     where
-      go : (t u v : Bool) → cond t (c .given) (cond u (widthIn (cellOf c) (i - 65)) (cond v 1 0)) ≤ B
+      go : (t u v : Bool) → cond t (c .given) (cond u (widthIn (cellOf c) (i - widthWord)) (cond v 1 0)) ≤ B
       go true u v = let g = r .given in omega arith
-      go false true v = let g = r .width (i - 65) in omega arith
+      go false true v = let g = r .width (i - widthWord) in omega arith
       go false false true = omega arith
       go false false false = omega arith
 

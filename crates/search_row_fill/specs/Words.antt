@@ -9,6 +9,7 @@ use Rattle.definition.specs.Rules.{cellAt}
 use Rattle.theory_bridge.specs.Paired.{isOffered, poseNumber, ownOf}
 use Rattle.theory_tables.specs.Steps.{B}
 use Rattle.job.specs.Parts.{widthIn, heightIn, firstOf}
+use Rattle.search_row.specs.Words.{givenWord, widthWord, tallWord, leftP, touchingWord, numberWord, apartWord, frontBarred}
 
 -- a job of one cell: what is said of a cell of a job is said of it alone
 abbrev pub alone : Header → Cell → Job
@@ -18,12 +19,12 @@ alone h c = record { header = h; cells = c ∷ [] }
 unfoldable pub ownWord : Job → ℕ → ℕ → ℕ → ℕ
 ownWord j row k a = cond (isOffered j k a) (cond (isTall (cellAt j k) && eqb row 1) 0 (ownOf j k (poseNumber j k a))) B
 
--- words 64 to 67
+-- its given site, the widths of its layouts, whether it is tall
 unfoldable pub shapeWord : Job → ℕ → ℕ → ℕ
-shapeWord j k i = cond (eqb i 64) (cellAt j k .given)
-    (cond (ltb i 67) (widthIn (cellAt j k) (i - 65)) (cond (isTall (cellAt j k)) 1 0))
+shapeWord j k i = cond (eqb i givenWord) (cellAt j k .given)
+    (cond (ltb i tallWord) (widthIn (cellAt j k) (i - widthWord)) (cond (isTall (cellAt j k)) 1 0))
 
--- word 68 + u, a height: u / 8 is 1 for the right edge, u / 4 % 2 is 1 for N, u % 4 / 2 is the layout
+-- height u: u / 8 is 1 for the right edge, u / 4 % 2 is 1 for N, u % 4 / 2 is the layout
 -- and u % 2 the mark, which exchanges the edges
 abbrev pub edge : ℕ → ℕ
 edge u = (u / 8 + u % 2) % 2 * 2 + u / 4 % 2
@@ -31,9 +32,15 @@ edge u = (u / 8 + u % 2) % 2 * 2 + u / 4 % 2
 unfoldable pub heightWord : Job → ℕ → ℕ → ℕ → ℕ
 heightWord j row k u = heightIn (cellAt j k) (u % 4 / 2) (firstOf (cellAt j k .row) row + edge u)
 
+-- where the first cell of a row may not stand, and where the last may not end: one site from the row's end (rule 8),
+-- with D added
+unfoldable pub endWord : Job → ℕ → ℕ
+endWord j i = cond (eqb i frontBarred) (j .header .displacement + 1) (j .header .sites + j .header .displacement - 1)
+
 -- word i of cell k, which bears a number; document 01 weighs all steps alike
 unfoldable pub cellWord : Job → ℕ → ℕ → ℕ → ℕ → ℕ
 cellWord j row k number i =
-    cond (ltb i 64) (ownWord j row k i)
-    (cond (ltb i 68) (shapeWord j k i) (cond (ltb i 84) (heightWord j row k (i - 68))
-    (cond (eqb i 84) (j .header .stepWeight) (cond (eqb i 85) number (cond (eqb i 86) (j .header .stepWeight) 0)))))
+    cond (ltb i givenWord) (ownWord j row k i)
+    (cond (ltb i leftP) (shapeWord j k i) (cond (ltb i touchingWord) (heightWord j row k (i - leftP))
+    (cond (eqb i touchingWord) (j .header .stepWeight) (cond (eqb i numberWord) number
+    (cond (eqb i apartWord) (j .header .stepWeight) (endWord j i))))))

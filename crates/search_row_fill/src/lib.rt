@@ -4,7 +4,7 @@ ghost use mathlib.Core.Bool.{_&&_};
 ghost use Prim.Native.Nat.{ℕ, _+_, _*_, _/_, _≤_, _<_};
 ghost use lib.ListN.{length, getD};
 ghost use lib.Dec.{eqb};
-ghost use Rattle.search_row.specs.Words.{rowLength, statesFrom, tallsFrom};
+ghost use Rattle.search_row.specs.Words.{rowLength, statesFrom, tallsFrom, givenWord, leftP, wordsUsed};
 ghost use Rattle.definition_laws.specs.Sound.{Sound};
 ghost use Rattle.job.specs.Value.{jobOf};
 ghost use Rattle.theory_tables.specs.Steps.{B};
@@ -94,16 +94,16 @@ fn own_word(header: Header, cell: Cell, side: u32, a: u32) -> u32
 
 // ---- the words of a cell
 
-// Words 64 to 67: its given site, the widths of its layouts, whether it is tall.
-fn shape_word(header: Header, cell: Cell, i: u32) -> u32
-    requires { ⌜ (64 ≤ i) × (i < 68) ⌝ }
+// Its given site, the widths of its layouts, whether it is tall.
+fn shape_word(header: Header, cell: Cell, i: usize) -> u32
+    requires { ⌜ (givenWord ≤ i) × (i < leftP) ⌝ }
     ensures { λ r. ⌜ r ≡ shapeWord (one header cell) 0 i ⌝ }
 {
-    if i == 64 {
+    if i == search_row::GIVEN {
         return cell.given;
     }
-    if i < 67 {
-        return job::width_of(cell, i - 65);
+    if i < search_row::TALL {
+        return job::width_of(cell, (i - search_row::WIDTH) as u32);
     }
     if cell.row == 2 { 1 } else { 0 }
 }
@@ -116,7 +116,7 @@ fn edge_of(u: u32) -> usize
     ((u / 8 + u % 2) % 2 * 2 + u / 4 % 2) as usize
 }
 
-// Words 68 to 83: its heights, by edge, type and variant.
+// Its heights, by edge, type and variant.
 fn height_word(header: Header, cell: Cell, side: u32, u: u32) -> u32
     requires { ⌜ (u < 16) × (side ≤ 1) ⌝ }
     ensures { λ r. ⌜ r ≡ heightWord (one header cell) side 0 u ⌝ }
@@ -125,40 +125,45 @@ fn height_word(header: Header, cell: Cell, side: u32, u: u32) -> u32
     job::height_of(cell, u % 4 / 2, i)
 }
 
-// Word i of a cell that bears a number.
-fn cell_word(header: Header, cell: Cell, side: u32, number: u32, i: u32) -> u32
+// Word i of a cell that bears a number. As the first of its row it may not stand one site from the row's start, nor as
+// the last end one site from the row's end.
+fn cell_word(header: Header, cell: Cell, side: u32, number: u32, i: usize) -> u32
     requires { ⌜ Ranged header cell × (side ≤ 1) × (number < 64) ⌝ }
     ensures { λ r. ⌜ (r ≡ cellWord (one header cell) side 0 number i) × (r ≤ B) ⌝ }
 {
-    if i < 64 {
-        return own_word(header, cell, side, i);
+    if i < search_row::GIVEN {
+        return own_word(header, cell, side, i as u32);
     }
-    if i < 68 {
+    if i < search_row::LEFT_P {
         return shape_word(header, cell, i);
     }
-    if i < 84 {
-        return height_word(header, cell, side, i - 68);
+    if i < search_row::TOUCHING {
+        return height_word(header, cell, side, (i - search_row::LEFT_P) as u32);
     }
-    if i == 84 {
+    if i == search_row::TOUCHING {
         return header.step;
     }
-    if i == 85 {
+    if i == search_row::NUMBER {
         return number;
     }
-    if i == 86 {
+    if i == search_row::APART {
         return header.step;
     }
-    0
+    if i == search_row::FRONT_BARRED {
+        return header.displacement + 1;
+    }
+    header.sites + header.displacement - 1
 }
 
-// The words of a cell; those from 87 on are not used.
+// The words of a cell.
 fn fill_cell(row: &mut [u32], at: usize, header: Header, cell: Cell, side: u32, number: u32)
     requires { ⌜ Ranged header cell × (side ≤ 1) × (number < 64) × (at + 128 ≤ length (now row)) × Low (now row) ⌝ }
-    ensures { λ _. ⌜ Written (cellWord (one header cell) side 0 number) at 87 (now (row .entry)) (now (row .exit)) ⌝ }
+    ensures { λ _. ⌜ Written (cellWord (one header cell) side 0 number) at wordsUsed
+        (now (row .entry)) (now (row .exit)) ⌝ }
 {
     let mut i: usize = 0;
-    while i < 87 {
-        row[at + i] = cell_word(header, cell, side, number, i as u32);
+    while i < search_row::USED {
+        row[at + i] = cell_word(header, cell, side, number, i);
         i += 1;
     }
 }

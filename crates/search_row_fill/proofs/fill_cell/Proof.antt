@@ -5,22 +5,20 @@ use native.Mathlib.Omega.{arith}
 use borrow.Author.Needs.{needs}
 use Rattle.search_row_fill.specs.Values.{one}
 use Rattle.search_row_fill.specs.Words.{cellWord}
+use Rattle.search_row.specs.Words.{wordsUsed}
 use Rattle.search_lanes.specs.Laws.{written-none, written-more}
 use Rattle.search_lanes.specs.Store.{Written}
 use Rattle.search_row_fill.proofs.fill_cell.Statement.{statement}
 use Rattle.search_row_fill.proofs.fill_cell.Tie as tie
 
 abbrev Inv-loop : tie.InvT-loop
-Inv-loop row₀ at header cell side number i₀ row i = (i ≤ 87) × Written (cellWord (one header cell) side 0 number) at i row₀ row
+Inv-loop row₀ at header cell side number i₀ row i = (i ≤ wordsUsed) × Written (cellWord (one header cell) side 0 number) at i row₀ row
 
 abbrev μ-loop : tie.MeasureT-loop
-μ-loop row₀ at header cell side number i₀ row i = 87 - i
+μ-loop row₀ at header cell side number i₀ row i = wordsUsed - i
 
 loop-holds : tie.Need-loop-holds Inv-loop μ-loop
 loop-holds c = (omega arith, written-none _ _ (c .before .pre .4))
-
-cast-cell-word : tie.Need-cast-cell-word Inv-loop μ-loop
-cast-cell-word c = omega arith
 
 cell-word-requires : tie.Need-cell-word-requires Inv-loop μ-loop
 cell-word-requires c κs =
@@ -52,7 +50,7 @@ same-length c = search needs
 
 returns : tie.Need-returns Inv-loop μ-loop
 returns c =
-    let e : c .before .loop .i ≡ 87 = omega arith in
+    let e : c .before .loop .i ≡ wordsUsed = omega arith in
     rw e at (c .before .loop .inv .1)
 
 pub fill-cell-spec : {M : Type 1} → statement M
@@ -62,7 +60,6 @@ fill-cell-spec =
     Inv-loop
     μ-loop
     loop-holds
-    cast-cell-word
     cell-word-requires
     add-row
     mul-row

@@ -1,4 +1,4 @@
--- Words 64, 65 and 66, and 67: the cases of the definition.
+-- The given site, a width, or whether the cell is tall: the cases of the definition.
 use mathlib.Core.Bool.{cond}
 use mathlib.Core.Path.{sym, ap, _∙_}
 use native.Mathlib.Omega.{arith}
@@ -15,6 +15,9 @@ returns c =
 
 sub-width-of : tie.Need-sub-width-of
 sub-width-of c = search needs
+
+cast-width-of : tie.Need-cast-width-of
+cast-width-of c = omega arith
 
 width-of-requires : tie.Need-width-of-requires
 width-of-requires c κs = search needs
@@ -36,4 +39,4 @@ returns-4 c =
 
 pub shape-word-spec : {M : Type 1} → statement M
 shape-word-spec =
-    tie.close (tie.spec returns sub-width-of width-of-requires returns-2 returns-3 returns-4)
+    tie.close (tie.spec returns sub-width-of cast-width-of width-of-requires returns-2 returns-3 returns-4)
