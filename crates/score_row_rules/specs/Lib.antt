@@ -1,3 +1,4 @@
 pub mod Tests
 pub mod Near
 pub mod Out
+pub mod Ends

@@ -1,4 +1,4 @@
--- The rules that are judged along a row, 5 and 6, on the words of a placed job. They are the definition's: see
+-- The rules that are judged along a row, 5, 6 and 8, on the words of a placed job. They are the definition's: see
 -- Flat in score_verdict.
 use Prim.Native.Nat.{ℕ, _-_, _≤_}
 use mathlib.Core.Path.{_≡_}
@@ -8,7 +8,7 @@ use lib.ListN.{length, getD}
 use lib.Dec.{leb, eqb}
 use Rattle.definition.specs.Lists.{any, anyNext}
 use Rattle.definition.specs.Job.{bothRows}
-use Rattle.definition.specs.Rules.{apart, placeIn}
+use Rattle.definition.specs.Rules.{apart, placeIn, isFirst, isLast}
 use Rattle.job.specs.Parts.{standsIn}
 use Rattle.score_order.specs.Words.{siteIn, endIn, rowIn, cellsIn, orderIn, Words, Tail, Room}
 
@@ -35,6 +35,19 @@ outIn words row limit order cells k = outBy words row limit k (placeIn k order) 
 
 unfoldable pub outAny : List ℕ → ℕ → ℕ → ℕ → Bool
 outAny words n limit k = any (λ row. outIn words row limit (orderIn words row n) (cellsIn words row 0 n) k) bothRows
+
+-- rule 8: k is the first of a row's cells with one empty site before it, or the last with one after it; in a list of
+-- cells, and in either row
+unfoldable pub atEndIn : List ℕ → ℕ → List ℕ → ℕ → Bool
+atEndIn words sites order k =
+    (isFirst k order && eqb (siteIn words k) 1) || (isLast k order && eqb (sites - endIn words k) 1)
+
+unfoldable pub atEndAny : List ℕ → ℕ → ℕ → ℕ → Bool
+atEndAny words n sites k = any (λ row. atEndIn words sites (orderIn words row n) k) bothRows
+
+-- cell a alone, if it breaks a rule
+abbrev pub oneCell : ℕ → Bool → ℕ → Bool
+oneCell a breaks k = eqb k a && breaks
 
 -- ---- what the functions presume
 

@@ -1,10 +1,11 @@
-// Rules 5 and 6, which are judged along a row: the cells that break them are marked, row after row.
+// Rules 5, 6 and 8, which are judged along a row: the cells that break them are marked, row after row.
 ghost use mathlib.Core.Path.{_≡_};
 ghost use Prim.Native.Nat.{_<_};
 ghost use lib.ListN.{length, drop};
 ghost use Rattle.score_order.specs.Words.{Ordered, cellsIn, orderIn};
 ghost use Rattle.score_cell_rules.specs.Marks.{Added};
 ghost use Rattle.score_row_rules.specs.Tests.{nearIn, nearAny, outBy, outAt, outIn, outAny};
+ghost use Rattle.score_row_rules.specs.Tests.{oneCell, atEndIn, atEndAny};
 ghost use Rattle.score_row_rules.specs.Tests.{Along, RowOrder, Ranked};
 use job::stands;
 use score_order::entry;
@@ -120,4 +121,49 @@ pub fn mark_places(
 {
     mark_row_places(words, count, 0, limit, order0, start0, marks);
     mark_row_places(words, count, 1, limit, order1, start1, marks);
+}
+
+// Cell k is marked if it breaks a rule.
+fn mark_if(breaks: bool, k: usize, marks: &mut [u32])
+    requires { ⌜ (k < 64) × (length (now marks) ≡ 64) ⌝ }
+    ensures { λ r. ⌜ Added 64 (oneCell k breaks) (now (marks .entry)) (now (marks .exit)) ⌝ }
+{
+    if breaks {
+        marks[k] = 1;
+    }
+}
+
+// The first cell with one empty site before it, and the last with one after it; the row's cells from left to right
+// are the entries of `order` from `at` on. An empty row is free.
+fn mark_row_ends(words: &[u32], order: &[u32], at: usize, sites: u32, marks: &mut [u32])
+    requires { ⌜ Along (now words) (now order) at × (length (now marks) ≡ 64) ⌝ }
+    ensures { λ r. ⌜ Added 64 (atEndIn (now (words .entry)) sites (drop at (now (order .entry))))
+        (now (marks .entry)) (now (marks .exit)) ⌝ }
+{
+    if at == 64 {
+        return;
+    }
+    let first = entry(order, at);
+    mark_if(words[4 * first] == 1, first, marks);
+    let last = entry(order, 63);
+    mark_if(gap_between(words[4 * last + 1], sites) == 1, last, marks);
+}
+
+// Rule 8.
+pub fn mark_ends(
+    words: &[u32],
+    count: usize,
+    sites: u32,
+    order0: &[u32],
+    start0: usize,
+    order1: &[u32],
+    start1: usize,
+    marks: &mut [u32],
+)
+    requires { ⌜ Ordered (now words) count (now order0) start0 (now order1) start1 × (length (now marks) ≡ 64) ⌝ }
+    ensures { λ r. ⌜ Added count (atEndAny (now (words .entry)) count sites)
+        (now (marks .entry)) (now (marks .exit)) ⌝ }
+{
+    mark_row_ends(words, order0, start0, sites, marks);
+    mark_row_ends(words, order1, start1, sites, marks);
 }

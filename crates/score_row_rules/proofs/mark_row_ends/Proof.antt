@@ -1,0 +1,89 @@
+-- The row's first cell is marked or not, and then its last.
+use Prim.Native.Nat.{_≤_}
+use native.Mathlib.Omega.{arith}
+use Rattle.score_cell_rules.specs.Marks.{added-none}
+use Rattle.score_row_rules.specs.Ends.{end-none, ends-marked}
+use borrow.Author.Needs.{needs}
+use Rattle.score_row_rules.proofs.mark_row_ends.Statement.{statement}
+use Rattle.score_row_rules.proofs.mark_row_ends.Tie as tie
+
+returns : tie.Need-returns
+returns c =
+    let s = c .before .before .before .before in
+    let a = s .args in
+    let free = end-none (a .words .now) (a .order .now) (a .sites) (a .at) in
+    added-none 64 _ (a .marks .now) (s .pre .1) (λ k _. free k (omega (arith, s .pre .0 .room .long)))
+
+entry-requires : tie.Need-entry-requires
+entry-requires c κs = search needs
+
+mul-mark-if : tie.Need-mul-mark-if
+mul-mark-if c = search needs
+
+mul-mark-if-2 : tie.Need-mul-mark-if-2
+mul-mark-if-2 c = search needs
+
+shared-slice-read-mark-if : tie.Need-shared-slice-read-mark-if
+shared-slice-read-mark-if c = search needs
+
+mark-if-requires : tie.Need-mark-if-requires
+mark-if-requires c κs = search needs
+
+entry-requires-2 : tie.Need-entry-requires-2
+entry-requires-2 c κs = search needs
+
+mul-gap-between : tie.Need-mul-gap-between
+mul-gap-between c = search needs
+
+add-gap-between : tie.Need-add-gap-between
+add-gap-between c = search needs
+
+mul-gap-between-2 : tie.Need-mul-gap-between-2
+mul-gap-between-2 c = search needs
+
+shared-slice-read-gap-between : tie.Need-shared-slice-read-gap-between
+shared-slice-read-gap-between c = search needs
+
+gap-between-requires : tie.Need-gap-between-requires
+gap-between-requires c κs = search needs
+
+mark-if-requires-2 : tie.Need-mark-if-requires-2
+mark-if-requires-2 c κs = search needs
+
+same-length : tie.Need-same-length
+same-length c = search needs
+
+returns-2 : tie.Need-returns-2
+returns-2 c =
+    let two = c .before .before in
+    let gap = two .before .before in
+    let last = gap .before .before in
+    let one = last .before .before .before in
+    let first = one .before .before .before in
+    let held = first .before in
+    let s = held .before .before .before .before in
+    let a = s .args in
+    let g = gap .gap-between in
+    let h : a .at ≤ 63 = omega arith in
+    ends-marked (a .words .now) (a .order .now) (a .sites) (a .at) (first .entry .result) (last .entry2 .result) 63 (g .result) (a .marks .now) _ _
+    (s .pre .0 .room .long) h (first .entry .ensures .0) (last .entry2 .ensures .0) (g .ensures) (one .mark-if .ensures) (two .mark-if2 .ensures)
+
+pub mark-row-ends-spec : {M : Type 1} → statement M
+mark-row-ends-spec =
+    tie.close
+    (tie.spec
+    returns
+    entry-requires
+    mul-mark-if
+    mul-mark-if-2
+    shared-slice-read-mark-if
+    mark-if-requires
+    entry-requires-2
+    mul-gap-between
+    add-gap-between
+    mul-gap-between-2
+    shared-slice-read-gap-between
+    gap-between-requires
+    mark-if-requires-2
+    same-length
+    returns-2)
