@@ -8,17 +8,17 @@ use mathlib.Core.List.{List}
 use lib.ListN.{length}
 use Rattle.definition.specs.Job as paper
 use Rattle.definition.specs.Placement as text
-use Rattle.definition.specs.Rules.{breaks1, breaks3, rules}
+use Rattle.definition.specs.Rules.{breaks1, breaks3, rules, ruleOf}
 use Rattle.score_order.specs.Words.{Ordered}
 use Rattle.score_words.specs.Flat.{Flat}
 use Rattle.score_cell_rules.specs.Tests.{pastIn, clashesIn, passesIn}
 use Rattle.score_cell_rules.specs.Marks.{markedIn, Added, added-none, added-below}
-use Rattle.score_row_rules.specs.Tests.{nearAny, outAny}
+use Rattle.score_row_rules.specs.Tests.{nearAny, outAny, atEndAny}
 use Rattle.score_verdict.specs.declared.Verdict.{Verdict}
 use Rattle.score_verdict.specs.declared.Limits.{Limits}
-use Rattle.score_verdict.specs.Rules.{ruleOf, no-rule}
+use Rattle.score_verdict.specs.Rules.{no-rule}
 use Rattle.score_verdict.specs.Judged.{Told}
-use Rattle.score_verdict.specs.Flat.{flat2, flat4, flat5, flat6, flat7}
+use Rattle.score_verdict.specs.Flat.{flat2, flat4, flat5, flat6, flat7, flat8}
 
 -- the sizes of the arrays, and the orders
 pub record Laid (limits : Limits) (unoffered far words order₀ order₁ : List ℕ) : Type 0 where
@@ -59,36 +59,30 @@ module _ {limits : Limits} {unoffered far words m m′ : List ℕ} {rule : ℕ} 
 
   pub marks1 : rule ≡ 1 → Added (limits .cells) (markedIn unoffered) m m′
       → RuleMarked limits unoffered far words rule m m′
-  unfolding ruleOf
   marks1 e = of-rule (markedIn unoffered) (λ j P b k l. b .offers k l ∙ ap (λ x. ruleOf j P x k) (sym e))
 
   pub marks2 : rule ≡ 2 → Added (limits .cells) (pastIn words (limits .sites)) m m′
       → RuleMarked limits unoffered far words rule m m′
-  unfolding ruleOf
   marks2 e =
       of-rule (pastIn words (limits .sites))
       (λ j P b k _. ap (λ x. pastIn words x k) (b .sites) ∙ flat2 (b .flat) k ∙ ap (λ x. ruleOf j P x k) (sym e))
 
   pub marks3 : rule ≡ 3 → Added (limits .cells) (markedIn far) m m′
       → RuleMarked limits unoffered far words rule m m′
-  unfolding ruleOf
   marks3 e = of-rule (markedIn far) (λ j P b k l. b .shifts k l ∙ ap (λ x. ruleOf j P x k) (sym e))
 
   pub marks4 : rule ≡ 4 → Added (limits .cells) (clashesIn words (limits .cells)) m m′
       → RuleMarked limits unoffered far words rule m m′
-  unfolding ruleOf
   marks4 e =
       of-rule (clashesIn words (limits .cells)) (λ j P b k _. flat4 (b .flat) k ∙ ap (λ x. ruleOf j P x k) (sym e))
 
   pub marks5 : rule ≡ 5 → Added (limits .cells) (nearAny words (limits .cells)) m m′
       → RuleMarked limits unoffered far words rule m m′
-  unfolding ruleOf
   marks5 e =
       of-rule (nearAny words (limits .cells)) (λ j P b k _. flat5 (b .flat) k ∙ ap (λ x. ruleOf j P x k) (sym e))
 
   pub marks6 : rule ≡ 6 → Added (limits .cells) (outAny words (limits .cells) (limits .reordering)) m m′
       → RuleMarked limits unoffered far words rule m m′
-  unfolding ruleOf
   marks6 e =
       of-rule (outAny words (limits .cells) (limits .reordering))
       (λ j P b k _.
@@ -98,9 +92,17 @@ module _ {limits : Limits} {unoffered far words m m′ : List ℕ} {rule : ℕ} 
 
   pub marks7 : rule ≡ 7 → Added (limits .cells) (passesIn words (limits .cells)) m m′
       → RuleMarked limits unoffered far words rule m m′
-  unfolding ruleOf
   marks7 e =
       of-rule (passesIn words (limits .cells)) (λ j P b k _. flat7 (b .flat) k ∙ ap (λ x. ruleOf j P x k) (sym e))
+
+  pub marks8 : rule ≡ 8 → Added (limits .cells) (atEndAny words (limits .cells) (limits .sites)) m m′
+      → RuleMarked limits unoffered far words rule m m′
+  marks8 e =
+      of-rule (atEndAny words (limits .cells) (limits .sites))
+      (λ j P b k _.
+      ap (λ x. atEndAny words (limits .cells) x k) (b .sites)
+      ∙ flat8 (b .flat) k
+      ∙ ap (λ x. ruleOf j P x k) (sym e))
 
 -- a number that no rule has
 pub marks-none : {limits : Limits} {unoffered far words m : List ℕ} {rule : ℕ} → length m ≡ 64

@@ -8,14 +8,14 @@ use Rattle.definition.specs.Lists.{from, any, anyNext}
 use Rattle.definition.specs.Job as paper
 use Rattle.definition.specs.Job.{bothRows}
 use Rattle.definition.specs.Placement as text
-use Rattle.definition.specs.Rules.{apart, placeIn, breaks2, breaks4, breaks5, breaks6, breaks7}
-use Rattle.definition.specs.Rules.{besideOneSite, outOfPlace}
+use Rattle.definition.specs.Rules.{apart, placeIn, isFirst, isLast, besideOneSite, outOfPlace, atOneSiteEnd}
+use Rattle.definition.specs.Rules.{breaks2, breaks4, breaks5, breaks6, breaks7, breaks8}
 use Rattle.job.specs.Parts.{standsIn}
 use Rattle.score_order.specs.Words.{cellsIn, orderIn}
 use Rattle.score_words.specs.Flat.{Flat}
 use Rattle.score_words.specs.Rows.{flat-cells, flat-order}
 use Rattle.score_cell_rules.specs.Tests.{pastIn, shareIn, clashIn, clashesIn, wrongIn, passesIn}
-use Rattle.score_row_rules.specs.Tests.{nearIn, nearAny, outBy, outIn, outAny}
+use Rattle.score_row_rules.specs.Tests.{nearIn, nearAny, outBy, outIn, outAny, atEndIn, atEndAny}
 
 module _ {j : paper.Job} {P : text.Placement} {n : ℕ} {words : List ℕ} (f : Flat j P n words) where
   pub flat2 : (k : ℕ) → pastIn words (j .header .sites) k ≡ breaks2 j P k
@@ -31,7 +31,7 @@ module _ {j : paper.Job} {P : text.Placement} {n : ℕ} {words : List ℕ} (f : 
       && ltb (f .shows k .site i) (f .shows b .end i)
       && ltb (f .shows b .site i) (f .shows k .end i))) (from 0 (sym (f .count) i))
 
-  -- a row, rule 5 and rule 6
+  -- a row, rules 5, 6 and 8
   near-row : (row k : ℕ) → nearIn words (orderIn words row n) k ≡ besideOneSite j P row k
   unfolding nearIn besideOneSite
   near-row row k =
@@ -43,6 +43,12 @@ module _ {j : paper.Job} {P : text.Placement} {n : ℕ} {words : List ℕ} (f : 
   out-row row k =
       λ i. standsIn row (f .shows k .row i)
       && not (leb (apart (placeIn k (flat-order f row i)) (placeIn k (flat-cells f row i))) (j .header .reordering))
+
+  end-row : (row k : ℕ) → atEndIn words (j .header .sites) (orderIn words row n) k ≡ atOneSiteEnd j P row k
+  unfolding atEndIn atOneSiteEnd
+  end-row row k =
+      λ i. (isFirst k (flat-order f row i) && eqb (f .shows k .site i) 1)
+      || (isLast k (flat-order f row i) && eqb (j .header .sites - f .shows k .end i) 1)
 
   pub flat5 : (k : ℕ) → nearAny words n k ≡ breaks5 j P k
   unfolding nearAny breaks5
@@ -60,3 +66,7 @@ module _ {j : paper.Job} {P : text.Placement} {n : ℕ} {words : List ℕ} (f : 
       (λ b. eqb (f .shows b .row i) 2
       && ((ltb b k && ltb (f .shows k .site i) (f .shows b .site i))
       || (ltb k b && ltb (f .shows b .site i) (f .shows k .site i)))) (from 0 (sym (f .count) i))
+
+  pub flat8 : (k : ℕ) → atEndAny words n (j .header .sites) k ≡ breaks8 j P k
+  unfolding atEndAny breaks8
+  flat8 k = λ i. any (λ row. end-row row k i) bothRows

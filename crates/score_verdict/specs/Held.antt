@@ -7,11 +7,11 @@ use lib.ListN.{length, drop, drop-of-length-le}
 use Rattle.definition.specs.Lists.{from}
 use Rattle.definition.specs.Job as paper
 use Rattle.definition.specs.Placement as text
-use Rattle.definition.specs.Rules.{cellsOf, rules, lowest, firstBroken, verdict}
+use Rattle.definition.specs.Rules.{cellsOf, rules, ruleOf, lowest, firstBroken, verdict}
 use Rattle.score_cell_rules.specs.Lowest.{lowest-same, lowest-none, lowest-zero, lowest-first}
 use Rattle.score_cell_rules.specs.Marks.{markedIn, Added, Unmarked, unmarked-none, unmarked-still, marked-is}
 use Rattle.score_verdict.specs.declared.Verdict.{Verdict}
-use Rattle.score_verdict.specs.Rules.{ruleOf, rules-from}
+use Rattle.score_verdict.specs.Rules.{rules-from}
 use Rattle.score_verdict.specs.Judged.{Judged, Told, broken-here, holds-here, all-hold}
 
 -- no rule before this one has marked a cell, and the verdict is that of the rules from it on
@@ -66,7 +66,6 @@ module _ {j : paper.Job} {P : text.Placement} {n : ℕ} (count : length (j .cell
   -- past the last rule
   pub all-held : {rule : ℕ} {m : List ℕ} → length (rules j P) < rule → Held j P n rule m
       → Told j P n (record { rule = 0; cell = 0 }) m
-  unfolding ruleOf
   all-held {rule} {m} high h = record {
     judged = h .later _
         (subst (λ fs. Judged (firstBroken rule fs (cellsOf j)) (record { rule = 0; cell = 0 })) (sym ended)

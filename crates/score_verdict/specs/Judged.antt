@@ -8,10 +8,9 @@ use Rattle.definition.specs.Lists.{from, keep}
 use Rattle.definition.specs.Job as paper
 use Rattle.definition.specs.Placement as text
 use Rattle.definition.specs.Rules as definition
-use Rattle.definition.specs.Rules.{lowest, firstBroken, verdict}
+use Rattle.definition.specs.Rules.{ruleOf, lowest, firstBroken, verdict}
 use Rattle.score_cell_rules.specs.Lowest.{first}
 use Rattle.score_cell_rules.specs.Marks.{markedIn}
-use Rattle.score_verdict.specs.Rules.{ruleOf}
 use Rattle.score_verdict.specs.declared.Verdict.{Verdict}
 
 pub record Judged (v : definition.Verdict) (r : Verdict) : Type 0 where

@@ -10,15 +10,8 @@ use Rattle.lists.specs.Compare.{Le?, low, high, le?}
 use Rattle.lists.specs.Tails.{tail-cons}
 use Rattle.definition.specs.Job as paper
 use Rattle.definition.specs.Placement as text
-use Rattle.definition.specs.Rules.{rules}
+use Rattle.definition.specs.Rules.{rules, never, ruleOf}
 use Rattle.job.specs.Value.{jobOf, emptyJob}
-
-abbrev pub never : ℕ → Bool
-never k = false
-
--- rule number `rule` of the definition's list, from 1; 0 is no rule, and no cell breaks it
-unfoldable pub ruleOf : paper.Job → text.Placement → ℕ → ℕ → Bool
-ruleOf j P rule = getD (never ∷ rules j P) rule never
 
 -- how many rules there are, of any job
 abbrev pub ruleCount : ℕ
@@ -27,7 +20,6 @@ ruleCount = length (rules (jobOf emptyJob) [])
 module _ (j : paper.Job) (P : text.Placement) where
   -- a number that no rule has
   pub no-rule : (rule k : ℕ) → (1 ≤ rule → rule ≤ length (rules j P) → ⊥) → ruleOf j P rule k ≡ false
-  unfolding ruleOf
   no-rule zero k h = refl
   no-rule (suc i) k h = go (leb (suc i) (length (rules j P))) (le? (suc i) (length (rules j P)))
     where
@@ -39,7 +31,5 @@ module _ (j : paper.Job) (P : text.Placement) where
   -- the rules from one on: that one, and those from the next on
   pub rules-from : (i rule : ℕ) → rule ≡ suc i → i < length (rules j P)
       → drop i (rules j P) ≡ ruleOf j P rule ∷ drop rule (rules j P)
-  unfolding ruleOf
   rules-from i rule e h =
-      tail-cons (rules j P) i rule never e h
-      ∙ ap (λ x. getD (never ∷ rules j P) x never ∷ drop rule (rules j P)) (sym e)
+      tail-cons (rules j P) i rule never e h ∙ ap (λ x. ruleOf j P x ∷ drop rule (rules j P)) (sym e)

@@ -16,12 +16,13 @@ use score_cell_rules::mark_passing;
 use score_cell_rules::mark_past;
 use score_cell_rules::mark_unoffered;
 use score_order::order_row;
+use score_row_rules::mark_ends;
 use score_row_rules::mark_gaps;
 use score_row_rules::mark_places;
 use score_words::flatten;
 
 // How many rules there are.
-const RULES: u32 = 7;
+const RULES: u32 = 8;
 
 // Both 0 if all rules hold; cells count from 1.
 pub struct Verdict {
@@ -57,15 +58,17 @@ fn mark_rule(
     let cells = limits.cells;
     let start0 = limits.start0;
     let start1 = limits.start1;
+    let sites = limits.sites;
     let limit = limits.reordering;
     match rule {
         1 => mark_again(unoffered, cells, marks),
-        2 => mark_past(words, cells, limits.sites, marks),
+        2 => mark_past(words, cells, sites, marks),
         3 => mark_again(far, cells, marks),
         4 => mark_overlaps(words, cells, order0, start0, order1, start1, marks),
         5 => mark_gaps(words, cells, order0, start0, order1, start1, marks),
         6 => mark_places(words, cells, limit, order0, start0, order1, start1, marks),
         7 => mark_passing(words, cells, marks),
+        8 => mark_ends(words, cells, sites, order0, start0, order1, start1, marks),
         _ => {}
     }
 }

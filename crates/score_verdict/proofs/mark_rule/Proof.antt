@@ -1,7 +1,7 @@
 -- By its number the rule that has marked is the definition's (specs/Board).
 use Prim.Native.Nat.{ℕ, suc, _≤_}
 use mathlib.Core.Path.{_≡_}
-use Rattle.score_verdict.specs.Board.{marks1, marks2, marks3, marks4, marks5, marks6, marks7, marks-none}
+use Rattle.score_verdict.specs.Board.{marks1, marks2, marks3, marks4, marks5, marks6, marks7, marks8, marks-none}
 use native.Mathlib.Omega.{arith}
 use borrow.Author.Needs.{needs}
 use Rattle.score_verdict.proofs.mark_rule.Statement.{statement}
@@ -27,6 +27,9 @@ mark-places-requires c κs = search needs
 
 mark-passing-requires : tie.Need-mark-passing-requires
 mark-passing-requires c κs = search needs
+
+mark-ends-requires : tie.Need-mark-ends-requires
+mark-ends-requires c κs = search needs
 
 same-length : tie.Need-same-length
 same-length c = search needs
@@ -70,6 +73,12 @@ same-length-7 c = search needs
 returns-7 : tie.Need-returns-7
 returns-7 c = let call = c .before .before in marks7 (call .before .before .match .keys7) (call .mark-passing .ensures)
 
+same-length-8 : tie.Need-same-length-8
+same-length-8 c = search needs
+
+returns-8 : tie.Need-returns-8
+returns-8 c = let call = c .before .before in marks8 (call .before .before .match .keys8) (call .mark-ends .ensures)
+
 -- from one number to the next below, when it is not that one
 down : (x n : ℕ) → x ≤ suc n → (x ≡ suc n → ⊥) → x ≤ n
 down x n h d = omega arith
@@ -77,19 +86,20 @@ down x n h d = omega arith
 nothing : (x : ℕ) → 1 ≤ x → x ≤ 0 → ⊥
 nothing x a b = omega arith
 
-returns-8 : tie.Need-returns-8
-returns-8 c =
+returns-9 : tie.Need-returns-9
+returns-9 c =
     let mid = c .before .before .before .before in
     let s = mid .before .before .before in
     let r = c .match .rest in
     marks-none (s .pre .1) (λ j P a b.
-    let b₆ = down _ 6 b (r .1) in
-    let b₅ = down _ 5 b₆ (r .0 .1) in
-    let b₄ = down _ 4 b₅ (r .0 .0 .1) in
-    let b₃ = down _ 3 b₄ (r .0 .0 .0 .1) in
-    let b₂ = down _ 2 b₃ (r .0 .0 .0 .0 .1) in
-    let b₁ = down _ 1 b₂ (r .0 .0 .0 .0 .0 .1) in
-    nothing _ a (down _ 0 b₁ (r .0 .0 .0 .0 .0 .0 .1)))
+    let b₇ = down _ 7 b (r .1) in
+    let b₆ = down _ 6 b₇ (r .0 .1) in
+    let b₅ = down _ 5 b₆ (r .0 .0 .1) in
+    let b₄ = down _ 4 b₅ (r .0 .0 .0 .1) in
+    let b₃ = down _ 3 b₄ (r .0 .0 .0 .0 .1) in
+    let b₂ = down _ 2 b₃ (r .0 .0 .0 .0 .0 .1) in
+    let b₁ = down _ 1 b₂ (r .0 .0 .0 .0 .0 .0 .1) in
+    nothing _ a (down _ 0 b₁ (r .0 .0 .0 .0 .0 .0 .0 .1)))
 
 pub mark-rule-spec : {M : Type 1} → statement M
 mark-rule-spec =
@@ -102,6 +112,7 @@ mark-rule-spec =
     mark-gaps-requires
     mark-places-requires
     mark-passing-requires
+    mark-ends-requires
     same-length
     returns
     same-length-2
@@ -116,4 +127,6 @@ mark-rule-spec =
     returns-6
     same-length-7
     returns-7
-    returns-8)
+    same-length-8
+    returns-8
+    returns-9)
