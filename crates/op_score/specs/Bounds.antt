@@ -1,4 +1,4 @@
--- A verdict is of small numbers: a rule up to 7, and a cell that the job has. Theorems on the definition.
+-- A verdict is of small numbers: a rule that there is, and a cell that the job has. Theorems on the definition.
 use Prim.Native.Nat.{ℕ, zero, suc, _+_, _≤_}
 use mathlib.Core.Bool.{Bool}
 use mathlib.Core.List.{List, [], _∷_}
@@ -25,6 +25,6 @@ broken-small r n (f ∷ fs) = go (lowest f (from 0 n)) (lowest-small f 0 n) (bro
     go zero h s = record { rule = omega (arith, s .rule); cell = s .cell }
     go (suc k) h s = record { rule = omega arith; cell = omega arith }
 
-pub verdict-small : (j : Job) (P : Placement) → Small 7 (length (j .cells)) (verdict j P)
+pub verdict-small : (j : Job) (P : Placement) → Small (length (rules j P)) (length (j .cells)) (verdict j P)
 unfolding verdict
 verdict-small j P = broken-small 0 (length (j .cells)) (rules j P)
