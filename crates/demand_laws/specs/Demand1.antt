@@ -2,12 +2,12 @@
 use Prim.Native.Nat.{ℕ, zero, suc, _≤_, _<_}
 use mathlib.Core.Path.{_≡_, refl, sym, ap, _∙_, subst}
 use mathlib.Core.Logic.{_⊎_, inl, inr}
-use mathlib.Core.Bool.{Bool, true, false, cond}
-use mathlib.Core.List.{List, [], _∷_}
+use mathlib.Core.Bool.{Bool, true, false, cond, false≢true}
+use mathlib.Core.List.{List, [], _∷_, _++_, map}
 use mathlib.Core.Option.{Option, none, some}
 use native.Mathlib.Omega.{arith}
 use borrow.Author.Tests.{lt-ltb, leb-true}
-use lib.ListN.{length, replicate}
+use lib.ListN.{length, replicate, take, length-take}
 use lib.Dec.{leb, eqb}
 use lib.IntN.{ℤ, pos}
 use Rattle.definition.specs.Texts.{Text}
@@ -18,8 +18,9 @@ use Rattle.definition.specs.Moves.{Cheapest}
 use Rattle.definition.specs.Outcome.{Outcome, noLine, refusedBy, read, score, scoreFields, numbers, numberCount}
 use Rattle.definition.specs.Outcome.{placeOutcome, placeAnswer, placeFieldCount, PlaceGives, bufferRefusal}
 use Rattle.definition.specs.Outcome.{storeNeeded, outputNeeded, Told, Buffers, Placed, over}
-use Rattle.definition.specs.FaultLine.{ToldFault, Part, ofJob, ofPlacement, wordsOf, faultLine}
-use Rattle.definition.specs.Demands.{isOneOf, Shape, readShape, scoreShape, placeShape, alone, Demand1, FaultDemand1}
+use Rattle.definition.specs.FaultLine.{ToldFault, CopiedFault, Part, ofJob, ofPlacement, wordsOf, faultLine, shown}
+use Rattle.definition.specs.Demands.{isOneOf, Shape, readShape, scoreShape, faultShape, placeShape, Demand1}
+use Rattle.definition.specs.Demands.{alone, unsigned}
 use Rattle.definition_laws.specs.Sound.{Sound}
 use Rattle.definition_laws.specs.Outcomes.{read-refused, read-accepted, score-refused, score-fault, score-accepted}
 use Rattle.definition_laws.specs.Outcomes.{place-refused, place-buffers, place-accepted}
@@ -48,7 +49,8 @@ refused-some job {n} {line} e z = let s = job-refused job n line e .some in omeg
 
 -- an operation that refuses as Read does, at its line and before any search
 pub record AsRead (shape : Shape) : Type 0 where
-  pub known : (n line : ℕ) → Refused n line → isOneOf (0 ∷ shape .refusals) n ≡ true
+  pub led : shape .led ≡ true
+  pub known : (n line : ℕ) → Refused n line → isOneOf (shape .answers ++ shape .refusals) n ≡ true
   pub lines : (n line : ℕ) → Refused n line → isOneOf (shape .lined) n ≡ true
   pub before-search : (n line : ℕ) → Refused n line → isOneOf (shape .searched) n ≡ false
 
@@ -56,11 +58,12 @@ read-fair : (shape : Shape) → AsRead shape → (room : ℕ) (job : Text) (n li
     → Fair shape room (refusedBy (shape .fieldCount) (record { number = n; line = line }))
 read-fair shape s room job n line e =
     let r = job-refused job n line e in
-    refusal-fair shape room (record { number = n; line = line }) (s .known n line r)
+    refusal-fair shape room (record { number = n; line = line }) (s .led) (s .known n line r)
     (s .lines n line r ∙ sym (lt-ltb 0 line (r .located))) (s .before-search n line r)
 
 read-as-read : AsRead readShape
 read-as-read = record {
+  led = refl;
   known = λ n line r. of-read (λ n. isOneOf (0 ∷ readShape .refusals) n ≡ true) r refl refl refl refl;
   lines = λ n line r. of-read (λ n. isOneOf (readShape .lined) n ≡ true) r refl refl refl refl;
   before-search = λ n line r. refl;
@@ -68,6 +71,7 @@ read-as-read = record {
 
 score-as-read : AsRead scoreShape
 score-as-read = record {
+  led = refl;
   known = λ n line r. of-read (λ n. isOneOf (0 ∷ scoreShape .refusals) n ≡ true) r refl refl refl refl;
   lines = λ n line r. of-read (λ n. isOneOf (scoreShape .lined) n ≡ true) r refl refl refl refl;
   before-search = λ n line r. refl;
@@ -75,6 +79,7 @@ score-as-read = record {
 
 place-as-read : AsRead placeShape
 place-as-read = record {
+  led = refl;
   known = λ n line r. of-read (λ n. isOneOf (0 ∷ placeShape .refusals) n ≡ true) r refl refl refl refl;
   lines = λ n line r. of-read (λ n. isOneOf (placeShape .lined) n ≡ true) r refl refl refl refl;
   before-search = λ n line r. of-read (λ n. isOneOf (placeShape .searched) n ≡ false) r refl refl refl refl;
@@ -90,11 +95,12 @@ read-keeps job = go (readJob job) refl
         subst (Fair readShape 0) (sym (read-refused job e (refused-some job e)))
         (read-fair readShape read-as-read 0 job n line e)
     go (accepted j) e = subst (Fair readShape 0) (sym (read-accepted job e)) (record {
+      led = refl;
       numbered = refl;
       located = refl;
       counted = refl;
       fits = omega arith;
-      no-fields = λ z. absurd (z refl);
+      no-fields = λ z. absurd (false≢true z);
       no-text = λ z. refl;
       searches = refl;
     })
@@ -116,14 +122,15 @@ score-keeps job placement = go (readJob job) refl
     posed j r (fault line) e =
         let w = fault-within (length (j .cells)) placement line e in
         subst (Fair scoreShape 0) (sym (score-fault job r placement e))
-        (refusal-fair scoreShape 0 (record { number = 5; line = line }) refl
+        (refusal-fair scoreShape 0 (record { number = 5; line = line }) refl refl
         (sym (lt-ltb 0 line (omega (arith, w .0)))) refl)
     posed j r (poses P) e = subst (Fair scoreShape 0) (sym (score-accepted job r placement e)) (record {
+      led = refl;
       numbered = refl;
       located = refl;
       counted = fields-eight j P (verdict j P);
       fits = omega arith;
-      no-fields = λ z. absurd (z refl);
+      no-fields = λ z. absurd (false≢true z);
       no-text = λ z. refl;
       searches = refl;
     })
@@ -156,18 +163,65 @@ pub score-demand1 : (job placement : Text) {returned : ℕ} {results results′ 
     → Demand1 scoreShape returned (alone results) (alone results′)
 score-demand1 job placement t = told-demand1 refl (score-keeps job placement) t
 
-pub fault-demand1 : {job placement : Text} {returned : ℕ} {part part′ : List ℕ}
-    → ToldFault job placement returned part part′ → FaultDemand1 returned part part′
-fault-demand1 {job} {placement} t = record {
-  words = wordsOf (faultLine job placement);
-  numbered = ap (isOneOf (0 ∷ scoreShape .refusals)) (t .number) ∙ score-keeps job placement .numbered;
-  counted = three (faultLine job placement);
-  array = t .array;
-}
+-- ---- Fault line
+
+-- what a list is written over by, number by number
+map-over : (xs l : List ℕ) → map pos (over xs l) ≡ over (map pos xs) (map pos l)
+unfolding over
+map-over [] l = refl
+map-over (x ∷ xs) [] = refl
+map-over (x ∷ xs) (y ∷ l) = ap (λ z. pos x ∷ z) (map-over xs l)
+
+-- as much of a text as fits is what is written
+over-fits : (text l : List ℕ) → over text l ≡ over (take (length l) text) l
+unfolding over
+over-fits [] [] = refl
+over-fits [] (y ∷ l) = refl
+over-fits (x ∷ xs) [] = refl
+over-fits (x ∷ xs) (y ∷ l) = ap (λ z. x ∷ z) (over-fits xs l)
+
+over-empty : (l : List ℕ) → [] ≡ over l []
+unfolding over
+over-empty [] = refl
+over-empty (x ∷ l) = refl
+
+-- the line is Score's, and so is the number
+pub line-demand1 : {job placement : Text} {returned : ℕ} {output output′ part part′ : List ℕ}
+    → CopiedFault job placement returned output output′ part part′
+    → Demand1 faultShape returned (unsigned output part) (unsigned output′ part′)
+line-demand1 {job} {placement} {returned} {output} {output′} {part} {part′} c =
+    let e = c .told .number in
+    let s = score-keeps job placement in
+    record {
+      line = score job placement .line;
+      fields = map pos words;
+      text = take (length output) line;
+      numbered = ap (isOneOf (0 ∷ scoreShape .refusals)) e ∙ s .numbered;
+      located = ap (isOneOf (scoreShape .lined)) e ∙ s .located;
+      counted = three (faultLine job placement);
+      array = ap (map pos) (c .told .array) ∙ map-over words part;
+      fits = simp length-take (omega arith);
+      written = c .copied ∙ over-fits line output;
+      no-fields = λ z. absurd (false≢true z);
+      no-text = λ z. absurd (false≢true z);
+      stored = refl;
+    }
   where
-    three : (p : Part) → length (wordsOf p) ≡ 3
+    words : List ℕ
+    words = wordsOf (faultLine job placement)
+
+    line : Text
+    line = shown job placement (faultLine job placement)
+
+    three : (p : Part) → length (map pos (wordsOf p)) ≡ 3
     three (ofJob i n) = refl
     three (ofPlacement i n) = refl
+
+-- no output is an empty one
+pub fault-demand1 : {job placement : Text} {returned : ℕ} {part part′ : List ℕ}
+    → ToldFault job placement returned part part′ → Demand1 faultShape returned (unsigned [] part) (unsigned [] part′)
+fault-demand1 {job} {placement} t =
+    line-demand1 (record { told = t; copied = over-empty (shown job placement (faultLine job placement)) })
 
 -- ---- Place
 
@@ -198,6 +252,7 @@ place-keeps {job} {words} {room} {o} g = subst (Fair placeShape room) (sym (g .o
     answer : (j : Job) → Sound j → outputNeeded j ≤ room → (a : Option Placement) → Cheapest j a
         → Fair placeShape room (placeAnswer j a)
     answer j s h none c = record {
+      led = refl;
       numbered = refl;
       located = refl;
       counted = refl;
@@ -207,12 +262,13 @@ place-keeps {job} {words} {room} {o} g = subst (Fair placeShape room) (sym (g .o
       searches = refl;
     }
     answer j s h (some P) c = record {
+      led = refl;
       numbered = refl;
       located = refl;
       counted = fields-seven j P;
       fits = omega (arith, legal-room j P s (c .legal P refl));
-      no-fields = λ z. absurd (z refl);
-      no-text = λ z. absurd (z refl);
+      no-fields = λ z. absurd (false≢true z);
+      no-text = λ z. absurd (false≢true z);
       searches = refl;
     }
 
@@ -221,10 +277,10 @@ place-keeps {job} {words} {room} {o} g = subst (Fair placeShape room) (sym (g .o
     short n (inl e) z = absurd (z e)
     short n (inr (inl e)) z =
         subst (λ m. Fair placeShape room (refusedBy placeFieldCount (noLine m))) (sym e)
-        (refusal-fair placeShape room (noLine 6) refl refl refl)
+        (refusal-fair placeShape room (noLine 6) refl refl refl refl)
     short n (inr (inr e)) z =
         subst (λ m. Fair placeShape room (refusedBy placeFieldCount (noLine m))) (sym e)
-        (refusal-fair placeShape room (noLine 7) refl refl refl)
+        (refusal-fair placeShape room (noLine 7) refl refl refl refl)
 
     lent-enough : (j : Job) → readJob job ≡ accepted j → (n : ℕ) → bufferRefusal j words room ≡ n
         → Fair placeShape room (placeOutcome (readJob job) words room (g .answer))

@@ -11,14 +11,14 @@ use lib.IntN.{pos}
 use Rattle.definition.specs.Texts.{Text}
 use Rattle.definition.specs.Job.{Job, Reading, refused, accepted, readJob}
 use Rattle.definition.specs.Placement.{Placement, Printable, poses, readPlacement, textOf}
-use Rattle.definition.specs.Rules.{Legal, rules, Verdict, verdict}
+use Rattle.definition.specs.Rules.{Legal, rules, ruleOf, Verdict, verdict}
 use Rattle.definition.specs.Moves.{Cheapest}
 use Rattle.definition.specs.Outcome.{Outcome, answered, score, scoreAnswer, scoreFields, numbers, numberCount}
 use Rattle.definition.specs.Outcome.{placeAnswer, bufferRefusal, Buffers, Placed, over, resultsOf}
 use Rattle.definition.specs.Demands.{broken, Demand2, Demand2Of, OneText, Rescored, RescoredOf}
 use Rattle.definition_laws.specs.Agree.{verdict-legal}
 use Rattle.definition_laws.specs.Outcomes.{score-accepted, place-refused, place-buffers, place-accepted}
-use Rattle.definition_laws.specs.FirstBroken.{ruleIn, Broken, first-broken, none-broken}
+use Rattle.definition_laws.specs.FirstBroken.{Broken, first-broken, none-broken}
 use Rattle.job_laws.specs.Refused.{job-refused}
 use Rattle.job_laws.specs.Whole.{accepted-sound}
 use Rattle.text_laws.specs.Poses.{read-prints, read-printed}
@@ -38,20 +38,20 @@ module _ (j : Job) (P : Placement) (n : length P ≡ length (j .cells)) where
   unfolding verdict
   no-cell e = none-broken (rules j P) 0 (length (j .cells)) e
 
-  -- where the rule and the cell stand, counted from 0
+  -- the rule by its place in the list, and the cell counted from 0
   module _ (b : Broken (rules j P) 0 (length (j .cells)) v) where
-    rule-at : v .rule - 1 ≡ b .index
+    rule-at : v .rule ≡ suc (b .index)
     rule-at = let e = b .rule-is in omega arith
 
     cell-at : v .cell - 1 ≡ b .cell
     cell-at = let e = b .cell-is in omega arith
 
     that-cell : broken j P (v .rule) (v .cell) ≡ true
-    that-cell = ap₂ (ruleIn (rules j P)) rule-at cell-at ∙ b .breaks
+    that-cell = ap₂ (ruleOf j P) rule-at cell-at ∙ b .breaks
 
     no-lower : (k : ℕ) → 0 < k → k < v .cell → broken j P (v .rule) k ≡ false
     no-lower k h g =
-        ap (λ i. ruleIn (rules j P) i (k - 1)) rule-at ∙ b .lower (k - 1) (let e = b .cell-is in omega arith)
+        ap (λ i. ruleOf j P i (k - 1)) rule-at ∙ b .lower (k - 1) (let e = b .cell-is in omega arith)
 
   pub judged : Demand2 j P (scoreAnswer j P)
   unfolding scoreFields
@@ -70,7 +70,8 @@ module _ (j : Job) (P : Placement) (n : length P ≡ length (j .cells)) where
     first = λ r k h g i l.
         let b = named j P (λ z. omega arith) in
         let e = b .rule-is in
-        b .earlier (r - 1) (k - 1) (omega arith) (omega arith);
+        let q : r ≡ suc (r - 1) = omega arith in
+        ap (λ x. ruleOf j P x (k - 1)) q ∙ b .earlier (r - 1) (k - 1) (omega arith) (omega arith);
     lowest = λ z k h g. no-lower (named j P z) k h g;
     number = refl;
     fields = refl;

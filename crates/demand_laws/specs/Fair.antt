@@ -2,21 +2,22 @@
 use Prim.Native.Nat.{ℕ, _≤_}
 use mathlib.Core.Path.{_≡_, refl, sym, ap, _∙_}
 use mathlib.Core.Bool.{true, false, cond}
-use mathlib.Core.List.{[], _∷_}
+use mathlib.Core.List.{[], _++_}
 use native.Mathlib.Omega.{arith}
 use lib.ListN.{length, replicate, length-replicate}
 use lib.Dec.{ltb}
 use lib.IntN.{pos}
 use Rattle.definition.specs.Outcome.{Outcome, Refusal, refusedBy, Buffers, Met}
-use Rattle.definition.specs.Demands.{isOneOf, Shape, Demand1}
+use Rattle.definition.specs.Demands.{isOneOf, Shape, isRefusal, Demand1}
 
 pub record Fair (shape : Shape) (room : ℕ) (o : Outcome) : Type 0 where
-  pub numbered : isOneOf (0 ∷ shape .refusals) (o .number) ≡ true
+  pub led : shape .led ≡ true
+  pub numbered : isOneOf (shape .answers ++ shape .refusals) (o .number) ≡ true
   pub located : isOneOf (shape .lined) (o .number) ≡ ltb 0 (o .line)
   pub counted : length (o .fields) ≡ shape .fieldCount
   pub fits : length (o .text) ≤ room
-  pub no-fields : ¬ (o .number ≡ 0) → o .fields ≡ replicate (shape .fieldCount) (pos 0)
-  pub no-text : ¬ (o .number ≡ 0) → o .text ≡ []
+  pub no-fields : isRefusal shape (o .number) ≡ true → o .fields ≡ replicate (shape .fieldCount) (pos 0)
+  pub no-text : isRefusal shape (o .number) ≡ true → o .text ≡ []
   pub searches : o .zeroed ≡ isOneOf (shape .searched) (o .number)
 
 pub fair-demand1 : {shape : Shape} {o : Outcome} {returned : ℕ} {before end : Buffers}
@@ -26,24 +27,26 @@ fair-demand1 {shape} {o} {returned} {before} {end} f m =
       line = o .line;
       fields = o .fields;
       text = o .text;
-      numbered = ap (isOneOf (0 ∷ shape .refusals)) e ∙ f .numbered;
+      numbered = ap (isOneOf (shape .answers ++ shape .refusals)) e ∙ f .numbered;
       located = ap (isOneOf (shape .lined)) e ∙ f .located;
       counted = f .counted;
-      array = rw e (m .told .array);
+      array = rw (e, f .led) (m .told .array);
       fits = f .fits;
       written = m .written;
-      no-fields = λ z. f .no-fields (λ y. z (e ∙ y));
-      no-text = λ z. f .no-text (λ y. z (e ∙ y));
+      no-fields = λ z. f .no-fields (ap (isRefusal shape) (sym e) ∙ z);
+      no-text = λ z. f .no-text (ap (isRefusal shape) (sym e) ∙ z);
       stored = m .stored
           ∙ ap (λ t. cond t (replicate (length (before .store)) 0) (before .store))
           (f .searches ∙ sym (ap (isOneOf (shape .searched)) e));
     }
 
 -- a refusal of the operation's own that comes before a search
-pub refusal-fair : (shape : Shape) (room : ℕ) (r : Refusal) → isOneOf (0 ∷ shape .refusals) (r .number) ≡ true
+pub refusal-fair : (shape : Shape) (room : ℕ) (r : Refusal) → shape .led ≡ true
+    → isOneOf (shape .answers ++ shape .refusals) (r .number) ≡ true
     → isOneOf (shape .lined) (r .number) ≡ ltb 0 (r .line) → isOneOf (shape .searched) (r .number) ≡ false
     → Fair shape room (refusedBy (shape .fieldCount) r)
-refusal-fair shape room r a b c = record {
+refusal-fair shape room r l a b c = record {
+  led = l;
   numbered = a;
   located = b;
   counted = simp length-replicate;

@@ -1,6 +1,8 @@
 // The exported C functions, each over slices that are passed as address and length.
+ghost use mathlib.Core.List.{[]};
 ghost use Rattle.definition.specs.Outcome.{read, score, Told, lent, Placed, Demand3Of};
-ghost use Rattle.definition.specs.Demands.{readShape, scoreShape, placeShape, alone, Demand1, FaultDemand1};
+ghost use Rattle.definition.specs.Demands.{readShape, scoreShape, faultShape, placeShape, Demand1};
+ghost use Rattle.definition.specs.Demands.{alone, unsigned};
 ghost use Rattle.definition.specs.FaultLine.{ToldFault, CopiedFault};
 use job_read::read_job;
 use op_fault::copy_fault;
@@ -54,7 +56,7 @@ pub extern "C" fn refiner_score(job: &[u8], placement: &[u8], results: &mut [i32
 pub extern "C" fn refiner_fault(job: &[u8], placement: &[u8], part: &mut [u64]) -> u32
     ensures { λ r. ⌜ ToldFault (now (job .entry)) (now (placement .entry)) r
         (now (part .entry)) (now (part .exit)) ⌝ }
-    ensures { λ r. ⌜ FaultDemand1 r (now (part .entry)) (now (part .exit)) ⌝ }
+    ensures { λ r. ⌜ Demand1 faultShape r (unsigned [] (now (part .entry))) (unsigned [] (now (part .exit))) ⌝ }
 {
     tell_fault(job, placement, part)
 }
@@ -69,7 +71,8 @@ pub extern "C" fn refiner_fault_line<'a>(
 ) -> u32
     ensures { λ r. ⌜ CopiedFault (now (job .entry)) (now (placement .entry)) r
         (now (output .entry)) (now (output .exit)) (now (part .entry)) (now (part .exit)) ⌝ }
-    ensures { λ r. ⌜ FaultDemand1 r (now (part .entry)) (now (part .exit)) ⌝ }
+    ensures { λ r. ⌜ Demand1 faultShape r
+        (unsigned (now (output .entry)) (now (part .entry))) (unsigned (now (output .exit)) (now (part .exit))) ⌝ }
 {
     copy_fault(job, placement, output, part)
 }
