@@ -5,16 +5,18 @@
 use Prim.Native.Nat.{ℕ}
 use Prim.Native.String.{String, _++_}
 use mathlib.Core.Path.{_≡_, refl}
-use mathlib.Core.Bool.{true}
-use mathlib.Core.List.{List, [], _∷_}
+use mathlib.Core.Bool.{true, false}
+use mathlib.Core.List.{List, [], _∷_, map}
 use mathlib.Core.Option.{none}
 use lib.IntN.{ℤ, pos}
-use Rattle.definition.specs.Texts.{bytes}
+use Rattle.definition.specs.Texts.{Text, bytes}
 use Rattle.definition.specs.Job.{Reading, refused, accepted, readJob, maxCells, maxTall}
+use Rattle.definition.specs.Gaps.{gapsOf, isClosable}
 use Rattle.definition.specs.Moves.{right, changeBy}
 use Rattle.definition.specs.Outcome.{Outcome, resultsOf, over, bufferRefusal, placeOutcome}
+use Rattle.definition.specs.Outcome.{jobIn, posesIn, placementIn}
 use Rattle.definition.specs.FaultLine.{ofJob, ofPlacement, partAt, faultLine}
-use Rattle.definition.specs.Edges.{Case, scoring, fiveSites}
+use Rattle.definition.specs.Edges.{Case, scoring, fiveSites, inFive}
 use Rattle.definition.specs.EdgesComputed.{opened, AllComputed, _&_}
 
 -- ---- whole results of Score
@@ -126,6 +128,18 @@ no-further = refl
 
 pub limits : (maxCells ≡ 64) × (maxTall ≡ 24)
 limits = (refl, refl)
+
+-- ---- gaps
+
+-- the gaps of row 0, its ends included, and which of them a filler closes
+abbrev gapsIn : Reading → Text → List ℕ
+gapsIn r placement = gapsOf (jobIn r) (placementIn (posesIn r placement)) 0
+
+pub gaps-listed :
+    (gapsIn (readJob (bytes inFive)) (bytes "3,0,0\n") ≡ (3 ∷ 0 ∷ []))
+    × (map isClosable (0 ∷ 1 ∷ 2 ∷ 3 ∷ []) ≡ (true ∷ false ∷ true ∷ true ∷ []))
+unfolding opened
+gaps-listed = (refl, refl)
 
 -- ---- Fault line
 
