@@ -58,7 +58,8 @@ impl Placed<'_> {
             4 => rows().any(|row| row.iter().any(|&other| self.share_a_site(cell, other))),
             5 => rows().any(|row| self.beside_one_site(&row, cell)),
             6 => rows().any(|row| self.moved_too_far(&row, cell)),
-            _ => self.tall_on_the_wrong_side(cell),
+            7 => self.tall_on_the_wrong_side(cell),
+            _ => rows().any(|row| self.at_one_site_end(&row, cell)),
         }
     }
 
@@ -90,8 +91,17 @@ impl Placed<'_> {
                 .any(|other| other != cell && tall(other) && wrong(other))
     }
 
+    /// Whether the cell is the first of its row with one empty site before it, or the last with one
+    /// behind it.
+    fn at_one_site_end(&self, row: &[usize], cell: usize) -> bool {
+        let first = !row.iter().any(|&other| self.left_of(other, cell));
+        let last = !row.iter().any(|&other| self.left_of(cell, other));
+        let behind = i32::from(self.job.sites) - self.end(cell);
+        first && self.site(cell) == 1 || last && behind == 1
+    }
+
     fn first_broken(&self) -> Option<Broken> {
-        (1..=7).find_map(|rule| {
+        (1..=8).find_map(|rule| {
             let cell = self.cells().find(|&cell| self.breaks(rule, cell))?;
             Some(Broken {
                 rule,
@@ -101,22 +111,39 @@ impl Placed<'_> {
     }
 }
 
-fn compare(job: &Job, poses: &[Pose]) {
+/// Holds the two against each other, and says which rule is broken first, or 0.
+fn compare(job: &Job, poses: &[Pose]) -> usize {
     let expected = Placed { job, poses }.first_broken();
     assert_eq!(verdict(job, poses).err(), expected, "{job:?} {poses:?}");
+    expected.map_or(0, |broken| broken.rule as usize)
 }
 
 #[test]
 fn agree() {
     let mut random = Random::new(21);
+    let mut seen = [0; 9];
     for count in 0..20_000 {
         let (job, mut placement) = placements::job_with_legal_placement(&mut random);
-        compare(&job, &placement);
-        placements::break_rule(&mut random, 1 + count % 7, &job, &mut placement);
-        compare(&job, &placement);
+        seen[compare(&job, &placement)] += 1;
+        placements::break_rule(&mut random, 1 + count % 8, &job, &mut placement);
+        seen[compare(&job, &placement)] += 1;
         placements::wander(&mut random, &job, &mut placement);
-        compare(&job, &placement);
+        seen[compare(&job, &placement)] += 1;
         let job = jobs::job_of_any_size(&mut random);
-        compare(&job, &placements::wild(&mut random, &job));
+        seen[compare(&job, &placements::wild(&mut random, &job))] += 1;
     }
+    assert!(seen.iter().all(|&seen| seen > 100), "{seen:?}");
+}
+
+#[test]
+fn agree_on_row_ends() {
+    let mut random = Random::new(22);
+    let mut seen = [0; 9];
+    for _ in 0..20_000 {
+        let (job, mut placement) = placements::job_with_row_ends(&mut random);
+        seen[compare(&job, &placement)] += 1;
+        placements::wander(&mut random, &job, &mut placement);
+        seen[compare(&job, &placement)] += 1;
+    }
+    assert!(seen[0] > 5_000 && seen[8] > 10_000, "{seen:?}");
 }

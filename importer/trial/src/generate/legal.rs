@@ -1,4 +1,4 @@
-//! Jobs whose given rows are a legal placement, by their shape.
+//! Jobs whose given rows are a legal placement, or one that breaks rule 8 alone, by their shape.
 
 use super::{jobs, Random};
 use crate::plain::job::{Job, Weights, TALL};
@@ -16,6 +16,11 @@ pub struct Shape {
     pub reordering: u16,
     /// The gaps that neighbours are given to choose from.
     pub gaps: &'static [u16],
+    /// How many empty sites to choose from before a row's first cell, and behind the longer row's
+    /// last.
+    pub ends: &'static [u16],
+    /// Whether just one empty site may be left at a row's end: rule 8 is then left to chance.
+    pub one_site_ends: bool,
 }
 
 /// A heavy shape, to be changed where a job is to differ: every cell has two layouts and may be
@@ -29,6 +34,8 @@ pub const HEAVY: Shape = Shape {
     displacement: 7,
     reordering: 1,
     gaps: &[0, 0, 0, 2, 3, 4],
+    ends: &[0],
+    one_site_ends: false,
 };
 
 /// A job of this shape. All its cells have two layouts and may be mirrored.
@@ -39,14 +46,14 @@ pub fn job(random: &mut Random, shape: &Shape) -> Job {
         let mut cell = jobs::cell_with_layouts(random, row, 2, shape.most_width, shape.most_height);
         cell.mirrorable = true;
         let ends = &mut ends[cell.rows()];
-        cell.given = site_after(ends, random.pick(shape.gaps));
+        cell.given = site_after(random, shape, ends);
         ends.fill(Some(cell.given + cell.layout[0].width));
         cell
     });
     let cells = cells.collect();
     Job {
         rows: shape.rows,
-        sites: ends.into_iter().flatten().max().unwrap_or(1),
+        sites: sites(random, shape, &ends),
         displacement: shape.displacement,
         reordering: shape.reordering,
         weights: Weights {
@@ -68,13 +75,29 @@ fn row_of(random: &mut Random, shape: &Shape, at: usize) -> u16 {
     }
 }
 
-/// The first site, from the least gap on, that leaves no row with a gap of one site; `ends` has
-/// the end of each row that holds a cell.
-fn site_after(ends: &[Option<u16>], gap: u16) -> u16 {
+/// The first site, from some gap on, that leaves no row with a gap of one site; `ends` has the end
+/// of each row that holds a cell.
+fn site_after(random: &mut Random, shape: &Shape, ends: &[Option<u16>]) -> u16 {
     let furthest = ends.iter().flatten().max();
-    let mut site = furthest.map_or(0, |end| end + gap);
-    while ends.iter().flatten().any(|&end| site == end + 1) {
+    let gaps = furthest.map_or(shape.ends, |_| shape.gaps);
+    let mut site = furthest.unwrap_or(&0) + random.pick(gaps);
+    let one_site = |site: u16, end: &Option<u16>| match end {
+        Some(end) => site == end + 1,
+        None => site == 1 && !shape.one_site_ends,
+    };
+    while ends.iter().any(|end| one_site(site, end)) {
         site += 1;
     }
     site
+}
+
+/// The fewest sites, from some room on, that leave no row with one site behind its end.
+fn sites(random: &mut Random, shape: &Shape, ends: &[Option<u16>]) -> u16 {
+    let furthest = ends.iter().flatten().max();
+    let mut sites = furthest.unwrap_or(&1) + random.pick(shape.ends);
+    let one_site = |sites: u16, end: &u16| sites == end + 1 && !shape.one_site_ends;
+    while ends.iter().flatten().any(|end| one_site(sites, end)) {
+        sites += 1;
+    }
+    sites
 }

@@ -7,9 +7,25 @@ use crate::plain::placement::{given_rows, Placement, Pose};
 /// A job and a legal placement of it that is not its given rows.
 pub fn job_with_legal_placement(random: &mut Random) -> (Job, Placement) {
     let shape = any_shape(random);
-    let mut job = legal::job(random, &shape);
+    job_with_placement(random, &shape)
+}
+
+/// A job and a placement of it that is legal but for rule 8: there are few cells, and often one
+/// empty site before a row's first or behind its last.
+pub fn job_with_row_ends(random: &mut Random) -> (Job, Placement) {
+    let most = random.pick(&[1, 2, 3, 5]);
+    let shape = legal::Shape {
+        ends: &[0, 1, 1, 2, 3],
+        one_site_ends: true,
+        ..shape_of(random, most)
+    };
+    job_with_placement(random, &shape)
+}
+
+/// A job whose given rows were moved by at most D, and the placement that they were.
+fn job_with_placement(random: &mut Random, shape: &legal::Shape) -> (Job, Placement) {
+    let mut job = legal::job(random, shape);
     let placement = given_rows(&job);
-    job.sites = (job.sites + random.from_to(0, 9)).min(1024);
     job.weights = jobs::weights(random);
     for cell in &mut job.cells {
         cell.mirrorable = random.chance(2, 3);
@@ -21,6 +37,11 @@ pub fn job_with_legal_placement(random: &mut Random) -> (Job, Placement) {
 
 fn any_shape(random: &mut Random) -> legal::Shape {
     let most = random.pick(&[2, 4, 8, 8, 16, 64]);
+    shape_of(random, most)
+}
+
+/// A shape of at most so many cells.
+fn shape_of(random: &mut Random, most: usize) -> legal::Shape {
     let cells = 1 + random.below(most);
     let rows = random.from_to(1, 2);
     let most_tall = if rows == 2 { cells.min(24) } else { 0 };
@@ -33,6 +54,8 @@ fn any_shape(random: &mut Random) -> legal::Shape {
         displacement: random.pick(&[0, 1, 2, 3, 4, 7, 7]),
         reordering: random.from_to(0, 1),
         gaps: random.pick(&[&[0], &[0, 2], &[0, 0, 2, 3, 4, 5], &[2, 3, 4, 9]]),
+        ends: random.pick(&[&[0], &[0, 2, 3, 9]]),
+        one_site_ends: false,
     }
 }
 
@@ -71,19 +94,21 @@ pub fn wander(random: &mut Random, job: &Job, placement: &mut [Pose]) {
 
 /// Lets two cells change places, over the sites that they took up.
 fn exchange(job: &Job, placement: &mut [Pose], left: usize, right: usize) {
-    let width = |placement: &[Pose], at: usize| {
-        let layout = usize::from(placement[at].layout.min(1));
-        job.cells[at].layout[layout].width
-    };
     if right >= placement.len() || placement[left].site > placement[right].site {
         return;
     }
-    let end = placement[right].site + width(placement, right);
+    let end = placement[right].site + width(job, placement, right);
     placement[right].site = placement[left].site;
-    placement[left].site = end.saturating_sub(width(placement, left));
+    placement[left].site = end.saturating_sub(width(job, placement, left));
 }
 
-/// Breaks a rule from 1 to 7 at some cell, if the job has the cells for it.
+/// The width of a cell as it is placed; in layout 1 if it has no such layout.
+fn width(job: &Job, placement: &[Pose], at: usize) -> u16 {
+    let layout = usize::from(placement[at].layout.min(1));
+    job.cells[at].layout[layout].width
+}
+
+/// Breaks a rule from 1 to 8 at some cell, if the job has the cells for it.
 pub fn break_rule(random: &mut Random, rule: u32, job: &Job, placement: &mut [Pose]) {
     if placement.is_empty() {
         return;
@@ -100,7 +125,30 @@ pub fn break_rule(random: &mut Random, rule: u32, job: &Job, placement: &mut [Po
         4 => pose.site = site_of_another,
         5 => pose.site += 1,
         6 => exchange(job, placement, at, at + 1 + random.below(3)),
-        _ => exchange_tall(random, job, placement),
+        7 => exchange_tall(random, job, placement),
+        _ => leave_one_site(random, job, placement, cell.rows().start),
+    }
+}
+
+/// Leaves one empty site before the first cell of a row that holds one, or behind its last: that
+/// cell moves alone, or all cells with it.
+fn leave_one_site(random: &mut Random, job: &Job, placement: &mut [Pose], row: usize) {
+    let in_row = (0..placement.len()).filter(|&at| job.cells[at].rows().contains(&row));
+    let site = |at: &usize| placement[*at].site;
+    let (moved, wanted) = if random.chance(1, 2) {
+        (in_row.min_by_key(site), 1)
+    } else {
+        let last = in_row.max_by_key(site);
+        let width = last.map_or(0, |last| width(job, placement, last));
+        (last, job.sites.saturating_sub(width + 1))
+    };
+    let Some(moved) = moved else { return };
+    let shift = i32::from(wanted) - i32::from(placement[moved].site);
+    let alone = random.chance(1, 2);
+    for (at, pose) in placement.iter_mut().enumerate() {
+        if at == moved || !alone {
+            pose.site = (i32::from(pose.site) + shift).clamp(0, 9999) as u16;
+        }
     }
 }
 

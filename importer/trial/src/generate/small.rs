@@ -1,7 +1,7 @@
 //! Small jobs, for which all placements can be tried.
 
-use super::{jobs, Random};
-use crate::plain::job::{Job, TALL};
+use super::{jobs, placements, Random};
+use crate::plain::job::{Cell, Job, TALL};
 
 /// The most placements, legal or not, that a small job has.
 const MOST_PLACEMENTS: usize = 1_000_000;
@@ -20,7 +20,7 @@ pub fn job(random: &mut Random) -> Job {
         ..Job::default()
     };
     let mut highest = [0; 2];
-    let mut placements = 1;
+    let mut tries = 1;
     for _ in 0..random.below(7) {
         let row = if rows == 1 {
             0
@@ -28,9 +28,8 @@ pub fn job(random: &mut Random) -> Job {
             random.from_to(0, TALL)
         };
         let mut cell = jobs::cell(random, row, most_width, most_height);
-        let choices = usize::from(cell.layouts) * (1 + usize::from(cell.mirrorable));
-        placements *= choices * usize::from(2 * job.displacement + 1);
-        if placements > MOST_PLACEMENTS {
+        tries *= poses(&job, &cell);
+        if tries > MOST_PLACEMENTS {
             break;
         }
         let spare = random.pick(&[0, 1, 3]);
@@ -41,4 +40,21 @@ pub fn job(random: &mut Random) -> Job {
     let room = random.from_to(1, most_width + 3);
     job.sites = highest[0].max(highest[1]) + room;
     job
+}
+
+/// A job of 1 to 5 cells of which a placement is known that is legal but for rule 8.
+pub fn job_with_row_ends(random: &mut Random) -> Job {
+    loop {
+        let (job, _) = placements::job_with_row_ends(random);
+        let tries: usize = job.cells.iter().map(|cell| poses(&job, cell)).product();
+        if tries <= MOST_PLACEMENTS {
+            return job;
+        }
+    }
+}
+
+/// How many poses rules 1 and 3 leave to a cell at most.
+fn poses(job: &Job, cell: &Cell) -> usize {
+    let choices = usize::from(cell.layouts) * (1 + usize::from(cell.mirrorable));
+    choices * usize::from(2 * job.displacement + 1)
 }

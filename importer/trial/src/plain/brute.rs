@@ -3,21 +3,40 @@
 //! Poses that break rules 1 to 3 by themselves are not tried, nor are cells on top of earlier
 //! ones, nor what already costs too much; every placement that is left is scored whole.
 
+use super::cost::numbers;
 use super::job::{Cell, Job};
+use super::order::Order;
 use super::placement::{Placement, Pose};
+use super::rules::Broken;
 use super::scorer::verdict;
 
-/// The least cost, if there is a legal placement.
-pub fn least_cost(job: &Job) -> Option<u32> {
+/// What was found by trying all placements.
+#[derive(Clone, Copy, Debug, Default, PartialEq, Eq)]
+pub struct Least {
+    /// The least cost, if there is a legal placement.
+    pub cost: Option<u32>,
+    /// The least cost below that of a placement that breaks rule 8 alone, if there is one.
+    pub without_rule_8: Option<u32>,
+}
+
+pub fn least(job: &Job) -> Least {
     let offered = job.cells.iter().map(|cell| offered(job, cell)).collect();
     let mut search = Search {
         job,
         offered,
         placement: Vec::new(),
-        least: None,
+        least: Least::default(),
     };
     search.place_next(0);
-    search.least
+    let Least {
+        cost,
+        without_rule_8,
+    } = search.least;
+    let cheaper = |barred: &u32| cost.is_none_or(|cost| *barred < cost);
+    Least {
+        cost,
+        without_rule_8: without_rule_8.filter(cheaper),
+    }
 }
 
 /// A pose, and what it costs by itself.
@@ -58,7 +77,7 @@ struct Search<'a> {
     offered: Vec<Vec<Offer>>,
     /// The poses of the cells tried so far, in file order.
     placement: Placement,
-    least: Option<u32>,
+    least: Least,
 }
 
 impl Search<'_> {
@@ -66,16 +85,13 @@ impl Search<'_> {
     fn place_next(&mut self, cost: u32) {
         let cell = self.placement.len();
         if cell == self.job.cells.len() {
-            if let Ok(numbers) = verdict(self.job, &self.placement) {
-                let least = self.least.unwrap_or(u32::MAX);
-                self.least = Some(least.min(numbers.cost));
-            }
+            self.score();
             return;
         }
         for at in 0..self.offered[cell].len() {
             let offer = self.offered[cell][at];
             let cost = cost + offer.cost;
-            if self.least.is_some_and(|least| cost >= least) {
+            if self.least.cost.is_some_and(|least| cost >= least) {
                 return;
             }
             if !self.overlaps(cell, &offer.pose) {
@@ -84,6 +100,20 @@ impl Search<'_> {
                 self.placement.pop();
             }
         }
+    }
+
+    /// Scores a whole placement.
+    fn score(&mut self) {
+        let (least, cost) = match verdict(self.job, &self.placement) {
+            Ok(numbers) => (&mut self.least.cost, numbers.cost),
+            Err(Broken { rule: 8, .. }) => {
+                let rows = [0, 1].map(|row| Order::of(self.job, &self.placement, row));
+                let numbers = numbers(self.job, &self.placement, &rows);
+                (&mut self.least.without_rule_8, numbers.cost)
+            }
+            Err(_) => return,
+        };
+        *least = Some(least.map_or(cost, |least| least.min(cost)));
     }
 
     /// Whether a pose of a cell would share a site with an earlier cell of one of its rows.

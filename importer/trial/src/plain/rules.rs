@@ -1,4 +1,4 @@
-//! The seven rules, and the first one that a placement breaks.
+//! The eight rules, and the first one that a placement breaks.
 
 use super::job::{Cell, Job};
 use super::order::Order;
@@ -11,7 +11,7 @@ pub struct Broken {
     pub cell: u32,
 }
 
-/// The rows of a placement that keeps rules 1 to 7, or what it breaks.
+/// The rows of a placement that keeps rules 1 to 8, or what it breaks.
 pub fn legal_rows(job: &Job, placement: &[Pose]) -> Result<[Order; 2], Broken> {
     let broken = |rule| {
         move |cell| Broken {
@@ -32,6 +32,7 @@ pub fn legal_rows(job: &Job, placement: &[Pose]) -> Result<[Order; 2], Broken> {
     fail(5, lowest(one_site_gap))?;
     fail(6, lowest(order_moved_too_far))?;
     fail(7, tall_order_changed(job, placement))?;
+    fail(8, lowest(one_site_row_end))?;
     Ok(rows)
 }
 
@@ -104,6 +105,16 @@ fn tall_order_changed(job: &Job, placement: &[Pose]) -> Option<usize> {
         }
     }
     lowest
+}
+
+/// Rule 8. The row's first cell breaks it by one empty site before it, the last by one behind it. A
+/// row without cells has neither.
+fn one_site_row_end(job: &Job, row: &Order) -> Option<u8> {
+    let members = row.members();
+    let first = members.first().filter(|first| first.site == 1);
+    let last = members.last().filter(|last| job.sites - last.end == 1);
+    let ends = first.into_iter().chain(last);
+    ends.fold(None, |lowest, end| lower(lowest, end.cell))
 }
 
 fn lower(lowest: Option<u8>, cell: u8) -> Option<u8> {

@@ -57,11 +57,11 @@ impl<const L: usize> Block<L> {
         }
     }
 
-    /// A row's first cell: nothing stands left of it.
-    pub fn fill_first(&mut self, own: &[i32; POSES]) {
+    /// A row's first cell, by its own charges: nothing stands left of it.
+    pub fn fill_first(&mut self, line: &Line, own: &[i32; POSES]) {
         self.live = 0;
         for (pose, &own) in own.iter().enumerate() {
-            if own < NONE {
+            if own < NONE && line.may_open(pose) {
                 self.rows[pose] = [own; L];
                 self.live |= 1 << pose;
             }

@@ -25,6 +25,8 @@ pub struct Line {
     /// Its leftmost site if nothing but D limits it; may be below 0.
     pub first_site: i32,
     widths: [i32; 2],
+    /// Where its row ends.
+    row_end: i32,
     /// What each pose charges by itself: shift, mirroring, layout; [`NONE`](super::NONE) if it is
     /// not offered.
     pub own: [i32; POSES],
@@ -57,6 +59,7 @@ impl Line {
             tall: cell.is_tall(),
             first_site: i32::from(cell.given) - i32::from(job.displacement),
             widths: [0, 1].map(|layout: usize| cell.layout[layout].width.into()),
+            row_end: job.sites.into(),
             own: [NONE; POSES],
             offered: [NONE; POSES],
             left: [[0; 2]; VARIANTS],
@@ -99,6 +102,16 @@ impl Line {
     /// The first site right of the cell.
     pub fn end(&self, pose: usize) -> i32 {
         self.site(pose) + self.widths[pose >> 1 & 1]
+    }
+
+    /// Whether the cell may be its row's first: not behind just one empty site.
+    pub fn may_open(&self, pose: usize) -> bool {
+        self.site(pose) != 1
+    }
+
+    /// Whether the cell may be its row's last: not before just one empty site.
+    pub fn may_close(&self, pose: usize) -> bool {
+        self.row_end - self.end(pose) != 1
     }
 
     /// The pose with this number.

@@ -155,8 +155,8 @@ pub fn endings<const L: usize>(
             if stretch.layer.cells == 0 && matches!(start, Start::Edge) {
                 return [0; L];
             }
-            for (_, block) in stretch.closed_blocks() {
-                for pose in 0..POSES {
+            for (line, block) in stretch.closed_blocks() {
+                for pose in (0..POSES).filter(|&pose| line.may_close(pose)) {
                     for (lane, least) in ending.iter_mut().enumerate() {
                         *least = block.at(pose, lane).min(*least);
                     }

@@ -77,11 +77,15 @@ impl<'a, const L: usize> Stretch<'a, L> {
         }
     }
 
-    /// The pairs in which the row may end, and their blocks.
-    pub fn closed_blocks(&self) -> impl Iterator<Item = (usize, &Block<L>)> {
+    /// The cells with which the row may end, and their blocks.
+    pub fn closed_blocks(&self) -> impl Iterator<Item = (&Line, &Block<L>)> {
         let pairs = &self.board.pairs;
         let blocks = self.layer.blocks.iter().enumerate();
-        blocks.filter(|(pair, _)| pairs.list[*pair].marks == pairs.closed)
+        let closed = blocks.filter(|(pair, _)| pairs.list[*pair].marks == pairs.closed);
+        closed.filter_map(|(pair, block)| {
+            let place = pairs.place_at(self.layer.cells, pair)?;
+            Some((self.row.lines.get(place)?, block))
+        })
     }
 
     /// Places one more cell. A tall cell is placed only at `finish`, and goes to `prices`.
@@ -128,7 +132,7 @@ impl<const L: usize> Layer<L> {
         let before = target.pair.before;
         if self.cells == 0 {
             if before == board.pairs.closed {
-                block.fill_first(target.own);
+                block.fill_first(target.line, target.own);
             }
             return;
         }

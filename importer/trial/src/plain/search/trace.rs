@@ -86,11 +86,11 @@ fn write(row: &Row, stop: Option<Stop>, placement: &mut [Pose]) {
 fn source(board: &Board, row: &Row, layer: &Layer<1>, right: Option<Stop>) -> Option<Stop> {
     let pairs = &board.pairs;
     let marks = right.map_or(pairs.closed, |stop| pairs.list[stop.pair].before);
-    let between = |place: usize, pose: usize| match right {
-        None => Some(0),
-        Some(stop) => {
-            let (line, next) = (row.lines.get(place)?, &row.lines[stop.place]);
-            line.between(pose, next, stop.pose, board.step)
+    let between = |place: usize, pose: usize| {
+        let line = row.lines.get(place)?;
+        match right {
+            None => line.may_close(pose).then_some(0),
+            Some(stop) => line.between(pose, &row.lines[stop.place], stop.pose, board.step),
         }
     };
     let mut least = NONE;
