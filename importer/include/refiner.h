@@ -104,7 +104,8 @@ uint32_t refiner_read(const uint8_t *job, size_t job_len, int32_t *results, size
 
 /* Score. Refuses 1 to 4 as Read does, then 5. Results: number, line, rule, cell, steps, sites
  * shifted, mirrored, changed, cost, drift. Rule and cell are 0 if the placement is legal, and
- * otherwise the first broken rule and its lowest cell, counted from 1; the six numbers are then 0.
+ * otherwise the first broken rule, 1 to 8, and its lowest cell, counted from 1; the six numbers are
+ * then 0. README.md has a table of the rules.
  */
 uint32_t refiner_score(const uint8_t *job, size_t job_len, const uint8_t *placement,
                        size_t placement_len, int32_t *results, size_t results_len);

@@ -41,6 +41,10 @@ pub const RULES: &[Rule] = &[
         number: 7,
         asks: "tall cells keep their file order from left to right",
     },
+    Rule {
+        number: 8,
+        asks: "a row with cells never has just one empty site before its first or after its last",
+    },
 ];
 
 /// The first broken rule, and its lowest cell, counted from 1.

@@ -190,7 +190,8 @@ fn a_legal_placement_gives_its_numbers() {
 
 #[test]
 fn a_negative_drift_has_its_sign() {
-    let said = score("drift", WORKED, "1,0,1\n5,0,0\n");
+    let job = WORKED.replace("C,0,2", "C,0,3").replace("C,0,6", "C,0,7");
+    let said = score("drift", &job, "2,0,1\n6,0,0\n");
     assert_eq!(said.0, "legal,102,0,2,1,0,-100\n");
 }
 
@@ -214,6 +215,20 @@ fn a_broken_rule_is_told_with_its_numbers() {
     let words = "rule 2: cell 2 ends past the row: 17 + 4 = 21, the row has 20 sites\n";
     assert!(
         notes.ends_with(&format!("/past.placement:2: {words}")),
+        "{notes}"
+    );
+}
+
+#[test]
+fn a_broken_row_end_is_told_with_its_site() {
+    // The first cell one site left of its given site, so at site 1.
+    let (output, notes, status) = score("end", WORKED, "1,0,1\n5,0,0\n");
+    assert_eq!((&*output, status), ("broken,8,1\n", Some(0)));
+    let takes = "cell 1 takes sites 1 to 4, the row has 20 sites";
+    let words =
+        format!("rule 8: cell 1 leaves one empty site, 0, as the first of row 0: {takes}\n");
+    assert!(
+        notes.ends_with(&format!("/end.placement:1: {words}")),
         "{notes}"
     );
 }

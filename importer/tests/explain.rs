@@ -292,6 +292,32 @@ fn of_rules_that_cells_break_together() {
     check_rule(&job("1", tall), "0,0,0\n0,0,0\n", 4, 1, share);
 }
 
+#[test]
+fn of_row_ends() {
+    // A cell alone in its row of 5 sites, of width 2 or 3.
+    let alone = |row: &str, width: u32| format!("J,2,5,7,0,0,0,0,0\nC,{row},0,0,1,{width},1,1,1,1");
+    let single = |row: &str, width: u32| alone(row, width) + "\n";
+    let tall = |width: u32| alone("2", width) + ",1,1,1,1\n";
+    let words = "cell 1 leaves one empty site, 0, as the first of row 0: \
+                 cell 1 takes sites 1 to 2, the row has 5 sites";
+    check_rule(&single("0", 2), "1,0,0\n", 8, 1, words);
+    let words = "cell 1 leaves one empty site, 4, as the last of row 1: \
+                 cell 1 takes sites 2 to 3, the row has 5 sites";
+    check_rule(&single("1", 2), "2,0,0\n", 8, 1, words);
+    let words = "cell 1 leaves one empty site, 0, as the first of row 0 and \
+                 one empty site, 4, as the last of row 0: \
+                 cell 1 takes sites 1 to 3, the row has 5 sites";
+    check_rule(&single("0", 3), "1,0,0\n", 8, 1, words);
+    let words = "cell 1 leaves one empty site, 4, as the last of both rows: \
+                 cell 1 takes sites 2 to 3, the row has 5 sites";
+    check_rule(&tall(2), "2,0,0\n", 8, 1, words);
+    // A single cell stands before the tall one in row 0 alone.
+    let behind = "J,2,20,7,0,0,0,0,0\nC,0,0,0,1,1,1,1,1,1\nC,2,0,0,1,4,1,1,1,1,1,1,1,1\n";
+    let words = "cell 2 leaves one empty site, 0, as the first of row 1: \
+                 cell 2 takes sites 1 to 4, the row has 20 sites";
+    check_rule(behind, "0,0,0\n1,0,0\n", 8, 2, words);
+}
+
 /// The refiner's answer is the truth: words for another one are not given.
 #[test]
 fn of_another_answer_there_is_nothing_to_say() {

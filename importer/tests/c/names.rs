@@ -31,8 +31,8 @@ const SCORED: &[(&str, i32)] = &[
 /// Cell 4 stands one empty site behind cell 3.
 const BROKEN: &[u8] = b"9,0,1\n13,0,0\n30,1,0\n35,0,1\n40,0,0\n";
 
-/// Cells that fit only side by side; every cheapest placement has the same seven fields.
-const TIGHT: &[u8] = b"J,1,17,2,0,2,10,1,1
+/// Cells that just fill the row; every cheapest placement has the same seven fields.
+const TIGHT: &[u8] = b"J,1,16,2,0,2,10,1,1
 C,0,1,1,1,4,1,1,2,2
 C,0,4,1,1,4,1,1,2,2
 C,0,8,0,1,4,9,8,9,7

@@ -31,7 +31,7 @@ fn costs() {
     let edges = [
         ("no cells", "J,2,1,7,1,1,1,1,1\n".into(), Ok(0)),
         ("gap 1, D 0", format!("J,1,5,0,0,0,1,0,0\n{two}"), Err(8)),
-        ("gap 1, D 1", format!("J,1,5,1,0,0,1,0,0\n{two}"), Ok(1)),
+        ("gap 1, D 1", format!("J,1,5,1,0,0,1,0,0\n{two}"), Err(8)),
         (
             "two of width 3 on 5 sites",
             format!("J,1,5,7,1,0,1,0,0\n{wide}{wide}"),
@@ -60,6 +60,62 @@ fn costs() {
     ];
     for (edge, job, expected) in edges {
         assert_eq!(cost(&job), expected, "{edge}");
+    }
+}
+
+/// Rule 8 (A1): by hand.
+#[test]
+fn row_ends() {
+    let two = "C,0,0,0,1,2,1,1,1,1\nC,0,3,0,1,2,1,1,1,1\n";
+    let sites = |sites: u32| format!("J,1,{sites},1,0,0,1,0,0\n{two}");
+    // On 4 sites the cells just fit. On 5, sites 0 and 2 leave one at the end, 1 and 3 one at the
+    // start. From 6 on, 0 and 2 leave two or more.
+    for (count, expected) in [(4, Ok(1)), (5, Err(8)), (6, Ok(1)), (7, Ok(1)), (8, Ok(1))] {
+        assert_eq!(cost(&sites(count)), expected, "{count} sites");
+    }
+    // A cell of width 2 alone on 5 sites: at 1 one site is left before it, at 2 one behind it.
+    let alone = |rows: u32, row: u32, given: u32, limit: u32| {
+        format!("J,{rows},5,{limit},0,0,1,0,0\nC,{row},{given},0,1,2,1,1,1,1\n")
+    };
+    let given = [
+        (0, Ok(0), Ok(0)),
+        (1, Err(8), Ok(1)),
+        (2, Err(8), Ok(1)),
+        (3, Ok(0), Ok(0)),
+    ];
+    for (given, kept, moved) in given {
+        for (rows, row) in [(1, 0), (2, 0), (2, 1)] {
+            assert_eq!(cost(&alone(rows, row, given, 0)), kept, "{row} {given}");
+            assert_eq!(cost(&alone(rows, row, given, 1)), moved, "{row} {given}");
+        }
+    }
+    // Width 3 at site 1 breaks it at both ends; at 0 and at 2 two sites are left.
+    let wide = |limit: u32| format!("J,1,5,{limit},0,0,1,0,0\nC,0,1,0,1,3,1,1,1,1\n");
+    assert_eq!((cost(&wide(0)), cost(&wide(1))), (Err(8), Ok(1)));
+    // An empty row is free, even one of one site.
+    assert_eq!(cost("J,2,1,0,0,0,1,0,0\nC,1,0,0,1,1,1,1,1,1\n"), Ok(0));
+}
+
+/// A tall cell that is the first, or the last, in one of its rows only.
+#[test]
+fn row_ends_of_a_tall_cell() {
+    // Given, the single cell stands at 0 and the tall one at 1, so that it is the other row's first
+    // behind one empty site. With D 1 it may stand at 2, but then the single cell at 0 has a gap of
+    // 1, and at 1 one empty site before it. With D 2 it stands at 3, two sites behind the other.
+    let first = |row: u32, limit: u32| {
+        let single = format!("C,{row},0,0,1,1,1,1,1,1\n");
+        format!("J,2,20,{limit},0,0,1,0,0\n{single}C,2,1,0,1,4,1,1,1,1,1,1,1,1\n")
+    };
+    // The same from the right: the tall one ends at 19 of 20 sites.
+    let last = |row: u32, limit: u32| {
+        let single = format!("C,{row},19,0,1,1,1,1,1,1\n");
+        format!("J,2,20,{limit},0,0,1,0,0\nC,2,15,0,1,4,1,1,1,1,1,1,1,1\n{single}")
+    };
+    for row in [0, 1] {
+        for (limit, expected) in [(0, Err(8)), (1, Err(8)), (2, Ok(2)), (3, Ok(2))] {
+            assert_eq!(cost(&first(row, limit)), expected, "{row} {limit}");
+            assert_eq!(cost(&last(row, limit)), expected, "{row} {limit}");
+        }
     }
 }
 

@@ -155,6 +155,115 @@ fn reordering() {
     ]);
 }
 
+/// Rule 8 (A1). The cells of each job stand at their given sites.
+#[test]
+fn row_ends() {
+    // Two cells of width 2 on 5 sites, D 1: either way to close the gap leaves one site at an end.
+    let two = "J,1,5,1,0,0,1,0,0\nC,0,0,0,1,2,1,1,1,1\nC,0,3,0,1,2,1,1,1,1\n";
+    work_through(&[
+        ("five sites, gap 1", two, "0,0,0\n3,0,0\n", broken(5, 1)),
+        ("five sites, left", two, "0,0,0\n2,0,0\n", broken(8, 2)),
+        ("five sites, right", two, "1,0,0\n3,0,0\n", broken(8, 1)),
+    ]);
+    // A cell of width 2 alone in a row of 5 sites.
+    let single = |rows: &str, row: &str, site: &str| {
+        format!("J,{rows},5,0,0,0,0,0,0\nC,{row},{site},0,1,2,1,1,1,1\n")
+    };
+    let tall = |site: &str| format!("J,2,5,0,0,0,0,0,0\nC,2,{site},0,1,2,1,1,1,1,1,1,1,1\n");
+    for (site, expected) in [
+        ("0", legal(0)),
+        ("1", broken(8, 1)),
+        ("2", broken(8, 1)),
+        ("3", legal(0)),
+    ] {
+        let placement = &format!("{site},0,0\n");
+        work_through(&[
+            ("one row", &single("1", "0", site), placement, expected),
+            ("row 1 empty", &single("2", "0", site), placement, expected),
+            ("row 0 empty", &single("2", "1", site), placement, expected),
+            ("tall", &tall(site), placement, expected),
+        ]);
+    }
+    let full = "J,2,1,0,0,0,0,0,0\nC,0,0,0,1,1,1,1,1,1\n";
+    let both_ends = "J,1,5,0,0,0,0,0,0\nC,0,1,0,1,3,1,1,1,1\n";
+    work_through(&[
+        ("an empty row of one site", full, "0,0,0\n", legal(0)),
+        ("first and last", both_ends, "1,0,0\n", broken(8, 1)),
+    ]);
+}
+
+/// Rule 8 of a tall cell that is first, or last, in one of its rows only.
+#[test]
+fn row_ends_of_a_tall_cell() {
+    let header = "J,2,9,0,0,0,0,0,0\n";
+    let single = |row: u32, site: u32, width: u32| format!("C,{row},{site},0,1,{width},1,1,1,1\n");
+    let tall = |site: u32, width: u32| format!("C,2,{site},0,1,{width},1,1,1,1,1,1,1,1\n");
+    let last = |row: u32| format!("{header}{}{}", tall(2, 6), single(row, 8, 1));
+    let first = |row: u32| format!("{header}{}{}", single(row, 0, 1), tall(1, 6));
+    let free = format!("{header}{}{}", single(1, 0, 2), tall(2, 5));
+    work_through(&[
+        ("first in row 1", &first(0), "0,0,0\n1,0,0\n", broken(8, 2)),
+        ("first in row 0", &first(1), "0,0,0\n1,0,0\n", broken(8, 2)),
+        ("last in row 1", &last(0), "2,0,0\n8,0,0\n", broken(8, 1)),
+        ("last in row 0", &last(1), "2,0,0\n8,0,0\n", broken(8, 1)),
+        ("two sites", &free, "0,0,0\n2,0,0\n", legal(0)),
+    ]);
+}
+
+/// Rule 8 is tried last, and its cell is the lowest of all that break it.
+#[test]
+fn the_lowest_cell_of_row_ends() {
+    let single = |row: u32, site: u32, width: u32| format!("C,{row},{site},0,1,{width},1,1,1,1\n");
+    let job = |cells: &[String]| format!("J,2,9,7,1,0,0,0,0\n{}", cells.concat());
+    // Row 0 has one site behind cell 1, row 1 one before cell 2.
+    let rows = job(&[single(0, 6, 2), single(1, 1, 3)]);
+    // Row 1 alone has one site at an end, before its first cell and behind its last.
+    let second = job(&[single(0, 0, 9), single(1, 1, 3), single(1, 4, 4)]);
+    let behind = job(&[single(0, 0, 9), single(1, 0, 3), single(1, 3, 5)]);
+    // Cell 2 stands before cell 1.
+    let pair = job(&[single(0, 1, 3), single(0, 1, 4)]);
+    let wide = job(&[single(0, 1, 4), single(0, 1, 4)]);
+    let exchanged = Said::Legal {
+        cost: 0,
+        drift: 100,
+    };
+    work_through(&[
+        ("both rows", &rows, "6,0,0\n1,0,0\n", broken(8, 1)),
+        ("row 1 alone", &rows, "7,0,0\n1,0,0\n", broken(8, 2)),
+        ("row 0 alone", &rows, "6,0,0\n0,0,0\n", broken(8, 1)),
+        ("neither", &rows, "7,0,0\n0,0,0\n", legal(0)),
+        ("two cells", &second, "0,0,0\n1,0,0\n4,0,0\n", broken(8, 2)),
+        ("behind", &behind, "0,0,0\n0,0,0\n3,0,0\n", broken(8, 3)),
+        ("cell 2 first", &wide, "5,0,0\n1,0,0\n", broken(8, 2)),
+        ("both ends", &pair, "5,0,0\n1,0,0\n", broken(8, 1)),
+        ("no end", &pair, "4,0,0\n0,0,0\n", exchanged),
+    ]);
+}
+
+/// Each placement leaves one empty site at an end too.
+#[test]
+fn rule_8_is_tried_last() {
+    let job = |limits: &str, row: &str, heights: &str| {
+        let cell = format!("C,{row},0,0,1,1,1,1,1,1{heights}\n");
+        format!("J,2,5,{limits},0,0,0,0\n{cell}{cell}")
+    };
+    let single = job("4,1", "0", "");
+    let near = job("1,1", "0", "");
+    let in_order = job("4,0", "0", "");
+    let tall = job("4,1", "2", ",1,1,1,1");
+    work_through(&[
+        ("rule 1", &single, "1,0,1\n2,0,0\n", broken(1, 1)),
+        ("rule 2", &single, "1,0,0\n5,0,0\n", broken(2, 2)),
+        ("rule 3", &near, "1,0,0\n2,0,0\n", broken(3, 2)),
+        ("rule 4", &single, "1,0,0\n1,0,0\n", broken(4, 1)),
+        ("rule 5", &single, "1,0,0\n3,0,0\n", broken(5, 1)),
+        ("rule 6", &in_order, "2,0,0\n1,0,0\n", broken(6, 1)),
+        ("rule 7", &tall, "2,0,0\n1,0,0\n", broken(7, 1)),
+        ("rule 8", &single, "2,0,0\n1,0,0\n", broken(8, 2)),
+        ("tall", &tall, "1,0,0\n2,0,0\n", broken(8, 1)),
+    ]);
+}
+
 #[test]
 fn drift_rounds_halves_away_from_zero() {
     let job = "J,1,200,7,0,0,0,0,0\n".to_string();

@@ -1,6 +1,7 @@
-//! The seven rules: which is broken first, by which cell, and how.
+//! The eight rules: which is broken first, by which cell, and how.
 
 mod alone;
+mod ends;
 mod order;
 mod pairs;
 mod stand;
@@ -15,7 +16,7 @@ use stand::{Board, Stand};
 type Check = fn(&Board, &Stand) -> Option<String>;
 
 /// The rules in the order in which they are tried.
-const CHECKS: [Check; 7] = [
+const CHECKS: [Check; 8] = [
     alone::not_offered,
     alone::past_the_row,
     alone::shifted_too_far,
@@ -23,6 +24,7 @@ const CHECKS: [Check; 7] = [
     pairs::one_site_apart,
     order::moved_too_far,
     pairs::tall_exchanged,
+    ends::one_site_end,
 ];
 
 /// The first broken rule and its lowest cell.
