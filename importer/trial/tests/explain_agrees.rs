@@ -6,7 +6,8 @@ use importer::explain::{job_reason, placement_reason, rule_reason};
 use importer::{read, score, Broken, Verdict};
 use trial::generate::damage::Damage;
 use trial::generate::{jobs, placements, Random};
-use trial::plain::placement::text_of;
+use trial::plain::placement::{read_placement, text_of};
+use trial::plain::reader::read_job;
 
 /// No message is longer, however long the text.
 const LONGEST: usize = 300;
@@ -64,6 +65,9 @@ impl Comparison {
         if let (Some(reason), Some(broken)) = (reason, broken) {
             check_words(&reason.words);
             check_cells(job, placement, &broken, &reason.words);
+            if broken.rule == 8 {
+                check_ends(job, placement, &broken, &reason.words);
+            }
             assert_eq!(broken_rule(job, placement, &broken), Some(reason.words));
         }
         if said.is_ok() {
@@ -93,6 +97,34 @@ fn check_cells(job: &[u8], placement: &[u8], broken: &Broken, words: &str) {
     let rule = broken.rule;
     let expected = Ok(Verdict::Broken(Broken { rule, cell: 1 }));
     assert_eq!(score(&job, &placement), expected, "{words}");
+}
+
+/// Words about rule 8 tell each row in which the cell is the first behind one empty site, and each
+/// in which it is the last before one.
+fn check_ends(job: &[u8], placement: &[u8], broken: &Broken, words: &str) {
+    let job = read_job(job).expect("a scored job is accepted");
+    let poses = read_placement(placement, job.cells.len()).expect("a scored placement is read");
+    let at = broken.cell as usize - 1;
+    let (site, end) = (poses[at].site, poses[at].end(&job.cells[at]));
+    let sites_in = |row: usize| {
+        let cells = job.cells.iter().zip(&poses);
+        let in_row = cells.filter(move |(cell, _)| cell.rows().contains(&row));
+        in_row.map(|(_, pose)| pose.site)
+    };
+    let rows = || job.cells[at].rows();
+    let first: Vec<usize> = rows()
+        .filter(|&row| site == 1 && sites_in(row).min() == Some(site))
+        .collect();
+    let last: Vec<usize> = rows()
+        .filter(|&row| end + 1 == job.sites && sites_in(row).max() == Some(site))
+        .collect();
+    let told = |side: &str| match words.split_once(&format!("as the {side} of ")) {
+        None => vec![],
+        Some((_, rows)) if rows.starts_with("row 0") => vec![0],
+        Some((_, rows)) if rows.starts_with("row 1") => vec![1],
+        Some(_) => vec![0, 1],
+    };
+    assert_eq!((told("first"), told("last")), (first, last), "{words}");
 }
 
 /// Some of a text's lines, which count from 1.
@@ -245,6 +277,18 @@ fn on_placements_that_break_each_rule_and_several() {
     let [_, broken @ ..] = comparison.rules;
     assert!(broken.iter().sum::<usize>() > 20_000, "{broken:?}");
     assert!(broken.iter().all(|&seen| seen > 300), "{broken:?}");
+}
+
+#[test]
+fn on_row_ends() {
+    let mut random = Random::new(48);
+    let mut comparison = Comparison::default();
+    for _ in 0..20_000 {
+        let (job, placement) = placements::job_with_row_ends(&mut random);
+        comparison.pair(&job.text(), &text_of(&placement));
+    }
+    let [legal, .., broken] = comparison.rules;
+    assert!(legal > 4_000 && broken > 10_000, "{:?}", comparison.rules);
 }
 
 #[test]

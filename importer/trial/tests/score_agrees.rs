@@ -4,7 +4,8 @@ use trial::generate::damage::Damage;
 use trial::generate::{jobs, placements, Random};
 use trial::lent::Arrays;
 use trial::plain::fault::{fault_line, Part};
-use trial::plain::placement::text_of;
+use trial::plain::job::Job;
+use trial::plain::placement::{text_of, Pose};
 use trial::plain::scorer::{score, score_results};
 
 /// What stands in an output before a call.
@@ -104,6 +105,66 @@ fn on_placements_that_break_each_rule_and_several() {
     }
     let seen = comparison.rules;
     assert!(seen.iter().all(|&seen| seen > 300), "{seen:?}");
+}
+
+/// What stands at the ends of rows that hold a cell.
+#[derive(Debug, Default)]
+struct Ends {
+    /// How many rows have no, one, two, or more empty sites before their first cell.
+    before: [usize; 4],
+    /// The same behind their last.
+    behind: [usize; 4],
+    /// Cells with one empty site on either side that are their row's only one.
+    alone: usize,
+    /// Tall cells that have one empty site at an end of one of their rows, and not of the other.
+    tall_in_one_row: usize,
+    /// Rows without a cell.
+    empty: usize,
+}
+
+impl Ends {
+    fn count(&mut self, job: &Job, placement: &[Pose]) {
+        let mut at_one_site = Vec::new();
+        for row in 0..job.rows.into() {
+            let cells = job.cells.iter().zip(placement).enumerate();
+            let in_row = cells.filter(|(_, (cell, _))| cell.rows().contains(&row));
+            let stand = |(at, (cell, pose)): (usize, (_, &Pose))| (pose.site, pose.end(cell), at);
+            let stands: Vec<(u16, u16, usize)> = in_row.map(stand).collect();
+            let (Some(first), Some(last)) = (stands.iter().min(), stands.iter().max()) else {
+                self.empty += 1;
+                continue;
+            };
+            let (before, behind) = (first.0, job.sites - last.1);
+            self.before[usize::from(before.min(3))] += 1;
+            self.behind[usize::from(behind.min(3))] += 1;
+            self.alone += usize::from(stands.len() == 1 && before == 1 && behind == 1);
+            at_one_site.extend((before == 1).then_some((row, first.2)));
+            at_one_site.extend((behind == 1).then_some((row, last.2)));
+        }
+        let in_one_row = |at: usize| {
+            let [row_0, row_1] = [0, 1].map(|row| at_one_site.contains(&(row, at)));
+            job.cells[at].is_tall() && row_0 != row_1
+        };
+        self.tall_in_one_row += (0..placement.len()).filter(|&at| in_one_row(at)).count();
+    }
+}
+
+#[test]
+fn on_row_ends() {
+    let mut random = Random::new(16);
+    let mut comparison = Comparison::default();
+    let mut ends = Ends::default();
+    for _ in 0..100_000 {
+        let (job, placement) = placements::job_with_row_ends(&mut random);
+        comparison.compare(&job.text(), &text_of(&placement));
+        ends.count(&job, &placement);
+    }
+    let [legal, .., broken] = comparison.rules;
+    assert!(legal > 20_000 && broken > 50_000, "{:?}", comparison.rules);
+    let counts = ends.before.iter().chain(&ends.behind);
+    assert!(counts.clone().all(|&count| count > 5_000), "{ends:?}");
+    let rare = [ends.alone, ends.tall_in_one_row, ends.empty];
+    assert!(rare.iter().all(|&count| count > 1_000), "{ends:?}");
 }
 
 #[test]

@@ -8,8 +8,11 @@ use crate::plain::job::{Job, Weights, TALL};
 pub struct Shape {
     pub rows: u16,
     pub cells: usize,
-    /// How many of the cells are tall; they are spread evenly among the others.
+    /// How many of the cells are tall; they are spread evenly among the others, so that each has
+    /// its share of the cells before it.
     pub tall: usize,
+    /// How early a tall cell stands in its share: 0 for its last cell, `cells` less 1 for its first.
+    pub early: usize,
     pub most_width: u16,
     pub most_height: u16,
     pub displacement: u16,
@@ -29,6 +32,7 @@ pub const HEAVY: Shape = Shape {
     rows: 2,
     cells: 64,
     tall: 24,
+    early: 0,
     most_width: 12,
     most_height: 3,
     displacement: 7,
@@ -67,7 +71,7 @@ pub fn job(random: &mut Random, shape: &Shape) -> Job {
 }
 
 fn row_of(random: &mut Random, shape: &Shape, at: usize) -> u16 {
-    let tall_before = |cells: usize| cells * shape.tall / shape.cells;
+    let tall_before = |cells: usize| (cells * shape.tall + shape.early) / shape.cells;
     if tall_before(at + 1) > tall_before(at) {
         TALL
     } else {

@@ -14,10 +14,14 @@ pub fn job_with_legal_placement(random: &mut Random) -> (Job, Placement) {
 /// empty site before a row's first or behind its last.
 pub fn job_with_row_ends(random: &mut Random) -> (Job, Placement) {
     let most = random.pick(&[1, 2, 3, 5]);
+    let any = shape_of(random, most);
     let shape = legal::Shape {
-        ends: &[0, 1, 1, 2, 3],
+        tall: random.pick(&[any.tall, any.tall.min(1)]),
+        most_width: random.pick(&[1, 1, 2, 4, 12]),
+        gaps: random.pick(&[&[0], &[0], any.gaps]),
+        ends: &[0, 0, 1, 1, 2, 3],
         one_site_ends: true,
-        ..shape_of(random, most)
+        ..any
     };
     job_with_placement(random, &shape)
 }
@@ -49,6 +53,7 @@ fn shape_of(random: &mut Random, most: usize) -> legal::Shape {
         rows,
         cells,
         tall: random.pick(&[0, most_tall / 2, most_tall]),
+        early: random.below(cells),
         most_width: random.pick(&[1, 2, 4, 12]),
         most_height: random.pick(&[1, 2, 3, 15]),
         displacement: random.pick(&[0, 1, 2, 3, 4, 7, 7]),
