@@ -12,23 +12,24 @@ use trial::plain::search::cheapest;
 
 /// Places a job of which a legal placement is known.
 fn compare(lender: &mut Lender, job: &Job, known: Placement) {
-    let text = job.text();
-    let placed = lender.place(job);
-    let placed = placed.unwrap_or_else(|fault| panic!("{fault} of\n{}", text.escape_ascii()));
-    let cost = placed.map(|numbers| numbers.cost);
+    let cost = compare_with_plain(lender, job);
     let local = improve(job, known).map(|(_, cost)| cost);
     assert!(
         cost.is_some() && cost <= local,
         "{cost:?} for {local:?} of\n{}",
-        text.escape_ascii()
+        job.text().escape_ascii()
     );
-    let plain = cheapest(job).and_then(|placement| verdict(job, &placement).ok());
-    assert_eq!(
-        cost,
-        plain.map(|numbers| numbers.cost),
-        "{}",
-        text.escape_ascii()
-    );
+}
+
+/// Places a job as cheaply as the plain search, or not at all if that finds none.
+fn compare_with_plain(lender: &mut Lender, job: &Job) -> Option<u32> {
+    let text = job.text();
+    let placed = lender.place(job);
+    let placed = placed.unwrap_or_else(|fault| panic!("{fault} of\n{}", text.escape_ascii()));
+    let cost = placed.map(|numbers| numbers.cost);
+    let plain = cheapest(job).map(|placement| verdict(job, &placement).map(|plain| plain.cost));
+    assert_eq!(cost.map(Ok), plain, "{}", text.escape_ascii());
+    cost
 }
 
 #[test]
@@ -73,4 +74,36 @@ fn on_every_mix() {
             compared += 1;
         }
     }
+}
+
+/// Most given rows have one empty site before a first cell or behind a last one, and keep all other
+/// rules. Where cells have no room to move, nothing mends that.
+#[test]
+fn on_row_ends() {
+    let mut random = Random::new(43);
+    let mut lender = Lender::default();
+    let (mut broken, mut none) = (0, 0);
+    for _ in 0..300 {
+        let rows = random.from_to(1, 2);
+        let cells = 8 + random.below(57);
+        let shape = Shape {
+            rows,
+            cells,
+            tall: random.pick(&[0, cells / 8, cells / 4]) * usize::from(rows - 1),
+            early: random.below(cells),
+            most_width: random.pick(&[1, 2, 12]),
+            displacement: random.pick(&[0, 1, 2, 7]),
+            reordering: random.from_to(0, 1),
+            gaps: random.pick(&[&[0], HEAVY.gaps]),
+            ends: random.pick(&[&[1], &[0, 1, 1]]),
+            one_site_ends: true,
+            ..HEAVY
+        };
+        let job = legal::job(&mut random, &shape);
+        let given = verdict(&job, &given_rows(&job)).err();
+        broken += usize::from(given.is_some_and(|given| given.rule == 8));
+        none += usize::from(compare_with_plain(&mut lender, &job).is_none());
+    }
+    assert!(broken > 200, "{broken} given rows break rule 8");
+    assert!((50..200).contains(&none), "{none} have no placement");
 }

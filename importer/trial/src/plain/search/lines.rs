@@ -27,10 +27,10 @@ pub struct Line {
     widths: [i32; 2],
     /// Where its row ends.
     row_end: i32,
-    /// What each pose charges by itself: shift, mirroring, layout; [`NONE`](super::NONE) if it is
+    /// What each pose charges by itself: shift, mirroring, layout; [`NONE`] if it is
     /// not offered.
     pub own: [i32; POSES],
-    /// 0 for each pose that is offered, [`NONE`](super::NONE) for the others.
+    /// 0 for each pose that is offered, [`NONE`] for the others.
     pub offered: [i32; POSES],
     /// Heights P and N at either edge, by variant.
     left: [[u16; 2]; VARIANTS],
