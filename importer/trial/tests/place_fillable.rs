@@ -24,7 +24,7 @@ struct Seen {
     /// How many began, and ended, with a cell; with two empty sites; with more.
     starts: [usize; 3],
     ends: [usize; 3],
-    /// Runs of empty sites that no filler cell of one site is needed for.
+    /// Runs of empty sites, all of two or more.
     runs: usize,
 }
 
@@ -37,8 +37,8 @@ impl Seen {
             }
             // Between two sites that touch there is a run of length 0.
             let runs: Vec<usize> = taken.split(|&taken| taken).map(<[bool]>::len).collect();
-            let row_text = || format!("{}{text}", job.text().escape_ascii());
-            assert!(!runs.contains(&1), "row {row}: {runs:?} of\n{}", row_text());
+            let texts = || format!("{}{text}", job.text().escape_ascii());
+            assert!(!runs.contains(&1), "row {row}: {runs:?} of\n{}", texts());
             self.rows += 1;
             self.starts[kind(runs[0])] += 1;
             self.ends[kind(runs[runs.len() - 1])] += 1;

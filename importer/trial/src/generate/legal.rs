@@ -79,8 +79,8 @@ fn row_of(random: &mut Random, shape: &Shape, at: usize) -> u16 {
     }
 }
 
-/// The first site, from some gap on, that leaves no row with a gap of one site; `ends` has the end
-/// of each row that holds a cell.
+/// The first site, from some gap on, that leaves no row with a gap of one site, but for what the
+/// shape allows; `ends` has the end of each row that holds a cell.
 fn site_after(random: &mut Random, shape: &Shape, ends: &[Option<u16>]) -> u16 {
     let furthest = ends.iter().flatten().max();
     let gaps = furthest.map_or(shape.ends, |_| shape.gaps);
@@ -95,7 +95,8 @@ fn site_after(random: &mut Random, shape: &Shape, ends: &[Option<u16>]) -> u16 {
     site
 }
 
-/// The fewest sites, from some room on, that leave no row with one site behind its end.
+/// The fewest sites, from some room on, that leave no row with one site behind its end, unless the
+/// shape allows it.
 fn sites(random: &mut Random, shape: &Shape, ends: &[Option<u16>]) -> u16 {
     let furthest = ends.iter().flatten().max();
     let mut sites = furthest.unwrap_or(&1) + random.pick(shape.ends);

@@ -27,8 +27,7 @@ pub struct Line {
     widths: [i32; 2],
     /// Where its row ends.
     row_end: i32,
-    /// What each pose charges by itself: shift, mirroring, layout; [`NONE`] if it is
-    /// not offered.
+    /// What each pose charges by itself: shift, mirroring, layout; [`NONE`] if it is not offered.
     pub own: [i32; POSES],
     /// 0 for each pose that is offered, [`NONE`] for the others.
     pub offered: [i32; POSES],
