@@ -5,4 +5,5 @@ pub mod Values
 pub mod Filled
 pub mod Talls
 pub mod TallWords
+pub mod Lent
 pub mod Ready

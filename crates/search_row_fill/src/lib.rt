@@ -14,7 +14,9 @@ ghost use Rattle.search_row_fill.specs.Words.{edge, ownWord, shapeWord, 
 ghost use Rattle.search_row_fill.specs.Values.{one, Ranged};
 ghost use Rattle.search_row_fill.specs.Filled.{sideOf, Added, CellsIn};
 ghost use Rattle.search_row_fill.specs.Ready.{wordIn, RowReady};
-ghost use Rattle.search_row_fill.specs.TallWords.{tallsIn, TallsUpto, TallWords};
+ghost use Rattle.search_row_fill.specs.TallWords.{TallsUpto, TallWords};
+ghost use Rattle.search_row_fill.specs.Lent.{PoseRight, CellPut, CellRoom, PositionRoom, RowToFill};
+ghost use Rattle.search_row_fill.specs.Lent.{TallNext, TallsRoom, PlacesPut};
 use job::Cell;
 use job::Header;
 use job::Job;
@@ -57,7 +59,7 @@ fn times(weight: u32, x: u32) -> u32
 
 // Shift, mirroring and layout of a pose that is not left of site 0.
 fn pose_cost(header: Header, cell: Cell, a: u32) -> u32
-    requires { ⌜ Ranged header cell × (a < 64) × (header .displacement ≤ cell .given + a / 4) ⌝ }
+    requires { ⌜ PoseRight header cell a ⌝ }
     ensures { λ r. ⌜ (r ≡ ownOf (one header cell) 0 (poseNumber (one header cell) 0 a)) × (r ≤ 48000) ⌝ }
 {
     let given = cell.given;
@@ -128,7 +130,7 @@ fn height_word(header: Header, cell: Cell, side: u32, u: u32) -> u32
 // Word i of a cell that bears a number. As the first of its row it may not stand one site from the row's start, nor as
 // the last end one site from the row's end.
 fn cell_word(header: Header, cell: Cell, side: u32, number: u32, i: usize) -> u32
-    requires { ⌜ Ranged header cell × (side ≤ 1) × (number < 64) ⌝ }
+    requires { ⌜ CellPut header cell side number ⌝ }
     ensures { λ r. ⌜ (r ≡ cellWord (one header cell) side 0 number i) × (r ≤ B) ⌝ }
 {
     if i < search_row::GIVEN {
@@ -157,7 +159,7 @@ fn cell_word(header: Header, cell: Cell, side: u32, number: u32, i: usize) -> u3
 
 // The words of a cell.
 fn fill_cell(row: &mut [u32], at: usize, header: Header, cell: Cell, side: u32, number: u32)
-    requires { ⌜ Ranged header cell × (side ≤ 1) × (number < 64) × (at + 128 ≤ length (now row)) × Low (now row) ⌝ }
+    requires { ⌜ CellPut header cell side number × CellRoom at (now row) ⌝ }
     ensures { λ _. ⌜ Written (cellWord (one header cell) side 0 number) at wordsUsed
         (now (row .entry)) (now (row .exit)) ⌝ }
 {
@@ -172,8 +174,7 @@ fn fill_cell(row: &mut [u32], at: usize, header: Header, cell: Cell, side: u32, 
 
 // The cell at position n, if it stands in the row; how many cells there are then.
 fn add_cell(row: &mut [u32], n: usize, header: Header, cell: Cell, side: u32, number: u32) -> usize
-    requires { ⌜ Ranged header cell × (side ≤ 1) × (number < 64) × (n < 64) × (statesFrom ≤ length (now row))
-        × Low (now row) ⌝ }
+    requires { ⌜ CellPut header cell side number × PositionRoom n (now row) ⌝ }
     ensures { λ r. ⌜ Added (one header cell) side number n r (now (row .entry)) (now (row .exit)) ⌝ }
 {
     if !job::stands(cell.row, side) {
@@ -185,8 +186,7 @@ fn add_cell(row: &mut [u32], n: usize, header: Header, cell: Cell, side: u32, nu
 
 // The words of the row's cells, in file order; how many cells it has.
 fn fill_cells(row: &mut [u32], job: Job, side: u32) -> usize
-    requires { ⌜ Sound (jobOf job) × (job .count ≤ 64) × (side ≤ 1) × (rowLength ≤ length (now row))
-        × Low (now row) ⌝ }
+    requires { ⌜ RowToFill job side (now row) ⌝ }
     ensures { λ n. ⌜ CellsIn (jobOf job) (sideOf side) (now (row .exit)) n ⌝ }
 {
     let long = row.len();
@@ -205,7 +205,7 @@ fn fill_cells(row: &mut [u32], job: Job, side: u32) -> usize
 
 // Position p, if its cell is tall; how many there are then.
 fn add_tall(talls: &mut [u32], count: usize, row: &[u32], n: usize, p: usize) -> usize
-    requires { ⌜ (p < n) × (n ≤ 64) × (statesFrom ≤ length (now row)) × TallsUpto (now row) n (now talls) count p ⌝ }
+    requires { ⌜ TallNext (now row) n (now talls) count p ⌝ }
     ensures { λ r. ⌜ TallsUpto (now (row .entry)) n (now (talls .exit)) r (p + 1) ⌝ }
 {
     if row[p * search_row::CELL + search_row::TALL] != 1 {
@@ -217,8 +217,7 @@ fn add_tall(talls: &mut [u32], count: usize, row: &[u32], n: usize, p: usize) ->
 
 // The positions of the tall cells of a row of n cells, in rising order; how many there are.
 fn fill_talls(talls: &mut [u32], row: &[u32], n: usize) -> usize
-    requires { ⌜ (n ≤ 64) × (statesFrom ≤ length (now row)) × (length (tallsIn (now row) n) ≤ length (now talls))
-        × ((i : ℕ) → getD (now talls) i 0 < 64) ⌝ }
+    requires { ⌜ TallsRoom (now row) n (now talls) ⌝ }
     ensures { λ r. ⌜ TallWords (now (row .entry)) n (now (talls .exit)) r ⌝ }
 {
     let mut count: usize = 0;
@@ -232,8 +231,7 @@ fn fill_talls(talls: &mut [u32], row: &[u32], n: usize) -> usize
 
 // The positions, to their place after the words of the states.
 fn put_talls(row: &mut [u32], places: &[u32; 32])
-    requires { ⌜ (rowLength ≤ length (now row)) × Low (now row) × (length (now places) ≡ 32)
-        × ((i : ℕ) → getD (now places) i 0 < 64) ⌝ }
+    requires { ⌜ PlacesPut (now row) (now places) ⌝ }
     ensures { λ _. ⌜ Written (wordIn (now (places .entry))) tallsFrom 32 (now (row .entry)) (now (row .exit)) ⌝ }
 {
     let mut i: usize = 0;
@@ -255,7 +253,7 @@ fn pose_numbers(job: Job) -> usize
 
 // The cells of a row, the positions of the tall ones and the states; its sizes.
 pub fn fill_row(row: &mut [u32], job: Job, side: u32) -> Sizes
-    requires { ⌜ Sound (jobOf job) × (job .count ≤ 64) × (side ≤ 1) × (rowLength ≤ length (now row)) × Low (now row) ⌝ }
+    requires { ⌜ RowToFill job side (now row) ⌝ }
     ensures { λ z. ⌜ RowReady (jobOf job) (sideOf side) (now (row .exit)) z ⌝ }
 {
     let cells = fill_cells(row, job, side);

@@ -1,18 +1,27 @@
 -- Both rows are filled; their words are those of the job's pair of rows, and what is found of the pair is found of the job.
+use Prim.Native.Nat.{ℕ, _≤_}
 use native.Mathlib.Omega.{arith}
 use borrow.Author.Needs.{needs}
 use Rattle.search_row.specs.Words.{rowLength}
 use Rattle.search.specs.Words.{zeros-low}
+use lib.ListN.{replicate}
+use Rattle.job.specs.declared.Job.{Job}
+use Rattle.job.specs.Accepted.{Accepted}
 use Rattle.job.specs.Value.{headerOf, jobOf}
+use Rattle.search_row_fill.specs.Lent.{RowToFill}
 use Rattle.search_job.specs.Rows.{words-lent, asked, solved}
 use Rattle.search_job.proofs.search_job.Statement.{statement}
 use Rattle.search_job.proofs.search_job.Tie as tie
+
+-- an array of zeros, to be filled
+lent : {job : Job} {side : ℕ} → Accepted job → side ≤ 1 → RowToFill job side (replicate rowLength 0)
+lent a h = record { accepted = a; either = h; long = omega arith; low = zeros-low rowLength }
 
 slice-aggregate-fill-row : tie.Need-slice-aggregate-fill-row
 slice-aggregate-fill-row c = search needs
 
 fill-row-requires : tie.Need-fill-row-requires
-fill-row-requires c κs = let k = c .before .before .pre .accepted in (k .sound, k .few, omega arith, omega arith, zeros-low rowLength)
+fill-row-requires c κs = lent (c .before .before .pre .accepted) (omega arith)
 
 slice-aggregate-fill-row-2 : tie.Need-slice-aggregate-fill-row-2
 slice-aggregate-fill-row-2 c = search needs
@@ -20,7 +29,7 @@ slice-aggregate-fill-row-2 c = search needs
 fill-row-requires-2 : tie.Need-fill-row-requires-2
 fill-row-requires-2 c κs =
     let mid = c .before .before .before .before in
-    let k = mid .before .pre .accepted in (k .sound, k .few, omega arith, omega arith, zeros-low rowLength)
+    lent (mid .before .pre .accepted) (omega arith)
 
 slice-aggregate-search : tie.Need-slice-aggregate-search
 slice-aggregate-search c = search needs

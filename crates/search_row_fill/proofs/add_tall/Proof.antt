@@ -20,7 +20,7 @@ shared-slice-read-if1 c = search needs
 returns : tie.Need-returns
 returns c =
     let k = c .before .before in
-    talls-skip (k .pre .3) (k .pre .0) (ne-eqb _ 1 (c .if1 .taken))
+    talls-skip (k .pre .upto) (k .pre .before) (ne-eqb _ 1 (c .if1 .taken))
 
 cast-talls : tie.Need-cast-talls
 cast-talls c = search needs
@@ -31,7 +31,7 @@ mul-talls c = search needs
 slice-write-talls : tie.Need-slice-write-talls
 slice-write-talls c =
     let k = c .before .before in
-    talls-room (k .pre .3) (k .pre .0) (eq-eqb _ 1 (c .if1 .left))
+    talls-room (k .pre .upto) (k .pre .before) (eq-eqb _ 1 (c .if1 .left))
 
 add-result : tie.Need-add-result
 add-result c = search needs
@@ -42,7 +42,7 @@ same-length c = search needs
 returns-2 : tie.Need-returns-2
 returns-2 c =
     let k = c .before .before in
-    talls-more (k .pre .3) (k .pre .0) (eq-eqb _ 1 (c .if1 .left)) (k .pre .1)
+    talls-more (k .pre .upto) (k .pre .before) (eq-eqb _ 1 (c .if1 .left)) (k .pre .few)
 
 pub add-tall-spec : {M : Type 1} → statement M
 add-tall-spec =

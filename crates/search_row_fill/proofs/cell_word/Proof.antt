@@ -30,7 +30,7 @@ returns-2 c =
     let k = c .before .before .before in
     let j = one (k .args .header) (k .args .cell) in (
       c .shape-word .ensures ∙ sym (shape-at j (k .args .side) 0 (k .args .number) (k .args .i) (omega arith) (omega arith)),
-      omega (arith, c .shape-word .ensures, shape-low (k .args .header) (k .args .cell) (k .pre .0) (k .args .i)),
+      omega (arith, c .shape-word .ensures, shape-low (k .args .header) (k .args .cell) (k .pre .ranged) (k .args .i)),
     )
 
 cast-height-word : tie.Need-cast-height-word
@@ -44,7 +44,7 @@ returns-3 c =
     let k = c .before .before .before .before in
     let j = one (k .args .header) (k .args .cell) in (
       c .height-word .ensures ∙ sym (height-at j (k .args .side) 0 (k .args .number) (k .args .i) (k .args .i - leftP) (omega arith) (omega arith)),
-      omega (arith, c .height-word .ensures, height-low (k .args .header) (k .args .cell) (k .pre .0) (k .args .side) (k .args .i - leftP)),
+      omega (arith, c .height-word .ensures, height-low (k .args .header) (k .args .cell) (k .pre .ranged) (k .args .side) (k .args .i - leftP)),
     )
 
 returns-4 : tie.Need-returns-4
@@ -52,7 +52,7 @@ unfolding headerOf
 returns-4 c =
     let k = c .before .before .before .before in
     let j = one (k .args .header) (k .args .cell) in
-    (sym (step-at j (k .args .side) 0 (k .args .number) (k .args .i) (c .if4 .taken)), omega (arith, k .pre .0 .step))
+    (sym (step-at j (k .args .side) 0 (k .args .number) (k .args .i) (c .if4 .taken)), omega (arith, k .pre .ranged .step))
 
 returns-5 : tie.Need-returns-5
 returns-5 c =
@@ -67,7 +67,7 @@ returns-6 c =
     let mid = c .before .before .before .before in
     let k = mid .before .before in
     let j = one (k .args .header) (k .args .cell) in
-    (sym (filled-at j (k .args .side) 0 (k .args .number) (k .args .i) (c .if6 .taken)), omega (arith, k .pre .0 .step))
+    (sym (filled-at j (k .args .side) 0 (k .args .number) (k .args .i) (c .if6 .taken)), omega (arith, k .pre .ranged .step))
 
 add-result : tie.Need-add-result
 add-result c = omega arith
@@ -79,20 +79,20 @@ returns-7 c =
     let j = one (k .args .header) (k .args .cell) in (
       end-front (k .args .header) (k .args .cell) (k .args .i) (c .before .if7 .taken)
           ∙ sym (end-at j (k .args .side) 0 (k .args .number) (k .args .i) (omega (arith, c .before .if7 .taken))),
-      omega (arith, k .pre .0 .displacement),
+      omega (arith, k .pre .ranged .displacement),
     )
 
 add-result-2 : tie.Need-add-result-2
 add-result-2 c =
     let else4 = c .before .before .before .before in
     let k = else4 .before .before .before .before in
-    omega (arith, k .pre .0 .fewSites, k .pre .0 .displacement)
+    omega (arith, k .pre .ranged .fewSites, k .pre .ranged .displacement)
 
 sub-result : tie.Need-sub-result
 sub-result c =
     let else4 = c .before .before .before .before in
     let k = else4 .before .before .before .before in
-    omega (arith, k .pre .0 .someSites)
+    omega (arith, k .pre .ranged .someSites)
 
 returns-8 : tie.Need-returns-8
 returns-8 c =
@@ -101,7 +101,7 @@ returns-8 c =
     let j = one (k .args .header) (k .args .cell) in (
       end-back (k .args .header) (k .args .cell) (k .args .i) (c .before .if7 .left)
           ∙ sym (end-at j (k .args .side) 0 (k .args .number) (k .args .i) (omega arith)),
-      omega (arith, k .pre .0 .fewSites, k .pre .0 .displacement),
+      omega (arith, k .pre .ranged .fewSites, k .pre .ranged .displacement),
     )
 
 pub cell-word-spec : {M : Type 1} → statement M

@@ -18,12 +18,10 @@ abbrev μ-loop : tie.MeasureT-loop
 μ-loop row₀ at header cell side number i₀ row i = wordsUsed - i
 
 loop-holds : tie.Need-loop-holds Inv-loop μ-loop
-loop-holds c = (omega arith, written-none _ _ (c .before .pre .4))
+loop-holds c = (omega arith, written-none _ _ (c .before .pre .1 .low))
 
 cell-word-requires : tie.Need-cell-word-requires Inv-loop μ-loop
-cell-word-requires c κs =
-    let k = c .before .before .before in
-    (k .pre .0, k .pre .1, k .pre .2)
+cell-word-requires c κs = c .before .before .before .pre .0
 
 add-row : tie.Need-add-row Inv-loop μ-loop
 add-row c = omega arith

@@ -3,10 +3,9 @@ use Prim.Native.Nat.{_<_}
 use Prim.Native.Nat.{_-_}
 use mathlib.Core.Path.{_≡_, refl, _∙_}
 use native.Mathlib.Omega.{arith}
-use lib.ListN.{length, length-map}
+use lib.ListN.{length}
 use Rattle.search_row_fill.specs.Filled.{filled-none, filled-value, ranged-at}
 use Rattle.search_row_fill.specs.Filled.{sideOf, Filled}
-use Rattle.job.specs.Cells.{cell-count}
 use Rattle.job.specs.Value.{jobOf}
 use Rattle.search_row_fill.proofs.fill_cells.Statement.{statement}
 use Rattle.search_row_fill.proofs.fill_cells.Tie as tie
@@ -17,39 +16,38 @@ Inv-loop row₀ side job long header n₀ k₀ row n k = (length row ≡ length 
 abbrev μ-loop : tie.MeasureT-loop
 μ-loop row₀ side job long header n₀ k₀ row n k = job .count - k
 
--- the array has 64 cells, as its type says, so that the job's cells are as many as it counts
 counted : (s : tie.Start Inv-loop μ-loop) → length (jobOf (s .args .t2) .cells) ≡ s .args .t2 .count
-counted s = cell-count (s .args .t2) (simp length-map at (s .good .1 .0 .1 .1 .1 .1 .0 .1 .0 .1)) (s .pre .1)
+counted s = s .pre .accepted .many
 
 fill-requires : tie.Need-fill-requires Inv-loop μ-loop
-fill-requires c κs = (omega arith, omega arith, c .before .before .pre .4)
+fill-requires c κs = (omega arith, omega arith, c .before .before .pre .low)
 
 loop-holds : tie.Need-loop-holds Inv-loop μ-loop
 loop-holds c =
     let after-fill = c .before .before .before in
     let s = after-fill .before .before .before in
-    (refl, filled-none (jobOf (s .args .t2)) (sideOf (s .args .side)) (s .pre .0) (s .pre .3) (after-fill .fill .ensures))
+    (refl, filled-none (jobOf (s .args .t2)) (sideOf (s .args .side)) (s .pre .accepted .sound) (s .pre .long) (after-fill .fill .ensures))
 
 mul-add-cell : tie.Need-mul-add-cell Inv-loop μ-loop
 mul-add-cell c =
     let after-loop-test = c .before in
     let mid = after-loop-test .before .before .before .before in
     let s = mid .before .before .before .before in
-    omega (arith, after-loop-test .loop-test .taken, s .pre .1)
+    omega (arith, after-loop-test .loop-test .taken, s .pre .accepted .few)
 
 element-copy-out-add-cell : tie.Need-element-copy-out-add-cell Inv-loop μ-loop
 element-copy-out-add-cell c =
     let after-loop-test = c .before in
     let mid = after-loop-test .before .before .before .before in
     let s = mid .before .before .before .before in
-    omega (arith, after-loop-test .loop-test .taken, s .pre .1)
+    omega (arith, after-loop-test .loop-test .taken, s .pre .accepted .few)
 
 cast-add-cell : tie.Need-cast-add-cell Inv-loop μ-loop
 cast-add-cell c =
     let after-loop-test = c .before .before in
     let mid = after-loop-test .before .before .before .before in
     let s = mid .before .before .before .before in
-    omega (arith, after-loop-test .loop-test .taken, s .pre .1)
+    omega (arith, after-loop-test .loop-test .taken, s .pre .accepted .few)
 
 add-cell-requires : tie.Need-add-cell-requires Inv-loop μ-loop
 add-cell-requires c κs =
@@ -59,12 +57,12 @@ add-cell-requires c κs =
     let f = p .loop .inv .1 in
     let g = c .before .before .loop-test .taken in
     let h : p .loop .k < length (jobOf (s .args .t2) .cells) = rw (counted s) g in (
-      ranged-at (s .args .t2) (p .loop .k) g h (s .pre .0),
-      s .pre .2,
-      omega (arith, g, s .pre .1),
-      omega (arith, g, s .pre .1, f .below),
-      omega (arith, f .long),
-      f .low,
+      record {
+        ranged = ranged-at (s .args .t2) (p .loop .k) g h (s .pre .accepted .sound);
+        either = s .pre .either;
+        few = omega (arith, g, s .pre .accepted .few);
+      },
+      record { few = omega (arith, g, s .pre .accepted .few, f .below); long = omega (arith, f .long); low = f .low },
     )
 
 add-k : tie.Need-add-k Inv-loop μ-loop
@@ -73,7 +71,7 @@ add-k c =
     let p = mid .before in
     let mid₂ = p .before .before .before .before in
     let s = mid₂ .before .before .before .before in
-    omega (arith, p .loop-test .taken, s .pre .1)
+    omega (arith, p .loop-test .taken, s .pre .accepted .few)
 
 loop-less : tie.Need-loop-less Inv-loop μ-loop
 loop-less c =
@@ -89,7 +87,7 @@ loop-again c =
     let s = mid .before .before .before .before in
     let l = p .before .loop in
     let h : l .k < length (jobOf (s .args .t2) .cells) = rw (counted s) (p .loop-test .taken) in
-    (omega arith, filled-value (s .args .t2) (l .k) (p .loop-test .taken) h (s .args .side) (s .pre .2) (l .inv .1) (after-add-cell .add-cell .ensures))
+    (omega arith, filled-value (s .args .t2) (l .k) (p .loop-test .taken) h (s .args .side) (s .pre .either) (l .inv .1) (after-add-cell .add-cell .ensures))
 
 same-length : tie.Need-same-length Inv-loop μ-loop
 same-length c =

@@ -17,14 +17,14 @@ fill-talls-requires c κs =
     let after-fill-cells = c .before .before .before .before in
     let k = after-fill-cells .before .before .before in
     let f = after-fill-cells .fill-cells .ensures in
-    let t = cells-talls (k .pre .0) f in
-    (t .0, omega (arith, f .long), omega (arith, t .1), zeros-small 32)
+    let t = cells-talls (k .pre .accepted .sound) f in
+    record { few = t .0; long = omega (arith, f .long); room = omega (arith, t .1); small = zeros-small 32 }
 
 put-talls-requires : tie.Need-put-talls-requires
 put-talls-requires c κs =
     let mid = c .before .before .before .before in
     let f = mid .before .before .before .before .fill-cells .ensures in
-    (f .long, f .low, omega arith, c .before .before .before .fill-talls .ensures .small)
+    record { long = f .long; low = f .low; all = omega arith; small = c .before .before .before .fill-talls .ensures .small }
 
 pose-numbers-requires : tie.Need-pose-numbers-requires
 pose-numbers-requires c κs = search needs
@@ -42,7 +42,7 @@ fill-states-requires c κs =
     let k = after-fill-cells .before .before .before in
     let f = after-fill-cells .fill-cells .ensures in
     let w = mid .before .put-talls .ensures in
-    (omega (arith, f .long, w .frame .long), w .low, omega (arith, k .pre .0 .header .reordering))
+    (omega (arith, f .long, w .frame .long), w .low, omega (arith, k .pre .accepted .sound .header .reordering))
 
 same-length : tie.Need-same-length
 same-length c = search needs
@@ -60,7 +60,7 @@ returns c =
     let t = after-fill-talls .fill-talls .ensures in
     let w = after-put-talls .put-talls .ensures in
     rw (after-pose-numbers .pose-numbers .ensures)
-    (row-ready (k .pre .0) f t w (after-fill-states .fill-states .ensures))
+    (row-ready (k .pre .accepted .sound) f t w (after-fill-states .fill-states .ensures))
 
 pub fill-row-spec : {M : Type 1} → statement M
 fill-row-spec =

@@ -15,13 +15,13 @@ abbrev μ-loop : tie.MeasureT-loop
 μ-loop talls₀ row n count₀ p₀ talls count p = n - p
 
 loop-holds : tie.Need-loop-holds Inv-loop μ-loop
-loop-holds c = (omega arith, refl, talls-none (c .before .before .pre .2) (c .before .before .pre .3))
+loop-holds c = (omega arith, refl, talls-none (c .before .before .pre .room) (c .before .before .pre .small))
 
 add-tall-requires : tie.Need-add-tall-requires Inv-loop μ-loop
 add-tall-requires c κs =
     let l = c .before .before in
     let k = l .before .before .before in
-    (c .before .loop-test .taken, k .pre .0, k .pre .1, l .loop .inv .2)
+    record { before = c .before .loop-test .taken; few = k .pre .few; long = k .pre .long; upto = l .loop .inv .2 }
 
 add-p : tie.Need-add-p Inv-loop μ-loop
 add-p c = omega arith

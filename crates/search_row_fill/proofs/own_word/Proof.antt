@@ -32,7 +32,7 @@ pose-cost-requires : tie.Need-pose-cost-requires
 pose-cost-requires c κs =
     let k = c .before .before .before .before in
     let o = sym (c .before .before .before .is-offered .ensures) ∙ not-false (c .before .before .before .is-offered .result) (c .before .before .if1 .left) in
-    (k .pre .0, k .pre .1, offered-right (k .args .header) (k .args .cell) (k .args .side) (k .args .a) o)
+    record { ranged = k .pre .0; few = k .pre .1; right = offered-right (k .args .header) (k .args .cell) (k .args .side) (k .args .a) o }
 
 returns-3 : tie.Need-returns-3
 returns-3 c =

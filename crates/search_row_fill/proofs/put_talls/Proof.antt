@@ -18,7 +18,7 @@ abbrev μ-loop : tie.MeasureT-loop
 μ-loop row₀ places i₀ row i = 32 - i
 
 loop-holds : tie.Need-loop-holds Inv-loop μ-loop
-loop-holds c = (omega arith, written-none _ _ (c .pre .1))
+loop-holds c = (omega arith, written-none _ _ (c .pre .low))
 
 mul-row : tie.Need-mul-row Inv-loop μ-loop
 mul-row c = search needs
@@ -33,7 +33,7 @@ mul-row-2 : tie.Need-mul-row-2 Inv-loop μ-loop
 mul-row-2 c = search needs
 
 slice-write-row : tie.Need-slice-write-row Inv-loop μ-loop
-slice-write-row c = omega (arith, c .before .before .before .pre .0, c .before .before .loop .inv .1 .frame .long)
+slice-write-row c = omega (arith, c .before .before .before .pre .long, c .before .before .loop .inv .1 .frame .long)
 
 add-i : tie.Need-add-i Inv-loop μ-loop
 add-i c = search needs
@@ -45,7 +45,7 @@ loop-again : tie.Need-loop-again Inv-loop μ-loop
 loop-again c =
     let k = c .before .before .before in
     let l = c .before .before .loop in
-    (omega arith, written-more (l .i) _ (l .inv .1) (omega (arith, k .pre .0)) refl (omega (arith, k .pre .3 (l .i))))
+    (omega arith, written-more (l .i) _ (l .inv .1) (omega (arith, k .pre .long)) refl (omega (arith, k .pre .small (l .i))))
 
 same-length : tie.Need-same-length Inv-loop μ-loop
 same-length c = c .before .loop .inv .1 .frame .long
