@@ -11,7 +11,7 @@ use lib.Dec.{ltb, eqb}
 use Rattle.lists.specs.Numbers.{from}
 use Rattle.theory_pair.specs.Coded.{lowest}
 use Rattle.theory_tables.specs.Steps.{B, Deck, Layer, lastAt, isSource}
-use Rattle.search_row.specs.Words.{wordOf, variant, endIn, differIn, apartWord, givenWord, touchingWord}
+use Rattle.search_row.specs.Words.{wordOf, variant, endIn, differIn, apartWord, givenWord, touchingWord, RowWords}
 use Rattle.search_buckets.specs.Gaps.{paying}
 
 -- what a source in row r that costs c is in row t
@@ -60,6 +60,24 @@ pub record Pays (row : List ℕ) (k m buckets n : ℕ) (pays : List ℕ) : Type 
 pub record PaysLow (buckets : ℕ) (pays : List ℕ) : Type 0 where
   pub long : length pays ≡ 36
   pub low : (j : ℕ) → j < 36 → j % 9 < buckets → getD pays j 0 ≤ B
+
+-- two cells of a row as neighbours: the left one at position k, the right one at position m
+pub record Neighbours (row : List ℕ) (k m : ℕ) : Type 0 where
+  pub words : RowWords row
+  pub left : k < 64
+  pub right : m < 64
+
+-- what variant u of the left one pays in bucket v of the right one is to be told
+pub record PayGiven (row : List ℕ) (k u m v : ℕ) : Type 0 where
+  pub cells : Neighbours row k m
+  pub kind : u < 4
+  pub bucket : v < 9
+
+-- what the left one pays in so many buckets of the right one is to be written, n of the words being there
+pub record PaysGiven (row : List ℕ) (k m buckets n : ℕ) (pays : List ℕ) : Type 0 where
+  pub cells : Neighbours row k m
+  pub few : buckets ≤ 9
+  pub before : Pays row k m buckets n pays
 
 -- a source of cost c in the buckets
 abbrev pub onePose : List ℕ → ℕ → ℕ → ℕ → ℕ → ℕ → ℕ → ℕ

@@ -3,9 +3,9 @@
 // they pay at gap 0 to each variant of the target, buckets 5 to 8 with what they pay at the other gaps that pay.
 ghost use mathlib.Core.Path.{_≡_};
 ghost use Prim.Native.Nat.{_+_, _*_, _≤_, _<_};
-ghost use lib.ListN.{length};
 ghost use Rattle.search_row.specs.Words.{RowWords};
-ghost use Rattle.search_buckets.specs.Rows.{rowsOf, bucketsIn, endRow, payIn, Pays};
+ghost use Rattle.search_buckets.specs.Rows.{rowsOf, bucketsIn, endRow, payIn};
+ghost use Rattle.search_buckets.specs.Rows.{Pays, Neighbours, PayGiven, PaysGiven};
 
 // A state that is a source of a target: where its words begin, the positions of its cell, on the left, and of the
 // target's, and how many buckets the target needs.
@@ -18,7 +18,7 @@ pub struct Source {
 
 // The row in which pose b of the cell at position k counts for the cell at position m.
 pub fn end_row(row: &[u32], k: usize, b: usize, m: usize) -> usize
-    requires { ⌜ RowWords (now row) × (k < 64) × (b < 64) × (m < 64) ⌝ }
+    requires { ⌜ Neighbours (now row) k m × (b < 64) ⌝ }
     ensures { λ t. ⌜ t ≡ endRow (now (row .entry)) k b m ⌝ }
 {
     let y = search_row::end(row, k, b) + 4;
@@ -53,7 +53,7 @@ pub fn buckets_of(row: &[u32], m: usize) -> usize
 
 // What variant u of the cell at position k pays in bucket v of the cell at position m.
 fn pay(row: &[u32], k: usize, u: usize, m: usize, v: usize) -> u32
-    requires { ⌜ RowWords (now row) × (k < 64) × (u < 4) × (m < 64) × (v < 9) ⌝ }
+    requires { ⌜ PayGiven (now row) k u m v ⌝ }
     ensures { λ z. ⌜ z ≡ payIn (now (row .entry)) k u m v ⌝ }
 {
     if v == 0 {
@@ -68,8 +68,7 @@ fn pay(row: &[u32], k: usize, u: usize, m: usize, v: usize) -> u32
 
 // What variant u pays in each of so many buckets, after the variants before it.
 fn pay_row(pays: &mut [u32; 36], row: &[u32], k: usize, u: usize, m: usize, buckets: usize)
-    requires { ⌜ RowWords (now row) × (k < 64) × (u < 4) × (m < 64) × (buckets ≤ 9)
-        × Pays (now row) k m buckets (u * 9) (now pays) ⌝ }
+    requires { ⌜ PaysGiven (now row) k m buckets (u * 9) (now pays) × (u < 4) ⌝ }
     ensures { λ _. ⌜ Pays (now (row .entry)) k m buckets (u * 9 + 9) (now (pays .exit)) ⌝ }
 {
     let mut v: usize = 0;
@@ -81,7 +80,7 @@ fn pay_row(pays: &mut [u32; 36], row: &[u32], k: usize, u: usize, m: usize, buck
 
 // All of them, by variant and bucket.
 pub fn fill_pays(pays: &mut [u32; 36], row: &[u32], k: usize, m: usize, buckets: usize)
-    requires { ⌜ RowWords (now row) × (k < 64) × (m < 64) × (buckets ≤ 9) × (length (now pays) ≡ 36) ⌝ }
+    requires { ⌜ PaysGiven (now row) k m buckets 0 (now pays) ⌝ }
     ensures { λ _. ⌜ Pays (now (row .entry)) k m buckets 36 (now (pays .exit)) ⌝ }
 {
     let mut u: usize = 0;

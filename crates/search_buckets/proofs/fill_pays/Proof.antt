@@ -3,7 +3,6 @@ use Prim.Native.Nat.{_+_, _*_, _-_, _≤_}
 use mathlib.Core.Path.{_≡_}
 use native.Mathlib.Omega.{arith}
 use Rattle.search_buckets.specs.Rows.{Pays}
-use Rattle.search_buckets.specs.Sources.{pays-none}
 use borrow.Author.Needs.{needs}
 use Rattle.search_buckets.proofs.fill_pays.Statement.{statement}
 use Rattle.search_buckets.proofs.fill_pays.Tie as tie
@@ -18,11 +17,13 @@ abbrev μ-loop : tie.MeasureT-loop
 
 loop-holds : tie.Need-loop-holds Inv-loop μ-loop
 loop-holds c =
-    let a = c .before .args in
-    (omega arith, pays-none (a .row .now) (a .k) (a .m) (a .buckets) (omega arith))
+    (omega arith, c .before .pre .before)
 
 pay-row-requires : tie.Need-pay-row-requires Inv-loop μ-loop
-pay-row-requires c κs = search needs
+pay-row-requires c κs =
+    let at-loop = c .before .before in
+    let g = at-loop .before .before .pre in
+    (record { cells = g .cells; few = g .few; before = at-loop .loop .inv .1 }, omega arith)
 
 add-u : tie.Need-add-u Inv-loop μ-loop
 add-u c = search needs

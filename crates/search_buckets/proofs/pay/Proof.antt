@@ -39,7 +39,7 @@ mul-result-3 c =
     let k = mid .before in
     let a = k .args in
     let d : c .differ .result ≤ 2 = omega (arith, c .differ .ensures, differ-low (a .row .now) (a .k) (a .u) (a .m) (a .v - 1)) in
-    omega (arith, pay-low (k .pre .0 .weight (a .m)) d)
+    omega (arith, pay-low (k .pre .cells .words .weight (a .m)) d)
 
 returns-2 : tie.Need-returns-2
 returns-2 c =
@@ -69,7 +69,7 @@ mul-result-6 c =
     let k = mid .before in
     let a = k .args in
     let d : c .differ2 .result ≤ 2 = omega (arith, c .differ2 .ensures, differ-low (a .row .now) (a .k) (a .u) (a .m) (a .v - 5)) in
-    omega (arith, pay-low (k .pre .0 .filled (a .m)) d)
+    omega (arith, pay-low (k .pre .cells .words .filled (a .m)) d)
 
 returns-3 : tie.Need-returns-3
 returns-3 c =

@@ -8,7 +8,7 @@ use Rattle.theory_tables.specs.Steps.{lastAt, isSource}
 use Rattle.search_row.specs.Words.{deckIn}
 use Rattle.search_row.specs.Laws.{there-size, source-size}
 use Rattle.search_buckets.specs.Rows.{bucketsIn, byPoses}
-use Rattle.search_buckets.specs.Sources.{state-in, state-out}
+use Rattle.search_buckets.specs.Sources.{pays-none, state-in, state-out}
 use Rattle.search_dense_layer.specs.Thin.{thinIn}
 use Rattle.search_dense_layer.specs.Laws.{buckets-few, gathered-none, gathered-ext}
 use borrow.Author.Needs.{needs}
@@ -101,7 +101,11 @@ fill-pays-requires c κs =
     let mid₂ = c .before .before .before .before in
     let mid = mid₂ .before in
     let k = mid .before .before .before .before in
-    (k .pre .0 .given .ground .words, left (c .before .before), right (c .before .before), few (c .before) .1, refl)
+    record {
+      cells = record { words = k .pre .0 .given .ground .words; left = left (c .before .before); right = right (c .before .before) };
+      few = few (c .before) .1;
+      before = pays-none _ _ _ _ refl;
+    }
 
 mul-at : tie.Need-mul-at
 mul-at c = search needs

@@ -2,6 +2,7 @@
 use Prim.Native.Nat.{_-_, _≤_}
 use mathlib.Core.Path.{_≡_, refl, _∙_}
 use native.Mathlib.Omega.{arith}
+use Rattle.search_buckets.specs.Sources.{pays-none}
 use Rattle.search_wide_buckets.specs.SpreadLaws.{nine-most}
 use Rattle.search_wide_first.specs.Starts.{StartedTo, startIn, starts-none, starts-more}
 use borrow.Author.Needs.{needs}
@@ -18,8 +19,12 @@ abbrev μ-loop : tie.MeasureT-loop
 
 fill-pays-requires : tie.Need-fill-pays-requires Inv-loop μ-loop
 fill-pays-requires c κs =
-    let k = c .before .before in
-    (k .pre .0 .words, k .pre .0 .start, k .pre .0 .cell, nine-most (k .pre .0 .needed), refl)
+    let g = c .before .before .pre .0 in
+    record {
+      cells = record { words = g .words; left = g .start; right = g .cell };
+      few = nine-most (g .needed);
+      before = pays-none _ _ _ _ refl;
+    }
 
 loop-holds : tie.Need-loop-holds Inv-loop μ-loop
 loop-holds c =

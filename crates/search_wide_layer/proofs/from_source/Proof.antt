@@ -10,7 +10,7 @@ use Rattle.search_lanes.specs.Store.{layerIn}
 use Rattle.search_row.specs.Words.{deckIn}
 use Rattle.search_row.specs.Laws.{there-size, source-size}
 use Rattle.search_buckets.specs.Rows.{byPoses}
-use Rattle.search_buckets.specs.Sources.{state-in, state-out}
+use Rattle.search_buckets.specs.Sources.{pays-none, state-in, state-out}
 use Rattle.search_wide_buckets.specs.TableLaws.{gathered-none, gathered-ext}
 use Rattle.search_wide_buckets.specs.SpreadLaws.{nine-most}
 use Rattle.search_wide_layer.proofs.from_source.Statement.{statement}
@@ -82,7 +82,11 @@ fill-pays-requires c κs =
     let mid₂ = c .before .before .before .before in
     let mid = mid₂ .before in
     let k = mid .before .before .before in
-    (k .pre .0 .given .ground .words, left c, right c, nine-most (k .pre .0 .needed), refl)
+    record {
+      cells = record { words = k .pre .0 .given .ground .words; left = left c; right = right c };
+      few = nine-most (k .pre .0 .needed);
+      before = pays-none _ _ _ _ refl;
+    }
 
 mul-at : tie.Need-mul-at
 mul-at c = search needs
