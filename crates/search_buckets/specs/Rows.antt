@@ -11,7 +11,7 @@ use lib.Dec.{ltb, eqb}
 use Rattle.lists.specs.Numbers.{from}
 use Rattle.theory_pair.specs.Coded.{lowest}
 use Rattle.theory_tables.specs.Steps.{B, Deck, Layer, lastAt, isSource}
-use Rattle.search_row.specs.Words.{wordOf, variant, endIn, differIn, apartWord, givenWord, touchingWord, RowWords}
+use Rattle.search_row.specs.Words.{wordOf, endIn, differIn, apartWord, givenWord, touchingWord, RowWords}
 use Rattle.search_buckets.specs.Gaps.{paying}
 
 -- what a source in row r that costs c is in row t

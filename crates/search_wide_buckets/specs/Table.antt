@@ -7,7 +7,7 @@ use lib.ListN.{length, getD}
 use Rattle.search_store.specs.Map.{stateBlock, tableWords}
 use Rattle.lists.specs.Numbers.{from}
 use Rattle.theory_pair.specs.Coded.{lowest}
-use Rattle.theory_tables.specs.Steps.{B, Deck, Layer}
+use Rattle.theory_tables.specs.Steps.{B, Deck}
 use Rattle.search_lanes.specs.Store.{Frame, Low, layerIn}
 use Rattle.search_row.specs.Words.{wordOf, RowWords}
 use Rattle.search_buckets.specs.Gaps.{paying}
@@ -33,6 +33,11 @@ pub record TableFor (table : List ℕ) (poses lanes : ℕ) : Type 0 where
   pub lent : Lent table
   pub few : poses ≤ 60
   pub narrow : lanes ≤ 64
+
+-- the same with so many words from `to` on
+pub record WordsLent (table : List ℕ) (to count : ℕ) : Type 0 where
+  pub lent : Lent table
+  pub room : to + count ≤ tableWords
 
 -- how many buckets a target may need
 abbrev pub FiveOrNine : ℕ → Type 0
@@ -80,7 +85,13 @@ pub record LaneSpread (table pays : List ℕ) (n x u t lane : ℕ) : Type 0 wher
   pub here : t < 19
   pub inside : lane < 64
 
--- the same of a source in so many lanes, whose words begin at `at`
+-- the same to the four buckets of a kind of gap, those from `first` on
+pub record NearSpread (table pays : List ℕ) (x u t lane first : ℕ) : Type 0 where
+  pub spread : LaneSpread table pays (first + 4) x u t lane
+  pub least : 1 ≤ first
+  pub most : first ≤ 5
+
+-- a source to be put to row t in so many lanes, its words beginning at `at`
 pub record RowSpread (table row pays : List ℕ) (n at u t lanes : ℕ) : Type 0 where
   pub lent : Lent table
   pub low : Low row
@@ -102,6 +113,12 @@ pub record WideSource (table st row pays : List ℕ) (s : Source) (lanes : ℕ) 
   pub right : s .right < 64
   pub needed : FiveOrNine (s .buckets)
   pub paid : Pays row (s .left) (s .right) (s .buckets) 36 pays
+
+-- the same by its pose b, in the rows below `rows`
+pub record PoseSource (table st row pays : List ℕ) (s : Source) (b rows lanes : ℕ) : Type 0 where
+  pub source : WideSource table st row pays s lanes
+  pub pose : b < 60
+  pub few : rows ≤ 19
 
 -- ---- sources in the store, l is the lane
 
@@ -152,12 +169,9 @@ pub record Ready (bucket : ℕ → ℕ → ℕ → ℕ) (poses buckets lanes : �
 abbrev pub foundRow : ℕ → List ℕ → ℕ → ℕ → ℕ → ℕ
 foundRow buckets table own a l = min (own + foundIn buckets table a l) B
 
--- pose a of the cell at position k, and all its rows
+-- pose a of the cell at position k
 abbrev pub foundRowOf : ℕ → List ℕ → List ℕ → ℕ → ℕ → ℕ → ℕ
 foundRowOf buckets row table k a l = foundRow buckets table (wordOf row k a) a l
-
-abbrev pub foundRows : ℕ → List ℕ → List ℕ → ℕ → ℕ → Layer
-foundRows buckets row table k l q a = foundRowOf buckets row table k a l
 
 -- a table in which pose a looks up what it finds
 pub record PoseLooks (table : List ℕ) (a buckets : ℕ) : Type 0 where
@@ -184,3 +198,15 @@ pub record ToRows (st row table : List ℕ) (k buckets lanes : ℕ) : Type 0 whe
   pub cell : k < 64
   pub least : 5 ≤ buckets
   pub most : buckets ≤ 9
+
+-- the row of pose a, to the words from `at` on
+pub record PoseToRow (st row table : List ℕ) (at k a buckets lanes : ℕ) : Type 0 where
+  pub rows : ToRows st row table k buckets lanes
+  pub room : at + lanes ≤ length st
+  pub pose : a < 60
+
+-- the rows of so many poses, one after the other
+pub record PosesToRows (st row table : List ℕ) (at k poses buckets lanes : ℕ) : Type 0 where
+  pub rows : ToRows st row table k buckets lanes
+  pub room : at + poses * 64 ≤ length st
+  pub few : poses ≤ 60

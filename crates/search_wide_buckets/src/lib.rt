@@ -5,18 +5,16 @@
 // 5 buckets: buckets 1 to 4 serve for gaps 2 and 3 too. Only the rows that some pose looks at count.
 ghost use mathlib.Core.Path.{_≡_};
 ghost use mathlib.Core.Bool.{false};
-ghost use Prim.Native.Nat.{_+_, _*_, _-_, _≤_, _<_};
-ghost use lib.ListN.{length};
-ghost use Rattle.search_store.specs.Map.{layerBlock, tableWords};
+ghost use Prim.Native.Nat.{_+_, _-_, _≤_, _<_};
 ghost use Rattle.search_lanes.specs.Lanes.{always, wordsFrom};
-ghost use Rattle.search_lanes.specs.Store.{Written, FilledState};
+ghost use Rattle.search_lanes.specs.Store.{Written, WrittenRows};
 ghost use Rattle.search_buckets.specs.Rows.{rowsOf};
-ghost use Rattle.search_wide_buckets.specs.Table.{LoweredAt, Lent, TableFor, Cleared};
+ghost use Rattle.search_wide_buckets.specs.Table.{LoweredAt, WordsLent, TableFor, Cleared};
 ghost use Rattle.search_wide_buckets.specs.Table.{Gathered, FiveOrNine, chargedBy};
-ghost use Rattle.search_wide_buckets.specs.Table.{chargedOne, LaneSpread, RowSpread, Spread};
-ghost use Rattle.search_wide_buckets.specs.Table.{WideSource, poseIn, posesIn};
+ghost use Rattle.search_wide_buckets.specs.Table.{chargedOne, LaneSpread, NearSpread, RowSpread, Spread};
+ghost use Rattle.search_wide_buckets.specs.Table.{WideSource, PoseSource, poseIn, posesIn};
 ghost use Rattle.search_wide_buckets.specs.Table.{RunUp, PoseLooks, foundIn, foundRow, foundRowOf};
-ghost use Rattle.search_wide_buckets.specs.Table.{foundRows, ToRow, ToRows};
+ghost use Rattle.search_wide_buckets.specs.Table.{ToRow, PoseToRow, PosesToRows};
 use search_buckets::Source;
 
 // ---- the rows that count
@@ -38,7 +36,7 @@ pub fn reset(table: &mut [u32; search_store::TABLE], buckets: usize, poses: usiz
 
 // One word lowered.
 fn lower_one(table: &mut [u32; search_store::TABLE], to: usize, x: u32)
-    requires { ⌜ Lent (now table) × (to < tableWords) × (x ≤ 536870912) ⌝ }
+    requires { ⌜ WordsLent (now table) to 1 × (x ≤ 536870912) ⌝ }
     ensures { λ _. ⌜ LoweredAt (always x) to 1 (now (table .entry)) (now (table .exit)) ⌝ }
 {
     table[to] = search_lanes::lesser(table[to], x);
@@ -55,7 +53,7 @@ fn spread_near(
     lane: usize,
     first: usize,
 )
-    requires { ⌜ LaneSpread (now table) (now pays) (first + 4) x u t lane × (1 ≤ first) × (first ≤ 5) ⌝ }
+    requires { ⌜ NearSpread (now table) (now pays) x u t lane first ⌝ }
     ensures { λ _. ⌜ Spread (chargedOne x (now (pays .entry)) u) t first (first + 4) lane 1 (now (table .entry))
         (now (table .exit)) ⌝ }
 {
@@ -187,7 +185,7 @@ fn from_pose(
     rows: usize,
     lanes: usize,
 ) -> bool
-    requires { ⌜ WideSource (now table) (now store) (now row) (now pays) source lanes × (b < 60) × (rows ≤ 19) ⌝ }
+    requires { ⌜ PoseSource (now table) (now store) (now row) (now pays) source b rows lanes ⌝ }
     ensures { λ used. ⌜ Gathered
         (poseIn (now (store .entry)) (now (row .entry)) (source .at) (source .left) (source .right) b) rows
         (source .buckets) lanes (now (table .entry)) (now (table .exit))
@@ -245,7 +243,7 @@ pub fn from_poses(
 
 // The lanes from `to` on lowered to those from `from` on.
 fn lower_by(table: &mut [u32; search_store::TABLE], to: usize, from: usize, lanes: usize)
-    requires { ⌜ Lent (now table) × (to + lanes ≤ tableWords) × (from + lanes ≤ to) ⌝ }
+    requires { ⌜ WordsLent (now table) to lanes × (from + lanes ≤ to) ⌝ }
     ensures { λ _. ⌜ LoweredAt (wordsFrom (now (table .entry)) from) to lanes (now (table .entry))
         (now (table .exit)) ⌝ }
 {
@@ -316,8 +314,7 @@ fn put_pose(
     buckets: usize,
     lanes: usize,
 )
-    requires { ⌜ ToRows (now store) (now row) (now table) k buckets lanes
-        × (at + lanes ≤ length (now store)) × (a < 60) ⌝ }
+    requires { ⌜ PoseToRow (now store) (now row) (now table) at k a buckets lanes ⌝ }
     ensures { λ _. ⌜ Written (foundRowOf buckets (now (row .entry)) (now (table .entry)) k a) at lanes
         (now (store .entry)) (now (store .exit)) ⌝ }
 {
@@ -329,35 +326,24 @@ fn put_pose(
     put_row(store, at, table, a, own, buckets, lanes);
 }
 
-// The rows of state q, whose cell stands at position k.
+// The rows of its poses, one after the other.
 pub fn put_rows(
     store: &mut [u32],
     row: &[u32],
     table: &[u32; search_store::TABLE],
-    to: usize,
-    q: usize,
+    at: usize,
     k: usize,
     poses: usize,
     buckets: usize,
     lanes: usize,
 )
-    requires { ⌜ ToRows (now store) (now row) (now table) k buckets lanes × (to + layerBlock ≤ length (now store))
-        × (q < 12) × (poses ≤ 60) ⌝ }
-    ensures { λ _. ⌜ FilledState (foundRows buckets (now (row .entry)) (now (table .entry)) k) lanes to q poses
+    requires { ⌜ PosesToRows (now store) (now row) (now table) at k poses buckets lanes ⌝ }
+    ensures { λ _. ⌜ WrittenRows (foundRowOf buckets (now (row .entry)) (now (table .entry)) k) at poses lanes
         (now (store .entry)) (now (store .exit)) ⌝ }
 {
     let mut a: usize = 0;
     while a < poses {
-        put_pose(
-            store,
-            row,
-            table,
-            to + q * search_store::STATE + a * 64,
-            k,
-            a,
-            buckets,
-            lanes,
-        );
+        put_pose(store, row, table, at + a * 64, k, a, buckets, lanes);
         a += 1;
     }
 }

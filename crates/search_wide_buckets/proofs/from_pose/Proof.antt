@@ -19,7 +19,7 @@ returns : tie.Need-returns
 returns c =
     let k = c .before .before .before .before in
     let a = k .args in (
-      gathered-none _ _ _ (k .pre .0 .tableLow)
+      gathered-none _ _ _ (k .pre .source .tableLow)
           (λ l v s i j h. omega (
             arith,
             row-miss (endRow (a .row .now) (a .source .left) (a .b) (a .source .right)) s
@@ -44,7 +44,7 @@ returns-2 c =
     let mid = mid₂ .before in
     let k = mid .before .before in
     let a = k .args in (
-      gathered-none _ _ _ (k .pre .0 .tableLow)
+      gathered-none _ _ _ (k .pre .source .tableLow)
           (λ l v s i j h.
           omega (
             arith,
@@ -66,7 +66,7 @@ spread-row-requires c κs =
     let mid₂ = c .before .before .before .before in
     let mid = mid₂ .before .before in
     let k = mid .before .before .before in
-    let g = k .pre .0 in (
+    let g = k .pre .source in (
       record {
         lent = record { long = g .tableLong; low = g .tableLow };
         low = g .low;
@@ -85,9 +85,9 @@ returns-3 c =
     let mid = mid₂ .before .before in
     let k = mid .before .before .before .before in
     let a = k .args in (
-      spread-all (k .pre .2) (c .spread-row .ensures)
-          (λ l v s i j. pose-pays (a .b) v s (getD (a .store .now) (a .source .at + a .b * 64 + l) 0) (k .pre .0 .paid)
-          (mid .before .end-row .ensures) j (nine-most (k .pre .0 .needed))),
+      spread-all (k .pre .few) (c .spread-row .ensures)
+          (λ l v s i j. pose-pays (a .b) v s (getD (a .store .now) (a .source .at + a .b * 64 + l) 0) (k .pre .source .paid)
+          (mid .before .end-row .ensures) j (nine-most (k .pre .source .needed))),
       λ e. absurd (let z : _≡_ {A = ℕ} 0 1 = cc in omega arith),
     )
 

@@ -43,7 +43,7 @@ from-pose-requires c κs =
     let at-loop = c .before .before in
     let k = at-loop .before .before .before .before in
     let l = at-loop .loop in
-    (source-on (k .pre .0) (l .inv .2), omega arith, omega arith)
+    record { source = source-on (k .pre .0) (l .inv .2); pose = omega arith; few = omega arith }
 
 add-b : tie.Need-add-b Inv-loop μ-loop
 add-b c = search needs

@@ -31,12 +31,12 @@ put-row-requires : tie.Need-put-row-requires
 put-row-requires c κs =
     let mid = c .before .before .before in
     let k = mid .before .before in
-    let g = k .pre .0 in
+    let g = k .pre .rows in
     record {
-      looks = record { lent = record { long = g .tableLong; low = g .tableLow }; pose = k .pre .2; least = g .least; most = g .most };
+      looks = record { lent = record { long = g .tableLong; low = g .tableLow }; pose = k .pre .pose; least = g .least; most = g .most };
       cost = omega arith;
       low = g .low;
-      room = k .pre .1;
+      room = k .pre .room;
       narrow = g .narrow;
     }
 

@@ -31,18 +31,19 @@ spread-near-requires : tie.Need-spread-near-requires Inv-loop μ-loop
 spread-near-requires c κs =
     let at-loop = c .before .before .before in
     let k = at-loop .before .before in
-    let l = at-loop .loop in (
-      record {
+    let l = at-loop .loop in
+    record {
+      spread = record {
         lent = record { long = l .inv .1 .long ∙ k .pre .lent .long; low = l .inv .1 .low };
         cost = k .pre .low .word (k .args .at + l .l);
         paid = k .pre .paid;
         kind = k .pre .kind;
         here = k .pre .here;
         inside = omega arith;
-      },
-      omega arith,
-      omega arith,
-    )
+      };
+      least = omega arith;
+      most = omega arith;
+    }
 
 add-l : tie.Need-add-l Inv-loop μ-loop
 add-l c = search needs

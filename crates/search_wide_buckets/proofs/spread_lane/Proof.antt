@@ -28,18 +28,19 @@ spread-near-requires c κs =
     let k = c .before .before .before .before in
     let w = c .before .before .spread-one .ensures in
     let e = nine-else (k .pre .1) (λ h. omega arith) in
-    let g = k .pre .0 in (
-      record {
+    let g = k .pre .0 in
+    record {
+      spread = record {
         lent = record { long = w .long ∙ g .lent .long; low = w .low };
         cost = g .cost;
         paid = pays-fewer 9 (g .paid) (omega arith);
         kind = g .kind;
         here = g .here;
         inside = g .inside;
-      },
-      omega arith,
-      omega arith,
-    )
+      };
+      least = omega arith;
+      most = omega arith;
+    }
 
 returns-2 : tie.Need-returns-2
 returns-2 c =

@@ -18,11 +18,11 @@ abbrev μ-loop : tie.MeasureT-loop
 
 returns : tie.Need-returns Inv-loop μ-loop
 returns c =
-    spread-none _ _ _ _ _ _ (c .before .pre .0 .lent .low) (λ v s b h g e. omega arith)
+    spread-none _ _ _ _ _ _ (c .before .pre .spread .lent .low) (λ v s b h g e. omega arith)
 
 loop-holds : tie.Need-loop-holds Inv-loop μ-loop
 loop-holds c =
-    (omega arith, spread-none _ _ _ _ _ _ (c .before .pre .0 .lent .low) (λ v s b h g e. omega arith))
+    (omega arith, spread-none _ _ _ _ _ _ (c .before .pre .spread .lent .low) (λ v s b h g e. omega arith))
 
 add-lower-one : tie.Need-add-lower-one Inv-loop μ-loop
 add-lower-one c = search needs
@@ -59,16 +59,15 @@ add-lower-one-6 c =
     let at-loop = c .before .before .before in
     let k = at-loop .before .before in
     let l = at-loop .loop in
-    omega (arith, k .pre .0 .paid .low (k .args .u * 9 + (k .args .first + l .v)) (omega arith) (omega arith))
+    omega (arith, k .pre .spread .paid .low (k .args .u * 9 + (k .args .first + l .v)) (omega arith) (omega arith))
 
 lower-one-requires : tie.Need-lower-one-requires Inv-loop μ-loop
 lower-one-requires c κs =
     let at-loop = c .before .before .before in
     let k = at-loop .before .before in
     let l = at-loop .loop in (
-      record { long = l .inv .1 .long ∙ k .pre .0 .lent .long; low = l .inv .1 .low },
-      omega arith,
-      omega (arith, k .pre .0 .paid .low (k .args .u * 9 + (k .args .first + l .v)) (omega arith) (omega arith)),
+      record { lent = record { long = l .inv .1 .long ∙ k .pre .spread .lent .long; low = l .inv .1 .low }; room = omega arith },
+      omega (arith, k .pre .spread .paid .low (k .args .u * 9 + (k .args .first + l .v)) (omega arith) (omega arith)),
     )
 
 add-v : tie.Need-add-v Inv-loop μ-loop
@@ -85,7 +84,7 @@ loop-again c =
     let z : k .args .first + l .v + 1 ≡ k .args .first + (l .v + 1) = omega arith in (
       omega arith,
       rw z at
-          (spread-more (k .args .first + l .v) (omega arith) (omega arith) (omega arith) (k .pre .0 .lent .low) (l .inv .1) (c .lower-one .ensures)),
+          (spread-more (k .args .first + l .v) (omega arith) (omega arith) (omega arith) (k .pre .spread .lent .low) (l .inv .1) (c .lower-one .ensures)),
     )
 
 returns-2 : tie.Need-returns-2 Inv-loop μ-loop

@@ -49,24 +49,25 @@ add-lower-one-2 c =
 lower-one-requires : tie.Need-lower-one-requires
 lower-one-requires c κs =
     let k = c .before .before in
-    (k .pre .lent, omega arith, omega (arith, k .pre .paid .low (k .args .u * 9) (omega arith) (omega arith)))
+    (record { lent = k .pre .lent; room = omega arith }, omega (arith, k .pre .paid .low (k .args .u * 9) (omega arith) (omega arith)))
 
 spread-near-requires : tie.Need-spread-near-requires
 spread-near-requires c κs =
     let k = c .before .before .before .before in
     let w = alone (c .before) in
-    let g = k .pre in (
-      record {
+    let g = k .pre in
+    record {
+      spread = record {
         lent = record { long = w .long ∙ g .lent .long; low = w .low };
         cost = g .cost;
         paid = g .paid;
         kind = g .kind;
         here = g .here;
         inside = g .inside;
-      },
-      omega arith,
-      omega arith,
-    )
+      };
+      least = omega arith;
+      most = omega arith;
+    }
 
 returns : tie.Need-returns
 returns c =
