@@ -2,15 +2,15 @@
 // For each state of the next layer its sources are gathered by their end sites (crate search_wide_buckets),
 // and each of its poses looks up what it needs.
 ghost use mathlib.Core.Path.{_≡_};
-ghost use mathlib.Core.Bool.{true, false};
-ghost use Prim.Native.Nat.{ℕ, _+_, _*_, _≤_, _<_};
+ghost use mathlib.Core.Bool.{false};
+ghost use Prim.Native.Nat.{ℕ, _<_};
 ghost use Rattle.theory_tables.specs.Steps.{isSource};
 ghost use Rattle.search_lanes.specs.Store.{FilledState, Filled};
-ghost use Rattle.search_row.specs.Words.{deckIn, Ground};
+ghost use Rattle.search_row.specs.Words.{deckIn};
 ghost use Rattle.search_buckets.specs.Next.{Target};
 ghost use Rattle.search_buckets.specs.Rows.{rowsOf};
 ghost use Rattle.search_wide_buckets.specs.Table.{Lent, Gathered, stateIn, statesIn};
-ghost use Rattle.search_wide_layer.specs.Loops.{nextFrom, Gathering, Stepping};
+ghost use Rattle.search_wide_layer.specs.Loops.{nextFrom, TargetGiven, Gathering, Stepping};
 use search_buckets::Source;
 use search_row::Sizes;
 
@@ -83,7 +83,7 @@ fn gather(
 
 // Whether state q has a source.
 fn has_source(row: &[u32], sizes: Sizes, i: usize, q: usize) -> bool
-    requires { ⌜ Ground (now row) sizes × (q < sizes .states) × (i ≤ 100) ⌝ }
+    requires { ⌜ TargetGiven (now row) sizes i q ⌝ }
     ensures { λ some. ⌜ (some ≡ false → (p : ℕ) → p < sizes .states
         → isSource (deckIn (now (row .entry)) sizes) (sizes .reordering) i q p ≡ false) ⌝ }
 {
@@ -143,8 +143,7 @@ fn target_rows(
         store,
         row,
         table,
-        to,
-        q,
+        to + q * search_store::STATE,
         m,
         sizes.poses,
         buckets,

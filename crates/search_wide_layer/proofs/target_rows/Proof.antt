@@ -8,7 +8,7 @@ use lib.ListN.{length}
 use Rattle.search_store.specs.Map.{stateBlock}
 use Rattle.theory_tables.specs.Steps.{B, lastAt}
 use Rattle.search_lanes.specs.Store.{layerIn}
-use Rattle.search_lanes.specs.Laws.{state-rows, state-ext}
+use Rattle.search_lanes.specs.Laws.{state-rows}
 use Rattle.search_row.specs.Words.{deckIn}
 use Rattle.search_row.specs.Laws.{there-size}
 use Rattle.search_buckets.specs.Rows.{bucketsIn, byStates}
@@ -225,6 +225,26 @@ run-up-requires c κs =
       narrow = k .pre .0 .given .narrow;
     }
 
+mul-put-rows : tie.Need-mul-put-rows
+mul-put-rows c =
+    let mid = c .before .before in
+    let mid₂ = mid .before .before .before .before in
+    let mid₃ = mid₂ .before .before .before .before in
+    let mid₅ = mid₃ .before .before .before .before in
+    let mid₄ = mid₅ .before in
+    let h = room (mid₄ .before .before) in
+    search needs
+
+add-put-rows : tie.Need-add-put-rows
+add-put-rows c =
+    let mid = c .before .before in
+    let mid₂ = mid .before .before .before .before in
+    let mid₃ = mid₂ .before .before .before .before in
+    let mid₅ = mid₃ .before .before .before .before in
+    let mid₄ = mid₅ .before in
+    let h = room (mid₄ .before .before) in
+    search needs
+
 put-rows-requires : tie.Need-put-rows-requires
 put-rows-requires c κs =
     let mid = c .before .before in
@@ -235,8 +255,9 @@ put-rows-requires c κs =
     let k = mid₄ .before .before in
     let g = k .pre .0 .given in
     let t = table mid in
-    let h = needed mid₃ in (
-      record {
+    let h = needed mid₃ in
+    record {
+      rows = record {
         words = g .ground .words;
         low = g .low;
         tableLow = t .low;
@@ -245,11 +266,10 @@ put-rows-requires c κs =
         cell = inside (mid₃ .before);
         least = five-least h;
         most = nine-most h;
-      },
-      k .pre .0 .beside .room,
-      omega (arith, k .pre .1 .state, g .ground .coded .few),
-      g .ground .few,
-    )
+      };
+      room = room k;
+      few = g .ground .few;
+    }
 
 same-length-3 : tie.Need-same-length-3
 same-length-3 c = search needs
@@ -266,7 +286,7 @@ returns-3 c =
     let a = k .args in
     let g = k .pre .0 .given in
     let t = table (after-put-rows .before .before .before) in (
-      state-ext (after-put-rows .put-rows .ensures)
+      state-rows (omega (arith, g .ground .few)) (after-put-rows .put-rows .ensures)
           (λ b l p i.
           next-found (a .row .now) (a .sizes .cells) (a .sizes .poses) (a .sizes .reordering) (layerIn (a .store .now) (a .layer .at) l) (a .layer .cells)
           (a .q) b
@@ -296,6 +316,8 @@ target-rows-spec =
     same-length-2
     returns-2
     run-up-requires
+    mul-put-rows
+    add-put-rows
     put-rows-requires
     same-length-3
     returns-3)
