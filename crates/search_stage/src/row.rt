@@ -86,7 +86,7 @@ pub fn row_cost(
     let p = search_row::tall_at(row, i - 1);
     let placed = search_row::placed_with(row, sizes, p, s);
     let width = width_of(sizes.poses);
-    search_wide_first::first_layer(table, store, row, sizes, width, placed, s, p, 0);
+    search_wide_first::first_layer(table, store, row, sizes, width, placed, s, p);
     let mut starts = [0u32; 64];
     backs(&mut starts, row, p, sizes.poses);
     stage_end(

@@ -1,8 +1,7 @@
 -- The first layer of a segment after a tall cell: what its loops leave, lane by lane.
-use Prim.Native.Nat.{ℕ, _+_, _≤_, _<_, min}
+use Prim.Native.Nat.{ℕ, _+_, _*_, _≤_, _<_, min}
 use mathlib.Core.List.{List}
 use lib.ListN.{length}
-use Rattle.search_store.specs.Map.{layerBlock}
 use Rattle.theory_tables.specs.Steps.{B, Deck, Layer, firstAfter}
 use Rattle.search_lanes.specs.Store.{Low}
 use Rattle.search_row.specs.declared.Sizes.{Sizes}
@@ -13,9 +12,6 @@ use Rattle.search_wide_layer.specs.Loops.{Given}
 -- after pose l of the cell at position p: the cell at position k in pose a
 abbrev pub afterRow : List ℕ → ℕ → ℕ → ℕ → ℕ → ℕ
 afterRow row p k a l = min (wordOf row k a + tollIn row p l k a) B
-
-abbrev pub afterRows : List ℕ → ℕ → ℕ → ℕ → Layer
-afterRows row p k l q a = afterRow row p k a l
 
 -- a segment after pose l of the cell at position p, the last of i placed, with marks m
 abbrev pub afterFrom : Deck → ℕ → ℕ → ℕ → ℕ → ℕ → Layer
@@ -29,13 +25,12 @@ pub record FirstGiven (table row st : List ℕ) (z : Sizes) (lanes i to p : ℕ)
   pub given : Given row st z lanes i to
   pub start : p < 64
 
--- the rows of its state q, whose cell is at position k
-pub record FirstRows (table row st : List ℕ) (to q p k poses lanes : ℕ) : Type 0 where
+-- the rows of one of its states, whose cell is at position k, are to be written from `at` on
+pub record FirstRows (table row st : List ℕ) (at p k poses lanes : ℕ) : Type 0 where
   pub lent : Lent table
   pub words : RowWords row
   pub low : Low st
-  pub room : to + layerBlock ≤ length st
-  pub state : q < 12
+  pub room : at + poses * 64 ≤ length st
   pub start : p < 64
   pub narrow : lanes ≤ 64
   pub cell : k < 64

@@ -11,7 +11,7 @@ use lib.Dec.{eqb}
 use Rattle.theory_tables.specs.Steps.{B}
 use Rattle.search_lanes.specs.Store.{Low}
 use Rattle.search_row.specs.Words.{wordOf, RowWords}
-use Rattle.search_buckets.specs.Rows.{inRow, bucketsIn, endRow, payIn, onePose}
+use Rattle.search_buckets.specs.Rows.{inRow, bucketsIn, endRow, payIn, onePose, Pays}
 use Rattle.search_buckets.specs.Laws.{row-miss, pay-small, found-one}
 use Rattle.search_buckets.specs.Sources.{pose-twin, buckets-last}
 use Rattle.search_wide_buckets.specs.Table.{wordAt, Lent, FiveOrNine, Spread, Gathered, Ready, foundRow}
@@ -29,6 +29,12 @@ pub record Starting (table row : List ℕ) (p k rows buckets : ℕ) : Type 0 whe
   pub cell : k < 64
   pub few : rows ≤ 19
   pub needed : FiveOrNine buckets
+
+-- the same for lane l, what the start pays being known
+pub record StartingLane (table row pays : List ℕ) (p k rows buckets l : ℕ) : Type 0 where
+  pub starting : Starting table row p k rows buckets
+  pub paid : Pays row p k buckets 36 pays
+  pub lane : l < 64
 
 -- one lane's buckets are lowered, in the rows that count; the other lanes are as they were
 pub record Started (bucket : ℕ → ℕ → ℕ) (rows buckets lane : ℕ) (old new : List ℕ) : Type 0 where

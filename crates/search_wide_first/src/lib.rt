@@ -1,12 +1,12 @@
 // The first layer of a segment after a tall cell in each of its poses, a lane for each.
 ghost use Prim.Native.Nat.{_≤_, _<_};
 ghost use Rattle.theory_tables.specs.Steps.{marks};
-ghost use Rattle.search_lanes.specs.Store.{FilledState, Filled};
+ghost use Rattle.search_lanes.specs.Store.{WrittenRows, FilledState, Filled};
 ghost use Rattle.search_row.specs.Words.{deckIn};
-ghost use Rattle.search_buckets.specs.Rows.{onePose, Pays};
+ghost use Rattle.search_buckets.specs.Rows.{onePose};
 ghost use Rattle.search_wide_buckets.specs.Table.{Lent};
-ghost use Rattle.search_wide_first.specs.Firsts.{afterRows, afterFrom, FirstGiven, FirstRows};
-ghost use Rattle.search_wide_first.specs.Starts.{Starting, Started, StartedTo, startIn};
+ghost use Rattle.search_wide_first.specs.Firsts.{afterRow, afterFrom, FirstGiven, FirstRows};
+ghost use Rattle.search_wide_first.specs.Starts.{Starting, StartingLane, Started, StartedTo, startIn};
 use search_row::Sizes;
 use search_wide_layer::Block;
 
@@ -21,8 +21,7 @@ fn from_start(
     buckets: usize,
     l: usize,
 )
-    requires { ⌜ Starting (now table) (now row) p k rows buckets × Pays (now row) p k buckets 36 (now pays)
-        × (l < 64) ⌝ }
+    requires { ⌜ StartingLane (now table) (now row) (now pays) p k rows buckets l ⌝ }
     ensures { λ _. ⌜ Started (onePose (now (row .entry)) p k l 0) rows buckets l (now (table .entry))
         (now (table .exit)) ⌝ }
 {
@@ -62,15 +61,14 @@ fn first_rows(
     table: &mut [u32; search_store::TABLE],
     store: &mut [u32],
     row: &[u32],
-    to: usize,
-    q: usize,
+    at: usize,
     p: usize,
     k: usize,
     poses: usize,
     lanes: usize,
 )
-    requires { ⌜ FirstRows (now table) (now row) (now store) to q p k poses lanes ⌝ }
-    ensures { λ _. ⌜ FilledState (afterRows (now (row .entry)) p k) lanes to q poses (now (store .entry))
+    requires { ⌜ FirstRows (now table) (now row) (now store) at p k poses lanes ⌝ }
+    ensures { λ _. ⌜ WrittenRows (afterRow (now (row .entry)) p k) at poses lanes (now (store .entry))
         (now (store .exit)) × Lent (now (table .exit)) ⌝ }
 {
     let buckets = search_buckets::buckets_of(row, k);
@@ -85,7 +83,7 @@ fn first_rows(
         lanes,
     );
     search_wide_buckets::run_up(table, poses, lanes);
-    search_wide_buckets::put_rows(store, row, table, to, q, k, poses, buckets, lanes);
+    search_wide_buckets::put_rows(store, row, table, at, k, poses, buckets, lanes);
 }
 
 // The block of state q, after the i-th cell at position p; `to` has i, and where the layer begins.
@@ -115,10 +113,19 @@ fn first_block(
         return;
     }
     let k = search_row::last_at(row, sizes, to.cells + 1, q);
-    first_rows(table, store, row, to.at, q, p, k, sizes.poses, to.lanes);
+    first_rows(
+        table,
+        store,
+        row,
+        to.at + q * search_store::STATE,
+        p,
+        k,
+        sizes.poses,
+        to.lanes,
+    );
 }
 
-// The layer after the cell at position p as state s, the last of i placed: one lane for each of its poses.
+// The layer after the cell at position p as state s, the last of i placed, to block 0: one lane for each of its poses.
 pub fn first_layer(
     table: &mut [u32; search_store::TABLE],
     store: &mut [u32],
@@ -128,18 +135,17 @@ pub fn first_layer(
     i: usize,
     s: usize,
     p: usize,
-    to: usize,
 )
-    requires { ⌜ FirstGiven (now table) (now row) (now store) sizes lanes i to p × (s < sizes .states) ⌝ }
+    requires { ⌜ FirstGiven (now table) (now row) (now store) sizes lanes i 0 p × (s < sizes .states) ⌝ }
     ensures { λ _. ⌜ Filled
         (afterFrom (deckIn (now (row .entry)) sizes) (sizes .reordering) i (marks (sizes .reordering) s) p) lanes
-        (sizes .poses) to (sizes .states) (now (store .entry)) (now (store .exit)) × Lent (now (table .exit)) ⌝ }
+        (sizes .poses) 0 (sizes .states) (now (store .entry)) (now (store .exit)) × Lent (now (table .exit)) ⌝ }
 {
     let m = row[search_row::STATES + s * 4 + 1];
     let layer = Block {
         lanes,
         cells: i,
-        at: to,
+        at: 0,
     };
     let mut q: usize = 0;
     while q < sizes.states {

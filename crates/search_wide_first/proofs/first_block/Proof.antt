@@ -1,12 +1,14 @@
 -- A state that cannot come first has no way to it.
-use Prim.Native.Nat.{ℕ, suc}
+use Prim.Native.Nat.{ℕ, suc, _+_, _*_, _≤_}
 use mathlib.Core.Path.{_≡_, sym, ap, _∙_}
 use mathlib.Core.Bool.{true}
 use native.Mathlib.Omega.{arith}
 use native.Mathlib.Numerals.{add-one}
 use borrow.Author.Tests.{not-true, not-false}
+use lib.ListN.{length}
+use Rattle.search_store.specs.Map.{stateBlock}
 use Rattle.theory_tables.specs.Steps.{lastAt}
-use Rattle.search_lanes.specs.Laws.{state-rows, state-ext}
+use Rattle.search_lanes.specs.Laws.{state-rows}
 use Rattle.search_row.specs.Words.{deckIn}
 use Rattle.search_dense_first.specs.Firsts.{startsAt, after-there, after-away, starts-size}
 use Rattle.search_wide_first.specs.Firsts.{afterRow}
@@ -30,6 +32,10 @@ here : (c : tie.After-last-at)
     → (let mid₂ = c .before .before .before .before in let mid = mid₂ .before .before in let a = mid .before .args in c .last-at .result ≡ lastAt
     (a .sizes .reordering) (suc (a .to .cells)) (a .q))
 here c = omega (arith, c .last-at .ensures)
+
+-- the state's rows lie in the store
+room : (k : tie.Start) → (let a = k .args in a .to .at + a .q * stateBlock + a .sizes .poses * 64 ≤ length (a .store .now))
+room k = let g = k .pre .0 .given in omega (arith, g .room, g .ground .all, g .ground .coded .few, g .ground .few)
 
 add-starts : tie.Need-add-starts
 add-starts c = search needs
@@ -72,9 +78,16 @@ last-at-requires c κs =
     let g = after-starts .before .before .before .before .pre .0 .given in
     (g .ground .coded, omega (arith, g .ground .all), omega (arith, g .early))
 
+mul-first-rows : tie.Need-mul-first-rows
+mul-first-rows c = search needs
+
+add-first-rows : tie.Need-add-first-rows
+add-first-rows c = search needs
+
 first-rows-requires : tie.Need-first-rows-requires
 first-rows-requires c κs =
-    let mid = c .before .before .before .before in
+    let after-last-at = c .before .before .before in
+    let mid = after-last-at .before .before in
     let mid₂ = mid .before .before .before .before in
     let k = mid₂ .before in
     let a = k .args in
@@ -83,13 +96,12 @@ first-rows-requires c κs =
       lent = k .pre .0 .lent;
       words = g .ground .words;
       low = g .low;
-      room = g .room;
-      state = omega (arith, g .ground .all, g .ground .coded .few);
+      room = room k;
       start = k .pre .0 .start;
       narrow = g .narrow;
       cell = omega (
         arith,
-        here (c .before .before),
+        here after-last-at,
         starts-size (a .sizes .cells) (a .sizes .reordering) (suc (a .to .cells)) (a .m) (a .q)
             (can mid),
         g .ground .size,
@@ -103,14 +115,14 @@ same-length-2 c = search needs
 returns-2 : tie.Need-returns-2
 returns-2 c =
     let after-first-rows = c .before .before in
-    let mid₂ = after-first-rows .before .before .before .before in
-    let mid = mid₂ .before in
+    let after-last-at = after-first-rows .before .before .before .before in
+    let mid = after-last-at .before .before in
     let mid₃ = mid .before .before .before .before in
     let k = mid₃ .before in
     let a = k .args in
-    let e = here (after-first-rows .before .before .before) in
+    let e = here after-last-at in
     let w = after-first-rows .first-rows .ensures in (
-      state-ext (w .0)
+      state-rows (omega (arith, k .pre .0 .given .ground .few)) (w .0)
           (λ b l x y.
           after-there (deckIn (a .row .now) (a .sizes)) (a .sizes .reordering) (a .to .cells) (a .m) (a .p) l (a .q) b (can mid)
           ∙ ap (λ (j : ℕ). afterRow (a .row .now) (a .p) j b l) (sym e)),
@@ -130,6 +142,8 @@ first-block-spec =
     returns
     add-last-at
     last-at-requires
+    mul-first-rows
+    add-first-rows
     first-rows-requires
     same-length-2
     returns-2)

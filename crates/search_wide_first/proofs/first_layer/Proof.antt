@@ -14,11 +14,11 @@ use Rattle.search_wide_first.proofs.first_layer.Statement.{statement}
 use Rattle.search_wide_first.proofs.first_layer.Tie as tie
 
 abbrev Inv-loop : tie.InvT-loop
-Inv-loop table₀ store₀ row sizes lanes i s p to m layer q₀ table store q =
-    (q ≤ (sizes .states)) × Filled (afterFrom (deckIn row sizes) (sizes .reordering) i m p) lanes (sizes .poses) to q store₀ store × Lent table
+Inv-loop table₀ store₀ row sizes lanes i s p m layer q₀ table store q =
+    (q ≤ (sizes .states)) × Filled (afterFrom (deckIn row sizes) (sizes .reordering) i m p) lanes (sizes .poses) 0 q store₀ store × Lent table
 
 abbrev μ-loop : tie.MeasureT-loop
-μ-loop table₀ store₀ row sizes lanes i s p to m layer q₀ table store q =
+μ-loop table₀ store₀ row sizes lanes i s p m layer q₀ table store q =
     (sizes .states) - q
 
 mul-m : tie.Need-mul-m Inv-loop μ-loop

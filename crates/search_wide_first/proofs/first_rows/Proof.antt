@@ -1,10 +1,9 @@
 -- Each lane of the table, once it is reset, has its start, and each pose finds there what it pays after it.
 use Prim.Native.Nat.{ℕ, _+_, _-_, _<_}
-use mathlib.Core.Path.{_≡_, _∙_}
+use mathlib.Core.Path.{_≡_, sym, _∙_}
 use native.Mathlib.Omega.{arith}
 use Rattle.search_buckets.specs.Rows.{rowsOf}
 use Rattle.search_buckets.specs.Sources.{buckets-either}
-use Rattle.search_lanes.specs.Laws.{state-ext}
 use Rattle.search_wide_buckets.specs.Table.{FiveOrNine, Ready, Gathered}
 use Rattle.search_wide_buckets.specs.TableLaws.{ready}
 use Rattle.search_wide_buckets.specs.SpreadLaws.{five-least, nine-most}
@@ -98,21 +97,21 @@ put-rows-requires c κs =
     let mid₃ = mid₂ .before .before .before in
     let k = mid₃ .before .before .before in
     let t = table mid in
-    let h = needed mid₃ in (
-      record {
+    let h = needed mid₃ in
+    record {
+      rows = record {
         words = k .pre .words;
         low = k .pre .low;
         tableLow = t .low;
         tableLong = t .long;
-        narrow = omega arith;
+        narrow = k .pre .narrow;
         cell = k .pre .cell;
         least = five-least h;
         most = nine-most h;
-      },
-      k .pre .room,
-      k .pre .state,
-      k .pre .few,
-    )
+      };
+      room = k .pre .room;
+      few = k .pre .few;
+    }
 
 same-length : tie.Need-same-length
 same-length c = search needs
@@ -125,8 +124,13 @@ returns c =
     let mid₃ = mid₂ .before .before .before .before in
     let k = mid₃ .before .before in
     let a = k .args in
-    let t = table mid in (
-      state-ext (after-put-rows .put-rows .ensures) (λ b l x y. after-found (a .row .now) (a .p) (a .k) b l t x y),
+    let t = table mid in
+    let w = after-put-rows .put-rows .ensures in (
+      record {
+        frame = w .frame;
+        words = λ b l x y. w .words b l x y ∙ sym (after-found (a .row .now) (a .p) (a .k) b l t x y);
+        low = w .low;
+      },
       record { long = t .long; low = t .low },
     )
 

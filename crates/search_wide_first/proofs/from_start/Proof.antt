@@ -14,19 +14,19 @@ returns : tie.Need-returns
 returns c =
     let k = c .before .before .before in
     let a = k .args in
-    started-out (a .row .now) (a .p) (a .k) (a .l) (k .pre .0 .lent .low) (omega (arith, c .before .end-row .ensures))
+    started-out (a .row .now) (a .p) (a .k) (a .l) (k .pre .starting .lent .low) (omega (arith, c .before .end-row .ensures))
 
 spread-lane-requires : tie.Need-spread-lane-requires
 spread-lane-requires c κs =
     let k = c .before .before .before .before in
-    let g = k .pre .0 in (
+    let g = k .pre .starting in (
       record {
         lent = g .lent;
         cost = omega arith;
-        paid = pays-low (g .words) (k .pre .1);
+        paid = pays-low (g .words) (k .pre .paid);
         kind = omega arith;
         here = omega (arith, g .few);
-        inside = k .pre .2;
+        inside = omega arith;
       },
       g .needed,
     )
@@ -35,8 +35,8 @@ returns-2 : tie.Need-returns-2
 returns-2 c =
     let after-end-row = c .before .before .before in
     let k = after-end-row .before .before in
-    started-in (k .pre .0 .few) (c .spread-lane .ensures)
-    (λ v s i. pose-pays (k .args .l) v s 0 (k .pre .1) (after-end-row .end-row .ensures) i (nine-most (k .pre .0 .needed)))
+    started-in (k .pre .starting .few) (c .spread-lane .ensures)
+    (λ v s i. pose-pays (k .args .l) v s 0 (k .pre .paid) (after-end-row .end-row .ensures) i (nine-most (k .pre .starting .needed)))
 
 pub from-start-spec : {M : Type 1} → statement M
 from-start-spec = tie.close (tie.spec end-row-requires returns spread-lane-requires returns-2)

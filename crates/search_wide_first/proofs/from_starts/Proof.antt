@@ -35,18 +35,19 @@ from-start-requires c κs =
     let after-fill-pays = c .before .before .before .before in
     let k = after-fill-pays .before .before .before in
     let w = c .before .before .before .loop .inv .1 in
-    let g = k .pre .0 in (
-      record {
+    let g = k .pre .0 in
+    record {
+      starting = record {
         lent = record { long = w .long ∙ g .lent .long; low = w .low };
         words = g .words;
         start = g .start;
         cell = g .cell;
         few = g .few;
         needed = g .needed;
-      },
-      after-fill-pays .fill-pays .ensures,
-      omega arith,
-    )
+      };
+      paid = after-fill-pays .fill-pays .ensures;
+      lane = omega arith;
+    }
 
 add-l : tie.Need-add-l Inv-loop μ-loop
 add-l c = search needs
