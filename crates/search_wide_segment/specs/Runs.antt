@@ -12,7 +12,9 @@ use Rattle.theory_tables.specs.Steps.{B, Deck, Layer, stateCount, offset, layer
 use Rattle.search_lanes.specs.Store.{Low, layerIn}
 use Rattle.search_row.specs.declared.Sizes.{Sizes}
 use Rattle.search_row.specs.Words.{StateWords}
-use Rattle.search_wide_layer.specs.Loops.{nextFrom}
+use Rattle.search_wide_buckets.specs.Table.{Lent}
+use Rattle.search_wide_layer.specs.declared.Block.{Block}
+use Rattle.search_wide_layer.specs.Loops.{nextFrom, Given, Stepping}
 
 -- the two blocks of layers, at 0 and after the first
 abbrev pub Buffer : ℕ → Type 0
@@ -51,6 +53,22 @@ pub record ToTall (row st : List ℕ) (z : Sizes) (lanes i tall costs : ℕ) : T
   pub narrow : lanes ≤ 64
   pub early : i ≤ 100
   pub inside : tall < 64
+
+-- the same from the layer with i cells, whose block begins at `from`
+pub record Delivering (row st : List ℕ) (z : Sizes) (lanes i tall from costs : ℕ) : Type 0 where
+  pub toTall : ToTall row st z lanes i tall costs
+  pub below : from ≤ layerBlock
+
+-- the same straight from the layer before the last
+pub record ToLast (table row st : List ℕ) (z : Sizes) (layer : Block) (tall costs : ℕ) : Type 0 where
+  pub stepping : Stepping table row st z layer costs
+  pub inside : tall < 64
+
+-- a segment: its first layer, with i cells, is in block 0, and there is room for its costs
+pub record SegmentGiven (table row st : List ℕ) (z : Sizes) (lanes i costs : ℕ) : Type 0 where
+  pub lent : Lent table
+  pub given : Given row st z lanes i 0
+  pub room : CostRoom st costs
 
 -- ---- costs to the tall cell at position p
 

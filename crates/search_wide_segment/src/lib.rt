@@ -1,15 +1,13 @@
 // A segment: from its first layer, in block 0, to a tall cell; all lanes at once. The layers run on
 // in the first two blocks of the store by turns; of the last one only the states that come to the tall cell
 // with it are computed, straight to the costs.
-ghost use Prim.Native.Nat.{_+_, _*_, _-_, _≤_, _<_};
-ghost use Rattle.search_store.specs.Map.{layerBlock};
+ghost use Prim.Native.Nat.{_+_, _-_, _<_};
 ghost use Rattle.theory_tables.specs.Steps.{stateCount};
 ghost use Rattle.search_lanes.specs.Store.{FilledState, Filled};
 ghost use Rattle.search_row.specs.Words.{deckIn};
 ghost use Rattle.search_wide_buckets.specs.Table.{Lent};
-ghost use Rattle.search_wide_layer.specs.Loops.{Given, Stepping};
-ghost use Rattle.search_wide_segment.specs.Runs.{CostRoom, ToTall, lateIn, delivered};
-ghost use Rattle.search_wide_segment.specs.Runs.{lastIn, CostedRun, SegmentCosted};
+ghost use Rattle.search_wide_segment.specs.Runs.{SegmentGiven, ToTall, Delivering, ToLast};
+ghost use Rattle.search_wide_segment.specs.Runs.{lateIn, delivered, lastIn, CostedRun, SegmentCosted};
 use search_row::Sizes;
 use search_wide_layer::Block;
 
@@ -61,36 +59,35 @@ fn fill_late(
     }
 }
 
-// The costs of state q, if it comes to the tall cell with the layer at `from`, which has i cells.
+// The costs of state q, if it comes to the tall cell with this layer.
 fn deliver_state(
     store: &mut [u32],
     row: &[u32],
     sizes: Sizes,
-    lanes: usize,
-    i: usize,
+    layer: Block,
     tall: usize,
-    from: usize,
     costs: usize,
     q: usize,
 )
-    requires { ⌜ ToTall (now row) (now store) sizes lanes i tall costs × (q < stateCount (sizes .reordering))
-        × (from ≤ layerBlock) ⌝ }
-    ensures { λ _. ⌜ FilledState (delivered (sizes .reordering) i tall (now (store .entry)) from costs) lanes costs q
-        (sizes .poses) (now (store .entry)) (now (store .exit)) ⌝ }
+    requires { ⌜ Delivering (now row) (now store) sizes (layer .lanes) (layer .cells) tall (layer .at) costs
+        × (q < stateCount (sizes .reordering)) ⌝ }
+    ensures { λ _. ⌜ FilledState (delivered (sizes .reordering) (layer .cells) tall (now (store .entry)) (layer .at)
+        costs) (layer .lanes) costs q (sizes .poses) (now (store .entry)) (now (store .exit)) ⌝ }
 {
+    let i = layer.cells;
     if i + search_row::word(row, search_row::STATES + q * 4) != tall + sizes.reordering + 1 {
         return;
     }
     search_lanes::copy_rows(
         store,
-        from + q * search_store::STATE,
+        layer.at + q * search_store::STATE,
         costs + q * search_store::STATE,
         sizes.poses,
-        lanes,
+        layer.lanes,
     );
 }
 
-// The costs of every state that comes with that layer.
+// The costs of every state that comes with the layer at `from`, which has i cells.
 fn deliver(
     store: &mut [u32],
     row: &[u32],
@@ -101,13 +98,18 @@ fn deliver(
     from: usize,
     costs: usize,
 )
-    requires { ⌜ ToTall (now row) (now store) sizes lanes i tall costs × (from ≤ layerBlock) ⌝ }
+    requires { ⌜ Delivering (now row) (now store) sizes lanes i tall from costs ⌝ }
     ensures { λ _. ⌜ Filled (delivered (sizes .reordering) i tall (now (store .entry)) from costs) lanes
         (sizes .poses) costs (sizes .states) (now (store .entry)) (now (store .exit)) ⌝ }
 {
+    let layer = Block {
+        lanes,
+        cells: i,
+        at: from,
+    };
     let mut q: usize = 0;
     while q < sizes.states {
-        deliver_state(store, row, sizes, lanes, i, tall, from, costs, q);
+        deliver_state(store, row, sizes, layer, tall, costs, q);
         q += 1;
     }
 }
@@ -123,8 +125,7 @@ fn run_to(
     tall: usize,
     costs: usize,
 ) -> usize
-    requires { ⌜ Lent (now table) × Given (now row) (now store) sizes lanes i 0 × CostRoom (now store) costs
-        × (tall < 64) ⌝ }
+    requires { ⌜ SegmentGiven (now table) (now row) (now store) sizes lanes i costs × (tall < 64) ⌝ }
     ensures { λ at. ⌜ CostedRun (deckIn (now (row .entry)) sizes) (sizes .reordering) lanes i tall
         (tall + sizes .reordering - i) at costs (now (store .entry)) (now (store .exit)) × Lent (now (table .exit)) ⌝ }
 {
@@ -159,7 +160,7 @@ fn last_state(
     costs: usize,
     q: usize,
 )
-    requires { ⌜ Stepping (now table) (now row) (now store) sizes layer costs × (tall < 64) × (q < sizes .states) ⌝ }
+    requires { ⌜ ToLast (now table) (now row) (now store) sizes layer tall costs × (q < sizes .states) ⌝ }
     ensures { λ _. ⌜ FilledState (lastIn (deckIn (now (row .entry)) sizes) (sizes .reordering) (layer .cells) tall
         (now (store .entry)) (layer .at) costs) (layer .lanes) costs q (sizes .poses) (now (store .entry))
         (now (store .exit)) × Lent (now (table .exit)) ⌝ }
@@ -182,7 +183,7 @@ fn last_layer(
     tall: usize,
     costs: usize,
 )
-    requires { ⌜ Stepping (now table) (now row) (now store) sizes layer costs × (tall < 64) ⌝ }
+    requires { ⌜ ToLast (now table) (now row) (now store) sizes layer tall costs ⌝ }
     ensures { λ _. ⌜ Filled (lastIn (deckIn (now (row .entry)) sizes) (sizes .reordering) (layer .cells) tall
         (now (store .entry)) (layer .at) costs) (layer .lanes) (sizes .poses) costs (sizes .states)
         (now (store .entry)) (now (store .exit)) × Lent (now (table .exit)) ⌝ }
@@ -205,8 +206,7 @@ pub fn segment_to(
     tall: usize,
     costs: usize,
 )
-    requires { ⌜ Lent (now table) × Given (now row) (now store) sizes lanes i 0 × CostRoom (now store) costs
-        × (tall < 64) ⌝ }
+    requires { ⌜ SegmentGiven (now table) (now row) (now store) sizes lanes i costs × (tall < 64) ⌝ }
     ensures { λ _. ⌜ SegmentCosted (deckIn (now (row .entry)) sizes) (sizes .reordering) lanes i tall costs
         (now (store .entry)) (now (store .exit)) × Lent (now (table .exit)) ⌝ }
 {

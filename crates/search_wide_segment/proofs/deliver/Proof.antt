@@ -14,35 +14,38 @@ use Rattle.search_wide_segment.proofs.deliver.Statement.{statement}
 use Rattle.search_wide_segment.proofs.deliver.Tie as tie
 
 abbrev Inv-loop : tie.InvT-loop
-Inv-loop store₀ row sizes lanes i tall from costs q₀ store q =
+Inv-loop store₀ row sizes lanes i tall from costs layer q₀ store q =
     (q ≤ (sizes .states)) × Filled (delivered (sizes .reordering) i tall store₀ from costs) lanes (sizes .poses) costs q store₀ store
     × Frame costs (costs + q * stateBlock) store₀ store
 
 abbrev μ-loop : tie.MeasureT-loop
-μ-loop store₀ row sizes lanes i tall from costs q₀ store q =
+μ-loop store₀ row sizes lanes i tall from costs layer q₀ store q =
     (sizes .states) - q
 
 loop-holds : tie.Need-loop-holds Inv-loop μ-loop
 loop-holds c =
-    (omega arith, filled-none _ _ _ _ (c .before .before .pre .0 .low), frame-refl _ _ _)
+    (omega arith, filled-none _ _ _ _ (c .before .before .pre .toTall .low), frame-refl _ _ _)
 
 deliver-state-requires : tie.Need-deliver-state-requires Inv-loop μ-loop
 deliver-state-requires c κs =
     let at-loop = c .before .before .before in
     let k = at-loop .before .before .before in
-    let l = at-loop .loop in (
+    let l = at-loop .loop in
+    let g = k .pre .toTall in (
       record {
-        coded = k .pre .0 .coded;
-        low = l .inv .1 .low;
-        room = record { over = k .pre .0 .room .over; room = omega (arith, k .pre .0 .room .room, l .inv .2 .long) };
-        all = k .pre .0 .all;
-        few = k .pre .0 .few;
-        narrow = k .pre .0 .narrow;
-        early = k .pre .0 .early;
-        inside = k .pre .0 .inside;
+        toTall = record {
+          coded = g .coded;
+          low = l .inv .1 .low;
+          room = record { over = g .room .over; room = omega (arith, g .room .room, l .inv .2 .long) };
+          all = g .all;
+          few = g .few;
+          narrow = g .narrow;
+          early = g .early;
+          inside = g .inside;
+        };
+        below = k .pre .below;
       },
-      omega (arith, k .pre .0 .all),
-      k .pre .1,
+      omega (arith, g .all),
     )
 
 add-q : tie.Need-add-q Inv-loop μ-loop
@@ -57,14 +60,15 @@ loop-again c =
     let at-loop = after-deliver-state .before .before .before .before in
     let k = at-loop .before .before .before in
     let a = k .args in
+    let g = k .pre .toTall in
     let l = at-loop .loop in
     let w = after-deliver-state .deliver-state .ensures in
     let f = l .inv .2 in (
       omega arith,
-      filled-more (l .q) (k .pre .0 .narrow) (omega arith) (omega (arith, k .pre .0 .all, k .pre .0 .coded .few)) (l .inv .1) w
+      filled-more (l .q) (g .narrow) (omega arith) (omega (arith, g .all, g .coded .few)) (l .inv .1) w
           (λ b j x y.
           ap₂ (cond (eqb (a .i + offset (a .sizes .reordering) (l .q)) (a .tall + suc (a .sizes .reordering))))
-          (sym (f .low (a .from + l .q * stateBlock + b * 64 + j) (omega (arith, k .pre .0 .room .over, k .pre .0 .all, k .pre .0 .coded .few, k .pre .1))))
+          (sym (f .low (a .from + l .q * stateBlock + b * 64 + j) (omega (arith, g .room .over, g .all, g .coded .few, k .pre .below))))
           (sym (f .high (a .costs + l .q * stateBlock + b * 64 + j) (omega arith)))),
       frame-join (a .costs) (a .costs + (l .q + 1) * stateBlock) f (w .frame) (omega arith) (omega arith) (omega arith) (omega arith),
     )

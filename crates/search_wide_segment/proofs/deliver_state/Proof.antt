@@ -18,7 +18,7 @@ word-requires c κs = search needs
 add-if1 : tie.Need-add-if1
 add-if1 c =
     let k = c .before .before .before in
-    omega (arith, c .word .ensures, k .pre .0 .coded .digit (k .args .q) (k .pre .1), k .pre .0 .coded .small (k .args .q) (k .pre .1))
+    omega (arith, c .word .ensures, k .pre .0 .toTall .coded .digit (k .args .q) (k .pre .1), k .pre .0 .toTall .coded .small (k .args .q) (k .pre .1))
 
 add-if1-2 : tie.Need-add-if1-2
 add-if1-2 c = search needs
@@ -31,12 +31,12 @@ returns c =
     let after-word = c .before .before in
     let k = after-word .before .before .before in
     let a = k .args in
-    let e : a .i + offset (a .sizes .reordering) (a .q) ≡ a .tall + suc (a .sizes .reordering) → ⊥ =
-    λ h. c .if1 .taken (omega (arith, after-word .word .ensures, k .pre .0 .coded .digit (a .q) (k .pre .1))) in
+    let e : a .layer .cells + offset (a .sizes .reordering) (a .q) ≡ a .tall + suc (a .sizes .reordering) → ⊥ =
+    λ h. c .if1 .taken (omega (arith, after-word .word .ensures, k .pre .0 .toTall .coded .digit (a .q) (k .pre .1))) in
     record {
       frame = frame-refl _ _ _;
-      low = k .pre .0 .low;
-      right = λ b x l y. sym (delivered-skip (a .sizes .reordering) (a .i) (a .tall) (a .store .now) (a .from) (a .costs) l (a .q) b e);
+      low = k .pre .0 .toTall .low;
+      right = λ b x l y. sym (delivered-skip (a .sizes .reordering) (a .layer .cells) (a .tall) (a .store .now) (a .layer .at) (a .costs) l (a .q) b e);
     }
 
 mul-copy-rows : tie.Need-mul-copy-rows
@@ -59,14 +59,15 @@ same-length c = search needs
 
 returns-2 : tie.Need-returns-2
 returns-2 c =
-    let after-if1 = c .before .before .before .before in
+    let after-copy-rows = c .before .before in
+    let after-if1 = after-copy-rows .before .before .before in
     let after-word = after-if1 .before .before in
     let k = after-word .before .before .before in
     let a = k .args in
-    let e : a .i + offset (a .sizes .reordering) (a .q) ≡ a .tall + suc (a .sizes .reordering) =
-    omega (arith, after-if1 .if1 .left, after-word .word .ensures, k .pre .0 .coded .digit (a .q) (k .pre .1)) in
-    state-rows (omega arith) (c .before .before .copy-rows .ensures)
-    (λ b l x y. delivered-take (a .sizes .reordering) (a .i) (a .tall) (a .store .now) (a .from) (a .costs) l (a .q) b e)
+    let e : a .layer .cells + offset (a .sizes .reordering) (a .q) ≡ a .tall + suc (a .sizes .reordering) =
+    omega (arith, after-if1 .if1 .left, after-word .word .ensures, k .pre .0 .toTall .coded .digit (a .q) (k .pre .1)) in
+    state-rows (omega arith) (after-copy-rows .copy-rows .ensures)
+    (λ b l x y. delivered-take (a .sizes .reordering) (a .layer .cells) (a .tall) (a .store .now) (a .layer .at) (a .costs) l (a .q) b e)
 
 add-word : tie.Need-add-word
 add-word c = search needs

@@ -29,16 +29,19 @@ abbrev μ-loop : tie.MeasureT-loop
 loop-holds : tie.Need-loop-holds Inv-loop μ-loop
 loop-holds c =
     let k = c .before .before in
-    (omega arith, filled-none _ _ _ _ (k .pre .0 .given .low), frame-refl _ _ _, k .pre .0 .lent)
+    (omega arith, filled-none _ _ _ _ (k .pre .stepping .given .low), frame-refl _ _ _, k .pre .stepping .lent)
 
 last-state-requires : tie.Need-last-state-requires Inv-loop μ-loop
 last-state-requires c κs =
     let at-loop = c .before .before .before .before in
     let k = at-loop .before .before .before in
     let l = at-loop .loop in
-    let s = l .inv .1 in (
-      record { lent = l .inv .3; given = given-on (k .pre .0 .given) (s .frame) (s .low); beside = beside-on (k .pre .0 .beside) (s .frame) },
-      k .pre .1,
+    let s = l .inv .1 in
+    let g = k .pre .stepping in (
+      record {
+        stepping = record { lent = l .inv .3; given = given-on (g .given) (s .frame) (s .low); beside = beside-on (g .beside) (s .frame) };
+        inside = k .pre .inside;
+      },
       omega arith,
     )
 
@@ -54,12 +57,12 @@ loop-again c =
     let at-loop = mid .before .before .before in
     let k = at-loop .before .before .before in
     let a = k .args in
-    let g = k .pre .0 .given in
+    let g = k .pre .stepping .given in
     let l = at-loop .loop in
     let w = c .before .before .last-state .ensures in
     let s = l .inv .1 in
     let f = l .inv .2 in
-    let kept = beside-kept (k .pre .0 .beside) (s .frame) (omega arith) (omega arith) in (
+    let kept = beside-kept (k .pre .stepping .beside) (s .frame) (omega arith) (omega arith) in (
       omega arith,
       filled-more (l .q) (g .narrow) (omega (arith, g .ground .few)) (omega (arith, g .ground .all, g .ground .coded .few)) s (w .0)
           (λ b j x y.

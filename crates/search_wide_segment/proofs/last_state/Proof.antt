@@ -22,8 +22,8 @@ word-requires c κs = search needs
 add-if1-2 : tie.Need-add-if1-2
 add-if1-2 c =
     let k = c .before .before .before .before in
-    let g = k .pre .0 .given .ground in
-    let h = k .pre .2 in
+    let g = k .pre .0 .stepping .given .ground in
+    let h = k .pre .1 in
     omega (arith, c .word .ensures, g .coded .digit (k .args .q) (omega (arith, g .all)), g .coded .small (k .args .q) (omega (arith, g .all)))
 
 add-if1-3 : tie.Need-add-if1-3
@@ -37,24 +37,24 @@ returns c =
     let after-word = c .before .before in
     let k = after-word .before .before .before .before in
     let a = k .args in
-    let g = k .pre .0 .given .ground in
+    let g = k .pre .0 .stepping .given .ground in
     let e : suc (a .layer .cells) + offset (a .sizes .reordering) (a .q) ≡ a .tall + suc (a .sizes .reordering) → ⊥ =
     λ h. c .if1 .taken (omega (arith, after-word .word .ensures, g .coded .digit (a .q) (omega (arith, g .all)))) in (
       record {
         frame = frame-refl _ _ _;
-        low = k .pre .0 .given .low;
+        low = k .pre .0 .stepping .given .low;
         right = λ b x l y.
             sym (last-skip (deckIn (a .row .now) (a .sizes)) (a .sizes .reordering) (a .layer .cells) (a .tall) (a .store .now) (a .layer .at) (a .costs) l
             (a .q) b e);
       },
-      k .pre .0 .lent,
+      k .pre .0 .stepping .lent,
     )
 
 target-block-requires : tie.Need-target-block-requires
 target-block-requires c κs =
     let mid = c .before .before .before .before in
     let k = mid .before .before .before .before in
-    (k .pre .0, k .pre .2)
+    (k .pre .0 .stepping, k .pre .1)
 
 same-length : tie.Need-same-length
 same-length c = search needs
@@ -66,7 +66,7 @@ returns-2 c =
     let after-word = after-if1 .before .before in
     let k = after-word .before .before .before .before in
     let a = k .args in
-    let g = k .pre .0 .given .ground in
+    let g = k .pre .0 .stepping .given .ground in
     let e : suc (a .layer .cells) + offset (a .sizes .reordering) (a .q) ≡ a .tall + suc (a .sizes .reordering) =
     omega (arith, after-if1 .if1 .left, after-word .word .ensures, g .coded .digit (a .q) (omega (arith, g .all))) in (
       state-ext (after-target-block .target-block .ensures .0)

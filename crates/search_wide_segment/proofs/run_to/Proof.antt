@@ -33,42 +33,43 @@ kept : (c : tie.After-slice-known3 Inv-loop μ-loop) (k : ℕ) → k < layerBloc
 kept c k h =
     let after-deliver = c .before .before in
     let after-fill-late = after-deliver .before .before .before .before in
-    let p = after-fill-late .before .before .before .before .pre .2 .over in
+    let p = after-fill-late .before .before .before .before .pre .0 .room .over in
     after-deliver .deliver .ensures .frame .low k (omega arith) ∙ after-fill-late .fill-late .ensures .frame .low k (omega arith)
 
 fill-late-requires : tie.Need-fill-late-requires Inv-loop μ-loop
 fill-late-requires c κs =
     let k = c .before .before .before in
-    let g = k .pre .1 in
+    let g = k .pre .0 .given in
     record {
       coded = g .ground .coded;
       low = g .low;
-      room = k .pre .2;
+      room = k .pre .0 .room;
       all = g .ground .all;
       few = g .ground .few;
       narrow = g .narrow;
       early = omega (arith, g .early);
-      inside = k .pre .3;
+      inside = k .pre .1;
     }
 
 deliver-requires : tie.Need-deliver-requires Inv-loop μ-loop
 deliver-requires c κs =
     let after-fill-late = c .before .before .before in
     let k = after-fill-late .before .before .before .before in
-    let g = k .pre .1 in
-    let w = after-fill-late .fill-late .ensures in (
-      record {
+    let g = k .pre .0 .given in
+    let w = after-fill-late .fill-late .ensures in
+    record {
+      toTall = record {
         coded = g .ground .coded;
         low = w .low;
-        room = record { over = k .pre .2 .over; room = omega (arith, k .pre .2 .room, w .frame .long) };
+        room = record { over = k .pre .0 .room .over; room = omega (arith, k .pre .0 .room .room, w .frame .long) };
         all = g .ground .all;
         few = g .ground .few;
         narrow = g .narrow;
         early = omega (arith, g .early);
-        inside = k .pre .3;
-      },
-      omega arith,
-    )
+        inside = k .pre .1;
+      };
+      below = omega arith;
+    }
 
 loop-holds : tie.Need-loop-holds Inv-loop μ-loop
 loop-holds c =
@@ -76,12 +77,12 @@ loop-holds c =
     let after-fill-late = after-deliver .before .before .before .before in
     let k = after-fill-late .before .before .before .before in
     let a = k .args in
-    let g = k .pre .1 in (
+    let g = k .pre .0 .given in (
       omega (arith, g .early),
       costed-start (deckIn (a .row .now) (a .sizes)) (a .sizes .reordering) (a .lanes) (a .i) (a .tall) (a .costs) (a .sizes .states) (given-small g)
-          (g .ground .all) (k .pre .2 .over)
+          (g .ground .all) (k .pre .0 .room .over)
           (after-fill-late .fill-late .ensures) (after-deliver .deliver .ensures),
-      k .pre .0,
+      k .pre .0 .lent,
       omega arith,
     )
 
@@ -104,11 +105,11 @@ step-layer-requires c κs =
     let mid₂ = mid .before .before .before .before in
     let mid₃ = mid₂ .before .before .before .before in
     let k = mid₃ .before .before in
-    let g = k .pre .1 in
+    let g = k .pre .0 .given in
     let l = c .before .before .before .loop in
     let v = l .inv .1 in
     let b = buffer-low (v .running .buffer) in
-    let n : keptFrom ≤ length (l .store) = omega (arith, v .outside .long, long mid, k .pre .2 .over, k .pre .2 .room) in
+    let n : keptFrom ≤ length (l .store) = omega (arith, v .outside .long, long mid, k .pre .0 .room .over, k .pre .0 .room .room) in
     record {
       lent = l .inv .2;
       given = record { ground = g .ground; low = v .low; narrow = g .narrow; early = l .inv .0; room = omega arith };
@@ -133,21 +134,23 @@ deliver-requires-2 c κs =
     let mid = at-loop .before .before .before .before in
     let mid₂ = mid .before .before .before .before in
     let k = mid₂ .before .before .before in
-    let g = k .pre .1 in
+    let g = k .pre .0 .given in
     let l = at-loop .loop in
-    let w = after-step-layer .step-layer .ensures .0 in (
-      record {
+    let w = after-step-layer .step-layer .ensures .0 in
+    let p = k .pre .0 .room in
+    record {
+      toTall = record {
         coded = g .ground .coded;
         low = w .low;
-        room = record { over = k .pre .2 .over; room = omega (arith, k .pre .2 .room, w .frame .long, l .inv .1 .outside .long, long (at-loop .before)) };
+        room = record { over = p .over; room = omega (arith, p .room, w .frame .long, l .inv .1 .outside .long, long (at-loop .before)) };
         all = g .ground .all;
         few = g .ground .few;
         narrow = g .narrow;
         early = omega (arith, l .inv .0);
-        inside = k .pre .3;
-      },
-      omega arith,
-    )
+        inside = k .pre .1;
+      };
+      below = omega arith;
+    }
 
 loop-less : tie.Need-loop-less Inv-loop μ-loop
 loop-less c = search needs
@@ -160,10 +163,11 @@ loop-again c =
     let mid = at-loop .before .before .before .before in
     let mid₂ = mid .before .before .before .before in
     let k = mid₂ .before .before .before in
-    let g = k .pre .1 in
+    let g = k .pre .0 .given in
+    let p = k .pre .0 .room in
     let l = at-loop .loop in (
       omega (arith, g .ground .coded .reorder),
-      costed-step (given-small g) (g .ground .all) (k .pre .2 .over) (l .inv .1) (after-step-layer .step-layer .ensures .0) (after-deliver2 .deliver2 .ensures),
+      costed-step (given-small g) (g .ground .all) (p .over) (l .inv .1) (after-step-layer .step-layer .ensures .0) (after-deliver2 .deliver2 .ensures),
       after-step-layer .step-layer .ensures .1,
       omega arith,
     )
@@ -183,7 +187,7 @@ returns c =
     let o : Outside (a .costs) layerBlock (a .store .now) (after-deliver .deliver .last .0) =
     outside-join (outside-costs (after-fill-late .fill-late .ensures .frame) (omega arith) (omega arith))
     (outside-costs (after-deliver .deliver .ensures .frame) (omega arith) (omega arith)) in
-    (rw e at (costed-from (given-small (k .pre .1)) (kept (c .before .before)) o (l .inv .1)), l .inv .2)
+    (rw e at (costed-from (given-small (k .pre .0 .given)) (kept (c .before .before)) o (l .inv .1)), l .inv .2)
 
 pub run-to-spec : {M : Type 1} → statement M
 run-to-spec =

@@ -27,24 +27,25 @@ last-layer-requires c κs =
     let mid = c .before .before .before .before in
     let mid₂ = mid .before .before .before .before in
     let k = mid₂ .before .before .before .before in
-    let g = k .pre .1 in
-    let p = k .pre .2 in
+    let g = k .pre .0 .given in
+    let p = k .pre .0 .room in
     let w = mid .before .before .before .run-to .ensures in
     let v = w .0 in
-    let b = v .running .buffer in (
-      record {
+    let b = v .running .buffer in
+    record {
+      stepping = record {
         lent = w .1;
         given = record {
           ground = g .ground;
           low = v .low;
           narrow = g .narrow;
-          early = omega (arith, g .ground .coded .reorder, k .pre .3);
+          early = omega (arith, g .ground .coded .reorder, k .pre .1);
           room = omega (arith, buffer-low b, p .over, p .room, v .outside .long);
         };
         beside = buffer-costs b (record { over = p .over; room = omega (arith, p .room, v .outside .long) });
-      },
-      k .pre .3,
-    )
+      };
+      inside = k .pre .1;
+    }
 
 same-length-2 : tie.Need-same-length-2
 same-length-2 c = search needs
@@ -58,7 +59,7 @@ returns-2 c =
     let k = mid .before in
     let w = after-run-to .run-to .ensures in
     let f = after-last-layer .last-layer .ensures in
-    (costed-last (k .pre .1 .ground .all) (w .0) (omega (arith, after-if1 .if1 .left)) (f .0), f .1)
+    (costed-last (k .pre .0 .given .ground .all) (w .0) (omega (arith, after-if1 .if1 .left)) (f .0), f .1)
 
 pub segment-to-spec : {M : Type 1} → statement M
 segment-to-spec =
