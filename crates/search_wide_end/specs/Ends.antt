@@ -1,16 +1,19 @@
 -- The cost of a segment to the row's end: the least of the layer with all cells placed.
 -- What the loops come to, and what they leave.
-use Prim.Native.Nat.{ℕ, _+_, _<_}
+use Prim.Native.Nat.{ℕ, _+_, _≤_, _<_}
 use mathlib.Core.Path.{_≡_}
 use mathlib.Core.Bool.{Bool, not, _&&_}
 use mathlib.Core.List.{List}
-use lib.ListN.{getD}
+use lib.ListN.{length, getD}
 use lib.Dec.{eqb}
-use Rattle.search_store.specs.Map.{keptFrom}
+use Rattle.search_store.specs.Map.{keptFrom, layerBlock}
 use Rattle.theory_tables.specs.Steps.{Deck, lastAt, ends, costEnd}
 use Rattle.search_lanes.specs.Store.{Frame, Low, layerIn}
-use Rattle.search_row.specs.Words.{wordOf, backIn, thereIn, tallWord}
+use Rattle.search_row.specs.declared.Sizes.{Sizes}
+use Rattle.search_row.specs.Words.{wordOf, backIn, thereIn, tallWord, RowWords}
 use Rattle.search_buckets.specs.Ends.{leastPoses, leastState, leastStates}
+use Rattle.search_wide_buckets.specs.Table.{Lent}
+use Rattle.search_wide_layer.specs.Loops.{Given}
 use Rattle.search_wide_segment.specs.Runs.{Running, Outside}
 
 -- state q's cell can be the last of the row: the row has it, and it is single
@@ -32,6 +35,36 @@ leastStatesIn D R st at m l = leastStates D R (layerIn st at l) m
 
 abbrev pub endsIn : Deck → ℕ → List ℕ → ℕ → ℕ → ℕ
 endsIn D R st at l = ends D R (layerIn st at l)
+
+-- ---- what is given
+
+-- a word for each lane, none over B
+pub record LaneWords (words : List ℕ) : Type 0 where
+  pub long : length words ≡ 64
+  pub low : Low words
+
+-- a segment that is to run on from its first layer, with i cells, to the row's end, and room for its layers
+pub record RunGiven (table row st : List ℕ) (z : Sizes) (lanes i : ℕ) : Type 0 where
+  pub lent : Lent table
+  pub given : Given row st z lanes i 0
+  pub room : keptFrom ≤ length st
+  pub left : i ≤ z .cells
+
+-- the layer with all cells placed, in the block at `at`, and the least so far, in each lane
+pub record LeastGiven (acc row st : List ℕ) (z : Sizes) (lanes at : ℕ) : Type 0 where
+  pub given : Given row st z lanes (z .cells) at
+  pub least : LaneWords acc
+
+-- the poses of its state q, whose cell is at position k, and the least so far
+pub record PosesGiven (acc row st : List ℕ) (at q k poses lanes : ℕ) : Type 0 where
+  pub words : RowWords row
+  pub low : Low st
+  pub least : LaneWords acc
+  pub room : at + layerBlock ≤ length st
+  pub state : q < 12
+  pub cell : k < 64
+  pub few : poses ≤ 60
+  pub narrow : lanes ≤ 64
 
 -- ---- what is left
 

@@ -1,17 +1,15 @@
 // A segment to the row's end, from its first layer, in block 0; all lanes at once.
 ghost use mathlib.Core.Path.{_≡_};
-ghost use Prim.Native.Nat.{_+_, _*_, _-_, _≤_, _<_};
-ghost use lib.ListN.{length};
-ghost use Rattle.search_store.specs.Map.{keptFrom, layerBlock};
-ghost use Rattle.theory_tables.specs.Steps.{stateCount};
+ghost use Prim.Native.Nat.{_-_, _<_};
 ghost use Rattle.search_lanes.specs.Lanes.{Lowered};
-ghost use Rattle.search_lanes.specs.Store.{Low, Written};
-ghost use Rattle.search_row.specs.Words.{deckIn, StateWords, RowWords};
+ghost use Rattle.search_lanes.specs.Store.{Written};
+ghost use Rattle.search_row.specs.Words.{deckIn, Ground};
 ghost use Rattle.search_wide_buckets.specs.Table.{Lent};
 ghost use Rattle.search_wide_layer.specs.Loops.{Given};
-ghost use Rattle.search_wide_segment.specs.Runs.{CostRoom};
-ghost use Rattle.search_wide_end.specs.Ends.{endsWith, leastPosesIn, leastStateIn};
-ghost use Rattle.search_wide_end.specs.Ends.{leastStatesIn, endsIn, Ran, Ended};
+ghost use Rattle.search_wide_segment.specs.Runs.{SegmentGiven, CostRoom};
+ghost use Rattle.search_wide_end.specs.Ends.{LaneWords, RunGiven, LeastGiven, PosesGiven};
+ghost use Rattle.search_wide_end.specs.Ends.{endsWith, leastPosesIn, leastStateIn, leastStatesIn};
+ghost use Rattle.search_wide_end.specs.Ends.{endsIn, Ran, Ended};
 use search_row::Sizes;
 use search_wide_layer::Block;
 
@@ -24,8 +22,7 @@ fn run_on(
     lanes: usize,
     i: usize,
 ) -> usize
-    requires { ⌜ Lent (now table) × Given (now row) (now store) sizes lanes i 0 × (keptFrom ≤ length (now store))
-        × (i ≤ sizes .cells) ⌝ }
+    requires { ⌜ RunGiven (now table) (now row) (now store) sizes lanes i ⌝ }
     ensures { λ at. ⌜ Ran (deckIn (now (row .entry)) sizes) (sizes .reordering) lanes i
         (sizes .cells - i) at (now (store .entry)) (now (store .exit)) × Lent (now (table .exit)) ⌝ }
 {
@@ -47,8 +44,7 @@ fn run_on(
 
 // Whether state q's cell can be the last of the row.
 fn ends_with(row: &[u32], sizes: Sizes, q: usize) -> bool
-    requires { ⌜ RowWords (now row) × (sizes .cells ≤ 64) × StateWords (sizes .reordering) (now row)
-        × (q < stateCount (sizes .reordering)) ⌝ }
+    requires { ⌜ Ground (now row) sizes × (q < sizes .states) ⌝ }
     ensures { λ t. ⌜ t ≡ endsWith (now (row .entry)) (sizes .cells) (sizes .reordering) q ⌝ }
 {
     if !search_row::is_there(row, sizes, sizes.cells, q) {
@@ -69,8 +65,7 @@ fn least_poses(
     poses: usize,
     lanes: usize,
 )
-    requires { ⌜ RowWords (now row) × Low (now store) × Low (now acc) × (length (now acc) ≡ 64)
-        × (at + layerBlock ≤ length (now store)) × (q < 12) × (k < 64) × (poses ≤ 60) × (lanes ≤ 64) ⌝ }
+    requires { ⌜ PosesGiven (now acc) (now row) (now store) at q k poses lanes ⌝ }
     ensures { λ _. ⌜ Lowered (leastPosesIn (now (row .entry)) k (now (store .entry)) at q poses) lanes
         (now (acc .entry)) (now (acc .exit)) ⌝ }
 {
@@ -97,8 +92,7 @@ fn least_state(
     at: usize,
     q: usize,
 )
-    requires { ⌜ Given (now row) (now store) sizes lanes (sizes .cells) at × Low (now acc) × (length (now acc) ≡ 64)
-        × (q < sizes .states) ⌝ }
+    requires { ⌜ LeastGiven (now acc) (now row) (now store) sizes lanes at × (q < sizes .states) ⌝ }
     ensures { λ _. ⌜ Lowered (leastStateIn (deckIn (now (row .entry)) sizes) (sizes .reordering)
         (now (store .entry)) at q) lanes (now (acc .entry)) (now (acc .exit)) ⌝ }
 {
@@ -118,7 +112,7 @@ fn least_states(
     lanes: usize,
     at: usize,
 )
-    requires { ⌜ Given (now row) (now store) sizes lanes (sizes .cells) at × Low (now acc) × (length (now acc) ≡ 64) ⌝ }
+    requires { ⌜ LeastGiven (now acc) (now row) (now store) sizes lanes at ⌝ }
     ensures { λ _. ⌜ Lowered (leastStatesIn (deckIn (now (row .entry)) sizes) (sizes .reordering)
         (now (store .entry)) at (sizes .states)) lanes (now (acc .entry)) (now (acc .exit)) ⌝ }
 {
@@ -152,8 +146,7 @@ pub fn segment_end(
     i: usize,
     costs: usize,
 )
-    requires { ⌜ Lent (now table) × Given (now row) (now store) sizes lanes i 0 × CostRoom (now store) costs
-        × Low (now starts) × (length (now starts) ≡ 64) ⌝ }
+    requires { ⌜ SegmentGiven (now table) (now row) (now store) sizes lanes i costs × LaneWords (now starts) ⌝ }
     ensures { λ _. ⌜ Ended (deckIn (now (row .entry)) sizes) (sizes .reordering) lanes i costs (now (starts .entry))
         (now (store .entry)) (now (store .exit)) × Lent (now (table .exit)) ⌝ }
 {

@@ -23,7 +23,7 @@ loop-holds : tie.Need-loop-holds Inv-loop μ-loop
 loop-holds c =
     let k = c .before .before in
     let a = k .args in
-    (omega arith, lowered-to _ (k .pre .2) (λ l h. omega (arith, poses-none (backIn (a .row .now) (a .k)) (layerIn (a .store .now) (a .at) l) (a .q))))
+    (omega arith, lowered-to _ (k .pre .least .low) (λ l h. omega (arith, poses-none (backIn (a .row .now) (a .k)) (layerIn (a .store .now) (a .at) l) (a .q))))
 
 mul-relax : tie.Need-mul-relax Inv-loop μ-loop
 mul-relax c = search needs
@@ -46,7 +46,7 @@ relax-requires c κs =
     let k = at-loop .before .before .before in
     let a = k .args in
     let l = at-loop .loop in
-    (omega arith, omega arith, l .inv .1 .long ∙ k .pre .3, omega (arith, c .back .ensures, back-low (a .row .now) (a .k) (l .a)), k .pre .1)
+    (omega arith, omega arith, l .inv .1 .long ∙ k .pre .least .long, omega (arith, c .back .ensures, back-low (a .row .now) (a .k) (l .a)), k .pre .low)
 
 add-a : tie.Need-add-a Inv-loop μ-loop
 add-a c = search needs

@@ -28,7 +28,7 @@ returns : tie.Need-returns
 returns c =
     let k = c .before .before .before .before in
     let a = k .args in
-    lowered-to _ (k .pre .1)
+    lowered-to _ (k .pre .0 .least .low)
     (λ l h. omega (
       arith,
       state-out (deckIn (a .row .now) (a .sizes)) (a .sizes .reordering) (layerIn (a .store .now) (a .at) l) (a .q)
@@ -43,17 +43,17 @@ least-poses-requires c κs =
     let mid = c .before .before in
     let k = mid .before .before .before .before in
     let a = k .args in
-    let g = k .pre .0 in (
-      g .ground .words,
-      g .low,
-      k .pre .1,
-      k .pre .2,
-      g .room,
-      omega (arith, g .ground .all, g .ground .coded .few, k .pre .3),
-      omega (arith, c .before .last-at .ensures, ends-size (a .row .now) (a .sizes .cells) (a .sizes .reordering) (a .q) (can mid), g .ground .size),
-      g .ground .few,
-      g .narrow,
-    )
+    let g = k .pre .0 .given in
+    record {
+      words = g .ground .words;
+      low = g .low;
+      least = k .pre .0 .least;
+      room = g .room;
+      state = omega (arith, g .ground .all, g .ground .coded .few, k .pre .1);
+      cell = omega (arith, c .before .last-at .ensures, ends-size (a .row .now) (a .sizes .cells) (a .sizes .reordering) (a .q) (can mid), g .ground .size);
+      few = g .ground .few;
+      narrow = g .narrow;
+    }
 
 returns-2 : tie.Need-returns-2
 returns-2 c =

@@ -25,7 +25,8 @@ loop-holds c =
     let k = c .before .before in
     let a = k .args in (
       omega arith,
-      lowered-to _ (k .pre .1) (λ l h. omega (arith, states-none (deckIn (a .row .now) (a .sizes)) (a .sizes .reordering) (layerIn (a .store .now) (a .at) l))),
+      lowered-to _ (k .pre .least .low)
+          (λ l h. omega (arith, states-none (deckIn (a .row .now) (a .sizes)) (a .sizes .reordering) (layerIn (a .store .now) (a .at) l))),
     )
 
 least-state-requires : tie.Need-least-state-requires Inv-loop μ-loop
@@ -33,7 +34,8 @@ least-state-requires c κs =
     let at-loop = c .before .before .before in
     let k = at-loop .before .before .before in
     let w = at-loop .loop .inv .1 in
-    (k .pre .0, lowered-low w (k .pre .1), w .long ∙ k .pre .2, omega arith)
+    let g = k .pre .least in
+    (record { given = k .pre .given; least = record { long = w .long ∙ g .long; low = lowered-low w (g .low) } }, omega arith)
 
 add-q : tie.Need-add-q Inv-loop μ-loop
 add-q c = search needs

@@ -11,7 +11,7 @@ use Rattle.search_wide_end.proofs.put_ends.Tie as tie
 
 least-states-requires : tie.Need-least-states-requires
 least-states-requires c κs =
-    (c .before .before .before .before .pre .0, none-low, refl)
+    record { given = c .before .before .before .before .pre .0; least = record { long = refl; low = none-low } }
 
 put-requires : tie.Need-put-requires
 put-requires c κs =

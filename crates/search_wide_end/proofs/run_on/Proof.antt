@@ -28,11 +28,11 @@ loop-holds c =
     let a = k .args in (
       omega arith,
       record {
-        running = run-none (deckIn (a .row .now) (a .sizes)) (a .sizes .reordering) (a .lanes) (a .i) (given-small (k .pre .1)) (λ j h. refl);
+        running = run-none (deckIn (a .row .now) (a .sizes)) (a .sizes .reordering) (a .lanes) (a .i) (given-small (k .pre .given)) (λ j h. refl);
         frame = frame-refl _ _ _;
-        low = k .pre .1 .low;
+        low = k .pre .given .low;
       },
-      k .pre .0,
+      k .pre .lent,
     )
 
 add-cells : tie.Need-add-cells Inv-loop μ-loop
@@ -46,11 +46,11 @@ step-layer-requires : tie.Need-step-layer-requires Inv-loop μ-loop
 step-layer-requires c κs =
     let at-loop = c .before .before .before .before in
     let k = at-loop .before .before .before in
-    let g = k .pre .1 in
+    let g = k .pre .given in
     let l = at-loop .loop in
     let v = l .inv .1 in
     let b = buffer-low (v .running .buffer) in
-    let n : keptFrom ≤ length (l .store) = omega (arith, v .frame .long, k .pre .2) in
+    let n : keptFrom ≤ length (l .store) = omega (arith, v .frame .long, k .pre .room) in
     record {
       lent = l .inv .2;
       given = record { ground = g .ground; low = v .low; narrow = g .narrow; early = omega (arith, l .inv .0, g .ground .size); room = omega arith };
@@ -73,7 +73,7 @@ loop-again c =
     let mid = c .before .before .before .before in
     let at-loop = mid .before .before .before in (
       omega arith,
-      ran-more (at-loop .before .before .before .pre .1 .ground .all) (at-loop .loop .inv .1) (c .before .before .step-layer .ensures .0),
+      ran-more (at-loop .before .before .before .pre .given .ground .all) (at-loop .loop .inv .1) (c .before .before .step-layer .ensures .0),
       c .before .before .step-layer .ensures .1,
     )
 

@@ -29,9 +29,9 @@ returns c =
     let mid = c .before .before .before .before in
     let k = mid .before .before .before .before in
     let a = k .args in (
-      end-words (k .pre .1 .narrow) (c .before .before .fill .ensures)
+      end-words (k .pre .0 .given .narrow) (c .before .before .fill .ensures)
           (λ f l. cost-past (deckIn (a .row .now) (a .sizes)) (a .sizes .reordering) f (a .i) (getD (a .starts .now) l 0) (omega arith)),
-      k .pre .0,
+      k .pre .0 .lent,
     )
 
 add-if2 : tie.Need-add-if2
@@ -41,7 +41,9 @@ put-requires : tie.Need-put-requires
 put-requires c κs =
     let mid = c .before .before .before .before in
     let k = mid .before .before .before in
-    (omega (arith, k .pre .2 .room, k .pre .1 .narrow), omega (arith, k .pre .1 .narrow), k .pre .4, omega arith, k .pre .1 .low, k .pre .3 .word)
+    let g = k .pre .0 .given in
+    let s = k .pre .1 in
+    (omega (arith, k .pre .0 .room .room, g .narrow), omega (arith, g .narrow), s .long, omega arith, g .low, s .low .word)
 
 same-length-2 : tie.Need-same-length-2
 same-length-2 c = search needs
@@ -51,25 +53,27 @@ returns-2 c =
     let after-put = c .before .before in
     let mid = after-put .before .before .before .before in
     let k = mid .before .before .before .before in
-    let a = k .args in (
-      end-words (k .pre .1 .narrow) (after-put .put .ensures)
+    let a = k .args in
+    let s = k .pre .1 in (
+      end-words (k .pre .0 .given .narrow) (after-put .put .ensures)
           (λ f l. omega
-          (arith, cost-done (deckIn (a .row .now) (a .sizes)) (a .sizes .reordering) f (a .i) (getD (a .starts .now) l 0) (omega arith), k .pre .3 .word l)),
-      k .pre .0,
+          (arith, cost-done (deckIn (a .row .now) (a .sizes)) (a .sizes .reordering) f (a .i) (getD (a .starts .now) l 0) (omega arith), s .low .word l)),
+      k .pre .0 .lent,
     )
 
 run-on-requires : tie.Need-run-on-requires
 run-on-requires c κs =
     let mid = c .before .before .before .before in
     let k = mid .before .before .before .before in
-    (k .pre .0, k .pre .1, omega (arith, k .pre .2 .over, k .pre .2 .room), left (c .before .before))
+    let g = k .pre .0 in
+    record { lent = g .lent; given = g .given; room = omega (arith, g .room .over, g .room .room); left = left (c .before .before) }
 
 put-ends-requires : tie.Need-put-ends-requires
 put-ends-requires c κs =
     let mid = c .before .before .before .before in
     let mid₂ = mid .before .before .before .before in
     let k = mid₂ .before .before .before .before in
-    let g = k .pre .1 in
+    let g = k .pre .0 .given in
     let v = c .before .before .before .run-on .ensures .0 in
     let b = buffer-low (v .running .buffer) in (
       record {
@@ -77,9 +81,9 @@ put-ends-requires c κs =
         low = v .low;
         narrow = g .narrow;
         early = omega (arith, g .ground .size);
-        room = omega (arith, v .frame .long, k .pre .2 .over, k .pre .2 .room);
+        room = omega (arith, v .frame .long, k .pre .0 .room .over, k .pre .0 .room .room);
       },
-      record { over = k .pre .2 .over; room = omega (arith, v .frame .long, k .pre .2 .room) },
+      record { over = k .pre .0 .room .over; room = omega (arith, v .frame .long, k .pre .0 .room .room) },
     )
 
 same-length-3 : tie.Need-same-length-3
@@ -95,11 +99,12 @@ returns-3 c =
     let mid₂ = mid .before .before .before .before in
     let k = mid₂ .before .before in
     let a = k .args in
-    let g = k .pre .1 in
+    let g = k .pre .0 in
     let v = after-run-on .run-on .ensures .0 in
     let w = after-put-ends .put-ends .ensures in (
       record {
-        outside = outside-join (outside-layers (k .pre .2 .over) (v .frame) (omega arith)) (outside-costs (w .frame) (omega arith) (omega (arith, g .narrow)));
+        outside =
+            outside-join (outside-layers (g .room .over) (v .frame) (omega arith)) (outside-costs (w .frame) (omega arith) (omega (arith, g .given .narrow)));
         low = w .low;
         right = λ l h. w .words l h ∙ ran-cost l (getD (a .starts .now) l 0) (left mid) (v .running) h;
       },
