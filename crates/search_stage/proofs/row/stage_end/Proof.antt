@@ -16,9 +16,7 @@ segment-to-requires c κs =
     let after-if1 = c .before .before .before in
     let k = after-if1 .before .before .before .before in
     let g = k .pre .given in (
-      k .pre .lent,
-      k .pre .layer,
-      k .pre .room,
+      record { lent = k .pre .lent; given = k .pre .layer; room = k .pre .room },
       omega (arith, c .before .before .tall-at .ensures, g .inside (k .args .i) (after-if1 .if1 .taken), g .ground .size),
     )
 
