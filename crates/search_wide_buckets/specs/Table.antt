@@ -34,7 +34,7 @@ pub record TableFor (table : List ℕ) (poses lanes : ℕ) : Type 0 where
   pub few : poses ≤ 60
   pub narrow : lanes ≤ 64
 
--- the same with so many words from `to` on
+-- a table lent, with so many words from `to` on
 pub record WordsLent (table : List ℕ) (to count : ℕ) : Type 0 where
   pub lent : Lent table
   pub room : to + count ≤ tableWords

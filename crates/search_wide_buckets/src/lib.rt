@@ -6,6 +6,7 @@
 ghost use mathlib.Core.Path.{_≡_};
 ghost use mathlib.Core.Bool.{false};
 ghost use Prim.Native.Nat.{_+_, _-_, _≤_, _<_};
+ghost use Rattle.theory_tables.specs.Steps.{B};
 ghost use Rattle.search_lanes.specs.Lanes.{always, wordsFrom};
 ghost use Rattle.search_lanes.specs.Store.{Written, WrittenRows};
 ghost use Rattle.search_buckets.specs.Rows.{rowsOf};
@@ -36,7 +37,7 @@ pub fn reset(table: &mut [u32; search_store::TABLE], buckets: usize, poses: usiz
 
 // One word lowered.
 fn lower_one(table: &mut [u32; search_store::TABLE], to: usize, x: u32)
-    requires { ⌜ WordsLent (now table) to 1 × (x ≤ 536870912) ⌝ }
+    requires { ⌜ WordsLent (now table) to 1 × (x ≤ B + B) ⌝ }
     ensures { λ _. ⌜ LoweredAt (always x) to 1 (now (table .entry)) (now (table .exit)) ⌝ }
 {
     table[to] = search_lanes::lesser(table[to], x);
