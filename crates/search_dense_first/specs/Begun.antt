@@ -1,14 +1,50 @@
--- A first layer in a dense block: what its loops leave, and one state more.
+-- A first layer in a dense block: what its functions are given, what they leave, and one state more.
 use Prim.Native.Nat.{ℕ, _+_, _*_, _≤_, _<_, min}
 use mathlib.Core.Path.{_≡_, _∙_}
 use mathlib.Core.List.{List}
 use native.Mathlib.Omega.{arith}
 use borrow.Author.Count.{below-more}
-use lib.ListN.{getD}
-use Rattle.theory_tables.specs.Steps.{B, Layer}
+use lib.ListN.{length, getD}
+use Rattle.theory_tables.specs.Steps.{B, Layer, stateCount}
 use Rattle.search_lanes.specs.Store.{Frame, Low, Written}
 use Rattle.search_lanes.specs.Laws.{frame-refl, frame-join}
-use Rattle.search_row.specs.Words.{wordOf, tollIn, frontIn}
+use Rattle.search_row.specs.declared.Sizes.{Sizes}
+use Rattle.search_row.specs.Words.{wordOf, tollIn, frontIn, StateWords, RowWords, Ground}
+
+-- ---- what is given
+
+-- state q is one of the row's, with i cells placed
+pub record StateKnown (row : List ℕ) (R i q : ℕ) : Type 0 where
+  pub words : StateWords R row
+  pub state : q < stateCount R
+  pub placed : i ≤ 100
+
+-- the cell at position k, and so many words from `at` on, one for each of its poses
+pub record PosesGiven (row st : List ℕ) (at k poses : ℕ) : Type 0 where
+  pub words : RowWords row
+  pub low : Low st
+  pub room : at + poses ≤ length st
+  pub cell : k < 64
+  pub few : poses ≤ 60
+
+-- a row, and a dense block at `at`
+pub record LayerGiven (row st : List ℕ) (z : Sizes) (at : ℕ) : Type 0 where
+  pub ground : Ground row z
+  pub low : Low st
+  pub room : at + 768 ≤ length st
+
+-- a tall cell that a segment goes on from: at position p in pose l
+pub record TallPose (p l : ℕ) : Type 0 where
+  pub cell : p < 64
+  pub pose : l < 60
+
+-- a row, a dense block for the first layer after that cell, and i cells placed with it
+pub record AfterTall (row st : List ℕ) (z : Sizes) (i p l to : ℕ) : Type 0 where
+  pub layer : LayerGiven row st z to
+  pub placed : i ≤ 67
+  pub tall : TallPose p l
+
+-- ---- what is left
 
 -- the cell at position k in pose a: first of all, and after pose l of the cell at position p
 abbrev pub openPose : List ℕ → ℕ → ℕ → ℕ

@@ -1,18 +1,24 @@
 // The first layer of a segment with one start, dense: state q has 64 words of a block, one for each pose.
 ghost use mathlib.Core.Path.{_≡_};
-ghost use Prim.Native.Nat.{_+_, _≤_, _<_};
-ghost use lib.ListN.{length};
+ghost use Prim.Native.Nat.{_+_, _*_, _≤_, _<_};
 ghost use Rattle.theory_row.specs.Window.{start};
-ghost use Rattle.theory_tables.specs.Steps.{stateCount, marks, firstAfter, firstOpen};
-ghost use Rattle.search_lanes.specs.Store.{Low, Written};
-ghost use Rattle.search_row.specs.Words.{deckIn, StateWords, RowWords, Ground};
+ghost use Rattle.theory_tables.specs.Steps.{marks, firstAfter, firstOpen};
+ghost use Rattle.search_lanes.specs.Store.{Written};
+ghost use Rattle.search_row.specs.Words.{deckIn};
 ghost use Rattle.search_dense_first.specs.Firsts.{startsAt};
 ghost use Rattle.search_dense_first.specs.Begun.{openPose, afterPose, Begun};
+ghost use Rattle.search_dense_first.specs.Begun.{StateKnown, PosesGiven, LayerGiven, TallPose, AfterTall};
 use search_row::Sizes;
+
+// A layer in its block: how many cells are placed before it, and where the block begins.
+struct Block {
+    cells: usize,
+    at: usize,
+}
 
 // Whether state q, the last of i cells, can come first after marks m.
 pub fn starts(row: &[u32], sizes: Sizes, i: usize, m: u32, q: usize) -> bool
-    requires { ⌜ StateWords (sizes .reordering) (now row) × (q < stateCount (sizes .reordering)) × (i ≤ 100) ⌝ }
+    requires { ⌜ StateKnown (now row) (sizes .reordering) i q ⌝ }
     ensures { λ t. ⌜ t ≡ startsAt (sizes .cells) (sizes .reordering) i m q ⌝ }
 {
     if !search_row::is_there(row, sizes, i, q) {
@@ -39,7 +45,7 @@ pub fn start_marks(r: usize) -> u32
 
 // The words of a state that can come first: the cell at position k, each pose with what it pays as the row's first.
 fn open_poses(store: &mut [u32], row: &[u32], at: usize, k: usize, poses: usize)
-    requires { ⌜ RowWords (now row) × Low (now store) × (at + poses ≤ length (now store)) × (k < 64) × (poses ≤ 60) ⌝ }
+    requires { ⌜ PosesGiven (now row) (now store) at k poses ⌝ }
     ensures { λ _. ⌜ Written (openPose (now (row .entry)) k) at poses (now (store .entry)) (now (store .exit)) ⌝ }
 {
     let mut a: usize = 0;
@@ -52,13 +58,13 @@ fn open_poses(store: &mut [u32], row: &[u32], at: usize, k: usize, poses: usize)
     }
 }
 
-// The words of state q.
-fn open_state(store: &mut [u32], row: &[u32], sizes: Sizes, at: usize, q: usize)
-    requires { ⌜ Ground (now row) sizes × Low (now store) × (at + sizes .poses ≤ length (now store))
-        × (q < sizes .states) ⌝ }
-    ensures { λ _. ⌜ Written (firstOpen (deckIn (now (row .entry)) sizes) (sizes .reordering) q) at (sizes .poses)
-        (now (store .entry)) (now (store .exit)) ⌝ }
+// The words of state q of the layer at `to`.
+fn open_state(store: &mut [u32], row: &[u32], sizes: Sizes, to: usize, q: usize)
+    requires { ⌜ LayerGiven (now row) (now store) sizes to × (q < sizes .states) ⌝ }
+    ensures { λ _. ⌜ Written (firstOpen (deckIn (now (row .entry)) sizes) (sizes .reordering) q) (to + q * 64)
+        (sizes .poses) (now (store .entry)) (now (store .exit)) ⌝ }
 {
+    let at = to + q * 64;
     if !starts(row, sizes, 1, start_marks(sizes.reordering), q) {
         search_lanes::fill(store, at, sizes.poses, search_lanes::NONE);
         return;
@@ -69,13 +75,13 @@ fn open_state(store: &mut [u32], row: &[u32], sizes: Sizes, at: usize, q: usize)
 
 // The layer with one cell.
 pub fn open(store: &mut [u32], row: &[u32], sizes: Sizes, to: usize)
-    requires { ⌜ Ground (now row) sizes × Low (now store) × (to + 768 ≤ length (now store)) ⌝ }
+    requires { ⌜ LayerGiven (now row) (now store) sizes to ⌝ }
     ensures { λ _. ⌜ Begun (firstOpen (deckIn (now (row .entry)) sizes) (sizes .reordering)) (sizes .poses)
         (sizes .states) to (now (store .entry)) (now (store .exit)) ⌝ }
 {
     let mut q: usize = 0;
     while q < sizes.states {
-        open_state(store, row, sizes, to + q * 64, q);
+        open_state(store, row, sizes, to, q);
         q += 1;
     }
 }
@@ -92,8 +98,7 @@ fn after_poses(
     k: usize,
     poses: usize,
 )
-    requires { ⌜ RowWords (now row) × Low (now store) × (p < 64) × (l < 60) × (at + poses ≤ length (now store))
-        × (k < 64) × (poses ≤ 60) ⌝ }
+    requires { ⌜ PosesGiven (now row) (now store) at k poses × TallPose p l ⌝ }
     ensures { λ _. ⌜ Written (afterPose (now (row .entry)) p l k) at poses (now (store .entry)) (now (store .exit)) ⌝ }
 {
     let mut a: usize = 0;
@@ -106,28 +111,27 @@ fn after_poses(
     }
 }
 
-// The words of state q, after i cells with marks m.
+// The words of state q, after cells with marks m; `to` has how many cells, and where the layer begins.
 fn after_state(
     store: &mut [u32],
     row: &[u32],
     sizes: Sizes,
-    i: usize,
+    to: Block,
     m: u32,
     p: usize,
     l: usize,
-    at: usize,
     q: usize,
 )
-    requires { ⌜ Ground (now row) sizes × Low (now store) × (i ≤ 67) × (p < 64) × (l < 60)
-        × (at + sizes .poses ≤ length (now store)) × (q < sizes .states) ⌝ }
-    ensures { λ _. ⌜ Written (firstAfter (deckIn (now (row .entry)) sizes)
-        (sizes .reordering) i m p l q) at (sizes .poses) (now (store .entry)) (now (store .exit)) ⌝ }
+    requires { ⌜ AfterTall (now row) (now store) sizes (to .cells) p l (to .at) × (q < sizes .states) ⌝ }
+    ensures { λ _. ⌜ Written (firstAfter (deckIn (now (row .entry)) sizes) (sizes .reordering) (to .cells) m p l q)
+        (to .at + q * 64) (sizes .poses) (now (store .entry)) (now (store .exit)) ⌝ }
 {
-    if !starts(row, sizes, i + 1, m, q) {
+    let at = to.at + q * 64;
+    if !starts(row, sizes, to.cells + 1, m, q) {
         search_lanes::fill(store, at, sizes.poses, search_lanes::NONE);
         return;
     }
-    let k = search_row::last_at(row, sizes, i + 1, q);
+    let k = search_row::last_at(row, sizes, to.cells + 1, q);
     after_poses(store, row, p, l, at, k, sizes.poses);
 }
 
@@ -142,16 +146,16 @@ pub fn after(
     l: usize,
     to: usize,
 )
-    requires { ⌜ Ground (now row) sizes × Low (now store) × (to + 768 ≤ length (now store)) × (i ≤ 67)
-        × (s < sizes .states) × (p < 64) × (l < 60) ⌝ }
+    requires { ⌜ AfterTall (now row) (now store) sizes i p l to × (s < sizes .states) ⌝ }
     ensures { λ _. ⌜ Begun
         (firstAfter (deckIn (now (row .entry)) sizes) (sizes .reordering) i (marks (sizes .reordering) s) p l)
         (sizes .poses) (sizes .states) to (now (store .entry)) (now (store .exit)) ⌝ }
 {
     let m = row[search_row::STATES + s * 4 + 1];
+    let layer = Block { cells: i, at: to };
     let mut q: usize = 0;
     while q < sizes.states {
-        after_state(store, row, sizes, i, m, p, l, to + q * 64, q);
+        after_state(store, row, sizes, layer, m, p, l, q);
         q += 1;
     }
 }

@@ -32,7 +32,7 @@ open-requires : tie.Need-open-requires
 open-requires c κs =
     let after-kept-at = c .before in
     let g = after-kept-at .before .before .before .before .pre .0 in
-    (g .given .ground, g .low, omega (arith, after-kept-at .kept-at .ensures, g .long))
+    record { ground = g .given .ground; low = g .low; room = omega (arith, after-kept-at .kept-at .ensures, g .long) }
 
 same-length : tie.Need-same-length
 same-length c = search needs
@@ -78,13 +78,15 @@ after-requires c κs =
     let g = k .pre .0 in
     let p = g .given .inside (k .args .stage - 1) (omega (arith, g .stage)) in
     let r = room (c .before .before) in (
-      g .given .ground,
-      g .low,
-      omega (arith, c .before .kept-at2 .ensures, g .long),
-      omega arith,
+      record {
+        layer = record { ground = g .given .ground; low = g .low; room = omega (arith, c .before .kept-at2 .ensures, g .long) };
+        placed = omega arith;
+        tall = record {
+          cell = omega (arith, after-tall-at .tall-at .ensures, g .given .ground .size);
+          pose = omega (arith, g .pose (omega arith), g .given .ground .few);
+        };
+      },
       omega (arith, g .state (omega arith), g .given .ground .all),
-      omega (arith, after-tall-at .tall-at .ensures, g .given .ground .size),
-      omega (arith, g .pose (omega arith), g .given .ground .few),
     )
 
 add-result : tie.Need-add-result

@@ -10,12 +10,12 @@ use Rattle.search_dense_first.proofs.after.Statement.{statement}
 use Rattle.search_dense_first.proofs.after.Tie as tie
 
 abbrev Inv-loop : tie.InvT-loop
-Inv-loop store₀ row sizes i s p l to m q₀ store q =
+Inv-loop store₀ row sizes i s p l to m layer q₀ store q =
     (q ≤ (sizes .states)) × (m ≡ marks (sizes .reordering) s)
     × Begun (firstAfter (deckIn row sizes) (sizes .reordering) i m p l) (sizes .poses) q to store₀ store
 
 abbrev μ-loop : tie.MeasureT-loop
-μ-loop store₀ row sizes i s p l to m q₀ store q =
+μ-loop store₀ row sizes i s p l to m layer q₀ store q =
     (sizes .states) - q
 
 mul-m : tie.Need-mul-m Inv-loop μ-loop
@@ -33,25 +33,23 @@ shared-slice-read-m c = search needs
 loop-holds : tie.Need-loop-holds Inv-loop μ-loop
 loop-holds c =
     let k = c .before .before .before in
-    let g = k .pre .0 in
-    (omega arith, omega (arith, g .coded .mark (k .args .s) (omega (arith, g .all))), begun-none _ _ _ (k .pre .1))
-
-mul-after-state : tie.Need-mul-after-state Inv-loop μ-loop
-mul-after-state c = search needs
-
-add-after-state : tie.Need-add-after-state Inv-loop μ-loop
-add-after-state c =
-    let mid = c .before .before .before .before in
-    let g = mid .before .before .before .pre .0 in
-    omega (arith, g .all, g .coded .few)
+    let f = k .pre .0 .layer in
+    let g = f .ground in
+    (omega arith, omega (arith, g .coded .mark (k .args .s) (omega (arith, g .all))), begun-none _ _ _ (f .low))
 
 after-state-requires : tie.Need-after-state-requires Inv-loop μ-loop
 after-state-requires c κs =
     let at-loop = c .before .before .before in
     let k = at-loop .before .before .before .before in
-    let g = k .pre .0 in
-    let s = at-loop .loop .inv .2 in
-    (g, s .low, k .pre .3, k .pre .5, k .pre .6, omega (arith, g .all, g .coded .few, g .few, s .frame .long), omega arith)
+    let f = k .pre .0 .layer in
+    let s = at-loop .loop .inv .2 in (
+      record {
+        layer = record { ground = f .ground; low = s .low; room = omega (arith, f .room, s .frame .long) };
+        placed = k .pre .0 .placed;
+        tall = k .pre .0 .tall;
+      },
+      omega arith,
+    )
 
 add-q : tie.Need-add-q Inv-loop μ-loop
 add-q c = search needs
@@ -63,7 +61,7 @@ loop-again : tie.Need-loop-again Inv-loop μ-loop
 loop-again c =
     let after-after-state = c .before .before in
     let at-loop = after-after-state .before .before .before .before in
-    let g = at-loop .before .before .before .before .pre .0 in
+    let g = at-loop .before .before .before .before .pre .0 .layer .ground in
     let l = at-loop .loop in (
       omega arith,
       l .inv .1,
@@ -86,5 +84,4 @@ add-m-2 c = search needs
 pub after-spec : {M : Type 1} → statement M
 after-spec =
     tie.close
-    (tie.spec Inv-loop μ-loop mul-m add-m add-m-2 mul-m-2 shared-slice-read-m loop-holds mul-after-state add-after-state after-state-requires add-q loop-less
-    loop-again same-length returns)
+    (tie.spec Inv-loop μ-loop mul-m add-m add-m-2 mul-m-2 shared-slice-read-m loop-holds after-state-requires add-q loop-less loop-again same-length returns)

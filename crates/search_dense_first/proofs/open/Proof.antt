@@ -18,24 +18,14 @@ abbrev μ-loop : tie.MeasureT-loop
     (sizes .states) - q
 
 loop-holds : tie.Need-loop-holds Inv-loop μ-loop
-loop-holds c = (omega arith, begun-none _ _ _ (c .before .before .pre .1))
-
-mul-open-state : tie.Need-mul-open-state Inv-loop μ-loop
-mul-open-state c = search needs
-
-add-open-state : tie.Need-add-open-state Inv-loop μ-loop
-add-open-state c =
-    let mid = c .before .before .before .before in
-    let g = mid .before .before .pre .0 in
-    omega (arith, g .all, g .coded .few)
+loop-holds c = (omega arith, begun-none _ _ _ (c .before .before .pre .low))
 
 open-state-requires : tie.Need-open-state-requires Inv-loop μ-loop
 open-state-requires c κs =
     let at-loop = c .before .before .before in
     let k = at-loop .before .before .before in
-    let g = k .pre .0 in
     let s = at-loop .loop .inv .1 in
-    (g, s .low, omega (arith, g .all, g .coded .few, g .few, s .frame .long), omega arith)
+    (record { ground = k .pre .ground; low = s .low; room = omega (arith, k .pre .room, s .frame .long) }, omega arith)
 
 add-q : tie.Need-add-q Inv-loop μ-loop
 add-q c = search needs
@@ -47,7 +37,7 @@ loop-again : tie.Need-loop-again Inv-loop μ-loop
 loop-again c =
     let after-open-state = c .before .before in
     let at-loop = after-open-state .before .before .before .before in
-    let g = at-loop .before .before .before .pre .0 in
+    let g = at-loop .before .before .before .pre .ground in
     let l = at-loop .loop in
     (omega arith, begun-more (l .q) (omega (arith, g .few)) (omega (arith, g .all, g .coded .few)) (l .inv .1) (after-open-state .open-state .ensures))
 
@@ -63,15 +53,4 @@ returns c =
 pub open-spec : {M : Type 1} → statement M
 open-spec =
     tie.close
-    (tie.spec
-    Inv-loop
-    μ-loop
-    loop-holds
-    mul-open-state
-    add-open-state
-    open-state-requires
-    add-q
-    loop-less
-    loop-again
-    same-length
-    returns)
+    (tie.spec Inv-loop μ-loop loop-holds open-state-requires add-q loop-less loop-again same-length returns)

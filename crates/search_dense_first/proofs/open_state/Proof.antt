@@ -26,6 +26,12 @@ can c =
     ap (λ (m : ℕ). startsAt (a .sizes .cells) (a .sizes .reordering) 1 m (a .q)) (sym (after-start-marks .start-marks .ensures))
     ∙ sym (c .before .starts .ensures) ∙ not-false _ (c .if1 .left)
 
+mul-at : tie.Need-mul-at
+mul-at c = search needs
+
+add-at : tie.Need-add-at
+add-at c = search needs
+
 start-marks-requires : tie.Need-start-marks-requires
 start-marks-requires c κs = search needs
 
@@ -55,18 +61,19 @@ open-poses-requires c κs =
     let mid = c .before .before .before .before in
     let k = mid .before .before .before in
     let a = k .args in
-    let g = k .pre .0 in (
-      g .words,
-      k .pre .1,
-      k .pre .2,
-      omega (
+    let g = k .pre .0 .ground in
+    record {
+      words = g .words;
+      low = k .pre .0 .low;
+      room = omega (arith, k .pre .0 .room, g .all, g .coded .few, g .few);
+      cell = omega (
         arith,
         c .before .last-at .ensures,
         starts-size (a .sizes .cells) (a .sizes .reordering) 1 (start (a .sizes .reordering)) (a .q) (can (c .before .before)),
         g .size,
-      ),
-      g .few,
-    )
+      );
+      few = g .few;
+    }
 
 same-length-2 : tie.Need-same-length-2
 same-length-2 c = search needs
@@ -84,13 +91,4 @@ returns-2 c =
 pub open-state-spec : {M : Type 1} → statement M
 open-state-spec =
     tie.close
-    (tie.spec
-    start-marks-requires
-    starts-requires
-    fill-requires
-    same-length
-    returns
-    last-at-requires
-    open-poses-requires
-    same-length-2
-    returns-2)
+    (tie.spec mul-at add-at start-marks-requires starts-requires fill-requires same-length returns last-at-requires open-poses-requires same-length-2 returns-2)

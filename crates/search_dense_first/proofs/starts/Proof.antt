@@ -32,7 +32,7 @@ returns-2 : tie.Need-returns-2
 returns-2 c =
     let k = c .before .before .before .before in
     let a = k .args in
-    ap (eqb (a .m)) (k .pre .0 .earlier (a .q) (k .pre .1))
+    ap (eqb (a .m)) (k .pre .words .earlier (a .q) (k .pre .state))
     ∙ and-there (thereIn (a .sizes .cells) (a .sizes .reordering) (a .i) (a .q)) (eqb (a .m) (before (a .sizes .reordering) (a .q)))
     (sym (c .before .before .is-there .ensures) ∙ not-false _ (c .before .if1 .left))
 
