@@ -17,7 +17,7 @@ use Rattle.search_lanes.specs.Store.{Frame, Low}
 use Rattle.search_row.specs.Words.{wordOf, RowWords, Ground}
 use Rattle.search_buckets.specs.declared.Source.{Source}
 use Rattle.search_buckets.specs.Next.{Target}
-use Rattle.search_buckets.specs.Rows.{inRow, Pays}
+use Rattle.search_buckets.specs.Rows.{inRow, Pays, PaysLow}
 
 -- the layer whose block begins at `at`
 abbrev pub thinIn : List ℕ → ℕ → Layer
@@ -54,6 +54,27 @@ fourOf t x pays p j = inRow t (j / 4) (x + getD pays (p + j % 4) 0)
 -- the same in all buckets, for variant u
 abbrev pub spreadOf : ℕ → ℕ → List ℕ → ℕ → ℕ → ℕ → ℕ
 spreadOf t x pays u v s = inRow t s (x + getD pays (u * 9 + v) 0)
+
+-- a source of cost x, to be put to row t of four buckets, where it pays the words from word p on
+pub record FourSpread (words pays : List ℕ) (t x p : ℕ) : Type 0 where
+  pub long : length words ≡ 76
+  pub low : Low words
+  pub here : t < 19
+  pub cost : x ≤ B
+  pub paysLong : length pays ≡ 36
+  pub inside : p + 4 ≤ 36
+  pub paid : (v : ℕ) → v < 4 → getD pays (p + v) 0 ≤ B
+
+-- the same to row t of all buckets that are needed, by its variant u; in bucket 0 it pays nothing
+pub record ThinSpread (near apart far pays : List ℕ) (x u t buckets : ℕ) : Type 0 where
+  pub arrays : Arrays near apart far
+  pub cost : x ≤ B
+  pub paid : PaysLow buckets pays
+  pub free : getD pays (u * 9) 0 ≡ 0
+  pub kind : u < 4
+  pub here : t < 19
+  pub five : 5 ≤ buckets
+  pub nine : buckets ≤ 9
 
 -- ---- sources in the store
 
@@ -103,6 +124,21 @@ otherOf buckets near apart = cond (eqb buckets 9) apart near
 -- four poses from pose 4 e on
 abbrev pub foundFour : List ℕ → List ℕ → List ℕ → List ℕ → ℕ → ℕ → ℕ → ℕ
 foundFour row near apart far k e v = foundOf row near apart far k (e * 4 + v)
+
+-- arrays in which the pose at site e in variant v looks up what it finds
+pub record ThinLooks (near apart far : List ℕ) (e v : ℕ) : Type 0 where
+  pub arrays : Arrays near apart far
+  pub site : e < 15
+  pub kind : v < 4
+
+-- four words are to be those of the poses at site e of the cell at position k
+pub record ToFour (near apart far row four : List ℕ) (k e : ℕ) : Type 0 where
+  pub arrays : Arrays near apart far
+  pub words : RowWords row
+  pub low : Low four
+  pub long : length four ≡ 4
+  pub cell : k < 64
+  pub site : e < 15
 
 -- the words from `to` on are to be those of the cell at position k
 pub record ToPut (near apart far row st : List ℕ) (to k : ℕ) : Type 0 where

@@ -2,17 +2,17 @@
 // site stand side by side, so that four are done at a time. The sources of a target are gathered by their
 // end sites in the buckets of crate buckets.
 ghost use mathlib.Core.Path.{_≡_};
-ghost use Prim.Native.Nat.{ℕ, suc, _+_, _*_, _/_, _≤_, _<_};
-ghost use lib.ListN.{length, getD};
-ghost use Rattle.theory_tables.specs.Steps.{B, lastAt};
+ghost use Prim.Native.Nat.{suc, _+_, _*_, _/_, _≤_, _<_};
+ghost use lib.ListN.{length};
+ghost use Rattle.theory_tables.specs.Steps.{lastAt};
 ghost use Rattle.search_lanes.specs.Lanes.{Lowered};
 ghost use Rattle.search_lanes.specs.Store.{Low, Written};
-ghost use Rattle.search_row.specs.Words.{deckIn, RowWords, Ground};
+ghost use Rattle.search_row.specs.Words.{deckIn};
 ghost use Rattle.search_buckets.specs.Next.{Target};
-ghost use Rattle.search_buckets.specs.Rows.{bucketsIn, PaysLow, onePose, byPoses, oneState, byStates};
-ghost use Rattle.search_dense_layer.specs.Thin.{thinIn, posesAt, fourOf, spreadOf, Arrays};
-ghost use Rattle.search_dense_layer.specs.Thin.{ThinGathered, FarRunUp, foundBy, foundOf};
-ghost use Rattle.search_dense_layer.specs.Thin.{foundFour, otherOf, FromPoses, ToPut, ThinGiven};
+ghost use Rattle.search_buckets.specs.Rows.{bucketsIn, onePose, byPoses, oneState, byStates};
+ghost use Rattle.search_dense_layer.specs.Thin.{thinIn, posesAt, fourOf, spreadOf, FourSpread, ThinSpread};
+ghost use Rattle.search_dense_layer.specs.Thin.{ThinGathered, FarRunUp, foundBy, foundOf, ThinLooks};
+ghost use Rattle.search_dense_layer.specs.Thin.{foundFour, otherOf, FromPoses, ToFour, ToPut, ThinGiven};
 ghost use Rattle.search_dense_layer.specs.Thin.{ThinGathering, Put, Stepped};
 ghost use Rattle.search_dense_layer.specs.Kept.{Segment, SegmentKept};
 use search_buckets::Source;
@@ -28,8 +28,7 @@ struct Block {
 
 // A source of cost x to row t of four buckets, where it pays the words from p on.
 fn lower_four(words: &mut [u32; 76], t: usize, x: u32, pays: &[u32; 36], p: usize)
-    requires { ⌜ (t < 19) × (length (now words) ≡ 76) × Low (now words) × (x ≤ B) × (p + 4 ≤ 36)
-        × (length (now pays) ≡ 36) × ((v : ℕ) → v < 4 → getD (now pays) (p + v) 0 ≤ B) ⌝ }
+    requires { ⌜ FourSpread (now words) (now pays) t x p ⌝ }
     ensures { λ _. ⌜ Lowered (fourOf t x (now (pays .entry)) p) 76 (now (words .entry)) (now (words .exit)) ⌝ }
 {
     let mut v: usize = 0;
@@ -50,8 +49,7 @@ fn spread(
     t: usize,
     buckets: usize,
 )
-    requires { ⌜ Arrays (now near) (now apart) (now far) × (x ≤ B) × PaysLow buckets (now pays)
-        × (getD (now pays) (u * 9) 0 ≡ 0) × (u < 4) × (t < 19) × (5 ≤ buckets) × (buckets ≤ 9) ⌝ }
+    requires { ⌜ ThinSpread (now near) (now apart) (now far) (now pays) x u t buckets ⌝ }
     ensures { λ _. ⌜ ThinGathered (spreadOf t x (now (pays .entry)) u) buckets (now (near .entry)) (now (near .exit))
         (now (apart .entry)) (now (apart .exit)) (now (far .entry)) (now (far .exit)) ⌝ }
 {
@@ -129,7 +127,7 @@ fn run_up(far: &mut [u32; 19])
 
 // What the pose at site e in variant v finds: at gaps 0, 2 and 3, and further left.
 fn found(near: &[u32; 76], apart: &[u32; 76], far: &[u32; 19], e: usize, v: usize) -> u32
-    requires { ⌜ Arrays (now near) (now apart) (now far) × (e < 15) × (v < 4) ⌝ }
+    requires { ⌜ ThinLooks (now near) (now apart) (now far) e v ⌝ }
     ensures { λ x. ⌜ x ≡ foundBy (now (near .entry)) (now (apart .entry)) (now (far .entry)) e v ⌝ }
 {
     let between = search_lanes::lesser(apart[(e + 2) * 4 + v], apart[(e + 1) * 4 + v]);
@@ -147,8 +145,7 @@ fn found_four(
     k: usize,
     e: usize,
 )
-    requires { ⌜ Arrays (now near) (now apart) (now far) × RowWords (now row) × Low (now words)
-        × (length (now words) ≡ 4) × (k < 64) × (e < 15) ⌝ }
+    requires { ⌜ ToFour (now near) (now apart) (now far) (now row) (now words) k e ⌝ }
     ensures { λ _. ⌜ Written (foundFour (now (row .entry)) (now (near .entry)) (now (apart .entry))
         (now (far .entry)) k e) 0 4 (now (words .entry)) (now (words .exit)) ⌝ }
 {
@@ -216,14 +213,13 @@ fn put_found(
     to: usize,
     k: usize,
     poses: usize,
-    buckets: usize,
 )
     requires { ⌜ ToPut (now near) (now apart) (now far) (now row) (now store) to k × (poses ≤ 60) ⌝ }
     ensures { λ _. ⌜ Written (foundOf (now (row .entry)) (now (near .entry))
-        (otherOf buckets (now (near .entry)) (now (apart .entry))) (now (far .entry)) k) to
+        (otherOf (bucketsIn (now (row .entry)) k) (now (near .entry)) (now (apart .entry))) (now (far .entry)) k) to
         ((poses + 3) / 4 * 4) (now (store .entry)) (now (store .exit)) ⌝ }
 {
-    if buckets == 9 {
+    if search_buckets::buckets_of(row, k) == 9 {
         put(store, row, near, apart, far, to, k, poses);
         return;
     }
@@ -304,14 +300,13 @@ fn target_there(store: &mut [u32], row: &[u32], sizes: Sizes, layer: Block, q: u
         (now (store .entry)) (now (store .exit)) ⌝ }
 {
     let m = search_row::last_at(row, sizes, layer.cells + 1, q);
-    let buckets = search_buckets::buckets_of(row, m);
     let mut near = [search_lanes::NONE; 76];
     let mut apart = [search_lanes::NONE; 76];
     let mut far = [search_lanes::NONE; 19];
     gather(&mut near, &mut apart, &mut far, store, row, sizes, layer, q);
     run_up(&mut far);
     let to = layer.at + search_store::KEPT_LAYER + q * 64;
-    put_found(store, row, &near, &apart, &far, to, m, sizes.poses, buckets);
+    put_found(store, row, &near, &apart, &far, to, m, sizes.poses);
 }
 
 // The words of state q: all NONE if the row has no such cell.
@@ -334,7 +329,7 @@ fn put_state(store: &mut [u32], row: &[u32], sizes: Sizes, layer: Block, q: usiz
 
 // The layer with one cell more than the layer at `from`, which has i, to the block after it.
 pub fn step(store: &mut [u32], row: &[u32], sizes: Sizes, i: usize, from: usize)
-    requires { ⌜ Ground (now row) sizes × Low (now store) × (i ≤ 67) × (from + 1536 ≤ length (now store)) ⌝ }
+    requires { ⌜ ThinGiven (now row) (now store) sizes i from ⌝ }
     ensures { λ _. ⌜ Stepped (deckIn (now (row .entry)) sizes) (sizes .reordering) (sizes .states) i from
         (now (store .entry)) (now (store .exit)) ⌝ }
 {

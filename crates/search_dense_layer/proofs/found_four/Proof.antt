@@ -21,7 +21,7 @@ abbrev μ-loop : tie.MeasureT-loop
 μ-loop words₀ row near apart far k e v₀ words v = 4 - v
 
 loop-holds : tie.Need-loop-holds Inv-loop μ-loop
-loop-holds c = (omega arith, written-none _ _ (c .before .pre .2))
+loop-holds c = (omega arith, written-none _ _ (c .before .pre .low))
 
 mul-x : tie.Need-mul-x Inv-loop μ-loop
 mul-x c = search needs
@@ -50,7 +50,7 @@ add-x-3 c =
     let k = at-loop .before .before in
     let a = k .args in
     let l = at-loop .loop in
-    omega (arith, c .found .ensures, k .pre .0 .farLow .word (a .e), k .pre .1 .word (a .k * cellWords + (a .e * 4 + l .v)))
+    omega (arith, c .found .ensures, k .pre .arrays .farLow .word (a .e), k .pre .words .word (a .k * cellWords + (a .e * 4 + l .v)))
 
 lesser-requires : tie.Need-lesser-requires Inv-loop μ-loop
 lesser-requires c κs =
@@ -58,7 +58,7 @@ lesser-requires c κs =
     let k = at-loop .before .before in
     let a = k .args in
     let l = at-loop .loop in
-    (omega (arith, c .found .ensures, k .pre .0 .farLow .word (a .e), k .pre .1 .word (a .k * cellWords + (a .e * 4 + l .v))), omega arith)
+    (omega (arith, c .found .ensures, k .pre .arrays .farLow .word (a .e), k .pre .words .word (a .k * cellWords + (a .e * 4 + l .v))), omega arith)
 
 mul-words : tie.Need-mul-words Inv-loop μ-loop
 mul-words c = search needs

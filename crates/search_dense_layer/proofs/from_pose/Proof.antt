@@ -1,5 +1,5 @@
 -- A source that is NONE, or that ends right of all rows, lowers nothing; another one is spread over the buckets.
-use Prim.Native.Nat.{_+_, _%_}
+use Prim.Native.Nat.{_+_}
 use native.Mathlib.Omega.{arith}
 use lib.ListN.{getD}
 use Rattle.search_buckets.specs.Rows.{endRow, payIn}
@@ -56,16 +56,17 @@ spread-requires c κs =
     let after-if1 = after-if2 .before .before in
     let mid = after-if1 .before .before .before .before in
     let k = mid .before in
-    let a = k .args in (
-      k .pre .0 .arrays,
-      omega (arith, after-if1 .if1 .left),
-      pays-low (k .pre .0 .source .words) (k .pre .0 .paid),
-      pays-free (a .b % 4) (k .pre .0 .paid) (k .pre .0 .five) (omega arith),
-      omega arith,
-      omega (arith, after-if2 .if2 .left),
-      k .pre .0 .five,
-      k .pre .0 .nine,
-    )
+    let g = k .pre .0 in
+    record {
+      arrays = g .arrays;
+      cost = omega (arith, after-if1 .if1 .left);
+      paid = pays-low (g .source .words) (g .paid);
+      free = pays-free _ (g .paid) (g .five) (omega arith);
+      kind = omega arith;
+      here = omega (arith, after-if2 .if2 .left);
+      five = g .five;
+      nine = g .nine;
+    }
 
 returns-3 : tie.Need-returns-3
 returns-3 c =

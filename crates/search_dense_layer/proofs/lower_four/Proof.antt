@@ -18,7 +18,7 @@ abbrev μ-loop : tie.MeasureT-loop
 loop-holds : tie.Need-loop-holds Inv-loop μ-loop
 loop-holds c =
     let a = c .args in
-    (omega arith, four-none (a .t) (a .x) (a .pays .now) (a .p) (c .pre .2))
+    (omega arith, four-none (a .t) (a .x) (a .pays .now) (a .p) (c .pre .low))
 
 mul-lesser : tie.Need-mul-lesser Inv-loop μ-loop
 mul-lesser c = search needs
@@ -44,14 +44,14 @@ element-copy-out-lesser-2 c = search needs
 add-lesser-3 : tie.Need-add-lesser-3 Inv-loop μ-loop
 add-lesser-3 c =
     let k = c .before .before .before .before in
-    omega (arith, k .pre .6 (c .before .before .before .loop .v) (omega arith))
+    omega (arith, k .pre .cost, k .pre .paid (c .before .before .before .loop .v) (omega arith))
 
 lesser-requires : tie.Need-lesser-requires Inv-loop μ-loop
 lesser-requires c κs =
     let k = c .before .before .before .before in
     let l = c .before .before .before .loop in
     let j = k .args .t * 4 + l .v in
-    (omega (arith, l .inv .1 .rest j (omega arith), k .pre .2 .word j), omega (arith, k .pre .6 (l .v) (omega arith)))
+    (omega (arith, l .inv .1 .rest j (omega arith), k .pre .low .word j), omega (arith, k .pre .cost, k .pre .paid (l .v) (omega arith)))
 
 mul-words : tie.Need-mul-words Inv-loop μ-loop
 mul-words c = search needs
@@ -79,7 +79,7 @@ loop-again c =
     let l = at-loop .loop in
     let e = l .inv .1 .rest (a .t * 4 + l .v) (omega arith) in (
       omega arith,
-      four-more (a .t) (a .x) (a .pays .now) (a .p) (l .v) (c .lesser .result) (l .inv .1) (k .pre .1) (omega arith) (omega arith)
+      four-more (a .t) (a .x) (a .pays .now) (a .p) (l .v) (c .lesser .result) (l .inv .1) (k .pre .long) (k .pre .here) (omega arith)
           (omega (arith, c .lesser .ensures, e)),
     )
 
@@ -89,7 +89,7 @@ returns c =
     let a = k .args in
     let l = c .before .loop in
     let e : l .v ≡ 4 = omega arith in
-    four-all (a .t) (a .x) (a .pays .now) (a .p) (rw e at (l .inv .1)) (k .pre .2) (k .pre .0)
+    four-all (a .t) (a .x) (a .pays .now) (a .p) (rw e at (l .inv .1)) (k .pre .low) (k .pre .here)
 
 pub lower-four-spec : {M : Type 1} → statement M
 lower-four-spec =

@@ -23,7 +23,8 @@ abbrev μ-loop : tie.MeasureT-loop
 found-four-requires : tie.Need-found-four-requires Inv-loop μ-loop
 found-four-requires c κs =
     let p = c .before .before .before .pre in
-    (p .0 .arrays, p .0 .words, same-low 4 0 (omega arith), refl, p .0 .cell, p .1)
+    let g = p .0 in
+    record { arrays = g .arrays; words = g .words; low = same-low 4 0 (omega arith); long = refl; cell = g .cell; site = p .1 }
 
 loop-holds : tie.Need-loop-holds Inv-loop μ-loop
 loop-holds c = (omega arith, written-none _ _ (c .before .before .before .before .pre .0 .low))

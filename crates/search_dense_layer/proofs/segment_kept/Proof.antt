@@ -39,7 +39,12 @@ step-requires c κs =
     let at-loop = c .before .before .before in
     let g = at-loop .before .before .before .pre in
     let s = at-loop .loop .inv .1 in
-    (g .ground, s .low, omega arith, omega (arith, c .before .kept-at .ensures, g .long, g .last, s .frame .long))
+    record {
+      ground = g .ground;
+      low = s .low;
+      early = omega (arith, g .last);
+      room = omega (arith, c .before .kept-at .ensures, g .long, g .last, s .frame .long);
+    }
 
 add-j : tie.Need-add-j Inv-loop μ-loop
 add-j c = search needs

@@ -16,7 +16,7 @@ element-copy-out-lesser c = search needs
 lesser-requires : tie.Need-lesser-requires
 lesser-requires c κs =
     let k = c .before in
-    (omega (arith, k .pre .0 .farLow .word (k .args .t)), omega arith)
+    (omega (arith, k .pre .arrays .farLow .word (k .args .t)), omega (arith, k .pre .cost))
 
 mul-far : tie.Need-mul-far
 mul-far c = search needs
@@ -33,8 +33,16 @@ add-lower-four c = search needs
 lower-four-requires : tie.Need-lower-four-requires
 lower-four-requires c κs =
     let k = c .before .before .before in
-    let w = k .pre .2 in
-    (k .pre .5, k .pre .0 .nearLong, k .pre .0 .nearLow, k .pre .1, omega arith, w .long, λ v h. w .low (k .args .u * 9 + 1 + v) (omega arith) (omega arith))
+    let g = k .pre in
+    record {
+      long = g .arrays .nearLong;
+      low = g .arrays .nearLow;
+      here = g .here;
+      cost = g .cost;
+      paysLong = g .paid .long;
+      inside = omega (arith, g .kind);
+      paid = λ v h. g .paid .low (k .args .u * 9 + 1 + v) (omega (arith, g .kind)) (omega (arith, g .five));
+    }
 
 mul-lower-four-2 : tie.Need-mul-lower-four-2
 mul-lower-four-2 c = search needs
@@ -46,27 +54,35 @@ lower-four-requires-2 : tie.Need-lower-four-requires-2
 lower-four-requires-2 c κs =
     let mid = c .before .before .before .before in
     let k = mid .before .before in
-    let w = k .pre .2 in
-    (k .pre .5, k .pre .0 .apartLong, k .pre .0 .apartLow, k .pre .1, omega arith, w .long, λ v h. w .low (k .args .u * 9 + 5 + v) (omega arith) (omega arith))
+    let g = k .pre in
+    record {
+      long = g .arrays .apartLong;
+      low = g .arrays .apartLow;
+      here = g .here;
+      cost = g .cost;
+      paysLong = g .paid .long;
+      inside = omega (arith, g .kind);
+      paid = λ v h. g .paid .low (k .args .u * 9 + 5 + v) (omega (arith, g .kind)) (omega (arith, g .five));
+    }
 
 returns : tie.Need-returns
 returns c =
     let after-lower-four = c .before .before .before in
     let k = after-lower-four .before .before .before .before in
     let a = k .args in
-    let g = k .pre .0 in
-    let f = row-one (a .t) (a .x) (after-lower-four .before .before .lesser .result) (g .farLow) (g .farLong) (k .pre .5)
+    let g = k .pre .arrays in
+    let f = row-one (a .t) (a .x) (after-lower-four .before .before .lesser .result) (g .farLow) (g .farLong) (k .pre .here)
     (after-lower-four .before .before .lesser .ensures) in
-    spread-nine (a .t) (a .x) (a .u) (a .pays .now) (k .pre .3) (after-lower-four .lower-four .ensures) f (omega arith) (c .lower-four2 .ensures)
+    spread-nine (a .t) (a .x) (a .u) (a .pays .now) (k .pre .free) (after-lower-four .lower-four .ensures) f (omega arith) (c .lower-four2 .ensures)
 
 returns-2 : tie.Need-returns-2
 returns-2 c =
     let after-lesser = c .before .before .before in
     let k = after-lesser .before .before in
     let a = k .args in
-    let g = k .pre .0 in
-    let f = row-one (a .t) (a .x) (after-lesser .lesser .result) (g .farLow) (g .farLong) (k .pre .5) (after-lesser .lesser .ensures) in
-    spread-five (a .t) (a .x) (a .u) (a .pays .now) (k .pre .3) (c .before .lower-four .ensures) f (λ e. omega arith) (g .apartLow) refl
+    let g = k .pre .arrays in
+    let f = row-one (a .t) (a .x) (after-lesser .lesser .result) (g .farLow) (g .farLong) (k .pre .here) (after-lesser .lesser .ensures) in
+    spread-five (a .t) (a .x) (a .u) (a .pays .now) (k .pre .free) (c .before .lower-four .ensures) f (λ e. omega arith) (g .apartLow) refl
 
 pub spread-spec : {M : Type 1} → statement M
 spread-spec =

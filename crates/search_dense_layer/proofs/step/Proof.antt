@@ -20,14 +20,14 @@ loop-holds : tie.Need-loop-holds Inv-loop μ-loop
 loop-holds c =
     let k = c .before .before in
     let a = k .args in
-    (omega arith, stepped-none (deckIn (a .row .now) (a .sizes)) (a .sizes .reordering) (a .i) (a .from) (k .pre .1))
+    (omega arith, stepped-none (deckIn (a .row .now) (a .sizes)) (a .sizes .reordering) (a .i) (a .from) (k .pre .low))
 
 put-state-requires : tie.Need-put-state-requires Inv-loop μ-loop
 put-state-requires c κs =
     let at-loop = c .before .before .before in
     let k = at-loop .before .before .before in
     let s = at-loop .loop .inv .1 in
-    (record { ground = k .pre .0; low = s .low; early = k .pre .2; room = omega (arith, s .frame .long) }, omega arith)
+    (record { ground = k .pre .ground; low = s .low; early = k .pre .early; room = omega (arith, k .pre .room, s .frame .long) }, omega arith)
 
 add-q : tie.Need-add-q Inv-loop μ-loop
 add-q c = search needs
@@ -39,7 +39,7 @@ loop-again : tie.Need-loop-again Inv-loop μ-loop
 loop-again c =
     let after-put-state = c .before .before in
     let at-loop = after-put-state .before .before .before .before in
-    let g = at-loop .before .before .before .pre .0 in
+    let g = at-loop .before .before .before .pre .ground in
     let l = at-loop .loop in
     (omega arith, stepped-more (l .q) (l .inv .1) (after-put-state .put-state .ensures) (omega (arith, g .all, g .coded .few)) (g .coded .few) (g .few))
 

@@ -1,11 +1,11 @@
 -- The sources are gathered from arrays of NONE; once the far rows ran up, each pose finds there what it can be reached for.
 use Prim.Native.Nat.{ℕ, suc, _≤_, _<_}
-use mathlib.Core.Path.{_≡_, sym, ap, _∙_}
+use mathlib.Core.Path.{_≡_, sym}
 use native.Mathlib.Omega.{arith}
 use Rattle.theory_tables.specs.Steps.{B, lastAt}
 use Rattle.search_row.specs.Words.{deckIn}
 use Rattle.search_row.specs.Laws.{there-size}
-use Rattle.search_buckets.specs.Rows.{bucketsIn, byStates}
+use Rattle.search_buckets.specs.Rows.{byStates}
 use Rattle.search_buckets.specs.Sources.{states-low, states-twin}
 use Rattle.search_buckets.specs.Next.{next-found}
 use Rattle.search_dense_layer.specs.Thin.{thinIn, Arrays}
@@ -15,7 +15,7 @@ use borrow.Author.Needs.{needs}
 use Rattle.search_dense_layer.proofs.target_there.Statement.{statement}
 use Rattle.search_dense_layer.proofs.target_there.Tie as tie
 
--- the target's position, and how many buckets it needs
+-- the target's position
 here : (c : tie.After-last-at) →
     (let a = c .before .before .before .before .args in c .last-at .result ≡ lastAt (a .sizes .reordering) (suc (a .layer .cells)) (a .q))
 here c = omega (arith, c .last-at .ensures)
@@ -25,13 +25,6 @@ inside c =
     let k = c .before .before .before .before in
     let a = k .args in
     omega (arith, here c, there-size (a .sizes .cells) (a .sizes .reordering) (suc (a .layer .cells)) (a .q) (k .pre .1 .there), k .pre .0 .ground .size)
-
-buckets : (c : tie.After-buckets-of)
-    → (let mid = c .before .before .before .before in let a = mid .before .args in c .buckets-of .result ≡ bucketsIn (a .row .now)
-    (lastAt (a .sizes .reordering) (suc (a .layer .cells)) (a .q)))
-buckets c =
-    let mid = c .before .before .before .before in
-    c .buckets-of .ensures ∙ ap (bucketsIn (mid .before .args .row .now)) (here (c .before))
 
 -- the arrays once the far rows ran up
 arrays : (c : tie.After-run-up) → Arrays (c .before .before .gather .last .0) (c .before .before .gather .last .1 .0) (c .run-up .last .0)
@@ -50,14 +43,10 @@ add-last-at c = search needs
 last-at-requires : tie.Need-last-at-requires
 last-at-requires c κs = search needs
 
-buckets-of-requires : tie.Need-buckets-of-requires
-buckets-of-requires c κs = (c .before .before .before .before .pre .0 .ground .words, inside c)
-
 gather-requires : tie.Need-gather-requires
 gather-requires c κs =
     let mid = c .before .before .before .before in
-    let mid₂ = mid .before .before .before .before in
-    let k = mid₂ .before in
+    let k = mid .before .before .before .before in
     record { arrays = lent-none; given = k .pre .0; target = k .pre .1 }
 
 run-up-requires : tie.Need-run-up-requires
@@ -79,7 +68,7 @@ put-found-requires c κs =
     let mid₄ = c .before .before .before .before in
     let mid = mid₄ .before in
     let mid₂ = mid .before .before .before .before in
-    let mid₃ = mid₂ .before .before .before .before in
+    let mid₃ = mid₂ .before .before .before in
     let k = mid₃ .before .before .before .before in
     let g = k .pre .0 in (
       record {
@@ -100,35 +89,23 @@ returns c =
     let mid = c .before .before .before .before in
     let after-run-up = mid .before .before .before .before in
     let mid₂ = after-run-up .before .before .before .before in
-    let mid₃ = mid₂ .before .before .before .before in
+    let mid₃ = mid₂ .before .before .before in
     let k = mid₃ .before .before .before .before in
     let a = k .args in
     let g = k .pre .0 in
     let D = deckIn (a .row .now) (a .sizes) in
     let f = thinIn (a .store .now) (a .layer .at) in
     let m = here mid₃ in
-    let e = sym (buckets (mid₂ .before .before .before)) in
-    let found = found-there (buckets-low k) (rw e at (after-run-up .before .before .gather .ensures)) (after-run-up .run-up .ensures)
+    let found = found-there (buckets-low k) (after-run-up .before .before .gather .ensures) (after-run-up .run-up .ensures)
     (λ n v t i. states-twin (a .row .now) D (a .sizes .reordering) f (a .layer .cells) (a .q) (a .sizes .states) v t
-    (buckets-twin (a .row .now) (lastAt (a .sizes .reordering) (suc (a .layer .cells)) (a .q)) (λ z. n (sym e ∙ z))) i) in
+    (buckets-twin (a .row .now) (lastAt (a .sizes .reordering) (suc (a .layer .cells)) (a .q)) n) i) in
     put-words D (a .sizes .reordering) (a .layer .cells) (a .layer .at) (a .q) (c .before .before .put-found .ensures) (omega arith)
     (omega (arith, g .ground .few))
     (λ b l. next-found (a .row .now) (a .sizes .cells) (a .sizes .poses) (a .sizes .reordering) f (a .layer .cells) (a .q) b (k .pre .1 .there)
     (g .ground .all) m
-    (found b (omega (arith, g .ground .few))))
+    (rw (sym m) at (found b (omega (arith, g .ground .few)))))
 
 pub target-there-spec : {M : Type 1} → statement M
 target-there-spec =
     tie.close
-    (tie.spec
-    add-last-at
-    last-at-requires
-    buckets-of-requires
-    gather-requires
-    run-up-requires
-    add-to
-    mul-to
-    add-to-2
-    put-found-requires
-    same-length
-    returns)
+    (tie.spec add-last-at last-at-requires gather-requires run-up-requires add-to mul-to add-to-2 put-found-requires same-length returns)
