@@ -1,5 +1,5 @@
 -- The costs from a row's start: the layer that each state comes to a tall cell with, and what is left in the store.
-use Prim.Native.Nat.{ℕ, suc, _+_, _-_, _≤_, _<_}
+use Prim.Native.Nat.{ℕ, suc, _+_, _*_, _-_, _≤_, _<_}
 use mathlib.Core.Path.{_≡_}
 use mathlib.Core.Bool.{cond}
 use mathlib.Core.List.{List}
@@ -8,6 +8,8 @@ use lib.Dec.{leb}
 use Rattle.search_store.specs.Map.{keptFrom, layerBlock, pagesFrom}
 use Rattle.theory_tables.specs.Steps.{B, Deck, Layer, stateCount, offset, firstOpen, costTo, costEnd}
 use Rattle.search_lanes.specs.Store.{Frame, Low, layerIn}
+use Rattle.search_row.specs.declared.Sizes.{Sizes}
+use Rattle.search_row.specs.Words.{Ground}
 use Rattle.search_dense_layer.specs.Kept.{keptIn, KeptLayers}
 
 -- words that stand side by side, a word for each row
@@ -34,6 +36,18 @@ pub record OpenRoom (st : List ℕ) (R poses count costs : ℕ) : Type 0 where
   pub all : count ≡ stateCount R
   pub over : pagesFrom ≤ costs
   pub room : costs + layerBlock ≤ length st
+
+-- a row, and room for the costs to its tall cell at position `tall`
+pub record OpenToTall (row st : List ℕ) (z : Sizes) (tall costs : ℕ) : Type 0 where
+  pub ground : Ground row z
+  pub room : OpenRoom st (z .reordering) (z .poses) (z .states) costs
+  pub cell : tall < 64
+
+-- so many words from `from` on, and room for a row of each from `at` on, above them
+pub record SpreadRoom (st : List ℕ) (from at rows : ℕ) : Type 0 where
+  pub low : Low st
+  pub above : from + rows ≤ at
+  pub room : at + rows * 64 ≤ length st
 
 -- the layers from the row's start are kept up to layer `end`
 pub record OpenKept (D : Deck) (R end : ℕ) (old new : List ℕ) : Type 0 where

@@ -1,19 +1,19 @@
 // The costs from a row's start: its layers run dense, in the place of the kept layers.
 ghost use mathlib.Core.Path.{_≡_};
-ghost use Prim.Native.Nat.{_+_, _*_, _≤_, _<_};
-ghost use lib.ListN.{length};
+ghost use Prim.Native.Nat.{_+_, _*_, _<_};
 ghost use Rattle.search_buckets.specs.Ends.{leastPoses, leastState, leastStates};
-ghost use Rattle.search_store.specs.Map.{pagesFrom};
-ghost use Rattle.search_lanes.specs.Store.{Low, WrittenRows, FilledState, Filled};
-ghost use Rattle.search_row.specs.Words.{backIn, deckIn, StateWords, RowWords, Ground};
+ghost use Rattle.search_lanes.specs.Store.{WrittenRows, FilledState, Filled};
+ghost use Rattle.search_row.specs.Words.{backIn, deckIn, Ground};
+ghost use Rattle.search_dense_first.specs.Begun.{PosesGiven, LayerGiven};
 ghost use Rattle.search_dense_layer.specs.Thin.{thinIn};
+ghost use Rattle.search_dense_layer.specs.Kept.{Segment};
 ghost use Rattle.search_dense_segment.specs.Opened.{spreadFrom, comesIn, tallCost};
-ghost use Rattle.search_dense_segment.specs.Opened.{endCost, OpenRoom, OpenKept, Opened};
+ghost use Rattle.search_dense_segment.specs.Opened.{endCost, OpenRoom, OpenToTall, SpreadRoom, OpenKept, Opened};
 use search_row::Sizes;
 
 // The layers from the row's start up to layer `end`, each in its place.
 fn run_open(store: &mut [u32], row: &[u32], sizes: Sizes, end: usize)
-    requires { ⌜ Ground (now row) sizes × Low (now store) × (pagesFrom ≤ length (now store)) × (end ≤ 66) ⌝ }
+    requires { ⌜ Segment (now row) (now store) sizes 1 end ⌝ }
     ensures { λ _. ⌜ OpenKept (deckIn (now (row .entry)) sizes) (sizes .reordering) end (now (store .entry))
         (now (store .exit)) ⌝ }
 {
@@ -25,7 +25,7 @@ fn run_open(store: &mut [u32], row: &[u32], sizes: Sizes, end: usize)
 
 // Words that stand side by side, to lane 0 of so many rows of 64 words.
 fn spread(store: &mut [u32], from: usize, at: usize, rows: usize)
-    requires { ⌜ (at + rows * 64 ≤ length (now store)) × (from + rows ≤ at) × Low (now store) ⌝ }
+    requires { ⌜ SpreadRoom (now store) from at rows ⌝ }
     ensures { λ _. ⌜ WrittenRows (spreadFrom (now (store .entry)) from) at rows 1 (now (store .entry))
         (now (store .exit)) ⌝ }
 {
@@ -38,9 +38,7 @@ fn spread(store: &mut [u32], from: usize, at: usize, rows: usize)
 
 // The costs of state q: the words of the layer that it comes to the tall cell with; NONE if it comes with no layer.
 fn put_state(store: &mut [u32], row: &[u32], sizes: Sizes, tall: usize, costs: usize, q: usize)
-    requires { ⌜ StateWords (sizes .reordering) (now row)
-        × OpenRoom (now store) (sizes .reordering) (sizes .poses) (sizes .states) costs × (tall < 64)
-        × (q < sizes .states) ⌝ }
+    requires { ⌜ OpenToTall (now row) (now store) sizes tall costs × (q < sizes .states) ⌝ }
     ensures { λ _. ⌜ FilledState (comesIn (sizes .reordering) tall (now (store .entry))) 1 costs q (sizes .poses)
         (now (store .entry)) (now (store .exit)) ⌝ }
 {
@@ -62,8 +60,7 @@ fn put_state(store: &mut [u32], row: &[u32], sizes: Sizes, tall: usize, costs: u
 
 // The costs of every state.
 fn put_states(store: &mut [u32], row: &[u32], sizes: Sizes, tall: usize, costs: usize)
-    requires { ⌜ StateWords (sizes .reordering) (now row)
-        × OpenRoom (now store) (sizes .reordering) (sizes .poses) (sizes .states) costs × (tall < 64) ⌝ }
+    requires { ⌜ OpenToTall (now row) (now store) sizes tall costs ⌝ }
     ensures { λ _. ⌜ Filled (comesIn (sizes .reordering) tall (now (store .entry))) 1 (sizes .poses) costs
         (sizes .states) (now (store .entry)) (now (store .exit)) ⌝ }
 {
@@ -76,8 +73,7 @@ fn put_states(store: &mut [u32], row: &[u32], sizes: Sizes, tall: usize, costs: 
 
 // The costs from the row's start to the tall cell at position `tall`, in lane 0 of the block at `costs`.
 pub fn open_to(store: &mut [u32], row: &[u32], sizes: Sizes, tall: usize, costs: usize)
-    requires { ⌜ Ground (now row) sizes × OpenRoom (now store) (sizes .reordering) (sizes .poses) (sizes .states) costs
-        × (tall < 64) ⌝ }
+    requires { ⌜ OpenToTall (now row) (now store) sizes tall costs ⌝ }
     ensures { λ _. ⌜ Opened (tallCost (deckIn (now (row .entry)) sizes) (sizes .reordering) tall) (sizes .states)
         (sizes .poses) costs (now (store .entry)) (now (store .exit)) ⌝ }
 {
@@ -90,8 +86,7 @@ pub fn open_to(store: &mut [u32], row: &[u32], sizes: Sizes, tall: usize, costs:
 // The least of all poses of state q in the layer at `at`; its cell is at
 // position k, and each pose pays as the row's last.
 fn least_poses(store: &[u32], row: &[u32], at: usize, q: usize, k: usize, poses: usize) -> u32
-    requires { ⌜ RowWords (now row) × Low (now store) × (at + 768 ≤ length (now store)) × (q < 12) × (k < 64)
-        × (poses ≤ 60) ⌝ }
+    requires { ⌜ PosesGiven (now row) (now store) (at + q * 64) k poses ⌝ }
     ensures { λ x. ⌜ x ≡ leastPoses (backIn (now (row .entry)) k) (thinIn (now (store .entry)) at) q poses ⌝ }
 {
     let mut x = search_lanes::NONE;
@@ -105,7 +100,7 @@ fn least_poses(store: &[u32], row: &[u32], at: usize, q: usize, k: usize, poses:
 
 // The same, if its cell can be the last.
 fn least_state(store: &[u32], row: &[u32], sizes: Sizes, at: usize, q: usize) -> u32
-    requires { ⌜ Ground (now row) sizes × Low (now store) × (at + 768 ≤ length (now store)) × (q < sizes .states) ⌝ }
+    requires { ⌜ LayerGiven (now row) (now store) sizes at × (q < sizes .states) ⌝ }
     ensures { λ x. ⌜ x
         ≡ leastState (deckIn (now (row .entry)) sizes) (sizes .reordering) (thinIn (now (store .entry)) at) q ⌝ }
 {
@@ -121,7 +116,7 @@ fn least_state(store: &[u32], row: &[u32], sizes: Sizes, at: usize, q: usize) ->
 
 // The least of all states.
 fn least_states(store: &[u32], row: &[u32], sizes: Sizes, at: usize) -> u32
-    requires { ⌜ Ground (now row) sizes × Low (now store) × (at + 768 ≤ length (now store)) ⌝ }
+    requires { ⌜ LayerGiven (now row) (now store) sizes at ⌝ }
     ensures { λ x. ⌜ x ≡ leastStates (deckIn (now (row .entry)) sizes) (sizes .reordering)
         (thinIn (now (store .entry)) at) (sizes .states) ⌝ }
 {

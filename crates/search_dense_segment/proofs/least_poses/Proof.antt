@@ -45,7 +45,7 @@ add-least-3 c =
     let k = at-loop .before .before .before in
     let a = k .args in
     let b = at-loop .loop .a in
-    omega (arith, k .pre .1 .word (a .at + a .q * 64 + b), c .back .ensures, back-low (a .row .now) (a .k) b)
+    omega (arith, k .pre .low .word (a .at + a .q * 64 + b), c .back .ensures, back-low (a .row .now) (a .k) b)
 
 least-requires : tie.Need-least-requires Inv-loop μ-loop
 least-requires c κs = search needs

@@ -19,9 +19,13 @@ put-states-requires : tie.Need-put-states-requires
 put-states-requires c κs =
     let mid = c .before .before .before .before in
     let k = mid .before .before .before .before in
-    let g = k .pre .1 in
+    let g = k .pre .room in
     let f = c .before .before .before .run-open .ensures in
-    (k .pre .0 .coded, record { low = f .low; few = g .few; all = g .all; over = g .over; room = omega (arith, g .room, f .frame .long) }, k .pre .2)
+    record {
+      ground = k .pre .ground;
+      room = record { low = f .low; few = g .few; all = g .all; over = g .over; room = omega (arith, g .room, f .frame .long) };
+      cell = k .pre .cell;
+    }
 
 same-length : tie.Need-same-length
 same-length c = search needs
@@ -33,7 +37,7 @@ returns c =
     let mid = after-run-open .before .before .before .before in
     let k = mid .before in
     let a = k .args in
-    opened-to (deckIn (a .row .now) (a .sizes)) (a .sizes .reordering) (a .tall) (omega arith) (k .pre .1 .over) (k .pre .1 .all)
+    opened-to (deckIn (a .row .now) (a .sizes)) (a .sizes .reordering) (a .tall) (omega arith) (k .pre .room .over) (k .pre .room .all)
     (after-run-open .run-open .ensures) (after-put-states .put-states .ensures)
 
 pub open-to-spec : {M : Type 1} → statement M

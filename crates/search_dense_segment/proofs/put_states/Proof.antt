@@ -19,15 +19,21 @@ abbrev μ-loop : tie.MeasureT-loop
     (sizes .states) - q
 
 loop-holds : tie.Need-loop-holds Inv-loop μ-loop
-loop-holds c = (omega arith, filled-none _ _ _ _ (c .before .before .pre .1 .low))
+loop-holds c = (omega arith, filled-none _ _ _ _ (c .before .before .pre .room .low))
 
 put-state-requires : tie.Need-put-state-requires Inv-loop μ-loop
 put-state-requires c κs =
     let at-loop = c .before .before .before in
     let k = at-loop .before .before .before in
-    let g = k .pre .1 in
-    let f = at-loop .loop .inv .1 in
-    (k .pre .0, record { low = f .low; few = g .few; all = g .all; over = g .over; room = omega (arith, g .room, f .frame .long) }, k .pre .2, omega arith)
+    let g = k .pre .room in
+    let f = at-loop .loop .inv .1 in (
+      record {
+        ground = k .pre .ground;
+        room = record { low = f .low; few = g .few; all = g .all; over = g .over; room = omega (arith, g .room, f .frame .long) };
+        cell = k .pre .cell;
+      },
+      omega arith,
+    )
 
 add-q : tie.Need-add-q Inv-loop μ-loop
 add-q c = search needs
@@ -41,12 +47,13 @@ loop-again c =
     let at-loop = after-put-state .before .before .before .before in
     let k = at-loop .before .before .before in
     let a = k .args in
-    let g = k .pre .1 in
+    let g = k .pre .room in
+    let w = k .pre .ground .coded in
     let l = at-loop .loop in
-    let n : l .q < 12 = omega (arith, g .all, k .pre .0 .few) in (
+    let n : l .q < 12 = omega (arith, g .all, w .few) in (
       omega arith,
       filled-more (l .q) (omega arith) (omega (arith, g .few)) n (l .inv .1) (after-put-state .put-state .ensures)
-          (λ b j x y. comes-kept (a .sizes .reordering) (a .tall) (l .q) b j (a .store .now) (l .store) (omega (arith, k .pre .0 .reorder)) n
+          (λ b j x y. comes-kept (a .sizes .reordering) (a .tall) (l .q) b j (a .store .now) (l .store) (omega (arith, k .pre .cell, w .reorder)) n
           (omega (arith, g .few)) (λ i h. l .inv .1 .frame .low i (omega (arith, g .over)))),
     )
 

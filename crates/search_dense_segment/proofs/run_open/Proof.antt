@@ -17,7 +17,8 @@ segment-kept-requires c κs =
     let mid = c .before .before .before .before in
     let k = mid .before .before .before .before in
     let b = c .before .before .before .open .ensures in
-    record { ground = k .pre .0; low = b .low; long = omega (arith, k .pre .2, b .frame .long); some = omega arith; cells = omega arith; last = k .pre .3 }
+    let g = k .pre in
+    record { ground = g .ground; low = b .low; long = omega (arith, g .long, b .frame .long); some = g .some; cells = g .cells; last = g .last }
 
 same-length : tie.Need-same-length
 same-length c = search needs
@@ -29,7 +30,7 @@ returns c =
     let after-kept-at = after-open .before in
     let k = after-kept-at .before .before .before .before in
     let a = k .args in
-    open-kept (deckIn (a .row .now) (a .sizes)) (a .sizes .reordering) (after-kept-at .kept-at .ensures) (k .pre .0 .all)
+    open-kept (deckIn (a .row .now) (a .sizes)) (a .sizes .reordering) (after-kept-at .kept-at .ensures) (k .pre .ground .all)
     (after-open .open .ensures) (after-segment-kept .segment-kept .ensures)
 
 pub run-open-spec : {M : Type 1} → statement M

@@ -18,7 +18,7 @@ abbrev μ-loop : tie.MeasureT-loop
 μ-loop store₀ from at rows a₀ store a = rows - a
 
 loop-holds : tie.Need-loop-holds Inv-loop μ-loop
-loop-holds c = (omega arith, rows-none _ _ _ (c .pre .2))
+loop-holds c = (omega arith, rows-none _ _ _ (c .pre .low))
 
 add-store : tie.Need-add-store Inv-loop μ-loop
 add-store c = search needs

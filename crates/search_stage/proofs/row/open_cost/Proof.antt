@@ -15,7 +15,11 @@ open-to-requires c κs =
     let after-if1 = c .before .before in
     let k = after-if1 .before .before .before .before in
     let g = k .pre .0 in
-    (g .ground, k .pre .1, omega (arith, c .before .tall-at .ensures, g .inside 0 (after-if1 .if1 .taken), g .ground .size))
+    record {
+      ground = g .ground;
+      room = k .pre .1;
+      cell = omega (arith, c .before .tall-at .ensures, g .inside 0 (after-if1 .if1 .taken), g .ground .size);
+    }
 
 same-length : tie.Need-same-length
 same-length c = search needs
