@@ -187,4 +187,5 @@ module _ (j : Job) (row k : ℕ) where
     where
       -- the word of a height, u of whose kind come first
       height : (at u a : ℕ) → at ≡ words.leftP + u → u ≤ 12 → word (at + a % 4) ≡ heightWord j row k (u + a % 4)
-      height at u a e h = w (at + a % 4) (omega arith) ∙ height-at k (at + a % 4) (u + a % 4) (omega arith) (omega arith)
+      height at u a e h =
+          w (at + a % 4) (omega arith) ∙ height-at k (at + a % 4) (u + a % 4) (omega arith) (omega arith)

@@ -9,7 +9,8 @@ use Rattle.definition.specs.Rules.{cellAt}
 use Rattle.theory_bridge.specs.Paired.{isOffered, poseNumber, ownOf}
 use Rattle.theory_tables.specs.Steps.{B}
 use Rattle.job.specs.Parts.{widthIn, heightIn, firstOf}
-use Rattle.search_row.specs.Words.{givenWord, widthWord, tallWord, leftP, touchingWord, numberWord, apartWord, frontBarred}
+use Rattle.search_row.specs.Words.{givenWord, widthWord, tallWord, leftP}
+use Rattle.search_row.specs.Words.{touchingWord, numberWord, apartWord, frontBarred}
 
 -- a job of one cell: what is said of a cell of a job is said of it alone
 abbrev pub alone : Header → Cell → Job

@@ -1,5 +1,5 @@
--- Rule 8, tested cell by cell in the definitions, and stated of each row's first and last cell in the pair's theory: the
--- same. f gives the poses of P.
+-- Rule 8, tested cell by cell in the definitions, and stated of each row's first and last cell in the pair's theory:
+-- the same. f gives the poses of P.
 use Prim.Native.Nat.{ℕ, _+_, _-_, _<_}
 use mathlib.Core.Path.{_≡_, refl, sym, ap, _∙_, subst}
 use mathlib.Core.Logic.{_↔_}
