@@ -115,4 +115,16 @@ returns-2 c =
 pub after-state-spec : {M : Type 1} → statement M
 after-state-spec =
     tie.close
-    (tie.spec mul-at add-at add-starts starts-requires fill-requires same-length returns add-last-at last-at-requires after-poses-requires same-length-2 returns-2)
+    (tie.spec
+    mul-at
+    add-at
+    add-starts
+    starts-requires
+    fill-requires
+    same-length
+    returns
+    add-last-at
+    last-at-requires
+    after-poses-requires
+    same-length-2
+    returns-2)
