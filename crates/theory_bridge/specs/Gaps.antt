@@ -17,15 +17,13 @@ use Rattle.definition.specs.Rules.{poseAt, siteAt, layoutAt, endAt, gapBefore, 
 use Rattle.definition.specs.Gaps.{gapsFrom, isClosable, Fillable}
 use Rattle.definition_laws.specs.Sound.{Sound}
 use Rattle.lists.specs.Compare.{Eq?, differs, eq?}
-use Rattle.lists.specs.Numbers.{from}
 use Rattle.lists.specs.Neighbours.{Next, Chain}
 use Rattle.theory_row.specs.Order.{sort, Rising, sort-size, sort-in, sort-rising}
 use Rattle.theory_row.specs.Rules.{Clear, NoGapOne}
 use Rattle.theory_row.specs.Row.{all-pairs}
-use Rattle.theory_pair.specs.Pick.{pick-pairs}
-use Rattle.theory_pair.specs.Members.{from-rising, rising-distinct′}
 use Rattle.theory_pair.specs.Ends.{Ended, lastFrom}
-use Rattle.theory_pair.specs.Cells.{Side, inRow, members, site, width, rowOrder, LegalPair}
+use Rattle.theory_pair.specs.Lines.{members-distinct}
+use Rattle.theory_pair.specs.Cells.{Side, members, site, width, rowOrder, LegalPair}
 use Rattle.theory_bridge.specs.Paired.{rowOf, siteOf, widthOf, offersOf, opensOf, closesOf, pairJob}
 use Rattle.theory_bridge.specs.Tests.{and-true}
 use Rattle.theory_bridge.specs.Offers.{offered-allowed, wide-positive}
@@ -92,12 +90,10 @@ module _ (j : Job) (sound : Sound j) (P : Placement) (legal : Legal j P) (s : Si
   offered k m = pair .offered k (member j sound s k .0 m .0)
 
   rising : Rising S (sort S cells)
-  unfolding members
   rising =
       sort-rising S cells
       (all-pairs (λ a b. S a ≢ S b) cells
-      (rising-distinct′ cells (pick-pairs (λ k. inRow s (pairJob j .kind k)) (λ a b. a < b)
-      (from 0 (length (j .cells))) (from-rising 0 (length (j .cells)))))
+      (members-distinct (pairJob j) s)
       (λ a b m n d e. go a b m n e (pair .rows s .rule4 a b m n d)))
     where
       go : (a b : ℕ) → In a cells → In b cells → S a ≡ S b → Clear S W a b ⊎ Clear S W b a → ⊥

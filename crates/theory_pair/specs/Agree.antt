@@ -15,7 +15,8 @@ use Rattle.theory_pair.specs.Whole.{siteIn, rowTotal, Placed, Wide, plac
 use Rattle.theory_pair.specs.Whole.{placed-cost, placed-rising, goes-placed, goes-along, talls}
 use Rattle.theory_pair.specs.Whole.{tallOf, talls-along, posts, picks, poses, poses-size, along-posts}
 use Rattle.theory_pair.specs.Whole.{posts-in, in-posts, posts-pairs, pairs-posts, picks-along}
-use Rattle.theory_pair.specs.Pair.{Talls, Upto, Stages, ending, opening, stages-joined, stages-go}
+use Rattle.theory_pair.specs.Cut.{Upto}
+use Rattle.theory_pair.specs.Pair.{Talls, Stages, ending, opening, stages-joined, stages-go}
 
 -- ---- one row
 

@@ -11,7 +11,8 @@ use native.Mathlib.Decide.{decLe, ℕ-discrete}
 use lib.ListN.{length, length-append}
 use Rattle.lists.specs.Numbers.{from, from-in}
 use Rattle.theory_row.specs.Cheapest.{_⊑_}
-use Rattle.theory_row.specs.Window.{start, step, May, may?, Good, good-step}
+use Rattle.theory_row.specs.Window.{start, step, May, Good, good-step}
+use Rattle.theory_row.specs.Arranged.{may?}
 use Rattle.theory_pair.specs.Pick.{goodMarks, in-goodMarks}
 use Rattle.theory_pair.specs.Forward.{each, in-each, each-in, costIf, cost-below}
 use Rattle.theory_pair.specs.Forward.{cost-met, Trail, layer, layer-below, layer-met}

@@ -13,7 +13,7 @@ use Rattle.theory_row.specs.Choices.{cells, along}
 use Rattle.theory_pair.specs.Segment.{Line, Choice, State, Goes, Move, move}
 use Rattle.theory_pair.specs.Segment.{move-met, next, last, cost, after, Listed}
 use Rattle.theory_pair.specs.Whole.{picks}
-use Rattle.theory_pair.specs.Pair.{Upto}
+use Rattle.theory_pair.specs.Cut.{Upto}
 use Rattle.theory_pair.specs.Cells.{row₀, row₁, Job, line, pos, tallCount, cell, LegalPair, total, traced}
 
 -- ---- the placement has the path's poses

@@ -12,7 +12,8 @@ use Rattle.lists.specs.Numbers.{from}
 use Rattle.theory_row.specs.Order.{sort, put, place}
 use Rattle.theory_row.specs.Cheapest.{lower}
 use Rattle.theory_row.specs.Marks.{bit}
-use Rattle.theory_row.specs.Window.{start, step, may?}
+use Rattle.theory_row.specs.Window.{start, step}
+use Rattle.theory_row.specs.Arranged.{may?}
 use Rattle.theory_pair.specs.Forward.{each, add, costIf, leastOf, layer}
 use Rattle.theory_pair.specs.Pick.{pick, goodMarks}
 use Rattle.theory_pair.specs.Segment.{both?, not?, fitsTo?, endsWith?, into?, move, ifSingle, singles, least}

@@ -11,7 +11,8 @@ use Rattle.lists.specs.Numbers.{from}
 use Rattle.lists.specs.Neighbours.{Chain, Next, Pairs}
 use Rattle.theory_row.specs.Order.{order, order-below, order-size, Rising}
 use Rattle.theory_row.specs.Rules.{sum, sumNext, sumNeighbours}
-use Rattle.theory_row.specs.Window.{start, step, Run, Arranged, run-arranged}
+use Rattle.theory_row.specs.Window.{start, step, Run}
+use Rattle.theory_row.specs.Arranged.{Arranged, run-arranged}
 use Rattle.theory_row.specs.Row.{Fits, Legal, legal-run, run-legal, run-order, order-sum, order-rising, rule4-sites}
 use Rattle.theory_row.specs.Choices.{cells, chosen, along, along-chosen}
 use Rattle.theory_row.specs.Choices.{along-same, cells-size}

@@ -11,9 +11,12 @@ use lib.Count.{ones}
 use lib.Dec.{leb, eqb}
 use Rattle.lists.specs.Compare.{Le?, low, high, le?, Eq?, same, differs, eq?}
 use Rattle.theory_row.specs.Marks.{bit, bit-lt}
-use Rattle.theory_row.specs.Window.{start, step, Run, walk, Partial, partial-run}
-use Rattle.theory_row.specs.Window.{seen, seen-at, seen-keep, seen-set, start-pad}
-use Rattle.theory_row.specs.Window.{good-start, window-here, window-count, window-small}
+use Rattle.theory_row.specs.Window.{start, step, Run, walk}
+use Rattle.theory_row.specs.Arranged.{Partial, partial-run}
+use Rattle.theory_row.specs.Window.{seen, seen-at, seen-keep, seen-set}
+use Rattle.theory_row.specs.Arranged.{start-pad}
+use Rattle.theory_row.specs.Window.{good-start}
+use Rattle.theory_row.specs.Arranged.{window-here, window-count, window-small}
 
 -- 1 if k is among the entries of h, else 0
 unfoldable pub has : ℕ → List ℕ → ℕ

@@ -15,7 +15,8 @@ use Rattle.lists.specs.Neighbours.{Pairs, Chain, Next}
 use Rattle.theory_row.specs.Order.{put, sort, order, Rising, order-below, order-all, order-size}
 use Rattle.theory_row.specs.Order.{sort-rising, rising-same, rising-distinct, near-place, place-near}
 use Rattle.theory_row.specs.Rules.{Clear, Rule4, Rule5, Rule6, NoGapOne, sum}
-use Rattle.theory_row.specs.Window.{start, Run, Arranged, arranged-run, run-arranged}
+use Rattle.theory_row.specs.Window.{start, Run}
+use Rattle.theory_row.specs.Arranged.{Arranged, arranged-run, run-arranged}
 
 -- ---- pairs and neighbours
 

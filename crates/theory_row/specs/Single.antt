@@ -13,7 +13,8 @@ use Rattle.lists.specs.Numbers.{from, from-in}
 use Rattle.lists.specs.Neighbours.{Chain, Next}
 use Rattle.theory_row.specs.Order.{order, order-below, order-size}
 use Rattle.theory_row.specs.Rules.{sum, sumNext, sumNeighbours}
-use Rattle.theory_row.specs.Window.{start, step, May, Run, may?, Arranged, run-arranged}
+use Rattle.theory_row.specs.Window.{start, step, May, Run}
+use Rattle.theory_row.specs.Arranged.{may?, Arranged, run-arranged}
 use Rattle.theory_row.specs.Row.{Fits, Legal, legal-run, run-legal, run-order, order-sum}
 use Rattle.theory_row.specs.Choices.{cells, chosen, along, along-chosen, along-size, cells-size}
 use Rattle.theory_row.specs.Cheapest.{_⊑_, Path′, cost, best, best-below, best-met}

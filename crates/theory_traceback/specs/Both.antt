@@ -7,7 +7,7 @@ use native.Mathlib.Omega.{arith}
 use native.Mathlib.Decide.{ℕ-discrete}
 use lib.ListN.{length, length-append}
 use Rattle.theory_pair.specs.Whole.{picks}
-use Rattle.theory_pair.specs.Pair.{picks-snoc}
+use Rattle.theory_pair.specs.Cut.{picks-snoc}
 use Rattle.theory_tables.specs.Steps.{B}
 use Rattle.theory_tables.specs.Stages.{placedWith, openCost, stageCost, caseTable}
 use Rattle.theory_tables.specs.Back.{Traced}

@@ -12,7 +12,8 @@ use borrow.Author.Tests.{lt-ltb}
 use Rattle.lists.specs.Compare.{Le?, low, high, le?}
 use Rattle.theory_row.specs.Window.{Good, good-start}
 use Rattle.theory_pair.specs.Segment.{Line, Choice, State, first, last, after, after-size}
-use Rattle.theory_pair.specs.Pair.{Talls, Upto, upto-begin, upto-on}
+use Rattle.theory_pair.specs.Cut.{Upto, upto-begin, upto-on}
+use Rattle.theory_pair.specs.Pair.{Talls}
 use Rattle.theory_tables.specs.Steps.{B, Deck, stateCount, offset, marks, lastAt, Layer}
 use Rattle.theory_tables.specs.Steps.{layers, firstAfter, firstOpen, costTo, costEnd}
 use Rattle.theory_tables.specs.Stages.{placedWith, stageEnd, openCost, stageCost}

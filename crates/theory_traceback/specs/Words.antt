@@ -7,7 +7,8 @@ use Prim.Native.Nat.{ℕ, _/_, _%_, _≤_, _<_}
 use native.Mathlib.Omega.{arith}
 use native.Mathlib.Decide.{decLt}
 use lib.ListN.{length}
-use Rattle.theory_row.specs.Window.{Run, Arranged, run-arranged}
+use Rattle.theory_row.specs.Window.{Run}
+use Rattle.theory_row.specs.Arranged.{Arranged, run-arranged}
 use Rattle.theory_row.specs.Choices.{cells, cells-size}
 use Rattle.theory_pair.specs.Segment.{Line, Choice, State, Goes, next, first}
 use Rattle.theory_pair.specs.Trace.{Obeys}
