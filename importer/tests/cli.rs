@@ -1,5 +1,12 @@
 //! `refine` as a program: what it prints, where, and its exit status.
 
+#[path = "cli/surroundings.rs"]
+mod surroundings;
+#[path = "cli/version.rs"]
+mod version;
+#[path = "cli/words.rs"]
+mod words;
+
 use std::fs;
 use std::io::Write;
 use std::process::{Command, Output, Stdio};
@@ -118,51 +125,6 @@ fn input_that_is_no_text_is_a_refusal() {
     let bytes: Vec<u8> = (0..=255).cycle().take(100_000).collect();
     let (output, _, status) = told(&refine(&[], &bytes));
     assert_eq!((&*output, status), ("refused,1,1\n", Some(1)));
-}
-
-#[test]
-fn help_is_an_answer() {
-    let (usage, notes, status) = told(&refine(&["help"], b""));
-    assert_eq!((&*notes, status), ("", Some(0)));
-    for command in [
-        "refine < JOB",
-        "refine score JOBFILE PLACEMENTFILE",
-        "refine help",
-    ] {
-        assert!(usage.contains(&format!("\n  {command}\n")), "{usage}");
-    }
-    for word in ["--help", "-h"] {
-        let said = told(&refine(&[word], b""));
-        assert_eq!(said, (usage.clone(), String::new(), Some(0)));
-    }
-}
-
-/// Checks that the arguments are a usage error: the mistake, then the usage, on standard error.
-fn check_usage_error(arguments: &[&str], mistake: &str) {
-    let (usage, ..) = told(&refine(&["help"], b""));
-    let said = told(&refine(arguments, WORKED.as_bytes()));
-    let expected = format!("refine: {mistake}\n{usage}");
-    assert_eq!(said, (String::new(), expected, Some(2)));
-}
-
-#[test]
-fn an_unknown_word_is_a_usage_error() {
-    check_usage_error(&["polish"], "there is no command \"polish\"");
-    check_usage_error(&["polish", "help"], "there is no command \"polish\"");
-    check_usage_error(&[""], "there is no command \"\"");
-}
-
-#[test]
-fn another_number_of_arguments_is_a_usage_error() {
-    let score = "the command is `refine score JOBFILE PLACEMENTFILE`";
-    let job = &*file("count.job", WORKED);
-    for arguments in [&["score"][..], &["score", job], &["score", job, job, job]] {
-        let count = arguments.len() - 1;
-        let mistake = format!("wrong number of arguments: {count}; {score}");
-        check_usage_error(arguments, &mistake);
-    }
-    let help = "wrong number of arguments: 1; the command is `refine help`";
-    check_usage_error(&["--help", "score"], help);
 }
 
 /// A file for one test, in the folder that cargo keeps for tests.
@@ -290,16 +252,4 @@ fn arguments_that_are_no_text_are_errors_without_a_panic() {
         let output = refine.args(arguments).output().expect("refine ends");
         assert_eq!(output.status.code(), Some(2));
     }
-}
-
-#[cfg(unix)]
-#[test]
-fn a_reader_that_has_gone_away_is_no_panic() {
-    let job = file("pipe.job", WORKED);
-    let refine = env!("CARGO_BIN_EXE_refine");
-    let script = format!("'{refine}' < '{job}' | true; exit ${{PIPESTATUS[0]}}");
-    let output = Command::new("bash").args(["-c", &script]).output();
-    let output = output.expect("bash runs");
-    assert!(output.stderr.is_empty());
-    assert!(matches!(output.status.code(), Some(0 | 2)));
 }

@@ -137,13 +137,15 @@ fn a_broken_rule_is_told_in_the_words_of_its_entry() {
     assert_eq!(broken.meaning(), "a rule that this program does not know");
 }
 
-/// The usage text as rows: how a command is typed, and below it what it prints.
-fn usage_rows() -> Vec<Row> {
+/// A part of the usage text as rows: how a command or an option is typed, and below it what it
+/// prints or does.
+fn usage_rows(part: &str) -> Vec<Row> {
     let refine = Command::new(env!("CARGO_BIN_EXE_refine"))
         .arg("help")
         .output();
     let usage = String::from_utf8(refine.expect("refine ends").stdout).expect("usage is a text");
-    let lines: Vec<&str> = usage.lines().filter(|line| line.starts_with(' ')).collect();
+    let lines = usage.lines().skip_while(|line| *line != part).skip(1);
+    let lines: Vec<&str> = lines.take_while(|line| line.starts_with(' ')).collect();
     lines
         .chunks(2)
         .map(|entry| vec![format!("`{}`", words(entry[0])), words(entry[1])])
@@ -152,7 +154,14 @@ fn usage_rows() -> Vec<Row> {
 
 #[test]
 fn readme_shows_each_command() {
-    check_rows("README", &readme_rows("### Commands"), &usage_rows());
+    let table = usage_rows("usage:");
+    check_rows("README", &readme_rows("### Commands"), &table);
+}
+
+#[test]
+fn readme_shows_each_option() {
+    let table = usage_rows("options:");
+    check_rows("README", &readme_rows("### Options"), &table);
 }
 
 /// The C functions that a text declares.

@@ -84,7 +84,7 @@ fn what_is_installed_is_enough_to_build_the_example() {
     for (placed, source) in placed.iter().zip(sources) {
         assert_eq!(fs::read(placed).ok(), fs::read(source).ok());
     }
-    assert!(said(Command::new(&placed[0]).arg("help")).contains("refine < JOB"));
+    assert!(said(Command::new(&placed[0]).arg("help")).contains("refine score "));
 
     check_flags(&folder.join("place"), &flags(&prefix));
     if is_there(Command::new("pkg-config").arg("--version")) {

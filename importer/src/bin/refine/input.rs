@@ -1,23 +1,65 @@
 //! Texts from standard input and from files: bytes as they are, with a limit on their length.
 
 use crate::mistake::Mistake;
+use crate::streams;
 use std::ffi::OsStr;
-use std::fmt::Display;
 use std::fs::File;
-use std::io::{self, Read};
-use std::path::Path;
+use std::io::{self, IsTerminal, Read, Write};
 
 /// The longest text that is taken in. The longest job that is accepted has under 8 KiB.
 const LONGEST: u64 = 256 << 20;
 
-/// What messages about a line of standard input call it.
-pub const STANDARD_INPUT: &str = "<stdin>";
+/// What stands for standard input where a file's name is asked.
+pub const DASH: &str = "-";
 
-/// What messages about a line of a file call it: its path, in which no character moves the cursor.
-pub fn name(path: &OsStr) -> String {
-    let path = path.to_string_lossy();
+/// A text with what messages about its lines call it.
+pub struct Text {
+    pub name: String,
+    pub bytes: Vec<u8>,
+}
+
+impl Text {
+    /// The text of a file, or of standard input if the word is `-`. `what` the text is to be stands
+    /// in the hint to a terminal.
+    pub fn of(word: &OsStr, what: &str) -> Result<Text, Mistake> {
+        if word == DASH {
+            return Text::of_standard_input(what);
+        }
+        let name = printable(word);
+        match File::open(word) {
+            Ok(file) => Ok(Text {
+                bytes: whole(file, &name)?,
+                name,
+            }),
+            Err(error) if error.kind() == io::ErrorKind::NotFound => Err(Mistake::Absent(name)),
+            Err(error) => Err(cannot("open", &name, &error)),
+        }
+    }
+
+    pub fn of_standard_input(what: &str) -> Result<Text, Mistake> {
+        const NAME: &str = "standard input";
+        let input = streams::input().map_err(|error| cannot("read", NAME, &error))?;
+        if input.is_terminal() {
+            hint(what);
+        }
+        Ok(Text {
+            name: "<stdin>".into(),
+            bytes: whole(input, NAME)?,
+        })
+    }
+}
+
+/// Says what is waited for to somebody who only typed a command.
+fn hint(what: &str) {
+    let ends = "end it with Ctrl-D, or see `refine --help`";
+    // Where it cannot be said, the text is waited for all the same.
+    let _ = writeln!(io::stderr(), "refine: type {what} line by line; {ends}");
+}
+
+/// A path in which no character moves the cursor.
+fn printable(path: &OsStr) -> String {
     let mut name = String::new();
-    for letter in path.chars() {
+    for letter in path.to_string_lossy().chars() {
         if letter.is_control() {
             name.extend(letter.escape_default());
         } else {
@@ -27,25 +69,17 @@ pub fn name(path: &OsStr) -> String {
     name
 }
 
-pub fn standard_input() -> Result<Vec<u8>, Mistake> {
-    whole(io::stdin().lock(), "standard input")
-}
-
-pub fn file(path: &OsStr) -> Result<Vec<u8>, Mistake> {
-    let name = Path::new(path).display();
-    match File::open(path) {
-        Ok(file) => whole(file, name),
-        Err(error) => Err(Mistake::Input(format!("cannot open {name}: {error}"))),
-    }
-}
-
-fn whole(source: impl Read, name: impl Display) -> Result<Vec<u8>, Mistake> {
+fn whole(source: File, name: &str) -> Result<Vec<u8>, Mistake> {
     let mut text = Vec::new();
     match source.take(LONGEST + 1).read_to_end(&mut text) {
-        Err(error) => Err(Mistake::Input(format!("cannot read {name}: {error}"))),
+        Err(error) => Err(cannot("read", name, &error)),
         Ok(_) if text.len() as u64 > LONGEST => Err(Mistake::Input(format!(
             "{name} is longer than {LONGEST} bytes"
         ))),
         Ok(_) => Ok(text),
     }
+}
+
+fn cannot(act: &str, name: &str, error: &io::Error) -> Mistake {
+    Mistake::Input(format!("cannot {act} {name}: {error}"))
 }

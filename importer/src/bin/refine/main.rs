@@ -1,14 +1,18 @@
-//! `refine`: reads a job on standard input and prints the numbers of a cheapest legal placement
-//! and the placement, or `refused,number,line`.
+//! `refine`: reads a job and prints the numbers of a cheapest legal placement and the placement, or
+//! `refused,number,line`.
 //!
-//! A word behind it names another command: [`commands`] has them all, with the usage text.
+//! A word behind it names another command, or the job's file: [`commands`] has the commands, with the
+//! usage text.
 //!
 //! Exit status: 0 an answer, 1 a refusal, 2 a usage or input error.
 
 mod commands;
 mod input;
+mod memory;
 mod mistake;
 mod report;
+mod streams;
+mod words;
 
 use std::env;
 use std::ffi::OsString;

@@ -1,5 +1,6 @@
 //! What a run prints and its exit status.
 
+use crate::streams;
 use importer::explain::printable;
 use importer::{Numbers, Refused};
 use std::io::{self, Write};
@@ -68,21 +69,37 @@ impl Report {
         self
     }
 
+    /// The report with the exit status of a refusal.
+    pub fn failing(mut self) -> Report {
+        self.status = REFUSAL;
+        self
+    }
+
     /// Prints the report. A reader that has gone away is an error without a word.
     pub fn write(self) -> ExitCode {
-        let mut output = io::stdout().lock();
-        let written = output.write_all(&self.output).and_then(|()| output.flush());
+        let written = print(&self.output);
         // Nothing can be told to a reader of standard error that has gone away.
         let _ = io::stderr().write_all(&self.notes);
         match written {
             Ok(()) => ExitCode::from(self.status),
             Err(error) => {
                 if error.kind() != io::ErrorKind::BrokenPipe {
-                    let _ = writeln!(io::stderr(), "refine: cannot print: {error}");
+                    let _ = writeln!(
+                        io::stderr(),
+                        "refine: cannot write standard output: {error}"
+                    );
                 }
                 ExitCode::from(ERROR)
             }
         }
+    }
+}
+
+/// Writes to standard output, where there is something to write.
+fn print(output: &[u8]) -> io::Result<()> {
+    match output {
+        [] => Ok(()),
+        _ => streams::output()?.write_all(output),
     }
 }
 

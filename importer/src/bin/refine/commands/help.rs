@@ -1,12 +1,16 @@
-//! `refine help`: the usage text.
+//! `refine help`: the usage text, of all commands or of one.
 
 use crate::mistake::Mistake;
 use crate::report::Report;
 use std::ffi::OsString;
 
-pub fn run(arguments: &[OsString]) -> Result<Report, Mistake> {
-    match arguments {
-        [] => Ok(Report::answer(super::usage())),
-        _ => Err(Mistake::count(arguments)),
+pub fn run(words: &[OsString]) -> Result<Report, Mistake> {
+    match words {
+        [] => Ok(Report::answer(super::usage(super::COMMANDS))),
+        [word] => match super::named(word) {
+            Some(command) => Ok(super::help_of(command)),
+            None => Err(Mistake::unknown(word)),
+        },
+        _ => Err(Mistake::count(words)),
     }
 }

@@ -4,10 +4,15 @@
 mod help;
 mod place;
 mod score;
+mod version;
 
+use crate::memory::zeros;
 use crate::mistake::Mistake;
 use crate::report::Report;
-use std::ffi::OsString;
+use crate::words::{ask, Switch};
+use importer::calls;
+use std::ffi::{OsStr, OsString};
+use std::slice;
 
 struct Command {
     /// The words that name it, the usual one first; none for `refine` alone.
@@ -16,48 +21,61 @@ struct Command {
     arguments: &'static str,
     /// What it prints for an answer.
     prints: &'static str,
-    /// Runs it on the arguments behind the word.
+    /// The options that it has besides [`HELP`].
+    options: &'static [Switch],
+    /// Runs it on the words behind its name.
     run: fn(&[OsString]) -> Result<Report, Mistake>,
 }
 
+/// `refine` alone.
+const PLACE: Command = Command {
+    words: &[],
+    arguments: "[-p] [JOB]",
+    prints: "`cost,steps,sites shifted,mirrored,changed,drift`, then a cheapest legal placement",
+    options: place::OPTIONS,
+    run: place::run,
+};
+
 const COMMANDS: &[Command] = &[
-    Command {
-        words: &[],
-        arguments: "< JOB",
-        prints:
-            "`cost,steps,sites shifted,mirrored,changed,drift`, then a cheapest legal placement",
-        run: place::run,
-    },
+    PLACE,
     Command {
         words: &["score"],
-        arguments: "JOBFILE PLACEMENTFILE",
+        arguments: "[--check] JOB PLACEMENT",
         prints: "`legal,cost,steps,sites shifted,mirrored,changed,drift`, or `broken,rule,cell`",
+        options: score::OPTIONS,
         run: score::run,
     },
     Command {
         words: &["help", "--help", "-h"],
-        arguments: "",
+        arguments: "[COMMAND]",
         prints: "the commands, each with what it prints",
+        options: &[],
         run: help::run,
+    },
+    Command {
+        words: &["--version", "-V"],
+        arguments: "",
+        prints: "the version, the kit that proved the archive, and the archive's SHA-256",
+        options: &[],
+        run: version::run,
     },
 ];
 
+/// An option of every command.
+const HELP: Switch = Switch {
+    words: &["-h", "--help"],
+    does: "print how the command is typed and what it prints",
+};
+
 /// What holds for every command.
 const ENDING: &str = "\
+JOB and PLACEMENT are files; `-`, and no JOB at all, is standard input.
 A refusal prints `refused,number,line`; the line itself, if one is at fault, and the reason go to
 standard error.
 Exit status: 0 an answer, 1 a refusal, 2 a usage or input error.
 ";
 
 impl Command {
-    /// Whether the first argument, if there is one, names this command.
-    fn is_named(&self, word: Option<&OsString>) -> bool {
-        match word {
-            Some(word) => self.words.iter().any(|known| word == known),
-            None => self.words.is_empty(),
-        }
-    }
-
     /// How it is typed.
     fn line(&self) -> String {
         let mut line = vec!["refine"];
@@ -69,30 +87,62 @@ impl Command {
     }
 }
 
-/// Runs the command that the first argument names on those behind it.
-pub fn run(arguments: &[OsString]) -> Report {
-    let word = arguments.first();
-    let rest = arguments.get(1..).unwrap_or_default();
-    let Some(command) = COMMANDS.iter().find(|command| command.is_named(word)) else {
-        let word = word.cloned().unwrap_or_default();
-        return usage_error(&format!("there is no command {word:?}"));
-    };
+/// The command that a word names.
+fn named(word: &OsStr) -> Option<&'static Command> {
+    let names = |command: &&Command| command.words.iter().any(|known| word == *known);
+    COMMANDS.iter().find(names)
+}
+
+/// Runs the command that the first word names on those behind it, or `refine` alone on all.
+pub fn run(words: &[OsString]) -> Report {
+    let first = words.split_first();
+    let named = first.and_then(|(word, rest)| Some((named(word)?, rest)));
+    let (command, rest) = named.unwrap_or((&PLACE, words));
+    if ask(rest, &HELP) {
+        return help_of(command);
+    }
     match (command.run)(rest) {
         Ok(report) => report,
         Err(Mistake::Usage(reason)) => {
-            usage_error(&format!("{reason}; the command is `{}`", command.line()))
+            let line = command.line();
+            usage_error(&format!("{reason}; the command is `{line}`"))
         }
-        Err(Mistake::Input(reason)) => Report::error(&reason),
+        Err(Mistake::Unknown(word)) => usage_error(&format!("there is no command {word}")),
+        Err(Mistake::Absent(name)) => {
+            Report::error(&format!("cannot open {name}: there is no such file"))
+        }
+        Err(Mistake::Input(reason) | Mistake::Memory(reason)) => Report::error(&reason),
     }
 }
 
 fn usage_error(mistake: &str) -> Report {
-    Report::error(&format!("{mistake}\n{}", usage()))
+    Report::error(&format!("{mistake}\n{}", usage(COMMANDS)))
 }
 
-/// The table as a text: how each command is typed, and what it prints.
-fn usage() -> String {
-    let entry = |command: &Command| format!("  {}\n      {}\n", command.line(), command.prints);
-    let entries: String = COMMANDS.iter().map(entry).collect();
-    format!("usage:\n{entries}{ENDING}")
+/// The usage text of one command.
+fn help_of(command: &Command) -> Report {
+    Report::answer(usage(slice::from_ref(command)))
+}
+
+/// Commands as a text: how each is typed and what it prints, then what each option does.
+fn usage(commands: &[Command]) -> String {
+    let entry = |typed: &str, says: &str| format!("  {typed}\n      {says}\n");
+    let command = |command: &Command| entry(&command.line(), command.prints);
+    let option = |switch: &Switch| entry(&switch.words.join(", "), switch.does);
+    let lines: String = commands.iter().map(command).collect();
+    let options = commands.iter().flat_map(|command| command.options);
+    let options: String = options.chain([&HELP]).map(option).collect();
+    format!("usage:\n{lines}options:\n{options}{ENDING}")
+}
+
+/// The line that Score reports of two texts, as the refiner copies it; an empty output is lent
+/// first, for the line's length. Nothing if there is no memory for it.
+fn fault_line(job: &[u8], placement: &[u8]) -> Vec<u8> {
+    let mut part = [0; 3];
+    calls::fault_line(job, placement, &mut [], &mut part);
+    let [_, _, length] = part;
+    let length = usize::try_from(length).unwrap_or_default();
+    let mut line = zeros(length, "the line").unwrap_or_default();
+    calls::fault_line(job, placement, &mut line, &mut part);
+    line
 }

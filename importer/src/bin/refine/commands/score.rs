@@ -1,37 +1,43 @@
-//! `refine score`: scores a placement by a job, both in files.
+//! `refine score`: scores a placement by a job.
 
-use crate::input;
+use crate::input::{Text, DASH};
 use crate::mistake::Mistake;
 use crate::report::{line_of, Report};
-use importer::{copied_fault_line, explain, score, Broken, Refused, Verdict};
+use crate::words::{Switch, Words};
+use importer::{explain, score, Broken, Refused, Verdict};
 use std::ffi::OsString;
 
 /// The only refusal of which the line is the placement's.
 const PLACEMENT_REFUSED: u32 = 5;
 
-/// A text with what messages call it.
-struct Text {
-    name: String,
-    bytes: Vec<u8>,
-}
+const CHECK: Switch = Switch {
+    words: &["--check"],
+    does: "exit with status 1 for a placement that breaks a rule, too",
+};
 
-pub fn run(arguments: &[OsString]) -> Result<Report, Mistake> {
-    let [job, placement] = arguments else {
-        return Err(Mistake::count(arguments));
+pub const OPTIONS: &[Switch] = &[CHECK];
+
+pub fn run(words: &[OsString]) -> Result<Report, Mistake> {
+    let words = Words::of(words, OPTIONS)?;
+    let [job, placement] = words.arguments[..] else {
+        return Err(Mistake::count(&words.arguments));
     };
-    let (job, placement) = (text(job)?, text(placement)?);
-    Ok(match score(&job.bytes, &placement.bytes) {
-        Ok(Verdict::Legal(numbers)) => Report::answer(format!("legal,{}\n", line_of(&numbers))),
-        Ok(Verdict::Broken(broken)) => answer_of(&broken, &job, &placement),
-        Err(refused) => refusal_of(refused, &job, &placement),
-    })
-}
-
-fn text(path: &OsString) -> Result<Text, Mistake> {
-    Ok(Text {
-        name: input::name(path),
-        bytes: input::file(path)?,
-    })
+    if job == DASH && placement == DASH {
+        let twice = "job and placement cannot both be standard input";
+        return Err(Mistake::Usage(twice.into()));
+    }
+    let (job, placement) = (Text::of(job, "a job")?, Text::of(placement, "a placement")?);
+    match score(&job.bytes, &placement.bytes) {
+        Ok(Verdict::Legal(numbers)) => Ok(Report::answer(format!("legal,{}\n", line_of(&numbers)))),
+        Ok(Verdict::Broken(broken)) => {
+            let report = answer_of(&broken, &job, &placement);
+            Ok(match words.has(&CHECK) {
+                true => report.failing(),
+                false => report,
+            })
+        }
+        Err(refused) => Ok(refusal_of(refused, &job, &placement)),
+    }
 }
 
 /// `broken,rule,cell`; on standard error how the cell breaks the rule. A cell's line in the
@@ -51,7 +57,7 @@ fn answer_of(broken: &Broken, job: &Text, placement: &Text) -> Report {
 }
 
 fn refusal_of(refused: Refused, job: &Text, placement: &Text) -> Report {
-    let line = copied_fault_line(&job.bytes, &placement.bytes);
+    let line = super::fault_line(&job.bytes, &placement.bytes);
     let words = explain::placement_line(&job.bytes, &placement.bytes, &refused);
     let text = match refused.number {
         PLACEMENT_REFUSED => placement,

@@ -1,0 +1,155 @@
+//! Odd surroundings: streams that are closed, full or of the wrong kind, no memory, a terminal.
+//! No answer is lost with status 0, and nothing that cannot be read counts as an empty job.
+
+use crate::told;
+use std::io;
+use std::process::Command;
+
+const JOB: &str = concat!(env!("CARGO_MANIFEST_DIR"), "/../examples/worked.job");
+
+/// Runs a line of the shell in which `refine` is the program and `$JOB` the worked example.
+fn shell(line: &str) -> (String, String, Option<i32>) {
+    let program = env!("CARGO_BIN_EXE_refine");
+    let start = format!("refine() {{ '{program}' \"$@\"; }}\n");
+    let mut bash = Command::new("bash");
+    bash.args(["-c", &(start + line)]);
+    bash.env("JOB", JOB);
+    bash.env("FOLDER", env!("CARGO_TARGET_TMPDIR"));
+    told(&bash.output().expect("bash ends"))
+}
+
+/// Checks that a line ends with status 2, one message and nothing on standard output.
+fn check_error(line: &str, message: &str) {
+    let (output, notes, status) = shell(line);
+    assert_eq!((&*output, status), ("", Some(2)), "{line}: {notes}");
+    assert!(notes.starts_with(&format!("refine: {message}")), "{notes}");
+    assert_eq!(notes.lines().count(), 1, "{line}: {notes}");
+}
+
+const COMMANDS: [&str; 6] = [
+    "refine < \"$JOB\"",
+    "refine -p \"$JOB\"",
+    "refine score \"$JOB\" <(refine -p \"$JOB\")",
+    "refine help",
+    "refine --version",
+    "refine < /dev/null",
+];
+
+#[test]
+fn an_output_that_cannot_be_written_is_an_error() {
+    let cannot = "cannot write standard output: ";
+    for command in COMMANDS {
+        // What is refused has a reason before the message.
+        let quiet = format!("{command} 2> /dev/null");
+        for output in [">&-", "> /dev/full", "1< /dev/null"] {
+            let (_, _, status) = shell(&format!("{quiet} {output}"));
+            assert_eq!(status, Some(2), "{command} {output}");
+        }
+    }
+    for command in &COMMANDS[..5] {
+        check_error(&format!("{command} >&-"), &format!("{cannot}it is closed"));
+        check_error(
+            &format!("{command} > /dev/full"),
+            &format!("{cannot}No space"),
+        );
+        check_error(&format!("{command} 1< /dev/null"), &format!("{cannot}Bad"));
+    }
+}
+
+#[test]
+fn an_input_that_cannot_be_read_is_an_error() {
+    let cannot = "cannot read standard input: ";
+    for command in ["refine", "refine -p -", "refine score \"$JOB\" -"] {
+        check_error(&format!("{command} <&-"), &format!("{cannot}it is closed"));
+        check_error(&format!("{command} < /tmp"), &format!("{cannot}Is a dir"));
+        let only_written = format!("{command} 0> \"$FOLDER/only_written\"");
+        check_error(&only_written, &format!("{cannot}Bad file"));
+    }
+    check_error("refine /tmp", "cannot read /tmp: Is a directory");
+}
+
+#[test]
+fn what_is_given_on_purpose_is_no_error() {
+    let empty = ("refused,1,1\n".to_string(), Some(1));
+    for input in ["< /dev/null", "<> /dev/null", "< <(true)"] {
+        let (output, _, status) = shell(&format!("refine {input}"));
+        assert_eq!((output, status), empty, "{input}");
+    }
+    for output in ["> /dev/null", "1<> /dev/null"] {
+        let said = shell(&format!("refine \"$JOB\" {output}"));
+        assert_eq!(said, (String::new(), String::new(), Some(0)), "{output}");
+    }
+}
+
+#[test]
+fn a_stream_that_is_not_needed_may_be_closed() {
+    let answer = "100,0,0,1,0,0\n2,0,1\n6,0,0\n";
+    for streams in ["<&-", "2>&-", "2> /dev/full", "<&- 2>&-"] {
+        let said = shell(&format!("refine \"$JOB\" {streams}"));
+        assert_eq!(said, (answer.into(), String::new(), Some(0)), "{streams}");
+    }
+    // The reasons are lost, the answer and its status are not.
+    for streams in ["2>&-", "2> /dev/full"] {
+        let said = shell(&format!("refine {streams} < /dev/null"));
+        assert_eq!(said, ("refused,1,1\n".into(), String::new(), Some(1)));
+    }
+}
+
+#[test]
+fn a_reader_that_has_gone_away_is_no_word() {
+    let (reader, writer) = io::pipe().expect("a pipe");
+    drop(reader);
+    let mut refine = Command::new(env!("CARGO_BIN_EXE_refine"));
+    let output = refine.arg(JOB).stdout(writer).output();
+    let said = told(&output.expect("refine ends"));
+    assert_eq!(said, (String::new(), String::new(), Some(2)));
+    let (output, notes, status) = shell("refine \"$JOB\" | head -n 0; exit ${PIPESTATUS[0]}");
+    assert_eq!((&*output, &*notes), ("", ""));
+    // It may have gone before the answer or after it.
+    assert!(matches!(status, Some(0 | 2)), "{status:?}");
+}
+
+/// From some limit on the program starts, and then it either has no memory for the store and says
+/// so, or answers. Where the limit is below what starting takes, nothing can be said.
+#[test]
+fn no_memory_for_the_store_is_an_error() {
+    let limited = |limit: u32| shell(&format!("ulimit -v {limit}; refine \"$JOB\""));
+    let starts = |said: &(String, String, Option<i32>)| matches!(said.2, Some(0 | 2));
+    let runs: Vec<_> = (2_500..12_000).step_by(500).map(limited).collect();
+    let runs: Vec<_> = runs.into_iter().skip_while(|said| !starts(said)).collect();
+    let missing = "refine: no memory for the store: 4194304 bytes\n";
+    let error = (String::new(), missing.to_string(), Some(2));
+    let answer = "100,0,0,1,0,0\n2,0,1\n6,0,0\n".to_string();
+    let answer = (answer, String::new(), Some(0));
+    for said in &runs {
+        assert!(*said == error || *said == answer, "{said:?}");
+    }
+    assert!(runs.contains(&error) && runs.contains(&answer));
+}
+
+#[test]
+fn no_memory_for_the_text_is_an_error() {
+    let line = "ulimit -v 20000; head -c 30000000 /dev/zero | refine";
+    check_error(line, "cannot read standard input: ");
+}
+
+/// `script` runs a command on a terminal of its own.
+#[test]
+fn a_terminal_is_told_what_is_waited_for() {
+    let has = |line: &str| shell(line).2 == Some(0);
+    if !has("script -qec true /dev/null < /dev/null") {
+        eprintln!("left out, because this does not work here: script");
+        return;
+    }
+    let on_terminal = |words: &str| {
+        let program = env!("CARGO_BIN_EXE_refine");
+        let line = format!("script -qec \"'{program}' {words}\" /dev/null < /dev/null");
+        shell(&line).0
+    };
+    let hint = |what| format!("refine: type {what} line by line; end it with Ctrl-D");
+    assert!(on_terminal("").contains(&hint("a job")));
+    assert!(on_terminal("-p -").contains(&hint("a job")));
+    assert!(on_terminal("score $JOB -").contains(&hint("a placement")));
+    assert!(!on_terminal("$JOB").contains("Ctrl-D"));
+    assert!(!on_terminal("help").contains("Ctrl-D"));
+}
