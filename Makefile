@@ -6,8 +6,10 @@ BINDIR = $(PREFIX)/bin
 LIBDIR = $(PREFIX)/lib
 INCLUDEDIR = $(PREFIX)/include
 PKGCONFIGDIR = $(LIBDIR)/pkgconfig
+MANDIR = $(PREFIX)/share/man
 
 HEADER := importer/include/refiner.h
+MANUAL = docs/refine.1
 ARCHIVE = target/staticlib/librefiner.a
 REFINE = $(or $(CARGO_TARGET_DIR),importer/target)/release/refine
 DIST = target/dist
@@ -19,6 +21,7 @@ PACKAGE := refiner-$(VERSION)
 
 all:
 	rt staticlib refiner
+	tools/kit
 	cargo build --release --offline --manifest-path importer/Cargo.toml --bin refine
 
 $(ARCHIVE) $(REFINE):
@@ -26,10 +29,11 @@ $(ARCHIVE) $(REFINE):
 
 install: $(ARCHIVE) $(REFINE)
 	install -d "$(DESTDIR)$(BINDIR)" "$(DESTDIR)$(LIBDIR)" "$(DESTDIR)$(INCLUDEDIR)" \
-	    "$(DESTDIR)$(PKGCONFIGDIR)"
+	    "$(DESTDIR)$(PKGCONFIGDIR)" "$(DESTDIR)$(MANDIR)/man1"
 	install -m 755 "$(REFINE)" "$(DESTDIR)$(BINDIR)/refine"
 	install -m 644 "$(ARCHIVE)" "$(DESTDIR)$(LIBDIR)/librefiner.a"
 	install -m 644 "$(HEADER)" "$(DESTDIR)$(INCLUDEDIR)/refiner.h"
+	install -m 644 "$(MANUAL)" "$(DESTDIR)$(MANDIR)/man1/refine.1"
 	printf '%s\n' \
 	    'prefix=$(PREFIX)' \
 	    'libdir=$(LIBDIR)' \
@@ -45,7 +49,8 @@ install: $(ARCHIVE) $(REFINE)
 
 uninstall:
 	rm -f "$(DESTDIR)$(BINDIR)/refine" "$(DESTDIR)$(LIBDIR)/librefiner.a" \
-	    "$(DESTDIR)$(INCLUDEDIR)/refiner.h" "$(DESTDIR)$(PKGCONFIGDIR)/refiner.pc"
+	    "$(DESTDIR)$(INCLUDEDIR)/refiner.h" "$(DESTDIR)$(PKGCONFIGDIR)/refiner.pc" \
+	    "$(DESTDIR)$(MANDIR)/man1/refine.1"
 
 # The tracked files as the last commit has them.
 dist:

@@ -10,10 +10,11 @@ use std::process::Command;
 const REFINE: &str = env!("CARGO_BIN_EXE_refine");
 
 /// What is installed, below the prefix.
-const INSTALLED: [&str; 4] = [
+const INSTALLED: [&str; 5] = [
     "bin/refine",
     "include/refiner.h",
     "lib/librefiner.a",
+    "share/man/man1/refine.1",
     "lib/pkgconfig/refiner.pc",
 ];
 
@@ -80,6 +81,7 @@ fn what_is_installed_is_enough_to_build_the_example() {
         PathBuf::from(REFINE),
         root().join("importer/include/refiner.h"),
         archive(),
+        root().join("docs/refine.1"),
     ];
     for (placed, source) in placed.iter().zip(sources) {
         assert_eq!(fs::read(placed).ok(), fs::read(source).ok());
