@@ -166,6 +166,9 @@ fn a_refusal_is_printed_in_place_of_the_placement() {
     let whole = told(&refine(&[], job.as_bytes()));
     assert_eq!((&*whole.0, whole.2), ("refused,8,0\n", Some(1)));
     assert_eq!(told(&refine(&["-p"], job.as_bytes())), whole);
+    let job = file("no_placement.job", &job);
+    let (output, _, status) = told(&refine(&["score", &job, "-"], whole.0.as_bytes()));
+    assert_eq!((&*output, status), ("refused,5,1\n", Some(1)));
 }
 
 #[test]

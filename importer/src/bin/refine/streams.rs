@@ -30,6 +30,7 @@ fn given(number: usize, stream: impl AsFd) -> io::Result<File> {
 #[cfg(target_os = "linux")]
 mod at_start {
     use std::fs;
+    use std::io;
     use std::sync::atomic::{AtomicBool, Ordering};
 
     /// Where each open file of the program has an entry by its number, and the entries of standard
@@ -51,7 +52,9 @@ mod at_start {
             return;
         }
         for (closed, entry) in CLOSED.iter().zip(ENTRIES) {
-            closed.store(fs::symlink_metadata(entry).is_err(), Ordering::Relaxed);
+            let missing = |error: io::Error| error.kind() == io::ErrorKind::NotFound;
+            let entry = fs::symlink_metadata(entry);
+            closed.store(entry.is_err_and(missing), Ordering::Relaxed);
         }
     }
 
