@@ -7,13 +7,17 @@ use std::process::Command;
 
 const JOB: &str = concat!(env!("CARGO_MANIFEST_DIR"), "/../examples/worked.job");
 
+const REFINE: &str = env!("CARGO_BIN_EXE_refine");
+
+/// Standard output, standard error and exit status.
+type Said = (String, String, Option<i32>);
+
 /// Runs a line of the shell in which `refine` is the program and `$JOB` the worked example.
-fn shell(line: &str) -> (String, String, Option<i32>) {
-    let program = env!("CARGO_BIN_EXE_refine");
-    let start = format!("refine() {{ '{program}' \"$@\"; }}\n");
+fn shell(line: &str) -> Said {
+    let start = "refine() { \"$REFINE\" \"$@\"; }\n".to_string();
     let mut bash = Command::new("bash");
     bash.args(["-c", &(start + line)]);
-    bash.env("JOB", JOB);
+    bash.env("REFINE", REFINE).env("JOB", JOB);
     bash.env("FOLDER", env!("CARGO_TARGET_TMPDIR"));
     told(&bash.output().expect("bash ends"))
 }
@@ -100,7 +104,7 @@ fn a_stream_that_is_not_needed_may_be_closed() {
 fn a_reader_that_has_gone_away_is_no_word() {
     let (reader, writer) = io::pipe().expect("a pipe");
     drop(reader);
-    let mut refine = Command::new(env!("CARGO_BIN_EXE_refine"));
+    let mut refine = Command::new(REFINE);
     let output = refine.arg(JOB).stdout(writer).output();
     let said = told(&output.expect("refine ends"));
     assert_eq!(said, (String::new(), String::new(), Some(2)));
@@ -110,22 +114,26 @@ fn a_reader_that_has_gone_away_is_no_word() {
     assert!(matches!(status, Some(0 | 2)), "{status:?}");
 }
 
-/// From some limit on the program starts, and then it either has no memory for the store and says
-/// so, or answers. Where the limit is below what starting takes, nothing can be said.
+/// From some limit on the program starts, and then it either has no memory for the store, or for the
+/// stack that Place takes, and says so, or answers. Where the limit is below what starting takes,
+/// nothing can be said.
 #[test]
 fn no_memory_for_the_store_is_an_error() {
-    let limited = |limit: u32| shell(&format!("ulimit -v {limit}; refine \"$JOB\""));
-    let starts = |said: &(String, String, Option<i32>)| matches!(said.2, Some(0 | 2));
-    let runs: Vec<_> = (2_500..12_000).step_by(500).map(limited).collect();
-    let runs: Vec<_> = runs.into_iter().skip_while(|said| !starts(said)).collect();
-    let missing = "refine: no memory for the store: 4194304 bytes\n";
-    let error = (String::new(), missing.to_string(), Some(2));
+    // After the limit the shell does nothing but become the program.
+    let run = |limit: u32| format!("ulimit -v {limit}; exec \"$REFINE\" \"$JOB\"");
+    let limited = |limit: u32| shell(&run(limit));
+    let starts = |said: &Said| said.2 == Some(0) || said.1.starts_with("refine: ");
+    let runs: Vec<Said> = (2_500..12_000).step_by(250).map(limited).collect();
+    let runs: Vec<Said> = runs.into_iter().skip_while(|said| !starts(said)).collect();
+    let note = |what: &str| format!("refine: no memory for the {what} bytes\n");
+    let error = |what: &str| (String::new(), note(what), Some(2));
+    let errors = [error("store: 4194304"), error("stack: 524288")];
     let answer = "100,0,0,1,0,0\n2,0,1\n6,0,0\n".to_string();
     let answer = (answer, String::new(), Some(0));
     for said in &runs {
-        assert!(*said == error || *said == answer, "{said:?}");
+        assert!(errors.contains(said) || *said == answer, "{said:?}");
     }
-    assert!(runs.contains(&error) && runs.contains(&answer));
+    assert!(runs.contains(&errors[0]) && runs.contains(&answer));
 }
 
 #[test]
@@ -143,14 +151,13 @@ fn a_terminal_is_told_what_is_waited_for() {
         return;
     }
     let on_terminal = |words: &str| {
-        let program = env!("CARGO_BIN_EXE_refine");
-        let line = format!("script -qec \"'{program}' {words}\" /dev/null < /dev/null");
+        let line = format!("script -qec '\"$REFINE\" {words}' /dev/null < /dev/null");
         shell(&line).0
     };
     let hint = |what| format!("refine: type {what} line by line; end it with Ctrl-D");
     assert!(on_terminal("").contains(&hint("a job")));
     assert!(on_terminal("-p -").contains(&hint("a job")));
-    assert!(on_terminal("score $JOB -").contains(&hint("a placement")));
-    assert!(!on_terminal("$JOB").contains("Ctrl-D"));
+    assert!(on_terminal("score \"$JOB\" -").contains(&hint("a placement")));
+    assert!(!on_terminal("\"$JOB\"").contains("Ctrl-D"));
     assert!(!on_terminal("help").contains("Ctrl-D"));
 }

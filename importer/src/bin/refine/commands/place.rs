@@ -1,7 +1,7 @@
 //! `refine` alone: places a job.
 
 use crate::input::{Text, DASH};
-use crate::memory::zeros;
+use crate::memory::{check_stack, zeros};
 use crate::mistake::Mistake;
 use crate::report::{line_of, Report};
 use crate::words::{Switch, Words};
@@ -27,6 +27,7 @@ pub fn run(words: &[OsString]) -> Result<Report, Mistake> {
     };
     let mut store = zeros(STORE_WORDS, "the store")?;
     let mut text = zeros(OUTPUT_BYTES, "the placement")?;
+    check_stack()?;
     match place(&job.bytes, &mut store, &mut text) {
         Ok(placed) => Ok(answer_of(&placed, &text, words.has(&PLACEMENT_ONLY))),
         Err(refused) => {
