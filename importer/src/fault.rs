@@ -5,6 +5,11 @@ use crate::calls;
 /// The faulty line, with its line feed if it has one, as that very part of the job text or of the
 /// placement text. A missing line and no fault give the empty part at the placement's end, a
 /// missing first job line the empty job text.
+///
+/// ```
+/// let job = b"J,1,20,1,1,100,1,100,50\nC,0,2,1,1,4,3,3,2,16\n";
+/// assert_eq!(importer::fault_line(job, b""), b"C,0,2,1,1,4,3,3,2,16\n");
+/// ```
 pub fn fault_line<'texts>(job: &'texts [u8], placement: &'texts [u8]) -> &'texts [u8] {
     let mut part = [0; 3];
     calls::fault(job, placement, &mut part);

@@ -10,6 +10,7 @@ pub mod calls;
 pub mod explain;
 mod fault;
 mod fields;
+mod kind;
 mod numbers;
 mod placing;
 mod reading;
@@ -18,6 +19,7 @@ mod rules;
 mod scoring;
 
 pub use fault::{copied_fault_line, fault_line};
+pub use kind::RefusalKind;
 pub use numbers::Numbers;
 pub use placing::{place, refine, Placed, Refined, OUTPUT_BYTES, STORE_WORDS};
 pub use reading::{read, Read};

@@ -1,11 +1,15 @@
 //! A refusal: its number, its line, and what they mean in words.
 
+use crate::RefusalKind;
 use std::fmt;
 
 /// What a refusal number means, and what to do about it.
 #[derive(Clone, Copy, Debug, PartialEq, Eq)]
 pub struct Refusal {
+    /// The number that a call returns.
     pub number: u32,
+    /// The same as a name.
+    pub kind: RefusalKind,
     /// What is wrong.
     pub meaning: &'static str,
     /// What to do about it.
@@ -17,47 +21,64 @@ pub struct Refusal {
 pub const REFUSALS: &[Refusal] = &[
     Refusal {
         number: 1,
+        kind: RefusalKind::Form,
         meaning: "the line is not in the job's form",
         remedy: "check the lead, the commas, the numbers, the number of fields and the line feed",
     },
     Refusal {
         number: 2,
+        kind: RefusalKind::Range,
         meaning: "a field of the line is out of range",
         remedy: "bring each field of the line into its range",
     },
     Refusal {
         number: 3,
+        kind: RefusalKind::Count,
         meaning: "the line's cell is the 65th, or the 25th tall one",
         remedy: "split the job: it holds at most 64 cells, of which at most 24 are tall",
     },
     Refusal {
         number: 4,
+        kind: RefusalKind::Order,
         meaning: "the line's given site is below an earlier one in its row",
         remedy: "sort the cell lines so that given sites do not fall within a row",
     },
     Refusal {
         number: 5,
+        kind: RefusalKind::Placement,
         meaning: "the placement's line is bad, missing or surplus",
         remedy: "give one line `site,layout,mirror` for each cell, in file order",
     },
     Refusal {
         number: 6,
+        kind: RefusalKind::Store,
         meaning: "the store has fewer than 1,048,576 words",
         remedy: "lend a larger store",
     },
     Refusal {
         number: 7,
+        kind: RefusalKind::Output,
         meaning: "the output has fewer than 9 bytes per cell",
         remedy: "lend a larger output",
     },
     Refusal {
         number: 8,
+        kind: RefusalKind::NoLegal,
         meaning: "no legal placement exists",
         remedy: "raise D or R, give the rows more sites, or move cells to other rows",
     },
 ];
 
 /// A call was refused.
+///
+/// ```
+/// use importer::{read, RefusalKind};
+///
+/// let refused = read(b"J,1,2000,1,1,100,1,100,50\n").unwrap_err();
+/// assert_eq!((refused.number, refused.line), (2, 1));
+/// assert_eq!(refused.kind(), RefusalKind::Range);
+/// assert_eq!(refused.reason(), "a field of the line is out of range");
+/// ```
 #[derive(Clone, Copy, Debug, PartialEq, Eq)]
 pub struct Refused {
     /// The refusal's number, from 1.
@@ -67,6 +88,12 @@ pub struct Refused {
 }
 
 impl Refused {
+    /// The number as a name, to match on.
+    pub fn kind(&self) -> RefusalKind {
+        self.entry()
+            .map_or(RefusalKind::Unknown, |refusal| refusal.kind)
+    }
+
     /// What is wrong.
     pub fn reason(&self) -> &'static str {
         match self.entry() {

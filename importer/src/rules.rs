@@ -1,8 +1,11 @@
 //! The rules of a placement in words.
 
+use std::fmt;
+
 /// A rule and what it asks.
 #[derive(Clone, Copy, Debug, PartialEq, Eq)]
 pub struct Rule {
+    /// Its number, from 1.
     pub number: u32,
     /// What it asks of a placement.
     pub asks: &'static str,
@@ -50,7 +53,9 @@ pub const RULES: &[Rule] = &[
 /// The first broken rule, and its lowest cell, counted from 1.
 #[derive(Clone, Copy, Debug, PartialEq, Eq)]
 pub struct Broken {
+    /// The rule's number.
     pub rule: u32,
+    /// The cell's number.
     pub cell: u32,
 }
 
@@ -63,3 +68,13 @@ impl Broken {
         }
     }
 }
+
+/// `cell 3 breaks rule 5: `, and what the rule asks.
+impl fmt::Display for Broken {
+    fn fmt(&self, out: &mut fmt::Formatter<'_>) -> fmt::Result {
+        let Broken { rule, cell } = self;
+        write!(out, "cell {cell} breaks rule {rule}: {}", self.meaning())
+    }
+}
+
+impl std::error::Error for Broken {}

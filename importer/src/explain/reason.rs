@@ -10,6 +10,7 @@ pub(super) const PLACEMENT: u32 = 5;
 /// What is wrong, and the answer that says so in numbers.
 #[derive(Clone, Debug, PartialEq, Eq)]
 pub struct Reason<Answer> {
+    /// The refiner's answer that the words belong to.
     pub answer: Answer,
     /// Printable, in one line, without the name of the text and the line's number.
     pub words: String,
