@@ -1,7 +1,7 @@
 //! Place, with its answer as a struct.
 
 use crate::fields::Fields;
-use crate::{calls, Numbers, Refused};
+use crate::{calls, placement, Numbers, Pose, PoseError, Refused};
 
 /// How many words of store Place needs.
 pub const STORE_WORDS: usize = 1_048_576;
@@ -15,13 +15,14 @@ const FIELDS: usize = Numbers::FIELDS + 1;
 /// What Place answers of a job that has a legal placement.
 #[derive(Clone, Copy, Debug, PartialEq, Eq)]
 pub struct Placed {
+    /// The placement's numbers.
     pub numbers: Numbers,
     /// How many bytes of the output are the placement's text.
     pub text_length: usize,
 }
 
-/// Places a job: writes the text of a cheapest legal placement to the start of `output`. The
-/// store is all zero after an answer and after refusal 8.
+/// Places a job in lent buffers of any size: writes the text of a cheapest legal placement to the
+/// start of `output`. The store is all zero after an answer and after refusal 8.
 pub fn place(job: &[u8], store: &mut [u32], output: &mut [u8]) -> Result<Placed, Refused> {
     let call = |results: &mut [i32]| calls::place(job, store, output, results);
     let mut fields = Fields::of(FIELDS, call)?;
@@ -34,11 +35,28 @@ pub fn place(job: &[u8], store: &mut [u32], output: &mut [u8]) -> Result<Placed,
 /// A placed job: the numbers and the text of its placement.
 #[derive(Clone, Debug, PartialEq, Eq)]
 pub struct Refined {
+    /// The placement's numbers.
     pub numbers: Numbers,
+    /// One line `site,layout,mirror` for each cell, in file order.
     pub text: Vec<u8>,
 }
 
+impl Refined {
+    /// The placement as a pose for each cell, in file order.
+    pub fn poses(&self) -> Result<Vec<Pose>, PoseError> {
+        placement::parse(&self.text)
+    }
+}
+
 /// Places a job with a store and an output that are large enough for any.
+///
+/// ```
+/// let job = b"J,1,20,1,1,100,1,100,50\nC,0,2,1,1,4,3,3,2,2\nC,0,6,0,1,4,3,3,2,2\n";
+/// let refined = importer::refine(job)?;
+/// assert_eq!(refined.numbers.cost, 100);
+/// assert_eq!(refined.text, b"2,0,1\n6,0,0\n");
+/// # Ok::<(), importer::Refused>(())
+/// ```
 pub fn refine(job: &[u8]) -> Result<Refined, Refused> {
     let mut store = vec![0; STORE_WORDS];
     let mut text = vec![0; OUTPUT_BYTES];
