@@ -48,7 +48,8 @@ impl Refined {
     }
 }
 
-/// Places a job with a store and an output that are large enough for any.
+/// Places a job with a store and an output that are large enough for any. For many jobs, a
+/// [`Refiner`](crate::Refiner) holds both once.
 ///
 /// ```
 /// let job = b"J,1,20,1,1,100,1,100,50\nC,0,2,1,1,4,3,3,2,2\nC,0,6,0,1,4,3,3,2,2\n";
