@@ -5,11 +5,43 @@
 //! [`calls`] has each of them with slices for addresses and lengths, and the modules beside it
 //! turn the numbers that a call leaves behind into plain structs. [`REFUSALS`] and [`RULES`] say in
 //! words what refusal numbers and rules mean, and [`explain`] what is wrong with a text.
+//!
+//! Texts go in and out as bytes; [`job`] and [`placement`] have them as values:
+//!
+//! ```
+//! use importer::job::{Cell, Header, Job, Layout, Weights};
+//! use importer::{score, Pose, Refiner};
+//!
+//! # fn main() -> Result<(), Box<dyn std::error::Error>> {
+//! let weights = Weights { step: 100, shift: 1, mirror: 100, swap: 50 };
+//! let header = Header { rows: 1, sites: 20, displacement: 1, reordering: 1, weights };
+//! let inverter = [Layout::single(4, [3, 3, 2, 2])];
+//! let job = Job::new(header)
+//!     .with(Cell::single(0, 2, inverter).mirrorable())
+//!     .with(Cell::single(0, 6, inverter))
+//!     .text();
+//!
+//! let mut refiner = Refiner::new();
+//! let answer = refiner.place(&job)?;
+//! assert_eq!(answer.numbers().cost, 100);
+//! assert_eq!(answer.poses()?[0], Pose { site: 2, layout: 0, mirrored: true });
+//! assert_eq!(score(&job, answer.text())?.legal()?, answer.numbers());
+//! # Ok(())
+//! # }
+//! ```
+//!
+//! What is proved is what the archive's functions answer; this library and the texts that [`job`]
+//! and [`placement`] write are tested. Checking and documenting a program needs no archive, only
+//! linking it does: `rt staticlib refiner` in the repository's root writes it, and
+//! `REFINER_LIB_DIR` names its folder if it stands elsewhere.
+
+#![deny(missing_docs)]
 
 pub mod calls;
 pub mod explain;
 mod fault;
 mod fields;
+pub mod job;
 mod kind;
 mod numbers;
 pub mod placement;
