@@ -1,5 +1,8 @@
 //! Finds the archive of the proved refiner and says what to run where it is missing. The program
 //! learns which archive it is linked with: its sum, and the kit that proved it.
+//!
+//! Only linking needs the archive: where it is missing, `cargo check` and `cargo doc` pass with a
+//! warning, and a build ends with rustc's word that the library `refiner` was not found.
 
 #[path = "build/record.rs"]
 mod record;
@@ -9,7 +12,6 @@ mod sha256;
 use std::env;
 use std::fs;
 use std::path::{Path, PathBuf};
-use std::process::exit;
 
 const ARCHIVE: &str = "librefiner.a";
 
@@ -19,12 +21,15 @@ fn main() {
     println!("cargo:rerun-if-env-changed=REFINER_LIB_DIR");
     let folder = archive_folder();
     let archive = folder.join(ARCHIVE);
-    let Ok(bytes) = fs::read(&archive) else {
-        explain(&archive);
-        exit(1);
-    };
     println!("cargo:rerun-if-changed={}", archive.display());
-    tell_origin(&folder, &bytes);
+    let sum = match fs::read(&archive) {
+        Ok(bytes) => sha256::hex(&bytes),
+        Err(_) => {
+            explain(&archive);
+            String::new()
+        }
+    };
+    tell_origin(&folder, &sum);
     println!("cargo:rustc-link-search=native={}", folder.display());
     println!("cargo:rustc-link-lib=static=refiner");
 }
@@ -34,19 +39,19 @@ fn archive_folder() -> PathBuf {
     match env::var_os("REFINER_LIB_DIR") {
         Some(folder) => PathBuf::from(folder),
         None => {
-            let package = env::var_os("CARGO_MANIFEST_DIR").unwrap_or_default();
-            PathBuf::from(package).join("../target/staticlib")
+            let package = PathBuf::from(env::var_os("CARGO_MANIFEST_DIR").unwrap_or_default());
+            let root = package.parent().unwrap_or(&package);
+            root.join("target/staticlib")
         }
     }
 }
 
 /// The archive's sum and its kit, for `refine --version`; the kit is empty where no record of this
 /// very archive stands beside it. The kit that is there now may be another one and is not asked.
-fn tell_origin(folder: &Path, archive: &[u8]) {
+fn tell_origin(folder: &Path, sum: &str) {
     let record = folder.join(record::RECORD);
     let text = fs::read_to_string(&record).unwrap_or_default();
-    let sum = sha256::hex(archive);
-    let kit = record::kit(&text, &sum).unwrap_or_default();
+    let kit = record::kit(&text, sum).unwrap_or_default();
     println!("cargo:rustc-env=REFINER_ARCHIVE_SUM={sum}");
     println!("cargo:rustc-env=REFINER_KIT={kit}");
     // A file that is not there would count as changed each time; the folder changes with it.
@@ -54,8 +59,14 @@ fn tell_origin(folder: &Path, archive: &[u8]) {
     println!("cargo:rerun-if-changed={}", watched.display());
 }
 
+/// A line is a warning of its own; cargo shows them where the package is built from its sources.
 fn explain(archive: &Path) {
-    eprintln!("the archive {} is missing.", archive.display());
-    eprintln!("Run `rt staticlib refiner` in the repository's root: it proves the refiner and writes the archive.");
-    eprintln!("If the archive stands elsewhere, set REFINER_LIB_DIR to its folder.");
+    let lines = [
+        &*format!("the archive {} is missing, so nothing can be linked.", archive.display()),
+        "Run `rt staticlib refiner` in the repository's root: it proves the refiner and writes the archive.",
+        "If the archive stands elsewhere, set REFINER_LIB_DIR to its folder.",
+    ];
+    for line in lines {
+        println!("cargo:warning={line}");
+    }
 }
