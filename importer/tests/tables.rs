@@ -80,7 +80,9 @@ fn the_header_shows_each_refusal() {
 
 #[test]
 fn each_refusal_number_stands_once_in_rising_order() {
-    assert!(REFUSALS.is_sorted_by(|earlier, later| earlier.number < later.number));
+    assert!(REFUSALS
+        .windows(2)
+        .all(|pair| pair[0].number < pair[1].number));
 }
 
 #[test]

@@ -27,8 +27,8 @@ pub(super) fn quoted(value: &[u8]) -> String {
 
 /// The first bytes, and a mark that says how many more there are.
 fn cut(bytes: &[u8], most: usize) -> (&[u8], String) {
-    match bytes.split_at_checked(most) {
-        Some((shown, [_, ..])) => {
+    match bytes.get(..most) {
+        Some(shown) if bytes.len() > most => {
             let more = bytes.len() - most;
             (shown, format!(" ... {more} more bytes"))
         }

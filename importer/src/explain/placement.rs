@@ -43,13 +43,15 @@ pub fn read(text: &[u8], cells: usize) -> Result<Vec<Pose>, Reason<Refused>> {
 
 fn read_pose(line: &Line) -> Result<Pose, String> {
     let numbers = POSE.numbers(line)?;
-    let &[site, layout, mark] = &*numbers.values else {
-        let found = count(numbers.fields, "field");
-        return Err(format!(
-            "{found}, a placement line has 3: site,layout,mirror"
-        ));
-    };
-    Ok(Pose { site, layout, mark })
+    match numbers.values[..] {
+        [site, layout, mark] => Ok(Pose { site, layout, mark }),
+        _ => {
+            let found = count(numbers.fields, "field");
+            Err(format!(
+                "{found}, a placement line has 3: site,layout,mirror"
+            ))
+        }
+    }
 }
 
 fn surplus(line: &Line, cells: usize) -> String {

@@ -83,10 +83,15 @@ fn layout_fields(row: u32, layout: u32) -> Vec<Field> {
 pub fn read(line: &Line, rows: u32) -> Result<Cell, Reason<Refused>> {
     let refuse = |number| move |words| line.refused(number, words);
     let numbers = CELL.numbers(line).map_err(refuse(FORM))?;
-    let &[row, given, mirrorable, layouts, ref of_layouts @ ..] = &*numbers.values else {
-        let found = count(numbers.fields, "field");
-        let words = format!("{found}, a cell line has at least 5: C,row,given,mirrorable,layouts");
-        return Err(line.refused(FORM, words));
+    let (row, given, mirrorable, layouts, of_layouts) = match &*numbers.values {
+        &[row, given, mirrorable, layouts, ref rest @ ..] => {
+            (row, given, mirrorable, layouts, rest)
+        }
+        _ => {
+            let found = count(numbers.fields, "field");
+            let form = "a cell line has at least 5: C,row,given,mirrorable,layouts";
+            return Err(line.refused(FORM, format!("{found}, {form}")));
+        }
     };
     shape_in_range(rows, row, layouts).map_err(refuse(RANGE))?;
     let fields = fields_of(&numbers.values);

@@ -37,17 +37,20 @@ fn fields() -> Vec<Field> {
 pub fn read(line: &Line) -> Result<Header, Reason<Refused>> {
     let refuse = |number| move |words| line.refused(number, words);
     let numbers = HEADER.numbers(line).map_err(refuse(FORM))?;
-    let &[rows, sites, displacement, reordering, _, _, _, _] = &*numbers.values else {
-        let found = count(numbers.fields, "field");
-        let words =
-            format!("{found}, the first line has 9: J,rows,sites,D,R,step,shift,mirror,swap");
-        return Err(line.refused(FORM, words));
+    let header = match numbers.values[..] {
+        [rows, sites, displacement, reordering, _, _, _, _] => Header {
+            rows,
+            sites,
+            displacement,
+            reordering,
+        },
+        _ => {
+            let found = count(numbers.fields, "field");
+            let words =
+                format!("{found}, the first line has 9: J,rows,sites,D,R,step,shift,mirror,swap");
+            return Err(line.refused(FORM, words));
+        }
     };
     in_range(&fields(), &numbers.values).map_err(refuse(RANGE))?;
-    Ok(Header {
-        rows,
-        sites,
-        displacement,
-        reordering,
-    })
+    Ok(header)
 }

@@ -25,14 +25,7 @@ pub struct Job {
 /// The job that a text says, or what is wrong with its earliest bad line.
 pub fn read(text: &[u8]) -> Result<Job, Reason<Refused>> {
     let mut lines = lines(text);
-    let Some(first) = lines.next() else {
-        let answer = Refused {
-            number: FORM,
-            line: 1,
-        };
-        let words = "the job is empty".into();
-        return Err(Reason { answer, words });
-    };
+    let first = lines.next().ok_or_else(empty)?;
     let mut job = Job {
         header: header::read(&first)?,
         cells: Vec::new(),
@@ -42,6 +35,16 @@ pub fn read(text: &[u8]) -> Result<Job, Reason<Refused>> {
         job.admit(&line, cell)?;
     }
     Ok(job)
+}
+
+fn empty() -> Reason<Refused> {
+    Reason {
+        answer: Refused {
+            number: FORM,
+            line: 1,
+        },
+        words: "the job is empty".into(),
+    }
 }
 
 impl Job {
