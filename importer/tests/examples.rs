@@ -1,0 +1,63 @@
+//! The examples print what is worked here by hand.
+
+#[allow(dead_code)]
+#[path = "../examples/place.rs"]
+mod place;
+#[allow(dead_code)]
+#[path = "../examples/score.rs"]
+mod score;
+
+use importer::Refiner;
+
+const WORKED: &[u8] = include_bytes!("../../examples/worked.job");
+
+fn placed(job: &[u8]) -> String {
+    place::report(&mut Refiner::new(), job).expect("a report is written")
+}
+
+#[test]
+fn place_builds_the_worked_job() {
+    assert_eq!(place::worked().text(), WORKED);
+    let numbers = "cost 100, steps 0, sites shifted 0, mirrored 1, changed 0, drift 0\n";
+    let cells = "cell 1: site 2, layout 0, mirrored\ncell 2: site 6, layout 0\n";
+    assert_eq!(placed(WORKED), format!("{numbers}{cells}"));
+}
+
+#[test]
+fn place_tells_of_a_refusal() {
+    let told = placed(b"J,1,20,1,1,100,1,100,50\nC,0,2,1,1,4,3,3,2,16\n");
+    let lines: Vec<&str> = told.lines().collect();
+    assert_eq!(lines.len(), 2, "{told}");
+    assert!(lines[0].starts_with("refusal 2 at line 2: "), "{told}");
+    assert_eq!(
+        lines[1],
+        "field 10 (layout 0, right N) is 16; allowed 1 to 15"
+    );
+}
+
+#[test]
+fn score_tells_of_drawn_rows() {
+    let legal = |cost, steps, shifted, mirrored, drift| {
+        format!(
+            "legal: cost {cost}, steps {steps}, sites shifted {shifted}, mirrored {mirrored}, \
+             changed 0, drift {drift}"
+        )
+    };
+    let told = |row| score::told(row).expect("a row of three cells");
+    // A's right heights 2 2 face B's left 3 3; B's right and C's left are the same.
+    assert_eq!(told("..AAAABBBBCCC.."), legal(200, 2, 0, 0, 0));
+    assert_eq!(told("..aaaaBBBBCCC.."), legal(50, 0, 0, 1, 0));
+    // Two cells shifted by two sites: a mean of -4 / 3.
+    assert_eq!(told("AAAABBBB..CCC.."), legal(240, 2, 4, 0, -133));
+    for (row, broken) in [
+        ("..AAAABBBB.CCC.", "cell 2 breaks rule 5: "),
+        ("..BBBBCCCAAAA..", "cell 1 breaks rule 6: "),
+        (".AAAABBBB..CCC.", "cell 1 breaks rule 8: "),
+        ("..AAAAbbbbCCC..", "cell 2 breaks rule 1: "),
+    ] {
+        let told = told(row);
+        assert!(told.starts_with(broken), "{row} {told}");
+    }
+    let missing = score::told("..AAAA").unwrap_err().to_string();
+    assert_eq!(missing, "..AAAA has no cell B");
+}
