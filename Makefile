@@ -20,9 +20,7 @@ PACKAGE := refiner-$(VERSION)
 .PHONY: all install uninstall dist
 
 all:
-	rt staticlib refiner
-	tools/kit
-	cargo build --release --offline --manifest-path importer/Cargo.toml --bin refine
+	tools/build
 
 $(ARCHIVE) $(REFINE):
 	@echo "$@ is missing: run make first" >&2; exit 1
