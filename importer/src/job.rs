@@ -130,6 +130,7 @@ impl Job {
     }
 
     /// The job with one more cell behind its others.
+    #[must_use]
     pub fn with(mut self, cell: Cell) -> Job {
         self.cells.push(cell);
         self
@@ -162,6 +163,7 @@ impl Cell {
     }
 
     /// The cell, which may now be mirrored.
+    #[must_use]
     pub fn mirrorable(mut self) -> Cell {
         self.mirrorable = true;
         self

@@ -2,6 +2,7 @@
 
 use crate::{place, placement, Numbers, Pose, PoseError, Refined, Refused};
 use crate::{OUTPUT_BYTES, STORE_WORDS};
+use std::fmt;
 
 /// A store and an output that are large enough for any job, held for many of them. Nothing is
 /// kept from one job to the next, so answers are those of [`refine`](crate::refine); threads take
@@ -21,7 +22,7 @@ use crate::{OUTPUT_BYTES, STORE_WORDS};
 /// }
 /// # Ok::<(), importer::Refused>(())
 /// ```
-#[derive(Clone, Debug)]
+#[derive(Clone)]
 pub struct Refiner {
     store: Vec<u32>,
     output: Vec<u8>,
@@ -58,6 +59,13 @@ impl Refiner {
 impl Default for Refiner {
     fn default() -> Refiner {
         Refiner::new()
+    }
+}
+
+/// Without the words of the store, of which there are too many to be shown.
+impl fmt::Debug for Refiner {
+    fn fmt(&self, out: &mut fmt::Formatter<'_>) -> fmt::Result {
+        out.debug_struct("Refiner").finish_non_exhaustive()
     }
 }
 
