@@ -77,7 +77,7 @@ fn schedule(block: &[u8]) -> [u32; STEPS] {
 
 /// The first primes, one for each step.
 fn primes() -> [u128; STEPS] {
-    let is_prime = |number: &u128| (2..*number).all(|divisor| !number.is_multiple_of(divisor));
+    let is_prime = |number: &u128| (2..*number).all(|divisor| *number % divisor != 0);
     let mut primes = (2..).filter(is_prime);
     std::array::from_fn(|_| primes.next().unwrap_or_default())
 }

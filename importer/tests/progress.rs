@@ -101,33 +101,39 @@ fn what_is_not_proved_is_shown_as_it_is() {
     assert_eq!(progress("rt: cannot go on"), "rt: cannot go on\n");
 }
 
-/// A folder with commands that say a text and end with a status, in the place of rt and cargo.
-fn stand_ins(test: &str, rt: (&str, i32)) -> PathBuf {
-    let folder = Path::new(env!("CARGO_TARGET_TMPDIR"))
+/// A tree of its own with the build's tools, and commands that stand in for rt and cargo there: rt
+/// leaves an archive, says a text and ends with a status.
+fn tree(test: &str, (said, status): (&str, i32)) -> PathBuf {
+    let tree = Path::new(env!("CARGO_TARGET_TMPDIR"))
         .join("progress")
         .join(test);
-    fs::create_dir_all(&folder).expect("a test may make its folder");
-    let (said, status) = rt;
-    fs::write(folder.join("said"), said).expect("a test may write a file");
-    let said = format!(
-        "cat '{}' >&2; echo \"rt $*\"; exit {status}",
-        folder.join("said").display()
+    fs::create_dir_all(tree.join("tools")).expect("a test may make its folder");
+    fs::create_dir_all(tree.join("target/staticlib")).expect("a test may make its folder");
+    for name in ["crates.txt", "tools/build", "tools/kit"] {
+        let file = Path::new(env!("CARGO_MANIFEST_DIR")).join("..").join(name);
+        fs::copy(file, tree.join(name)).expect("a test may copy a file");
+    }
+    fs::write(tree.join("said"), said).expect("a test may write a file");
+    let rt = format!(
+        "[ $1 = version ] && {{ echo a kit; exit; }}\n\
+         echo bytes > target/staticlib/librefiner.a\n\
+         cat said >&2; echo \"rt $*\"; exit {status}"
     );
     let cargo = "echo \"cargo $*, archive in ${REFINER_LIB_DIR-target}\"";
-    for (name, body) in [("rt", &*said), ("cargo", cargo)] {
-        let path = folder.join(name);
+    for (name, body) in [("rt", &*rt), ("cargo", cargo)] {
+        let path = tree.join(name);
         fs::write(&path, format!("#!/bin/sh\n{body}\n")).expect("a test may write a file");
         fs::set_permissions(&path, fs::Permissions::from_mode(0o755)).expect("its own file");
     }
-    folder
+    tree
 }
 
-/// Runs `tools/build` on the stand-ins.
-fn run(stand_ins: &Path) -> Output {
-    let mut path = OsString::from(stand_ins);
+/// Runs the tree's `tools/build` with its stand-ins.
+fn run(tree: &Path) -> Output {
+    let mut path = OsString::from(tree);
     path.push(":");
     path.push(env::var_os("PATH").unwrap_or_default());
-    let mut command = build();
+    let mut command = Command::new(tree.join("tools/build"));
     command
         .env("PATH", path)
         .env("REFINER_LIB_DIR", "/elsewhere");
@@ -135,24 +141,24 @@ fn run(stand_ins: &Path) -> Output {
 }
 
 #[test]
-fn once_all_is_proved_refine_is_built_with_that_archive() {
-    let output = run(&stand_ins("proved", (SAID, 0)));
+fn once_all_is_proved_its_kit_is_recorded_and_refine_is_built_with_that_archive() {
+    let tree = tree("proved", (SAID, 0));
+    let output = run(&tree);
     let told = String::from_utf8_lossy(&output.stdout);
     let last: Vec<&str> = told.lines().skip(5).collect();
+    let record = fs::read_to_string(tree.join("target/staticlib/librefiner.kit"));
+    let record = record.expect("the kit is recorded");
+    let (sum, kit) = record.split_once('\n').expect("the record has two lines");
+    assert_eq!(kit, "a kit\n");
     let cargo = "cargo build --release --offline --manifest-path importer/Cargo.toml --bin refine";
-    assert_eq!(
-        last,
-        [
-            "rt staticlib refiner",
-            &format!("{cargo}, archive in target")
-        ]
-    );
+    let cargo = format!("{cargo}, archive in target");
+    assert_eq!(last, ["rt staticlib refiner", sum, "a kit", &cargo]);
     assert!(output.status.success() && output.stderr.is_empty());
 }
 
 #[test]
 fn where_something_is_not_proved_the_build_stops() {
-    let output = run(&stand_ins("refused", (REFUSED, 3)));
+    let output = run(&tree("refused", (REFUSED, 3)));
     let told = String::from_utf8_lossy(&output.stdout);
     assert_eq!(told, format!("{REFUSED}rt staticlib refiner\n"));
     assert_eq!(output.status.code(), Some(3));

@@ -71,7 +71,7 @@ pub fn run(program: &Path, input: &[u8]) -> Output {
 /// Whether a command is there and succeeds; says so if a test goes on without it.
 pub fn is_there(command: &mut Command) -> bool {
     let output = command.stdin(Stdio::null()).output();
-    let there = output.map_or(false, |output| output.status.success());
+    let there = output.is_ok_and(|output| output.status.success());
     if !there {
         eprintln!("left out, because this does not work here: {command:?}");
     }

@@ -126,7 +126,7 @@ fn the_package_has_the_version_of_the_header() {
     make("install", &[("PREFIX", &prefix)]);
     let package = fs::read_to_string(prefix.join("lib/pkgconfig/refiner.pc"));
     let version = concat!("\nVersion: ", env!("CARGO_PKG_VERSION"), "\n");
-    assert!(package.map_or(false, |text| text.contains(version)));
+    assert!(package.is_ok_and(|text| text.contains(version)));
 }
 
 #[test]

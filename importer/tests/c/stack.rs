@@ -88,7 +88,7 @@ fn figure(operation: &str) -> usize {
         .skip_while(|word| *word != "Stack:");
     let mut behind = words.skip_while(|word| *word != operation);
     let number = behind.find_map(|word| word.parse::<usize>().ok());
-    assert!(behind.next().map_or(false, |unit| unit.starts_with("KB")));
+    assert!(behind.next().is_some_and(|unit| unit.starts_with("KB")));
     KB * number.expect("the header has a figure for each operation")
 }
 
