@@ -38,6 +38,7 @@
 #![deny(missing_docs)]
 
 pub mod calls;
+pub mod desk;
 pub mod explain;
 mod fault;
 mod fields;

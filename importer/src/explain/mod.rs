@@ -19,6 +19,12 @@ mod rules;
 pub use echo::printable;
 pub use reason::Reason;
 
+pub(crate) use job::{read as read_job, TALL};
+pub(crate) use job::{MOST_DISPLACEMENT, MOST_REORDERING, MOST_SITES};
+pub(crate) use placement::read as read_placement;
+pub use placement::Pose;
+pub(crate) use rules::stand::{Board, Stand};
+
 use crate::{Broken, Refused};
 
 /// Why Read refuses a job text; none if it does not.

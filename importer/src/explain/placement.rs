@@ -17,9 +17,13 @@ fn any_number(name: &'static str) -> Field {
 }
 
 /// How one cell stands.
+#[derive(Clone, Copy, Debug, PartialEq, Eq)]
 pub struct Pose {
+    /// Its leftmost site.
     pub site: u32,
+    /// The number of its layout.
     pub layout: u32,
+    /// 1 if it is mirrored, 0 if not; a text may say any number.
     pub mark: u32,
 }
 

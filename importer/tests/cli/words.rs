@@ -53,7 +53,8 @@ fn each_command_has_its_help() {
 
 #[test]
 fn each_help_says_the_exit_statuses_once() {
-    let statuses = "Exit status: 0 an answer, 1 a refusal, 2 a usage or input error.\n";
+    let statuses = "Exit status: 0 an answer, 1 a refusal or a check that is not passed, \
+                    2 a usage or input error.\n";
     for words in [&["help"][..], &["score", "--help"], &["help", "help"]] {
         let (usage, ..) = told(&refine(words, b""));
         assert!(usage.ends_with(statuses), "{usage}");

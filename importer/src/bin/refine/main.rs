@@ -4,9 +4,10 @@
 //! A word behind it names another command, or the job's file: [`commands`] has the commands, with the
 //! usage text.
 //!
-//! Exit status: 0 an answer, 1 a refusal, 2 a usage or input error.
+//! Exit status: 0 an answer, 1 a refusal or a check that is not passed, 2 a usage or input error.
 
 mod commands;
+mod figures;
 mod input;
 mod memory;
 mod mistake;

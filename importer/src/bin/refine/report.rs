@@ -26,6 +26,11 @@ impl Report {
         }
     }
 
+    /// The answer of a check that was not passed: its exit status is that of a refusal.
+    pub fn not_passed(self, note: &str) -> Report {
+        self.with_note(note).failing()
+    }
+
     /// `refused,number,line`; on standard error the line itself, what is wrong with it, and what
     /// the number means. `text` is what the text with the line is called.
     pub fn refusal(refused: Refused, text: &str, line: &[u8], words: Option<String>) -> Report {

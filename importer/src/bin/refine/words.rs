@@ -7,6 +7,8 @@ use std::ffi::{OsStr, OsString};
 pub struct Switch {
     /// How it is typed, the usual one first.
     pub words: &'static [&'static str],
+    /// What stands behind it, if something does.
+    pub takes: Option<&'static str>,
     /// What it does.
     pub does: &'static str,
 }
@@ -15,17 +17,32 @@ impl Switch {
     fn is_named(&self, word: &OsStr) -> bool {
         self.words.iter().any(|known| word == *known)
     }
+
+    /// How it is typed, in each way, with what it takes.
+    pub fn line(&self) -> String {
+        let words = self.words.join(", ");
+        match self.takes {
+            Some(takes) => format!("{words} {takes}"),
+            None => words,
+        }
+    }
+}
+
+/// An option as it was typed, and the word behind it if it takes one.
+struct Typed<'line> {
+    option: &'line OsStr,
+    value: Option<&'line OsStr>,
 }
 
 pub struct Words<'line> {
-    options: Vec<&'line OsStr>,
+    options: Vec<Typed<'line>>,
     pub arguments: Vec<&'line OsStr>,
 }
 
 impl<'line> Words<'line> {
     /// Parts options from arguments: an option begins with `-` and has more than that, and behind
     /// `--` there are none.
-    fn parted(words: &'line [OsString]) -> Words<'line> {
+    fn parted(words: &'line [OsString], known: &[Switch]) -> Words<'line> {
         let mut parted = Words {
             options: Vec::new(),
             arguments: Vec::new(),
@@ -34,7 +51,12 @@ impl<'line> Words<'line> {
         while let Some(word) = words.next() {
             match word.as_encoded_bytes() {
                 b"--" => parted.arguments.extend(words.by_ref()),
-                [b'-', _, ..] => parted.options.push(word),
+                [b'-', _, ..] => {
+                    let takes = |switch: &&Switch| switch.takes.is_some() && switch.is_named(word);
+                    let value = known.iter().find(takes).and_then(|_| words.next());
+                    let option = word;
+                    parted.options.push(Typed { option, value });
+                }
                 _ => parted.arguments.push(word),
             }
         }
@@ -43,21 +65,48 @@ impl<'line> Words<'line> {
 
     /// The words of a command that has these options.
     pub fn of(words: &'line [OsString], known: &[Switch]) -> Result<Words<'line>, Mistake> {
-        let words = Words::parted(words);
-        let is_known = |word: &&&OsStr| known.iter().any(|switch| switch.is_named(word));
-        match words.options.iter().find(|word| !is_known(word)) {
-            Some(word) => Err(Mistake::Usage(format!("there is no option {word:?}"))),
+        let words = Words::parted(words, known);
+        let is_known = |typed: &&Typed| known.iter().any(|switch| switch.is_named(typed.option));
+        match words.options.iter().find(|typed| !is_known(typed)) {
+            Some(typed) => Err(Mistake::Usage(format!(
+                "there is no option {:?}",
+                typed.option
+            ))),
             None => Ok(words),
         }
     }
 
     /// Whether this option is among the words.
     pub fn has(&self, switch: &Switch) -> bool {
-        self.options.iter().any(|word| switch.is_named(word))
+        self.options
+            .iter()
+            .any(|typed| switch.is_named(typed.option))
     }
+
+    /// The number behind this option, if it is among the words; the last one counts.
+    pub fn number(&self, switch: &Switch) -> Result<Option<u32>, Mistake> {
+        let is_it = |typed: &&Typed| switch.is_named(typed.option);
+        let Some(typed) = self.options.iter().rev().find(is_it) else {
+            return Ok(None);
+        };
+        match typed.value.and_then(plain_number) {
+            Some(number) => Ok(Some(number)),
+            None => Err(Mistake::Usage(format!(
+                "{} needs a number behind it",
+                typed.option.to_string_lossy()
+            ))),
+        }
+    }
+}
+
+/// A number without a sign.
+fn plain_number(word: &OsStr) -> Option<u32> {
+    let word = word.to_str()?;
+    let digits = word.bytes().all(|byte| byte.is_ascii_digit());
+    word.parse().ok().filter(|_| digits)
 }
 
 /// Whether an option is among the words, whatever else is.
 pub fn ask(words: &[OsString], switch: &Switch) -> bool {
-    Words::parted(words).has(switch)
+    Words::parted(words, &[]).has(switch)
 }

@@ -23,6 +23,8 @@ pub struct Cell {
     pub mirrorable: bool,
     /// The width of each layout.
     pub widths: Vec<u32>,
+    /// The heights of each layout as they stand in the line: four, or a tall cell's eight.
+    pub heights: Vec<Vec<u32>>,
 }
 
 impl Cell {
@@ -109,6 +111,10 @@ pub fn read(line: &Line, rows: u32) -> Result<Cell, Reason<Refused>> {
         given,
         mirrorable: mirrorable == 1,
         widths: of_layouts.iter().step_by(size).copied().collect(),
+        heights: of_layouts
+            .chunks(size)
+            .map(|layout| layout[1..].to_vec())
+            .collect(),
     })
 }
 

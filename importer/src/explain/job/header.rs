@@ -11,6 +11,11 @@ const HEADER: Form = Form {
     fields_of: |_| fields(),
 };
 
+/// The most that the header may say of each.
+pub const MOST_SITES: u32 = 1024;
+pub const MOST_DISPLACEMENT: u32 = 7;
+pub const MOST_REORDERING: u32 = 1;
+
 /// Of the numbers, those that rules and cell lines depend on.
 pub struct Header {
     pub rows: u32,
@@ -24,9 +29,9 @@ pub struct Header {
 fn fields() -> Vec<Field> {
     vec![
         Field::new("rows", 1, 2),
-        Field::new("sites", 1, 1024),
-        Field::new("D", 0, 7),
-        Field::new("R", 0, 1),
+        Field::new("sites", 1, MOST_SITES),
+        Field::new("D", 0, MOST_DISPLACEMENT),
+        Field::new("R", 0, MOST_REORDERING),
         Field::new("step", 0, 1000),
         Field::new("shift", 0, 1000),
         Field::new("mirror", 0, 1000),

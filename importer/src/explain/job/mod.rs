@@ -4,7 +4,7 @@ mod cell;
 mod header;
 
 pub use cell::{Cell, TALL};
-pub use header::Header;
+pub use header::{Header, MOST_DISPLACEMENT, MOST_REORDERING, MOST_SITES};
 
 use super::line::{lines, Line};
 use super::reason::{Reason, FORM, LIMIT, ORDER};

@@ -4,7 +4,7 @@ mod alone;
 mod ends;
 mod order;
 mod pairs;
-mod stand;
+pub mod stand;
 
 use super::job::Job;
 use super::placement::Pose;

@@ -1,16 +1,20 @@
 //! The commands of `refine`: a file for each, and an entry for each in the table below. Which
 //! command runs and what the usage text says both come from the table.
 
+mod compare;
+mod gaps;
 mod help;
 mod place;
 mod score;
 mod version;
+mod whatif;
 
 use crate::memory::zeros;
 use crate::mistake::Mistake;
 use crate::report::Report;
 use crate::words::{ask, Switch};
 use importer::calls;
+use std::collections::HashSet;
 use std::ffi::{OsStr, OsString};
 use std::slice;
 
@@ -46,6 +50,27 @@ const COMMANDS: &[Command] = &[
         run: score::run,
     },
     Command {
+        words: &["gaps"],
+        arguments: "[--table] JOB PLACEMENT",
+        prints: "the verdict, each row's gaps by width and the fillers that close them, and gaps that none close",
+        options: gaps::OPTIONS,
+        run: gaps::run,
+    },
+    Command {
+        words: &["compare"],
+        arguments: "[--table] [--max-loss N] JOB PLACEMENT",
+        prints: "the placement's numbers, the cheapest's, what is saved, and the cells and steps that differ",
+        options: compare::OPTIONS,
+        run: compare::run,
+    },
+    Command {
+        words: &["whatif"],
+        arguments: "[--table] JOB",
+        prints: "the cheapest cost for each D and R, and of a job without a placement what gives it one",
+        options: whatif::OPTIONS,
+        run: whatif::run,
+    },
+    Command {
         words: &["help", "--help", "-h"],
         arguments: "[COMMAND]",
         prints: "the commands, each with what it prints",
@@ -64,7 +89,15 @@ const COMMANDS: &[Command] = &[
 /// An option of every command.
 const HELP: Switch = Switch {
     words: &["-h", "--help"],
+    takes: None,
     does: "print how the command is typed and what it prints",
+};
+
+/// An option of the commands that print tables.
+const TABLE: Switch = Switch {
+    words: &["--table"],
+    takes: None,
+    does: "print tables for people",
 };
 
 /// What holds for every command.
@@ -72,7 +105,7 @@ const ENDING: &str = "\
 JOB and PLACEMENT are files; `-`, and no JOB at all, is standard input.
 A refusal prints `refused,number,line`; the line itself, if one is at fault, and the reason go to
 standard error.
-Exit status: 0 an answer, 1 a refusal, 2 a usage or input error.
+Exit status: 0 an answer, 1 a refusal or a check that is not passed, 2 a usage or input error.
 ";
 
 impl Command {
@@ -128,10 +161,13 @@ fn help_of(command: &Command) -> Report {
 fn usage(commands: &[Command]) -> String {
     let entry = |typed: &str, says: &str| format!("  {typed}\n      {says}\n");
     let command = |command: &Command| entry(&command.line(), command.prints);
-    let option = |switch: &Switch| entry(&switch.words.join(", "), switch.does);
+    let option = |switch: &Switch| entry(&switch.line(), switch.does);
     let lines: String = commands.iter().map(command).collect();
     let options = commands.iter().flat_map(|command| command.options);
-    let options: String = options.chain([&HELP]).map(option).collect();
+    let mut options: Vec<String> = options.chain([&HELP]).map(option).collect();
+    let mut said = HashSet::new();
+    options.retain(|option| said.insert(option.clone()));
+    let options = options.concat();
     format!("usage:\n{lines}options:\n{options}{ENDING}")
 }
 

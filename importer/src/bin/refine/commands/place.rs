@@ -12,6 +12,7 @@ const JOB: &str = "a job";
 
 const PLACEMENT_ONLY: Switch = Switch {
     words: &["-p", "--placement-only"],
+    takes: None,
     does: "print the placement without the line of numbers before it",
 };
 

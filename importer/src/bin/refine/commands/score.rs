@@ -12,6 +12,7 @@ const PLACEMENT_REFUSED: u32 = 5;
 
 const CHECK: Switch = Switch {
     words: &["--check"],
+    takes: None,
     does: "exit with status 1 for a placement that breaks a rule, too",
 };
 
@@ -19,14 +20,7 @@ pub const OPTIONS: &[Switch] = &[CHECK];
 
 pub fn run(words: &[OsString]) -> Result<Report, Mistake> {
     let words = Words::of(words, OPTIONS)?;
-    let [job, placement] = words.arguments[..] else {
-        return Err(Mistake::count(&words.arguments));
-    };
-    if job == DASH && placement == DASH {
-        let twice = "job and placement cannot both be standard input";
-        return Err(Mistake::Usage(twice.into()));
-    }
-    let (job, placement) = (Text::of(job, "a job")?, Text::of(placement, "a placement")?);
+    let (job, placement) = texts(&words)?;
     match score(&job.bytes, &placement.bytes) {
         Ok(Verdict::Legal(numbers)) => Ok(Report::answer(format!("legal,{}\n", line_of(&numbers)))),
         Ok(Verdict::Broken(broken)) => {
@@ -40,11 +34,29 @@ pub fn run(words: &[OsString]) -> Result<Report, Mistake> {
     }
 }
 
-/// `broken,rule,cell`; on standard error how the cell breaks the rule. A cell's line in the
-/// placement has the cell's number.
+/// The job and the placement that are named, and nothing besides.
+pub fn texts(words: &Words) -> Result<(Text, Text), Mistake> {
+    let [job, placement] = words.arguments[..] else {
+        return Err(Mistake::count(&words.arguments));
+    };
+    if job == DASH && placement == DASH {
+        let twice = "job and placement cannot both be standard input";
+        return Err(Mistake::Usage(twice.into()));
+    }
+    Ok((Text::of(job, "a job")?, Text::of(placement, "a placement")?))
+}
+
+/// `broken,rule,cell`; on standard error how the cell breaks the rule.
 fn answer_of(broken: &Broken, job: &Text, placement: &Text) -> Report {
     let Broken { rule, cell } = *broken;
     let report = Report::answer(format!("broken,{rule},{cell}\n"));
+    with_reason(report, broken, job, placement)
+}
+
+/// The report with how the cell breaks the rule, on standard error. A cell's line in the placement
+/// has the cell's number.
+pub fn with_reason(report: Report, broken: &Broken, job: &Text, placement: &Text) -> Report {
+    let Broken { rule, cell } = *broken;
     match explain::broken_rule(&job.bytes, &placement.bytes, broken) {
         Some(words) => {
             report.with_words_at(&placement.name, cell, &format!("rule {rule}: {words}"))
@@ -56,7 +68,7 @@ fn answer_of(broken: &Broken, job: &Text, placement: &Text) -> Report {
     }
 }
 
-fn refusal_of(refused: Refused, job: &Text, placement: &Text) -> Report {
+pub fn refusal_of(refused: Refused, job: &Text, placement: &Text) -> Report {
     let line = super::fault_line(&job.bytes, &placement.bytes);
     let words = explain::placement_line(&job.bytes, &placement.bytes, &refused);
     let text = match refused.number {

@@ -1,0 +1,178 @@
+//! The steps of a legal placement, one by one.
+
+use crate::explain::{read_job, read_placement, Board, Stand, TALL};
+use crate::Numbers;
+use std::fmt;
+
+/// From this gap on, a step is not charged.
+const FREE: u32 = 4;
+
+/// Heights of a layout in one row: left P, left N, right P, right N.
+const HEIGHTS: usize = 4;
+
+/// Which transistors' diffusion.
+#[derive(Clone, Copy, Debug, PartialEq, Eq)]
+pub enum Diffusion {
+    /// That of p-type transistors.
+    P,
+    /// That of n-type transistors.
+    N,
+}
+
+impl fmt::Display for Diffusion {
+    fn fmt(&self, out: &mut fmt::Formatter<'_>) -> fmt::Result {
+        out.write_str(match self {
+            Diffusion::P => "P",
+            Diffusion::N => "N",
+        })
+    }
+}
+
+/// Neighbours in a row whose facing heights differ, at a gap that is charged.
+#[derive(Clone, Copy, Debug, PartialEq, Eq)]
+pub struct Step {
+    /// The row in which they are neighbours, 0 or 1.
+    pub row: u32,
+    /// The cell on the left, counted from 1.
+    pub left: u32,
+    /// The cell on the right.
+    pub right: u32,
+    /// Whose heights differ.
+    pub diffusion: Diffusion,
+    /// How many sites are between them.
+    pub gap: u32,
+}
+
+impl Step {
+    /// Whether it is between the same heights of the same cells, at whatever gap.
+    pub fn is_that(&self, other: &Step) -> bool {
+        let gap = other.gap;
+        Step { gap, ..*self } == *other
+    }
+}
+
+/// The steps of a legal placement by row and from left to right; none if they are not as many as
+/// the refiner counts.
+pub fn steps(job: &[u8], placement: &[u8], numbers: &Numbers) -> Option<Vec<Step>> {
+    let job = read_job(job).ok()?;
+    let poses = read_placement(placement, job.cells.len()).ok()?;
+    let board = Board::of(&job, &poses);
+    let mut steps = Vec::new();
+    for row in 0..job.header.rows {
+        for pair in board.row_from_left(row).windows(2) {
+            steps.extend(steps_between(pair, row));
+        }
+    }
+    let counted = steps.len() == numbers.steps as usize;
+    debug_assert!(counted, "{} steps of {}", steps.len(), numbers.steps);
+    counted.then_some(steps)
+}
+
+/// The steps of two neighbours of a row.
+fn steps_between(pair: &[&Stand], row: u32) -> Vec<Step> {
+    let &[left, right] = pair else {
+        return Vec::new();
+    };
+    let gap = right.pose.site.saturating_sub(left.end());
+    if gap >= FREE {
+        return Vec::new();
+    }
+    let facing = right_edge(left, row).into_iter().zip(left_edge(right, row));
+    let differing = facing.zip([Diffusion::P, Diffusion::N]);
+    let differing = differing.filter(|((left, right), _)| left != right);
+    let step = |(_, diffusion)| Step {
+        row,
+        left: left.number,
+        right: right.number,
+        diffusion,
+        gap,
+    };
+    differing.map(step).collect()
+}
+
+/// The heights P and N of a cell's left edge in a row, as it stands.
+fn left_edge(stand: &Stand, row: u32) -> [u32; 2] {
+    let [left, right] = edges(stand, row);
+    if stand.pose.mark == 1 {
+        right
+    } else {
+        left
+    }
+}
+
+fn right_edge(stand: &Stand, row: u32) -> [u32; 2] {
+    let [left, right] = edges(stand, row);
+    if stand.pose.mark == 1 {
+        left
+    } else {
+        right
+    }
+}
+
+/// The heights of both edges in a row, unmirrored. Only a tall cell has others in row 1.
+fn edges(stand: &Stand, row: u32) -> [[u32; 2]; 2] {
+    let skipped = match stand.cell.row {
+        TALL => HEIGHTS * row as usize,
+        _ => 0,
+    };
+    let heights = stand.cell.heights.get(stand.pose.layout as usize);
+    let height = |at: usize| heights.and_then(|heights| heights.get(skipped + at));
+    let height = |at| height(at).copied().unwrap_or_default();
+    [[height(0), height(1)], [height(2), height(3)]]
+}
+
+#[cfg(test)]
+mod tests {
+    use super::*;
+    use crate::{score, Verdict};
+
+    /// A tall cell between two cells of row 1 and behind one of row 0.
+    const JOB: &[u8] = b"J,2,20,7,1,1,1,1,1
+C,0,0,1,1,4,1,2,3,4
+C,1,0,0,1,3,5,5,5,5
+C,2,6,1,1,2,3,9,1,1,5,5,6,6
+C,1,11,0,2,3,6,7,1,1,4,7,6,1,1
+";
+
+    fn found(placement: &[u8]) -> Vec<String> {
+        let Ok(Verdict::Legal(numbers)) = score(JOB, placement) else {
+            panic!("the placement is legal");
+        };
+        let steps = steps(JOB, placement, &numbers).expect("the refiner counts as many");
+        let line = |step: &Step| {
+            let Step {
+                row, left, right, ..
+            } = step;
+            format!("{row}: {left} {right} {} {}", step.diffusion, step.gap)
+        };
+        steps.iter().map(line).collect()
+    }
+
+    #[test]
+    fn at_gaps_that_are_charged() {
+        // Right of cell 1 stand 3 and 4, left of the tall cell 3 and 9; in row 1 the tall cell's
+        // right side has 6 and 6, and cell 4 begins with 6 and 7.
+        let steps = found(b"0,0,0\n0,0,0\n6,0,0\n11,0,0\n");
+        assert_eq!(steps, ["0: 1 3 N 2", "1: 3 4 N 3"]);
+    }
+
+    #[test]
+    fn of_mirrored_cells_and_second_layouts() {
+        // Cell 1 ends with 1 and 2, the tall cell mirrored begins with 1 and 1 in row 0, and in
+        // row 1 it has 6 and 6 on its left and 5 and 5 on its right. Layout 1 begins with 7 and 6.
+        let steps = found(b"0,0,1\n0,0,0\n6,0,1\n11,1,0\n");
+        let expected = [
+            "0: 1 3 N 2",
+            "1: 2 3 P 3",
+            "1: 2 3 N 3",
+            "1: 3 4 P 3",
+            "1: 3 4 N 3",
+        ];
+        assert_eq!(steps, expected);
+    }
+
+    #[test]
+    fn none_from_gap_4_on() {
+        assert_eq!(found(b"0,0,0\n0,0,0\n8,0,0\n14,0,0\n"), [""; 0]);
+    }
+}

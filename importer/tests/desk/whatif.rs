@@ -1,0 +1,141 @@
+//! `refine whatif`.
+
+use super::{check_answer, check_usage_error, file, refine, Said};
+
+fn whatif(test: &str, job: &str, words: &[&str]) -> Said {
+    let job = file(&format!("whatif_{test}.job"), job);
+    refine(&[&["whatif", &job], words].concat())
+}
+
+/// A job of one row: sites, D and R, and cells by given site and width, all of equal heights.
+fn one_row(limits: &str, cells: &[(u32, u32)]) -> String {
+    let line = |(given, width): &(u32, u32)| format!("C,0,{given},0,1,{width},1,1,1,1\n");
+    let cells: String = cells.iter().map(line).collect();
+    format!("J,1,{limits},1,1,1,1\n{cells}")
+}
+
+/// The lines of costs, by D from 0 on: with R 0 and with R 1.
+fn costs(by_displacement: [[&str; 2]; 8]) -> String {
+    let line = |(displacement, [kept, moved]): (usize, [&str; 2])| {
+        format!("cost,{displacement},0,{kept}\ncost,{displacement},1,{moved}\n")
+    };
+    by_displacement.into_iter().enumerate().map(line).collect()
+}
+
+const NONE: [&str; 2] = ["none"; 2];
+
+/// What the lines of costs are followed by.
+fn check(test: &str, job: &str, own: &str, by_displacement: [[&str; 2]; 8], ways: &str) {
+    let expected = format!("{own}\n{}{ways}", costs(by_displacement));
+    check_answer(whatif(test, job, &[]), &expected);
+}
+
+/// Up to D 1 cells 3 and 4 keep their step, 100, and cell 1 is mirrored, 10. From D 2 on the tall
+/// cell goes two sites to the right. From D 4 on cell 2 goes to site 8, four sites behind cell 1,
+/// which need not be mirrored.
+#[test]
+fn the_cheapest_cost_for_each_displacement_and_reordering() {
+    let costs = costs([
+        ["110"; 2], ["110"; 2], ["12"; 2], ["12"; 2], ["6"; 2], ["6"; 2], ["6"; 2], ["6"; 2],
+    ]);
+    let said = refine(&["whatif", "examples/desk.job"]);
+    check_answer(said, &format!("job,2,1,12\n{costs}"));
+}
+
+#[test]
+fn a_job_without_cells_costs_nothing() {
+    check(
+        "cells",
+        "J,2,9,3,0,1,1,1,1\n",
+        "job,3,0,0",
+        [["0"; 2]; 8],
+        "",
+    );
+}
+
+/// One empty site between the cells; with D 1 cell 2 goes left or right. More sites or fewer do not
+/// help where nothing may shift.
+#[test]
+fn a_job_that_lacks_displacement() {
+    let costs = [
+        NONE, ["1"; 2], ["1"; 2], ["1"; 2], ["1"; 2], ["1"; 2], ["1"; 2], ["1"; 2],
+    ];
+    let ways = "line,3,2\nsmallest D,1\nsmallest R,none\nsmallest sites,none\n";
+    let job = one_row("6,0,1", &[(0, 2), (3, 2)]);
+    check("displacement", &job, "job,0,1,none", costs, ways);
+}
+
+/// Cells of two sites and of one, both given at 2. With D 1 in file order cell 1 would be at 1,
+/// with one site before it; exchanged they are at 3 and 2, for 1. With D 2 in file order they are
+/// at 0 and 2, or at 2 and 4, for 2. Sites behind them do not matter.
+#[test]
+fn a_job_that_lacks_reordering() {
+    let far = ["2", "1"];
+    let costs = [NONE, ["none", "1"], far, far, far, far, far, far];
+    let ways = "line,3,2\nsmallest D,2\nsmallest R,1\nsmallest sites,none\n";
+    let job = one_row("5,1,0", &[(2, 2), (2, 1)]);
+    check("reordering", &job, "job,1,0,none", costs, ways);
+}
+
+/// Two cells of three sites need six.
+#[test]
+fn a_job_that_lacks_sites() {
+    let ways = "line,3,2\nsmallest D,none\nsmallest R,none\nsmallest sites,6\n";
+    let job = one_row("5,0,1", &[(0, 3), (3, 3)]);
+    check("sites", &job, "job,0,1,none", [NONE; 8], ways);
+}
+
+/// Two cells of three sites leave one of seven empty: six sites would do, or eight.
+#[test]
+fn a_job_with_a_site_too_many() {
+    let job = one_row("7,0,1", &[(0, 3), (3, 3)]);
+    let ways = "line,3,2\nsmallest D,none\nsmallest R,none\nsmallest sites,6\nmore sites,8\n";
+    check("surplus", &job, "job,0,1,none", [NONE; 8], ways);
+    let (table, ..) = whatif("surplus_table", &job, &["--table"]);
+    let start =
+        "the job: D 0, R 1, sites 7; no legal placement\n\n      R 0   R 1\nD 0  none  none\n";
+    assert!(table.starts_with(start), "{table}");
+    let end = "D 7  none  none\n\n\
+        no placement exists any more with line 3, cell 2\n\
+        what alone would give one:\n  \
+          smallest D: none\n  \
+          smallest R: none\n  \
+          smallest sites: 6\n  \
+          more sites: 8\n";
+    assert!(table.ends_with(end), "{table}");
+}
+
+/// Cell 1 alone leaves one site at the row's end, which cell 2 takes; cell 3 finds none.
+#[test]
+fn fewer_lines_need_not_have_a_placement() {
+    let ways = "line,4,3\nsmallest D,none\nsmallest R,none\nsmallest sites,none\n";
+    let job = one_row("5,0,0", &[(0, 4), (4, 1), (4, 1)]);
+    check("lines", &job, "job,0,0,none", [NONE; 8], ways);
+}
+
+/// Its only cell ends past the row.
+#[test]
+fn the_first_line_of_a_cell_may_be_one_too_many() {
+    let ways = "line,2,1\nsmallest D,none\nsmallest R,none\nsmallest sites,6\n";
+    let job = one_row("5,7,0", &[(0, 6)]);
+    check("first", &job, "job,7,0,none", [NONE; 8], ways);
+}
+
+#[test]
+fn a_refused_job_is_told_as_by_refine() {
+    let (output, notes, status) = whatif("refused", "J,1,20,8,1,100,1,100,50\n", &[]);
+    assert_eq!((&*output, status), ("refused,2,1\n", Some(1)));
+    let words = "whatif_refused.job:1: field 4 (D) is 8; allowed 0 to 7\n";
+    assert!(notes.contains(words), "{notes}");
+}
+
+#[test]
+fn one_file_is_asked_for() {
+    let job = "examples/desk.job";
+    let command = "the command is `refine whatif [--table] JOB`";
+    let count = |count: u32| format!("wrong number of arguments: {count}; {command}");
+    check_usage_error(&["whatif"], &count(0));
+    check_usage_error(&["whatif", job, job], &count(2));
+    let option = format!("there is no option \"--max-loss\"; {command}");
+    check_usage_error(&["whatif", job, "--max-loss", "5"], &option);
+}
