@@ -16,7 +16,9 @@ slice-aggregate-order-row : tie.Need-slice-aggregate-order-row
 slice-aggregate-order-row c = search needs
 
 order-row-requires : tie.Need-order-row-requires
-order-row-requires c κs = (omega (arith, c .before .before .pre .1 .accepted .few), omega (arith, c .before .before .pre .2 .long), zeros-room)
+order-row-requires c κs =
+    let s = c .before .before in
+    (record { long = s .pre .2 .long; few = s .pre .1 .accepted .few }, zeros-room)
 
 slice-aggregate-steps-in : tie.Need-slice-aggregate-steps-in
 slice-aggregate-steps-in c = search needs

@@ -16,7 +16,7 @@ slice-aggregate-row-cells : tie.Need-slice-aggregate-row-cells
 slice-aggregate-row-cells c = search needs
 
 row-cells-requires : tie.Need-row-cells-requires
-row-cells-requires c κs = let s = c .before .before .before .before in (s .pre .0 .cells .few, s .pre .0 .cells .long, zeros-room)
+row-cells-requires c κs = let s = c .before .before .before .before in (s .pre .0 .cells, zeros-room)
 
 slice-aggregate-places : tie.Need-slice-aggregate-places
 slice-aggregate-places c = search needs
@@ -24,7 +24,8 @@ slice-aggregate-places c = search needs
 places-requires : tie.Need-places-requires
 places-requires c κs =
     let mid = c .before .before .before .before in
-    let t = mid .before .before .before .pre .0 .tail in (tail-room t, t .start, away-placed)
+    let t = mid .before .before .before .pre .0 .tail in
+    record { start = t .start; listed = tail-room t; none = away-placed }
 
 slice-aggregate-places-2 : tie.Need-slice-aggregate-places-2
 slice-aggregate-places-2 c = search needs
@@ -35,7 +36,8 @@ slice-aggregate-places-3 c = search needs
 places-requires-2 : tie.Need-places-requires-2
 places-requires-2 c κs =
     let mid = c .before .before .before .before in
-    let t = mid .before .before .row-cells .ensures in (tail-room t, t .start, away-placed)
+    let t = mid .before .before .row-cells .ensures in
+    record { start = t .start; listed = tail-room t; none = away-placed }
 
 slice-aggregate-mark-out : tie.Need-slice-aggregate-mark-out
 slice-aggregate-mark-out c = search needs

@@ -38,7 +38,7 @@ order-row-requires c κs =
     let far = c .before .before .before in
     let choice = far .before .before .before in
     let f = choice .before .before .before in
-    let s = f .before .before .before in (s .pre .0 .accepted .few, f .flatten .ensures .long, zeros-room)
+    let s = f .before .before .before in (record { long = f .flatten .ensures .long; few = s .pre .0 .accepted .few }, zeros-room)
 
 slice-aggregate-order-row-3 : tie.Need-slice-aggregate-order-row-3
 slice-aggregate-order-row-3 c = search needs
@@ -52,7 +52,7 @@ order-row-requires-2 c κs =
     let far = row .before .before .before in
     let choice = far .before .before .before in
     let f = choice .before .before .before in
-    let s = f .before .before .before in (s .pre .0 .accepted .few, f .flatten .ensures .long, zeros-room)
+    let s = f .before .before .before in (record { long = f .flatten .ensures .long; few = s .pre .0 .accepted .few }, zeros-room)
 
 slice-aggregate-judge-rules : tie.Need-slice-aggregate-judge-rules
 slice-aggregate-judge-rules c = search needs
