@@ -1,4 +1,5 @@
--- The steps of two neighbours, from the words, the cells and the poses; and their sum over a list, from the right.
+-- The steps of two neighbours, from the words, the cells and the poses; their sum over a list, from the right; and what
+-- the functions that count them are given.
 use Prim.Native.Nat.{ℕ, zero, suc, _+_, _*_, _-_, _≤_, _<_}
 use mathlib.Core.Path.{_≡_, refl, sym, ap₂, _∙_}
 use mathlib.Core.List.{List}
@@ -18,9 +19,31 @@ use Rattle.job.specs.Value as value
 use Rattle.job.specs.Value.{cellOf, poseOf, jobOf, placementOf}
 use Rattle.job.specs.Parts.{heightIn}
 use Rattle.job.specs.Cells.{cell-there, pose-there}
-use Rattle.score_order.specs.Words.{siteIn, endIn}
+use Rattle.score_order.specs.Words.{siteIn, endIn, Room}
+use Rattle.score_order.specs.Below.{Below}
 use Rattle.score_words.specs.Flat.{Flat}
 use Rattle.score_steps.specs.Heights.{leftOf, rightOf, unlike, differingOf, differing-of}
+
+-- ---- what is given
+
+-- words of 64 cells, and two of these, a to the left, as neighbours in row r
+pub record Facing (words : List ℕ) (a b r : ℕ) : Type 0 where
+  pub long : length words ≡ 256
+  pub left : a < 64
+  pub right : b < 64
+  pub row : r ≤ 1
+
+-- a job and a placement of it, their words, and cells as those of row r: the entries of an array from `at` on
+pub record PlacedRow (job : Job) (P : Placement) (words array : List ℕ) (at r : ℕ) : Type 0 where
+  pub row : r ≤ 1
+  pub few : job .count ≤ 64
+  pub each : P .count ≡ job .count
+  pub flat : Flat (jobOf job) (placementOf P) (job .count) words
+  pub room : Room array
+  pub start : at ≤ 64
+  pub cells : Below (job .count) (drop at array)
+
+-- ---- the heights
 
 -- the two pairs of heights
 pub differing-two : (c : paper.Cell) (p : text.Pose) (d : paper.Cell) (q : text.Pose) (row x y : ℕ)

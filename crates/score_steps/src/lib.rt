@@ -1,14 +1,13 @@
 // Steps: the charge of a gap, the differing heights of neighbours, and their sum over a row.
 ghost use mathlib.Core.Path.{_≡_};
-ghost use Prim.Native.Nat.{_+_, _*_, _-_, _≤_, _<_};
-ghost use lib.ListN.{length, drop};
+ghost use Prim.Native.Nat.{_+_, _*_, _-_, _≤_};
+ghost use lib.ListN.{drop};
 ghost use Rattle.definition.specs.Lists.{sumNext};
 ghost use Rattle.definition.specs.Cost.{charge, stepsAt};
 ghost use Rattle.job.specs.Value.{cellOf, poseOf, jobOf, placementOf, heightCount};
-ghost use Rattle.score_order.specs.Words.{siteIn, endIn, Room};
-ghost use Rattle.score_order.specs.Below.{Below};
-ghost use Rattle.score_words.specs.Flat.{Flat};
+ghost use Rattle.score_order.specs.Words.{siteIn, endIn};
 ghost use Rattle.score_steps.specs.Heights.{leftOf, rightOf, unlike, differingOf};
+ghost use Rattle.score_steps.specs.Steps.{Facing, PlacedRow};
 use gap_charge::charge_of;
 use job::Cell;
 use job::Job;
@@ -79,7 +78,7 @@ fn steps_of(
     q: Pose,
     row: u32,
 ) -> u32
-    requires { ⌜ (length (now words) ≡ 256) × (a < 64) × (b < 64) × (row ≤ 1) ⌝ }
+    requires { ⌜ Facing (now words) a b row ⌝ }
     ensures { λ r. ⌜ (r ≡ charge (siteIn (now (words .entry)) b - endIn (now (words .entry)) a)
         * differingOf (cellOf left) (poseOf p) (cellOf right) (poseOf q) row)
         × (r ≤ 2) ⌝ }
@@ -97,9 +96,7 @@ pub fn steps_in(
     at: usize,
     row: u32,
 ) -> u32
-    requires { ⌜ (row ≤ 1) × (job .count ≤ 64) × (placement .count ≡ job .count)
-        × Flat (jobOf job) (placementOf placement) (job .count) (now words) ⌝ }
-    requires { ⌜ Room (now order) × (at ≤ 64) × Below (job .count) (drop at (now order)) ⌝ }
+    requires { ⌜ PlacedRow job placement (now words) (now order) at row ⌝ }
     ensures { λ r. ⌜ (r ≡ sumNext (stepsAt (jobOf job) (placementOf placement) row) (drop at (now (order .entry))))
         × (r ≤ 126) ⌝ }
 {

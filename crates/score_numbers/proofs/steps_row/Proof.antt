@@ -4,7 +4,7 @@ use mathlib.Core.Path.{ap, sym, subst, _∙_}
 use Rattle.definition.specs.Lists.{sumNext}
 use Rattle.definition.specs.Cost.{stepsIn, stepsAt}
 use Rattle.job.specs.Value.{jobOf, placementOf}
-use Rattle.score_order.specs.Words.{siteIn, cellsIn}
+use Rattle.score_order.specs.Words.{siteIn, cellsIn, tail-room}
 use Rattle.score_order.specs.Below.{Below, below-sort, below-cells}
 use Rattle.score_order.specs.Arrays.{zeros-room}
 use Rattle.score_words.specs.Rows.{flat-order}
@@ -30,14 +30,16 @@ steps-in-requires c κs =
     let t = c .before .before .order-row .ensures in
     let r = s .pre .1 in
     let w = s .args .words .now in
-    let n = s .args .job .count in (
-      (s .pre .0, r .accepted .few, r .each, s .pre .2),
-      (
-        record { long = t .long; low = t .low },
-        t .start,
-        subst (Below n) (sym (t .entries)) (below-sort n (siteIn w) (cellsIn w (s .args .row) 0 n) (below-cells w (s .args .row) n)),
-      ),
-    )
+    let n = s .args .job .count in
+    record {
+      row = s .pre .0;
+      few = r .accepted .few;
+      each = r .each;
+      flat = s .pre .2;
+      room = tail-room t;
+      start = t .start;
+      cells = subst (Below n) (sym (t .entries)) (below-sort n (siteIn w) (cellsIn w (s .args .row) 0 n) (below-cells w (s .args .row) n));
+    }
 
 returns : tie.Need-returns
 unfolding stepsIn

@@ -35,7 +35,7 @@ loop-holds c =
     let s = c .before .before in
     let o = s .args .order .now in
     let f = stepsAt (jobOf (s .args .t1)) (placementOf (s .args .t2)) (s .args .row) in
-    record { below = omega arith; down = omega arith; small = omega arith; sum = sym (sum-last f o 63 (omega (arith, s .pre .1 .0 .long))) }
+    record { below = omega arith; down = omega arith; small = omega arith; sum = sym (sum-last f o 63 (omega (arith, s .pre .room .long))) }
 
 sub-i : tie.Need-sub-i Inv-loop μ-loop
 sub-i c = omega arith
@@ -74,7 +74,8 @@ element-copy-out-steps-of-4 : tie.Need-element-copy-out-steps-of-4 Inv-loop μ-l
 element-copy-out-steps-of-4 c = omega arith
 
 steps-of-requires : tie.Need-steps-of-requires Inv-loop μ-loop
-steps-of-requires c κs = search needs
+steps-of-requires c κs =
+    record { long = omega arith; left = omega arith; right = omega arith; row = omega arith }
 
 add-total : tie.Need-add-total Inv-loop μ-loop
 add-total c = omega arith
@@ -95,15 +96,15 @@ loop-again c =
     let f : ℕ → ℕ → ℕ = stepsAt (jobOf job) (placementOf P) (s .args .row) in
     let a : ℕ = mid .before .before .entry .result in
     let b : ℕ = mid .before .entry2 .result in
-    let l : length o ≡ 64 = s .pre .1 .0 .long in
+    let l : length o ≡ 64 = s .pre .room .long in
     let test : s .args .at < p .loop .i = mid .before .before .before .loop-test .taken in
     let next : i + 1 ≡ p .loop .i = omega arith in
     let ea : a ≡ getD o i 0 = mid .before .before .entry .ensures .0 in
     let eb : b ≡ getD o (p .loop .i) 0 = mid .before .entry2 .ensures .0 ∙ ap (λ x. getD o x 0) next in
-    let ha : getD o i 0 < job .count = below-tail (job .count) o (s .args .at) i (s .pre .1 .2) (omega arith) (omega arith) in
-    let hb : getD o (p .loop .i) 0 < job .count = below-tail (job .count) o (s .args .at) (p .loop .i) (s .pre .1 .2) (omega arith) (omega arith) in
+    let ha : getD o i 0 < job .count = below-tail (job .count) o (s .args .at) i (s .pre .cells) (omega arith) (omega arith) in
+    let hb : getD o (p .loop .i) 0 < job .count = below-tail (job .count) o (s .args .at) (p .loop .i) (s .pre .cells) (omega arith) (omega arith) in
     let e : c .steps-of .result ≡ f a b =
-    steps-value job P (s .args .words .now) (s .args .row) a b (c .steps-of .result) (s .pre .0 .3) (s .pre .0 .2) (omega arith) (omega arith)
+    steps-value job P (s .args .words .now) (s .args .row) a b (c .steps-of .result) (s .pre .flat) (s .pre .each) (omega arith) (omega arith)
     (c .steps-of .ensures .0) in
     let g = ap₂ f ea eb in
     record {
@@ -126,7 +127,7 @@ returns c =
     let m = p .loop .inv in
     let o : List ℕ = s .args .order .now in
     let f : ℕ → ℕ → ℕ = stepsAt (jobOf (s .args .t1)) (placementOf (s .args .t2)) (s .args .row) in (
-      m .sum ∙ down f o (p .loop .i) (s .args .at) (s .pre .1 .0 .long) (m .below) (m .down) (omega arith) (leb (s .args .at) 63) (le? (s .args .at) 63),
+      m .sum ∙ down f o (p .loop .i) (s .args .at) (s .pre .room .long) (m .below) (m .down) (omega arith) (leb (s .args .at) 63) (le? (s .args .at) 63),
       omega arith,
     )
 
