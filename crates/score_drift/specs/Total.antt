@@ -9,7 +9,7 @@ use Rattle.definition.specs.Lists.{from}
 use Rattle.definition.specs.Job as paper
 use Rattle.definition.specs.Placement as text
 use Rattle.definition.specs.Cost.{hundredths, totalShift, drift}
-use Rattle.score_order.specs.Words.{siteIn, givenIn}
+use Rattle.score_order.specs.Words.{siteIn, givenIn, Words}
 use Rattle.score_words.specs.Flat.{Flat}
 
 -- site minus given, of the n cells from k on
@@ -17,9 +17,17 @@ unfoldable pub totalIn : List ℕ → ℕ → ℕ → ℤ
 totalIn words k zero = pos 0
 totalIn words k (suc n) = (pos (siteIn words k) -ℤ pos (givenIn words k)) +ℤ totalIn words (suc k) n
 
--- sites have four digits, and given sites are in range
-abbrev pub Digits : List ℕ → ℕ → Type 0
-Digits words n = (k : ℕ) → k < n → (siteIn words k ≤ 9999) × (givenIn words k ≤ 1023)
+-- the words of n cells: their sites have four digits, and their given sites are in range
+pub record Digits (words : List ℕ) (n : ℕ) : Type 0 where
+  pub cells : Words words n
+  pub site : (k : ℕ) → k < n → siteIn words k ≤ 9999
+  pub given : (k : ℕ) → k < n → givenIn words k ≤ 1023
+
+-- the size of a sum of displacements, and the number of cells, not 0, that its average is taken over
+pub record Average (d n : ℕ) : Type 0 where
+  pub small : d ≤ 1000000
+  pub some : 0 < n
+  pub few : n ≤ 64
 
 -- a sum over n cells, in hundredths of a site
 abbrev pub driftOf : ℤ → ℕ → ℤ

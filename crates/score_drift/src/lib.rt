@@ -3,10 +3,9 @@
 ghost use mathlib.Core.Path.{_≡_};
 ghost use Prim.Native.Nat.{_+_, _*_, _<_, _≤_, _^_};
 ghost use lib.IntN.{ℤ, pos, negℤ, natAbs, _+ℤ_, _-ℤ_};
-ghost use lib.ListN.{length};
 ghost use lib.Signed.{ltZ};
 ghost use Rattle.definition.specs.Cost.{nearest};
-ghost use Rattle.score_drift.specs.Total.{totalIn, Digits, driftOf};
+ghost use Rattle.score_drift.specs.Total.{totalIn, Digits, Average, driftOf};
 
 // d as a signed number.
 fn positive(d: u32) -> i32
@@ -59,7 +58,7 @@ fn displacement(site: u32, given: u32) -> i32
 
 // The signed sum of the displacements of all cells.
 pub fn total_shift(words: &[u32], count: usize) -> i32
-    requires { ⌜ (count ≤ 64) × (length (now words) ≡ 256) × Digits (now words) count ⌝ }
+    requires { ⌜ Digits (now words) count ⌝ }
     ensures { λ r. ⌜ (r ≡ totalIn (now (words .entry)) 0 count) × (natAbs r ≤ 1000000) ⌝ }
 {
     let mut total: i32 = 0;
@@ -73,7 +72,7 @@ pub fn total_shift(words: &[u32], count: usize) -> i32
 
 // d over n in hundredths, a half going up.
 fn hundredths_of(d: u32, n: u32) -> u32
-    requires { ⌜ (d ≤ 1000000) × (0 < n) × (n ≤ 64) ⌝ }
+    requires { ⌜ Average d n ⌝ }
     ensures { λ r. ⌜ (r ≡ nearest (100 * d) n) × (r < 2 ^ 31) ⌝ }
 {
     (2 * (100 * d) + n) / (2 * n)

@@ -20,12 +20,13 @@ use Rattle.score_numbers.specs.Sums.{sumFrom, countFrom, shiftIn, isChan
 
 pub flat-digits : (job : Job) (P : Placement) (words : List ℕ) → Ready job P
     → Flat (jobOf job) (placementOf P) (job .count) words → Digits words (job .count)
-flat-digits job P words r f k h =
-    let s = f .shows k in
-    let l : k < length (jobOf job .cells) = omega (arith, f .count) in (
-      omega (arith, s .site, ap (λ p. p .site) (pose-there P k (omega (arith, r .each))), r .site k h),
-      omega (arith, s .given, r .accepted .sound .cell k l .given),
-    )
+flat-digits job P words r f = record {
+  cells = record { long = f .long; few = r .accepted .few };
+  site = λ k h.
+      omega (arith, f .shows k .site, ap (λ p. p .site) (pose-there P k (omega (arith, r .each))), r .site k h);
+  given = λ k h.
+      omega (arith, f .shows k .given, r .accepted .sound .cell k (omega (arith, f .count)) .given);
+}
 
 pub steps-sum : (j : paper.Job) (P : text.Placement) (a b : ℕ) → a ≡ stepsIn j P 0 → b ≡ stepsIn j P 1
     → a + b ≡ steps j P

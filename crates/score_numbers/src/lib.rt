@@ -75,7 +75,7 @@ fn shift_of(words: &[u32], k: usize) -> u32
 
 // Sites shifted, over all cells.
 fn shifted_in(words: &[u32], count: usize) -> u32
-    requires { ⌜ (count ≤ 64) × (length (now words) ≡ 256) × Digits (now words) count ⌝ }
+    requires { ⌜ Digits (now words) count ⌝ }
     ensures { λ r. ⌜ (r ≡ sumFrom (shiftIn (now (words .entry))) 0 count) × (r ≤ 800000) ⌝ }
 {
     let mut total: u32 = 0;

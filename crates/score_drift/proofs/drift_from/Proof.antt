@@ -30,7 +30,7 @@ sign-is : (c : tie.After-is-negative) → ltZ (c .before .before .before .before
 sign-is c = ap (λ (y : ℤ). ltZ y (pos 0)) (sym (toZ-ofZ (c .before .before .before .before .fits .s))) ∙ sym (c .is-negative .ensures)
 
 hundredths-of-requires : tie.Need-hundredths-of-requires
-hundredths-of-requires c κs = omega (arith, whole c)
+hundredths-of-requires c κs = record { small = omega (arith, whole c); some = omega arith; few = omega arith }
 
 is-negative-requires : tie.Need-is-negative-requires
 is-negative-requires c κs = search needs

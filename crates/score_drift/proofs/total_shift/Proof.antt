@@ -59,7 +59,8 @@ digits : (c : tie.After-shared-slice-known3 Inv-loop μ-loop)
     (siteIn w (p .loop .k - 1) ≤ 9999) × (givenIn w (p .loop .k - 1) ≤ 1023)
 digits c =
     let p = c .before .before .before in
-    p .before .before .pre .2 (p .loop .k - 1) (omega arith)
+    let d = p .before .before .pre in
+    (d .site (p .loop .k - 1) (omega arith), d .given (p .loop .k - 1) (omega arith))
 
 displacement-requires : tie.Need-displacement-requires Inv-loop μ-loop
 displacement-requires c κs = digits c

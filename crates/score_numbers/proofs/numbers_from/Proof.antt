@@ -25,7 +25,7 @@ add-steps c = search needs
 shifted-in-requires : tie.Need-shifted-in-requires
 shifted-in-requires c κs =
     let s = c .before .before .before in
-    (s .pre .0 .accepted .few, s .pre .1 .long, flat-digits (s .args .job) (s .args .placement) (s .args .words .now) (s .pre .0) (s .pre .1))
+    flat-digits (s .args .job) (s .args .placement) (s .args .words .now) (s .pre .0) (s .pre .1)
 
 mirrored-in-requires : tie.Need-mirrored-in-requires
 mirrored-in-requires c κs = search needs
@@ -48,7 +48,7 @@ total-shift-requires : tie.Need-total-shift-requires
 total-shift-requires c κs =
     let mid = c .before .before .before .before in
     let s = mid .before .before .before in
-    (s .pre .0 .accepted .few, s .pre .1 .long, flat-digits (s .args .job) (s .args .placement) (s .args .words .now) (s .pre .0) (s .pre .1))
+    flat-digits (s .args .job) (s .args .placement) (s .args .words .now) (s .pre .0) (s .pre .1)
 
 cast-drift-from : tie.Need-cast-drift-from
 cast-drift-from c = search needs

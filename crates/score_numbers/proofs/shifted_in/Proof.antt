@@ -39,7 +39,8 @@ small : (c : tie.After-shift-of Inv-loop μ-loop) → c .shift-of .result ≤ 11
 small c =
     let p = c .before .before in
     let s = p .before .before in
-    omega (arith, c .shift-of .ensures .1, s .pre .2 (p .loop .k - 1) (omega arith))
+    let k : ℕ = p .loop .k - 1 in
+    omega (arith, c .shift-of .ensures .1, s .pre .site k (omega arith), s .pre .given k (omega arith))
 
 add-total : tie.Need-add-total Inv-loop μ-loop
 add-total c = omega (arith, small c)
