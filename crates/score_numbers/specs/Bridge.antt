@@ -1,5 +1,5 @@
--- The program's sums are the definition's numbers.
-use Prim.Native.Nat.{ℕ, _+_, _*_, _≤_, _<_}
+-- The program's sums are the definition's numbers; what they are taken of.
+use Prim.Native.Nat.{ℕ, _+_, _*_, _≤_}
 use mathlib.Core.Path.{_≡_, sym, ap, ap₂, fun-ext}
 use mathlib.Core.List.{List}
 use native.Mathlib.Omega.{arith}
@@ -9,6 +9,7 @@ use Rattle.definition.specs.Job as paper
 use Rattle.definition.specs.Placement as text
 use Rattle.definition.specs.Rules.{apart}
 use Rattle.definition.specs.Cost.{steps, stepsIn, shifted, mirrored, changed, cost, isMirrored}
+use Rattle.job.specs.declared.Header.{Header}
 use Rattle.job.specs.declared.Job.{Job}
 use Rattle.job.specs.declared.Placement.{Placement}
 use Rattle.job.specs.Value.{jobOf, headerOf, placementOf}
@@ -18,15 +19,42 @@ use Rattle.job.specs.Cells.{pose-there}
 use Rattle.score_drift.specs.Total.{Digits}
 use Rattle.score_numbers.specs.Sums.{sumFrom, countFrom, shiftIn, isChanged}
 
-pub flat-digits : (job : Job) (P : Placement) (words : List ℕ) → Ready job P
-    → Flat (jobOf job) (placementOf P) (job .count) words → Digits words (job .count)
-flat-digits job P words r f = record {
-  cells = record { long = f .long; few = r .accepted .few };
-  site = λ k h.
-      omega (arith, f .shows k .site, ap (λ p. p .site) (pose-there P k (omega (arith, r .each))), r .site k h);
-  given = λ k h.
-      omega (arith, f .shows k .given, r .accepted .sound .cell k (omega (arith, f .count)) .given);
-}
+-- ---- what is given
+
+-- a job and a placement that may be scored, and the words of the placed cells
+pub record InWords (job : Job) (P : Placement) (words : List ℕ) : Type 0 where
+  pub ready : Ready job P
+  pub flat : Flat (jobOf job) (placementOf P) (job .count) words
+
+-- the weights of a header are in range
+pub record Weights (h : Header) : Type 0 where
+  pub step : h .step ≤ 1000
+  pub shift : h .shift ≤ 1000
+  pub mirror : h .mirror ≤ 1000
+  pub swap : h .swap ≤ 1000
+
+-- such weights, and the four numbers that they weigh, none so large that the cost does not fit
+pub record Weighable (h : Header) (a b c d : ℕ) : Type 0 where
+  pub weights : Weights h
+  pub steps : a ≤ 252
+  pub shifted : b ≤ 800000
+  pub mirrored : c ≤ 64
+  pub changed : d ≤ 64
+
+-- ---- from the words
+
+-- sites and given sites are in range
+pub flat-digits : {job : Job} {P : Placement} {words : List ℕ} → InWords job P words → Digits words (job .count)
+flat-digits {P = P} w =
+    let r = w .ready in
+    let f = w .flat in
+    record {
+      cells = record { long = f .long; few = r .accepted .few };
+      site = λ k h.
+          omega (arith, f .shows k .site, ap (λ p. p .site) (pose-there P k (omega (arith, r .each))), r .site k h);
+      given = λ k h.
+          omega (arith, f .shows k .given, r .accepted .sound .cell k (omega (arith, f .count)) .given);
+    }
 
 pub steps-sum : (j : paper.Job) (P : text.Placement) (a b : ℕ) → a ≡ stepsIn j P 0 → b ≡ stepsIn j P 1
     → a + b ≡ steps j P
@@ -56,13 +84,7 @@ pub cost-sum : (job : Job) (P : text.Placement) (a b c d : ℕ) → a ≡ steps 
 unfolding cost jobOf headerOf
 cost-sum job P a b c d e f g h = rw (e, f, g, h)
 
-pub record Weights (job : Job) : Type 0 where
-  pub step : job .header .step ≤ 1000
-  pub shift : job .header .shift ≤ 1000
-  pub mirror : job .header .mirror ≤ 1000
-  pub swap : job .header .swap ≤ 1000
-
-pub weights-small : (job : Job) (P : Placement) → Ready job P → Weights job
+pub weights-small : (job : Job) (P : Placement) → Ready job P → Weights (job .header)
 unfolding jobOf headerOf
 weights-small job P r =
     let h = r .accepted .sound .header in

@@ -9,10 +9,10 @@ ghost use Rattle.results.specs.Fields.{maxFields, More};
 ghost use Rattle.job.specs.Value.{jobOf, placementOf};
 ghost use Rattle.score_order.specs.Words.{siteIn, givenIn};
 ghost use Rattle.score_words.specs.Ready.{Ready};
-ghost use Rattle.score_words.specs.Flat.{Flat};
 ghost use Rattle.score_drift.specs.Total.{Digits};
 ghost use Rattle.score_numbers.specs.Sums.{sumFrom, countFrom, shiftIn, isChanged};
 ghost use Rattle.score_numbers.specs.Counted.{noNumbers, numbersIn, Small, Counted};
+ghost use Rattle.score_numbers.specs.Bridge.{InWords, Weighable};
 use job::Header;
 use job::Job;
 use job::Placement;
@@ -123,7 +123,7 @@ fn changed_in(placement: Placement) -> u32
 
 // The steps of one row.
 fn steps_row(job: Job, placement: Placement, words: &[u32], row: u32) -> u32
-    requires { ⌜ (row ≤ 1) × Ready job placement × Flat (jobOf job) (placementOf placement) (job .count) (now words) ⌝ }
+    requires { ⌜ InWords job placement (now words) × (row ≤ 1) ⌝ }
     ensures { λ r. ⌜ (r ≡ stepsIn (jobOf job) (placementOf placement) row) × (r ≤ 126) ⌝ }
 {
     let mut order = [0u32; 64];
@@ -133,8 +133,7 @@ fn steps_row(job: Job, placement: Placement, words: &[u32], row: u32) -> u32
 
 // Each number times its weight.
 fn weighed_sum(header: Header, steps: u32, shifted: u32, mirrored: u32, changed: u32) -> u32
-    requires { ⌜ (header .step ≤ 1000) × (header .shift ≤ 1000) × (header .mirror ≤ 1000) × (header .swap ≤ 1000) ⌝ }
-    requires { ⌜ (steps ≤ 252) × (shifted ≤ 800000) × (mirrored ≤ 64) × (changed ≤ 64) ⌝ }
+    requires { ⌜ Weighable header steps shifted mirrored changed ⌝ }
     ensures { λ r. ⌜ (r ≡ header .step * steps + header .shift * shifted
         + header .mirror * mirrored + header .swap * changed)
         × (r ≤ 1000000000) ⌝ }
@@ -144,7 +143,7 @@ fn weighed_sum(header: Header, steps: u32, shifted: u32, mirrored: u32, changed:
 
 // All numbers, from the words of the placed job.
 fn numbers_from(job: Job, placement: Placement, words: &[u32]) -> Numbers
-    requires { ⌜ Ready job placement × Flat (jobOf job) (placementOf placement) (job .count) (now words) ⌝ }
+    requires { ⌜ InWords job placement (now words) ⌝ }
     ensures { λ r. ⌜ Counted (jobOf job) (placementOf placement) r ⌝ }
 {
     let steps = steps_row(job, placement, words, 0) + steps_row(job, placement, words, 1);

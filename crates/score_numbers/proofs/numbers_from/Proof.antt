@@ -25,7 +25,7 @@ add-steps c = search needs
 shifted-in-requires : tie.Need-shifted-in-requires
 shifted-in-requires c κs =
     let s = c .before .before .before in
-    flat-digits (s .args .job) (s .args .placement) (s .args .words .now) (s .pre .0) (s .pre .1)
+    flat-digits (s .pre)
 
 mirrored-in-requires : tie.Need-mirrored-in-requires
 mirrored-in-requires c κs = search needs
@@ -37,18 +37,22 @@ weighed-sum-requires : tie.Need-weighed-sum-requires
 weighed-sum-requires c κs =
     let mid = c .before .before .before .before in
     let s = mid .before .before in
-    let w = weights-small (s .args .job) (s .args .placement) (s .pre .0) in
+    let w = weights-small (s .args .job) (s .args .placement) (s .pre .ready) in
     let a = c .before .before .before .before .steps-row .ensures .1 in
-    let b = c .before .before .before .steps-row2 .ensures .1 in (
-      (w .step, w .shift, w .mirror, w .swap),
-      (omega arith, c .before .before .shifted-in .ensures .1, c .before .mirrored-in .ensures .1, c .changed-in .ensures .1),
-    )
+    let b = c .before .before .before .steps-row2 .ensures .1 in
+    record {
+      weights = w;
+      steps = omega arith;
+      shifted = c .before .before .shifted-in .ensures .1;
+      mirrored = omega arith;
+      changed = omega arith;
+    }
 
 total-shift-requires : tie.Need-total-shift-requires
 total-shift-requires c κs =
     let mid = c .before .before .before .before in
     let s = mid .before .before .before in
-    flat-digits (s .args .job) (s .args .placement) (s .args .words .now) (s .pre .0) (s .pre .1)
+    flat-digits (s .pre)
 
 cast-drift-from : tie.Need-cast-drift-from
 cast-drift-from c = search needs
@@ -68,8 +72,8 @@ returns c =
     let s = one .before .before in
     let job : Job = s .args .job in
     let P : Placement = s .args .placement in
-    let f = s .pre .1 in
-    let n = s .pre .0 .each in
+    let f = s .pre .flat in
+    let n = s .pre .ready .each in
     let ea =
     steps-sum (jobOf job) (placementOf P) (one .steps-row .result) (two .steps-row2 .result) (one .steps-row .ensures .0) (two .steps-row2 .ensures .0) in
     let eb = shift .shifted-in .ensures .0 ∙ flat-shifted f in

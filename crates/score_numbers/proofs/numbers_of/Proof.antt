@@ -14,7 +14,9 @@ slice-aggregate-numbers-from : tie.Need-slice-aggregate-numbers-from
 slice-aggregate-numbers-from c = search needs
 
 numbers-from-requires : tie.Need-numbers-from-requires
-numbers-from-requires c κs = search needs
+numbers-from-requires c κs =
+    let f = c .before .before in
+    record { ready = f .before .before .pre; flat = f .flatten .ensures }
 
 returns : tie.Need-returns
 returns c = search needs

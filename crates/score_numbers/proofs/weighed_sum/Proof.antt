@@ -13,9 +13,13 @@ parts : (s : tie.Start)
     × (s .args .header .mirror * s .args .mirrored ≤ 64000)
     × (s .args .header .swap * s .args .changed ≤ 64000)
 parts s =
-    let w = s .pre .0 in
-    let n = s .pre .1 in
-    (weighed _ _ 252 (w .0) (n .0), weighed _ _ 800000 (w .1) (n .1), weighed _ _ 64 (w .2) (n .2), weighed _ _ 64 (w .3) (n .3))
+    let n = s .pre in
+    let w = n .weights in (
+      weighed _ _ 252 (w .step) (n .steps),
+      weighed _ _ 800000 (w .shift) (n .shifted),
+      weighed _ _ 64 (w .mirror) (n .mirrored),
+      weighed _ _ 64 (w .swap) (n .changed),
+    )
 
 mul-result : tie.Need-mul-result
 mul-result c = omega (arith, parts (c .before))
