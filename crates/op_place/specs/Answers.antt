@@ -10,14 +10,14 @@ use lib.IntN.{ℤ, pos}
 use Rattle.definition.specs.Texts.{Text}
 use Rattle.definition.specs.Job as paper
 use Rattle.definition.specs.Job.{refused, accepted, readJob, firstFailing}
-use Rattle.definition.specs.Placement.{Printable, textOf}
+use Rattle.definition.specs.Placement.{textOf}
 use Rattle.definition.specs.Moves.{Cheapest}
 use Rattle.definition.specs.Outcome.{storeNeeded, outputNeeded}
 use Rattle.definition.specs.Outcome.{Refusal, noLine, refusedBy, over, placeFieldCount, placeAnswer, placeOutcome}
 use Rattle.definition.specs.Outcome.{bufferRefusal, Buffers, lent, Placed}
 use Rattle.definition_laws.specs.Outcomes.{place-refused, place-buffers, place-accepted}
 use Rattle.text_laws.specs.Poses.{Each}
-use Rattle.text_laws.specs.Room.{Narrow, legal-room, legal-printable, legal-narrow, at-each}
+use Rattle.text_laws.specs.Room.{Narrow, legal-room, legal-narrow, at-each}
 use Rattle.job.specs.declared.Job.{Job}
 use Rattle.job.specs.declared.Placement.{Placement}
 use Rattle.job.specs.Value.{jobOf, placementOf}
@@ -50,9 +50,6 @@ module _ (job : Job) (poses : List ℕ) (room : ℕ) (t : Chosen job poses room)
         t .taken .many,
         t .taken .few,
       ))
-
-  pub printable : Each Printable (placementOf P)
-  printable = rw (n .same) (legal-printable (jobOf job) (placementIn job poses) (t .taken .sound) (t .legal))
 
   pub ready : Ready job P
   ready = record {

@@ -3,9 +3,8 @@ ghost use mathlib.Core.Path.{_≡_};
 ghost use Prim.Native.Nat.{_≤_};
 ghost use lib.ListN.{length};
 ghost use Rattle.definition.specs.Job.{maxCells};
-ghost use Rattle.definition.specs.Placement.{Printable, lineOf, textOf};
+ghost use Rattle.definition.specs.Placement.{lineOf, textOf};
 ghost use Rattle.definition.specs.Outcome.{over};
-ghost use Rattle.text_laws.specs.Poses.{Each};
 ghost use Rattle.text_write.specs.Put.{Room, Wrote};
 ghost use Rattle.job.specs.Value.{poseOf, placementOf};
 use job::Placement;
@@ -25,7 +24,6 @@ fn put_pose(output: &mut [u8], at: usize, pose: Pose) -> usize
 // The whole text, from the output's first byte on; its length. Bytes past it stay as they are.
 pub fn put_placement(output: &mut [u8], placement: Placement) -> usize
     requires { ⌜ length (textOf (placementOf placement)) ≤ length (now output) ⌝ }
-    requires { ⌜ Each Printable (placementOf placement) ⌝ }
     requires { ⌜ placement .count ≤ maxCells ⌝ }
     ensures { λ r. ⌜ now (output .exit) ≡ over (textOf (placementOf placement)) (now (output .entry)) ⌝ }
     ensures { λ r. ⌜ r ≡ length (textOf (placementOf placement)) ⌝ }

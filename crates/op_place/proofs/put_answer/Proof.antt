@@ -1,4 +1,4 @@
--- `op_place::put_answer` meets its contract: the placement made of the pose numbers is legal, so its text has room and its numbers can be printed.
+-- `op_place::put_answer` meets its contract: the placement made of the pose numbers is legal, so its text has room.
 use Prim.Native.Nat.{ℕ}
 use mathlib.Core.Path.{ap, _∙_}
 use mathlib.Core.List.{List, _∷_}
@@ -11,7 +11,7 @@ use Rattle.job.specs.Value.{jobOf, placementOf}
 use Rattle.results.specs.declared.Refusal.{Refusal}
 use Rattle.results.specs.Fields.{listOf}
 use Rattle.op_place.specs.Fields.{fieldsIn}
-use Rattle.op_place.specs.Answers.{text-room, text-short, printable, ready}
+use Rattle.op_place.specs.Answers.{text-room, text-short, ready}
 use borrow.Author.Needs.{needs}
 use Rattle.op_place.proofs.put_answer.Statement.{statement}
 use Rattle.op_place.proofs.put_answer.Tie as tie
@@ -26,7 +26,7 @@ put-placement-requires c κs =
     let P = e .placement-of .result in
     let n = e .placement-of .ensures in (
       text-room (s .args .job) (s .args .poses) (length (s .args .output .now)) (s .pre) P n,
-      (printable (s .args .job) (s .args .poses) (length (s .args .output .now)) (s .pre) P n, omega (arith, n .count, s .pre .taken .few)),
+      omega (arith, n .count, s .pre .taken .few),
     )
 
 fields-of-requires : tie.Need-fields-of-requires
