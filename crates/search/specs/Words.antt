@@ -6,8 +6,8 @@ use native.Mathlib.Omega.{arith}
 use lib.ListN.{length, take, drop, replicate, length-replicate}
 use lib.Seq.{length-take-le, length-front, take-at}
 use Rattle.search_store.specs.Map.{pageAt}
-use Rattle.lists.specs.Zeros.{zeros-at}
 use Rattle.search_lanes.specs.Store.{Low}
+use Rattle.search_lanes.specs.Laws.{zeros-low}
 use Rattle.search_row.specs.declared.Sizes.{Sizes}
 use Rattle.search_row.specs.Words.{RowGiven}
 use Rattle.search_stage.specs.Stage.{wide}
@@ -21,9 +21,6 @@ wordsFor talls count = pageAt (wide talls talls count)
 pub few-pages : {row : List ℕ} {z : Sizes} → RowGiven row z → wide (z .talls) (z .talls) (z .states) ≤ 12
 few-pages {z = z} g =
     wide-low (z .talls) (z .talls) (z .states) 12 (omega arith) (omega (arith, g .ground .all, g .ground .coded .few))
-
-pub zeros-low : (n : ℕ) → Low (replicate n 0)
-zeros-low n = record { word = λ k. omega (arith, zeros-at n k) }
 
 -- the first n words of a store, lent for clearing and left as `part`, then lent again
 module _ (n : ℕ) (store : List ℕ) {part : List ℕ} (h : n ≤ length store)

@@ -217,6 +217,9 @@ same-low n x b = record { word = λ k. go k (decLt k n) }
     go k (yes h) = omega (arith, getD-replicate n k x 0 h)
     go k (no h) = omega (arith, List·getD-eq-default (replicate n x) 0 {n = k} (omega (arith, length-replicate n x)))
 
+pub zeros-low : (n : ℕ) → Low (replicate n 0)
+zeros-low n = same-low n 0 (omega arith)
+
 pub none-at : (l : ℕ) → l < 64 → getD (replicate 64 B) l 0 ≡ B
 none-at l h = getD-replicate 64 l B 0 h
 

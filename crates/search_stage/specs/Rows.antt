@@ -5,14 +5,13 @@ use mathlib.Core.Logic.{⊎-elim}
 use mathlib.Core.List.{List}
 use native.Mathlib.Omega.{arith}
 use native.Mathlib.Numerals.{add-one}
-use native.Mathlib.Decide.{decLt}
-use lib.ListN.{getD, replicate, length-replicate, getD-replicate, List·getD-eq-default}
+use lib.ListN.{getD}
 use Rattle.search_store.specs.Map.{layerBlock}
 use Rattle.search_row.specs.declared.Sizes.{Sizes}
 use Rattle.search_row.specs.Words.{posIn, RowGiven}
-use Rattle.theory_tables.specs.Steps.{B, Deck, Layer, stateCount, marks, firstAfter, firstOpen}
+use Rattle.theory_tables.specs.Steps.{Deck, Layer, stateCount, marks, firstAfter, firstOpen}
 use Rattle.theory_tables.specs.Stages.{placedWith, stageEnd, openCost, stageCost}
-use Rattle.search_lanes.specs.Store.{Frame, Low, layerIn, Filled}
+use Rattle.search_lanes.specs.Store.{Frame, layerIn, Filled}
 use Rattle.search_wide_first.specs.Firsts.{afterFrom}
 use Rattle.search_wide_segment.specs.Runs.{SegmentCosted}
 use Rattle.search_wide_end.specs.Ends.{Ended}
@@ -161,14 +160,3 @@ start-place I p g e h k = omega (arith, g .inside (I - 1) (omega (arith, e)), g 
 
 pub start-state : (talls I count s : ℕ) → s < wide talls I count → (I ≡ 0 → ⊥) → I ≤ talls → s < count
 start-state talls I count s h z g = omega (arith, wide-tall talls I count z g)
-
--- words of 0 alone
-pub zeros-low : (n : ℕ) → Low (replicate n 0)
-zeros-low n = record { word = λ k. go k (decLt k n) }
-  where
-    go : (k : ℕ) → Dec (k < n) → getD (replicate n 0) k 0 ≤ B
-    go k (yes h) = omega (arith, getD-replicate {A = ℕ} n k 0 0 h)
-    go k (no h) = omega (
-      arith,
-      List·getD-eq-default {A = ℕ} (replicate n 0) 0 {n = k} (omega (arith, length-replicate {A = ℕ} n 0)),
-    )

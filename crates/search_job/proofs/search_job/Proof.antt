@@ -3,7 +3,7 @@ use Prim.Native.Nat.{ℕ, _≤_}
 use native.Mathlib.Omega.{arith}
 use borrow.Author.Needs.{needs}
 use Rattle.search_row.specs.Words.{rowLength}
-use Rattle.search.specs.Words.{zeros-low}
+use Rattle.search_lanes.specs.Laws.{zeros-low}
 use lib.ListN.{replicate}
 use Rattle.job.specs.declared.Job.{Job}
 use Rattle.job.specs.Accepted.{Accepted}

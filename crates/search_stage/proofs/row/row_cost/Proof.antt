@@ -1,9 +1,10 @@
 -- The costs of stage 0; else the first layer, then the segment on from it.
 use Prim.Native.Nat.{_+_, _-_}
 use mathlib.Core.Path.{_≡_, refl}
+use Rattle.search_lanes.specs.Laws.{zeros-low}
 use Rattle.search_row.specs.Words.{deckIn, posIn}
 use Rattle.search_stage.specs.Laws.{width-room}
-use Rattle.search_stage.specs.Rows.{row-open, row-after, start-place, start-state, zeros-low}
+use Rattle.search_stage.specs.Rows.{row-open, row-after, start-place, start-state}
 use native.Mathlib.Omega.{arith}
 use borrow.Author.Needs.{needs}
 use Rattle.search_stage.proofs.row.row_cost.Statement.{statement}
