@@ -5,19 +5,13 @@ use mathlib.Core.List.{List}
 use native.Mathlib.Omega.{arith}
 use borrow.Author.Count.{below-more}
 use lib.ListN.{length, getD}
-use Rattle.theory_tables.specs.Steps.{B, Layer, stateCount}
+use Rattle.theory_tables.specs.Steps.{B, Layer}
 use Rattle.search_lanes.specs.Store.{Frame, Low, Written}
 use Rattle.search_lanes.specs.Laws.{frame-refl, frame-join}
 use Rattle.search_row.specs.declared.Sizes.{Sizes}
-use Rattle.search_row.specs.Words.{wordOf, tollIn, frontIn, StateWords, RowWords, Ground}
+use Rattle.search_row.specs.Words.{wordOf, tollIn, frontIn, RowWords, Ground}
 
 -- ---- what is given
-
--- state q is one of the row's, with i cells placed
-pub record StateKnown (row : List ℕ) (R i q : ℕ) : Type 0 where
-  pub words : StateWords R row
-  pub state : q < stateCount R
-  pub placed : i ≤ 100
 
 -- the cell at position k, and so many words from `at` on, one for each of its poses
 pub record PosesGiven (row st : List ℕ) (at k poses : ℕ) : Type 0 where

@@ -4,10 +4,10 @@ ghost use Prim.Native.Nat.{_+_, _*_, _≤_, _<_};
 ghost use Rattle.theory_row.specs.Window.{start};
 ghost use Rattle.theory_tables.specs.Steps.{marks, firstAfter, firstOpen};
 ghost use Rattle.search_lanes.specs.Store.{Written};
-ghost use Rattle.search_row.specs.Words.{deckIn};
+ghost use Rattle.search_row.specs.Words.{deckIn, StateKnown};
 ghost use Rattle.search_dense_first.specs.Firsts.{startsAt};
 ghost use Rattle.search_dense_first.specs.Begun.{openPose, afterPose, Begun};
-ghost use Rattle.search_dense_first.specs.Begun.{StateKnown, PosesGiven, LayerGiven, TallPose, AfterTall};
+ghost use Rattle.search_dense_first.specs.Begun.{PosesGiven, LayerGiven, TallPose, AfterTall};
 use search_row::Sizes;
 
 // A layer in its block: how many cells are placed before it, and where the block begins.

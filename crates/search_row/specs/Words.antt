@@ -174,3 +174,23 @@ pub record RowGiven (row : List ℕ) (z : Sizes) : Type 0 where
   pub ground : Ground row z
   pub few : z .talls ≤ 24
   pub inside : (I : ℕ) → I < z .talls → posIn row I < z .cells
+
+-- ---- what the functions that read a row are given
+
+-- state q is one of the row's; i, a count of cells or a position, is so small that a digit can be added
+pub record StateKnown (row : List ℕ) (R i q : ℕ) : Type 0 where
+  pub words : StateWords R row
+  pub state : q < stateCount R
+  pub few : i ≤ 100
+
+-- state q with one cell more than i, whose sources are looked for
+pub record TargetGiven (row : List ℕ) (z : Sizes) (i q : ℕ) : Type 0 where
+  pub ground : Ground row z
+  pub state : q < z .states
+  pub early : i ≤ 100
+
+-- the cell at position k in pose a
+pub record PoseAt (row : List ℕ) (k a : ℕ) : Type 0 where
+  pub words : RowWords row
+  pub cell : k < 64
+  pub pose : a < 64

@@ -2,13 +2,14 @@
 // The words' places stand in specs/Words.antt.
 ghost use mathlib.Core.Path.{_≡_};
 ghost use mathlib.Core.Bool.{cond};
-ghost use Prim.Native.Nat.{_+_, _*_, _≤_, _<_};
+ghost use Prim.Native.Nat.{_+_, _*_, _<_};
 ghost use lib.ListN.{length, getD};
 ghost use lib.Dec.{eqb};
-ghost use Rattle.theory_tables.specs.Steps.{stateCount, lastAt, isSource};
+ghost use Rattle.theory_tables.specs.Steps.{lastAt, isSource};
 ghost use Rattle.theory_tables.specs.Stages.{placedWith};
 ghost use Rattle.search_row.specs.Words.{siteIn, endIn, differIn, weightIn, tollIn, frontIn, backIn};
-ghost use Rattle.search_row.specs.Words.{deckIn, thereIn, posIn, withCells, StateWords, RowWords, Ground};
+ghost use Rattle.search_row.specs.Words.{deckIn, thereIn, posIn, withCells};
+ghost use Rattle.search_row.specs.Words.{RowWords, StateKnown, TargetGiven, PoseAt};
 
 // The words of a row: those of a cell; where the states begin, the tall cells' positions, and how many words there are.
 pub const CELL: usize = 128;
@@ -80,7 +81,7 @@ pub fn word(words: &[u32], at: usize) -> usize
 
 // The position of state q's cell, the last of i placed; 0 where it would be left of the row.
 pub fn last_at(row: &[u32], sizes: Sizes, i: usize, q: usize) -> usize
-    requires { ⌜ StateWords (sizes .reordering) (now row) × (q < stateCount (sizes .reordering)) × (i ≤ 100) ⌝ }
+    requires { ⌜ StateKnown (now row) (sizes .reordering) i q ⌝ }
     ensures { λ p. ⌜ p ≡ lastAt (sizes .reordering) i q ⌝ }
 {
     let r = sizes.reordering;
@@ -93,7 +94,7 @@ pub fn last_at(row: &[u32], sizes: Sizes, i: usize, q: usize) -> usize
 
 // Whether the row has that cell.
 pub fn is_there(row: &[u32], sizes: Sizes, i: usize, q: usize) -> bool
-    requires { ⌜ StateWords (sizes .reordering) (now row) × (q < stateCount (sizes .reordering)) × (i ≤ 100) ⌝ }
+    requires { ⌜ StateKnown (now row) (sizes .reordering) i q ⌝ }
     ensures { λ t. ⌜ t ≡ thereIn (sizes .cells) (sizes .reordering) i q ⌝ }
 {
     let r = sizes.reordering;
@@ -105,7 +106,7 @@ pub fn is_there(row: &[u32], sizes: Sizes, i: usize, q: usize) -> bool
 
 // Whether state q of the layer with i cells is a source of state q1 of the next.
 pub fn is_source(row: &[u32], sizes: Sizes, i: usize, q1: usize, q: usize) -> bool
-    requires { ⌜ Ground (now row) sizes × (q1 < sizes .states) × (q < sizes .states) × (i ≤ 100) ⌝ }
+    requires { ⌜ TargetGiven (now row) sizes i q1 × (q < sizes .states) ⌝ }
     ensures { λ t. ⌜ t ≡ isSource (deckIn (now (row .entry)) sizes) (sizes .reordering) i q1 q ⌝ }
 {
     if !is_there(row, sizes, i, q) {
@@ -120,7 +121,7 @@ pub fn is_source(row: &[u32], sizes: Sizes, i: usize, q1: usize, q: usize) -> bo
 
 // The left site of the cell at position k in pose a, with D added.
 pub fn site(row: &[u32], k: usize, a: usize) -> usize
-    requires { ⌜ RowWords (now row) × (k < 64) × (a < 64) ⌝ }
+    requires { ⌜ PoseAt (now row) k a ⌝ }
     ensures { λ x. ⌜ x ≡ siteIn (now (row .entry)) k a ⌝ }
 {
     word(row, k * CELL + GIVEN) + a / 4
@@ -128,7 +129,7 @@ pub fn site(row: &[u32], k: usize, a: usize) -> usize
 
 // The first site right of it.
 pub fn end(row: &[u32], k: usize, b: usize) -> usize
-    requires { ⌜ RowWords (now row) × (k < 64) × (b < 64) ⌝ }
+    requires { ⌜ PoseAt (now row) k b ⌝ }
     ensures { λ y. ⌜ y ≡ endIn (now (row .entry)) k b ⌝ }
 {
     site(row, k, b) + word(row, k * CELL + (WIDTH + b % 4 / 2))
@@ -143,7 +144,7 @@ fn unlike(x: u32, y: u32) -> u32
 
 // How many of the two heights differ where pose b of k has pose a of m on its right.
 pub fn differ(row: &[u32], k: usize, b: usize, m: usize, a: usize) -> u32
-    requires { ⌜ RowWords (now row) × (k < 64) × (b < 60) × (m < 64) × (a < 60) ⌝ }
+    requires { ⌜ PoseAt (now row) k b × PoseAt (now row) m a ⌝ }
     ensures { λ d. ⌜ d ≡ differIn (now (row .entry)) k b m a ⌝ }
 {
     let p = unlike(
@@ -170,7 +171,7 @@ fn weight(row: &[u32], m: usize, gap: usize) -> u32
 
 // What the two pay; NONE where they may not stand so.
 pub fn toll(row: &[u32], k: usize, b: usize, m: usize, a: usize) -> u32
-    requires { ⌜ RowWords (now row) × (k < 64) × (b < 60) × (m < 64) × (a < 60) ⌝ }
+    requires { ⌜ PoseAt (now row) k b × PoseAt (now row) m a ⌝ }
     ensures { λ t. ⌜ t ≡ tollIn (now (row .entry)) k b m a ⌝ }
 {
     let x = site(row, m, a);
@@ -187,7 +188,7 @@ pub fn toll(row: &[u32], k: usize, b: usize, m: usize, a: usize) -> u32
 
 // What the cell at position k pays in pose a as the first of its row; NONE where it may not stand there.
 pub fn front(row: &[u32], k: usize, a: usize) -> u32
-    requires { ⌜ RowWords (now row) × (k < 64) × (a < 60) ⌝ }
+    requires { ⌜ PoseAt (now row) k a ⌝ }
     ensures { λ x. ⌜ x ≡ frontIn (now (row .entry)) k a ⌝ }
 {
     if site(row, k, a) == word(row, k * CELL + FRONT_BARRED) {
@@ -198,7 +199,7 @@ pub fn front(row: &[u32], k: usize, a: usize) -> u32
 
 // The same as the last of its row.
 pub fn back(row: &[u32], k: usize, a: usize) -> u32
-    requires { ⌜ RowWords (now row) × (k < 64) × (a < 60) ⌝ }
+    requires { ⌜ PoseAt (now row) k a ⌝ }
     ensures { λ x. ⌜ x ≡ backIn (now (row .entry)) k a ⌝ }
 {
     if end(row, k, a) == word(row, k * CELL + BACK_BARRED) {
@@ -217,7 +218,7 @@ pub fn tall_at(row: &[u32], i: usize) -> usize
 
 // How many cells are placed once the cell at position p stands as state s.
 pub fn placed_with(row: &[u32], sizes: Sizes, p: usize, s: usize) -> usize
-    requires { ⌜ StateWords (sizes .reordering) (now row) × (s < stateCount (sizes .reordering)) × (p < 64) ⌝ }
+    requires { ⌜ StateKnown (now row) (sizes .reordering) p s ⌝ }
     ensures { λ i. ⌜ i ≡ placedWith (sizes .reordering) p s ⌝ }
 {
     let r = sizes.reordering;

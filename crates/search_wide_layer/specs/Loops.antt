@@ -30,12 +30,6 @@ pub record Beside (st : List ℕ) (at to : ℕ) : Type 0 where
   pub room : to + layerBlock ≤ length st
   pub apart : (k : ℕ) → at ≤ k → k < at + layerBlock → to ≤ k → k < to + layerBlock → ⊥
 
--- state q with one cell more than i, whose sources are looked for
-pub record TargetGiven (row : List ℕ) (z : Sizes) (i q : ℕ) : Type 0 where
-  pub ground : Ground row z
-  pub state : q < z .states
-  pub early : i ≤ 100
-
 -- the sources of state q in a layer are to be gathered
 pub record Gathering (table row st : List ℕ) (z : Sizes) (layer : Block) (q buckets : ℕ) : Type 0 where
   pub lent : Lent table

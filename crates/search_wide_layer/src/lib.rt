@@ -6,11 +6,11 @@ ghost use mathlib.Core.Bool.{false};
 ghost use Prim.Native.Nat.{ℕ, _<_};
 ghost use Rattle.theory_tables.specs.Steps.{isSource};
 ghost use Rattle.search_lanes.specs.Store.{FilledState, Filled};
-ghost use Rattle.search_row.specs.Words.{deckIn};
+ghost use Rattle.search_row.specs.Words.{deckIn, TargetGiven};
 ghost use Rattle.search_buckets.specs.Next.{Target};
 ghost use Rattle.search_buckets.specs.Rows.{rowsOf};
 ghost use Rattle.search_wide_buckets.specs.Table.{Lent, Gathered, stateIn, statesIn};
-ghost use Rattle.search_wide_layer.specs.Loops.{nextFrom, TargetGiven, Gathering, Stepping};
+ghost use Rattle.search_wide_layer.specs.Loops.{nextFrom, Gathering, Stepping};
 use search_buckets::Source;
 use search_row::Sizes;
 

@@ -95,7 +95,7 @@ back-requires c κs =
     let mid = c .before .before .before .before in
     let mid₂ = mid .before .before .before .before in
     let k = mid₂ .before .before .before in
-    (k .pre .0 .ground .words, inside mid, omega (arith, k .pre .0 .ground .few))
+    record { words = k .pre .0 .ground .words; cell = inside mid; pose = omega (arith, k .pre .0 .ground .few) }
 
 add-result-2 : tie.Need-add-result-2
 add-result-2 c =

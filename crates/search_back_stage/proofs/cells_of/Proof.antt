@@ -22,7 +22,11 @@ placed-with-requires : tie.Need-placed-with-requires
 unfolding posIn
 placed-with-requires c κs =
     let k = c .before .before .before in
-    (k .pre .0 .coded, k .pre .3 (omega arith), omega (arith, c .tall-at .ensures, k .pre .2 (k .args .stage - 1) (omega arith)))
+    record {
+      words = k .pre .0 .coded;
+      state = k .pre .3 (omega arith);
+      few = omega (arith, c .tall-at .ensures, k .pre .2 (k .args .stage - 1) (omega arith));
+    }
 
 add-result : tie.Need-add-result
 unfolding posIn

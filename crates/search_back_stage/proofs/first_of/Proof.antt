@@ -58,11 +58,12 @@ placed-with-requires : tie.Need-placed-with-requires
 unfolding posIn
 placed-with-requires c κs =
     let k = c .before .before .before .before in
-    let g = k .pre .0 in (
-      g .given .ground .coded,
-      g .state (omega arith),
-      omega (arith, c .tall-at .ensures, g .given .inside (k .args .stage - 1) (omega (arith, g .stage)), g .given .ground .size),
-    )
+    let g = k .pre .0 in
+    record {
+      words = g .given .ground .coded;
+      state = g .state (omega arith);
+      few = omega (arith, c .tall-at .ensures, g .given .inside (k .args .stage - 1) (omega (arith, g .stage)), g .given .ground .size);
+    }
 
 add-kept-at : tie.Need-add-kept-at
 add-kept-at c = let r = room c in search needs

@@ -56,7 +56,11 @@ placed-with-requires c κs =
     let mid₂ = mid .before .before .before .before in
     let k = mid₂ .before .before .before .before in
     let r = k .pre .start .given in
-    (r .ground .coded, k .pre .state (omega arith), omega (arith, c .tall-at .ensures, r .inside (k .args .stage) (omega arith), r .ground .size))
+    record {
+      words = r .ground .coded;
+      state = k .pre .state (omega arith);
+      few = omega (arith, c .tall-at .ensures, r .inside (k .args .stage) (omega arith), r .ground .size);
+    }
 
 same-length : tie.Need-same-length
 same-length c = search needs

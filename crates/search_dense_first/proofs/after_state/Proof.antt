@@ -45,7 +45,7 @@ starts-requires : tie.Need-starts-requires
 starts-requires c κs =
     let k = c .before .before .before .before in
     let g = k .pre .0 .layer .ground in
-    record { words = g .coded; state = omega (arith, g .all); placed = omega (arith, k .pre .0 .placed) }
+    record { words = g .coded; state = omega (arith, g .all); few = omega (arith, k .pre .0 .placed) }
 
 fill-requires : tie.Need-fill-requires
 fill-requires c κs = search needs
@@ -72,7 +72,7 @@ last-at-requires c κs =
     let mid = after-starts .before .before .before .before in
     let k = mid .before in
     let g = k .pre .0 .layer .ground in
-    (g .coded, omega (arith, g .all), omega (arith, k .pre .0 .placed))
+    record { words = g .coded; state = omega (arith, g .all); few = omega (arith, k .pre .0 .placed) }
 
 after-poses-requires : tie.Need-after-poses-requires
 after-poses-requires c κs =

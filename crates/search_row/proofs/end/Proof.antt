@@ -28,8 +28,8 @@ add-result c =
       arith,
       c .word .ensures,
       c .before .site .ensures,
-      k .pre .0 .word (k .args .k * cellWords + 64),
-      k .pre .0 .word (k .args .k * cellWords + (65 + k .args .b % 4 / 2)),
+      k .pre .words .word (k .args .k * cellWords + 64),
+      k .pre .words .word (k .args .k * cellWords + (65 + k .args .b % 4 / 2)),
     )
 
 returns : tie.Need-returns

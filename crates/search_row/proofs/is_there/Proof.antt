@@ -19,7 +19,7 @@ word-requires c κs = search needs
 add-if1 : tie.Need-add-if1
 add-if1 c =
     let k = c .before .before in
-    omega (arith, c .word .ensures, k .pre .0 .digit (k .args .q) (k .pre .1), k .pre .0 .small (k .args .q) (k .pre .1))
+    omega (arith, c .word .ensures, k .pre .words .digit (k .args .q) (k .pre .state), k .pre .words .small (k .args .q) (k .pre .state))
 
 add-if1-2 : tie.Need-add-if1-2
 add-if1-2 c = search needs
@@ -28,7 +28,7 @@ returns : tie.Need-returns
 returns c =
     let k = c .before .before .before in
     let h : k .args .i + offset (k .args .sizes .reordering) (k .args .q) < suc (k .args .sizes .reordering) =
-    omega (arith, c .before .word .ensures, k .pre .0 .digit (k .args .q) (k .pre .1)) in
+    omega (arith, c .before .word .ensures, k .pre .words .digit (k .args .q) (k .pre .state)) in
     simp (lt-leb _ _ h)
 
 last-at-requires : tie.Need-last-at-requires
@@ -39,7 +39,7 @@ returns-2 c =
     let after-word = c .before .before .before in
     let k = after-word .before .before in
     let h : suc (k .args .sizes .reordering) ≤ k .args .i + offset (k .args .sizes .reordering) (k .args .q) =
-    omega (arith, after-word .word .ensures, k .pre .0 .digit (k .args .q) (k .pre .1)) in
+    omega (arith, after-word .word .ensures, k .pre .words .digit (k .args .q) (k .pre .state)) in
     simp (le-leb _ _ h, c .before .last-at .ensures)
 
 pub is-there-spec : {M : Type 1} → statement M

@@ -16,7 +16,7 @@ word-requires c κs = search needs
 add-k : tie.Need-add-k
 add-k c =
     let k = c .before .before in
-    omega (arith, c .word .ensures, k .pre .0 .digit (k .args .q) (k .pre .1), k .pre .0 .small (k .args .q) (k .pre .1))
+    omega (arith, c .word .ensures, k .pre .words .digit (k .args .q) (k .pre .state), k .pre .words .small (k .args .q) (k .pre .state))
 
 add-if1 : tie.Need-add-if1
 add-if1 c = search needs
@@ -24,7 +24,7 @@ add-if1 c = search needs
 returns : tie.Need-returns
 returns c =
     let k = c .before .before .before in
-    omega (arith, c .before .word .ensures, k .pre .0 .digit (k .args .q) (k .pre .1))
+    omega (arith, c .before .word .ensures, k .pre .words .digit (k .args .q) (k .pre .state))
 
 add-result : tie.Need-add-result
 add-result c = search needs
@@ -35,7 +35,7 @@ sub-result c = search needs
 returns-2 : tie.Need-returns-2
 returns-2 c =
     let k = c .before .before .before in
-    omega (arith, c .before .word .ensures, k .pre .0 .digit (k .args .q) (k .pre .1))
+    omega (arith, c .before .word .ensures, k .pre .words .digit (k .args .q) (k .pre .state))
 
 pub last-at-spec : {M : Type 1} → statement M
 last-at-spec =

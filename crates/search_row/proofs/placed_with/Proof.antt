@@ -22,12 +22,12 @@ word-requires c κs = search needs
 returns : tie.Need-returns
 returns c =
     let k = c .before .before .before in
-    omega (arith, k .pre .0 .digit (k .args .s) (k .pre .1))
+    omega (arith, k .pre .words .digit (k .args .s) (k .pre .state))
 
 returns-2 : tie.Need-returns-2
 returns-2 c =
     let k = c .before .before .before in
-    omega (arith, k .pre .0 .digit (k .args .s) (k .pre .1))
+    omega (arith, k .pre .words .digit (k .args .s) (k .pre .state))
 
 pub placed-with-spec : {M : Type 1} → statement M
 placed-with-spec = tie.close (tie.spec add-all add-all-2 mul-word add-word word-requires returns returns-2)

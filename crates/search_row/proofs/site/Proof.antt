@@ -18,7 +18,7 @@ word-requires c κs = search needs
 add-result : tie.Need-add-result
 add-result c =
     let k = c .before .before in
-    omega (arith, k .pre .0 .word (k .args .k * cellWords + 64))
+    omega (arith, k .pre .words .word (k .args .k * cellWords + 64))
 
 returns : tie.Need-returns
 returns c = search needs

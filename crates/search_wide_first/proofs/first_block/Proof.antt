@@ -76,7 +76,7 @@ last-at-requires : tie.Need-last-at-requires
 last-at-requires c κs =
     let after-starts = c .before .before in
     let g = after-starts .before .before .before .before .pre .0 .given in
-    (g .ground .coded, omega (arith, g .ground .all), omega (arith, g .early))
+    record { words = g .ground .coded; state = omega (arith, g .ground .all); few = omega (arith, g .early) }
 
 mul-first-rows : tie.Need-mul-first-rows
 mul-first-rows c = search needs

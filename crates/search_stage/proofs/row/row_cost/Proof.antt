@@ -34,11 +34,15 @@ tall-at-requires c κs = search needs
 placed-with-requires : tie.Need-placed-with-requires
 placed-with-requires c κs =
     let k = c .before .before .before .before in
-    let s = start-state (k .args .sizes .talls) (k .args .i) (k .args .sizes .states) (k .args .s) (k .pre .state) (c .before .if1 .left) (k .pre .stage) in (
-      k .pre .given .ground .coded,
-      omega (arith, k .pre .given .ground .all),
-      start-place (k .args .i) (c .tall-at .result) (k .pre .given) (c .before .if1 .left) (k .pre .stage) (c .tall-at .ensures),
-    )
+    let s = start-state (k .args .sizes .talls) (k .args .i) (k .args .sizes .states) (k .args .s) (k .pre .state) (c .before .if1 .left) (k .pre .stage) in
+    record {
+      words = k .pre .given .ground .coded;
+      state = omega (arith, k .pre .given .ground .all);
+      few = omega (
+        arith,
+        start-place (k .args .i) (c .tall-at .result) (k .pre .given) (c .before .if1 .left) (k .pre .stage) (c .tall-at .ensures),
+      );
+    }
 
 width-of-requires : tie.Need-width-of-requires
 width-of-requires c κs =
