@@ -1,9 +1,22 @@
--- What a loop over the lanes of a row leaves.
+-- What a loop over the lanes of a row is given, and what it leaves.
 use Prim.Native.Nat.{ℕ, _+_, _*_, _≤_, _<_, min}
 use mathlib.Core.Path.{_≡_}
 use mathlib.Core.List.{List}
 use lib.ListN.{length, getD}
 use Rattle.theory_tables.specs.Steps.{B}
+use Rattle.search_lanes.specs.Store.{Low, StoreWords}
+
+-- a word for each lane, none over B
+pub record LaneWords (words : List ℕ) : Type 0 where
+  pub long : length words ≡ 64
+  pub low : Low words
+
+-- a word for each lane; for the lanes in use a row of the store at `at`, and a cost to add
+pub record LaneRow (acc st : List ℕ) (at cost lanes : ℕ) : Type 0 where
+  pub word : LaneWords acc
+  pub row : StoreWords st at lanes
+  pub narrow : lanes ≤ 64
+  pub small : cost ≤ B
 
 -- the lanes below `lanes` are lowered to f's, the others as they were
 pub record Lowered (f : ℕ → ℕ) (lanes : ℕ) (old new : List ℕ) : Type 0 where

@@ -16,6 +16,17 @@ pub record Frame (a b : ℕ) (old new : List ℕ) : Type 0 where
 pub record Low (st : List ℕ) : Type 0 where
   pub word : (k : ℕ) → getD st k 0 ≤ B
 
+-- so many words from `at` on stand in the store, and none of its words is over B
+pub record StoreWords (st : List ℕ) (at count : ℕ) : Type 0 where
+  pub room : at + count ≤ length st
+  pub low : Low st
+
+-- so many rows of 64 words from `at` on stand in it, of which the first lanes are in use
+pub record StoreRows (st : List ℕ) (at rows lanes : ℕ) : Type 0 where
+  pub room : at + rows * 64 ≤ length st
+  pub narrow : lanes ≤ 64
+  pub low : Low st
+
 -- the words from `at` on, so many of them, are f's; nothing else changed
 pub record Written (f : ℕ → ℕ) (at count : ℕ) (old new : List ℕ) : Type 0 where
   pub frame : Frame at (at + count) old new

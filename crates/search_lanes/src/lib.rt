@@ -3,8 +3,9 @@ ghost use mathlib.Core.Path.{_≡_};
 ghost use Prim.Native.Nat.{ℕ, _+_, _*_, _≤_, _<_, min};
 ghost use lib.ListN.{length, getD, replicate};
 ghost use Rattle.theory_tables.specs.Steps.{B};
-ghost use Rattle.search_lanes.specs.Lanes.{Lowered, charged, withOwn, always, wordsFrom, alwaysRows, rowsFrom};
-ghost use Rattle.search_lanes.specs.Store.{Low, Written, WrittenRows};
+ghost use Rattle.search_lanes.specs.Lanes.{LaneRow, Lowered, charged, withOwn};
+ghost use Rattle.search_lanes.specs.Lanes.{always, wordsFrom, alwaysRows, rowsFrom};
+ghost use Rattle.search_lanes.specs.Store.{StoreWords, StoreRows, Written, WrittenRows};
 
 // There is no way: every cost is below.
 pub const NONE: u32 = 268435456;
@@ -39,8 +40,7 @@ pub fn common(row: &[u32], at: usize, lanes: usize) -> u32
 
 // Each lane of `acc` lowered to the row's word plus a charge.
 pub fn relax(acc: &mut [u32; 64], row: &[u32], at: usize, charge: u32, lanes: usize)
-    requires { ⌜ (at + lanes ≤ length (now row)) × (lanes ≤ 64) × (length (now acc) ≡ 64) × (charge ≤ B)
-        × Low (now row) ⌝ }
+    requires { ⌜ LaneRow (now acc) (now row) at charge lanes ⌝ }
     ensures { λ _. ⌜ Lowered (charged (now (row .entry)) at charge) lanes (now (acc .entry)) (now (acc .exit)) ⌝ }
 {
     let mut l: usize = 0;
@@ -52,8 +52,7 @@ pub fn relax(acc: &mut [u32; 64], row: &[u32], at: usize, charge: u32, lanes: us
 
 // A row from its lanes, each with the cell's own cost, capped.
 pub fn put(store: &mut [u32], at: usize, acc: &[u32; 64], own: u32, lanes: usize)
-    requires { ⌜ (at + lanes ≤ length (now store)) × (lanes ≤ 64) × (length (now acc) ≡ 64) × (own ≤ B)
-        × Low (now store) × ((l : ℕ) → getD (now acc) l 0 ≤ B) ⌝ }
+    requires { ⌜ LaneRow (now acc) (now store) at own lanes ⌝ }
     ensures { λ _. ⌜ Written (withOwn own (now (acc .entry))) at lanes (now (store .entry)) (now (store .exit)) ⌝ }
 {
     let mut l: usize = 0;
@@ -65,7 +64,7 @@ pub fn put(store: &mut [u32], at: usize, acc: &[u32; 64], own: u32, lanes: usize
 
 // The same word, so many times.
 pub fn fill(store: &mut [u32], at: usize, count: usize, x: u32)
-    requires { ⌜ (at + count ≤ length (now store)) × (x ≤ B) × Low (now store) ⌝ }
+    requires { ⌜ StoreWords (now store) at count × (x ≤ B) ⌝ }
     ensures { λ _. ⌜ Written (always x) at count (now (store .entry)) (now (store .exit)) ⌝ }
 {
     let mut k: usize = 0;
@@ -77,7 +76,7 @@ pub fn fill(store: &mut [u32], at: usize, count: usize, x: u32)
 
 // Words from one part of the store to another that does not overlap it.
 pub fn copy(store: &mut [u32], from: usize, at: usize, count: usize)
-    requires { ⌜ (at + count ≤ length (now store)) × (from + count ≤ at) × Low (now store) ⌝ }
+    requires { ⌜ StoreWords (now store) at count × (from + count ≤ at) ⌝ }
     ensures { λ _. ⌜ Written (wordsFrom (now (store .entry)) from) at count (now (store .entry)) (now (store .exit)) ⌝ }
 {
     let mut k: usize = 0;
@@ -89,7 +88,7 @@ pub fn copy(store: &mut [u32], from: usize, at: usize, count: usize)
 
 // The same word in the first lanes of so many rows of 64 words.
 pub fn fill_rows(store: &mut [u32], at: usize, rows: usize, lanes: usize, x: u32)
-    requires { ⌜ (at + rows * 64 ≤ length (now store)) × (lanes ≤ 64) × (x ≤ B) × Low (now store) ⌝ }
+    requires { ⌜ StoreRows (now store) at rows lanes × (x ≤ B) ⌝ }
     ensures { λ _. ⌜ WrittenRows (alwaysRows x) at rows lanes (now (store .entry)) (now (store .exit)) ⌝ }
 {
     let mut a: usize = 0;
@@ -101,7 +100,7 @@ pub fn fill_rows(store: &mut [u32], at: usize, rows: usize, lanes: usize, x: u32
 
 // The first lanes of so many rows from one part of the store to another that does not overlap it.
 pub fn copy_rows(store: &mut [u32], from: usize, at: usize, rows: usize, lanes: usize)
-    requires { ⌜ (at + rows * 64 ≤ length (now store)) × (from + rows * 64 ≤ at) × (lanes ≤ 64) × Low (now store) ⌝ }
+    requires { ⌜ StoreRows (now store) at rows lanes × (from + rows * 64 ≤ at) ⌝ }
     ensures { λ _. ⌜ WrittenRows (rowsFrom (now (store .entry)) from) at rows lanes (now (store .entry))
         (now (store .exit)) ⌝ }
 {

@@ -8,6 +8,7 @@ use lib.ListN.{length, getD}
 use lib.Dec.{eqb}
 use Rattle.search_store.specs.Map.{keptFrom, layerBlock}
 use Rattle.theory_tables.specs.Steps.{Deck, lastAt, ends, costEnd}
+use Rattle.search_lanes.specs.Lanes.{LaneWords}
 use Rattle.search_lanes.specs.Store.{Frame, Low, layerIn}
 use Rattle.search_row.specs.declared.Sizes.{Sizes}
 use Rattle.search_row.specs.Words.{wordOf, backIn, thereIn, tallWord, RowWords}
@@ -37,11 +38,6 @@ abbrev pub endsIn : Deck → ℕ → List ℕ → ℕ → ℕ → ℕ
 endsIn D R st at l = ends D R (layerIn st at l)
 
 -- ---- what is given
-
--- a word for each lane, none over B
-pub record LaneWords (words : List ℕ) : Type 0 where
-  pub long : length words ≡ 64
-  pub low : Low words
 
 -- a segment that is to run on from its first layer, with i cells, to the row's end, and room for its layers
 pub record RunGiven (table row st : List ℕ) (z : Sizes) (lanes i : ℕ) : Type 0 where

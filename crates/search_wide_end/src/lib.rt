@@ -1,13 +1,13 @@
 // A segment to the row's end, from its first layer, in block 0; all lanes at once.
 ghost use mathlib.Core.Path.{_≡_};
 ghost use Prim.Native.Nat.{_-_, _<_};
-ghost use Rattle.search_lanes.specs.Lanes.{Lowered};
+ghost use Rattle.search_lanes.specs.Lanes.{Lowered, LaneWords};
 ghost use Rattle.search_lanes.specs.Store.{Written};
 ghost use Rattle.search_row.specs.Words.{deckIn, Ground};
 ghost use Rattle.search_wide_buckets.specs.Table.{Lent};
 ghost use Rattle.search_wide_layer.specs.Loops.{Given};
 ghost use Rattle.search_wide_segment.specs.Runs.{SegmentGiven, CostRoom};
-ghost use Rattle.search_wide_end.specs.Ends.{LaneWords, RunGiven, LeastGiven, PosesGiven};
+ghost use Rattle.search_wide_end.specs.Ends.{RunGiven, LeastGiven, PosesGiven};
 ghost use Rattle.search_wide_end.specs.Ends.{endsWith, leastPosesIn, leastStateIn, leastStatesIn};
 ghost use Rattle.search_wide_end.specs.Ends.{endsIn, Ran, Ended};
 use search_row::Sizes;

@@ -31,7 +31,7 @@ fill-requires c κs =
     let at-loop = c .before .before .before in
     let k = at-loop .before .before in
     let w = at-loop .loop .inv .1 in
-    (omega (arith, c .case-at .ensures, k .pre .0 .long, w .long), omega arith, w .fits)
+    (record { room = omega (arith, c .case-at .ensures, k .pre .0 .long, w .long); low = w .fits }, omega arith)
 
 add-t : tie.Need-add-t Inv-loop μ-loop
 add-t c = search needs

@@ -23,7 +23,7 @@ mul-fill c = let w = c .before .before .pre .0 .table .states in omega arith
 fill-requires : tie.Need-fill-requires Inv-loop μ-loop
 fill-requires c κs =
     let k = c .before .before in
-    (omega (arith, k .pre .0 .table .states, k .pre .1 .long), omega arith, k .pre .1 .low)
+    (record { room = omega (arith, k .pre .0 .table .states, k .pre .1 .long); low = k .pre .1 .low }, omega arith)
 
 loop-holds : tie.Need-loop-holds Inv-loop μ-loop
 loop-holds c =

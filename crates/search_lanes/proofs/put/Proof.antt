@@ -19,7 +19,7 @@ abbrev μ-loop : tie.MeasureT-loop
 
 loop-holds : tie.Need-loop-holds Inv-loop μ-loop
 loop-holds c =
-    (omega arith, written-none _ _ (c .before .pre .4))
+    (omega arith, written-none _ _ (c .before .pre .row .low))
 
 mul-least : tie.Need-mul-least Inv-loop μ-loop
 mul-least c = search needs
@@ -29,7 +29,7 @@ element-copy-out-least c = search needs
 
 add-least : tie.Need-add-least Inv-loop μ-loop
 add-least c =
-    omega (arith, c .before .before .before .before .pre .5 (c .before .before .loop .l))
+    omega (arith, c .before .before .before .before .pre .word .low .word (c .before .before .loop .l))
 
 least-requires : tie.Need-least-requires Inv-loop μ-loop
 least-requires c κs = search needs

@@ -39,7 +39,7 @@ add-least-2 : tie.Need-add-least-2 Inv-loop μ-loop
 add-least-2 c =
     let at-loop = c .before .before .before in
     let k = at-loop .before .before in
-    omega (arith, k .pre .4 .word (k .args .at + at-loop .loop .l))
+    omega (arith, k .pre .row .low .word (k .args .at + at-loop .loop .l))
 
 least-requires : tie.Need-least-requires Inv-loop μ-loop
 least-requires c κs = search needs

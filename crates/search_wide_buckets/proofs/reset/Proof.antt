@@ -30,7 +30,8 @@ mul-fill-rows c = search needs
 fill-rows-requires : tie.Need-fill-rows-requires Inv-loop μ-loop
 fill-rows-requires c κs =
     let l = c .before .before .loop in
-    (omega (arith, l .inv .2 .long), c .before .before .before .before .pre .0 .narrow, omega arith, l .inv .2 .low)
+    let n = c .before .before .before .before .pre .0 .narrow in
+    (record { room = omega (arith, l .inv .2 .long); narrow = n; low = l .inv .2 .low }, omega arith)
 
 add-v : tie.Need-add-v Inv-loop μ-loop
 add-v c = search needs

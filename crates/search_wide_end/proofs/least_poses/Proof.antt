@@ -6,7 +6,7 @@ use borrow.Author.Needs.{needs}
 use Rattle.search_buckets.specs.Ends.{poses-none, poses-more}
 use Rattle.search_lanes.specs.Lanes.{Lowered}
 use Rattle.search_lanes.specs.Store.{layerIn}
-use Rattle.search_lanes.specs.Laws.{lowered-to, lowered-join}
+use Rattle.search_lanes.specs.Laws.{lowered-to, lowered-join, lowered-low}
 use Rattle.search_row.specs.Words.{backIn}
 use Rattle.search_row.specs.Laws.{back-low}
 use Rattle.search_wide_end.specs.Ends.{leastPosesIn}
@@ -46,7 +46,13 @@ relax-requires c κs =
     let k = at-loop .before .before .before in
     let a = k .args in
     let l = at-loop .loop in
-    (omega arith, omega arith, l .inv .1 .long ∙ k .pre .least .long, omega (arith, c .back .ensures, back-low (a .row .now) (a .k) (l .a)), k .pre .low)
+    let w = l .inv .1 in
+    record {
+      word = record { long = w .long ∙ k .pre .least .long; low = lowered-low w (k .pre .least .low) };
+      row = record { room = omega arith; low = k .pre .low };
+      narrow = omega arith;
+      small = omega (arith, c .back .ensures, back-low (a .row .now) (a .k) (l .a));
+    }
 
 add-a : tie.Need-add-a Inv-loop μ-loop
 add-a c = search needs

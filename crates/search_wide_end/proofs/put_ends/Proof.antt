@@ -17,14 +17,13 @@ put-requires : tie.Need-put-requires
 put-requires c κs =
     let mid = c .before .before .before .before in
     let k = mid .before .before .before in
-    let w = c .before .before .least-states .ensures in (
-      omega (arith, k .pre .1 .room, k .pre .0 .narrow),
-      omega (arith, k .pre .0 .narrow),
-      w .long,
-      omega arith,
-      k .pre .0 .low,
-      λ l. lowered-low w none-low .word l,
-    )
+    let w = c .before .before .least-states .ensures in
+    record {
+      word = record { long = w .long; low = lowered-low w none-low };
+      row = record { room = omega (arith, k .pre .1 .room, k .pre .0 .narrow); low = k .pre .0 .low };
+      narrow = k .pre .0 .narrow;
+      small = omega arith;
+    }
 
 same-length : tie.Need-same-length
 same-length c = search needs

@@ -19,7 +19,7 @@ add-if1 : tie.Need-add-if1
 add-if1 c = search needs
 
 fill-requires : tie.Need-fill-requires
-fill-requires c κs = search needs
+fill-requires c κs = (search needs, search needs)
 
 same-length : tie.Need-same-length
 same-length c = search needs
@@ -42,8 +42,12 @@ put-requires c κs =
     let mid = c .before .before .before .before in
     let k = mid .before .before .before in
     let g = k .pre .0 .given in
-    let s = k .pre .1 in
-    (omega (arith, k .pre .0 .room .room, g .narrow), omega (arith, g .narrow), s .long, omega arith, g .low, s .low .word)
+    record {
+      word = k .pre .1;
+      row = record { room = omega (arith, k .pre .0 .room .room, g .narrow); low = g .low };
+      narrow = g .narrow;
+      small = omega arith;
+    }
 
 same-length-2 : tie.Need-same-length-2
 same-length-2 c = search needs

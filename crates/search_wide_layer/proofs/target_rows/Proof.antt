@@ -109,7 +109,7 @@ add-fill-rows : tie.Need-add-fill-rows
 add-fill-rows c = search needs
 
 fill-rows-requires : tie.Need-fill-rows-requires
-fill-rows-requires c κs = search needs
+fill-rows-requires c κs = (search needs, search needs)
 
 same-length : tie.Need-same-length
 same-length c = search needs
@@ -184,7 +184,8 @@ fill-rows-requires-2 c κs =
     let mid₄ = mid₂ .before .before .before .before in
     let mid₃ = mid₄ .before in
     let k = mid₃ .before in
-    (room k, k .pre .0 .given .narrow, omega arith, k .pre .0 .given .low)
+    let g = k .pre .0 .given in
+    (record { room = room k; narrow = g .narrow; low = g .low }, omega arith)
 
 same-length-2 : tie.Need-same-length-2
 same-length-2 c = search needs
