@@ -4,7 +4,8 @@
 //! (`include/refiner.h` is its C interface). This library makes its functions safe to call:
 //! [`calls`] has each of them with slices for addresses and lengths, and the modules beside it
 //! turn the numbers that a call leaves behind into plain structs. [`REFUSALS`] and [`RULES`] say in
-//! words what refusal numbers and rules mean, and [`explain`] what is wrong with a text.
+//! words what refusal numbers and rules mean, and [`explain`] what is wrong with a text. [`desk`]
+//! has what the desk's tools tell, and [`draw`] shows rows as a picture.
 //!
 //! Texts go in and out as bytes; [`job`] and [`placement`] have them as values:
 //!
@@ -39,6 +40,7 @@
 
 pub mod calls;
 pub mod desk;
+pub mod draw;
 pub mod explain;
 mod fault;
 mod fields;

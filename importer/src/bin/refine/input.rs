@@ -19,6 +19,14 @@ pub struct Text {
 }
 
 impl Text {
+    /// No text at all.
+    pub fn none() -> Text {
+        Text {
+            name: String::new(),
+            bytes: Vec::new(),
+        }
+    }
+
     /// The text of a file, or of standard input if the word is `-`. `what` the text is to be stands
     /// in the hint to a terminal.
     pub fn of(word: &OsStr, what: &str) -> Result<Text, Mistake> {

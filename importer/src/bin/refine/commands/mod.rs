@@ -2,6 +2,7 @@
 //! command runs and what the usage text says both come from the table.
 
 mod compare;
+mod draw;
 mod gaps;
 mod help;
 mod place;
@@ -69,6 +70,13 @@ const COMMANDS: &[Command] = &[
         prints: "the cheapest cost for each D and R, and of a job without a placement what gives it one",
         options: whatif::OPTIONS,
         run: whatif::run,
+    },
+    Command {
+        words: &["draw"],
+        arguments: "[--best] JOB [PLACEMENT]",
+        prints: "a picture (SVG) of the given rows or of the placement; with `--best` a cheapest one below",
+        options: draw::OPTIONS,
+        run: draw::run,
     },
     Command {
         words: &["help", "--help", "-h"],

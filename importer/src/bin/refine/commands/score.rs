@@ -5,7 +5,7 @@ use crate::mistake::Mistake;
 use crate::report::{line_of, Report};
 use crate::words::{Switch, Words};
 use importer::{explain, score, Broken, Refused, Verdict};
-use std::ffi::OsString;
+use std::ffi::{OsStr, OsString};
 
 /// The only refusal of which the line is the placement's.
 const PLACEMENT_REFUSED: u32 = 5;
@@ -36,9 +36,14 @@ pub fn run(words: &[OsString]) -> Result<Report, Mistake> {
 
 /// The job and the placement that are named, and nothing besides.
 pub fn texts(words: &Words) -> Result<(Text, Text), Mistake> {
-    let [job, placement] = words.arguments[..] else {
-        return Err(Mistake::count(&words.arguments));
-    };
+    match words.arguments[..] {
+        [job, placement] => both(job, placement),
+        _ => Err(Mistake::count(&words.arguments)),
+    }
+}
+
+/// A job and a placement, of which only one can be standard input.
+pub fn both(job: &OsStr, placement: &OsStr) -> Result<(Text, Text), Mistake> {
     if job == DASH && placement == DASH {
         let twice = "job and placement cannot both be standard input";
         return Err(Mistake::Usage(twice.into()));
