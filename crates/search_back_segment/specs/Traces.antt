@@ -11,7 +11,8 @@ use Rattle.theory_tables.specs.Steps.{B, Deck, Layer, stateCount, lastAt, isThe
 use Rattle.theory_tables.specs.Back.{SegmentTraced, EndTraced}
 use Rattle.theory_tables.specs.Notes.{NotedBy}
 use Rattle.search_lanes.specs.Store.{Frame, Low}
-use Rattle.search_row.specs.Words.{deckIn, tollIn, Ground}
+use Rattle.search_row.specs.Words.{deckIn, tollIn, StateWords, Ground}
+use Rattle.search_buckets.specs.Rows.{Neighbours}
 use Rattle.search_dense_layer.specs.Kept.{keptIn, KeptLayers}
 
 -- ---- searches
@@ -60,6 +61,31 @@ pub record Back (row st : List ℕ) (z : Sizes) : Type 0 where
   pub ground : Ground row z
   pub low : Low st
   pub long : pagesFrom ≤ length st
+
+-- two neighbours, a word for each pose of the left one from `at` on, and pose a of the right one
+pub record PosesBefore (row st : List ℕ) (at k m a poses : ℕ) : Type 0 where
+  pub cells : Neighbours row k m
+  pub low : Low st
+  pub room : at + poses ≤ length st
+  pub pose : a < 60
+  pub few : poses ≤ 60
+
+-- state q in pose a, one layer after layer i, whose cell the row has; a source of it is sought by a cost
+pub record Sought (row st : List ℕ) (z : Sizes) (i q a want : ℕ) : Type 0 where
+  pub back : Back row st z
+  pub last : i < 66
+  pub state : q < stateCount (z .reordering)
+  pub cell : lastAt (z .reordering) (suc i) q < z .cells
+  pub pose : a < z .poses
+  pub below : want < B
+
+-- state q in pose a as the i-th cell of a path
+pub record PathCell (row path : List ℕ) (R i q a : ℕ) : Type 0 where
+  pub words : StateWords R row
+  pub state : q < stateCount R
+  pub pose : a < 60
+  pub place : i ≤ 66
+  pub room : 67 ≤ length path
 
 -- an entry after layer i
 pub record Entry (row st : List ℕ) (z : Sizes) (i q a : ℕ) : Type 0 where

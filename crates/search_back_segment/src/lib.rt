@@ -1,14 +1,13 @@
 // The traceback through the kept layers of one segment: each entry's source is found again
 // by its cost, and each cell passed is noted.
 ghost use mathlib.Core.Path.{_≡_};
-ghost use Prim.Native.Nat.{suc, _+_, _*_, _/_, _%_, _≤_, _<_};
-ghost use lib.ListN.{length, set};
-ghost use Rattle.theory_tables.specs.Steps.{B, stateCount, lastAt, reached};
-ghost use Rattle.search_lanes.specs.Store.{Low};
-ghost use Rattle.search_row.specs.Words.{deckIn, RowWords, StateWords};
+ghost use Prim.Native.Nat.{_+_, _*_, _/_, _%_, _<_};
+ghost use lib.ListN.{set};
+ghost use Rattle.theory_tables.specs.Steps.{stateCount, lastAt, reached};
+ghost use Rattle.search_row.specs.Words.{deckIn};
 ghost use Rattle.search_dense_layer.specs.Kept.{keptIn};
 ghost use Rattle.search_back_segment.specs.Traces.{First, fromPose, fromState, Fits};
-ghost use Rattle.search_back_segment.specs.Traces.{EntrySource, Back, Entry, SegmentTrace, End};
+ghost use Rattle.search_back_segment.specs.Traces.{PosesBefore, Sought, PathCell, EntrySource, Back, Entry, SegmentTrace, End};
 ghost use Rattle.search_back_segment.specs.Traces.{SegmentTraceDone, EndDone, lastCode, LeastOf};
 use search_row::Sizes;
 
@@ -23,8 +22,7 @@ fn find_pose(
     poses: usize,
     want: u32,
 ) -> usize
-    requires { ⌜ RowWords (now row) × Low (now store) × (at + poses ≤ length (now store)) × (k < 64) × (m < 64)
-        × (a < 60) × (poses ≤ 60) ⌝ }
+    requires { ⌜ PosesBefore (now row) (now store) at k m a poses ⌝ }
     ensures { λ b. ⌜ First (fromPose (now (store .entry)) (now (row .entry)) at k m a) poses want b ⌝ }
 {
     let mut b: usize = 0;
@@ -48,9 +46,7 @@ fn state_pose(
     p: usize,
     want: u32,
 ) -> usize
-    requires { ⌜ Back (now row) (now store) sizes × (i < 66) × (q < stateCount (sizes .reordering))
-        × (lastAt (sizes .reordering) (suc i) q < sizes .cells) × (a < sizes .poses)
-        × (p < stateCount (sizes .reordering)) × (want < B) ⌝ }
+    requires { ⌜ Sought (now row) (now store) sizes i q a want × (p < stateCount (sizes .reordering)) ⌝ }
     ensures { λ b. ⌜ First (fromState (deckIn (now (row .entry)) sizes) (sizes .reordering)
         (keptIn (now (store .entry)) i) i q a p) (sizes .poses) want b ⌝ }
 {
@@ -81,8 +77,7 @@ fn find_source(
     a: usize,
     want: u32,
 ) -> usize
-    requires { ⌜ Back (now row) (now store) sizes × (i < 66) × (q < stateCount (sizes .reordering))
-        × (lastAt (sizes .reordering) (suc i) q < sizes .cells) × (a < sizes .poses) × (want < B)
+    requires { ⌜ Sought (now row) (now store) sizes i q a want
         × (reached (deckIn (now row) sizes) (sizes .reordering) (keptIn (now store) i) i q a ≡ want) ⌝ }
     ensures { λ t. ⌜ Fits (deckIn (now (row .entry)) sizes) (sizes .reordering)
         (keptIn (now (store .entry)) i) i q a want (t / 64) (t % 64) ⌝ }
@@ -111,8 +106,7 @@ fn entry_source(store: &[u32], row: &[u32], sizes: Sizes, i: usize, q: usize, a:
 
 // Notes state q in pose a as the i-th cell.
 fn note(path: &mut [u32], row: &[u32], sizes: Sizes, i: usize, q: usize, a: usize)
-    requires { ⌜ StateWords (sizes .reordering) (now row) × (q < stateCount (sizes .reordering)) × (a < 60) × (i ≤ 66)
-        × (67 ≤ length (now path)) ⌝ }
+    requires { ⌜ PathCell (now row) (now path) (sizes .reordering) i q a ⌝ }
     ensures { λ _. ⌜ now (path .exit) ≡ set (now (path .entry)) i (lastAt (sizes .reordering) i q * 64 + a) ⌝ }
 {
     path[i] = (search_row::last_at(row, sizes, i, q) * 64 + a) as u32;

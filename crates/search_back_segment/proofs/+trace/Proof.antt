@@ -46,7 +46,13 @@ trace-note-requires : (t : ℕ) → trace-lts.Need-note-requires (
 ) (trace-at t) trace.Post
 trace-note-requires t c κs =
     let g = c .before .before .before .before .pre .1 in
-    (g .back .ground .coded, g .state, omega (arith, g .pose, g .back .ground .few), g .last, g .room)
+    record {
+      words = g .back .ground .coded;
+      state = g .state;
+      pose = omega (arith, g .pose, g .back .ground .few);
+      place = g .last;
+      room = g .room;
+    }
 
 trace-same-length : (t : ℕ) → trace-lts.Need-same-length (
   note-reads.Asked,

@@ -38,7 +38,7 @@ add-if1-2 c =
     let k = at-loop .before .before .before in
     let a = k .args in
     let b = at-loop .loop .b in
-    omega (arith, k .pre .1 .word (a .at + b), c .toll .ensures, toll-low (a .k) b (a .m) (a .a) (k .pre .0))
+    omega (arith, k .pre .low .word (a .at + b), c .toll .ensures, toll-low (a .k) b (a .m) (a .a) (k .pre .cells .words))
 
 returns : tie.Need-returns Inv-loop μ-loop
 returns c =

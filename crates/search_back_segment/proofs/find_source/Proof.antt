@@ -26,19 +26,19 @@ state-pose-requires : tie.Need-state-pose-requires Inv-loop μ-loop
 state-pose-requires c κs =
     let mid = c .before .before .before .before in
     let p = mid .before .pre in
-    (p .0, p .1, p .2, p .3, p .4, omega (arith, p .0 .ground .all), p .5)
+    (p .0, omega (arith, p .0 .back .ground .all))
 
 mul-result : tie.Need-mul-result Inv-loop μ-loop
 mul-result c =
     let mid = c .before .before .before .before in
     let p = mid .before .before .before .before .pre in
-    omega (arith, p .0 .ground .all, p .0 .ground .coded .few)
+    omega (arith, p .0 .back .ground .all, p .0 .back .ground .coded .few)
 
 add-result : tie.Need-add-result Inv-loop μ-loop
 add-result c =
     let mid = c .before .before .before .before in
     let p = mid .before .before .before .before .pre in
-    omega (arith, p .0 .ground .all, p .0 .ground .coded .few, p .0 .ground .few)
+    omega (arith, p .0 .back .ground .all, p .0 .back .ground .coded .few, p .0 .back .ground .few)
 
 returns : tie.Need-returns Inv-loop μ-loop
 returns c =
@@ -48,12 +48,12 @@ returns c =
     let a = k .args in
     let p = at-loop .loop .p in
     let b = after-state-pose .state-pose .result in
-    let l = k .pre .0 .ground .few in
+    let l = k .pre .0 .back .ground .few in
     let x : (p * 64 + b) / 64 ≡ p = omega arith in
     let y : (p * 64 + b) % 64 ≡ b = omega arith in
     rw (x, y)
     (state-fits (deckIn (a .row .now) (a .sizes)) (a .sizes .reordering) (keptIn (a .store .now) (a .i)) (a .i) (a .q) (a .a) (a .want) p b
-    (omega (arith, k .pre .0 .ground .all)) (omega arith) (k .pre .5) (after-state-pose .state-pose .ensures .hit (omega arith)))
+    (omega (arith, k .pre .0 .back .ground .all)) (omega arith) (k .pre .0 .below) (after-state-pose .state-pose .ensures .hit (omega arith)))
 
 add-p : tie.Need-add-p Inv-loop μ-loop
 add-p c = search needs
@@ -73,8 +73,8 @@ returns-2 c =
     let k = at-loop .before .before .before in
     let a = k .args in
     absurd
-    (reached-missed (deckIn (a .row .now) (a .sizes)) (a .sizes .reordering) (keptIn (a .store .now) (a .i)) (a .i) (a .q) (a .a) (a .want) (k .pre .5)
-    (λ j h. at-loop .loop .inv .1 j (omega (arith, k .pre .0 .ground .all))) (k .pre .6))
+    (reached-missed (deckIn (a .row .now) (a .sizes)) (a .sizes .reordering) (keptIn (a .store .now) (a .i)) (a .i) (a .q) (a .a) (a .want) (k .pre .0 .below)
+    (λ j h. at-loop .loop .inv .1 j (omega (arith, k .pre .0 .back .ground .all))) (k .pre .1))
 
 pub find-source-spec : {M : Type 1} → statement M
 find-source-spec =

@@ -13,17 +13,17 @@ last-at-requires c κs = search needs
 mul-path : tie.Need-mul-path
 mul-path c =
     let k = c .before .before .before in
-    omega (arith, c .last-at .ensures, k .pre .0 .small (k .args .q) (k .pre .1))
+    omega (arith, c .last-at .ensures, k .pre .words .small (k .args .q) (k .pre .state))
 
 add-path : tie.Need-add-path
 add-path c =
     let k = c .before .before .before in
-    omega (arith, c .last-at .ensures, k .pre .0 .small (k .args .q) (k .pre .1))
+    omega (arith, c .last-at .ensures, k .pre .words .small (k .args .q) (k .pre .state))
 
 cast-path : tie.Need-cast-path
 cast-path c =
     let k = c .before .before .before in
-    omega (arith, c .last-at .ensures, k .pre .0 .small (k .args .q) (k .pre .1))
+    omega (arith, c .last-at .ensures, k .pre .words .small (k .args .q) (k .pre .state))
 
 mul-path-2 : tie.Need-mul-path-2
 mul-path-2 c = search needs

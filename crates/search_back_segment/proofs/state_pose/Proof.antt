@@ -28,7 +28,7 @@ returns c =
     let k = c .before .before .before .before in
     let a = k .args in
     poses-none (deckIn (a .row .now) (a .sizes)) (a .sizes .reordering) (keptIn (a .store .now) (a .i)) (a .i) (a .q) (a .a) (a .p) (a .want)
-    (sym (c .before .is-source .ensures) ∙ not-true _ (c .if1 .taken)) (k .pre .6)
+    (sym (c .before .is-source .ensures) ∙ not-true _ (c .if1 .taken)) (k .pre .0 .below)
 
 last-at-requires : tie.Need-last-at-requires
 last-at-requires c κs = search needs
@@ -53,16 +53,20 @@ find-pose-requires c κs =
     let mid = c .before .before .before in
     let k = mid .before .before .before .before in
     let a = k .args in
-    let g = k .pre .0 .ground in
-    let i = source-size (a .row .now) (a .sizes .cells) (a .sizes .poses) (a .sizes .reordering) (a .i) (a .q) (a .p) (source mid) in (
-      g .words,
-      k .pre .0 .low,
-      omega (arith, c .kept-at .ensures, k .pre .0 .long, g .coded .few, g .few),
-      omega (arith, c .before .before .last-at .ensures, g .size),
-      omega (arith, c .before .last-at2 .ensures, g .size),
-      omega (arith, g .few),
-      g .few,
-    )
+    let b = k .pre .0 .back in
+    let g = b .ground in
+    let i = source-size (a .row .now) (a .sizes .cells) (a .sizes .poses) (a .sizes .reordering) (a .i) (a .q) (a .p) (source mid) in
+    record {
+      cells = record {
+        words = g .words;
+        left = omega (arith, c .before .before .last-at .ensures, g .size);
+        right = omega (arith, c .before .last-at2 .ensures, k .pre .0 .cell, g .size);
+      };
+      low = b .low;
+      room = omega (arith, c .kept-at .ensures, b .long, k .pre .0 .last, k .pre .1, g .coded .few, g .few);
+      pose = omega (arith, k .pre .0 .pose, g .few);
+      few = g .few;
+    }
 
 returns-2 : tie.Need-returns-2
 returns-2 c =
