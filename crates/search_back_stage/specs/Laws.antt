@@ -24,9 +24,13 @@ use Rattle.search_dense_layer.specs.KeptLaws.{kept-ext, kept-fewer}
 use Rattle.search_back_segment.specs.Traces.{Back, SegmentTrace, End, SegmentTraceDone, EndDone, wordAt}
 use Rattle.search_back_segment.specs.Steps.{end-full}
 use Rattle.search_back_stage.specs.Rows.{startCells, startLayer, startEnd, costFrom}
-use Rattle.search_back_stage.specs.Rows.{endPlace, Stage, Started, StageDone}
+use Rattle.search_back_stage.specs.Rows.{endPlace, StartState, Stage, Started, StageDone}
 
 -- ---- the start
+
+-- the tall cells before it stand in the row
+pub start-tall : {row : List ℕ} {z : Sizes} {I s : ℕ} → StartState row z I s → (J : ℕ) → J < I → posIn row J < 64
+start-tall g j h = omega (arith, g .given .inside j (omega (arith, g .stage)), g .given .ground .size)
 
 pub start-some : (R : ℕ) (pos : ℕ → ℕ) (I s : ℕ) → 0 < startCells R pos I s
 unfolding startCells

@@ -44,6 +44,12 @@ endPlace n R talls pos I q = cond (ltb I talls) (placedWith R (pos I) q) n
 
 -- ---- what is given
 
+-- stage I of a row, and the state of the tall cell before it that it starts from
+pub record StartState (row : List ℕ) (z : Sizes) (I s : ℕ) : Type 0 where
+  pub given : RowGiven row z
+  pub stage : I ≤ z .talls
+  pub state : 0 < I → s < stateCount (z .reordering)
+
 -- a start of stage I
 pub record Start (row st : List ℕ) (z : Sizes) (I s l : ℕ) : Type 0 where
   pub given : RowGiven row z

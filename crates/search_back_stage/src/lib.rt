@@ -1,10 +1,9 @@
 // One stage of the traceback in one row: its first layer is made once more from its one start, its layers are
 // kept, and the traceback goes back through them.
-ghost use Rattle.search_row.specs.Words.{deckIn, posIn, Ground};
+ghost use Rattle.search_row.specs.Words.{deckIn, posIn};
 ghost use mathlib.Core.Path.{_≡_};
-ghost use Prim.Native.Nat.{ℕ, _≤_, _<_};
-ghost use Rattle.theory_tables.specs.Steps.{stateCount};
-ghost use Rattle.search_back_stage.specs.Rows.{startCells, Start, Stage, Started, StageDone};
+ghost use Prim.Native.Nat.{_≤_};
+ghost use Rattle.search_back_stage.specs.Rows.{startCells, StartState, Start, Stage, Started, StageDone};
 use search_row::Sizes;
 use search_row::placed_with;
 use search_row::tall_at;
@@ -30,8 +29,7 @@ fn first_of(store: &mut [u32], row: &[u32], sizes: Sizes, stage: usize, s: usize
 
 // How many cells the first layer of a stage has.
 fn cells_of(row: &[u32], sizes: Sizes, stage: usize, s: usize) -> usize
-    requires { ⌜ Ground (now row) sizes × (stage ≤ 24) × ((i : ℕ) → i < stage → posIn (now row) i < 64)
-        × (0 < stage → s < stateCount (sizes .reordering)) ⌝ }
+    requires { ⌜ StartState (now row) sizes stage s ⌝ }
     ensures { λ i. ⌜ i ≡ startCells (sizes .reordering) (posIn (now (row .entry))) stage s ⌝ }
 {
     if stage == 0 {

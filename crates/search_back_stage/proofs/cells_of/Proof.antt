@@ -3,7 +3,7 @@ use Prim.Native.Nat.{_-_}
 use native.Mathlib.Omega.{arith}
 use borrow.Author.Needs.{needs}
 use Rattle.search_row.specs.Words.{posIn}
-use Rattle.search_back_stage.specs.Laws.{start-one, start-count}
+use Rattle.search_back_stage.specs.Laws.{start-tall, start-one, start-count}
 use Rattle.search_back_stage.proofs.cells_of.Statement.{statement}
 use Rattle.search_back_stage.proofs.cells_of.Tie as tie
 
@@ -16,26 +16,26 @@ sub-tall-at c = search needs
 tall-at-requires : tie.Need-tall-at-requires
 tall-at-requires c κs =
     let k = c .before .before in
-    (k .pre .0 .words, omega (arith, k .pre .1))
+    (k .pre .given .ground .words, omega (arith, k .pre .stage, k .pre .given .few))
 
 placed-with-requires : tie.Need-placed-with-requires
 unfolding posIn
 placed-with-requires c κs =
     let k = c .before .before .before in
     record {
-      words = k .pre .0 .coded;
-      state = k .pre .3 (omega arith);
-      few = omega (arith, c .tall-at .ensures, k .pre .2 (k .args .stage - 1) (omega arith));
+      words = k .pre .given .ground .coded;
+      state = k .pre .state (omega arith);
+      few = omega (arith, c .tall-at .ensures, start-tall (k .pre) (k .args .stage - 1) (omega arith));
     }
 
 add-result : tie.Need-add-result
 unfolding posIn
 add-result c =
     let k = c .before .before .before .before in
-    let h = k .pre .2 (k .args .stage - 1) (omega arith) in
+    let h = start-tall (k .pre) (k .args .stage - 1) (omega arith) in
     let e = c .before .tall-at .ensures in
     let r = c .placed-with .ensures in
-    let z = k .pre .0 .coded .reorder in
+    let z = k .pre .given .ground .coded .reorder in
     search needs
 
 returns-2 : tie.Need-returns-2

@@ -25,12 +25,8 @@ placed c = omega (arith, c .placed-with .ensures, c .before .tall-at .ensures)
 
 cells-of-requires : tie.Need-cells-of-requires
 cells-of-requires c κs =
-    let g = c .before .before .before .pre .start in (
-      g .given .ground,
-      omega (arith, g .given .few, g .stage),
-      λ i h. omega (arith, g .given .inside i (omega (arith, g .stage)), g .given .ground .size),
-      g .state,
-    )
+    let g = c .before .before .before .pre .start in
+    record { given = g .given; stage = g .stage; state = g .state }
 
 returns : tie.Need-returns
 returns c =
