@@ -57,6 +57,19 @@ pointerRow₁ = 64
 abbrev pub Pages : ℕ → List ℕ → Type 0
 Pages n st = pageAt n ≤ length st
 
+-- the map has a row of cases of these states in table I
+pub record CaseRow (I q₀ q₁ : ℕ) : Type 0 where
+  pub table : I ≤ 25
+  pub state₀ : q₀ ≤ 12
+  pub state₁ : q₁ ≤ 12
+
+-- the map has a row of costs of start state s in a row of cells, to state q in pose a
+pub record CostRow (row s q a : ℕ) : Type 0 where
+  pub side : row ≤ 1
+  pub start : s ≤ 12
+  pub state : q ≤ 12
+  pub pose : a ≤ 64
+
 -- there is such a case in the map
 abbrev pub Slot : ℕ → ℕ → ℕ → ℕ → Type 0
 Slot I q₀ q₁ a = (I ≤ 25) × (q₀ < 12) × (q₁ < 12) × (a < 64)

@@ -2,7 +2,7 @@
 // in specs/Map.antt; its laws stand in specs/Places.antt.
 ghost use mathlib.Core.Path.{_≡_};
 ghost use Prim.Native.Nat.{_+_, _*_, _≤_};
-ghost use Rattle.search_store.specs.Map.{stateBlock, keptAt, costsAt, caseAt, pointerAt};
+ghost use Rattle.search_store.specs.Map.{stateBlock, keptAt, costsAt, caseAt, pointerAt, CaseRow, CostRow};
 
 // The words of a state in a layer, and of a layer: the poses of twelve states, 64 lanes each.
 pub const STATE: usize = 4096;
@@ -45,7 +45,7 @@ pub fn kept_at(i: usize) -> usize
 
 // Where the row of case (q0, q1) of table i begins.
 pub fn case_at(i: usize, q0: usize, q1: usize) -> usize
-    requires { ⌜ (i ≤ 25) × (q0 ≤ 12) × (q1 ≤ 12) ⌝ }
+    requires { ⌜ CaseRow i q0 q1 ⌝ }
     ensures { λ r. ⌜ r ≡ caseAt i q0 q1 ⌝ }
 {
     PAGES + CASES + q0 * PAGE + q1 * CASE + i * 64
@@ -53,7 +53,7 @@ pub fn case_at(i: usize, q0: usize, q1: usize) -> usize
 
 // Where the row of its back pointers begins.
 pub fn pointer_at(i: usize, q0: usize, q1: usize) -> usize
-    requires { ⌜ (i ≤ 25) × (q0 ≤ 12) × (q1 ≤ 12) ⌝ }
+    requires { ⌜ CaseRow i q0 q1 ⌝ }
     ensures { λ r. ⌜ r ≡ pointerAt i q0 q1 ⌝ }
 {
     case_at(i, q0, q1) + POINTERS
@@ -61,7 +61,7 @@ pub fn pointer_at(i: usize, q0: usize, q1: usize) -> usize
 
 // Where the costs of start state s to state q in pose a begin, in a row.
 pub fn cost_at(row: usize, s: usize, q: usize, a: usize) -> usize
-    requires { ⌜ (row ≤ 1) × (s ≤ 12) × (q ≤ 12) × (a ≤ 64) ⌝ }
+    requires { ⌜ CostRow row s q a ⌝ }
     ensures { λ r. ⌜ r ≡ costsAt row s + q * stateBlock + a * 64 ⌝ }
 {
     PAGES + s * PAGE + row * LAYER + q * STATE + a * 64
