@@ -55,6 +55,18 @@ pub record Summing (starts lanes I : ℕ) (st : List ℕ) (q₀ a : ℕ) : Type 
   pub state : q₀ < 12
   pub pose : a < 60
 
+-- the same, with the sums before start state s, of which those at places below k have it already
+pub record SumsFrom (starts lanes I : ℕ) (st : List ℕ) (q₀ a s k : ℕ) (sums : List ℕ) : Type 0 where
+  pub given : Summing starts lanes I st q₀ a
+  pub start : s < starts
+  pub before : Sums starts lanes I st q₀ a s k sums
+
+-- the same, with state t of row 1 in one of all lanes
+pub record StartSums (starts I : ℕ) (st : List ℕ) (q₀ a t lane : ℕ) : Type 0 where
+  pub given : Summing starts 64 I st q₀ a
+  pub other : t < starts
+  pub inside : lane < 64
+
 -- the sums at `at`, and the costs of row 1 at p₁
 pub record LaneSums (sums : List ℕ) (at : ℕ) (st : List ℕ) (p₁ lanes : ℕ) : Type 0 where
   pub room : Room sums

@@ -9,8 +9,8 @@ ghost use Rattle.theory_tables.specs.Steps.{B};
 ghost use Rattle.search_join.specs.Tables.{Better, Least, MetAt, SumAt, WayIn, nextIn, OneCase, pointerEnd};
 ghost use Rattle.search_join.specs.Tables.{PoseCases, BlockCases, Part, Joined, JoinGiven};
 ghost use Rattle.search_join.specs.Tables.{StateWith, AllStates, Closing, Closed};
-ghost use Rattle.search_join.specs.Sums.{startSum, laneSum, endSum, Room, Sums, Summed, Summing};
-ghost use Rattle.search_join.specs.Sums.{LaneSums, Joining, Pointing, CaseRoom};
+ghost use Rattle.search_join.specs.Sums.{startSum, laneSum, endSum, Room, Sums, Summed};
+ghost use Rattle.search_join.specs.Sums.{Summing, SumsFrom, StartSums, LaneSums, Joining, Pointing, CaseRoom};
 
 // The least of some costs, and a code of where it is.
 pub struct Best {
@@ -50,8 +50,7 @@ fn lower_sums(
     q0: usize,
     a: usize,
 )
-    requires { ⌜ Summing starts lanes i (now store) q0 a × Sums starts lanes i (now store) q0 a s (t * 64) (now sums)
-        × (s < starts) × (t < starts) ⌝ }
+    requires { ⌜ SumsFrom starts lanes i (now store) q0 a s (t * 64) (now sums) × (t < starts) ⌝ }
     ensures { λ _. ⌜ Sums starts lanes i (now (store .entry)) q0 a s (t * 64 + 64) (now (sums .exit)) ⌝ }
 {
     let at = search_store::case_at(i, s, t);
@@ -75,8 +74,7 @@ fn sums_from(
     q0: usize,
     a: usize,
 ) -> bool
-    requires { ⌜ Summing starts lanes i (now store) q0 a × Sums starts lanes i (now store) q0 a s 0 (now sums)
-        × (s < starts) ⌝ }
+    requires { ⌜ SumsFrom starts lanes i (now store) q0 a s 0 (now sums) ⌝ }
     ensures { λ live. ⌜ Sums starts lanes i (now (store .entry)) q0 a (s + 1) 0 (now (sums .exit))
         × (live ≡ false → now (sums .exit) ≡ now (sums .entry)) ⌝ }
 {
@@ -160,7 +158,7 @@ fn start_of(
     lane: usize,
     sum: u32,
 ) -> usize
-    requires { ⌜ Summing starts 64 i (now store) q0 a × (t < starts) × (lane < 64) ⌝ }
+    requires { ⌜ StartSums starts i (now store) q0 a t lane ⌝ }
     ensures { λ r. ⌜ SumAt (startSum i (now (store .entry)) q0 a t lane) starts sum r ⌝ }
 {
     let mut s: usize = 0;

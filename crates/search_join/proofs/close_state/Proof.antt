@@ -18,7 +18,7 @@ loop-holds : tie.Need-loop-holds Inv-loop μ-loop
 loop-holds c = (omega arith, closed-none _ _ _ (c .before .pre .0 .fits) (λ q₀ q₁ h. omega arith))
 
 case-at-requires : tie.Need-case-at-requires Inv-loop μ-loop
-case-at-requires c κs = (omega arith, omega arith, omega arith)
+case-at-requires c κs = record { table = omega arith; state₀ = omega arith; state₁ = omega arith }
 
 add-fill : tie.Need-add-fill Inv-loop μ-loop
 add-fill c = omega (arith, c .case-at .ensures)

@@ -36,7 +36,7 @@ sums-from-requires : tie.Need-sums-from-requires Inv-loop μ-loop
 sums-from-requires c κs =
     let at-loop = c .before .before in
     let k = at-loop .before .before .before .before in
-    (k .pre .0, at-loop .loop .inv .1, omega arith)
+    record { given = k .pre .0; start = omega arith; before = at-loop .loop .inv .1 }
 
 add-s : tie.Need-add-s Inv-loop μ-loop
 add-s c = search needs

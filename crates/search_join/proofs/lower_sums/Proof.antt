@@ -28,7 +28,7 @@ loop-holds : tie.Need-loop-holds Inv-loop μ-loop
 loop-holds c =
     let k = c .before .before .before in
     let e : k .args .t * 64 + 0 ≡ k .args .t * 64 = omega arith in
-    (omega arith, rw e (k .pre .1))
+    (omega arith, rw e (k .pre .0 .before))
 
 add-lesser : tie.Need-add-lesser Inv-loop μ-loop
 add-lesser c = search needs
@@ -62,7 +62,7 @@ add-lesser-4 c =
     let at-loop = c .before .before .before .before in
     let k = at-loop .before .before .before .before in
     let l = at-loop .loop .l in
-    let w = k .pre .0 .table .low .word in
+    let w = k .pre .0 .given .table .low .word in
     omega (arith, w (at-loop .before .before .case-at .result + l), w (at-loop .before .cost-at .result + l))
 
 lesser-requires : tie.Need-lesser-requires Inv-loop μ-loop
@@ -70,7 +70,7 @@ lesser-requires c κs =
     let at-loop = c .before .before .before .before in
     let k = at-loop .before .before .before .before in
     let l = at-loop .loop in
-    let w = k .pre .0 .table .low .word in (
+    let w = k .pre .0 .given .table .low .word in (
       omega (arith, l .inv .1 .room .low .word (k .args .t * 64 + l .l)),
       omega (arith, w (at-loop .before .before .case-at .result + l .l), w (at-loop .before .cost-at .result + l .l)),
     )
@@ -101,7 +101,7 @@ loop-again c =
     start-words (a .i) (a .store .now) (a .q0) (a .a) (a .s) (a .t) (l .l) _ _ (after-case-at .case-at .ensures) (mid .before .before .cost-at .ensures) in (
       omega arith,
       sums-lane (a .starts) (a .lanes) (a .i) (a .store .now) (a .q0) (a .a) (a .s) (a .t) (l .l) (c .lesser .result) (l .inv .1)
-          (k .pre .0 .table .states) (k .pre .0 .table .few) (omega arith) (omega arith) (omega (arith, c .lesser .ensures)),
+          (k .pre .0 .given .table .states) (k .pre .0 .given .table .few) (omega arith) (omega arith) (omega (arith, c .lesser .ensures)),
     )
 
 returns : tie.Need-returns Inv-loop μ-loop
@@ -109,7 +109,7 @@ returns c =
     let at-loop = c .before in
     let k = at-loop .before .before .before .before in
     let a = k .args in
-    let few = k .pre .0 .table .few in
+    let few = k .pre .0 .given .table .few in
     let e : at-loop .loop .l ≡ a .lanes = omega arith in
     sums-to (a .starts) (a .lanes) (a .i) (a .store .now) (a .q0) (a .a) _ (at-loop .loop .inv .1) (omega arith) (λ t l h g z. omega arith)
 

@@ -56,11 +56,12 @@ start-of-requires c κs =
     let t = k .pre .table in
     let m = lane-met (a .starts) (a .lanes) (a .i) (a .store .now) (a .case .q0) (a .case .q1) (a .case .pose) (k .pre .summed) (a .value) (a .t) _ _
     (k .pre .below) (k .pre .met)
-    (c .before .before .cost-at .ensures) (c .before .lane-of .ensures) in (
-      record { table = table-for _ _ t (omega arith) (t .stage); state = k .pre .fits .state₀; pose = k .pre .fits .pose },
-      k .pre .state,
-      omega (arith, m .0, t .few),
-    )
+    (c .before .before .cost-at .ensures) (c .before .lane-of .ensures) in
+    record {
+      given = record { table = table-for _ _ t (omega arith) (t .stage); state = k .pre .fits .state₀; pose = k .pre .fits .pose };
+      other = k .pre .state;
+      inside = omega (arith, m .0, t .few);
+    }
 
 mul-result : tie.Need-mul-result
 mul-result c =

@@ -47,7 +47,7 @@ add-if1-3 : tie.Need-add-if1-3 Inv-loop μ-loop
 add-if1-3 c =
     let after-case-at = c .before .before .before in
     let k = after-case-at .before .before .before .before in
-    let w = k .pre .0 .table .low .word in
+    let w = k .pre .given .table .low .word in
     omega (arith, w (after-case-at .case-at .result + k .args .lane), w (c .before .cost-at .result + k .args .lane))
 
 returns : tie.Need-returns Inv-loop μ-loop

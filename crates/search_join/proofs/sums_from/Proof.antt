@@ -16,29 +16,29 @@ abbrev μ-loop : tie.MeasureT-loop
 μ-loop sums₀ store i starts lanes s q0 a t₀ sums t = starts - t
 
 cost-at-requires : tie.Need-cost-at-requires Inv-loop μ-loop
-cost-at-requires c κs = let w = c .before .pre .0 .table .states in (omega arith, omega arith, omega arith, omega arith)
+cost-at-requires c κs = let w = c .before .pre .given .table .states in record { side = omega arith; start = omega arith; state = omega arith; pose = omega arith }
 
 common-requires : tie.Need-common-requires Inv-loop μ-loop
-common-requires c κs = let w = c .before .before .pre .0 .table in omega (arith, w .long, w .states, w .few, c .cost-at .ensures)
+common-requires c κs = let w = c .before .before .pre .given .table in omega (arith, w .long, w .states, w .few, c .cost-at .ensures)
 
 returns : tie.Need-returns Inv-loop μ-loop
 returns c =
     let k = c .before .before .before .before in
     let a = k .args in (
-      sums-skip (a .starts) (a .lanes) (a .i) (a .store .now) (a .q0) (a .a) (a .s) (k .pre .1)
+      sums-skip (a .starts) (a .lanes) (a .i) (a .store .now) (a .q0) (a .a) (a .s) (k .pre .before)
           (λ t l g. start-none (a .i) (a .store .now) (a .q0) (a .a) (a .s) t l _ (c .before .before .cost-at .ensures)
           (omega (arith, c .before .common .ensures l g))),
       λ e. refl,
     )
 
 loop-holds : tie.Need-loop-holds Inv-loop μ-loop
-loop-holds c = (omega arith, c .before .before .before .before .pre .1)
+loop-holds c = (omega arith, c .before .before .before .before .pre .before)
 
 lower-sums-requires : tie.Need-lower-sums-requires Inv-loop μ-loop
 lower-sums-requires c κs =
     let mid = c .before .before .before .before in
     let k = mid .before .before .before in
-    (k .pre .0, c .before .before .loop .inv .1, omega arith, omega arith)
+    (record { given = k .pre .given; start = k .pre .start; before = c .before .before .loop .inv .1 }, omega arith)
 
 add-t : tie.Need-add-t Inv-loop μ-loop
 add-t c = search needs
@@ -57,7 +57,7 @@ returns-2 c =
     let mid = c .before .before .before .before in
     let k = mid .before .before in
     let a = k .args in
-    let few = k .pre .0 .table .few in (
+    let few = k .pre .given .table .few in (
       sums-next (a .starts) (a .lanes) (a .i) (a .store .now) (a .q0) (a .a) (a .s) _ (c .before .loop .inv .1) (λ t l h g. omega arith),
       λ e. absurd (let z : _≡_ {A = ℕ} 0 1 = cc in omega arith),
     )
