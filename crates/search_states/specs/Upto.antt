@@ -84,15 +84,39 @@ pub record Upto (R : ℕ) (row : List ℕ) (count : ℕ) (l : List (ℕ × ℕ))
   pub earlier : (q : ℕ) → q < count → getD row (stateAt q + 2) 0 ≡ before R q
   pub low : Low row
 
-pub upto-none : (R : ℕ) (row : List ℕ) → rowLength ≤ length row → Low row → Upto R row 0 (marksFrom R 0)
-upto-none R row h w = record {
-  long = h;
+-- ---- what is given
+
+-- room for all states
+pub record StatesRoom (R : ℕ) (row : List ℕ) : Type 0 where
+  pub reorder : R ≤ 2
+  pub long : rowLength ≤ length row
+  pub low : Low row
+
+-- the same as `Upto`, where the states to come begin with those of the marks m, or with some of them
+pub record Coming (R : ℕ) (row : List ℕ) (count m : ℕ) (l : List (ℕ × ℕ)) : Type 0 where
+  pub reorder : R ≤ 2
+  pub window : m < 2 ^ suc (2 * R)
+  pub upto : Upto R row count l
+
+-- room for state q, and a digit of its marks that is set
+pub record StateRoom (row : List ℕ) (q d m : ℕ) : Type 0 where
+  pub long : statesEnd ≤ length row
+  pub state : q < 12
+  pub digit : d ≤ 4
+  pub window : m < 32
+  pub set : 2 ^ d ≤ m
+
+-- ---- none is written yet
+
+pub upto-none : (R : ℕ) (row : List ℕ) → StatesRoom R row → Upto R row 0 (marksFrom R 0)
+upto-none R row w = record {
+  long = w .long;
   below = omega arith;
   left = marks-all R;
   digit = λ q h. absurd (omega arith);
   mark = λ q h. absurd (omega arith);
   earlier = λ q h. absurd (omega arith);
-  low = w;
+  low = w .low;
 }
 
 -- twelve states at most, and at least one
@@ -250,3 +274,6 @@ marks-end zero h = (refl, lit≤ tt)
 marks-end (suc zero) h = (refl, lit≤ tt)
 marks-end (suc (suc zero)) h = (refl, lit≤ tt)
 marks-end (suc (suc (suc R))) h = absurd (omega arith)
+
+pub window-small : {R count m : ℕ} {row : List ℕ} {l : List (ℕ × ℕ)} → Coming R row count m l → m < 32
+window-small {R} w = omega (arith, w .window, marks-end R (w .reorder))

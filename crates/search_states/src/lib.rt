@@ -3,12 +3,12 @@
 ghost use mathlib.Core.Path.{_≡_};
 ghost use mathlib.Core.Bool.{true};
 ghost use mathlib.Core.List.{_++_};
-ghost use Prim.Native.Nat.{suc, _+_, _*_, _^_, _≤_, _<_};
-ghost use lib.ListN.{length};
-ghost use Rattle.search_row.specs.Words.{rowLength, statesEnd, statesFrom};
+ghost use Prim.Native.Nat.{_+_, _*_, _≤_, _<_};
+ghost use Rattle.search_row.specs.Words.{statesEnd, statesFrom};
 ghost use Rattle.theory_tables.specs.Steps.{mayBeLast};
-ghost use Rattle.search_lanes.specs.Store.{Frame, Low};
+ghost use Rattle.search_lanes.specs.Store.{Frame};
 ghost use Rattle.search_states.specs.Upto.{isMarks, digitsFrom, marksFrom, withState, Upto, Coded};
+ghost use Rattle.search_states.specs.Upto.{StatesRoom, Coming, StateRoom};
 ghost use Rattle.theory_row.specs.Marks.{bit};
 
 // Whether m has r + 1 ones, the lowest digit among them.
@@ -38,7 +38,7 @@ fn may_be_last(r: u32, m: u32, d: u32) -> bool
 
 // State q: its digit, its marks, and the only marks from which placing the cell at that digit leads to them.
 fn put_state(row: &mut [u32], q: usize, d: u32, m: u32)
-    requires { ⌜ (statesEnd ≤ length (now row)) × (q < 12) × (d ≤ 4) × (m < 32) × (2 ^ d ≤ m) ⌝ }
+    requires { ⌜ StateRoom (now row) q d m ⌝ }
     ensures { λ _. ⌜ now (row .exit) ≡ withState (now (row .entry)) q d m ⌝ }
 {
     row[search_row::STATES + q * 4] = d;
@@ -48,7 +48,7 @@ fn put_state(row: &mut [u32], q: usize, d: u32, m: u32)
 
 // The state of digit d, if it is one; how many there are then.
 fn add_digit(row: &mut [u32], count: usize, r: u32, m: u32, d: u32) -> usize
-    requires { ⌜ (r ≤ 2) × (m < 32) × (d ≤ 2 * r) × Upto r (now row) count (digitsFrom r m d ++ marksFrom r (m + 1)) ⌝ }
+    requires { ⌜ Coming r (now row) count m (digitsFrom r m d ++ marksFrom r (m + 1)) × (d ≤ 2 * r) ⌝ }
     ensures { λ n. ⌜ Upto r (now (row .exit)) n (digitsFrom r m (d + 1) ++ marksFrom r (m + 1))
         × Frame statesFrom statesEnd (now (row .entry)) (now (row .exit)) ⌝ }
 {
@@ -61,7 +61,7 @@ fn add_digit(row: &mut [u32], count: usize, r: u32, m: u32, d: u32) -> usize
 
 // The states of m, if it is marks; how many there are then.
 fn add_marks(row: &mut [u32], count: usize, r: u32, m: u32) -> usize
-    requires { ⌜ (r ≤ 2) × (m < 2 ^ suc (2 * r)) × (m < 32) × Upto r (now row) count (marksFrom r m) ⌝ }
+    requires { ⌜ Coming r (now row) count m (marksFrom r m) ⌝ }
     ensures { λ n. ⌜ Upto r (now (row .exit)) n (marksFrom r (m + 1))
         × Frame statesFrom statesEnd (now (row .entry)) (now (row .exit)) ⌝ }
 {
@@ -79,7 +79,7 @@ fn add_marks(row: &mut [u32], count: usize, r: u32, m: u32) -> usize
 
 // All states; how many there are.
 pub fn fill_states(row: &mut [u32], r: usize) -> usize
-    requires { ⌜ (rowLength ≤ length (now row)) × Low (now row) × (r ≤ 2) ⌝ }
+    requires { ⌜ StatesRoom r (now row) ⌝ }
     ensures { λ n. ⌜ Coded r (now (row .entry)) (now (row .exit)) n ⌝ }
 {
     let limit = r as u32;

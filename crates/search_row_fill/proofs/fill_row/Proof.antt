@@ -42,7 +42,7 @@ fill-states-requires c κs =
     let k = after-fill-cells .before .before .before in
     let f = after-fill-cells .fill-cells .ensures in
     let w = mid .before .put-talls .ensures in
-    (omega (arith, f .long, w .frame .long), w .low, omega (arith, k .pre .accepted .sound .header .reordering))
+    record { reorder = omega (arith, k .pre .accepted .sound .header .reordering); long = omega (arith, f .long, w .frame .long); low = w .low }
 
 same-length : tie.Need-same-length
 same-length c = search needs

@@ -4,7 +4,7 @@ use native.Mathlib.Omega.{arith}
 use borrow.Author.Tests.{not-true, not-false}
 use borrow.Author.Needs.{needs}
 use Rattle.search_lanes.specs.Laws.{frame-refl}
-use Rattle.search_states.specs.Upto.{skip-digit, next-digit, may-low, room, upto-more, with-frame, few}
+use Rattle.search_states.specs.Upto.{skip-digit, next-digit, may-low, room, upto-more, with-frame, few, window-small}
 use Rattle.search_states.proofs.add_digit.Statement.{statement}
 use Rattle.search_states.proofs.add_digit.Tie as tie
 
@@ -14,7 +14,7 @@ may-be-last-requires c κs = search needs
 returns : tie.Need-returns
 returns c =
     let k = c .before .before .before in (
-      skip-digit _ _ _ (omega arith) (sym (c .before .may-be-last .ensures) ∙ not-true (c .before .may-be-last .result) (c .if1 .taken)) (k .pre .3),
+      skip-digit _ _ _ (omega arith) (sym (c .before .may-be-last .ensures) ∙ not-true (c .before .may-be-last .result) (c .if1 .taken)) (k .pre .0 .upto),
       frame-refl _ _ _,
     )
 
@@ -22,14 +22,20 @@ put-state-requires : tie.Need-put-state-requires
 put-state-requires c κs =
     let k = c .before .before .before .before in
     let t = sym (c .before .before .may-be-last .ensures) ∙ not-false (c .before .before .may-be-last .result) (c .before .if1 .left) in
-    let u = next-digit (k .args .m) (k .args .d) _ (omega arith) t (k .pre .3) in
-    (omega (arith, u .long), room (k .pre .0) u, omega arith, k .pre .1, may-low _ _ _ t)
+    let u = next-digit (k .args .m) (k .args .d) _ (omega arith) t (k .pre .0 .upto) in
+    record {
+      long = omega (arith, u .long);
+      state = room (k .pre .0 .reorder) u;
+      digit = omega arith;
+      window = window-small (k .pre .0);
+      set = may-low _ _ _ t;
+    }
 
 add-result : tie.Need-add-result
 add-result c =
     let mid = c .before .before .before .before in
     let k = mid .before .before .before in
-    omega (arith, k .pre .3 .below, few (k .args .r) (k .pre .0))
+    omega (arith, k .pre .0 .upto .below, few (k .args .r) (k .pre .0 .reorder))
 
 same-length : tie.Need-same-length
 same-length c = search needs
@@ -39,8 +45,8 @@ returns-2 c =
     let after-if1 = c .before .before .before .before in
     let k = after-if1 .before .before .before in
     let t = sym (after-if1 .before .may-be-last .ensures) ∙ not-false (after-if1 .before .may-be-last .result) (after-if1 .if1 .left) in
-    let u = next-digit (k .args .m) (k .args .d) _ (omega arith) t (k .pre .3) in
-    rw (c .before .before .put-state .ensures) (upto-more (k .pre .0) (omega arith) (k .pre .1) u, with-frame _ _ _ _ _ (room (k .pre .0) u) (frame-refl _ _ _))
+    let u = next-digit (k .args .m) (k .args .d) _ (omega arith) t (k .pre .0 .upto) in
+    rw (c .before .before .put-state .ensures) (upto-more (k .pre .0 .reorder) (omega arith) (window-small (k .pre .0)) u, with-frame _ _ _ _ _ (room (k .pre .0 .reorder) u) (frame-refl _ _ _))
 
 pub add-digit-spec : {M : Type 1} → statement M
 add-digit-spec =

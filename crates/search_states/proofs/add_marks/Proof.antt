@@ -25,7 +25,7 @@ is-marks-requires c κs = search needs
 returns : tie.Need-returns Inv-loop μ-loop
 returns c =
     let k = c .before .before .before in (
-      skip-marks (k .args .m) (k .pre .1) (sym (c .before .is-marks .ensures) ∙ not-true (c .before .is-marks .result) (c .if1 .taken)) (k .pre .3),
+      skip-marks (k .args .m) (k .pre .window) (sym (c .before .is-marks .ensures) ∙ not-true (c .before .is-marks .result) (c .if1 .taken)) (k .pre .upto),
       frame-refl _ _ _,
     )
 
@@ -34,7 +34,7 @@ loop-holds c =
     let k = c .before .before .before in (
       omega arith,
       frame-refl _ _ _,
-      next-marks (k .args .m) (k .pre .1) (sym (c .before .is-marks .ensures) ∙ not-false (c .before .is-marks .result) (c .if1 .left)) (k .pre .3),
+      next-marks (k .args .m) (k .pre .window) (sym (c .before .is-marks .ensures) ∙ not-false (c .before .is-marks .result) (c .if1 .left)) (k .pre .upto),
     )
 
 mul-loop : tie.Need-mul-loop Inv-loop μ-loop
@@ -44,7 +44,7 @@ add-digit-requires : tie.Need-add-digit-requires Inv-loop μ-loop
 add-digit-requires c κs =
     let l = c .before .before in
     let k = l .before .before .before .before in
-    (k .pre .0, k .pre .2, c .before .loop-test .taken, l .loop .inv .2)
+    (record { reorder = k .pre .reorder; window = k .pre .window; upto = l .loop .inv .2 }, c .before .loop-test .taken)
 
 add-d : tie.Need-add-d Inv-loop μ-loop
 add-d c = omega arith

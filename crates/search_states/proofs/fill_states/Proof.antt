@@ -26,13 +26,13 @@ shl-end : tie.Need-shl-end Inv-loop μ-loop
 shl-end c = search needs
 
 loop-holds : tie.Need-loop-holds Inv-loop μ-loop
-loop-holds c = (omega arith, frame-refl _ _ _, upto-none _ _ (c .before .pre .0) (c .before .pre .1))
+loop-holds c = (omega arith, frame-refl _ _ _, upto-none _ _ (c .before .pre))
 
 add-marks-requires : tie.Need-add-marks-requires Inv-loop μ-loop
 add-marks-requires c κs =
     let k = c .before .before .before .before in
-    let e = marks-end (k .args .r) (k .pre .2) in
-    (k .pre .2, omega (arith, e), omega (arith, e), c .before .before .loop .inv .2)
+    let e = marks-end (k .args .r) (k .pre .reorder) in
+    record { reorder = k .pre .reorder; window = omega (arith, e); upto = c .before .before .loop .inv .2 }
 
 add-m : tie.Need-add-m Inv-loop μ-loop
 add-m c = omega arith
@@ -53,7 +53,7 @@ same-length c = search needs
 returns : tie.Need-returns Inv-loop μ-loop
 returns c =
     let k = c .before .before .before in
-    upto-all (k .pre .2) (no-marks (c .before .loop .m) (omega (arith, marks-end (k .args .r) (k .pre .2))) (c .before .loop .inv .2))
+    upto-all (k .pre .reorder) (no-marks (c .before .loop .m) (omega (arith, marks-end (k .args .r) (k .pre .reorder))) (c .before .loop .inv .2))
     (c .before .loop .inv .1)
 
 pub fill-states-spec : {M : Type 1} → statement M
