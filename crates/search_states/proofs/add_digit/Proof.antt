@@ -46,7 +46,9 @@ returns-2 c =
     let k = after-if1 .before .before .before in
     let t = sym (after-if1 .before .may-be-last .ensures) ∙ not-false (after-if1 .before .may-be-last .result) (after-if1 .if1 .left) in
     let u = next-digit (k .args .m) (k .args .d) _ (omega arith) t (k .pre .0 .upto) in
-    rw (c .before .before .put-state .ensures) (upto-more (k .pre .0 .reorder) (omega arith) (window-small (k .pre .0)) u, with-frame _ _ _ _ _ (room (k .pre .0 .reorder) u) (frame-refl _ _ _))
+    let r = k .pre .0 .reorder in
+    rw (c .before .before .put-state .ensures)
+    (upto-more r (omega arith) (window-small (k .pre .0)) u, with-frame _ _ _ _ _ (room r u) (frame-refl _ _ _))
 
 pub add-digit-spec : {M : Type 1} → statement M
 add-digit-spec =
