@@ -7,7 +7,8 @@ ghost use Rattle.theory_tables.specs.Steps.{stateCount, lastAt, reached};
 ghost use Rattle.search_row.specs.Words.{deckIn};
 ghost use Rattle.search_dense_layer.specs.Kept.{keptIn};
 ghost use Rattle.search_back_segment.specs.Traces.{First, fromPose, fromState, Fits};
-ghost use Rattle.search_back_segment.specs.Traces.{PosesBefore, Sought, PathCell, EntrySource, Back, Entry, SegmentTrace, End};
+ghost use Rattle.search_back_segment.specs.Traces.{PosesBefore, Sought, PathCell};
+ghost use Rattle.search_back_segment.specs.Traces.{EntrySource, Back, Entry, SegmentTrace, End};
 ghost use Rattle.search_back_segment.specs.Traces.{SegmentTraceDone, EndDone, lastCode, LeastOf};
 use search_row::Sizes;
 
