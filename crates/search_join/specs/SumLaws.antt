@@ -1,12 +1,11 @@
--- Laws of the sums: one lane more, one start state more, a start state without any way; and a case from them.
+-- Laws of the sums: one state more, one start state more, a start state without any way; and a case from them.
 use Prim.Native.Nat.{ℕ, _+_, _*_, _≤_, _<_, min}
 use mathlib.Core.Path.{_≡_, sym, ap, _∙_}
 use mathlib.Core.List.{List}
 use mathlib.Core.Bool.{Bool}
 use native.Mathlib.Omega.{arith}
 use native.Mathlib.Decide.{ℕ-discrete}
-use lib.ListN.{getD, set, length-set}
-use lib.Seq.{getD-set-same, getD-set-other}
+use lib.ListN.{getD}
 use Rattle.search_store.specs.Map.{caseAt, costsAt, stateBlock}
 use Rattle.lists.specs.Numbers.{from}
 use Rattle.theory_pair.specs.Coded.{lowest, lowest-low}
@@ -14,11 +13,13 @@ use Rattle.theory_tables.specs.Steps.{B}
 use Rattle.theory_tables.specs.Lowest.{loop-member}
 use Rattle.search_lanes.specs.Lanes.{always}
 use Rattle.search_lanes.specs.Store.{Written}
-use Rattle.search_lanes.specs.Laws.{low-set}
+use Rattle.search_wide_buckets.specs.Table.{LoweredAt}
+use Rattle.search_wide_buckets.specs.TableLaws.{lowered-at-low}
 use Rattle.search_store.specs.Map.{pointerRow₀, pointerRow₁}
 use Rattle.search_join.specs.Tables.{caseState₀, caseState₁, casePose}
 use Rattle.search_join.specs.Tables.{casesIn, costsIn, Table, Least, MetAt, SumAt, WayIn, nextIn}
-use Rattle.search_join.specs.Sums.{startSum, laneSum, endSum, Room, Sums, Nones, Summed}
+use Rattle.search_join.specs.Sums.{startSum, startLanes, laneSum, endSum, Room, Sums, Nones, Summed}
+use Rattle.search_join.specs.Sums.{SumsFrom, StateSums}
 use Rattle.search_join.specs.Laws.{lowest-zero, lowest-more, lowest-same, lowest-at, next-is}
 
 -- the costs are there for other lanes, whatever the table
@@ -61,47 +62,42 @@ module _ (starts lanes I : ℕ) (st : List ℕ) (q₀ a : ℕ) where
         ∙ sym (lowest-zero _);
   }
 
-  -- one lane more of state t
-  pub sums-lane : {sums : List ℕ} (s t l v : ℕ) → Sums starts lanes I st q₀ a s (t * 64 + l) sums → starts ≤ 12
-      → lanes ≤ 64 → t < starts → l < lanes
-      → v ≡ min (getD sums (t * 64 + l) 0) (startSum I st q₀ a t l s)
-      → Sums starts lanes I st q₀ a s (t * 64 + (l + 1)) (set sums (t * 64 + l) v)
-  sums-lane {sums} s t l v w b d h g e =
-      let k = t * 64 + l in
-      let n = w .room .long in
-      let r = w .before t l h g (omega arith) in
-      let fits : v ≤ B = omega (arith, w .room .low .word k) in
+  -- one state t more
+  pub sums-lowered : {old new : List ℕ} (s t : ℕ) → Sums starts lanes I st q₀ a s (t * 64) old → lanes ≤ 64 → t < starts
+      → LoweredAt (startLanes I st q₀ a s t) (t * 64) lanes old new
+      → Sums starts lanes I st q₀ a s (t * 64 + 64) new
+  sums-lowered {old} {new} s t w d h v =
       record {
-        room = record { long = length-set sums k v ∙ n; low = low-set k v (w .room .low) (omega arith) fits };
-        upTo = λ u m i j z. go u m i j z (ℕ-discrete (u * 64 + m) k);
-        before = λ u m i j z. getD-set-other sums k (u * 64 + m) v 0 (omega arith) ∙ w .before u m i j (omega arith);
+        room = record { long = v .frame .long ∙ w .room .long; low = lowered-at-low v (w .room .low) };
+        upTo = λ u m i j z. go u m i j z (ℕ-discrete u t);
+        before = λ u m i j z. v .frame .high (u * 64 + m) (omega arith) ∙ w .before u m i j (omega arith);
       }
     where
-      go : (u m : ℕ) → u < starts → m < lanes → u * 64 + m < t * 64 + (l + 1) → Dec (u * 64 + m ≡ t * 64 + l)
-          → getD (set sums (t * 64 + l) v) (u * 64 + m) 0 ≡ lowest B (startSum I st q₀ a u m) (from 0 (s + 1))
-      go u m i j z (no x) = getD-set-other sums (t * 64 + l) (u * 64 + m) v 0 x ∙ w .upTo u m i j (omega arith)
+      go : (u m : ℕ) → u < starts → m < lanes → u * 64 + m < t * 64 + 64 → Dec (u ≡ t)
+          → getD new (u * 64 + m) 0 ≡ lowest B (startSum I st q₀ a u m) (from 0 (s + 1))
+      go u m i j z (no x) = v .frame .low (u * 64 + m) (omega arith) ∙ w .upTo u m i j (omega arith)
       go u m i j z (yes x) =
-          let x₀ : u ≡ t = omega arith in
-          let x₁ : m ≡ l = omega arith in
-          let n = w .room .long in
-          rw (x₀, x₁) (
-          omega (
-            arith,
-            getD-set-same sums (t * 64 + l) v 0 (omega arith),
-            w .before t l h g (omega arith),
-            lowest-more (startSum I st q₀ a t l) s,
-          )
-          )
+          rw x (omega (arith, v .done m j, w .before t m h j (omega arith), lowest-more (startSum I st q₀ a t m) s))
 
-  -- up to another place, with no sum between
-  pub sums-to : {sums : List ℕ} {s k : ℕ} (m : ℕ) → Sums starts lanes I st q₀ a s k sums → k ≤ m
-      → ((t l : ℕ) → t < starts → l < lanes → t * 64 + l < m → t * 64 + l < k)
-      → Sums starts lanes I st q₀ a s m sums
-  sums-to m w b none =
+  -- what it takes
+  pub state-sums : {sums : List ℕ} {s k t : ℕ} → SumsFrom starts lanes I st q₀ a s k sums → t < starts
+      → StateSums lanes I st q₀ a s t sums
+  state-sums w h =
+      let t = w .given .table in
       record {
-        room = w .room;
-        upTo = λ t l h g z. w .upTo t l h g (none t l h g z);
-        before = λ t l h g z. w .before t l h g (omega arith);
+        given = record {
+          table = record {
+            states = omega (arith, t .states, w .start);
+            few = t .few;
+            stage = t .stage;
+            long = omega (arith, t .long, w .start);
+            low = t .low;
+          };
+          state = w .given .state;
+          pose = w .given .pose;
+        };
+        other = omega (arith, t .states);
+        room = w .before .room;
       }
 
   -- one start state more

@@ -17,6 +17,10 @@ use Rattle.search_join.specs.Tables.{casesIn, costsIn, Table, Fits}
 unfoldable pub startSum : ℕ → List ℕ → ℕ → ℕ → ℕ → ℕ → ℕ → ℕ
 startSum I st q₀ a t l s = casesIn st I s t l + costsIn st 0 s l q₀ a
 
+-- the same as a function of the lane
+abbrev pub startLanes : ℕ → List ℕ → ℕ → ℕ → ℕ → ℕ → ℕ → ℕ
+startLanes I st q₀ a s t l = startSum I st q₀ a t l s
+
 -- a lane of the sums at `at` with the cost of row 1 at p₁; and the least over the lanes of state t
 unfoldable pub laneSum : List ℕ → ℕ → List ℕ → ℕ → ℕ → ℕ
 laneSum sums at st p₁ l = getD sums (at + l) 0 + getD st (p₁ + l) 0
@@ -60,6 +64,12 @@ pub record SumsFrom (starts lanes I : ℕ) (st : List ℕ) (q₀ a s k : ℕ) (s
   pub given : Summing starts lanes I st q₀ a
   pub start : s < starts
   pub before : Sums starts lanes I st q₀ a s k sums
+
+-- the same of start state s as the last of the table, with room for the sums of state t of row 1
+pub record StateSums (lanes I : ℕ) (st : List ℕ) (q₀ a s t : ℕ) (sums : List ℕ) : Type 0 where
+  pub given : Summing (s + 1) lanes I st q₀ a
+  pub other : t < 12
+  pub room : Room sums
 
 -- the same, with state t of row 1 in one of all lanes
 pub record StartSums (starts I : ℕ) (st : List ℕ) (q₀ a t lane : ℕ) : Type 0 where

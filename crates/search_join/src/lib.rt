@@ -6,11 +6,12 @@ ghost use Rattle.search_store.specs.Map.{Pages};
 ghost use Rattle.lists.specs.Numbers.{from};
 ghost use Rattle.theory_pair.specs.Coded.{lowest};
 ghost use Rattle.theory_tables.specs.Steps.{B};
+ghost use Rattle.search_wide_buckets.specs.Table.{LoweredAt};
 ghost use Rattle.search_join.specs.Tables.{Better, Least, MetAt, SumAt, WayIn, nextIn, OneCase, pointerEnd};
 ghost use Rattle.search_join.specs.Tables.{PoseCases, BlockCases, Part, Joined, JoinGiven};
 ghost use Rattle.search_join.specs.Tables.{StateWith, AllStates, Closing, Closed};
-ghost use Rattle.search_join.specs.Sums.{startSum, laneSum, endSum, Room, Sums, Summed};
-ghost use Rattle.search_join.specs.Sums.{Summing, SumsFrom, StartSums, LaneSums, Joining, Pointing, CaseRoom};
+ghost use Rattle.search_join.specs.Sums.{startSum, startLanes, laneSum, endSum, Room, Sums, Summed, Summing};
+ghost use Rattle.search_join.specs.Sums.{SumsFrom, StateSums, StartSums, LaneSums, Joining, Pointing, CaseRoom};
 
 // The least of some costs, and a code of where it is.
 pub struct Best {
@@ -43,15 +44,15 @@ fn lower_sums(
     sums: &mut [u32; 768],
     store: &[u32],
     i: usize,
-    starts: usize,
     lanes: usize,
     s: usize,
     t: usize,
     q0: usize,
     a: usize,
 )
-    requires { ⌜ SumsFrom starts lanes i (now store) q0 a s (t * 64) (now sums) × (t < starts) ⌝ }
-    ensures { λ _. ⌜ Sums starts lanes i (now (store .entry)) q0 a s (t * 64 + 64) (now (sums .exit)) ⌝ }
+    requires { ⌜ StateSums lanes i (now store) q0 a s t (now sums) ⌝ }
+    ensures { λ _. ⌜ LoweredAt (startLanes i (now (store .entry)) q0 a s t) (t * 64) lanes (now (sums .entry))
+        (now (sums .exit)) ⌝ }
 {
     let at = search_store::case_at(i, s, t);
     let p0 = search_store::cost_at(0, s, q0, a);
@@ -85,7 +86,7 @@ fn sums_from(
     }
     let mut t: usize = 0;
     while t < starts {
-        lower_sums(sums, store, i, starts, lanes, s, t, q0, a);
+        lower_sums(sums, store, i, lanes, s, t, q0, a);
         t += 1;
     }
     true

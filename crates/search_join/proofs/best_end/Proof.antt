@@ -27,7 +27,9 @@ mul-least-lane : tie.Need-mul-least-lane Inv-loop μ-loop
 mul-least-lane c = let w = c .before .before .before .pre .0 .table .states in omega arith
 
 cost-at-requires : tie.Need-cost-at-requires Inv-loop μ-loop
-cost-at-requires c κs = let w = c .before .before .before .pre .0 .table .states in record { side = omega arith; start = omega arith; state = omega arith; pose = omega arith }
+cost-at-requires c κs =
+    let w = c .before .before .before .pre .0 .table .states in
+    record { side = omega arith; start = omega arith; state = omega arith; pose = omega arith }
 
 least-lane-requires : tie.Need-least-lane-requires Inv-loop μ-loop
 least-lane-requires c κs =

@@ -1,19 +1,21 @@
 -- Each turn lowers the sum of one lane more.
 use Prim.Native.Nat.{_+_, _*_, _-_, _≤_}
 use mathlib.Core.Path.{_≡_}
-use Rattle.search_join.specs.Sums.{Sums}
-use Rattle.search_join.specs.SumLaws.{start-words, sums-lane, sums-to}
+use Rattle.search_wide_buckets.specs.Table.{LoweredAt}
+use Rattle.search_wide_buckets.specs.TableLaws.{lowered-at-none, lowered-at-more, lowered-at-low}
+use Rattle.search_join.specs.Sums.{startLanes}
+use Rattle.search_join.specs.SumLaws.{start-words}
 use native.Mathlib.Omega.{arith}
 use borrow.Author.Needs.{needs}
 use Rattle.search_join.proofs.lower_sums.Statement.{statement}
 use Rattle.search_join.proofs.lower_sums.Tie as tie
 
 abbrev Inv-loop : tie.InvT-loop
-Inv-loop sums₀ store i starts lanes s t q0 a at p0 to l₀ sums l =
-    (l ≤ lanes) × Sums starts lanes i store q0 a s (t * 64 + l) sums
+Inv-loop sums₀ store i lanes s t q0 a at p0 to l₀ sums l =
+    (l ≤ lanes) × LoweredAt (startLanes i store q0 a s t) (t * 64) l sums₀ sums
 
 abbrev μ-loop : tie.MeasureT-loop
-μ-loop sums₀ store i starts lanes s t q0 a at p0 to l₀ sums l = lanes - l
+μ-loop sums₀ store i lanes s t q0 a at p0 to l₀ sums l = lanes - l
 
 case-at-requires : tie.Need-case-at-requires Inv-loop μ-loop
 case-at-requires c κs = search needs
@@ -26,9 +28,8 @@ mul-to c = search needs
 
 loop-holds : tie.Need-loop-holds Inv-loop μ-loop
 loop-holds c =
-    let k = c .before .before .before in
-    let e : k .args .t * 64 + 0 ≡ k .args .t * 64 = omega arith in
-    (omega arith, rw e (k .pre .0 .before))
+    let a = c .before .before .before .args in
+    (omega arith, lowered-at-none (startLanes (a .i) (a .store .now) (a .q0) (a .a) (a .s) (a .t)) (a .t * 64) (a .sums .now))
 
 add-lesser : tie.Need-add-lesser Inv-loop μ-loop
 add-lesser c = search needs
@@ -62,7 +63,7 @@ add-lesser-4 c =
     let at-loop = c .before .before .before .before in
     let k = at-loop .before .before .before .before in
     let l = at-loop .loop .l in
-    let w = k .pre .0 .given .table .low .word in
+    let w = k .pre .given .table .low .word in
     omega (arith, w (at-loop .before .before .case-at .result + l), w (at-loop .before .cost-at .result + l))
 
 lesser-requires : tie.Need-lesser-requires Inv-loop μ-loop
@@ -70,8 +71,8 @@ lesser-requires c κs =
     let at-loop = c .before .before .before .before in
     let k = at-loop .before .before .before .before in
     let l = at-loop .loop in
-    let w = k .pre .0 .given .table .low .word in (
-      omega (arith, l .inv .1 .room .low .word (k .args .t * 64 + l .l)),
+    let w = k .pre .given .table .low .word in (
+      omega (arith, lowered-at-low (l .inv .1) (k .pre .room .low) .word (k .args .t * 64 + l .l)),
       omega (arith, w (at-loop .before .before .case-at .result + l .l), w (at-loop .before .cost-at .result + l .l)),
     )
 
@@ -100,18 +101,15 @@ loop-again c =
     let e =
     start-words (a .i) (a .store .now) (a .q0) (a .a) (a .s) (a .t) (l .l) _ _ (after-case-at .case-at .ensures) (mid .before .before .cost-at .ensures) in (
       omega arith,
-      sums-lane (a .starts) (a .lanes) (a .i) (a .store .now) (a .q0) (a .a) (a .s) (a .t) (l .l) (c .lesser .result) (l .inv .1)
-          (k .pre .0 .given .table .states) (k .pre .0 .given .table .few) (omega arith) (omega arith) (omega (arith, c .lesser .ensures)),
+      lowered-at-more (l .l) (c .lesser .result) (l .inv .1) (omega (arith, k .pre .room .long, k .pre .given .table .few))
+          (omega (arith, c .lesser .ensures, l .inv .1 .frame .high (a .t * 64 + l .l) (omega arith))),
     )
 
 returns : tie.Need-returns Inv-loop μ-loop
 returns c =
     let at-loop = c .before in
-    let k = at-loop .before .before .before .before in
-    let a = k .args in
-    let few = k .pre .0 .given .table .few in
-    let e : at-loop .loop .l ≡ a .lanes = omega arith in
-    sums-to (a .starts) (a .lanes) (a .i) (a .store .now) (a .q0) (a .a) _ (at-loop .loop .inv .1) (omega arith) (λ t l h g z. omega arith)
+    let e : at-loop .loop .l ≡ at-loop .before .before .before .before .args .lanes = omega arith in
+    rw e at (at-loop .loop .inv .1)
 
 pub lower-sums-spec : {M : Type 1} → statement M
 lower-sums-spec =

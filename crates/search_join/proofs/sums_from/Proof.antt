@@ -2,7 +2,7 @@
 use Prim.Native.Nat.{ℕ, _+_, _*_, _-_, _≤_}
 use mathlib.Core.Path.{_≡_, refl}
 use Rattle.search_join.specs.Sums.{Sums}
-use Rattle.search_join.specs.SumLaws.{start-none, sums-next, sums-skip}
+use Rattle.search_join.specs.SumLaws.{start-none, sums-lowered, state-sums, sums-next, sums-skip}
 use native.Mathlib.Omega.{arith}
 use borrow.Author.Needs.{needs}
 use Rattle.search_join.proofs.sums_from.Statement.{statement}
@@ -16,7 +16,9 @@ abbrev μ-loop : tie.MeasureT-loop
 μ-loop sums₀ store i starts lanes s q0 a t₀ sums t = starts - t
 
 cost-at-requires : tie.Need-cost-at-requires Inv-loop μ-loop
-cost-at-requires c κs = let w = c .before .pre .given .table .states in record { side = omega arith; start = omega arith; state = omega arith; pose = omega arith }
+cost-at-requires c κs =
+    let w = c .before .pre .given .table .states in
+    record { side = omega arith; start = omega arith; state = omega arith; pose = omega arith }
 
 common-requires : tie.Need-common-requires Inv-loop μ-loop
 common-requires c κs = let w = c .before .before .pre .given .table in omega (arith, w .long, w .states, w .few, c .cost-at .ensures)
@@ -38,7 +40,9 @@ lower-sums-requires : tie.Need-lower-sums-requires Inv-loop μ-loop
 lower-sums-requires c κs =
     let mid = c .before .before .before .before in
     let k = mid .before .before .before in
-    (record { given = k .pre .given; start = k .pre .start; before = c .before .before .loop .inv .1 }, omega arith)
+    let a = k .args in
+    state-sums (a .starts) (a .lanes) (a .i) (a .store .now) (a .q0) (a .a)
+    (record { given = k .pre .given; start = k .pre .start; before = c .before .before .loop .inv .1 }) (omega arith)
 
 add-t : tie.Need-add-t Inv-loop μ-loop
 add-t c = search needs
@@ -48,9 +52,16 @@ loop-less c = search needs
 
 loop-again : tie.Need-loop-again Inv-loop μ-loop
 loop-again c =
-    let t = c .before .before .before .loop .t in
-    let e : (t + 1) * 64 ≡ t * 64 + 64 = omega arith in
-    (omega arith, rw e (c .lower-sums .ensures))
+    let at-loop = c .before .before .before in
+    let mid = at-loop .before .before in
+    let k = mid .before .before .before in
+    let a = k .args in
+    let t = at-loop .loop .t in
+    let e : (t + 1) * 64 ≡ t * 64 + 64 = omega arith in (
+      omega arith,
+      rw e (sums-lowered (a .starts) (a .lanes) (a .i) (a .store .now) (a .q0) (a .a) (a .s) t (at-loop .loop .inv .1) (k .pre .given .table .few) (omega arith)
+          (c .lower-sums .ensures)),
+    )
 
 returns-2 : tie.Need-returns-2 Inv-loop μ-loop
 returns-2 c =
