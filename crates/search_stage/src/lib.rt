@@ -4,6 +4,7 @@ mod row;
 ghost use mathlib.Core.Path.{_≡_};
 ghost use mathlib.Core.Bool.{false};
 ghost use Prim.Native.Nat.{_≤_, _<_};
+ghost use Rattle.search_store.specs.Map.{CaseRow};
 ghost use Rattle.search_wide_buckets.specs.Table.{Lent};
 ghost use Rattle.search_join.specs.Tables.{Table};
 ghost use Rattle.search_stage.specs.Stage.{wide, widthOf, fromAt, Dead};
@@ -44,7 +45,7 @@ fn lanes_of(talls: usize, i: usize, poses: usize) -> usize
 
 // Where the cases begin in which start state s of a row goes with state t of the other.
 fn case_from(side: usize, i: usize, s: usize, t: usize) -> usize
-    requires { ⌜ (i ≤ 25) × (s ≤ 12) × (t ≤ 12) ⌝ }
+    requires { ⌜ CaseRow i s t ⌝ }
     ensures { λ r. ⌜ r ≡ fromAt side i s t ⌝ }
 {
     if side == 0 {

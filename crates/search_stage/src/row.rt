@@ -1,10 +1,9 @@
 // The costs of a stage in one row, from one start state.
-ghost use mathlib.Core.Path.{_≡_};
-ghost use Prim.Native.Nat.{suc, _≤_, _<_};
-ghost use lib.ListN.{length};
-ghost use Rattle.search_lanes.specs.Store.{Low, Written};
-ghost use Rattle.search_row.specs.Words.{backIn, deckIn, posIn, RowWords, RowGiven};
+ghost use Prim.Native.Nat.{suc};
+ghost use Rattle.search_lanes.specs.Store.{Written};
+ghost use Rattle.search_row.specs.Words.{backIn, deckIn, posIn, RowGiven};
 ghost use Rattle.search_wide_buckets.specs.Table.{Lent};
+ghost use Rattle.search_dense_first.specs.Begun.{PosesGiven};
 ghost use Rattle.search_dense_segment.specs.Opened.{OpenRoom};
 ghost use Rattle.search_stage.specs.Stage.{statesAt, posesAt, costIn, endFrom, EndGiven, CostGiven};
 ghost use Rattle.search_stage.specs.Stage.{RowCosted, RowCost};
@@ -13,7 +12,7 @@ use search_row::Sizes;
 
 // What the cell at position p pays as the row's last, in each pose.
 fn backs(starts: &mut [u32; 64], row: &[u32], p: usize, poses: usize)
-    requires { ⌜ RowWords (now row) × Low (now starts) × (length (now starts) ≡ 64) × (p < 64) × (poses ≤ 60) ⌝ }
+    requires { ⌜ PosesGiven (now row) (now starts) 0 p poses ⌝ }
     ensures { λ _. ⌜ Written (backIn (now (row .entry)) p) 0 poses (now (starts .entry)) (now (starts .exit)) ⌝ }
 {
     let mut l: usize = 0;

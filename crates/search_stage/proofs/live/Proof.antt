@@ -24,7 +24,7 @@ loop-holds c = (omega arith, λ u h. absurd (omega arith))
 case-from-requires : tie.Need-case-from-requires Inv-loop μ-loop
 case-from-requires c κs =
     let w = c .before .before .before .pre .0 in
-    (omega (arith, w .stage), omega (arith, w .states), omega (arith, w .states))
+    record { table = omega (arith, w .stage); state₀ = omega (arith, w .states); state₁ = omega (arith, w .states) }
 
 common-requires : tie.Need-common-requires Inv-loop μ-loop
 common-requires c κs =

@@ -20,7 +20,7 @@ abbrev μ-loop : tie.MeasureT-loop
 μ-loop store₀ row0 row1 sizes cells1 table₀ talls i₀ store table i = suc (sizes .talls) - i
 
 case-at-requires : tie.Need-case-at-requires Inv-loop μ-loop
-case-at-requires c κs = (omega arith, omega arith, omega arith)
+case-at-requires c κs = record { table = omega arith; state₀ = omega arith; state₁ = omega arith }
 
 mul-store : tie.Need-mul-store Inv-loop μ-loop
 mul-store c = omega (arith, c .case-at .ensures)

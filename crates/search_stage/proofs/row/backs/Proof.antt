@@ -17,7 +17,7 @@ abbrev μ-loop : tie.MeasureT-loop
 μ-loop starts₀ row p poses l₀ starts l = poses - l
 
 loop-holds : tie.Need-loop-holds Inv-loop μ-loop
-loop-holds c = (omega arith, written-none _ _ (c .before .pre .1))
+loop-holds c = (omega arith, written-none _ _ (c .before .pre .low))
 
 back-requires : tie.Need-back-requires Inv-loop μ-loop
 back-requires c κs = search needs
@@ -26,7 +26,7 @@ mul-starts : tie.Need-mul-starts Inv-loop μ-loop
 mul-starts c = search needs
 
 element-write-starts : tie.Need-element-write-starts Inv-loop μ-loop
-element-write-starts c = omega (arith, c .before .before .loop .inv .1 .frame .long, c .before .before .before .before .pre .2)
+element-write-starts c = omega (arith, c .before .before .loop .inv .1 .frame .long, c .before .before .before .before .pre .room)
 
 add-l : tie.Need-add-l Inv-loop μ-loop
 add-l c = search needs
@@ -41,7 +41,7 @@ loop-again c =
     let r = c .back in
     let z : 0 + l .l ≡ l .l = omega arith in (
       omega arith,
-      rw z at (written-more (l .l) (r .result) (l .inv .1) (omega (arith, k .pre .2)) (r .ensures)
+      rw z at (written-more (l .l) (r .result) (l .inv .1) (omega (arith, k .pre .room)) (r .ensures)
           (omega (arith, r .ensures, back-low (k .args .row .now) (k .args .p) (l .l)))),
     )
 

@@ -1,6 +1,6 @@
 -- The costs of stage 0; else the first layer, then the segment on from it.
 use Prim.Native.Nat.{_+_, _-_}
-use mathlib.Core.Path.{_≡_, refl}
+use mathlib.Core.Path.{_≡_}
 use Rattle.search_lanes.specs.Laws.{zeros-low}
 use Rattle.search_row.specs.Words.{deckIn, posIn}
 use Rattle.search_stage.specs.Laws.{width-room}
@@ -81,14 +81,15 @@ backs-requires c κs =
     let mid = c .before .before .before .before in
     let after-tall-at = mid .before .before .before .before in
     let k = after-tall-at .before .before .before .before in
-    let g = k .pre .given .ground in (
-      g .words,
-      zeros-low 64,
-      refl,
-      start-place (k .args .i) (after-tall-at .tall-at .result) (k .pre .given) (after-tall-at .before .if1 .left) (k .pre .stage)
-          (after-tall-at .tall-at .ensures),
-      g .few,
-    )
+    let g = k .pre .given .ground in
+    record {
+      words = g .words;
+      low = zeros-low 64;
+      room = omega (arith, g .few);
+      cell = start-place (k .args .i) (after-tall-at .tall-at .result) (k .pre .given) (after-tall-at .before .if1 .left) (k .pre .stage)
+          (after-tall-at .tall-at .ensures);
+      few = g .few;
+    }
 
 add-stage-end : tie.Need-add-stage-end
 add-stage-end c =
