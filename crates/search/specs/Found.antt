@@ -5,7 +5,7 @@ use mathlib.Core.Path.{_≡_, ap, _∙_}
 use mathlib.Core.Bool.{Bool, true, false, true≢false, false≢true}
 use mathlib.Core.List.{List}
 use native.Mathlib.Omega.{arith}
-use lib.ListN.{getD}
+use lib.ListN.{length, getD}
 use Rattle.search_store.specs.Map.{caseAt}
 use Rattle.theory_tables.specs.Steps.{B, Deck, stateCount}
 use Rattle.theory_tables.specs.Stages.{leastCost}
@@ -17,7 +17,7 @@ use Rattle.search_join.specs.Tables.{casesIn}
 use Rattle.search_stage.specs.Stage.{wide, StagesGiven, RowsStages}
 use Rattle.search_stage.specs.Laws.{wide-last}
 use Rattle.search_back.specs.Trace.{Ways, stages-ways}
-use Rattle.search.specs.Rows.{numberAt}
+use Rattle.search.specs.Rows.{numberAt, RowsAsked}
 
 module _ (row₀ row₁ : List ℕ) (z : Sizes) (n₁ : ℕ) where
   abbrev pub deck₀ : Deck
@@ -91,6 +91,13 @@ module _ (row₀ row₁ : List ℕ) (z : Sizes) (n₁ : ℕ) where
     ways = stages-ways (c .done);
     some = omega (arith, c .cost);
   }
+
+  -- such tables of the rows, and room for a pose number of each cell
+  pub record Answering (st poses : List ℕ) : Type 0 where
+    pub rows : RowsAsked row₀ row₁ z n₁
+    pub tables : Tables st
+    pub room : 64 ≤ length poses
+    pub numbers : (k : ℕ) → getD poses k 0 < 64
 
   -- ---- what is answered
 

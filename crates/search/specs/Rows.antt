@@ -31,6 +31,7 @@ pub record RowsAsked (row₀ row₁ : List ℕ) (z : Sizes) (n₁ : ℕ) : Type 
   pub shared : (k m : ℕ) → k < z .cells → m < n₁ → numberAt row₀ k ≡ numberAt row₁ m
       → (I : ℕ) × (I < z .talls) × (k ≡ posIn row₀ I) × (m ≡ posIn row₁ I)
 
+-- the same, and the words of the store that they need
 pub record Asked (row₀ row₁ : List ℕ) (z : Sizes) (n₁ : ℕ) (store : List ℕ) : Type 0 where
   pub rows : RowsAsked row₀ row₁ z n₁
   pub long : wordsFor (z .talls) (z .states) ≤ length store
@@ -45,6 +46,11 @@ standing {row} r = record {
   back = back-either row;
 }
 
-pub stages-given : {row₀ row₁ st : List ℕ} {z : Sizes} {n₁ : ℕ} → RowsAsked row₀ row₁ z n₁
-    → wordsFor (z .talls) (z .states) ≤ length st → Low st → StagesGiven row₀ row₁ st z n₁
-stages-given r h l = record { given₀ = r .first .given; given₁ = r .second .given; long = h; low = l }
+pub stages-given : {row₀ row₁ st : List ℕ} {z : Sizes} {n₁ : ℕ} → Asked row₀ row₁ z n₁ st → Low st
+    → StagesGiven row₀ row₁ st z n₁
+stages-given w l = record {
+  given₀ = w .rows .first .given;
+  given₁ = w .rows .second .given;
+  long = w .long;
+  low = l;
+}

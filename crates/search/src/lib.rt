@@ -1,12 +1,11 @@
 // The search of two rows of words: the stages, and the cheapest way through them traced back.
 ghost use mathlib.Core.Path.{_≡_};
-ghost use Prim.Native.Nat.{ℕ, _≤_, _<_};
-ghost use lib.ListN.{length, getD};
+ghost use Prim.Native.Nat.{_≤_};
 ghost use Rattle.search_lanes.specs.Store.{Low};
 ghost use Rattle.search_stage.specs.Stage.{wide, StagesGiven};
 ghost use Rattle.search.specs.Words.{wordsFor};
-ghost use Rattle.search.specs.Rows.{RowsAsked, Asked};
-ghost use Rattle.search.specs.Found.{RowsFound, Costed, Tables, Answered};
+ghost use Rattle.search.specs.Rows.{Asked};
+ghost use Rattle.search.specs.Found.{RowsFound, Costed, Answering, Answered};
 use search_row::Sizes;
 
 // Whether there is a way of a cost below NONE; if so, the least cost and the pose number of each cell.
@@ -28,9 +27,7 @@ fn least_cost(store: &mut [u32], row0: &[u32], row1: &[u32], sizes: Sizes, cells
 
 // The pose number of each cell, by cell number: both rows traced, then noted one after the other.
 fn note(out: &mut [u32], store: &mut [u32], row0: &[u32], row1: &[u32], sizes: Sizes, cells1: usize)
-    requires { ⌜ RowsAsked (now row0) (now row1) sizes cells1
-        × Tables (now row0) (now row1) sizes cells1 (now store)
-        × (64 ≤ length (now out)) × ((k : ℕ) → getD (now out) k 0 < 64) ⌝ }
+    requires { ⌜ Answering (now row0) (now row1) sizes cells1 (now store) (now out) ⌝ }
     ensures { λ _. ⌜ Answered (now (row0 .entry)) (now (row1 .entry)) sizes cells1 (now (out .exit)) ⌝ }
 {
     let mut path0 = [0u32; 128];
@@ -42,8 +39,7 @@ fn note(out: &mut [u32], store: &mut [u32], row0: &[u32], row1: &[u32], sizes: S
 
 // What the tables of both rows come to.
 fn find(store: &mut [u32], row0: &[u32], row1: &[u32], sizes: Sizes, cells1: usize) -> Found
-    requires { ⌜ RowsAsked (now row0) (now row1) sizes cells1
-        × (wordsFor (sizes .talls) (sizes .states) ≤ length (now store)) × Low (now store) ⌝ }
+    requires { ⌜ Asked (now row0) (now row1) sizes cells1 (now store) × Low (now store) ⌝ }
     ensures { λ r. ⌜ RowsFound (now (row0 .entry)) (now (row1 .entry)) sizes cells1 (r .some) (r .cost) (r .poses) ⌝ }
 {
     let mut poses = [0u32; 64];

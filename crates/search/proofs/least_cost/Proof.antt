@@ -19,7 +19,7 @@ add-case-at c =
 case-at-requires : tie.Need-case-at-requires
 case-at-requires c κs =
     let mid = c .before .before .before .before in
-    (omega (arith, mid .before .before .before .before .pre .given₀ .few), omega arith, omega arith)
+    record { table = omega (arith, mid .before .before .before .before .pre .given₀ .few); state₀ = omega arith; state₁ = omega arith }
 
 mul-result : tie.Need-mul-result
 mul-result c =

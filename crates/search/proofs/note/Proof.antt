@@ -16,7 +16,7 @@ trace-requires : tie.Need-trace-requires
 trace-requires c κs =
     let mid = c .before .before .before .before in
     let k = mid .before .before .before in
-    trace-given (k .pre .1 .given) (omega arith) (omega arith)
+    trace-given (k .pre .tables .given) (omega arith) (omega arith)
 
 slice-aggregate-scatter : tie.Need-slice-aggregate-scatter
 slice-aggregate-scatter c = search needs
@@ -28,8 +28,8 @@ scatter-requires c κs =
     let mid₂ = after-trace .before .before .before .before in
     let k = mid₂ .before .before .before .before in
     let w = after-trace .trace in
-    let t = was-traced (k .pre .0) (k .pre .1) (w .ensures) in
-    first-given (k .pre .0) (w .last .1 .0) (w .last .1 .1 .0) t (omega (arith, w .ensures .long₀)) (k .pre .2)
+    let t = was-traced (k .pre .rows) (k .pre .tables) (w .ensures) in
+    first-given (k .pre .rows) (w .last .1 .0) (w .last .1 .1 .0) t (omega (arith, w .ensures .long₀)) (k .pre .room)
 
 slice-aggregate-scatter-2 : tie.Need-slice-aggregate-scatter-2
 slice-aggregate-scatter-2 c = search needs
@@ -42,9 +42,9 @@ scatter-requires-2 c κs =
     let mid₂ = after-trace .before .before .before .before in
     let k = mid₂ .before .before .before .before in
     let w = after-trace .trace in
-    let t = was-traced (k .pre .0) (k .pre .1) (w .ensures) in
-    second-given (k .pre .0) (w .last .1 .0) (w .last .1 .1 .0) t (omega (arith, w .ensures .long₁))
-    (omega (arith, k .pre .2, after-scatter .scatter .ensures .long))
+    let t = was-traced (k .pre .rows) (k .pre .tables) (w .ensures) in
+    second-given (k .pre .rows) (w .last .1 .0) (w .last .1 .1 .0) t (omega (arith, w .ensures .long₁))
+    (omega (arith, k .pre .room, after-scatter .scatter .ensures .long))
 
 same-length : tie.Need-same-length
 same-length c = search needs
@@ -61,8 +61,8 @@ returns c =
     let mid₃ = after-trace .before .before .before .before in
     let k = mid₃ .before .before .before .before in
     let w = after-trace .trace in
-    let t = was-traced (k .pre .0) (k .pre .1) (w .ensures) in
-    answered (k .pre .0) (w .last .1 .0) (w .last .1 .1 .0) t (k .pre .3) (after-scatter .scatter .ensures)
+    let t = was-traced (k .pre .rows) (k .pre .tables) (w .ensures) in
+    answered (k .pre .rows) (w .last .1 .0) (w .last .1 .1 .0) t (k .pre .numbers) (after-scatter .scatter .ensures)
     (c .before .before .scatter2 .ensures)
 
 pub note-spec : {M : Type 1} → statement M

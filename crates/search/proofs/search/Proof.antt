@@ -46,8 +46,10 @@ find-requires c κs =
     let after-clear = c .before .before .before in
     let w = after-clear .before .before in
     let e = after-clear .clear .ensures in (
-      w .before .before .before .before .pre .rows,
-      omega (arith, w .store-words .ensures, again-long (words w) (lent w) (has-words w) e),
+      record {
+        rows = w .before .before .before .before .pre .rows;
+        long = omega (arith, w .store-words .ensures, again-long (words w) (lent w) (has-words w) e);
+      },
       again-low (words w) (lent w) (has-words w) e,
     )
 
