@@ -1,6 +1,6 @@
 -- Costs of a stage in one row, from the first layer and the segment on from it.
 use Prim.Native.Nat.{ℕ, suc, _+_, _-_, _≤_, _<_}
-use mathlib.Core.Path.{_≡_, sym, ap, _∙_}
+use mathlib.Core.Path.{_≡_, sym, ap, _∙_, subst}
 use mathlib.Core.Logic.{⊎-elim}
 use mathlib.Core.List.{List}
 use native.Mathlib.Omega.{arith}
@@ -13,12 +13,24 @@ use Rattle.theory_tables.specs.Steps.{Deck, Layer, stateCount, marks, firstAfte
 use Rattle.theory_tables.specs.Stages.{placedWith, stageEnd, openCost, stageCost}
 use Rattle.search_lanes.specs.Store.{Frame, layerIn, Filled}
 use Rattle.search_wide_first.specs.Firsts.{afterFrom}
-use Rattle.search_wide_segment.specs.Runs.{SegmentCosted}
+use Rattle.search_wide_layer.specs.Loops.{Given}
+use Rattle.search_wide_segment.specs.Runs.{SegmentGiven, SegmentCosted}
 use Rattle.search_wide_end.specs.Ends.{Ended}
 use Rattle.search_dense_segment.specs.Opened.{tallCost, endCost, Opened}
-use Rattle.search_stage.specs.Stage.{wide, costOf, endFrom, RowCosted}
+use Rattle.search_stage.specs.Stage.{wide, widthOf, costOf, endFrom, RowCosted, EndGiven}
 use Rattle.search_stage.specs.Laws.{wide-all, wide-last, wide-tall}
 use Rattle.search_stage.specs.Same.{stage-ext, stage-tall, stage-last}
+
+-- the segment on from the first layer, in as many lanes as the poses need
+pub segment-given : {table row st starts : List ℕ} {z : Sizes} {cells costs lanes : ℕ}
+    → EndGiven table row st starts z cells costs → lanes ≡ widthOf (z .poses)
+    → SegmentGiven table row st z lanes cells costs
+segment-given {row = row} {st = st} {z = z} {cells = cells} w e =
+    record {
+      lent = w .lent;
+      given = subst (λ (lanes : ℕ). Given row st z lanes cells 0) (sym e) (w .layer);
+      room = w .room;
+    }
 
 module _ (D : Deck) (R talls : ℕ) (pos : ℕ → ℕ) where
   -- to a tall cell

@@ -193,10 +193,10 @@ pub record CostGiven (table row st : List ℕ) (z : Sizes) (I s costs : ℕ) : T
   pub state : s < statesAt z I
 
 -- the stage's first layer in block 0, and what the start of each lane pays as the row's last
-pub record EndGiven (table row st starts : List ℕ) (z : Sizes) (lanes cells costs : ℕ) : Type 0 where
+pub record EndGiven (table row st starts : List ℕ) (z : Sizes) (cells costs : ℕ) : Type 0 where
   pub lent : Lent table
   pub given : RowGiven row z
-  pub layer : Given row st z lanes cells 0
+  pub layer : Given row st z (widthOf (z .poses)) cells 0
   pub room : CostRoom st costs
   pub low : Low starts
   pub long : length starts ≡ 64

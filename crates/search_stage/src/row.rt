@@ -5,7 +5,7 @@ ghost use Rattle.search_row.specs.Words.{backIn, deckIn, posIn, RowGiven};
 ghost use Rattle.search_wide_buckets.specs.Table.{Lent};
 ghost use Rattle.search_dense_first.specs.Begun.{PosesGiven};
 ghost use Rattle.search_dense_segment.specs.Opened.{OpenRoom};
-ghost use Rattle.search_stage.specs.Stage.{statesAt, posesAt, costIn, endFrom, EndGiven, CostGiven};
+ghost use Rattle.search_stage.specs.Stage.{widthOf, statesAt, posesAt, costIn, endFrom, EndGiven, CostGiven};
 ghost use Rattle.search_stage.specs.Stage.{RowCosted, RowCost};
 use crate::width_of;
 use search_row::Sizes;
@@ -31,15 +31,16 @@ fn stage_end(
     sizes: Sizes,
     starts: &[u32; 64],
     i: usize,
-    lanes: usize,
     cells: usize,
     costs: usize,
 )
-    requires { ⌜ EndGiven (now table) (now row) (now store) (now starts) sizes lanes cells costs ⌝ }
+    requires { ⌜ EndGiven (now table) (now row) (now store) (now starts) sizes cells costs ⌝ }
     ensures { λ _. ⌜ RowCosted (endFrom (deckIn (now (row .entry)) sizes) (sizes .reordering) (sizes .talls)
-        (posIn (now (row .entry))) i (now (store .entry)) cells (now (starts .entry))) lanes (statesAt sizes (suc i))
-        (posesAt sizes (suc i)) costs (now (store .entry)) (now (store .exit)) × Lent (now (table .exit)) ⌝ }
+        (posIn (now (row .entry))) i (now (store .entry)) cells (now (starts .entry))) (widthOf (sizes .poses))
+        (statesAt sizes (suc i)) (posesAt sizes (suc i)) costs (now (store .entry)) (now (store .exit))
+        × Lent (now (table .exit)) ⌝ }
 {
+    let lanes = width_of(sizes.poses);
     if i < sizes.talls {
         let p = search_row::tall_at(row, i);
         search_wide_segment::segment_to(table, store, row, sizes, lanes, cells, p, costs);
@@ -88,15 +89,5 @@ pub fn row_cost(
     search_wide_first::first_layer(table, store, row, sizes, width, placed, s, p);
     let mut starts = [0u32; 64];
     backs(&mut starts, row, p, sizes.poses);
-    stage_end(
-        table,
-        store,
-        row,
-        sizes,
-        &starts,
-        i,
-        width,
-        placed + 1,
-        costs,
-    );
+    stage_end(table, store, row, sizes, &starts, i, placed + 1, costs);
 }

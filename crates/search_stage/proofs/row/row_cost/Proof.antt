@@ -121,7 +121,7 @@ stage-end-requires c κs =
       layer = record {
         ground = g;
         low = f .low;
-        narrow = omega (arith, after-first-layer .before .before .before .width-of .ensures, width-room (k .args .sizes .poses) (g .few) .1);
+        narrow = width-room (k .args .sizes .poses) (g .few) .1;
         early = omega (arith, after-placed-with .placed-with .ensures, g .coded .reorder);
         room = omega (arith, r .over, r .room, f .frame .long);
       };
@@ -146,11 +146,12 @@ returns-2 c =
       row-after (deckIn (a .row .now) (a .sizes)) (a .sizes .reordering) (a .sizes .talls) (posIn (a .row .now)) (a .i) (a .i - 1) (a .sizes .states) (a .s)
           (after-placed-with .before .tall-at .result) (after-placed-with .placed-with .result) (after-backs .backs .last .0)
           (omega (arith, after-if1 .if1 .left)) (k .pre .stage)
-          (omega (arith, after-first-layer .before .before .before .width-of .ensures, width-room (a .sizes .poses) (k .pre .given .ground .few) .0))
+          (width-room (a .sizes .poses) (k .pre .given .ground .few) .0)
           (k .pre .given .ground .all)
           (after-placed-with .before .tall-at .ensures) (after-placed-with .placed-with .ensures)
           (λ l h. let z : 0 + l ≡ l = omega arith in rw z at (after-backs .backs .ensures .words l h))
-          (after-first-layer .first-layer .ensures .0) (after-stage-end .stage-end .ensures .0),
+          (rw (after-first-layer .before .before .before .width-of .ensures) at (after-first-layer .first-layer .ensures .0))
+          (after-stage-end .stage-end .ensures .0),
       after-stage-end .stage-end .ensures .1,
     )
 
