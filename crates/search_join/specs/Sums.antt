@@ -65,13 +65,13 @@ pub record SumsFrom (starts lanes I : ℕ) (st : List ℕ) (q₀ a s k : ℕ) (s
   pub start : s < starts
   pub before : Sums starts lanes I st q₀ a s k sums
 
--- the same of start state s as the last of the table, with room for the sums of state t of row 1
+-- the same of the start states up to s, with room for the sums of state t of row 1
 pub record StateSums (lanes I : ℕ) (st : List ℕ) (q₀ a s t : ℕ) (sums : List ℕ) : Type 0 where
   pub given : Summing (s + 1) lanes I st q₀ a
   pub other : t < 12
   pub room : Room sums
 
--- the same, with state t of row 1 in one of all lanes
+-- the same in all lanes, of which one is wanted, with state t of row 1
 pub record StartSums (starts I : ℕ) (st : List ℕ) (q₀ a t lane : ℕ) : Type 0 where
   pub given : Summing starts 64 I st q₀ a
   pub other : t < starts

@@ -92,7 +92,7 @@ pub record StatesRoom (R : ℕ) (row : List ℕ) : Type 0 where
   pub long : rowLength ≤ length row
   pub low : Low row
 
--- the same as `Upto`, where the states to come begin with those of the marks m, or with some of them
+-- while m is looked at as marks: `count` states are written, and `l` is still to come
 pub record Coming (R : ℕ) (row : List ℕ) (count m : ℕ) (l : List (ℕ × ℕ)) : Type 0 where
   pub reorder : R ≤ 2
   pub window : m < 2 ^ suc (2 * R)
