@@ -13,8 +13,7 @@ use Rattle.theory_tables.specs.Steps.{B}
 use Rattle.theory_tables.specs.Lowest.{loop-member}
 use Rattle.search_lanes.specs.Lanes.{always}
 use Rattle.search_lanes.specs.Store.{Written}
-use Rattle.search_wide_buckets.specs.Table.{LoweredAt}
-use Rattle.search_wide_buckets.specs.TableLaws.{lowered-at-low}
+use Rattle.search_lanes.specs.Lowered.{LoweredAt, lowered-at-low}
 use Rattle.search_store.specs.Map.{pointerRow₀, pointerRow₁}
 use Rattle.search_join.specs.Tables.{caseState₀, caseState₁, casePose}
 use Rattle.search_join.specs.Tables.{casesIn, costsIn, Table, Least, MetAt, SumAt, WayIn, nextIn}

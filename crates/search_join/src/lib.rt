@@ -6,7 +6,7 @@ ghost use Rattle.search_store.specs.Map.{Pages};
 ghost use Rattle.lists.specs.Numbers.{from};
 ghost use Rattle.theory_pair.specs.Coded.{lowest};
 ghost use Rattle.theory_tables.specs.Steps.{B};
-ghost use Rattle.search_wide_buckets.specs.Table.{LoweredAt};
+ghost use Rattle.search_lanes.specs.Lowered.{LoweredAt};
 ghost use Rattle.search_join.specs.Tables.{Better, Least, MetAt, SumAt, WayIn, nextIn, OneCase, pointerEnd};
 ghost use Rattle.search_join.specs.Tables.{PoseCases, BlockCases, Part, Joined, JoinGiven};
 ghost use Rattle.search_join.specs.Tables.{StateWith, AllStates, Closing, Closed};

@@ -1,3 +1,4 @@
 pub mod Lanes
 pub mod Store
 pub mod Laws
+pub mod Lowered

@@ -8,7 +8,7 @@ use Rattle.search_store.specs.Map.{stateBlock, tableWords}
 use Rattle.lists.specs.Numbers.{from}
 use Rattle.theory_pair.specs.Coded.{lowest}
 use Rattle.theory_tables.specs.Steps.{B, Deck}
-use Rattle.search_lanes.specs.Store.{Frame, Low, layerIn}
+use Rattle.search_lanes.specs.Store.{Low, layerIn}
 use Rattle.search_row.specs.Words.{wordOf, RowWords}
 use Rattle.search_buckets.specs.Gaps.{paying}
 use Rattle.search_buckets.specs.declared.Source.{Source}
@@ -17,11 +17,6 @@ use Rattle.search_buckets.specs.Rows.{inRow, bucketIn, onePose, byPoses, oneSta
 -- the buckets of lane l
 abbrev pub wordAt : List ℕ → ℕ → ℕ → ℕ → ℕ
 wordAt table l v t = getD table (v * 1216 + t * 64 + l) 0
-
--- the words from `to` on, so many of them, are lowered to f's; nothing else changed
-pub record LoweredAt (f : ℕ → ℕ) (to lanes : ℕ) (old new : List ℕ) : Type 0 where
-  pub frame : Frame to (to + lanes) old new
-  pub done : (l : ℕ) → l < lanes → getD new (to + l) 0 ≡ min (getD old (to + l) 0) (f l)
 
 -- a table lent to gather sources in: any words, none over B
 pub record Lent (table : List ℕ) : Type 0 where

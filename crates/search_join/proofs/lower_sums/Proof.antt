@@ -1,8 +1,7 @@
 -- Each turn lowers the sum of one lane more.
 use Prim.Native.Nat.{_+_, _*_, _-_, _≤_}
 use mathlib.Core.Path.{_≡_}
-use Rattle.search_wide_buckets.specs.Table.{LoweredAt}
-use Rattle.search_wide_buckets.specs.TableLaws.{lowered-at-none, lowered-at-more, lowered-at-low}
+use Rattle.search_lanes.specs.Lowered.{LoweredAt, lowered-at-none, lowered-at-more, lowered-at-low}
 use Rattle.search_join.specs.Sums.{startLanes}
 use Rattle.search_join.specs.SumLaws.{start-words}
 use native.Mathlib.Omega.{arith}

@@ -4,8 +4,7 @@ use mathlib.Core.Path.{_≡_}
 use native.Mathlib.Omega.{arith}
 use borrow.Author.Needs.{needs}
 use Rattle.search_lanes.specs.Lanes.{wordsFrom}
-use Rattle.search_wide_buckets.specs.Table.{LoweredAt}
-use Rattle.search_wide_buckets.specs.TableLaws.{lowered-at-none, lowered-at-more}
+use Rattle.search_lanes.specs.Lowered.{LoweredAt, lowered-at-none, lowered-at-more}
 use Rattle.search_wide_buckets.proofs.lower_by.Statement.{statement}
 use Rattle.search_wide_buckets.proofs.lower_by.Tie as tie
 

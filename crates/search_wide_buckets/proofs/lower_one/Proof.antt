@@ -1,7 +1,7 @@
 -- The word is the lesser of itself and x.
 use native.Mathlib.Omega.{arith}
 use Rattle.search_lanes.specs.Lanes.{always}
-use Rattle.search_wide_buckets.specs.TableLaws.{lowered-at-one}
+use Rattle.search_lanes.specs.Lowered.{lowered-at-one}
 use borrow.Author.Needs.{needs}
 use Rattle.search_wide_buckets.proofs.lower_one.Statement.{statement}
 use Rattle.search_wide_buckets.proofs.lower_one.Tie as tie

@@ -3,8 +3,9 @@ use Prim.Native.Nat.{ℕ, _+_, _*_}
 use mathlib.Core.Path.{_≡_, ap, _∙_}
 use native.Mathlib.Omega.{arith}
 use lib.ListN.{getD}
+use Rattle.search_lanes.specs.Lowered.{lowered-at-ext}
 use Rattle.search_wide_buckets.specs.Table.{chargedOne, Spread}
-use Rattle.search_wide_buckets.specs.TableLaws.{lowered-at-ext, spread-none, spread-more}
+use Rattle.search_wide_buckets.specs.TableLaws.{spread-none, spread-more}
 use Rattle.search_wide_buckets.specs.SpreadLaws.{spread-join}
 use borrow.Author.Needs.{needs}
 use Rattle.search_wide_buckets.proofs.spread_one.Statement.{statement}
