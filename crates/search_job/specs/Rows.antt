@@ -4,7 +4,8 @@ use mathlib.Core.Path.{_≡_, sym, ap, subst}
 use mathlib.Core.Bool.{Bool}
 use mathlib.Core.List.{List}
 use native.Mathlib.Omega.{arith}
-use Rattle.definition.specs.Job.{Job}
+use Rattle.definition.specs.Job.{Job, maxReordering}
+use Rattle.definition.specs.Outcome.{storeNeeded}
 use Rattle.definition_laws.specs.Sound.{Sound}
 use Rattle.theory_pair.specs.Cells.{Side, row₀, row₁, cell, line}
 use Rattle.theory_tables.specs.Steps.{stateCount}
@@ -27,15 +28,20 @@ use Rattle.search_job.specs.Solved.{numbersIn, Solved}
 -- ---- the store
 
 -- at most three states
-few-states : (R : ℕ) → R ≤ 1 → stateCount R ≤ 3
+few-states : (R : ℕ) → R ≤ maxReordering → stateCount R ≤ 3
 few-states zero h = omega (arith, count-0)
 few-states (suc zero) h = omega (arith, count-1)
 few-states (suc (suc R)) h = absurd (omega arith)
 
--- a store of 1,048,576 words has those of the search
-pub words-lent : (talls R count : ℕ) → R ≤ 1 → count ≡ stateCount R → wordsFor talls count ≤ 1048576
-words-lent talls R count h e =
-    omega (arith, wide-low talls talls count 3 (omega arith) (omega (arith, few-states R h, e)))
+-- a store that Place takes has the words of the search
+pub words-lent : {j : Job} → Sound j → (talls count : ℕ) → count ≡ stateCount (j .header .reordering)
+    → wordsFor talls count ≤ storeNeeded j
+words-lent {j} sound talls count e =
+    omega (
+      arith,
+      wide-low talls talls count 3 (omega arith)
+          (omega (arith, few-states (j .header .reordering) (sound .header .reordering), e)),
+    )
 
 -- ---- the rows
 

@@ -46,7 +46,7 @@ search-requires c κs =
     let f = first .fill-row in
     record {
       rows = asked (k .accepted .sound) (f .ensures) (second .fill-row2 .ensures);
-      long = omega (arith, words-lent (f .result .talls) _ (f .result .states) (k .accepted .sound .header .reordering) (f .ensures .all), k .long);
+      long = omega (arith, words-lent (k .accepted .sound) (f .result .talls) (f .result .states) (f .ensures .all), k .long);
     }
 
 same-length : tie.Need-same-length
