@@ -1,6 +1,6 @@
 //! A placement beside the cheapest one.
 
-use super::{steps, Pose, Step};
+use super::{steps, RawPose, Step};
 use crate::explain::{read_job, read_placement};
 use crate::{Numbers, Refined, Verdict};
 
@@ -10,9 +10,9 @@ pub struct Change {
     /// Counted from 1.
     pub cell: u32,
     /// How it stands in the placement.
-    pub theirs: Pose,
+    pub theirs: RawPose,
     /// How it stands in the cheapest.
-    pub cheapest: Pose,
+    pub cheapest: RawPose,
 }
 
 /// What becomes of the steps of a legal placement.

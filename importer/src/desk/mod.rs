@@ -11,7 +11,7 @@ mod steps;
 mod table;
 mod whatif;
 
-pub use crate::explain::Pose;
+pub use crate::explain::RawPose;
 pub use compare::{Change, Comparison, StepChanges};
 pub use fillers::Fillers;
 pub use gaps::{gaps, Gap, RowGaps, Tally, Untold, WIDTHS};

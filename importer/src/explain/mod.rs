@@ -22,7 +22,7 @@ pub use reason::Reason;
 pub(crate) use job::{read as read_job, TALL};
 pub(crate) use job::{MOST_DISPLACEMENT, MOST_REORDERING, MOST_SITES};
 pub(crate) use placement::read as read_placement;
-pub use placement::Pose;
+pub use placement::RawPose;
 pub(crate) use rules::stand::{Board, Stand};
 
 use crate::{Broken, Refused};

@@ -16,9 +16,10 @@ fn any_number(name: &'static str) -> Field {
     Field::new(name, 0, 9999)
 }
 
-/// How one cell stands.
+/// How a text says that one cell stands, in any numbers of its form. A [`Pose`](crate::Pose) is
+/// mirrored or not; a text may say a mark over 1, and Score then names the rule that it breaks.
 #[derive(Clone, Copy, Debug, PartialEq, Eq)]
-pub struct Pose {
+pub struct RawPose {
     /// Its leftmost site.
     pub site: u32,
     /// The number of its layout.
@@ -29,7 +30,7 @@ pub struct Pose {
 
 /// The poses of so many cells, or what is wrong with the earliest line that is bad, missing or
 /// surplus.
-pub fn read(text: &[u8], cells: usize) -> Result<Vec<Pose>, Reason<Refused>> {
+pub fn read(text: &[u8], cells: usize) -> Result<Vec<RawPose>, Reason<Refused>> {
     let mut poses = Vec::new();
     for line in lines(text) {
         let pose = if poses.len() < cells {
@@ -45,10 +46,10 @@ pub fn read(text: &[u8], cells: usize) -> Result<Vec<Pose>, Reason<Refused>> {
     Ok(poses)
 }
 
-fn read_pose(line: &Line) -> Result<Pose, String> {
+fn read_pose(line: &Line) -> Result<RawPose, String> {
     let numbers = POSE.numbers(line)?;
     match numbers.values[..] {
-        [site, layout, mark] => Ok(Pose { site, layout, mark }),
+        [site, layout, mark] => Ok(RawPose { site, layout, mark }),
         _ => {
             let found = count(numbers.fields, "field");
             Err(format!(

@@ -7,7 +7,7 @@ mod pairs;
 pub mod stand;
 
 use super::job::Job;
-use super::placement::Pose;
+use super::placement::RawPose;
 use super::reason::Reason;
 use crate::Broken;
 use stand::{Board, Stand};
@@ -28,7 +28,7 @@ const CHECKS: [Check; 8] = [
 ];
 
 /// The first broken rule and its lowest cell.
-pub fn first_broken(job: &Job, poses: &[Pose]) -> Option<Reason<Broken>> {
+pub fn first_broken(job: &Job, poses: &[RawPose]) -> Option<Reason<Broken>> {
     let board = Board::of(job, poses);
     (1..).zip(CHECKS).find_map(|(rule, check)| {
         board.stands.iter().find_map(|stand| {

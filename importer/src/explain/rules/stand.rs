@@ -1,7 +1,7 @@
 //! Cells as they stand.
 
 use crate::explain::job::{Cell, Header, Job, TALL};
-use crate::explain::placement::Pose;
+use crate::explain::placement::RawPose;
 
 /// All cells of a job as a placement has them, in file order.
 pub struct Board<'texts> {
@@ -13,11 +13,11 @@ pub struct Stand<'texts> {
     /// The cell's number, counted from 1.
     pub number: u32,
     pub cell: &'texts Cell,
-    pub pose: &'texts Pose,
+    pub pose: &'texts RawPose,
 }
 
 impl<'texts> Board<'texts> {
-    pub fn of(job: &'texts Job, poses: &'texts [Pose]) -> Board<'texts> {
+    pub fn of(job: &'texts Job, poses: &'texts [RawPose]) -> Board<'texts> {
         let cells = (1..).zip(job.cells.iter().zip(poses));
         let stand = |(number, (cell, pose))| Stand { number, cell, pose };
         Board {

@@ -7,7 +7,7 @@ use crate::input::Text;
 use crate::mistake::Mistake;
 use crate::report::Report;
 use crate::words::{Switch, Words};
-use importer::desk::{Change, Comparison, Pose, Step, StepChanges, Table};
+use importer::desk::{Change, Comparison, RawPose, Step, StepChanges, Table};
 use importer::{refine, score, Broken, Verdict};
 use std::ffi::OsString;
 
@@ -141,7 +141,7 @@ fn step_table(gone: &[Step], new: &[Step]) -> String {
 
 /// A cell, and its poses in both placements.
 fn fields_of(change: &Change) -> [u32; 7] {
-    let Pose { site, layout, mark } = change.theirs;
+    let RawPose { site, layout, mark } = change.theirs;
     let to = change.cheapest;
     [change.cell, site, layout, mark, to.site, to.layout, to.mark]
 }
