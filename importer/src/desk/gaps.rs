@@ -1,7 +1,7 @@
 //! The gaps of each row: between neighbours, and at the row's ends.
 
 use super::Fillers;
-use crate::explain::{read_job, read_placement, Board, Stand};
+use crate::explain::{read_job, read_placement, Board, Sides, Stand};
 
 /// The widths that gaps are counted by: each by itself, and from the last one on all together.
 /// Gaps of one site cannot be closed and are told one by one.
@@ -21,6 +21,20 @@ pub struct Gap {
 }
 
 impl Gap {
+    /// What is between neighbours in a row of so many sites; none if they overlap, or if the last
+    /// cell ends past the row.
+    pub(crate) fn between([left, right]: Sides, sites: u32) -> Option<Gap> {
+        let site = left.map_or(0, Stand::end);
+        let end = right.map_or(sites, |right| right.pose.site);
+        let number = |stand: &Stand| stand.number;
+        Some(Gap {
+            site,
+            width: end.checked_sub(site)?,
+            left: left.map(number),
+            right: right.map(number),
+        })
+    }
+
     /// The fewest fillers that close it.
     pub fn fillers(&self) -> Option<Fillers> {
         Fillers::closing(self.width)
@@ -68,48 +82,28 @@ pub fn gaps(job: &[u8], placement: &[u8]) -> Option<Vec<RowGaps>> {
     let job = read_job(job).ok()?;
     let poses = read_placement(placement, job.cells.len()).ok()?;
     let board = Board::of(&job, &poses);
+    let sites = job.header.sites;
     let row_gaps = |row| {
-        let stands = board.row_from_left(row);
+        let neighbours = board.neighbours(row).into_iter();
         RowGaps {
             row,
-            sites: job.header.sites,
-            cells: stands.len(),
-            gaps: gaps_of(&stands, job.header.sites),
+            sites,
+            cells: board.row(row).count(),
+            gaps: neighbours.map(|sides| gap_of(sides, sites)).collect(),
         }
     };
     Some((0..job.header.rows).map(row_gaps).collect())
 }
 
-/// The gaps of a row, whose cells are given from left to right.
-fn gaps_of(stands: &[&Stand], sites: u32) -> Result<Vec<Gap>, Untold> {
-    let (mut left, mut site) = (None, 0);
-    let mut gaps = Vec::new();
-    for stand in stands {
-        let cell = stand.number;
-        let untold = |reason| Untold { cell, reason };
-        let layouts = 0..stand.cell.widths.len() as u32;
-        if !layouts.contains(&stand.pose.layout) {
-            return Err(untold("choice not offered"));
-        }
-        if stand.end() > sites {
-            return Err(untold("outside row"));
-        }
-        let width = stand.pose.site.checked_sub(site);
-        gaps.push(Gap {
-            site,
-            width: width.ok_or(untold("overlap"))?,
-            left,
-            right: Some(cell),
-        });
-        (left, site) = (Some(cell), stand.end());
+/// The gap between neighbours of which all further left are told.
+fn gap_of([left, right]: Sides, sites: u32) -> Result<Gap, Untold> {
+    let cell = right.or(left).map_or(0, |stand| stand.number);
+    let untold = |reason| Untold { cell, reason };
+    match right {
+        Some(stand) if stand.layout().is_none() => Err(untold("choice not offered")),
+        Some(stand) if stand.end() > sites => Err(untold("outside row")),
+        _ => Gap::between([left, right], sites).ok_or(untold("overlap")),
     }
-    gaps.push(Gap {
-        site,
-        width: sites - site,
-        left,
-        right: None,
-    });
-    Ok(gaps)
 }
 
 impl RowGaps {

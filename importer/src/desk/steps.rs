@@ -1,14 +1,11 @@
 //! The steps of a legal placement, one by one.
 
-use crate::explain::{read_job, read_placement, Board, Stand, TALL};
+use crate::explain::{read_job, read_placement, Board, Edge, Stand};
 use crate::Numbers;
 use std::fmt;
 
-/// From this gap on, a step is not charged.
-const FREE: u32 = 4;
-
-/// Heights of a layout in one row: left P, left N, right P, right N.
-const HEIGHTS: usize = 4;
+/// The gaps at which a step is charged.
+const CHARGED: [u32; 3] = [0, 2, 3];
 
 /// Which transistors' diffusion.
 #[derive(Clone, Copy, Debug, PartialEq, Eq)]
@@ -17,6 +14,16 @@ pub enum Diffusion {
     P,
     /// That of n-type transistors.
     N,
+}
+
+impl Diffusion {
+    /// Its height at an edge.
+    pub(crate) fn height(self, edge: Edge) -> u32 {
+        match self {
+            Diffusion::P => edge.p,
+            Diffusion::N => edge.n,
+        }
+    }
 }
 
 impl fmt::Display for Diffusion {
@@ -59,8 +66,9 @@ pub fn steps(job: &[u8], placement: &[u8], numbers: &Numbers) -> Option<Vec<Step
     let board = Board::of(&job, &poses);
     let mut steps = Vec::new();
     for row in 0..job.header.rows {
-        for pair in board.row_from_left(row).windows(2) {
-            steps.extend(steps_between(pair, row));
+        for (left, right) in board.pairs(row) {
+            let between = steps_between(left, right, row).into_iter();
+            steps.extend(between.map(|(step, _)| step));
         }
     }
     let counted = steps.len() == numbers.steps as usize;
@@ -68,57 +76,27 @@ pub fn steps(job: &[u8], placement: &[u8], numbers: &Numbers) -> Option<Vec<Step
     counted.then_some(steps)
 }
 
-/// The steps of two neighbours of a row.
-fn steps_between(pair: &[&Stand], row: u32) -> Vec<Step> {
-    let &[left, right] = pair else {
+/// The steps of two neighbours of a row, each with the heights of the left and of the right cell.
+pub(crate) fn steps_between(left: &Stand, right: &Stand, row: u32) -> Vec<(Step, [u32; 2])> {
+    let gap = right.pose.site.checked_sub(left.end());
+    let gap = gap.filter(|gap| CHARGED.contains(gap));
+    let edges = left.edges(row).zip(right.edges(row));
+    let (Some(gap), Some(([_, of_left], [of_right, _]))) = (gap, edges) else {
         return Vec::new();
     };
-    let gap = right.pose.site.saturating_sub(left.end());
-    if gap >= FREE {
-        return Vec::new();
-    }
-    let facing = right_edge(left, row).into_iter().zip(left_edge(right, row));
-    let differing = facing.zip([Diffusion::P, Diffusion::N]);
-    let differing = differing.filter(|((left, right), _)| left != right);
-    let step = |(_, diffusion)| Step {
-        row,
-        left: left.number,
-        right: right.number,
-        diffusion,
-        gap,
+    let step = |diffusion: Diffusion| {
+        let heights = [of_left, of_right].map(|edge| diffusion.height(edge));
+        let step = Step {
+            row,
+            left: left.number,
+            right: right.number,
+            diffusion,
+            gap,
+        };
+        (heights[0] != heights[1]).then_some((step, heights))
     };
-    differing.map(step).collect()
-}
-
-/// The heights P and N of a cell's left edge in a row, as it stands.
-fn left_edge(stand: &Stand, row: u32) -> [u32; 2] {
-    let [left, right] = edges(stand, row);
-    if stand.pose.mark == 1 {
-        right
-    } else {
-        left
-    }
-}
-
-fn right_edge(stand: &Stand, row: u32) -> [u32; 2] {
-    let [left, right] = edges(stand, row);
-    if stand.pose.mark == 1 {
-        left
-    } else {
-        right
-    }
-}
-
-/// The heights of both edges in a row, unmirrored. Only a tall cell has others in row 1.
-fn edges(stand: &Stand, row: u32) -> [[u32; 2]; 2] {
-    let skipped = match stand.cell.row {
-        TALL => HEIGHTS * row as usize,
-        _ => 0,
-    };
-    let heights = stand.cell.heights.get(stand.pose.layout as usize);
-    let height = |at: usize| heights.and_then(|heights| heights.get(skipped + at));
-    let height = |at| height(at).copied().unwrap_or_default();
-    [[height(0), height(1)], [height(2), height(3)]]
+    let both = [Diffusion::P, Diffusion::N].into_iter();
+    both.filter_map(step).collect()
 }
 
 #[cfg(test)]

@@ -19,11 +19,11 @@ mod rules;
 pub use echo::printable;
 pub use reason::Reason;
 
-pub(crate) use job::{read as read_job, TALL};
+pub(crate) use job::{read as read_job, Edge};
 pub(crate) use job::{MOST_DISPLACEMENT, MOST_REORDERING, MOST_SITES};
 pub(crate) use placement::read as read_placement;
 pub use placement::RawPose;
-pub(crate) use rules::stand::{Board, Stand};
+pub(crate) use rules::stand::{Board, Sides, Stand};
 
 use crate::{Broken, Refused};
 

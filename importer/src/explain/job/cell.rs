@@ -1,5 +1,6 @@
 //! A cell line: `C,row,given,mirrorable,layouts`, then the layouts.
 
+use super::layout::Layout;
 use crate::explain::field::{in_range, Field};
 use crate::explain::form::{count, Form};
 use crate::explain::line::Line;
@@ -7,7 +8,7 @@ use crate::explain::reason::{Reason, FORM, RANGE};
 use crate::Refused;
 
 /// The row of a cell that stands in both.
-pub const TALL: u32 = 2;
+const TALL: u32 = 2;
 
 const HEIGHTS: [&str; 4] = ["left P", "left N", "right P", "right N"];
 
@@ -21,15 +22,16 @@ pub struct Cell {
     pub row: u32,
     pub given: u32,
     pub mirrorable: bool,
-    /// The width of each layout.
-    pub widths: Vec<u32>,
-    /// The heights of each layout as they stand in the line: four, or a tall cell's eight.
-    pub heights: Vec<Vec<u32>>,
+    pub layouts: Vec<Layout>,
 }
 
 impl Cell {
+    pub fn is_tall(&self) -> bool {
+        self.row == TALL
+    }
+
     pub fn stands_in(&self, row: u32) -> bool {
-        self.row == row || self.row == TALL
+        self.row == row || self.is_tall()
     }
 
     /// Whether some row has both cells.
@@ -110,11 +112,7 @@ pub fn read(line: &Line, rows: u32) -> Result<Cell, Reason<Refused>> {
         row,
         given,
         mirrorable: mirrorable == 1,
-        widths: of_layouts.iter().step_by(size).copied().collect(),
-        heights: of_layouts
-            .chunks(size)
-            .map(|layout| layout[1..].to_vec())
-            .collect(),
+        layouts: of_layouts.chunks(size).filter_map(Layout::of).collect(),
     })
 }
 

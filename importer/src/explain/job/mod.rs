@@ -2,9 +2,11 @@
 
 mod cell;
 mod header;
+mod layout;
 
-pub use cell::{Cell, TALL};
+pub use cell::Cell;
 pub use header::{Header, MOST_DISPLACEMENT, MOST_REORDERING, MOST_SITES};
+pub use layout::{Edge, Layout};
 
 use super::line::{lines, Line};
 use super::reason::{Reason, FORM, LIMIT, ORDER};
@@ -62,12 +64,12 @@ impl Job {
 
     fn surplus(&self, cell: &Cell) -> Option<String> {
         let number = self.cells.len() + 1;
-        let tall = self.cells.iter().filter(|cell| cell.row == TALL).count();
+        let tall = self.cells.iter().filter(|cell| cell.is_tall()).count();
         if number > MOST_CELLS {
             Some(format!(
                 "cell {number}; a job has at most {MOST_CELLS} cells"
             ))
-        } else if cell.row == TALL && tall >= MOST_TALL {
+        } else if cell.is_tall() && tall >= MOST_TALL {
             let tall = tall + 1;
             Some(format!(
                 "cell {number} is tall cell {tall}; a job has at most {MOST_TALL} tall cells"
@@ -90,5 +92,38 @@ impl Job {
             at + LINES_BEFORE,
             other.shared_rows(cell),
         ))
+    }
+}
+
+#[cfg(test)]
+mod tests {
+    use super::*;
+
+    #[test]
+    fn a_job_is_read_field_by_field() {
+        let text =
+            b"J,2,20,3,1,100,1,90,50\nC,1,4,1,2,5,1,2,3,4,6,5,6,7,8\nC,2,9,0,1,2,1,2,3,4,5,6,7,8\n";
+        let Job { header, cells } = read(text).expect("the job is in form");
+        let limits = (header.displacement, header.reordering);
+        assert_eq!((header.rows, header.sites, limits), (2, 20, (3, 1)));
+        let [single, tall] = &cells[..] else {
+            panic!("two cells")
+        };
+        assert!(!single.is_tall() && single.stands_in(1) && !single.stands_in(0));
+        assert_eq!((single.given, single.mirrorable), (4, true));
+        let edge = |p, n| Edge { p, n };
+        let [first, second] = &single.layouts[..] else {
+            panic!("two layouts")
+        };
+        assert_eq!((first.width, second.width), (5, 6));
+        assert_eq!(first.edges_in(1), Some([edge(1, 2), edge(3, 4)]));
+        assert_eq!(second.edges_in(1), Some([edge(5, 6), edge(7, 8)]));
+        assert!(tall.is_tall() && tall.stands_in(0) && tall.stands_in(1));
+        assert_eq!((tall.given, tall.mirrorable), (9, false));
+        let [layout] = &tall.layouts[..] else {
+            panic!("one layout")
+        };
+        assert_eq!(layout.edges_in(0), Some([edge(1, 2), edge(3, 4)]));
+        assert_eq!(layout.edges_in(1), Some([edge(5, 6), edge(7, 8)]));
     }
 }

@@ -5,12 +5,11 @@ use super::stand::{Board, Stand};
 /// Rule 1.
 pub fn not_offered(_: &Board, stand: &Stand) -> Option<String> {
     let (number, layout, mark) = (stand.number, stand.pose.layout, stand.pose.mark);
-    let layouts = stand.cell.widths.len();
-    let has = match layouts {
+    let has = match stand.cell.layouts.len() {
         1 => "it has layout 0 alone",
         _ => "it has layouts 0 and 1",
     };
-    if usize::try_from(layout).map_or(true, |layout| layout >= layouts) {
+    if stand.layout().is_none() {
         return Some(format!("cell {number} is in layout {layout}; {has}"));
     }
     match (mark, stand.cell.mirrorable) {

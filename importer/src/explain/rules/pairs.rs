@@ -26,12 +26,7 @@ pub fn overlapping(board: &Board, stand: &Stand) -> Option<String> {
 /// Rule 5: both neighbours break it.
 pub fn one_site_apart(board: &Board, stand: &Stand) -> Option<String> {
     [0, 1].into_iter().find_map(|row| {
-        let stands = board.row_from_left(row);
-        let mut neighbours = stands.windows(2).filter_map(|pair| match pair {
-            [left, right] => Some((*left, *right)),
-            _ => None,
-        });
-        let (left, right) = neighbours.find(|(left, right)| {
+        let (left, right) = board.pairs(row).find(|(left, right)| {
             let concerned = [left.number, right.number].contains(&stand.number);
             concerned && right.pose.site == left.end() + 1
         })?;
@@ -51,7 +46,7 @@ pub fn tall_exchanged(board: &Board, stand: &Stand) -> Option<String> {
     let on_wrong_side = |other: &&Stand| {
         let in_file = other.number.cmp(&stand.number);
         let from_left = other.pose.site.cmp(&stand.pose.site);
-        stand.is_tall() && other.is_tall() && in_file != from_left
+        stand.cell.is_tall() && other.cell.is_tall() && in_file != from_left
     };
     let other = board.stands.iter().find(on_wrong_side)?;
     let (site, other_site) = (stand.pose.site, other.pose.site);

@@ -1,25 +1,28 @@
 //! Cells as they stand.
 
-use crate::explain::job::{Cell, Header, Job, TALL};
+use crate::explain::job::{Cell, Edge, Header, Job, Layout};
 use crate::explain::placement::RawPose;
 
 /// All cells of a job as a placement has them, in file order.
-pub struct Board<'texts> {
-    pub header: &'texts Header,
-    pub stands: Vec<Stand<'texts>>,
+pub struct Board<'job> {
+    pub header: &'job Header,
+    pub stands: Vec<Stand<'job>>,
 }
 
-pub struct Stand<'texts> {
+pub struct Stand<'job> {
     /// The cell's number, counted from 1.
     pub number: u32,
-    pub cell: &'texts Cell,
-    pub pose: &'texts RawPose,
+    pub cell: &'job Cell,
+    pub pose: RawPose,
 }
 
-impl<'texts> Board<'texts> {
-    pub fn of(job: &'texts Job, poses: &'texts [RawPose]) -> Board<'texts> {
+/// What stands on the left and on the right: none at an end of the row.
+pub type Sides<'board, 'job> = [Option<&'board Stand<'job>>; 2];
+
+impl<'job> Board<'job> {
+    pub fn of(job: &'job Job, poses: &[RawPose]) -> Board<'job> {
         let cells = (1..).zip(job.cells.iter().zip(poses));
-        let stand = |(number, (cell, pose))| Stand { number, cell, pose };
+        let stand = |(number, (cell, &pose))| Stand { number, cell, pose };
         Board {
             header: &job.header,
             stands: cells.map(stand).collect(),
@@ -27,34 +30,68 @@ impl<'texts> Board<'texts> {
     }
 
     /// The cells of a row in file order.
-    pub fn row(&self, row: u32) -> impl Iterator<Item = &Stand<'texts>> {
+    pub fn row(&self, row: u32) -> impl Iterator<Item = &Stand<'job>> {
         let stands = self.stands.iter();
         stands.filter(move |stand| stand.cell.stands_in(row))
     }
 
-    /// The cells of a row from left to right.
-    pub fn row_from_left(&self, row: u32) -> Vec<&Stand<'texts>> {
+    /// The neighbours of a row from left to right: its start and its first cell, two cells each,
+    /// its last cell and its end. Where cells overlap, the one that reaches furthest is on the left.
+    pub fn neighbours(&self, row: u32) -> Vec<Sides<'_, 'job>> {
         let mut stands: Vec<_> = self.row(row).collect();
         stands.sort_by_key(|stand| stand.pose.site);
-        stands
+        let (mut furthest, mut neighbours) = (None::<&Stand>, Vec::new());
+        for stand in stands {
+            neighbours.push([furthest, Some(stand)]);
+            let before = furthest.filter(|before| before.end() >= stand.end());
+            furthest = before.or(Some(stand));
+        }
+        neighbours.push([furthest, None]);
+        neighbours
+    }
+
+    /// Those neighbours of a row that are two cells.
+    pub fn pairs(&self, row: u32) -> impl Iterator<Item = (&Stand<'job>, &Stand<'job>)> {
+        let neighbours = self.neighbours(row).into_iter();
+        neighbours.filter_map(|[left, right]| left.zip(right))
     }
 }
 
-impl Stand<'_> {
-    /// 0 for a layout that the cell does not have; rule 1 is tried before any width is asked.
+impl<'job> Stand<'job> {
+    /// The layout in which it stands, if the cell has it.
+    pub fn layout(&self) -> Option<&'job Layout> {
+        self.cell.layouts.get(self.pose.layout as usize)
+    }
+
+    pub fn is_mirrored(&self) -> bool {
+        self.pose.mark == 1
+    }
+
+    /// Left and right edge in a row as it stands: mirroring exchanges them.
+    pub fn edges(&self, row: u32) -> Option<[Edge; 2]> {
+        let [left, right] = self.layout()?.edges_in(row)?;
+        Some(if self.is_mirrored() {
+            [right, left]
+        } else {
+            [left, right]
+        })
+    }
+
+    /// Its width in layout 0, in which it was given.
+    pub fn given_width(&self) -> u32 {
+        self.cell.layouts.first().map_or(1, |layout| layout.width)
+    }
+
+    /// Its width; that of layout 0 where the cell has no such layout, which rule 1 says before any
+    /// other asks for a width.
     pub fn width(&self) -> u32 {
-        let layout = usize::try_from(self.pose.layout).ok();
-        let width = layout.and_then(|layout| self.cell.widths.get(layout));
-        width.copied().unwrap_or_default()
+        let layout = self.layout();
+        layout.map_or(self.given_width(), |layout| layout.width)
     }
 
     /// The first site right of the cell.
     pub fn end(&self) -> u32 {
         self.pose.site + self.width()
-    }
-
-    pub fn is_tall(&self) -> bool {
-        self.cell.row == TALL
     }
 
     /// `cell 3 takes sites 5 to 8`.
