@@ -1,9 +1,10 @@
 //! The sites of a band, ticked and numbered, and the empty tracks below them.
 
 use super::canvas::{Anchor, Canvas};
-use super::row::{Span, Transistors};
+use super::row::Span;
 use super::scale::{Band, Track, LEFT, SITE};
 use super::text::{NAME, SMALL};
+use crate::desk::Diffusion;
 
 /// How high the numbers with their ticks are.
 pub const AXIS: i32 = 20;
@@ -60,11 +61,11 @@ pub fn draw_track(canvas: &mut Canvas, band: &Band, row: u32, sites: u32, track:
             }
         }
     }
-    let middle = (track.base(Transistors::P) + track.base(Transistors::N)) / 2;
+    let middle = (track.base(Diffusion::P) + track.base(Diffusion::N)) / 2;
     canvas.text(NAME, Anchor::Start, 6, middle + 4, &format!("row {row}"));
-    for (kind, away) in [(Transistors::P, -8), (Transistors::N, 14)] {
+    for (kind, away) in [(Diffusion::P, -8), (Diffusion::N, 14)] {
         let y = track.base(kind) + away;
-        canvas.text(SMALL, Anchor::End, LEFT - SITE / 2, y, &format!("{kind:?}"));
+        canvas.text(SMALL, Anchor::End, LEFT - SITE / 2, y, &kind.to_string());
     }
 }
 

@@ -2,10 +2,10 @@
 
 use super::canvas::{Anchor, Canvas};
 use super::panel::Panel;
-use super::row::Transistors;
 use super::scale::{Band, Piece, Track};
-use super::stand::Stand;
 use super::text::{NUMBER, SMALL};
+use crate::desk::Diffusion;
+use crate::explain::Stand;
 
 /// How wide the fins of an edge are drawn.
 const FINS: i32 = 4;
@@ -15,7 +15,7 @@ const ROOM_FOR_HEIGHTS: i32 = 60;
 
 /// Draws the cells of a panel that are to be seen in a band.
 pub fn draw(canvas: &mut Canvas, panel: &Panel, band: &Band, tracks: &[Track]) {
-    for stand in &panel.stands {
+    for stand in &panel.board.stands {
         if let Some(piece) = band.piece(&stand.sites()) {
             draw_cell(canvas, stand, &piece, tracks);
             draw_number(canvas, stand, &piece, tracks, anchors(panel, stand));
@@ -25,7 +25,7 @@ pub fn draw(canvas: &mut Canvas, panel: &Panel, band: &Band, tracks: &[Track]) {
             }
         }
     }
-    for stand in panel.stands.iter().filter(|stand| panel.names(stand)) {
+    for stand in panel.board.stands.iter().filter(|stand| panel.names(stand)) {
         let piece = band.piece(&stand.sites());
         if let (Some(piece), Some((top, bottom))) = (piece, height(stand, tracks)) {
             canvas.rect("named", &piece.frame(top, bottom));
@@ -35,7 +35,7 @@ pub fn draw(canvas: &mut Canvas, panel: &Panel, band: &Band, tracks: &[Track]) {
 
 /// The top and the bottom of a cell: a tall one goes through both rows.
 fn height(stand: &Stand, tracks: &[Track]) -> Option<(i32, i32)> {
-    let first = tracks.get(stand.cell.first_row() as usize)?;
+    let first = tracks.get(stand.first_row() as usize)?;
     let last = match stand.cell.is_tall() {
         true => tracks.last()?,
         false => first,
@@ -87,7 +87,7 @@ fn draw_fins(canvas: &mut Canvas, stand: &Stand, piece: &Piece, row: u32, track:
     let Some(edges) = stand.edges(row) else {
         return;
     };
-    for (kind, class) in [(Transistors::P, "p"), (Transistors::N, "n")] {
+    for (kind, class) in [(Diffusion::P, "p"), (Diffusion::N, "n")] {
         let sides = [piece.left + 1, piece.right - 1 - FINS];
         let mut path = String::new();
         for ((edge, x), cut) in edges.into_iter().zip(sides).zip(piece.cut) {
@@ -115,7 +115,7 @@ fn draw_heights(canvas: &mut Canvas, stand: &Stand, piece: &Piece, row: u32, tra
         (Anchor::End, piece.right - FINS - 3),
     ];
     for ((edge, (anchor, x)), cut) in edges.into_iter().zip(sides).zip(piece.cut) {
-        for kind in [Transistors::P, Transistors::N] {
+        for kind in [Diffusion::P, Diffusion::N] {
             if !cut {
                 let height = kind.height(edge).to_string();
                 canvas.text(SMALL, anchor, x, track.text_line(kind), &height);
@@ -157,7 +157,7 @@ fn draw_number(
     tracks: &[Track],
     anchors: [Anchor; 3],
 ) {
-    let Some(track) = tracks.get(stand.cell.first_row() as usize) else {
+    let Some(track) = tracks.get(stand.first_row() as usize) else {
         return;
     };
     let number = stand.number.to_string();
@@ -184,11 +184,11 @@ fn draw_small_texts(canvas: &mut Canvas, stand: &Stand, piece: &Piece, tracks: &
     }
     let layout = stand.layout_label();
     let room = piece.right - piece.left - 2 * (FINS + 2);
-    let track = tracks.get(stand.cell.first_row() as usize);
+    let track = tracks.get(stand.first_row() as usize);
     if let Some(track) = track.filter(|_| SMALL.width(&layout) <= room) {
         let (x, y) = (
             (piece.left + piece.right) / 2,
-            track.text_line(Transistors::P),
+            track.text_line(Diffusion::P),
         );
         canvas.text(SMALL, Anchor::Middle, x, y, &layout);
     }

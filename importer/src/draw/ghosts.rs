@@ -5,28 +5,28 @@ use super::canvas::{Anchor, Canvas};
 use super::panel::Panel;
 use super::row::Span;
 use super::scale::Band;
-use super::stand::Stand;
 use super::text::SMALL;
+use crate::explain::Stand;
 
 /// How high a level is.
 const LEVEL: i32 = 14;
 
 /// The ghosts of a strip that are to be seen in a band, each with its level.
 pub struct Strip<'panel> {
-    ghosts: Vec<(&'panel Stand, usize)>,
+    ghosts: Vec<(&'panel Stand<'panel>, usize)>,
     levels: usize,
 }
 
 impl<'panel> Strip<'panel> {
     /// Those of a row's cells that are shifted; tall cells are among those of row 0.
-    pub fn of(panel: &'panel Panel, row: u32, band: &Band) -> Strip<'panel> {
-        let in_row = |stand: &&Stand| stand.cell.first_row() == row;
-        let shifted = |stand: &&Stand| stand.site != stand.cell.given;
+    pub fn of(panel: &'panel Panel<'panel>, row: u32, band: &Band) -> Strip<'panel> {
+        let in_row = |stand: &&Stand| stand.first_row() == row;
+        let shifted = |stand: &&Stand| stand.pose.site != stand.cell.given;
         let seen = |stand: &&Stand| {
             let [from, to] = arrow(stand);
-            as_given(stand).meets(&band.sites) || (from != to && band.has(to))
+            stand.given_sites().meets(&band.sites) || (from != to && band.has(to))
         };
-        let stands = panel.stands.iter().filter(in_row);
+        let stands = panel.board.stands.iter().filter(in_row);
         let mut stands: Vec<&Stand> = stands.filter(shifted).filter(seen).collect();
         stands.sort_by_key(|stand| whole(stand).from);
         let mut strip = Strip {
@@ -66,26 +66,19 @@ impl<'panel> Strip<'panel> {
     }
 }
 
-/// The sites that a cell was given.
-fn as_given(stand: &Stand) -> Span {
-    let from = stand.cell.given;
-    let end = from + stand.given_width();
-    Span { from, end }
-}
-
 /// Where its arrow starts and ends: at the side towards which the cell went.
 fn arrow(stand: &Stand) -> [u32; 2] {
-    let given = as_given(stand);
-    if stand.site < given.from {
-        [given.from, stand.site]
+    let given = stand.given_sites();
+    if stand.pose.site < given.from {
+        [given.from, stand.pose.site]
     } else {
-        [given.end, given.end + stand.site - given.from]
+        [given.end, given.end + stand.pose.site - given.from]
     }
 }
 
 /// The sites of ghost and arrow.
 fn whole(stand: &Stand) -> Span {
-    let (given, [_, to]) = (as_given(stand), arrow(stand));
+    let (given, [_, to]) = (stand.given_sites(), arrow(stand));
     Span {
         from: given.from.min(to),
         end: given.end.max(to),
@@ -93,12 +86,12 @@ fn whole(stand: &Stand) -> Span {
 }
 
 fn words(stand: &Stand) -> String {
-    let (number, site, given) = (stand.number, stand.site, stand.cell.given);
+    let (number, site, given) = (stand.number, stand.pose.site, stand.cell.given);
     format!("cell {number}: given at site {given}, stands at site {site}")
 }
 
 fn draw_given(canvas: &mut Canvas, stand: &Stand, band: &Band, top: i32) {
-    let Some(piece) = band.piece(&as_given(stand)) else {
+    let Some(piece) = band.piece(&stand.given_sites()) else {
         return;
     };
     let mut frame = piece.frame(top, top + LEVEL - 2);
@@ -128,15 +121,15 @@ fn draw_arrow(canvas: &mut Canvas, stand: &Stand, band: &Band, y: i32) {
 
 #[cfg(test)]
 mod tests {
-    use super::super::job::Job;
     use super::*;
+    use crate::explain::read_job;
 
     #[test]
     fn ghosts_on_one_level_stand_apart() {
         let cell = |given| format!("C,0,{given},1,1,4,1,1,1,1\n");
         let cells: String = [3, 8, 20].map(cell).concat();
         let text = format!("J,1,40,7,1,1,1,1,1\n{cells}");
-        let job = Job::of(text.as_bytes());
+        let job = read_job(text.as_bytes()).expect("a job in form");
         let placement = b"5,0,0\n9,0,0\n18,0,0\n";
         let panel = Panel::of(&job, text.as_bytes(), Some(placement)).expect("Score takes it");
         let band = Band {

@@ -1,9 +1,9 @@
 //! What the refiner says of the rows, above the picture.
 
 use super::canvas::{Anchor, Canvas};
-use super::job::Job;
 use super::panel::{Panel, Said};
 use super::text::{ALARM, HEADING, NAME, PLAIN, SMALL};
+use crate::explain::Job;
 use crate::{Numbers, Refused};
 
 const LEFT: i32 = 16;
@@ -28,11 +28,15 @@ pub const NARROWEST: i32 = 660;
 
 /// What the rows are, in one line.
 pub fn heading(job: &Job) -> String {
-    let rows = if job.rows == 1 { "Row" } else { "Row pair" };
+    let rows = if job.header.rows == 1 {
+        "Row"
+    } else {
+        "Row pair"
+    };
     format!(
         "{rows} of {}, {}",
         count(job.cells.len() as u32, "cell"),
-        count(job.sites, "site")
+        count(job.header.sites, "site")
     )
 }
 
@@ -68,8 +72,8 @@ impl<'canvas> Pen<'canvas> {
         self.canvas
             .text(HEADING, Anchor::Start, LEFT, self.y, &heading(job));
         self.y += LINE + 2;
-        let [step, shift, mirror, swap] = job.weights;
-        let (limit, order) = (job.displacement, job.reordering);
+        let [step, shift, mirror, swap] = job.header.weights;
+        let (limit, order) = (job.header.displacement, job.header.reordering);
         let limits = format!(
             "D {limit}, R {order}; weights: step {step}, shift {shift}, mirror {mirror}, swap {swap}"
         );

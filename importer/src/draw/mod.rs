@@ -2,14 +2,14 @@
 //! given sites, in bands of 60 sites.
 //!
 //! What the picture says of cost and legality is what Score and Place say. Its shapes are found
-//! here, from the texts that these accept; a test holds the marks of steps against Score's number.
+//! here, from the texts that these accept as [`crate::explain`] reads them, with the gaps and the
+//! steps of [`crate::desk`]; a test holds the marks of steps against Score's number.
 
 mod axis;
 mod canvas;
 mod cells;
 mod gaps;
 mod ghosts;
-mod job;
 mod key;
 mod legend;
 mod panel;
@@ -20,11 +20,11 @@ mod steps;
 mod style;
 mod text;
 
+use crate::explain::{read_job, Job, Layout};
 use crate::{read, Refused};
 use axis::AXIS;
 use canvas::{Anchor, Canvas};
 use ghosts::Strip;
-use job::Job;
 use legend::Pen;
 use panel::Panel;
 use scale::{stretches, Band, Frame, Stretch, Track, BAND, LEFT, RIGHT, SITE, TRACK};
@@ -42,7 +42,8 @@ const BANDS_APART: i32 = 14;
 pub fn draw(job: &[u8], placement: Option<&[u8]>, cheapest: bool) -> Result<String, Refused> {
     read(job)?;
     let text = job;
-    let job = Job::of(text);
+    // Read took it, and both take the same texts.
+    let job = read_job(text).map_err(|reason| reason.answer)?;
     let mut panels = vec![Panel::of(&job, text, placement)?];
     let mut none = None;
     if cheapest {
@@ -52,25 +53,29 @@ pub fn draw(job: &[u8], placement: Option<&[u8]>, cheapest: bool) -> Result<Stri
             Err(refused) => return Err(refused),
         }
     }
-    let picture = Picture { job, panels, none };
+    let picture = Picture {
+        job: &job,
+        panels,
+        none,
+    };
     Ok(picture.drawn())
 }
 
-struct Picture {
-    job: Job,
-    panels: Vec<Panel>,
+struct Picture<'job> {
+    job: &'job Job,
+    panels: Vec<Panel<'job>>,
     /// Why there is no cheapest placement.
     none: Option<Refused>,
 }
 
-impl Picture {
+impl Picture<'_> {
     fn drawn(&self) -> String {
         let seen: Vec<_> = self.panels.iter().flat_map(Panel::seen).collect();
-        let stretches = stretches(self.job.sites, &seen);
+        let stretches = stretches(self.job.header.sites, &seen);
         let width = width(&stretches);
         let mut canvas = Canvas::default();
         let pen = Pen::new(&mut canvas, width);
-        let mut y = pen.write(&self.job, &self.panels, self.none.as_ref());
+        let mut y = pen.write(self.job, &self.panels, self.none.as_ref());
         for stretch in &stretches {
             y += BANDS_APART;
             y = match stretch {
@@ -103,15 +108,15 @@ impl Picture {
         let axis = top + AXIS;
         axis::draw_ticks(canvas, band, axis, panel.name);
         above.draw(canvas, band, axis);
-        let fin = Track::fin(self.job.highest());
+        let fin = Track::fin(highest(self.job));
         let first = axis + above.height() + 1;
         let track = |row| Track {
             top: first + row as i32 * (TRACK + ROWS_APART),
             fin,
         };
-        let tracks: Vec<Track> = (0..self.job.rows).map(track).collect();
+        let tracks: Vec<Track> = (0..self.job.header.rows).map(track).collect();
         for (row, track) in panel.rows.iter().zip(&tracks) {
-            axis::draw_track(canvas, band, row.number, self.job.sites, track);
+            axis::draw_track(canvas, band, row.number, self.job.header.sites, track);
             gaps::draw(canvas, row, band, track);
         }
         cells::draw(canvas, panel, band, &tracks);
@@ -126,7 +131,7 @@ impl Picture {
 
     /// The whole file around what was drawn.
     fn framed(&self, canvas: Canvas, width: i32, height: i32) -> String {
-        let heading = escaped(&legend::heading(&self.job));
+        let heading = escaped(&legend::heading(self.job));
         let said = |panel: &Panel| format!("{}: {}. ", panel.name, panel.said.words());
         let mut words: String = self.panels.iter().map(said).collect();
         if let Some(refused) = self.none {
@@ -150,6 +155,12 @@ impl Picture {
             canvas.drawn(),
         )
     }
+}
+
+/// The greatest fin height of all cells, at least 1.
+fn highest(job: &Job) -> u32 {
+    let layouts = job.cells.iter().flat_map(|cell| &cell.layouts);
+    layouts.filter_map(Layout::highest).max().unwrap_or(1)
 }
 
 /// How wide the picture is: as wide as its widest band, and wide enough for the legend.

@@ -1,15 +1,13 @@
 //! A placement that is drawn: how its cells stand, its rows, and what the refiner says of it.
 
-use super::job::Job;
 use super::row::{Row, Span};
-use super::stand::Stand;
-use crate::explain::broken_rule;
-use crate::{refine, score, Broken, Numbers, Refused, Verdict};
+use crate::explain::{broken_rule, read_placement, Board, Job, Stand};
+use crate::{placement, refine, score, Broken, Numbers, Pose, Refused, Verdict};
 
-pub struct Panel {
+pub struct Panel<'job> {
     pub name: &'static str,
     pub said: Said,
-    pub stands: Vec<Stand>,
+    pub board: Board<'job>,
     pub rows: Vec<Row>,
 }
 
@@ -20,13 +18,17 @@ pub enum Said {
     Broken(Broken, String),
 }
 
-impl Panel {
+impl<'job> Panel<'job> {
     /// The given rows, or a placement text.
-    pub fn of(job: &Job, text: &[u8], placement: Option<&[u8]>) -> Result<Panel, Refused> {
-        let given = job.given_rows();
+    pub fn of(
+        job: &'job Job,
+        text: &[u8],
+        placement: Option<&[u8]>,
+    ) -> Result<Panel<'job>, Refused> {
+        let given = given_rows(job);
         let (name, placement) = match placement {
             Some(placement) => ("placement", placement),
-            None => ("given rows", given.as_bytes()),
+            None => ("given rows", &*given),
         };
         let said = match score(text, placement)? {
             Verdict::Legal(numbers) => Said::Legal(numbers),
@@ -36,32 +38,39 @@ impl Panel {
                 Said::Broken(broken, words)
             }
         };
-        Ok(Panel::drawn(name, said, job, placement))
+        Panel::drawn(name, said, job, placement)
     }
 
     /// A cheapest legal placement.
-    pub fn cheapest(job: &Job, text: &[u8]) -> Result<Panel, Refused> {
+    pub fn cheapest(job: &'job Job, text: &[u8]) -> Result<Panel<'job>, Refused> {
         let refined = refine(text)?;
         let said = Said::Legal(refined.numbers);
-        Ok(Panel::drawn("cheapest", said, job, &refined.text))
+        Panel::drawn("cheapest", said, job, &refined.text)
     }
 
-    fn drawn(name: &'static str, said: Said, job: &Job, placement: &[u8]) -> Panel {
-        let stands = Stand::all(job, placement);
-        let rows = (0..job.rows).map(|row| Row::of(row, job.sites, &stands));
-        Panel {
+    fn drawn(
+        name: &'static str,
+        said: Said,
+        job: &'job Job,
+        placement: &[u8],
+    ) -> Result<Panel<'job>, Refused> {
+        // Score took it, or Place wrote it.
+        let poses = read_placement(placement, job.cells.len()).map_err(|reason| reason.answer)?;
+        let board = Board::of(job, &poses);
+        let rows = (0..job.header.rows).map(|row| Row::of(row, &board));
+        Ok(Panel {
             name,
             said,
             rows: rows.collect(),
-            stands,
-        }
+            board,
+        })
     }
 
     /// Whether this is the cell that the refiner names.
     pub fn names(&self, stand: &Stand) -> bool {
         match &self.said {
             Said::Legal(_) => false,
-            Said::Broken(broken, _) => broken.cell as usize == stand.number,
+            Said::Broken(broken, _) => broken.cell == stand.number,
         }
     }
 
@@ -72,7 +81,8 @@ impl Panel {
 
     /// Whether the cell shares its first site with another.
     pub fn overlaps_first(&self, stand: &Stand) -> bool {
-        let (from, end) = (stand.site, stand.site + 1);
+        let from = stand.pose.site;
+        let end = from + 1;
         self.shares(stand, Span { from, end })
     }
 
@@ -85,18 +95,22 @@ impl Panel {
     /// The sites that must be seen: of cells as they stand and as they were given, and where one is
     /// empty.
     pub fn seen(&self) -> impl Iterator<Item = Span> + '_ {
-        let cells = self.stands.iter().flat_map(|stand| {
-            let given = stand.cell.given;
-            let as_given = Span {
-                from: given,
-                end: given + stand.given_width(),
-            };
-            [stand.sites(), as_given]
-        });
+        let stands = self.board.stands.iter();
+        let cells = stands.flat_map(|stand| [stand.sites(), stand.given_sites()]);
         let gaps = self.rows.iter().flat_map(|row| &row.gaps);
         let one_site = gaps.map(|gap| gap.span).filter(|span| span.sites() == 1);
         cells.chain(one_site)
     }
+}
+
+/// The text of the placement that leaves each cell as it is given.
+fn given_rows(job: &Job) -> Vec<u8> {
+    let pose = |site| Pose {
+        site,
+        ..Pose::default()
+    };
+    let poses = job.cells.iter().map(|cell| pose(cell.given));
+    placement::text(&poses.collect::<Vec<_>>())
 }
 
 impl Said {

@@ -1,12 +1,12 @@
 //! A row from left to right: its gaps, the steps between neighbours, and where cells overlap.
 
-use super::job::Edge;
-use super::stand::Stand;
+use crate::desk::{self, steps_between, Step};
+use crate::explain::{Board, Stand};
 
 pub struct Row {
     pub number: u32,
     pub gaps: Vec<Gap>,
-    pub steps: Vec<Step>,
+    pub steps: Vec<StepMark>,
     pub overlaps: Vec<Span>,
 }
 
@@ -46,143 +46,89 @@ pub enum GapKind {
     End,
 }
 
-/// Facing heights that differ.
+/// A step and where its mark stands.
 #[derive(Clone, Copy, Debug, PartialEq, Eq)]
-pub struct Step {
-    /// The left and the right cell's numbers.
-    pub cells: [usize; 2],
-    /// The sites between them: none if they abut.
+pub struct StepMark {
+    pub step: Step,
+    /// The sites between the cells: none if they abut.
     pub gap: Span,
-    pub kind: Transistors,
     /// The left and the right cell's facing heights.
     pub heights: [u32; 2],
 }
 
-#[derive(Clone, Copy, Debug, PartialEq, Eq)]
-pub enum Transistors {
-    P,
-    N,
-}
-
-impl Transistors {
-    pub fn height(self, edge: Edge) -> u32 {
-        match self {
-            Transistors::P => edge.p,
-            Transistors::N => edge.n,
+impl Row {
+    /// A row of a placement.
+    pub fn of(number: u32, board: &Board) -> Row {
+        let sites = board.header.sites;
+        let neighbours = board.neighbours(number).into_iter();
+        let gaps = neighbours.filter_map(|sides| desk::Gap::between(sides, sites));
+        let pairs = || board.pairs(number);
+        Row {
+            number,
+            gaps: gaps.filter_map(|gap| Gap::of(&gap, sites)).collect(),
+            steps: pairs()
+                .flat_map(|(left, right)| step_marks(left, right, number))
+                .collect(),
+            overlaps: pairs()
+                .filter_map(|(left, right)| overlap(left, right))
+                .collect(),
         }
     }
-}
 
-/// The gaps between neighbours at which steps count.
-const CHARGED: [u32; 3] = [0, 2, 3];
-
-impl Row {
     /// Whether cells share some of these sites.
     pub fn shares(&self, sites: &Span) -> bool {
         self.overlaps.iter().any(|overlap| overlap.meets(sites))
     }
+}
 
-    /// A row of so many sites with those of the cells that stand in it.
-    pub fn of(number: u32, sites: u32, stands: &[Stand]) -> Row {
-        let mut row = Row {
-            number,
-            gaps: Vec::new(),
-            steps: Vec::new(),
-            overlaps: Vec::new(),
-        };
-        let stands = stands.iter().filter(|stand| stand.cell.stands_in(number));
-        let mut stands: Vec<&Stand> = stands.collect();
-        stands.sort_by_key(|stand| stand.site);
-        let mut stands = stands.into_iter();
-        let Some(mut furthest) = stands.next() else {
-            return row;
-        };
-        row.end_gap(0, furthest.site.min(sites));
-        for stand in stands {
-            row.neighbours(furthest, stand, sites);
-            if stand.end() > furthest.end() {
-                furthest = stand;
-            }
+impl Gap {
+    /// A gap as far as it is in a row of so many sites. A row without cells is one gap, which is
+    /// not drawn.
+    fn of(gap: &desk::Gap, sites: u32) -> Option<Gap> {
+        let (from, end) = (gap.site, sites.min(gap.site + gap.width));
+        if from >= end || gap.left.or(gap.right).is_none() {
+            return None;
         }
-        row.end_gap(furthest.end(), sites);
-        row
+        let span = Span { from, end };
+        let kind = match (gap.left.zip(gap.right), gap.width) {
+            (Some(_), 1) => GapKind::OneSite,
+            (Some(_), 2 | 3) => GapKind::Charged,
+            (Some(_), _) => GapKind::Free,
+            (None, _) if span.sites() == 1 => GapKind::OneSite,
+            (None, _) => GapKind::End,
+        };
+        Some(Gap { span, kind })
     }
+}
 
-    fn end_gap(&mut self, from: u32, end: u32) {
-        if from < end {
-            let span = Span { from, end };
-            let kind = match span.sites() {
-                1 => GapKind::OneSite,
-                _ => GapKind::End,
-            };
-            self.gaps.push(Gap { span, kind });
-        }
-    }
+fn step_marks(left: &Stand, right: &Stand, row: u32) -> Vec<StepMark> {
+    let (from, end) = (left.end(), right.pose.site);
+    let gap = Span { from, end };
+    let steps = steps_between(left, right, row).into_iter();
+    let mark = |(step, heights)| StepMark { step, gap, heights };
+    steps.map(mark).collect()
+}
 
-    fn neighbours(&mut self, left: &Stand, right: &Stand, sites: u32) {
-        if right.site < left.end() {
-            let end = right.end().min(left.end());
-            let from = right.site;
-            self.overlaps.push(Span { from, end });
-            return;
-        }
-        let gap = Span {
-            from: left.end(),
-            end: right.site,
-        };
-        self.between(gap, sites);
-        if CHARGED.contains(&gap.sites()) {
-            self.facing(left, right, gap);
-        }
-    }
-
-    fn between(&mut self, gap: Span, sites: u32) {
-        let kind = match gap.sites() {
-            0 => return,
-            1 => GapKind::OneSite,
-            2 | 3 => GapKind::Charged,
-            _ => GapKind::Free,
-        };
-        let end = gap.end.min(sites);
-        if gap.from < end {
-            let from = gap.from;
-            let span = Span { from, end };
-            self.gaps.push(Gap { span, kind });
-        }
-    }
-
-    fn facing(&mut self, left: &Stand, right: &Stand, gap: Span) {
-        let (Some([_, of_left]), Some([of_right, _])) =
-            (left.edges(self.number), right.edges(self.number))
-        else {
-            return;
-        };
-        for kind in [Transistors::P, Transistors::N] {
-            let heights = [of_left, of_right].map(|edge| kind.height(edge));
-            if heights[0] != heights[1] {
-                let cells = [left.number, right.number];
-                self.steps.push(Step {
-                    cells,
-                    gap,
-                    kind,
-                    heights,
-                });
-            }
-        }
-    }
+/// The sites that neighbours share.
+fn overlap(left: &Stand, right: &Stand) -> Option<Span> {
+    let (from, end) = (right.pose.site, right.end().min(left.end()));
+    (from < end).then_some(Span { from, end })
 }
 
 #[cfg(test)]
 mod tests {
-    use super::super::job::Job;
     use super::*;
+    use crate::desk::Diffusion;
+    use crate::explain::{read_job, read_placement};
 
     /// Cells of width 2, all with heights 1, 1 on the left and 2, 3 on the right, in a row of 20.
     fn row(sites: &[u32]) -> Row {
         let cell = "C,0,0,1,1,2,1,1,2,3\n".repeat(sites.len());
-        let job = Job::of(format!("J,1,20,3,1,1,1,1,1\n{cell}").as_bytes());
+        let job = read_job(format!("J,1,20,3,1,1,1,1,1\n{cell}").as_bytes());
+        let job = job.expect("a job in form");
         let lines: String = sites.iter().map(|site| format!("{site},0,0\n")).collect();
-        Row::of(0, 20, &Stand::all(&job, lines.as_bytes()))
+        let poses = read_placement(lines.as_bytes(), sites.len());
+        Row::of(0, &Board::of(&job, &poses.expect("poses in form")))
     }
 
     fn gaps(row: &Row) -> Vec<(u32, u32, GapKind)> {
@@ -199,9 +145,10 @@ mod tests {
         let [p, n] = row(&[5, 9]).steps[..] else {
             panic!("two steps")
         };
-        assert_eq!((p.kind, p.heights), (Transistors::P, [2, 1]));
-        assert_eq!((n.kind, n.heights), (Transistors::N, [3, 1]));
-        assert_eq!((p.cells, p.gap), ([1, 2], Span { from: 7, end: 9 }));
+        assert_eq!((p.step.diffusion, p.heights), (Diffusion::P, [2, 1]));
+        assert_eq!((n.step.diffusion, n.heights), (Diffusion::N, [3, 1]));
+        assert_eq!((p.step.left, p.step.right), (1, 2));
+        assert_eq!(p.gap, Span { from: 7, end: 9 });
     }
 
     #[test]

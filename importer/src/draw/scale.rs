@@ -1,7 +1,8 @@
 //! Where things stand on the picture: bands of a fixed number of sites below each other, and the
 //! tracks of a band, one for each row.
 
-use super::row::{Span, Transistors};
+use super::row::Span;
+use crate::desk::Diffusion;
 
 /// How wide a site is.
 pub const SITE: i32 = 16;
@@ -167,27 +168,27 @@ impl Track {
     }
 
     /// Where fins of a kind begin: P goes up from there, N down.
-    pub fn base(&self, kind: Transistors) -> i32 {
+    pub fn base(&self, kind: Diffusion) -> i32 {
         match kind {
-            Transistors::P => self.top + STRIP + HALF,
-            Transistors::N => self.top + STRIP + HALF + MIDDLE,
+            Diffusion::P => self.top + STRIP + HALF,
+            Diffusion::N => self.top + STRIP + HALF + MIDDLE,
         }
     }
 
     /// Where so many fins end.
-    pub fn tip(&self, kind: Transistors, height: u32) -> i32 {
+    pub fn tip(&self, kind: Diffusion, height: u32) -> i32 {
         let length = self.fin * height as i32;
         match kind {
-            Transistors::P => self.base(kind) - length,
-            Transistors::N => self.base(kind) + length,
+            Diffusion::P => self.base(kind) - length,
+            Diffusion::N => self.base(kind) + length,
         }
     }
 
     /// The baseline of a small text beside fins of a kind.
-    pub fn text_line(&self, kind: Transistors) -> i32 {
+    pub fn text_line(&self, kind: Diffusion) -> i32 {
         match kind {
-            Transistors::P => self.base(kind) - 4,
-            Transistors::N => self.base(kind) + 11,
+            Diffusion::P => self.base(kind) - 4,
+            Diffusion::N => self.base(kind) + 11,
         }
     }
 }
@@ -240,8 +241,8 @@ mod tests {
         for highest in 1..=15 {
             let fin = Track::fin(highest);
             let track = Track { top: 100, fin };
-            assert!(track.tip(Transistors::P, highest) >= 100 + STRIP);
-            assert!(track.tip(Transistors::N, highest) <= track.bottom() - FOOT);
+            assert!(track.tip(Diffusion::P, highest) >= 100 + STRIP);
+            assert!(track.tip(Diffusion::N, highest) <= track.bottom() - FOOT);
         }
     }
 }

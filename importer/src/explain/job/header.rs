@@ -16,7 +16,6 @@ pub const MOST_SITES: u32 = 1024;
 pub const MOST_DISPLACEMENT: u32 = 7;
 pub const MOST_REORDERING: u32 = 1;
 
-/// Of the numbers, those that rules and cell lines depend on.
 pub struct Header {
     pub rows: u32,
     pub sites: u32,
@@ -24,6 +23,8 @@ pub struct Header {
     pub displacement: u32,
     /// The reordering limit R.
     pub reordering: u32,
+    /// The weights of a step, a site shifted, a cell mirrored, a cell in layout 1.
+    pub weights: [u32; 4],
 }
 
 fn fields() -> Vec<Field> {
@@ -43,11 +44,12 @@ pub fn read(line: &Line) -> Result<Header, Reason<Refused>> {
     let refuse = |number| move |words| line.refused(number, words);
     let numbers = HEADER.numbers(line).map_err(refuse(FORM))?;
     let header = match numbers.values[..] {
-        [rows, sites, displacement, reordering, _, _, _, _] => Header {
+        [rows, sites, displacement, reordering, step, shift, mirror, swap] => Header {
             rows,
             sites,
             displacement,
             reordering,
+            weights: [step, shift, mirror, swap],
         },
         _ => {
             let found = count(numbers.fields, "field");

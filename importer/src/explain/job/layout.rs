@@ -36,4 +36,10 @@ impl Layout {
         let tall = self.edges.get(row as usize).filter(|_| row > 0);
         tall.or(self.edges.first()).copied()
     }
+
+    /// The greatest of its fin heights.
+    pub fn highest(&self) -> Option<u32> {
+        let edges = self.edges.iter().flatten();
+        edges.map(|edge| edge.p.max(edge.n)).max()
+    }
 }

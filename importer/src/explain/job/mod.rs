@@ -1,4 +1,4 @@
-//! A job text, read as far as an explanation needs it.
+//! A job text.
 
 mod cell;
 mod header;
@@ -106,6 +106,7 @@ mod tests {
         let Job { header, cells } = read(text).expect("the job is in form");
         let limits = (header.displacement, header.reordering);
         assert_eq!((header.rows, header.sites, limits), (2, 20, (3, 1)));
+        assert_eq!(header.weights, [100, 1, 90, 50]);
         let [single, tall] = &cells[..] else {
             panic!("two cells")
         };
@@ -115,8 +116,9 @@ mod tests {
         let [first, second] = &single.layouts[..] else {
             panic!("two layouts")
         };
-        assert_eq!((first.width, second.width), (5, 6));
+        assert_eq!((first.width, first.highest()), (5, Some(4)));
         assert_eq!(first.edges_in(1), Some([edge(1, 2), edge(3, 4)]));
+        assert_eq!((second.width, second.highest()), (6, Some(8)));
         assert_eq!(second.edges_in(1), Some([edge(5, 6), edge(7, 8)]));
         assert!(tall.is_tall() && tall.stands_in(0) && tall.stands_in(1));
         assert_eq!((tall.given, tall.mirrorable), (9, false));
