@@ -4,6 +4,7 @@ use super::canvas::{Anchor, Canvas};
 use super::row::{Gap, GapKind, Row};
 use super::scale::{Band, Frame, Piece, Track};
 use super::text::{Font, ALARM, SMALL};
+use crate::explain::count;
 
 /// No line beside a width is shorter.
 const SHORTEST: i32 = 6;
@@ -20,7 +21,11 @@ pub fn draw(canvas: &mut Canvas, row: &Row, band: &Band, track: &Track) {
 fn draw_gap(canvas: &mut Canvas, row: u32, gap: &Gap, piece: &Piece, track: &Track) {
     let frame = piece.frame(track.top + 1, track.bottom() - 1);
     let width = gap.span.sites();
-    let title = format!("row {row}: {} from site {}", sites(width), gap.span.from);
+    let title = format!(
+        "row {row}: {} from site {}",
+        count(width as usize, "site"),
+        gap.span.from
+    );
     let class = match gap.kind {
         GapKind::OneSite => Some("one"),
         GapKind::Charged => Some("fill"),
@@ -83,18 +88,11 @@ pub fn draw_overlaps(canvas: &mut Canvas, row: &Row, band: &Band, track: &Track)
             let (number, from) = (row.number, overlap.from);
             let title = format!(
                 "row {number}: cells share {} from site {from}",
-                sites(overlap.sites())
+                count(overlap.sites() as usize, "site")
             );
             let (top, bottom) = track.body();
             let frame = piece.frame(top, bottom);
             canvas.titled(&title, |canvas| canvas.rect("over", &frame));
         }
-    }
-}
-
-fn sites(count: u32) -> String {
-    match count {
-        1 => "1 site".into(),
-        _ => format!("{count} sites"),
     }
 }

@@ -3,7 +3,7 @@
 use super::canvas::{Anchor, Canvas};
 use super::panel::{Panel, Said};
 use super::text::{ALARM, HEADING, NAME, PLAIN, SMALL};
-use crate::explain::Job;
+use crate::explain::{count, Job};
 use crate::{Numbers, Refused};
 
 const LEFT: i32 = 16;
@@ -35,16 +35,9 @@ pub fn heading(job: &Job) -> String {
     };
     format!(
         "{rows} of {}, {}",
-        count(job.cells.len() as u32, "cell"),
-        count(job.header.sites, "site")
+        count(job.cells.len(), "cell"),
+        count(job.header.sites as usize, "site")
     )
-}
-
-fn count(number: u32, thing: &str) -> String {
-    match number {
-        1 => format!("1 {thing}"),
-        _ => format!("{number} {thing}s"),
-    }
 }
 
 /// A pen that writes line below line.
