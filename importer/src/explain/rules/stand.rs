@@ -110,3 +110,37 @@ pub fn sites(from: u32, end: u32) -> String {
         format!("site {from}")
     }
 }
+
+#[cfg(test)]
+mod tests {
+    use super::*;
+    use crate::explain::{read_job, read_placement};
+
+    /// The neighbours in row 0 of cells of 9, 2 and 2 sites, by their numbers; 0 is the row's end.
+    fn neighbours(placement: &str) -> Vec<[u32; 2]> {
+        let cell = |width| format!("C,0,0,0,1,{width},1,1,1,1\n");
+        let job = format!("J,1,30,7,1,1,1,1,1\n{}", [9, 2, 2].map(cell).concat());
+        let job = read_job(job.as_bytes()).expect("a job in form");
+        let poses = read_placement(placement.as_bytes(), 3).expect("poses in form");
+        let board = Board::of(&job, &poses);
+        let number = |side: Option<&Stand>| side.map_or(0, |stand| stand.number);
+        let neighbours = board.neighbours(0).into_iter();
+        neighbours.map(|sides| sides.map(number)).collect()
+    }
+
+    #[test]
+    fn neighbours_stand_from_left_to_right() {
+        let found = neighbours("9,0,0\n4,0,0\n20,0,0\n");
+        assert_eq!(found, [[0, 2], [2, 1], [1, 3], [3, 0]]);
+    }
+
+    #[test]
+    fn of_cells_that_overlap_the_one_that_reaches_furthest_is_on_the_left() {
+        // Cell 1 takes sites 4 to 12, and cell 2 stands on 6 and 7.
+        let found = neighbours("4,0,0\n6,0,0\n15,0,0\n");
+        assert_eq!(found, [[0, 1], [1, 2], [1, 3], [3, 0]]);
+        // Now cell 2 stands on 12 and 13, and so reaches further.
+        let found = neighbours("4,0,0\n12,0,0\n15,0,0\n");
+        assert_eq!(found, [[0, 1], [1, 2], [2, 3], [3, 0]]);
+    }
+}
