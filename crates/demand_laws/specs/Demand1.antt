@@ -1,6 +1,6 @@
 -- Demand 1 of Read, Score, Place and Fault line.
 use Prim.Native.Nat.{ℕ, zero, suc, _≤_, _<_}
-use mathlib.Core.Path.{_≡_, refl, sym, ap, _∙_, subst}
+use mathlib.Core.Path.{_≡_, refl, sym, ap, ap₂, _∙_, subst}
 use mathlib.Core.Logic.{_⊎_, inl, inr}
 use mathlib.Core.Bool.{Bool, true, false, cond, false≢true}
 use mathlib.Core.List.{List, [], _∷_, _++_, map}
@@ -8,7 +8,7 @@ use mathlib.Core.Option.{Option, none, some}
 use native.Mathlib.Omega.{arith}
 use borrow.Author.Tests.{lt-ltb, leb-true}
 use lib.ListN.{length, replicate, take, length-take}
-use lib.Dec.{leb, eqb}
+use lib.Dec.{leb, ltb, eqb}
 use lib.IntN.{ℤ, pos}
 use Rattle.definition.specs.Texts.{Text}
 use Rattle.definition.specs.Job.{Job, Reading, refused, accepted, readJob, firstFailing}
@@ -19,7 +19,7 @@ use Rattle.definition.specs.Outcome.{Outcome, noLine, refusedBy, read, score, s
 use Rattle.definition.specs.Outcome.{placeOutcome, placeAnswer, placeFieldCount, PlaceGives, bufferRefusal}
 use Rattle.definition.specs.Outcome.{storeNeeded, outputNeeded, Told, Buffers, Placed, over}
 use Rattle.definition.specs.FaultLine.{ToldFault, CopiedFault, Part, ofJob, ofPlacement, wordsOf, faultLine, shown}
-use Rattle.definition.specs.Demands.{isOneOf, Shape, readShape, scoreShape, faultShape, placeShape, Demand1}
+use Rattle.definition.specs.Demands.{isOneOf, isRefusal, Shape, readShape, scoreShape, faultShape, placeShape, Demand1}
 use Rattle.definition.specs.Demands.{alone, unsigned}
 use Rattle.definition_laws.specs.Sound.{Sound}
 use Rattle.definition_laws.specs.Outcomes.{read-refused, read-accepted, score-refused, score-fault, score-accepted}
@@ -301,3 +301,23 @@ place-keeps {job} {words} {room} {o} g = subst (Fair placeShape room) (sym (g .o
 pub place-demand1 : {job : Text} {returned : ℕ} {before end : Buffers} → Placed job returned before end
     → Demand1 placeShape returned before end
 place-demand1 p = fair-demand1 (place-keeps (p .gives)) (p .met)
+
+-- ---- the demand at work: what a caller of Place who believes it learns of refusal 7
+
+pub short-output : {returned : ℕ} {before end : Buffers} → Demand1 placeShape returned before end → returned ≡ 7
+    → (end .results ≡ over (pos 7 ∷ pos 0 ∷ replicate placeFieldCount (pos 0)) (before .results))
+    × (end .output ≡ before .output) × (end .store ≡ before .store)
+unfolding over
+short-output {returned} {before} {end} d e =
+    let refuses = ap (isRefusal placeShape) e in
+    let nowhere = ap (isOneOf (placeShape .lined)) (sym e) ∙ d .located in (
+      d .array ∙ ap₂ (λ n x. over (pos n ∷ x) (before .results)) e
+          (ap₂ (λ n x. pos n ∷ x) (no-line (d .line) nowhere) (d .no-fields refuses)),
+      d .written ∙ ap (λ x. over x (before .output)) (d .no-text refuses),
+      d .stored ∙ ap (λ n. cond (isOneOf (placeShape .searched) n) (replicate (length (before .store)) 0)
+          (before .store)) e,
+    )
+  where
+    no-line : (n : ℕ) → false ≡ ltb 0 n → n ≡ 0
+    no-line zero h = refl
+    no-line (suc n) h = absurd (false≢true (h ∙ lt-ltb 0 (suc n) (omega arith)))

@@ -150,25 +150,7 @@ rows-more {f} {g} {at} {lanes} {new = new} a n s w e =
       low = w .low;
     }
 
--- ---- layers: one row more of a state's block, and one block more
-
-pub state-none : (F : ℕ → Layer) (lanes to q : ℕ) {st : List ℕ} → Low st → FilledState F lanes to q 0 st st
-state-none F lanes to q {st} w = record { frame = frame-refl _ _ st; low = w; right = λ a h. absurd (omega arith) }
-
-pub state-more :
-    {F : ℕ → Layer} {g : ℕ → ℕ} {lanes to q : ℕ} {old mid new : List ℕ} (a : ℕ)
-    → lanes ≤ 64 → a < 64 → FilledState F lanes to q a old mid → Written g (to + q * stateBlock + a * 64) lanes mid new
-    → ((l : ℕ) → l < lanes → F l q a ≡ g l)
-    → FilledState F lanes to q (a + 1) old new
-state-more {F} {g} {lanes} {to} {q} {new = new} a n k s w e =
-    record {
-      frame = frame-join (to + q * stateBlock) (to + q * stateBlock + stateBlock) (s .frame) (w .frame) (omega arith)
-          (omega arith) (omega arith) (omega arith);
-      low = w .low;
-      right = below-more (λ (a : ℕ). (l : ℕ) → l < lanes → layerIn new to l q a ≡ F l q a) a
-          (λ b p l r. w .frame .low (to + q * stateBlock + b * 64 + l) (omega arith) ∙ s .right b p l r)
-          (λ l r. w .words l r ∙ sym (e l r));
-    }
+-- ---- layers: the rows of a state's block, and one block more
 
 -- the same by another name
 pub state-ext :

@@ -1,6 +1,6 @@
 -- What the functions are given: a cell and its ranges, room in the row for its words, and room for the tall cells'
 -- positions.
-use Prim.Native.Nat.{ℕ, _+_, _*_, _/_, _≤_, _<_}
+use Prim.Native.Nat.{ℕ, _+_, _/_, _≤_, _<_}
 use mathlib.Core.Path.{_≡_}
 use mathlib.Core.List.{List}
 use lib.ListN.{length, getD}

@@ -1,14 +1,13 @@
 // The rows of a job as the words that the search reads. The words' places stand in crate search_row, specs/Words.antt.
 ghost use mathlib.Core.Path.{_≡_};
 ghost use mathlib.Core.Bool.{_&&_};
-ghost use Prim.Native.Nat.{ℕ, _+_, _*_, _/_, _≤_, _<_};
-ghost use lib.ListN.{length, getD};
+ghost use Prim.Native.Nat.{_+_, _*_, _/_, _≤_, _<_};
 ghost use lib.Dec.{eqb};
-ghost use Rattle.search_row.specs.Words.{rowLength, statesFrom, tallsFrom, givenWord, leftP, wordsUsed};
+ghost use Rattle.search_row.specs.Words.{tallsFrom, givenWord, leftP, wordsUsed};
 ghost use Rattle.definition_laws.specs.Sound.{Sound};
 ghost use Rattle.job.specs.Value.{jobOf};
 ghost use Rattle.theory_tables.specs.Steps.{B};
-ghost use Rattle.search_lanes.specs.Store.{Low, Written};
+ghost use Rattle.search_lanes.specs.Store.{Written};
 ghost use Rattle.theory_bridge.specs.Paired.{isOffered, poseNumber, poseNumbers, ownOf};
 ghost use Rattle.search_row_fill.specs.Words.{edge, ownWord, shapeWord, heightWord, cellWord};
 ghost use Rattle.search_row_fill.specs.Values.{one, Ranged};

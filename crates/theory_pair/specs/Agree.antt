@@ -4,7 +4,6 @@ use mathlib.Core.List.{List, List·Memᴰ as In}
 use Prim.Native.Nat.{ℕ, _+_, _-_, _<_}
 use native.Mathlib.Omega.{arith}
 use lib.ListN.{length, getD}
-use Rattle.lists.specs.Numbers.{from}
 use Rattle.theory_row.specs.Order.{order, order-below, order-all, order-size, Rising, rising-same}
 use Rattle.theory_row.specs.Window.{good-start}
 use Rattle.theory_row.specs.Choices.{cells, chosen, along, along-size, cells-size}

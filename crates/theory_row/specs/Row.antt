@@ -8,7 +8,6 @@ use Prim.Native.Nat.{ℕ, _+_, _<_}
 use native.Mathlib.Omega.{arith}
 use lib.ListN.{length}
 use lib.Dec.{leb}
-use Rattle.lists.specs.Compare.{same}
 use Rattle.lists.specs.Numbers.{from, in-from}
 use Rattle.lists.specs.Membership.{distinct-from, Distinct}
 use Rattle.lists.specs.Neighbours.{Pairs, Chain, Next}

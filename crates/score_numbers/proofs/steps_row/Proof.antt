@@ -1,5 +1,4 @@
 -- The order of the row is the definition's, and its entries are cells of the job.
-use native.Mathlib.Omega.{arith}
 use mathlib.Core.Path.{ap, sym, subst, _∙_}
 use Rattle.definition.specs.Lists.{sumNext}
 use Rattle.definition.specs.Cost.{stepsIn, stepsAt}

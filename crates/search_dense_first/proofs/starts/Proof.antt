@@ -3,7 +3,7 @@ use mathlib.Core.Path.{sym, ap, _∙_}
 use lib.Dec.{eqb}
 use borrow.Author.Needs.{needs}
 use borrow.Author.Tests.{not-true, not-false}
-use Rattle.theory_tables.specs.Steps.{before, marks}
+use Rattle.theory_tables.specs.Steps.{before}
 use Rattle.search_row.specs.Words.{thereIn}
 use Rattle.search_row.specs.Laws.{and-away, and-there}
 use Rattle.search_dense_first.proofs.starts.Statement.{statement}
