@@ -25,6 +25,19 @@
  *   8       no legal placement exists
  *
  * README.md has the same table with what to do about each.
+ *
+ * A placement and its rules: they are tried in this order, and a later one only if all earlier ones
+ * hold.
+ *
+ *   rule    what it asks
+ *   1       the layout number is below the cell's count; the mark is 0, or 1 on a mirrorable cell
+ *   2       site plus width is at most sites
+ *   3       site and given site differ by at most D
+ *   4       no two cells share a site in a row
+ *   5       between neighbours in a row there is never just one empty site
+ *   6       a cell's place in each of its rows differs from its place in file order by at most R
+ *   7       tall cells keep their file order from left to right
+ *   8       a row with cells never has just one empty site before its first or after its last
  */
 #ifndef REFINER_H
 #define REFINER_H
@@ -104,8 +117,8 @@ uint32_t refiner_read(const uint8_t *job, size_t job_len, int32_t *results, size
 
 /* Score. Refuses 1 to 4 as Read does, then 5. Results: number, line, rule, cell, steps, sites
  * shifted, mirrored, changed, cost, drift. Rule and cell are 0 if the placement is legal, and
- * otherwise the first broken rule, 1 to 8, and its lowest cell, counted from 1; the six numbers are
- * then 0. README.md has a table of the rules.
+ * otherwise the first broken rule of those above and its lowest cell, counted from 1; the six
+ * numbers are then 0.
  */
 uint32_t refiner_score(const uint8_t *job, size_t job_len, const uint8_t *placement,
                        size_t placement_len, int32_t *results, size_t results_len);

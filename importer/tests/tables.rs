@@ -26,15 +26,14 @@ fn readme_rows(heading: &str) -> Vec<Row> {
         .collect()
 }
 
-/// The header's table of refusals. A row begins with its number; a line that begins with a space
-/// goes on with the row above it.
-fn header_rows() -> Vec<Row> {
+/// The header's table below a heading. A row begins with its number; a line that begins with a
+/// space goes on with the row above it.
+fn header_rows(heading: &str) -> Vec<Row> {
     let lines = HEADER
         .lines()
-        .skip_while(|line| words(line) != "* number meaning")
+        .skip_while(|line| words(line) != heading)
         .skip(1)
-        .take_while(|line| *line != " */")
-        .filter_map(|line| line.strip_prefix(" *   "));
+        .map_while(|line| line.strip_prefix(" *   "));
     let mut rows: Vec<Row> = Vec::new();
     for line in lines {
         match (line.split_once(' '), rows.last_mut()) {
@@ -75,7 +74,7 @@ fn readme_shows_each_refusal() {
 fn the_header_shows_each_refusal() {
     let row = |entry: &importer::Refusal| vec![entry.number.to_string(), words(entry.meaning)];
     let table: Vec<Row> = REFUSALS.iter().map(row).collect();
-    check_rows("refiner.h", &header_rows(), &table);
+    check_rows("refiner.h", &header_rows("* number meaning"), &table);
 }
 
 #[test]
@@ -113,10 +112,15 @@ fn a_refusal_that_the_table_lacks_is_told_too() {
 }
 
 #[test]
-fn readme_shows_each_rule() {
+fn readme_and_header_show_each_rule() {
     let row = |rule: &importer::Rule| vec![rule.number.to_string(), words(rule.asks)];
     let table: Vec<Row> = RULES.iter().map(row).collect();
-    check_rows("README", &readme_rows("## Rules of a placement"), &table);
+    check_rows(
+        "README",
+        &readme_rows("## A placement and its rules"),
+        &table,
+    );
+    check_rows("the header", &header_rows("* rule what it asks"), &table);
 }
 
 #[test]
