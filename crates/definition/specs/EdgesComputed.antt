@@ -52,4 +52,7 @@ edges-computed =
     & (refl, refl) & ((refl, refl), refl) & ((refl, refl), refl) & (refl, refl)
     & ((refl, refl), refl) & ((refl, refl), refl) & (refl, refl)
     & (refl, refl)
+    & (refl, refl) & ((refl, refl), refl) & ((refl, refl), refl) & ((refl, refl), refl) & ((refl, refl), refl)
+    & (refl, refl) & ((refl, refl), refl)
+    & ((refl, refl), refl) & ((refl, refl), refl) & ((refl, refl), refl)
     & tt

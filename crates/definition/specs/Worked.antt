@@ -79,6 +79,10 @@ worked =
     -- a given site that falls in row 1, by a tall cell
     ∷ scoring ("J,2,20,1,1,1,1,1,1\nC,1,5,0,1,2,1,1,1,1\n"
     ++ "C,0,1,0,1,2,1,1,1,1\nC,2,4,0,1,2,1,1,1,1,1,1,1,1\n") "" (refusingAt 4 4)
+    -- a fixed cell's line is read as any other: a lead of two bytes, a second layout out of range, a site that falls
+    ∷ scoring "J,1,20,1,1,100,1,100,50\nFC,0,2,1,1,4,3,3,2,2\n" "" (refusingAt 1 2)
+    ∷ scoring "J,1,20,1,1,100,1,100,50\nF,0,2,1,2,4,3,3,2,2,65,3,3,2,2\n" "" (refusingAt 2 2)
+    ∷ scoring (oneCell ++ "F,0,1,1,1,4,3,3,2,2\n") "" (refusingAt 4 3)
     -- an empty job
     ∷ scoring "" "2,0,1\n" (refusingAt 1 1)
     -- a surplus line
@@ -91,7 +95,8 @@ pub worked-hold : AllComputed worked
 unfolding opened _&_
 worked-hold =
     refl & refl & refl & refl & refl & refl & refl & refl
-    & refl & refl & refl & refl & refl & refl & refl & refl & tt
+    & refl & refl & refl & refl & refl & refl & refl & refl
+    & refl & refl & refl & tt
 
 -- ---- buffers, moves, limits
 

@@ -1,7 +1,7 @@
 -- Widths and heights of a cell, layout by layout: of one that it has, of one that it lacks.
 use Prim.Native.Nat.{ℕ, suc, _≤_, _<_, min}
 use mathlib.Core.Path.{_≡_, sym, ap, _∙_}
-use mathlib.Core.Bool.{Bool, true, false, cond}
+use mathlib.Core.Bool.{Bool, true, false, cond, and-true, and-false}
 use mathlib.Core.List.{List, [], _∷_}
 use native.Mathlib.Omega.{arith}
 use lib.ListN.{length, getD, take, length-take, List·getD-eq-default}
@@ -84,13 +84,15 @@ layouts-count : (c : Cell) → length (cellOf c .layouts) ≡ min (c .layouts) 2
 unfolding cellOf
 layouts-count c = length-take (c .layouts) (two c)
 
-pub offer-same : (h : Header) (c : Cell) (n : ℕ) → n ≡ min (c .layouts) 2
-    → record { given = c .given; limit = h .displacement; layouts = n; mirrorable = c .mirrorable }
-    ≡ offerOf (headerOf h) (cellOf c)
-unfolding headerOf cellOf
-offer-same h c n e = ap (λ (x : ℕ). record {
-  given = c .given;
-  limit = h .displacement;
-  layouts = x;
-  mirrorable = c .mirrorable;
-}) (e ∙ sym (layouts-count c))
+-- of a fixed cell, and of one that is not
+module _ (h : Header) (c : Cell) where
+  pub offer-fixed : c .fixed ≡ true
+      → record { given = c .given; limit = 0; layouts = 1; mirrorable = false } ≡ offerOf (headerOf h) (cellOf c)
+  unfolding headerOf cellOf
+  offer-fixed e = rw (e, and-false (c .mirrorable))
+
+  pub offer-free : c .fixed ≡ false → (n : ℕ) → n ≡ min (c .layouts) 2
+      → record { given = c .given; limit = h .displacement; layouts = n; mirrorable = c .mirrorable }
+      ≡ offerOf (headerOf h) (cellOf c)
+  unfolding headerOf cellOf
+  offer-free e n few = rw (e, few, sym (layouts-count c), and-true (c .mirrorable))

@@ -19,7 +19,15 @@ abbrev pub emptyLayout : Layout
 emptyLayout = record { width = 0; heights = replicate 8 0 }
 
 abbrev pub emptyCell : Cell
-emptyCell = record { row = 0; given = 0; mirrorable = false; layouts = 0; first = emptyLayout; second = emptyLayout }
+emptyCell = record {
+  fixed = false;
+  row = 0;
+  given = 0;
+  mirrorable = false;
+  layouts = 0;
+  first = emptyLayout;
+  second = emptyLayout;
+}
 
 abbrev pub emptyHeader : Header
 emptyHeader =
@@ -33,7 +41,15 @@ abbrev pub noLayout : Layout
 noLayout = record { width = 0; heights = [] }
 
 abbrev pub noCell : Cell
-noCell = record { row = 0; given = 0; mirrorable = false; layouts = 0; first = noLayout; second = noLayout }
+noCell = record {
+  fixed = false;
+  row = 0;
+  given = 0;
+  mirrorable = false;
+  layouts = 0;
+  first = noLayout;
+  second = noLayout;
+}
 
 abbrev pub cellAt : Job → ℕ → Cell
 cellAt j k = getD (j .cells) k noCell
@@ -51,7 +67,8 @@ abbrev pub layoutsOf : Cell → List paper.Layout
 layoutsOf c = take (c .layouts) (layoutOf (c .row) (c .first) ∷ layoutOf (c .row) (c .second) ∷ [])
 
 unfoldable pub cellOf : Cell → paper.Cell
-cellOf c = record { row = c .row; given = c .given; mirrorable = c .mirrorable; layouts = layoutsOf c }
+cellOf c =
+    record { fixed = c .fixed; row = c .row; given = c .given; mirrorable = c .mirrorable; layouts = layoutsOf c }
 
 -- what a cell is offered
 abbrev pub offerIn : Offer → rules.Offer

@@ -12,8 +12,9 @@ pub struct Layout {
     pub heights: [u32; 8],
 }
 
-// Row is 0, 1, or 2 for a tall cell; `layouts` is how many of the two are there.
+// Row is 0, 1, or 2 for a tall cell; `layouts` is how many of the two are there. A fixed cell must not move.
 pub struct Cell {
+    pub fixed: bool,
     pub row: u32,
     pub given: u32,
     pub mirrorable: bool,
@@ -61,6 +62,7 @@ impl Cell {
     {
         let l = Layout::empty();
         Cell {
+            fixed: false,
             row: 0,
             given: 0,
             mirrorable: false,
@@ -182,9 +184,18 @@ fn two_at_most(n: u32) -> u32
     if n < 2 { n } else { 2 }
 }
 
+// A fixed cell keeps its given site, layout 0 and mark 0.
 pub fn offer_of(header: Header, cell: Cell) -> Offer
     ensures { λ r. ⌜ offerIn r ≡ offerOf (headerOf header) (cellOf cell) ⌝ }
 {
+    if cell.fixed {
+        return Offer {
+            given: cell.given,
+            limit: 0,
+            layouts: 1,
+            mirrorable: false,
+        };
+    }
     Offer {
         given: cell.given,
         limit: header.displacement,

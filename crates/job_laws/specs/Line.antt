@@ -2,7 +2,7 @@
 use Prim.Native.Nat.{ℕ, zero, suc, _+_, _*_, _-_, _≤_, _<_}
 use mathlib.Core.Path.{_≡_, refl, ap, _∙_}
 use mathlib.Core.Bool.{Bool, true, false, _&&_, cond, and-eq-true-iff}
-use mathlib.Core.List.{List}
+use mathlib.Core.List.{List, [], _∷_}
 use native.Mathlib.Omega.{arith}
 use native.Mathlib.Nat.{suc-mul}
 use lib.ListN.{length, getD, drop, length-take, length-drop}
@@ -14,7 +14,7 @@ use Rattle.definition.specs.Texts.{Text, within}
 use Rattle.definition.specs.Job.{maxSites, maxDisplacement, maxReordering, maxWeight, maxGiven, maxWidth, maxHeight}
 use Rattle.definition.specs.Job.{Layout, Job, nth, numbersOf, headerInRange, headerRefusal}
 use Rattle.definition.specs.Job.{headerOf, layoutSize, layoutsOf, cellOf, layoutInRange}
-use Rattle.definition.specs.Job.{restInRange, shapeInRange, hasRoom, notFalling, cellRefusal}
+use Rattle.definition.specs.Job.{restInRange, shapeInRange, hasRoom, notFalling, fixedLead, ledBy, cellRefusal}
 use Rattle.definition.specs.Rules.{noLayout}
 use Rattle.definition_laws.specs.Sound.{SoundLayout, SoundCell, SoundHeader}
 use Rattle.job_laws.specs.Tests.{test-passed}
@@ -88,14 +88,14 @@ layout-sound row l e h =
     }
 
 -- a cell line, test by test
-pub record Taken (j : Job) (n : List ℕ) : Type 0 where
+pub record Taken (j : Job) (fixed : Bool) (n : List ℕ) : Type 0 where
   pub shape : shapeInRange (j .header) n ≡ true
   pub count : length n ≡ 4 + nth n 3 * layoutSize (nth n 0)
   pub rest : restInRange n ≡ true
-  pub room : hasRoom (j .cells) (cellOf n) ≡ true
-  pub rises : notFalling (j .cells) (cellOf n) ≡ true
+  pub room : hasRoom (j .cells) (cellOf fixed n) ≡ true
+  pub rises : notFalling (j .cells) (cellOf fixed n) ≡ true
 
-pub taken : (j : Job) (l : Text) → cellRefusal j l ≡ 0 → Taken j (numbersOf l)
+pub taken : (j : Job) (l : Text) → cellRefusal j l ≡ 0 → Taken j (ledBy (fixedLead ∷ []) l) (numbersOf l)
 unfolding cellRefusal
 taken j l e =
     let n = numbersOf l in
@@ -113,9 +113,9 @@ taken j l e =
       rises = t6 .0;
     }
 
-pub cell-sound : (j : Job) (n : List ℕ) → Taken j n → SoundCell (j .header) (cellOf n)
+pub cell-sound : (j : Job) (fixed : Bool) (n : List ℕ) → Taken j fixed n → SoundCell (j .header) (cellOf fixed n)
 unfolding cellOf restInRange
-cell-sound j n t =
+cell-sound j fixed n t =
     let k = nth n 3 in
     let size = layoutSize (nth n 0) in
     let ls = layoutsOf k size (drop 4 n) in

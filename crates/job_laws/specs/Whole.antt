@@ -11,7 +11,7 @@ use borrow.Author.Tests.{leb-true, ltb-true}
 use Rattle.definition.specs.Lists.{keep}
 use Rattle.definition.specs.Texts.{Text, linesOf}
 use Rattle.definition.specs.Job.{Cell, Header, Job, Reading, accepted, isTall, shareRow, maxTall}
-use Rattle.definition.specs.Job.{maxCells, numbersOf, headerOf, cellOf, headerRefusal}
+use Rattle.definition.specs.Job.{maxCells, numbersOf, headerOf, cellOf, cellIn, headerRefusal}
 use Rattle.definition.specs.Job.{cellRefusal, withCell, readCells, readLines, readJob}
 use Rattle.definition.specs.Rules.{noCell, cellAt}
 use Rattle.definition_laws.specs.Sound.{SoundHeader, SoundCell, Sound}
@@ -21,9 +21,9 @@ use Rattle.job_laws.specs.Line.{header-line-sound, Taken, taken, cell-so
 
 -- ---- one more cell
 
-module _ (j : Job) (s : Sound j) (n : List ℕ) (t : Taken j n) where
+module _ (j : Job) (s : Sound j) (fixed : Bool) (n : List ℕ) (t : Taken j fixed n) where
   abbrev c : Cell
-  c = cellOf n
+  c = cellOf fixed n
 
   abbrev more : Job
   more = withCell j c
@@ -45,7 +45,7 @@ module _ (j : Job) (s : Sound j) (n : List ℕ) (t : Taken j n) where
 
   each : (k : ℕ) → Which (j .cells) c noCell k → SoundCell (j .header) (cellAt more k)
   each k (old h e) = rw e (s .cell k h)
-  each k (new h e) = rw e (cell-sound j n t)
+  each k (new h e) = rw e (cell-sound j fixed n t)
 
   rises : (a b : ℕ) → a < b → Which (j .cells) c noCell a → Which (j .cells) c noCell b
       → shareRow (cellAt more a) (cellAt more b) ≡ true → cellAt more a .given ≤ cellAt more b .given
@@ -83,9 +83,9 @@ unfolding readCells
 cells-sound [] at j j′ s e = let q : j ≡ j′ = cc in rw q at s
 cells-sound (l ∷ ls) at j j′ s e =
     let c =
-    chosen (cellRefusal j l) at (readCells (withCell j (cellOf (numbersOf l))) (suc at) ls) j′
+    chosen (cellRefusal j l) at (readCells (withCell j (cellIn l)) (suc at) ls) j′
     (sym (read-cell-line j at l ls) ∙ e) in
-    cells-sound ls (suc at) (withCell j (cellOf (numbersOf l))) j′ (more-sound j s (numbersOf l) (taken j l (c .0)))
+    cells-sound ls (suc at) (withCell j (cellIn l)) j′ (more-sound j s _ (numbersOf l) (taken j l (c .0)))
     (c .1)
 
 -- no cell yet

@@ -23,18 +23,18 @@ module _ (n v : List ℕ) (same : (k : ℕ) → k < 24 → getD v k 0 ≡ paper.
   header-made e = rw (header-listed e)
 
   -- by rows and layouts
-  made : (t : Bool) (k : ℕ) → eqb (getD v 0 0) 2 ≡ t → getD v 3 0 ≡ k → 1 ≤ k → k ≤ 2
+  made : (fixed t : Bool) (k : ℕ) → eqb (getD v 0 0) 2 ≡ t → getD v 3 0 ≡ k → 1 ≤ k → k ≤ 2
       → length n ≡ 4 + k * cond t 9 5
-      → cellOf (cellIn v) ≡ paper.cellOf n
+      → cellOf (cellIn fixed v) ≡ paper.cellOf fixed n
   unfolding cellOf paper.cellOf paper.layoutsOf
-  made t zero r e h l s = absurd (omega arith)
-  made true (suc zero) r e h l s = rw (spelt 13 (omega arith) s, r, e)
-  made false (suc zero) r e h l s = rw (spelt 9 (omega arith) s, r, e)
-  made true (suc (suc zero)) r e h l s = rw (spelt 22 (omega arith) s, r, e)
-  made false (suc (suc zero)) r e h l s = rw (spelt 14 (omega arith) s, r, e)
-  made t (suc (suc (suc k))) r e h l s = absurd (omega arith)
+  made fixed t zero r e h l s = absurd (omega arith)
+  made fixed true (suc zero) r e h l s = rw (spelt 13 (omega arith) s, r, e)
+  made fixed false (suc zero) r e h l s = rw (spelt 9 (omega arith) s, r, e)
+  made fixed true (suc (suc zero)) r e h l s = rw (spelt 22 (omega arith) s, r, e)
+  made fixed false (suc (suc zero)) r e h l s = rw (spelt 14 (omega arith) s, r, e)
+  made fixed t (suc (suc (suc k))) r e h l s = absurd (omega arith)
 
-  pub cell-made : 1 ≤ paper.nth n 3 → paper.nth n 3 ≤ 2
-      → length n ≡ 4 + paper.nth n 3 * paper.layoutSize (paper.nth n 0) → cellOf (cellIn v) ≡ paper.cellOf n
-  cell-made h l s =
-      made (eqb (getD v 0 0) 2) (paper.nth n 3) refl (same 3 (omega arith)) h l (s ∙ rw (same 0 (omega arith)))
+  pub cell-made : (fixed : Bool) → 1 ≤ paper.nth n 3 → paper.nth n 3 ≤ 2
+      → length n ≡ 4 + paper.nth n 3 * paper.layoutSize (paper.nth n 0) → cellOf (cellIn fixed v) ≡ paper.cellOf fixed n
+  cell-made fixed h l s =
+      made fixed (eqb (getD v 0 0) 2) (paper.nth n 3) refl (same 3 (omega arith)) h l (s ∙ rw (same 0 (omega arith)))

@@ -30,9 +30,10 @@ layoutIn v at = record {
       ∷ [];
 }
 
--- the cell of a line; its second layout follows the first
-abbrev pub cellIn : List ℕ → Cell
-cellIn v = record {
+-- the cell of a line, fixed or not; its second layout follows the first
+abbrev pub cellIn : Bool → List ℕ → Cell
+cellIn fixed v = record {
+  fixed = fixed;
   row = getD v 0 0;
   given = getD v 1 0;
   mirrorable = eqb (getD v 2 0) 1;

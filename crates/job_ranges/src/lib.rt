@@ -60,14 +60,15 @@ fn layout_size(row: u32) -> usize
     5
 }
 
-pub fn cell_of(v: [u32; 24]) -> Cell
-    ensures { λ r. ⌜ r ≡ cellIn v ⌝ }
+pub fn cell_of(fixed: bool, v: [u32; 24]) -> Cell
+    ensures { λ r. ⌜ r ≡ cellIn fixed v ⌝ }
 {
     let row = v[0];
     let size = layout_size(row);
     let first = layout_at(v, 4);
     let second = layout_at(v, 4 + size);
     Cell {
+        fixed,
         row,
         given: v[1],
         mirrorable: v[2] == 1,

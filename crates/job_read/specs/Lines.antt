@@ -6,17 +6,18 @@ use mathlib.Core.Bool.{Bool, true, false, _&&_, cond, and-eq-true-iff}
 use mathlib.Core.List.{List, [], _∷_}
 use native.Mathlib.Omega.{arith}
 use lib.ListN.{length, getD, drop, length-drop, length-map}
+use lib.Seq.{drop-cons}
 use lib.Dec.{leb, ltb, eqb, leb·suc-suc, eqb·suc-suc}
 use borrow.Author.Tests.{ltb-true, leb-true, leb-false, eqb-true, ne-eqb}
 use Rattle.definition.specs.Lists.{all}
-use Rattle.definition.specs.Texts.{Text, fieldsOf, value, within}
+use Rattle.definition.specs.Texts.{Text, comma, fieldsOf, value, within}
 use Rattle.definition.specs.Job as paper
 use Rattle.job.specs.declared.Cell.{Cell}
 use Rattle.job.specs.declared.Header.{Header}
 use Rattle.job.specs.Value.{layoutsOf, cellOf, headerOf}
 use Rattle.job_laws.specs.Tests.{test-passed}
 use Rattle.text_scan.specs.Line.{firstLine}
-use Rattle.text_scan.specs.Lead.{led}
+use Rattle.text_scan.specs.Lead.{led, formed-either, formed-other}
 use Rattle.text_scan.specs.Found.{LedFrom}
 use Rattle.text_scan.specs.declared.Numbers.{Numbers}
 use Rattle.job_ranges.specs.Values.{cellIn, headerIn, listed}
@@ -103,7 +104,7 @@ module _ (lead : ℕ) (text : Text) (at : ℕ) (r : Numbers) (l : LedFrom lead t
   unfolding led
   fields-count e =
       let t =
-      and-eq-true-iff (paper.formed lead (lineAt text at)) (leb 2 (length (fieldsOf (lineAt text at)))) .0
+      and-eq-true-iff (paper.formed (lead ∷ []) (lineAt text at)) (leb 2 (length (fieldsOf (lineAt text at)))) .0
       (sym (l .ok) ∙ e) in
       omega (
         arith,
@@ -117,7 +118,7 @@ module _ (lead : ℕ) (text : Text) (at : ℕ) (r : Numbers) (l : LedFrom lead t
   first-test : (n : Bool) (p : ℕ → Bool)
       → (p (length (fieldsOf (lineAt text at))) ≡ true → 2 ≤ length (fieldsOf (lineAt text at)))
       → (suc (r .count) ≡ length (fieldsOf (lineAt text at)) → n ≡ p (length (fieldsOf (lineAt text at))))
-      → r .ok && n ≡ paper.formed lead (lineAt text at) && p (length (fieldsOf (lineAt text at)))
+      → r .ok && n ≡ paper.formed (lead ∷ []) (lineAt text at) && p (length (fieldsOf (lineAt text at)))
   unfolding led
   first-test n p h e = go (r .ok) refl
     where
@@ -129,14 +130,14 @@ module _ (lead : ℕ) (text : Text) (at : ℕ) (r : Numbers) (l : LedFrom lead t
       none false u q k = refl
 
       go : (o : Bool) → r .ok ≡ o
-          → r .ok && n ≡ paper.formed lead (lineAt text at) && p (length (fieldsOf (lineAt text at)))
+          → r .ok && n ≡ paper.formed (lead ∷ []) (lineAt text at) && p (length (fieldsOf (lineAt text at)))
       go true q =
           let t =
-          and-eq-true-iff (paper.formed lead (lineAt text at)) (leb 2 (length (fieldsOf (lineAt text at)))) .0
+          and-eq-true-iff (paper.formed (lead ∷ []) (lineAt text at)) (leb 2 (length (fieldsOf (lineAt text at)))) .0
           (sym (l .ok) ∙ q) in
           rw (q, t .0) (e (fields-count q))
       go false q =
-          rw q (none (paper.formed lead (lineAt text at)) (p (length (fieldsOf (lineAt text at)))) (sym (l .ok) ∙ q) h)
+          rw q (none (paper.formed (lead ∷ []) (lineAt text at)) (p (length (fieldsOf (lineAt text at)))) (sym (l .ok) ∙ q) h)
 
   numbers-count : (e : r .ok ≡ true) → length (paper.numbersOf (lineAt text at)) ≡ r .count
   numbers-count e = length-map (drop 1 (fieldsOf (lineAt text at))) value ∙ sym (l .found e .count)
@@ -145,7 +146,7 @@ module _ (lead : ℕ) (text : Text) (at : ℕ) (r : Numbers) (l : LedFrom lead t
 
 module _ (text : Text) (at : ℕ) (r : Numbers) (l : LedFrom paper.headerLead text at r) where
   head-first : r .ok && eqb (r .count) 8
-      ≡ paper.formed paper.headerLead (lineAt text at) && eqb (length (fieldsOf (lineAt text at))) 9
+      ≡ paper.formed (paper.headerLead ∷ []) (lineAt text at) && eqb (length (fieldsOf (lineAt text at))) 9
   head-first =
       first-test paper.headerLead text at r l (eqb (r .count) 8) (λ n. eqb n 9)
       (λ e. let q = eqb-true (length (fieldsOf (lineAt text at))) 9 e in omega arith)
@@ -177,13 +178,47 @@ module _ (text : Text) (at : ℕ) (r : Numbers) (l : LedFrom paper.headerLead te
 
 -- ---- a cell line
 
-module _ (text : Text) (at : ℕ) (r : Numbers) (l : LedFrom paper.cellLead text at r) where
+-- the line begins with F
+abbrev pub beginsFixed : Text → ℕ → Bool
+beginsFixed text at = eqb (getD text at 0) paper.fixedLead
+
+-- its lead, by the byte that it begins with
+abbrev pub leadAt : Bool → ℕ
+leadAt fixed = cond fixed paper.fixedLead paper.cellLead
+
+pub lead-high : (fixed : Bool) → comma < leadAt fixed
+lead-high true = omega arith
+lead-high false = omega arith
+
+module _ (text : Text) (at : ℕ) (r : Numbers) (there : at < length text)
+    (l : LedFrom (leadAt (beginsFixed text at)) text at r) where
+  abbrev fixed : Bool
+  fixed = beginsFixed text at
+
+  lead-same : paper.formed (leadAt fixed ∷ []) (lineAt text at)
+      ≡ paper.formed (paper.cellLead ∷ paper.fixedLead ∷ []) (lineAt text at)
+  lead-same =
+      rw (drop-cons text at 0 there)
+      (formed-either paper.cellLead paper.fixedLead (getD text at 0) (drop (suc at) text))
+
+  fixed-same : r .ok ≡ true → paper.ledBy (paper.fixedLead ∷ []) (lineAt text at) ≡ fixed
+  unfolding led
+  fixed-same o =
+      let e =
+      and-eq-true-iff (paper.formed (leadAt fixed ∷ []) (lineAt text at))
+      (leb 2 (length (fieldsOf (lineAt text at)))) .0 (sym (l .ok) ∙ o) .0 in
+      let f = rw (drop-cons text at 0 there) at (sym lead-same ∙ e) in
+      rw (drop-cons text at 0 there)
+      (formed-other paper.cellLead paper.fixedLead (getD text at 0) (drop (suc at) text) f)
+
   cell-first : r .ok && leb 4 (r .count)
-      ≡ paper.formed paper.cellLead (lineAt text at) && leb 5 (length (fieldsOf (lineAt text at)))
+      ≡ paper.formed (paper.cellLead ∷ paper.fixedLead ∷ []) (lineAt text at)
+      && leb 5 (length (fieldsOf (lineAt text at)))
   cell-first =
-      first-test paper.cellLead text at r l (leb 4 (r .count)) (λ n. leb 5 n)
+      first-test (leadAt fixed) text at r l (leb 4 (r .count)) (λ n. leb 5 n)
       (λ e. let q = leb-true 5 (length (fieldsOf (lineAt text at))) e in omega arith)
       (λ e. sym (leb·suc-suc 4 (r .count)) ∙ ap (λ (n : ℕ). leb 5 n) e)
+      ∙ ap (λ t. t && leb 5 (length (fieldsOf (lineAt text at)))) lead-same
 
   abbrev numbers : List ℕ
   numbers = paper.numbersOf (lineAt text at)
@@ -191,21 +226,21 @@ module _ (text : Text) (at : ℕ) (r : Numbers) (l : LedFrom paper.cellLead text
   -- the cell of a line whose field count fits its row and layouts
   made : r .ok ≡ true → within 1 2 (getD (r .values) 3 0) ≡ true
       → eqb (r .count) (4 + getD (r .values) 3 0 * paper.layoutSize (getD (r .values) 0 0)) ≡ true
-      → cellOf (cellIn (r .values)) ≡ paper.cellOf numbers
+      → cellOf (cellIn fixed (r .values)) ≡ paper.cellOf fixed numbers
   made o w e =
       let v = l .found o .values in
       let k = getD (r .values) 3 0 in
       let b = and-eq-true-iff (leb 1 k) (leb k 2) .0 w in
       let v3 = v 3 (omega arith) in
       let size =
-      numbers-count paper.cellLead text at r l o
+      numbers-count (leadAt fixed) text at r l o
       ∙ eqb-true (r .count) (4 + k * paper.layoutSize (getD (r .values) 0 0)) e in
-      cell-made numbers (r .values) v (omega (arith, v3, leb-true 1 k (b .0)))
+      cell-made numbers (r .values) v fixed (omega (arith, v3, leb-true 1 k (b .0)))
       (omega (arith, v3, leb-true k 2 (b .1)))
       (size ∙ rw (v3, v 0 (omega arith)))
 
   pub cell-number : (t : Tally) (j : paper.Job) → Tallies j t
-      → cellNumber t (r .ok) (r .count) (getD (r .values) 2 0) (cellIn (r .values))
+      → cellNumber t (r .ok) (r .count) (getD (r .values) 2 0) (cellIn fixed (r .values))
       ≡ paper.cellRefusal j (lineAt text at)
   unfolding cellNumber paper.cellRefusal paper.restInRange paper.cellOf cellOf
   cell-number t j s =
@@ -217,25 +252,25 @@ module _ (text : Text) (at : ℕ) (r : Numbers) (l : LedFrom paper.cellLead text
       let v3 = v 3 (omega arith) in
       test-same 2 _ _ _ _ (rw (v0, v3, s .rows))
       (λ e2.
-      test-same 1 _ _ _ _ (rw (v0, v3, numbers-count paper.cellLead text at r l o))
+      test-same 1 _ _ _ _ (rw (v0, v3, numbers-count (leadAt fixed) text at r l o))
       (λ e3.
       let c =
       made o
       (and-eq-true-iff (leb (getD (r .values) 0 0) (cond (eqb (t .rows) 2) 2 0))
       (within 1 2 (getD (r .values) 3 0)) .0 e2 .1) e3 in
-      let m : layoutsOf (cellIn (r .values)) ≡ paper.cellOf numbers .layouts = ap (λ (x : paper.Cell). x .layouts) c in
+      let m : layoutsOf (cellIn fixed (r .values)) ≡ paper.cellOf fixed numbers .layouts = ap (λ (x : paper.Cell). x .layouts) c in
       test-same 2 _ _ _ _ (rw (m, v 1 (omega arith), v 2 (omega arith)))
-      (λ e4. test-same 3 _ _ _ _ (ap (room t) v0 ∙ room-cells s (paper.cellOf numbers))
-      (λ e5. test-same 4 _ _ _ _ (rw (v0, v 1 (omega arith)) (rises-tally s (paper.cellOf numbers)))
+      (λ e4. test-same 3 _ _ _ _ (ap (room t) v0 ∙ room-cells s (paper.cellIn (lineAt text at)))
+      (λ e5. test-same 4 _ _ _ _ (rw (v0, v 1 (omega arith)) (rises-tally s (paper.cellIn (lineAt text at))))
       (λ e6. refl))))))
 
   -- what a line that is not refused says
   pub record Passed (t : Tally) : Type 0 where
     pub ok : r .ok ≡ true
-    pub cell : cellOf (cellIn (r .values)) ≡ paper.cellOf numbers
+    pub cell : cellOf (cellIn fixed (r .values)) ≡ paper.cellIn (lineAt text at)
     pub few : t .count < paper.maxCells
 
-  pub cell-passed : (t : Tally) → cellNumber t (r .ok) (r .count) (getD (r .values) 2 0) (cellIn (r .values)) ≡ 0
+  pub cell-passed : (t : Tally) → cellNumber t (r .ok) (r .count) (getD (r .values) 2 0) (cellIn fixed (r .values)) ≡ 0
       → Passed t
   unfolding cellNumber
   cell-passed t e =
@@ -251,6 +286,7 @@ module _ (text : Text) (at : ℕ) (r : Numbers) (l : LedFrom paper.cellLead text
             made o
             (and-eq-true-iff (leb (getD (r .values) 0 0) (cond (eqb (t .rows) 2) 2 0))
             (within 1 2 (getD (r .values) 3 0)) .0 (p2 .0) .1)
-            (p3 .0);
+            (p3 .0)
+            ∙ ap (λ t. paper.cellOf t numbers) (sym (fixed-same o));
         few = ltb-true (t .count) paper.maxCells (and-eq-true-iff (ltb (t .count) paper.maxCells) _ .0 (p5 .0) .0);
       }

@@ -8,7 +8,7 @@ ghost use Rattle.definition.specs.Job.{readJob, readCells, maxCells};
 ghost use Rattle.definition_laws.specs.Sound.{SoundHeader};
 ghost use Rattle.job.specs.Value.{headerOf};
 ghost use Rattle.job_read.specs.Rows.{tallyWith, room, rises};
-ghost use Rattle.job_read.specs.Lines.{later, headNumber, cellNumber};
+ghost use Rattle.job_read.specs.Lines.{later, headNumber, cellNumber, leadAt};
 ghost use Rattle.job_read.specs.Reads.{HeadLine, CellLine, begun, Reads};
 use job::Cell;
 use job::Header;
@@ -128,13 +128,25 @@ fn cell_refusal(t: Tally, ok: bool, count: usize, mark: u32, c: Cell) -> u32
     tried(n, rises, 4)
 }
 
+// The lead of a cell line: F if the cell is fixed.
+fn lead_of(fixed: bool) -> u8
+    ensures { λ r. ⌜ r ≡ leadAt fixed ⌝ }
+{
+    if fixed {
+        return b'F';
+    }
+    b'C'
+}
+
 fn cell_line(text: &[u8], at: usize, t: Tally) -> Line
     requires { ⌜ at < length (now text) ⌝ }
     ensures { λ r. ⌜ CellLine (now (text .entry)) at t r ⌝ }
 {
-    let f = read_led(text, at, b'C');
+    let fixed = text[at] == b'F';
+    let lead = lead_of(fixed);
+    let f = read_led(text, at, lead);
     let v = f.values;
-    let cell = cell_of(v);
+    let cell = cell_of(fixed, v);
     let number = cell_refusal(t, f.ok, f.count, v[2], cell);
     Line {
         number,

@@ -19,14 +19,14 @@ add-layout-at c = omega arith
 layout-at-requires-2 : tie.Need-layout-at-requires-2
 layout-at-requires-2 c κs = omega arith
 
-array-read-t9 : tie.Need-array-read-t9
-array-read-t9 c = search needs
+array-read-t10 : tie.Need-array-read-t10
+array-read-t10 c = search needs
 
-array-read-t16 : tie.Need-array-read-t16
-array-read-t16 c = search needs
+array-read-t17 : tie.Need-array-read-t17
+array-read-t17 c = search needs
 
-array-read-t20 : tie.Need-array-read-t20
-array-read-t20 c = search needs
+array-read-t21 : tie.Need-array-read-t21
+array-read-t21 c = search needs
 
 returns : tie.Need-returns
 returns c = rw (c .before .layout-at .ensures, c .layout-at2 .ensures, c .before .before .layout-size .ensures .0)
@@ -40,7 +40,7 @@ cell-of-spec =
     layout-at-requires
     add-layout-at
     layout-at-requires-2
-    array-read-t9
-    array-read-t16
-    array-read-t20
+    array-read-t10
+    array-read-t17
+    array-read-t21
     returns)

@@ -3,13 +3,22 @@ use mathlib.Core.Path.{_≡_, sym, ap, _∙_}
 use lib.ListN.{getD}
 use Rattle.job.specs.Value.{cellOf}
 use Rattle.job_ranges.specs.Values.{cellIn}
-use Rattle.job_read.specs.Lines.{cellNumber, cell-few, cell-number, cell-passed}
+use Rattle.text_scan.specs.Found.{LedFrom}
+use Rattle.job_read.specs.Lines.{cellNumber, cell-few, beginsFixed, leadAt, lead-high, cell-number, cell-passed}
 use borrow.Author.Needs.{needs}
 use Rattle.job_read.proofs.cell_line.Statement.{statement}
 use Rattle.job_read.proofs.cell_line.Tie as tie
 
+shared-slice-read-fixed : tie.Need-shared-slice-read-fixed
+shared-slice-read-fixed c = search needs
+
+lead-of-requires : tie.Need-lead-of-requires
+lead-of-requires c κs = search needs
+
 read-led-requires : tie.Need-read-led-requires
-read-led-requires c κs = search needs
+read-led-requires c κs =
+    let a = c .before .before .before in
+    (a .pre, rw (c .lead-of .ensures) (lead-high (beginsFixed (a .args .text .now) (a .args .at))))
 
 cell-of-requires : tie.Need-cell-of-requires
 cell-of-requires c κs = search needs
@@ -22,18 +31,21 @@ cell-refusal-requires c κs = search needs
 
 returns : tie.Need-returns
 returns c =
-    let mid = c .before .before .before .before in
-    let a = mid .before .args in
-    let f = c .before .before .before .read-led in
-    let r = f .result in
-    let n : c .cell-refusal .result ≡ cellNumber (a .t) (r .ok) (r .count) (getD (r .values) 2 0) (cellIn (r .values)) =
+    let read = c .before .before .before in
+    let lead = read .before in
+    let k = lead .before .before .before in
+    let a = k .args in
+    let fixed = beginsFixed (a .text .now) (a .at) in
+    let r = read .read-led .result in
+    let f : LedFrom (leadAt fixed) (a .text .now) (a .at) r = rw (lead .lead-of .ensures) at (read .read-led .ensures) in
+    let n : c .cell-refusal .result ≡ cellNumber (a .t) (r .ok) (r .count) (getD (r .values) 2 0) (cellIn fixed (r .values)) =
     c .cell-refusal .ensures ∙ ap (cellNumber (a .t) (r .ok) (r .count) (getD (r .values) 2 0)) (c .before .cell-of .ensures) in
     record {
-      number = λ j s. n ∙ cell-number (a .text .now) (a .at) r (f .ensures) (a .t) j s;
-      few = rw n (cell-few (a .t) (r .ok) (r .count) (getD (r .values) 2 0) (cellIn (r .values)));
+      number = λ j s. n ∙ cell-number (a .text .now) (a .at) r (k .pre) f (a .t) j s;
+      few = rw n (cell-few (a .t) (r .ok) (r .count) (getD (r .values) 2 0) (cellIn fixed (r .values)));
       read = λ e.
-          let p = cell-passed (a .text .now) (a .at) r (f .ensures) (a .t) (sym n ∙ e) in
-          let g = f .ensures .found (p .ok) in
+          let p = cell-passed (a .text .now) (a .at) r (k .pre) f (a .t) (sym n ∙ e) in
+          let g = f .found (p .ok) in
           record { past = g .past; within = g .within; rest = g .rest; cell = ap cellOf (c .before .cell-of .ensures) ∙ p .cell; room = p .few };
     }
 
@@ -41,6 +53,8 @@ pub cell-line-spec : {M : Type 1} → statement M
 cell-line-spec =
     tie.close
     (tie.spec
+    shared-slice-read-fixed
+    lead-of-requires
     read-led-requires
     cell-of-requires
     array-read-cell-refusal
