@@ -8,7 +8,7 @@ use lib.ListN.{length, getD, take, set, length-set, length-map}
 use lib.Seq.{getD-set-same, getD-set-other, ext-getD, length-take-le}
 use Rattle.definition.specs.Job.{maxCells, maxGiven}
 use Rattle.definition.specs.Placement as text
-use Rattle.definition.specs.Rules.{cellAt, noPose}
+use Rattle.definition.specs.Rules.{Offer, offerOf, noPose}
 use Rattle.job.specs.declared.Pose.{Pose}
 use Rattle.job.specs.declared.Job.{Job}
 use Rattle.job.specs.declared.Placement.{Placement}
@@ -21,9 +21,9 @@ use Rattle.search_job.specs.Solved.{numbersIn}
 use Rattle.job.specs.Accepted.{Accepted}
 use Rattle.op_place.specs.Accepted.{placementIn}
 
--- pose number a of a cell with that given site
-pub record PoseBy (displacement given a : ℕ) (p : Pose) : Type 0 where
-  pub site : p .site ≡ given + a / 4 - displacement
+-- pose number a of a cell with that limit and given site
+pub record PoseBy (limit given a : ℕ) (p : Pose) : Type 0 where
+  pub site : p .site ≡ given + a / 4 - limit
   pub layout : p .layout ≡ a % 4 / 2
   pub mark : p .mark ≡ a % 2
 
@@ -48,18 +48,22 @@ module _ (job : Job) (poses : List ℕ) where
   unfolding cellOf
   given-low t k h = let e = cell-there job k h in let s = t .sound .cell k (omega (arith, t .many)) .given in rw e at s
 
+  -- what cell k is offered, by value
+  abbrev offered : ℕ → Offer
+  offered k = offerOf (headerOf (job .header)) (cellOf (value.cellAt job k))
+
   pose-numbered : (k : ℕ) (p : Pose) → k < job .count
-      → PoseBy (job .header .displacement) (value.cellAt job k .given) (numbersIn poses k) p
+      → PoseBy (offered k .limit) (value.cellAt job k .given) (numbersIn poses k) p
       → poseOf p ≡ poseNumber (jobOf job) k (numbersIn poses k)
-  unfolding poseNumber jobOf headerOf cellOf
+  unfolding poseNumber jobOf cellOf
   pose-numbered k p h b =
-      let e : cellAt (jobOf job) k .given ≡ value.cellAt job k .given = ap (λ c. c .given) (cell-there job k h) in
       pose-same (poseOf p) (poseNumber (jobOf job) k (numbersIn poses k))
-      (b .site ∙ ap (λ g. g + numbersIn poses k / 4 - job .header .displacement) (sym e))
+      (b .site ∙ ap (λ c. c .given + numbersIn poses k / 4 - offerOf (headerOf (job .header)) c .limit)
+      (sym (cell-there job k h)))
       (b .layout) (b .mark)
 
   pub sofar-more : {P : Placement} {k : ℕ} {p : Pose} → Sofar job poses P k → k < job .count → job .count ≤ maxCells
-      → PoseBy (job .header .displacement) (value.cellAt job k .given) (numbersIn poses k) p
+      → PoseBy (offered k .limit) (value.cellAt job k .given) (numbersIn poses k) p
       → Sofar job poses (record { count = P .count; poses = set (P .poses) k p }) (k + 1)
   sofar-more {P} {k} {p} s h few b =
       record { count = s .count; long = simp length-set (s .long); done = λ i l. go i l (ℕ-discrete i k) }

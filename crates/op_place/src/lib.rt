@@ -36,15 +36,15 @@ const LINE_BYTES: usize = 9;
 // The numbers and the text's length.
 const FIELDS: usize = Numbers::COUNT + 1;
 
-// A pose by its number: a site within the displacement, a layout, a mark.
-fn pose_of(displacement: u32, cell: Cell, a: u32) -> Pose
+// A pose by its number: a site within the cell's limit, a layout, a mark.
+fn pose_of(limit: u32, cell: Cell, a: u32) -> Pose
     requires { ⌜ (cell .given ≤ maxGiven) × (a < 64) ⌝ }
-    ensures { λ r. ⌜ PoseBy displacement (cell .given) a r ⌝ }
+    ensures { λ r. ⌜ PoseBy limit (cell .given) a r ⌝ }
 {
     let x = cell.given + a / 4;
     let layout = a % 4 / 2;
     let mark = a % 2;
-    if x < displacement {
+    if x < limit {
         return Pose {
             site: 0,
             layout,
@@ -52,7 +52,7 @@ fn pose_of(displacement: u32, cell: Cell, a: u32) -> Pose
         };
     }
     Pose {
-        site: x - displacement,
+        site: x - limit,
         layout,
         mark,
     }
@@ -66,12 +66,13 @@ fn placement_of(job: Job, poses: [u32; Job::MAX_CELLS]) -> Placement
     let mut placement = Placement::empty();
     let count = job.count;
     placement.count = count;
-    let displacement = job.header.displacement;
+    let header = job.header;
     let mut k: usize = 0;
     while k < count {
         let cell = job.cells[k];
         let a = poses[k];
-        let pose = pose_of(displacement, cell, a);
+        let offer = job::offer_of(header, cell);
+        let pose = pose_of(offer.limit, cell, a);
         placement.poses[k] = pose;
         k += 1;
     }

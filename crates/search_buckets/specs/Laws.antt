@@ -15,7 +15,7 @@ use Rattle.theory_pair.specs.Coded.{lowest, lowest-low}
 use Rattle.theory_tables.specs.Steps.{B, Layer, stateCount, lastAt, isSource, via, reached}
 use Rattle.theory_tables.specs.Lowest.{lowest-member, lowest-above, loop-member, loop-above}
 use Rattle.search_row.specs.Words.{wordOf, variant, endIn, differIn, weightIn, tollAt}
-use Rattle.search_row.specs.Words.{tollIn, deckOf, RowWords, apartWord, givenWord, touchingWord}
+use Rattle.search_row.specs.Words.{tollIn, deckOf, RowWords, apartWord, firstWord, touchingWord}
 use Rattle.search_row.specs.Laws.{differ-low, pay-low}
 use Rattle.search_buckets.specs.Loops.{lowest-cap, lowest-same, lowest-min, lowest-swap}
 use Rattle.search_buckets.specs.Gaps.{paying, paying-low, Toll, pays, free, barred, toll?}
@@ -198,7 +198,7 @@ module _ (row : List ℕ) (k b m : ℕ) where
 pub found-one : (row : List ℕ) (k b m a c : ℕ) → min (c + tollIn row k b m a) B ≡ found (onePose row k m b c) a
 unfolding tollIn found endRow
 found-one row k b m a c =
-    found-toll (wordOf row m givenWord) (a / 4) (endIn row k b) c (λ gap. weightIn row m gap * differIn row k b m a)
+    found-toll (wordOf row m firstWord) (a / 4) (endIn row k b) c (λ gap. weightIn row m gap * differIn row k b m a)
     (λ gap. onePose row k m b c (bucketIn 5 gap (a % 4))) (onePose row k m b c 0)
     (λ gap t. ap (λ (z : ℕ). inRow (endRow row k b m) t (c + z)) (pay-bucket row k b m gap a))
     (λ t. ap (λ (z : ℕ). inRow (endRow row k b m) t z) (let e = pay-none row k b m in omega arith))

@@ -11,7 +11,7 @@ use lib.Dec.{ltb, eqb}
 use Rattle.lists.specs.Numbers.{from}
 use Rattle.theory_pair.specs.Coded.{lowest}
 use Rattle.theory_tables.specs.Steps.{B, Deck, Layer, lastAt, isSource}
-use Rattle.search_row.specs.Words.{wordOf, endIn, differIn, apartWord, givenWord, touchingWord, RowWords}
+use Rattle.search_row.specs.Words.{wordOf, endIn, differIn, apartWord, firstWord, touchingWord, RowWords}
 use Rattle.search_buckets.specs.Gaps.{paying}
 
 -- what a source in row r that costs c is in row t
@@ -42,7 +42,7 @@ rowsOf poses = (poses + 3) / 4 + 4
 
 -- the row in which pose b of the cell at position k counts for the cell at position m
 unfoldable pub endRow : List ℕ → ℕ → ℕ → ℕ → ℕ
-endRow row k b m = endIn row k b + 4 - wordOf row m givenWord
+endRow row k b m = endIn row k b + 4 - wordOf row m firstWord
 
 -- what pose b of k pays in bucket v of m: by the variant of m that the bucket is for, in bucket 0 nothing
 unfoldable pub payIn : List ℕ → ℕ → ℕ → ℕ → ℕ → ℕ

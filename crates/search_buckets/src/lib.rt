@@ -22,7 +22,7 @@ pub fn end_row(row: &[u32], k: usize, b: usize, m: usize) -> usize
     ensures { λ t. ⌜ t ≡ endRow (now (row .entry)) k b m ⌝ }
 {
     let y = search_row::end(row, k, b) + 4;
-    let first = search_row::word(row, m * search_row::CELL + search_row::GIVEN);
+    let first = search_row::word(row, m * search_row::CELL + search_row::FIRST);
     if y < first {
         return 0;
     }

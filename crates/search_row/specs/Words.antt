@@ -25,12 +25,13 @@ tallsFrom = 8256
 abbrev pub rowLength : ℕ
 rowLength = 8288
 
--- The words of a cell: first what it costs by pose (B: not offered); then its given site, the widths of its layouts,
--- whether it is tall; by variant (2 layout + mark) its heights left P, left N, right P, right N; the weight of a step
--- where it touches the cell on its left, its number, and the weight of a step at every other gap; the site where it may
--- not stand as the first of its row, and the end that it may not have as the last, both with D added.
-abbrev pub givenWord : ℕ
-givenWord = 64
+-- The words of a cell: first what it costs by pose (B: not offered); then the site of its pose number 0, with D added;
+-- the widths of its layouts, whether it is tall; by variant (2 layout + mark) its heights left P, left N, right P, right
+-- N; the weight of a step where it touches the cell on its left, its number, and the weight of a step at every other
+-- gap; the site where it may not stand as the first of its row, and the end that it may not have as the last, both with
+-- D added.
+abbrev pub firstWord : ℕ
+firstWord = 64
 
 abbrev pub widthWord : ℕ
 widthWord = 65
@@ -78,7 +79,7 @@ variant a = a % 4
 
 -- the left site of pose a, and the first site right of pose b; both with D added
 abbrev pub siteIn : List ℕ → ℕ → ℕ → ℕ
-siteIn row k a = wordOf row k givenWord + a / 4
+siteIn row k a = wordOf row k firstWord + a / 4
 
 abbrev pub endIn : List ℕ → ℕ → ℕ → ℕ
 endIn row k b = siteIn row k b + wordOf row k (widthWord + variant b / 2)

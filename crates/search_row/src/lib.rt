@@ -21,7 +21,7 @@ pub const TALLS: usize = 8256;
 pub const WORDS: usize = 8288;
 
 // The words of a cell after its costs by pose; the heights have one for each variant.
-pub const GIVEN: usize = 64;
+pub const FIRST: usize = 64;
 
 pub const WIDTH: usize = 65;
 
@@ -124,7 +124,7 @@ pub fn site(row: &[u32], k: usize, a: usize) -> usize
     requires { ⌜ PoseAt (now row) k a ⌝ }
     ensures { λ x. ⌜ x ≡ siteIn (now (row .entry)) k a ⌝ }
 {
-    word(row, k * CELL + GIVEN) + a / 4
+    word(row, k * CELL + FIRST) + a / 4
 }
 
 // The first site right of it.

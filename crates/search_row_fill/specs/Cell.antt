@@ -13,9 +13,10 @@ use Rattle.lists.specs.Compare.{Eq?, same, differs, eq?}
 use Rattle.theory_bridge.specs.Paired.{isOffered, poseNumber, widthOf, ownOf, leftOf, rightOf}
 use Rattle.job.specs.Parts.{widthIn, heightIn}
 use Rattle.search_row.specs.Words as words
-use Rattle.search_row.specs.Words.{variant, givenWord, widthWord, tallWord, touchingWord, numberWord, apartWord}
+use Rattle.search_row.specs.Words.{variant, firstWord, widthWord, tallWord, touchingWord, numberWord, apartWord}
 use Rattle.search_row.specs.Words.{frontBarred, backBarred, wordsUsed}
-use Rattle.search_row_fill.specs.Words.{alone, edge, ownWord, shapeWord, heightWord, endWord, cellWord}
+use Rattle.search_row_fill.specs.Words.{alone, edge, ownWord, firstSite, shapeWord, heightWord, endWord}
+use Rattle.search_row_fill.specs.Words.{cellWord}
 
 -- ---- a cell alone
 
@@ -27,7 +28,7 @@ word-alone j row k i = refl
 
 pub record CellWords (j : Job) (row k : ℕ) (word : ℕ → ℕ) : Type 0 where
   pub own : (a : ℕ) → a < 60 → word a ≡ ownWord j row k a
-  pub given : word givenWord ≡ cellAt j k .given
+  pub first : word firstWord ≡ firstSite j k
   pub width : (a : ℕ) → word (widthWord + variant a / 2) ≡ widthOf j k (poseNumber j k a)
   pub tall : word tallWord ≡ cond (isTall (cellAt j k)) 1 0
   pub leftP : (a : ℕ) → word (words.leftP + variant a) ≡ leftOf j row k (poseNumber j k a) 0
@@ -118,13 +119,13 @@ module _ (j : Job) (row k : ℕ) where
       (place-right (firstHeight j row k) type a h)
 
   module _ (n : ℕ) where
-    pub own-at : (a : ℕ) → a < givenWord → cellWord j row k n a ≡ ownWord j row k a
+    pub own-at : (a : ℕ) → a < firstWord → cellWord j row k n a ≡ ownWord j row k a
     unfolding cellWord
-    own-at a h = rw (lt-ltb a givenWord h)
+    own-at a h = rw (lt-ltb a firstWord h)
 
-    pub shape-at : (i : ℕ) → givenWord ≤ i → i < words.leftP → cellWord j row k n i ≡ shapeWord j k i
+    pub shape-at : (i : ℕ) → firstWord ≤ i → i < words.leftP → cellWord j row k n i ≡ shapeWord j k i
     unfolding cellWord
-    shape-at i g h = rw (le-ltb i givenWord g, lt-ltb i words.leftP h)
+    shape-at i g h = rw (le-ltb i firstWord g, lt-ltb i words.leftP h)
 
     pub step-at : (i : ℕ) → i ≡ touchingWord → cellWord j row k n i ≡ j .header .stepWeight
     unfolding cellWord
@@ -142,7 +143,7 @@ module _ (j : Job) (row k : ℕ) where
     unfolding cellWord
     end-at i h =
         rw (
-          le-ltb i givenWord (omega arith),
+          le-ltb i firstWord (omega arith),
           le-ltb i words.leftP (omega arith),
           le-ltb i touchingWord (omega arith),
           ne-eqb i touchingWord (λ e. omega arith),
@@ -161,7 +162,7 @@ module _ (j : Job) (row k : ℕ) where
     height-at i u q h =
         let e : i - words.leftP ≡ u = omega arith in
         rw (
-          le-ltb i givenWord (omega arith),
+          le-ltb i firstWord (omega arith),
           le-ltb i words.leftP (omega arith),
           lt-ltb i touchingWord (omega arith),
           e,
@@ -171,7 +172,7 @@ module _ (j : Job) (row k : ℕ) where
   unfolding cellWord shapeWord endWord widthOf poseNumber
   cell-words word w = record {
     own = λ a h. w a (omega arith) ∙ own-at k a (omega arith);
-    given = w givenWord (lit≤ tt);
+    first = w firstWord (lit≤ tt);
     width = λ a. w (widthWord + a % 4 / 2) (omega arith) ∙ width-at k (a % 4 / 2) (omega arith);
     tall = w tallWord (lit≤ tt);
     leftP = λ a. height words.leftP 0 a refl (lit≤ tt) ∙ left-word 0 a (lit≤ tt);

@@ -9,15 +9,21 @@ use Rattle.job.specs.declared.Header.{Header}
 use Rattle.job.specs.declared.Cell.{Cell}
 use Rattle.job.specs.Accepted.{Accepted}
 use Rattle.search_lanes.specs.Store.{Low}
-use Rattle.search_row.specs.Words.{rowLength, statesFrom, cellWords}
-use Rattle.search_row_fill.specs.Values.{Ranged}
+use Rattle.search_row.specs.Words.{rowLength, statesFrom, cellWords, firstWord, leftP}
+use Rattle.search_row_fill.specs.Values.{Ranged, offered}
 use Rattle.search_row_fill.specs.TallWords.{tallsIn, TallsUpto}
 
 -- a pose number of a cell whose site is not left of site 0
 pub record PoseRight (header : Header) (cell : Cell) (a : ℕ) : Type 0 where
   pub ranged : Ranged header cell
   pub few : a < 64
-  pub right : header .displacement ≤ cell .given + a / 4
+  pub right : offered header cell .limit ≤ cell .given + a / 4
+
+-- one of its words between its costs and its heights
+pub record ShapeAt (header : Header) (cell : Cell) (i : ℕ) : Type 0 where
+  pub ranged : Ranged header cell
+  pub from : firstWord ≤ i
+  pub to : i < leftP
 
 -- a cell that is to be written, in row 0 or 1, and its number
 pub record CellPut (header : Header) (cell : Cell) (side number : ℕ) : Type 0 where

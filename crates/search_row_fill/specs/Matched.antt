@@ -16,6 +16,7 @@ use Rattle.definition.specs.Job as job
 use Rattle.definition.specs.Rules.{cellAt}
 use Rattle.definition.specs.Cost.{charge}
 use Rattle.definition_laws.specs.Sound.{Sound}
+use Rattle.definition_laws.specs.Offers.{limit-within}
 use Rattle.lists.specs.Compare.{Eq?, same, differs, eq?, Le?, high, le?}
 use Rattle.theory_pair.specs.Cells.{Side, row₀, row₁, isTall, ownIn, members, cell, line}
 use Rattle.theory_pair.specs.Members.{at-in}
@@ -90,9 +91,11 @@ module _ (j : Job) (s : Side) (l : List ℕ) (k m : ℕ) (b a : ℕ) (K M : ℕ)
   sites p q =
       let x = offered-low j K b p in
       let y = offered-low j M a q in
-      let e = w .given in
-      let f = v .given in
+      let e = w .first in
+      let f = v .first in
       let g = w .width b in
+      let near = limit-within (j .header) (cellAt j K) in
+      let next = limit-within (j .header) (cellAt j M) in
       (omega arith, omega arith)
 
   pays : isOffered j K b ≡ true → isOffered j M a ≡ true
@@ -174,18 +177,20 @@ module _ (j : Job) (sound : Sound j) (s : Side) (l : List ℕ) (n : ℕ) (w : Ro
     front-same =
         let v = words-at p h in
         let low = offered-low j k a o in
+        let within = limit-within (j .header) (cellAt j k) in
         end-toll (siteIn l p a) (wordOf l p frontBarred) (poseNumber j k a .site)
-        (λ e. omega (arith, v .given, v .front), λ e. omega (arith, v .given, v .front))
+        (λ e. omega (arith, v .first, v .front), λ e. omega (arith, v .first, v .front))
 
     back-same : backIn l p a ≡ cond (line (pairJob j) s .closes p (poseNumber j k a)) 0 B
     unfolding backIn poseNumber
     back-same =
         let v = words-at p h in
         let low = offered-low j k a o in
+        let within = limit-within (j .header) (cellAt j k) in
         let some = sound .header .someSites in
         end-toll (endIn l p a) (wordOf l p backBarred)
         (j .header .sites - (poseNumber j k a .site + widthOf j k (poseNumber j k a)))
-        (λ e. omega (arith, v .given, v .width a, v .back), λ e. omega (arith, v .given, v .width a, v .back))
+        (λ e. omega (arith, v .first, v .width a, v .back), λ e. omega (arith, v .first, v .width a, v .back))
 
   pub matched : Matched siteOf (line (pairJob j) s) (deckOf l n (poseNumbers j))
       (λ p a. poseNumber j (cell (pairJob j) s p) a) (λ p a. isOffered j (cell (pairJob j) s p) a)

@@ -9,8 +9,9 @@ use lib.Dec.{leb, ltb, eqb}
 use Rattle.definition.specs.Job as paper
 use Rattle.definition.specs.Job.{maxSites, maxDisplacement}
 use Rattle.definition.specs.Placement.{Pose}
-use Rattle.definition.specs.Rules.{noLayout, apart, offerOf, choiceOffered, siteOffered}
+use Rattle.definition.specs.Rules.{Offer, noLayout, apart, offerOf, choiceOffered, siteOffered}
 use Rattle.definition_laws.specs.Sound.{SoundHeader, SoundCell}
+use Rattle.definition_laws.specs.Offers.{limit-within}
 use Rattle.lists.specs.Compare.{Eq?, same, differs, eq?, Le?, low, high, le?}
 use Rattle.theory_bridge.specs.Paired.{isOffered, poseNumber, widthOf, ownOf}
 use Rattle.theory_bridge.specs.Offers.{offered-low}
@@ -20,8 +21,8 @@ use Rattle.job.specs.Value.{headerOf, cellOf}
 use Rattle.job.specs.Parts.{widthIn, heightIn, firstOf}
 use Rattle.job.specs.Layouts.{width-small}
 use Rattle.theory_tables.specs.Steps.{B}
-use Rattle.search_row.specs.Words.{givenWord, widthWord, tallWord, frontBarred}
-use Rattle.search_row_fill.specs.Words.{alone, edge, ownWord, shapeWord, heightWord, endWord}
+use Rattle.search_row.specs.Words.{firstWord, widthWord, tallWord, frontBarred}
+use Rattle.search_row_fill.specs.Words.{alone, edge, ownWord, firstSite, shapeWord, heightWord, endWord}
 
 -- the values as a job of one cell, and that they are in range
 abbrev pub one : Header → Cell → paper.Job
@@ -63,18 +64,21 @@ ranged h c p q = record {
 
 -- ---- what is offered
 
--- pose number a
-abbrev pub numbered : Header → Cell → ℕ → Pose
-numbered h c a = record { site = c .given + a / 4 - h .displacement; layout = a % 4 / 2; mark = a % 2 }
+-- what the cell is offered
+abbrev pub offered : Header → Cell → Offer
+offered h c = offerOf (headerOf h) (cellOf c)
+
+-- pose number a of a cell with that offer
+abbrev pub numbered : Cell → Offer → ℕ → Pose
+numbered c o a = record { site = c .given + a / 4 - o .limit; layout = a % 4 / 2; mark = a % 2 }
 
 -- the tests of `isOffered` in the order in which the code makes them
-pub offered-same : (h : Header) (c : Cell) (a : ℕ)
+pub offered-same : (h : Header) (c : Cell) (a : ℕ) (o : Offer) → o ≡ offered h c
     → isOffered (one h c) 0 a
-    ≡ (leb (h .displacement) (c .given + a / 4) && choiceOffered (offerOf (headerOf h) (cellOf c)) (numbered h c a)
-    && siteOffered (offerOf (headerOf h) (cellOf c)) (numbered h c a)
-    && leb (numbered h c a .site + widthIn (cellOf c) (a % 4 / 2)) (h .sites))
+    ≡ (leb (o .limit) (c .given + a / 4) && choiceOffered o (numbered c o a) && siteOffered o (numbered c o a)
+    && leb (numbered c o a .site + widthIn (cellOf c) (a % 4 / 2)) (h .sites))
 unfolding isOffered poseNumber widthOf headerOf cellOf
-offered-same h c a = refl
+offered-same h c a o e = rw e refl
 
 -- ---- what it costs
 
@@ -85,12 +89,19 @@ one-digit m h = go (eqb m 1) (eq? m 1)
     go true (same e) = sym e
     go false (differs d) = omega arith
 
-pub cost-same : (h : Header) (c : Cell) (a : ℕ)
+pub cost-same : (h : Header) (c : Cell) (a : ℕ) (o : Offer) → o ≡ offered h c
     → ownOf (one h c) 0 (poseNumber (one h c) 0 a)
-    ≡ h .shift * apart (c .given + a / 4 - h .displacement) (c .given) + h .mirror * (a % 2) + h .swap * (a % 4 / 2)
+    ≡ h .shift * apart (numbered c o a .site) (c .given) + h .mirror * (a % 2) + h .swap * (a % 4 / 2)
 unfolding ownOf poseNumber headerOf cellOf
-cost-same h c a = ap₂ (λ x y. h .shift * apart (c .given + a / 4 - h .displacement) (c .given) + h .mirror * x
-    + h .swap * y) (one-digit (a % 2) (omega arith)) (one-digit (a % 4 / 2) (omega arith))
+cost-same h c a o e =
+    rw e
+    (ap₂ (λ x y. h .shift * apart (numbered c (offered h c) a .site) (c .given) + h .mirror * x + h .swap * y)
+    (one-digit (a % 2) (omega arith)) (one-digit (a % 4 / 2) (omega arith)))
+
+-- the limit that the offer of a cell has is at most D
+pub limit-low : (h : Header) (c : Cell) (o : Offer) → o ≡ offered h c → o .limit ≤ h .displacement
+unfolding headerOf
+limit-low h c o e = rw e (limit-within (headerOf h) (cellOf c))
 
 -- not offered; a tall cell's in row 1; otherwise
 module _ (h : Header) (c : Cell) (row a : ℕ) where
@@ -107,24 +118,25 @@ module _ (h : Header) (c : Cell) (row a : ℕ) where
   unfolding ownWord cellOf
   own-here e t = rw (e, t)
 
-  pub offered-right : isOffered (one h c) 0 a ≡ true → h .displacement ≤ c .given + a / 4
+  pub offered-right : isOffered (one h c) 0 a ≡ true → offered h c .limit ≤ c .given + a / 4
   unfolding headerOf cellOf
   offered-right e = offered-low (one h c) 0 a e
 
 -- ---- the other words
 
 module _ (h : Header) (c : Cell) (i : ℕ) where
-  pub shape-given : i ≡ givenWord → c .given ≡ shapeWord (one h c) 0 i
-  unfolding shapeWord cellOf
-  shape-given e = rw e
+  pub shape-first : i ≡ firstWord → (o : Offer) → o ≡ offered h c
+      → c .given + (h .displacement - o .limit) ≡ shapeWord (one h c) 0 i
+  unfolding shapeWord headerOf cellOf
+  shape-first e o f = rw (e, f)
 
-  pub shape-width : givenWord < i → i < tallWord → widthIn (cellOf c) (i - widthWord) ≡ shapeWord (one h c) 0 i
+  pub shape-width : firstWord < i → i < tallWord → widthIn (cellOf c) (i - widthWord) ≡ shapeWord (one h c) 0 i
   unfolding shapeWord
-  shape-width g k = rw (ne-eqb i givenWord (λ e. omega arith), lt-ltb i tallWord k)
+  shape-width g k = rw (ne-eqb i firstWord (λ e. omega arith), lt-ltb i tallWord k)
 
   pub shape-tall : tallWord ≤ i → cond (eqb (c .row) 2) 1 0 ≡ shapeWord (one h c) 0 i
   unfolding shapeWord cellOf
-  shape-tall g = rw (ne-eqb i givenWord (λ e. omega arith), le-ltb i tallWord g)
+  shape-tall g = rw (ne-eqb i firstWord (λ e. omega arith), le-ltb i tallWord g)
 
   pub end-front : i ≡ frontBarred → h .displacement + 1 ≡ endWord (one h c) i
   unfolding endWord headerOf
@@ -136,11 +148,11 @@ module _ (h : Header) (c : Cell) (i : ℕ) where
 
 module _ (h : Header) (c : Cell) (r : Ranged h c) where
   pub shape-low : (i : ℕ) → shapeWord (one h c) 0 i ≤ B
-  unfolding shapeWord cellOf
-  shape-low i = go (eqb i givenWord) (ltb i tallWord) (eqb (c .row) 2)
+  unfolding shapeWord headerOf cellOf
+  shape-low i = go (eqb i firstWord) (ltb i tallWord) (eqb (c .row) 2)
     where
-      go : (t u v : Bool) → cond t (c .given) (cond u (widthIn (cellOf c) (i - widthWord)) (cond v 1 0)) ≤ B
-      go true u v = let g = r .given in omega arith
+      go : (t u v : Bool) → cond t (firstSite (one h c) 0) (cond u (widthIn (cellOf c) (i - widthWord)) (cond v 1 0)) ≤ B
+      go true u v = let g = r .given in let d = r .displacement in omega arith
       go false true v = let g = r .width (i - widthWord) in omega arith
       go false false true = omega arith
       go false false false = omega arith

@@ -5,11 +5,11 @@ use mathlib.Core.Bool.{_&&_, cond}
 use mathlib.Core.List.{[], _∷_}
 use lib.Dec.{ltb, eqb}
 use Rattle.definition.specs.Job.{Header, Cell, Job, isTall}
-use Rattle.definition.specs.Rules.{cellAt}
+use Rattle.definition.specs.Rules.{cellAt, offerAt}
 use Rattle.theory_bridge.specs.Paired.{isOffered, poseNumber, ownOf}
 use Rattle.theory_tables.specs.Steps.{B}
 use Rattle.job.specs.Parts.{widthIn, heightIn, firstOf}
-use Rattle.search_row.specs.Words.{givenWord, widthWord, tallWord, leftP}
+use Rattle.search_row.specs.Words.{firstWord, widthWord, tallWord, leftP}
 use Rattle.search_row.specs.Words.{touchingWord, numberWord, apartWord, frontBarred}
 
 -- a job of one cell: what is said of a cell of a job is said of it alone
@@ -20,9 +20,13 @@ alone h c = record { header = h; cells = c ∷ [] }
 unfoldable pub ownWord : Job → ℕ → ℕ → ℕ → ℕ
 ownWord j row k a = cond (isOffered j k a) (cond (isTall (cellAt j k) && eqb row 1) 0 (ownOf j k (poseNumber j k a))) B
 
--- its given site, the widths of its layouts, whether it is tall
+-- the site of its pose number 0, with D added
+abbrev pub firstSite : Job → ℕ → ℕ
+firstSite j k = cellAt j k .given + (j .header .displacement - offerAt j k .limit)
+
+-- that site, the widths of its layouts, whether it is tall
 unfoldable pub shapeWord : Job → ℕ → ℕ → ℕ
-shapeWord j k i = cond (eqb i givenWord) (cellAt j k .given)
+shapeWord j k i = cond (eqb i firstWord) (firstSite j k)
     (cond (ltb i tallWord) (widthIn (cellAt j k) (i - widthWord)) (cond (isTall (cellAt j k)) 1 0))
 
 -- height u: u / 8 is 1 for the right edge, u / 4 % 2 is 1 for N, u % 4 / 2 is the layout
@@ -41,7 +45,7 @@ endWord j i = cond (eqb i frontBarred) (j .header .displacement + 1) (j .header 
 -- word i of cell k, which bears a number; document 01 weighs all steps alike
 unfoldable pub cellWord : Job → ℕ → ℕ → ℕ → ℕ → ℕ
 cellWord j row k number i =
-    cond (ltb i givenWord) (ownWord j row k i)
+    cond (ltb i firstWord) (ownWord j row k i)
     (cond (ltb i leftP) (shapeWord j k i) (cond (ltb i touchingWord) (heightWord j row k (i - leftP))
     (cond (eqb i touchingWord) (j .header .stepWeight) (cond (eqb i numberWord) number
     (cond (eqb i apartWord) (j .header .stepWeight) (endWord j i))))))

@@ -3,7 +3,7 @@ ghost use mathlib.Core.Path.{_≡_};
 ghost use mathlib.Core.Bool.{_&&_};
 ghost use Prim.Native.Nat.{_+_, _*_, _/_, _≤_, _<_};
 ghost use lib.Dec.{eqb};
-ghost use Rattle.search_row.specs.Words.{tallsFrom, givenWord, leftP, wordsUsed};
+ghost use Rattle.search_row.specs.Words.{tallsFrom, wordsUsed};
 ghost use Rattle.definition_laws.specs.Sound.{Sound};
 ghost use Rattle.job.specs.Value.{jobOf};
 ghost use Rattle.theory_tables.specs.Steps.{B};
@@ -14,7 +14,7 @@ ghost use Rattle.search_row_fill.specs.Values.{one, Ranged};
 ghost use Rattle.search_row_fill.specs.Filled.{sideOf, Added, CellsIn};
 ghost use Rattle.search_row_fill.specs.Ready.{wordIn, RowReady};
 ghost use Rattle.search_row_fill.specs.TallWords.{TallsUpto, TallWords};
-ghost use Rattle.search_row_fill.specs.Lent.{PoseRight, CellPut, CellRoom, PositionRoom, RowToFill};
+ghost use Rattle.search_row_fill.specs.Lent.{PoseRight, ShapeAt, CellPut, CellRoom, PositionRoom, RowToFill};
 ghost use Rattle.search_row_fill.specs.Lent.{TallNext, TallsRoom, PlacesPut};
 use job::Cell;
 use job::Header;
@@ -29,16 +29,16 @@ fn is_offered(header: Header, cell: Cell, a: u32) -> bool
     requires { ⌜ Ranged header cell × (a < 64) ⌝ }
     ensures { λ t. ⌜ t ≡ isOffered (one header cell) 0 a ⌝ }
 {
+    let offer = job::offer_of(header, cell);
     let x = cell.given + a / 4;
-    if x < header.displacement {
+    if x < offer.limit {
         return false;
     }
     let pose = Pose {
-        site: x - header.displacement,
+        site: x - offer.limit,
         layout: a % 4 / 2,
         mark: a % 2,
     };
-    let offer = job::offer_of(header, cell);
     if !job::offers_choice(offer, pose) {
         return false;
     }
@@ -61,8 +61,9 @@ fn pose_cost(header: Header, cell: Cell, a: u32) -> u32
     requires { ⌜ PoseRight header cell a ⌝ }
     ensures { λ r. ⌜ (r ≡ ownOf (one header cell) 0 (poseNumber (one header cell) 0 a)) × (r ≤ 48000) ⌝ }
 {
+    let offer = job::offer_of(header, cell);
     let given = cell.given;
-    let site = given + a / 4 - header.displacement;
+    let site = given + a / 4 - offer.limit;
     let shift = times(header.shift, job::apart_of(site, given));
     let mirror = times(header.mirror, a % 2);
     let swap = times(header.swap, a % 4 / 2);
@@ -95,13 +96,14 @@ fn own_word(header: Header, cell: Cell, side: u32, a: u32) -> u32
 
 // ---- the words of a cell
 
-// Its given site, the widths of its layouts, whether it is tall.
+// The site of its pose number 0, with D added; the widths of its layouts; whether it is tall.
 fn shape_word(header: Header, cell: Cell, i: usize) -> u32
-    requires { ⌜ (givenWord ≤ i) × (i < leftP) ⌝ }
+    requires { ⌜ ShapeAt header cell i ⌝ }
     ensures { λ r. ⌜ r ≡ shapeWord (one header cell) 0 i ⌝ }
 {
-    if i == search_row::GIVEN {
-        return cell.given;
+    if i == search_row::FIRST {
+        let offer = job::offer_of(header, cell);
+        return cell.given + (header.displacement - offer.limit);
     }
     if i < search_row::TALL {
         return job::width_of(cell, (i - search_row::WIDTH) as u32);
@@ -132,7 +134,7 @@ fn cell_word(header: Header, cell: Cell, side: u32, number: u32, i: usize) -> u3
     requires { ⌜ CellPut header cell side number ⌝ }
     ensures { λ r. ⌜ (r ≡ cellWord (one header cell) side 0 number i) × (r ≤ B) ⌝ }
 {
-    if i < search_row::GIVEN {
+    if i < search_row::FIRST {
         return own_word(header, cell, side, i as u32);
     }
     if i < search_row::LEFT_P {

@@ -133,7 +133,8 @@ pub legal-narrow : (j : Job) (P : Placement) → Sound j → Legal j P → Each 
 unfolding breaks1 breaks2
 legal-narrow j P s l = each-at Narrow P λ k h.
     let low : k < length (j .cells) = omega (arith, l .each) in
-    let few : offerAt j k .layouts ≤ 2 = omega (arith, s .cell k low .few, layouts-within (j .header) (cellAt j k)) in
+    let c = s .cell k low in
+    let few : offerAt j k .layouts ≤ 2 = omega (arith, c .few, layouts-within (j .header) (cellAt j k) (c .some)) in
     let chosen = not-false (choiceOffered (offerAt j k) (poseAt P k)) (l .rule 1 k low) in
     let q = legal-pose (offerAt j k) (poseAt P k) few chosen in
     let inside =

@@ -11,7 +11,7 @@ use lib.ListN.{length, List·getD-eq-default}
 use lib.Dec.{leb, ltb, eqb}
 use Rattle.definition.specs.Job.{Job}
 use Rattle.definition.specs.Placement.{Pose, Placement}
-use Rattle.definition.specs.Rules.{noCell, cellAt, poseAt, endAt, apart, offerAt, choiceOffered, siteOffered}
+use Rattle.definition.specs.Rules.{noCell, cellAt, poseAt, endAt, apart, offerOf, offerAt, choiceOffered, siteOffered}
 use Rattle.definition.specs.Rules.{breaks1, breaks2, breaks3}
 use Rattle.definition_laws.specs.Sound.{Sound}
 use Rattle.definition_laws.specs.Offers.{limit-within, layouts-within}
@@ -101,7 +101,7 @@ module _ (j : Job) (k : ℕ) where
   -- ---- pose numbers
 
   abbrev low : ℕ → Bool
-  low a = leb (j .header .displacement) (cellAt j k .given + a / 4)
+  low a = leb (offerAt j k .limit) (cellAt j k .given + a / 4)
 
   abbrev chosen : ℕ → Bool
   chosen a = choiceOffered (offerAt j k) (poseNumber j k a)
@@ -126,17 +126,17 @@ module _ (j : Job) (k : ℕ) where
   )
 
   -- a pose that is offered is not left of site 0
-  pub offered-low : (a : ℕ) → isOffered j k a ≡ true → j .header .displacement ≤ cellAt j k .given + a / 4
-  offered-low a e = leb-true (j .header .displacement) (cellAt j k .given + a / 4) (offered-test a .0 e .0)
+  pub offered-low : (a : ℕ) → isOffered j k a ≡ true → offerAt j k .limit ≤ cellAt j k .given + a / 4
+  offered-low a e = leb-true (offerAt j k .limit) (cellAt j k .given + a / 4) (offered-test a .0 e .0)
 
   number-test : (a : ℕ) → isOffered j k a ≡ true
-      ↔ (Allowed j k (poseNumber j k a) × (j .header .displacement ≤ cellAt j k .given + a / 4))
+      ↔ (Allowed j k (poseNumber j k a) × (offerAt j k .limit ≤ cellAt j k .given + a / 4))
   number-test a = (to, back)
     where
       p : Pose
       p = poseNumber j k a
 
-      to : isOffered j k a ≡ true → Allowed j k p × (j .header .displacement ≤ cellAt j k .given + a / 4)
+      to : isOffered j k a ≡ true → Allowed j k p × (offerAt j k .limit ≤ cellAt j k .given + a / 4)
       to e =
           let q = offered-test a .0 e in
           let c = choice-test p .0 (q .1) in
@@ -152,9 +152,9 @@ module _ (j : Job) (k : ℕ) where
             offered-low a e,
           )
 
-      back : Allowed j k p × (j .header .displacement ≤ cellAt j k .given + a / 4) → isOffered j k a ≡ true
+      back : Allowed j k p × (offerAt j k .limit ≤ cellAt j k .given + a / 4) → isOffered j k a ≡ true
       back q = offered-test a .1 (
-        le-leb (j .header .displacement) (cellAt j k .given + a / 4) (q .1),
+        le-leb (offerAt j k .limit) (cellAt j k .given + a / 4) (q .1),
         choice-test p .1 (q .0 .layout, q .0 .mark, q .0 .mirrorable),
         site-test p .1 (q .0 .left, q .0 .right),
         le-leb (p .site + widthOf j k p) (j .header .sites) (q .0 .fits),
@@ -162,41 +162,46 @@ module _ (j : Job) (k : ℕ) where
 
   -- the number of a pose
   abbrev numberOf : Pose → ℕ
-  numberOf p = 4 * (p .site + j .header .displacement - cellAt j k .given) + 2 * p .layout + p .mark
+  numberOf p = 4 * (p .site + offerAt j k .limit - cellAt j k .given) + 2 * p .layout + p .mark
 
   number-below : (p : Pose) → Allowed j k p → p .layout < 2 → numberOf p < poseNumbers j
   number-below p a h = let l = a .left in let r = a .right in omega (arith, limit-within (j .header) (cellAt j k))
 
   number-pose : (p : Pose) → Allowed j k p → p .layout < 2
-      → (poseNumber j k (numberOf p) ≡ p) × (j .header .displacement ≤ cellAt j k .given + numberOf p / 4)
+      → (poseNumber j k (numberOf p) ≡ p) × (offerAt j k .limit ≤ cellAt j k .given + numberOf p / 4)
   unfolding poseNumber
   number-pose p a h =
-      let within = limit-within (j .header) (cellAt j k) in
       let left = a .left in
-      let s : cellAt j k .given + numberOf p / 4 - j .header .displacement ≡ p .site = omega arith in
+      let s : cellAt j k .given + numberOf p / 4 - offerAt j k .limit ≡ p .site = omega arith in
       let l : numberOf p % 4 / 2 ≡ p .layout = omega arith in
       let m : numberOf p % 2 ≡ p .mark = omega arith in
       (pose-same (poseNumber j k (numberOf p)) p s l m, omega arith)
 
--- at most two layouts, and each at least one site wide; a cell that is not there has none
+-- at most two layouts are offered, and each is at least one site wide; a cell that is not there has none
 module _ (j : Job) (sound : Sound j) (k : ℕ) where
   no-cell : ¬ (k < length (j .cells)) → cellAt j k ≡ noCell
   no-cell n = List·getD-eq-default (j .cells) noCell (omega arith)
 
-  pub few-layouts : length (cellAt j k .layouts) ≤ 2
+  -- a cell that is there, or one that is offered no layout
+  offered-within : Dec (k < length (j .cells)) → offerAt j k .layouts ≤ length (cellAt j k .layouts)
+  offered-within (yes h) = layouts-within (j .header) (cellAt j k) (sound .cell k h .some)
+  offered-within (no n) = rw (no-cell n) (omega arith)
+
+  pub few-layouts : offerAt j k .layouts ≤ 2
   few-layouts = go (decLt k (length (j .cells)))
     where
-      go : Dec (k < length (j .cells)) → length (cellAt j k .layouts) ≤ 2
-      go (yes h) = sound .cell k h .few
-      go (no n) = let e = ap (λ c. length (c .layouts)) (no-cell n) in omega arith
+      go : Dec (k < length (j .cells)) → offerAt j k .layouts ≤ 2
+      go (yes h) = omega (arith, sound .cell k h .few, offered-within (yes h))
+      go (no n) = rw (no-cell n) (omega arith)
 
-  wide-layout : (p : Pose) → p .layout < length (cellAt j k .layouts) → 0 < widthOf j k p
+  wide-layout : (p : Pose) → p .layout < offerAt j k .layouts → 0 < widthOf j k p
   unfolding widthOf
   wide-layout p l = go (decLt k (length (j .cells)))
     where
       go : Dec (k < length (j .cells)) → 0 < layoutOf j k p .width
-      go (yes h) = let w = sound .cell k h .layout (p .layout) l .wide in omega arith
-      go (no n) = absurd (let e = ap (λ c. length (c .layouts)) (no-cell n) in omega arith)
+      go (yes h) =
+          let w = sound .cell k h .layout (p .layout) (omega (arith, offered-within (yes h))) .wide in omega arith
+      go (no n) = absurd (let e = ap (λ c. offerOf (j .header) c .layouts) (no-cell n) in omega arith)
 
   pub offered-allowed : (p : Pose) → In p (offersOf j k) ↔ Allowed j k p
   unfolding offersOf
@@ -211,7 +216,7 @@ module _ (j : Job) (sound : Sound j) (k : ℕ) where
       back : Allowed j k p → In p (offersOf j k)
       back a =
           let l = a .layout in
-          let s : p .layout < 2 = omega (arith, few-layouts, layouts-within (j .header) (cellAt j k)) in
+          let s : p .layout < 2 = omega (arith, few-layouts) in
           let n = numberOf j k p in
           let h = number-below j k p a s in
           let e = number-pose j k p a s in
@@ -222,9 +227,7 @@ module _ (j : Job) (sound : Sound j) (k : ℕ) where
 
   -- what is offered is wide
   pub wide-positive : (p : Pose) → In p (offersOf j k) → 0 < widthOf j k p
-  wide-positive p m =
-      let l = offered-allowed p .0 m .layout in
-      wide-layout p (omega (arith, layouts-within (j .header) (cellAt j k)))
+  wide-positive p m = wide-layout p (offered-allowed p .0 m .layout)
 
   -- a cell's pose is offered just if the cell keeps rules 1 to 3
   pub offered-rules : (P : Placement) → In (poseAt P k) (offersOf j k) ↔ Keeps j k P

@@ -36,19 +36,21 @@ layoutOf j k p = getD (cellAt j k .layouts) (p .layout) noLayout
 unfoldable pub widthOf : Job → ℕ → Pose → ℕ
 widthOf j k p = layoutOf j k p .width
 
--- how many pose numbers there are: the sites from given - D to given + D, two layouts at each, two marks for each
+-- how many pose numbers a cell needs at most: the sites from given - D to given + D, two layouts at each, two marks for
+-- each
 abbrev pub poseNumbers : Job → ℕ
 poseNumbers j = 4 * (2 * j .header .displacement + 1)
 
--- pose number a
+-- pose number a of cell k: its sites are counted from the first that it is offered, so that a fixed cell has just
+-- number 0
 unfoldable pub poseNumber : Job → ℕ → ℕ → Pose
 poseNumber j k a =
-    record { site = cellAt j k .given + a / 4 - j .header .displacement; layout = a % 4 / 2; mark = a % 2 }
+    record { site = cellAt j k .given + a / 4 - offerAt j k .limit; layout = a % 4 / 2; mark = a % 2 }
 
 -- its site is not left of site 0; rules 1 and 3, by what cell k is offered; rule 2
 unfoldable pub isOffered : Job → ℕ → ℕ → Bool
 isOffered j k a =
-    leb (j .header .displacement) (cellAt j k .given + a / 4)
+    leb (offerAt j k .limit) (cellAt j k .given + a / 4)
     && choiceOffered (offerAt j k) (poseNumber j k a)
     && siteOffered (offerAt j k) (poseNumber j k a)
     && leb (poseNumber j k a .site + widthOf j k (poseNumber j k a)) (j .header .sites)

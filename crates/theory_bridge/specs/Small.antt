@@ -13,6 +13,7 @@ use Rattle.definition.specs.Placement.{Pose, Placement}
 use Rattle.definition.specs.Rules.{Legal, cellAt, poseAt, apart}
 use Rattle.definition.specs.Cost.{charges, cost}
 use Rattle.definition_laws.specs.Sound.{Sound}
+use Rattle.definition_laws.specs.Offers.{limit-within}
 use Rattle.lists.specs.Numbers.{from, length-from, in-from}
 use Rattle.theory_row.specs.Order.{sort-size}
 use Rattle.theory_row.specs.Rules.{sum, sumNext, sumNeighbours}
@@ -91,7 +92,7 @@ module _ (j : Job) (sound : Sound j) where
       let d = sound .header .displacement in
       let l = a .left in
       let r = a .right in
-      let near : apart (p .site) (cellAt j k .given) ≤ 7 = omega arith in
+      let near : apart (p .site) (cellAt j k .given) ≤ 7 = omega (arith, limit-within (j .header) (cellAt j k)) in
       omega (
         arith,
         mul-le-mul (sound .header .shift) near,

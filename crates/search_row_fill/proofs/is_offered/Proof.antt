@@ -1,44 +1,44 @@
--- The tests of `isOffered`, one after the other, on the values of the header and the cell.
+-- The tests of `isOffered`, one after the other, on what the cell is offered.
 use Prim.Native.Nat.{_+_, _/_, _%_}
-use mathlib.Core.Path.{sym, ap, _∙_}
+use mathlib.Core.Path.{sym, _∙_}
 use native.Mathlib.Omega.{arith}
 use borrow.Author.Tests.{not-true, not-false, lt-leb, le-leb}
 use borrow.Author.Needs.{needs}
-use Rattle.definition.specs.Rules.{choiceOffered, siteOffered}
-use Rattle.search_row_fill.specs.Values.{numbered, offered-same}
+use Rattle.job.specs.Value.{offerIn}
+use Rattle.search_row_fill.specs.Values.{offered-same}
 use Rattle.search_row_fill.proofs.is_offered.Statement.{statement}
 use Rattle.search_row_fill.proofs.is_offered.Tie as tie
+
+offer-of-requires : tie.Need-offer-of-requires
+offer-of-requires c κs = search needs
 
 add-x : tie.Need-add-x
 add-x c = search needs
 
 returns : tie.Need-returns
 returns c =
-    let k = c .before .before .before in
+    let f = c .before .before .before in
+    let k = f .before in
+    let o = f .offer-of in
     rw (
-      offered-same (k .args .header) (k .args .cell) (k .args .a),
-      lt-leb (k .args .header .displacement) (k .args .cell .given + k .args .a / 4) (c .if1 .taken),
+      offered-same (k .args .header) (k .args .cell) (k .args .a) (offerIn (o .result)) (o .ensures),
+      lt-leb (o .result .limit) (k .args .cell .given + k .args .a / 4) (c .if1 .taken),
     )
-
-offer-of-requires : tie.Need-offer-of-requires
-offer-of-requires c κs = search needs
 
 offers-choice-requires : tie.Need-offers-choice-requires
 offers-choice-requires c κs = search needs
 
 returns-2 : tie.Need-returns-2
 returns-2 c =
-    let offered = c .before .before in
-    let low = offered .before .before in
-    let k = low .before .before .before in
-    let p = numbered (k .args .header) (k .args .cell) (k .args .a) in
-    let t =
-    ap (λ o. choiceOffered o p) (sym (offered .offer-of .ensures)) ∙ sym (c .before .offers-choice .ensures)
-    ∙ not-true (c .before .offers-choice .result) (c .if2 .taken) in
+    let chosen = c .before in
+    let low = chosen .before .before in
+    let f = low .before .before .before in
+    let k = f .before in
+    let o = f .offer-of in
     rw (
-      offered-same (k .args .header) (k .args .cell) (k .args .a),
-      le-leb (k .args .header .displacement) (k .args .cell .given + k .args .a / 4) (low .if1 .left),
-      t,
+      offered-same (k .args .header) (k .args .cell) (k .args .a) (offerIn (o .result)) (o .ensures),
+      le-leb (o .result .limit) (k .args .cell .given + k .args .a / 4) (low .if1 .left),
+      sym (chosen .offers-choice .ensures) ∙ not-true (chosen .offers-choice .result) (c .if2 .taken),
     )
 
 offers-site-requires : tie.Need-offers-site-requires
@@ -46,22 +46,17 @@ offers-site-requires c κs = search needs
 
 returns-3 : tie.Need-returns-3
 returns-3 c =
-    let chosen = c .before .before in
-    let offered = chosen .before .before in
-    let low = offered .before .before in
-    let k = low .before .before .before in
-    let p = numbered (k .args .header) (k .args .cell) (k .args .a) in
-    let t =
-    ap (λ o. choiceOffered o p) (sym (offered .offer-of .ensures)) ∙ sym (chosen .before .offers-choice .ensures)
-    ∙ not-false (chosen .before .offers-choice .result) (chosen .if2 .left) in
-    let u =
-    ap (λ o. siteOffered o p) (sym (offered .offer-of .ensures)) ∙ sym (c .before .offers-site .ensures)
-    ∙ not-true (c .before .offers-site .result) (c .if3 .taken) in
+    let near = c .before in
+    let chosen = near .before .before in
+    let low = chosen .before .before in
+    let f = low .before .before .before in
+    let k = f .before in
+    let o = f .offer-of in
     rw (
-      offered-same (k .args .header) (k .args .cell) (k .args .a),
-      le-leb (k .args .header .displacement) (k .args .cell .given + k .args .a / 4) (low .if1 .left),
-      t,
-      u,
+      offered-same (k .args .header) (k .args .cell) (k .args .a) (offerIn (o .result)) (o .ensures),
+      le-leb (o .result .limit) (k .args .cell .given + k .args .a / 4) (low .if1 .left),
+      sym (chosen .offers-choice .ensures) ∙ not-false (chosen .offers-choice .result) (near .before .if2 .left),
+      sym (near .offers-site .ensures) ∙ not-true (near .offers-site .result) (c .if3 .taken),
     )
 
 width-of-requires : tie.Need-width-of-requires
@@ -69,41 +64,35 @@ width-of-requires c κs = search needs
 
 add-result : tie.Need-add-result
 add-result c =
-    let near = c .before .before in
-    let chosen = near .before .before in
-    let low = chosen .before .before .before .before in
-    let k = low .before .before .before in
+    let chosen = c .before .before .before .before in
+    let low = chosen .before .before .before in
+    let k = low .before .before .before .before in
     omega (arith, c .before .width-of .ensures, k .pre .0 .given, k .pre .0 .width (k .args .a % 4 / 2))
 
 returns-4 : tie.Need-returns-4
 returns-4 c =
-    let near = c .before .before .before in
+    let wide = c .before .before in
+    let near = wide .before .before in
     let chosen = near .before .before in
-    let offered = chosen .before .before in
-    let low = offered .before .before in
-    let k = low .before .before .before in
-    let p = numbered (k .args .header) (k .args .cell) (k .args .a) in
-    let t =
-    ap (λ o. choiceOffered o p) (sym (offered .offer-of .ensures)) ∙ sym (chosen .before .offers-choice .ensures)
-    ∙ not-false (chosen .before .offers-choice .result) (chosen .if2 .left) in
-    let u =
-    ap (λ o. siteOffered o p) (sym (offered .offer-of .ensures)) ∙ sym (near .before .offers-site .ensures)
-    ∙ not-false (near .before .offers-site .result) (near .if3 .left) in
+    let low = chosen .before .before in
+    let f = low .before .before .before in
+    let k = f .before in
+    let o = f .offer-of in
     rw (
-      offered-same (k .args .header) (k .args .cell) (k .args .a),
-      le-leb (k .args .header .displacement) (k .args .cell .given + k .args .a / 4) (low .if1 .left),
-      t,
-      u,
-      c .before .before .width-of .ensures,
+      offered-same (k .args .header) (k .args .cell) (k .args .a) (offerIn (o .result)) (o .ensures),
+      le-leb (o .result .limit) (k .args .cell .given + k .args .a / 4) (low .if1 .left),
+      sym (chosen .offers-choice .ensures) ∙ not-false (chosen .offers-choice .result) (near .before .if2 .left),
+      sym (near .offers-site .ensures) ∙ not-false (near .offers-site .result) (wide .before .if3 .left),
+      wide .width-of .ensures,
     )
 
 pub is-offered-spec : {M : Type 1} → statement M
 is-offered-spec =
     tie.close
     (tie.spec
+    offer-of-requires
     add-x
     returns
-    offer-of-requires
     offers-choice-requires
     returns-2
     offers-site-requires

@@ -3,21 +3,34 @@ use Prim.Native.Nat.{_+_, _*_}
 use mathlib.Core.Path.{sym, ap, ap₂, _∙_}
 use native.Mathlib.Omega.{arith}
 use borrow.Author.Needs.{needs}
-use Rattle.search_row_fill.specs.Values.{cost-same}
+use Rattle.job.specs.Value.{offerIn}
+use Rattle.search_row_fill.specs.Values.{cost-same, limit-low}
 use Rattle.search_row_fill.proofs.pose_cost.Statement.{statement}
 use Rattle.search_row_fill.proofs.pose_cost.Tie as tie
+
+offer-of-requires : tie.Need-offer-of-requires
+offer-of-requires c κs = search needs
 
 add-site : tie.Need-add-site
 add-site c = search needs
 
 sub-site : tie.Need-sub-site
-sub-site c = search needs
+sub-site c =
+    let f = c .before in
+    let e = ap (λ o. o .limit) (f .offer-of .ensures) in
+    omega (arith, f .before .pre .right)
 
 apart-of-requires : tie.Need-apart-of-requires
 apart-of-requires c κs = search needs
 
 times-requires : tie.Need-times-requires
-times-requires c κs = search needs
+times-requires c κs =
+    let f = c .before .before in
+    let k = f .before in
+    let low = limit-low (k .args .header) (k .args .cell) (offerIn (f .offer-of .result)) (f .offer-of .ensures) in
+    let e = ap (λ o. o .limit) (f .offer-of .ensures) in
+    let r = k .pre .ranged in
+    (r .shift, omega (arith, c .apart-of .ensures, r .displacement, k .pre .few))
 
 times-requires-2 : tie.Need-times-requires-2
 times-requires-2 c κs = search needs
@@ -33,15 +46,22 @@ add-result-2 c = search needs
 
 returns : tie.Need-returns
 returns c =
-    let after-apart-of = c .before .before .before in
-    let k = after-apart-of .before .before in
-    let e = c .before .before .times .ensures .0 ∙ ap (λ x. k .args .header .shift * x) (after-apart-of .apart-of .ensures) in
-    (ap₂ _+_ (ap₂ _+_ e (c .before .times2 .ensures .0)) (c .times3 .ensures .0) ∙ sym (cost-same (k .args .header) (k .args .cell) (k .args .a)), omega arith)
+    let shifted = c .before .before .before in
+    let f = shifted .before .before in
+    let k = f .before in
+    let o = f .offer-of in
+    let e = c .before .before .times .ensures .0 ∙ ap (λ x. k .args .header .shift * x) (shifted .apart-of .ensures) in
+    (
+      ap₂ _+_ (ap₂ _+_ e (c .before .times2 .ensures .0)) (c .times3 .ensures .0)
+      ∙ sym (cost-same (k .args .header) (k .args .cell) (k .args .a) (offerIn (o .result)) (o .ensures)),
+      omega arith,
+    )
 
 pub pose-cost-spec : {M : Type 1} → statement M
 pose-cost-spec =
     tie.close
     (tie.spec
+    offer-of-requires
     add-site
     sub-site
     apart-of-requires
