@@ -114,28 +114,35 @@ module _ (starts lanes : ℕ) (f : Cases) (x₀ x₁ : SegmentCosts) (q₀ q₁ 
           )
       go (no h) = omega (arith, next-above v b all, next-low)
 
--- lanes in which no case is below B do not count: the least over more lanes is the least over the poses
-module _ (starts lanes poses : ℕ) (f : Cases) (x₀ x₁ : SegmentCosts) (q₀ q₁ a : ℕ)
-    (more : poses ≤ lanes) (none : (s t l : ℕ) → s < starts → t < starts → poses ≤ l → l < lanes → B ≤ f s t l) where
-  way-open : {value code : ℕ} → value < B → Way starts lanes f x₀ x₁ q₀ q₁ a value code
-      → Way starts poses f x₀ x₁ q₀ q₁ a value code
-  way-open {code = code} b w =
-      record { state₀ = w .state₀; state₁ = w .state₁; lane = go (decLt (casePose code) poses); sum = w .sum }
+-- lanes in which no case is below B do not count: with or without them, the least over other lanes is the same
+module _ (starts lanes other : ℕ) (f : Cases) (x₀ x₁ : SegmentCosts) (q₀ q₁ a : ℕ)
+    (without : (s t l : ℕ) → s < starts → t < starts → other ≤ l → l < lanes → B ≤ f s t l)
+    (with : (s t l : ℕ) → s < starts → t < starts → lanes ≤ l → l < other → B ≤ f s t l) where
+  way-lanes : {value code : ℕ} → value < B → Way starts lanes f x₀ x₁ q₀ q₁ a value code
+      → Way starts other f x₀ x₁ q₀ q₁ a value code
+  way-lanes {code = code} b w =
+      record { state₀ = w .state₀; state₁ = w .state₁; lane = go (decLt (casePose code) other); sum = w .sum }
     where
-      go : Dec (casePose code < poses) → casePose code < poses
+      go : Dec (casePose code < other) → casePose code < other
       go (yes h) = h
       go (no h) = absurd (omega (
         arith,
         w .sum,
-        none (caseState₀ code) (caseState₁ code) (casePose code) (w .state₀) (w .state₁) (omega arith) (w .lane),
+        without (caseState₀ code) (caseState₁ code) (casePose code) (w .state₀) (w .state₁) (omega arith) (w .lane),
       ))
 
-  pub least-open : {value code : ℕ}
+  pub least-lanes : {value code : ℕ}
       → Least (nextCases starts lanes f x₀ x₁ q₀ q₁ a) (Way starts lanes f x₀ x₁ q₀ q₁ a) value code
-      → Least (nextCases starts poses f x₀ x₁ q₀ q₁ a) (Way starts poses f x₀ x₁ q₀ q₁ a) value code
-  least-open {value} w =
-      next-is starts poses f x₀ x₁ q₀ q₁ a value
-      (omega (arith, w .right, next-low starts lanes f x₀ x₁ q₀ q₁ a))
-      (λ s t l h g k. omega (arith, w .right, next-below starts lanes f x₀ x₁ q₀ q₁ a s t l h g (omega arith)))
-      (λ b. way-open b (w .found b))
-      (w .small)
+      → Least (nextCases starts other f x₀ x₁ q₀ q₁ a) (Way starts other f x₀ x₁ q₀ q₁ a) value code
+  least-lanes {value} w =
+      next-is starts other f x₀ x₁ q₀ q₁ a value low below (λ b. way-lanes b (w .found b)) (w .small)
+    where
+      low : value ≤ B
+      low = omega (arith, w .right, next-low starts lanes f x₀ x₁ q₀ q₁ a)
+
+      below : (s t l : ℕ) → s < starts → t < starts → l < other → value ≤ cost starts lanes f x₀ x₁ q₀ q₁ a s t l
+      below s t l h g k = go (decLt l lanes)
+        where
+          go : Dec (l < lanes) → value ≤ cost starts lanes f x₀ x₁ q₀ q₁ a s t l
+          go (yes m) = omega (arith, w .right, next-below starts lanes f x₀ x₁ q₀ q₁ a s t l h g m)
+          go (no m) = omega (arith, low, with s t l h g (omega arith) k)

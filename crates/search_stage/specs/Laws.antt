@@ -3,7 +3,9 @@
 use Prim.Native.Nat.{ℕ, zero, suc, _+_, _≤_, _<_, min}
 use mathlib.Core.Path.{_≡_, refl, sym, ap, _∙_}
 use mathlib.Core.Bool.{Bool, true, false, cond}
+use mathlib.Core.Logic.{_⊎_, inl, inr}
 use mathlib.Core.List.{List}
+use native.Mathlib.Decide.{decLt}
 use native.Mathlib.Omega.{arith}
 use borrow.Author.Count.{below-more}
 use borrow.Author.Tests.{lt-ltb, le-ltb}
@@ -20,12 +22,11 @@ use Rattle.theory_tables.specs.States.{count-0, count-1, count-2}
 use Rattle.search_lanes.specs.Store.{Low}
 use Rattle.search_lanes.specs.Laws.{low-set}
 use Rattle.search_join.specs.Tables.{casesIn, pointersIn, costsIn, Table, Least, Way, Joined, AllStates, Closed}
-use Rattle.search_join.specs.Laws.{least-open}
-use Rattle.search_join.specs.SumLaws.{table-for}
+use Rattle.search_join.specs.Laws.{least-lanes}
 use Rattle.search_join.specs.Parts.{least-ext}
 use Rattle.search_row.specs.declared.Sizes.{Sizes}
 use Rattle.search_stage.specs.Stage.{wide, widthOf, costOf, tableOf, Right, Staged}
-use Rattle.search_stage.specs.Stage.{StageDone, Through, StagesDone, BothCosted, StagesGiven}
+use Rattle.search_stage.specs.Stage.{StageDone, Through, StagesDone, BothCosted, StagesGiven, DeadLanes}
 use Rattle.search_stage.specs.Starts.{ways-same}
 
 -- ---- counts
@@ -74,8 +75,8 @@ pub wide-tall : (talls I x : ℕ) → (I ≡ 0 → ⊥) → I ≤ talls → x �
 wide-tall talls zero x n h = absurd (n refl)
 wide-tall talls (suc I) x n h = sym (wide-all talls I x (omega arith))
 
--- the lanes that a stage is run in
-pub width-room : (poses : ℕ) → poses ≤ 60 → (poses ≤ widthOf poses) × (widthOf poses ≤ 64)
+-- the lanes that a table has
+width-room : (poses : ℕ) → poses ≤ 60 → (poses ≤ widthOf poses) × (widthOf poses ≤ 64)
 unfolding widthOf
 width-room poses h = (omega arith, omega arith)
 
@@ -115,16 +116,18 @@ module _ (D₀ D₁ : Deck) (R talls : ℕ) (pos₀ pos₁ : ℕ → ℕ) where
     wide-poses I = wide-low talls I (D₀ .poses) 60 (omega arith) narrow
 
     -- a stage from its costs and the table before
-    pub stage-done : (I : ℕ) {old mid one new : List ℕ} → I ≤ talls → talls ≤ 24
+    pub stage-done : (I lanes : ℕ) {old mid one new : List ℕ} → I ≤ talls → talls ≤ 24
+        → lanes ≤ wide talls I (widthOf (D₀ .poses))
+        → DeadLanes old I (wide talls I (stateCount R)) lanes (wide talls I (widthOf (D₀ .poses)))
         → BothCosted (costOf D₀ R talls pos₀ I) (costOf D₁ R talls pos₁ I) I (wide talls I (stateCount R))
-        (wide talls I (D₀ .poses)) (wide talls (suc I) (stateCount R)) (wide talls (suc I) (D₀ .poses))
+        (min lanes (wide talls I (D₀ .poses))) (wide talls (suc I) (stateCount R)) (wide talls (suc I) (D₀ .poses))
         (wide talls I (stateCount R)) old mid
-        → Joined (wide talls I (stateCount R)) (wide talls I (widthOf (D₀ .poses))) (wide talls (suc I) (stateCount R))
+        → Joined (wide talls I (stateCount R)) lanes (wide talls (suc I) (stateCount R))
         (wide talls (suc I) (D₀ .poses)) I mid one
         → Closed (suc I) (wide talls (suc I) (D₀ .poses)) (wide talls (suc I) (widthOf (D₀ .poses)))
         (AllStates (wide talls (suc I) (stateCount R)) (wide talls (suc I) (stateCount R))) one new
         → StageDone D₀ D₁ R talls pos₀ pos₁ I old new
-    stage-done I {old} {mid} {one} {new} h g p j c =
+    stage-done I lanes {old} {mid} {one} {new} h g n dead p j c =
         record {
           long = c .long ∙ j .long ∙ p .long;
           low = c .fits;
@@ -144,6 +147,18 @@ module _ (D₀ D₁ : Deck) (R talls : ℕ) (pos₀ pos₁ : ℕ → ℕ) where
           };
         }
       where
+        -- a lane is run, or no case goes by it
+        run : (s t l : ℕ) → s < wide talls I (stateCount R) → t < wide talls I (stateCount R)
+            → l < wide talls I (D₀ .poses)
+            → (l < min lanes (wide talls I (D₀ .poses))) ⊎ (B ≤ casesIn old I s t l)
+        run s t l b d e = go (decLt l lanes)
+          where
+            go : Dec (l < lanes) → (l < min lanes (wide talls I (D₀ .poses))) ⊎ (B ≤ casesIn old I s t l)
+            go (yes k) = inl (omega arith)
+            go (no k) =
+                let w = wide-lanes talls I (D₀ .poses) narrow in
+                inr (dead .none s t l b d (omega arith) (omega arith))
+
         -- the ways below B are the model's
         same : Right D₀ D₁ R talls pos₀ pos₁ I old → (q₀ q₁ a s t l : ℕ) → q₀ < wide talls (suc I) (stateCount R)
             → q₁ < wide talls (suc I) (stateCount R) → a < wide talls (suc I) (D₀ .poses)
@@ -156,19 +171,30 @@ module _ (D₀ D₁ : Deck) (R talls : ℕ) (pos₀ pos₁ : ℕ → ℕ) where
             let n = wide-poses I in
             let u = p .tables I s t l (omega arith, omega arith, omega arith, omega arith) .case in
             let v = r .word s t l b d e in
-            ways-same _ _ (p .right₀ s b) (p .right₁ t d) q₀ q₁ a l x y z b d e u v
+            ways-same _ _ (p .right₀ s b) (p .right₁ t d) q₀ q₁ a l x y z b d (run s t l b d e) u v
 
-        -- no case goes by a lane beyond the poses
-        beyond : Right D₀ D₁ R talls pos₀ pos₁ I old → (s t l : ℕ) → s < wide talls I (stateCount R)
-            → t < wide talls I (stateCount R) → wide talls I (D₀ .poses) ≤ l → l < wide talls I (widthOf (D₀ .poses))
-            → B ≤ casesIn mid I s t l
-        beyond r s t l b d u v =
+        -- no case goes by a lane that is not run
+        rest : (s t l : ℕ) → s < wide talls I (stateCount R) → t < wide talls I (stateCount R) → lanes ≤ l
+            → l < wide talls I (D₀ .poses) → B ≤ casesIn mid I s t l
+        rest s t l b d u v =
             let m = wide-states I in
             let n = wide-lanes talls I (D₀ .poses) narrow in
             omega (
               arith,
               p .tables I s t l (omega arith, omega arith, omega arith, omega arith) .case,
-              r .beyond .none s t l b d u v,
+              dead .none s t l b d u (omega arith),
+            )
+
+        -- nor by one beyond the poses
+        beyond : Right D₀ D₁ R talls pos₀ pos₁ I old → (s t l : ℕ) → s < wide talls I (stateCount R)
+            → t < wide talls I (stateCount R) → wide talls I (D₀ .poses) ≤ l → l < lanes → B ≤ casesIn mid I s t l
+        beyond r s t l b d u v =
+            let m = wide-states I in
+            let w = wide-lanes talls I (D₀ .poses) narrow in
+            omega (
+              arith,
+              p .tables I s t l (omega arith, omega arith, omega arith, omega arith) .case,
+              r .beyond .none s t l b d u (omega arith),
             )
 
         go : Right D₀ D₁ R talls pos₀ pos₁ I old → (q₀ q₁ a : ℕ) → q₀ < wide talls (suc I) (stateCount R)
@@ -180,9 +206,8 @@ module _ (D₀ D₁ : Deck) (R talls : ℕ) (pos₀ pos₁ : ℕ → ℕ) where
             (casesIn one (suc I) q₀ q₁ a)
             (pointersIn one (suc I) q₀ q₁ a)
         go r q₀ q₁ a x y z =
-            let d = least-open (wide talls I (stateCount R)) (wide talls I (widthOf (D₀ .poses)))
-            (wide talls I (D₀ .poses)) (casesIn mid I) (costsIn mid 0) (costsIn mid 1) q₀ q₁ a
-            (wide-lanes talls I (D₀ .poses) narrow .0) (beyond r) (j .done q₀ q₁ a x y z) in
+            let d = least-lanes (wide talls I (stateCount R)) lanes (wide talls I (D₀ .poses)) (casesIn mid I)
+            (costsIn mid 0) (costsIn mid 1) q₀ q₁ a (beyond r) rest (j .done q₀ q₁ a x y z) in
             let w = least-ext (wide talls I (stateCount R)) (wide talls I (D₀ .poses)) (casesIn mid I)
             (tableOf D₀ D₁ R talls pos₀ pos₁ I)
             (costsIn mid 0) (costsIn mid 1) (costOf D₀ R talls pos₀ I) (costOf D₁ R talls pos₁ I) q₀ q₁ a
@@ -190,20 +215,23 @@ module _ (D₀ D₁ : Deck) (R talls : ℕ) (pos₀ pos₁ : ℕ → ℕ) where
             record { right = w .right ∙ table-step I q₀ q₁ a h; found = w .found; small = w .small }
 
     -- the same by the code's names
-    pub stage-made : (I count starts lanes ends last width : ℕ) {old mid one new : List ℕ}
-        → starts ≡ wide talls I count → lanes ≡ wide talls I (widthOf (D₀ .poses)) → ends ≡ wide talls (I + 1) count
+    pub stage-made : (I count starts before lanes ends last width : ℕ) {old mid one new : List ℕ}
+        → starts ≡ wide talls I count → before ≡ wide talls I (widthOf (D₀ .poses)) → ends ≡ wide talls (I + 1) count
         → last ≡ wide talls (I + 1) (D₀ .poses)
         → width ≡ wide talls (I + 1) (widthOf (D₀ .poses))
         → count ≡ stateCount R → I ≤ talls → talls ≤ 24
-        → BothCosted (costOf D₀ R talls pos₀ I) (costOf D₁ R talls pos₁ I) I (wide talls I count) (wide talls I
-        (D₀ .poses)) (wide talls (suc I) count) (wide talls (suc I) (D₀ .poses)) (wide talls I count) old mid
+        → lanes ≤ before → DeadLanes old I starts lanes before
+        → BothCosted (costOf D₀ R talls pos₀ I) (costOf D₁ R talls pos₁ I) I (wide talls I count)
+        (min lanes (wide talls I (D₀ .poses))) (wide talls (suc I) count) (wide talls (suc I) (D₀ .poses))
+        (wide talls I count) old mid
         → Joined starts lanes ends last I mid one → Closed (I + 1) last width (AllStates ends ends) one new
         → StageDone D₀ D₁ R talls pos₀ pos₁ I old new
-    stage-made I count starts lanes ends last width e₁ e₂ e₃ e₄ e₅ all h g p j c =
+    stage-made I count starts before lanes ends last width e₁ e₂ e₃ e₄ e₅ all h g n dead p j c =
         let b = rw all at p in
-        let d = rw (e₁, e₂, e₃, e₄, add-one I, all) at j in
+        let d = rw (e₁, e₃, e₄, add-one I, all) at j in
         let f = rw (e₃, e₄, e₅, add-one I, all) at c in
-        stage-done I h g b d f
+        let w = rw (e₁, e₂, all) at dead in
+        stage-done I lanes h g (omega arith) w b d f
 
     -- the stages before are kept
     staged-kept : (J I : ℕ) {old new : List ℕ} → J < I → I ≤ 24 → StageDone D₀ D₁ R talls pos₀ pos₁ I old new
@@ -295,22 +323,15 @@ module _ {row₀ row₁ st : List ℕ} {z : Sizes} {n₁ : ℕ} (g : StagesGiven
   pub given-first : (I : ℕ) → I ≤ 25 → caseAt I 0 0 < length st
   given-first I h = omega (arith, given-wide 0 .2, wide-first (z .talls) 0 (z .states) refl)
 
-  -- the tables that stage I reads, whatever was written before
-  pub given-table : (I : ℕ) (new : List ℕ) → I ≤ z .talls → length new ≡ length st → Low new
-      → Table (wide (z .talls) I (z .states)) (wide (z .talls) I (z .poses)) I new
-  given-table I new h e w =
-      let n = given-wide I in
+  -- the lanes of the table that stage I reads, whatever was written before
+  pub given-table : (I lanes : ℕ) (new : List ℕ) → I ≤ z .talls → lanes ≤ 64 → length new ≡ length st → Low new
+      → Table (wide (z .talls) I (z .states)) lanes I new
+  given-table I lanes new h n e w =
+      let m = given-wide I in
       record {
-        states = n .0;
-        few = omega (arith, n .1);
+        states = m .0;
+        few = n;
         stage = omega (arith, given-states .3);
-        long = omega (arith, n .2);
+        long = omega (arith, m .2);
         low = w;
       }
-
-  -- the same with the lanes that it is run in
-  pub given-join : (I : ℕ) (new : List ℕ) → I ≤ z .talls → length new ≡ length st → Low new
-      → Table (wide (z .talls) I (z .states)) (wide (z .talls) I (widthOf (z .poses))) I new
-  given-join I new h e w =
-      let t = given-table I new h e w in
-      table-for _ I t (wide-lanes (z .talls) I (z .poses) (given-states .2) .1) (t .stage)

@@ -1,6 +1,6 @@
 -- Costs of a stage in one row, from the first layer and the segment on from it.
-use Prim.Native.Nat.{ℕ, suc, _+_, _-_, _≤_, _<_}
-use mathlib.Core.Path.{_≡_, sym, ap, _∙_, subst}
+use Prim.Native.Nat.{ℕ, suc, _+_, _-_, _≤_, _<_, min}
+use mathlib.Core.Path.{_≡_, sym, ap, _∙_}
 use mathlib.Core.Logic.{⊎-elim}
 use mathlib.Core.List.{List}
 use native.Mathlib.Omega.{arith}
@@ -13,24 +13,19 @@ use Rattle.theory_tables.specs.Steps.{Deck, Layer, stateCount, marks, firstAfte
 use Rattle.theory_tables.specs.Stages.{placedWith, stageEnd, openCost, stageCost}
 use Rattle.search_lanes.specs.Store.{Frame, layerIn, Filled}
 use Rattle.search_wide_first.specs.Firsts.{afterFrom}
-use Rattle.search_wide_layer.specs.Loops.{Given}
+use Rattle.search_wide_layer.specs.declared.Block.{Block}
 use Rattle.search_wide_segment.specs.Runs.{SegmentGiven, SegmentCosted}
 use Rattle.search_wide_end.specs.Ends.{Ended}
 use Rattle.search_dense_segment.specs.Opened.{tallCost, endCost, Opened}
-use Rattle.search_stage.specs.Stage.{wide, widthOf, costOf, endFrom, RowCosted, EndGiven}
+use Rattle.search_stage.specs.Stage.{wide, costOf, endFrom, RowCosted, EndGiven}
 use Rattle.search_stage.specs.Laws.{wide-all, wide-last, wide-tall}
 use Rattle.search_stage.specs.Same.{stage-ext, stage-tall, stage-last}
 
--- the segment on from the first layer, in as many lanes as the poses need
-pub segment-given : {table row st starts : List ℕ} {z : Sizes} {cells costs lanes : ℕ}
-    → EndGiven table row st starts z cells costs → lanes ≡ widthOf (z .poses)
-    → SegmentGiven table row st z lanes cells costs
-segment-given {row = row} {st = st} {z = z} {cells = cells} w e =
-    record {
-      lent = w .lent;
-      given = subst (λ (lanes : ℕ). Given row st z lanes cells 0) (sym e) (w .layer);
-      room = w .room;
-    }
+-- the segment on from the first layer
+pub segment-given : {table row st starts : List ℕ} {z : Sizes} {layer : Block} {costs : ℕ}
+    → EndGiven table row st starts z layer costs
+    → SegmentGiven table row st z (layer .lanes) (layer .cells) costs
+segment-given w = record { lent = w .lent; given = rw (w .first) at (w .begun); room = w .room }
 
 module _ (D : Deck) (R talls : ℕ) (pos : ℕ → ℕ) where
   -- to a tall cell
@@ -121,48 +116,55 @@ module _ (D : Deck) (R talls : ℕ) (pos : ℕ → ℕ) where
       }
 
   -- it is the same from every start state
-  pub row-open : {I : ℕ} (count s : ℕ) {costs : ℕ} {old new : List ℕ}
+  pub row-open : {I : ℕ} (count s lanes : ℕ) {costs : ℕ} {old new : List ℕ}
       → I ≡ 0 → RowCosted (costOf D R talls pos 0 0) 1 (wide talls 1 count) (wide talls 1 (D .poses)) costs old new
-      → RowCosted (costOf D R talls pos I s) (wide talls I (D .poses)) (wide talls (suc I) count)
+      → RowCosted (costOf D R talls pos I s) (min lanes (wide talls I (D .poses))) (wide talls (suc I) count)
       (wide talls (suc I) (D .poses)) costs old new
   unfolding costOf wide
-  row-open count s {costs} {old} {new} e w =
-      let v : RowCosted (costOf D R talls pos 0 s) 1 (wide talls 1 count) (wide talls 1 (D .poses)) costs old new =
-      record { long = w .long; low = w .low; kept = w .kept; right = w .right } in
+  row-open count s lanes {costs} {old} {new} e w =
+      let v : RowCosted (costOf D R talls pos 0 s) (min lanes 1) (wide talls 1 count) (wide talls 1 (D .poses)) costs
+      old new =
+      record {
+        long = w .long;
+        low = w .low;
+        kept = w .kept;
+        right = λ q a l x y z. w .right q a l x y (omega arith);
+      } in
       rw e v
 
   -- the stage after tall cell I, which stands as state s
-  after-tall : (I count s : ℕ) (starts : List ℕ) {width costs : ℕ} {old mid new : List ℕ}
-      → I < talls → D .poses ≤ width → count ≡ stateCount R
+  after-tall : (I count s : ℕ) (starts : List ℕ) {lanes costs : ℕ} {old mid new : List ℕ}
+      → I < talls → count ≡ stateCount R
       → ((l : ℕ) → l < D .poses → getD starts l 0 ≡ D .back (pos I) l)
-      → Filled (afterFrom D R (placedWith R (pos I) s) (marks R s) (pos I)) width (D .poses) 0 count old mid
-      → RowCosted (endFrom D R talls pos (suc I) mid (suc (placedWith R (pos I) s)) starts) width
+      → Filled (afterFrom D R (placedWith R (pos I) s) (marks R s) (pos I)) lanes (D .poses) 0 count old mid
+      → RowCosted (endFrom D R talls pos (suc I) mid (suc (placedWith R (pos I) s)) starts) lanes
       (wide talls (suc (suc I)) count) (wide talls (suc (suc I)) (D .poses)) costs mid new
-      → RowCosted (costOf D R talls pos (suc I) s) (wide talls (suc I) (D .poses)) (wide talls (suc (suc I)) count)
-      (wide talls (suc (suc I)) (D .poses)) costs old new
+      → RowCosted (costOf D R talls pos (suc I) s) (min lanes (wide talls (suc I) (D .poses)))
+      (wide talls (suc (suc I)) count) (wide talls (suc (suc I)) (D .poses)) costs old new
   unfolding costOf stageCost
-  after-tall I count s starts {mid = mid} h m n b f w =
+  after-tall I count s starts {lanes} {mid = mid} h n b f w =
       let i = placedWith R (pos I) s in
       rw (wide-all talls I (D .poses) h)
-      (row-from (suc I) (suc i) starts m (f .frame) w
+      (row-from (suc I) (suc i) starts {lanes = min lanes (D .poses)} (omega arith) (f .frame) w
       (λ q a l x y z.
       stage-ext D R (layerIn mid 0 l) (firstAfter D R i (marks R s) (pos I) l)
       (λ q a v u. f .right q (omega arith) a l u (omega arith))
       talls pos (suc I) (suc i) (getD starts l 0) q a (rw n at x) y
-      ∙ ap (λ (e : ℕ). stageEnd D R talls pos (suc I) (firstAfter D R i (marks R s) (pos I) l) (suc i) e q a) (b l z)))
+      ∙ ap (λ (e : ℕ). stageEnd D R talls pos (suc I) (firstAfter D R i (marks R s) (pos I) l) (suc i) e q a)
+      (b l (omega arith))))
 
-  pub row-after : (I J count s p placed : ℕ) (starts : List ℕ) {width costs : ℕ} {old mid new : List ℕ}
-      → I ≡ suc J → I ≤ talls → D .poses ≤ width → count ≡ stateCount R → p ≡ pos J → placed ≡ placedWith R p s
+  pub row-after : (I J count s p placed : ℕ) (starts : List ℕ) {lanes costs : ℕ} {old mid new : List ℕ}
+      → I ≡ suc J → I ≤ talls → count ≡ stateCount R → p ≡ pos J → placed ≡ placedWith R p s
       → ((l : ℕ) → l < D .poses → getD starts l 0 ≡ D .back p l)
-      → Filled (afterFrom D R placed (marks R s) p) width (D .poses) 0 count old mid
-      → RowCosted (endFrom D R talls pos I mid (placed + 1) starts) width (wide talls (suc I) count)
+      → Filled (afterFrom D R placed (marks R s) p) lanes (D .poses) 0 count old mid
+      → RowCosted (endFrom D R talls pos I mid (placed + 1) starts) lanes (wide talls (suc I) count)
       (wide talls (suc I) (D .poses)) costs mid new
-      → RowCosted (costOf D R talls pos I s) (wide talls I (D .poses)) (wide talls (suc I) count)
+      → RowCosted (costOf D R talls pos I s) (min lanes (wide talls I (D .poses))) (wide talls (suc I) count)
       (wide talls (suc I) (D .poses)) costs old new
-  row-after I J count s p placed starts e h m n g k b f w =
+  row-after I J count s p placed starts e h n g k b f w =
       let v = rw (k, g) at f in
       let u = rw (add-one, k, g, e) at w in
-      rw e (after-tall J count s starts (omega arith) m n (λ l z. b l z ∙ ap (λ (p : ℕ). D .back p l) g) v u)
+      rw e (after-tall J count s starts (omega arith) n (λ l z. b l z ∙ ap (λ (p : ℕ). D .back p l) g) v u)
 
 -- ---- a start after a tall cell
 

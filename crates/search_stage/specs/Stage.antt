@@ -1,6 +1,6 @@
 -- The stages of the search in the store: case table number 0 is the state before
 -- anything, table number I + 1 is that of stage I.
-use Prim.Native.Nat.{ℕ, zero, suc, _+_, _*_, _/_, _≤_, _<_}
+use Prim.Native.Nat.{ℕ, zero, suc, _+_, _*_, _/_, _≤_, _<_, min}
 use mathlib.Core.Path.{_≡_}
 use mathlib.Core.Bool.{cond}
 use mathlib.Core.Logic.{_⊎_}
@@ -14,6 +14,7 @@ use Rattle.theory_tables.specs.Stages.{stageEnd, openCost, stageCost, caseTable
 use Rattle.search_lanes.specs.Store.{Low, layerIn}
 use Rattle.search_row.specs.Words.{deckIn, posIn, withCells, RowGiven}
 use Rattle.search_wide_buckets.specs.Table.{Lent}
+use Rattle.search_wide_layer.specs.declared.Block.{Block}
 use Rattle.search_wide_layer.specs.Loops.{Given}
 use Rattle.search_wide_segment.specs.Runs.{CostRoom}
 use Rattle.search_dense_segment.specs.Opened.{OpenRoom}
@@ -25,7 +26,7 @@ unfoldable pub wide : ℕ → ℕ → ℕ → ℕ
 wide talls zero x = 1
 wide talls (suc I) x = cond (ltb I talls) x 1
 
--- how many lanes a stage is run in: the poses, up to a multiple of 16
+-- how many lanes a tall cell's table has: the poses, up to a multiple of 16
 unfoldable pub widthOf : ℕ → ℕ
 widthOf poses = (poses + 15) / 16 * 16
 
@@ -125,9 +126,13 @@ unfoldable pub fromAt : ℕ → ℕ → ℕ → ℕ → ℕ
 fromAt zero I s t = caseAt I s t
 fromAt (suc row) I s t = caseAt I t s
 
--- no case of table I goes from start state s of a row
-pub record Dead (st : List ℕ) (row I starts lanes s : ℕ) : Type 0 where
-  pub none : (t l : ℕ) → t < starts → l < lanes → B ≤ getD st (fromAt row I s t + l) 0
+-- no case of table I goes from start state s of a row by a lane from `low` to below `high`
+pub record Dead (st : List ℕ) (row I starts s low high : ℕ) : Type 0 where
+  pub none : (t l : ℕ) → t < starts → low ≤ l → l < high → B ≤ getD st (fromAt row I s t + l) 0
+
+-- none goes by such a lane at all
+pub record DeadLanes (st : List ℕ) (I starts low high : ℕ) : Type 0 where
+  pub none : (s t l : ℕ) → s < starts → t < starts → low ≤ l → l < high → B ≤ casesIn st I s t l
 
 -- the costs from start state s of a row
 pub record StartRight (st : List ℕ) (row : ℕ) (x : SegmentCosts) (lanes ends poses s : ℕ) : Type 0 where
@@ -136,7 +141,7 @@ pub record StartRight (st : List ℕ) (row : ℕ) (x : SegmentCosts) (lanes ends
 -- they are right, unless no case goes from it
 abbrev pub SegmentCosted : ℕ → SegmentCosts → ℕ → ℕ → ℕ → ℕ → ℕ → ℕ → List ℕ → List ℕ → Type 0
 SegmentCosted row x I starts lanes ends poses s old new =
-    Dead old row I starts lanes s ⊎ StartRight new row x lanes ends poses s
+    Dead old row I starts s 0 lanes ⊎ StartRight new row x lanes ends poses s
 
 -- that of one start state; above all layers nothing else is changed
 pub record StartCosted (row : ℕ) (x : SegmentCosts) (I starts lanes ends poses s : ℕ) (old new : List ℕ) : Type 0 where
@@ -175,28 +180,34 @@ statesAt z I = wide (z .talls) I (z .states)
 abbrev pub posesAt : Sizes → ℕ → ℕ
 posesAt z I = wide (z .talls) I (z .poses)
 
--- start state s of stage I in one row, with the case table that it starts from
-pub record StartGiven (table row st : List ℕ) (side : ℕ) (z : Sizes) (I s : ℕ) : Type 0 where
+-- those of its poses whose lanes are run, if the first `lanes` are
+abbrev pub runAt : Sizes → ℕ → ℕ → ℕ
+runAt z I lanes = min lanes (posesAt z I)
+
+-- start state s of stage I in one row, with the lanes of the case table that it starts from
+pub record StartGiven (table row st : List ℕ) (side : ℕ) (z : Sizes) (I s lanes : ℕ) : Type 0 where
   pub lent : Lent table
   pub given : RowGiven row z
-  pub cases : Table (statesAt z I) (posesAt z I) I st
+  pub cases : Table (statesAt z I) lanes I st
   pub one : side ≤ 1
   pub stage : I ≤ z .talls
   pub state : s < statesAt z I
 
 -- the same, with room for its costs
-pub record CostGiven (table row st : List ℕ) (z : Sizes) (I s costs : ℕ) : Type 0 where
+pub record CostGiven (table row st : List ℕ) (z : Sizes) (I s lanes costs : ℕ) : Type 0 where
   pub lent : Lent table
   pub given : RowGiven row z
+  pub narrow : lanes ≤ 64
   pub room : OpenRoom st (z .reordering) (z .poses) (z .states) costs
   pub stage : I ≤ z .talls
   pub state : s < statesAt z I
 
--- the stage's first layer in block 0, and what the start of each lane pays as the row's last
-pub record EndGiven (table row st starts : List ℕ) (z : Sizes) (cells costs : ℕ) : Type 0 where
+-- the stage's first layer, which is in block 0, and what the start of each lane pays as the row's last
+pub record EndGiven (table row st starts : List ℕ) (z : Sizes) (layer : Block) (costs : ℕ) : Type 0 where
   pub lent : Lent table
   pub given : RowGiven row z
-  pub layer : Given row st z (widthOf (z .poses)) cells 0
+  pub begun : Given row st z (layer .lanes) (layer .cells) (layer .at)
+  pub first : layer .at ≡ 0
   pub room : CostRoom st costs
   pub low : Low starts
   pub long : length starts ≡ 64
@@ -207,22 +218,22 @@ pub record EndGiven (table row st starts : List ℕ) (z : Sizes) (cells costs : 
 abbrev pub costIn : List ℕ → Sizes → ℕ → SegmentCosts
 costIn row z I = costOf (deckIn row z) (z .reordering) (z .talls) (posIn row) I
 
--- those from start state s, in the block at `costs`
-abbrev pub RowCost : List ℕ → Sizes → ℕ → ℕ → ℕ → List ℕ → List ℕ → Type 0
-RowCost row z I s costs old new =
-    RowCosted (costIn row z I s) (posesAt z I) (statesAt z (suc I)) (posesAt z (suc I)) costs old new
+-- those from start state s in the first lanes, in the block at `costs`
+abbrev pub RowCost : List ℕ → Sizes → ℕ → ℕ → ℕ → ℕ → List ℕ → List ℕ → Type 0
+RowCost row z I s lanes costs old new =
+    RowCosted (costIn row z I s) (runAt z I lanes) (statesAt z (suc I)) (posesAt z (suc I)) costs old new
 
--- those from start state s, in their place
-abbrev pub RowStart : ℕ → List ℕ → Sizes → ℕ → ℕ → List ℕ → List ℕ → Type 0
-RowStart side row z I s old new =
-    StartCosted side (costIn row z I) I (statesAt z I) (posesAt z I) (statesAt z (suc I)) (posesAt z (suc I)) s old new
+-- those from start state s in the first lanes, in their place
+abbrev pub RowStart : ℕ → List ℕ → Sizes → ℕ → ℕ → ℕ → List ℕ → List ℕ → Type 0
+RowStart side row z I s lanes old new =
+    StartCosted side (costIn row z I) I (statesAt z I) (runAt z I lanes) (statesAt z (suc I)) (posesAt z (suc I)) s
+    old new
 
--- those of both rows, from every start state
-abbrev pub RowsStart : List ℕ → List ℕ → Sizes → ℕ → ℕ → List ℕ → List ℕ → Type 0
-RowsStart row₀ row₁ z n₁ I old new =
-    BothCosted (costIn row₀ z I) (costIn row₁ (withCells z n₁) I) I (statesAt z I) (posesAt z I) (statesAt z (suc I))
-    (posesAt z (suc I))
-    (statesAt z I) old new
+-- those of both rows, from every start state in the first lanes
+abbrev pub RowsStart : List ℕ → List ℕ → Sizes → ℕ → ℕ → ℕ → List ℕ → List ℕ → Type 0
+RowsStart row₀ row₁ z n₁ I lanes old new =
+    BothCosted (costIn row₀ z I) (costIn row₁ (withCells z n₁) I) I (statesAt z I) (runAt z I lanes)
+    (statesAt z (suc I)) (posesAt z (suc I)) (statesAt z I) old new
 
 -- stage I, and all stages
 abbrev pub RowsStage : List ℕ → List ℕ → Sizes → ℕ → ℕ → List ℕ → List ℕ → Type 0

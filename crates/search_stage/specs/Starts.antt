@@ -4,6 +4,7 @@ use mathlib.Core.Path.{_≡_, refl, _∙_}
 use mathlib.Core.Logic.{_⊎_, inl, inr, ⊎-elim}
 use mathlib.Core.List.{List}
 use native.Mathlib.Omega.{arith}
+use native.Mathlib.Decide.{decLt}
 use borrow.Author.Count.{below-more}
 use lib.ListN.{length}
 use Rattle.search_store.specs.Map.{caseAt, costsAt}
@@ -11,7 +12,7 @@ use Rattle.theory_tables.specs.Steps.{B, SegmentCosts}
 use Rattle.search_lanes.specs.Store.{Low}
 use Rattle.search_store.specs.Places.{case-beside, cost-before}
 use Rattle.search_join.specs.Tables.{casesIn, pointersIn, costsIn, SameCase, SameTables, Table}
-use Rattle.search_stage.specs.Stage.{fromAt, Dead, SegmentCosted, StartCosted, RowCosted, BothCosted}
+use Rattle.search_stage.specs.Stage.{fromAt, Dead, DeadLanes, SegmentCosted, StartCosted, RowCosted, BothCosted}
 
 -- ---- the cases from a start state
 
@@ -30,32 +31,56 @@ unfolding fromAt
 from-room zero I s t w h g = omega (arith, w .states, w .few, w .stage, w .long)
 from-room (suc row) I s t w h g = omega (arith, w .states, w .few, w .stage, w .long)
 
+-- ---- lanes that no case goes by
+
+pub dead-none : {st : List ℕ} (I starts lanes : ℕ) → DeadLanes st I starts lanes lanes
+dead-none I starts lanes = record { none = λ s t l h g m k. absurd (omega arith) }
+
+-- if no start state of row 0 has a case by them
+pub dead-all : {I starts low high : ℕ} {st : List ℕ} → ((s : ℕ) → s < starts → Dead st 0 I starts s low high)
+    → DeadLanes st I starts low high
+unfolding fromAt casesIn
+dead-all d = record { none = λ s t l h g m k. d s h .none t l g m k }
+
+-- such lanes and those after them
+pub dead-join : {I starts first low mid high : ℕ} {st : List ℕ} → first ≤ low → DeadLanes st I starts first mid
+    → DeadLanes st I starts mid high → DeadLanes st I starts low high
+dead-join {I} {starts} {first} {low} {mid} {high} {st} f d e =
+    record { none = λ s t l h g m k. go s t l h g m k (decLt l mid) }
+  where
+    go : (s t l : ℕ) → s < starts → t < starts → low ≤ l → l < high → Dec (l < mid) → B ≤ casesIn st I s t l
+    go s t l h g m k (yes b) = d .none s t l h g (omega arith) b
+    go s t l h g m k (no b) = e .none s t l h g (omega arith) k
+
 -- ---- the ways of a stage
 
--- a way costs what it should, or both are B or more
+-- a way costs what it should, or both are B or more; so they are by a lane that no case goes by
 pub ways-same : {x₀ x₁ : SegmentCosts} {I starts lanes ends poses s t : ℕ} {old new : List ℕ} (c f : ℕ)
     → SegmentCosted 0 x₀ I starts lanes ends poses s old new → SegmentCosted 1 x₁ I starts lanes ends poses t old new
-    → (q₀ q₁ a l : ℕ) → q₀ < ends → q₁ < ends → a < poses → s < starts → t < starts → l < lanes
-    → c ≡ casesIn old I s t l → casesIn old I s t l ≡ f
+    → (q₀ q₁ a l : ℕ) → q₀ < ends → q₁ < ends → a < poses → s < starts → t < starts
+    → (l < lanes) ⊎ (B ≤ casesIn old I s t l) → c ≡ casesIn old I s t l → casesIn old I s t l ≡ f
     → min (c + (costsIn new 0 s l q₀ a + costsIn new 1 t l q₁ a)) B ≡ min (f + (x₀ s l q₀ a + x₁ t l q₁ a)) B
 unfolding fromAt casesIn
-ways-same {s = s} {t} c f r₀ r₁ q₀ q₁ a l x y z h g k e d =
+ways-same {s = s} {t} c f r₀ r₁ q₀ q₁ a l x y z h g run e d =
     ⊎-elim
-    (λ w. omega (arith, w .none t l g k))
-    (λ w₀. ⊎-elim (λ w. omega (arith, w .none s l h k))
+    (λ k. ⊎-elim
+    (λ w. omega (arith, w .none t l g (omega arith) k))
+    (λ w₀. ⊎-elim (λ w. omega (arith, w .none s l h (omega arith) k))
     (λ w₁. rw (e, d, w₀ .word q₀ a l x z k, w₁ .word q₁ a l y z k) refl) r₁)
-    r₀
+    r₀)
+    (λ b. omega arith)
+    run
 
 -- ---- one start state
 
 -- in fewer lanes it is dead as well
-pub dead-fewer : {row I starts lanes more s : ℕ} {st : List ℕ} → lanes ≤ more → Dead st row I starts more s
-    → Dead st row I starts lanes s
-dead-fewer h d = record { none = λ t l g k. d .none t l g (omega arith) }
+pub dead-fewer : {row I starts s low high lanes : ℕ} {st : List ℕ} → lanes ≤ high → Dead st row I starts s low high
+    → Dead st row I starts s low lanes
+dead-fewer h d = record { none = λ t l g m k. d .none t l g m (omega arith) }
 
 -- nothing is done for a dead one
 pub start-dead : {row I starts lanes ends poses s : ℕ} {x : SegmentCosts} {st : List ℕ} → Low st
-    → Dead st row I starts lanes s → StartCosted row x I starts lanes ends poses s st st
+    → Dead st row I starts s 0 lanes → StartCosted row x I starts lanes ends poses s st st
 start-dead w d = record { long = refl; low = w; kept = λ k h b. refl; right = inl d }
 
 pub start-live : (row : ℕ) {I starts lanes ends poses : ℕ} (s costs : ℕ) (x : SegmentCosts) {old new : List ℕ}
@@ -74,16 +99,16 @@ then u v = record { case = u .case ∙ v .case; source = u .source ∙ v .source
 module _ (I starts lanes ends poses : ℕ) (few : starts ≤ 12) (narrow : lanes ≤ 64) (to : ends ≤ 12) (thin : poses ≤ 64)
     (stage : I ≤ 25) where
   -- a dead one, if the tables are the same
-  dead-kept : (row s : ℕ) {old new : List ℕ} → s < starts → SameTables old new → Dead new row I starts lanes s
-      → Dead old row I starts lanes s
+  dead-kept : (row s : ℕ) {old new : List ℕ} → s < starts → SameTables old new → Dead new row I starts s 0 lanes
+      → Dead old row I starts s 0 lanes
   unfolding fromAt casesIn
   dead-kept zero s h same d = record {
-    none = λ t l g k. let e = same I s t l (omega arith, omega arith, omega arith, omega arith) .case in
-        omega (arith, d .none t l g k);
+    none = λ t l g m k. let e = same I s t l (omega arith, omega arith, omega arith, omega arith) .case in
+        omega (arith, d .none t l g m k);
   }
   dead-kept (suc row) s h same d = record {
-    none = λ t l g k. let e = same I t s l (omega arith, omega arith, omega arith, omega arith) .case in
-        omega (arith, d .none t l g k);
+    none = λ t l g m k. let e = same I t s l (omega arith, omega arith, omega arith, omega arith) .case in
+        omega (arith, d .none t l g m k);
   }
 
   module _ (row : ℕ) (x : SegmentCosts) (s : ℕ) {old new : List ℕ} (b : row ≤ 1)

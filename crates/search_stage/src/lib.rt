@@ -7,7 +7,7 @@ ghost use Prim.Native.Nat.{_≤_, _<_};
 ghost use Rattle.search_store.specs.Map.{CaseRow};
 ghost use Rattle.search_wide_buckets.specs.Table.{Lent};
 ghost use Rattle.search_join.specs.Tables.{Table};
-ghost use Rattle.search_stage.specs.Stage.{wide, widthOf, fromAt, Dead};
+ghost use Rattle.search_stage.specs.Stage.{wide, widthOf, fromAt, Dead, DeadLanes};
 ghost use Rattle.search_stage.specs.Stage.{StagesGiven, StageGiven, StartGiven, RowStart};
 ghost use Rattle.search_stage.specs.Stage.{RowsStart, RowsStage, RowsStages};
 use row::row_cost;
@@ -26,7 +26,7 @@ pub fn wide_of(talls: usize, i: usize, x: usize) -> usize
     x
 }
 
-// How many lanes a segment is run in: a multiple of 16, so that loops over lanes, many at a time, leave no
+// How many lanes a tall cell's table has: a multiple of 16, so that loops over lanes, many at a time, leave no
 // rest. No case goes by those beyond the poses.
 fn width_of(poses: usize) -> usize
     requires { ⌜ poses ≤ 60 ⌝ }
@@ -54,14 +54,23 @@ fn case_from(side: usize, i: usize, s: usize, t: usize) -> usize
     search_store::case_at(i, t, s)
 }
 
-// Whether some case goes from start state s of a row.
-fn live(store: &[u32], side: usize, i: usize, starts: usize, lanes: usize, s: usize) -> bool
-    requires { ⌜ Table starts lanes i (now store) × (s < starts) ⌝ }
-    ensures { λ r. ⌜ (r ≡ false → Dead (now (store .entry)) side i starts lanes s) ⌝ }
+// Whether some case goes from start state s of a row by a lane from `low` to below `high`.
+fn live(
+    store: &[u32],
+    side: usize,
+    i: usize,
+    starts: usize,
+    s: usize,
+    low: usize,
+    high: usize,
+) -> bool
+    requires { ⌜ Table starts high i (now store) × (s < starts) × (low ≤ high) ⌝ }
+    ensures { λ r. ⌜ (r ≡ false → Dead (now (store .entry)) side i starts s low high) ⌝ }
 {
     let mut t: usize = 0;
     while t < starts {
-        if search_lanes::common(store, case_from(side, i, s, t), lanes) < search_lanes::NONE {
+        let at = case_from(side, i, s, t) + low;
+        if search_lanes::common(store, at, high - low) < search_lanes::NONE {
             return true;
         }
         t += 1;
@@ -69,7 +78,38 @@ fn live(store: &[u32], side: usize, i: usize, starts: usize, lanes: usize, s: us
     false
 }
 
-// The costs of stage i in a row from start state s, if some case goes from it.
+// Whether some case of table i goes by a lane from `low` to below `high`.
+fn live_lanes(store: &[u32], i: usize, starts: usize, low: usize, high: usize) -> bool
+    requires { ⌜ Table starts high i (now store) × (low ≤ high) ⌝ }
+    ensures { λ r. ⌜ (r ≡ false → DeadLanes (now (store .entry)) i starts low high) ⌝ }
+{
+    let mut s: usize = 0;
+    while s < starts {
+        if live(store, 0, i, starts, s, low, high) {
+            return true;
+        }
+        s += 1;
+    }
+    false
+}
+
+// How many of the `width` lanes of table i are run: from the end those that no case goes by are left out, 16 by
+// 16, as long as there are more.
+fn lanes_in(store: &[u32], i: usize, starts: usize, width: usize) -> usize
+    requires { ⌜ Table starts width i (now store) ⌝ }
+    ensures { λ lanes. ⌜ (lanes ≤ width) × DeadLanes (now (store .entry)) i starts lanes width ⌝ }
+{
+    let mut lanes = width;
+    while lanes > 16 {
+        if live_lanes(store, i, starts, lanes - 16, lanes) {
+            return lanes;
+        }
+        lanes -= 16;
+    }
+    lanes
+}
+
+// The costs of stage i in a row from start state s, in so many lanes, if some case goes from it.
 fn cost_start(
     table: &mut [u32; search_store::TABLE],
     store: &mut [u32],
@@ -78,21 +118,21 @@ fn cost_start(
     sizes: Sizes,
     i: usize,
     s: usize,
+    lanes: usize,
 )
-    requires { ⌜ StartGiven (now table) (now row) (now store) side sizes i s ⌝ }
-    ensures { λ _. ⌜ RowStart side (now (row .entry)) sizes i s (now (store .entry)) (now (store .exit))
+    requires { ⌜ StartGiven (now table) (now row) (now store) side sizes i s lanes ⌝ }
+    ensures { λ _. ⌜ RowStart side (now (row .entry)) sizes i s lanes (now (store .entry)) (now (store .exit))
         × Lent (now (table .exit)) ⌝ }
 {
     let starts = wide_of(sizes.talls, i, sizes.states);
-    let lanes = lanes_of(sizes.talls, i, sizes.poses);
-    if !live(store, side, i, starts, lanes, s) {
+    if !live(store, side, i, starts, s, 0, lanes) {
         return;
     }
     let costs = search_store::cost_at(side, s, 0, 0);
-    row_cost(table, store, row, sizes, i, s, costs);
+    row_cost(table, store, row, sizes, i, s, lanes, costs);
 }
 
-// The costs of stage i in both rows, from every start state; row 1 has so many cells.
+// The costs of stage i in both rows, from every start state in so many lanes; row 1 has `cells1` cells.
 fn costs(
     table: &mut [u32; search_store::TABLE],
     store: &mut [u32],
@@ -101,17 +141,18 @@ fn costs(
     sizes: Sizes,
     cells1: usize,
     i: usize,
+    lanes: usize,
 )
-    requires { ⌜ StageGiven (now table) (now row0) (now row1) (now store) sizes cells1 i ⌝ }
-    ensures { λ _. ⌜ RowsStart (now (row0 .entry)) (now (row1 .entry)) sizes cells1 i (now (store .entry))
+    requires { ⌜ StageGiven (now table) (now row0) (now row1) (now store) sizes cells1 i × (lanes ≤ 64) ⌝ }
+    ensures { λ _. ⌜ RowsStart (now (row0 .entry)) (now (row1 .entry)) sizes cells1 i lanes (now (store .entry))
         (now (store .exit)) × Lent (now (table .exit)) ⌝ }
 {
     let sizes1 = search_row::with_cells(sizes, cells1);
     let starts = wide_of(sizes.talls, i, sizes.states);
     let mut s: usize = 0;
     while s < starts {
-        cost_start(table, store, 0, row0, sizes, i, s);
-        cost_start(table, store, 1, row1, sizes1, i, s);
+        cost_start(table, store, 0, row0, sizes, i, s, lanes);
+        cost_start(table, store, 1, row1, sizes1, i, s, lanes);
         s += 1;
     }
 }
@@ -130,9 +171,9 @@ pub fn stage(
     ensures { λ _. ⌜ RowsStage (now (row0 .entry)) (now (row1 .entry)) sizes cells1 i (now (store .entry))
         (now (store .exit)) × Lent (now (table .exit)) ⌝ }
 {
-    costs(table, store, row0, row1, sizes, cells1, i);
     let starts = wide_of(sizes.talls, i, sizes.states);
-    let lanes = lanes_of(sizes.talls, i, sizes.poses);
+    let lanes = lanes_in(store, i, starts, lanes_of(sizes.talls, i, sizes.poses));
+    costs(table, store, row0, row1, sizes, cells1, i, lanes);
     let ends = wide_of(sizes.talls, i + 1, sizes.states);
     let last = wide_of(sizes.talls, i + 1, sizes.poses);
     search_join::join_stage(store, i, starts, lanes, ends, last);

@@ -5,10 +5,10 @@ ghost use Rattle.search_row.specs.Words.{backIn, deckIn, posIn, RowGiven};
 ghost use Rattle.search_wide_buckets.specs.Table.{Lent};
 ghost use Rattle.search_dense_first.specs.Begun.{PosesGiven};
 ghost use Rattle.search_dense_segment.specs.Opened.{OpenRoom};
-ghost use Rattle.search_stage.specs.Stage.{widthOf, statesAt, posesAt, costIn, endFrom, EndGiven, CostGiven};
+ghost use Rattle.search_stage.specs.Stage.{statesAt, posesAt, costIn, endFrom, EndGiven, CostGiven};
 ghost use Rattle.search_stage.specs.Stage.{RowCosted, RowCost};
-use crate::width_of;
 use search_row::Sizes;
+use search_wide_layer::Block;
 
 // What the cell at position p pays as the row's last, in each pose.
 fn backs(starts: &mut [u32; 64], row: &[u32], p: usize, poses: usize)
@@ -22,8 +22,8 @@ fn backs(starts: &mut [u32; 64], row: &[u32], p: usize, poses: usize)
     }
 }
 
-// On from the layer in block 0, which has `cells` cells, to tall cell i or the row's end; `starts` has
-// what the start of each lane pays as the last.
+// On from a layer in block 0 to tall cell i or the row's end; `starts` has what the start of each lane pays as
+// the last.
 fn stage_end(
     table: &mut [u32; search_store::TABLE],
     store: &mut [u32],
@@ -31,22 +31,39 @@ fn stage_end(
     sizes: Sizes,
     starts: &[u32; 64],
     i: usize,
-    cells: usize,
+    layer: Block,
     costs: usize,
 )
-    requires { ⌜ EndGiven (now table) (now row) (now store) (now starts) sizes cells costs ⌝ }
+    requires { ⌜ EndGiven (now table) (now row) (now store) (now starts) sizes layer costs ⌝ }
     ensures { λ _. ⌜ RowCosted (endFrom (deckIn (now (row .entry)) sizes) (sizes .reordering) (sizes .talls)
-        (posIn (now (row .entry))) i (now (store .entry)) cells (now (starts .entry))) (widthOf (sizes .poses))
+        (posIn (now (row .entry))) i (now (store .entry)) (layer .cells) (now (starts .entry))) (layer .lanes)
         (statesAt sizes (suc i)) (posesAt sizes (suc i)) costs (now (store .entry)) (now (store .exit))
         × Lent (now (table .exit)) ⌝ }
 {
-    let lanes = width_of(sizes.poses);
     if i < sizes.talls {
         let p = search_row::tall_at(row, i);
-        search_wide_segment::segment_to(table, store, row, sizes, lanes, cells, p, costs);
+        search_wide_segment::segment_to(
+            table,
+            store,
+            row,
+            sizes,
+            layer.lanes,
+            layer.cells,
+            p,
+            costs,
+        );
         return;
     }
-    search_wide_end::segment_end(table, store, row, sizes, starts, lanes, cells, costs);
+    search_wide_end::segment_end(
+        table,
+        store,
+        row,
+        sizes,
+        starts,
+        layer.lanes,
+        layer.cells,
+        costs,
+    );
 }
 
 // The costs of stage 0 in a row, to the block at `costs`: from the row's start to the first
@@ -65,7 +82,7 @@ fn open_cost(store: &mut [u32], row: &[u32], sizes: Sizes, costs: usize)
     search_dense_segment::open_end(store, row, sizes, costs);
 }
 
-// The costs of stage i in a row from start state s, to the block at `costs`.
+// The costs of stage i in a row from start state s in so many lanes, to the block at `costs`.
 pub fn row_cost(
     table: &mut [u32; search_store::TABLE],
     store: &mut [u32],
@@ -73,10 +90,11 @@ pub fn row_cost(
     sizes: Sizes,
     i: usize,
     s: usize,
+    lanes: usize,
     costs: usize,
 )
-    requires { ⌜ CostGiven (now table) (now row) (now store) sizes i s costs ⌝ }
-    ensures { λ _. ⌜ RowCost (now (row .entry)) sizes i s costs (now (store .entry)) (now (store .exit))
+    requires { ⌜ CostGiven (now table) (now row) (now store) sizes i s lanes costs ⌝ }
+    ensures { λ _. ⌜ RowCost (now (row .entry)) sizes i s lanes costs (now (store .entry)) (now (store .exit))
         × Lent (now (table .exit)) ⌝ }
 {
     if i == 0 {
@@ -85,9 +103,14 @@ pub fn row_cost(
     }
     let p = search_row::tall_at(row, i - 1);
     let placed = search_row::placed_with(row, sizes, p, s);
-    let width = width_of(sizes.poses);
-    search_wide_first::first_layer(table, store, row, sizes, width, placed, s, p);
+    search_wide_first::first_layer(table, store, row, sizes, lanes, placed, s, p);
     let mut starts = [0u32; 64];
     backs(&mut starts, row, p, sizes.poses);
-    stage_end(table, store, row, sizes, &starts, i, placed + 1, costs);
+    let cells = placed + 1;
+    let layer = Block {
+        lanes,
+        cells,
+        at: 0,
+    };
+    stage_end(table, store, row, sizes, &starts, i, layer, costs);
 }

@@ -5,9 +5,7 @@ use borrow.Author.Tests.{not-true}
 use borrow.Author.Needs.{needs}
 use Rattle.search_store.specs.Map.{costsAt}
 use Rattle.search_row.specs.Words.{deckIn, posIn}
-use Rattle.search_join.specs.SumLaws.{table-for}
 use Rattle.search_stage.specs.Stage.{costOf}
-use Rattle.search_stage.specs.Laws.{wide-lanes}
 use Rattle.search_stage.specs.Starts.{dead-fewer, start-dead, start-live}
 use Rattle.search_stage.proofs.cost_start.Statement.{statement}
 use Rattle.search_stage.proofs.cost_start.Tie as tie
@@ -15,32 +13,21 @@ use Rattle.search_stage.proofs.cost_start.Tie as tie
 wide-of-requires : tie.Need-wide-of-requires
 wide-of-requires c κs = search needs
 
-lanes-of-requires : tie.Need-lanes-of-requires
-lanes-of-requires c κs = c .before .before .before .pre .given .ground .few
-
 live-requires : tie.Need-live-requires
 live-requires c κs =
-    let after-wide-of = c .before .before in
+    let after-wide-of = c .before in
     let k = after-wide-of .before .before .before in
-    let a = k .args in
-    let t = k .pre .cases in
-    let w = wide-lanes (a .sizes .talls) (a .i) (a .sizes .poses) (k .pre .given .ground .few) in
-    (rw (after-wide-of .wide-of .ensures, c .before .lanes-of .ensures) (table-for _ _ t (w .1) (t .stage)), omega (arith, after-wide-of .wide-of .ensures))
+    (rw (after-wide-of .wide-of .ensures) (k .pre .cases), omega (arith, after-wide-of .wide-of .ensures), omega arith)
 
 same-length : tie.Need-same-length
 same-length c = search needs
 
 returns : tie.Need-returns
 returns c =
-    let after-wide-of = c .before .before .before .before in
+    let after-wide-of = c .before .before .before in
     let k = after-wide-of .before .before .before in
-    let a = k .args in
     let d = c .before .live .ensures (not-true _ (c .if1 .taken)) in
-    let w = wide-lanes (a .sizes .talls) (a .i) (a .sizes .poses) (k .pre .given .ground .few) in (
-      start-dead (k .pre .cases .low)
-          (dead-fewer (w .0) (rw (after-wide-of .wide-of .ensures, c .before .before .before .lanes-of .ensures) at d)),
-      k .pre .lent,
-    )
+    (start-dead (k .pre .cases .low) (dead-fewer (omega arith) (rw (after-wide-of .wide-of .ensures) at d)), k .pre .lent)
 
 cost-at-requires : tie.Need-cost-at-requires
 cost-at-requires c κs = search needs
@@ -49,13 +36,14 @@ row-cost-requires : tie.Need-row-cost-requires
 row-cost-requires c κs =
     let after-cost-at = c .before .before in
     let mid = after-cost-at .before .before .before .before in
-    let k = mid .before .before .before .before in
+    let k = mid .before .before .before in
     let w = k .pre .cases in
     let g = k .pre .given .ground in
     let e = after-cost-at .cost-at .ensures in
     record {
       lent = k .pre .lent;
       given = k .pre .given;
+      narrow = w .few;
       room = record { low = w .low; few = g .few; all = g .all; over = omega (arith, e); room = omega (arith, w .long, e) };
       stage = k .pre .stage;
       state = k .pre .state;
@@ -69,7 +57,7 @@ returns-2 c =
     let after-row-cost = c .before .before in
     let after-cost-at = after-row-cost .before .before .before in
     let mid = after-cost-at .before .before .before .before in
-    let k = mid .before .before .before .before in
+    let k = mid .before .before .before in
     let a = k .args in
     let e : after-cost-at .cost-at .result ≡ costsAt (a .side) (a .s) = omega (arith, after-cost-at .cost-at .ensures) in (
       start-live (a .side) (a .s) _ (costOf (deckIn (a .row .now) (a .sizes)) (a .sizes .reordering) (a .sizes .talls) (posIn (a .row .now)) (a .i)) e
@@ -80,13 +68,4 @@ returns-2 c =
 pub cost-start-spec : {M : Type 1} → statement M
 cost-start-spec =
     tie.close
-    (tie.spec
-    wide-of-requires
-    lanes-of-requires
-    live-requires
-    same-length
-    returns
-    cost-at-requires
-    row-cost-requires
-    same-length-2
-    returns-2)
+    (tie.spec wide-of-requires live-requires same-length returns cost-at-requires row-cost-requires same-length-2 returns-2)

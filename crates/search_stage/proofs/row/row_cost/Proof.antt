@@ -3,7 +3,6 @@ use Prim.Native.Nat.{_+_, _-_}
 use mathlib.Core.Path.{_≡_}
 use Rattle.search_lanes.specs.Laws.{zeros-low}
 use Rattle.search_row.specs.Words.{deckIn, posIn}
-use Rattle.search_stage.specs.Laws.{width-room}
 use Rattle.search_stage.specs.Rows.{row-open, row-after, start-place, start-state}
 use native.Mathlib.Omega.{arith}
 use borrow.Author.Needs.{needs}
@@ -24,7 +23,7 @@ returns c =
     let k = after-if1 .before .before .before in
     let a = k .args in (
       row-open (deckIn (a .row .now) (a .sizes)) (a .sizes .reordering) (a .sizes .talls) (posIn (a .row .now)) (a .sizes .states) (a .s)
-          (after-if1 .if1 .taken) (c .before .before .open-cost .ensures),
+          (a .lanes) (after-if1 .if1 .taken) (c .before .before .open-cost .ensures),
       k .pre .lent,
     )
 
@@ -44,15 +43,9 @@ placed-with-requires c κs =
       );
     }
 
-width-of-requires : tie.Need-width-of-requires
-width-of-requires c κs =
-    let mid = c .before .before .before .before in
-    let k = mid .before in
-    k .pre .given .ground .few
-
 first-layer-requires : tie.Need-first-layer-requires
 first-layer-requires c κs =
-    let after-tall-at = c .before .before .before .before in
+    let after-tall-at = c .before .before .before in
     let k = after-tall-at .before .before .before .before in
     let g = k .pre .given .ground in
     let s = start-state (k .args .sizes .talls) (k .args .i) (k .args .sizes .states) (k .args .s) (k .pre .state) (after-tall-at .before .if1 .left)
@@ -60,15 +53,14 @@ first-layer-requires c κs =
     let p =
     start-place (k .args .i) (after-tall-at .tall-at .result) (k .pre .given) (after-tall-at .before .if1 .left) (k .pre .stage)
     (after-tall-at .tall-at .ensures) in
-    let w = width-room (k .args .sizes .poses) (g .few) in
     let r = k .pre .room in (
       record {
         lent = k .pre .lent;
         given = record {
           ground = g;
           low = r .low;
-          narrow = omega (arith, c .before .before .width-of .ensures, w .1);
-          early = omega (arith, c .before .before .before .placed-with .ensures, g .coded .reorder);
+          narrow = k .pre .narrow;
+          early = omega (arith, c .before .before .placed-with .ensures, g .coded .reorder);
           room = omega (arith, r .over, r .room);
         };
         start = p;
@@ -79,7 +71,7 @@ first-layer-requires c κs =
 backs-requires : tie.Need-backs-requires
 backs-requires c κs =
     let mid = c .before .before .before .before in
-    let after-tall-at = mid .before .before .before .before in
+    let after-tall-at = mid .before .before .before in
     let k = after-tall-at .before .before .before .before in
     let g = k .pre .given .ground in
     record {
@@ -91,22 +83,21 @@ backs-requires c κs =
       few = g .few;
     }
 
-add-stage-end : tie.Need-add-stage-end
-add-stage-end c =
-    let mid = c .before .before .before .before in
-    let mid₂ = mid .before .before .before .before in
-    let after-tall-at = mid₂ .before .before .before .before in
-    let k = after-tall-at .before .before .before .before in
-    let p =
-    start-place (k .args .i) (after-tall-at .tall-at .result) (k .pre .given) (after-tall-at .before .if1 .left) (k .pre .stage)
-    (after-tall-at .tall-at .ensures) in
-    omega (arith, mid₂ .before .before .before .placed-with .ensures, k .pre .given .ground .coded .reorder)
+add-cells : tie.Need-add-cells
+add-cells c =
+    let after-first-layer = c .before .before .before .before in
+    let after-placed-with = after-first-layer .before .before .before in
+    let after-if1 = after-placed-with .before .before in
+    let k = after-if1 .before .before .before in
+    let p = start-place (k .args .i) (after-placed-with .before .tall-at .result) (k .pre .given) (after-if1 .if1 .left) (k .pre .stage)
+    (after-placed-with .before .tall-at .ensures) in
+    omega (arith, after-placed-with .placed-with .ensures, k .pre .given .ground .coded .reorder)
 
 stage-end-requires : tie.Need-stage-end-requires
 stage-end-requires c κs =
     let after-backs = c .before .before .before in
     let after-first-layer = after-backs .before .before .before .before in
-    let after-placed-with = after-first-layer .before .before .before .before in
+    let after-placed-with = after-first-layer .before .before .before in
     let after-if1 = after-placed-with .before .before in
     let k = after-if1 .before .before .before in
     let g = k .pre .given .ground in
@@ -118,13 +109,14 @@ stage-end-requires c κs =
     record {
       lent = after-first-layer .first-layer .ensures .1;
       given = k .pre .given;
-      layer = record {
+      begun = record {
         ground = g;
         low = f .low;
-        narrow = width-room (k .args .sizes .poses) (g .few) .1;
+        narrow = k .pre .narrow;
         early = omega (arith, after-placed-with .placed-with .ensures, g .coded .reorder);
         room = omega (arith, r .over, r .room, f .frame .long);
       };
+      first = omega arith;
       room = record { over = omega (arith, r .over); room = omega (arith, r .room, f .frame .long) };
       low = b .low;
       long = b .frame .long;
@@ -139,18 +131,17 @@ returns-2 c =
     let after-stage-end = c .before .before in
     let after-backs = after-stage-end .before .before .before .before in
     let after-first-layer = after-backs .before .before .before .before in
-    let after-placed-with = after-first-layer .before .before .before .before in
+    let after-placed-with = after-first-layer .before .before .before in
     let after-if1 = after-placed-with .before .before in
     let k = after-if1 .before .before .before in
     let a = k .args in (
       row-after (deckIn (a .row .now) (a .sizes)) (a .sizes .reordering) (a .sizes .talls) (posIn (a .row .now)) (a .i) (a .i - 1) (a .sizes .states) (a .s)
           (after-placed-with .before .tall-at .result) (after-placed-with .placed-with .result) (after-backs .backs .last .0)
           (omega (arith, after-if1 .if1 .left)) (k .pre .stage)
-          (width-room (a .sizes .poses) (k .pre .given .ground .few) .0)
           (k .pre .given .ground .all)
           (after-placed-with .before .tall-at .ensures) (after-placed-with .placed-with .ensures)
           (λ l h. let z : 0 + l ≡ l = omega arith in rw z at (after-backs .backs .ensures .words l h))
-          (rw (after-first-layer .before .before .before .width-of .ensures) at (after-first-layer .first-layer .ensures .0))
+          (after-first-layer .first-layer .ensures .0)
           (after-stage-end .stage-end .ensures .0),
       after-stage-end .stage-end .ensures .1,
     )
@@ -161,5 +152,5 @@ sub-tall-at c = search needs
 pub row-cost-spec : {M : Type 1} → statement M
 row-cost-spec =
     tie.close
-    (tie.spec open-cost-requires same-length returns sub-tall-at tall-at-requires placed-with-requires width-of-requires first-layer-requires backs-requires
-    add-stage-end stage-end-requires same-length-2 returns-2)
+    (tie.spec open-cost-requires same-length returns sub-tall-at tall-at-requires placed-with-requires first-layer-requires backs-requires add-cells
+    stage-end-requires same-length-2 returns-2)

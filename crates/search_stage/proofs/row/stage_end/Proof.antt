@@ -7,9 +7,6 @@ use borrow.Author.Needs.{needs}
 use Rattle.search_stage.proofs.row.stage_end.Statement.{statement}
 use Rattle.search_stage.proofs.row.stage_end.Tie as tie
 
-width-of-requires : tie.Need-width-of-requires
-width-of-requires c κs = search needs
-
 tall-at-requires : tie.Need-tall-at-requires
 tall-at-requires c κs = search needs
 
@@ -17,10 +14,9 @@ segment-to-requires : tie.Need-segment-to-requires
 unfolding posIn
 segment-to-requires c κs =
     let after-if1 = c .before .before .before in
-    let after-width-of = after-if1 .before .before in
-    let k = after-width-of .before .before .before in
+    let k = after-if1 .before .before .before .before in
     let g = k .pre .given in (
-      segment-given (k .pre) (after-width-of .width-of .ensures),
+      segment-given (k .pre),
       omega (arith, c .before .before .tall-at .ensures, g .inside (k .args .i) (after-if1 .if1 .taken), g .ground .size),
     )
 
@@ -32,21 +28,19 @@ unfolding posIn
 returns c =
     let after-segment-to = c .before .before in
     let after-if1 = after-segment-to .before .before .before .before in
-    let after-width-of = after-if1 .before .before in
-    let k = after-width-of .before .before .before in
+    let k = after-if1 .before .before .before .before in
     let a = k .args in (
-      rw (after-width-of .width-of .ensures) at (row-tall (deckIn (a .row .now) (a .sizes)) (a .sizes .reordering) (a .sizes .talls) (posIn (a .row .now))
+      row-tall (deckIn (a .row .now) (a .sizes)) (a .sizes .reordering) (a .sizes .talls) (posIn (a .row .now))
           (a .starts .now) (after-if1 .if1 .taken) (k .pre .given .ground .all) (after-segment-to .before .before .before .tall-at .ensures)
-          (after-segment-to .segment-to .ensures .0)),
+          (after-segment-to .segment-to .ensures .0),
       after-segment-to .segment-to .ensures .1,
     )
 
 segment-end-requires : tie.Need-segment-end-requires
 segment-end-requires c κs =
     let after-if1 = c .before .before in
-    let after-width-of = after-if1 .before .before in
-    let k = after-width-of .before .before .before in
-    (segment-given (k .pre) (after-width-of .width-of .ensures), record { low = k .pre .low; long = k .pre .long })
+    let k = after-if1 .before .before .before .before in
+    (segment-given (k .pre), record { low = k .pre .low; long = k .pre .long })
 
 same-length-2 : tie.Need-same-length-2
 same-length-2 c = search needs
@@ -55,15 +49,14 @@ returns-2 : tie.Need-returns-2
 returns-2 c =
     let after-segment-end = c .before .before in
     let after-if1 = after-segment-end .before .before .before in
-    let after-width-of = after-if1 .before .before in
-    let k = after-width-of .before .before .before in
+    let k = after-if1 .before .before .before .before in
     let a = k .args in (
-      rw (after-width-of .width-of .ensures) at (row-last (deckIn (a .row .now) (a .sizes)) (a .sizes .reordering) (a .sizes .talls) (posIn (a .row .now))
-          (a .sizes .states) (after-if1 .if1 .left) (after-segment-end .segment-end .ensures .0)),
+      row-last (deckIn (a .row .now) (a .sizes)) (a .sizes .reordering) (a .sizes .talls) (posIn (a .row .now))
+          (a .sizes .states) (after-if1 .if1 .left) (after-segment-end .segment-end .ensures .0),
       after-segment-end .segment-end .ensures .1,
     )
 
 pub stage-end-spec : {M : Type 1} → statement M
 stage-end-spec =
     tie.close
-    (tie.spec width-of-requires tall-at-requires segment-to-requires same-length returns segment-end-requires same-length-2 returns-2)
+    (tie.spec tall-at-requires segment-to-requires same-length returns segment-end-requires same-length-2 returns-2)
