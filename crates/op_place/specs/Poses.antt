@@ -52,27 +52,29 @@ module _ (job : Job) (poses : List ℕ) where
   abbrev offered : ℕ → Offer
   offered k = offerOf (headerOf (job .header)) (cellOf (value.cellAt job k))
 
-  pose-numbered : (k : ℕ) (p : Pose) → k < job .count
-      → PoseBy (offered k .limit) (value.cellAt job k .given) (numbersIn poses k) p
+  pose-numbered : (k limit : ℕ) (p : Pose) → k < job .count → limit ≡ offered k .limit
+      → PoseBy limit (value.cellAt job k .given) (numbersIn poses k) p
       → poseOf p ≡ poseNumber (jobOf job) k (numbersIn poses k)
   unfolding poseNumber jobOf cellOf
-  pose-numbered k p h b =
+  pose-numbered k limit p h e b =
       pose-same (poseOf p) (poseNumber (jobOf job) k (numbersIn poses k))
-      (b .site ∙ ap (λ c. c .given + numbersIn poses k / 4 - offerOf (headerOf (job .header)) c .limit)
+      (b .site ∙ ap (λ x. value.cellAt job k .given + numbersIn poses k / 4 - x) e
+      ∙ ap (λ c. c .given + numbersIn poses k / 4 - offerOf (headerOf (job .header)) c .limit)
       (sym (cell-there job k h)))
       (b .layout) (b .mark)
 
-  pub sofar-more : {P : Placement} {k : ℕ} {p : Pose} → Sofar job poses P k → k < job .count → job .count ≤ maxCells
-      → PoseBy (offered k .limit) (value.cellAt job k .given) (numbersIn poses k) p
+  pub sofar-more : {P : Placement} {k limit : ℕ} {p : Pose} → Sofar job poses P k → k < job .count
+      → job .count ≤ maxCells → limit ≡ offered k .limit
+      → PoseBy limit (value.cellAt job k .given) (numbersIn poses k) p
       → Sofar job poses (record { count = P .count; poses = set (P .poses) k p }) (k + 1)
-  sofar-more {P} {k} {p} s h few b =
+  sofar-more {P} {k} {limit} {p} s h few same b =
       record { count = s .count; long = simp length-set (s .long); done = λ i l. go i l (ℕ-discrete i k) }
     where
       go : (i : ℕ) → i < k + 1 → Dec (i ≡ k)
           → poseOf (getD (set (P .poses) k p) i emptyPose) ≡ poseNumber (jobOf job) i (numbersIn poses i)
       go i l (yes e) =
           let m : k < length (P .poses) = omega (arith, s .long) in
-          rw (e, getD-set-same (P .poses) k p emptyPose m) (pose-numbered k p h b)
+          rw (e, getD-set-same (P .poses) k p emptyPose m) (pose-numbered k limit p h same b)
       go i l (no d) = rw (getD-set-other (P .poses) k i p emptyPose d) (s .done i (omega arith))
 
   pub sofar-all : {P : Placement} {k : ℕ} → Accepted job → Sofar job poses P k → k ≡ job .count → Numbered job poses P

@@ -10,10 +10,10 @@ use Rattle.op_place.proofs.placement_of.Statement.{statement}
 use Rattle.op_place.proofs.placement_of.Tie as tie
 
 abbrev Inv-loop : tie.InvT-loop
-Inv-loop job poses placement₀ count displacement k₀ placement k = (k ≤ count) × Sofar job poses placement k
+Inv-loop job poses placement₀ count header k₀ placement k = (k ≤ count) × Sofar job poses placement k
 
 abbrev μ-loop : tie.MeasureT-loop
-μ-loop job poses placement₀ count displacement k₀ placement k = count - k
+μ-loop job poses placement₀ count header k₀ placement k = count - k
 
 empty-requires : tie.Need-empty-requires Inv-loop μ-loop
 empty-requires c κs = search needs
@@ -23,57 +23,63 @@ loop-holds c = (
   omega arith,
   record {
     count = refl;
-    long = ap (λ (P : Placement). length (P .poses)) (c .empty .ensures);
+    long = ap (λ (P : Placement). length (P .poses)) (c .before .empty .ensures);
     done = λ i h. absurd (omega arith);
   },
 )
 
 mul-cell : tie.Need-mul-cell Inv-loop μ-loop
-mul-cell c = omega (arith, c .before .before .before .pre .taken .few)
+mul-cell c = let set = c .before .before in omega (arith, set .before .before .pre .taken .few)
 
 element-copy-out-cell : tie.Need-element-copy-out-cell Inv-loop μ-loop
-element-copy-out-cell c = omega (arith, c .before .before .before .pre .taken .few)
+element-copy-out-cell c = let set = c .before .before in omega (arith, set .before .before .pre .taken .few)
 
 mul-a : tie.Need-mul-a Inv-loop μ-loop
-mul-a c = omega (arith, c .before .before .before .before .pre .taken .few)
+mul-a c = let set = c .before .before .before in omega (arith, set .before .before .pre .taken .few)
 
 array-read-a : tie.Need-array-read-a Inv-loop μ-loop
-array-read-a c = omega (arith, c .before .before .before .before .pre .taken .few)
+array-read-a c = let set = c .before .before .before in omega (arith, set .before .before .pre .taken .few)
+
+offer-of-requires : tie.Need-offer-of-requires Inv-loop μ-loop
+offer-of-requires c κs = search needs
 
 pose-of-requires : tie.Need-pose-of-requires Inv-loop μ-loop
 pose-of-requires c κs =
-    let h = c .before .before in
-    let s = h .before .before in
+    let h = c .before .before .before in
+    let s = h .before .before .before in
     (given-low (s .args .t1) (s .args .t2) (s .pre .taken) (h .loop .k) (omega arith), s .pre .low (h .loop .k))
 
 mul-pose : tie.Need-mul-pose Inv-loop μ-loop
 mul-pose c =
-    let mid = c .before .before .before .before in
-    omega (arith, mid .before .pre .taken .few)
+    let h = c .before .before .before .before in
+    omega (arith, h .before .before .before .pre .taken .few)
 
 element-set-from-pose : tie.Need-element-set-from-pose Inv-loop μ-loop
 element-set-from-pose c =
-    let mid = c .before .before .before .before in
-    omega (arith, mid .before .pre .taken .few)
+    let h = c .before .before .before .before in
+    omega (arith, h .before .before .before .pre .taken .few)
 
 add-k : tie.Need-add-k Inv-loop μ-loop
 add-k c =
-    let mid = c .before .before .before .before in
-    omega (arith, mid .before .pre .taken .few)
+    let h = c .before .before .before .before in
+    omega (arith, h .before .before .before .pre .taken .few)
 
 loop-less : tie.Need-loop-less Inv-loop μ-loop
 loop-less c = omega arith
 
 loop-again : tie.Need-loop-again Inv-loop μ-loop
 loop-again c =
-    let h = c .before .before .before in
-    let s = h .before .before in
-    (omega arith, sofar-more (s .args .t1) (s .args .t2) (h .loop .inv .1) (omega arith) (s .pre .taken .few) (c .pose-of .ensures))
+    let h = c .before .before .before .before in
+    let s = h .before .before .before in
+    let limit = ap (λ o. o .limit) (c .before .offer-of .ensures) in (
+      omega arith,
+      sofar-more (s .args .t1) (s .args .t2) (h .loop .inv .1) (omega arith) (s .pre .taken .few) limit (c .pose-of .ensures),
+    )
 
 returns : tie.Need-returns Inv-loop μ-loop
 returns c =
     let h = c .before in
-    let s = h .before .before in
+    let s = h .before .before .before in
     sofar-all (s .args .t1) (s .args .t2) (s .pre .taken) (h .loop .inv .1) (omega arith)
 
 pub placement-of-spec : {M : Type 1} → statement M
@@ -88,6 +94,7 @@ placement-of-spec =
     element-copy-out-cell
     mul-a
     array-read-a
+    offer-of-requires
     pose-of-requires
     mul-pose
     element-set-from-pose

@@ -50,10 +50,9 @@ returns c =
     let f = shifted .before .before in
     let k = f .before in
     let o = f .offer-of in
-    let e = c .before .before .times .ensures .0 ∙ ap (λ x. k .args .header .shift * x) (shifted .apart-of .ensures) in
-    (
+    let e = c .before .before .times .ensures .0 ∙ ap (λ x. k .args .header .shift * x) (shifted .apart-of .ensures) in (
       ap₂ _+_ (ap₂ _+_ e (c .before .times2 .ensures .0)) (c .times3 .ensures .0)
-      ∙ sym (cost-same (k .args .header) (k .args .cell) (k .args .a) (offerIn (o .result)) (o .ensures)),
+          ∙ sym (cost-same (k .args .header) (k .args .cell) (k .args .a) (offerIn (o .result)) (o .ensures)),
       omega arith,
     )
 
