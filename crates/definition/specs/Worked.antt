@@ -12,11 +12,12 @@ use lib.IntN.{ℤ, pos}
 use Rattle.definition.specs.Texts.{Text, bytes}
 use Rattle.definition.specs.Job.{Reading, refused, accepted, readJob, maxCells, maxTall}
 use Rattle.definition.specs.Gaps.{gapsOf, isClosable}
-use Rattle.definition.specs.Moves.{right, changeBy}
+use Rattle.definition.specs.Rules.{verdict}
+use Rattle.definition.specs.Moves.{left, right, changeBy, alter, movedBy, after}
 use Rattle.definition.specs.Outcome.{Outcome, resultsOf, over, bufferRefusal, placeOutcome}
 use Rattle.definition.specs.Outcome.{jobIn, posesIn, placementIn}
 use Rattle.definition.specs.FaultLine.{ofJob, ofPlacement, partAt, faultLine}
-use Rattle.definition.specs.Edges.{Case, scoring, fiveSites, inFive}
+use Rattle.definition.specs.Edges.{Case, scoring, fiveSites, inFive, besideFixed}
 use Rattle.definition.specs.EdgesComputed.{opened, AllComputed, _&_}
 
 -- ---- whole results of Score
@@ -130,6 +131,19 @@ zero-after-eight = refl
 pub no-further : changeBy right (record { site = 9999; layout = 0; mark = 0 }) .site ≡ 9999
 unfolding changeBy
 no-further = refl
+
+-- moves shift a fixed cell too; only where a list ends counts (A2)
+abbrev onTheWay : Reading → ℕ
+onTheWay (refused n line) = n
+onTheWay (accepted j) = verdict j (after j (
+    record { cell = 0; change = right }
+    ∷ record { cell = 1; change = left }
+    ∷ record { cell = 0; change = left }
+    ∷ [])) .rule
+
+pub fixed-on-the-way : onTheWay (readJob (bytes besideFixed)) ≡ 0
+unfolding opened after movedBy alter changeBy
+fixed-on-the-way = refl
 
 pub limits : (maxCells ≡ 64) × (maxTall ≡ 24)
 limits = (refl, refl)

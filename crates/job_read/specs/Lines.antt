@@ -186,9 +186,10 @@ beginsFixed text at = eqb (getD text at 0) paper.fixedLead
 abbrev pub leadAt : Bool → ℕ
 leadAt fixed = cond fixed paper.fixedLead paper.cellLead
 
-pub lead-high : (fixed : Bool) → comma < leadAt fixed
-lead-high true = omega arith
-lead-high false = omega arith
+-- that lead, which is no comma
+pub record LeadOf (fixed : Bool) (lead : ℕ) : Type 0 where
+  pub byte : lead ≡ leadAt fixed
+  pub high : comma < lead
 
 module _ (text : Text) (at : ℕ) (r : Numbers) (there : at < length text)
     (l : LedFrom (leadAt (beginsFixed text at)) text at r) where

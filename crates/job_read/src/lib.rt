@@ -8,7 +8,7 @@ ghost use Rattle.definition.specs.Job.{readJob, readCells, maxCells};
 ghost use Rattle.definition_laws.specs.Sound.{SoundHeader};
 ghost use Rattle.job.specs.Value.{headerOf};
 ghost use Rattle.job_read.specs.Rows.{tallyWith, room, rises};
-ghost use Rattle.job_read.specs.Lines.{later, headNumber, cellNumber, leadAt};
+ghost use Rattle.job_read.specs.Lines.{later, headNumber, cellNumber, LeadOf};
 ghost use Rattle.job_read.specs.Reads.{HeadLine, CellLine, begun, Reads};
 use job::Cell;
 use job::Header;
@@ -130,7 +130,7 @@ fn cell_refusal(t: Tally, ok: bool, count: usize, mark: u32, c: Cell) -> u32
 
 // The lead of a cell line: F if the cell is fixed.
 fn lead_of(fixed: bool) -> u8
-    ensures { λ r. ⌜ r ≡ leadAt fixed ⌝ }
+    ensures { λ r. ⌜ LeadOf fixed r ⌝ }
 {
     if fixed {
         return b'F';

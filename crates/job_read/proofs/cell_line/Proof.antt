@@ -4,7 +4,7 @@ use lib.ListN.{getD}
 use Rattle.job.specs.Value.{cellOf}
 use Rattle.job_ranges.specs.Values.{cellIn}
 use Rattle.text_scan.specs.Found.{LedFrom}
-use Rattle.job_read.specs.Lines.{cellNumber, cell-few, beginsFixed, leadAt, lead-high, cell-number, cell-passed}
+use Rattle.job_read.specs.Lines.{cellNumber, cell-few, beginsFixed, leadAt, cell-number, cell-passed}
 use borrow.Author.Needs.{needs}
 use Rattle.job_read.proofs.cell_line.Statement.{statement}
 use Rattle.job_read.proofs.cell_line.Tie as tie
@@ -18,7 +18,7 @@ lead-of-requires c κs = search needs
 read-led-requires : tie.Need-read-led-requires
 read-led-requires c κs =
     let a = c .before .before .before in
-    (a .pre, rw (c .lead-of .ensures) (lead-high (beginsFixed (a .args .text .now) (a .args .at))))
+    (a .pre, c .lead-of .ensures .high)
 
 cell-of-requires : tie.Need-cell-of-requires
 cell-of-requires c κs = search needs
@@ -37,7 +37,7 @@ returns c =
     let a = k .args in
     let fixed = beginsFixed (a .text .now) (a .at) in
     let r = read .read-led .result in
-    let f : LedFrom (leadAt fixed) (a .text .now) (a .at) r = rw (lead .lead-of .ensures) at (read .read-led .ensures) in
+    let f : LedFrom (leadAt fixed) (a .text .now) (a .at) r = rw (lead .lead-of .ensures .byte) at (read .read-led .ensures) in
     let n : c .cell-refusal .result ≡ cellNumber (a .t) (r .ok) (r .count) (getD (r .values) 2 0) (cellIn fixed (r .values)) =
     c .cell-refusal .ensures ∙ ap (cellNumber (a .t) (r .ok) (r .count) (getD (r .values) 2 0)) (c .before .cell-of .ensures) in
     record {

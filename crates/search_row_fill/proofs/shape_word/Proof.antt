@@ -16,7 +16,7 @@ sub-result : tie.Need-sub-result
 sub-result c =
     let f = c .before .before in
     let k = f .before .before in
-    limit-low (k .args .header) (k .args .cell) (offerIn (f .offer-of .result)) (f .offer-of .ensures)
+    omega (arith, limit-low (k .args .header) (k .args .cell) (offerIn (f .offer-of .result)) (f .offer-of .ensures))
 
 add-result : tie.Need-add-result
 add-result c = let k = c .before .before .before .before in omega (arith, k .before .pre .ranged .given, k .before .pre .ranged .displacement)
