@@ -2,3 +2,4 @@ pub mod Fair
 pub mod Demand1
 pub mod Demand2
 pub mod Gaps
+pub mod Fixed
