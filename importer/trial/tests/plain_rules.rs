@@ -46,11 +46,13 @@ impl Placed<'_> {
         let (of_job, pose) = (&self.job.cells[cell], &self.poses[cell]);
         let rows = || of_job.rows().map(|row| self.row(row));
         match rule {
+            1 if of_job.fixed => pose.layout != 0 || pose.mark != 0,
             1 => {
                 let marked_well = pose.mark == 0 || pose.mark == 1 && of_job.mirrorable;
                 pose.layout >= of_job.layouts || !marked_well
             }
             2 => self.end(cell) > self.job.sites.into(),
+            3 if of_job.fixed => pose.site != of_job.given,
             3 => {
                 let shift = self.site(cell) - i32::from(of_job.given);
                 shift.abs() > self.job.displacement.into()
@@ -122,7 +124,7 @@ fn compare(job: &Job, poses: &[Pose]) -> usize {
 fn agree() {
     let mut random = Random::new(21);
     let mut seen = [0; 9];
-    for count in 0..20_000 {
+    for count in 0..30_000 {
         let (job, mut placement) = placements::job_with_legal_placement(&mut random);
         seen[compare(&job, &placement)] += 1;
         placements::break_rule(&mut random, 1 + count % 8, &job, &mut placement);
@@ -133,6 +135,31 @@ fn agree() {
         seen[compare(&job, &placements::wild(&mut random, &job))] += 1;
     }
     assert!(seen.iter().all(|&seen| seen > 100), "{seen:?}");
+}
+
+/// Cells that stand as a fixed one must, or break rule 1 or 3 as only a fixed one does.
+#[test]
+fn agree_on_fixed_cells() {
+    let mut random = Random::new(23);
+    let mut seen = [0; 9];
+    let mut by_fixed = [0; 9];
+    for count in 0..40_000 {
+        let (job, mut placement) = placements::job_with_fixed_cells(&mut random);
+        assert_eq!(compare(&job, &placement), 0, "{job:?}");
+        match count % 4 {
+            0 => placements::break_rule(&mut random, 1, &job, &mut placement),
+            1 => placements::break_rule(&mut random, 3, &job, &mut placement),
+            _ => placements::wander(&mut random, &job, &mut placement),
+        }
+        let rule = compare(&job, &placement);
+        let mut freed = job.clone();
+        freed.cells.iter_mut().for_each(|cell| cell.fixed = false);
+        let by_fixed_cell = compare(&freed, &placement) != rule;
+        seen[rule] += 1;
+        by_fixed[rule] += usize::from(by_fixed_cell);
+    }
+    assert!(seen[0] > 3_000 && seen[4] > 200, "{seen:?}");
+    assert!(by_fixed[1] > 3_000 && by_fixed[3] > 3_000, "{by_fixed:?}");
 }
 
 #[test]

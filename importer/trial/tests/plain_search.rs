@@ -35,7 +35,13 @@ fn has_the_least_cost() {
     thread::scope(|scope| {
         let any = scope.spawn(|| compare(61, small::job));
         let ends = scope.spawn(|| compare(62, small::job_with_row_ends));
-        let met = [any, ends].map(|run| run.join().expect("the jobs of each seed agree"));
-        assert!(met[0] > JOBS / 6 && met[1] > JOBS / 3, "{met:?}");
+        let fixed = scope.spawn(|| compare(63, small::job_with_fixed_cells));
+        let runs = [any, ends, fixed];
+        let met = runs.map(|run| run.join().expect("the jobs of each seed agree"));
+        let least = [JOBS / 6, JOBS / 3, JOBS / 20];
+        assert!(
+            met.iter().zip(least).all(|(&met, least)| met > least),
+            "{met:?}"
+        );
     });
 }

@@ -93,10 +93,15 @@ impl Damage {
     }
 }
 
-const LEADS: [&[u8]; 9] = [
+const LEADS: [&[u8]; 14] = [
     b"",
     b"J",
     b"C",
+    b"F",
+    b"f",
+    b"FF",
+    b"FC",
+    b"CF",
     b"K",
     b"c",
     b"JJ",
@@ -115,9 +120,18 @@ const VALUES: [&[u8]; 16] = [
     b"0", b"1", b"2", b"3", b"7", b"8", b"15", b"16", b"64", b"65", b"1000", b"1001", b"1023",
     b"1024", b"1025", b"9999",
 ];
-const TAILS: [&[u8]; 6] = [b"\n", b"\0", b"C", b"C,0,0,0,1,1,1,1,1,1\n", b"\r\n", b"0"];
-const BYTES: [u8; 14] = [
-    b'\n', b'\r', 0, b',', b'0', b'1', b'9', b' ', b'-', b'C', b'J', b'/', b':', 0xb1,
+const TAILS: [&[u8]; 8] = [
+    b"\n",
+    b"\0",
+    b"C",
+    b"F",
+    b"C,0,0,0,1,1,1,1,1,1\n",
+    b"F,0,0,0,1,1,1,1,1,1\n",
+    b"\r\n",
+    b"0",
+];
+const BYTES: [u8; 15] = [
+    b'\n', b'\r', 0, b',', b'0', b'1', b'9', b' ', b'-', b'C', b'F', b'J', b'/', b':', 0xb1,
 ];
 
 /// Where a line stands: its first byte, its line feed (or the text's end), its fields.

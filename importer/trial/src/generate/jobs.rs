@@ -10,6 +10,7 @@ pub fn job(random: &mut Random, cells: usize) -> Job {
     let most_width = random.pick(&[1, 4, 16, 64]);
     let most_height = random.pick(&[1, 2, 3, 15]);
     let most_step = random.pick(&[0, 2, 8, 24]);
+    let fixed_in_ten = fixed_in_ten(random);
     let mut job = Job {
         rows,
         sites: random.pick(&[1, 20, 200, 1023, 1024]),
@@ -29,6 +30,7 @@ pub fn job(random: &mut Random, cells: usize) -> Job {
             random.from_to(0, 1)
         };
         let mut cell = cell(random, row, most_width, most_height);
+        cell.fixed = random.chance(fixed_in_ten, 10);
         cell.given = next_given(&mut highest, &cell, random.from_to(0, most_step));
         job.cells.push(cell);
     }
@@ -55,7 +57,12 @@ pub fn weights(random: &mut Random) -> Weights {
     }
 }
 
-/// A cell in this row with one layout or two; its given site is left at 0.
+/// How many of ten cells of a job are fixed: in most jobs none, else few, most or all.
+pub fn fixed_in_ten(random: &mut Random) -> usize {
+    random.pick(&[0, 0, 0, 0, 2, 6, 10])
+}
+
+/// A cell in this row with one layout or two that is not fixed; its given site is left at 0.
 pub fn cell(random: &mut Random, row: u16, most_width: u16, most_height: u16) -> Cell {
     let layouts = random.from_to(1, 2);
     cell_with_layouts(random, row, layouts, most_width, most_height)
@@ -71,6 +78,7 @@ pub fn cell_with_layouts(
     let mut cell = Cell {
         row,
         given: 0,
+        fixed: false,
         mirrorable: random.chance(1, 2),
         layouts,
         layout: [Layout::default(); 2],

@@ -1,13 +1,14 @@
 //! Placements of a job: legal ones, nearly legal ones, and wild ones.
 
 use super::{jobs, legal, Random};
-use crate::plain::job::Job;
+use crate::plain::job::{Cell, Job};
 use crate::plain::placement::{given_rows, Placement, Pose};
 
 /// A job and a legal placement of it that is not its given rows.
 pub fn job_with_legal_placement(random: &mut Random) -> (Job, Placement) {
     let shape = any_shape(random);
-    job_with_placement(random, &shape)
+    let fixed_in_ten = jobs::fixed_in_ten(random);
+    job_with_placement(random, &shape, fixed_in_ten)
 }
 
 /// A job and a placement of it that is legal but for rule 8: there are few cells, and often one
@@ -23,15 +24,38 @@ pub fn job_with_row_ends(random: &mut Random) -> (Job, Placement) {
         one_site_ends: true,
         ..any
     };
-    job_with_placement(random, &shape)
+    let fixed_in_ten = jobs::fixed_in_ten(random);
+    job_with_placement(random, &shape, fixed_in_ten)
 }
 
-/// A job whose given rows were moved by at most D, and the placement that they were.
-fn job_with_placement(random: &mut Random, shape: &legal::Shape) -> (Job, Placement) {
+/// A job with few cells of which some are fixed, and a legal placement of it.
+pub fn job_with_fixed_cells(random: &mut Random) -> (Job, Placement) {
+    let most = random.pick(&[3, 5, 6, 8]);
+    let shape = legal::Shape {
+        displacement: random.from_to(0, 7),
+        ..shape_of(random, most)
+    };
+    let fixed_in_ten = random.pick(&[2, 4, 4, 6, 6, 8, 9]);
+    loop {
+        let (job, placement) = job_with_placement(random, &shape, fixed_in_ten);
+        if job.fixed_cells() > 0 {
+            return (job, placement);
+        }
+    }
+}
+
+/// A job whose given rows were moved by at most D, but for fixed cells, and the placement that they
+/// were.
+fn job_with_placement(
+    random: &mut Random,
+    shape: &legal::Shape,
+    fixed_in_ten: usize,
+) -> (Job, Placement) {
     let mut job = legal::job(random, shape);
     let placement = given_rows(&job);
     job.weights = jobs::weights(random);
     for cell in &mut job.cells {
+        cell.fixed = random.chance(fixed_in_ten, 10);
         cell.mirrorable = random.chance(2, 3);
         cell.layouts = random.from_to(1, 2);
     }
@@ -64,18 +88,38 @@ fn shape_of(random: &mut Random, most: usize) -> legal::Shape {
     }
 }
 
-/// Moves given sites by at most D, so that they still do not fall in a row.
+/// Moves given sites by at most D, those of fixed cells not at all, so that they still do not fall
+/// in a row.
 fn move_given_sites(random: &mut Random, job: &mut Job) {
     let limit = random.pick(&[0, job.displacement / 2, job.displacement]);
+    let ceilings = ceilings(job);
     let mut highest = [0; 2];
-    for cell in &mut job.cells {
+    for (cell, ceiling) in job.cells.iter_mut().zip(ceilings) {
         let rows = &mut highest[cell.rows()];
         let floor = rows.iter().copied().max().unwrap_or(0);
-        let low = cell.given.saturating_sub(limit).max(floor);
-        let high = (cell.given + limit).min(1023).max(low);
-        cell.given = random.from_to(low, high);
+        if !cell.fixed {
+            let low = cell.given.saturating_sub(limit).max(floor);
+            let high = (cell.given + limit).min(ceiling).max(low);
+            cell.given = random.from_to(low, high);
+        }
         rows.fill(cell.given);
     }
+}
+
+/// How far right each cell may be given, so that no fixed cell behind it, nor any cell between
+/// them, falls.
+fn ceilings(job: &Job) -> Vec<u16> {
+    let mut lowest = [1023; 2];
+    let ceiling = |cell: &Cell| {
+        let rows = &mut lowest[cell.rows()];
+        let behind = rows.iter().copied().min().unwrap_or(1023);
+        let ceiling = if cell.fixed { cell.given } else { behind };
+        rows.fill(ceiling);
+        ceiling
+    };
+    let mut ceilings: Vec<u16> = job.cells.iter().rev().map(ceiling).collect();
+    ceilings.reverse();
+    ceilings
 }
 
 /// Changes a placement a little: one cell's site, mark or layout, or two cells' places.
@@ -118,20 +162,33 @@ pub fn break_rule(random: &mut Random, rule: u32, job: &Job, placement: &mut [Po
     if placement.is_empty() {
         return;
     }
-    let at = random.below(placement.len());
+    let at = cell_to_break(random, rule, job);
     let cell = &job.cells[at];
     let site_of_another = placement[random.below(placement.len())].site;
     let pose = &mut placement[at];
     match rule {
-        1 if random.chance(1, 2) => pose.layout = random.pick(&[cell.layouts, 2, 9999]),
-        1 => pose.mark = random.pick(&[u16::from(cell.mirrorable) + 1, 2, 9999]),
+        1 if random.chance(1, 2) => pose.layout = random.pick(&[cell.offered_layouts(), 2, 9999]),
+        1 => pose.mark = random.pick(&[cell.highest_mark() + 1, 2, 9999]),
         2 => pose.site = random.pick(&[job.sites - 1, job.sites, job.sites + 1, 9999]),
-        3 => pose.site = cell.given + job.displacement + random.from_to(0, 1),
+        3 => pose.site = cell.given + job.displacement_of(cell) + random.from_to(0, 1),
         4 => pose.site = site_of_another,
         5 => pose.site += 1,
         6 => exchange(job, placement, at, at + 1 + random.below(3)),
         7 => exchange_tall(random, job, placement),
         _ => leave_one_site(random, job, placement, cell.rows().start),
+    }
+}
+
+/// Any cell for rules 1 and 3; for others one that is not fixed, if there is one: a fixed cell that
+/// moves breaks rule 3 before them.
+fn cell_to_break(random: &mut Random, rule: u32, job: &Job) -> usize {
+    let any: Vec<usize> = (0..job.cells.len()).collect();
+    let free = any.iter().copied().filter(|&at| !job.cells[at].fixed);
+    let free: Vec<usize> = free.collect();
+    match rule {
+        1 | 3 => random.pick(&any),
+        _ if free.is_empty() => random.pick(&any),
+        _ => random.pick(&free),
     }
 }
 
@@ -157,10 +214,10 @@ fn leave_one_site(random: &mut Random, job: &Job, placement: &mut [Pose], row: u
     }
 }
 
-/// Lets two tall cells change places.
+/// Lets two tall cells that are not fixed change places.
 fn exchange_tall(random: &mut Random, job: &Job, placement: &mut [Pose]) {
     let tall: Vec<usize> = (0..placement.len())
-        .filter(|&at| job.cells[at].is_tall())
+        .filter(|&at| job.cells[at].is_tall() && !job.cells[at].fixed)
         .collect();
     if tall.len() >= 2 {
         let first = random.below(tall.len() - 1);

@@ -19,6 +19,7 @@ pub fn job(random: &mut Random) -> Job {
         weights: jobs::weights(random),
         ..Job::default()
     };
+    let fixed_in_ten = jobs::fixed_in_ten(random);
     let mut highest = [0; 2];
     let mut tries = 1;
     for _ in 0..random.below(7) {
@@ -28,6 +29,7 @@ pub fn job(random: &mut Random) -> Job {
             random.from_to(0, TALL)
         };
         let mut cell = jobs::cell(random, row, most_width, most_height);
+        cell.fixed = random.chance(fixed_in_ten, 10);
         tries *= poses(&job, &cell);
         if tries > MOST_PLACEMENTS {
             break;
@@ -44,8 +46,27 @@ pub fn job(random: &mut Random) -> Job {
 
 /// A job of 1 to 5 cells of which a placement is known that is legal but for rule 8.
 pub fn job_with_row_ends(random: &mut Random) -> Job {
+    drawn_small(random, |random| placements::job_with_row_ends(random).0)
+}
+
+/// A job of 1 to 8 cells of which some are fixed, with D from 0 to 7: mostly one of which a legal
+/// placement is known, else one with D to 3 of which none is.
+pub fn job_with_fixed_cells(random: &mut Random) -> Job {
+    if random.chance(2, 3) {
+        return drawn_small(random, |random| placements::job_with_fixed_cells(random).0);
+    }
     loop {
-        let (job, _) = placements::job_with_row_ends(random);
+        let job = job(random);
+        if job.fixed_cells() > 0 {
+            return job;
+        }
+    }
+}
+
+/// The first job drawn that has few enough placements.
+fn drawn_small(random: &mut Random, draw: impl Fn(&mut Random) -> Job) -> Job {
+    loop {
+        let job = draw(random);
         let tries: usize = job.cells.iter().map(|cell| poses(&job, cell)).product();
         if tries <= MOST_PLACEMENTS {
             return job;
@@ -55,6 +76,6 @@ pub fn job_with_row_ends(random: &mut Random) -> Job {
 
 /// How many poses rules 1 and 3 leave to a cell at most.
 fn poses(job: &Job, cell: &Cell) -> usize {
-    let choices = usize::from(cell.layouts) * (1 + usize::from(cell.mirrorable));
-    choices * usize::from(2 * job.displacement + 1)
+    let choices = usize::from(cell.offered_layouts() * (1 + cell.highest_mark()));
+    choices * usize::from(2 * job.displacement_of(cell) + 1)
 }

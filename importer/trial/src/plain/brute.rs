@@ -49,10 +49,11 @@ struct Offer {
 /// The poses of a cell that keep rules 1 to 3, the cheapest first.
 fn offered(job: &Job, cell: &Cell) -> Vec<Offer> {
     let mut offered = Vec::new();
-    let low = cell.given.saturating_sub(job.displacement);
-    for site in low..=cell.given + job.displacement {
-        for layout in 0..cell.layouts {
-            for mark in 0..=u16::from(cell.mirrorable) {
+    let limit = job.displacement_of(cell);
+    let low = cell.given.saturating_sub(limit);
+    for site in low..=cell.given + limit {
+        for layout in 0..cell.offered_layouts() {
+            for mark in 0..=cell.highest_mark() {
                 let pose = Pose { site, layout, mark };
                 if pose.end(cell) <= job.sites {
                     let cost = own_cost(job, cell, &pose);

@@ -35,6 +35,8 @@ pub struct Cell {
     /// 0, 1, or [`TALL`].
     pub row: u16,
     pub given: u16,
+    /// Led by `F`: it must not move (A2).
+    pub fixed: bool,
     pub mirrorable: bool,
     /// How many of `layout` the cell has: 1 or 2.
     pub layouts: u16,
@@ -54,6 +56,20 @@ impl Cell {
         self.row == TALL
     }
 
+    /// How many of its layouts it may stand in: a fixed cell keeps layout 0.
+    pub fn offered_layouts(&self) -> u16 {
+        if self.fixed {
+            1
+        } else {
+            self.layouts
+        }
+    }
+
+    /// The highest mark that it may have: a fixed cell stays unmirrored.
+    pub fn highest_mark(&self) -> u16 {
+        u16::from(self.mirrorable && !self.fixed)
+    }
+
     /// The rows that the cell stands in.
     pub fn rows(&self) -> Range<usize> {
         match self.row {
@@ -66,6 +82,19 @@ impl Cell {
 impl Job {
     pub fn tall_cells(&self) -> usize {
         self.cells.iter().filter(|cell| cell.is_tall()).count()
+    }
+
+    pub fn fixed_cells(&self) -> usize {
+        self.cells.iter().filter(|cell| cell.fixed).count()
+    }
+
+    /// How far a cell of the job may be shifted: a fixed cell's displacement limit is 0.
+    pub fn displacement_of(&self, cell: &Cell) -> u16 {
+        if cell.fixed {
+            0
+        } else {
+            self.displacement
+        }
     }
 
     /// The job's text.
@@ -84,7 +113,8 @@ impl Job {
         ];
         write_line(&mut text, 'J', header);
         for cell in &self.cells {
-            write_line(&mut text, 'C', cell.fields());
+            let lead = if cell.fixed { 'F' } else { 'C' };
+            write_line(&mut text, lead, cell.fields());
         }
         text.into_bytes()
     }

@@ -31,8 +31,9 @@ pub fn improve(job: &Job, start: Placement) -> Option<(Placement, u32)> {
 fn candidates(job: &Job, placement: &Placement, cell: usize) -> Vec<Placement> {
     let of_job = &job.cells[cell];
     let mut candidates = Vec::new();
-    let low = of_job.given.saturating_sub(job.displacement);
-    for site in low..=of_job.given + job.displacement {
+    let limit = job.displacement_of(of_job);
+    let low = of_job.given.saturating_sub(limit);
+    for site in low..=of_job.given + limit {
         for (layout, mark) in [(0, 0), (0, 1), (1, 0), (1, 1)] {
             let mut candidate = placement.clone();
             candidate[cell] = Pose { site, layout, mark };

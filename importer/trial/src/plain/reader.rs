@@ -24,8 +24,11 @@ pub fn read_job(text: &[u8]) -> Result<Job, Refused> {
     while at < text.len() {
         line += 1;
         let refuse = |number| Refused { number, line };
-        let numbers = lead_and_numbers(b'C', text, at).ok_or(refuse(FORM))?;
-        let cell = read_cell(job.rows, &numbers).map_err(refuse)?;
+        let fixed = text[at] == b'F';
+        let lead = if fixed { b'F' } else { b'C' };
+        let numbers = lead_and_numbers(lead, text, at).ok_or(refuse(FORM))?;
+        let mut cell = read_cell(job.rows, &numbers).map_err(refuse)?;
+        cell.fixed = fixed;
         seen.admit(&cell).map_err(refuse)?;
         job.cells.push(cell);
         at = numbers.next;
@@ -102,7 +105,8 @@ fn read_header(text: &[u8]) -> Result<(Job, usize), u32> {
     Ok((job, numbers.next))
 }
 
-/// The cell of a line of numbers, in a job of so many rows.
+/// The cell of a line of numbers, in a job of so many rows. Whether it is fixed is for the lead to
+/// say.
 fn read_cell(rows: u16, numbers: &Numbers) -> Result<Cell, u32> {
     let &[row, given, mirrorable, layouts, ..] = numbers.values() else {
         return Err(FORM);
@@ -118,6 +122,7 @@ fn read_cell(rows: u16, numbers: &Numbers) -> Result<Cell, u32> {
     let mut cell = Cell {
         row,
         given,
+        fixed: false,
         mirrorable: mirrorable == 1,
         layouts,
         layout: [Layout::default(); 2],

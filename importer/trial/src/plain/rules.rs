@@ -44,7 +44,7 @@ fn first(job: &Job, placement: &[Pose], breaks: fn(&Job, &Cell, &Pose) -> bool) 
 
 /// Rule 1.
 fn choice_not_offered(_: &Job, cell: &Cell, pose: &Pose) -> bool {
-    pose.layout >= cell.layouts || pose.mark > u16::from(cell.mirrorable)
+    pose.layout >= cell.offered_layouts() || pose.mark > cell.highest_mark()
 }
 
 /// Rule 2.
@@ -54,7 +54,7 @@ fn outside_row(job: &Job, cell: &Cell, pose: &Pose) -> bool {
 
 /// Rule 3.
 fn shifted_too_far(job: &Job, cell: &Cell, pose: &Pose) -> bool {
-    pose.site.abs_diff(cell.given) > job.displacement
+    pose.site.abs_diff(cell.given) > job.displacement_of(cell)
 }
 
 /// Rule 4. From left to right, a cell overlaps one before it if it begins below the furthest end

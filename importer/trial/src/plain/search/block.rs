@@ -47,13 +47,15 @@ impl<const L: usize> Block<L> {
         }
     }
 
-    /// Only a pose for each lane, at no charge: a cell to start from.
-    pub fn start(&mut self, pose_of_lane: impl Iterator<Item = usize>) {
+    /// Only a pose for each lane, at no charge, if it is offered: a cell to start from.
+    pub fn start(&mut self, line: &Line, pose_of_lane: impl Iterator<Item = usize>) {
         self.live = 0;
         for (lane, pose) in pose_of_lane.enumerate() {
-            self.rows[pose] = [NONE; L];
-            self.rows[pose][lane] = 0;
-            self.live |= 1 << pose;
+            if line.offered[pose] < NONE {
+                self.rows[pose] = [NONE; L];
+                self.rows[pose][lane] = 0;
+                self.live |= 1 << pose;
+            }
         }
     }
 

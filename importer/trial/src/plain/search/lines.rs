@@ -80,15 +80,16 @@ impl Line {
     fn own_charge(&self, job: &Job, cell: &Cell, pose: usize) -> i32 {
         let (layout, mark) = (pose >> 1 & 1, pose & 1);
         let site = self.site(pose);
-        let offered = layout < usize::from(cell.layouts)
-            && mark <= usize::from(cell.mirrorable)
+        let shifted = (site - i32::from(cell.given)).abs();
+        let offered = layout < usize::from(cell.offered_layouts())
+            && mark <= usize::from(cell.highest_mark())
+            && shifted <= i32::from(job.displacement_of(cell))
             && site >= 0
             && self.end(pose) <= i32::from(job.sites);
         if !offered {
             return NONE;
         }
         let weights = job.weights;
-        let shifted = (site - i32::from(cell.given)).abs();
         i32::from(weights.shift) * shifted
             + i32::from(weights.mirror) * mark as i32
             + i32::from(weights.swap) * layout as i32

@@ -53,7 +53,7 @@ impl<'a, const L: usize> Stretch<'a, L> {
         let cells = match start {
             Start::Edge => Some(0),
             Start::Tall { place, pair } => {
-                self.layer.blocks[pair].start(pose_of_lane);
+                self.layer.blocks[pair].start(&self.row.lines[place], pose_of_lane);
                 self.board.pairs.cells_at(place, pair)
             }
         };
