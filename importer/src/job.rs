@@ -29,8 +29,17 @@
 //! assert_eq!(refine(&job.text())?.numbers.cost, 100);
 //! # Ok::<(), importer::Refused>(())
 //! ```
+//!
+//! A cell that was placed by hand and must not move is [`fixed`](Cell::fixed):
+//!
+//! ```
+//! use importer::job::{Cell, Layout};
+//!
+//! let clock = Cell::single(0, 12, [Layout::single(5, [2, 2, 1, 1])]).fixed();
+//! assert_eq!(clock.to_string(), "F,0,12,0,1,5,2,2,1,1");
+//! ```
 
-use std::fmt;
+mod text;
 
 /// A job: its first line, and its cells in file order.
 #[derive(Clone, Debug, Default, PartialEq, Eq)]
@@ -75,6 +84,8 @@ pub struct Weights {
 pub struct Cell {
     /// Its left site at the start.
     pub given: u32,
+    /// Whether it must stay at its given site, in layout 0 and unmirrored, whatever else it says.
+    pub fixed: bool,
     /// Whether it may be mirrored.
     pub mirrorable: bool,
     /// The rows that it stands in, and its layouts there.
@@ -169,9 +180,18 @@ impl Cell {
         self
     }
 
+    /// The cell, which must now stay at its given site, in layout 0 and unmirrored. It may have two
+    /// layouts and be mirrorable all the same.
+    #[must_use]
+    pub fn fixed(mut self) -> Cell {
+        self.fixed = true;
+        self
+    }
+
     fn standing(given: u32, stand: Stand) -> Cell {
         Cell {
             given,
+            fixed: false,
             mirrorable: false,
             stand,
         }
@@ -208,62 +228,5 @@ impl From<[u32; 4]> for Heights {
             right_p,
             right_n,
         }
-    }
-}
-
-/// The job's text.
-impl fmt::Display for Job {
-    fn fmt(&self, out: &mut fmt::Formatter<'_>) -> fmt::Result {
-        writeln!(out, "{}", self.header)?;
-        let mut cells = self.cells.iter();
-        cells.try_for_each(|cell| writeln!(out, "{cell}"))
-    }
-}
-
-/// The first line, without its line feed.
-impl fmt::Display for Header {
-    fn fmt(&self, out: &mut fmt::Formatter<'_>) -> fmt::Result {
-        let Header { rows, sites, .. } = self;
-        let (displacement, reordering) = (self.displacement, self.reordering);
-        let Weights {
-            step,
-            shift,
-            mirror,
-            swap,
-        } = self.weights;
-        write!(out, "J,{rows},{sites},{displacement},{reordering},")?;
-        write!(out, "{step},{shift},{mirror},{swap}")
-    }
-}
-
-/// The cell's line, without its line feed.
-impl fmt::Display for Cell {
-    fn fmt(&self, out: &mut fmt::Formatter<'_>) -> fmt::Result {
-        let (given, mirrorable) = (self.given, u32::from(self.mirrorable));
-        match &self.stand {
-            Stand::Single { row, layouts } => {
-                write!(out, "C,{row},{given},{mirrorable},{}", layouts.len())?;
-                layouts.iter().try_for_each(|layout| layout.write(out))
-            }
-            Stand::Tall { layouts } => {
-                write!(out, "C,2,{given},{mirrorable},{}", layouts.len())?;
-                layouts.iter().try_for_each(|layout| layout.write(out))
-            }
-        }
-    }
-}
-
-impl<const ROWS: usize> Layout<ROWS> {
-    /// The layout's fields behind those that stand before it.
-    fn write(&self, out: &mut fmt::Formatter<'_>) -> fmt::Result {
-        write!(out, ",{}", self.width)?;
-        self.heights.iter().try_for_each(|heights| {
-            let Heights { left_p, left_n, .. } = heights;
-            write!(
-                out,
-                ",{left_p},{left_n},{},{}",
-                heights.right_p, heights.right_n
-            )
-        })
     }
 }

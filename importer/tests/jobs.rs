@@ -59,6 +59,29 @@ fn each_field_stands_in_its_place() {
     assert_eq!(judged(&job), Ok(4));
 }
 
+/// A fixed cell's line has the same fields behind another lead, and counts as any cell.
+#[test]
+fn a_fixed_cell_has_its_own_lead() {
+    let rich = Cell::single(1, 12, [Layout::single(4, [1, 2, 3, 4]); 2]);
+    let cells = [
+        single(0, 2).fixed(),
+        rich.fixed().mirrorable(),
+        tall(20).fixed(),
+        single(0, 40),
+    ];
+    let mut job = Job::new(HEADER);
+    job.extend(cells);
+    let text = "J,2,100,7,1,10,20,30,40\n\
+                F,0,2,0,1,4,1,2,3,4\n\
+                F,1,12,1,2,4,1,2,3,4,4,1,2,3,4\n\
+                F,2,20,0,1,5,1,2,3,4,5,6,7,8\n\
+                C,0,40,0,1,4,1,2,3,4\n";
+    assert_eq!(job.to_string(), text);
+    assert_eq!(judged(&job), Ok(4));
+    job.cells.iter_mut().for_each(|cell| cell.fixed = false);
+    assert_eq!(job.to_string(), text.replace('F', "C"));
+}
+
 #[test]
 fn a_job_without_cells_is_its_first_line() {
     assert_eq!(Job::new(HEADER).to_string(), "J,2,100,7,1,10,20,30,40\n");
@@ -92,6 +115,8 @@ fn the_refiner_judges_what_the_job_is_told() {
     assert_eq!(with(&falling), Err((RefusalKind::Order, 4)));
     assert_eq!(with(&vec![single(0, 2); 65]), Err((RefusalKind::Count, 66)));
     assert_eq!(with(&vec![tall(2); 25]), Err((RefusalKind::Count, 26)));
+    let fixed = [vec![tall(2); 20], vec![tall(2).fixed(); 5]].concat();
+    assert_eq!(with(&fixed), Err((RefusalKind::Count, 26)));
     let none = Cell::tall(2, []);
     assert_eq!(with(&[none]), Err((RefusalKind::Range, 2)));
     let three = Cell::single(0, 2, [Layout::single(4, [1, 2, 3, 4]); 3]);

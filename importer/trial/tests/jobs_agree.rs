@@ -39,6 +39,10 @@ fn cell_of_plain(cell: &plain::job::Cell) -> Cell {
         };
         Cell::single(row, given, layouts.map(layout).collect::<Vec<_>>())
     };
+    let written = match cell.fixed {
+        true => written.fixed(),
+        false => written,
+    };
     match cell.mirrorable {
         true => written.mirrorable(),
         false => written,
@@ -52,7 +56,7 @@ fn heights(heights: [u16; 4]) -> Heights {
 #[test]
 fn on_jobs_of_every_size() {
     let mut random = Random::new(65);
-    let mut cells = 0;
+    let (mut cells, mut fixed) = (0, 0);
     for _ in 0..20_000 {
         let job = jobs::job_of_any_size(&mut random);
         let text = of_plain(&job).text();
@@ -61,6 +65,7 @@ fn on_jobs_of_every_size() {
         let read = importer::read(&text).map(|read| read.cells as usize);
         assert_eq!(read, Ok(job.cells.len()));
         cells += job.cells.len();
+        fixed += job.fixed_cells();
     }
-    assert!(cells > 100_000, "{cells}");
+    assert!(cells > 100_000 && fixed > 20_000, "{cells} {fixed}");
 }
