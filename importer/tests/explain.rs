@@ -42,8 +42,11 @@ fn of_a_lead() {
     check_job("C,0,5,0,1,4,3,3,2,2\n", 1, 1, lead);
     let lead = "field 1 (lead) is \"J;1;20\"; the first line begins with J";
     check_job("J;1;20\n", 1, 1, lead);
-    let lead = "field 1 (lead) is \"c\"; a line after the first begins with C";
-    check_cell("c,0,5,0,1,4,3,3,2,2\n", 1, lead);
+    for lead in ["", "c", "f", "J", "CC", "FF", "CF", "FC", "F C"] {
+        let begins = "a line after the first begins with C or F";
+        let words = format!("field 1 (lead) is \"{lead}\"; {begins}");
+        check_cell(&format!("{lead},0,5,0,1,4,3,3,2,2\n"), 1, &words);
+    }
 }
 
 #[test]
@@ -108,6 +111,8 @@ fn of_the_number_of_fields() {
     check_job("J\n", 1, 1, &format!("1 field, {nine}"));
     let five = "a cell line has at least 5: C,row,given,mirrorable,layouts";
     check_cell("C,0,5,0\n", 1, &format!("4 fields, {five}"));
+    let five = "a cell line has at least 5: F,row,given,mirrorable,layouts";
+    check_cell("F\n", 1, &format!("1 field, {five}"));
     let fit = "12 fields, 10 fit row 0 with 1 layout";
     check_cell("C,0,5,0,1,4,3,3,2,2,1,1\n", 1, fit);
     let fit = "10 fields, 23 fit row 2 with 2 layouts";
@@ -271,6 +276,27 @@ fn of_rules_that_one_cell_breaks() {
         2,
         "cell 2 is shifted by 2, from 6 to 8; D is 1",
     );
+}
+
+/// A fixed cell keeps layout 0, mark 0 and its site, however much its line and D offer.
+#[test]
+fn of_a_fixed_cell() {
+    let job = "J,1,20,7,1,100,1,100,50\nF,0,6,1,2,4,3,3,2,2,4,3,3,2,2\n";
+    let check = |placement: &str, rule: u32, words: &str| {
+        check_rule(job, placement, rule, 1, words);
+    };
+    let layout = "cell 1 is in layout 1; it is fixed and must keep layout 0";
+    check("6,1,0\n", 1, layout);
+    check("6,1,1\n", 1, layout);
+    let mark = "cell 1 has mark 1; it is fixed and must keep mark 0";
+    check("6,0,1\n", 1, mark);
+    check("7,0,1\n", 1, mark);
+    let site = "cell 1 is shifted by 1, from 6 to 7; it is fixed at site 6";
+    check("7,0,0\n", 3, site);
+    let site = "cell 1 is shifted by 6, from 6 to 0; it is fixed at site 6";
+    check("0,0,0\n", 3, site);
+    let past = "cell 1 ends past the row: 17 + 4 = 21, the row has 20 sites";
+    check("17,0,0\n", 2, past);
 }
 
 #[test]

@@ -10,14 +10,16 @@ const MOST: usize = 22;
 
 /// What a kind of line looks like.
 pub struct Form {
-    /// The first field, and which lines begin with it.
-    pub lead: Option<(&'static str, &'static str)>,
+    /// What the first field may be, and which lines begin with it; none for lines without a lead.
+    pub lead: Option<(&'static [&'static str], &'static str)>,
     /// The fields behind the lead, as far as the numbers before them decide.
     pub fields_of: fn(&[u32]) -> Vec<Field>,
 }
 
 /// The numbers of a line that is in its form.
 pub struct Numbers {
+    /// The lead that stands before them, empty for lines without one.
+    pub lead: &'static str,
     /// The first ones, in their order.
     pub values: Vec<u32>,
     /// How many fields the line has, with the lead.
@@ -34,19 +36,20 @@ impl Form {
             return Err("the line is empty".into());
         }
         let mut fields = line.fields().zip(1..);
-        if let Some((lead, whose)) = self.lead {
+        let mut lead = "";
+        if let Some((leads, whose)) = self.lead {
             let found = fields.next().map(|(field, _)| field).unwrap_or_default();
-            if found != lead.as_bytes() {
-                let found = quoted(found);
-                return Err(format!(
-                    "field 1 (lead) is {found}; {whose} begins with {lead}"
-                ));
-            }
+            let is_it = |lead: &&&str| lead.as_bytes() == found;
+            lead = leads.iter().find(is_it).ok_or_else(|| {
+                let (found, leads) = (quoted(found), leads.join(" or "));
+                format!("field 1 (lead) is {found}; {whose} begins with {leads}")
+            })?;
         }
         if let Some(words) = line.unended() {
             return Err(words);
         }
         let mut numbers = Numbers {
+            lead,
             values: Vec::new(),
             fields: usize::from(self.lead.is_some()),
         };

@@ -194,7 +194,7 @@ fn on_jobs_with_too_many_cells() {
 fn on_texts_of_random_bytes() {
     let mut random = Random::new(44);
     let mut comparison = Comparison::default();
-    let few = b"J,C10\n2\r\xef\xbb\xbf\"";
+    let few = b"J,CF10\n2\r\xef\xbb\xbf\"";
     for _ in 0..20_000 {
         let length = random.below(300);
         let any = random.chance(1, 2);

@@ -61,8 +61,9 @@ fn behind<'words>(words: &'words str, part: &str) -> Option<&'words str> {
 
 /// The value that the words about a field ask for.
 fn wanted(words: &str) -> String {
-    if let Some(lead) = behind(words, " begins with ") {
-        lead.into()
+    if let Some(leads) = behind(words, " begins with ") {
+        // The words may offer several; the last one serves.
+        behind(leads, " or ").unwrap_or(leads).into()
     } else if let Some(range) = behind(words, "; allowed ").or_else(|| behind(words, ", below ")) {
         first_number(range).to_string()
     } else {
@@ -155,17 +156,19 @@ fn texts_of_random_bytes_are_repaired() {
     let mut random = Random::new(53);
     for _ in 0..2_000 {
         let length = random.below(200);
-        let byte = |_| random.pick(b"J,C10\n2\r\xef\xbb\xbf\" 9999");
+        let byte = |_| random.pick(b"J,CF10\n2\r\xef\xbb\xbf\" 9999");
         repair_job(&mut (0..length).map(byte).collect());
     }
 }
 
 /// A job whose every field can be changed alone.
-const LINES: [&str; 4] = [
+const LINES: [&str; 6] = [
     "J,2,40,3,1,100,1,100,50\n",
     "C,0,2,1,1,4,3,3,2,2\n",
     "C,1,2,1,2,4,3,3,2,2,5,1,1,1,1\n",
     "C,2,6,0,1,4,3,3,2,2,4,4,4,4\n",
+    "F,0,6,1,1,4,3,3,2,2\n",
+    "F,2,6,1,2,4,3,3,2,2,4,4,4,4,4,3,3,2,2,4,4,4,4\n",
 ];
 
 /// The job with another value in one field of one line, both counted from 0.

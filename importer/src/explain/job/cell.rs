@@ -1,4 +1,4 @@
-//! A cell line: `C,row,given,mirrorable,layouts`, then the layouts.
+//! A cell line: `C,row,given,mirrorable,layouts`, then the layouts; `F` for `C` if it is fixed.
 
 use super::layout::Layout;
 use crate::explain::field::{in_range, Field};
@@ -12,8 +12,11 @@ const TALL: u32 = 2;
 
 const HEIGHTS: [&str; 4] = ["left P", "left N", "right P", "right N"];
 
+/// What the line of a cell that must not move begins with.
+const FIXED: &str = "F";
+
 const CELL: Form = Form {
-    lead: Some(("C", "a line after the first")),
+    lead: Some((&["C", FIXED], "a line after the first")),
     fields_of,
 };
 
@@ -21,6 +24,8 @@ pub struct Cell {
     /// 0, 1, or [`TALL`].
     pub row: u32,
     pub given: u32,
+    /// Whether it must stay at its given site, in layout 0 and unmirrored.
+    pub fixed: bool,
     pub mirrorable: bool,
     pub layouts: Vec<Layout>,
 }
@@ -28,6 +33,17 @@ pub struct Cell {
 impl Cell {
     pub fn is_tall(&self) -> bool {
         self.row == TALL
+    }
+
+    /// Whether it has a layout of this number and may stand in it.
+    pub fn offers_layout(&self, layout: u32) -> bool {
+        let layouts = if self.fixed { 1 } else { self.layouts.len() };
+        (layout as usize) < layouts
+    }
+
+    /// Whether it may have this mark.
+    pub fn offers_mark(&self, mark: u32) -> bool {
+        mark == 0 || mark == 1 && self.mirrorable && !self.fixed
     }
 
     pub fn stands_in(&self, row: u32) -> bool {
@@ -93,8 +109,9 @@ pub fn read(line: &Line, rows: u32) -> Result<Cell, Reason<Refused>> {
         }
         _ => {
             let found = count(numbers.fields, "field");
-            let form = "a cell line has at least 5: C,row,given,mirrorable,layouts";
-            return Err(line.refused(FORM, format!("{found}, {form}")));
+            let fields = format!("{},row,given,mirrorable,layouts", numbers.lead);
+            let words = format!("{found}, a cell line has at least 5: {fields}");
+            return Err(line.refused(FORM, words));
         }
     };
     shape_in_range(rows, row, layouts).map_err(refuse(RANGE))?;
@@ -111,6 +128,7 @@ pub fn read(line: &Line, rows: u32) -> Result<Cell, Reason<Refused>> {
     Ok(Cell {
         row,
         given,
+        fixed: numbers.lead == FIXED,
         mirrorable: mirrorable == 1,
         layouts: of_layouts.chunks(size).filter_map(Layout::of).collect(),
     })

@@ -7,7 +7,7 @@ use crate::explain::reason::{Reason, FORM, RANGE};
 use crate::Refused;
 
 const HEADER: Form = Form {
-    lead: Some(("J", "the first line")),
+    lead: Some((&["J"], "the first line")),
     fields_of: |_| fields(),
 };
 

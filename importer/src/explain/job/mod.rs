@@ -102,7 +102,7 @@ mod tests {
     #[test]
     fn a_job_is_read_field_by_field() {
         let text =
-            b"J,2,20,3,1,100,1,90,50\nC,1,4,1,2,5,1,2,3,4,6,5,6,7,8\nC,2,9,0,1,2,1,2,3,4,5,6,7,8\n";
+            b"J,2,20,3,1,100,1,90,50\nC,1,4,1,2,5,1,2,3,4,6,5,6,7,8\nF,2,9,0,1,2,1,2,3,4,5,6,7,8\n";
         let Job { header, cells } = read(text).expect("the job is in form");
         let limits = (header.displacement, header.reordering);
         assert_eq!((header.rows, header.sites, limits), (2, 20, (3, 1)));
@@ -122,6 +122,7 @@ mod tests {
         assert_eq!(second.edges_in(1), Some([edge(5, 6), edge(7, 8)]));
         assert!(tall.is_tall() && tall.stands_in(0) && tall.stands_in(1));
         assert_eq!((tall.given, tall.mirrorable), (9, false));
+        assert_eq!((single.fixed, tall.fixed), (false, true));
         let [layout] = &tall.layouts[..] else {
             panic!("one layout")
         };

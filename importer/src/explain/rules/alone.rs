@@ -5,20 +5,24 @@ use super::stand::{Board, Stand};
 /// Rule 1.
 pub fn not_offered(_: &Board, stand: &Stand) -> Option<String> {
     let (number, layout, mark) = (stand.number, stand.pose.layout, stand.pose.mark);
-    let has = match stand.cell.layouts.len() {
-        1 => "it has layout 0 alone",
-        _ => "it has layouts 0 and 1",
-    };
-    if stand.layout().is_none() {
+    let cell = stand.cell;
+    if !cell.offers_layout(layout) {
+        let has = match cell.layouts.len() {
+            _ if cell.fixed => "it is fixed and must keep layout 0",
+            1 => "it has layout 0 alone",
+            _ => "it has layouts 0 and 1",
+        };
         return Some(format!("cell {number} is in layout {layout}; {has}"));
     }
-    match (mark, stand.cell.mirrorable) {
-        (0, _) | (1, true) => None,
-        (_, true) => Some(format!("cell {number} has mark {mark}; a mark is 0 or 1")),
-        (_, false) => Some(format!(
-            "cell {number} has mark {mark}; it is not mirrorable"
-        )),
+    if !cell.offers_mark(mark) {
+        let may = match cell.mirrorable {
+            _ if cell.fixed => "it is fixed and must keep mark 0",
+            true => "a mark is 0 or 1",
+            false => "it is not mirrorable",
+        };
+        return Some(format!("cell {number} has mark {mark}; {may}"));
     }
+    None
 }
 
 /// Rule 2.
@@ -34,10 +38,15 @@ pub fn past_the_row(board: &Board, stand: &Stand) -> Option<String> {
 
 /// Rule 3.
 pub fn shifted_too_far(board: &Board, stand: &Stand) -> Option<String> {
-    let (number, most) = (stand.number, board.header.displacement);
+    let (number, fixed) = (stand.number, stand.cell.fixed);
     let (site, given) = (stand.pose.site, stand.cell.given);
+    let most = if fixed { 0 } else { board.header.displacement };
     let shift = site.abs_diff(given);
     (shift > most).then(|| {
-        format!("cell {number} is shifted by {shift}, from {given} to {site}; D is {most}")
+        let limit = match fixed {
+            true => format!("it is fixed at site {given}"),
+            false => format!("D is {most}"),
+        };
+        format!("cell {number} is shifted by {shift}, from {given} to {site}; {limit}")
     })
 }
