@@ -5,6 +5,8 @@ use trial::generate::{small, Random};
 use trial::lender::Lender;
 use trial::plain::brute::least;
 use trial::plain::job::Job;
+use trial::plain::scorer::verdict;
+use trial::plain::search::cheapest;
 
 /// How many jobs each seed gives.
 const JOBS: usize = 5_000;
@@ -18,6 +20,57 @@ struct Seen {
     ends: usize,
     /// Those of them that have no legal placement.
     none_by_ends: usize,
+    fixed: Fixed,
+}
+
+/// What was seen of fixed cells.
+#[derive(Debug, Default)]
+struct Fixed {
+    /// Jobs that have some.
+    some: usize,
+    /// Jobs in which all cells are fixed.
+    all: usize,
+    /// Jobs with a tall one.
+    tall: usize,
+    /// Jobs with one that says mirrorable 1 and two layouts.
+    rich: usize,
+    /// Jobs with some and with free cells, and with a legal placement.
+    around: usize,
+    /// Jobs that would be placed at less cost, or at all, if no cell were fixed.
+    dearer: usize,
+    /// Those of them that have no legal placement.
+    none: usize,
+    /// Jobs that have some, by D.
+    by_limit: [usize; 8],
+}
+
+impl Fixed {
+    /// Counts a job with its least cost.
+    fn count(&mut self, job: &Job, cost: Option<u32>) {
+        let fixed = || job.cells.iter().filter(|cell| cell.fixed);
+        let count = fixed().count();
+        if count == 0 {
+            return;
+        }
+        let dearer = least_if_free(job) != cost;
+        let all = count == job.cells.len();
+        self.some += 1;
+        self.all += usize::from(all);
+        self.tall += usize::from(fixed().any(|cell| cell.is_tall()));
+        self.rich += usize::from(fixed().any(|cell| cell.mirrorable && cell.layouts == 2));
+        self.around += usize::from(!all && cost.is_some());
+        self.dearer += usize::from(dearer);
+        self.none += usize::from(dearer && cost.is_none());
+        self.by_limit[usize::from(job.displacement)] += 1;
+    }
+}
+
+/// The least cost of the job with no cell fixed, by the plain search.
+fn least_if_free(job: &Job) -> Option<u32> {
+    let mut free = job.clone();
+    free.cells.iter_mut().for_each(|cell| cell.fixed = false);
+    let placement = cheapest(&free)?;
+    verdict(&free, &placement).ok().map(|numbers| numbers.cost)
 }
 
 /// Compares the jobs of one seed.
@@ -35,6 +88,7 @@ fn compare(seed: u64, draw: fn(&mut Random) -> Job) -> Seen {
         seen.none += usize::from(least.cost.is_none());
         seen.ends += usize::from(ends);
         seen.none_by_ends += usize::from(least.cost.is_none() && ends);
+        seen.fixed.count(&job, least.cost);
     }
     seen
 }
@@ -52,7 +106,12 @@ fn compare_all(seeds: [u64; 4], draw: fn(&mut Random) -> Job, met: fn(&Seen) -> 
 
 #[test]
 fn has_the_least_cost() {
-    let met = |seen: &Seen| (JOBS / 10..JOBS / 2).contains(&seen.none) && seen.ends > JOBS / 6;
+    let met = |seen: &Seen| {
+        let some = [seen.ends, seen.fixed.some, seen.fixed.all, seen.fixed.tall];
+        let enough = [JOBS / 7, JOBS / 4, JOBS / 10, JOBS / 15];
+        (JOBS / 10..JOBS / 2).contains(&seen.none)
+            && some.iter().zip(enough).all(|(some, enough)| *some > enough)
+    };
     compare_all([31, 32, 33, 34], small::job, met);
 }
 
@@ -61,4 +120,18 @@ fn has_the_least_cost() {
 fn has_the_least_cost_at_row_ends() {
     let met = |seen: &Seen| seen.ends > JOBS / 3 && seen.none_by_ends > JOBS / 10;
     compare_all([35, 36, 37, 38], small::job_with_row_ends, met);
+}
+
+/// Each job has fixed cells (A2), beside free ones as often as not.
+#[test]
+fn has_the_least_cost_around_fixed_cells() {
+    let met = |seen: &Seen| {
+        let Fixed { some, by_limit, .. } = seen.fixed;
+        let kinds = [seen.fixed.all, seen.fixed.tall, seen.fixed.rich];
+        let answers = [seen.fixed.around, seen.fixed.dearer, seen.fixed.none];
+        some == JOBS
+            && kinds.iter().chain(&answers).all(|&count| count > JOBS / 10)
+            && by_limit.iter().all(|&count| count > JOBS / 20)
+    };
+    compare_all([39, 40, 41, 42], small::job_with_fixed_cells, met);
 }

@@ -67,6 +67,57 @@ fn on_texts_with_one_damage_and_with_two() {
     );
 }
 
+/// A text with the lead of each cell line exchanged, `F` for `C` and `C` for `F`, as often as not.
+fn with_leads_exchanged(random: &mut Random, text: &[u8]) -> Vec<u8> {
+    let mut text = text.to_vec();
+    for at in 1..text.len() {
+        let is_lead =
+            text[at - 1] == b'\n' && matches!(text.get(at + 1), Some(b',' | b'\n') | None);
+        if is_lead && random.chance(1, 2) {
+            text[at] = match text[at] {
+                b'C' => b'F',
+                b'F' => b'C',
+                other => other,
+            };
+        }
+    }
+    text
+}
+
+/// A line is refused led by `F` as it is led by `C` (A2): with the same number at the same line.
+#[test]
+fn on_damaged_texts_with_leads_exchanged() {
+    let mut random = Random::new(6);
+    let mut comparison = Comparison::default();
+    let mut exchanged = [0; 5];
+    for _ in 0..100_000 {
+        let cells = 1 + random.below(8);
+        let job = jobs::job(&mut random, cells);
+        let mut text = job.text();
+        if random.chance(9, 10) {
+            let line = 1 + random.below(job.cells.len());
+            random
+                .pick(&Damage::ALL)
+                .inflict(&mut random, &mut text, line);
+        }
+        let other = with_leads_exchanged(&mut random, &text);
+        let said = importer::read(&text);
+        assert_eq!(importer::read(&other), said, "{}", text.escape_ascii());
+        comparison.compare(&other);
+        let line = said.err().map_or(0, |refused| refused.line as usize - 1);
+        let refused = |text: &[u8]| {
+            text.split(|&byte| byte == b'\n')
+                .nth(line)
+                .map(<[u8]>::to_vec)
+        };
+        let number = said.err().map_or(0, |refused| refused.number as usize);
+        exchanged[number] += usize::from(refused(&text) != refused(&other));
+    }
+    let [_, refused @ ..] = exchanged;
+    assert!(refused[0] > 5_000 && refused[1] > 5_000, "{exchanged:?}");
+    assert!(refused[3] > 500, "{exchanged:?}");
+}
+
 #[test]
 fn on_each_damage_to_each_line() {
     let mut random = Random::new(3);
@@ -114,7 +165,7 @@ fn on_jobs_with_too_many_cells() {
 fn on_texts_of_random_bytes() {
     let mut random = Random::new(5);
     let mut comparison = Comparison::default();
-    let few = b"J,C10\n2";
+    let few = b"J,CF10\n2";
     for _ in 0..20_000 {
         let length = random.below(40);
         let any = random.chance(1, 2);
@@ -131,7 +182,7 @@ fn on_texts_of_random_bytes() {
     }
 }
 
-/// Every value of the number form and past it, in every field of a header and of three cell lines.
+/// Every value of the number form and past it, in every field of a header and of five cell lines.
 #[test]
 fn on_every_value_of_every_field() {
     let mut comparison = Comparison::default();
@@ -140,6 +191,8 @@ fn on_every_value_of_every_field() {
         "C,0,2,1,1,4,3,3,2,2",
         "C,1,2,1,2,4,3,3,2,2,5,1,1,1,1",
         "C,2,6,0,1,4,3,3,2,2,4,4,4,4",
+        "F,0,6,0,1,4,3,3,2,2",
+        "F,2,6,1,2,4,3,3,2,2,4,4,4,4,5,3,3,2,2,1,1,1,1",
     ];
     for changed in 0..lines.len() {
         for field in 0..lines[changed].split(',').count() {

@@ -6,7 +6,7 @@ use trial::lent::Arrays;
 use trial::plain::fault::{fault_line, Part};
 use trial::plain::job::Job;
 use trial::plain::placement::{text_of, Pose};
-use trial::plain::scorer::{score, score_results};
+use trial::plain::scorer::{score, score_results, verdict};
 
 /// What stands in an output before a call.
 const UNTOUCHED: u8 = 0xaa;
@@ -165,6 +165,35 @@ fn on_row_ends() {
     assert!(counts.clone().all(|&count| count > 5_000), "{ends:?}");
     let rare = [ends.alone, ends.tall_in_one_row, ends.empty];
     assert!(rare.iter().all(|&count| count > 1_000), "{ends:?}");
+}
+
+/// Fixed cells as they must stand, or in a layout, with a mark or at a site that a free one may have.
+#[test]
+fn on_fixed_cells() {
+    let mut random = Random::new(17);
+    let mut comparison = Comparison::default();
+    // How many broke each rule that the same placement with free cells does not break.
+    let mut by_fixed = [0; 9];
+    for count in 0..100_000 {
+        let (mut job, mut placement) = placements::job_with_fixed_cells(&mut random);
+        match count % 8 {
+            0 => {}
+            1 => placements::break_rule(&mut random, 1, &job, &mut placement),
+            2 => placements::break_rule(&mut random, 3, &job, &mut placement),
+            3 => placements::break_rule(&mut random, 2, &job, &mut placement),
+            _ => placements::wander(&mut random, &job, &mut placement),
+        }
+        comparison.compare(&job.text(), &text_of(&placement));
+        let rule = |job: &Job| verdict(job, &placement).map_or_else(|broken| broken.rule, |_| 0);
+        let broken = rule(&job);
+        job.cells.iter_mut().for_each(|cell| cell.fixed = false);
+        if rule(&job) != broken {
+            by_fixed[broken as usize] += 1;
+        }
+    }
+    let [legal, ..] = comparison.rules;
+    assert!(legal > 20_000, "{:?}", comparison.rules);
+    assert!(by_fixed[1] > 5_000 && by_fixed[3] > 5_000, "{by_fixed:?}");
 }
 
 #[test]
