@@ -1,7 +1,7 @@
 //! A placement beside the cheapest one.
 
 use super::{steps, RawPose, Step};
-use crate::explain::{read_job, read_placement};
+use crate::explain::{read_job, read_placement, Cell};
 use crate::{Numbers, Refined, Verdict};
 
 /// A cell that stands otherwise in the cheapest placement.
@@ -9,6 +9,8 @@ use crate::{Numbers, Refined, Verdict};
 pub struct Change {
     /// Counted from 1.
     pub cell: u32,
+    /// Whether it is fixed: then the placement, which has it otherwise, breaks rule 1 or 3.
+    pub fixed: bool,
     /// How it stands in the placement.
     pub theirs: RawPose,
     /// How it stands in the cheapest.
@@ -88,15 +90,18 @@ impl StepChanges {
 
 /// The cells whose poses differ, in file order.
 fn changes(job: &[u8], theirs: &[u8], cheapest: &[u8]) -> Option<Vec<Change>> {
-    let cells = read_job(job).ok()?.cells.len();
-    let theirs = read_placement(theirs, cells).ok()?;
-    let cheapest = read_placement(cheapest, cells).ok()?;
-    let pairs = (1..).zip(theirs.into_iter().zip(cheapest));
-    let change = |(cell, (theirs, cheapest))| Change {
-        cell,
-        theirs,
-        cheapest,
-    };
+    let job = read_job(job).ok()?;
+    let theirs = read_placement(theirs, job.cells.len()).ok()?;
+    let cheapest = read_placement(cheapest, job.cells.len()).ok()?;
+    let poses = theirs.into_iter().zip(cheapest);
+    let cells = (1..).zip(&job.cells).zip(poses);
+    let change =
+        |((number, cell), (theirs, cheapest)): ((u32, &Cell), (RawPose, RawPose))| Change {
+            cell: number,
+            fixed: cell.fixed,
+            theirs,
+            cheapest,
+        };
     let differs = |change: &Change| change.theirs != change.cheapest;
-    Some(pairs.map(change).filter(differs).collect())
+    Some(cells.map(change).filter(differs).collect())
 }

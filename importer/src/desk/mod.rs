@@ -4,6 +4,7 @@
 //! What a placement costs and whether it is legal is the refiner's word. This module only shows
 //! where cells stand, as [`crate::explain`] reads the texts.
 
+mod altered;
 mod compare;
 mod fillers;
 mod gaps;

@@ -1,5 +1,7 @@
 //! A job with other limits: what its cheapest placement would cost, by placing each such job.
 
+use super::altered::{field, first_cells, fixed_cells, with_cell_freed, with_field};
+use super::altered::{DISPLACEMENT, REORDERING, SITES};
 use crate::explain::{MOST_DISPLACEMENT, MOST_REORDERING, MOST_SITES};
 use crate::{place, read, Refused, OUTPUT_BYTES, STORE_WORDS};
 use std::ops::RangeInclusive;
@@ -8,11 +10,6 @@ use std::ops::RangeInclusive;
 pub const DISPLACEMENTS: RangeInclusive<u32> = 0..=MOST_DISPLACEMENT;
 /// Every R that a header may say.
 pub const REORDERINGS: RangeInclusive<u32> = 0..=MOST_REORDERING;
-
-/// Where these stand in the first line, counted from the lead, which is 0.
-const SITES: usize = 2;
-const DISPLACEMENT: usize = 3;
-const REORDERING: usize = 4;
 
 /// The refusal of a job that has no legal placement.
 const NO_PLACEMENT: u32 = 8;
@@ -26,13 +23,16 @@ pub struct WhatIf {
     pub displacement: u32,
     /// Its R.
     pub reordering: u32,
+    /// How many of its cells are fixed, which no D moves.
+    pub fixed: usize,
     /// The cheapest cost by D and by R; none where no legal placement exists.
     pub costs: Vec<Vec<Option<u32>>>,
     /// How a job without a legal placement would get one; none if it has one.
     pub ways: Option<Ways>,
 }
 
-/// Where a job's legal placements end, and the least limits, each alone, that give it one.
+/// Where a job's legal placements end, and the least limits, or the fixed cell, each alone, that give
+/// it one.
 #[derive(Clone, Copy, Debug, PartialEq, Eq)]
 pub struct Ways {
     /// The cell of the first line with which no placement exists any more: the lines before it
@@ -46,6 +46,8 @@ pub struct Ways {
     pub sites: Option<u32>,
     /// The smallest number of sites above the job's own.
     pub more_sites: Option<u32>,
+    /// The first fixed cell whose line, led by `C`, gives it one.
+    pub freed: Option<u32>,
 }
 
 /// Places a job with each D and R, and if it has no legal placement, parts of it and other numbers
@@ -57,6 +59,7 @@ pub fn whatif(job: &[u8]) -> Result<WhatIf, Refused> {
         sites: field(job, SITES),
         displacement: field(job, DISPLACEMENT),
         reordering: field(job, REORDERING),
+        fixed: fixed_cells(job).len(),
         costs: Vec::new(),
         ways: None,
     };
@@ -128,7 +131,18 @@ impl Placer {
                 .find(|&r| whatif.cost(own_d, r).is_some()),
             sites,
             more_sites,
+            freed: self.first_freed(job)?,
         })
+    }
+
+    /// The first fixed cell with which free to move a legal placement exists.
+    fn first_freed(&mut self, job: &[u8]) -> Result<Option<u32>, Refused> {
+        for cell in fixed_cells(job) {
+            if self.cost(&with_cell_freed(job, cell))?.is_some() {
+                return Ok(Some(cell));
+            }
+        }
+        Ok(None)
     }
 
     /// The first of these numbers of sites with which a legal placement exists.
@@ -157,76 +171,14 @@ impl Placer {
     }
 }
 
-/// The fields of the first line, and what follows it.
-fn parts(job: &[u8]) -> (Vec<&[u8]>, &[u8]) {
-    let end = job.iter().position(|&byte| byte == b'\n');
-    let (header, cells) = job.split_at(end.unwrap_or(job.len()));
-    (header.split(|&byte| byte == b',').collect(), cells)
-}
-
-/// The number in a field of the first line of a job that Read accepts.
-fn field(job: &[u8], place: usize) -> u32 {
-    let (fields, _) = parts(job);
-    let number = fields
-        .get(place)
-        .and_then(|field| std::str::from_utf8(field).ok());
-    number
-        .and_then(|number| number.parse().ok())
-        .unwrap_or_default()
-}
-
-/// The job with another number in a field of its first line.
-fn with_field(job: &[u8], place: usize, number: u32) -> Vec<u8> {
-    let number = number.to_string();
-    let (mut fields, cells) = parts(job);
-    if let Some(field) = fields.get_mut(place) {
-        *field = number.as_bytes();
-    }
-    [&fields.join(&b','), cells].concat()
-}
-
-/// The job's first line and so many cell lines.
-fn first_cells(job: &[u8], cells: u32) -> &[u8] {
-    let lines = job.split_inclusive(|&byte| byte == b'\n');
-    let length = lines.take(1 + cells as usize).map(<[u8]>::len).sum();
-    &job[..length]
-}
-
 #[cfg(test)]
 mod tests {
     use super::*;
 
-    const JOB: &[u8] = b"J,1,20,1,0,100,1,100,50\nC,0,2,1,1,4,3,3,2,2\nC,0,6,0,1,4,3,3,2,2\n";
-
-    #[test]
-    fn a_field_of_the_first_line_alone_is_changed() {
-        let changed = b"J,1,20,7,0,100,1,100,50\nC,0,2,1,1,4,3,3,2,2\nC,0,6,0,1,4,3,3,2,2\n";
-        assert_eq!(with_field(JOB, DISPLACEMENT, 7), changed);
-        let changed = with_field(&with_field(JOB, SITES, 1024), REORDERING, 1);
-        assert!(changed.starts_with(b"J,1,1024,1,1,100,1,100,50\nC,0,2,1,1,"));
-    }
-
-    #[test]
-    fn fields_of_the_first_line() {
-        let places = [SITES, DISPLACEMENT, REORDERING];
-        assert_eq!(places.map(|place| field(JOB, place)), [20, 1, 0]);
-    }
-
-    #[test]
-    fn the_first_cells_of_a_job() {
-        assert_eq!(first_cells(JOB, 0), b"J,1,20,1,0,100,1,100,50\n");
-        assert!(JOB.starts_with(first_cells(JOB, 1)));
-        assert_eq!(
-            first_cells(JOB, 1).len(),
-            JOB.len() - "C,0,6,0,1,4,3,3,2,2\n".len()
-        );
-        assert_eq!(first_cells(JOB, 2), JOB);
-    }
-
     #[test]
     fn a_refused_job_stays_refused() {
         let refused = Refused { number: 1, line: 3 };
-        let cut = &JOB[..JOB.len() - 1];
+        let cut = b"J,1,20,1,0,100,1,100,50\nC,0,2,1,1,4,3,3,2,2\nC,0,6,0,1,4,3,3,2,2";
         assert_eq!(whatif(cut).err(), Some(refused));
     }
 }

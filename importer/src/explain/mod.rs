@@ -20,7 +20,7 @@ pub use echo::printable;
 pub use reason::Reason;
 
 pub(crate) use form::count;
-pub(crate) use job::{read as read_job, Edge, Job, Layout};
+pub(crate) use job::{read as read_job, Cell, Edge, Job, Layout};
 pub(crate) use job::{MOST_DISPLACEMENT, MOST_REORDERING, MOST_SITES};
 pub(crate) use placement::read as read_placement;
 pub use placement::RawPose;

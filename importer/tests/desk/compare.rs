@@ -107,6 +107,26 @@ fn a_broken_placement_is_told_and_the_cheapest_all_the_same() {
     assert!(table.starts_with(start), "{table}");
 }
 
+/// The supplier has moved the fixed cell to site 9, and left cell 1 where it was given.
+#[test]
+fn a_fixed_cell_that_was_moved_is_told_apart() {
+    let job = include_str!("../../../examples/fixed.job");
+    let placement = "2,0,0\n9,0,0\n16,0,0\n";
+    let (output, notes, status) = compare("fixed", job, placement, &[]);
+    let lines = "broken,3,2\n\
+        cheapest,6,0,6,0,0,67\n\
+        cell,1,2,0,0,0,0,0\n\
+        fixed,2,9,0,0,8,0,0\n";
+    assert_eq!((&*output, status), (lines, Some(0)));
+    let words = ":2: rule 3: cell 2 is shifted by 1, from 8 to 9; it is fixed at site 8\n";
+    assert!(notes.ends_with(words), "{notes}");
+    let (table, ..) = compare("fixed_table", job, placement, &["--table"]);
+    let rows = "   cell  their site  layout  mark  cheapest site  layout  mark\n      \
+                   1           2       0     0              0       0     0\n\
+                fixed 2           9       0     0              8       0     0\n";
+    assert!(table.ends_with(rows), "{table}");
+}
+
 #[test]
 fn a_delivery_is_accepted_up_to_a_loss() {
     let checked = |test, placement, most| compare(test, JOB, placement, &["--max-loss", most]);

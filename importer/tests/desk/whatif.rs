@@ -121,6 +121,40 @@ fn the_first_line_of_a_cell_may_be_one_too_many() {
     check("first", &job, "job,7,0,none", [NONE; 8], ways);
 }
 
+/// Two fixed cells leave one site between them, whatever D, R and sites are. With D 1 either may go
+/// to the other, once it is free; with D 0 neither.
+#[test]
+fn a_fixed_cell_may_be_in_the_way() {
+    let job = |limit: u32| one_row(&format!("20,{limit},1"), &[(2, 4), (7, 4)]).replace('C', "F");
+    let ways = |free: &str| {
+        let limits = "smallest D,none\nsmallest R,none\nsmallest sites,none\n";
+        format!("line,3,2\n{limits}free cell,{free}\n")
+    };
+    check("in_way", &job(1), "job,1,1,none", [NONE; 8], &ways("1"));
+    check("held", &job(0), "job,0,1,none", [NONE; 8], &ways("none"));
+    let (table, ..) = whatif("in_way_table", &job(1), &["--table"]);
+    let start = "the job: D 1, R 1, sites 20, fixed cells 2; no legal placement\n\n";
+    assert!(table.starts_with(start), "{table}");
+    assert!(
+        table.ends_with("  smallest sites: none\n  free cell: 1\n"),
+        "{table}"
+    );
+}
+
+/// Cell 1 is fixed. Cell 2, one site behind it and one before the row's end, needs one site.
+#[test]
+fn a_displacement_moves_the_free_cells_alone() {
+    let costs = [
+        NONE, ["1"; 2], ["1"; 2], ["1"; 2], ["1"; 2], ["1"; 2], ["1"; 2], ["1"; 2],
+    ];
+    let ways = "line,3,2\nsmallest D,1\nsmallest R,none\nsmallest sites,none\nfree cell,none\n";
+    let job = one_row("6,0,1", &[(0, 2), (3, 2)]).replacen('C', "F", 1);
+    check("fixed", &job, "job,0,1,none", costs, ways);
+    // With a placement there is nothing to free, and a fixed cell stays where it is with every D.
+    let job = one_row("6,1,1", &[(0, 2), (3, 2)]).replacen('C', "F", 1);
+    check("placed", &job, "job,1,1,1", costs, "");
+}
+
 #[test]
 fn a_refused_job_is_told_as_by_refine() {
     let (output, notes, status) = whatif("refused", "J,1,20,8,1,100,1,100,50\n", &[]);

@@ -35,6 +35,14 @@ fn first(
     numbers.find(placed).map(u32::from)
 }
 
+/// The first fixed cell with which the job has a legal placement if it is not fixed.
+fn freed(job: &Job) -> Option<u32> {
+    let fixed = (0..job.cells.len()).filter(|&at| job.cells[at].fixed);
+    let mut placed =
+        fixed.filter(|&at| cheapest(&with(job, |job| job.cells[at].fixed = false)).is_some());
+    placed.next().map(|at| at as u32 + 1)
+}
+
 /// What a job without a legal placement lacks.
 fn plain_ways(job: &Job) -> Ways {
     let kept = (0..job.cells.len()).rev();
@@ -51,15 +59,21 @@ fn plain_ways(job: &Job) -> Ways {
         more_sites: first(job, job.sites + 1..=MOST_SITES, |job, number| {
             job.sites = number
         }),
+        freed: freed(job),
     }
 }
 
 #[test]
 fn figures_are_those_of_the_plain_search() {
     let mut random = Random::new(83);
-    let (mut placed, mut none, mut fewer, mut helped) = (0, 0, 0, [0; 3]);
+    let (mut placed, mut none, mut fewer, mut helped) = (0, 0, 0, [0; 4]);
     for _ in 0..JOBS {
-        let draw = random.pick(&[small::job, small::job_with_row_ends]);
+        let draws = [
+            small::job,
+            small::job_with_row_ends,
+            small::job_with_fixed_cells,
+        ];
+        let draw = random.pick(&draws);
         let job = draw(&mut random);
         if cheapest(&job).is_none() && none == MOST_NONE {
             continue;
@@ -84,7 +98,8 @@ fn figures_are_those_of_the_plain_search() {
         assert_eq!(ways, plain_ways(&job), "{}", text());
         none += 1;
         fewer += usize::from(ways.sites.is_some_and(|sites| sites < job.sites.into()));
-        let limits = [ways.displacement, ways.reordering, ways.sites];
+        assert_eq!(told.fixed, job.fixed_cells());
+        let limits = [ways.displacement, ways.reordering, ways.sites, ways.freed];
         let found = limits.map(|limit| usize::from(limit.is_some()));
         helped
             .iter_mut()

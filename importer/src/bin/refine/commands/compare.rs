@@ -86,10 +86,9 @@ fn lines(comparison: &Comparison) -> String {
     }
     lines.extend(rows(comparison).iter().map(figures::line));
     for change in &comparison.cells {
-        lines += &format!(
-            "cell,{}\n",
-            fields_of(change).map(|field| field.to_string()).join(",")
-        );
+        let lead = if change.fixed { "fixed" } else { "cell" };
+        let fields = fields_of(change).map(|field| field.to_string());
+        lines += &format!("{lead},{}\n", fields.join(","));
     }
     if let Some(StepChanges { kept, gone, new }) = &comparison.steps {
         lines += &format!("steps,{kept},{},{}\n", gone.len(), new.len());
@@ -124,9 +123,13 @@ fn tables(comparison: &Comparison) -> String {
 fn cell_table(changes: &[Change]) -> String {
     let columns = "cell,their site,layout,mark,cheapest site,layout,mark";
     let mut table = Table::new(columns.split(','));
-    changes
-        .iter()
-        .for_each(|change| table.push(fields_of(change)));
+    for change in changes {
+        let mut fields = fields_of(change).map(|field| field.to_string());
+        if change.fixed {
+            fields[0] = format!("fixed {}", fields[0]);
+        }
+        table.push(fields);
+    }
     table.text()
 }
 

@@ -49,7 +49,7 @@ fn lines(whatif: &WhatIf) -> String {
     }
     if let Some(ways) = &whatif.ways {
         lines += &format!("line,{},{}\n", line_of(ways), ways.cell);
-        for (name, number) in limits(ways, whatif.sites) {
+        for (name, number) in limits(ways, whatif) {
             lines += &format!("{name},{}\n", or_none(number));
         }
     }
@@ -61,15 +61,19 @@ fn line_of(ways: &Ways) -> u32 {
     ways.cell + 1
 }
 
-/// The limits that a job lacks. Where fewer sites than its own give it a placement, so may more.
-fn limits(ways: &Ways, own_sites: u32) -> Vec<(&'static str, Option<u32>)> {
+/// The limits that a job lacks. Where fewer sites than its own give it a placement, so may more, and
+/// where cells are fixed, one of them may be in the way.
+fn limits(ways: &Ways, whatif: &WhatIf) -> Vec<(&'static str, Option<u32>)> {
     let mut limits = vec![
         ("smallest D", ways.displacement),
         ("smallest R", ways.reordering),
         ("smallest sites", ways.sites),
     ];
-    if ways.sites.is_some_and(|sites| sites < own_sites) {
+    if ways.sites.is_some_and(|sites| sites < whatif.sites) {
         limits.push(("more sites", ways.more_sites));
+    }
+    if whatif.fixed > 0 {
+        limits.push(("free cell", ways.freed));
     }
     limits
 }
@@ -81,13 +85,18 @@ fn table(whatif: &WhatIf) -> String {
         None => "no legal placement".into(),
     };
     let (sites, displacement, reordering) = (whatif.sites, whatif.displacement, whatif.reordering);
-    let mut text = format!("the job: D {displacement}, R {reordering}, sites {sites}; {own}\n\n");
+    let fixed = match whatif.fixed {
+        0 => String::new(),
+        fixed => format!(", fixed cells {fixed}"),
+    };
+    let mut text =
+        format!("the job: D {displacement}, R {reordering}, sites {sites}{fixed}; {own}\n\n");
     text += &cost_table(whatif);
     if let Some(ways) = &whatif.ways {
         let (line, cell) = (line_of(ways), ways.cell);
         text += &format!("\nno placement exists any more with line {line}, cell {cell}\n");
         text += "what alone would give one:\n";
-        for (name, number) in limits(ways, sites) {
+        for (name, number) in limits(ways, whatif) {
             text += &format!("  {name}: {}\n", or_none(number));
         }
     }
