@@ -126,6 +126,30 @@ fn a_broken_rule_is_told_in_the_picture() {
     assert_eq!(picture.matches("<rect class=\"one\"").count(), 2);
 }
 
+/// One cell of three is fixed: hatched as given and in the cheapest placement, and in the key. One
+/// that was moved is told with the site at which it is fixed.
+#[test]
+fn a_fixed_cell_is_hatched() {
+    let job = repository("examples/fixed.job");
+    let job = job.to_str().expect("a path in Unicode");
+    let (picture, notes, status) = told(&draw(&["--best", job]));
+    assert_eq!((&*notes, status), ("", Some(0)));
+    assert_eq!(picture.matches("<rect class=\"fixed\"").count(), 3);
+    assert!(picture.contains("<title id=\"title\">Row of 3 cells (1 fixed), 20 sites</title>"));
+    let title = "<title>cell 2: row 0, site 8, width 4, layout 0, mark 0; \
+                 left P 3 N 3, right P 2 N 2; fixed at site 8</title>";
+    assert_eq!(picture.matches(title).count(), 2, "{picture}");
+    let placement = file("draw_fixed.placement", "0,0,0\n9,0,1\n13,0,0\n");
+    let (picture, _, _) = told(&draw(&[job, &placement]));
+    let words = "cell 2 has mark 1; it is fixed and must keep mark 0";
+    assert!(picture.contains(words), "{picture}");
+    assert!(picture.contains("<title>cell 2: fixed at site 8, stands at site 9</title>"));
+    assert!(picture.contains("mark 1 (not offered); "), "{picture}");
+    // Without a fixed cell there is no word of them.
+    let (picture, _, _) = told(&draw(&[file("draw_free.job", WORKED)]));
+    assert!(!picture.contains("class=\"fixed\"") && !picture.contains(">fixed<"));
+}
+
 #[test]
 fn without_a_legal_placement_the_given_rows_are_drawn() {
     let cell = "C,0,0,0,1,3,1,1,1,1\n";

@@ -2,7 +2,7 @@
 
 use super::canvas::{Anchor, Canvas};
 use super::panel::Panel;
-use super::scale::{Band, Piece, Track};
+use super::scale::{Band, Piece, Track, STRIP};
 use super::text::{NUMBER, SMALL};
 use crate::desk::Diffusion;
 use crate::explain::Stand;
@@ -49,6 +49,10 @@ fn draw_cell(canvas: &mut Canvas, stand: &Stand, piece: &Piece, tracks: &[Track]
     };
     canvas.titled(&stand.words(), |canvas| {
         draw_box(canvas, stand, piece, top, bottom);
+        if stand.cell.fixed {
+            // The number's strip stays free of hatching.
+            canvas.rect("fixed", &piece.frame(top + STRIP, bottom));
+        }
         for (row, track) in (0..).zip(tracks) {
             if stand.cell.stands_in(row) {
                 draw_fins(canvas, stand, piece, row, track);

@@ -87,7 +87,8 @@ fn whole(stand: &Stand) -> Span {
 
 fn words(stand: &Stand) -> String {
     let (number, site, given) = (stand.number, stand.pose.site, stand.cell.given);
-    format!("cell {number}: given at site {given}, stands at site {site}")
+    let how = if stand.cell.fixed { "fixed" } else { "given" };
+    format!("cell {number}: {how} at site {given}, stands at site {site}")
 }
 
 fn draw_given(canvas: &mut Canvas, stand: &Stand, band: &Band, top: i32) {

@@ -17,6 +17,7 @@ const APART: i32 = 18;
 #[derive(Clone, Copy)]
 enum Sign {
     Shape(&'static str),
+    Fixed,
     Fins(&'static str),
     Mirror,
     Step(&'static str),
@@ -28,15 +29,17 @@ impl Sign {
     fn class(self) -> &'static str {
         match self {
             Sign::Shape(class) | Sign::Fins(class) | Sign::Step(class) => class,
+            Sign::Fixed => "fixed",
             Sign::Mirror => "mir",
             Sign::Shift => "ghost",
         }
     }
 }
 
-const ENTRIES: [(Sign, &str); 15] = [
+const ENTRIES: [(Sign, &str); 16] = [
     (Sign::Shape("l0"), "cell in layout 0"),
     (Sign::Shape("l1"), "in layout 1"),
+    (Sign::Fixed, "fixed"),
     (Sign::Mirror, "mirrored"),
     (Sign::Fins("p"), "fins P"),
     (Sign::Fins("n"), "fins N"),
@@ -80,6 +83,10 @@ fn draw_sign(canvas: &mut Canvas, sign: &Sign, left: i32, top: i32) {
     let (x, y) = (frame.centre(), top + 7);
     match sign {
         Sign::Shape(class) => canvas.rect(class, &frame),
+        Sign::Fixed => {
+            canvas.rect("l0", &frame);
+            canvas.rect("fixed", &frame);
+        }
         Sign::Fins(class) => canvas.path(class, &format!("M{x} {top}h4v14h-4z")),
         Sign::Mirror => canvas.path("mir", &mirror_mark(x, y)),
         // The marks of the key have another class, so that those of steps can be counted.

@@ -33,8 +33,12 @@ pub fn heading(job: &Job) -> String {
     } else {
         "Row pair"
     };
+    let fixed = match job.cells.iter().filter(|cell| cell.fixed).count() {
+        0 => String::new(),
+        fixed => format!(" ({fixed} fixed)"),
+    };
     format!(
-        "{rows} of {}, {}",
+        "{rows} of {}{fixed}, {}",
         count(job.cells.len(), "cell"),
         count(job.header.sites as usize, "site")
     )

@@ -15,7 +15,7 @@ pub const LEFT: i32 = 84;
 pub const RIGHT: i32 = 20;
 
 /// A track from above: the strip of cell numbers, P, the middle, N, and the foot with mirror marks.
-const STRIP: i32 = 15;
+pub const STRIP: i32 = 15;
 const HALF: i32 = 31;
 const MIDDLE: i32 = 4;
 const FOOT: i32 = 11;

@@ -4,10 +4,10 @@ use super::row::Span;
 use crate::explain::{RawPose, Stand};
 
 impl Stand<'_> {
-    /// Whether it stands in a layout and with a mark that can be drawn.
+    /// Whether it stands in a layout and with a mark that it may have.
     pub(super) fn is_offered(&self) -> bool {
-        let marks = 1 + u32::from(self.cell.mirrorable);
-        self.layout().is_some() && self.pose.mark < marks
+        let RawPose { layout, mark, .. } = self.pose;
+        self.cell.offers_layout(layout) && self.cell.offers_mark(mark)
     }
 
     pub(super) fn is_changed(&self) -> bool {
@@ -59,7 +59,16 @@ impl Stand<'_> {
         for row in [0, 1].into_iter().filter(|&row| self.cell.stands_in(row)) {
             words += &self.heights_in_words(row);
         }
-        words + &format!("; given {}", self.cell.given)
+        words + &format!("; {}", self.given_in_words())
+    }
+
+    /// `given 9`, or `fixed at site 9`.
+    fn given_in_words(&self) -> String {
+        let given = self.cell.given;
+        match self.cell.fixed {
+            true => format!("fixed at site {given}"),
+            false => format!("given {given}"),
+        }
     }
 
     /// `; row 0: left P 1 N 2, right P 3 N 4`, as it stands.
@@ -113,5 +122,22 @@ mod tests {
         let offered = |cell, pose| look(cell, pose, |stand| stand.is_offered());
         assert!(!offered("C,0,9,0,1,4,1,2,3,4", "8,0,1"));
         assert!(!offered("C,0,9,1,1,4,1,2,3,4", "8,0,2"));
+    }
+
+    #[test]
+    fn a_fixed_cell_is_offered_layout_0_and_mark_0() {
+        let cell = "F,0,9,1,2,4,1,2,3,4,5,1,2,3,4";
+        let offered = |pose| look(cell, pose, |stand| stand.is_offered());
+        assert_eq!(
+            ["9,0,0", "9,1,0", "9,0,1"].map(offered),
+            [true, false, false]
+        );
+        look(cell, "9,1,0", |stand| {
+            assert_eq!(
+                stand.words(),
+                "cell 1: row 0, site 9, width 5, layout 1, mark 0 (not offered); \
+                 left P 1 N 2, right P 3 N 4; fixed at site 9"
+            );
+        });
     }
 }

@@ -14,6 +14,7 @@ const SHAPES: &str = "\
 .l0{fill:#dbeafe;stroke:#1e3a5f;fill-opacity:.85}
 .l1{fill:#fde8b0;stroke:#1e3a5f;fill-opacity:.85}
 .lx{fill:#fff;stroke:#b00020;stroke-dasharray:3 2;fill-opacity:.85}
+.fixed{fill:url(#held);stroke:none}
 .cut{stroke:none}
 .side{fill:none;stroke:#1e3a5f}
 .named{fill:none;stroke:#b00020;stroke-width:3}
@@ -41,6 +42,8 @@ const PATTERNS: &str = "\
 <path d=\"M0 10L10 0\" stroke=\"#cbd5e1\" stroke-width=\".9\"/></pattern>
 <pattern id=\"crossed\" width=\"6\" height=\"6\" patternUnits=\"userSpaceOnUse\">\
 <path d=\"M0 6L6 0M0 0L6 6\" stroke=\"#b00020\"/></pattern>
+<pattern id=\"held\" width=\"7\" height=\"7\" patternUnits=\"userSpaceOnUse\">\
+<path d=\"M0 0L7 7\" stroke=\"#1e3a5f\" stroke-opacity=\".3\"/></pattern>
 ";
 
 /// The style and the patterns, which stand before all shapes.

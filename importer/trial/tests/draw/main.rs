@@ -21,6 +21,7 @@ fn drawn(job: &Job, placement: Option<&Placement>, cheapest: bool) -> Picture {
         let start = format!("cell {cell}: row");
         assert!(picture.titles(&start) > 0, "cell {cell} is missing");
     }
+    assert_eq!(picture.has("fixed"), job.fixed_cells() > 0);
     picture
 }
 
@@ -69,13 +70,15 @@ fn check_marks(job: &Job, placement: &Placement) -> [usize; 2] {
 #[test]
 fn legal_placements_have_as_many_marks_as_steps() {
     let mut random = Random::new(81);
-    let mut seen = [0; 2];
+    let (mut seen, mut fixed) = ([0; 2], 0);
     for _ in 0..300 {
         let (job, placement) = placements::job_with_legal_placement(&mut random);
         let marks = check_marks(&job, &placement);
         seen = [seen[0] + marks[0], seen[1] + marks[1]];
+        fixed += usize::from(job.fixed_cells() > 0);
     }
     assert!(seen[0] > 1_000 && seen[1] > 200, "{seen:?}");
+    assert!(fixed > 60, "{fixed} with fixed cells");
 }
 
 #[test]
