@@ -295,8 +295,27 @@ fn of_a_fixed_cell() {
     check("7,0,0\n", 3, site);
     let site = "cell 1 is shifted by 6, from 6 to 0; it is fixed at site 6";
     check("0,0,0\n", 3, site);
-    let past = "cell 1 ends past the row: 17 + 4 = 21, the row has 20 sites";
+    let past = "cell 1 ends past the row: 17 + 4 = 21, the row has 20 sites; it is fixed at site 6";
     check("17,0,0\n", 2, past);
+}
+
+/// Of cells that break a rule together it is said which is fixed.
+#[test]
+fn of_fixed_cells_among_others() {
+    let job = |leads: [&str; 2], given: u32| {
+        let [first, second] = leads;
+        let cells = format!("{first},0,2,0,1,4,1,1,1,1\n{second},0,{given},0,1,4,1,1,1,1\n");
+        format!("J,1,20,7,1,1,1,1,1\n{cells}")
+    };
+    let share = "cells 1 and 2 share site 5 in row 0: \
+                 cell 1, fixed, takes sites 2 to 5, cell 2 takes sites 5 to 8";
+    check_rule(&job(["F", "C"], 5), "2,0,0\n5,0,0\n", 4, 1, share);
+    let apart = "cells 1 and 2 leave one empty site, 6, in row 0: \
+                 cell 1, fixed, takes sites 2 to 5, cell 2, fixed, takes sites 7 to 10";
+    check_rule(&job(["F", "F"], 7), "2,0,0\n7,0,0\n", 5, 1, apart);
+    let end = "cell 2 leaves one empty site, 19, as the last of row 0: \
+               cell 2, fixed, takes sites 15 to 18, the row has 20 sites";
+    check_rule(&job(["C", "F"], 15), "2,0,0\n15,0,0\n", 8, 2, end);
 }
 
 #[test]

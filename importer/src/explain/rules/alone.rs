@@ -29,9 +29,13 @@ pub fn not_offered(_: &Board, stand: &Stand) -> Option<String> {
 pub fn past_the_row(board: &Board, stand: &Stand) -> Option<String> {
     let (number, sites) = (stand.number, board.header.sites);
     let (site, width, end) = (stand.pose.site, stand.width(), stand.end());
+    let fixed = match stand.cell.fixed {
+        true => format!("; it is fixed at site {}", stand.cell.given),
+        false => String::new(),
+    };
     (end > sites).then(|| {
         format!(
-            "cell {number} ends past the row: {site} + {width} = {end}, the row has {sites} sites"
+            "cell {number} ends past the row: {site} + {width} = {end}, the row has {sites} sites{fixed}"
         )
     })
 }

@@ -94,10 +94,11 @@ impl<'job> Stand<'job> {
         self.pose.site + self.width()
     }
 
-    /// `cell 3 takes sites 5 to 8`.
+    /// `cell 3 takes sites 5 to 8`; of a fixed cell, which is not the one to move, it is said.
     pub fn takes(&self) -> String {
         let sites = sites(self.pose.site, self.end());
-        format!("cell {} takes {sites}", self.number)
+        let fixed = if self.cell.fixed { ", fixed," } else { "" };
+        format!("cell {}{fixed} takes {sites}", self.number)
     }
 }
 
