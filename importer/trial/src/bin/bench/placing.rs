@@ -1,10 +1,11 @@
-//! Place: heavy jobs and a typical one.
+//! Place: heavy jobs and a typical one, and a heavy one with many fixed cells.
 
 use crate::clock;
 use importer::{OUTPUT_BYTES, STORE_WORDS};
 use std::hint::black_box;
 use trial::generate::legal::{Shape, HEAVY};
 use trial::generate::{legal, Random};
+use trial::plain::job::Job;
 use trial::plain::placement::text_of;
 use trial::plain::reader::read_job;
 use trial::plain::scorer::verdict;
@@ -58,11 +59,45 @@ const fn narrow(cells: usize, tall: usize) -> Shape {
     }
 }
 
+/// Which cells of a job are fixed.
+#[derive(Clone, Copy)]
+enum Fixed {
+    SecondSingle,
+    Tall,
+    ThreeOfFour,
+}
+
+const FIXED: [(&str, Fixed); 3] = [
+    ("every second single cell fixed", Fixed::SecondSingle),
+    ("all tall cells fixed", Fixed::Tall),
+    ("three of four cells fixed", Fixed::ThreeOfFour),
+];
+
 pub fn compare() {
     for (what, shape) in &JOBS {
-        let job = legal::job(&mut Random::new(2), shape).text();
-        compare_on(&format!("Place, {what}"), &job);
+        let job = legal::job(&mut Random::new(2), shape);
+        compare_on(&format!("Place, {what}"), &job.text());
     }
+    let job = legal::job(&mut Random::new(2), &narrow(64, 24));
+    println!("64 cells, 24 tall, dense and narrow:");
+    for (what, fixed) in FIXED {
+        compare_on(&format!("Place, {what}"), &with_fixed(&job, fixed).text());
+    }
+}
+
+/// The job with cells fixed at their given sites: its given rows stay a legal placement.
+fn with_fixed(job: &Job, fixed: Fixed) -> Job {
+    let mut job = job.clone();
+    let mut singles = 0;
+    for (at, cell) in job.cells.iter_mut().enumerate() {
+        singles += usize::from(!cell.is_tall());
+        cell.fixed = match fixed {
+            Fixed::SecondSingle => !cell.is_tall() && singles % 2 == 0,
+            Fixed::Tall => cell.is_tall(),
+            Fixed::ThreeOfFour => at % 4 != 0,
+        };
+    }
+    job
 }
 
 /// Both read the text and end with the placement's text and numbers. Place leaves its store all
