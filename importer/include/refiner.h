@@ -30,14 +30,18 @@
  * hold.
  *
  *   rule    what it asks
- *   1       the layout number is below the cell's count; the mark is 0, or 1 on a mirrorable cell
+ *   1       the layout number is below the cell's count; the mark is 0, or 1 on a mirrorable cell;
+ *           a fixed cell has layout 0 and mark 0
  *   2       site plus width is at most sites
- *   3       site and given site differ by at most D
+ *   3       site and given site differ by at most D; those of a fixed cell are the same
  *   4       no two cells share a site in a row
  *   5       between neighbours in a row there is never just one empty site
  *   6       a cell's place in each of its rows differs from its place in file order by at most R
  *   7       tall cells keep their file order from left to right
  *   8       a row with cells never has just one empty site before its first or after its last
+ *
+ * A fixed cell is one whose line in the job is led by F instead of C. Its fields are the same and
+ * are refused for the same; it counts towards the limits as any cell does.
  */
 #ifndef REFINER_H
 #define REFINER_H

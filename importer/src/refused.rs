@@ -65,7 +65,7 @@ pub const REFUSALS: &[Refusal] = &[
         number: 8,
         kind: RefusalKind::NoLegal,
         meaning: "no legal placement exists",
-        remedy: "raise D or R, give the rows more sites, or move cells to other rows",
+        remedy: "raise D or R, give the rows more sites, move cells to other rows, or let fixed cells move",
     },
 ];
 

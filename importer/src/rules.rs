@@ -16,8 +16,8 @@ pub struct Rule {
 pub const RULES: &[Rule] = &[
     Rule {
         number: 1,
-        asks:
-            "the layout number is below the cell's count; the mark is 0, or 1 on a mirrorable cell",
+        asks: "the layout number is below the cell's count; the mark is 0, or 1 on a mirrorable \
+               cell; a fixed cell has layout 0 and mark 0",
     },
     Rule {
         number: 2,
@@ -25,7 +25,7 @@ pub const RULES: &[Rule] = &[
     },
     Rule {
         number: 3,
-        asks: "site and given site differ by at most D",
+        asks: "site and given site differ by at most D; those of a fixed cell are the same",
     },
     Rule {
         number: 4,

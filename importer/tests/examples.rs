@@ -7,9 +7,12 @@ mod place;
 #[path = "../examples/score.rs"]
 mod score;
 
-use importer::Refiner;
+use importer::{refine, Refiner};
+use std::process::Command;
 
 const WORKED: &[u8] = include_bytes!("../../examples/worked.job");
+const FIXED: &str = include_str!("../../examples/fixed.job");
+const README: &str = include_str!("../../README.md");
 
 fn placed(job: &[u8]) -> String {
     place::report(&mut Refiner::new(), job).expect("a report is written")
@@ -60,4 +63,28 @@ fn score_tells_of_drawn_rows() {
     }
     let missing = score::told("..AAAA").unwrap_err().to_string();
     assert_eq!(missing, "..AAAA has no cell B");
+}
+
+/// A text as README shows it.
+fn shown(text: &str) -> String {
+    text.lines().map(|line| format!("    {line}\n")).collect()
+}
+
+/// Cell 1's right heights are 2 and 2 and cell 2's left ones 3 and 3, and so between cells 2 and 3.
+/// Free, cell 2 is mirrored, for 5. Fixed, it leaves the others to go four sites away: from 2 to 0
+/// and from 12 to 16, where the row ends. The mean shift is 2 / 3.
+#[test]
+fn readme_shows_the_fixed_cell() {
+    let said = Command::new(env!("CARGO_BIN_EXE_refine"))
+        .arg("examples/fixed.job")
+        .current_dir(concat!(env!("CARGO_MANIFEST_DIR"), "/.."))
+        .output();
+    let output = String::from_utf8(said.expect("refine ends").stdout).expect("an answer is a text");
+    assert_eq!(output, "6,0,6,0,0,67\n0,0,0\n8,0,0\n16,0,0\n");
+    assert!(README.contains(&shown(FIXED)), "README lacks the job");
+    let told = shown(&format!("$ refine examples/fixed.job\n{output}"));
+    assert!(README.contains(&told), "README lacks the answer");
+    let free = refine(FIXED.replace('F', "C").as_bytes()).expect("a placement exists");
+    assert_eq!(free.text, b"2,0,0\n8,0,1\n12,0,0\n");
+    assert_eq!((free.numbers.cost, free.numbers.mirrored), (5, 1));
 }
