@@ -212,7 +212,7 @@ fn comparisons_are_those_of_the_plain_refiner() {
     let mut random = Random::new(82);
     // Comparisons of a legal placement, of one that is not, and all steps kept, gone and new.
     let (mut seen, mut steps) = ([0; 2], [0; 3]);
-    for _ in 0..2_000 {
+    for _ in 0..3_000 {
         let (job, placement) = draw(&mut random);
         let (job_text, text) = (job.text(), text_of(&placement));
         let Ok(refined) = refine(&job_text) else {

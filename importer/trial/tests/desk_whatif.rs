@@ -6,7 +6,7 @@ use trial::plain::job::Job;
 use trial::plain::scorer::verdict;
 use trial::plain::search::cheapest;
 
-/// How many jobs are tried, and at most how many of them that have no legal placement.
+/// How many jobs are tried, and at most how many of them that have no legal placement with any R.
 const JOBS: usize = 200;
 const MOST_NONE: usize = 25;
 
@@ -68,14 +68,15 @@ fn figures_are_those_of_the_plain_search() {
     let mut random = Random::new(83);
     let (mut placed, mut none, mut fewer, mut helped) = (0, 0, 0, [0; 4]);
     for _ in 0..JOBS {
-        let draws = [
-            small::job,
-            small::job_with_row_ends,
-            small::job_with_fixed_cells,
-        ];
-        let draw = random.pick(&draws);
+        let draws = [small::job, small::job_with_row_ends];
+        let fixed: fn(&mut Random) -> Job = small::job_with_fixed_cells;
+        let draw = match random.below(4) {
+            0 => fixed,
+            _ => random.pick(&draws),
+        };
         let job = draw(&mut random);
-        if cheapest(&job).is_none() && none == MOST_NONE {
+        let with_any_order = cheapest(&with(&job, |job| job.reordering = 1));
+        if with_any_order.is_none() && none >= MOST_NONE {
             continue;
         }
         let told = whatif(&job.text()).expect("the job is accepted");

@@ -26,6 +26,8 @@ struct Comparison {
     numbers: [usize; 6],
     /// How many placements broke each rule first, 0 for none.
     rules: [usize; 9],
+    /// How many of them a fixed cell broke, by its own pose.
+    by_fixed: [usize; 9],
 }
 
 impl Comparison {
@@ -68,6 +70,8 @@ impl Comparison {
             if broken.rule == 8 {
                 check_ends(job, placement, &broken, &reason.words);
             }
+            let fixed = check_fixed(job, &broken, &reason.words);
+            self.by_fixed[broken.rule as usize] += usize::from(fixed);
             assert_eq!(broken_rule(job, placement, &broken), Some(reason.words));
         }
         if said.is_ok() {
@@ -125,6 +129,23 @@ fn check_ends(job: &[u8], placement: &[u8], broken: &Broken, words: &str) {
         Some(_) => vec![0, 1],
     };
     assert_eq!((told("first"), told("last")), (first, last), "{words}");
+}
+
+/// Words about rules 1 to 3 say of a fixed cell, and of no other, that it is one, and where. Whether
+/// it is.
+fn check_fixed(job: &[u8], broken: &Broken, words: &str) -> bool {
+    let job = read_job(job).expect("a scored job is accepted");
+    let cell = &job.cells[broken.cell as usize - 1];
+    if broken.rule > 3 {
+        return false;
+    }
+    assert_eq!(words.contains("it is fixed"), cell.fixed, "{words}");
+    let site = format!("; it is fixed at site {}", cell.given);
+    assert!(
+        broken.rule == 1 || !cell.fixed || words.ends_with(&site),
+        "{words}"
+    );
+    cell.fixed
 }
 
 /// Some of a text's lines, which count from 1.
@@ -277,6 +298,8 @@ fn on_placements_that_break_each_rule_and_several() {
     let [_, broken @ ..] = comparison.rules;
     assert!(broken.iter().sum::<usize>() > 20_000, "{broken:?}");
     assert!(broken.iter().all(|&seen| seen > 300), "{broken:?}");
+    let [_, by_fixed @ .., _, _, _, _, _] = comparison.by_fixed;
+    assert!(by_fixed.iter().all(|&seen| seen > 300), "{by_fixed:?}");
 }
 
 #[test]

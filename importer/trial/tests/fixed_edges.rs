@@ -180,9 +180,9 @@ fn leads_and_counts() {
 fn all_fixed_is_no_displacement() {
     let mut random = Random::new(91);
     let (mut legal, mut none) = (0, 0);
-    for count in 0..20_000 {
-        let mut job = jobs::job(&mut random, count % 9);
-        job.sites = random.pick(&[20, 40, 200]);
+    for count in 0..2_000 {
+        let mut job = jobs::job(&mut random, 1 + count % 4);
+        job.sites = random.pick(&[40, 200]);
         for cell in &mut job.cells {
             cell.mirrorable = false;
             cell.layouts = 1;
@@ -199,5 +199,5 @@ fn all_fixed_is_no_displacement() {
             Err(_) => none += 1,
         }
     }
-    assert!(legal > 2_000 && none > 2_000, "{legal} {none}");
+    assert!(legal > 200 && none > 200, "{legal} {none}");
 }

@@ -62,18 +62,43 @@ fn on_the_heaviest_jobs() {
     });
 }
 
+/// Cells are fixed at their given sites, so that the given rows stay a legal placement.
+#[test]
+fn on_heavy_jobs_with_fixed_cells() {
+    let mut random = Random::new(44);
+    let mut lender = Lender::default();
+    for (tall, most_width) in [(0, 2), (8, 1), (12, 2), (24, 2), (24, 12)] {
+        let shape = Shape {
+            tall,
+            most_width,
+            ..HEAVY
+        };
+        for (of_single, of_tall) in [(5, 0), (0, 10), (5, 5), (8, 8), (10, 10)] {
+            let mut job = legal::job(&mut random, &shape);
+            for cell in &mut job.cells {
+                let fixed_in_ten = if cell.is_tall() { of_tall } else { of_single };
+                cell.fixed = random.chance(fixed_in_ten, 10);
+            }
+            let known = given_rows(&job);
+            compare(&mut lender, &job, known);
+        }
+    }
+}
+
 #[test]
 fn on_every_mix() {
     let mut random = Random::new(42);
     let mut lender = Lender::default();
-    let mut compared = 0;
+    let (mut compared, mut fixed) = (0, 0);
     while compared < 300 {
         let (job, known) = placements::job_with_legal_placement(&mut random);
         if verdict(&job, &known).is_ok() {
+            fixed += usize::from(job.fixed_cells() > 0);
             compare(&mut lender, &job, known);
             compared += 1;
         }
     }
+    assert!(fixed > 80, "{fixed} have fixed cells");
 }
 
 /// Most given rows have one empty site before a first cell or behind a last one, and keep all other

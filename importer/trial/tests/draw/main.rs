@@ -125,7 +125,7 @@ fn placed_small_jobs_have_the_cheapest_steps() {
 fn broken_placements_are_told_and_stay_legible() {
     let mut random = Random::new(84);
     let mut rules = [0; 9];
-    for count in 0..1_600 {
+    for count in 0..2_400 {
         let (job, mut placement) = placements::job_with_legal_placement(&mut random);
         placements::break_rule(&mut random, 1 + count % 8, &job, &mut placement);
         let picture = drawn(&job, Some(&placement), false);
