@@ -11,14 +11,17 @@ const TALL: &str = "C,2,5,0,1,4,3,3,2,2,3,3,2,2\n";
 /// An edge: its name, its text, and the cell count or the refusal's number and line.
 type Edge = (&'static str, String, Result<u32, (u32, u32)>);
 
-/// Reads each text and reports every one of which Read says something else.
+/// Reads each text, and the same text with fixed cells (A2), and reports every one of which Read
+/// says something else.
 fn work_through(edges: &[Edge]) {
     let mut disagreeing = Vec::new();
     for (edge, text, expected) in edges {
         let expected = expected.map_err(|(number, line)| Refused { number, line });
-        let said = read(text.as_bytes()).map(|read| read.cells);
-        if said != expected {
-            disagreeing.push(format!("{edge}: {said:?} for {expected:?}"));
+        for (leads, text) in [("C", text.clone()), ("F", text.replace('C', "F"))] {
+            let said = read(text.as_bytes()).map(|read| read.cells);
+            if said != expected {
+                disagreeing.push(format!("{edge}, led by {leads}: {said:?} for {expected:?}"));
+            }
         }
     }
     assert!(disagreeing.is_empty(), "{}", disagreeing.join("\n"));
