@@ -4,6 +4,7 @@ ghost use Prim.Native.Nat.{suc, _+_, _<_};
 ghost use Rattle.search_join.specs.Tables.{pointersIn};
 ghost use Rattle.search_back.specs.Trace.{PointerRoom, LegGiven, Trace, RowsLeg, RowsTrace};
 ghost use Rattle.search_back.specs.Scatter.{Given, Scattered};
+use search_back_stage::RowLeg;
 use search_join::Case;
 use search_row::Sizes;
 
@@ -12,6 +13,12 @@ struct Leg {
     stage: usize,
     from: Case,
     to: Case,
+}
+
+// A case of a stage.
+struct Stop {
+    stage: usize,
+    case: Case,
 }
 
 // The back pointer of a case of stage i.
@@ -44,14 +51,26 @@ fn both_trace(
 {
     let from = leg.from;
     let to = leg.to;
-    let l = from.pose;
-    let a = to.pose;
     let sizes1 = search_row::with_cells(sizes, cells1);
-    search_back_stage::stage_trace(store, path0, row0, sizes, leg.stage, from.q0, l, to.q0, a);
-    search_back_stage::stage_trace(store, path1, row1, sizes1, leg.stage, from.q1, l, to.q1, a);
+    let leg0 = RowLeg {
+        stage: leg.stage,
+        start: from.q0,
+        lane: from.pose,
+        state: to.q0,
+        pose: to.pose,
+    };
+    search_back_stage::stage_trace(store, path0, row0, sizes, leg0);
+    let leg1 = RowLeg {
+        stage: leg.stage,
+        start: from.q1,
+        lane: from.pose,
+        state: to.q1,
+        pose: to.pose,
+    };
+    search_back_stage::stage_trace(store, path1, row1, sizes1, leg1);
 }
 
-// From a case of stage i back to the start of both rows; no further where a pointer stands for no case.
+// From a case of a stage back to the start of both rows; no further where a pointer stands for no case.
 fn trace_from(
     store: &mut [u32],
     path0: &mut [u32],
@@ -60,15 +79,16 @@ fn trace_from(
     row1: &[u32],
     sizes: Sizes,
     cells1: usize,
-    i: usize,
-    case: Case,
+    at: Stop,
 )
-    requires { ⌜ Trace (now row0) (now row1) (now store) (now path0) (now path1) sizes cells1 i (case .q0) (case .q1)
-        (case .pose) ⌝ }
-    ensures { λ _. ⌜ RowsTrace (now (row0 .entry)) (now (row1 .entry)) sizes cells1 i (case .q0) (case .q1) (case .pose)
-        (now (store .entry)) (now (store .exit)) (now (path0 .entry)) (now (path0 .exit)) (now (path1 .entry))
-        (now (path1 .exit)) ⌝ }
+    requires { ⌜ Trace (now row0) (now row1) (now store) (now path0) (now path1) sizes cells1 (at .stage)
+        (at .case .q0) (at .case .q1) (at .case .pose) ⌝ }
+    ensures { λ _. ⌜ RowsTrace (now (row0 .entry)) (now (row1 .entry)) sizes cells1 (at .stage) (at .case .q0)
+        (at .case .q1) (at .case .pose) (now (store .entry)) (now (store .exit)) (now (path0 .entry))
+        (now (path0 .exit)) (now (path1 .entry)) (now (path1 .exit)) ⌝ }
 {
+    let i = at.stage;
+    let case = at.case;
     if i == 0 {
         let start = Case {
             q0: 0,
@@ -104,7 +124,9 @@ fn trace_from(
         to: case,
     };
     both_trace(store, path0, path1, row0, row1, sizes, cells1, leg);
-    trace_from(store, path0, path1, row0, row1, sizes, cells1, i - 1, from);
+    let stage = i - 1;
+    let before = Stop { stage, case: from };
+    trace_from(store, path0, path1, row0, row1, sizes, cells1, before);
 }
 
 // From the least cost of all.
@@ -122,22 +144,15 @@ pub fn trace(
         (now (store .entry)) (now (store .exit)) (now (path0 .entry)) (now (path0 .exit)) (now (path1 .entry))
         (now (path1 .exit)) ⌝ }
 {
-    let last = Case {
-        q0: 0,
-        q1: 0,
-        pose: 0,
+    let last = Stop {
+        stage: sizes.talls,
+        case: Case {
+            q0: 0,
+            q1: 0,
+            pose: 0,
+        },
     };
-    trace_from(
-        store,
-        path0,
-        path1,
-        row0,
-        row1,
-        sizes,
-        cells1,
-        sizes.talls,
-        last,
-    );
+    trace_from(store, path0, path1, row0, row1, sizes, cells1, last);
 }
 
 // From a row's path to pose numbers by cell number: place by place, the cell there gets the pose number there.

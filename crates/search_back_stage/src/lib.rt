@@ -8,6 +8,16 @@ use search_row::Sizes;
 use search_row::placed_with;
 use search_row::tall_at;
 
+// A stage in one row: from its start's state in a lane, that is, in a pose, to a state of its tall cell in a pose, or to
+// the row's end.
+pub struct RowLeg {
+    pub stage: usize,
+    pub start: usize,
+    pub lane: usize,
+    pub state: usize,
+    pub pose: usize,
+}
+
 // The first layer of a stage, kept; the result is how many cells it has.
 fn first_of(store: &mut [u32], row: &[u32], sizes: Sizes, stage: usize, s: usize, l: usize) -> usize
     requires { ⌜ Start (now row) (now store) sizes stage s l
@@ -39,28 +49,22 @@ fn cells_of(row: &[u32], sizes: Sizes, stage: usize, s: usize) -> usize
     placed_with(row, sizes, p, s) + 1
 }
 
-// Back from state q in pose a of the stage's tall cell, or from the row's end, to the stage's start;
-// nothing is noted where the stage has no cost.
-pub fn stage_trace(
-    store: &mut [u32],
-    path: &mut [u32],
-    row: &[u32],
-    sizes: Sizes,
-    stage: usize,
-    s: usize,
-    l: usize,
-    q: usize,
-    a: usize,
-)
-    requires { ⌜ Stage (now row) (now store) (now path) sizes stage s l q a ⌝ }
+// Back through a stage to its start; nothing is noted where the stage has no cost.
+pub fn stage_trace(store: &mut [u32], path: &mut [u32], row: &[u32], sizes: Sizes, leg: RowLeg)
+    requires { ⌜ Stage (now row) (now store) (now path) sizes (leg .stage) (leg .start) (leg .lane) (leg .state)
+        (leg .pose) ⌝ }
     ensures { λ _. ⌜ StageDone (deckIn (now (row .entry)) sizes) (sizes .reordering) (sizes .talls)
-        (posIn (now (row .entry))) stage s l q a (now (store .entry)) (now (store .exit)) (now (path .entry))
-        (now (path .exit)) ⌝ }
+        (posIn (now (row .entry))) (leg .stage) (leg .start) (leg .lane) (leg .state) (leg .pose) (now (store .entry))
+        (now (store .exit)) (now (path .entry)) (now (path .exit)) ⌝ }
 {
+    let stage = leg.stage;
+    let s = leg.start;
+    let q = leg.state;
+    let a = leg.pose;
     if cells_of(row, sizes, stage, s) > 66 {
         return;
     }
-    let i = first_of(store, row, sizes, stage, s, l);
+    let i = first_of(store, row, sizes, stage, s, leg.lane);
     if stage < sizes.talls {
         let end = placed_with(row, sizes, tall_at(row, stage), q);
         if end < i {

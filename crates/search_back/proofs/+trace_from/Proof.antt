@@ -15,7 +15,7 @@ use Rattle.search_back.proofs.+trace_from.Tie.{close}
 
 abbrev μ-trace-from : Measures 5 trace-from-kinds.ps ℕ
 μ-trace-from κs a =
-    a .1 .1 .1 .1 .1 .1 .1 .0
+    a .1 .1 .1 .1 .1 .1 .1 .0 .stage
 
 abbrev trace-from-at : ℕ → In 5 trace-from-kinds.ps
 trace-from-at t =
@@ -37,7 +37,7 @@ trace-from-both-trace-requires : (t : ℕ) → trace-from-lts.Need-both-trace-re
 trace-from-both-trace-requires t c κs =
     let after-if1 = c .before .before .before in
     let mid = after-if1 .before .before .before .before in
-    open-leg (mid .before .before .pre .1) (after-if1 .if1 .taken)
+    open-leg (mid .before .before .before .pre .1) (after-if1 .if1 .taken)
 
 -- src/lib.rt:129:9
 trace-from-same-length : (t : ℕ) → trace-from-lts.Need-same-length (
@@ -103,7 +103,7 @@ trace-from-pointer-requires : (t : ℕ) → trace-from-lts.Need-pointer-requires
 ) (trace-from-at t) trace-from.Post
 trace-from-pointer-requires t c κs =
     let mid = c .before .before .before .before in
-    pointer-room (mid .before .before .before .pre .1)
+    pointer-room (mid .before .before .before .before .pre .1)
 
 -- src/lib.rt:136:9
 trace-from-same-length-4 : (t : ℕ) → trace-from-lts.Need-same-length-4 (
@@ -129,7 +129,8 @@ trace-from-returns-2 : (t : ℕ) → trace-from-lts.Need-returns-2 (
 trace-from-returns-2 t c =
     let after-pointer = c .before .before .before in
     let mid = after-pointer .before .before .before .before in
-    stray-done (mid .before .before .before .before .pre .1) (mid .before .before .before .before .args .i - 1) (after-pointer .pointer .result) (omega arith)
+    let entry = mid .before .before .before .before in
+    stray-done (entry .before .pre .1) (entry .before .args .at .stage - 1) (after-pointer .pointer .result) (omega arith)
     (after-pointer .pointer .ensures) (λ x y z. omega (arith, c .if2 .taken))
 
 -- src/lib.rt:139:9
@@ -157,7 +158,8 @@ trace-from-returns-3 t c =
     let mid₂ = c .before .before .before .before in
     let after-pointer = mid₂ .before .before in
     let mid = after-pointer .before .before .before .before in
-    stray-done (mid .before .before .before .before .pre .1) (mid .before .before .before .before .args .i - 1) (after-pointer .pointer .result) (omega arith)
+    let entry = mid .before .before .before .before in
+    stray-done (entry .before .pre .1) (entry .before .args .at .stage - 1) (after-pointer .pointer .result) (omega arith)
     (after-pointer .pointer .ensures) (λ x y z. omega (arith, c .if3 .taken))
 
 -- src/lib.rt:142:9
@@ -186,7 +188,8 @@ trace-from-returns-4 t c =
     let mid = mid₃ .before .before in
     let after-pointer = mid .before .before .before in
     let mid₂ = after-pointer .before .before .before .before in
-    stray-done (mid₂ .before .before .before .before .pre .1) (mid₂ .before .before .before .before .args .i - 1) (after-pointer .pointer .result) (omega arith)
+    let entry = mid₂ .before .before .before .before in
+    stray-done (entry .before .pre .1) (entry .before .args .at .stage - 1) (after-pointer .pointer .result) (omega arith)
     (after-pointer .pointer .ensures) (λ x y z. omega (arith, c .if4 .taken))
 
 -- src/lib.rt:144:5
@@ -204,12 +207,13 @@ trace-from-both-trace-requires-2 t c κs =
     let after-if2 = mid₂ .before .before in
     let after-pointer = after-if2 .before .before .before in
     let mid = after-pointer .before .before .before .before in
-    back-leg (mid .before .before .before .before .pre .1) (mid .before .before .before .before .args .i - 1) (after-pointer .pointer .result) (omega arith)
+    let entry = mid .before .before .before .before in
+    back-leg (entry .before .pre .1) (entry .before .args .at .stage - 1) (after-pointer .pointer .result) (omega arith)
     (after-pointer .pointer .ensures) (omega (arith, after-if2 .if2 .left)) (omega (arith, after-if4 .before .before .before .if3 .left))
     (omega (arith, after-if4 .if4 .left))
 
 -- src/lib.rt:182:9
-trace-from-sub-trace-from : (t : ℕ) → trace-from-lts.Need-sub-trace-from (
+trace-from-sub-stage : (t : ℕ) → trace-from-lts.Need-sub-stage (
   both-trace-reads.Asked,
   both-trace-reads.Learnt,
   pointer-reads.Asked,
@@ -217,7 +221,7 @@ trace-from-sub-trace-from : (t : ℕ) → trace-from-lts.Need-sub-trace-from (
   trace-from-below t,
   trace-from.Post,
 ) (trace-from-at t) trace-from.Post
-trace-from-sub-trace-from t c =
+trace-from-sub-stage t c =
     omega arith
 
 -- src/lib.rt:167:5
@@ -239,10 +243,10 @@ trace-from-trace-from-requires t c κs =
     let mid₅ = after-if2 .before .before .before .before in
     let after-if1 = mid₅ .before in
     let mid₃ = after-if1 .before .before .before .before in
-    let k = mid₃ .before .before in
+    let k = mid₃ .before .before .before in
     let some = after-if1 .if1 .left in (
       omega (arith, k .pre .0, some),
-      back-rest (k .pre .1) (k .args .i - 1) (after-if2 .before .before .before .pointer .result) (omega (arith, some))
+      back-rest (k .pre .1) (k .args .at .stage - 1) (after-if2 .before .before .before .pointer .result) (omega (arith, some))
           (after-if2 .before .before .before .pointer .ensures)
           (omega (arith, after-if2 .if2 .left)) (omega (arith, after-if4 .before .before .before .if3 .left)) (omega (arith, after-if4 .if4 .left))
           (after-both-trace2 .both-trace2 .ensures),
@@ -313,7 +317,7 @@ trace-from-returns-5 t c =
     let mid₆ = after-if2 .before .before .before .before in
     let after-if1 = mid₆ .before in
     let mid₄ = after-if1 .before .before .before .before in
-    back-done (mid₄ .before .before .pre .1) (mid₄ .before .before .args .i - 1) (after-if2 .before .before .before .pointer .result)
+    back-done (mid₄ .before .before .before .pre .1) (mid₄ .before .before .before .args .at .stage - 1) (after-if2 .before .before .before .pointer .result)
     (omega (arith, after-if1 .if1 .left)) (after-if2 .before .before .before .pointer .ensures) (omega (arith, after-if2 .if2 .left))
     (omega (arith, after-if4 .before .before .before .if3 .left)) (omega (arith, after-if4 .if4 .left)) (after-both-trace2 .both-trace2 .ensures)
     (mid .before .before .trace-from .ensures)
@@ -342,7 +346,7 @@ pub +trace-from-spec : {M : Type 1} → statement M
     (trace-from-same-length-6 t)
     (trace-from-returns-4 t)
     (trace-from-both-trace-requires-2 t)
-    (trace-from-sub-trace-from t)
+    (trace-from-sub-stage t)
     (trace-from-trace-from-requires t)
     (trace-from-same-length-7 t)
     (trace-from-same-length-8 t)

@@ -24,7 +24,8 @@ inside c =
     let at-loop = c .before .before in
     at-loop .before .before .before .before .pre .places .inside (at-loop .loop .i) (omega arith) (omega arith)
 
-small : (c : tie.After-word Inv-loop μ-loop) → c .word .result < length (c .before .before .before .before .before .before .before .args .out .now)
+small : (c : tie.After-word Inv-loop μ-loop) → let at-loop = c .before .before .before in let k = at-loop .before .before .before .before in
+    c .word .result < length (k .args .out .now)
 small c =
     let at-loop = c .before .before .before in
     let k = at-loop .before .before .before .before in

@@ -17,7 +17,7 @@ Placed c =
     let mid = c .before .before .before .before in
     let mid₂ = mid .before .before .before .before in
     let mid₃ = mid₂ .before .before .before .before in
-    let a = mid₃ .before .args in c .placed-with .result ≡ placedWith (a .sizes .reordering) (posIn (a .row .now) (a .stage)) (a .q)
+    let a = mid₃ .before .args in c .placed-with .result ≡ placedWith (a .sizes .reordering) (posIn (a .row .now) (a .leg .stage)) (a .leg .state)
 
 placed : (c : tie.After-placed-with) → Placed c
 unfolding posIn
@@ -55,7 +55,7 @@ placed-with-requires c κs =
     record {
       words = r .ground .coded;
       state = k .pre .state (omega arith);
-      few = omega (arith, c .tall-at .ensures, r .inside (k .args .stage) (omega arith), r .ground .size);
+      few = omega (arith, c .tall-at .ensures, r .inside (k .args .leg .stage) (omega arith), r .ground .size);
     }
 
 same-length : tie.Need-same-length
@@ -104,7 +104,7 @@ entry c =
 
 -- the word of the stage's end, and its place in the store
 module _ (c : tie.After-kept-at) where
-  small : (entry c .args .q < 12) × (entry c .args .a < 60)
+  small : (entry c .args .leg .state < 12) × (entry c .args .leg .pose < 60)
   small =
       let mid = c .before .before .before .before in
       let after-if2 = mid .before .before .before .before in
@@ -164,8 +164,8 @@ returns-3 c =
     (omega (arith, after-first-of .first-of .ensures .count, after-cells-of .cells-of .ensures, after-first-of .before .before .if1 .left))
     (after-if2 .if2 .taken) (placed mid) (after-segment-kept .before .before .if3 .left) (after-segment-kept .segment-kept .ensures) (omega (
       arith,
-      ap (λ (k : ℕ). getD (after-segment-kept .segment-kept .last .0) (k + after-cells-of .before .before .before .before .args .q * 64
-          + after-cells-of .before .before .before .before .args .a) 0) (after-kept-at .kept-at .ensures),
+      ap (λ (k : ℕ). getD (after-segment-kept .segment-kept .last .0) (k + after-cells-of .before .before .before .before .args .leg .state * 64
+          + after-cells-of .before .before .before .before .args .leg .pose) 0) (after-kept-at .kept-at .ensures),
       c .if4 .taken,
     ))
 
@@ -181,8 +181,8 @@ trace-requires c κs =
     (omega (arith, after-first-of .first-of .ensures .count, after-cells-of .cells-of .ensures, after-first-of .before .before .if1 .left))
     (after-if2 .if2 .taken) (placed mid) (after-segment-kept .before .before .if3 .left) (after-segment-kept .segment-kept .ensures) (omega (
       arith,
-      ap (λ (k : ℕ). getD (after-segment-kept .segment-kept .last .0) (k + after-cells-of .before .before .before .before .args .q * 64
-          + after-cells-of .before .before .before .before .args .a) 0) (after-kept-at .kept-at .ensures),
+      ap (λ (k : ℕ). getD (after-segment-kept .segment-kept .last .0) (k + after-cells-of .before .before .before .before .args .leg .state * 64
+          + after-cells-of .before .before .before .before .args .leg .pose) 0) (after-kept-at .kept-at .ensures),
       c .before .before .if4 .left,
     ))
 
