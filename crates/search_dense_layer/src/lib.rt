@@ -24,6 +24,13 @@ struct Block {
     at: usize,
 }
 
+// A state of the next layer, whose sources are sought in this one.
+struct Sought {
+    cells: usize,
+    at: usize,
+    state: usize,
+}
+
 // ---- one source
 
 // A source of cost x to row t of four buckets, where it pays the words from p on.
@@ -228,7 +235,7 @@ fn put_found(
 
 // ---- one layer
 
-// State p of a layer, if it is a source of state q of the next.
+// State p of a layer, if it is a source of the state that is sought.
 fn from_source(
     near: &mut [u32; 76],
     apart: &mut [u32; 76],
@@ -236,27 +243,26 @@ fn from_source(
     store: &[u32],
     row: &[u32],
     sizes: Sizes,
-    layer: Block,
-    q: usize,
+    sought: Sought,
     p: usize,
 )
-    requires { ⌜ ThinGathering (now near) (now apart) (now far) (now row) (now store) sizes (layer .cells) (layer .at) q
-        × (p < sizes .states) ⌝ }
+    requires { ⌜ ThinGathering (now near) (now apart) (now far) (now row) (now store) sizes (sought .cells)
+        (sought .at) (sought .state) × (p < sizes .states) ⌝ }
     ensures { λ _. ⌜ ThinGathered (oneState (now (row .entry)) (deckIn (now (row .entry)) sizes) (sizes .reordering)
-        (thinIn (now (store .entry)) (layer .at)) (layer .cells) q p)
-        (bucketsIn (now (row .entry)) (lastAt (sizes .reordering) (suc (layer .cells)) q))
+        (thinIn (now (store .entry)) (sought .at)) (sought .cells) (sought .state) p)
+        (bucketsIn (now (row .entry)) (lastAt (sizes .reordering) (suc (sought .cells)) (sought .state)))
         (now (near .entry)) (now (near .exit)) (now (apart .entry)) (now (apart .exit)) (now (far .entry))
         (now (far .exit)) ⌝ }
 {
-    if !search_row::is_source(row, sizes, layer.cells, q, p) {
+    if !search_row::is_source(row, sizes, sought.cells, sought.state, p) {
         return;
     }
-    let k = search_row::last_at(row, sizes, layer.cells, p);
-    let m = search_row::last_at(row, sizes, layer.cells + 1, q);
+    let k = search_row::last_at(row, sizes, sought.cells, p);
+    let m = search_row::last_at(row, sizes, sought.cells + 1, sought.state);
     let buckets = search_buckets::buckets_of(row, m);
     let mut pay = [0u32; 36];
     search_buckets::fill_pays(&mut pay, row, k, m, buckets);
-    let at = layer.at + p * 64;
+    let at = sought.at + p * 64;
     let source = Source {
         at,
         left: k,
@@ -274,20 +280,18 @@ fn gather(
     store: &[u32],
     row: &[u32],
     sizes: Sizes,
-    layer: Block,
-    q: usize,
+    sought: Sought,
 )
-    requires { ⌜ ThinGathering (now near) (now apart) (now far) (now row) (now store) sizes (layer .cells)
-        (layer .at) q ⌝ }
+    requires { ⌜ ThinGathering (now near) (now apart) (now far) (now row) (now store) sizes (sought .cells)
+        (sought .at) (sought .state) ⌝ }
     ensures { λ _. ⌜ ThinGathered (byStates (now (row .entry)) (deckIn (now (row .entry)) sizes) (sizes .reordering)
-        (thinIn (now (store .entry)) (layer .at)) (layer .cells) q (sizes .states))
-        (bucketsIn (now (row .entry)) (lastAt (sizes .reordering) (suc (layer .cells)) q)) (now (near .entry))
-        (now (near .exit))
-        (now (apart .entry)) (now (apart .exit)) (now (far .entry)) (now (far .exit)) ⌝ }
+        (thinIn (now (store .entry)) (sought .at)) (sought .cells) (sought .state) (sizes .states))
+        (bucketsIn (now (row .entry)) (lastAt (sizes .reordering) (suc (sought .cells)) (sought .state)))
+        (now (near .entry)) (now (near .exit)) (now (apart .entry)) (now (apart .exit)) (now (far .entry)) (now (far .exit)) ⌝ }
 {
     let mut p: usize = 0;
     while p < sizes.states {
-        from_source(near, apart, far, store, row, sizes, layer, q, p);
+        from_source(near, apart, far, store, row, sizes, sought, p);
         p += 1;
     }
 }
@@ -303,7 +307,12 @@ fn target_there(store: &mut [u32], row: &[u32], sizes: Sizes, layer: Block, q: u
     let mut near = [search_lanes::NONE; 76];
     let mut apart = [search_lanes::NONE; 76];
     let mut far = [search_lanes::NONE; 19];
-    gather(&mut near, &mut apart, &mut far, store, row, sizes, layer, q);
+    let sought = Sought {
+        cells: layer.cells,
+        at: layer.at,
+        state: q,
+    };
+    gather(&mut near, &mut apart, &mut far, store, row, sizes, sought);
     run_up(&mut far);
     let to = layer.at + search_store::KEPT_LAYER + q * 64;
     put_found(store, row, &near, &apart, &far, to, m, sizes.poses);

@@ -17,7 +17,7 @@ use Rattle.search_dense_layer.proofs.from_source.Tie as tie
 
 -- past the test the state is a source
 abbrev ThinSource : tie.Else1 → Type 0
-ThinSource c = let a = c .before .before .before .before .args in isSource (deckIn (a .row .now) (a .sizes)) (a .sizes .reordering) (a .layer .cells) (a .q)
+ThinSource c = let a = c .before .before .before .before .args in isSource (deckIn (a .row .now) (a .sizes)) (a .sizes .reordering) (a .sought .cells) (a .sought .state)
     (a .p) ≡ true
 
 source : (c : tie.Else1) → ThinSource c
@@ -32,12 +32,12 @@ left c =
     omega (
       arith,
       c .before .before .last-at .ensures,
-      source-size (a .row .now) (a .sizes .cells) (a .sizes .poses) (a .sizes .reordering) (a .layer .cells) (a .q) (a .p) (source mid),
+      source-size (a .row .now) (a .sizes .cells) (a .sizes .poses) (a .sizes .reordering) (a .sought .cells) (a .sought .state) (a .p) (source mid),
       k .pre .0 .given .ground .size,
     )
 
 here : (c : tie.After-last-at2) → (let mid₂ = c .before .before .before .before in let mid = mid₂ .before in let a = mid .before .before .args in
-    c .last-at2 .result ≡ lastAt (a .sizes .reordering) (suc (a .layer .cells)) (a .q))
+    c .last-at2 .result ≡ lastAt (a .sizes .reordering) (suc (a .sought .cells)) (a .sought .state))
 here c = omega (arith, c .last-at2 .ensures)
 
 right : (c : tie.After-last-at2) → c .last-at2 .result < 64
@@ -49,14 +49,14 @@ right c =
     omega (
       arith,
       here c,
-      there-size (a .sizes .cells) (a .sizes .reordering) (suc (a .layer .cells)) (a .q)
+      there-size (a .sizes .cells) (a .sizes .reordering) (suc (a .sought .cells)) (a .sought .state)
           (k .pre .0 .target .there),
       k .pre .0 .given .ground .size,
     )
 
 -- how many buckets the target needs
 buckets : (c : tie.After-buckets-of) → (let mid = c .before .before .before .before in let mid₂ = mid .before in let a = mid₂ .before .before .before .args in
-    c .buckets-of .result ≡ bucketsIn (a .row .now) (lastAt (a .sizes .reordering) (suc (a .layer .cells)) (a .q)))
+    c .buckets-of .result ≡ bucketsIn (a .row .now) (lastAt (a .sizes .reordering) (suc (a .sought .cells)) (a .sought .state)))
 buckets c =
     let mid₂ = c .before .before .before .before in
     let mid = mid₂ .before in
@@ -78,8 +78,8 @@ returns c =
     let a = k .args in
     let D = deckIn (a .row .now) (a .sizes) in
     let away = sym (c .before .is-source .ensures) ∙ not-true _ (c .if1 .taken) in
-    gathered-none (bucketsIn (a .row .now) (lastAt (a .sizes .reordering) (suc (a .layer .cells)) (a .q))) (k .pre .0 .arrays)
-    (λ v t h. omega (arith, state-out (a .row .now) D (a .sizes .reordering) (thinIn (a .store .now) (a .layer .at)) (a .layer .cells) (a .q) (a .p) v t away))
+    gathered-none (bucketsIn (a .row .now) (lastAt (a .sizes .reordering) (suc (a .sought .cells)) (a .sought .state))) (k .pre .0 .arrays)
+    (λ v t h. omega (arith, state-out (a .row .now) D (a .sizes .reordering) (thinIn (a .store .now) (a .sought .at)) (a .sought .cells) (a .sought .state) (a .p) v t away))
 
 last-at-requires : tie.Need-last-at-requires
 last-at-requires c κs = search needs
@@ -148,12 +148,12 @@ returns-2 c =
     let k = mid₃ .before .before .before .before in
     let a = k .args in
     let D = deckIn (a .row .now) (a .sizes) in
-    let f = thinIn (a .store .now) (a .layer .at) in
+    let f = thinIn (a .store .now) (a .sought .at) in
     let e = buckets (mid .before .before .before .before) in
     let m = here mid₂ in
     let w = gathered-ext (c .from-poses .ensures) (few (mid .before .before .before .before) .0)
     (λ v t h.
-    state-in (a .row .now) D (a .sizes .reordering) f (a .layer .cells) (a .q) (a .p) v t (source mid₃)
+    state-in (a .row .now) D (a .sizes .reordering) f (a .sought .cells) (a .sought .state) (a .p) v t (source mid₃)
     ∙ ap₂ (λ (x y : ℕ). byPoses (a .row .now) x y (f (a .p)) (a .sizes .poses) v t) (sym (mid₂ .before .before .last-at .ensures)) (sym m)) in
     rw e at w
 

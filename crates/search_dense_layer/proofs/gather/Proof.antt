@@ -13,13 +13,13 @@ use Rattle.search_dense_layer.proofs.gather.Statement.{statement}
 use Rattle.search_dense_layer.proofs.gather.Tie as tie
 
 abbrev Inv-loop : tie.InvT-loop
-Inv-loop near₀ apart₀ far₀ store row sizes layer q p₀ near apart far p =
+Inv-loop near₀ apart₀ far₀ store row sizes sought p₀ near apart far p =
     (p ≤ (sizes .states))
-    × ThinGathered (byStates row (deckIn row sizes) (sizes .reordering) (thinIn store (layer .at)) (layer .cells) q p)
-    (bucketsIn row (lastAt (sizes .reordering) (suc (layer .cells)) q)) near₀ near apart₀ apart far₀ far
+    × ThinGathered (byStates row (deckIn row sizes) (sizes .reordering) (thinIn store (sought .at)) (sought .cells) (sought .state) p)
+    (bucketsIn row (lastAt (sizes .reordering) (suc (sought .cells)) (sought .state))) near₀ near apart₀ apart far₀ far
 
 abbrev μ-loop : tie.MeasureT-loop
-μ-loop near₀ apart₀ far₀ store row sizes layer q p₀ near apart far p = (sizes .states) - p
+μ-loop near₀ apart₀ far₀ store row sizes sought p₀ near apart far p = (sizes .states) - p
 
 loop-holds : tie.Need-loop-holds Inv-loop μ-loop
 loop-holds c =
@@ -27,8 +27,8 @@ loop-holds c =
     let a = k .args in
     let D = deckIn (a .row .now) (a .sizes) in (
       omega arith,
-      gathered-none (bucketsIn (a .row .now) (lastAt (a .sizes .reordering) (suc (a .layer .cells)) (a .q))) (k .pre .arrays)
-          (λ v t h. omega (arith, states-none (a .row .now) D (a .sizes .reordering) (thinIn (a .store .now) (a .layer .at)) (a .layer .cells) (a .q) v t)),
+      gathered-none (bucketsIn (a .row .now) (lastAt (a .sizes .reordering) (suc (a .sought .cells)) (a .sought .state))) (k .pre .arrays)
+          (λ v t h. omega (arith, states-none (a .row .now) D (a .sizes .reordering) (thinIn (a .store .now) (a .sought .at)) (a .sought .cells) (a .sought .state) v t)),
     )
 
 from-source-requires : tie.Need-from-source-requires Inv-loop μ-loop
@@ -52,7 +52,7 @@ loop-again c =
     let l = at-loop .loop in (
       omega arith,
       gathered-join (l .inv .1) (c .from-source .ensures)
-          (λ v t. states-more (a .row .now) D (a .sizes .reordering) (thinIn (a .store .now) (a .layer .at)) (a .layer .cells) (a .q) (l .p) v t),
+          (λ v t. states-more (a .row .now) D (a .sizes .reordering) (thinIn (a .store .now) (a .sought .at)) (a .sought .cells) (a .sought .state) (l .p) v t),
     )
 
 returns : tie.Need-returns Inv-loop μ-loop
