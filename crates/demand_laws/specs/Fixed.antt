@@ -23,7 +23,8 @@ legal-stays j P l k h e =
     let left = a .left in
     let right = a .right in
     let first = a .layout in
-    pose-same (poseAt P k) _ (omega arith) (omega arith) (go (a .mark) (a .mirrorable) (ℕ-discrete (poseAt P k .mark) 1))
+    pose-same (poseAt P k) _ (omega arith) (omega arith)
+    (go (a .mark) (a .mirrorable) (ℕ-discrete (poseAt P k .mark) 1))
   where
     go : poseAt P k .mark < 2 → (poseAt P k .mark ≡ 1 → offerAt j k .mirrorable ≡ true)
         → Dec (poseAt P k .mark ≡ 1) → poseAt P k .mark ≡ 0

@@ -8,8 +8,8 @@ use search_row::Sizes;
 use search_row::placed_with;
 use search_row::tall_at;
 
-// A stage in one row: from its start's state in a lane, that is, in a pose, to a state of its tall cell in a pose, or to
-// the row's end.
+// A stage in one row: from its start's state in a lane, that is, in a pose, to a state of its tall cell in a pose, or
+// to the row's end.
 pub struct RowLeg {
     pub stage: usize,
     pub start: usize,

@@ -287,7 +287,8 @@ fn gather(
     ensures { λ _. ⌜ ThinGathered (byStates (now (row .entry)) (deckIn (now (row .entry)) sizes) (sizes .reordering)
         (thinIn (now (store .entry)) (sought .at)) (sought .cells) (sought .state) (sizes .states))
         (bucketsIn (now (row .entry)) (lastAt (sizes .reordering) (suc (sought .cells)) (sought .state)))
-        (now (near .entry)) (now (near .exit)) (now (apart .entry)) (now (apart .exit)) (now (far .entry)) (now (far .exit)) ⌝ }
+        (now (near .entry)) (now (near .exit)) (now (apart .entry)) (now (apart .exit)) (now (far .entry))
+        (now (far .exit)) ⌝ }
 {
     let mut p: usize = 0;
     while p < sizes.states {

@@ -151,7 +151,8 @@ module _ (h : Header) (c : Cell) (r : Ranged h c) where
   unfolding shapeWord headerOf cellOf
   shape-low i = go (eqb i firstWord) (ltb i tallWord) (eqb (c .row) 2)
     where
-      go : (t u v : Bool) → cond t (firstSite (one h c) 0) (cond u (widthIn (cellOf c) (i - widthWord)) (cond v 1 0)) ≤ B
+      go : (t u v : Bool)
+          → cond t (firstSite (one h c) 0) (cond u (widthIn (cellOf c) (i - widthWord)) (cond v 1 0)) ≤ B
       go true u v = let g = r .given in let d = r .displacement in omega arith
       go false true v = let g = r .width (i - widthWord) in omega arith
       go false false true = omega arith

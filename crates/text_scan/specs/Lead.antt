@@ -148,7 +148,8 @@ module _ (one other b : ℕ) (s : Text) where
       ∙ sym (lead-first (one ∷ other ∷ []) b s))
     where
       go : (t : Bool) → eqb b other ≡ t
-          → alone (b ∷ s) && (eqb b (cond t other one) || false) ≡ alone (b ∷ s) && (eqb b one || (eqb b other || false))
+          → alone (b ∷ s) && (eqb b (cond t other one) || false)
+          ≡ alone (b ∷ s) && (eqb b one || (eqb b other || false))
       go true e = rw (e, or-true (eqb b one))
       go false e = rw e
 

@@ -17,8 +17,8 @@ use Rattle.search_dense_layer.proofs.from_source.Tie as tie
 
 -- past the test the state is a source
 abbrev ThinSource : tie.Else1 → Type 0
-ThinSource c = let a = c .before .before .before .before .args in isSource (deckIn (a .row .now) (a .sizes)) (a .sizes .reordering) (a .sought .cells) (a .sought .state)
-    (a .p) ≡ true
+ThinSource c = let a = c .before .before .before .before .args in isSource (deckIn (a .row .now) (a .sizes)) (a .sizes .reordering)
+    (a .sought .cells) (a .sought .state) (a .p) ≡ true
 
 source : (c : tie.Else1) → ThinSource c
 source c = sym (c .before .is-source .ensures) ∙ not-false _ (c .if1 .left)
@@ -79,7 +79,11 @@ returns c =
     let D = deckIn (a .row .now) (a .sizes) in
     let away = sym (c .before .is-source .ensures) ∙ not-true _ (c .if1 .taken) in
     gathered-none (bucketsIn (a .row .now) (lastAt (a .sizes .reordering) (suc (a .sought .cells)) (a .sought .state))) (k .pre .0 .arrays)
-    (λ v t h. omega (arith, state-out (a .row .now) D (a .sizes .reordering) (thinIn (a .store .now) (a .sought .at)) (a .sought .cells) (a .sought .state) (a .p) v t away))
+    (λ v t h. omega (
+      arith,
+      state-out (a .row .now) D (a .sizes .reordering) (thinIn (a .store .now) (a .sought .at)) (a .sought .cells)
+          (a .sought .state) (a .p) v t away,
+    ))
 
 last-at-requires : tie.Need-last-at-requires
 last-at-requires c κs = search needs

@@ -28,7 +28,11 @@ loop-holds c =
     let D = deckIn (a .row .now) (a .sizes) in (
       omega arith,
       gathered-none (bucketsIn (a .row .now) (lastAt (a .sizes .reordering) (suc (a .sought .cells)) (a .sought .state))) (k .pre .arrays)
-          (λ v t h. omega (arith, states-none (a .row .now) D (a .sizes .reordering) (thinIn (a .store .now) (a .sought .at)) (a .sought .cells) (a .sought .state) v t)),
+          (λ v t h. omega (
+            arith,
+            states-none (a .row .now) D (a .sizes .reordering) (thinIn (a .store .now) (a .sought .at)) (a .sought .cells)
+                (a .sought .state) v t,
+          )),
     )
 
 from-source-requires : tie.Need-from-source-requires Inv-loop μ-loop

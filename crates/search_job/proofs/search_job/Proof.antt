@@ -55,7 +55,8 @@ same-length c = search needs
 returns : tie.Need-returns
 returns c =
     let called = c .before .before in
-    let second = called .before .before .before .before .before in
+    let lent = called .before .before .before .before in
+    let second = lent .before in
     let first = second .before .before .before in
     let k = first .before .before .before .pre in
     solved (k .accepted .sound) (first .fill-row .ensures) (second .fill-row2 .ensures) (called .search .ensures)

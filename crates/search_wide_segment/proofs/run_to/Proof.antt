@@ -20,16 +20,22 @@ abbrev μ-loop : tie.MeasureT-loop
 μ-loop table₀ store₀ row sizes lanes i tall costs r from₀ d₀ table store from d =
     tall + (sizes .reordering) - (i + d)
 
+-- where the function begins, from there to the loop
+abbrev entry : tie.After-slice-known3 Inv-loop μ-loop → tie.Start Inv-loop μ-loop
+entry c =
+    let late = c .before .before .before .before in
+    let known = late .before .before .before .before in
+    known .before .before
+
 -- the store is as long as it was, where the loop begins
-long : (c : tie.After-slice-known3 Inv-loop μ-loop) → length (c .before .before .deliver .last .0)
-    ≡ length (c .before .before .before .before .before .before .before .before .before .before .args .store .now)
+long : (c : tie.After-slice-known3 Inv-loop μ-loop) → length (c .before .before .deliver .last .0) ≡ length (entry c .args .store .now)
 long c =
     let after-deliver = c .before .before in
     after-deliver .deliver .ensures .frame .long ∙ after-deliver .before .before .before .before .fill-late .ensures .frame .long
 
 -- the first layer too
 kept : (c : tie.After-slice-known3 Inv-loop μ-loop) (k : ℕ) → k < layerBlock → getD (c .before .before .deliver .last .0) k 0
-    ≡ getD (c .before .before .before .before .before .before .before .before .before .before .args .store .now) k 0
+    ≡ getD (entry c .args .store .now) k 0
 kept c k h =
     let after-deliver = c .before .before in
     let after-fill-late = after-deliver .before .before .before .before in
