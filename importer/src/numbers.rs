@@ -43,6 +43,19 @@ impl Numbers {
             drift: fields.signed(),
         }
     }
+
+    /// The line that `refine` prints of them: `cost,steps,sites shifted,mirrored,changed,drift`.
+    pub fn fields(&self) -> String {
+        let Numbers {
+            steps,
+            shifted,
+            mirrored,
+            changed,
+            cost,
+            drift,
+        } = self;
+        format!("{cost},{steps},{shifted},{mirrored},{changed},{drift}")
+    }
 }
 
 /// Each number behind its name, in the order in which `refine` prints them.

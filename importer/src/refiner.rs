@@ -2,6 +2,7 @@
 
 use crate::{place, placement, Numbers, Pose, PoseError, Refined, Refused};
 use crate::{OUTPUT_BYTES, STORE_WORDS};
+use std::collections::TryReserveError;
 use std::fmt;
 
 /// A store and an output that are large enough for any job, held for many of them. Nothing is
@@ -44,6 +45,14 @@ impl Refiner {
         }
     }
 
+    /// A refiner, if there is memory for it.
+    pub fn try_new() -> Result<Refiner, TryReserveError> {
+        Ok(Refiner {
+            store: zeros(STORE_WORDS)?,
+            output: zeros(OUTPUT_BYTES)?,
+        })
+    }
+
     /// Places a job. The answer lies in the refiner until the next job;
     /// [`to_refined`](Answer::to_refined) copies it.
     pub fn place(&mut self, job: &[u8]) -> Result<Answer<'_>, Refused> {
@@ -54,6 +63,14 @@ impl Refiner {
             text: text.unwrap_or_default(),
         })
     }
+}
+
+/// So many zeros, for a buffer that is lent.
+fn zeros<T: Clone + Default>(count: usize) -> Result<Vec<T>, TryReserveError> {
+    let mut zeros = Vec::new();
+    zeros.try_reserve_exact(count)?;
+    zeros.resize(count, T::default());
+    Ok(zeros)
 }
 
 impl Default for Refiner {

@@ -110,6 +110,11 @@ impl Refused {
         }
     }
 
+    /// The line that `refine` prints of it: `refused,number,line`.
+    pub fn fields(&self) -> String {
+        format!("refused,{},{}", self.number, self.line)
+    }
+
     /// The number's entry in the table. There is none if the archive is newer than this program.
     fn entry(&self) -> Option<&'static Refusal> {
         REFUSALS
