@@ -2,12 +2,10 @@
 
 use crate::mistake::Mistake;
 use crate::streams;
+use importer::batch::{shown, LONGEST};
 use std::ffi::OsStr;
 use std::fs::File;
 use std::io::{self, IsTerminal, Read, Write};
-
-/// The longest text that is taken in. The longest job that is accepted has under 8 KiB.
-const LONGEST: u64 = 256 << 20;
 
 /// What stands for standard input where a file's name is asked.
 pub const DASH: &str = "-";
@@ -33,7 +31,7 @@ impl Text {
         if word == DASH {
             return Text::of_standard_input(what);
         }
-        let name = printable(word);
+        let name = shown(word);
         match File::open(word) {
             Ok(file) => Ok(Text {
                 bytes: whole(file, &name)?,
@@ -62,19 +60,6 @@ fn hint(what: &str) {
     let ends = "end it with Ctrl-D, or see `refine --help`";
     // Where it cannot be said, the text is waited for all the same.
     let _ = writeln!(io::stderr(), "refine: type {what} line by line; {ends}");
-}
-
-/// A path in which no character moves the cursor.
-fn printable(path: &OsStr) -> String {
-    let mut name = String::new();
-    for letter in path.to_string_lossy().chars() {
-        if letter.is_control() {
-            name.extend(letter.escape_default());
-        } else {
-            name.push(letter);
-        }
-    }
-    name
 }
 
 fn whole(source: File, name: &str) -> Result<Vec<u8>, Mistake> {

@@ -11,6 +11,7 @@ mod figures;
 mod input;
 mod memory;
 mod mistake;
+mod progress;
 mod report;
 mod streams;
 mod words;

@@ -26,10 +26,11 @@ fn reserved<T>(count: usize, what: &str) -> Result<Vec<T>, Mistake> {
     let mut room = Vec::new();
     match room.try_reserve_exact(count) {
         Ok(()) => Ok(room),
-        Err(_) => {
-            let bytes = count.saturating_mul(size_of::<T>());
-            let reason = format!("no memory for {what}: {bytes} bytes");
-            Err(Mistake::Memory(reason))
-        }
+        Err(_) => Err(none_for(what, count.saturating_mul(size_of::<T>()))),
     }
+}
+
+/// There is no memory for so many bytes.
+pub fn none_for(what: &str, bytes: usize) -> Mistake {
+    Mistake::Memory(format!("no memory for {what}: {bytes} bytes"))
 }

@@ -36,7 +36,7 @@ impl Report {
     pub fn refusal(refused: Refused, text: &str, line: &[u8], words: Option<String>) -> Report {
         let mut report = Report {
             status: REFUSAL,
-            output: format!("refused,{},{}\n", refused.number, refused.line).into(),
+            output: format!("{}\n", refused.fields()).into(),
             notes: Vec::new(),
         };
         if !line.is_empty() {
@@ -80,6 +80,12 @@ impl Report {
         self
     }
 
+    /// The report with the exit status of an input error: what it says is not all that was asked.
+    pub fn lacking(mut self) -> Report {
+        self.status = ERROR;
+        self
+    }
+
     /// Prints the report. A reader that has gone away is an error without a word.
     pub fn write(self) -> ExitCode {
         let written = print(&self.output);
@@ -110,13 +116,5 @@ fn print(output: &[u8]) -> io::Result<()> {
 
 /// `cost,steps,sites shifted,mirrored,changed,drift`.
 pub fn line_of(numbers: &Numbers) -> String {
-    let Numbers {
-        steps,
-        shifted,
-        mirrored,
-        changed,
-        cost,
-        drift,
-    } = numbers;
-    format!("{cost},{steps},{shifted},{mirrored},{changed},{drift}")
+    numbers.fields()
 }

@@ -1,7 +1,9 @@
 //! The words behind a command's name: its options, and the arguments besides.
 
+use crate::input::DASH;
 use crate::mistake::Mistake;
 use std::ffi::{OsStr, OsString};
+use std::path::Path;
 
 /// An option of a command.
 pub struct Switch {
@@ -85,14 +87,31 @@ impl<'line> Words<'line> {
 
     /// The number behind this option, if it is among the words; the last one counts.
     pub fn number(&self, switch: &Switch) -> Result<Option<u32>, Mistake> {
+        self.behind(switch, "a number", plain_number)
+    }
+
+    /// The path behind this option, if it is among the words; the last one counts.
+    pub fn path(&self, switch: &Switch) -> Result<Option<&'line Path>, Mistake> {
+        let path = |word: &'line OsStr| (!word.is_empty() && word != DASH).then_some(word);
+        let path = self.behind(switch, "a path", path)?;
+        Ok(path.map(Path::new))
+    }
+
+    /// What the word behind this option stands for; `what` it is to be stands in the message.
+    fn behind<T>(
+        &self,
+        switch: &Switch,
+        what: &str,
+        read: impl Fn(&'line OsStr) -> Option<T>,
+    ) -> Result<Option<T>, Mistake> {
         let is_it = |typed: &&Typed| switch.is_named(typed.option);
         let Some(typed) = self.options.iter().rev().find(is_it) else {
             return Ok(None);
         };
-        match typed.value.and_then(plain_number) {
-            Some(number) => Ok(Some(number)),
+        match typed.value.and_then(read) {
+            Some(value) => Ok(Some(value)),
             None => Err(Mistake::Usage(format!(
-                "{} needs a number behind it",
+                "{} needs {what} behind it",
                 typed.option.to_string_lossy()
             ))),
         }

@@ -1,6 +1,7 @@
 //! The commands of `refine`: a file for each, and an entry for each in the table below. Which
 //! command runs and what the usage text says both come from the table.
 
+mod batch;
 mod compare;
 mod draw;
 mod gaps;
@@ -77,6 +78,13 @@ const COMMANDS: &[Command] = &[
         prints: "a picture (SVG) of the given rows or of the placement; with `--best` a cheapest one below",
         options: draw::OPTIONS,
         run: draw::run,
+    },
+    Command {
+        words: &["batch"],
+        arguments: "[-j N] [--csv FILE] [--html DIR] PATH...",
+        prints: "how many of the jobs are answered and refused, and how fast; each answer goes to `NAME.out`",
+        options: batch::OPTIONS,
+        run: batch::run,
     },
     Command {
         words: &["help", "--help", "-h"],
