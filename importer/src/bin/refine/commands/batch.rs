@@ -10,6 +10,7 @@ use importer::batch::{self, shown, Done, Failure, Gathered, Summary, Task};
 use importer::{Refiner, STORE_WORDS};
 use std::ffi::{OsStr, OsString};
 use std::fs;
+use std::io::Stderr;
 use std::path::{Path, PathBuf};
 use std::thread;
 use std::time::Instant;
@@ -85,7 +86,7 @@ fn make_folder(folder: &Path) -> Result<(), Mistake> {
 }
 
 /// Says which folders have no jobs, or cannot be read.
-fn tell_of_folders(progress: &mut Progress, gathered: &Gathered) {
+fn tell_of_folders(progress: &mut Progress<Stderr>, gathered: &Gathered) {
     for folder in &gathered.empty {
         let name = shown(folder.as_os_str());
         progress.tell(&format!("there is no *.job in {name}"));

@@ -53,7 +53,7 @@ extern "C" {
 const CLOCK_PROCESS_CPUTIME_ID: i32 = 2;
 
 /// The time that processors have spent on this process.
-fn processor_time() -> Duration {
+pub fn processor_time() -> Duration {
     let mut time = Timespec {
         seconds: 0,
         nanoseconds: 0,

@@ -1,19 +1,27 @@
 //! The refiner's processor time beside that of plain Rust, in one run.
 //!
 //! Each line is the best of five of both, taken in turn. `bench growth` shows instead how the
-//! time of Place grows with the job.
+//! time of Place grows with the job, `bench batch` how long many jobs take by one thread and two.
 
+mod batch;
 mod clock;
 mod growth;
 mod placing;
 mod reading;
 mod scoring;
 
-fn main() {
-    if std::env::args().nth(1).is_some_and(|word| word == "growth") {
-        growth::show();
-        return;
+use std::io;
+
+fn main() -> io::Result<()> {
+    match std::env::args().nth(1).as_deref() {
+        Some("growth") => growth::show(),
+        Some("batch") => batch::show()?,
+        _ => compare(),
     }
+    Ok(())
+}
+
+fn compare() {
     println!(
         "{:<44}{:>12}{:>12}{:>8}",
         "", "refiner", "plain Rust", "ratio"
