@@ -1,0 +1,198 @@
+//! `--html`: a page with a row for each job, and a picture of each.
+
+use super::{batch, check_summary, counts, folder, jobs, names, put, summary, text};
+use super::{DESK, DESK_PLACEMENT, PAST, WORKED};
+use std::fs;
+use std::path::Path;
+use std::process::Command;
+
+/// A row's cells, without their tags.
+type Row = Vec<String>;
+
+/// The rows of the table's body, of a page as it was written or as a browser has it.
+fn rows(page: &str) -> Vec<Row> {
+    let (_, body) = page.split_once("<tbody>").expect("a table's body");
+    let (body, _) = body.split_once("</tbody>").expect("its end");
+    let rows = body.split("</tr>").filter(|row| row.contains("<tr>"));
+    rows.map(cells).collect()
+}
+
+fn cells(row: &str) -> Row {
+    let ends = row.replace("</th>", "</td>");
+    let cells = ends.split("</td>").filter(|cell| cell.contains("<t"));
+    cells.map(without_tags).collect()
+}
+
+fn without_tags(cell: &str) -> String {
+    let parts = cell.split('<').skip(1);
+    let texts = parts.filter_map(|part| part.split_once('>'));
+    texts
+        .map(|(_, text)| text)
+        .collect::<String>()
+        .trim()
+        .into()
+}
+
+/// The rows that the page of the jobs is to have.
+fn expected() -> Vec<Row> {
+    let lines = [
+        "./desk.job,answered,,,12,0,2,1,0,50,legal,,,,300,288",
+        "./falling.job,refused,4,3,,,,,,,,,,,,",
+        "./past.job,answered,,,7,0,1,0,0,-100,,,,,,",
+        "./tight.job,refused,8,0,,,,,,,,,,,,",
+        "./worked.job,answered,,,100,0,0,1,0,0,,,,,,",
+    ];
+    let row = |line: &&str| line.split(',').map(String::from).collect();
+    lines.iter().map(row).collect()
+}
+
+/// Elements that have no end tag in a page.
+const ALONE: [&str; 1] = ["meta"];
+
+/// Checks that each element is closed by its own end tag, and that quotes are closed.
+fn check_well_formed(page: &str) {
+    let mut open: Vec<&str> = Vec::new();
+    let rest = page.strip_prefix("<!DOCTYPE html>").expect("a page");
+    for part in rest.split('<').skip(1) {
+        let (tag, _) = part.split_once('>').expect(part);
+        let name = tag.split([' ', '/']).find(|name| !name.is_empty());
+        let name = name.expect(part);
+        if tag.starts_with('/') {
+            assert_eq!(open.pop(), Some(name), "{part}");
+        } else if ALONE.contains(&name) {
+            assert!(tag.ends_with('/'), "{part}");
+        } else {
+            assert!(tag.matches('"').count() % 2 == 0, "{part}");
+            open.push(name);
+        }
+    }
+    assert_eq!(open, [""; 0]);
+}
+
+/// A browser that can be run without a window; none where there is none.
+fn browser() -> Option<&'static str> {
+    let browsers = ["chromium", "chromium-browser", "google-chrome"];
+    let runs = |browser: &&str| {
+        let version = Command::new(browser).arg("--version").output();
+        version.is_ok_and(|output| output.status.success())
+    };
+    let found = browsers.into_iter().find(runs);
+    if found.is_none() {
+        eprintln!("left out, because this is not installed: {}", browsers[0]);
+    }
+    found
+}
+
+/// The page as a browser has it once its script ran.
+fn as_browsed(browser: &str, page: &Path) -> String {
+    let profile = page.with_file_name("profile");
+    let output = Command::new(browser)
+        .args(["--headless", "--no-sandbox", "--disable-gpu"])
+        .args(["--timeout=20000", "--dump-dom"])
+        .arg(format!("--user-data-dir={}", profile.display()))
+        .arg(format!("file://{}", page.display()))
+        .output();
+    let output = output.expect("the browser runs");
+    assert!(output.status.success(), "{output:?}");
+    String::from_utf8_lossy(&output.stdout).into_owned()
+}
+
+#[test]
+fn the_page_has_a_row_for_each_job() {
+    let folder = jobs("page");
+    check_summary(batch(&folder, &["--html", "page", "."]), &summary(0));
+    let path = folder.join("page/index.html");
+    let page = text(&path);
+    check_well_formed(&page);
+    assert_eq!(rows(&page), expected());
+    let heading = page.matches("<th scope=\"col\"").count();
+    assert_eq!(heading, expected()[0].len());
+    let Some(browser) = browser() else {
+        return;
+    };
+    let browsed = as_browsed(browser, &path);
+    assert_eq!(rows(&browsed), expected());
+    // The script made a button of each heading.
+    assert_eq!(browsed.matches("<button type=\"button\">").count(), heading);
+}
+
+#[test]
+fn nothing_in_the_page_is_from_elsewhere() {
+    let folder = jobs("nothing_else");
+    check_summary(batch(&folder, &["--html", "page", "."]), &summary(0));
+    let page = text(folder.join("page/index.html"));
+    for word in ["http:", "https:", "//", "src=", "@import", "url("] {
+        // A line of the script may be a comment.
+        let lines = page.lines().filter(|line| !line.trim().starts_with("// "));
+        let found: Vec<&str> = lines.filter(|line| line.contains(word)).collect();
+        assert_eq!(found, [""; 0], "{word}");
+    }
+    assert!(page.contains("content=\"default-src 'none';"), "{page}");
+}
+
+#[test]
+fn each_job_that_is_accepted_has_its_picture() {
+    let folder = jobs("pictures");
+    put(&folder, "tight.placement", "0,0\n");
+    let (output, notes, status) = batch(&folder, &["--html", "new/page", "."]);
+    assert_eq!((&*notes, status), ("", Some(0)));
+    assert!(
+        counts(&output).ends_with(" placements,1,0,1 saved,288"),
+        "{output}"
+    );
+    let pictures = ["desk.svg", "past.svg", "tight.svg", "worked.svg"];
+    let files = [&pictures[..1], &["index.html"], &pictures[1..]].concat();
+    assert_eq!(names(&folder.join("new/page")), files);
+    let page = text(folder.join("new/page/index.html"));
+    let links = page.split("<a href=\"./").skip(1);
+    let links: Vec<&str> = links.filter_map(|link| link.split('"').next()).collect();
+    assert_eq!(links, pictures);
+    let desk = text(folder.join("new/page/desk.svg"));
+    for words in ["placement: legal, cost 300", "cheapest: legal, cost 12,"] {
+        assert!(desk.contains(words), "{words}");
+    }
+    // The placement beside it is refused, so its given rows are drawn.
+    let tight = text(folder.join("new/page/tight.svg"));
+    for words in [
+        "given rows: not legal",
+        "cheapest: no legal placement exists",
+    ] {
+        assert!(tight.contains(words), "{words}");
+    }
+}
+
+#[test]
+fn pictures_of_jobs_with_one_name_have_names_of_their_own() {
+    let folder = folder("same_names");
+    for name in ["a", "b", "c"] {
+        fs::create_dir(folder.join(name)).expect("a folder");
+    }
+    put(&folder, "a/x.job", DESK);
+    put(&folder, "a/x.placement", DESK_PLACEMENT);
+    put(&folder, "b/x.job", PAST);
+    put(&folder, "c/x-2.job", WORKED);
+    let (_, notes, status) = batch(&folder, &["--html", "page", "a", "b", "c"]);
+    assert_eq!((&*notes, status), ("", Some(0)));
+    let files = ["index.html", "x-2-2.svg", "x-2.svg", "x.svg"];
+    assert_eq!(names(&folder.join("page")), files);
+    let cheapest = |file: &str| {
+        let picture = text(folder.join("page").join(file));
+        let (_, words) = picture.split_once("cheapest: legal, cost ").expect(file);
+        words.split(',').next().map(String::from)
+    };
+    let costs = ["x.svg", "x-2.svg", "x-2-2.svg"].map(cheapest);
+    assert_eq!(costs, ["12", "7", "100"].map(|cost| Some(cost.to_string())));
+}
+
+#[test]
+fn names_are_escaped_in_the_page() {
+    let folder = folder("escaped");
+    put(&folder, "<b>&\"x\" %#.job", PAST);
+    let (_, notes, status) = batch(&folder, &["--html", "page", "."]);
+    assert_eq!((&*notes, status), ("", Some(0)));
+    let page = text(folder.join("page/index.html"));
+    check_well_formed(&page);
+    let link = "<a href=\"./%3Cb%3E%26%22x%22%20%25%23.svg\">";
+    let name = "./&lt;b&gt;&amp;&quot;x&quot; %#.job</a>";
+    assert!(page.contains(&format!("{link}{name}")), "{page}");
+}

@@ -1,0 +1,175 @@
+//! Inputs that cannot be read, outputs that cannot be written, and little memory.
+
+use super::{batch, check_summary, counts, folder, jobs, names, put, summary, text};
+use super::{PAST, PAST_ANSWER, REFINE, WORKED, WORKED_ANSWER};
+use std::fs;
+use std::path::Path;
+use std::process::Command;
+
+/// Checks the notes, the counts and the status of a run that could not do all.
+fn check_lacking(folder: &Path, words: &[&str], notes: &[&str], expected: &str) {
+    let (output, said, status) = batch(folder, words);
+    assert_eq!(status, Some(2), "{said}");
+    let lines: Vec<&str> = said.lines().collect();
+    assert_eq!(lines.len(), notes.len(), "{said}");
+    for (line, note) in lines.iter().zip(notes) {
+        assert!(line.starts_with(&format!("refine: {note}")), "{said}");
+    }
+    assert_eq!(counts(&output), expected);
+}
+
+#[test]
+fn an_input_that_cannot_be_read_is_told_of_and_the_others_go_on() {
+    let folder = folder("unread");
+    put(&folder, "a.job", WORKED);
+    put(&folder, "z.job", PAST);
+    fs::create_dir(folder.join("p.placement")).expect("a folder");
+    put(&folder, "p.job", PAST);
+    let words = [
+        "-j",
+        "1",
+        "--csv",
+        "all.csv",
+        "a.job",
+        "no.job",
+        "a.job/b.job",
+    ];
+    let words = [&words[..], &["p.job", "z.job"]].concat();
+    let notes = [
+        "cannot open no.job: there is no such file",
+        "cannot open a.job/b.job: Not a directory",
+        "cannot read p.placement: Is a directory",
+    ];
+    let expected = "jobs,5 answered,2 failed,3 taken over,0 placements,0,0,0 saved,0";
+    check_lacking(&folder, &words, &notes, expected);
+    assert_eq!(text(folder.join("a.out")), WORKED_ANSWER);
+    assert_eq!(text(folder.join("z.out")), PAST_ANSWER);
+    let csv = text(folder.join("all.csv"));
+    let lines: Vec<&str> = csv.lines().skip(2).collect();
+    let failed = |name: &str| format!("{name},failed{}", ",".repeat(14));
+    assert_eq!(lines[0], failed("no.job"));
+    assert_eq!(lines[1], failed("a.job/b.job"));
+    assert_eq!(lines[2], failed("p.job"));
+    assert!(lines[3].starts_with("z.job,answered,"), "{csv}");
+}
+
+#[test]
+fn an_output_that_cannot_be_written_is_told_of_and_the_others_go_on() {
+    let folder = folder("unwritten");
+    for name in ["a.job", "b.job", "c.job"] {
+        put(&folder, name, WORKED);
+    }
+    fs::create_dir(folder.join("a.out")).expect("a folder");
+    fs::create_dir(folder.join("b.out.part")).expect("a folder");
+    let notes = [
+        "cannot write ./a.out: Is a directory",
+        "cannot write ./b.out: Is a directory",
+    ];
+    let expected = "jobs,3 answered,1 failed,2 taken over,0 placements,0,0,0 saved,0";
+    check_lacking(&folder, &["-j", "1", "."], &notes, expected);
+    assert_eq!(text(folder.join("c.out")), WORKED_ANSWER);
+    assert!(!folder.join("c.out.part").exists());
+}
+
+/// No file can be made in that folder, by nobody.
+#[cfg(target_os = "linux")]
+#[test]
+fn a_folder_that_takes_no_files_is_told_of() {
+    let folder = folder("no_files");
+    put(&folder, "a.job", PAST);
+    let words = ["/proc/self/status", "a.job"];
+    let expected = "jobs,2 answered,1 failed,1 taken over,0 placements,0,0,0 saved,0";
+    let notes = ["cannot write /proc/self/status.out: "];
+    check_lacking(&folder, &words, &notes, expected);
+    assert_eq!(text(folder.join("a.out")), PAST_ANSWER);
+}
+
+#[test]
+fn a_table_or_a_page_that_cannot_be_written_leaves_the_answers() {
+    let folder = jobs("no_table");
+    let words = ["--csv", "no/such/all.csv", "."];
+    check_lacking(
+        &folder,
+        &words,
+        &["cannot write no/such/all.csv: "],
+        &summary(0),
+    );
+    assert_eq!(text(folder.join("worked.out")), WORKED_ANSWER);
+    fs::create_dir_all(folder.join("page/index.html")).expect("a folder");
+    let words = ["--html", "page", "."];
+    check_lacking(
+        &folder,
+        &words,
+        &["cannot write page/index.html: "],
+        &summary(5),
+    );
+    check_summary(batch(&folder, &["."]), &summary(5));
+}
+
+#[test]
+fn a_folder_for_the_page_that_cannot_be_made_is_told_of_first() {
+    let folder = jobs("no_folder");
+    let before = names(&folder);
+    let (output, notes, status) = batch(&folder, &["--html", "worked.job/page", "."]);
+    assert_eq!((&*output, status), ("", Some(2)));
+    let start = "refine: cannot make the folder worked.job/page: ";
+    assert!(notes.starts_with(start), "{notes}");
+    assert_eq!(names(&folder), before);
+}
+
+/// Runs a line of the shell in a folder, in which `$REFINE` is the program.
+fn shell(folder: &Path, line: &str) -> (String, String, Option<i32>) {
+    let mut bash = Command::new("bash");
+    bash.args(["-c", line]).current_dir(folder);
+    let output = bash.env("REFINE", REFINE).output().expect("bash ends");
+    let text = |bytes: &[u8]| String::from_utf8_lossy(bytes).into_owned();
+    (
+        text(&output.stdout),
+        text(&output.stderr),
+        output.status.code(),
+    )
+}
+
+#[test]
+fn no_memory_for_the_stores_is_an_error() {
+    let folder = folder("memory");
+    for number in 0..64 {
+        put(&folder, format!("{number:02}.job"), WORKED);
+    }
+    let run = |limit: u32| format!("ulimit -v {limit}; exec \"$REFINE\" batch -j 64 .");
+    let (output, notes, status) = shell(&folder, &run(100_000));
+    let note = "refine: no memory for the store: 4194304 bytes\n";
+    assert_eq!((&*output, &*notes, status), ("", note, Some(2)));
+    // A thread's stack is room that may be lacking as well.
+    let (_, notes, status) = shell(&folder, &run(300_000));
+    assert_eq!(status, Some(2), "{notes}");
+    let starts = ["refine: no memory for", "refine: cannot start a thread: "];
+    assert!(
+        starts.iter().any(|start| notes.starts_with(start)),
+        "{notes}"
+    );
+}
+
+#[test]
+fn a_summary_that_cannot_be_written_is_an_error() {
+    let folder = jobs("full");
+    let (_, notes, status) = shell(&folder, "\"$REFINE\" batch . > /dev/full");
+    assert_eq!(status, Some(2));
+    let start = "refine: cannot write standard output: No space";
+    assert!(notes.starts_with(start), "{notes}");
+    assert_eq!(text(folder.join("worked.out")), WORKED_ANSWER);
+}
+
+/// `script` runs a command on a terminal of its own.
+#[test]
+fn a_short_run_on_a_terminal_says_no_more_than_its_summary() {
+    let folder = jobs("terminal");
+    let (_, _, status) = shell(&folder, "script -qec true /dev/null < /dev/null");
+    if status != Some(0) {
+        eprintln!("left out, because this does not work here: script");
+        return;
+    }
+    let line = "script -qec '\"$REFINE\" batch -j 1 worked.job' /dev/null < /dev/null";
+    let (output, ..) = shell(&folder, line);
+    assert!(output.starts_with("jobs,1\r\nanswered,1\r\n"), "{output}");
+}
