@@ -9,13 +9,16 @@ use std::path::Path;
 /// The longest text that is taken in. The longest job that is accepted has under 8 KiB.
 pub const LONGEST: u64 = 256 << 20;
 
+/// Most texts are shorter than this, and are read at once.
+const USUAL: usize = 8 << 10;
+
 /// What a file is called while it is written, behind its name.
 const PART: &str = "part";
 
 /// The bytes of a file.
 pub(super) fn read(path: &Path) -> Result<Vec<u8>, Failure> {
     let file = File::open(path).map_err(|error| Failure::cannot("open", path, error))?;
-    let mut bytes = Vec::new();
+    let mut bytes = Vec::with_capacity(USUAL);
     match file.take(LONGEST + 1).read_to_end(&mut bytes) {
         Err(error) => Err(Failure::cannot("read", path, error)),
         Ok(_) if bytes.len() as u64 > LONGEST => Err(Failure::too_long(path)),

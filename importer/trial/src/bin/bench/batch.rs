@@ -76,22 +76,29 @@ impl Took {
 pub fn show() -> io::Result<()> {
     let name = format!("refiner-bench-{}", std::process::id());
     let folder = Folder(std::env::temp_dir().join(name));
-    fs::create_dir_all(&folder.0)?;
-    let jobs = write_jobs(&folder.0)?;
+    let jobs = jobs();
     let mut rounds = Vec::new();
-    for _ in 0..ROUNDS {
-        rounds.push([place_all(&jobs), batch(&folder.0, 1)?, batch(&folder.0, 2)?]);
+    for round in 0..ROUNDS {
+        // A folder of its own for each: file systems take longer where files were just removed.
+        let batch_by = |threads: usize| {
+            let folder = folder.0.join(format!("{round}-{threads}"));
+            write_jobs(&jobs, &folder)?;
+            batch(&folder, threads)
+        };
+        rounds.push([place_all(&jobs), batch_by(1)?, batch_by(2)?]);
     }
     let best = |at: usize| rounds.iter().map(|round| round[at]).reduce(Took::least);
+    let heads = ["wall", "processor", "wall", "proc."];
+    let [wall, processor, by_wall, by_processor] = heads;
+    println!(
+        "{:<26}{wall:>10}{processor:>12}{by_wall:>8}{by_processor:>8}",
+        "1,000 jobs"
+    );
     let names = [
         "Place alone, one by one",
         "batch, one thread",
         "batch, two threads",
     ];
-    println!(
-        "{:<26}{:>10}{:>12}{:>8}{:>8}",
-        "1,000 jobs", "wall", "processor", "wall", "proc."
-    );
     for (at, name) in names.iter().enumerate() {
         if let (Some(took), Some(alone)) = (best(at), best(0)) {
             show_one(name, took, alone);
@@ -108,17 +115,20 @@ fn show_one(name: &str, took: Took, alone: Took) {
     println!("{name:<26}{wall:>8.3} s{processor:>10.3} s{by_wall:>8.3}{by_processor:>8.3}");
 }
 
-/// Writes the jobs to a folder, and returns their texts.
-fn write_jobs(folder: &Path) -> io::Result<Vec<Vec<u8>>> {
+/// The jobs' texts.
+fn jobs() -> Vec<Vec<u8>> {
     let mut random = Random::new(3);
     let shapes = SHAPES.iter().cycle().take(JOBS);
-    let texts: Vec<Vec<u8>> = shapes
-        .map(|shape| legal::job(&mut random, shape).text())
-        .collect();
-    for (number, text) in texts.iter().enumerate() {
-        fs::write(folder.join(format!("{number:04}.job")), text)?;
+    let job = |shape| legal::job(&mut random, shape).text();
+    shapes.map(job).collect()
+}
+
+fn write_jobs(jobs: &[Vec<u8>], folder: &Path) -> io::Result<()> {
+    fs::create_dir_all(folder)?;
+    for (number, job) in jobs.iter().enumerate() {
+        fs::write(folder.join(format!("{number:04}.job")), job)?;
     }
-    Ok(texts)
+    Ok(())
 }
 
 /// Places all jobs, one by one.
@@ -131,10 +141,6 @@ fn place_all(jobs: &[Vec<u8>]) -> Took {
 
 /// Does all jobs of a folder, from its name to the last answer written.
 fn batch(folder: &Path, threads: usize) -> io::Result<Took> {
-    for number in 0..JOBS {
-        // In the first round there are none.
-        let _ = fs::remove_file(folder.join(format!("{number:04}.out")));
-    }
     let (results, took) = Took::of(|| {
         let tasks = gather([folder]).tasks;
         let refiners = (0..threads).map(|_| Refiner::new()).collect();
