@@ -4,6 +4,7 @@ mod answers;
 mod csv;
 mod list;
 mod page;
+mod readme;
 mod resume;
 mod trouble;
 
