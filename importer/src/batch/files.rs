@@ -18,8 +18,10 @@ const PART: &str = "part";
 /// The bytes of a file.
 pub(super) fn read(path: &Path) -> Result<Vec<u8>, Failure> {
     let file = File::open(path).map_err(|error| Failure::cannot("open", path, error))?;
-    let mut bytes = Vec::with_capacity(USUAL);
-    match file.take(LONGEST + 1).read_to_end(&mut bytes) {
+    let mut bytes = Vec::new();
+    let read = bytes.try_reserve(USUAL).map_err(io::Error::from);
+    let read = read.and_then(|()| file.take(LONGEST + 1).read_to_end(&mut bytes));
+    match read {
         Err(error) => Err(Failure::cannot("read", path, error)),
         Ok(_) if bytes.len() as u64 > LONGEST => Err(Failure::too_long(path)),
         Ok(_) => Ok(bytes),

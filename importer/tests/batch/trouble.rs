@@ -130,24 +130,38 @@ fn shell(folder: &Path, line: &str) -> (String, String, Option<i32>) {
     )
 }
 
+/// There is memory for the stores and all threads, or for fewer threads, or what is lacking is
+/// told before anything is done.
 #[test]
-fn no_memory_for_the_stores_is_an_error() {
+fn little_memory_is_told_of_or_is_enough() {
     let folder = folder("memory");
     for number in 0..64 {
         put(&folder, format!("{number:02}.job"), WORKED);
     }
-    let run = |limit: u32| format!("ulimit -v {limit}; exec \"$REFINE\" batch -j 64 .");
-    let (output, notes, status) = shell(&folder, &run(100_000));
-    let note = "refine: no memory for the store: 4194304 bytes\n";
-    assert_eq!((&*output, &*notes, status), ("", note, Some(2)));
-    // A thread's stack is room that may be lacking as well.
-    let (_, notes, status) = shell(&folder, &run(300_000));
-    assert_eq!(status, Some(2), "{notes}");
-    let starts = ["refine: no memory for", "refine: cannot start a thread: "];
-    assert!(
-        starts.iter().any(|start| notes.starts_with(start)),
-        "{notes}"
-    );
+    let run = |limit: u32| {
+        let line = "rm -f *.out; ulimit -v $LIMIT; exec \"$REFINE\" batch -j 64 .";
+        shell(&folder, &line.replace("$LIMIT", &limit.to_string()))
+    };
+    let store = "refine: no memory for the store: 4194304 bytes\n";
+    assert_eq!(run(100_000), (String::new(), store.into(), Some(2)));
+    let fewer = "refine: fewer threads could be started, ";
+    let [mut with_fewer, mut with_all] = [0, 0];
+    for limit in (270_000..350_000).step_by(8_000).chain([2_000_000]) {
+        let (output, notes, status) = run(limit);
+        if status == Some(2) {
+            let starts = [store, "refine: cannot start a thread: "];
+            let told = starts.iter().any(|start| notes.starts_with(start));
+            assert!(told && output.is_empty(), "{limit}: {notes}");
+            continue;
+        }
+        assert_eq!(status, Some(0), "{limit}: {notes}");
+        assert!(output.starts_with("jobs,64\nanswered,64\n"), "{output}");
+        match &*notes {
+            "" => with_all += 1,
+            _ => with_fewer += usize::from(notes.starts_with(fewer)),
+        }
+    }
+    assert!(with_fewer > 0 && with_all > 0, "{with_fewer} {with_all}");
 }
 
 #[test]
@@ -160,16 +174,38 @@ fn a_summary_that_cannot_be_written_is_an_error() {
     assert_eq!(text(folder.join("worked.out")), WORKED_ANSWER);
 }
 
-/// `script` runs a command on a terminal of its own.
+/// What a command says on a terminal of its own, by `script`; none where that does not work.
+fn on_terminal(folder: &Path, before: &str, words: &str) -> Option<String> {
+    let (_, _, status) = shell(folder, "script -qec true /dev/null < /dev/null");
+    if status != Some(0) {
+        eprintln!("left out, because this does not work here: script");
+        return None;
+    }
+    let line = format!("{before} script -qec '\"$REFINE\" {words}' /dev/null < /dev/null");
+    Some(shell(folder, &line).0)
+}
+
 #[test]
 fn a_short_run_on_a_terminal_says_no_more_than_its_summary() {
     let folder = jobs("terminal");
-    let (_, _, status) = shell(&folder, "script -qec true /dev/null < /dev/null");
-    if status != Some(0) {
-        eprintln!("left out, because this does not work here: script");
-        return;
+    let said = on_terminal(&folder, "", "batch -j 1 worked.job");
+    if let Some(said) = said {
+        assert!(said.starts_with("jobs,1\r\nanswered,1\r\n"), "{said}");
     }
-    let line = "script -qec '\"$REFINE\" batch -j 1 worked.job' /dev/null < /dev/null";
-    let (output, ..) = shell(&folder, line);
-    assert!(output.starts_with("jobs,1\r\nanswered,1\r\n"), "{output}");
+}
+
+/// The second job comes out of a pipe after a while.
+#[test]
+fn a_terminal_has_a_bar_that_is_gone_at_the_end() {
+    let folder = jobs("bar");
+    let before = "mkfifo slow.job; (sleep 1.5; cat worked.job > slow.job) &";
+    let said = on_terminal(&folder, before, "batch -j 1 worked.job slow.job");
+    let Some(said) = said else {
+        return;
+    };
+    let bar = format!("\r[{}{}] 1 of 2 jobs, ", "#".repeat(15), "-".repeat(15));
+    assert!(said.starts_with(&bar), "{said:?}");
+    let (bars, summary) = said.rsplit_once(" \r").expect("the bar is written over");
+    assert!(bars.ends_with(&" ".repeat(50)), "{said:?}");
+    assert!(summary.starts_with("jobs,2\r\nanswered,2\r\n"), "{said:?}");
 }

@@ -102,6 +102,12 @@ impl<Out: Write> Watch for Progress<Out> {
     fn look(&mut self) {
         self.look_at(Instant::now());
     }
+
+    fn fewer(&mut self, threads: usize, error: &io::Error) {
+        self.tell(&format!(
+            "fewer threads could be started, {threads}: {error}"
+        ));
+    }
 }
 
 fn bar(done: usize, jobs: usize, words: &str) -> String {
