@@ -185,6 +185,24 @@ fn pictures_of_jobs_with_one_name_have_names_of_their_own() {
 }
 
 #[test]
+fn a_job_that_failed_has_a_row_that_says_why() {
+    let folder = folder("failed_row");
+    put(&folder, "a.job", PAST);
+    let (_, _, status) = batch(&folder, &["--html", "page", "no.job", "a.job"]);
+    assert_eq!(status, Some(2));
+    let page = text(folder.join("page/index.html"));
+    check_well_formed(&page);
+    let [failed, done] = &rows(&page)[..] else {
+        panic!("{page}");
+    };
+    assert_eq!((&*failed[0], &*failed[1]), ("no.job", "failed"));
+    assert_eq!((&*done[0], &*done[1]), ("a.job", "answered"));
+    let title = "<td title=\"cannot open no.job: there is no such file\">failed</td>";
+    assert!(page.contains(title), "{page}");
+    assert_eq!(names(&folder.join("page")), ["a.svg", "index.html"]);
+}
+
+#[test]
 fn names_are_escaped_in_the_page() {
     let folder = folder("escaped");
     put(&folder, "<b>&\"x\" %#.job", PAST);

@@ -113,10 +113,7 @@ fn row(task: &Task, result: &Result<Done, Failure>) -> String {
         None => name,
     };
     let field = |(column, field): (&&str, String)| {
-        let title = match *column {
-            "refusal" => meaning(result),
-            _ => String::new(),
-        };
+        let title = title(column, result);
         format!("<td{}{title}>{}</td>", class(column), escaped(&field))
     };
     let columns = COLUMNS.iter().skip(1);
@@ -133,10 +130,14 @@ fn is_drawn(result: &Result<Done, Failure>) -> bool {
     })
 }
 
-/// What a refusal's number means, to be shown to who points at it.
-fn meaning(result: &Result<Done, Failure>) -> String {
-    let refused = result.as_ref().ok().and_then(|done| done.placed.err());
-    refused.map_or_else(String::new, |refused| {
-        format!(" title=\"{}\"", escaped(refused.reason()))
+/// What is shown to who points at a field: what a refusal's number means, and why a job failed.
+fn title(column: &str, result: &Result<Done, Failure>) -> String {
+    let words = match (column, result) {
+        ("refusal", Ok(done)) => done.placed.err().map(|refused| refused.reason().into()),
+        ("status", Err(failure)) => Some(failure.to_string()),
+        _ => None,
+    };
+    words.map_or_else(String::new, |words| {
+        format!(" title=\"{}\"", escaped(&words))
     })
 }
