@@ -1,5 +1,5 @@
 -- The next layer by the buckets of its sources, and that it depends only on the entries of the layer before.
-use Prim.Native.Nat.{ℕ, zero, suc, _+_, _<_, min}
+use Prim.Native.Nat.{ℕ, zero, suc, _+_, _≤_, _<_, min}
 use mathlib.Core.Path.{_≡_, refl, sym, ap, ap₂, _∙_}
 use mathlib.Core.Bool.{true, false, not, _&&_, cond}
 use mathlib.Core.List.{List}
@@ -44,6 +44,11 @@ module _ (row : List ℕ) (n poses R : ℕ) (f : Layer) (i q a : ℕ) (there : t
   pub next-none : {count : ℕ} → count ≡ stateCount R → found (byStates row (deckOf row n poses) R f i q count) a ≡ B
       → nextLayer (deckOf row n poses) R f i q a ≡ B
   next-none e h = let z = next-found e refl (sym h) in omega arith
+
+  -- a pose that is not offered
+  pub next-unoffered : {m : ℕ} → m ≡ lastAt R (suc i) q → B ≤ wordOf row m a
+      → nextLayer (deckOf row n poses) R f i q a ≡ B
+  next-unoffered p h = let z = next-found refl p refl in omega arith
 
   pub next-alone : {count : ℕ} → count ≡ stateCount R
       → ((p : ℕ) → p < count → isSource (deckOf row n poses) R i q p ≡ false)

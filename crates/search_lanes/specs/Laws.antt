@@ -1,5 +1,5 @@
 -- Laws of stores and of lanes: what one write keeps, what a loop that writes one word after the other has written.
-use Prim.Native.Nat.{ℕ, _+_, _*_, _≤_, _<_, min}
+use Prim.Native.Nat.{ℕ, _+_, _*_, _-_, _≤_, _<_, min}
 use mathlib.Core.Path.{_≡_, refl, sym, _∙_}
 use mathlib.Core.List.{List}
 use native.Mathlib.Omega.{arith}
@@ -149,6 +149,27 @@ rows-more {f} {g} {at} {lanes} {new = new} a n s w e =
           b p l r;
       low = w .low;
     }
+
+-- some rows, then those that follow
+pub rows-join :
+    {f g h : ℕ → ℕ → ℕ} {at n all lanes : ℕ} {old mid new : List ℕ}
+    → lanes ≤ 64 → n ≤ all → WrittenRows f at n lanes old mid → WrittenRows g (at + n * 64) (all - n) lanes mid new
+    → ((a l : ℕ) → a < n → l < lanes → h a l ≡ f a l)
+    → ((a l : ℕ) → n ≤ a → a < all → l < lanes → h a l ≡ g (a - n) l)
+    → WrittenRows h at all lanes old new
+rows-join {f} {g} {h} {at} {n} {all} {lanes} {new = new} k m s w d e =
+    record {
+      frame = frame-join at (at + all * 64) (s .frame) (w .frame) (omega arith) (omega arith)
+          (omega arith) (omega arith);
+      words = λ a l p r. go a l p r (decLt a n);
+      low = w .low;
+    }
+  where
+    go : (a l : ℕ) → a < all → l < lanes → Dec (a < n) → getD new (at + a * 64 + l) 0 ≡ h a l
+    go a l p r (yes q) = w .frame .low (at + a * 64 + l) (omega arith) ∙ s .words a l q r ∙ sym (d a l q r)
+    go a l p r (no q) =
+        let z : at + n * 64 + (a - n) * 64 + l ≡ at + a * 64 + l = omega arith in
+        (rw z at (w .words (a - n) l (omega arith) r)) ∙ sym (e a l (omega arith) p r)
 
 -- ---- layers: the rows of a state's block, and one block more
 
