@@ -18,6 +18,11 @@ use Rattle.search_buckets.specs.Rows.{inRow, bucketIn, onePose, byPoses, oneSta
 abbrev pub wordAt : List ℕ → ℕ → ℕ → ℕ → ℕ
 wordAt table l v t = getD table (v * 1216 + t * 64 + l) 0
 
+-- of so many poses, the cell at position k is offered none from n on
+pub record OfferedBelow (row : List ℕ) (k poses n : ℕ) : Type 0 where
+  pub most : n ≤ poses
+  pub none : (a : ℕ) → n ≤ a → a < poses → B ≤ wordOf row k a
+
 -- a table lent to gather sources in: any words, none over B
 pub record Lent (table : List ℕ) : Type 0 where
   pub long : length table ≡ tableWords

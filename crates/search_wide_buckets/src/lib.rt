@@ -2,7 +2,8 @@
 // 1216 v on (crate buckets tells what the buckets are). Row t has the sources that end at the target's first site - 4 +
 // t, row 0 those further left too. Bucket 0 has them by themselves, buckets 1 to 4 with what they pay at gap 0 to each
 // variant of the target, buckets 5 to 8 with what they pay at gaps 2 and 3. A target whose weights are all equal needs
-// 5 buckets: buckets 1 to 4 serve for gaps 2 and 3 too. Only the rows that some pose looks at count.
+// 5 buckets: buckets 1 to 4 serve for gaps 2 and 3 too. Only the rows that some pose looks at count; a target that is
+// offered nothing right of its first site, as a fixed cell is, has fewer of them.
 ghost use mathlib.Core.Path.{_≡_};
 ghost use mathlib.Core.Bool.{false};
 ghost use Prim.Native.Nat.{_+_, _-_, _≤_, _<_};
@@ -10,8 +11,9 @@ ghost use Rattle.theory_tables.specs.Steps.{B};
 ghost use Rattle.search_lanes.specs.Lowered.{LoweredAt};
 ghost use Rattle.search_lanes.specs.Lanes.{always, wordsFrom};
 ghost use Rattle.search_lanes.specs.Store.{Written, WrittenRows};
+ghost use Rattle.search_row.specs.Words.{RowWords};
 ghost use Rattle.search_buckets.specs.Rows.{rowsOf};
-ghost use Rattle.search_wide_buckets.specs.Table.{WordsLent, TableFor, Cleared};
+ghost use Rattle.search_wide_buckets.specs.Table.{WordsLent, OfferedBelow, TableFor, Cleared};
 ghost use Rattle.search_wide_buckets.specs.Table.{Gathered, FiveOrNine, chargedBy};
 ghost use Rattle.search_wide_buckets.specs.Table.{chargedOne, LaneSpread, NearSpread, RowSpread, Spread};
 ghost use Rattle.search_wide_buckets.specs.Table.{WideSource, PoseSource, poseIn, posesIn};
@@ -20,6 +22,21 @@ ghost use Rattle.search_wide_buckets.specs.Table.{ToRow, PoseToRow, Pose
 use search_buckets::Source;
 
 // ---- the rows that count
+
+// How many poses of the cell at position k are looked at, of so many: those at its
+// first site, if it is offered no other.
+pub fn poses_of(row: &[u32], k: usize, poses: usize) -> usize
+    requires { ⌜ RowWords (now row) × (k < 64) × (poses ≤ 60) ⌝ }
+    ensures { λ n. ⌜ OfferedBelow (now (row .entry)) k poses n ⌝ }
+{
+    if poses < 4 {
+        return poses;
+    }
+    if search_lanes::common(row, k * search_row::CELL + 4, poses - 4) >= search_lanes::NONE {
+        return 4;
+    }
+    poses
+}
 
 // NONE in the lanes and rows that count, in so many buckets.
 pub fn reset(table: &mut [u32; search_store::TABLE], buckets: usize, poses: usize, lanes: usize)
@@ -213,7 +230,7 @@ fn from_pose(
     true
 }
 
-// All its poses: whether one lowered anything.
+// All its poses, in so many rows: whether one lowered anything.
 pub fn from_poses(
     table: &mut [u32; search_store::TABLE],
     store: &[u32],
@@ -221,15 +238,15 @@ pub fn from_poses(
     pays: &[u32; 36],
     source: Source,
     poses: usize,
+    rows: usize,
     lanes: usize,
 ) -> bool
-    requires { ⌜ WideSource (now table) (now store) (now row) (now pays) source lanes × (poses ≤ 60) ⌝ }
+    requires { ⌜ WideSource (now table) (now store) (now row) (now pays) source lanes × (poses ≤ 60) × (rows ≤ 19) ⌝ }
     ensures { λ used. ⌜ Gathered
         (posesIn (now (store .entry)) (now (row .entry)) (source .at) (source .left) (source .right) poses)
-        (rowsOf poses) (source .buckets) lanes (now (table .entry)) (now (table .exit))
+        rows (source .buckets) lanes (now (table .entry)) (now (table .exit))
         × (used ≡ false → now (table .exit) ≡ now (table .entry)) ⌝ }
 {
-    let rows = search_buckets::rows_of(poses);
     let mut used = false;
     let mut b: usize = 0;
     while b < poses {

@@ -1,19 +1,24 @@
 -- One layer of the search from the layer before: what it comes to in each lane, and what is given.
-use Prim.Native.Nat.{ℕ, _+_, _≤_, _<_}
+use Prim.Native.Nat.{ℕ, suc, _+_, _≤_, _<_}
 use mathlib.Core.List.{List}
 use lib.ListN.{length}
 use Rattle.search_store.specs.Map.{layerBlock}
-use Rattle.theory_tables.specs.Steps.{Deck, Layer, nextLayer}
+use Rattle.theory_tables.specs.Steps.{Deck, Layer, lastAt, nextLayer}
 use Rattle.search_lanes.specs.Store.{Low, layerIn}
 use Rattle.search_row.specs.declared.Sizes.{Sizes}
 use Rattle.search_row.specs.Words.{Ground}
+use Rattle.search_buckets.specs.Rows.{bucketsIn}
 use Rattle.search_buckets.specs.Next.{Target}
-use Rattle.search_wide_buckets.specs.Table.{Lent, FiveOrNine}
+use Rattle.search_wide_buckets.specs.Table.{Lent}
 use Rattle.search_wide_layer.specs.declared.Block.{Block}
 
 -- the next layer in each lane
 abbrev pub nextFrom : Deck → ℕ → List ℕ → ℕ → ℕ → ℕ → Layer
 nextFrom D R st at i l q a = nextLayer D R (layerIn st at l) i q a
+
+-- how many buckets state q of the next layer needs
+abbrev pub bucketsFor : List ℕ → Sizes → Block → ℕ → ℕ
+bucketsFor row z layer q = bucketsIn row (lastAt (z .reordering) (suc (layer .cells)) q)
 
 -- ---- what is given
 
@@ -30,12 +35,12 @@ pub record Beside (st : List ℕ) (at to : ℕ) : Type 0 where
   pub room : to + layerBlock ≤ length st
   pub apart : (k : ℕ) → at ≤ k → k < at + layerBlock → to ≤ k → k < to + layerBlock → ⊥
 
--- the sources of state q in a layer are to be gathered
-pub record Gathering (table row st : List ℕ) (z : Sizes) (layer : Block) (q buckets : ℕ) : Type 0 where
+-- the sources of state q in a layer are to be gathered, in so many rows
+pub record Gathering (table row st : List ℕ) (z : Sizes) (layer : Block) (q rows : ℕ) : Type 0 where
   pub lent : Lent table
   pub given : Given row st z (layer .lanes) (layer .cells) (layer .at)
   pub target : Target (z .cells) (z .reordering) (layer .cells) q
-  pub needed : FiveOrNine buckets
+  pub few : rows ≤ 19
 
 -- the next layer is to be made from a layer, in the block at `to`
 pub record Stepping (table row st : List ℕ) (z : Sizes) (layer : Block) (to : ℕ) : Type 0 where

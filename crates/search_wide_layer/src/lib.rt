@@ -1,6 +1,6 @@
 // One layer of the search from the layer before, in all lanes at once. A layer is a block of words: state, pose, lane.
 // For each state of the next layer its sources are gathered by their end sites (crate search_wide_buckets),
-// and each of its poses looks up what it needs.
+// and each pose that it may be offered looks up what it needs.
 ghost use mathlib.Core.Path.{_≡_};
 ghost use mathlib.Core.Bool.{false};
 ghost use Prim.Native.Nat.{ℕ, _<_};
@@ -8,9 +8,8 @@ ghost use Rattle.theory_tables.specs.Steps.{isSource};
 ghost use Rattle.search_lanes.specs.Store.{FilledState, Filled};
 ghost use Rattle.search_row.specs.Words.{deckIn, TargetGiven};
 ghost use Rattle.search_buckets.specs.Next.{Target};
-ghost use Rattle.search_buckets.specs.Rows.{rowsOf};
 ghost use Rattle.search_wide_buckets.specs.Table.{Lent, Gathered, stateIn, statesIn};
-ghost use Rattle.search_wide_layer.specs.Loops.{nextFrom, Gathering, Stepping};
+ghost use Rattle.search_wide_layer.specs.Loops.{nextFrom, bucketsFor, Gathering, Stepping};
 use search_buckets::Source;
 use search_row::Sizes;
 
@@ -21,7 +20,7 @@ pub struct Block {
     pub at: usize,
 }
 
-// State p of a layer, if it is a source of state q of the next: whether it lowered anything.
+// State p of a layer, if it is a source of state q of the next, in so many rows: whether it lowered anything.
 fn from_source(
     table: &mut [u32; search_store::TABLE],
     store: &[u32],
@@ -30,31 +29,42 @@ fn from_source(
     layer: Block,
     q: usize,
     p: usize,
-    buckets: usize,
+    rows: usize,
 ) -> bool
-    requires { ⌜ Gathering (now table) (now row) (now store) sizes layer q buckets × (p < sizes .states) ⌝ }
+    requires { ⌜ Gathering (now table) (now row) (now store) sizes layer q rows × (p < sizes .states) ⌝ }
     ensures { λ used. ⌜ Gathered (stateIn (now (store .entry)) (now (row .entry)) (deckIn (now (row .entry)) sizes)
-        (sizes .reordering) (layer .at) (layer .cells) q p) (rowsOf (sizes .poses)) buckets (layer .lanes)
-        (now (table .entry)) (now (table .exit)) × (used ≡ false → now (table .exit) ≡ now (table .entry)) ⌝ }
+        (sizes .reordering) (layer .at) (layer .cells) q p) rows (bucketsFor (now (row .entry)) sizes layer q)
+        (layer .lanes) (now (table .entry)) (now (table .exit))
+        × (used ≡ false → now (table .exit) ≡ now (table .entry)) ⌝ }
 {
     if !search_row::is_source(row, sizes, layer.cells, q, p) {
         return false;
     }
-    let k = search_row::last_at(row, sizes, layer.cells, p);
-    let m = search_row::last_at(row, sizes, layer.cells + 1, q);
+    let left = search_row::last_at(row, sizes, layer.cells, p);
+    let right = search_row::last_at(row, sizes, layer.cells + 1, q);
+    let buckets = search_buckets::buckets_of(row, right);
     let mut pays = [0u32; 36];
-    search_buckets::fill_pays(&mut pays, row, k, m, buckets);
+    search_buckets::fill_pays(&mut pays, row, left, right, buckets);
     let at = layer.at + p * search_store::STATE;
     let source = Source {
         at,
-        left: k,
-        right: m,
+        left,
+        right,
         buckets,
     };
-    search_wide_buckets::from_poses(table, store, row, &pays, source, sizes.poses, layer.lanes)
+    search_wide_buckets::from_poses(
+        table,
+        store,
+        row,
+        &pays,
+        source,
+        sizes.poses,
+        rows,
+        layer.lanes,
+    )
 }
 
-// Every source: whether one lowered anything.
+// Every source, in so many rows: whether one lowered anything.
 fn gather(
     table: &mut [u32; search_store::TABLE],
     store: &[u32],
@@ -62,18 +72,18 @@ fn gather(
     sizes: Sizes,
     layer: Block,
     q: usize,
-    buckets: usize,
+    rows: usize,
 ) -> bool
-    requires { ⌜ Gathering (now table) (now row) (now store) sizes layer q buckets ⌝ }
+    requires { ⌜ Gathering (now table) (now row) (now store) sizes layer q rows ⌝ }
     ensures { λ used. ⌜ Gathered (statesIn (now (store .entry)) (now (row .entry)) (deckIn (now (row .entry)) sizes)
-        (sizes .reordering) (layer .at) (layer .cells) q (sizes .states)) (rowsOf (sizes .poses)) buckets
-        (layer .lanes) (now (table .entry)) (now (table .exit)) ×
+        (sizes .reordering) (layer .at) (layer .cells) q (sizes .states)) rows
+        (bucketsFor (now (row .entry)) sizes layer q) (layer .lanes) (now (table .entry)) (now (table .exit)) ×
         (used ≡ false → now (table .exit) ≡ now (table .entry)) ⌝ }
 {
     let mut used = false;
     let mut p: usize = 0;
     while p < sizes.states {
-        if from_source(table, store, row, sizes, layer, q, p, buckets) {
+        if from_source(table, store, row, sizes, layer, q, p, rows) {
             used = true;
         }
         p += 1;
@@ -97,8 +107,8 @@ fn has_source(row: &[u32], sizes: Sizes, i: usize, q: usize) -> bool
     false
 }
 
-// The rows of state q, whose cell is there: all NONE if nothing leads to it. Sources are gathered
-// in the table that is lent, whatever it has.
+// The rows of state q, whose cell is there: all NONE if nothing leads to it, and those of poses that it is not offered.
+// Sources are gathered in the table that is lent, whatever it has.
 fn target_rows(
     table: &mut [u32; search_store::TABLE],
     store: &mut [u32],
@@ -115,39 +125,28 @@ fn target_rows(
         (now (store .exit))
         × Lent (now (table .exit)) ⌝ }
 {
+    let at = to + q * search_store::STATE;
     if !has_source(row, sizes, layer.cells, q) {
-        search_lanes::fill_rows(
-            store,
-            to + q * search_store::STATE,
-            sizes.poses,
-            layer.lanes,
-            search_lanes::NONE,
-        );
+        search_lanes::fill_rows(store, at, sizes.poses, layer.lanes, search_lanes::NONE);
         return;
     }
     let m = search_row::last_at(row, sizes, layer.cells + 1, q);
     let buckets = search_buckets::buckets_of(row, m);
-    search_wide_buckets::reset(table, buckets, sizes.poses, layer.lanes);
-    if !gather(table, store, row, sizes, layer, q, buckets) {
-        search_lanes::fill_rows(
-            store,
-            to + q * search_store::STATE,
-            sizes.poses,
-            layer.lanes,
-            search_lanes::NONE,
-        );
+    let poses = search_wide_buckets::poses_of(row, m, sizes.poses);
+    let rows = search_buckets::rows_of(poses);
+    search_wide_buckets::reset(table, buckets, poses, layer.lanes);
+    if !gather(table, store, row, sizes, layer, q, rows) {
+        search_lanes::fill_rows(store, at, sizes.poses, layer.lanes, search_lanes::NONE);
         return;
     }
-    search_wide_buckets::run_up(table, sizes.poses, layer.lanes);
-    search_wide_buckets::put_rows(
+    search_wide_buckets::run_up(table, poses, layer.lanes);
+    search_wide_buckets::put_rows(store, row, table, at, m, poses, buckets, layer.lanes);
+    search_lanes::fill_rows(
         store,
-        row,
-        table,
-        to + q * search_store::STATE,
-        m,
-        sizes.poses,
-        buckets,
+        at + poses * 64,
+        sizes.poses - poses,
         layer.lanes,
+        search_lanes::NONE,
     );
 }
 

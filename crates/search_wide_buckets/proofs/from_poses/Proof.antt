@@ -4,7 +4,6 @@ use mathlib.Core.Path.{_≡_, refl, sym, _∙_}
 use mathlib.Core.Bool.{true, false}
 use mathlib.Core.Logic.{⊎-elim}
 use native.Mathlib.Omega.{arith}
-use Rattle.search_buckets.specs.Rows.{rowsOf}
 use Rattle.search_wide_buckets.specs.Table.{Gathered, rowIn, posesIn}
 use Rattle.search_wide_buckets.specs.TableLaws.{gathered-none, gathered-join, source-on}
 use Rattle.search_buckets.specs.Sources.{poses-none, poses-more}
@@ -16,23 +15,19 @@ true-false : true ≡ false → ⊥
 true-false e = let z : _≡_ {A = ℕ} 0 1 = cc in omega arith
 
 abbrev Inv-loop : tie.InvT-loop
-Inv-loop table₀ store row pays source poses lanes rows used₀ b₀ table used b =
-    (b ≤ poses) × (rows ≡ rowsOf poses) × Gathered (posesIn store row (source .at) (source .left) (source .right) b) rows (source .buckets) lanes table₀ table
+Inv-loop table₀ store row pays source poses rows lanes used₀ b₀ table used b =
+    (b ≤ poses) × Gathered (posesIn store row (source .at) (source .left) (source .right) b) rows (source .buckets) lanes table₀ table
     × (used ≡ false → table ≡ table₀)
 
 abbrev μ-loop : tie.MeasureT-loop
-μ-loop table₀ store row pays source poses lanes rows used₀ b₀ table used b =
+μ-loop table₀ store row pays source poses rows lanes used₀ b₀ table used b =
     poses - b
-
-rows-of-requires : tie.Need-rows-of-requires Inv-loop μ-loop
-rows-of-requires c κs = search needs
 
 loop-holds : tie.Need-loop-holds Inv-loop μ-loop
 loop-holds c =
-    let k = c .before .before .before in
+    let k = c .before .before in
     let a = k .args in (
       omega arith,
-      c .rows-of .ensures,
       gathered-none _ _ _ (k .pre .0 .tableLow)
           (λ l v t i j h. omega (arith, poses-none (a .row .now) (a .source .left) (a .source .right) (rowIn (a .store .now) (a .source .at) l) v t)),
       λ e. refl,
@@ -41,9 +36,9 @@ loop-holds c =
 from-pose-requires : tie.Need-from-pose-requires Inv-loop μ-loop
 from-pose-requires c κs =
     let at-loop = c .before .before in
-    let k = at-loop .before .before .before .before in
+    let k = at-loop .before .before .before in
     let l = at-loop .loop in
-    record { source = source-on (k .pre .0) (l .inv .2); pose = omega arith; few = omega arith }
+    record { source = source-on (k .pre .0) (l .inv .1); pose = omega arith; few = omega arith }
 
 add-b : tie.Need-add-b Inv-loop μ-loop
 add-b c = search needs
@@ -54,17 +49,16 @@ loop-less c = search needs
 loop-again : tie.Need-loop-again Inv-loop μ-loop
 loop-again c =
     let at-loop = c .before .before .before .before in
-    let k = at-loop .before .before .before .before in
+    let k = at-loop .before .before .before in
     let a = k .args in
     let l = at-loop .loop in (
       omega arith,
-      l .inv .1,
-      gathered-join (l .inv .2) (c .before .from-pose .ensures .0)
+      gathered-join (l .inv .1) (c .before .from-pose .ensures .0)
           (λ j v t i. poses-more (a .row .now) (a .source .left) (a .source .right) (rowIn (a .store .now) (a .source .at) j) (l .b) v t),
       λ e.
           ⊎-elim
           (λ w. absurd (true-false (sym (w .1) ∙ e)))
-          (λ w. c .before .from-pose .ensures .1 (w .0 .left) ∙ l .inv .3 (sym (w .1) ∙ e))
+          (λ w. c .before .from-pose .ensures .1 (w .0 .left) ∙ l .inv .2 (sym (w .1) ∙ e))
           (c .if1 .came),
     )
 
@@ -72,8 +66,8 @@ returns : tie.Need-returns Inv-loop μ-loop
 returns c =
     let at-loop = c .before in
     let l = at-loop .loop in
-    let e : l .b ≡ at-loop .before .before .before .before .args .poses = omega arith in
-    (rw (e, l .inv .1) at (l .inv .2), l .inv .3)
+    let e : l .b ≡ at-loop .before .before .before .args .poses = omega arith in
+    (rw e at (l .inv .1), l .inv .2)
 
 pub from-poses-spec : {M : Type 1} → statement M
 from-poses-spec =
@@ -81,7 +75,6 @@ from-poses-spec =
     (tie.spec
     Inv-loop
     μ-loop
-    rows-of-requires
     loop-holds
     from-pose-requires
     add-b

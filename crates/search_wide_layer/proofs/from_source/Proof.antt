@@ -1,6 +1,6 @@
 -- A state that is no source lowers nothing; one that is a source stands in the row.
 use Prim.Native.Nat.{ℕ, suc, _<_}
-use mathlib.Core.Path.{_≡_, refl, sym, ap₂, _∙_}
+use mathlib.Core.Path.{_≡_, refl, sym, ap, ap₂, _∙_}
 use mathlib.Core.Bool.{true}
 use native.Mathlib.Omega.{arith}
 use borrow.Author.Needs.{needs}
@@ -9,10 +9,12 @@ use Rattle.theory_tables.specs.Steps.{lastAt, isSource}
 use Rattle.search_lanes.specs.Store.{layerIn}
 use Rattle.search_row.specs.Words.{deckIn}
 use Rattle.search_row.specs.Laws.{there-size, source-size}
-use Rattle.search_buckets.specs.Rows.{byPoses}
-use Rattle.search_buckets.specs.Sources.{pays-none, state-in, state-out}
+use Rattle.search_buckets.specs.Rows.{bucketsIn, byPoses}
+use Rattle.search_buckets.specs.Sources.{pays-none, state-in, state-out, buckets-either}
+use Rattle.search_wide_buckets.specs.Table.{FiveOrNine}
 use Rattle.search_wide_buckets.specs.TableLaws.{gathered-none, gathered-ext}
 use Rattle.search_wide_buckets.specs.SpreadLaws.{nine-most}
+use Rattle.search_wide_layer.specs.Loops.{bucketsFor}
 use Rattle.search_wide_layer.proofs.from_source.Statement.{statement}
 use Rattle.search_wide_layer.proofs.from_source.Tie as tie
 
@@ -24,31 +26,44 @@ Source c = let a = c .before .before .before .before .args in isSource (deckIn (
 source : (c : tie.Else1) → Source c
 source c = sym (c .before .is-source .ensures) ∙ not-false _ (c .if1 .left)
 
+-- the way back, from where both cells are known
+abbrev start : tie.After-last-at2 → tie.Start
+start c = let mid = c .before .before .before in mid .before .before .before .before
+
 -- both cells stand in the row
-left : (c : tie.After-pays) → c .before .before .before .last-at .result < 64
+left : (c : tie.After-last-at2) → c .before .before .last-at .result < 64
 left c =
-    let mid = c .before .before .before .before in
-    let k = mid .before .before .before .before in
+    let k = start c in
     let a = k .args in
     omega (
       arith,
-      c .before .before .before .last-at .ensures,
-      source-size (a .row .now) (a .sizes .cells) (a .sizes .poses) (a .sizes .reordering) (a .layer .cells) (a .q) (a .p) (source mid),
+      c .before .before .last-at .ensures,
+      source-size (a .row .now) (a .sizes .cells) (a .sizes .poses) (a .sizes .reordering) (a .layer .cells) (a .q) (a .p) (source (c .before .before .before)),
       k .pre .0 .given .ground .size,
     )
 
-right : (c : tie.After-pays) → c .before .last-at2 .result < 64
+here : (c : tie.After-last-at2)
+    → (let a = start c .args in c .last-at2 .result ≡ lastAt (a .sizes .reordering) (suc (a .layer .cells)) (a .q))
+here c = omega (arith, c .last-at2 .ensures)
+
+right : (c : tie.After-last-at2) → c .last-at2 .result < 64
 right c =
-    let mid₂ = c .before .before .before .before in
-    let mid = mid₂ .before in
-    let k = mid .before .before .before in
+    let k = start c in
     let a = k .args in
     omega (
       arith,
-      c .before .last-at2 .ensures,
+      here c,
       there-size (a .sizes .cells) (a .sizes .reordering) (suc (a .layer .cells)) (a .q) (k .pre .0 .target .there),
       k .pre .0 .given .ground .size,
     )
+
+-- how many buckets the target needs
+needed : (c : tie.After-buckets-of) → FiveOrNine (c .buckets-of .result)
+needed c = rw (c .buckets-of .ensures) (buckets-either (start (c .before) .args .row .now) (c .before .last-at2 .result))
+
+needed-here : (c : tie.After-buckets-of)
+    → (let a = start (c .before) .args in c .buckets-of .result ≡ bucketsFor (a .row .now) (a .sizes) (a .layer) (a .q))
+needed-here c = c .buckets-of .ensures ∙ ap (bucketsIn (start (c .before) .args .row .now)) (here (c .before))
 
 is-source-requires : tie.Need-is-source-requires
 is-source-requires c κs = search needs
@@ -77,14 +92,15 @@ add-last-at c = search needs
 last-at-requires-2 : tie.Need-last-at-requires-2
 last-at-requires-2 c κs = search needs
 
+buckets-of-requires : tie.Need-buckets-of-requires
+buckets-of-requires c κs = (start c .pre .0 .given .ground .words, right c)
+
 fill-pays-requires : tie.Need-fill-pays-requires
 fill-pays-requires c κs =
-    let mid₂ = c .before .before .before .before in
-    let mid = mid₂ .before in
-    let k = mid .before .before .before in
+    let cells = c .before .before in
     record {
-      cells = record { words = k .pre .0 .given .ground .words; left = left c; right = right c };
-      few = nine-most (k .pre .0 .needed);
+      cells = record { words = start cells .pre .0 .given .ground .words; left = left cells; right = right cells };
+      few = nine-most (needed (c .before));
       before = pays-none _ _ _ _ refl;
     }
 
@@ -97,9 +113,8 @@ add-at c = search needs
 from-poses-requires : tie.Need-from-poses-requires
 from-poses-requires c κs =
     let mid = c .before .before .before .before in
-    let mid₃ = mid .before .before .before .before in
-    let mid₂ = mid₃ .before in
-    let k = mid₂ .before .before .before in
+    let cells = mid .before .before in
+    let k = start cells in
     let g = k .pre .0 .given in (
       record {
         words = g .ground .words;
@@ -108,28 +123,27 @@ from-poses-requires c κs =
         tableLong = k .pre .0 .lent .long;
         narrow = g .narrow;
         room = omega (arith, g .room, g .ground .all, g .ground .coded .few);
-        left = left mid;
-        right = right mid;
-        needed = k .pre .0 .needed;
+        left = left cells;
+        right = right cells;
+        needed = needed (mid .before);
         paid = c .before .before .before .fill-pays .ensures;
       },
       g .ground .few,
+      k .pre .0 .few,
     )
 
 returns-2 : tie.Need-returns-2
 returns-2 c =
-    let mid₃ = c .before .before .before .before in
-    let mid = mid₃ .before in
-    let mid₂ = mid .before .before .before .before in
-    let k = mid₂ .before .before .before .before in
-    let a = k .args in
-    let m : mid .before .last-at2 .result ≡ lastAt (a .sizes .reordering) (suc (a .layer .cells)) (a .q) = omega (arith, mid .before .last-at2 .ensures) in (
-      gathered-ext (c .from-poses .ensures .0)
+    let mid₂ = c .before .before .before .before in
+    let mid = mid₂ .before in
+    let cells = mid .before .before in
+    let a = start cells .args in (
+      rw (needed-here (mid .before)) at (gathered-ext (c .from-poses .ensures .0)
           (λ l v t h.
           state-in (a .row .now) (deckIn (a .row .now) (a .sizes)) (a .sizes .reordering) (layerIn (a .store .now) (a .layer .at) l) (a .layer .cells) (a .q)
-          (a .p) v t (source mid₂)
+          (a .p) v t (source (cells .before .before .before))
           ∙ ap₂ (λ (x y : ℕ). byPoses (a .row .now) x y (layerIn (a .store .now) (a .layer .at) l (a .p)) (a .sizes .poses) v t)
-          (sym (mid .before .before .before .last-at .ensures)) (sym m)),
+          (sym (cells .before .before .last-at .ensures)) (sym (here cells)))),
       c .from-poses .ensures .1,
     )
 
@@ -142,6 +156,7 @@ from-source-spec =
     last-at-requires
     add-last-at
     last-at-requires-2
+    buckets-of-requires
     fill-pays-requires
     mul-at
     add-at

@@ -7,21 +7,21 @@ use native.Mathlib.Omega.{arith}
 use borrow.Author.Needs.{needs}
 use Rattle.search_lanes.specs.Store.{layerIn}
 use Rattle.search_row.specs.Words.{deckIn}
-use Rattle.search_buckets.specs.Rows.{rowsOf}
 use Rattle.search_buckets.specs.Sources.{states-none, states-more}
 use Rattle.search_wide_buckets.specs.Table.{Gathered, statesIn}
 use Rattle.search_wide_buckets.specs.TableLaws.{gathered-none, gathered-join}
+use Rattle.search_wide_layer.specs.Loops.{bucketsFor}
 use Rattle.search_wide_layer.proofs.gather.Statement.{statement}
 use Rattle.search_wide_layer.proofs.gather.Tie as tie
 
 abbrev Inv-loop : tie.InvT-loop
-Inv-loop table₀ store row sizes layer q buckets used₀ p₀ table used p =
-    (p ≤ (sizes .states)) × Gathered (statesIn store row (deckIn row sizes) (sizes .reordering) (layer .at) (layer .cells) q p) (rowsOf (sizes .poses)) buckets
-    (layer .lanes) table₀ table
+Inv-loop table₀ store row sizes layer q rows used₀ p₀ table used p =
+    (p ≤ (sizes .states)) × Gathered (statesIn store row (deckIn row sizes) (sizes .reordering) (layer .at) (layer .cells) q p) rows
+    (bucketsFor row sizes layer q) (layer .lanes) table₀ table
     × (used ≡ false → table ≡ table₀)
 
 abbrev μ-loop : tie.MeasureT-loop
-μ-loop table₀ store row sizes layer q buckets used₀ p₀ table used p = (sizes .states) - p
+μ-loop table₀ store row sizes layer q rows used₀ p₀ table used p = (sizes .states) - p
 
 loop-holds : tie.Need-loop-holds Inv-loop μ-loop
 loop-holds c =
@@ -46,7 +46,7 @@ from-source-requires c κs =
         lent = record { long = w .long ∙ k .pre .lent .long; low = w .low };
         given = k .pre .given;
         target = k .pre .target;
-        needed = k .pre .needed;
+        few = k .pre .few;
       },
       omega arith,
     )

@@ -1,112 +1,161 @@
 -- Without a source nothing leads to the state. Else the sources are gathered into a cleared table; if none lowered it, nothing leads to the state; else
--- each pose finds there what it can be reached for.
-use Prim.Native.Nat.{ℕ, suc, _+_, _*_, _-_, _≤_, _<_}
-use mathlib.Core.Path.{_≡_, ap, _∙_}
+-- each pose that may be offered finds there what it can be reached for, and nothing leads to the others.
+use Prim.Native.Nat.{ℕ, suc, _+_, _*_, _-_, _^_, _≤_, _<_}
+use mathlib.Core.Path.{_≡_, refl, sym, ap, _∙_}
+use mathlib.Core.Bool.{false}
 use native.Mathlib.Omega.{arith}
+use native.Mathlib.Decide.{decLt}
 use borrow.Author.Tests.{not-true}
 use lib.ListN.{length}
 use Rattle.search_store.specs.Map.{stateBlock}
 use Rattle.theory_tables.specs.Steps.{B, lastAt}
 use Rattle.search_lanes.specs.Store.{layerIn}
-use Rattle.search_lanes.specs.Laws.{state-rows}
+use Rattle.search_lanes.specs.Laws.{rows-join, state-rows}
 use Rattle.search_row.specs.Words.{deckIn}
 use Rattle.search_row.specs.Laws.{there-size}
-use Rattle.search_buckets.specs.Rows.{bucketsIn, byStates}
+use Rattle.search_buckets.specs.Rows.{rowsOf, bucketsIn, byStates}
 use Rattle.search_buckets.specs.Sources.{states-low, states-twin, buckets-either, buckets-last}
-use Rattle.search_wide_buckets.specs.Table.{FiveOrNine, statesIn, Ready}
+use Rattle.search_wide_buckets.specs.Table.{FiveOrNine, Gathered, statesIn, Ready}
 use Rattle.search_wide_buckets.specs.TableLaws.{ready, unused}
 use Rattle.search_wide_buckets.specs.SpreadLaws.{five-least, nine-most}
-use Rattle.search_buckets.specs.Next.{next-found, next-none, next-alone}
+use Rattle.search_buckets.specs.Next.{next-found, next-none, next-alone, next-unoffered}
 use borrow.Author.Needs.{needs}
+use Rattle.search_wide_layer.specs.Loops.{nextFrom, bucketsFor}
 use Rattle.search_wide_layer.proofs.target_rows.Statement.{statement}
 use Rattle.search_wide_layer.proofs.target_rows.Tie as tie
 
-buckets-low : (k : tie.Start) → (let a = k .args in (l v t : ℕ)
-    → statesIn (a .store .now) (a .row .now) (deckIn (a .row .now) (a .sizes)) (a .sizes .reordering) (a .layer .at) (a .layer .cells) (a .q)
-    (a .sizes .states) l v t ≤ B)
+-- the way back: to the start, and to where the target's poses are known
+abbrev start : tie.After-last-at → tie.Start
+start c = let mid = c .before .before .before .before in mid .before .before
+
+abbrev known : tie.After-gather → tie.After-poses-of
+known c = let mid = c .before .before .before .before in mid .before .before
+
+abbrev ran-up : tie.After-put-rows → tie.After-run-up
+ran-up c = c .before .before .before
+
+-- the buckets of all its sources
+abbrev bucket : tie.Start → ℕ → ℕ → ℕ → ℕ
+bucket k =
+    let a = k .args in
+    statesIn (a .store .now) (a .row .now) (deckIn (a .row .now) (a .sizes)) (a .sizes .reordering) (a .layer .at) (a .layer .cells) (a .q) (a .sizes .states)
+
+buckets-low : (k : tie.Start) (l v t : ℕ) → bucket k l v t ≤ B
 buckets-low k l v t =
     let a = k .args in
     states-low (a .row .now) (deckIn (a .row .now) (a .sizes)) (a .sizes .reordering) (layerIn (a .store .now) (a .layer .at) l) (a .layer .cells) (a .q)
     (a .sizes .states) v t
 
+-- what its pose b comes to in lane l
+abbrev next : tie.Start → ℕ → ℕ → ℕ
+next k b l =
+    let a = k .args in
+    nextFrom (deckIn (a .row .now) (a .sizes)) (a .sizes .reordering) (a .store .now) (a .layer .at) (a .layer .cells) l (a .q) b
+
 -- the state's rows lie in the store
 room : (k : tie.Start) → (let a = k .args in a .to + a .q * stateBlock + a .sizes .poses * 64 ≤ length (a .store .now))
 room k = omega (arith, k .pre .0 .beside .room, k .pre .1 .state, k .pre .0 .given .ground .coded .few, k .pre .0 .given .ground .few)
 
+short : (k : tie.Start) → length (k .args .store .now) < 2 ^ 64
+short k = search needs
+
 -- the target's position
 here : (c : tie.After-last-at)
-    → (let mid₂ = c .before .before .before .before in let mid = mid₂ .before in let a = mid .before .args in c .last-at .result ≡ lastAt
-    (a .sizes .reordering) (suc (a .layer .cells)) (a .q))
+    → (let a = start c .args in c .last-at .result ≡ lastAt (a .sizes .reordering) (suc (a .layer .cells)) (a .q))
 here c = omega (arith, c .last-at .ensures)
 
 inside : (c : tie.After-last-at) → c .last-at .result < 64
 inside c =
-    let mid₂ = c .before .before .before .before in
-    let mid = mid₂ .before in
-    let k = mid .before in
+    let k = start c in
     let a = k .args in
     omega (arith, here c, there-size (a .sizes .cells) (a .sizes .reordering) (suc (a .layer .cells)) (a .q) (k .pre .1 .there), k .pre .0 .given .ground .size)
 
 -- how many buckets it needs, and that the last four are those of gaps 2 and 3
 needed : (c : tie.After-buckets-of) → FiveOrNine (c .buckets-of .result)
 needed c =
-    let mid₂ = c .before .before .before .before in
-    let mid = mid₂ .before in
-    rw (c .buckets-of .ensures) (buckets-either (mid .before .before .args .row .now) (c .before .last-at .result))
+    rw (c .buckets-of .ensures) (buckets-either (start (c .before) .args .row .now) (c .before .last-at .result))
 
-abbrev Last : tie.After-buckets-of → Type 0
-Last c =
-    let mid₂ = c .before .before .before .before in
-    let mid = mid₂ .before in
-    let a = mid .before .before .args in
-    let bucket = statesIn (a .store .now) (a .row .now) (deckIn (a .row .now) (a .sizes)) (a .sizes .reordering) (a .layer .at) (a .layer .cells) (a .q)
-    (a .sizes .states) in
-    (l v t : ℕ) → v < 4 → bucket l (c .buckets-of .result - 4 + v) t ≡ bucket l (5 + v) t
+needed-here : (c : tie.After-buckets-of)
+    → (let a = start (c .before) .args in c .buckets-of .result ≡ bucketsFor (a .row .now) (a .sizes) (a .layer) (a .q))
+needed-here c = c .buckets-of .ensures ∙ ap (bucketsIn (start (c .before) .args .row .now)) (here (c .before))
 
-last : (c : tie.After-buckets-of) → Last c
+last : (c : tie.After-buckets-of) (l v t : ℕ) → v < 4
+    → bucket (start (c .before)) l (c .buckets-of .result - 4 + v) t ≡ bucket (start (c .before)) l (5 + v) t
 last c l v t h =
-    let mid₂ = c .before .before .before .before in
-    let mid = mid₂ .before in
-    let a = mid .before .before .args in
+    let a = start (c .before) .args in
     let D = deckIn (a .row .now) (a .sizes) in
     let f = layerIn (a .store .now) (a .layer .at) l in
     let m = lastAt (a .sizes .reordering) (suc (a .layer .cells)) (a .q) in
-    let e : c .buckets-of .result ≡ bucketsIn (a .row .now) m = c .buckets-of .ensures ∙ ap (bucketsIn (a .row .now)) (here (c .before)) in
-    rw e (buckets-last (λ (w : ℕ). byStates (a .row .now) D (a .sizes .reordering) f (a .layer .cells) (a .q) (a .sizes .states) w t) (a .row .now) m v
+    rw (needed-here c) (buckets-last (λ (w : ℕ). byStates (a .row .now) D (a .sizes .reordering) f (a .layer .cells) (a .q) (a .sizes .states) w t)
+    (a .row .now) m v
     (λ g. states-twin (a .row .now) D (a .sizes .reordering) f (a .layer .cells) (a .q) (a .sizes .states) v t g h))
+
+-- how many of its poses look at the table
+looking : (c : tie.After-poses-of) → c .poses-of .result ≤ 60
+looking c = omega (arith, c .poses-of .ensures .most, start (c .before .before) .pre .0 .given .ground .few)
+
+-- nothing leads to the others
+others : (c : tie.After-poses-of) (b l : ℕ) → c .poses-of .result ≤ b → b < start (c .before .before) .args .sizes .poses
+    → next (start (c .before .before)) b l ≡ B
+others c b l p i =
+    let k = start (c .before .before) in
+    let a = k .args in
+    next-unoffered (a .row .now) (a .sizes .cells) (a .sizes .poses) (a .sizes .reordering) (layerIn (a .store .now) (a .layer .at) l) (a .layer .cells)
+    (a .q) b (k .pre .1 .there) (here (c .before .before)) (c .poses-of .ensures .none b p i)
+
+-- the sources are gathered in the rows that these poses look at
+abbrev All : tie.After-gather → Type 0
+All c =
+    let p = known c in
+    let k = start (p .before .before) in
+    Gathered (bucket k) (rowsOf (p .poses-of .result)) (p .before .buckets-of .result) (k .args .layer .lanes) (c .before .before .before .reset .last .0)
+    (c .gather .last .0)
+
+all : (c : tie.After-gather) → All c
+all c =
+    let after-reset = c .before .before .before in
+    rw (after-reset .before .before .rows-of .ensures, sym (needed-here (known c .before))) at (c .gather .ensures .0)
+
+-- if nothing lowered the table, nothing leads to the state
+nothing : (c : tie.After-gather) → c .gather .result ≡ false → (let k = start (known c .before .before) in (b l : ℕ) → b < k .args .sizes .poses
+    → l < k .args .layer .lanes → next k b l ≡ B)
+nothing c e b l p i = go (decLt b (known c .poses-of .result))
+  where
+    go : Dec (b < known c .poses-of .result) → next (start (known c .before .before)) b l ≡ B
+    go (no h) = others (known c) b l (omega arith) p
+    go (yes h) =
+        let m = known c .before in
+        let k = start (m .before) in
+        let a = k .args in
+        let n = needed m in
+        next-none (a .row .now) (a .sizes .cells) (a .sizes .poses) (a .sizes .reordering) (layerIn (a .store .now) (a .layer .at) l) (a .layer .cells) (a .q) b
+        (k .pre .1 .there) (k .pre .0 .given .ground .all)
+        (unused (looking (known c)) (five-least n) (nine-most n) (buckets-low k) (last m) (c .before .before .before .reset .ensures) (all c)
+        (c .gather .ensures .1 e) b l h i)
 
 -- the table once bucket 0 ran up
 abbrev Table : tie.After-run-up → Type 0
 Table c =
-    let mid = c .before .before .before .before in
-    let p = mid .before .before .before .before in
-    let mid₃ = p .before .before .before .before in
-    let mid₂ = mid₃ .before in
-    let a = mid₂ .before .before .args in
-    let bucket = statesIn (a .store .now) (a .row .now) (deckIn (a .row .now) (a .sizes)) (a .sizes .reordering) (a .layer .at) (a .layer .cells) (a .q)
-    (a .sizes .states) in
-    Ready bucket (a .sizes .poses) (p .buckets-of .result) (a .layer .lanes) (c .run-up .last .0)
+    let p = known (c .before .before .before) in
+    let k = start (p .before .before) in
+    Ready (bucket k) (p .poses-of .result) (p .before .buckets-of .result) (k .args .layer .lanes) (c .run-up .last .0)
 
 table : (c : tie.After-run-up) → Table c
 table c =
     let after-gather = c .before .before .before in
-    let after-reset = after-gather .before .before .before in
-    let p = after-reset .before .before in
-    let mid₂ = p .before .before .before .before in
-    let mid = mid₂ .before in
-    let k = mid .before .before in
-    let none = after-reset .reset .ensures in
-    let w = after-gather .gather .ensures in
-    ready (k .pre .0 .given .ground .few) (five-least (needed p)) (nine-most (needed p)) (buckets-low k) (last p) none (w .0) (c .run-up .ensures)
+    let p = known after-gather in
+    let n = needed (p .before) in
+    ready (looking p) (five-least n) (nine-most n) (buckets-low (start (p .before .before))) (last (p .before))
+    (after-gather .before .before .before .reset .ensures) (all after-gather) (c .run-up .ensures)
+
+mul-at : tie.Need-mul-at
+mul-at c = search needs
+
+add-at : tie.Need-add-at
+add-at c = search needs
 
 has-source-requires : tie.Need-has-source-requires
 has-source-requires c κs = search needs
-
-mul-fill-rows : tie.Need-mul-fill-rows
-mul-fill-rows c = search needs
-
-add-fill-rows : tie.Need-add-fill-rows
-add-fill-rows c = search needs
 
 fill-rows-requires : tie.Need-fill-rows-requires
 fill-rows-requires c κs = (search needs, search needs)
@@ -136,54 +185,38 @@ last-at-requires : tie.Need-last-at-requires
 last-at-requires c κs = search needs
 
 buckets-of-requires : tie.Need-buckets-of-requires
-buckets-of-requires c κs =
-    let mid₂ = c .before .before .before .before in
-    let mid = mid₂ .before in
-    (mid .before .pre .0 .given .ground .words, inside c)
+buckets-of-requires c κs = (start c .pre .0 .given .ground .words, inside c)
+
+poses-of-requires : tie.Need-poses-of-requires
+poses-of-requires c κs =
+    let g = start (c .before) .pre .0 .given .ground in
+    (g .words, inside (c .before), g .few)
+
+rows-of-requires : tie.Need-rows-of-requires
+rows-of-requires c κs = looking c
 
 reset-requires : tie.Need-reset-requires
 reset-requires c κs =
-    let mid₂ = c .before .before .before .before in
-    let mid = mid₂ .before in
-    let k = mid .before .before .before in
-    (record { lent = k .pre .0 .lent; few = k .pre .0 .given .ground .few; narrow = k .pre .0 .given .narrow }, nine-most (needed (c .before)))
+    let p = c .before .before in
+    let k = start (p .before .before) in
+    (record { lent = k .pre .0 .lent; few = looking p; narrow = k .pre .0 .given .narrow }, nine-most (needed (p .before)))
 
 gather-requires : tie.Need-gather-requires
 gather-requires c κs =
-    let mid = c .before .before .before .before in
-    let mid₃ = mid .before .before .before .before in
-    let mid₂ = mid₃ .before in
-    let k = mid₂ .before .before in
-    let w = c .before .before .reset .ensures in
-    record { lent = record { long = w .long; low = w .low }; given = k .pre .0 .given; target = k .pre .1; needed = needed mid }
-
-mul-fill-rows-2 : tie.Need-mul-fill-rows-2
-mul-fill-rows-2 c =
-    let mid = c .before .before .before .before in
-    let mid₂ = mid .before .before .before .before in
-    let mid₄ = mid₂ .before .before .before .before in
-    let mid₃ = mid₄ .before in
-    let k = mid₃ .before in
-    let h = room k in
-    search needs
-
-add-fill-rows-2 : tie.Need-add-fill-rows-2
-add-fill-rows-2 c =
-    let mid = c .before .before .before .before in
-    let mid₂ = mid .before .before .before .before in
-    let mid₄ = mid₂ .before .before .before .before in
-    let mid₃ = mid₄ .before in
-    let k = mid₃ .before in
-    let h = room k in
-    search needs
+    let after-reset = c .before .before in
+    let p = after-reset .before .before .before in
+    let k = start (p .before .before) in
+    let w = after-reset .reset .ensures in
+    record {
+      lent = record { long = w .long; low = w .low };
+      given = k .pre .0 .given;
+      target = k .pre .1;
+      few = omega (arith, after-reset .before .before .rows-of .ensures, looking p);
+    }
 
 fill-rows-requires-2 : tie.Need-fill-rows-requires-2
 fill-rows-requires-2 c κs =
-    let mid = c .before .before .before .before in
-    let mid₂ = mid .before .before .before .before in
-    let mid₄ = mid₂ .before .before .before .before in
-    let mid₃ = mid₄ .before in
-    let k = mid₃ .before in
+    let k = start (known (c .before .before) .before .before) in
     let g = k .pre .0 .given in
     (record { room = room k; narrow = g .narrow; low = g .low }, omega arith)
 
@@ -193,70 +226,32 @@ same-length-2 c = search needs
 returns-2 : tie.Need-returns-2
 returns-2 c =
     let after-if2 = c .before .before .before .before in
-    let after-reset = after-if2 .before .before .before .before in
-    let h = after-reset .before .before in
-    let mid₂ = h .before .before .before .before in
-    let mid = mid₂ .before in
-    let k = mid .before .before in
-    let a = k .args in
-    let g = k .pre .0 .given in
-    let w = after-if2 .before .gather .ensures in
-    let none = after-reset .reset .ensures in (
-      state-rows (omega (arith, g .ground .few)) (c .before .before .fill-rows2 .ensures)
-          (λ b l p i.
-          next-none (a .row .now) (a .sizes .cells) (a .sizes .poses) (a .sizes .reordering) (layerIn (a .store .now) (a .layer .at) l) (a .layer .cells)
-          (a .q) b
-          (k .pre .1 .there) (g .ground .all)
-          (unused (g .ground .few) (five-least (needed h)) (nine-most (needed h)) (buckets-low k) (last h) none (w .0)
-          (w .1 (not-true _ (after-if2 .if2 .taken))) b l p i)),
-      record { long = w .0 .long ∙ none .long; low = w .0 .low },
+    let after-gather = after-if2 .before in
+    let g = start (known after-gather .before .before) .pre .0 .given in
+    let w = after-gather .gather .ensures .0 in (
+      state-rows (omega (arith, g .ground .few)) (c .before .before .fill-rows2 .ensures) (nothing after-gather (not-true _ (after-if2 .if2 .taken))),
+      record { long = w .long ∙ after-gather .before .before .before .reset .ensures .long; low = w .low },
     )
 
 run-up-requires : tie.Need-run-up-requires
 run-up-requires c κs =
     let after-gather = c .before .before in
-    let after-reset = after-gather .before .before .before in
-    let mid₂ = after-reset .before .before .before .before in
-    let mid = mid₂ .before in
-    let k = mid .before .before .before .before in
+    let p = known after-gather in
     let w = after-gather .gather .ensures .0 in
     record {
-      lent = record { long = w .long ∙ after-reset .reset .ensures .long; low = w .low };
-      few = k .pre .0 .given .ground .few;
-      narrow = k .pre .0 .given .narrow;
+      lent = record { long = w .long ∙ after-gather .before .before .before .reset .ensures .long; low = w .low };
+      few = looking p;
+      narrow = start (p .before .before) .pre .0 .given .narrow;
     }
-
-mul-put-rows : tie.Need-mul-put-rows
-mul-put-rows c =
-    let mid = c .before .before in
-    let mid₂ = mid .before .before .before .before in
-    let mid₃ = mid₂ .before .before .before .before in
-    let mid₅ = mid₃ .before .before .before .before in
-    let mid₄ = mid₅ .before in
-    let h = room (mid₄ .before .before) in
-    search needs
-
-add-put-rows : tie.Need-add-put-rows
-add-put-rows c =
-    let mid = c .before .before in
-    let mid₂ = mid .before .before .before .before in
-    let mid₃ = mid₂ .before .before .before .before in
-    let mid₅ = mid₃ .before .before .before .before in
-    let mid₄ = mid₅ .before in
-    let h = room (mid₄ .before .before) in
-    search needs
 
 put-rows-requires : tie.Need-put-rows-requires
 put-rows-requires c κs =
-    let mid = c .before .before in
-    let mid₂ = mid .before .before .before .before in
-    let mid₃ = mid₂ .before .before .before .before in
-    let mid₅ = mid₃ .before .before .before .before in
-    let mid₄ = mid₅ .before in
-    let k = mid₄ .before .before in
+    let after-run-up = c .before .before in
+    let p = known (after-run-up .before .before .before) in
+    let k = start (p .before .before) in
     let g = k .pre .0 .given in
-    let t = table mid in
-    let h = needed mid₃ in
+    let t = table after-run-up in
+    let h = needed (p .before) in
     record {
       rows = record {
         words = g .ground .words;
@@ -264,35 +259,69 @@ put-rows-requires c κs =
         tableLow = t .low;
         tableLong = t .long;
         narrow = g .narrow;
-        cell = inside (mid₃ .before);
+        cell = inside (p .before .before);
         least = five-least h;
         most = nine-most h;
       };
-      room = room k;
-      few = g .ground .few;
+      room = omega (arith, room k, p .poses-of .ensures .most);
+      few = looking p;
     }
+
+mul-fill-rows : tie.Need-mul-fill-rows
+mul-fill-rows c =
+    let after-run-up = ran-up (c .before .before .before) in
+    let h = looking (known (after-run-up .before .before .before)) in
+    search needs
+
+add-fill-rows : tie.Need-add-fill-rows
+add-fill-rows c =
+    let after-run-up = ran-up (c .before .before .before) in
+    let p = known (after-run-up .before .before .before) in
+    let k = start (p .before .before) in
+    let a = k .args in
+    let h : a .to + a .q * stateBlock + p .poses-of .result * 64 < 2 ^ 64 = omega (arith, room k, p .poses-of .ensures .most, short k) in
+    record { fits = h }
+
+sub-fill-rows : tie.Need-sub-fill-rows
+sub-fill-rows c = search needs
+
+fill-rows-requires-3 : tie.Need-fill-rows-requires-3
+fill-rows-requires-3 c κs =
+    let after-put-rows = c .before .before .before .before in
+    let p = known (ran-up after-put-rows .before .before .before) in
+    let k = start (p .before .before) in
+    let w = after-put-rows .put-rows .ensures in (
+      record {
+        room = omega (arith, room k, p .poses-of .ensures .most, w .frame .long);
+        narrow = k .pre .0 .given .narrow;
+        low = w .low;
+      },
+      omega arith,
+    )
 
 same-length-3 : tie.Need-same-length-3
 same-length-3 c = search needs
 
 returns-3 : tie.Need-returns-3
 returns-3 c =
-    let after-put-rows = c .before .before in
-    let mid = after-put-rows .before .before .before .before in
-    let mid₂ = mid .before .before .before .before in
-    let mid₃ = mid₂ .before .before .before .before in
-    let mid₅ = mid₃ .before .before .before .before in
-    let mid₄ = mid₅ .before in
-    let k = mid₄ .before in
+    let after-fill-rows = c .before .before in
+    let after-store = after-fill-rows .before .before .before .before in
+    let after-put-rows = after-store .before in
+    let after-run-up = ran-up after-put-rows in
+    let m = known (after-run-up .before .before .before) in
+    let k = start (m .before .before) in
     let a = k .args in
     let g = k .pre .0 .given in
-    let t = table (after-put-rows .before .before .before) in (
-      state-rows (omega (arith, g .ground .few)) (after-put-rows .put-rows .ensures)
+    let t = table after-run-up in (
+      state-rows (omega (arith, g .ground .few))
+          (rows-join {h = next k} (g .narrow) (m .poses-of .ensures .most) (after-put-rows .put-rows .ensures) (after-fill-rows .fill-rows3 .ensures)
           (λ b l p i.
           next-found (a .row .now) (a .sizes .cells) (a .sizes .poses) (a .sizes .reordering) (layerIn (a .store .now) (a .layer .at) l) (a .layer .cells)
           (a .q) b
-          (k .pre .1 .there) (g .ground .all) (here mid₃)
-          (t .right b l p i)),
+          (k .pre .1 .there) (g .ground .all) (here (m .before .before))
+          (t .right b l p i))
+          (λ b l p i j. others m b l p i))
+          (λ b l p i. refl),
       record { long = t .long; low = t .low },
     )
 
@@ -300,25 +329,27 @@ pub target-rows-spec : {M : Type 1} → statement M
 target-rows-spec =
     tie.close
     (tie.spec
+    mul-at
+    add-at
     has-source-requires
-    mul-fill-rows
-    add-fill-rows
     fill-rows-requires
     same-length
     returns
     add-last-at
     last-at-requires
     buckets-of-requires
+    poses-of-requires
+    rows-of-requires
     reset-requires
     gather-requires
-    mul-fill-rows-2
-    add-fill-rows-2
     fill-rows-requires-2
     same-length-2
     returns-2
     run-up-requires
-    mul-put-rows
-    add-put-rows
     put-rows-requires
+    mul-fill-rows
+    add-fill-rows
+    sub-fill-rows
+    fill-rows-requires-3
     same-length-3
     returns-3)
