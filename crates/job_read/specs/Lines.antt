@@ -137,7 +137,8 @@ module _ (lead : ℕ) (text : Text) (at : ℕ) (r : Numbers) (l : LedFrom lead t
           (sym (l .ok) ∙ q) in
           rw (q, t .0) (e (fields-count q))
       go false q =
-          rw q (none (paper.formed (lead ∷ []) (lineAt text at)) (p (length (fieldsOf (lineAt text at)))) (sym (l .ok) ∙ q) h)
+          rw q
+          (none (paper.formed (lead ∷ []) (lineAt text at)) (p (length (fieldsOf (lineAt text at)))) (sym (l .ok) ∙ q) h)
 
   numbers-count : (e : r .ok ≡ true) → length (paper.numbersOf (lineAt text at)) ≡ r .count
   numbers-count e = length-map (drop 1 (fieldsOf (lineAt text at))) value ∙ sym (l .found e .count)
@@ -259,7 +260,8 @@ module _ (text : Text) (at : ℕ) (r : Numbers) (there : at < length text)
       made o
       (and-eq-true-iff (leb (getD (r .values) 0 0) (cond (eqb (t .rows) 2) 2 0))
       (within 1 2 (getD (r .values) 3 0)) .0 e2 .1) e3 in
-      let m : layoutsOf (cellIn fixed (r .values)) ≡ paper.cellOf fixed numbers .layouts = ap (λ (x : paper.Cell). x .layouts) c in
+      let m : layoutsOf (cellIn fixed (r .values)) ≡ paper.cellOf fixed numbers .layouts =
+      ap (λ (x : paper.Cell). x .layouts) c in
       test-same 2 _ _ _ _ (rw (m, v 1 (omega arith), v 2 (omega arith)))
       (λ e4. test-same 3 _ _ _ _ (ap (room t) v0 ∙ room-cells s (paper.cellIn (lineAt text at)))
       (λ e5. test-same 4 _ _ _ _ (rw (v0, v 1 (omega arith)) (rises-tally s (paper.cellIn (lineAt text at))))

@@ -28,8 +28,8 @@ rowLength = 8288
 -- The words of a cell: first what it costs by pose (B: not offered); then the site of its pose number 0, with D added;
 -- the widths of its layouts, whether it is tall; by variant (2 layout + mark) its heights left P, left N, right P,
 -- right N; the weight of a step where it touches the cell on its left, its number, and the weight of a step at every
--- other gap; the site where it may not stand as the first of its row, and the end that it may not have as the last, both with
--- D added.
+-- other gap; the site where it may not stand as the first of its row, and the end that it may not have as the last,
+-- both with D added.
 abbrev pub firstWord : ℕ
 firstWord = 64
 
