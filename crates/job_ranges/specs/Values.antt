@@ -1,8 +1,9 @@
 -- The numbers of a line as they stand in an array, and the cell and the header that they make.
-use Prim.Native.Nat.{ℕ, zero, suc, _+_}
+use Prim.Native.Nat.{ℕ, zero, suc, _+_, _≤_}
 use mathlib.Core.Path.{_≡_, refl, sym, ap}
-use mathlib.Core.Bool.{Bool, true, false, _&&_}
+use mathlib.Core.Bool.{Bool, true, false, _&&_, cond}
 use mathlib.Core.List.{List, [], _∷_, _++_}
+use native.Mathlib.Omega.{arith}
 use lib.ListN.{length, getD, take}
 use lib.Dec.{leb, eqb, leb·zero}
 use borrow.Author.Tests.{eq-eqb, ne-eqb}
@@ -29,6 +30,14 @@ layoutIn v at = record {
       ∷ getD v (at + 8) 0
       ∷ [];
 }
+
+-- a layout has at most nine numbers
+pub size-most : (row r : ℕ) → r ≡ paper.layoutSize row → r ≤ 9
+size-most row r e = go (eqb row 2) e
+  where
+    go : (t : Bool) → r ≡ cond t 9 5 → r ≤ 9
+    go true q = omega arith
+    go false q = omega arith
 
 -- the cell of a line, fixed or not; its second layout follows the first
 abbrev pub cellIn : Bool → List ℕ → Cell

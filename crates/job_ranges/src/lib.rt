@@ -52,7 +52,7 @@ fn layout_at(v: [u32; 24], at: usize) -> Layout
 
 // How many numbers a layout has.
 fn layout_size(row: u32) -> usize
-    ensures { λ r. ⌜ (r ≡ layoutSize row) × (r ≤ 9) ⌝ }
+    ensures { λ r. ⌜ r ≡ layoutSize row ⌝ }
 {
     if row == 2 {
         return 9;
