@@ -5,6 +5,7 @@ use mathlib.Core.List.{List, [], map}
 use lib.ListN.{length, take, drop}
 use Rattle.definition.specs.Texts.{Text}
 use Rattle.definition.specs.Job as paper
+use Rattle.definition_laws.specs.Sound.{SoundHeader}
 use Rattle.job.specs.declared.Cell.{Cell}
 use Rattle.job.specs.declared.Header.{Header}
 use Rattle.job.specs.declared.Job.{Job}
@@ -43,6 +44,11 @@ pub record CellLine (text : Text) (at : ℕ) (t : Tally) (r : Line) : Type 0 whe
   pub read : r .number ≡ 0 → CellTo text at t r
 
 -- ---- the whole text
+
+-- where the cell lines begin, after a header that is in range
+pub record CellsFrom (text : Text) (from : ℕ) (h : Header) : Type 0 where
+  pub within : from ≤ length text
+  pub sound : SoundHeader (headerOf h)
 
 -- a job with its first n cells, and with none
 abbrev pub sofar : Header → ℕ → List Cell → paper.Job

@@ -1,6 +1,6 @@
 -- What is kept of the cells read so far, and that it decides whether one more finds room and
 -- does not fall. Stated for a row in general.
-use Prim.Native.Nat.{ℕ, suc, _+_, _≤_, max}
+use Prim.Native.Nat.{ℕ, suc, _+_, _≤_, _<_, max}
 use mathlib.Core.Path.{_≡_, refl, sym, _∙_}
 use mathlib.Core.Bool.{Bool, true, false, not, _&&_, _||_, cond}
 use mathlib.Core.List.{List, [], _∷_, _++_}
@@ -26,6 +26,11 @@ pub record Tallies (j : Job) (t : Tally) : Type 0 where
   pub second : t .second ≡ topIn 1 (j .cells)
 
 -- ---- one more cell
+
+-- neither count is so high that one more would not fit
+pub record TallyRoom (t : Tally) : Type 0 where
+  pub count : t .count < maxCells
+  pub tall : t .tall < maxCells
 
 abbrev pub held : ℕ → ℕ → Bool
 held row of = eqb of 2 || eqb of row

@@ -1,15 +1,13 @@
 // The reader: a job text is read line by line, each line once, up to the first that is refused.
 ghost use mathlib.Core.Path.{_≡_};
 ghost use mathlib.Core.Bool.{cond};
-ghost use Prim.Native.Nat.{_+_, _≤_, _<_, max};
+ghost use Prim.Native.Nat.{_+_, _<_, max};
 ghost use lib.ListN.{length, drop};
 ghost use Rattle.definition.specs.Texts.{linesOf};
 ghost use Rattle.definition.specs.Job.{readJob, readCells, maxCells};
-ghost use Rattle.definition_laws.specs.Sound.{SoundHeader};
-ghost use Rattle.job.specs.Value.{headerOf};
-ghost use Rattle.job_read.specs.Rows.{tallyWith, room, rises};
+ghost use Rattle.job_read.specs.Rows.{tallyWith, TallyRoom, room, rises};
 ghost use Rattle.job_read.specs.Lines.{later, headNumber, cellNumber, LeadOf};
-ghost use Rattle.job_read.specs.Reads.{HeadLine, CellLine, begun, Reads};
+ghost use Rattle.job_read.specs.Reads.{HeadLine, CellLine, CellsFrom, begun, Reads};
 use job::Cell;
 use job::Header;
 use job::Job;
@@ -180,7 +178,7 @@ fn higher(is: bool, top: u32, given: u32) -> u32
 }
 
 fn tally_with(t: Tally, row: u32, given: u32) -> Tally
-    requires { ⌜ (t .count < maxCells) × (t .tall < maxCells) ⌝ }
+    requires { ⌜ TallyRoom t ⌝ }
     ensures { λ r. ⌜ r ≡ tallyWith t row given ⌝ }
 {
     let tall = one_more(row == 2, t.tall);
@@ -199,7 +197,7 @@ fn tally_with(t: Tally, row: u32, given: u32) -> Tally
 
 // The cell lines from `from` on, after a header.
 fn read_cells(text: &[u8], from: usize, header: Header) -> Reading
-    requires { ⌜ (from ≤ length (now text)) × SoundHeader (headerOf header) ⌝ }
+    requires { ⌜ CellsFrom (now text) from header ⌝ }
     ensures { λ r. ⌜ Reads (readCells (begun header) 2 (linesOf (drop from (now (text .entry))))) r ⌝ }
 {
     let mut job = Job::empty();

@@ -48,7 +48,12 @@ pub record NumbersFrom (text : Text) (at : ℕ) (r : Numbers) : Type 0 where
   pub ok : r .ok ≡ readable (drop at text)
   pub found : r .ok ≡ true → Found text at (fieldsOf (firstLine (drop at text))) r
 
--- the same after a lead and its comma
+-- a byte of the text, and a lead, which is no comma, that a line may have from there on
+pub record MayLead (text : Text) (at lead : ℕ) : Type 0 where
+  pub there : at < length text
+  pub high : comma < lead
+
+-- the numbers after a lead and its comma
 pub record LedFrom (lead : ℕ) (text : Text) (at : ℕ) (r : Numbers) : Type 0 where
   pub ok : r .ok ≡ led lead (drop at text)
   pub found : r .ok ≡ true → Found text at (drop 1 (fieldsOf (firstLine (drop at text)))) r

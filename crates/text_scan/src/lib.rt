@@ -4,8 +4,7 @@ ghost use mathlib.Core.Path.{_≡_};
 ghost use mathlib.Core.Bool.{false};
 ghost use Prim.Native.Nat.{_≤_, _<_};
 ghost use lib.ListN.{length};
-ghost use Rattle.definition.specs.Texts.{comma};
-ghost use Rattle.text_scan.specs.Found.{LineTo, NumberFrom, NumbersFrom, LedFrom};
+ghost use Rattle.text_scan.specs.Found.{LineTo, NumberFrom, NumbersFrom, MayLead, LedFrom};
 
 // A number and where the next field begins; `last` says that a line feed ended it, and no comma.
 pub struct Number {
@@ -132,7 +131,7 @@ pub fn read_numbers(text: &[u8], at: usize) -> Numbers
 
 // The numbers after the lead of the line that begins at `at`.
 pub fn read_led(text: &[u8], at: usize, lead: u8) -> Numbers
-    requires { ⌜ (at < length (now text)) × (comma < lead) ⌝ }
+    requires { ⌜ MayLead (now text) at lead ⌝ }
     ensures { λ r. ⌜ LedFrom lead (now (text .entry)) at r ⌝ }
 {
     if text[at] != lead {

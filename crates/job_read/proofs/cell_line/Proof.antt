@@ -18,7 +18,7 @@ lead-of-requires c κs = search needs
 read-led-requires : tie.Need-read-led-requires
 read-led-requires c κs =
     let a = c .before .before .before in
-    (a .pre, c .lead-of .ensures .high)
+    record { there = a .pre; high = c .lead-of .ensures .high }
 
 cell-of-requires : tie.Need-cell-of-requires
 cell-of-requires c κs = search needs

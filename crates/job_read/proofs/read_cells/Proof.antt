@@ -20,7 +20,7 @@ empty-requires c κs = tt
 loop-holds : tie.Need-loop-holds Inv-loop μ-loop
 loop-holds c =
     let a = c .before .before .args in (
-      far-none (a .text .now) (a .from) (a .header) (c .empty .result .cells) (c .before .before .pre .0)
+      far-none (a .text .now) (a .from) (a .header) (c .empty .result .cells) (c .before .before .pre .within)
           (ap (λ (j : Job). length (j .cells)) (c .empty .ensures)),
       refl,
     )
@@ -43,7 +43,7 @@ element-set-from-cell c = c .before .before .cell-line .ensures .read (c .before
 tally-with-requires : tie.Need-tally-with-requires Inv-loop μ-loop
 tally-with-requires c κs =
     let r = c .before .before .cell-line .ensures .read (c .before .if1 .left) in
-    (r .room, omega (arith, r .room, far-tall (c .before .before .before .before .loop .inv .0)))
+    record { count = r .room; tall = omega (arith, r .room, far-tall (c .before .before .before .before .loop .inv .0)) }
 
 add-line : tie.Need-add-line Inv-loop μ-loop
 add-line c =
@@ -70,7 +70,7 @@ returns-2 : tie.Need-returns-2 Inv-loop μ-loop
 returns-2 c =
     let h = c .before .before in
     let s = h .loop .inv in
-    rw (c .none .ensures, s .1) (far-out (s .0) (c .before .loop-test .left) (h .before .before .before .pre .1))
+    rw (c .none .ensures, s .1) (far-out (s .0) (c .before .loop-test .left) (h .before .before .before .pre .sound))
 
 pub read-cells-spec : {M : Type 1} → statement M
 read-cells-spec =

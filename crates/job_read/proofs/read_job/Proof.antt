@@ -26,10 +26,11 @@ returns-2 c =
 read-cells-requires : tie.Need-read-cells-requires
 read-cells-requires c κs =
     let h = c .before .before in
-    let z = c .before .if2 .left in (
-      h .header-line .ensures .read z .within,
-      head-sound (h .before .before .before .args .text .now) (omega arith) (h .header-line .result) (h .header-line .ensures) z,
-    )
+    let z = c .before .if2 .left in
+    record {
+      within = h .header-line .ensures .read z .within;
+      sound = head-sound (h .before .before .before .args .text .now) (omega arith) (h .header-line .result) (h .header-line .ensures) z;
+    }
 
 returns-3 : tie.Need-returns-3
 returns-3 c =

@@ -13,7 +13,7 @@ none-requires c κs = search needs
 returns : tie.Need-returns
 returns c =
     let a = c .before .before .before .before in
-    other-lead _ _ _ _ (a .pre .0) (c .none .ensures) (c .before .if1 .taken)
+    other-lead _ _ _ _ (a .pre .there) (c .none .ensures) (c .before .if1 .taken)
 
 add-if2 : tie.Need-add-if2
 add-if2 c = search needs
@@ -25,7 +25,7 @@ returns-2 : tie.Need-returns-2
 returns-2 c =
     let mid = c .before .before .before .before in
     let a = mid .before in
-    lead-ends _ _ _ _ (a .pre .0) (a .pre .1) (c .before .before .if1 .left) (c .none2 .ensures) (c .before .if2 .taken)
+    lead-ends _ _ _ _ (a .pre .there) (a .pre .high) (c .before .before .if1 .left) (c .none2 .ensures) (c .before .if2 .taken)
 
 add-if3 : tie.Need-add-if3
 add-if3 c = search needs
@@ -40,7 +40,7 @@ returns-3 : tie.Need-returns-3
 returns-3 c =
     let mid = c .before .before .before .before in
     let a = mid .before .before .before in
-    lead-long _ _ _ _ (a .pre .0) (a .pre .1) (c .before .before .before .before .if1 .left) (c .before .before .before .if2 .left) (c .none3 .ensures)
+    lead-long _ _ _ _ (a .pre .there) (a .pre .high) (c .before .before .before .before .if1 .left) (c .before .before .before .if2 .left) (c .none3 .ensures)
     (c .before .if3 .taken)
 
 add-read-numbers : tie.Need-add-read-numbers
@@ -53,7 +53,7 @@ returns-4 : tie.Need-returns-4
 returns-4 c =
     let mid = c .before .before .before .before in
     let a = mid .before .before .before in
-    lead-on _ _ _ _ (a .pre .0) (a .pre .1) (c .before .before .before .before .if1 .left) (c .before .before .before .if2 .left) (c .before .if3 .left)
+    lead-on _ _ _ _ (a .pre .there) (a .pre .high) (c .before .before .before .before .if1 .left) (c .before .before .before .if2 .left) (c .before .if3 .left)
     (c .read-numbers .ensures)
 
 pub read-led-spec : {M : Type 1} → statement M
