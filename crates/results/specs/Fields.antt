@@ -13,6 +13,11 @@ maxFields = 16
 unfoldable pub listOf : Fields → List ℤ
 listOf f = take (f .count) (f .values)
 
+-- the fields are this list, of n
+pub record FieldsOf (l : List ℤ) (n : ℕ) (f : Fields) : Type 0 where
+  pub list : listOf f ≡ l
+  pub count : f .count ≡ n
+
 -- the fields are this list
 pub record Listed (l : List ℤ) (f : Fields) : Type 0 where
   pub list : listOf f ≡ l

@@ -6,8 +6,8 @@ ghost use Prim.Native.Nat.{_≤_, _<_};
 ghost use lib.ListN.{replicate};
 ghost use lib.IntN.{pos};
 ghost use Rattle.definition.specs.Outcome.{over};
-ghost use Rattle.results.specs.Fields.{maxFields, listOf, More};
-ghost use Rattle.results.specs.Refusals.{noRefusal, Signed};
+ghost use Rattle.results.specs.Fields.{maxFields, listOf, FieldsOf, More};
+ghost use Rattle.results.specs.Refusals.{noRefusal, Writable};
 
 // A refusal and its line; number 0 refuses nothing.
 pub struct Refusal {
@@ -33,7 +33,7 @@ impl Fields {
     pub const MAX: usize = 16;
 
     pub fn empty() -> Fields
-        ensures { λ r. ⌜ (listOf r ≡ []) × (r .count ≡ 0) ⌝ }
+        ensures { λ r. ⌜ FieldsOf [] 0 r ⌝ }
     {
         Fields::zeros(0)
     }
@@ -41,7 +41,7 @@ impl Fields {
     // So many fields of 0.
     pub fn zeros(count: usize) -> Fields
         requires { ⌜ count ≤ maxFields ⌝ }
-        ensures { λ r. ⌜ (listOf r ≡ replicate count (pos 0)) × (r .count ≡ count) ⌝ }
+        ensures { λ r. ⌜ FieldsOf (replicate count (pos 0)) count r ⌝ }
     {
         Fields {
             count,
@@ -65,7 +65,7 @@ impl Fields {
 }
 
 pub fn put_results(results: &mut [i32], refusal: Refusal, fields: Fields)
-    requires { ⌜ Signed refusal × (fields .count ≤ maxFields) ⌝ }
+    requires { ⌜ Writable refusal fields ⌝ }
     ensures { λ _. ⌜ now (results .exit)
         ≡ over (pos (refusal .number) ∷ pos (refusal .line) ∷ listOf fields) (now (results .entry)) ⌝ }
 {

@@ -19,13 +19,13 @@ empty-requires : tie.Need-empty-requires
 empty-requires c κs = search needs
 
 push-numbers-requires : tie.Need-push-numbers-requires
-push-numbers-requires c κs = (omega (arith, c .empty .ensures .1), c .before .numbers-of .ensures .small)
+push-numbers-requires c κs = (omega (arith, c .empty .ensures .count), c .before .numbers-of .ensures .small)
 
 cast-push : tie.Need-cast-push
 cast-push c = search needs
 
 push-requires : tie.Need-push-requires
-push-requires c κs = omega (arith, c .push-numbers .ensures .count, c .before .empty .ensures .1)
+push-requires c κs = omega (arith, c .push-numbers .ensures .count, c .before .empty .ensures .count)
 
 returns : tie.Need-returns
 returns c =
@@ -38,9 +38,9 @@ returns c =
     record {
       list =
           told
-          ∙ ap (λ (l : List ℤ). l ++ (numbersIn (n .result) ++ (pos (a .bytes) ∷ []))) (e .empty .ensures .0)
+          ∙ ap (λ (l : List ℤ). l ++ (numbersIn (n .result) ++ (pos (a .bytes) ∷ []))) (e .empty .ensures .list)
           ∙ ap (λ (l : List ℤ). l ++ (pos (a .bytes) ∷ [])) (numbers-listed (jobOf (a .job)) (placementOf (a .placement)) (n .result) (n .ensures));
-      few = omega (arith, all .count, e .empty .ensures .1);
+      few = omega (arith, all .count, e .empty .ensures .count);
     }
 
 pub fields-of-spec : {M : Type 1} → statement M

@@ -43,10 +43,10 @@ none-requires : tie.Need-none-requires
 none-requires c κs = search needs
 
 put-results-requires : tie.Need-put-results-requires
-put-results-requires c κs = (
-  rw (c .none .ensures) (record { number = omega arith; line = omega arith }),
-  c .before .before .fields-of .ensures .few,
-)
+put-results-requires c κs = record {
+  signed = rw (c .none .ensures) (record { number = omega arith; line = omega arith });
+  few = c .before .before .fields-of .ensures .few;
+}
 
 same-length : tie.Need-same-length
 same-length c = search needs

@@ -22,7 +22,7 @@ returns c =
     let z = p .before in
     let a = z .before .before .args in
     p .put-results .ensures
-    ∙ ap (λ (l : List ℤ). over (pos (a .refusal .number) ∷ pos (a .refusal .line) ∷ l) (a .results .now)) (z .zeros .ensures .0)
+    ∙ ap (λ (l : List ℤ). over (pos (a .refusal .number) ∷ pos (a .refusal .line) ∷ l) (a .results .now)) (z .zeros .ensures .list)
 
 pub refuse-spec : {M : Type 1} → statement M
 refuse-spec = tie.close (tie.spec zeros-requires put-results-requires same-length returns)

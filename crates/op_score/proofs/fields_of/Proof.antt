@@ -75,7 +75,7 @@ zero-requires c κs = search needs
 push-numbers-requires : tie.Need-push-numbers-requires
 push-numbers-requires c κs =
     let p = c .before .before in (
-      omega (arith, two p .count, p .before .before .before .empty .ensures .1),
+      omega (arith, two p .count, p .before .before .before .empty .ensures .count),
       rw (c .zero .ensures) (record { steps = omega arith; shifted = omega arith; mirrored = omega arith; changed = omega arith; cost = omega arith }),
     )
 
@@ -94,10 +94,10 @@ returns c =
     record {
       list =
           all .list
-          ∙ ap (λ (l : List ℤ). l ++ fields (c .before .zero .result)) (e .empty .ensures .0)
+          ∙ ap (λ (l : List ℤ). l ++ fields (c .before .zero .result)) (e .empty .ensures .list)
           ∙ ap fields (c .before .zero .ensures)
           ∙ broken-fields j P (verdict j P) (λ z. t .if1 .taken (same-rule v ∙ z));
-      few = omega (arith, all .count, e .empty .ensures .1);
+      few = omega (arith, all .count, e .empty .ensures .count);
     }
 
 numbers-of-requires : tie.Need-numbers-of-requires
@@ -106,7 +106,7 @@ numbers-of-requires c κs = search needs
 push-numbers-requires-2 : tie.Need-push-numbers-requires-2
 push-numbers-requires-2 c κs =
     let p = c .before .before in
-    (omega (arith, two p .count, p .before .before .before .empty .ensures .1), c .numbers-of .ensures .small)
+    (omega (arith, two p .count, p .before .before .before .empty .ensures .count), c .numbers-of .ensures .small)
 
 returns-2 : tie.Need-returns-2
 unfolding verdict-at
@@ -123,9 +123,9 @@ returns-2 c =
     record {
       list =
           all .list
-          ∙ ap (λ (l : List ℤ). l ++ (pos (verdict j P .rule) ∷ pos (verdict j P .cell) ∷ numbersIn (n .result))) (e .empty .ensures .0)
+          ∙ ap (λ (l : List ℤ). l ++ (pos (verdict j P .rule) ∷ pos (verdict j P .cell) ∷ numbersIn (n .result))) (e .empty .ensures .list)
           ∙ legal-fields j P (verdict j P) (n .result) (sym (same-rule v) ∙ t .if1 .left) (n .ensures);
-      few = omega (arith, all .count, e .empty .ensures .1);
+      few = omega (arith, all .count, e .empty .ensures .count);
     }
 
 pub fields-of-spec : {M : Type 1} → statement M

@@ -35,7 +35,10 @@ zeros-requires c κs = search needs
 put-results-requires : tie.Need-put-results-requires
 put-results-requires c κs =
     let o = c .before .before .before .before .read-job .ensures in
-    (record { number = omega (arith, o .number); line = omega (arith, o .line) }, omega (arith, c .zeros .ensures .1))
+    record {
+      signed = record { number = omega (arith, o .number); line = omega (arith, o .line) };
+      few = omega (arith, c .zeros .ensures .count);
+    }
 
 same-length : tie.Need-same-length
 same-length c = search needs
@@ -54,7 +57,7 @@ returns c =
       number = ap (λ (o : Outcome). o .number) (sym e);
       array =
           p .put-results .ensures
-          ∙ ap (λ (l : List ℤ). over (pos (q .number) ∷ pos (q .line) ∷ l) (a .results .now)) (z .zeros .ensures .0)
+          ∙ ap (λ (l : List ℤ). over (pos (q .number) ∷ pos (q .line) ∷ l) (a .results .now)) (z .zeros .ensures .list)
           ∙ ap (λ (o : Outcome). over (resultsOf o) (a .results .now)) (sym e);
     })
 
@@ -74,10 +77,11 @@ none-requires c κs = search needs
 
 put-results-requires-2 : tie.Need-put-results-requires-2
 put-results-requires-2 c κs =
-    let u = c .before .before in (
-      rw (c .none .ensures) (record { number = omega arith; line = omega arith }),
-      omega (arith, u .push .ensures .count, u .before .before .empty .ensures .1),
-    )
+    let u = c .before .before in
+    record {
+      signed = rw (c .none .ensures) (record { number = omega arith; line = omega arith });
+      few = omega (arith, u .push .ensures .count, u .before .before .empty .ensures .count);
+    }
 
 same-length-2 : tie.Need-same-length-2
 same-length-2 c = search needs
@@ -102,7 +106,7 @@ returns-2 c =
           w .put-results2 .ensures
           ∙ ap (λ (q : Refusal). over (pos (q .number) ∷ pos (q .line) ∷ listOf (u .push .result)) (a .results .now)) (n .none .ensures)
           ∙ ap told (u .push .ensures .list)
-          ∙ ap (λ (f : List ℤ). told (f ++ (toZ w32 (r .read-job .result .job .count) ∷ []))) (m .empty .ensures .0)
+          ∙ ap (λ (f : List ℤ). told (f ++ (toZ w32 (r .read-job .result .job .count) ∷ []))) (m .empty .ensures .list)
           ∙ ap (λ (v : ℤ). told (v ∷ [])) (toZ-pos w32 (omega (arith, g .few)) ∙ ap pos (sym many))
           ∙ ap (λ (o : Outcome). over (resultsOf o) (a .results .now)) (sym e);
     })

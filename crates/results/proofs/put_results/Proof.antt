@@ -30,7 +30,7 @@ laid c =
     let s = c .before .before .before .before in
     let a = s .args in
     c .loop .inv .2
-    ∙ rw (toZ-pos w32 (s .pre .0 .number), toZ-pos w32 (s .pre .0 .line))
+    ∙ rw (toZ-pos w32 (s .pre .signed .number), toZ-pos w32 (s .pre .signed .line))
     (two-again (pos (a .refusal .number)) (pos (a .refusal .line)) (take (c .loop .i) (a .fields .values)) (a .results .now) (omega arith))
 
 long : (c : tie.At-loop Inv-loop μ-loop) → length (c .loop .results) ≡ length (c .before .before .before .before .args .results .now)
@@ -54,7 +54,8 @@ returns-2 : tie.Need-returns-2 Inv-loop μ-loop
 returns-2 c =
     let s = c .before .before .before in
     let a = s .args in
-    rw (toZ-pos w32 (s .pre .0 .number)) (one-over (pos (a .refusal .number)) (pos (a .refusal .line)) (listOf (a .fields)) (a .results .now) (c .if2 .taken))
+    rw (toZ-pos w32 (s .pre .signed .number))
+    (one-over (pos (a .refusal .number)) (pos (a .refusal .line)) (listOf (a .fields)) (a .results .now) (c .if2 .taken))
 
 cast-results-2 : tie.Need-cast-results-2 Inv-loop μ-loop
 cast-results-2 c = omega arith
@@ -68,7 +69,7 @@ loop-holds c =
     let a = s .args in (
       omega arith,
       search needs,
-      rw (toZ-pos w32 (s .pre .0 .number), toZ-pos w32 (s .pre .0 .line))
+      rw (toZ-pos w32 (s .pre .signed .number), toZ-pos w32 (s .pre .signed .line))
           (two-over (pos (a .refusal .number)) (pos (a .refusal .line)) (a .results .now) (omega arith)),
     )
 

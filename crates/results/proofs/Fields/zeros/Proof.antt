@@ -6,7 +6,7 @@ use Rattle.results.proofs.Fields.zeros.Tie as tie
 
 returns : tie.Need-returns
 unfolding listOf
-returns c = (zeros-listed (c .args .count) maxFields (c .pre), refl)
+returns c = record { list = zeros-listed (c .args .count) maxFields (c .pre); count = refl }
 
 pub zeros-spec : {M : Type 1} → statement M
 zeros-spec = tie.close (tie.spec returns)
