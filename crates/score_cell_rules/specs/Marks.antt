@@ -28,6 +28,11 @@ pub record Arrays (n : ℕ) (a b : List ℕ) : Type 0 where
   pub left : length a ≡ 64
   pub right : length b ≡ 64
 
+-- the marks of a rule, of which those of n cells count
+pub record MarksOf (n : ℕ) (marks : List ℕ) : Type 0 where
+  pub few : n ≤ 64
+  pub long : length marks ≡ 64
+
 -- before and after: those cells below n that pass a test have been marked too
 pub record Added (n : ℕ) (f : ℕ → Bool) (marks marks′ : List ℕ) : Type 0 where
   pub long : length marks′ ≡ 64

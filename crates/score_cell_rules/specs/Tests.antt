@@ -1,5 +1,5 @@
 -- The rules that are judged cell by cell, on the words of a placed job. They are the definition's: see
--- Flat in score_verdict.
+-- Flat in score_verdict. And what the functions that judge rules are given.
 use Prim.Native.Nat.{ℕ, _<_}
 use mathlib.Core.Path.{_≡_}
 use mathlib.Core.Bool.{Bool, not, _&&_, _||_}
@@ -8,8 +8,11 @@ use lib.ListN.{length}
 use lib.Dec.{leb, ltb, eqb}
 use Rattle.definition.specs.Lists.{from, any}
 use Rattle.definition.specs.Job.{bothRows}
-use Rattle.score_order.specs.Words.{siteIn, endIn, rowIn}
+use Rattle.score_order.specs.Words.{siteIn, endIn, rowIn, Words, Room, Ordered}
+use Rattle.job.specs.declared.Job.{Job}
+use Rattle.job.specs.declared.Placement.{Placement}
 use Rattle.job.specs.Parts.{standsIn}
+use Rattle.score_words.specs.Ready.{Ready}
 
 -- rule 2: past the row's end
 unfoldable pub pastIn : List ℕ → ℕ → ℕ → Bool
@@ -38,8 +41,36 @@ wrongIn words k b =
 unfoldable pub passesIn : List ℕ → ℕ → ℕ → Bool
 passesIn words n k = eqb (rowIn words k) 2 && any (wrongIn words k) (from 0 n)
 
+-- ---- what is given
+
 -- two cells to compare
 pub record Two (words : List ℕ) (k b : ℕ) : Type 0 where
   pub long : length words ≡ 256
   pub left : k < 64
   pub right : b < 64
+
+-- the words of n cells, and one to be compared with each of them
+pub record OneOfAll (words : List ℕ) (n k : ℕ) : Type 0 where
+  pub cells : Words words n
+  pub cell : k < 64
+
+-- words of 64 cells, and an array that lists some of these
+pub record ListIn (words list : List ℕ) : Type 0 where
+  pub long : length words ≡ 256
+  pub room : Room list
+
+-- what a rule is judged by, and its marks: the words of n cells
+pub record ByWords (words : List ℕ) (n : ℕ) (m : List ℕ) : Type 0 where
+  pub cells : Words words n
+  pub marks : length m ≡ 64
+
+-- these and the order of both rows
+pub record ByOrder (words : List ℕ) (n : ℕ) (order₀ : List ℕ) (start₀ : ℕ) (order₁ : List ℕ) (start₁ : ℕ)
+    (m : List ℕ) : Type 0 where
+  pub rows : Ordered words n order₀ start₀ order₁ start₁
+  pub marks : length m ≡ 64
+
+-- a job and a placement
+pub record ByOffer (job : Job) (P : Placement) (m : List ℕ) : Type 0 where
+  pub ready : Ready job P
+  pub marks : length m ≡ 64

@@ -1,16 +1,14 @@
 // Marks of the cells that break a rule, one word to a cell: made by rules 1 to 4 and 7, and read.
 ghost use mathlib.Core.Path.{_≡_};
 ghost use mathlib.Core.Bool.{true};
-ghost use Prim.Native.Nat.{_≤_, _<_};
-ghost use lib.ListN.{length};
+ghost use Prim.Native.Nat.{max};
 ghost use Rattle.definition.specs.Lists.{from, keep};
 ghost use Rattle.definition.specs.Rules.{lowest};
 ghost use Rattle.job.specs.Value.{offerIn, poseOf, jobOf, placementOf};
-ghost use Rattle.score_order.specs.Words.{Room, Words, Ordered};
-ghost use Rattle.score_words.specs.Ready.{Ready};
+ghost use Rattle.score_order.specs.Words.{Words};
 ghost use Rattle.score_cell_rules.specs.Tests.{pastIn, shareIn, clashIn, clashesIn, wrongIn, passesIn};
-ghost use Rattle.score_cell_rules.specs.Tests.{Two};
-ghost use Rattle.score_cell_rules.specs.Marks.{markedIn, Arrays, Added, Listed};
+ghost use Rattle.score_cell_rules.specs.Tests.{Two, OneOfAll, ListIn, ByWords, ByOrder, ByOffer};
+ghost use Rattle.score_cell_rules.specs.Marks.{markedIn, Arrays, MarksOf, Added, Listed};
 ghost use Rattle.score_cell_rules.specs.Offered.{offersIn, unofferedIn};
 ghost use Rattle.score_cell_rules.specs.Quick.{InLine, TallRising};
 use job::Job;
@@ -35,7 +33,7 @@ fn keeps(rule: u32, offer: Offer, pose: Pose) -> bool
 
 // Rule 1, or otherwise rule 3: what the cell is not offered.
 pub fn mark_unoffered(rule: u32, job: Job, placement: Placement, marks: &mut [u32])
-    requires { ⌜ Ready job placement × (length (now marks) ≡ 64) ⌝ }
+    requires { ⌜ ByOffer job placement (now marks) ⌝ }
     ensures { λ r. ⌜ Added (job .count) (unofferedIn rule (jobOf job) (placementOf placement))
         (now (marks .entry)) (now (marks .exit)) ⌝ }
 {
@@ -66,7 +64,7 @@ pub fn mark_again(made: &[u32], count: usize, marks: &mut [u32])
 
 // Rule 2.
 pub fn mark_past(words: &[u32], count: usize, sites: u32, marks: &mut [u32])
-    requires { ⌜ Words (now words) count × (length (now marks) ≡ 64) ⌝ }
+    requires { ⌜ ByWords (now words) count (now marks) ⌝ }
     ensures { λ r. ⌜ Added count (pastIn (now (words .entry)) sites) (now (marks .entry)) (now (marks .exit)) ⌝ }
 {
     let mut k: usize = count;
@@ -100,7 +98,7 @@ fn clash(words: &[u32], k: usize, b: usize) -> bool
 }
 
 fn clashes(words: &[u32], count: usize, k: usize) -> bool
-    requires { ⌜ Words (now words) count × (k < 64) ⌝ }
+    requires { ⌜ OneOfAll (now words) count k ⌝ }
     ensures { λ r. ⌜ r ≡ clashesIn (now (words .entry)) count k ⌝ }
 {
     let mut b: usize = 0;
@@ -114,7 +112,7 @@ fn clashes(words: &[u32], count: usize, k: usize) -> bool
 }
 
 fn mark_clashes(words: &[u32], count: usize, marks: &mut [u32])
-    requires { ⌜ Words (now words) count × (length (now marks) ≡ 64) ⌝ }
+    requires { ⌜ ByWords (now words) count (now marks) ⌝ }
     ensures { λ r. ⌜ Added count (clashesIn (now (words .entry)) count) (now (marks .entry)) (now (marks .exit)) ⌝ }
 {
     let mut k: usize = count;
@@ -128,7 +126,7 @@ fn mark_clashes(words: &[u32], count: usize, marks: &mut [u32])
 
 // The quick test: no cell of the list begins before all that precede it have ended.
 fn in_line(words: &[u32], list: &[u32], at: usize) -> bool
-    requires { ⌜ (length (now words) ≡ 256) × Room (now list) ⌝ }
+    requires { ⌜ ListIn (now words) (now list) ⌝ }
     ensures { λ r. ⌜ (r ≡ true → InLine (now (words .entry)) (now (list .entry)) at) ⌝ }
 {
     let mut reach: u32 = 0;
@@ -145,7 +143,7 @@ fn in_line(words: &[u32], list: &[u32], at: usize) -> bool
 }
 
 fn farther(a: u32, b: u32) -> u32
-    ensures { λ r. ⌜ (a ≤ r) × (b ≤ r) ⌝ }
+    ensures { λ r. ⌜ r ≡ max a b ⌝ }
 {
     if a < b { b } else { a }
 }
@@ -160,7 +158,7 @@ pub fn mark_overlaps(
     start1: usize,
     marks: &mut [u32],
 )
-    requires { ⌜ Ordered (now words) count (now order0) start0 (now order1) start1 × (length (now marks) ≡ 64) ⌝ }
+    requires { ⌜ ByOrder (now words) count (now order0) start0 (now order1) start1 (now marks) ⌝ }
     ensures { λ r. ⌜ Added count (clashesIn (now (words .entry)) count) (now (marks .entry)) (now (marks .exit)) ⌝ }
 {
     let clear = in_line(words, order0, start0) & in_line(words, order1, start1);
@@ -184,7 +182,7 @@ fn wrong(words: &[u32], k: usize, b: usize) -> bool
 }
 
 fn passes(words: &[u32], count: usize, k: usize) -> bool
-    requires { ⌜ Words (now words) count × (k < 64) ⌝ }
+    requires { ⌜ OneOfAll (now words) count k ⌝ }
     ensures { λ r. ⌜ r ≡ passesIn (now (words .entry)) count k ⌝ }
 {
     if words[4 * k + 2] != 2 {
@@ -201,7 +199,7 @@ fn passes(words: &[u32], count: usize, k: usize) -> bool
 }
 
 fn mark_passes(words: &[u32], count: usize, marks: &mut [u32])
-    requires { ⌜ Words (now words) count × (length (now marks) ≡ 64) ⌝ }
+    requires { ⌜ ByWords (now words) count (now marks) ⌝ }
     ensures { λ r. ⌜ Added count (passesIn (now (words .entry)) count) (now (marks .entry)) (now (marks .exit)) ⌝ }
 {
     let mut k: usize = count;
@@ -235,7 +233,7 @@ fn tall_rising(words: &[u32], count: usize) -> bool
 }
 
 pub fn mark_passing(words: &[u32], count: usize, marks: &mut [u32])
-    requires { ⌜ Words (now words) count × (length (now marks) ≡ 64) ⌝ }
+    requires { ⌜ ByWords (now words) count (now marks) ⌝ }
     ensures { λ r. ⌜ Added count (passesIn (now (words .entry)) count) (now (marks .entry)) (now (marks .exit)) ⌝ }
 {
     if tall_rising(words, count) {
@@ -246,7 +244,7 @@ pub fn mark_passing(words: &[u32], count: usize, marks: &mut [u32])
 
 // The lowest cell that is marked, counted from 1, or 0: the last that is met from the end.
 pub fn lowest_marked(marks: &[u32], count: usize) -> u32
-    requires { ⌜ (count ≤ 64) × (length (now marks) ≡ 64) ⌝ }
+    requires { ⌜ MarksOf count (now marks) ⌝ }
     ensures { λ r. ⌜ r ≡ lowest (markedIn (now (marks .entry))) (from 0 count) ⌝ }
 {
     let mut cell: u32 = 0;

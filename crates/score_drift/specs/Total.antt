@@ -1,14 +1,16 @@
 -- The signed sum of displacements, from the words of a placed job, and drift from that sum.
-use Prim.Native.Nat.{ℕ, zero, suc, _+_, _≤_, _<_}
+use Prim.Native.Nat.{ℕ, zero, suc, _+_, _*_, _≤_, _<_, _^_}
 use mathlib.Core.Path.{_≡_, refl, sym, ap, ap₂, _∙_}
 use mathlib.Core.Bool.{cond}
 use mathlib.Core.List.{List}
+use native.Mathlib.Omega.{arith}
+use native.Mathlib.Nat.{div-le-self}
 use lib.Dec.{eqb}
-use lib.IntN.{ℤ, pos, _+ℤ_, _-ℤ_}
+use lib.IntN.{ℤ, pos, natAbs, _+ℤ_, _-ℤ_}
 use Rattle.definition.specs.Lists.{from}
 use Rattle.definition.specs.Job as paper
 use Rattle.definition.specs.Placement as text
-use Rattle.definition.specs.Cost.{hundredths, totalShift, drift}
+use Rattle.definition.specs.Cost.{nearest, hundredths, totalShift, drift}
 use Rattle.score_order.specs.Words.{siteIn, givenIn, Words}
 use Rattle.score_words.specs.Flat.{Flat}
 
@@ -23,6 +25,16 @@ pub record Digits (words : List ℕ) (n : ℕ) : Type 0 where
   pub site : (k : ℕ) → k < n → siteIn words k ≤ 9999
   pub given : (k : ℕ) → k < n → givenIn words k ≤ 1023
 
+-- such a site, and such a given site
+pub record InRange (s g : ℕ) : Type 0 where
+  pub site : s ≤ 9999
+  pub given : g ≤ 1023
+
+-- a sum of displacements that is not large, and the number of its cells
+pub record SumOver (s : ℤ) (n : ℕ) : Type 0 where
+  pub small : natAbs s ≤ 1000000
+  pub few : n ≤ 64
+
 -- the size of a sum of displacements, and the number of cells, not 0, that its average is taken over
 pub record Average (d n : ℕ) : Type 0 where
   pub small : d ≤ 1000000
@@ -32,6 +44,15 @@ pub record Average (d n : ℕ) : Type 0 where
 -- a sum over n cells, in hundredths of a site
 abbrev pub driftOf : ℤ → ℕ → ℤ
 driftOf s n = cond (eqb n 0) (pos 0) (hundredths s n)
+
+-- r is the sum of the displacements of n cells, and not large
+pub record Displaced (words : List ℕ) (n : ℕ) (r : ℤ) : Type 0 where
+  pub total : r ≡ totalIn words 0 n
+  pub small : natAbs r ≤ 1000000
+
+-- a size in hundredths is not large
+pub hundredths-small : {d n : ℕ} → Average d n → nearest (100 * d) n < 2 ^ 31
+hundredths-small {d} {n} a = omega (arith, a .small, a .few, div-le-self (2 * (100 * d) + n) (2 * n))
 
 -- one more cell, and none
 pub total-more : (words : List ℕ) (i k n m : ℕ) → k ≡ suc i → n ≡ suc m

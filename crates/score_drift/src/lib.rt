@@ -1,11 +1,11 @@
 // Drift: the signed sum of displacements, divided by the number of cells and rounded, with halves away from zero on
 // both sides.
 ghost use mathlib.Core.Path.{_≡_};
-ghost use Prim.Native.Nat.{_+_, _*_, _<_, _≤_, _^_};
+ghost use Prim.Native.Nat.{_+_, _*_, _<_, _^_};
 ghost use lib.IntN.{ℤ, pos, negℤ, natAbs, _+ℤ_, _-ℤ_};
 ghost use lib.Signed.{ltZ};
 ghost use Rattle.definition.specs.Cost.{nearest};
-ghost use Rattle.score_drift.specs.Total.{totalIn, Digits, Average, driftOf};
+ghost use Rattle.score_drift.specs.Total.{Digits, InRange, SumOver, Average, Displaced, driftOf};
 
 // d as a signed number.
 fn positive(d: u32) -> i32
@@ -50,7 +50,7 @@ fn plus(a: i32, b: i32) -> i32
 
 // How far a cell was moved to the right; negative if to the left.
 fn displacement(site: u32, given: u32) -> i32
-    requires { ⌜ (site ≤ 9999) × (given ≤ 1023) ⌝ }
+    requires { ⌜ InRange site given ⌝ }
     ensures { λ r. ⌜ r ≡ pos site -ℤ pos given ⌝ }
 {
     plus(positive(site), negative(given))
@@ -59,7 +59,7 @@ fn displacement(site: u32, given: u32) -> i32
 // The signed sum of the displacements of all cells.
 pub fn total_shift(words: &[u32], count: usize) -> i32
     requires { ⌜ Digits (now words) count ⌝ }
-    ensures { λ r. ⌜ (r ≡ totalIn (now (words .entry)) 0 count) × (natAbs r ≤ 1000000) ⌝ }
+    ensures { λ r. ⌜ Displaced (now (words .entry)) count r ⌝ }
 {
     let mut total: i32 = 0;
     let mut k: usize = count;
@@ -73,7 +73,7 @@ pub fn total_shift(words: &[u32], count: usize) -> i32
 // d over n in hundredths, a half going up.
 fn hundredths_of(d: u32, n: u32) -> u32
     requires { ⌜ Average d n ⌝ }
-    ensures { λ r. ⌜ (r ≡ nearest (100 * d) n) × (r < 2 ^ 31) ⌝ }
+    ensures { λ r. ⌜ r ≡ nearest (100 * d) n ⌝ }
 {
     (2 * (100 * d) + n) / (2 * n)
 }
@@ -81,7 +81,7 @@ fn hundredths_of(d: u32, n: u32) -> u32
 // A signed sum over n cells, in hundredths of a site: rounded by its size, so that halves go away from zero on both
 // sides.
 pub fn drift_from(s: i32, n: u32) -> i32
-    requires { ⌜ (natAbs s ≤ 1000000) × (n ≤ 64) ⌝ }
+    requires { ⌜ SumOver s n ⌝ }
     ensures { λ r. ⌜ r ≡ driftOf s n ⌝ }
 {
     if n == 0 {

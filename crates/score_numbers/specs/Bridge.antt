@@ -1,5 +1,5 @@
 -- The program's sums are the definition's numbers; what they are taken of.
-use Prim.Native.Nat.{ℕ, _+_, _*_, _≤_}
+use Prim.Native.Nat.{ℕ, zero, suc, _+_, _*_, _≤_}
 use mathlib.Core.Path.{_≡_, sym, ap, ap₂, fun-ext}
 use mathlib.Core.List.{List}
 use native.Mathlib.Omega.{arith}
@@ -17,7 +17,7 @@ use Rattle.score_words.specs.Ready.{Ready}
 use Rattle.score_words.specs.Flat.{Flat}
 use Rattle.job.specs.Cells.{pose-there}
 use Rattle.score_drift.specs.Total.{Digits}
-use Rattle.score_numbers.specs.Sums.{sumFrom, countFrom, shiftIn, isChanged}
+use Rattle.score_numbers.specs.Sums.{sumFrom, countFrom, shiftIn, isChanged, weighed}
 
 -- ---- what is given
 
@@ -25,6 +25,11 @@ use Rattle.score_numbers.specs.Sums.{sumFrom, countFrom, shiftIn, isChan
 pub record InWords (job : Job) (P : Placement) (words : List ℕ) : Type 0 where
   pub ready : Ready job P
   pub flat : Flat (jobOf job) (placementOf P) (job .count) words
+
+-- these, and a row
+pub record RowInWords (job : Job) (P : Placement) (words : List ℕ) (r : ℕ) : Type 0 where
+  pub placed : InWords job P words
+  pub row : r ≤ 1
 
 -- the weights of a header are in range
 pub record Weights (h : Header) : Type 0 where
@@ -55,6 +60,28 @@ flat-digits {P = P} w =
       given = λ k h.
           omega (arith, f .shows k .given, r .accepted .sound .cell k (omega (arith, f .count)) .given);
     }
+
+-- so the sites shifted are not many, and the cost is not large
+pub shifted-small : (words : List ℕ) (n : ℕ) → Digits words n → sumFrom (shiftIn words) 0 n ≤ 800000
+unfolding sumFrom shiftIn
+shifted-small words n d = omega (arith, go 0 n (omega arith), d .cells .few)
+  where
+    go : (k m : ℕ) → k + m ≤ n → sum (shiftIn words) (from k m) ≤ 12000 * m
+    go k zero h = omega arith
+    go k (suc m) h =
+        omega (arith, d .site k (omega arith), d .given k (omega arith), go (suc k) m (omega arith))
+
+pub cost-small : (h : Header) (a b c d : ℕ) → Weighable h a b c d
+    → h .step * a + h .shift * b + h .mirror * c + h .swap * d ≤ 1000000000
+cost-small h a b c d n =
+    let w = n .weights in
+    omega (
+      arith,
+      weighed (h .step) a 252 (w .step) (n .steps),
+      weighed (h .shift) b 800000 (w .shift) (n .shifted),
+      weighed (h .mirror) c 64 (w .mirror) (n .mirrored),
+      weighed (h .swap) d 64 (w .swap) (n .changed),
+    )
 
 pub steps-sum : (j : paper.Job) (P : text.Placement) (a b : ℕ) → a ≡ stepsIn j P 0 → b ≡ stepsIn j P 1
     → a + b ≡ steps j P

@@ -1,12 +1,14 @@
 -- The numbers of a placement as the program has them, and that they are the definition's.
-use Prim.Native.Nat.{_<_, _^_}
+use Prim.Native.Nat.{_+_, _≤_, _<_, _^_}
 use mathlib.Core.Path.{_≡_}
 use mathlib.Core.List.{List, [], _∷_}
 use lib.IntN.{ℤ, pos}
 use Rattle.definition.specs.Job as paper
 use Rattle.definition.specs.Placement as text
 use Rattle.definition.specs.Cost as definition
-use Rattle.definition.specs.Outcome.{numbers}
+use Rattle.definition.specs.Outcome.{numberCount, numbers}
+use Rattle.results.specs.declared.Fields.{Fields}
+use Rattle.results.specs.Fields.{maxFields}
 use Rattle.score_numbers.specs.declared.Numbers.{Numbers}
 
 -- each is a signed number of 32 bits
@@ -17,6 +19,12 @@ pub record Small (r : Numbers) : Type 0 where
   pub changed : r .changed < 2 ^ 31
   pub cost : r .cost < 2 ^ 31
 
+-- such numbers, and fields with room for them
+pub record Pushable (f : Fields) (n : Numbers) : Type 0 where
+  pub room : f .count + numberCount ≤ maxFields
+  pub small : Small n
+
+-- the numbers are the definition's
 pub record Counted (j : paper.Job) (P : text.Placement) (r : Numbers) : Type 0 where
   pub steps : r .steps ≡ definition.steps j P
   pub shifted : r .shifted ≡ definition.shifted j P

@@ -1,9 +1,10 @@
 -- Sums and counts over the cells from k on, and their laws for a loop that goes down.
-use Prim.Native.Nat.{ℕ, suc, _+_, _*_, _-_, _≤_}
+use Prim.Native.Nat.{ℕ, zero, suc, _+_, _*_, _-_, _≤_}
 use mathlib.Core.Path.{_≡_}
-use mathlib.Core.Bool.{Bool, true, false}
-use mathlib.Core.List.{List}
+use mathlib.Core.Bool.{Bool, true, false, cond}
+use mathlib.Core.List.{List, _∷_}
 use lib.ListN.{length}
+use native.Mathlib.Omega.{arith}
 use native.Mathlib.Nat.{mul-le-mul}
 use Rattle.definition.specs.Lists.{from, keep, sum}
 use lib.Dec.{eqb}
@@ -46,6 +47,16 @@ sum-none f k n e = rw e
 pub count-none : (f : ℕ → Bool) (k n : ℕ) → n ≡ 0 → countFrom f k n ≡ 0
 unfolding countFrom
 count-none f k n e = rw e
+
+pub count-most : (f : ℕ → Bool) (k n : ℕ) → countFrom f k n ≤ n
+unfolding countFrom
+count-most f k zero = omega arith
+count-most f k (suc n) = go (f k) (count-most f (suc k) n)
+  where
+    go : (t : Bool) → length (keep f (from (suc k) n)) ≤ n
+        → length (cond t (k ∷ keep f (from (suc k) n)) (keep f (from (suc k) n))) ≤ suc n
+    go true h = omega arith
+    go false h = omega arith
 
 -- a product of a weight and a bounded number
 pub weighed : (w x n : ℕ) → w ≤ 1000 → x ≤ n → w * x ≤ 1000 * n

@@ -1,18 +1,17 @@
 // The numbers of a placement: steps, sites shifted, mirrored, changed, cost and drift.
 ghost use mathlib.Core.Path.{_≡_};
-ghost use Prim.Native.Nat.{_+_, _*_, _≤_, _<_};
-ghost use lib.ListN.{length};
+ghost use Prim.Native.Nat.{_+_, _*_, _≤_};
 ghost use Rattle.definition.specs.Rules.{apart};
 ghost use Rattle.definition.specs.Cost.{stepsIn, isMirrored};
-ghost use Rattle.definition.specs.Outcome.{numberCount};
-ghost use Rattle.results.specs.Fields.{maxFields, More};
+ghost use Rattle.results.specs.Fields.{More};
 ghost use Rattle.job.specs.Value.{jobOf, placementOf};
-ghost use Rattle.score_order.specs.Words.{siteIn, givenIn};
+ghost use Rattle.score_order.specs.Words.{siteIn, givenIn, WordsAt};
 ghost use Rattle.score_words.specs.Ready.{Ready};
+ghost use Rattle.score_steps.specs.Heights.{RowSteps};
 ghost use Rattle.score_drift.specs.Total.{Digits};
 ghost use Rattle.score_numbers.specs.Sums.{sumFrom, countFrom, shiftIn, isChanged};
-ghost use Rattle.score_numbers.specs.Counted.{noNumbers, numbersIn, Small, Counted};
-ghost use Rattle.score_numbers.specs.Bridge.{InWords, Weighable};
+ghost use Rattle.score_numbers.specs.Counted.{noNumbers, numbersIn, Pushable, Counted};
+ghost use Rattle.score_numbers.specs.Bridge.{InWords, RowInWords, Weighable};
 use job::Header;
 use job::Job;
 use job::Placement;
@@ -53,7 +52,7 @@ impl Numbers {
 
 // The numbers as fields after others, in the order of document 01.
 pub fn push_numbers(fields: Fields, n: Numbers) -> Fields
-    requires { ⌜ (fields .count + numberCount ≤ maxFields) × Small n ⌝ }
+    requires { ⌜ Pushable fields n ⌝ }
     ensures { λ r. ⌜ More fields (numbersIn n) r ⌝ }
 {
     let fields = fields.push(n.steps as i32);
@@ -66,9 +65,8 @@ pub fn push_numbers(fields: Fields, n: Numbers) -> Fields
 
 // Sites shifted, of one cell: once, in whichever rows it stands.
 fn shift_of(words: &[u32], k: usize) -> u32
-    requires { ⌜ (length (now words) ≡ 256) × (k < 64) ⌝ }
-    ensures { λ r. ⌜ (r ≡ apart (siteIn (now (words .entry)) k) (givenIn (now (words .entry)) k))
-        × (r ≤ siteIn (now (words .entry)) k + givenIn (now (words .entry)) k) ⌝ }
+    requires { ⌜ WordsAt (now words) k ⌝ }
+    ensures { λ r. ⌜ r ≡ apart (siteIn (now (words .entry)) k) (givenIn (now (words .entry)) k) ⌝ }
 {
     apart_of(words[4 * k], words[4 * k + 3])
 }
@@ -76,7 +74,7 @@ fn shift_of(words: &[u32], k: usize) -> u32
 // Sites shifted, over all cells.
 fn shifted_in(words: &[u32], count: usize) -> u32
     requires { ⌜ Digits (now words) count ⌝ }
-    ensures { λ r. ⌜ (r ≡ sumFrom (shiftIn (now (words .entry))) 0 count) × (r ≤ 800000) ⌝ }
+    ensures { λ r. ⌜ r ≡ sumFrom (shiftIn (now (words .entry))) 0 count ⌝ }
 {
     let mut total: u32 = 0;
     let mut k: usize = count;
@@ -90,7 +88,7 @@ fn shifted_in(words: &[u32], count: usize) -> u32
 // Cells whose mark is 1.
 fn mirrored_in(placement: Placement) -> u32
     requires { ⌜ placement .count ≤ 64 ⌝ }
-    ensures { λ r. ⌜ (r ≡ countFrom (isMirrored (placementOf placement)) 0 (placement .count)) × (r ≤ 64) ⌝ }
+    ensures { λ r. ⌜ r ≡ countFrom (isMirrored (placementOf placement)) 0 (placement .count) ⌝ }
 {
     let mut total: u32 = 0;
     let mut k: usize = placement.count;
@@ -107,7 +105,7 @@ fn mirrored_in(placement: Placement) -> u32
 // Cells in layout 1.
 fn changed_in(placement: Placement) -> u32
     requires { ⌜ placement .count ≤ 64 ⌝ }
-    ensures { λ r. ⌜ (r ≡ countFrom (isChanged (placementOf placement)) 0 (placement .count)) × (r ≤ 64) ⌝ }
+    ensures { λ r. ⌜ r ≡ countFrom (isChanged (placementOf placement)) 0 (placement .count) ⌝ }
 {
     let mut total: u32 = 0;
     let mut k: usize = placement.count;
@@ -123,8 +121,8 @@ fn changed_in(placement: Placement) -> u32
 
 // The steps of one row.
 fn steps_row(job: Job, placement: Placement, words: &[u32], row: u32) -> u32
-    requires { ⌜ InWords job placement (now words) × (row ≤ 1) ⌝ }
-    ensures { λ r. ⌜ (r ≡ stepsIn (jobOf job) (placementOf placement) row) × (r ≤ 126) ⌝ }
+    requires { ⌜ RowInWords job placement (now words) row ⌝ }
+    ensures { λ r. ⌜ RowSteps (stepsIn (jobOf job) (placementOf placement) row) r ⌝ }
 {
     let mut order = [0u32; 64];
     let at = order_row(words, job.count, row, &mut order);
@@ -134,9 +132,8 @@ fn steps_row(job: Job, placement: Placement, words: &[u32], row: u32) -> u32
 // Each number times its weight.
 fn weighed_sum(header: Header, steps: u32, shifted: u32, mirrored: u32, changed: u32) -> u32
     requires { ⌜ Weighable header steps shifted mirrored changed ⌝ }
-    ensures { λ r. ⌜ (r ≡ header .step * steps + header .shift * shifted
-        + header .mirror * mirrored + header .swap * changed)
-        × (r ≤ 1000000000) ⌝ }
+    ensures { λ r. ⌜ r ≡ header .step * steps + header .shift * shifted
+        + header .mirror * mirrored + header .swap * changed ⌝ }
 {
     header.step * steps + header.shift * shifted + header.mirror * mirrored + header.swap * changed
 }

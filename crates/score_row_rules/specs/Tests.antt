@@ -1,6 +1,6 @@
 -- The rules that are judged along a row, 5, 6 and 8, on the words of a placed job. They are the definition's: see
 -- Flat in score_verdict.
-use Prim.Native.Nat.{ℕ, _-_, _≤_}
+use Prim.Native.Nat.{ℕ, _-_, _≤_, _<_}
 use mathlib.Core.Path.{_≡_}
 use mathlib.Core.Bool.{Bool, not, _&&_, _||_}
 use mathlib.Core.List.{List}
@@ -51,19 +51,27 @@ oneCell a breaks k = eqb k a && breaks
 
 -- ---- what the functions presume
 
--- a list of cells from `at` on
-pub record Along (words order : List ℕ) (at : ℕ) : Type 0 where
+-- a list of cells from `at` on, and the marks
+pub record Along (words order : List ℕ) (at : ℕ) (m : List ℕ) : Type 0 where
   pub long : length words ≡ 256
   pub room : Room order
   pub start : at ≤ 64
+  pub marks : length m ≡ 64
 
--- the order of a row
-pub record RowOrder (words : List ℕ) (n row : ℕ) (order : List ℕ) (start : ℕ) : Type 0 where
+-- the order of a row, and the marks
+pub record RowOrder (words : List ℕ) (n row : ℕ) (order : List ℕ) (start : ℕ) (m : List ℕ) : Type 0 where
   pub cells : Words words n
   pub tail : Tail start order (orderIn words row n)
+  pub marks : length m ≡ 64
 
--- two places for each cell
-pub record Ranked (words : List ℕ) (n : ℕ) (place rank : List ℕ) : Type 0 where
+-- two places for each cell, and the marks
+pub record Ranked (words : List ℕ) (n : ℕ) (place rank m : List ℕ) : Type 0 where
   pub cells : Words words n
   pub places : length place ≡ 64
   pub ranks : length rank ≡ 64
+  pub marks : length m ≡ 64
+
+-- a cell, and the marks
+pub record Markable (k : ℕ) (m : List ℕ) : Type 0 where
+  pub cell : k < 64
+  pub marks : length m ≡ 64

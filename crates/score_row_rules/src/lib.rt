@@ -1,12 +1,12 @@
 // Rules 5, 6 and 8, which are judged along a row: the cells that break them are marked, row after row.
 ghost use mathlib.Core.Path.{_≡_};
-ghost use Prim.Native.Nat.{_<_};
-ghost use lib.ListN.{length, drop};
-ghost use Rattle.score_order.specs.Words.{Ordered, cellsIn, orderIn};
+ghost use lib.ListN.{drop};
+ghost use Rattle.score_order.specs.Words.{cellsIn, orderIn, WordsAt};
+ghost use Rattle.score_cell_rules.specs.Tests.{ByOrder};
 ghost use Rattle.score_cell_rules.specs.Marks.{Added};
 ghost use Rattle.score_row_rules.specs.Tests.{nearIn, nearAny, outBy, outAt, outIn, outAny};
 ghost use Rattle.score_row_rules.specs.Tests.{oneCell, atEndIn, atEndAny};
-ghost use Rattle.score_row_rules.specs.Tests.{Along, RowOrder, Ranked};
+ghost use Rattle.score_row_rules.specs.Tests.{Along, RowOrder, Ranked, Markable};
 use job::stands;
 use score_order::entry;
 use score_order::places;
@@ -17,7 +17,7 @@ use score_words::gap_between;
 // Neighbours with one empty site between them; the row's cells from left to right are the entries of `order` from
 // `at` on.
 fn mark_row_gaps(words: &[u32], order: &[u32], at: usize, marks: &mut [u32])
-    requires { ⌜ Along (now words) (now order) at × (length (now marks) ≡ 64) ⌝ }
+    requires { ⌜ Along (now words) (now order) at (now marks) ⌝ }
     ensures { λ r. ⌜ Added 64 (nearIn (now (words .entry)) (drop at (now (order .entry))))
         (now (marks .entry)) (now (marks .exit)) ⌝ }
 {
@@ -43,7 +43,7 @@ pub fn mark_gaps(
     start1: usize,
     marks: &mut [u32],
 )
-    requires { ⌜ Ordered (now words) count (now order0) start0 (now order1) start1 × (length (now marks) ≡ 64) ⌝ }
+    requires { ⌜ ByOrder (now words) count (now order0) start0 (now order1) start1 (now marks) ⌝ }
     ensures { λ r. ⌜ Added count (nearAny (now (words .entry)) count) (now (marks .entry)) (now (marks .exit)) ⌝ }
 {
     mark_row_gaps(words, order0, start0, marks);
@@ -52,7 +52,7 @@ pub fn mark_gaps(
 
 // A cell of the row is too far from its place in file order.
 fn is_out(words: &[u32], row: u32, limit: u32, k: usize, place: u32, rank: u32) -> bool
-    requires { ⌜ (length (now words) ≡ 256) × (k < 64) ⌝ }
+    requires { ⌜ WordsAt (now words) k ⌝ }
     ensures { λ r. ⌜ r ≡ outBy (now (words .entry)) row limit k place rank ⌝ }
 {
     stands(words[4 * k + 2], row) & (limit < apart_of(place, rank))
@@ -67,7 +67,7 @@ fn mark_out(
     rank: &[u32],
     marks: &mut [u32],
 )
-    requires { ⌜ Ranked (now words) count (now place) (now rank) × (length (now marks) ≡ 64) ⌝ }
+    requires { ⌜ Ranked (now words) count (now place) (now rank) (now marks) ⌝ }
     ensures { λ r. ⌜ Added count (outAt (now (words .entry)) row limit (now (place .entry)) (now (rank .entry)))
         (now (marks .entry)) (now (marks .exit)) ⌝ }
 {
@@ -90,7 +90,7 @@ fn mark_row_places(
     start: usize,
     marks: &mut [u32],
 )
-    requires { ⌜ RowOrder (now words) count row (now order) start × (length (now marks) ≡ 64) ⌝ }
+    requires { ⌜ RowOrder (now words) count row (now order) start (now marks) ⌝ }
     ensures { λ r. ⌜ Added count
         (outIn (now (words .entry)) row limit
         (orderIn (now (words .entry)) row count) (cellsIn (now (words .entry)) row 0 count))
@@ -116,7 +116,7 @@ pub fn mark_places(
     start1: usize,
     marks: &mut [u32],
 )
-    requires { ⌜ Ordered (now words) count (now order0) start0 (now order1) start1 × (length (now marks) ≡ 64) ⌝ }
+    requires { ⌜ ByOrder (now words) count (now order0) start0 (now order1) start1 (now marks) ⌝ }
     ensures { λ r. ⌜ Added count (outAny (now (words .entry)) count limit) (now (marks .entry)) (now (marks .exit)) ⌝ }
 {
     mark_row_places(words, count, 0, limit, order0, start0, marks);
@@ -125,7 +125,7 @@ pub fn mark_places(
 
 // Cell k is marked if it breaks a rule.
 fn mark_if(breaks: bool, k: usize, marks: &mut [u32])
-    requires { ⌜ (k < 64) × (length (now marks) ≡ 64) ⌝ }
+    requires { ⌜ Markable k (now marks) ⌝ }
     ensures { λ r. ⌜ Added 64 (oneCell k breaks) (now (marks .entry)) (now (marks .exit)) ⌝ }
 {
     if breaks {
@@ -136,7 +136,7 @@ fn mark_if(breaks: bool, k: usize, marks: &mut [u32])
 // The first cell with one empty site before it, and the last with one after it; the row's cells from left to right
 // are the entries of `order` from `at` on. An empty row is free.
 fn mark_row_ends(words: &[u32], order: &[u32], at: usize, sites: u32, marks: &mut [u32])
-    requires { ⌜ Along (now words) (now order) at × (length (now marks) ≡ 64) ⌝ }
+    requires { ⌜ Along (now words) (now order) at (now marks) ⌝ }
     ensures { λ r. ⌜ Added 64 (atEndIn (now (words .entry)) sites (drop at (now (order .entry))))
         (now (marks .entry)) (now (marks .exit)) ⌝ }
 {
@@ -160,7 +160,7 @@ pub fn mark_ends(
     start1: usize,
     marks: &mut [u32],
 )
-    requires { ⌜ Ordered (now words) count (now order0) start0 (now order1) start1 × (length (now marks) ≡ 64) ⌝ }
+    requires { ⌜ ByOrder (now words) count (now order0) start0 (now order1) start1 (now marks) ⌝ }
     ensures { λ r. ⌜ Added count (atEndAny (now (words .entry)) count sites)
         (now (marks .entry)) (now (marks .exit)) ⌝ }
 {

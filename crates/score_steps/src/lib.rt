@@ -1,12 +1,12 @@
 // Steps: the charge of a gap, the differing heights of neighbours, and their sum over a row.
 ghost use mathlib.Core.Path.{_≡_};
-ghost use Prim.Native.Nat.{_+_, _*_, _-_, _≤_};
+ghost use Prim.Native.Nat.{_*_, _-_, _≤_};
 ghost use lib.ListN.{drop};
 ghost use Rattle.definition.specs.Lists.{sumNext};
 ghost use Rattle.definition.specs.Cost.{charge, stepsAt};
-ghost use Rattle.job.specs.Value.{cellOf, poseOf, jobOf, placementOf, heightCount};
+ghost use Rattle.job.specs.Value.{cellOf, poseOf, jobOf, placementOf};
 ghost use Rattle.score_order.specs.Words.{siteIn, endIn};
-ghost use Rattle.score_steps.specs.Heights.{leftOf, rightOf, unlike, differingOf};
+ghost use Rattle.score_steps.specs.Heights.{leftOf, rightOf, unlike, differingOf, EdgeAt, PairSteps, RowSteps};
 ghost use Rattle.score_steps.specs.Steps.{Facing, PlacedRow};
 use gap_charge::charge_of;
 use job::Cell;
@@ -20,7 +20,7 @@ use score_words::gap_between;
 
 // What a step costs at a gap.
 pub fn charge_at(gap: u32) -> u32
-    ensures { λ r. ⌜ (r ≡ charge gap) × (r ≤ 1) ⌝ }
+    ensures { λ r. ⌜ r ≡ charge gap ⌝ }
 {
     charge_of(gap as usize)
 }
@@ -28,7 +28,7 @@ pub fn charge_at(gap: u32) -> u32
 // The two heights at the left edge, and at the right edge: a mirrored cell has them exchanged.
 fn left_of(of: u32, mark: u32, row: u32) -> usize
     requires { ⌜ row ≤ 1 ⌝ }
-    ensures { λ r. ⌜ (r ≡ leftOf of mark row) × (r + 2 ≤ heightCount of) ⌝ }
+    ensures { λ r. ⌜ EdgeAt (leftOf of mark row) of r ⌝ }
 {
     if mark == 1 {
         return first_of(of, row) + 2;
@@ -38,7 +38,7 @@ fn left_of(of: u32, mark: u32, row: u32) -> usize
 
 fn right_of(of: u32, mark: u32, row: u32) -> usize
     requires { ⌜ row ≤ 1 ⌝ }
-    ensures { λ r. ⌜ (r ≡ rightOf of mark row) × (r + 2 ≤ heightCount of) ⌝ }
+    ensures { λ r. ⌜ EdgeAt (rightOf of mark row) of r ⌝ }
 {
     if mark == 1 {
         return first_of(of, row);
@@ -47,7 +47,7 @@ fn right_of(of: u32, mark: u32, row: u32) -> usize
 }
 
 fn unlike_heights(x: u32, y: u32) -> u32
-    ensures { λ r. ⌜ (r ≡ unlike x y) × (r ≤ 1) ⌝ }
+    ensures { λ r. ⌜ r ≡ unlike x y ⌝ }
 {
     if x == y {
         return 0;
@@ -58,7 +58,7 @@ fn unlike_heights(x: u32, y: u32) -> u32
 // The differing heights of a cell and its right neighbour.
 fn differing_heights(a: Cell, p: Pose, b: Cell, q: Pose, row: u32) -> u32
     requires { ⌜ row ≤ 1 ⌝ }
-    ensures { λ r. ⌜ (r ≡ differingOf (cellOf a) (poseOf p) (cellOf b) (poseOf q) row) × (r ≤ 2) ⌝ }
+    ensures { λ r. ⌜ PairSteps (differingOf (cellOf a) (poseOf p) (cellOf b) (poseOf q) row) r ⌝ }
 {
     let x = right_of(a.row, p.mark, row);
     let y = left_of(b.row, q.mark, row);
@@ -79,9 +79,8 @@ fn steps_of(
     row: u32,
 ) -> u32
     requires { ⌜ Facing (now words) a b row ⌝ }
-    ensures { λ r. ⌜ (r ≡ charge (siteIn (now (words .entry)) b - endIn (now (words .entry)) a)
-        * differingOf (cellOf left) (poseOf p) (cellOf right) (poseOf q) row)
-        × (r ≤ 2) ⌝ }
+    ensures { λ r. ⌜ PairSteps (charge (siteIn (now (words .entry)) b - endIn (now (words .entry)) a)
+        * differingOf (cellOf left) (poseOf p) (cellOf right) (poseOf q) row) r ⌝ }
 {
     let gap = gap_between(words[4 * a + 1], words[4 * b]);
     charge_at(gap) * differing_heights(left, p, right, q, row)
@@ -97,8 +96,8 @@ pub fn steps_in(
     row: u32,
 ) -> u32
     requires { ⌜ PlacedRow job placement (now words) (now order) at row ⌝ }
-    ensures { λ r. ⌜ (r ≡ sumNext (stepsAt (jobOf job) (placementOf placement) row) (drop at (now (order .entry))))
-        × (r ≤ 126) ⌝ }
+    ensures { λ r. ⌜ RowSteps (sumNext (stepsAt (jobOf job) (placementOf placement) row)
+        (drop at (now (order .entry)))) r ⌝ }
 {
     let mut total: u32 = 0;
     let mut i: usize = 63;

@@ -9,10 +9,13 @@ use lib.ListN.{length}
 use Rattle.definition.specs.Job as paper
 use Rattle.definition.specs.Placement as text
 use Rattle.definition.specs.Rules.{breaks1, breaks3, rules, ruleOf}
+use Rattle.job.specs.declared.Job.{Job}
+use Rattle.job.specs.declared.Placement.{Placement}
 use Rattle.score_order.specs.Words.{Ordered}
+use Rattle.score_words.specs.Ready.{Ready}
 use Rattle.score_words.specs.Flat.{Flat}
 use Rattle.score_cell_rules.specs.Tests.{pastIn, clashesIn, passesIn}
-use Rattle.score_cell_rules.specs.Marks.{markedIn, Added, added-none, added-below}
+use Rattle.score_cell_rules.specs.Marks.{markedIn, Added, Unmarked, added-none, added-below}
 use Rattle.score_row_rules.specs.Tests.{nearAny, outAny, atEndAny}
 use Rattle.score_verdict.specs.declared.Verdict.{Verdict}
 use Rattle.score_verdict.specs.declared.Limits.{Limits}
@@ -21,10 +24,21 @@ use Rattle.score_verdict.specs.Judged.{Told}
 use Rattle.score_verdict.specs.Flat.{flat2, flat4, flat5, flat6, flat7, flat8}
 
 -- the sizes of the arrays, and the orders
-pub record Laid (limits : Limits) (unoffered far words order₀ order₁ : List ℕ) : Type 0 where
+pub record Laid (limits : Limits) (unoffered far words order₀ order₁ m : List ℕ) : Type 0 where
   pub offers : length unoffered ≡ 64
   pub shifts : length far ≡ 64
   pub ordered : Ordered words (limits .cells) order₀ (limits .start0) order₁ (limits .start1)
+  pub marks : length m ≡ 64
+
+-- the same, and no cell is marked yet
+pub record LaidClear (limits : Limits) (unoffered far words order₀ order₁ m : List ℕ) : Type 0 where
+  pub laid : Laid limits unoffered far words order₀ order₁ m
+  pub clear : Unmarked (limits .cells) m
+
+-- a job and a placement that may be scored, and no cell is marked yet
+pub record ReadyClear (job : Job) (P : Placement) (m : List ℕ) : Type 0 where
+  pub ready : Ready job P
+  pub clear : Unmarked (job .count) m
 
 -- it is that of a job and a placement
 pub record Board (j : paper.Job) (P : text.Placement) (limits : Limits) (unoffered far words : List ℕ) : Type 0 where

@@ -1,12 +1,9 @@
 // The verdict on a placement: the first broken rule and its lowest cell. Each rule marks the cells that break it.
-ghost use mathlib.Core.Path.{_≡_};
-ghost use lib.ListN.{length};
 ghost use Rattle.definition.specs.Rules.{verdict};
 ghost use Rattle.job.specs.Value.{jobOf, placementOf};
 ghost use Rattle.score_words.specs.Ready.{Ready};
-ghost use Rattle.score_cell_rules.specs.Marks.{Unmarked};
 ghost use Rattle.score_verdict.specs.Judged.{Judged, Told};
-ghost use Rattle.score_verdict.specs.Board.{Laid, RuleMarked, RulesJudged};
+ghost use Rattle.score_verdict.specs.Board.{Laid, LaidClear, ReadyClear, RuleMarked, RulesJudged};
 use job::Job;
 use job::Placement;
 use score_cell_rules::lowest_marked;
@@ -50,8 +47,7 @@ fn mark_rule(
     order1: &[u32],
     marks: &mut [u32],
 )
-    requires { ⌜ Laid limits (now unoffered) (now far) (now words) (now order0) (now order1)
-        × (length (now marks) ≡ 64) ⌝ }
+    requires { ⌜ Laid limits (now unoffered) (now far) (now words) (now order0) (now order1) (now marks) ⌝ }
     ensures { λ r. ⌜ RuleMarked limits (now (unoffered .entry)) (now (far .entry)) (now (words .entry)) rule
         (now (marks .entry)) (now (marks .exit)) ⌝ }
 {
@@ -83,8 +79,7 @@ fn judge_rules(
     order1: &[u32],
     marks: &mut [u32],
 ) -> Verdict
-    requires { ⌜ Laid limits (now unoffered) (now far) (now words) (now order0) (now order1)
-        × Unmarked (limits .cells) (now marks) ⌝ }
+    requires { ⌜ LaidClear limits (now unoffered) (now far) (now words) (now order0) (now order1) (now marks) ⌝ }
     ensures { λ r. ⌜ RulesJudged limits (now (unoffered .entry)) (now (far .entry)) (now (words .entry)) r
         (now (marks .exit)) ⌝ }
 {
@@ -102,7 +97,7 @@ fn judge_rules(
 
 // The cells that break the first broken rule are left marked.
 pub fn judge(job: Job, placement: Placement, marks: &mut [u32]) -> Verdict
-    requires { ⌜ Ready job placement × Unmarked (job .count) (now marks) ⌝ }
+    requires { ⌜ ReadyClear job placement (now marks) ⌝ }
     ensures { λ r. ⌜ Told (jobOf job) (placementOf placement) (job .count) r (now (marks .exit)) ⌝ }
 {
     let mut words = [0u32; 256];

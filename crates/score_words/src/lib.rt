@@ -1,18 +1,18 @@
 // A job and a placement laid out flat: for each cell four words, its site, its end, its row and its given site.
 ghost use mathlib.Core.Path.{_≡_};
-ghost use Prim.Native.Nat.{_+_, _-_, _≤_, _<_};
-ghost use lib.ListN.{length};
+ghost use Prim.Native.Nat.{_-_};
 ghost use Rattle.definition.specs.Rules.{apart};
 ghost use Rattle.job.specs.Value.{jobOf, placementOf};
-ghost use Rattle.score_words.specs.Ready.{Ready};
-ghost use Rattle.score_words.specs.Flat.{four, Flat, Blank};
+ghost use Rattle.score_order.specs.Words.{WordsAt};
+ghost use Rattle.score_words.specs.Ready.{ToFlatten};
+ghost use Rattle.score_words.specs.Flat.{four, Flat};
 use job::Job;
 use job::Placement;
 use job::width_of;
 
 // How far apart two numbers are.
 pub fn apart_of(a: u32, b: u32) -> u32
-    ensures { λ r. ⌜ (r ≡ apart a b) × (r ≤ a + b) ⌝ }
+    ensures { λ r. ⌜ r ≡ apart a b ⌝ }
 {
     if a <= b {
         return b - a;
@@ -31,7 +31,7 @@ pub fn gap_between(end: u32, site: u32) -> u32
 }
 
 fn put_four(words: &mut [u32], k: usize, site: u32, end: u32, row: u32, given: u32)
-    requires { ⌜ (length (now words) ≡ 256) × (k < 64) ⌝ }
+    requires { ⌜ WordsAt (now words) k ⌝ }
     ensures { λ r. ⌜ now (words .exit) ≡ four (now (words .entry)) k site end row given ⌝ }
 {
     words[4 * k] = site;
@@ -42,7 +42,7 @@ fn put_four(words: &mut [u32], k: usize, site: u32, end: u32, row: u32, given: u
 
 // The words of all cells.
 pub fn flatten(job: Job, placement: Placement, words: &mut [u32])
-    requires { ⌜ Ready job placement × Blank (now words) ⌝ }
+    requires { ⌜ ToFlatten job placement (now words) ⌝ }
     ensures { λ r. ⌜ Flat (jobOf job) (placementOf placement) (job .count) (now (words .exit)) ⌝ }
 {
     let count = job.count;

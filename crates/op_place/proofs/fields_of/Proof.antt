@@ -19,7 +19,7 @@ empty-requires : tie.Need-empty-requires
 empty-requires c κs = search needs
 
 push-numbers-requires : tie.Need-push-numbers-requires
-push-numbers-requires c κs = (omega (arith, c .empty .ensures .count), c .before .numbers-of .ensures .small)
+push-numbers-requires c κs = record { room = omega (arith, c .empty .ensures .count); small = c .before .numbers-of .ensures .small }
 
 cast-push : tie.Need-cast-push
 cast-push c = search needs

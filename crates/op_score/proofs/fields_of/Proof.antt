@@ -74,10 +74,12 @@ zero-requires c κs = search needs
 
 push-numbers-requires : tie.Need-push-numbers-requires
 push-numbers-requires c κs =
-    let p = c .before .before in (
-      omega (arith, two p .count, p .before .before .before .empty .ensures .count),
-      rw (c .zero .ensures) (record { steps = omega arith; shifted = omega arith; mirrored = omega arith; changed = omega arith; cost = omega arith }),
-    )
+    let p = c .before .before in
+    record {
+      room = omega (arith, two p .count, p .before .before .before .empty .ensures .count);
+      small = rw (c .zero .ensures)
+          (record { steps = omega arith; shifted = omega arith; mirrored = omega arith; changed = omega arith; cost = omega arith });
+    }
 
 returns : tie.Need-returns
 unfolding verdict-at
@@ -106,7 +108,7 @@ numbers-of-requires c κs = search needs
 push-numbers-requires-2 : tie.Need-push-numbers-requires-2
 push-numbers-requires-2 c κs =
     let p = c .before .before in
-    (omega (arith, two p .count, p .before .before .before .empty .ensures .count), c .numbers-of .ensures .small)
+    record { room = omega (arith, two p .count, p .before .before .before .empty .ensures .count); small = c .numbers-of .ensures .small }
 
 returns-2 : tie.Need-returns-2
 unfolding verdict-at

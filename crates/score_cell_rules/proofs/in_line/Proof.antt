@@ -58,11 +58,13 @@ loop-less c = omega arith
 loop-again : tie.Need-loop-again Inv-loop μ-loop
 loop-again c =
     let g = c .before .before in
-    let e = g .before .before .entry .ensures .0 in
-    let p = g .before .before .before .before in (
+    let e = g .before .before .entry .ensures .same in
+    let p = g .before .before .before .before in
+    let w = p .before .before .before .args .words .now in
+    let far : endIn w (g .before .before .entry .result) ≤ c .farther .result = omega (arith, c .farther .ensures) in (
       omega arith,
-      clear-more (add-one (p .loop .i)) (p .loop .inv .1) (c .farther .result) (rw e at (g .if1 .left)) (c .farther .ensures .0)
-          (rw e at (c .farther .ensures .1)),
+      clear-more (add-one (p .loop .i)) (p .loop .inv .1) (c .farther .result) (rw e at (g .if1 .left)) (omega (arith, c .farther .ensures))
+          (rw e at far),
     )
 
 returns-2 : tie.Need-returns-2 Inv-loop μ-loop

@@ -17,7 +17,7 @@ abbrev μ-loop : tie.MeasureT-loop
 loop-holds : tie.Need-loop-holds Inv-loop μ-loop
 loop-holds c =
     let s = c .before .before in
-    marking-none (clashesIn (s .args .words .now) (s .args .count)) (s .args .count) (s .args .marks .now) (s .pre .0 .few) (s .pre .1)
+    marking-none (clashesIn (s .args .words .now) (s .args .count)) (s .args .count) (s .args .marks .now) (s .pre .cells .few) (s .pre .marks)
 
 sub-k : tie.Need-sub-k Inv-loop μ-loop
 sub-k c = omega arith

@@ -19,11 +19,11 @@ returns c =
     let mid = b .before .before .before .before in
     let s = mid .before .before in
     let a = s .args in
-    let o = s .pre .0 in
+    let o = s .pre .rows in
     let t = and-eq-true-iff (b .before .in-line .result) (b .in-line2 .result) .0 (c .if1 .taken) in
     let c₀ = row-clear (a .words .now) (a .order0 .now) 0 (a .count) (a .start0) (o .row0) (b .before .in-line .ensures (t .0)) in
     let c₁ = row-clear (a .words .now) (a .order1 .now) 1 (a .count) (a .start1) (o .row1) (b .in-line2 .ensures (t .1)) in
-    added-none (a .count) (clashesIn (a .words .now) (a .count)) (a .marks .now) (s .pre .1) (no-clashes (a .words .now) (a .count) c₀ c₁)
+    added-none (a .count) (clashesIn (a .words .now) (a .count)) (a .marks .now) (s .pre .marks) (no-clashes (a .words .now) (a .count) c₀ c₁)
 
 mark-clashes-requires : tie.Need-mark-clashes-requires
 mark-clashes-requires c κs = search needs

@@ -13,7 +13,7 @@ returns : tie.Need-returns
 returns c =
     let s = c .before .before .before .before in
     let w = s .args .words .now in
-    added-none (s .args .count) (passesIn w (s .args .count)) (s .args .marks .now) (s .pre .1)
+    added-none (s .args .count) (passesIn w (s .args .count)) (s .args .marks .now) (s .pre .marks)
     (none-passed w (s .args .count) (c .before .tall-rising .ensures (c .if1 .taken)))
 
 mark-passes-requires : tie.Need-mark-passes-requires

@@ -20,7 +20,7 @@ loop-holds : tie.Need-loop-holds Inv-loop μ-loop
 loop-holds c =
     let s = c .before .before in
     marking-none (unofferedIn (s .args .rule) (jobOf (s .args .t2)) (placementOf (s .args .t3))) (s .args .t2 .count)
-    (s .args .marks .now) (s .pre .0 .accepted .few) (s .pre .1)
+    (s .args .marks .now) (s .pre .ready .accepted .few) (s .pre .marks)
 
 sub-k : tie.Need-sub-k Inv-loop μ-loop
 sub-k c = omega arith
@@ -61,7 +61,7 @@ loop-again c =
     let k : ℕ = p .loop .k - 1 in
     let t =
     unoffered (s .args .rule) (s .args .t2) (s .args .t3) k (offerIn (o .offer-of .result)) (r .result) (omega arith)
-    (s .pre .0 .each) (o .offer-of .ensures) (r .ensures) ∙ c .if1 .taken in
+    (s .pre .ready .each) (o .offer-of .ensures) (r .ensures) ∙ c .if1 .taken in
     marking-hit k (omega arith) (p .loop .inv) t
 
 loop-less-2 : tie.Need-loop-less-2 Inv-loop μ-loop
@@ -76,7 +76,7 @@ loop-again-2 c =
     let k : ℕ = p .loop .k - 1 in
     let t =
     unoffered (s .args .rule) (s .args .t2) (s .args .t3) k (offerIn (o .offer-of .result)) (r .result) (omega arith)
-    (s .pre .0 .each) (o .offer-of .ensures) (r .ensures) ∙ c .if1 .left in
+    (s .pre .ready .each) (o .offer-of .ensures) (r .ensures) ∙ c .if1 .left in
     marking-miss k (omega arith) (p .loop .inv) t
 
 same-length : tie.Need-same-length Inv-loop μ-loop

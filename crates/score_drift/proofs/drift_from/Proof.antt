@@ -6,6 +6,7 @@ use native.Mathlib.Omega.{arith}
 use lib.IntN.{ℤ, pos, natAbs}
 use lib.Signed.{ltZ}
 use mir.Facts.{toZ-ofZ}
+use Rattle.score_drift.specs.Total.{Average, hundredths-small}
 use Rattle.score_drift.proofs.Signs.{read, none, below-zero, from-zero}
 use borrow.Author.Needs.{needs}
 use Rattle.score_drift.proofs.drift_from.Statement.{statement}
@@ -24,19 +25,25 @@ size-requires c κs = subst (λ (y : ℤ). natAbs y < 2 ^ 31) (sym (toZ-ofZ (c .
 -- what the calls have found, of the sum itself
 hundredths-is : (c : tie.After-hundredths-of)
     → c .hundredths-of .result ≡ nearest (100 * natAbs (c .before .before .before .args .s)) (c .before .before .before .args .n)
-hundredths-is c = c .hundredths-of .ensures .0 ∙ ap (λ (k : ℕ). nearest (100 * k) (c .before .before .before .args .n)) (whole (c .before))
+hundredths-is c = c .hundredths-of .ensures ∙ ap (λ (k : ℕ). nearest (100 * k) (c .before .before .before .args .n)) (whole (c .before))
 
 sign-is : (c : tie.After-is-negative) → ltZ (c .before .before .before .before .args .s) (pos 0) ≡ c .is-negative .result
 sign-is c = ap (λ (y : ℤ). ltZ y (pos 0)) (sym (toZ-ofZ (c .before .before .before .before .fits .s))) ∙ sym (c .is-negative .ensures)
 
+average : (c : tie.After-size) → Average (c .size .result) (c .before .before .args .n)
+average c = record { small = omega (arith, whole c); some = omega arith; few = omega arith }
+
+small : (c : tie.After-hundredths-of) → c .hundredths-of .result < 2 ^ 31
+small c = omega (arith, c .hundredths-of .ensures, hundredths-small (average (c .before)))
+
 hundredths-of-requires : tie.Need-hundredths-of-requires
-hundredths-of-requires c κs = record { small = omega (arith, whole c); some = omega arith; few = omega arith }
+hundredths-of-requires c κs = average c
 
 is-negative-requires : tie.Need-is-negative-requires
 is-negative-requires c κs = search needs
 
 negative-requires : tie.Need-negative-requires
-negative-requires c κs = search needs
+negative-requires c κs = small (c .before .before)
 
 returns-2 : tie.Need-returns-2
 returns-2 c =
@@ -47,7 +54,7 @@ returns-2 c =
     (hundredths-is (c .before .before .before)) (sign-is (c .before .before) ∙ c .before .if2 .taken)
 
 positive-requires : tie.Need-positive-requires
-positive-requires c κs = search needs
+positive-requires c κs = small (c .before .before)
 
 returns-3 : tie.Need-returns-3
 returns-3 c =

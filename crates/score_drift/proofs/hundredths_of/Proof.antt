@@ -1,8 +1,5 @@
--- The quotient is at most its dividend.
-use Prim.Native.Nat.{_+_, _*_}
+-- The definition's quotient; no sum on the way wraps.
 use mathlib.Core.Path.{refl}
-use native.Mathlib.Omega.{arith}
-use native.Mathlib.Nat.{div-le-self}
 use borrow.Author.Needs.{needs}
 use Rattle.score_drift.proofs.hundredths_of.Statement.{statement}
 use Rattle.score_drift.proofs.hundredths_of.Tie as tie
@@ -23,7 +20,7 @@ div-result : tie.Need-div-result
 div-result c = search needs
 
 returns : tie.Need-returns
-returns c = (refl, omega (arith, div-le-self (2 * (100 * c .args .d) + c .args .n) (2 * c .args .n)))
+returns c = refl
 
 pub hundredths-of-spec : {M : Type 1} → statement M
 hundredths-of-spec =

@@ -6,7 +6,7 @@ use lib.IntN.{pos, natAbs, _+ℤ_, _-ℤ_}
 use mir.Syntax.{w32}
 use mir.Val.{toZ}
 use Rattle.score_order.specs.Words.{siteIn, givenIn}
-use Rattle.score_drift.specs.Total.{totalIn, total-more, total-none}
+use Rattle.score_drift.specs.Total.{totalIn, InRange, total-more, total-none}
 use Rattle.score_drift.proofs.Signs.{read, sum-size, gap-size}
 use native.Mathlib.Omega.{arith}
 use Rattle.score_drift.proofs.total_shift.Statement.{statement}
@@ -56,11 +56,11 @@ shared-slice-read-displacement-2 c = omega arith
 -- the numbers of cell k are in range
 digits : (c : tie.After-shared-slice-known3 Inv-loop μ-loop)
     → let p = c .before .before .before in let w = p .before .before .args .words .now in
-    (siteIn w (p .loop .k - 1) ≤ 9999) × (givenIn w (p .loop .k - 1) ≤ 1023)
+    InRange (siteIn w (p .loop .k - 1)) (givenIn w (p .loop .k - 1))
 digits c =
     let p = c .before .before .before in
     let d = p .before .before .pre in
-    (d .site (p .loop .k - 1) (omega arith), d .given (p .loop .k - 1) (omega arith))
+    record { site = d .site (p .loop .k - 1) (omega arith); given = d .given (p .loop .k - 1) (omega arith) }
 
 displacement-requires : tie.Need-displacement-requires Inv-loop μ-loop
 displacement-requires c κs = digits c
@@ -104,7 +104,7 @@ returns c =
     let s = p .before .before in
     let e : totalIn (s .args .words .now) (p .loop .k) (s .args .count - p .loop .k) ≡ totalIn (s .args .words .now) 0 (s .args .count) =
     ap₂ (totalIn (s .args .words .now)) (omega arith) (omega arith) in
-    (p .loop .inv .sum ∙ e, omega (arith, ap natAbs (p .loop .inv .sum)))
+    record { total = p .loop .inv .sum ∙ e; small = omega (arith, ap natAbs (p .loop .inv .sum)) }
 
 pub total-shift-spec : {M : Type 1} → statement M
 total-shift-spec =

@@ -67,7 +67,7 @@ returns : tie.Need-returns Inv-loop μ-loop
 returns c =
     let p = c .before in
     let P : Placement = p .before .args .t1 in
-    (p .loop .inv .sum ∙ ap₂ (countFrom (isChanged (placementOf P))) (omega arith) (omega arith), omega arith)
+    p .loop .inv .sum ∙ ap₂ (countFrom (isChanged (placementOf P))) (omega arith) (omega arith)
 
 pub changed-in-spec : {M : Type 1} → statement M
 changed-in-spec =

@@ -68,7 +68,7 @@ returns : tie.Need-returns Inv-loop μ-loop
 returns c =
     let p = c .before in
     let P : Placement = p .before .args .t1 in
-    (p .loop .inv .sum ∙ ap₂ (countFrom (isMirrored (placementOf P))) (omega arith) (omega arith), omega arith)
+    p .loop .inv .sum ∙ ap₂ (countFrom (isMirrored (placementOf P))) (omega arith) (omega arith)
 
 pub mirrored-in-spec : {M : Type 1} → statement M
 mirrored-in-spec =

@@ -1,4 +1,5 @@
 -- Each sum is the definition's, by the words of the placed job (specs/Bridge).
+use Prim.Native.Nat.{_+_}
 use mathlib.Core.Path.{ap, _∙_}
 use native.Mathlib.Omega.{arith}
 use Rattle.job.specs.declared.Job.{Job}
@@ -7,7 +8,8 @@ use Rattle.job.specs.Value.{jobOf, placementOf}
 use Rattle.score_drift.specs.Total.{driftOf, flat-drift}
 use Rattle.score_drift.proofs.Signs.{read}
 use Rattle.definition.specs.Cost.{isMirrored}
-use Rattle.score_numbers.specs.Sums.{countFrom, isChanged}
+use Rattle.score_numbers.specs.Sums.{countFrom, isChanged, count-most}
+use Rattle.score_numbers.specs.Bridge.{Weighable, shifted-small, cost-small}
 use Rattle.score_numbers.specs.Bridge.{flat-digits, steps-sum, flat-shifted, flat-mirrored, flat-changed, cost-sum, weights-small}
 use borrow.Author.Needs.{needs}
 use Rattle.score_numbers.proofs.numbers_from.Statement.{statement}
@@ -33,20 +35,30 @@ mirrored-in-requires c κs = search needs
 changed-in-requires : tie.Need-changed-in-requires
 changed-in-requires c κs = search needs
 
-weighed-sum-requires : tie.Need-weighed-sum-requires
-weighed-sum-requires c κs =
-    let mid = c .before .before .before .before in
-    let s = mid .before .before in
-    let w = weights-small (s .args .job) (s .args .placement) (s .pre .ready) in
-    let a = c .before .before .before .before .steps-row .ensures .1 in
-    let b = c .before .before .before .steps-row2 .ensures .1 in
+-- none of the four numbers is large
+weighable : (c : tie.After-changed-in)
+    → let two = c .before .before .before in let one = two .before in
+    Weighable (one .before .before .args .job .header) (one .steps-row .result + two .steps-row2 .result) (c .before .before .shifted-in .result)
+    (c .before .mirrored-in .result) (c .changed-in .result)
+weighable c =
+    let two = c .before .before .before in
+    let one = two .before in
+    let s = one .before .before in
+    let r = s .pre .ready in
+    let P : Placement = s .args .placement in
     record {
-      weights = w;
-      steps = omega arith;
-      shifted = c .before .before .shifted-in .ensures .1;
-      mirrored = omega arith;
-      changed = omega arith;
+      weights = weights-small (s .args .job) P r;
+      steps = omega (arith, one .steps-row .ensures .most, two .steps-row2 .ensures .most);
+      shifted =
+          omega (arith, c .before .before .shifted-in .ensures, shifted-small (s .args .words .now) (s .args .job .count) (flat-digits (s .pre)));
+      mirrored =
+          omega (arith, c .before .mirrored-in .ensures, count-most (isMirrored (placementOf P)) 0 (P .count), r .each, r .accepted .few);
+      changed =
+          omega (arith, c .changed-in .ensures, count-most (isChanged (placementOf P)) 0 (P .count), r .each, r .accepted .few);
     }
+
+weighed-sum-requires : tie.Need-weighed-sum-requires
+weighed-sum-requires c κs = weighable c
 
 total-shift-requires : tie.Need-total-shift-requires
 total-shift-requires c κs =
@@ -73,28 +85,29 @@ returns c =
     let job : Job = s .args .job in
     let P : Placement = s .args .placement in
     let f = s .pre .flat in
-    let n = s .pre .ready .each in
+    let each = s .pre .ready .each in
+    let n = weighable change in
     let ea =
-    steps-sum (jobOf job) (placementOf P) (one .steps-row .result) (two .steps-row2 .result) (one .steps-row .ensures .0) (two .steps-row2 .ensures .0) in
-    let eb = shift .shifted-in .ensures .0 ∙ flat-shifted f in
-    let ec = mirror .mirrored-in .ensures .0 ∙ ap (countFrom (isMirrored (placementOf P)) 0) n ∙ flat-mirrored f in
-    let ed = change .changed-in .ensures .0 ∙ ap (countFrom (isChanged (placementOf P)) 0) n ∙ flat-changed f in
-    let e = read (total .total-shift .result) (total .total-shift .ok) ∙ total .total-shift .ensures .0 in
+    steps-sum (jobOf job) (placementOf P) (one .steps-row .result) (two .steps-row2 .result) (one .steps-row .ensures .same) (two .steps-row2 .ensures .same) in
+    let eb = shift .shifted-in .ensures ∙ flat-shifted f in
+    let ec = mirror .mirrored-in .ensures ∙ ap (countFrom (isMirrored (placementOf P)) 0) each ∙ flat-mirrored f in
+    let ed = change .changed-in .ensures ∙ ap (countFrom (isChanged (placementOf P)) 0) each ∙ flat-changed f in
+    let e = read (total .total-shift .result) (total .total-shift .ok) ∙ total .total-shift .ensures .total in
     record {
       steps = ea;
       shifted = eb;
       mirrored = ec;
       changed = ed;
-      cost = weigh .weighed-sum .ensures .0 ∙ cost-sum job (placementOf P) _ _ _ _ ea eb ec ed;
+      cost = weigh .weighed-sum .ensures ∙ cost-sum job (placementOf P) _ _ _ _ ea eb ec ed;
       drift =
           read (c .drift-from .result) (c .drift-from .ok) ∙ c .drift-from .ensures
           ∙ ap (λ z. driftOf z (job .count)) e ∙ flat-drift (jobOf job) (placementOf P) (job .count) (s .args .words .now) f;
       small = record {
-        steps = omega (arith, one .steps-row .ensures .1, two .steps-row2 .ensures .1);
-        shifted = omega (arith, shift .shifted-in .ensures .1);
-        mirrored = omega (arith, mirror .mirrored-in .ensures .1);
-        changed = omega (arith, change .changed-in .ensures .1);
-        cost = omega (arith, weigh .weighed-sum .ensures .1);
+        steps = omega (arith, n .steps);
+        shifted = omega (arith, n .shifted);
+        mirrored = omega (arith, n .mirrored);
+        changed = omega (arith, n .changed);
+        cost = omega (arith, weigh .weighed-sum .ensures, cost-small (job .header) _ _ _ _ n);
       };
     }
 

@@ -8,7 +8,7 @@ slice-aggregate-flatten : tie.Need-slice-aggregate-flatten
 slice-aggregate-flatten c = search needs
 
 flatten-requires : tie.Need-flatten-requires
-flatten-requires c κs = (c .before .pre, zeros-blank)
+flatten-requires c κs = record { ready = c .before .pre; blank = zeros-blank }
 
 slice-aggregate-numbers-from : tie.Need-slice-aggregate-numbers-from
 slice-aggregate-numbers-from c = search needs

@@ -40,7 +40,7 @@ small c =
     let p = c .before .before in
     let s = p .before .before in
     let k : ℕ = p .loop .k - 1 in
-    omega (arith, c .shift-of .ensures .1, s .pre .site k (omega arith), s .pre .given k (omega arith))
+    omega (arith, c .shift-of .ensures, s .pre .site k (omega arith), s .pre .given k (omega arith))
 
 add-total : tie.Need-add-total Inv-loop μ-loop
 add-total c = omega (arith, small c)
@@ -57,13 +57,13 @@ loop-again c =
     let w : List ℕ = s .args .words .now in
     let k : ℕ = p .loop .k - 1 in
     let e = sum-more k (p .loop .k) (s .args .count - k) (s .args .count - p .loop .k) (omega arith) (omega arith) (shiftIn w) in
-    record { below = omega arith; sum = omega (arith, e, c .shift-of .ensures .0, m .sum); small = omega (arith, small c) }
+    record { below = omega arith; sum = omega (arith, e, c .shift-of .ensures, m .sum); small = omega (arith, small c) }
 
 returns : tie.Need-returns Inv-loop μ-loop
 returns c =
     let p = c .before in
     let s = p .before .before in
-    (p .loop .inv .sum ∙ ap₂ (sumFrom (shiftIn (s .args .words .now))) (omega arith) (omega arith), omega arith)
+    p .loop .inv .sum ∙ ap₂ (sumFrom (shiftIn (s .args .words .now))) (omega arith) (omega arith)
 
 pub shifted-in-spec : {M : Type 1} → statement M
 shifted-in-spec =

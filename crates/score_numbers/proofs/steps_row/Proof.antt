@@ -17,7 +17,8 @@ slice-aggregate-order-row c = search needs
 order-row-requires : tie.Need-order-row-requires
 order-row-requires c κs =
     let s = c .before .before in
-    (record { long = s .pre .0 .flat .long; few = s .pre .0 .ready .accepted .few }, zeros-room)
+    let p = s .pre .placed in
+    record { cells = record { long = p .flat .long; few = p .ready .accepted .few }; room = zeros-room }
 
 slice-aggregate-steps-in : tie.Need-slice-aggregate-steps-in
 slice-aggregate-steps-in c = search needs
@@ -27,14 +28,14 @@ steps-in-requires c κs =
     let mid = c .before .before .before .before in
     let s = mid .before in
     let t = c .before .before .order-row .ensures in
-    let r = s .pre .0 .ready in
+    let r = s .pre .placed .ready in
     let w = s .args .words .now in
     let n = s .args .job .count in
     record {
-      row = s .pre .1;
+      row = s .pre .row;
       few = r .accepted .few;
       each = r .each;
-      flat = s .pre .0 .flat;
+      flat = s .pre .placed .flat;
       room = tail-room t;
       start = t .start;
       cells = subst (Below n) (sym (t .entries)) (below-sort n (siteIn w) (cellsIn w (s .args .row) 0 n) (below-cells w (s .args .row) n));
@@ -47,7 +48,10 @@ returns c =
     let s = mid .before .before in
     let t = c .before .before .before .order-row .ensures in
     let f = stepsAt (jobOf (s .args .job)) (placementOf (s .args .placement)) (s .args .row) in
-    (c .steps-in .ensures .0 ∙ ap (sumNext f) (t .entries ∙ flat-order (s .pre .0 .flat) (s .args .row)), c .steps-in .ensures .1)
+    record {
+      same = c .steps-in .ensures .same ∙ ap (sumNext f) (t .entries ∙ flat-order (s .pre .placed .flat) (s .args .row));
+      most = c .steps-in .ensures .most;
+    }
 
 pub steps-row-spec : {M : Type 1} → statement M
 steps-row-spec =

@@ -29,7 +29,7 @@ returns : tie.Need-returns
 returns c =
     let s = c .before .before .before .before in
     ap (λ t. t && ltb (s .args .limit) (c .apart-of .result)) (c .before .stands .ensures)
-    ∙ out-by (s .args .words .now) (s .args .row) (s .args .limit) (s .args .k) (s .args .place) (s .args .rank) (c .apart-of .result) (c .apart-of .ensures .0)
+    ∙ out-by (s .args .words .now) (s .args .row) (s .args .limit) (s .args .k) (s .args .place) (s .args .rank) (c .apart-of .result) (c .apart-of .ensures)
 
 pub is-out-spec : {M : Type 1} → statement M
 is-out-spec =

@@ -23,7 +23,7 @@ returns c =
     let mid = one .before .before .before .before in
     let s = mid .before .before in
     let a = s .args in
-    let o = s .pre .0 in
+    let o = s .pre .rows in
     let w = a .words .now in
     let n = a .count in
     added-both n 64 64 (nearIn w (orderIn w 0 n)) (nearIn w (orderIn w 1 n)) (a .marks .now) _ _ (o .cells .few) (o .cells .few)

@@ -16,12 +16,12 @@ same-length c = search needs
 returns : tie.Need-returns
 returns c =
     let s = c .before in
-    let a = s .args in cell-hit (a .k) (a .breaks) (a .marks .now) (s .pre .1) (s .pre .0) (c .if1 .taken)
+    let a = s .args in cell-hit (a .k) (a .breaks) (a .marks .now) (s .pre .marks) (s .pre .cell) (c .if1 .taken)
 
 returns-2 : tie.Need-returns-2
 returns-2 c =
     let s = c .before in
-    let a = s .args in cell-miss (a .k) (a .breaks) (a .marks .now) (s .pre .1) (c .if1 .left)
+    let a = s .args in cell-miss (a .k) (a .breaks) (a .marks .now) (s .pre .marks) (c .if1 .left)
 
 pub mark-if-spec : {M : Type 1} → statement M
 mark-if-spec = tie.close (tie.spec mul-marks slice-write-marks same-length returns returns-2)

@@ -19,7 +19,7 @@ loop-holds : tie.Need-loop-holds Inv-loop μ-loop
 loop-holds c =
     let s = c .before .before .before .before in
     let a = s .args in
-    marking-none (outAt (a .words .now) (a .row) (a .limit) (a .place .now) (a .rank .now)) (a .count) (a .marks .now) (s .pre .0 .cells .few) (s .pre .1)
+    marking-none (outAt (a .words .now) (a .row) (a .limit) (a .place .now) (a .rank .now)) (a .count) (a .marks .now) (s .pre .cells .few) (s .pre .marks)
 
 sub-k : tie.Need-sub-k Inv-loop μ-loop
 sub-k c = omega arith

@@ -12,7 +12,7 @@ returns c =
     let s = c .before .before .before .before in
     let a = s .args in
     let free = end-none (a .words .now) (a .order .now) (a .sites) (a .at) in
-    added-none 64 _ (a .marks .now) (s .pre .1) (λ k _. free k (omega (arith, s .pre .0 .room .long)))
+    added-none 64 _ (a .marks .now) (s .pre .marks) (λ k _. free k (omega (arith, s .pre .room .long)))
 
 entry-requires : tie.Need-entry-requires
 entry-requires c κs = search needs
@@ -66,7 +66,7 @@ returns-2 c =
     let g = gap .gap-between in
     let h : a .at ≤ 63 = omega arith in
     ends-marked (a .words .now) (a .order .now) (a .sites) (a .at) (first .entry .result) (last .entry2 .result) 63 (g .result) (a .marks .now) _ _
-    (s .pre .0 .room .long) h (first .entry .ensures .0) (last .entry2 .ensures .0) (g .ensures) (one .mark-if .ensures) (two .mark-if2 .ensures)
+    (s .pre .room .long) h (first .entry .ensures .same) (last .entry2 .ensures .same) (g .ensures) (one .mark-if .ensures) (two .mark-if2 .ensures)
 
 pub mark-row-ends-spec : {M : Type 1} → statement M
 mark-row-ends-spec =

@@ -31,8 +31,8 @@ loop-holds c =
     record {
       below = omega arith;
       down = omega arith;
-      added = added-none 64 _ (s .args .marks .now) (s .pre .1)
-          (λ k _. near-last (s .args .words .now) (s .args .order .now) 63 k (omega (arith, s .pre .0 .room .long)));
+      added = added-none 64 _ (s .args .marks .now) (s .pre .marks)
+          (λ k _. near-last (s .args .words .now) (s .args .order .now) 63 k (omega (arith, s .pre .room .long)));
     }
 
 sub-i : tie.Need-sub-i Inv-loop μ-loop
@@ -96,19 +96,20 @@ loop-again c =
     let m = p .loop .inv in
     let w : List ℕ = s .args .words .now in
     let o : List ℕ = s .args .order .now in
-    let l : length o ≡ 64 = s .pre .0 .room .long in
+    let l : length o ≡ 64 = s .pre .room .long in
     let i : ℕ = p .loop .i - 1 in
     let a : ℕ = mid .before .entry .result in
     let b : ℕ = c .before .before .before .before .entry2 .result in
     let test : s .args .at < p .loop .i = mid .before .before .loop-test .taken in
     let next : i + 1 ≡ p .loop .i = omega arith in
-    let ea : a ≡ getD o i 0 = mid .before .entry .ensures .0 in
-    let eb : b ≡ getD o (p .loop .i) 0 = c .before .before .before .before .entry2 .ensures .0 ∙ ap (λ x. getD o x 0) next in
+    let ea : a ≡ getD o i 0 = mid .before .entry .ensures .same in
+    let eb : b ≡ getD o (p .loop .i) 0 = c .before .before .before .before .entry2 .ensures .same ∙ ap (λ x. getD o x 0) next in
     record {
       below = omega arith;
       down = omega arith;
       added = near-one w o (s .args .marks .now) (p .loop .marks) i (p .loop .i) a b (c .before .gap-between .result) (omega arith) (omega arith) ea eb
-          (c .before .gap-between .ensures) (mid .before .entry .ensures .1) (c .before .before .before .before .entry2 .ensures .1) (c .if1 .taken) (m .added);
+          (c .before .gap-between .ensures) (mid .before .entry .ensures .cell) (c .before .before .before .before .entry2 .ensures .cell)
+          (c .if1 .taken) (m .added);
     }
 
 loop-less-2 : tie.Need-loop-less-2 Inv-loop μ-loop
@@ -122,14 +123,14 @@ loop-again-2 c =
     let m = p .loop .inv in
     let w : List ℕ = s .args .words .now in
     let o : List ℕ = s .args .order .now in
-    let l : length o ≡ 64 = s .pre .0 .room .long in
+    let l : length o ≡ 64 = s .pre .room .long in
     let i : ℕ = p .loop .i - 1 in
     let a : ℕ = mid .before .entry .result in
     let b : ℕ = c .before .before .before .before .entry2 .result in
     let test : s .args .at < p .loop .i = mid .before .before .loop-test .taken in
     let next : i + 1 ≡ p .loop .i = omega arith in
-    let ea : a ≡ getD o i 0 = mid .before .entry .ensures .0 in
-    let eb : b ≡ getD o (p .loop .i) 0 = c .before .before .before .before .entry2 .ensures .0 ∙ ap (λ x. getD o x 0) next in
+    let ea : a ≡ getD o i 0 = mid .before .entry .ensures .same in
+    let eb : b ≡ getD o (p .loop .i) 0 = c .before .before .before .before .entry2 .ensures .same ∙ ap (λ x. getD o x 0) next in
     record {
       below = omega arith;
       down = omega arith;
@@ -156,7 +157,7 @@ returns c =
     let i : ℕ = p .loop .i in
     let at : ℕ = s .args .at in
     added-below 64 (nearIn w (drop i o)) (nearIn w (drop at o)) (s .args .marks .now) (p .loop .marks)
-    (λ k _. down w o i at (s .pre .0 .room .long) (m .below) (m .down) (omega arith) (leb at 63) (le? at 63) k) (m .added)
+    (λ k _. down w o i at (s .pre .room .long) (m .below) (m .down) (omega arith) (leb at 63) (le? at 63) k) (m .added)
 
 pub mark-row-gaps-spec : {M : Type 1} → statement M
 mark-row-gaps-spec =

@@ -16,7 +16,7 @@ slice-aggregate-row-cells : tie.Need-slice-aggregate-row-cells
 slice-aggregate-row-cells c = search needs
 
 row-cells-requires : tie.Need-row-cells-requires
-row-cells-requires c κs = let s = c .before .before .before .before in (s .pre .0 .cells, zeros-room)
+row-cells-requires c κs = let s = c .before .before .before .before in record { cells = s .pre .cells; room = zeros-room }
 
 slice-aggregate-places : tie.Need-slice-aggregate-places
 slice-aggregate-places c = search needs
@@ -24,7 +24,7 @@ slice-aggregate-places c = search needs
 places-requires : tie.Need-places-requires
 places-requires c κs =
     let mid = c .before .before .before .before in
-    let t = mid .before .before .before .pre .0 .tail in
+    let t = mid .before .before .before .pre .tail in
     record { start = t .start; listed = tail-room t; none = away-placed }
 
 slice-aggregate-places-2 : tie.Need-slice-aggregate-places-2
@@ -64,7 +64,7 @@ returns c =
     let s = mid .before in
     let a = s .args in
     let w = a .words .now in
-    let t = s .pre .0 .tail in
+    let t = s .pre .tail in
     let u = listed .row-cells .ensures in
     let p = left .places .ensures in
     let q = file .places2 .ensures in
@@ -72,7 +72,7 @@ returns c =
     let f = cellsIn w (a .row) 0 (a .count) in
     let e = same-start w (a .row) (a .count) (a .start) (listed .row-cells .result) _ _ t u in
     added-below (a .count) _ (outIn w (a .row) (a .limit) o f) (a .marks .now) _
-    (λ k h. let b = below k (a .count) h (s .pre .0 .cells .few) in
+    (λ k h. let b = below k (a .count) h (s .pre .cells .few) in
     out-same w (a .row) (a .limit) (a .start) o f _ _ k (p .at-place k b ∙ ap (λ l. a .start + placeIn k l) (t .entries))
     (q .at-place k b ∙ ap₂ (λ x l. x + placeIn k l) (sym e) (u .entries))) (c .before .before .mark-out .ensures)
 

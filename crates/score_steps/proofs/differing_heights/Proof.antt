@@ -1,9 +1,9 @@
 -- The P and the N pair, each read at its edge.
-use Prim.Native.Nat.{_+_}
+use Prim.Native.Nat.{_+_, _≤_}
 use mathlib.Core.Path.{ap₂, _∙_}
 use native.Mathlib.Omega.{arith}
 use Rattle.job.specs.Value.{cellOf, poseOf}
-use Rattle.score_steps.specs.Heights.{unlike}
+use Rattle.score_steps.specs.Heights.{unlike, unlike-small}
 use Rattle.job.specs.Layouts.{count-small}
 use Rattle.score_steps.specs.Steps.{differing-two}
 use borrow.Author.Needs.{needs}
@@ -44,8 +44,17 @@ height-of-requires-4 c κs = search needs
 unlike-heights-requires-2 : tie.Need-unlike-heights-requires-2
 unlike-heights-requires-2 c κs = search needs
 
+-- a height differs or does not
+small : (c : tie.After-unlike-heights2)
+    → (c .before .before .before .unlike-heights .result ≤ 1) × (c .unlike-heights2 .result ≤ 1)
+small c =
+    let mid = c .before .before .before .before in (
+      omega (arith, c .before .before .before .unlike-heights .ensures, unlike-small (mid .before .height-of .result) (mid .height-of2 .result)),
+      omega (arith, c .unlike-heights2 .ensures, unlike-small (c .before .before .height-of3 .result) (c .before .height-of4 .result)),
+    )
+
 add-result : tie.Need-add-result
-add-result c = search needs
+add-result c = omega (arith, small c)
 
 returns : tie.Need-returns
 unfolding cellOf
@@ -55,14 +64,15 @@ returns c =
     let x = mid .before .before .before .right-of in
     let y = mid .before .before .left-of in
     let high =
-    c .before .before .before .unlike-heights .ensures .0
+    c .before .before .before .unlike-heights .ensures
     ∙ ap₂ unlike (mid .before .height-of .ensures) (c .before .before .before .before .height-of2 .ensures) in
-    let low = c .unlike-heights2 .ensures .0 ∙ ap₂ unlike (c .before .before .height-of3 .ensures) (c .before .height-of4 .ensures) in (
-      ap₂ _+_ high low
+    let low = c .unlike-heights2 .ensures ∙ ap₂ unlike (c .before .before .height-of3 .ensures) (c .before .height-of4 .ensures) in
+    record {
+      same = ap₂ _+_ high low
           ∙ differing-two (cellOf (s .args .a)) (poseOf (s .args .p)) (cellOf (s .args .b)) (poseOf (s .args .q)) (s .args .row) (x .result) (y .result)
-          (x .ensures .0) (y .ensures .0),
-      omega arith,
-    )
+          (x .ensures .same) (y .ensures .same);
+      most = omega (arith, small c);
+    }
 
 pub differing-heights-spec : {M : Type 1} → statement M
 differing-heights-spec =

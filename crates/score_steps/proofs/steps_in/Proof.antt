@@ -99,18 +99,18 @@ loop-again c =
     let l : length o ≡ 64 = s .pre .room .long in
     let test : s .args .at < p .loop .i = mid .before .before .before .loop-test .taken in
     let next : i + 1 ≡ p .loop .i = omega arith in
-    let ea : a ≡ getD o i 0 = mid .before .before .entry .ensures .0 in
-    let eb : b ≡ getD o (p .loop .i) 0 = mid .before .entry2 .ensures .0 ∙ ap (λ x. getD o x 0) next in
+    let ea : a ≡ getD o i 0 = mid .before .before .entry .ensures .same in
+    let eb : b ≡ getD o (p .loop .i) 0 = mid .before .entry2 .ensures .same ∙ ap (λ x. getD o x 0) next in
     let ha : getD o i 0 < job .count = below-tail (job .count) o (s .args .at) i (s .pre .cells) (omega arith) (omega arith) in
     let hb : getD o (p .loop .i) 0 < job .count = below-tail (job .count) o (s .args .at) (p .loop .i) (s .pre .cells) (omega arith) (omega arith) in
     let e : c .steps-of .result ≡ f a b =
     steps-value job P (s .args .words .now) (s .args .row) a b (c .steps-of .result) (s .pre .flat) (s .pre .each) (omega arith) (omega arith)
-    (c .steps-of .ensures .0) in
+    (c .steps-of .ensures .same) in
     let g = ap₂ f ea eb in
     record {
       below = omega arith;
       down = omega arith;
-      small = omega (arith, c .steps-of .ensures .1);
+      small = omega (arith, c .steps-of .ensures .most);
       sum = omega (arith, sum-more f o i (p .loop .i) (omega arith) (omega arith));
     }
 
@@ -126,10 +126,11 @@ returns c =
     let s = p .before .before .before in
     let m = p .loop .inv in
     let o : List ℕ = s .args .order .now in
-    let f : ℕ → ℕ → ℕ = stepsAt (jobOf (s .args .t1)) (placementOf (s .args .t2)) (s .args .row) in (
-      m .sum ∙ down f o (p .loop .i) (s .args .at) (s .pre .room .long) (m .below) (m .down) (omega arith) (leb (s .args .at) 63) (le? (s .args .at) 63),
-      omega arith,
-    )
+    let f : ℕ → ℕ → ℕ = stepsAt (jobOf (s .args .t1)) (placementOf (s .args .t2)) (s .args .row) in
+    record {
+      same = m .sum ∙ down f o (p .loop .i) (s .args .at) (s .pre .room .long) (m .below) (m .down) (omega arith) (leb (s .args .at) 63) (le? (s .args .at) 63);
+      most = omega arith;
+    }
 
 pub steps-in-spec : {M : Type 1} → statement M
 steps-in-spec =

@@ -3,6 +3,7 @@ use Prim.Native.Nat.{_*_, _≤_}
 use mathlib.Core.Path.{ap, ap₂, _∙_}
 use native.Mathlib.Omega.{arith}
 use Rattle.definition.specs.Cost.{charge}
+use Rattle.gap_charge.specs.Charge.{charge-small}
 use Rattle.score_steps.specs.Steps.{product-small}
 use borrow.Author.Needs.{needs}
 use Rattle.score_steps.proofs.steps_of.Statement.{statement}
@@ -40,13 +41,19 @@ differing-heights-requires c κs = search needs
 
 -- the product is at most 2
 small : (c : tie.After-differing-heights) → c .before .charge-at .result * c .differing-heights .result ≤ 2
-small c = product-small (c .before .charge-at .result) (c .differing-heights .result) (c .before .charge-at .ensures .1) (c .differing-heights .ensures .1)
+small c =
+    let gap = c .before .before .gap-between in
+    product-small (c .before .charge-at .result) (c .differing-heights .result) (omega (arith, c .before .charge-at .ensures, charge-small (gap .result)))
+    (c .differing-heights .ensures .most)
 
 mul-result : tie.Need-mul-result
 mul-result c = omega (arith, small c)
 
 returns : tie.Need-returns
-returns c = (ap₂ _*_ (c .before .charge-at .ensures .0 ∙ ap charge (c .before .before .gap-between .ensures)) (c .differing-heights .ensures .0), small c)
+returns c = record {
+  same = ap₂ _*_ (c .before .charge-at .ensures ∙ ap charge (c .before .before .gap-between .ensures)) (c .differing-heights .ensures .same);
+  most = small c;
+}
 
 pub steps-of-spec : {M : Type 1} → statement M
 steps-of-spec =

@@ -13,7 +13,7 @@ slice-aggregate-flatten : tie.Need-slice-aggregate-flatten
 slice-aggregate-flatten c = search needs
 
 flatten-requires : tie.Need-flatten-requires
-flatten-requires c κs = (c .before .before .pre .0, zeros-blank)
+flatten-requires c κs = record { ready = c .before .before .pre .ready; blank = zeros-blank }
 
 slice-aggregate-mark-unoffered : tie.Need-slice-aggregate-mark-unoffered
 slice-aggregate-mark-unoffered c = search needs
@@ -38,7 +38,8 @@ order-row-requires c κs =
     let far = c .before .before .before in
     let choice = far .before .before .before in
     let f = choice .before .before .before in
-    let s = f .before .before .before in (record { long = f .flatten .ensures .long; few = s .pre .0 .accepted .few }, zeros-room)
+    let s = f .before .before .before in
+    record { cells = record { long = f .flatten .ensures .long; few = s .pre .ready .accepted .few }; room = zeros-room }
 
 slice-aggregate-order-row-3 : tie.Need-slice-aggregate-order-row-3
 slice-aggregate-order-row-3 c = search needs
@@ -52,7 +53,8 @@ order-row-requires-2 c κs =
     let far = row .before .before .before in
     let choice = far .before .before .before in
     let f = choice .before .before .before in
-    let s = f .before .before .before in (record { long = f .flatten .ensures .long; few = s .pre .0 .accepted .few }, zeros-room)
+    let s = f .before .before .before in
+    record { cells = record { long = f .flatten .ensures .long; few = s .pre .ready .accepted .few }; room = zeros-room }
 
 slice-aggregate-judge-rules : tie.Need-slice-aggregate-judge-rules
 slice-aggregate-judge-rules c = search needs
@@ -77,18 +79,20 @@ judge-rules-requires c κs =
     let far = one .before .before .before .before in
     let choice = far .before .before .before in
     let f = choice .before .before .before in
-    let s = f .before .before .before in (
-      record {
+    let s = f .before .before .before in
+    record {
+      laid = record {
         offers = choice .mark-unoffered .ensures .long;
         shifts = far .mark-unoffered2 .ensures .long;
         ordered = record {
-          cells = record { few = s .pre .0 .accepted .few; long = f .flatten .ensures .long };
+          cells = record { few = s .pre .ready .accepted .few; long = f .flatten .ensures .long };
           row0 = one .order-row .ensures;
           row1 = two .order-row2 .ensures;
         };
-      },
-      s .pre .1,
-    )
+        marks = s .pre .clear .long;
+      };
+      clear = s .pre .clear;
+    }
 
 same-length : tie.Need-same-length
 same-length c = search needs

@@ -30,7 +30,7 @@ loop-holds : tie.Need-loop-holds Inv-loop μ-loop
 loop-holds c =
     let mid = c .before .before .before .before in
     let s = mid .before .before in
-    record { low = omega arith; long = s .pre .1 .long; held = λ j P b. held-first (b .flat .count) (s .pre .1) }
+    record { low = omega arith; long = s .pre .laid .marks; held = λ j P b. held-first (b .flat .count) (s .pre .clear) }
 
 mark-rule-requires : tie.Need-mark-rule-requires Inv-loop μ-loop
 mark-rule-requires c κs = search needs

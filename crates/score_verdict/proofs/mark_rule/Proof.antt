@@ -91,7 +91,7 @@ returns-9 c =
     let mid = c .before .before .before .before in
     let s = mid .before .before .before in
     let r = c .match .rest in
-    marks-none (s .pre .1) (λ j P a b.
+    marks-none (s .pre .marks) (λ j P a b.
     let b₇ = down _ 7 b (r .1) in
     let b₆ = down _ 6 b₇ (r .0 .1) in
     let b₅ = down _ 5 b₆ (r .0 .0 .1) in

@@ -8,7 +8,7 @@ slice-aggregate-judge : tie.Need-slice-aggregate-judge
 slice-aggregate-judge c = search needs
 
 judge-requires : tie.Need-judge-requires
-judge-requires c κs = (c .before .pre, zeros-unmarked (c .before .args .job .count))
+judge-requires c κs = record { ready = c .before .pre; clear = zeros-unmarked (c .before .args .job .count) }
 
 returns : tie.Need-returns
 returns c = search needs

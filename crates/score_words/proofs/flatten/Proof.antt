@@ -35,7 +35,9 @@ abbrev μ-loop : tie.MeasureT-loop
 μ-loop words₀ job placement count k₀ words k = job .count - k
 
 loop-holds : tie.Need-loop-holds Inv-loop μ-loop
-loop-holds c = record { below = omega arith; long = c .before .pre .1 .long; shown = λ i h. absurd (omega arith); blank = λ x h. c .before .pre .1 .zero x }
+loop-holds c =
+    let b = c .before .pre .blank in
+    record { below = omega arith; long = b .long; shown = λ i h. absurd (omega arith); blank = λ x h. b .zero x }
 
 mul-cell : tie.Need-mul-cell Inv-loop μ-loop
 mul-cell c = omega arith
@@ -59,10 +61,10 @@ add-put-four c =
     let s = p .before .before in
     let k : ℕ = p .loop .k in
     let job : Job = s .args .t1 in
-    let h : k < length (jobOf job .cells) = omega (arith, s .pre .0 .accepted .many) in
-    let q = s .pre .0 .accepted .sound .cell k h in
+    let h : k < length (jobOf job .cells) = omega (arith, s .pre .ready .accepted .many) in
+    let q = s .pre .ready .accepted .sound .cell k h in
     let w = rw (cell-there job k (omega arith)) at (width-small (jobOf job .header) (cellAt (jobOf job) k) (poseAt (s .args .t2) k .layout) q) in
-    omega (arith, s .pre .0 .site k (omega arith), c .width-of .ensures, w)
+    omega (arith, s .pre .ready .site k (omega arith), c .width-of .ensures, w)
 
 put-four-requires : tie.Need-put-four-requires Inv-loop μ-loop
 put-four-requires c κs = search needs
@@ -101,7 +103,7 @@ loop-again c =
     let P : Placement = s .args .t2 in
     let w : List ℕ = p .loop .words in
     rw (c .before .before .put-four .ensures)
-    (more job P w k _ (omega arith) (omega (arith, s .pre .0 .accepted .few)) (omega (arith, s .pre .0 .each))
+    (more job P w k _ (omega arith) (omega (arith, s .pre .ready .accepted .few)) (omega (arith, s .pre .ready .each))
     (ap (λ x. poseAt P k .site + x) (c .before .before .before .width-of .ensures)) m)
 
 same-length : tie.Need-same-length Inv-loop μ-loop
@@ -123,8 +125,8 @@ returns c =
     let P : Placement = s .args .t2 in
     record {
       long = m .long;
-      count = s .pre .0 .accepted .many;
-      shows = λ k. all job P (p .loop .words) (p .loop .k) m (omega arith) (s .pre .0 .each) k (leb (suc k) (job .count)) (le? (suc k) (job .count));
+      count = s .pre .ready .accepted .many;
+      shows = λ k. all job P (p .loop .words) (p .loop .k) m (omega arith) (s .pre .ready .each) k (leb (suc k) (job .count)) (le? (suc k) (job .count));
     }
 
 pub flatten-spec : {M : Type 1} → statement M
