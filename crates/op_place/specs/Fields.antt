@@ -1,5 +1,5 @@
 -- The fields of an answer, and what an answer leaves in output and results.
-use Prim.Native.Nat.{ℕ}
+use Prim.Native.Nat.{ℕ, _<_, _^_}
 use mathlib.Core.Path.{_≡_}
 use mathlib.Core.List.{List, [], _∷_, _++_}
 use lib.ListN.{length}
@@ -8,11 +8,18 @@ use Rattle.definition.specs.Job as paper
 use Rattle.definition.specs.Placement.{Placement, textOf}
 use Rattle.definition.specs.Outcome.{numbers, over}
 use Rattle.job.specs.declared.Job.{Job}
+use Rattle.job.specs.declared.Placement as value
 use Rattle.job.specs.Value.{jobOf}
+use Rattle.score_words.specs.Ready.{Ready}
 use Rattle.op_place.specs.Accepted.{placementIn}
 
 abbrev pub fieldsIn : paper.Job → Placement → ℕ → List ℤ
 fieldsIn j P bytes = numbers j P ++ (pos bytes ∷ [])
+
+-- a job and a placement that may be scored, and how long its text is
+pub record ReadyText (job : Job) (P : value.Placement) (bytes : ℕ) : Type 0 where
+  pub ready : Ready job P
+  pub short : bytes < 2 ^ 31
 
 -- the placement's text over the output, and 0, 0 and its fields over the results
 pub record Wrote (job : Job) (poses output output′ : List ℕ) (results results′ : List ℤ) : Type 0 where

@@ -9,6 +9,7 @@ use lib.Seq.{getD-set-same, getD-set-other, ext-getD, length-take-le}
 use Rattle.definition.specs.Job.{maxCells, maxGiven}
 use Rattle.definition.specs.Placement as text
 use Rattle.definition.specs.Rules.{Offer, offerOf, noPose}
+use Rattle.job.specs.declared.Cell.{Cell}
 use Rattle.job.specs.declared.Pose.{Pose}
 use Rattle.job.specs.declared.Job.{Job}
 use Rattle.job.specs.declared.Placement.{Placement}
@@ -20,6 +21,11 @@ use Rattle.theory_bridge.specs.Poses.{pose-same, placement-size, placement-pose
 use Rattle.search_job.specs.Solved.{numbersIn}
 use Rattle.job.specs.Accepted.{Accepted}
 use Rattle.op_place.specs.Accepted.{placementIn}
+
+-- a cell whose given site is in range, and a pose number for it
+pub record ToPose (c : Cell) (a : ℕ) : Type 0 where
+  pub given : c .given ≤ maxGiven
+  pub low : a < 64
 
 -- pose number a of a cell with that limit and given site
 pub record PoseBy (limit given a : ℕ) (p : Pose) : Type 0 where

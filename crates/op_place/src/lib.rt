@@ -2,17 +2,14 @@
 // numbers are written to what the caller lends.
 ghost use mathlib.Core.Path.{_≡_};
 ghost use mathlib.Core.List.{_∷_};
-ghost use Prim.Native.Nat.{_^_, _≤_, _<_};
 ghost use lib.ListN.{length, replicate};
 ghost use lib.IntN.{pos};
-ghost use Rattle.definition.specs.Job.{maxGiven};
 ghost use Rattle.definition.specs.Outcome.{placeFieldCount, over, lent, Placed};
 ghost use Rattle.job.specs.Value.{jobOf, placementOf};
 ghost use Rattle.results.specs.Fields.{Listed};
 ghost use Rattle.results.specs.Refusals.{Signed};
-ghost use Rattle.score_words.specs.Ready.{Ready};
-ghost use Rattle.op_place.specs.Poses.{PoseBy, ByNumber, Numbered};
-ghost use Rattle.op_place.specs.Fields.{fieldsIn, Wrote};
+ghost use Rattle.op_place.specs.Poses.{ToPose, PoseBy, ByNumber, Numbered};
+ghost use Rattle.op_place.specs.Fields.{fieldsIn, ReadyText, Wrote};
 ghost use Rattle.op_place.specs.Accepted.{Enough, Answered, Chosen};
 use job::Cell;
 use job::Job;
@@ -38,7 +35,7 @@ const FIELDS: usize = Numbers::COUNT + 1;
 
 // A pose by its number: a site within the cell's limit, a layout, a mark.
 fn pose_of(limit: u32, cell: Cell, a: u32) -> Pose
-    requires { ⌜ (cell .given ≤ maxGiven) × (a < 64) ⌝ }
+    requires { ⌜ ToPose cell a ⌝ }
     ensures { λ r. ⌜ PoseBy limit (cell .given) a r ⌝ }
 {
     let x = cell.given + a / 4;
@@ -81,7 +78,7 @@ fn placement_of(job: Job, poses: [u32; Job::MAX_CELLS]) -> Placement
 
 // Score's numbers of a placement, and how long its text is.
 fn fields_of(job: Job, placement: Placement, bytes: usize) -> Fields
-    requires { ⌜ Ready job placement × (bytes < 2 ^ 31) ⌝ }
+    requires { ⌜ ReadyText job placement bytes ⌝ }
     ensures { λ r. ⌜ Listed (fieldsIn (jobOf job) (placementOf placement) bytes) r ⌝ }
 {
     let numbers = numbers_of(job, placement);

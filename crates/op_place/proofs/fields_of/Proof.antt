@@ -34,7 +34,7 @@ returns c =
     let s = e .before .before in
     let a = s .args in
     let all = more-then (c .before .push-numbers .ensures) (c .push .ensures) in
-    let told = rw (toZ-pos w32 (s .pre .1)) at (all .list) in
+    let told = rw (toZ-pos w32 (s .pre .short)) at (all .list) in
     record {
       list =
           told

@@ -47,7 +47,7 @@ pose-of-requires : tie.Need-pose-of-requires Inv-loop μ-loop
 pose-of-requires c κs =
     let h = c .before .before .before in
     let s = h .before .before .before in
-    (given-low (s .args .t1) (s .args .t2) (s .pre .taken) (h .loop .k) (omega arith), s .pre .low (h .loop .k))
+    record { given = given-low (s .args .t1) (s .args .t2) (s .pre .taken) (h .loop .k) (omega arith); low = s .pre .low (h .loop .k) }
 
 mul-pose : tie.Need-mul-pose Inv-loop μ-loop
 mul-pose c =

@@ -34,10 +34,12 @@ fields-of-requires c κs =
     let e = c .before .before .before .before in
     let s = e .before .before in
     let P = e .placement-of .result in
-    let n = e .placement-of .ensures in (
-      ready (s .args .job) (s .args .poses) (length (s .args .output .now)) (s .pre) P n,
-      omega (arith, c .before .before .put-placement .ensures .1, text-short (s .args .job) (s .args .poses) (length (s .args .output .now)) (s .pre) P n),
-    )
+    let n = e .placement-of .ensures in
+    record {
+      ready = ready (s .args .job) (s .args .poses) (length (s .args .output .now)) (s .pre) P n;
+      short =
+          omega (arith, c .before .before .put-placement .ensures .1, text-short (s .args .job) (s .args .poses) (length (s .args .output .now)) (s .pre) P n);
+    }
 
 none-requires : tie.Need-none-requires
 none-requires c κs = search needs
