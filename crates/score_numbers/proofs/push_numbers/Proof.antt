@@ -65,15 +65,15 @@ returns c =
     let three = more-then two (third .push3 .ensures) in
     let four = more-then three (fourth .push4 .ensures) in
     let five = more-then four (fifth .push5 .ensures) in
-    let all = more-then five (c .push6 .ensures) in
+    let drift = toZ-ofZ {w = w32} {z = first .before .before .args .n .drift} (record { sfits = c .before .struct-told .given .1 .1 .1 .1 .1 .0 .1 }) in
+    let all = rw drift at (more-then five (c .push6 .ensures)) in
     rw (
-      toZ-pos w32 (s .steps),
-      toZ-pos w32 (s .shifted),
-      toZ-pos w32 (s .mirrored),
-      toZ-pos w32 (s .changed),
-      toZ-pos w32 (s .cost),
-      toZ-ofZ {w = w32} (record { sfits = c .before .struct-told .given .1 .1 .1 .1 .1 .0 .1 }),
-    ) at all
+      ← toZ-pos w32 (s .steps),
+      ← toZ-pos w32 (s .shifted),
+      ← toZ-pos w32 (s .mirrored),
+      ← toZ-pos w32 (s .changed),
+      ← toZ-pos w32 (s .cost),
+    ) all
 
 pub push-numbers-spec : {M : Type 1} → statement M
 push-numbers-spec =
