@@ -1,10 +1,10 @@
 // The job and a placement as values: what the reader hands on, their limits, and what is asked of one cell.
 ghost use mathlib.Core.Path.{_≡_};
-ghost use Prim.Native.Nat.{_+_, _≤_, _<_, min};
+ghost use Prim.Native.Nat.{_≤_, _<_, min};
 ghost use Rattle.definition.specs.Rules.{apart, offerOf, choiceOffered, siteOffered};
 ghost use Rattle.job.specs.Value.{emptyLayout, emptyCell, emptyHeader, emptyJob, emptyPose, emptyPlacement};
 ghost use Rattle.job.specs.Value.{headerOf, cellOf, poseOf, offerIn, heightCount};
-ghost use Rattle.job.specs.Parts.{standsIn, widthIn, heightIn, firstOf};
+ghost use Rattle.job.specs.Parts.{standsIn, widthIn, heightIn, FirstHeight};
 
 // A width and eight heights: left P, left N, right P, right N of row 0 (or of the single cell's row), then of row 1.
 pub struct Layout {
@@ -258,7 +258,7 @@ pub fn height_of(cell: Cell, layout: u32, i: usize) -> u32
 // Where the row's four heights begin: a tall cell's row 1 has the second four.
 pub fn first_of(of: u32, row: u32) -> usize
     requires { ⌜ row ≤ 1 ⌝ }
-    ensures { λ r. ⌜ (r ≡ firstOf of row) × (r + 4 ≤ heightCount of) ⌝ }
+    ensures { λ r. ⌜ FirstHeight of row r ⌝ }
 {
     if of == 2 {
         return 4 * (row as usize);
