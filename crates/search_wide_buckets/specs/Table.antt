@@ -1,6 +1,7 @@
 -- The buckets in one table: 9 buckets of 19 rows of 64 lanes. What is given, and what the loops leave.
 use Prim.Native.Nat.{ℕ, suc, _+_, _*_, _-_, _/_, _%_, _≤_, _<_, min}
 use mathlib.Core.Path.{_≡_}
+use mathlib.Core.Bool.{Bool, false}
 use mathlib.Core.Logic.{_⊎_}
 use mathlib.Core.List.{List}
 use lib.ListN.{length, getD}
@@ -18,7 +19,13 @@ use Rattle.search_buckets.specs.Rows.{inRow, bucketIn, onePose, byPoses, oneSta
 abbrev pub wordAt : List ℕ → ℕ → ℕ → ℕ → ℕ
 wordAt table l v t = getD table (v * 1216 + t * 64 + l) 0
 
--- of so many poses, the cell at position k is offered none from n on
+-- a row's cell at position k is asked about so many poses
+pub record PosesAsked (row : List ℕ) (k poses : ℕ) : Type 0 where
+  pub words : RowWords row
+  pub cell : k < 64
+  pub few : poses ≤ 60
+
+-- of so many poses, it is offered none from n on
 pub record OfferedBelow (row : List ℕ) (k poses n : ℕ) : Type 0 where
   pub most : n ≤ poses
   pub none : (a : ℕ) → n ≤ a → a < poses → B ≤ wordOf row k a
@@ -34,10 +41,22 @@ pub record TableFor (table : List ℕ) (poses lanes : ℕ) : Type 0 where
   pub few : poses ≤ 60
   pub narrow : lanes ≤ 64
 
--- a table lent, with so many words from `to` on
-pub record WordsLent (table : List ℕ) (to count : ℕ) : Type 0 where
+-- the same, so many buckets of it to be cleared
+pub record TableToClear (table : List ℕ) (buckets poses lanes : ℕ) : Type 0 where
+  pub tableFor : TableFor table poses lanes
+  pub most : buckets ≤ 9
+
+-- a word of a table, to be lowered to x
+pub record WordToLower (table : List ℕ) (to x : ℕ) : Type 0 where
   pub lent : Lent table
-  pub room : to + count ≤ tableWords
+  pub room : to < tableWords
+  pub cost : x ≤ B + B
+
+-- so many lanes of it from `to` on, to be lowered to those from `from` on, which lie before them
+pub record LanesToLower (table : List ℕ) (to from lanes : ℕ) : Type 0 where
+  pub lent : Lent table
+  pub room : to + lanes ≤ tableWords
+  pub before : from + lanes ≤ to
 
 -- how many buckets a target may need
 abbrev pub FiveOrNine : ℕ → Type 0
@@ -57,7 +76,12 @@ pub record Gathered (bucket : ℕ → ℕ → ℕ → ℕ) (rows buckets lanes :
   pub done : (l v t : ℕ) → l < lanes → v < buckets → t < rows → v ≤ 8 * t
       → wordAt new l v t ≡ min (wordAt old l v t) (bucket l v t)
 
--- the same in all rows and the buckets from `least` on below `last`, so many lanes from `first` on, by one source in
+-- the same, and whether any word may have changed
+pub record GatheredIf (used : Bool) (bucket : ℕ → ℕ → ℕ → ℕ) (rows buckets lanes : ℕ) (old new : List ℕ) : Type 0 where
+  pub gathered : Gathered bucket rows buckets lanes old new
+  pub unused : used ≡ false → new ≡ old
+
+-- lowered in all rows and the buckets from `least` on below `last`, so many lanes from `first` on, by one source in
 -- row t, whose cost in bucket v and the j-th of these lanes is f v j; the other buckets and lanes are as they were
 pub record Spread (f : ℕ → ℕ → ℕ) (t least last first lanes : ℕ) (old new : List ℕ) : Type 0 where
   pub long : length new ≡ length old
@@ -80,6 +104,7 @@ chargedOne x pays u v l = x + getD pays (u * 9 + v) 0
 pub record LaneSpread (table pays : List ℕ) (n x u t lane : ℕ) : Type 0 where
   pub lent : Lent table
   pub cost : x ≤ B
+  pub needed : FiveOrNine n
   pub paid : PaysLow n pays
   pub kind : u < 4
   pub here : t < 19
@@ -96,6 +121,7 @@ pub record RowSpread (table row pays : List ℕ) (n at u t lanes : ℕ) : Type 0
   pub lent : Lent table
   pub low : Low row
   pub room : at + lanes ≤ length row
+  pub needed : FiveOrNine n
   pub paid : PaysLow n pays
   pub kind : u < 4
   pub here : t < 19
@@ -118,6 +144,12 @@ pub record WideSource (table st row pays : List ℕ) (s : Source) (lanes : ℕ) 
 pub record PoseSource (table st row pays : List ℕ) (s : Source) (b rows lanes : ℕ) : Type 0 where
   pub source : WideSource table st row pays s lanes
   pub pose : b < 60
+  pub few : rows ≤ 19
+
+-- the same by its poses, so many
+pub record PosesSource (table st row pays : List ℕ) (s : Source) (poses rows lanes : ℕ) : Type 0 where
+  pub source : WideSource table st row pays s lanes
+  pub offered : poses ≤ 60
   pub few : rows ≤ 19
 
 -- ---- sources in the store, l is the lane
@@ -179,6 +211,11 @@ pub record PoseLooks (table : List ℕ) (a buckets : ℕ) : Type 0 where
   pub pose : a < 60
   pub least : 5 ≤ buckets
   pub most : buckets ≤ 9
+
+-- the same in lane l
+pub record LaneLooks (table : List ℕ) (a l buckets : ℕ) : Type 0 where
+  pub looks : PoseLooks table a buckets
+  pub inside : l < 64
 
 -- its row is to be written, with the cell's own cost
 pub record ToRow (st table : List ℕ) (at a own buckets lanes : ℕ) : Type 0 where

@@ -5,19 +5,16 @@
 // 5 buckets: buckets 1 to 4 serve for gaps 2 and 3 too. Only the rows that some pose looks at count; a target that is
 // offered nothing right of its first site, as a fixed cell is, has fewer of them.
 ghost use mathlib.Core.Path.{_≡_};
-ghost use mathlib.Core.Bool.{false};
-ghost use Prim.Native.Nat.{_+_, _-_, _≤_, _<_};
-ghost use Rattle.theory_tables.specs.Steps.{B};
+ghost use Prim.Native.Nat.{_+_, _-_};
 ghost use Rattle.search_lanes.specs.Lowered.{LoweredAt};
 ghost use Rattle.search_lanes.specs.Lanes.{always, wordsFrom};
 ghost use Rattle.search_lanes.specs.Store.{Written, WrittenRows};
-ghost use Rattle.search_row.specs.Words.{RowWords};
 ghost use Rattle.search_buckets.specs.Rows.{rowsOf};
-ghost use Rattle.search_wide_buckets.specs.Table.{WordsLent, OfferedBelow, TableFor, Cleared};
-ghost use Rattle.search_wide_buckets.specs.Table.{Gathered, FiveOrNine, chargedBy};
+ghost use Rattle.search_wide_buckets.specs.Table.{PosesAsked, OfferedBelow, TableFor, TableToClear, Cleared};
+ghost use Rattle.search_wide_buckets.specs.Table.{WordToLower, LanesToLower, GatheredIf, chargedBy};
 ghost use Rattle.search_wide_buckets.specs.Table.{chargedOne, LaneSpread, NearSpread, RowSpread, Spread};
-ghost use Rattle.search_wide_buckets.specs.Table.{WideSource, PoseSource, poseIn, posesIn};
-ghost use Rattle.search_wide_buckets.specs.Table.{RunUp, PoseLooks, foundIn, foundRow, foundRowOf};
+ghost use Rattle.search_wide_buckets.specs.Table.{PoseSource, PosesSource, poseIn, posesIn};
+ghost use Rattle.search_wide_buckets.specs.Table.{RunUp, LaneLooks, foundIn, foundRow, foundRowOf};
 ghost use Rattle.search_wide_buckets.specs.Table.{ToRow, PoseToRow, PosesToRows};
 use search_buckets::Source;
 
@@ -26,7 +23,7 @@ use search_buckets::Source;
 // How many poses of the cell at position k are looked at, of so many: those at its
 // first site, if it is offered no other.
 pub fn poses_of(row: &[u32], k: usize, poses: usize) -> usize
-    requires { ⌜ RowWords (now row) × (k < 64) × (poses ≤ 60) ⌝ }
+    requires { ⌜ PosesAsked (now row) k poses ⌝ }
     ensures { λ n. ⌜ OfferedBelow (now (row .entry)) k poses n ⌝ }
 {
     if poses < 4 {
@@ -40,7 +37,7 @@ pub fn poses_of(row: &[u32], k: usize, poses: usize) -> usize
 
 // NONE in the lanes and rows that count, in so many buckets.
 pub fn reset(table: &mut [u32; search_store::TABLE], buckets: usize, poses: usize, lanes: usize)
-    requires { ⌜ TableFor (now table) poses lanes × (buckets ≤ 9) ⌝ }
+    requires { ⌜ TableToClear (now table) buckets poses lanes ⌝ }
     ensures { λ _. ⌜ Cleared (rowsOf poses) lanes buckets (now (table .exit)) ⌝ }
 {
     let rows = search_buckets::rows_of(poses);
@@ -55,7 +52,7 @@ pub fn reset(table: &mut [u32; search_store::TABLE], buckets: usize, poses: usiz
 
 // One word lowered.
 fn lower_one(table: &mut [u32; search_store::TABLE], to: usize, x: u32)
-    requires { ⌜ WordsLent (now table) to 1 × (x ≤ B + B) ⌝ }
+    requires { ⌜ WordToLower (now table) to x ⌝ }
     ensures { λ _. ⌜ LoweredAt (always x) to 1 (now (table .entry)) (now (table .exit)) ⌝ }
 {
     table[to] = search_lanes::lesser(table[to], x);
@@ -117,7 +114,7 @@ pub fn spread_lane(
     lane: usize,
     buckets: usize,
 )
-    requires { ⌜ LaneSpread (now table) (now pays) buckets x u t lane × FiveOrNine buckets ⌝ }
+    requires { ⌜ LaneSpread (now table) (now pays) buckets x u t lane ⌝ }
     ensures { λ _. ⌜ Spread (chargedOne x (now (pays .entry)) u) t 0 buckets lane 1 (now (table .entry))
         (now (table .exit)) ⌝ }
 {
@@ -182,7 +179,7 @@ fn spread_row(
     buckets: usize,
     lanes: usize,
 )
-    requires { ⌜ RowSpread (now table) (now row) (now pays) buckets at u t lanes × FiveOrNine buckets ⌝ }
+    requires { ⌜ RowSpread (now table) (now row) (now pays) buckets at u t lanes ⌝ }
     ensures { λ _. ⌜ Spread (chargedBy (now (row .entry)) at (now (pays .entry)) u) t 0 buckets 0 lanes
         (now (table .entry)) (now (table .exit)) ⌝ }
 {
@@ -205,10 +202,9 @@ fn from_pose(
     lanes: usize,
 ) -> bool
     requires { ⌜ PoseSource (now table) (now store) (now row) (now pays) source b rows lanes ⌝ }
-    ensures { λ used. ⌜ Gathered
+    ensures { λ used. ⌜ GatheredIf used
         (poseIn (now (store .entry)) (now (row .entry)) (source .at) (source .left) (source .right) b) rows
-        (source .buckets) lanes (now (table .entry)) (now (table .exit))
-        × (used ≡ false → now (table .exit) ≡ now (table .entry)) ⌝ }
+        (source .buckets) lanes (now (table .entry)) (now (table .exit)) ⌝ }
 {
     let t = search_buckets::end_row(row, source.left, b, source.right);
     if t >= rows {
@@ -241,11 +237,10 @@ pub fn from_poses(
     rows: usize,
     lanes: usize,
 ) -> bool
-    requires { ⌜ WideSource (now table) (now store) (now row) (now pays) source lanes × (poses ≤ 60) × (rows ≤ 19) ⌝ }
-    ensures { λ used. ⌜ Gathered
+    requires { ⌜ PosesSource (now table) (now store) (now row) (now pays) source poses rows lanes ⌝ }
+    ensures { λ used. ⌜ GatheredIf used
         (posesIn (now (store .entry)) (now (row .entry)) (source .at) (source .left) (source .right) poses)
-        rows (source .buckets) lanes (now (table .entry)) (now (table .exit))
-        × (used ≡ false → now (table .exit) ≡ now (table .entry)) ⌝ }
+        rows (source .buckets) lanes (now (table .entry)) (now (table .exit)) ⌝ }
 {
     let mut used = false;
     let mut b: usize = 0;
@@ -262,7 +257,7 @@ pub fn from_poses(
 
 // The lanes from `to` on lowered to those from `from` on.
 fn lower_by(table: &mut [u32; search_store::TABLE], to: usize, from: usize, lanes: usize)
-    requires { ⌜ WordsLent (now table) to lanes × (from + lanes ≤ to) ⌝ }
+    requires { ⌜ LanesToLower (now table) to from lanes ⌝ }
     ensures { λ _. ⌜ LoweredAt (wordsFrom (now (table .entry)) from) to lanes (now (table .entry))
         (now (table .exit)) ⌝ }
 {
@@ -288,7 +283,7 @@ pub fn run_up(table: &mut [u32; search_store::TABLE], poses: usize, lanes: usize
 
 // What pose a finds in lane l: at gaps 0, 2 and 3, and further left.
 fn found_lane(table: &[u32; search_store::TABLE], a: usize, l: usize, buckets: usize) -> u32
-    requires { ⌜ PoseLooks (now table) a buckets × (l < 64) ⌝ }
+    requires { ⌜ LaneLooks (now table) a l buckets ⌝ }
     ensures { λ x. ⌜ x ≡ foundIn buckets (now (table .entry)) a l ⌝ }
 {
     let far = a / 4 * 64 + l;

@@ -65,7 +65,7 @@ element-copy-out-lesser-2 c = search needs
 lesser-requires : tie.Need-lesser-requires
 lesser-requires c κs =
     let k = c .before .before in
-    (omega (arith, k .pre .0 .lent .low .word (other k + 128)), omega (arith, k .pre .0 .lent .low .word (other k + 64)))
+    (omega (arith, k .pre .looks .lent .low .word (other k + 128)), omega (arith, k .pre .looks .lent .low .word (other k + 64)))
 
 add-lesser-3 : tie.Need-add-lesser-3
 add-lesser-3 c = search needs
@@ -79,7 +79,7 @@ element-copy-out-lesser-3 c = search needs
 lesser-requires-2 : tie.Need-lesser-requires-2
 lesser-requires-2 c κs =
     let k = c .before .before .before .before in
-    (omega (arith, k .pre .0 .lent .low .word (near k + 256)), omega (arith, c .before .lesser .ensures, k .pre .0 .lent .low .word (other k + 64)))
+    (omega (arith, k .pre .looks .lent .low .word (near k + 256)), omega (arith, c .before .lesser .ensures, k .pre .looks .lent .low .word (other k + 64)))
 
 mul-lesser-4 : tie.Need-mul-lesser-4
 mul-lesser-4 c = search needs
@@ -91,13 +91,13 @@ lesser-requires-3 : tie.Need-lesser-requires-3
 lesser-requires-3 c κs =
     let mid = c .before .before .before .before in
     let k = mid .before .before in
-    (omega (arith, c .before .lesser2 .ensures, k .pre .0 .lent .low .word (near k + 256)), omega (arith, k .pre .0 .lent .low .word (far k)))
+    (omega (arith, c .before .lesser2 .ensures, k .pre .looks .lent .low .word (near k + 256)), omega (arith, k .pre .looks .lent .low .word (far k)))
 
 returns : tie.Need-returns
 returns c =
     let after-lesser = c .before .before .before .before in
     let k = after-lesser .before .before .before in
-    let e = found-words (k .args .buckets) (k .args .a) (k .args .l) (near k) (other k) (far k) (k .pre .0 .lent .low) refl refl refl in
+    let e = found-words (k .args .buckets) (k .args .a) (k .args .l) (near k) (other k) (far k) (k .pre .looks .lent .low) refl refl refl in
     omega (arith, e, c .lesser3 .ensures, c .before .before .lesser2 .ensures, after-lesser .lesser .ensures)
 
 pub found-lane-spec : {M : Type 1} → statement M

@@ -18,16 +18,17 @@ end-row-requires c κs = search needs
 returns : tie.Need-returns
 returns c =
     let k = c .before .before .before .before in
-    let a = k .args in (
-      gathered-none _ _ _ (k .pre .source .tableLow)
+    let a = k .args in
+    record {
+      gathered = gathered-none _ _ _ (k .pre .source .tableLow)
           (λ l v s i j h. omega (
             arith,
             row-miss (endRow (a .row .now) (a .source .left) (a .b) (a .source .right)) s
                 (getD (a .store .now) (a .source .at + a .b * 64 + l) 0 + payIn (a .row .now) (a .source .left) (a .b) (a .source .right) v)
                 (λ e. omega (arith, c .before .end-row .ensures)),
-          )),
-      λ e. refl,
-    )
+          ));
+      unused = λ e. refl;
+    }
 
 mul-common : tie.Need-mul-common
 mul-common c = search needs
@@ -43,17 +44,18 @@ returns-2 c =
     let mid₂ = c .before .before .before .before in
     let mid = mid₂ .before in
     let k = mid .before .before in
-    let a = k .args in (
-      gathered-none _ _ _ (k .pre .source .tableLow)
+    let a = k .args in
+    record {
+      gathered = gathered-none _ _ _ (k .pre .source .tableLow)
           (λ l v s i j h.
           omega (
             arith,
             c .before .common .ensures l i,
             row-above (endRow (a .row .now) (a .source .left) (a .b) (a .source .right)) s
                 (getD (a .store .now) (a .source .at + a .b * 64 + l) 0 + payIn (a .row .now) (a .source .left) (a .b) (a .source .right) v),
-          )),
-      λ e. refl,
-    )
+          ));
+      unused = λ e. refl;
+    }
 
 mul-spread-row : tie.Need-mul-spread-row
 mul-spread-row c = search needs
@@ -66,30 +68,30 @@ spread-row-requires c κs =
     let mid₂ = c .before .before .before .before in
     let mid = mid₂ .before .before in
     let k = mid .before .before .before in
-    let g = k .pre .source in (
-      record {
-        lent = record { long = g .tableLong; low = g .tableLow };
-        low = g .low;
-        room = omega (arith, g .room, g .narrow);
-        paid = pays-low (g .words) (g .paid);
-        kind = omega arith;
-        here = omega arith;
-        narrow = g .narrow;
-      },
-      g .needed,
-    )
+    let g = k .pre .source in
+    record {
+      lent = record { long = g .tableLong; low = g .tableLow };
+      low = g .low;
+      room = omega (arith, g .room, g .narrow);
+      needed = g .needed;
+      paid = pays-low (g .words) (g .paid);
+      kind = omega arith;
+      here = omega arith;
+      narrow = g .narrow;
+    }
 
 returns-3 : tie.Need-returns-3
 returns-3 c =
     let mid₂ = c .before .before .before .before in
     let mid = mid₂ .before .before in
     let k = mid .before .before .before .before in
-    let a = k .args in (
-      spread-all (k .pre .few) (c .spread-row .ensures)
+    let a = k .args in
+    record {
+      gathered = spread-all (k .pre .few) (c .spread-row .ensures)
           (λ l v s i j. pose-pays (a .b) v s (getD (a .store .now) (a .source .at + a .b * 64 + l) 0) (k .pre .source .paid)
-          (mid .before .end-row .ensures) j (nine-most (k .pre .source .needed))),
-      λ e. absurd (let z : _≡_ {A = ℕ} 0 1 = cc in omega arith),
-    )
+          (mid .before .end-row .ensures) j (nine-most (k .pre .source .needed)));
+      unused = λ e. absurd (let z : _≡_ {A = ℕ} 0 1 = cc in omega arith);
+    }
 
 pub from-pose-spec : {M : Type 1} → statement M
 from-pose-spec =

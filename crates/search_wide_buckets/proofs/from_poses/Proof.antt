@@ -28,7 +28,7 @@ loop-holds c =
     let k = c .before .before in
     let a = k .args in (
       omega arith,
-      gathered-none _ _ _ (k .pre .0 .tableLow)
+      gathered-none _ _ _ (k .pre .source .tableLow)
           (λ l v t i j h. omega (arith, poses-none (a .row .now) (a .source .left) (a .source .right) (rowIn (a .store .now) (a .source .at) l) v t)),
       λ e. refl,
     )
@@ -38,7 +38,7 @@ from-pose-requires c κs =
     let at-loop = c .before .before in
     let k = at-loop .before .before .before in
     let l = at-loop .loop in
-    record { source = source-on (k .pre .0) (l .inv .1); pose = omega arith; few = omega arith }
+    record { source = source-on (k .pre .source) (l .inv .1); pose = omega arith; few = omega arith }
 
 add-b : tie.Need-add-b Inv-loop μ-loop
 add-b c = search needs
@@ -53,12 +53,12 @@ loop-again c =
     let a = k .args in
     let l = at-loop .loop in (
       omega arith,
-      gathered-join (l .inv .1) (c .before .from-pose .ensures .0)
+      gathered-join (l .inv .1) (c .before .from-pose .ensures .gathered)
           (λ j v t i. poses-more (a .row .now) (a .source .left) (a .source .right) (rowIn (a .store .now) (a .source .at) j) (l .b) v t),
       λ e.
           ⊎-elim
           (λ w. absurd (true-false (sym (w .1) ∙ e)))
-          (λ w. c .before .from-pose .ensures .1 (w .0 .left) ∙ l .inv .2 (sym (w .1) ∙ e))
+          (λ w. c .before .from-pose .ensures .unused (w .0 .left) ∙ l .inv .2 (sym (w .1) ∙ e))
           (c .if1 .came),
     )
 
@@ -67,7 +67,7 @@ returns c =
     let at-loop = c .before in
     let l = at-loop .loop in
     let e : l .b ≡ at-loop .before .before .before .args .poses = omega arith in
-    (rw e at (l .inv .1), l .inv .2)
+    record { gathered = rw e at (l .inv .1); unused = l .inv .2 }
 
 pub from-poses-spec : {M : Type 1} → statement M
 from-poses-spec =

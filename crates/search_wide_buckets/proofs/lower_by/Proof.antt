@@ -42,8 +42,8 @@ lesser-requires c κs =
     let l = c .before .before .before .loop in
     let i = k .args .to + l .l in
     let j = k .args .from + l .l in (
-      omega (arith, l .inv .1 .frame .high i (omega arith), k .pre .0 .lent .low .word i),
-      omega (arith, l .inv .1 .frame .low j (omega arith), k .pre .0 .lent .low .word j),
+      omega (arith, l .inv .1 .frame .high i (omega arith), k .pre .lent .low .word i),
+      omega (arith, l .inv .1 .frame .low j (omega arith), k .pre .lent .low .word j),
     )
 
 add-table : tie.Need-add-table Inv-loop μ-loop

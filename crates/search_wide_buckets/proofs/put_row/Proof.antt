@@ -21,7 +21,9 @@ loop-holds : tie.Need-loop-holds Inv-loop μ-loop
 loop-holds c = (omega arith, written-none _ _ (c .before .pre .low))
 
 found-lane-requires : tie.Need-found-lane-requires Inv-loop μ-loop
-found-lane-requires c κs = let k = c .before .before .before in (k .pre .looks, omega (arith, k .pre .narrow))
+found-lane-requires c κs =
+    let k = c .before .before .before in
+    record { looks = k .pre .looks; inside = omega (arith, k .pre .narrow) }
 
 add-lesser : tie.Need-add-lesser Inv-loop μ-loop
 add-lesser c =

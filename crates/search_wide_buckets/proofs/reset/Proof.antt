@@ -22,7 +22,7 @@ rows-of-requires c κs = search needs
 
 loop-holds : tie.Need-loop-holds Inv-loop μ-loop
 loop-holds c =
-    (omega arith, c .rows-of .ensures, cleared-none _ _ (c .before .pre .0 .lent .long) (c .before .pre .0 .lent .low))
+    (omega arith, c .rows-of .ensures, let g = c .before .pre .tableFor .lent in cleared-none _ _ (g .long) (g .low))
 
 mul-fill-rows : tie.Need-mul-fill-rows Inv-loop μ-loop
 mul-fill-rows c = search needs
@@ -30,7 +30,7 @@ mul-fill-rows c = search needs
 fill-rows-requires : tie.Need-fill-rows-requires Inv-loop μ-loop
 fill-rows-requires c κs =
     let l = c .before .before .loop in
-    let n = c .before .before .before .before .pre .0 .narrow in
+    let n = c .before .before .before .before .pre .tableFor .narrow in
     (record { room = omega (arith, l .inv .2 .long); narrow = n; low = l .inv .2 .low }, omega arith)
 
 add-v : tie.Need-add-v Inv-loop μ-loop
@@ -43,7 +43,7 @@ loop-again : tie.Need-loop-again Inv-loop μ-loop
 loop-again c =
     let at-loop = c .before .before .before in
     let l = at-loop .loop in
-    (omega arith, l .inv .1, cleared-more (l .v) (omega arith) (at-loop .before .before .pre .0 .narrow) (l .inv .2) (c .fill-rows .ensures))
+    (omega arith, l .inv .1, cleared-more (l .v) (omega arith) (at-loop .before .before .pre .tableFor .narrow) (l .inv .2) (c .fill-rows .ensures))
 
 returns : tie.Need-returns Inv-loop μ-loop
 returns c =

@@ -36,7 +36,11 @@ lower-by-requires c κs =
     let at-loop = c .before .before in
     let g = at-loop .before .pre in
     let w = at-loop .loop .inv .1 in
-    (record { lent = record { long = w .long ∙ g .lent .long; low = w .low }; room = omega (arith, g .few, g .narrow) }, omega (arith, g .narrow))
+    record {
+      lent = record { long = w .long ∙ g .lent .long; low = w .low };
+      room = omega (arith, g .few, g .narrow);
+      before = omega (arith, g .narrow);
+    }
 
 add-t : tie.Need-add-t Inv-loop μ-loop
 add-t c = search needs

@@ -65,10 +65,12 @@ lower-one-requires : tie.Need-lower-one-requires Inv-loop μ-loop
 lower-one-requires c κs =
     let at-loop = c .before .before .before in
     let k = at-loop .before .before in
-    let l = at-loop .loop in (
-      record { lent = record { long = l .inv .1 .long ∙ k .pre .spread .lent .long; low = l .inv .1 .low }; room = omega arith },
-      omega (arith, k .pre .spread .paid .low (k .args .u * 9 + (k .args .first + l .v)) (omega arith) (omega arith)),
-    )
+    let l = at-loop .loop in
+    record {
+      lent = record { long = l .inv .1 .long ∙ k .pre .spread .lent .long; low = l .inv .1 .low };
+      room = omega arith;
+      cost = omega (arith, k .pre .spread .paid .low (k .args .u * 9 + (k .args .first + l .v)) (omega arith) (omega arith));
+    }
 
 add-v : tie.Need-add-v Inv-loop μ-loop
 add-v c = search needs

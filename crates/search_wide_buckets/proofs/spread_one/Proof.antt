@@ -50,7 +50,11 @@ add-lower-one-2 c =
 lower-one-requires : tie.Need-lower-one-requires
 lower-one-requires c κs =
     let k = c .before .before in
-    (record { lent = k .pre .lent; room = omega arith }, omega (arith, k .pre .paid .low (k .args .u * 9) (omega arith) (omega arith)))
+    record {
+      lent = k .pre .lent;
+      room = omega arith;
+      cost = omega (arith, k .pre .paid .low (k .args .u * 9) (omega arith) (omega arith));
+    }
 
 spread-near-requires : tie.Need-spread-near-requires
 spread-near-requires c κs =
@@ -61,6 +65,7 @@ spread-near-requires c κs =
       spread = record {
         lent = record { long = w .long ∙ g .lent .long; low = w .low };
         cost = g .cost;
+        needed = g .needed;
         paid = g .paid;
         kind = g .kind;
         here = g .here;

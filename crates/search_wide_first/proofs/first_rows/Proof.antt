@@ -60,7 +60,10 @@ buckets-of-requires c κs = search needs
 reset-requires : tie.Need-reset-requires
 reset-requires c κs =
     let k = c .before .before .before .before in
-    (record { lent = k .pre .lent; few = k .pre .few; narrow = k .pre .narrow }, nine-most (needed (c .before)))
+    record {
+      tableFor = record { lent = k .pre .lent; few = k .pre .few; narrow = k .pre .narrow };
+      most = nine-most (needed (c .before));
+    }
 
 rows-of-requires : tie.Need-rows-of-requires
 rows-of-requires c κs = search needs

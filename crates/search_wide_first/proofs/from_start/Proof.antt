@@ -19,17 +19,16 @@ returns c =
 spread-lane-requires : tie.Need-spread-lane-requires
 spread-lane-requires c κs =
     let k = c .before .before .before .before in
-    let g = k .pre .starting in (
-      record {
-        lent = g .lent;
-        cost = omega arith;
-        paid = pays-low (g .words) (k .pre .paid);
-        kind = omega arith;
-        here = omega (arith, g .few);
-        inside = omega arith;
-      },
-      g .needed,
-    )
+    let g = k .pre .starting in
+    record {
+      lent = g .lent;
+      cost = omega arith;
+      needed = g .needed;
+      paid = pays-low (g .words) (k .pre .paid);
+      kind = omega arith;
+      here = omega (arith, g .few);
+      inside = omega arith;
+    }
 
 returns-2 : tie.Need-returns-2
 returns-2 c =

@@ -115,8 +115,9 @@ from-poses-requires c κs =
     let mid = c .before .before .before .before in
     let cells = mid .before .before in
     let k = start cells in
-    let g = k .pre .0 .given in (
-      record {
+    let g = k .pre .0 .given in
+    record {
+      source = record {
         words = g .ground .words;
         low = g .low;
         tableLow = k .pre .0 .lent .low;
@@ -127,10 +128,10 @@ from-poses-requires c κs =
         right = right cells;
         needed = needed (mid .before);
         paid = c .before .before .before .fill-pays .ensures;
-      },
-      g .ground .few,
-      k .pre .0 .few,
-    )
+      };
+      offered = g .ground .few;
+      few = k .pre .0 .few;
+    }
 
 returns-2 : tie.Need-returns-2
 returns-2 c =
@@ -138,13 +139,13 @@ returns-2 c =
     let mid = mid₂ .before in
     let cells = mid .before .before in
     let a = start cells .args in (
-      rw (needed-here (mid .before)) at (gathered-ext (c .from-poses .ensures .0)
+      rw (needed-here (mid .before)) at (gathered-ext (c .from-poses .ensures .gathered)
           (λ l v t h.
           state-in (a .row .now) (deckIn (a .row .now) (a .sizes)) (a .sizes .reordering) (layerIn (a .store .now) (a .layer .at) l) (a .layer .cells) (a .q)
           (a .p) v t (source (cells .before .before .before))
           ∙ ap₂ (λ (x y : ℕ). byPoses (a .row .now) x y (layerIn (a .store .now) (a .layer .at) l (a .p)) (a .sizes .poses) v t)
           (sym (cells .before .before .last-at .ensures)) (sym (here cells)))),
-      c .from-poses .ensures .1,
+      c .from-poses .ensures .unused,
     )
 
 pub from-source-spec : {M : Type 1} → statement M

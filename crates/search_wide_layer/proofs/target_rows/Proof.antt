@@ -190,7 +190,7 @@ buckets-of-requires c κs = (start c .pre .0 .given .ground .words, inside c)
 poses-of-requires : tie.Need-poses-of-requires
 poses-of-requires c κs =
     let g = start (c .before) .pre .0 .given .ground in
-    (g .words, inside (c .before), g .few)
+    record { words = g .words; cell = inside (c .before); few = g .few }
 
 rows-of-requires : tie.Need-rows-of-requires
 rows-of-requires c κs = looking c
@@ -199,7 +199,10 @@ reset-requires : tie.Need-reset-requires
 reset-requires c κs =
     let p = c .before .before in
     let k = start (p .before .before) in
-    (record { lent = k .pre .0 .lent; few = looking p; narrow = k .pre .0 .given .narrow }, nine-most (needed (p .before)))
+    record {
+      tableFor = record { lent = k .pre .0 .lent; few = looking p; narrow = k .pre .0 .given .narrow };
+      most = nine-most (needed (p .before));
+    }
 
 gather-requires : tie.Need-gather-requires
 gather-requires c κs =
