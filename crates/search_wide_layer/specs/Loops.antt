@@ -4,7 +4,7 @@ use mathlib.Core.List.{List}
 use lib.ListN.{length}
 use Rattle.search_store.specs.Map.{layerBlock}
 use Rattle.theory_tables.specs.Steps.{Deck, Layer, lastAt, nextLayer}
-use Rattle.search_lanes.specs.Store.{Low, layerIn}
+use Rattle.search_lanes.specs.Store.{Low, layerIn, FilledState, Filled}
 use Rattle.search_row.specs.declared.Sizes.{Sizes}
 use Rattle.search_row.specs.Words.{Ground}
 use Rattle.search_buckets.specs.Rows.{bucketsIn}
@@ -42,8 +42,35 @@ pub record Gathering (table row st : List ℕ) (z : Sizes) (layer : Block) (q ro
   pub target : Target (z .cells) (z .reordering) (layer .cells) q
   pub few : rows ≤ 19
 
+-- the same from its state p
+pub record SourceGathering (table row st : List ℕ) (z : Sizes) (layer : Block) (q p rows : ℕ) : Type 0 where
+  pub gathering : Gathering table row st z layer q rows
+  pub source : p < z .states
+
 -- the next layer is to be made from a layer, in the block at `to`
 pub record Stepping (table row st : List ℕ) (z : Sizes) (layer : Block) (to : ℕ) : Type 0 where
   pub lent : Lent table
   pub given : Given row st z (layer .lanes) (layer .cells) (layer .at)
   pub beside : Beside st (layer .at) to
+
+-- its state q
+pub record StateStepping (table row st : List ℕ) (z : Sizes) (layer : Block) (to q : ℕ) : Type 0 where
+  pub stepping : Stepping table row st z layer to
+  pub state : q < z .states
+
+-- its state q, whose cell the row has
+pub record TargetStepping (table row st : List ℕ) (z : Sizes) (layer : Block) (to q : ℕ) : Type 0 where
+  pub stepping : Stepping table row st z layer to
+  pub target : Target (z .cells) (z .reordering) (layer .cells) q
+
+-- ---- what is left
+
+-- state q of a layer, in its block at `to`, and a table that serves the next state
+pub record StateMade (F : ℕ → Layer) (lanes to q m : ℕ) (old new table : List ℕ) : Type 0 where
+  pub filled : FilledState F lanes to q m old new
+  pub lent : Lent table
+
+-- a layer, in its block at `to`, and a table that serves the next layer
+pub record LayerMade (F : ℕ → Layer) (lanes poses to m : ℕ) (old new table : List ℕ) : Type 0 where
+  pub filled : Filled F lanes poses to m old new
+  pub lent : Lent table

@@ -5,11 +5,10 @@ ghost use mathlib.Core.Path.{_≡_};
 ghost use mathlib.Core.Bool.{false};
 ghost use Prim.Native.Nat.{ℕ, _<_};
 ghost use Rattle.theory_tables.specs.Steps.{isSource};
-ghost use Rattle.search_lanes.specs.Store.{FilledState, Filled};
 ghost use Rattle.search_row.specs.Words.{deckIn, TargetGiven};
-ghost use Rattle.search_buckets.specs.Next.{Target};
-ghost use Rattle.search_wide_buckets.specs.Table.{Lent, Gathered, stateIn, statesIn};
-ghost use Rattle.search_wide_layer.specs.Loops.{nextFrom, bucketsFor, Gathering, Stepping};
+ghost use Rattle.search_wide_buckets.specs.Table.{GatheredIf, stateIn, statesIn};
+ghost use Rattle.search_wide_layer.specs.Loops.{nextFrom, bucketsFor, Gathering, SourceGathering, Stepping};
+ghost use Rattle.search_wide_layer.specs.Loops.{StateStepping, TargetStepping, StateMade, LayerMade};
 use search_buckets::Source;
 use search_row::Sizes;
 
@@ -31,11 +30,10 @@ fn from_source(
     p: usize,
     rows: usize,
 ) -> bool
-    requires { ⌜ Gathering (now table) (now row) (now store) sizes layer q rows × (p < sizes .states) ⌝ }
-    ensures { λ used. ⌜ Gathered (stateIn (now (store .entry)) (now (row .entry)) (deckIn (now (row .entry)) sizes)
-        (sizes .reordering) (layer .at) (layer .cells) q p) rows (bucketsFor (now (row .entry)) sizes layer q)
-        (layer .lanes) (now (table .entry)) (now (table .exit))
-        × (used ≡ false → now (table .exit) ≡ now (table .entry)) ⌝ }
+    requires { ⌜ SourceGathering (now table) (now row) (now store) sizes layer q p rows ⌝ }
+    ensures { λ used. ⌜ GatheredIf used (stateIn (now (store .entry)) (now (row .entry))
+        (deckIn (now (row .entry)) sizes) (sizes .reordering) (layer .at) (layer .cells) q p) rows
+        (bucketsFor (now (row .entry)) sizes layer q) (layer .lanes) (now (table .entry)) (now (table .exit)) ⌝ }
 {
     if !search_row::is_source(row, sizes, layer.cells, q, p) {
         return false;
@@ -75,10 +73,9 @@ fn gather(
     rows: usize,
 ) -> bool
     requires { ⌜ Gathering (now table) (now row) (now store) sizes layer q rows ⌝ }
-    ensures { λ used. ⌜ Gathered (statesIn (now (store .entry)) (now (row .entry)) (deckIn (now (row .entry)) sizes)
-        (sizes .reordering) (layer .at) (layer .cells) q (sizes .states)) rows
-        (bucketsFor (now (row .entry)) sizes layer q) (layer .lanes) (now (table .entry)) (now (table .exit)) ×
-        (used ≡ false → now (table .exit) ≡ now (table .entry)) ⌝ }
+    ensures { λ used. ⌜ GatheredIf used (statesIn (now (store .entry)) (now (row .entry))
+        (deckIn (now (row .entry)) sizes) (sizes .reordering) (layer .at) (layer .cells) q (sizes .states)) rows
+        (bucketsFor (now (row .entry)) sizes layer q) (layer .lanes) (now (table .entry)) (now (table .exit)) ⌝ }
 {
     let mut used = false;
     let mut p: usize = 0;
@@ -118,12 +115,10 @@ fn target_rows(
     to: usize,
     q: usize,
 )
-    requires { ⌜ Stepping (now table) (now row) (now store) sizes layer to
-        × Target (sizes .cells) (sizes .reordering) (layer .cells) q ⌝ }
-    ensures { λ _. ⌜ FilledState (nextFrom (deckIn (now (row .entry)) sizes) (sizes .reordering)
-        (now (store .entry)) (layer .at) (layer .cells)) (layer .lanes) to q (sizes .poses) (now (store .entry))
-        (now (store .exit))
-        × Lent (now (table .exit)) ⌝ }
+    requires { ⌜ TargetStepping (now table) (now row) (now store) sizes layer to q ⌝ }
+    ensures { λ _. ⌜ StateMade (nextFrom (deckIn (now (row .entry)) sizes) (sizes .reordering) (now (store .entry))
+        (layer .at) (layer .cells)) (layer .lanes) to q (sizes .poses) (now (store .entry)) (now (store .exit))
+        (now (table .exit)) ⌝ }
 {
     let at = to + q * search_store::STATE;
     if !has_source(row, sizes, layer.cells, q) {
@@ -160,11 +155,10 @@ pub fn target_block(
     to: usize,
     q: usize,
 )
-    requires { ⌜ Stepping (now table) (now row) (now store) sizes layer to × (q < sizes .states) ⌝ }
-    ensures { λ _. ⌜ FilledState (nextFrom (deckIn (now (row .entry)) sizes) (sizes .reordering)
-        (now (store .entry)) (layer .at) (layer .cells)) (layer .lanes) to q (sizes .poses) (now (store .entry))
-        (now (store .exit))
-        × Lent (now (table .exit)) ⌝ }
+    requires { ⌜ StateStepping (now table) (now row) (now store) sizes layer to q ⌝ }
+    ensures { λ _. ⌜ StateMade (nextFrom (deckIn (now (row .entry)) sizes) (sizes .reordering) (now (store .entry))
+        (layer .at) (layer .cells)) (layer .lanes) to q (sizes .poses) (now (store .entry)) (now (store .exit))
+        (now (table .exit)) ⌝ }
 {
     if !search_row::is_there(row, sizes, layer.cells + 1, q) {
         search_lanes::fill_rows(
@@ -189,10 +183,9 @@ pub fn step_layer(
     to: usize,
 )
     requires { ⌜ Stepping (now table) (now row) (now store) sizes layer to ⌝ }
-    ensures { λ _. ⌜ Filled (nextFrom (deckIn (now (row .entry)) sizes) (sizes .reordering)
-        (now (store .entry)) (layer .at) (layer .cells)) (layer .lanes) (sizes .poses) to (sizes .states)
-        (now (store .entry)) (now (store .exit))
-        × Lent (now (table .exit)) ⌝ }
+    ensures { λ _. ⌜ LayerMade (nextFrom (deckIn (now (row .entry)) sizes) (sizes .reordering) (now (store .entry))
+        (layer .at) (layer .cells)) (layer .lanes) (sizes .poses) to (sizes .states) (now (store .entry))
+        (now (store .exit)) (now (table .exit)) ⌝ }
 {
     let mut q: usize = 0;
     while q < sizes.states {

@@ -73,8 +73,8 @@ loop-again c =
     let mid = c .before .before .before .before in
     let at-loop = mid .before .before .before in (
       omega arith,
-      ran-more (at-loop .before .before .before .pre .given .ground .all) (at-loop .loop .inv .1) (c .before .before .step-layer .ensures .0),
-      c .before .before .step-layer .ensures .1,
+      ran-more (at-loop .before .before .before .pre .given .ground .all) (at-loop .loop .inv .1) (c .before .before .step-layer .ensures .filled),
+      c .before .before .step-layer .ensures .lent,
     )
 
 same-length : tie.Need-same-length Inv-loop μ-loop

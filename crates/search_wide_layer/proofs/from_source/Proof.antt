@@ -39,7 +39,7 @@ left c =
       arith,
       c .before .before .last-at .ensures,
       source-size (a .row .now) (a .sizes .cells) (a .sizes .poses) (a .sizes .reordering) (a .layer .cells) (a .q) (a .p) (source (c .before .before .before)),
-      k .pre .0 .given .ground .size,
+      k .pre .gathering .given .ground .size,
     )
 
 here : (c : tie.After-last-at2)
@@ -53,8 +53,8 @@ right c =
     omega (
       arith,
       here c,
-      there-size (a .sizes .cells) (a .sizes .reordering) (suc (a .layer .cells)) (a .q) (k .pre .0 .target .there),
-      k .pre .0 .given .ground .size,
+      there-size (a .sizes .cells) (a .sizes .reordering) (suc (a .layer .cells)) (a .q) (k .pre .gathering .target .there),
+      k .pre .gathering .given .ground .size,
     )
 
 -- how many buckets the target needs
@@ -71,17 +71,18 @@ is-source-requires c κs = search needs
 returns : tie.Need-returns
 returns c =
     let k = c .before .before .before .before in
-    let a = k .args in (
-      gathered-none _ _ _ (k .pre .0 .lent .low)
+    let a = k .args in
+    record {
+      gathered = gathered-none _ _ _ (k .pre .gathering .lent .low)
           (λ l v t i j h.
           omega (
             arith,
             state-out (a .row .now) (deckIn (a .row .now) (a .sizes)) (a .sizes .reordering) (layerIn (a .store .now) (a .layer .at) l) (a .layer .cells)
                 (a .q) (a .p) v t
                 (sym (c .before .is-source .ensures) ∙ not-true _ (c .if1 .taken)),
-          )),
-      λ e. refl,
-    )
+          ));
+      unused = λ e. refl;
+    }
 
 last-at-requires : tie.Need-last-at-requires
 last-at-requires c κs = search needs
@@ -93,13 +94,13 @@ last-at-requires-2 : tie.Need-last-at-requires-2
 last-at-requires-2 c κs = search needs
 
 buckets-of-requires : tie.Need-buckets-of-requires
-buckets-of-requires c κs = (start c .pre .0 .given .ground .words, right c)
+buckets-of-requires c κs = (start c .pre .gathering .given .ground .words, right c)
 
 fill-pays-requires : tie.Need-fill-pays-requires
 fill-pays-requires c κs =
     let cells = c .before .before in
     record {
-      cells = record { words = start cells .pre .0 .given .ground .words; left = left cells; right = right cells };
+      cells = record { words = start cells .pre .gathering .given .ground .words; left = left cells; right = right cells };
       few = nine-most (needed (c .before));
       before = pays-none _ _ _ _ refl;
     }
@@ -115,13 +116,13 @@ from-poses-requires c κs =
     let mid = c .before .before .before .before in
     let cells = mid .before .before in
     let k = start cells in
-    let g = k .pre .0 .given in
+    let g = k .pre .gathering .given in
     record {
       source = record {
         words = g .ground .words;
         low = g .low;
-        tableLow = k .pre .0 .lent .low;
-        tableLong = k .pre .0 .lent .long;
+        tableLow = k .pre .gathering .lent .low;
+        tableLong = k .pre .gathering .lent .long;
         narrow = g .narrow;
         room = omega (arith, g .room, g .ground .all, g .ground .coded .few);
         left = left cells;
@@ -130,7 +131,7 @@ from-poses-requires c κs =
         paid = c .before .before .before .fill-pays .ensures;
       };
       offered = g .ground .few;
-      few = k .pre .0 .few;
+      few = k .pre .gathering .few;
     }
 
 returns-2 : tie.Need-returns-2
@@ -138,15 +139,16 @@ returns-2 c =
     let mid₂ = c .before .before .before .before in
     let mid = mid₂ .before in
     let cells = mid .before .before in
-    let a = start cells .args in (
-      rw (needed-here (mid .before)) at (gathered-ext (c .from-poses .ensures .gathered)
+    let a = start cells .args in
+    record {
+      gathered = rw (needed-here (mid .before)) at (gathered-ext (c .from-poses .ensures .gathered)
           (λ l v t h.
           state-in (a .row .now) (deckIn (a .row .now) (a .sizes)) (a .sizes .reordering) (layerIn (a .store .now) (a .layer .at) l) (a .layer .cells) (a .q)
           (a .p) v t (source (cells .before .before .before))
           ∙ ap₂ (λ (x y : ℕ). byPoses (a .row .now) x y (layerIn (a .store .now) (a .layer .at) l (a .p)) (a .sizes .poses) v t)
-          (sym (cells .before .before .last-at .ensures)) (sym (here cells)))),
-      c .from-poses .ensures .unused,
-    )
+          (sym (cells .before .before .last-at .ensures)) (sym (here cells))));
+      unused = c .from-poses .ensures .unused;
+    }
 
 pub from-source-spec : {M : Type 1} → statement M
 from-source-spec =

@@ -41,15 +41,16 @@ from-source-requires : tie.Need-from-source-requires Inv-loop μ-loop
 from-source-requires c κs =
     let at-loop = c .before .before .before in
     let k = at-loop .before .before .before in
-    let w = at-loop .loop .inv .1 in (
-      record {
+    let w = at-loop .loop .inv .1 in
+    record {
+      gathering = record {
         lent = record { long = w .long ∙ k .pre .lent .long; low = w .low };
         given = k .pre .given;
         target = k .pre .target;
         few = k .pre .few;
-      },
-      omega arith,
-    )
+      };
+      source = omega arith;
+    }
 
 add-p : tie.Need-add-p Inv-loop μ-loop
 add-p c = search needs
@@ -65,14 +66,14 @@ loop-again c =
     let a = k .args in
     let l = at-loop .loop in (
       omega arith,
-      gathered-join (l .inv .1) (after-from-source .from-source .ensures .0)
+      gathered-join (l .inv .1) (after-from-source .from-source .ensures .gathered)
           (λ j v t h. states-more (a .row .now) (deckIn (a .row .now) (a .sizes)) (a .sizes .reordering) (layerIn (a .store .now) (a .layer .at) j)
           (a .layer .cells)
           (a .q) (l .p) v t),
       λ e.
           ⊎-elim
           (λ w. absurd (let z = sym (w .1) ∙ e in let y : _≡_ {A = ℕ} 0 1 = cc in omega arith))
-          (λ w. after-from-source .from-source .ensures .1 (w .0 .left) ∙ l .inv .2 (sym (w .1) ∙ e))
+          (λ w. after-from-source .from-source .ensures .unused (w .0 .left) ∙ l .inv .2 (sym (w .1) ∙ e))
           (c .if2 .came),
     )
 
@@ -80,7 +81,7 @@ returns : tie.Need-returns Inv-loop μ-loop
 returns c =
     let at-loop = c .before .before in
     let e : at-loop .loop .p ≡ at-loop .before .before .before .args .sizes .states = omega arith in
-    (rw e at (at-loop .loop .inv .1), at-loop .loop .inv .2)
+    record { gathered = rw e at (at-loop .loop .inv .1); unused = at-loop .loop .inv .2 }
 
 pub gather-spec : {M : Type 1} → statement M
 gather-spec =

@@ -31,7 +31,10 @@ target-block-requires c κs =
     let k = at-loop .before .before .before in
     let l = at-loop .loop in
     let s = l .inv .1 in
-    (record { lent = l .inv .2; given = given-on (k .pre .given) (s .frame) (s .low); beside = beside-on (k .pre .beside) (s .frame) }, omega arith)
+    record {
+      stepping = record { lent = l .inv .2; given = given-on (k .pre .given) (s .frame) (s .low); beside = beside-on (k .pre .beside) (s .frame) };
+      state = omega arith;
+    }
 
 add-q : tie.Need-add-q Inv-loop μ-loop
 add-q c = search needs
@@ -51,11 +54,11 @@ loop-again c =
     let kept = beside-kept (k .pre .beside) (s .frame) (omega arith) (omega arith) in (
       omega arith,
       filled-more (l .q) (g .narrow) (omega (arith, g .ground .few)) (omega (arith, g .ground .all, g .ground .coded .few)) s
-          (c .before .before .target-block .ensures .0)
+          (c .before .before .target-block .ensures .filled)
           (λ b j x y. sym (next-kept (deckIn (a .row .now) (a .sizes)) (a .sizes .reordering) (a .layer .cells) (l .q) b j kept (g .ground .coded .few)
           (g .ground .few)
           (omega (arith, g .narrow)))),
-      c .before .before .target-block .ensures .1,
+      c .before .before .target-block .ensures .lent,
     )
 
 same-length : tie.Need-same-length Inv-loop μ-loop
@@ -66,7 +69,7 @@ returns : tie.Need-returns Inv-loop μ-loop
 returns c =
     let at-loop = c .before .before in
     let e : at-loop .loop .q ≡ at-loop .before .before .before .args .sizes .states = omega arith in
-    (rw e at (at-loop .loop .inv .1), at-loop .loop .inv .2)
+    record { filled = rw e at (at-loop .loop .inv .1); lent = at-loop .loop .inv .2 }
 
 pub step-layer-spec : {M : Type 1} → statement M
 step-layer-spec =

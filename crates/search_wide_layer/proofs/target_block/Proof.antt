@@ -37,25 +37,27 @@ returns c =
     let k = mid .before in
     let a = k .args in
     let t = sym (after-if1 .before .is-there .ensures) ∙ not-true _ (after-if1 .if1 .taken) in
-    let u = ap (λ (j : ℕ). thereIn (a .sizes .cells) (a .sizes .reordering) j (a .q)) (sym (add-one (a .layer .cells))) ∙ t in (
-      state-rows (omega (arith, k .pre .0 .given .ground .few)) (c .before .before .fill-rows .ensures)
+    let u = ap (λ (j : ℕ). thereIn (a .sizes .cells) (a .sizes .reordering) j (a .q)) (sym (add-one (a .layer .cells))) ∙ t in
+    record {
+      filled = state-rows (omega (arith, k .pre .stepping .given .ground .few)) (c .before .before .fill-rows .ensures)
           (λ b l x y. next-away (deckIn (a .row .now) (a .sizes)) (a .sizes .reordering) (layerIn (a .store .now) (a .layer .at) l) (a .layer .cells)
-          (a .q) b u),
-      k .pre .0 .lent,
-    )
+          (a .q) b u);
+      lent = k .pre .stepping .lent;
+    }
 
 target-rows-requires : tie.Need-target-rows-requires
 target-rows-requires c κs =
     let after-is-there = c .before .before .before in
     let k = after-is-there .before .before .before .before in
     let a = k .args in
-    let t = sym (after-is-there .is-there .ensures) ∙ not-false _ (c .before .before .if1 .left) in (
-      k .pre .0,
-      record {
-        state = omega (arith, k .pre .0 .given .ground .all);
+    let t = sym (after-is-there .is-there .ensures) ∙ not-false _ (c .before .before .if1 .left) in
+    record {
+      stepping = k .pre .stepping;
+      target = record {
+        state = omega (arith, k .pre .stepping .given .ground .all);
         there = ap (λ (j : ℕ). thereIn (a .sizes .cells) (a .sizes .reordering) j (a .q)) (sym (add-one (a .layer .cells))) ∙ t;
-      },
-    )
+      };
+    }
 
 same-length-2 : tie.Need-same-length-2
 same-length-2 c = search needs

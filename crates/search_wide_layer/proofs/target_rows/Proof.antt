@@ -54,7 +54,7 @@ next k b l =
 
 -- the state's rows lie in the store
 room : (k : tie.Start) → (let a = k .args in a .to + a .q * stateBlock + a .sizes .poses * 64 ≤ length (a .store .now))
-room k = omega (arith, k .pre .0 .beside .room, k .pre .1 .state, k .pre .0 .given .ground .coded .few, k .pre .0 .given .ground .few)
+room k = omega (arith, k .pre .stepping .beside .room, k .pre .target .state, k .pre .stepping .given .ground .coded .few, k .pre .stepping .given .ground .few)
 
 short : (k : tie.Start) → length (k .args .store .now) < 2 ^ 64
 short k = search needs
@@ -68,7 +68,12 @@ inside : (c : tie.After-last-at) → c .last-at .result < 64
 inside c =
     let k = start c in
     let a = k .args in
-    omega (arith, here c, there-size (a .sizes .cells) (a .sizes .reordering) (suc (a .layer .cells)) (a .q) (k .pre .1 .there), k .pre .0 .given .ground .size)
+    omega (
+      arith,
+      here c,
+      there-size (a .sizes .cells) (a .sizes .reordering) (suc (a .layer .cells)) (a .q) (k .pre .target .there),
+      k .pre .stepping .given .ground .size,
+    )
 
 -- how many buckets it needs, and that the last four are those of gaps 2 and 3
 needed : (c : tie.After-buckets-of) → FiveOrNine (c .buckets-of .result)
@@ -92,7 +97,7 @@ last c l v t h =
 
 -- how many of its poses look at the table
 looking : (c : tie.After-poses-of) → c .poses-of .result ≤ 60
-looking c = omega (arith, c .poses-of .ensures .most, start (c .before .before) .pre .0 .given .ground .few)
+looking c = omega (arith, c .poses-of .ensures .most, start (c .before .before) .pre .stepping .given .ground .few)
 
 -- nothing leads to the others
 others : (c : tie.After-poses-of) (b l : ℕ) → c .poses-of .result ≤ b → b < start (c .before .before) .args .sizes .poses
@@ -101,7 +106,7 @@ others c b l p i =
     let k = start (c .before .before) in
     let a = k .args in
     next-unoffered (a .row .now) (a .sizes .cells) (a .sizes .poses) (a .sizes .reordering) (layerIn (a .store .now) (a .layer .at) l) (a .layer .cells)
-    (a .q) b (k .pre .1 .there) (here (c .before .before)) (c .poses-of .ensures .none b p i)
+    (a .q) b (k .pre .target .there) (here (c .before .before)) (c .poses-of .ensures .none b p i)
 
 -- the sources are gathered in the rows that these poses look at
 abbrev All : tie.After-gather → Type 0
@@ -114,7 +119,7 @@ All c =
 all : (c : tie.After-gather) → All c
 all c =
     let after-reset = c .before .before .before in
-    rw (after-reset .before .before .rows-of .ensures, sym (needed-here (known c .before))) at (c .gather .ensures .0)
+    rw (after-reset .before .before .rows-of .ensures, sym (needed-here (known c .before))) at (c .gather .ensures .gathered)
 
 -- if nothing lowered the table, nothing leads to the state
 nothing : (c : tie.After-gather) → c .gather .result ≡ false → (let k = start (known c .before .before) in (b l : ℕ) → b < k .args .sizes .poses
@@ -129,9 +134,9 @@ nothing c e b l p i = go (decLt b (known c .poses-of .result))
         let a = k .args in
         let n = needed m in
         next-none (a .row .now) (a .sizes .cells) (a .sizes .poses) (a .sizes .reordering) (layerIn (a .store .now) (a .layer .at) l) (a .layer .cells) (a .q) b
-        (k .pre .1 .there) (k .pre .0 .given .ground .all)
+        (k .pre .target .there) (k .pre .stepping .given .ground .all)
         (unused (looking (known c)) (five-least n) (nine-most n) (buckets-low k) (last m) (c .before .before .before .reset .ensures) (all c)
-        (c .gather .ensures .1 e) b l h i)
+        (c .gather .ensures .unused e) b l h i)
 
 -- the table once bucket 0 ran up
 abbrev Table : tie.After-run-up → Type 0
@@ -168,15 +173,16 @@ returns c =
     let after-if1 = c .before .before .before .before in
     let k = after-if1 .before .before .before .before in
     let a = k .args in
-    let g = k .pre .0 .given in (
-      state-rows (omega (arith, g .ground .few)) (c .before .before .fill-rows .ensures)
+    let g = k .pre .stepping .given in
+    record {
+      filled = state-rows (omega (arith, g .ground .few)) (c .before .before .fill-rows .ensures)
           (λ b l p i.
           next-alone (a .row .now) (a .sizes .cells) (a .sizes .poses) (a .sizes .reordering) (layerIn (a .store .now) (a .layer .at) l) (a .layer .cells)
           (a .q) b
-          (k .pre .1 .there) (g .ground .all)
-          (after-if1 .before .has-source .ensures (not-true _ (after-if1 .if1 .taken)))),
-      k .pre .0 .lent,
-    )
+          (k .pre .target .there) (g .ground .all)
+          (after-if1 .before .has-source .ensures (not-true _ (after-if1 .if1 .taken))));
+      lent = k .pre .stepping .lent;
+    }
 
 add-last-at : tie.Need-add-last-at
 add-last-at c = search needs
@@ -185,11 +191,11 @@ last-at-requires : tie.Need-last-at-requires
 last-at-requires c κs = search needs
 
 buckets-of-requires : tie.Need-buckets-of-requires
-buckets-of-requires c κs = (start c .pre .0 .given .ground .words, inside c)
+buckets-of-requires c κs = (start c .pre .stepping .given .ground .words, inside c)
 
 poses-of-requires : tie.Need-poses-of-requires
 poses-of-requires c κs =
-    let g = start (c .before) .pre .0 .given .ground in
+    let g = start (c .before) .pre .stepping .given .ground in
     record { words = g .words; cell = inside (c .before); few = g .few }
 
 rows-of-requires : tie.Need-rows-of-requires
@@ -200,7 +206,7 @@ reset-requires c κs =
     let p = c .before .before in
     let k = start (p .before .before) in
     record {
-      tableFor = record { lent = k .pre .0 .lent; few = looking p; narrow = k .pre .0 .given .narrow };
+      tableFor = record { lent = k .pre .stepping .lent; few = looking p; narrow = k .pre .stepping .given .narrow };
       most = nine-most (needed (p .before));
     }
 
@@ -212,15 +218,15 @@ gather-requires c κs =
     let w = after-reset .reset .ensures in
     record {
       lent = record { long = w .long; low = w .low };
-      given = k .pre .0 .given;
-      target = k .pre .1;
+      given = k .pre .stepping .given;
+      target = k .pre .target;
       few = omega (arith, after-reset .before .before .rows-of .ensures, looking p);
     }
 
 fill-rows-requires-2 : tie.Need-fill-rows-requires-2
 fill-rows-requires-2 c κs =
     let k = start (known (c .before .before) .before .before) in
-    let g = k .pre .0 .given in
+    let g = k .pre .stepping .given in
     (record { room = room k; narrow = g .narrow; low = g .low }, omega arith)
 
 same-length-2 : tie.Need-same-length-2
@@ -230,21 +236,23 @@ returns-2 : tie.Need-returns-2
 returns-2 c =
     let after-if2 = c .before .before .before .before in
     let after-gather = after-if2 .before in
-    let g = start (known after-gather .before .before) .pre .0 .given in
-    let w = after-gather .gather .ensures .0 in (
-      state-rows (omega (arith, g .ground .few)) (c .before .before .fill-rows2 .ensures) (nothing after-gather (not-true _ (after-if2 .if2 .taken))),
-      record { long = w .long ∙ after-gather .before .before .before .reset .ensures .long; low = w .low },
-    )
+    let g = start (known after-gather .before .before) .pre .stepping .given in
+    let w = after-gather .gather .ensures .gathered in
+    record {
+      filled = state-rows (omega (arith, g .ground .few)) (c .before .before .fill-rows2 .ensures)
+          (nothing after-gather (not-true _ (after-if2 .if2 .taken)));
+      lent = record { long = w .long ∙ after-gather .before .before .before .reset .ensures .long; low = w .low };
+    }
 
 run-up-requires : tie.Need-run-up-requires
 run-up-requires c κs =
     let after-gather = c .before .before in
     let p = known after-gather in
-    let w = after-gather .gather .ensures .0 in
+    let w = after-gather .gather .ensures .gathered in
     record {
       lent = record { long = w .long ∙ after-gather .before .before .before .reset .ensures .long; low = w .low };
       few = looking p;
-      narrow = start (p .before .before) .pre .0 .given .narrow;
+      narrow = start (p .before .before) .pre .stepping .given .narrow;
     }
 
 put-rows-requires : tie.Need-put-rows-requires
@@ -252,7 +260,7 @@ put-rows-requires c κs =
     let after-run-up = c .before .before in
     let p = known (after-run-up .before .before .before) in
     let k = start (p .before .before) in
-    let g = k .pre .0 .given in
+    let g = k .pre .stepping .given in
     let t = table after-run-up in
     let h = needed (p .before) in
     record {
@@ -296,7 +304,7 @@ fill-rows-requires-3 c κs =
     let w = after-put-rows .put-rows .ensures in (
       record {
         room = omega (arith, room k, p .poses-of .ensures .most, w .frame .long);
-        narrow = k .pre .0 .given .narrow;
+        narrow = k .pre .stepping .given .narrow;
         low = w .low;
       },
       omega arith,
@@ -314,19 +322,20 @@ returns-3 c =
     let m = known (after-run-up .before .before .before) in
     let k = start (m .before .before) in
     let a = k .args in
-    let g = k .pre .0 .given in
-    let t = table after-run-up in (
-      state-rows (omega (arith, g .ground .few))
+    let g = k .pre .stepping .given in
+    let t = table after-run-up in
+    record {
+      filled = state-rows (omega (arith, g .ground .few))
           (rows-join {h = next k} (g .narrow) (m .poses-of .ensures .most) (after-put-rows .put-rows .ensures) (after-fill-rows .fill-rows3 .ensures)
           (λ b l p i.
           next-found (a .row .now) (a .sizes .cells) (a .sizes .poses) (a .sizes .reordering) (layerIn (a .store .now) (a .layer .at) l) (a .layer .cells)
           (a .q) b
-          (k .pre .1 .there) (g .ground .all) (here (m .before .before))
+          (k .pre .target .there) (g .ground .all) (here (m .before .before))
           (t .right b l p i))
           (λ b l p i j. others m b l p i))
-          (λ b l p i. refl),
-      record { long = t .long; low = t .low },
-    )
+          (λ b l p i. refl);
+      lent = record { long = t .long; low = t .low };
+    }
 
 pub target-rows-spec : {M : Type 1} → statement M
 target-rows-spec =

@@ -54,7 +54,7 @@ target-block-requires : tie.Need-target-block-requires
 target-block-requires c κs =
     let mid = c .before .before .before .before in
     let k = mid .before .before .before .before in
-    (k .pre .0 .stepping, k .pre .1)
+    record { stepping = k .pre .0 .stepping; state = k .pre .1 }
 
 same-length : tie.Need-same-length
 same-length c = search needs
@@ -69,10 +69,10 @@ returns-2 c =
     let g = k .pre .0 .stepping .given .ground in
     let e : suc (a .layer .cells) + offset (a .sizes .reordering) (a .q) ≡ a .tall + suc (a .sizes .reordering) =
     omega (arith, after-if1 .if1 .left, after-word .word .ensures, g .coded .digit (a .q) (omega (arith, g .all))) in (
-      state-ext (after-target-block .target-block .ensures .0)
+      state-ext (after-target-block .target-block .ensures .filled)
           (λ b l x y. last-take (deckIn (a .row .now) (a .sizes)) (a .sizes .reordering) (a .layer .cells) (a .tall) (a .store .now) (a .layer .at)
           (a .costs) l (a .q) b e),
-      after-target-block .target-block .ensures .1,
+      after-target-block .target-block .ensures .lent,
     )
 
 add-word : tie.Need-add-word

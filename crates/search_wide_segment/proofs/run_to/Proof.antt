@@ -142,7 +142,7 @@ deliver-requires-2 c κs =
     let k = mid₂ .before .before .before in
     let g = k .pre .0 .given in
     let l = at-loop .loop in
-    let w = after-step-layer .step-layer .ensures .0 in
+    let w = after-step-layer .step-layer .ensures .filled in
     let p = k .pre .0 .room in
     record {
       toTall = record {
@@ -173,8 +173,8 @@ loop-again c =
     let p = k .pre .0 .room in
     let l = at-loop .loop in (
       omega (arith, g .ground .coded .reorder),
-      costed-step (given-small g) (g .ground .all) (p .over) (l .inv .1) (after-step-layer .step-layer .ensures .0) (after-deliver2 .deliver2 .ensures),
-      after-step-layer .step-layer .ensures .1,
+      costed-step (given-small g) (g .ground .all) (p .over) (l .inv .1) (after-step-layer .step-layer .ensures .filled) (after-deliver2 .deliver2 .ensures),
+      after-step-layer .step-layer .ensures .lent,
       omega arith,
     )
 
