@@ -3,7 +3,7 @@ use Prim.Native.Nat.{ℕ, _+_, _*_, _≤_, _<_, min}
 use mathlib.Core.List.{List}
 use lib.ListN.{length}
 use Rattle.theory_tables.specs.Steps.{B, Deck, Layer, firstAfter}
-use Rattle.search_lanes.specs.Store.{Low}
+use Rattle.search_lanes.specs.Store.{Low, WrittenRows}
 use Rattle.search_row.specs.declared.Sizes.{Sizes}
 use Rattle.search_row.specs.Words.{wordOf, tollIn, RowWords}
 use Rattle.search_wide_buckets.specs.Table.{Lent}
@@ -19,11 +19,13 @@ afterFrom D R i m p l q a = firstAfter D R i m p l q a
 
 -- ---- what is given
 
--- the first layer after the cell at position p, the last of i placed, is to be made in the block at `to`
-pub record FirstGiven (table row st : List ℕ) (z : Sizes) (lanes i to p : ℕ) : Type 0 where
+-- the first layer after the cell at position p, the last of i placed, is to be made in the block at `to`:
+-- all of it, from start state q, or its state q alone
+pub record FirstGiven (table row st : List ℕ) (z : Sizes) (lanes i to p q : ℕ) : Type 0 where
   pub lent : Lent table
   pub given : Given row st z lanes i to
   pub start : p < 64
+  pub state : q < z .states
 
 -- the rows of one of its states, whose cell is at position k, are to be written from `at` on
 pub record FirstRows (table row st : List ℕ) (at p k poses lanes : ℕ) : Type 0 where
@@ -35,3 +37,10 @@ pub record FirstRows (table row st : List ℕ) (at p k poses lanes : ℕ) : Type
   pub narrow : lanes ≤ 64
   pub cell : k < 64
   pub few : poses ≤ 60
+
+-- ---- what is left
+
+-- these rows, and a table that serves the next state
+pub record RowsMade (f : ℕ → ℕ → ℕ) (at poses lanes : ℕ) (old new table : List ℕ) : Type 0 where
+  pub written : WrittenRows f at poses lanes old new
+  pub lent : Lent table

@@ -1,12 +1,10 @@
 // The first layer of a segment after a tall cell in each of its poses, a lane for each.
-ghost use Prim.Native.Nat.{_≤_, _<_};
 ghost use Rattle.theory_tables.specs.Steps.{marks};
-ghost use Rattle.search_lanes.specs.Store.{WrittenRows, FilledState, Filled};
 ghost use Rattle.search_row.specs.Words.{deckIn};
 ghost use Rattle.search_buckets.specs.Rows.{onePose};
-ghost use Rattle.search_wide_buckets.specs.Table.{Lent};
-ghost use Rattle.search_wide_first.specs.Firsts.{afterRow, afterFrom, FirstGiven, FirstRows};
-ghost use Rattle.search_wide_first.specs.Starts.{Starting, StartingLane, Started, StartedTo, startIn};
+ghost use Rattle.search_wide_layer.specs.Loops.{StateMade, LayerMade};
+ghost use Rattle.search_wide_first.specs.Firsts.{afterRow, afterFrom, FirstGiven, FirstRows, RowsMade};
+ghost use Rattle.search_wide_first.specs.Starts.{StartingLane, StartingLanes, Started, StartedTo, startIn};
 use search_row::Sizes;
 use search_wide_layer::Block;
 
@@ -42,7 +40,7 @@ fn from_starts(
     buckets: usize,
     lanes: usize,
 )
-    requires { ⌜ Starting (now table) (now row) p k rows buckets × (lanes ≤ 64) ⌝ }
+    requires { ⌜ StartingLanes (now table) (now row) p k rows buckets lanes ⌝ }
     ensures { λ _. ⌜ StartedTo (startIn (now (row .entry)) p k) rows buckets lanes (now (table .entry))
         (now (table .exit)) ⌝ }
 {
@@ -68,8 +66,8 @@ fn first_rows(
     lanes: usize,
 )
     requires { ⌜ FirstRows (now table) (now row) (now store) at p k poses lanes ⌝ }
-    ensures { λ _. ⌜ WrittenRows (afterRow (now (row .entry)) p k) at poses lanes (now (store .entry))
-        (now (store .exit)) × Lent (now (table .exit)) ⌝ }
+    ensures { λ _. ⌜ RowsMade (afterRow (now (row .entry)) p k) at poses lanes (now (store .entry))
+        (now (store .exit)) (now (table .exit)) ⌝ }
 {
     let buckets = search_buckets::buckets_of(row, k);
     search_wide_buckets::reset(table, buckets, poses, lanes);
@@ -97,10 +95,9 @@ fn first_block(
     p: usize,
     q: usize,
 )
-    requires { ⌜ FirstGiven (now table) (now row) (now store) sizes (to .lanes) (to .cells) (to .at) p
-        × (q < sizes .states) ⌝ }
-    ensures { λ _. ⌜ FilledState (afterFrom (deckIn (now (row .entry)) sizes) (sizes .reordering) (to .cells) m p)
-        (to .lanes) (to .at) q (sizes .poses) (now (store .entry)) (now (store .exit)) × Lent (now (table .exit)) ⌝ }
+    requires { ⌜ FirstGiven (now table) (now row) (now store) sizes (to .lanes) (to .cells) (to .at) p q ⌝ }
+    ensures { λ _. ⌜ StateMade (afterFrom (deckIn (now (row .entry)) sizes) (sizes .reordering) (to .cells) m p)
+        (to .lanes) (to .at) q (sizes .poses) (now (store .entry)) (now (store .exit)) (now (table .exit)) ⌝ }
 {
     if !search_dense_first::starts(row, sizes, to.cells + 1, m, q) {
         search_lanes::fill_rows(
@@ -136,10 +133,10 @@ pub fn first_layer(
     s: usize,
     p: usize,
 )
-    requires { ⌜ FirstGiven (now table) (now row) (now store) sizes lanes i 0 p × (s < sizes .states) ⌝ }
-    ensures { λ _. ⌜ Filled
+    requires { ⌜ FirstGiven (now table) (now row) (now store) sizes lanes i 0 p s ⌝ }
+    ensures { λ _. ⌜ LayerMade
         (afterFrom (deckIn (now (row .entry)) sizes) (sizes .reordering) i (marks (sizes .reordering) s) p) lanes
-        (sizes .poses) 0 (sizes .states) (now (store .entry)) (now (store .exit)) × Lent (now (table .exit)) ⌝ }
+        (sizes .poses) 0 (sizes .states) (now (store .entry)) (now (store .exit)) (now (table .exit)) ⌝ }
 {
     let m = row[search_row::STATES + s * 4 + 1];
     let layer = Block {

@@ -35,7 +35,7 @@ here c = omega (arith, c .last-at .ensures)
 
 -- the state's rows lie in the store
 room : (k : tie.Start) → (let a = k .args in a .to .at + a .q * stateBlock + a .sizes .poses * 64 ≤ length (a .store .now))
-room k = let g = k .pre .0 .given in omega (arith, g .room, g .ground .all, g .ground .coded .few, g .ground .few)
+room k = let g = k .pre .given in omega (arith, g .room, g .ground .all, g .ground .coded .few, g .ground .few)
 
 add-starts : tie.Need-add-starts
 add-starts c = search needs
@@ -63,11 +63,12 @@ returns c =
     let k = mid₂ .before in
     let a = k .args in
     let t = sym (after-if1 .before .starts .ensures) ∙ not-true _ (after-if1 .if1 .taken) in
-    let u = ap (λ (j : ℕ). startsAt (a .sizes .cells) (a .sizes .reordering) j (a .m) (a .q)) (sym (add-one (a .to .cells))) ∙ t in (
-      state-rows (omega (arith, k .pre .0 .given .ground .few)) (c .before .before .fill-rows .ensures)
-          (λ b l x y. after-away (deckIn (a .row .now) (a .sizes)) (a .sizes .reordering) (a .to .cells) (a .m) (a .p) l (a .q) b u),
-      k .pre .0 .lent,
-    )
+    let u = ap (λ (j : ℕ). startsAt (a .sizes .cells) (a .sizes .reordering) j (a .m) (a .q)) (sym (add-one (a .to .cells))) ∙ t in
+    record {
+      filled = state-rows (omega (arith, k .pre .given .ground .few)) (c .before .before .fill-rows .ensures)
+          (λ b l x y. after-away (deckIn (a .row .now) (a .sizes)) (a .sizes .reordering) (a .to .cells) (a .m) (a .p) l (a .q) b u);
+      lent = k .pre .lent;
+    }
 
 add-last-at : tie.Need-add-last-at
 add-last-at c = search needs
@@ -75,7 +76,7 @@ add-last-at c = search needs
 last-at-requires : tie.Need-last-at-requires
 last-at-requires c κs =
     let after-starts = c .before .before in
-    let g = after-starts .before .before .before .before .pre .0 .given in
+    let g = after-starts .before .before .before .before .pre .given in
     record { words = g .ground .coded; state = omega (arith, g .ground .all); few = omega (arith, g .early) }
 
 mul-first-rows : tie.Need-mul-first-rows
@@ -91,13 +92,13 @@ first-rows-requires c κs =
     let mid₂ = mid .before .before .before .before in
     let k = mid₂ .before in
     let a = k .args in
-    let g = k .pre .0 .given in
+    let g = k .pre .given in
     record {
-      lent = k .pre .0 .lent;
+      lent = k .pre .lent;
       words = g .ground .words;
       low = g .low;
       room = room k;
-      start = k .pre .0 .start;
+      start = k .pre .start;
       narrow = g .narrow;
       cell = omega (
         arith,
@@ -121,13 +122,14 @@ returns-2 c =
     let k = mid₃ .before in
     let a = k .args in
     let e = here after-last-at in
-    let w = after-first-rows .first-rows .ensures in (
-      state-rows (omega (arith, k .pre .0 .given .ground .few)) (w .0)
+    let w = after-first-rows .first-rows .ensures in
+    record {
+      filled = state-rows (omega (arith, k .pre .given .ground .few)) (w .written)
           (λ b l x y.
           after-there (deckIn (a .row .now) (a .sizes)) (a .sizes .reordering) (a .to .cells) (a .m) (a .p) l (a .q) b (can mid)
-          ∙ ap (λ (j : ℕ). afterRow (a .row .now) (a .p) j b l) (sym e)),
-      w .1,
-    )
+          ∙ ap (λ (j : ℕ). afterRow (a .row .now) (a .p) j b l) (sym e));
+      lent = w .lent;
+    }
 
 pub first-block-spec : {M : Type 1} → statement M
 first-block-spec =

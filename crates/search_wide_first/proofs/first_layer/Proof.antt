@@ -36,7 +36,7 @@ shared-slice-read-m c = search needs
 loop-holds : tie.Need-loop-holds Inv-loop μ-loop
 loop-holds c =
     let k = c .before .before .before in
-    (omega arith, filled-none _ _ _ _ (k .pre .0 .given .low), k .pre .0 .lent)
+    (omega arith, filled-none _ _ _ _ (k .pre .given .low), k .pre .lent)
 
 first-block-requires : tie.Need-first-block-requires Inv-loop μ-loop
 first-block-requires c κs =
@@ -44,7 +44,7 @@ first-block-requires c κs =
     let k = at-loop .before .before .before .before in
     let l = at-loop .loop in
     let s = l .inv .1 in
-    (record { lent = l .inv .2; given = given-on (k .pre .0 .given) (s .frame) (s .low); start = k .pre .0 .start }, omega arith)
+    record { lent = l .inv .2; given = given-on (k .pre .given) (s .frame) (s .low); start = k .pre .start; state = omega arith }
 
 add-q : tie.Need-add-q Inv-loop μ-loop
 add-q c = search needs
@@ -57,13 +57,13 @@ loop-again c =
     let mid = c .before .before .before .before in
     let at-loop = mid .before .before .before in
     let k = at-loop .before .before .before .before in
-    let g = k .pre .0 .given in
+    let g = k .pre .given in
     let l = at-loop .loop in
     let w = c .before .before .first-block .ensures in (
       omega arith,
-      filled-more (l .q) (omega (arith, g .narrow)) (omega (arith, g .ground .few)) (omega (arith, g .ground .all, g .ground .coded .few)) (l .inv .1) (w .0)
-          (λ b j x y. refl),
-      w .1,
+      filled-more (l .q) (omega (arith, g .narrow)) (omega (arith, g .ground .few)) (omega (arith, g .ground .all, g .ground .coded .few)) (l .inv .1)
+          (w .filled) (λ b j x y. refl),
+      w .lent,
     )
 
 same-length : tie.Need-same-length Inv-loop μ-loop
@@ -76,8 +76,8 @@ returns c =
     let k = at-loop .before .before .before .before in
     let a = k .args in
     let e : at-loop .loop .q ≡ a .sizes .states = omega arith in
-    let f = k .pre .0 .given .ground .coded .mark (a .s) (omega (arith, k .pre .0 .given .ground .all)) in
-    (rw (e, f) at (at-loop .loop .inv .1), at-loop .loop .inv .2)
+    let f = k .pre .given .ground .coded .mark (a .s) (omega (arith, k .pre .given .ground .all)) in
+    record { filled = rw (e, f) at (at-loop .loop .inv .1); lent = at-loop .loop .inv .2 }
 
 add-m-2 : tie.Need-add-m-2 Inv-loop μ-loop
 add-m-2 c = search needs

@@ -72,17 +72,18 @@ from-starts-requires : tie.Need-from-starts-requires
 from-starts-requires c κs =
     let mid = c .before .before .before .before in
     let k = mid .before .before .before in
-    let w = c .before .before .reset .ensures in (
-      record {
+    let w = c .before .before .reset .ensures in
+    record {
+      starting = record {
         lent = record { long = w .long; low = w .low };
         words = k .pre .words;
         start = k .pre .start;
         cell = k .pre .cell;
         few = omega (arith, c .rows-of .ensures);
         needed = needed mid;
-      },
-      k .pre .narrow,
-    )
+      };
+      narrow = k .pre .narrow;
+    }
 
 run-up-requires : tie.Need-run-up-requires
 run-up-requires c κs =
@@ -128,14 +129,15 @@ returns c =
     let k = mid₃ .before .before in
     let a = k .args in
     let t = table mid in
-    let w = after-put-rows .put-rows .ensures in (
-      record {
+    let w = after-put-rows .put-rows .ensures in
+    record {
+      written = record {
         frame = w .frame;
         words = λ b l x y. w .words b l x y ∙ sym (after-found (a .row .now) (a .p) (a .k) b l t x y);
         low = w .low;
-      },
-      record { long = t .long; low = t .low },
-    )
+      };
+      lent = record { long = t .long; low = t .low };
+    }
 
 pub first-rows-spec : {M : Type 1} → statement M
 first-rows-spec =

@@ -19,7 +19,7 @@ abbrev μ-loop : tie.MeasureT-loop
 
 fill-pays-requires : tie.Need-fill-pays-requires Inv-loop μ-loop
 fill-pays-requires c κs =
-    let g = c .before .before .pre .0 in
+    let g = c .before .before .pre .starting in
     record {
       cells = record { words = g .words; left = g .start; right = g .cell };
       few = nine-most (g .needed);
@@ -28,14 +28,14 @@ fill-pays-requires c κs =
 
 loop-holds : tie.Need-loop-holds Inv-loop μ-loop
 loop-holds c =
-    (omega arith, starts-none _ _ _ (c .before .before .before .pre .0 .lent .low))
+    (omega arith, starts-none _ _ _ (c .before .before .before .pre .starting .lent .low))
 
 from-start-requires : tie.Need-from-start-requires Inv-loop μ-loop
 from-start-requires c κs =
     let after-fill-pays = c .before .before .before .before in
     let k = after-fill-pays .before .before .before in
     let w = c .before .before .before .loop .inv .1 in
-    let g = k .pre .0 in
+    let g = k .pre .starting in
     record {
       starting = record {
         lent = record { long = w .long ∙ g .lent .long; low = w .low };

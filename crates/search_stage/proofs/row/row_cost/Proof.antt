@@ -53,20 +53,19 @@ first-layer-requires c κs =
     let p =
     start-place (k .args .i) (after-tall-at .tall-at .result) (k .pre .given) (after-tall-at .before .if1 .left) (k .pre .stage)
     (after-tall-at .tall-at .ensures) in
-    let r = k .pre .room in (
-      record {
-        lent = k .pre .lent;
-        given = record {
-          ground = g;
-          low = r .low;
-          narrow = k .pre .narrow;
-          early = omega (arith, c .before .before .placed-with .ensures, g .coded .reorder);
-          room = omega (arith, r .over, r .room);
-        };
-        start = p;
-      },
-      s,
-    )
+    let r = k .pre .room in
+    record {
+      lent = k .pre .lent;
+      given = record {
+        ground = g;
+        low = r .low;
+        narrow = k .pre .narrow;
+        early = omega (arith, c .before .before .placed-with .ensures, g .coded .reorder);
+        room = omega (arith, r .over, r .room);
+      };
+      start = p;
+      state = s;
+    }
 
 backs-requires : tie.Need-backs-requires
 backs-requires c κs =
@@ -103,11 +102,11 @@ stage-end-requires c κs =
     let g = k .pre .given .ground in
     let p = start-place (k .args .i) (after-placed-with .before .tall-at .result) (k .pre .given) (after-if1 .if1 .left) (k .pre .stage)
     (after-placed-with .before .tall-at .ensures) in
-    let f = after-first-layer .first-layer .ensures .0 in
+    let f = after-first-layer .first-layer .ensures .filled in
     let b = after-backs .backs .ensures in
     let r = k .pre .room in
     record {
-      lent = after-first-layer .first-layer .ensures .1;
+      lent = after-first-layer .first-layer .ensures .lent;
       given = k .pre .given;
       begun = record {
         ground = g;
@@ -141,7 +140,7 @@ returns-2 c =
           (k .pre .given .ground .all)
           (after-placed-with .before .tall-at .ensures) (after-placed-with .placed-with .ensures)
           (λ l h. let z : 0 + l ≡ l = omega arith in rw z at (after-backs .backs .ensures .words l h))
-          (after-first-layer .first-layer .ensures .0)
+          (after-first-layer .first-layer .ensures .filled)
           (after-stage-end .stage-end .ensures .0),
       after-stage-end .stage-end .ensures .1,
     )
