@@ -29,8 +29,8 @@ segment-given w = record { lent = w .lent; given = rw (w .first) at (w .begun); 
 
 module _ (D : Deck) (R talls : ℕ) (pos : ℕ → ℕ) where
   -- to a tall cell
-  pub row-tall : {I lanes count i p costs : ℕ} {old new : List ℕ} (starts : List ℕ)
-      → I < talls → count ≡ stateCount R → p ≡ pos I → SegmentCosted D R lanes i p costs old new
+  pub row-tall : {I lanes count i p costs : ℕ} {old new table : List ℕ} (starts : List ℕ)
+      → I < talls → count ≡ stateCount R → p ≡ pos I → SegmentCosted D R lanes i p costs old new table
       → RowCosted (endFrom D R talls pos I old i starts) lanes (wide talls (suc I) count)
       (wide talls (suc I) (D .poses)) costs old new
   row-tall {I} {lanes} {count} {i} {p} {costs} {old} starts h n e w =

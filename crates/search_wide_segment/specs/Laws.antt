@@ -15,7 +15,8 @@ use Rattle.search_row.specs.declared.Sizes.{Sizes}
 use Rattle.theory_tables.specs.Steps.{B, Deck, Layer, stateCount, offset, layers, costTo}
 use Rattle.search_lanes.specs.Store.{Frame, layerIn, Filled}
 use Rattle.search_row.specs.Words.{deckIn}
-use Rattle.search_wide_layer.specs.Loops.{nextFrom, Given, Beside}
+use Rattle.search_wide_buckets.specs.Table.{Lent}
+use Rattle.search_wide_layer.specs.Loops.{nextFrom, Given, Beside, LayerMade}
 use Rattle.search_buckets.specs.Next.{next-ext, layers-ext}
 use Rattle.search_wide_segment.specs.Runs.{Buffer, Running, Small, Outside, CostRoom, lateIn}
 use Rattle.search_wide_segment.specs.Runs.{delivered, lastIn, CostedBy, CostedRun, SegmentCosted}
@@ -165,12 +166,13 @@ costed-more {D} {R} {lanes} {i} {p} {d} {at = at} {costs = costs} {old = old} {m
 
 -- one step more of the segment: a layer, and what it delivers
 pub costed-step :
-    {D : Deck} {R lanes i p d at costs count : ℕ} {old mid step new : List ℕ}
-    → Small D R lanes → count ≡ stateCount R → keptFrom ≤ costs → CostedRun D R lanes i p d at costs old mid
-    → Filled (nextFrom D R mid at (i + d)) lanes (D .poses) (layerBlock - at) count mid step
+    {D : Deck} {R lanes i p d at costs count : ℕ} {old mid step new table table′ : List ℕ}
+    → Small D R lanes → count ≡ stateCount R → keptFrom ≤ costs → CostedRun D R lanes i p d at costs old mid table
+    → LayerMade (nextFrom D R mid at (i + d)) lanes (D .poses) (layerBlock - at) count mid step table′
     → Filled (delivered R (i + (d + 1)) p step (layerBlock - at) costs) lanes (D .poses) costs count step new
-    → CostedRun D R lanes i p (d + 1) (layerBlock - at) costs old new
-costed-step {D} {R} {lanes} {i} {p} {d} {at} {costs} s c h r f g =
+    → CostedRun D R lanes i p (d + 1) (layerBlock - at) costs old new table′
+costed-step {D} {R} {lanes} {i} {p} {d} {at} {costs} s c h r m g =
+    let f = m .filled in
     let run = run-more c (r .running) f in
     let b = buffer-low (r .running .buffer) in
     record {
@@ -184,16 +186,17 @@ costed-step {D} {R} {lanes} {i} {p} {d} {at} {costs} s c h r f g =
       outside = outside-join (r .outside) (outside-join (outside-layers h (f .frame) (omega arith))
           (outside-costs (g .frame) (omega arith) (omega arith)));
       low = g .low;
+      lent = m .lent;
     }
 
 -- the segment begins: the costs of the states that come with no layer are B, and the first layer is delivered
 pub costed-start :
-    (D : Deck) (R lanes i p costs count : ℕ) {old mid new : List ℕ}
-    → Small D R lanes → count ≡ stateCount R → keptFrom ≤ costs
+    (D : Deck) (R lanes i p costs count : ℕ) {old mid new table : List ℕ}
+    → Small D R lanes → count ≡ stateCount R → keptFrom ≤ costs → Lent table
     → Filled (lateIn R i p old costs) lanes (D .poses) costs count old mid
     → Filled (delivered R i p mid 0 costs) lanes (D .poses) costs count mid new
-    → CostedRun D R lanes i p 0 0 costs new new
-costed-start D R lanes i p costs count {old} {mid} {new} s c h late g =
+    → CostedRun D R lanes i p 0 0 costs new new table
+costed-start D R lanes i p costs count {old} {mid} {new} s c h t late g =
     let first = run-none D R lanes i {old = new} {st = mid} s (λ k v. sym (g .frame .low k (omega arith))) in
     let e : i ≡ i + 0 = omega arith in
     record {
@@ -208,6 +211,7 @@ costed-start D R lanes i p costs count {old} {mid} {new} s c h late g =
           (subst (λ (j : ℕ). Filled (delivered R j p mid 0 costs) lanes (D .poses) costs count mid new) e g);
       outside = outside-refl costs layerBlock new;
       low = g .low;
+      lent = t;
     }
 
 -- ---- only the entries of the first layer count
@@ -220,9 +224,9 @@ module _ (D : Deck) (R : ℕ) (f g : Layer) (same : (q b : ℕ) → q < stateCou
 
 -- what came before a segment left its first layer as it was
 pub costed-from :
-    {D : Deck} {R lanes i p d at costs : ℕ} {old mid new : List ℕ}
+    {D : Deck} {R lanes i p d at costs : ℕ} {old mid new table : List ℕ}
     → Small D R lanes → ((k : ℕ) → k < layerBlock → getD mid k 0 ≡ getD old k 0) → Outside costs layerBlock old mid
-    → CostedRun D R lanes i p d at costs mid new → CostedRun D R lanes i p d at costs old new
+    → CostedRun D R lanes i p d at costs mid new table → CostedRun D R lanes i p d at costs old new table
 costed-from {D} {R} {lanes} {i} {p} {d} {old = old} {mid = mid} s e o r =
     record {
       running = record {
@@ -236,6 +240,7 @@ costed-from {D} {R} {lanes} {i} {p} {d} {old = old} {mid = mid} s e o r =
       };
       outside = outside-join o (r .outside);
       low = r .low;
+      lent = r .lent;
     }
   where
     same : (l : ℕ) → l < lanes → (q b : ℕ) → q < stateCount R → b < D .poses → layerIn mid 0 l q b ≡ layerIn old 0 l q b
@@ -252,21 +257,28 @@ module _ (D : Deck) (R i p : ℕ) (st : List ℕ) (at costs l q a : ℕ) where
 
 -- the layers have come past the tall cell: nothing is left to deliver
 pub costed-past :
-    {D : Deck} {R lanes i p d at costs : ℕ} {old new : List ℕ}
-    → CostedRun D R lanes i p d at costs old new → p + R < i + d → SegmentCosted D R lanes i p costs old new
+    {D : Deck} {R lanes i p d at costs : ℕ} {old new table : List ℕ}
+    → CostedRun D R lanes i p d at costs old new table → p + R < i + d → SegmentCosted D R lanes i p costs old new table
 costed-past r h =
-    record { outside = r .outside; low = r .low; right = λ q a l x y z. r .costed .right q a l x y z (omega arith) }
+    record {
+      outside = r .outside;
+      low = r .low;
+      lent = r .lent;
+      right = λ q a l x y z. r .costed .right q a l x y z (omega arith);
+    }
 
 -- one layer is left, and is delivered from the layer before
 pub costed-last :
-    {D : Deck} {R lanes i p d at costs count : ℕ} {old mid new : List ℕ}
-    → count ≡ stateCount R → CostedRun D R lanes i p d at costs old mid → p + R ≡ i + d
-    → Filled (lastIn D R (p + R) p mid at costs) lanes (D .poses) costs count mid new
-    → SegmentCosted D R lanes i p costs old new
-costed-last {D} {R} {lanes} {i} {p} {d} {at} {costs} {old = old} {mid = mid} c r h f =
+    {D : Deck} {R lanes i p d at costs count : ℕ} {old mid new table table′ : List ℕ}
+    → count ≡ stateCount R → CostedRun D R lanes i p d at costs old mid table → p + R ≡ i + d
+    → LayerMade (lastIn D R (p + R) p mid at costs) lanes (D .poses) costs count mid new table′
+    → SegmentCosted D R lanes i p costs old new table′
+costed-last {D} {R} {lanes} {i} {p} {d} {at} {costs} {old = old} {mid = mid} c r h m =
+    let f = m .filled in
     record {
       outside = outside-join (r .outside) (outside-costs (f .frame) (omega arith) (omega arith));
       low = f .low;
+      lent = m .lent;
       right = λ q a l x y z. f .right q (omega arith) a l y z
           ∙ go q a l x y z (ℕ-discrete (suc (p + R) + offset R q) (p + suc R));
     }

@@ -54,21 +54,41 @@ pub record ToTall (row st : List ℕ) (z : Sizes) (lanes i tall costs : ℕ) : T
   pub early : i ≤ 100
   pub inside : tall < 64
 
+-- those of its state q alone
+pub record StateToTall (row st : List ℕ) (z : Sizes) (lanes i tall costs q : ℕ) : Type 0 where
+  pub toTall : ToTall row st z lanes i tall costs
+  pub state : q < stateCount (z .reordering)
+
 -- the same from the layer with i cells, whose block begins at `from`
 pub record Delivering (row st : List ℕ) (z : Sizes) (lanes i tall from costs : ℕ) : Type 0 where
   pub toTall : ToTall row st z lanes i tall costs
   pub below : from ≤ layerBlock
+
+-- those of its state q alone
+pub record StateDelivering (row st : List ℕ) (z : Sizes) (layer : Block) (tall costs q : ℕ) : Type 0 where
+  pub delivering : Delivering row st z (layer .lanes) (layer .cells) tall (layer .at) costs
+  pub state : q < stateCount (z .reordering)
 
 -- the same straight from the layer before the last
 pub record ToLast (table row st : List ℕ) (z : Sizes) (layer : Block) (tall costs : ℕ) : Type 0 where
   pub stepping : Stepping table row st z layer costs
   pub inside : tall < 64
 
+-- those of its state q alone
+pub record StateToLast (table row st : List ℕ) (z : Sizes) (layer : Block) (tall costs q : ℕ) : Type 0 where
+  pub toLast : ToLast table row st z layer tall costs
+  pub state : q < z .states
+
 -- a segment: its first layer, with i cells, is in block 0, and there is room for its costs
 pub record SegmentGiven (table row st : List ℕ) (z : Sizes) (lanes i costs : ℕ) : Type 0 where
   pub lent : Lent table
   pub given : Given row st z lanes i 0
   pub room : CostRoom st costs
+
+-- the same to a tall cell
+pub record SegmentToTall (table row st : List ℕ) (z : Sizes) (lanes i tall costs : ℕ) : Type 0 where
+  pub segment : SegmentGiven table row st z lanes i costs
+  pub inside : tall < 64
 
 -- ---- costs to the tall cell at position p
 
@@ -92,16 +112,18 @@ pub record CostedBy (D : Deck) (R lanes i p d costs : ℕ) (old new : List ℕ) 
   pub right : (q a l : ℕ) → q < stateCount R → a < D .poses → l < lanes → p + suc R < i + d + offset R q
       → layerIn new costs l q a ≡ costTo D R (layerIn old 0 l) i p q a
 
--- a segment on its way: d layers on, and the costs delivered that come with them
-pub record CostedRun (D : Deck) (R lanes i p d at costs : ℕ) (old new : List ℕ) : Type 0 where
+-- a segment on its way: d layers on, the costs delivered that come with them, and a table that serves the next layer
+pub record CostedRun (D : Deck) (R lanes i p d at costs : ℕ) (old new table : List ℕ) : Type 0 where
   pub running : Running D R lanes i d at old new
   pub costed : CostedBy D R lanes i p (d + 1) costs old new
   pub outside : Outside costs layerBlock old new
   pub low : Low new
+  pub lent : Lent table
 
 -- what a segment to the tall cell leaves
-pub record SegmentCosted (D : Deck) (R lanes i p costs : ℕ) (old new : List ℕ) : Type 0 where
+pub record SegmentCosted (D : Deck) (R lanes i p costs : ℕ) (old new table : List ℕ) : Type 0 where
   pub outside : Outside costs layerBlock old new
   pub low : Low new
+  pub lent : Lent table
   pub right : (q a l : ℕ) → q < stateCount R → a < D .poses → l < lanes
       → layerIn new costs l q a ≡ costTo D R (layerIn old 0 l) i p q a

@@ -1,12 +1,12 @@
 // A segment: from its first layer, in block 0, to a tall cell; all lanes at once. The layers run on
 // in the first two blocks of the store by turns; of the last one only the states that come to the tall cell
 // with it are computed, straight to the costs.
-ghost use Prim.Native.Nat.{_+_, _-_, _<_};
-ghost use Rattle.theory_tables.specs.Steps.{stateCount};
+ghost use Prim.Native.Nat.{_+_, _-_};
 ghost use Rattle.search_lanes.specs.Store.{FilledState, Filled};
 ghost use Rattle.search_row.specs.Words.{deckIn};
-ghost use Rattle.search_wide_buckets.specs.Table.{Lent};
-ghost use Rattle.search_wide_segment.specs.Runs.{SegmentGiven, ToTall, Delivering, ToLast};
+ghost use Rattle.search_wide_layer.specs.Loops.{StateMade, LayerMade};
+ghost use Rattle.search_wide_segment.specs.Runs.{SegmentToTall, ToTall, Delivering, ToLast};
+ghost use Rattle.search_wide_segment.specs.Runs.{StateToTall, StateDelivering, StateToLast};
 ghost use Rattle.search_wide_segment.specs.Runs.{lateIn, delivered, lastIn, CostedRun, SegmentCosted};
 use search_row::Sizes;
 use search_wide_layer::Block;
@@ -22,7 +22,7 @@ fn late_state(
     costs: usize,
     q: usize,
 )
-    requires { ⌜ ToTall (now row) (now store) sizes lanes i tall costs × (q < stateCount (sizes .reordering)) ⌝ }
+    requires { ⌜ StateToTall (now row) (now store) sizes lanes i tall costs q ⌝ }
     ensures { λ _. ⌜ FilledState (lateIn (sizes .reordering) i tall (now (store .entry)) costs) lanes costs q
         (sizes .poses) (now (store .entry)) (now (store .exit)) ⌝ }
 {
@@ -69,8 +69,7 @@ fn deliver_state(
     costs: usize,
     q: usize,
 )
-    requires { ⌜ Delivering (now row) (now store) sizes (layer .lanes) (layer .cells) tall (layer .at) costs
-        × (q < stateCount (sizes .reordering)) ⌝ }
+    requires { ⌜ StateDelivering (now row) (now store) sizes layer tall costs q ⌝ }
     ensures { λ _. ⌜ FilledState (delivered (sizes .reordering) (layer .cells) tall (now (store .entry)) (layer .at)
         costs) (layer .lanes) costs q (sizes .poses) (now (store .entry)) (now (store .exit)) ⌝ }
 {
@@ -125,9 +124,9 @@ fn run_to(
     tall: usize,
     costs: usize,
 ) -> usize
-    requires { ⌜ SegmentGiven (now table) (now row) (now store) sizes lanes i costs × (tall < 64) ⌝ }
+    requires { ⌜ SegmentToTall (now table) (now row) (now store) sizes lanes i tall costs ⌝ }
     ensures { λ at. ⌜ CostedRun (deckIn (now (row .entry)) sizes) (sizes .reordering) lanes i tall
-        (tall + sizes .reordering - i) at costs (now (store .entry)) (now (store .exit)) × Lent (now (table .exit)) ⌝ }
+        (tall + sizes .reordering - i) at costs (now (store .entry)) (now (store .exit)) (now (table .exit)) ⌝ }
 {
     fill_late(store, row, sizes, lanes, i, tall, costs);
     deliver(store, row, sizes, lanes, i, tall, 0, costs);
@@ -160,10 +159,10 @@ fn last_state(
     costs: usize,
     q: usize,
 )
-    requires { ⌜ ToLast (now table) (now row) (now store) sizes layer tall costs × (q < sizes .states) ⌝ }
-    ensures { λ _. ⌜ FilledState (lastIn (deckIn (now (row .entry)) sizes) (sizes .reordering) (layer .cells) tall
+    requires { ⌜ StateToLast (now table) (now row) (now store) sizes layer tall costs q ⌝ }
+    ensures { λ _. ⌜ StateMade (lastIn (deckIn (now (row .entry)) sizes) (sizes .reordering) (layer .cells) tall
         (now (store .entry)) (layer .at) costs) (layer .lanes) costs q (sizes .poses) (now (store .entry))
-        (now (store .exit)) × Lent (now (table .exit)) ⌝ }
+        (now (store .exit)) (now (table .exit)) ⌝ }
 {
     if layer.cells + 1 + search_row::word(row, search_row::STATES + q * 4)
         != tall + sizes.reordering + 1
@@ -184,9 +183,9 @@ fn last_layer(
     costs: usize,
 )
     requires { ⌜ ToLast (now table) (now row) (now store) sizes layer tall costs ⌝ }
-    ensures { λ _. ⌜ Filled (lastIn (deckIn (now (row .entry)) sizes) (sizes .reordering) (layer .cells) tall
+    ensures { λ _. ⌜ LayerMade (lastIn (deckIn (now (row .entry)) sizes) (sizes .reordering) (layer .cells) tall
         (now (store .entry)) (layer .at) costs) (layer .lanes) (sizes .poses) costs (sizes .states)
-        (now (store .entry)) (now (store .exit)) × Lent (now (table .exit)) ⌝ }
+        (now (store .entry)) (now (store .exit)) (now (table .exit)) ⌝ }
 {
     let mut q: usize = 0;
     while q < sizes.states {
@@ -206,9 +205,9 @@ pub fn segment_to(
     tall: usize,
     costs: usize,
 )
-    requires { ⌜ SegmentGiven (now table) (now row) (now store) sizes lanes i costs × (tall < 64) ⌝ }
+    requires { ⌜ SegmentToTall (now table) (now row) (now store) sizes lanes i tall costs ⌝ }
     ensures { λ _. ⌜ SegmentCosted (deckIn (now (row .entry)) sizes) (sizes .reordering) lanes i tall costs
-        (now (store .entry)) (now (store .exit)) × Lent (now (table .exit)) ⌝ }
+        (now (store .entry)) (now (store .exit)) (now (table .exit)) ⌝ }
 {
     let from = run_to(table, store, row, sizes, lanes, i, tall, costs);
     if i > tall + sizes.reordering {

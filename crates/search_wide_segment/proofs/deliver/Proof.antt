@@ -31,8 +31,9 @@ deliver-state-requires c κs =
     let at-loop = c .before .before .before in
     let k = at-loop .before .before .before in
     let l = at-loop .loop in
-    let g = k .pre .toTall in (
-      record {
+    let g = k .pre .toTall in
+    record {
+      delivering = record {
         toTall = record {
           coded = g .coded;
           low = l .inv .1 .low;
@@ -44,9 +45,9 @@ deliver-state-requires c κs =
           inside = g .inside;
         };
         below = k .pre .below;
-      },
-      omega (arith, g .all),
-    )
+      };
+      state = omega (arith, g .all);
+    }
 
 add-q : tie.Need-add-q Inv-loop μ-loop
 add-q c = search needs

@@ -18,7 +18,8 @@ word-requires c κs = search needs
 add-if1 : tie.Need-add-if1
 add-if1 c =
     let k = c .before .before .before in
-    omega (arith, c .word .ensures, k .pre .0 .toTall .coded .digit (k .args .q) (k .pre .1), k .pre .0 .toTall .coded .small (k .args .q) (k .pre .1))
+    let g = k .pre .delivering .toTall .coded in
+    omega (arith, c .word .ensures, g .digit (k .args .q) (k .pre .state), g .small (k .args .q) (k .pre .state))
 
 add-if1-2 : tie.Need-add-if1-2
 add-if1-2 c = search needs
@@ -32,10 +33,10 @@ returns c =
     let k = after-word .before .before .before in
     let a = k .args in
     let e : a .layer .cells + offset (a .sizes .reordering) (a .q) ≡ a .tall + suc (a .sizes .reordering) → ⊥ =
-    λ h. c .if1 .taken (omega (arith, after-word .word .ensures, k .pre .0 .toTall .coded .digit (a .q) (k .pre .1))) in
+    λ h. c .if1 .taken (omega (arith, after-word .word .ensures, k .pre .delivering .toTall .coded .digit (a .q) (k .pre .state))) in
     record {
       frame = frame-refl _ _ _;
-      low = k .pre .0 .toTall .low;
+      low = k .pre .delivering .toTall .low;
       right = λ b x l y. sym (delivered-skip (a .sizes .reordering) (a .layer .cells) (a .tall) (a .store .now) (a .layer .at) (a .costs) l (a .q) b e);
     }
 
@@ -65,7 +66,7 @@ returns-2 c =
     let k = after-word .before .before .before in
     let a = k .args in
     let e : a .layer .cells + offset (a .sizes .reordering) (a .q) ≡ a .tall + suc (a .sizes .reordering) =
-    omega (arith, after-if1 .if1 .left, after-word .word .ensures, k .pre .0 .toTall .coded .digit (a .q) (k .pre .1)) in
+    omega (arith, after-if1 .if1 .left, after-word .word .ensures, k .pre .delivering .toTall .coded .digit (a .q) (k .pre .state)) in
     state-rows (omega arith) (after-copy-rows .copy-rows .ensures)
     (λ b l x y. delivered-take (a .sizes .reordering) (a .layer .cells) (a .tall) (a .store .now) (a .layer .at) (a .costs) l (a .q) b e)
 

@@ -30,8 +30,9 @@ late-state-requires : tie.Need-late-state-requires Inv-loop μ-loop
 late-state-requires c κs =
     let at-loop = c .before .before .before in
     let k = at-loop .before .before .before in
-    let l = at-loop .loop in (
-      record {
+    let l = at-loop .loop in
+    record {
+      toTall = record {
         coded = k .pre .coded;
         low = l .inv .1 .low;
         room = record { over = k .pre .room .over; room = omega (arith, k .pre .room .room, l .inv .2 .long) };
@@ -40,9 +41,9 @@ late-state-requires c κs =
         narrow = k .pre .narrow;
         early = k .pre .early;
         inside = k .pre .inside;
-      },
-      omega (arith, k .pre .all),
-    )
+      };
+      state = omega (arith, k .pre .all);
+    }
 
 add-q : tie.Need-add-q Inv-loop μ-loop
 add-q c = search needs

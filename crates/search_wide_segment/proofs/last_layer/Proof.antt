@@ -37,13 +37,14 @@ last-state-requires c κs =
     let k = at-loop .before .before .before in
     let l = at-loop .loop in
     let s = l .inv .1 in
-    let g = k .pre .stepping in (
-      record {
+    let g = k .pre .stepping in
+    record {
+      toLast = record {
         stepping = record { lent = l .inv .3; given = given-on (g .given) (s .frame) (s .low); beside = beside-on (g .beside) (s .frame) };
         inside = k .pre .inside;
-      },
-      omega arith,
-    )
+      };
+      state = omega arith;
+    }
 
 add-q : tie.Need-add-q Inv-loop μ-loop
 add-q c = search needs
@@ -64,14 +65,14 @@ loop-again c =
     let f = l .inv .2 in
     let kept = beside-kept (k .pre .stepping .beside) (s .frame) (omega arith) (omega arith) in (
       omega arith,
-      filled-more (l .q) (g .narrow) (omega (arith, g .ground .few)) (omega (arith, g .ground .all, g .ground .coded .few)) s (w .0)
+      filled-more (l .q) (g .narrow) (omega (arith, g .ground .few)) (omega (arith, g .ground .all, g .ground .coded .few)) s (w .filled)
           (λ b j x y.
           ap₂ (cond (eqb (suc (a .layer .cells) + offset (a .sizes .reordering) (l .q)) (a .tall + suc (a .sizes .reordering))))
           (sym (next-kept (deckIn (a .row .now) (a .sizes)) (a .sizes .reordering) (a .layer .cells) (l .q) b j kept (g .ground .coded .few) (g .ground .few)
           (omega (arith, g .narrow))))
           (sym (f .high (a .costs + l .q * stateBlock + b * 64 + j) (omega arith)))),
-      frame-join (a .costs) (a .costs + (l .q + 1) * stateBlock) f (w .0 .frame) (omega arith) (omega arith) (omega arith) (omega arith),
-      w .1,
+      frame-join (a .costs) (a .costs + (l .q + 1) * stateBlock) f (w .filled .frame) (omega arith) (omega arith) (omega arith) (omega arith),
+      w .lent,
     )
 
 same-length : tie.Need-same-length Inv-loop μ-loop
@@ -82,7 +83,7 @@ returns : tie.Need-returns Inv-loop μ-loop
 returns c =
     let at-loop = c .before .before in
     let e : at-loop .loop .q ≡ at-loop .before .before .before .args .sizes .states = omega arith in
-    (rw e at (at-loop .loop .inv .1), at-loop .loop .inv .3)
+    record { filled = rw e at (at-loop .loop .inv .1); lent = at-loop .loop .inv .3 }
 
 pub last-layer-spec : {M : Type 1} → statement M
 last-layer-spec =

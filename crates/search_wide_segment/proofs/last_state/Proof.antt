@@ -22,8 +22,8 @@ word-requires c κs = search needs
 add-if1-2 : tie.Need-add-if1-2
 add-if1-2 c =
     let k = c .before .before .before .before in
-    let g = k .pre .0 .stepping .given .ground in
-    let h = k .pre .1 in
+    let g = k .pre .toLast .stepping .given .ground in
+    let h = k .pre .state in
     omega (arith, c .word .ensures, g .coded .digit (k .args .q) (omega (arith, g .all)), g .coded .small (k .args .q) (omega (arith, g .all)))
 
 add-if1-3 : tie.Need-add-if1-3
@@ -37,24 +37,25 @@ returns c =
     let after-word = c .before .before in
     let k = after-word .before .before .before .before in
     let a = k .args in
-    let g = k .pre .0 .stepping .given .ground in
+    let g = k .pre .toLast .stepping .given .ground in
     let e : suc (a .layer .cells) + offset (a .sizes .reordering) (a .q) ≡ a .tall + suc (a .sizes .reordering) → ⊥ =
-    λ h. c .if1 .taken (omega (arith, after-word .word .ensures, g .coded .digit (a .q) (omega (arith, g .all)))) in (
-      record {
+    λ h. c .if1 .taken (omega (arith, after-word .word .ensures, g .coded .digit (a .q) (omega (arith, g .all)))) in
+    record {
+      filled = record {
         frame = frame-refl _ _ _;
-        low = k .pre .0 .stepping .given .low;
+        low = k .pre .toLast .stepping .given .low;
         right = λ b x l y.
             sym (last-skip (deckIn (a .row .now) (a .sizes)) (a .sizes .reordering) (a .layer .cells) (a .tall) (a .store .now) (a .layer .at) (a .costs) l
             (a .q) b e);
-      },
-      k .pre .0 .stepping .lent,
-    )
+      };
+      lent = k .pre .toLast .stepping .lent;
+    }
 
 target-block-requires : tie.Need-target-block-requires
 target-block-requires c κs =
     let mid = c .before .before .before .before in
     let k = mid .before .before .before .before in
-    record { stepping = k .pre .0 .stepping; state = k .pre .1 }
+    record { stepping = k .pre .toLast .stepping; state = k .pre .state }
 
 same-length : tie.Need-same-length
 same-length c = search needs
@@ -66,14 +67,15 @@ returns-2 c =
     let after-word = after-if1 .before .before in
     let k = after-word .before .before .before .before in
     let a = k .args in
-    let g = k .pre .0 .stepping .given .ground in
+    let g = k .pre .toLast .stepping .given .ground in
     let e : suc (a .layer .cells) + offset (a .sizes .reordering) (a .q) ≡ a .tall + suc (a .sizes .reordering) =
-    omega (arith, after-if1 .if1 .left, after-word .word .ensures, g .coded .digit (a .q) (omega (arith, g .all))) in (
-      state-ext (after-target-block .target-block .ensures .filled)
+    omega (arith, after-if1 .if1 .left, after-word .word .ensures, g .coded .digit (a .q) (omega (arith, g .all))) in
+    record {
+      filled = state-ext (after-target-block .target-block .ensures .filled)
           (λ b l x y. last-take (deckIn (a .row .now) (a .sizes)) (a .sizes .reordering) (a .layer .cells) (a .tall) (a .store .now) (a .layer .at)
-          (a .costs) l (a .q) b e),
-      after-target-block .target-block .ensures .lent,
-    )
+          (a .costs) l (a .q) b e);
+      lent = after-target-block .target-block .ensures .lent;
+    }
 
 add-word : tie.Need-add-word
 add-word c = search needs

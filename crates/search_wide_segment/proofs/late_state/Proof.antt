@@ -18,7 +18,7 @@ word-requires c κs = search needs
 add-if1 : tie.Need-add-if1
 add-if1 c =
     let k = c .before .before .before in
-    omega (arith, c .word .ensures, k .pre .0 .coded .digit (k .args .q) (k .pre .1), k .pre .0 .coded .small (k .args .q) (k .pre .1))
+    omega (arith, c .word .ensures, k .pre .toTall .coded .digit (k .args .q) (k .pre .state), k .pre .toTall .coded .small (k .args .q) (k .pre .state))
 
 add-if1-2 : tie.Need-add-if1-2
 add-if1-2 c = search needs
@@ -32,10 +32,10 @@ returns c =
     let k = after-word .before .before .before in
     let a = k .args in
     let e : a .i + offset (a .sizes .reordering) (a .q) ≤ a .tall + suc (a .sizes .reordering) =
-    omega (arith, c .if1 .taken, after-word .word .ensures, k .pre .0 .coded .digit (a .q) (k .pre .1)) in
+    omega (arith, c .if1 .taken, after-word .word .ensures, k .pre .toTall .coded .digit (a .q) (k .pre .state)) in
     record {
       frame = frame-refl _ _ _;
-      low = k .pre .0 .low;
+      low = k .pre .toTall .low;
       right = λ b x l y. sym (late-skip (a .sizes .reordering) (a .i) (a .tall) (a .store .now) (a .costs) l (a .q) b e);
     }
 
@@ -58,7 +58,7 @@ returns-2 c =
     let k = after-word .before .before .before in
     let a = k .args in
     let e : a .tall + suc (a .sizes .reordering) < a .i + offset (a .sizes .reordering) (a .q) =
-    omega (arith, after-if1 .if1 .left, after-word .word .ensures, k .pre .0 .coded .digit (a .q) (k .pre .1)) in
+    omega (arith, after-if1 .if1 .left, after-word .word .ensures, k .pre .toTall .coded .digit (a .q) (k .pre .state)) in
     state-rows (omega arith) (c .before .before .fill-rows .ensures)
     (λ b l x y. late-take (a .sizes .reordering) (a .i) (a .tall) (a .store .now) (a .costs) l (a .q) b e)
 

@@ -5,7 +5,6 @@ use native.Mathlib.Omega.{arith}
 use lib.ListN.{length, getD}
 use Rattle.search_store.specs.Map.{keptFrom, layerBlock}
 use Rattle.search_row.specs.Words.{deckIn}
-use Rattle.search_wide_buckets.specs.Table.{Lent}
 use Rattle.search_wide_segment.specs.Runs.{Outside, CostedRun}
 use Rattle.search_wide_segment.specs.Laws.{given-small, buffer-low, buffer-beside, costed-start, costed-step, costed-from, outside-join, outside-costs}
 use borrow.Author.Needs.{needs}
@@ -14,7 +13,7 @@ use Rattle.search_wide_segment.proofs.run_to.Tie as tie
 
 abbrev Inv-loop : tie.InvT-loop
 Inv-loop table₀ store₀ row sizes lanes i tall costs r from₀ d₀ table store from d =
-    (i + d ≤ 67) × CostedRun (deckIn row sizes) (sizes .reordering) lanes i tall d from costs store₀ store × Lent table × (d ≤ tall + (sizes .reordering) - i)
+    (i + d ≤ 67) × CostedRun (deckIn row sizes) (sizes .reordering) lanes i tall d from costs store₀ store table × (d ≤ tall + (sizes .reordering) - i)
 
 abbrev μ-loop : tie.MeasureT-loop
 μ-loop table₀ store₀ row sizes lanes i tall costs r from₀ d₀ table store from d =
@@ -39,40 +38,40 @@ kept : (c : tie.After-slice-known3 Inv-loop μ-loop) (k : ℕ) → k < layerBloc
 kept c k h =
     let after-deliver = c .before .before in
     let after-fill-late = after-deliver .before .before .before .before in
-    let p = after-fill-late .before .before .before .before .pre .0 .room .over in
+    let p = after-fill-late .before .before .before .before .pre .segment .room .over in
     after-deliver .deliver .ensures .frame .low k (omega arith) ∙ after-fill-late .fill-late .ensures .frame .low k (omega arith)
 
 fill-late-requires : tie.Need-fill-late-requires Inv-loop μ-loop
 fill-late-requires c κs =
     let k = c .before .before .before in
-    let g = k .pre .0 .given in
+    let g = k .pre .segment .given in
     record {
       coded = g .ground .coded;
       low = g .low;
-      room = k .pre .0 .room;
+      room = k .pre .segment .room;
       all = g .ground .all;
       few = g .ground .few;
       narrow = g .narrow;
       early = omega (arith, g .early);
-      inside = k .pre .1;
+      inside = k .pre .inside;
     }
 
 deliver-requires : tie.Need-deliver-requires Inv-loop μ-loop
 deliver-requires c κs =
     let after-fill-late = c .before .before .before in
     let k = after-fill-late .before .before .before .before in
-    let g = k .pre .0 .given in
+    let g = k .pre .segment .given in
     let w = after-fill-late .fill-late .ensures in
     record {
       toTall = record {
         coded = g .ground .coded;
         low = w .low;
-        room = record { over = k .pre .0 .room .over; room = omega (arith, k .pre .0 .room .room, w .frame .long) };
+        room = record { over = k .pre .segment .room .over; room = omega (arith, k .pre .segment .room .room, w .frame .long) };
         all = g .ground .all;
         few = g .ground .few;
         narrow = g .narrow;
         early = omega (arith, g .early);
-        inside = k .pre .1;
+        inside = k .pre .inside;
       };
       below = omega arith;
     }
@@ -83,12 +82,11 @@ loop-holds c =
     let after-fill-late = after-deliver .before .before .before .before in
     let k = after-fill-late .before .before .before .before in
     let a = k .args in
-    let g = k .pre .0 .given in (
+    let g = k .pre .segment .given in (
       omega (arith, g .early),
       costed-start (deckIn (a .row .now) (a .sizes)) (a .sizes .reordering) (a .lanes) (a .i) (a .tall) (a .costs) (a .sizes .states) (given-small g)
-          (g .ground .all) (k .pre .0 .room .over)
+          (g .ground .all) (k .pre .segment .room .over) (k .pre .segment .lent)
           (after-fill-late .fill-late .ensures) (after-deliver .deliver .ensures),
-      k .pre .0 .lent,
       omega arith,
     )
 
@@ -111,13 +109,13 @@ step-layer-requires c κs =
     let mid₂ = mid .before .before .before .before in
     let mid₃ = mid₂ .before .before .before .before in
     let k = mid₃ .before .before in
-    let g = k .pre .0 .given in
+    let g = k .pre .segment .given in
     let l = c .before .before .before .loop in
     let v = l .inv .1 in
     let b = buffer-low (v .running .buffer) in
-    let n : keptFrom ≤ length (l .store) = omega (arith, v .outside .long, long mid, k .pre .0 .room .over, k .pre .0 .room .room) in
+    let n : keptFrom ≤ length (l .store) = omega (arith, v .outside .long, long mid, k .pre .segment .room .over, k .pre .segment .room .room) in
     record {
-      lent = l .inv .2;
+      lent = v .lent;
       given = record { ground = g .ground; low = v .low; narrow = g .narrow; early = l .inv .0; room = omega arith };
       beside = buffer-beside (v .running .buffer) n;
     }
@@ -140,10 +138,10 @@ deliver-requires-2 c κs =
     let mid = at-loop .before .before .before .before in
     let mid₂ = mid .before .before .before .before in
     let k = mid₂ .before .before .before in
-    let g = k .pre .0 .given in
+    let g = k .pre .segment .given in
     let l = at-loop .loop in
     let w = after-step-layer .step-layer .ensures .filled in
-    let p = k .pre .0 .room in
+    let p = k .pre .segment .room in
     record {
       toTall = record {
         coded = g .ground .coded;
@@ -153,7 +151,7 @@ deliver-requires-2 c κs =
         few = g .ground .few;
         narrow = g .narrow;
         early = omega (arith, l .inv .0);
-        inside = k .pre .1;
+        inside = k .pre .inside;
       };
       below = omega arith;
     }
@@ -169,12 +167,11 @@ loop-again c =
     let mid = at-loop .before .before .before .before in
     let mid₂ = mid .before .before .before .before in
     let k = mid₂ .before .before .before in
-    let g = k .pre .0 .given in
-    let p = k .pre .0 .room in
+    let g = k .pre .segment .given in
+    let p = k .pre .segment .room in
     let l = at-loop .loop in (
       omega (arith, g .ground .coded .reorder),
-      costed-step (given-small g) (g .ground .all) (p .over) (l .inv .1) (after-step-layer .step-layer .ensures .filled) (after-deliver2 .deliver2 .ensures),
-      after-step-layer .step-layer .ensures .lent,
+      costed-step (given-small g) (g .ground .all) (p .over) (l .inv .1) (after-step-layer .step-layer .ensures) (after-deliver2 .deliver2 .ensures),
       omega arith,
     )
 
@@ -189,11 +186,11 @@ returns c =
     let k = after-fill-late .before .before .before .before in
     let a = k .args in
     let l = c .before .loop in
-    let e : l .d ≡ a .tall + a .sizes .reordering - a .i = omega (arith, l .inv .3) in
+    let e : l .d ≡ a .tall + a .sizes .reordering - a .i = omega (arith, l .inv .2) in
     let o : Outside (a .costs) layerBlock (a .store .now) (after-deliver .deliver .last .0) =
     outside-join (outside-costs (after-fill-late .fill-late .ensures .frame) (omega arith) (omega arith))
     (outside-costs (after-deliver .deliver .ensures .frame) (omega arith) (omega arith)) in
-    (rw e at (costed-from (given-small (k .pre .0 .given)) (kept (c .before .before)) o (l .inv .1)), l .inv .2)
+    rw e at (costed-from (given-small (k .pre .segment .given)) (kept (c .before .before)) o (l .inv .1))
 
 pub run-to-spec : {M : Type 1} → statement M
 run-to-spec =

@@ -16,8 +16,7 @@ same-length c = search needs
 
 returns : tie.Need-returns
 returns c =
-    let w = c .before .before .before .before .run-to .ensures in
-    (costed-past (w .0) (omega (arith, c .if1 .taken)), w .1)
+    costed-past (c .before .before .before .before .run-to .ensures) (omega (arith, c .if1 .taken))
 
 add-cells : tie.Need-add-cells
 add-cells c = search needs
@@ -27,24 +26,23 @@ last-layer-requires c κs =
     let mid = c .before .before .before .before in
     let mid₂ = mid .before .before .before .before in
     let k = mid₂ .before .before .before .before in
-    let g = k .pre .0 .given in
-    let p = k .pre .0 .room in
-    let w = mid .before .before .before .run-to .ensures in
-    let v = w .0 in
+    let g = k .pre .segment .given in
+    let p = k .pre .segment .room in
+    let v = mid .before .before .before .run-to .ensures in
     let b = v .running .buffer in
     record {
       stepping = record {
-        lent = w .1;
+        lent = v .lent;
         given = record {
           ground = g .ground;
           low = v .low;
           narrow = g .narrow;
-          early = omega (arith, g .ground .coded .reorder, k .pre .1);
+          early = omega (arith, g .ground .coded .reorder, k .pre .inside);
           room = omega (arith, buffer-low b, p .over, p .room, v .outside .long);
         };
         beside = buffer-costs b (record { over = p .over; room = omega (arith, p .room, v .outside .long) });
       };
-      inside = k .pre .1;
+      inside = k .pre .inside;
     }
 
 same-length-2 : tie.Need-same-length-2
@@ -57,9 +55,8 @@ returns-2 c =
     let after-run-to = after-if1 .before .before .before .before in
     let mid = after-run-to .before .before .before .before in
     let k = mid .before in
-    let w = after-run-to .run-to .ensures in
-    let f = after-last-layer .last-layer .ensures in
-    (costed-last (k .pre .0 .given .ground .all) (w .0) (omega (arith, after-if1 .if1 .left)) (f .0), f .1)
+    costed-last (k .pre .segment .given .ground .all) (after-run-to .run-to .ensures) (omega (arith, after-if1 .if1 .left))
+    (after-last-layer .last-layer .ensures)
 
 pub segment-to-spec : {M : Type 1} → statement M
 segment-to-spec =

@@ -15,10 +15,11 @@ unfolding posIn
 segment-to-requires c κs =
     let after-if1 = c .before .before .before in
     let k = after-if1 .before .before .before .before in
-    let g = k .pre .given in (
-      segment-given (k .pre),
-      omega (arith, c .before .before .tall-at .ensures, g .inside (k .args .i) (after-if1 .if1 .taken), g .ground .size),
-    )
+    let g = k .pre .given in
+    record {
+      segment = segment-given (k .pre);
+      inside = omega (arith, c .before .before .tall-at .ensures, g .inside (k .args .i) (after-if1 .if1 .taken), g .ground .size);
+    }
 
 same-length : tie.Need-same-length
 same-length c = search needs
@@ -32,8 +33,8 @@ returns c =
     let a = k .args in (
       row-tall (deckIn (a .row .now) (a .sizes)) (a .sizes .reordering) (a .sizes .talls) (posIn (a .row .now))
           (a .starts .now) (after-if1 .if1 .taken) (k .pre .given .ground .all) (after-segment-to .before .before .before .tall-at .ensures)
-          (after-segment-to .segment-to .ensures .0),
-      after-segment-to .segment-to .ensures .1,
+          (after-segment-to .segment-to .ensures),
+      after-segment-to .segment-to .ensures .lent,
     )
 
 segment-end-requires : tie.Need-segment-end-requires
