@@ -47,8 +47,8 @@ module _ (D : Deck) (R talls : ℕ) (pos : ℕ → ℕ) where
       }
 
   -- to the row's end
-  pub row-last : (count : ℕ) {I lanes i costs : ℕ} {starts old new : List ℕ}
-      → talls ≤ I → Ended D R lanes i costs starts old new
+  pub row-last : (count : ℕ) {I lanes i costs : ℕ} {starts old new table : List ℕ}
+      → talls ≤ I → Ended D R lanes i costs starts old new table
       → RowCosted (endFrom D R talls pos I old i starts) lanes (wide talls (suc I) count)
       (wide talls (suc I) (D .poses)) costs old new
   row-last count {I} {lanes} {i} {costs} {starts} {old} {new} h w =

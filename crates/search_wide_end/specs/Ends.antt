@@ -11,11 +11,11 @@ use Rattle.theory_tables.specs.Steps.{Deck, lastAt, ends, costEnd}
 use Rattle.search_lanes.specs.Lanes.{LaneWords}
 use Rattle.search_lanes.specs.Store.{Frame, Low, layerIn}
 use Rattle.search_row.specs.declared.Sizes.{Sizes}
-use Rattle.search_row.specs.Words.{wordOf, backIn, thereIn, tallWord, RowWords}
+use Rattle.search_row.specs.Words.{wordOf, backIn, thereIn, tallWord, RowWords, Ground}
 use Rattle.search_buckets.specs.Ends.{leastPoses, leastState, leastStates}
 use Rattle.search_wide_buckets.specs.Table.{Lent}
 use Rattle.search_wide_layer.specs.Loops.{Given}
-use Rattle.search_wide_segment.specs.Runs.{Running, Outside}
+use Rattle.search_wide_segment.specs.Runs.{Running, Outside, CostRoom, SegmentGiven}
 
 -- state q's cell can be the last of the row: the row has it, and it is single
 abbrev pub endsWith : List ℕ → ℕ → ℕ → ℕ → Bool
@@ -46,10 +46,25 @@ pub record RunGiven (table row st : List ℕ) (z : Sizes) (lanes i : ℕ) : Type
   pub room : keptFrom ≤ length st
   pub left : i ≤ z .cells
 
+-- a row, of which state q may have the last cell
+pub record LastState (row : List ℕ) (z : Sizes) (q : ℕ) : Type 0 where
+  pub ground : Ground row z
+  pub state : q < z .states
+
+-- the layer with all cells placed, in the block at `at`, and room for its costs
+pub record LastLayer (row st : List ℕ) (z : Sizes) (lanes at costs : ℕ) : Type 0 where
+  pub given : Given row st z lanes (z .cells) at
+  pub room : CostRoom st costs
+
 -- the layer with all cells placed, in the block at `at`, and the least so far, in each lane
 pub record LeastGiven (acc row st : List ℕ) (z : Sizes) (lanes at : ℕ) : Type 0 where
   pub given : Given row st z lanes (z .cells) at
   pub least : LaneWords acc
+
+-- its state q, and the least so far
+pub record StateGiven (acc row st : List ℕ) (z : Sizes) (lanes at q : ℕ) : Type 0 where
+  pub layer : LeastGiven acc row st z lanes at
+  pub state : q < z .states
 
 -- the poses of its state q, whose cell is at position k, and the least so far
 pub record PosesGiven (acc row st : List ℕ) (at q k poses lanes : ℕ) : Type 0 where
@@ -62,16 +77,23 @@ pub record PosesGiven (acc row st : List ℕ) (at q k poses lanes : ℕ) : Type 
   pub few : poses ≤ 60
   pub narrow : lanes ≤ 64
 
+-- a segment to the row's end, and what the start of each lane pays as the last
+pub record SegmentToEnd (table row st starts : List ℕ) (z : Sizes) (lanes i costs : ℕ) : Type 0 where
+  pub segment : SegmentGiven table row st z lanes i costs
+  pub pays : LaneWords starts
+
 -- ---- what is left
 
--- d layers on, in the block at `at`
-pub record Ran (D : Deck) (R lanes i d at : ℕ) (old new : List ℕ) : Type 0 where
+-- d layers on, in the block at `at`, and a table that serves the next layer
+pub record Ran (D : Deck) (R lanes i d at : ℕ) (old new table : List ℕ) : Type 0 where
   pub running : Running D R lanes i d at old new
   pub frame : Frame 0 keptFrom old new
   pub low : Low new
+  pub lent : Lent table
 
 -- the costs to the row's end, a word for each lane; `starts` has what the start of each lane pays as the last
-pub record Ended (D : Deck) (R lanes i costs : ℕ) (starts old new : List ℕ) : Type 0 where
+pub record Ended (D : Deck) (R lanes i costs : ℕ) (starts old new table : List ℕ) : Type 0 where
   pub outside : Outside costs 64 old new
   pub low : Low new
+  pub lent : Lent table
   pub right : (l : ℕ) → l < lanes → getD new (costs + l) 0 ≡ costEnd D R (layerIn old 0 l) i (getD starts l 0)

@@ -9,11 +9,12 @@ use lib.Dec.{leb, eqb}
 use Rattle.search_store.specs.Map.{keptFrom, layerBlock}
 use Rattle.theory_tables.specs.Steps.{B, Deck, Layer, stateCount, lastAt, layers, ends, costEnd}
 use Rattle.theory_tables.specs.Spots.{and-both}
-use Rattle.search_lanes.specs.Store.{Written, layerIn, Filled}
+use Rattle.search_lanes.specs.Store.{Written, layerIn}
 use Rattle.search_lanes.specs.Laws.{frame-join}
 use Rattle.search_row.specs.Words.{thereIn}
 use Rattle.search_row.specs.Laws.{there-size}
-use Rattle.search_wide_layer.specs.Loops.{nextFrom}
+use Rattle.search_wide_buckets.specs.Table.{Lent}
+use Rattle.search_wide_layer.specs.Loops.{nextFrom, LayerMade}
 use Rattle.search_buckets.specs.Ends.{cost-run}
 use Rattle.search_wide_segment.specs.Runs.{Running}
 use Rattle.search_buckets.specs.Next.{layers-ext, ends-ext}
@@ -46,26 +47,30 @@ ran-cost {D} {R} {i = i} {at = at} {old = old} {new = new} l e h r z =
 
 -- one layer more
 pub ran-more :
-    {D : Deck} {R lanes i d at count : ℕ} {old mid new : List ℕ}
-    → count ≡ stateCount R → Ran D R lanes i d at old mid
-    → Filled (nextFrom D R mid at (i + d)) lanes (D .poses) (layerBlock - at) count mid new
-    → Ran D R lanes i (d + 1) (layerBlock - at) old new
-ran-more c r f =
+    {D : Deck} {R lanes i d at count : ℕ} {old mid new table table′ : List ℕ}
+    → count ≡ stateCount R → Ran D R lanes i d at old mid table
+    → LayerMade (nextFrom D R mid at (i + d)) lanes (D .poses) (layerBlock - at) count mid new table′
+    → Ran D R lanes i (d + 1) (layerBlock - at) old new table′
+ran-more c r m =
     let b = buffer-low (r .running .buffer) in
+    let f = m .filled in
     record {
       running = run-more c (r .running) f;
       frame = frame-join 0 keptFrom (r .frame) (f .frame) (omega arith) (omega arith) (omega arith) (omega arith);
       low = f .low;
+      lent = m .lent;
     }
 
 -- where no layer is left to run through
 pub end-words :
-    {D : Deck} {R lanes i costs : ℕ} {g : ℕ → ℕ} {starts old new : List ℕ}
-    → lanes ≤ 64 → Written g costs lanes old new → ((f : Layer) (l : ℕ) → costEnd D R f i (getD starts l 0) ≡ g l)
-    → Ended D R lanes i costs starts old new
-end-words {old = old} n w e =
+    {D : Deck} {R lanes i costs : ℕ} {g : ℕ → ℕ} {starts old new table : List ℕ}
+    → lanes ≤ 64 → Lent table → Written g costs lanes old new
+    → ((f : Layer) (l : ℕ) → costEnd D R f i (getD starts l 0) ≡ g l)
+    → Ended D R lanes i costs starts old new table
+end-words {old = old} n t w e =
     record {
       outside = outside-costs (w .frame) (omega arith) (omega arith);
       low = w .low;
+      lent = t;
       right = λ l h. w .words l h ∙ sym (e (layerIn old 0 l) l);
     }

@@ -1,13 +1,11 @@
 // A segment to the row's end, from its first layer, in block 0; all lanes at once.
 ghost use mathlib.Core.Path.{_≡_};
-ghost use Prim.Native.Nat.{_-_, _<_};
-ghost use Rattle.search_lanes.specs.Lanes.{Lowered, LaneWords};
+ghost use Prim.Native.Nat.{_-_};
+ghost use Rattle.search_lanes.specs.Lanes.{Lowered};
 ghost use Rattle.search_lanes.specs.Store.{Written};
-ghost use Rattle.search_row.specs.Words.{deckIn, Ground};
-ghost use Rattle.search_wide_buckets.specs.Table.{Lent};
-ghost use Rattle.search_wide_layer.specs.Loops.{Given};
-ghost use Rattle.search_wide_segment.specs.Runs.{SegmentGiven, CostRoom};
-ghost use Rattle.search_wide_end.specs.Ends.{RunGiven, LeastGiven, PosesGiven};
+ghost use Rattle.search_row.specs.Words.{deckIn};
+ghost use Rattle.search_wide_end.specs.Ends.{RunGiven, LastState, LastLayer, LeastGiven, StateGiven};
+ghost use Rattle.search_wide_end.specs.Ends.{PosesGiven, SegmentToEnd};
 ghost use Rattle.search_wide_end.specs.Ends.{endsWith, leastPosesIn, leastStateIn, leastStatesIn};
 ghost use Rattle.search_wide_end.specs.Ends.{endsIn, Ran, Ended};
 use search_row::Sizes;
@@ -24,7 +22,7 @@ fn run_on(
 ) -> usize
     requires { ⌜ RunGiven (now table) (now row) (now store) sizes lanes i ⌝ }
     ensures { λ at. ⌜ Ran (deckIn (now (row .entry)) sizes) (sizes .reordering) lanes i
-        (sizes .cells - i) at (now (store .entry)) (now (store .exit)) × Lent (now (table .exit)) ⌝ }
+        (sizes .cells - i) at (now (store .entry)) (now (store .exit)) (now (table .exit)) ⌝ }
 {
     let mut from: usize = 0;
     let mut d: usize = 0;
@@ -44,7 +42,7 @@ fn run_on(
 
 // Whether state q's cell can be the last of the row.
 fn ends_with(row: &[u32], sizes: Sizes, q: usize) -> bool
-    requires { ⌜ Ground (now row) sizes × (q < sizes .states) ⌝ }
+    requires { ⌜ LastState (now row) sizes q ⌝ }
     ensures { λ t. ⌜ t ≡ endsWith (now (row .entry)) (sizes .cells) (sizes .reordering) q ⌝ }
 {
     if !search_row::is_there(row, sizes, sizes.cells, q) {
@@ -92,7 +90,7 @@ fn least_state(
     at: usize,
     q: usize,
 )
-    requires { ⌜ LeastGiven (now acc) (now row) (now store) sizes lanes at × (q < sizes .states) ⌝ }
+    requires { ⌜ StateGiven (now acc) (now row) (now store) sizes lanes at q ⌝ }
     ensures { λ _. ⌜ Lowered (leastStateIn (deckIn (now (row .entry)) sizes) (sizes .reordering)
         (now (store .entry)) at q) lanes (now (acc .entry)) (now (acc .exit)) ⌝ }
 {
@@ -125,7 +123,7 @@ fn least_states(
 
 // The least of the layer with all cells placed, to a row of costs.
 fn put_ends(store: &mut [u32], row: &[u32], sizes: Sizes, lanes: usize, at: usize, costs: usize)
-    requires { ⌜ Given (now row) (now store) sizes lanes (sizes .cells) at × CostRoom (now store) costs ⌝ }
+    requires { ⌜ LastLayer (now row) (now store) sizes lanes at costs ⌝ }
     ensures { λ _. ⌜ Written (endsIn (deckIn (now (row .entry)) sizes) (sizes .reordering)
         (now (store .entry)) at) costs lanes (now (store .entry)) (now (store .exit)) ⌝ }
 {
@@ -146,9 +144,9 @@ pub fn segment_end(
     i: usize,
     costs: usize,
 )
-    requires { ⌜ SegmentGiven (now table) (now row) (now store) sizes lanes i costs × LaneWords (now starts) ⌝ }
+    requires { ⌜ SegmentToEnd (now table) (now row) (now store) (now starts) sizes lanes i costs ⌝ }
     ensures { λ _. ⌜ Ended (deckIn (now (row .entry)) sizes) (sizes .reordering) lanes i costs (now (starts .entry))
-        (now (store .entry)) (now (store .exit)) × Lent (now (table .exit)) ⌝ }
+        (now (store .entry)) (now (store .exit)) (now (table .exit)) ⌝ }
 {
     if i > sizes.cells + 1 {
         search_lanes::fill(store, costs, lanes, search_lanes::NONE);

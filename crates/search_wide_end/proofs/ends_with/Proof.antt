@@ -23,7 +23,7 @@ inside : (c : tie.After-last-at) → c .last-at .result < 64
 inside c =
     let k = c .before .before .before .before in
     let a = k .args in
-    omega (arith, c .last-at .ensures, there-size (a .sizes .cells) (a .sizes .reordering) (a .sizes .cells) (a .q) (there (c .before)), k .pre .0 .size)
+    omega (arith, c .last-at .ensures, there-size (a .sizes .cells) (a .sizes .reordering) (a .sizes .cells) (a .q) (there (c .before)), k .pre .ground .size)
 
 is-there-requires : tie.Need-is-there-requires
 is-there-requires c κs = search needs
@@ -50,7 +50,7 @@ mul-result-2 c =
 shared-slice-read-result : tie.Need-shared-slice-read-result
 shared-slice-read-result c =
     let mid = c .before in
-    omega (arith, inside mid, mid .before .before .before .before .pre .0 .words .long)
+    omega (arith, inside mid, mid .before .before .before .before .pre .ground .words .long)
 
 returns-2 : tie.Need-returns-2
 returns-2 c =

@@ -28,7 +28,7 @@ returns : tie.Need-returns
 returns c =
     let k = c .before .before .before .before in
     let a = k .args in
-    lowered-to _ (k .pre .0 .least .low)
+    lowered-to _ (k .pre .layer .least .low)
     (λ l h. omega (
       arith,
       state-out (deckIn (a .row .now) (a .sizes)) (a .sizes .reordering) (layerIn (a .store .now) (a .at) l) (a .q)
@@ -43,13 +43,13 @@ least-poses-requires c κs =
     let mid = c .before .before in
     let k = mid .before .before .before .before in
     let a = k .args in
-    let g = k .pre .0 .given in
+    let g = k .pre .layer .given in
     record {
       words = g .ground .words;
       low = g .low;
-      least = k .pre .0 .least;
+      least = k .pre .layer .least;
       room = g .room;
-      state = omega (arith, g .ground .all, g .ground .coded .few, k .pre .1);
+      state = omega (arith, g .ground .all, g .ground .coded .few, k .pre .state);
       cell = omega (arith, c .before .last-at .ensures, ends-size (a .row .now) (a .sizes .cells) (a .sizes .reordering) (a .q) (can mid), g .ground .size);
       few = g .ground .few;
       narrow = g .narrow;

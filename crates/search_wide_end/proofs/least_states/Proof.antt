@@ -35,7 +35,10 @@ least-state-requires c κs =
     let k = at-loop .before .before .before in
     let w = at-loop .loop .inv .1 in
     let g = k .pre .least in
-    (record { given = k .pre .given; least = record { long = w .long ∙ g .long; low = lowered-low w (g .low) } }, omega arith)
+    record {
+      layer = record { given = k .pre .given; least = record { long = w .long ∙ g .long; low = lowered-low w (g .low) } };
+      state = omega arith;
+    }
 
 add-q : tie.Need-add-q Inv-loop μ-loop
 add-q c = search needs

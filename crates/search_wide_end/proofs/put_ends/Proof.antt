@@ -11,7 +11,7 @@ use Rattle.search_wide_end.proofs.put_ends.Tie as tie
 
 least-states-requires : tie.Need-least-states-requires
 least-states-requires c κs =
-    record { given = c .before .before .before .before .pre .0; least = record { long = refl; low = none-low } }
+    record { given = c .before .before .before .before .pre .given; least = record { long = refl; low = none-low } }
 
 put-requires : tie.Need-put-requires
 put-requires c κs =
@@ -20,8 +20,8 @@ put-requires c κs =
     let w = c .before .before .least-states .ensures in
     record {
       word = record { long = w .long; low = lowered-low w none-low };
-      row = record { room = omega (arith, k .pre .1 .room, k .pre .0 .narrow); low = k .pre .0 .low };
-      narrow = k .pre .0 .narrow;
+      row = record { room = omega (arith, k .pre .room .room, k .pre .given .narrow); low = k .pre .given .low };
+      narrow = k .pre .given .narrow;
       small = omega arith;
     }
 
@@ -35,7 +35,7 @@ returns c =
     let k = mid .before .before .before .before in
     let a = k .args in
     let w = after-put .before .before .before .least-states .ensures in
-    let g = k .pre .0 in
+    let g = k .pre .given in
     written-ext (after-put .put .ensures)
     (λ l h.
     ends-gathered (deckIn (a .row .now) (a .sizes)) (a .sizes .reordering) (layerIn (a .store .now) (a .at) l) (g .ground .all)

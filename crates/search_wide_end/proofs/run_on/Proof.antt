@@ -6,7 +6,6 @@ use lib.ListN.{length}
 use Rattle.search_store.specs.Map.{keptFrom}
 use Rattle.search_lanes.specs.Laws.{frame-refl}
 use Rattle.search_row.specs.Words.{deckIn}
-use Rattle.search_wide_buckets.specs.Table.{Lent}
 use Rattle.search_wide_segment.specs.Laws.{given-small, buffer-low, buffer-beside, run-none}
 use Rattle.search_wide_end.specs.Ends.{Ran}
 use Rattle.search_wide_end.specs.Laws.{ran-more}
@@ -16,7 +15,7 @@ use Rattle.search_wide_end.proofs.run_on.Tie as tie
 
 abbrev Inv-loop : tie.InvT-loop
 Inv-loop table₀ store₀ row sizes lanes i from₀ d₀ table store from d =
-    (i + d ≤ (sizes .cells)) × Ran (deckIn row sizes) (sizes .reordering) lanes i d from store₀ store × Lent table
+    (i + d ≤ (sizes .cells)) × Ran (deckIn row sizes) (sizes .reordering) lanes i d from store₀ store table
 
 abbrev μ-loop : tie.MeasureT-loop
 μ-loop table₀ store₀ row sizes lanes i from₀ d₀ table store from d =
@@ -31,8 +30,8 @@ loop-holds c =
         running = run-none (deckIn (a .row .now) (a .sizes)) (a .sizes .reordering) (a .lanes) (a .i) (given-small (k .pre .given)) (λ j h. refl);
         frame = frame-refl _ _ _;
         low = k .pre .given .low;
+        lent = k .pre .lent;
       },
-      k .pre .lent,
     )
 
 add-cells : tie.Need-add-cells Inv-loop μ-loop
@@ -52,7 +51,7 @@ step-layer-requires c κs =
     let b = buffer-low (v .running .buffer) in
     let n : keptFrom ≤ length (l .store) = omega (arith, v .frame .long, k .pre .room) in
     record {
-      lent = l .inv .2;
+      lent = v .lent;
       given = record { ground = g .ground; low = v .low; narrow = g .narrow; early = omega (arith, l .inv .0, g .ground .size); room = omega arith };
       beside = buffer-beside (v .running .buffer) n;
     }
@@ -73,8 +72,7 @@ loop-again c =
     let mid = c .before .before .before .before in
     let at-loop = mid .before .before .before in (
       omega arith,
-      ran-more (at-loop .before .before .before .pre .given .ground .all) (at-loop .loop .inv .1) (c .before .before .step-layer .ensures .filled),
-      c .before .before .step-layer .ensures .lent,
+      ran-more (at-loop .before .before .before .pre .given .ground .all) (at-loop .loop .inv .1) (c .before .before .step-layer .ensures),
     )
 
 same-length : tie.Need-same-length Inv-loop μ-loop
@@ -86,7 +84,7 @@ returns c =
     let at-loop = c .before .before in
     let a = at-loop .before .before .before .args in
     let e : at-loop .loop .d ≡ a .sizes .cells - a .i = omega arith in
-    (rw e at (at-loop .loop .inv .1), at-loop .loop .inv .2)
+    rw e at (at-loop .loop .inv .1)
 
 add-if1 : tie.Need-add-if1 Inv-loop μ-loop
 add-if1 c = search needs

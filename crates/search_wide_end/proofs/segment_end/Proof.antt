@@ -28,11 +28,9 @@ returns : tie.Need-returns
 returns c =
     let mid = c .before .before .before .before in
     let k = mid .before .before .before .before in
-    let a = k .args in (
-      end-words (k .pre .0 .given .narrow) (c .before .before .fill .ensures)
-          (λ f l. cost-past (deckIn (a .row .now) (a .sizes)) (a .sizes .reordering) f (a .i) (getD (a .starts .now) l 0) (omega arith)),
-      k .pre .0 .lent,
-    )
+    let a = k .args in
+    end-words (k .pre .segment .given .narrow) (k .pre .segment .lent) (c .before .before .fill .ensures)
+    (λ f l. cost-past (deckIn (a .row .now) (a .sizes)) (a .sizes .reordering) f (a .i) (getD (a .starts .now) l 0) (omega arith))
 
 add-if2 : tie.Need-add-if2
 add-if2 c = search needs
@@ -41,10 +39,10 @@ put-requires : tie.Need-put-requires
 put-requires c κs =
     let mid = c .before .before .before .before in
     let k = mid .before .before .before in
-    let g = k .pre .0 .given in
+    let g = k .pre .segment .given in
     record {
-      word = k .pre .1;
-      row = record { room = omega (arith, k .pre .0 .room .room, g .narrow); low = g .low };
+      word = k .pre .pays;
+      row = record { room = omega (arith, k .pre .segment .room .room, g .narrow); low = g .low };
       narrow = g .narrow;
       small = omega arith;
     }
@@ -58,18 +56,16 @@ returns-2 c =
     let mid = after-put .before .before .before .before in
     let k = mid .before .before .before .before in
     let a = k .args in
-    let s = k .pre .1 in (
-      end-words (k .pre .0 .given .narrow) (after-put .put .ensures)
-          (λ f l. omega
-          (arith, cost-done (deckIn (a .row .now) (a .sizes)) (a .sizes .reordering) f (a .i) (getD (a .starts .now) l 0) (omega arith), s .low .word l)),
-      k .pre .0 .lent,
-    )
+    let s = k .pre .pays in
+    end-words (k .pre .segment .given .narrow) (k .pre .segment .lent) (after-put .put .ensures)
+    (λ f l. omega
+    (arith, cost-done (deckIn (a .row .now) (a .sizes)) (a .sizes .reordering) f (a .i) (getD (a .starts .now) l 0) (omega arith), s .low .word l))
 
 run-on-requires : tie.Need-run-on-requires
 run-on-requires c κs =
     let mid = c .before .before .before .before in
     let k = mid .before .before .before .before in
-    let g = k .pre .0 in
+    let g = k .pre .segment in
     record { lent = g .lent; given = g .given; room = omega (arith, g .room .over, g .room .room); left = left (c .before .before) }
 
 put-ends-requires : tie.Need-put-ends-requires
@@ -77,23 +73,24 @@ put-ends-requires c κs =
     let mid = c .before .before .before .before in
     let mid₂ = mid .before .before .before .before in
     let k = mid₂ .before .before .before .before in
-    let g = k .pre .0 .given in
-    let v = c .before .before .before .run-on .ensures .0 in
-    let b = buffer-low (v .running .buffer) in (
-      record {
+    let g = k .pre .segment .given in
+    let v = c .before .before .before .run-on .ensures in
+    let b = buffer-low (v .running .buffer) in
+    record {
+      given = record {
         ground = g .ground;
         low = v .low;
         narrow = g .narrow;
         early = omega (arith, g .ground .size);
-        room = omega (arith, v .frame .long, k .pre .0 .room .over, k .pre .0 .room .room);
-      },
-      record { over = k .pre .0 .room .over; room = omega (arith, v .frame .long, k .pre .0 .room .room) },
-    )
+        room = omega (arith, v .frame .long, k .pre .segment .room .over, k .pre .segment .room .room);
+      };
+      room = record { over = k .pre .segment .room .over; room = omega (arith, v .frame .long, k .pre .segment .room .room) };
+    }
 
 same-length-3 : tie.Need-same-length-3
 same-length-3 c =
     let after-put-ends = c .before .before in
-    after-put-ends .put-ends .ensures .frame .long ∙ after-put-ends .before .before .before .before .run-on .ensures .0 .frame .long
+    after-put-ends .put-ends .ensures .frame .long ∙ after-put-ends .before .before .before .before .run-on .ensures .frame .long
 
 returns-3 : tie.Need-returns-3
 returns-3 c =
@@ -103,17 +100,16 @@ returns-3 c =
     let mid₂ = mid .before .before .before .before in
     let k = mid₂ .before .before in
     let a = k .args in
-    let g = k .pre .0 in
-    let v = after-run-on .run-on .ensures .0 in
-    let w = after-put-ends .put-ends .ensures in (
-      record {
-        outside =
-            outside-join (outside-layers (g .room .over) (v .frame) (omega arith)) (outside-costs (w .frame) (omega arith) (omega (arith, g .given .narrow)));
-        low = w .low;
-        right = λ l h. w .words l h ∙ ran-cost l (getD (a .starts .now) l 0) (left mid) (v .running) h;
-      },
-      after-run-on .run-on .ensures .1,
-    )
+    let g = k .pre .segment in
+    let v = after-run-on .run-on .ensures in
+    let w = after-put-ends .put-ends .ensures in
+    record {
+      outside = outside-join (outside-layers (g .room .over) (v .frame) (omega arith))
+          (outside-costs (w .frame) (omega arith) (omega (arith, g .given .narrow)));
+      low = w .low;
+      lent = v .lent;
+      right = λ l h. w .words l h ∙ ran-cost l (getD (a .starts .now) l 0) (left mid) (v .running) h;
+    }
 
 pub segment-end-spec : {M : Type 1} → statement M
 segment-end-spec =

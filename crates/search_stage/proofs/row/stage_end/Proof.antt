@@ -41,7 +41,7 @@ segment-end-requires : tie.Need-segment-end-requires
 segment-end-requires c κs =
     let after-if1 = c .before .before in
     let k = after-if1 .before .before .before .before in
-    (segment-given (k .pre), record { low = k .pre .low; long = k .pre .long })
+    record { segment = segment-given (k .pre); pays = record { low = k .pre .low; long = k .pre .long } }
 
 same-length-2 : tie.Need-same-length-2
 same-length-2 c = search needs
@@ -53,8 +53,8 @@ returns-2 c =
     let k = after-if1 .before .before .before .before in
     let a = k .args in (
       row-last (deckIn (a .row .now) (a .sizes)) (a .sizes .reordering) (a .sizes .talls) (posIn (a .row .now))
-          (a .sizes .states) (after-if1 .if1 .left) (after-segment-end .segment-end .ensures .0),
-      after-segment-end .segment-end .ensures .1,
+          (a .sizes .states) (after-if1 .if1 .left) (after-segment-end .segment-end .ensures),
+      after-segment-end .segment-end .ensures .lent,
     )
 
 pub stage-end-spec : {M : Type 1} → statement M
