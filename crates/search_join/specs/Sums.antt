@@ -11,7 +11,7 @@ use Rattle.theory_pair.specs.Coded.{lowest}
 use Rattle.theory_tables.specs.Steps.{B}
 use Rattle.search_lanes.specs.Store.{Low}
 use Rattle.search_join.specs.declared.Case.{Case}
-use Rattle.search_join.specs.Tables.{casesIn, costsIn, Table, Fits}
+use Rattle.search_join.specs.Tables.{casesIn, costsIn, Table, Fits, Part}
 
 -- from start state s to state q₀ in pose a, in lane l of case (s, t)
 unfoldable pub startSum : ℕ → List ℕ → ℕ → ℕ → ℕ → ℕ → ℕ → ℕ
@@ -42,6 +42,11 @@ pub record Sums (starts lanes I : ℕ) (st : List ℕ) (q₀ a s k : ℕ) (sums 
   pub before : (t l : ℕ) → t < starts → l < lanes → k ≤ t * 64 + l
       → getD sums (t * 64 + l) 0 ≡ lowest B (startSum I st q₀ a t l) (from 0 s)
 
+-- the sums over the start states up to s, and whether s has any way
+pub record StartSummed (starts lanes I : ℕ) (st : List ℕ) (q₀ a s : ℕ) (live : Bool) (old new : List ℕ) : Type 0 where
+  pub upTo : Sums starts lanes I st q₀ a (s + 1) 0 new
+  pub dead : live ≡ false → new ≡ old
+
 -- all sums are NONE
 abbrev pub Nones : ℕ → ℕ → List ℕ → Type 0
 Nones starts lanes sums = (t l : ℕ) → t < starts → l < lanes → getD sums (t * 64 + l) 0 ≡ B
@@ -58,6 +63,11 @@ pub record Summing (starts lanes I : ℕ) (st : List ℕ) (q₀ a : ℕ) : Type 
   pub table : Table starts lanes I st
   pub state : q₀ < 12
   pub pose : a < 60
+
+-- the same, and the array that the sums are in or are to be put in
+pub record SumsGiven (starts lanes I : ℕ) (st : List ℕ) (q₀ a : ℕ) (sums : List ℕ) : Type 0 where
+  pub given : Summing starts lanes I st q₀ a
+  pub room : Room sums
 
 -- the same, with the sums before start state s, of which those at places below k have it already
 pub record SumsFrom (starts lanes I : ℕ) (st : List ℕ) (q₀ a s k : ℕ) (sums : List ℕ) : Type 0 where
@@ -90,6 +100,11 @@ pub record Joining (starts lanes I : ℕ) (st sums : List ℕ) (live : Bool) (ca
   pub summed : Summed starts lanes I st (case .q0) (case .pose) sums live
   pub fits : Fits case
 
+-- the same, and its page in the store
+pub record CaseToPut (starts lanes I : ℕ) (st sums : List ℕ) (live : Bool) (case : Case) : Type 0 where
+  pub joining : Joining starts lanes I st sums live case
+  pub pages : Pages (case .q0 + 1) st
+
 -- its least value, by state t of row 1
 pub record Pointing (starts lanes I : ℕ) (st sums : List ℕ) (case : Case) (t value : ℕ) : Type 0 where
   pub table : Table starts lanes I st
@@ -99,10 +114,18 @@ pub record Pointing (starts lanes I : ℕ) (st sums : List ℕ) (case : Case) (t
   pub met : endSum lanes sums st (case .q1) (case .pose) t ≡ value
   pub below : value < B
 
--- room for the cases of a state of row 0 with `ends` states of row 1
-pub record CaseRoom (starts lanes I q₀ ends : ℕ) (st sums : List ℕ) : Type 0 where
+-- room for the cases of a state of row 0 with `ends` states of row 1 in so many poses
+pub record CaseRoom (starts lanes I q₀ ends poses : ℕ) (st sums : List ℕ) : Type 0 where
   pub table : Table starts lanes I st
   pub room : Room sums
   pub pages : Pages (q₀ + 1) st
   pub state : q₀ < 12
   pub few : ends ≤ 12
+  pub offered : poses ≤ 60
+
+-- ---- what is left
+
+-- the cases P, and room for the sums of the next ones
+pub record PartMade (starts lanes I : ℕ) (P : ℕ → ℕ → ℕ → Type 0) (old new sums : List ℕ) : Type 0 where
+  pub part : Part starts lanes I P old new
+  pub room : Room sums

@@ -153,6 +153,7 @@ pub record Closing (I pages ends low high : ℕ) (st : List ℕ) : Type 0 where
   pub fits : Low st
   pub long : Pages pages st
   pub table : I ≤ 25
+  pub states : pages ≤ 12
   pub few : ends ≤ 12
   pub order : low ≤ high
   pub narrow : high ≤ 64

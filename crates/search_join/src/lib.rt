@@ -1,17 +1,16 @@
 // A stage joined: the costs of both rows on top of one case table make the next, with the source of each case.
 ghost use mathlib.Core.Path.{_≡_};
-ghost use mathlib.Core.Bool.{false};
-ghost use Prim.Native.Nat.{_+_, _*_, _≤_, _<_};
-ghost use Rattle.search_store.specs.Map.{Pages};
+ghost use Prim.Native.Nat.{_+_, _*_};
 ghost use Rattle.lists.specs.Numbers.{from};
 ghost use Rattle.theory_pair.specs.Coded.{lowest};
 ghost use Rattle.theory_tables.specs.Steps.{B};
 ghost use Rattle.search_lanes.specs.Lowered.{LoweredAt};
-ghost use Rattle.search_join.specs.Tables.{Better, Least, MetAt, SumAt, WayIn, nextIn, OneCase, pointerEnd};
+ghost use Rattle.search_join.specs.Tables.{Better, Least, MetAt, SumAt, WayIn, nextIn, OneCase};
 ghost use Rattle.search_join.specs.Tables.{PoseCases, BlockCases, Part, Joined, JoinGiven};
 ghost use Rattle.search_join.specs.Tables.{StateWith, AllStates, Closing, Closed};
-ghost use Rattle.search_join.specs.Sums.{startSum, startLanes, laneSum, endSum, Room, Sums, Summed, Summing};
-ghost use Rattle.search_join.specs.Sums.{SumsFrom, StateSums, StartSums, LaneSums, Joining, Pointing, CaseRoom};
+ghost use Rattle.search_join.specs.Sums.{startSum, startLanes, laneSum, endSum, StartSummed, Summed, SumsGiven};
+ghost use Rattle.search_join.specs.Sums.{SumsFrom, StateSums, StartSums, LaneSums, Joining, Pointing};
+ghost use Rattle.search_join.specs.Sums.{CaseToPut, CaseRoom, PartMade};
 
 // The least of some costs, and a code of where it is.
 pub struct Best {
@@ -76,8 +75,8 @@ fn sums_from(
     a: usize,
 ) -> bool
     requires { ⌜ SumsFrom starts lanes i (now store) q0 a s 0 (now sums) ⌝ }
-    ensures { λ live. ⌜ Sums starts lanes i (now (store .entry)) q0 a (s + 1) 0 (now (sums .exit))
-        × (live ≡ false → now (sums .exit) ≡ now (sums .entry)) ⌝ }
+    ensures { λ live. ⌜ StartSummed starts lanes i (now (store .entry)) q0 a s live (now (sums .entry))
+        (now (sums .exit)) ⌝ }
 {
     if search_lanes::common(store, search_store::cost_at(0, s, q0, a), lanes)
         >= search_lanes::NONE
@@ -102,7 +101,7 @@ fn fill_sums(
     q0: usize,
     a: usize,
 ) -> bool
-    requires { ⌜ Summing starts lanes i (now store) q0 a × Room (now sums) ⌝ }
+    requires { ⌜ SumsGiven starts lanes i (now store) q0 a (now sums) ⌝ }
     ensures { λ live. ⌜ Summed starts lanes i (now (store .entry)) q0 a (now (sums .exit)) live ⌝ }
 {
     search_lanes::fill(sums, 0, starts * 64, search_lanes::NONE);
@@ -184,7 +183,7 @@ fn best_end(
     q1: usize,
     a: usize,
 ) -> Best
-    requires { ⌜ Summing starts lanes 0 (now store) q1 a × Room (now sums) ⌝ }
+    requires { ⌜ SumsGiven starts lanes 0 (now store) q1 a (now sums) ⌝ }
     ensures { λ b. ⌜ Least (lowest B (endSum lanes (now (sums .entry)) (now (store .entry)) q1 a) (from 0 starts))
         (MetAt (endSum lanes (now (sums .entry)) (now (store .entry)) q1 a) starts) (b .value) (b .code) ⌝ }
 {
@@ -219,8 +218,7 @@ fn pointer_of(
     value: u32,
 ) -> u32
     requires { ⌜ Pointing starts lanes i (now store) (now sums) case t value ⌝ }
-    ensures { λ code. ⌜ WayIn starts lanes i (now (store .entry)) (case .q0) (case .q1) (case .pose) value code
-        × (code < pointerEnd) ⌝ }
+    ensures { λ code. ⌜ WayIn starts lanes i (now (store .entry)) (case .q0) (case .q1) (case .pose) value code ⌝ }
 {
     let lane = lane_of(
         sums,
@@ -279,7 +277,7 @@ fn put_case(
     lanes: usize,
     case: Case,
 )
-    requires { ⌜ Joining starts lanes i (now store) (now sums) live case × Pages (case .q0 + 1) (now store) ⌝ }
+    requires { ⌜ CaseToPut starts lanes i (now store) (now sums) live case ⌝ }
     ensures { λ _. ⌜ Part starts lanes i (OneCase (case .q0) (case .q1) (case .pose)) (now (store .entry))
         (now (store .exit)) ⌝ }
 {
@@ -299,9 +297,9 @@ fn case_pose(
     ends: usize,
     a: usize,
 )
-    requires { ⌜ CaseRoom starts lanes i q0 ends (now store) (now sums) × (a < 60) ⌝ }
-    ensures { λ _. ⌜ Part starts lanes i (PoseCases q0 ends a) (now (store .entry)) (now (store .exit))
-        × Room (now (sums .exit)) ⌝ }
+    requires { ⌜ CaseRoom starts lanes i q0 ends (a + 1) (now store) (now sums) ⌝ }
+    ensures { λ _. ⌜ PartMade starts lanes i (PoseCases q0 ends a) (now (store .entry)) (now (store .exit))
+        (now (sums .exit)) ⌝ }
 {
     let live = fill_sums(sums, store, i, starts, lanes, q0, a);
     let mut q1: usize = 0;
@@ -323,9 +321,9 @@ fn case_block(
     ends: usize,
     poses: usize,
 )
-    requires { ⌜ CaseRoom starts lanes i q0 ends (now store) (now sums) × (poses ≤ 60) ⌝ }
-    ensures { λ _. ⌜ Part starts lanes i (BlockCases q0 ends poses) (now (store .entry)) (now (store .exit))
-        × Room (now (sums .exit)) ⌝ }
+    requires { ⌜ CaseRoom starts lanes i q0 ends poses (now store) (now sums) ⌝ }
+    ensures { λ _. ⌜ PartMade starts lanes i (BlockCases q0 ends poses) (now (store .entry)) (now (store .exit))
+        (now (sums .exit)) ⌝ }
 {
     let mut a: usize = 0;
     while a < poses {
@@ -359,7 +357,7 @@ pub fn join_stage(
 
 // The lanes from `low` to `high` of table i closed for a state of row 0 with every state of row 1.
 fn close_state(store: &mut [u32], i: usize, q0: usize, ends: usize, low: usize, high: usize)
-    requires { ⌜ Closing i (q0 + 1) ends low high (now store) × (q0 < 12) ⌝ }
+    requires { ⌜ Closing i (q0 + 1) ends low high (now store) ⌝ }
     ensures { λ _. ⌜ Closed i low high (StateWith q0 ends) (now (store .entry)) (now (store .exit)) ⌝ }
 {
     let mut t: usize = 0;

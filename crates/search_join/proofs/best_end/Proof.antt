@@ -24,18 +24,18 @@ loop-holds : tie.Need-loop-holds Inv-loop μ-loop
 loop-holds c = (omega arith, least-none _ _)
 
 mul-least-lane : tie.Need-mul-least-lane Inv-loop μ-loop
-mul-least-lane c = let w = c .before .before .before .pre .0 .table .states in omega arith
+mul-least-lane c = let w = c .before .before .before .pre .given .table .states in omega arith
 
 cost-at-requires : tie.Need-cost-at-requires Inv-loop μ-loop
 cost-at-requires c κs =
-    let w = c .before .before .before .pre .0 .table .states in
+    let w = c .before .before .before .pre .given .table .states in
     record { side = omega arith; start = omega arith; state = omega arith; pose = omega arith }
 
 least-lane-requires : tie.Need-least-lane-requires Inv-loop μ-loop
 least-lane-requires c κs =
-    let w = c .before .before .before .before .pre .0 .table in
+    let w = c .before .before .before .before .pre .given .table in
     record {
-      room = c .before .before .before .before .pre .1;
+      room = c .before .before .before .before .pre .room;
       low = w .low;
       inside = omega (arith, w .states, w .few);
       costs = omega (arith, w .states, w .few, w .long, c .cost-at .ensures);
@@ -44,7 +44,7 @@ least-lane-requires c κs =
 cast-better : tie.Need-cast-better Inv-loop μ-loop
 cast-better c =
     let mid = c .before .before .before .before in
-    let w = mid .before .pre .0 .table .states in omega arith
+    let w = mid .before .pre .given .table .states in omega arith
 
 better-requires : tie.Need-better-requires Inv-loop μ-loop
 better-requires c κs = search needs
@@ -63,7 +63,7 @@ loop-again c =
     let t = at-loop .loop .t in (
       omega arith,
       least-more _ t (at-loop .loop .inv .1)
-          (end-met (a .starts) (a .lanes) (a .sums .now) (a .store .now) (a .q1) (a .a) t _ (omega arith) (k .pre .0 .table .states)
+          (end-met (a .starts) (a .lanes) (a .sums .now) (a .store .now) (a .q1) (a .a) t _ (omega arith) (k .pre .given .table .states)
           (c .before .before .cost-at .ensures) (c .before .least-lane .ensures))
           (c .better .ensures),
     )

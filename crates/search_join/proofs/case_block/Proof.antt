@@ -17,22 +17,21 @@ abbrev μ-loop : tie.MeasureT-loop
 μ-loop store₀ sums₀ i starts lanes q0 ends poses a₀ store sums a = poses - a
 
 loop-holds : tie.Need-loop-holds Inv-loop μ-loop
-loop-holds c = (omega arith, part-none _ _ _ (c .before .pre .0 .table .low) (λ q₀ q₁ a h. omega arith), c .before .pre .0 .room)
+loop-holds c = (omega arith, part-none _ _ _ (c .before .pre .table .low) (λ q₀ q₁ a h. omega arith), c .before .pre .room)
 
 case-pose-requires : tie.Need-case-pose-requires Inv-loop μ-loop
 case-pose-requires c κs =
     let at-loop = c .before .before .before in
     let k = at-loop .before .before in
-    let l = at-loop .loop .inv in (
-      record {
-        table = table-part (k .args .starts) (k .args .lanes) (k .args .i) (k .pre .0 .table) (l .1);
-        room = l .2;
-        pages = omega (arith, k .pre .0 .pages, l .1 .long);
-        state = omega arith;
-        few = omega arith;
-      },
-      omega arith,
-    )
+    let l = at-loop .loop .inv in
+    record {
+      table = table-part (k .args .starts) (k .args .lanes) (k .args .i) (k .pre .table) (l .1);
+      room = l .2;
+      pages = omega (arith, k .pre .pages, l .1 .long);
+      state = omega arith;
+      few = omega arith;
+      offered = omega arith;
+    }
 
 add-a : tie.Need-add-a Inv-loop μ-loop
 add-a c = search needs
@@ -49,8 +48,8 @@ loop-again c =
     let l = at-loop .loop in
     let w = after-case-pose .case-pose .ensures in (
       omega arith,
-      block-more (a .starts) (a .lanes) (a .i) (a .q0) (a .ends) (l .a) (k .pre .0 .table) (omega arith) (omega arith) (omega arith) (l .inv .1) (w .0),
-      w .1,
+      block-more (a .starts) (a .lanes) (a .i) (a .q0) (a .ends) (l .a) (k .pre .table) (omega arith) (omega arith) (omega arith) (l .inv .1) (w .part),
+      w .room,
     )
 
 same-length : tie.Need-same-length Inv-loop μ-loop
@@ -59,7 +58,7 @@ same-length c = c .before .loop .inv .1 .long
 returns : tie.Need-returns Inv-loop μ-loop
 returns c =
     let e : c .before .loop .a ≡ c .before .before .before .args .poses = omega arith in
-    (rw e at (c .before .loop .inv .1), c .before .loop .inv .2)
+    record { part = rw e at (c .before .loop .inv .1); room = c .before .loop .inv .2 }
 
 pub case-block-spec : {M : Type 1} → statement M
 case-block-spec =

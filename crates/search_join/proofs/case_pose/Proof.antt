@@ -17,25 +17,26 @@ abbrev μ-loop : tie.MeasureT-loop
 
 fill-sums-requires : tie.Need-fill-sums-requires Inv-loop μ-loop
 fill-sums-requires c κs = let k = c .before .before .before in
-    (record { table = k .pre .0 .table; state = k .pre .0 .state; pose = k .pre .1 }, k .pre .0 .room)
+    record { given = record { table = k .pre .table; state = k .pre .state; pose = omega (arith, k .pre .offered) }; room = k .pre .room }
 
 loop-holds : tie.Need-loop-holds Inv-loop μ-loop
-loop-holds c = (omega arith, part-none _ _ _ (c .before .before .before .before .pre .0 .table .low) (λ q₀ q₁ a h. omega arith))
+loop-holds c = (omega arith, part-none _ _ _ (c .before .before .before .before .pre .table .low) (λ q₀ q₁ a h. omega arith))
 
 put-case-requires : tie.Need-put-case-requires Inv-loop μ-loop
 put-case-requires c κs =
     let after-fill-sums = c .before .before .before .before in
     let k = after-fill-sums .before .before .before .before in
     let a = k .args in
-    let p = c .before .before .before .loop .inv .1 in (
-      record {
-        table = table-part (a .starts) (a .lanes) (a .i) (k .pre .0 .table) p;
-        summed = summed-part (a .starts) (a .lanes) (a .i) (PoseCases (a .q0) (c .before .before .before .loop .q1) (a .a)) (a .q0) (a .a) (k .pre .0 .table)
+    let p = c .before .before .before .loop .inv .1 in
+    record {
+      joining = record {
+        table = table-part (a .starts) (a .lanes) (a .i) (k .pre .table) p;
+        summed = summed-part (a .starts) (a .lanes) (a .i) (PoseCases (a .q0) (c .before .before .before .loop .q1) (a .a)) (a .q0) (a .a) (k .pre .table)
             (λ q₀ q₁ b r. (omega arith, omega arith, omega arith)) p (omega arith) (omega arith) (after-fill-sums .fill-sums .ensures);
-        fits = record { state₀ = k .pre .0 .state; state₁ = omega arith; pose = k .pre .1 };
-      },
-      omega (arith, k .pre .0 .pages, p .long),
-    )
+        fits = record { state₀ = k .pre .state; state₁ = omega arith; pose = omega (arith, k .pre .offered) };
+      };
+      pages = omega (arith, k .pre .pages, p .long);
+    }
 
 add-q1 : tie.Need-add-q1 Inv-loop μ-loop
 add-q1 c = search needs
@@ -52,7 +53,7 @@ loop-again c =
     let a = k .args in
     let l = at-loop .loop in (
       omega arith,
-      pose-more (a .starts) (a .lanes) (a .i) (a .q0) (l .q1) (a .a) (k .pre .0 .table) (omega arith) (omega arith) (omega arith) (l .inv .1)
+      pose-more (a .starts) (a .lanes) (a .i) (a .q0) (l .q1) (a .a) (k .pre .table) (omega arith) (omega arith) (omega arith) (l .inv .1)
           (after-put-case .put-case .ensures),
     )
 
@@ -63,7 +64,7 @@ returns : tie.Need-returns Inv-loop μ-loop
 returns c =
     let after-fill-sums = c .before .before in
     let e : c .before .loop .q1 ≡ after-fill-sums .before .before .before .before .args .ends = omega arith in
-    (rw e at (c .before .loop .inv .1), after-fill-sums .fill-sums .ensures .all .room)
+    record { part = rw e at (c .before .loop .inv .1); room = after-fill-sums .fill-sums .ensures .all .room }
 
 pub case-pose-spec : {M : Type 1} → statement M
 case-pose-spec =

@@ -21,10 +21,16 @@ close-state-requires : tie.Need-close-state-requires Inv-loop μ-loop
 close-state-requires c κs =
     let k = c .before .before .before .before in
     let w = c .before .before .loop .inv .1 in
-    let g = k .pre in (
-      record { fits = w .fits; long = omega (arith, g .long, w .long); table = g .table; few = g .few; order = g .order; narrow = g .narrow },
-      omega arith,
-    )
+    let g = k .pre in
+    record {
+      fits = w .fits;
+      long = omega (arith, g .long, w .long);
+      table = g .table;
+      states = omega arith;
+      few = g .few;
+      order = g .order;
+      narrow = g .narrow;
+    }
 
 add-s : tie.Need-add-s Inv-loop μ-loop
 add-s c = search needs

@@ -15,7 +15,7 @@ abbrev μ-loop : tie.MeasureT-loop
 μ-loop store₀ i q0 ends low high t₀ store t = ends - t
 
 loop-holds : tie.Need-loop-holds Inv-loop μ-loop
-loop-holds c = (omega arith, closed-none _ _ _ (c .before .pre .0 .fits) (λ q₀ q₁ h. omega arith))
+loop-holds c = (omega arith, closed-none _ _ _ (c .before .pre .fits) (λ q₀ q₁ h. omega arith))
 
 case-at-requires : tie.Need-case-at-requires Inv-loop μ-loop
 case-at-requires c κs = record { table = omega arith; state₀ = omega arith; state₁ = omega arith }
@@ -31,7 +31,7 @@ fill-requires c κs =
     let at-loop = c .before .before .before in
     let k = at-loop .before .before in
     let w = at-loop .loop .inv .1 in
-    (record { room = omega (arith, c .case-at .ensures, k .pre .0 .long, w .long); low = w .fits }, omega arith)
+    (record { room = omega (arith, c .case-at .ensures, k .pre .long, w .long); low = w .fits }, omega arith)
 
 add-t : tie.Need-add-t Inv-loop μ-loop
 add-t c = search needs

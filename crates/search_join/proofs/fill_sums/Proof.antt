@@ -18,25 +18,26 @@ abbrev μ-loop : tie.MeasureT-loop
 μ-loop sums₀ store i starts lanes q0 a live₀ s₀ sums live s = starts - s
 
 mul-fill : tie.Need-mul-fill Inv-loop μ-loop
-mul-fill c = let w = c .before .before .pre .0 .table .states in omega arith
+mul-fill c = let w = c .before .before .pre .given .table .states in omega arith
 
 fill-requires : tie.Need-fill-requires Inv-loop μ-loop
 fill-requires c κs =
     let k = c .before .before in
-    (record { room = omega (arith, k .pre .0 .table .states, k .pre .1 .long); low = k .pre .1 .low }, omega arith)
+    (record { room = omega (arith, k .pre .given .table .states, k .pre .room .long); low = k .pre .room .low }, omega arith)
 
 loop-holds : tie.Need-loop-holds Inv-loop μ-loop
 loop-holds c =
     let k = c .before .before .before in
     let a = k .args in
-    let w = sums-filled (a .starts) (a .lanes) (a .i) (a .store .now) (a .q0) (a .a) (k .pre .1) (c .fill .ensures) (omega arith) (k .pre .0 .table .few) in
+    let few = k .pre .given .table .few in
+    let w = sums-filled (a .starts) (a .lanes) (a .i) (a .store .now) (a .q0) (a .a) (k .pre .room) (c .fill .ensures) (omega arith) few in
     (omega arith, w .0, λ e. w .1)
 
 sums-from-requires : tie.Need-sums-from-requires Inv-loop μ-loop
 sums-from-requires c κs =
     let at-loop = c .before .before in
     let k = at-loop .before .before .before .before in
-    record { given = k .pre .0; start = omega arith; before = at-loop .loop .inv .1 }
+    record { given = k .pre .given; start = omega arith; before = at-loop .loop .inv .1 }
 
 add-s : tie.Need-add-s Inv-loop μ-loop
 add-s c = search needs
@@ -52,11 +53,11 @@ loop-again c =
     let l = at-loop .loop in
     let w = c .before .sums-from .ensures in (
       omega arith,
-      w .0,
+      w .upTo,
       λ e.
           ⊎-elim
           (λ h. absurd (let z = sym (h .1) ∙ e in let y : _≡_ {A = ℕ} 0 1 = cc in omega arith))
-          (λ h. let same = w .1 (h .0 .left) in subst (Nones (a .starts) (a .lanes)) (sym same) (l .inv .2 (sym (h .1) ∙ e)))
+          (λ h. let same = w .dead (h .0 .left) in subst (Nones (a .starts) (a .lanes)) (sym same) (l .inv .2 (sym (h .1) ∙ e)))
           (c .if1 .came),
     )
 

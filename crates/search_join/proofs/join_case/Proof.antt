@@ -54,8 +54,8 @@ returns-3 c =
     next-is (a .starts) (a .lanes) _ _ _ (a .case .q0) (a .case .q1) (a .case .pose) _
     (omega (arith, best .right, lowest-low B (endSum (a .lanes) (a .sums .now) (a .store .now) (a .case .q1) (a .case .pose)) (from 0 (a .starts))))
     (case-below (a .starts) (a .lanes) (a .i) (a .store .now) (a .case .q0) (a .case .q1) (a .case .pose) (k .pre .summed .all) _ (best .right))
-    (λ h. way .0)
-    (way .1)
+    (λ h. way)
+    (omega (arith, way .state₀, k .pre .table .states))
 
 pub join-case-spec : {M : Type 1} → statement M
 join-case-spec =

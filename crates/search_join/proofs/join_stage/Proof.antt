@@ -27,16 +27,15 @@ case-block-requires : tie.Need-case-block-requires Inv-loop μ-loop
 case-block-requires c κs =
     let at-loop = c .before .before .before in
     let k = at-loop .before .before in
-    let l = at-loop .loop .inv in (
-      record {
-        table = table-part (k .args .starts) (k .args .lanes) (k .args .i) (k .pre .table) (l .1);
-        room = l .2;
-        pages = omega (arith, k .pre .pages, l .1 .long);
-        state = omega arith;
-        few = omega arith;
-      },
-      omega arith,
-    )
+    let l = at-loop .loop .inv in
+    record {
+      table = table-part (k .args .starts) (k .args .lanes) (k .args .i) (k .pre .table) (l .1);
+      room = l .2;
+      pages = omega (arith, k .pre .pages, l .1 .long);
+      state = omega arith;
+      few = omega arith;
+      offered = k .pre .offered;
+    }
 
 add-q0 : tie.Need-add-q0 Inv-loop μ-loop
 add-q0 c = search needs
@@ -53,8 +52,8 @@ loop-again c =
     let l = at-loop .loop in
     let w = after-case-block .case-block .ensures in (
       omega arith,
-      stage-more (a .starts) (a .lanes) (a .i) (l .q0) (a .ends) (a .poses) (k .pre .table) (omega arith) (omega arith) (omega arith) (l .inv .1) (w .0),
-      w .1,
+      stage-more (a .starts) (a .lanes) (a .i) (l .q0) (a .ends) (a .poses) (k .pre .table) (omega arith) (omega arith) (omega arith) (l .inv .1) (w .part),
+      w .room,
     )
 
 same-length : tie.Need-same-length Inv-loop μ-loop

@@ -116,10 +116,8 @@ returns c =
     (after-cost-at .cost-at .ensures) (c .before .before .lane-of .ensures) in
     let w = case-way (a .starts) (a .lanes) (a .i) (a .store .now) (a .case .q0) (a .case .q1) (a .case .pose) (k .pre .summed) (a .value)
     (c .start-of .result) (a .t)
-    (c .before .before .lane-of .result) (k .pre .below) (t .states) (t .few) (k .pre .state) (m .0) (m .1) (c .start-of .ensures) in (
-      subst (WayIn (a .starts) (a .lanes) (a .i) (a .store .now) (a .case .q0) (a .case .q1) (a .case .pose) (a .value)) (omega arith) (w .0),
-      omega (arith, w .1, m .0, t .few, t .states),
-    )
+    (c .before .before .lane-of .result) (k .pre .below) (t .states) (t .few) (k .pre .state) (m .0) (m .1) (c .start-of .ensures) in
+    subst (WayIn (a .starts) (a .lanes) (a .i) (a .store .now) (a .case .q0) (a .case .q1) (a .case .pose) (a .value)) (omega arith) (w .0)
 
 pub pointer-of-spec : {M : Type 1} → statement M
 pointer-of-spec =

@@ -50,7 +50,7 @@ returns c =
     let a = k .args in
     part-put (a .starts) (a .lanes) (a .i) (a .case .q0) (a .case .q1) (a .case .pose) (c .before .before .before .case-at .result + a .case .pose)
     (c .before .pointer-at .result + a .case .pose) _ _ (a .store .now)
-    (k .pre .0 .table) (k .pre .1) (omega arith) (omega arith) (omega arith) (omega arith) (omega arith) (after-join-case .join-case .ensures)
+    (k .pre .joining .table) (k .pre .pages) (omega arith) (omega arith) (omega arith) (omega arith) (omega arith) (after-join-case .join-case .ensures)
 
 pub put-case-spec : {M : Type 1} → statement M
 put-case-spec =

@@ -26,12 +26,13 @@ common-requires c κs = let w = c .before .before .pre .given .table in omega (a
 returns : tie.Need-returns Inv-loop μ-loop
 returns c =
     let k = c .before .before .before .before in
-    let a = k .args in (
-      sums-skip (a .starts) (a .lanes) (a .i) (a .store .now) (a .q0) (a .a) (a .s) (k .pre .before)
+    let a = k .args in
+    record {
+      upTo = sums-skip (a .starts) (a .lanes) (a .i) (a .store .now) (a .q0) (a .a) (a .s) (k .pre .before)
           (λ t l g. start-none (a .i) (a .store .now) (a .q0) (a .a) (a .s) t l _ (c .before .before .cost-at .ensures)
-          (omega (arith, c .before .common .ensures l g))),
-      λ e. refl,
-    )
+          (omega (arith, c .before .common .ensures l g)));
+      dead = λ e. refl;
+    }
 
 loop-holds : tie.Need-loop-holds Inv-loop μ-loop
 loop-holds c = (omega arith, c .before .before .before .before .pre .before)
@@ -68,10 +69,11 @@ returns-2 c =
     let mid = c .before .before .before .before in
     let k = mid .before .before in
     let a = k .args in
-    let few = k .pre .given .table .few in (
-      sums-next (a .starts) (a .lanes) (a .i) (a .store .now) (a .q0) (a .a) (a .s) _ (c .before .loop .inv .1) (λ t l h g. omega arith),
-      λ e. absurd (let z : _≡_ {A = ℕ} 0 1 = cc in omega arith),
-    )
+    let few = k .pre .given .table .few in
+    record {
+      upTo = sums-next (a .starts) (a .lanes) (a .i) (a .store .now) (a .q0) (a .a) (a .s) _ (c .before .loop .inv .1) (λ t l h g. omega arith);
+      dead = λ e. absurd (let z : _≡_ {A = ℕ} 0 1 = cc in omega arith);
+    }
 
 pub sums-from-spec : {M : Type 1} → statement M
 sums-from-spec =

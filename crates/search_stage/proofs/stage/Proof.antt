@@ -119,6 +119,7 @@ close-lanes-requires c κs =
       fits = j .low;
       long = omega (arith, ends, x .2, j .long, p .long);
       table = omega (arith, k .pre .stage, given-states g .3);
+      states = omega (arith, ends, x .0);
       few = omega (arith, ends, x .0);
       order = omega (arith, last, width, y .0);
       narrow = omega (arith, width, y .1);
