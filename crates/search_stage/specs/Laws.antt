@@ -26,7 +26,7 @@ use Rattle.search_join.specs.Laws.{least-lanes}
 use Rattle.search_join.specs.Parts.{least-ext}
 use Rattle.search_row.specs.declared.Sizes.{Sizes}
 use Rattle.search_stage.specs.Stage.{wide, widthOf, costOf, tableOf, Right, Staged}
-use Rattle.search_stage.specs.Stage.{StageDone, Through, StagesDone, BothCosted, StagesGiven, DeadLanes}
+use Rattle.search_stage.specs.Stage.{StageDone, Through, StagesDone, BothCosted, StagesGiven, DeadLanes, LanesRun}
 use Rattle.search_stage.specs.Starts.{ways-same}
 
 -- ---- counts
@@ -116,21 +116,22 @@ module _ (D₀ D₁ : Deck) (R talls : ℕ) (pos₀ pos₁ : ℕ → ℕ) where
     wide-poses I = wide-low talls I (D₀ .poses) 60 (omega arith) narrow
 
     -- a stage from its costs and the table before
-    pub stage-done : (I lanes : ℕ) {old mid one new : List ℕ} → I ≤ talls → talls ≤ 24
+    pub stage-done : (I lanes : ℕ) {old mid one new table : List ℕ} → I ≤ talls → talls ≤ 24
         → lanes ≤ wide talls I (widthOf (D₀ .poses))
         → DeadLanes old I (wide talls I (stateCount R)) lanes (wide talls I (widthOf (D₀ .poses)))
         → BothCosted (costOf D₀ R talls pos₀ I) (costOf D₁ R talls pos₁ I) I (wide talls I (stateCount R))
         (min lanes (wide talls I (D₀ .poses))) (wide talls (suc I) (stateCount R)) (wide talls (suc I) (D₀ .poses))
-        (wide talls I (stateCount R)) old mid
+        (wide talls I (stateCount R)) old mid table
         → Joined (wide talls I (stateCount R)) lanes (wide talls (suc I) (stateCount R))
         (wide talls (suc I) (D₀ .poses)) I mid one
         → Closed (suc I) (wide talls (suc I) (D₀ .poses)) (wide talls (suc I) (widthOf (D₀ .poses)))
         (AllStates (wide talls (suc I) (stateCount R)) (wide talls (suc I) (stateCount R))) one new
-        → StageDone D₀ D₁ R talls pos₀ pos₁ I old new
+        → StageDone D₀ D₁ R talls pos₀ pos₁ I old new table
     stage-done I lanes {old} {mid} {one} {new} h g n dead p j c =
         record {
           long = c .long ∙ j .long ∙ p .long;
           low = c .fits;
+          lent = p .lent;
           tables = λ k q₀ q₁ a n m.
               let w = c .kept k q₀ q₁ a m (λ e. absurd (n e)) in
               let u = j .tables k q₀ q₁ a n m in
@@ -215,27 +216,28 @@ module _ (D₀ D₁ : Deck) (R talls : ℕ) (pos₀ pos₁ : ℕ → ℕ) where
             record { right = w .right ∙ table-step I q₀ q₁ a h; found = w .found; small = w .small }
 
     -- the same by the code's names
-    pub stage-made : (I count starts before lanes ends last width : ℕ) {old mid one new : List ℕ}
+    pub stage-made : (I count starts before lanes ends last width : ℕ) {old mid one new table : List ℕ}
         → starts ≡ wide talls I count → before ≡ wide talls I (widthOf (D₀ .poses)) → ends ≡ wide talls (I + 1) count
         → last ≡ wide talls (I + 1) (D₀ .poses)
         → width ≡ wide talls (I + 1) (widthOf (D₀ .poses))
         → count ≡ stateCount R → I ≤ talls → talls ≤ 24
-        → lanes ≤ before → DeadLanes old I starts lanes before
+        → LanesRun old I starts lanes before
         → BothCosted (costOf D₀ R talls pos₀ I) (costOf D₁ R talls pos₁ I) I (wide talls I count)
         (min lanes (wide talls I (D₀ .poses))) (wide talls (suc I) count) (wide talls (suc I) (D₀ .poses))
-        (wide talls I count) old mid
+        (wide talls I count) old mid table
         → Joined starts lanes ends last I mid one → Closed (I + 1) last width (AllStates ends ends) one new
-        → StageDone D₀ D₁ R talls pos₀ pos₁ I old new
-    stage-made I count starts before lanes ends last width e₁ e₂ e₃ e₄ e₅ all h g n dead p j c =
+        → StageDone D₀ D₁ R talls pos₀ pos₁ I old new table
+    stage-made I count starts before lanes ends last width e₁ e₂ e₃ e₄ e₅ all h g run p j c =
         let b = rw all at p in
         let d = rw (e₁, e₃, e₄, add-one I, all) at j in
         let f = rw (e₃, e₄, e₅, add-one I, all) at c in
-        let w = rw (e₁, e₂, all) at dead in
-        stage-done I lanes h g (omega arith) w b d f
+        let w = rw (e₁, e₂, all) at run in
+        stage-done I lanes h g (w .most) (w .others) b d f
 
     -- the stages before are kept
-    staged-kept : (J I : ℕ) {old new : List ℕ} → J < I → I ≤ 24 → StageDone D₀ D₁ R talls pos₀ pos₁ I old new
-        → Staged D₀ D₁ R talls pos₀ pos₁ J old → Staged D₀ D₁ R talls pos₀ pos₁ J new
+    staged-kept : (J I : ℕ) {old new table : List ℕ} → J < I → I ≤ 24
+        → StageDone D₀ D₁ R talls pos₀ pos₁ I old new table → Staged D₀ D₁ R talls pos₀ pos₁ J old
+        → Staged D₀ D₁ R talls pos₀ pos₁ J new
     staged-kept j I h g d w = record {
       case = λ q₀ q₁ a x y z.
           let m = wide-states (suc j) in
@@ -251,8 +253,8 @@ module _ (D₀ D₁ : Deck) (R talls : ℕ) (pos₀ pos₁ : ℕ → ℕ) where
       };
     }
 
-    pub through-more : {I : ℕ} {old mid new : List ℕ} → I ≤ 24 → Through D₀ D₁ R talls pos₀ pos₁ I old mid
-        → StageDone D₀ D₁ R talls pos₀ pos₁ I mid new
+    pub through-more : {I : ℕ} {old mid new table : List ℕ} → I ≤ 24 → Through D₀ D₁ R talls pos₀ pos₁ I old mid
+        → StageDone D₀ D₁ R talls pos₀ pos₁ I mid new table
         → Through D₀ D₁ R talls pos₀ pos₁ (I + 1) old new
     through-more {I} {new = new} b t d =
         record {

@@ -69,10 +69,11 @@ module _ (D₀ D₁ : Deck) (R talls : ℕ) (pos₀ pos₁ : ℕ → ℕ) where
     pub beyond : NoneBeyond talls (stateCount R) (D₀ .poses) (suc I) st
 
   -- what stage I does to the store, whatever its words; the tables other than number I + 1 are kept.
-  -- If table number I is right, so is the next.
-  pub record StageDone (I : ℕ) (old new : List ℕ) : Type 0 where
+  -- If table number I is right, so is the next. The table lent serves the next stage.
+  pub record StageDone (I : ℕ) (old new table : List ℕ) : Type 0 where
     pub long : length new ≡ length old
     pub low : Low new
+    pub lent : Lent table
     pub tables : (J q₀ q₁ a : ℕ) → (J ≡ suc I → ⊥) → Slot J q₀ q₁ a → SameCase J q₀ q₁ a old new
     pub staged : Right I old → Staged I new
 
@@ -116,6 +117,11 @@ pub record RowCosted (F : ℕ → Layer) (lanes ends poses costs : ℕ) (old new
   pub kept : (k : ℕ) → pagesFrom ≤ k → OutsideCosts costs k → getD new k 0 ≡ getD old k 0
   pub right : (q a l : ℕ) → q < ends → a < poses → l < lanes → layerIn new costs l q a ≡ F l q a
 
+-- the same, and a table that serves the next start state
+pub record RowMade (F : ℕ → Layer) (lanes ends poses costs : ℕ) (old new table : List ℕ) : Type 0 where
+  pub costed : RowCosted F lanes ends poses costs old new
+  pub lent : Lent table
+
 -- stage I on from the layer in block 0, which has i cells; `starts` has what
 -- the start of each lane pays as the row's last
 abbrev pub endFrom : Deck → ℕ → ℕ → (ℕ → ℕ) → ℕ → List ℕ → ℕ → List ℕ → ℕ → Layer
@@ -134,6 +140,11 @@ pub record Dead (st : List ℕ) (row I starts s low high : ℕ) : Type 0 where
 pub record DeadLanes (st : List ℕ) (I starts low high : ℕ) : Type 0 where
   pub none : (s t l : ℕ) → s < starts → t < starts → low ≤ l → l < high → B ≤ casesIn st I s t l
 
+-- of the lanes of table I, so many, the first ones are run; no case goes by the others
+pub record LanesRun (st : List ℕ) (I starts lanes width : ℕ) : Type 0 where
+  pub most : lanes ≤ width
+  pub others : DeadLanes st I starts lanes width
+
 -- the costs from start state s of a row
 pub record StartRight (st : List ℕ) (row : ℕ) (x : SegmentCosts) (lanes ends poses s : ℕ) : Type 0 where
   pub word : (q a l : ℕ) → q < ends → a < poses → l < lanes → costsIn st row s l q a ≡ x s l q a
@@ -143,22 +154,34 @@ abbrev pub SegmentCosted : ℕ → SegmentCosts → ℕ → ℕ → ℕ → ℕ 
 SegmentCosted row x I starts lanes ends poses s old new =
     Dead old row I starts s 0 lanes ⊎ StartRight new row x lanes ends poses s
 
--- that of one start state; above all layers nothing else is changed
-pub record StartCosted (row : ℕ) (x : SegmentCosts) (I starts lanes ends poses s : ℕ) (old new : List ℕ) : Type 0 where
+-- that of one start state; above all layers nothing else is changed, and the table lent serves the next one
+pub record StartCosted (row : ℕ) (x : SegmentCosts) (I starts lanes ends poses s : ℕ) (old new table : List ℕ)
+    : Type 0 where
   pub long : length new ≡ length old
   pub low : Low new
+  pub lent : Lent table
   pub kept : (k : ℕ) → pagesFrom ≤ k → OutsideCosts (costsAt row s) k → getD new k 0 ≡ getD old k 0
   pub right : SegmentCosted row x I starts lanes ends poses s old new
 
--- that of both rows for the start states below m; the tables are kept
-pub record BothCosted (x₀ x₁ : SegmentCosts) (I starts lanes ends poses m : ℕ) (old new : List ℕ) : Type 0 where
+-- that of both rows for the start states below m; the case tables are kept
+pub record BothCosted (x₀ x₁ : SegmentCosts) (I starts lanes ends poses m : ℕ) (old new table : List ℕ) : Type 0 where
   pub long : length new ≡ length old
   pub low : Low new
+  pub lent : Lent table
   pub tables : SameTables old new
   pub right₀ : (s : ℕ) → s < m → SegmentCosted 0 x₀ I starts lanes ends poses s old new
   pub right₁ : (s : ℕ) → s < m → SegmentCosted 1 x₁ I starts lanes ends poses s old new
 
 -- ---- what a function of the stages is given
+
+-- whether a case of table I goes by a lane from `low` to below `high`; and whether one does from start state s
+pub record LanesAsked (starts low high I : ℕ) (st : List ℕ) : Type 0 where
+  pub table : Table starts high I st
+  pub order : low ≤ high
+
+pub record StartAsked (starts s low high I : ℕ) (st : List ℕ) : Type 0 where
+  pub lanes : LanesAsked starts low high I st
+  pub state : s < starts
 
 -- both rows, of which row 1 has n₁ cells, and the store: a page for each state that a table has, and no word over B
 pub record StagesGiven (row₀ row₁ st : List ℕ) (z : Sizes) (n₁ : ℕ) : Type 0 where
@@ -172,6 +195,11 @@ pub record StageGiven (table row₀ row₁ st : List ℕ) (z : Sizes) (n₁ I : 
   pub lent : Lent table
   pub given : StagesGiven row₀ row₁ st z n₁
   pub stage : I ≤ z .talls
+
+-- the same, to be run in so many lanes
+pub record StageLanes (table row₀ row₁ st : List ℕ) (z : Sizes) (n₁ I lanes : ℕ) : Type 0 where
+  pub stage : StageGiven table row₀ row₁ st z n₁ I
+  pub narrow : lanes ≤ 64
 
 -- how many states and poses table number I has
 abbrev pub statesAt : Sizes → ℕ → ℕ
@@ -193,7 +221,12 @@ pub record StartGiven (table row st : List ℕ) (side : ℕ) (z : Sizes) (I s la
   pub stage : I ≤ z .talls
   pub state : s < statesAt z I
 
--- the same, with room for its costs
+-- stage 0 in one row, with room for its costs
+pub record OpenGiven (row st : List ℕ) (z : Sizes) (costs : ℕ) : Type 0 where
+  pub given : RowGiven row z
+  pub room : OpenRoom st (z .reordering) (z .poses) (z .states) costs
+
+-- start state s of stage I in one row, with room for its costs
 pub record CostGiven (table row st : List ℕ) (z : Sizes) (I s lanes costs : ℕ) : Type 0 where
   pub lent : Lent table
   pub given : RowGiven row z
@@ -219,27 +252,27 @@ abbrev pub costIn : List ℕ → Sizes → ℕ → SegmentCosts
 costIn row z I = costOf (deckIn row z) (z .reordering) (z .talls) (posIn row) I
 
 -- those from start state s in the first lanes, in the block at `costs`
-abbrev pub RowCost : List ℕ → Sizes → ℕ → ℕ → ℕ → ℕ → List ℕ → List ℕ → Type 0
-RowCost row z I s lanes costs old new =
-    RowCosted (costIn row z I s) (runAt z I lanes) (statesAt z (suc I)) (posesAt z (suc I)) costs old new
+abbrev pub RowCost : List ℕ → Sizes → ℕ → ℕ → ℕ → ℕ → List ℕ → List ℕ → List ℕ → Type 0
+RowCost row z I s lanes costs old new table =
+    RowMade (costIn row z I s) (runAt z I lanes) (statesAt z (suc I)) (posesAt z (suc I)) costs old new table
 
 -- those from start state s in the first lanes, in their place
-abbrev pub RowStart : ℕ → List ℕ → Sizes → ℕ → ℕ → ℕ → List ℕ → List ℕ → Type 0
-RowStart side row z I s lanes old new =
+abbrev pub RowStart : ℕ → List ℕ → Sizes → ℕ → ℕ → ℕ → List ℕ → List ℕ → List ℕ → Type 0
+RowStart side row z I s lanes old new table =
     StartCosted side (costIn row z I) I (statesAt z I) (runAt z I lanes) (statesAt z (suc I)) (posesAt z (suc I)) s
-    old new
+    old new table
 
 -- those of both rows, from every start state in the first lanes
-abbrev pub RowsStart : List ℕ → List ℕ → Sizes → ℕ → ℕ → ℕ → List ℕ → List ℕ → Type 0
-RowsStart row₀ row₁ z n₁ I lanes old new =
+abbrev pub RowsStart : List ℕ → List ℕ → Sizes → ℕ → ℕ → ℕ → List ℕ → List ℕ → List ℕ → Type 0
+RowsStart row₀ row₁ z n₁ I lanes old new table =
     BothCosted (costIn row₀ z I) (costIn row₁ (withCells z n₁) I) I (statesAt z I) (runAt z I lanes)
-    (statesAt z (suc I)) (posesAt z (suc I)) (statesAt z I) old new
+    (statesAt z (suc I)) (posesAt z (suc I)) (statesAt z I) old new table
 
 -- stage I, and all stages
-abbrev pub RowsStage : List ℕ → List ℕ → Sizes → ℕ → ℕ → List ℕ → List ℕ → Type 0
-RowsStage row₀ row₁ z n₁ I old new =
+abbrev pub RowsStage : List ℕ → List ℕ → Sizes → ℕ → ℕ → List ℕ → List ℕ → List ℕ → Type 0
+RowsStage row₀ row₁ z n₁ I old new table =
     StageDone (deckIn row₀ z) (deckIn row₁ (withCells z n₁)) (z .reordering) (z .talls) (posIn row₀)
-    (posIn row₁) I old new
+    (posIn row₁) I old new table
 
 abbrev pub RowsStages : List ℕ → List ℕ → Sizes → ℕ → List ℕ → List ℕ → Type 0
 RowsStages row₀ row₁ z n₁ old new =

@@ -11,8 +11,9 @@ use Rattle.search_store.specs.Map.{caseAt, costsAt}
 use Rattle.theory_tables.specs.Steps.{B, SegmentCosts}
 use Rattle.search_lanes.specs.Store.{Low}
 use Rattle.search_store.specs.Places.{case-beside, cost-before}
+use Rattle.search_wide_buckets.specs.Table.{Lent}
 use Rattle.search_join.specs.Tables.{casesIn, pointersIn, costsIn, SameCase, SameTables, Table}
-use Rattle.search_stage.specs.Stage.{fromAt, Dead, DeadLanes, SegmentCosted, StartCosted, RowCosted, BothCosted}
+use Rattle.search_stage.specs.Stage.{fromAt, Dead, DeadLanes, SegmentCosted, StartCosted, RowMade, BothCosted}
 
 -- ---- the cases from a start state
 
@@ -79,17 +80,17 @@ pub dead-fewer : {row I starts s low high lanes : ℕ} {st : List ℕ} → lanes
 dead-fewer h d = record { none = λ t l g m k. d .none t l g m (omega arith) }
 
 -- nothing is done for a dead one
-pub start-dead : {row I starts lanes ends poses s : ℕ} {x : SegmentCosts} {st : List ℕ} → Low st
-    → Dead st row I starts s 0 lanes → StartCosted row x I starts lanes ends poses s st st
-start-dead w d = record { long = refl; low = w; kept = λ k h b. refl; right = inl d }
+pub start-dead : {row I starts lanes ends poses s : ℕ} {x : SegmentCosts} {st table : List ℕ} → Low st → Lent table
+    → Dead st row I starts s 0 lanes → StartCosted row x I starts lanes ends poses s st st table
+start-dead w t d = record { long = refl; low = w; lent = t; kept = λ k h b. refl; right = inl d }
 
-pub start-live : (row : ℕ) {I starts lanes ends poses : ℕ} (s costs : ℕ) (x : SegmentCosts) {old new : List ℕ}
-    → costs ≡ costsAt row s
-    → RowCosted (x s) lanes ends poses costs old new → StartCosted row x I starts lanes ends poses s old new
+pub start-live : (row : ℕ) {I starts lanes ends poses : ℕ} (s costs : ℕ) (x : SegmentCosts) {old new table : List ℕ}
+    → costs ≡ costsAt row s → RowMade (x s) lanes ends poses costs old new table
+    → StartCosted row x I starts lanes ends poses s old new table
 unfolding costsIn
 start-live row s costs x e p =
-    let w = rw e at p in
-    record { long = w .long; low = w .low; kept = w .kept; right = inr (record { word = w .right }) }
+    let w = rw e at (p .costed) in
+    record { long = w .long; low = w .low; lent = p .lent; kept = w .kept; right = inr (record { word = w .right }) }
 
 -- ---- one start state more
 
@@ -111,8 +112,8 @@ module _ (I starts lanes ends poses : ℕ) (few : starts ≤ 12) (narrow : lanes
         omega (arith, d .none t l g m k);
   }
 
-  module _ (row : ℕ) (x : SegmentCosts) (s : ℕ) {old new : List ℕ} (b : row ≤ 1)
-      (p : StartCosted row x I starts lanes ends poses s old new) where
+  module _ (row : ℕ) (x : SegmentCosts) (s : ℕ) {old new table : List ℕ} (b : row ≤ 1)
+      (p : StartCosted row x I starts lanes ends poses s old new table) where
     -- the tables are kept
     pub start-tables : SameTables old new
     unfolding casesIn pointersIn
@@ -141,25 +142,29 @@ module _ (I starts lanes ends poses : ℕ) (few : starts ≤ 12) (narrow : lanes
         → SegmentCosted row x I starts lanes ends poses s first new
     start-since h same = ⊎-elim (λ d. inl (dead-kept row s h same d)) inr (p .right)
 
-  pub both-none : (x₀ x₁ : SegmentCosts) {st : List ℕ} → Low st → BothCosted x₀ x₁ I starts lanes ends poses 0 st st
-  both-none x₀ x₁ w =
+  pub both-none : (x₀ x₁ : SegmentCosts) {st table : List ℕ} → Low st → Lent table
+      → BothCosted x₀ x₁ I starts lanes ends poses 0 st st table
+  both-none x₀ x₁ w t =
       record {
         long = refl;
         low = w;
+        lent = t;
         tables = λ j q₀ q₁ a h. record { case = refl; source = refl };
         right₀ = λ s h. absurd (omega arith);
         right₁ = λ s h. absurd (omega arith);
       }
 
   -- in row 0, then in row 1
-  pub both-more : (x₀ x₁ : SegmentCosts) (s : ℕ) {old mid one new : List ℕ} → s < starts
-      → BothCosted x₀ x₁ I starts lanes ends poses s old mid → StartCosted 0 x₀ I starts lanes ends poses s mid one
-      → StartCosted 1 x₁ I starts lanes ends poses s one new
-      → BothCosted x₀ x₁ I starts lanes ends poses (s + 1) old new
+  pub both-more : (x₀ x₁ : SegmentCosts) (s : ℕ) {old mid one new table table′ table″ : List ℕ} → s < starts
+      → BothCosted x₀ x₁ I starts lanes ends poses s old mid table
+      → StartCosted 0 x₀ I starts lanes ends poses s mid one table′
+      → StartCosted 1 x₁ I starts lanes ends poses s one new table″
+      → BothCosted x₀ x₁ I starts lanes ends poses (s + 1) old new table″
   both-more x₀ x₁ s {old} {mid} {one} {new} h b p₀ p₁ =
       record {
         long = p₁ .long ∙ p₀ .long ∙ b .long;
         low = p₁ .low;
+        lent = p₁ .lent;
         tables = λ j q₀ q₁ a m. then (start-tables 1 x₁ s (omega arith) p₁ j q₀ q₁ a m) (since j q₀ q₁ a m);
         right₀ = below-more (λ (t : ℕ). SegmentCosted 0 x₀ I starts lanes ends poses t old new) s
             (λ t m. after 0 x₀ t (omega arith)

@@ -3,12 +3,11 @@ mod row;
 
 ghost use mathlib.Core.Path.{_≡_};
 ghost use mathlib.Core.Bool.{false};
-ghost use Prim.Native.Nat.{_≤_, _<_};
+ghost use Prim.Native.Nat.{_≤_};
 ghost use Rattle.search_store.specs.Map.{CaseRow};
-ghost use Rattle.search_wide_buckets.specs.Table.{Lent};
 ghost use Rattle.search_join.specs.Tables.{Table};
-ghost use Rattle.search_stage.specs.Stage.{wide, widthOf, fromAt, Dead, DeadLanes};
-ghost use Rattle.search_stage.specs.Stage.{StagesGiven, StageGiven, StartGiven, RowStart};
+ghost use Rattle.search_stage.specs.Stage.{wide, widthOf, fromAt, LanesAsked, StartAsked, Dead, DeadLanes};
+ghost use Rattle.search_stage.specs.Stage.{LanesRun, StagesGiven, StageGiven, StageLanes, StartGiven, RowStart};
 ghost use Rattle.search_stage.specs.Stage.{RowsStart, RowsStage, RowsStages};
 use row::row_cost;
 use search_row::Sizes;
@@ -64,7 +63,7 @@ fn live(
     low: usize,
     high: usize,
 ) -> bool
-    requires { ⌜ Table starts high i (now store) × (s < starts) × (low ≤ high) ⌝ }
+    requires { ⌜ StartAsked starts s low high i (now store) ⌝ }
     ensures { λ r. ⌜ (r ≡ false → Dead (now (store .entry)) side i starts s low high) ⌝ }
 {
     let mut t: usize = 0;
@@ -80,7 +79,7 @@ fn live(
 
 // Whether some case of table i goes by a lane from `low` to below `high`.
 fn live_lanes(store: &[u32], i: usize, starts: usize, low: usize, high: usize) -> bool
-    requires { ⌜ Table starts high i (now store) × (low ≤ high) ⌝ }
+    requires { ⌜ LanesAsked starts low high i (now store) ⌝ }
     ensures { λ r. ⌜ (r ≡ false → DeadLanes (now (store .entry)) i starts low high) ⌝ }
 {
     let mut s: usize = 0;
@@ -97,7 +96,7 @@ fn live_lanes(store: &[u32], i: usize, starts: usize, low: usize, high: usize) -
 // 16, as long as there are more.
 fn lanes_in(store: &[u32], i: usize, starts: usize, width: usize) -> usize
     requires { ⌜ Table starts width i (now store) ⌝ }
-    ensures { λ lanes. ⌜ (lanes ≤ width) × DeadLanes (now (store .entry)) i starts lanes width ⌝ }
+    ensures { λ lanes. ⌜ LanesRun (now (store .entry)) i starts lanes width ⌝ }
 {
     let mut lanes = width;
     while lanes > 16 {
@@ -122,7 +121,7 @@ fn cost_start(
 )
     requires { ⌜ StartGiven (now table) (now row) (now store) side sizes i s lanes ⌝ }
     ensures { λ _. ⌜ RowStart side (now (row .entry)) sizes i s lanes (now (store .entry)) (now (store .exit))
-        × Lent (now (table .exit)) ⌝ }
+        (now (table .exit)) ⌝ }
 {
     let starts = wide_of(sizes.talls, i, sizes.states);
     if !live(store, side, i, starts, s, 0, lanes) {
@@ -143,9 +142,9 @@ fn costs(
     i: usize,
     lanes: usize,
 )
-    requires { ⌜ StageGiven (now table) (now row0) (now row1) (now store) sizes cells1 i × (lanes ≤ 64) ⌝ }
+    requires { ⌜ StageLanes (now table) (now row0) (now row1) (now store) sizes cells1 i lanes ⌝ }
     ensures { λ _. ⌜ RowsStart (now (row0 .entry)) (now (row1 .entry)) sizes cells1 i lanes (now (store .entry))
-        (now (store .exit)) × Lent (now (table .exit)) ⌝ }
+        (now (store .exit)) (now (table .exit)) ⌝ }
 {
     let sizes1 = search_row::with_cells(sizes, cells1);
     let starts = wide_of(sizes.talls, i, sizes.states);
@@ -169,7 +168,7 @@ pub fn stage(
 )
     requires { ⌜ StageGiven (now table) (now row0) (now row1) (now store) sizes cells1 i ⌝ }
     ensures { λ _. ⌜ RowsStage (now (row0 .entry)) (now (row1 .entry)) sizes cells1 i (now (store .entry))
-        (now (store .exit)) × Lent (now (table .exit)) ⌝ }
+        (now (store .exit)) (now (table .exit)) ⌝ }
 {
     let starts = wide_of(sizes.talls, i, sizes.states);
     let lanes = lanes_in(store, i, starts, lanes_of(sizes.talls, i, sizes.poses));

@@ -1,12 +1,10 @@
 // The costs of a stage in one row, from one start state.
 ghost use Prim.Native.Nat.{suc};
 ghost use Rattle.search_lanes.specs.Store.{Written};
-ghost use Rattle.search_row.specs.Words.{backIn, deckIn, posIn, RowGiven};
-ghost use Rattle.search_wide_buckets.specs.Table.{Lent};
+ghost use Rattle.search_row.specs.Words.{backIn, deckIn, posIn};
 ghost use Rattle.search_dense_first.specs.Begun.{PosesGiven};
-ghost use Rattle.search_dense_segment.specs.Opened.{OpenRoom};
-ghost use Rattle.search_stage.specs.Stage.{statesAt, posesAt, costIn, endFrom, EndGiven, CostGiven};
-ghost use Rattle.search_stage.specs.Stage.{RowCosted, RowCost};
+ghost use Rattle.search_stage.specs.Stage.{statesAt, posesAt, costIn, endFrom, EndGiven, OpenGiven, CostGiven};
+ghost use Rattle.search_stage.specs.Stage.{RowCosted, RowMade, RowCost};
 use search_row::Sizes;
 use search_wide_layer::Block;
 
@@ -35,10 +33,10 @@ fn stage_end(
     costs: usize,
 )
     requires { ⌜ EndGiven (now table) (now row) (now store) (now starts) sizes layer costs ⌝ }
-    ensures { λ _. ⌜ RowCosted (endFrom (deckIn (now (row .entry)) sizes) (sizes .reordering) (sizes .talls)
+    ensures { λ _. ⌜ RowMade (endFrom (deckIn (now (row .entry)) sizes) (sizes .reordering) (sizes .talls)
         (posIn (now (row .entry))) i (now (store .entry)) (layer .cells) (now (starts .entry))) (layer .lanes)
         (statesAt sizes (suc i)) (posesAt sizes (suc i)) costs (now (store .entry)) (now (store .exit))
-        × Lent (now (table .exit)) ⌝ }
+        (now (table .exit)) ⌝ }
 {
     if i < sizes.talls {
         let p = search_row::tall_at(row, i);
@@ -69,8 +67,7 @@ fn stage_end(
 // The costs of stage 0 in a row, to the block at `costs`: from the row's start to the first
 // tall cell, or to the row's end if it has none.
 fn open_cost(store: &mut [u32], row: &[u32], sizes: Sizes, costs: usize)
-    requires { ⌜ RowGiven (now row) sizes
-        × OpenRoom (now store) (sizes .reordering) (sizes .poses) (sizes .states) costs ⌝ }
+    requires { ⌜ OpenGiven (now row) (now store) sizes costs ⌝ }
     ensures { λ _. ⌜ RowCosted (costIn (now (row .entry)) sizes 0 0) 1 (statesAt sizes 1) (posesAt sizes 1) costs
         (now (store .entry)) (now (store .exit)) ⌝ }
 {
@@ -95,7 +92,7 @@ pub fn row_cost(
 )
     requires { ⌜ CostGiven (now table) (now row) (now store) sizes i s lanes costs ⌝ }
     ensures { λ _. ⌜ RowCost (now (row .entry)) sizes i s lanes costs (now (store .entry)) (now (store .exit))
-        × Lent (now (table .exit)) ⌝ }
+        (now (table .exit)) ⌝ }
 {
     if i == 0 {
         open_cost(store, row, sizes, costs);

@@ -17,7 +17,10 @@ live-requires : tie.Need-live-requires
 live-requires c κs =
     let after-wide-of = c .before in
     let k = after-wide-of .before .before .before in
-    (rw (after-wide-of .wide-of .ensures) (k .pre .cases), omega (arith, after-wide-of .wide-of .ensures), omega arith)
+    record {
+      lanes = record { table = rw (after-wide-of .wide-of .ensures) (k .pre .cases); order = omega arith };
+      state = omega (arith, after-wide-of .wide-of .ensures);
+    }
 
 same-length : tie.Need-same-length
 same-length c = search needs
@@ -27,7 +30,7 @@ returns c =
     let after-wide-of = c .before .before .before in
     let k = after-wide-of .before .before .before in
     let d = c .before .live .ensures (not-true _ (c .if1 .taken)) in
-    (start-dead (k .pre .cases .low) (dead-fewer (omega arith) (rw (after-wide-of .wide-of .ensures) at d)), k .pre .lent)
+    start-dead (k .pre .cases .low) (k .pre .lent) (dead-fewer (omega arith) (rw (after-wide-of .wide-of .ensures) at d))
 
 cost-at-requires : tie.Need-cost-at-requires
 cost-at-requires c κs = search needs
@@ -59,11 +62,9 @@ returns-2 c =
     let mid = after-cost-at .before .before .before .before in
     let k = mid .before .before .before in
     let a = k .args in
-    let e : after-cost-at .cost-at .result ≡ costsAt (a .side) (a .s) = omega (arith, after-cost-at .cost-at .ensures) in (
-      start-live (a .side) (a .s) _ (costOf (deckIn (a .row .now) (a .sizes)) (a .sizes .reordering) (a .sizes .talls) (posIn (a .row .now)) (a .i)) e
-          (after-row-cost .row-cost .ensures .0),
-      after-row-cost .row-cost .ensures .1,
-    )
+    let e : after-cost-at .cost-at .result ≡ costsAt (a .side) (a .s) = omega (arith, after-cost-at .cost-at .ensures) in
+    start-live (a .side) (a .s) _ (costOf (deckIn (a .row .now) (a .sizes)) (a .sizes .reordering) (a .sizes .talls) (posIn (a .row .now)) (a .i)) e
+    (after-row-cost .row-cost .ensures)
 
 pub cost-start-spec : {M : Type 1} → statement M
 cost-start-spec =

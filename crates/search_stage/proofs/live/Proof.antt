@@ -23,7 +23,7 @@ loop-holds c = (omega arith, λ u h. absurd (omega arith))
 
 case-from-requires : tie.Need-case-from-requires Inv-loop μ-loop
 case-from-requires c κs =
-    let w = c .before .before .before .pre .0 in
+    let w = c .before .before .before .pre .lanes .table in
     record { table = omega (arith, w .stage); state₀ = omega (arith, w .states); state₁ = omega (arith, w .states) }
 
 -- the lanes stand in the store
@@ -32,7 +32,8 @@ inside : (c : tie.After-case-from Inv-loop μ-loop)
 inside c =
     let k = c .before .before .before .before in
     let a = k .args in
-    omega (arith, c .case-from .ensures, from-room (a .side) (a .i) (a .s) (c .before .before .loop .t) (k .pre .0) (k .pre .1) (c .before .loop-test .taken))
+    let w = from-room (a .side) (a .i) (a .s) (c .before .before .loop .t) (k .pre .lanes .table) (k .pre .state) (c .before .loop-test .taken) in
+    omega (arith, c .case-from .ensures)
 
 add-at : tie.Need-add-at Inv-loop μ-loop
 add-at c = omega (arith, inside c)

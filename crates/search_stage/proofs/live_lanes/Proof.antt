@@ -19,7 +19,7 @@ loop-holds : tie.Need-loop-holds Inv-loop μ-loop
 loop-holds c = (omega arith, λ u h. absurd (omega arith))
 
 live-requires : tie.Need-live-requires Inv-loop μ-loop
-live-requires c κs = let k = c .before .before .before in (k .pre .0, omega arith, k .pre .1)
+live-requires c κs = record { lanes = c .before .before .before .pre; state = omega arith }
 
 returns : tie.Need-returns Inv-loop μ-loop
 returns c = λ e. absurd (let z : _≡_ {A = ℕ} 0 1 = cc in omega arith)

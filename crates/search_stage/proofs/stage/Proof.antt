@@ -32,13 +32,13 @@ run c =
     let after-wide-of = c .before .before .before in
     let k = after-wide-of .before .before .before .before in
     let y = wide-lanes (k .args .sizes .talls) (k .args .i) (k .args .sizes .poses) (given-states (k .pre .given) .2) in
-    omega (arith, c .lanes-in .ensures .0, c .before .lanes-of .ensures, y .1)
+    omega (arith, c .lanes-in .ensures .most, c .before .lanes-of .ensures, y .1)
 
 costs-requires : tie.Need-costs-requires
 costs-requires c κs =
     let after-lanes-in = c .before .before in
     let after-wide-of = after-lanes-in .before .before .before in
-    (after-wide-of .before .before .before .before .pre, run after-lanes-in)
+    record { stage = after-wide-of .before .before .before .before .pre; narrow = run after-lanes-in }
 
 add-wide-of : tie.Need-add-wide-of
 add-wide-of c = search needs
@@ -61,7 +61,7 @@ join-stage-requires c κs =
     let k = after-wide-of .before .before .before .before in
     let g = k .pre .given in
     let x = given-wide g (k .args .i + 1) in
-    let p = after-costs .costs .ensures .0 in
+    let p = after-costs .costs .ensures in
     record {
       table = rw (after-wide-of .wide-of .ensures) (given-table g (k .args .i) _ _ (k .pre .stage) (run after-lanes-in) (p .long) (p .low));
       pages = omega (arith, after-wide-of2 .wide-of2 .ensures, x .2, p .long);
@@ -110,7 +110,7 @@ close-lanes-requires c κs =
     let g = k .pre .given in
     let x = given-wide g (k .args .i + 1) in
     let y = wide-lanes (k .args .sizes .talls) (k .args .i + 1) (k .args .sizes .poses) (given-states g .2) in
-    let p = after-costs .costs .ensures .0 in
+    let p = after-costs .costs .ensures in
     let j = after-join-stage .join-stage .ensures in
     let ends = after-wide-of2 .wide-of2 .ensures in
     let last = after-join-stage .before .before .wide-of3 .ensures in
@@ -132,7 +132,7 @@ same-length c =
     let after-join-stage = after-lanes-of2 .before .before .before in
     let after-wide-of2 = after-join-stage .before .before .before in
     let after-costs = after-wide-of2 .before .before .before in
-    after-close-lanes .close-lanes .ensures .long ∙ after-join-stage .join-stage .ensures .long ∙ after-costs .costs .ensures .0 .long
+    after-close-lanes .close-lanes .ensures .long ∙ after-join-stage .join-stage .ensures .long ∙ after-costs .costs .ensures .long
 
 returns : tie.Need-returns
 returns c =
@@ -147,16 +147,14 @@ returns c =
     let a = k .args in
     let g = k .pre .given in
     let n = given-states g in
-    let all = g .given₀ .ground .all in (
-      stage-made (deckIn (a .row0 .now) (a .sizes)) (deckIn (a .row1 .now) (withCells (a .sizes) (a .cells1))) (a .sizes .reordering) (a .sizes .talls)
-          (posIn (a .row0 .now)) (posIn (a .row1 .now))
-          (omega (arith, all, n .0)) (omega (arith, all, n .1)) (n .2) (a .i) (a .sizes .states) _ _ _ _ _ _
-          (after-wide-of .wide-of .ensures) (after-lanes-in .before .lanes-of .ensures) (after-wide-of2 .wide-of2 .ensures)
-          (after-join-stage .before .before .wide-of3 .ensures) (after-lanes-of2 .lanes-of2 .ensures)
-          all (k .pre .stage) (n .3) (after-lanes-in .lanes-in .ensures .0) (after-lanes-in .lanes-in .ensures .1) (after-costs .costs .ensures .0)
-          (after-join-stage .join-stage .ensures) (after-close-lanes .close-lanes .ensures),
-      after-costs .costs .ensures .1,
-    )
+    let all = g .given₀ .ground .all in
+    stage-made (deckIn (a .row0 .now) (a .sizes)) (deckIn (a .row1 .now) (withCells (a .sizes) (a .cells1))) (a .sizes .reordering) (a .sizes .talls)
+    (posIn (a .row0 .now)) (posIn (a .row1 .now))
+    (omega (arith, all, n .0)) (omega (arith, all, n .1)) (n .2) (a .i) (a .sizes .states) _ _ _ _ _ _
+    (after-wide-of .wide-of .ensures) (after-lanes-in .before .lanes-of .ensures) (after-wide-of2 .wide-of2 .ensures)
+    (after-join-stage .before .before .wide-of3 .ensures) (after-lanes-of2 .lanes-of2 .ensures)
+    all (k .pre .stage) (n .3) (after-lanes-in .lanes-in .ensures) (after-costs .costs .ensures)
+    (after-join-stage .join-stage .ensures) (after-close-lanes .close-lanes .ensures)
 
 pub stage-spec : {M : Type 1} → statement M
 stage-spec =

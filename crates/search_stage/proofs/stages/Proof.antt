@@ -81,8 +81,8 @@ loop-again c =
       omega (arith, after-stage .before .before .before .loop-test .taken),
       through-more (deckIn (a .row0 .now) (a .sizes)) (deckIn (a .row1 .now) (withCells (a .sizes) (a .cells1))) (a .sizes .reordering) (a .sizes .talls)
           (posIn (a .row0 .now)) (posIn (a .row1 .now)) (omega (arith, all, n .0)) (omega (arith, all, n .1)) (n .2)
-          (omega (arith, n .3, after-stage .before .before .before .loop-test .taken)) (at-loop .loop .inv .1) (after-stage .stage .ensures .0),
-      after-stage .stage .ensures .1,
+          (omega (arith, n .3, after-stage .before .before .before .loop-test .taken)) (at-loop .loop .inv .1) (after-stage .stage .ensures),
+      after-stage .stage .ensures .lent,
     )
 
 same-length : tie.Need-same-length Inv-loop μ-loop

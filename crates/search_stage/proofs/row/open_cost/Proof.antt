@@ -14,10 +14,10 @@ unfolding posIn
 open-to-requires c κs =
     let after-if1 = c .before .before in
     let k = after-if1 .before .before .before .before in
-    let g = k .pre .0 in
+    let g = k .pre .given in
     record {
       ground = g .ground;
-      room = k .pre .1;
+      room = k .pre .room;
       cell = omega (arith, c .before .tall-at .ensures, g .inside 0 (after-if1 .if1 .taken), g .ground .size);
     }
 

@@ -12,7 +12,7 @@ use Rattle.search_stage.proofs.row.row_cost.Tie as tie
 open-cost-requires : tie.Need-open-cost-requires
 open-cost-requires c κs =
     let k = c .before .before .before .before in
-    (k .pre .given, k .pre .room)
+    record { given = k .pre .given; room = k .pre .room }
 
 same-length : tie.Need-same-length
 same-length c = search needs
@@ -21,11 +21,12 @@ returns : tie.Need-returns
 returns c =
     let after-if1 = c .before .before .before .before in
     let k = after-if1 .before .before .before in
-    let a = k .args in (
-      row-open (deckIn (a .row .now) (a .sizes)) (a .sizes .reordering) (a .sizes .talls) (posIn (a .row .now)) (a .sizes .states) (a .s)
-          (a .lanes) (after-if1 .if1 .taken) (c .before .before .open-cost .ensures),
-      k .pre .lent,
-    )
+    let a = k .args in
+    record {
+      costed = row-open (deckIn (a .row .now) (a .sizes)) (a .sizes .reordering) (a .sizes .talls) (posIn (a .row .now)) (a .sizes .states) (a .s)
+          (a .lanes) (after-if1 .if1 .taken) (c .before .before .open-cost .ensures);
+      lent = k .pre .lent;
+    }
 
 tall-at-requires : tie.Need-tall-at-requires
 tall-at-requires c κs = search needs
@@ -133,17 +134,18 @@ returns-2 c =
     let after-placed-with = after-first-layer .before .before .before in
     let after-if1 = after-placed-with .before .before in
     let k = after-if1 .before .before .before in
-    let a = k .args in (
-      row-after (deckIn (a .row .now) (a .sizes)) (a .sizes .reordering) (a .sizes .talls) (posIn (a .row .now)) (a .i) (a .i - 1) (a .sizes .states) (a .s)
-          (after-placed-with .before .tall-at .result) (after-placed-with .placed-with .result) (after-backs .backs .last .0)
+    let a = k .args in
+    record {
+      costed = row-after (deckIn (a .row .now) (a .sizes)) (a .sizes .reordering) (a .sizes .talls) (posIn (a .row .now)) (a .i) (a .i - 1) (a .sizes .states)
+          (a .s) (after-placed-with .before .tall-at .result) (after-placed-with .placed-with .result) (after-backs .backs .last .0)
           (omega (arith, after-if1 .if1 .left)) (k .pre .stage)
           (k .pre .given .ground .all)
           (after-placed-with .before .tall-at .ensures) (after-placed-with .placed-with .ensures)
           (λ l h. let z : 0 + l ≡ l = omega arith in rw z at (after-backs .backs .ensures .words l h))
           (after-first-layer .first-layer .ensures .filled)
-          (after-stage-end .stage-end .ensures .0),
-      after-stage-end .stage-end .ensures .1,
-    )
+          (after-stage-end .stage-end .ensures .costed);
+      lent = after-stage-end .stage-end .ensures .lent;
+    }
 
 sub-tall-at : tie.Need-sub-tall-at
 sub-tall-at c = search needs

@@ -30,12 +30,13 @@ returns c =
     let after-segment-to = c .before .before in
     let after-if1 = after-segment-to .before .before .before .before in
     let k = after-if1 .before .before .before .before in
-    let a = k .args in (
-      row-tall (deckIn (a .row .now) (a .sizes)) (a .sizes .reordering) (a .sizes .talls) (posIn (a .row .now))
+    let a = k .args in
+    record {
+      costed = row-tall (deckIn (a .row .now) (a .sizes)) (a .sizes .reordering) (a .sizes .talls) (posIn (a .row .now))
           (a .starts .now) (after-if1 .if1 .taken) (k .pre .given .ground .all) (after-segment-to .before .before .before .tall-at .ensures)
-          (after-segment-to .segment-to .ensures),
-      after-segment-to .segment-to .ensures .lent,
-    )
+          (after-segment-to .segment-to .ensures);
+      lent = after-segment-to .segment-to .ensures .lent;
+    }
 
 segment-end-requires : tie.Need-segment-end-requires
 segment-end-requires c κs =
@@ -51,11 +52,12 @@ returns-2 c =
     let after-segment-end = c .before .before in
     let after-if1 = after-segment-end .before .before .before in
     let k = after-if1 .before .before .before .before in
-    let a = k .args in (
-      row-last (deckIn (a .row .now) (a .sizes)) (a .sizes .reordering) (a .sizes .talls) (posIn (a .row .now))
-          (a .sizes .states) (after-if1 .if1 .left) (after-segment-end .segment-end .ensures),
-      after-segment-end .segment-end .ensures .lent,
-    )
+    let a = k .args in
+    record {
+      costed = row-last (deckIn (a .row .now) (a .sizes)) (a .sizes .reordering) (a .sizes .talls) (posIn (a .row .now))
+          (a .sizes .states) (after-if1 .if1 .left) (after-segment-end .segment-end .ensures);
+      lent = after-segment-end .segment-end .ensures .lent;
+    }
 
 pub stage-end-spec : {M : Type 1} → statement M
 stage-end-spec =
