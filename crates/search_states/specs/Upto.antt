@@ -84,6 +84,11 @@ pub record Upto (R : ℕ) (row : List ℕ) (count : ℕ) (l : List (ℕ × ℕ))
   pub earlier : (q : ℕ) → q < count → getD row (stateAt q + 2) 0 ≡ before R q
   pub low : Low row
 
+-- the same, with how the row was before: only the words of the states changed
+pub record StatesAdded (R : ℕ) (old row : List ℕ) (count : ℕ) (l : List (ℕ × ℕ)) : Type 0 where
+  pub upto : Upto R row count l
+  pub frame : Frame statesFrom statesEnd old row
+
 -- ---- what is given
 
 -- room for all states
@@ -97,6 +102,16 @@ pub record Coming (R : ℕ) (row : List ℕ) (count m : ℕ) (l : List (ℕ × �
   pub reorder : R ≤ 2
   pub window : m < 2 ^ suc (2 * R)
   pub upto : Upto R row count l
+
+-- the same, from digit d of the marks on
+pub record DigitComing (R : ℕ) (row : List ℕ) (count m d : ℕ) : Type 0 where
+  pub coming : Coming R row count m (digitsFrom R m d ++ marksFrom R (m + 1))
+  pub digit : d ≤ 2 * R
+
+-- a digit of a window
+pub record DigitAsked (R d : ℕ) : Type 0 where
+  pub reorder : R ≤ 2
+  pub digit : d ≤ 4
 
 -- room for state q, and a digit of its marks that is set
 pub record StateRoom (row : List ℕ) (q d m : ℕ) : Type 0 where

@@ -1,14 +1,11 @@
 // The states of a digit and marks in which a cell can have been placed last, as the words that the
 // search reads: marks rising, digits rising.
 ghost use mathlib.Core.Path.{_≡_};
-ghost use mathlib.Core.Bool.{true};
 ghost use mathlib.Core.List.{_++_};
-ghost use Prim.Native.Nat.{_+_, _*_, _≤_, _<_};
-ghost use Rattle.search_row.specs.Words.{statesEnd, statesFrom};
+ghost use Prim.Native.Nat.{_+_, _≤_, _<_};
 ghost use Rattle.theory_tables.specs.Steps.{mayBeLast};
-ghost use Rattle.search_lanes.specs.Store.{Frame};
-ghost use Rattle.search_states.specs.Upto.{isMarks, digitsFrom, marksFrom, withState, Upto, Coded};
-ghost use Rattle.search_states.specs.Upto.{StatesRoom, Coming, StateRoom};
+ghost use Rattle.search_states.specs.Upto.{isMarks, digitsFrom, marksFrom, withState, StatesAdded, Coded};
+ghost use Rattle.search_states.specs.Upto.{StatesRoom, Coming, DigitComing, DigitAsked, StateRoom};
 ghost use Rattle.theory_row.specs.Marks.{bit};
 
 // Whether m has r + 1 ones, the lowest digit among them.
@@ -24,7 +21,7 @@ fn is_marks(r: u32, m: u32) -> bool
 
 // Whether the cell placed last can be the one at digit d: its digit is set, and it is the top one if that is set.
 fn may_be_last(r: u32, m: u32, d: u32) -> bool
-    requires { ⌜ (r ≤ 2) × (d ≤ 4) ⌝ }
+    requires { ⌜ DigitAsked r d ⌝ }
     ensures { λ t. ⌜ t ≡ mayBeLast r m d ⌝ }
 {
     if digit(m, d) != 1 {
@@ -48,9 +45,9 @@ fn put_state(row: &mut [u32], q: usize, d: u32, m: u32)
 
 // The state of digit d, if it is one; how many there are then.
 fn add_digit(row: &mut [u32], count: usize, r: u32, m: u32, d: u32) -> usize
-    requires { ⌜ Coming r (now row) count m (digitsFrom r m d ++ marksFrom r (m + 1)) × (d ≤ 2 * r) ⌝ }
-    ensures { λ n. ⌜ Upto r (now (row .exit)) n (digitsFrom r m (d + 1) ++ marksFrom r (m + 1))
-        × Frame statesFrom statesEnd (now (row .entry)) (now (row .exit)) ⌝ }
+    requires { ⌜ DigitComing r (now row) count m d ⌝ }
+    ensures { λ n. ⌜ StatesAdded r (now (row .entry)) (now (row .exit)) n
+        (digitsFrom r m (d + 1) ++ marksFrom r (m + 1)) ⌝ }
 {
     if !may_be_last(r, m, d) {
         return count;
@@ -62,8 +59,7 @@ fn add_digit(row: &mut [u32], count: usize, r: u32, m: u32, d: u32) -> usize
 // The states of m, if it is marks; how many there are then.
 fn add_marks(row: &mut [u32], count: usize, r: u32, m: u32) -> usize
     requires { ⌜ Coming r (now row) count m (marksFrom r m) ⌝ }
-    ensures { λ n. ⌜ Upto r (now (row .exit)) n (marksFrom r (m + 1))
-        × Frame statesFrom statesEnd (now (row .entry)) (now (row .exit)) ⌝ }
+    ensures { λ n. ⌜ StatesAdded r (now (row .entry)) (now (row .exit)) n (marksFrom r (m + 1)) ⌝ }
 {
     if !is_marks(r, m) {
         return count;

@@ -13,21 +13,20 @@ may-be-last-requires c κs = search needs
 
 returns : tie.Need-returns
 returns c =
-    let k = c .before .before .before in (
-      skip-digit _ _ _ (omega arith) (sym (c .before .may-be-last .ensures) ∙ not-true (c .before .may-be-last .result) (c .if1 .taken)) (k .pre .0 .upto),
-      frame-refl _ _ _,
-    )
+    let k = c .before .before .before in
+    let t = sym (c .before .may-be-last .ensures) ∙ not-true (c .before .may-be-last .result) (c .if1 .taken) in
+    record { upto = skip-digit _ _ _ (omega arith) t (k .pre .coming .upto); frame = frame-refl _ _ _ }
 
 put-state-requires : tie.Need-put-state-requires
 put-state-requires c κs =
     let k = c .before .before .before .before in
     let t = sym (c .before .before .may-be-last .ensures) ∙ not-false (c .before .before .may-be-last .result) (c .before .if1 .left) in
-    let u = next-digit (k .args .m) (k .args .d) _ (omega arith) t (k .pre .0 .upto) in
+    let u = next-digit (k .args .m) (k .args .d) _ (omega arith) t (k .pre .coming .upto) in
     record {
       long = omega (arith, u .long);
-      state = room (k .pre .0 .reorder) u;
+      state = room (k .pre .coming .reorder) u;
       digit = omega arith;
-      window = window-small (k .pre .0);
+      window = window-small (k .pre .coming);
       set = may-low _ _ _ t;
     }
 
@@ -35,7 +34,7 @@ add-result : tie.Need-add-result
 add-result c =
     let mid = c .before .before .before .before in
     let k = mid .before .before .before in
-    omega (arith, k .pre .0 .upto .below, few (k .args .r) (k .pre .0 .reorder))
+    omega (arith, k .pre .coming .upto .below, few (k .args .r) (k .pre .coming .reorder))
 
 same-length : tie.Need-same-length
 same-length c = search needs
@@ -45,10 +44,13 @@ returns-2 c =
     let after-if1 = c .before .before .before .before in
     let k = after-if1 .before .before .before in
     let t = sym (after-if1 .before .may-be-last .ensures) ∙ not-false (after-if1 .before .may-be-last .result) (after-if1 .if1 .left) in
-    let u = next-digit (k .args .m) (k .args .d) _ (omega arith) t (k .pre .0 .upto) in
-    let r = k .pre .0 .reorder in
+    let u = next-digit (k .args .m) (k .args .d) _ (omega arith) t (k .pre .coming .upto) in
+    let r = k .pre .coming .reorder in
     rw (c .before .before .put-state .ensures)
-    (upto-more r (omega arith) (window-small (k .pre .0)) u, with-frame _ _ _ _ _ (room r u) (frame-refl _ _ _))
+    (record {
+      upto = upto-more r (omega arith) (window-small (k .pre .coming)) u;
+      frame = with-frame _ _ _ _ _ (room r u) (frame-refl _ _ _);
+    })
 
 pub add-digit-spec : {M : Type 1} → statement M
 add-digit-spec =

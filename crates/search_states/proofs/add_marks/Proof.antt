@@ -24,10 +24,9 @@ is-marks-requires c κs = search needs
 
 returns : tie.Need-returns Inv-loop μ-loop
 returns c =
-    let k = c .before .before .before in (
-      skip-marks (k .args .m) (k .pre .window) (sym (c .before .is-marks .ensures) ∙ not-true (c .before .is-marks .result) (c .if1 .taken)) (k .pre .upto),
-      frame-refl _ _ _,
-    )
+    let k = c .before .before .before in
+    let t = sym (c .before .is-marks .ensures) ∙ not-true (c .before .is-marks .result) (c .if1 .taken) in
+    record { upto = skip-marks (k .args .m) (k .pre .window) t (k .pre .upto); frame = frame-refl _ _ _ }
 
 loop-holds : tie.Need-loop-holds Inv-loop μ-loop
 loop-holds c =
@@ -44,7 +43,10 @@ add-digit-requires : tie.Need-add-digit-requires Inv-loop μ-loop
 add-digit-requires c κs =
     let l = c .before .before in
     let k = l .before .before .before .before in
-    (record { reorder = k .pre .reorder; window = k .pre .window; upto = l .loop .inv .2 }, c .before .loop-test .taken)
+    record {
+      coming = record { reorder = k .pre .reorder; window = k .pre .window; upto = l .loop .inv .2 };
+      digit = c .before .loop-test .taken;
+    }
 
 add-d : tie.Need-add-d Inv-loop μ-loop
 add-d c = omega arith
@@ -57,7 +59,7 @@ loop-again c =
     let after-add-digit = c .before .before in
     let l = after-add-digit .before .before .before .loop in
     let e = after-add-digit .add-digit .ensures in
-    (omega arith, frame-join statesFrom statesEnd (l .inv .1) (e .1) (omega arith) (omega arith) (omega arith) (omega arith), e .0)
+    (omega arith, frame-join statesFrom statesEnd (l .inv .1) (e .frame) (omega arith) (omega arith) (omega arith) (omega arith), e .upto)
 
 same-length : tie.Need-same-length Inv-loop μ-loop
 same-length c = search needs
@@ -66,7 +68,7 @@ returns-2 : tie.Need-returns-2 Inv-loop μ-loop
 returns-2 c =
     let l = c .before in
     let k = l .before .before .before .before in
-    (no-digit (k .args .m) (l .loop .d) _ (c .loop-test .left) (l .loop .inv .2), l .loop .inv .1)
+    record { upto = no-digit (k .args .m) (l .loop .d) _ (c .loop-test .left) (l .loop .inv .2); frame = l .loop .inv .1 }
 
 pub add-marks-spec : {M : Type 1} → statement M
 add-marks-spec =

@@ -45,7 +45,7 @@ loop-again c =
     let after-add-marks = c .before .before in
     let l = after-add-marks .before .before .before .loop in
     let e = after-add-marks .add-marks .ensures in
-    (omega arith, frame-join statesFrom statesEnd (l .inv .1) (e .1) (omega arith) (omega arith) (omega arith) (omega arith), e .0)
+    (omega arith, frame-join statesFrom statesEnd (l .inv .1) (e .frame) (omega arith) (omega arith) (omega arith) (omega arith), e .upto)
 
 same-length : tie.Need-same-length Inv-loop μ-loop
 same-length c = search needs
