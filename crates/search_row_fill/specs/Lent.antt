@@ -1,5 +1,5 @@
 -- What the functions are given: a cell and its ranges, room in the row for its words, and room for the tall cells'
--- positions.
+-- positions. And what they answer: a number with a bound.
 use Prim.Native.Nat.{ℕ, _+_, _/_, _≤_, _<_}
 use mathlib.Core.Path.{_≡_}
 use mathlib.Core.List.{List}
@@ -13,7 +13,22 @@ use Rattle.search_row.specs.Words.{rowLength, statesFrom, cellWords, firstWord,
 use Rattle.search_row_fill.specs.Values.{Ranged, offered}
 use Rattle.search_row_fill.specs.TallWords.{tallsIn, TallsUpto}
 
--- a pose number of a cell whose site is not left of site 0
+-- an answer that is this number, which is no more than that
+pub record Bounded (number most answer : ℕ) : Type 0 where
+  pub same : answer ≡ number
+  pub low : answer ≤ most
+
+-- a weight, and how often it is paid at most
+pub record Weight (weight times : ℕ) : Type 0 where
+  pub low : weight ≤ 1000
+  pub few : times ≤ 16
+
+-- a pose number of a cell
+pub record CellPose (header : Header) (cell : Cell) (a : ℕ) : Type 0 where
+  pub ranged : Ranged header cell
+  pub few : a < 64
+
+-- one whose site is not left of site 0
 pub record PoseRight (header : Header) (cell : Cell) (a : ℕ) : Type 0 where
   pub ranged : Ranged header cell
   pub few : a < 64
@@ -25,19 +40,26 @@ pub record ShapeAt (header : Header) (cell : Cell) (i : ℕ) : Type 0 where
   pub from : firstWord ≤ i
   pub to : i < leftP
 
+-- one of its heights, in row 0 or 1
+pub record HeightAt (u side : ℕ) : Type 0 where
+  pub few : u < 16
+  pub either : side ≤ 1
+
 -- a cell that is to be written, in row 0 or 1, and its number
 pub record CellPut (header : Header) (cell : Cell) (side number : ℕ) : Type 0 where
   pub ranged : Ranged header cell
   pub either : side ≤ 1
   pub few : number < 64
 
--- room for its words from a place on
-pub record CellRoom (at : ℕ) (row : List ℕ) : Type 0 where
+-- the same, and room for its words from a place on
+pub record CellToFill (header : Header) (cell : Cell) (side number at : ℕ) (row : List ℕ) : Type 0 where
+  pub put : CellPut header cell side number
   pub long : at + cellWords ≤ length row
   pub low : Low row
 
--- room for them at position n
-pub record PositionRoom (n : ℕ) (row : List ℕ) : Type 0 where
+-- the same, and room for them at position n
+pub record CellToAdd (header : Header) (cell : Cell) (side number n : ℕ) (row : List ℕ) : Type 0 where
+  pub put : CellPut header cell side number
   pub few : n < 64
   pub long : statesFrom ≤ length row
   pub low : Low row

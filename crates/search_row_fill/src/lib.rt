@@ -1,7 +1,7 @@
 // The rows of a job as the words that the search reads. The words' places stand in crate search_row, specs/Words.antt.
 ghost use mathlib.Core.Path.{_≡_};
 ghost use mathlib.Core.Bool.{_&&_};
-ghost use Prim.Native.Nat.{_+_, _*_, _/_, _≤_, _<_};
+ghost use Prim.Native.Nat.{_+_, _*_, _<_};
 ghost use lib.Dec.{eqb};
 ghost use Rattle.search_row.specs.Words.{tallsFrom, wordsUsed};
 ghost use Rattle.definition_laws.specs.Sound.{Sound};
@@ -10,11 +10,12 @@ ghost use Rattle.theory_tables.specs.Steps.{B};
 ghost use Rattle.search_lanes.specs.Store.{Written};
 ghost use Rattle.theory_bridge.specs.Paired.{isOffered, poseNumber, poseNumbers, ownOf};
 ghost use Rattle.search_row_fill.specs.Words.{edge, ownWord, shapeWord, heightWord, cellWord};
-ghost use Rattle.search_row_fill.specs.Values.{one, Ranged};
+ghost use Rattle.search_row_fill.specs.Values.{one};
 ghost use Rattle.search_row_fill.specs.Filled.{sideOf, Added, CellsIn};
 ghost use Rattle.search_row_fill.specs.Ready.{wordIn, RowReady};
 ghost use Rattle.search_row_fill.specs.TallWords.{TallsUpto, TallWords};
-ghost use Rattle.search_row_fill.specs.Lent.{PoseRight, ShapeAt, CellPut, CellRoom, PositionRoom, RowToFill};
+ghost use Rattle.search_row_fill.specs.Lent.{Bounded, Weight, CellPose, PoseRight, ShapeAt, HeightAt, CellPut};
+ghost use Rattle.search_row_fill.specs.Lent.{CellToFill, CellToAdd, RowToFill};
 ghost use Rattle.search_row_fill.specs.Lent.{TallNext, TallsRoom, PlacesPut};
 use job::Cell;
 use job::Header;
@@ -26,7 +27,7 @@ use search_row::Sizes;
 
 // Whether rules 1 to 3 allow the cell pose number a.
 fn is_offered(header: Header, cell: Cell, a: u32) -> bool
-    requires { ⌜ Ranged header cell × (a < 64) ⌝ }
+    requires { ⌜ CellPose header cell a ⌝ }
     ensures { λ t. ⌜ t ≡ isOffered (one header cell) 0 a ⌝ }
 {
     let offer = job::offer_of(header, cell);
@@ -50,8 +51,8 @@ fn is_offered(header: Header, cell: Cell, a: u32) -> bool
 
 // A weight, so many times.
 fn times(weight: u32, x: u32) -> u32
-    requires { ⌜ (weight ≤ 1000) × (x ≤ 16) ⌝ }
-    ensures { λ r. ⌜ (r ≡ weight * x) × (r ≤ 16000) ⌝ }
+    requires { ⌜ Weight weight x ⌝ }
+    ensures { λ r. ⌜ Bounded (weight * x) 16000 r ⌝ }
 {
     weight * x
 }
@@ -59,7 +60,7 @@ fn times(weight: u32, x: u32) -> u32
 // Shift, mirroring and layout of a pose that is not left of site 0.
 fn pose_cost(header: Header, cell: Cell, a: u32) -> u32
     requires { ⌜ PoseRight header cell a ⌝ }
-    ensures { λ r. ⌜ (r ≡ ownOf (one header cell) 0 (poseNumber (one header cell) 0 a)) × (r ≤ 48000) ⌝ }
+    ensures { λ r. ⌜ Bounded (ownOf (one header cell) 0 (poseNumber (one header cell) 0 a)) 48000 r ⌝ }
 {
     let offer = job::offer_of(header, cell);
     let given = cell.given;
@@ -82,8 +83,8 @@ fn counts_there(of: u32, side: u32) -> bool
 
 // What the cell costs in pose a in a row; NONE where it is not offered.
 fn own_word(header: Header, cell: Cell, side: u32, a: u32) -> u32
-    requires { ⌜ Ranged header cell × (a < 64) ⌝ }
-    ensures { λ r. ⌜ (r ≡ ownWord (one header cell) side 0 a) × (r ≤ B) ⌝ }
+    requires { ⌜ CellPose header cell a ⌝ }
+    ensures { λ r. ⌜ Bounded (ownWord (one header cell) side 0 a) B r ⌝ }
 {
     if !is_offered(header, cell, a) {
         return search_lanes::NONE;
@@ -114,14 +115,14 @@ fn shape_word(header: Header, cell: Cell, i: usize) -> u32
 // Where one of the 16 heights stands among the row's four; a mark exchanges the edges.
 fn edge_of(u: u32) -> usize
     requires { ⌜ u < 16 ⌝ }
-    ensures { λ e. ⌜ (e ≡ edge u) × (e < 4) ⌝ }
+    ensures { λ e. ⌜ Bounded (edge u) 3 e ⌝ }
 {
     ((u / 8 + u % 2) % 2 * 2 + u / 4 % 2) as usize
 }
 
 // Its heights, by edge, type and variant.
 fn height_word(header: Header, cell: Cell, side: u32, u: u32) -> u32
-    requires { ⌜ (u < 16) × (side ≤ 1) ⌝ }
+    requires { ⌜ HeightAt u side ⌝ }
     ensures { λ r. ⌜ r ≡ heightWord (one header cell) side 0 u ⌝ }
 {
     let i = job::first_of(cell.row, side) + edge_of(u);
@@ -132,7 +133,7 @@ fn height_word(header: Header, cell: Cell, side: u32, u: u32) -> u32
 // the last end one site from the row's end.
 fn cell_word(header: Header, cell: Cell, side: u32, number: u32, i: usize) -> u32
     requires { ⌜ CellPut header cell side number ⌝ }
-    ensures { λ r. ⌜ (r ≡ cellWord (one header cell) side 0 number i) × (r ≤ B) ⌝ }
+    ensures { λ r. ⌜ Bounded (cellWord (one header cell) side 0 number i) B r ⌝ }
 {
     if i < search_row::FIRST {
         return own_word(header, cell, side, i as u32);
@@ -160,7 +161,7 @@ fn cell_word(header: Header, cell: Cell, side: u32, number: u32, i: usize) -> u3
 
 // The words of a cell.
 fn fill_cell(row: &mut [u32], at: usize, header: Header, cell: Cell, side: u32, number: u32)
-    requires { ⌜ CellPut header cell side number × CellRoom at (now row) ⌝ }
+    requires { ⌜ CellToFill header cell side number at (now row) ⌝ }
     ensures { λ _. ⌜ Written (cellWord (one header cell) side 0 number) at wordsUsed
         (now (row .entry)) (now (row .exit)) ⌝ }
 {
@@ -175,7 +176,7 @@ fn fill_cell(row: &mut [u32], at: usize, header: Header, cell: Cell, side: u32, 
 
 // The cell at position n, if it stands in the row; how many cells there are then.
 fn add_cell(row: &mut [u32], n: usize, header: Header, cell: Cell, side: u32, number: u32) -> usize
-    requires { ⌜ CellPut header cell side number × PositionRoom n (now row) ⌝ }
+    requires { ⌜ CellToAdd header cell side number n (now row) ⌝ }
     ensures { λ r. ⌜ Added (one header cell) side number n r (now (row .entry)) (now (row .exit)) ⌝ }
 {
     if !job::stands(cell.row, side) {

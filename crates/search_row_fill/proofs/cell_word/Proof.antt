@@ -20,7 +20,10 @@ returns : tie.Need-returns
 returns c =
     let k = c .before .before in
     let j = one (k .args .header) (k .args .cell) in
-    (c .own-word .ensures .0 ∙ sym (own-at j (k .args .side) 0 (k .args .number) (k .args .i) (c .before .if1 .taken)), c .own-word .ensures .1)
+    record {
+      same = c .own-word .ensures .same ∙ sym (own-at j (k .args .side) 0 (k .args .number) (k .args .i) (c .before .if1 .taken));
+      low = c .own-word .ensures .low;
+    }
 
 shape-word-requires : tie.Need-shape-word-requires
 shape-word-requires c κs = search needs
@@ -28,10 +31,11 @@ shape-word-requires c κs = search needs
 returns-2 : tie.Need-returns-2
 returns-2 c =
     let k = c .before .before .before in
-    let j = one (k .args .header) (k .args .cell) in (
-      c .shape-word .ensures ∙ sym (shape-at j (k .args .side) 0 (k .args .number) (k .args .i) (omega arith) (omega arith)),
-      omega (arith, c .shape-word .ensures, shape-low (k .args .header) (k .args .cell) (k .pre .ranged) (k .args .i)),
-    )
+    let j = one (k .args .header) (k .args .cell) in
+    record {
+      same = c .shape-word .ensures ∙ sym (shape-at j (k .args .side) 0 (k .args .number) (k .args .i) (omega arith) (omega arith));
+      low = omega (arith, c .shape-word .ensures, shape-low (k .args .header) (k .args .cell) (k .pre .ranged) (k .args .i));
+    }
 
 cast-height-word : tie.Need-cast-height-word
 cast-height-word c = omega arith
@@ -42,24 +46,25 @@ height-word-requires c κs = search needs
 returns-3 : tie.Need-returns-3
 returns-3 c =
     let k = c .before .before .before .before in
-    let j = one (k .args .header) (k .args .cell) in (
-      c .height-word .ensures ∙ sym (height-at j (k .args .side) 0 (k .args .number) (k .args .i) (k .args .i - leftP) (omega arith) (omega arith)),
-      omega (arith, c .height-word .ensures, height-low (k .args .header) (k .args .cell) (k .pre .ranged) (k .args .side) (k .args .i - leftP)),
-    )
+    let j = one (k .args .header) (k .args .cell) in
+    record {
+      same = c .height-word .ensures ∙ sym (height-at j (k .args .side) 0 (k .args .number) (k .args .i) (k .args .i - leftP) (omega arith) (omega arith));
+      low = omega (arith, c .height-word .ensures, height-low (k .args .header) (k .args .cell) (k .pre .ranged) (k .args .side) (k .args .i - leftP));
+    }
 
 returns-4 : tie.Need-returns-4
 unfolding headerOf
 returns-4 c =
     let k = c .before .before .before .before in
     let j = one (k .args .header) (k .args .cell) in
-    (sym (step-at j (k .args .side) 0 (k .args .number) (k .args .i) (c .if4 .taken)), omega (arith, k .pre .ranged .step))
+    record { same = sym (step-at j (k .args .side) 0 (k .args .number) (k .args .i) (c .if4 .taken)); low = omega (arith, k .pre .ranged .step) }
 
 returns-5 : tie.Need-returns-5
 returns-5 c =
     let mid = c .before .before .before .before in
     let k = mid .before in
     let j = one (k .args .header) (k .args .cell) in
-    (sym (number-at j (k .args .side) 0 (k .args .number) (k .args .i) (c .if5 .taken)), omega arith)
+    record { same = sym (number-at j (k .args .side) 0 (k .args .number) (k .args .i) (c .if5 .taken)); low = omega arith }
 
 returns-6 : tie.Need-returns-6
 unfolding headerOf
@@ -67,7 +72,7 @@ returns-6 c =
     let mid = c .before .before .before .before in
     let k = mid .before .before in
     let j = one (k .args .header) (k .args .cell) in
-    (sym (filled-at j (k .args .side) 0 (k .args .number) (k .args .i) (c .if6 .taken)), omega (arith, k .pre .ranged .step))
+    record { same = sym (filled-at j (k .args .side) 0 (k .args .number) (k .args .i) (c .if6 .taken)); low = omega (arith, k .pre .ranged .step) }
 
 add-result : tie.Need-add-result
 add-result c = omega arith
@@ -76,11 +81,12 @@ returns-7 : tie.Need-returns-7
 returns-7 c =
     let else4 = c .before .before .before .before in
     let k = else4 .before .before .before .before in
-    let j = one (k .args .header) (k .args .cell) in (
-      end-front (k .args .header) (k .args .cell) (k .args .i) (c .before .if7 .taken)
-          ∙ sym (end-at j (k .args .side) 0 (k .args .number) (k .args .i) (omega (arith, c .before .if7 .taken))),
-      omega (arith, k .pre .ranged .displacement),
-    )
+    let j = one (k .args .header) (k .args .cell) in
+    record {
+      same = end-front (k .args .header) (k .args .cell) (k .args .i) (c .before .if7 .taken)
+          ∙ sym (end-at j (k .args .side) 0 (k .args .number) (k .args .i) (omega (arith, c .before .if7 .taken)));
+      low = omega (arith, k .pre .ranged .displacement);
+    }
 
 add-result-2 : tie.Need-add-result-2
 add-result-2 c =
@@ -98,11 +104,12 @@ returns-8 : tie.Need-returns-8
 returns-8 c =
     let else4 = c .before .before .before .before in
     let k = else4 .before .before .before .before in
-    let j = one (k .args .header) (k .args .cell) in (
-      end-back (k .args .header) (k .args .cell) (k .args .i) (c .before .if7 .left)
-          ∙ sym (end-at j (k .args .side) 0 (k .args .number) (k .args .i) (omega arith)),
-      omega (arith, k .pre .ranged .fewSites, k .pre .ranged .displacement),
-    )
+    let j = one (k .args .header) (k .args .cell) in
+    record {
+      same = end-back (k .args .header) (k .args .cell) (k .args .i) (c .before .if7 .left)
+          ∙ sym (end-at j (k .args .side) 0 (k .args .number) (k .args .i) (omega arith));
+      low = omega (arith, k .pre .ranged .fewSites, k .pre .ranged .displacement);
+    }
 
 pub cell-word-spec : {M : Type 1} → statement M
 cell-word-spec =

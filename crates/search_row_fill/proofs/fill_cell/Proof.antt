@@ -18,10 +18,10 @@ abbrev μ-loop : tie.MeasureT-loop
 μ-loop row₀ at header cell side number i₀ row i = wordsUsed - i
 
 loop-holds : tie.Need-loop-holds Inv-loop μ-loop
-loop-holds c = (omega arith, written-none _ _ (c .before .pre .1 .low))
+loop-holds c = (omega arith, written-none _ _ (c .before .pre .low))
 
 cell-word-requires : tie.Need-cell-word-requires Inv-loop μ-loop
-cell-word-requires c κs = c .before .before .before .pre .0
+cell-word-requires c κs = c .before .before .before .pre .put
 
 add-row : tie.Need-add-row Inv-loop μ-loop
 add-row c = omega arith
@@ -41,7 +41,7 @@ loop-less c = omega arith
 loop-again : tie.Need-loop-again Inv-loop μ-loop
 loop-again c =
     let l = c .before .before .loop in
-    (omega arith, written-more (l .i) (c .cell-word .result) (l .inv .1) (omega arith) (c .cell-word .ensures .0) (c .cell-word .ensures .1))
+    (omega arith, written-more (l .i) (c .cell-word .result) (l .inv .1) (omega arith) (c .cell-word .ensures .same) (c .cell-word .ensures .low))
 
 same-length : tie.Need-same-length Inv-loop μ-loop
 same-length c = search needs

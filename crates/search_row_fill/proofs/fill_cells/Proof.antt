@@ -56,14 +56,17 @@ add-cell-requires c κs =
     let s = mid .before .before .before in
     let f = p .loop .inv .1 in
     let g = c .before .before .loop-test .taken in
-    let h : p .loop .k < length (jobOf (s .args .t2) .cells) = rw (counted s) g in (
-      record {
+    let h : p .loop .k < length (jobOf (s .args .t2) .cells) = rw (counted s) g in
+    record {
+      put = record {
         ranged = ranged-at (s .args .t2) (p .loop .k) g h (s .pre .accepted .sound);
         either = s .pre .either;
         few = omega (arith, g, s .pre .accepted .few);
-      },
-      record { few = omega (arith, g, s .pre .accepted .few, f .below); long = omega (arith, f .long); low = f .low },
-    )
+      };
+      few = omega (arith, g, s .pre .accepted .few, f .below);
+      long = omega (arith, f .long);
+      low = f .low;
+    }
 
 add-k : tie.Need-add-k Inv-loop μ-loop
 add-k c =

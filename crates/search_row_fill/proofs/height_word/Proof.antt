@@ -19,18 +19,18 @@ edge-of-requires c κs = search needs
 add-i : tie.Need-add-i
 add-i c =
     let k = c .before .before in
-    omega (arith, c .before .first-of .ensures .room, c .edge-of .ensures .1, count-small (k .args .cell .row))
+    omega (arith, c .before .first-of .ensures .room, c .edge-of .ensures .low, count-small (k .args .cell .row))
 
 height-of-requires : tie.Need-height-of-requires
 height-of-requires c κs =
-    omega (arith, c .before .first-of .ensures .room, c .edge-of .ensures .1)
+    omega (arith, c .before .first-of .ensures .room, c .edge-of .ensures .low)
 
 returns : tie.Need-returns
 unfolding heightWord cellOf
 returns c =
     let k = c .before .before .before in
     c .height-of .ensures
-    ∙ ap (heightIn (cellOf (k .args .cell)) (k .args .u % 4 / 2)) (ap₂ _+_ (c .before .before .first-of .ensures .same) (c .before .edge-of .ensures .0))
+    ∙ ap (heightIn (cellOf (k .args .cell)) (k .args .u % 4 / 2)) (ap₂ _+_ (c .before .before .first-of .ensures .same) (c .before .edge-of .ensures .same))
 
 pub height-word-spec : {M : Type 1} → statement M
 height-word-spec =

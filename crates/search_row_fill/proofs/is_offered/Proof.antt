@@ -67,7 +67,7 @@ add-result c =
     let chosen = c .before .before .before .before in
     let low = chosen .before .before .before in
     let k = low .before .before .before .before in
-    omega (arith, c .before .width-of .ensures, k .pre .0 .given, k .pre .0 .width (k .args .a % 4 / 2))
+    omega (arith, c .before .width-of .ensures, k .pre .ranged .given, k .pre .ranged .width (k .args .a % 4 / 2))
 
 returns-4 : tie.Need-returns-4
 returns-4 c =

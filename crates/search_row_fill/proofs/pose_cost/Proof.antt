@@ -30,7 +30,7 @@ times-requires c κs =
     let low = limit-low (k .args .header) (k .args .cell) (offerIn (f .offer-of .result)) (f .offer-of .ensures) in
     let e = ap (λ o. o .limit) (f .offer-of .ensures) in
     let r = k .pre .ranged in
-    (r .shift, omega (arith, c .apart-of .ensures, r .displacement, k .pre .few))
+    record { low = r .shift; few = omega (arith, c .apart-of .ensures, r .displacement, k .pre .few) }
 
 times-requires-2 : tie.Need-times-requires-2
 times-requires-2 c κs = search needs
@@ -50,11 +50,12 @@ returns c =
     let f = shifted .before .before in
     let k = f .before in
     let o = f .offer-of in
-    let e = c .before .before .times .ensures .0 ∙ ap (λ x. k .args .header .shift * x) (shifted .apart-of .ensures) in (
-      ap₂ _+_ (ap₂ _+_ e (c .before .times2 .ensures .0)) (c .times3 .ensures .0)
-          ∙ sym (cost-same (k .args .header) (k .args .cell) (k .args .a) (offerIn (o .result)) (o .ensures)),
-      omega arith,
-    )
+    let e = c .before .before .times .ensures .same ∙ ap (λ x. k .args .header .shift * x) (shifted .apart-of .ensures) in
+    record {
+      same = ap₂ _+_ (ap₂ _+_ e (c .before .times2 .ensures .same)) (c .times3 .ensures .same)
+          ∙ sym (cost-same (k .args .header) (k .args .cell) (k .args .a) (offerIn (o .result)) (o .ensures));
+      low = omega arith;
+    }
 
 pub pose-cost-spec : {M : Type 1} → statement M
 pose-cost-spec =

@@ -7,13 +7,13 @@ use Rattle.search_row_fill.proofs.times.Statement.{statement}
 use Rattle.search_row_fill.proofs.times.Tie as tie
 
 small : (c : tie.Start) → c .args .weight * c .args .x ≤ 16000
-small c = mul-le-mul (c .pre .0) (c .pre .1)
+small c = mul-le-mul (c .pre .low) (c .pre .few)
 
 mul-result : tie.Need-mul-result
 mul-result c = omega (arith, small c)
 
 returns : tie.Need-returns
-returns c = (refl, small c)
+returns c = record { same = refl; low = small c }
 
 pub times-spec : {M : Type 1} → statement M
 times-spec = tie.close (tie.spec mul-result returns)
