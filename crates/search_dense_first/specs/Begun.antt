@@ -27,16 +27,28 @@ pub record LayerGiven (row st : List ℕ) (z : Sizes) (at : ℕ) : Type 0 where
   pub low : Low st
   pub room : at + 768 ≤ length st
 
+-- one of its states
+pub record DenseState (row st : List ℕ) (z : Sizes) (at q : ℕ) : Type 0 where
+  pub layer : LayerGiven row st z at
+  pub state : q < z .states
+
 -- a tall cell that a segment goes on from: at position p in pose l
 pub record TallPose (p l : ℕ) : Type 0 where
   pub cell : p < 64
   pub pose : l < 60
 
--- a row, a dense block for the first layer after that cell, and i cells placed with it
-pub record AfterTall (row st : List ℕ) (z : Sizes) (i p l to : ℕ) : Type 0 where
+-- the poses of a cell that comes next after it
+pub record PosesAfterTall (row st : List ℕ) (p l at k poses : ℕ) : Type 0 where
+  pub next : PosesGiven row st at k poses
+  pub tall : TallPose p l
+
+-- a row, a dense block for the first layer after that cell, i cells placed with it, and a state: the tall cell's or one
+-- of that layer
+pub record AfterTall (row st : List ℕ) (z : Sizes) (i p l to q : ℕ) : Type 0 where
   pub layer : LayerGiven row st z to
   pub placed : i ≤ 67
   pub tall : TallPose p l
+  pub state : q < z .states
 
 -- ---- what is left
 

@@ -1,13 +1,13 @@
 // The first layer of a segment with one start, dense: state q has 64 words of a block, one for each pose.
 ghost use mathlib.Core.Path.{_≡_};
-ghost use Prim.Native.Nat.{_+_, _*_, _≤_, _<_};
+ghost use Prim.Native.Nat.{_+_, _*_, _≤_};
 ghost use Rattle.theory_row.specs.Window.{start};
 ghost use Rattle.theory_tables.specs.Steps.{marks, firstAfter, firstOpen};
 ghost use Rattle.search_lanes.specs.Store.{Written};
 ghost use Rattle.search_row.specs.Words.{deckIn, StateKnown};
 ghost use Rattle.search_dense_first.specs.Firsts.{startsAt};
 ghost use Rattle.search_dense_first.specs.Begun.{openPose, afterPose, Begun};
-ghost use Rattle.search_dense_first.specs.Begun.{PosesGiven, LayerGiven, TallPose, AfterTall};
+ghost use Rattle.search_dense_first.specs.Begun.{PosesGiven, LayerGiven, DenseState, PosesAfterTall, AfterTall};
 use search_row::Sizes;
 
 // A layer in its block: how many cells are placed before it, and where the block begins.
@@ -60,7 +60,7 @@ fn open_poses(store: &mut [u32], row: &[u32], at: usize, k: usize, poses: usize)
 
 // The words of state q of the layer at `to`.
 fn open_state(store: &mut [u32], row: &[u32], sizes: Sizes, to: usize, q: usize)
-    requires { ⌜ LayerGiven (now row) (now store) sizes to × (q < sizes .states) ⌝ }
+    requires { ⌜ DenseState (now row) (now store) sizes to q ⌝ }
     ensures { λ _. ⌜ Written (firstOpen (deckIn (now (row .entry)) sizes) (sizes .reordering) q) (to + q * 64)
         (sizes .poses) (now (store .entry)) (now (store .exit)) ⌝ }
 {
@@ -98,7 +98,7 @@ fn after_poses(
     k: usize,
     poses: usize,
 )
-    requires { ⌜ PosesGiven (now row) (now store) at k poses × TallPose p l ⌝ }
+    requires { ⌜ PosesAfterTall (now row) (now store) p l at k poses ⌝ }
     ensures { λ _. ⌜ Written (afterPose (now (row .entry)) p l k) at poses (now (store .entry)) (now (store .exit)) ⌝ }
 {
     let mut a: usize = 0;
@@ -122,7 +122,7 @@ fn after_state(
     l: usize,
     q: usize,
 )
-    requires { ⌜ AfterTall (now row) (now store) sizes (to .cells) p l (to .at) × (q < sizes .states) ⌝ }
+    requires { ⌜ AfterTall (now row) (now store) sizes (to .cells) p l (to .at) q ⌝ }
     ensures { λ _. ⌜ Written (firstAfter (deckIn (now (row .entry)) sizes) (sizes .reordering) (to .cells) m p l q)
         (to .at + q * 64) (sizes .poses) (now (store .entry)) (now (store .exit)) ⌝ }
 {
@@ -146,7 +146,7 @@ pub fn after(
     l: usize,
     to: usize,
 )
-    requires { ⌜ AfterTall (now row) (now store) sizes i p l to × (s < sizes .states) ⌝ }
+    requires { ⌜ AfterTall (now row) (now store) sizes i p l to s ⌝ }
     ensures { λ _. ⌜ Begun
         (firstAfter (deckIn (now (row .entry)) sizes) (sizes .reordering) i (marks (sizes .reordering) s) p l)
         (sizes .poses) (sizes .states) to (now (store .entry)) (now (store .exit)) ⌝ }

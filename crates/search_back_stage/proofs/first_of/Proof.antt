@@ -78,17 +78,16 @@ after-requires c κs =
     let k = after-tall-at .before .before .before .before in
     let g = k .pre .0 in
     let p = g .given .inside (k .args .stage - 1) (omega (arith, g .stage)) in
-    let r = room (c .before .before) in (
-      record {
-        layer = record { ground = g .given .ground; low = g .low; room = omega (arith, c .before .kept-at2 .ensures, g .long) };
-        placed = omega arith;
-        tall = record {
-          cell = omega (arith, after-tall-at .tall-at .ensures, g .given .ground .size);
-          pose = omega (arith, g .pose (omega arith), g .given .ground .few);
-        };
-      },
-      omega (arith, g .state (omega arith), g .given .ground .all),
-    )
+    let r = room (c .before .before) in
+    record {
+      layer = record { ground = g .given .ground; low = g .low; room = omega (arith, c .before .kept-at2 .ensures, g .long) };
+      placed = omega arith;
+      tall = record {
+        cell = omega (arith, after-tall-at .tall-at .ensures, g .given .ground .size);
+        pose = omega (arith, g .pose (omega arith), g .given .ground .few);
+      };
+      state = omega (arith, g .state (omega arith), g .given .ground .all);
+    }
 
 add-result : tie.Need-add-result
 add-result c =

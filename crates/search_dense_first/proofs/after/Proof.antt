@@ -33,7 +33,7 @@ shared-slice-read-m c = search needs
 loop-holds : tie.Need-loop-holds Inv-loop μ-loop
 loop-holds c =
     let k = c .before .before .before in
-    let f = k .pre .0 .layer in
+    let f = k .pre .layer in
     let g = f .ground in
     (omega arith, omega (arith, g .coded .mark (k .args .s) (omega (arith, g .all))), begun-none _ _ _ (f .low))
 
@@ -41,15 +41,14 @@ after-state-requires : tie.Need-after-state-requires Inv-loop μ-loop
 after-state-requires c κs =
     let at-loop = c .before .before .before in
     let k = at-loop .before .before .before .before in
-    let f = k .pre .0 .layer in
-    let s = at-loop .loop .inv .2 in (
-      record {
-        layer = record { ground = f .ground; low = s .low; room = omega (arith, f .room, s .frame .long) };
-        placed = k .pre .0 .placed;
-        tall = k .pre .0 .tall;
-      },
-      omega arith,
-    )
+    let f = k .pre .layer in
+    let s = at-loop .loop .inv .2 in
+    record {
+      layer = record { ground = f .ground; low = s .low; room = omega (arith, f .room, s .frame .long) };
+      placed = k .pre .placed;
+      tall = k .pre .tall;
+      state = omega arith;
+    }
 
 add-q : tie.Need-add-q Inv-loop μ-loop
 add-q c = search needs
@@ -61,7 +60,7 @@ loop-again : tie.Need-loop-again Inv-loop μ-loop
 loop-again c =
     let after-after-state = c .before .before in
     let at-loop = after-after-state .before .before .before .before in
-    let g = at-loop .before .before .before .before .pre .0 .layer .ground in
+    let g = at-loop .before .before .before .before .pre .layer .ground in
     let l = at-loop .loop in (
       omega arith,
       l .inv .1,

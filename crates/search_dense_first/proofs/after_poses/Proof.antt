@@ -18,7 +18,7 @@ abbrev μ-loop : tie.MeasureT-loop
 μ-loop store₀ row p l at k poses a₀ store a = poses - a
 
 loop-holds : tie.Need-loop-holds Inv-loop μ-loop
-loop-holds c = (omega arith, written-none _ _ (c .before .before .pre .0 .low))
+loop-holds c = (omega arith, written-none _ _ (c .before .before .pre .next .low))
 
 mul-least : tie.Need-mul-least Inv-loop μ-loop
 mul-least c = search needs
@@ -41,7 +41,7 @@ add-least-2 c =
     let k = at-loop .before .before .before in
     let a = k .args in
     let b = at-loop .loop .a in
-    omega (arith, k .pre .0 .words .word (a .k * cellWords + b), c .toll .ensures, toll-low (a .p) (a .l) (a .k) b (k .pre .0 .words))
+    omega (arith, k .pre .next .words .word (a .k * cellWords + b), c .toll .ensures, toll-low (a .p) (a .l) (a .k) b (k .pre .next .words))
 
 least-requires : tie.Need-least-requires Inv-loop μ-loop
 least-requires c κs = search needs

@@ -44,8 +44,8 @@ add-starts c = search needs
 starts-requires : tie.Need-starts-requires
 starts-requires c κs =
     let k = c .before .before .before .before in
-    let g = k .pre .0 .layer .ground in
-    record { words = g .coded; state = omega (arith, g .all); few = omega (arith, k .pre .0 .placed) }
+    let g = k .pre .layer .ground in
+    record { words = g .coded; state = omega (arith, g .all); few = omega (arith, k .pre .placed) }
 
 fill-requires : tie.Need-fill-requires
 fill-requires c κs = (search needs, search needs)
@@ -71,8 +71,8 @@ last-at-requires c κs =
     let after-starts = c .before .before in
     let mid = after-starts .before .before .before .before in
     let k = mid .before in
-    let g = k .pre .0 .layer .ground in
-    record { words = g .coded; state = omega (arith, g .all); few = omega (arith, k .pre .0 .placed) }
+    let g = k .pre .layer .ground in
+    record { words = g .coded; state = omega (arith, g .all); few = omega (arith, k .pre .placed) }
 
 after-poses-requires : tie.Need-after-poses-requires
 after-poses-requires c κs =
@@ -80,9 +80,10 @@ after-poses-requires c κs =
     let mid₂ = mid .before .before .before .before in
     let k = mid₂ .before .before in
     let a = k .args in
-    let f = k .pre .0 .layer in
-    let g = f .ground in (
-      record {
+    let f = k .pre .layer in
+    let g = f .ground in
+    record {
+      next = record {
         words = g .words;
         low = f .low;
         room = omega (arith, f .room, g .all, g .coded .few, g .few);
@@ -93,9 +94,9 @@ after-poses-requires c κs =
           g .size,
         );
         few = g .few;
-      },
-      k .pre .0 .tall,
-    )
+      };
+      tall = k .pre .tall;
+    }
 
 same-length-2 : tie.Need-same-length-2
 same-length-2 c = search needs

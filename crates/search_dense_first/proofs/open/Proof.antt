@@ -25,7 +25,10 @@ open-state-requires c κs =
     let at-loop = c .before .before .before in
     let k = at-loop .before .before .before in
     let s = at-loop .loop .inv .1 in
-    (record { ground = k .pre .ground; low = s .low; room = omega (arith, k .pre .room, s .frame .long) }, omega arith)
+    record {
+      layer = record { ground = k .pre .ground; low = s .low; room = omega (arith, k .pre .room, s .frame .long) };
+      state = omega arith;
+    }
 
 add-q : tie.Need-add-q Inv-loop μ-loop
 add-q c = search needs

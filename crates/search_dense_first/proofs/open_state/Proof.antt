@@ -61,11 +61,11 @@ open-poses-requires c κs =
     let mid = c .before .before .before .before in
     let k = mid .before .before .before in
     let a = k .args in
-    let g = k .pre .0 .ground in
+    let g = k .pre .layer .ground in
     record {
       words = g .words;
-      low = k .pre .0 .low;
-      room = omega (arith, k .pre .0 .room, g .all, g .coded .few, g .few);
+      low = k .pre .layer .low;
+      room = omega (arith, k .pre .layer .room, g .all, g .coded .few, g .few);
       cell = omega (
         arith,
         c .before .last-at .ensures,
