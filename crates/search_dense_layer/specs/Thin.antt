@@ -86,19 +86,25 @@ pub record ThinSource (st row : List ℕ) (at k m : ℕ) : Type 0 where
   pub left : k < 64
   pub right : m < 64
 
--- its poses are to be gathered: there are arrays for them, and what it pays is known
-pub record FromPoses (near apart far st row pays : List ℕ) (s : Source) : Type 0 where
+-- its poses below `poses` are to be gathered: there are arrays for them, and what it pays is known
+pub record FromPoses (near apart far st row pays : List ℕ) (s : Source) (poses : ℕ) : Type 0 where
   pub arrays : Arrays near apart far
   pub source : ThinSource st row (s .at) (s .left) (s .right)
   pub paid : Pays row (s .left) (s .right) (s .buckets) 36 pays
   pub five : 5 ≤ s .buckets
   pub nine : s .buckets ≤ 9
+  pub few : poses ≤ 60
 
 -- the words from `at` on
 abbrev pub posesAt : List ℕ → ℕ → ℕ → ℕ
 posesAt st at b = getD st (at + b) 0
 
 -- ---- what is found
+
+-- a far bucket
+pub record FarBucket (far : List ℕ) : Type 0 where
+  pub long : length far ≡ 19
+  pub low : Low far
 
 -- the lowest of all rows up to each row below `rows`
 pub record FarRunUp (rows : ℕ) (old new : List ℕ) : Type 0 where
@@ -140,13 +146,14 @@ pub record ToFour (near apart far row four : List ℕ) (k e : ℕ) : Type 0 wher
   pub cell : k < 64
   pub site : e < 15
 
--- the words from `to` on are to be those of the cell at position k
-pub record ToPut (near apart far row st : List ℕ) (to k : ℕ) : Type 0 where
+-- the words from `to` on are to be those of the poses below `poses` of the cell at position k
+pub record ToPut (near apart far row st : List ℕ) (to k poses : ℕ) : Type 0 where
   pub arrays : Arrays near apart far
   pub words : RowWords row
   pub low : Low st
   pub room : to + 64 ≤ length st
   pub cell : k < 64
+  pub few : poses ≤ 60
 
 -- ---- a layer from the layer before
 
@@ -157,11 +164,25 @@ pub record ThinGiven (row st : List ℕ) (z : Sizes) (i at : ℕ) : Type 0 where
   pub early : i ≤ 67
   pub room : at + 1536 ≤ length st
 
--- the sources of state q of the next are to be gathered
-pub record ThinGathering (near apart far row st : List ℕ) (z : Sizes) (i at q : ℕ) : Type 0 where
-  pub arrays : Arrays near apart far
+-- and state q of the next
+pub record ThinNext (row st : List ℕ) (z : Sizes) (i at q : ℕ) : Type 0 where
+  pub given : ThinGiven row st z i at
+  pub state : q < z .states
+
+-- the same, if its cell is there
+pub record ThinTarget (row st : List ℕ) (z : Sizes) (i at q : ℕ) : Type 0 where
   pub given : ThinGiven row st z i at
   pub target : Target (z .cells) (z .reordering) i q
+
+-- its sources are to be gathered
+pub record ThinGathering (near apart far row st : List ℕ) (z : Sizes) (i at q : ℕ) : Type 0 where
+  pub arrays : Arrays near apart far
+  pub sought : ThinTarget row st z i at q
+
+-- and state p of the layer, if it is one of them
+pub record ThinFrom (near apart far row st : List ℕ) (z : Sizes) (i at q p : ℕ) : Type 0 where
+  pub gathering : ThinGathering near apart far row st z i at q
+  pub state : p < z .states
 
 -- state q of the next layer, in the block after
 pub record Put (D : Deck) (R i from q : ℕ) (old new : List ℕ) : Type 0 where

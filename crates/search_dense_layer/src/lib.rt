@@ -2,18 +2,16 @@
 // site stand side by side, so that four are done at a time. The sources of a target are gathered by their
 // end sites in the buckets of crate buckets.
 ghost use mathlib.Core.Path.{_≡_};
-ghost use Prim.Native.Nat.{suc, _+_, _*_, _/_, _≤_, _<_};
-ghost use lib.ListN.{length};
+ghost use Prim.Native.Nat.{suc, _+_, _*_, _/_};
 ghost use Rattle.theory_tables.specs.Steps.{lastAt};
 ghost use Rattle.search_lanes.specs.Lanes.{Lowered};
-ghost use Rattle.search_lanes.specs.Store.{Low, Written};
+ghost use Rattle.search_lanes.specs.Store.{Written};
 ghost use Rattle.search_row.specs.Words.{deckIn};
-ghost use Rattle.search_buckets.specs.Next.{Target};
 ghost use Rattle.search_buckets.specs.Rows.{bucketsIn, onePose, byPoses, oneState, byStates};
 ghost use Rattle.search_dense_layer.specs.Thin.{thinIn, posesAt, fourOf, spreadOf, FourSpread, ThinSpread};
-ghost use Rattle.search_dense_layer.specs.Thin.{ThinGathered, FarRunUp, foundBy, foundOf, ThinLooks};
+ghost use Rattle.search_dense_layer.specs.Thin.{ThinGathered, FarBucket, FarRunUp, foundBy, foundOf, ThinLooks};
 ghost use Rattle.search_dense_layer.specs.Thin.{foundFour, otherOf, FromPoses, ToFour, ToPut, ThinGiven};
-ghost use Rattle.search_dense_layer.specs.Thin.{ThinGathering, Put, Stepped};
+ghost use Rattle.search_dense_layer.specs.Thin.{ThinNext, ThinTarget, ThinGathering, ThinFrom, Put, Stepped};
 ghost use Rattle.search_dense_layer.specs.Kept.{Segment, SegmentKept};
 use search_buckets::Source;
 use search_row::Sizes;
@@ -79,7 +77,7 @@ fn from_pose(
     source: Source,
     b: usize,
 )
-    requires { ⌜ FromPoses (now near) (now apart) (now far) (now store) (now row) (now pays) source × (b < 60) ⌝ }
+    requires { ⌜ FromPoses (now near) (now apart) (now far) (now store) (now row) (now pays) source (b + 1) ⌝ }
     ensures { λ _. ⌜ ThinGathered (onePose (now (row .entry)) (source .left) (source .right) b
         (posesAt (now (store .entry)) (source .at) b)) (source .buckets) (now (near .entry)) (now (near .exit))
         (now (apart .entry)) (now (apart .exit)) (now (far .entry)) (now (far .exit)) ⌝ }
@@ -106,7 +104,7 @@ fn from_poses(
     source: Source,
     poses: usize,
 )
-    requires { ⌜ FromPoses (now near) (now apart) (now far) (now store) (now row) (now pays) source × (poses ≤ 60) ⌝ }
+    requires { ⌜ FromPoses (now near) (now apart) (now far) (now store) (now row) (now pays) source poses ⌝ }
     ensures { λ _. ⌜ ThinGathered (byPoses (now (row .entry)) (source .left) (source .right)
         (posesAt (now (store .entry)) (source .at)) poses) (source .buckets) (now (near .entry)) (now (near .exit))
         (now (apart .entry)) (now (apart .exit)) (now (far .entry)) (now (far .exit)) ⌝ }
@@ -122,7 +120,7 @@ fn from_poses(
 
 // Each row of the far bucket, as far as some pose looks, lowered to all rows before it.
 fn run_up(far: &mut [u32; 19])
-    requires { ⌜ Low (now far) × (length (now far) ≡ 19) ⌝ }
+    requires { ⌜ FarBucket (now far) ⌝ }
     ensures { λ _. ⌜ FarRunUp 15 (now (far .entry)) (now (far .exit)) ⌝ }
 {
     let mut t: usize = 0;
@@ -175,7 +173,7 @@ fn put_four(
     k: usize,
     e: usize,
 )
-    requires { ⌜ ToPut (now near) (now apart) (now far) (now row) (now store) to k × (e < 15) ⌝ }
+    requires { ⌜ ToPut (now near) (now apart) (now far) (now row) (now store) to k (e * 4 + 4) ⌝ }
     ensures { λ _. ⌜ Written (foundFour (now (row .entry)) (now (near .entry)) (now (apart .entry))
         (now (far .entry)) k e) (to + e * 4) 4 (now (store .entry)) (now (store .exit)) ⌝ }
 {
@@ -199,7 +197,7 @@ fn put(
     k: usize,
     poses: usize,
 )
-    requires { ⌜ ToPut (now near) (now apart) (now far) (now row) (now store) to k × (poses ≤ 60) ⌝ }
+    requires { ⌜ ToPut (now near) (now apart) (now far) (now row) (now store) to k poses ⌝ }
     ensures { λ _. ⌜ Written (foundOf (now (row .entry)) (now (near .entry)) (now (apart .entry))
         (now (far .entry)) k) to ((poses + 3) / 4 * 4) (now (store .entry)) (now (store .exit)) ⌝ }
 {
@@ -221,7 +219,7 @@ fn put_found(
     k: usize,
     poses: usize,
 )
-    requires { ⌜ ToPut (now near) (now apart) (now far) (now row) (now store) to k × (poses ≤ 60) ⌝ }
+    requires { ⌜ ToPut (now near) (now apart) (now far) (now row) (now store) to k poses ⌝ }
     ensures { λ _. ⌜ Written (foundOf (now (row .entry)) (now (near .entry))
         (otherOf (bucketsIn (now (row .entry)) k) (now (near .entry)) (now (apart .entry))) (now (far .entry)) k) to
         ((poses + 3) / 4 * 4) (now (store .entry)) (now (store .exit)) ⌝ }
@@ -246,8 +244,8 @@ fn from_source(
     sought: Sought,
     p: usize,
 )
-    requires { ⌜ ThinGathering (now near) (now apart) (now far) (now row) (now store) sizes (sought .cells)
-        (sought .at) (sought .state) × (p < sizes .states) ⌝ }
+    requires { ⌜ ThinFrom (now near) (now apart) (now far) (now row) (now store) sizes (sought .cells) (sought .at)
+        (sought .state) p ⌝ }
     ensures { λ _. ⌜ ThinGathered (oneState (now (row .entry)) (deckIn (now (row .entry)) sizes) (sizes .reordering)
         (thinIn (now (store .entry)) (sought .at)) (sought .cells) (sought .state) p)
         (bucketsIn (now (row .entry)) (lastAt (sizes .reordering) (suc (sought .cells)) (sought .state)))
@@ -299,8 +297,7 @@ fn gather(
 
 // The words of state q, whose cell is there: its sources gathered, then what each pose finds.
 fn target_there(store: &mut [u32], row: &[u32], sizes: Sizes, layer: Block, q: usize)
-    requires { ⌜ ThinGiven (now row) (now store) sizes (layer .cells) (layer .at) × Target (sizes .cells)
-        (sizes .reordering) (layer .cells) q ⌝ }
+    requires { ⌜ ThinTarget (now row) (now store) sizes (layer .cells) (layer .at) q ⌝ }
     ensures { λ _. ⌜ Put (deckIn (now (row .entry)) sizes) (sizes .reordering) (layer .cells) (layer .at) q
         (now (store .entry)) (now (store .exit)) ⌝ }
 {
@@ -321,7 +318,7 @@ fn target_there(store: &mut [u32], row: &[u32], sizes: Sizes, layer: Block, q: u
 
 // The words of state q: all NONE if the row has no such cell.
 fn put_state(store: &mut [u32], row: &[u32], sizes: Sizes, layer: Block, q: usize)
-    requires { ⌜ ThinGiven (now row) (now store) sizes (layer .cells) (layer .at) × (q < sizes .states) ⌝ }
+    requires { ⌜ ThinNext (now row) (now store) sizes (layer .cells) (layer .at) q ⌝ }
     ensures { λ _. ⌜ Put (deckIn (now (row .entry)) sizes) (sizes .reordering) (layer .cells) (layer .at) q
         (now (store .entry)) (now (store .exit)) ⌝ }
 {

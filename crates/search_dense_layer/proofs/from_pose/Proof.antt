@@ -24,7 +24,7 @@ returns c =
     let mid = c .before .before .before .before in
     let k = mid .before in
     let a = k .args in
-    gathered-none (a .source .buckets) (k .pre .0 .arrays)
+    gathered-none (a .source .buckets) (k .pre .arrays)
     (λ v s h.
     omega (
       arith,
@@ -41,7 +41,7 @@ returns-2 c =
     let mid = mid₂ .before in
     let k = mid .before .before in
     let a = k .args in
-    gathered-none (a .source .buckets) (k .pre .0 .arrays)
+    gathered-none (a .source .buckets) (k .pre .arrays)
     (λ v s h.
     omega (
       arith,
@@ -56,7 +56,7 @@ spread-requires c κs =
     let after-if1 = after-if2 .before .before in
     let mid = after-if1 .before .before .before .before in
     let k = mid .before in
-    let g = k .pre .0 in
+    let g = k .pre in
     record {
       arrays = g .arrays;
       cost = omega (arith, after-if1 .if1 .left);
@@ -75,9 +75,9 @@ returns-3 c =
     let mid₂ = mid₃ .before in
     let k = mid₂ .before .before in
     let a = k .args in
-    gathered-pose (a .b) (mid .before .end-row .result) (getD (a .store .now) (a .source .at + a .b) 0) (k .pre .0 .paid) (mid .before .end-row .ensures)
-    (k .pre .0 .five)
-    (k .pre .0 .nine) (c .spread .ensures)
+    gathered-pose (a .b) (mid .before .end-row .result) (getD (a .store .now) (a .source .at + a .b) 0) (k .pre .paid) (mid .before .end-row .ensures)
+    (k .pre .five)
+    (k .pre .nine) (c .spread .ensures)
 
 pub from-pose-spec : {M : Type 1} → statement M
 from-pose-spec =

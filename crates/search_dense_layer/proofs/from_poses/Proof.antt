@@ -22,24 +22,22 @@ loop-holds c =
     let k = c .before .before in
     let a = k .args in (
       omega arith,
-      gathered-none (a .source .buckets) (k .pre .0 .arrays)
+      gathered-none (a .source .buckets) (k .pre .arrays)
           (λ v t h. omega (arith, poses-none (a .row .now) (a .source .left) (a .source .right) (posesAt (a .store .now) (a .source .at)) v t)),
     )
 
 from-pose-requires : tie.Need-from-pose-requires Inv-loop μ-loop
 from-pose-requires c κs =
     let at-loop = c .before .before .before .before in
-    let k = at-loop .before .before .before in (
-      record {
-        arrays = lent-on (k .pre .0 .arrays)
-            (at-loop .loop .inv .1);
-        source = k .pre .0 .source;
-        paid = k .pre .0 .paid;
-        five = k .pre .0 .five;
-        nine = k .pre .0 .nine;
-      },
-      omega arith,
-    )
+    let k = at-loop .before .before .before in
+    record {
+      arrays = lent-on (k .pre .arrays) (at-loop .loop .inv .1);
+      source = k .pre .source;
+      paid = k .pre .paid;
+      five = k .pre .five;
+      nine = k .pre .nine;
+      few = omega arith;
+    }
 
 add-b : tie.Need-add-b Inv-loop μ-loop
 add-b c = search needs

@@ -33,7 +33,7 @@ left c =
       arith,
       c .before .before .last-at .ensures,
       source-size (a .row .now) (a .sizes .cells) (a .sizes .poses) (a .sizes .reordering) (a .sought .cells) (a .sought .state) (a .p) (source mid),
-      k .pre .0 .given .ground .size,
+      k .pre .gathering .sought .given .ground .size,
     )
 
 here : (c : tie.After-last-at2) → (let mid₂ = c .before .before .before .before in let mid = mid₂ .before in let a = mid .before .before .args in
@@ -50,8 +50,8 @@ right c =
       arith,
       here c,
       there-size (a .sizes .cells) (a .sizes .reordering) (suc (a .sought .cells)) (a .sought .state)
-          (k .pre .0 .target .there),
-      k .pre .0 .given .ground .size,
+          (k .pre .gathering .sought .target .there),
+      k .pre .gathering .sought .given .ground .size,
     )
 
 -- how many buckets the target needs
@@ -78,7 +78,7 @@ returns c =
     let a = k .args in
     let D = deckIn (a .row .now) (a .sizes) in
     let away = sym (c .before .is-source .ensures) ∙ not-true _ (c .if1 .taken) in
-    gathered-none (bucketsIn (a .row .now) (lastAt (a .sizes .reordering) (suc (a .sought .cells)) (a .sought .state))) (k .pre .0 .arrays)
+    gathered-none (bucketsIn (a .row .now) (lastAt (a .sizes .reordering) (suc (a .sought .cells)) (a .sought .state))) (k .pre .gathering .arrays)
     (λ v t h. omega (
       arith,
       state-out (a .row .now) D (a .sizes .reordering) (thinIn (a .store .now) (a .sought .at)) (a .sought .cells)
@@ -98,7 +98,7 @@ buckets-of-requires : tie.Need-buckets-of-requires
 buckets-of-requires c κs =
     let mid₂ = c .before .before .before .before in
     let mid = mid₂ .before in
-    (mid .before .before .pre .0 .given .ground .words, right c)
+    (mid .before .before .pre .gathering .sought .given .ground .words, right c)
 
 fill-pays-requires : tie.Need-fill-pays-requires
 fill-pays-requires c κs =
@@ -106,7 +106,7 @@ fill-pays-requires c κs =
     let mid = mid₂ .before in
     let k = mid .before .before .before .before in
     record {
-      cells = record { words = k .pre .0 .given .ground .words; left = left (c .before .before); right = right (c .before .before) };
+      cells = record { words = k .pre .gathering .sought .given .ground .words; left = left (c .before .before); right = right (c .before .before) };
       few = few (c .before) .1;
       before = pays-none _ _ _ _ refl;
     }
@@ -125,23 +125,22 @@ from-poses-requires c κs =
     let mid₄ = mid .before .before .before .before in
     let mid₂ = mid₄ .before in
     let k = mid₂ .before .before in
-    let g = k .pre .0 .given in
-    let f = few (after-fill-pays .before .before) in (
-      record {
-        arrays = k .pre .0 .arrays;
-        source = record {
-          words = g .ground .words;
-          low = g .low;
-          room = omega (arith, g .room, g .ground .all, g .ground .coded .few);
-          left = left mid;
-          right = right mid;
-        };
-        paid = after-fill-pays .fill-pays .ensures;
-        five = f .0;
-        nine = f .1;
-      },
-      g .ground .few,
-    )
+    let g = k .pre .gathering .sought .given in
+    let f = few (after-fill-pays .before .before) in
+    record {
+      arrays = k .pre .gathering .arrays;
+      source = record {
+        words = g .ground .words;
+        low = g .low;
+        room = omega (arith, g .room, g .ground .all, g .ground .coded .few);
+        left = left mid;
+        right = right mid;
+      };
+      paid = after-fill-pays .fill-pays .ensures;
+      five = f .0;
+      nine = f .1;
+      few = g .ground .few;
+    }
 
 returns-2 : tie.Need-returns-2
 returns-2 c =

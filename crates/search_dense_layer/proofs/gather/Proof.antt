@@ -39,7 +39,7 @@ from-source-requires : tie.Need-from-source-requires Inv-loop μ-loop
 from-source-requires c κs =
     let mid = c .before .before .before .before in
     let k = mid .before .before .before .before in
-    (record { arrays = lent-on (k .pre .arrays) (mid .before .loop .inv .1); given = k .pre .given; target = k .pre .target }, omega arith)
+    record { gathering = record { arrays = lent-on (k .pre .arrays) (mid .before .loop .inv .1); sought = k .pre .sought }; state = omega arith }
 
 add-p : tie.Need-add-p Inv-loop μ-loop
 add-p c = search needs

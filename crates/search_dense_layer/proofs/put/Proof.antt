@@ -18,7 +18,7 @@ abbrev μ-loop : tie.MeasureT-loop
 μ-loop store₀ row near apart far to k poses e₀ store e = poses - e * 4
 
 loop-holds : tie.Need-loop-holds Inv-loop μ-loop
-loop-holds c = (omega arith, written-none _ _ (c .before .before .pre .0 .low))
+loop-holds c = (omega arith, written-none _ _ (c .before .before .pre .low))
 
 mul-loop : tie.Need-mul-loop Inv-loop μ-loop
 mul-loop c = search needs
@@ -28,10 +28,15 @@ put-four-requires c κs =
     let at-loop = c .before .before in
     let k = at-loop .before .before .before in
     let l = at-loop .loop in
-    let g = k .pre .0 in (
-      record { arrays = g .arrays; words = g .words; low = l .inv .1 .low; room = omega (arith, l .inv .1 .frame .long); cell = g .cell },
-      omega arith,
-    )
+    let g = k .pre in
+    record {
+      arrays = g .arrays;
+      words = g .words;
+      low = l .inv .1 .low;
+      room = omega (arith, l .inv .1 .frame .long);
+      cell = g .cell;
+      few = omega arith;
+    }
 
 add-e : tie.Need-add-e Inv-loop μ-loop
 add-e c = search needs

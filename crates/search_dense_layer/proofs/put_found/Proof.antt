@@ -34,9 +34,8 @@ returns c =
 put-requires-2 : tie.Need-put-requires-2
 put-requires-2 c κs =
     let after-buckets-of = c .before .before in
-    let p = after-buckets-of .before .before .before .pre in
-    let g = p .0 in
-    (record { arrays = lent-twin (g .arrays); words = g .words; low = g .low; room = g .room; cell = g .cell }, p .1)
+    let g = after-buckets-of .before .before .before .pre in
+    record { arrays = lent-twin (g .arrays); words = g .words; low = g .low; room = g .room; cell = g .cell; few = g .few }
 
 same-length-2 : tie.Need-same-length-2
 same-length-2 c = search needs

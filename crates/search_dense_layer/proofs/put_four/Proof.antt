@@ -22,12 +22,11 @@ abbrev μ-loop : tie.MeasureT-loop
 
 found-four-requires : tie.Need-found-four-requires Inv-loop μ-loop
 found-four-requires c κs =
-    let p = c .before .before .before .pre in
-    let g = p .0 in
-    record { arrays = g .arrays; words = g .words; low = same-low 4 0 (omega arith); long = refl; cell = g .cell; site = p .1 }
+    let g = c .before .before .before .pre in
+    record { arrays = g .arrays; words = g .words; low = same-low 4 0 (omega arith); long = refl; cell = g .cell; site = omega arith }
 
 loop-holds : tie.Need-loop-holds Inv-loop μ-loop
-loop-holds c = (omega arith, written-none _ _ (c .before .before .before .before .pre .0 .low))
+loop-holds c = (omega arith, written-none _ _ (c .before .before .before .before .pre .low))
 
 mul-store : tie.Need-mul-store Inv-loop μ-loop
 mul-store c = search needs

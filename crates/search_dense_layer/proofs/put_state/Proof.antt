@@ -32,7 +32,7 @@ fill-requires c κs =
     let mid₂ = c .before .before .before .before in
     let mid = mid₂ .before .before in
     let k = mid .before in
-    let g = k .pre .0 in
+    let g = k .pre .given in
     (record { room = omega (arith, g .room, g .ground .all, g .ground .coded .few); low = g .low }, omega arith)
 
 same-length : tie.Need-same-length
@@ -48,7 +48,7 @@ returns c =
     let D = deckIn (a .row .now) (a .sizes) in
     let t = sym (after-if1 .before .is-there .ensures) ∙ not-true _ (after-if1 .if1 .taken) in
     let u = ap (λ (j : ℕ). thereIn (a .sizes .cells) (a .sizes .reordering) j (a .q)) (sym (add-one (a .layer .cells))) ∙ t in
-    put-words D (a .sizes .reordering) (a .layer .cells) (a .layer .at) (a .q) (c .before .before .fill .ensures) (omega (arith, k .pre .0 .ground .few))
+    put-words D (a .sizes .reordering) (a .layer .cells) (a .layer .at) (a .q) (c .before .before .fill .ensures) (omega (arith, k .pre .given .ground .few))
     (omega arith)
     (λ b l. next-away D (a .sizes .reordering) (thinIn (a .store .now) (a .layer .at)) (a .layer .cells) (a .q) b u)
 
@@ -57,13 +57,14 @@ target-there-requires c κs =
     let after-is-there = c .before .before in
     let k = after-is-there .before .before .before .before in
     let a = k .args in
-    let t = sym (after-is-there .is-there .ensures) ∙ not-false _ (c .before .if1 .left) in (
-      k .pre .0,
-      record {
-        state = omega (arith, k .pre .0 .ground .all);
+    let t = sym (after-is-there .is-there .ensures) ∙ not-false _ (c .before .if1 .left) in
+    record {
+      given = k .pre .given;
+      target = record {
+        state = omega (arith, k .pre .given .ground .all);
         there = ap (λ (j : ℕ). thereIn (a .sizes .cells) (a .sizes .reordering) j (a .q)) (sym (add-one (a .layer .cells))) ∙ t;
-      },
-    )
+      };
+    }
 
 same-length-2 : tie.Need-same-length-2
 same-length-2 c = search needs

@@ -27,7 +27,10 @@ put-state-requires c κs =
     let at-loop = c .before .before .before in
     let k = at-loop .before .before .before in
     let s = at-loop .loop .inv .1 in
-    (record { ground = k .pre .ground; low = s .low; early = k .pre .early; room = omega (arith, k .pre .room, s .frame .long) }, omega arith)
+    record {
+      given = record { ground = k .pre .ground; low = s .low; early = k .pre .early; room = omega (arith, k .pre .room, s .frame .long) };
+      state = omega arith;
+    }
 
 add-q : tie.Need-add-q Inv-loop μ-loop
 add-q c = search needs

@@ -24,7 +24,12 @@ inside : (c : tie.After-last-at) → c .last-at .result < 64
 inside c =
     let k = c .before .before .before .before in
     let a = k .args in
-    omega (arith, here c, there-size (a .sizes .cells) (a .sizes .reordering) (suc (a .layer .cells)) (a .q) (k .pre .1 .there), k .pre .0 .ground .size)
+    omega (
+      arith,
+      here c,
+      there-size (a .sizes .cells) (a .sizes .reordering) (suc (a .layer .cells)) (a .q) (k .pre .target .there),
+      k .pre .given .ground .size,
+    )
 
 -- the arrays once the far rows ran up
 arrays : (c : tie.After-run-up) → Arrays (c .before .before .gather .last .0) (c .before .before .gather .last .1 .0) (c .run-up .last .0)
@@ -47,12 +52,12 @@ gather-requires : tie.Need-gather-requires
 gather-requires c κs =
     let mid = c .before .before .before .before in
     let k = mid .before .before .before .before in
-    record { arrays = lent-none; given = k .pre .0; target = k .pre .1 }
+    record { arrays = lent-none; sought = k .pre }
 
 run-up-requires : tie.Need-run-up-requires
 run-up-requires c κs =
     let l = lent-on lent-none (c .before .gather .ensures) in
-    (l .farLow, l .farLong)
+    record { long = l .farLong; low = l .farLow }
 
 add-to : tie.Need-add-to
 add-to c = search needs
@@ -70,16 +75,15 @@ put-found-requires c κs =
     let mid₂ = mid .before .before .before .before in
     let mid₃ = mid₂ .before .before .before in
     let k = mid₃ .before .before .before .before in
-    let g = k .pre .0 in (
-      record {
-        arrays = arrays mid;
-        words = g .ground .words;
-        low = g .low;
-        room = omega (arith, g .room, k .pre .1 .state, g .ground .coded .few);
-        cell = inside mid₃;
-      },
-      g .ground .few,
-    )
+    let g = k .pre .given in
+    record {
+      arrays = arrays mid;
+      words = g .ground .words;
+      low = g .low;
+      room = omega (arith, g .room, k .pre .target .state, g .ground .coded .few);
+      cell = inside mid₃;
+      few = g .ground .few;
+    }
 
 same-length : tie.Need-same-length
 same-length c = search needs
@@ -92,7 +96,7 @@ returns c =
     let mid₃ = mid₂ .before .before .before in
     let k = mid₃ .before .before .before .before in
     let a = k .args in
-    let g = k .pre .0 in
+    let g = k .pre .given in
     let D = deckIn (a .row .now) (a .sizes) in
     let f = thinIn (a .store .now) (a .layer .at) in
     let m = here mid₃ in
@@ -101,7 +105,7 @@ returns c =
     (buckets-twin (a .row .now) (lastAt (a .sizes .reordering) (suc (a .layer .cells)) (a .q)) n) i) in
     put-words D (a .sizes .reordering) (a .layer .cells) (a .layer .at) (a .q) (c .before .before .put-found .ensures) (omega arith)
     (omega (arith, g .ground .few))
-    (λ b l. next-found (a .row .now) (a .sizes .cells) (a .sizes .poses) (a .sizes .reordering) f (a .layer .cells) (a .q) b (k .pre .1 .there)
+    (λ b l. next-found (a .row .now) (a .sizes .cells) (a .sizes .poses) (a .sizes .reordering) f (a .layer .cells) (a .q) b (k .pre .target .there)
     (g .ground .all) m
     (rw (sym m) at (found b (omega (arith, g .ground .few)))))
 
