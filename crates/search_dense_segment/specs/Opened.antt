@@ -43,6 +43,11 @@ pub record OpenToTall (row st : List ℕ) (z : Sizes) (tall costs : ℕ) : Type 
   pub room : OpenRoom st (z .reordering) (z .poses) (z .states) costs
   pub cell : tall < 64
 
+-- and a state of that cell
+pub record OpenToState (row st : List ℕ) (z : Sizes) (tall costs q : ℕ) : Type 0 where
+  pub given : OpenToTall row st z tall costs
+  pub state : q < z .states
+
 -- so many words from `from` on, and room for a row of each from `at` on, above them
 pub record SpreadRoom (st : List ℕ) (from at rows : ℕ) : Type 0 where
   pub low : Low st

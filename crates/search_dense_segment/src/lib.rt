@@ -1,14 +1,14 @@
 // The costs from a row's start: its layers run dense, in the place of the kept layers.
 ghost use mathlib.Core.Path.{_≡_};
-ghost use Prim.Native.Nat.{_+_, _*_, _<_};
+ghost use Prim.Native.Nat.{_+_, _*_};
 ghost use Rattle.search_buckets.specs.Ends.{leastPoses, leastState, leastStates};
 ghost use Rattle.search_lanes.specs.Store.{WrittenRows, FilledState, Filled};
 ghost use Rattle.search_row.specs.Words.{backIn, deckIn, Ground};
-ghost use Rattle.search_dense_first.specs.Begun.{PosesGiven, LayerGiven};
+ghost use Rattle.search_dense_first.specs.Begun.{PosesGiven, LayerGiven, DenseState};
 ghost use Rattle.search_dense_layer.specs.Thin.{thinIn};
 ghost use Rattle.search_dense_layer.specs.Kept.{Segment};
-ghost use Rattle.search_dense_segment.specs.Opened.{spreadFrom, comesIn, tallCost};
-ghost use Rattle.search_dense_segment.specs.Opened.{endCost, OpenRoom, OpenToTall, SpreadRoom, OpenKept, Opened};
+ghost use Rattle.search_dense_segment.specs.Opened.{spreadFrom, comesIn, tallCost, endCost, OpenRoom};
+ghost use Rattle.search_dense_segment.specs.Opened.{OpenToTall, OpenToState, SpreadRoom, OpenKept, Opened};
 use search_row::Sizes;
 
 // The layers from the row's start up to layer `end`, each in its place.
@@ -38,7 +38,7 @@ fn spread(store: &mut [u32], from: usize, at: usize, rows: usize)
 
 // The costs of state q: the words of the layer that it comes to the tall cell with; NONE if it comes with no layer.
 fn put_state(store: &mut [u32], row: &[u32], sizes: Sizes, tall: usize, costs: usize, q: usize)
-    requires { ⌜ OpenToTall (now row) (now store) sizes tall costs × (q < sizes .states) ⌝ }
+    requires { ⌜ OpenToState (now row) (now store) sizes tall costs q ⌝ }
     ensures { λ _. ⌜ FilledState (comesIn (sizes .reordering) tall (now (store .entry))) 1 costs q (sizes .poses)
         (now (store .entry)) (now (store .exit)) ⌝ }
 {
@@ -100,7 +100,7 @@ fn least_poses(store: &[u32], row: &[u32], at: usize, q: usize, k: usize, poses:
 
 // The same, if its cell can be the last.
 fn least_state(store: &[u32], row: &[u32], sizes: Sizes, at: usize, q: usize) -> u32
-    requires { ⌜ LayerGiven (now row) (now store) sizes at × (q < sizes .states) ⌝ }
+    requires { ⌜ DenseState (now row) (now store) sizes at q ⌝ }
     ensures { λ x. ⌜ x
         ≡ leastState (deckIn (now (row .entry)) sizes) (sizes .reordering) (thinIn (now (store .entry)) at) q ⌝ }
 {

@@ -24,7 +24,7 @@ inside c =
     let mid = c .before in
     let k = mid .before .before .before .before in
     let a = k .args in
-    omega (arith, c .last-at .ensures, there-size (a .sizes .cells) (a .sizes .reordering) (a .sizes .cells) (a .q) (there mid), k .pre .0 .ground .size)
+    omega (arith, c .last-at .ensures, there-size (a .sizes .cells) (a .sizes .reordering) (a .sizes .cells) (a .q) (there mid), k .pre .layer .ground .size)
 
 is-there-requires : tie.Need-is-there-requires
 is-there-requires c κs = search needs
@@ -50,7 +50,7 @@ mul-if2-2 c = omega (arith, inside c)
 shared-slice-read-if2 : tie.Need-shared-slice-read-if2
 shared-slice-read-if2 c =
     let mid = c .before .before .before .before in
-    omega (arith, inside (c .before), mid .before .before .pre .0 .ground .words .long)
+    omega (arith, inside (c .before), mid .before .before .pre .layer .ground .words .long)
 
 returns-2 : tie.Need-returns-2
 returns-2 c =
@@ -64,12 +64,12 @@ least-poses-requires : tie.Need-least-poses-requires
 least-poses-requires c κs =
     let mid = c .before .before .before .before in
     let k = mid .before .before .before in
-    let f = k .pre .0 in
+    let f = k .pre .layer in
     let g = f .ground in
     record {
       words = g .words;
       low = f .low;
-      room = omega (arith, f .room, g .all, g .coded .few, g .few, k .pre .1);
+      room = omega (arith, f .room, g .all, g .coded .few, g .few, k .pre .state);
       cell = inside (c .before .before);
       few = g .few;
     }

@@ -18,8 +18,8 @@ digit : (c : tie.After-word) → Digit c
 digit c =
     let k = c .before .before .before in
     let q = k .args .q in
-    let g = k .pre .0 .ground in
-    let h = rw (g .all) at (k .pre .1) in
+    let g = k .pre .given .ground in
+    let h = rw (g .all) at (k .pre .state) in
     (c .word .ensures ∙ g .coded .digit q h, g .coded .small q h)
 
 mul-word : tie.Need-mul-word
@@ -56,7 +56,7 @@ returns c =
     let k = mid .before .before .before in
     let a = k .args in
     let e : a .tall + suc (a .sizes .reordering) < 1 + offset (a .sizes .reordering) (a .q) = omega (arith, after-if1 .if1 .taken, digit mid) in
-    state-rows (omega (arith, k .pre .0 .ground .few)) (c .before .before .fill-rows .ensures)
+    state-rows (omega (arith, k .pre .given .ground .few)) (c .before .before .fill-rows .ensures)
     (λ b l x y. comes-late (a .sizes .reordering) (a .tall) (a .store .now) l (a .q) b e)
 
 sub-kept-at : tie.Need-sub-kept-at
@@ -91,7 +91,7 @@ returns-2 c =
     let a = k .args in
     let d = digit mid in
     let e : 1 + offset (a .sizes .reordering) (a .q) ≤ a .tall + suc (a .sizes .reordering) = omega (arith, after-kept-at .before .if1 .left, d) in
-    state-rows (omega (arith, k .pre .0 .ground .few)) (c .before .before .spread .ensures)
+    state-rows (omega (arith, k .pre .given .ground .few)) (c .before .before .spread .ensures)
     (λ b l x y.
     comes-with (a .sizes .reordering) (a .tall) (a .store .now) l (a .q) b e
     ∙ ap (λ (j : ℕ). getD (a .store .now) j 0) (omega (arith, after-kept-at .kept-at .ensures, d)))

@@ -26,14 +26,15 @@ put-state-requires c κs =
     let at-loop = c .before .before .before in
     let k = at-loop .before .before .before in
     let g = k .pre .room in
-    let f = at-loop .loop .inv .1 in (
-      record {
+    let f = at-loop .loop .inv .1 in
+    record {
+      given = record {
         ground = k .pre .ground;
         room = record { low = f .low; few = g .few; all = g .all; over = g .over; room = omega (arith, g .room, f .frame .long) };
         cell = k .pre .cell;
-      },
-      omega arith,
-    )
+      };
+      state = omega arith;
+    }
 
 add-q : tie.Need-add-q Inv-loop μ-loop
 add-q c = search needs
