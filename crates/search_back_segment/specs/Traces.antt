@@ -1,5 +1,5 @@
 -- The traceback through the kept layers of one segment: what each function is given and what it leaves.
-use Prim.Native.Nat.{ℕ, suc, _+_, _/_, _%_, _≤_, _<_}
+use Prim.Native.Nat.{ℕ, suc, _+_, _*_, _/_, _%_, _≤_, _<_}
 use mathlib.Core.Path.{_≡_}
 use mathlib.Core.Bool.{true, false, cond}
 use mathlib.Core.List.{List}
@@ -8,6 +8,7 @@ use lib.Dec.{ltb}
 use Rattle.search_store.specs.Map.{pagesFrom}
 use Rattle.search_row.specs.declared.Sizes.{Sizes}
 use Rattle.theory_tables.specs.Steps.{B, Deck, Layer, stateCount, lastAt, isThere, isSource, nextLayer, ends, costEnd}
+use Rattle.theory_tables.specs.Steps.{reached}
 use Rattle.theory_tables.specs.Back.{SegmentTraced, EndTraced}
 use Rattle.theory_tables.specs.Notes.{NotedBy}
 use Rattle.search_lanes.specs.Store.{Frame, Low}
@@ -78,6 +79,21 @@ pub record Sought (row st : List ℕ) (z : Sizes) (i q a want : ℕ) : Type 0 wh
   pub cell : lastAt (z .reordering) (suc i) q < z .cells
   pub pose : a < z .poses
   pub below : want < B
+
+-- and state p of layer i, if it is one
+pub record SourceSought (row st : List ℕ) (z : Sizes) (i q a p want : ℕ) : Type 0 where
+  pub target : Sought row st z i q a want
+  pub source : p < stateCount (z .reordering)
+
+-- there is one: what state q in pose a was reached by is that cost
+pub record SourceThere (row st : List ℕ) (z : Sizes) (i q a want : ℕ) : Type 0 where
+  pub target : Sought row st z i q a want
+  pub cost : reached (deckIn row z) (z .reordering) (keptIn st i) i q a ≡ want
+
+-- the code of a state and a pose, in the layer with all cells placed
+pub record LastAsked (row st : List ℕ) (z : Sizes) (c : ℕ) : Type 0 where
+  pub back : Back row st z
+  pub code : c < z .states * 64
 
 -- state q in pose a as the i-th cell of a path
 pub record PathCell (row path : List ℕ) (R i q a : ℕ) : Type 0 where

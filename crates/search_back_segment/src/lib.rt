@@ -1,13 +1,13 @@
 // The traceback through the kept layers of one segment: each entry's source is found again
 // by its cost, and each cell passed is noted.
 ghost use mathlib.Core.Path.{_≡_};
-ghost use Prim.Native.Nat.{_+_, _*_, _/_, _%_, _<_};
+ghost use Prim.Native.Nat.{_+_, _*_, _/_, _%_};
 ghost use lib.ListN.{set};
-ghost use Rattle.theory_tables.specs.Steps.{stateCount, lastAt, reached};
+ghost use Rattle.theory_tables.specs.Steps.{lastAt};
 ghost use Rattle.search_row.specs.Words.{deckIn};
 ghost use Rattle.search_dense_layer.specs.Kept.{keptIn};
 ghost use Rattle.search_back_segment.specs.Traces.{First, fromPose, fromState, Fits};
-ghost use Rattle.search_back_segment.specs.Traces.{PosesBefore, Sought, PathCell};
+ghost use Rattle.search_back_segment.specs.Traces.{PosesBefore, SourceSought, SourceThere, LastAsked, PathCell};
 ghost use Rattle.search_back_segment.specs.Traces.{EntrySource, Back, Entry, SegmentTrace, End};
 ghost use Rattle.search_back_segment.specs.Traces.{SegmentTraceDone, EndDone, lastCode, LeastOf};
 use search_row::Sizes;
@@ -47,7 +47,7 @@ fn state_pose(
     p: usize,
     want: u32,
 ) -> usize
-    requires { ⌜ Sought (now row) (now store) sizes i q a want × (p < stateCount (sizes .reordering)) ⌝ }
+    requires { ⌜ SourceSought (now row) (now store) sizes i q a p want ⌝ }
     ensures { λ b. ⌜ First (fromState (deckIn (now (row .entry)) sizes) (sizes .reordering)
         (keptIn (now (store .entry)) i) i q a p) (sizes .poses) want b ⌝ }
 {
@@ -78,8 +78,7 @@ fn find_source(
     a: usize,
     want: u32,
 ) -> usize
-    requires { ⌜ Sought (now row) (now store) sizes i q a want
-        × (reached (deckIn (now row) sizes) (sizes .reordering) (keptIn (now store) i) i q a ≡ want) ⌝ }
+    requires { ⌜ SourceThere (now row) (now store) sizes i q a want ⌝ }
     ensures { λ t. ⌜ Fits (deckIn (now (row .entry)) sizes) (sizes .reordering)
         (keptIn (now (store .entry)) i) i q a want (t / 64) (t % 64) ⌝ }
 {
@@ -139,7 +138,7 @@ pub fn trace(
 // The kept word of state c / 64 in pose c % 64 with all n cells placed, with what its cell pays as the row's last; NONE
 // if the row has no such cell, or it is tall.
 fn last_word(store: &[u32], row: &[u32], sizes: Sizes, c: usize) -> u32
-    requires { ⌜ Back (now row) (now store) sizes × (c < sizes .states * 64) ⌝ }
+    requires { ⌜ LastAsked (now row) (now store) sizes c ⌝ }
     ensures { λ x. ⌜ x ≡ lastCode (deckIn (now (row .entry)) sizes) (sizes .reordering)
         (keptIn (now (store .entry)) (sizes .cells)) c ⌝ }
 {

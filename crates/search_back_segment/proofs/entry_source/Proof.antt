@@ -99,17 +99,18 @@ find-source-requires : tie.Need-find-source-requires
 find-source-requires c κs =
     let mid = c .before .before .before in
     let k = mid .before .before .before in
-    let p = parts c in (
-      record {
+    let p = parts c in
+    record {
+      target = record {
         back = k .pre .back;
         last = k .pre .last;
         state = k .pre .state;
         cell = inside mid .0;
         pose = k .pre .pose;
         below = omega (arith, k .pre .cost);
-      },
-      omega arith,
-    )
+      };
+      cost = omega arith;
+    }
 
 returns : tie.Need-returns
 returns c =

@@ -26,7 +26,7 @@ loop-holds c =
 last-word-requires : tie.Need-last-word-requires Inv-loop μ-loop
 last-word-requires c κs =
     let mid = c .before .before .before .before in
-    (mid .before .pre, omega arith)
+    record { back = mid .before .pre; code = omega arith }
 
 add-c : tie.Need-add-c Inv-loop μ-loop
 add-c c =

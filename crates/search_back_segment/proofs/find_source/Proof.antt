@@ -26,19 +26,19 @@ state-pose-requires : tie.Need-state-pose-requires Inv-loop μ-loop
 state-pose-requires c κs =
     let mid = c .before .before .before .before in
     let p = mid .before .pre in
-    (p .0, omega (arith, p .0 .back .ground .all))
+    record { target = p .target; source = omega (arith, p .target .back .ground .all) }
 
 mul-result : tie.Need-mul-result Inv-loop μ-loop
 mul-result c =
     let mid = c .before .before .before .before in
     let p = mid .before .before .before .before .pre in
-    omega (arith, p .0 .back .ground .all, p .0 .back .ground .coded .few)
+    omega (arith, p .target .back .ground .all, p .target .back .ground .coded .few)
 
 add-result : tie.Need-add-result Inv-loop μ-loop
 add-result c =
     let mid = c .before .before .before .before in
     let p = mid .before .before .before .before .pre in
-    omega (arith, p .0 .back .ground .all, p .0 .back .ground .coded .few, p .0 .back .ground .few)
+    omega (arith, p .target .back .ground .all, p .target .back .ground .coded .few, p .target .back .ground .few)
 
 returns : tie.Need-returns Inv-loop μ-loop
 returns c =
@@ -48,12 +48,12 @@ returns c =
     let a = k .args in
     let p = at-loop .loop .p in
     let b = after-state-pose .state-pose .result in
-    let l = k .pre .0 .back .ground .few in
+    let l = k .pre .target .back .ground .few in
     let x : (p * 64 + b) / 64 ≡ p = omega arith in
     let y : (p * 64 + b) % 64 ≡ b = omega arith in
     rw (x, y)
     (state-fits (deckIn (a .row .now) (a .sizes)) (a .sizes .reordering) (keptIn (a .store .now) (a .i)) (a .i) (a .q) (a .a) (a .want) p b
-    (omega (arith, k .pre .0 .back .ground .all)) (omega arith) (k .pre .0 .below) (after-state-pose .state-pose .ensures .hit (omega arith)))
+    (omega (arith, k .pre .target .back .ground .all)) (omega arith) (k .pre .target .below) (after-state-pose .state-pose .ensures .hit (omega arith)))
 
 add-p : tie.Need-add-p Inv-loop μ-loop
 add-p c = search needs
@@ -73,8 +73,9 @@ returns-2 c =
     let k = at-loop .before .before .before in
     let a = k .args in
     absurd
-    (reached-missed (deckIn (a .row .now) (a .sizes)) (a .sizes .reordering) (keptIn (a .store .now) (a .i)) (a .i) (a .q) (a .a) (a .want) (k .pre .0 .below)
-    (λ j h. at-loop .loop .inv .1 j (omega (arith, k .pre .0 .back .ground .all))) (k .pre .1))
+    (reached-missed (deckIn (a .row .now) (a .sizes)) (a .sizes .reordering) (keptIn (a .store .now) (a .i)) (a .i) (a .q) (a .a) (a .want)
+    (k .pre .target .below)
+    (λ j h. at-loop .loop .inv .1 j (omega (arith, k .pre .target .back .ground .all))) (k .pre .cost))
 
 pub find-source-spec : {M : Type 1} → statement M
 find-source-spec =

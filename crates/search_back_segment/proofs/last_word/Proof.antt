@@ -32,7 +32,7 @@ inside c =
       arith,
       c .last-at .ensures,
       there-size (a .sizes .cells) (a .sizes .reordering) (a .sizes .cells) (a .c / 64) (there (c .before)),
-      k .pre .0 .ground .size,
+      k .pre .back .ground .size,
     )
 
 returns : tie.Need-returns
@@ -66,7 +66,7 @@ mul-if3-2 c = omega (arith, inside c)
 shared-slice-read-if3 : tie.Need-shared-slice-read-if3
 shared-slice-read-if3 c =
     let mid = c .before .before .before .before in
-    omega (arith, inside (c .before), mid .before .before .before .before .pre .0 .ground .words .long)
+    omega (arith, inside (c .before), mid .before .before .before .before .pre .back .ground .words .long)
 
 returns-3 : tie.Need-returns-3
 returns-3 c =
@@ -95,7 +95,7 @@ back-requires c κs =
     let mid = c .before .before .before .before in
     let mid₂ = mid .before .before .before .before in
     let k = mid₂ .before .before .before in
-    record { words = k .pre .0 .ground .words; cell = inside mid; pose = omega (arith, k .pre .0 .ground .few) }
+    record { words = k .pre .back .ground .words; cell = inside mid; pose = omega (arith, k .pre .back .ground .few) }
 
 add-result-2 : tie.Need-add-result-2
 add-result-2 c =
@@ -106,7 +106,7 @@ add-result-2 c =
     let a = k .args in
     omega (
       arith,
-      k .pre .0 .low .word (after-kept-at .kept-at .result + a .c),
+      k .pre .back .low .word (after-kept-at .kept-at .result + a .c),
       c .back .ensures,
       back-low (a .row .now) (after-last-at .last-at .result) (a .c % 64),
     )

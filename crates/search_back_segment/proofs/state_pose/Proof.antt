@@ -28,7 +28,7 @@ returns c =
     let k = c .before .before .before .before in
     let a = k .args in
     poses-none (deckIn (a .row .now) (a .sizes)) (a .sizes .reordering) (keptIn (a .store .now) (a .i)) (a .i) (a .q) (a .a) (a .p) (a .want)
-    (sym (c .before .is-source .ensures) ∙ not-true _ (c .if1 .taken)) (k .pre .0 .below)
+    (sym (c .before .is-source .ensures) ∙ not-true _ (c .if1 .taken)) (k .pre .target .below)
 
 last-at-requires : tie.Need-last-at-requires
 last-at-requires c κs = search needs
@@ -53,18 +53,18 @@ find-pose-requires c κs =
     let mid = c .before .before .before in
     let k = mid .before .before .before .before in
     let a = k .args in
-    let b = k .pre .0 .back in
+    let b = k .pre .target .back in
     let g = b .ground in
     let i = source-size (a .row .now) (a .sizes .cells) (a .sizes .poses) (a .sizes .reordering) (a .i) (a .q) (a .p) (source mid) in
     record {
       cells = record {
         words = g .words;
         left = omega (arith, c .before .before .last-at .ensures, g .size);
-        right = omega (arith, c .before .last-at2 .ensures, k .pre .0 .cell, g .size);
+        right = omega (arith, c .before .last-at2 .ensures, k .pre .target .cell, g .size);
       };
       low = b .low;
-      room = omega (arith, c .kept-at .ensures, b .long, k .pre .0 .last, k .pre .1, g .coded .few, g .few);
-      pose = omega (arith, k .pre .0 .pose, g .few);
+      room = omega (arith, c .kept-at .ensures, b .long, k .pre .target .last, k .pre .source, g .coded .few, g .few);
+      pose = omega (arith, k .pre .target .pose, g .few);
       few = g .few;
     }
 
