@@ -13,7 +13,7 @@ use Rattle.theory_tables.specs.Stages.{placedWith, stageEnd}
 use Rattle.theory_tables.specs.Back.{StageTraced}
 use Rattle.theory_tables.specs.Notes.{NotedBy}
 use Rattle.search_lanes.specs.Store.{Frame, Low}
-use Rattle.search_row.specs.Words.{RowGiven}
+use Rattle.search_row.specs.Words.{posIn, RowGiven}
 use Rattle.search_dense_layer.specs.Kept.{keptIn}
 use Rattle.search_back_segment.specs.Traces.{wordAt}
 
@@ -58,6 +58,11 @@ pub record Start (row st : List ℕ) (z : Sizes) (I s l : ℕ) : Type 0 where
   pub stage : I ≤ (z .talls)
   pub state : 0 < I → s < stateCount (z .reordering)
   pub pose : 0 < I → l < (z .poses)
+
+-- and room for its first layer among the kept ones
+pub record StartRoom (row st : List ℕ) (z : Sizes) (I s l : ℕ) : Type 0 where
+  pub start : Start row st z I s l
+  pub few : startCells (z .reordering) (posIn row) I s ≤ 66
 
 -- a stage to be traced: from state q in pose a of tall cell I, or from the row's end
 pub record Stage (row st path : List ℕ) (z : Sizes) (I s l q a : ℕ) : Type 0 where

@@ -2,8 +2,7 @@
 // kept, and the traceback goes back through them.
 ghost use Rattle.search_row.specs.Words.{deckIn, posIn};
 ghost use mathlib.Core.Path.{_≡_};
-ghost use Prim.Native.Nat.{_≤_};
-ghost use Rattle.search_back_stage.specs.Rows.{startCells, StartState, Start, Stage, Started, StageDone};
+ghost use Rattle.search_back_stage.specs.Rows.{startCells, StartState, StartRoom, Stage, Started, StageDone};
 use search_row::Sizes;
 use search_row::placed_with;
 use search_row::tall_at;
@@ -20,8 +19,7 @@ pub struct RowLeg {
 
 // The first layer of a stage, kept; the result is how many cells it has.
 fn first_of(store: &mut [u32], row: &[u32], sizes: Sizes, stage: usize, s: usize, l: usize) -> usize
-    requires { ⌜ Start (now row) (now store) sizes stage s l
-        × (startCells (sizes .reordering) (posIn (now row)) stage s ≤ 66) ⌝ }
+    requires { ⌜ StartRoom (now row) (now store) sizes stage s l ⌝ }
     ensures { λ i. ⌜ Started (deckIn (now (row .entry)) sizes) (sizes .reordering)
         (posIn (now (row .entry))) stage s l i (now (store .entry)) (now (store .exit)) ⌝ }
 {

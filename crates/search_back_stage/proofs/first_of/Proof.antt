@@ -21,7 +21,7 @@ room c =
       arith,
       c .placed-with .ensures,
       after-tall-at .tall-at .ensures,
-      k .pre .1,
+      k .pre .few,
       start-count (a .sizes .reordering) (posIn (a .row .now)) (a .stage) (a .stage - 1) (a .s) (omega arith),
     )
 
@@ -31,7 +31,7 @@ kept-at-requires c κs = search needs
 open-requires : tie.Need-open-requires
 open-requires c κs =
     let after-kept-at = c .before in
-    let g = after-kept-at .before .before .before .before .pre .0 in
+    let g = after-kept-at .before .before .before .before .pre .start in
     record { ground = g .given .ground; low = g .low; room = omega (arith, after-kept-at .kept-at .ensures, g .long) }
 
 same-length : tie.Need-same-length
@@ -43,7 +43,7 @@ returns c =
     let k = after-kept-at .before .before .before .before in
     let a = k .args in
     started-open (deckIn (a .row .now) (a .sizes)) (a .sizes .reordering) (posIn (a .row .now)) (after-kept-at .before .if1 .taken)
-    (k .pre .0 .given .ground .all)
+    (k .pre .start .given .ground .all)
     (after-kept-at .kept-at .ensures) (c .before .before .open .ensures)
 
 sub-tall-at : tie.Need-sub-tall-at
@@ -51,14 +51,14 @@ sub-tall-at c = search needs
 
 tall-at-requires : tie.Need-tall-at-requires
 tall-at-requires c κs =
-    let g = c .before .before .before .pre .0 in
+    let g = c .before .before .before .pre .start in
     (g .given .ground .words, omega (arith, g .given .few, g .stage))
 
 placed-with-requires : tie.Need-placed-with-requires
 unfolding posIn
 placed-with-requires c κs =
     let k = c .before .before .before .before in
-    let g = k .pre .0 in
+    let g = k .pre .start in
     record {
       words = g .given .ground .coded;
       state = g .state (omega arith);
@@ -76,7 +76,7 @@ unfolding posIn
 after-requires c κs =
     let after-tall-at = c .before .before .before in
     let k = after-tall-at .before .before .before .before in
-    let g = k .pre .0 in
+    let g = k .pre .start in
     let p = g .given .inside (k .args .stage - 1) (omega (arith, g .stage)) in
     let r = room (c .before .before) in
     record {
@@ -105,7 +105,7 @@ returns-2 c =
     let k = after-tall-at .before .before .before .before in
     let a = k .args in
     started-after (deckIn (a .row .now) (a .sizes)) (a .sizes .reordering) (posIn (a .row .now)) (a .stage - 1) (omega arith)
-    (after-tall-at .tall-at .ensures) (after-kept-at2 .before .placed-with .ensures) (k .pre .0 .given .ground .all)
+    (after-tall-at .tall-at .ensures) (after-kept-at2 .before .placed-with .ensures) (k .pre .start .given .ground .all)
     (after-kept-at2 .kept-at2 .ensures) (room (after-kept-at2 .before)) (c .before .before .after .ensures)
 
 pub first-of-spec : {M : Type 1} → statement M

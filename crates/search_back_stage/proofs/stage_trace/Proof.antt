@@ -36,7 +36,10 @@ returns c =
 first-of-requires : tie.Need-first-of-requires
 first-of-requires c κs =
     let after-cells-of = c .before .before in
-    (after-cells-of .before .before .before .before .pre .start, omega (arith, after-cells-of .cells-of .ensures, c .before .if1 .left))
+    record {
+      start = after-cells-of .before .before .before .before .pre .start;
+      few = omega (arith, after-cells-of .cells-of .ensures, c .before .if1 .left);
+    }
 
 tall-at-requires : tie.Need-tall-at-requires
 tall-at-requires c κs =
