@@ -36,6 +36,11 @@ pub record Asked (row₀ row₁ : List ℕ) (z : Sizes) (n₁ : ℕ) (store : Li
   pub rows : RowsAsked row₀ row₁ z n₁
   pub long : wordsFor (z .talls) (z .states) ≤ length store
 
+-- the same once those words are cleared
+pub record AskedLow (row₀ row₁ : List ℕ) (z : Sizes) (n₁ : ℕ) (store : List ℕ) : Type 0 where
+  pub asked : Asked row₀ row₁ z n₁ store
+  pub low : Low store
+
 -- its tall cells, as the traceback wants them
 pub standing : {row : List ℕ} {z : Sizes} → RowAsked row z → Standing (deckIn row z) (z .talls) (posIn row)
 standing {row} r = record {
@@ -46,11 +51,11 @@ standing {row} r = record {
   back = back-either row;
 }
 
-pub stages-given : {row₀ row₁ st : List ℕ} {z : Sizes} {n₁ : ℕ} → Asked row₀ row₁ z n₁ st → Low st
+pub stages-given : {row₀ row₁ st : List ℕ} {z : Sizes} {n₁ : ℕ} → AskedLow row₀ row₁ z n₁ st
     → StagesGiven row₀ row₁ st z n₁
-stages-given w l = record {
-  given₀ = w .rows .first .given;
-  given₁ = w .rows .second .given;
-  long = w .long;
-  low = l;
+stages-given w = record {
+  given₀ = w .asked .rows .first .given;
+  given₁ = w .asked .rows .second .given;
+  long = w .asked .long;
+  low = w .low;
 }

@@ -1,10 +1,9 @@
 // The search of two rows of words: the stages, and the cheapest way through them traced back.
 ghost use mathlib.Core.Path.{_≡_};
 ghost use Prim.Native.Nat.{_≤_};
-ghost use Rattle.search_lanes.specs.Store.{Low};
 ghost use Rattle.search_stage.specs.Stage.{wide, StagesGiven};
 ghost use Rattle.search.specs.Words.{wordsFor};
-ghost use Rattle.search.specs.Rows.{Asked};
+ghost use Rattle.search.specs.Rows.{Asked, AskedLow};
 ghost use Rattle.search.specs.Found.{RowsFound, Costed, Answering, Answered};
 use search_row::Sizes;
 
@@ -39,7 +38,7 @@ fn note(out: &mut [u32], store: &mut [u32], row0: &[u32], row1: &[u32], sizes: S
 
 // What the tables of both rows come to.
 fn find(store: &mut [u32], row0: &[u32], row1: &[u32], sizes: Sizes, cells1: usize) -> Found
-    requires { ⌜ Asked (now row0) (now row1) sizes cells1 (now store) × Low (now store) ⌝ }
+    requires { ⌜ AskedLow (now row0) (now row1) sizes cells1 (now store) ⌝ }
     ensures { λ r. ⌜ RowsFound (now (row0 .entry)) (now (row1 .entry)) sizes cells1 (r .some) (r .cost) (r .poses) ⌝ }
 {
     let mut poses = [0u32; 64];

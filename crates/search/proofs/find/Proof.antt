@@ -8,7 +8,7 @@ use Rattle.search.proofs.find.Statement.{statement}
 use Rattle.search.proofs.find.Tie as tie
 
 least-cost-requires : tie.Need-least-cost-requires
-least-cost-requires c κs = let k = c .before .before .before .before in stages-given (k .pre .0) (k .pre .1)
+least-cost-requires c κs = let k = c .before .before .before .before in stages-given (k .pre)
 
 same-length : tie.Need-same-length
 same-length c = search needs
@@ -29,9 +29,9 @@ note-requires c κs =
     let mid₂ = mid .before .before .before .before in
     let k = mid₂ .before .before in
     let a = k .args in
-    let g = stages-given (k .pre .0) (k .pre .1) in
+    let g = stages-given (k .pre) in
     let t = traceable (a .row0 .now) (a .row1 .now) (a .sizes) (a .cells1) g (mid .before .least-cost .ensures) (omega arith) in
-    record { rows = k .pre .0 .rows; tables = t; room = omega arith; numbers = λ i. omega (arith, zeros-at 64 i) }
+    record { rows = k .pre .asked .rows; tables = t; room = omega arith; numbers = λ i. omega (arith, zeros-at 64 i) }
 
 same-length-2 : tie.Need-same-length-2
 same-length-2 c = search needs

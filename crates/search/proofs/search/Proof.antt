@@ -45,13 +45,14 @@ find-requires : tie.Need-find-requires
 find-requires c κs =
     let after-clear = c .before .before .before in
     let w = after-clear .before .before in
-    let e = after-clear .clear .ensures in (
-      record {
+    let e = after-clear .clear .ensures in
+    record {
+      asked = record {
         rows = w .before .before .before .before .pre .rows;
         long = omega (arith, w .store-words .ensures, again-long (words w) (lent w) (has-words w) e);
-      },
-      again-low (words w) (lent w) (has-words w) e,
-    )
+      };
+      low = again-low (words w) (lent w) (has-words w) e;
+    }
 
 same-length : tie.Need-same-length
 same-length c = search needs
