@@ -190,8 +190,28 @@ pub record TargetGiven (row : List ℕ) (z : Sizes) (i q : ℕ) : Type 0 where
   pub state : q < z .states
   pub early : i ≤ 100
 
+-- and state q of the layer with i cells, if it is one
+pub record SourceAsked (row : List ℕ) (z : Sizes) (i q₁ q : ℕ) : Type 0 where
+  pub target : TargetGiven row z i q₁
+  pub source : q < z .states
+
+-- tall cell i
+pub record TallAt (row : List ℕ) (i : ℕ) : Type 0 where
+  pub words : RowWords row
+  pub few : i < 32
+
+-- the cell at position m
+pub record CellAt (row : List ℕ) (m : ℕ) : Type 0 where
+  pub words : RowWords row
+  pub cell : m < 64
+
 -- the cell at position k in pose a
 pub record PoseAt (row : List ℕ) (k a : ℕ) : Type 0 where
   pub words : RowWords row
   pub cell : k < 64
   pub pose : a < 64
+
+-- two neighbours, the left one at position k in pose b, the right one at position m in pose a
+pub record NeighbourPoses (row : List ℕ) (k b m a : ℕ) : Type 0 where
+  pub left : PoseAt row k b
+  pub right : PoseAt row m a

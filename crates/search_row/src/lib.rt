@@ -2,14 +2,14 @@
 // The words' places stand in specs/Words.antt.
 ghost use mathlib.Core.Path.{_≡_};
 ghost use mathlib.Core.Bool.{cond};
-ghost use Prim.Native.Nat.{_+_, _*_, _<_};
+ghost use Prim.Native.Nat.{_<_};
 ghost use lib.ListN.{length, getD};
 ghost use lib.Dec.{eqb};
 ghost use Rattle.theory_tables.specs.Steps.{lastAt, isSource};
 ghost use Rattle.theory_tables.specs.Stages.{placedWith};
 ghost use Rattle.search_row.specs.Words.{siteIn, endIn, differIn, weightIn, tollIn, frontIn, backIn};
 ghost use Rattle.search_row.specs.Words.{deckIn, thereIn, posIn, withCells};
-ghost use Rattle.search_row.specs.Words.{RowWords, StateKnown, TargetGiven, PoseAt};
+ghost use Rattle.search_row.specs.Words.{StateKnown, SourceAsked, TallAt, CellAt, PoseAt, NeighbourPoses};
 
 // The words of a row: those of a cell; where the states begin, the tall cells' positions, and how many words there are.
 pub const CELL: usize = 128;
@@ -106,7 +106,7 @@ pub fn is_there(row: &[u32], sizes: Sizes, i: usize, q: usize) -> bool
 
 // Whether state q of the layer with i cells is a source of state q1 of the next.
 pub fn is_source(row: &[u32], sizes: Sizes, i: usize, q1: usize, q: usize) -> bool
-    requires { ⌜ TargetGiven (now row) sizes i q1 × (q < sizes .states) ⌝ }
+    requires { ⌜ SourceAsked (now row) sizes i q1 q ⌝ }
     ensures { λ t. ⌜ t ≡ isSource (deckIn (now (row .entry)) sizes) (sizes .reordering) i q1 q ⌝ }
 {
     if !is_there(row, sizes, i, q) {
@@ -144,7 +144,7 @@ fn unlike(x: u32, y: u32) -> u32
 
 // How many of the two heights differ where pose b of k has pose a of m on its right.
 pub fn differ(row: &[u32], k: usize, b: usize, m: usize, a: usize) -> u32
-    requires { ⌜ PoseAt (now row) k b × PoseAt (now row) m a ⌝ }
+    requires { ⌜ NeighbourPoses (now row) k b m a ⌝ }
     ensures { λ d. ⌜ d ≡ differIn (now (row .entry)) k b m a ⌝ }
 {
     let p = unlike(
@@ -160,7 +160,7 @@ pub fn differ(row: &[u32], k: usize, b: usize, m: usize, a: usize) -> u32
 
 // The weight of a step between the cell at position m and the cell on its left, by the gap between them.
 fn weight(row: &[u32], m: usize, gap: usize) -> u32
-    requires { ⌜ RowWords (now row) × (m < 64) ⌝ }
+    requires { ⌜ CellAt (now row) m ⌝ }
     ensures { λ w. ⌜ w ≡ weightIn (now (row .entry)) m gap ⌝ }
 {
     if gap == 0 {
@@ -171,7 +171,7 @@ fn weight(row: &[u32], m: usize, gap: usize) -> u32
 
 // What the two pay; NONE where they may not stand so.
 pub fn toll(row: &[u32], k: usize, b: usize, m: usize, a: usize) -> u32
-    requires { ⌜ PoseAt (now row) k b × PoseAt (now row) m a ⌝ }
+    requires { ⌜ NeighbourPoses (now row) k b m a ⌝ }
     ensures { λ t. ⌜ t ≡ tollIn (now (row .entry)) k b m a ⌝ }
 {
     let x = site(row, m, a);
@@ -210,7 +210,7 @@ pub fn back(row: &[u32], k: usize, a: usize) -> u32
 
 // The position of tall cell i, counted from 0.
 pub fn tall_at(row: &[u32], i: usize) -> usize
-    requires { ⌜ RowWords (now row) × (i < 32) ⌝ }
+    requires { ⌜ TallAt (now row) i ⌝ }
     ensures { λ p. ⌜ p ≡ posIn (now (row .entry)) i ⌝ }
 {
     word(row, TALLS + i)

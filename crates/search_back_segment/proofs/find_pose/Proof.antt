@@ -30,7 +30,7 @@ shared-slice-read-if1 : tie.Need-shared-slice-read-if1 Inv-loop μ-loop
 shared-slice-read-if1 c = search needs
 
 toll-requires : tie.Need-toll-requires Inv-loop μ-loop
-toll-requires c κs = (search needs, search needs)
+toll-requires c κs = record { left = search needs; right = search needs }
 
 add-if1-2 : tie.Need-add-if1-2 Inv-loop μ-loop
 add-if1-2 c =

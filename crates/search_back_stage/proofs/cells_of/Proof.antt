@@ -16,7 +16,7 @@ sub-tall-at c = search needs
 tall-at-requires : tie.Need-tall-at-requires
 tall-at-requires c κs =
     let k = c .before .before in
-    (k .pre .given .ground .words, omega (arith, k .pre .stage, k .pre .given .few))
+    record { words = k .pre .given .ground .words; few = omega (arith, k .pre .stage, k .pre .given .few) }
 
 placed-with-requires : tie.Need-placed-with-requires
 unfolding posIn

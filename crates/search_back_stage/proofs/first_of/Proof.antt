@@ -52,7 +52,7 @@ sub-tall-at c = search needs
 tall-at-requires : tie.Need-tall-at-requires
 tall-at-requires c κs =
     let g = c .before .before .before .pre .start in
-    (g .given .ground .words, omega (arith, g .given .few, g .stage))
+    record { words = g .given .ground .words; few = omega (arith, g .given .few, g .stage) }
 
 placed-with-requires : tie.Need-placed-with-requires
 unfolding posIn

@@ -46,7 +46,7 @@ tall-at-requires c κs =
     let mid = c .before .before .before .before in
     let mid₂ = mid .before .before .before .before in
     let g = mid₂ .before .before .before .pre .start .given in
-    (g .ground .words, omega (arith, g .few, c .if2 .taken))
+    record { words = g .ground .words; few = omega (arith, g .few, c .if2 .taken) }
 
 placed-with-requires : tie.Need-placed-with-requires
 unfolding posIn

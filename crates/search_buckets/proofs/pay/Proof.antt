@@ -31,7 +31,7 @@ sub-differ : tie.Need-sub-differ
 sub-differ c = search needs
 
 differ-requires : tie.Need-differ-requires
-differ-requires c κs = (search needs, search needs)
+differ-requires c κs = record { left = search needs; right = search needs }
 
 mul-result-3 : tie.Need-mul-result-3
 mul-result-3 c =
@@ -61,7 +61,7 @@ shared-slice-read-result-2 : tie.Need-shared-slice-read-result-2
 shared-slice-read-result-2 c = search needs
 
 differ-requires-2 : tie.Need-differ-requires-2
-differ-requires-2 c κs = (search needs, search needs)
+differ-requires-2 c κs = record { left = search needs; right = search needs }
 
 mul-result-6 : tie.Need-mul-result-6
 mul-result-6 c =

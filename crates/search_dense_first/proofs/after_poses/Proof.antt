@@ -33,7 +33,7 @@ shared-slice-read-least : tie.Need-shared-slice-read-least Inv-loop μ-loop
 shared-slice-read-least c = search needs
 
 toll-requires : tie.Need-toll-requires Inv-loop μ-loop
-toll-requires c κs = (search needs, search needs)
+toll-requires c κs = record { left = search needs; right = search needs }
 
 add-least-2 : tie.Need-add-least-2 Inv-loop μ-loop
 add-least-2 c =

@@ -33,12 +33,12 @@ inside : (c : tie.After-last-at) → c .last-at .result < 64
 inside c =
     let k = c .before .before .before .before in
     let a = k .args in
-    omega (arith, c .last-at .ensures, there-size (a .sizes .cells) (a .sizes .reordering) (a .i) (a .q) (there (c .before)), k .pre .0 .ground .size)
+    omega (arith, c .last-at .ensures, there-size (a .sizes .cells) (a .sizes .reordering) (a .i) (a .q) (there (c .before)), k .pre .target .ground .size)
 
 is-there-requires : tie.Need-is-there-requires
 is-there-requires c κs =
-    let g = c .before .pre .0 .ground in
-    record { words = g .coded; state = omega (arith, g .all); few = c .before .pre .0 .early }
+    let g = c .before .pre .target .ground in
+    record { words = g .coded; state = omega (arith, g .all); few = c .before .pre .target .early }
 
 returns : tie.Need-returns
 returns c =
@@ -47,8 +47,8 @@ returns c =
 last-at-requires : tie.Need-last-at-requires
 last-at-requires c κs =
     let k = c .before .before .before in
-    let g = k .pre .0 .ground in
-    record { words = g .coded; state = omega (arith, g .all); few = k .pre .0 .early }
+    let g = k .pre .target .ground in
+    record { words = g .coded; state = omega (arith, g .all); few = k .pre .target .early }
 
 mul-if2 : tie.Need-mul-if2
 mul-if2 c =
@@ -65,7 +65,7 @@ mul-if2-2 c =
 shared-slice-read-if2 : tie.Need-shared-slice-read-if2
 shared-slice-read-if2 c =
     let mid = c .before in
-    omega (arith, inside mid, mid .before .before .before .before .pre .0 .ground .words .long)
+    omega (arith, inside mid, mid .before .before .before .before .pre .target .ground .words .long)
 
 returns-2 : tie.Need-returns-2
 returns-2 c =
@@ -105,7 +105,7 @@ returns-3 c =
     let after-last-at = c .before .before .before .before in
     let k = after-last-at .before .before .before .before in
     let a = k .args in
-    let g = k .pre .0 .ground in
+    let g = k .pre .target .ground in
     let e = ap (λ (p : ℕ). eqb (wordOf (a .row .now) p tallWord) 1) (after-last-at .last-at .ensures) in
     ap₂ eqb (g .coded .mark (a .q) (omega (arith, g .all))) (g .coded .earlier (a .q1) (omega (arith, g .all)))
     ∙ single (thereIn (a .sizes .cells) (a .sizes .reordering) (a .i) (a .q)) (eqb (wordOf (a .row .now) (lastAt (a .sizes .reordering) (a .i) (a .q)) 67) 1)

@@ -69,7 +69,7 @@ mul-result c =
     let a = k .args in
     let d : c .differ .result ≤ 2 = omega (arith, c .differ .ensures, differ-low (a .row .now) (a .k) (a .b) (a .m) (a .a)) in
     let w : after-weight .weight .result ≤ 131072 =
-    omega (arith, after-weight .weight .ensures, weight-low (a .m) (after-end .before .site .result - after-end .end .result) (k .pre .0 .words)) in
+    omega (arith, after-weight .weight .ensures, weight-low (a .m) (after-end .before .site .result - after-end .end .result) (k .pre .left .words)) in
     omega (arith, pay-low w d)
 
 mul-result-2 : tie.Need-mul-result-2
@@ -81,7 +81,7 @@ mul-result-2 c =
     let d : c .differ .result ≤ 2 = omega (arith, c .differ .ensures, differ-low (a .row .now) (a .k) (a .b) (a .m) (a .a)) in
     let gap = after-site .site .result - after-charge-of .before .before .before .end .result in
     let w : c .before .weight .result ≤ 131072 = omega
-    (arith, c .before .weight .ensures, weight-low (a .m) gap (k .pre .0 .words)) in
+    (arith, c .before .weight .ensures, weight-low (a .m) gap (k .pre .left .words)) in
     let g : after-charge-of .charge-of .result ≤ 1 =
     omega (arith, after-charge-of .charge-of .ensures, charge-small (after-site .site .result - after-charge-of .before .before .before .end .result)) in
     omega (arith, charged-low g (pay-low w d))
