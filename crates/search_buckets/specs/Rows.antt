@@ -67,6 +67,11 @@ pub record Neighbours (row : List ℕ) (k m : ℕ) : Type 0 where
   pub left : k < 64
   pub right : m < 64
 
+-- the left one in pose b
+pub record SourcePose (row : List ℕ) (k b m : ℕ) : Type 0 where
+  pub cells : Neighbours row k m
+  pub pose : b < 64
+
 -- what variant u of the left one pays in bucket v of the right one is to be told
 pub record PayGiven (row : List ℕ) (k u m v : ℕ) : Type 0 where
   pub cells : Neighbours row k m
@@ -78,6 +83,11 @@ pub record PaysGiven (row : List ℕ) (k m buckets n : ℕ) (pays : List ℕ) : 
   pub cells : Neighbours row k m
   pub few : buckets ≤ 9
   pub before : Pays row k m buckets n pays
+
+-- the same for variant u, where the words of the variants before it are there
+pub record VariantPays (row : List ℕ) (k u m buckets : ℕ) (pays : List ℕ) : Type 0 where
+  pub given : PaysGiven row k m buckets (u * 9) pays
+  pub kind : u < 4
 
 -- a source of cost c in the buckets
 abbrev pub onePose : List ℕ → ℕ → ℕ → ℕ → ℕ → ℕ → ℕ → ℕ

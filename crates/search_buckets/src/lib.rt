@@ -5,7 +5,7 @@ ghost use mathlib.Core.Path.{_≡_};
 ghost use Prim.Native.Nat.{_+_, _*_, _≤_, _<_};
 ghost use Rattle.search_row.specs.Words.{RowWords};
 ghost use Rattle.search_buckets.specs.Rows.{rowsOf, bucketsIn, endRow, payIn};
-ghost use Rattle.search_buckets.specs.Rows.{Pays, Neighbours, PayGiven, PaysGiven};
+ghost use Rattle.search_buckets.specs.Rows.{Pays, SourcePose, PayGiven, PaysGiven, VariantPays};
 
 // A state that is a source of a target: where its words begin, the positions of its cell, on the left, and of the
 // target's, and how many buckets the target needs.
@@ -18,7 +18,7 @@ pub struct Source {
 
 // The row in which pose b of the cell at position k counts for the cell at position m.
 pub fn end_row(row: &[u32], k: usize, b: usize, m: usize) -> usize
-    requires { ⌜ Neighbours (now row) k m × (b < 64) ⌝ }
+    requires { ⌜ SourcePose (now row) k b m ⌝ }
     ensures { λ t. ⌜ t ≡ endRow (now (row .entry)) k b m ⌝ }
 {
     let y = search_row::end(row, k, b) + 4;
@@ -68,7 +68,7 @@ fn pay(row: &[u32], k: usize, u: usize, m: usize, v: usize) -> u32
 
 // What variant u pays in each of so many buckets, after the variants before it.
 fn pay_row(pays: &mut [u32; 36], row: &[u32], k: usize, u: usize, m: usize, buckets: usize)
-    requires { ⌜ PaysGiven (now row) k m buckets (u * 9) (now pays) × (u < 4) ⌝ }
+    requires { ⌜ VariantPays (now row) k u m buckets (now pays) ⌝ }
     ensures { λ _. ⌜ Pays (now (row .entry)) k m buckets (u * 9 + 9) (now (pays .exit)) ⌝ }
 {
     let mut v: usize = 0;

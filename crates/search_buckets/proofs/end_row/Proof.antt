@@ -14,7 +14,7 @@ add-y : tie.Need-add-y
 add-y c =
     let k = c .before .before in
     let a = k .args in
-    omega (arith, c .end .ensures, k .pre .0 .words .word (a .k * cellWords + 64), k .pre .0 .words .word (a .k * cellWords + (65 + a .b % 4 / 2)))
+    omega (arith, c .end .ensures, k .pre .cells .words .word (a .k * cellWords + 64), k .pre .cells .words .word (a .k * cellWords + (65 + a .b % 4 / 2)))
 
 mul-word : tie.Need-mul-word
 mul-word c = search needs

@@ -23,7 +23,7 @@ pay-row-requires : tie.Need-pay-row-requires Inv-loop μ-loop
 pay-row-requires c κs =
     let at-loop = c .before .before in
     let g = at-loop .before .before .pre in
-    (record { cells = g .cells; few = g .few; before = at-loop .loop .inv .1 }, omega arith)
+    record { given = record { cells = g .cells; few = g .few; before = at-loop .loop .inv .1 }; kind = omega arith }
 
 add-u : tie.Need-add-u Inv-loop μ-loop
 add-u c = search needs

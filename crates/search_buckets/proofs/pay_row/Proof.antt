@@ -20,12 +20,12 @@ loop-holds : tie.Need-loop-holds Inv-loop μ-loop
 loop-holds c =
     let k = c .before in
     let e : k .args .u * 9 + 0 ≡ k .args .u * 9 = omega arith in
-    (omega arith, rw e (k .pre .0 .before))
+    (omega arith, rw e (k .pre .given .before))
 
 pay-requires : tie.Need-pay-requires Inv-loop μ-loop
 pay-requires c κs =
     let k = c .before .before .before in
-    record { cells = k .pre .0 .cells; kind = k .pre .1; bucket = omega (arith, k .pre .0 .few) }
+    record { cells = k .pre .given .cells; kind = k .pre .kind; bucket = omega (arith, k .pre .given .few) }
 
 mul-pays : tie.Need-mul-pays Inv-loop μ-loop
 mul-pays c = search needs
