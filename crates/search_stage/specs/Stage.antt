@@ -163,7 +163,7 @@ pub record StartCosted (row : ℕ) (x : SegmentCosts) (I starts lanes ends poses
   pub kept : (k : ℕ) → pagesFrom ≤ k → OutsideCosts (costsAt row s) k → getD new k 0 ≡ getD old k 0
   pub right : SegmentCosted row x I starts lanes ends poses s old new
 
--- that of both rows for the start states below m; the case tables are kept
+-- that of both rows for the start states below m; the case tables are kept, and the table lent serves the next one
 pub record BothCosted (x₀ x₁ : SegmentCosts) (I starts lanes ends poses m : ℕ) (old new table : List ℕ) : Type 0 where
   pub long : length new ≡ length old
   pub low : Low new
@@ -174,7 +174,7 @@ pub record BothCosted (x₀ x₁ : SegmentCosts) (I starts lanes ends poses m : 
 
 -- ---- what a function of the stages is given
 
--- whether a case of table I goes by a lane from `low` to below `high`; and whether one does from start state s
+-- what is asked: whether a case of table I goes by a lane from `low` to below `high`; whether one does from state s
 pub record LanesAsked (starts low high I : ℕ) (st : List ℕ) : Type 0 where
   pub table : Table starts high I st
   pub order : low ≤ high

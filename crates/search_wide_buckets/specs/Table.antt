@@ -217,7 +217,7 @@ pub record LaneLooks (table : List ℕ) (a l buckets : ℕ) : Type 0 where
   pub looks : PoseLooks table a buckets
   pub inside : l < 64
 
--- its row is to be written, with the cell's own cost
+-- the row of pose a is to be written, with the cell's own cost
 pub record ToRow (st table : List ℕ) (at a own buckets lanes : ℕ) : Type 0 where
   pub looks : PoseLooks table a buckets
   pub cost : own ≤ B

@@ -46,7 +46,7 @@ pub record RunGiven (table row st : List ℕ) (z : Sizes) (lanes i : ℕ) : Type
   pub room : keptFrom ≤ length st
   pub left : i ≤ z .cells
 
--- a row, of which state q may have the last cell
+-- state q of a row, of whose cell is asked whether it can be the last
 pub record LastState (row : List ℕ) (z : Sizes) (q : ℕ) : Type 0 where
   pub ground : Ground row z
   pub state : q < z .states
@@ -62,7 +62,7 @@ pub record LeastGiven (acc row st : List ℕ) (z : Sizes) (lanes at : ℕ) : Typ
   pub least : LaneWords acc
 
 -- its state q, and the least so far
-pub record StateGiven (acc row st : List ℕ) (z : Sizes) (lanes at q : ℕ) : Type 0 where
+pub record LeastStateGiven (acc row st : List ℕ) (z : Sizes) (lanes at q : ℕ) : Type 0 where
   pub layer : LeastGiven acc row st z lanes at
   pub state : q < z .states
 

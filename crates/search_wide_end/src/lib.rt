@@ -4,7 +4,7 @@ ghost use Prim.Native.Nat.{_-_};
 ghost use Rattle.search_lanes.specs.Lanes.{Lowered};
 ghost use Rattle.search_lanes.specs.Store.{Written};
 ghost use Rattle.search_row.specs.Words.{deckIn};
-ghost use Rattle.search_wide_end.specs.Ends.{RunGiven, LastState, LastLayer, LeastGiven, StateGiven};
+ghost use Rattle.search_wide_end.specs.Ends.{RunGiven, LastState, LastLayer, LeastGiven, LeastStateGiven};
 ghost use Rattle.search_wide_end.specs.Ends.{PosesGiven, SegmentToEnd};
 ghost use Rattle.search_wide_end.specs.Ends.{endsWith, leastPosesIn, leastStateIn, leastStatesIn};
 ghost use Rattle.search_wide_end.specs.Ends.{endsIn, Ran, Ended};
@@ -90,7 +90,7 @@ fn least_state(
     at: usize,
     q: usize,
 )
-    requires { ⌜ StateGiven (now acc) (now row) (now store) sizes lanes at q ⌝ }
+    requires { ⌜ LeastStateGiven (now acc) (now row) (now store) sizes lanes at q ⌝ }
     ensures { λ _. ⌜ Lowered (leastStateIn (deckIn (now (row .entry)) sizes) (sizes .reordering)
         (now (store .entry)) at q) lanes (now (acc .entry)) (now (acc .exit)) ⌝ }
 {

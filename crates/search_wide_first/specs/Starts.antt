@@ -30,16 +30,16 @@ pub record Starting (table row : List ℕ) (p k rows buckets : ℕ) : Type 0 whe
   pub few : rows ≤ 19
   pub needed : FiveOrNine buckets
 
+-- the same in so many lanes
+pub record StartingLanes (table row : List ℕ) (p k rows buckets lanes : ℕ) : Type 0 where
+  pub starting : Starting table row p k rows buckets
+  pub narrow : lanes ≤ 64
+
 -- the same for lane l, what the start pays being known
 pub record StartingLane (table row pays : List ℕ) (p k rows buckets l : ℕ) : Type 0 where
   pub starting : Starting table row p k rows buckets
   pub paid : Pays row p k buckets 36 pays
   pub lane : l < 64
-
--- the same for so many lanes, before that is known
-pub record StartingLanes (table row : List ℕ) (p k rows buckets lanes : ℕ) : Type 0 where
-  pub starting : Starting table row p k rows buckets
-  pub narrow : lanes ≤ 64
 
 -- one lane's buckets are lowered, in the rows that count; the other lanes are as they were
 pub record Started (bucket : ℕ → ℕ → ℕ) (rows buckets lane : ℕ) (old new : List ℕ) : Type 0 where

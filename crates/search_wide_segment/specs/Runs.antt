@@ -54,27 +54,25 @@ pub record ToTall (row st : List ℕ) (z : Sizes) (lanes i tall costs : ℕ) : T
   pub early : i ≤ 100
   pub inside : tall < 64
 
--- those of its state q alone
-pub record StateToTall (row st : List ℕ) (z : Sizes) (lanes i tall costs q : ℕ) : Type 0 where
-  pub toTall : ToTall row st z lanes i tall costs
-  pub state : q < stateCount (z .reordering)
-
 -- the same from the layer with i cells, whose block begins at `from`
 pub record Delivering (row st : List ℕ) (z : Sizes) (lanes i tall from costs : ℕ) : Type 0 where
   pub toTall : ToTall row st z lanes i tall costs
   pub below : from ≤ layerBlock
-
--- those of its state q alone
-pub record StateDelivering (row st : List ℕ) (z : Sizes) (layer : Block) (tall costs q : ℕ) : Type 0 where
-  pub delivering : Delivering row st z (layer .lanes) (layer .cells) tall (layer .at) costs
-  pub state : q < stateCount (z .reordering)
 
 -- the same straight from the layer before the last
 pub record ToLast (table row st : List ℕ) (z : Sizes) (layer : Block) (tall costs : ℕ) : Type 0 where
   pub stepping : Stepping table row st z layer costs
   pub inside : tall < 64
 
--- those of its state q alone
+-- each of the three for state q alone
+pub record StateToTall (row st : List ℕ) (z : Sizes) (lanes i tall costs q : ℕ) : Type 0 where
+  pub toTall : ToTall row st z lanes i tall costs
+  pub state : q < stateCount (z .reordering)
+
+pub record StateDelivering (row st : List ℕ) (z : Sizes) (layer : Block) (tall costs q : ℕ) : Type 0 where
+  pub delivering : Delivering row st z (layer .lanes) (layer .cells) tall (layer .at) costs
+  pub state : q < stateCount (z .reordering)
+
 pub record StateToLast (table row st : List ℕ) (z : Sizes) (layer : Block) (tall costs q : ℕ) : Type 0 where
   pub toLast : ToLast table row st z layer tall costs
   pub state : q < z .states

@@ -23,7 +23,11 @@ loop-holds c = (omega arith, written-none _ _ (c .before .pre .low))
 found-lane-requires : tie.Need-found-lane-requires Inv-loop μ-loop
 found-lane-requires c κs =
     let k = c .before .before .before in
-    record { looks = k .pre .looks; inside = omega (arith, k .pre .narrow) }
+    let g = k .pre .looks in
+    record {
+      looks = record { lent = g .lent; pose = g .pose; least = omega (arith, g .least); most = omega (arith, g .most) };
+      inside = omega (arith, k .pre .narrow);
+    }
 
 add-lesser : tie.Need-add-lesser Inv-loop μ-loop
 add-lesser c =

@@ -18,7 +18,7 @@ open-to-requires c κs =
     record {
       ground = g .ground;
       room = k .pre .room;
-      cell = omega (arith, c .before .tall-at .ensures, g .inside 0 (after-if1 .if1 .taken), g .ground .size);
+      cell = omega (arith, c .before .tall-at .ensures, g .inside 0 (omega (arith, after-if1 .if1 .taken)), g .ground .size);
     }
 
 same-length : tie.Need-same-length
@@ -30,7 +30,7 @@ returns c =
     let after-tall-at = c .before .before .before .before in
     let after-if1 = after-tall-at .before in
     let a = after-if1 .before .before .before .before .args in
-    open-tall (deckIn (a .row .now) (a .sizes)) (a .sizes .reordering) (a .sizes .talls) (posIn (a .row .now)) (after-if1 .if1 .taken)
+    open-tall (deckIn (a .row .now) (a .sizes)) (a .sizes .reordering) (a .sizes .talls) (posIn (a .row .now)) (omega (arith, after-if1 .if1 .taken))
     (after-tall-at .tall-at .ensures) (c .before .before .open-to .ensures)
 
 open-end-requires : tie.Need-open-end-requires
