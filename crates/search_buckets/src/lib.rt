@@ -2,8 +2,8 @@
 // pays in each bucket, and which buckets are needed. Bucket 0 has the sources by themselves, buckets 1 to 4 with what
 // they pay at gap 0 to each variant of the target, buckets 5 to 8 with what they pay at the other gaps that pay.
 ghost use mathlib.Core.Path.{_≡_};
-ghost use Prim.Native.Nat.{_+_, _*_, _≤_, _<_};
-ghost use Rattle.search_row.specs.Words.{RowWords};
+ghost use Prim.Native.Nat.{_+_, _*_, _≤_};
+ghost use Rattle.search_row.specs.Words.{CellAt};
 ghost use Rattle.search_buckets.specs.Rows.{rowsOf, bucketsIn, endRow, payIn};
 ghost use Rattle.search_buckets.specs.Rows.{Pays, SourcePose, PayGiven, PaysGiven, VariantPays};
 
@@ -40,7 +40,7 @@ pub fn rows_of(poses: usize) -> usize
 // How many buckets the cell at position m needs: where all gaps that pay have
 // one weight, those of gap 0 serve them all.
 pub fn buckets_of(row: &[u32], m: usize) -> usize
-    requires { ⌜ RowWords (now row) × (m < 64) ⌝ }
+    requires { ⌜ CellAt (now row) m ⌝ }
     ensures { λ buckets. ⌜ buckets ≡ bucketsIn (now (row .entry)) m ⌝ }
 {
     if row[m * search_row::CELL + search_row::TOUCHING]

@@ -37,6 +37,11 @@ pub record OpenRoom (st : List ℕ) (R poses count costs : ℕ) : Type 0 where
   pub over : pagesFrom ≤ costs
   pub room : costs + layerBlock ≤ length st
 
+-- a row, and room for the costs to its end
+pub record OpenToEnd (row st : List ℕ) (z : Sizes) (costs : ℕ) : Type 0 where
+  pub ground : Ground row z
+  pub room : OpenRoom st (z .reordering) (z .poses) (z .states) costs
+
 -- a row, and room for the costs to its tall cell at position `tall`
 pub record OpenToTall (row st : List ℕ) (z : Sizes) (tall costs : ℕ) : Type 0 where
   pub ground : Ground row z

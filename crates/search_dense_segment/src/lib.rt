@@ -3,12 +3,12 @@ ghost use mathlib.Core.Path.{_≡_};
 ghost use Prim.Native.Nat.{_+_, _*_};
 ghost use Rattle.search_buckets.specs.Ends.{leastPoses, leastState, leastStates};
 ghost use Rattle.search_lanes.specs.Store.{WrittenRows, FilledState, Filled};
-ghost use Rattle.search_row.specs.Words.{backIn, deckIn, Ground};
+ghost use Rattle.search_row.specs.Words.{backIn, deckIn};
 ghost use Rattle.search_dense_first.specs.Begun.{PosesGiven, LayerGiven, DenseState};
 ghost use Rattle.search_dense_layer.specs.Thin.{thinIn};
 ghost use Rattle.search_dense_layer.specs.Kept.{Segment};
-ghost use Rattle.search_dense_segment.specs.Opened.{spreadFrom, comesIn, tallCost, endCost, OpenRoom};
-ghost use Rattle.search_dense_segment.specs.Opened.{OpenToTall, OpenToState, SpreadRoom, OpenKept, Opened};
+ghost use Rattle.search_dense_segment.specs.Opened.{spreadFrom, comesIn, tallCost, endCost};
+ghost use Rattle.search_dense_segment.specs.Opened.{OpenToEnd, OpenToTall, OpenToState, SpreadRoom, OpenKept, Opened};
 use search_row::Sizes;
 
 // The layers from the row's start up to layer `end`, each in its place.
@@ -131,8 +131,7 @@ fn least_states(store: &[u32], row: &[u32], sizes: Sizes, at: usize) -> u32
 
 // The cost from the row's start to its end, to the word at `costs`; nothing is paid where there is no cell.
 pub fn open_end(store: &mut [u32], row: &[u32], sizes: Sizes, costs: usize)
-    requires { ⌜ Ground (now row) sizes
-        × OpenRoom (now store) (sizes .reordering) (sizes .poses) (sizes .states) costs ⌝ }
+    requires { ⌜ OpenToEnd (now row) (now store) sizes costs ⌝ }
     ensures { λ _. ⌜ Opened (endCost (deckIn (now (row .entry)) sizes) (sizes .reordering)) 1 1 costs
         (now (store .entry)) (now (store .exit)) ⌝ }
 {

@@ -27,6 +27,28 @@ pub record StoreRows (st : List ℕ) (at rows lanes : ℕ) : Type 0 where
   pub narrow : lanes ≤ 64
   pub low : Low st
 
+-- the same, with a word that is to stand in all of them, or words below them that are to stand there
+pub record WordsToFill (st : List ℕ) (at count x : ℕ) : Type 0 where
+  pub words : StoreWords st at count
+  pub word : x ≤ B
+
+pub record WordsToCopy (st : List ℕ) (from at count : ℕ) : Type 0 where
+  pub words : StoreWords st at count
+  pub apart : from + count ≤ at
+
+pub record RowsToFill (st : List ℕ) (at rows lanes x : ℕ) : Type 0 where
+  pub words : StoreRows st at rows lanes
+  pub word : x ≤ B
+
+pub record RowsToCopy (st : List ℕ) (from at rows lanes : ℕ) : Type 0 where
+  pub words : StoreRows st at rows lanes
+  pub apart : from + rows * 64 ≤ at
+
+-- two words below 2^31
+pub record SignedWords (x y : ℕ) : Type 0 where
+  pub first : x ≤ B + B
+  pub second : y ≤ B + B
+
 -- the words from `at` on, so many of them, are f's; nothing else changed
 pub record Written (f : ℕ → ℕ) (at count : ℕ) (old new : List ℕ) : Type 0 where
   pub frame : Frame at (at + count) old new

@@ -2,10 +2,10 @@
 ghost use mathlib.Core.Path.{_≡_};
 ghost use Prim.Native.Nat.{ℕ, _+_, _*_, _≤_, _<_, min};
 ghost use lib.ListN.{length, getD, replicate};
-ghost use Rattle.theory_tables.specs.Steps.{B};
 ghost use Rattle.search_lanes.specs.Lanes.{LaneRow, Lowered, charged, withOwn};
 ghost use Rattle.search_lanes.specs.Lanes.{always, wordsFrom, alwaysRows, rowsFrom};
-ghost use Rattle.search_lanes.specs.Store.{StoreWords, StoreRows, Written, WrittenRows};
+ghost use Rattle.search_lanes.specs.Store.{Written, WrittenRows, SignedWords};
+ghost use Rattle.search_lanes.specs.Store.{WordsToFill, WordsToCopy, RowsToFill, RowsToCopy};
 
 // There is no way: every cost is below.
 pub const NONE: u32 = 268435456;
@@ -18,7 +18,7 @@ pub fn least(x: u32, y: u32) -> u32
 
 // The same for words below 2^31: compared as signed numbers, four lanes at a time take fewer steps.
 pub fn lesser(x: u32, y: u32) -> u32
-    requires { ⌜ (x ≤ 536870912) × (y ≤ 536870912) ⌝ }
+    requires { ⌜ SignedWords x y ⌝ }
     ensures { λ r. ⌜ r ≡ min x y ⌝ }
 {
     if (x as i32) < (y as i32) { x } else { y }
@@ -64,7 +64,7 @@ pub fn put(store: &mut [u32], at: usize, acc: &[u32; 64], own: u32, lanes: usize
 
 // The same word, so many times.
 pub fn fill(store: &mut [u32], at: usize, count: usize, x: u32)
-    requires { ⌜ StoreWords (now store) at count × (x ≤ B) ⌝ }
+    requires { ⌜ WordsToFill (now store) at count x ⌝ }
     ensures { λ _. ⌜ Written (always x) at count (now (store .entry)) (now (store .exit)) ⌝ }
 {
     let mut k: usize = 0;
@@ -76,7 +76,7 @@ pub fn fill(store: &mut [u32], at: usize, count: usize, x: u32)
 
 // Words from one part of the store to another that does not overlap it.
 pub fn copy(store: &mut [u32], from: usize, at: usize, count: usize)
-    requires { ⌜ StoreWords (now store) at count × (from + count ≤ at) ⌝ }
+    requires { ⌜ WordsToCopy (now store) from at count ⌝ }
     ensures { λ _. ⌜ Written (wordsFrom (now (store .entry)) from) at count (now (store .entry)) (now (store .exit)) ⌝ }
 {
     let mut k: usize = 0;
@@ -88,7 +88,7 @@ pub fn copy(store: &mut [u32], from: usize, at: usize, count: usize)
 
 // The same word in the first lanes of so many rows of 64 words.
 pub fn fill_rows(store: &mut [u32], at: usize, rows: usize, lanes: usize, x: u32)
-    requires { ⌜ StoreRows (now store) at rows lanes × (x ≤ B) ⌝ }
+    requires { ⌜ RowsToFill (now store) at rows lanes x ⌝ }
     ensures { λ _. ⌜ WrittenRows (alwaysRows x) at rows lanes (now (store .entry)) (now (store .exit)) ⌝ }
 {
     let mut a: usize = 0;
@@ -100,7 +100,7 @@ pub fn fill_rows(store: &mut [u32], at: usize, rows: usize, lanes: usize, x: u32
 
 // The first lanes of so many rows from one part of the store to another that does not overlap it.
 pub fn copy_rows(store: &mut [u32], from: usize, at: usize, rows: usize, lanes: usize)
-    requires { ⌜ StoreRows (now store) at rows lanes × (from + rows * 64 ≤ at) ⌝ }
+    requires { ⌜ RowsToCopy (now store) from at rows lanes ⌝ }
     ensures { λ _. ⌜ WrittenRows (rowsFrom (now (store .entry)) from) at rows lanes (now (store .entry))
         (now (store .exit)) ⌝ }
 {

@@ -48,7 +48,7 @@ starts-requires c κs =
     record { words = g .coded; state = omega (arith, g .all); few = omega (arith, k .pre .placed) }
 
 fill-requires : tie.Need-fill-requires
-fill-requires c κs = (search needs, search needs)
+fill-requires c κs = record { words = search needs; word = search needs }
 
 same-length : tie.Need-same-length
 same-length c = search needs

@@ -39,7 +39,7 @@ starts-requires : tie.Need-starts-requires
 starts-requires c κs = search needs
 
 fill-requires : tie.Need-fill-requires
-fill-requires c κs = (search needs, search needs)
+fill-requires c κs = record { words = search needs; word = search needs }
 
 same-length : tie.Need-same-length
 same-length c = search needs

@@ -39,7 +39,10 @@ lesser-requires : tie.Need-lesser-requires
 lesser-requires c κs =
     let k = c .before .before in
     let a = k .args in
-    (omega (arith, k .pre .arrays .apartLow .word ((a .e + 2) * 4 + a .v)), omega (arith, k .pre .arrays .apartLow .word ((a .e + 1) * 4 + a .v)))
+    record {
+      first = omega (arith, k .pre .arrays .apartLow .word ((a .e + 2) * 4 + a .v));
+      second = omega (arith, k .pre .arrays .apartLow .word ((a .e + 1) * 4 + a .v));
+    }
 
 add-lesser-5 : tie.Need-add-lesser-5
 add-lesser-5 c = search needs
@@ -59,10 +62,11 @@ element-copy-out-lesser-3 c = search needs
 lesser-requires-2 : tie.Need-lesser-requires-2
 lesser-requires-2 c κs =
     let k = c .before .before .before .before in
-    let a = k .args in (
-      omega (arith, k .pre .arrays .nearLow .word ((a .e + 4) * 4 + a .v)),
-      omega (arith, c .before .lesser .ensures, k .pre .arrays .apartLow .word ((a .e + 2) * 4 + a .v)),
-    )
+    let a = k .args in
+    record {
+      first = omega (arith, k .pre .arrays .nearLow .word ((a .e + 4) * 4 + a .v));
+      second = omega (arith, c .before .lesser .ensures, k .pre .arrays .apartLow .word ((a .e + 2) * 4 + a .v));
+    }
 
 mul-lesser-7 : tie.Need-mul-lesser-7
 mul-lesser-7 c = search needs
@@ -75,7 +79,10 @@ lesser-requires-3 c κs =
     let mid = c .before .before .before .before in
     let k = mid .before .before in
     let a = k .args in
-    (omega (arith, c .before .lesser2 .ensures, k .pre .arrays .nearLow .word ((a .e + 4) * 4 + a .v)), omega (arith, k .pre .arrays .farLow .word (a .e)))
+    record {
+      first = omega (arith, c .before .lesser2 .ensures, k .pre .arrays .nearLow .word ((a .e + 4) * 4 + a .v));
+      second = omega (arith, k .pre .arrays .farLow .word (a .e));
+    }
 
 returns : tie.Need-returns
 returns c = omega (arith, c .lesser3 .ensures, c .before .before .lesser2 .ensures, c .before .before .before .before .lesser .ensures)

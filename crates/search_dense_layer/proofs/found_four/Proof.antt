@@ -58,7 +58,10 @@ lesser-requires c κs =
     let k = at-loop .before .before in
     let a = k .args in
     let l = at-loop .loop in
-    (omega (arith, c .found .ensures, k .pre .arrays .farLow .word (a .e), k .pre .words .word (a .k * cellWords + (a .e * 4 + l .v))), omega arith)
+    record {
+      first = omega (arith, c .found .ensures, k .pre .arrays .farLow .word (a .e), k .pre .words .word (a .k * cellWords + (a .e * 4 + l .v)));
+      second = omega arith;
+    }
 
 mul-words : tie.Need-mul-words Inv-loop μ-loop
 mul-words c = search needs

@@ -98,7 +98,7 @@ buckets-of-requires : tie.Need-buckets-of-requires
 buckets-of-requires c κs =
     let mid₂ = c .before .before .before .before in
     let mid = mid₂ .before in
-    (mid .before .before .pre .gathering .sought .given .ground .words, right c)
+    record { words = mid .before .before .pre .gathering .sought .given .ground .words; cell = right c }
 
 fill-pays-requires : tie.Need-fill-pays-requires
 fill-pays-requires c κs =

@@ -51,7 +51,10 @@ lesser-requires c κs =
     let k = c .before .before .before .before in
     let l = c .before .before .before .loop in
     let j = k .args .t * 4 + l .v in
-    (omega (arith, l .inv .1 .rest j (omega arith), k .pre .low .word j), omega (arith, k .pre .cost, k .pre .paid (l .v) (omega arith)))
+    record {
+      first = omega (arith, l .inv .1 .rest j (omega arith), k .pre .low .word j);
+      second = omega (arith, k .pre .cost, k .pre .paid (l .v) (omega arith));
+    }
 
 mul-words : tie.Need-mul-words Inv-loop μ-loop
 mul-words c = search needs

@@ -33,7 +33,7 @@ fill-requires c κs =
     let mid = mid₂ .before .before in
     let k = mid .before in
     let g = k .pre .given in
-    (record { room = omega (arith, g .room, g .ground .all, g .ground .coded .few); low = g .low }, omega arith)
+    record { words = record { room = omega (arith, g .room, g .ground .all, g .ground .coded .few); low = g .low }; word = omega arith }
 
 same-length : tie.Need-same-length
 same-length c = search needs

@@ -35,7 +35,7 @@ element-copy-out-lesser-2 c = search needs
 lesser-requires : tie.Need-lesser-requires Inv-loop μ-loop
 lesser-requires c κs =
     let l = c .before .before .before .loop in
-    (omega (arith, l .inv .1 .low .word (l .t + 1)), omega (arith, l .inv .1 .low .word (l .t)))
+    record { first = omega (arith, l .inv .1 .low .word (l .t + 1)); second = omega (arith, l .inv .1 .low .word (l .t)) }
 
 add-far : tie.Need-add-far Inv-loop μ-loop
 add-far c = search needs

@@ -16,7 +16,7 @@ element-copy-out-lesser c = search needs
 lesser-requires : tie.Need-lesser-requires
 lesser-requires c κs =
     let k = c .before in
-    (omega (arith, k .pre .arrays .farLow .word (k .args .t)), omega (arith, k .pre .cost))
+    record { first = omega (arith, k .pre .arrays .farLow .word (k .args .t)); second = omega (arith, k .pre .cost) }
 
 mul-far : tie.Need-mul-far
 mul-far c = search needs

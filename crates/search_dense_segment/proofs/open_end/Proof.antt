@@ -19,7 +19,7 @@ returns : tie.Need-returns
 returns c =
     let k = c .before .before .before .before in
     let a = k .args in
-    let g = k .pre .1 in
+    let g = k .pre .room in
     opened-none (deckIn (a .row .now) (a .sizes)) (a .sizes .reordering) (a .costs) (c .if1 .taken) (g .over) (omega (arith, g .room)) (g .low)
 
 run-open-requires : tie.Need-run-open-requires
@@ -47,7 +47,7 @@ returns-2 c =
     let after-if1 = after-run-open .before .before in
     let k = after-if1 .before .before .before .before in
     let a = k .args in
-    let g = k .pre .1 in
+    let g = k .pre .room in
     opened-end (deckIn (a .row .now) (a .sizes)) (a .sizes .reordering) (a .costs) (c .least-states .result) (after-kept-at .kept-at .result)
     (omega (arith, after-if1 .if1 .left)) (g .over) (omega (arith, g .room)) (g .all) (after-kept-at .kept-at .ensures) (after-run-open .run-open .ensures)
     (c .least-states .ensures)

@@ -31,7 +31,7 @@ fill-requires c κs =
     let at-loop = c .before .before .before in
     let k = at-loop .before .before in
     let w = at-loop .loop .inv .1 in
-    (record { room = omega (arith, c .case-at .ensures, k .pre .long, w .long); low = w .fits }, omega arith)
+    record { words = record { room = omega (arith, c .case-at .ensures, k .pre .long, w .long); low = w .fits }; word = omega arith }
 
 add-t : tie.Need-add-t Inv-loop μ-loop
 add-t c = search needs

@@ -23,7 +23,7 @@ mul-fill c = let w = c .before .before .pre .given .table .states in omega arith
 fill-requires : tie.Need-fill-requires Inv-loop μ-loop
 fill-requires c κs =
     let k = c .before .before in
-    (record { room = omega (arith, k .pre .given .table .states, k .pre .room .long); low = k .pre .room .low }, omega arith)
+    record { words = record { room = omega (arith, k .pre .given .table .states, k .pre .room .long); low = k .pre .room .low }; word = omega arith }
 
 loop-holds : tie.Need-loop-holds Inv-loop μ-loop
 loop-holds c =

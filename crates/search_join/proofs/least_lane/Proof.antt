@@ -51,10 +51,11 @@ lesser-requires c κs =
     let at-loop = c .before .before .before in
     let k = at-loop .before .before in
     let a = k .args in
-    let l = at-loop .loop in (
-      omega (arith, lowest-low B (laneSum (a .sums .now) (a .at) (a .store .now) (a .p1)) (from 0 (l .l))),
-      omega (arith, k .pre .room .low .word (a .at + l .l), k .pre .low .word (a .p1 + l .l)),
-    )
+    let l = at-loop .loop in
+    record {
+      first = omega (arith, lowest-low B (laneSum (a .sums .now) (a .at) (a .store .now) (a .p1)) (from 0 (l .l)));
+      second = omega (arith, k .pre .room .low .word (a .at + l .l), k .pre .low .word (a .p1 + l .l));
+    }
 
 add-l : tie.Need-add-l Inv-loop μ-loop
 add-l c = search needs

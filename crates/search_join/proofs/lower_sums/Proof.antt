@@ -70,10 +70,11 @@ lesser-requires c κs =
     let at-loop = c .before .before .before .before in
     let k = at-loop .before .before .before .before in
     let l = at-loop .loop in
-    let w = k .pre .given .table .low .word in (
-      omega (arith, lowered-at-low (l .inv .1) (k .pre .room .low) .word (k .args .t * 64 + l .l)),
-      omega (arith, w (at-loop .before .before .case-at .result + l .l), w (at-loop .before .cost-at .result + l .l)),
-    )
+    let w = k .pre .given .table .low .word in
+    record {
+      first = omega (arith, lowered-at-low (l .inv .1) (k .pre .room .low) .word (k .args .t * 64 + l .l));
+      second = omega (arith, w (at-loop .before .before .case-at .result + l .l), w (at-loop .before .cost-at .result + l .l));
+    }
 
 add-sums : tie.Need-add-sums Inv-loop μ-loop
 add-sums c = search needs

@@ -19,7 +19,7 @@ abbrev μ-loop : tie.MeasureT-loop
 
 loop-holds : tie.Need-loop-holds Inv-loop μ-loop
 loop-holds c =
-    (omega arith, rows-none _ _ _ (c .before .pre .0 .low))
+    (omega arith, rows-none _ _ _ (c .before .pre .words .low))
 
 mul-copy : tie.Need-mul-copy Inv-loop μ-loop
 mul-copy c = search needs
@@ -36,7 +36,7 @@ add-copy-2 c = search needs
 copy-requires : tie.Need-copy-requires Inv-loop μ-loop
 copy-requires c κs =
     let s = c .before .before .loop .inv .1 in
-    (record { room = omega (arith, s .frame .long); low = s .low }, omega arith)
+    record { words = record { room = omega (arith, s .frame .long); low = s .low }; apart = omega arith }
 
 add-a : tie.Need-add-a Inv-loop μ-loop
 add-a c = search needs

@@ -19,7 +19,7 @@ abbrev μ-loop : tie.MeasureT-loop
 
 loop-holds : tie.Need-loop-holds Inv-loop μ-loop
 loop-holds c =
-    (omega arith, rows-none _ _ _ (c .before .pre .0 .low))
+    (omega arith, rows-none _ _ _ (c .before .pre .words .low))
 
 mul-fill : tie.Need-mul-fill Inv-loop μ-loop
 mul-fill c = search needs
@@ -30,7 +30,7 @@ add-fill c = search needs
 fill-requires : tie.Need-fill-requires Inv-loop μ-loop
 fill-requires c κs =
     let s = c .before .before .loop .inv .1 in
-    (record { room = omega (arith, s .frame .long); low = s .low }, omega arith)
+    record { words = record { room = omega (arith, s .frame .long); low = s .low }; word = omega arith }
 
 add-a : tie.Need-add-a Inv-loop μ-loop
 add-a c = search needs

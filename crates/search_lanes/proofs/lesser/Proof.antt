@@ -24,12 +24,12 @@ cast-if1-2 c = search needs
 returns : tie.Need-returns
 returns c =
     let k = c .before in
-    omega (arith, ltb-true (k .args .x) (k .args .y) (signed (k .args .x) (k .args .y) (k .pre .0) (k .pre .1) ∙ c .if1 .taken))
+    omega (arith, ltb-true (k .args .x) (k .args .y) (signed (k .args .x) (k .args .y) (k .pre .first) (k .pre .second) ∙ c .if1 .taken))
 
 returns-2 : tie.Need-returns-2
 returns-2 c =
     let k = c .before in
-    omega (arith, ltb-false (k .args .x) (k .args .y) (signed (k .args .x) (k .args .y) (k .pre .0) (k .pre .1) ∙ c .if1 .left))
+    omega (arith, ltb-false (k .args .x) (k .args .y) (signed (k .args .x) (k .args .y) (k .pre .first) (k .pre .second) ∙ c .if1 .left))
 
 pub lesser-spec : {M : Type 1} → statement M
 lesser-spec = tie.close (tie.spec cast-if1 cast-if1-2 returns returns-2)

@@ -20,7 +20,7 @@ counted : (s : tie.Start Inv-loop μ-loop) → length (jobOf (s .args .t2) .cell
 counted s = s .pre .accepted .many
 
 fill-requires : tie.Need-fill-requires Inv-loop μ-loop
-fill-requires c κs = (record { room = omega arith; low = c .before .before .pre .low }, omega arith)
+fill-requires c κs = record { words = record { room = omega arith; low = c .before .before .pre .low }; word = omega arith }
 
 loop-holds : tie.Need-loop-holds Inv-loop μ-loop
 loop-holds c =

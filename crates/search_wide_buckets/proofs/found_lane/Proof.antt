@@ -65,7 +65,10 @@ element-copy-out-lesser-2 c = search needs
 lesser-requires : tie.Need-lesser-requires
 lesser-requires c κs =
     let k = c .before .before in
-    (omega (arith, k .pre .looks .lent .low .word (other k + 128)), omega (arith, k .pre .looks .lent .low .word (other k + 64)))
+    record {
+      first = omega (arith, k .pre .looks .lent .low .word (other k + 128));
+      second = omega (arith, k .pre .looks .lent .low .word (other k + 64));
+    }
 
 add-lesser-3 : tie.Need-add-lesser-3
 add-lesser-3 c = search needs
@@ -79,7 +82,10 @@ element-copy-out-lesser-3 c = search needs
 lesser-requires-2 : tie.Need-lesser-requires-2
 lesser-requires-2 c κs =
     let k = c .before .before .before .before in
-    (omega (arith, k .pre .looks .lent .low .word (near k + 256)), omega (arith, c .before .lesser .ensures, k .pre .looks .lent .low .word (other k + 64)))
+    record {
+      first = omega (arith, k .pre .looks .lent .low .word (near k + 256));
+      second = omega (arith, c .before .lesser .ensures, k .pre .looks .lent .low .word (other k + 64));
+    }
 
 mul-lesser-4 : tie.Need-mul-lesser-4
 mul-lesser-4 c = search needs
@@ -91,7 +97,10 @@ lesser-requires-3 : tie.Need-lesser-requires-3
 lesser-requires-3 c κs =
     let mid = c .before .before .before .before in
     let k = mid .before .before in
-    (omega (arith, c .before .lesser2 .ensures, k .pre .looks .lent .low .word (near k + 256)), omega (arith, k .pre .looks .lent .low .word (far k)))
+    record {
+      first = omega (arith, c .before .lesser2 .ensures, k .pre .looks .lent .low .word (near k + 256));
+      second = omega (arith, k .pre .looks .lent .low .word (far k));
+    }
 
 returns : tie.Need-returns
 returns c =

@@ -41,10 +41,11 @@ lesser-requires c κs =
     let k = c .before .before .before .before in
     let l = c .before .before .before .loop in
     let i = k .args .to + l .l in
-    let j = k .args .from + l .l in (
-      omega (arith, l .inv .1 .frame .high i (omega arith), k .pre .lent .low .word i),
-      omega (arith, l .inv .1 .frame .low j (omega arith), k .pre .lent .low .word j),
-    )
+    let j = k .args .from + l .l in
+    record {
+      first = omega (arith, l .inv .1 .frame .high i (omega arith), k .pre .lent .low .word i);
+      second = omega (arith, l .inv .1 .frame .low j (omega arith), k .pre .lent .low .word j);
+    }
 
 add-table : tie.Need-add-table Inv-loop μ-loop
 add-table c = search needs

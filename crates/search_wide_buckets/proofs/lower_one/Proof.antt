@@ -15,7 +15,7 @@ element-copy-out-lesser c = search needs
 lesser-requires : tie.Need-lesser-requires
 lesser-requires c κs =
     let k = c .before in
-    (omega (arith, k .pre .lent .low .word (k .args .to)), k .pre .cost)
+    record { first = omega (arith, k .pre .lent .low .word (k .args .to)); second = k .pre .cost }
 
 mul-table : tie.Need-mul-table
 mul-table c = search needs

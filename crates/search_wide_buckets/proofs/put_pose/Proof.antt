@@ -18,7 +18,7 @@ shared-slice-read-own : tie.Need-shared-slice-read-own
 shared-slice-read-own c = search needs
 
 fill-requires : tie.Need-fill-requires
-fill-requires c κs = (search needs, search needs)
+fill-requires c κs = record { words = search needs; word = search needs }
 
 same-length : tie.Need-same-length
 same-length c = search needs

@@ -37,7 +37,10 @@ add-lesser c =
 lesser-requires : tie.Need-lesser-requires Inv-loop μ-loop
 lesser-requires c κs =
     let k = c .before .before .before .before in
-    (omega (arith, c .found-lane .ensures, found-small (k .args .buckets) (k .args .a) (c .before .before .loop .l) (k .pre .looks .lent .low)), omega arith)
+    record {
+      first = omega (arith, c .found-lane .ensures, found-small (k .args .buckets) (k .args .a) (c .before .before .loop .l) (k .pre .looks .lent .low));
+      second = omega arith;
+    }
 
 add-store : tie.Need-add-store Inv-loop μ-loop
 add-store c = search needs

@@ -31,7 +31,7 @@ fill-rows-requires : tie.Need-fill-rows-requires Inv-loop μ-loop
 fill-rows-requires c κs =
     let l = c .before .before .loop in
     let n = c .before .before .before .before .pre .tableFor .narrow in
-    (record { room = omega (arith, l .inv .2 .long); narrow = n; low = l .inv .2 .low }, omega arith)
+    record { words = record { room = omega (arith, l .inv .2 .long); narrow = n; low = l .inv .2 .low }; word = omega arith }
 
 add-v : tie.Need-add-v Inv-loop μ-loop
 add-v c = search needs

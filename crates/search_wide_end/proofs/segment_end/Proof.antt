@@ -19,7 +19,7 @@ add-if1 : tie.Need-add-if1
 add-if1 c = search needs
 
 fill-requires : tie.Need-fill-requires
-fill-requires c κs = (search needs, search needs)
+fill-requires c κs = record { words = search needs; word = search needs }
 
 same-length : tie.Need-same-length
 same-length c = search needs

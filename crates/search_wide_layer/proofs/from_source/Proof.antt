@@ -94,7 +94,7 @@ last-at-requires-2 : tie.Need-last-at-requires-2
 last-at-requires-2 c κs = search needs
 
 buckets-of-requires : tie.Need-buckets-of-requires
-buckets-of-requires c κs = (start c .pre .gathering .given .ground .words, right c)
+buckets-of-requires c κs = record { words = start c .pre .gathering .given .ground .words; cell = right c }
 
 fill-pays-requires : tie.Need-fill-pays-requires
 fill-pays-requires c κs =

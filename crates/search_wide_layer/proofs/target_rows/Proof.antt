@@ -163,7 +163,7 @@ has-source-requires : tie.Need-has-source-requires
 has-source-requires c κs = search needs
 
 fill-rows-requires : tie.Need-fill-rows-requires
-fill-rows-requires c κs = (search needs, search needs)
+fill-rows-requires c κs = record { words = search needs; word = search needs }
 
 same-length : tie.Need-same-length
 same-length c = search needs
@@ -191,7 +191,7 @@ last-at-requires : tie.Need-last-at-requires
 last-at-requires c κs = search needs
 
 buckets-of-requires : tie.Need-buckets-of-requires
-buckets-of-requires c κs = (start c .pre .stepping .given .ground .words, inside c)
+buckets-of-requires c κs = record { words = start c .pre .stepping .given .ground .words; cell = inside c }
 
 poses-of-requires : tie.Need-poses-of-requires
 poses-of-requires c κs =
@@ -227,7 +227,7 @@ fill-rows-requires-2 : tie.Need-fill-rows-requires-2
 fill-rows-requires-2 c κs =
     let k = start (known (c .before .before) .before .before) in
     let g = k .pre .stepping .given in
-    (record { room = room k; narrow = g .narrow; low = g .low }, omega arith)
+    record { words = record { room = room k; narrow = g .narrow; low = g .low }; word = omega arith }
 
 same-length-2 : tie.Need-same-length-2
 same-length-2 c = search needs
@@ -264,7 +264,7 @@ put-rows-requires c κs =
     let t = table after-run-up in
     let h = needed (p .before) in
     record {
-      rows = record {
+      words = record {
         words = g .ground .words;
         low = g .low;
         tableLow = t .low;
@@ -301,14 +301,11 @@ fill-rows-requires-3 c κs =
     let after-put-rows = c .before .before .before .before in
     let p = known (ran-up after-put-rows .before .before .before) in
     let k = start (p .before .before) in
-    let w = after-put-rows .put-rows .ensures in (
-      record {
-        room = omega (arith, room k, p .poses-of .ensures .most, w .frame .long);
-        narrow = k .pre .stepping .given .narrow;
-        low = w .low;
-      },
-      omega arith,
-    )
+    let w = after-put-rows .put-rows .ensures in
+    record {
+      words = record { room = omega (arith, room k, p .poses-of .ensures .most, w .frame .long); narrow = k .pre .stepping .given .narrow; low = w .low };
+      word = omega arith;
+    }
 
 same-length-3 : tie.Need-same-length-3
 same-length-3 c = search needs

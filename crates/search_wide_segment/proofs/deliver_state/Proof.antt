@@ -53,7 +53,7 @@ add-copy-rows-2 : tie.Need-add-copy-rows-2
 add-copy-rows-2 c = search needs
 
 copy-rows-requires : tie.Need-copy-rows-requires
-copy-rows-requires c κs = (search needs, search needs)
+copy-rows-requires c κs = record { words = search needs; apart = search needs }
 
 same-length : tie.Need-same-length
 same-length c = search needs
