@@ -264,7 +264,7 @@ put-rows-requires c κs =
     let t = table after-run-up in
     let h = needed (p .before) in
     record {
-      words = record {
+      rows = record {
         words = g .ground .words;
         low = g .low;
         tableLow = t .low;
