@@ -137,8 +137,8 @@ module _ (lead : ℕ) (text : Text) (at : ℕ) (r : Numbers) (l : LedFrom lead t
           (sym (l .ok) ∙ q) in
           rw (q, t .0) (e (fields-count q))
       go false q =
-          rw q
-          (none (paper.formed (lead ∷ []) (lineAt text at)) (p (length (fieldsOf (lineAt text at)))) (sym (l .ok) ∙ q) h)
+          let formed = paper.formed (lead ∷ []) (lineAt text at) in
+          rw q (none formed (p (length (fieldsOf (lineAt text at)))) (sym (l .ok) ∙ q) h)
 
   numbers-count : (e : r .ok ≡ true) → length (paper.numbersOf (lineAt text at)) ≡ r .count
   numbers-count e = length-map (drop 1 (fieldsOf (lineAt text at))) value ∙ sym (l .found e .count)

@@ -7,8 +7,8 @@ ghost use Rattle.search_row.specs.Words.{backIn, deckIn};
 ghost use Rattle.search_dense_first.specs.Begun.{PosesGiven, LayerGiven, DenseState};
 ghost use Rattle.search_dense_layer.specs.Thin.{thinIn};
 ghost use Rattle.search_dense_layer.specs.Kept.{Segment};
-ghost use Rattle.search_dense_segment.specs.Opened.{spreadFrom, comesIn, tallCost, endCost};
-ghost use Rattle.search_dense_segment.specs.Opened.{OpenToEnd, OpenToTall, OpenToState, SpreadRoom, OpenKept, Opened};
+ghost use Rattle.search_dense_segment.specs.Opened.{spreadFrom, comesIn, tallCost, endCost, OpenToEnd};
+ghost use Rattle.search_dense_segment.specs.Opened.{OpenToTall, OpenToState, SpreadRoom, OpenKept, Opened};
 use search_row::Sizes;
 
 // The layers from the row's start up to layer `end`, each in its place.
