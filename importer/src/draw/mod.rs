@@ -28,7 +28,8 @@ use ghosts::Strip;
 use legend::Pen;
 use panel::Panel;
 use scale::{stretches, Band, Frame, Stretch, Track, BAND, LEFT, RIGHT, SITE, TRACK};
-use text::{escaped, PLAIN};
+pub(crate) use text::escaped;
+use text::PLAIN;
 
 /// The refusal of a job that has no legal placement.
 const NO_PLACEMENT: u32 = 8;

@@ -1,18 +1,19 @@
 //! What came of tasks as a page: a table that can be sorted, with a picture of each job. The page is
 //! whole by itself, and also without its script.
 
-mod text;
+mod link;
 
 use super::done::Done;
 use super::failure::{shown, Failure};
 use super::fields::{self, COLUMNS};
 use super::summary::Summary;
 use super::task::{with_end, Task};
+use crate::draw::escaped;
 use crate::{RefusalKind, REFUSALS};
+use link::link;
 use std::collections::HashSet;
 use std::ffi::OsString;
 use std::path::Path;
-use text::{escaped, link};
 
 const STYLE: &str = include_str!("page.css");
 const SCRIPT: &str = include_str!("page.js");

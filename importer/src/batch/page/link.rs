@@ -1,21 +1,6 @@
-//! Texts and links in a page.
+//! Links in a page.
 
 use std::ffi::OsStr;
-
-/// A text in an element or between double quotes.
-pub fn escaped(text: &str) -> String {
-    let mut escaped = String::with_capacity(text.len());
-    for letter in text.chars() {
-        match letter {
-            '&' => escaped.push_str("&amp;"),
-            '<' => escaped.push_str("&lt;"),
-            '>' => escaped.push_str("&gt;"),
-            '"' => escaped.push_str("&quot;"),
-            _ => escaped.push(letter),
-        }
-    }
-    escaped
-}
 
 /// A link to a file in the page's folder. The lead keeps a name with a colon from being a scheme.
 pub fn link(file: &OsStr) -> String {
@@ -35,8 +20,7 @@ mod tests {
     use super::*;
 
     #[test]
-    fn what_a_page_reserves_is_escaped() {
-        assert_eq!(escaped("<a & \"b\">"), "&lt;a &amp; &quot;b&quot;&gt;");
+    fn what_a_link_reserves_is_escaped() {
         assert_eq!(link(OsStr::new("a-1.svg")), "./a-1.svg");
         assert_eq!(
             link(OsStr::new("a b:%é\".svg")),
