@@ -6,7 +6,7 @@ use mathlib.Core.List.{List, [], _∷_}
 use native.Mathlib.Omega.{arith}
 use Rattle.definition.specs.Texts.{Text, linesOf}
 use Rattle.definition.specs.Job.{Job, Reading, refused, firstFailing, headerRefusal, cellRefusal, headerOf}
-use Rattle.definition.specs.Job.{numbersOf, cellIn, withCell, readCells, readLines, readJob}
+use Rattle.definition.specs.Job.{numbersOf, lineCell, withCell, readCells, readLines, readJob}
 use Rattle.job_laws.specs.Tests.{choose, read-cell-line, read-header-line}
 
 -- ---- the tests of a line are numbered 1 to 4
@@ -50,9 +50,9 @@ cells-refused : (ls : List Text) (at : ℕ) (j : Job) (n line : ℕ) → 0 < at 
 unfolding readCells
 cells-refused [] at j n line g e = let z : _≡_ {A = ℕ} 0 1 = cc in absurd (omega arith)
 cells-refused (l ∷ ls) at j n line g e =
-    unchosen (cellRefusal j l) at (readCells (withCell j (cellIn l)) (suc at) ls) n line (cell-few j l) g
+    unchosen (cellRefusal j l) at (readCells (withCell j (lineCell l)) (suc at) ls) n line (cell-few j l) g
     (sym (read-cell-line j at l ls) ∙ e)
-    (cells-refused ls (suc at) (withCell j (cellIn l)) n line (omega arith))
+    (cells-refused ls (suc at) (withCell j (lineCell l)) n line (omega arith))
 
 lines-refused : (ls : List Text) (n line : ℕ) → readLines ls ≡ refused n line → Refused n line
 unfolding readLines

@@ -5,7 +5,7 @@ use mathlib.Core.Bool.{Bool, true, false}
 use mathlib.Core.List.{List, [], _∷_}
 use native.Mathlib.Omega.{arith}
 use Rattle.definition.specs.Texts.{Text}
-use Rattle.definition.specs.Job.{Job, Reading, refused, firstFailing, numbersOf, headerOf, cellIn}
+use Rattle.definition.specs.Job.{Job, Reading, refused, firstFailing, numbersOf, headerOf, lineCell}
 use Rattle.definition.specs.Job.{headerRefusal, cellRefusal, withCell, readCells, readLines}
 
 pub test-passed : (k : ℕ) (a : Bool) (ts : List (ℕ × Bool)) → firstFailing ((suc k, a) ∷ ts) ≡ 0
@@ -19,7 +19,7 @@ unfoldable pub choose : ℕ → ℕ → Reading → Reading
 choose n at r = elim n [ zero ↦ r | suc m ↦ refused (suc m) at ]
 
 pub read-cell-line : (j : Job) (at : ℕ) (l : Text) (ls : List Text)
-    → readCells j at (l ∷ ls) ≡ choose (cellRefusal j l) at (readCells (withCell j (cellIn l)) (suc at) ls)
+    → readCells j at (l ∷ ls) ≡ choose (cellRefusal j l) at (readCells (withCell j (lineCell l)) (suc at) ls)
 unfolding readCells choose
 read-cell-line j at l ls = refl
 

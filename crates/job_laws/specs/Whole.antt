@@ -11,7 +11,7 @@ use borrow.Author.Tests.{leb-true, ltb-true}
 use Rattle.definition.specs.Lists.{keep}
 use Rattle.definition.specs.Texts.{Text, linesOf}
 use Rattle.definition.specs.Job.{Cell, Header, Job, Reading, accepted, isTall, shareRow, maxTall}
-use Rattle.definition.specs.Job.{maxCells, numbersOf, headerOf, cellOf, cellIn, headerRefusal}
+use Rattle.definition.specs.Job.{maxCells, numbersOf, headerOf, cellOf, lineCell, headerRefusal}
 use Rattle.definition.specs.Job.{cellRefusal, withCell, readCells, readLines, readJob}
 use Rattle.definition.specs.Rules.{noCell, cellAt}
 use Rattle.definition_laws.specs.Sound.{SoundHeader, SoundCell, Sound}
@@ -83,9 +83,9 @@ unfolding readCells
 cells-sound [] at j j′ s e = let q : j ≡ j′ = cc in rw q at s
 cells-sound (l ∷ ls) at j j′ s e =
     let c =
-    chosen (cellRefusal j l) at (readCells (withCell j (cellIn l)) (suc at) ls) j′
+    chosen (cellRefusal j l) at (readCells (withCell j (lineCell l)) (suc at) ls) j′
     (sym (read-cell-line j at l ls) ∙ e) in
-    cells-sound ls (suc at) (withCell j (cellIn l)) j′ (more-sound j s _ (numbersOf l) (taken j l (c .0)))
+    cells-sound ls (suc at) (withCell j (lineCell l)) j′ (more-sound j s _ (numbersOf l) (taken j l (c .0)))
     (c .1)
 
 -- no cell yet

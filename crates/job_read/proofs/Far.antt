@@ -89,7 +89,7 @@ module _ {text : Text} {from : ℕ} {h : Header} {cells : List Cell} {t : Tally}
             s .same
             ∙ ap (paper.readCells j line) (lines k)
             ∙ read-cell-line j line (lineAt text at) ls
-            ∙ ap (λ (m : ℕ). choose m line (paper.readCells (paper.withCell j (paper.cellIn (lineAt text at))) (suc line) ls))
+            ∙ ap (λ (m : ℕ). choose m line (paper.readCells (paper.withCell j (paper.lineCell (lineAt text at))) (suc line) ls))
             (sym (r .number j (s .tallies)) ∙ z)
             ∙ ap (λ (x : paper.Cell). paper.readCells (paper.withCell j x) (suc line) ls) (sym (to .cell))
             ∙ ap (λ (x : paper.Job). paper.readCells x (suc line) ls) (sym g)
@@ -105,7 +105,7 @@ module _ {text : Text} {from : ℕ} {h : Header} {cells : List Cell} {t : Tally}
     same =
         let j = sofar h (t .count) cells in
         let ls = linesOf (afterLine (drop at text)) in
-        let more = paper.readCells (paper.withCell j (paper.cellIn (lineAt text at))) (suc line) ls in
+        let more = paper.readCells (paper.withCell j (paper.lineCell (lineAt text at))) (suc line) ls in
         refuse (l .number) line any more z
         ∙ ap (λ (n : ℕ). choose n line more) (r .number j (s .tallies))
         ∙ sym (s .same ∙ ap (paper.readCells j line) (lines k) ∙ read-cell-line j line (lineAt text at) ls);

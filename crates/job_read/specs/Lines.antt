@@ -263,14 +263,14 @@ module _ (text : Text) (at : ℕ) (r : Numbers) (there : at < length text)
       let m : layoutsOf (cellIn fixed (r .values)) ≡ paper.cellOf fixed numbers .layouts =
       ap (λ (x : paper.Cell). x .layouts) c in
       test-same 2 _ _ _ _ (rw (m, v 1 (omega arith), v 2 (omega arith)))
-      (λ e4. test-same 3 _ _ _ _ (ap (room t) v0 ∙ room-cells s (paper.cellIn (lineAt text at)))
-      (λ e5. test-same 4 _ _ _ _ (rw (v0, v 1 (omega arith)) (rises-tally s (paper.cellIn (lineAt text at))))
+      (λ e4. test-same 3 _ _ _ _ (ap (room t) v0 ∙ room-cells s (paper.lineCell (lineAt text at)))
+      (λ e5. test-same 4 _ _ _ _ (rw (v0, v 1 (omega arith)) (rises-tally s (paper.lineCell (lineAt text at))))
       (λ e6. refl))))))
 
   -- what a line that is not refused says
   pub record Passed (t : Tally) : Type 0 where
     pub ok : r .ok ≡ true
-    pub cell : cellOf (cellIn fixed (r .values)) ≡ paper.cellIn (lineAt text at)
+    pub cell : cellOf (cellIn fixed (r .values)) ≡ paper.lineCell (lineAt text at)
     pub few : t .count < paper.maxCells
 
   pub cell-passed : (t : Tally) → cellNumber t (r .ok) (r .count) (getD (r .values) 2 0) (cellIn fixed (r .values)) ≡ 0

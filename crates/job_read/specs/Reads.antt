@@ -34,7 +34,7 @@ pub record CellTo (text : Text) (at : ℕ) (t : Tally) (r : Line) : Type 0 where
   pub past : at < r .next
   pub within : r .next ≤ length text
   pub rest : afterLine (drop at text) ≡ drop (r .next) text
-  pub cell : cellOf (r .cell) ≡ paper.cellIn (lineAt text at)
+  pub cell : cellOf (r .cell) ≡ paper.lineCell (lineAt text at)
   pub room : t .count < paper.maxCells
 
 -- of any job with that tally
