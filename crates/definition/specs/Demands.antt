@@ -8,13 +8,14 @@ use mathlib.Core.List.{List, [], _∷_, _++_, map}
 use lib.ListN.{length, replicate}
 use lib.Dec.{ltb, eqb}
 use lib.IntN.{ℤ, pos}
-use Rattle.definition.specs.Lists.{any}
+use Rattle.definition.specs.Lists.{from, any}
 use Rattle.definition.specs.Texts.{Text}
 use Rattle.definition.specs.Job.{Job, readJob, accepted}
 use Rattle.definition.specs.Placement.{Placement, Printable, poses, readPlacement, textOf}
 use Rattle.definition.specs.Rules.{poseAt, Legal, rules, ruleOf}
 use Rattle.definition.specs.Outcome.{Outcome, numbers, numberCount, score, Buffers, lent, over}
 use Rattle.definition.specs.Outcome.{readFieldCount, scoreFieldCount, placeFieldCount}
+use Rattle.definition.specs.Load.{loadFieldCount}
 
 -- ---- Demand 1: "the call ends, stays within [its buffers], and answers or gives a numbered refusal with its line"
 
@@ -74,6 +75,25 @@ placeShape = record {
   led = true;
   fieldCount = placeFieldCount;
 }
+
+-- A load: "9 when the count is over 64; 10 when the output has under 8,192 bytes" (A3)
+abbrev pub loadShape : Shape
+loadShape = record {
+  answers = 0 ∷ [];
+  refusals = 9 ∷ 10 ∷ [];
+  lined = [];
+  searched = [];
+  led = true;
+  fieldCount = loadFieldCount;
+}
+
+-- "Demand 1's eight refusals are from here on those and each number that a request adds" (A3): every operation, and
+-- every number that one of them refuses by
+abbrev pub shapes : List Shape
+shapes = readShape ∷ scoreShape ∷ faultShape ∷ placeShape ∷ loadShape ∷ []
+
+abbrev pub refusalNumbers : List ℕ
+refusalNumbers = from 1 10
 
 abbrev pub isRefusal : Shape → ℕ → Bool
 isRefusal shape n = isOneOf (shape .refusals) n
