@@ -8,13 +8,14 @@ use native.Mathlib.Nat.{suc-mul}
 use lib.ListN.{length, getD, drop, length-take, length-drop}
 use lib.Seq.{getD-drop}
 use lib.Dec.{leb, eqb}
-use borrow.Author.Tests.{leb-true, eqb-true}
+use borrow.Author.Tests.{leb-true, le-leb, eqb-true, eq-eqb}
 use Rattle.definition.specs.Lists.{all}
-use Rattle.definition.specs.Texts.{Text, within}
+use Rattle.definition.specs.Texts.{Text, fieldsOf, within}
 use Rattle.definition.specs.Job.{maxSites, maxDisplacement, maxReordering, maxWeight, maxGiven, maxWidth, maxHeight}
 use Rattle.definition.specs.Job.{Layout, Job, nth, numbersOf, headerInRange, headerRefusal}
 use Rattle.definition.specs.Job.{headerOf, layoutSize, layoutsOf, cellOf, layoutInRange}
-use Rattle.definition.specs.Job.{restInRange, shapeInRange, hasRoom, notFalling, fixedLead, ledBy, cellRefusal}
+use Rattle.definition.specs.Job.{restInRange, shapeInRange, hasRoom, notFalling, cellLead, fixedLead, ledBy, formed}
+use Rattle.definition.specs.Job.{cellRefusal, firstFailing}
 use Rattle.definition.specs.Rules.{noLayout}
 use Rattle.definition_laws.specs.Sound.{SoundLayout, SoundCell, SoundHeader}
 use Rattle.job_laws.specs.Tests.{test-passed}
@@ -112,6 +113,21 @@ taken j l e =
       room = t5 .0;
       rises = t6 .0;
     }
+
+-- and back: a line in its form, of numbers that pass each test, is not refused
+pub not-refused : (j : Job) (l : Text) → formed (cellLead ∷ fixedLead ∷ []) l ≡ true → 5 ≤ length (fieldsOf l)
+    → Taken j (ledBy (fixedLead ∷ []) l) (numbersOf l) → cellRefusal j l ≡ 0
+unfolding cellRefusal firstFailing
+not-refused j l f many t =
+    rw (
+      f,
+      le-leb 5 (length (fieldsOf l)) many,
+      t .shape,
+      eq-eqb (length (numbersOf l)) _ (t .count),
+      t .rest,
+      t .room,
+      t .rises,
+    )
 
 pub cell-sound : (j : Job) (fixed : Bool) (n : List ℕ) → Taken j fixed n → SoundCell (j .header) (cellOf fixed n)
 unfolding cellOf restInRange

@@ -5,7 +5,7 @@ use mathlib.Core.Bool.{Bool, true, false}
 use mathlib.Core.List.{List, [], _∷_}
 use native.Mathlib.Omega.{arith}
 use Rattle.definition.specs.Texts.{Text}
-use Rattle.definition.specs.Job.{Job, Reading, refused, firstFailing, numbersOf, headerOf, lineCell}
+use Rattle.definition.specs.Job.{Job, Reading, refused, accepted, firstFailing, numbersOf, headerOf, lineCell}
 use Rattle.definition.specs.Job.{headerRefusal, cellRefusal, withCell, readCells, readLines}
 
 pub test-passed : (k : ℕ) (a : Bool) (ts : List (ℕ × Bool)) → firstFailing ((suc k, a) ∷ ts) ≡ 0
@@ -17,6 +17,12 @@ test-passed k false ts e = absurd (omega arith)
 -- a refusal other than 0 at a line, or else what follows it
 unfoldable pub choose : ℕ → ℕ → Reading → Reading
 choose n at r = elim n [ zero ↦ r | suc m ↦ refused (suc m) at ]
+
+-- what is accepted was not refused
+pub chosen : (n at : ℕ) (r : Reading) (j : Job) → choose n at r ≡ accepted j → (n ≡ 0) × (r ≡ accepted j)
+unfolding choose
+chosen zero at r j e = (refl, e)
+chosen (suc n) at r j e = let z : _≡_ {A = ℕ} 0 1 = cc in absurd (omega arith)
 
 pub read-cell-line : (j : Job) (at : ℕ) (l : Text) (ls : List Text)
     → readCells j at (l ∷ ls) ≡ choose (cellRefusal j l) at (readCells (withCell j (lineCell l)) (suc at) ls)

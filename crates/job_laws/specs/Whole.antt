@@ -10,12 +10,12 @@ use lib.Dec.{leb, ltb}
 use borrow.Author.Tests.{leb-true, ltb-true}
 use Rattle.definition.specs.Lists.{keep}
 use Rattle.definition.specs.Texts.{Text, linesOf}
-use Rattle.definition.specs.Job.{Cell, Header, Job, Reading, accepted, isTall, shareRow, maxTall}
+use Rattle.definition.specs.Job.{Cell, Header, Job, accepted, isTall, shareRow, maxTall}
 use Rattle.definition.specs.Job.{maxCells, numbersOf, headerOf, cellOf, lineCell, headerRefusal}
 use Rattle.definition.specs.Job.{cellRefusal, withCell, readCells, readLines, readJob}
 use Rattle.definition.specs.Rules.{noCell, cellAt}
 use Rattle.definition_laws.specs.Sound.{SoundHeader, SoundCell, Sound}
-use Rattle.job_laws.specs.Tests.{choose, read-cell-line, read-header-line}
+use Rattle.job_laws.specs.Tests.{chosen, read-cell-line, read-header-line}
 use Rattle.job_laws.specs.Lists.{all-at, keep-more, Which, old, new, which}
 use Rattle.job_laws.specs.Line.{header-line-sound, Taken, taken, cell-sound}
 
@@ -71,12 +71,6 @@ module _ (j : Job) (s : Sound j) (fixed : Bool) (n : List ℕ) (t : Taken j fixe
   }
 
 -- ---- the lines
-
--- what is accepted was not refused
-chosen : (n at : ℕ) (r : Reading) (j : Job) → choose n at r ≡ accepted j → (n ≡ 0) × (r ≡ accepted j)
-unfolding choose
-chosen zero at r j e = (refl, e)
-chosen (suc n) at r j e = let z : _≡_ {A = ℕ} 0 1 = cc in absurd (omega arith)
 
 pub cells-sound : (ls : List Text) (at : ℕ) (j j′ : Job) → Sound j → readCells j at ls ≡ accepted j′ → Sound j′
 unfolding readCells

@@ -2,7 +2,7 @@
 -- feed, and perhaps a last one that does not.
 use Prim.Native.Nat.{ℕ, _+_}
 use mathlib.Core.Path.{_≡_, refl, ap, _∙_}
-use mathlib.Core.Bool.{Bool, true, false, cond, and-eq-true-iff}
+use mathlib.Core.Bool.{Bool, true, false, cond, false≢true, and-eq-true-iff}
 use mathlib.Core.List.{List, [], _∷_, _++_}
 use native.Mathlib.Omega.{arith}
 use lib.Dec.{eqb}
@@ -55,13 +55,42 @@ unfolding ended
 unended b [] u = ne-eqb b lineFeed (u .0)
 unended b (c ∷ body) u = unended c body (u .1)
 
+-- ---- a text that goes on after a line feed
+
+onto-more : (b c : ℕ) (bs : Text) (ls : List Text) → onto b (linesOf (c ∷ bs) ++ ls) ≡ onto b (linesOf (c ∷ bs)) ++ ls
+unfolding linesOf
+onto-more b c bs ls = go (eqb c lineFeed) (linesOf bs)
+  where
+    go : (t : Bool) (ms : List Text)
+        → onto b (cond t ((c ∷ []) ∷ ms) (onto c ms) ++ ls) ≡ onto b (cond t ((c ∷ []) ∷ ms) (onto c ms)) ++ ls
+    go true ms = refl
+    go false [] = refl
+    go false (m ∷ ms) = refl
+
+pub lines-more : (t u : Text) → ended t ≡ true → linesOf (t ++ u) ≡ linesOf t ++ linesOf u
+unfolding linesOf ended
+lines-more [] u e = absurd (false≢true e)
+lines-more (b ∷ []) u e = rw e
+lines-more (b ∷ c ∷ bs) u e = go (eqb b lineFeed) (lines-more (c ∷ bs) u e)
+  where
+    go : (t : Bool) → linesOf (c ∷ (bs ++ u)) ≡ linesOf (c ∷ bs) ++ linesOf u
+        → cond t ((b ∷ []) ∷ linesOf (c ∷ (bs ++ u))) (onto b (linesOf (c ∷ (bs ++ u))))
+        ≡ cond t ((b ∷ []) ∷ linesOf (c ∷ bs)) (onto b (linesOf (c ∷ bs))) ++ linesOf u
+    go true h = ap (λ (ls : List Text). (b ∷ []) ∷ ls) h
+    go false h = ap (onto b) h ∙ onto-more b c bs (linesOf u)
+
+-- a line alone
+pub one-line : (body : Text) → Unbroken body → linesOf (body ++ (lineFeed ∷ [])) ≡ (body ++ (lineFeed ∷ [])) ∷ []
+unfolding linesOf
+one-line body u = first-line body [] u
+
 -- ---- fields
 
 -- digits are no commas and no line feeds
-no-feed : (b : ℕ) → isDigit b ≡ true → eqb b lineFeed ≡ false
+pub no-feed : (b : ℕ) → isDigit b ≡ true → eqb b lineFeed ≡ false
 no-feed b e = let d = is-digit b e in ne-eqb b lineFeed (λ s. omega arith)
 
-no-comma : (b : ℕ) → isDigit b ≡ true → eqb b comma ≡ false
+pub no-comma : (b : ℕ) → isDigit b ≡ true → eqb b comma ≡ false
 no-comma b e = let d = is-digit b e in ne-eqb b comma (λ s. omega arith)
 
 pub digits-unbroken : (d : Text) → all isDigit d ≡ true → Unbroken d

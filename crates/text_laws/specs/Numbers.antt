@@ -202,6 +202,9 @@ pub digits-long : (k n : ℕ) → 0 < k → n < 10 ^ k → length (digits n) ≤
 digits-long zero n g h = absurd (omega arith)
 digits-long (suc k) n g h = stands k n h .few
 
+pub four-long : (n : ℕ) → n ≤ 9999 → length (digits n) ≤ 4
+four-long n h = digits-long 4 n (omega arith) (omega arith)
+
 pub digits-each : (n : ℕ) → all isDigit (digits n) ≡ true
 digits-each n = stands n n (power-above n) .each
 

@@ -18,7 +18,7 @@ use Rattle.definition.specs.Rules.{noPose, cellAt, poseAt, endAt, Offer, offerA
 use Rattle.definition.specs.Rules.{breaks1, breaks2, Legal}
 use Rattle.definition_laws.specs.Sound.{Sound}
 use Rattle.definition_laws.specs.Offers.{layouts-within}
-use Rattle.text_laws.specs.Numbers.{digits-long, one-digit}
+use Rattle.text_laws.specs.Numbers.{four-long, one-digit}
 use Rattle.text_laws.specs.Poses.{Each}
 
 pub record Narrow (p : Pose) : Type 0 where
@@ -32,9 +32,6 @@ narrow-printable p h = record { site = h .site; layout = omega (arith, h .layout
 line-long : (p : Pose)
     → length (lineOf p) ≡ length (digits (p .site)) + length (digits (p .layout)) + length (digits (p .mark)) + 3
 line-long p = simp length-append (omega arith)
-
-four-long : (n : ℕ) → n ≤ 9999 → length (digits n) ≤ 4
-four-long n h = digits-long 4 n (omega arith) (omega arith)
 
 pub line-room : (p : Pose) → Printable p → length (lineOf p) ≤ 15
 line-room p h = omega (

@@ -1,0 +1,5 @@
+pub mod Draws
+pub mod Lines
+pub mod Sites
+pub mod Cells
+pub mod Accepted
