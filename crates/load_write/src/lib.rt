@@ -1,0 +1,92 @@
+// A load's text, written line by line as its fields are drawn.
+ghost use mathlib.Core.Path.{_≡_};
+ghost use mathlib.Core.List.{[], _∷_, _++_};
+ghost use Prim.Native.Nat.{_≤_};
+ghost use lib.ListN.{length, replicate};
+ghost use Rattle.definition.specs.Texts.{comma, digits};
+ghost use Rattle.definition.specs.Job.{maxCells};
+ghost use Rattle.definition.specs.Outcome.{over};
+ghost use Rattle.definition.specs.Draws.{_to_};
+ghost use Rattle.definition.specs.Load.{Load, repeated, loadRoom, loadOf};
+ghost use Rattle.text_write.specs.Put.{Room, Wrote};
+ghost use Rattle.load_draws.specs.Generators.{InForm};
+ghost use Rattle.load_write.specs.Fields.{FieldsRoom, WroteFields};
+ghost use Rattle.load_write.specs.Cells.{layoutOf};
+use load_draws::Generator;
+use text_write::put_byte;
+use text_write::put_bytes;
+use text_write::put_number;
+
+// Where a writer goes on: a place in the output, and the generator.
+pub struct Cursor {
+    pub at: usize,
+    pub generator: Generator,
+}
+
+// What the lines so far leave to the next: the cursor, how many cells are tall, each row's largest given site.
+pub struct Progress {
+    pub cursor: Cursor,
+    pub talls: u32,
+    pub largest0: u32,
+    pub largest1: u32,
+}
+
+// The first four numbers of a line, and the generator after them.
+pub struct Head {
+    pub row: u32,
+    pub given: u32,
+    pub mirrorable: u32,
+    pub layouts: u32,
+    pub generator: Generator,
+}
+
+// A number after a comma.
+fn put_listed(output: &mut [u8], at: usize, n: u32) -> usize
+    requires { ⌜ Room (comma ∷ digits n) (now output) at ⌝ }
+    ensures { λ r. ⌜ Wrote (comma ∷ digits n) (now (output .entry)) at (now (output .exit)) r ⌝ }
+{
+    let p = put_byte(&mut *output, at, b',');
+    put_number(output, p, n)
+}
+
+// So many fields from `low` to `high`.
+fn put_fields(output: &mut [u8], cursor: Cursor, count: u32, low: u32, high: u32) -> Cursor
+    requires { ⌜ InForm low high ⌝ }
+    requires { ⌜ FieldsRoom count (cursor .at) (now output) ⌝ }
+    ensures { λ r. ⌜ WroteFields (replicate count (low to high)) cursor
+        (now (output .entry)) (now (output .exit)) r ⌝ }
+{
+    let mut at = cursor.at;
+    let mut generator = cursor.generator;
+    let mut i = 0;
+    while i < count {
+        generator = generator.next();
+        let n = generator.field(low, high);
+        at = put_listed(&mut *output, at, n);
+        i += 1;
+    }
+    Cursor { at, generator }
+}
+
+// One layout: its width and its heights.
+fn put_layout(output: &mut [u8], cursor: Cursor, heights: u32) -> Cursor
+    requires { ⌜ FieldsRoom (length (layoutOf heights)) (cursor .at) (now output) ⌝ }
+    ensures { λ r. ⌜ WroteFields (layoutOf heights) cursor (now (output .entry)) (now (output .exit)) r ⌝ }
+{
+    let c = put_fields(&mut *output, cursor, 1, 1, 16);
+    put_fields(output, c, heights, 1, 4)
+}
+
+fn put_layouts(output: &mut [u8], cursor: Cursor, layouts: u32, heights: u32) -> Cursor
+    requires { ⌜ FieldsRoom (length (repeated layouts (layoutOf heights))) (cursor .at) (now output) ⌝ }
+    ensures { λ r. ⌜ WroteFields (repeated layouts (layoutOf heights)) cursor
+        (now (output .entry)) (now (output .exit)) r ⌝ }
+{
+    let mut c = cursor;
+    let mut i = 0;
+    while i < layouts {
+        c = put_layout(&mut *output, c, heights);
+        i += 1;
+    }
+    c
+}
