@@ -37,6 +37,11 @@ listed-append (x ∷ xs) ys =
     ap (λ (l : List ℕ). comma ∷ l)
     (ap (λ (l : List ℕ). digits x ++ l) (listed-append xs ys) ∙ sym (append-assoc (digits x) (listed xs) (listed ys)))
 
+-- a number alone
+pub listed-one : (n : ℕ) → listed (n ∷ []) ≡ comma ∷ digits n
+unfolding listed
+listed-one n = ap (λ (l : List ℕ). comma ∷ l) (append-nil (digits n))
+
 -- ---- no field, one field, some after others
 
 pub fields-none : (c : Cursor) (l : List ℕ) → WroteFields [] c l l c
@@ -44,14 +49,9 @@ unfolding drawnAll listed
 fields-none c l = record { bytes = wrote-none l (c .at); generator = refl }
 
 pub fields-one : {c d : Cursor} {l m : List ℕ} (r : Range) → generatorOf (d .generator) ≡ next (generatorOf (c .generator))
-    → Wrote (comma ∷ digits (drawn r (generatorOf (d .generator)))) l (c .at) m (d .at) → WroteFields (r ∷ []) c l m d
-unfolding drawnAll listed
-fields-one {c} {d} {l} {m} r e w = record {
-  bytes =
-      subst (λ (t : List ℕ). Wrote (comma ∷ t) l (c .at) m (d .at))
-      (ap (λ g. digits (drawn r g)) e ∙ sym (append-nil (digits (drawn r (next (generatorOf (c .generator))))))) w;
-  generator = e;
-}
+    → Wrote (listed (drawn r (generatorOf (d .generator)) ∷ [])) l (c .at) m (d .at) → WroteFields (r ∷ []) c l m d
+unfolding drawnAll
+fields-one r e w = record { bytes = rw e at w; generator = e }
 
 pub fields-then : {rs qs : List Range} {c d e : Cursor} {l m n : List ℕ} → WroteFields rs c l m d
     → WroteFields qs d m n e → WroteFields (rs ++ qs) c l n e
@@ -108,7 +108,7 @@ module _ {low high : ℕ} {c d : Cursor} {l m : List ℕ} (i : ℕ) (h : InForm 
     (w : WroteFields (replicate i (low to high)) c l m d) where
 
   pub next-room : {count n : ℕ} (g : Generator) → FieldsRoom count (c .at) l → i < count → n ≡ drawn (low to high) g
-      → Room (comma ∷ digits n) m (d .at)
+      → Room (listed (n ∷ [])) m (d .at)
   next-room {count} {n} g room few e =
       let n-low : n ≤ 9999 = omega (arith, drawn-high (low to high) g (h .some), h .few) in
       let end = fields-end (all-replicate (inside 0 9999) i (low to high) (inside-form low high h)) w in
@@ -117,6 +117,7 @@ module _ {low high : ℕ} {c d : Cursor} {l m : List ℕ} (i : ℕ) (h : InForm 
           arith,
           room .fits,
           end,
+          ap length (listed-one n),
           four-long n n-low,
           length-replicate i (low to high),
           wrote-length (w .bytes),
@@ -124,7 +125,7 @@ module _ {low high : ℕ} {c d : Cursor} {l m : List ℕ} (i : ℕ) (h : InForm 
       }
 
   pub next-wrote : {n at : ℕ} {k : List ℕ} (g : program.Generator) → generatorOf g ≡ next (generatorOf (d .generator))
-      → n ≡ drawn (low to high) (generatorOf g) → Wrote (comma ∷ digits n) m (d .at) k at
+      → n ≡ drawn (low to high) (generatorOf g) → Wrote (listed (n ∷ [])) m (d .at) k at
       → WroteFields (replicate (i + 1) (low to high)) c l k (record { at = at; generator = g })
   next-wrote {n} {at} {k} g e f v =
       rw (replicate-more i (low to high))

@@ -3,14 +3,16 @@ ghost use mathlib.Core.Path.{_≡_};
 ghost use mathlib.Core.List.{[], _∷_, _++_};
 ghost use Prim.Native.Nat.{_≤_};
 ghost use lib.ListN.{length, replicate};
-ghost use Rattle.definition.specs.Texts.{comma, digits};
-ghost use Rattle.definition.specs.Job.{maxCells};
+ghost use Rattle.definition.specs.Job.{maxCells, maxTall};
+ghost use mathlib.Core.Bool.{cond};
+ghost use lib.Dec.{ltb};
 ghost use Rattle.definition.specs.Outcome.{over};
 ghost use Rattle.definition.specs.Draws.{_to_};
-ghost use Rattle.definition.specs.Load.{Load, repeated, loadRoom, loadOf};
+ghost use Rattle.definition.specs.Load.{repeated, listed, loadRoom, loadOf};
 ghost use Rattle.text_write.specs.Put.{Room, Wrote};
 ghost use Rattle.load_draws.specs.Generators.{InForm};
 ghost use Rattle.load_write.specs.Fields.{FieldsRoom, WroteFields};
+ghost use Rattle.load_write.specs.Heads.{Ready, DrewHead, largestOf, headText};
 ghost use Rattle.load_write.specs.Cells.{layoutOf};
 use load_draws::Generator;
 use text_write::put_byte;
@@ -42,8 +44,8 @@ pub struct Head {
 
 // A number after a comma.
 fn put_listed(output: &mut [u8], at: usize, n: u32) -> usize
-    requires { ⌜ Room (comma ∷ digits n) (now output) at ⌝ }
-    ensures { λ r. ⌜ Wrote (comma ∷ digits n) (now (output .entry)) at (now (output .exit)) r ⌝ }
+    requires { ⌜ Room (listed (n ∷ [])) (now output) at ⌝ }
+    ensures { λ r. ⌜ Wrote (listed (n ∷ [])) (now (output .entry)) at (now (output .exit)) r ⌝ }
 {
     let p = put_byte(&mut *output, at, b',');
     put_number(output, p, n)
@@ -89,4 +91,64 @@ fn put_layouts(output: &mut [u8], cursor: Cursor, layouts: u32, heights: u32) ->
         i += 1;
     }
     c
+}
+
+// The largest given site so far in a cell's rows.
+fn largest_in(p: Progress, row: u32) -> u32
+    ensures { λ r. ⌜ r ≡ largestOf p row ⌝ }
+{
+    if row == 2 {
+        if p.largest0 < p.largest1 {
+            return p.largest1;
+        }
+        return p.largest0;
+    }
+    if row == 0 {
+        return p.largest0;
+    }
+    p.largest1
+}
+
+// No tall cell comes after the 24th.
+fn last_row(talls: u32) -> u32
+    ensures { λ r. ⌜ r ≡ cond (ltb talls maxTall) 2 1 ⌝ }
+{
+    if talls < 24 {
+        return 2;
+    }
+    1
+}
+
+// Row, given site, mirrorable and layouts of the next cell.
+fn draw_head(p: Progress) -> Head
+    requires { ⌜ Ready p ⌝ }
+    ensures { λ r. ⌜ DrewHead p r ⌝ }
+{
+    let g1 = p.cursor.generator.next();
+    let row = g1.field(0, last_row(p.talls));
+    let g2 = g1.next();
+    let given = largest_in(p, row) + g2.field(0, 12);
+    let g3 = g2.next();
+    let mirrorable = g3.field(0, 1);
+    let generator = g3.next();
+    let layouts = generator.field(1, 2);
+    Head {
+        row,
+        given,
+        mirrorable,
+        layouts,
+        generator,
+    }
+}
+
+// The lead and the first four numbers of a line.
+fn put_head(output: &mut [u8], at: usize, head: Head) -> usize
+    requires { ⌜ Room (headText head) (now output) at ⌝ }
+    ensures { λ r. ⌜ Wrote (headText head) (now (output .entry)) at (now (output .exit)) r ⌝ }
+{
+    let p = put_byte(&mut *output, at, b'C');
+    let q = put_listed(&mut *output, p, head.row);
+    let r = put_listed(&mut *output, q, head.given);
+    let s = put_listed(&mut *output, r, head.mirrorable);
+    put_listed(output, s, head.layouts)
 }
