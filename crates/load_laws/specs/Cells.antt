@@ -76,6 +76,17 @@ layouts-in-range (suc n) row g =
     (heights-drawn (layoutSize row - 1) (next g))
     (layouts-in-range n row (draws (length rs) g))
 
+-- in its rows no site so far is larger
+pub cell-above : (cells : List Cell) (g : Generator) → Above cells (cellOf false (numbersDrawn cells g))
+unfolding cellOf numbersDrawn
+cell-above cells g =
+    let row = rowDrawn cells g in
+    let low = row-drawn cells g in
+    record {
+      row0 = λ e. omega (arith, largest-above 0 row cells (omega arith) low e);
+      row1 = λ e. omega (arith, largest-above 1 row cells (omega arith) low e);
+    }
+
 -- ---- the whole line
 
 -- what is so of the cells so far: how many there are, and that their sites did not run away
@@ -100,13 +111,6 @@ module _ (n : ℕ) (cells : List Cell) (g : Generator) (few : n < maxCells) (s :
     drawn-high (0 to 12) (draws 2 g) (omega arith),
     largest-below row (12 * n) cells (row-drawn cells g) (s .low0) (s .low1),
   )
-
-  above : Above cells (cellOf false numbers)
-  unfolding cellOf numbersDrawn
-  above = record {
-    row0 = λ e. omega (arith, largest-above 0 row cells (omega arith) (row-drawn cells g) e);
-    row1 = λ e. omega (arith, largest-above 1 row cells (omega arith) (row-drawn cells g) e);
-  }
 
   shape : (h : Header) → h .rows ≡ 2 → shapeInRange h numbers ≡ true
   unfolding numbersDrawn
@@ -146,7 +150,7 @@ module _ (n : ℕ) (cells : List Cell) (g : Generator) (few : n < maxCells) (s :
     count = count;
     rest = rest;
     room = room;
-    rises = not-falling cells (cellOf false numbers) above;
+    rises = not-falling cells (cellOf false numbers) (cell-above cells g);
   }
 
   -- the cells with this one
@@ -154,8 +158,8 @@ module _ (n : ℕ) (cells : List Cell) (g : Generator) (few : n < maxCells) (s :
   unfolding cellOf numbersDrawn
   so-far = record {
     many = omega (arith, s .many, length-append cells (cellOf false numbers ∷ []));
-    low0 = omega (arith, largest-now 0 cells (cellOf false numbers) (above .row0), low (inRow 0 (cellOf false numbers)) (s .low0));
-    low1 = omega (arith, largest-now 1 cells (cellOf false numbers) (above .row1), low (inRow 1 (cellOf false numbers)) (s .low1));
+    low0 = omega (arith, largest-now 0 cells (cellOf false numbers) (cell-above cells g .row0), low (inRow 0 (cellOf false numbers)) (s .low0));
+    low1 = omega (arith, largest-now 1 cells (cellOf false numbers) (cell-above cells g .row1), low (inRow 1 (cellOf false numbers)) (s .low1));
   }
     where
       low : (t : Bool) {m : ℕ} → m ≤ 12 * n → cond t given m ≤ 12 * suc n

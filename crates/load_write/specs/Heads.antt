@@ -1,7 +1,7 @@
 -- The first four numbers of a line, and what the lines so far leave to the next.
 use Prim.Native.Nat.{ℕ, zero, suc, _+_, _≤_, max}
 use mathlib.Core.Path.{_≡_, refl, sym, ap, subst, _∙_}
-use mathlib.Core.Bool.{Bool, true, false, cond}
+use mathlib.Core.Bool.{Bool, true, false, _||_, cond}
 use mathlib.Core.List.{List, [], _∷_, _++_}
 use native.Mathlib.Omega.{arith}
 use lib.ListN.{length}
@@ -15,6 +15,7 @@ use Rattle.text_laws.specs.Numbers.{also}
 use Rattle.load_laws.specs.Lines.{is-printable, listed-long}
 use Rattle.load_draws.specs.Generators.{generatorOf}
 use Rattle.load_write.specs.declared.Progress.{Progress}
+use Rattle.load_write.specs.declared.Cursor.{Cursor}
 use Rattle.load_write.specs.declared.Head.{Head}
 use Rattle.load_write.specs.Fields.{listed-append}
 
@@ -33,6 +34,15 @@ pub record Ready (p : Progress) : Type 0 where
 
 abbrev pub largestOf : Progress → ℕ → ℕ
 largestOf p row = cond (eqb row 2) (max (p .largest0) (p .largest1)) (cond (eqb row 0) (p .largest0) (p .largest1))
+
+-- one cell more: its given site is the largest in its rows
+abbrev pub afterCell : Progress → Head → Cursor → Progress
+afterCell p h cursor = record {
+  cursor = cursor;
+  talls = cond (eqb (h .row) 2) (p .talls + 1) (p .talls);
+  largest0 = cond (eqb (h .row) 2 || eqb (h .row) 0) (h .given) (p .largest0);
+  largest1 = cond (eqb (h .row) 2 || eqb (h .row) 1) (h .given) (p .largest1);
+}
 
 -- the numbers of a head, and its text
 abbrev pub headNumbers : Head → List ℕ

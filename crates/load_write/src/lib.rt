@@ -1,19 +1,18 @@
 // A load's text, written line by line as its fields are drawn.
 ghost use mathlib.Core.Path.{_≡_};
 ghost use mathlib.Core.List.{[], _∷_, _++_};
-ghost use Prim.Native.Nat.{_≤_};
+ghost use Prim.Native.Nat.{_≤_, _-_};
 ghost use lib.ListN.{length, replicate};
-ghost use Rattle.definition.specs.Job.{maxCells, maxTall};
+ghost use Rattle.definition.specs.Job.{maxCells, maxTall, layoutSize};
 ghost use mathlib.Core.Bool.{cond};
 ghost use lib.Dec.{ltb};
-ghost use Rattle.definition.specs.Outcome.{over};
 ghost use Rattle.definition.specs.Draws.{_to_};
 ghost use Rattle.definition.specs.Load.{repeated, listed, loadRoom, loadOf};
 ghost use Rattle.text_write.specs.Put.{Room, Wrote};
 ghost use Rattle.load_draws.specs.Generators.{InForm};
 ghost use Rattle.load_write.specs.Fields.{FieldsRoom, WroteFields};
-ghost use Rattle.load_write.specs.Heads.{Ready, DrewHead, largestOf, headText};
-ghost use Rattle.load_write.specs.Cells.{layoutOf};
+ghost use Rattle.load_write.specs.Heads.{Ready, DrewHead, largestOf, headText, afterCell};
+ghost use Rattle.load_write.specs.Cells.{layoutOf, LineRoom, WroteCell};
 use load_draws::Generator;
 use text_write::put_byte;
 use text_write::put_bytes;
@@ -151,4 +150,85 @@ fn put_head(output: &mut [u8], at: usize, head: Head) -> usize
     let r = put_listed(&mut *output, q, head.given);
     let s = put_listed(&mut *output, r, head.mirrorable);
     put_listed(output, s, head.layouts)
+}
+
+// How many heights a layout has.
+fn heights_of(row: u32) -> u32
+    ensures { λ r. ⌜ r ≡ layoutSize row - 1 ⌝ }
+{
+    if row == 2 {
+        return 8;
+    }
+    4
+}
+
+// What a cell leaves to the next line: its given site is the largest in its rows.
+fn with_cell(p: Progress, head: Head, cursor: Cursor) -> Progress
+    requires { ⌜ p .talls ≤ maxCells ⌝ }
+    requires { ⌜ head .row ≤ 2 ⌝ }
+    ensures { λ r. ⌜ r ≡ afterCell p head cursor ⌝ }
+{
+    let given = head.given;
+    if head.row == 0 {
+        return Progress {
+            cursor,
+            talls: p.talls,
+            largest0: given,
+            largest1: p.largest1,
+        };
+    }
+    if head.row == 1 {
+        return Progress {
+            cursor,
+            talls: p.talls,
+            largest0: p.largest0,
+            largest1: given,
+        };
+    }
+    Progress {
+        cursor,
+        talls: p.talls + 1,
+        largest0: given,
+        largest1: given,
+    }
+}
+
+// The line of one cell.
+fn put_cell(output: &mut [u8], p: Progress) -> Progress
+    requires { ⌜ Ready p ⌝ }
+    requires { ⌜ LineRoom (p .cursor .at) (now output) ⌝ }
+    ensures { λ r. ⌜ WroteCell p (now (output .entry)) (now (output .exit)) r ⌝ }
+{
+    let head = draw_head(p);
+    let heights = heights_of(head.row);
+    let at = put_head(&mut *output, p.cursor.at, head);
+    let generator = head.generator;
+    let c = put_layouts(&mut *output, Cursor { at, generator }, head.layouts, heights);
+    let at = put_byte(output, c.at, b'\n');
+    let generator = c.generator;
+    with_cell(p, head, Cursor { at, generator })
+}
+
+// The whole text, from the output's first byte on; its length.
+pub fn put_load(output: &mut [u8], seed: u32, cells: u32) -> usize
+    requires { ⌜ cells ≤ maxCells ⌝ }
+    requires { ⌜ loadRoom ≤ length (now output) ⌝ }
+    ensures { λ r. ⌜ Wrote (loadOf seed cells .text) (now (output .entry)) 0 (now (output .exit)) r ⌝ }
+{
+    let at = put_bytes(&mut *output, 0, b"J,2,1024,7,1,100,1,100,50\n");
+    let mut p = Progress {
+        cursor: Cursor {
+            at,
+            generator: Generator::seeded(seed),
+        },
+        talls: 0,
+        largest0: 0,
+        largest1: 0,
+    };
+    let mut i = 0;
+    while i < cells {
+        p = put_cell(&mut *output, p);
+        i += 1;
+    }
+    p.cursor.at
 }
