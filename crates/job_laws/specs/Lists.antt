@@ -29,6 +29,16 @@ all-below a b [] e i = omega arith
 all-below a b (x ∷ l) e zero = within-both a b x (and-eq-true-iff (within a b x) (all (within a b) l) .0 e .0) .1
 all-below a b (x ∷ l) e (suc i) = all-below a b l (and-eq-true-iff (within a b x) (all (within a b) l) .0 e .1) i
 
+-- ---- the entries that pass a test
+
+pub keep-few : {A : Type 0} (p : A → Bool) (l : List A) → length (keep p l) ≤ length l
+keep-few p [] = omega arith
+keep-few p (x ∷ l) = go (p x) (keep-few p l)
+  where
+    go : (t : Bool) → length (keep p l) ≤ length l → length (cond t (x ∷ keep p l) (keep p l)) ≤ suc (length l)
+    go true h = omega arith
+    go false h = omega arith
+
 -- ---- one more entry
 
 module _ {A : Type 0} (p : A → Bool) (c : A) where

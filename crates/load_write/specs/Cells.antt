@@ -1,28 +1,31 @@
 -- A cell's layouts, its line, and what it leaves to the next.
-use Prim.Native.Nat.{ℕ, _+_, _*_, _-_, _≤_, _<_}
+use Prim.Native.Nat.{ℕ, suc, _+_, _*_, _-_, _≤_, _<_}
 use mathlib.Core.Path.{_≡_, refl, sym, ap, _∙_}
 use mathlib.Core.Bool.{Bool, true, false, _||_, cond}
 use mathlib.Core.List.{List, [], _∷_, _++_, append-assoc}
 use native.Mathlib.Omega.{arith}
 use native.Mathlib.Nat.{mul-le-mul-right, suc-mul}
+use native.Mathlib.Numerals.{add-one}
 use lib.ListN.{length, replicate, length-append, length-replicate}
 use lib.Dec.{eqb}
 use Rattle.definition.specs.Lists.{all, keep}
 use Rattle.definition.specs.Texts.{lineFeed}
-use Rattle.definition.specs.Job.{isTall, cellLead, layoutSize, cellOf}
-use Rattle.definition.specs.Draws.{Range, _to_, draws, drawnAll}
-use Rattle.definition.specs.Load.{Load, rowDrawn, repeated, numbersDrawn, listed, numbersLine, withNumbers}
+use Rattle.definition.specs.Job.{Cell, isTall, cellLead, layoutSize, cellOf, maxCells}
+use Rattle.definition.specs.Draws.{Range, _to_, seeded, draws, drawnAll}
+use Rattle.definition.specs.Load.{Load, loadHeader, rowDrawn, repeated, loadRoom, loadOf, numbersDrawn, listed, numbersLine, withNumbers}
 use Rattle.text_write.specs.Put.{Room, Wrote}
 use Rattle.text_write.specs.Puts.{then, wrote-length}
-use Rattle.job_laws.specs.Lists.{keep-more}
+use Rattle.job_laws.specs.Lists.{keep-few, keep-more}
 use Rattle.load_laws.specs.Draws.{inside, length-drawn, draws-add, all-replicate, length-repeated, all-repeated}
 use Rattle.load_laws.specs.Sites.{largest-now}
 use Rattle.load_laws.specs.Cells.{cell-above}
+use Rattle.load_laws.specs.Accepted.{LoadSound}
+use Rattle.load_draws.specs.declared.Generator as program
 use Rattle.load_draws.specs.Generators.{generatorOf}
 use Rattle.load_write.specs.declared.Cursor.{Cursor}
 use Rattle.load_write.specs.declared.Progress.{Progress}
 use Rattle.load_write.specs.declared.Head.{Head}
-use Rattle.load_write.specs.Heads.{Stands, DrewHead, HeadOf, afterCell, headNumbers, headText, head-long}
+use Rattle.load_write.specs.Heads.{Stands, Ready, DrewHead, HeadOf, afterCell, headNumbers, headText, head-long}
 use Rattle.load_write.specs.Fields.{FieldsRoom, WroteFields, rest-room, listed-append, fields-end}
 
 -- the ranges of a layout with so many heights
@@ -161,3 +164,41 @@ module _ {p : Progress} {before : List ℕ} (h : Head) (heights : ℕ) (d : Drew
         bytes = λ l st. rw (line-in heights (d .of l st) e, f) (then w (then (v .bytes) u));
         stands = λ l st. rw f (cell-stands heights (d .of l st) e (record { at = at; generator = c .generator }) st (v .generator));
       }
+
+-- ---- a whole load
+
+-- a load that is not whole yet leaves room for a cell
+pub load-ready : {seed n : ℕ} {p : Progress} → LoadSound seed n → n < maxCells → Stands (loadOf seed n) p → Ready p
+load-ready {seed} {n} s h st = record {
+  talls = omega (arith, st .talls, keep-few isTall (loadOf seed n .cells), s .cells .many);
+  largest0 = omega (arith, st .largest0, s .cells .low0);
+  largest1 = omega (arith, st .largest1, s .cells .low1);
+}
+
+pub load-room : {seed n at : ℕ} {before end : List ℕ} → LoadSound seed n → n < maxCells → loadRoom ≤ length before
+    → Wrote (loadOf seed n .text) before 0 end at → LineRoom at end
+load-room s h room w = record { fits = omega (arith, s .long, w .cursor, wrote-length w) }
+
+-- no cell yet
+pub begun-stands : (seed at : ℕ) (g : program.Generator) → generatorOf g ≡ seeded seed
+    → Stands (loadOf seed 0) (record {
+      cursor = record { at = at; generator = g }; talls = 0; largest0 = 0; largest1 = 0;
+    })
+unfolding loadOf
+begun-stands seed at g e = record { generator = e; talls = refl; largest0 = refl; largest1 = refl }
+
+pub header-wrote : (seed : ℕ) {at : ℕ} {before end : List ℕ} → Wrote loadHeader before 0 end at
+    → Wrote (loadOf seed 0 .text) before 0 end at
+unfolding loadOf
+header-wrote seed w = w
+
+-- one cell more
+module _ (seed n : ℕ) {p r : Progress} {mid end : List ℕ} (w : WroteCell p mid end r) (st : Stands (loadOf seed n) p) where
+  pub more-wrote : {before : List ℕ} → Wrote (loadOf seed n .text) before 0 mid (p .cursor .at)
+      → Wrote (loadOf seed (n + 1) .text) before 0 end (r .cursor .at)
+  unfolding loadOf
+  more-wrote v = rw (add-one n) (then v (w .bytes (loadOf seed n) st))
+
+  pub more-stands : Stands (loadOf seed (n + 1)) r
+  unfolding loadOf
+  more-stands = rw (add-one n) (w .stands (loadOf seed n) st)
