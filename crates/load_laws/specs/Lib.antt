@@ -3,3 +3,4 @@ pub mod Lines
 pub mod Sites
 pub mod Cells
 pub mod Accepted
+pub mod Outcomes

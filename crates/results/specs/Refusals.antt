@@ -1,5 +1,5 @@
 -- A refusal as the program has it: none, and one that signed numbers can tell.
-use Prim.Native.Nat.{_^_, _≤_, _<_}
+use Prim.Native.Nat.{ℕ, _^_, _≤_, _<_}
 use Rattle.definition.specs.Outcome as paper
 use Rattle.results.specs.declared.Refusal.{Refusal}
 use Rattle.results.specs.declared.Fields.{Fields}
@@ -21,3 +21,8 @@ pub record Signed (r : Refusal) : Type 0 where
 pub record Writable (r : Refusal) (f : Fields) : Type 0 where
   pub signed : Signed r
   pub few : f .count ≤ maxFields
+
+-- such a refusal, with so many fields of zero
+pub record Refusable (r : Refusal) (count : ℕ) : Type 0 where
+  pub signed : Signed r
+  pub few : count ≤ maxFields

@@ -7,7 +7,7 @@ ghost use lib.ListN.{replicate};
 ghost use lib.IntN.{pos};
 ghost use Rattle.definition.specs.Outcome.{over};
 ghost use Rattle.results.specs.Fields.{maxFields, listOf, FieldsOf, More};
-ghost use Rattle.results.specs.Refusals.{noRefusal, Writable};
+ghost use Rattle.results.specs.Refusals.{noRefusal, Writable, Refusable};
 
 // A refusal and its line; number 0 refuses nothing.
 pub struct Refusal {
@@ -91,4 +91,21 @@ pub fn put_results(results: &mut [i32], refusal: Refusal, fields: Fields)
         results[i + 2] = v;
         i += 1;
     }
+}
+
+// A refusal: its number and line, and so many fields of zero.
+pub fn refuse(results: &mut [i32], refusal: Refusal, count: usize)
+    requires { ⌜ Refusable refusal count ⌝ }
+    ensures { λ _. ⌜ now (results .exit) ≡ over (pos (refusal .number) ∷ pos (refusal .line)
+        ∷ replicate count (pos 0)) (now (results .entry)) ⌝ }
+{
+    put_results(results, refusal, Fields::zeros(count));
+}
+
+// An answer of these fields.
+pub fn answer(results: &mut [i32], fields: Fields)
+    requires { ⌜ fields .count ≤ maxFields ⌝ }
+    ensures { λ _. ⌜ now (results .exit) ≡ over (pos 0 ∷ pos 0 ∷ listOf fields) (now (results .entry)) ⌝ }
+{
+    put_results(results, Refusal::none(), fields);
 }

@@ -1,0 +1,67 @@
+-- What a call gives, case by case: 9, 10 or the text.
+use Prim.Native.Nat.{ℕ, _≤_, _<_}
+use mathlib.Core.Path.{_≡_, refl, _∙_}
+use mathlib.Core.Bool.{Bool, true, false, cond}
+use mathlib.Core.List.{[]}
+use mathlib.Core.Logic.{_⊎_, inl, inr}
+use native.Mathlib.Omega.{arith}
+use lib.Dec.{leb}
+use borrow.Author.Tests.{leb-true, le-leb, lt-leb}
+use Rattle.definition.specs.Job.{maxCells, firstFailing}
+use Rattle.definition.specs.Outcome.{noLine, refusedBy}
+use Rattle.definition.specs.Load.{loadRoom, loadRefusal, loadFieldCount, loadAnswer, loadOf, load}
+use Rattle.definition_laws.specs.Outcomes.{first-refuses, first-passes, none-refuses}
+
+-- ---- the number, by the count and by the output
+
+pub over-count : (cells room : ℕ) → maxCells < cells → loadRefusal cells room ≡ 9
+unfolding loadRefusal firstFailing
+over-count cells room h = rw (lt-leb cells maxCells h)
+
+pub short-of-room : (cells room : ℕ) → cells ≤ maxCells → room < loadRoom → loadRefusal cells room ≡ 10
+unfolding loadRefusal firstFailing
+short-of-room cells room h g = rw (le-leb cells maxCells h, lt-leb loadRoom room g)
+
+pub none-of-both : (cells room : ℕ) → cells ≤ maxCells → loadRoom ≤ room → loadRefusal cells room ≡ 0
+unfolding loadRefusal firstFailing
+none-of-both cells room h g = rw (le-leb cells maxCells h, le-leb loadRoom room g)
+
+-- one of the three, and what 0 says
+pub record Tried (cells room n : ℕ) : Type 0 where
+  pub either : (n ≡ 0) ⊎ (n ≡ 9) ⊎ (n ≡ 10)
+  pub low : n ≤ 10
+  pub few : n ≡ 0 → cells ≤ maxCells
+  pub enough : n ≡ 0 → loadRoom ≤ room
+
+pub tried : (cells room : ℕ) → Tried cells room (loadRefusal cells room)
+unfolding loadRefusal firstFailing
+tried cells room = go (leb cells maxCells) (leb loadRoom room) (leb-true cells maxCells) (leb-true loadRoom room)
+  where
+    go : (s t : Bool) → (s ≡ true → cells ≤ maxCells) → (t ≡ true → loadRoom ≤ room)
+        → Tried cells room (cond s (cond t 0 10) 9)
+    go true true f g = record { either = inl refl; low = omega arith; few = λ z. f refl; enough = λ z. g refl }
+    go true false f g = record {
+      either = inr (inr refl);
+      low = omega arith;
+      few = λ z. absurd (omega arith);
+      enough = λ z. absurd (omega arith);
+    }
+    go false t f g = record {
+      either = inr (inl refl);
+      low = omega arith;
+      few = λ z. absurd (omega arith);
+      enough = λ z. absurd (omega arith);
+    }
+
+-- ---- the outcome
+
+module _ (seed cells room : ℕ) where
+  pub load-refused : (loadRefusal cells room ≡ 0 → ⊥)
+      → load seed cells room ≡ refusedBy loadFieldCount (noLine (loadRefusal cells room))
+  unfolding load
+  load-refused d = first-refuses loadFieldCount (noLine (loadRefusal cells room)) [] _ d
+
+  pub load-answered : loadRefusal cells room ≡ 0 → load seed cells room ≡ loadAnswer (loadOf seed cells .text)
+  unfolding load
+  load-answered z =
+      first-passes loadFieldCount (noLine (loadRefusal cells room)) [] _ z ∙ none-refuses loadFieldCount _
