@@ -1,12 +1,15 @@
 // The exported C functions, each over slices that are passed as address and length.
 ghost use mathlib.Core.List.{[]};
-ghost use Rattle.definition.specs.Outcome.{read, score, Told, lent, Placed, Demand3Of};
-ghost use Rattle.definition.specs.Demands.{readShape, scoreShape, faultShape, placeShape, Demand1};
+ghost use lib.ListN.{length};
+ghost use Rattle.definition.specs.Outcome.{read, score, Told, lent, Met, Placed, Demand3Of};
+ghost use Rattle.definition.specs.Load.{load, LoadedOf};
+ghost use Rattle.definition.specs.Demands.{readShape, scoreShape, faultShape, placeShape, loadShape, Demand1};
 ghost use Rattle.definition.specs.Demands.{alone, unsigned};
 ghost use Rattle.definition.specs.FaultLine.{ToldFault, CopiedFault};
 use job_read::read_job;
 use op_fault::copy_fault;
 use op_fault::tell_fault;
+use op_load::load_text;
 use op_place::place_texts;
 use op_score::score_texts;
 use results::Fields;
@@ -97,4 +100,26 @@ pub extern "C" fn refiner_place(
         (lent (now (store .exit)) (now (output .exit)) (now (results .exit))) ⌝ }
 {
     place_texts(job, store, output, results)
+}
+
+// A load for the farm: the text of a job goes to the output, number, line and the text's length to the results, and
+// the number is returned. The reader accepts the job, with so many cells.
+#[no_mangle]
+pub extern "C" fn refiner_load(
+    seed: u32,
+    cells: u32,
+    output: &mut [u8],
+    results: &mut [i32],
+) -> u32
+    ensures { λ r. ⌜ Met (load seed cells (length (now (output .entry)))) r
+        (lent [] (now (output .entry)) (now (results .entry)))
+        (lent [] (now (output .exit)) (now (results .exit))) ⌝ }
+    ensures { λ r. ⌜ Demand1 loadShape r
+        (lent [] (now (output .entry)) (now (results .entry)))
+        (lent [] (now (output .exit)) (now (results .exit))) ⌝ }
+    ensures { λ r. ⌜ LoadedOf cells r
+        (lent [] (now (output .entry)) (now (results .entry)))
+        (lent [] (now (output .exit)) (now (results .exit))) ⌝ }
+{
+    load_text(seed, cells, output, results)
 }
