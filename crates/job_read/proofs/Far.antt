@@ -15,15 +15,16 @@ use Rattle.job.specs.Value.{cellOf, headerOf, jobOf}
 use Rattle.job.specs.Cells.{cell-count}
 use Rattle.definition_laws.specs.Sound.{SoundHeader}
 use Rattle.job_laws.specs.Tests.{choose, read-cell-line, read-header-line}
+use Rattle.job_laws.specs.Lists.{keep-few}
 use Rattle.job_laws.specs.Line.{header-line-sound}
 use Rattle.job_laws.specs.Whole.{begun-sound, cells-sound}
 use Rattle.results.specs.Refusals.{noRefusal}
 use Rattle.text_scan.specs.Line.{firstLine, afterLine, lines-first}
-use Rattle.job_read.specs.declared.Tally.{Tally}
+use Rattle.job_tally.specs.declared.Tally.{Tally}
 use Rattle.job_read.specs.declared.Head.{Head}
 use Rattle.job_read.specs.declared.Line.{Line}
 use Rattle.job_read.specs.declared.Reading.{Reading}
-use Rattle.job_read.specs.Rows.{Tallies, topIn, tallyWith, tallies-more, few-tall}
+use Rattle.job_tally.specs.Tallies.{Tallies, tallyWith, tallies-more}
 use Rattle.job_read.specs.Lines.{lineAt}
 use Rattle.job_read.specs.Reads.{HeadLine, CellLine, sofar, begun, readingBy, readingOf, Reads}
 
@@ -37,7 +38,7 @@ pub record Far (text : Text) (from : ℕ) (h : Header) (cells : List Cell) (t : 
 
 pub far-none : (text : Text) (from : ℕ) (h : Header) (cells : List Cell) → from ≤ length text → length cells ≡ paper.maxCells
     → Far text from h cells (record { rows = h .rows; count = 0; tall = 0; first = 0; second = 0 }) from 2
-unfolding topIn headerOf
+unfolding headerOf
 far-none text from h cells w l = record {
   within = w;
   long = l;
@@ -68,7 +69,7 @@ module _ {text : Text} {from : ℕ} {h : Header} {cells : List Cell} {t : Tally}
       ap linesOf e ∙ lines-first (getD text at 0) (drop (suc at) text) ∙ ap (λ (l : Text). firstLine l ∷ linesOf (afterLine l)) (sym e)
 
   pub far-tall : t .tall ≤ t .count
-  far-tall = let a = s .tallies .tall in let b = s .tallies .count in omega (arith, few-tall (map cellOf (take (t .count) cells)))
+  far-tall = let a = s .tallies .tall in let b = s .tallies .count in omega (arith, keep-few paper.isTall (map cellOf (take (t .count) cells)))
 
   pub far-more : at < length text → (l : Line) → CellLine text at t l → l .number ≡ 0
       → Far text from h (set cells (t .count) (l .cell)) (tallyWith t (l .cell .row) (l .cell .given)) (l .next) (line + 1)

@@ -22,8 +22,8 @@ use Rattle.text_scan.specs.Found.{LedFrom}
 use Rattle.text_scan.specs.declared.Numbers.{Numbers}
 use Rattle.job_ranges.specs.Values.{cellIn, headerIn, listed}
 use Rattle.job_ranges.specs.Made.{header-listed, header-made, cell-made}
-use Rattle.job_read.specs.declared.Tally.{Tally}
-use Rattle.job_read.specs.Rows.{Tallies, room, rises, room-cells, rises-tally}
+use Rattle.job_tally.specs.declared.Tally.{Tally}
+use Rattle.job_tally.specs.Tallies.{Tallies, room, rises, room-cells, rises-tally}
 
 unfoldable pub headNumber : Bool → ℕ → Header → ℕ
 headNumber ok count h = paper.firstFailing ((1, ok && eqb count 8) ∷ (2, paper.headerInRange (listed h)) ∷ [])

@@ -12,11 +12,11 @@ use Rattle.job.specs.declared.Job.{Job}
 use Rattle.job.specs.Value.{cellOf, headerOf, jobOf}
 use Rattle.job.specs.Accepted.{Accepted}
 use Rattle.text_scan.specs.Line.{firstLine, afterLine}
-use Rattle.job_read.specs.declared.Tally.{Tally}
+use Rattle.job_tally.specs.declared.Tally.{Tally}
 use Rattle.job_read.specs.declared.Head.{Head}
 use Rattle.job_read.specs.declared.Line.{Line}
 use Rattle.job_read.specs.declared.Reading.{Reading}
-use Rattle.job_read.specs.Rows.{Tallies}
+use Rattle.job_tally.specs.Tallies.{Tallies}
 use Rattle.job_read.specs.Lines.{lineAt}
 
 -- a line that is not refused, and where the next begins

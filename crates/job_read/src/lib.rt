@@ -5,7 +5,6 @@ ghost use Prim.Native.Nat.{_+_, _<_, max};
 ghost use lib.ListN.{length, drop};
 ghost use Rattle.definition.specs.Texts.{linesOf};
 ghost use Rattle.definition.specs.Job.{readJob, readCells, maxCells};
-ghost use Rattle.job_read.specs.Rows.{tallyWith, TallyRoom, room, rises};
 ghost use Rattle.job_read.specs.Lines.{later, headNumber, cellNumber, LeadOf};
 ghost use Rattle.job_read.specs.Reads.{HeadLine, CellLine, CellsFrom, begun, Reads};
 use job::Cell;
@@ -17,18 +16,12 @@ use job_ranges::header_fits;
 use job_ranges::header_of;
 use job_ranges::layouts_fit;
 use job_ranges::shape_fits;
+use job_tally::Tally;
+use job_tally::does_rise;
+use job_tally::has_room;
+use job_tally::tally_with;
 use results::Refusal;
 use text_scan::read_led;
-
-// What is kept of the cells read so far: the header's rows, how many cells and tall
-// cells, and the highest given site of each row.
-pub struct Tally {
-    pub rows: u32,
-    pub count: usize,
-    pub tall: usize,
-    pub first: u32,
-    pub second: u32,
-}
 
 // The header line, refused by a number other than 0, and where the next line begins.
 pub struct Head {
@@ -91,20 +84,6 @@ fn header_line(text: &[u8]) -> Head
 
 // ---- the cells
 
-fn has_room(t: Tally, row: u32) -> bool
-    ensures { λ r. ⌜ r ≡ room t row ⌝ }
-{
-    (t.count < Job::MAX_CELLS) & ((row != 2) | (t.tall < Job::MAX_TALL))
-}
-
-fn does_rise(t: Tally, row: u32, given: u32) -> bool
-    ensures { λ r. ⌜ r ≡ rises t row given ⌝ }
-{
-    let first = !((row == 2) | (row == 0)) | (t.first <= given);
-    let second = !((row == 2) | (row == 1)) | (t.second <= given);
-    first & second
-}
-
 // The tests in document 01's order; `mark` is the line's field for mirrorable.
 fn cell_refusal(t: Tally, ok: bool, count: usize, mark: u32, c: Cell) -> u32
     ensures { λ r. ⌜ r ≡ cellNumber t ok count mark c ⌝ }
@@ -150,46 +129,6 @@ fn cell_line(text: &[u8], at: usize, t: Tally) -> Line
         number,
         next: f.next,
         cell,
-    }
-}
-
-// ---- one more cell
-
-fn one_more(is: bool, n: usize) -> usize
-    requires { ⌜ n < maxCells ⌝ }
-    ensures { λ r. ⌜ r ≡ n + cond is 1 0 ⌝ }
-{
-    if is {
-        return n + 1;
-    }
-    n
-}
-
-fn higher(is: bool, top: u32, given: u32) -> u32
-    ensures { λ r. ⌜ r ≡ max top (cond is given 0) ⌝ }
-{
-    if is {
-        if top < given {
-            return given;
-        }
-        return top;
-    }
-    top
-}
-
-fn tally_with(t: Tally, row: u32, given: u32) -> Tally
-    requires { ⌜ TallyRoom t ⌝ }
-    ensures { λ r. ⌜ r ≡ tallyWith t row given ⌝ }
-{
-    let tall = one_more(row == 2, t.tall);
-    let first = higher((row == 2) | (row == 0), t.first, given);
-    let second = higher((row == 2) | (row == 1), t.second, given);
-    Tally {
-        rows: t.rows,
-        count: t.count + 1,
-        tall,
-        first,
-        second,
     }
 }
 

@@ -20,7 +20,7 @@ use Rattle.job_laws.specs.Line.{Taken}
 use Rattle.load_laws.specs.Draws.{drawn-low, drawn-high, drawn-within, inside, length-drawn, drawn-append, all-drawn}
 use Rattle.load_laws.specs.Draws.{all-replicate, length-ranges, length-repeated, all-repeated}
 use Rattle.load_laws.specs.Lines.{printable, is-printable}
-use Rattle.load_laws.specs.Sites.{Above, not-falling, largest-now, largest-above, largest-below}
+use Rattle.load_laws.specs.Sites.{Above, not-falling, largest-low, largest-above, largest-below}
 
 -- ---- each field
 
@@ -156,15 +156,14 @@ module _ (n : ℕ) (cells : List Cell) (g : Generator) (few : n < maxCells) (s :
   -- the cells with this one
   pub so-far : SoFar (suc n) (cells ++ (cellOf false numbers ∷ []))
   unfolding cellOf numbersDrawn
-  so-far = record {
-    many = omega (arith, s .many, length-append cells (cellOf false numbers ∷ []));
-    low0 = omega (arith, largest-now 0 cells (cellOf false numbers) (cell-above cells g .row0), low (inRow 0 (cellOf false numbers)) (s .low0));
-    low1 = omega (arith, largest-now 1 cells (cellOf false numbers) (cell-above cells g .row1), low (inRow 1 (cellOf false numbers)) (s .low1));
-  }
-    where
-      low : (t : Bool) {m : ℕ} → m ≤ 12 * n → cond t given m ≤ 12 * suc n
-      low true h = omega (arith, given-low)
-      low false h = omega arith
+  so-far =
+      let cell = cellOf false numbers in
+      let mine : given ≤ 12 * suc n = omega (arith, given-low) in
+      record {
+        many = omega (arith, s .many, length-append cells (cell ∷ []));
+        low0 = largest-low 0 (12 * suc n) cells cell (omega (arith, s .low0)) mine;
+        low1 = largest-low 1 (12 * suc n) cells cell (omega (arith, s .low1)) mine;
+      }
 
   -- its numbers, each of which can be written
   pub numbers-printable : printable numbers ≡ true

@@ -1,6 +1,6 @@
--- The largest given site so far: a cell that is given no less in its rows falls in none, and what is largest after it.
+-- The largest given site so far: a cell that is given no less in its rows falls in none.
 use Prim.Native.Nat.{ℕ, zero, suc, _+_, _≤_, max}
-use mathlib.Core.Path.{_≡_, refl, ap, _∙_}
+use mathlib.Core.Path.{_≡_, refl, sym, _∙_}
 use mathlib.Core.Bool.{Bool, true, false, not, _&&_, _||_, cond, false≢true}
 use mathlib.Core.List.{List, [], _∷_, _++_}
 use native.Mathlib.Omega.{arith}
@@ -9,14 +9,7 @@ use borrow.Author.Tests.{le-leb}
 use Rattle.definition.specs.Job.{Cell, inRow, notFalling}
 use Rattle.definition.specs.Load.{largestIn, largest}
 use Rattle.text_laws.specs.Numbers.{also}
-
--- ---- a row's largest
-
-own-below : (row : ℕ) (d : Cell) (ds : List Cell) → inRow row d ≡ true → d .given ≤ largestIn row (d ∷ ds)
-own-below row d ds e = rw e (omega arith)
-
-rest-below : (row : ℕ) (d : Cell) (ds : List Cell) → largestIn row ds ≤ largestIn row (d ∷ ds)
-rest-below row d ds = omega arith
+use Rattle.job_laws.specs.Rising.{largest-more, rises-cells}
 
 -- in each of its rows a cell is given no less than the largest
 pub record Above (cells : List Cell) (c : Cell) : Type 0 where
@@ -24,42 +17,23 @@ pub record Above (cells : List Cell) (c : Cell) : Type 0 where
   pub row1 : inRow 1 c ≡ true → largestIn 1 cells ≤ c .given
 
 pub not-falling : (cells : List Cell) (c : Cell) → Above cells c → notFalling cells c ≡ true
-not-falling [] c h = refl
-not-falling (d ∷ ds) c h =
-    also (not ((inRow 0 d && inRow 0 c) || ((inRow 1 d && inRow 1 c) || false)) || leb (d .given) (c .given))
-    (notFalling ds c)
-    (go (inRow 0 d) (inRow 0 c) (inRow 1 d) (inRow 1 c)
-    (λ e f. omega (arith, own-below 0 d ds e, h .row0 f))
-    (λ e f. omega (arith, own-below 1 d ds e, h .row1 f)))
-    (not-falling ds c (record {
-      row0 = λ f. omega (arith, rest-below 0 d ds, h .row0 f);
-      row1 = λ f. omega (arith, rest-below 1 d ds, h .row1 f);
-    }))
+not-falling cells c h =
+    sym (rises-cells cells c)
+    ∙ also (not (inRow 0 c) || leb (largestIn 0 cells) (c .given)) _
+    (passes (inRow 0 c) (largestIn 0 cells) (h .row0)) (passes (inRow 1 c) (largestIn 1 cells) (h .row1))
   where
-    go : (a b p q : Bool) → (a ≡ true → b ≡ true → d .given ≤ c .given) → (p ≡ true → q ≡ true → d .given ≤ c .given)
-        → (not ((a && b) || ((p && q) || false)) || leb (d .given) (c .given)) ≡ true
-    go true true p q f g = le-leb (d .given) (c .given) (f refl refl)
-    go true false true true f g = le-leb (d .given) (c .given) (g refl refl)
-    go true false true false f g = refl
-    go true false false q f g = refl
-    go false b true true f g = le-leb (d .given) (c .given) (g refl refl)
-    go false b true false f g = refl
-    go false b false q f g = refl
+    passes : (t : Bool) (m : ℕ) → (t ≡ true → m ≤ c .given) → (not t || leb m (c .given)) ≡ true
+    passes true m f = le-leb m (c .given) (f refl)
+    passes false m f = refl
 
 -- one cell more
-pub largest-more : (row : ℕ) (cells : List Cell) (c : Cell)
-    → largestIn row (cells ++ (c ∷ [])) ≡ max (largestIn row cells) (cond (inRow row c) (c .given) 0)
-largest-more row [] c = omega arith
-largest-more row (d ∷ ds) c = omega (arith, largest-more row ds c)
-
-pub largest-now : (row : ℕ) (cells : List Cell) (c : Cell) → (inRow row c ≡ true → largestIn row cells ≤ c .given)
-    → largestIn row (cells ++ (c ∷ [])) ≡ cond (inRow row c) (c .given) (largestIn row cells)
-largest-now row cells c h = largest-more row cells c ∙ go (inRow row c) h
+pub largest-low : (row n : ℕ) (cells : List Cell) (c : Cell) → largestIn row cells ≤ n → c .given ≤ n
+    → largestIn row (cells ++ (c ∷ [])) ≤ n
+largest-low row n cells c h g = omega (arith, largest-more row cells c, go (inRow row c))
   where
-    go : (t : Bool) → (t ≡ true → largestIn row cells ≤ c .given)
-        → max (largestIn row cells) (cond t (c .given) 0) ≡ cond t (c .given) (largestIn row cells)
-    go true h = omega (arith, h refl)
-    go false h = omega arith
+    go : (t : Bool) → cond t (c .given) 0 ≤ n
+    go true = g
+    go false = omega arith
 
 -- ---- the largest of a cell's rows
 

@@ -1,31 +1,31 @@
 -- A cell's layouts, its line, and what it leaves to the next.
 use Prim.Native.Nat.{ℕ, suc, _+_, _*_, _-_, _≤_, _<_}
 use mathlib.Core.Path.{_≡_, refl, sym, ap, _∙_}
-use mathlib.Core.Bool.{Bool, true, false, _||_, cond}
+use mathlib.Core.Bool.{Bool, true, false, cond}
 use mathlib.Core.List.{List, [], _∷_, _++_, append-assoc}
 use native.Mathlib.Omega.{arith}
 use native.Mathlib.Nat.{mul-le-mul-right, suc-mul}
 use native.Mathlib.Numerals.{add-one}
 use lib.ListN.{length, replicate, length-append, length-replicate}
 use lib.Dec.{eqb}
-use Rattle.definition.specs.Lists.{all, keep}
+use Rattle.definition.specs.Lists.{all}
 use Rattle.definition.specs.Texts.{lineFeed}
 use Rattle.definition.specs.Job.{Cell, isTall, cellLead, layoutSize, cellOf, maxCells}
 use Rattle.definition.specs.Draws.{Range, _to_, seeded, draws, drawnAll}
 use Rattle.definition.specs.Load.{Load, loadHeader, rowDrawn, repeated, loadRoom, loadOf, numbersDrawn, listed, numbersLine, withNumbers}
 use Rattle.text_write.specs.Put.{Room, Wrote}
 use Rattle.text_write.specs.Puts.{then, wrote-length}
-use Rattle.job_laws.specs.Lists.{keep-few, keep-more}
+use Rattle.job_laws.specs.Lists.{keep-few}
+use Rattle.job_tally.specs.declared.Tally.{Tally}
+use Rattle.job_tally.specs.Tallies.{tallyWith, tallies-more}
 use Rattle.load_laws.specs.Draws.{inside, length-drawn, draws-add, all-replicate, length-repeated, all-repeated}
-use Rattle.load_laws.specs.Sites.{largest-now}
-use Rattle.load_laws.specs.Cells.{cell-above}
 use Rattle.load_laws.specs.Accepted.{LoadSound}
 use Rattle.load_draws.specs.declared.Generator as program
 use Rattle.load_draws.specs.Generators.{generatorOf}
 use Rattle.load_write.specs.declared.Cursor.{Cursor}
 use Rattle.load_write.specs.declared.Progress.{Progress}
-use Rattle.load_write.specs.declared.Head.{Head}
-use Rattle.load_write.specs.Heads.{Stands, Ready, DrewHead, HeadOf, afterCell, headNumbers, headText, head-long}
+use Rattle.load_write.specs.declared.Opening.{Opening}
+use Rattle.load_write.specs.Openings.{Stands, Ready, DrewOpening, OpeningOf, openingNumbers, openingText, opening-long}
 use Rattle.load_write.specs.Fields.{FieldsRoom, WroteFields, rest-room, listed-append, fields-end}
 
 -- the ranges of a layout with so many heights
@@ -69,29 +69,25 @@ layouts-few layouts heights row h e =
     go true f = rw f (omega arith)
     go false f = rw f (omega arith)
 
-one-more : (t : Bool) (n : ℕ) → cond t (n + 1) n ≡ n + cond t 1 0
-one-more true n = refl
-one-more false n = omega arith
-
 -- the ranges of all layouts
-abbrev pub rangesOf : Head → ℕ → List Range
+abbrev pub rangesOf : Opening → ℕ → List Range
 rangesOf h heights = repeated (h .layouts) (layoutOf heights)
 
-module _ {l : Load} {h : Head} (heights : ℕ) (d : HeadOf l h) (e : heights ≡ layoutSize (h .row) - 1) where
+module _ {l : Load} {h : Opening} (heights : ℕ) (d : OpeningOf l h) (e : heights ≡ layoutSize (h .row) - 1) where
   abbrev more : List ℕ
   more = drawnAll (rangesOf h heights) (generatorOf (h .generator))
 
   -- the numbers drawn are the head's and those of the layouts
-  numbers-in : numbersDrawn (l .cells) (l .generator) ≡ headNumbers h ++ more
+  numbers-in : numbersDrawn (l .cells) (l .generator) ≡ openingNumbers h ++ more
   unfolding numbersDrawn
   numbers-in = rw (e, d .row, d .given, d .mirrorable, d .layouts, d .generator)
 
   -- the line in the three parts that are written
-  line-in : numbersLine (numbersDrawn (l .cells) (l .generator)) ≡ headText h ++ (listed more ++ (lineFeed ∷ []))
+  line-in : numbersLine (numbersDrawn (l .cells) (l .generator)) ≡ openingText h ++ (listed more ++ (lineFeed ∷ []))
   line-in =
       ap numbersLine numbers-in
-      ∙ ap (λ (t : List ℕ). cellLead ∷ (t ++ (lineFeed ∷ []))) (listed-append (headNumbers h) more)
-      ∙ ap (λ (t : List ℕ). cellLead ∷ t) (append-assoc (listed (headNumbers h)) (listed more) (lineFeed ∷ []))
+      ∙ ap (λ (t : List ℕ). cellLead ∷ (t ++ (lineFeed ∷ []))) (listed-append (openingNumbers h) more)
+      ∙ ap (λ (t : List ℕ). cellLead ∷ t) (append-assoc (listed (openingNumbers h)) (listed more) (lineFeed ∷ []))
 
   -- each number was one draw
   draws-in : draws (length (rangesOf h heights)) (generatorOf (h .generator))
@@ -103,38 +99,31 @@ module _ {l : Load} {h : Head} (heights : ℕ) (d : HeadOf l h) (e : heights ≡
       ap (draws L) (d .generator) ∙ sym (draws-add 4 L (l .generator)) ∙ ap (λ (k : ℕ). draws k (l .generator)) long
 
   -- the load with this cell
-  cell-stands : {p : Progress} (c : Cursor) → Stands l p
-      → generatorOf (c .generator) ≡ draws (length (rangesOf h heights)) (generatorOf (h .generator))
-      → Stands (withNumbers l (numbersDrawn (l .cells) (l .generator))) (afterCell p h c)
+  cell-stands : {p : Progress} (r : Progress) → Stands l p
+      → generatorOf (r .cursor .generator) ≡ draws (length (rangesOf h heights)) (generatorOf (h .generator))
+      → r .tally ≡ tallyWith (p .tally) (h .row) (h .given)
+      → Stands (withNumbers l (numbersDrawn (l .cells) (l .generator))) r
   unfolding cellOf numbersDrawn
-  cell-stands {p} c st g =
-      let cell = cellOf false (numbersDrawn (l .cells) (l .generator)) in
-      let above = cell-above (l .cells) (l .generator) in
-      record {
-        generator = g ∙ draws-in;
-        talls =
-            rw (d .row, st .talls)
-            (one-more (eqb (rowDrawn (l .cells) (l .generator)) 2) (length (keep isTall (l .cells)))
-            ∙ sym (keep-more isTall cell (l .cells)));
-        largest0 = rw (d .row, d .given, st .largest0) (sym (largest-now 0 (l .cells) cell (above .row0)));
-        largest1 = rw (d .row, d .given, st .largest1) (sym (largest-now 1 (l .cells) cell (above .row1)));
-      }
+  cell-stands r st g t = record {
+    generator = g ∙ draws-in;
+    tally = rw (t, d .row, d .given) (tallies-more (st .tally) (cellOf false (numbersDrawn (l .cells) (l .generator))));
+  }
 
 -- ---- one cell more, from what its parts leave
 
-module _ {p : Progress} {before : List ℕ} (h : Head) (heights : ℕ) (d : DrewHead p h)
+module _ {p : Progress} {before : List ℕ} (h : Opening) (heights : ℕ) (d : DrewOpening p h)
     (e : heights ≡ layoutSize (h .row) - 1) (room : LineRoom (p .cursor .at) before) where
 
-  pub head-room : Room (headText h) before (p .cursor .at)
-  head-room = record { fits = omega (arith, room .fits, head-long d) }
+  pub opening-room : Room (openingText h) before (p .cursor .at)
+  opening-room = record { fits = omega (arith, room .fits, opening-long d) }
 
-  module _ {q : ℕ} {mid : List ℕ} (w : Wrote (headText h) before (p .cursor .at) mid q) where
+  module _ {q : ℕ} {mid : List ℕ} (w : Wrote (openingText h) before (p .cursor .at) mid q) where
     pub layouts-room : FieldsRoom (length (rangesOf h heights)) q mid
     layouts-room = record {
       fits = omega (
         arith,
         room .fits,
-        head-long d,
+        opening-long d,
         w .cursor,
         wrote-length w,
         layouts-few (h .layouts) heights (h .row) (d .layouts) e,
@@ -151,41 +140,51 @@ module _ {p : Progress} {before : List ℕ} (h : Head) (heights : ℕ) (d : Drew
           wrote-length (v .bytes),
           fields-end (all-repeated (inside 0 9999) (h .layouts) (layoutOf heights) (layout-inside heights)) v,
           room .fits,
-          head-long d,
+          opening-long d,
           w .cursor,
           wrote-length w,
           layouts-few (h .layouts) heights (h .row) (d .layouts) e,
         );
       }
 
-      pub cell-wrote : {end : List ℕ} {at : ℕ} {r : Progress} → Wrote (lineFeed ∷ []) last (c .at) end at
-          → r ≡ afterCell p h (record { at = at; generator = c .generator }) → WroteCell p before end r
-      cell-wrote {end} {at} {r} u f = record {
-        bytes = λ l st. rw (line-in heights (d .of l st) e, f) (then w (then (v .bytes) u));
-        stands = λ l st. rw f (cell-stands heights (d .of l st) e (record { at = at; generator = c .generator }) st (v .generator));
+      pub cell-wrote : {end : List ℕ} {at : ℕ} {t : Tally} → Wrote (lineFeed ∷ []) last (c .at) end at
+          → t ≡ tallyWith (p .tally) (h .row) (h .given)
+          → WroteCell p before end (record { cursor = record { at = at; generator = c .generator }; tally = t })
+      cell-wrote u f = record {
+        bytes = λ l st. rw (line-in heights (d .of l st) e) (then w (then (v .bytes) u));
+        stands = λ l st. cell-stands heights (d .of l st) e _ st (v .generator) f;
       }
 
 -- ---- a whole load
 
 -- a load that is not whole yet leaves room for a cell
 pub load-ready : {seed n : ℕ} {p : Progress} → LoadSound seed n → n < maxCells → Stands (loadOf seed n) p → Ready p
-load-ready {seed} {n} s h st = record {
-  talls = omega (arith, st .talls, keep-few isTall (loadOf seed n .cells), s .cells .many);
-  largest0 = omega (arith, st .largest0, s .cells .low0);
-  largest1 = omega (arith, st .largest1, s .cells .low1);
-}
+load-ready {seed} {n} {p} s h st =
+    let many : p .tally .count ≡ n = st .tally .count ∙ s .cells .many in
+    record {
+      room = record {
+        count = omega arith;
+        tall = omega (arith, st .tally .tall, st .tally .count, keep-few isTall (loadOf seed n .cells));
+      };
+      first = omega (arith, st .tally .first, s .cells .low0);
+      second = omega (arith, st .tally .second, s .cells .low1);
+    }
 
 pub load-room : {seed n at : ℕ} {before end : List ℕ} → LoadSound seed n → n < maxCells → loadRoom ≤ length before
     → Wrote (loadOf seed n .text) before 0 end at → LineRoom at end
 load-room s h room w = record { fits = omega (arith, s .long, w .cursor, wrote-length w) }
 
 -- no cell yet
+abbrev noCells : Tally
+noCells = record { rows = 2; count = 0; tall = 0; first = 0; second = 0 }
+
 pub begun-stands : (seed at : ℕ) (g : program.Generator) → generatorOf g ≡ seeded seed
-    → Stands (loadOf seed 0) (record {
-      cursor = record { at = at; generator = g }; talls = 0; largest0 = 0; largest1 = 0;
-    })
+    → Stands (loadOf seed 0) (record { cursor = record { at = at; generator = g }; tally = noCells })
 unfolding loadOf
-begun-stands seed at g e = record { generator = e; talls = refl; largest0 = refl; largest1 = refl }
+begun-stands seed at g e = record {
+  generator = e;
+  tally = record { rows = refl; count = refl; tall = refl; first = refl; second = refl };
+}
 
 pub header-wrote : (seed : ℕ) {at : ℕ} {before end : List ℕ} → Wrote loadHeader before 0 end at
     → Wrote (loadOf seed 0 .text) before 0 end at

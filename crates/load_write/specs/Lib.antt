@@ -1,3 +1,3 @@
 pub mod Fields
-pub mod Heads
+pub mod Openings
 pub mod Cells

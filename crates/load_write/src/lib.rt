@@ -11,8 +11,11 @@ ghost use Rattle.definition.specs.Load.{repeated, listed, loadRoom, loadOf};
 ghost use Rattle.text_write.specs.Put.{Room, Wrote};
 ghost use Rattle.load_draws.specs.Generators.{InForm};
 ghost use Rattle.load_write.specs.Fields.{FieldsRoom, WroteFields};
-ghost use Rattle.load_write.specs.Heads.{Ready, DrewHead, largestOf, headText, afterCell};
+ghost use Rattle.load_write.specs.Openings.{Ready, DrewOpening, largestOf, openingText};
 ghost use Rattle.load_write.specs.Cells.{layoutOf, LineRoom, WroteCell};
+use job::Job;
+use job_tally::Tally;
+use job_tally::tally_with;
 use load_draws::Generator;
 use text_write::put_byte;
 use text_write::put_bytes;
@@ -24,16 +27,14 @@ pub struct Cursor {
     pub generator: Generator,
 }
 
-// What the lines so far leave to the next: the cursor, how many cells are tall, each row's largest given site.
+// What the lines so far leave to the next.
 pub struct Progress {
     pub cursor: Cursor,
-    pub talls: u32,
-    pub largest0: u32,
-    pub largest1: u32,
+    pub tally: Tally,
 }
 
 // The first four numbers of a line, and the generator after them.
-pub struct Head {
+pub struct Opening {
     pub row: u32,
     pub given: u32,
     pub mirrorable: u32,
@@ -93,45 +94,46 @@ fn put_layouts(output: &mut [u8], cursor: Cursor, layouts: u32, heights: u32) ->
 }
 
 // The largest given site so far in a cell's rows.
-fn largest_in(p: Progress, row: u32) -> u32
-    ensures { λ r. ⌜ r ≡ largestOf p row ⌝ }
+fn largest_in(t: Tally, row: u32) -> u32
+    ensures { λ r. ⌜ r ≡ largestOf t row ⌝ }
 {
     if row == 2 {
-        if p.largest0 < p.largest1 {
-            return p.largest1;
+        if t.first < t.second {
+            return t.second;
         }
-        return p.largest0;
+        return t.first;
     }
     if row == 0 {
-        return p.largest0;
+        return t.first;
     }
-    p.largest1
+    t.second
 }
 
-// No tall cell comes after the 24th.
-fn last_row(talls: u32) -> u32
-    ensures { λ r. ⌜ r ≡ cond (ltb talls maxTall) 2 1 ⌝ }
+// No tall cell comes after the last that a job may have.
+fn last_row(tall: usize) -> u32
+    ensures { λ r. ⌜ r ≡ cond (ltb tall maxTall) 2 1 ⌝ }
 {
-    if talls < 24 {
+    if tall < Job::MAX_TALL {
         return 2;
     }
     1
 }
 
 // Row, given site, mirrorable and layouts of the next cell.
-fn draw_head(p: Progress) -> Head
+fn draw_opening(p: Progress) -> Opening
     requires { ⌜ Ready p ⌝ }
-    ensures { λ r. ⌜ DrewHead p r ⌝ }
+    ensures { λ r. ⌜ DrewOpening p r ⌝ }
 {
+    let t = p.tally;
     let g1 = p.cursor.generator.next();
-    let row = g1.field(0, last_row(p.talls));
+    let row = g1.field(0, last_row(t.tall));
     let g2 = g1.next();
-    let given = largest_in(p, row) + g2.field(0, 12);
+    let given = largest_in(t, row) + g2.field(0, 12);
     let g3 = g2.next();
     let mirrorable = g3.field(0, 1);
     let generator = g3.next();
     let layouts = generator.field(1, 2);
-    Head {
+    Opening {
         row,
         given,
         mirrorable,
@@ -141,15 +143,15 @@ fn draw_head(p: Progress) -> Head
 }
 
 // The lead and the first four numbers of a line.
-fn put_head(output: &mut [u8], at: usize, head: Head) -> usize
-    requires { ⌜ Room (headText head) (now output) at ⌝ }
-    ensures { λ r. ⌜ Wrote (headText head) (now (output .entry)) at (now (output .exit)) r ⌝ }
+fn put_opening(output: &mut [u8], at: usize, opening: Opening) -> usize
+    requires { ⌜ Room (openingText opening) (now output) at ⌝ }
+    ensures { λ r. ⌜ Wrote (openingText opening) (now (output .entry)) at (now (output .exit)) r ⌝ }
 {
     let p = put_byte(&mut *output, at, b'C');
-    let q = put_listed(&mut *output, p, head.row);
-    let r = put_listed(&mut *output, q, head.given);
-    let s = put_listed(&mut *output, r, head.mirrorable);
-    put_listed(output, s, head.layouts)
+    let q = put_listed(&mut *output, p, opening.row);
+    let r = put_listed(&mut *output, q, opening.given);
+    let s = put_listed(&mut *output, r, opening.mirrorable);
+    put_listed(output, s, opening.layouts)
 }
 
 // How many heights a layout has.
@@ -162,51 +164,24 @@ fn heights_of(row: u32) -> u32
     4
 }
 
-// What a cell leaves to the next line: its given site is the largest in its rows.
-fn with_cell(p: Progress, head: Head, cursor: Cursor) -> Progress
-    requires { ⌜ p .talls ≤ maxCells ⌝ }
-    requires { ⌜ head .row ≤ 2 ⌝ }
-    ensures { λ r. ⌜ r ≡ afterCell p head cursor ⌝ }
-{
-    let given = head.given;
-    if head.row == 0 {
-        return Progress {
-            cursor,
-            talls: p.talls,
-            largest0: given,
-            largest1: p.largest1,
-        };
-    }
-    if head.row == 1 {
-        return Progress {
-            cursor,
-            talls: p.talls,
-            largest0: p.largest0,
-            largest1: given,
-        };
-    }
-    Progress {
-        cursor,
-        talls: p.talls + 1,
-        largest0: given,
-        largest1: given,
-    }
-}
-
 // The line of one cell.
 fn put_cell(output: &mut [u8], p: Progress) -> Progress
     requires { ⌜ Ready p ⌝ }
     requires { ⌜ LineRoom (p .cursor .at) (now output) ⌝ }
     ensures { λ r. ⌜ WroteCell p (now (output .entry)) (now (output .exit)) r ⌝ }
 {
-    let head = draw_head(p);
-    let heights = heights_of(head.row);
-    let at = put_head(&mut *output, p.cursor.at, head);
-    let generator = head.generator;
-    let c = put_layouts(&mut *output, Cursor { at, generator }, head.layouts, heights);
+    let opening = draw_opening(p);
+    let heights = heights_of(opening.row);
+    let at = put_opening(&mut *output, p.cursor.at, opening);
+    let generator = opening.generator;
+    let c = put_layouts(&mut *output, Cursor { at, generator }, opening.layouts, heights);
     let at = put_byte(output, c.at, b'\n');
     let generator = c.generator;
-    with_cell(p, head, Cursor { at, generator })
+    let tally = tally_with(p.tally, opening.row, opening.given);
+    Progress {
+        cursor: Cursor { at, generator },
+        tally,
+    }
 }
 
 // The whole text, from the output's first byte on; its length.
@@ -221,9 +196,13 @@ pub fn put_load(output: &mut [u8], seed: u32, cells: u32) -> usize
             at,
             generator: Generator::seeded(seed),
         },
-        talls: 0,
-        largest0: 0,
-        largest1: 0,
+        tally: Tally {
+            rows: 2,
+            count: 0,
+            tall: 0,
+            first: 0,
+            second: 0,
+        },
     };
     let mut i = 0;
     while i < cells {

@@ -1,21 +1,21 @@
--- Head, layouts and line feed, one after another.
-use Rattle.load_write.specs.Cells.{head-room, layouts-room, feed-room, cell-wrote}
+-- Opening, layouts and line feed, one after another.
+use Rattle.load_write.specs.Cells.{opening-room, layouts-room, feed-room, cell-wrote}
 use borrow.Author.Needs.{needs}
 use Rattle.load_write.proofs.put_cell.Statement.{statement}
 use Rattle.load_write.proofs.put_cell.Tie as tie
 
-draw-head-requires : tie.Need-draw-head-requires
-draw-head-requires c κs = search needs
+draw-opening-requires : tie.Need-draw-opening-requires
+draw-opening-requires c κs = search needs
 
 heights-of-requires : tie.Need-heights-of-requires
 heights-of-requires c κs = search needs
 
-put-head-requires : tie.Need-put-head-requires
-put-head-requires c κs =
+put-opening-requires : tie.Need-put-opening-requires
+put-opening-requires c κs =
     let heights = c .before in
     let head = heights .before in
     let s = head .before .before in
-    head-room (head .draw-head .result) (heights .heights-of .result) (head .draw-head .ensures)
+    opening-room (head .draw-opening .result) (heights .heights-of .result) (head .draw-opening .ensures)
     (heights .heights-of .ensures) (s .pre .1)
 
 put-layouts-requires : tie.Need-put-layouts-requires
@@ -24,8 +24,8 @@ put-layouts-requires c κs =
     let heights = put .before .before in
     let head = heights .before in
     let s = head .before .before in
-    layouts-room (head .draw-head .result) (heights .heights-of .result) (head .draw-head .ensures)
-    (heights .heights-of .ensures) (s .pre .1) (put .put-head .ensures)
+    layouts-room (head .draw-opening .result) (heights .heights-of .result) (head .draw-opening .ensures)
+    (heights .heights-of .ensures) (s .pre .1) (put .put-opening .ensures)
 
 put-byte-requires : tie.Need-put-byte-requires
 put-byte-requires c κs =
@@ -35,11 +35,11 @@ put-byte-requires c κs =
     let heights = put .before .before in
     let head = heights .before in
     let s = head .before .before in
-    feed-room (head .draw-head .result) (heights .heights-of .result) (head .draw-head .ensures)
-    (heights .heights-of .ensures) (s .pre .1) (put .put-head .ensures) (layouts .put-layouts .ensures)
+    feed-room (head .draw-opening .result) (heights .heights-of .result) (head .draw-opening .ensures)
+    (heights .heights-of .ensures) (s .pre .1) (put .put-opening .ensures) (layouts .put-layouts .ensures)
 
-with-cell-requires : tie.Need-with-cell-requires
-with-cell-requires c κs = search needs
+tally-with-requires : tie.Need-tally-with-requires
+tally-with-requires c κs = search needs
 
 same-length : tie.Need-same-length
 same-length c = search needs
@@ -53,19 +53,19 @@ returns c =
     let heights = put .before .before in
     let head = heights .before in
     let s = head .before .before in
-    cell-wrote (head .draw-head .result) (heights .heights-of .result) (head .draw-head .ensures)
-    (heights .heights-of .ensures) (s .pre .1) (put .put-head .ensures) (layouts .put-layouts .ensures)
-    (feed .put-byte .ensures) (c .with-cell .ensures)
+    cell-wrote (head .draw-opening .result) (heights .heights-of .result) (head .draw-opening .ensures)
+    (heights .heights-of .ensures) (s .pre .1) (put .put-opening .ensures) (layouts .put-layouts .ensures)
+    (feed .put-byte .ensures) (c .tally-with .ensures)
 
 pub put-cell-spec : {M : Type 1} → statement M
 put-cell-spec =
     tie.close
     (tie.spec
-    draw-head-requires
+    draw-opening-requires
     heights-of-requires
-    put-head-requires
+    put-opening-requires
     put-layouts-requires
     put-byte-requires
-    with-cell-requires
+    tally-with-requires
     same-length
     returns)

@@ -9,7 +9,7 @@ use Rattle.definition.specs.Load.{loadHeader, loadOf}
 use Rattle.text_write.specs.Put.{Wrote}
 use Rattle.text_write.specs.Puts.{wrote-length}
 use Rattle.load_laws.specs.Accepted.{load-sound}
-use Rattle.load_write.specs.Heads.{Stands}
+use Rattle.load_write.specs.Openings.{Stands}
 use Rattle.load_write.specs.Cells.{load-ready, load-room, begun-stands, header-wrote, more-wrote, more-stands}
 use Rattle.load_write.proofs.put_load.Statement.{statement}
 use Rattle.load_write.proofs.put_load.Tie as tie

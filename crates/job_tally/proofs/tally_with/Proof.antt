@@ -1,7 +1,7 @@
--- `job_read::tally_with` meets its contract: each part is one more cell's.
+-- `job_tally::tally_with` meets its contract: each part is one more cell's.
 use borrow.Author.Needs.{needs}
-use Rattle.job_read.proofs.tally_with.Statement.{statement}
-use Rattle.job_read.proofs.tally_with.Tie as tie
+use Rattle.job_tally.proofs.tally_with.Statement.{statement}
+use Rattle.job_tally.proofs.tally_with.Tie as tie
 
 one-more-requires : tie.Need-one-more-requires
 one-more-requires c κs = search needs

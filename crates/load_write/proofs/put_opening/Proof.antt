@@ -1,13 +1,13 @@
 -- Five parts, one after another: since the whole head fits, what is left of it fits where each part ends.
 use Rattle.text_write.specs.Put.{Room}
 use Rattle.text_write.specs.Puts.{then, first, rest}
-use Rattle.load_write.specs.Heads.{inParts, in-parts}
+use Rattle.load_write.specs.Openings.{inParts, in-parts}
 use borrow.Author.Needs.{needs}
-use Rattle.load_write.proofs.put_head.Statement.{statement}
-use Rattle.load_write.proofs.put_head.Tie as tie
+use Rattle.load_write.proofs.put_opening.Statement.{statement}
+use Rattle.load_write.proofs.put_opening.Tie as tie
 
-whole : (s : tie.Start) → Room (inParts (s .args .head)) (s .args .output .now) (s .args .at)
-whole s = rw (in-parts (s .args .head)) at (s .pre)
+whole : (s : tie.Start) → Room (inParts (s .args .opening)) (s .args .output .now) (s .args .at)
+whole s = rw (in-parts (s .args .opening)) at (s .pre)
 
 put-byte-requires : tie.Need-put-byte-requires
 put-byte-requires c κs = first _ (whole (c .before .before))
@@ -54,13 +54,13 @@ returns c =
     let row = given .before .before .before .before in
     let lead = row .before .before .before .before in
     let s = lead .before .before .before in
-    rw (in-parts (s .args .head))
+    rw (in-parts (s .args .opening))
     (then (lead .put-byte .ensures)
     (then (row .put-listed .ensures)
     (then (given .put-listed2 .ensures) (then (mirrorable .put-listed3 .ensures) (layouts .put-listed4 .ensures)))))
 
-pub put-head-spec : {M : Type 1} → statement M
-put-head-spec =
+pub put-opening-spec : {M : Type 1} → statement M
+put-opening-spec =
     tie.close
     (tie.spec
     put-byte-requires

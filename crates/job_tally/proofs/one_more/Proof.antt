@@ -1,8 +1,8 @@
--- `job_read::one_more` meets its contract, by whether the cell is tall.
+-- `job_tally::one_more` meets its contract, by whether the cell is tall.
 use native.Mathlib.Omega.{arith}
 use borrow.Author.Needs.{needs}
-use Rattle.job_read.proofs.one_more.Statement.{statement}
-use Rattle.job_read.proofs.one_more.Tie as tie
+use Rattle.job_tally.proofs.one_more.Statement.{statement}
+use Rattle.job_tally.proofs.one_more.Tie as tie
 
 add-result : tie.Need-add-result
 add-result c = search needs

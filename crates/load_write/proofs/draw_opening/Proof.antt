@@ -10,10 +10,10 @@ use Rattle.definition.specs.Load as paper
 use Rattle.definition.specs.Load.{rowDrawn}
 use Rattle.load_laws.specs.Draws.{drawn-high}
 use Rattle.load_draws.specs.Generators.{generatorOf}
-use Rattle.load_write.specs.Heads.{largest-low, largest-stands}
+use Rattle.load_write.specs.Openings.{largest-low, largest-stands}
 use borrow.Author.Needs.{needs}
-use Rattle.load_write.proofs.draw_head.Statement.{statement}
-use Rattle.load_write.proofs.draw_head.Tie as tie
+use Rattle.load_write.proofs.draw_opening.Statement.{statement}
+use Rattle.load_write.proofs.draw_opening.Tie as tie
 
 -- the last row is 1 or 2
 last-low : (t : Bool) → (cond t 2 1 ≤ 2) × (1 ≤ cond t 2 1)
@@ -28,8 +28,9 @@ last-row-requires c κs = search needs
 
 field-requires : tie.Need-field-requires
 field-requires c κs =
-    let s = c .before .before in
-    record { some = omega arith; few = omega (arith, c .last-row .ensures, last-low (ltb (s .args .p .talls) maxTall) .0) }
+    let s = c .before .before .before in
+    let tall = s .args .p .tally .tall in
+    record { some = omega arith; few = omega (arith, c .last-row .ensures, last-low (ltb tall maxTall) .0) }
 
 next-requires-2 : tie.Need-next-requires-2
 next-requires-2 c κs = search needs
@@ -43,11 +44,11 @@ field-requires-2 c κs = search needs
 add-given : tie.Need-add-given
 add-given c =
     let row = c .before .before .before in
-    let s = row .before .before .before in
+    let s = row .before .before .before .before in
     omega (
       arith,
       c .before .largest-in .ensures,
-      largest-low (s .args .p) (row .field .result) (s .pre),
+      largest-low (row .field .result) (s .pre),
       c .field2 .ensures,
       drawn-high (0 to 12) (generatorOf (c .before .before .next2 .result)) (omega arith),
     )
@@ -75,9 +76,8 @@ returns c =
     let row = two .before in
     let last = row .before in
     let one = last .before in
-    let s = one .before in
-    let p = s .args .p in
-    let top = last-low (ltb (p .talls) maxTall) in
+    let s = one .before .before in
+    let top = last-low (ltb (s .args .p .tally .tall) maxTall) in
     let row-low : row .field .result ≤ 2 =
     omega (
       arith,
@@ -91,7 +91,7 @@ returns c =
       given = omega (
         arith,
         largest .largest-in .ensures,
-        largest-low p (row .field .result) (s .pre),
+        largest-low (row .field .result) (s .pre),
         given .field2 .ensures,
         drawn-high (0 to 12) (generatorOf (two .next2 .result)) (omega arith),
       );
@@ -113,7 +113,7 @@ returns c =
           let r : row .field .result ≡ rowDrawn (l .cells) (l .generator) =
           row .field .ensures
           ∙ ap₂ (λ (m : ℕ) (g : Generator). drawn (0 to m) g)
-          (last .last-row .ensures ∙ ap (λ (k : ℕ). cond (ltb k maxTall) 2 1) (st .talls)) g1 in
+          (last .last-row .ensures ∙ ap (λ (k : ℕ). cond (ltb k maxTall) 2 1) (st .tally .tall)) g1 in
           record {
             row = r;
             given =
@@ -128,8 +128,8 @@ returns c =
           };
     }
 
-pub draw-head-spec : {M : Type 1} → statement M
-draw-head-spec =
+pub draw-opening-spec : {M : Type 1} → statement M
+draw-opening-spec =
     tie.close
     (tie.spec
     next-requires

@@ -1,7 +1,7 @@
--- `job_read::higher` meets its contract, by whether the cell is in the row.
+-- `job_tally::higher` meets its contract, by whether the cell is in the row.
 use native.Mathlib.Omega.{arith}
-use Rattle.job_read.proofs.higher.Statement.{statement}
-use Rattle.job_read.proofs.higher.Tie as tie
+use Rattle.job_tally.proofs.higher.Statement.{statement}
+use Rattle.job_tally.proofs.higher.Tie as tie
 
 returns : tie.Need-returns
 returns c = rw (c .before .if1 .taken) (omega arith)
