@@ -113,7 +113,6 @@ module _ {l : Load} {h : Opening} (heights : ℕ) (d : OpeningOf l h) (e : heigh
 
 module _ {p : Progress} {before : List ℕ} (h : Opening) (heights : ℕ) (d : DrewOpening p h)
     (e : heights ≡ layoutSize (h .row) - 1) (room : LineRoom (p .cursor .at) before) where
-
   pub opening-room : Room (openingText h) before (p .cursor .at)
   opening-room = record { fits = omega (arith, room .fits, opening-long d) }
 

@@ -106,7 +106,6 @@ inside-form low high h =
 
 module _ {low high : ℕ} {c d : Cursor} {l m : List ℕ} (i : ℕ) (h : InForm low high)
     (w : WroteFields (replicate i (low to high)) c l m d) where
-
   pub next-room : {count n : ℕ} (g : Generator) → FieldsRoom count (c .at) l → i < count → n ≡ drawn (low to high) g
       → Room (listed (n ∷ [])) m (d .at)
   next-room {count} {n} g room few e =

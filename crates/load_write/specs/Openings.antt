@@ -95,8 +95,8 @@ opening-long {h = h} d =
     omega (
       arith,
       listed-long (openingNumbers h)
-      (also (within 0 9999 (h .row)) _ (is-printable (h .row) (omega (arith, d .row)))
-      (also (within 0 9999 (h .given)) _ (is-printable (h .given) (d .given))
-      (also (within 0 9999 (h .mirrorable)) _ (is-printable (h .mirrorable) (omega (arith, d .mirrorable)))
-      (also (within 0 9999 (h .layouts)) true (is-printable (h .layouts) (omega (arith, d .layouts))) refl)))),
+          (also (within 0 9999 (h .row)) _ (is-printable (h .row) (omega (arith, d .row)))
+          (also (within 0 9999 (h .given)) _ (is-printable (h .given) (d .given))
+          (also (within 0 9999 (h .mirrorable)) _ (is-printable (h .mirrorable) (omega (arith, d .mirrorable)))
+          (also (within 0 9999 (h .layouts)) true (is-printable (h .layouts) (omega (arith, d .layouts))) refl)))),
     )

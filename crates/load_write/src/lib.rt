@@ -174,7 +174,12 @@ fn put_cell(output: &mut [u8], p: Progress) -> Progress
     let heights = heights_of(opening.row);
     let at = put_opening(&mut *output, p.cursor.at, opening);
     let generator = opening.generator;
-    let c = put_layouts(&mut *output, Cursor { at, generator }, opening.layouts, heights);
+    let c = put_layouts(
+        &mut *output,
+        Cursor { at, generator },
+        opening.layouts,
+        heights,
+    );
     let at = put_byte(output, c.at, b'\n');
     let generator = c.generator;
     let tally = tally_with(p.tally, opening.row, opening.given);

@@ -1,13 +1,9 @@
 // Place: the job is read, a cheapest legal placement is searched for, and its text and
 // numbers are written to what the caller lends.
-ghost use mathlib.Core.Path.{_≡_};
-ghost use mathlib.Core.List.{_∷_};
-ghost use lib.ListN.{length, replicate};
-ghost use lib.IntN.{pos};
-ghost use Rattle.definition.specs.Outcome.{placeFieldCount, over, lent, Placed};
+ghost use lib.ListN.{length};
+ghost use Rattle.definition.specs.Outcome.{lent, Placed};
 ghost use Rattle.job.specs.Value.{jobOf, placementOf};
 ghost use Rattle.results.specs.Fields.{Listed};
-ghost use Rattle.results.specs.Refusals.{Signed};
 ghost use Rattle.op_place.specs.Poses.{ToPose, PoseBy, ByNumber, Numbered};
 ghost use Rattle.op_place.specs.Fields.{fieldsIn, ReadyText, Wrote};
 ghost use Rattle.op_place.specs.Accepted.{Enough, Answered, Chosen};
@@ -19,7 +15,8 @@ use job_read::read_job;
 use placement_write::put_placement;
 use results::Fields;
 use results::Refusal;
-use results::put_results;
+use results::answer;
+use results::refuse;
 use score_numbers::Numbers;
 use score_numbers::numbers_of;
 use score_numbers::push_numbers;
@@ -95,16 +92,7 @@ fn put_answer(job: Job, poses: [u32; Job::MAX_CELLS], output: &mut [u8], results
     let placement = placement_of(job, poses);
     let bytes = put_placement(output, placement);
     let fields = fields_of(job, placement, bytes);
-    put_results(results, Refusal::none(), fields);
-}
-
-// A refusal: its number and line, and fields of zero.
-fn refuse(results: &mut [i32], refusal: Refusal)
-    requires { ⌜ Signed refusal ⌝ }
-    ensures { λ _. ⌜ now (results .exit) ≡ over (pos (refusal .number) ∷ pos (refusal .line)
-        ∷ replicate placeFieldCount (pos 0)) (now (results .entry)) ⌝ }
-{
-    put_results(results, refusal, Fields::zeros(FIELDS));
+    answer(results, fields);
 }
 
 // Of an accepted job, with buffers that are enough. No word of the store outlives the call.
@@ -118,7 +106,7 @@ fn place_job(job: Job, store: &mut [u32], output: &mut [u8], results: &mut [i32]
     search_lanes::clear(store);
     let some = found.some;
     if !some {
-        refuse(results, Refusal { number: 8, line: 0 });
+        refuse(results, Refusal { number: 8, line: 0 }, FIELDS);
         return 8;
     }
     let poses = found.poses;
@@ -136,17 +124,17 @@ pub fn place_texts(job: &[u8], store: &mut [u32], output: &mut [u8], results: &m
     let refusal = r.refusal;
     let number = refusal.number;
     if number != 0 {
-        refuse(results, refusal);
+        refuse(results, refusal, FIELDS);
         return number;
     }
     let j = r.job;
     let room = LINE_BYTES * j.count;
     if store.len() < STORE_WORDS {
-        refuse(results, Refusal { number: 6, line: 0 });
+        refuse(results, Refusal { number: 6, line: 0 }, FIELDS);
         return 6;
     }
     if output.len() < room {
-        refuse(results, Refusal { number: 7, line: 0 });
+        refuse(results, Refusal { number: 7, line: 0 }, FIELDS);
         return 7;
     }
     place_job(j, store, output, results)

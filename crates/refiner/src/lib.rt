@@ -13,8 +13,9 @@ use op_load::load_text;
 use op_place::place_texts;
 use op_score::score_texts;
 use results::Fields;
-use results::Refusal;
+use results::answer;
 use results::put_results;
+use results::refuse;
 
 // Read's fields: the cell count.
 const READ_FIELDS: usize = 1;
@@ -29,13 +30,13 @@ pub extern "C" fn refiner_read(job: &[u8], results: &mut [i32]) -> u32
     let refusal = r.refusal;
     let number = refusal.number;
     if number != 0 {
-        put_results(results, refusal, Fields::zeros(READ_FIELDS));
+        refuse(results, refusal, READ_FIELDS);
         return number;
     }
     let j = r.job;
     let fields = Fields::empty();
     let fields = fields.push(j.count as i32);
-    put_results(results, Refusal::none(), fields);
+    answer(results, fields);
     0
 }
 
@@ -105,12 +106,7 @@ pub extern "C" fn refiner_place(
 // A load for the farm: the text of a job goes to the output, number, line and the text's length to the results, and
 // the number is returned. The reader accepts the job, with so many cells.
 #[no_mangle]
-pub extern "C" fn refiner_load(
-    seed: u32,
-    cells: u32,
-    output: &mut [u8],
-    results: &mut [i32],
-) -> u32
+pub extern "C" fn refiner_load(seed: u32, cells: u32, output: &mut [u8], results: &mut [i32]) -> u32
     ensures { λ r. ⌜ Met (load seed cells (length (now (output .entry)))) r
         (lent [] (now (output .entry)) (now (results .entry)))
         (lent [] (now (output .exit)) (now (results .exit))) ⌝ }

@@ -48,11 +48,10 @@ loop-again c =
     let drew = put .before .before in
     let step = drew .before in
     let turn = step .before .before in
-    let s = turn .before .before .before in
-    (
+    let s = turn .before .before .before in (
       omega arith,
       next-wrote (turn .loop .i) (s .pre .0) (turn .loop .inv .1) _ (step .next .ensures) (drew .field .ensures)
-      (put .put-listed .ensures),
+          (put .put-listed .ensures),
     )
 
 same-length : tie.Need-same-length Inv-loop μ-loop

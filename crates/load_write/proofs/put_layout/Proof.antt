@@ -16,8 +16,7 @@ put-fields-requires c κs =
 put-fields-requires-2 : tie.Need-put-fields-requires-2
 put-fields-requires-2 c κs =
     let width = c .before .before .before in
-    let s = width .before .before .before in
-    (
+    let s = width .before .before .before in (
       record { some = omega arith; few = omega arith },
       rest-room (s .pre) refl (width .put-fields .ensures) (omega (arith, length-replicate (s .args .heights) (1 to 4))),
     )

@@ -37,11 +37,10 @@ loop-again : tie.Need-loop-again Inv-loop μ-loop
 loop-again c =
     let put = c .before .before in
     let turn = put .before .before .before in
-    let s = turn .before .before in
-    (
+    let s = turn .before .before in (
       omega arith,
       rw (repeated-more (turn .loop .i) (layoutOf (s .args .heights)))
-      (fields-then (turn .loop .inv .1) (put .put-layout .ensures)),
+          (fields-then (turn .loop .inv .1) (put .put-layout .ensures)),
     )
 
 same-length : tie.Need-same-length Inv-loop μ-loop

@@ -37,8 +37,7 @@ seeded-requires c κs = tt
 loop-holds : tie.Need-loop-holds Inv-loop μ-loop
 loop-holds c =
     let header = c .before .before .before in
-    let s = header .before .before .before .before in
-    (
+    let s = header .before .before .before .before in (
       omega arith,
       (λ before w. header-wrote (s .args .seed) w),
       begun-stands (s .args .seed) (header .put-bytes .result) (c .seeded .result) (c .seeded .ensures),
@@ -51,8 +50,7 @@ put-cell-requires c κs =
     let header = turn .before .before .before .before in
     let s = header .before .before .before .before in
     let sound = load-sound (s .args .seed) (turn .loop .i) (omega (arith, s .pre .0)) in
-    let w = turn .loop .inv .1 (s .args .output .now) (header .put-bytes .ensures) in
-    (
+    let w = turn .loop .inv .1 (s .args .output .now) (header .put-bytes .ensures) in (
       load-ready sound (omega (arith, s .pre .0)) (turn .loop .inv .2),
       load-room sound (omega (arith, s .pre .0)) (s .pre .1) w,
     )
@@ -68,8 +66,7 @@ loop-again c =
     let put = c .before .before in
     let turn = put .before .before .before in
     let header = turn .before .before .before .before in
-    let s = header .before .before .before .before in
-    (
+    let s = header .before .before .before .before in (
       omega arith,
       (λ before w. more-wrote (s .args .seed) (turn .loop .i) (put .put-cell .ensures) (turn .loop .inv .2) (turn .loop .inv .1 before w)),
       more-stands (s .args .seed) (turn .loop .i) (put .put-cell .ensures) (turn .loop .inv .2),

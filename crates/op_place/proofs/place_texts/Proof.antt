@@ -13,7 +13,10 @@ read-job-requires c κs = search needs
 refuse-requires : tie.Need-refuse-requires
 refuse-requires c κs =
     let o = c .before .before .before .read-job .ensures in
-    record { number = omega (arith, o .number); line = omega (arith, o .line) }
+    record {
+      signed = record { number = omega (arith, o .number); line = omega (arith, o .line) };
+      few = omega arith;
+    }
 
 same-length : tie.Need-same-length
 same-length c = search needs

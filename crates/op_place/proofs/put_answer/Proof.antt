@@ -8,8 +8,6 @@ use lib.IntN.{ℤ, pos}
 use Rattle.definition.specs.Placement.{Placement, textOf}
 use Rattle.definition.specs.Outcome.{over}
 use Rattle.job.specs.Value.{jobOf, placementOf}
-use Rattle.results.specs.declared.Refusal.{Refusal}
-use Rattle.results.specs.Fields.{listOf}
 use Rattle.op_place.specs.Fields.{fieldsIn}
 use Rattle.op_place.specs.Answers.{text-room, text-short, ready}
 use borrow.Author.Needs.{needs}
@@ -41,14 +39,8 @@ fields-of-requires c κs =
           omega (arith, c .before .before .put-placement .ensures .1, text-short (s .args .job) (s .args .poses) (length (s .args .output .now)) (s .pre) P n);
     }
 
-none-requires : tie.Need-none-requires
-none-requires c κs = search needs
-
-put-results-requires : tie.Need-put-results-requires
-put-results-requires c κs = record {
-  signed = rw (c .none .ensures) (record { number = omega arith; line = omega arith });
-  few = c .before .before .fields-of .ensures .few;
-}
+answer-requires : tie.Need-answer-requires
+answer-requires c κs = search needs
 
 same-length : tie.Need-same-length
 same-length c = search needs
@@ -59,8 +51,7 @@ same-length-2 c = search needs
 returns : tie.Need-returns
 returns c =
     let w = c .before in
-    let n = w .before in
-    let f = n .before .before in
+    let f = w .before .before in
     let t = f .before .before .before in
     let e = t .before .before in
     let s = e .before .before in
@@ -69,8 +60,7 @@ returns c =
     record {
       text = t .put-placement .ensures .0 ∙ ap (λ (Q : Placement). over (textOf Q) (s .args .output .now)) same;
       array =
-          w .put-results .ensures
-          ∙ ap (λ (q : Refusal). over (pos (q .number) ∷ pos (q .line) ∷ listOf (f .fields-of .result)) (s .args .results .now)) (n .none .ensures)
+          w .answer .ensures
           ∙ ap (λ (l : List ℤ). over (pos 0 ∷ pos 0 ∷ l) (s .args .results .now))
           (f .fields-of .ensures .list
           ∙ ap (λ (b : ℕ). fieldsIn j (placementOf (e .placement-of .result)) b) (t .put-placement .ensures .1)
@@ -84,8 +74,7 @@ put-answer-spec =
     placement-of-requires
     put-placement-requires
     fields-of-requires
-    none-requires
-    put-results-requires
+    answer-requires
     same-length
     same-length-2
     returns)

@@ -15,8 +15,6 @@ use Rattle.demand_laws.specs.Demand1.{read-demand1}
 use Rattle.definition_laws.specs.Outcomes.{read-refused, read-accepted}
 use Rattle.job.specs.Value.{jobOf}
 use Rattle.job_read.specs.Reads.{reads-accepted, reads-refused}
-use Rattle.results.specs.declared.Refusal.{Refusal}
-use Rattle.results.specs.Fields.{listOf}
 use borrow.Author.Needs.{needs}
 use Rattle.refiner.proofs.refiner_read.Statement.{statement}
 use Rattle.refiner.proofs.refiner_read.Tie as tie
@@ -29,15 +27,12 @@ kept job t = (t, read-demand1 job t)
 read-job-requires : tie.Need-read-job-requires
 read-job-requires c κs = search needs
 
-zeros-requires : tie.Need-zeros-requires
-zeros-requires c κs = search needs
-
-put-results-requires : tie.Need-put-results-requires
-put-results-requires c κs =
-    let o = c .before .before .before .before .read-job .ensures in
+refuse-requires : tie.Need-refuse-requires
+refuse-requires c κs =
+    let o = c .before .before .before .read-job .ensures in
     record {
       signed = record { number = omega (arith, o .number); line = omega (arith, o .line) };
-      few = omega (arith, c .zeros .ensures .count);
+      few = omega arith;
     }
 
 same-length : tie.Need-same-length
@@ -46,19 +41,14 @@ same-length c = search needs
 returns : tie.Need-returns
 returns c =
     let p = c .before in
-    let z = p .before in
-    let t = z .before .before in
+    let t = p .before .before in
     let r = t .before .before in
     let a = r .before .before .args in
     let d = t .if1 .taken in
-    let q = r .read-job .result .refusal in
     let e = read-refused (a .job .now) (reads-refused (r .read-job .ensures) d) d in
     kept (a .job .now) (record {
       number = ap (λ (o : Outcome). o .number) (sym e);
-      array =
-          p .put-results .ensures
-          ∙ ap (λ (l : List ℤ). over (pos (q .number) ∷ pos (q .line) ∷ l) (a .results .now)) (z .zeros .ensures .list)
-          ∙ ap (λ (o : Outcome). over (resultsOf o) (a .results .now)) (sym e);
+      array = p .refuse .ensures ∙ ap (λ (o : Outcome). over (resultsOf o) (a .results .now)) (sym e);
     })
 
 empty-requires : tie.Need-empty-requires
@@ -72,16 +62,8 @@ cast-push c =
 push-requires : tie.Need-push-requires
 push-requires c κs = search needs
 
-none-requires : tie.Need-none-requires
-none-requires c κs = search needs
-
-put-results-requires-2 : tie.Need-put-results-requires-2
-put-results-requires-2 c κs =
-    let u = c .before .before in
-    record {
-      signed = rw (c .none .ensures) (record { number = omega arith; line = omega arith });
-      few = omega (arith, u .push .ensures .count, u .before .before .empty .ensures .count);
-    }
+answer-requires : tie.Need-answer-requires
+answer-requires c κs = search needs
 
 same-length-2 : tie.Need-same-length-2
 same-length-2 c = search needs
@@ -89,8 +71,7 @@ same-length-2 c = search needs
 returns-2 : tie.Need-returns-2
 returns-2 c =
     let w = c .before in
-    let n = w .before in
-    let u = n .before .before in
+    let u = w .before .before in
     let m = u .before .before in
     let l = m .before .before in
     let r = l .before .before in
@@ -103,8 +84,7 @@ returns-2 c =
     kept (a .job .now) (record {
       number = ap (λ (o : Outcome). o .number) (sym e);
       array =
-          w .put-results2 .ensures
-          ∙ ap (λ (q : Refusal). over (pos (q .number) ∷ pos (q .line) ∷ listOf (u .push .result)) (a .results .now)) (n .none .ensures)
+          w .answer .ensures
           ∙ ap told (u .push .ensures .list)
           ∙ ap (λ (f : List ℤ). told (f ++ (toZ w32 (r .read-job .result .job .count) ∷ []))) (m .empty .ensures .list)
           ∙ ap (λ (v : ℤ). told (v ∷ [])) (toZ-pos w32 (omega (arith, g .few)) ∙ ap pos (sym many))
@@ -116,14 +96,12 @@ refiner-read-spec =
     tie.close
     (tie.spec
     read-job-requires
-    zeros-requires
-    put-results-requires
+    refuse-requires
     same-length
     returns
     empty-requires
     cast-push
     push-requires
-    none-requires
-    put-results-requires-2
+    answer-requires
     same-length-2
     returns-2)
