@@ -2,10 +2,10 @@
 -- document 02 by a program apart from these definitions; here they are computed, so that a definition that is wrong in
 -- a shift, a sum, a range or the order of draws is refused in this crate.
 use Prim.Native.Nat.{ℕ}
-use Prim.Native.String.{String, _++_}
+use Prim.Native.String.{_++_}
 use mathlib.Core.Path.{_≡_, refl}
 use mathlib.Core.Bool.{true, false}
-use mathlib.Core.List.{List, [], _∷_}
+use mathlib.Core.List.{[], _∷_}
 use lib.ListN.{replicate}
 use Rattle.definition.specs.Lists.{all, any}
 use Rattle.definition.specs.Texts.{Text, bytes, digitsIn, digits}

@@ -1,15 +1,15 @@
 -- A load keeps demand 1; and the reader accepts what a call wrote.
-use Prim.Native.Nat.{ℕ, _≤_}
+use Prim.Native.Nat.{ℕ}
 use mathlib.Core.Path.{_≡_, refl, sym, ap, subst, _∙_}
 use mathlib.Core.Bool.{false≢true}
 use mathlib.Core.Logic.{_⊎_, inl, inr}
 use native.Mathlib.Omega.{arith}
 use lib.ListN.{length}
 use Rattle.definition.specs.Outcome.{Outcome, noLine, refusedBy, Buffers, Met, over}
-use Rattle.definition.specs.Load.{loadRefusal, loadFieldCount, loadAnswer, loadOf, load, Loaded, LoadedOf}
+use Rattle.definition.specs.Load.{loadRefusal, loadFieldCount, loadOf, load, Loaded, LoadedOf}
 use Rattle.definition.specs.Demands.{loadShape, Demand1}
 use Rattle.load_laws.specs.Accepted.{load-accepted, load-short}
-use Rattle.load_laws.specs.Outcomes.{Tried, tried, load-refused, load-answered}
+use Rattle.load_laws.specs.Outcomes.{tried, load-refused, load-answered}
 use Rattle.demand_laws.specs.Fair.{Fair, fair-demand1, refusal-fair}
 
 load-keeps : (seed cells room : ℕ) → Fair loadShape room (load seed cells room)

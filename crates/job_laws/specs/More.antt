@@ -1,7 +1,7 @@
 -- One cell line more: a text that was accepted, ends with a line feed and goes on with a line that is not refused is
 -- accepted, with the cell of that line.
 use Prim.Native.Nat.{ℕ, suc}
-use mathlib.Core.Path.{_≡_, refl, sym, ap, _∙_}
+use mathlib.Core.Path.{_≡_, sym, ap, _∙_}
 use mathlib.Core.Bool.{true}
 use mathlib.Core.List.{List, [], _∷_, _++_}
 use native.Mathlib.Omega.{arith}
@@ -22,7 +22,8 @@ unfolding readCells
 cells-more [] l at j k e z =
     let q : j ≡ k = cc in
     let y : cellRefusal j l ≡ 0 = rw (sym q) at z in
-    read-cell-line j at l [] ∙ passed (cellRefusal j l) at _ _ y (ap (λ (i : Job). accepted (withCell i (lineCell l))) q)
+    read-cell-line j at l []
+    ∙ passed (cellRefusal j l) at _ _ y (ap (λ (i : Job). accepted (withCell i (lineCell l))) q)
 cells-more (m ∷ ls) l at j k e z =
     let more : Job = withCell j (lineCell m) in
     let c = chosen (cellRefusal j m) at (readCells more (suc at) ls) k (sym (read-cell-line j at m ls) ∙ e) in

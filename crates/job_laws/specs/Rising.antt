@@ -29,7 +29,8 @@ row-rises : (row g : ℕ) (asked : Bool) (cs : List Cell)
 row-rises row g true [] = sym (leb·zero g)
 row-rises row g false [] = refl
 row-rises row g asked (d ∷ cs) =
-    rw (row-rises row g asked cs, leb-max (cond (inRow row d) (d .given) 0) (largestIn row cs) g) (go (inRow row d) asked)
+    rw (row-rises row g asked cs, leb-max (cond (inRow row d) (d .given) 0) (largestIn row cs) g)
+    (go (inRow row d) asked)
   where
     go : (t asked : Bool)
         → (not (t && asked) || leb (d .given) g) && (not asked || leb (largestIn row cs) g)

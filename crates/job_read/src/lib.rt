@@ -1,10 +1,9 @@
 // The reader: a job text is read line by line, each line once, up to the first that is refused.
 ghost use mathlib.Core.Path.{_≡_};
-ghost use mathlib.Core.Bool.{cond};
-ghost use Prim.Native.Nat.{_+_, _<_, max};
+ghost use Prim.Native.Nat.{_+_, _<_};
 ghost use lib.ListN.{length, drop};
 ghost use Rattle.definition.specs.Texts.{linesOf};
-ghost use Rattle.definition.specs.Job.{readJob, readCells, maxCells};
+ghost use Rattle.definition.specs.Job.{readJob, readCells};
 ghost use Rattle.job_read.specs.Lines.{later, headNumber, cellNumber, LeadOf};
 ghost use Rattle.job_read.specs.Reads.{HeadLine, CellLine, CellsFrom, begun, Reads};
 use job::Cell;

@@ -1,14 +1,12 @@
 -- What is kept of the cells so far, and that it decides whether one more finds room and does not fall.
-use Prim.Native.Nat.{ℕ, suc, _+_, _≤_, _<_, max}
-use mathlib.Core.Path.{_≡_, refl, sym, _∙_}
-use mathlib.Core.Bool.{Bool, true, false, not, _&&_, _||_, cond}
-use mathlib.Core.List.{List, [], _∷_, _++_}
-use native.Mathlib.Omega.{arith}
+use Prim.Native.Nat.{ℕ, _+_, _<_, max}
+use mathlib.Core.Path.{_≡_, sym}
+use mathlib.Core.Bool.{Bool, not, _&&_, _||_, cond}
+use mathlib.Core.List.{[], _∷_}
 use lib.ListN.{length, length-append}
-use lib.Dec.{leb, ltb, eqb, leb·zero}
-use borrow.Author.Tests.{le-leb, lt-leb, leb-true, leb-false}
-use Rattle.definition.specs.Lists.{all, keep}
-use Rattle.definition.specs.Job.{Cell, Job, maxCells, maxTall, isTall, inRow, shareRow, hasRoom, notFalling, withCell}
+use lib.Dec.{leb, ltb, eqb}
+use Rattle.definition.specs.Lists.{keep}
+use Rattle.definition.specs.Job.{Cell, Job, maxCells, maxTall, isTall, hasRoom, notFalling, withCell}
 use Rattle.definition.specs.Load.{largestIn}
 use Rattle.job_laws.specs.Lists.{keep-more}
 use Rattle.job_laws.specs.Rising.{largest-more, rises-cells}

@@ -1,6 +1,5 @@
 // The generator that a load's fields are drawn from.
 ghost use mathlib.Core.Path.{_≡_};
-ghost use Prim.Native.Nat.{_≤_};
 ghost use Rattle.definition.specs.Draws as paper;
 ghost use Rattle.definition.specs.Draws.{_to_, drawn};
 ghost use Rattle.load_draws.specs.Generators.{generatorOf, InForm};

@@ -1,13 +1,13 @@
 -- "The reader accepts each job written": for every seed and every count up to 64, with that many cells; and the text is
 -- shorter than the output that a call asks for.
 use Prim.Native.Nat.{ℕ, zero, suc, _+_, _*_, _≤_, _<_}
-use mathlib.Core.Path.{_≡_, refl, sym, ap, _∙_}
+use mathlib.Core.Path.{_≡_, refl, ap, _∙_}
 use mathlib.Core.Bool.{true}
-use mathlib.Core.List.{List, [], _∷_, _++_}
+use mathlib.Core.List.{[]}
 use native.Mathlib.Omega.{arith}
 use lib.ListN.{length, length-append}
-use Rattle.definition.specs.Texts.{Text, bytes, ended}
-use Rattle.definition.specs.Job.{Header, Job, Cell, maxCells, accepted, readJob, withCell, cellRefusal, headerOf, numbersOf}
+use Rattle.definition.specs.Texts.{ended}
+use Rattle.definition.specs.Job.{Header, Job, Cell, maxCells, accepted, readJob, withCell}
 use Rattle.definition.specs.Load.{Load, ReadAs, loadHeader, loadOf, loadRoom, numbersDrawn, numbersLine}
 use Rattle.definition.specs.EdgesComputed.{opened}
 use Rattle.job_laws.specs.More.{read-more}
@@ -60,11 +60,12 @@ more-sound seed n few s =
     let printed = numbers-printable n (l .cells) (l .generator) few (s .cells) in
     let many = numbers-few n (l .cells) (l .generator) few (s .cells) in
     let some = numbers-some n (l .cells) (l .generator) few (s .cells) in
-    let taken = line-taken (jobFrom l) ns printed some (cell-taken n (l .cells) (l .generator) few (s .cells) header refl) in
+    let taken = cell-taken n (l .cells) (l .generator) few (s .cells) header refl in
     record {
       cells = so-far n (l .cells) (l .generator) few (s .cells);
       reads =
-          read-more (l .text) (numbersLine ns) (jobFrom l) (s .ends) (s .reads) (line-alone ns) taken
+          read-more (l .text) (numbersLine ns) (jobFrom l) (s .ends) (s .reads) (line-alone ns)
+          (line-taken (jobFrom l) ns printed some taken)
           ∙ ap (λ (c : Cell). accepted (withCell (jobFrom l) c)) (line-cell ns);
       ends = line-ended (l .text) ns;
       long = omega (arith, s .long, length-append (l .text) (numbersLine ns), line-long ns printed);

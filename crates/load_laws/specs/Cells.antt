@@ -1,31 +1,33 @@
 -- The numbers drawn for a cell are those of a cell line that the reader takes, after cells that leave room for it.
 use Prim.Native.Nat.{ℕ, zero, suc, _+_, _*_, _-_, _≤_, _<_}
-use mathlib.Core.Path.{_≡_, refl, sym, ap, _∙_}
-use mathlib.Core.Bool.{Bool, true, false, not, _&&_, _||_, cond, or-true, and-eq-true-iff}
+use mathlib.Core.Path.{_≡_, refl, ap, _∙_}
+use mathlib.Core.Bool.{Bool, true, false, not, _&&_, _||_, cond, or-true}
 use mathlib.Core.List.{List, [], _∷_, _++_}
 use native.Mathlib.Omega.{arith}
 use lib.ListN.{length, take, drop, replicate, length-append}
 use lib.Seq.{take-at, drop-at}
 use lib.Dec.{leb, ltb, eqb}
-use borrow.Author.Tests.{le-leb, lt-ltb, ltb-true, ne-eqb, eqb-true, leb-true}
+use borrow.Author.Tests.{le-leb, lt-ltb, ne-eqb}
 use Rattle.definition.specs.Lists.{all, keep}
 use Rattle.definition.specs.Texts.{within}
-use Rattle.definition.specs.Job.{Cell, Job, Header, isTall, inRow, layoutSize, layoutsOf, layoutInRange, cellOf}
+use Rattle.definition.specs.Job.{Cell, Header, isTall, layoutSize, layoutsOf, layoutInRange, cellOf}
 use Rattle.definition.specs.Job.{shapeInRange, hasRoom, restInRange, maxCells, maxTall, maxWidth, maxHeight, maxGiven}
-use Rattle.definition.specs.Draws.{Generator, Range, _to_, next, drawn, draws, drawnAll}
+use Rattle.definition.specs.Draws.{Generator, _to_, next, drawn, draws, drawnAll}
 use Rattle.definition.specs.Load.{rowRange, largestIn, largest, layoutRanges, repeated, rowDrawn, layoutsDrawn}
 use Rattle.definition.specs.Load.{numbersDrawn}
-use Rattle.text_laws.specs.Numbers.{also, all-append}
+use Rattle.text_laws.specs.Numbers.{also}
 use Rattle.job_laws.specs.Line.{Taken}
-use Rattle.load_laws.specs.Draws.{drawn-low, drawn-high, drawn-within, inside, length-drawn, drawn-append, all-drawn}
-use Rattle.load_laws.specs.Draws.{all-replicate, length-ranges, length-repeated, all-repeated}
+use Rattle.load_laws.specs.Draws.{drawn-low, drawn-high, drawn-within, inside, length-drawn, drawn-append}
+use Rattle.load_laws.specs.Draws.{all-drawn, all-replicate, length-ranges, length-repeated, all-repeated}
 use Rattle.load_laws.specs.Lines.{printable, is-printable}
 use Rattle.load_laws.specs.Sites.{Above, not-falling, largest-low, largest-above, largest-below}
 
 -- ---- each field
 
 pub row-drawn : (cells : List Cell) (g : Generator) → rowDrawn cells g ≤ 2
-row-drawn cells g = omega (arith, drawn-high (rowRange cells) (draws 1 g) (omega arith), go (ltb (length (keep isTall cells)) maxTall))
+row-drawn cells g =
+    let fits = drawn-high (rowRange cells) (draws 1 g) (omega arith) in
+    omega (arith, fits, go (ltb (length (keep isTall cells)) maxTall))
   where
     go : (t : Bool) → cond t 2 1 ≤ 2
     go true = omega arith

@@ -1,6 +1,6 @@
 -- What is drawn lies in its range; draws one after another.
 use Prim.Native.Nat.{ℕ, zero, suc, _+_, _*_, _-_, _%_, _≤_, _<_}
-use mathlib.Core.Path.{_≡_, refl, sym, ap, _∙_}
+use mathlib.Core.Path.{_≡_, refl, ap, _∙_}
 use mathlib.Core.Bool.{Bool, true, false, _&&_, cond, and-eq-true-iff}
 use mathlib.Core.List.{List, [], _∷_, _++_}
 use native.Mathlib.Omega.{arith}
@@ -85,7 +85,8 @@ length-ranges row = ap suc (length-replicate (layoutSize row - 1) (1 to 4)) ∙ 
 
 pub length-repeated : (n : ℕ) (rs : List Range) → length (repeated n rs) ≡ n * length rs
 length-repeated zero rs = omega arith
-length-repeated (suc n) rs = omega (arith, length-append rs (repeated n rs), length-repeated n rs, suc-mul n (length rs))
+length-repeated (suc n) rs =
+    omega (arith, length-append rs (repeated n rs), length-repeated n rs, suc-mul n (length rs))
 
 pub all-repeated : (t : Range → Bool) (n : ℕ) (rs : List Range) → all t rs ≡ true → all t (repeated n rs) ≡ true
 all-repeated t zero rs e = refl

@@ -1,14 +1,14 @@
 -- A line of numbers, each after a comma: how it is read, and how long it is.
-use Prim.Native.Nat.{ℕ, zero, suc, _+_, _*_, _≤_}
+use Prim.Native.Nat.{ℕ, _+_, _*_, _≤_}
 use mathlib.Core.Path.{_≡_, refl, sym, ap, subst, _∙_}
-use mathlib.Core.Bool.{Bool, true, false, _&&_, and-eq-true-iff}
+use mathlib.Core.Bool.{Bool, true, false, and-eq-true-iff}
 use mathlib.Core.List.{List, [], _∷_, _++_, map, append-assoc}
 use native.Mathlib.Omega.{arith}
 use lib.ListN.{length, length-append, length-map}
 use lib.Dec.{leb}
 use borrow.Author.Tests.{leb-true, le-leb}
 use Rattle.definition.specs.Lists.{all}
-use Rattle.definition.specs.Texts.{Text, lineFeed, comma, onto, linesOf, fieldsOf, ended, isDigit, isNumber, within}
+use Rattle.definition.specs.Texts.{Text, lineFeed, onto, linesOf, fieldsOf, ended, isDigit, isNumber, within}
 use Rattle.definition.specs.Texts.{value, digits}
 use Rattle.definition.specs.Job.{Job, cellRefusal, numbersOf, cellOf, lineCell, formed, cellLead, fixedLead, ledBy}
 use Rattle.definition.specs.Load.{listed, numbersLine}
@@ -57,7 +57,8 @@ listed-unbroken : (ns : List ℕ) → Unbroken (listed ns)
 unfolding listed
 listed-unbroken [] = tt
 listed-unbroken (n ∷ ns) =
-    ((λ e. omega arith), unbroken-append (digits n) (listed ns) (digits-unbroken (digits n) (digits-each n)) (listed-unbroken ns))
+    let own = digits-unbroken (digits n) (digits-each n) in
+    ((λ e. omega arith), unbroken-append (digits n) (listed ns) own (listed-unbroken ns))
 
 pub line-alone : (ns : List ℕ) → linesOf (numbersLine ns) ≡ numbersLine ns ∷ []
 line-alone ns = one-line (cellLead ∷ listed ns) ((λ e. omega arith), listed-unbroken ns)

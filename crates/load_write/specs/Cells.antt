@@ -1,18 +1,19 @@
 -- A cell's layouts, its line, and what it leaves to the next.
-use Prim.Native.Nat.{ℕ, suc, _+_, _*_, _-_, _≤_, _<_}
+use Prim.Native.Nat.{ℕ, _+_, _*_, _-_, _≤_, _<_}
 use mathlib.Core.Path.{_≡_, refl, sym, ap, _∙_}
 use mathlib.Core.Bool.{Bool, true, false, cond}
 use mathlib.Core.List.{List, [], _∷_, _++_, append-assoc}
 use native.Mathlib.Omega.{arith}
-use native.Mathlib.Nat.{mul-le-mul-right, suc-mul}
+use native.Mathlib.Nat.{mul-le-mul-right}
 use native.Mathlib.Numerals.{add-one}
-use lib.ListN.{length, replicate, length-append, length-replicate}
+use lib.ListN.{length, replicate, length-replicate}
 use lib.Dec.{eqb}
 use Rattle.definition.specs.Lists.{all}
 use Rattle.definition.specs.Texts.{lineFeed}
-use Rattle.definition.specs.Job.{Cell, isTall, cellLead, layoutSize, cellOf, maxCells}
+use Rattle.definition.specs.Job.{isTall, cellLead, layoutSize, cellOf, maxCells}
 use Rattle.definition.specs.Draws.{Range, _to_, seeded, draws, drawnAll}
-use Rattle.definition.specs.Load.{Load, loadHeader, rowDrawn, repeated, loadRoom, loadOf, numbersDrawn, listed, numbersLine, withNumbers}
+use Rattle.definition.specs.Load.{Load, loadHeader, loadRoom, loadOf, repeated}
+use Rattle.definition.specs.Load.{numbersDrawn, listed, numbersLine, withNumbers}
 use Rattle.text_write.specs.Put.{Room, Wrote}
 use Rattle.text_write.specs.Puts.{then, wrote-length}
 use Rattle.job_laws.specs.Lists.{keep-few}
@@ -25,7 +26,8 @@ use Rattle.load_draws.specs.Generators.{generatorOf}
 use Rattle.load_write.specs.declared.Cursor.{Cursor}
 use Rattle.load_write.specs.declared.Progress.{Progress}
 use Rattle.load_write.specs.declared.Opening.{Opening}
-use Rattle.load_write.specs.Openings.{Stands, Ready, DrewOpening, OpeningOf, openingNumbers, openingText, opening-long}
+use Rattle.load_write.specs.Openings.{Stands, Ready, DrewOpening, OpeningOf}
+use Rattle.load_write.specs.Openings.{openingNumbers, openingText, opening-long}
 use Rattle.load_write.specs.Fields.{FieldsRoom, WroteFields, rest-room, listed-append, fields-end}
 
 -- the ranges of a layout with so many heights
@@ -38,7 +40,8 @@ layout-inside heights = all-replicate (inside 0 9999) heights (1 to 4) refl
 -- where all layouts fit, one more fits after some
 pub layout-room : (layouts heights i : ℕ) {c d : Cursor} {l m : List ℕ}
     → FieldsRoom (length (repeated layouts (layoutOf heights))) (c .at) l
-    → WroteFields (repeated i (layoutOf heights)) c l m d → i < layouts → FieldsRoom (length (layoutOf heights)) (d .at) m
+    → WroteFields (repeated i (layoutOf heights)) c l m d → i < layouts
+    → FieldsRoom (length (layoutOf heights)) (d .at) m
 layout-room layouts heights i room w h =
     let one = length (layoutOf heights) in
     let more : (i + 1) * one ≤ layouts * one = mul-le-mul-right one (omega arith) in
@@ -191,7 +194,8 @@ unfolding loadOf
 header-wrote seed w = w
 
 -- one cell more
-module _ (seed n : ℕ) {p r : Progress} {mid end : List ℕ} (w : WroteCell p mid end r) (st : Stands (loadOf seed n) p) where
+module _ (seed n : ℕ) {p r : Progress} {mid end : List ℕ} (w : WroteCell p mid end r)
+    (st : Stands (loadOf seed n) p) where
   pub more-wrote : {before : List ℕ} → Wrote (loadOf seed n .text) before 0 mid (p .cursor .at)
       → Wrote (loadOf seed (n + 1) .text) before 0 end (r .cursor .at)
   unfolding loadOf

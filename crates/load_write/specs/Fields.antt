@@ -1,6 +1,6 @@
 -- Drawn fields in the output: each number after a comma, one draw a number.
 use Prim.Native.Nat.{ℕ, zero, suc, _+_, _*_, _≤_, _<_}
-use mathlib.Core.Path.{_≡_, refl, sym, ap, subst, _∙_}
+use mathlib.Core.Path.{_≡_, refl, sym, ap, _∙_}
 use mathlib.Core.Bool.{true, _&&_}
 use mathlib.Core.List.{List, [], _∷_, _++_, append-assoc, append-nil}
 use native.Mathlib.Omega.{arith}
@@ -48,7 +48,8 @@ pub fields-none : (c : Cursor) (l : List ℕ) → WroteFields [] c l l c
 unfolding drawnAll listed
 fields-none c l = record { bytes = wrote-none l (c .at); generator = refl }
 
-pub fields-one : {c d : Cursor} {l m : List ℕ} (r : Range) → generatorOf (d .generator) ≡ next (generatorOf (c .generator))
+pub fields-one : {c d : Cursor} {l m : List ℕ} (r : Range)
+    → generatorOf (d .generator) ≡ next (generatorOf (c .generator))
     → Wrote (listed (drawn r (generatorOf (d .generator)) ∷ [])) l (c .at) m (d .at) → WroteFields (r ∷ []) c l m d
 unfolding drawnAll
 fields-one r e w = record { bytes = rw e at w; generator = e }
@@ -59,7 +60,8 @@ fields-then {rs} {qs} {c} {d} {e} {l} {m} {n} a b =
     let g = generatorOf (c .generator) in
     let split : listed (drawnAll (rs ++ qs) g) ≡ listed (drawnAll rs g) ++ listed (drawnAll qs (draws (length rs) g)) =
     ap listed (drawn-append rs qs g) ∙ listed-append (drawnAll rs g) (drawnAll qs (draws (length rs) g)) in
-    let second : Wrote (listed (drawnAll qs (draws (length rs) g))) m (d .at) n (e .at) = rw (a .generator) at (b .bytes) in
+    let second : Wrote (listed (drawnAll qs (draws (length rs) g))) m (d .at) n (e .at) =
+    rw (a .generator) at (b .bytes) in
     record {
       bytes = rw split (then (a .bytes) second);
       generator =
@@ -86,7 +88,8 @@ repeated-more n rs = rw (add-one n) (go n)
 
 -- ---- room
 
-pub fields-end : {rs : List Range} {c d : Cursor} {l m : List ℕ} → all (inside 0 9999) rs ≡ true → WroteFields rs c l m d
+pub fields-end : {rs : List Range} {c d : Cursor} {l m : List ℕ} → all (inside 0 9999) rs ≡ true
+    → WroteFields rs c l m d
     → d .at ≤ c .at + 5 * length rs
 fields-end {rs} {c} e w =
     let g = generatorOf (c .generator) in
@@ -100,7 +103,8 @@ rest-room {rs} room e w h = record { fits = omega (arith, room .fits, fields-end
 inside-form : (low high : ℕ) → InForm low high → inside 0 9999 (low to high) ≡ true
 inside-form low high h =
     also (leb 0 low && leb low high) (leb high 9999)
-    (also (leb 0 low) (leb low high) (le-leb 0 low (omega arith)) (le-leb low high (h .some))) (le-leb high 9999 (h .few))
+    (also (leb 0 low) (leb low high) (le-leb 0 low (omega arith)) (le-leb low high (h .some)))
+    (le-leb high 9999 (h .few))
 
 -- ---- one field more of a range
 

@@ -44,7 +44,8 @@ openingText h = cellLead ∷ listed (openingNumbers h)
 -- an opening drawn after a load's cells
 pub record OpeningOf (l : Load) (h : Opening) : Type 0 where
   pub row : h .row ≡ rowDrawn (l .cells) (l .generator)
-  pub given : h .given ≡ largest (rowDrawn (l .cells) (l .generator)) (l .cells) + drawn (0 to 12) (draws 2 (l .generator))
+  pub given : h .given
+      ≡ largest (rowDrawn (l .cells) (l .generator)) (l .cells) + drawn (0 to 12) (draws 2 (l .generator))
   pub mirrorable : h .mirrorable ≡ drawn (0 to 1) (draws 3 (l .generator))
   pub layouts : h .layouts ≡ layoutsDrawn (l .generator)
   pub generator : generatorOf (h .generator) ≡ draws 4 (l .generator)
@@ -80,7 +81,9 @@ largest-stands (suc (suc (suc row))) s h = absurd (omega arith)
 -- in the five parts that are written
 abbrev pub inParts : Opening → List ℕ
 inParts h =
-    (cellLead ∷ []) ++ (listed (h .row ∷ []) ++ (listed (h .given ∷ []) ++ (listed (h .mirrorable ∷ []) ++ listed (h .layouts ∷ []))))
+    (cellLead ∷ [])
+    ++ (listed (h .row ∷ [])
+    ++ (listed (h .given ∷ []) ++ (listed (h .mirrorable ∷ []) ++ listed (h .layouts ∷ []))))
 
 pub in-parts : (h : Opening) → openingText h ≡ inParts h
 in-parts h = ap (λ (l : List ℕ). cellLead ∷ l) (

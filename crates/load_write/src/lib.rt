@@ -1,6 +1,6 @@
 // A load's text, written line by line as its fields are drawn.
 ghost use mathlib.Core.Path.{_≡_};
-ghost use mathlib.Core.List.{[], _∷_, _++_};
+ghost use mathlib.Core.List.{[], _∷_};
 ghost use Prim.Native.Nat.{_≤_, _-_};
 ghost use lib.ListN.{length, replicate};
 ghost use Rattle.definition.specs.Job.{maxCells, maxTall, layoutSize};

@@ -5,7 +5,7 @@ use mathlib.Core.List.{List, [], _∷_}
 use lib.ListN.{length, replicate}
 use lib.IntN.{ℤ, pos}
 use Rattle.definition.specs.Outcome.{Outcome, noLine, refusedBy, over, lent, Met}
-use Rattle.definition.specs.Load.{loadRefusal, loadFieldCount, loadAnswer, loadOf, load}
+use Rattle.definition.specs.Load.{loadRefusal, loadFieldCount, loadOf, load}
 use Rattle.load_laws.specs.Outcomes.{load-refused, load-answered}
 use Rattle.text_write.specs.Put.{Wrote}
 use Rattle.text_write.specs.Puts.{wrote-over}

@@ -1,6 +1,4 @@
 -- Of both rows the larger; of one row its own.
-use Prim.Native.Nat.{max}
-use mathlib.Core.Path.{_≡_}
 use native.Mathlib.Omega.{arith}
 use borrow.Author.Tests.{eq-eqb, ne-eqb}
 use Rattle.load_write.proofs.largest_in.Statement.{statement}

@@ -2,7 +2,7 @@
 use Prim.Native.Nat.{_-_, _≤_}
 use mathlib.Core.Path.{_≡_}
 use native.Mathlib.Omega.{arith}
-use lib.ListN.{length, replicate}
+use lib.ListN.{replicate}
 use Rattle.definition.specs.Draws.{_to_}
 use Rattle.text_write.specs.Puts.{wrote-length}
 use Rattle.load_write.specs.Fields.{WroteFields, fields-none, next-room, next-wrote}

@@ -1,8 +1,8 @@
 -- No refusal, and the fields.
 use mathlib.Core.Path.{ap, _∙_}
-use mathlib.Core.List.{List, _∷_}
+use mathlib.Core.List.{_∷_}
 use native.Mathlib.Omega.{arith}
-use lib.IntN.{ℤ, pos}
+use lib.IntN.{pos}
 use Rattle.definition.specs.Outcome.{over}
 use Rattle.results.specs.declared.Refusal.{Refusal}
 use Rattle.results.specs.Fields.{listOf}
