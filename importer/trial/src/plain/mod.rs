@@ -4,6 +4,7 @@ pub mod brute;
 pub mod cost;
 pub mod fault;
 pub mod job;
+pub mod load;
 pub mod local;
 mod numbers;
 mod order;
