@@ -23,6 +23,8 @@
  *   6       the store has fewer than 1,048,576 words
  *   7       the output has fewer than 9 bytes per cell
  *   8       no legal placement exists
+ *   9       the count of cells of a load is over 64
+ *   10      the output of a load has fewer than 8,192 bytes
  *
  * README.md has the same table with what to do about each.
  *
@@ -59,6 +61,9 @@
 #define REFINER_STORE_WORDS 1048576
 #define REFINER_OUTPUT_BYTES_PER_CELL 9
 
+/* What Load needs: bytes of output, whatever the count of cells. */
+#define REFINER_LOAD_BYTES 8192
+
 /* What a function returns; the table above has the meanings. */
 enum {
     REFINER_ANSWERED = 0,
@@ -69,7 +74,9 @@ enum {
     REFINER_REFUSED_PLACEMENT = 5,
     REFINER_REFUSED_STORE = 6,
     REFINER_REFUSED_OUTPUT = 7,
-    REFINER_REFUSED_NO_LEGAL = 8
+    REFINER_REFUSED_NO_LEGAL = 8,
+    REFINER_REFUSED_LOAD_COUNT = 9,
+    REFINER_REFUSED_LOAD_OUTPUT = 10
 };
 
 /* Where the numbers stand in `results`: these two of every operation, then its own fields. The name
@@ -101,6 +108,8 @@ enum {
     REFINER_PLACE_TEXT_LENGTH = 8,
     REFINER_PLACE_RESULTS = 9
 };
+
+enum { REFINER_LOAD_TEXT_LENGTH = 2, REFINER_LOAD_RESULTS = 3 };
 
 /* Where the numbers stand in Fault line's `part`, how many they are, and which text is which. */
 enum {
@@ -150,6 +159,14 @@ uint32_t refiner_fault_line(const uint8_t *job, size_t job_len, const uint8_t *p
  */
 uint32_t refiner_place(const uint8_t *job, size_t job_len, uint32_t *store, size_t store_len,
                        uint8_t *output, size_t output_len, int32_t *results, size_t results_len);
+
+/* Load. Writes the farm's job of a seed, 0 taken as 1, and a count of cells to the start of
+ * `output`: the same on each machine, and Read accepts it. Refuses 9, then 10, both before a byte
+ * is written, and takes every seed. Results: number, line, text length. Bytes past the text stay as
+ * they were.
+ */
+uint32_t refiner_load(uint32_t seed, uint32_t cells, uint8_t *output, size_t output_len,
+                      int32_t *results, size_t results_len);
 
 #ifdef __cplusplus
 }

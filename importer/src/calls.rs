@@ -53,6 +53,15 @@ mod exported {
             results: *mut i32,
             results_len: usize,
         ) -> u32;
+
+        pub fn refiner_load(
+            seed: u32,
+            cells: u32,
+            output: *mut u8,
+            output_len: usize,
+            results: *mut i32,
+            results_len: usize,
+        ) -> u32;
     }
 }
 
@@ -122,6 +131,21 @@ pub fn place(job: &[u8], store: &mut [u32], output: &mut [u8], results: &mut [i3
             job.len(),
             store.as_mut_ptr(),
             store.len(),
+            output.as_mut_ptr(),
+            output.len(),
+            results.as_mut_ptr(),
+            results.len(),
+        )
+    }
+}
+
+/// Load: number, line, text length. The text of the job goes to the start of `output`.
+pub fn load(seed: u32, cells: u32, output: &mut [u8], results: &mut [i32]) -> u32 {
+    // SAFETY: as for `read`; here `output` is lent for writing too.
+    unsafe {
+        exported::refiner_load(
+            seed,
+            cells,
             output.as_mut_ptr(),
             output.len(),
             results.as_mut_ptr(),

@@ -35,6 +35,11 @@ pub enum RefusalKind {
     Output,
     /// 8: no legal placement exists.
     NoLegal,
+    /// 9: a load is to have too many cells. Only [`load`](crate::load) and
+    /// [`farm_job`](crate::farm_job) can meet it.
+    LoadCount,
+    /// 10: the output that is lent for a load is too small. Only [`load`](crate::load) can meet it.
+    LoadOutput,
     /// A number that this crate does not know: the archive is newer.
     Unknown,
 }

@@ -47,6 +47,7 @@ mod fault;
 mod fields;
 pub mod job;
 mod kind;
+mod loading;
 mod numbers;
 pub mod placement;
 mod placing;
@@ -58,6 +59,7 @@ mod scoring;
 
 pub use fault::{copied_fault_line, fault_line};
 pub use kind::RefusalKind;
+pub use loading::{farm_job, load, Loaded, LOAD_BYTES};
 pub use numbers::Numbers;
 pub use placement::{Pose, PoseError};
 pub use placing::{place, refine, Placed, Refined, OUTPUT_BYTES, STORE_WORDS};

@@ -67,6 +67,18 @@ pub const REFUSALS: &[Refusal] = &[
         meaning: "no legal placement exists",
         remedy: "raise D or R, give the rows more sites, move cells to other rows, or let fixed cells move",
     },
+    Refusal {
+        number: 9,
+        kind: RefusalKind::LoadCount,
+        meaning: "the count of cells of a load is over 64",
+        remedy: "ask for at most 64 cells",
+    },
+    Refusal {
+        number: 10,
+        kind: RefusalKind::LoadOutput,
+        meaning: "the output of a load has fewer than 8,192 bytes",
+        remedy: "lend a larger output",
+    },
 ];
 
 /// A call was refused.
