@@ -1,7 +1,7 @@
 //! The safe calls: each field of an answer and each part of a refusal is where it belongs.
 
-use importer::{place, read, refine, score, Broken, Numbers, Refused, Verdict};
-use importer::{OUTPUT_BYTES, STORE_WORDS};
+use importer::{farm_job, load, place, read, refine, score, Broken, Numbers, Refused, Verdict};
+use importer::{LOAD_BYTES, OUTPUT_BYTES, STORE_WORDS};
 
 /// Five cells whose placement below has six different numbers.
 const JOB: &[u8] = b"J,1,60,7,1,7,11,13,17
@@ -78,6 +78,22 @@ fn refine_answers_the_only_placement_of_a_job() {
     assert_eq!(refined.text, b"16,0,0\n");
 }
 
+/// Two cells, worked out by a program of its own.
+const LOADED: &[u8] = b"J,2,1024,7,1,100,1,100,50
+C,1,5,0,2,9,3,2,4,1,13,1,1,2,1
+C,1,10,0,1,12,4,2,3,3
+";
+
+#[test]
+fn load_answers_the_length_of_its_text() {
+    let mut output = [b'x'; LOAD_BYTES + 1];
+    let loaded = load(7, 2, &mut output).expect("two cells are not too many");
+    let (text, rest) = output.split_at(loaded.text_length);
+    assert_eq!(text, LOADED);
+    assert!(rest.iter().all(|&byte| byte == b'x'));
+    assert_eq!(farm_job(7, 2).as_deref(), Ok(LOADED));
+}
+
 #[test]
 fn each_call_tells_number_and_line_of_a_refusal() {
     let bad = b"J,1,60,7,1,7,11,13,17\nC,0,10,1,1,4,1,1,2,2\nC,0,9,1,1,4,1,1,2,2\n";
@@ -89,4 +105,12 @@ fn each_call_tells_number_and_line_of_a_refusal() {
     assert_eq!(score(JOB, b"9,0,1\n"), Err(missing));
     let store = Refused { number: 6, line: 0 };
     assert_eq!(place(JOB, &mut [], &mut []), Err(store));
+    let count = Refused { number: 9, line: 0 };
+    assert_eq!(load(1, 65, &mut []), Err(count));
+    assert_eq!(farm_job(1, 65), Err(count));
+    let output = Refused {
+        number: 10,
+        line: 0,
+    };
+    assert_eq!(load(1, 64, &mut [0; LOAD_BYTES - 1]), Err(output));
 }

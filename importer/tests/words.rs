@@ -82,6 +82,9 @@ fn refused_calls_have_their_kinds() {
     assert_eq!(lent(&mut [], &mut []), Err(RefusalKind::Store));
     let mut store = vec![0; importer::STORE_WORDS];
     assert_eq!(lent(&mut store, &mut [0; 44]), Err(RefusalKind::Output));
+    let load = |cells| importer::load(1, cells, &mut []).map_err(|refused| refused.kind());
+    assert_eq!(load(65), Err(RefusalKind::LoadCount));
+    assert_eq!(load(64), Err(RefusalKind::LoadOutput));
 }
 
 #[test]

@@ -1,8 +1,8 @@
 //! Each name of the header is what the refiner does.
 
 use crate::building::{build, folder, said};
-use importer::{calls, place, read, refine, score, Refused};
-use importer::{OUTPUT_BYTES, REFUSALS, STORE_WORDS};
+use importer::{calls, load, place, read, refine, score, Refused};
+use importer::{LOAD_BYTES, OUTPUT_BYTES, REFUSALS, STORE_WORDS};
 use std::collections::{BTreeMap, BTreeSet};
 use std::fmt::Debug;
 use std::fs;
@@ -47,6 +47,12 @@ const PLACED: &[(&str, i32)] = &[
     ("DRIFT", -50),
     ("TEXT_LENGTH", 25),
 ];
+
+/// The load of seed 7 with two cells, worked out by a program of its own.
+const LOADED: &str = "J,2,1024,7,1,100,1,100,50
+C,1,5,0,2,9,3,2,4,1,13,1,1,2,1
+C,1,10,0,1,12,4,2,3,3
+";
 
 /// What no operation leaves here.
 const PAINT: i32 = -777;
@@ -95,7 +101,8 @@ fn each_name_is_what_the_refiner_does() {
         names.take("OUTPUT_BYTES_PER_CELL") * limits[0],
         OUTPUT_BYTES
     );
-    check_refusals(&mut names);
+    assert_eq!(names.take("LOAD_BYTES"), LOAD_BYTES);
+    check_refusals(&mut names, limits[0] as u32);
     check_results(&mut names);
     check_part(&mut names);
     assert!(names.0.is_empty(), "no test of {:?}", names.0);
@@ -126,8 +133,9 @@ fn number<T>(called: Result<T, Refused>) -> u32 {
     called.err().map_or(0, |refused| refused.number)
 }
 
-fn check_refusals(names: &mut Names) {
+fn check_refusals(names: &mut Names, most: u32) {
     let lent = |words, bytes| number(place(JOB, &mut vec![0; words], &mut vec![0; bytes]));
+    let loaded = |cells, bytes| number(load(1, cells, &mut vec![0; bytes]));
     let falls = b"J,1,9,0,0,1,1,1,1\nC,0,1,0,1,1,1,1,1,1\nC,0,0,0,1,1,1,1,1,1\n";
     let wide = b"J,1,2,0,0,1,1,1,1\nC,0,0,0,1,3,1,1,1,1\n";
     let called = [
@@ -140,6 +148,8 @@ fn check_refusals(names: &mut Names) {
         ("REFUSED_STORE", lent(STORE_WORDS - 1, OUTPUT_BYTES)),
         ("REFUSED_OUTPUT", lent(STORE_WORDS, 9 * 5 - 1)),
         ("REFUSED_NO_LEGAL", number(refine(wide))),
+        ("REFUSED_LOAD_COUNT", loaded(most + 1, LOAD_BYTES)),
+        ("REFUSED_LOAD_OUTPUT", loaded(most, LOAD_BYTES - 1)),
     ];
     let tried: Vec<u32> = called.iter().map(|(_, number)| *number).collect();
     let table: Vec<u32> = REFUSALS.iter().map(|entry| entry.number).collect();
@@ -198,6 +208,18 @@ fn check_results(names: &mut Names) {
         calls::place(TIGHT, &mut store, &mut output, results)
     });
     check_fields(names, "PLACE", &entries, PLACED);
+
+    let count = names.take("LOAD_RESULTS");
+    let mut output = [0; LOAD_BYTES];
+    let entries = written(PAINT, count, |results| {
+        calls::load(7, 2, &mut output, results)
+    });
+    check_fields(
+        names,
+        "LOAD",
+        &entries,
+        &[("TEXT_LENGTH", LOADED.len() as i32)],
+    );
 }
 
 fn check_part(names: &mut Names) {

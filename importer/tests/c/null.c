@@ -15,7 +15,7 @@ struct text {
 
 struct lent {
     uint32_t store[REFINER_STORE_WORDS];
-    uint8_t output[2 * REFINER_OUTPUT_BYTES_PER_CELL];
+    uint8_t output[REFINER_LOAD_BYTES]; /* more than Place needs */
     int32_t results[REFINER_SCORE_RESULTS];
     uint64_t part[REFINER_PART_NUMBERS];
 };
@@ -64,6 +64,13 @@ static uint32_t call_place(struct text job, struct text placement, struct lent *
                          LENT(NUMBERS, int32_t, lent->results));
 }
 
+static uint32_t call_load(struct text job, struct text placement, struct lent *lent, int empties,
+                          void *empty) {
+    return refiner_load((uint32_t)job.length, (uint32_t)placement.length,
+                        LENT(OUTPUT, uint8_t, lent->output),
+                        LENT(NUMBERS, int32_t, lent->results));
+}
+
 struct function {
     const char *name;
     int arguments;
@@ -76,6 +83,7 @@ static const struct function FUNCTIONS[] = {
     {"refiner_fault", JOB | PLACEMENT | NUMBERS, call_fault},
     {"refiner_fault_line", JOB | PLACEMENT | OUTPUT | NUMBERS, call_fault_line},
     {"refiner_place", JOB | STORE | OUTPUT | NUMBERS, call_place},
+    {"refiner_load", OUTPUT | NUMBERS, call_load},
 };
 
 static int agree(const struct function *function, struct text job, struct text placement,

@@ -118,6 +118,16 @@ impl<'line> Words<'line> {
     }
 }
 
+/// The number that an argument is; the message calls it by its name.
+pub fn argument(name: &str, word: &OsStr) -> Result<u32, Mistake> {
+    let most = u32::MAX;
+    plain_number(word).ok_or_else(|| {
+        Mistake::Usage(format!(
+            "{name} is {word:?}; it is a number from 0 to {most}"
+        ))
+    })
+}
+
 /// A number without a sign.
 fn plain_number(word: &OsStr) -> Option<u32> {
     let word = word.to_str()?;

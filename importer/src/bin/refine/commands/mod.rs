@@ -6,6 +6,7 @@ mod compare;
 mod draw;
 mod gaps;
 mod help;
+mod load;
 mod place;
 mod score;
 mod version;
@@ -85,6 +86,13 @@ const COMMANDS: &[Command] = &[
         prints: "how many of the jobs are answered and refused, and how fast; each answer goes to `NAME.out`",
         options: batch::OPTIONS,
         run: batch::run,
+    },
+    Command {
+        words: &["load"],
+        arguments: "SEED CELLS",
+        prints: "the farm's job of a seed, 0 to 4294967295, with so many cells, 0 to 64",
+        options: &[],
+        run: load::run,
     },
     Command {
         words: &["help", "--help", "-h"],
