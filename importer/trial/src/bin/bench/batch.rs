@@ -2,30 +2,15 @@
 //! Place alone, and two threads beside one.
 
 use crate::clock::processor_time;
+use crate::dense::{self, JOBS};
 use importer::batch::{gather, run, Done, Failure, Summary, Task, Watch};
 use importer::Refiner;
 use std::fs;
 use std::io;
 use std::path::{Path, PathBuf};
 use std::time::{Duration, Instant};
-use trial::generate::legal::{Shape, HEAVY};
-use trial::generate::{legal, Random};
-
-const JOBS: usize = 1000;
 
 const ROUNDS: usize = 5;
-
-/// The jobs' shapes, in turn.
-const SHAPES: [Shape; 4] = [HEAVY, narrow(24), narrow(12), narrow(8)];
-
-const fn narrow(tall: usize) -> Shape {
-    Shape {
-        tall,
-        most_width: 2,
-        gaps: &[0, 0, 2],
-        ..HEAVY
-    }
-}
 
 /// A watch that says nothing.
 struct Quiet;
@@ -76,7 +61,7 @@ impl Took {
 pub fn show() -> io::Result<()> {
     let name = format!("refiner-bench-{}", std::process::id());
     let folder = Folder(std::env::temp_dir().join(name));
-    let jobs = jobs();
+    let jobs = dense::jobs();
     let mut rounds = Vec::new();
     for round in 0..ROUNDS {
         // A folder of its own for each: file systems take longer where files were just removed.
@@ -113,14 +98,6 @@ fn show_one(name: &str, took: Took, alone: Took) {
     let by_wall = wall / alone.wall.as_secs_f64();
     let by_processor = processor / alone.processor.as_secs_f64();
     println!("{name:<26}{wall:>8.3} s{processor:>10.3} s{by_wall:>8.3}{by_processor:>8.3}");
-}
-
-/// The jobs' texts.
-fn jobs() -> Vec<Vec<u8>> {
-    let mut random = Random::new(3);
-    let shapes = SHAPES.iter().cycle().take(JOBS);
-    let job = |shape| legal::job(&mut random, shape).text();
-    shapes.map(job).collect()
 }
 
 fn write_jobs(jobs: &[Vec<u8>], folder: &Path) -> io::Result<()> {
