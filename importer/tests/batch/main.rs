@@ -2,6 +2,7 @@
 
 mod answers;
 mod csv;
+mod farm;
 mod list;
 mod page;
 mod readme;
