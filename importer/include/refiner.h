@@ -8,7 +8,8 @@
  * with buffers of its own; texts that are only read may be shared.
  *
  * Stack: a call of Place takes up to 160 KB, of Score up to 40 KB, of Fault line up to 30 KB, of
- * Read up to 25 KB, as measured on the deepest jobs known. Nothing is taken from the heap.
+ * Read up to 25 KB, of Load up to 1 KB, as measured on the deepest jobs known. Nothing is taken from
+ * the heap.
  *
  * Every operation returns its refusal number, or 0 for an answer. It writes to `results`, as far
  * as that reaches: the number, the line (counted from 1; 0 if no line is at fault), and then the

@@ -18,6 +18,7 @@ static uint8_t job[LONGEST], placement[LONGEST];
 static size_t job_len, placement_len;
 static uint32_t store[REFINER_STORE_WORDS];
 static uint8_t output[REFINER_MAX_CELLS * REFINER_OUTPUT_BYTES_PER_CELL];
+static uint8_t loaded[REFINER_LOAD_BYTES];
 static int32_t results[REFINER_SCORE_RESULTS];
 static uint64_t part[REFINER_PART_NUMBERS];
 
@@ -41,6 +42,10 @@ static uint32_t call_fault_line(void) {
 static uint32_t call_place(void) {
     return refiner_place(job, job_len, store, REFINER_STORE_WORDS, output, sizeof output, results,
                          REFINER_PLACE_RESULTS);
+}
+
+static uint32_t call_load(void) {
+    return refiner_load(1, REFINER_MAX_CELLS, loaded, sizeof loaded, results, REFINER_LOAD_RESULTS);
 }
 
 struct run {
@@ -108,5 +113,6 @@ int main(int count, char **arguments) {
     measure("refiner_fault", call_fault);
     measure("refiner_fault_line", call_fault_line);
     measure("refiner_place", call_place);
+    measure("refiner_load", call_load);
     return 0;
 }
