@@ -2,7 +2,7 @@
 
 mod answers;
 mod csv;
-mod farm;
+mod load;
 mod list;
 mod page;
 mod readme;
