@@ -2,8 +2,8 @@
 
 mod answers;
 mod csv;
-mod load;
 mod list;
+mod load;
 mod page;
 mod readme;
 mod resume;

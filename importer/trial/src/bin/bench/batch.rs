@@ -67,7 +67,7 @@ pub fn show() -> io::Result<()> {
         // A folder of its own for each: file systems take longer where files were just removed.
         let batch_by = |threads: usize| {
             let folder = folder.0.join(format!("{round}-{threads}"));
-            write_jobs(&jobs, &folder)?;
+            dense::write(&jobs, &folder)?;
             batch(&folder, threads)
         };
         rounds.push([place_all(&jobs), batch_by(1)?, batch_by(2)?]);
@@ -98,14 +98,6 @@ fn show_one(name: &str, took: Took, alone: Took) {
     let by_wall = wall / alone.wall.as_secs_f64();
     let by_processor = processor / alone.processor.as_secs_f64();
     println!("{name:<26}{wall:>8.3} s{processor:>10.3} s{by_wall:>8.3}{by_processor:>8.3}");
-}
-
-fn write_jobs(jobs: &[Vec<u8>], folder: &Path) -> io::Result<()> {
-    fs::create_dir_all(folder)?;
-    for (number, job) in jobs.iter().enumerate() {
-        fs::write(folder.join(format!("{number:04}.job")), job)?;
-    }
-    Ok(())
 }
 
 /// Places all jobs, one by one.

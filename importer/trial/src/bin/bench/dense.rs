@@ -1,5 +1,7 @@
 //! A thousand dense jobs that each have a legal placement.
 
+use std::path::Path;
+use std::{fs, io};
 use trial::generate::legal::{Shape, HEAVY};
 use trial::generate::{legal, Random};
 
@@ -23,4 +25,13 @@ pub fn jobs() -> Vec<Vec<u8>> {
     let shapes = SHAPES.iter().cycle().take(JOBS);
     let job = |shape| legal::job(&mut random, shape).text();
     shapes.map(job).collect()
+}
+
+/// Writes jobs to a folder, by their numbers.
+pub fn write(jobs: &[Vec<u8>], folder: &Path) -> io::Result<()> {
+    fs::create_dir_all(folder)?;
+    for (number, job) in jobs.iter().enumerate() {
+        fs::write(folder.join(format!("{number:04}.job")), job)?;
+    }
+    Ok(())
 }

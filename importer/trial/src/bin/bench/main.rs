@@ -3,6 +3,7 @@
 //! Each line is the best of five of both, taken in turn. `bench growth` shows instead how the
 //! time of Place grows with the job, `bench batch` how long many jobs take by one thread and two,
 //! and `bench farm` how many jobs of the farm's load, and of dense ones, are done in a second.
+//! `bench dense DIR` only writes those dense jobs to a folder.
 
 mod batch;
 mod clock;
@@ -16,10 +17,13 @@ mod scoring;
 use std::io;
 
 fn main() -> io::Result<()> {
-    match std::env::args().nth(1).as_deref() {
-        Some("growth") => growth::show(),
-        Some("batch") => batch::show()?,
-        Some("farm") => farm::show(),
+    let words: Vec<String> = std::env::args().skip(1).collect();
+    let words: Vec<&str> = words.iter().map(String::as_str).collect();
+    match words[..] {
+        ["dense", folder] => dense::write(&dense::jobs(), folder.as_ref())?,
+        ["growth"] => growth::show(),
+        ["batch"] => batch::show()?,
+        ["farm"] => farm::show(),
         _ => compare(),
     }
     Ok(())
