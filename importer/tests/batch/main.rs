@@ -1,6 +1,7 @@
 //! `refine batch`: many jobs in one process.
 
 mod answers;
+mod browser;
 mod csv;
 mod list;
 mod load;

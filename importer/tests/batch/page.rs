@@ -3,14 +3,12 @@
 use super::{batch, check_summary, counts, folder, jobs, names, put, summary, text};
 use super::{DESK, DESK_PLACEMENT, PAST, WORKED};
 use std::fs;
-use std::path::Path;
-use std::process::Command;
 
 /// A row's cells, without their tags.
-type Row = Vec<String>;
+pub type Row = Vec<String>;
 
 /// The rows of the table's body, of a page as it was written or as a browser has it.
-fn rows(page: &str) -> Vec<Row> {
+pub fn rows(page: &str) -> Vec<Row> {
     let (_, body) = page.split_once("<tbody>").expect("a table's body");
     let (body, _) = body.split_once("</tbody>").expect("its end");
     let rows = body.split("</tr>").filter(|row| row.contains("<tr>"));
@@ -33,8 +31,14 @@ fn without_tags(cell: &str) -> String {
         .into()
 }
 
+/// The pictures that the page leads to.
+pub fn links(page: &str) -> Vec<&str> {
+    let links = page.split("<a href=\"./").skip(1);
+    links.filter_map(|link| link.split('"').next()).collect()
+}
+
 /// The rows that the page of the jobs is to have.
-fn expected() -> Vec<Row> {
+pub fn expected() -> Vec<Row> {
     let lines = [
         "./desk.job,answered,,,12,0,2,1,0,50,legal,,,,300,288",
         "./falling.job,refused,4,3,,,,,,,,,,,,",
@@ -69,51 +73,15 @@ fn check_well_formed(page: &str) {
     assert_eq!(open, [""; 0]);
 }
 
-/// A browser that can be run without a window; none where there is none.
-fn browser() -> Option<&'static str> {
-    let browsers = ["chromium", "chromium-browser", "google-chrome"];
-    let runs = |browser: &&str| {
-        let version = Command::new(browser).arg("--version").output();
-        version.is_ok_and(|output| output.status.success())
-    };
-    let found = browsers.into_iter().find(runs);
-    if found.is_none() {
-        eprintln!("left out, because this is not installed: {}", browsers[0]);
-    }
-    found
-}
-
-/// The page as a browser has it once its script ran.
-fn as_browsed(browser: &str, page: &Path) -> String {
-    let profile = page.with_file_name("profile");
-    let output = Command::new(browser)
-        .args(["--headless", "--no-sandbox", "--disable-gpu"])
-        .args(["--timeout=20000", "--dump-dom"])
-        .arg(format!("--user-data-dir={}", profile.display()))
-        .arg(format!("file://{}", page.display()))
-        .output();
-    let output = output.expect("the browser runs");
-    assert!(output.status.success(), "{output:?}");
-    String::from_utf8_lossy(&output.stdout).into_owned()
-}
-
 #[test]
 fn the_page_has_a_row_for_each_job() {
     let folder = jobs("page");
     check_summary(batch(&folder, &["--html", "page", "."]), &summary(0));
-    let path = folder.join("page/index.html");
-    let page = text(&path);
+    let page = text(folder.join("page/index.html"));
     check_well_formed(&page);
     assert_eq!(rows(&page), expected());
     let heading = page.matches("<th scope=\"col\"").count();
     assert_eq!(heading, expected()[0].len());
-    let Some(browser) = browser() else {
-        return;
-    };
-    let browsed = as_browsed(browser, &path);
-    assert_eq!(rows(&browsed), expected());
-    // The script made a button of each heading.
-    assert_eq!(browsed.matches("<button type=\"button\">").count(), heading);
 }
 
 #[test]
@@ -144,9 +112,7 @@ fn each_job_that_is_accepted_has_its_picture() {
     let files = [&pictures[..1], &["index.html"], &pictures[1..]].concat();
     assert_eq!(names(&folder.join("new/page")), files);
     let page = text(folder.join("new/page/index.html"));
-    let links = page.split("<a href=\"./").skip(1);
-    let links: Vec<&str> = links.filter_map(|link| link.split('"').next()).collect();
-    assert_eq!(links, pictures);
+    assert_eq!(links(&page), pictures);
     let desk = text(folder.join("new/page/desk.svg"));
     for words in ["placement: legal, cost 300", "cheapest: legal, cost 12,"] {
         assert!(desk.contains(words), "{words}");
