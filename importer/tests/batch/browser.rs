@@ -45,7 +45,7 @@ fn browser(folder: &Path) -> Option<&'static str> {
         .into_iter()
         .find(|browser| printed(browser, &version, &to).is_some());
     if found.is_none() {
-        eprintln!("not tried, because it is not installed: {}", BROWSERS[0]);
+        eprintln!("left out, because this is not installed: {}", BROWSERS[0]);
     }
     found
 }

@@ -3,6 +3,8 @@
 mod answers;
 mod browser;
 mod csv;
+#[cfg(unix)]
+mod farm;
 mod list;
 mod load;
 mod page;
