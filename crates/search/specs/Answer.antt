@@ -4,8 +4,10 @@ use mathlib.Core.Path.{_≡_, refl}
 use mathlib.Core.List.{List}
 use native.Mathlib.Omega.{arith}
 use lib.ListN.{length, getD}
-use Rattle.theory_tables.specs.Steps.{B}
+use Rattle.definition.specs.Job.{maxCells}
+use Rattle.theory_tables.specs.Steps.{B, poseSlots}
 use Rattle.theory_traceback.specs.Decks.{DecksTraced, places₀, places₁, talls-agree}
+use Rattle.search_store.specs.Map.{maxKept}
 use Rattle.search_row.specs.declared.Sizes.{Sizes}
 use Rattle.search_row.specs.Words.{posIn}
 use Rattle.search_back_segment.specs.Traces.{wordAt}
@@ -37,7 +39,8 @@ module _ {row₀ row₁ : List ℕ} {z : Sizes} {n₁ : ℕ} (r : RowsAsked row�
   was-traced t w = traced-back (t .some) (w .done (t .ways) (t .some) .traced)
 
   module _ (path₀ path₁ : List ℕ) (b : Back (wordAt path₀) (wordAt path₁)) where
-    pub first-given : {out : List ℕ} → 67 ≤ length path₀ → 64 ≤ length out → Given row₀ path₀ out (z .cells)
+    pub first-given : {out : List ℕ} → maxKept < length path₀ → maxCells ≤ length out
+        → Given row₀ path₀ out (z .cells)
     first-given h l =
         let g = r .first .given .ground in
         record {
@@ -50,7 +53,7 @@ module _ {row₀ row₁ : List ℕ} {z : Sizes} {n₁ : ℕ} (r : RowsAsked row�
           apart = r .first .apart;
         }
 
-    pub second-given : {out : List ℕ} → 67 ≤ length path₁ → 64 ≤ length out → Given row₁ path₁ out n₁
+    pub second-given : {out : List ℕ} → maxKept < length path₁ → maxCells ≤ length out → Given row₁ path₁ out n₁
     second-given h l =
         let g = r .second .given .ground in
         record {
@@ -64,7 +67,8 @@ module _ {row₀ row₁ : List ℕ} {z : Sizes} {n₁ : ℕ} (r : RowsAsked row�
         }
 
     -- both rows are scattered, one after the other
-    pub answered : {old mid new : List ℕ} → ((k : ℕ) → getD old k 0 < 64) → Scattered row₀ path₀ (z .cells) old mid
+    pub answered : {old mid new : List ℕ} → ((k : ℕ) → getD old k 0 < poseSlots)
+        → Scattered row₀ path₀ (z .cells) old mid
         → Scattered row₁ path₁ n₁ mid new → Answered row₀ row₁ z n₁ new
     answered small v w = record {
       posed = record {
@@ -80,6 +84,6 @@ module _ {row₀ row₁ : List ℕ} {z : Sizes} {n₁ : ℕ} (r : RowsAsked row�
         agree : (i k : ℕ) → 0 < i → i ≤ z .cells → 0 < k → k ≤ n₁ → cellAt row₀ path₀ i ≡ cellAt row₁ path₁ k
             → poseAt path₀ i ≡ poseAt path₁ k
         agree i k h l g m e =
-            let I = r .shared (getD path₀ i 0 / 64) (getD path₁ k 0 / 64) (places₀ b .inside i h l)
+            let I = r .shared (getD path₀ i 0 / poseSlots) (getD path₁ k 0 / poseSlots) (places₀ b .inside i h l)
             (places₁ b .inside k g m) e in
             talls-agree b (I .0) i k (I .1) h l g m (I .2) (I .3)

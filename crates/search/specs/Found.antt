@@ -6,8 +6,9 @@ use mathlib.Core.Bool.{Bool, true, false, true≢false, false≢true}
 use mathlib.Core.List.{List}
 use native.Mathlib.Omega.{arith}
 use lib.ListN.{length, getD}
+use Rattle.definition.specs.Job.{maxCells}
 use Rattle.search_store.specs.Map.{caseAt}
-use Rattle.theory_tables.specs.Steps.{B, Deck, stateCount}
+use Rattle.theory_tables.specs.Steps.{B, Deck, stateCount, poseSlots}
 use Rattle.theory_tables.specs.Stages.{leastCost}
 use Rattle.theory_tables.specs.Back.{Traced}
 use Rattle.theory_tables.specs.Notes.{NotedBy}
@@ -40,15 +41,16 @@ module _ (row₀ row₁ : List ℕ) (z : Sizes) (n₁ : ℕ) where
     pub path₀ : ℕ → ℕ
     pub path₁ : ℕ → ℕ
     pub traced : RowsTraced path₀ path₁
-    pub posed₀ : (i : ℕ) → 0 < i → i ≤ z .cells → getD poses (numberAt row₀ (path₀ i / 64)) 0 ≡ path₀ i % 64
-    pub posed₁ : (i : ℕ) → 0 < i → i ≤ n₁ → getD poses (numberAt row₁ (path₁ i / 64)) 0 ≡ path₁ i % 64
+    pub posed₀ : (i : ℕ) → 0 < i → i ≤ z .cells
+        → getD poses (numberAt row₀ (path₀ i / poseSlots)) 0 ≡ path₀ i % poseSlots
+    pub posed₁ : (i : ℕ) → 0 < i → i ≤ n₁ → getD poses (numberAt row₁ (path₁ i / poseSlots)) 0 ≡ path₁ i % poseSlots
 
   pub record RowsFound (found : Bool) (cost : ℕ) (poses : List ℕ) : Type 0 where
     pub none-when : found ≡ false → least ≡ B
     pub some-when : found ≡ true → least < B
     pub stated : found ≡ true → cost ≡ least
     pub posed : found ≡ true → Posed poses
-    pub numbers : (k : ℕ) → getD poses k 0 < 64
+    pub numbers : (k : ℕ) → getD poses k 0 < poseSlots
 
   -- ---- the least cost
 
@@ -96,17 +98,18 @@ module _ (row₀ row₁ : List ℕ) (z : Sizes) (n₁ : ℕ) where
   pub record Answering (st poses : List ℕ) : Type 0 where
     pub rows : RowsAsked row₀ row₁ z n₁
     pub tables : Tables st
-    pub room : 64 ≤ length poses
-    pub numbers : (k : ℕ) → getD poses k 0 < 64
+    pub room : maxCells ≤ length poses
+    pub numbers : (k : ℕ) → getD poses k 0 < poseSlots
 
   -- ---- what is answered
 
   -- the pose numbers of a placement that was traced
   pub record Answered (poses : List ℕ) : Type 0 where
     pub posed : Posed poses
-    pub numbers : (k : ℕ) → getD poses k 0 < 64
+    pub numbers : (k : ℕ) → getD poses k 0 < poseSlots
 
-  pub found-none : {old new poses : List ℕ} {x y : ℕ} → Costed old new y → B ≤ y → ((k : ℕ) → getD poses k 0 < 64)
+  pub found-none : {old new poses : List ℕ} {x y : ℕ} → Costed old new y → B ≤ y
+      → ((k : ℕ) → getD poses k 0 < poseSlots)
       → RowsFound false x poses
   found-none c h small = record {
     none-when = λ _. omega (arith, c .cost, c .low);

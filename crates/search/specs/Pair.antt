@@ -6,9 +6,10 @@ use mathlib.Core.Bool.{Bool, true}
 use mathlib.Core.List.{List}
 use native.Mathlib.Omega.{arith}
 use lib.ListN.{length, getD}
+use Rattle.definition.specs.Job.{maxCells}
 use Rattle.theory_pair.specs.Cells.{Side, row₀, row₁, Job, isTall, members, cell, tallCount, line-talls}
 use Rattle.theory_pair.specs.Cells.{LegalPair, total}
-use Rattle.theory_tables.specs.Steps.{Deck}
+use Rattle.theory_tables.specs.Steps.{Deck, poseSlots}
 use Rattle.theory_tables.specs.Stages.{leastCost}
 use Rattle.theory_traceback.specs.Decks.{places₀, places₁}
 use Rattle.theory_traceback.specs.Members.{cell-below, cells-apart, shared-tall}
@@ -32,7 +33,7 @@ pub record PairOf {A : Type 0} (siteOf : A → ℕ) (J : Job A) (poseOf : ℕ �
     (name : ℕ → ℕ) (words₀ words₁ : List ℕ) (z : Sizes) (n₁ : ℕ) : Type 0 where
   pub first : RowOf siteOf J poseOf offerOf name row₀ words₀ z
   pub second : RowOf siteOf J poseOf offerOf name row₁ words₁ (withCells z n₁)
-  pub small : (k : ℕ) → k < J .count → name k < 64
+  pub small : (k : ℕ) → k < J .count → name k < maxCells
   pub apart : (k m : ℕ) → k < J .count → m < J .count → name k ≡ name m → k ≡ m
 
 module _ {A : Type 0} {siteOf : A → ℕ} {J : Job A} {poseOf : ℕ → ℕ → A} {offerOf : ℕ → ℕ → Bool} {name : ℕ → ℕ} where
@@ -42,7 +43,7 @@ module _ {A : Type 0} {siteOf : A → ℕ} {J : Job A} {poseOf : ℕ → ℕ →
     row-inside : (p : ℕ) → p < z .cells → p < length (members J s)
     row-inside p h = omega (arith, r .searched .matched .size)
 
-    row-asked : ((k : ℕ) → k < J .count → name k < 64)
+    row-asked : ((k : ℕ) → k < J .count → name k < maxCells)
         → ((k m : ℕ) → k < J .count → m < J .count → name k ≡ name m → k ≡ m) → RowGiven row z → RowAsked row z
     row-asked small apart g = record {
       given = g;
@@ -121,9 +122,9 @@ module _ {A : Type 0} {siteOf : A → ℕ} {J : Job A} {poseOf : ℕ → ℕ →
           let z₁ = p .second .searched .matched .size in
           let t = placed-legal (z .reordering) siteOf J poseOf offerOf D₀ D₁ (posIn words₀) (posIn words₁) (q .path₀)
           (q .path₁) W wide numberOf
-          (λ i h l. ap (λ (c : ℕ). getD poses c 0) (sym (p .first .number (q .path₀ i / 64)
+          (λ i h l. ap (λ (c : ℕ). getD poses c 0) (sym (p .first .number (q .path₀ i / poseSlots)
           (places₀ b .inside i h (omega arith)))) ∙ q .posed₀ i h (omega arith))
-          (λ i h l. ap (λ (c : ℕ). getD poses c 0) (sym (p .second .number (q .path₁ i / 64)
+          (λ i h l. ap (λ (c : ℕ). getD poses c 0) (sym (p .second .number (q .path₁ i / poseSlots)
           (places₁ b .inside i h (omega arith)))) ∙ q .posed₁ i h (omega arith)) in
           (t .0, t .1 ∙ sym same-talls)
 

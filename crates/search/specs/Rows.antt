@@ -4,6 +4,7 @@ use mathlib.Core.Path.{_≡_}
 use mathlib.Core.Bool.{true}
 use mathlib.Core.List.{List}
 use lib.ListN.{length}
+use Rattle.definition.specs.Job.{maxCells}
 use Rattle.theory_traceback.specs.Decks.{Standing}
 use Rattle.search_lanes.specs.Store.{Low}
 use Rattle.search_row.specs.declared.Sizes.{Sizes}
@@ -16,12 +17,12 @@ use Rattle.search.specs.Words.{wordsFor}
 abbrev pub numberAt : List ℕ → ℕ → ℕ
 numberAt row k = wordOf row k numberWord
 
--- a row: its words, the positions of all its tall cells, and a number below 64 for each cell, no two alike
+-- a row: its words, the positions of all its tall cells, and a number below maxCells for each cell, no two alike
 pub record RowAsked (row : List ℕ) (z : Sizes) : Type 0 where
   pub given : RowGiven row z
   pub tall : (I : ℕ) → I < z .talls → deckIn row z .tall (posIn row I) ≡ true
   pub only : (k : ℕ) → k < z .cells → deckIn row z .tall k ≡ true → (I : ℕ) × (I < z .talls) × (k ≡ posIn row I)
-  pub small : (k : ℕ) → k < z .cells → numberAt row k < 64
+  pub small : (k : ℕ) → k < z .cells → numberAt row k < maxCells
   pub apart : (k m : ℕ) → k < z .cells → m < z .cells → numberAt row k ≡ numberAt row m → k ≡ m
 
 -- both rows, of which row 1 has n₁ cells; only a tall cell has its number in both

@@ -7,11 +7,14 @@ ghost use Rattle.search.specs.Rows.{Asked, AskedLow};
 ghost use Rattle.search.specs.Found.{RowsFound, Costed, Answering, Answered};
 use search_row::Sizes;
 
+// Room for a path: a word for each place.
+const PATH_WORDS: usize = 128;
+
 // Whether there is a way of a cost below NONE; if so, the least cost and the pose number of each cell.
 pub struct Found {
     pub some: bool,
     pub cost: u32,
-    pub poses: [u32; 64],
+    pub poses: [u32; search_row::MAX_CELLS],
 }
 
 // The least cost: the one case of the last table.
@@ -29,8 +32,8 @@ fn note(out: &mut [u32], store: &mut [u32], row0: &[u32], row1: &[u32], sizes: S
     requires { ⌜ Answering (now row0) (now row1) sizes cells1 (now store) (now out) ⌝ }
     ensures { λ _. ⌜ Answered (now (row0 .entry)) (now (row1 .entry)) sizes cells1 (now (out .exit)) ⌝ }
 {
-    let mut path0 = [0u32; 128];
-    let mut path1 = [0u32; 128];
+    let mut path0 = [0u32; PATH_WORDS];
+    let mut path1 = [0u32; PATH_WORDS];
     search_back::trace(store, &mut path0, &mut path1, row0, row1, sizes, cells1);
     search_back::scatter(out, &path0, row0, sizes.cells);
     search_back::scatter(out, &path1, row1, cells1);
@@ -41,7 +44,7 @@ fn find(store: &mut [u32], row0: &[u32], row1: &[u32], sizes: Sizes, cells1: usi
     requires { ⌜ AskedLow (now row0) (now row1) sizes cells1 (now store) ⌝ }
     ensures { λ r. ⌜ RowsFound (now (row0 .entry)) (now (row1 .entry)) sizes cells1 (r .some) (r .cost) (r .poses) ⌝ }
 {
-    let mut poses = [0u32; 64];
+    let mut poses = [0u32; search_row::MAX_CELLS];
     let cost = least_cost(store, row0, row1, sizes, cells1);
     if cost >= search_lanes::NONE {
         return Found {

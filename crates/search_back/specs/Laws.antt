@@ -7,7 +7,7 @@ use mathlib.Core.List.{List}
 use native.Mathlib.Omega.{arith}
 use native.Mathlib.Decide.{decLt}
 use lib.ListN.{length}
-use Rattle.search_store.specs.Map.{pointerAt, pagesFrom}
+use Rattle.search_store.specs.Map.{pointerAt, pagesFrom, maxKept}
 use Rattle.search_row.specs.declared.Sizes.{Sizes}
 use Rattle.search_row.specs.Words.{deckIn, posIn, withCells, RowGiven}
 use Rattle.theory_tables.specs.Steps.{B, Deck, Layer, stateCount}
@@ -62,7 +62,7 @@ notes-join D R talls pos J s q h l f g =
 
 -- one row of a stage, as a traceback wants it
 row-stage : {row st path : List ℕ} {z : Sizes} {I s l q a : ℕ}
-    → RowGiven row z → Low st → pagesFrom ≤ length st → 67 ≤ length path → I ≤ z .talls
+    → RowGiven row z → Low st → pagesFrom ≤ length st → maxKept < length path → I ≤ z .talls
     → (0 < I → s < stateCount (z .reordering)) → (0 < I → l < (z .poses))
     → q < wide (z .talls) (suc I) (stateCount (z .reordering)) → a < wide (z .talls) (suc I) (z .poses)
     → Stage row st path z I s l q a
@@ -318,7 +318,7 @@ module _ {row₀ row₁ st path₀ path₁ : List ℕ} {z : Sizes} {n₁ I q₀ 
 -- ---- the whole trace
 
 pub trace-given : {row₀ row₁ st path₀ path₁ : List ℕ} {z : Sizes} {n₁ : ℕ}
-    → StagesGiven row₀ row₁ st z n₁ → 67 ≤ length path₀ → 67 ≤ length path₁
+    → StagesGiven row₀ row₁ st z n₁ → maxKept < length path₀ → maxKept < length path₁
     → Trace row₀ row₁ st path₀ path₁ z n₁ (z .talls) 0 0 0
 trace-given {z = z} g x y =
     record {

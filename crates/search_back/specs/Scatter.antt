@@ -3,20 +3,22 @@ use Prim.Native.Nat.{ℕ, _/_, _%_, _≤_, _<_}
 use mathlib.Core.Path.{_≡_}
 use mathlib.Core.List.{List}
 use lib.ListN.{length, getD}
+use Rattle.definition.specs.Job.{maxCells}
+use Rattle.theory_tables.specs.Steps.{poseSlots}
 use Rattle.search_row.specs.Words.{wordOf, RowWords, numberWord}
 use Rattle.theory_traceback.specs.Words.{Places}
 
 -- the number of the cell at place i of a path, and its pose number
 abbrev pub cellAt : List ℕ → List ℕ → ℕ → ℕ
-cellAt row path i = wordOf row (getD path i 0 / 64) numberWord
+cellAt row path i = wordOf row (getD path i 0 / poseSlots) numberWord
 
 abbrev pub poseAt : List ℕ → ℕ → ℕ
-poseAt path i = getD path i 0 % 64
+poseAt path i = getD path i 0 % poseSlots
 
 -- a row's path: each place has another position of the row, and no two positions have the same number
 pub record Given (row path out : List ℕ) (n : ℕ) : Type 0 where
   pub words : RowWords row
-  pub size : n ≤ 64
+  pub size : n ≤ maxCells
   pub room : n < length path
   pub poses : ℕ
   pub places : Places n poses (λ i. getD path i 0)

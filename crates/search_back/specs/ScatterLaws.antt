@@ -7,6 +7,7 @@ use native.Mathlib.Omega.{arith}
 use native.Mathlib.Decide.{ℕ-discrete}
 use lib.ListN.{length, getD, set, length-set}
 use lib.Seq.{getD-set-same, getD-set-other}
+use Rattle.theory_tables.specs.Steps.{poseSlots}
 use Rattle.search_back.specs.Scatter.{cellAt, poseAt, Given, Upto, Scattered}
 
 pub upto-none : (row path st : List ℕ) → Upto row path 1 st st
@@ -18,7 +19,8 @@ pub cells-apart : {row path out : List ℕ} {n : ℕ} → Given row path out n �
 cells-apart {row} {path} g i j h l m e =
     let p = g .places in
     p .distinct i j h l m
-    (g .apart (getD path i 0 / 64) (getD path j 0 / 64) (p .inside i h (omega arith)) (p .inside j (omega arith) m) e)
+    (g .apart (getD path i 0 / poseSlots) (getD path j 0 / poseSlots) (p .inside i h (omega arith))
+    (p .inside j (omega arith) m) e)
 
 pub upto-more : {row path old new out : List ℕ} {n : ℕ} (m c v : ℕ)
     → Given row path out n → 0 < m → m ≤ n → c ≡ cellAt row path m → v ≡ poseAt path m → c < length old
@@ -80,13 +82,14 @@ both-scattered {row₀} {row₁} {path₀} {path₁} {new = new} {n₁ = n₁} v
     go (inl (j, x, y, e)) = ap (λ (c : ℕ). getD new c 0) (sym e) ∙ w .done j x y ∙ sym (agree i j h l x y (sym e))
     go (inr x) = w .kept (cellAt row₀ path₀ i) x ∙ v .done i h l
 
--- pose numbers stay below 64
-pub scattered-small : {row path old new : List ℕ} {n : ℕ} → Scattered row path n old new → ((c : ℕ) → getD old c 0 < 64)
-    → (c : ℕ) → getD new c 0 < 64
+-- pose numbers stay below poseSlots
+pub scattered-small : {row path old new : List ℕ} {n : ℕ} → Scattered row path n old new
+    → ((c : ℕ) → getD old c 0 < poseSlots)
+    → (c : ℕ) → getD new c 0 < poseSlots
 scattered-small {row} {path} {old} {new} {n} w h c = go (placed? row path c n)
   where
     go : ((i : ℕ) × (0 < i) × (i ≤ n) × (cellAt row path i ≡ c)) ⊎ ((i : ℕ) → 0 < i → i ≤ n → cellAt row path i ≡ c → ⊥)
-        → getD new c 0 < 64
+        → getD new c 0 < poseSlots
     go (inl (i, x, y, e)) =
         let d : getD new c 0 ≡ poseAt path i = ap (λ (k : ℕ). getD new k 0) (sym e) ∙ w .done i x y in
         omega arith

@@ -3,10 +3,10 @@ use Prim.Native.Nat.{ℕ, suc, _+_, _≤_, _<_}
 use mathlib.Core.Path.{_≡_}
 use mathlib.Core.List.{List}
 use lib.ListN.{length}
-use Rattle.search_store.specs.Map.{Pages, pagesFrom}
+use Rattle.search_store.specs.Map.{Pages, pagesFrom, maxKept}
 use Rattle.search_row.specs.Words.{deckIn, posIn, withCells}
 use Rattle.search_row.specs.declared.Sizes.{Sizes}
-use Rattle.theory_tables.specs.Steps.{B, Deck, stateCount}
+use Rattle.theory_tables.specs.Steps.{B, Deck, stateCount, poseSlots}
 use Rattle.theory_tables.specs.Stages.{stageCost, caseTable}
 use Rattle.theory_tables.specs.Back.{StageTraced, Traced}
 use Rattle.theory_tables.specs.Notes.{NotedBy}
@@ -29,7 +29,7 @@ pub record PointerRoom (I q₀ q₁ a : ℕ) (st : List ℕ) : Type 0 where
   pub stage : I ≤ 24
   pub state₀ : q₀ < 12
   pub state₁ : q₁ < 12
-  pub pose : a < 64
+  pub pose : a < poseSlots
   pub page : Pages (q₀ + 1) st
 
 -- the back pointers: a way to each case after the first tall cell's, where it is below B
@@ -56,8 +56,8 @@ stages-ways d = record { way = λ I q₀ q₁ a h c. d .way I q₀ q₁ a h (c .
 -- two rows with the tables, and a path for each row
 pub record Both (row₀ row₁ st path₀ path₁ : List ℕ) (z : Sizes) (n₁ : ℕ) : Type 0 where
   pub given : StagesGiven row₀ row₁ st z n₁
-  pub room₀ : 67 ≤ length path₀
-  pub room₁ : 67 ≤ length path₁
+  pub room₀ : maxKept < length path₀
+  pub room₁ : maxKept < length path₁
 
 -- stage I to the case (q₀, q₁, a), from tall cell I - 1 as the states s and t in pose l
 pub record LegGiven (row₀ row₁ st path₀ path₁ : List ℕ) (z : Sizes) (n₁ I s t l q₀ q₁ a : ℕ) : Type 0 where

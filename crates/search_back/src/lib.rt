@@ -166,9 +166,10 @@ pub fn scatter(out: &mut [u32], path: &[u32], row: &[u32], n: usize)
         let word = path[i];
         let cell = search_row::word(
             row,
-            (word / 64) as usize * search_row::CELL + search_row::NUMBER,
+            (word / search_store::POSE_SLOTS as u32) as usize * search_row::CELL
+                + search_row::NUMBER,
         );
-        out[cell] = word % 64;
+        out[cell] = word % search_store::POSE_SLOTS as u32;
         i += 1;
     }
 }

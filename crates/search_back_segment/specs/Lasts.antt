@@ -9,7 +9,8 @@ use lib.Dec.{ltb}
 use Rattle.lists.specs.Numbers.{from}
 use Rattle.theory_pair.specs.Coded.{lowest}
 use Rattle.theory_tables.specs.Lowest.{loop-member, loop-above}
-use Rattle.theory_tables.specs.Steps.{B, Deck, Layer, stateCount, lastAt, isThere, ends}
+use Rattle.theory_tables.specs.Steps.{B, Deck, Layer, stateCount, lastAt, isThere, ends, poseSlots}
+use Rattle.search_store.specs.Map.{maxPoses}
 use Rattle.search_back_segment.specs.Traces.{LeastOf, lastPays, lastOf, lastCode, LastFound}
 
 module _ (D : Deck) (R : ℕ) (f : Layer) where
@@ -93,33 +94,35 @@ module _ (D : Deck) (R : ℕ) (f : Layer) where
       )
 
   -- the least of their words is below what ending costs; below B it is that
-  module _ (best code all : ℕ) (e : all ≡ stateCount R * 64) (few : D .poses ≤ 60)
+  module _ (best code all : ℕ) (e : all ≡ stateCount R * poseSlots) (few : D .poses ≤ maxPoses)
       (w : LeastOf (lastCode D R f) all best code) where
     part : (q b : ℕ) → q < stateCount R → b < D .poses → best ≤ lastOf D R f q b
     part q b x y =
-        let c : (q * 64 + b) / 64 ≡ q = omega arith in
-        let d : (q * 64 + b) % 64 ≡ b = omega arith in
-        rw (c, d) at (w .low (q * 64 + b) (omega arith))
+        let c : (q * poseSlots + b) / poseSlots ≡ q = omega arith in
+        let d : (q * poseSlots + b) % poseSlots ≡ b = omega arith in
+        rw (c, d) at (w .low (q * poseSlots + b) (omega arith))
 
     pub least-ends : best ≤ ends D R f
     least-ends = above best (w .capped) part
 
-    pub last-found : best < B → LastFound D R f (code / 64) (code % 64)
+    pub last-found : best < B → LastFound D R f (code / poseSlots) (code % poseSlots)
     last-found l =
         let m = w .met l in
         let x = m .0 in
-        let h : code / 64 < stateCount R = omega arith in
-        let n = last-met (code / 64) (code % 64) (omega (arith, m .1)) in
+        let h : code / poseSlots < stateCount R = omega arith in
+        let n = last-met (code / poseSlots) (code % poseSlots) (omega (arith, m .1)) in
         record {
           state = h;
           pose = n .pose;
           there = n .there;
           single = n .single;
-          word = omega (arith, member (code / 64) (code % 64) h n, n .word, m .1, least-ends);
+          word = omega (arith, member (code / poseSlots) (code % poseSlots) h n, n .word, m .1, least-ends);
         }
 
-    pub last-low : best < B → f (code / 64) (code % 64) < B
-    last-low l = let m = w .met l in omega (arith, m .1, last-met (code / 64) (code % 64) (omega (arith, m .1)) .word)
+    pub last-low : best < B → f (code / poseSlots) (code % poseSlots) < B
+    last-low l =
+        let m = w .met l in
+        omega (arith, m .1, last-met (code / poseSlots) (code % poseSlots) (omega (arith, m .1)) .word)
 
 -- one code more
 pub least-none : (h : ℕ → ℕ) (code : ℕ) → LeastOf h 0 B code

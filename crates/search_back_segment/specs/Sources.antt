@@ -8,6 +8,7 @@ use Rattle.search_store.specs.Map.{keptAt}
 use Rattle.lists.specs.Numbers.{from}
 use Rattle.theory_pair.specs.Coded.{lowest, lowest-from}
 use Rattle.theory_tables.specs.Steps.{B, Deck, Layer, stateCount, lastAt, isThere, isSource, via, reached, nextLayer}
+use Rattle.theory_tables.specs.Steps.{poseSlots}
 use Rattle.search_row.specs.Words.{deckOf}
 use Rattle.search_dense_layer.specs.Kept.{keptIn}
 use Rattle.search_back_segment.specs.Traces.{First, fromPose, fromState, Fits, EntrySource}
@@ -72,7 +73,8 @@ module _ (D : Deck) (R : ℕ) (f : Layer) (i q a : ℕ) where
 
 -- a search over a state's poses, which are all or none
 pub poses-first : (st row : List ℕ) (n poses R i q a p want : ℕ) {at k m r : ℕ}
-    → isSource (deckOf row n poses) R i q p ≡ true → at ≡ keptAt i + p * 64 → k ≡ lastAt R i p → m ≡ lastAt R (suc i) q
+    → isSource (deckOf row n poses) R i q p ≡ true → at ≡ keptAt i + p * poseSlots → k ≡ lastAt R i p
+    → m ≡ lastAt R (suc i) q
     → First (fromPose st row at k m a) poses want r
     → First (fromState (deckOf row n poses) R (keptIn st i) i q a p) poses want r
 poses-first st row n poses R i q a p want {at} {k} {m} {r} s x y z w =

@@ -11,7 +11,7 @@ use lib.ListN.{length, set}
 use lib.Seq.{getD-set-same}
 use lib.Dec.{eqb}
 use Rattle.search_row.specs.declared.Sizes.{Sizes}
-use Rattle.theory_tables.specs.Steps.{B, Deck, Layer, stateCount, lastAt, nextLayer, layers, ends, costEnd}
+use Rattle.theory_tables.specs.Steps.{B, Deck, Layer, stateCount, lastAt, nextLayer, layers, ends, costEnd, poseSlots}
 use Rattle.theory_tables.specs.Back.{Source, SegmentTraced, Last}
 use Rattle.theory_tables.specs.Notes.{NotedBy}
 use Rattle.search_lanes.specs.Laws.{frame-refl, frame-set, frame-join}
@@ -73,17 +73,17 @@ trace-rest {i = i} {d = d} h l w s =
 module _ (D : Deck) (R : ℕ) (st : List ℕ) (i : ℕ) where
   -- the entry is noted
   abbrev Noted : ℕ → ℕ → ℕ → List ℕ → List ℕ → Type 0
-  Noted d q a old new = new ≡ set old (i + d) (lastAt R (i + d) q * 64 + a)
+  Noted d q a old new = new ≡ set old (i + d) (lastAt R (i + d) q * poseSlots + a)
 
   noted-frame : (d q a : ℕ) {old new : List ℕ} → Noted d q a old new → Frame i (suc (i + d)) old new
   noted-frame d q a {old} e =
       subst (λ (l : List ℕ). Frame i (suc (i + d)) old l) (sym e) (frame-set (suc (i + d)) (i + d)
-      (lastAt R (i + d) q * 64 + a) (frame-refl i i old) (omega arith) (omega arith) (omega arith))
+      (lastAt R (i + d) q * poseSlots + a) (frame-refl i i old) (omega arith) (omega arith) (omega arith))
 
   noted-word : (d q a : ℕ) (old new : List ℕ) → Noted d q a old new → i + d < length old
-      → wordAt new (i + d) ≡ lastAt R (i + d) q * 64 + a
+      → wordAt new (i + d) ≡ lastAt R (i + d) q * poseSlots + a
   noted-word d q a old new e h =
-      ap (λ (l : List ℕ). wordAt l (i + d)) e ∙ getD-set-same old (i + d) (lastAt R (i + d) q * 64 + a) 0 h
+      ap (λ (l : List ℕ). wordAt l (i + d)) e ∙ getD-set-same old (i + d) (lastAt R (i + d) q * poseSlots + a) 0 h
 
   -- an entry of the first layer
   pub trace-none : (d q a : ℕ) {old new : List ℕ} → d ≡ 0 → Noted d q a old new → i + d < length old
@@ -93,7 +93,7 @@ module _ (D : Deck) (R : ℕ) (st : List ℕ) (i : ℕ) where
       record {
         frame = noted-frame d q a e;
         rowTraced = λ f k. subst (λ c. SegmentTraced D R (NotedBy (wordAt new)) f i c q a) (sym z)
-            (subst (λ (j : ℕ). wordAt new j ≡ lastAt R j q * 64 + a) y (noted-word d q a old new e h));
+            (subst (λ (j : ℕ). wordAt new j ≡ lastAt R j q * poseSlots + a) y (noted-word d q a old new e h));
       }
 
   -- an entry of a later layer, noted before the rest is traced
@@ -112,8 +112,8 @@ module _ (D : Deck) (R : ℕ) (st : List ℕ) (i : ℕ) where
       c : i + d ≡ suc (i + e)
       c = omega arith
 
-      noted : wordAt new (suc (i + e)) ≡ lastAt R (suc (i + e)) q * 64 + a
-      noted = subst (λ (j : ℕ). wordAt new j ≡ lastAt R j q * 64 + a) c
+      noted : wordAt new (suc (i + e)) ≡ lastAt R (suc (i + e)) q * poseSlots + a
+      noted = subst (λ (j : ℕ). wordAt new j ≡ lastAt R j q * poseSlots + a) c
           (w .frame .high (i + d) (omega arith) ∙ noted-word d q a old mid y h)
 
       source : (f : Layer) → KeptLayers D R f i (i + d) st → Source D R (NotedBy (wordAt new)) f i e q a p b

@@ -5,10 +5,10 @@ use mathlib.Core.Bool.{true, false, cond}
 use mathlib.Core.List.{List}
 use lib.ListN.{length, getD}
 use lib.Dec.{ltb}
-use Rattle.search_store.specs.Map.{pagesFrom}
+use Rattle.search_store.specs.Map.{pagesFrom, maxKept, maxPoses}
 use Rattle.search_row.specs.declared.Sizes.{Sizes}
 use Rattle.theory_tables.specs.Steps.{B, Deck, Layer, stateCount, lastAt, isThere, isSource, nextLayer, ends, costEnd}
-use Rattle.theory_tables.specs.Steps.{reached}
+use Rattle.theory_tables.specs.Steps.{reached, poseSlots}
 use Rattle.theory_tables.specs.Back.{SegmentTraced, EndTraced}
 use Rattle.theory_tables.specs.Notes.{NotedBy}
 use Rattle.search_lanes.specs.Store.{Frame, Low}
@@ -68,13 +68,13 @@ pub record PosesBefore (row st : List ℕ) (at k m a poses : ℕ) : Type 0 where
   pub cells : Neighbours row k m
   pub low : Low st
   pub room : at + poses ≤ length st
-  pub pose : a < 60
-  pub few : poses ≤ 60
+  pub pose : a < maxPoses
+  pub few : poses ≤ maxPoses
 
 -- state q in pose a, one layer after layer i, whose cell the row has; a source of it is sought by a cost
 pub record Sought (row st : List ℕ) (z : Sizes) (i q a want : ℕ) : Type 0 where
   pub back : Back row st z
-  pub last : i < 66
+  pub last : i < maxKept
   pub state : q < stateCount (z .reordering)
   pub cell : lastAt (z .reordering) (suc i) q < z .cells
   pub pose : a < z .poses
@@ -93,21 +93,21 @@ pub record SourceThere (row st : List ℕ) (z : Sizes) (i q a want : ℕ) : Type
 -- the code of a state and a pose, in the layer with all cells placed
 pub record LastAsked (row st : List ℕ) (z : Sizes) (c : ℕ) : Type 0 where
   pub back : Back row st z
-  pub code : c < z .states * 64
+  pub code : c < z .states * poseSlots
 
 -- state q in pose a as the i-th cell of a path
 pub record PathCell (row path : List ℕ) (R i q a : ℕ) : Type 0 where
   pub words : StateWords R row
   pub state : q < stateCount R
-  pub pose : a < 60
-  pub place : i ≤ 66
-  pub room : 67 ≤ length path
+  pub pose : a < maxPoses
+  pub place : i ≤ maxKept
+  pub room : maxKept < length path
 
 -- an entry after layer i
 pub record Entry (row st : List ℕ) (z : Sizes) (i q a : ℕ) : Type 0 where
   pub back : Back row st z
   pub some : 0 < i
-  pub last : i < 66
+  pub last : i < maxKept
   pub state : q < stateCount (z .reordering)
   pub pose : a < (z .poses)
   pub cost : keptIn st (suc i) q a < B
@@ -116,9 +116,9 @@ pub record Entry (row st : List ℕ) (z : Sizes) (i q a : ℕ) : Type 0 where
 -- an entry d layers on from the first of a segment, which has i cells; the layers are those from `first`
 pub record SegmentTrace (row st path : List ℕ) (z : Sizes) (i d q a : ℕ) : Type 0 where
   pub back : Back row st z
-  pub room : 67 ≤ length path
+  pub room : maxKept < length path
   pub some : 0 < i
-  pub last : i + d ≤ 66
+  pub last : i + d ≤ maxKept
   pub state : q < stateCount (z .reordering)
   pub pose : a < (z .poses)
   pub first : Layer
@@ -128,7 +128,7 @@ pub record SegmentTrace (row st path : List ℕ) (z : Sizes) (i d q a : ℕ) : T
 -- the row's end, from a segment whose first layer has i cells
 pub record End (row st path : List ℕ) (z : Sizes) (i : ℕ) : Type 0 where
   pub back : Back row st z
-  pub room : 67 ≤ length path
+  pub room : maxKept < length path
   pub some : 0 < i
   pub first : Layer
   pub kept : KeptLayers (deckIn row z) (z .reordering) first i (z .cells) st
@@ -159,9 +159,9 @@ unfoldable pub lastOf : Deck → ℕ → Layer → ℕ → ℕ → ℕ
 lastOf D R f q b = cond (ltb b (D .poses))
     (cond (isThere D R (D .size) q) (cond (D .tall (lastAt R (D .size) q)) B (lastPays D R f q b)) B) B
 
--- the same by a code, q * 64 + b
+-- the same by a code, q * poseSlots + b
 abbrev pub lastCode : Deck → ℕ → Layer → ℕ → ℕ
-lastCode D R f c = lastOf D R f (c / 64) (c % 64)
+lastCode D R f c = lastOf D R f (c / poseSlots) (c % poseSlots)
 
 pub record LastFound (D : Deck) (R : ℕ) (f : Layer) (q b : ℕ) : Type 0 where
   pub state : q < stateCount R

@@ -3,7 +3,7 @@
 ghost use mathlib.Core.Path.{_≡_};
 ghost use Prim.Native.Nat.{_+_, _*_, _/_, _%_};
 ghost use lib.ListN.{set};
-ghost use Rattle.theory_tables.specs.Steps.{lastAt};
+ghost use Rattle.theory_tables.specs.Steps.{lastAt, poseSlots};
 ghost use Rattle.search_row.specs.Words.{deckIn};
 ghost use Rattle.search_dense_layer.specs.Kept.{keptIn};
 ghost use Rattle.search_back_segment.specs.Traces.{First, fromPose, fromState, Fits};
@@ -59,7 +59,7 @@ fn state_pose(
     find_pose(
         store,
         row,
-        search_store::kept_at(i) + p * 64,
+        search_store::kept_at(i) + p * search_store::POSE_SLOTS,
         k,
         m,
         a,
@@ -68,7 +68,7 @@ fn state_pose(
     )
 }
 
-// The first source p * 64 + b, state before pose, by way of which state q in pose a costs `want`.
+// The first source p * POSE_SLOTS + b, state before pose, by way of which state q in pose a costs `want`.
 fn find_source(
     store: &[u32],
     row: &[u32],
@@ -80,13 +80,13 @@ fn find_source(
 ) -> usize
     requires { ⌜ SourceThere (now row) (now store) sizes i q a want ⌝ }
     ensures { λ t. ⌜ Fits (deckIn (now (row .entry)) sizes) (sizes .reordering)
-        (keptIn (now (store .entry)) i) i q a want (t / 64) (t % 64) ⌝ }
+        (keptIn (now (store .entry)) i) i q a want (t / poseSlots) (t % poseSlots) ⌝ }
 {
     let mut p: usize = 0;
     while p < sizes.states {
         let b = state_pose(store, row, sizes, i, q, a, p, want);
         if b < sizes.poses {
-            return p * 64 + b;
+            return p * search_store::POSE_SLOTS + b;
         }
         p += 1;
     }
@@ -97,19 +97,19 @@ fn find_source(
 fn entry_source(store: &[u32], row: &[u32], sizes: Sizes, i: usize, q: usize, a: usize) -> usize
     requires { ⌜ Entry (now row) (now store) sizes i q a ⌝ }
     ensures { λ t. ⌜ EntrySource (deckIn (now (row .entry)) sizes) (sizes .reordering) (now (store .entry)) i q a
-        (t / 64) (t % 64) ⌝ }
+        (t / poseSlots) (t % poseSlots) ⌝ }
 {
     let own = row[search_row::last_at(row, sizes, i + 1, q) * search_row::CELL + a];
-    let cost = store[search_store::kept_at(i + 1) + q * 64 + a];
+    let cost = store[search_store::kept_at(i + 1) + q * search_store::POSE_SLOTS + a];
     find_source(store, row, sizes, i, q, a, cost - own)
 }
 
 // Notes state q in pose a as the i-th cell.
 fn note(path: &mut [u32], row: &[u32], sizes: Sizes, i: usize, q: usize, a: usize)
     requires { ⌜ PathCell (now row) (now path) (sizes .reordering) i q a ⌝ }
-    ensures { λ _. ⌜ now (path .exit) ≡ set (now (path .entry)) i (lastAt (sizes .reordering) i q * 64 + a) ⌝ }
+    ensures { λ _. ⌜ now (path .exit) ≡ set (now (path .entry)) i (lastAt (sizes .reordering) i q * poseSlots + a) ⌝ }
 {
-    path[i] = (search_row::last_at(row, sizes, i, q) * 64 + a) as u32;
+    path[i] = (search_row::last_at(row, sizes, i, q) * search_store::POSE_SLOTS + a) as u32;
 }
 
 // From state q in pose a of the layer d on from layer i back to layer i.
@@ -132,18 +132,27 @@ pub fn trace(
         return;
     }
     let t = entry_source(store, row, sizes, i + (d - 1), q, a);
-    trace(store, path, row, sizes, i, d - 1, t / 64, t % 64);
+    trace(
+        store,
+        path,
+        row,
+        sizes,
+        i,
+        d - 1,
+        t / search_store::POSE_SLOTS,
+        t % search_store::POSE_SLOTS,
+    );
 }
 
-// The kept word of state c / 64 in pose c % 64 with all n cells placed, with what its cell pays as the row's last; NONE
+// The kept word of code c, a state and a pose, with all n cells placed, with what its cell pays as the row's last; NONE
 // if the row has no such cell, or it is tall.
 fn last_word(store: &[u32], row: &[u32], sizes: Sizes, c: usize) -> u32
     requires { ⌜ LastAsked (now row) (now store) sizes c ⌝ }
     ensures { λ x. ⌜ x ≡ lastCode (deckIn (now (row .entry)) sizes) (sizes .reordering)
         (keptIn (now (store .entry)) (sizes .cells)) c ⌝ }
 {
-    let q = c / 64;
-    if c % 64 >= sizes.poses {
+    let q = c / search_store::POSE_SLOTS;
+    if c % search_store::POSE_SLOTS >= sizes.poses {
         return search_lanes::NONE;
     }
     if !search_row::is_there(row, sizes, sizes.cells, q) {
@@ -153,7 +162,8 @@ fn last_word(store: &[u32], row: &[u32], sizes: Sizes, c: usize) -> u32
     if row[k * search_row::CELL + search_row::TALL] == 1 {
         return search_lanes::NONE;
     }
-    store[search_store::kept_at(sizes.cells) + c] + search_row::back(row, k, c % 64)
+    store[search_store::kept_at(sizes.cells) + c]
+        + search_row::back(row, k, c % search_store::POSE_SLOTS)
 }
 
 // The least cost of the last cells, and the code of the first that has it, state before pose.
@@ -165,12 +175,12 @@ pub struct Last {
 fn find_last(store: &[u32], row: &[u32], sizes: Sizes) -> Last
     requires { ⌜ Back (now row) (now store) sizes ⌝ }
     ensures { λ l. ⌜ LeastOf (lastCode (deckIn (now (row .entry)) sizes) (sizes .reordering)
-        (keptIn (now (store .entry)) (sizes .cells))) (sizes .states * 64) (l .value) (l .code) ⌝ }
+        (keptIn (now (store .entry)) (sizes .cells))) (sizes .states * poseSlots) (l .value) (l .code) ⌝ }
 {
     let mut best = search_lanes::NONE;
     let mut code: usize = 0;
     let mut c: usize = 0;
-    while c < sizes.states * 64 {
+    while c < sizes.states * search_store::POSE_SLOTS {
         let x = last_word(store, row, sizes, c);
         if x < best {
             best = x;
@@ -195,5 +205,14 @@ pub fn trace_end(store: &[u32], path: &mut [u32], row: &[u32], sizes: Sizes, i: 
         return;
     }
     let c = last.code;
-    trace(store, path, row, sizes, i, sizes.cells - i, c / 64, c % 64);
+    trace(
+        store,
+        path,
+        row,
+        sizes,
+        i,
+        sizes.cells - i,
+        c / search_store::POSE_SLOTS,
+        c % search_store::POSE_SLOTS,
+    );
 }

@@ -8,9 +8,10 @@ use native.Mathlib.Decide.{decLt}
 use borrow.Author.Tests.{lt-ltb, le-ltb, leb-true}
 use lib.ListN.{length, getD}
 use lib.Dec.{ltb, leb, eqb}
-use Rattle.search_store.specs.Map.{keptAt, keptFrom, pagesFrom}
+use Rattle.definition.specs.Job.{maxCells}
+use Rattle.search_store.specs.Map.{keptAt, keptFrom, pagesFrom, maxKept}
 use Rattle.search_row.specs.declared.Sizes.{Sizes}
-use Rattle.theory_tables.specs.Steps.{B, Deck, Layer, stateCount, offset, marks}
+use Rattle.theory_tables.specs.Steps.{B, Deck, Layer, stateCount, offset, marks, poseSlots}
 use Rattle.theory_tables.specs.Steps.{firstAfter, firstOpen, layers, costTo, costEnd}
 use Rattle.theory_tables.specs.Stages.{placedWith, stageEnd}
 use Rattle.theory_tables.specs.Back.{SegmentTraced, EndTraced}
@@ -29,7 +30,7 @@ use Rattle.search_back_stage.specs.Rows.{endPlace, StartState, Stage, St
 -- ---- the start
 
 -- the tall cells before it stand in the row
-pub start-tall : {row : List ℕ} {z : Sizes} {I s : ℕ} → StartState row z I s → (J : ℕ) → J < I → posIn row J < 64
+pub start-tall : {row : List ℕ} {z : Sizes} {I s : ℕ} → StartState row z I s → (J : ℕ) → J < I → posIn row J < maxCells
 start-tall g j h = omega (arith, g .given .inside j (omega (arith, g .stage)), g .given .ground .size)
 
 pub start-some : (R : ℕ) (pos : ℕ → ℕ) (I s : ℕ) → 0 < startCells R pos I s
@@ -55,12 +56,12 @@ module _ (D : Deck) (R : ℕ) (pos : ℕ → ℕ) where
         frame = frame-join keptFrom pagesFrom (frame-refl keptFrom pagesFrom old) (w .frame) (omega arith) (omega arith)
             (omega arith) (omega arith);
         low = w .low;
-        right = λ q a x y. ap (λ (k : ℕ). getD new (k + q * 64 + a) 0) (sym z) ∙ w .right q a (omega arith) y;
+        right = λ q a x y. ap (λ (k : ℕ). getD new (k + q * poseSlots + a) 0) (sym z) ∙ w .right q a (omega arith) y;
       }
 
   pub started-after : {count I s l i p to : ℕ} {old new : List ℕ} (J : ℕ) → I ≡ suc J → p ≡ pos J → i ≡ placedWith R p s
       → count ≡ stateCount R
-      → to ≡ keptAt (i + 1) → i + 1 ≤ 66
+      → to ≡ keptAt (i + 1) → i + 1 ≤ maxKept
       → Begun (firstAfter D R i (marks R s) p l) (D .poses) count to old new → Started D R pos I s l (i + 1) old new
   unfolding startCells startLayer
   started-after {count} {I} {s} {l} {i} {p} {to} {old} {new} J e f g n z h w =
@@ -70,7 +71,7 @@ module _ (D : Deck) (R : ℕ) (pos : ℕ → ℕ) where
             (omega arith) (omega arith);
         low = w .low;
         right = λ q a x y.
-            ap (λ (k : ℕ). getD new (k + q * 64 + a) 0) (sym z)
+            ap (λ (k : ℕ). getD new (k + q * poseSlots + a) 0) (sym z)
             ∙ w .right q a (omega arith) y
             ∙ ap (λ (k : ℕ). firstAfter D R k (marks R s) p l q a) g
             ∙ ap (λ (k : ℕ). firstAfter D R (placedWith R k s) (marks R s) k l q a) f;
@@ -146,13 +147,13 @@ module _ {row st path : List ℕ} {z : Sizes} {I s l q a : ℕ} (g : Stage row s
   }
 
   -- the first layer has its place among those that are kept
-  start-fits : SegmentCosted → startCells (z .reordering) (posIn row) I s ≤ 66
+  start-fits : SegmentCosted → startCells (z .reordering) (posIn row) I s ≤ maxKept
   start-fits c = go (decLt I (z .talls))
     where
-      size : (z .cells) ≤ 64
+      size : (z .cells) ≤ maxCells
       size = g .start .given .ground .size
 
-      go : Dec (I < (z .talls)) → startCells (z .reordering) (posIn row) I s ≤ 66
+      go : Dec (I < (z .talls)) → startCells (z .reordering) (posIn row) I s ≤ maxKept
       go (yes h) =
           let p = tall-cost D (z .reordering) (z .talls) (posIn row) I f
           (startCells (z .reordering) (posIn row) I s) pays q a h c in
@@ -162,12 +163,12 @@ module _ {row st path : List ℕ} {z : Sizes} {I s l q a : ℕ} (g : Stage row s
           (startCells (z .reordering) (posIn row) I s) pays q a (omega arith) c in
           omega (arith, size, end-bound D (z .reordering) f (startCells (z .reordering) (posIn row) I s) pays p)
 
-  pub start-late : 66 < startCells (z .reordering) (posIn row) I s
+  pub start-late : maxKept < startCells (z .reordering) (posIn row) I s
       → StageDone (deckIn row z) (z .reordering) (z .talls) (posIn row) I s l q a st st path path
   start-late h = none-noted (frame-refl 0 pagesFrom st) (g .start .low) (λ c. omega (arith, start-fits c))
 
   module _ {cells : ℕ} {mid : List ℕ} (w : Started (deckIn row z) (z .reordering) (posIn row) I s l cells st mid)
-      (few : cells ≤ 66) where
+      (few : cells ≤ maxKept) where
     some : 0 < cells
     some = omega (arith, w .count, start-some (z .reordering) (posIn row) I s)
 
@@ -184,7 +185,7 @@ module _ {row st path : List ℕ} {z : Sizes} {I s l q a : ℕ} (g : Stage row s
     back u e =
         record { ground = g .start .given .ground; low = u; long = omega (arith, g .start .long, w .frame .long) }
 
-    segment : (end : ℕ) → end ≤ 66 → Segment row mid z cells end
+    segment : (end : ℕ) → end ≤ maxKept → Segment row mid z cells end
     segment end k = record {
       ground = g .start .given .ground;
       low = w .low;
@@ -210,7 +211,7 @@ module _ {row st path : List ℕ} {z : Sizes} {I s l q a : ℕ} (g : Stage row s
       tall-late o = none-noted (frame-join 0 pagesFrom (frame-refl 0 pagesFrom st) (w .frame) (omega arith)
           (omega arith) (omega arith) (omega arith)) (w .low) (λ c. omega (arith, tall-room c .0))
 
-      pub end-low : end ≤ 66
+      pub end-low : end ≤ maxKept
       end-low =
           let c = g .start .given .ground .coded .reorder in
           omega (arith, g .start .given .inside I h, g .start .given .ground .size)

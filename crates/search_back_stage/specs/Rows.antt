@@ -6,7 +6,7 @@ use mathlib.Core.Bool.{cond}
 use mathlib.Core.List.{List}
 use lib.ListN.{length}
 use lib.Dec.{ltb}
-use Rattle.search_store.specs.Map.{keptFrom, pagesFrom}
+use Rattle.search_store.specs.Map.{keptFrom, pagesFrom, maxKept}
 use Rattle.search_row.specs.declared.Sizes.{Sizes}
 use Rattle.theory_tables.specs.Steps.{B, Deck, Layer, stateCount, marks, firstAfter, firstOpen}
 use Rattle.theory_tables.specs.Stages.{placedWith, stageEnd}
@@ -62,12 +62,12 @@ pub record Start (row st : List ℕ) (z : Sizes) (I s l : ℕ) : Type 0 where
 -- and room for its first layer among the kept ones
 pub record StartRoom (row st : List ℕ) (z : Sizes) (I s l : ℕ) : Type 0 where
   pub start : Start row st z I s l
-  pub few : startCells (z .reordering) (posIn row) I s ≤ 66
+  pub few : startCells (z .reordering) (posIn row) I s ≤ maxKept
 
 -- a stage to be traced: from state q in pose a of tall cell I, or from the row's end
 pub record Stage (row st path : List ℕ) (z : Sizes) (I s l q a : ℕ) : Type 0 where
   pub start : Start row st z I s l
-  pub room : 67 ≤ length path
+  pub room : maxKept < length path
   pub state : I < z .talls → q < stateCount (z .reordering)
   pub pose : I < z .talls → a < (z .poses)
 

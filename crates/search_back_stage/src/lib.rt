@@ -59,7 +59,7 @@ pub fn stage_trace(store: &mut [u32], path: &mut [u32], row: &[u32], sizes: Size
     let s = leg.start;
     let q = leg.state;
     let a = leg.pose;
-    if cells_of(row, sizes, stage, s) > 66 {
+    if cells_of(row, sizes, stage, s) > search_store::MAX_KEPT {
         return;
     }
     let i = first_of(store, row, sizes, stage, s, leg.lane);
@@ -69,7 +69,9 @@ pub fn stage_trace(store: &mut [u32], path: &mut [u32], row: &[u32], sizes: Size
             return;
         }
         search_dense_layer::segment_kept(store, row, sizes, i, end);
-        if store[search_store::kept_at(end) + q * 64 + a] >= search_lanes::NONE {
+        if store[search_store::kept_at(end) + q * search_store::POSE_SLOTS + a]
+            >= search_lanes::NONE
+        {
             return;
         }
         search_back_segment::trace(store, path, row, sizes, i, end - i, q, a);

@@ -14,7 +14,7 @@ use Rattle.lists.specs.Numbers.{from, in-from}
 use Rattle.theory_pair.specs.Coded.{lowest, lowest-low}
 use Rattle.theory_tables.specs.Steps.{B, Layer, stateCount, lastAt, isSource, via, reached}
 use Rattle.theory_tables.specs.Lowest.{lowest-member, lowest-above, loop-member, loop-above}
-use Rattle.search_row.specs.Words.{wordOf, variant, endIn, differIn, weightIn, tollAt}
+use Rattle.search_row.specs.Words.{wordOf, variant, endIn, differIn, weightIn, tollAt, leftN, leftP, rightN, rightP}
 use Rattle.search_row.specs.Words.{tollIn, deckOf, RowWords, apartWord, firstWord, touchingWord}
 use Rattle.search_row.specs.Laws.{differ-low, pay-low}
 use Rattle.search_buckets.specs.Loops.{lowest-cap, lowest-same, lowest-min, lowest-swap}
@@ -158,8 +158,8 @@ module _ (row : List ℕ) (k b m : ℕ) where
     where
       differBy : ℕ → ℕ → ℕ
       differBy u a =
-          cond (eqb (wordOf row k (76 + u)) (wordOf row m (68 + variant a))) 0 1
-          + cond (eqb (wordOf row k (80 + u)) (wordOf row m (72 + variant a))) 0 1
+          cond (eqb (wordOf row k (rightP + u)) (wordOf row m (leftP + variant a))) 0 1
+          + cond (eqb (wordOf row k (rightN + u)) (wordOf row m (leftN + variant a))) 0 1
 
   -- what pose a of m pays at a gap is what is paid in its bucket of that gap
   pay-bucket : (gap a : ℕ) → payIn row k b m (bucketIn 5 gap (a % 4)) ≡ weightIn row m gap * differIn row k b m a
@@ -167,8 +167,8 @@ module _ (row : List ℕ) (k b m : ℕ) where
     where
       vary : (v : ℕ) → variant v ≡ variant a → differIn row k b m v ≡ differIn row k b m a
       vary v e =
-          ap (λ (u : ℕ). cond (eqb (wordOf row k (76 + variant b)) (wordOf row m (68 + u))) 0 1
-          + cond (eqb (wordOf row k (80 + variant b)) (wordOf row m (72 + u))) 0 1) e
+          ap (λ (u : ℕ). cond (eqb (wordOf row k (rightP + variant b)) (wordOf row m (leftP + u))) 0 1
+          + cond (eqb (wordOf row k (rightN + variant b)) (wordOf row m (leftN + u))) 0 1) e
 
       go : (z : Bool) → payIn row k b m (cond z (1 + a % 4) (5 + a % 4))
           ≡ cond z (wordOf row m touchingWord) (wordOf row m apartWord) * differIn row k b m a

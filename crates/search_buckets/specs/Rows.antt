@@ -8,9 +8,10 @@ use mathlib.Core.Bool.{cond}
 use mathlib.Core.List.{List}
 use lib.ListN.{length, getD}
 use lib.Dec.{ltb, eqb}
+use Rattle.definition.specs.Job.{maxCells}
 use Rattle.lists.specs.Numbers.{from}
 use Rattle.theory_pair.specs.Coded.{lowest}
-use Rattle.theory_tables.specs.Steps.{B, Deck, Layer, lastAt, isSource}
+use Rattle.theory_tables.specs.Steps.{B, Deck, Layer, lastAt, isSource, poseSlots}
 use Rattle.search_row.specs.Words.{wordOf, endIn, differIn, apartWord, firstWord, touchingWord, RowWords}
 use Rattle.search_buckets.specs.Gaps.{paying}
 
@@ -50,27 +51,31 @@ payIn row k b m v =
     cond (ltb v 1) 0 (cond (ltb v 5)
     (wordOf row m touchingWord * differIn row k b m (v - 1)) (wordOf row m apartWord * differIn row k b m (v - 5)))
 
+-- a word for each of four variants in each of 9 buckets
+abbrev pub payWords : ℕ
+payWords = 36
+
 -- what each variant of the cell at position k pays in each bucket below `buckets` of the cell at position m: 9
--- words for each variant, those below n of 36
+-- words for each variant, those below n of them
 pub record Pays (row : List ℕ) (k m buckets n : ℕ) (pays : List ℕ) : Type 0 where
-  pub long : length pays ≡ 36
+  pub long : length pays ≡ payWords
   pub pay : (j : ℕ) → j < n → j % 9 < buckets → getD pays j 0 ≡ payIn row k (j / 9) m (j % 9)
 
 -- all of them, none over B
 pub record PaysLow (buckets : ℕ) (pays : List ℕ) : Type 0 where
-  pub long : length pays ≡ 36
-  pub low : (j : ℕ) → j < 36 → j % 9 < buckets → getD pays j 0 ≤ B
+  pub long : length pays ≡ payWords
+  pub low : (j : ℕ) → j < payWords → j % 9 < buckets → getD pays j 0 ≤ B
 
 -- two cells of a row as neighbours: the left one at position k, the right one at position m
 pub record Neighbours (row : List ℕ) (k m : ℕ) : Type 0 where
   pub words : RowWords row
-  pub left : k < 64
-  pub right : m < 64
+  pub left : k < maxCells
+  pub right : m < maxCells
 
 -- the left one in pose b
 pub record SourcePose (row : List ℕ) (k b m : ℕ) : Type 0 where
   pub cells : Neighbours row k m
-  pub pose : b < 64
+  pub pose : b < poseSlots
 
 -- what variant u of the left one pays in bucket v of the right one is to be told
 pub record PayGiven (row : List ℕ) (k u m v : ℕ) : Type 0 where

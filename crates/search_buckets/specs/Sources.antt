@@ -16,13 +16,13 @@ use Rattle.lists.specs.Numbers.{from}
 use Rattle.theory_pair.specs.Coded.{lowest-low}
 use Rattle.search_row.specs.Words.{wordOf, RowWords, apartWord, touchingWord}
 use Rattle.search_buckets.specs.Loops.{lowest-none, lowest-more, lowest-ext}
-use Rattle.search_buckets.specs.Rows.{inRow, bucketsIn, endRow, payIn, Pays}
+use Rattle.search_buckets.specs.Rows.{inRow, bucketsIn, endRow, payIn, Pays, payWords}
 use Rattle.search_buckets.specs.Rows.{PaysLow, onePose, byPoses, oneState, byStates}
 use Rattle.search_buckets.specs.Laws.{pay-same, pay-small, pay-twin}
 
 -- ---- what is paid, as words
 
-pub pays-none : (row : List ℕ) (k m buckets : ℕ) {pays : List ℕ} → length pays ≡ 36 → Pays row k m buckets 0 pays
+pub pays-none : (row : List ℕ) (k m buckets : ℕ) {pays : List ℕ} → length pays ≡ payWords → Pays row k m buckets 0 pays
 pays-none row k m buckets h = record { long = h; pay = λ j l. absurd (omega arith) }
 
 -- one bucket more of variant u
@@ -50,7 +50,7 @@ pub pays-row :
     → Pays row k m buckets (u * 9 + buckets) pays → buckets ≤ 9 → Pays row k m buckets (u * 9 + 9) pays
 pays-row {buckets = buckets} u w h = record { long = w .long; pay = λ j g c. w .pay j (omega arith) c }
 
-pub pays-low : {row pays : List ℕ} {k m buckets : ℕ} → RowWords row → Pays row k m buckets 36 pays
+pub pays-low : {row pays : List ℕ} {k m buckets : ℕ} → RowWords row → Pays row k m buckets payWords pays
     → PaysLow buckets pays
 pays-low {row} {k = k} {m = m} w p =
     record { long = p .long; low = λ j h c. omega (arith, p .pay j h c, pay-small row k (j / 9) m (j % 9) w) }
@@ -58,7 +58,7 @@ pays-low {row} {k = k} {m = m} w p =
 -- a source's pose in the buckets, from the words of what it pays
 pub pose-pays :
     {row pays : List ℕ} {k m buckets t : ℕ} (b v s x : ℕ)
-    → Pays row k m buckets 36 pays → t ≡ endRow row k b m → v < buckets → buckets ≤ 9
+    → Pays row k m buckets payWords pays → t ≡ endRow row k b m → v < buckets → buckets ≤ 9
     → onePose row k m b x v s ≡ inRow t s (x + getD pays (b % 4 * 9 + v) 0)
 pose-pays {row} {pays} {k} {m} b v s x p e h g =
     let j : ℕ = b % 4 * 9 + v in
@@ -127,7 +127,7 @@ module _ (row : List ℕ) (m : ℕ) (e : wordOf row m touchingWord ≡ wordOf ro
 
 pub states-twin :
     (row : List ℕ) (D : Deck) (R : ℕ) (f : Layer) (i q n v t : ℕ)
-    → wordOf row (lastAt R (suc i) q) 84 ≡ wordOf row (lastAt R (suc i) q) 86 → v < 4
+    → wordOf row (lastAt R (suc i) q) touchingWord ≡ wordOf row (lastAt R (suc i) q) apartWord → v < 4
     → byStates row D R f i q n (5 + v) t ≡ byStates row D R f i q n (1 + v) t
 unfolding byStates oneState
 states-twin row D R f i q n v t e h =

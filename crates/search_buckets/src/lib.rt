@@ -3,9 +3,13 @@
 // they pay at gap 0 to each variant of the target, buckets 5 to 8 with what they pay at the other gaps that pay.
 ghost use mathlib.Core.Path.{_≡_};
 ghost use Prim.Native.Nat.{_+_, _*_, _≤_};
+ghost use Rattle.search_store.specs.Map.{maxPoses};
 ghost use Rattle.search_row.specs.Words.{CellAt};
-ghost use Rattle.search_buckets.specs.Rows.{rowsOf, bucketsIn, endRow, payIn};
+ghost use Rattle.search_buckets.specs.Rows.{rowsOf, bucketsIn, endRow, payIn, payWords};
 ghost use Rattle.search_buckets.specs.Rows.{Pays, SourcePose, PayGiven, PaysGiven, VariantPays};
+
+// What a source pays: a word for each of its four variants in each of 9 buckets.
+pub const PAY_WORDS: usize = 36;
 
 // A state that is a source of a target: where its words begin, the positions of its cell, on the left, and of the
 // target's, and how many buckets the target needs.
@@ -31,7 +35,7 @@ pub fn end_row(row: &[u32], k: usize, b: usize, m: usize) -> usize
 
 // How many rows some pose looks at: pose a at rows a / 4 to a / 4 + 4, and at all before.
 pub fn rows_of(poses: usize) -> usize
-    requires { ⌜ poses ≤ 60 ⌝ }
+    requires { ⌜ poses ≤ maxPoses ⌝ }
     ensures { λ rows. ⌜ rows ≡ rowsOf poses ⌝ }
 {
     (poses + 3) / 4 + 4
@@ -67,7 +71,7 @@ fn pay(row: &[u32], k: usize, u: usize, m: usize, v: usize) -> u32
 }
 
 // What variant u pays in each of so many buckets, after the variants before it.
-fn pay_row(pays: &mut [u32; 36], row: &[u32], k: usize, u: usize, m: usize, buckets: usize)
+fn pay_row(pays: &mut [u32; PAY_WORDS], row: &[u32], k: usize, u: usize, m: usize, buckets: usize)
     requires { ⌜ VariantPays (now row) k u m buckets (now pays) ⌝ }
     ensures { λ _. ⌜ Pays (now (row .entry)) k m buckets (u * 9 + 9) (now (pays .exit)) ⌝ }
 {
@@ -79,9 +83,9 @@ fn pay_row(pays: &mut [u32; 36], row: &[u32], k: usize, u: usize, m: usize, buck
 }
 
 // All of them, by variant and bucket.
-pub fn fill_pays(pays: &mut [u32; 36], row: &[u32], k: usize, m: usize, buckets: usize)
+pub fn fill_pays(pays: &mut [u32; PAY_WORDS], row: &[u32], k: usize, m: usize, buckets: usize)
     requires { ⌜ PaysGiven (now row) k m buckets 0 (now pays) ⌝ }
-    ensures { λ _. ⌜ Pays (now (row .entry)) k m buckets 36 (now (pays .exit)) ⌝ }
+    ensures { λ _. ⌜ Pays (now (row .entry)) k m buckets payWords (now (pays .exit)) ⌝ }
 {
     let mut u: usize = 0;
     while u < 4 {

@@ -1,8 +1,8 @@
-// The first layer of a segment with one start, dense: state q has 64 words of a block, one for each pose.
+// The first layer of a segment with one start, dense: state q has POSE_SLOTS words of a block, one for each pose.
 ghost use mathlib.Core.Path.{_≡_};
 ghost use Prim.Native.Nat.{_+_, _*_, _≤_};
 ghost use Rattle.theory_row.specs.Window.{start};
-ghost use Rattle.theory_tables.specs.Steps.{marks, firstAfter, firstOpen};
+ghost use Rattle.theory_tables.specs.Steps.{marks, firstAfter, firstOpen, poseSlots};
 ghost use Rattle.search_lanes.specs.Store.{Written};
 ghost use Rattle.search_row.specs.Words.{deckIn, StateKnown};
 ghost use Rattle.search_dense_first.specs.Firsts.{startsAt};
@@ -61,10 +61,10 @@ fn open_poses(store: &mut [u32], row: &[u32], at: usize, k: usize, poses: usize)
 // The words of state q of the layer at `to`.
 fn open_state(store: &mut [u32], row: &[u32], sizes: Sizes, to: usize, q: usize)
     requires { ⌜ DenseState (now row) (now store) sizes to q ⌝ }
-    ensures { λ _. ⌜ Written (firstOpen (deckIn (now (row .entry)) sizes) (sizes .reordering) q) (to + q * 64)
+    ensures { λ _. ⌜ Written (firstOpen (deckIn (now (row .entry)) sizes) (sizes .reordering) q) (to + q * poseSlots)
         (sizes .poses) (now (store .entry)) (now (store .exit)) ⌝ }
 {
-    let at = to + q * 64;
+    let at = to + q * search_store::POSE_SLOTS;
     if !starts(row, sizes, 1, start_marks(sizes.reordering), q) {
         search_lanes::fill(store, at, sizes.poses, search_lanes::NONE);
         return;
@@ -124,9 +124,9 @@ fn after_state(
 )
     requires { ⌜ AfterTall (now row) (now store) sizes (to .cells) p l (to .at) q ⌝ }
     ensures { λ _. ⌜ Written (firstAfter (deckIn (now (row .entry)) sizes) (sizes .reordering) (to .cells) m p l q)
-        (to .at + q * 64) (sizes .poses) (now (store .entry)) (now (store .exit)) ⌝ }
+        (to .at + q * poseSlots) (sizes .poses) (now (store .entry)) (now (store .exit)) ⌝ }
 {
-    let at = to.at + q * 64;
+    let at = to.at + q * search_store::POSE_SLOTS;
     if !starts(row, sizes, to.cells + 1, m, q) {
         search_lanes::fill(store, at, sizes.poses, search_lanes::NONE);
         return;

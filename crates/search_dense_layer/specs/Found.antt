@@ -13,7 +13,8 @@ use lib.Dec.{eqb}
 use Rattle.lists.specs.Compare.{Eq?, same, differs, eq?}
 use Rattle.lists.specs.Numbers.{from}
 use Rattle.theory_pair.specs.Coded.{lowest, lowest-from}
-use Rattle.theory_tables.specs.Steps.{B, Deck, stateCount, nextLayer}
+use Rattle.theory_tables.specs.Steps.{B, Deck, stateCount, nextLayer, poseSlots}
+use Rattle.search_store.specs.Map.{bucketRows, keptLayer, maxPoses}
 use Rattle.search_lanes.specs.Store.{Low, Written}
 use Rattle.search_lanes.specs.Laws.{frame-refl, frame-join, low-set, nones-low}
 use Rattle.search_buckets.specs.Gaps.{paying}
@@ -22,6 +23,7 @@ use Rattle.search_buckets.specs.Rows.{found}
 use Rattle.search_buckets.specs.Next.{next-ext}
 use Rattle.search_dense_layer.specs.Laws.{apart-yes}
 use Rattle.search_dense_layer.specs.Thin.{thinIn, Arrays, ThinGathered, FarRunUp, foundBy, otherOf, Put, Stepped}
+use Rattle.search_dense_layer.specs.Thin.{variantWords}
 
 -- ---- what is found
 
@@ -68,10 +70,10 @@ paying-min h l = omega arith
 pub found-words :
     (bucket : ℕ → ℕ → ℕ) (near apart far : List ℕ) (a : ℕ)
     → ((v t : ℕ) → bucket v t ≤ B)
-    → ((v t : ℕ) → v < 4 → t < 19 → getD near (t * 4 + v) 0 ≡ bucket (1 + v) t)
-    → ((v t : ℕ) → v < 4 → t < 19 → getD apart (t * 4 + v) 0 ≡ bucket (5 + v) t)
+    → ((v t : ℕ) → v < 4 → t < bucketRows → getD near (t * 4 + v) 0 ≡ bucket (1 + v) t)
+    → ((v t : ℕ) → v < 4 → t < bucketRows → getD apart (t * 4 + v) 0 ≡ bucket (5 + v) t)
     → ((t : ℕ) → t < 15 → getD far t 0 ≡ lowest B (bucket 0) (from 0 (suc t)))
-    → a < 60 → foundBy near apart far (a / 4) (a % 4) ≡ found bucket a
+    → a < maxPoses → foundBy near apart far (a / 4) (a % 4) ≡ found bucket a
 unfolding found
 found-words bucket near apart far a low n p f h =
     let e : ℕ = a / 4 in
@@ -107,15 +109,15 @@ pub pose-by : (near apart far : List ℕ) (e v : ℕ) → v < 4
 pose-by near apart far e v h = ap₂ (λ (s w : ℕ). foundBy near apart far s w) (omega arith) (omega arith)
 
 -- arrays in which nothing is gathered yet
-pub lent-none : Arrays (replicate 76 B) (replicate 76 B) (replicate 19 B)
+pub lent-none : Arrays (replicate variantWords B) (replicate variantWords B) (replicate bucketRows B)
 lent-none =
     record {
-      nearLong = length-replicate {A = ℕ} 76 B;
-      apartLong = length-replicate {A = ℕ} 76 B;
-      farLong = length-replicate {A = ℕ} 19 B;
-      nearLow = nones-low 76;
-      apartLow = nones-low 76;
-      farLow = nones-low 19;
+      nearLong = length-replicate {A = ℕ} variantWords B;
+      apartLong = length-replicate {A = ℕ} variantWords B;
+      farLong = length-replicate {A = ℕ} bucketRows B;
+      nearLow = nones-low variantWords;
+      apartLow = nones-low variantWords;
+      farLow = nones-low bucketRows;
     }
 
 -- far rows that ran up, and one array in two places
@@ -146,22 +148,23 @@ lent-twin l =
 -- buckets are needed, or four serve for eight
 module _
     {bucket : ℕ → ℕ → ℕ} {buckets : ℕ} {near apart far far′ : List ℕ} (low : (v t : ℕ) → bucket v t ≤ B)
-    (g : ThinGathered bucket buckets (replicate 76 B) near (replicate 76 B) apart (replicate 19 B) far)
+    (g : ThinGathered bucket buckets (replicate variantWords B) near (replicate variantWords B) apart
+    (replicate bucketRows B) far)
     (r : FarRunUp 15 far far′)
   where
-    near-words : (v t : ℕ) → v < 4 → t < 19 → getD near (t * 4 + v) 0 ≡ bucket (1 + v) t
+    near-words : (v t : ℕ) → v < 4 → t < bucketRows → getD near (t * 4 + v) 0 ≡ bucket (1 + v) t
     near-words v t h i =
         let e : bucket (1 + (t * 4 + v) % 4) ((t * 4 + v) / 4) ≡ bucket (1 + v) t =
         ap₂ (λ (x y : ℕ). bucket (1 + x) y) (omega arith) (omega arith) in
         omega (
           arith,
           g .nearTo .done (t * 4 + v) (omega arith),
-          getD-replicate 76 (t * 4 + v) B 0 (omega arith),
+          getD-replicate variantWords (t * 4 + v) B 0 (omega arith),
           e,
           low (1 + v) t,
         )
 
-    apart-words : buckets ≡ 9 → (v t : ℕ) → v < 4 → t < 19 → getD apart (t * 4 + v) 0 ≡ bucket (5 + v) t
+    apart-words : buckets ≡ 9 → (v t : ℕ) → v < 4 → t < bucketRows → getD apart (t * 4 + v) 0 ≡ bucket (5 + v) t
     apart-words n v t h i =
         let j : ℕ = t * 4 + v in
         let e : bucket (5 + j % 4) (j / 4) ≡ bucket (5 + v) t =
@@ -169,7 +172,7 @@ module _
         omega (
           arith,
           g .apartTo .done j (omega arith),
-          getD-replicate 76 j B 0 (omega arith),
+          getD-replicate variantWords j B 0 (omega arith),
           apart-yes (eqb buckets 9) (bucket (5 + j % 4) (j / 4)) (eq? buckets 9) n,
           e,
           low (5 + v) t,
@@ -179,11 +182,11 @@ module _
     far-words t h =
         r .far t h
         ∙ lowest-ext (λ s. getD far s 0) (bucket 0) 0 (suc t)
-        (λ s i. omega (arith, g .farTo .done s (omega arith), getD-replicate 19 s B 0 (omega arith), low 0 s))
+        (λ s i. omega (arith, g .farTo .done s (omega arith), getD-replicate bucketRows s B 0 (omega arith), low 0 s))
 
     pub found-there :
         (buckets ≢ 9 → (v t : ℕ) → v < 4 → bucket (5 + v) t ≡ bucket (1 + v) t)
-        → (a : ℕ) → a < 60 → foundBy near (otherOf buckets near apart) far′ (a / 4) (a % 4) ≡ found bucket a
+        → (a : ℕ) → a < maxPoses → foundBy near (otherOf buckets near apart) far′ (a / 4) (a % 4) ≡ found bucket a
     found-there e a h = go (eqb buckets 9) (eq? buckets 9)
       where
         go : (z : Bool) → Eq? buckets 9 z → foundBy near (cond z apart near) far′ (a / 4) (a % 4) ≡ found bucket a
@@ -217,13 +220,13 @@ written-join {f} {g} {at} {n} {m} {old} {mid} {new} v w e =
 -- a state's words
 pub put-words :
     {f : ℕ → ℕ} (D : Deck) (R i from q : ℕ) {n : ℕ} {old new : List ℕ}
-    → Written f (from + 768 + q * 64) n old new → D .poses ≤ n → n ≤ 64
+    → Written f (from + keptLayer + q * poseSlots) n old new → D .poses ≤ n → n ≤ poseSlots
     → ((a : ℕ) → a < D .poses → nextLayer D R (thinIn old from) i q a ≡ f a)
     → Put D R i from q old new
 put-words D R i from q {old = old} w h k e =
     record {
-      frame = frame-join (from + 768 + q * 64) (from + 768 + q * 64 + 64)
-          (frame-refl (from + 768 + q * 64) (from + 768 + q * 64) old) (w .frame)
+      frame = frame-join (from + keptLayer + q * poseSlots) (from + keptLayer + q * poseSlots + poseSlots)
+          (frame-refl (from + keptLayer + q * poseSlots) (from + keptLayer + q * poseSlots) old) (w .frame)
           (omega arith) (omega arith) (omega arith) (omega arith);
       low = w .low;
       right = λ a l. w .words a (omega arith) ∙ sym (e a l);
@@ -231,23 +234,27 @@ put-words D R i from q {old = old} w h k e =
 
 pub stepped-none : (D : Deck) (R i from : ℕ) {st : List ℕ} → Low st → Stepped D R 0 i from st st
 stepped-none D R i from {st} w =
-    record { frame = frame-refl (from + 768) (from + 1536) st; low = w; right = λ q a h. absurd (omega arith) }
+    record {
+      frame = frame-refl (from + keptLayer) (from + 2 * keptLayer) st;
+      low = w;
+      right = λ q a h. absurd (omega arith);
+    }
 
 -- one state more: the layer before is as it was
 pub stepped-more :
     {D : Deck} {R i from : ℕ} {old mid new : List ℕ} (q : ℕ)
-    → Stepped D R q i from old mid → Put D R i from q mid new → q < 12 → stateCount R ≤ 12 → D .poses ≤ 60
+    → Stepped D R q i from old mid → Put D R i from q mid new → q < 12 → stateCount R ≤ 12 → D .poses ≤ maxPoses
     → Stepped D R (q + 1) i from old new
 stepped-more {D} {R} {i} {from} {old} {mid} {new} q s w h c p =
     record {
-      frame = frame-join (from + 768) (from + 1536) (s .frame) (w .frame) (omega arith) (omega arith)
+      frame = frame-join (from + keptLayer) (from + 2 * keptLayer) (s .frame) (w .frame) (omega arith) (omega arith)
           (omega arith) (omega arith);
       low = w .low;
       right = λ r a l k.
           below-more (λ (r : ℕ). (a : ℕ) → a < D .poses
-          → thinIn new (from + 768) r a ≡ nextLayer D R (thinIn old from) i r a) q
-          (λ r l a k. w .frame .low (from + 768 + r * 64 + a) (omega arith) ∙ s .right r a l k)
+          → thinIn new (from + keptLayer) r a ≡ nextLayer D R (thinIn old from) i r a) q
+          (λ r l a k. w .frame .low (from + keptLayer + r * poseSlots + a) (omega arith) ∙ s .right r a l k)
           (λ a k. w .right a k ∙ next-ext D R (thinIn mid from) (thinIn old from)
-          (λ r b x y. s .frame .low (from + r * 64 + b) (omega arith)) i q a)
+          (λ r b x y. s .frame .low (from + r * poseSlots + b) (omega arith)) i q a)
           r l a k;
     }

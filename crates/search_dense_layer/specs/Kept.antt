@@ -3,7 +3,7 @@ use Prim.Native.Nat.{ℕ, _+_, _≤_, _<_}
 use mathlib.Core.Path.{_≡_}
 use mathlib.Core.List.{List}
 use lib.ListN.{length}
-use Rattle.search_store.specs.Map.{keptAt, keptFrom, pagesFrom}
+use Rattle.search_store.specs.Map.{keptAt, keptFrom, pagesFrom, maxKept}
 use Rattle.search_row.specs.declared.Sizes.{Sizes}
 use Rattle.theory_tables.specs.Steps.{Deck, Layer, stateCount, layers}
 use Rattle.search_lanes.specs.Store.{Frame, Low}
@@ -23,8 +23,8 @@ pub record Segment (row st : List ℕ) (z : Sizes) (i end : ℕ) : Type 0 where
   pub low : Low st
   pub long : pagesFrom ≤ length st
   pub some : 0 < i
-  pub cells : i ≤ 66
-  pub last : end ≤ 66
+  pub cells : i ≤ maxKept
+  pub last : end ≤ maxKept
 
 -- what it leaves
 pub record SegmentKept (D : Deck) (R i end : ℕ) (old new : List ℕ) : Type 0 where

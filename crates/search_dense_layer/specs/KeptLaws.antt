@@ -5,8 +5,8 @@ use mathlib.Core.List.{List}
 use native.Mathlib.Omega.{arith}
 use native.Mathlib.Decide.{ℕ-discrete}
 use lib.ListN.{getD}
-use Rattle.search_store.specs.Map.{keptAt, keptFrom, pagesFrom}
-use Rattle.theory_tables.specs.Steps.{Deck, Layer, stateCount, layers, nextLayer}
+use Rattle.search_store.specs.Map.{keptAt, keptFrom, pagesFrom, maxKept, maxPoses}
+use Rattle.theory_tables.specs.Steps.{Deck, Layer, stateCount, layers, nextLayer, poseSlots}
 use Rattle.search_lanes.specs.Laws.{frame-refl, frame-join}
 use Rattle.search_lanes.specs.Store.{Low}
 use Rattle.search_buckets.specs.Next.{next-ext, layers-ext}
@@ -48,10 +48,10 @@ kept-none D R i {st} w =
     go zero q a h = ap (λ (k : ℕ). getD st k 0) (omega arith)
     go (suc j) q a h = absurd (omega arith)
 
-module _ (D : Deck) (R i : ℕ) (some : 0 < i) (few : D .poses ≤ 60) (statesFew : stateCount R ≤ 12) where
+module _ (D : Deck) (R i : ℕ) (some : 0 < i) (few : D .poses ≤ maxPoses) (statesFew : stateCount R ≤ 12) where
   pub kept-more :
       {count from : ℕ} {old mid new : List ℕ} (j : ℕ)
-      → i + (j + 1) ≤ 66 → count ≡ stateCount R → from ≡ keptAt (i + j) → SegmentKept D R i (i + j) old mid
+      → i + (j + 1) ≤ maxKept → count ≡ stateCount R → from ≡ keptAt (i + j) → SegmentKept D R i (i + j) old mid
       → Stepped D R count (i + j) from mid new
       → SegmentKept D R i (i + (j + 1)) old new
   kept-more {count} {from} {old} {mid} {new} j l n e s w =
@@ -66,18 +66,19 @@ module _ (D : Deck) (R i : ℕ) (some : 0 < i) (few : D .poses ≤ 60) (statesFe
       first = keptIn old i
 
       -- the layer before, as it is read
-      before : (q a : ℕ) → q < stateCount R → a < D .poses → getD mid (from + q * 64 + a) 0 ≡ layers D R first i j q a
-      before q a x y = ap (λ (k : ℕ). getD mid (k + q * 64 + a) 0) e ∙ s .kept .right j q a (omega arith) x y
+      before : (q a : ℕ) → q < stateCount R → a < D .poses
+          → getD mid (from + q * poseSlots + a) 0 ≡ layers D R first i j q a
+      before q a x y = ap (λ (k : ℕ). getD mid (k + q * poseSlots + a) 0) e ∙ s .kept .right j q a (omega arith) x y
 
       next : (q a : ℕ) → q < stateCount R → a < D .poses → keptIn new (i + (j + 1)) q a ≡ layers D R first i (j + 1) q a
       next q a x y =
-          ap (λ (k : ℕ). getD new (k + q * 64 + a) 0) (omega arith)
+          ap (λ (k : ℕ). getD new (k + q * poseSlots + a) 0) (omega arith)
           ∙ w .right q a (omega arith) y
-          ∙ next-ext D R (λ q b. getD mid (from + q * 64 + b) 0) (layers D R first i j) before (i + j) q a
+          ∙ next-ext D R (λ q b. getD mid (from + q * poseSlots + b) 0) (layers D R first i j) before (i + j) q a
           ∙ sym (layers-more D R first i j q a)
 
       kept : (k q a : ℕ) → q < stateCount R → a < D .poses → i + k ≤ i + (j + 1) → Dec (k ≡ j + 1)
           → keptIn new (i + k) q a ≡ layers D R first i k q a
       kept k q a x y h (yes z) = rw z (next q a x y)
       kept k q a x y h (no z) =
-          w .frame .low (keptAt (i + k) + q * 64 + a) (omega arith) ∙ s .kept .right k q a (omega arith) x y
+          w .frame .low (keptAt (i + k) + q * poseSlots + a) (omega arith) ∙ s .kept .right k q a (omega arith) x y

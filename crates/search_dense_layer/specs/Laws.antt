@@ -10,14 +10,15 @@ use lib.ListN.{length, getD, set}
 use lib.Dec.{eqb}
 use Rattle.lists.specs.Compare.{Eq?, same, differs, eq?}
 use Rattle.theory_tables.specs.Steps.{B}
+use Rattle.search_store.specs.Map.{bucketRows}
 use Rattle.search_lanes.specs.Lanes.{Lowered}
 use Rattle.search_lanes.specs.Store.{Low}
 use Rattle.search_lanes.specs.Laws.{lowered-more, lowered-to, lowered-ext, lowered-join, lowered-low}
 use Rattle.search_row.specs.Words.{wordOf, apartWord, touchingWord}
-use Rattle.search_buckets.specs.Rows.{inRow, endRow, bucketsIn, payIn, Pays, onePose}
+use Rattle.search_buckets.specs.Rows.{inRow, endRow, bucketsIn, payIn, Pays, onePose, payWords}
 use Rattle.search_buckets.specs.Laws.{row-hit, row-miss, pay-none}
 use Rattle.search_buckets.specs.Sources.{pose-pays}
-use Rattle.search_dense_layer.specs.Thin.{Arrays, ThinGathered, fourOf, spreadOf}
+use Rattle.search_dense_layer.specs.Thin.{Arrays, ThinGathered, fourOf, spreadOf, variantWords}
 
 -- ---- lowered words
 
@@ -36,11 +37,11 @@ lowered-end {f} n m {old} {new} v w h e =
 -- a source in one row: one word of it
 pub row-one :
     (t c z : ℕ) {old : List ℕ}
-    → Low old → length old ≡ 19 → t < 19 → z ≡ min (getD old t 0) c
-    → Lowered (λ s. inRow t s c) 19 old (set old t z)
+    → Low old → length old ≡ bucketRows → t < bucketRows → z ≡ min (getD old t 0) c
+    → Lowered (λ s. inRow t s c) bucketRows old (set old t z)
 row-one t c z {old} w n h e =
     let g : z ≡ min (getD old t 0) (inRow t t c) = omega (arith, e, row-hit t t c refl) in
-    lowered-end (t + 1) 19
+    lowered-end (t + 1) bucketRows
     (lowered-more t z (lowered-to t w (λ k p. omega (arith, row-miss t k c (λ q. omega arith)))) (omega arith) g)
     w (omega arith) (λ k p q. omega (arith, row-miss t k c (λ r. omega arith)))
 
@@ -52,7 +53,7 @@ module _ (t x : ℕ) (pays : List ℕ) (p : ℕ) where
 
   pub four-more :
       {old new : List ℕ} (v z : ℕ)
-      → Lowered (fourOf t x pays p) (t * 4 + v) old new → length old ≡ 76 → t < 19 → v < 4
+      → Lowered (fourOf t x pays p) (t * 4 + v) old new → length old ≡ variantWords → t < bucketRows → v < 4
       → z ≡ min (getD old (t * 4 + v) 0) (x + getD pays (p + v) 0)
       → Lowered (fourOf t x pays p) (t * 4 + (v + 1)) old (set new (t * 4 + v) z)
   four-more {old} {new} v z w n h g e =
@@ -65,10 +66,10 @@ module _ (t x : ℕ) (pays : List ℕ) (p : ℕ) where
       let r : Lowered (fourOf t x pays p) (j + 1) old (set new j z) = lowered-more j z w (omega arith) f in
       rw y at r
 
-  pub four-all : {old new : List ℕ} → Lowered (fourOf t x pays p) (t * 4 + 4) old new → Low old → t < 19
-      → Lowered (fourOf t x pays p) 76 old new
+  pub four-all : {old new : List ℕ} → Lowered (fourOf t x pays p) (t * 4 + 4) old new → Low old → t < bucketRows
+      → Lowered (fourOf t x pays p) variantWords old new
   four-all w l h =
-      lowered-end (t * 4 + 4) 76 w l (omega arith)
+      lowered-end (t * 4 + 4) variantWords w l (omega arith)
       (λ k q r. omega (arith, row-miss t (k / 4) (x + getD pays (p + k % 4) 0) (λ e. omega arith)))
 
 -- ---- the three arrays
@@ -131,8 +132,8 @@ module _ (t x u : ℕ) (pays : List ℕ) where
 
   module _ {buckets : ℕ} {near near′ apart apart′ far far′ : List ℕ} (free : getD pays (u * 9) 0 ≡ 0) where
     pub spread-nine :
-        Lowered (fourOf t x pays (u * 9 + 1)) 76 near near′ → Lowered (λ s. inRow t s x) 19 far far′
-        → buckets ≡ 9 → Lowered (fourOf t x pays (u * 9 + 5)) 76 apart apart′
+        Lowered (fourOf t x pays (u * 9 + 1)) variantWords near near′ → Lowered (λ s. inRow t s x) bucketRows far far′
+        → buckets ≡ 9 → Lowered (fourOf t x pays (u * 9 + 5)) variantWords apart apart′
         → ThinGathered (spreadOf t x pays u) buckets near near′ apart apart′ far far′
     spread-nine v f n w =
         record {
@@ -143,13 +144,13 @@ module _ (t x u : ℕ) (pays : List ℕ) where
         }
 
     pub spread-five :
-        Lowered (fourOf t x pays (u * 9 + 1)) 76 near near′ → Lowered (λ s. inRow t s x) 19 far far′
+        Lowered (fourOf t x pays (u * 9 + 1)) variantWords near near′ → Lowered (λ s. inRow t s x) bucketRows far far′
         → buckets ≢ 9 → Low apart → apart′ ≡ apart
         → ThinGathered (spreadOf t x pays u) buckets near near′ apart apart′ far far′
     spread-five v f n w e =
         record {
           nearTo = lowered-ext v (λ k p. four 1 (u * 9 + 1) k refl);
-          apartTo = rw e (lowered-to 76 w (λ k p.
+          apartTo = rw e (lowered-to variantWords w (λ k p.
               omega (arith, apart-no (eqb buckets 9) (spreadOf t x pays u (5 + k % 4) (k / 4)) (eq? buckets 9) n)));
           farTo = lowered-ext f (λ k p. one k free);
         }
@@ -157,16 +158,16 @@ module _ (t x u : ℕ) (pays : List ℕ) where
 -- no source, or none that lowers anything
 pub gathered-none :
     {bucket : ℕ → ℕ → ℕ} (buckets : ℕ) {near apart far : List ℕ}
-    → Arrays near apart far → ((v t : ℕ) → t < 19 → B ≤ bucket v t)
+    → Arrays near apart far → ((v t : ℕ) → t < bucketRows → B ≤ bucket v t)
     → ThinGathered bucket buckets near near apart apart far far
 gathered-none {bucket} buckets l h =
     record {
-      nearTo = lowered-to 76 (l .nearLow) (λ k p. h (1 + k % 4) (k / 4) (omega arith));
-      apartTo = lowered-to 76 (l .apartLow) (λ k p. go (eqb buckets 9) k p);
-      farTo = lowered-to 19 (l .farLow) (λ k p. h 0 k p);
+      nearTo = lowered-to variantWords (l .nearLow) (λ k p. h (1 + k % 4) (k / 4) (omega arith));
+      apartTo = lowered-to variantWords (l .apartLow) (λ k p. go (eqb buckets 9) k p);
+      farTo = lowered-to bucketRows (l .farLow) (λ k p. h 0 k p);
     }
   where
-    go : (z : Bool) (k : ℕ) → k < 76 → B ≤ cond z (bucket (5 + k % 4) (k / 4)) B
+    go : (z : Bool) (k : ℕ) → k < variantWords → B ≤ cond z (bucket (5 + k % 4) (k / 4)) B
     go true k p = h (5 + k % 4) (k / 4) (omega arith)
     go false k p = omega arith
 
@@ -209,7 +210,7 @@ module _ (row : List ℕ) (m : ℕ) where
 -- ---- one source
 
 -- it pays nothing in bucket 0
-pub pays-free : {row pays : List ℕ} {k m buckets : ℕ} (u : ℕ) → Pays row k m buckets 36 pays → 5 ≤ buckets → u < 4
+pub pays-free : {row pays : List ℕ} {k m buckets : ℕ} (u : ℕ) → Pays row k m buckets payWords pays → 5 ≤ buckets → u < 4
     → getD pays (u * 9) 0 ≡ 0
 pays-free {row} {pays} {k} {m} u p h g =
     let e : u * 9 % 9 ≡ 0 = omega arith in
@@ -221,7 +222,7 @@ pays-free {row} {pays} {k} {m} u p h g =
 -- a pose of a source, from its words
 pub gathered-pose :
     {row pays near near′ apart apart′ far far′ : List ℕ} {k m buckets : ℕ} (b t x : ℕ)
-    → Pays row k m buckets 36 pays → t ≡ endRow row k b m → 5 ≤ buckets → buckets ≤ 9
+    → Pays row k m buckets payWords pays → t ≡ endRow row k b m → 5 ≤ buckets → buckets ≤ 9
     → ThinGathered (spreadOf t x pays (b % 4)) buckets near near′ apart apart′ far far′
     → ThinGathered (onePose row k m b x) buckets near near′ apart apart′ far far′
 gathered-pose b t x p e h g w = gathered-ext w h (λ v s l. pose-pays b v s x p e l g)

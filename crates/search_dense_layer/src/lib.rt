@@ -1,4 +1,4 @@
-// Layers of one lane, dense: state q has 64 words of a block, one for each pose. The four variants of a
+// Layers of one lane, dense: state q has POSE_SLOTS words of a block, one for each pose. The four variants of a
 // site stand side by side, so that four are done at a time. The sources of a target are gathered by their
 // end sites in the buckets of crate buckets.
 ghost use mathlib.Core.Path.{_≡_};
@@ -12,9 +12,13 @@ ghost use Rattle.search_dense_layer.specs.Thin.{thinIn, posesAt, fourOf,
 ghost use Rattle.search_dense_layer.specs.Thin.{ThinGathered, FarBucket, FarRunUp, foundBy, foundOf, ThinLooks};
 ghost use Rattle.search_dense_layer.specs.Thin.{foundFour, otherOf, FromPoses, ToFour, ToPut, ThinGiven};
 ghost use Rattle.search_dense_layer.specs.Thin.{ThinNext, ThinTarget, ThinGathering, ThinFrom, Put, Stepped};
+ghost use Rattle.search_dense_layer.specs.Thin.{variantWords};
 ghost use Rattle.search_dense_layer.specs.Kept.{Segment, SegmentKept};
 use search_buckets::Source;
 use search_row::Sizes;
+
+// Four buckets: a word for each variant in every row.
+const VARIANT_WORDS: usize = 76;
 
 // A layer in its block: how many cells it has, and where the block begins.
 struct Block {
@@ -32,9 +36,16 @@ struct Sought {
 // ---- one source
 
 // A source of cost x to row t of four buckets, where it pays the words from p on.
-fn lower_four(words: &mut [u32; 76], t: usize, x: u32, pays: &[u32; 36], p: usize)
+fn lower_four(
+    words: &mut [u32; VARIANT_WORDS],
+    t: usize,
+    x: u32,
+    pays: &[u32; search_buckets::PAY_WORDS],
+    p: usize,
+)
     requires { ⌜ FourSpread (now words) (now pays) t x p ⌝ }
-    ensures { λ _. ⌜ Lowered (fourOf t x (now (pays .entry)) p) 76 (now (words .entry)) (now (words .exit)) ⌝ }
+    ensures { λ _. ⌜ Lowered (fourOf t x (now (pays .entry)) p) variantWords (now (words .entry))
+        (now (words .exit)) ⌝ }
 {
     let mut v: usize = 0;
     while v < 4 {
@@ -45,11 +56,11 @@ fn lower_four(words: &mut [u32; 76], t: usize, x: u32, pays: &[u32; 36], p: usiz
 
 // The same to all buckets that are needed, by its variant u.
 fn spread(
-    near: &mut [u32; 76],
-    apart: &mut [u32; 76],
-    far: &mut [u32; 19],
+    near: &mut [u32; VARIANT_WORDS],
+    apart: &mut [u32; VARIANT_WORDS],
+    far: &mut [u32; search_store::BUCKET_ROWS],
     x: u32,
-    pays: &[u32; 36],
+    pays: &[u32; search_buckets::PAY_WORDS],
     u: usize,
     t: usize,
     buckets: usize,
@@ -68,12 +79,12 @@ fn spread(
 
 // Pose b of a source.
 fn from_pose(
-    near: &mut [u32; 76],
-    apart: &mut [u32; 76],
-    far: &mut [u32; 19],
+    near: &mut [u32; VARIANT_WORDS],
+    apart: &mut [u32; VARIANT_WORDS],
+    far: &mut [u32; search_store::BUCKET_ROWS],
     store: &[u32],
     row: &[u32],
-    pays: &[u32; 36],
+    pays: &[u32; search_buckets::PAY_WORDS],
     source: Source,
     b: usize,
 )
@@ -87,7 +98,7 @@ fn from_pose(
         return;
     }
     let t = search_buckets::end_row(row, source.left, b, source.right);
-    if t >= 19 {
+    if t >= search_store::BUCKET_ROWS {
         return;
     }
     spread(near, apart, far, x, pays, b % 4, t, source.buckets);
@@ -95,12 +106,12 @@ fn from_pose(
 
 // All its poses.
 fn from_poses(
-    near: &mut [u32; 76],
-    apart: &mut [u32; 76],
-    far: &mut [u32; 19],
+    near: &mut [u32; VARIANT_WORDS],
+    apart: &mut [u32; VARIANT_WORDS],
+    far: &mut [u32; search_store::BUCKET_ROWS],
     store: &[u32],
     row: &[u32],
-    pays: &[u32; 36],
+    pays: &[u32; search_buckets::PAY_WORDS],
     source: Source,
     poses: usize,
 )
@@ -119,7 +130,7 @@ fn from_poses(
 // ---- what a pose finds
 
 // Each row of the far bucket, as far as some pose looks, lowered to all rows before it.
-fn run_up(far: &mut [u32; 19])
+fn run_up(far: &mut [u32; search_store::BUCKET_ROWS])
     requires { ⌜ FarBucket (now far) ⌝ }
     ensures { λ _. ⌜ FarRunUp 15 (now (far .entry)) (now (far .exit)) ⌝ }
 {
@@ -131,7 +142,13 @@ fn run_up(far: &mut [u32; 19])
 }
 
 // What the pose at site e in variant v finds: at gaps 0, 2 and 3, and further left.
-fn found(near: &[u32; 76], apart: &[u32; 76], far: &[u32; 19], e: usize, v: usize) -> u32
+fn found(
+    near: &[u32; VARIANT_WORDS],
+    apart: &[u32; VARIANT_WORDS],
+    far: &[u32; search_store::BUCKET_ROWS],
+    e: usize,
+    v: usize,
+) -> u32
     requires { ⌜ ThinLooks (now near) (now apart) (now far) e v ⌝ }
     ensures { λ x. ⌜ x ≡ foundBy (now (near .entry)) (now (apart .entry)) (now (far .entry)) e v ⌝ }
 {
@@ -144,9 +161,9 @@ fn found(near: &[u32; 76], apart: &[u32; 76], far: &[u32; 19], e: usize, v: usiz
 fn found_four(
     words: &mut [u32; 4],
     row: &[u32],
-    near: &[u32; 76],
-    apart: &[u32; 76],
-    far: &[u32; 19],
+    near: &[u32; VARIANT_WORDS],
+    apart: &[u32; VARIANT_WORDS],
+    far: &[u32; search_store::BUCKET_ROWS],
     k: usize,
     e: usize,
 )
@@ -166,9 +183,9 @@ fn found_four(
 fn put_four(
     store: &mut [u32],
     row: &[u32],
-    near: &[u32; 76],
-    apart: &[u32; 76],
-    far: &[u32; 19],
+    near: &[u32; VARIANT_WORDS],
+    apart: &[u32; VARIANT_WORDS],
+    far: &[u32; search_store::BUCKET_ROWS],
     to: usize,
     k: usize,
     e: usize,
@@ -190,9 +207,9 @@ fn put_four(
 fn put(
     store: &mut [u32],
     row: &[u32],
-    near: &[u32; 76],
-    apart: &[u32; 76],
-    far: &[u32; 19],
+    near: &[u32; VARIANT_WORDS],
+    apart: &[u32; VARIANT_WORDS],
+    far: &[u32; search_store::BUCKET_ROWS],
     to: usize,
     k: usize,
     poses: usize,
@@ -212,9 +229,9 @@ fn put(
 fn put_found(
     store: &mut [u32],
     row: &[u32],
-    near: &[u32; 76],
-    apart: &[u32; 76],
-    far: &[u32; 19],
+    near: &[u32; VARIANT_WORDS],
+    apart: &[u32; VARIANT_WORDS],
+    far: &[u32; search_store::BUCKET_ROWS],
     to: usize,
     k: usize,
     poses: usize,
@@ -235,9 +252,9 @@ fn put_found(
 
 // State p of a layer, if it is a source of the state that is sought.
 fn from_source(
-    near: &mut [u32; 76],
-    apart: &mut [u32; 76],
-    far: &mut [u32; 19],
+    near: &mut [u32; VARIANT_WORDS],
+    apart: &mut [u32; VARIANT_WORDS],
+    far: &mut [u32; search_store::BUCKET_ROWS],
     store: &[u32],
     row: &[u32],
     sizes: Sizes,
@@ -258,9 +275,9 @@ fn from_source(
     let k = search_row::last_at(row, sizes, sought.cells, p);
     let m = search_row::last_at(row, sizes, sought.cells + 1, sought.state);
     let buckets = search_buckets::buckets_of(row, m);
-    let mut pay = [0u32; 36];
+    let mut pay = [0u32; search_buckets::PAY_WORDS];
     search_buckets::fill_pays(&mut pay, row, k, m, buckets);
-    let at = sought.at + p * 64;
+    let at = sought.at + p * search_store::POSE_SLOTS;
     let source = Source {
         at,
         left: k,
@@ -272,9 +289,9 @@ fn from_source(
 
 // Every source.
 fn gather(
-    near: &mut [u32; 76],
-    apart: &mut [u32; 76],
-    far: &mut [u32; 19],
+    near: &mut [u32; VARIANT_WORDS],
+    apart: &mut [u32; VARIANT_WORDS],
+    far: &mut [u32; search_store::BUCKET_ROWS],
     store: &[u32],
     row: &[u32],
     sizes: Sizes,
@@ -302,9 +319,9 @@ fn target_there(store: &mut [u32], row: &[u32], sizes: Sizes, layer: Block, q: u
         (now (store .entry)) (now (store .exit)) ⌝ }
 {
     let m = search_row::last_at(row, sizes, layer.cells + 1, q);
-    let mut near = [search_lanes::NONE; 76];
-    let mut apart = [search_lanes::NONE; 76];
-    let mut far = [search_lanes::NONE; 19];
+    let mut near = [search_lanes::NONE; VARIANT_WORDS];
+    let mut apart = [search_lanes::NONE; VARIANT_WORDS];
+    let mut far = [search_lanes::NONE; search_store::BUCKET_ROWS];
     let sought = Sought {
         cells: layer.cells,
         at: layer.at,
@@ -312,7 +329,7 @@ fn target_there(store: &mut [u32], row: &[u32], sizes: Sizes, layer: Block, q: u
     };
     gather(&mut near, &mut apart, &mut far, store, row, sizes, sought);
     run_up(&mut far);
-    let to = layer.at + search_store::KEPT_LAYER + q * 64;
+    let to = layer.at + search_store::KEPT_LAYER + q * search_store::POSE_SLOTS;
     put_found(store, row, &near, &apart, &far, to, m, sizes.poses);
 }
 
@@ -325,8 +342,8 @@ fn put_state(store: &mut [u32], row: &[u32], sizes: Sizes, layer: Block, q: usiz
     if !search_row::is_there(row, sizes, layer.cells + 1, q) {
         search_lanes::fill(
             store,
-            layer.at + search_store::KEPT_LAYER + q * 64,
-            64,
+            layer.at + search_store::KEPT_LAYER + q * search_store::POSE_SLOTS,
+            search_store::POSE_SLOTS,
             search_lanes::NONE,
         );
         return;

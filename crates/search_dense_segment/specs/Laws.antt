@@ -10,8 +10,8 @@ use lib.ListN.{length, getD, set}
 use lib.Dec.{leb}
 use Rattle.search_buckets.specs.Ends.{leastPoses, leastState, leastStates, state-in, state-out}
 use Rattle.search_buckets.specs.Ends.{states-low, ends-gathered, cost-run, cost-done}
-use Rattle.search_store.specs.Map.{keptAt, keptFrom, pagesFrom}
-use Rattle.theory_tables.specs.Steps.{B, Deck, Layer, stateCount, offset, lastAt}
+use Rattle.search_store.specs.Map.{keptAt, keptFrom, pagesFrom, maxKept}
+use Rattle.theory_tables.specs.Steps.{B, Deck, Layer, stateCount, offset, lastAt, poseSlots}
 use Rattle.theory_tables.specs.Steps.{layers, firstOpen, costTo, ends, costEnd}
 use Rattle.search_lanes.specs.Store.{Low, Written, Filled}
 use Rattle.search_lanes.specs.Lanes.{always}
@@ -53,12 +53,12 @@ module _ (R p : ℕ) (st : List ℕ) (l q a : ℕ) where
   comes-late h = ap (λ t. cond t (keptIn st (p + suc R - offset R q) q a) B) (lt-leb (1 + offset R q) (p + suc R) h)
 
 -- they stand below the costs
-pub comes-kept : (R p q a l : ℕ) (old new : List ℕ) → p + suc R ≤ 66 → q < 12 → a < 64
+pub comes-kept : (R p q a l : ℕ) (old new : List ℕ) → p + suc R ≤ maxKept → q < 12 → a < poseSlots
     → ((k : ℕ) → k < pagesFrom → getD new k 0 ≡ getD old k 0)
     → comesIn R p old l q a ≡ comesIn R p new l q a
 comes-kept R p q a l old new h g k same =
     ap (λ (x : ℕ). cond (leb (1 + offset R q) (p + suc R)) x B)
-    (sym (same (keptAt (p + suc R - offset R q) + q * 64 + a) (omega arith)))
+    (sym (same (keptAt (p + suc R - offset R q) + q * poseSlots + a) (omega arith)))
 
 -- by the kept layers these are the costs
 comes-cost : (D : Deck) (R p q a end l : ℕ) {st : List ℕ} → end ≡ p + suc R → q < stateCount R → a < D .poses

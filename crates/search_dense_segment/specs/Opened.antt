@@ -5,7 +5,8 @@ use mathlib.Core.Bool.{cond}
 use mathlib.Core.List.{List}
 use lib.ListN.{length, getD}
 use lib.Dec.{leb}
-use Rattle.search_store.specs.Map.{keptFrom, layerBlock, pagesFrom}
+use Rattle.definition.specs.Job.{maxCells}
+use Rattle.search_store.specs.Map.{keptFrom, layerBlock, pagesFrom, maxLanes, maxPoses}
 use Rattle.theory_tables.specs.Steps.{B, Deck, Layer, stateCount, offset, firstOpen, costTo, costEnd}
 use Rattle.search_lanes.specs.Store.{Frame, Low, layerIn}
 use Rattle.search_row.specs.declared.Sizes.{Sizes}
@@ -32,7 +33,7 @@ endCost D R q a = costEnd D R (firstOpen D R) 1 0
 -- a store with room for costs, above the kept layers
 pub record OpenRoom (st : List ℕ) (R poses count costs : ℕ) : Type 0 where
   pub low : Low st
-  pub few : poses ≤ 60
+  pub few : poses ≤ maxPoses
   pub all : count ≡ stateCount R
   pub over : pagesFrom ≤ costs
   pub room : costs + layerBlock ≤ length st
@@ -46,7 +47,7 @@ pub record OpenToEnd (row st : List ℕ) (z : Sizes) (costs : ℕ) : Type 0 wher
 pub record OpenToTall (row st : List ℕ) (z : Sizes) (tall costs : ℕ) : Type 0 where
   pub ground : Ground row z
   pub room : OpenRoom st (z .reordering) (z .poses) (z .states) costs
-  pub cell : tall < 64
+  pub cell : tall < maxCells
 
 -- and a state of that cell
 pub record OpenToState (row st : List ℕ) (z : Sizes) (tall costs q : ℕ) : Type 0 where
@@ -57,7 +58,7 @@ pub record OpenToState (row st : List ℕ) (z : Sizes) (tall costs q : ℕ) : Ty
 pub record SpreadRoom (st : List ℕ) (from at rows : ℕ) : Type 0 where
   pub low : Low st
   pub above : from + rows ≤ at
-  pub room : at + rows * 64 ≤ length st
+  pub room : at + rows * maxLanes ≤ length st
 
 -- the layers from the row's start are kept up to layer `end`
 pub record OpenKept (D : Deck) (R end : ℕ) (old new : List ℕ) : Type 0 where

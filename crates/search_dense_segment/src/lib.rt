@@ -1,6 +1,7 @@
 // The costs from a row's start: its layers run dense, in the place of the kept layers.
 ghost use mathlib.Core.Path.{_≡_};
 ghost use Prim.Native.Nat.{_+_, _*_};
+ghost use Rattle.theory_tables.specs.Steps.{poseSlots};
 ghost use Rattle.search_buckets.specs.Ends.{leastPoses, leastState, leastStates};
 ghost use Rattle.search_lanes.specs.Store.{WrittenRows, FilledState, Filled};
 ghost use Rattle.search_row.specs.Words.{backIn, deckIn};
@@ -23,7 +24,7 @@ fn run_open(store: &mut [u32], row: &[u32], sizes: Sizes, end: usize)
 
 // ---- to a tall cell
 
-// Words that stand side by side, to lane 0 of so many rows of 64 words.
+// Words that stand side by side, to lane 0 of so many rows of lanes.
 fn spread(store: &mut [u32], from: usize, at: usize, rows: usize)
     requires { ⌜ SpreadRoom (now store) from at rows ⌝ }
     ensures { λ _. ⌜ WrittenRows (spreadFrom (now (store .entry)) from) at rows 1 (now (store .entry))
@@ -31,7 +32,7 @@ fn spread(store: &mut [u32], from: usize, at: usize, rows: usize)
 {
     let mut a: usize = 0;
     while a < rows {
-        store[at + a * 64] = store[from + a];
+        store[at + a * search_store::MAX_LANES] = store[from + a];
         a += 1;
     }
 }
@@ -54,7 +55,7 @@ fn put_state(store: &mut [u32], row: &[u32], sizes: Sizes, tall: usize, costs: u
         );
         return;
     }
-    let from = search_store::kept_at(all - digit) + q * 64;
+    let from = search_store::kept_at(all - digit) + q * search_store::POSE_SLOTS;
     spread(store, from, costs + q * search_store::STATE, sizes.poses);
 }
 
@@ -86,13 +87,16 @@ pub fn open_to(store: &mut [u32], row: &[u32], sizes: Sizes, tall: usize, costs:
 // The least of all poses of state q in the layer at `at`; its cell is at
 // position k, and each pose pays as the row's last.
 fn least_poses(store: &[u32], row: &[u32], at: usize, q: usize, k: usize, poses: usize) -> u32
-    requires { ⌜ PosesGiven (now row) (now store) (at + q * 64) k poses ⌝ }
+    requires { ⌜ PosesGiven (now row) (now store) (at + q * poseSlots) k poses ⌝ }
     ensures { λ x. ⌜ x ≡ leastPoses (backIn (now (row .entry)) k) (thinIn (now (store .entry)) at) q poses ⌝ }
 {
     let mut x = search_lanes::NONE;
     let mut a: usize = 0;
     while a < poses {
-        x = search_lanes::least(x, store[at + q * 64 + a] + search_row::back(row, k, a));
+        x = search_lanes::least(
+            x,
+            store[at + q * search_store::POSE_SLOTS + a] + search_row::back(row, k, a),
+        );
         a += 1;
     }
     x

@@ -9,6 +9,7 @@ use Rattle.definition.specs.Job as paper
 use Rattle.definition.specs.Cost.{cost}
 use Rattle.definition.specs.Moves.{Cheapest}
 use Rattle.definition.specs.Outcome.{storeNeeded}
+use Rattle.theory_tables.specs.Steps.{poseSlots}
 use Rattle.job.specs.declared.Job.{Job}
 use Rattle.job.specs.Value.{jobOf}
 use Rattle.job.specs.Accepted.{Accepted}
@@ -28,4 +29,4 @@ pub record Solved (j : paper.Job) (found : Bool) (least : ℕ) (poses : List ℕ
   pub none-when : found ≡ false → Cheapest j none
   pub some-when : found ≡ true → Cheapest j (some (placementByNumbers j (numbersIn poses)))
   pub stated : found ≡ true → cost j (placementByNumbers j (numbersIn poses)) ≡ least
-  pub numbers : (k : ℕ) → getD poses k 0 < 64
+  pub numbers : (k : ℕ) → getD poses k 0 < poseSlots

@@ -6,7 +6,7 @@ use mathlib.Core.List.{List}
 use native.Mathlib.Omega.{arith}
 use native.Mathlib.Decide.{decLt}
 use lib.ListN.{getD}
-use Rattle.search_store.specs.Map.{caseAt}
+use Rattle.search_store.specs.Map.{caseAt, maxLanes}
 use Rattle.theory_tables.specs.Steps.{B}
 use Rattle.search_lanes.specs.Lanes.{always}
 use Rattle.search_lanes.specs.Store.{Low, Written}
@@ -38,7 +38,7 @@ module _ (I low high : ℕ) where
       }
 
   -- one state
-  pub closed-one : (p₀ p₁ at : ℕ) {old new : List ℕ} → I ≤ 25 → p₀ < 12 → p₁ < 12 → low ≤ high → high ≤ 64
+  pub closed-one : (p₀ p₁ at : ℕ) {old new : List ℕ} → I ≤ 25 → p₀ < 12 → p₁ < 12 → low ≤ high → high ≤ maxLanes
       → at ≡ caseAt I p₀ p₁
       → Written (always B) (at + low) (high - low) old new → Closed I low high (OneState p₀ p₁) old new
   unfolding casesIn pointersIn
@@ -60,7 +60,7 @@ module _ (I low high : ℕ) where
       }
 
   -- the states P, then the states Q: together the states R
-  module _ (P Q R : ℕ → ℕ → Type 0) {x y z : List ℕ} (b : I ≤ 25) (m : high ≤ 64)
+  module _ (P Q R : ℕ → ℕ → Type 0) {x y z : List ℕ} (b : I ≤ 25) (m : high ≤ maxLanes)
       (room : (q₀ q₁ : ℕ) → R q₀ q₁ → (q₀ < 12) × (q₁ < 12))
       (either : (q₀ q₁ : ℕ) → R q₀ q₁ → (P q₀ q₁ × (Q q₀ q₁ → ⊥)) ⊎ Q q₀ q₁)
       (first : (q₀ q₁ : ℕ) → P q₀ q₁ → R q₀ q₁)
@@ -85,7 +85,7 @@ module _ (I low high : ℕ) where
           }
 
   -- one state of row 1 more
-  pub closed-more : (p₀ m : ℕ) {x y z : List ℕ} → I ≤ 25 → high ≤ 64 → p₀ < 12 → m < 12
+  pub closed-more : (p₀ m : ℕ) {x y z : List ℕ} → I ≤ 25 → high ≤ maxLanes → p₀ < 12 → m < 12
       → Closed I low high (StateWith p₀ m) x y → Closed I low high (OneState p₀ m) y z
       → Closed I low high (StateWith p₀ (m + 1)) x z
   closed-more p₀ m b n h g =
@@ -96,7 +96,7 @@ module _ (I low high : ℕ) where
       (λ q₀ q₁ d. (d .0, omega arith))
 
   -- one state of row 0 more
-  pub closed-next : (k m : ℕ) {x y z : List ℕ} → I ≤ 25 → high ≤ 64 → k < 12 → m ≤ 12
+  pub closed-next : (k m : ℕ) {x y z : List ℕ} → I ≤ 25 → high ≤ maxLanes → k < 12 → m ≤ 12
       → Closed I low high (AllStates k m) x y → Closed I low high (StateWith k m) y z
       → Closed I low high (AllStates (k + 1) m) x z
   closed-next k m b n h g =

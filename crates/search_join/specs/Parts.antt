@@ -8,8 +8,8 @@ use native.Mathlib.Omega.{arith}
 use native.Mathlib.Decide.{decLt}
 use lib.ListN.{length, getD, set, length-set}
 use lib.Seq.{getD-set-same, getD-set-other}
-use Rattle.search_store.specs.Map.{caseAt, pointerAt, Pages, Slot}
-use Rattle.theory_tables.specs.Steps.{B, Cases, SegmentCosts, joinPose, nextCases}
+use Rattle.search_store.specs.Map.{caseAt, pointerAt, Pages, Slot, maxLanes}
+use Rattle.theory_tables.specs.Steps.{B, Cases, SegmentCosts, joinPose, nextCases, poseSlots}
 use Rattle.search_lanes.specs.Store.{Low}
 use Rattle.search_lanes.specs.Laws.{low-set}
 use Rattle.search_store.specs.Places.{case-one, case-pointer, case-room, case-beside}
@@ -80,7 +80,7 @@ last k n h = go (decLt k n)
 module _ (starts lanes I : ℕ) where
   -- what a part leaves as it was, if its cases are in the map
   module _ (P : ℕ → ℕ → ℕ → Type 0) {x y : List ℕ} (b : I ≤ 24)
-      (room : (q₀ q₁ a : ℕ) → P q₀ q₁ a → (q₀ < 12) × (q₁ < 12) × (a < 64)) (p : Part starts lanes I P x y) where
+      (room : (q₀ q₁ a : ℕ) → P q₀ q₁ a → (q₀ < 12) × (q₁ < 12) × (a < poseSlots)) (p : Part starts lanes I P x y) where
     pub kept-case : (J q₀ q₁ a : ℕ) → Slot J q₀ q₁ a → (J ≡ suc I → P q₀ q₁ a → ⊥) → SameCase J q₀ q₁ a x y
     unfolding casesIn pointersIn
     kept-case j q₀ q₁ a h away =
@@ -101,7 +101,7 @@ module _ (starts lanes I : ℕ) where
             let d = case-one j q₀ q₁ a (suc I) p₀ p₁ c h (slot p₀ p₁ c r) e in
             away (d .0) (rw (d .1, d .2, d .3) r)
 
-    pub kept-cost : (row s l q a : ℕ) → row ≤ 1 → l < 64 → q < 12 → a < 64
+    pub kept-cost : (row s l q a : ℕ) → row ≤ 1 → l < maxLanes → q < 12 → a < poseSlots
         → costsIn y row s l q a ≡ costsIn x row s l q a
     unfolding costsIn
     kept-cost row s l q a h k i g =
@@ -126,7 +126,8 @@ module _ (starts lanes I : ℕ) where
   }
 
   pub summed-part : (P : ℕ → ℕ → ℕ → Type 0) {x y sums : List ℕ} {live : Bool} (q₀ a : ℕ) → Table starts lanes I x
-      → ((q₀ q₁ a : ℕ) → P q₀ q₁ a → (q₀ < 12) × (q₁ < 12) × (a < 64)) → Part starts lanes I P x y → q₀ < 12 → a < 64
+      → ((q₀ q₁ a : ℕ) → P q₀ q₁ a → (q₀ < 12) × (q₁ < 12) × (a < poseSlots)) → Part starts lanes I P x y → q₀ < 12
+      → a < poseSlots
       → Summed starts lanes I x q₀ a sums live → Summed starts lanes I y q₀ a sums live
   unfolding startSum
   summed-part P {y = y} q₀ a t room p h g w =
@@ -149,7 +150,7 @@ module _ (starts lanes I : ℕ) where
 
   -- the cases P, then the cases Q: together the cases R
   module _ (P Q R : ℕ → ℕ → ℕ → Type 0) {x y z : List ℕ} (t : Table starts lanes I x)
-      (room : (q₀ q₁ a : ℕ) → R q₀ q₁ a → (q₀ < 12) × (q₁ < 12) × (a < 64))
+      (room : (q₀ q₁ a : ℕ) → R q₀ q₁ a → (q₀ < 12) × (q₁ < 12) × (a < poseSlots))
       (either : (q₀ q₁ a : ℕ) → R q₀ q₁ a → (P q₀ q₁ a × (Q q₀ q₁ a → ⊥)) ⊎ Q q₀ q₁ a)
       (first : (q₀ q₁ a : ℕ) → P q₀ q₁ a → R q₀ q₁ a)
       (second : (q₀ q₁ a : ℕ) → Q q₀ q₁ a → R q₀ q₁ a)
@@ -159,9 +160,9 @@ module _ (starts lanes I : ℕ) where
           let b : I ≤ 24 = t .stage in
           let u = t .states in
           let v = t .few in
-          let roomP : (q₀ q₁ a : ℕ) → P q₀ q₁ a → (q₀ < 12) × (q₁ < 12) × (a < 64) =
+          let roomP : (q₀ q₁ a : ℕ) → P q₀ q₁ a → (q₀ < 12) × (q₁ < 12) × (a < poseSlots) =
           λ q₀ q₁ a m. room q₀ q₁ a (first q₀ q₁ a m) in
-          let roomQ : (q₀ q₁ a : ℕ) → Q q₀ q₁ a → (q₀ < 12) × (q₁ < 12) × (a < 64) =
+          let roomQ : (q₀ q₁ a : ℕ) → Q q₀ q₁ a → (q₀ < 12) × (q₁ < 12) × (a < poseSlots) =
           λ q₀ q₁ a m. room q₀ q₁ a (second q₀ q₁ a m) in
           record {
             long = q .long ∙ p .long;
@@ -187,7 +188,7 @@ module _ (starts lanes I : ℕ) where
 
   -- one case, with its source
   pub part-put : (p₀ p₁ b at to v c : ℕ) (st : List ℕ)
-      → Table starts lanes I st → Pages (p₀ + 1) st → p₀ < 12 → p₁ < 12 → b < 64 → at ≡ caseAt (suc I) p₀ p₁ + b
+      → Table starts lanes I st → Pages (p₀ + 1) st → p₀ < 12 → p₁ < 12 → b < poseSlots → at ≡ caseAt (suc I) p₀ p₁ + b
       → to ≡ pointerAt (suc I) p₀ p₁ + b
       → Least (nextIn starts lanes I st p₀ p₁ b) (WayIn starts lanes I st p₀ p₁ b) v c
       → Part starts lanes I (OneCase p₀ p₁ b) st (set (set st at v) to c)
@@ -213,7 +214,7 @@ module _ (starts lanes I : ℕ) where
       }
 
   -- one state of row 1 more
-  pub pose-more : (p₀ m b : ℕ) {x y z : List ℕ} → Table starts lanes I x → p₀ < 12 → m < 12 → b < 64
+  pub pose-more : (p₀ m b : ℕ) {x y z : List ℕ} → Table starts lanes I x → p₀ < 12 → m < 12 → b < poseSlots
       → Part starts lanes I (PoseCases p₀ m b) x y → Part starts lanes I (OneCase p₀ m b) y z
       → Part starts lanes I (PoseCases p₀ (m + 1) b) x z
   pose-more p₀ m b t h g k =
@@ -224,7 +225,7 @@ module _ (starts lanes I : ℕ) where
       (λ q₀ q₁ a d. (d .0, omega arith, d .2))
 
   -- one pose more
-  pub block-more : (p₀ m n : ℕ) {x y z : List ℕ} → Table starts lanes I x → p₀ < 12 → m ≤ 12 → n < 64
+  pub block-more : (p₀ m n : ℕ) {x y z : List ℕ} → Table starts lanes I x → p₀ < 12 → m ≤ 12 → n < poseSlots
       → Part starts lanes I (BlockCases p₀ m n) x y → Part starts lanes I (PoseCases p₀ m n) y z
       → Part starts lanes I (BlockCases p₀ m (n + 1)) x z
   block-more p₀ m n t h g k =
@@ -235,7 +236,7 @@ module _ (starts lanes I : ℕ) where
       (λ q₀ q₁ a d. (d .0, d .1, omega arith))
 
   -- one state of row 0 more
-  pub stage-more : (k m n : ℕ) {x y z : List ℕ} → Table starts lanes I x → k < 12 → m ≤ 12 → n ≤ 64
+  pub stage-more : (k m n : ℕ) {x y z : List ℕ} → Table starts lanes I x → k < 12 → m ≤ 12 → n ≤ poseSlots
       → Part starts lanes I (StageCases k m n) x y → Part starts lanes I (BlockCases k m n) y z
       → Part starts lanes I (StageCases (k + 1) m n) x z
   stage-more k m n t h g j =
@@ -246,7 +247,7 @@ module _ (starts lanes I : ℕ) where
       (λ q₀ q₁ a d. (omega arith, d .1, d .2))
 
   -- all of it
-  pub part-joined : {ends poses : ℕ} {x y : List ℕ} → I ≤ 24 → ends ≤ 12 → poses ≤ 64
+  pub part-joined : {ends poses : ℕ} {x y : List ℕ} → I ≤ 24 → ends ≤ 12 → poses ≤ poseSlots
       → Part starts lanes I (StageCases ends ends poses) x y
       → Joined starts lanes ends poses I x y
   part-joined {ends} {poses} b h g p =

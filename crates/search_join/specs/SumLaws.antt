@@ -6,7 +6,7 @@ use mathlib.Core.Bool.{Bool}
 use native.Mathlib.Omega.{arith}
 use native.Mathlib.Decide.{ℕ-discrete}
 use lib.ListN.{getD}
-use Rattle.search_store.specs.Map.{caseAt, costsAt, stateBlock}
+use Rattle.search_store.specs.Map.{caseAt, costsAt, stateBlock, maxLanes}
 use Rattle.lists.specs.Numbers.{from}
 use Rattle.theory_pair.specs.Coded.{lowest, lowest-low}
 use Rattle.theory_tables.specs.Steps.{B}
@@ -22,14 +22,14 @@ use Rattle.search_join.specs.Sums.{SumsFrom, StateSums}
 use Rattle.search_join.specs.Laws.{lowest-zero, lowest-more, lowest-same, lowest-at, next-is}
 
 -- the costs are there for other lanes, whatever the table
-pub table-for : {starts lanes I : ℕ} {st : List ℕ} (l i : ℕ) → Table starts lanes I st → l ≤ 64 → i ≤ 24
+pub table-for : {starts lanes I : ℕ} {st : List ℕ} (l i : ℕ) → Table starts lanes I st → l ≤ maxLanes → i ≤ 24
     → Table starts l i st
 table-for l i t h g = record { states = t .states; few = h; stage = g; long = t .long; low = t .low }
 
 -- ---- the words of a sum
 
 pub start-words : (I : ℕ) (st : List ℕ) (q₀ a s t l at p₀ : ℕ)
-    → at ≡ caseAt I s t → p₀ ≡ costsAt 0 s + q₀ * stateBlock + a * 64
+    → at ≡ caseAt I s t → p₀ ≡ costsAt 0 s + q₀ * stateBlock + a * maxLanes
     → getD st (at + l) 0 + getD st (p₀ + l) 0 ≡ startSum I st q₀ a t l s
 unfolding startSum casesIn costsIn
 start-words I st q₀ a s t l at p₀ e d =
@@ -37,15 +37,15 @@ start-words I st q₀ a s t l at p₀ e d =
     omega (
       arith,
       w (at + l) (caseAt I s t + l) (omega arith),
-      w (p₀ + l) (costsAt 0 s + q₀ * stateBlock + a * 64 + l) (omega arith),
+      w (p₀ + l) (costsAt 0 s + q₀ * stateBlock + a * maxLanes + l) (omega arith),
     )
 
 -- a start state without any way to q₀ in pose a
-pub start-none : (I : ℕ) (st : List ℕ) (q₀ a s t l p₀ : ℕ) → p₀ ≡ costsAt 0 s + q₀ * stateBlock + a * 64
+pub start-none : (I : ℕ) (st : List ℕ) (q₀ a s t l p₀ : ℕ) → p₀ ≡ costsAt 0 s + q₀ * stateBlock + a * maxLanes
     → B ≤ getD st (p₀ + l) 0 → B ≤ startSum I st q₀ a t l s
 unfolding startSum casesIn costsIn
 start-none I st q₀ a s t l p₀ e h =
-    let w : getD st (p₀ + l) 0 ≡ getD st (costsAt 0 s + q₀ * stateBlock + a * 64 + l) 0 =
+    let w : getD st (p₀ + l) 0 ≡ getD st (costsAt 0 s + q₀ * stateBlock + a * maxLanes + l) 0 =
     ap (λ (k : ℕ). getD st k 0) (omega arith) in
     omega arith
 
@@ -62,19 +62,20 @@ module _ (starts lanes I : ℕ) (st : List ℕ) (q₀ a : ℕ) where
   }
 
   -- one state t more
-  pub sums-lowered : {old new : List ℕ} (s t : ℕ) → Sums starts lanes I st q₀ a s (t * 64) old → lanes ≤ 64 → t < starts
-      → LoweredAt (startLanes I st q₀ a s t) (t * 64) lanes old new
-      → Sums starts lanes I st q₀ a s (t * 64 + 64) new
+  pub sums-lowered : {old new : List ℕ} (s t : ℕ) → Sums starts lanes I st q₀ a s (t * maxLanes) old → lanes ≤ maxLanes
+      → t < starts
+      → LoweredAt (startLanes I st q₀ a s t) (t * maxLanes) lanes old new
+      → Sums starts lanes I st q₀ a s (t * maxLanes + maxLanes) new
   sums-lowered {old} {new} s t w d h v =
       record {
         room = record { long = v .frame .long ∙ w .room .long; low = lowered-at-low v (w .room .low) };
         upTo = λ u m i j z. go u m i j z (ℕ-discrete u t);
-        before = λ u m i j z. v .frame .high (u * 64 + m) (omega arith) ∙ w .before u m i j (omega arith);
+        before = λ u m i j z. v .frame .high (u * maxLanes + m) (omega arith) ∙ w .before u m i j (omega arith);
       }
     where
-      go : (u m : ℕ) → u < starts → m < lanes → u * 64 + m < t * 64 + 64 → Dec (u ≡ t)
-          → getD new (u * 64 + m) 0 ≡ lowest B (startSum I st q₀ a u m) (from 0 (s + 1))
-      go u m i j z (no x) = v .frame .low (u * 64 + m) (omega arith) ∙ w .upTo u m i j (omega arith)
+      go : (u m : ℕ) → u < starts → m < lanes → u * maxLanes + m < t * maxLanes + maxLanes → Dec (u ≡ t)
+          → getD new (u * maxLanes + m) 0 ≡ lowest B (startSum I st q₀ a u m) (from 0 (s + 1))
+      go u m i j z (no x) = v .frame .low (u * maxLanes + m) (omega arith) ∙ w .upTo u m i j (omega arith)
       go u m i j z (yes x) =
           rw x (omega (arith, v .done m j, w .before t m h j (omega arith), lowest-more (startSum I st q₀ a t m) s))
 
@@ -101,7 +102,7 @@ module _ (starts lanes I : ℕ) (st : List ℕ) (q₀ a : ℕ) where
 
   -- one start state more
   pub sums-next : {sums : List ℕ} (s k : ℕ) → Sums starts lanes I st q₀ a s k sums
-      → ((t l : ℕ) → t < starts → l < lanes → t * 64 + l < k)
+      → ((t l : ℕ) → t < starts → l < lanes → t * maxLanes + l < k)
       → Sums starts lanes I st q₀ a (s + 1) 0 sums
   sums-next s k w all =
       record {
@@ -140,19 +141,19 @@ module _ (starts lanes I : ℕ) (st : List ℕ) (q₀ a : ℕ) where
 
 -- the sums of no start state are all NONE
 pub sums-filled : (starts lanes I : ℕ) (st : List ℕ) (q₀ a : ℕ) {n : ℕ} {old new : List ℕ} → Room old
-    → Written (always B) 0 n old new → starts * 64 ≤ n → lanes ≤ 64
+    → Written (always B) 0 n old new → starts * maxLanes ≤ n → lanes ≤ maxLanes
     → Sums starts lanes I st q₀ a 0 0 new × Nones starts lanes new
 sums-filled starts lanes I st q₀ a {new = new} r w h b =
     let nones : Nones starts lanes new =
-    λ t l i g. ap (λ (k : ℕ). getD new k 0) (omega arith) ∙ w .words (t * 64 + l) (omega arith) in
+    λ t l i g. ap (λ (k : ℕ). getD new k 0) (omega arith) ∙ w .words (t * maxLanes + l) (omega arith) in
     (sums-none starts lanes I st q₀ a (record { long = w .frame .long ∙ r .long; low = w .low }) nones, nones)
 
 -- ---- a case from the sums
 
 -- the least over the lanes of state t, with t for its code
 pub end-met : (starts lanes : ℕ) (sums st : List ℕ) (q₁ a t p₁ : ℕ) {v : ℕ} → t < starts → starts ≤ 12
-    → p₁ ≡ costsAt 1 t + q₁ * stateBlock + a * 64
-    → v ≡ lowest B (laneSum sums (t * 64) st p₁) (from 0 lanes)
+    → p₁ ≡ costsAt 1 t + q₁ * stateBlock + a * maxLanes
+    → v ≡ lowest B (laneSum sums (t * maxLanes) st p₁) (from 0 lanes)
     → Least (endSum lanes sums st q₁ a t) (MetAt (endSum lanes sums st q₁ a) starts) v t
 unfolding endSum
 end-met starts lanes sums st q₁ a t p₁ h b e d =
@@ -162,7 +163,8 @@ end-met starts lanes sums st q₁ a t p₁ h b e d =
 module _ (starts lanes I : ℕ) (st : List ℕ) (q₀ q₁ a : ℕ) {sums : List ℕ}
     (w : Sums starts lanes I st q₀ a starts 0 sums) where
   -- a sum is at most what it is the least of
-  sum-below : (s t l : ℕ) → s < starts → t < starts → l < lanes → getD sums (t * 64 + l) 0 ≤ startSum I st q₀ a t l s
+  sum-below : (s t l : ℕ) → s < starts → t < starts → l < lanes
+      → getD sums (t * maxLanes + l) 0 ≤ startSum I st q₀ a t l s
   sum-below s t l h g k =
       omega (arith, w .before t l g k (omega arith), loop-member B (startSum I st q₀ a t l) starts s h)
 
@@ -185,26 +187,26 @@ module _ (starts lanes I : ℕ) (st : List ℕ) (q₀ q₁ a : ℕ) {sums : List
       omega (
         arith,
         loop-member B (endSum lanes sums st q₁ a) starts t g,
-        loop-member B (laneSum sums (t * 64) st (costsAt 1 t + q₁ * stateBlock + a * 64)) lanes l k,
+        loop-member B (laneSum sums (t * maxLanes) st (costsAt 1 t + q₁ * stateBlock + a * maxLanes)) lanes l k,
         sum-below s t l h g k,
       )
 
   -- a lane that has the least of state t
   pub lane-met : (v t p₁ lane : ℕ) → v < B → endSum lanes sums st q₁ a t ≡ v
-      → p₁ ≡ costsAt 1 t + q₁ * stateBlock + a * 64
-      → SumAt (laneSum sums (t * 64) st p₁) lanes v lane
-      → (lane < lanes) × (v ≡ getD sums (t * 64 + lane) 0 + costsIn st 1 t lane q₁ a)
+      → p₁ ≡ costsAt 1 t + q₁ * stateBlock + a * maxLanes
+      → SumAt (laneSum sums (t * maxLanes) st p₁) lanes v lane
+      → (lane < lanes) × (v ≡ getD sums (t * maxLanes + lane) 0 + costsIn st 1 t lane q₁ a)
   unfolding endSum laneSum costsIn
   lane-met v t p₁ lane b e d found =
-      let p = costsAt 1 t + q₁ * stateBlock + a * 64 in
-      let at = lowest-at (laneSum sums (t * 64) st p) lanes (omega arith) in
+      let p = costsAt 1 t + q₁ * stateBlock + a * maxLanes in
+      let at = lowest-at (laneSum sums (t * maxLanes) st p) lanes (omega arith) in
       let m = found (at .0) (at .1) (rw d (at .2 ∙ e)) in
       (m .0, sym (rw d at (m .1)))
 
   -- with a start state that has the sum there, it is a way
-  pub case-way : (v s t lane : ℕ) → v < B → starts ≤ 12 → lanes ≤ 64 → t < starts → lane < lanes
-      → v ≡ getD sums (t * 64 + lane) 0 + costsIn st 1 t lane q₁ a
-      → SumAt (startSum I st q₀ a t lane) starts (getD sums (t * 64 + lane) 0) s
+  pub case-way : (v s t lane : ℕ) → v < B → starts ≤ 12 → lanes ≤ maxLanes → t < starts → lane < lanes
+      → v ≡ getD sums (t * maxLanes + lane) 0 + costsIn st 1 t lane q₁ a
+      → SumAt (startSum I st q₀ a t lane) starts (getD sums (t * maxLanes + lane) 0) s
       → WayIn starts lanes I st q₀ q₁ a v (s * pointerRow₀ + t * pointerRow₁ + lane) × (s < starts)
   unfolding startSum
   case-way v s t lane b few narrow g k e found =

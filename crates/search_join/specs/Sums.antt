@@ -5,7 +5,7 @@ use mathlib.Core.Path.{_≡_}
 use mathlib.Core.Bool.{Bool, false}
 use mathlib.Core.List.{List}
 use lib.ListN.{length, getD}
-use Rattle.search_store.specs.Map.{costsAt, stateBlock, Pages}
+use Rattle.search_store.specs.Map.{costsAt, stateBlock, Pages, maxLanes, maxPoses}
 use Rattle.lists.specs.Numbers.{from}
 use Rattle.theory_pair.specs.Coded.{lowest}
 use Rattle.theory_tables.specs.Steps.{B}
@@ -27,20 +27,24 @@ laneSum sums at st p₁ l = getD sums (at + l) 0 + getD st (p₁ + l) 0
 
 unfoldable pub endSum : ℕ → List ℕ → List ℕ → ℕ → ℕ → ℕ → ℕ
 endSum lanes sums st q₁ a t =
-    lowest B (laneSum sums (t * 64) st (costsAt 1 t + q₁ * stateBlock + a * 64)) (from 0 lanes)
+    lowest B (laneSum sums (t * maxLanes) st (costsAt 1 t + q₁ * stateBlock + a * maxLanes)) (from 0 lanes)
+
+-- a row of lanes for each of twelve states
+abbrev pub sumWords : ℕ
+sumWords = 768
 
 -- room for the sums
 pub record Room (sums : List ℕ) : Type 0 where
-  pub long : length sums ≡ 768
+  pub long : length sums ≡ sumWords
   pub low : Low sums
 
 -- the sums at places below k are the least over the start states up to s, the others over those before s
 pub record Sums (starts lanes I : ℕ) (st : List ℕ) (q₀ a s k : ℕ) (sums : List ℕ) : Type 0 where
   pub room : Room sums
-  pub upTo : (t l : ℕ) → t < starts → l < lanes → t * 64 + l < k
-      → getD sums (t * 64 + l) 0 ≡ lowest B (startSum I st q₀ a t l) (from 0 (s + 1))
-  pub before : (t l : ℕ) → t < starts → l < lanes → k ≤ t * 64 + l
-      → getD sums (t * 64 + l) 0 ≡ lowest B (startSum I st q₀ a t l) (from 0 s)
+  pub upTo : (t l : ℕ) → t < starts → l < lanes → t * maxLanes + l < k
+      → getD sums (t * maxLanes + l) 0 ≡ lowest B (startSum I st q₀ a t l) (from 0 (s + 1))
+  pub before : (t l : ℕ) → t < starts → l < lanes → k ≤ t * maxLanes + l
+      → getD sums (t * maxLanes + l) 0 ≡ lowest B (startSum I st q₀ a t l) (from 0 s)
 
 -- the sums over the start states up to s, and whether s has any way
 pub record StartSummed (starts lanes I : ℕ) (st : List ℕ) (q₀ a s : ℕ) (live : Bool) (old new : List ℕ) : Type 0 where
@@ -49,7 +53,7 @@ pub record StartSummed (starts lanes I : ℕ) (st : List ℕ) (q₀ a s : ℕ) (
 
 -- all sums are NONE
 abbrev pub Nones : ℕ → ℕ → List ℕ → Type 0
-Nones starts lanes sums = (t l : ℕ) → t < starts → l < lanes → getD sums (t * 64 + l) 0 ≡ B
+Nones starts lanes sums = (t l : ℕ) → t < starts → l < lanes → getD sums (t * maxLanes + l) 0 ≡ B
 
 -- all of them, and whether there can be any way at all
 pub record Summed (starts lanes I : ℕ) (st : List ℕ) (q₀ a : ℕ) (sums : List ℕ) (live : Bool) : Type 0 where
@@ -62,7 +66,7 @@ pub record Summed (starts lanes I : ℕ) (st : List ℕ) (q₀ a : ℕ) (sums : 
 pub record Summing (starts lanes I : ℕ) (st : List ℕ) (q₀ a : ℕ) : Type 0 where
   pub table : Table starts lanes I st
   pub state : q₀ < 12
-  pub pose : a < 60
+  pub pose : a < maxPoses
 
 -- the same, and the array that the sums are in or are to be put in
 pub record SumsGiven (starts lanes I : ℕ) (st : List ℕ) (q₀ a : ℕ) (sums : List ℕ) : Type 0 where
@@ -83,15 +87,15 @@ pub record StateSums (lanes I : ℕ) (st : List ℕ) (q₀ a s t : ℕ) (sums : 
 
 -- the same in all lanes, of which one is wanted, with state t of row 1
 pub record StartSums (starts I : ℕ) (st : List ℕ) (q₀ a t lane : ℕ) : Type 0 where
-  pub given : Summing starts 64 I st q₀ a
+  pub given : Summing starts maxLanes I st q₀ a
   pub other : t < starts
-  pub inside : lane < 64
+  pub inside : lane < maxLanes
 
 -- the sums at `at`, and the costs of row 1 at p₁
 pub record LaneSums (sums : List ℕ) (at : ℕ) (st : List ℕ) (p₁ lanes : ℕ) : Type 0 where
   pub room : Room sums
   pub low : Low st
-  pub inside : at + lanes ≤ 768
+  pub inside : at + lanes ≤ sumWords
   pub costs : p₁ + lanes ≤ length st
 
 -- the sums of a case
@@ -121,7 +125,7 @@ pub record CaseRoom (starts lanes I q₀ ends poses : ℕ) (st sums : List ℕ) 
   pub pages : Pages (q₀ + 1) st
   pub state : q₀ < 12
   pub few : ends ≤ 12
-  pub offered : poses ≤ 60
+  pub offered : poses ≤ maxPoses
 
 -- ---- what is left
 

@@ -5,6 +5,7 @@ use mathlib.Core.Logic.{_⊎_}
 use mathlib.Core.List.{List}
 use lib.ListN.{length, getD}
 use Rattle.search_store.specs.Map.{caseAt, pointerAt, costsAt, Pages, Slot, stateBlock, pointerRow₀, pointerRow₁}
+use Rattle.search_store.specs.Map.{maxLanes, maxPoses}
 use Rattle.theory_tables.specs.Steps.{B, Cases, SegmentCosts, nextCases}
 use Rattle.search_lanes.specs.Store.{Low}
 use Rattle.search_join.specs.declared.Case.{Case}
@@ -17,7 +18,7 @@ unfoldable pub pointersIn : List ℕ → ℕ → Cases
 pointersIn st I q₀ q₁ a = getD st (pointerAt I q₀ q₁ + a) 0
 
 unfoldable pub costsIn : List ℕ → ℕ → SegmentCosts
-costsIn st row s l q a = getD st (costsAt row s + q * stateBlock + a * 64 + l) 0
+costsIn st row s l q a = getD st (costsAt row s + q * stateBlock + a * maxLanes + l) 0
 
 -- a case and its source are as they were; and those of all tables
 pub record SameCase (I q₀ q₁ a : ℕ) (old new : List ℕ) : Type 0 where
@@ -30,7 +31,7 @@ SameTables old new = (I q₀ q₁ a : ℕ) → Slot I q₀ q₁ a → SameCase I
 -- the store has the pages of so many start states: their cases in table I and their costs
 pub record Table (starts lanes I : ℕ) (st : List ℕ) : Type 0 where
   pub states : starts ≤ 12
-  pub few : lanes ≤ 64
+  pub few : lanes ≤ maxLanes
   pub stage : I ≤ 24
   pub long : Pages starts st
   pub low : Low st
@@ -54,7 +55,7 @@ casePose code = code % pointerRow₁
 pub record Fits (case : Case) : Type 0 where
   pub state₀ : case .q0 < 12
   pub state₁ : case .q1 < 12
-  pub pose : case .pose < 60
+  pub pose : case .pose < maxPoses
 
 -- ---- the least of some costs, and where it is
 
@@ -144,7 +145,7 @@ pub record JoinGiven (starts lanes ends poses I : ℕ) (st : List ℕ) : Type 0 
   pub table : Table starts lanes I st
   pub pages : Pages ends st
   pub last : ends ≤ 12
-  pub offered : poses ≤ 60
+  pub offered : poses ≤ maxPoses
 
 -- ---- lanes closed: no case goes by them
 
@@ -156,7 +157,7 @@ pub record Closing (I pages ends low high : ℕ) (st : List ℕ) : Type 0 where
   pub states : pages ≤ 12
   pub few : ends ≤ 12
   pub order : low ≤ high
-  pub narrow : high ≤ 64
+  pub narrow : high ≤ maxLanes
 
 -- one state of both rows; those of a state of row 0; all states: states of row 1 below m
 abbrev pub OneState : ℕ → ℕ → ℕ → ℕ → Type 0

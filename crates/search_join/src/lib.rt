@@ -4,6 +4,7 @@ ghost use Prim.Native.Nat.{_+_, _*_};
 ghost use Rattle.lists.specs.Numbers.{from};
 ghost use Rattle.theory_pair.specs.Coded.{lowest};
 ghost use Rattle.theory_tables.specs.Steps.{B};
+ghost use Rattle.search_store.specs.Map.{maxLanes};
 ghost use Rattle.search_lanes.specs.Lowered.{LoweredAt};
 ghost use Rattle.search_join.specs.Tables.{Better, Least, MetAt, SumAt, WayIn, nextIn, OneCase};
 ghost use Rattle.search_join.specs.Tables.{PoseCases, BlockCases, Part, Joined, JoinGiven};
@@ -11,6 +12,9 @@ ghost use Rattle.search_join.specs.Tables.{StateWith, AllStates, Closing
 ghost use Rattle.search_join.specs.Sums.{startSum, startLanes, laneSum, endSum, StartSummed, Summed, SumsGiven};
 ghost use Rattle.search_join.specs.Sums.{SumsFrom, StateSums, StartSums, LaneSums, Joining, Pointing};
 ghost use Rattle.search_join.specs.Sums.{CaseToPut, CaseRoom, PartMade};
+
+// The sums: a row of lanes for each of twelve states.
+const SUM_WORDS: usize = 768;
 
 // The least of some costs, and a code of where it is.
 pub struct Best {
@@ -40,7 +44,7 @@ fn better(x: Best, value: u32, code: u32) -> Best
 
 // The sums of state t lowered to the ways from start state s.
 fn lower_sums(
-    sums: &mut [u32; 768],
+    sums: &mut [u32; SUM_WORDS],
     store: &[u32],
     i: usize,
     lanes: usize,
@@ -50,12 +54,12 @@ fn lower_sums(
     a: usize,
 )
     requires { ⌜ StateSums lanes i (now store) q0 a s t (now sums) ⌝ }
-    ensures { λ _. ⌜ LoweredAt (startLanes i (now (store .entry)) q0 a s t) (t * 64) lanes (now (sums .entry))
+    ensures { λ _. ⌜ LoweredAt (startLanes i (now (store .entry)) q0 a s t) (t * maxLanes) lanes (now (sums .entry))
         (now (sums .exit)) ⌝ }
 {
     let at = search_store::case_at(i, s, t);
     let p0 = search_store::cost_at(0, s, q0, a);
-    let to = t * 64;
+    let to = t * search_store::MAX_LANES;
     let mut l: usize = 0;
     while l < lanes {
         sums[to + l] = search_lanes::lesser(sums[to + l], store[at + l] + store[p0 + l]);
@@ -65,7 +69,7 @@ fn lower_sums(
 
 // All sums lowered to the ways from start state s: whether it has any.
 fn sums_from(
-    sums: &mut [u32; 768],
+    sums: &mut [u32; SUM_WORDS],
     store: &[u32],
     i: usize,
     starts: usize,
@@ -93,7 +97,7 @@ fn sums_from(
 
 // The sums over every start state: whether one has any way.
 fn fill_sums(
-    sums: &mut [u32; 768],
+    sums: &mut [u32; SUM_WORDS],
     store: &[u32],
     i: usize,
     starts: usize,
@@ -104,7 +108,12 @@ fn fill_sums(
     requires { ⌜ SumsGiven starts lanes i (now store) q0 a (now sums) ⌝ }
     ensures { λ live. ⌜ Summed starts lanes i (now (store .entry)) q0 a (now (sums .exit)) live ⌝ }
 {
-    search_lanes::fill(sums, 0, starts * 64, search_lanes::NONE);
+    search_lanes::fill(
+        sums,
+        0,
+        starts * search_store::MAX_LANES,
+        search_lanes::NONE,
+    );
     let mut live = false;
     let mut s: usize = 0;
     while s < starts {
@@ -119,7 +128,7 @@ fn fill_sums(
 // ---- a case: the least over the sums with row 1's costs
 
 // The least over the lanes.
-fn least_lane(sums: &[u32; 768], at: usize, store: &[u32], p1: usize, lanes: usize) -> u32
+fn least_lane(sums: &[u32; SUM_WORDS], at: usize, store: &[u32], p1: usize, lanes: usize) -> u32
     requires { ⌜ LaneSums (now sums) at (now store) p1 lanes ⌝ }
     ensures { λ r. ⌜ r ≡ lowest B (laneSum (now (sums .entry)) at (now (store .entry)) p1) (from 0 lanes) ⌝ }
 {
@@ -133,7 +142,14 @@ fn least_lane(sums: &[u32; 768], at: usize, store: &[u32], p1: usize, lanes: usi
 }
 
 // The first lane with that sum; 0 where there is none.
-fn lane_of(sums: &[u32; 768], at: usize, store: &[u32], p1: usize, lanes: usize, sum: u32) -> usize
+fn lane_of(
+    sums: &[u32; SUM_WORDS],
+    at: usize,
+    store: &[u32],
+    p1: usize,
+    lanes: usize,
+    sum: u32,
+) -> usize
     requires { ⌜ LaneSums (now sums) at (now store) p1 lanes ⌝ }
     ensures { λ r. ⌜ SumAt (laneSum (now (sums .entry)) at (now (store .entry)) p1) lanes sum r ⌝ }
 {
@@ -176,7 +192,7 @@ fn start_of(
 
 // The least over the states of row 1, and the state that has it.
 fn best_end(
-    sums: &[u32; 768],
+    sums: &[u32; SUM_WORDS],
     store: &[u32],
     starts: usize,
     lanes: usize,
@@ -195,7 +211,7 @@ fn best_end(
     while t < starts {
         let sum = least_lane(
             sums,
-            t * 64,
+            t * search_store::MAX_LANES,
             store,
             search_store::cost_at(1, t, q1, a),
             lanes,
@@ -208,7 +224,7 @@ fn best_end(
 
 // The code of a way of that value by state t of row 1.
 fn pointer_of(
-    sums: &[u32; 768],
+    sums: &[u32; SUM_WORDS],
     store: &[u32],
     i: usize,
     starts: usize,
@@ -222,7 +238,7 @@ fn pointer_of(
 {
     let lane = lane_of(
         sums,
-        t * 64,
+        t * search_store::MAX_LANES,
         store,
         search_store::cost_at(1, t, case.q1, case.pose),
         lanes,
@@ -235,7 +251,7 @@ fn pointer_of(
 
 // A case: the least over states and lanes, and the code of a way to it.
 fn join_case(
-    sums: &[u32; 768],
+    sums: &[u32; SUM_WORDS],
     live: bool,
     store: &[u32],
     i: usize,
@@ -270,7 +286,7 @@ fn join_case(
 // A case of table i + 1, and its source.
 fn put_case(
     store: &mut [u32],
-    sums: &[u32; 768],
+    sums: &[u32; SUM_WORDS],
     live: bool,
     i: usize,
     starts: usize,
@@ -289,7 +305,7 @@ fn put_case(
 // The cases of a state of row 0 in a pose, for every state of row 1.
 fn case_pose(
     store: &mut [u32],
-    sums: &mut [u32; 768],
+    sums: &mut [u32; SUM_WORDS],
     i: usize,
     starts: usize,
     lanes: usize,
@@ -313,7 +329,7 @@ fn case_pose(
 // The cases of a state of row 0, for every state of row 1 and every pose.
 fn case_block(
     store: &mut [u32],
-    sums: &mut [u32; 768],
+    sums: &mut [u32; SUM_WORDS],
     i: usize,
     starts: usize,
     lanes: usize,
@@ -345,7 +361,7 @@ pub fn join_stage(
     requires { ⌜ JoinGiven starts lanes ends poses i (now store) ⌝ }
     ensures { λ _. ⌜ Joined starts lanes ends poses i (now (store .entry)) (now (store .exit)) ⌝ }
 {
-    let mut sums = [search_lanes::NONE; 768];
+    let mut sums = [search_lanes::NONE; SUM_WORDS];
     let mut q0: usize = 0;
     while q0 < ends {
         case_block(store, &mut sums, i, starts, lanes, q0, ends, poses);

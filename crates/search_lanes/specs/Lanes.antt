@@ -4,18 +4,19 @@ use mathlib.Core.Path.{_≡_}
 use mathlib.Core.List.{List}
 use lib.ListN.{length, getD}
 use Rattle.theory_tables.specs.Steps.{B}
+use Rattle.search_store.specs.Map.{maxLanes}
 use Rattle.search_lanes.specs.Store.{Low, StoreWords}
 
 -- a word for each lane, none over B
 pub record LaneWords (words : List ℕ) : Type 0 where
-  pub long : length words ≡ 64
+  pub long : length words ≡ maxLanes
   pub low : Low words
 
 -- a word for each lane; for the lanes in use a row of the store at `at`, and a cost to add
 pub record LaneRow (acc st : List ℕ) (at cost lanes : ℕ) : Type 0 where
   pub word : LaneWords acc
   pub row : StoreWords st at lanes
-  pub narrow : lanes ≤ 64
+  pub narrow : lanes ≤ maxLanes
   pub small : cost ≤ B
 
 -- the lanes below `lanes` are lowered to f's, the others as they were
@@ -40,9 +41,9 @@ always x k = x
 abbrev pub wordsFrom : List ℕ → ℕ → ℕ → ℕ
 wordsFrom st at k = getD st (at + k) 0
 
--- the same by rows of 64 words
+-- the same by rows of lanes
 abbrev pub alwaysRows : ℕ → ℕ → ℕ → ℕ
 alwaysRows x a l = x
 
 abbrev pub rowsFrom : List ℕ → ℕ → ℕ → ℕ → ℕ
-rowsFrom st at a l = getD st (at + a * 64 + l) 0
+rowsFrom st at a l = getD st (at + a * maxLanes + l) 0

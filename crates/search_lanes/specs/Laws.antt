@@ -7,8 +7,8 @@ use native.Mathlib.Decide.{ℕ-discrete, decLt}
 use borrow.Author.Count.{below-more}
 use lib.ListN.{length, getD, set, length-set, replicate, length-replicate, getD-replicate, List·getD-eq-default}
 use lib.Seq.{getD-set-same, getD-set-other}
-use Rattle.search_store.specs.Map.{layerBlock, stateBlock}
-use Rattle.theory_tables.specs.Steps.{B, Layer}
+use Rattle.search_store.specs.Map.{layerBlock, stateBlock, maxLanes}
+use Rattle.theory_tables.specs.Steps.{B, Layer, poseSlots}
 use Rattle.search_lanes.specs.Lanes.{Lowered}
 use Rattle.search_lanes.specs.Store.{Frame, Low, Written, WrittenRows, layerIn, FilledState, Filled}
 
@@ -132,19 +132,19 @@ written-ext w e = record { frame = w .frame; words = λ k p. w .words k p ∙ sy
 
 pub rows-none : (f : ℕ → ℕ → ℕ) (at lanes : ℕ) {st : List ℕ} → Low st → WrittenRows f at 0 lanes st st
 rows-none f at lanes {st} w =
-    record { frame = frame-refl at (at + 0 * 64) st; words = λ a l h. absurd (omega arith); low = w }
+    record { frame = frame-refl at (at + 0 * maxLanes) st; words = λ a l h. absurd (omega arith); low = w }
 
 pub rows-more :
     {f : ℕ → ℕ → ℕ} {g : ℕ → ℕ} {at lanes : ℕ} {old mid new : List ℕ} (a : ℕ)
-    → lanes ≤ 64 → WrittenRows f at a lanes old mid → Written g (at + a * 64) lanes mid new
+    → lanes ≤ maxLanes → WrittenRows f at a lanes old mid → Written g (at + a * maxLanes) lanes mid new
     → ((l : ℕ) → l < lanes → f a l ≡ g l)
     → WrittenRows f at (a + 1) lanes old new
 rows-more {f} {g} {at} {lanes} {new = new} a n s w e =
     record {
-      frame = frame-join at (at + (a + 1) * 64) (s .frame) (w .frame) (omega arith) (omega arith)
+      frame = frame-join at (at + (a + 1) * maxLanes) (s .frame) (w .frame) (omega arith) (omega arith)
           (omega arith) (omega arith);
-      words = λ b l p r. below-more (λ (b : ℕ). (l : ℕ) → l < lanes → getD new (at + b * 64 + l) 0 ≡ f b l) a
-          (λ b p l r. w .frame .low (at + b * 64 + l) (omega arith) ∙ s .words b l p r)
+      words = λ b l p r. below-more (λ (b : ℕ). (l : ℕ) → l < lanes → getD new (at + b * maxLanes + l) 0 ≡ f b l) a
+          (λ b p l r. w .frame .low (at + b * maxLanes + l) (omega arith) ∙ s .words b l p r)
           (λ l r. w .words l r ∙ sym (e l r))
           b p l r;
       low = w .low;
@@ -153,22 +153,23 @@ rows-more {f} {g} {at} {lanes} {new = new} a n s w e =
 -- some rows, then those that follow
 pub rows-join :
     {f g h : ℕ → ℕ → ℕ} {at n all lanes : ℕ} {old mid new : List ℕ}
-    → lanes ≤ 64 → n ≤ all → WrittenRows f at n lanes old mid → WrittenRows g (at + n * 64) (all - n) lanes mid new
+    → lanes ≤ maxLanes → n ≤ all → WrittenRows f at n lanes old mid
+    → WrittenRows g (at + n * maxLanes) (all - n) lanes mid new
     → ((a l : ℕ) → a < n → l < lanes → h a l ≡ f a l)
     → ((a l : ℕ) → n ≤ a → a < all → l < lanes → h a l ≡ g (a - n) l)
     → WrittenRows h at all lanes old new
 rows-join {f} {g} {h} {at} {n} {all} {lanes} {new = new} k m s w d e =
     record {
-      frame = frame-join at (at + all * 64) (s .frame) (w .frame) (omega arith) (omega arith)
+      frame = frame-join at (at + all * maxLanes) (s .frame) (w .frame) (omega arith) (omega arith)
           (omega arith) (omega arith);
       words = λ a l p r. go a l p r (decLt a n);
       low = w .low;
     }
   where
-    go : (a l : ℕ) → a < all → l < lanes → Dec (a < n) → getD new (at + a * 64 + l) 0 ≡ h a l
-    go a l p r (yes q) = w .frame .low (at + a * 64 + l) (omega arith) ∙ s .words a l q r ∙ sym (d a l q r)
+    go : (a l : ℕ) → a < all → l < lanes → Dec (a < n) → getD new (at + a * maxLanes + l) 0 ≡ h a l
+    go a l p r (yes q) = w .frame .low (at + a * maxLanes + l) (omega arith) ∙ s .words a l q r ∙ sym (d a l q r)
     go a l p r (no q) =
-        let z : at + n * 64 + (a - n) * 64 + l ≡ at + a * 64 + l = omega arith in
+        let z : at + n * maxLanes + (a - n) * maxLanes + l ≡ at + a * maxLanes + l = omega arith in
         (rw z at (w .words (a - n) l (omega arith) r)) ∙ sym (e a l (omega arith) p r)
 
 -- ---- layers: the rows of a state's block, and one block more
@@ -183,7 +184,8 @@ state-ext w e = record { frame = w .frame; low = w .low; right = λ a p l r. w .
 -- so many rows of a state's block
 pub state-rows :
     {F : ℕ → Layer} {f : ℕ → ℕ → ℕ} {lanes to q m : ℕ} {old new : List ℕ}
-    → m ≤ 64 → WrittenRows f (to + q * stateBlock) m lanes old new → ((a l : ℕ) → a < m → l < lanes → F l q a ≡ f a l)
+    → m ≤ poseSlots → WrittenRows f (to + q * stateBlock) m lanes old new
+    → ((a l : ℕ) → a < m → l < lanes → F l q a ≡ f a l)
     → FilledState F lanes to q m old new
 state-rows {to = to} {q = q} {old = old} {new = new} k w e =
     record {
@@ -198,7 +200,8 @@ filled-none F lanes poses to {st} w = record { frame = frame-refl _ _ st; low = 
 
 pub filled-more :
     {F G : ℕ → Layer} {lanes poses to : ℕ} {old mid new : List ℕ} (q : ℕ)
-    → lanes ≤ 64 → poses ≤ 64 → q < 12 → Filled F lanes poses to q old mid → FilledState G lanes to q poses mid new
+    → lanes ≤ maxLanes → poses ≤ poseSlots → q < 12 → Filled F lanes poses to q old mid
+    → FilledState G lanes to q poses mid new
     → ((a l : ℕ) → a < poses → l < lanes → F l q a ≡ G l q a)
     → Filled F lanes poses to (q + 1) old new
 filled-more {F} {G} {lanes} {poses} {to} {new = new} q n k h s w e =
@@ -207,7 +210,7 @@ filled-more {F} {G} {lanes} {poses} {to} {new = new} q n k h s w e =
           frame-join to (to + layerBlock) (s .frame) (w .frame) (omega arith) (omega arith) (omega arith) (omega arith);
       low = w .low;
       right = below-more (λ (q : ℕ). (a l : ℕ) → a < poses → l < lanes → layerIn new to l q a ≡ F l q a) q
-          (λ p j a l x y. w .frame .low (to + p * stateBlock + a * 64 + l) (omega arith) ∙ s .right p j a l x y)
+          (λ p j a l x y. w .frame .low (to + p * stateBlock + a * maxLanes + l) (omega arith) ∙ s .right p j a l x y)
           (λ a l x y. w .right a x l y ∙ sym (e a l x y));
     }
 
@@ -223,11 +226,11 @@ same-low n x b = record { word = λ k. go k (decLt k n) }
 pub zeros-low : (n : ℕ) → Low (replicate n 0)
 zeros-low n = same-low n 0 (omega arith)
 
-pub none-at : (l : ℕ) → l < 64 → getD (replicate 64 B) l 0 ≡ B
-none-at l h = getD-replicate 64 l B 0 h
+pub none-at : (l : ℕ) → l < maxLanes → getD (replicate maxLanes B) l 0 ≡ B
+none-at l h = getD-replicate maxLanes l B 0 h
 
 pub nones-low : (n : ℕ) → Low (replicate n B)
 nones-low n = same-low n B (omega arith)
 
-pub none-low : Low (replicate 64 B)
-none-low = nones-low 64
+pub none-low : Low (replicate maxLanes B)
+none-low = nones-low maxLanes

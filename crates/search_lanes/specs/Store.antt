@@ -3,7 +3,7 @@ use Prim.Native.Nat.{ℕ, _+_, _*_, _≤_, _<_}
 use mathlib.Core.Path.{_≡_}
 use mathlib.Core.List.{List}
 use lib.ListN.{length, getD}
-use Rattle.search_store.specs.Map.{layerBlock, stateBlock}
+use Rattle.search_store.specs.Map.{layerBlock, stateBlock, maxLanes}
 use Rattle.theory_tables.specs.Steps.{B, Layer}
 
 -- the words from a to b may be other ones, and nothing else is
@@ -21,10 +21,10 @@ pub record StoreWords (st : List ℕ) (at count : ℕ) : Type 0 where
   pub room : at + count ≤ length st
   pub low : Low st
 
--- so many rows of 64 words from `at` on stand in it, of which the first lanes are in use
+-- so many rows of lanes from `at` on stand in it, of which the first lanes are in use
 pub record StoreRows (st : List ℕ) (at rows lanes : ℕ) : Type 0 where
-  pub room : at + rows * 64 ≤ length st
-  pub narrow : lanes ≤ 64
+  pub room : at + rows * maxLanes ≤ length st
+  pub narrow : lanes ≤ maxLanes
   pub low : Low st
 
 -- the same, with a word that is to stand in all of them, or words below them that are to stand there
@@ -42,7 +42,7 @@ pub record RowsToFill (st : List ℕ) (at rows lanes x : ℕ) : Type 0 where
 
 pub record RowsToCopy (st : List ℕ) (from at rows lanes : ℕ) : Type 0 where
   pub words : StoreRows st at rows lanes
-  pub apart : from + rows * 64 ≤ at
+  pub apart : from + rows * maxLanes ≤ at
 
 -- two words below 2^31
 pub record SignedWords (x y : ℕ) : Type 0 where
@@ -55,17 +55,16 @@ pub record Written (f : ℕ → ℕ) (at count : ℕ) (old new : List ℕ) : Typ
   pub words : (k : ℕ) → k < count → getD new (at + k) 0 ≡ f k
   pub low : Low new
 
--- the first lanes of the rows from `at` on, 64 words each and so many of them,
--- are f's; nothing outside these rows changed
+-- the first lanes of so many rows from `at` on are f's; nothing outside these rows changed
 pub record WrittenRows (f : ℕ → ℕ → ℕ) (at rows lanes : ℕ) (old new : List ℕ) : Type 0 where
-  pub frame : Frame at (at + rows * 64) old new
-  pub words : (a l : ℕ) → a < rows → l < lanes → getD new (at + a * 64 + l) 0 ≡ f a l
+  pub frame : Frame at (at + rows * maxLanes) old new
+  pub words : (a l : ℕ) → a < rows → l < lanes → getD new (at + a * maxLanes + l) 0 ≡ f a l
   pub low : Low new
 
--- lane l of a layer whose block begins at `at`: state q has 64 rows of 64
--- words, a row for each pose, a word for each lane
+-- lane l of a layer whose block begins at `at`: state q has a row for each pose, a row
+-- has a word for each lane
 abbrev pub layerIn : List ℕ → ℕ → ℕ → Layer
-layerIn st at l q a = getD st (at + q * stateBlock + a * 64 + l) 0
+layerIn st at l q a = getD st (at + q * stateBlock + a * maxLanes + l) 0
 
 -- lane by lane, the layers F are in the block at `to`: the rows below m of state q
 pub record FilledState (F : ℕ → Layer) (lanes to q m : ℕ) (old new : List ℕ) : Type 0 where

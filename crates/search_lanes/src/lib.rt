@@ -1,4 +1,4 @@
-// Loops over the lanes of a row: a row is 64 words, one for each start of a segment, all at once.
+// Loops over the lanes of a row: a row is MAX_LANES words, one for each start of a segment, all at once.
 ghost use mathlib.Core.Path.{_≡_};
 ghost use Prim.Native.Nat.{ℕ, _+_, _*_, _≤_, _<_, min};
 ghost use lib.ListN.{length, getD, replicate};
@@ -39,7 +39,13 @@ pub fn common(row: &[u32], at: usize, lanes: usize) -> u32
 }
 
 // Each lane of `acc` lowered to the row's word plus a charge.
-pub fn relax(acc: &mut [u32; 64], row: &[u32], at: usize, charge: u32, lanes: usize)
+pub fn relax(
+    acc: &mut [u32; search_store::MAX_LANES],
+    row: &[u32],
+    at: usize,
+    charge: u32,
+    lanes: usize,
+)
     requires { ⌜ LaneRow (now acc) (now row) at charge lanes ⌝ }
     ensures { λ _. ⌜ Lowered (charged (now (row .entry)) at charge) lanes (now (acc .entry)) (now (acc .exit)) ⌝ }
 {
@@ -51,7 +57,13 @@ pub fn relax(acc: &mut [u32; 64], row: &[u32], at: usize, charge: u32, lanes: us
 }
 
 // A row from its lanes, each with the cell's own cost, capped.
-pub fn put(store: &mut [u32], at: usize, acc: &[u32; 64], own: u32, lanes: usize)
+pub fn put(
+    store: &mut [u32],
+    at: usize,
+    acc: &[u32; search_store::MAX_LANES],
+    own: u32,
+    lanes: usize,
+)
     requires { ⌜ LaneRow (now acc) (now store) at own lanes ⌝ }
     ensures { λ _. ⌜ Written (withOwn own (now (acc .entry))) at lanes (now (store .entry)) (now (store .exit)) ⌝ }
 {
@@ -86,14 +98,14 @@ pub fn copy(store: &mut [u32], from: usize, at: usize, count: usize)
     }
 }
 
-// The same word in the first lanes of so many rows of 64 words.
+// The same word in the first lanes of so many rows.
 pub fn fill_rows(store: &mut [u32], at: usize, rows: usize, lanes: usize, x: u32)
     requires { ⌜ RowsToFill (now store) at rows lanes x ⌝ }
     ensures { λ _. ⌜ WrittenRows (alwaysRows x) at rows lanes (now (store .entry)) (now (store .exit)) ⌝ }
 {
     let mut a: usize = 0;
     while a < rows {
-        fill(store, at + a * 64, lanes, x);
+        fill(store, at + a * search_store::MAX_LANES, lanes, x);
         a += 1;
     }
 }
@@ -106,7 +118,12 @@ pub fn copy_rows(store: &mut [u32], from: usize, at: usize, rows: usize, lanes: 
 {
     let mut a: usize = 0;
     while a < rows {
-        copy(store, from + a * 64, at + a * 64, lanes);
+        copy(
+            store,
+            from + a * search_store::MAX_LANES,
+            at + a * search_store::MAX_LANES,
+            lanes,
+        );
         a += 1;
     }
 }

@@ -6,7 +6,9 @@ use mathlib.Core.List.{List}
 use lib.ListN.{length, getD}
 use lib.Dec.{leb, ltb, eqb}
 use Rattle.definition.specs.Cost.{charge}
-use Rattle.theory_tables.specs.Steps.{B, Deck, stateCount, offset, marks, before, lastAt}
+use Rattle.definition.specs.Job.{maxCells}
+use Rattle.theory_tables.specs.Steps.{B, Deck, stateCount, offset, marks, before, lastAt, poseSlots}
+use Rattle.search_store.specs.Map.{maxPoses}
 use Rattle.search_row.specs.declared.Sizes.{Sizes}
 
 -- The words of a row: those of its cells, then those of the states, then the positions of its tall cells.
@@ -164,8 +166,8 @@ withCells z n =
 
 -- what every function of the search is given: a row's words and its sizes
 pub record Ground (row : List ℕ) (z : Sizes) : Type 0 where
-  pub size : z .cells ≤ 64
-  pub few : z .poses ≤ 60
+  pub size : z .cells ≤ maxCells
+  pub few : z .poses ≤ maxPoses
   pub all : z .states ≡ stateCount (z .reordering)
   pub words : RowWords row
   pub coded : StateWords (z .reordering) row
@@ -203,13 +205,13 @@ pub record TallAt (row : List ℕ) (i : ℕ) : Type 0 where
 -- the cell at position m
 pub record CellAt (row : List ℕ) (m : ℕ) : Type 0 where
   pub words : RowWords row
-  pub cell : m < 64
+  pub cell : m < maxCells
 
 -- the cell at position k in pose a
 pub record PoseAt (row : List ℕ) (k a : ℕ) : Type 0 where
   pub words : RowWords row
-  pub cell : k < 64
-  pub pose : a < 64
+  pub cell : k < maxCells
+  pub pose : a < poseSlots
 
 -- two neighbours, the left one at position k in pose b, the right one at position m in pose a
 pub record NeighbourPoses (row : List ℕ) (k b m a : ℕ) : Type 0 where

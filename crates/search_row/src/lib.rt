@@ -11,6 +11,9 @@ ghost use Rattle.search_row.specs.Words.{siteIn, endIn, differIn, weight
 ghost use Rattle.search_row.specs.Words.{deckIn, thereIn, posIn, withCells};
 ghost use Rattle.search_row.specs.Words.{StateKnown, SourceAsked, TallAt, CellAt, PoseAt, NeighbourPoses};
 
+// So many cells a row can have: all of a job.
+pub const MAX_CELLS: usize = 64;
+
 // The words of a row: those of a cell; where the states begin, the tall cells' positions, and how many words there are.
 pub const CELL: usize = 128;
 

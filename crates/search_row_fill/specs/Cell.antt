@@ -12,6 +12,7 @@ use Rattle.definition.specs.Cost.{firstHeight}
 use Rattle.lists.specs.Compare.{Eq?, same, differs, eq?}
 use Rattle.theory_bridge.specs.Paired.{isOffered, poseNumber, widthOf, ownOf, leftOf, rightOf}
 use Rattle.job.specs.Parts.{widthIn, heightIn}
+use Rattle.search_store.specs.Map.{maxPoses}
 use Rattle.search_row.specs.Words as words
 use Rattle.search_row.specs.Words.{variant, firstWord, widthWord, tallWord, touchingWord, numberWord, apartWord}
 use Rattle.search_row.specs.Words.{frontBarred, backBarred, wordsUsed}
@@ -27,7 +28,7 @@ word-alone j row k i = refl
 -- ---- the words of cell k in a row, as the search reads them
 
 pub record CellWords (j : Job) (row k : ℕ) (word : ℕ → ℕ) : Type 0 where
-  pub own : (a : ℕ) → a < 60 → word a ≡ ownWord j row k a
+  pub own : (a : ℕ) → a < maxPoses → word a ≡ ownWord j row k a
   pub first : word firstWord ≡ firstSite j k
   pub width : (a : ℕ) → word (widthWord + variant a / 2) ≡ widthOf j k (poseNumber j k a)
   pub tall : word tallWord ≡ cond (isTall (cellAt j k)) 1 0

@@ -10,7 +10,7 @@ use native.Mathlib.Decide.{decLt}
 use borrow.Author.Count.{below-more}
 use lib.ListN.{length, getD, drop, List·getD-eq-default}
 use Rattle.definition.specs.Lists as lists
-use Rattle.definition.specs.Job.{Job}
+use Rattle.definition.specs.Job.{Job, maxCells}
 use Rattle.definition.specs.Job as job
 use Rattle.definition.specs.Rules.{cellAt}
 use Rattle.definition_laws.specs.Sound.{Sound, SoundCell}
@@ -24,6 +24,7 @@ use Rattle.theory_tables.specs.Matched.{Matched}
 use Rattle.theory_bridge.specs.Paired.{rowOf, siteOf, poseNumbers, poseNumber, isOffered, pairJob}
 use Rattle.theory_bridge.specs.Words.{keep-pick}
 use Rattle.theory_bridge.specs.Row.{cells-same, members-same}
+use Rattle.search_store.specs.Map.{maxPoses}
 use Rattle.search_lanes.specs.Lanes.{always}
 use Rattle.search_lanes.specs.Store.{Low, Written}
 use Rattle.search_row.specs.Words.{wordOf, deckOf, RowWords, apartWord, cellWords, numberWord}
@@ -68,7 +69,7 @@ module _ (j : Job) (s : Side) where
   -- the first k cells are looked at, and n of them stand in the row
   pub record Filled (l : List ℕ) (n k : ℕ) : Type 0 where
     pub long : rowLength ≤ length l
-    pub most : length (j .cells) ≤ 64
+    pub most : length (j .cells) ≤ maxCells
     pub below : n ≤ k
     pub few : k ≤ length (j .cells)
     pub upto : n ≤ length (members (pairJob j) s)
@@ -175,8 +176,8 @@ pub record Lined (j : Job) (s : Side) (l : List ℕ) (n : ℕ) : Type 0 where
   pub matched : Matched siteOf (line (pairJob j) s) (deckOf l n (poseNumbers j))
       (λ p a. poseNumber j (cell (pairJob j) s p) a) (λ p a. isOffered j (cell (pairJob j) s p) a)
   pub words : RowWords l
-  pub size : n ≤ 64
-  pub few : poseNumbers j ≤ 60
+  pub size : n ≤ maxCells
+  pub few : poseNumbers j ≤ maxPoses
   pub number : (p : ℕ) → p < n → wordOf l p numberWord ≡ cell (pairJob j) s p
 
 module _ (j : Job) (sound : Sound j) (s : Side) (l : List ℕ) (n k : ℕ) (f : Filled j s l n k)
@@ -198,17 +199,18 @@ module _ (j : Job) (sound : Sound j) (s : Side) (l : List ℕ) (n k : ℕ) (f : 
       cells p h = cell-words j (rowOf s) (cell (pairJob j) s p) (wordOf l p) (f .words p h)
 
       -- past the row's cells there is 0, and past all cells no large word
-      beyond : (p i : ℕ) → (p < n → ⊥) → (84 ≤ i) × (i < 128) → Dec (p < 64) → wordOf l p i ≤ 131072
+      beyond : (p i : ℕ) → (p < n → ⊥) → (touchingWord ≤ i) × (i < cellWords) → Dec (p < maxCells)
+          → wordOf l p i ≤ 131072
       beyond p i h b (yes g) = omega (arith, f .zero (p * cellWords + i) (omega arith) (omega arith))
       beyond p i h b (no g) = omega (arith, f .upper (p * cellWords + i) (omega arith))
 
       weight : (p : ℕ) → Dec (p < n) → wordOf l p touchingWord ≤ 131072
       weight p (yes h) = let w = cells p h .weight in let b = sound .header .step in omega arith
-      weight p (no h) = beyond p 84 h (omega arith, omega arith) (decLt p 64)
+      weight p (no h) = beyond p touchingWord h (omega arith, omega arith) (decLt p maxCells)
 
       filled : (p : ℕ) → Dec (p < n) → wordOf l p apartWord ≤ 131072
       filled p (yes h) = let w = cells p h .filled in let b = sound .header .step in omega arith
-      filled p (no h) = beyond p 86 h (omega arith, omega arith) (decLt p 64)
+      filled p (no h) = beyond p apartWord h (omega arith, omega arith) (decLt p maxCells)
 
   pub lined : Lined j s l n
   lined = record {

@@ -4,6 +4,8 @@ use Prim.Native.Nat.{ℕ, _+_, _/_, _≤_, _<_}
 use mathlib.Core.Path.{_≡_}
 use mathlib.Core.List.{List}
 use lib.ListN.{length, getD}
+use Rattle.definition.specs.Job.{maxCells}
+use Rattle.theory_tables.specs.Steps.{poseSlots}
 use Rattle.job.specs.declared.Job.{Job}
 use Rattle.job.specs.declared.Header.{Header}
 use Rattle.job.specs.declared.Cell.{Cell}
@@ -26,12 +28,12 @@ pub record Weight (weight times : ℕ) : Type 0 where
 -- a pose number of a cell
 pub record CellPose (header : Header) (cell : Cell) (a : ℕ) : Type 0 where
   pub ranged : Ranged header cell
-  pub few : a < 64
+  pub few : a < poseSlots
 
 -- one whose site is not left of site 0
 pub record PoseRight (header : Header) (cell : Cell) (a : ℕ) : Type 0 where
   pub ranged : Ranged header cell
-  pub few : a < 64
+  pub few : a < poseSlots
   pub right : offered header cell .limit ≤ cell .given + a / 4
 
 -- one of its words between its costs and its heights
@@ -49,7 +51,7 @@ pub record HeightAt (u side : ℕ) : Type 0 where
 pub record CellPut (header : Header) (cell : Cell) (side number : ℕ) : Type 0 where
   pub ranged : Ranged header cell
   pub either : side ≤ 1
-  pub few : number < 64
+  pub few : number < maxCells
 
 -- the same, and room for its words from a place on
 pub record CellToFill (header : Header) (cell : Cell) (side number at : ℕ) (row : List ℕ) : Type 0 where
@@ -60,7 +62,7 @@ pub record CellToFill (header : Header) (cell : Cell) (side number at : ℕ) (ro
 -- the same, and room for them at position n
 pub record CellToAdd (header : Header) (cell : Cell) (side number n : ℕ) (row : List ℕ) : Type 0 where
   pub put : CellPut header cell side number
-  pub few : n < 64
+  pub few : n < maxCells
   pub long : statesFrom ≤ length row
   pub low : Low row
 
@@ -74,20 +76,20 @@ pub record RowToFill (job : Job) (side : ℕ) (row : List ℕ) : Type 0 where
 -- the tall cells' positions, of which those before p are listed
 pub record TallNext (row : List ℕ) (n : ℕ) (talls : List ℕ) (count p : ℕ) : Type 0 where
   pub before : p < n
-  pub few : n ≤ 64
+  pub few : n ≤ maxCells
   pub long : statesFrom ≤ length row
   pub upto : TallsUpto row n talls count p
 
 -- room for all of them
 pub record TallsRoom (row : List ℕ) (n : ℕ) (talls : List ℕ) : Type 0 where
-  pub few : n ≤ 64
+  pub few : n ≤ maxCells
   pub long : statesFrom ≤ length row
   pub room : length (tallsIn row n) ≤ length talls
-  pub small : (I : ℕ) → getD talls I 0 < 64
+  pub small : (I : ℕ) → getD talls I 0 < maxCells
 
 -- positions that are to be put into the row
 pub record PlacesPut (row places : List ℕ) : Type 0 where
   pub long : rowLength ≤ length row
   pub low : Low row
   pub all : length places ≡ 32
-  pub small : (I : ℕ) → getD places I 0 < 64
+  pub small : (I : ℕ) → getD places I 0 < maxCells

@@ -25,6 +25,7 @@ use Rattle.theory_tables.specs.Matched.{Matched}
 use Rattle.theory_bridge.specs.Paired.{kindOf, rowOf, siteOf, poseNumbers, poseNumber, isOffered}
 use Rattle.theory_bridge.specs.Paired.{offersOf, widthOf, ownOf, differingOf, payOf, endAllowed, pairJob}
 use Rattle.theory_bridge.specs.Row.{isTall-same, member}
+use Rattle.search_store.specs.Map.{maxPoses}
 use Rattle.search_row.specs.Words.{wordOf, siteIn, endIn, differIn, weightIn, tollAt, tollIn}
 use Rattle.search_row.specs.Words.{frontIn, backIn, endToll, deckOf, RowWords, apartWord, touchingWord}
 use Rattle.search_row.specs.Words.{frontBarred, backBarred}
@@ -147,7 +148,7 @@ module _ (j : Job) (sound : Sound j) (s : Side) (l : List ℕ) (n : ℕ) (w : Ro
   words-at : (p : ℕ) → p < length (members (pairJob j) s) → CellWords j (rowOf s) (cell (pairJob j) s p) (wordOf l p)
   words-at p h = w .cells p (let e = w .size in omega arith)
 
-  pub few-poses : poseNumbers j ≤ 60
+  pub few-poses : poseNumbers j ≤ maxPoses
   few-poses = let d = sound .header .displacement in omega arith
 
   own-same : (p a : ℕ) → p < length (members (pairJob j) s) → a < poseNumbers j

@@ -5,7 +5,7 @@ use mathlib.Core.List.{List}
 use native.Mathlib.Omega.{arith}
 use native.Mathlib.Decide.{decLt}
 use lib.ListN.{length, getD, replicate, length-replicate, getD-replicate, List·getD-eq-default}
-use Rattle.definition.specs.Job.{Job}
+use Rattle.definition.specs.Job.{Job, maxCells}
 use Rattle.definition_laws.specs.Sound.{Sound}
 use Rattle.theory_tables.specs.Steps.{stateCount}
 use Rattle.theory_pair.specs.Cells.{Side, tallCount, pos, cell-pos}
@@ -39,13 +39,13 @@ cells-lined {j} {s} {l} {n} sound f = lined j sound s l n (length (j .cells)) f 
 
 -- room for all positions
 pub cells-talls : {j : Job} {s : Side} {l : List ℕ} {n : ℕ} → Sound j → CellsIn j s l n
-    → (n ≤ 64) × (length (tallsIn l n) ≤ 24)
+    → (n ≤ maxCells) × (length (tallsIn l n) ≤ 24)
 cells-talls sound f = let w = cells-lined sound f in (w .size, talls-few w sound)
 
-pub zeros-small : (n k : ℕ) → getD (replicate n 0) k 0 < 64
+pub zeros-small : (n k : ℕ) → getD (replicate n 0) k 0 < maxCells
 zeros-small n k = go (decLt k n)
   where
-    go : Dec (k < n) → getD (replicate n 0) k 0 < 64
+    go : Dec (k < n) → getD (replicate n 0) k 0 < maxCells
     go (yes h) = omega (arith, getD-replicate {A = ℕ} n k 0 0 h)
     go (no h) = omega (
       arith,

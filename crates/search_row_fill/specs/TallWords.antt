@@ -9,7 +9,7 @@ use borrow.Author.Count.{below-more}
 use lib.ListN.{length, getD, drop, set, length-set}
 use lib.Seq.{getD-set-same, getD-set-other}
 use lib.Dec.{eqb}
-use Rattle.definition.specs.Job.{Job}
+use Rattle.definition.specs.Job.{Job, maxCells}
 use Rattle.definition_laws.specs.Sound.{Sound}
 use Rattle.lists.specs.Numbers.{from, in-from}
 use Rattle.theory_pair.specs.Pick.{pick}
@@ -33,16 +33,16 @@ pub record TallsUpto (row : List ℕ) (n : ℕ) (talls : List ℕ) (count p : �
   pub below : count ≤ length (tallsIn row n)
   pub left : drop count (tallsIn row n) ≡ rest (tallAt row) p n
   pub words : (I : ℕ) → I < count → getD talls I 0 ≡ getD (tallsIn row n) I 0
-  pub small : (I : ℕ) → getD talls I 0 < 64
+  pub small : (I : ℕ) → getD talls I 0 < maxCells
 
 -- all are written, so many
 pub record TallWords (row : List ℕ) (n : ℕ) (talls : List ℕ) (count : ℕ) : Type 0 where
   pub all : count ≡ length (tallsIn row n)
   pub words : (I : ℕ) → I < count → getD talls I 0 ≡ getD (tallsIn row n) I 0
-  pub small : (I : ℕ) → getD talls I 0 < 64
+  pub small : (I : ℕ) → getD talls I 0 < maxCells
 
 module _ {row : List ℕ} {n : ℕ} where
-  pub talls-none : {talls : List ℕ} → length (tallsIn row n) ≤ length talls → ((I : ℕ) → getD talls I 0 < 64)
+  pub talls-none : {talls : List ℕ} → length (tallsIn row n) ≤ length talls → ((I : ℕ) → getD talls I 0 < maxCells)
       → TallsUpto row n talls 0 0
   unfolding tallsIn
   talls-none h s =
@@ -66,7 +66,7 @@ module _ {row : List ℕ} {n : ℕ} where
       pub talls-room : count < length talls
       talls-room = let r = u .room in let i = upcoming .inside in omega arith
 
-      pub talls-more : n ≤ 64 → TallsUpto row n (set talls count p) (count + 1) (p + 1)
+      pub talls-more : n ≤ maxCells → TallsUpto row n (set talls count p) (count + 1) (p + 1)
       talls-more few = record {
         room = simp length-set (u .room);
         below = let i = upcoming .inside in omega arith;
@@ -77,7 +77,7 @@ module _ {row : List ℕ} {n : ℕ} where
         small = λ I. one I (ℕ-discrete count I);
       }
         where
-          one : (I : ℕ) → Dec (count ≡ I) → getD (set talls count p) I 0 < 64
+          one : (I : ℕ) → Dec (count ≡ I) → getD (set talls count p) I 0 < maxCells
           one I (yes z) =
               omega (arith, ap (λ k. getD (set talls count p) k 0) z, getD-set-same talls count p 0 talls-room)
           one I (no z) = omega (arith, getD-set-other talls count I p 0 (λ y. z (sym y)), u .small I)

@@ -7,7 +7,7 @@ use borrow.Author.Tests.{lt-ltb, le-ltb, ne-eqb}
 use lib.ListN.{length, List·getD-eq-default}
 use lib.Dec.{leb, ltb, eqb}
 use Rattle.definition.specs.Job as paper
-use Rattle.definition.specs.Job.{maxSites, maxDisplacement}
+use Rattle.definition.specs.Job.{maxSites, maxDisplacement, maxWidth}
 use Rattle.definition.specs.Placement.{Pose}
 use Rattle.definition.specs.Rules.{Offer, noLayout, apart, offerOf, choiceOffered, siteOffered}
 use Rattle.definition_laws.specs.Sound.{SoundHeader, SoundCell}
@@ -37,7 +37,7 @@ pub record Ranged (h : Header) (c : Cell) : Type 0 where
   pub mirror : h .mirror ≤ 1000
   pub swap : h .swap ≤ 1000
   pub given : c .given ≤ 1023
-  pub width : (l : ℕ) → widthIn (cellOf c) l ≤ 64
+  pub width : (l : ℕ) → widthIn (cellOf c) l ≤ maxWidth
   pub height : (l i : ℕ) → heightIn (cellOf c) l i ≤ 15
 
 height-small : (h : paper.Header) (c : paper.Cell) (l i : ℕ) → SoundCell h c → heightIn c l i ≤ 15

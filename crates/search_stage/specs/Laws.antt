@@ -13,10 +13,10 @@ use native.Mathlib.Numerals.{add-one}
 use lib.ListN.{length, getD, set}
 use lib.Seq.{getD-set-same}
 use lib.Dec.{ltb}
-use Rattle.search_store.specs.Map.{caseAt, Pages}
+use Rattle.search_store.specs.Map.{caseAt, Pages, maxLanes, maxPoses}
 use Rattle.lists.specs.Numbers.{from}
 use Rattle.theory_pair.specs.Coded.{lowest}
-use Rattle.theory_tables.specs.Steps.{B, Deck, stateCount, joinPose, nextCases}
+use Rattle.theory_tables.specs.Steps.{B, Deck, stateCount, joinPose, nextCases, poseSlots}
 use Rattle.theory_tables.specs.Stages.{caseTable}
 use Rattle.theory_tables.specs.States.{count-0, count-1, count-2}
 use Rattle.search_lanes.specs.Store.{Low}
@@ -76,15 +76,15 @@ wide-tall talls zero x n h = absurd (n refl)
 wide-tall talls (suc I) x n h = sym (wide-all talls I x (omega arith))
 
 -- the lanes that a table has
-width-room : (poses : ℕ) → poses ≤ 60 → (poses ≤ widthOf poses) × (widthOf poses ≤ 64)
+width-room : (poses : ℕ) → poses ≤ maxPoses → (poses ≤ widthOf poses) × (widthOf poses ≤ maxLanes)
 unfolding widthOf
 width-room poses h = (omega arith, omega arith)
 
-pub wide-lanes : (talls I poses : ℕ) → poses ≤ 60
-    → (wide talls I poses ≤ wide talls I (widthOf poses)) × (wide talls I (widthOf poses) ≤ 64)
+pub wide-lanes : (talls I poses : ℕ) → poses ≤ maxPoses
+    → (wide talls I poses ≤ wide talls I (widthOf poses)) × (wide talls I (widthOf poses) ≤ maxLanes)
 wide-lanes talls I poses h =
     let w = width-room poses h in
-    (wide-mono talls I poses (widthOf poses) (w .0), wide-low talls I (widthOf poses) 64 (omega arith) (w .1))
+    (wide-mono talls I poses (widthOf poses) (w .0), wide-low talls I (widthOf poses) maxLanes (omega arith) (w .1))
 
 -- no table has more than that of the last tall cell
 pub wide-most : (talls I x : ℕ) → 1 ≤ x → wide talls I x ≤ wide talls talls x
@@ -108,12 +108,12 @@ module _ (D₀ D₁ : Deck) (R talls : ℕ) (pos₀ pos₁ : ℕ → ℕ) where
       → Right D₀ D₁ R talls pos₀ pos₁ (suc I) st
   staged-right I w = record { word = λ q₀ q₁ a h g f. w .case q₀ q₁ a h g f .right; beyond = w .beyond }
 
-  module _ (few : stateCount R ≤ 12) (some : 1 ≤ stateCount R) (narrow : D₀ .poses ≤ 60) where
+  module _ (few : stateCount R ≤ 12) (some : 1 ≤ stateCount R) (narrow : D₀ .poses ≤ maxPoses) where
     wide-states : (I : ℕ) → wide talls I (stateCount R) ≤ 12
     wide-states I = wide-low talls I (stateCount R) 12 (omega arith) few
 
-    wide-poses : (I : ℕ) → wide talls I (D₀ .poses) ≤ 60
-    wide-poses I = wide-low talls I (D₀ .poses) 60 (omega arith) narrow
+    wide-poses : (I : ℕ) → wide talls I (D₀ .poses) ≤ maxPoses
+    wide-poses I = wide-low talls I (D₀ .poses) maxPoses (omega arith) narrow
 
     -- a stage from its costs and the table before
     pub stage-done : (I lanes : ℕ) {old mid one new table : List ℕ} → I ≤ talls → talls ≤ 24
@@ -304,7 +304,7 @@ module _ (D₀ D₁ : Deck) (R talls : ℕ) (pos₀ pos₁ : ℕ → ℕ) where
 -- ---- what a stage is given
 
 module _ {row₀ row₁ st : List ℕ} {z : Sizes} {n₁ : ℕ} (g : StagesGiven row₀ row₁ st z n₁) where
-  pub given-states : (z .states ≤ 12) × (1 ≤ z .states) × (z .poses ≤ 60) × (z .talls ≤ 24)
+  pub given-states : (z .states ≤ 12) × (1 ≤ z .states) × (z .poses ≤ maxPoses) × (z .talls ≤ 24)
   given-states =
       let r = g .given₀ .ground in (
         omega (arith, r .all, r .coded .few),
@@ -313,11 +313,11 @@ module _ {row₀ row₁ st : List ℕ} {z : Sizes} {n₁ : ℕ} (g : StagesGiven
         g .given₀ .few,
       )
 
-  pub given-wide : (I : ℕ) → (wide (z .talls) I (z .states) ≤ 12) × (wide (z .talls) I (z .poses) ≤ 60)
+  pub given-wide : (I : ℕ) → (wide (z .talls) I (z .states) ≤ 12) × (wide (z .talls) I (z .poses) ≤ maxPoses)
       × Pages (wide (z .talls) I (z .states)) st
   given-wide I = (
     wide-low (z .talls) I (z .states) 12 (omega arith) (given-states .0),
-    wide-low (z .talls) I (z .poses) 60 (omega arith) (given-states .2),
+    wide-low (z .talls) I (z .poses) maxPoses (omega arith) (given-states .2),
     omega (arith, g .long, wide-most (z .talls) I (z .states) (given-states .1)),
   )
 
@@ -326,7 +326,7 @@ module _ {row₀ row₁ st : List ℕ} {z : Sizes} {n₁ : ℕ} (g : StagesGiven
   given-first I h = omega (arith, given-wide 0 .2, wide-first (z .talls) 0 (z .states) refl)
 
   -- the lanes of the table that stage I reads, whatever was written before
-  pub given-table : (I lanes : ℕ) (new : List ℕ) → I ≤ z .talls → lanes ≤ 64 → length new ≡ length st → Low new
+  pub given-table : (I lanes : ℕ) (new : List ℕ) → I ≤ z .talls → lanes ≤ maxLanes → length new ≡ length st → Low new
       → Table (wide (z .talls) I (z .states)) lanes I new
   given-table I lanes new h n e w =
       let m = given-wide I in

@@ -6,6 +6,7 @@ use mathlib.Core.List.{List}
 use native.Mathlib.Omega.{arith}
 use native.Mathlib.Numerals.{add-one}
 use lib.ListN.{getD}
+use Rattle.definition.specs.Job.{maxCells}
 use Rattle.search_store.specs.Map.{layerBlock}
 use Rattle.search_row.specs.declared.Sizes.{Sizes}
 use Rattle.search_row.specs.Words.{posIn, RowGiven}
@@ -169,7 +170,7 @@ module _ (D : Deck) (R talls : ℕ) (pos : ℕ → ℕ) where
 -- ---- a start after a tall cell
 
 pub start-place : {row : List ℕ} {z : Sizes} (I p : ℕ)
-    → RowGiven row z → (I ≡ 0 → ⊥) → I ≤ z .talls → p ≡ posIn row (I - 1) → p < 64
+    → RowGiven row z → (I ≡ 0 → ⊥) → I ≤ z .talls → p ≡ posIn row (I - 1) → p < maxCells
 start-place I p g e h k = omega (arith, g .inside (I - 1) (omega (arith, e)), g .ground .size)
 
 pub start-state : (talls I count s : ℕ) → s < wide talls I count → (I ≡ 0 → ⊥) → I ≤ talls → s < count

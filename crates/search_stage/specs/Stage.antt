@@ -7,7 +7,7 @@ use mathlib.Core.Logic.{_⊎_}
 use mathlib.Core.List.{List}
 use lib.ListN.{length, getD}
 use lib.Dec.{ltb}
-use Rattle.search_store.specs.Map.{caseAt, costsAt, Pages, Slot, OutsideCosts, pagesFrom}
+use Rattle.search_store.specs.Map.{caseAt, costsAt, Pages, Slot, OutsideCosts, pagesFrom, maxLanes}
 use Rattle.search_row.specs.declared.Sizes.{Sizes}
 use Rattle.theory_tables.specs.Steps.{B, Deck, Layer, Cases, SegmentCosts, stateCount}
 use Rattle.theory_tables.specs.Stages.{stageEnd, openCost, stageCost, caseTable}
@@ -199,7 +199,7 @@ pub record StageGiven (table row₀ row₁ st : List ℕ) (z : Sizes) (n₁ I : 
 -- the same, to be run in so many lanes
 pub record StageLanes (table row₀ row₁ st : List ℕ) (z : Sizes) (n₁ I lanes : ℕ) : Type 0 where
   pub stage : StageGiven table row₀ row₁ st z n₁ I
-  pub narrow : lanes ≤ 64
+  pub narrow : lanes ≤ maxLanes
 
 -- how many states and poses table number I has
 abbrev pub statesAt : Sizes → ℕ → ℕ
@@ -230,7 +230,7 @@ pub record OpenGiven (row st : List ℕ) (z : Sizes) (costs : ℕ) : Type 0 wher
 pub record CostGiven (table row st : List ℕ) (z : Sizes) (I s lanes costs : ℕ) : Type 0 where
   pub lent : Lent table
   pub given : RowGiven row z
-  pub narrow : lanes ≤ 64
+  pub narrow : lanes ≤ maxLanes
   pub room : OpenRoom st (z .reordering) (z .poses) (z .states) costs
   pub stage : I ≤ z .talls
   pub state : s < statesAt z I
@@ -243,7 +243,7 @@ pub record EndGiven (table row st starts : List ℕ) (z : Sizes) (layer : Block)
   pub first : layer .at ≡ 0
   pub room : CostRoom st costs
   pub low : Low starts
-  pub long : length starts ≡ 64
+  pub long : length starts ≡ maxLanes
 
 -- ---- what they leave, by the rows' words
 

@@ -7,8 +7,8 @@ use native.Mathlib.Omega.{arith}
 use native.Mathlib.Decide.{decLt}
 use borrow.Author.Count.{below-more}
 use lib.ListN.{length}
-use Rattle.search_store.specs.Map.{caseAt, costsAt}
-use Rattle.theory_tables.specs.Steps.{B, SegmentCosts}
+use Rattle.search_store.specs.Map.{caseAt, costsAt, maxLanes}
+use Rattle.theory_tables.specs.Steps.{B, SegmentCosts, poseSlots}
 use Rattle.search_lanes.specs.Store.{Low}
 use Rattle.search_store.specs.Places.{case-beside, cost-before}
 use Rattle.search_wide_buckets.specs.Table.{Lent}
@@ -97,8 +97,8 @@ start-live row s costs x e p =
 then : {j q₀ q₁ a : ℕ} {x y z : List ℕ} → SameCase j q₀ q₁ a y z → SameCase j q₀ q₁ a x y → SameCase j q₀ q₁ a x z
 then u v = record { case = u .case ∙ v .case; source = u .source ∙ v .source }
 
-module _ (I starts lanes ends poses : ℕ) (few : starts ≤ 12) (narrow : lanes ≤ 64) (to : ends ≤ 12) (thin : poses ≤ 64)
-    (stage : I ≤ 25) where
+module _ (I starts lanes ends poses : ℕ) (few : starts ≤ 12) (narrow : lanes ≤ maxLanes) (to : ends ≤ 12)
+    (thin : poses ≤ poseSlots) (stage : I ≤ 25) where
   -- a dead one, if the tables are the same
   dead-kept : (row s : ℕ) {old new : List ℕ} → s < starts → SameTables old new → Dead new row I starts s 0 lanes
       → Dead old row I starts s 0 lanes

@@ -4,7 +4,7 @@ mod row;
 ghost use mathlib.Core.Path.{_≡_};
 ghost use mathlib.Core.Bool.{false};
 ghost use Prim.Native.Nat.{_≤_};
-ghost use Rattle.search_store.specs.Map.{CaseRow};
+ghost use Rattle.search_store.specs.Map.{CaseRow, maxPoses};
 ghost use Rattle.search_join.specs.Tables.{Table};
 ghost use Rattle.search_stage.specs.Stage.{wide, widthOf, fromAt, LanesAsked, StartAsked, Dead, DeadLanes};
 ghost use Rattle.search_stage.specs.Stage.{LanesRun, StagesGiven, StageGiven, StageLanes, StartGiven, RowStart};
@@ -28,7 +28,7 @@ pub fn wide_of(talls: usize, i: usize, x: usize) -> usize
 // How many lanes a tall cell's table has: a multiple of 16, so that loops over lanes, many at a time, leave no
 // rest. No case goes by those beyond the poses.
 fn width_of(poses: usize) -> usize
-    requires { ⌜ poses ≤ 60 ⌝ }
+    requires { ⌜ poses ≤ maxPoses ⌝ }
     ensures { λ w. ⌜ w ≡ widthOf poses ⌝ }
 {
     (poses + 15) / 16 * 16
@@ -36,7 +36,7 @@ fn width_of(poses: usize) -> usize
 
 // How many lanes table number i has in use.
 fn lanes_of(talls: usize, i: usize, poses: usize) -> usize
-    requires { ⌜ poses ≤ 60 ⌝ }
+    requires { ⌜ poses ≤ maxPoses ⌝ }
     ensures { λ r. ⌜ r ≡ wide talls i (widthOf poses) ⌝ }
 {
     wide_of(talls, i, width_of(poses))

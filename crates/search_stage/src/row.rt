@@ -9,7 +9,7 @@ use search_row::Sizes;
 use search_wide_layer::Block;
 
 // What the cell at position p pays as the row's last, in each pose.
-fn backs(starts: &mut [u32; 64], row: &[u32], p: usize, poses: usize)
+fn backs(starts: &mut [u32; search_store::MAX_LANES], row: &[u32], p: usize, poses: usize)
     requires { ⌜ PosesGiven (now row) (now starts) 0 p poses ⌝ }
     ensures { λ _. ⌜ Written (backIn (now (row .entry)) p) 0 poses (now (starts .entry)) (now (starts .exit)) ⌝ }
 {
@@ -27,7 +27,7 @@ fn stage_end(
     store: &mut [u32],
     row: &[u32],
     sizes: Sizes,
-    starts: &[u32; 64],
+    starts: &[u32; search_store::MAX_LANES],
     i: usize,
     layer: Block,
     costs: usize,
@@ -101,7 +101,7 @@ pub fn row_cost(
     let p = search_row::tall_at(row, i - 1);
     let placed = search_row::placed_with(row, sizes, p, s);
     search_wide_first::first_layer(table, store, row, sizes, lanes, placed, s, p);
-    let mut starts = [0u32; 64];
+    let mut starts = [0u32; search_store::MAX_LANES];
     backs(&mut starts, row, p, sizes.poses);
     let cells = placed + 1;
     let layer = Block {

@@ -14,7 +14,7 @@ use Rattle.lists.specs.Compare.{Eq?, same, eq?}
 use Rattle.theory_row.specs.Marks.{bit}
 use Rattle.theory_pair.specs.Pick.{goodMarks}
 use Rattle.theory_pair.specs.Forward.{each}
-use Rattle.theory_tables.specs.Steps.{mayBeLast, pairsOf, stateCount, offset, marks, marksBefore, before}
+use Rattle.theory_tables.specs.Steps.{B, mayBeLast, pairsOf, stateCount, offset, marks, marksBefore, before}
 use Rattle.theory_tables.specs.States.{state-at, count-0, count-1, count-2}
 use Rattle.search_lanes.specs.Store.{Frame, Low}
 use Rattle.search_lanes.specs.Laws.{frame-set, low-set}
@@ -172,7 +172,7 @@ pub room : {R : ℕ} {p : List ℕ} {n d m : ℕ} {l : List (ℕ × ℕ)} → R 
 room {R} {n = n} r u = let k = next {d = (0, 0)} (pairsOf R) n (u .left) in omega (arith, k .inside, few R r)
 
 -- the word for the marks before is small too
-before-low : (d m : ℕ) → m < 32 → marksBefore d m ≤ 64
+before-low : (d m : ℕ) → m < 32 → marksBefore d m ≤ B
 before-low d m h = omega arith
 
 with-low : (p : List ℕ) (n d m : ℕ) → stateAt n + 2 < length p → d ≤ 4 → m < 32 → Low p → Low (withState p n d m)

@@ -1,10 +1,20 @@
--- The map of the store. A layer is a block: twelve states, each 64 poses of 64 lanes. Two layers stand at its start,
--- then the layers of a segment in one lane, kept one after the other; then a page for each state, which has its segment
--- costs as a start state in both rows, and the cases and back pointers of the tables in which it is row 0's state.
+-- The map of the store. A layer is a block: twelve states, each with a row of lanes for each place for a pose. Two
+-- layers stand at its start, then the layers of a segment in one lane, kept one after the other; then a page for each
+-- state, which has its segment costs as a start state in both rows, and the cases and back pointers of the tables in
+-- which it is row 0's state.
 use Prim.Native.Nat.{ℕ, _+_, _*_, _≤_, _<_}
 use mathlib.Core.Logic.{_⊎_}
 use mathlib.Core.List.{List}
 use lib.ListN.{length}
+use Rattle.theory_tables.specs.Steps.{poseSlots}
+
+-- the words of a row of a table: one for each lane
+abbrev pub maxLanes : ℕ
+maxLanes = 64
+
+-- so many pose numbers a cell can have
+abbrev pub maxPoses : ℕ
+maxPoses = 60
 
 -- the words of a state in a layer, and of a layer
 abbrev pub stateBlock : ℕ
@@ -20,7 +30,11 @@ keptFrom = 98304
 abbrev pub keptLayer : ℕ
 keptLayer = 768
 
--- where layer i is kept, which has at least one cell: state q has 64 words, one for each pose
+-- so many layers can be kept
+abbrev pub maxKept : ℕ
+maxKept = 66
+
+-- where layer i is kept, which has at least one cell: state q has poseSlots words, one for each pose
 abbrev pub keptAt : ℕ → ℕ
 keptAt i = 97536 + i * keptLayer
 
@@ -41,7 +55,7 @@ costsAt row s = pageAt s + row * layerBlock
 
 -- the cases of the states q₀ and q₁ in table I, and their back pointers
 abbrev pub caseAt : ℕ → ℕ → ℕ → ℕ
-caseAt I q₀ q₁ = 247296 + q₀ * pageWords + q₁ * 1664 + I * 64
+caseAt I q₀ q₁ = 247296 + q₀ * pageWords + q₁ * 1664 + I * poseSlots
 
 abbrev pub pointerAt : ℕ → ℕ → ℕ → ℕ
 pointerAt I q₀ q₁ = caseAt I q₀ q₁ + 19968
@@ -51,7 +65,7 @@ abbrev pub pointerRow₀ : ℕ
 pointerRow₀ = 768
 
 abbrev pub pointerRow₁ : ℕ
-pointerRow₁ = 64
+pointerRow₁ = poseSlots
 
 -- the store has so many pages
 abbrev pub Pages : ℕ → List ℕ → Type 0
@@ -68,11 +82,11 @@ pub record CostRow (row s q a : ℕ) : Type 0 where
   pub side : row ≤ 1
   pub start : s ≤ 12
   pub state : q ≤ 12
-  pub pose : a ≤ 64
+  pub pose : a ≤ poseSlots
 
 -- there is such a case in the map
 abbrev pub Slot : ℕ → ℕ → ℕ → ℕ → Type 0
-Slot I q₀ q₁ a = (I ≤ 25) × (q₀ < 12) × (q₁ < 12) × (a < 64)
+Slot I q₀ q₁ a = (I ≤ 25) × (q₀ < 12) × (q₁ < 12) × (a < poseSlots)
 
 -- a word outside the costs that begin at `costs`
 abbrev pub OutsideCosts : ℕ → ℕ → Type 0
@@ -80,6 +94,13 @@ OutsideCosts costs k = (k < costs) ⊎ (costs + layerBlock ≤ k)
 
 -- ---- beside the store
 
--- the table in which the sources of a state are gathered: 9 buckets of 19 rows of 64 lanes
+-- the rows of a bucket, by the end site of a source; and its words, in all lanes
+abbrev pub bucketRows : ℕ
+bucketRows = 19
+
+abbrev pub bucketWords : ℕ
+bucketWords = 1216
+
+-- the table in which the sources of a state are gathered: 9 buckets
 abbrev pub tableWords : ℕ
 tableWords = 10944

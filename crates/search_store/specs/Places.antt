@@ -6,7 +6,8 @@ use mathlib.Core.List.{List}
 use native.Mathlib.Omega.{arith}
 use native.Mathlib.Decide.{decLt}
 use lib.ListN.{length}
-use Rattle.search_store.specs.Map.{stateBlock, pagesFrom, costsAt}
+use Rattle.theory_tables.specs.Steps.{poseSlots}
+use Rattle.search_store.specs.Map.{maxLanes, stateBlock, pagesFrom, costsAt}
 use Rattle.search_store.specs.Map.{caseAt, pointerAt, Pages, Slot, OutsideCosts}
 
 -- ---- the words of a case
@@ -45,6 +46,6 @@ case-beside row s I q₀ q₁ a b h = go (decLt q₀ s)
     go (no l) = (inr (omega arith), inr (omega arith))
 
 -- and the costs of an earlier start state, or of row 0, stand before
-pub cost-before : (other t row s q a l : ℕ) → row ≤ 1 → q < 12 → a < 64 → l < 64 → t * 2 + other < s * 2 + row
-    → costsAt other t + q * stateBlock + a * 64 + l < costsAt row s
+pub cost-before : (other t row s q a l : ℕ) → row ≤ 1 → q < 12 → a < poseSlots → l < maxLanes
+    → t * 2 + other < s * 2 + row → costsAt other t + q * stateBlock + a * maxLanes + l < costsAt row s
 cost-before other t row s q a l b h g k e = omega arith

@@ -2,15 +2,24 @@
 // in specs/Map.antt; its laws stand in specs/Places.antt.
 ghost use mathlib.Core.Path.{_≡_};
 ghost use Prim.Native.Nat.{_+_, _*_, _≤_};
-ghost use Rattle.search_store.specs.Map.{stateBlock, keptAt, costsAt, caseAt, pointerAt, CaseRow, CostRow};
+ghost use Rattle.search_store.specs.Map.{maxLanes, maxKept, stateBlock, keptAt, costsAt, caseAt, pointerAt};
+ghost use Rattle.search_store.specs.Map.{CaseRow, CostRow};
 
-// The words of a state in a layer, and of a layer: the poses of twelve states, 64 lanes each.
+// The words of a row of a table: one for each lane.
+pub const MAX_LANES: usize = 64;
+
+// The places for poses in a state of a layer, in a row of cases, and in a code: a state or a position, then a pose.
+pub const POSE_SLOTS: usize = 64;
+
+// The words of a state in a layer, and of a layer of twelve states.
 pub const STATE: usize = 4096;
 
 pub const LAYER: usize = 49152;
 
-// The words of a layer in one lane, and where the first of those that are kept would stand.
+// The words of a layer in one lane, how many can be kept, and where the first of them would stand.
 pub const KEPT_LAYER: usize = 768;
+
+pub const MAX_KEPT: usize = 66;
 
 const KEPT: usize = 97536;
 
@@ -30,14 +39,19 @@ const POINTERS: usize = 19968;
 // A pointer counts the states of row 0 in such steps, and those of row 1 in these; the rest is the pose.
 pub const POINTER_ROW_0: usize = 768;
 
-pub const POINTER_ROW_1: usize = 64;
+pub const POINTER_ROW_1: usize = POSE_SLOTS;
 
-// The words of the table in which the sources of a state are gathered, in all lanes.
+// The rows of a bucket, by the end site of a source, and its words in all lanes.
+pub const BUCKET_ROWS: usize = 19;
+
+pub const BUCKET_WORDS: usize = 1216;
+
+// The words of the table in which the sources of a state are gathered: 9 buckets.
 pub const TABLE: usize = 10944;
 
 // Where layer i is kept.
 pub fn kept_at(i: usize) -> usize
-    requires { ⌜ i ≤ 66 ⌝ }
+    requires { ⌜ i ≤ maxKept ⌝ }
     ensures { λ r. ⌜ r ≡ keptAt i ⌝ }
 {
     KEPT + i * KEPT_LAYER
@@ -48,7 +62,7 @@ pub fn case_at(i: usize, q0: usize, q1: usize) -> usize
     requires { ⌜ CaseRow i q0 q1 ⌝ }
     ensures { λ r. ⌜ r ≡ caseAt i q0 q1 ⌝ }
 {
-    PAGES + CASES + q0 * PAGE + q1 * CASE + i * 64
+    PAGES + CASES + q0 * PAGE + q1 * CASE + i * POSE_SLOTS
 }
 
 // Where the row of its back pointers begins.
@@ -62,7 +76,7 @@ pub fn pointer_at(i: usize, q0: usize, q1: usize) -> usize
 // Where the costs of start state s to state q in pose a begin, in a row.
 pub fn cost_at(row: usize, s: usize, q: usize, a: usize) -> usize
     requires { ⌜ CostRow row s q a ⌝ }
-    ensures { λ r. ⌜ r ≡ costsAt row s + q * stateBlock + a * 64 ⌝ }
+    ensures { λ r. ⌜ r ≡ costsAt row s + q * stateBlock + a * maxLanes ⌝ }
 {
-    PAGES + s * PAGE + row * LAYER + q * STATE + a * 64
+    PAGES + s * PAGE + row * LAYER + q * STATE + a * MAX_LANES
 }

@@ -5,6 +5,7 @@ use mathlib.Core.Logic.{_≢_, _⊎_, ⊎-elim, inl, inr}
 use mathlib.Core.List.{List}
 use native.Mathlib.Omega.{arith}
 use native.Mathlib.Decide.{decLt}
+use Rattle.search_store.specs.Map.{bucketRows, maxLanes}
 use Rattle.search_lanes.specs.Store.{Low}
 use Rattle.search_buckets.specs.Rows.{inRow, PaysLow}
 use Rattle.search_wide_buckets.specs.Table.{wordAt, FiveOrNine, Spread}
@@ -38,7 +39,7 @@ spread-join {f} {t} {least} {mid} {last} {first} {lanes} {old} {on} {new} p q s 
       other = λ l v r i a k. w .other l v r i a k ∙ s .other l v r i a k;
     }
   where
-    go : (j v r : ℕ) → j < lanes → least ≤ v → v < last → r < 19 → v ≤ 8 * r → Dec (v < mid)
+    go : (j v r : ℕ) → j < lanes → least ≤ v → v < last → r < bucketRows → v ≤ 8 * r → Dec (v < mid)
         → wordAt new (first + j) v r ≡ min (wordAt old (first + j) v r) (inRow t r (f v j))
     go j v r i a b k c (yes h) = w .rest j v r i (inl h) k ∙ s .done j v r i a h k c
     go j v r i a b k c (no h) =
@@ -58,7 +59,7 @@ spread-no-lane f t least last first w =
 
 pub spread-lane :
     {f : ℕ → ℕ → ℕ} {g : ℕ → ℕ → ℕ} {t least last first lanes : ℕ} {old mid new : List ℕ} (lane : ℕ)
-    → lane ≡ first + lanes → lane < 64 → ((v : ℕ) → g v 0 ≡ f v lanes) → Spread f t least last first lanes old mid
+    → lane ≡ first + lanes → lane < maxLanes → ((v : ℕ) → g v 0 ≡ f v lanes) → Spread f t least last first lanes old mid
     → Spread g t least last lane 1 mid new
     → Spread f t least last first (lanes + 1) old new
 spread-lane {f} {g} {t} {least} {last} {first} {lanes} {old} {mid} {new} lane z n e s w =
@@ -72,13 +73,13 @@ spread-lane {f} {g} {t} {least} {last} {first} {lanes} {old} {mid} {new} lane z 
     }
   where
     -- the lane that is new, and those before it
-    fresh : (v r : ℕ) → r < 19 → wordAt mid lane v r ≡ wordAt old lane v r
+    fresh : (v r : ℕ) → r < bucketRows → wordAt mid lane v r ≡ wordAt old lane v r
     fresh v r k = s .other lane v r n (inr (omega arith)) k
 
-    before : (l v r : ℕ) → l < lanes → r < 19 → wordAt new (first + l) v r ≡ wordAt mid (first + l) v r
+    before : (l v r : ℕ) → l < lanes → r < bucketRows → wordAt new (first + l) v r ≡ wordAt mid (first + l) v r
     before l v r i k = w .other (first + l) v r (omega arith) (inl (omega arith)) k
 
-    go : (l v r : ℕ) → l < lanes + 1 → least ≤ v → v < last → r < 19 → v ≤ 8 * r → Dec (l < lanes)
+    go : (l v r : ℕ) → l < lanes + 1 → least ≤ v → v < last → r < bucketRows → v ≤ 8 * r → Dec (l < lanes)
         → wordAt new (first + l) v r ≡ min (wordAt old (first + l) v r) (inRow t r (f v l))
     go l v r i a j k c (yes h) = before l v r h k ∙ s .done l v r h a j k c
     go l v r i a j k c (no h) =
@@ -89,7 +90,7 @@ spread-lane {f} {g} {t} {least} {last} {first} {lanes} {old} {mid} {new} lane z 
         let m = rw b at (fresh v r k) in
         rw y (d ∙ ap₂ (λ (p q : ℕ). min p (inRow t r q)) m (e v ∙ ap (f v) (sym x)))
 
-    keep : (l v r : ℕ) → l < lanes + 1 → (v < least) ⊎ (last ≤ v) → r < 19 → Dec (l < lanes)
+    keep : (l v r : ℕ) → l < lanes + 1 → (v < least) ⊎ (last ≤ v) → r < bucketRows → Dec (l < lanes)
         → wordAt new (first + l) v r ≡ wordAt old (first + l) v r
     keep l v r i j k (yes h) = before l v r h k ∙ s .rest l v r h j k
     keep l v r i j k (no h) =

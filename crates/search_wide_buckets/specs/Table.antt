@@ -1,11 +1,12 @@
--- The buckets in one table: 9 buckets of 19 rows of 64 lanes. What is given, and what the loops leave.
+-- The buckets in one table: 9 buckets of bucketRows rows of lanes. What is given, and what the loops leave.
 use Prim.Native.Nat.{ℕ, suc, _+_, _*_, _-_, _/_, _%_, _≤_, _<_, min}
 use mathlib.Core.Path.{_≡_}
 use mathlib.Core.Bool.{Bool, false}
 use mathlib.Core.Logic.{_⊎_}
 use mathlib.Core.List.{List}
 use lib.ListN.{length, getD}
-use Rattle.search_store.specs.Map.{stateBlock, tableWords}
+use Rattle.definition.specs.Job.{maxCells}
+use Rattle.search_store.specs.Map.{stateBlock, tableWords, bucketRows, bucketWords, maxLanes, maxPoses}
 use Rattle.lists.specs.Numbers.{from}
 use Rattle.theory_pair.specs.Coded.{lowest}
 use Rattle.theory_tables.specs.Steps.{B, Deck}
@@ -14,16 +15,17 @@ use Rattle.search_row.specs.Words.{wordOf, RowWords}
 use Rattle.search_buckets.specs.Gaps.{paying}
 use Rattle.search_buckets.specs.declared.Source.{Source}
 use Rattle.search_buckets.specs.Rows.{inRow, bucketIn, onePose, byPoses, oneState, byStates, found, Pays, PaysLow}
+use Rattle.search_buckets.specs.Rows.{payWords}
 
 -- the buckets of lane l
 abbrev pub wordAt : List ℕ → ℕ → ℕ → ℕ → ℕ
-wordAt table l v t = getD table (v * 1216 + t * 64 + l) 0
+wordAt table l v t = getD table (v * bucketWords + t * maxLanes + l) 0
 
 -- a row's cell at position k is asked about so many poses
 pub record PosesAsked (row : List ℕ) (k poses : ℕ) : Type 0 where
   pub words : RowWords row
-  pub cell : k < 64
-  pub few : poses ≤ 60
+  pub cell : k < maxCells
+  pub few : poses ≤ maxPoses
 
 -- of so many poses, it is offered none from n on
 pub record OfferedBelow (row : List ℕ) (k poses n : ℕ) : Type 0 where
@@ -38,8 +40,8 @@ pub record Lent (table : List ℕ) : Type 0 where
 -- the same for so many poses in so many lanes
 pub record TableFor (table : List ℕ) (poses lanes : ℕ) : Type 0 where
   pub lent : Lent table
-  pub few : poses ≤ 60
-  pub narrow : lanes ≤ 64
+  pub few : poses ≤ maxPoses
+  pub narrow : lanes ≤ maxLanes
 
 -- the same, so many buckets of it to be cleared
 pub record TableToClear (table : List ℕ) (buckets poses lanes : ℕ) : Type 0 where
@@ -86,11 +88,12 @@ pub record GatheredIf (used : Bool) (bucket : ℕ → ℕ → ℕ → ℕ) (rows
 pub record Spread (f : ℕ → ℕ → ℕ) (t least last first lanes : ℕ) (old new : List ℕ) : Type 0 where
   pub long : length new ≡ length old
   pub low : Low new
-  pub done : (j v s : ℕ) → j < lanes → least ≤ v → v < last → s < 19 → v ≤ 8 * s
+  pub done : (j v s : ℕ) → j < lanes → least ≤ v → v < last → s < bucketRows → v ≤ 8 * s
       → wordAt new (first + j) v s ≡ min (wordAt old (first + j) v s) (inRow t s (f v j))
-  pub rest : (j v s : ℕ) → j < lanes → (v < least) ⊎ (last ≤ v) → s < 19
+  pub rest : (j v s : ℕ) → j < lanes → (v < least) ⊎ (last ≤ v) → s < bucketRows
       → wordAt new (first + j) v s ≡ wordAt old (first + j) v s
-  pub other : (l v s : ℕ) → l < 64 → (l < first) ⊎ (first + lanes ≤ l) → s < 19 → wordAt new l v s ≡ wordAt old l v s
+  pub other : (l v s : ℕ) → l < maxLanes → (l < first) ⊎ (first + lanes ≤ l) → s < bucketRows
+      → wordAt new l v s ≡ wordAt old l v s
 
 -- a variant's pays for a row's lanes, by bucket
 abbrev pub chargedBy : List ℕ → ℕ → List ℕ → ℕ → ℕ → ℕ → ℕ
@@ -107,8 +110,8 @@ pub record LaneSpread (table pays : List ℕ) (n x u t lane : ℕ) : Type 0 wher
   pub needed : FiveOrNine n
   pub paid : PaysLow n pays
   pub kind : u < 4
-  pub here : t < 19
-  pub inside : lane < 64
+  pub here : t < bucketRows
+  pub inside : lane < maxLanes
 
 -- the same to the four buckets of a kind of gap, those from `first` on
 pub record NearSpread (table pays : List ℕ) (x u t lane first : ℕ) : Type 0 where
@@ -124,8 +127,8 @@ pub record RowSpread (table row pays : List ℕ) (n at u t lanes : ℕ) : Type 0
   pub needed : FiveOrNine n
   pub paid : PaysLow n pays
   pub kind : u < 4
-  pub here : t < 19
-  pub narrow : lanes ≤ 64
+  pub here : t < bucketRows
+  pub narrow : lanes ≤ maxLanes
 
 -- a table to be lowered by a source, what it pays being known
 pub record WideSource (table st row pays : List ℕ) (s : Source) (lanes : ℕ) : Type 0 where
@@ -133,30 +136,30 @@ pub record WideSource (table st row pays : List ℕ) (s : Source) (lanes : ℕ) 
   pub low : Low st
   pub tableLow : Low table
   pub tableLong : length table ≡ tableWords
-  pub narrow : lanes ≤ 64
+  pub narrow : lanes ≤ maxLanes
   pub room : s .at + stateBlock ≤ length st
-  pub left : s .left < 64
-  pub right : s .right < 64
+  pub left : s .left < maxCells
+  pub right : s .right < maxCells
   pub needed : FiveOrNine (s .buckets)
-  pub paid : Pays row (s .left) (s .right) (s .buckets) 36 pays
+  pub paid : Pays row (s .left) (s .right) (s .buckets) payWords pays
 
 -- the same by its pose b, in the rows below `rows`
 pub record PoseSource (table st row pays : List ℕ) (s : Source) (b rows lanes : ℕ) : Type 0 where
   pub source : WideSource table st row pays s lanes
-  pub pose : b < 60
-  pub few : rows ≤ 19
+  pub pose : b < maxPoses
+  pub few : rows ≤ bucketRows
 
 -- the same by its poses, so many
 pub record PosesSource (table st row pays : List ℕ) (s : Source) (poses rows lanes : ℕ) : Type 0 where
   pub source : WideSource table st row pays s lanes
-  pub offered : poses ≤ 60
-  pub few : rows ≤ 19
+  pub offered : poses ≤ maxPoses
+  pub few : rows ≤ bucketRows
 
 -- ---- sources in the store, l is the lane
 
 -- the costs of a cell's poses, whose rows begin at `at`
 abbrev pub rowIn : List ℕ → ℕ → ℕ → ℕ → ℕ
-rowIn st at l b = getD st (at + b * 64 + l) 0
+rowIn st at l b = getD st (at + b * maxLanes + l) 0
 
 -- pose b of the cell at position k for the cell at position m
 abbrev pub poseIn : List ℕ → List ℕ → ℕ → ℕ → ℕ → ℕ → ℕ → ℕ → ℕ → ℕ
@@ -187,9 +190,9 @@ foundIn buckets table a l =
 pub record RunUp (rows lanes : ℕ) (old new : List ℕ) : Type 0 where
   pub long : length new ≡ length old
   pub low : Low new
-  pub near : (l v t : ℕ) → l < lanes → 1 ≤ v → t < 19 → wordAt new l v t ≡ wordAt old l v t
+  pub near : (l v t : ℕ) → l < lanes → 1 ≤ v → t < bucketRows → wordAt new l v t ≡ wordAt old l v t
   pub far : (l t : ℕ) → l < lanes → t < rows → wordAt new l 0 t ≡ lowest B (wordAt old l 0) (from 0 (suc t))
-  pub rest : (l t : ℕ) → l < lanes → rows ≤ t → t < 19 → wordAt new l 0 t ≡ wordAt old l 0 t
+  pub rest : (l t : ℕ) → l < lanes → rows ≤ t → t < bucketRows → wordAt new l 0 t ≡ wordAt old l 0 t
 
 -- what every pose below `poses` finds is what it finds in the buckets
 pub record Ready (bucket : ℕ → ℕ → ℕ → ℕ) (poses buckets lanes : ℕ) (table : List ℕ) : Type 0 where
@@ -208,14 +211,14 @@ foundRowOf buckets row table k a l = foundRow buckets table (wordOf row k a) a l
 -- a table in which pose a looks up what it finds
 pub record PoseLooks (table : List ℕ) (a buckets : ℕ) : Type 0 where
   pub lent : Lent table
-  pub pose : a < 60
+  pub pose : a < maxPoses
   pub least : 5 ≤ buckets
   pub most : buckets ≤ 9
 
 -- the same in lane l
 pub record LaneLooks (table : List ℕ) (a l buckets : ℕ) : Type 0 where
   pub looks : PoseLooks table a buckets
-  pub inside : l < 64
+  pub inside : l < maxLanes
 
 -- the row of pose a is to be written, with the cell's own cost
 pub record ToRow (st table : List ℕ) (at a own buckets lanes : ℕ) : Type 0 where
@@ -223,7 +226,7 @@ pub record ToRow (st table : List ℕ) (at a own buckets lanes : ℕ) : Type 0 w
   pub cost : own ≤ B
   pub low : Low st
   pub room : at + lanes ≤ length st
-  pub narrow : lanes ≤ 64
+  pub narrow : lanes ≤ maxLanes
 
 -- rows to be written from a table of so many buckets
 pub record ToRows (st row table : List ℕ) (k buckets lanes : ℕ) : Type 0 where
@@ -231,8 +234,8 @@ pub record ToRows (st row table : List ℕ) (k buckets lanes : ℕ) : Type 0 whe
   pub low : Low st
   pub tableLow : Low table
   pub tableLong : length table ≡ tableWords
-  pub narrow : lanes ≤ 64
-  pub cell : k < 64
+  pub narrow : lanes ≤ maxLanes
+  pub cell : k < maxCells
   pub least : 5 ≤ buckets
   pub most : buckets ≤ 9
 
@@ -240,10 +243,10 @@ pub record ToRows (st row table : List ℕ) (k buckets lanes : ℕ) : Type 0 whe
 pub record PoseToRow (st row table : List ℕ) (at k a buckets lanes : ℕ) : Type 0 where
   pub rows : ToRows st row table k buckets lanes
   pub room : at + lanes ≤ length st
-  pub pose : a < 60
+  pub pose : a < maxPoses
 
 -- the rows of so many poses, one after the other
 pub record PosesToRows (st row table : List ℕ) (at k poses buckets lanes : ℕ) : Type 0 where
   pub rows : ToRows st row table k buckets lanes
-  pub room : at + poses * 64 ≤ length st
-  pub few : poses ≤ 60
+  pub room : at + poses * maxLanes ≤ length st
+  pub few : poses ≤ maxPoses

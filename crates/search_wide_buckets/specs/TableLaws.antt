@@ -10,7 +10,7 @@ use borrow.Author.Count.{below-more}
 use lib.ListN.{length, getD, replicate, length-replicate}
 use lib.Dec.{eqb}
 use Rattle.search_lanes.specs.Lowered.{LoweredAt, lowered-at-low}
-use Rattle.search_store.specs.Map.{tableWords}
+use Rattle.search_store.specs.Map.{tableWords, bucketRows, bucketWords, maxLanes, maxPoses}
 use Rattle.theory_tables.specs.Steps.{B}
 use Rattle.lists.specs.Numbers.{from}
 use Rattle.theory_pair.specs.Coded.{lowest, lowest-from}
@@ -49,7 +49,8 @@ cleared-none rows lanes h w = record { long = h; low = w; none = λ l u t i j k.
 -- one bucket more
 pub cleared-more :
     {rows lanes : ℕ} {old new : List ℕ} (v : ℕ)
-    → rows ≤ 19 → lanes ≤ 64 → Cleared rows lanes v old → WrittenRows (alwaysRows B) (v * 1216) rows lanes old new
+    → rows ≤ bucketRows → lanes ≤ maxLanes → Cleared rows lanes v old
+    → WrittenRows (alwaysRows B) (v * bucketWords) rows lanes old new
     → Cleared rows lanes (v + 1) new
 cleared-more {rows} {lanes} {new = new} v h n c w =
     record {
@@ -57,7 +58,7 @@ cleared-more {rows} {lanes} {new = new} v h n c w =
       low = w .low;
       none = λ l u t i j k.
           below-more (λ (u : ℕ). wordAt new l u t ≡ B) v
-          (λ u j. w .frame .low (u * 1216 + t * 64 + l) (omega arith) ∙ c .none l u t i j k)
+          (λ u j. w .frame .low (u * bucketWords + t * maxLanes + l) (omega arith) ∙ c .none l u t i j k)
           (w .words t l (omega arith) i)
           u j;
     }
@@ -74,7 +75,7 @@ spread-none f t least last first lanes {table} w h =
       long = refl;
       low = w;
       done = λ l v s i b j k c.
-          omega (arith, w .word (v * 1216 + s * 64 + (first + l)), row-miss t s (f v l) (h v s b j c));
+          omega (arith, w .word (v * bucketWords + s * maxLanes + (first + l)), row-miss t s (f v l) (h v s b j c));
       rest = λ l v s i j k. refl;
       other = λ l v s i j k. refl;
     }
@@ -82,8 +83,8 @@ spread-none f t least last first lanes {table} w h =
 -- one bucket more
 pub spread-more :
     {f : ℕ → ℕ → ℕ} {t least first lanes : ℕ} {old mid new : List ℕ} (v : ℕ)
-    → first + lanes ≤ 64 → t < 19 → least ≤ v → Low old → Spread f t least v first lanes old mid
-    → LoweredAt (f v) (v * 1216 + t * 64 + first) lanes mid new
+    → first + lanes ≤ maxLanes → t < bucketRows → least ≤ v → Low old → Spread f t least v first lanes old mid
+    → LoweredAt (f v) (v * bucketWords + t * maxLanes + first) lanes mid new
     → Spread f t least (v + 1) first lanes old new
 spread-more {f} {t} {least} {first} {lanes} {old} {mid} {new} v n h c b s w =
     record {
@@ -99,12 +100,12 @@ spread-more {f} {t} {least} {first} {lanes} {old} {mid} {new} v n h c b s w =
     }
   where
     away :
-        (l u r : ℕ) → (v * 1216 + t * 64 + first ≤ u * 1216 + r * 64 + l
-        → v * 1216 + t * 64 + first + lanes ≤ u * 1216 + r * 64 + l)
+        (l u r : ℕ) → (v * bucketWords + t * maxLanes + first ≤ u * bucketWords + r * maxLanes + l
+        → v * bucketWords + t * maxLanes + first + lanes ≤ u * bucketWords + r * maxLanes + l)
         → wordAt new l u r ≡ wordAt mid l u r
-    away l u r e = frame-other (u * 1216 + r * 64 + l) (w .frame) e
+    away l u r e = frame-other (u * bucketWords + r * maxLanes + l) (w .frame) e
 
-    go : (l u r : ℕ) → l < lanes → least ≤ u → u < v + 1 → r < 19 → u ≤ 8 * r → Dec (u ≡ v) → Dec (r ≡ t)
+    go : (l u r : ℕ) → l < lanes → least ≤ u → u < v + 1 → r < bucketRows → u ≤ 8 * r → Dec (u ≡ v) → Dec (r ≡ t)
         → wordAt new (first + l) u r ≡ min (wordAt old (first + l) u r) (inRow t r (f u l))
     go l u r i p j k g (no d) x = away (first + l) u r (λ e. omega arith) ∙ s .done l u r i p (omega arith) k g
     go l u r i p j k g (yes e) (no d) =
@@ -113,19 +114,21 @@ spread-more {f} {t} {least} {first} {lanes} {old} {mid} {new} v n h c b s w =
           away (first + l) u r (λ z. omega arith),
           s .rest l u r i (inr (omega arith)) k,
           row-miss t r (f u l) (λ z. omega arith),
-          b .word (u * 1216 + r * 64 + (first + l)),
+          b .word (u * bucketWords + r * maxLanes + (first + l)),
         )
     go l u r i p j k g (yes e) (yes d) =
-        let z : getD new (v * 1216 + t * 64 + (first + l)) 0 ≡ getD new (v * 1216 + t * 64 + first + l) 0 =
+        let z : getD new (v * bucketWords + t * maxLanes + (first + l)) 0
+        ≡ getD new (v * bucketWords + t * maxLanes + first + l) 0 =
         ap (λ (k : ℕ). getD new k 0) (omega arith) in
-        let y : getD mid (v * 1216 + t * 64 + (first + l)) 0 ≡ getD mid (v * 1216 + t * 64 + first + l) 0 =
+        let y : getD mid (v * bucketWords + t * maxLanes + (first + l)) 0
+        ≡ getD mid (v * bucketWords + t * maxLanes + first + l) 0 =
         ap (λ (k : ℕ). getD mid k 0) (omega arith) in
         rw (e, d) (omega (arith, w .done l i, s .rest l v t i (inr (omega arith)) h, row-hit t t (f v l) refl))
 
 -- all buckets, in all lanes: the source is gathered
 pub spread-all :
     {f : ℕ → ℕ → ℕ} {bucket : ℕ → ℕ → ℕ → ℕ} {t rows buckets lanes : ℕ} {old new : List ℕ}
-    → rows ≤ 19 → Spread f t 0 buckets 0 lanes old new
+    → rows ≤ bucketRows → Spread f t 0 buckets 0 lanes old new
     → ((l v s : ℕ) → l < lanes → v < buckets → bucket l v s ≡ inRow t s (f v l))
     → Gathered bucket rows buckets lanes old new
 spread-all {old = old} {new = new} h s e =
@@ -143,13 +146,15 @@ spread-all {old = old} {new = new} h s e =
 -- the words that foundIn names: `near` those of gap 0, `other` those of gaps 2 and 3, `far` the rows that ran up
 pub found-words :
     {table : List ℕ} (buckets a l near other far : ℕ)
-    → Low table → far ≡ a / 4 * 64 + l → near ≡ (1 + a % 4) * 1216 + far → other ≡ (buckets - 4 + a % 4) * 1216 + far
-    → min (min (getD table (near + 256) 0) (min (getD table (other + 128) 0) (getD table (other + 64) 0)))
-    (getD table far 0) ≡ foundIn buckets table a l
+    → Low table → far ≡ a / 4 * maxLanes + l → near ≡ (1 + a % 4) * bucketWords + far
+    → other ≡ (buckets - 4 + a % 4) * bucketWords + far
+    → min (min (getD table (near + 4 * maxLanes) 0)
+    (min (getD table (other + 2 * maxLanes) 0) (getD table (other + maxLanes) 0))) (getD table far 0)
+    ≡ foundIn buckets table a l
 unfolding lowest
 found-words {table} buckets a l near other far w p q o =
     let at : ℕ → ℕ = λ k. getD table k 0 in
-    let z : at (other + 64) ≡ min (at (other + 64)) B = omega (arith, w .word (other + 64)) in
+    let z : at (other + maxLanes) ≡ min (at (other + maxLanes)) B = omega (arith, w .word (other + maxLanes)) in
     ap₂ min
     (ap₂ min (ap at (omega arith)) (ap₂ min (ap at (omega arith)) (z ∙ ap (λ (k : ℕ). min (at k) B) (omega arith))))
     (ap at (omega arith))
@@ -161,13 +166,14 @@ run-none lanes {table} w =
     record { long = refl; low = w; near = λ l v t i j k. refl; far = λ l t i j. go l t j; rest = λ l t i j k. refl }
   where
     go : (l t : ℕ) → t < 1 → wordAt table l 0 t ≡ lowest B (wordAt table l 0) (from 0 (suc t))
-    go l zero h = omega (arith, w .word (0 * 1216 + 0 * 64 + l))
+    go l zero h = omega (arith, w .word (0 * bucketWords + 0 * maxLanes + l))
     go l (suc t) h = absurd (omega arith)
 
 -- one row more
 pub run-more :
     {lanes : ℕ} {old mid new : List ℕ} (t : ℕ)
-    → lanes ≤ 64 → t < 18 → RunUp (t + 1) lanes old mid → LoweredAt (wordsFrom mid (t * 64)) (64 + t * 64) lanes mid new
+    → lanes ≤ maxLanes → t + 1 < bucketRows → RunUp (t + 1) lanes old mid
+    → LoweredAt (wordsFrom mid (t * maxLanes)) (maxLanes + t * maxLanes) lanes mid new
     → RunUp (t + 1 + 1) lanes old new
 run-more {lanes} {old} {mid} {new} t n g s w =
     record {
@@ -183,16 +189,19 @@ run-more {lanes} {old} {mid} {new} t n g s w =
       rest = λ l r i j k. away l 0 r i (λ e. omega arith) ∙ s .rest l r i (omega arith) k;
     }
   where
-    away : (l u r : ℕ) → l < lanes → (64 + t * 64 ≤ u * 1216 + r * 64 + l → 64 + t * 64 + lanes ≤ u * 1216 + r * 64 + l)
+    away : (l u r : ℕ) → l < lanes
+        → (maxLanes + t * maxLanes ≤ u * bucketWords + r * maxLanes + l
+        → maxLanes + t * maxLanes + lanes ≤ u * bucketWords + r * maxLanes + l)
         → wordAt new l u r ≡ wordAt mid l u r
-    away l u r i e = frame-other (u * 1216 + r * 64 + l) (w .frame) e
+    away l u r i e = frame-other (u * bucketWords + r * maxLanes + l) (w .frame) e
 
     last : (l : ℕ) → l < lanes → wordAt new l 0 (t + 1) ≡ lowest B (wordAt old l 0) (from 0 (suc (t + 1)))
     last l i =
         let at : ℕ → ℕ = λ k. getD new k 0 in
-        let x : wordAt new l 0 (t + 1) ≡ getD new (64 + t * 64 + l) 0 = ap at (omega arith) in
-        let y : getD mid (64 + t * 64 + l) 0 ≡ wordAt mid l 0 (t + 1) = ap (λ (k : ℕ). getD mid k 0) (omega arith) in
-        let v : getD mid (t * 64 + l) 0 ≡ wordAt mid l 0 t = ap (λ (k : ℕ). getD mid k 0) (omega arith) in
+        let x : wordAt new l 0 (t + 1) ≡ getD new (maxLanes + t * maxLanes + l) 0 = ap at (omega arith) in
+        let y : getD mid (maxLanes + t * maxLanes + l) 0 ≡ wordAt mid l 0 (t + 1) =
+        ap (λ (k : ℕ). getD mid k 0) (omega arith) in
+        let v : getD mid (t * maxLanes + l) 0 ≡ wordAt mid l 0 t = ap (λ (k : ℕ). getD mid k 0) (omega arith) in
         let z : wordAt old l 0 (0 + (t + 1)) ≡ wordAt old l 0 (t + 1) = ap (wordAt old l 0) (omega arith) in
         let e : lowest B (wordAt old l 0) (from 0 (suc t)) ≡ lowest B (wordAt old l 0) (from 0 (t + 1)) =
         ap (λ (k : ℕ). lowest B (wordAt old l 0) (from 0 k)) (omega arith) in
@@ -205,7 +214,7 @@ run-more {lanes} {old} {mid} {new} t n g s w =
         )
 
 pub found-small : {table : List ℕ} (buckets a l : ℕ) → Low table → foundIn buckets table a l ≤ B
-found-small buckets a l w = omega (arith, w .word (0 * 1216 + a / 4 * 64 + l))
+found-small buckets a l w = omega (arith, w .word (0 * bucketWords + a / 4 * maxLanes + l))
 
 -- ---- many sources
 
@@ -218,7 +227,7 @@ gathered-none rows buckets lanes {table} w h =
     record {
       long = refl;
       low = w;
-      done = λ l v t i j k g. omega (arith, w .word (v * 1216 + t * 64 + l), h l v t i j k);
+      done = λ l v t i j k g. omega (arith, w .word (v * bucketWords + t * maxLanes + l), h l v t i j k);
     }
 
 -- one after the other
@@ -280,7 +289,7 @@ rows-on g w =
 -- so many buckets are filled, and the last four of them are the buckets of gaps 2 and 3
 module _
     {bucket : ℕ → ℕ → ℕ → ℕ} {poses buckets lanes : ℕ} {clear table : List ℕ}
-    (few : poses ≤ 60) (least : 5 ≤ buckets) (most : buckets ≤ 9)
+    (few : poses ≤ maxPoses) (least : 5 ≤ buckets) (most : buckets ≤ 9)
     (low : (l v t : ℕ) → bucket l v t ≤ B)
     (last : (l v t : ℕ) → v < 4 → bucket l (buckets - 4 + v) t ≡ bucket l (5 + v) t)
     (none : Cleared (rowsOf poses) lanes buckets clear) (w : Gathered bucket (rowsOf poses) buckets lanes clear table)

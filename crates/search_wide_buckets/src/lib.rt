@@ -1,9 +1,9 @@
-// Sources gathered by their end site, for one target cell: a table of 9 buckets of 19 rows of 64 lanes, bucket v from
-// 1216 v on (crate buckets tells what the buckets are). Row t has the sources that end at the target's first site - 4 +
-// t, row 0 those further left too. Bucket 0 has them by themselves, buckets 1 to 4 with what they pay at gap 0 to each
-// variant of the target, buckets 5 to 8 with what they pay at gaps 2 and 3. A target whose weights are all equal needs
-// 5 buckets: buckets 1 to 4 serve for gaps 2 and 3 too. Only the rows that some pose looks at count; a target that is
-// offered nothing right of its first site, as a fixed cell is, has fewer of them.
+// Sources gathered by their end site, for one target cell: a table of 9 buckets of BUCKET_ROWS rows of lanes, bucket v
+// from v * BUCKET_WORDS on (crate search_buckets tells what the buckets are). Row t has the sources that end at the
+// target's first site - 4 + t, row 0 those further left too. Bucket 0 has them by themselves, buckets 1 to 4 with what
+// they pay at gap 0 to each variant of the target, buckets 5 to 8 with what they pay at gaps 2 and 3. A target whose
+// weights are all equal needs 5 buckets: buckets 1 to 4 serve for gaps 2 and 3 too. Only the rows that some pose looks
+// at count; a target that is offered nothing right of its first site, as a fixed cell is, has fewer of them.
 ghost use mathlib.Core.Path.{_≡_};
 ghost use Prim.Native.Nat.{_+_, _-_};
 ghost use Rattle.search_lanes.specs.Lowered.{LoweredAt};
@@ -43,7 +43,13 @@ pub fn reset(table: &mut [u32; search_store::TABLE], buckets: usize, poses: usiz
     let rows = search_buckets::rows_of(poses);
     let mut v: usize = 0;
     while v < buckets {
-        search_lanes::fill_rows(table, v * 1216, rows, lanes, search_lanes::NONE);
+        search_lanes::fill_rows(
+            table,
+            v * search_store::BUCKET_WORDS,
+            rows,
+            lanes,
+            search_lanes::NONE,
+        );
         v += 1;
     }
 }
@@ -63,7 +69,7 @@ fn lower_one(table: &mut [u32; search_store::TABLE], to: usize, x: u32)
 fn spread_near(
     table: &mut [u32; search_store::TABLE],
     x: u32,
-    pays: &[u32; 36],
+    pays: &[u32; search_buckets::PAY_WORDS],
     u: usize,
     t: usize,
     lane: usize,
@@ -80,7 +86,7 @@ fn spread_near(
     while v < 4 {
         lower_one(
             table,
-            (first + v) * 1216 + t * 64 + lane,
+            (first + v) * search_store::BUCKET_WORDS + t * search_store::MAX_LANES + lane,
             x + pays[u * 9 + (first + v)],
         );
         v += 1;
@@ -91,7 +97,7 @@ fn spread_near(
 fn spread_one(
     table: &mut [u32; search_store::TABLE],
     x: u32,
-    pays: &[u32; 36],
+    pays: &[u32; search_buckets::PAY_WORDS],
     u: usize,
     t: usize,
     lane: usize,
@@ -100,7 +106,7 @@ fn spread_one(
     ensures { λ _. ⌜ Spread (chargedOne x (now (pays .entry)) u) t 0 5 lane 1 (now (table .entry))
         (now (table .exit)) ⌝ }
 {
-    lower_one(table, t * 64 + lane, x + pays[u * 9]);
+    lower_one(table, t * search_store::MAX_LANES + lane, x + pays[u * 9]);
     spread_near(table, x, pays, u, t, lane, 1);
 }
 
@@ -108,7 +114,7 @@ fn spread_one(
 pub fn spread_lane(
     table: &mut [u32; search_store::TABLE],
     x: u32,
-    pays: &[u32; 36],
+    pays: &[u32; search_buckets::PAY_WORDS],
     u: usize,
     t: usize,
     lane: usize,
@@ -131,7 +137,7 @@ fn spread(
     table: &mut [u32; search_store::TABLE],
     row: &[u32],
     at: usize,
-    pays: &[u32; 36],
+    pays: &[u32; search_buckets::PAY_WORDS],
     u: usize,
     t: usize,
     lanes: usize,
@@ -152,7 +158,7 @@ fn spread_apart(
     table: &mut [u32; search_store::TABLE],
     row: &[u32],
     at: usize,
-    pays: &[u32; 36],
+    pays: &[u32; search_buckets::PAY_WORDS],
     u: usize,
     t: usize,
     lanes: usize,
@@ -173,7 +179,7 @@ fn spread_row(
     table: &mut [u32; search_store::TABLE],
     row: &[u32],
     at: usize,
-    pays: &[u32; 36],
+    pays: &[u32; search_buckets::PAY_WORDS],
     u: usize,
     t: usize,
     buckets: usize,
@@ -195,7 +201,7 @@ fn from_pose(
     table: &mut [u32; search_store::TABLE],
     store: &[u32],
     row: &[u32],
-    pays: &[u32; 36],
+    pays: &[u32; search_buckets::PAY_WORDS],
     source: Source,
     b: usize,
     rows: usize,
@@ -210,13 +216,15 @@ fn from_pose(
     if t >= rows {
         return false;
     }
-    if search_lanes::common(store, source.at + b * 64, lanes) >= search_lanes::NONE {
+    if search_lanes::common(store, source.at + b * search_store::MAX_LANES, lanes)
+        >= search_lanes::NONE
+    {
         return false;
     }
     spread_row(
         table,
         store,
-        source.at + b * 64,
+        source.at + b * search_store::MAX_LANES,
         pays,
         b % 4,
         t,
@@ -231,7 +239,7 @@ pub fn from_poses(
     table: &mut [u32; search_store::TABLE],
     store: &[u32],
     row: &[u32],
-    pays: &[u32; 36],
+    pays: &[u32; search_buckets::PAY_WORDS],
     source: Source,
     poses: usize,
     rows: usize,
@@ -276,7 +284,12 @@ pub fn run_up(table: &mut [u32; search_store::TABLE], poses: usize, lanes: usize
     let last = (poses + 3) / 4;
     let mut t: usize = 0;
     while t < last {
-        lower_by(table, 64 + t * 64, t * 64, lanes);
+        lower_by(
+            table,
+            search_store::MAX_LANES + t * search_store::MAX_LANES,
+            t * search_store::MAX_LANES,
+            lanes,
+        );
         t += 1;
     }
 }
@@ -286,11 +299,17 @@ fn found_lane(table: &[u32; search_store::TABLE], a: usize, l: usize, buckets: u
     requires { ⌜ LaneLooks (now table) a l buckets ⌝ }
     ensures { λ x. ⌜ x ≡ foundIn buckets (now (table .entry)) a l ⌝ }
 {
-    let far = a / 4 * 64 + l;
-    let near = (1 + a % 4) * 1216 + far;
-    let other = (buckets - 4 + a % 4) * 1216 + far;
-    let apart = search_lanes::lesser(table[other + 128], table[other + 64]);
-    search_lanes::lesser(search_lanes::lesser(table[near + 256], apart), table[far])
+    let far = a / 4 * search_store::MAX_LANES + l;
+    let near = (1 + a % 4) * search_store::BUCKET_WORDS + far;
+    let other = (buckets - 4 + a % 4) * search_store::BUCKET_WORDS + far;
+    let apart = search_lanes::lesser(
+        table[other + 2 * search_store::MAX_LANES],
+        table[other + search_store::MAX_LANES],
+    );
+    search_lanes::lesser(
+        search_lanes::lesser(table[near + 4 * search_store::MAX_LANES], apart),
+        table[far],
+    )
 }
 
 // A target's row: what its pose finds, with the cell's own cost, capped.
@@ -357,7 +376,16 @@ pub fn put_rows(
 {
     let mut a: usize = 0;
     while a < poses {
-        put_pose(store, row, table, at + a * 64, k, a, buckets, lanes);
+        put_pose(
+            store,
+            row,
+            table,
+            at + a * search_store::MAX_LANES,
+            k,
+            a,
+            buckets,
+            lanes,
+        );
         a += 1;
     }
 }

@@ -6,7 +6,8 @@ use mathlib.Core.Bool.{Bool, not, _&&_}
 use mathlib.Core.List.{List}
 use lib.ListN.{length, getD}
 use lib.Dec.{eqb}
-use Rattle.search_store.specs.Map.{keptFrom, layerBlock}
+use Rattle.definition.specs.Job.{maxCells}
+use Rattle.search_store.specs.Map.{keptFrom, layerBlock, maxLanes, maxPoses}
 use Rattle.theory_tables.specs.Steps.{Deck, lastAt, ends, costEnd}
 use Rattle.search_lanes.specs.Lanes.{LaneWords}
 use Rattle.search_lanes.specs.Store.{Frame, Low, layerIn}
@@ -73,9 +74,9 @@ pub record PosesGiven (acc row st : List ℕ) (at q k poses lanes : ℕ) : Type 
   pub least : LaneWords acc
   pub room : at + layerBlock ≤ length st
   pub state : q < 12
-  pub cell : k < 64
-  pub few : poses ≤ 60
-  pub narrow : lanes ≤ 64
+  pub cell : k < maxCells
+  pub few : poses ≤ maxPoses
+  pub narrow : lanes ≤ maxLanes
 
 -- a segment to the row's end, and what the start of each lane pays as the last
 pub record SegmentToEnd (table row st starts : List ℕ) (z : Sizes) (lanes i costs : ℕ) : Type 0 where
@@ -93,7 +94,7 @@ pub record Ran (D : Deck) (R lanes i d at : ℕ) (old new table : List ℕ) : Ty
 
 -- the costs to the row's end, a word for each lane; `starts` has what the start of each lane pays as the last
 pub record Ended (D : Deck) (R lanes i costs : ℕ) (starts old new table : List ℕ) : Type 0 where
-  pub outside : Outside costs 64 old new
+  pub outside : Outside costs maxLanes old new
   pub low : Low new
   pub lent : Lent table
   pub right : (l : ℕ) → l < lanes → getD new (costs + l) 0 ≡ costEnd D R (layerIn old 0 l) i (getD starts l 0)

@@ -6,7 +6,7 @@ use mathlib.Core.List.{List}
 use native.Mathlib.Omega.{arith}
 use lib.ListN.{getD}
 use lib.Dec.{leb, eqb}
-use Rattle.search_store.specs.Map.{keptFrom, layerBlock}
+use Rattle.search_store.specs.Map.{keptFrom, layerBlock, maxLanes}
 use Rattle.theory_tables.specs.Steps.{B, Deck, Layer, stateCount, lastAt, layers, ends, costEnd}
 use Rattle.theory_tables.specs.Spots.{and-both}
 use Rattle.search_lanes.specs.Store.{Written, layerIn}
@@ -64,7 +64,7 @@ ran-more c r m =
 -- where no layer is left to run through
 pub end-words :
     {D : Deck} {R lanes i costs : ℕ} {g : ℕ → ℕ} {starts old new table : List ℕ}
-    → lanes ≤ 64 → Lent table → Written g costs lanes old new
+    → lanes ≤ maxLanes → Lent table → Written g costs lanes old new
     → ((f : Layer) (l : ℕ) → costEnd D R f i (getD starts l 0) ≡ g l)
     → Ended D R lanes i costs starts old new table
 end-words {old = old} n t w e =

@@ -54,7 +54,7 @@ fn ends_with(row: &[u32], sizes: Sizes, q: usize) -> bool
 
 // The least of all poses of state q, in each lane; its cell is at position k, and each pose pays as the row's last.
 fn least_poses(
-    acc: &mut [u32; 64],
+    acc: &mut [u32; search_store::MAX_LANES],
     store: &[u32],
     row: &[u32],
     at: usize,
@@ -72,7 +72,7 @@ fn least_poses(
         search_lanes::relax(
             acc,
             store,
-            at + q * search_store::STATE + a * 64,
+            at + q * search_store::STATE + a * search_store::MAX_LANES,
             search_row::back(row, k, a),
             lanes,
         );
@@ -82,7 +82,7 @@ fn least_poses(
 
 // The same, if its cell can be the last.
 fn least_state(
-    acc: &mut [u32; 64],
+    acc: &mut [u32; search_store::MAX_LANES],
     store: &[u32],
     row: &[u32],
     sizes: Sizes,
@@ -103,7 +103,7 @@ fn least_state(
 
 // The least of all states.
 fn least_states(
-    acc: &mut [u32; 64],
+    acc: &mut [u32; search_store::MAX_LANES],
     store: &[u32],
     row: &[u32],
     sizes: Sizes,
@@ -127,7 +127,7 @@ fn put_ends(store: &mut [u32], row: &[u32], sizes: Sizes, lanes: usize, at: usiz
     ensures { λ _. ⌜ Written (endsIn (deckIn (now (row .entry)) sizes) (sizes .reordering)
         (now (store .entry)) at) costs lanes (now (store .entry)) (now (store .exit)) ⌝ }
 {
-    let mut acc = [search_lanes::NONE; 64];
+    let mut acc = [search_lanes::NONE; search_store::MAX_LANES];
     least_states(&mut acc, store, row, sizes, lanes, at);
     search_lanes::put(store, costs, &acc, 0, lanes);
 }
@@ -139,7 +139,7 @@ pub fn segment_end(
     store: &mut [u32],
     row: &[u32],
     sizes: Sizes,
-    starts: &[u32; 64],
+    starts: &[u32; search_store::MAX_LANES],
     lanes: usize,
     i: usize,
     costs: usize,

@@ -2,7 +2,9 @@
 use Prim.Native.Nat.{ℕ, _+_, _*_, _≤_, _<_, min}
 use mathlib.Core.List.{List}
 use lib.ListN.{length}
+use Rattle.definition.specs.Job.{maxCells}
 use Rattle.theory_tables.specs.Steps.{B, Deck, Layer, firstAfter}
+use Rattle.search_store.specs.Map.{maxLanes, maxPoses}
 use Rattle.search_lanes.specs.Store.{Low, WrittenRows}
 use Rattle.search_row.specs.declared.Sizes.{Sizes}
 use Rattle.search_row.specs.Words.{wordOf, tollIn, RowWords}
@@ -24,7 +26,7 @@ afterFrom D R i m p l q a = firstAfter D R i m p l q a
 pub record FirstGiven (table row st : List ℕ) (z : Sizes) (lanes i to p q : ℕ) : Type 0 where
   pub lent : Lent table
   pub given : Given row st z lanes i to
-  pub start : p < 64
+  pub start : p < maxCells
   pub state : q < z .states
 
 -- the rows of one of its states, whose cell is at position k, are to be written from `at` on
@@ -32,11 +34,11 @@ pub record FirstRows (table row st : List ℕ) (at p k poses lanes : ℕ) : Type
   pub lent : Lent table
   pub words : RowWords row
   pub low : Low st
-  pub room : at + poses * 64 ≤ length st
-  pub start : p < 64
-  pub narrow : lanes ≤ 64
-  pub cell : k < 64
-  pub few : poses ≤ 60
+  pub room : at + poses * maxLanes ≤ length st
+  pub start : p < maxCells
+  pub narrow : lanes ≤ maxLanes
+  pub cell : k < maxCells
+  pub few : poses ≤ maxPoses
 
 -- ---- what is left
 

@@ -8,10 +8,12 @@ use native.Mathlib.Omega.{arith}
 use native.Mathlib.Decide.{ℕ-discrete, decLt}
 use lib.ListN.{length}
 use lib.Dec.{eqb}
+use Rattle.definition.specs.Job.{maxCells}
 use Rattle.theory_tables.specs.Steps.{B}
+use Rattle.search_store.specs.Map.{bucketRows, bucketWords, maxLanes}
 use Rattle.search_lanes.specs.Store.{Low}
 use Rattle.search_row.specs.Words.{wordOf, RowWords}
-use Rattle.search_buckets.specs.Rows.{inRow, bucketsIn, endRow, payIn, onePose, Pays}
+use Rattle.search_buckets.specs.Rows.{inRow, bucketsIn, endRow, payIn, onePose, Pays, payWords}
 use Rattle.search_buckets.specs.Laws.{row-miss, pay-small, found-one}
 use Rattle.search_buckets.specs.Sources.{pose-twin, buckets-last}
 use Rattle.search_wide_buckets.specs.Table.{wordAt, Lent, FiveOrNine, Spread, Gathered, Ready, foundRow}
@@ -25,21 +27,21 @@ startIn row p k l = onePose row p k l 0
 pub record Starting (table row : List ℕ) (p k rows buckets : ℕ) : Type 0 where
   pub lent : Lent table
   pub words : RowWords row
-  pub start : p < 64
-  pub cell : k < 64
-  pub few : rows ≤ 19
+  pub start : p < maxCells
+  pub cell : k < maxCells
+  pub few : rows ≤ bucketRows
   pub needed : FiveOrNine buckets
 
 -- the same in so many lanes
 pub record StartingLanes (table row : List ℕ) (p k rows buckets lanes : ℕ) : Type 0 where
   pub starting : Starting table row p k rows buckets
-  pub narrow : lanes ≤ 64
+  pub narrow : lanes ≤ maxLanes
 
 -- the same for lane l, what the start pays being known
 pub record StartingLane (table row pays : List ℕ) (p k rows buckets l : ℕ) : Type 0 where
   pub starting : Starting table row p k rows buckets
-  pub paid : Pays row p k buckets 36 pays
-  pub lane : l < 64
+  pub paid : Pays row p k buckets payWords pays
+  pub lane : l < maxLanes
 
 -- one lane's buckets are lowered, in the rows that count; the other lanes are as they were
 pub record Started (bucket : ℕ → ℕ → ℕ) (rows buckets lane : ℕ) (old new : List ℕ) : Type 0 where
@@ -47,7 +49,7 @@ pub record Started (bucket : ℕ → ℕ → ℕ) (rows buckets lane : ℕ) (old
   pub low : Low new
   pub done : (v t : ℕ) → v < buckets → t < rows → v ≤ 8 * t
       → wordAt new lane v t ≡ min (wordAt old lane v t) (bucket v t)
-  pub other : (l v t : ℕ) → l < 64 → l ≢ lane → t < rows → wordAt new l v t ≡ wordAt old l v t
+  pub other : (l v t : ℕ) → l < maxLanes → l ≢ lane → t < rows → wordAt new l v t ≡ wordAt old l v t
 
 -- the lanes below n
 pub record StartedTo (bucket : ℕ → ℕ → ℕ → ℕ) (rows buckets n : ℕ) (old new : List ℕ) : Type 0 where
@@ -55,7 +57,7 @@ pub record StartedTo (bucket : ℕ → ℕ → ℕ → ℕ) (rows buckets n : �
   pub low : Low new
   pub done : (l v t : ℕ) → l < n → v < buckets → t < rows → v ≤ 8 * t
       → wordAt new l v t ≡ min (wordAt old l v t) (bucket l v t)
-  pub rest : (l v t : ℕ) → n ≤ l → l < 64 → t < rows → wordAt new l v t ≡ wordAt old l v t
+  pub rest : (l v t : ℕ) → n ≤ l → l < maxLanes → t < rows → wordAt new l v t ≡ wordAt old l v t
 
 -- ---- one lane
 
@@ -69,7 +71,7 @@ started-out row {table} p k b {lane = lane} w h =
       low = w;
       done = λ v t i j g. omega (
         arith,
-        w .word (v * 1216 + t * 64 + lane),
+        w .word (v * bucketWords + t * maxLanes + lane),
         row-miss (endRow row p b k) t (0 + payIn row p b k v) (λ e. omega arith),
       );
       other = λ l v t i j k. refl;
@@ -78,7 +80,8 @@ started-out row {table} p k b {lane = lane} w h =
 -- a start in row t
 pub started-in :
     {f bucket : ℕ → ℕ → ℕ} {t rows buckets lane : ℕ} {old new : List ℕ}
-    → rows ≤ 19 → Spread f t 0 buckets lane 1 old new → ((v s : ℕ) → v < buckets → bucket v s ≡ inRow t s (f v 0))
+    → rows ≤ bucketRows → Spread f t 0 buckets lane 1 old new
+    → ((v s : ℕ) → v < buckets → bucket v s ≡ inRow t s (f v 0))
     → Started bucket rows buckets lane old new
 started-in {lane = lane} h s e =
     record {
@@ -104,7 +107,7 @@ starts-none bucket rows buckets w =
 
 pub starts-more :
     {bucket : ℕ → ℕ → ℕ → ℕ} {rows buckets : ℕ} {old mid new : List ℕ} (n : ℕ)
-    → n < 64 → StartedTo bucket rows buckets n old mid → Started (bucket n) rows buckets n mid new
+    → n < maxLanes → StartedTo bucket rows buckets n old mid → Started (bucket n) rows buckets n mid new
     → StartedTo bucket rows buckets (n + 1) old new
 starts-more {bucket} {rows} {buckets} {old} {mid} {new} n h s w =
     record {

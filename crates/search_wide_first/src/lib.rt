@@ -12,7 +12,7 @@ use search_wide_layer::Block;
 fn from_start(
     table: &mut [u32; search_store::TABLE],
     row: &[u32],
-    pays: &[u32; 36],
+    pays: &[u32; search_buckets::PAY_WORDS],
     p: usize,
     k: usize,
     rows: usize,
@@ -44,7 +44,7 @@ fn from_starts(
     ensures { λ _. ⌜ StartedTo (startIn (now (row .entry)) p k) rows buckets lanes (now (table .entry))
         (now (table .exit)) ⌝ }
 {
-    let mut pays = [0u32; 36];
+    let mut pays = [0u32; search_buckets::PAY_WORDS];
     search_buckets::fill_pays(&mut pays, row, p, k, buckets);
     let mut l: usize = 0;
     while l < lanes {

@@ -5,7 +5,7 @@ use mathlib.Core.List.{List}
 use native.Mathlib.Omega.{arith}
 use native.Mathlib.Decide.{decLt}
 use lib.ListN.{getD}
-use Rattle.search_store.specs.Map.{layerBlock, stateBlock}
+use Rattle.search_store.specs.Map.{layerBlock, stateBlock, maxLanes, maxPoses}
 use Rattle.search_row.specs.declared.Sizes.{Sizes}
 use Rattle.theory_tables.specs.Steps.{Deck, stateCount, nextLayer}
 use Rattle.search_lanes.specs.Store.{Frame, Low, layerIn}
@@ -29,11 +29,11 @@ beside-kept {old = old} {new = new} {at} {to} {a} {b} v f p q =
 
 pub next-kept :
     (D : Deck) (R : ℕ) {at : ℕ} {old new : List ℕ} (i q a l : ℕ)
-    → Kept at old new → stateCount R ≤ 12 → D .poses ≤ 60 → l < 64
+    → Kept at old new → stateCount R ≤ 12 → D .poses ≤ maxPoses → l < maxLanes
     → nextLayer D R (layerIn new at l) i q a ≡ nextLayer D R (layerIn old at l) i q a
 next-kept D R {at} {old} {new} i q a l s w p h =
     next-ext D R (layerIn new at l) (layerIn old at l)
-    (λ q b x y. s .word (at + q * stateBlock + b * 64 + l) (omega arith) (omega arith))
+    (λ q b x y. s .word (at + q * stateBlock + b * maxLanes + l) (omega arith) (omega arith))
     i q a
 
 -- what a function was given holds on, whatever another one wrote

@@ -2,7 +2,7 @@
 use Prim.Native.Nat.{ℕ, suc, _+_, _≤_, _<_}
 use mathlib.Core.List.{List}
 use lib.ListN.{length}
-use Rattle.search_store.specs.Map.{layerBlock}
+use Rattle.search_store.specs.Map.{layerBlock, bucketRows, maxKept, maxLanes}
 use Rattle.theory_tables.specs.Steps.{Deck, Layer, lastAt, nextLayer}
 use Rattle.search_lanes.specs.Store.{Low, layerIn, FilledState, Filled}
 use Rattle.search_row.specs.declared.Sizes.{Sizes}
@@ -26,8 +26,8 @@ bucketsFor row z layer q = bucketsIn row (lastAt (z .reordering) (suc (layer .ce
 pub record Given (row st : List ℕ) (z : Sizes) (lanes i at : ℕ) : Type 0 where
   pub ground : Ground row z
   pub low : Low st
-  pub narrow : lanes ≤ 64
-  pub early : i ≤ 67
+  pub narrow : lanes ≤ maxLanes
+  pub early : i ≤ maxKept + 1
   pub room : at + layerBlock ≤ length st
 
 -- another block, with room, that has no word in common with the block at `at`
@@ -40,7 +40,7 @@ pub record Gathering (table row st : List ℕ) (z : Sizes) (layer : Block) (q ro
   pub lent : Lent table
   pub given : Given row st z (layer .lanes) (layer .cells) (layer .at)
   pub target : Target (z .cells) (z .reordering) (layer .cells) q
-  pub few : rows ≤ 19
+  pub few : rows ≤ bucketRows
 
 -- the same from its state p
 pub record SourceGathering (table row st : List ℕ) (z : Sizes) (layer : Block) (q p rows : ℕ) : Type 0 where

@@ -41,7 +41,7 @@ fn from_source(
     let left = search_row::last_at(row, sizes, layer.cells, p);
     let right = search_row::last_at(row, sizes, layer.cells + 1, q);
     let buckets = search_buckets::buckets_of(row, right);
-    let mut pays = [0u32; 36];
+    let mut pays = [0u32; search_buckets::PAY_WORDS];
     search_buckets::fill_pays(&mut pays, row, left, right, buckets);
     let at = layer.at + p * search_store::STATE;
     let source = Source {
@@ -138,7 +138,7 @@ fn target_rows(
     search_wide_buckets::put_rows(store, row, table, at, m, poses, buckets, layer.lanes);
     search_lanes::fill_rows(
         store,
-        at + poses * 64,
+        at + poses * search_store::MAX_LANES,
         sizes.poses - poses,
         layer.lanes,
         search_lanes::NONE,

@@ -10,7 +10,7 @@ use native.Mathlib.Numerals.{add-one}
 use borrow.Author.Tests.{lt-ltb, le-ltb, le-leb, lt-leb, eq-eqb, ne-eqb}
 use lib.ListN.{length, getD}
 use lib.Dec.{leb}
-use Rattle.search_store.specs.Map.{keptFrom, layerBlock, stateBlock}
+use Rattle.search_store.specs.Map.{keptFrom, layerBlock, stateBlock, maxLanes}
 use Rattle.search_row.specs.declared.Sizes.{Sizes}
 use Rattle.theory_tables.specs.Steps.{B, Deck, Layer, stateCount, offset, layers, costTo}
 use Rattle.search_lanes.specs.Store.{Frame, layerIn, Filled}
@@ -52,7 +52,7 @@ unfolding layers
 run-none D R lanes i s e =
     record {
       buffer = inl refl;
-      right = λ q a l x y z. e (0 + q * stateBlock + a * 64 + l) (omega (arith, s .narrow, s .few, s .states));
+      right = λ q a l x y z. e (0 + q * stateBlock + a * maxLanes + l) (omega (arith, s .narrow, s .few, s .states));
     }
 
 -- the layer after the one at `at`
@@ -85,7 +85,7 @@ run-kept {at = at} s r f h =
     record {
       buffer = r .buffer;
       right = λ q a l x y z.
-          f .low (at + q * stateBlock + a * 64
+          f .low (at + q * stateBlock + a * maxLanes
           + l) (omega (arith, s .narrow, s .few, s .states, buffer-low (r .buffer))) ∙ r .right q a l x y z;
     }
 
@@ -179,7 +179,7 @@ costed-step {D} {R} {lanes} {i} {p} {d} {at} {costs} s c h r m g =
       running = run-kept s run (g .frame) h;
       costed = costed-more c run
           (record {
-            right = λ q a l x y z k. f .frame .high (costs + q * stateBlock + a * 64 + l) (omega arith)
+            right = λ q a l x y z k. f .frame .high (costs + q * stateBlock + a * maxLanes + l) (omega arith)
                 ∙ r .costed .right q a l x y z k;
           })
           g;
@@ -244,7 +244,7 @@ costed-from {D} {R} {lanes} {i} {p} {d} {old = old} {mid = mid} s e o r =
     }
   where
     same : (l : ℕ) → l < lanes → (q b : ℕ) → q < stateCount R → b < D .poses → layerIn mid 0 l q b ≡ layerIn old 0 l q b
-    same l z q b x y = e (0 + q * stateBlock + b * 64 + l) (omega (arith, s .narrow, s .few, s .states))
+    same l z q b x y = e (0 + q * stateBlock + b * maxLanes + l) (omega (arith, s .narrow, s .few, s .states))
 
 -- ---- the last layer
 

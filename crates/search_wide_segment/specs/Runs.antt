@@ -7,7 +7,8 @@ use mathlib.Core.Bool.{cond}
 use mathlib.Core.List.{List}
 use lib.ListN.{length, getD}
 use lib.Dec.{ltb, eqb}
-use Rattle.search_store.specs.Map.{keptFrom, layerBlock}
+use Rattle.definition.specs.Job.{maxCells}
+use Rattle.search_store.specs.Map.{keptFrom, layerBlock, maxLanes, maxPoses}
 use Rattle.theory_tables.specs.Steps.{B, Deck, Layer, stateCount, offset, layers, costTo}
 use Rattle.search_lanes.specs.Store.{Low, layerIn}
 use Rattle.search_row.specs.declared.Sizes.{Sizes}
@@ -34,8 +35,8 @@ pub record Outside (costs wide : ℕ) (old new : List ℕ) : Type 0 where
 
 -- few poses, states and lanes
 pub record Small (D : Deck) (R lanes : ℕ) : Type 0 where
-  pub narrow : lanes ≤ 64
-  pub few : D .poses ≤ 60
+  pub narrow : lanes ≤ maxLanes
+  pub few : D .poses ≤ maxPoses
   pub states : stateCount R ≤ 12
 
 -- room for costs, above the layers
@@ -49,10 +50,10 @@ pub record ToTall (row st : List ℕ) (z : Sizes) (lanes i tall costs : ℕ) : T
   pub low : Low st
   pub room : CostRoom st costs
   pub all : z .states ≡ stateCount (z .reordering)
-  pub few : z .poses ≤ 60
-  pub narrow : lanes ≤ 64
+  pub few : z .poses ≤ maxPoses
+  pub narrow : lanes ≤ maxLanes
   pub early : i ≤ 100
-  pub inside : tall < 64
+  pub inside : tall < maxCells
 
 -- the same from the layer with i cells, whose block begins at `from`
 pub record Delivering (row st : List ℕ) (z : Sizes) (lanes i tall from costs : ℕ) : Type 0 where
@@ -62,7 +63,7 @@ pub record Delivering (row st : List ℕ) (z : Sizes) (lanes i tall from costs :
 -- the same straight from the layer before the last
 pub record ToLast (table row st : List ℕ) (z : Sizes) (layer : Block) (tall costs : ℕ) : Type 0 where
   pub stepping : Stepping table row st z layer costs
-  pub inside : tall < 64
+  pub inside : tall < maxCells
 
 -- each of the three for state q alone
 pub record StateToTall (row st : List ℕ) (z : Sizes) (lanes i tall costs q : ℕ) : Type 0 where
@@ -86,7 +87,7 @@ pub record SegmentGiven (table row st : List ℕ) (z : Sizes) (lanes i costs : �
 -- the same to a tall cell
 pub record SegmentToTall (table row st : List ℕ) (z : Sizes) (lanes i tall costs : ℕ) : Type 0 where
   pub segment : SegmentGiven table row st z lanes i costs
-  pub inside : tall < 64
+  pub inside : tall < maxCells
 
 -- ---- costs to the tall cell at position p
 

@@ -7,13 +7,13 @@ use mathlib.Core.Bool.{Bool}
 use native.Mathlib.Omega.{arith}
 use lib.Dec.{leb}
 use Rattle.lists.specs.Compare.{Le?, low, high, le?}
-use Rattle.theory_tables.specs.Steps.{Deck, marks, lastAt, Layer, firstAfter, firstOpen, offset}
+use Rattle.theory_tables.specs.Steps.{Deck, poseSlots, marks, lastAt, Layer, firstAfter, firstOpen, offset}
 use Rattle.theory_tables.specs.Stages.{placedWith}
 use Rattle.theory_tables.specs.Back.{Source, SegmentTraced, EndTraced, StageTraced, StageBack, Traced}
 
--- word i of a path notes the i-th placed cell: its position times 64, and its pose number
+-- word i of a path notes the i-th placed cell: its position times poseSlots, and its pose number
 abbrev pub NotedBy : (ℕ → ℕ) → ℕ → ℕ → ℕ → Type 0
-NotedBy w i k a = w i ≡ k * 64 + a
+NotedBy w i k a = w i ≡ k * poseSlots + a
 
 -- ---- one segment: the places i to i + j
 

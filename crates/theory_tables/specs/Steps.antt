@@ -17,6 +17,10 @@ use Rattle.theory_pair.specs.Coded.{lowest}
 abbrev pub B : ℕ
 B = 268435456
 
+-- the places for pose numbers: a position or a state and a pose are one number, the first times so many plus the pose
+abbrev pub poseSlots : ℕ
+poseSlots = 64
+
 -- A row as the search reads it, by positions in file order and pose numbers.
 pub record Deck : Type 0 where
   pub size : ℕ

@@ -1,6 +1,7 @@
 -- A cost of NONE: there is no way. A lower one can be traced.
 use native.Mathlib.Omega.{arith}
 use borrow.Author.Needs.{needs}
+use Rattle.definition.specs.Job.{maxCells}
 use Rattle.lists.specs.Zeros.{zeros-at}
 use Rattle.search.specs.Rows.{stages-given}
 use Rattle.search.specs.Found.{traceable, found-none, found-some}
@@ -18,7 +19,7 @@ returns c =
     let mid = c .before .before .before .before in
     let a = mid .before .before .before .before .args in
     found-none (a .row0 .now) (a .row1 .now) (a .sizes) (a .cells1) (c .before .before .before .least-cost .ensures) (omega arith)
-    (λ k. omega (arith, zeros-at 64 k))
+    (λ k. omega (arith, zeros-at maxCells k))
 
 slice-aggregate-note : tie.Need-slice-aggregate-note
 slice-aggregate-note c = search needs
@@ -31,7 +32,7 @@ note-requires c κs =
     let a = k .args in
     let g = stages-given (k .pre) in
     let t = traceable (a .row0 .now) (a .row1 .now) (a .sizes) (a .cells1) g (mid .before .least-cost .ensures) (omega arith) in
-    record { rows = k .pre .asked .rows; tables = t; room = omega arith; numbers = λ i. omega (arith, zeros-at 64 i) }
+    record { rows = k .pre .asked .rows; tables = t; room = omega arith; numbers = λ i. omega (arith, zeros-at maxCells i) }
 
 same-length-2 : tie.Need-same-length-2
 same-length-2 c = search needs

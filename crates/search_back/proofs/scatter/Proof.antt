@@ -4,6 +4,7 @@ use mathlib.Core.Path.{refl}
 use native.Mathlib.Omega.{arith}
 use borrow.Author.Needs.{needs}
 use lib.ListN.{length, getD}
+use Rattle.theory_tables.specs.Steps.{poseSlots}
 use Rattle.search_back.specs.Scatter.{Upto}
 use Rattle.search_back.specs.ScatterLaws.{upto-none, upto-more, upto-all}
 use Rattle.search_back.proofs.scatter.Statement.{statement}
@@ -19,7 +20,7 @@ abbrev μ-loop : tie.MeasureT-loop
 
 -- the place's position is in the row, and its cell has a word
 inside : (c : tie.After-shared-slice-known3 Inv-loop μ-loop) → let mid = c .before .before .before .before in let a = mid .before .before .args in
-    getD (a .path .now) (c .before .before .loop .i) 0 / 64 < a .n
+    getD (a .path .now) (c .before .before .loop .i) 0 / poseSlots < a .n
 inside c =
     let at-loop = c .before .before in
     at-loop .before .before .before .before .pre .places .inside (at-loop .loop .i) (omega arith) (omega arith)
@@ -29,7 +30,7 @@ small : (c : tie.After-word Inv-loop μ-loop) → let at-loop = c .before .befor
 small c =
     let at-loop = c .before .before .before in
     let k = at-loop .before .before .before .before in
-    omega (arith, c .word .ensures, k .pre .small (getD (k .args .path .now) (at-loop .loop .i) 0 / 64) (inside (c .before)))
+    omega (arith, c .word .ensures, k .pre .small (getD (k .args .path .now) (at-loop .loop .i) 0 / poseSlots) (inside (c .before)))
 
 loop-holds : tie.Need-loop-holds Inv-loop μ-loop
 loop-holds c =
@@ -42,7 +43,13 @@ shared-slice-read-word : tie.Need-shared-slice-read-word Inv-loop μ-loop
 shared-slice-read-word c = search needs
 
 cast-word : tie.Need-cast-word Inv-loop μ-loop
-cast-word c =
+cast-word c = search needs
+
+div-word : tie.Need-div-word Inv-loop μ-loop
+div-word c = search needs
+
+cast-word-2 : tie.Need-cast-word-2 Inv-loop μ-loop
+cast-word-2 c =
     let mid = c .before .before .before .before in
     omega (arith, inside c, mid .before .before .pre .size)
 
@@ -60,6 +67,12 @@ word-requires : tie.Need-word-requires Inv-loop μ-loop
 word-requires c κs =
     let mid = c .before .before .before .before in
     omega (arith, inside c, mid .before .before .pre .size, mid .before .before .pre .words .long)
+
+cast-out : tie.Need-cast-out Inv-loop μ-loop
+cast-out c = search needs
+
+rem-out : tie.Need-rem-out Inv-loop μ-loop
+rem-out c = search needs
 
 mul-out : tie.Need-mul-out Inv-loop μ-loop
 mul-out c =
@@ -100,9 +113,13 @@ scatter-spec =
     mul-word
     shared-slice-read-word
     cast-word
+    div-word
+    cast-word-2
     mul-word-2
     add-word
     word-requires
+    cast-out
+    rem-out
     mul-out
     slice-write-out
     add-i

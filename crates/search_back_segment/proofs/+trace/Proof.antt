@@ -2,6 +2,7 @@
 use Prim.Native.Nat.{_+_, _-_, _/_, _%_}
 use mathlib.Core.Path.{_∙_}
 use native.Mathlib.Omega.{arith}
+use Rattle.theory_tables.specs.Steps.{poseSlots}
 use Rattle.search_row.specs.Words.{deckIn}
 use Rattle.search_back_segment.specs.Steps.{trace-entry, trace-rest, trace-none, trace-more}
 use borrow.Author.Needs.{needs}
@@ -167,7 +168,7 @@ trace-returns-2 t c =
     let g = k .pre .1 in
     let n = after-entry-source .entry-source in
     trace-more (deckIn (a .row .now) (a .sizes)) (a .sizes .reordering) (a .store .now) (a .i) (a .d) (a .d - 1) (a .q) (a .a)
-    (n .result / 64) (n .result % 64) (omega arith)
+    (n .result / poseSlots) (n .result % poseSlots) (omega arith)
     (after-note .note .ensures) (omega (arith, g .last, g .room)) (g .state) (g .pose) (n .ensures) (c .before .before .trace .ensures)
 
 pub +trace-spec : {M : Type 1} → statement M

@@ -4,7 +4,7 @@ use mathlib.Core.Path.{_≡_, sym, ap, _∙_}
 use native.Mathlib.Omega.{arith}
 use borrow.Author.Needs.{needs}
 use lib.ListN.{getD}
-use Rattle.theory_tables.specs.Steps.{lastAt, reached}
+use Rattle.theory_tables.specs.Steps.{lastAt, reached, poseSlots}
 use Rattle.search_row.specs.Words.{deckIn, cellWords}
 use Rattle.search_row.specs.Laws.{there-size}
 use Rattle.search_dense_layer.specs.Kept.{keptIn}
@@ -26,7 +26,7 @@ abbrev Parts : tie.After-shared-slice-known4 → Type 0
 Parts c =
     let after-last-at = c .before .before .before in
     let a = after-last-at .before .before .before .args in
-    (getD (a .store .now) (c .before .kept-at .result + a .q * 64 + a .a) 0 ≡ keptIn (a .store .now) (suc (a .i)) (a .q) (a .a))
+    (getD (a .store .now) (c .before .kept-at .result + a .q * poseSlots + a .a) 0 ≡ keptIn (a .store .now) (suc (a .i)) (a .q) (a .a))
     × (keptIn (a .store .now) (suc (a .i)) (a .q) (a .a)
     ≡ getD (a .row .now) (after-last-at .last-at .result * cellWords + a .a) 0
     + reached (deckIn (a .row .now) (a .sizes)) (a .sizes .reordering) (keptIn (a .store .now) (a .i)) (a .i) (a .q) (a .a))

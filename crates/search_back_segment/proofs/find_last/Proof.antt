@@ -4,6 +4,7 @@ use mathlib.Core.Path.{_≡_, subst}
 use mathlib.Core.Logic.{⊎-elim}
 use native.Mathlib.Omega.{arith}
 use borrow.Author.Needs.{needs}
+use Rattle.theory_tables.specs.Steps.{poseSlots}
 use Rattle.search_row.specs.Words.{deckIn}
 use Rattle.search_dense_layer.specs.Kept.{keptIn}
 use Rattle.search_back_segment.specs.Traces.{LeastOf, lastCode}
@@ -13,11 +14,11 @@ use Rattle.search_back_segment.proofs.find_last.Tie as tie
 
 abbrev Inv-loop : tie.InvT-loop
 Inv-loop store row sizes best₀ code₀ c₀ best code c =
-    (c ≤ (sizes .states) * 64) × LeastOf (lastCode (deckIn row sizes) (sizes .reordering) (keptIn store (sizes .cells))) c best code
+    (c ≤ (sizes .states) * poseSlots) × LeastOf (lastCode (deckIn row sizes) (sizes .reordering) (keptIn store (sizes .cells))) c best code
 
 abbrev μ-loop : tie.MeasureT-loop
 μ-loop store row sizes best₀ code₀ c₀ best code c =
-    (sizes .states) * 64 - c
+    (sizes .states) * poseSlots - c
 
 loop-holds : tie.Need-loop-holds Inv-loop μ-loop
 loop-holds c =
@@ -57,7 +58,7 @@ returns c =
     let at-loop = c .before .before in
     let a = at-loop .before .before .before .args in
     let h : ℕ → ℕ = lastCode (deckIn (a .row .now) (a .sizes)) (a .sizes .reordering) (keptIn (a .store .now) (a .sizes .cells)) in
-    let e : at-loop .loop .c ≡ a .sizes .states * 64 = omega arith in
+    let e : at-loop .loop .c ≡ a .sizes .states * poseSlots = omega arith in
     subst (λ (k : ℕ). LeastOf h k (at-loop .loop .best) (at-loop .loop .code)) e (at-loop .loop .inv .1)
 
 mul-if1 : tie.Need-mul-if1 Inv-loop μ-loop

@@ -4,6 +4,7 @@ use mathlib.Core.Path.{_≡_}
 use native.Mathlib.Omega.{arith}
 use borrow.Author.Count.{below-more}
 use borrow.Author.Needs.{needs}
+use Rattle.theory_tables.specs.Steps.{poseSlots}
 use Rattle.search_row.specs.Words.{deckIn}
 use Rattle.search_dense_layer.specs.Kept.{keptIn}
 use Rattle.search_back_segment.specs.Sources.{Misses, reached-missed, state-fits}
@@ -49,8 +50,8 @@ returns c =
     let p = at-loop .loop .p in
     let b = after-state-pose .state-pose .result in
     let l = k .pre .target .back .ground .few in
-    let x : (p * 64 + b) / 64 ≡ p = omega arith in
-    let y : (p * 64 + b) % 64 ≡ b = omega arith in
+    let x : (p * poseSlots + b) / poseSlots ≡ p = omega arith in
+    let y : (p * poseSlots + b) % poseSlots ≡ b = omega arith in
     rw (x, y)
     (state-fits (deckIn (a .row .now) (a .sizes)) (a .sizes .reordering) (keptIn (a .store .now) (a .i)) (a .i) (a .q) (a .a) (a .want) p b
     (omega (arith, k .pre .target .back .ground .all)) (omega arith) (k .pre .target .below) (after-state-pose .state-pose .ensures .hit (omega arith)))

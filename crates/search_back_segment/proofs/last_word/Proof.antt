@@ -7,6 +7,8 @@ use lib.Dec.{eqb}
 use lib.ListN.{getD}
 use borrow.Author.Needs.{needs}
 use borrow.Author.Tests.{eq-eqb, ne-eqb, not-true, not-false}
+use Rattle.definition.specs.Job.{maxCells}
+use Rattle.theory_tables.specs.Steps.{poseSlots}
 use Rattle.search_row.specs.Words.{wordOf, backIn, deckIn, thereIn, tallWord}
 use Rattle.search_row.specs.Laws.{there-size, back-low}
 use Rattle.search_dense_layer.specs.Kept.{keptIn}
@@ -18,12 +20,12 @@ use Rattle.search_back_segment.proofs.last_word.Tie as tie
 abbrev There : tie.Else2 → Type 0
 There c =
     let mid = c .before .before .before .before in
-    let a = mid .before .before .args in thereIn (a .sizes .cells) (a .sizes .reordering) (a .sizes .cells) (a .c / 64) ≡ true
+    let a = mid .before .before .args in thereIn (a .sizes .cells) (a .sizes .reordering) (a .sizes .cells) (a .c / poseSlots) ≡ true
 
 there : (c : tie.Else2) → There c
 there c = sym (c .before .is-there .ensures) ∙ not-false _ (c .if2 .left)
 
-inside : (c : tie.After-last-at) → c .last-at .result < 64
+inside : (c : tie.After-last-at) → c .last-at .result < maxCells
 inside c =
     let mid = c .before .before .before .before in
     let k = mid .before .before .before in
@@ -31,14 +33,15 @@ inside c =
     omega (
       arith,
       c .last-at .ensures,
-      there-size (a .sizes .cells) (a .sizes .reordering) (a .sizes .cells) (a .c / 64) (there (c .before)),
+      there-size (a .sizes .cells) (a .sizes .reordering) (a .sizes .cells) (a .c / poseSlots) (there (c .before)),
       k .pre .back .ground .size,
     )
 
 returns : tie.Need-returns
 returns c =
     let a = c .before .before .before .before .args in
-    sym (last-beyond (deckIn (a .row .now) (a .sizes)) (a .sizes .reordering) (keptIn (a .store .now) (a .sizes .cells)) (a .c / 64) (a .c % 64) (omega arith))
+    sym (last-beyond (deckIn (a .row .now) (a .sizes)) (a .sizes .reordering) (keptIn (a .store .now) (a .sizes .cells))
+    (a .c / poseSlots) (a .c % poseSlots) (omega arith))
 
 is-there-requires : tie.Need-is-there-requires
 is-there-requires c κs = search needs
@@ -48,7 +51,7 @@ returns-2 c =
     let mid = c .before .before .before .before in
     let a = mid .before .before .args in
     sym
-    (last-out (deckIn (a .row .now) (a .sizes)) (a .sizes .reordering) (keptIn (a .store .now) (a .sizes .cells)) (a .c / 64) (a .c % 64)
+    (last-out (deckIn (a .row .now) (a .sizes)) (a .sizes .reordering) (keptIn (a .store .now) (a .sizes .cells)) (a .c / poseSlots) (a .c % poseSlots)
     (sym (c .before .is-there .ensures) ∙ not-true _ (c .if2 .taken)))
 
 last-at-requires : tie.Need-last-at-requires
@@ -75,7 +78,7 @@ returns-3 c =
     let a = mid .before .before .before .args in
     let e = ap (λ (p : ℕ). eqb (wordOf (a .row .now) p tallWord) 1) (after-last-at .last-at .ensures) in
     sym
-    (last-tall (deckIn (a .row .now) (a .sizes)) (a .sizes .reordering) (keptIn (a .store .now) (a .sizes .cells)) (a .c / 64) (a .c % 64)
+    (last-tall (deckIn (a .row .now) (a .sizes)) (a .sizes .reordering) (keptIn (a .store .now) (a .sizes .cells)) (a .c / poseSlots) (a .c % poseSlots)
     (sym e ∙ eq-eqb _ _ (c .if3 .taken)))
 
 kept-at-requires : tie.Need-kept-at-requires
@@ -108,7 +111,7 @@ add-result-2 c =
       arith,
       k .pre .back .low .word (after-kept-at .kept-at .result + a .c),
       c .back .ensures,
-      back-low (a .row .now) (after-last-at .last-at .result) (a .c % 64),
+      back-low (a .row .now) (after-last-at .last-at .result) (a .c % poseSlots),
     )
 
 returns-4 : tie.Need-returns-4
@@ -119,9 +122,9 @@ returns-4 c =
     let a = mid₂ .before .before .args in
     let e = ap (λ (p : ℕ). eqb (wordOf (a .row .now) p tallWord) 1) (after-if3 .before .before .last-at .ensures) in
     ap₂ (λ (x y : ℕ). x + y) (ap (λ (k : ℕ). getD (a .store .now) k 0) (omega (arith, c .before .before .kept-at .ensures)))
-    (c .back .ensures ∙ ap (λ (k : ℕ). backIn (a .row .now) k (a .c % 64)) (after-if3 .before .before .last-at .ensures))
+    (c .back .ensures ∙ ap (λ (k : ℕ). backIn (a .row .now) k (a .c % poseSlots)) (after-if3 .before .before .last-at .ensures))
     ∙ sym
-    (last-in (deckIn (a .row .now) (a .sizes)) (a .sizes .reordering) (keptIn (a .store .now) (a .sizes .cells)) (a .c / 64) (a .c % 64)
+    (last-in (deckIn (a .row .now) (a .sizes)) (a .sizes .reordering) (keptIn (a .store .now) (a .sizes .cells)) (a .c / poseSlots) (a .c % poseSlots)
     (omega arith) (there mid) (sym e ∙ ne-eqb _ _ (after-if3 .if3 .left)))
 
 pub last-word-spec : {M : Type 1} → statement M

@@ -4,6 +4,7 @@ use mathlib.Core.Path.{ap}
 use native.Mathlib.Omega.{arith}
 use lib.ListN.{set}
 use borrow.Author.Needs.{needs}
+use Rattle.theory_tables.specs.Steps.{poseSlots}
 use Rattle.search_back_segment.proofs.note.Statement.{statement}
 use Rattle.search_back_segment.proofs.note.Tie as tie
 
@@ -37,7 +38,7 @@ same-length c = search needs
 returns : tie.Need-returns
 returns c =
     let a = c .before .before .before .args in
-    ap (λ (p : ℕ). set (a .path .now) (a .i) (p * 64 + a .a)) (c .last-at .ensures)
+    ap (λ (p : ℕ). set (a .path .now) (a .i) (p * poseSlots + a .a)) (c .last-at .ensures)
 
 pub note-spec : {M : Type 1} → statement M
 note-spec =

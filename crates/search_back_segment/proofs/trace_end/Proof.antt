@@ -3,7 +3,7 @@ use native.Mathlib.Omega.{arith}
 use mathlib.Core.Path.{refl}
 use borrow.Author.Needs.{needs}
 use Prim.Native.Nat.{_*_, _<_}
-use Rattle.theory_tables.specs.Steps.{B}
+use Rattle.theory_tables.specs.Steps.{B, poseSlots}
 use Rattle.search_row.specs.Words.{deckIn}
 use Rattle.search_dense_layer.specs.Kept.{keptIn}
 use Rattle.search_back_segment.specs.Steps.{end-none, end-closed, end-traced, end-trace}
@@ -32,7 +32,7 @@ returns-2 c =
     end-closed (a .path .now) (omega arith) (omega (
       arith,
       least-ends (deckIn (a .row .now) (a .sizes)) (a .sizes .reordering) (keptIn (a .store .now) (a .sizes .cells)) (l .result .value) (l .result .code)
-          (a .sizes .states * 64) (omega (arith, g .all)) (g .few) (l .ensures),
+          (a .sizes .states * poseSlots) (omega (arith, g .all)) (g .few) (l .ensures),
       c .if2 .taken,
     ))
 
@@ -46,9 +46,9 @@ trace-requires c κs =
     let l = after-find-last .find-last in
     let low : l .result .value < B = omega arith in
     end-trace (omega arith) (k .pre) (last-found (deckIn (a .row .now) (a .sizes)) (a .sizes .reordering) (keptIn (a .store .now) (a .sizes .cells))
-    (l .result .value) (l .result .code) (a .sizes .states * 64) (omega (arith, g .all)) (g .few) (l .ensures) low)
+    (l .result .value) (l .result .code) (a .sizes .states * poseSlots) (omega (arith, g .all)) (g .few) (l .ensures) low)
     (last-low (deckIn (a .row .now) (a .sizes)) (a .sizes .reordering) (keptIn (a .store .now) (a .sizes .cells)) (l .result .value) (l .result .code)
-    (a .sizes .states * 64) (omega (arith, g .all)) (g .few) (l .ensures) low)
+    (a .sizes .states * poseSlots) (omega (arith, g .all)) (g .few) (l .ensures) low)
 
 same-length : tie.Need-same-length
 same-length c = search needs
@@ -63,7 +63,7 @@ returns-3 c =
     let g = k .pre .back .ground in
     let l = after-find-last .find-last in
     end-traced (omega arith) refl (last-found (deckIn (a .row .now) (a .sizes)) (a .sizes .reordering) (keptIn (a .store .now) (a .sizes .cells))
-    (l .result .value) (l .result .code) (a .sizes .states * 64) (omega (arith, g .all)) (g .few) (l .ensures) (omega arith))
+    (l .result .value) (l .result .code) (a .sizes .states * poseSlots) (omega (arith, g .all)) (g .few) (l .ensures) (omega arith))
     (c .before .before .trace .ensures)
 
 pub trace-end-spec : {M : Type 1} → statement M

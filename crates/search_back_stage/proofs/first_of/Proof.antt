@@ -2,6 +2,7 @@
 use Prim.Native.Nat.{_+_, _-_, _≤_}
 use native.Mathlib.Omega.{arith}
 use borrow.Author.Needs.{needs}
+use Rattle.search_store.specs.Map.{maxKept}
 use Rattle.search_row.specs.Words.{deckIn, posIn}
 use Rattle.search_back_stage.specs.Laws.{started-open, started-after, start-count}
 use Rattle.search_back_stage.proofs.first_of.Statement.{statement}
@@ -9,7 +10,7 @@ use Rattle.search_back_stage.proofs.first_of.Tie as tie
 
 -- there is room for the layer after the tall cell
 abbrev Room : tie.After-placed-with → Type 0
-Room c = c .placed-with .result + 1 ≤ 66
+Room c = c .placed-with .result + 1 ≤ maxKept
 
 room : (c : tie.After-placed-with) → Room c
 unfolding posIn

@@ -4,6 +4,8 @@ use mathlib.Core.Path.{_≡_, ap}
 use native.Mathlib.Omega.{arith}
 use borrow.Author.Needs.{needs}
 use lib.ListN.{getD}
+use Rattle.theory_tables.specs.Steps.{poseSlots}
+use Rattle.search_store.specs.Map.{maxKept, maxPoses}
 use Rattle.search_row.specs.Words.{posIn}
 use Rattle.theory_tables.specs.Stages.{placedWith}
 use Rattle.search_back_stage.specs.Laws.{start-late, tall-late, end-low, tall-segment, tall-none}
@@ -82,7 +84,7 @@ segment-kept-requires c κs =
     (omega (arith, after-first-of .first-of .ensures .count, after-cells-of .cells-of .ensures, after-first-of .before .before .if1 .left))
     (after-if2 .if2 .taken) (placed (c .before .before))
 
-low : (c : tie.After-placed-with) → c .placed-with .result ≤ 66
+low : (c : tie.After-placed-with) → c .placed-with .result ≤ maxKept
 low c =
     let after-if2 = c .before .before in
     let after-first-of = after-if2 .before .before .before .before in
@@ -107,7 +109,7 @@ entry c =
 
 -- the word of the stage's end, and its place in the store
 module _ (c : tie.After-kept-at) where
-  small : (entry c .args .leg .state < 12) × (entry c .args .leg .pose < 60)
+  small : (entry c .args .leg .state < 12) × (entry c .args .leg .pose < maxPoses)
   small =
       let mid = c .before .before .before .before in
       let after-if2 = mid .before .before .before .before in
@@ -167,7 +169,7 @@ returns-3 c =
     (omega (arith, after-first-of .first-of .ensures .count, after-cells-of .cells-of .ensures, after-first-of .before .before .if1 .left))
     (after-if2 .if2 .taken) (placed mid) (after-segment-kept .before .before .if3 .left) (after-segment-kept .segment-kept .ensures) (omega (
       arith,
-      ap (λ (k : ℕ). getD (after-segment-kept .segment-kept .last .0) (k + after-cells-of .before .before .before .before .args .leg .state * 64
+      ap (λ (k : ℕ). getD (after-segment-kept .segment-kept .last .0) (k + after-cells-of .before .before .before .before .args .leg .state * poseSlots
           + after-cells-of .before .before .before .before .args .leg .pose) 0) (after-kept-at .kept-at .ensures),
       c .if4 .taken,
     ))
@@ -184,7 +186,7 @@ trace-requires c κs =
     (omega (arith, after-first-of .first-of .ensures .count, after-cells-of .cells-of .ensures, after-first-of .before .before .if1 .left))
     (after-if2 .if2 .taken) (placed mid) (after-segment-kept .before .before .if3 .left) (after-segment-kept .segment-kept .ensures) (omega (
       arith,
-      ap (λ (k : ℕ). getD (after-segment-kept .segment-kept .last .0) (k + after-cells-of .before .before .before .before .args .leg .state * 64
+      ap (λ (k : ℕ). getD (after-segment-kept .segment-kept .last .0) (k + after-cells-of .before .before .before .before .args .leg .state * poseSlots
           + after-cells-of .before .before .before .before .args .leg .pose) 0) (after-kept-at .kept-at .ensures),
       c .before .before .if4 .left,
     ))

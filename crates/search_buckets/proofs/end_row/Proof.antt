@@ -1,7 +1,7 @@
 -- Words are at most B, so that the sum fits.
 use Prim.Native.Nat.{_+_, _*_, _/_, _%_}
 use native.Mathlib.Omega.{arith}
-use Rattle.search_row.specs.Words.{cellWords}
+use Rattle.search_row.specs.Words.{cellWords, firstWord, widthWord}
 use Rattle.search_buckets.specs.Rows.{endRow}
 use borrow.Author.Needs.{needs}
 use Rattle.search_buckets.proofs.end_row.Statement.{statement}
@@ -14,7 +14,8 @@ add-y : tie.Need-add-y
 add-y c =
     let k = c .before .before in
     let a = k .args in
-    omega (arith, c .end .ensures, k .pre .cells .words .word (a .k * cellWords + 64), k .pre .cells .words .word (a .k * cellWords + (65 + a .b % 4 / 2)))
+    let w = k .pre .cells .words in
+    omega (arith, c .end .ensures, w .word (a .k * cellWords + firstWord), w .word (a .k * cellWords + (widthWord + a .b % 4 / 2)))
 
 mul-word : tie.Need-mul-word
 mul-word c = search needs

@@ -4,6 +4,7 @@ use mathlib.Core.Path.{_≡_, refl, sym, ap, ap₂, _∙_}
 use mathlib.Core.Bool.{true}
 use native.Mathlib.Omega.{arith}
 use borrow.Author.Tests.{not-true, not-false}
+use Rattle.definition.specs.Job.{maxCells}
 use Rattle.theory_tables.specs.Steps.{lastAt, isSource}
 use Rattle.search_row.specs.Words.{deckIn}
 use Rattle.search_row.specs.Laws.{there-size, source-size}
@@ -24,7 +25,7 @@ source : (c : tie.Else1) → ThinSource c
 source c = sym (c .before .is-source .ensures) ∙ not-false _ (c .if1 .left)
 
 -- both cells stand in the row
-left : (c : tie.After-last-at2) → c .before .before .last-at .result < 64
+left : (c : tie.After-last-at2) → c .before .before .last-at .result < maxCells
 left c =
     let mid = c .before .before .before in
     let k = mid .before .before .before .before in
@@ -40,7 +41,7 @@ here : (c : tie.After-last-at2) → (let mid₂ = c .before .before .before .bef
     c .last-at2 .result ≡ lastAt (a .sizes .reordering) (suc (a .sought .cells)) (a .sought .state))
 here c = omega (arith, c .last-at2 .ensures)
 
-right : (c : tie.After-last-at2) → c .last-at2 .result < 64
+right : (c : tie.After-last-at2) → c .last-at2 .result < maxCells
 right c =
     let mid₂ = c .before .before .before .before in
     let mid = mid₂ .before in

@@ -1,6 +1,7 @@
 -- After j steps the layers up to i + j are kept.
 use Prim.Native.Nat.{_+_, _-_, _≤_}
 use native.Mathlib.Omega.{arith}
+use Rattle.search_store.specs.Map.{maxKept}
 use Rattle.search_row.specs.Words.{deckIn}
 use Rattle.search_dense_layer.specs.Kept.{SegmentKept}
 use Rattle.search_dense_layer.specs.KeptLaws.{kept-none, kept-more, segment-fewer}
@@ -10,7 +11,7 @@ use Rattle.search_dense_layer.proofs.segment_kept.Tie as tie
 
 abbrev Inv-loop : tie.InvT-loop
 Inv-loop store₀ row sizes i end j₀ store j =
-    (i + j ≤ 66) × SegmentKept (deckIn row sizes) (sizes .reordering) i (i + j) store₀ store
+    (i + j ≤ maxKept) × SegmentKept (deckIn row sizes) (sizes .reordering) i (i + j) store₀ store
 
 abbrev μ-loop : tie.MeasureT-loop
 μ-loop store₀ row sizes i end j₀ store j =

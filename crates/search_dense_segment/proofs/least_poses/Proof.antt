@@ -3,6 +3,7 @@ use Prim.Native.Nat.{_+_, _*_, _-_, _≤_}
 use mathlib.Core.Path.{_≡_, sym}
 use native.Mathlib.Omega.{arith}
 use borrow.Author.Needs.{needs}
+use Rattle.theory_tables.specs.Steps.{poseSlots}
 use Rattle.search_buckets.specs.Ends.{leastPoses, poses-none, poses-more}
 use Rattle.search_row.specs.Words.{backIn}
 use Rattle.search_row.specs.Laws.{back-low}
@@ -45,7 +46,7 @@ add-least-3 c =
     let k = at-loop .before .before .before in
     let a = k .args in
     let b = at-loop .loop .a in
-    omega (arith, k .pre .low .word (a .at + a .q * 64 + b), c .back .ensures, back-low (a .row .now) (a .k) b)
+    omega (arith, k .pre .low .word (a .at + a .q * poseSlots + b), c .back .ensures, back-low (a .row .now) (a .k) b)
 
 least-requires : tie.Need-least-requires Inv-loop μ-loop
 least-requires c κs = search needs

@@ -5,6 +5,7 @@ use mathlib.Core.Bool.{true}
 use native.Mathlib.Omega.{arith}
 use borrow.Author.Needs.{needs}
 use borrow.Author.Tests.{not-true, not-false}
+use Rattle.definition.specs.Job.{maxCells}
 use Rattle.search_row.specs.Words.{thereIn}
 use Rattle.search_row.specs.Laws.{there-size}
 use Rattle.search_dense_layer.specs.Thin.{thinIn}
@@ -19,7 +20,7 @@ There c = let a = c .before .before .before .before .args in thereIn (a .sizes .
 there : (c : tie.Else1) → There c
 there c = sym (c .before .is-there .ensures) ∙ not-false _ (c .if1 .left)
 
-inside : (c : tie.After-last-at) → c .last-at .result < 64
+inside : (c : tie.After-last-at) → c .last-at .result < maxCells
 inside c =
     let mid = c .before in
     let k = mid .before .before .before .before in

@@ -3,6 +3,7 @@ use Prim.Native.Nat.{_+_, _*_, _-_, _≤_}
 use mathlib.Core.Path.{_≡_, refl, sym}
 use native.Mathlib.Omega.{arith}
 use lib.ListN.{getD}
+use Rattle.search_store.specs.Map.{maxLanes}
 use Rattle.search_lanes.specs.Lanes.{always}
 use Rattle.search_lanes.specs.Store.{WrittenRows}
 use Rattle.search_lanes.specs.Laws.{rows-none, rows-more, written-one}
@@ -54,7 +55,7 @@ loop-again c =
     let s = l .inv .1 in
     let x = getD (l .store) (b .from + l .a) 0 in (
       omega arith,
-      rows-more (l .a) (omega arith) s (written-one (always x) (b .at + l .a * 64) x (s .low) (omega (arith, s .frame .long)) refl
+      rows-more (l .a) (omega arith) s (written-one (always x) (b .at + l .a * maxLanes) x (s .low) (omega (arith, s .frame .long)) refl
           (s .low .word (b .from + l .a))) (λ j h. sym (s .frame .low (b .from + l .a) (omega arith))),
     )
 

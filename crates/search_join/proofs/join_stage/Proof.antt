@@ -5,7 +5,7 @@ use lib.ListN.{length-replicate}
 use Rattle.theory_tables.specs.Steps.{B}
 use Rattle.search_lanes.specs.Laws.{nones-low}
 use Rattle.search_join.specs.Tables.{StageCases, Part}
-use Rattle.search_join.specs.Sums.{Room}
+use Rattle.search_join.specs.Sums.{Room, sumWords}
 use Rattle.search_join.specs.Parts.{part-none, table-part, stage-more, part-joined}
 use native.Mathlib.Omega.{arith}
 use borrow.Author.Needs.{needs}
@@ -20,8 +20,11 @@ abbrev μ-loop : tie.MeasureT-loop
 μ-loop store₀ i starts lanes ends poses sums₀ q0₀ store sums q0 = ends - q0
 
 loop-holds : tie.Need-loop-holds Inv-loop μ-loop
-loop-holds c =
-    (omega arith, part-none _ _ _ (c .before .pre .table .low) (λ q₀ q₁ a h. omega arith), record { long = length-replicate 768 B; low = nones-low 768 })
+loop-holds c = (
+  omega arith,
+  part-none _ _ _ (c .before .pre .table .low) (λ q₀ q₁ a h. omega arith),
+  record { long = length-replicate sumWords B; low = nones-low sumWords },
+)
 
 case-block-requires : tie.Need-case-block-requires Inv-loop μ-loop
 case-block-requires c κs =

@@ -1,6 +1,7 @@
 -- Each turn lowers the sum of one lane more.
 use Prim.Native.Nat.{_+_, _*_, _-_, _≤_}
 use mathlib.Core.Path.{_≡_}
+use Rattle.search_store.specs.Map.{maxLanes}
 use Rattle.search_lanes.specs.Lowered.{LoweredAt, lowered-at-none, lowered-at-more, lowered-at-low}
 use Rattle.search_join.specs.Sums.{startLanes}
 use Rattle.search_join.specs.SumLaws.{start-words}
@@ -11,7 +12,7 @@ use Rattle.search_join.proofs.lower_sums.Tie as tie
 
 abbrev Inv-loop : tie.InvT-loop
 Inv-loop sums₀ store i lanes s t q0 a at p0 to l₀ sums l =
-    (l ≤ lanes) × LoweredAt (startLanes i store q0 a s t) (t * 64) l sums₀ sums
+    (l ≤ lanes) × LoweredAt (startLanes i store q0 a s t) (t * maxLanes) l sums₀ sums
 
 abbrev μ-loop : tie.MeasureT-loop
 μ-loop sums₀ store i lanes s t q0 a at p0 to l₀ sums l = lanes - l
@@ -28,7 +29,7 @@ mul-to c = search needs
 loop-holds : tie.Need-loop-holds Inv-loop μ-loop
 loop-holds c =
     let a = c .before .before .before .args in
-    (omega arith, lowered-at-none (startLanes (a .i) (a .store .now) (a .q0) (a .a) (a .s) (a .t)) (a .t * 64) (a .sums .now))
+    (omega arith, lowered-at-none (startLanes (a .i) (a .store .now) (a .q0) (a .a) (a .s) (a .t)) (a .t * maxLanes) (a .sums .now))
 
 add-lesser : tie.Need-add-lesser Inv-loop μ-loop
 add-lesser c = search needs
@@ -72,7 +73,7 @@ lesser-requires c κs =
     let l = at-loop .loop in
     let w = k .pre .given .table .low .word in
     record {
-      first = omega (arith, lowered-at-low (l .inv .1) (k .pre .room .low) .word (k .args .t * 64 + l .l));
+      first = omega (arith, lowered-at-low (l .inv .1) (k .pre .room .low) .word (k .args .t * maxLanes + l .l));
       second = omega (arith, w (at-loop .before .before .case-at .result + l .l), w (at-loop .before .cost-at .result + l .l));
     }
 
@@ -102,7 +103,7 @@ loop-again c =
     start-words (a .i) (a .store .now) (a .q0) (a .a) (a .s) (a .t) (l .l) _ _ (after-case-at .case-at .ensures) (mid .before .before .cost-at .ensures) in (
       omega arith,
       lowered-at-more (l .l) (c .lesser .result) (l .inv .1) (omega (arith, k .pre .room .long, k .pre .given .table .few))
-          (omega (arith, c .lesser .ensures, l .inv .1 .frame .high (a .t * 64 + l .l) (omega arith))),
+          (omega (arith, c .lesser .ensures, l .inv .1 .frame .high (a .t * maxLanes + l .l) (omega arith))),
     )
 
 returns : tie.Need-returns Inv-loop μ-loop

@@ -1,6 +1,7 @@
 -- A start state whose lanes are all NONE has no way; another one lowers the sums of one state t after the other.
 use Prim.Native.Nat.{ℕ, _+_, _*_, _-_, _≤_}
 use mathlib.Core.Path.{_≡_, refl}
+use Rattle.search_store.specs.Map.{maxLanes}
 use Rattle.search_join.specs.Sums.{Sums}
 use Rattle.search_join.specs.SumLaws.{start-none, sums-lowered, state-sums, sums-next, sums-skip}
 use native.Mathlib.Omega.{arith}
@@ -10,7 +11,7 @@ use Rattle.search_join.proofs.sums_from.Tie as tie
 
 abbrev Inv-loop : tie.InvT-loop
 Inv-loop sums₀ store i starts lanes s q0 a t₀ sums t =
-    (t ≤ starts) × Sums starts lanes i store q0 a s (t * 64) sums
+    (t ≤ starts) × Sums starts lanes i store q0 a s (t * maxLanes) sums
 
 abbrev μ-loop : tie.MeasureT-loop
 μ-loop sums₀ store i starts lanes s q0 a t₀ sums t = starts - t
@@ -58,7 +59,7 @@ loop-again c =
     let k = mid .before .before .before in
     let a = k .args in
     let t = at-loop .loop .t in
-    let e : (t + 1) * 64 ≡ t * 64 + 64 = omega arith in (
+    let e : (t + 1) * maxLanes ≡ t * maxLanes + maxLanes = omega arith in (
       omega arith,
       rw e (sums-lowered (a .starts) (a .lanes) (a .i) (a .store .now) (a .q0) (a .a) (a .s) t (at-loop .loop .inv .1) (k .pre .given .table .few) (omega arith)
           (c .lower-sums .ensures)),

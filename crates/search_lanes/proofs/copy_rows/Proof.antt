@@ -2,6 +2,7 @@
 use Prim.Native.Nat.{_+_, _*_, _-_, _≤_}
 use mathlib.Core.Path.{_≡_, sym}
 use native.Mathlib.Omega.{arith}
+use Rattle.search_store.specs.Map.{maxLanes}
 use Rattle.search_lanes.specs.Lanes.{rowsFrom}
 use Rattle.search_lanes.specs.Store.{WrittenRows}
 use Rattle.search_lanes.specs.Laws.{rows-none, rows-more}
@@ -51,7 +52,8 @@ loop-again c =
     let k = at-loop .before .before in
     let l = at-loop .loop in (
       omega arith,
-      rows-more (l .a) (omega arith) (l .inv .1) (after-copy .copy .ensures) (λ j h. sym (l .inv .1 .frame .low (k .args .from + l .a * 64 + j) (omega arith))),
+      rows-more (l .a) (omega arith) (l .inv .1) (after-copy .copy .ensures)
+          (λ j h. sym (l .inv .1 .frame .low (k .args .from + l .a * maxLanes + j) (omega arith))),
     )
 
 same-length : tie.Need-same-length Inv-loop μ-loop

@@ -2,7 +2,7 @@
 use Prim.Native.Nat.{_+_, _*_, _/_, _%_}
 use native.Mathlib.Omega.{arith}
 use borrow.Author.Needs.{needs}
-use Rattle.search_row.specs.Words.{cellWords}
+use Rattle.search_row.specs.Words.{cellWords, firstWord, widthWord}
 use Rattle.search_row.proofs.end.Statement.{statement}
 use Rattle.search_row.proofs.end.Tie as tie
 
@@ -28,8 +28,8 @@ add-result c =
       arith,
       c .word .ensures,
       c .before .site .ensures,
-      k .pre .words .word (k .args .k * cellWords + 64),
-      k .pre .words .word (k .args .k * cellWords + (65 + k .args .b % 4 / 2)),
+      k .pre .words .word (k .args .k * cellWords + firstWord),
+      k .pre .words .word (k .args .k * cellWords + (widthWord + k .args .b % 4 / 2)),
     )
 
 returns : tie.Need-returns

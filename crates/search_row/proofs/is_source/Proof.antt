@@ -5,6 +5,7 @@ use mathlib.Core.Bool.{Bool, true, false, _&&_, not}
 use native.Mathlib.Omega.{arith}
 use lib.Dec.{eqb}
 use borrow.Author.Tests.{eq-eqb, ne-eqb, not-true, not-false}
+use Rattle.definition.specs.Job.{maxCells}
 use Rattle.theory_tables.specs.Steps.{lastAt, marks, before}
 use Rattle.search_row.specs.Words.{wordOf, thereIn, tallWord}
 use Rattle.search_row.specs.Laws.{there-size, and-away}
@@ -29,7 +30,7 @@ There c = let a = c .before .before .before .args in thereIn (a .sizes .cells) (
 there : (c : tie.Else1) → There c
 there c = sym (c .before .is-there .ensures) ∙ not-false _ (c .if1 .left)
 
-inside : (c : tie.After-last-at) → c .last-at .result < 64
+inside : (c : tie.After-last-at) → c .last-at .result < maxCells
 inside c =
     let k = c .before .before .before .before in
     let a = k .args in
@@ -72,7 +73,7 @@ returns-2 c =
     let after-last-at = c .before .before in
     let a = after-last-at .before .before .before .before .args in
     let e = ap (λ (p : ℕ). eqb (wordOf (a .row .now) p tallWord) 1) (after-last-at .last-at .ensures) in
-    tall (thereIn (a .sizes .cells) (a .sizes .reordering) (a .i) (a .q)) (eqb (wordOf (a .row .now) (lastAt (a .sizes .reordering) (a .i) (a .q)) 67) 1)
+    tall (thereIn (a .sizes .cells) (a .sizes .reordering) (a .i) (a .q)) (eqb (wordOf (a .row .now) (lastAt (a .sizes .reordering) (a .i) (a .q)) tallWord) 1)
     (eqb (marks (a .sizes .reordering) (a .q)) (before (a .sizes .reordering) (a .q1)))
     (sym e ∙ eq-eqb _ _ (c .if2 .taken))
 
@@ -108,7 +109,8 @@ returns-3 c =
     let g = k .pre .target .ground in
     let e = ap (λ (p : ℕ). eqb (wordOf (a .row .now) p tallWord) 1) (after-last-at .last-at .ensures) in
     ap₂ eqb (g .coded .mark (a .q) (omega (arith, g .all))) (g .coded .earlier (a .q1) (omega (arith, g .all)))
-    ∙ single (thereIn (a .sizes .cells) (a .sizes .reordering) (a .i) (a .q)) (eqb (wordOf (a .row .now) (lastAt (a .sizes .reordering) (a .i) (a .q)) 67) 1)
+    ∙ single (thereIn (a .sizes .cells) (a .sizes .reordering) (a .i) (a .q))
+    (eqb (wordOf (a .row .now) (lastAt (a .sizes .reordering) (a .i) (a .q)) tallWord) 1)
     (eqb (marks (a .sizes .reordering) (a .q)) (before (a .sizes .reordering) (a .q1)))
     (there (after-last-at .before)) (sym e ∙ ne-eqb _ _ (c .before .before .if2 .left))
 

@@ -2,7 +2,7 @@
 use Prim.Native.Nat.{_+_, _*_}
 use native.Mathlib.Omega.{arith}
 use borrow.Author.Needs.{needs}
-use Rattle.search_row.specs.Words.{cellWords}
+use Rattle.search_row.specs.Words.{cellWords, firstWord}
 use Rattle.search_row.proofs.site.Statement.{statement}
 use Rattle.search_row.proofs.site.Tie as tie
 
@@ -18,7 +18,7 @@ word-requires c κs = search needs
 add-result : tie.Need-add-result
 add-result c =
     let k = c .before .before in
-    omega (arith, k .pre .words .word (k .args .k * cellWords + 64))
+    omega (arith, k .pre .words .word (k .args .k * cellWords + firstWord))
 
 returns : tie.Need-returns
 returns c = search needs

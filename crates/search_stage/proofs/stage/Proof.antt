@@ -1,6 +1,7 @@
 -- The costs of both rows in the lanes that a case goes by, joined with the table before; then the lanes beyond the poses are closed.
 use Prim.Native.Nat.{_+_, _≤_}
 use mathlib.Core.Path.{refl, _∙_}
+use Rattle.search_store.specs.Map.{maxLanes}
 use Rattle.search_row.specs.Words.{deckIn, posIn, withCells}
 use Rattle.search_stage.specs.Laws.{wide-lanes, stage-made, given-states, given-wide, given-table}
 use native.Mathlib.Omega.{arith}
@@ -27,7 +28,7 @@ lanes-in-requires c κs =
     (given-table g (k .args .i) (c .lanes-of .result) _ (k .pre .stage) (omega (arith, c .lanes-of .ensures, y .1)) refl (g .low))
 
 -- no more lanes are run than a row has words
-run : (c : tie.After-lanes-in) → c .lanes-in .result ≤ 64
+run : (c : tie.After-lanes-in) → c .lanes-in .result ≤ maxLanes
 run c =
     let after-wide-of = c .before .before .before in
     let k = after-wide-of .before .before .before .before in

@@ -3,19 +3,20 @@ use Prim.Native.Nat.{ℕ, _+_, _*_, _-_, _/_, _%_}
 use mathlib.Core.Path.{refl}
 use native.Mathlib.Omega.{arith}
 use borrow.Author.Needs.{needs}
+use Rattle.search_store.specs.Map.{bucketWords, maxLanes}
 use Rattle.search_wide_buckets.specs.TableLaws.{found-words}
 use Rattle.search_wide_buckets.proofs.found_lane.Statement.{statement}
 use Rattle.search_wide_buckets.proofs.found_lane.Tie as tie
 
 -- where the words of a pose begin: those of the row that ran up, of gap 0, of gaps 2 and 3
 abbrev far : tie.Start → ℕ
-far k = k .args .a / 4 * 64 + k .args .l
+far k = k .args .a / 4 * maxLanes + k .args .l
 
 abbrev near : tie.Start → ℕ
-near k = (1 + k .args .a % 4) * 1216 + far k
+near k = (1 + k .args .a % 4) * bucketWords + far k
 
 abbrev other : tie.Start → ℕ
-other k = (k .args .buckets - 4 + k .args .a % 4) * 1216 + far k
+other k = (k .args .buckets - 4 + k .args .a % 4) * bucketWords + far k
 
 mul-far : tie.Need-mul-far
 mul-far c = search needs
@@ -66,12 +67,15 @@ lesser-requires : tie.Need-lesser-requires
 lesser-requires c κs =
     let k = c .before .before in
     record {
-      first = omega (arith, k .pre .looks .lent .low .word (other k + 128));
-      second = omega (arith, k .pre .looks .lent .low .word (other k + 64));
+      first = omega (arith, k .pre .looks .lent .low .word (other k + 2 * maxLanes));
+      second = omega (arith, k .pre .looks .lent .low .word (other k + maxLanes));
     }
 
 add-lesser-3 : tie.Need-add-lesser-3
 add-lesser-3 c = search needs
+
+mul-lesser-5 : tie.Need-mul-lesser-5
+mul-lesser-5 c = search needs
 
 mul-lesser-3 : tie.Need-mul-lesser-3
 mul-lesser-3 c = search needs
@@ -83,9 +87,12 @@ lesser-requires-2 : tie.Need-lesser-requires-2
 lesser-requires-2 c κs =
     let k = c .before .before .before .before in
     record {
-      first = omega (arith, k .pre .looks .lent .low .word (near k + 256));
-      second = omega (arith, c .before .lesser .ensures, k .pre .looks .lent .low .word (other k + 64));
+      first = omega (arith, k .pre .looks .lent .low .word (near k + 4 * maxLanes));
+      second = omega (arith, c .before .lesser .ensures, k .pre .looks .lent .low .word (other k + maxLanes));
     }
+
+mul-lesser-6 : tie.Need-mul-lesser-6
+mul-lesser-6 c = search needs
 
 mul-lesser-4 : tie.Need-mul-lesser-4
 mul-lesser-4 c = search needs
@@ -98,7 +105,7 @@ lesser-requires-3 c κs =
     let mid = c .before .before .before .before in
     let k = mid .before .before in
     record {
-      first = omega (arith, c .before .lesser2 .ensures, k .pre .looks .lent .low .word (near k + 256));
+      first = omega (arith, c .before .lesser2 .ensures, k .pre .looks .lent .low .word (near k + 4 * maxLanes));
       second = omega (arith, k .pre .looks .lent .low .word (far k));
     }
 
@@ -122,18 +129,20 @@ found-lane-spec =
     add-other
     mul-other
     add-other-2
-    add-lesser
     mul-lesser
+    add-lesser
+    mul-lesser-2
     element-copy-out-lesser
     add-lesser-2
-    mul-lesser-2
+    mul-lesser-3
     element-copy-out-lesser-2
     lesser-requires
+    mul-lesser-4
     add-lesser-3
-    mul-lesser-3
+    mul-lesser-5
     element-copy-out-lesser-3
     lesser-requires-2
-    mul-lesser-4
+    mul-lesser-6
     element-copy-out-lesser-4
     lesser-requires-3
     returns)

@@ -3,6 +3,7 @@ use Prim.Native.Nat.{ℕ, _+_, _*_}
 use mathlib.Core.Path.{_≡_, refl}
 use native.Mathlib.Omega.{arith}
 use lib.ListN.{getD}
+use Rattle.search_store.specs.Map.{maxLanes}
 use Rattle.search_buckets.specs.Rows.{endRow, payIn}
 use Rattle.search_buckets.specs.Laws.{row-miss, row-above}
 use Rattle.search_wide_buckets.specs.TableLaws.{spread-all, gathered-none}
@@ -24,7 +25,7 @@ returns c =
           (λ l v s i j h. omega (
             arith,
             row-miss (endRow (a .row .now) (a .source .left) (a .b) (a .source .right)) s
-                (getD (a .store .now) (a .source .at + a .b * 64 + l) 0 + payIn (a .row .now) (a .source .left) (a .b) (a .source .right) v)
+                (getD (a .store .now) (a .source .at + a .b * maxLanes + l) 0 + payIn (a .row .now) (a .source .left) (a .b) (a .source .right) v)
                 (λ e. omega (arith, c .before .end-row .ensures)),
           ));
       unused = λ e. refl;
@@ -52,7 +53,7 @@ returns-2 c =
             arith,
             c .before .common .ensures l i,
             row-above (endRow (a .row .now) (a .source .left) (a .b) (a .source .right)) s
-                (getD (a .store .now) (a .source .at + a .b * 64 + l) 0 + payIn (a .row .now) (a .source .left) (a .b) (a .source .right) v),
+                (getD (a .store .now) (a .source .at + a .b * maxLanes + l) 0 + payIn (a .row .now) (a .source .left) (a .b) (a .source .right) v),
           ));
       unused = λ e. refl;
     }
@@ -88,7 +89,7 @@ returns-3 c =
     let a = k .args in
     record {
       gathered = spread-all (k .pre .few) (c .spread-row .ensures)
-          (λ l v s i j. pose-pays (a .b) v s (getD (a .store .now) (a .source .at + a .b * 64 + l) 0) (k .pre .source .paid)
+          (λ l v s i j. pose-pays (a .b) v s (getD (a .store .now) (a .source .at + a .b * maxLanes + l) 0) (k .pre .source .paid)
           (mid .before .end-row .ensures) j (nine-most (k .pre .source .needed)));
       unused = λ e. absurd (let z : _≡_ {A = ℕ} 0 1 = cc in omega arith);
     }

@@ -3,6 +3,7 @@ use Prim.Native.Nat.{ℕ, _+_, _*_}
 use mathlib.Core.Path.{_≡_, ap, _∙_}
 use native.Mathlib.Omega.{arith}
 use lib.ListN.{getD}
+use Rattle.search_store.specs.Map.{bucketWords, maxLanes}
 use Rattle.search_lanes.specs.Lowered.{lowered-at-ext}
 use Rattle.search_wide_buckets.specs.Table.{chargedOne, Spread}
 use Rattle.search_wide_buckets.specs.TableLaws.{spread-none, spread-more}
@@ -21,7 +22,7 @@ alone : (c : tie.After-lower-one) → Alone c
 alone c =
     let k = c .before .before .before in
     let a = k .args in
-    let z : a .t * 64 + a .lane ≡ 0 * 1216 + a .t * 64 + a .lane = omega arith in
+    let z : a .t * maxLanes + a .lane ≡ 0 * bucketWords + a .t * maxLanes + a .lane = omega arith in
     let w = rw z at (lowered-at-ext {g = chargedOne (a .x) (a .pays .now) (a .u) 0} (c .lower-one .ensures)
     (λ l h. ap (λ (j : ℕ). a .x + getD (a .pays .now) j 0) (omega arith))) in
     spread-more 0 (omega arith) (omega arith) (omega arith) (k .pre .lent .low)

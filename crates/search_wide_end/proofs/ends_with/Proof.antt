@@ -6,6 +6,7 @@ use native.Mathlib.Omega.{arith}
 use lib.Dec.{eqb}
 use borrow.Author.Needs.{needs}
 use borrow.Author.Tests.{not-true, not-false}
+use Rattle.definition.specs.Job.{maxCells}
 use Rattle.theory_tables.specs.Steps.{lastAt}
 use Rattle.search_row.specs.Words.{wordOf, thereIn, tallWord}
 use Rattle.search_row.specs.Laws.{there-size, and-away, and-there}
@@ -19,7 +20,7 @@ There c = let a = c .before .before .before .args in thereIn (a .sizes .cells) (
 there : (c : tie.Else1) → There c
 there c = sym (c .before .is-there .ensures) ∙ not-false _ (c .if1 .left)
 
-inside : (c : tie.After-last-at) → c .last-at .result < 64
+inside : (c : tie.After-last-at) → c .last-at .result < maxCells
 inside c =
     let k = c .before .before .before .before in
     let a = k .args in
@@ -58,7 +59,7 @@ returns-2 c =
     let a = mid .before .before .before .args in
     ap (λ (p : ℕ). not (eqb (wordOf (a .row .now) p tallWord) 1)) (c .before .last-at .ensures)
     ∙ and-there (thereIn (a .sizes .cells) (a .sizes .reordering) (a .sizes .cells) (a .q))
-    (not (eqb (wordOf (a .row .now) (lastAt (a .sizes .reordering) (a .sizes .cells) (a .q)) 67) 1)) (there mid)
+    (not (eqb (wordOf (a .row .now) (lastAt (a .sizes .reordering) (a .sizes .cells) (a .q)) tallWord) 1)) (there mid)
 
 pub ends-with-spec : {M : Type 1} → statement M
 ends-with-spec =

@@ -6,7 +6,7 @@ use native.Mathlib.Omega.{arith}
 use native.Mathlib.Numerals.{add-one}
 use borrow.Author.Tests.{not-true, not-false}
 use lib.ListN.{length}
-use Rattle.search_store.specs.Map.{stateBlock}
+use Rattle.search_store.specs.Map.{stateBlock, maxLanes}
 use Rattle.theory_tables.specs.Steps.{lastAt}
 use Rattle.search_lanes.specs.Laws.{state-rows}
 use Rattle.search_row.specs.Words.{deckIn}
@@ -34,7 +34,7 @@ here : (c : tie.After-last-at)
 here c = omega (arith, c .last-at .ensures)
 
 -- the state's rows lie in the store
-room : (k : tie.Start) → (let a = k .args in a .to .at + a .q * stateBlock + a .sizes .poses * 64 ≤ length (a .store .now))
+room : (k : tie.Start) → (let a = k .args in a .to .at + a .q * stateBlock + a .sizes .poses * maxLanes ≤ length (a .store .now))
 room k = let g = k .pre .given in omega (arith, g .room, g .ground .all, g .ground .coded .few, g .ground .few)
 
 add-starts : tie.Need-add-starts

@@ -5,6 +5,7 @@ use mathlib.Core.Bool.{true}
 use native.Mathlib.Omega.{arith}
 use borrow.Author.Needs.{needs}
 use borrow.Author.Tests.{not-true, not-false}
+use Rattle.definition.specs.Job.{maxCells}
 use Rattle.theory_tables.specs.Steps.{lastAt, isSource}
 use Rattle.search_lanes.specs.Store.{layerIn}
 use Rattle.search_row.specs.Words.{deckIn}
@@ -31,7 +32,7 @@ abbrev start : tie.After-last-at2 → tie.Start
 start c = let mid = c .before .before .before in mid .before .before .before .before
 
 -- both cells stand in the row
-left : (c : tie.After-last-at2) → c .before .before .last-at .result < 64
+left : (c : tie.After-last-at2) → c .before .before .last-at .result < maxCells
 left c =
     let k = start c in
     let a = k .args in
@@ -46,7 +47,7 @@ here : (c : tie.After-last-at2)
     → (let a = start c .args in c .last-at2 .result ≡ lastAt (a .sizes .reordering) (suc (a .layer .cells)) (a .q))
 here c = omega (arith, c .last-at2 .ensures)
 
-right : (c : tie.After-last-at2) → c .last-at2 .result < 64
+right : (c : tie.After-last-at2) → c .last-at2 .result < maxCells
 right c =
     let k = start c in
     let a = k .args in

@@ -7,7 +7,8 @@ use native.Mathlib.Omega.{arith}
 use native.Mathlib.Decide.{decLt}
 use borrow.Author.Tests.{not-true}
 use lib.ListN.{length}
-use Rattle.search_store.specs.Map.{stateBlock}
+use Rattle.definition.specs.Job.{maxCells}
+use Rattle.search_store.specs.Map.{stateBlock, maxLanes, maxPoses}
 use Rattle.theory_tables.specs.Steps.{B, lastAt}
 use Rattle.search_lanes.specs.Store.{layerIn}
 use Rattle.search_lanes.specs.Laws.{rows-join, state-rows}
@@ -53,7 +54,7 @@ next k b l =
     nextFrom (deckIn (a .row .now) (a .sizes)) (a .sizes .reordering) (a .store .now) (a .layer .at) (a .layer .cells) l (a .q) b
 
 -- the state's rows lie in the store
-room : (k : tie.Start) → (let a = k .args in a .to + a .q * stateBlock + a .sizes .poses * 64 ≤ length (a .store .now))
+room : (k : tie.Start) → (let a = k .args in a .to + a .q * stateBlock + a .sizes .poses * maxLanes ≤ length (a .store .now))
 room k = omega (arith, k .pre .stepping .beside .room, k .pre .target .state, k .pre .stepping .given .ground .coded .few, k .pre .stepping .given .ground .few)
 
 short : (k : tie.Start) → length (k .args .store .now) < 2 ^ 64
@@ -64,7 +65,7 @@ here : (c : tie.After-last-at)
     → (let a = start c .args in c .last-at .result ≡ lastAt (a .sizes .reordering) (suc (a .layer .cells)) (a .q))
 here c = omega (arith, c .last-at .ensures)
 
-inside : (c : tie.After-last-at) → c .last-at .result < 64
+inside : (c : tie.After-last-at) → c .last-at .result < maxCells
 inside c =
     let k = start c in
     let a = k .args in
@@ -96,7 +97,7 @@ last c l v t h =
     (λ g. states-twin (a .row .now) D (a .sizes .reordering) f (a .layer .cells) (a .q) (a .sizes .states) v t g h))
 
 -- how many of its poses look at the table
-looking : (c : tie.After-poses-of) → c .poses-of .result ≤ 60
+looking : (c : tie.After-poses-of) → c .poses-of .result ≤ maxPoses
 looking c = omega (arith, c .poses-of .ensures .most, start (c .before .before) .pre .stepping .given .ground .few)
 
 -- nothing leads to the others
@@ -290,7 +291,7 @@ add-fill-rows c =
     let p = known (after-run-up .before .before .before) in
     let k = start (p .before .before) in
     let a = k .args in
-    let h : a .to + a .q * stateBlock + p .poses-of .result * 64 < 2 ^ 64 = omega (arith, room k, p .poses-of .ensures .most, short k) in
+    let h : a .to + a .q * stateBlock + p .poses-of .result * maxLanes < 2 ^ 64 = omega (arith, room k, p .poses-of .ensures .most, short k) in
     record { fits = h }
 
 sub-fill-rows : tie.Need-sub-fill-rows

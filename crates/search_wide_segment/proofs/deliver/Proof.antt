@@ -4,7 +4,7 @@ use mathlib.Core.Path.{_≡_, sym, ap₂}
 use lib.Dec.{eqb}
 use mathlib.Core.Bool.{cond}
 use native.Mathlib.Omega.{arith}
-use Rattle.search_store.specs.Map.{stateBlock}
+use Rattle.search_store.specs.Map.{stateBlock, maxLanes}
 use Rattle.theory_tables.specs.Steps.{offset}
 use Rattle.search_lanes.specs.Store.{Frame, Filled}
 use Rattle.search_lanes.specs.Laws.{frame-refl, frame-join, filled-none, filled-more}
@@ -69,8 +69,8 @@ loop-again c =
       filled-more (l .q) (g .narrow) (omega arith) (omega (arith, g .all, g .coded .few)) (l .inv .1) w
           (λ b j x y.
           ap₂ (cond (eqb (a .i + offset (a .sizes .reordering) (l .q)) (a .tall + suc (a .sizes .reordering))))
-          (sym (f .low (a .from + l .q * stateBlock + b * 64 + j) (omega (arith, g .room .over, g .all, g .coded .few, k .pre .below))))
-          (sym (f .high (a .costs + l .q * stateBlock + b * 64 + j) (omega arith)))),
+          (sym (f .low (a .from + l .q * stateBlock + b * maxLanes + j) (omega (arith, g .room .over, g .all, g .coded .few, k .pre .below))))
+          (sym (f .high (a .costs + l .q * stateBlock + b * maxLanes + j) (omega arith)))),
       frame-join (a .costs) (a .costs + (l .q + 1) * stateBlock) f (w .frame) (omega arith) (omega arith) (omega arith) (omega arith),
     )
 

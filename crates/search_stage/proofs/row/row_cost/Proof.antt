@@ -1,6 +1,7 @@
 -- The costs of stage 0; else the first layer, then the segment on from it.
 use Prim.Native.Nat.{_+_, _-_}
 use mathlib.Core.Path.{_≡_}
+use Rattle.search_store.specs.Map.{maxLanes}
 use Rattle.search_lanes.specs.Laws.{zeros-low}
 use Rattle.search_row.specs.Words.{deckIn, posIn}
 use Rattle.search_stage.specs.Rows.{row-open, row-after, start-place, start-state}
@@ -76,7 +77,7 @@ backs-requires c κs =
     let g = k .pre .given .ground in
     record {
       words = g .words;
-      low = zeros-low 64;
+      low = zeros-low maxLanes;
       room = omega (arith, g .few);
       cell = start-place (k .args .i) (after-tall-at .tall-at .result) (k .pre .given) (after-tall-at .before .if1 .left) (k .pre .stage)
           (after-tall-at .tall-at .ensures);
