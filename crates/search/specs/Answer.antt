@@ -12,7 +12,7 @@ use Rattle.search_row.specs.declared.Sizes.{Sizes}
 use Rattle.search_row.specs.Words.{posIn}
 use Rattle.search_back_segment.specs.Traces.{wordAt}
 use Rattle.search_back.specs.Trace.{RowsTrace}
-use Rattle.search_back.specs.Scatter.{cellAt, poseAt, Given, Scattered}
+use Rattle.search_back.specs.Scatter.{cellAt, poseAt, ScatterGiven, Scattered}
 use Rattle.search_back.specs.ScatterLaws.{both-scattered, scattered-small}
 use Rattle.search.specs.Rows.{RowsAsked, standing}
 use Rattle.search.specs.Found.{deck₀, deck₁, least, RowsTraced, Tables, Answered}
@@ -40,7 +40,7 @@ module _ {row₀ row₁ : List ℕ} {z : Sizes} {n₁ : ℕ} (r : RowsAsked row�
 
   module _ (path₀ path₁ : List ℕ) (b : Back (wordAt path₀) (wordAt path₁)) where
     pub first-given : {out : List ℕ} → maxKept < length path₀ → maxCells ≤ length out
-        → Given row₀ path₀ out (z .cells)
+        → ScatterGiven row₀ path₀ out (z .cells)
     first-given h l =
         let g = r .first .given .ground in
         record {
@@ -53,7 +53,7 @@ module _ {row₀ row₁ : List ℕ} {z : Sizes} {n₁ : ℕ} (r : RowsAsked row�
           apart = r .first .apart;
         }
 
-    pub second-given : {out : List ℕ} → maxKept < length path₁ → maxCells ≤ length out → Given row₁ path₁ out n₁
+    pub second-given : {out : List ℕ} → maxKept < length path₁ → maxCells ≤ length out → ScatterGiven row₁ path₁ out n₁
     second-given h l =
         let g = r .second .given .ground in
         record {

@@ -21,7 +21,7 @@ use Rattle.search_join.specs.Tables.{caseState₀, caseState₁, casePose, poin
 use Rattle.search_stage.specs.Stage.{wide, StagesGiven}
 use Rattle.search_stage.specs.Laws.{wide-all, wide-last, given-states, given-wide}
 use Rattle.search_back_segment.specs.Traces.{wordAt}
-use Rattle.search_back_stage.specs.Rows.{startCells, startLayer, startEnd, endPlace, Stage, StageDone}
+use Rattle.search_back_stage.specs.Rows.{startCells, startLayer, startEnd, endPlace, Stage, StageNoted}
 use Rattle.search_back_stage.specs.Laws.{end-tall, end-last}
 use Rattle.search_back.specs.Trace.{PointerRoom, Ways, LegGiven, Trace, LegDone, TraceDone}
 
@@ -90,8 +90,8 @@ module _ {row₀ row₁ st path₀ path₁ : List ℕ} {z : Sizes} {n₁ I s t l
 
 pub leg-done : {D₀ D₁ : Deck} {R talls : ℕ} {pos₀ pos₁ : ℕ → ℕ} {I s t l q₀ q₁ a : ℕ}
     {st mid new path₀ path₀′ path₁ path₁′ : List ℕ}
-    → StageDone D₀ R talls pos₀ I s l q₀ a st mid path₀ path₀′
-    → StageDone D₁ R talls pos₁ I t l q₁ a mid new path₁ path₁′
+    → StageNoted D₀ R talls pos₀ I s l q₀ a st mid path₀ path₀′
+    → StageNoted D₁ R talls pos₁ I t l q₁ a mid new path₁ path₁′
     → LegDone D₀ D₁ R talls pos₀ pos₁ I s t l q₀ q₁ a st new path₀ path₀′ path₁ path₁′
 leg-done v w =
     record {

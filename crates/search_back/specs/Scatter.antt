@@ -16,7 +16,7 @@ abbrev pub poseAt : List ℕ → ℕ → ℕ
 poseAt path i = getD path i 0 % poseSlots
 
 -- a row's path: each place has another position of the row, and no two positions have the same number
-pub record Given (row path out : List ℕ) (n : ℕ) : Type 0 where
+pub record ScatterGiven (row path out : List ℕ) (n : ℕ) : Type 0 where
   pub words : RowWords row
   pub size : n ≤ maxCells
   pub room : n < length path
@@ -26,7 +26,7 @@ pub record Given (row path out : List ℕ) (n : ℕ) : Type 0 where
   pub apart : (k m : ℕ) → k < n → m < n → wordOf row k numberWord ≡ wordOf row m numberWord → k ≡ m
 
 -- the places below m have their pose numbers, and nothing else is changed
-pub record Upto (row path : List ℕ) (m : ℕ) (old new : List ℕ) : Type 0 where
+pub record ScatteredBelow (row path : List ℕ) (m : ℕ) (old new : List ℕ) : Type 0 where
   pub long : length new ≡ length old
   pub done : (i : ℕ) → 0 < i → i < m → getD new (cellAt row path i) 0 ≡ poseAt path i
   pub kept : (c : ℕ) → ((i : ℕ) → 0 < i → i < m → cellAt row path i ≡ c → ⊥) → getD new c 0 ≡ getD old c 0

@@ -8,13 +8,13 @@ use native.Mathlib.Decide.{ℕ-discrete}
 use lib.ListN.{length, getD, set, length-set}
 use lib.Seq.{getD-set-same, getD-set-other}
 use Rattle.theory_tables.specs.Steps.{poseSlots}
-use Rattle.search_back.specs.Scatter.{cellAt, poseAt, Given, Upto, Scattered}
+use Rattle.search_back.specs.Scatter.{cellAt, poseAt, ScatterGiven, ScatteredBelow, Scattered}
 
-pub upto-none : (row path st : List ℕ) → Upto row path 1 st st
+pub upto-none : (row path st : List ℕ) → ScatteredBelow row path 1 st st
 upto-none row path st = record { long = refl; done = λ i h l. absurd (omega arith); kept = λ c h. refl }
 
 -- places with the same cell are the same
-pub cells-apart : {row path out : List ℕ} {n : ℕ} → Given row path out n → (i j : ℕ) → 0 < i → i < j → j ≤ n
+pub cells-apart : {row path out : List ℕ} {n : ℕ} → ScatterGiven row path out n → (i j : ℕ) → 0 < i → i < j → j ≤ n
     → cellAt row path i ≡ cellAt row path j → ⊥
 cells-apart {row} {path} g i j h l m e =
     let p = g .places in
@@ -23,9 +23,9 @@ cells-apart {row} {path} g i j h l m e =
     (p .inside j (omega arith) m) e)
 
 pub upto-more : {row path old new out : List ℕ} {n : ℕ} (m c v : ℕ)
-    → Given row path out n → 0 < m → m ≤ n → c ≡ cellAt row path m → v ≡ poseAt path m → c < length old
-    → Upto row path m old new
-    → Upto row path (m + 1) old (set new c v)
+    → ScatterGiven row path out n → 0 < m → m ≤ n → c ≡ cellAt row path m → v ≡ poseAt path m → c < length old
+    → ScatteredBelow row path m old new
+    → ScatteredBelow row path (m + 1) old (set new c v)
 upto-more {row} {path} {old} {new} m c v g h l e f r w =
     record {
       long = length-set new c v ∙ w .long;
@@ -39,7 +39,7 @@ upto-more {row} {path} {old} {new} m c v g h l e f r w =
     done i x y (no z) = getD-set-other new c (cellAt row path i) v 0 (λ u. cells-apart g i m x (omega arith) l (u ∙ e))
         ∙ w .done i x (omega arith)
 
-pub upto-all : {row path old new : List ℕ} {n : ℕ} (m : ℕ) → m ≡ n + 1 → Upto row path m old new
+pub upto-all : {row path old new : List ℕ} {n : ℕ} (m : ℕ) → m ≡ n + 1 → ScatteredBelow row path m old new
     → Scattered row path n old new
 upto-all m e w = record {
   long = w .long;

@@ -3,7 +3,7 @@ ghost use mathlib.Core.Path.{_≡_};
 ghost use Prim.Native.Nat.{suc, _+_, _<_};
 ghost use Rattle.search_join.specs.Tables.{pointersIn};
 ghost use Rattle.search_back.specs.Trace.{PointerRoom, LegGiven, Trace, RowsLeg, RowsTrace};
-ghost use Rattle.search_back.specs.Scatter.{Given, Scattered};
+ghost use Rattle.search_back.specs.Scatter.{ScatterGiven, Scattered};
 use search_back_stage::RowLeg;
 use search_join::Case;
 use search_row::Sizes;
@@ -158,7 +158,7 @@ pub fn trace(
 // From a row's path to pose numbers by cell number: place by place, the cell there gets the pose number there.
 
 pub fn scatter(out: &mut [u32], path: &[u32], row: &[u32], n: usize)
-    requires { ⌜ Given (now row) (now path) (now out) n ⌝ }
+    requires { ⌜ ScatterGiven (now row) (now path) (now out) n ⌝ }
     ensures { λ _. ⌜ Scattered (now (row .entry)) (now (path .entry)) n (now (out .entry)) (now (out .exit)) ⌝ }
 {
     let mut i: usize = 1;

@@ -11,7 +11,7 @@ use Rattle.theory_tables.specs.Steps.{B, Deck, Layer, stateCount, lastAt, isThe
 use Rattle.theory_tables.specs.Steps.{poseSlots}
 use Rattle.search_row.specs.Words.{deckOf}
 use Rattle.search_dense_layer.specs.Kept.{keptIn}
-use Rattle.search_back_segment.specs.Traces.{First, fromPose, fromState, Fits, EntrySource}
+use Rattle.search_back_segment.specs.Traces.{First, fromPose, fromState, SourceFits, EntrySource}
 
 -- a loop's least is one of its numbers
 pub lowest-missed : (h : ℕ → ℕ) (n v : ℕ) → v < B → ((k : ℕ) → k < n → h k ≡ v → ⊥) → lowest B h (from 0 n) ≡ v → ⊥
@@ -53,11 +53,11 @@ module _ (D : Deck) (R : ℕ) (f : Layer) (i q a : ℕ) where
 
   -- a hit
   pub state-fits : (want p b : ℕ) → p < stateCount R → b < D .poses → want < B → fromState D R f i q a p b ≡ want
-      → Fits D R f i q a want p b
+      → SourceFits D R f i q a want p b
   unfolding fromState
   state-fits want p b x y l e = go (isSource D R i q p) refl
     where
-      go : (t : Bool) → isSource D R i q p ≡ t → Fits D R f i q a want p b
+      go : (t : Bool) → isSource D R i q p ≡ t → SourceFits D R f i q a want p b
       go true s = record { state = x; pose = y; source = s; sum = sym (state-in p b s) ∙ e }
       go false s = absurd (omega (arith, state-out p b s, e))
 
@@ -94,7 +94,7 @@ poses-none D R f i q a p want s l =
 
 -- the source of a kept entry
 pub entry-source : (D : Deck) (R : ℕ) (st : List ℕ) (i q a : ℕ) {want p b : ℕ}
-    → Fits D R (keptIn st i) i q a want p b → keptIn st (suc i) q a ≡ D .own (lastAt R (suc i) q) a + want
+    → SourceFits D R (keptIn st i) i q a want p b → keptIn st (suc i) q a ≡ D .own (lastAt R (suc i) q) a + want
     → EntrySource D R st i q a p b
 entry-source D R st i q a w e =
     record {

@@ -41,7 +41,7 @@ unfoldable pub fromState : Deck → ℕ → Layer → ℕ → ℕ → ℕ → �
 fromState D R f i q a p b = cond (isSource D R i q p) (f p b + D .toll (lastAt R i p) b (lastAt R (suc i) q) a) B
 
 -- state p in pose b of the layer f is a source by way of which state q in pose a costs `want`, without its own cost
-pub record Fits (D : Deck) (R : ℕ) (f : Layer) (i q a want p b : ℕ) : Type 0 where
+pub record SourceFits (D : Deck) (R : ℕ) (f : Layer) (i q a want p b : ℕ) : Type 0 where
   pub state : p < stateCount R
   pub pose : b < D .poses
   pub source : isSource D R i q p ≡ true

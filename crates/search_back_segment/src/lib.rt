@@ -6,7 +6,7 @@ ghost use lib.ListN.{set};
 ghost use Rattle.theory_tables.specs.Steps.{lastAt, poseSlots};
 ghost use Rattle.search_row.specs.Words.{deckIn};
 ghost use Rattle.search_dense_layer.specs.Kept.{keptIn};
-ghost use Rattle.search_back_segment.specs.Traces.{First, fromPose, fromState, Fits};
+ghost use Rattle.search_back_segment.specs.Traces.{First, fromPose, fromState, SourceFits};
 ghost use Rattle.search_back_segment.specs.Traces.{PosesBefore, SourceSought, SourceThere, LastAsked, PathCell};
 ghost use Rattle.search_back_segment.specs.Traces.{EntrySource, Back, Entry, SegmentTrace, End};
 ghost use Rattle.search_back_segment.specs.Traces.{SegmentTraceDone, EndDone, lastCode, LeastOf};
@@ -79,7 +79,7 @@ fn find_source(
     want: u32,
 ) -> usize
     requires { ⌜ SourceThere (now row) (now store) sizes i q a want ⌝ }
-    ensures { λ t. ⌜ Fits (deckIn (now (row .entry)) sizes) (sizes .reordering)
+    ensures { λ t. ⌜ SourceFits (deckIn (now (row .entry)) sizes) (sizes .reordering)
         (keptIn (now (store .entry)) i) i q a want (t / poseSlots) (t % poseSlots) ⌝ }
 {
     let mut p: usize = 0;

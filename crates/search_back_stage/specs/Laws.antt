@@ -25,7 +25,7 @@ use Rattle.search_dense_layer.specs.KeptLaws.{kept-ext, kept-fewer}
 use Rattle.search_back_segment.specs.Traces.{Back, SegmentTrace, End, SegmentTraceDone, EndDone, wordAt}
 use Rattle.search_back_segment.specs.Steps.{end-full}
 use Rattle.search_back_stage.specs.Rows.{startCells, startLayer, startEnd, costFrom}
-use Rattle.search_back_stage.specs.Rows.{endPlace, StartState, Stage, Started, StageDone}
+use Rattle.search_back_stage.specs.Rows.{endPlace, StartState, Stage, FirstKept, StageNoted}
 
 -- ---- the start
 
@@ -48,10 +48,10 @@ start-count R pos I j s e = ap (λ (k : ℕ). startCells R pos k s) e
 
 module _ (D : Deck) (R : ℕ) (pos : ℕ → ℕ) where
   pub started-open : {count I s l to : ℕ} {old new : List ℕ} → I ≡ 0 → count ≡ stateCount R → to ≡ keptAt 1
-      → Begun (firstOpen D R) (D .poses) count to old new → Started D R pos I s l 1 old new
+      → Begun (firstOpen D R) (D .poses) count to old new → FirstKept D R pos I s l 1 old new
   unfolding startCells startLayer
   started-open {count} {I} {s} {l} {to} {old} {new} e n z w =
-      subst (λ (k : ℕ). Started D R pos k s l 1 old new) (sym e) record {
+      subst (λ (k : ℕ). FirstKept D R pos k s l 1 old new) (sym e) record {
         count = refl;
         frame = frame-join keptFrom pagesFrom (frame-refl keptFrom pagesFrom old) (w .frame) (omega arith) (omega arith)
             (omega arith) (omega arith);
@@ -62,10 +62,10 @@ module _ (D : Deck) (R : ℕ) (pos : ℕ → ℕ) where
   pub started-after : {count I s l i p to : ℕ} {old new : List ℕ} (J : ℕ) → I ≡ suc J → p ≡ pos J → i ≡ placedWith R p s
       → count ≡ stateCount R
       → to ≡ keptAt (i + 1) → i + 1 ≤ maxKept
-      → Begun (firstAfter D R i (marks R s) p l) (D .poses) count to old new → Started D R pos I s l (i + 1) old new
+      → Begun (firstAfter D R i (marks R s) p l) (D .poses) count to old new → FirstKept D R pos I s l (i + 1) old new
   unfolding startCells startLayer
   started-after {count} {I} {s} {l} {i} {p} {to} {old} {new} J e f g n z h w =
-      subst (λ (k : ℕ). Started D R pos k s l (i + 1) old new) (sym e) record {
+      subst (λ (k : ℕ). FirstKept D R pos k s l (i + 1) old new) (sym e) record {
         count = omega arith;
         frame = frame-join keptFrom pagesFrom (frame-refl keptFrom pagesFrom old) (w .frame) (omega arith) (omega arith)
             (omega arith) (omega arith);
@@ -132,12 +132,12 @@ module _ {row st path : List ℕ} {z : Sizes} {I s l q a : ℕ} (g : Stage row s
   abbrev pays : ℕ
   pays = startEnd (deckIn row z) (posIn row) I l
 
-  abbrev SegmentCosted : Type 0
-  SegmentCosted = costFrom (deckIn row z) (z .reordering) (z .talls) (posIn row) I s l q a < B
+  abbrev HasWay : Type 0
+  HasWay = costFrom (deckIn row z) (z .reordering) (z .talls) (posIn row) I s l q a < B
 
   -- nothing is noted
-  none-noted : {new : List ℕ} → Frame 0 pagesFrom st new → Low new → (SegmentCosted → ⊥)
-      → StageDone (deckIn row z) (z .reordering) (z .talls) (posIn row) I s l q a st new path path
+  none-noted : {new : List ℕ} → Frame 0 pagesFrom st new → Low new → (HasWay → ⊥)
+      → StageNoted (deckIn row z) (z .reordering) (z .talls) (posIn row) I s l q a st new path path
   none-noted u w none = record {
     frame = u;
     low = w;
@@ -147,7 +147,7 @@ module _ {row st path : List ℕ} {z : Sizes} {I s l q a : ℕ} (g : Stage row s
   }
 
   -- the first layer has its place among those that are kept
-  start-fits : SegmentCosted → startCells (z .reordering) (posIn row) I s ≤ maxKept
+  start-fits : HasWay → startCells (z .reordering) (posIn row) I s ≤ maxKept
   start-fits c = go (decLt I (z .talls))
     where
       size : (z .cells) ≤ maxCells
@@ -164,16 +164,16 @@ module _ {row st path : List ℕ} {z : Sizes} {I s l q a : ℕ} (g : Stage row s
           omega (arith, size, end-bound D (z .reordering) f (startCells (z .reordering) (posIn row) I s) pays p)
 
   pub start-late : maxKept < startCells (z .reordering) (posIn row) I s
-      → StageDone (deckIn row z) (z .reordering) (z .talls) (posIn row) I s l q a st st path path
+      → StageNoted (deckIn row z) (z .reordering) (z .talls) (posIn row) I s l q a st st path path
   start-late h = none-noted (frame-refl 0 pagesFrom st) (g .start .low) (λ c. omega (arith, start-fits c))
 
-  module _ {cells : ℕ} {mid : List ℕ} (w : Started (deckIn row z) (z .reordering) (posIn row) I s l cells st mid)
+  module _ {cells : ℕ} {mid : List ℕ} (w : FirstKept (deckIn row z) (z .reordering) (posIn row) I s l cells st mid)
       (few : cells ≤ maxKept) where
     some : 0 < cells
     some = omega (arith, w .count, start-some (z .reordering) (posIn row) I s)
 
     -- the cost, from as many cells as were counted
-    cost : SegmentCosted → stageEnd D (z .reordering) (z .talls) (posIn row) I f cells pays q a < B
+    cost : HasWay → stageEnd D (z .reordering) (z .talls) (posIn row) I f cells pays q a < B
     cost c = subst (λ (i : ℕ). stageEnd D (z .reordering) (z .talls) (posIn row) I f i pays q a < B) (sym (w .count)) c
 
     -- the first layer is the one that is kept
@@ -201,13 +201,13 @@ module _ {row st path : List ℕ} {z : Sizes} {I s l q a : ℕ} (g : Stage row s
     -- ---- to a tall cell
 
     module _ (h : I < (z .talls)) {end : ℕ} (e : end ≡ placedWith (z .reordering) (posIn row I) q) where
-      tall-room : SegmentCosted → (cells + offset (z .reordering) q ≤ posIn row I + suc (z .reordering))
+      tall-room : HasWay → (cells + offset (z .reordering) q ≤ posIn row I + suc (z .reordering))
           × (layers D (z .reordering) f cells (end - cells) q a < B)
       tall-room c =
           let p = tall-cost D (z .reordering) (z .talls) (posIn row) I f cells pays q a h (cost c) in
           (p .0, subst (λ (j : ℕ). layers D (z .reordering) f cells (j - cells) q a < B) (sym e) (p .1))
 
-      pub tall-late : end < cells → StageDone D (z .reordering) (z .talls) (posIn row) I s l q a st mid path path
+      pub tall-late : end < cells → StageNoted D (z .reordering) (z .talls) (posIn row) I s l q a st mid path path
       tall-late o = none-noted (frame-join 0 pagesFrom (frame-refl 0 pagesFrom st) (w .frame) (omega arith)
           (omega arith) (omega arith) (omega arith)) (w .low) (λ c. omega (arith, tall-room c .0))
 
@@ -227,7 +227,7 @@ module _ {row st path : List ℕ} {z : Sizes} {I s l q a : ℕ} (g : Stage row s
         tall-word = ap (λ (j : ℕ). keptIn new j q a) (omega arith)
 
         pub tall-none : B ≤ keptIn new end q a
-            → StageDone D (z .reordering) (z .talls) (posIn row) I s l q a st new path path
+            → StageNoted D (z .reordering) (z .talls) (posIn row) I s l q a st new path path
         tall-none b = none-noted (store-kept (k .frame)) (k .low) (λ c. omega (
           arith,
           tall-word,
@@ -250,7 +250,7 @@ module _ {row st path : List ℕ} {z : Sizes} {I s l q a : ℕ} (g : Stage row s
             }
 
         pub tall-done : {path′ : List ℕ} → SegmentTraceDone D (z .reordering) new cells (end - cells) q a path path′
-            → StageDone D (z .reordering) (z .talls) (posIn row) I s l q a st new path path′
+            → StageNoted D (z .reordering) (z .talls) (posIn row) I s l q a st new path path′
         tall-done {path′} d =
             record {
               frame = store-kept (k .frame);
@@ -277,7 +277,7 @@ module _ {row st path : List ℕ} {z : Sizes} {I s l q a : ℕ} (g : Stage row s
     -- ---- to the row's end
 
     module _ (h : (z .talls) ≤ I) where
-      segmentCost : SegmentCosted → costEnd D (z .reordering) f cells pays < B
+      segmentCost : HasWay → costEnd D (z .reordering) f cells pays < B
       segmentCost c = end-cost D (z .reordering) (z .talls) (posIn row) I f cells pays q a h (cost c)
 
       pub last-segment : Segment row mid z cells (z .cells)
@@ -294,7 +294,7 @@ module _ {row st path : List ℕ} {z : Sizes} {I s l q a : ℕ} (g : Stage row s
         }
 
         pub last-done : {path′ : List ℕ} → EndDone D (z .reordering) new cells path path′
-            → StageDone D (z .reordering) (z .talls) (posIn row) I s l q a st new path path′
+            → StageNoted D (z .reordering) (z .talls) (posIn row) I s l q a st new path path′
         last-done {path′} d =
             record {
               frame = store-kept (k .frame);

@@ -74,7 +74,7 @@ pub record Stage (row st path : List ℕ) (z : Sizes) (I s l q a : ℕ) : Type 0
 -- ---- what is left
 
 -- the first layer is kept, and has so many cells
-pub record Started (D : Deck) (R : ℕ) (pos : ℕ → ℕ) (I s l cells : ℕ) (old new : List ℕ) : Type 0 where
+pub record FirstKept (D : Deck) (R : ℕ) (pos : ℕ → ℕ) (I s l cells : ℕ) (old new : List ℕ) : Type 0 where
   pub count : cells ≡ startCells R pos I s
   pub frame : Frame keptFrom pagesFrom old new
   pub low : Low new
@@ -82,7 +82,7 @@ pub record Started (D : Deck) (R : ℕ) (pos : ℕ → ℕ) (I s l cells : ℕ) 
 
 -- the stage is traced, if it has a cost: the cells from its first place to its last are
 -- noted, and nothing else; the tables are kept
-pub record StageDone (D : Deck) (R talls : ℕ) (pos : ℕ → ℕ) (I s l q a : ℕ) (st st′ path path′ : List ℕ) : Type 0 where
+pub record StageNoted (D : Deck) (R talls : ℕ) (pos : ℕ → ℕ) (I s l q a : ℕ) (st st′ path path′ : List ℕ) : Type 0 where
   pub frame : Frame 0 pagesFrom st st′
   pub low : Low st′
   pub notes : Frame (startCells R pos I s) (suc (endPlace (D .size) R talls pos I q)) path path′

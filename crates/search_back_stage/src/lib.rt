@@ -2,7 +2,7 @@
 // kept, and the traceback goes back through them.
 ghost use Rattle.search_row.specs.Words.{deckIn, posIn};
 ghost use mathlib.Core.Path.{_≡_};
-ghost use Rattle.search_back_stage.specs.Rows.{startCells, StartState, StartRoom, Stage, Started, StageDone};
+ghost use Rattle.search_back_stage.specs.Rows.{startCells, StartState, StartRoom, Stage, FirstKept, StageNoted};
 use search_row::Sizes;
 use search_row::placed_with;
 use search_row::tall_at;
@@ -20,7 +20,7 @@ pub struct RowLeg {
 // The first layer of a stage, kept; the result is how many cells it has.
 fn first_of(store: &mut [u32], row: &[u32], sizes: Sizes, stage: usize, s: usize, l: usize) -> usize
     requires { ⌜ StartRoom (now row) (now store) sizes stage s l ⌝ }
-    ensures { λ i. ⌜ Started (deckIn (now (row .entry)) sizes) (sizes .reordering)
+    ensures { λ i. ⌜ FirstKept (deckIn (now (row .entry)) sizes) (sizes .reordering)
         (posIn (now (row .entry))) stage s l i (now (store .entry)) (now (store .exit)) ⌝ }
 {
     if stage == 0 {
@@ -51,7 +51,7 @@ fn cells_of(row: &[u32], sizes: Sizes, stage: usize, s: usize) -> usize
 pub fn stage_trace(store: &mut [u32], path: &mut [u32], row: &[u32], sizes: Sizes, leg: RowLeg)
     requires { ⌜ Stage (now row) (now store) (now path) sizes (leg .stage) (leg .start) (leg .lane) (leg .state)
         (leg .pose) ⌝ }
-    ensures { λ _. ⌜ StageDone (deckIn (now (row .entry)) sizes) (sizes .reordering) (sizes .talls)
+    ensures { λ _. ⌜ StageNoted (deckIn (now (row .entry)) sizes) (sizes .reordering) (sizes .talls)
         (posIn (now (row .entry))) (leg .stage) (leg .start) (leg .lane) (leg .state) (leg .pose) (now (store .entry))
         (now (store .exit)) (now (path .entry)) (now (path .exit)) ⌝ }
 {

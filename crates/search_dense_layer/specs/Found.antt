@@ -22,8 +22,8 @@ use Rattle.search_buckets.specs.Loops.{lowest-ext}
 use Rattle.search_buckets.specs.Rows.{found}
 use Rattle.search_buckets.specs.Next.{next-ext}
 use Rattle.search_dense_layer.specs.Laws.{apart-yes}
-use Rattle.search_dense_layer.specs.Thin.{thinIn, Arrays, ThinGathered, FarRunUp, foundBy, otherOf, Put, Stepped}
-use Rattle.search_dense_layer.specs.Thin.{variantWords}
+use Rattle.search_dense_layer.specs.Thin.{variantWords, thinIn, ThinArrays, ThinGathered, FarRunUp, foundBy}
+use Rattle.search_dense_layer.specs.Thin.{otherOf, Put, Stepped}
 
 -- ---- what is found
 
@@ -109,7 +109,7 @@ pub pose-by : (near apart far : List ℕ) (e v : ℕ) → v < 4
 pose-by near apart far e v h = ap₂ (λ (s w : ℕ). foundBy near apart far s w) (omega arith) (omega arith)
 
 -- arrays in which nothing is gathered yet
-pub lent-none : Arrays (replicate variantWords B) (replicate variantWords B) (replicate bucketRows B)
+pub lent-none : ThinArrays (replicate variantWords B) (replicate variantWords B) (replicate bucketRows B)
 lent-none =
     record {
       nearLong = length-replicate {A = ℕ} variantWords B;
@@ -121,8 +121,8 @@ lent-none =
     }
 
 -- far rows that ran up, and one array in two places
-pub lent-run : {near apart far far′ : List ℕ} {n : ℕ} → Arrays near apart far → FarRunUp n far far′
-    → Arrays near apart far′
+pub lent-run : {near apart far far′ : List ℕ} {n : ℕ} → ThinArrays near apart far → FarRunUp n far far′
+    → ThinArrays near apart far′
 lent-run l r =
     record {
       nearLong = l .nearLong;
@@ -133,7 +133,7 @@ lent-run l r =
       farLow = r .low;
     }
 
-pub lent-twin : {near apart far : List ℕ} → Arrays near apart far → Arrays near near far
+pub lent-twin : {near apart far : List ℕ} → ThinArrays near apart far → ThinArrays near near far
 lent-twin l =
     record {
       nearLong = l .nearLong;

@@ -18,7 +18,7 @@ use Rattle.search_row.specs.Words.{wordOf, apartWord, touchingWord}
 use Rattle.search_buckets.specs.Rows.{inRow, endRow, bucketsIn, payIn, Pays, onePose, payWords}
 use Rattle.search_buckets.specs.Laws.{row-hit, row-miss, pay-none}
 use Rattle.search_buckets.specs.Sources.{pose-pays}
-use Rattle.search_dense_layer.specs.Thin.{Arrays, ThinGathered, fourOf, spreadOf, variantWords}
+use Rattle.search_dense_layer.specs.Thin.{ThinArrays, ThinGathered, fourOf, spreadOf, variantWords}
 
 -- ---- lowered words
 
@@ -93,8 +93,8 @@ apart-min false x y h = omega arith
 
 module _ {buckets : ℕ} {near near′ apart apart′ far far′ : List ℕ} where
   -- what was lent stays so
-  pub lent-on : {bucket : ℕ → ℕ → ℕ} → Arrays near apart far
-      → ThinGathered bucket buckets near near′ apart apart′ far far′ → Arrays near′ apart′ far′
+  pub lent-on : {bucket : ℕ → ℕ → ℕ} → ThinArrays near apart far
+      → ThinGathered bucket buckets near near′ apart apart′ far far′ → ThinArrays near′ apart′ far′
   lent-on l g =
       record {
         nearLong = g .nearTo .long ∙ l .nearLong;
@@ -158,7 +158,7 @@ module _ (t x u : ℕ) (pays : List ℕ) where
 -- no source, or none that lowers anything
 pub gathered-none :
     {bucket : ℕ → ℕ → ℕ} (buckets : ℕ) {near apart far : List ℕ}
-    → Arrays near apart far → ((v t : ℕ) → t < bucketRows → B ≤ bucket v t)
+    → ThinArrays near apart far → ((v t : ℕ) → t < bucketRows → B ≤ bucket v t)
     → ThinGathered bucket buckets near near apart apart far far
 gathered-none {bucket} buckets l h =
     record {

@@ -39,7 +39,7 @@ abbrev pub apartOf : ℕ → (ℕ → ℕ → ℕ) → ℕ → ℕ
 apartOf buckets bucket j = cond (eqb buckets 9) (bucket (5 + j % 4) (j / 4)) B
 
 -- arrays in which sources may be gathered
-pub record Arrays (near apart far : List ℕ) : Type 0 where
+pub record ThinArrays (near apart far : List ℕ) : Type 0 where
   pub nearLong : length near ≡ variantWords
   pub apartLong : length apart ≡ variantWords
   pub farLong : length far ≡ bucketRows
@@ -73,7 +73,7 @@ pub record FourSpread (words pays : List ℕ) (t x p : ℕ) : Type 0 where
 
 -- the same to row t of all buckets that are needed, by its variant u; in bucket 0 it pays nothing
 pub record ThinSpread (near apart far pays : List ℕ) (x u t buckets : ℕ) : Type 0 where
-  pub arrays : Arrays near apart far
+  pub arrays : ThinArrays near apart far
   pub cost : x ≤ B
   pub paid : PaysLow buckets pays
   pub free : getD pays (u * 9) 0 ≡ 0
@@ -94,7 +94,7 @@ pub record ThinSource (st row : List ℕ) (at k m : ℕ) : Type 0 where
 
 -- its poses below `poses` are to be gathered: there are arrays for them, and what it pays is known
 pub record FromPoses (near apart far st row pays : List ℕ) (s : Source) (poses : ℕ) : Type 0 where
-  pub arrays : Arrays near apart far
+  pub arrays : ThinArrays near apart far
   pub source : ThinSource st row (s .at) (s .left) (s .right)
   pub paid : Pays row (s .left) (s .right) (s .buckets) payWords pays
   pub five : 5 ≤ s .buckets
@@ -139,13 +139,13 @@ foundFour row near apart far k e v = foundOf row near apart far k (e * 4 + v)
 
 -- arrays in which the pose at site e in variant v looks up what it finds
 pub record ThinLooks (near apart far : List ℕ) (e v : ℕ) : Type 0 where
-  pub arrays : Arrays near apart far
+  pub arrays : ThinArrays near apart far
   pub site : e < 15
   pub kind : v < 4
 
 -- four words are to be those of the poses at site e of the cell at position k
 pub record ToFour (near apart far row four : List ℕ) (k e : ℕ) : Type 0 where
-  pub arrays : Arrays near apart far
+  pub arrays : ThinArrays near apart far
   pub words : RowWords row
   pub low : Low four
   pub long : length four ≡ 4
@@ -154,7 +154,7 @@ pub record ToFour (near apart far row four : List ℕ) (k e : ℕ) : Type 0 wher
 
 -- the words from `to` on are to be those of the poses below `poses` of the cell at position k
 pub record ToPut (near apart far row st : List ℕ) (to k poses : ℕ) : Type 0 where
-  pub arrays : Arrays near apart far
+  pub arrays : ThinArrays near apart far
   pub words : RowWords row
   pub low : Low st
   pub room : to + poseSlots ≤ length st
@@ -182,7 +182,7 @@ pub record ThinTarget (row st : List ℕ) (z : Sizes) (i at q : ℕ) : Type 0 wh
 
 -- its sources are to be gathered
 pub record ThinGathering (near apart far row st : List ℕ) (z : Sizes) (i at q : ℕ) : Type 0 where
-  pub arrays : Arrays near apart far
+  pub arrays : ThinArrays near apart far
   pub sought : ThinTarget row st z i at q
 
 -- and state p of the layer, if it is one of them

@@ -16,7 +16,7 @@ use Rattle.job.specs.Accepted.{Accepted}
 use Rattle.theory_claim.specs.Claim.{placementByNumbers}
 
 -- an accepted job, and a store that is large enough, whatever its words
-pub record Asked (job : Job) (store : List ℕ) : Type 0 where
+pub record JobAsked (job : Job) (store : List ℕ) : Type 0 where
   pub accepted : Accepted job
   pub long : storeNeeded (jobOf job) ≤ length store
 

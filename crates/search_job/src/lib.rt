@@ -1,12 +1,12 @@
 // The search of a job: its rows as words, and the search of these.
 ghost use Rattle.job.specs.Value.{jobOf};
-ghost use Rattle.search_job.specs.Solved.{Asked, Solved};
+ghost use Rattle.search_job.specs.Solved.{JobAsked, Solved};
 use job::Job;
 use search::Found;
 
 // Whether a placement is legal; if so, the least cost and the pose number of each cell.
 pub fn search_job(job: Job, store: &mut [u32]) -> Found
-    requires { ⌜ Asked job (now store) ⌝ }
+    requires { ⌜ JobAsked job (now store) ⌝ }
     ensures { λ r. ⌜ Solved (jobOf job) (r .some) (r .cost) (r .poses) ⌝ }
 {
     let mut row0 = [0u32; search_row::WORDS];

@@ -17,7 +17,7 @@ use Rattle.search_lanes.specs.Lowered.{LoweredAt, lowered-at-low}
 use Rattle.search_store.specs.Map.{pointerRow₀, pointerRow₁}
 use Rattle.search_join.specs.Tables.{caseState₀, caseState₁, casePose}
 use Rattle.search_join.specs.Tables.{casesIn, costsIn, Table, Least, MetAt, SumAt, WayIn, nextIn}
-use Rattle.search_join.specs.Sums.{startSum, startLanes, laneSum, endSum, Room, Sums, Nones, Summed}
+use Rattle.search_join.specs.Sums.{startSum, startLanes, laneSum, endSum, SumsRoom, Sums, Nones, Summed}
 use Rattle.search_join.specs.Sums.{SumsFrom, StateSums}
 use Rattle.search_join.specs.Laws.{lowest-zero, lowest-more, lowest-same, lowest-at, next-is}
 
@@ -53,7 +53,7 @@ start-none I st q₀ a s t l p₀ e h =
 
 module _ (starts lanes I : ℕ) (st : List ℕ) (q₀ a : ℕ) where
   -- over no start state at all
-  pub sums-none : {sums : List ℕ} → Room sums → Nones starts lanes sums → Sums starts lanes I st q₀ a 0 0 sums
+  pub sums-none : {sums : List ℕ} → SumsRoom sums → Nones starts lanes sums → Sums starts lanes I st q₀ a 0 0 sums
   sums-none r w = record {
     room = r;
     upTo = λ t l h g k. absurd (omega arith);
@@ -140,7 +140,7 @@ module _ (starts lanes I : ℕ) (st : List ℕ) (q₀ a : ℕ) where
       }
 
 -- the sums of no start state are all NONE
-pub sums-filled : (starts lanes I : ℕ) (st : List ℕ) (q₀ a : ℕ) {n : ℕ} {old new : List ℕ} → Room old
+pub sums-filled : (starts lanes I : ℕ) (st : List ℕ) (q₀ a : ℕ) {n : ℕ} {old new : List ℕ} → SumsRoom old
     → Written (always B) 0 n old new → starts * maxLanes ≤ n → lanes ≤ maxLanes
     → Sums starts lanes I st q₀ a 0 0 new × Nones starts lanes new
 sums-filled starts lanes I st q₀ a {new = new} r w h b =

@@ -11,7 +11,7 @@ use Rattle.theory_pair.specs.Coded.{lowest}
 use Rattle.theory_tables.specs.Steps.{B}
 use Rattle.search_lanes.specs.Store.{Low}
 use Rattle.search_join.specs.declared.Case.{Case}
-use Rattle.search_join.specs.Tables.{casesIn, costsIn, Table, Fits, Part}
+use Rattle.search_join.specs.Tables.{casesIn, costsIn, Table, CaseFits, Part}
 
 -- from start state s to state q₀ in pose a, in lane l of case (s, t)
 unfoldable pub startSum : ℕ → List ℕ → ℕ → ℕ → ℕ → ℕ → ℕ → ℕ
@@ -34,13 +34,13 @@ abbrev pub sumWords : ℕ
 sumWords = 768
 
 -- room for the sums
-pub record Room (sums : List ℕ) : Type 0 where
+pub record SumsRoom (sums : List ℕ) : Type 0 where
   pub long : length sums ≡ sumWords
   pub low : Low sums
 
 -- the sums at places below k are the least over the start states up to s, the others over those before s
 pub record Sums (starts lanes I : ℕ) (st : List ℕ) (q₀ a s k : ℕ) (sums : List ℕ) : Type 0 where
-  pub room : Room sums
+  pub room : SumsRoom sums
   pub upTo : (t l : ℕ) → t < starts → l < lanes → t * maxLanes + l < k
       → getD sums (t * maxLanes + l) 0 ≡ lowest B (startSum I st q₀ a t l) (from 0 (s + 1))
   pub before : (t l : ℕ) → t < starts → l < lanes → k ≤ t * maxLanes + l
@@ -71,7 +71,7 @@ pub record Summing (starts lanes I : ℕ) (st : List ℕ) (q₀ a : ℕ) : Type 
 -- the same, and the array that the sums are in or are to be put in
 pub record SumsGiven (starts lanes I : ℕ) (st : List ℕ) (q₀ a : ℕ) (sums : List ℕ) : Type 0 where
   pub given : Summing starts lanes I st q₀ a
-  pub room : Room sums
+  pub room : SumsRoom sums
 
 -- the same, with the sums before start state s, of which those at places below k have it already
 pub record SumsFrom (starts lanes I : ℕ) (st : List ℕ) (q₀ a s k : ℕ) (sums : List ℕ) : Type 0 where
@@ -83,7 +83,7 @@ pub record SumsFrom (starts lanes I : ℕ) (st : List ℕ) (q₀ a s k : ℕ) (s
 pub record StateSums (lanes I : ℕ) (st : List ℕ) (q₀ a s t : ℕ) (sums : List ℕ) : Type 0 where
   pub given : Summing (s + 1) lanes I st q₀ a
   pub other : t < 12
-  pub room : Room sums
+  pub room : SumsRoom sums
 
 -- the same in all lanes, of which one is wanted, with state t of row 1
 pub record StartSums (starts I : ℕ) (st : List ℕ) (q₀ a t lane : ℕ) : Type 0 where
@@ -93,7 +93,7 @@ pub record StartSums (starts I : ℕ) (st : List ℕ) (q₀ a t lane : ℕ) : Ty
 
 -- the sums at `at`, and the costs of row 1 at p₁
 pub record LaneSums (sums : List ℕ) (at : ℕ) (st : List ℕ) (p₁ lanes : ℕ) : Type 0 where
-  pub room : Room sums
+  pub room : SumsRoom sums
   pub low : Low st
   pub inside : at + lanes ≤ sumWords
   pub costs : p₁ + lanes ≤ length st
@@ -102,7 +102,7 @@ pub record LaneSums (sums : List ℕ) (at : ℕ) (st : List ℕ) (p₁ lanes : �
 pub record Joining (starts lanes I : ℕ) (st sums : List ℕ) (live : Bool) (case : Case) : Type 0 where
   pub table : Table starts lanes I st
   pub summed : Summed starts lanes I st (case .q0) (case .pose) sums live
-  pub fits : Fits case
+  pub fits : CaseFits case
 
 -- the same, and its page in the store
 pub record CaseToPut (starts lanes I : ℕ) (st sums : List ℕ) (live : Bool) (case : Case) : Type 0 where
@@ -113,7 +113,7 @@ pub record CaseToPut (starts lanes I : ℕ) (st sums : List ℕ) (live : Bool) (
 pub record Pointing (starts lanes I : ℕ) (st sums : List ℕ) (case : Case) (t value : ℕ) : Type 0 where
   pub table : Table starts lanes I st
   pub summed : Sums starts lanes I st (case .q0) (case .pose) starts 0 sums
-  pub fits : Fits case
+  pub fits : CaseFits case
   pub state : t < starts
   pub met : endSum lanes sums st (case .q1) (case .pose) t ≡ value
   pub below : value < B
@@ -121,7 +121,7 @@ pub record Pointing (starts lanes I : ℕ) (st sums : List ℕ) (case : Case) (t
 -- room for the cases of a state of row 0 with `ends` states of row 1 in so many poses
 pub record CaseRoom (starts lanes I q₀ ends poses : ℕ) (st sums : List ℕ) : Type 0 where
   pub table : Table starts lanes I st
-  pub room : Room sums
+  pub room : SumsRoom sums
   pub pages : Pages (q₀ + 1) st
   pub state : q₀ < 12
   pub few : ends ≤ 12
@@ -132,4 +132,4 @@ pub record CaseRoom (starts lanes I q₀ ends poses : ℕ) (st sums : List ℕ) 
 -- the cases P, and room for the sums of the next ones
 pub record PartMade (starts lanes I : ℕ) (P : ℕ → ℕ → ℕ → Type 0) (old new sums : List ℕ) : Type 0 where
   pub part : Part starts lanes I P old new
-  pub room : Room sums
+  pub room : SumsRoom sums

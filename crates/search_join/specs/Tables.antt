@@ -52,7 +52,7 @@ abbrev pub casePose : ℕ → ℕ
 casePose code = code % pointerRow₁
 
 -- a case that the map has a place for
-pub record Fits (case : Case) : Type 0 where
+pub record CaseFits (case : Case) : Type 0 where
   pub state₀ : case .q0 < 12
   pub state₁ : case .q1 < 12
   pub pose : case .pose < maxPoses

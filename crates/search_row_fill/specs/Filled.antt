@@ -48,7 +48,7 @@ row-side (suc (suc n)) h = absurd (omega arith)
 -- ---- one cell
 
 -- the cell of a job of one cell is written at position n, if it stands in the row
-pub record Added (j : Job) (row number n n′ : ℕ) (old new : List ℕ) : Type 0 where
+pub record CellAdded (j : Job) (row number n n′ : ℕ) (old new : List ℕ) : Type 0 where
   pub there : job.inRow row (cellAt j 0) ≡ true
       → (n′ ≡ n + 1) × Written (cellWord j row 0 number) (n * cellWords) wordsUsed old new
   pub away : job.inRow row (cellAt j 0) ≡ false → (n′ ≡ n) × (new ≡ old)
@@ -138,7 +138,7 @@ module _ (j : Job) (s : Side) where
   }
 
   pub filled-step : {l l′ : List ℕ} {n n′ k : ℕ} → Filled l n k → k < length (j .cells)
-      → Added (alone (j .header) (cellAt j k)) (rowOf s) k n n′ l l′ → Filled l′ n′ (k + 1)
+      → CellAdded (alone (j .header) (cellAt j k)) (rowOf s) k n n′ l l′ → Filled l′ n′ (k + 1)
   filled-step {l} {l′} {n} {n′} {k} f h a = go (stands k) refl
     where
       go : (t : Bool) → stands k ≡ t → Filled l′ n′ (k + 1)
@@ -230,10 +230,10 @@ module _ (v : declared.Job) (k : ℕ) (g : k < v .count) (h : k < length (jobOf 
       (subst (SoundCell (headerOf (v .header))) (cell-there v k g) (sound .cell k h))
 
   pub filled-value : (row : ℕ) → row ≤ 1 → {l l′ : List ℕ} {n n′ : ℕ} → Filled (jobOf v) (sideOf row) l n k
-      → Added (one (v .header) (value.cellAt v k)) row k n n′ l l′
+      → CellAdded (one (v .header) (value.cellAt v k)) row k n n′ l l′
       → Filled (jobOf v) (sideOf row) l′ n′ (k + 1)
   unfolding jobOf
   filled-value row r {l} {l′} {n} {n′} f a =
       filled-step (jobOf v) (sideOf row) f h
-      (subst (λ x. Added (alone (headerOf (v .header)) (cellAt (jobOf v) k)) x k n n′ l l′) (sym (row-side row r))
-      (subst (λ c. Added (alone (headerOf (v .header)) c) row k n n′ l l′) (sym (cell-there v k g)) a))
+      (subst (λ x. CellAdded (alone (headerOf (v .header)) (cellAt (jobOf v) k)) x k n n′ l l′) (sym (row-side row r))
+      (subst (λ c. CellAdded (alone (headerOf (v .header)) c) row k n n′ l l′) (sym (cell-there v k g)) a))

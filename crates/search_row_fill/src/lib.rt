@@ -11,7 +11,7 @@ ghost use Rattle.search_lanes.specs.Store.{Written};
 ghost use Rattle.theory_bridge.specs.Paired.{isOffered, poseNumber, poseNumbers, ownOf};
 ghost use Rattle.search_row_fill.specs.Words.{edge, ownWord, shapeWord, heightWord, cellWord};
 ghost use Rattle.search_row_fill.specs.Values.{one};
-ghost use Rattle.search_row_fill.specs.Filled.{sideOf, Added, CellsIn};
+ghost use Rattle.search_row_fill.specs.Filled.{sideOf, CellAdded, CellsIn};
 ghost use Rattle.search_row_fill.specs.Ready.{wordIn, RowReady};
 ghost use Rattle.search_row_fill.specs.TallWords.{TallsUpto, TallWords};
 ghost use Rattle.search_row_fill.specs.Lent.{Bounded, Weight, CellPose, PoseRight, ShapeAt, HeightAt, CellPut};
@@ -177,7 +177,7 @@ fn fill_cell(row: &mut [u32], at: usize, header: Header, cell: Cell, side: u32, 
 // The cell at position n, if it stands in the row; how many cells there are then.
 fn add_cell(row: &mut [u32], n: usize, header: Header, cell: Cell, side: u32, number: u32) -> usize
     requires { ⌜ CellToAdd header cell side number n (now row) ⌝ }
-    ensures { λ r. ⌜ Added (one header cell) side number n r (now (row .entry)) (now (row .exit)) ⌝ }
+    ensures { λ r. ⌜ CellAdded (one header cell) side number n r (now (row .entry)) (now (row .exit)) ⌝ }
 {
     if !job::stands(cell.row, side) {
         return n;

@@ -13,9 +13,9 @@ use Rattle.theory_tables.specs.Steps.{B, Deck, Layer, Cases, SegmentCosts, stat
 use Rattle.theory_tables.specs.Stages.{stageEnd, openCost, stageCost, caseTable}
 use Rattle.search_lanes.specs.Store.{Low, layerIn}
 use Rattle.search_row.specs.Words.{deckIn, posIn, withCells, RowGiven}
-use Rattle.search_wide_buckets.specs.Table.{Lent}
+use Rattle.search_wide_buckets.specs.Table.{TableLent}
 use Rattle.search_wide_layer.specs.declared.Block.{Block}
-use Rattle.search_wide_layer.specs.Loops.{Given}
+use Rattle.search_wide_layer.specs.Loops.{WideGiven}
 use Rattle.search_wide_segment.specs.Runs.{CostRoom}
 use Rattle.search_dense_segment.specs.Opened.{OpenRoom}
 use Rattle.search_join.specs.Tables.{casesIn, pointersIn, costsIn, SameCase, SameTables, Table, Least, Way}
@@ -73,7 +73,7 @@ module _ (D₀ D₁ : Deck) (R talls : ℕ) (pos₀ pos₁ : ℕ → ℕ) where
   pub record StageDone (I : ℕ) (old new table : List ℕ) : Type 0 where
     pub long : length new ≡ length old
     pub low : Low new
-    pub lent : Lent table
+    pub lent : TableLent table
     pub tables : (J q₀ q₁ a : ℕ) → (J ≡ suc I → ⊥) → Slot J q₀ q₁ a → SameCase J q₀ q₁ a old new
     pub staged : Right I old → Staged I new
 
@@ -120,7 +120,7 @@ pub record RowCosted (F : ℕ → Layer) (lanes ends poses costs : ℕ) (old new
 -- the same, and a table that serves the next start state
 pub record RowMade (F : ℕ → Layer) (lanes ends poses costs : ℕ) (old new table : List ℕ) : Type 0 where
   pub costed : RowCosted F lanes ends poses costs old new
-  pub lent : Lent table
+  pub lent : TableLent table
 
 -- stage I on from the layer in block 0, which has i cells; `starts` has what
 -- the start of each lane pays as the row's last
@@ -150,8 +150,8 @@ pub record StartRight (st : List ℕ) (row : ℕ) (x : SegmentCosts) (lanes ends
   pub word : (q a l : ℕ) → q < ends → a < poses → l < lanes → costsIn st row s l q a ≡ x s l q a
 
 -- they are right, unless no case goes from it
-abbrev pub SegmentCosted : ℕ → SegmentCosts → ℕ → ℕ → ℕ → ℕ → ℕ → ℕ → List ℕ → List ℕ → Type 0
-SegmentCosted row x I starts lanes ends poses s old new =
+abbrev pub RightUnlessDead : ℕ → SegmentCosts → ℕ → ℕ → ℕ → ℕ → ℕ → ℕ → List ℕ → List ℕ → Type 0
+RightUnlessDead row x I starts lanes ends poses s old new =
     Dead old row I starts s 0 lanes ⊎ StartRight new row x lanes ends poses s
 
 -- that of one start state; above all layers nothing else is changed, and the table lent serves the next one
@@ -159,18 +159,18 @@ pub record StartCosted (row : ℕ) (x : SegmentCosts) (I starts lanes ends poses
     : Type 0 where
   pub long : length new ≡ length old
   pub low : Low new
-  pub lent : Lent table
+  pub lent : TableLent table
   pub kept : (k : ℕ) → pagesFrom ≤ k → OutsideCosts (costsAt row s) k → getD new k 0 ≡ getD old k 0
-  pub right : SegmentCosted row x I starts lanes ends poses s old new
+  pub right : RightUnlessDead row x I starts lanes ends poses s old new
 
 -- that of both rows for the start states below m; the case tables are kept, and the table lent serves the next one
 pub record BothCosted (x₀ x₁ : SegmentCosts) (I starts lanes ends poses m : ℕ) (old new table : List ℕ) : Type 0 where
   pub long : length new ≡ length old
   pub low : Low new
-  pub lent : Lent table
+  pub lent : TableLent table
   pub tables : SameTables old new
-  pub right₀ : (s : ℕ) → s < m → SegmentCosted 0 x₀ I starts lanes ends poses s old new
-  pub right₁ : (s : ℕ) → s < m → SegmentCosted 1 x₁ I starts lanes ends poses s old new
+  pub right₀ : (s : ℕ) → s < m → RightUnlessDead 0 x₀ I starts lanes ends poses s old new
+  pub right₁ : (s : ℕ) → s < m → RightUnlessDead 1 x₁ I starts lanes ends poses s old new
 
 -- ---- what a function of the stages is given
 
@@ -192,7 +192,7 @@ pub record StagesGiven (row₀ row₁ st : List ℕ) (z : Sizes) (n₁ : ℕ) : 
 
 -- the same for stage I, with a table lent
 pub record StageGiven (table row₀ row₁ st : List ℕ) (z : Sizes) (n₁ I : ℕ) : Type 0 where
-  pub lent : Lent table
+  pub lent : TableLent table
   pub given : StagesGiven row₀ row₁ st z n₁
   pub stage : I ≤ z .talls
 
@@ -214,7 +214,7 @@ runAt z I lanes = min lanes (posesAt z I)
 
 -- start state s of stage I in one row, with the lanes of the case table that it starts from
 pub record StartGiven (table row st : List ℕ) (side : ℕ) (z : Sizes) (I s lanes : ℕ) : Type 0 where
-  pub lent : Lent table
+  pub lent : TableLent table
   pub given : RowGiven row z
   pub cases : Table (statesAt z I) lanes I st
   pub one : side ≤ 1
@@ -228,7 +228,7 @@ pub record OpenGiven (row st : List ℕ) (z : Sizes) (costs : ℕ) : Type 0 wher
 
 -- start state s of stage I in one row, with room for its costs
 pub record CostGiven (table row st : List ℕ) (z : Sizes) (I s lanes costs : ℕ) : Type 0 where
-  pub lent : Lent table
+  pub lent : TableLent table
   pub given : RowGiven row z
   pub narrow : lanes ≤ maxLanes
   pub room : OpenRoom st (z .reordering) (z .poses) (z .states) costs
@@ -237,9 +237,9 @@ pub record CostGiven (table row st : List ℕ) (z : Sizes) (I s lanes costs : �
 
 -- the stage's first layer, which is in block 0, and what the start of each lane pays as the row's last
 pub record EndGiven (table row st starts : List ℕ) (z : Sizes) (layer : Block) (costs : ℕ) : Type 0 where
-  pub lent : Lent table
+  pub lent : TableLent table
   pub given : RowGiven row z
-  pub begun : Given row st z (layer .lanes) (layer .cells) (layer .at)
+  pub begun : WideGiven row st z (layer .lanes) (layer .cells) (layer .at)
   pub first : layer .at ≡ 0
   pub room : CostRoom st costs
   pub low : Low starts

@@ -11,9 +11,9 @@ use Rattle.search_store.specs.Map.{caseAt, costsAt, maxLanes}
 use Rattle.theory_tables.specs.Steps.{B, SegmentCosts, poseSlots}
 use Rattle.search_lanes.specs.Store.{Low}
 use Rattle.search_store.specs.Places.{case-beside, cost-before}
-use Rattle.search_wide_buckets.specs.Table.{Lent}
+use Rattle.search_wide_buckets.specs.Table.{TableLent}
 use Rattle.search_join.specs.Tables.{casesIn, pointersIn, costsIn, SameCase, SameTables, Table}
-use Rattle.search_stage.specs.Stage.{fromAt, Dead, DeadLanes, SegmentCosted, StartCosted, RowMade, BothCosted}
+use Rattle.search_stage.specs.Stage.{fromAt, Dead, DeadLanes, RightUnlessDead, StartCosted, RowMade, BothCosted}
 
 -- ---- the cases from a start state
 
@@ -57,7 +57,8 @@ dead-join {I} {starts} {first} {low} {mid} {high} {st} f d e =
 
 -- a way costs what it should, or both are B or more; so they are by a lane that no case goes by
 pub ways-same : {x₀ x₁ : SegmentCosts} {I starts lanes ends poses s t : ℕ} {old new : List ℕ} (c f : ℕ)
-    → SegmentCosted 0 x₀ I starts lanes ends poses s old new → SegmentCosted 1 x₁ I starts lanes ends poses t old new
+    → RightUnlessDead 0 x₀ I starts lanes ends poses s old new
+    → RightUnlessDead 1 x₁ I starts lanes ends poses t old new
     → (q₀ q₁ a l : ℕ) → q₀ < ends → q₁ < ends → a < poses → s < starts → t < starts
     → (l < lanes) ⊎ (B ≤ casesIn old I s t l) → c ≡ casesIn old I s t l → casesIn old I s t l ≡ f
     → min (c + (costsIn new 0 s l q₀ a + costsIn new 1 t l q₁ a)) B ≡ min (f + (x₀ s l q₀ a + x₁ t l q₁ a)) B
@@ -80,7 +81,7 @@ pub dead-fewer : {row I starts s low high lanes : ℕ} {st : List ℕ} → lanes
 dead-fewer h d = record { none = λ t l g m k. d .none t l g m (omega arith) }
 
 -- nothing is done for a dead one
-pub start-dead : {row I starts lanes ends poses s : ℕ} {x : SegmentCosts} {st table : List ℕ} → Low st → Lent table
+pub start-dead : {row I starts lanes ends poses s : ℕ} {x : SegmentCosts} {st table : List ℕ} → Low st → TableLent table
     → Dead st row I starts s 0 lanes → StartCosted row x I starts lanes ends poses s st st table
 start-dead w t d = record { long = refl; low = w; lent = t; kept = λ k h b. refl; right = inl d }
 
@@ -123,8 +124,8 @@ module _ (I starts lanes ends poses : ℕ) (few : starts ≤ 12) (narrow : lanes
 
     -- and the costs before it
     pub start-before : (other : ℕ) (y : SegmentCosts) (t : ℕ) {first : List ℕ} → t * 2 + other < s * 2 + row
-        → SegmentCosted other y I starts lanes ends poses t first old
-        → SegmentCosted other y I starts lanes ends poses t first new
+        → RightUnlessDead other y I starts lanes ends poses t first old
+        → RightUnlessDead other y I starts lanes ends poses t first new
     unfolding costsIn
     start-before other y t h r =
         ⊎-elim
@@ -139,10 +140,10 @@ module _ (I starts lanes ends poses : ℕ) (few : starts ≤ 12) (narrow : lanes
 
     -- itself, seen from an earlier store with the same tables
     pub start-since : {first : List ℕ} → s < starts → SameTables first old
-        → SegmentCosted row x I starts lanes ends poses s first new
+        → RightUnlessDead row x I starts lanes ends poses s first new
     start-since h same = ⊎-elim (λ d. inl (dead-kept row s h same d)) inr (p .right)
 
-  pub both-none : (x₀ x₁ : SegmentCosts) {st table : List ℕ} → Low st → Lent table
+  pub both-none : (x₀ x₁ : SegmentCosts) {st table : List ℕ} → Low st → TableLent table
       → BothCosted x₀ x₁ I starts lanes ends poses 0 st st table
   both-none x₀ x₁ w t =
       record {
@@ -166,11 +167,11 @@ module _ (I starts lanes ends poses : ℕ) (few : starts ≤ 12) (narrow : lanes
         low = p₁ .low;
         lent = p₁ .lent;
         tables = λ j q₀ q₁ a m. then (start-tables 1 x₁ s (omega arith) p₁ j q₀ q₁ a m) (since j q₀ q₁ a m);
-        right₀ = below-more (λ (t : ℕ). SegmentCosted 0 x₀ I starts lanes ends poses t old new) s
+        right₀ = below-more (λ (t : ℕ). RightUnlessDead 0 x₀ I starts lanes ends poses t old new) s
             (λ t m. after 0 x₀ t (omega arith)
             (start-before 0 x₀ s (omega arith) p₀ 0 x₀ t (omega arith) (b .right₀ t m)))
             (after 0 x₀ s (omega arith) (start-since 0 x₀ s (omega arith) p₀ h (b .tables)));
-        right₁ = below-more (λ (t : ℕ). SegmentCosted 1 x₁ I starts lanes ends poses t old new) s
+        right₁ = below-more (λ (t : ℕ). RightUnlessDead 1 x₁ I starts lanes ends poses t old new) s
             (λ t m. after 1 x₁ t (omega arith)
             (start-before 0 x₀ s (omega arith) p₀ 1 x₁ t (omega arith) (b .right₁ t m)))
             (start-since 1 x₁ s (omega arith) p₁ h since);
@@ -180,6 +181,6 @@ module _ (I starts lanes ends poses : ℕ) (few : starts ≤ 12) (narrow : lanes
       since j q₀ q₁ a m = then (start-tables 0 x₀ s (omega arith) p₀ j q₀ q₁ a m) (b .tables j q₀ q₁ a m)
 
       after : (row : ℕ) (y : SegmentCosts) (t : ℕ) → t * 2 + row < s * 2 + 1
-          → SegmentCosted row y I starts lanes ends poses t old one
-          → SegmentCosted row y I starts lanes ends poses t old new
+          → RightUnlessDead row y I starts lanes ends poses t old one
+          → RightUnlessDead row y I starts lanes ends poses t old new
       after row y t m r = start-before 1 x₁ s (omega arith) p₁ row y t m r

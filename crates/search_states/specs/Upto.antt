@@ -75,7 +75,7 @@ abbrev pub withState : List ℕ → ℕ → ℕ → ℕ → List ℕ
 withState row q d m = set (set (set row (stateAt q) d) (stateAt q + 1) m) (stateAt q + 2) (marksBefore d m)
 
 -- the first `count` states are written, and `l` is still to come
-pub record Upto (R : ℕ) (row : List ℕ) (count : ℕ) (l : List (ℕ × ℕ)) : Type 0 where
+pub record StatesUpto (R : ℕ) (row : List ℕ) (count : ℕ) (l : List (ℕ × ℕ)) : Type 0 where
   pub long : rowLength ≤ length row
   pub below : count ≤ stateCount R
   pub left : drop count (pairsOf R) ≡ l
@@ -86,7 +86,7 @@ pub record Upto (R : ℕ) (row : List ℕ) (count : ℕ) (l : List (ℕ × ℕ))
 
 -- the same, with how the row was before: only the words of the states changed
 pub record StatesAdded (R : ℕ) (old row : List ℕ) (count : ℕ) (l : List (ℕ × ℕ)) : Type 0 where
-  pub upto : Upto R row count l
+  pub upto : StatesUpto R row count l
   pub frame : Frame statesFrom statesEnd old row
 
 -- ---- what is given
@@ -101,7 +101,7 @@ pub record StatesRoom (R : ℕ) (row : List ℕ) : Type 0 where
 pub record Coming (R : ℕ) (row : List ℕ) (count m : ℕ) (l : List (ℕ × ℕ)) : Type 0 where
   pub reorder : R ≤ 2
   pub window : m < 2 ^ suc (2 * R)
-  pub upto : Upto R row count l
+  pub upto : StatesUpto R row count l
 
 -- the same, from digit d of the marks on
 pub record DigitComing (R : ℕ) (row : List ℕ) (count m d : ℕ) : Type 0 where
@@ -123,7 +123,7 @@ pub record StateRoom (row : List ℕ) (q d m : ℕ) : Type 0 where
 
 -- ---- none is written yet
 
-pub upto-none : (R : ℕ) (row : List ℕ) → StatesRoom R row → Upto R row 0 (marksFrom R 0)
+pub upto-none : (R : ℕ) (row : List ℕ) → StatesRoom R row → StatesUpto R row 0 (marksFrom R 0)
 upto-none R row w = record {
   long = w .long;
   below = omega arith;
@@ -168,7 +168,7 @@ module _ (p : List ℕ) (n d m : ℕ) (h : stateAt n + 2 < length p) where
       getD-set-same (set (set p (stateAt n) d) (stateAt n + 1) m) (stateAt n + 2) (marksBefore d m) 0
       (simp length-set (omega arith))
 
-pub room : {R : ℕ} {p : List ℕ} {n d m : ℕ} {l : List (ℕ × ℕ)} → R ≤ 2 → Upto R p n ((d, m) ∷ l) → n < 12
+pub room : {R : ℕ} {p : List ℕ} {n d m : ℕ} {l : List (ℕ × ℕ)} → R ≤ 2 → StatesUpto R p n ((d, m) ∷ l) → n < 12
 room {R} {n = n} r u = let k = next {d = (0, 0)} (pairsOf R) n (u .left) in omega (arith, k .inside, few R r)
 
 -- the word for the marks before is small too
@@ -191,7 +191,7 @@ with-frame o p n d m h f =
     (omega arith) (omega arith) (omega arith)
 
 pub upto-more : {R : ℕ} {p : List ℕ} {n d m : ℕ} {l : List (ℕ × ℕ)}
-    → R ≤ 2 → d ≤ 4 → m < 32 → Upto R p n ((d, m) ∷ l) → Upto R (withState p n d m) (n + 1) l
+    → R ≤ 2 → d ≤ 4 → m < 32 → StatesUpto R p n ((d, m) ∷ l) → StatesUpto R (withState p n d m) (n + 1) l
 upto-more {R} {p} {n} {d} {m} {l} r low₁ low₂ u =
     let k = next {d = (0, 0)} (pairsOf R) n (u .left) in
     let x : n < 12 = room r u in
@@ -223,7 +223,8 @@ pub record Coded (R : ℕ) (old row : List ℕ) (count : ℕ) : Type 0 where
   pub frame : Frame statesFrom statesEnd old row
   pub low : Low row
 
-pub upto-all : {R : ℕ} {o p : List ℕ} {n : ℕ} → R ≤ 2 → Upto R p n [] → Frame statesFrom statesEnd o p → Coded R o p n
+pub upto-all : {R : ℕ} {o p : List ℕ} {n : ℕ} → R ≤ 2 → StatesUpto R p n [] → Frame statesFrom statesEnd o p
+    → Coded R o p n
 upto-all {R} {o} {p} {n} r u f₀ =
     let e : n ≡ stateCount R = done (pairsOf R) n (u .below) (u .left) in
     record {
@@ -262,25 +263,26 @@ may-low R m d e = set-low d m (may-set R m d e)
 
 module _ {R : ℕ} {p : List ℕ} {n : ℕ} where
   pub skip-digit : (m d : ℕ) (l : List (ℕ × ℕ)) → d ≤ 2 * R → mayBeLast R m d ≡ false
-      → Upto R p n (digitsFrom R m d ++ l) → Upto R p n (digitsFrom R m (d + 1) ++ l)
+      → StatesUpto R p n (digitsFrom R m d ++ l) → StatesUpto R p n (digitsFrom R m (d + 1) ++ l)
   skip-digit m d l h e u = rw (digits-more R m d h, e) at u
 
   pub next-digit : (m d : ℕ) (l : List (ℕ × ℕ)) → d ≤ 2 * R → mayBeLast R m d ≡ true
-      → Upto R p n (digitsFrom R m d ++ l) → Upto R p n ((d, m) ∷ (digitsFrom R m (d + 1) ++ l))
+      → StatesUpto R p n (digitsFrom R m d ++ l) → StatesUpto R p n ((d, m) ∷ (digitsFrom R m (d + 1) ++ l))
   next-digit m d l h e u = rw (digits-more R m d h, e) at u
 
-  pub no-digit : (m d : ℕ) (l : List (ℕ × ℕ)) → 2 * R < d → Upto R p n (digitsFrom R m d ++ l) → Upto R p n l
+  pub no-digit : (m d : ℕ) (l : List (ℕ × ℕ)) → 2 * R < d → StatesUpto R p n (digitsFrom R m d ++ l)
+      → StatesUpto R p n l
   no-digit m d l h u = rw (digits-none R m d h) at u
 
-  pub skip-marks : (m : ℕ) → m < 2 ^ suc (2 * R) → isMarks R m ≡ false → Upto R p n (marksFrom R m)
-      → Upto R p n (marksFrom R (m + 1))
+  pub skip-marks : (m : ℕ) → m < 2 ^ suc (2 * R) → isMarks R m ≡ false → StatesUpto R p n (marksFrom R m)
+      → StatesUpto R p n (marksFrom R (m + 1))
   skip-marks m h e u = rw (marks-more R m h, e) at u
 
-  pub next-marks : (m : ℕ) → m < 2 ^ suc (2 * R) → isMarks R m ≡ true → Upto R p n (marksFrom R m)
-      → Upto R p n (digitsFrom R m 0 ++ marksFrom R (m + 1))
+  pub next-marks : (m : ℕ) → m < 2 ^ suc (2 * R) → isMarks R m ≡ true → StatesUpto R p n (marksFrom R m)
+      → StatesUpto R p n (digitsFrom R m 0 ++ marksFrom R (m + 1))
   next-marks m h e u = rw (marks-more R m h, e) at u
 
-  pub no-marks : (m : ℕ) → 2 ^ suc (2 * R) ≤ m → Upto R p n (marksFrom R m) → Upto R p n []
+  pub no-marks : (m : ℕ) → 2 ^ suc (2 * R) ≤ m → StatesUpto R p n (marksFrom R m) → StatesUpto R p n []
   no-marks m h u = rw (marks-none R m h) at u
 
 -- where the marks end: 2 << 2 R, at most 32

@@ -33,13 +33,13 @@ pub record OfferedBelow (row : List ℕ) (k poses n : ℕ) : Type 0 where
   pub none : (a : ℕ) → n ≤ a → a < poses → B ≤ wordOf row k a
 
 -- a table lent to gather sources in: any words, none over B
-pub record Lent (table : List ℕ) : Type 0 where
+pub record TableLent (table : List ℕ) : Type 0 where
   pub long : length table ≡ tableWords
   pub low : Low table
 
 -- the same for so many poses in so many lanes
 pub record TableFor (table : List ℕ) (poses lanes : ℕ) : Type 0 where
-  pub lent : Lent table
+  pub lent : TableLent table
   pub few : poses ≤ maxPoses
   pub narrow : lanes ≤ maxLanes
 
@@ -50,13 +50,13 @@ pub record TableToClear (table : List ℕ) (buckets poses lanes : ℕ) : Type 0 
 
 -- a word of a table, to be lowered to x
 pub record WordToLower (table : List ℕ) (to x : ℕ) : Type 0 where
-  pub lent : Lent table
+  pub lent : TableLent table
   pub room : to < tableWords
   pub cost : x ≤ B + B
 
 -- so many lanes of it from `to` on, to be lowered to those from `from` on, which lie before them
 pub record LanesToLower (table : List ℕ) (to from lanes : ℕ) : Type 0 where
-  pub lent : Lent table
+  pub lent : TableLent table
   pub room : to + lanes ≤ tableWords
   pub before : from + lanes ≤ to
 
@@ -105,7 +105,7 @@ chargedOne x pays u v l = x + getD pays (u * 9 + v) 0
 
 -- a source of cost x in one lane, to be put to row t: by its variant u, what it pays in the buckets below n
 pub record LaneSpread (table pays : List ℕ) (n x u t lane : ℕ) : Type 0 where
-  pub lent : Lent table
+  pub lent : TableLent table
   pub cost : x ≤ B
   pub needed : FiveOrNine n
   pub paid : PaysLow n pays
@@ -121,7 +121,7 @@ pub record NearSpread (table pays : List ℕ) (x u t lane first : ℕ) : Type 0 
 
 -- a source to be put to row t in so many lanes, its words beginning at `at`
 pub record RowSpread (table row pays : List ℕ) (n at u t lanes : ℕ) : Type 0 where
-  pub lent : Lent table
+  pub lent : TableLent table
   pub low : Low row
   pub room : at + lanes ≤ length row
   pub needed : FiveOrNine n
@@ -195,7 +195,7 @@ pub record RunUp (rows lanes : ℕ) (old new : List ℕ) : Type 0 where
   pub rest : (l t : ℕ) → l < lanes → rows ≤ t → t < bucketRows → wordAt new l 0 t ≡ wordAt old l 0 t
 
 -- what every pose below `poses` finds is what it finds in the buckets
-pub record Ready (bucket : ℕ → ℕ → ℕ → ℕ) (poses buckets lanes : ℕ) (table : List ℕ) : Type 0 where
+pub record TableReady (bucket : ℕ → ℕ → ℕ → ℕ) (poses buckets lanes : ℕ) (table : List ℕ) : Type 0 where
   pub long : length table ≡ tableWords
   pub low : Low table
   pub right : (a l : ℕ) → a < poses → l < lanes → foundIn buckets table a l ≡ found (bucket l) a
@@ -210,7 +210,7 @@ foundRowOf buckets row table k a l = foundRow buckets table (wordOf row k a) a l
 
 -- a table in which pose a looks up what it finds
 pub record PoseLooks (table : List ℕ) (a buckets : ℕ) : Type 0 where
-  pub lent : Lent table
+  pub lent : TableLent table
   pub pose : a < maxPoses
   pub least : 5 ≤ buckets
   pub most : buckets ≤ 9

@@ -22,8 +22,8 @@ use Rattle.search_buckets.specs.Loops.{lowest-same, lowest-ext}
 use Rattle.search_buckets.specs.Gaps.{paying, paying-low}
 use Rattle.search_buckets.specs.Rows.{rowsOf, inRow, bucketIn, found}
 use Rattle.search_buckets.specs.Laws.{row-hit, row-miss, found-none, found-ext}
-use Rattle.search_wide_buckets.specs.Table.{wordAt, Lent, Cleared, Gathered}
-use Rattle.search_wide_buckets.specs.Table.{Spread, WideSource, RunUp, foundIn, Ready, ToRows}
+use Rattle.search_wide_buckets.specs.Table.{wordAt, TableLent, Cleared, Gathered}
+use Rattle.search_wide_buckets.specs.Table.{Spread, WideSource, RunUp, foundIn, TableReady, ToRows}
 
 -- ---- one row
 
@@ -39,7 +39,7 @@ frame-other {a} {b} {old} {new} k f h = go (decLt k a)
 -- ---- rows without sources
 
 -- a table of zeros may be lent
-pub lent-zeros : Lent (replicate tableWords 0)
+pub lent-zeros : TableLent (replicate tableWords 0)
 lent-zeros = record { long = length-replicate {A = ℕ} tableWords 0; low = same-low tableWords 0 (omega arith) }
 
 pub cleared-none : (rows lanes : ℕ) {table : List ℕ} → length table ≡ tableWords → Low table
@@ -309,7 +309,7 @@ module _
 
     -- and once bucket 0 ran up, what is found in them
     pub ready : {table′ : List ℕ} → RunUp (rowsOf poses - 3) lanes table table′
-        → Ready bucket poses buckets lanes table′
+        → TableReady bucket poses buckets lanes table′
     unfolding found
     ready {table′} u =
         record {

@@ -14,8 +14,8 @@ use Rattle.search_lanes.specs.Store.{Frame, Low, layerIn}
 use Rattle.search_row.specs.declared.Sizes.{Sizes}
 use Rattle.search_row.specs.Words.{wordOf, backIn, thereIn, tallWord, RowWords, Ground}
 use Rattle.search_buckets.specs.Ends.{leastPoses, leastState, leastStates}
-use Rattle.search_wide_buckets.specs.Table.{Lent}
-use Rattle.search_wide_layer.specs.Loops.{Given}
+use Rattle.search_wide_buckets.specs.Table.{TableLent}
+use Rattle.search_wide_layer.specs.Loops.{WideGiven}
 use Rattle.search_wide_segment.specs.Runs.{Running, Outside, CostRoom, SegmentGiven}
 
 -- state q's cell can be the last of the row: the row has it, and it is single
@@ -42,8 +42,8 @@ endsIn D R st at l = ends D R (layerIn st at l)
 
 -- a segment that is to run on from its first layer, with i cells, to the row's end, and room for its layers
 pub record RunGiven (table row st : List ℕ) (z : Sizes) (lanes i : ℕ) : Type 0 where
-  pub lent : Lent table
-  pub given : Given row st z lanes i 0
+  pub lent : TableLent table
+  pub given : WideGiven row st z lanes i 0
   pub room : keptFrom ≤ length st
   pub left : i ≤ z .cells
 
@@ -54,12 +54,12 @@ pub record LastState (row : List ℕ) (z : Sizes) (q : ℕ) : Type 0 where
 
 -- the layer with all cells placed, in the block at `at`, and room for its costs
 pub record LastLayer (row st : List ℕ) (z : Sizes) (lanes at costs : ℕ) : Type 0 where
-  pub given : Given row st z lanes (z .cells) at
+  pub given : WideGiven row st z lanes (z .cells) at
   pub room : CostRoom st costs
 
 -- the layer with all cells placed, in the block at `at`, and the least so far, in each lane
 pub record LeastGiven (acc row st : List ℕ) (z : Sizes) (lanes at : ℕ) : Type 0 where
-  pub given : Given row st z lanes (z .cells) at
+  pub given : WideGiven row st z lanes (z .cells) at
   pub least : LaneWords acc
 
 -- its state q, and the least so far
@@ -68,7 +68,7 @@ pub record LeastStateGiven (acc row st : List ℕ) (z : Sizes) (lanes at q : ℕ
   pub state : q < z .states
 
 -- the poses of its state q, whose cell is at position k, and the least so far
-pub record PosesGiven (acc row st : List ℕ) (at q k poses lanes : ℕ) : Type 0 where
+pub record LeastPosesGiven (acc row st : List ℕ) (at q k poses lanes : ℕ) : Type 0 where
   pub words : RowWords row
   pub low : Low st
   pub least : LaneWords acc
@@ -90,11 +90,11 @@ pub record Ran (D : Deck) (R lanes i d at : ℕ) (old new table : List ℕ) : Ty
   pub running : Running D R lanes i d at old new
   pub frame : Frame 0 keptFrom old new
   pub low : Low new
-  pub lent : Lent table
+  pub lent : TableLent table
 
 -- the costs to the row's end, a word for each lane; `starts` has what the start of each lane pays as the last
 pub record Ended (D : Deck) (R lanes i costs : ℕ) (starts old new table : List ℕ) : Type 0 where
   pub outside : Outside costs maxLanes old new
   pub low : Low new
-  pub lent : Lent table
+  pub lent : TableLent table
   pub right : (l : ℕ) → l < lanes → getD new (costs + l) 0 ≡ costEnd D R (layerIn old 0 l) i (getD starts l 0)

@@ -13,7 +13,7 @@ use Rattle.search_lanes.specs.Store.{Written, layerIn}
 use Rattle.search_lanes.specs.Laws.{frame-join}
 use Rattle.search_row.specs.Words.{thereIn}
 use Rattle.search_row.specs.Laws.{there-size}
-use Rattle.search_wide_buckets.specs.Table.{Lent}
+use Rattle.search_wide_buckets.specs.Table.{TableLent}
 use Rattle.search_wide_layer.specs.Loops.{nextFrom, LayerMade}
 use Rattle.search_buckets.specs.Ends.{cost-run}
 use Rattle.search_wide_segment.specs.Runs.{Running}
@@ -64,7 +64,7 @@ ran-more c r m =
 -- where no layer is left to run through
 pub end-words :
     {D : Deck} {R lanes i costs : ℕ} {g : ℕ → ℕ} {starts old new table : List ℕ}
-    → lanes ≤ maxLanes → Lent table → Written g costs lanes old new
+    → lanes ≤ maxLanes → TableLent table → Written g costs lanes old new
     → ((f : Layer) (l : ℕ) → costEnd D R f i (getD starts l 0) ≡ g l)
     → Ended D R lanes i costs starts old new table
 end-words {old = old} n t w e =

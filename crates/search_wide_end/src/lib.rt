@@ -5,7 +5,7 @@ ghost use Rattle.search_lanes.specs.Lanes.{Lowered};
 ghost use Rattle.search_lanes.specs.Store.{Written};
 ghost use Rattle.search_row.specs.Words.{deckIn};
 ghost use Rattle.search_wide_end.specs.Ends.{RunGiven, LastState, LastLayer, LeastGiven, LeastStateGiven};
-ghost use Rattle.search_wide_end.specs.Ends.{PosesGiven, SegmentToEnd};
+ghost use Rattle.search_wide_end.specs.Ends.{LeastPosesGiven, SegmentToEnd};
 ghost use Rattle.search_wide_end.specs.Ends.{endsWith, leastPosesIn, leastStateIn, leastStatesIn};
 ghost use Rattle.search_wide_end.specs.Ends.{endsIn, Ran, Ended};
 use search_row::Sizes;
@@ -63,7 +63,7 @@ fn least_poses(
     poses: usize,
     lanes: usize,
 )
-    requires { ⌜ PosesGiven (now acc) (now row) (now store) at q k poses lanes ⌝ }
+    requires { ⌜ LeastPosesGiven (now acc) (now row) (now store) at q k poses lanes ⌝ }
     ensures { λ _. ⌜ Lowered (leastPosesIn (now (row .entry)) k (now (store .entry)) at q poses) lanes
         (now (acc .entry)) (now (acc .exit)) ⌝ }
 {

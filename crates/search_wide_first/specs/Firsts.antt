@@ -8,8 +8,8 @@ use Rattle.search_store.specs.Map.{maxLanes, maxPoses}
 use Rattle.search_lanes.specs.Store.{Low, WrittenRows}
 use Rattle.search_row.specs.declared.Sizes.{Sizes}
 use Rattle.search_row.specs.Words.{wordOf, tollIn, RowWords}
-use Rattle.search_wide_buckets.specs.Table.{Lent}
-use Rattle.search_wide_layer.specs.Loops.{Given}
+use Rattle.search_wide_buckets.specs.Table.{TableLent}
+use Rattle.search_wide_layer.specs.Loops.{WideGiven}
 
 -- after pose l of the cell at position p: the cell at position k in pose a
 abbrev pub afterRow : List ℕ → ℕ → ℕ → ℕ → ℕ → ℕ
@@ -24,14 +24,14 @@ afterFrom D R i m p l q a = firstAfter D R i m p l q a
 -- the first layer after the cell at position p, the last of i placed, is to be made in the block at `to`:
 -- all of it, from start state q, or its state q alone
 pub record FirstGiven (table row st : List ℕ) (z : Sizes) (lanes i to p q : ℕ) : Type 0 where
-  pub lent : Lent table
-  pub given : Given row st z lanes i to
+  pub lent : TableLent table
+  pub given : WideGiven row st z lanes i to
   pub start : p < maxCells
   pub state : q < z .states
 
 -- the rows of one of its states, whose cell is at position k, are to be written from `at` on
 pub record FirstRows (table row st : List ℕ) (at p k poses lanes : ℕ) : Type 0 where
-  pub lent : Lent table
+  pub lent : TableLent table
   pub words : RowWords row
   pub low : Low st
   pub room : at + poses * maxLanes ≤ length st
@@ -45,4 +45,4 @@ pub record FirstRows (table row st : List ℕ) (at p k poses lanes : ℕ) : Type
 -- these rows, and a table that serves the next state
 pub record RowsMade (f : ℕ → ℕ → ℕ) (at poses lanes : ℕ) (old new table : List ℕ) : Type 0 where
   pub written : WrittenRows f at poses lanes old new
-  pub lent : Lent table
+  pub lent : TableLent table

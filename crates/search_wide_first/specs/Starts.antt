@@ -16,7 +16,7 @@ use Rattle.search_row.specs.Words.{wordOf, RowWords}
 use Rattle.search_buckets.specs.Rows.{inRow, bucketsIn, endRow, payIn, onePose, Pays, payWords}
 use Rattle.search_buckets.specs.Laws.{row-miss, pay-small, found-one}
 use Rattle.search_buckets.specs.Sources.{pose-twin, buckets-last}
-use Rattle.search_wide_buckets.specs.Table.{wordAt, Lent, FiveOrNine, Spread, Gathered, Ready, foundRow}
+use Rattle.search_wide_buckets.specs.Table.{wordAt, TableLent, FiveOrNine, Spread, Gathered, TableReady, foundRow}
 use Rattle.search_wide_first.specs.Firsts.{afterRow}
 
 -- pose l of the cell at position p in lane l, for the cell at position k
@@ -25,7 +25,7 @@ startIn row p k l = onePose row p k l 0
 
 -- a table for the starts after the cell at position p, of the cell at position k
 pub record Starting (table row : List ℕ) (p k rows buckets : ℕ) : Type 0 where
-  pub lent : Lent table
+  pub lent : TableLent table
   pub words : RowWords row
   pub start : p < maxCells
   pub cell : k < maxCells
@@ -144,6 +144,6 @@ starts-last row p k l v t h =
 
 pub after-found :
     (row : List ℕ) (p k a l : ℕ) {table : List ℕ} {poses buckets lanes : ℕ}
-    → Ready (startIn row p k) poses buckets lanes table → a < poses → l < lanes
+    → TableReady (startIn row p k) poses buckets lanes table → a < poses → l < lanes
     → afterRow row p k a l ≡ foundRow buckets table (wordOf row k a) a l
 after-found row p k a l r h i = omega (arith, r .right a l h i, found-one row p l k a 0)

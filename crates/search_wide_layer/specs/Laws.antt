@@ -10,15 +10,15 @@ use Rattle.search_row.specs.declared.Sizes.{Sizes}
 use Rattle.theory_tables.specs.Steps.{Deck, stateCount, nextLayer}
 use Rattle.search_lanes.specs.Store.{Frame, Low, layerIn}
 use Rattle.search_buckets.specs.Next.{next-ext}
-use Rattle.search_wide_layer.specs.Loops.{Given, Beside}
+use Rattle.search_wide_layer.specs.Loops.{WideGiven, Beside}
 
 -- a block's entries are as they were
-pub record Kept (at : ℕ) (old new : List ℕ) : Type 0 where
+pub record BlockKept (at : ℕ) (old new : List ℕ) : Type 0 where
   pub word : (k : ℕ) → at ≤ k → k < at + layerBlock → getD new k 0 ≡ getD old k 0
 
 -- what is written in one block keeps the other
 pub beside-kept : {st old new : List ℕ} {at to a b : ℕ} → Beside st at to → Frame a b old new → to ≤ a
-    → b ≤ to + layerBlock → Kept at old new
+    → b ≤ to + layerBlock → BlockKept at old new
 beside-kept {old = old} {new = new} {at} {to} {a} {b} v f p q =
     record { word = λ k x y. go k x y (decLt k a) (decLt k b) }
   where
@@ -29,7 +29,7 @@ beside-kept {old = old} {new = new} {at} {to} {a} {b} v f p q =
 
 pub next-kept :
     (D : Deck) (R : ℕ) {at : ℕ} {old new : List ℕ} (i q a l : ℕ)
-    → Kept at old new → stateCount R ≤ 12 → D .poses ≤ maxPoses → l < maxLanes
+    → BlockKept at old new → stateCount R ≤ 12 → D .poses ≤ maxPoses → l < maxLanes
     → nextLayer D R (layerIn new at l) i q a ≡ nextLayer D R (layerIn old at l) i q a
 next-kept D R {at} {old} {new} i q a l s w p h =
     next-ext D R (layerIn new at l) (layerIn old at l)
@@ -39,8 +39,8 @@ next-kept D R {at} {old} {new} i q a l s w p h =
 -- what a function was given holds on, whatever another one wrote
 pub given-on :
     {row old new : List ℕ} {z : Sizes} {lanes i at a b : ℕ}
-    → Given row old z lanes i at → Frame a b old new → Low new
-    → Given row new z lanes i at
+    → WideGiven row old z lanes i at → Frame a b old new → Low new
+    → WideGiven row new z lanes i at
 given-on g f w =
     record { ground = g .ground; low = w; narrow = g .narrow; early = g .early; room = omega (arith, g .room, f .long) }
 

@@ -9,7 +9,7 @@ use Rattle.search_row.specs.declared.Sizes.{Sizes}
 use Rattle.search_row.specs.Words.{Ground}
 use Rattle.search_buckets.specs.Rows.{bucketsIn}
 use Rattle.search_buckets.specs.Next.{Target}
-use Rattle.search_wide_buckets.specs.Table.{Lent}
+use Rattle.search_wide_buckets.specs.Table.{TableLent}
 use Rattle.search_wide_layer.specs.declared.Block.{Block}
 
 -- the next layer in each lane
@@ -23,7 +23,7 @@ bucketsFor row z layer q = bucketsIn row (lastAt (z .reordering) (suc (layer .ce
 -- ---- what is given
 
 -- a layer with i cells in the block at `at`
-pub record Given (row st : List ℕ) (z : Sizes) (lanes i at : ℕ) : Type 0 where
+pub record WideGiven (row st : List ℕ) (z : Sizes) (lanes i at : ℕ) : Type 0 where
   pub ground : Ground row z
   pub low : Low st
   pub narrow : lanes ≤ maxLanes
@@ -37,8 +37,8 @@ pub record Beside (st : List ℕ) (at to : ℕ) : Type 0 where
 
 -- the sources of state q in a layer are to be gathered, in so many rows
 pub record Gathering (table row st : List ℕ) (z : Sizes) (layer : Block) (q rows : ℕ) : Type 0 where
-  pub lent : Lent table
-  pub given : Given row st z (layer .lanes) (layer .cells) (layer .at)
+  pub lent : TableLent table
+  pub given : WideGiven row st z (layer .lanes) (layer .cells) (layer .at)
   pub target : Target (z .cells) (z .reordering) (layer .cells) q
   pub few : rows ≤ bucketRows
 
@@ -49,8 +49,8 @@ pub record SourceGathering (table row st : List ℕ) (z : Sizes) (layer : Block)
 
 -- the next layer is to be made from a layer, in the block at `to`
 pub record Stepping (table row st : List ℕ) (z : Sizes) (layer : Block) (to : ℕ) : Type 0 where
-  pub lent : Lent table
-  pub given : Given row st z (layer .lanes) (layer .cells) (layer .at)
+  pub lent : TableLent table
+  pub given : WideGiven row st z (layer .lanes) (layer .cells) (layer .at)
   pub beside : Beside st (layer .at) to
 
 -- its state q
@@ -68,9 +68,9 @@ pub record TargetStepping (table row st : List ℕ) (z : Sizes) (layer : Block) 
 -- state q of a layer, in its block at `to`, and a table that serves the next state
 pub record StateMade (F : ℕ → Layer) (lanes to q m : ℕ) (old new table : List ℕ) : Type 0 where
   pub filled : FilledState F lanes to q m old new
-  pub lent : Lent table
+  pub lent : TableLent table
 
 -- a layer, in its block at `to`, and a table that serves the next layer
 pub record LayerMade (F : ℕ → Layer) (lanes poses to m : ℕ) (old new table : List ℕ) : Type 0 where
   pub filled : Filled F lanes poses to m old new
-  pub lent : Lent table
+  pub lent : TableLent table

@@ -15,10 +15,10 @@ use Rattle.search_row.specs.declared.Sizes.{Sizes}
 use Rattle.theory_tables.specs.Steps.{B, Deck, Layer, stateCount, offset, layers, costTo}
 use Rattle.search_lanes.specs.Store.{Frame, layerIn, Filled}
 use Rattle.search_row.specs.Words.{deckIn}
-use Rattle.search_wide_buckets.specs.Table.{Lent}
-use Rattle.search_wide_layer.specs.Loops.{nextFrom, Given, Beside, LayerMade}
+use Rattle.search_wide_buckets.specs.Table.{TableLent}
+use Rattle.search_wide_layer.specs.Loops.{nextFrom, WideGiven, Beside, LayerMade}
 use Rattle.search_buckets.specs.Next.{next-ext, layers-ext}
-use Rattle.search_wide_segment.specs.Runs.{Buffer, Running, Small, Outside, CostRoom, lateIn}
+use Rattle.search_wide_segment.specs.Runs.{Buffer, Running, SizesSmall, Outside, CostRoom, lateIn}
 use Rattle.search_wide_segment.specs.Runs.{delivered, lastIn, CostedBy, CostedRun, SegmentCosted}
 
 -- ---- the two blocks by turns
@@ -42,12 +42,12 @@ buffer-costs b h = record { room = h .room; apart = λ k x y z w. omega (arith, 
 
 pub given-small :
     {row st : List ℕ} {z : Sizes} {lanes i at : ℕ}
-    → Given row st z lanes i at → Small (deckIn row z) (z .reordering) lanes
+    → WideGiven row st z lanes i at → SizesSmall (deckIn row z) (z .reordering) lanes
 given-small g = record { narrow = g .narrow; few = g .ground .few; states = g .ground .coded .few }
 
 pub run-none :
     (D : Deck) (R lanes i : ℕ) {old st : List ℕ}
-    → Small D R lanes → ((k : ℕ) → k < layerBlock → getD st k 0 ≡ getD old k 0) → Running D R lanes i 0 0 old st
+    → SizesSmall D R lanes → ((k : ℕ) → k < layerBlock → getD st k 0 ≡ getD old k 0) → Running D R lanes i 0 0 old st
 unfolding layers
 run-none D R lanes i s e =
     record {
@@ -79,7 +79,7 @@ run-more {D} {R} {i = i} {d} {old = old} c r f =
 -- what is written above the layers keeps them
 pub run-kept :
     {D : Deck} {R lanes i d at a b : ℕ} {old mid new : List ℕ}
-    → Small D R lanes → Running D R lanes i d at old mid → Frame a b mid new → keptFrom ≤ a
+    → SizesSmall D R lanes → Running D R lanes i d at old mid → Frame a b mid new → keptFrom ≤ a
     → Running D R lanes i d at old new
 run-kept {at = at} s r f h =
     record {
@@ -167,7 +167,7 @@ costed-more {D} {R} {lanes} {i} {p} {d} {at = at} {costs = costs} {old = old} {m
 -- one step more of the segment: a layer, and what it delivers
 pub costed-step :
     {D : Deck} {R lanes i p d at costs count : ℕ} {old mid step new table table′ : List ℕ}
-    → Small D R lanes → count ≡ stateCount R → keptFrom ≤ costs → CostedRun D R lanes i p d at costs old mid table
+    → SizesSmall D R lanes → count ≡ stateCount R → keptFrom ≤ costs → CostedRun D R lanes i p d at costs old mid table
     → LayerMade (nextFrom D R mid at (i + d)) lanes (D .poses) (layerBlock - at) count mid step table′
     → Filled (delivered R (i + (d + 1)) p step (layerBlock - at) costs) lanes (D .poses) costs count step new
     → CostedRun D R lanes i p (d + 1) (layerBlock - at) costs old new table′
@@ -192,7 +192,7 @@ costed-step {D} {R} {lanes} {i} {p} {d} {at} {costs} s c h r m g =
 -- the segment begins: the costs of the states that come with no layer are B, and the first layer is delivered
 pub costed-start :
     (D : Deck) (R lanes i p costs count : ℕ) {old mid new table : List ℕ}
-    → Small D R lanes → count ≡ stateCount R → keptFrom ≤ costs → Lent table
+    → SizesSmall D R lanes → count ≡ stateCount R → keptFrom ≤ costs → TableLent table
     → Filled (lateIn R i p old costs) lanes (D .poses) costs count old mid
     → Filled (delivered R i p mid 0 costs) lanes (D .poses) costs count mid new
     → CostedRun D R lanes i p 0 0 costs new new table
@@ -225,7 +225,7 @@ module _ (D : Deck) (R : ℕ) (f g : Layer) (same : (q b : ℕ) → q < stateCou
 -- what came before a segment left its first layer as it was
 pub costed-from :
     {D : Deck} {R lanes i p d at costs : ℕ} {old mid new table : List ℕ}
-    → Small D R lanes → ((k : ℕ) → k < layerBlock → getD mid k 0 ≡ getD old k 0) → Outside costs layerBlock old mid
+    → SizesSmall D R lanes → ((k : ℕ) → k < layerBlock → getD mid k 0 ≡ getD old k 0) → Outside costs layerBlock old mid
     → CostedRun D R lanes i p d at costs mid new table → CostedRun D R lanes i p d at costs old new table
 costed-from {D} {R} {lanes} {i} {p} {d} {old = old} {mid = mid} s e o r =
     record {

@@ -13,9 +13,9 @@ use Rattle.theory_tables.specs.Steps.{B, Deck, Layer, stateCount, offset, layer
 use Rattle.search_lanes.specs.Store.{Low, layerIn}
 use Rattle.search_row.specs.declared.Sizes.{Sizes}
 use Rattle.search_row.specs.Words.{StateWords}
-use Rattle.search_wide_buckets.specs.Table.{Lent}
+use Rattle.search_wide_buckets.specs.Table.{TableLent}
 use Rattle.search_wide_layer.specs.declared.Block.{Block}
-use Rattle.search_wide_layer.specs.Loops.{nextFrom, Given, Stepping}
+use Rattle.search_wide_layer.specs.Loops.{nextFrom, WideGiven, Stepping}
 
 -- the two blocks of layers, at 0 and after the first
 abbrev pub Buffer : ℕ → Type 0
@@ -34,7 +34,7 @@ pub record Outside (costs wide : ℕ) (old new : List ℕ) : Type 0 where
   pub above : (k : ℕ) → costs + wide ≤ k → getD new k 0 ≡ getD old k 0
 
 -- few poses, states and lanes
-pub record Small (D : Deck) (R lanes : ℕ) : Type 0 where
+pub record SizesSmall (D : Deck) (R lanes : ℕ) : Type 0 where
   pub narrow : lanes ≤ maxLanes
   pub few : D .poses ≤ maxPoses
   pub states : stateCount R ≤ 12
@@ -80,8 +80,8 @@ pub record StateToLast (table row st : List ℕ) (z : Sizes) (layer : Block) (ta
 
 -- a segment: its first layer, with i cells, is in block 0, and there is room for its costs
 pub record SegmentGiven (table row st : List ℕ) (z : Sizes) (lanes i costs : ℕ) : Type 0 where
-  pub lent : Lent table
-  pub given : Given row st z lanes i 0
+  pub lent : TableLent table
+  pub given : WideGiven row st z lanes i 0
   pub room : CostRoom st costs
 
 -- the same to a tall cell
@@ -117,12 +117,12 @@ pub record CostedRun (D : Deck) (R lanes i p d at costs : ℕ) (old new table : 
   pub costed : CostedBy D R lanes i p (d + 1) costs old new
   pub outside : Outside costs layerBlock old new
   pub low : Low new
-  pub lent : Lent table
+  pub lent : TableLent table
 
 -- what a segment to the tall cell leaves
 pub record SegmentCosted (D : Deck) (R lanes i p costs : ℕ) (old new table : List ℕ) : Type 0 where
   pub outside : Outside costs layerBlock old new
   pub low : Low new
-  pub lent : Lent table
+  pub lent : TableLent table
   pub right : (q a l : ℕ) → q < stateCount R → a < D .poses → l < lanes
       → layerIn new costs l q a ≡ costTo D R (layerIn old 0 l) i p q a

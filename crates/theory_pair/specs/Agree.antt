@@ -10,7 +10,7 @@ use Rattle.theory_row.specs.Choices.{cells, chosen, along, along-size, cells-si
 use Rattle.theory_pair.specs.Segment.{Line, Choice, Goes, EndsWith, Done}
 use Rattle.theory_pair.specs.Segment.{first, last, cost, after, after-size}
 use Rattle.theory_pair.specs.Pick.{pick-in, in-pick, pick-pairs}
-use Rattle.theory_pair.specs.Whole.{siteIn, rowTotal, Placed, Wide, placed-goes, placed-ends}
+use Rattle.theory_pair.specs.Whole.{siteIn, rowTotal, RowPlaced, Wide, placed-goes, placed-ends}
 use Rattle.theory_pair.specs.Whole.{placed-cost, placed-rising, goes-placed, goes-along, talls}
 use Rattle.theory_pair.specs.Whole.{tallOf, talls-along, posts, picks, poses, poses-size, along-posts}
 use Rattle.theory_pair.specs.Whole.{posts-in, in-posts, posts-pairs, pairs-posts, picks-along}
@@ -21,7 +21,7 @@ use Rattle.theory_pair.specs.Pair.{Talls, Stages, ending, opening, stage
 
 module _ {A : Type 0} (R : ℕ) (siteOf : A → ℕ) (L : Line A) (w : Wide L) (N : ℕ) (pos : ℕ → ℕ) (T : Talls L N pos) where
   -- the tall cells of a legal row that keep their file order are, from left to right, pos 0, pos 1, ..
-  order-talls : (g : ℕ → A) → Placed R siteOf L g
+  order-talls : (g : ℕ → A) → RowPlaced R siteOf L g
       → ((I J : ℕ) → I < J → J < N → siteOf (g (pos I)) < siteOf (g (pos J)))
       → talls L (order (siteIn siteOf L g) (L .size)) ≡ posts pos 0 N
   order-talls g p k =
@@ -41,16 +41,16 @@ module _ {A : Type 0} (R : ℕ) (siteOf : A → ℕ) (L : Line A) (w : Wide L) (
       l : List ℕ
       l = order (siteIn siteOf L g) (L .size)
 
-  pub record Ready (g : ℕ → A) (h : ℕ → A) : Type 0 where
+  pub record PathReady (g : ℕ → A) (h : ℕ → A) : Type 0 where
     pub path : List (Choice A)
     pub goes : Goes R siteOf L (first R siteOf L) path
     pub talls : tallOf L path ≡ picks pos 0 (poses h 0 N)
     pub ends : Done R siteOf L (after R siteOf L (first R siteOf L) path)
     pub total : cost R siteOf L (first R siteOf L) path ≡ rowTotal siteOf L g
 
-  pub ready : (g : ℕ → A) (h : ℕ → A) → Placed R siteOf L g
+  pub ready : (g : ℕ → A) (h : ℕ → A) → RowPlaced R siteOf L g
       → ((I J : ℕ) → I < J → J < N → siteOf (g (pos I)) < siteOf (g (pos J)))
-      → ((I : ℕ) → I < N → g (pos I) ≡ h I) → Ready g h
+      → ((I : ℕ) → I < N → g (pos I) ≡ h I) → PathReady g h
   ready g h p k e =
       let l = order (siteIn siteOf L g) (L .size) in
       let a = after-size R siteOf L (first R siteOf L) (along g l) in
@@ -67,7 +67,7 @@ module _ {A : Type 0} (R : ℕ) (siteOf : A → ℕ) (L : Line A) (w : Wide L) (
 
   -- a row with poses g, of which the tall cells have those of ps, at cost x
   pub record Made (g : ℕ → A) (ps : List A) (d : A) (x : ℕ) : Type 0 where
-    pub placed : Placed R siteOf L g
+    pub placed : RowPlaced R siteOf L g
     pub keeps : (I J : ℕ) → I < J → J < N → siteOf (g (pos I)) < siteOf (g (pos J))
     pub poses : (I : ℕ) → I < N → g (pos I) ≡ getD ps I d
     pub total : rowTotal siteOf L g ≡ x
@@ -115,8 +115,8 @@ module _ {A : Type 0} (R : ℕ) (siteOf : A → ℕ) (L : Line A) (w : Wide L) (
 module _ {A : Type 0} (R : ℕ) (siteOf : A → ℕ) (L₀ L₁ : Line A) (pos₀ pos₁ : ℕ → ℕ) (N : ℕ) where
   -- legal rows with the same poses for the tall cells, which keep their file order
   pub record Agree (g₀ g₁ : ℕ → A) : Type 0 where
-    pub row₀ : Placed R siteOf L₀ g₀
-    pub row₁ : Placed R siteOf L₁ g₁
+    pub row₀ : RowPlaced R siteOf L₀ g₀
+    pub row₁ : RowPlaced R siteOf L₁ g₁
     pub shared : (I : ℕ) → I < N → g₀ (pos₀ I) ≡ g₁ (pos₁ I)
     pub keeps : (I J : ℕ) → I < J → J < N → siteOf (g₀ (pos₀ I)) < siteOf (g₀ (pos₀ J))
 

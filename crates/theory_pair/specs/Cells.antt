@@ -14,7 +14,7 @@ use Rattle.theory_row.specs.Cheapest.{_⊑_}
 use Rattle.theory_row.specs.Choices.{along, cells}
 use Rattle.theory_pair.specs.Segment.{last}
 use Rattle.theory_pair.specs.Ends.{Ended}
-use Rattle.theory_pair.specs.Whole.{siteIn, opensIn, closesIn, rowTotal, Placed, Wide, placed-same, picks}
+use Rattle.theory_pair.specs.Whole.{siteIn, opensIn, closesIn, rowTotal, RowPlaced, Wide, placed-same, picks}
 use Rattle.theory_pair.specs.Cut.{Upto}
 use Rattle.theory_pair.specs.Pair.{Stages, ending, table, table-below, table-met}
 use Rattle.theory_pair.specs.Agree.{Agree, agree-stages, stages-agree, paths-agree}
@@ -43,7 +43,7 @@ module _ {A : Type 0} (R : ℕ) (siteOf : A → ℕ) (J : Job A) where
       let r = ended-images opens closes (cell J s) (order (siteIn siteOf (line J s) (by f s)) (line J s .size)) in
       (λ h. r .0 (subst (Ended opens closes) e h), λ h. subst (Ended opens closes) (sym e) (r .1 h))
 
-  legal-placed : (f : ℕ → A) → LegalPair R siteOf J f → (s : Side) → Placed R siteOf (line J s) (by f s)
+  legal-placed : (f : ℕ → A) → LegalPair R siteOf J f → (s : Side) → RowPlaced R siteOf (line J s) (by f s)
   legal-placed f p s = record {
     offered = λ k h. p .offered (cell J s k) (members-in J s (at-in (members J s) k h) .0);
     legal = row-positions R (site siteOf J f) (width siteOf J f) (members J s) (members-distinct J s) (p .rows s);
@@ -156,7 +156,7 @@ module _ {A : Type 0} (R : ℕ) (siteOf : A → ℕ) (J : Job A) where
     -- a placement that has the poses of two rows that agree
     module _ (f g₀ g₁ : ℕ → A) (agree : Agreed g₀ g₁) (is₀ : (p : ℕ) → p < length (members J row₀) → g₀ p ≡ by f row₀ p)
         (is₁ : (p : ℕ) → p < length (members J row₁) → g₁ p ≡ by f row₁ p) where
-      placed : (s : Side) → Placed R siteOf (line J s) (by f s)
+      placed : (s : Side) → RowPlaced R siteOf (line J s) (by f s)
       placed row₀ = placed-same R siteOf (line J row₀) (wide-line row₀) g₀ (by f row₀) is₀ (agree .row₀) .0
       placed row₁ = placed-same R siteOf (line J row₁) (wide-line row₁) g₁ (by f row₁) is₁ (agree .row₁) .0
 

@@ -9,7 +9,7 @@ use lib.ListN.{length}
 use Rattle.theory_row.specs.Window.{step, Good, good-step}
 use Rattle.theory_pair.specs.Segment.{Line, Choice, State, Goes, Done, next, first, last, cost}
 use Rattle.theory_pair.specs.Segment.{charge, after, Move, Way}
-use Rattle.theory_pair.specs.Segment.{Plain, Listed, segment-list, list-way, next-move, goes-append}
+use Rattle.theory_pair.specs.Segment.{Plain, SegmentListed, segment-list, list-way, next-move, goes-append}
 use Rattle.theory_pair.specs.Segment.{goes-good, after-append, cost-append}
 use Rattle.theory_pair.specs.Whole.{tallOf, picks}
 
@@ -153,7 +153,8 @@ module _ {A : Type 0} (R : ℕ) (siteOf : A → ℕ) (L : Line A) where
     pub sum : cost R siteOf L (first R siteOf L) path + toll ≡ x
 
   -- the first segment of a row, as a path
-  unfoldable pub upto-begin : (j : ℕ) (t : State A) (x : ℕ) → Listed R siteOf L (first R siteOf L) j t x → Upto t [] x
+  unfoldable pub upto-begin : (j : ℕ) (t : State A) (x : ℕ) → SegmentListed R siteOf L (first R siteOf L) j t x
+      → Upto t [] x
   upto-begin j t x l = record {
     path = l .path;
     goes = l .goes;
@@ -166,7 +167,7 @@ module _ {A : Type 0} (R : ℕ) (siteOf : A → ℕ) (L : Line A) where
   -- a path, on to a tall cell and over one segment more
   unfoldable pub upto-on : (i m k j : ℕ) (a : A) (ts : List (Choice A)) (x y : ℕ) (t : State A)
       → Upto (i, m, some (k, a)) ts x → In a (L .options k) → L .tall k ≡ true
-      → Listed R siteOf L (i, m, some (k, a)) j t y → Upto t (ts ++ ((k, a) ∷ [])) (x + y)
+      → SegmentListed R siteOf L (i, m, some (k, a)) j t y → Upto t (ts ++ ((k, a) ∷ [])) (x + y)
   upto-on i m k j a ts x y t u o e l =
       let c : Choice A = (k, a) in
       let f = first R siteOf L in

@@ -257,7 +257,7 @@ module _ {A : Type 0} (R : ℕ) (siteOf : A → ℕ) (L : Line A) where
       let r = move-choice u v x i (s .2) (s .0) (s .1) (s .5) h in
       ((s .0, s .1), r .0, s .3, s .4, r .1, r .2)
 
-  pub record Listed (s : State A) (j : ℕ) (t : State A) (x : ℕ) : Type 0 where
+  pub record SegmentListed (s : State A) (j : ℕ) (t : State A) (x : ℕ) : Type 0 where
     pub path : List (Choice A)
     pub size : length path ≡ j
     pub plain : Plain path
@@ -266,7 +266,7 @@ module _ {A : Type 0} (R : ℕ) (siteOf : A → ℕ) (L : Line A) where
     pub move : Move (after s path) t toll
     pub sum : cost s path + toll ≡ x
 
-  pub segment-list : (s : State A) (j : ℕ) (t : State A) (x : ℕ) → Segment s j t x → Listed s j t x
+  pub segment-list : (s : State A) (j : ℕ) (t : State A) (x : ℕ) → Segment s j t x → SegmentListed s j t x
   segment-list s zero t x h =
       record { path = []; size = refl; plain = tt; goes = tt; toll = x; move = h; sum = omega arith }
   segment-list s (suc j) t x h =

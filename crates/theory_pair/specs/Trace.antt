@@ -11,7 +11,7 @@ use native.Mathlib.Omega.{arith}
 use lib.ListN.{length}
 use Rattle.theory_row.specs.Choices.{cells, along}
 use Rattle.theory_pair.specs.Segment.{Line, Choice, State, Goes, Move, move}
-use Rattle.theory_pair.specs.Segment.{move-met, next, last, cost, after, Listed}
+use Rattle.theory_pair.specs.Segment.{move-met, next, last, cost, after, SegmentListed}
 use Rattle.theory_pair.specs.Whole.{picks}
 use Rattle.theory_pair.specs.Cut.{Upto}
 use Rattle.theory_pair.specs.Cells.{row₀, row₁, Job, line, pos, tallCount, cell, LegalPair, total, traced}
@@ -37,7 +37,7 @@ obeys-append {A} g p q h k c m = go (List·Memᴰ·append-cases p m)
 
 module _ {A : Type 0} (R : ℕ) (siteOf : A → ℕ) (L : Line A) where
   -- a segment of no single cell
-  unfoldable pub listed-last : (u t : State A) (x : ℕ) → move R siteOf L u t ≡ some x → Listed R siteOf L u 0 t x
+  unfoldable pub listed-last : (u t : State A) (x : ℕ) → move R siteOf L u t ≡ some x → SegmentListed R siteOf L u 0 t x
   listed-last u t x e = record {
     path = [];
     size = refl;
@@ -51,7 +51,7 @@ module _ {A : Type 0} (R : ℕ) (siteOf : A → ℕ) (L : Line A) where
   -- one cell more at the left end of a segment: (k, a), placed from u on, costs z
   unfoldable pub listed-back : (u t : State A) (i m k j y z : ℕ) (a : A) → In a (L .options k) → L .tall k ≡ false
       → move R siteOf L u (i, m, some (k, a)) ≡ some z
-      → Listed R siteOf L (i, m, some (k, a)) j t y → Listed R siteOf L u (suc j) t (z + y)
+      → SegmentListed R siteOf L (i, m, some (k, a)) j t y → SegmentListed R siteOf L u (suc j) t (z + y)
   listed-back u t i m k j y z a o e w l =
       let c : Choice A = (k, a) in
       let v = move-met R siteOf L u (i, m, some c) z w in

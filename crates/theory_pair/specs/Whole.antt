@@ -45,7 +45,7 @@ module _ {A : Type 0} (siteOf : A → ℕ) (L : Line A) (g : ℕ → A) where
   rowTotal = sum mine (from 0 (L .size)) + sumNeighbours ours (order siteIn (L .size))
 
 -- a row whose cells stand as offered, legally, and with ends that are allowed
-pub record Placed {A : Type 0} (R : ℕ) (siteOf : A → ℕ) (L : Line A) (g : ℕ → A) : Type 0 where
+pub record RowPlaced {A : Type 0} (R : ℕ) (siteOf : A → ℕ) (L : Line A) (g : ℕ → A) : Type 0 where
   pub offered : (k : ℕ) → k < L .size → In (g k) (L .options k)
   pub legal : Legal R (siteIn siteOf L g) (wideIn siteOf L g) (L .size)
   pub ended : Ended (opensIn siteOf L g) (closesIn siteOf L g) (order (siteIn siteOf L g) (L .size))
@@ -127,7 +127,7 @@ module _ {A : Type 0} (R : ℕ) (siteOf : A → ℕ) (L : Line A) (g : ℕ → A
 
   -- a legal row's order, with its poses, is a path from the start, after which
   -- the row may end; and costs what the row costs
-  pub placed-goes : Wide L → Placed R siteOf L g
+  pub placed-goes : Wide L → RowPlaced R siteOf L g
       → Goes R siteOf L (first R siteOf L) (along g (order (siteIn siteOf L g) (L .size)))
   placed-goes w p =
       let r =
@@ -135,7 +135,7 @@ module _ {A : Type 0} (R : ℕ) (siteOf : A → ℕ) (L : Line A) (g : ℕ → A
       let l = order (siteIn siteOf L g) (L .size) in
       chain-goes l (r .0) (λ k m. p .offered k (order-below (siteIn siteOf L g) (L .size) k m)) (r .1) (p .ended)
 
-  pub placed-ends : Placed R siteOf L g
+  pub placed-ends : RowPlaced R siteOf L g
       → EndsWith R siteOf L (after R siteOf L (first R siteOf L) (along g (order (siteIn siteOf L g) (L .size))) .2)
   placed-ends p = ended-last (order (siteIn siteOf L g) (L .size)) (p .ended)
 
@@ -147,12 +147,12 @@ module _ {A : Type 0} (R : ℕ) (siteOf : A → ℕ) (L : Line A) (g : ℕ → A
       (order-sum (mine siteOf L g) (siteIn siteOf L g) (L .size))
 
   -- no two cells of a legal row have the same site
-  pub placed-sites : Wide L → Placed R siteOf L g → (a b : ℕ) → a < L .size → b < L .size → a ≢ b
+  pub placed-sites : Wide L → RowPlaced R siteOf L g → (a b : ℕ) → a < L .size → b < L .size → a ≢ b
       → siteIn siteOf L g a ≢ siteIn siteOf L g b
   placed-sites w p = rule4-sites (siteIn siteOf L g) (wideIn siteOf L g) (L .size) R (λ k h. w k (g k) (p .offered k h))
       (p .legal .rule4)
 
-  pub placed-rising : Wide L → Placed R siteOf L g → Rising (siteIn siteOf L g) (order (siteIn siteOf L g) (L .size))
+  pub placed-rising : Wide L → RowPlaced R siteOf L g → Rising (siteIn siteOf L g) (order (siteIn siteOf L g) (L .size))
   placed-rising w p = order-rising (siteIn siteOf L g) (wideIn siteOf L g) (L .size) R
       (λ k h. w k (g k) (p .offered k h)) (placed-sites w p)
 
@@ -160,7 +160,7 @@ module _ {A : Type 0} (R : ℕ) (siteOf : A → ℕ) (L : Line A) (g : ℕ → A
   -- row's order, and costs what that row costs
   pub goes-placed : Wide L → (l : List ℕ) → length l ≡ L .size → Goes R siteOf L (first R siteOf L) (along g l)
       → EndsWith R siteOf L (after R siteOf L (first R siteOf L) (along g l) .2)
-      → Placed R siteOf L g × (order (siteIn siteOf L g) (L .size) ≡ l)
+      → RowPlaced R siteOf L g × (order (siteIn siteOf L g) (L .size) ≡ l)
   goes-placed w l s h e =
       let q = goes-chain l h in
       let a : Arranged R (L .size) l = run-arranged R (L .size) l s (q .0) in
@@ -187,8 +187,8 @@ module _ {A : Type 0} (R : ℕ) (siteOf : A → ℕ) (L : Line A) where
       (run-arranged R (L .size) (cells p) (cells-size p ∙ s) (goes-run (first R siteOf L) p h) .distinct)
 
   -- poses that are the same in the row make the same row
-  pub placed-same : Wide L → (g h : ℕ → A) → ((k : ℕ) → k < L .size → g k ≡ h k) → Placed R siteOf L g
-      → Placed R siteOf L h × (rowTotal siteOf L h ≡ rowTotal siteOf L g)
+  pub placed-same : Wide L → (g h : ℕ → A) → ((k : ℕ) → k < L .size → g k ≡ h k) → RowPlaced R siteOf L g
+      → RowPlaced R siteOf L h × (rowTotal siteOf L h ≡ rowTotal siteOf L g)
   placed-same w g h e p =
       let l = order (siteIn siteOf L g) (L .size) in
       let c = cost R siteOf L (first R siteOf L) in

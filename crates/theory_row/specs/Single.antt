@@ -242,13 +242,13 @@ module _ {A : Type 0} (R n : ℕ) (options : ℕ → List A) (siteOf : A → ℕ
     abbrev pub total : ℕ
     total = sum mine (from 0 n) + sumNeighbours ours (order site n)
 
-    pub record Placed : Type 0 where
+    pub record SinglePlaced : Type 0 where
       pub offered : (k : ℕ) → k < n → In (f k) (options k)
       pub legal : Legal R site wide n
 
   module _ (d : A) (w : (k : ℕ) (a : A) → In a (options k) → 0 < widthOf k a) where
     -- no legal placement is cheaper than the cheapest path; if there is no path, there is no legal placement
-    pub single-below : (f : ℕ → A) → Placed f → best moves next toll n (0, start R, none) ⊑ total f
+    pub single-below : (f : ℕ → A) → SinglePlaced f → best moves next toll n (0, start R, none) ⊑ total f
     single-below f p =
         let r = legal-run R (site f) (wide f) n (λ k h. w k (f k) (p .offered k h)) (p .legal) in
         let l = order (site f) n in
@@ -259,7 +259,7 @@ module _ {A : Type 0} (R n : ℕ) (options : ℕ → List A) (siteOf : A → ℕ
 
     -- some legal placement costs just that
     pub single-met : (v : ℕ) → best moves next toll n (0, start R, none) ≡ some v
-        → (f : ℕ → A) × Placed f × (total f ≡ v)
+        → (f : ℕ → A) × SinglePlaced f × (total f ≡ v)
     single-met v e =
         let r = best-met moves next toll n (0, start R, none) v e in
         let p = r .0 in

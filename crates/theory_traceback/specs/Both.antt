@@ -12,11 +12,11 @@ use Rattle.theory_tables.specs.Steps.{B}
 use Rattle.theory_tables.specs.Stages.{placedWith, openCost, stageCost, caseTable}
 use Rattle.theory_tables.specs.Back.{Traced}
 use Rattle.theory_traceback.specs.Noted.{NotedUpto}
-use Rattle.theory_traceback.specs.Rows.{Row, Within, Stood, RowTo, row-begin, row-on}
+use Rattle.theory_traceback.specs.Rows.{RowWithTalls, Within, Stood, RowTo, row-begin, row-on}
 
 -- a row's path with one tall cell more, which stands in the pose p
-picks-more : {A : Type 0} (R : ℕ) (siteOf : A → ℕ) (talls : ℕ) (W : Row siteOf talls) (Noted : ℕ → ℕ → ℕ → Type 0)
-    (I l q a n x : ℕ) (ps : List A) (p : A) → length ps ≡ I → W .pose (W .pos I) l ≡ p
+picks-more : {A : Type 0} (R : ℕ) (siteOf : A → ℕ) (talls : ℕ) (W : RowWithTalls siteOf talls)
+    (Noted : ℕ → ℕ → ℕ → Type 0) (I l q a n x : ℕ) (ps : List A) (p : A) → length ps ≡ I → W .pose (W .pos I) l ≡ p
     → RowTo R siteOf talls W Noted (suc I) q a (picks (W .pos) 0 ps ++ ((W .pos I, W .pose (W .pos I) l) ∷ [])) n x
     → RowTo R siteOf talls W Noted (suc I) q a (picks (W .pos) 0 (ps ++ (p ∷ []))) n x
 picks-more R siteOf talls W Noted I l q a n x ps p e z r =
@@ -24,11 +24,11 @@ picks-more R siteOf talls W Noted I l q a n x ps p e z r =
     (ap (λ y. picks (W .pos) 0 ps ++ ((W .pos I, y) ∷ [])) z ∙ sym (picks-snoc (W .pos) 0 I ps p (omega arith))) r
 
 -- a tall cell has the same poses in both
-pub record Twins {A : Type 0} {siteOf : A → ℕ} {talls : ℕ} (W₀ W₁ : Row siteOf talls) : Type 0 where
+pub record Twins {A : Type 0} {siteOf : A → ℕ} {talls : ℕ} (W₀ W₁ : RowWithTalls siteOf talls) : Type 0 where
   pub poses : W₀ .deck .poses ≡ W₁ .deck .poses
   pub pose : (I l : ℕ) → I < talls → W₀ .pose (W₀ .pos I) l ≡ W₁ .pose (W₁ .pos I) l
 
-module _ {A : Type 0} (R : ℕ) (siteOf : A → ℕ) (talls : ℕ) (W₀ W₁ : Row siteOf talls)
+module _ {A : Type 0} (R : ℕ) (siteOf : A → ℕ) (talls : ℕ) (W₀ W₁ : RowWithTalls siteOf talls)
     (Noted₀ Noted₁ : ℕ → ℕ → ℕ → Type 0) where
   -- tall cell K was noted by the same number in both rows, among the first n₀ cells and the first n₁
   pub record TallNoted (K n₀ n₁ : ℕ) : Type 0 where

@@ -16,7 +16,7 @@ use Rattle.theory_tables.specs.Stages.{leastCost}
 use Rattle.theory_tables.specs.Back.{Traced}
 use Rattle.theory_tables.specs.Notes.{NotedBy}
 use Rattle.theory_traceback.specs.Words.{Places, number-is}
-use Rattle.theory_traceback.specs.Rows.{Row}
+use Rattle.theory_traceback.specs.Rows.{RowWithTalls}
 use Rattle.theory_traceback.specs.Both.{BothTo, both-to}
 use Rattle.theory_traceback.specs.Whole.{WholePath, row-ended, whole-size, whole-places}
 
@@ -44,7 +44,7 @@ numbered D = record {
 abbrev nowhere : ℕ → ℕ
 nowhere a = 0
 
-abbrev rowOf : (D : Deck) (talls : ℕ) (pos : ℕ → ℕ) → Standing D talls pos → Row nowhere talls
+abbrev rowOf : (D : Deck) (talls : ℕ) (pos : ℕ → ℕ) → Standing D talls pos → RowWithTalls nowhere talls
 rowOf D talls pos S = record {
   line = numbered D;
   deck = D;
@@ -74,10 +74,10 @@ pub record DecksTraced (D₀ D₁ : Deck) (R talls : ℕ) (pos₀ pos₁ w₀ w�
   pub traced : Traced D₀ D₁ R talls pos₀ pos₁ (NotedBy w₀) (NotedBy w₁) talls 0 0 0
 
 module _ {D₀ D₁ : Deck} {R talls : ℕ} {pos₀ pos₁ w₀ w₁ : ℕ → ℕ} (T : DecksTraced D₀ D₁ R talls pos₀ pos₁ w₀ w₁) where
-  abbrev W₀ : Row nowhere talls
+  abbrev W₀ : RowWithTalls nowhere talls
   W₀ = rowOf D₀ talls pos₀ (T .first)
 
-  abbrev W₁ : Row nowhere talls
+  abbrev W₁ : RowWithTalls nowhere talls
   W₁ = rowOf D₁ talls pos₁ (T .second)
 
   paths : BothTo R nowhere talls W₀ W₁ (NotedBy w₀) (NotedBy w₁) talls 0 0 0 (leastCost D₀ D₁ R talls pos₀ pos₁)

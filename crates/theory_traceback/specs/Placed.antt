@@ -16,7 +16,7 @@ use Rattle.theory_tables.specs.Stages.{leastCost}
 use Rattle.theory_tables.specs.Matched.{Matched}
 use Rattle.theory_tables.specs.Back.{Traced}
 use Rattle.theory_tables.specs.Notes.{NotedBy}
-use Rattle.theory_traceback.specs.Rows.{Row, RowTo}
+use Rattle.theory_traceback.specs.Rows.{RowWithTalls, RowTo}
 use Rattle.theory_traceback.specs.Both.{Twins, BothTo, both-to}
 use Rattle.theory_traceback.specs.Whole.{WholePath, row-ended, whole-obeys}
 
@@ -48,7 +48,7 @@ module _ {A : Type 0} (R : ℕ) (siteOf : A → ℕ) (J : Job A) (poseOf : ℕ �
   -- ---- one row
 
   module _ (s : Side) (D : Deck) (tallAt : ℕ → ℕ) (S : Searched siteOf J poseOf offerOf s D tallAt) where
-    abbrev rowOf : Row siteOf (tallCount J)
+    abbrev rowOf : RowWithTalls siteOf (tallCount J)
     rowOf = record {
       line = line J s;
       deck = D;
@@ -82,10 +82,10 @@ module _ {A : Type 0} (R : ℕ) (siteOf : A → ℕ) (J : Job A) (poseOf : ℕ �
     abbrev least : ℕ
     least = leastCost D₀ D₁ R (tallCount J) tallAt₀ tallAt₁
 
-    abbrev W₀ : Row siteOf (tallCount J)
+    abbrev W₀ : RowWithTalls siteOf (tallCount J)
     W₀ = rowOf row₀ D₀ tallAt₀ (W .first)
 
-    abbrev W₁ : Row siteOf (tallCount J)
+    abbrev W₁ : RowWithTalls siteOf (tallCount J)
     W₁ = rowOf row₁ D₁ tallAt₁ (W .second)
 
     paths : BothTo R siteOf (tallCount J) W₀ W₁ (NotedBy w₀) (NotedBy w₁) (tallCount J) 0 0 0 least

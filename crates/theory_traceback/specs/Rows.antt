@@ -27,7 +27,7 @@ use Rattle.theory_traceback.specs.Enter.{guarded}
 use Rattle.theory_traceback.specs.Segments.{Drawn, traced-spot, traced-note, trace-entry, trace-end}
 
 -- a row of the search: the row that its deck stands for, and where its tall cells are
-pub record Row {A : Type 0} (siteOf : A → ℕ) (talls : ℕ) : Type 0 where
+pub record RowWithTalls {A : Type 0} (siteOf : A → ℕ) (talls : ℕ) : Type 0 where
   pub line : Line A
   pub deck : Deck
   pub pose : ℕ → ℕ → A
@@ -37,7 +37,7 @@ pub record Row {A : Type 0} (siteOf : A → ℕ) (talls : ℕ) : Type 0 where
   pub stands : Talls line talls pos
 
 -- a path of n cells from the row's start to t, whose choices P holds of, each at its place
-pub record Written {A : Type 0} (R : ℕ) (siteOf : A → ℕ) (L : Line A) (P : ℕ → Choice A → Type 0) (t : State A)
+pub record PathWritten {A : Type 0} (R : ℕ) (siteOf : A → ℕ) (L : Line A) (P : ℕ → Choice A → Type 0) (t : State A)
     (ts : List (Choice A)) (n x : ℕ) : Type 0 where
   pub upto : Upto R siteOf L t ts x
   pub size : length (upto .path) ≡ n
@@ -45,14 +45,14 @@ pub record Written {A : Type 0} (R : ℕ) (siteOf : A → ℕ) (L : Line A) (P :
 
 module _ {A : Type 0} (R : ℕ) (siteOf : A → ℕ) (L : Line A) (P : ℕ → Choice A → Type 0) where
   written-begin : (j : ℕ) (t : State A) (x : ℕ) → Drawn R siteOf L P (first R siteOf L) j t x
-      → Written R siteOf L P t [] j x
+      → PathWritten R siteOf L P t [] j x
   unfolding upto-begin
   written-begin j t x d =
       record { upto = upto-begin R siteOf L j t x (d .listed); size = d .listed .size; noted = d .noted }
 
   -- the place of the cell that a path leads to
   written-place : (i m : ℕ) (c : Choice A) (ts : List (Choice A)) (n x : ℕ)
-      → Written R siteOf L P (i, m, some c) ts n x → i ≡ suc n
+      → PathWritten R siteOf L P (i, m, some c) ts n x → i ≡ suc n
   written-place i m c ts n x w =
       let z : i ≡ suc (after R siteOf L (first R siteOf L) (w .upto .path) .0) = w .upto .move .0 .1 .0 in
       let y = after-size R siteOf L (first R siteOf L) (w .upto .path) in
@@ -61,8 +61,8 @@ module _ {A : Type 0} (R : ℕ) (siteOf : A → ℕ) (L : Line A) (P : ℕ → C
 
   -- on to a tall cell and over one segment more
   written-on : (i m k j : ℕ) (a : A) (ts : List (Choice A)) (n x y : ℕ) (t : State A)
-      → Written R siteOf L P (i, m, some (k, a)) ts n x → In a (L .options k) → L .tall k ≡ true → P i (k, a)
-      → Drawn R siteOf L P (i, m, some (k, a)) j t y → Written R siteOf L P t (ts ++ ((k, a) ∷ [])) (i + j) (x + y)
+      → PathWritten R siteOf L P (i, m, some (k, a)) ts n x → In a (L .options k) → L .tall k ≡ true → P i (k, a)
+      → Drawn R siteOf L P (i, m, some (k, a)) j t y → PathWritten R siteOf L P t (ts ++ ((k, a) ∷ [])) (i + j) (x + y)
   unfolding upto-on
   written-on i m k j a ts n x y t w o e h d =
       let p = w .upto .path in
@@ -77,7 +77,7 @@ module _ {A : Type 0} (R : ℕ) (siteOf : A → ℕ) (L : Line A) (P : ℕ → C
         noted = noted-append P 1 i p q (omega arith) (w .noted) (h, d .noted);
       }
 
-module _ {A : Type 0} (R : ℕ) (siteOf : A → ℕ) (talls : ℕ) (W : Row siteOf talls) where
+module _ {A : Type 0} (R : ℕ) (siteOf : A → ℕ) (talls : ℕ) (W : RowWithTalls siteOf talls) where
   -- tall cell I as state q in pose a
   abbrev pub stood : ℕ → ℕ → ℕ → State A
   stood I q a = (placedWith R (W .pos I) q, marks R q, some (W .pos I, W .pose (W .pos I) a))
@@ -90,7 +90,8 @@ module _ {A : Type 0} (R : ℕ) (siteOf : A → ℕ) (talls : ℕ) (W : Row site
   abbrev pub Within : ℕ → ℕ → ℕ → Type 0
   Within I q a = I < talls → (q < stateCount R) × (a < W .deck .poses)
 
-module _ {A : Type 0} (R : ℕ) (siteOf : A → ℕ) (talls : ℕ) (W : Row siteOf talls) (Noted : ℕ → ℕ → ℕ → Type 0) where
+module _ {A : Type 0} (R : ℕ) (siteOf : A → ℕ) (talls : ℕ) (W : RowWithTalls siteOf talls)
+    (Noted : ℕ → ℕ → ℕ → Type 0) where
   -- how a choice of the row was noted
   abbrev pub At : ℕ → Choice A → Type 0
   At = NotedAs Noted (W .deck .poses) (W .pose)
@@ -172,7 +173,7 @@ module _ {A : Type 0} (R : ℕ) (siteOf : A → ℕ) (talls : ℕ) (W : Row site
   -- ---- the stages up to stage I
 
   pub record RowTo (I q a : ℕ) (ts : List (Choice A)) (n x : ℕ) : Type 0 where
-    pub written : Written R siteOf (W .line) At (goal R siteOf talls W I q a) ts n x
+    pub written : PathWritten R siteOf (W .line) At (goal R siteOf talls W I q a) ts n x
     pub stood : I < talls → Stood I q a
 
   pub row-begin : (q a : ℕ) → Within R siteOf talls W 0 q a → openCost (W .deck) R talls (W .pos) q a < B
@@ -216,8 +217,8 @@ module _ {A : Type 0} (R : ℕ) (siteOf : A → ℕ) (talls : ℕ) (W : Row site
       end-code R siteOf (W .line) (W .deck) (W .pose) (W .offered) (W .matched) i m k l (omega arith) h (c .offer) in
       let d = stage-drawn (stood R siteOf talls W I r l) good (firstAfter (W .deck) R i m k l) right (suc I)
       (W .deck .back k l) q a g ending u w in
-      let y : Written R siteOf (W .line) At (stood R siteOf talls W I r l) ts n x =
-      subst (λ t. Written R siteOf (W .line) At
+      let y : PathWritten R siteOf (W .line) At (stood R siteOf talls W I r l) ts n x =
+      subst (λ t. PathWritten R siteOf (W .line) At
       (cond t (stood R siteOf talls W I r l) (last R siteOf (W .line))) ts n x) (lt-ltb I talls b) (p .written) in
       let here = written-place R siteOf (W .line) At i m (k, W .pose k l) ts n x y in
       let segmentCost = stageCost (W .deck) R talls (W .pos) I r l q a in
@@ -230,7 +231,7 @@ module _ {A : Type 0} (R : ℕ) (siteOf : A → ℕ) (talls : ℕ) (W : Row site
         here,
         d .size,
         record {
-          written = subst (λ e. Written R siteOf (W .line) At (goal R siteOf talls W (suc I) q a)
+          written = subst (λ e. PathWritten R siteOf (W .line) At (goal R siteOf talls W (suc I) q a)
               (ts ++ ((k, W .pose k l) ∷ [])) (e + d .size) (x + segmentCost)) here r;
           stood = d .stood;
         },

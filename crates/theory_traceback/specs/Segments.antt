@@ -12,7 +12,7 @@ use lib.Dec.{leb, eqb}
 use Rattle.lists.specs.Compare.{Le?, low, le?, Eq?, differs, eq?}
 use Rattle.theory_row.specs.Window.{Good}
 use Rattle.theory_pair.specs.Coded.{coded-some}
-use Rattle.theory_pair.specs.Segment.{Line, Choice, State, last, move, move-met, Listed}
+use Rattle.theory_pair.specs.Segment.{Line, Choice, State, last, move, move-met, SegmentListed}
 use Rattle.theory_pair.specs.Trace.{listed-last, listed-back}
 use Rattle.theory_tables.specs.Steps.{B, Deck, stateCount, marks, lastAt, Layer, ends, layers, costEnd}
 use Rattle.theory_tables.specs.Matched.{Matched}
@@ -25,7 +25,7 @@ use Rattle.theory_traceback.specs.Enter.{source-single, entry-spot, firs
 -- a segment whose choices P holds of, each at its place
 pub record Drawn {A : Type 0} (R : ℕ) (siteOf : A → ℕ) (L : Line A) (P : ℕ → Choice A → Type 0) (s : State A) (j : ℕ)
     (t : State A) (x : ℕ) : Type 0 where
-  pub listed : Listed R siteOf L s j t x
+  pub listed : SegmentListed R siteOf L s j t x
   pub noted : NotedPath P (suc (s .0)) (listed .path)
 
 module _ {A : Type 0} (R : ℕ) (siteOf : A → ℕ) (L : Line A) (P : ℕ → Choice A → Type 0) where

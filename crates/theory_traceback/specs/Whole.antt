@@ -10,17 +10,17 @@ use Rattle.theory_pair.specs.Segment.{Choice, first, last, after, after-size}
 use Rattle.theory_pair.specs.Trace.{Obeys}
 use Rattle.theory_tables.specs.Notes.{NotedBy}
 use Rattle.theory_traceback.specs.Words.{Places, row-places, row-obeys}
-use Rattle.theory_traceback.specs.Rows.{Row, Written, stood, At, RowTo}
+use Rattle.theory_traceback.specs.Rows.{RowWithTalls, PathWritten, stood, At, RowTo}
 
-module _ {A : Type 0} (R : ℕ) (siteOf : A → ℕ) (talls : ℕ) (W : Row siteOf talls) (w : ℕ → ℕ) where
+module _ {A : Type 0} (R : ℕ) (siteOf : A → ℕ) (talls : ℕ) (W : RowWithTalls siteOf talls) (w : ℕ → ℕ) where
   -- a path to the row's end, noted by the words w
   abbrev pub WholePath : List (Choice A) → ℕ → ℕ → Type 0
-  WholePath = Written R siteOf (W .line) (At R siteOf talls W (NotedBy w)) (last R siteOf (W .line))
+  WholePath = PathWritten R siteOf (W .line) (At R siteOf talls W (NotedBy w)) (last R siteOf (W .line))
 
   pub row-ended : (ts : List (Choice A)) (n x : ℕ) → RowTo R siteOf talls W (NotedBy w) talls 0 0 ts n x
       → WholePath ts n x
   row-ended ts n x r =
-      subst (λ t. Written R siteOf (W .line) (At R siteOf talls W (NotedBy w))
+      subst (λ t. PathWritten R siteOf (W .line) (At R siteOf talls W (NotedBy w))
       (cond t (stood R siteOf talls W talls 0 0) (last R siteOf (W .line))) ts n x)
       (le-ltb talls talls (omega arith)) (r .written)
 

@@ -5,14 +5,14 @@ use native.Mathlib.Omega.{arith}
 use borrow.Author.Needs.{needs}
 use lib.ListN.{length, getD}
 use Rattle.theory_tables.specs.Steps.{poseSlots}
-use Rattle.search_back.specs.Scatter.{Upto}
+use Rattle.search_back.specs.Scatter.{ScatteredBelow}
 use Rattle.search_back.specs.ScatterLaws.{upto-none, upto-more, upto-all}
 use Rattle.search_back.proofs.scatter.Statement.{statement}
 use Rattle.search_back.proofs.scatter.Tie as tie
 
 abbrev Inv-loop : tie.InvT-loop
 Inv-loop out₀ path row n i₀ out i =
-    (0 < i) × (i ≤ n + 1) × Upto row path i out₀ out
+    (0 < i) × (i ≤ n + 1) × ScatteredBelow row path i out₀ out
 
 abbrev μ-loop : tie.MeasureT-loop
 μ-loop out₀ path row n i₀ out i =

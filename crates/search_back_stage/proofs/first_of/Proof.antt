@@ -9,10 +9,10 @@ use Rattle.search_back_stage.proofs.first_of.Statement.{statement}
 use Rattle.search_back_stage.proofs.first_of.Tie as tie
 
 -- there is room for the layer after the tall cell
-abbrev Room : tie.After-placed-with → Type 0
-Room c = c .placed-with .result + 1 ≤ maxKept
+abbrev LayerRoom : tie.After-placed-with → Type 0
+LayerRoom c = c .placed-with .result + 1 ≤ maxKept
 
-room : (c : tie.After-placed-with) → Room c
+room : (c : tie.After-placed-with) → LayerRoom c
 unfolding posIn
 room c =
     let after-tall-at = c .before in

@@ -14,14 +14,14 @@ use Rattle.search_back_stage.proofs.stage_trace.Statement.{statement}
 use Rattle.search_back_stage.proofs.stage_trace.Tie as tie
 
 -- the tall cell's place, as counted
-abbrev Placed : tie.After-placed-with → Type 0
-Placed c =
+abbrev PlaceCounted : tie.After-placed-with → Type 0
+PlaceCounted c =
     let mid = c .before .before .before .before in
     let mid₂ = mid .before .before .before .before in
     let mid₃ = mid₂ .before .before .before .before in
     let a = mid₃ .before .args in c .placed-with .result ≡ placedWith (a .sizes .reordering) (posIn (a .row .now) (a .leg .stage)) (a .leg .state)
 
-placed : (c : tie.After-placed-with) → Placed c
+placed : (c : tie.After-placed-with) → PlaceCounted c
 unfolding posIn
 placed c = omega (arith, c .placed-with .ensures, c .before .tall-at .ensures)
 

@@ -9,7 +9,7 @@ use Rattle.search_row.specs.Laws.{there-size}
 use Rattle.search_buckets.specs.Rows.{byStates}
 use Rattle.search_buckets.specs.Sources.{states-low, states-twin}
 use Rattle.search_buckets.specs.Next.{next-found}
-use Rattle.search_dense_layer.specs.Thin.{thinIn, Arrays}
+use Rattle.search_dense_layer.specs.Thin.{thinIn, ThinArrays}
 use Rattle.search_dense_layer.specs.Laws.{buckets-twin, lent-on}
 use Rattle.search_dense_layer.specs.Found.{lent-none, lent-run, found-there, put-words}
 use borrow.Author.Needs.{needs}
@@ -33,7 +33,7 @@ inside c =
     )
 
 -- the arrays once the far rows ran up
-arrays : (c : tie.After-run-up) → Arrays (c .before .before .gather .last .0) (c .before .before .gather .last .1 .0) (c .run-up .last .0)
+arrays : (c : tie.After-run-up) → ThinArrays (c .before .before .gather .last .0) (c .before .before .gather .last .1 .0) (c .run-up .last .0)
 arrays c = lent-run (lent-on lent-none (c .before .before .gather .ensures)) (c .run-up .ensures)
 
 buckets-low : (k : tie.Start) → (let a = k .args in (v t : ℕ) → byStates (a .row .now) (deckIn (a .row .now) (a .sizes)) (a .sizes .reordering)

@@ -3,7 +3,7 @@ use Prim.Native.Nat.{suc, _-_, _≤_}
 use mathlib.Core.Path.{_∙_}
 use lib.ListN.{length-set}
 use Rattle.search_row.specs.Words.{deckIn, posIn, withCells}
-use Rattle.search_wide_buckets.specs.Table.{Lent}
+use Rattle.search_wide_buckets.specs.Table.{TableLent}
 use Rattle.search_wide_buckets.specs.TableLaws.{lent-zeros}
 use Rattle.search_stage.specs.Stage.{Through}
 use Rattle.search_stage.specs.Laws.{through-none, through-more, through-all, given-states, given-first}
@@ -14,7 +14,7 @@ use Rattle.search_stage.proofs.stages.Tie as tie
 abbrev Inv-loop : tie.InvT-loop
 Inv-loop store₀ row0 row1 sizes cells1 table₀ talls i₀ store table i =
     (i ≤ suc (sizes .talls)) × Through (deckIn row0 sizes) (deckIn row1 (withCells sizes cells1)) (sizes .reordering) (sizes .talls) (posIn row0)
-    (posIn row1) i store₀ store × Lent table
+    (posIn row1) i store₀ store × TableLent table
 
 abbrev μ-loop : tie.MeasureT-loop
 μ-loop store₀ row0 row1 sizes cells1 table₀ talls i₀ store table i = suc (sizes .talls) - i

@@ -8,13 +8,13 @@ use borrow.Author.Needs.{needs}
 use Rattle.search_row.specs.Words.{statesEnd, statesFrom}
 use Rattle.search_lanes.specs.Store.{Frame}
 use Rattle.search_lanes.specs.Laws.{frame-refl, frame-join}
-use Rattle.search_states.specs.Upto.{digitsFrom, marksFrom, Upto, skip-marks, next-marks, no-digit}
+use Rattle.search_states.specs.Upto.{digitsFrom, marksFrom, StatesUpto, skip-marks, next-marks, no-digit}
 use Rattle.search_states.proofs.add_marks.Statement.{statement}
 use Rattle.search_states.proofs.add_marks.Tie as tie
 
 abbrev Inv-loop : tie.InvT-loop
 Inv-loop row₀ count r m n₀ d₀ row n d =
-    (d ≤ suc (2 * r)) × Frame statesFrom statesEnd row₀ row × Upto r row n (digitsFrom r m d ++ marksFrom r (m + 1))
+    (d ≤ suc (2 * r)) × Frame statesFrom statesEnd row₀ row × StatesUpto r row n (digitsFrom r m d ++ marksFrom r (m + 1))
 
 abbrev μ-loop : tie.MeasureT-loop
 μ-loop row₀ count r m n₀ d₀ row n d = suc (2 * r) - d

@@ -5,13 +5,13 @@ use borrow.Author.Needs.{needs}
 use Rattle.search_row.specs.Words.{statesEnd, statesFrom}
 use Rattle.search_lanes.specs.Store.{Frame}
 use Rattle.search_lanes.specs.Laws.{frame-refl, frame-join}
-use Rattle.search_states.specs.Upto.{marksFrom, Upto, upto-none, upto-all, no-marks, marks-end}
+use Rattle.search_states.specs.Upto.{marksFrom, StatesUpto, upto-none, upto-all, no-marks, marks-end}
 use Rattle.search_states.proofs.fill_states.Statement.{statement}
 use Rattle.search_states.proofs.fill_states.Tie as tie
 
 abbrev Inv-loop : tie.InvT-loop
 Inv-loop row₀ r limit end n₀ m₀ row n m =
-    (m ≤ end) × Frame statesFrom statesEnd row₀ row × Upto r row n (marksFrom r m)
+    (m ≤ end) × Frame statesFrom statesEnd row₀ row × StatesUpto r row n (marksFrom r m)
 
 abbrev μ-loop : tie.MeasureT-loop
 μ-loop row₀ r limit end n₀ m₀ row n m = end - m

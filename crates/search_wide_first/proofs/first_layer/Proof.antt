@@ -7,7 +7,7 @@ use Rattle.theory_tables.specs.Steps.{before}
 use Rattle.search_lanes.specs.Store.{Filled}
 use Rattle.search_lanes.specs.Laws.{filled-none, filled-more}
 use Rattle.search_row.specs.Words.{deckIn}
-use Rattle.search_wide_buckets.specs.Table.{Lent}
+use Rattle.search_wide_buckets.specs.Table.{TableLent}
 use Rattle.search_wide_layer.specs.Laws.{given-on}
 use Rattle.search_wide_first.specs.Firsts.{afterFrom}
 use Rattle.search_wide_first.proofs.first_layer.Statement.{statement}
@@ -15,7 +15,7 @@ use Rattle.search_wide_first.proofs.first_layer.Tie as tie
 
 abbrev Inv-loop : tie.InvT-loop
 Inv-loop table₀ store₀ row sizes lanes i s p m layer q₀ table store q =
-    (q ≤ (sizes .states)) × Filled (afterFrom (deckIn row sizes) (sizes .reordering) i m p) lanes (sizes .poses) 0 q store₀ store × Lent table
+    (q ≤ (sizes .states)) × Filled (afterFrom (deckIn row sizes) (sizes .reordering) i m p) lanes (sizes .poses) 0 q store₀ store × TableLent table
 
 abbrev μ-loop : tie.MeasureT-loop
 μ-loop table₀ store₀ row sizes lanes i s p m layer q₀ table store q =

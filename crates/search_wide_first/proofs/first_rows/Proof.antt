@@ -4,7 +4,7 @@ use mathlib.Core.Path.{_≡_, sym, _∙_}
 use native.Mathlib.Omega.{arith}
 use Rattle.search_buckets.specs.Rows.{rowsOf}
 use Rattle.search_buckets.specs.Sources.{buckets-either}
-use Rattle.search_wide_buckets.specs.Table.{FiveOrNine, Ready, Gathered}
+use Rattle.search_wide_buckets.specs.Table.{FiveOrNine, TableReady, Gathered}
 use Rattle.search_wide_buckets.specs.TableLaws.{ready}
 use Rattle.search_wide_buckets.specs.SpreadLaws.{five-least, nine-most}
 use Rattle.search_wide_first.specs.Starts.{startIn, starts-all, starts-low, starts-last, after-found}
@@ -43,7 +43,7 @@ Table c =
     let mid = c .before .before .before .before in
     let after-buckets-of = mid .before .before .before in
     let a = after-buckets-of .before .before .before .args in
-    Ready (startIn (a .row .now) (a .p) (a .k)) (a .poses) (after-buckets-of .buckets-of .result) (a .lanes) (c .run-up .last .0)
+    TableReady (startIn (a .row .now) (a .p) (a .k)) (a .poses) (after-buckets-of .buckets-of .result) (a .lanes) (c .run-up .last .0)
 
 table : (c : tie.After-run-up) → Table c
 table c =

@@ -16,7 +16,7 @@ use Rattle.search_row.specs.Words.{deckIn}
 use Rattle.search_row.specs.Laws.{there-size}
 use Rattle.search_buckets.specs.Rows.{rowsOf, bucketsIn, byStates}
 use Rattle.search_buckets.specs.Sources.{states-low, states-twin, buckets-either, buckets-last}
-use Rattle.search_wide_buckets.specs.Table.{FiveOrNine, Gathered, statesIn, Ready}
+use Rattle.search_wide_buckets.specs.Table.{FiveOrNine, Gathered, statesIn, TableReady}
 use Rattle.search_wide_buckets.specs.TableLaws.{ready, unused}
 use Rattle.search_wide_buckets.specs.SpreadLaws.{five-least, nine-most}
 use Rattle.search_buckets.specs.Next.{next-found, next-none, next-alone, next-unoffered}
@@ -144,7 +144,7 @@ abbrev Table : tie.After-run-up → Type 0
 Table c =
     let p = known (c .before .before .before) in
     let k = start (p .before .before) in
-    Ready (bucket k) (p .poses-of .result) (p .before .buckets-of .result) (k .args .layer .lanes) (c .run-up .last .0)
+    TableReady (bucket k) (p .poses-of .result) (p .before .buckets-of .result) (k .args .layer .lanes) (c .run-up .last .0)
 
 table : (c : tie.After-run-up) → Table c
 table c =

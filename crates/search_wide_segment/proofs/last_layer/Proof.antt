@@ -9,7 +9,7 @@ use Rattle.theory_tables.specs.Steps.{offset}
 use Rattle.search_lanes.specs.Store.{Frame, Filled}
 use Rattle.search_lanes.specs.Laws.{frame-refl, frame-join, filled-none, filled-more}
 use Rattle.search_row.specs.Words.{deckIn}
-use Rattle.search_wide_buckets.specs.Table.{Lent}
+use Rattle.search_wide_buckets.specs.Table.{TableLent}
 use Rattle.search_wide_layer.specs.Laws.{given-on, beside-on, beside-kept, next-kept}
 use Rattle.search_wide_segment.specs.Runs.{lastIn}
 use borrow.Author.Needs.{needs}
@@ -20,7 +20,7 @@ abbrev Inv-loop : tie.InvT-loop
 Inv-loop table₀ store₀ row sizes layer tall costs q₀ table store q =
     (q ≤ (sizes .states)) × Filled (lastIn (deckIn row sizes) (sizes .reordering) (layer .cells) tall store₀ (layer .at) costs) (layer .lanes)
     (sizes .poses) costs q store₀ store
-    × Frame costs (costs + q * stateBlock) store₀ store × Lent table
+    × Frame costs (costs + q * stateBlock) store₀ store × TableLent table
 
 abbrev μ-loop : tie.MeasureT-loop
 μ-loop table₀ store₀ row sizes layer tall costs q₀ table store q =
