@@ -55,10 +55,10 @@ pub record ToTall (row st : List ℕ) (z : Sizes) (lanes i tall costs : ℕ) : T
   pub early : i ≤ 100
   pub inside : tall < maxCells
 
--- the same from the layer with i cells, whose block begins at `from`
-pub record Delivering (row st : List ℕ) (z : Sizes) (lanes i tall from costs : ℕ) : Type 0 where
-  pub toTall : ToTall row st z lanes i tall costs
-  pub below : from ≤ layerBlock
+-- the same from a layer in one of the two blocks
+pub record Delivering (row st : List ℕ) (z : Sizes) (layer : Block) (tall costs : ℕ) : Type 0 where
+  pub toTall : ToTall row st z (layer .lanes) (layer .cells) tall costs
+  pub below : layer .at ≤ layerBlock
 
 -- the same straight from the layer before the last
 pub record ToLast (table row st : List ℕ) (z : Sizes) (layer : Block) (tall costs : ℕ) : Type 0 where
@@ -71,7 +71,7 @@ pub record StateToTall (row st : List ℕ) (z : Sizes) (lanes i tall costs q : �
   pub state : q < stateCount (z .reordering)
 
 pub record StateDelivering (row st : List ℕ) (z : Sizes) (layer : Block) (tall costs q : ℕ) : Type 0 where
-  pub delivering : Delivering row st z (layer .lanes) (layer .cells) tall (layer .at) costs
+  pub delivering : Delivering row st z layer tall costs
   pub state : q < stateCount (z .reordering)
 
 pub record StateToLast (table row st : List ℕ) (z : Sizes) (layer : Block) (tall costs q : ℕ) : Type 0 where

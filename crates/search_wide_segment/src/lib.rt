@@ -86,26 +86,12 @@ fn deliver_state(
     );
 }
 
-// The costs of every state that comes with the layer at `from`, which has i cells.
-fn deliver(
-    store: &mut [u32],
-    row: &[u32],
-    sizes: Sizes,
-    lanes: usize,
-    i: usize,
-    tall: usize,
-    from: usize,
-    costs: usize,
-)
-    requires { ⌜ Delivering (now row) (now store) sizes lanes i tall from costs ⌝ }
-    ensures { λ _. ⌜ Filled (delivered (sizes .reordering) i tall (now (store .entry)) from costs) lanes
-        (sizes .poses) costs (sizes .states) (now (store .entry)) (now (store .exit)) ⌝ }
+// The costs of every state that comes with this layer.
+fn deliver(store: &mut [u32], row: &[u32], sizes: Sizes, layer: Block, tall: usize, costs: usize)
+    requires { ⌜ Delivering (now row) (now store) sizes layer tall costs ⌝ }
+    ensures { λ _. ⌜ Filled (delivered (sizes .reordering) (layer .cells) tall (now (store .entry)) (layer .at) costs)
+        (layer .lanes) (sizes .poses) costs (sizes .states) (now (store .entry)) (now (store .exit)) ⌝ }
 {
-    let layer = Block {
-        lanes,
-        cells: i,
-        at: from,
-    };
     let mut q: usize = 0;
     while q < sizes.states {
         deliver_state(store, row, sizes, layer, tall, costs, q);
@@ -129,7 +115,12 @@ fn run_to(
         (tall + sizes .reordering - i) at costs (now (store .entry)) (now (store .exit)) (now (table .exit)) ⌝ }
 {
     fill_late(store, row, sizes, lanes, i, tall, costs);
-    deliver(store, row, sizes, lanes, i, tall, 0, costs);
+    let first = Block {
+        lanes,
+        cells: i,
+        at: 0,
+    };
+    deliver(store, row, sizes, first, tall, costs);
     let r = sizes.reordering;
     let mut from: usize = 0;
     let mut d: usize = 0;
@@ -143,7 +134,13 @@ fn run_to(
         search_wide_layer::step_layer(table, store, row, sizes, layer, search_store::LAYER - from);
         from = search_store::LAYER - from;
         d += 1;
-        deliver(store, row, sizes, lanes, i + d, tall, from, costs);
+        let cells = i + d;
+        let next = Block {
+            lanes,
+            cells,
+            at: from,
+        };
+        deliver(store, row, sizes, next, tall, costs);
     }
     from
 }

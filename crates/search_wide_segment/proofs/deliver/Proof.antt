@@ -14,12 +14,13 @@ use Rattle.search_wide_segment.proofs.deliver.Statement.{statement}
 use Rattle.search_wide_segment.proofs.deliver.Tie as tie
 
 abbrev Inv-loop : tie.InvT-loop
-Inv-loop store₀ row sizes lanes i tall from costs layer q₀ store q =
-    (q ≤ (sizes .states)) × Filled (delivered (sizes .reordering) i tall store₀ from costs) lanes (sizes .poses) costs q store₀ store
+Inv-loop store₀ row sizes layer tall costs q₀ store q =
+    (q ≤ (sizes .states))
+    × Filled (delivered (sizes .reordering) (layer .cells) tall store₀ (layer .at) costs) (layer .lanes) (sizes .poses) costs q store₀ store
     × Frame costs (costs + q * stateBlock) store₀ store
 
 abbrev μ-loop : tie.MeasureT-loop
-μ-loop store₀ row sizes lanes i tall from costs layer q₀ store q =
+μ-loop store₀ row sizes layer tall costs q₀ store q =
     (sizes .states) - q
 
 loop-holds : tie.Need-loop-holds Inv-loop μ-loop
@@ -68,8 +69,8 @@ loop-again c =
       omega arith,
       filled-more (l .q) (g .narrow) (omega arith) (omega (arith, g .all, g .coded .few)) (l .inv .1) w
           (λ b j x y.
-          ap₂ (cond (eqb (a .i + offset (a .sizes .reordering) (l .q)) (a .tall + suc (a .sizes .reordering))))
-          (sym (f .low (a .from + l .q * stateBlock + b * maxLanes + j) (omega (arith, g .room .over, g .all, g .coded .few, k .pre .below))))
+          ap₂ (cond (eqb (a .layer .cells + offset (a .sizes .reordering) (l .q)) (a .tall + suc (a .sizes .reordering))))
+          (sym (f .low (a .layer .at + l .q * stateBlock + b * maxLanes + j) (omega (arith, g .room .over, g .all, g .coded .few, k .pre .below))))
           (sym (f .high (a .costs + l .q * stateBlock + b * maxLanes + j) (omega arith)))),
       frame-join (a .costs) (a .costs + (l .q + 1) * stateBlock) f (w .frame) (omega arith) (omega arith) (omega arith) (omega arith),
     )

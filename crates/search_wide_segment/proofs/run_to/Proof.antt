@@ -128,8 +128,8 @@ sub-from c =
 add-d : tie.Need-add-d Inv-loop μ-loop
 add-d c = search needs
 
-add-deliver : tie.Need-add-deliver Inv-loop μ-loop
-add-deliver c = search needs
+add-cells-2 : tie.Need-add-cells-2 Inv-loop μ-loop
+add-cells-2 c = search needs
 
 deliver-requires-2 : tie.Need-deliver-requires-2 Inv-loop μ-loop
 deliver-requires-2 c κs =
@@ -208,7 +208,7 @@ run-to-spec =
     step-layer-requires
     sub-from
     add-d
-    add-deliver
+    add-cells-2
     deliver-requires-2
     loop-less
     loop-again
