@@ -44,20 +44,20 @@ pub record CostRoom (st : List ℕ) (costs : ℕ) : Type 0 where
   pub over : keptFrom ≤ costs
   pub room : costs + layerBlock ≤ length st
 
--- the costs to a tall cell are to be written, of the states that come to it with a layer of i cells
-pub record ToTall (row st : List ℕ) (z : Sizes) (lanes i tall costs : ℕ) : Type 0 where
+-- the costs to a tall cell are to be written, by when the states come to it: with this layer, or with none from it on
+pub record ToTall (row st : List ℕ) (z : Sizes) (layer : Block) (tall costs : ℕ) : Type 0 where
   pub coded : StateWords (z .reordering) row
   pub low : Low st
   pub room : CostRoom st costs
   pub all : z .states ≡ stateCount (z .reordering)
   pub few : z .poses ≤ maxPoses
-  pub narrow : lanes ≤ maxLanes
-  pub early : i ≤ 100
+  pub narrow : layer .lanes ≤ maxLanes
+  pub early : layer .cells ≤ 100
   pub inside : tall < maxCells
 
 -- the same from a layer in one of the two blocks
 pub record Delivering (row st : List ℕ) (z : Sizes) (layer : Block) (tall costs : ℕ) : Type 0 where
-  pub toTall : ToTall row st z (layer .lanes) (layer .cells) tall costs
+  pub toTall : ToTall row st z layer tall costs
   pub below : layer .at ≤ layerBlock
 
 -- the same straight from the layer before the last
@@ -66,8 +66,8 @@ pub record ToLast (table row st : List ℕ) (z : Sizes) (layer : Block) (tall co
   pub inside : tall < maxCells
 
 -- each of the three for state q alone
-pub record StateToTall (row st : List ℕ) (z : Sizes) (lanes i tall costs q : ℕ) : Type 0 where
-  pub toTall : ToTall row st z lanes i tall costs
+pub record StateToTall (row st : List ℕ) (z : Sizes) (layer : Block) (tall costs q : ℕ) : Type 0 where
+  pub toTall : ToTall row st z layer tall costs
   pub state : q < stateCount (z .reordering)
 
 pub record StateDelivering (row st : List ℕ) (z : Sizes) (layer : Block) (tall costs q : ℕ) : Type 0 where

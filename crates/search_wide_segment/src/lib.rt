@@ -11,21 +11,21 @@ ghost use Rattle.search_wide_segment.specs.Runs.{lateIn, delivered, last
 use search_row::Sizes;
 use search_wide_layer::Block;
 
-// NONE for state q, if it comes to the tall cell with no layer from the one with i cells on.
+// NONE for state q, if it comes to the tall cell with no layer from this one on.
 fn late_state(
     store: &mut [u32],
     row: &[u32],
     sizes: Sizes,
-    lanes: usize,
-    i: usize,
+    layer: Block,
     tall: usize,
     costs: usize,
     q: usize,
 )
-    requires { ⌜ StateToTall (now row) (now store) sizes lanes i tall costs q ⌝ }
-    ensures { λ _. ⌜ FilledState (lateIn (sizes .reordering) i tall (now (store .entry)) costs) lanes costs q
-        (sizes .poses) (now (store .entry)) (now (store .exit)) ⌝ }
+    requires { ⌜ StateToTall (now row) (now store) sizes layer tall costs q ⌝ }
+    ensures { λ _. ⌜ FilledState (lateIn (sizes .reordering) (layer .cells) tall (now (store .entry)) costs)
+        (layer .lanes) costs q (sizes .poses) (now (store .entry)) (now (store .exit)) ⌝ }
 {
+    let i = layer.cells;
     if i + search_row::word(row, search_row::STATES + q * 4) <= tall + sizes.reordering + 1 {
         return;
     }
@@ -33,28 +33,20 @@ fn late_state(
         store,
         costs + q * search_store::STATE,
         sizes.poses,
-        lanes,
+        layer.lanes,
         search_lanes::NONE,
     );
 }
 
 // NONE for every such state: the costs of the others are delivered.
-fn fill_late(
-    store: &mut [u32],
-    row: &[u32],
-    sizes: Sizes,
-    lanes: usize,
-    i: usize,
-    tall: usize,
-    costs: usize,
-)
-    requires { ⌜ ToTall (now row) (now store) sizes lanes i tall costs ⌝ }
-    ensures { λ _. ⌜ Filled (lateIn (sizes .reordering) i tall (now (store .entry)) costs) lanes (sizes .poses) costs
-        (sizes .states) (now (store .entry)) (now (store .exit)) ⌝ }
+fn fill_late(store: &mut [u32], row: &[u32], sizes: Sizes, layer: Block, tall: usize, costs: usize)
+    requires { ⌜ ToTall (now row) (now store) sizes layer tall costs ⌝ }
+    ensures { λ _. ⌜ Filled (lateIn (sizes .reordering) (layer .cells) tall (now (store .entry)) costs)
+        (layer .lanes) (sizes .poses) costs (sizes .states) (now (store .entry)) (now (store .exit)) ⌝ }
 {
     let mut q: usize = 0;
     while q < sizes.states {
-        late_state(store, row, sizes, lanes, i, tall, costs, q);
+        late_state(store, row, sizes, layer, tall, costs, q);
         q += 1;
     }
 }
@@ -114,12 +106,12 @@ fn run_to(
     ensures { λ at. ⌜ CostedRun (deckIn (now (row .entry)) sizes) (sizes .reordering) lanes i tall
         (tall + sizes .reordering - i) at costs (now (store .entry)) (now (store .exit)) (now (table .exit)) ⌝ }
 {
-    fill_late(store, row, sizes, lanes, i, tall, costs);
     let first = Block {
         lanes,
         cells: i,
         at: 0,
     };
+    fill_late(store, row, sizes, first, tall, costs);
     deliver(store, row, sizes, first, tall, costs);
     let r = sizes.reordering;
     let mut from: usize = 0;

@@ -14,12 +14,13 @@ use Rattle.search_wide_segment.proofs.fill_late.Statement.{statement}
 use Rattle.search_wide_segment.proofs.fill_late.Tie as tie
 
 abbrev Inv-loop : tie.InvT-loop
-Inv-loop store₀ row sizes lanes i tall costs q₀ store q =
-    (q ≤ (sizes .states)) × Filled (lateIn (sizes .reordering) i tall store₀ costs) lanes (sizes .poses) costs q store₀ store
+Inv-loop store₀ row sizes layer tall costs q₀ store q =
+    (q ≤ (sizes .states))
+    × Filled (lateIn (sizes .reordering) (layer .cells) tall store₀ costs) (layer .lanes) (sizes .poses) costs q store₀ store
     × Frame costs (costs + q * stateBlock) store₀ store
 
 abbrev μ-loop : tie.MeasureT-loop
-μ-loop store₀ row sizes lanes i tall costs q₀ store q =
+μ-loop store₀ row sizes layer tall costs q₀ store q =
     (sizes .states) - q
 
 loop-holds : tie.Need-loop-holds Inv-loop μ-loop
@@ -62,7 +63,7 @@ loop-again c =
     let f = l .inv .2 in (
       omega arith,
       filled-more (l .q) (k .pre .narrow) (omega arith) (omega (arith, k .pre .all, k .pre .coded .few)) (l .inv .1) w
-          (λ b j x y. ap (cond (ltb (a .tall + suc (a .sizes .reordering)) (a .i + offset (a .sizes .reordering) (l .q))) B)
+          (λ b j x y. ap (cond (ltb (a .tall + suc (a .sizes .reordering)) (a .layer .cells + offset (a .sizes .reordering) (l .q))) B)
           (sym (f .high (a .costs + l .q * stateBlock + b * maxLanes + j) (omega arith)))),
       frame-join (a .costs) (a .costs + (l .q + 1) * stateBlock) f (w .frame) (omega arith) (omega arith) (omega arith) (omega arith),
     )

@@ -31,12 +31,12 @@ returns c =
     let after-word = c .before .before in
     let k = after-word .before .before .before in
     let a = k .args in
-    let e : a .i + offset (a .sizes .reordering) (a .q) ≤ a .tall + suc (a .sizes .reordering) =
+    let e : a .layer .cells + offset (a .sizes .reordering) (a .q) ≤ a .tall + suc (a .sizes .reordering) =
     omega (arith, c .if1 .taken, after-word .word .ensures, k .pre .toTall .coded .digit (a .q) (k .pre .state)) in
     record {
       frame = frame-refl _ _ _;
       low = k .pre .toTall .low;
-      right = λ b x l y. sym (late-skip (a .sizes .reordering) (a .i) (a .tall) (a .store .now) (a .costs) l (a .q) b e);
+      right = λ b x l y. sym (late-skip (a .sizes .reordering) (a .layer .cells) (a .tall) (a .store .now) (a .costs) l (a .q) b e);
     }
 
 mul-fill-rows : tie.Need-mul-fill-rows
@@ -57,10 +57,10 @@ returns-2 c =
     let after-word = after-if1 .before .before in
     let k = after-word .before .before .before in
     let a = k .args in
-    let e : a .tall + suc (a .sizes .reordering) < a .i + offset (a .sizes .reordering) (a .q) =
+    let e : a .tall + suc (a .sizes .reordering) < a .layer .cells + offset (a .sizes .reordering) (a .q) =
     omega (arith, after-if1 .if1 .left, after-word .word .ensures, k .pre .toTall .coded .digit (a .q) (k .pre .state)) in
     state-rows (omega arith) (c .before .before .fill-rows .ensures)
-    (λ b l x y. late-take (a .sizes .reordering) (a .i) (a .tall) (a .store .now) (a .costs) l (a .q) b e)
+    (λ b l x y. late-take (a .sizes .reordering) (a .layer .cells) (a .tall) (a .store .now) (a .costs) l (a .q) b e)
 
 add-word : tie.Need-add-word
 add-word c = search needs
