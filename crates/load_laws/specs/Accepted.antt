@@ -11,7 +11,7 @@ use Rattle.definition.specs.Job.{Header, Job, Cell, maxCells, accepted, readJob
 use Rattle.definition.specs.Load.{Load, ReadAs, loadHeader, loadOf, loadRoom, numbersDrawn, numbersLine}
 use Rattle.definition.specs.EdgesComputed.{opened}
 use Rattle.job_laws.specs.More.{read-more}
-use Rattle.load_laws.specs.Lines.{line-alone, line-ended, line-cell, line-taken, line-long}
+use Rattle.load_laws.specs.Lines.{lineBytes, headerBytes, line-alone, line-ended, line-cell, line-taken, line-long}
 use Rattle.load_laws.specs.Cells.{SoFar, cell-taken, so-far, numbers-printable}
 use Rattle.load_laws.specs.Cells.{numbers-some, numbers-few}
 
@@ -36,12 +36,12 @@ header-read : readJob loadHeader ≡ accepted (record { header = header; cells =
 unfolding opened
 header-read = refl
 
--- a load of n cells: the longest line has 22 numbers, of five bytes each with its comma
+-- a load of n cells
 pub record LoadSound (seed n : ℕ) : Type 0 where
   pub cells : SoFar n (loadOf seed n .cells)
   pub reads : readJob (loadOf seed n .text) ≡ accepted (jobFrom (loadOf seed n))
   pub ends : ended (loadOf seed n .text) ≡ true
-  pub long : length (loadOf seed n .text) ≤ 26 + 112 * n
+  pub long : length (loadOf seed n .text) ≤ headerBytes + lineBytes * n
 
 none-sound : (seed : ℕ) → LoadSound seed 0
 unfolding loadOf opened

@@ -19,7 +19,7 @@ use Rattle.text_laws.specs.Numbers.{also}
 use Rattle.job_laws.specs.Line.{Taken}
 use Rattle.load_laws.specs.Draws.{drawn-low, drawn-high, drawn-within, inside, length-drawn, drawn-append}
 use Rattle.load_laws.specs.Draws.{all-drawn, all-replicate, length-ranges, length-repeated, all-repeated}
-use Rattle.load_laws.specs.Lines.{printable, is-printable}
+use Rattle.load_laws.specs.Lines.{layoutFields, lineFields, printable, is-printable}
 use Rattle.load_laws.specs.Sites.{Above, not-falling, largest-low, largest-above, largest-below}
 
 -- ---- each field
@@ -182,9 +182,9 @@ module _ (n : ℕ) (cells : List Cell) (g : Generator) (few : n < maxCells) (s :
   pub numbers-some : 4 ≤ length numbers
   numbers-some = omega (arith, count)
 
-  pub numbers-few : length numbers ≤ 22
+  pub numbers-few : length numbers ≤ lineFields
   numbers-few = omega (arith, count, go (eqb row 2))
     where
-      go : (t : Bool) → layoutsDrawn g * cond t 9 5 ≤ 18
+      go : (t : Bool) → layoutsDrawn g * cond t 9 5 ≤ layoutFields
       go true = omega (arith, layouts-drawn g .1)
       go false = omega (arith, layouts-drawn g .1)

@@ -101,14 +101,32 @@ line-taken j ns e many t =
     (subst (Taken j false) (sym (line-numbers ns)) t) in
     not-refused j (numbersLine ns) (line-formed ns e) five as-read
 
--- ---- its length: each number takes a comma and at most four digits
+-- ---- its length
 
-pub listed-long : (ns : List ℕ) → printable ns ≡ true → length (listed ns) ≤ 5 * length ns
+-- the most bytes of a number: a comma and four digits
+abbrev pub fieldBytes : ℕ
+fieldBytes = 5
+
+-- the most numbers of all layouts of a cell: two of nine; and of a cell line
+abbrev pub layoutFields : ℕ
+layoutFields = 18
+
+abbrev pub lineFields : ℕ
+lineFields = 22
+
+-- the most bytes of a cell line, with its lead and its line feed; the bytes of the header
+abbrev pub lineBytes : ℕ
+lineBytes = 112
+
+abbrev pub headerBytes : ℕ
+headerBytes = 26
+
+pub listed-long : (ns : List ℕ) → printable ns ≡ true → length (listed ns) ≤ fieldBytes * length ns
 unfolding listed
 listed-long [] e = omega arith
 listed-long (n ∷ ns) e =
     let p = parts n ns e in
     omega (arith, four-long n (p .0), listed-long ns (p .1), length-append (digits n) (listed ns))
 
-pub line-long : (ns : List ℕ) → printable ns ≡ true → length (numbersLine ns) ≤ 5 * length ns + 2
+pub line-long : (ns : List ℕ) → printable ns ≡ true → length (numbersLine ns) ≤ fieldBytes * length ns + 2
 line-long ns e = omega (arith, listed-long ns e, length-append (listed ns) (lineFeed ∷ []))

@@ -20,6 +20,7 @@ use Rattle.job_laws.specs.Lists.{keep-few}
 use Rattle.job_tally.specs.declared.Tally.{Tally}
 use Rattle.job_tally.specs.Tallies.{tallyWith, tallies-more}
 use Rattle.load_laws.specs.Draws.{inside, length-drawn, draws-add, all-replicate, length-repeated, all-repeated}
+use Rattle.load_laws.specs.Lines.{layoutFields, lineBytes}
 use Rattle.load_laws.specs.Accepted.{LoadSound}
 use Rattle.load_draws.specs.declared.Generator as program
 use Rattle.load_draws.specs.Generators.{generatorOf}
@@ -50,9 +51,9 @@ layout-room layouts heights i room w h =
 
 -- ---- a line
 
--- a line takes at most 112 bytes: its lead, 22 numbers, its line feed
+-- the longest line fits
 pub record LineRoom (at : ℕ) (output : List ℕ) : Type 0 where
-  pub fits : at + 112 ≤ length output
+  pub fits : at + lineBytes ≤ length output
 
 -- for every load that the progress stands for, the line of its next cell, and what stands for it with that cell
 pub record WroteCell (p : Progress) (before end : List ℕ) (r : Progress) : Type 0 where
@@ -62,13 +63,13 @@ pub record WroteCell (p : Progress) (before end : List ℕ) (r : Progress) : Typ
 
 -- at most two layouts of nine numbers
 pub layouts-few : (layouts heights row : ℕ) → layouts ≤ 2 → heights ≡ layoutSize row - 1
-    → length (repeated layouts (layoutOf heights)) ≤ 18
+    → length (repeated layouts (layoutOf heights)) ≤ layoutFields
 layouts-few layouts heights row h e =
     let long = length-repeated layouts (layoutOf heights) in
     let size : length (layoutOf heights) ≡ heights + 1 = omega (arith, length-replicate heights (1 to 4)) in
     omega (arith, long, ap (λ (k : ℕ). layouts * k) size, go (eqb row 2) e)
   where
-    go : (t : Bool) → heights ≡ cond t 9 5 - 1 → layouts * (heights + 1) ≤ 18
+    go : (t : Bool) → heights ≡ cond t 9 5 - 1 → layouts * (heights + 1) ≤ layoutFields
     go true f = rw f (omega arith)
     go false f = rw f (omega arith)
 

@@ -16,14 +16,14 @@ use Rattle.text_laws.specs.Numbers.{also, four-long}
 use Rattle.text_write.specs.Put.{Room, Wrote}
 use Rattle.text_write.specs.Puts.{wrote-none, wrote-length, then}
 use Rattle.load_laws.specs.Draws.{inside, drawn-high, length-drawn, drawn-append, draws-add, all-drawn, all-replicate}
-use Rattle.load_laws.specs.Lines.{listed-long}
+use Rattle.load_laws.specs.Lines.{fieldBytes, listed-long}
 use Rattle.load_draws.specs.Generators.{generatorOf, InForm}
 use Rattle.load_draws.specs.declared.Generator as program
 use Rattle.load_write.specs.declared.Cursor.{Cursor}
 
 -- what a writer of n fields asks: each takes a comma and at most four digits
 pub record FieldsRoom (n at : ℕ) (output : List ℕ) : Type 0 where
-  pub fits : at + 5 * n ≤ length output
+  pub fits : at + fieldBytes * n ≤ length output
 
 -- what it leaves: the fields of these ranges, and where to go on
 pub record WroteFields (ranges : List Range) (c : Cursor) (before end : List ℕ) (r : Cursor) : Type 0 where
@@ -90,7 +90,7 @@ repeated-more n rs = rw (add-one n) (go n)
 
 pub fields-end : {rs : List Range} {c d : Cursor} {l m : List ℕ} → all (inside 0 9999) rs ≡ true
     → WroteFields rs c l m d
-    → d .at ≤ c .at + 5 * length rs
+    → d .at ≤ c .at + fieldBytes * length rs
 fields-end {rs} {c} e w =
     let g = generatorOf (c .generator) in
     omega (arith, w .bytes .cursor, listed-long (drawnAll rs g) (all-drawn 0 9999 rs g e), length-drawn rs g)

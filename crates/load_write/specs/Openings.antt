@@ -11,7 +11,7 @@ use Rattle.definition.specs.Draws.{_to_, drawn, draws}
 use Rattle.definition.specs.Load.{Load, largest, rowDrawn, layoutsDrawn, listed}
 use Rattle.definition.specs.Texts.{within}
 use Rattle.text_laws.specs.Numbers.{also}
-use Rattle.load_laws.specs.Lines.{is-printable, listed-long}
+use Rattle.load_laws.specs.Lines.{fieldBytes, is-printable, listed-long}
 use Rattle.load_laws.specs.Accepted.{jobFrom}
 use Rattle.job_tally.specs.declared.Tally.{Tally}
 use Rattle.job_tally.specs.Tallies.{Tallies, TallyRoom}
@@ -92,8 +92,8 @@ in-parts h = ap (λ (l : List ℕ). cellLead ∷ l) (
     listed-append (h .given ∷ []) (h .mirrorable ∷ h .layouts ∷ [])
     ∙ ap (λ (l : List ℕ). listed (h .given ∷ []) ++ l) (listed-append (h .mirrorable ∷ []) (h .layouts ∷ []))))
 
--- its numbers can be written, so it takes at most 21 bytes
-pub opening-long : {p : Progress} {h : Opening} → DrewOpening p h → length (openingText h) ≤ 21
+-- it takes at most its lead and four numbers
+pub opening-long : {p : Progress} {h : Opening} → DrewOpening p h → length (openingText h) ≤ 1 + 4 * fieldBytes
 opening-long {h = h} d =
     omega (
       arith,
