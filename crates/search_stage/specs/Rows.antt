@@ -25,8 +25,8 @@ use Rattle.search_stage.specs.Same.{stage-ext, stage-tall, stage-last}
 -- the segment on from the first layer
 pub segment-given : {table row st starts : List ℕ} {z : Sizes} {layer : Block} {costs : ℕ}
     → EndGiven table row st starts z layer costs
-    → SegmentGiven table row st z (layer .lanes) (layer .cells) costs
-segment-given w = record { lent = w .lent; given = rw (w .first) at (w .begun); room = w .room }
+    → SegmentGiven table row st z layer costs
+segment-given w = record { lent = w .lent; given = rw (w .first) at (w .begun); begins = w .first; room = w .room }
 
 module _ (D : Deck) (R talls : ℕ) (pos : ℕ → ℕ) where
   -- to a tall cell

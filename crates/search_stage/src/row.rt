@@ -40,28 +40,10 @@ fn stage_end(
 {
     if i < sizes.talls {
         let p = search_row::tall_at(row, i);
-        search_wide_segment::segment_to(
-            table,
-            store,
-            row,
-            sizes,
-            layer.lanes,
-            layer.cells,
-            p,
-            costs,
-        );
+        search_wide_segment::segment_to(table, store, row, sizes, layer, p, costs);
         return;
     }
-    search_wide_end::segment_end(
-        table,
-        store,
-        row,
-        sizes,
-        starts,
-        layer.lanes,
-        layer.cells,
-        costs,
-    );
+    search_wide_end::segment_end(table, store, row, sizes, starts, layer, costs);
 }
 
 // The costs of stage 0 in a row, to the block at `costs`: from the row's start to the first

@@ -15,6 +15,7 @@ use Rattle.search_row.specs.declared.Sizes.{Sizes}
 use Rattle.search_row.specs.Words.{wordOf, backIn, thereIn, tallWord, RowWords, Ground}
 use Rattle.search_buckets.specs.Ends.{leastPoses, leastState, leastStates}
 use Rattle.search_wide_buckets.specs.Table.{TableLent}
+use Rattle.search_wide_layer.specs.declared.Block.{Block}
 use Rattle.search_wide_layer.specs.Loops.{WideGiven}
 use Rattle.search_wide_segment.specs.Runs.{Running, Outside, CostRoom, SegmentGiven}
 
@@ -79,8 +80,8 @@ pub record LeastPosesGiven (acc row st : List ℕ) (at q k poses lanes : ℕ) : 
   pub narrow : lanes ≤ maxLanes
 
 -- a segment to the row's end, and what the start of each lane pays as the last
-pub record SegmentToEnd (table row st starts : List ℕ) (z : Sizes) (lanes i costs : ℕ) : Type 0 where
-  pub segment : SegmentGiven table row st z lanes i costs
+pub record SegmentToEnd (table row st starts : List ℕ) (z : Sizes) (first : Block) (costs : ℕ) : Type 0 where
+  pub segment : SegmentGiven table row st z first costs
   pub pays : LaneWords starts
 
 -- ---- what is left

@@ -140,14 +140,15 @@ pub fn segment_end(
     row: &[u32],
     sizes: Sizes,
     starts: &[u32; search_store::MAX_LANES],
-    lanes: usize,
-    i: usize,
+    first: Block,
     costs: usize,
 )
-    requires { ⌜ SegmentToEnd (now table) (now row) (now store) (now starts) sizes lanes i costs ⌝ }
-    ensures { λ _. ⌜ Ended (deckIn (now (row .entry)) sizes) (sizes .reordering) lanes i costs (now (starts .entry))
-        (now (store .entry)) (now (store .exit)) (now (table .exit)) ⌝ }
+    requires { ⌜ SegmentToEnd (now table) (now row) (now store) (now starts) sizes first costs ⌝ }
+    ensures { λ _. ⌜ Ended (deckIn (now (row .entry)) sizes) (sizes .reordering) (first .lanes) (first .cells) costs
+        (now (starts .entry)) (now (store .entry)) (now (store .exit)) (now (table .exit)) ⌝ }
 {
+    let lanes = first.lanes;
+    let i = first.cells;
     if i > sizes.cells + 1 {
         search_lanes::fill(store, costs, lanes, search_lanes::NONE);
         return;

@@ -78,15 +78,16 @@ pub record StateToLast (table row st : List ℕ) (z : Sizes) (layer : Block) (ta
   pub toLast : ToLast table row st z layer tall costs
   pub state : q < z .states
 
--- a segment: its first layer, with i cells, is in block 0, and there is room for its costs
-pub record SegmentGiven (table row st : List ℕ) (z : Sizes) (lanes i costs : ℕ) : Type 0 where
+-- a segment: its first layer is in block 0, and there is room for its costs
+pub record SegmentGiven (table row st : List ℕ) (z : Sizes) (first : Block) (costs : ℕ) : Type 0 where
   pub lent : TableLent table
-  pub given : WideGiven row st z lanes i 0
+  pub given : WideGiven row st z (first .lanes) (first .cells) 0
+  pub begins : first .at ≡ 0
   pub room : CostRoom st costs
 
 -- the same to a tall cell
-pub record SegmentToTall (table row st : List ℕ) (z : Sizes) (lanes i tall costs : ℕ) : Type 0 where
-  pub segment : SegmentGiven table row st z lanes i costs
+pub record SegmentToTall (table row st : List ℕ) (z : Sizes) (first : Block) (tall costs : ℕ) : Type 0 where
+  pub segment : SegmentGiven table row st z first costs
   pub inside : tall < maxCells
 
 -- ---- costs to the tall cell at position p

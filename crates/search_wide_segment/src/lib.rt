@@ -97,22 +97,19 @@ fn run_to(
     store: &mut [u32],
     row: &[u32],
     sizes: Sizes,
-    lanes: usize,
-    i: usize,
+    first: Block,
     tall: usize,
     costs: usize,
 ) -> usize
-    requires { ⌜ SegmentToTall (now table) (now row) (now store) sizes lanes i tall costs ⌝ }
-    ensures { λ at. ⌜ CostedRun (deckIn (now (row .entry)) sizes) (sizes .reordering) lanes i tall
-        (tall + sizes .reordering - i) at costs (now (store .entry)) (now (store .exit)) (now (table .exit)) ⌝ }
+    requires { ⌜ SegmentToTall (now table) (now row) (now store) sizes first tall costs ⌝ }
+    ensures { λ at. ⌜ CostedRun (deckIn (now (row .entry)) sizes) (sizes .reordering) (first .lanes) (first .cells)
+        tall (tall + sizes .reordering - first .cells) at costs (now (store .entry)) (now (store .exit))
+        (now (table .exit)) ⌝ }
 {
-    let first = Block {
-        lanes,
-        cells: i,
-        at: 0,
-    };
     fill_late(store, row, sizes, first, tall, costs);
     deliver(store, row, sizes, first, tall, costs);
+    let lanes = first.lanes;
+    let i = first.cells;
     let r = sizes.reordering;
     let mut from: usize = 0;
     let mut d: usize = 0;
@@ -189,20 +186,20 @@ pub fn segment_to(
     store: &mut [u32],
     row: &[u32],
     sizes: Sizes,
-    lanes: usize,
-    i: usize,
+    first: Block,
     tall: usize,
     costs: usize,
 )
-    requires { ⌜ SegmentToTall (now table) (now row) (now store) sizes lanes i tall costs ⌝ }
-    ensures { λ _. ⌜ SegmentCosted (deckIn (now (row .entry)) sizes) (sizes .reordering) lanes i tall costs
-        (now (store .entry)) (now (store .exit)) (now (table .exit)) ⌝ }
+    requires { ⌜ SegmentToTall (now table) (now row) (now store) sizes first tall costs ⌝ }
+    ensures { λ _. ⌜ SegmentCosted (deckIn (now (row .entry)) sizes) (sizes .reordering) (first .lanes) (first .cells)
+        tall costs (now (store .entry)) (now (store .exit)) (now (table .exit)) ⌝ }
 {
-    let from = run_to(table, store, row, sizes, lanes, i, tall, costs);
-    if i > tall + sizes.reordering {
+    let from = run_to(table, store, row, sizes, first, tall, costs);
+    if first.cells > tall + sizes.reordering {
         return;
     }
     let cells = tall + sizes.reordering;
+    let lanes = first.lanes;
     let layer = Block {
         lanes,
         cells,

@@ -12,7 +12,7 @@ use Rattle.search_wide_end.proofs.segment_end.Statement.{statement}
 use Rattle.search_wide_end.proofs.segment_end.Tie as tie
 
 -- past both tests the row has room for what was placed
-left : (c : tie.Else2) → (let mid = c .before .before .before .before in let a = mid .before .before .args in a .i ≤ a .sizes .cells)
+left : (c : tie.Else2) → (let mid = c .before .before .before .before in let a = mid .before .before .args in a .first .cells ≤ a .sizes .cells)
 left c = omega arith
 
 add-if1 : tie.Need-add-if1
@@ -30,7 +30,7 @@ returns c =
     let k = mid .before .before .before .before in
     let a = k .args in
     end-words (k .pre .segment .given .narrow) (k .pre .segment .lent) (c .before .before .fill .ensures)
-    (λ f l. cost-past (deckIn (a .row .now) (a .sizes)) (a .sizes .reordering) f (a .i) (getD (a .starts .now) l 0) (omega arith))
+    (λ f l. cost-past (deckIn (a .row .now) (a .sizes)) (a .sizes .reordering) f (a .first .cells) (getD (a .starts .now) l 0) (omega arith))
 
 add-if2 : tie.Need-add-if2
 add-if2 c = search needs
@@ -59,7 +59,7 @@ returns-2 c =
     let s = k .pre .pays in
     end-words (k .pre .segment .given .narrow) (k .pre .segment .lent) (after-put .put .ensures)
     (λ f l. omega
-    (arith, cost-done (deckIn (a .row .now) (a .sizes)) (a .sizes .reordering) f (a .i) (getD (a .starts .now) l 0) (omega arith), s .low .word l))
+    (arith, cost-done (deckIn (a .row .now) (a .sizes)) (a .sizes .reordering) f (a .first .cells) (getD (a .starts .now) l 0) (omega arith), s .low .word l))
 
 run-on-requires : tie.Need-run-on-requires
 run-on-requires c κs =

@@ -12,11 +12,11 @@ use Rattle.search_wide_segment.proofs.run_to.Statement.{statement}
 use Rattle.search_wide_segment.proofs.run_to.Tie as tie
 
 abbrev Inv-loop : tie.InvT-loop
-Inv-loop table₀ store₀ row sizes lanes i tall costs r from₀ d₀ table store from d =
+Inv-loop table₀ store₀ row sizes tall costs lanes i r from₀ d₀ table store from d =
     (i + d ≤ maxKept + 1) × CostedRun (deckIn row sizes) (sizes .reordering) lanes i tall d from costs store₀ store table × (d ≤ tall + (sizes .reordering) - i)
 
 abbrev μ-loop : tie.MeasureT-loop
-μ-loop table₀ store₀ row sizes lanes i tall costs r from₀ d₀ table store from d =
+μ-loop table₀ store₀ row sizes tall costs lanes i r from₀ d₀ table store from d =
     tall + (sizes .reordering) - (i + d)
 
 -- where the function begins, from there to the loop
@@ -84,9 +84,9 @@ loop-holds c =
     let a = k .args in
     let g = k .pre .segment .given in (
       omega (arith, g .early),
-      costed-start (deckIn (a .row .now) (a .sizes)) (a .sizes .reordering) (a .lanes) (a .i) (a .tall) (a .costs) (a .sizes .states) (given-small g)
-          (g .ground .all) (k .pre .segment .room .over) (k .pre .segment .lent)
-          (after-fill-late .fill-late .ensures) (after-deliver .deliver .ensures),
+      costed-start (deckIn (a .row .now) (a .sizes)) (a .sizes .reordering) (a .first .lanes) (a .first .cells) (a .tall)
+          (a .costs) (a .sizes .states) (given-small g) (g .ground .all) (k .pre .segment .room .over) (k .pre .segment .lent)
+          (after-fill-late .fill-late .ensures) (rw (k .pre .segment .begins) at (after-deliver .deliver .ensures)),
       omega arith,
     )
 
@@ -186,7 +186,7 @@ returns c =
     let k = after-fill-late .before .before .before .before in
     let a = k .args in
     let l = c .before .loop in
-    let e : l .d ≡ a .tall + a .sizes .reordering - a .i = omega (arith, l .inv .2) in
+    let e : l .d ≡ a .tall + a .sizes .reordering - a .first .cells = omega (arith, l .inv .2) in
     let o : Outside (a .costs) layerBlock (a .store .now) (after-deliver .deliver .last .0) =
     outside-join (outside-costs (after-fill-late .fill-late .ensures .frame) (omega arith) (omega arith))
     (outside-costs (after-deliver .deliver .ensures .frame) (omega arith) (omega arith)) in

@@ -16,14 +16,16 @@ same-length c = search needs
 
 returns : tie.Need-returns
 returns c =
-    costed-past (c .before .before .before .before .run-to .ensures) (omega (arith, c .if1 .taken))
+    let mid = c .before .before .before .before in
+    costed-past (mid .before .run-to .ensures) (omega (arith, c .if1 .taken))
 
 add-cells : tie.Need-add-cells
 add-cells c = search needs
 
 last-layer-requires : tie.Need-last-layer-requires
 last-layer-requires c κs =
-    let mid = c .before .before .before .before in
+    let at-cells = c .before .before .before .before in
+    let mid = at-cells .before in
     let mid₂ = mid .before .before .before .before in
     let k = mid₂ .before .before .before .before in
     let g = k .pre .segment .given in
@@ -52,7 +54,8 @@ returns-2 : tie.Need-returns-2
 returns-2 c =
     let after-last-layer = c .before .before in
     let after-if1 = after-last-layer .before .before .before .before in
-    let after-run-to = after-if1 .before .before .before .before in
+    let at-test = after-if1 .before .before .before .before in
+    let after-run-to = at-test .before in
     let mid = after-run-to .before .before .before .before in
     let k = mid .before in
     costed-last (k .pre .segment .given .ground .all) (after-run-to .run-to .ensures) (omega (arith, after-if1 .if1 .left))
