@@ -11,7 +11,7 @@ use Rattle.lists.specs.Numbers.{from}
 use Rattle.theory_pair.specs.Pick.{pick}
 use Rattle.theory_pair.specs.Segment.{Line}
 use Rattle.theory_pair.specs.Whole.{picks}
-use Rattle.theory_tables.specs.Steps.{B, Deck}
+use Rattle.theory_tables.specs.Steps.{B, Deck, poseSlots}
 use Rattle.theory_tables.specs.Stages.{leastCost}
 use Rattle.theory_tables.specs.Back.{Traced}
 use Rattle.theory_tables.specs.Notes.{NotedBy}
@@ -69,7 +69,7 @@ pub record DecksTraced (D₀ D₁ : Deck) (R talls : ℕ) (pos₀ pos₁ w₀ w�
   pub first : Standing D₀ talls pos₀
   pub second : Standing D₁ talls pos₁
   pub poses : D₀ .poses ≡ D₁ .poses
-  pub small : D₀ .poses ≤ 64
+  pub small : D₀ .poses ≤ poseSlots
   pub cost : leastCost D₀ D₁ R talls pos₀ pos₁ < B
   pub traced : Traced D₀ D₁ R talls pos₀ pos₁ (NotedBy w₀) (NotedBy w₁) talls 0 0 0
 
@@ -91,7 +91,7 @@ module _ {D₀ D₁ : Deck} {R talls : ℕ} {pos₀ pos₁ w₀ w₁ : ℕ → �
   path₁ : WholePath R nowhere talls W₁ w₁ (picks pos₁ 0 (paths .ps)) (paths .n₁) (paths .x₁)
   path₁ = row-ended R nowhere talls W₁ w₁ (picks pos₁ 0 (paths .ps)) (paths .n₁) (paths .x₁) (paths .second)
 
-  small₁ : D₁ .poses ≤ 64
+  small₁ : D₁ .poses ≤ poseSlots
   small₁ = omega (arith, T .poses, T .small)
 
   -- each place of a row holds another position
@@ -103,7 +103,7 @@ module _ {D₀ D₁ : Deck} {R talls : ℕ} {pos₀ pos₁ w₀ w₁ : ℕ → �
 
   -- a tall cell has the same number in both rows
   pub talls-agree : (I i j : ℕ) → I < talls → 0 < i → i ≤ D₀ .size → 0 < j → j ≤ D₁ .size
-      → w₀ i / 64 ≡ pos₀ I → w₁ j / 64 ≡ pos₁ I → w₀ i % 64 ≡ w₁ j % 64
+      → w₀ i / poseSlots ≡ pos₀ I → w₁ j / poseSlots ≡ pos₁ I → w₀ i % poseSlots ≡ w₁ j % poseSlots
   talls-agree I i j h l₀ u₀ l₁ u₁ e₀ e₁ =
       let t = paths .tall I h in
       let b = t .below in

@@ -11,7 +11,7 @@ use Rattle.theory_pair.specs.Members.{at}
 use Rattle.theory_pair.specs.Cells.{Side, row₀, row₁, Job, tallCells}
 use Rattle.theory_pair.specs.Cells.{line, pos, tallCount, cell, cell-pos, line-talls, LegalPair, total}
 use Rattle.theory_pair.specs.Trace.{trace}
-use Rattle.theory_tables.specs.Steps.{B, Deck}
+use Rattle.theory_tables.specs.Steps.{B, Deck, poseSlots}
 use Rattle.theory_tables.specs.Stages.{leastCost}
 use Rattle.theory_tables.specs.Matched.{Matched}
 use Rattle.theory_tables.specs.Back.{Traced}
@@ -40,7 +40,7 @@ pub record TracedBack {A : Type 0} (R : ℕ) (siteOf : A → ℕ) (J : Job A) (p
   pub first : Searched siteOf J poseOf offerOf row₀ D₀ tallAt₀
   pub second : Searched siteOf J poseOf offerOf row₁ D₁ tallAt₁
   pub poses : D₀ .poses ≡ D₁ .poses
-  pub small : D₀ .poses ≤ 64
+  pub small : D₀ .poses ≤ poseSlots
   pub cost : leastCost D₀ D₁ R (tallCount J) tallAt₀ tallAt₁ < B
   pub traced : Traced D₀ D₁ R (tallCount J) tallAt₀ tallAt₁ (NotedBy w₀) (NotedBy w₁) (tallCount J) 0 0 0
 
@@ -107,8 +107,8 @@ module _ {A : Type 0} (R : ℕ) (siteOf : A → ℕ) (J : Job A) (poseOf : ℕ �
 
     -- the placement by the numbers noted, cell by cell
     pub placed-legal : ((k : ℕ) (a : A) → In a (J .offers k) → 0 < J .wide k a) → (outOf : ℕ → ℕ)
-        → ((i : ℕ) → 0 < i → i ≤ line J row₀ .size → outOf (cell J row₀ (w₀ i / 64)) ≡ w₀ i % 64)
-        → ((i : ℕ) → 0 < i → i ≤ line J row₁ .size → outOf (cell J row₁ (w₁ i / 64)) ≡ w₁ i % 64)
+        → ((i : ℕ) → 0 < i → i ≤ line J row₀ .size → outOf (cell J row₀ (w₀ i / poseSlots)) ≡ w₀ i % poseSlots)
+        → ((i : ℕ) → 0 < i → i ≤ line J row₁ .size → outOf (cell J row₁ (w₁ i / poseSlots)) ≡ w₁ i % poseSlots)
         → LegalPair R siteOf J (λ k. poseOf k (outOf k)) × (total siteOf J (λ k. poseOf k (outOf k)) ≡ least)
     placed-legal wide outOf g₀ g₁ =
         let o₀ = whole-obeys R siteOf (tallCount J) W₀ w₀ (W .small) (picks (pos J row₀) 0 (paths .ps)) (paths .n₀)

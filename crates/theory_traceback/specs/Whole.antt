@@ -6,6 +6,7 @@ use mathlib.Core.List.{List}
 use Prim.Native.Nat.{ℕ, _/_, _%_, _≤_, _<_}
 use native.Mathlib.Omega.{arith}
 use borrow.Author.Tests.{le-ltb}
+use Rattle.theory_tables.specs.Steps.{poseSlots}
 use Rattle.theory_pair.specs.Segment.{Choice, first, last, after, after-size}
 use Rattle.theory_pair.specs.Trace.{Obeys}
 use Rattle.theory_tables.specs.Notes.{NotedBy}
@@ -24,7 +25,7 @@ module _ {A : Type 0} (R : ℕ) (siteOf : A → ℕ) (talls : ℕ) (W : RowWithT
       (cond t (stood R siteOf talls W talls 0 0) (last R siteOf (W .line))) ts n x)
       (le-ltb talls talls (omega arith)) (r .written)
 
-  module _ (h : W .deck .poses ≤ 64) (ts : List (Choice A)) (n x : ℕ) (v : WholePath ts n x) where
+  module _ (h : W .deck .poses ≤ poseSlots) (ts : List (Choice A)) (n x : ℕ) (v : WholePath ts n x) where
     pub whole-size : n ≡ W .line .size
     whole-size =
         let z : after R siteOf (W .line) (first R siteOf (W .line)) (v .upto .path) .0 ≡ W .line .size =
@@ -38,7 +39,8 @@ module _ {A : Type 0} (R : ℕ) (siteOf : A → ℕ) (talls : ℕ) (W : RowWithT
         row-places R siteOf (W .line) (W .deck .poses) (W .pose) w (v .upto .path) h (v .upto .goes)
         (v .size ∙ whole-size) (v .noted)
 
-    pub whole-obeys : (number : ℕ → ℕ) → ((i : ℕ) → 0 < i → i ≤ W .line .size → number (w i / 64) ≡ w i % 64)
+    pub whole-obeys : (number : ℕ → ℕ)
+        → ((i : ℕ) → 0 < i → i ≤ W .line .size → number (w i / poseSlots) ≡ w i % poseSlots)
         → Obeys (λ p. W .pose p (number p)) (v .upto .path)
     whole-obeys number g =
         let e = v .size ∙ whole-size in

@@ -7,6 +7,7 @@ use Prim.Native.Nat.{ℕ, _/_, _%_, _≤_, _<_}
 use native.Mathlib.Omega.{arith}
 use native.Mathlib.Decide.{decLt}
 use lib.ListN.{length}
+use Rattle.theory_tables.specs.Steps.{poseSlots}
 use Rattle.theory_row.specs.Window.{Run}
 use Rattle.theory_row.specs.Arranged.{Arranged, run-arranged}
 use Rattle.theory_row.specs.Choices.{cells, cells-size}
@@ -18,30 +19,30 @@ use Rattle.theory_traceback.specs.Noted.{cells-in, noted-choice, noted-p
 
 -- the words w at the places 1 to n: each holds one of n positions, no two the same, and a pose number
 pub record Places (n poses : ℕ) (w : ℕ → ℕ) : Type 0 where
-  pub inside : (i : ℕ) → 0 < i → i ≤ n → w i / 64 < n
-  pub below : (i : ℕ) → 0 < i → i ≤ n → w i % 64 < poses
-  pub distinct : (i j : ℕ) → 0 < i → i < j → j ≤ n → w i / 64 ≢ w j / 64
-  pub all : (k : ℕ) → k < n → (i : ℕ) × (0 < i) × (i ≤ n) × (w i / 64 ≡ k)
+  pub inside : (i : ℕ) → 0 < i → i ≤ n → w i / poseSlots < n
+  pub below : (i : ℕ) → 0 < i → i ≤ n → w i % poseSlots < poses
+  pub distinct : (i j : ℕ) → 0 < i → i < j → j ≤ n → w i / poseSlots ≢ w j / poseSlots
+  pub all : (k : ℕ) → k < n → (i : ℕ) × (0 < i) × (i ≤ n) × (w i / poseSlots ≡ k)
 
 -- a word that notes
-word-is : (w : ℕ → ℕ) (i k a : ℕ) → a < 64 → NotedBy w i k a → (w i / 64 ≡ k) × (w i % 64 ≡ a)
+word-is : (w : ℕ → ℕ) (i k a : ℕ) → a < poseSlots → NotedBy w i k a → (w i / poseSlots ≡ k) × (w i % poseSlots ≡ a)
 word-is w i k a h e = (omega arith, omega arith)
 
 -- the number noted for a position is the one of the word that has the position
-pub number-is : (n poses : ℕ) (w : ℕ → ℕ) → Places n poses w → (k a : ℕ) → a < 64 → NotedUpto (NotedBy w) n k a
-    → (i : ℕ) → 0 < i → i ≤ n → w i / 64 ≡ k → w i % 64 ≡ a
+pub number-is : (n poses : ℕ) (w : ℕ → ℕ) → Places n poses w → (k a : ℕ) → a < poseSlots → NotedUpto (NotedBy w) n k a
+    → (i : ℕ) → 0 < i → i ≤ n → w i / poseSlots ≡ k → w i % poseSlots ≡ a
 number-is n poses w p k a h u i l m e = go (decLt i j) (decLt j i)
   where
     j : ℕ
     j = u .place
 
-    d : (w j / 64 ≡ k) × (w j % 64 ≡ a)
+    d : (w j / poseSlots ≡ k) × (w j % poseSlots ≡ a)
     d = word-is w j k a h (u .noted)
 
-    go : Dec (i < j) → Dec (j < i) → w i % 64 ≡ a
+    go : Dec (i < j) → Dec (j < i) → w i % poseSlots ≡ a
     go (yes x) y = absurd (p .distinct i j l x (u .high) (e ∙ sym (d .0)))
     go (no x) (yes y) = absurd (p .distinct j i (u .low) y m (d .0 ∙ sym e))
-    go (no x) (no y) = let z : i ≡ j = omega arith in ap (λ x. w x % 64) z ∙ d .1
+    go (no x) (no y) = let z : i ≡ j = omega arith in ap (λ x. w x % poseSlots) z ∙ d .1
 
 module _ {A : Type 0} (R : ℕ) (siteOf : A → ℕ) (L : Line A) (poses : ℕ) (pose : ℕ → ℕ → A) (w : ℕ → ℕ) where
   -- the cells of a path
@@ -53,11 +54,12 @@ module _ {A : Type 0} (R : ℕ) (siteOf : A → ℕ) (L : Line A) (poses : ℕ) 
   abbrev At : ℕ → Choice A → Type 0
   At = NotedAs (NotedBy w) poses pose
 
-  word-at : (i : ℕ) (c : Choice A) → poses ≤ 64 → (a : At i c) → (w i / 64 ≡ c .0) × (w i % 64 ≡ a .number)
+  word-at : (i : ℕ) (c : Choice A) → poses ≤ poseSlots → (a : At i c)
+      → (w i / poseSlots ≡ c .0) × (w i % poseSlots ≡ a .number)
   word-at i c h a = let b = a .below in word-is w i (c .0) (a .number) (omega arith) (a .noted)
 
   -- a path over the whole row
-  pub row-places : (p : List (Choice A)) → poses ≤ 64 → Goes R siteOf L (first R siteOf L) p → length p ≡ L .size
+  pub row-places : (p : List (Choice A)) → poses ≤ poseSlots → Goes R siteOf L (first R siteOf L) p → length p ≡ L .size
       → NotedPath At 1 p → Places (L .size) poses w
   row-places p h g s n = record {
     inside = λ i l m.
@@ -85,8 +87,8 @@ module _ {A : Type 0} (R : ℕ) (siteOf : A → ℕ) (L : Line A) (poses : ℕ) 
       arranged = run-arranged R (L .size) (cells p) (cells-size p ∙ s) (path-run (first R siteOf L) p g)
 
   -- poses by numbers that the words have
-  pub row-obeys : (p : List (Choice A)) → poses ≤ 64 → NotedPath At 1 p → (number : ℕ → ℕ)
-      → ((i : ℕ) → 0 < i → i ≤ length p → number (w i / 64) ≡ w i % 64)
+  pub row-obeys : (p : List (Choice A)) → poses ≤ poseSlots → NotedPath At 1 p → (number : ℕ → ℕ)
+      → ((i : ℕ) → 0 < i → i ≤ length p → number (w i / poseSlots) ≡ w i % poseSlots)
       → Obeys (λ k. pose k (number k)) p
   row-obeys p h n number g c m =
       let r = noted-choice At 1 p n m in
