@@ -1,7 +1,7 @@
--- Score's starred cases hold, by computing alone. A theorem, nothing to believe.
+-- Score's and Load's cases hold, by computing alone. A theorem, nothing to believe.
 use mathlib.Core.Path.{refl}
 use mathlib.Core.List.{List, [], _∷_}
-use Rattle.definition.specs.Texts.{Text, bytes, linesOf, ended, fieldsOf, isNumber, valueFrom}
+use Rattle.definition.specs.Texts.{Text, bytes, linesOf, ended, fieldsOf, isNumber, valueFrom, digitsIn, digits}
 use Rattle.definition.specs.Job.{firstFailing, headerInRange, headerRefusal, headerOf}
 use Rattle.definition.specs.Job.{layoutsOf, cellOf, restInRange, cellRefusal, readCells, readLines, readJob}
 use Rattle.definition.specs.Placement.{isPose, poseOf, readPoses, readPlacement}
@@ -12,7 +12,9 @@ use Rattle.definition.specs.Rules.{lowest, firstBroken, verdict}
 use Rattle.definition.specs.Cost.{differing, stepsAt, stepsIn, steps, shifted, mirrored, changed, cost}
 use Rattle.definition.specs.Cost.{totalShift, drift}
 use Rattle.definition.specs.Outcome.{Outcome, firstOf, outcomeOf, numbers, scoreFields, score}
-use Rattle.definition.specs.Edges.{Case, scoring, placing, edges}
+use Rattle.definition.specs.Draws.{seeded, next, drawn, drawnAll}
+use Rattle.definition.specs.Load.{largest, numbersDrawn, listed, loadOf, loadRefusal, load}
+use Rattle.definition.specs.Edges.{Case, scoring, placing, loading, edges}
 
 -- a name that opens the definitions, so that texts compute
 unfoldable pub opened : Text → Text → Outcome
@@ -27,13 +29,16 @@ unfolding bytes linesOf ended fieldsOf isNumber valueFrom
     differing stepsAt stepsIn steps shifted mirrored changed cost
     totalShift drift
     firstOf outcomeOf numbers scoreFields score
+    digitsIn digits seeded next drawn drawnAll
+    largest numbersDrawn listed loadOf loadRefusal load
 opened job placement = score job placement
 
--- Score's cases of a list
+-- Score's and Load's cases of a list
 abbrev pub AllComputed : List Case → Type 0
 AllComputed [] = Unit {0}
 AllComputed (scoring job placement Expected ∷ cs) = Expected (score (bytes job) (bytes placement)) × AllComputed cs
 AllComputed (placing job Expected ∷ cs) = AllComputed cs
+AllComputed (loading seed cells room Expected ∷ cs) = Expected (load seed cells room) × AllComputed cs
 
 infixr 4 _&_
 unfoldable pub _&_ : {A B : Type 0} → A → B → A × B
@@ -55,4 +60,5 @@ edges-computed =
     & (refl, refl) & ((refl, refl), refl) & ((refl, refl), refl) & ((refl, refl), refl) & ((refl, refl), refl)
     & (refl, refl) & ((refl, refl), refl)
     & ((refl, refl), refl) & ((refl, refl), refl) & ((refl, refl), refl)
+    & refl & refl & refl & refl & refl & refl
     & tt

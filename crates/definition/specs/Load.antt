@@ -46,7 +46,8 @@ rowDrawn cells g = drawn (rowRange cells) (draws 1 g)
 abbrev pub layoutsDrawn : Generator → ℕ
 layoutsDrawn g = drawn (1 to 2) (draws 4 g)
 
--- "row [..]; given [..] plus 0 to 12; mirrorable; layouts; widths [..]; heights [..]"
+-- "row [..]; given [..] plus 0 to 12; mirrorable; layouts; widths [..]; heights [..]"; mirrorable is 0 or 1 and layouts 1
+-- or 2, as in every job
 unfoldable pub numbersDrawn : List Cell → Generator → List ℕ
 numbersDrawn cells g =
     rowDrawn cells g

@@ -1,19 +1,15 @@
--- Worked loads: first draws, whole texts, refusals, and the numbers that refuse. Draws and texts were worked out from
--- document 02 by a program apart from these definitions; here they are computed, so that a definition that is wrong in
--- a shift, a sum, a range or the order of draws is refused in this crate.
-use Prim.Native.Nat.{ℕ}
-use Prim.Native.String.{_++_}
+-- Worked loads: first draws, the range of a row, and the numbers that refuse; whole texts are among the edges. The
+-- draws were worked out from document 02 by a program apart from these definitions; here they are computed, so that a
+-- definition that is wrong in a shift or a sum is refused in this crate.
 use mathlib.Core.Path.{_≡_, refl}
 use mathlib.Core.Bool.{true, false}
 use mathlib.Core.List.{[], _∷_}
 use lib.ListN.{replicate}
 use Rattle.definition.specs.Lists.{all, any}
-use Rattle.definition.specs.Texts.{Text, bytes, digitsIn, digits}
-use Rattle.definition.specs.Job.{Cell, layoutsOf, cellOf, firstFailing}
-use Rattle.definition.specs.Outcome.{firstOf, outcomeOf}
+use Rattle.definition.specs.Job.{Cell}
 use Rattle.definition.specs.Demands.{isOneOf, isRefusal, shapes, refusalNumbers}
-use Rattle.definition.specs.Draws.{_to_, seeded, next, drawn, drawnAll, yields}
-use Rattle.definition.specs.Load.{rowRange, largest, numbersDrawn, listed, loadOf, loadRefusal, load}
+use Rattle.definition.specs.Draws.{_to_, seeded, next, yields}
+use Rattle.definition.specs.Load.{rowRange}
 
 -- ---- the first eight draws
 
@@ -37,27 +33,7 @@ pub first-of-4294967295 : yields 8 (seeded 4294967295)
 unfolding seeded next yields
 first-of-4294967295 = refl
 
--- ---- texts
-
--- a name that opens the definitions, so that texts compute
-unfoldable pub loadText : ℕ → ℕ → Text
-unfolding bytes digitsIn digits layoutsOf cellOf
-    seeded next drawn drawnAll largest numbersDrawn listed loadOf
-loadText seed cells = loadOf seed cells .text
-
--- a tall cell after one in row 1, one in row 0 after that, and a tall one again
-pub four-cells : loadText 5 4 ≡ bytes (
-    "J,2,1024,7,1,100,1,100,50\n"
-    ++ "C,1,4,0,2,15,2,3,2,3,4,3,2,3,1\n"
-    ++ "C,2,12,1,2,9,1,2,3,1,2,1,4,4,15,4,3,2,1,1,1,2,1\n"
-    ++ "C,0,23,1,1,16,2,1,3,3\n"
-    ++ "C,2,35,0,2,16,3,4,4,4,3,3,4,3,6,4,4,3,3,4,1,2,2\n")
-unfolding loadText
-four-cells = refl
-
-pub no-cells : loadText 7 0 ≡ bytes "J,2,1024,7,1,100,1,100,50\n"
-unfolding loadText
-no-cells = refl
+-- ---- the range of a row
 
 -- "0 to 1 once 24 are tall"
 abbrev tall : Cell
@@ -66,12 +42,7 @@ tall = record { fixed = false; row = 2; given = 0; mirrorable = false; layouts =
 pub row-ranges : (rowRange (replicate 23 tall) ≡ 0 to 2) × (rowRange (replicate 24 tall) ≡ 0 to 1)
 row-ranges = (refl, refl)
 
--- ---- refusals: the count first, then the output
-
-pub refusals-in-order :
-    (load 1 65 8191 .number ≡ 9) × (load 1 64 8191 .number ≡ 10) × (load 1 64 8192 .number ≡ 0)
-unfolding load loadRefusal firstFailing firstOf outcomeOf
-refusals-in-order = (refl, refl, refl)
+-- ---- the numbers that refuse
 
 -- every number that an operation refuses by is listed, and each that is listed is some operation's
 pub numbers-listed :
