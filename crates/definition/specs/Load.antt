@@ -46,8 +46,8 @@ rowDrawn cells g = drawn (rowRange cells) (draws 1 g)
 abbrev pub layoutsDrawn : Generator → ℕ
 layoutsDrawn g = drawn (1 to 2) (draws 4 g)
 
--- "row [..]; given [..] plus 0 to 12; mirrorable; layouts; widths [..]; heights [..]"; mirrorable is 0 or 1 and layouts 1
--- or 2, as in every job
+-- "row [..]; given [..] plus 0 to 12; mirrorable; layouts; widths [..]; heights [..]": mirrorable is 0 or 1 and
+-- layouts are 1 or 2, as in every job
 unfoldable pub numbersDrawn : List Cell → Generator → List ℕ
 numbersDrawn cells g =
     rowDrawn cells g
@@ -108,7 +108,7 @@ load seed cells room =
 -- ---- "The reader accepts each job written."
 
 -- a text that is read as a job of so many cells
-pub record ReadAs (cells : ℕ) (text : Text) : Type 0 where
+pub record ReadWith (cells : ℕ) (text : Text) : Type 0 where
   pub job : Job
   pub accepts : readJob text ≡ accepted job
   pub many : length (job .cells) ≡ cells
@@ -118,7 +118,7 @@ pub record Loaded (cells : ℕ) (before end : Buffers) : Type 0 where
   pub text : Text
   pub fits : length text ≤ length (before .output)
   pub written : end .output ≡ over text (before .output)
-  pub reads : ReadAs cells text
+  pub reads : ReadWith cells text
 
 abbrev pub LoadedOf : ℕ → ℕ → Buffers → Buffers → Type 0
 LoadedOf cells returned before end = returned ≡ 0 → Loaded cells before end

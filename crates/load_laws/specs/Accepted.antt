@@ -8,10 +8,11 @@ use native.Mathlib.Omega.{arith}
 use lib.ListN.{length, length-append}
 use Rattle.definition.specs.Texts.{ended}
 use Rattle.definition.specs.Job.{Header, Job, Cell, maxCells, accepted, readJob, withCell}
-use Rattle.definition.specs.Load.{Load, ReadAs, loadHeader, loadOf, loadRoom, numbersDrawn, numbersLine}
+use Rattle.definition.specs.Load.{Load, ReadWith, loadHeader, loadOf, loadRoom, numbersDrawn, numbersLine}
 use Rattle.definition.specs.EdgesComputed.{opened}
 use Rattle.job_laws.specs.More.{read-more}
-use Rattle.load_laws.specs.Lines.{lineBytes, headerBytes, line-alone, line-ended, line-cell, line-taken, line-long}
+use Rattle.load_laws.specs.Lines.{lineBytes, headerBytes, line-alone, line-ended, line-cell}
+use Rattle.load_laws.specs.Lines.{line-taken, line-long}
 use Rattle.load_laws.specs.Cells.{SoFar, cell-taken, so-far, numbers-printable}
 use Rattle.load_laws.specs.Cells.{numbers-some, numbers-few}
 
@@ -77,7 +78,7 @@ load-sound seed (suc n) h = more-sound seed n (omega arith) (load-sound seed n (
 
 -- ---- what a caller relies on
 
-pub load-accepted : (seed cells : ℕ) → cells ≤ maxCells → ReadAs cells (loadOf seed cells .text)
+pub load-accepted : (seed cells : ℕ) → cells ≤ maxCells → ReadWith cells (loadOf seed cells .text)
 load-accepted seed cells h =
     let s = load-sound seed cells h in
     record { job = jobFrom (loadOf seed cells); accepts = s .reads; many = s .cells .many }

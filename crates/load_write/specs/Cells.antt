@@ -27,7 +27,7 @@ use Rattle.load_draws.specs.Generators.{generatorOf}
 use Rattle.load_write.specs.declared.Cursor.{Cursor}
 use Rattle.load_write.specs.declared.Progress.{Progress}
 use Rattle.load_write.specs.declared.Opening.{Opening}
-use Rattle.load_write.specs.Openings.{Stands, Ready, DrewOpening, OpeningOf}
+use Rattle.load_write.specs.Openings.{ProgressOf, CellRoom, DrewOpening, OpeningOf}
 use Rattle.load_write.specs.Openings.{openingNumbers, openingText, opening-long}
 use Rattle.load_write.specs.Fields.{FieldsRoom, WroteFields, rest-room, listed-append, fields-end}
 
@@ -57,9 +57,9 @@ pub record LineRoom (at : ℕ) (output : List ℕ) : Type 0 where
 
 -- for every load that the progress stands for, the line of its next cell, and what stands for it with that cell
 pub record WroteCell (p : Progress) (before end : List ℕ) (r : Progress) : Type 0 where
-  pub bytes : (l : Load) → Stands l p
+  pub bytes : (l : Load) → ProgressOf l p
       → Wrote (numbersLine (numbersDrawn (l .cells) (l .generator))) before (p .cursor .at) end (r .cursor .at)
-  pub stands : (l : Load) → Stands l p → Stands (withNumbers l (numbersDrawn (l .cells) (l .generator))) r
+  pub stands : (l : Load) → ProgressOf l p → ProgressOf (withNumbers l (numbersDrawn (l .cells) (l .generator))) r
 
 -- at most two layouts of nine numbers
 pub layouts-few : (layouts heights row : ℕ) → layouts ≤ 2 → heights ≡ layoutSize row - 1
@@ -103,10 +103,10 @@ module _ {l : Load} {h : Opening} (heights : ℕ) (d : OpeningOf l h) (e : heigh
       ap (draws L) (d .generator) ∙ sym (draws-add 4 L (l .generator)) ∙ ap (λ (k : ℕ). draws k (l .generator)) long
 
   -- the load with this cell
-  cell-stands : {p : Progress} (r : Progress) → Stands l p
+  cell-stands : {p : Progress} (r : Progress) → ProgressOf l p
       → generatorOf (r .cursor .generator) ≡ draws (length (rangesOf h heights)) (generatorOf (h .generator))
       → r .tally ≡ tallyWith (p .tally) (h .row) (h .given)
-      → Stands (withNumbers l (numbersDrawn (l .cells) (l .generator))) r
+      → ProgressOf (withNumbers l (numbersDrawn (l .cells) (l .generator))) r
   unfolding cellOf numbersDrawn
   cell-stands r st g t = record {
     generator = g ∙ draws-in;
@@ -161,7 +161,8 @@ module _ {p : Progress} {before : List ℕ} (h : Opening) (heights : ℕ) (d : D
 -- ---- a whole load
 
 -- a load that is not whole yet leaves room for a cell
-pub load-ready : {seed n : ℕ} {p : Progress} → LoadSound seed n → n < maxCells → Stands (loadOf seed n) p → Ready p
+pub load-ready : {seed n : ℕ} {p : Progress} → LoadSound seed n → n < maxCells → ProgressOf (loadOf seed n) p
+    → CellRoom p
 load-ready {seed} {n} {p} s h st =
     let many : p .tally .count ≡ n = st .tally .count ∙ s .cells .many in
     record {
@@ -182,7 +183,7 @@ abbrev noCells : Tally
 noCells = record { rows = 2; count = 0; tall = 0; first = 0; second = 0 }
 
 pub begun-stands : (seed at : ℕ) (g : program.Generator) → generatorOf g ≡ seeded seed
-    → Stands (loadOf seed 0) (record { cursor = record { at = at; generator = g }; tally = noCells })
+    → ProgressOf (loadOf seed 0) (record { cursor = record { at = at; generator = g }; tally = noCells })
 unfolding loadOf
 begun-stands seed at g e = record {
   generator = e;
@@ -196,12 +197,12 @@ header-wrote seed w = w
 
 -- one cell more
 module _ (seed n : ℕ) {p r : Progress} {mid end : List ℕ} (w : WroteCell p mid end r)
-    (st : Stands (loadOf seed n) p) where
+    (st : ProgressOf (loadOf seed n) p) where
   pub more-wrote : {before : List ℕ} → Wrote (loadOf seed n .text) before 0 mid (p .cursor .at)
       → Wrote (loadOf seed (n + 1) .text) before 0 end (r .cursor .at)
   unfolding loadOf
   more-wrote v = rw (add-one n) (then v (w .bytes (loadOf seed n) st))
 
-  pub more-stands : Stands (loadOf seed (n + 1)) r
+  pub more-stands : ProgressOf (loadOf seed (n + 1)) r
   unfolding loadOf
   more-stands = rw (add-one n) (w .stands (loadOf seed n) st)

@@ -21,12 +21,12 @@ use Rattle.load_write.specs.declared.Opening.{Opening}
 use Rattle.load_write.specs.Fields.{listed-append}
 
 -- a progress stands for a load as far as it is written
-pub record Stands (l : Load) (p : Progress) : Type 0 where
+pub record ProgressOf (l : Load) (p : Progress) : Type 0 where
   pub generator : generatorOf (p .cursor .generator) ≡ l .generator
   pub tally : Tallies (jobFrom l) (p .tally)
 
--- numbers that one more cell keeps within theirs
-pub record Ready (p : Progress) : Type 0 where
+-- one more cell keeps all numbers within theirs
+pub record CellRoom (p : Progress) : Type 0 where
   pub room : TallyRoom (p .tally)
   pub first : p .tally .first ≤ maxGiven
   pub second : p .tally .second ≤ maxGiven
@@ -56,9 +56,9 @@ pub record DrewOpening (p : Progress) (h : Opening) : Type 0 where
   pub given : h .given ≤ 9999
   pub mirrorable : h .mirrorable ≤ 1
   pub layouts : h .layouts ≤ 2
-  pub of : (l : Load) → Stands l p → OpeningOf l h
+  pub of : (l : Load) → ProgressOf l p → OpeningOf l h
 
-pub largest-low : {p : Progress} (row : ℕ) → Ready p → largestOf (p .tally) row ≤ maxGiven
+pub largest-low : {p : Progress} (row : ℕ) → CellRoom p → largestOf (p .tally) row ≤ maxGiven
 largest-low {p} row r = go (eqb row 2) (eqb row 0)
   where
     go : (s t : Bool)
@@ -68,7 +68,7 @@ largest-low {p} row r = go (eqb row 2) (eqb row 0)
     go false false = r .second
 
 -- the largest in a cell's rows is the load's
-pub largest-stands : {l : Load} {p : Progress} (row : ℕ) → Stands l p → row ≤ 2
+pub largest-stands : {l : Load} {p : Progress} (row : ℕ) → ProgressOf l p → row ≤ 2
     → largestOf (p .tally) row ≡ largest row (l .cells)
 unfolding largest
 largest-stands zero s h = s .tally .first

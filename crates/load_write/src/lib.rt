@@ -11,7 +11,7 @@ ghost use Rattle.definition.specs.Load.{repeated, listed, loadRoom, loadOf};
 ghost use Rattle.text_write.specs.Put.{Room, Wrote};
 ghost use Rattle.load_draws.specs.Generators.{InForm};
 ghost use Rattle.load_write.specs.Fields.{FieldsRoom, WroteFields};
-ghost use Rattle.load_write.specs.Openings.{Ready, DrewOpening, largestOf, openingText};
+ghost use Rattle.load_write.specs.Openings.{CellRoom, DrewOpening, largestOf, openingText};
 ghost use Rattle.load_write.specs.Cells.{layoutOf, LineRoom, WroteCell};
 use job::Job;
 use job_tally::Tally;
@@ -121,7 +121,7 @@ fn last_row(tall: usize) -> u32
 
 // Row, given site, mirrorable and layouts of the next cell.
 fn draw_opening(p: Progress) -> Opening
-    requires { ⌜ Ready p ⌝ }
+    requires { ⌜ CellRoom p ⌝ }
     ensures { λ r. ⌜ DrewOpening p r ⌝ }
 {
     let t = p.tally;
@@ -166,7 +166,7 @@ fn heights_of(row: u32) -> u32
 
 // The line of one cell.
 fn put_cell(output: &mut [u8], p: Progress) -> Progress
-    requires { ⌜ Ready p ⌝ }
+    requires { ⌜ CellRoom p ⌝ }
     requires { ⌜ LineRoom (p .cursor .at) (now output) ⌝ }
     ensures { λ r. ⌜ WroteCell p (now (output .entry)) (now (output .exit)) r ⌝ }
 {

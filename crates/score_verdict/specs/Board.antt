@@ -20,7 +20,7 @@ use Rattle.score_row_rules.specs.Tests.{nearAny, outAny, atEndAny}
 use Rattle.score_verdict.specs.declared.Verdict.{Verdict}
 use Rattle.score_verdict.specs.declared.Limits.{Limits}
 use Rattle.score_verdict.specs.Rules.{no-rule}
-use Rattle.score_verdict.specs.Judged.{Told}
+use Rattle.score_verdict.specs.Judged.{VerdictMarked}
 use Rattle.score_verdict.specs.Flat.{flat2, flat4, flat5, flat6, flat7, flat8}
 
 -- the sizes of the arrays, and the orders
@@ -59,7 +59,7 @@ pub record RuleMarked (limits : Limits) (unoffered far words : List ℕ) (rule :
 -- the rules are judged
 pub record RulesJudged (limits : Limits) (unoffered far words : List ℕ) (r : Verdict) (marks : List ℕ) : Type 0 where
   pub told : (j : paper.Job) (P : text.Placement) → Board j P limits unoffered far words
-      → Told j P (limits .cells) r marks
+      → VerdictMarked j P (limits .cells) r marks
 
 -- ---- the rules by their number
 

@@ -12,7 +12,7 @@ use Rattle.score_cell_rules.specs.Lowest.{lowest-same, lowest-none, lowest-zero
 use Rattle.score_cell_rules.specs.Marks.{markedIn, Added, Unmarked, unmarked-none, unmarked-still, marked-is}
 use Rattle.score_verdict.specs.declared.Verdict.{Verdict}
 use Rattle.score_verdict.specs.Rules.{rules-from}
-use Rattle.score_verdict.specs.Judged.{Judged, Told, broken-here, holds-here, all-hold}
+use Rattle.score_verdict.specs.Judged.{Judged, VerdictMarked, broken-here, holds-here, all-hold}
 
 -- no rule before this one has marked a cell, and the verdict is that of the rules from it on
 pub record Held (j : paper.Job) (P : text.Placement) (n rule : ℕ) (marks : List ℕ) : Type 0 where
@@ -43,7 +43,7 @@ module _ {j : paper.Job} {P : text.Placement} {n : ℕ} (count : length (j .cell
         (subst (λ fs. Judged (firstBroken rule fs (cellsOf j)) v)
         (sym (rules-from j P (rule - 1) rule (omega arith) (omega arith))) x)
 
-    pub broken : (cell ≡ 0 → ⊥) → Told j P n (record { rule = rule; cell = cell }) m′
+    pub broken : (cell ≡ 0 → ⊥) → VerdictMarked j P n (record { rule = rule; cell = cell }) m′
     broken d = record {
       judged = from-here _
           (broken-here rule (ruleOf j P rule) (drop rule (rules j P)) (cellsOf j) cell of-all d);
@@ -65,7 +65,7 @@ module _ {j : paper.Job} {P : text.Placement} {n : ℕ} (count : length (j .cell
 
   -- past the last rule
   pub all-held : {rule : ℕ} {m : List ℕ} → length (rules j P) < rule → Held j P n rule m
-      → Told j P n (record { rule = 0; cell = 0 }) m
+      → VerdictMarked j P n (record { rule = 0; cell = 0 }) m
   all-held {rule} {m} high h = record {
     judged = h .later _
         (subst (λ fs. Judged (firstBroken rule fs (cellsOf j)) (record { rule = 0; cell = 0 })) (sym ended)

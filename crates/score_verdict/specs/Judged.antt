@@ -18,7 +18,7 @@ pub record Judged (v : definition.Verdict) (r : Verdict) : Type 0 where
   pub cell : r .cell ≡ v .cell
 
 -- the marks of n cells are those of the rule that is told, and its cell is the first of them
-pub record Told (j : paper.Job) (P : text.Placement) (n : ℕ) (r : Verdict) (marks : List ℕ) : Type 0 where
+pub record VerdictMarked (j : paper.Job) (P : text.Placement) (n : ℕ) (r : Verdict) (marks : List ℕ) : Type 0 where
   pub judged : Judged (verdict j P) r
   pub marked : (k : ℕ) → k < n → markedIn marks k ≡ ruleOf j P (r .rule) k
   pub foremost : r .cell ≡ first (keep (markedIn marks) (from 0 n))

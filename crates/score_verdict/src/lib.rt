@@ -2,7 +2,7 @@
 ghost use Rattle.definition.specs.Rules.{verdict};
 ghost use Rattle.job.specs.Value.{jobOf, placementOf};
 ghost use Rattle.score_words.specs.Ready.{Ready};
-ghost use Rattle.score_verdict.specs.Judged.{Judged, Told};
+ghost use Rattle.score_verdict.specs.Judged.{Judged, VerdictMarked};
 ghost use Rattle.score_verdict.specs.Board.{Laid, LaidClear, ReadyClear, RuleMarked, RulesJudged};
 use job::Job;
 use job::Placement;
@@ -98,7 +98,7 @@ fn judge_rules(
 // The cells that break the first broken rule are left marked.
 pub fn judge(job: Job, placement: Placement, marks: &mut [u32]) -> Verdict
     requires { ⌜ ReadyClear job placement (now marks) ⌝ }
-    ensures { λ r. ⌜ Told (jobOf job) (placementOf placement) (job .count) r (now (marks .exit)) ⌝ }
+    ensures { λ r. ⌜ VerdictMarked (jobOf job) (placementOf placement) (job .count) r (now (marks .exit)) ⌝ }
 {
     let mut words = [0u32; 256];
     flatten(job, placement, &mut words);

@@ -44,19 +44,19 @@ module _ (D : Deck) (R : ℕ) (f : Layer) where
       go false s u z = refl
 
   -- a word below B is one of them
-  pub record Met (q b : ℕ) : Type 0 where
+  pub record LastWord (q b : ℕ) : Type 0 where
     pub pose : b < D .poses
     pub there : isThere D R (D .size) q ≡ true
     pub single : D .tall (lastAt R (D .size) q) ≡ false
     pub word : lastOf D R f q b ≡ lastPays D R f q b
 
-  pub last-met : (q b : ℕ) → lastOf D R f q b < B → Met q b
+  pub last-met : (q b : ℕ) → lastOf D R f q b < B → LastWord q b
   unfolding lastOf
   last-met q b l = go (ltb b (D .poses)) refl (isThere D R (D .size) q) refl (D .tall (lastAt R (D .size) q)) refl l
     where
       go : (t : Bool) → ltb b (D .poses) ≡ t → (s : Bool) → isThere D R (D .size) q ≡ s → (u : Bool)
           → D .tall (lastAt R (D .size) q) ≡ u
-          → cond t (cond s (cond u B (lastPays D R f q b)) B) B < B → Met q b
+          → cond t (cond s (cond u B (lastPays D R f q b)) B) B < B → LastWord q b
       go true x true y false z h = record {
         pose = ltb-true b (D .poses) x;
         there = y;
@@ -82,7 +82,7 @@ module _ (D : Deck) (R : ℕ) (f : Layer) where
       go q x true y true z = c
       go q x false y u z = c
 
-  member : (q b : ℕ) → q < stateCount R → Met q b → ends D R f ≤ lastPays D R f q b
+  member : (q b : ℕ) → q < stateCount R → LastWord q b → ends D R f ≤ lastPays D R f q b
   unfolding ends
   member q b x m =
       omega (

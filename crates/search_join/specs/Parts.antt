@@ -28,7 +28,7 @@ use Rattle.search_join.specs.Tables.{
   PoseCases,
   BlockCases,
   StageCases,
-  Part,
+  CasesMade,
   Joined,
 }
 use Rattle.search_join.specs.Laws.{lowest-same, next-low}
@@ -80,7 +80,8 @@ last k n h = go (decLt k n)
 module _ (starts lanes I : ℕ) where
   -- what a part leaves as it was, if its cases are in the map
   module _ (P : ℕ → ℕ → ℕ → Type 0) {x y : List ℕ} (b : I ≤ 24)
-      (room : (q₀ q₁ a : ℕ) → P q₀ q₁ a → (q₀ < 12) × (q₁ < 12) × (a < poseSlots)) (p : Part starts lanes I P x y) where
+      (room : (q₀ q₁ a : ℕ) → P q₀ q₁ a → (q₀ < 12) × (q₁ < 12) × (a < poseSlots))
+      (p : CasesMade starts lanes I P x y) where
     pub kept-case : (J q₀ q₁ a : ℕ) → Slot J q₀ q₁ a → (J ≡ suc I → P q₀ q₁ a → ⊥) → SameCase J q₀ q₁ a x y
     unfolding casesIn pointersIn
     kept-case j q₀ q₁ a h away =
@@ -114,7 +115,7 @@ module _ (starts lanes I : ℕ) where
         ))
 
   -- what is read is as before
-  pub table-part : {P : ℕ → ℕ → ℕ → Type 0} {x y : List ℕ} → Table starts lanes I x → Part starts lanes I P x y
+  pub table-part : {P : ℕ → ℕ → ℕ → Type 0} {x y : List ℕ} → Table starts lanes I x → CasesMade starts lanes I P x y
       → Table starts lanes I y
   table-part t p = record {
     states = t .states;
@@ -126,7 +127,7 @@ module _ (starts lanes I : ℕ) where
   }
 
   pub summed-part : (P : ℕ → ℕ → ℕ → Type 0) {x y sums : List ℕ} {live : Bool} (q₀ a : ℕ) → Table starts lanes I x
-      → ((q₀ q₁ a : ℕ) → P q₀ q₁ a → (q₀ < 12) × (q₁ < 12) × (a < poseSlots)) → Part starts lanes I P x y → q₀ < 12
+      → ((q₀ q₁ a : ℕ) → P q₀ q₁ a → (q₀ < 12) × (q₁ < 12) × (a < poseSlots)) → CasesMade starts lanes I P x y → q₀ < 12
       → a < poseSlots
       → Summed starts lanes I x q₀ a sums live → Summed starts lanes I y q₀ a sums live
   unfolding startSum
@@ -144,7 +145,7 @@ module _ (starts lanes I : ℕ) where
 
   -- no case
   pub part-none : {P : ℕ → ℕ → ℕ → Type 0} {st : List ℕ} → Low st → ((q₀ q₁ a : ℕ) → P q₀ q₁ a → ⊥)
-      → Part starts lanes I P st st
+      → CasesMade starts lanes I P st st
   part-none w none =
       record { long = refl; low = w; kept = λ k h. refl; done = λ q₀ q₁ a h. absurd (none q₀ q₁ a h) }
 
@@ -155,7 +156,7 @@ module _ (starts lanes I : ℕ) where
       (first : (q₀ q₁ a : ℕ) → P q₀ q₁ a → R q₀ q₁ a)
       (second : (q₀ q₁ a : ℕ) → Q q₀ q₁ a → R q₀ q₁ a)
     where
-      pub part-then : Part starts lanes I P x y → Part starts lanes I Q y z → Part starts lanes I R x z
+      pub part-then : CasesMade starts lanes I P x y → CasesMade starts lanes I Q y z → CasesMade starts lanes I R x z
       part-then p q =
           let b : I ≤ 24 = t .stage in
           let u = t .states in
@@ -191,7 +192,7 @@ module _ (starts lanes I : ℕ) where
       → Table starts lanes I st → Pages (p₀ + 1) st → p₀ < 12 → p₁ < 12 → b < poseSlots → at ≡ caseAt (suc I) p₀ p₁ + b
       → to ≡ pointerAt (suc I) p₀ p₁ + b
       → Least (nextIn starts lanes I st p₀ p₁ b) (WayIn starts lanes I st p₀ p₁ b) v c
-      → Part starts lanes I (OneCase p₀ p₁ b) st (set (set st at v) to c)
+      → CasesMade starts lanes I (OneCase p₀ p₁ b) st (set (set st at v) to c)
   unfolding casesIn pointersIn
   part-put p₀ p₁ b at to v c st t p f h g e d w =
       let r = t .stage in
@@ -215,8 +216,8 @@ module _ (starts lanes I : ℕ) where
 
   -- one state of row 1 more
   pub pose-more : (p₀ m b : ℕ) {x y z : List ℕ} → Table starts lanes I x → p₀ < 12 → m < 12 → b < poseSlots
-      → Part starts lanes I (PoseCases p₀ m b) x y → Part starts lanes I (OneCase p₀ m b) y z
-      → Part starts lanes I (PoseCases p₀ (m + 1) b) x z
+      → CasesMade starts lanes I (PoseCases p₀ m b) x y → CasesMade starts lanes I (OneCase p₀ m b) y z
+      → CasesMade starts lanes I (PoseCases p₀ (m + 1) b) x z
   pose-more p₀ m b t h g k =
       part-then (PoseCases p₀ m b) (OneCase p₀ m b) (PoseCases p₀ (m + 1) b) t
       (λ q₀ q₁ a r. (omega arith, omega arith, omega arith))
@@ -226,8 +227,8 @@ module _ (starts lanes I : ℕ) where
 
   -- one pose more
   pub block-more : (p₀ m n : ℕ) {x y z : List ℕ} → Table starts lanes I x → p₀ < 12 → m ≤ 12 → n < poseSlots
-      → Part starts lanes I (BlockCases p₀ m n) x y → Part starts lanes I (PoseCases p₀ m n) y z
-      → Part starts lanes I (BlockCases p₀ m (n + 1)) x z
+      → CasesMade starts lanes I (BlockCases p₀ m n) x y → CasesMade starts lanes I (PoseCases p₀ m n) y z
+      → CasesMade starts lanes I (BlockCases p₀ m (n + 1)) x z
   block-more p₀ m n t h g k =
       part-then (BlockCases p₀ m n) (PoseCases p₀ m n) (BlockCases p₀ m (n + 1)) t
       (λ q₀ q₁ a r. (omega arith, omega arith, omega arith))
@@ -237,8 +238,8 @@ module _ (starts lanes I : ℕ) where
 
   -- one state of row 0 more
   pub stage-more : (k m n : ℕ) {x y z : List ℕ} → Table starts lanes I x → k < 12 → m ≤ 12 → n ≤ poseSlots
-      → Part starts lanes I (StageCases k m n) x y → Part starts lanes I (BlockCases k m n) y z
-      → Part starts lanes I (StageCases (k + 1) m n) x z
+      → CasesMade starts lanes I (StageCases k m n) x y → CasesMade starts lanes I (BlockCases k m n) y z
+      → CasesMade starts lanes I (StageCases (k + 1) m n) x z
   stage-more k m n t h g j =
       part-then (StageCases k m n) (BlockCases k m n) (StageCases (k + 1) m n) t
       (λ q₀ q₁ a r. (omega arith, omega arith, omega arith))
@@ -248,7 +249,7 @@ module _ (starts lanes I : ℕ) where
 
   -- all of it
   pub part-joined : {ends poses : ℕ} {x y : List ℕ} → I ≤ 24 → ends ≤ 12 → poses ≤ poseSlots
-      → Part starts lanes I (StageCases ends ends poses) x y
+      → CasesMade starts lanes I (StageCases ends ends poses) x y
       → Joined starts lanes ends poses I x y
   part-joined {ends} {poses} b h g p =
       record {

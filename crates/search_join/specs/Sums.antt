@@ -11,7 +11,7 @@ use Rattle.theory_pair.specs.Coded.{lowest}
 use Rattle.theory_tables.specs.Steps.{B}
 use Rattle.search_lanes.specs.Store.{Low}
 use Rattle.search_join.specs.declared.Case.{Case}
-use Rattle.search_join.specs.Tables.{casesIn, costsIn, Table, CaseFits, Part}
+use Rattle.search_join.specs.Tables.{casesIn, costsIn, Table, CaseFits, CasesMade}
 
 -- from start state s to state q₀ in pose a, in lane l of case (s, t)
 unfoldable pub startSum : ℕ → List ℕ → ℕ → ℕ → ℕ → ℕ → ℕ → ℕ
@@ -131,5 +131,5 @@ pub record CaseRoom (starts lanes I q₀ ends poses : ℕ) (st sums : List ℕ) 
 
 -- the cases P, and room for the sums of the next ones
 pub record PartMade (starts lanes I : ℕ) (P : ℕ → ℕ → ℕ → Type 0) (old new sums : List ℕ) : Type 0 where
-  pub part : Part starts lanes I P old new
+  pub part : CasesMade starts lanes I P old new
   pub room : SumsRoom sums

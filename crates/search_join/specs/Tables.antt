@@ -116,7 +116,7 @@ abbrev pub Elsewhere : ℕ → (ℕ → ℕ → ℕ → Type 0) → ℕ → Type
 Elsewhere I P k = (q₀ q₁ a : ℕ) → P q₀ q₁ a → (k ≡ caseAt I q₀ q₁ + a → ⊥) × (k ≡ pointerAt I q₀ q₁ + a → ⊥)
 
 -- the cases P of table I + 1 and their sources are right, every other word is as it was
-pub record Part (starts lanes I : ℕ) (P : ℕ → ℕ → ℕ → Type 0) (old new : List ℕ) : Type 0 where
+pub record CasesMade (starts lanes I : ℕ) (P : ℕ → ℕ → ℕ → Type 0) (old new : List ℕ) : Type 0 where
   pub long : length new ≡ length old
   pub low : Low new
   pub kept : (k : ℕ) → Elsewhere (suc I) P k → getD new k 0 ≡ getD old k 0

@@ -7,7 +7,7 @@ ghost use Rattle.theory_tables.specs.Steps.{B};
 ghost use Rattle.search_store.specs.Map.{maxLanes};
 ghost use Rattle.search_lanes.specs.Lowered.{LoweredAt};
 ghost use Rattle.search_join.specs.Tables.{Better, Least, MetAt, SumAt, WayIn, nextIn, OneCase};
-ghost use Rattle.search_join.specs.Tables.{PoseCases, BlockCases, Part, Joined, JoinGiven};
+ghost use Rattle.search_join.specs.Tables.{PoseCases, BlockCases, CasesMade, Joined, JoinGiven};
 ghost use Rattle.search_join.specs.Tables.{StateWith, AllStates, Closing, Closed};
 ghost use Rattle.search_join.specs.Sums.{startSum, startLanes, laneSum, endSum, StartSummed, Summed, SumsGiven};
 ghost use Rattle.search_join.specs.Sums.{SumsFrom, StateSums, StartSums, LaneSums, Joining, Pointing};
@@ -294,7 +294,7 @@ fn put_case(
     case: Case,
 )
     requires { ⌜ CaseToPut starts lanes i (now store) (now sums) live case ⌝ }
-    ensures { λ _. ⌜ Part starts lanes i (OneCase (case .q0) (case .q1) (case .pose)) (now (store .entry))
+    ensures { λ _. ⌜ CasesMade starts lanes i (OneCase (case .q0) (case .q1) (case .pose)) (now (store .entry))
         (now (store .exit)) ⌝ }
 {
     let best = join_case(sums, live, store, i, starts, lanes, case);

@@ -9,7 +9,7 @@ use Rattle.definition.specs.Load.{loadHeader, loadOf}
 use Rattle.text_write.specs.Put.{Wrote}
 use Rattle.text_write.specs.Puts.{wrote-length}
 use Rattle.load_laws.specs.Accepted.{load-sound}
-use Rattle.load_write.specs.Openings.{Stands}
+use Rattle.load_write.specs.Openings.{ProgressOf}
 use Rattle.load_write.specs.Cells.{load-ready, load-room, begun-stands, header-wrote, more-wrote, more-stands}
 use Rattle.load_write.proofs.put_load.Statement.{statement}
 use Rattle.load_write.proofs.put_load.Tie as tie
@@ -18,7 +18,7 @@ abbrev Inv-loop : tie.InvT-loop
 Inv-loop output₀ seed cells at p₀ i₀ output p i =
     (i ≤ cells)
     × ((before : List ℕ) → Wrote loadHeader before 0 output₀ at → Wrote (loadOf seed i .text) before 0 output (p .cursor .at))
-    × Stands (loadOf seed i) p
+    × ProgressOf (loadOf seed i) p
 
 abbrev μ-loop : tie.MeasureT-loop
 μ-loop output₀ seed cells at p₀ i₀ output p i = cells - i

@@ -1,7 +1,7 @@
 -- Each turn writes the cases of one pose more.
 use Prim.Native.Nat.{_-_, _≤_}
 use mathlib.Core.Path.{_≡_}
-use Rattle.search_join.specs.Tables.{BlockCases, Part}
+use Rattle.search_join.specs.Tables.{BlockCases, CasesMade}
 use Rattle.search_join.specs.Sums.{SumsRoom}
 use Rattle.search_join.specs.Parts.{part-none, table-part, block-more}
 use native.Mathlib.Omega.{arith}
@@ -11,7 +11,7 @@ use Rattle.search_join.proofs.case_block.Tie as tie
 
 abbrev Inv-loop : tie.InvT-loop
 Inv-loop store₀ sums₀ i starts lanes q0 ends poses a₀ store sums a =
-    (a ≤ poses) × Part starts lanes i (BlockCases q0 ends a) store₀ store × SumsRoom sums
+    (a ≤ poses) × CasesMade starts lanes i (BlockCases q0 ends a) store₀ store × SumsRoom sums
 
 abbrev μ-loop : tie.MeasureT-loop
 μ-loop store₀ sums₀ i starts lanes q0 ends poses a₀ store sums a = poses - a

@@ -1,7 +1,7 @@
 -- Each turn writes one case more, over the same sums.
 use Prim.Native.Nat.{_-_, _≤_}
 use mathlib.Core.Path.{_≡_}
-use Rattle.search_join.specs.Tables.{PoseCases, Part}
+use Rattle.search_join.specs.Tables.{PoseCases, CasesMade}
 use Rattle.search_join.specs.Parts.{part-none, table-part, summed-part, pose-more}
 use native.Mathlib.Omega.{arith}
 use borrow.Author.Needs.{needs}
@@ -10,7 +10,7 @@ use Rattle.search_join.proofs.case_pose.Tie as tie
 
 abbrev Inv-loop : tie.InvT-loop
 Inv-loop store₀ sums i starts lanes q0 ends a live q1₀ store q1 =
-    (q1 ≤ ends) × Part starts lanes i (PoseCases q0 q1 a) store₀ store
+    (q1 ≤ ends) × CasesMade starts lanes i (PoseCases q0 q1 a) store₀ store
 
 abbrev μ-loop : tie.MeasureT-loop
 μ-loop store₀ sums i starts lanes q0 ends a live q1₀ store q1 = ends - q1

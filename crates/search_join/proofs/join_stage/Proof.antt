@@ -4,7 +4,7 @@ use mathlib.Core.Path.{_≡_}
 use lib.ListN.{length-replicate}
 use Rattle.theory_tables.specs.Steps.{B}
 use Rattle.search_lanes.specs.Laws.{nones-low}
-use Rattle.search_join.specs.Tables.{StageCases, Part}
+use Rattle.search_join.specs.Tables.{StageCases, CasesMade}
 use Rattle.search_join.specs.Sums.{SumsRoom, sumWords}
 use Rattle.search_join.specs.Parts.{part-none, table-part, stage-more, part-joined}
 use native.Mathlib.Omega.{arith}
@@ -14,7 +14,7 @@ use Rattle.search_join.proofs.join_stage.Tie as tie
 
 abbrev Inv-loop : tie.InvT-loop
 Inv-loop store₀ i starts lanes ends poses sums₀ q0₀ store sums q0 =
-    (q0 ≤ ends) × Part starts lanes i (StageCases q0 ends poses) store₀ store × SumsRoom sums
+    (q0 ≤ ends) × CasesMade starts lanes i (StageCases q0 ends poses) store₀ store × SumsRoom sums
 
 abbrev μ-loop : tie.MeasureT-loop
 μ-loop store₀ i starts lanes ends poses sums₀ q0₀ store sums q0 = ends - q0
