@@ -6,14 +6,14 @@ use mathlib.Core.Logic.{_⊎_, inl, inr}
 use native.Mathlib.Omega.{arith}
 use lib.ListN.{length}
 use Rattle.definition.specs.Outcome.{Outcome, noLine, refusedBy, Buffers, Met, over}
-use Rattle.definition.specs.Load.{loadRefusal, loadFieldCount, loadOf, load, Loaded, LoadedOf}
+use Rattle.definition.specs.Load.{loadRefusal, loadFieldCount, loadOf, load, LoadedOf}
 use Rattle.definition.specs.Demands.{loadShape, Demand1}
 use Rattle.load_laws.specs.Accepted.{load-accepted, load-short}
-use Rattle.load_laws.specs.Outcomes.{tried, load-refused, load-answered}
+use Rattle.load_laws.specs.Outcomes.{load-tried, load-refused, load-answered, load-number}
 use Rattle.demand_laws.specs.Fair.{Fair, fair-demand1, refusal-fair}
 
 load-keeps : (seed cells room : ℕ) → Fair loadShape room (load seed cells room)
-load-keeps seed cells room = go (tried cells room .either)
+load-keeps seed cells room = go (load-tried cells room .either)
   where
     refuses : (n : ℕ) → loadRefusal cells room ≡ n → (n ≡ 0 → ⊥)
         → Fair loadShape room (refusedBy loadFieldCount (noLine n)) → Fair loadShape room (load seed cells room)
@@ -25,7 +25,7 @@ load-keeps seed cells room = go (tried cells room .either)
     go : (loadRefusal cells room ≡ 0) ⊎ (loadRefusal cells room ≡ 9) ⊎ (loadRefusal cells room ≡ 10)
         → Fair loadShape room (load seed cells room)
     go (inl z) =
-        let t = tried cells room in
+        let t = load-tried cells room in
         subst (Fair loadShape room) (sym (load-answered seed cells room z)) (record {
           led = refl;
           numbered = refl;
@@ -46,26 +46,13 @@ load-demand1 seed cells {before = before} m = fair-demand1 (load-keeps seed cell
 -- "The reader accepts each job written."
 pub load-reads : (seed cells : ℕ) {returned : ℕ} {before end : Buffers}
     → Met (load seed cells (length (before .output))) returned before end → LoadedOf cells returned before end
-load-reads seed cells {returned} {before} {end} m z = go (tried cells room .either)
-  where
-    room : ℕ
-    room = length (before .output)
-
-    other : (n : ℕ) → loadRefusal cells room ≡ n → (n ≡ 0 → ⊥) → ⊥
-    other n e d =
-        d (sym e ∙ sym (ap (λ (o : Outcome). o .number) (load-refused seed cells room (λ y. d (sym e ∙ y))))
-        ∙ sym (m .told .number) ∙ z)
-
-    go : (loadRefusal cells room ≡ 0) ⊎ (loadRefusal cells room ≡ 9) ⊎ (loadRefusal cells room ≡ 10)
-        → Loaded cells before end
-    go (inl e) =
-        let t = tried cells room in
-        record {
-          text = loadOf seed cells .text;
-          fits = omega (arith, load-short seed cells (t .few e), t .enough e);
-          written =
-              m .written ∙ ap (λ (o : Outcome). over (o .text) (before .output)) (load-answered seed cells room e);
-          reads = load-accepted seed cells (t .few e);
-        }
-    go (inr (inl e)) = absurd (other 9 e (λ y. omega arith))
-    go (inr (inr e)) = absurd (other 10 e (λ y. omega arith))
+load-reads seed cells {returned} {before} m z =
+    let room = length (before .output) in
+    let t = load-tried cells room in
+    let e : loadRefusal cells room ≡ 0 = sym (load-number seed cells room) ∙ sym (m .told .number) ∙ z in
+    record {
+      text = loadOf seed cells .text;
+      fits = omega (arith, load-short seed cells (t .few e), t .enough e);
+      written = m .written ∙ ap (λ (o : Outcome). over (o .text) (before .output)) (load-answered seed cells room e);
+      reads = load-accepted seed cells (t .few e);
+    }

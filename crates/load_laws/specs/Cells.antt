@@ -24,7 +24,7 @@ use Rattle.load_laws.specs.Sites.{Above, not-falling, largest-low, large
 
 -- ---- each field
 
-pub row-drawn : (cells : List Cell) (g : Generator) → rowDrawn cells g ≤ 2
+row-drawn : (cells : List Cell) (g : Generator) → rowDrawn cells g ≤ 2
 row-drawn cells g =
     let fits = drawn-high (rowRange cells) (draws 1 g) (omega arith) in
     omega (arith, fits, go (ltb (length (keep isTall cells)) maxTall))
@@ -34,7 +34,7 @@ row-drawn cells g =
     go false = omega arith
 
 -- a tall cell only if it finds room
-pub tall-drawn : (cells : List Cell) (g : Generator)
+tall-drawn : (cells : List Cell) (g : Generator)
     → (not (eqb (rowDrawn cells g) 2) || ltb (length (keep isTall cells)) maxTall) ≡ true
 tall-drawn cells g = go (ltb (length (keep isTall cells)) maxTall)
   where
@@ -79,7 +79,7 @@ layouts-in-range (suc n) row g =
     (layouts-in-range n row (draws (length rs) g))
 
 -- in its rows no site so far is larger
-pub cell-above : (cells : List Cell) (g : Generator) → Above cells (cellOf false (numbersDrawn cells g))
+cell-above : (cells : List Cell) (g : Generator) → Above cells (cellOf false (numbersDrawn cells g))
 unfolding cellOf numbersDrawn
 cell-above cells g =
     let row = rowDrawn cells g in

@@ -8,13 +8,13 @@ use lib.ListN.{length, length-append, length-map}
 use lib.Dec.{leb}
 use borrow.Author.Tests.{leb-true, le-leb}
 use Rattle.definition.specs.Lists.{all}
-use Rattle.definition.specs.Texts.{Text, lineFeed, onto, linesOf, fieldsOf, ended, isDigit, isNumber, within}
+use Rattle.definition.specs.Texts.{Text, lineFeed, onto, linesOf, fieldsOf, ended, isNumber, within}
 use Rattle.definition.specs.Texts.{value, digits}
 use Rattle.definition.specs.Job.{Job, cellRefusal, numbersOf, cellOf, lineCell, formed, cellLead, fixedLead, ledBy}
 use Rattle.definition.specs.Load.{listed, numbersLine}
 use Rattle.job_laws.specs.Line.{Taken, not-refused}
 use Rattle.text_laws.specs.Numbers.{also, value-digits, digits-each, digits-number, four-long}
-use Rattle.text_laws.specs.Lines.{Unbroken, unbroken-append, digits-unbroken, one-line, ended-line, no-feed, no-comma}
+use Rattle.text_laws.specs.Lines.{Unbroken, unbroken-append, digits-unbroken, one-line, ended-line, field-first}
 
 -- numbers in their form
 abbrev pub printable : List ℕ → Bool
@@ -32,22 +32,13 @@ parts n ns e =
 
 -- ---- the line
 
--- digits before a text are its first field's
-digits-before : (d rest : Text) (fs : List Text) → all isDigit d ≡ true → fieldsOf rest ≡ [] ∷ fs
-    → fieldsOf (d ++ rest) ≡ d ∷ fs
-unfolding fieldsOf
-digits-before [] rest fs e f = f
-digits-before (b ∷ d) rest fs e f =
-    let p = and-eq-true-iff (isDigit b) (all isDigit d) .0 e in
-    rw (no-feed b (p .0), no-comma b (p .0), digits-before d rest fs (p .1) f)
-
 listed-fields : (ns : List ℕ) → fieldsOf (listed ns ++ (lineFeed ∷ [])) ≡ [] ∷ map digits ns
 unfolding fieldsOf listed
 listed-fields [] = refl
 listed-fields (n ∷ ns) =
     ap (λ (t : Text). [] ∷ fieldsOf t) (append-assoc (digits n) (listed ns) (lineFeed ∷ []))
     ∙ ap (λ (fs : List Text). [] ∷ fs)
-    (digits-before (digits n) (listed ns ++ (lineFeed ∷ [])) (map digits ns) (digits-each n) (listed-fields ns))
+    (field-first (digits n) (listed ns ++ (lineFeed ∷ [])) (map digits ns) (digits-each n) (listed-fields ns))
 
 line-fields : (ns : List ℕ) → fieldsOf (numbersLine ns) ≡ (cellLead ∷ []) ∷ map digits ns
 unfolding fieldsOf
@@ -73,7 +64,7 @@ values : (ns : List ℕ) → map value (map digits ns) ≡ ns
 values [] = refl
 values (n ∷ ns) = rw (value-digits n, values ns)
 
-pub line-numbers : (ns : List ℕ) → numbersOf (numbersLine ns) ≡ ns
+line-numbers : (ns : List ℕ) → numbersOf (numbersLine ns) ≡ ns
 line-numbers ns = rw (line-fields ns) (values ns)
 
 pub line-cell : (ns : List ℕ) → lineCell (numbersLine ns) ≡ cellOf false ns
@@ -85,7 +76,7 @@ in-form (n ∷ ns) e =
     let p = parts n ns e in
     also (isNumber (digits n)) (all isNumber (map digits ns)) (digits-number n (p .0)) (in-form ns (p .1))
 
-pub line-formed : (ns : List ℕ) → printable ns ≡ true → formed (cellLead ∷ fixedLead ∷ []) (numbersLine ns) ≡ true
+line-formed : (ns : List ℕ) → printable ns ≡ true → formed (cellLead ∷ fixedLead ∷ []) (numbersLine ns) ≡ true
 line-formed ns e = rw (line-fields ns, ended-line (cellLead ∷ listed ns)) (in-form ns e)
 
 -- not led by `F`

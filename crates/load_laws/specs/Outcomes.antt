@@ -1,6 +1,6 @@
 -- What a call gives, case by case: 9, 10 or the text.
-use Prim.Native.Nat.{ℕ, _≤_, _<_}
-use mathlib.Core.Path.{_≡_, refl, _∙_}
+use Prim.Native.Nat.{ℕ, zero, suc, _≤_, _<_}
+use mathlib.Core.Path.{_≡_, refl, sym, ap, _∙_}
 use mathlib.Core.Bool.{Bool, true, false, cond}
 use mathlib.Core.List.{[]}
 use mathlib.Core.Logic.{_⊎_, inl, inr}
@@ -8,7 +8,7 @@ use native.Mathlib.Omega.{arith}
 use lib.Dec.{leb}
 use borrow.Author.Tests.{leb-true, le-leb, lt-leb}
 use Rattle.definition.specs.Job.{maxCells, firstFailing}
-use Rattle.definition.specs.Outcome.{noLine, refusedBy}
+use Rattle.definition.specs.Outcome.{Outcome, noLine, refusedBy}
 use Rattle.definition.specs.Load.{loadRoom, loadRefusal, loadFieldCount, loadAnswer, loadOf, load}
 use Rattle.definition_laws.specs.Outcomes.{first-refuses, first-passes, none-refuses}
 
@@ -27,18 +27,18 @@ unfolding loadRefusal firstFailing
 none-of-both cells room h g = rw (le-leb cells maxCells h, le-leb loadRoom room g)
 
 -- one of the three, and what 0 says
-pub record Tried (cells room n : ℕ) : Type 0 where
+pub record LoadTried (cells room n : ℕ) : Type 0 where
   pub either : (n ≡ 0) ⊎ (n ≡ 9) ⊎ (n ≡ 10)
   pub low : n ≤ 10
   pub few : n ≡ 0 → cells ≤ maxCells
   pub enough : n ≡ 0 → loadRoom ≤ room
 
-pub tried : (cells room : ℕ) → Tried cells room (loadRefusal cells room)
+pub load-tried : (cells room : ℕ) → LoadTried cells room (loadRefusal cells room)
 unfolding loadRefusal firstFailing
-tried cells room = go (leb cells maxCells) (leb loadRoom room) (leb-true cells maxCells) (leb-true loadRoom room)
+load-tried cells room = go (leb cells maxCells) (leb loadRoom room) (leb-true cells maxCells) (leb-true loadRoom room)
   where
     go : (s t : Bool) → (s ≡ true → cells ≤ maxCells) → (t ≡ true → loadRoom ≤ room)
-        → Tried cells room (cond s (cond t 0 10) 9)
+        → LoadTried cells room (cond s (cond t 0 10) 9)
     go true true f g = record { either = inl refl; low = omega arith; few = λ z. f refl; enough = λ z. g refl }
     go true false f g = record {
       either = inr (inr refl);
@@ -65,3 +65,11 @@ module _ (seed cells room : ℕ) where
   unfolding load
   load-answered z =
       first-passes loadFieldCount (noLine (loadRefusal cells room)) [] _ z ∙ none-refuses loadFieldCount _
+
+  -- its number is the refusal's, which is 0 if nothing refuses
+  pub load-number : load seed cells room .number ≡ loadRefusal cells room
+  load-number = go (loadRefusal cells room) refl
+    where
+      go : (n : ℕ) → loadRefusal cells room ≡ n → load seed cells room .number ≡ loadRefusal cells room
+      go zero e = ap (λ (o : Outcome). o .number) (load-answered e) ∙ sym e
+      go (suc n) e = ap (λ (o : Outcome). o .number) (load-refused (λ z. omega arith))

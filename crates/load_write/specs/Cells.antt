@@ -35,7 +35,7 @@ use Rattle.load_write.specs.Fields.{FieldsRoom, WroteFields, rest-room, 
 abbrev pub layoutOf : ℕ → List Range
 layoutOf heights = (1 to 16) ∷ replicate heights (1 to 4)
 
-pub layout-inside : (heights : ℕ) → all (inside 0 9999) (layoutOf heights) ≡ true
+layout-inside : (heights : ℕ) → all (inside 0 9999) (layoutOf heights) ≡ true
 layout-inside heights = all-replicate (inside 0 9999) heights (1 to 4) refl
 
 -- where all layouts fit, one more fits after some
@@ -62,7 +62,7 @@ pub record WroteCell (p : Progress) (before end : List ℕ) (r : Progress) : Typ
   pub stands : (l : Load) → ProgressOf l p → ProgressOf (withNumbers l (numbersDrawn (l .cells) (l .generator))) r
 
 -- at most two layouts of nine numbers
-pub layouts-few : (layouts heights row : ℕ) → layouts ≤ 2 → heights ≡ layoutSize row - 1
+layouts-few : (layouts heights row : ℕ) → layouts ≤ 2 → heights ≡ layoutSize row - 1
     → length (repeated layouts (layoutOf heights)) ≤ layoutFields
 layouts-few layouts heights row h e =
     let long = length-repeated layouts (layoutOf heights) in
@@ -74,14 +74,14 @@ layouts-few layouts heights row h e =
     go false f = rw f (omega arith)
 
 -- the ranges of all layouts
-abbrev pub rangesOf : Opening → ℕ → List Range
+abbrev rangesOf : Opening → ℕ → List Range
 rangesOf h heights = repeated (h .layouts) (layoutOf heights)
 
 module _ {l : Load} {h : Opening} (heights : ℕ) (d : OpeningOf l h) (e : heights ≡ layoutSize (h .row) - 1) where
   abbrev more : List ℕ
   more = drawnAll (rangesOf h heights) (generatorOf (h .generator))
 
-  -- the numbers drawn are the head's and those of the layouts
+  -- the numbers drawn are the opening's and those of the layouts
   numbers-in : numbersDrawn (l .cells) (l .generator) ≡ openingNumbers h ++ more
   unfolding numbersDrawn
   numbers-in = rw (e, d .row, d .given, d .mirrorable, d .layouts, d .generator)
@@ -179,11 +179,11 @@ pub load-room : {seed n at : ℕ} {before end : List ℕ} → LoadSound seed n �
 load-room s h room w = record { fits = omega (arith, s .long, w .cursor, wrote-length w) }
 
 -- no cell yet
-abbrev noCells : Tally
-noCells = record { rows = 2; count = 0; tall = 0; first = 0; second = 0 }
+abbrev emptyTally : Tally
+emptyTally = record { rows = 2; count = 0; tall = 0; first = 0; second = 0 }
 
 pub begun-stands : (seed at : ℕ) (g : program.Generator) → generatorOf g ≡ seeded seed
-    → ProgressOf (loadOf seed 0) (record { cursor = record { at = at; generator = g }; tally = noCells })
+    → ProgressOf (loadOf seed 0) (record { cursor = record { at = at; generator = g }; tally = emptyTally })
 unfolding loadOf
 begun-stands seed at g e = record {
   generator = e;

@@ -48,7 +48,7 @@ pub fields-none : (c : Cursor) (l : List ℕ) → WroteFields [] c l l c
 unfolding drawnAll listed
 fields-none c l = record { bytes = wrote-none l (c .at); generator = refl }
 
-pub fields-one : {c d : Cursor} {l m : List ℕ} (r : Range)
+fields-one : {c d : Cursor} {l m : List ℕ} (r : Range)
     → generatorOf (d .generator) ≡ next (generatorOf (c .generator))
     → Wrote (listed (drawn r (generatorOf (d .generator)) ∷ [])) l (c .at) m (d .at) → WroteFields (r ∷ []) c l m d
 unfolding drawnAll
@@ -72,7 +72,7 @@ fields-then {rs} {qs} {c} {d} {e} {l} {m} {n} a b =
 
 -- ---- lists of ranges that grow at their end
 
-pub replicate-more : (n : ℕ) (r : Range) → replicate (n + 1) r ≡ replicate n r ++ (r ∷ [])
+replicate-more : (n : ℕ) (r : Range) → replicate (n + 1) r ≡ replicate n r ++ (r ∷ [])
 replicate-more n r = rw (add-one n) (go n)
   where
     go : (n : ℕ) → replicate (suc n) r ≡ replicate n r ++ (r ∷ [])

@@ -58,8 +58,8 @@ pub record DrewOpening (p : Progress) (h : Opening) : Type 0 where
   pub layouts : h .layouts ≤ 2
   pub of : (l : Load) → ProgressOf l p → OpeningOf l h
 
-pub largest-low : {p : Progress} (row : ℕ) → CellRoom p → largestOf (p .tally) row ≤ maxGiven
-largest-low {p} row r = go (eqb row 2) (eqb row 0)
+pub tally-low : {p : Progress} (row : ℕ) → CellRoom p → largestOf (p .tally) row ≤ maxGiven
+tally-low {p} row r = go (eqb row 2) (eqb row 0)
   where
     go : (s t : Bool)
         → cond s (max (p .tally .first) (p .tally .second)) (cond t (p .tally .first) (p .tally .second)) ≤ maxGiven

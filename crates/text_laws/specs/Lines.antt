@@ -87,10 +87,10 @@ one-line body u = first-line body [] u
 -- ---- fields
 
 -- digits are no commas and no line feeds
-pub no-feed : (b : ℕ) → isDigit b ≡ true → eqb b lineFeed ≡ false
+no-feed : (b : ℕ) → isDigit b ≡ true → eqb b lineFeed ≡ false
 no-feed b e = let d = is-digit b e in ne-eqb b lineFeed (λ s. omega arith)
 
-pub no-comma : (b : ℕ) → isDigit b ≡ true → eqb b comma ≡ false
+no-comma : (b : ℕ) → isDigit b ≡ true → eqb b comma ≡ false
 no-comma b e = let d = is-digit b e in ne-eqb b comma (λ s. omega arith)
 
 pub digits-unbroken : (d : Text) → all isDigit d ≡ true → Unbroken d
@@ -103,19 +103,22 @@ pub unbroken-append : (a b : Text) → Unbroken a → Unbroken b → Unbroken (a
 unbroken-append [] b u v = v
 unbroken-append (x ∷ a) b u v = (u .0, unbroken-append a b (u .1) v)
 
+-- digits before a text whose first field is empty are that field
+pub field-first : (d rest : Text) (fs : List Text) → all isDigit d ≡ true → fieldsOf rest ≡ [] ∷ fs
+    → fieldsOf (d ++ rest) ≡ d ∷ fs
+unfolding fieldsOf
+field-first [] rest fs e f = f
+field-first (b ∷ d) rest fs e f =
+    let p = and-eq-true-iff (isDigit b) (all isDigit d) .0 e in
+    rw (no-feed b (p .0), no-comma b (p .0), field-first d rest fs (p .1) f)
+
 pub field-then : (d rest : Text) → all isDigit d ≡ true → fieldsOf (d ++ (comma ∷ rest)) ≡ d ∷ fieldsOf rest
 unfolding fieldsOf
-field-then [] rest e = refl
-field-then (b ∷ d) rest e =
-    let p = and-eq-true-iff (isDigit b) (all isDigit d) .0 e in
-    rw (no-feed b (p .0), no-comma b (p .0), field-then d rest (p .1))
+field-then d rest e = field-first d (comma ∷ rest) (fieldsOf rest) e refl
 
 pub field-last : (d rest : Text) → all isDigit d ≡ true → fieldsOf (d ++ (lineFeed ∷ rest)) ≡ d ∷ []
 unfolding fieldsOf
-field-last [] rest e = refl
-field-last (b ∷ d) rest e =
-    let p = and-eq-true-iff (isDigit b) (all isDigit d) .0 e in
-    rw (no-feed b (p .0), no-comma b (p .0), field-last d rest (p .1))
+field-last d rest e = field-first d (lineFeed ∷ rest) [] e refl
 
 -- fields with commas between them
 abbrev pub joined : List Text → Text

@@ -10,7 +10,7 @@ use Rattle.definition.specs.Load as paper
 use Rattle.definition.specs.Load.{rowDrawn}
 use Rattle.load_laws.specs.Draws.{drawn-high}
 use Rattle.load_draws.specs.Generators.{generatorOf}
-use Rattle.load_write.specs.Openings.{largest-low, largest-stands}
+use Rattle.load_write.specs.Openings.{tally-low, largest-stands}
 use borrow.Author.Needs.{needs}
 use Rattle.load_write.proofs.draw_opening.Statement.{statement}
 use Rattle.load_write.proofs.draw_opening.Tie as tie
@@ -48,7 +48,7 @@ add-given c =
     omega (
       arith,
       c .before .largest-in .ensures,
-      largest-low (row .field .result) (s .pre),
+      tally-low (row .field .result) (s .pre),
       c .field2 .ensures,
       drawn-high (0 to 12) (generatorOf (c .before .before .next2 .result)) (omega arith),
     )
@@ -91,7 +91,7 @@ returns c =
       given = omega (
         arith,
         largest .largest-in .ensures,
-        largest-low (row .field .result) (s .pre),
+        tally-low (row .field .result) (s .pre),
         given .field2 .ensures,
         drawn-high (0 to 12) (generatorOf (two .next2 .result)) (omega arith),
       );

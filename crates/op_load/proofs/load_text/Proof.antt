@@ -9,7 +9,7 @@ use mir.Val.{toZ}
 use mir.Facts.{toZ-pos}
 use Rattle.definition.specs.Outcome.{over}
 use Rattle.load_laws.specs.Accepted.{load-short}
-use Rattle.load_laws.specs.Outcomes.{tried}
+use Rattle.load_laws.specs.Outcomes.{load-tried}
 use Rattle.op_load.specs.Answers.{met-refused, met-answered}
 use borrow.Author.Needs.{needs}
 use Rattle.op_load.proofs.load_text.Statement.{statement}
@@ -22,7 +22,7 @@ refuse-requires : tie.Need-refuse-requires
 refuse-requires c κs =
     let n = c .before .before in
     let a = n .before .before .args in
-    let low = tried (a .cells) (length (a .output .now)) .low in
+    let low = load-tried (a .cells) (length (a .output .now)) .low in
     record {
       signed = record { number = omega (arith, n .load-refusal .ensures, low); line = omega arith };
       few = omega arith;
@@ -44,7 +44,7 @@ put-load-requires c κs =
     let l = c .before in
     let n = l .before in
     let a = n .before .before .args in
-    let q = tried (a .cells) (length (a .output .now)) in
+    let q = load-tried (a .cells) (length (a .output .now)) in
     let z = sym (n .load-refusal .ensures) ∙ l .if1 .left in
     (q .few z, q .enough z)
 
@@ -57,7 +57,7 @@ cast-push c =
     let l = put .before .before in
     let n = l .before in
     let a = n .before .before .args in
-    let q = tried (a .cells) (length (a .output .now)) in
+    let q = load-tried (a .cells) (length (a .output .now)) in
     let z = sym (n .load-refusal .ensures) ∙ l .if1 .left in
     record { sfits = omega (arith, put .put-load .ensures .cursor, load-short (a .seed) (a .cells) (q .few z)) }
 
@@ -82,7 +82,7 @@ returns-2 c =
     let l = put .before .before in
     let n = l .before in
     let a = n .before .before .args in
-    let q = tried (a .cells) (length (a .output .now)) in
+    let q = load-tried (a .cells) (length (a .output .now)) in
     let z = sym (n .load-refusal .ensures) ∙ l .if1 .left in
     let short = load-short (a .seed) (a .cells) (q .few z) in
     let fields : List ℤ → List ℤ = λ l. over (pos 0 ∷ pos 0 ∷ l) (a .results .now) in
