@@ -14,8 +14,7 @@ use Rattle.definition.specs.Job.{Job, readJob, accepted}
 use Rattle.definition.specs.Placement.{Placement, Printable, poses, readPlacement, textOf}
 use Rattle.definition.specs.Rules.{poseAt, Legal, rules, ruleOf}
 use Rattle.definition.specs.Outcome.{Outcome, numbers, numberCount, score, Buffers, lent, over}
-use Rattle.definition.specs.Outcome.{readFieldCount, scoreFieldCount, placeFieldCount}
-use Rattle.definition.specs.Load.{loadFieldCount}
+use Rattle.definition.specs.Outcome.{readFieldCount, scoreFieldCount, placeFieldCount, textFieldCount}
 
 -- ---- Demand 1: "the call ends, stays within [its buffers], and answers or gives a numbered refusal with its line"
 
@@ -84,16 +83,27 @@ loadShape = record {
   lined = [];
   searched = [];
   led = true;
-  fieldCount = loadFieldCount;
+  fieldCount = textFieldCount;
+}
+
+-- Reasons: "11 when the output has under 1,024 bytes, tried after the refusals of Score" (A4)
+abbrev pub reasonsShape : Shape
+reasonsShape = record {
+  answers = 0 ∷ [];
+  refusals = scoreShape .refusals ++ (11 ∷ []);
+  lined = scoreShape .lined;
+  searched = [];
+  led = true;
+  fieldCount = textFieldCount;
 }
 
 -- "Demand 1's eight refusals are from here on those and each number that a request adds" (A3): every operation, and
 -- every number that one of them refuses by
 abbrev pub shapes : List Shape
-shapes = readShape ∷ scoreShape ∷ faultShape ∷ placeShape ∷ loadShape ∷ []
+shapes = readShape ∷ scoreShape ∷ faultShape ∷ placeShape ∷ loadShape ∷ reasonsShape ∷ []
 
 abbrev pub refusalNumbers : List ℕ
-refusalNumbers = from 1 10
+refusalNumbers = from 1 11
 
 abbrev pub isRefusal : Shape → ℕ → Bool
 isRefusal shape n = isOneOf (shape .refusals) n

@@ -1,4 +1,4 @@
--- Score's and Load's cases hold, by computing alone. A theorem, nothing to believe.
+-- All cases but Place's hold, by computing alone. A theorem, nothing to believe.
 use mathlib.Core.Path.{refl}
 use mathlib.Core.List.{List, [], _∷_}
 use Rattle.definition.specs.Texts.{Text, bytes, linesOf, ended, fieldsOf, isNumber, valueFrom, digitsIn, digits}
@@ -14,7 +14,8 @@ use Rattle.definition.specs.Cost.{totalShift, drift}
 use Rattle.definition.specs.Outcome.{Outcome, firstOf, outcomeOf, numbers, scoreFields, score}
 use Rattle.definition.specs.Draws.{seeded, next, drawn, drawnAll}
 use Rattle.definition.specs.Load.{largest, numbersDrawn, listed, loadOf, loadRefusal, load}
-use Rattle.definition.specs.Edges.{Case, scoring, placing, loading, edges}
+use Rattle.definition.specs.Reasons.{reasonOf, cellsNamed, sentence, roomRefusal, reasons}
+use Rattle.definition.specs.Edges.{Case, scoring, placing, loading, reasoning, edges}
 
 -- a name that opens the definitions, so that texts compute
 unfoldable pub opened : Text → Text → Outcome
@@ -31,14 +32,17 @@ unfolding bytes linesOf ended fieldsOf isNumber valueFrom
     firstOf outcomeOf numbers scoreFields score
     digitsIn digits seeded next drawn drawnAll
     largest numbersDrawn listed loadOf loadRefusal load
+    reasonOf cellsNamed sentence roomRefusal reasons
 opened job placement = score job placement
 
--- Score's and Load's cases of a list
+-- the cases of a list but Place's
 abbrev pub AllComputed : List Case → Type 0
 AllComputed [] = Unit {0}
 AllComputed (scoring job placement Expected ∷ cs) = Expected (score (bytes job) (bytes placement)) × AllComputed cs
 AllComputed (placing job Expected ∷ cs) = AllComputed cs
 AllComputed (loading seed cells room Expected ∷ cs) = Expected (load seed cells room) × AllComputed cs
+AllComputed (reasoning job placement room Expected ∷ cs) =
+    Expected (reasons (bytes job) (bytes placement) room) × AllComputed cs
 
 infixr 4 _&_
 unfoldable pub _&_ : {A B : Type 0} → A → B → A × B
@@ -61,4 +65,7 @@ edges-computed =
     & (refl, refl) & ((refl, refl), refl)
     & ((refl, refl), refl) & ((refl, refl), refl) & ((refl, refl), refl)
     & refl & refl & refl & refl & refl & refl
+    & (refl, refl) & (refl, refl) & (refl, refl) & (refl, refl)
+    & (refl, refl) & (refl, refl) & (refl, refl) & (refl, refl)
+    & (refl, refl) & (refl, refl) & (refl, refl) & (refl, refl) & (refl, refl)
     & tt

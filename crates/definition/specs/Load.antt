@@ -5,12 +5,11 @@ use mathlib.Core.List.{List, [], _∷_, _++_}
 use mathlib.Core.Path.{_≡_}
 use lib.ListN.{length, replicate}
 use lib.Dec.{leb, ltb, eqb}
-use lib.IntN.{pos}
 use Rattle.definition.specs.Lists.{keep}
 use Rattle.definition.specs.Texts.{Text, bytes, comma, lineFeed, digits}
 use Rattle.definition.specs.Job.{Cell, Job, maxCells, maxTall, isTall, inRow, cellLead, layoutSize, cellOf}
 use Rattle.definition.specs.Job.{accepted, readJob, firstFailing}
-use Rattle.definition.specs.Outcome.{Outcome, noLine, outcomeOf, Buffers, over}
+use Rattle.definition.specs.Outcome.{Outcome, noLine, textFieldCount, textAnswer, outcomeOf, Buffers, over}
 use Rattle.definition.specs.Draws.{Generator, Range, _to_, seeded, drawn, draws, drawnAll}
 
 -- "The header is `J,2,1024,7,1,100,1,100,50`."
@@ -93,17 +92,10 @@ loadRoom = 8192
 unfoldable pub loadRefusal : ℕ → ℕ → ℕ
 loadRefusal cells room = firstFailing ((9, leb cells maxCells) ∷ (10, leb loadRoom room) ∷ [])
 
--- the text's length
-abbrev pub loadFieldCount : ℕ
-loadFieldCount = 1
-
-abbrev pub loadAnswer : Text → Outcome
-loadAnswer text = record { number = 0; line = 0; fields = pos (length text) ∷ []; text = text; zeroed = false }
-
 -- a load of so many cells, for an output of so many bytes
 unfoldable pub load : ℕ → ℕ → ℕ → Outcome
 load seed cells room =
-    outcomeOf loadFieldCount (noLine (loadRefusal cells room) ∷ []) (loadAnswer (loadOf seed cells .text))
+    outcomeOf textFieldCount (noLine (loadRefusal cells room) ∷ []) (textAnswer (loadOf seed cells .text))
 
 -- ---- "The reader accepts each job written."
 

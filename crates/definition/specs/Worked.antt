@@ -17,7 +17,7 @@ use Rattle.definition.specs.Moves.{left, right, changeBy, alter, movedBy
 use Rattle.definition.specs.Outcome.{Outcome, resultsOf, over, bufferRefusal, placeOutcome}
 use Rattle.definition.specs.Outcome.{jobIn, posesIn, placementIn}
 use Rattle.definition.specs.FaultLine.{ofJob, ofPlacement, partAt, faultLine}
-use Rattle.definition.specs.Edges.{Case, scoring, fiveSites, inFive, besideFixed}
+use Rattle.definition.specs.Edges.{Case, scoring, fiveSites, inFive, besideFixed, twoEnds}
 use Rattle.definition.specs.EdgesComputed.{opened, AllComputed, _&_}
 
 -- ---- whole results of Score
@@ -65,8 +65,7 @@ worked =
     -- exchanged in row 1 with R 0: rule 6
     ∷ scoring ("J,2,30,7,0,1,1,1,1\n" ++ rowOneCells) "0,0,0\n7,0,0\n5,0,0\n" (naming 6 2)
     -- one site after the last cell of row 0, which is cell 3, and before the first of row 1: rule 8, cell 2
-    ∷ scoring ("J,2,10,7,1,1,1,1,1\nC,0,0,0,1,2,1,1,1,1\n"
-    ++ "C,1,1,0,1,2,1,1,1,1\nC,0,7,0,1,2,1,1,1,1\n") "0,0,0\n1,0,0\n7,0,0\n" (naming 8 2)
+    ∷ scoring twoEnds "0,0,0\n1,0,0\n7,0,0\n" (naming 8 2)
     -- one site on either side of a row's only cell
     ∷ scoring "J,1,4,7,1,1,1,1,1\nC,0,1,0,1,2,1,1,1,1\n" "1,0,0\n" (naming 8 1)
     -- the last line has no line feed

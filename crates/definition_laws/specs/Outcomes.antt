@@ -1,4 +1,5 @@
--- What Read, Score and Place give, case by case: the first that refuses, or the answer. Theorems, nothing to believe.
+-- What Read, Score and Place give, case by case: the first that refuses, or the answer; and what any operation gives
+-- that refuses as Score does. Theorems, nothing to believe.
 use Prim.Native.Nat.{ℕ}
 use mathlib.Core.Path.{_≡_, refl, ap, _∙_}
 use mathlib.Core.List.{List, [], _∷_}
@@ -12,7 +13,7 @@ use Rattle.definition.specs.Job.{Job, Reading, refused, accepted, readJob}
 use Rattle.definition.specs.Placement.{Placement, Poses, fault, poses, readPlacement}
 use Rattle.definition.specs.Outcome.{Outcome, Refusal, noLine, firstOf, refusedBy, answered, outcomeOf}
 use Rattle.definition.specs.Outcome.{readFieldCount, readOutcome, read}
-use Rattle.definition.specs.Outcome.{scoreFieldCount, posesRefusal, placementIn, scoreAnswer, scoreOutcome, score}
+use Rattle.definition.specs.Outcome.{scoreFieldCount, posesRefusal, placementIn, asScore, scoreAnswer, score}
 use Rattle.definition.specs.Outcome.{placeFieldCount, placeAnswer, bufferRefusal, placeOutcome}
 
 -- ---- any list of refusals
@@ -32,6 +33,35 @@ pub none-refuses : (n : ℕ) (answer : Outcome) → outcomeOf n [] answer ≡ an
 unfolding firstOf outcomeOf
 none-refuses n answer = refl
 
+-- ---- an operation that refuses as Score does
+
+module _ (n : ℕ) (more : Job → Placement → List Refusal) (answer : Job → Placement → Outcome) where
+  pub job-refuses : (job : Text) {number line : ℕ} → readJob job ≡ refused number line → (number ≡ 0 → ⊥)
+      → (placement : Text)
+      → asScore n more answer (readJob job) placement ≡ refusedBy n (record { number = number; line = line })
+  job-refuses job {number} {line} e d placement =
+      ap (λ (x : Reading). asScore n more answer x placement) e
+      ∙ first-refuses n (record { number = number; line = line }) _ _ d
+
+  -- by what the placement text of an accepted job is read as
+  module _ (job : Text) {j : Job} (e : readJob job ≡ accepted j) (placement : Text) where
+    by-poses : {ps : Poses} → readPlacement (length (j .cells)) placement ≡ ps
+        → asScore n more answer (readJob job) placement
+        ≡ outcomeOf n (posesRefusal ps ∷ more j (placementIn ps)) (answer j (placementIn ps))
+    by-poses p =
+        ap (λ (x : Reading). asScore n more answer x placement) e
+        ∙ first-passes n (noLine 0) _ _ refl
+        ∙ ap (λ (x : Poses). outcomeOf n (posesRefusal x ∷ more j (placementIn x)) (answer j (placementIn x))) p
+
+    pub poses-refuse : {line : ℕ} → readPlacement (length (j .cells)) placement ≡ fault line
+        → asScore n more answer (readJob job) placement ≡ refusedBy n (record { number = 5; line = line })
+    poses-refuse {line} p =
+        by-poses p ∙ first-refuses n (record { number = 5; line = line }) _ _ (λ z. omega arith)
+
+    pub poses-pass : {P : Placement} → readPlacement (length (j .cells)) placement ≡ poses P
+        → asScore n more answer (readJob job) placement ≡ outcomeOf n (more j P) (answer j P)
+    poses-pass p = by-poses p ∙ first-passes n (noLine 0) _ _ refl
+
 -- ---- a job text that is refused
 
 module _ (job : Text) {number line : ℕ} (e : readJob job ≡ refused number line) (d : number ≡ 0 → ⊥) where
@@ -44,8 +74,7 @@ module _ (job : Text) {number line : ℕ} (e : readJob job ≡ refused number li
 
   pub score-refused : (placement : Text) → score job placement ≡ refusedBy scoreFieldCount r
   unfolding score
-  score-refused placement =
-      ap (λ (x : Reading). scoreOutcome x placement) e ∙ first-refuses scoreFieldCount r _ _ d
+  score-refused placement = job-refuses scoreFieldCount (λ j P. []) scoreAnswer job e d placement
 
   pub place-refused : (words room : ℕ) (a : Option Placement)
       → placeOutcome (readJob job) words room a ≡ refusedBy placeFieldCount r
@@ -61,24 +90,16 @@ module _ (job : Text) {j : Job} (e : readJob job ≡ accepted j) where
   read-accepted =
       ap readOutcome e ∙ first-passes readFieldCount (noLine 0) [] _ refl ∙ none-refuses readFieldCount _
 
-  -- Score, by what the placement text is read as
-  score-by : (placement : Text) {ps : Poses} → readPlacement (length (j .cells)) placement ≡ ps
-      → score job placement ≡ outcomeOf scoreFieldCount (posesRefusal ps ∷ []) (scoreAnswer j (placementIn ps))
-  unfolding score
-  score-by placement p =
-      ap (λ (x : Reading). scoreOutcome x placement) e ∙ first-passes scoreFieldCount (noLine 0) _ _ refl
-      ∙ ap (λ (x : Poses). outcomeOf scoreFieldCount (posesRefusal x ∷ []) (scoreAnswer j (placementIn x))) p
-
   pub score-fault : (placement : Text) {line : ℕ} → readPlacement (length (j .cells)) placement ≡ fault line
       → score job placement ≡ refusedBy scoreFieldCount (record { number = 5; line = line })
-  score-fault placement {line} p =
-      score-by placement p
-      ∙ first-refuses scoreFieldCount (record { number = 5; line = line }) [] _ (λ z. omega arith)
+  unfolding score
+  score-fault placement p = poses-refuse scoreFieldCount (λ j P. []) scoreAnswer job e placement p
 
   pub score-accepted : (placement : Text) {P : Placement} → readPlacement (length (j .cells)) placement ≡ poses P
       → score job placement ≡ scoreAnswer j P
+  unfolding score
   score-accepted placement p =
-      score-by placement p ∙ first-passes scoreFieldCount (noLine 0) [] _ refl ∙ none-refuses scoreFieldCount _
+      poses-pass scoreFieldCount (λ j P. []) scoreAnswer job e placement p ∙ none-refuses scoreFieldCount _
 
   -- Place, by its buffers
   module _ (words room : ℕ) (a : Option Placement) where

@@ -5,8 +5,8 @@ use mathlib.Core.Bool.{false≢true}
 use mathlib.Core.Logic.{_⊎_, inl, inr}
 use native.Mathlib.Omega.{arith}
 use lib.ListN.{length}
-use Rattle.definition.specs.Outcome.{Outcome, noLine, refusedBy, Buffers, Met, over}
-use Rattle.definition.specs.Load.{loadRefusal, loadFieldCount, loadOf, load, LoadedOf}
+use Rattle.definition.specs.Outcome.{Outcome, noLine, refusedBy, textFieldCount, Buffers, Met, over}
+use Rattle.definition.specs.Load.{loadRefusal, loadOf, load, LoadedOf}
 use Rattle.definition.specs.Demands.{loadShape, Demand1}
 use Rattle.load_laws.specs.Accepted.{load-accepted, load-short}
 use Rattle.load_laws.specs.Outcomes.{load-tried, load-refused, load-answered, load-number}
@@ -16,11 +16,11 @@ load-keeps : (seed cells room : ℕ) → Fair loadShape room (load seed cells ro
 load-keeps seed cells room = go (load-tried cells room .either)
   where
     refuses : (n : ℕ) → loadRefusal cells room ≡ n → (n ≡ 0 → ⊥)
-        → Fair loadShape room (refusedBy loadFieldCount (noLine n)) → Fair loadShape room (load seed cells room)
+        → Fair loadShape room (refusedBy textFieldCount (noLine n)) → Fair loadShape room (load seed cells room)
     refuses n e d f =
         subst (Fair loadShape room)
         (sym (load-refused seed cells room (λ z. d (sym e ∙ z))
-        ∙ ap (λ (k : ℕ). refusedBy loadFieldCount (noLine k)) e)) f
+        ∙ ap (λ (k : ℕ). refusedBy textFieldCount (noLine k)) e)) f
 
     go : (loadRefusal cells room ≡ 0) ⊎ (loadRefusal cells room ≡ 9) ⊎ (loadRefusal cells room ≡ 10)
         → Fair loadShape room (load seed cells room)

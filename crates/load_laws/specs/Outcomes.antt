@@ -8,8 +8,8 @@ use native.Mathlib.Omega.{arith}
 use lib.Dec.{leb}
 use borrow.Author.Tests.{leb-true, le-leb, lt-leb}
 use Rattle.definition.specs.Job.{maxCells, firstFailing}
-use Rattle.definition.specs.Outcome.{Outcome, noLine, refusedBy}
-use Rattle.definition.specs.Load.{loadRoom, loadRefusal, loadFieldCount, loadAnswer, loadOf, load}
+use Rattle.definition.specs.Outcome.{Outcome, noLine, refusedBy, textFieldCount, textAnswer}
+use Rattle.definition.specs.Load.{loadRoom, loadRefusal, loadOf, load}
 use Rattle.definition_laws.specs.Outcomes.{first-refuses, first-passes, none-refuses}
 
 -- ---- the number, by the count and by the output
@@ -57,14 +57,14 @@ load-tried cells room = go (leb cells maxCells) (leb loadRoom room) (leb-true ce
 
 module _ (seed cells room : ℕ) where
   pub load-refused : (loadRefusal cells room ≡ 0 → ⊥)
-      → load seed cells room ≡ refusedBy loadFieldCount (noLine (loadRefusal cells room))
+      → load seed cells room ≡ refusedBy textFieldCount (noLine (loadRefusal cells room))
   unfolding load
-  load-refused d = first-refuses loadFieldCount (noLine (loadRefusal cells room)) [] _ d
+  load-refused d = first-refuses textFieldCount (noLine (loadRefusal cells room)) [] _ d
 
-  pub load-answered : loadRefusal cells room ≡ 0 → load seed cells room ≡ loadAnswer (loadOf seed cells .text)
+  pub load-answered : loadRefusal cells room ≡ 0 → load seed cells room ≡ textAnswer (loadOf seed cells .text)
   unfolding load
   load-answered z =
-      first-passes loadFieldCount (noLine (loadRefusal cells room)) [] _ z ∙ none-refuses loadFieldCount _
+      first-passes textFieldCount (noLine (loadRefusal cells room)) [] _ z ∙ none-refuses textFieldCount _
 
   -- its number is the refusal's, which is 0 if nothing refuses
   pub load-number : load seed cells room .number ≡ loadRefusal cells room
