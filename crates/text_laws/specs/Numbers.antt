@@ -205,6 +205,9 @@ digits-long (suc k) n g h = stands k n h .few
 pub four-long : (n : ℕ) → n ≤ 9999 → length (digits n) ≤ 4
 four-long n h = digits-long 4 n (omega arith) (omega arith)
 
+pub digits-some : (n : ℕ) → 1 ≤ length (digits n)
+digits-some n = stands n n (power-above n) .some
+
 pub digits-each : (n : ℕ) → all isDigit (digits n) ≡ true
 digits-each n = stands n n (power-above n) .each
 

@@ -1,0 +1,4 @@
+pub mod Breakers
+pub mod Lengths
+pub mod Sentences
+pub mod Outcomes
