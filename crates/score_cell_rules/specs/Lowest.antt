@@ -2,7 +2,7 @@
 use Prim.Native.Nat.{ℕ, zero, suc, _+_, _≤_, _<_}
 use mathlib.Core.Path.{_≡_, refl, sym, ap, ap₂, _∙_}
 use mathlib.Core.Bool.{Bool, true, false, _||_, cond, or-true}
-use mathlib.Core.List.{List, [], _∷_}
+use mathlib.Core.List.{_∷_}
 use native.Mathlib.Omega.{arith}
 use native.Mathlib.Decide.{ℕ-discrete}
 use Rattle.definition.specs.Lists.{from, any, keep}
@@ -81,18 +81,12 @@ module _ (f : ℕ → Bool) (i k n m : ℕ) (e : k ≡ suc i) (q : n ≡ suc m) 
 
 -- ---- all cells that break a rule
 
--- the first of a list of cells, counted from 1; 0 if there is none
-abbrev pub first : List ℕ → ℕ
-first [] = 0
-first (k ∷ l) = suc k
-
--- the lowest is the first of them
-pub lowest-first : (f : ℕ → Bool) (l : List ℕ) → lowest f l ≡ first (keep f l)
-unfolding lowest
-lowest-first f [] = refl
-lowest-first f (k ∷ l) = go (f k) (lowest-first f l)
-  where
-    go : (t : Bool) → lowest f l ≡ first (keep f l)
-        → cond t (suc k) (lowest f l) ≡ first (cond t (k ∷ keep f l) (keep f l))
-    go true r = refl
-    go false r = r
+-- two tests that agree on the cells from a on keep the same cells
+pub keep-same : (f g : ℕ → Bool) (a n : ℕ) → ((k : ℕ) → a ≤ k → k < a + n → f k ≡ g k)
+    → keep f (from a n) ≡ keep g (from a n)
+keep-same f g a zero h = refl
+keep-same f g a (suc n) h =
+    ap₂
+    (λ t l. cond t (a ∷ l) l)
+    (h a (omega arith) (omega arith))
+    (keep-same f g (suc a) n (λ k b c. h k (omega arith) (omega arith)))

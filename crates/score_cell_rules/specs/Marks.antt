@@ -148,7 +148,7 @@ module _ {f : ℕ → Bool} {n : ℕ} {m m′ : List ℕ} {i : ℕ} (k : ℕ) (q
 pub marking-all : {f : ℕ → Bool} {n : ℕ} {m m′ : List ℕ} {k : ℕ} → k ≤ 0 → Marking f n m m′ k → Added n f m m′
 marking-all h p = record { long = p .long; each = λ i b. p .tried i (omega arith) b }
 
--- ---- a list of cells: one more behind the first n
-pub taken-more : (l : List ℕ) (n m k : ℕ) (t : List ℕ) → m ≡ suc n → n < length l
-    → take n l ++ (k ∷ t) ≡ take m (set l n k) ++ t
-taken-more l n m k t e h = rw (e, take-suc-set l n k h, append-assoc)
+-- ---- a list of cells: one more, which is x, behind the first n
+pub taken-more : (l : List ℕ) (n m x k : ℕ) (t : List ℕ) → m ≡ suc n → x ≡ k → n < length l
+    → take n l ++ (k ∷ t) ≡ take m (set l n x) ++ t
+taken-more l n m x k t e f h = rw (e, f, take-suc-set l n k h, append-assoc)

@@ -1,7 +1,8 @@
 // Marks of the cells that break a rule, one word to a cell: made by rules 1 to 4 and 7, and read.
 ghost use mathlib.Core.Path.{_≡_};
 ghost use mathlib.Core.Bool.{true};
-ghost use Prim.Native.Nat.{max};
+ghost use mathlib.Core.List.{map};
+ghost use Prim.Native.Nat.{suc, max};
 ghost use Rattle.definition.specs.Lists.{from, keep};
 ghost use Rattle.definition.specs.Rules.{lowest};
 ghost use Rattle.job.specs.Value.{offerIn, poseOf, jobOf, placementOf};
@@ -259,10 +260,10 @@ pub fn lowest_marked(marks: &[u32], count: usize) -> u32
     cell
 }
 
-// The marked cells, counted from 0, are written to the start of `list` in rising order; the answer is how many.
+// The marked cells, counted from 1, are written to the start of `list` in rising order; the answer is how many.
 pub fn list_marked(marks: &[u32], count: usize, list: &mut [u32]) -> usize
     requires { ⌜ Arrays count (now marks) (now list) ⌝ }
-    ensures { λ r. ⌜ Listed (keep (markedIn (now (marks .entry))) (from 0 count)) r (now (list .exit)) ⌝ }
+    ensures { λ r. ⌜ Listed (map suc (keep (markedIn (now (marks .entry))) (from 0 count))) r (now (list .exit)) ⌝ }
 {
     let mut n: usize = 0;
     let mut k: usize = 0;
@@ -270,7 +271,7 @@ pub fn list_marked(marks: &[u32], count: usize, list: &mut [u32]) -> usize
         let cell = k;
         k += 1;
         if marks[cell] == 1 {
-            list[n] = cell as u32;
+            list[n] = k as u32;
             n += 1;
         }
     }

@@ -8,7 +8,7 @@ use Rattle.definition.specs.Lists.{from}
 use Rattle.definition.specs.Job as paper
 use Rattle.definition.specs.Placement as text
 use Rattle.definition.specs.Rules.{cellsOf, rules, ruleOf, lowest, firstBroken, verdict}
-use Rattle.score_cell_rules.specs.Lowest.{lowest-same, lowest-none, lowest-zero, lowest-first}
+use Rattle.score_cell_rules.specs.Lowest.{lowest-same, lowest-zero}
 use Rattle.score_cell_rules.specs.Marks.{markedIn, Added, Unmarked, unmarked-none, unmarked-still, marked-is}
 use Rattle.score_verdict.specs.declared.Verdict.{Verdict}
 use Rattle.score_verdict.specs.Rules.{rules-from}
@@ -48,7 +48,6 @@ module _ {j : paper.Job} {P : text.Placement} {n : ℕ} (count : length (j .cell
       judged = from-here _
           (broken-here rule (ruleOf j P rule) (drop rule (rules j P)) (cellsOf j) cell of-all d);
       marked = marked-is (h .unmarked) a;
-      foremost = e ∙ lowest-first (markedIn m′) (from 0 n);
     }
 
     pub held-next : (next : ℕ) → next ≡ suc rule → cell ≡ 0 → Held j P n next m′
@@ -71,9 +70,6 @@ module _ {j : paper.Job} {P : text.Placement} {n : ℕ} (count : length (j .cell
         (subst (λ fs. Judged (firstBroken rule fs (cellsOf j)) (record { rule = 0; cell = 0 })) (sym ended)
         (all-hold rule (cellsOf j)));
     marked = unmarked-none (h .unmarked);
-    foremost =
-        sym (lowest-none (markedIn m) 0 n (λ k _ l. unmarked-none (h .unmarked) k (omega arith)))
-        ∙ lowest-first (markedIn m) (from 0 n);
   }
     where
       ended : drop (rule - 1) (rules j P) ≡ []

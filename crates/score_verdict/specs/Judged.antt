@@ -4,12 +4,10 @@ use mathlib.Core.Path.{_≡_, refl, sym, _∙_}
 use mathlib.Core.Bool.{Bool}
 use mathlib.Core.List.{List, [], _∷_}
 use native.Mathlib.Omega.{arith}
-use Rattle.definition.specs.Lists.{from, keep}
 use Rattle.definition.specs.Job as paper
 use Rattle.definition.specs.Placement as text
 use Rattle.definition.specs.Rules as definition
 use Rattle.definition.specs.Rules.{ruleOf, lowest, firstBroken, verdict}
-use Rattle.score_cell_rules.specs.Lowest.{first}
 use Rattle.score_cell_rules.specs.Marks.{markedIn}
 use Rattle.score_verdict.specs.declared.Verdict.{Verdict}
 
@@ -17,11 +15,10 @@ pub record Judged (v : definition.Verdict) (r : Verdict) : Type 0 where
   pub rule : r .rule ≡ v .rule
   pub cell : r .cell ≡ v .cell
 
--- the marks of n cells are those of the rule that is told, and its cell is the first of them
+-- the marks of n cells are those of the rule that is told
 pub record VerdictMarked (j : paper.Job) (P : text.Placement) (n : ℕ) (r : Verdict) (marks : List ℕ) : Type 0 where
   pub judged : Judged (verdict j P) r
   pub marked : (k : ℕ) → k < n → markedIn marks k ≡ ruleOf j P (r .rule) k
-  pub foremost : r .cell ≡ first (keep (markedIn marks) (from 0 n))
 
 -- ---- the first of some rules is broken by a cell, or holds
 

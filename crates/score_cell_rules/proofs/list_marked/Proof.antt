@@ -1,7 +1,7 @@
 -- Invariant: the marked cells below k are listed, and those from k on follow.
-use Prim.Native.Nat.{ℕ, _+_, _-_, _≤_, _<_}
+use Prim.Native.Nat.{ℕ, suc, _+_, _-_, _≤_, _<_}
 use mathlib.Core.Path.{_≡_, sym, ap, _∙_}
-use mathlib.Core.List.{List, _++_, append-nil}
+use mathlib.Core.List.{List, _++_, map, append-nil}
 use native.Mathlib.Numerals.{add-one}
 use native.Mathlib.Nat.{sub-zero}
 use lib.ListN.{length, take, length-set}
@@ -16,7 +16,7 @@ record Listing (marks : List ℕ) (count : ℕ) (list : List ℕ) (n k : ℕ) : 
   below : k ≤ count
   few : n ≤ k
   long : length list ≡ 64
-  entries : keep (markedIn marks) (from 0 count) ≡ take n list ++ keep (markedIn marks) (from k (count - k))
+  entries : map suc (keep (markedIn marks) (from 0 count)) ≡ take n list ++ map suc (keep (markedIn marks) (from k (count - k)))
 
 abbrev Inv-loop : tie.InvT-loop
 Inv-loop marks count list₀ n₀ k₀ list n k = Listing marks count list n k
@@ -29,7 +29,7 @@ loop-holds c = record {
   below = omega arith;
   few = omega arith;
   long = c .pre .right;
-  entries = ap (λ x. keep (markedIn (c .args .marks .now)) (from 0 x)) (sym (sub-zero (c .args .count)));
+  entries = ap (λ x. map suc (keep (markedIn (c .args .marks .now)) (from 0 x))) (sym (sub-zero (c .args .count)));
 }
 
 add-k : tie.Need-add-k Inv-loop μ-loop
@@ -72,7 +72,10 @@ loop-again c =
       below = omega arith;
       few = omega arith;
       long = simp length-set (i .long);
-      entries = i .entries ∙ ap (λ t. take n (p .loop .list) ++ t) e ∙ taken-more (p .loop .list) n (n + 1) k _ (add-one n) (omega (arith, i .long));
+      entries =
+          i .entries
+          ∙ ap (λ t. take n (p .loop .list) ++ map suc t) e
+          ∙ taken-more (p .loop .list) n (n + 1) (k + 1) (suc k) _ (add-one n) (add-one k) (omega (arith, i .long));
     }
 
 loop-less-2 : tie.Need-loop-less-2 Inv-loop μ-loop
@@ -94,7 +97,7 @@ loop-again-2 c =
       below = omega arith;
       few = omega arith;
       long = i .long;
-      entries = i .entries ∙ ap (λ t. take n (p .loop .list) ++ t) e;
+      entries = i .entries ∙ ap (λ t. take n (p .loop .list) ++ map suc t) e;
     }
 
 same-length : tie.Need-same-length Inv-loop μ-loop
