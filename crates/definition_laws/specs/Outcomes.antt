@@ -2,12 +2,14 @@
 -- that refuses as Score does. Theorems, nothing to believe.
 use Prim.Native.Nat.{ℕ}
 use mathlib.Core.Path.{_≡_, refl, ap, _∙_}
-use mathlib.Core.List.{List, [], _∷_}
+use mathlib.Core.Bool.{Bool, true, false, cond}
+use mathlib.Core.List.{List, [], _∷_, _++_}
 use mathlib.Core.Option.{Option}
 use native.Mathlib.Omega.{arith}
 use lib.ListN.{length}
 use lib.IntN.{pos}
-use borrow.Author.Tests.{eq-eqb, ne-eqb}
+use borrow.Author.Tests.{eq-eqb, ne-eqb, eqb-true, eqb-false}
+use lib.Dec.{eqb}
 use Rattle.definition.specs.Texts.{Text}
 use Rattle.definition.specs.Job.{Job, Reading, refused, accepted, readJob}
 use Rattle.definition.specs.Placement.{Placement, Poses, fault, poses, readPlacement}
@@ -32,6 +34,21 @@ module _ (n : ℕ) (r : Refusal) (rs : List Refusal) (answer : Outcome) where
 pub none-refuses : (n : ℕ) (answer : Outcome) → outcomeOf n [] answer ≡ answer
 unfolding firstOf outcomeOf
 none-refuses n answer = refl
+
+-- a list that refuses decides, whatever follows it
+pub list-refuses : (n : ℕ) (rs more : List Refusal) (answer : Outcome) → (firstOf rs .number ≡ 0 → ⊥)
+    → outcomeOf n (rs ++ more) answer ≡ refusedBy n (firstOf rs)
+unfolding firstOf
+list-refuses n [] more answer d = absurd (d refl)
+list-refuses n (r ∷ rs) more answer d =
+    go (eqb (r .number) 0) (eqb-true (r .number) 0) (eqb-false (r .number) 0) (list-refuses n rs more answer) d
+  where
+    go : (t : Bool) → (t ≡ true → r .number ≡ 0) → (t ≡ false → r .number ≡ 0 → ⊥)
+        → ((firstOf rs .number ≡ 0 → ⊥) → outcomeOf n (rs ++ more) answer ≡ refusedBy n (firstOf rs))
+        → (cond t (firstOf rs) r .number ≡ 0 → ⊥)
+        → outcomeOf n (r ∷ (rs ++ more)) answer ≡ refusedBy n (cond t (firstOf rs) r)
+    go true e f h d = first-passes n r (rs ++ more) answer (e refl) ∙ h d
+    go false e f h d = first-refuses n r (rs ++ more) answer (f refl)
 
 -- ---- an operation that refuses as Score does
 

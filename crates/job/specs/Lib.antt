@@ -3,3 +3,4 @@ pub mod Parts
 pub mod Cells
 pub mod Layouts
 pub mod Accepted
+pub mod Ready

@@ -21,7 +21,7 @@ use Rattle.text_laws.specs.Room.{Narrow, legal-room, legal-narrow, at-each}
 use Rattle.job.specs.declared.Job.{Job}
 use Rattle.job.specs.declared.Placement.{Placement}
 use Rattle.job.specs.Value.{jobOf, placementOf}
-use Rattle.score_words.specs.Ready.{Ready}
+use Rattle.job.specs.Ready.{Ready}
 use Rattle.job.specs.Cells.{pose-there}
 use Rattle.op_place.specs.Accepted.{Answered, placementIn, Chosen}
 use Rattle.op_place.specs.Poses.{Numbered}

@@ -10,7 +10,7 @@ use Rattle.definition.specs.Outcome.{numbers, over}
 use Rattle.job.specs.declared.Job.{Job}
 use Rattle.job.specs.declared.Placement as value
 use Rattle.job.specs.Value.{jobOf}
-use Rattle.score_words.specs.Ready.{Ready}
+use Rattle.job.specs.Ready.{Ready}
 use Rattle.op_place.specs.Accepted.{placementIn}
 
 abbrev pub fieldsIn : paper.Job → Placement → ℕ → List ℤ

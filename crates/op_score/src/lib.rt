@@ -5,7 +5,7 @@ ghost use Rattle.job.specs.Value.{jobOf, placementOf};
 ghost use Rattle.job.specs.Accepted.{Accepted};
 ghost use Rattle.results.specs.Fields.{Listed};
 ghost use Rattle.results.specs.Refusals.{refusalOf, Signed};
-ghost use Rattle.score_words.specs.Ready.{Ready};
+ghost use Rattle.job.specs.Ready.{Ready};
 ghost use Rattle.op_score.specs.Scores.{Scores, ScoresOf};
 use job::Job;
 use job::Placement;

@@ -12,7 +12,7 @@ use Rattle.score_order.specs.Words.{siteIn, endIn, rowIn, Words, Room, Ordered}
 use Rattle.job.specs.declared.Job.{Job}
 use Rattle.job.specs.declared.Placement.{Placement}
 use Rattle.job.specs.Parts.{standsIn}
-use Rattle.score_words.specs.Ready.{Ready}
+use Rattle.job.specs.Ready.{Ready}
 
 -- rule 2: past the row's end
 unfoldable pub pastIn : List ℕ → ℕ → ℕ → Bool

@@ -13,7 +13,7 @@ use Rattle.job.specs.declared.Header.{Header}
 use Rattle.job.specs.declared.Job.{Job}
 use Rattle.job.specs.declared.Placement.{Placement}
 use Rattle.job.specs.Value.{jobOf, headerOf, placementOf}
-use Rattle.score_words.specs.Ready.{Ready}
+use Rattle.job.specs.Ready.{Ready}
 use Rattle.score_words.specs.Flat.{Flat}
 use Rattle.job.specs.Cells.{pose-there}
 use Rattle.score_drift.specs.Total.{Digits}

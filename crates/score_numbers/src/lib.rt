@@ -6,7 +6,7 @@ ghost use Rattle.definition.specs.Cost.{stepsIn, isMirrored};
 ghost use Rattle.results.specs.Fields.{More};
 ghost use Rattle.job.specs.Value.{jobOf, placementOf};
 ghost use Rattle.score_order.specs.Words.{siteIn, givenIn, WordsAt};
-ghost use Rattle.score_words.specs.Ready.{Ready};
+ghost use Rattle.job.specs.Ready.{Ready};
 ghost use Rattle.score_steps.specs.Heights.{RowSteps};
 ghost use Rattle.score_drift.specs.Total.{Digits};
 ghost use Rattle.score_numbers.specs.Sums.{sumFrom, countFrom, shiftIn, isChanged};

@@ -1,7 +1,7 @@
 // The reason of a placement: the first broken rule, and every cell that breaks it.
 ghost use Rattle.definition.specs.Reasons.{reasonOf};
 ghost use Rattle.job.specs.Value.{jobOf, placementOf};
-ghost use Rattle.score_words.specs.Ready.{Ready};
+ghost use Rattle.job.specs.Ready.{Ready};
 ghost use Rattle.score_reason.specs.Reasons.{ReasonIs};
 use job::Job;
 use job::Placement;

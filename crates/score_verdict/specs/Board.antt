@@ -12,7 +12,7 @@ use Rattle.definition.specs.Rules.{breaks1, breaks3, rules, ruleOf}
 use Rattle.job.specs.declared.Job.{Job}
 use Rattle.job.specs.declared.Placement.{Placement}
 use Rattle.score_order.specs.Words.{Ordered}
-use Rattle.score_words.specs.Ready.{Ready}
+use Rattle.job.specs.Ready.{Ready}
 use Rattle.score_words.specs.Flat.{Flat}
 use Rattle.score_cell_rules.specs.Tests.{pastIn, clashesIn, passesIn}
 use Rattle.score_cell_rules.specs.Marks.{markedIn, Added, Unmarked, added-none, added-below}

@@ -1,7 +1,7 @@
 // The verdict on a placement: the first broken rule and its lowest cell. Each rule marks the cells that break it.
 ghost use Rattle.definition.specs.Rules.{verdict};
 ghost use Rattle.job.specs.Value.{jobOf, placementOf};
-ghost use Rattle.score_words.specs.Ready.{Ready};
+ghost use Rattle.job.specs.Ready.{Ready};
 ghost use Rattle.score_verdict.specs.Judged.{Judged, VerdictMarked};
 ghost use Rattle.score_verdict.specs.Board.{Laid, LaidClear, ReadyClear, RuleMarked, RulesJudged};
 use job::Job;

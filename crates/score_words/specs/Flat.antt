@@ -6,6 +6,9 @@ use lib.ListN.{length, getD, set}
 use Rattle.definition.specs.Job as paper
 use Rattle.definition.specs.Placement as text
 use Rattle.definition.specs.Rules.{cellAt, siteAt, endAt}
+use Rattle.job.specs.declared.Job.{Job}
+use Rattle.job.specs.declared.Placement.{Placement}
+use Rattle.job.specs.Ready.{Ready}
 use Rattle.score_order.specs.Words.{siteIn, endIn, rowIn, givenIn}
 
 -- four words for cell k
@@ -30,3 +33,8 @@ pub record Flat (j : paper.Job) (P : text.Placement) (n : ℕ) (words : List ℕ
 pub record Blank (words : List ℕ) : Type 0 where
   pub long : length words ≡ 256
   pub zero : (i : ℕ) → getD words i 0 ≡ 0
+
+-- a job and a placement that may be scored, and what is lent for their words
+pub record ToFlatten (job : Job) (placement : Placement) (words : List ℕ) : Type 0 where
+  pub ready : Ready job placement
+  pub blank : Blank words

@@ -1,4 +1,3 @@
-pub mod Ready
 pub mod Flat
 pub mod FourWords
 pub mod Rows

@@ -4,7 +4,7 @@ ghost use Prim.Native.Nat.{_-_};
 ghost use Rattle.definition.specs.Rules.{apart};
 ghost use Rattle.job.specs.Value.{jobOf, placementOf};
 ghost use Rattle.score_order.specs.Words.{WordsAt};
-ghost use Rattle.score_words.specs.Ready.{ToFlatten};
+ghost use Rattle.score_words.specs.Flat.{ToFlatten};
 ghost use Rattle.score_words.specs.Flat.{four, Flat};
 use job::Job;
 use job::Placement;
