@@ -6,9 +6,8 @@ ghost use Rattle.definition.specs.Load.{load, loadRefusal};
 ghost use Rattle.definition.specs.Outcome.{lent, Met};
 use job::Job;
 use load_write::put_load;
-use results::Fields;
 use results::Refusal;
-use results::answer;
+use results::answer_one;
 use results::refuse;
 
 // What is asked of the output.
@@ -40,8 +39,6 @@ pub fn load_text(seed: u32, cells: u32, output: &mut [u8], results: &mut [i32]) 
         return number;
     }
     let length = put_load(output, seed, cells);
-    let fields = Fields::empty();
-    let fields = fields.push(length as i32);
-    answer(results, fields);
+    answer_one(results, length);
     0
 }

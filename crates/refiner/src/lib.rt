@@ -12,8 +12,7 @@ use op_fault::tell_fault;
 use op_load::load_text;
 use op_place::place_texts;
 use op_score::score_texts;
-use results::Fields;
-use results::answer;
+use results::answer_one;
 use results::put_results;
 use results::refuse;
 
@@ -34,9 +33,7 @@ pub extern "C" fn refiner_read(job: &[u8], results: &mut [i32]) -> u32
         return number;
     }
     let j = r.job;
-    let fields = Fields::empty();
-    let fields = fields.push(j.count as i32);
-    answer(results, fields);
+    answer_one(results, j.count);
     0
 }
 

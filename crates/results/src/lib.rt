@@ -2,7 +2,7 @@
 // it reaches. One writer for every operation.
 ghost use mathlib.Core.Path.{_≡_};
 ghost use mathlib.Core.List.{[], _∷_};
-ghost use Prim.Native.Nat.{_≤_, _<_};
+ghost use Prim.Native.Nat.{_^_, _≤_, _<_};
 ghost use lib.ListN.{replicate};
 ghost use lib.IntN.{pos};
 ghost use Rattle.definition.specs.Outcome.{over};
@@ -108,4 +108,14 @@ pub fn answer(results: &mut [i32], fields: Fields)
     ensures { λ _. ⌜ now (results .exit) ≡ over (pos 0 ∷ pos 0 ∷ listOf fields) (now (results .entry)) ⌝ }
 {
     put_results(results, Refusal::none(), fields);
+}
+
+// An answer of one number.
+pub fn answer_one(results: &mut [i32], value: usize)
+    requires { ⌜ value < 2 ^ 31 ⌝ }
+    ensures { λ _. ⌜ now (results .exit) ≡ over (pos 0 ∷ pos 0 ∷ pos value ∷ []) (now (results .entry)) ⌝ }
+{
+    let fields = Fields::empty();
+    let fields = fields.push(value as i32);
+    answer(results, fields);
 }
