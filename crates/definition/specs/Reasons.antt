@@ -9,7 +9,7 @@ use lib.Dec.{leb, eqb}
 use lib.IntN.{pos}
 use Rattle.definition.specs.Lists.{keep}
 use Rattle.definition.specs.Texts.{Text, bytes, onto, isDigit, value, digits, parted}
-use Rattle.definition.specs.Job.{Job, Reading, accepted, readJob, maxCells, firstFailing}
+use Rattle.definition.specs.Job.{Job, accepted, readJob, maxCells, firstFailing}
 use Rattle.definition.specs.Placement.{Placement, poses, readPlacement}
 use Rattle.definition.specs.Rules.{cellsOf, ruleOf, verdict}
 use Rattle.definition.specs.Outcome.{Outcome, Refusal, noLine, textFieldCount, textAnswer, asScore, score}
@@ -115,13 +115,16 @@ reasonsRoom = 1024
 unfoldable pub roomRefusal : ℕ → ℕ
 roomRefusal room = firstFailing ((11, leb reasonsRoom room) ∷ [])
 
-abbrev pub reasonsOutcome : ℕ → Reading → Text → Outcome
-reasonsOutcome room =
-    asScore textFieldCount (λ j P. noLine (roomRefusal room) ∷ []) (λ j P. textAnswer (sentence (reasonOf j P)))
+abbrev pub reasonsRefusals : ℕ → Job → Placement → List Refusal
+reasonsRefusals room j P = noLine (roomRefusal room) ∷ []
+
+abbrev pub reasonsAnswer : Job → Placement → Outcome
+reasonsAnswer j P = textAnswer (sentence (reasonOf j P))
 
 -- the reasons of a job text and a placement text, for an output of so many bytes
 unfoldable pub reasons : Text → Text → ℕ → Outcome
-reasons job placement room = reasonsOutcome room (readJob job) placement
+reasons job placement room =
+    asScore textFieldCount (reasonsRefusals room) reasonsAnswer (readJob job) placement
 
 -- ---- what can be relied on
 

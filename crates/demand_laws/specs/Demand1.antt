@@ -15,14 +15,16 @@ use Rattle.definition.specs.Job.{Job, Reading, refused, accepted, readJob, firs
 use Rattle.definition.specs.Placement.{Placement, Poses, fault, poses, readPlacement}
 use Rattle.definition.specs.Rules.{Verdict, verdict}
 use Rattle.definition.specs.Moves.{Cheapest}
-use Rattle.definition.specs.Outcome.{Outcome, noLine, refusedBy, read, score, scoreFields, numbers, numberCount}
+use Rattle.definition.specs.Outcome.{Outcome, Refusal, noLine, refusedBy, outcomeOf, read, numbers, numberCount}
+use Rattle.definition.specs.Outcome.{asScore, scoreFieldCount, scoreFields, scoreAnswer, score}
 use Rattle.definition.specs.Outcome.{placeOutcome, placeAnswer, placeFieldCount, PlaceGives, bufferRefusal}
 use Rattle.definition.specs.Outcome.{storeNeeded, outputNeeded, Told, Buffers, Placed, over}
 use Rattle.definition.specs.FaultLine.{ToldFault, CopiedFault, Part, ofJob, ofPlacement, wordsOf, faultLine, shown}
 use Rattle.definition.specs.Demands.{isOneOf, isRefusal, Shape, readShape, scoreShape, faultShape, placeShape, Demand1}
 use Rattle.definition.specs.Demands.{alone, unsigned}
 use Rattle.definition_laws.specs.Sound.{Sound}
-use Rattle.definition_laws.specs.Outcomes.{read-refused, read-accepted, score-refused, score-fault, score-accepted}
+use Rattle.definition_laws.specs.Outcomes.{none-refuses, job-refuses, poses-refuse, poses-pass}
+use Rattle.definition_laws.specs.Outcomes.{read-refused, read-accepted}
 use Rattle.definition_laws.specs.Outcomes.{place-refused, place-buffers, place-accepted}
 use Rattle.job_laws.specs.Refused.{Refused, job-refused}
 use Rattle.job_laws.specs.Whole.{accepted-sound}
@@ -47,43 +49,44 @@ of-read T {n} r a b c d = go n (r .some) (r .few)
 refused-some : (job : Text) {n line : ℕ} → readJob job ≡ refused n line → n ≡ 0 → ⊥
 refused-some job {n} {line} e z = let s = job-refused job n line e .some in omega arith
 
--- an operation that refuses as Read does, at its line and before any search
+-- a refusal of the operation's own, at its line and before any search
+abbrev pub Known : Shape → ℕ → Type 0
+Known shape n =
+    (isOneOf (shape .answers ++ shape .refusals) n ≡ true) × (isOneOf (shape .lined) n ≡ true)
+    × (isOneOf (shape .searched) n ≡ false)
+
+-- an operation that refuses as Read does, and one that refuses as Score does
 pub record AsRead (shape : Shape) : Type 0 where
   pub led : shape .led ≡ true
-  pub known : (n line : ℕ) → Refused n line → isOneOf (shape .answers ++ shape .refusals) n ≡ true
-  pub lines : (n line : ℕ) → Refused n line → isOneOf (shape .lined) n ≡ true
-  pub before-search : (n line : ℕ) → Refused n line → isOneOf (shape .searched) n ≡ false
+  pub knows : (n line : ℕ) → Refused n line → Known shape n
+
+pub record AsScore (shape : Shape) : Type 0 where
+  pub reads : AsRead shape
+  pub fifth : Known shape 5
 
 read-fair : (shape : Shape) → AsRead shape → (room : ℕ) (job : Text) (n line : ℕ) → readJob job ≡ refused n line
     → Fair shape room (refusedBy (shape .fieldCount) (record { number = n; line = line }))
 read-fair shape s room job n line e =
     let r = job-refused job n line e in
-    refusal-fair shape room (record { number = n; line = line }) (s .led) (s .known n line r)
-    (s .lines n line r ∙ sym (lt-ltb 0 line (r .located))) (s .before-search n line r)
+    let k = s .knows n line r in
+    refusal-fair shape room (record { number = n; line = line }) (s .led) (k .0)
+    (k .1 ∙ sym (lt-ltb 0 line (r .located))) (k .2)
+
+pub as-read : (shape : Shape) → shape .led ≡ true
+    → Known shape 1 → Known shape 2 → Known shape 3 → Known shape 4 → AsRead shape
+as-read shape l a b c d = record { led = l; knows = λ n line r. of-read (Known shape) r a b c d }
 
 read-as-read : AsRead readShape
-read-as-read = record {
-  led = refl;
-  known = λ n line r. of-read (λ n. isOneOf (0 ∷ readShape .refusals) n ≡ true) r refl refl refl refl;
-  lines = λ n line r. of-read (λ n. isOneOf (readShape .lined) n ≡ true) r refl refl refl refl;
-  before-search = λ n line r. refl;
-}
+read-as-read = as-read readShape refl (refl, refl, refl) (refl, refl, refl) (refl, refl, refl) (refl, refl, refl)
 
-score-as-read : AsRead scoreShape
-score-as-read = record {
-  led = refl;
-  known = λ n line r. of-read (λ n. isOneOf (0 ∷ scoreShape .refusals) n ≡ true) r refl refl refl refl;
-  lines = λ n line r. of-read (λ n. isOneOf (scoreShape .lined) n ≡ true) r refl refl refl refl;
-  before-search = λ n line r. refl;
+score-as-score : AsScore scoreShape
+score-as-score = record {
+  reads = as-read scoreShape refl (refl, refl, refl) (refl, refl, refl) (refl, refl, refl) (refl, refl, refl);
+  fifth = (refl, refl, refl);
 }
 
 place-as-read : AsRead placeShape
-place-as-read = record {
-  led = refl;
-  known = λ n line r. of-read (λ n. isOneOf (0 ∷ placeShape .refusals) n ≡ true) r refl refl refl refl;
-  lines = λ n line r. of-read (λ n. isOneOf (placeShape .lined) n ≡ true) r refl refl refl refl;
-  before-search = λ n line r. of-read (λ n. isOneOf (placeShape .searched) n ≡ false) r refl refl refl refl;
-}
+place-as-read = as-read placeShape refl (refl, refl, refl) (refl, refl, refl) (refl, refl, refl) (refl, refl, refl)
 
 -- ---- Read and Score
 
@@ -114,17 +117,38 @@ fields-eight j P v = eight (eqb (v .rule) 0)
     eight true = refl
     eight false = refl
 
-score-keeps : (job placement : Text) → Fair scoreShape 0 (score job placement)
-score-keeps job placement = go (readJob job) refl
+-- what such an operation gives keeps the demand, if it does so once both texts are read
+pub as-score-fair : (shape : Shape) → AsScore shape → (room : ℕ) (more : Job → Placement → List Refusal)
+    → (answer : Job → Placement → Outcome) (job placement : Text)
+    → ((j : Job) → readJob job ≡ accepted j → (P : Placement) → readPlacement (length (j .cells)) placement ≡ poses P
+    → Fair shape room (outcomeOf (shape .fieldCount) (more j P) (answer j P)))
+    → Fair shape room (asScore (shape .fieldCount) more answer (readJob job) placement)
+as-score-fair shape s room more answer job placement after = go (readJob job) refl
   where
+    n : ℕ
+    n = shape .fieldCount
+
     posed : (j : Job) → readJob job ≡ accepted j → (p : Poses) → readPlacement (length (j .cells)) placement ≡ p
-        → Fair scoreShape 0 (score job placement)
+        → Fair shape room (asScore n more answer (readJob job) placement)
     posed j r (fault line) e =
         let w = fault-within (length (j .cells)) placement line e in
-        subst (Fair scoreShape 0) (sym (score-fault job r placement e))
-        (refusal-fair scoreShape 0 (record { number = 5; line = line }) refl refl
-        (sym (lt-ltb 0 line (omega (arith, w .0)))) refl)
-    posed j r (poses P) e = subst (Fair scoreShape 0) (sym (score-accepted job r placement e)) (record {
+        subst (Fair shape room) (sym (poses-refuse n more answer job r placement e))
+        (refusal-fair shape room (record { number = 5; line = line }) (s .reads .led) (s .fifth .0)
+        (s .fifth .1 ∙ sym (lt-ltb 0 line (omega (arith, w .0)))) (s .fifth .2))
+    posed j r (poses P) e =
+        subst (Fair shape room) (sym (poses-pass n more answer job r placement e)) (after j r P e)
+
+    go : (x : Reading) → readJob job ≡ x → Fair shape room (asScore n more answer (readJob job) placement)
+    go (refused number line) e =
+        subst (Fair shape room) (sym (job-refuses n more answer job e (refused-some job e) placement))
+        (read-fair shape (s .reads) room job number line e)
+    go (accepted j) e = posed j e (readPlacement (length (j .cells)) placement) refl
+
+score-keeps : (job placement : Text) → Fair scoreShape 0 (score job placement)
+unfolding score
+score-keeps job placement =
+    as-score-fair scoreShape score-as-score 0 (λ j P. []) scoreAnswer job placement
+    (λ j r P e. subst (Fair scoreShape 0) (sym (none-refuses scoreFieldCount (scoreAnswer j P))) (record {
       led = refl;
       numbered = refl;
       located = refl;
@@ -133,13 +157,7 @@ score-keeps job placement = go (readJob job) refl
       no-fields = λ z. absurd (false≢true z);
       no-text = λ z. refl;
       searches = refl;
-    })
-
-    go : (r : Reading) → readJob job ≡ r → Fair scoreShape 0 (score job placement)
-    go (refused n line) e =
-        subst (Fair scoreShape 0) (sym (score-refused job e (refused-some job e) placement))
-        (read-fair scoreShape score-as-read 0 job n line e)
-    go (accepted j) e = posed j e (readPlacement (length (j .cells)) placement) refl
+    }))
 
 told-demand1 : {shape : Shape} {o : Outcome} {returned : ℕ} {results results′ : List ℤ} → shape .searched ≡ []
     → Fair shape 0 o → Told o returned results results′ → Demand1 shape returned (alone results) (alone results′)

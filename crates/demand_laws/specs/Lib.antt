@@ -4,3 +4,4 @@ pub mod Demand2
 pub mod Gaps
 pub mod Fixed
 pub mod Loads
+pub mod Reasons

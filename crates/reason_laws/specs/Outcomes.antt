@@ -1,16 +1,15 @@
 -- What a call gives, case by case: 1 to 5 as Score, 11, or the sentence.
 use Prim.Native.Nat.{ℕ, _≤_, _<_}
 use mathlib.Core.Path.{_≡_, ap, _∙_}
-use mathlib.Core.List.{List, [], _∷_}
+use mathlib.Core.List.{[]}
 use native.Mathlib.Omega.{arith}
 use lib.ListN.{length}
-use lib.Dec.{leb}
 use borrow.Author.Tests.{le-leb, lt-leb}
 use Rattle.definition.specs.Texts.{Text}
 use Rattle.definition.specs.Job.{Job, refused, accepted, readJob, firstFailing}
 use Rattle.definition.specs.Placement.{Placement, fault, poses, readPlacement}
-use Rattle.definition.specs.Outcome.{Outcome, Refusal, noLine, refusedBy, textFieldCount, textAnswer, outcomeOf}
-use Rattle.definition.specs.Reasons.{reasonOf, sentence, reasonsRoom, roomRefusal, reasons}
+use Rattle.definition.specs.Outcome.{noLine, refusedBy, textFieldCount, textAnswer, outcomeOf}
+use Rattle.definition.specs.Reasons.{reasonOf, sentence, reasonsRoom, roomRefusal, reasonsRefusals, reasonsAnswer, reasons}
 use Rattle.definition_laws.specs.Outcomes.{first-refuses, first-passes, none-refuses}
 use Rattle.definition_laws.specs.Outcomes.{job-refuses, poses-refuse, poses-pass}
 
@@ -27,27 +26,21 @@ room-enough room h = rw (le-leb reasonsRoom room h)
 -- ---- the outcome
 
 module _ (room : ℕ) (job placement : Text) where
-  abbrev more : Job → Placement → List Refusal
-  more j P = noLine (roomRefusal room) ∷ []
-
-  abbrev answer : Job → Placement → Outcome
-  answer j P = textAnswer (sentence (reasonOf j P))
-
   pub reasons-refused : {number line : ℕ} → readJob job ≡ refused number line → (number ≡ 0 → ⊥)
       → reasons job placement room ≡ refusedBy textFieldCount (record { number = number; line = line })
   unfolding reasons
-  reasons-refused e d = job-refuses textFieldCount more answer job e d placement
+  reasons-refused e d = job-refuses textFieldCount (reasonsRefusals room) reasonsAnswer job e d placement
 
   module _ {j : Job} (e : readJob job ≡ accepted j) where
     pub reasons-fault : {line : ℕ} → readPlacement (length (j .cells)) placement ≡ fault line
         → reasons job placement room ≡ refusedBy textFieldCount (record { number = 5; line = line })
     unfolding reasons
-    reasons-fault p = poses-refuse textFieldCount more answer job e placement p
+    reasons-fault p = poses-refuse textFieldCount (reasonsRefusals room) reasonsAnswer job e placement p
 
     module _ {P : Placement} (p : readPlacement (length (j .cells)) placement ≡ poses P) where
-      read : reasons job placement room ≡ outcomeOf textFieldCount (more j P) (answer j P)
+      read : reasons job placement room ≡ outcomeOf textFieldCount (reasonsRefusals room j P) (reasonsAnswer j P)
       unfolding reasons
-      read = poses-pass textFieldCount more answer job e placement p
+      read = poses-pass textFieldCount (reasonsRefusals room) reasonsAnswer job e placement p
 
       pub reasons-short : room < reasonsRoom → reasons job placement room ≡ refusedBy textFieldCount (noLine 11)
       reasons-short h =

@@ -3,7 +3,9 @@ ghost use mathlib.Core.List.{[]};
 ghost use lib.ListN.{length};
 ghost use Rattle.definition.specs.Outcome.{read, score, Told, lent, Met, Placed, Demand3Of};
 ghost use Rattle.definition.specs.Load.{load, LoadedOf};
-ghost use Rattle.definition.specs.Demands.{readShape, scoreShape, faultShape, placeShape, loadShape, Demand1};
+ghost use Rattle.definition.specs.Reasons.{reasons, ReasonedOf};
+ghost use Rattle.definition.specs.Demands.{readShape, scoreShape, faultShape, placeShape, loadShape, reasonsShape};
+ghost use Rattle.definition.specs.Demands.{Demand1};
 ghost use Rattle.definition.specs.Demands.{alone, unsigned};
 ghost use Rattle.definition.specs.FaultLine.{ToldFault, CopiedFault};
 use job_read::read_job;
@@ -11,6 +13,7 @@ use op_fault::copy_fault;
 use op_fault::tell_fault;
 use op_load::load_text;
 use op_place::place_texts;
+use op_reasons::reasons_texts;
 use op_score::score_texts;
 use results::answer_one;
 use results::put_results;
@@ -115,4 +118,27 @@ pub extern "C" fn refiner_load(seed: u32, cells: u32, output: &mut [u8], results
         (lent [] (now (output .exit)) (now (results .exit))) ⌝ }
 {
     load_text(seed, cells, output, results)
+}
+
+// Reasons in words: the sentence that names every cell that breaks the first broken rule goes to the output, number,
+// line and the text's length to the results, and the number is returned. From the sentence the rule and the cells can
+// be had back, and they are Score's.
+#[no_mangle]
+pub extern "C" fn refiner_reasons(
+    job: &[u8],
+    placement: &[u8],
+    output: &mut [u8],
+    results: &mut [i32],
+) -> u32
+    ensures { λ r. ⌜ Met (reasons (now (job .entry)) (now (placement .entry)) (length (now (output .entry)))) r
+        (lent [] (now (output .entry)) (now (results .entry)))
+        (lent [] (now (output .exit)) (now (results .exit))) ⌝ }
+    ensures { λ r. ⌜ Demand1 reasonsShape r
+        (lent [] (now (output .entry)) (now (results .entry)))
+        (lent [] (now (output .exit)) (now (results .exit))) ⌝ }
+    ensures { λ r. ⌜ ReasonedOf (now (job .entry)) (now (placement .entry)) r
+        (lent [] (now (output .entry)) (now (results .entry)))
+        (lent [] (now (output .exit)) (now (results .exit))) ⌝ }
+{
+    reasons_texts(job, placement, output, results)
 }

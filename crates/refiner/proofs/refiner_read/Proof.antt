@@ -1,10 +1,7 @@
 -- `refiner::refiner_read` meets its contract: a refusal's number and line, or 0, 0 and the cell count.
-use mathlib.Core.List.{List, [], _∷_, _++_}
+use mathlib.Core.List.{List, [], _∷_}
 use lib.ListN.{length}
 use lib.IntN.{ℤ, pos}
-use mir.Syntax.{w32}
-use mir.Val.{toZ}
-use mir.Facts.{toZ-pos}
 use mathlib.Core.Path.{_≡_, sym, ap, _∙_}
 use native.Mathlib.Omega.{arith}
 use Prim.Native.Nat.{ℕ}
@@ -51,57 +48,32 @@ returns c =
       array = p .refuse .ensures ∙ ap (λ (o : Outcome). over (resultsOf o) (a .results .now)) (sym e);
     })
 
-empty-requires : tie.Need-empty-requires
-empty-requires c κs = search needs
-
-cast-push : tie.Need-cast-push
-cast-push c =
-    let l = c .before .before .before in
-    record { sfits = omega (arith, l .before .before .read-job .ensures .accepted (l .if1 .left) .few) }
-
-push-requires : tie.Need-push-requires
-push-requires c κs = search needs
-
-answer-requires : tie.Need-answer-requires
-answer-requires c κs = search needs
+answer-one-requires : tie.Need-answer-one-requires
+answer-one-requires c κs =
+    let l = c .before .before in
+    omega (arith, l .before .before .read-job .ensures .accepted (l .if1 .left) .few)
 
 same-length-2 : tie.Need-same-length-2
 same-length-2 c = search needs
 
 returns-2 : tie.Need-returns-2
 returns-2 c =
-    let w = c .before in
-    let u = w .before .before in
-    let m = u .before .before in
-    let l = m .before .before in
+    let told = c .before in
+    let l = told .before .before .before in
     let r = l .before .before in
     let a = r .before .before .args in
     let z = l .if1 .left in
-    let g = r .read-job .ensures .accepted z in
-    let many : length (jobOf (r .read-job .result .job) .cells) ≡ r .read-job .result .job .count = g .many in
+    let many : length (jobOf (r .read-job .result .job) .cells) ≡ r .read-job .result .job .count = r .read-job .ensures .accepted z .many in
     let e = read-accepted (a .job .now) (reads-accepted (r .read-job .ensures) z) in
-    let told : List ℤ → List ℤ = λ fields. over (pos 0 ∷ pos 0 ∷ fields) (a .results .now) in
     kept (a .job .now) (record {
       number = ap (λ (o : Outcome). o .number) (sym e);
       array =
-          w .answer .ensures
-          ∙ ap told (u .push .ensures .list)
-          ∙ ap (λ (f : List ℤ). told (f ++ (toZ w32 (r .read-job .result .job .count) ∷ []))) (m .empty .ensures .list)
-          ∙ ap (λ (v : ℤ). told (v ∷ [])) (toZ-pos w32 (omega (arith, g .few)) ∙ ap pos (sym many))
+          told .answer-one .ensures
+          ∙ ap (λ (n : ℕ). over (pos 0 ∷ pos 0 ∷ pos n ∷ []) (a .results .now)) (sym many)
           ∙ ap (λ (o : Outcome). over (resultsOf o) (a .results .now)) (sym e);
     })
 
 pub refiner-read-spec : {M : Type 1} → statement M
 refiner-read-spec =
     tie.close
-    (tie.spec
-    read-job-requires
-    refuse-requires
-    same-length
-    returns
-    empty-requires
-    cast-push
-    push-requires
-    answer-requires
-    same-length-2
-    returns-2)
+    (tie.spec read-job-requires refuse-requires same-length returns answer-one-requires same-length-2 returns-2)
