@@ -1,12 +1,12 @@
 -- What Score's answer stands for: the outcome of document 01, but for the buffers that it does not have.
 use mathlib.Core.Path.{_≡_, sym, subst}
+use mathlib.Core.List.{[]}
 use Rattle.definition.specs.Texts.{Text}
-use Rattle.definition.specs.Job.{accepted, readJob}
-use Rattle.definition.specs.Outcome.{Outcome, score}
-use Rattle.job.specs.declared.Job.{Job}
-use Rattle.job.specs.Value.{jobOf}
+use Rattle.definition.specs.Outcome.{Outcome, refusedBy, scoreFieldCount, scoreAnswer, score}
 use Rattle.results.specs.Fields.{Listed}
-use Rattle.results.specs.Refusals.{Signed}
+use Rattle.results.specs.Refusals.{refusalOf, Signed}
+use Rattle.texts_read.specs.declared.Texts.{Texts}
+use Rattle.texts_read.specs.Reading.{TextsRead, as-refused}
 use Rattle.op_score.specs.declared.Scored.{Scored}
 
 pub record Scores (o : Outcome) (r : Scored) : Type 0 where
@@ -18,6 +18,7 @@ pub record Scores (o : Outcome) (r : Scored) : Type 0 where
 pub scores-as : {o p : Outcome} {r : Scored} → p ≡ o → Scores o r → Scores p r
 scores-as {r = r} e s = subst (λ (x : Outcome). Scores x r) (sym e) s
 
--- of every text that is read as this job
-abbrev pub ScoresOf : Job → Text → Scored → Type 0
-ScoresOf job placement r = (text : Text) → readJob text ≡ accepted (jobOf job) → Scores (score text placement) r
+pub texts-refused : {job placement : Text} {r : Texts} → TextsRead job placement r → (r .refusal .number ≡ 0 → ⊥)
+    → score job placement ≡ refusedBy scoreFieldCount (refusalOf (r .refusal))
+unfolding score
+texts-refused t d = as-refused t d scoreFieldCount (λ j P. []) scoreAnswer

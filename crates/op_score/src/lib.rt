@@ -2,21 +2,19 @@
 ghost use Rattle.definition.specs.Rules.{verdict};
 ghost use Rattle.definition.specs.Outcome.{scoreFieldCount, refusedBy, scoreFields, score};
 ghost use Rattle.job.specs.Value.{jobOf, placementOf};
-ghost use Rattle.job.specs.Accepted.{Accepted};
 ghost use Rattle.results.specs.Fields.{Listed};
 ghost use Rattle.results.specs.Refusals.{refusalOf, Signed};
 ghost use Rattle.job.specs.Ready.{Ready};
-ghost use Rattle.op_score.specs.Scores.{Scores, ScoresOf};
+ghost use Rattle.op_score.specs.Scores.{Scores};
 use job::Job;
 use job::Placement;
-use job_read::read_job;
-use placement_read::read_placement;
 use results::Fields;
 use results::Refusal;
 use score_numbers::Numbers;
 use score_numbers::numbers_of;
 use score_numbers::push_numbers;
 use score_verdict::verdict_of;
+use texts_read::read_texts;
 
 // Rule, cell and the numbers.
 const FIELDS: usize = 2 + Numbers::COUNT;
@@ -53,28 +51,16 @@ fn fields_of(job: Job, placement: Placement) -> Fields
     push_numbers(fields, numbers_of(job, placement))
 }
 
-fn score_placement(job: Job, placement: &[u8]) -> Scored
-    requires { ⌜ Accepted job ⌝ }
-    ensures { λ r. ⌜ ScoresOf job (now (placement .entry)) r ⌝ }
-{
-    let p = read_placement(placement, job.count);
-    let refusal = p.refusal;
-    if refusal.number != 0 {
-        return refused(refusal);
-    }
-    let poses = p.placement;
-    let fields = fields_of(job, poses);
-    Scored { refusal, fields }
-}
-
 pub fn score_texts(job: &[u8], placement: &[u8]) -> Scored
     ensures { λ r. ⌜ Scores (score (now (job .entry)) (now (placement .entry))) r ⌝ }
 {
-    let r = read_job(job);
-    let refusal = r.refusal;
+    let t = read_texts(job, placement);
+    let refusal = t.refusal;
     if refusal.number != 0 {
         return refused(refusal);
     }
-    let j = r.job;
-    score_placement(j, placement)
+    let j = t.job;
+    let poses = t.placement;
+    let fields = fields_of(j, poses);
+    Scored { refusal, fields }
 }
