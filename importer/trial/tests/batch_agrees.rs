@@ -91,7 +91,7 @@ fn said(done: &Done) -> String {
 fn plain(job: &[u8], placement: &[u8]) -> String {
     match scorer::score(job, placement) {
         Ok(Ok(numbers)) => format!("legal {}", numbers.cost),
-        Ok(Err(broken)) => format!("broken {} {}", broken.rule, broken.cell),
+        Ok(Err(broken)) => format!("broken {} {}", broken.rule, broken.cells.lowest()),
         Err(refused) if refused.number == 5 => format!("refused 5 {}", refused.line),
         Err(_) => String::new(),
     }

@@ -1,6 +1,7 @@
 //! The plain scorer's verdict against the rules word by word, cell by cell and pair by pair.
 
 use trial::generate::{jobs, placements, Random};
+use trial::plain::cells::Cells;
 use trial::plain::job::Job;
 use trial::plain::placement::Pose;
 use trial::plain::rules::Broken;
@@ -104,11 +105,9 @@ impl Placed<'_> {
 
     fn first_broken(&self) -> Option<Broken> {
         (1..=8).find_map(|rule| {
-            let cell = self.cells().find(|&cell| self.breaks(rule, cell))?;
-            Some(Broken {
-                rule,
-                cell: cell as u32 + 1,
-            })
+            let breaks = |&cell: &usize| self.breaks(rule, cell);
+            let cells: Cells = self.cells().filter(breaks).collect();
+            (!cells.is_empty()).then_some(Broken { rule, cells })
         })
     }
 }

@@ -1,6 +1,7 @@
 //! The refiner in plain Rust.
 
 pub mod brute;
+pub mod cells;
 pub mod cost;
 pub mod fault;
 pub mod job;

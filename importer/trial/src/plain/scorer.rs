@@ -37,7 +37,7 @@ pub fn score_results(score: &Result<Verdict, Refused>) -> [i32; 10] {
         }
         Ok(Err(broken)) => {
             results[2] = broken.rule as i32;
-            results[3] = broken.cell as i32;
+            results[3] = broken.cells.lowest() as i32;
         }
         Ok(Ok(numbers)) => results[4..].copy_from_slice(&numbers.fields()),
     }
