@@ -7,9 +7,9 @@
  * Threads: nothing is kept between calls. Any number of threads may call at the same time, each
  * with buffers of its own; texts that are only read may be shared.
  *
- * Stack: a call of Place takes up to 160 KB, of Score up to 40 KB, of Fault line up to 30 KB, of
- * Read up to 25 KB, of Load up to 1 KB, as measured on the deepest jobs known. Nothing is taken from
- * the heap.
+ * Stack: a call of Place takes up to 160 KB, of Score and of Reasons up to 40 KB each, of Fault line
+ * up to 30 KB, of Read up to 25 KB, of Load up to 1 KB, as measured on the deepest jobs known. Nothing
+ * is taken from the heap.
  *
  * Every operation returns its refusal number, or 0 for an answer. It writes to `results`, as far
  * as that reaches: the number, the line (counted from 1; 0 if no line is at fault), and then the
@@ -26,6 +26,7 @@
  *   8       no legal placement exists
  *   9       the count of cells of a load is over 64
  *   10      the output of a load has fewer than 8,192 bytes
+ *   11      the output of a sentence has fewer than 1,024 bytes
  *
  * README.md has the same table with what to do about each.
  *
@@ -42,6 +43,18 @@
  *   6       a cell's place in each of its rows differs from its place in file order by at most R
  *   7       tall cells keep their file order from left to right
  *   8       a row with cells never has just one empty site before its first or after its last
+ *
+ * A sentence of Reasons calls a broken rule by its phrase.
+ *
+ *   rule    phrase
+ *   1       choice not offered
+ *   2       outside row
+ *   3       shifted too far
+ *   4       overlap
+ *   5       one-site gap
+ *   6       order moved too far
+ *   7       tall order changed
+ *   8       one-site row end
  *
  * A fixed cell is one whose line in the job is led by F instead of C. Its fields are the same and
  * are refused for the same; it counts towards the limits as any cell does.
@@ -65,6 +78,9 @@
 /* What Load needs: bytes of output, whatever the count of cells. */
 #define REFINER_LOAD_BYTES 8192
 
+/* What Reasons needs: bytes of output, whatever the sentence's length. */
+#define REFINER_REASONS_BYTES 1024
+
 /* What a function returns; the table above has the meanings. */
 enum {
     REFINER_ANSWERED = 0,
@@ -77,7 +93,8 @@ enum {
     REFINER_REFUSED_OUTPUT = 7,
     REFINER_REFUSED_NO_LEGAL = 8,
     REFINER_REFUSED_LOAD_COUNT = 9,
-    REFINER_REFUSED_LOAD_OUTPUT = 10
+    REFINER_REFUSED_LOAD_OUTPUT = 10,
+    REFINER_REFUSED_REASONS_OUTPUT = 11
 };
 
 /* Where the numbers stand in `results`: these two of every operation, then its own fields. The name
@@ -111,6 +128,8 @@ enum {
 };
 
 enum { REFINER_LOAD_TEXT_LENGTH = 2, REFINER_LOAD_RESULTS = 3 };
+
+enum { REFINER_REASONS_TEXT_LENGTH = 2, REFINER_REASONS_RESULTS = 3 };
 
 /* Where the numbers stand in Fault line's `part`, how many they are, and which text is which. */
 enum {
@@ -168,6 +187,16 @@ uint32_t refiner_place(const uint8_t *job, size_t job_len, uint32_t *store, size
  */
 uint32_t refiner_load(uint32_t seed, uint32_t cells, uint8_t *output, size_t output_len,
                       int32_t *results, size_t results_len);
+
+/* Reasons. Writes a sentence on the placement to the start of `output`: the phrase of the first broken
+ * rule, a colon and a space, `cell N` for every cell that breaks it, in rising order and parted by a
+ * comma and a space, and a full stop; or `legal.` No line feed and no zero byte follow. Refuses 1 to 5
+ * as Score does, then 11, all before a byte is written. Results: number, line, text length. Bytes past
+ * the sentence stay as they were.
+ */
+uint32_t refiner_reasons(const uint8_t *job, size_t job_len, const uint8_t *placement,
+                         size_t placement_len, uint8_t *output, size_t output_len,
+                         int32_t *results, size_t results_len);
 
 #ifdef __cplusplus
 }

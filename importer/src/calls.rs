@@ -62,6 +62,17 @@ mod exported {
             results: *mut i32,
             results_len: usize,
         ) -> u32;
+
+        pub fn refiner_reasons(
+            job: *const u8,
+            job_len: usize,
+            placement: *const u8,
+            placement_len: usize,
+            output: *mut u8,
+            output_len: usize,
+            results: *mut i32,
+            results_len: usize,
+        ) -> u32;
     }
 }
 
@@ -146,6 +157,23 @@ pub fn load(seed: u32, cells: u32, output: &mut [u8], results: &mut [i32]) -> u3
         exported::refiner_load(
             seed,
             cells,
+            output.as_mut_ptr(),
+            output.len(),
+            results.as_mut_ptr(),
+            results.len(),
+        )
+    }
+}
+
+/// Reasons: number, line, text length. The sentence goes to the start of `output`.
+pub fn reasons(job: &[u8], placement: &[u8], output: &mut [u8], results: &mut [i32]) -> u32 {
+    // SAFETY: as for `read`; here `output` is lent for writing too.
+    unsafe {
+        exported::refiner_reasons(
+            job.as_ptr(),
+            job.len(),
+            placement.as_ptr(),
+            placement.len(),
             output.as_mut_ptr(),
             output.len(),
             results.as_mut_ptr(),

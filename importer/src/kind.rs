@@ -40,6 +40,9 @@ pub enum RefusalKind {
     LoadCount,
     /// 10: the output that is lent for a load is too small. Only [`load`](crate::load) can meet it.
     LoadOutput,
+    /// 11: the output that is lent for a sentence is too small. Only [`reasons`](crate::reasons())
+    /// can meet it.
+    ReasonsOutput,
     /// A number that this crate does not know: the archive is newer.
     Unknown,
 }

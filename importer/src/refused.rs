@@ -79,6 +79,12 @@ pub const REFUSALS: &[Refusal] = &[
         meaning: "the output of a load has fewer than 8,192 bytes",
         remedy: "lend a larger output",
     },
+    Refusal {
+        number: 11,
+        kind: RefusalKind::ReasonsOutput,
+        meaning: "the output of a sentence has fewer than 1,024 bytes",
+        remedy: "lend a larger output",
+    },
 ];
 
 /// A call was refused.

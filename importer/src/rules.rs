@@ -7,45 +7,55 @@ use std::fmt;
 pub struct Rule {
     /// Its number, from 1.
     pub number: u32,
+    /// What a [`sentence`](crate::sentence()) calls a placement that breaks it.
+    pub phrase: &'static str,
     /// What it asks of a placement.
     pub asks: &'static str,
 }
 
 /// Every rule, once and in the order in which they are tried. README's table says the same in the
-/// same words; `tests/tables.rs` holds it to it.
+/// same words; `tests/tables.rs` holds it to it, and the phrases to what the refiner says.
 pub const RULES: &[Rule] = &[
     Rule {
         number: 1,
+        phrase: "choice not offered",
         asks: "the layout number is below the cell's count; the mark is 0, or 1 on a mirrorable \
                cell; a fixed cell has layout 0 and mark 0",
     },
     Rule {
         number: 2,
+        phrase: "outside row",
         asks: "site plus width is at most sites",
     },
     Rule {
         number: 3,
+        phrase: "shifted too far",
         asks: "site and given site differ by at most D; those of a fixed cell are the same",
     },
     Rule {
         number: 4,
+        phrase: "overlap",
         asks: "no two cells share a site in a row",
     },
     Rule {
         number: 5,
+        phrase: "one-site gap",
         asks: "between neighbours in a row there is never just one empty site",
     },
     Rule {
         number: 6,
+        phrase: "order moved too far",
         asks:
             "a cell's place in each of its rows differs from its place in file order by at most R",
     },
     Rule {
         number: 7,
+        phrase: "tall order changed",
         asks: "tall cells keep their file order from left to right",
     },
     Rule {
         number: 8,
+        phrase: "one-site row end",
         asks: "a row with cells never has just one empty site before its first or after its last",
     },
 ];

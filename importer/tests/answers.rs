@@ -1,7 +1,8 @@
 //! The safe calls: each field of an answer and each part of a refusal is where it belongs.
 
-use importer::{farm_job, load, place, read, refine, score, Broken, Numbers, Refused, Verdict};
-use importer::{LOAD_BYTES, OUTPUT_BYTES, STORE_WORDS};
+use importer::{farm_job, load, place, read, reasons, refine, score, sentence};
+use importer::{Broken, Numbers, Refused, Sentence, Verdict};
+use importer::{LOAD_BYTES, OUTPUT_BYTES, REASONS_BYTES, STORE_WORDS};
 
 /// Five cells whose placement below has six different numbers.
 const JOB: &[u8] = b"J,1,60,7,1,7,11,13,17
@@ -39,12 +40,27 @@ fn score_answers_each_number_in_its_place() {
     assert_eq!(score(JOB, PLACEMENT), Ok(Verdict::Legal(NUMBERS)));
 }
 
+/// Cell 4 stands one empty site behind cell 3, and cell 5 one behind cell 4.
+const BROKEN: &[u8] = b"9,0,1\n13,0,0\n30,1,0\n35,0,1\n40,0,0\n";
+
 #[test]
 fn score_answers_the_rule_and_its_cell() {
-    // Cell 4 stands one empty site behind cell 3.
-    let placement = b"9,0,1\n13,0,0\n30,1,0\n35,0,1\n40,0,0\n";
     let broken = Broken { rule: 5, cell: 3 };
-    assert_eq!(score(JOB, placement), Ok(Verdict::Broken(broken)));
+    assert_eq!(score(JOB, BROKEN), Ok(Verdict::Broken(broken)));
+}
+
+#[test]
+fn reasons_answers_the_length_of_its_sentence() {
+    let mut output = [b'x'; REASONS_BYTES + 1];
+    let said = reasons(JOB, BROKEN, &mut output).expect("both texts are accepted");
+    let (text, rest) = output.split_at(said.text_length);
+    assert_eq!(text, b"one-site gap: cell 3, cell 4, cell 5.");
+    assert!(rest.iter().all(|&byte| byte == b'x'));
+    let said = sentence(JOB, BROKEN).expect("both texts are accepted");
+    assert_eq!(said.as_bytes(), text);
+    let cells = vec![3, 4, 5];
+    assert_eq!(said.parse(), Ok(Sentence::Broken { rule: 5, cells }));
+    assert_eq!(sentence(JOB, PLACEMENT).as_deref(), Ok("legal."));
 }
 
 #[test]
@@ -101,8 +117,10 @@ fn each_call_tells_number_and_line_of_a_refusal() {
     assert_eq!(read(bad), Err(falls));
     assert_eq!(score(bad, PLACEMENT), Err(falls));
     assert_eq!(place(bad, &mut [], &mut []), Err(falls));
+    assert_eq!(reasons(bad, PLACEMENT, &mut []), Err(falls));
     let missing = Refused { number: 5, line: 2 };
     assert_eq!(score(JOB, b"9,0,1\n"), Err(missing));
+    assert_eq!(sentence(JOB, b"9,0,1\n"), Err(missing));
     let store = Refused { number: 6, line: 0 };
     assert_eq!(place(JOB, &mut [], &mut []), Err(store));
     let count = Refused { number: 9, line: 0 };
@@ -113,4 +131,10 @@ fn each_call_tells_number_and_line_of_a_refusal() {
         line: 0,
     };
     assert_eq!(load(1, 64, &mut [0; LOAD_BYTES - 1]), Err(output));
+    let output = Refused {
+        number: 11,
+        line: 0,
+    };
+    let short = &mut [0; REASONS_BYTES - 1];
+    assert_eq!(reasons(JOB, PLACEMENT, short), Err(output));
 }

@@ -1,7 +1,7 @@
 //! README and the C header show the host's tables row by row, in the same words: refusals, rules,
 //! and the commands of `refine`. README declares the same C functions as the header.
 
-use importer::{Broken, Refused, REFUSALS, RULES};
+use importer::{sentence, Broken, Refused, REFUSALS, RULES};
 use std::process::Command;
 
 const README: &str = include_str!("../../README.md");
@@ -111,16 +111,53 @@ fn a_refusal_that_the_table_lacks_is_told_too() {
     }
 }
 
+/// The rules as rows of some of their columns.
+fn rule_rows(columns: impl Fn(&importer::Rule) -> Vec<&str>) -> Vec<Row> {
+    let row = |rule: &importer::Rule| {
+        let cells = columns(rule).into_iter().map(words);
+        [rule.number.to_string()].into_iter().chain(cells).collect()
+    };
+    RULES.iter().map(row).collect()
+}
+
 #[test]
 fn readme_and_header_show_each_rule() {
-    let row = |rule: &importer::Rule| vec![rule.number.to_string(), words(rule.asks)];
-    let table: Vec<Row> = RULES.iter().map(row).collect();
-    check_rows(
-        "README",
-        &readme_rows("## A placement and its rules"),
-        &table,
-    );
-    check_rows("the header", &header_rows("* rule what it asks"), &table);
+    let table = rule_rows(|rule| vec![rule.phrase, rule.asks]);
+    let shown = readme_rows("## A placement and its rules");
+    check_rows("README", &shown, &table);
+    let shown = header_rows("* rule what it asks");
+    check_rows("the header", &shown, &rule_rows(|rule| vec![rule.asks]));
+    let shown = header_rows("* rule phrase");
+    check_rows("the header", &shown, &rule_rows(|rule| vec![rule.phrase]));
+}
+
+/// Two cells of one site, tall or in row 0, with D 2.
+fn two_cells(row: u32, reordering: u32) -> String {
+    let heights = if row == 2 { ",1,1,1,1" } else { "" };
+    let cell = format!("C,{row},1,0,1,1,1,1,1,1{heights}\n");
+    format!("J,2,9,2,{reordering},1,1,1,1\n{cell}{cell}")
+}
+
+#[test]
+fn phrases_are_those_of_the_refiner() {
+    let single = two_cells(0, 1);
+    let broken = [
+        (&single, "2,1,0\n3,0,0\n"),
+        (&single, "2,0,0\n9,0,0\n"),
+        (&single, "2,0,0\n5,0,0\n"),
+        (&single, "2,0,0\n2,0,0\n"),
+        (&single, "0,0,0\n2,0,0\n"),
+        (&two_cells(0, 0), "3,0,0\n2,0,0\n"),
+        (&two_cells(2, 1), "3,0,0\n2,0,0\n"),
+        (&single, "1,0,0\n2,0,0\n"),
+    ];
+    assert_eq!(broken.len(), RULES.len());
+    for (rule, (job, placement)) in RULES.iter().zip(broken) {
+        let said = sentence(job.as_bytes(), placement.as_bytes());
+        let said = said.expect("both texts are accepted");
+        let phrase = said.split_once(": ").map(|(phrase, _)| phrase);
+        assert_eq!(phrase, Some(rule.phrase), "{said}");
+    }
 }
 
 #[test]

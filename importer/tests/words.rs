@@ -85,6 +85,9 @@ fn refused_calls_have_their_kinds() {
     let load = |cells| importer::load(1, cells, &mut []).map_err(|refused| refused.kind());
     assert_eq!(load(65), Err(RefusalKind::LoadCount));
     assert_eq!(load(64), Err(RefusalKind::LoadOutput));
+    let told = importer::reasons(b"J,1,9,0,0,1,1,1,1\n", b"", &mut []);
+    let kind = told.map_err(|refused| refused.kind());
+    assert_eq!(kind, Err(RefusalKind::ReasonsOutput));
 }
 
 #[test]

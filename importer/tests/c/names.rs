@@ -1,8 +1,8 @@
 //! Each name of the header is what the refiner does.
 
 use crate::building::{build, folder, said};
-use importer::{calls, load, place, read, refine, score, Refused};
-use importer::{LOAD_BYTES, OUTPUT_BYTES, REFUSALS, STORE_WORDS};
+use importer::{calls, load, place, read, reasons, refine, score, Refused};
+use importer::{LOAD_BYTES, OUTPUT_BYTES, REASONS_BYTES, REFUSALS, STORE_WORDS};
 use std::collections::{BTreeMap, BTreeSet};
 use std::fmt::Debug;
 use std::fs;
@@ -28,8 +28,9 @@ const SCORED: &[(&str, i32)] = &[
     ("DRIFT", -80),
 ];
 
-/// Cell 4 stands one empty site behind cell 3.
+/// Cell 4 stands one empty site behind cell 3, and cell 5 one behind cell 4.
 const BROKEN: &[u8] = b"9,0,1\n13,0,0\n30,1,0\n35,0,1\n40,0,0\n";
+const SENTENCE: &str = "one-site gap: cell 3, cell 4, cell 5.";
 
 /// Cells that just fill the row; every cheapest placement has the same seven fields.
 const TIGHT: &[u8] = b"J,1,16,2,0,2,10,1,1
@@ -102,8 +103,10 @@ fn each_name_is_what_the_refiner_does() {
         OUTPUT_BYTES
     );
     assert_eq!(names.take("LOAD_BYTES"), LOAD_BYTES);
+    assert_eq!(names.take("REASONS_BYTES"), REASONS_BYTES);
     check_refusals(&mut names, limits[0] as u32);
     check_results(&mut names);
+    check_texts(&mut names);
     check_part(&mut names);
     assert!(names.0.is_empty(), "no test of {:?}", names.0);
 }
@@ -136,6 +139,7 @@ fn number<T>(called: Result<T, Refused>) -> u32 {
 fn check_refusals(names: &mut Names, most: u32) {
     let lent = |words, bytes| number(place(JOB, &mut vec![0; words], &mut vec![0; bytes]));
     let loaded = |cells, bytes| number(load(1, cells, &mut vec![0; bytes]));
+    let told = |bytes| number(reasons(JOB, BROKEN, &mut vec![0; bytes]));
     let falls = b"J,1,9,0,0,1,1,1,1\nC,0,1,0,1,1,1,1,1,1\nC,0,0,0,1,1,1,1,1,1\n";
     let wide = b"J,1,2,0,0,1,1,1,1\nC,0,0,0,1,3,1,1,1,1\n";
     let called = [
@@ -150,6 +154,7 @@ fn check_refusals(names: &mut Names, most: u32) {
         ("REFUSED_NO_LEGAL", number(refine(wide))),
         ("REFUSED_LOAD_COUNT", loaded(most + 1, LOAD_BYTES)),
         ("REFUSED_LOAD_OUTPUT", loaded(most, LOAD_BYTES - 1)),
+        ("REFUSED_REASONS_OUTPUT", told(REASONS_BYTES - 1)),
     ];
     let tried: Vec<u32> = called.iter().map(|(_, number)| *number).collect();
     let table: Vec<u32> = REFUSALS.iter().map(|entry| entry.number).collect();
@@ -208,18 +213,25 @@ fn check_results(names: &mut Names) {
         calls::place(TIGHT, &mut store, &mut output, results)
     });
     check_fields(names, "PLACE", &entries, PLACED);
+}
 
-    let count = names.take("LOAD_RESULTS");
+/// The operations whose only field is the length of their text.
+fn check_texts(names: &mut Names) {
+    let mut check = |operation: &str, text: &str, call: &mut dyn FnMut(&mut [i32]) -> u32| {
+        let count = names.take(&format!("{operation}_RESULTS"));
+        let entries = written(PAINT, count, call);
+        let length = [("TEXT_LENGTH", text.len() as i32)];
+        check_fields(names, operation, &entries, &length);
+    };
     let mut output = [0; LOAD_BYTES];
-    let entries = written(PAINT, count, |results| {
+    check("LOAD", LOADED, &mut |results| {
         calls::load(7, 2, &mut output, results)
     });
-    check_fields(
-        names,
-        "LOAD",
-        &entries,
-        &[("TEXT_LENGTH", LOADED.len() as i32)],
-    );
+    let mut output = [0; REASONS_BYTES];
+    check("REASONS", SENTENCE, &mut |results| {
+        calls::reasons(JOB, BROKEN, &mut output, results)
+    });
+    assert!(output.starts_with(SENTENCE.as_bytes()));
 }
 
 fn check_part(names: &mut Names) {

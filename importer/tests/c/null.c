@@ -15,7 +15,7 @@ struct text {
 
 struct lent {
     uint32_t store[REFINER_STORE_WORDS];
-    uint8_t output[REFINER_LOAD_BYTES]; /* more than Place needs */
+    uint8_t output[REFINER_LOAD_BYTES]; /* more than Place and Reasons need */
     int32_t results[REFINER_SCORE_RESULTS];
     uint64_t part[REFINER_PART_NUMBERS];
 };
@@ -71,6 +71,13 @@ static uint32_t call_load(struct text job, struct text placement, struct lent *l
                         LENT(NUMBERS, int32_t, lent->results));
 }
 
+static uint32_t call_reasons(struct text job, struct text placement, struct lent *lent, int empties,
+                             void *empty) {
+    return refiner_reasons(CONST_BYTES(JOB, job), CONST_BYTES(PLACEMENT, placement),
+                           LENT(OUTPUT, uint8_t, lent->output),
+                           LENT(NUMBERS, int32_t, lent->results));
+}
+
 struct function {
     const char *name;
     int arguments;
@@ -84,6 +91,7 @@ static const struct function FUNCTIONS[] = {
     {"refiner_fault_line", JOB | PLACEMENT | OUTPUT | NUMBERS, call_fault_line},
     {"refiner_place", JOB | STORE | OUTPUT | NUMBERS, call_place},
     {"refiner_load", OUTPUT | NUMBERS, call_load},
+    {"refiner_reasons", JOB | PLACEMENT | OUTPUT | NUMBERS, call_reasons},
 };
 
 static int agree(const struct function *function, struct text job, struct text placement,
@@ -108,7 +116,7 @@ int main(void) {
         "J,1,20,1,1,100,1,100,50\nC,0,2,1,1,4,3,3,2,2\nC,0,6,0,1,4,3,3,2,2\n",
         "J,1,20,1,1,100,1,100,50\nC,0,2,1,1,4,3,3,2,2\nC,0,1,0,1,4,3,3,2,2\n",
         "J,1,20,1,1,100,1,100,50\n"};
-    static const char *const PLACEMENTS[] = {"2,0,1\n6,0,0\n", "2,0,1\n6,0\n"};
+    static const char *const PLACEMENTS[] = {"2,0,1\n6,0,0\n", "2,0,1\n6,0\n", "2,0,1\n7,0,0\n"};
     int calls = 0, empties;
     size_t function, job, placement;
     for (function = 0; function < sizeof FUNCTIONS / sizeof *FUNCTIONS; function++) {

@@ -19,6 +19,7 @@ static size_t job_len, placement_len;
 static uint32_t store[REFINER_STORE_WORDS];
 static uint8_t output[REFINER_MAX_CELLS * REFINER_OUTPUT_BYTES_PER_CELL];
 static uint8_t loaded[REFINER_LOAD_BYTES];
+static uint8_t sentence[REFINER_REASONS_BYTES];
 static int32_t results[REFINER_SCORE_RESULTS];
 static uint64_t part[REFINER_PART_NUMBERS];
 
@@ -46,6 +47,11 @@ static uint32_t call_place(void) {
 
 static uint32_t call_load(void) {
     return refiner_load(1, REFINER_MAX_CELLS, loaded, sizeof loaded, results, REFINER_LOAD_RESULTS);
+}
+
+static uint32_t call_reasons(void) {
+    return refiner_reasons(job, job_len, placement, placement_len, sentence, sizeof sentence, results,
+                           REFINER_REASONS_RESULTS);
 }
 
 struct run {
@@ -114,5 +120,6 @@ int main(int count, char **arguments) {
     measure("refiner_fault_line", call_fault_line);
     measure("refiner_place", call_place);
     measure("refiner_load", call_load);
+    measure("refiner_reasons", call_reasons);
     return 0;
 }

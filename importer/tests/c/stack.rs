@@ -1,7 +1,7 @@
 //! The header says how much stack a call takes; a painted stack shows it.
 
 use crate::building::{build, folder, said, source};
-use importer::{score, Verdict};
+use importer::{score, sentence, Verdict};
 use std::array;
 use std::collections::BTreeMap;
 use std::fs;
@@ -48,11 +48,18 @@ fn given() -> String {
     (0..64).map(line).collect()
 }
 
+/// The same with one empty site before the first cell: each rule is tried, and the last is broken.
+fn at_an_end() -> String {
+    given().replacen("0,0,0\n", "1,0,0\n", 1)
+}
+
 #[test]
 fn the_large_jobs_are_accepted_and_their_given_rows_legal() {
     for rows in [tall_last(), one_row()] {
         let verdict = score(job_of(&rows, APART).as_bytes(), given().as_bytes());
         assert!(matches!(verdict, Ok(Verdict::Legal(_))), "{verdict:?}");
+        let said = sentence(job_of(&rows, APART).as_bytes(), at_an_end().as_bytes());
+        assert_eq!(said.as_deref(), Ok("one-site row end: cell 1."));
     }
 }
 
@@ -63,20 +70,26 @@ fn touched() -> BTreeMap<String, usize> {
     // Binding at the first call would take stack too, more on one machine than on another.
     build(&source("stack.c"), &program, &["-pthread", "-Wl,-z,now"]);
     let (job, placement) = (folder.join("job"), folder.join("placement"));
-    fs::write(&placement, given()).expect("a test may write its files");
+    let write = |path, text: &str| fs::write(path, text).expect("a test may write its files");
     let mut most = BTreeMap::new();
     for rows in [tall_last(), one_row()] {
-        fs::write(&job, job_of(&rows, APART)).expect("a test may write its files");
-        let lines = said(Command::new(&program).arg(&job).arg(&placement));
-        for line in lines.lines() {
-            let (name, bytes) = line.split_once(' ').expect("a name and a number");
-            let bytes: usize = bytes.parse().expect("a number of bytes");
-            let before = most.entry(name.to_owned()).or_insert(0);
-            *before = bytes.max(*before);
+        write(&job, &job_of(&rows, APART));
+        for stands in [given(), at_an_end()] {
+            write(&placement, &stands);
+            let lines = said(Command::new(&program).arg(&job).arg(&placement));
+            lines.lines().for_each(|line| keep(&mut most, line));
         }
     }
     println!("{most:?}");
     most
+}
+
+/// Keeps what a line says a function touches, if it is more than before.
+fn keep(most: &mut BTreeMap<String, usize>, line: &str) {
+    let (name, bytes) = line.split_once(' ').expect("a name and a number");
+    let bytes: usize = bytes.parse().expect("a number of bytes");
+    let before = most.entry(name.to_owned()).or_insert(0);
+    *before = bytes.max(*before);
 }
 
 /// The header's figure for an operation, in bytes: the first number behind its name in the words on
@@ -102,6 +115,7 @@ fn the_header_says_how_much_stack_a_call_takes() {
         ("refiner_fault_line", "Fault"),
         ("refiner_place", "Place"),
         ("refiner_load", "Load"),
+        ("refiner_reasons", "Reasons"),
     ] {
         let (bytes, figure) = (touched[name], figure(operation));
         // A figure is not twice too high, but 1 KB is the least that the header says.
