@@ -1,4 +1,5 @@
-//! Jobs whose given rows are a legal placement, or one that breaks rule 8 alone, by their shape.
+//! Jobs whose given rows are a legal placement, or one that breaks rules 5 and 8 alone, by their
+//! shape.
 
 use super::{jobs, Random};
 use crate::plain::job::{Job, Weights, TALL};
@@ -24,6 +25,8 @@ pub struct Shape {
     pub ends: &'static [u16],
     /// Whether just one empty site may be left at a row's end: rule 8 is then left to chance.
     pub one_site_ends: bool,
+    /// Whether neighbours may stand one site apart: rule 5 is then left to chance.
+    pub one_site_gaps: bool,
 }
 
 /// A heavy shape, to be changed where a job is to differ: every cell has two layouts and may be
@@ -40,6 +43,7 @@ pub const HEAVY: Shape = Shape {
     gaps: &[0, 0, 0, 2, 3, 4],
     ends: &[0],
     one_site_ends: false,
+    one_site_gaps: false,
 };
 
 /// A job of this shape. All its cells have two layouts and may be mirrored.
@@ -86,7 +90,7 @@ fn site_after(random: &mut Random, shape: &Shape, ends: &[Option<u16>]) -> u16 {
     let gaps = furthest.map_or(shape.ends, |_| shape.gaps);
     let mut site = furthest.unwrap_or(&0) + random.pick(gaps);
     let one_site = |site: u16, end: &Option<u16>| match end {
-        Some(end) => site == end + 1,
+        Some(end) => site == end + 1 && !shape.one_site_gaps,
         None => site == 1 && !shape.one_site_ends,
     };
     while ends.iter().any(|end| one_site(site, end)) {

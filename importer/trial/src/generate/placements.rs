@@ -46,7 +46,7 @@ pub fn job_with_fixed_cells(random: &mut Random) -> (Job, Placement) {
 
 /// A job whose given rows were moved by at most D, but for fixed cells, and the placement that they
 /// were.
-fn job_with_placement(
+pub(super) fn job_with_placement(
     random: &mut Random,
     shape: &legal::Shape,
     fixed_in_ten: usize,
@@ -69,7 +69,7 @@ fn any_shape(random: &mut Random) -> legal::Shape {
 }
 
 /// A shape of at most so many cells.
-fn shape_of(random: &mut Random, most: usize) -> legal::Shape {
+pub(super) fn shape_of(random: &mut Random, most: usize) -> legal::Shape {
     let cells = 1 + random.below(most);
     let rows = random.from_to(1, 2);
     let most_tall = if rows == 2 { cells.min(24) } else { 0 };
@@ -85,6 +85,7 @@ fn shape_of(random: &mut Random, most: usize) -> legal::Shape {
         gaps: random.pick(&[&[0], &[0, 2], &[0, 0, 2, 3, 4, 5], &[2, 3, 4, 9]]),
         ends: random.pick(&[&[0], &[0, 2, 3, 9]]),
         one_site_ends: false,
+        one_site_gaps: false,
     }
 }
 
@@ -142,7 +143,7 @@ pub fn wander(random: &mut Random, job: &Job, placement: &mut [Pose]) {
 }
 
 /// Lets two cells change places, over the sites that they took up.
-fn exchange(job: &Job, placement: &mut [Pose], left: usize, right: usize) {
+pub(super) fn exchange(job: &Job, placement: &mut [Pose], left: usize, right: usize) {
     if right >= placement.len() || placement[left].site > placement[right].site {
         return;
     }

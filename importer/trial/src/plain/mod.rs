@@ -11,6 +11,7 @@ mod numbers;
 mod order;
 pub mod placement;
 pub mod reader;
+pub mod reasons;
 pub mod rules;
 pub mod scorer;
 pub mod search;
