@@ -4,6 +4,8 @@
 mod load;
 #[path = "cli/manual.rs"]
 mod manual;
+#[path = "cli/reasons.rs"]
+mod reasons;
 #[path = "cli/surroundings.rs"]
 mod surroundings;
 #[path = "cli/version.rs"]

@@ -30,11 +30,12 @@ fn check_error(line: &str, message: &str) {
     assert_eq!(notes.lines().count(), 1, "{line}: {notes}");
 }
 
-const COMMANDS: [&str; 8] = [
+const COMMANDS: [&str; 9] = [
     "refine \"$JOB\" <&-",
     "refine < \"$JOB\"",
     "refine -p \"$JOB\"",
     "refine score \"$JOB\" <(refine -p \"$JOB\")",
+    "refine reasons \"$JOB\" <(refine -p \"$JOB\")",
     "refine load 1 64",
     "refine help",
     "refine --version",
@@ -52,7 +53,7 @@ fn an_output_that_cannot_be_written_is_an_error() {
             assert_eq!(status, Some(2), "{command} {output}");
         }
     }
-    for command in &COMMANDS[..7] {
+    for command in &COMMANDS[..8] {
         check_error(&format!("{command} >&-"), &format!("{cannot}it is closed"));
         check_error(
             &format!("{command} > /dev/full"),

@@ -8,6 +8,7 @@ mod gaps;
 mod help;
 mod load;
 mod place;
+mod reasons;
 mod score;
 mod version;
 mod whatif;
@@ -51,6 +52,13 @@ const COMMANDS: &[Command] = &[
         prints: "`legal,cost,steps,sites shifted,mirrored,changed,drift`, or `broken,rule,cell`",
         options: score::OPTIONS,
         run: score::run,
+    },
+    Command {
+        words: &["reasons"],
+        arguments: "JOB PLACEMENT",
+        prints: "`legal.`, or the first broken rule and every cell that breaks it, in a sentence",
+        options: &[],
+        run: reasons::run,
     },
     Command {
         words: &["gaps"],
