@@ -7,7 +7,7 @@
 //! letter stands for a mirrored cell.
 
 use importer::job::{Cell, Header, Job, Layout, Weights};
-use importer::{explain, placement, score, Pose, Verdict};
+use importer::{placement, score, sentence, Pose, Verdict};
 use std::env;
 use std::error::Error;
 
@@ -68,16 +68,11 @@ fn drawn(row: &str) -> Result<Vec<Pose>, String> {
     ['A', 'B', 'C'].into_iter().map(pose).collect()
 }
 
-/// The verdict on a drawn row, with how a rule is broken.
+/// The numbers of a drawn row, or the sentence with every cell that breaks a rule.
 pub fn told(row: &str) -> Result<String, Box<dyn Error>> {
     let (job, placement) = (job().text(), placement::text(&drawn(row)?));
-    let verdict = score(&job, &placement)?;
-    let words = match &verdict {
-        Verdict::Broken(broken) => explain::broken_rule(&job, &placement, broken),
-        Verdict::Legal(_) => None,
-    };
-    Ok(match words {
-        Some(words) => format!("{verdict} ({words})"),
-        None => verdict.to_string(),
-    })
+    match score(&job, &placement)? {
+        Verdict::Legal(numbers) => Ok(format!("legal: {numbers}")),
+        Verdict::Broken(_) => Ok(sentence(&job, &placement)?),
+    }
 }

@@ -40,6 +40,7 @@
 #![deny(missing_docs)]
 
 pub mod batch;
+mod board;
 pub mod calls;
 pub mod desk;
 pub mod draw;

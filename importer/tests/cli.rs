@@ -167,8 +167,7 @@ fn a_negative_drift_has_its_sign() {
 fn a_broken_rule_is_named_with_its_cell() {
     let (output, notes, status) = score("broken", WORKED, "2,0,0\n7,0,0\n");
     assert_eq!((&*output, status), ("broken,5,1\n", Some(0)));
-    let takes = "cell 1 takes sites 2 to 5, cell 2 takes sites 7 to 10";
-    let words = format!("rule 5: cells 1 and 2 leave one empty site, 6, in row 0: {takes}\n");
+    let words = "one-site gap: cell 1, cell 2.\n";
     assert!(
         notes.ends_with(&format!("/broken.placement:1: {words}")),
         "{notes}"
@@ -176,29 +175,25 @@ fn a_broken_rule_is_named_with_its_cell() {
     assert_eq!(notes.lines().count(), 1, "{notes}");
 }
 
+/// The sentence is that of `refine reasons`, behind the placement's name and the line of its first
+/// cell.
 #[test]
-fn a_broken_rule_is_told_with_its_numbers() {
-    let (output, notes, status) = score("past", WORKED, "2,0,0\n17,0,0\n");
-    assert_eq!((&*output, status), ("broken,2,2\n", Some(0)));
-    let words = "rule 2: cell 2 ends past the row: 17 + 4 = 21, the row has 20 sites\n";
-    assert!(
-        notes.ends_with(&format!("/past.placement:2: {words}")),
-        "{notes}"
-    );
-}
-
-#[test]
-fn a_broken_row_end_is_told_with_its_site() {
-    // The first cell one site left of its given site, so at site 1.
-    let (output, notes, status) = score("end", WORKED, "1,0,1\n5,0,0\n");
-    assert_eq!((&*output, status), ("broken,8,1\n", Some(0)));
-    let takes = "cell 1 takes sites 1 to 4, the row has 20 sites";
-    let words =
-        format!("rule 8: cell 1 leaves one empty site, 0, as the first of row 0: {takes}\n");
-    assert!(
-        notes.ends_with(&format!("/end.placement:1: {words}")),
-        "{notes}"
-    );
+fn a_broken_rule_is_told_in_the_refiners_sentence() {
+    let job = file("sentence.job", WORKED);
+    let placements = [
+        ("2,0,0\n6,0,1\n", "broken,1,2\n"),
+        ("2,0,0\n17,0,0\n", "broken,2,2\n"),
+        ("4,0,0\n8,0,0\n", "broken,3,1\n"),
+        ("3,0,0\n6,0,0\n", "broken,4,1\n"),
+        ("1,0,1\n5,0,0\n", "broken,8,1\n"),
+    ];
+    for (placement, answer) in placements {
+        let (sentence, ..) = told(&refine(&["reasons", &job, "-"], placement.as_bytes()));
+        let said = told(&refine(&["score", &job, "-"], placement.as_bytes()));
+        let cell = answer.trim_end().rsplit(',').next().unwrap_or_default();
+        let notes = format!("<stdin>:{cell}: {sentence}");
+        assert_eq!(said, (answer.into(), notes, Some(0)));
+    }
 }
 
 #[test]

@@ -120,10 +120,12 @@ fn a_broken_rule_is_told_in_the_picture() {
     let placement = file("draw_broken.placement", "2,0,0\n7,0,0\n");
     let (picture, notes, status) = told(&draw(&[&*job, &placement]));
     assert_eq!((&*notes, status), ("", Some(0)));
-    let words = "cells 1 and 2 leave one empty site, 6, in row 0";
-    let said = format!("not legal, rule 5 is broken, its lowest cell is 1: {words}");
-    assert!(picture.contains(&said), "{picture}");
+    let said = "placement: not legal, rule 5: one-site gap: cell 1, cell 2.</desc>";
+    assert!(picture.contains(said), "{picture}");
+    assert!(picture.contains(">not legal, rule 5: one-site gap: cell 1, cell 2.</text>"));
     assert_eq!(picture.matches("<rect class=\"one\"").count(), 2);
+    // Both cells are framed, and the key has the sign too.
+    assert_eq!(picture.matches("<rect class=\"named\"").count(), 3);
 }
 
 /// One cell of three is fixed: hatched as given and in the cheapest placement, and in the key. One
@@ -141,7 +143,7 @@ fn a_fixed_cell_is_hatched() {
     assert_eq!(picture.matches(title).count(), 2, "{picture}");
     let placement = file("draw_fixed.placement", "0,0,0\n9,0,1\n13,0,0\n");
     let (picture, _, _) = told(&draw(&[job, &placement]));
-    let words = "cell 2 has mark 1; it is fixed and must keep mark 0";
+    let words = "not legal, rule 1: choice not offered: cell 2.";
     assert!(picture.contains(words), "{picture}");
     assert!(picture.contains("<title>cell 2: fixed at site 8, stands at site 9</title>"));
     assert!(picture.contains("mark 1 (not offered); "), "{picture}");

@@ -52,14 +52,13 @@ fn score_tells_of_drawn_rows() {
     assert_eq!(told("..aaaaBBBBCCC.."), legal(50, 0, 0, 1, 0));
     // Two cells shifted by two sites: a mean of -4 / 3.
     assert_eq!(told("AAAABBBB..CCC.."), legal(240, 2, 4, 0, -133));
-    for (row, broken) in [
-        ("..AAAABBBB.CCC.", "cell 2 breaks rule 5: "),
-        ("..BBBBCCCAAAA..", "cell 1 breaks rule 6: "),
-        (".AAAABBBB..CCC.", "cell 1 breaks rule 8: "),
-        ("..AAAAbbbbCCC..", "cell 2 breaks rule 1: "),
+    for (row, sentence) in [
+        ("..AAAABBBB.CCC.", "one-site gap: cell 2, cell 3."),
+        ("..BBBBCCCAAAA..", "order moved too far: cell 1."),
+        (".AAAABBBB..CCC.", "one-site row end: cell 1, cell 3."),
+        ("..AAAAbbbbCCC..", "choice not offered: cell 2."),
     ] {
-        let told = told(row);
-        assert!(told.starts_with(broken), "{row} {told}");
+        assert_eq!(told(row), sentence, "{row}");
     }
     let missing = score::told("..AAAA").unwrap_err().to_string();
     assert_eq!(missing, "..AAAA has no cell B");

@@ -1,7 +1,8 @@
 //! The gaps of each row: between neighbours, and at the row's ends.
 
 use super::Fillers;
-use crate::explain::{read_job, read_placement, Board, Sides, Stand};
+use crate::board::{Board, Sides, Stand};
+use crate::explain::{read_job, read_placement};
 
 /// The widths that gaps are counted by: each by itself, and from the last one on all together.
 /// Gaps of one site cannot be closed and are told one by one.
@@ -138,6 +139,7 @@ impl RowGaps {
 #[cfg(test)]
 mod tests {
     use super::*;
+    use crate::RULES;
 
     const CELL: &str = "C,0,4,0,1,2,1,1,1,1\n";
 
@@ -174,6 +176,10 @@ mod tests {
         assert_eq!(why("4,0,0\n5,0,0\n"), untold(2, "overlap"));
         assert_eq!(why("4,1,0\n6,0,0\n"), untold(1, "choice not offered"));
         assert_eq!(why("4,0,0\n9,0,0\n"), untold(2, "outside row"));
+        // A sentence on such a placement says the same.
+        for reason in ["overlap", "choice not offered", "outside row"] {
+            assert!(RULES.iter().any(|rule| rule.phrase == reason), "{reason}");
+        }
     }
 
     #[test]

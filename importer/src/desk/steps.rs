@@ -1,6 +1,7 @@
 //! The steps of a legal placement, one by one.
 
-use crate::explain::{read_job, read_placement, Board, Edge, Stand};
+use crate::board::{Board, Stand};
+use crate::explain::{read_job, read_placement, Edge};
 use crate::Numbers;
 use std::fmt;
 

@@ -4,8 +4,8 @@ use super::canvas::{Anchor, Canvas};
 use super::panel::Panel;
 use super::scale::{Band, Piece, Track, STRIP};
 use super::text::{NUMBER, SMALL};
+use crate::board::Stand;
 use crate::desk::Diffusion;
-use crate::explain::Stand;
 
 /// How wide the fins of an edge are drawn.
 const FINS: i32 = 4;

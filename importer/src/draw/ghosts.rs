@@ -6,7 +6,7 @@ use super::panel::Panel;
 use super::row::Span;
 use super::scale::Band;
 use super::text::SMALL;
-use crate::explain::Stand;
+use crate::board::Stand;
 
 /// How high a level is.
 const LEVEL: i32 = 14;

@@ -51,7 +51,7 @@ const ENTRIES: [(Sign, &str); 16] = [
     (Sign::Shape("over"), "shared sites"),
     (Sign::Shape("past"), "past the row"),
     (Sign::Shape("lx"), "layout or mark not offered"),
-    (Sign::Shape("named"), "cell of the broken rule"),
+    (Sign::Shape("named"), "breaks the rule"),
     (Sign::Shift, "given site and shift"),
 ];
 

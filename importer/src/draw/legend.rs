@@ -99,9 +99,9 @@ impl<'canvas> Pen<'canvas> {
                 self.name(panel.name);
                 self.numbers(numbers);
             }
-            Said::Broken(broken, words) => {
+            broken => {
                 self.name(panel.name);
-                self.words(&format!("not legal: rule {}: {words}", broken.rule));
+                self.words(&broken.words());
             }
         }
     }

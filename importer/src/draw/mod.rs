@@ -133,7 +133,7 @@ impl Picture<'_> {
     /// The whole file around what was drawn.
     fn framed(&self, canvas: Canvas, width: i32, height: i32) -> String {
         let heading = escaped(&legend::heading(self.job));
-        let said = |panel: &Panel| format!("{}: {}. ", panel.name, panel.said.words());
+        let said = |panel: &Panel| format!("{}: {} ", panel.name, panel.said.words());
         let mut words: String = self.panels.iter().map(said).collect();
         if let Some(refused) = self.none {
             words += &format!("cheapest: {}. ", refused.reason());

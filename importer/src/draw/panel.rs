@@ -1,8 +1,11 @@
 //! A placement that is drawn: how its cells stand, its rows, and what the refiner says of it.
 
 use super::row::{Row, Span};
-use crate::explain::{broken_rule, read_placement, Board, Job, Stand};
-use crate::{placement, refine, score, Broken, Numbers, Pose, Refused, Verdict};
+use crate::board::{Board, Stand};
+use crate::explain::{read_placement, Job};
+use crate::{
+    placement, refine, score, sentence, Broken, Numbers, Pose, Refused, Sentence, Verdict,
+};
 
 pub struct Panel<'job> {
     pub name: &'static str,
@@ -11,11 +14,16 @@ pub struct Panel<'job> {
     pub rows: Vec<Row>,
 }
 
-/// What the refiner says of a placement, in words where a rule is broken.
+/// What the refiner says of a placement.
 #[derive(Debug, PartialEq, Eq)]
 pub enum Said {
     Legal(Numbers),
-    Broken(Broken, String),
+    Broken {
+        rule: u32,
+        /// Those that the sentence names.
+        cells: Vec<u32>,
+        sentence: String,
+    },
 }
 
 impl<'job> Panel<'job> {
@@ -32,11 +40,7 @@ impl<'job> Panel<'job> {
         };
         let said = match score(text, placement)? {
             Verdict::Legal(numbers) => Said::Legal(numbers),
-            Verdict::Broken(broken) => {
-                let words = broken_rule(text, placement, &broken);
-                let words = words.unwrap_or_else(|| broken.meaning().into());
-                Said::Broken(broken, words)
-            }
+            Verdict::Broken(broken) => Said::broken(broken, sentence(text, placement)?),
         };
         Panel::drawn(name, said, job, placement)
     }
@@ -66,11 +70,11 @@ impl<'job> Panel<'job> {
         })
     }
 
-    /// Whether this is the cell that the refiner names.
+    /// Whether this is a cell that the refiner names.
     pub fn names(&self, stand: &Stand) -> bool {
         match &self.said {
             Said::Legal(_) => false,
-            Said::Broken(broken, _) => broken.cell == stand.number,
+            Said::Broken { cells, .. } => cells.contains(&stand.number),
         }
     }
 
@@ -114,7 +118,20 @@ fn given_rows(job: &Job) -> Vec<u8> {
 }
 
 impl Said {
-    /// In one line, after the panel's name.
+    /// A broken rule. Of a sentence that cannot be read, the cell that Score names is kept.
+    fn broken(Broken { rule, cell }: Broken, sentence: String) -> Said {
+        let cells = match sentence.parse() {
+            Ok(Sentence::Broken { cells, .. }) => cells,
+            _ => vec![cell],
+        };
+        Said::Broken {
+            rule,
+            cells,
+            sentence,
+        }
+    }
+
+    /// In one line with a full stop, after the panel's name.
     pub fn words(&self) -> String {
         match self {
             Said::Legal(numbers) => {
@@ -128,12 +145,10 @@ impl Said {
                 } = numbers;
                 format!(
                     "legal, cost {cost}, steps {steps}, sites shifted {shifted}, mirrored {mirrored}, \
-                     changed {changed}, drift {drift} hundredths of a site"
+                     changed {changed}, drift {drift} hundredths of a site."
                 )
             }
-            Said::Broken(Broken { rule, cell }, words) => {
-                format!("not legal, rule {rule} is broken, its lowest cell is {cell}: {words}")
-            }
+            Said::Broken { rule, sentence, .. } => format!("not legal, rule {rule}: {sentence}"),
         }
     }
 }

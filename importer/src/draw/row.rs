@@ -1,7 +1,7 @@
 //! A row from left to right: its gaps, the steps between neighbours, and where cells overlap.
 
+use crate::board::{Board, Stand};
 use crate::desk::{self, steps_between, Step};
-use crate::explain::{Board, Stand};
 
 pub struct Row {
     pub number: u32,

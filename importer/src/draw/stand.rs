@@ -1,7 +1,8 @@
 //! What the picture shows of a cell as it stands.
 
 use super::row::Span;
-use crate::explain::{RawPose, Stand};
+use crate::board::Stand;
+use crate::explain::RawPose;
 
 impl Stand<'_> {
     /// Whether it stands in a layout and with a mark that it may have.
@@ -91,7 +92,8 @@ impl Stand<'_> {
 #[cfg(test)]
 mod tests {
     use super::*;
-    use crate::explain::{read_job, read_placement, Board};
+    use crate::board::Board;
+    use crate::explain::{read_job, read_placement};
 
     /// Looks at the only cell of a job.
     fn look<Seen>(cell: &str, pose: &str, look: impl Fn(&Stand) -> Seen) -> Seen {

@@ -53,7 +53,7 @@ impl<'text> Line<'text> {
     }
 
     /// A reason to refuse this line.
-    pub fn refused(&self, number: u32, words: String) -> Reason<Refused> {
+    pub fn refused(&self, number: u32, words: String) -> Reason {
         let line = self.number;
         Reason {
             answer: Refused { number, line },

@@ -30,7 +30,7 @@ pub struct RawPose {
 
 /// The poses of so many cells, or what is wrong with the earliest line that is bad, missing or
 /// surplus.
-pub fn read(text: &[u8], cells: usize) -> Result<Vec<RawPose>, Reason<Refused>> {
+pub fn read(text: &[u8], cells: usize) -> Result<Vec<RawPose>, Reason> {
     let mut poses = Vec::new();
     for line in lines(text) {
         let pose = if poses.len() < cells {
@@ -68,7 +68,7 @@ fn surplus(line: &Line, cells: usize) -> String {
     format!("{which} too many: the job has {cells}")
 }
 
-fn missing(found: usize, cells: usize) -> Reason<Refused> {
+fn missing(found: usize, cells: usize) -> Reason {
     let line = u32::try_from(found + 1).unwrap_or(u32::MAX);
     let (found, cells) = (count(found, "line"), count(cells, "cell"));
     Reason {

@@ -1,4 +1,6 @@
-//! A reason in words, with the answer of the refiner that it belongs to.
+//! A reason in words, with the refusal that it belongs to.
+
+use crate::Refused;
 
 /// Refusal numbers of document 01, as far as a line's text decides them.
 pub(super) const FORM: u32 = 1;
@@ -7,18 +9,18 @@ pub(super) const LIMIT: u32 = 3;
 pub(super) const ORDER: u32 = 4;
 pub(super) const PLACEMENT: u32 = 5;
 
-/// What is wrong, and the answer that says so in numbers.
+/// What is wrong, and the refusal that says so in numbers.
 #[derive(Clone, Debug, PartialEq, Eq)]
-pub struct Reason<Answer> {
-    /// The refiner's answer that the words belong to.
-    pub answer: Answer,
+pub struct Reason {
+    /// The refusal that the words belong to.
+    pub answer: Refused,
     /// Printable, in one line, without the name of the text and the line's number.
     pub words: String,
 }
 
-impl<Answer: PartialEq> Reason<Answer> {
-    /// The words, if they belong to this answer: a reason for another one would mislead.
-    pub fn words_for(self, answer: &Answer) -> Option<String> {
-        (self.answer == *answer).then_some(self.words)
+impl Reason {
+    /// The words, if they belong to this refusal: a reason for another one would mislead.
+    pub fn words_for(self, refused: &Refused) -> Option<String> {
+        (self.answer == *refused).then_some(self.words)
     }
 }

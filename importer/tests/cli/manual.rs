@@ -1,6 +1,7 @@
 //! The manual page: it says what `refine help` says, and the formatters find nothing wrong with it.
 
 use crate::{refine, told, WORKED};
+use importer::RULES;
 use std::process::{Command, Output, Stdio};
 
 const PAGE: &str = include_str!("../../../docs/refine.1");
@@ -87,6 +88,14 @@ fn the_page_has_the_version_and_the_worked_example() {
     for text in [WORKED, &answer] {
         assert!(PAGE.contains(&format!(".nf\n{text}.fi\n")), "{text}");
     }
+}
+
+#[test]
+fn the_page_has_the_phrases_of_the_rules() {
+    let text = section("REASONS IN WORDS").join(" ");
+    let phrases: Vec<&str> = RULES.iter().map(|rule| rule.phrase).collect();
+    let list = format!(": {}.", phrases.join(", "));
+    assert!(text.ends_with(&list), "{text}");
 }
 
 /// What a formatter does with the page; none where it is not installed.

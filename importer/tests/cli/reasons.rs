@@ -51,6 +51,12 @@ fn readme_shows_the_sentence() {
     let command = "$ refine reasons examples/desk.job examples/edited.placement";
     let block = format!("    {command}\n    {sentence}");
     assert!(README.contains(&block), "README lacks {block}");
+    let (verdict, notes, status) = run("score", "readme", [DESK, EDITED]);
+    let notes_end = format!("placement:2: {sentence}");
+    assert!(status == Some(0) && notes.ends_with(&notes_end), "{notes}");
+    let command = "$ refine score examples/desk.job examples/edited.placement";
+    let block = format!("    {command}\n    {verdict}    examples/edited.{notes_end}");
+    assert!(README.contains(&block), "README lacks {block}");
 }
 
 #[test]

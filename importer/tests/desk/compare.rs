@@ -97,9 +97,7 @@ fn a_broken_placement_is_told_and_the_cheapest_all_the_same() {
     let (output, notes, status) = compare("broken", JOB, placement, &[]);
     let lines = "broken,8,4\ncheapest,12,0,2,1,0,50\ncell,4,11,0,0,12,0,0\n";
     assert_eq!((&*output, status), (lines, Some(0)));
-    let words =
-        "/compare_broken.placement:4: rule 8: cell 4 leaves one empty site, 14, as the last \
-        of both rows: cell 4 takes sites 11 to 13, the row has 15 sites\n";
+    let words = "/compare_broken.placement:4: one-site row end: cell 4.\n";
     assert!(notes.ends_with(words), "{notes}");
     assert_eq!(notes.lines().count(), 1, "{notes}");
     let (table, ..) = compare("broken_table", JOB, placement, &["--table"]);
@@ -118,7 +116,7 @@ fn a_fixed_cell_that_was_moved_is_told_apart() {
         cell,1,2,0,0,0,0,0\n\
         fixed,2,9,0,0,8,0,0\n";
     assert_eq!((&*output, status), (lines, Some(0)));
-    let words = ":2: rule 3: cell 2 is shifted by 1, from 8 to 9; it is fixed at site 8\n";
+    let words = "/compare_fixed.placement:2: shifted too far: cell 2.\n";
     assert!(notes.ends_with(words), "{notes}");
     let (table, ..) = compare("fixed_table", job, placement, &["--table"]);
     let rows = "   cell  their site  layout  mark  cheapest site  layout  mark\n      \
@@ -150,8 +148,8 @@ fn a_job_without_a_legal_placement_is_a_refusal() {
     let (output, notes, status) = compare("none", &job, "0,0,0\n2,0,0\n", &[]);
     assert_eq!((&*output, status), ("refused,8,0\n", Some(1)));
     assert!(notes.starts_with("refine: refusal 8: "), "{notes}");
-    let words = "rule 4: cells 1 and 2 share site 2 in row 0";
-    assert!(notes.contains(words), "{notes}");
+    let words = "/compare_none.placement:1: overlap: cell 1, cell 2.\n";
+    assert!(notes.ends_with(words), "{notes}");
 }
 
 #[test]

@@ -93,8 +93,8 @@ fn a_single_site_is_told_with_its_sides() {
         open,0,5,1,2\n\
         open,0,10,2,end\n";
     assert_eq!((&*output, status), (lines, Some(0)));
-    let words = "rule 5: cells 1 and 2 leave one empty site, 5, in row 0";
-    assert!(notes.contains(words), "{notes}");
+    let words = "/gaps_open.placement:1: one-site gap: cell 1, cell 2.\n";
+    assert!(notes.ends_with(words), "{notes}");
     let (table, ..) = gaps("open_table", job, "1,0,0\n6,0,0\n", &["--table"]);
     assert!(table.starts_with("broken: rule 5, cell 1\n"), "{table}");
     let words = "\
@@ -114,7 +114,8 @@ fn a_broken_placement_has_its_gaps_too() {
         gaps,0,3,0,0,0,0,0\n\
         gaps,0,4+,1,0,1,3,2\n";
     assert_eq!((&*output, status), (lines, Some(0)));
-    assert!(notes.contains("rule 3: cell 1 is shifted by 2"), "{notes}");
+    let words = "/gaps_shifted.placement:1: shifted too far: cell 1, cell 2.\n";
+    assert!(notes.ends_with(words), "{notes}");
 }
 
 #[test]

@@ -1,11 +1,10 @@
 //! The words of explanations, one text for each kind. That a reason belongs to the refiner's answer
-//! is tried on generated texts too, in `trial/tests/explain_agrees`.
+//! is tried on generated texts too, in `trial/tests/explain_agrees.rs`.
 
 mod lines;
-mod rules;
 
-use importer::explain::{broken_rule, job_line, placement_line, printable};
-use importer::{Broken, Refused};
+use importer::explain::{job_line, placement_line, printable};
+use importer::Refused;
 
 const HEADER: &str = "J,1,20,1,1,100,1,100,50\n";
 const WORKED: &str = include_str!("../../../examples/worked.job");
@@ -19,11 +18,6 @@ fn of_another_answer_there_is_nothing_to_say() {
         assert_eq!(job_line(job.as_bytes(), &refused), None);
         assert_eq!(placement_line(job.as_bytes(), b"x", &refused), None);
         assert_eq!(job_line(WORKED.as_bytes(), &refused), None);
-    }
-    for (rule, cell) in [(0, 0), (5, 2), (4, 1), (999, 1)] {
-        let broken = Broken { rule, cell };
-        let said = broken_rule(WORKED.as_bytes(), b"2,0,0\n7,0,0\n", &broken);
-        assert_eq!(said, None);
     }
 }
 

@@ -1,9 +1,8 @@
 //! Explanations are true: whoever does what they say, one after another, ends with a text that the
-//! refiner accepts. A wrong field, a wrong range or a wrong count would leave its refusal standing,
-//! and a wrong end of a row its broken rule.
+//! refiner accepts. A wrong field, a wrong range or a wrong count would leave its refusal standing.
 
-use importer::explain::{broken_rule, job_line, placement_line};
-use importer::{read, score, Refused, Verdict};
+use importer::explain::{job_line, placement_line};
+use importer::{read, score, Refused};
 use trial::generate::damage::Damage;
 use trial::generate::{jobs, placements, Random};
 use trial::plain::placement::text_of;
@@ -221,33 +220,4 @@ fn damaged_placements_are_repaired() {
         );
     }
     assert!(repaired > 15_000, "{repaired}");
-}
-
-/// A row that gets one more site at each end that the words name has two there. The other row gets
-/// it too, so that each row may come to one empty site once at each end.
-#[test]
-fn row_ends_are_repaired() {
-    let mut random = Random::new(55);
-    let mut repaired = 0;
-    for _ in 0..12_000 {
-        let (mut job, mut placement) = placements::job_with_row_ends(&mut random);
-        for repairs in 0.. {
-            let (job_text, text) = (job.text(), text_of(&placement));
-            let Ok(Verdict::Broken(broken)) = score(&job_text, &text) else {
-                repaired += repairs;
-                break;
-            };
-            let words = broken_rule(&job_text, &text, &broken).unwrap_or_default();
-            assert!(broken.rule == 8 && repairs < 4, "{broken:?}: {words}");
-            if words.contains(" as the first of ") {
-                job.sites += 1;
-                job.cells.iter_mut().for_each(|cell| cell.given += 1);
-                placement.iter_mut().for_each(|pose| pose.site += 1);
-            }
-            if words.contains(" as the last of ") {
-                job.sites += 1;
-            }
-        }
-    }
-    assert!(repaired > 6_000, "{repaired}");
 }

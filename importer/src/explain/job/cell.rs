@@ -5,7 +5,6 @@ use crate::explain::field::{in_range, Field};
 use crate::explain::form::{count, Form};
 use crate::explain::line::Line;
 use crate::explain::reason::{Reason, FORM, RANGE};
-use crate::Refused;
 
 /// The row of a cell that stands in both.
 const TALL: u32 = 2;
@@ -100,7 +99,7 @@ fn layout_fields(row: u32, layout: u32) -> Vec<Field> {
 }
 
 /// The cell of a line, in a job of so many rows.
-pub fn read(line: &Line, rows: u32) -> Result<Cell, Reason<Refused>> {
+pub fn read(line: &Line, rows: u32) -> Result<Cell, Reason> {
     let refuse = |number| move |words| line.refused(number, words);
     let numbers = CELL.numbers(line).map_err(refuse(FORM))?;
     let (row, given, mirrorable, layouts, of_layouts) = match &*numbers.values {

@@ -4,7 +4,6 @@ use crate::explain::field::{in_range, Field};
 use crate::explain::form::{count, Form};
 use crate::explain::line::Line;
 use crate::explain::reason::{Reason, FORM, RANGE};
-use crate::Refused;
 
 const HEADER: Form = Form {
     lead: Some((&["J"], "the first line")),
@@ -40,7 +39,7 @@ fn fields() -> Vec<Field> {
     ]
 }
 
-pub fn read(line: &Line) -> Result<Header, Reason<Refused>> {
+pub fn read(line: &Line) -> Result<Header, Reason> {
     let refuse = |number| move |words| line.refused(number, words);
     let numbers = HEADER.numbers(line).map_err(refuse(FORM))?;
     let header = match numbers.values[..] {

@@ -25,7 +25,7 @@ pub struct Job {
 }
 
 /// The job that a text says, or what is wrong with its earliest bad line.
-pub fn read(text: &[u8]) -> Result<Job, Reason<Refused>> {
+pub fn read(text: &[u8]) -> Result<Job, Reason> {
     let mut lines = lines(text);
     let first = lines.next().ok_or_else(empty)?;
     let mut job = Job {
@@ -39,7 +39,7 @@ pub fn read(text: &[u8]) -> Result<Job, Reason<Refused>> {
     Ok(job)
 }
 
-fn empty() -> Reason<Refused> {
+fn empty() -> Reason {
     Reason {
         answer: Refused {
             number: FORM,
@@ -51,7 +51,7 @@ fn empty() -> Reason<Refused> {
 
 impl Job {
     /// Takes one more cell in, unless it is one too many or its given site falls.
-    fn admit(&mut self, line: &Line, cell: Cell) -> Result<(), Reason<Refused>> {
+    fn admit(&mut self, line: &Line, cell: Cell) -> Result<(), Reason> {
         if let Some(words) = self.surplus(&cell) {
             return Err(line.refused(LIMIT, words));
         }

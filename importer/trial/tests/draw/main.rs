@@ -5,7 +5,7 @@ mod picture;
 mod svg;
 
 use importer::draw::draw;
-use importer::{refine, score, Broken, Numbers, Verdict};
+use importer::{refine, score, sentence, Broken, Numbers, Verdict};
 use picture::Picture;
 use trial::generate::{jobs, legal, placements, small, Random};
 use trial::plain::job::Job;
@@ -129,15 +129,17 @@ fn broken_placements_are_told_and_stay_legible() {
         let (job, mut placement) = placements::job_with_legal_placement(&mut random);
         placements::break_rule(&mut random, 1 + count % 8, &job, &mut placement);
         let picture = drawn(&job, Some(&placement), false);
-        let Err(Broken { rule, cell }) = numbers(&job, &placement) else {
+        let Err(Broken { rule, .. }) = numbers(&job, &placement) else {
             assert!(!picture.has("named"));
             continue;
         };
         rules[rule as usize] += 1;
-        let said =
-            format!("placement: not legal, rule {rule} is broken, its lowest cell is {cell}: ");
-        assert!(picture.description().starts_with(&said), "{said}");
-        assert!(picture.has("named"), "cell {cell} is not marked");
+        let sentence = sentence(&job.text(), &text_of(&placement)).expect("Score took the texts");
+        let said = format!("placement: not legal, rule {rule}: {sentence}");
+        assert_eq!(picture.description(), said);
+        // Each cell has a frame in each band that it is seen in, and the key has one.
+        let named = sentence.matches("cell ").count();
+        assert!(picture.shapes("named") > named, "a frame is missing");
         assert!(rule != 1 || picture.has("lx"));
         assert!(rule != 2 || picture.has("past"));
         assert!(rule != 4 || picture.has("over"));

@@ -62,10 +62,15 @@ impl Picture {
         self.named("text").any(|text| text.text == words)
     }
 
+    /// How many shapes have the class.
+    pub fn shapes(&self, class: &str) -> usize {
+        let shapes = self.elements.iter();
+        shapes.filter(|shape| shape.has_class(class)).count()
+    }
+
     /// Whether a shape has the class.
     pub fn has(&self, class: &str) -> bool {
-        let drawn = |element: &&Element| element.has_class(class);
-        self.elements.iter().any(|element| drawn(&element))
+        self.shapes(class) > 0
     }
 
     /// Checks that it is not too wide, that all boxes and texts are inside, that no texts overlap,

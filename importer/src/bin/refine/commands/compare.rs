@@ -1,6 +1,6 @@
 //! `refine compare`: a supplier's placement beside the cheapest, for the desk.
 
-use super::score::{refusal_of, texts, with_reason};
+use super::score::{refusal_of, texts, with_sentence};
 use super::TABLE;
 use crate::figures::{self, Figures};
 use crate::input::Text;
@@ -44,11 +44,11 @@ pub fn run(words: &[OsString]) -> Result<Report, Mistake> {
     Ok(checked(report, &comparison, most))
 }
 
-/// The report with how a rule is broken, if one is.
+/// The report with the sentence on the placement, if a rule is broken.
 fn with_verdict(report: Report, theirs: &Verdict, job: &Text, placement: &Text) -> Report {
     match theirs {
         Verdict::Legal(_) => report,
-        Verdict::Broken(broken) => with_reason(report, broken, job, placement),
+        Verdict::Broken(broken) => with_sentence(report, broken, job, placement),
     }
 }
 

@@ -1,6 +1,6 @@
 //! `refine gaps`: the gaps of a placement and the fillers that close them, for the fill engineer.
 
-use super::score::{refusal_of, texts, with_reason};
+use super::score::{refusal_of, texts, with_sentence};
 use super::TABLE;
 use crate::figures;
 use crate::mistake::Mistake;
@@ -33,7 +33,7 @@ pub fn run(words: &[OsString]) -> Result<Report, Mistake> {
     let report = Report::answer(output);
     Ok(match verdict {
         Verdict::Legal(_) => report,
-        Verdict::Broken(broken) => with_reason(report, &broken, &job, &placement),
+        Verdict::Broken(broken) => with_sentence(report, &broken, &job, &placement),
     })
 }
 

@@ -4,7 +4,7 @@ use crate::input::{Text, DASH};
 use crate::mistake::Mistake;
 use crate::report::{line_of, Report};
 use crate::words::{Switch, Words};
-use importer::{explain, score, Broken, Refused, Verdict};
+use importer::{explain, score, sentence, Broken, Refused, Verdict};
 use std::ffi::{OsStr, OsString};
 
 /// The only refusal of which the line is the placement's.
@@ -51,25 +51,20 @@ pub fn both(job: &OsStr, placement: &OsStr) -> Result<(Text, Text), Mistake> {
     Ok((Text::of(job, "a job")?, Text::of(placement, "a placement")?))
 }
 
-/// `broken,rule,cell`; on standard error how the cell breaks the rule.
+/// `broken,rule,cell`; on standard error the sentence with every cell that breaks the rule.
 fn answer_of(broken: &Broken, job: &Text, placement: &Text) -> Report {
     let Broken { rule, cell } = *broken;
     let report = Report::answer(format!("broken,{rule},{cell}\n"));
-    with_reason(report, broken, job, placement)
+    with_sentence(report, broken, job, placement)
 }
 
-/// The report with how the cell breaks the rule, on standard error. A cell's line in the placement
-/// has the cell's number.
-pub fn with_reason(report: Report, broken: &Broken, job: &Text, placement: &Text) -> Report {
-    let Broken { rule, cell } = *broken;
-    match explain::broken_rule(&job.bytes, &placement.bytes, broken) {
-        Some(words) => {
-            report.with_words_at(&placement.name, cell, &format!("rule {rule}: {words}"))
-        }
-        None => {
-            let asks = broken.meaning();
-            report.with_note(&format!("cell {cell} breaks rule {rule}: {asks}"))
-        }
+/// The report with the refiner's sentence on standard error, at the line of its first cell: a cell's
+/// line in the placement has the cell's number.
+pub fn with_sentence(report: Report, broken: &Broken, job: &Text, placement: &Text) -> Report {
+    match sentence(&job.bytes, &placement.bytes) {
+        Ok(sentence) => report.with_words_at(&placement.name, broken.cell, &sentence),
+        // Reasons takes the texts that Score took.
+        Err(refused) => refusal_of(refused, job, placement),
     }
 }
 

@@ -1,12 +1,59 @@
-//! Explanations against the refiner, on generated texts: each refusal and each broken rule has a
-//! reason that belongs to it, and there is none where the refiner finds nothing.
+//! Explanations against the refiner, on generated texts: each refusal has a reason that belongs to
+//! it, and there is none where the refiner refuses nothing.
 
-mod comparison;
-
-use comparison::Comparison;
+use importer::explain::{job_line, job_reason, placement_line, placement_reason, Reason};
+use importer::{read, score, Refused};
 use trial::generate::damage::Damage;
 use trial::generate::{jobs, placements, Random};
 use trial::plain::placement::text_of;
+
+/// No message is longer, however long the text.
+const LONGEST: usize = 300;
+
+/// Holds explanations against the refiner's refusals, and counts those.
+#[derive(Default)]
+struct Comparison {
+    /// How many texts had each refusal number, 0 for none.
+    numbers: [usize; 6],
+}
+
+impl Comparison {
+    /// Read's refusal of a job text.
+    fn job(&mut self, text: &[u8]) {
+        let refused = read(text).err();
+        let reason = job_reason(text);
+        self.check(&reason, refused, || text.escape_ascii().to_string());
+        let words = refused.and_then(|refused| job_line(text, &refused));
+        assert_eq!(words, reason.map(|reason| reason.words));
+    }
+
+    /// Score's refusal of two texts.
+    fn pair(&mut self, job: &[u8], placement: &[u8]) {
+        let refused = score(job, placement).err();
+        let reason = placement_reason(job, placement);
+        let texts = || format!("{}\n{}", job.escape_ascii(), placement.escape_ascii());
+        self.check(&reason, refused, texts);
+        let words = refused.and_then(|refused| placement_line(job, placement, &refused));
+        assert_eq!(words, reason.map(|reason| reason.words));
+    }
+
+    /// The reason is that of the refusal; its words are one printable line that is not too long.
+    fn check(
+        &mut self,
+        reason: &Option<Reason>,
+        refused: Option<Refused>,
+        texts: impl Fn() -> String,
+    ) {
+        let of_reason = reason.as_ref().map(|reason| reason.answer);
+        assert_eq!(of_reason, refused, "{reason:?} of\n{}", texts());
+        self.numbers[refused.map_or(0, |refused| refused.number as usize)] += 1;
+        if let Some(Reason { words, .. }) = reason {
+            let printable = words.bytes().all(|byte| matches!(byte, b' '..=b'~'));
+            assert!(printable && !words.is_empty(), "{words:?}");
+            assert!(words.len() <= LONGEST, "{words:?}");
+        }
+    }
+}
 
 #[test]
 fn on_damaged_jobs() {
@@ -129,44 +176,7 @@ fn on_damaged_placements() {
     assert!(comparison.numbers[5] > 20_000, "{:?}", comparison.numbers);
 }
 
-#[test]
-fn on_placements_that_break_each_rule_and_several() {
-    let mut random = Random::new(46);
-    let mut comparison = Comparison::default();
-    for count in 0..70_000 {
-        let first = 1 + count % 8;
-        let (job, mut placement) = loop {
-            let drawn = placements::job_with_legal_placement(&mut random);
-            if first != 7 || drawn.0.tall_cells() >= 2 {
-                break drawn;
-            }
-        };
-        placements::break_rule(&mut random, first, &job, &mut placement);
-        if random.chance(1, 3) {
-            let rule = 1 + random.below(8) as u32;
-            placements::break_rule(&mut random, rule, &job, &mut placement);
-        }
-        comparison.pair(&job.text(), &text_of(&placement));
-    }
-    let [_, broken @ ..] = comparison.rules;
-    assert!(broken.iter().sum::<usize>() > 20_000, "{broken:?}");
-    assert!(broken.iter().all(|&seen| seen > 300), "{broken:?}");
-    let [_, by_fixed @ .., _, _, _, _, _] = comparison.by_fixed;
-    assert!(by_fixed.iter().all(|&seen| seen > 300), "{by_fixed:?}");
-}
-
-#[test]
-fn on_row_ends() {
-    let mut random = Random::new(48);
-    let mut comparison = Comparison::default();
-    for _ in 0..20_000 {
-        let (job, placement) = placements::job_with_row_ends(&mut random);
-        comparison.pair(&job.text(), &text_of(&placement));
-    }
-    let [legal, .., broken] = comparison.rules;
-    assert!(legal > 4_000 && broken > 10_000, "{:?}", comparison.rules);
-}
-
+/// A broken rule is no refusal, whatever the numbers.
 #[test]
 fn on_wild_placements() {
     let mut random = Random::new(47);
@@ -176,4 +186,5 @@ fn on_wild_placements() {
         let placement = placements::wild(&mut random, &job);
         comparison.pair(&job.text(), &text_of(&placement));
     }
+    assert_eq!(comparison.numbers[0], 20_000, "{:?}", comparison.numbers);
 }

@@ -1,7 +1,6 @@
-//! Cells as they stand.
+//! Cells as they stand: what the desk's tools tell of a placement and what a picture shows of it.
 
-use crate::explain::job::{Cell, Edge, Header, Job, Layout};
-use crate::explain::placement::RawPose;
+use crate::explain::{Cell, Edge, Header, Job, Layout, RawPose};
 
 /// All cells of a job as a placement has them, in file order.
 pub struct Board<'job> {
@@ -92,23 +91,6 @@ impl<'job> Stand<'job> {
     /// The first site right of the cell.
     pub fn end(&self) -> u32 {
         self.pose.site + self.width()
-    }
-
-    /// `cell 3 takes sites 5 to 8`; of a fixed cell, which is not the one to move, it is said.
-    pub fn takes(&self) -> String {
-        let sites = sites(self.pose.site, self.end());
-        let fixed = if self.cell.fixed { ", fixed," } else { "" };
-        format!("cell {}{fixed} takes {sites}", self.number)
-    }
-}
-
-/// The sites from one on and before an end, in words.
-pub fn sites(from: u32, end: u32) -> String {
-    let last = end.saturating_sub(1);
-    if last > from {
-        format!("sites {from} to {last}")
-    } else {
-        format!("site {from}")
     }
 }
 
