@@ -4,9 +4,10 @@
 //! (`include/refiner.h` is its C interface). This library makes its functions safe to call:
 //! [`calls`] has each of them with slices for addresses and lengths, and the modules beside it
 //! turn the numbers that a call leaves behind into plain structs. [`REFUSALS`] and [`RULES`] say in
-//! words what refusal numbers and rules mean, and [`explain`] what is wrong with a text. [`desk`]
-//! has what the desk's tools tell, [`draw`] shows rows as a picture, and [`batch`] does many jobs;
-//! [`farm_job`] writes a job of the farm's load.
+//! words what refusal numbers and rules mean, [`explain`] what is wrong with a text, and
+//! [`sentence`](sentence()) which cells break a rule. [`desk`] has what the desk's tools tell,
+//! [`draw`] shows rows as a picture, and [`batch`] does many jobs; [`farm_job`] writes a job of the
+//! farm's load.
 //!
 //! Texts go in and out as bytes; [`job`] and [`placement`] have them as values:
 //!
