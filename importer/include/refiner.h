@@ -7,9 +7,9 @@
  * Threads: nothing is kept between calls. Any number of threads may call at the same time, each
  * with buffers of its own; texts that are only read may be shared.
  *
- * Stack: a call of Place takes up to 160 KB, of Score and of Reasons up to 40 KB each, of Fault line
- * up to 30 KB, of Read up to 25 KB, of Load up to 1 KB, as measured on the deepest jobs known. Nothing
- * is taken from the heap.
+ * Stack: a call of Place takes up to 160 KB, of Score up to 40 KB, of Reasons up to 40 KB, of Fault
+ * line up to 30 KB, of Read up to 25 KB, of Load up to 1 KB, as measured on the deepest jobs known.
+ * Nothing is taken from the heap.
  *
  * Every operation returns its refusal number, or 0 for an answer. It writes to `results`, as far
  * as that reaches: the number, the line (counted from 1; 0 if no line is at fault), and then the
@@ -188,11 +188,11 @@ uint32_t refiner_place(const uint8_t *job, size_t job_len, uint32_t *store, size
 uint32_t refiner_load(uint32_t seed, uint32_t cells, uint8_t *output, size_t output_len,
                       int32_t *results, size_t results_len);
 
-/* Reasons. Writes a sentence on the placement to the start of `output`: the phrase of the first broken
- * rule, a colon and a space, `cell N` for every cell that breaks it, in rising order and parted by a
- * comma and a space, and a full stop; or `legal.` No line feed and no zero byte follow. Refuses 1 to 5
- * as Score does, then 11, all before a byte is written. Results: number, line, text length. Bytes past
- * the sentence stay as they were.
+/* Reasons. Writes a sentence on the placement to the start of `output`: the phrase of the first
+ * broken rule, a colon and a space, `cell N` for every cell that breaks it, in rising order and
+ * parted by a comma and a space, and a full stop; or `legal.` No line feed and no zero byte follow.
+ * Refuses 1 to 5 as Score does, then 11, all before a byte is written. Results: number, line, text
+ * length. Bytes past the sentence stay as they were.
  */
 uint32_t refiner_reasons(const uint8_t *job, size_t job_len, const uint8_t *placement,
                          size_t placement_len, uint8_t *output, size_t output_len,

@@ -116,7 +116,7 @@ int main(void) {
         "J,1,20,1,1,100,1,100,50\nC,0,2,1,1,4,3,3,2,2\nC,0,6,0,1,4,3,3,2,2\n",
         "J,1,20,1,1,100,1,100,50\nC,0,2,1,1,4,3,3,2,2\nC,0,1,0,1,4,3,3,2,2\n",
         "J,1,20,1,1,100,1,100,50\n"};
-    static const char *const PLACEMENTS[] = {"2,0,1\n6,0,0\n", "2,0,1\n6,0\n", "2,0,1\n7,0,0\n"};
+    static const char *const PLACEMENTS[] = {"2,0,1\n6,0,0\n", "2,0,1\n7,0,0\n", "2,0,1\n6,0\n"};
     int calls = 0, empties;
     size_t function, job, placement;
     for (function = 0; function < sizeof FUNCTIONS / sizeof *FUNCTIONS; function++) {

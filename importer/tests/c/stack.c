@@ -50,8 +50,8 @@ static uint32_t call_load(void) {
 }
 
 static uint32_t call_reasons(void) {
-    return refiner_reasons(job, job_len, placement, placement_len, sentence, sizeof sentence, results,
-                           REFINER_REASONS_RESULTS);
+    return refiner_reasons(job, job_len, placement, placement_len, sentence, sizeof sentence,
+                           results, REFINER_REASONS_RESULTS);
 }
 
 struct run {

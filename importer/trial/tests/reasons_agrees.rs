@@ -110,7 +110,8 @@ fn on_legal_and_nearly_legal_placements() {
     assert!(comparison.legal > 5_000, "{}", comparison.legal);
 }
 
-/// Fixed cells as they must stand, and in a layout, with a mark or at a site that a free one may have.
+/// Fixed cells as they must stand, or in a layout, with a mark or at a site that a free one may
+/// have.
 #[test]
 fn on_fixed_cells() {
     let mut random = Random::new(103);

@@ -129,15 +129,16 @@ fn rule_6() {
     );
     let all = "order moved too far: cell 1, cell 2, cell 3.";
     check(&row(0, 3), "4,0,0\n2,0,0\n3,0,0\n", all);
-    // The tall cell 3 has passed cell 1 of row 0, and cells 2 and 4 of row 1 stay in their order.
-    let rows = "J,2,20,7,0,0,0,0,0
-C,0,6,0,1,2,1,1,1,1
-C,1,0,0,1,2,1,1,1,1
-C,2,6,0,1,2,1,1,1,1,1,1,1,1
-C,1,10,0,1,2,1,1,1,1
-";
+    // The tall cell 3 has passed cell 1 of row 0, or of row 1; in the other row cells 2, 3 and 4 stay
+    // in their order.
     let said = "order moved too far: cell 1, cell 3.";
-    check(rows, "8,0,0\n0,0,0\n6,0,0\n10,0,0\n", said);
+    for [one, other] in [[0, 1], [1, 0]] {
+        let single = |row: u32, given: u32| format!("C,{row},{given},0,1,2,1,1,1,1\n");
+        let before = single(one, 6) + &single(other, 0);
+        let tall = "C,2,6,0,1,2,1,1,1,1,1,1,1,1\n";
+        let rows = format!("J,2,20,7,0,0,0,0,0\n{before}{tall}{}", single(other, 10));
+        check(&rows, "8,0,0\n0,0,0\n6,0,0\n10,0,0\n", said);
+    }
 }
 
 /// A tall cell with any tall cell on its wrong side; cells of one row do not matter.

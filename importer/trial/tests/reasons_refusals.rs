@@ -8,8 +8,8 @@ use trial::plain::reasons::{reasons, reasons_results, OUTPUT};
 
 const UNTOUCHED: u8 = 0xaa;
 
-/// Calls Reasons with an output of so many bytes and an array of the next length; the number that it
-/// returns, once all that it left was looked at.
+/// Calls Reasons with an output of so many bytes and an array of the next length; the number that
+/// it returns, once all that it left was looked at.
 fn number(arrays: &mut Arrays, [job, placement]: [&[u8]; 2], bytes: usize) -> u32 {
     let mut output = vec![UNTOUCHED; bytes];
     let call = |results: &mut [i32]| importer::calls::reasons(job, placement, &mut output, results);

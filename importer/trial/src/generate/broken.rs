@@ -66,9 +66,11 @@ fn narrow(random: &mut Random) -> legal::Shape {
     }
 }
 
+/// Cells that have left their places, among tall ones too.
 fn order_moved(random: &mut Random) -> (Job, Placement) {
     let shape = narrow(random);
-    exchanged(random, &legal::Shape { tall: 0, ..shape }, 3)
+    let tall = random.pick(&[0, 0, shape.tall]);
+    exchanged(random, &legal::Shape { tall, ..shape }, 3)
 }
 
 /// Tall cells that follow each other change places: with R 1 that breaks no other rule.
