@@ -223,20 +223,17 @@ fn the_longest_sentences() {
         (6, &in_fours, at_sites(|at| at ^ 2, 64)),
         (7, &in_pairs, at_sites(|at| at ^ 1, 24)),
     ];
+    let mut longest = 0;
     for (rule, job, placement) in pairs {
-        let named: Vec<u32> = (1..).take(placement.lines().count()).collect();
-        let numbers: Vec<String> = named.iter().map(|cell| format!("cell {cell}")).collect();
+        let cells: Vec<u32> = (1..).take(placement.lines().count()).collect();
+        let named: Vec<String> = cells.iter().map(|cell| format!("cell {cell}")).collect();
         let phrase = PHRASES[rule as usize - 1];
-        let expected = format!("{phrase}: {}.", numbers.join(", "));
-        assert!(expected.len() <= OUTPUT);
+        let expected = format!("{phrase}: {}.", named.join(", "));
         check(job, &placement, &expected);
-        let cells = named;
         assert_eq!(expected.parse(), Ok(Sentence::Broken { rule, cells }));
+        longest = longest.max(expected.len());
     }
-    let longest = PHRASES.iter().map(|phrase| phrase.len()).max();
-    // 64 cells have 119 digits.
-    assert_eq!(
-        longest.map(|phrase| phrase + 2 + 64 * 5 + 119 + 63 * 2 + 1),
-        Some(587)
-    );
+    // `order moved too far: `, 64 times `cell `, 119 digits, 63 times `, `, and the full stop.
+    assert_eq!(longest, 21 + 64 * 5 + 119 + 63 * 2 + 1);
+    assert!(longest <= OUTPUT);
 }

@@ -16,18 +16,14 @@ fn said(job: &Job, placement: &Placement) -> Sentence {
 
 /// The job and its placement with some of the cells alone, which are told by their number.
 fn with(job: &Job, placement: &Placement, kept: impl Fn(u32) -> bool) -> (Job, Placement) {
-    let mut numbers = 1..;
-    let mut kept = || numbers.next().is_some_and(&kept);
-    let mut fewer = job.clone();
-    let mut poses = Placement::new();
-    fewer.cells.clear();
-    for (cell, pose) in job.cells.iter().zip(placement) {
-        if kept() {
-            fewer.cells.push(*cell);
-            poses.push(*pose);
-        }
-    }
-    (fewer, poses)
+    let cells = job.cells.iter().zip(placement).zip(1..);
+    let kept = cells.filter(|(_, number)| kept(*number));
+    let (cells, poses) = kept.map(|((cell, pose), _)| (*cell, *pose)).unzip();
+    let job = Job {
+        cells,
+        ..job.clone()
+    };
+    (job, poses)
 }
 
 /// Rules 1 to 4. Without some cells others may come to stand one site apart, have another place in
