@@ -1,4 +1,5 @@
 -- The job's reading decides, and then the placement's.
+use native.Mathlib.Omega.{arith}
 use Rattle.texts_read.specs.Reading.{by-job, by-placement}
 use borrow.Author.Needs.{needs}
 use Rattle.texts_read.proofs.read_texts.Statement.{statement}
@@ -20,7 +21,7 @@ returns c =
 read-placement-requires : tie.Need-read-placement-requires
 read-placement-requires c κs =
     let r = c .before .before .before .before in
-    r .read-job .ensures .accepted (c .if1 .left) .few
+    omega (arith, r .read-job .ensures .accepted (c .if1 .left) .few)
 
 returns-2 : tie.Need-returns-2
 returns-2 c =
