@@ -66,45 +66,45 @@ sentence r =
 -- ---- "From the text the rule and the cells can be had back"
 
 -- the parts of a text between the bytes that pass a test
-unfoldable pub split : (ℕ → Bool) → Text → List Text
-split between [] = [] ∷ []
-split between (b ∷ bs) = cond (between b) ([] ∷ split between bs) (onto b (split between bs))
+unfoldable pub splitBy : (ℕ → Bool) → Text → List Text
+splitBy between [] = [] ∷ []
+splitBy between (b ∷ bs) = cond (between b) ([] ∷ splitBy between bs) (onto b (splitBy between bs))
 
-unfoldable pub same : Text → Text → Bool
-same [] [] = true
-same (a ∷ s) (b ∷ t) = eqb a b && same s t
-same [] (b ∷ t) = false
-same (a ∷ s) [] = false
+unfoldable pub sameText : Text → Text → Bool
+sameText [] [] = true
+sameText (a ∷ s) (b ∷ t) = eqb a b && sameText s t
+sameText [] (b ∷ t) = false
+sameText (a ∷ s) [] = false
 
 -- the number of the first of some texts that is this one, where they are numbered from n on; 0 if none is
-unfoldable pub numberOf : Text → ℕ → List Text → ℕ
-numberOf text n [] = 0
-numberOf text n (t ∷ ts) = cond (same text t) n (numberOf text (suc n) ts)
+unfoldable pub numberAmong : Text → ℕ → List Text → ℕ
+numberAmong text n [] = 0
+numberAmong text n (t ∷ ts) = cond (sameText text t) n (numberAmong text (suc n) ts)
 
 -- the rule by the phrase before the first colon, 0 if no rule has it; the cells by the numbers that stand in the text
 abbrev pub colon : ℕ
 colon = 58
 
 unfoldable pub ruleSaid : Text → ℕ
-ruleSaid text = numberOf (getD (split (eqb colon) text) 0 []) 1 phrases
+ruleSaid text = numberAmong (getD (splitBy (eqb colon) text) 0 []) 1 phrases
 
 unfoldable pub cellsSaid : Text → List ℕ
-cellsSaid text = map value (keep (λ t. leb 1 (length t)) (split (λ b. not (isDigit b)) text))
+cellsSaid text = map value (keep (λ t. leb 1 (length t)) (splitBy (λ b. not (isDigit b)) text))
 
 unfoldable pub readReason : Text → Reason
 readReason text = record { rule = ruleSaid text; cells = cellsSaid text }
 
 -- numbers that rise, the first at least a, up to as many as a job may have cells
-abbrev pub Rising : ℕ → List ℕ → Type 0
-Rising a [] = Unit {0}
-Rising a (c ∷ cs) = (a ≤ c) × (c ≤ maxCells) × Rising (suc c) cs
+abbrev pub CellsRise : ℕ → List ℕ → Type 0
+CellsRise a [] = Unit {0}
+CellsRise a (c ∷ cs) = (a ≤ c) × (c ≤ maxCells) × CellsRise (suc c) cs
 
 -- legal and no cells, or a rule that there is and cells from 1 on, rising, at least one
 pub record IsReason (r : Reason) : Type 0 where
   pub known : r .rule ≤ length phrases
   pub none : r .rule ≡ 0 → r .cells ≡ []
   pub some : ¬ (r .rule ≡ 0) → 0 < length (r .cells)
-  pub rising : Rising 1 (r .cells)
+  pub rising : CellsRise 1 (r .cells)
 
 -- ---- the operation
 

@@ -120,8 +120,8 @@ module _ (job placement : Text) (before end : Buffers) where
   answers m = go (readJob job) refl
     where
       enough : (j : Job) → readJob job ≡ accepted j
-          → (P : Placement) → readPlacement (length (j .cells)) placement ≡ poses P → (t : Bool) → Le? reasonsRoom room t
-          → Reasoned job placement before end
+          → (P : Placement) → readPlacement (length (j .cells)) placement ≡ poses P
+          → (t : Bool) → Le? reasonsRoom room t → Reasoned job placement before end
       enough j e P p true (low h) = reasoned m j e P p h
       enough j e P p false (high h) =
           otherwise (number-is (reasons-short room job placement e p h)) (λ z. omega arith) m

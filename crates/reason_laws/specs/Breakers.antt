@@ -10,7 +10,7 @@ use Rattle.definition.specs.Lists.{from, keep}
 use Rattle.definition.specs.Job.{Job, maxCells}
 use Rattle.definition.specs.Placement.{Placement}
 use Rattle.definition.specs.Rules.{never, rules, ruleOf, verdict}
-use Rattle.definition.specs.Reasons.{breakersOf, reasonOf, FirstNamed, Rising, IsReason}
+use Rattle.definition.specs.Reasons.{breakersOf, reasonOf, FirstNamed, CellsRise, IsReason}
 use Rattle.definition_laws.specs.FirstBroken.{Broken, first-broken, none-broken}
 
 -- ---- numbers that pass a test, each with one more
@@ -34,15 +34,15 @@ kept-first f a (suc n) c h g t e = go (ℕ-discrete c a) (kept-first f (suc a) n
     go (no d) r =
         rw (e a (omega arith) (omega arith)) (r (omega arith) (omega arith) t (λ k i j. e k (omega arith) j))
 
-kept-rise : (f : ℕ → Bool) (b a n : ℕ) → b ≤ suc a → a + n ≤ maxCells → Rising b (map suc (keep f (from a n)))
+kept-rise : (f : ℕ → Bool) (b a n : ℕ) → b ≤ suc a → a + n ≤ maxCells → CellsRise b (map suc (keep f (from a n)))
 kept-rise f b a zero h g = tt
 kept-rise f b a (suc n) h g =
     go (f a) (kept-rise f (suc (suc a)) (suc a) n (omega arith) (omega arith))
     (kept-rise f b (suc a) n (omega arith) (omega arith))
   where
-    go : (t : Bool) → Rising (suc (suc a)) (map suc (keep f (from (suc a) n)))
-        → Rising b (map suc (keep f (from (suc a) n)))
-        → Rising b (map suc (cond t (a ∷ keep f (from (suc a) n)) (keep f (from (suc a) n))))
+    go : (t : Bool) → CellsRise (suc (suc a)) (map suc (keep f (from (suc a) n)))
+        → CellsRise b (map suc (keep f (from (suc a) n)))
+        → CellsRise b (map suc (cond t (a ∷ keep f (from (suc a) n)) (keep f (from (suc a) n))))
     go true r s = (h, omega arith, r)
     go false r s = s
 

@@ -9,11 +9,11 @@ use lib.Dec.{eqb}
 use Rattle.definition.specs.Texts.{Text, bytes, digits, parted}
 use Rattle.definition.specs.Job.{maxCells}
 use Rattle.definition.specs.Reasons.{Reason, phrases, phraseOf, cellNamed, cellsNamed, sentence}
-use Rattle.definition.specs.Reasons.{Rising, IsReason, reasonsRoom}
+use Rattle.definition.specs.Reasons.{CellsRise, IsReason, reasonsRoom}
 use Rattle.text_laws.specs.Numbers.{four-long}
 
 -- cells that rise are no more than a job may have
-rising-few : (a : ℕ) (cells : List ℕ) → a ≤ suc maxCells → Rising a cells → a + length cells ≤ suc maxCells
+rising-few : (a : ℕ) (cells : List ℕ) → a ≤ suc maxCells → CellsRise a cells → a + length cells ≤ suc maxCells
 rising-few a [] h r = omega arith
 rising-few a (c ∷ cs) h r =
     let low = r .0 in
@@ -29,7 +29,7 @@ named-long : (n : ℕ) → n ≤ maxCells → length (cellNamed n) + 2 ≤ cellB
 unfolding bytes
 named-long n h = omega (arith, four-long n (omega arith))
 
-cells-long : (a : ℕ) (cells : List ℕ) → Rising a cells → length (cellsNamed cells) ≤ cellBytes * length cells
+cells-long : (a : ℕ) (cells : List ℕ) → CellsRise a cells → length (cellsNamed cells) ≤ cellBytes * length cells
 unfolding cellsNamed bytes
 cells-long a [] r = omega arith
 cells-long a (c ∷ []) r = omega (arith, named-long c (r .1))

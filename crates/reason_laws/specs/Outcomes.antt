@@ -9,7 +9,8 @@ use Rattle.definition.specs.Texts.{Text}
 use Rattle.definition.specs.Job.{Job, refused, accepted, readJob, firstFailing}
 use Rattle.definition.specs.Placement.{Placement, fault, poses, readPlacement}
 use Rattle.definition.specs.Outcome.{noLine, refusedBy, textFieldCount, textAnswer, outcomeOf}
-use Rattle.definition.specs.Reasons.{reasonOf, sentence, reasonsRoom, roomRefusal, reasonsRefusals, reasonsAnswer, reasons}
+use Rattle.definition.specs.Reasons.{reasonOf, sentence, reasonsRoom, roomRefusal, reasonsRefusals}
+use Rattle.definition.specs.Reasons.{reasonsAnswer, reasons}
 use Rattle.definition_laws.specs.Outcomes.{first-refuses, first-passes, none-refuses}
 use Rattle.definition_laws.specs.Outcomes.{job-refuses, poses-refuse, poses-pass}
 

@@ -8,7 +8,7 @@ use lib.ListN.{length}
 use borrow.Author.Tests.{le-leb}
 use Rattle.definition.specs.Lists.{all}
 use Rattle.definition.specs.Texts.{Text, bytes, isDigit, digits, parted}
-use Rattle.definition.specs.Reasons.{Reason, cellNamed, cellsNamed, sentence, split, same, numberOf}
+use Rattle.definition.specs.Reasons.{Reason, cellNamed, cellsNamed, sentence, splitBy, sameText, numberAmong}
 use Rattle.definition.specs.Reasons.{ruleSaid, cellsSaid, readReason, IsReason, Sentences}
 use Rattle.text_laws.specs.Numbers.{digits-each, digits-some, value-digits}
 use Rattle.job_laws.specs.Whole.{accepted-sound}
@@ -22,8 +22,8 @@ noDigit b = not (isDigit b)
 
 -- digits before a byte that is none are a part
 digits-part : (d : Text) (b : ℕ) (t : Text) → all isDigit d ≡ true → isDigit b ≡ false
-    → split noDigit (d ++ (b ∷ t)) ≡ d ∷ split noDigit t
-unfolding split
+    → splitBy noDigit (d ++ (b ∷ t)) ≡ d ∷ splitBy noDigit t
+unfolding splitBy
 digits-part [] b t e f = rw f
 digits-part (x ∷ d) b t e f =
     let p = and-eq-true-iff (isDigit x) (all isDigit d) .0 e in
@@ -36,7 +36,7 @@ number-first n b t f =
     rw (digits-part (digits n) b t (digits-each n) f, le-leb 1 (length (digits n)) (digits-some n), value-digits n)
 
 cells-back : (cells : List ℕ) → cellsSaid (cellsNamed cells ++ bytes ".") ≡ cells
-unfolding cellsNamed bytes split cellsSaid
+unfolding cellsNamed bytes splitBy cellsSaid
 cells-back [] = refl
 cells-back (c ∷ []) = number-first c 46 [] refl
 cells-back (c ∷ d ∷ cs) =
@@ -47,22 +47,22 @@ cells-back (c ∷ d ∷ cs) =
 
 -- ---- the rule and the cells
 
-abbrev naming : ℕ → List ℕ → Reason
-naming rule cells = record { rule = rule; cells = cells }
+abbrev reasonWith : ℕ → List ℕ → Reason
+reasonWith rule cells = record { rule = rule; cells = cells }
 
 -- by the eight phrases, each of which is read as its rule and holds no digit
 back : (rule : ℕ) (cells : List ℕ) → rule ≤ 8 → (rule ≡ 0 → cells ≡ [])
-    → readReason (sentence (naming rule cells)) ≡ naming rule cells
-unfolding bytes sentence split same numberOf ruleSaid cellsSaid readReason
+    → readReason (sentence (reasonWith rule cells)) ≡ reasonWith rule cells
+unfolding bytes sentence splitBy sameText numberAmong ruleSaid cellsSaid readReason
 back zero cells h e = rw (e refl)
-back (suc zero) cells h e = ap (naming 1) (cells-back cells)
-back (suc (suc zero)) cells h e = ap (naming 2) (cells-back cells)
-back (suc (suc (suc zero))) cells h e = ap (naming 3) (cells-back cells)
-back (suc (suc (suc (suc zero)))) cells h e = ap (naming 4) (cells-back cells)
-back (suc (suc (suc (suc (suc zero))))) cells h e = ap (naming 5) (cells-back cells)
-back (suc (suc (suc (suc (suc (suc zero)))))) cells h e = ap (naming 6) (cells-back cells)
-back (suc (suc (suc (suc (suc (suc (suc zero))))))) cells h e = ap (naming 7) (cells-back cells)
-back (suc (suc (suc (suc (suc (suc (suc (suc zero)))))))) cells h e = ap (naming 8) (cells-back cells)
+back (suc zero) cells h e = ap (reasonWith 1) (cells-back cells)
+back (suc (suc zero)) cells h e = ap (reasonWith 2) (cells-back cells)
+back (suc (suc (suc zero))) cells h e = ap (reasonWith 3) (cells-back cells)
+back (suc (suc (suc (suc zero)))) cells h e = ap (reasonWith 4) (cells-back cells)
+back (suc (suc (suc (suc (suc zero))))) cells h e = ap (reasonWith 5) (cells-back cells)
+back (suc (suc (suc (suc (suc (suc zero)))))) cells h e = ap (reasonWith 6) (cells-back cells)
+back (suc (suc (suc (suc (suc (suc (suc zero))))))) cells h e = ap (reasonWith 7) (cells-back cells)
+back (suc (suc (suc (suc (suc (suc (suc (suc zero)))))))) cells h e = ap (reasonWith 8) (cells-back cells)
 back (suc (suc (suc (suc (suc (suc (suc (suc (suc r))))))))) cells h e = absurd (omega arith)
 
 reads-back : (r : Reason) → IsReason r → readReason (sentence r) ≡ r

@@ -8,7 +8,7 @@ use native.Mathlib.Omega.{arith}
 use lib.Dec.{eqb}
 use borrow.Author.Tests.{eqb-true, eqb-false, ne-eqb}
 use Rattle.definition.specs.Lists.{all}
-use Rattle.definition.specs.Texts.{Text, lineFeed, comma, onto, linesOf, fieldsOf, ended, isDigit}
+use Rattle.definition.specs.Texts.{Text, lineFeed, comma, onto, linesOf, fieldsOf, ended, isDigit, parted}
 use Rattle.text_laws.specs.Numbers.{is-digit}
 
 -- no byte of it is a line feed
@@ -122,9 +122,7 @@ field-last d rest e = field-first d (lineFeed ∷ rest) [] e refl
 
 -- fields with commas between them
 abbrev pub joined : List Text → Text
-joined [] = []
-joined (f ∷ []) = f
-joined (f ∷ g ∷ fs) = f ++ (comma ∷ joined (g ∷ fs))
+joined fs = parted (comma ∷ []) fs
 
 onto-joined : (b : ℕ) (fs : List Text) → joined (onto b fs) ≡ b ∷ joined fs
 onto-joined b [] = refl
