@@ -7,7 +7,7 @@
  * Threads: nothing is kept between calls. Any number of threads may call at the same time, each
  * with buffers of its own; texts that are only read may be shared.
  *
- * Stack: a call of Place takes up to 160 KB, of Score up to 40 KB, of Reasons up to 30 KB, of Fault
+ * Stack: a call of Place takes up to 160 KB, of Score up to 30 KB, of Reasons up to 30 KB, of Fault
  * line up to 30 KB, of Read up to 25 KB, of Load up to 1 KB, as measured on the deepest jobs known.
  * Nothing is taken from the heap.
  *
