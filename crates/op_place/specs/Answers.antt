@@ -25,7 +25,7 @@ use Rattle.job.specs.Ready.{Ready}
 use Rattle.job.specs.Cells.{pose-there}
 use Rattle.op_place.specs.Accepted.{Answered, placementIn, Chosen}
 use Rattle.op_place.specs.Poses.{Numbered}
-use Rattle.op_place.specs.Fields.{Wrote}
+use Rattle.op_place.specs.Fields.{WroteAnswer}
 
 -- ---- the placement made of legal pose numbers
 
@@ -80,7 +80,7 @@ module _ (store output : List ℕ) (results : List ℤ) where
 
   pub answered-some : (job : Job) (poses : List ℕ) {store′ output′ : List ℕ} {results′ : List ℤ}
       → Cheapest (jobOf job) (some (placementIn job poses))
-      → store′ ≡ replicate (length store) 0 → Wrote job poses output output′ results results′
+      → store′ ≡ replicate (length store) 0 → WroteAnswer job poses output output′ results results′
       → Answered (jobOf job) 0 (lent store output results) (lent store′ output′ results′)
   answered-some job poses c s w = record {
     answer = some (placementIn job poses);

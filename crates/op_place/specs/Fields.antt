@@ -22,7 +22,7 @@ pub record ReadyText (job : Job) (P : value.Placement) (bytes : ℕ) : Type 0 wh
   pub short : bytes < 2 ^ 31
 
 -- the placement's text over the output, and 0, 0 and its fields over the results
-pub record Wrote (job : Job) (poses output output′ : List ℕ) (results results′ : List ℤ) : Type 0 where
+pub record WroteAnswer (job : Job) (poses output output′ : List ℕ) (results results′ : List ℤ) : Type 0 where
   pub text : output′ ≡ over (textOf (placementIn job poses)) output
   pub array : results′
       ≡ over

@@ -44,7 +44,7 @@ pub record Numbered (job : Job) (poses : List ℕ) (P : Placement) : Type 0 wher
   pub same : placementOf P ≡ placementIn job poses
 
 -- the first k poses are there
-pub record Sofar (job : Job) (poses : List ℕ) (P : Placement) (k : ℕ) : Type 0 where
+pub record PosesSofar (job : Job) (poses : List ℕ) (P : Placement) (k : ℕ) : Type 0 where
   pub count : P .count ≡ job .count
   pub long : length (P .poses) ≡ maxCells
   pub done : (i : ℕ) → i < k → poseOf (value.poseAt P i) ≡ poseNumber (jobOf job) i (numbersIn poses i)
@@ -69,10 +69,10 @@ module _ (job : Job) (poses : List ℕ) where
       (sym (cell-there job k h)))
       (b .layout) (b .mark)
 
-  pub sofar-more : {P : Placement} {k limit : ℕ} {p : Pose} → Sofar job poses P k → k < job .count
+  pub sofar-more : {P : Placement} {k limit : ℕ} {p : Pose} → PosesSofar job poses P k → k < job .count
       → job .count ≤ maxCells → limit ≡ offered k .limit
       → PoseBy limit (value.cellAt job k .given) (numbersIn poses k) p
-      → Sofar job poses (record { count = P .count; poses = set (P .poses) k p }) (k + 1)
+      → PosesSofar job poses (record { count = P .count; poses = set (P .poses) k p }) (k + 1)
   sofar-more {P} {k} {limit} {p} s h few same b =
       record { count = s .count; long = simp length-set (s .long); done = λ i l. go i l (ℕ-discrete i k) }
     where
@@ -83,7 +83,7 @@ module _ (job : Job) (poses : List ℕ) where
           rw (e, getD-set-same (P .poses) k p emptyPose m) (pose-numbered k limit p h same b)
       go i l (no d) = rw (getD-set-other (P .poses) k i p emptyPose d) (s .done i (omega arith))
 
-  pub sofar-all : {P : Placement} {k : ℕ} → Accepted job → Sofar job poses P k → k ≡ job .count → Numbered job poses P
+  pub sofar-all : {P : Placement} {k : ℕ} → Accepted job → PosesSofar job poses P k → k ≡ job .count → Numbered job poses P
   unfolding placementOf
   sofar-all {P} {k} t s e = record {
     count = s .count;

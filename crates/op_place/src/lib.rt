@@ -5,7 +5,7 @@ ghost use Rattle.definition.specs.Outcome.{lent, Placed};
 ghost use Rattle.job.specs.Value.{jobOf, placementOf};
 ghost use Rattle.results.specs.Fields.{Listed};
 ghost use Rattle.op_place.specs.Poses.{ToPose, PoseBy, ByNumber, Numbered};
-ghost use Rattle.op_place.specs.Fields.{fieldsIn, ReadyText, Wrote};
+ghost use Rattle.op_place.specs.Fields.{fieldsIn, ReadyText, WroteAnswer};
 ghost use Rattle.op_place.specs.Accepted.{Enough, Answered, Chosen};
 use job::Cell;
 use job::Job;
@@ -86,7 +86,7 @@ fn fields_of(job: Job, placement: Placement, bytes: usize) -> Fields
 // The answer: text and fields of the placement found.
 fn put_answer(job: Job, poses: [u32; Job::MAX_CELLS], output: &mut [u8], results: &mut [i32])
     requires { ⌜ Chosen job poses (length (now output)) ⌝ }
-    ensures { λ _. ⌜ Wrote job poses (now (output .entry)) (now (output .exit))
+    ensures { λ _. ⌜ WroteAnswer job poses (now (output .entry)) (now (output .exit))
         (now (results .entry)) (now (results .exit)) ⌝ }
 {
     let placement = placement_of(job, poses);

@@ -20,13 +20,13 @@ use Rattle.placement_read.specs.declared.PlacementReading.{PlacementRead
 use Rattle.placement_read.proofs.Lines.{read-fault, read-surplus, read-end, withPoses, with-snoc, with-fault, with-none}
 use Rattle.placement_read.proofs.Kept.{empty-kept}
 
-pub record Sofar (text : Text) (due : ℕ) (P : Placement) (at : ℕ) : Type 0 where
+pub record LinesSofar (text : Text) (due : ℕ) (P : Placement) (at : ℕ) : Type 0 where
   pub kept : Kept P
   pub low : P .count ≤ due
   pub within : at ≤ length text
   pub reads : readPlacement due text ≡ withPoses (placementOf P) (readPoses (suc (P .count)) (due - P .count) (linesOf (drop at text)))
 
-pub start : (text : Text) (due : ℕ) (P : Placement) → P ≡ emptyPlacement → Sofar text due P 0
+pub start : (text : Text) (due : ℕ) (P : Placement) → P ≡ emptyPlacement → LinesSofar text due P 0
 unfolding placementOf readPlacement
 start text due P e =
     rw e
@@ -37,7 +37,7 @@ start text due P e =
       reads = ap (λ (n : ℕ). readPoses 1 n (linesOf text)) (sym (sub-zero due));
     })
 
-module _ {text : Text} {due : ℕ} {P : Placement} {at : ℕ} (h : Sofar text due P at) where
+module _ {text : Text} {due : ℕ} {P : Placement} {at : ℕ} (h : LinesSofar text due P at) where
   module _ (more : P .count < due) {r : PoseReading} (l : PoseFrom text at r) where
     left : due - P .count ≡ suc (due - suc (P .count))
     left = omega arith
@@ -60,7 +60,7 @@ module _ {text : Text} {due : ℕ} {P : Placement} {at : ℕ} (h : Sofar text du
         rw (g .poses, g .count)
         (with-snoc (placementOf P) (poseOf (r .pose)) (readPoses (suc (suc (P .count))) (due - suc (P .count)) (linesOf (drop (r .next) text))))
 
-    pub step : {Q : Placement} → r .ok ≡ true → Grown P (r .pose) Q → Sofar text due Q (r .next)
+    pub step : {Q : Placement} → r .ok ≡ true → Grown P (r .pose) Q → LinesSofar text due Q (r .next)
     step {Q} e g =
         let f = l .found e in
         record {

@@ -44,7 +44,7 @@ pub record Unmarked (n : ℕ) (marks : List ℕ) : Type 0 where
   pub zero : (k : ℕ) → k < n → getD marks k 0 ≡ 0
 
 -- the first r entries of an array of 64 are a list of cells
-pub record Listed (cells : List ℕ) (r : ℕ) (array : List ℕ) : Type 0 where
+pub record CellsListed (cells : List ℕ) (r : ℕ) (array : List ℕ) : Type 0 where
   pub few : r ≤ 64
   pub long : length array ≡ 64
   pub entries : take r array ≡ cells

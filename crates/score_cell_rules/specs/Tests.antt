@@ -8,7 +8,7 @@ use lib.ListN.{length}
 use lib.Dec.{leb, ltb, eqb}
 use Rattle.definition.specs.Lists.{from, any}
 use Rattle.definition.specs.Job.{bothRows}
-use Rattle.score_order.specs.Words.{siteIn, endIn, rowIn, Words, Room, Ordered}
+use Rattle.score_order.specs.Words.{siteIn, endIn, rowIn, Words, RowRoom, Ordered}
 use Rattle.job.specs.declared.Job.{Job}
 use Rattle.job.specs.declared.Placement.{Placement}
 use Rattle.job.specs.Parts.{standsIn}
@@ -57,7 +57,7 @@ pub record OneOfAll (words : List ℕ) (n k : ℕ) : Type 0 where
 -- words of 64 cells, and an array that lists some of these
 pub record ListIn (words list : List ℕ) : Type 0 where
   pub long : length words ≡ 256
-  pub room : Room list
+  pub room : RowRoom list
 
 -- what a rule is judged by, and its marks: the words of n cells
 pub record ByWords (words : List ℕ) (n : ℕ) (m : List ℕ) : Type 0 where

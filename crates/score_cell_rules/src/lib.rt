@@ -9,7 +9,7 @@ ghost use Rattle.job.specs.Value.{offerIn, poseOf, jobOf, placementOf};
 ghost use Rattle.score_order.specs.Words.{Words};
 ghost use Rattle.score_cell_rules.specs.Tests.{pastIn, shareIn, clashIn, clashesIn, wrongIn, passesIn};
 ghost use Rattle.score_cell_rules.specs.Tests.{Two, OneOfAll, ListIn, ByWords, ByOrder, ByOffer};
-ghost use Rattle.score_cell_rules.specs.Marks.{markedIn, Arrays, MarksOf, Added, Listed};
+ghost use Rattle.score_cell_rules.specs.Marks.{markedIn, Arrays, MarksOf, Added, CellsListed};
 ghost use Rattle.score_cell_rules.specs.Offered.{offersIn, unofferedIn};
 ghost use Rattle.score_cell_rules.specs.Quick.{InLine, TallRising};
 use job::Job;
@@ -263,7 +263,7 @@ pub fn lowest_marked(marks: &[u32], count: usize) -> u32
 // The marked cells, counted from 1, are written to the start of `list` in rising order; the answer is how many.
 pub fn list_marked(marks: &[u32], count: usize, list: &mut [u32]) -> usize
     requires { ⌜ Arrays count (now marks) (now list) ⌝ }
-    ensures { λ r. ⌜ Listed (map suc (keep (markedIn (now (marks .entry))) (from 0 count))) r (now (list .exit)) ⌝ }
+    ensures { λ r. ⌜ CellsListed (map suc (keep (markedIn (now (marks .entry))) (from 0 count))) r (now (list .exit)) ⌝ }
 {
     let mut n: usize = 0;
     let mut k: usize = 0;

@@ -12,7 +12,7 @@ use Rattle.results.specs.Fields.{maxFields}
 use Rattle.score_numbers.specs.declared.Numbers.{Numbers}
 
 -- each is a signed number of 32 bits
-pub record Small (r : Numbers) : Type 0 where
+pub record NumbersSmall (r : Numbers) : Type 0 where
   pub steps : r .steps < 2 ^ 31
   pub shifted : r .shifted < 2 ^ 31
   pub mirrored : r .mirrored < 2 ^ 31
@@ -22,7 +22,7 @@ pub record Small (r : Numbers) : Type 0 where
 -- such numbers, and fields with room for them
 pub record Pushable (f : Fields) (n : Numbers) : Type 0 where
   pub room : f .count + numberCount ≤ maxFields
-  pub small : Small n
+  pub small : NumbersSmall n
 
 -- the numbers are the definition's
 pub record Counted (j : paper.Job) (P : text.Placement) (r : Numbers) : Type 0 where
@@ -32,7 +32,7 @@ pub record Counted (j : paper.Job) (P : text.Placement) (r : Numbers) : Type 0 w
   pub changed : r .changed ≡ definition.changed j P
   pub cost : r .cost ≡ definition.cost j P
   pub drift : r .drift ≡ definition.drift j P
-  pub small : Small r
+  pub small : NumbersSmall r
 
 -- as the definition lists them
 abbrev pub numbersIn : Numbers → List ℤ

@@ -12,7 +12,7 @@ use Rattle.definition.specs.Rules.{ruleOf, verdict}
 use Rattle.definition.specs.Reasons as definition
 use Rattle.definition.specs.Reasons.{breakersOf, reasonOf}
 use Rattle.score_cell_rules.specs.Lowest.{keep-same}
-use Rattle.score_cell_rules.specs.Marks.{markedIn, Listed}
+use Rattle.score_cell_rules.specs.Marks.{markedIn, CellsListed}
 use Rattle.score_verdict.specs.declared.Verdict.{Verdict}
 use Rattle.score_verdict.specs.Judged.{VerdictMarked}
 use Rattle.score_reason.specs.declared.Reason.{Reason}
@@ -26,7 +26,7 @@ pub record ReasonIs (v : definition.Reason) (r : Reason) : Type 0 where
 -- the marked cells, listed, are those that break the rule that is told
 pub listed-reason : {j : paper.Job} {P : text.Placement} {n : ℕ} {v : Verdict} {marks : List ℕ}
     → VerdictMarked j P n v marks → length (j .cells) ≡ n → {count : ℕ} {cells : List ℕ}
-    → Listed (map suc (keep (markedIn marks) (from 0 n))) count cells
+    → CellsListed (map suc (keep (markedIn marks) (from 0 n))) count cells
     → ReasonIs (reasonOf j P) (record { rule = v .rule; count = count; cells = cells })
 unfolding reasonOf
 listed-reason {j} {P} {n} {v} {marks} told many l = record {

@@ -10,7 +10,7 @@ use Rattle.definition.specs.Lists.{any, anyNext}
 use Rattle.definition.specs.Job.{bothRows}
 use Rattle.definition.specs.Rules.{apart, placeIn, isFirst, isLast}
 use Rattle.job.specs.Parts.{standsIn}
-use Rattle.score_order.specs.Words.{siteIn, endIn, rowIn, cellsIn, orderIn, Words, Tail, Room}
+use Rattle.score_order.specs.Words.{siteIn, endIn, rowIn, cellsIn, orderIn, Words, Tail, RowRoom}
 
 -- rule 5: k is one of two neighbours with one empty site between them; in a list of cells, and in either row
 abbrev pub oneSite : List ℕ → ℕ → ℕ → ℕ → Bool
@@ -52,9 +52,9 @@ oneCell a breaks k = eqb k a && breaks
 -- ---- what the functions presume
 
 -- a list of cells from `at` on, and the marks
-pub record Along (words order : List ℕ) (at : ℕ) (m : List ℕ) : Type 0 where
+pub record AlongRow (words order : List ℕ) (at : ℕ) (m : List ℕ) : Type 0 where
   pub long : length words ≡ 256
-  pub room : Room order
+  pub room : RowRoom order
   pub start : at ≤ 64
   pub marks : length m ≡ 64
 

@@ -6,7 +6,7 @@ ghost use Rattle.score_cell_rules.specs.Tests.{ByOrder};
 ghost use Rattle.score_cell_rules.specs.Marks.{Added};
 ghost use Rattle.score_row_rules.specs.Tests.{nearIn, nearAny, outBy, outAt, outIn, outAny};
 ghost use Rattle.score_row_rules.specs.Tests.{oneCell, atEndIn, atEndAny};
-ghost use Rattle.score_row_rules.specs.Tests.{Along, RowOrder, Ranked, Markable};
+ghost use Rattle.score_row_rules.specs.Tests.{AlongRow, RowOrder, Ranked, Markable};
 use job::stands;
 use score_order::entry;
 use score_order::places;
@@ -17,7 +17,7 @@ use score_words::gap_between;
 // Neighbours with one empty site between them; the row's cells from left to right are the entries of `order` from
 // `at` on.
 fn mark_row_gaps(words: &[u32], order: &[u32], at: usize, marks: &mut [u32])
-    requires { ⌜ Along (now words) (now order) at (now marks) ⌝ }
+    requires { ⌜ AlongRow (now words) (now order) at (now marks) ⌝ }
     ensures { λ r. ⌜ Added 64 (nearIn (now (words .entry)) (drop at (now (order .entry))))
         (now (marks .entry)) (now (marks .exit)) ⌝ }
 {
@@ -136,7 +136,7 @@ fn mark_if(breaks: bool, k: usize, marks: &mut [u32])
 // The first cell with one empty site before it, and the last with one after it; the row's cells from left to right
 // are the entries of `order` from `at` on. An empty row is free.
 fn mark_row_ends(words: &[u32], order: &[u32], at: usize, sites: u32, marks: &mut [u32])
-    requires { ⌜ Along (now words) (now order) at (now marks) ⌝ }
+    requires { ⌜ AlongRow (now words) (now order) at (now marks) ⌝ }
     ensures { λ r. ⌜ Added 64 (atEndIn (now (words .entry)) sites (drop at (now (order .entry))))
         (now (marks .entry)) (now (marks .exit)) ⌝ }
 {

@@ -19,7 +19,7 @@ use Rattle.job.specs.Value as value
 use Rattle.job.specs.Value.{cellOf, poseOf, jobOf, placementOf}
 use Rattle.job.specs.Parts.{heightIn}
 use Rattle.job.specs.Cells.{cell-there, pose-there}
-use Rattle.score_order.specs.Words.{siteIn, endIn, Room}
+use Rattle.score_order.specs.Words.{siteIn, endIn, RowRoom}
 use Rattle.score_order.specs.Below.{Below}
 use Rattle.score_words.specs.Flat.{Flat}
 use Rattle.score_steps.specs.Heights.{leftOf, rightOf, unlike, differingOf, differing-of}
@@ -39,7 +39,7 @@ pub record PlacedRow (job : Job) (P : Placement) (words array : List ℕ) (at r 
   pub few : job .count ≤ 64
   pub each : P .count ≡ job .count
   pub flat : Flat (jobOf job) (placementOf P) (job .count) words
-  pub room : Room array
+  pub room : RowRoom array
   pub start : at ≤ 64
   pub cells : Below (job .count) (drop at array)
 

@@ -15,7 +15,7 @@ use Rattle.search_back.specs.Trace.{RowsTrace}
 use Rattle.search_back.specs.Scatter.{cellAt, poseAt, ScatterGiven, Scattered}
 use Rattle.search_back.specs.ScatterLaws.{both-scattered, scattered-small}
 use Rattle.search.specs.Rows.{RowsAsked, standing}
-use Rattle.search.specs.Found.{deck₀, deck₁, least, RowsTraced, Tables, Answered}
+use Rattle.search.specs.Found.{deck₀, deck₁, least, RowsTraced, Tables, PosesAnswered}
 
 module _ {row₀ row₁ : List ℕ} {z : Sizes} {n₁ : ℕ} (r : RowsAsked row₀ row₁ z n₁) where
   abbrev Back : (ℕ → ℕ) → (ℕ → ℕ) → Type 0
@@ -69,7 +69,7 @@ module _ {row₀ row₁ : List ℕ} {z : Sizes} {n₁ : ℕ} (r : RowsAsked row�
     -- both rows are scattered, one after the other
     pub answered : {old mid new : List ℕ} → ((k : ℕ) → getD old k 0 < poseSlots)
         → Scattered row₀ path₀ (z .cells) old mid
-        → Scattered row₁ path₁ n₁ mid new → Answered row₀ row₁ z n₁ new
+        → Scattered row₁ path₁ n₁ mid new → PosesAnswered row₀ row₁ z n₁ new
     answered small v w = record {
       posed = record {
         path₀ = wordAt path₀;

@@ -104,7 +104,7 @@ module _ (row₀ row₁ : List ℕ) (z : Sizes) (n₁ : ℕ) where
   -- ---- what is answered
 
   -- the pose numbers of a placement that was traced
-  pub record Answered (poses : List ℕ) : Type 0 where
+  pub record PosesAnswered (poses : List ℕ) : Type 0 where
     pub posed : Posed poses
     pub numbers : (k : ℕ) → getD poses k 0 < poseSlots
 
@@ -119,7 +119,7 @@ module _ (row₀ row₁ : List ℕ) (z : Sizes) (n₁ : ℕ) where
     numbers = small;
   }
 
-  pub found-some : {old new poses : List ℕ} {x : ℕ} → Costed old new x → x < B → Answered poses
+  pub found-some : {old new poses : List ℕ} {x : ℕ} → Costed old new x → x < B → PosesAnswered poses
       → RowsFound true x poses
   found-some c h a = record {
     none-when = λ e. absurd (true≢false e);

@@ -7,7 +7,7 @@ use mathlib.Core.List.{List}
 use native.Mathlib.Omega.{arith}
 use lib.ListN.{length, getD}
 use Rattle.definition.specs.Job.{maxCells}
-use Rattle.theory_pair.specs.Cells.{Side, row₀, row₁, Job, isTall, members, cell, tallCount, line-talls}
+use Rattle.theory_pair.specs.Cells.{Side, row₀, row₁, PairJob, isTall, members, cell, tallCount, line-talls}
 use Rattle.theory_pair.specs.Cells.{LegalPair, total}
 use Rattle.theory_tables.specs.Steps.{Deck, poseSlots}
 use Rattle.theory_tables.specs.Stages.{leastCost}
@@ -22,21 +22,21 @@ use Rattle.search.specs.Found.{deck₀, deck₁, least, RowsFound}
 use Rattle.search.specs.Answer.{traced-back}
 
 -- words that stand for row s of a pair: its deck and its tall cells, and `name` is what number a cell bears
-pub record RowOf {A : Type 0} (siteOf : A → ℕ) (J : Job A) (poseOf : ℕ → ℕ → A) (offerOf : ℕ → ℕ → Bool)
+pub record RowOf {A : Type 0} (siteOf : A → ℕ) (J : PairJob A) (poseOf : ℕ → ℕ → A) (offerOf : ℕ → ℕ → Bool)
     (name : ℕ → ℕ) (s : Side) (row : List ℕ) (z : Sizes) : Type 0 where
   pub searched : Searched siteOf J poseOf offerOf s (deckIn row z) (posIn row)
   pub number : (p : ℕ) → p < z .cells → numberAt row p ≡ name (cell J s p)
   pub talls : z .talls ≡ tallCount J
 
 -- both rows; no two cells bear one number
-pub record PairOf {A : Type 0} (siteOf : A → ℕ) (J : Job A) (poseOf : ℕ → ℕ → A) (offerOf : ℕ → ℕ → Bool)
+pub record PairOf {A : Type 0} (siteOf : A → ℕ) (J : PairJob A) (poseOf : ℕ → ℕ → A) (offerOf : ℕ → ℕ → Bool)
     (name : ℕ → ℕ) (words₀ words₁ : List ℕ) (z : Sizes) (n₁ : ℕ) : Type 0 where
   pub first : RowOf siteOf J poseOf offerOf name row₀ words₀ z
   pub second : RowOf siteOf J poseOf offerOf name row₁ words₁ (withCells z n₁)
   pub small : (k : ℕ) → k < J .count → name k < maxCells
   pub apart : (k m : ℕ) → k < J .count → m < J .count → name k ≡ name m → k ≡ m
 
-module _ {A : Type 0} {siteOf : A → ℕ} {J : Job A} {poseOf : ℕ → ℕ → A} {offerOf : ℕ → ℕ → Bool} {name : ℕ → ℕ} where
+module _ {A : Type 0} {siteOf : A → ℕ} {J : PairJob A} {poseOf : ℕ → ℕ → A} {offerOf : ℕ → ℕ → Bool} {name : ℕ → ℕ} where
   -- ---- what is asked
 
   module _ {s : Side} {row : List ℕ} {z : Sizes} (r : RowOf siteOf J poseOf offerOf name s row z) where

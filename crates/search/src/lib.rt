@@ -4,7 +4,7 @@ ghost use Prim.Native.Nat.{_≤_};
 ghost use Rattle.search_stage.specs.Stage.{wide, StagesGiven};
 ghost use Rattle.search.specs.Words.{wordsFor};
 ghost use Rattle.search.specs.Rows.{Asked, AskedLow};
-ghost use Rattle.search.specs.Found.{RowsFound, Costed, Answering, Answered};
+ghost use Rattle.search.specs.Found.{RowsFound, Costed, Answering, PosesAnswered};
 use search_row::Sizes;
 
 // Room for a path: a word for each place.
@@ -30,7 +30,7 @@ fn least_cost(store: &mut [u32], row0: &[u32], row1: &[u32], sizes: Sizes, cells
 // The pose number of each cell, by cell number: both rows traced, then noted one after the other.
 fn note(out: &mut [u32], store: &mut [u32], row0: &[u32], row1: &[u32], sizes: Sizes, cells1: usize)
     requires { ⌜ Answering (now row0) (now row1) sizes cells1 (now store) (now out) ⌝ }
-    ensures { λ _. ⌜ Answered (now (row0 .entry)) (now (row1 .entry)) sizes cells1 (now (out .exit)) ⌝ }
+    ensures { λ _. ⌜ PosesAnswered (now (row0 .entry)) (now (row1 .entry)) sizes cells1 (now (out .exit)) ⌝ }
 {
     let mut path0 = [0u32; PATH_WORDS];
     let mut path1 = [0u32; PATH_WORDS];

@@ -32,7 +32,7 @@ use Rattle.search_join.specs.Tables.{
   Joined,
 }
 use Rattle.search_join.specs.Laws.{lowest-same, next-low}
-use Rattle.search_join.specs.Sums.{startSum, Summed}
+use Rattle.search_join.specs.Sums.{startSum, AllSummed}
 use Rattle.search_join.specs.SumLaws.{summed-ext}
 
 -- ---- a table depends on the ways below B alone
@@ -129,7 +129,7 @@ module _ (starts lanes I : ℕ) where
   pub summed-part : (P : ℕ → ℕ → ℕ → Type 0) {x y sums : List ℕ} {live : Bool} (q₀ a : ℕ) → Table starts lanes I x
       → ((q₀ q₁ a : ℕ) → P q₀ q₁ a → (q₀ < 12) × (q₁ < 12) × (a < poseSlots)) → CasesMade starts lanes I P x y → q₀ < 12
       → a < poseSlots
-      → Summed starts lanes I x q₀ a sums live → Summed starts lanes I y q₀ a sums live
+      → AllSummed starts lanes I x q₀ a sums live → AllSummed starts lanes I y q₀ a sums live
   unfolding startSum
   summed-part P {y = y} q₀ a t room p h g w =
       let u = t .states in

@@ -17,7 +17,7 @@ use Rattle.search_lanes.specs.Lowered.{LoweredAt, lowered-at-low}
 use Rattle.search_store.specs.Map.{pointerRow₀, pointerRow₁}
 use Rattle.search_join.specs.Tables.{caseState₀, caseState₁, casePose}
 use Rattle.search_join.specs.Tables.{casesIn, costsIn, Table, Least, MetAt, SumAt, WayIn, nextIn}
-use Rattle.search_join.specs.Sums.{startSum, startLanes, laneSum, endSum, SumsRoom, Sums, Nones, Summed}
+use Rattle.search_join.specs.Sums.{startSum, startLanes, laneSum, endSum, SumsRoom, Sums, Nones, AllSummed}
 use Rattle.search_join.specs.Sums.{SumsFrom, StateSums}
 use Rattle.search_join.specs.Laws.{lowest-zero, lowest-more, lowest-same, lowest-at, next-is}
 
@@ -125,9 +125,9 @@ module _ (starts lanes I : ℕ) (st : List ℕ) (q₀ a : ℕ) where
       }
 
   -- the same words are read in another store
-  pub summed-ext : {sums : List ℕ} {live : Bool} (new : List ℕ) → Summed starts lanes I st q₀ a sums live
+  pub summed-ext : {sums : List ℕ} {live : Bool} (new : List ℕ) → AllSummed starts lanes I st q₀ a sums live
       → ((s t l : ℕ) → s < starts → t < starts → l < lanes → startSum I new q₀ a t l s ≡ startSum I st q₀ a t l s)
-      → Summed starts lanes I new q₀ a sums live
+      → AllSummed starts lanes I new q₀ a sums live
   summed-ext new w same =
       record {
         all = record {

@@ -56,7 +56,7 @@ abbrev pub Nones : ℕ → ℕ → List ℕ → Type 0
 Nones starts lanes sums = (t l : ℕ) → t < starts → l < lanes → getD sums (t * maxLanes + l) 0 ≡ B
 
 -- all of them, and whether there can be any way at all
-pub record Summed (starts lanes I : ℕ) (st : List ℕ) (q₀ a : ℕ) (sums : List ℕ) (live : Bool) : Type 0 where
+pub record AllSummed (starts lanes I : ℕ) (st : List ℕ) (q₀ a : ℕ) (sums : List ℕ) (live : Bool) : Type 0 where
   pub all : Sums starts lanes I st q₀ a starts 0 sums
   pub dead : live ≡ false → Nones starts lanes sums
 
@@ -101,7 +101,7 @@ pub record LaneSums (sums : List ℕ) (at : ℕ) (st : List ℕ) (p₁ lanes : �
 -- the sums of a case
 pub record Joining (starts lanes I : ℕ) (st sums : List ℕ) (live : Bool) (case : Case) : Type 0 where
   pub table : Table starts lanes I st
-  pub summed : Summed starts lanes I st (case .q0) (case .pose) sums live
+  pub summed : AllSummed starts lanes I st (case .q0) (case .pose) sums live
   pub fits : CaseFits case
 
 -- the same, and its page in the store

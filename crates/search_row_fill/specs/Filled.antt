@@ -67,7 +67,7 @@ module _ (j : Job) (s : Side) where
       ∙ sym (rest-all stands (length (j .cells)))
 
   -- the first k cells are looked at, and n of them stand in the row
-  pub record Filled (l : List ℕ) (n k : ℕ) : Type 0 where
+  pub record RowFilled (l : List ℕ) (n k : ℕ) : Type 0 where
     pub long : rowLength ≤ length l
     pub most : length (j .cells) ≤ maxCells
     pub below : n ≤ k
@@ -81,7 +81,7 @@ module _ (j : Job) (s : Side) where
     pub upper : (q : ℕ) → tallsFrom ≤ q → getD l q 0 ≤ 63
 
   pub filled-none : Sound j → {old new : List ℕ} → rowLength ≤ length old → Written (always 0) 0 (length old) old new
-      → Filled new 0 0
+      → RowFilled new 0 0
   filled-none sound {old} {new} h w = record {
     long = let e = w .frame .long in omega arith;
     most = sound .few;
@@ -99,9 +99,9 @@ module _ (j : Job) (s : Side) where
       go q (yes g) = rw zero-add at (w .words q g)
       go q (no g) = w .frame .high q (omega arith) ∙ List·getD-eq-default old 0 (omega arith)
 
-  filled-more : {l l′ : List ℕ} {n k : ℕ} → Filled l n k → k < length (j .cells) → stands k ≡ true
+  filled-more : {l l′ : List ℕ} {n k : ℕ} → RowFilled l n k → k < length (j .cells) → stands k ≡ true
       → Written (cellWord (alone (j .header) (cellAt j k)) (rowOf s) 0 k) (n * cellWords) wordsUsed l l′
-      → Filled l′ (n + 1) (k + 1)
+      → RowFilled l′ (n + 1) (k + 1)
   filled-more {l} {l′} {n} {k} f h e w =
       let x = next {d = 0} (members (pairJob j) s) n (f .left ∙ rest-more stands k (length (j .cells)) h
       ∙ ap (λ t. cond t (k ∷ rest stands (k + 1) (length (j .cells))) (rest stands (k + 1) (length (j .cells)))) e) in
@@ -122,7 +122,7 @@ module _ (j : Job) (s : Side) where
         upper = λ q g. omega (arith, w .frame .high q (omega (arith, f .most, f .below, h)), f .upper q g);
       }
 
-  filled-skip : {l : List ℕ} {n k : ℕ} → Filled l n k → k < length (j .cells) → stands k ≡ false → Filled l n (k + 1)
+  filled-skip : {l : List ℕ} {n k : ℕ} → RowFilled l n k → k < length (j .cells) → stands k ≡ false → RowFilled l n (k + 1)
   filled-skip {l} {n} {k} f h e = record {
     long = f .long;
     most = f .most;
@@ -137,21 +137,21 @@ module _ (j : Job) (s : Side) where
     upper = f .upper;
   }
 
-  pub filled-step : {l l′ : List ℕ} {n n′ k : ℕ} → Filled l n k → k < length (j .cells)
-      → CellAdded (alone (j .header) (cellAt j k)) (rowOf s) k n n′ l l′ → Filled l′ n′ (k + 1)
+  pub filled-step : {l l′ : List ℕ} {n n′ k : ℕ} → RowFilled l n k → k < length (j .cells)
+      → CellAdded (alone (j .header) (cellAt j k)) (rowOf s) k n n′ l l′ → RowFilled l′ n′ (k + 1)
   filled-step {l} {l′} {n} {n′} {k} f h a = go (stands k) refl
     where
-      go : (t : Bool) → stands k ≡ t → Filled l′ n′ (k + 1)
-      go true e = let r = a .there e in subst (λ x. Filled l′ x (k + 1)) (sym (r .0)) (filled-more f h e (r .1))
+      go : (t : Bool) → stands k ≡ t → RowFilled l′ n′ (k + 1)
+      go true e = let r = a .there e in subst (λ x. RowFilled l′ x (k + 1)) (sym (r .0)) (filled-more f h e (r .1))
       go false e =
           let r = a .away e in
-          subst (λ x. Filled l′ x (k + 1)) (sym (r .0))
-          (subst (λ x. Filled x n (k + 1)) (sym (r .1)) (filled-skip f h e))
+          subst (λ x. RowFilled l′ x (k + 1)) (sym (r .0))
+          (subst (λ x. RowFilled x n (k + 1)) (sym (r .1)) (filled-skip f h e))
 
   -- what is written above the cells' words does not alter them
-  pub filled-on : {l l′ : List ℕ} {n k : ℕ} → Filled l n k → length l′ ≡ length l → Low l′
+  pub filled-on : {l l′ : List ℕ} {n k : ℕ} → RowFilled l n k → length l′ ≡ length l → Low l′
       → ((q : ℕ) → q < statesFrom → getD l′ q 0 ≡ getD l q 0)
-      → ((q : ℕ) → tallsFrom ≤ q → getD l′ q 0 ≤ 63) → Filled l′ n k
+      → ((q : ℕ) → tallsFrom ≤ q → getD l′ q 0 ≤ 63) → RowFilled l′ n k
   filled-on {l} {l′} f e w same small = record {
     long = omega (arith, e, f .long);
     most = f .most;
@@ -169,7 +169,7 @@ module _ (j : Job) (s : Side) where
 
 -- the cells of a row, all written
 abbrev pub CellsIn : Job → Side → List ℕ → ℕ → Type 0
-CellsIn j s l n = Filled j s l n (length (j .cells))
+CellsIn j s l n = RowFilled j s l n (length (j .cells))
 
 -- what the search is given of a row
 pub record Lined (j : Job) (s : Side) (l : List ℕ) (n : ℕ) : Type 0 where
@@ -180,7 +180,7 @@ pub record Lined (j : Job) (s : Side) (l : List ℕ) (n : ℕ) : Type 0 where
   pub few : poseNumbers j ≤ maxPoses
   pub number : (p : ℕ) → p < n → wordOf l p numberWord ≡ cell (pairJob j) s p
 
-module _ (j : Job) (sound : Sound j) (s : Side) (l : List ℕ) (n k : ℕ) (f : Filled j s l n k)
+module _ (j : Job) (sound : Sound j) (s : Side) (l : List ℕ) (n k : ℕ) (f : RowFilled j s l n k)
     (e : k ≡ length (j .cells)) where
   row-words : RowCells j s l n
   row-words = record {
@@ -229,9 +229,9 @@ module _ (v : declared.Job) (k : ℕ) (g : k < v .count) (h : k < length (jobOf 
   ranged-at sound = ranged (v .header) (value.cellAt v k) (sound .header)
       (subst (SoundCell (headerOf (v .header))) (cell-there v k g) (sound .cell k h))
 
-  pub filled-value : (row : ℕ) → row ≤ 1 → {l l′ : List ℕ} {n n′ : ℕ} → Filled (jobOf v) (sideOf row) l n k
+  pub filled-value : (row : ℕ) → row ≤ 1 → {l l′ : List ℕ} {n n′ : ℕ} → RowFilled (jobOf v) (sideOf row) l n k
       → CellAdded (one (v .header) (value.cellAt v k)) row k n n′ l l′
-      → Filled (jobOf v) (sideOf row) l′ n′ (k + 1)
+      → RowFilled (jobOf v) (sideOf row) l′ n′ (k + 1)
   unfolding jobOf
   filled-value row r {l} {l′} {n} {n′} f a =
       filled-step (jobOf v) (sideOf row) f h

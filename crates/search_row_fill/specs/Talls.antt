@@ -75,7 +75,7 @@ tall-inRow row₁ both e = refl
 tall-inRow row₀ (one t) e = absurd (let y : _≡_ {A = ℕ} 0 1 = cc in omega arith)
 tall-inRow row₁ (one t) e = absurd (let y : _≡_ {A = ℕ} 0 1 = cc in omega arith)
 
-module _ {A : Type 0} (J : states.Job A) (s : Side) where
+module _ {A : Type 0} (J : states.PairJob A) (s : Side) where
   -- the positions of the tall cells
   abbrev pub tallPlaces : List ℕ
   tallPlaces = pick (λ p. isTall (J .kind (cell J s p))) (from 0 (length (members J s)))

@@ -25,7 +25,7 @@ use Rattle.search_join.specs.Tables.{casesIn, pointersIn, costsIn, Table, Least
 use Rattle.search_join.specs.Laws.{least-lanes}
 use Rattle.search_join.specs.Parts.{least-ext}
 use Rattle.search_row.specs.declared.Sizes.{Sizes}
-use Rattle.search_stage.specs.Stage.{wide, widthOf, costOf, tableOf, Right, Staged}
+use Rattle.search_stage.specs.Stage.{wide, widthOf, costOf, tableOf, TableRight, Staged}
 use Rattle.search_stage.specs.Stage.{StageDone, Through, StagesDone, BothCosted, StagesGiven, DeadLanes, LanesRun}
 use Rattle.search_stage.specs.Starts.{ways-same}
 
@@ -105,7 +105,7 @@ module _ (D₀ D₁ : Deck) (R talls : ℕ) (pos₀ pos₁ : ℕ → ℕ) where
       rw (wide-all talls I (stateCount R) (omega arith), wide-all talls I (D₀ .poses) (omega arith)) refl
 
   pub staged-right : (I : ℕ) {st : List ℕ} → Staged D₀ D₁ R talls pos₀ pos₁ I st
-      → Right D₀ D₁ R talls pos₀ pos₁ (suc I) st
+      → TableRight D₀ D₁ R talls pos₀ pos₁ (suc I) st
   staged-right I w = record { word = λ q₀ q₁ a h g f. w .case q₀ q₁ a h g f .right; beyond = w .beyond }
 
   module _ (few : stateCount R ≤ 12) (some : 1 ≤ stateCount R) (narrow : D₀ .poses ≤ maxPoses) where
@@ -161,7 +161,7 @@ module _ (D₀ D₁ : Deck) (R talls : ℕ) (pos₀ pos₁ : ℕ → ℕ) where
                 inr (dead .none s t l b d (omega arith) (omega arith))
 
         -- the ways below B are the model's
-        same : Right D₀ D₁ R talls pos₀ pos₁ I old → (q₀ q₁ a s t l : ℕ) → q₀ < wide talls (suc I) (stateCount R)
+        same : TableRight D₀ D₁ R talls pos₀ pos₁ I old → (q₀ q₁ a s t l : ℕ) → q₀ < wide talls (suc I) (stateCount R)
             → q₁ < wide talls (suc I) (stateCount R) → a < wide talls (suc I) (D₀ .poses)
             → s < wide talls I (stateCount R) → t < wide talls I (stateCount R) → l < wide talls I (D₀ .poses)
             → min (casesIn mid I s t l + (costsIn mid 0 s l q₀ a + costsIn mid 1 t l q₁ a)) B
@@ -187,7 +187,7 @@ module _ (D₀ D₁ : Deck) (R talls : ℕ) (pos₀ pos₁ : ℕ → ℕ) where
             )
 
         -- nor by one beyond the poses
-        beyond : Right D₀ D₁ R talls pos₀ pos₁ I old → (s t l : ℕ) → s < wide talls I (stateCount R)
+        beyond : TableRight D₀ D₁ R talls pos₀ pos₁ I old → (s t l : ℕ) → s < wide talls I (stateCount R)
             → t < wide talls I (stateCount R) → wide talls I (D₀ .poses) ≤ l → l < lanes → B ≤ casesIn mid I s t l
         beyond r s t l b d u v =
             let m = wide-states I in
@@ -198,7 +198,7 @@ module _ (D₀ D₁ : Deck) (R talls : ℕ) (pos₀ pos₁ : ℕ → ℕ) where
               r .beyond .none s t l b d u (omega arith),
             )
 
-        go : Right D₀ D₁ R talls pos₀ pos₁ I old → (q₀ q₁ a : ℕ) → q₀ < wide talls (suc I) (stateCount R)
+        go : TableRight D₀ D₁ R talls pos₀ pos₁ I old → (q₀ q₁ a : ℕ) → q₀ < wide talls (suc I) (stateCount R)
             → q₁ < wide talls (suc I) (stateCount R) → a < wide talls (suc I) (D₀ .poses)
             → Least
             (tableOf D₀ D₁ R talls pos₀ pos₁ (suc I) q₀ q₁ a)

@@ -50,7 +50,7 @@ module _ (D₀ D₁ : Deck) (R talls : ℕ) (pos₀ pos₁ : ℕ → ℕ) where
   tableOf (suc I) q₀ q₁ a = caseTable D₀ D₁ R talls pos₀ pos₁ I q₀ q₁ a
 
   -- table number I in the store
-  pub record Right (I : ℕ) (st : List ℕ) : Type 0 where
+  pub record TableRight (I : ℕ) (st : List ℕ) : Type 0 where
     pub word : (q₀ q₁ a : ℕ) → q₀ < wide talls I (stateCount R) → q₁ < wide talls I (stateCount R)
         → a < wide talls I (D₀ .poses)
         → casesIn st I q₀ q₁ a ≡ tableOf I q₀ q₁ a
@@ -75,13 +75,13 @@ module _ (D₀ D₁ : Deck) (R talls : ℕ) (pos₀ pos₁ : ℕ → ℕ) where
     pub low : Low new
     pub lent : TableLent table
     pub tables : (J q₀ q₁ a : ℕ) → (J ≡ suc I → ⊥) → Slot J q₀ q₁ a → SameCase J q₀ q₁ a old new
-    pub staged : Right I old → Staged I new
+    pub staged : TableRight I old → Staged I new
 
   -- the stages before I
   pub record Through (I : ℕ) (old new : List ℕ) : Type 0 where
     pub long : length new ≡ length old
     pub low : Low new
-    pub right : Right I new
+    pub right : TableRight I new
     pub staged : (J : ℕ) → J < I → Staged J new
 
   -- what all of them do

@@ -11,7 +11,7 @@ use Rattle.definition.specs.Texts.{Text, lineFeed, linesOf}
 use Rattle.text_scan.specs.Line.{firstLine, afterLine, lines-first, line-on, after-on}
 use Rattle.text_scan.specs.Found.{LineTo}
 
-pub record Along (text : Text) (at i : ℕ) : Type 0 where
+pub record AlongText (text : Text) (at i : ℕ) : Type 0 where
   pub passed : Text
   pub split : drop at text ≡ passed ++ drop i text
   pub place : i ≡ at + length passed
@@ -19,14 +19,14 @@ pub record Along (text : Text) (at i : ℕ) : Type 0 where
   pub line : firstLine (drop at text) ≡ passed ++ firstLine (drop i text)
   pub rest : afterLine (drop at text) ≡ afterLine (drop i text)
 
-pub along-none : (text : Text) (at : ℕ) → at ≤ length text → Along text at at
+pub along-none : (text : Text) (at : ℕ) → at ≤ length text → AlongText text at at
 along-none text at h = record { passed = []; split = refl; place = omega arith; within = h; line = refl; rest = refl }
 
-module _ {text : Text} {at i : ℕ} (s : Along text at i) where
+module _ {text : Text} {at i : ℕ} (s : AlongText text at i) where
   here : i < length text → drop i text ≡ getD text i 0 ∷ drop (i + 1) text
   here h = rw (drop-cons text i 0 h, add-one i)
 
-  pub along-more : i < length text → (getD text i 0 ≡ lineFeed → ⊥) → Along text at (i + 1)
+  pub along-more : i < length text → (getD text i 0 ≡ lineFeed → ⊥) → AlongText text at (i + 1)
   along-more h n =
       let b = getD text i 0 in
       let e = ne-eqb b lineFeed n in
@@ -61,7 +61,7 @@ to {text} {at} {r} l h p w n s f a =
           ∙ ap (λ (m : Text). firstLine (drop at text) ∷ linesOf m) a;
     }
 
-module _ {text : Text} {at i : ℕ} (s : Along text at i) (h : at < length text) where
+module _ {text : Text} {at i : ℕ} (s : AlongText text at i) (h : at < length text) where
   pub along-feed : i < length text → getD text i 0 ≡ lineFeed → LineTo text at (i + 1)
   unfolding firstLine afterLine
   along-feed k e =

@@ -17,7 +17,7 @@ use Rattle.text_scan.specs.Found.{NumberTo, NumbersFrom}
 use Rattle.text_scan.specs.declared.Number.{Number}
 use Rattle.text_scan.specs.declared.Numbers.{Numbers}
 
-pub record Counted (text : Text) (at : ℕ) (vs : List ℕ) (n i : ℕ) : Type 0 where
+pub record FieldsCounted (text : Text) (at : ℕ) (vs : List ℕ) (n i : ℕ) : Type 0 where
   pub done : List Text
   pub fields : fieldsOf (drop at text) ≡ done ++ fieldsOf (drop i text)
   pub good : readable (drop at text) ≡ readable (drop i text)
@@ -29,7 +29,7 @@ pub record Counted (text : Text) (at : ℕ) (vs : List ℕ) (n i : ℕ) : Type 0
   pub below : n + at ≤ i
   pub within : i ≤ length text
 
-pub counted-none : (text : Text) (at : ℕ) → at ≤ length text → Counted text at (replicate 24 0) 0 at
+pub counted-none : (text : Text) (at : ℕ) → at ≤ length text → FieldsCounted text at (replicate 24 0) 0 at
 counted-none text at h = record {
   done = [];
   fields = refl;
@@ -60,7 +60,7 @@ module _ (f : Text) where
   nth-other (g ∷ done) zero n = refl
   nth-other (g ∷ done) (suc k) n = nth-other done k (λ e. n (ap suc e))
 
-module _ {text : Text} {at n i : ℕ} {vs : List ℕ} (s : Counted text at vs n i) where
+module _ {text : Text} {at n i : ℕ} {vs : List ℕ} (s : FieldsCounted text at vs n i) where
   kept-long : (v : ℕ) (vs′ : List ℕ) → Kept vs n v vs′ → length vs′ ≡ 24
   kept-long v vs′ (inl k) = ap length (k .1) ∙ simp length-set (s .long)
   kept-long v vs′ (inr k) = ap length (k .1) ∙ s .long
@@ -100,7 +100,7 @@ module _ {text : Text} {at n i : ℕ} {vs : List ℕ} (s : Counted text at vs n 
 
   module _ {r : Number} (t : NumberTo text i r) where
     -- what a comma after it leaves to read; what a line feed does
-    pub counted-more : r .last ≡ false → (vs′ : List ℕ) → Kept vs n (r .value) vs′ → Counted text at vs′ (n + 1) (r .next)
+    pub counted-more : r .last ≡ false → (vs′ : List ℕ) → Kept vs n (r .value) vs′ → FieldsCounted text at vs′ (n + 1) (r .next)
     counted-more e vs′ k =
         let f = t .field in
         let d = number-form f (t .number) .digits in

@@ -18,7 +18,7 @@ use Rattle.text_scan.specs.Field.{Digits, is-digit, form-number, no-fiel
 use Rattle.text_scan.specs.Found.{NumberFrom}
 use Rattle.text_scan.specs.declared.Number.{Number}
 
-pub record Sofar (text : Text) (from i v : ℕ) : Type 0 where
+pub record DigitsSofar (text : Text) (from i v : ℕ) : Type 0 where
   pub field : Text
   pub split : drop from text ≡ field ++ drop i text
   pub place : i ≡ from + length field
@@ -29,7 +29,7 @@ pub record Sofar (text : Text) (from i v : ℕ) : Type 0 where
   pub value : v ≡ valueFrom 0 field
   pub small : v < 10 ^ length field
 
-pub sofar-none : (text : Text) (from : ℕ) → from ≤ length text → Sofar text from from 0
+pub sofar-none : (text : Text) (from : ℕ) → from ≤ length text → DigitsSofar text from from 0
 unfolding valueFrom
 sofar-none text from h = record {
   field = [];
@@ -57,7 +57,7 @@ value-more a (x ∷ f) b = value-more (a * 10 + (x - 48)) f b
 power : (m n : ℕ) → m ≤ n → 10 ^ m ≤ 10 ^ n
 power m n h = pow-le-pow-right (omega arith) h
 
-module _ {text : Text} {from i v : ℕ} (s : Sofar text from i v) where
+module _ {text : Text} {from i v : ℕ} (s : DigitsSofar text from i v) where
   -- the first byte of the field
   front : 1 ≤ length (s .field) → getD (s .field) 0 0 ≡ getD text from 0
   front h =
@@ -71,7 +71,7 @@ module _ {text : Text} {from i v : ℕ} (s : Sofar text from i v) where
   next h = s .split ∙ rw (drop-cons text i 0 h, add-one i)
 
   pub sofar-more : i < length text → 48 ≤ getD text i 0 → getD text i 0 ≤ 57 → i - from < 4 → (from < i → getD text from 0 ≡ 48 → ⊥)
-      → Sofar text from (i + 1) (v * 10 + (getD text i 0 - 48))
+      → DigitsSofar text from (i + 1) (v * 10 + (getD text i 0 - 48))
   sofar-more h l u k z =
       let b = getD text i 0 in
       let f = s .field in

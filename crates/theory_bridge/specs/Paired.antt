@@ -13,7 +13,7 @@ use Rattle.definition.specs.Rules.{noLayout, cellAt, apart, offerAt, choiceOffe
 use Rattle.definition.specs.Cost.{charge, firstHeight}
 use Rattle.lists.specs.Numbers.{from}
 use Rattle.theory_pair.specs.Pick.{pick}
-use Rattle.theory_pair.specs.Cells.{Side, row₀, row₁, Kind, one, both, Job as PairJob}
+use Rattle.theory_pair.specs.Cells.{Side, row₀, row₁, Kind, one, both, PairJob}
 
 -- row 0 or 1, or 2 for a tall cell
 abbrev pub kindOf : ℕ → Kind

@@ -19,7 +19,7 @@ use Rattle.theory_pair.specs.Cut.{Upto}
 use Rattle.theory_pair.specs.Pair.{Stages, ending, table, table-below, table-met}
 use Rattle.theory_pair.specs.Agree.{Agree, agree-stages, stages-agree, paths-agree}
 unfoldable pub use Rattle.theory_pair.specs.Legal.{members, tallCells}
-pub use Rattle.theory_pair.specs.Legal.{Side, row₀, row₁, Kind, one, both, Job, inRow, isTall, ownIn}
+pub use Rattle.theory_pair.specs.Legal.{Side, row₀, row₁, Kind, one, both, PairJob, inRow, isTall, ownIn}
 pub use Rattle.theory_pair.specs.Legal.{site, width, rowOrder, RowEnded, neighbours, total, LegalPair}
 use Rattle.theory_pair.specs.Members.{at, at-in, at-place, place-at, images-all, sort-order}
 use Rattle.theory_pair.specs.Members.{ended-images, sum-images, sumNeighbours-images, row-positions}
@@ -28,7 +28,7 @@ pub use Rattle.theory_pair.specs.Lines.{cell, line, tallCount, pos, cell
 use Rattle.theory_pair.specs.Lines.{members-in, in-members, members-distinct, talls-in, in-talls}
 use Rattle.theory_pair.specs.Lines.{talls-rising, tall-inRow, same-options, split-sum}
 
-module _ {A : Type 0} (R : ℕ) (siteOf : A → ℕ) (J : Job A) where
+module _ {A : Type 0} (R : ℕ) (siteOf : A → ℕ) (J : PairJob A) where
   -- a placement, as the poses of a row's positions
   abbrev by : (ℕ → A) → Side → ℕ → A
   by f s p = f (cell J s p)

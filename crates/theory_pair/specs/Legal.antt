@@ -19,7 +19,7 @@ pub data Kind : Type 0 where
   one : Side → Kind
   both : Kind
 
-pub record Job (A : Type 0) : Type 0 where
+pub record PairJob (A : Type 0) : Type 0 where
   pub count : ℕ
   pub kind : ℕ → Kind
   pub offers : ℕ → List A
@@ -48,7 +48,7 @@ ownIn row₀ k x = x
 ownIn row₁ (one s) x = x
 ownIn row₁ both x = 0
 
-module _ {A : Type 0} (J : Job A) where
+module _ {A : Type 0} (J : PairJob A) where
   -- the cells of a row, in file order
   unfoldable pub members : Side → List ℕ
   members s = pick (λ k. inRow s (J .kind k)) (from 0 (J .count))
@@ -57,7 +57,7 @@ module _ {A : Type 0} (J : Job A) where
   unfoldable pub tallCells : List ℕ
   tallCells = pick (λ k. isTall (J .kind k)) (from 0 (J .count))
 
-module _ {A : Type 0} (siteOf : A → ℕ) (J : Job A) (f : ℕ → A) where
+module _ {A : Type 0} (siteOf : A → ℕ) (J : PairJob A) (f : ℕ → A) where
   abbrev pub site : ℕ → ℕ
   site k = siteOf (f k)
 
@@ -80,7 +80,7 @@ module _ {A : Type 0} (siteOf : A → ℕ) (J : Job A) (f : ℕ → A) where
   total = sum (λ k. J .own k (f k)) (from 0 (J .count)) + (neighbours row₀ + neighbours row₁)
 
 -- rules 1 to 3 are in what is offered, 4 to 6 in rows, 7 in order, and what the ends allow in ended
-pub record LegalPair {A : Type 0} (R : ℕ) (siteOf : A → ℕ) (J : Job A) (f : ℕ → A) : Type 0 where
+pub record LegalPair {A : Type 0} (R : ℕ) (siteOf : A → ℕ) (J : PairJob A) (f : ℕ → A) : Type 0 where
   pub offered : (k : ℕ) → k < J .count → In (f k) (J .offers k)
   pub rows : (s : Side) → RowLegal R (site siteOf J f) (width siteOf J f) (members J s)
   pub inOrder : (j k : ℕ) → j < k → k < J .count → isTall (J .kind j) ≡ true → isTall (J .kind k) ≡ true

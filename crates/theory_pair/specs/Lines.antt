@@ -13,11 +13,11 @@ use Rattle.theory_pair.specs.Segment.{Line}
 use Rattle.theory_pair.specs.Pair.{Talls}
 use Rattle.theory_pair.specs.Pick.{pick, pick-in, in-pick, pick-pairs}
 use Rattle.theory_pair.specs.Legal.{members, tallCells}
-use Rattle.theory_pair.specs.Legal.{Side, row₀, row₁, Kind, one, both, Job, inRow, isTall, ownIn}
+use Rattle.theory_pair.specs.Legal.{Side, row₀, row₁, Kind, one, both, PairJob, inRow, isTall, ownIn}
 use Rattle.theory_pair.specs.Members.{at, at-in, at-place, place-at}
 use Rattle.theory_pair.specs.Members.{from-rising, rising-at, rising-distinct′}
 
-module _ {A : Type 0} (J : Job A) where
+module _ {A : Type 0} (J : PairJob A) where
   abbrev pub cell : Side → ℕ → ℕ
   cell s p = at (members J s) p
 

@@ -14,7 +14,7 @@ use Rattle.lists.specs.Membership.{Distinct}
 use Rattle.lists.specs.Neighbours.{Pairs, Chain, Next}
 use Rattle.theory_row.specs.Order.{put, sort, order, place, order-below}
 use Rattle.theory_row.specs.Rules.{Clear, NoGapOne, sum, sumNext, sumNeighbours}
-use Rattle.theory_row.specs.Row.{Legal}
+use Rattle.theory_row.specs.Row.{LegalSites}
 use Rattle.theory_pair.specs.Ends.{lastFrom, Ended}
 
 -- ---- the cells at given positions
@@ -166,7 +166,7 @@ module _ (R : ℕ) (site wide : ℕ → ℕ) (ms : List ℕ) (d : Distinct ms) w
       ∙ images-place (at ms) p (order siteAt (length ms))
       (λ x m e. injective p x h (order-below siteAt (length ms) x m) e)
 
-  pub row-positions : RowLegal R site wide ms → Legal R siteAt wideAt (length ms)
+  pub row-positions : RowLegal R site wide ms → LegalSites R siteAt wideAt (length ms)
   row-positions r = record {
     rule4 = λ a b p q n. r .rule4 (at ms a) (at ms b) (at-in ms a p) (at-in ms b q) (λ e. n (injective a b p q e));
     rule5 = chain-images (NoGapOne site wide) (at ms) (order siteAt (length ms)) .0
@@ -175,7 +175,7 @@ module _ (R : ℕ) (site wide : ℕ → ℕ) (ms : List ℕ) (d : Distinct ms) w
         let c = place-at ms k d h in omega arith;
   }
 
-  pub positions-row : Legal R siteAt wideAt (length ms) → RowLegal R site wide ms
+  pub positions-row : LegalSites R siteAt wideAt (length ms) → RowLegal R site wide ms
   positions-row r = record {
     rule4 = λ a b p q n. four a b (at-place ms a p) (at-place ms b q) n;
     rule5 = subst (λ l. Chain (NoGapOne site wide) l) (sym (sort-order site ms))

@@ -89,7 +89,7 @@ module _ {A : Type 0} (R : ℕ) (siteOf : A → ℕ) (L₀ L₁ : Line A) (pos�
 
   -- ---- stages join to two paths
 
-  pub record Joined (c : Case A) (I x : ℕ) : Type 0 where
+  pub record CaseJoined (c : Case A) (I x : ℕ) : Type 0 where
     pub ps : List A
     pub size : length ps ≡ I
     pub x₀ : ℕ
@@ -100,8 +100,8 @@ module _ {A : Type 0} (R : ℕ) (siteOf : A → ℕ) (L₀ L₁ : Line A) (pos�
 
   module _ (N : ℕ) (T₀ : Talls L₀ N pos₀) (T₁ : Talls L₁ N pos₁)
       (same : (I : ℕ) → I < N → L₀ .options (pos₀ I) ≡ L₁ .options (pos₁ I)) where
-    joined-more : (c t : Case A) (I x y : ℕ) → I < N → In c (cases I) → Joined c I x → Stage (suc I) c t y
-        → Joined t (suc I) (x + y)
+    joined-more : (c t : Case A) (I x y : ℕ) → I < N → In c (cases I) → CaseJoined c I x → Stage (suc I) c t y
+        → CaseJoined t (suc I) (x + y)
     unfolding cases spots picks
     joined-more c t I x y h m j s =
         let r₁ = each-in (L₀ .options (pos₀ I)) _ m in
@@ -136,7 +136,7 @@ module _ {A : Type 0} (R : ℕ) (siteOf : A → ℕ) (L₀ L₁ : Line A) (pos�
           sum = omega arith;
         }
 
-    pub stages-joined : (I : ℕ) (c : Case A) (x : ℕ) → I ≤ N → Stages I c x → Joined c I x
+    pub stages-joined : (I : ℕ) (c : Case A) (x : ℕ) → I ≤ N → Stages I c x → CaseJoined c I x
     unfolding picks
     stages-joined zero c x h s = record {
       ps = [];
@@ -148,7 +148,7 @@ module _ {A : Type 0} (R : ℕ) (siteOf : A → ℕ) (L₀ L₁ : Line A) (pos�
       sum = s .4;
     }
     stages-joined (suc I) c x h s =
-        subst (λ y. Joined c (suc I) y) (s .6) (joined-more (s .0) c I (s .2) (s .3) (omega arith) (s .1)
+        subst (λ y. CaseJoined c (suc I) y) (s .6) (joined-more (s .0) c I (s .2) (s .3) (omega arith) (s .1)
         (stages-joined I (s .0) (s .2) (omega arith) (s .4)) (s .5))
 
     -- ---- two paths are cut into stages

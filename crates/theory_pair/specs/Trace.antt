@@ -14,7 +14,7 @@ use Rattle.theory_pair.specs.Segment.{Line, Choice, State, Goes, Move, m
 use Rattle.theory_pair.specs.Segment.{move-met, next, last, cost, after, SegmentListed}
 use Rattle.theory_pair.specs.Whole.{picks}
 use Rattle.theory_pair.specs.Cut.{Upto}
-use Rattle.theory_pair.specs.Cells.{row₀, row₁, Job, line, pos, tallCount, cell, LegalPair, total, traced}
+use Rattle.theory_pair.specs.Cells.{row₀, row₁, PairJob, line, pos, tallCount, cell, LegalPair, total, traced}
 
 -- ---- the placement has the path's poses
 
@@ -75,7 +75,7 @@ module _ {A : Type 0} (R : ℕ) (siteOf : A → ℕ) (L : Line A) where
 
 -- ---- the pair
 
-module _ {A : Type 0} (R : ℕ) (siteOf : A → ℕ) (J : Job A)
+module _ {A : Type 0} (R : ℕ) (siteOf : A → ℕ) (J : PairJob A)
     (w : (k : ℕ) (a : A) → In a (J .offers k) → 0 < J .wide k a) where
   -- a placement f that obeys a path to the end of each row, the tall cells with the poses ps in
   -- both, is legal and costs what the paths cost

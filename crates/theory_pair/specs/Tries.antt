@@ -18,11 +18,11 @@ use Rattle.theory_pair.specs.Forward.{each, add, costIf, leastOf, layer}
 use Rattle.theory_pair.specs.Pick.{pick, goodMarks}
 use Rattle.theory_pair.specs.Segment.{both?, not?, fitsTo?, endsWith?, into?, move, ifSingle, singles, least}
 use Rattle.theory_pair.specs.Pair.{spots, cases, stageLeast, table, ending}
-use Rattle.theory_pair.specs.Cells.{row₀, row₁, Kind, one, both, Job}
+use Rattle.theory_pair.specs.Cells.{row₀, row₁, Kind, one, both, PairJob}
 use Rattle.theory_pair.specs.Cells.{members, tallCells, line, pos, tallCount}
 
 -- cells one site wide at a site, with a cost, in rows whose ends are as given
-abbrev pub jobEnded : (ℕ → Bool) → (ℕ → Bool) → List Kind → List (List ℕ) → Job ℕ
+abbrev pub jobEnded : (ℕ → Bool) → (ℕ → Bool) → List Kind → List (List ℕ) → PairJob ℕ
 jobEnded opens closes ks os = record {
   count = lib.ListN.length ks;
   kind = λ k. getD ks k both;
@@ -35,10 +35,10 @@ jobEnded opens closes ks os = record {
 }
 
 -- in rows whose ends are free
-abbrev pub job : List Kind → List (List ℕ) → Job ℕ
+abbrev pub job : List Kind → List (List ℕ) → PairJob ℕ
 job ks os = jobEnded (λ a. true) (λ a. true) ks os
 
-abbrev run : ℕ → Job ℕ → Option ℕ
+abbrev run : ℕ → PairJob ℕ → Option ℕ
 run R J = table R (λ a. a) (line J row₀) (line J row₁) (pos J row₀) (pos J row₁) (tallCount J)
     (ending R (λ a. a) (line J row₀) (line J row₁) (pos J row₀) (pos J row₁))
 

@@ -13,7 +13,7 @@ use Rattle.theory_row.specs.Order.{order, order-below, order-size, Rising}
 use Rattle.theory_row.specs.Rules.{sum, sumNext, sumNeighbours}
 use Rattle.theory_row.specs.Window.{start, step, Run}
 use Rattle.theory_row.specs.Arranged.{Arranged, run-arranged}
-use Rattle.theory_row.specs.Row.{Fits, Legal, legal-run, run-legal, run-order, order-sum, order-rising, rule4-sites}
+use Rattle.theory_row.specs.Row.{Fits, LegalSites, legal-run, run-legal, run-order, order-sum, order-rising, rule4-sites}
 use Rattle.theory_row.specs.Choices.{cells, chosen, along, along-chosen}
 use Rattle.theory_row.specs.Choices.{along-same, cells-size}
 use Rattle.theory_pair.specs.Pick.{pick}
@@ -47,7 +47,7 @@ module _ {A : Type 0} (siteOf : A → ℕ) (L : Line A) (g : ℕ → A) where
 -- a row whose cells stand as offered, legally, and with ends that are allowed
 pub record RowPlaced {A : Type 0} (R : ℕ) (siteOf : A → ℕ) (L : Line A) (g : ℕ → A) : Type 0 where
   pub offered : (k : ℕ) → k < L .size → In (g k) (L .options k)
-  pub legal : Legal R (siteIn siteOf L g) (wideIn siteOf L g) (L .size)
+  pub legal : LegalSites R (siteIn siteOf L g) (wideIn siteOf L g) (L .size)
   pub ended : Ended (opensIn siteOf L g) (closesIn siteOf L g) (order (siteIn siteOf L g) (L .size))
 
 abbrev pub Wide : {A : Type 0} → Line A → Type 0

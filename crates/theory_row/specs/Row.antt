@@ -136,7 +136,7 @@ module _ (site wide : ℕ → ℕ) (n R : ℕ) (w : (k : ℕ) → k < n → 0 < 
 abbrev pub Fits : (ℕ → ℕ) → (ℕ → ℕ) → ℕ → ℕ → Type 0
 Fits site wide a b = Clear site wide a b × NoGapOne site wide a b
 
-pub record Legal (R : ℕ) (site wide : ℕ → ℕ) (n : ℕ) : Type 0 where
+pub record LegalSites (R : ℕ) (site wide : ℕ → ℕ) (n : ℕ) : Type 0 where
   pub rule4 : Rule4 site wide n
   pub rule5 : Rule5 site wide n
   pub rule6 : Rule6 R site n
@@ -158,7 +158,7 @@ chain-map P Q f [] p = tt
 chain-map P Q f (a ∷ l) p = next-map P Q f a l p
 
 module _ (R : ℕ) (site wide : ℕ → ℕ) (n : ℕ) (w : (k : ℕ) → k < n → 0 < wide k) where
-  pub legal-run : Legal R site wide n → Run R n 0 (start R) (order site n) × Chain (Fits site wide) (order site n)
+  pub legal-run : LegalSites R site wide n → Run R n 0 (start R) (order site n) × Chain (Fits site wide) (order site n)
   legal-run g = (
     arranged-run R n (order site n) (legal-arranged site wide n R w (g .rule4) (g .rule6)),
     chain-both (Clear site wide) (NoGapOne site wide) (order site n)
@@ -169,7 +169,7 @@ module _ (R : ℕ) (site wide : ℕ → ℕ) (n : ℕ) (w : (k : ℕ) → k < n 
   run-order l s r c = arranged-order site wide n R w l (run-arranged R n l s r)
       (chain-map (Fits site wide) (Clear site wide) (λ x y p. p .0) l c)
 
-  pub run-legal : (l : List ℕ) → length l ≡ n → Run R n 0 (start R) l → Chain (Fits site wide) l → Legal R site wide n
+  pub run-legal : (l : List ℕ) → length l ≡ n → Run R n 0 (start R) l → Chain (Fits site wide) l → LegalSites R site wide n
   run-legal l s r c =
       let a = run-arranged R n l s r in
       let k = chain-map (Fits site wide) (Clear site wide) (λ x y p. p .0) l c in

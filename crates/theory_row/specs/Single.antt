@@ -15,7 +15,7 @@ use Rattle.theory_row.specs.Order.{order, order-below, order-size}
 use Rattle.theory_row.specs.Rules.{sum, sumNext, sumNeighbours}
 use Rattle.theory_row.specs.Window.{start, step, May, Run}
 use Rattle.theory_row.specs.Arranged.{may?, Arranged, run-arranged}
-use Rattle.theory_row.specs.Row.{Fits, Legal, legal-run, run-legal, run-order, order-sum}
+use Rattle.theory_row.specs.Row.{Fits, LegalSites, legal-run, run-legal, run-order, order-sum}
 use Rattle.theory_row.specs.Choices.{cells, chosen, along, along-chosen, along-size, cells-size}
 use Rattle.theory_row.specs.Cheapest.{_⊑_, Path′, cost, best, best-below, best-met}
 
@@ -244,7 +244,7 @@ module _ {A : Type 0} (R n : ℕ) (options : ℕ → List A) (siteOf : A → ℕ
 
     pub record SinglePlaced : Type 0 where
       pub offered : (k : ℕ) → k < n → In (f k) (options k)
-      pub legal : Legal R site wide n
+      pub legal : LegalSites R site wide n
 
   module _ (d : A) (w : (k : ℕ) (a : A) → In a (options k) → 0 < widthOf k a) where
     -- no legal placement is cheaper than the cheapest path; if there is no path, there is no legal placement

@@ -9,7 +9,7 @@ use Rattle.lists.specs.Numbers.{from}
 use Rattle.theory_pair.specs.Pick.{pick-in, in-pick}
 use Rattle.theory_pair.specs.Members.{at, at-in, at-place}
 use Rattle.theory_pair.specs.Coded.{coded}
-use Rattle.theory_pair.specs.Cells.{Side, row₀, row₁, Kind, one, both, inRow, isTall, Job}
+use Rattle.theory_pair.specs.Cells.{Side, row₀, row₁, Kind, one, both, inRow, isTall, PairJob}
 use Rattle.theory_pair.specs.Cells.{members, tallCells, tallCount, cell, line, pos, answer}
 use Rattle.theory_tables.specs.Steps.{B, Deck}
 use Rattle.theory_tables.specs.Stages.{leastCost}
@@ -25,7 +25,7 @@ tall-in row₁ both e = refl
 tall-in row₀ (one t) e = absurd (let y : _≡_ {A = ℕ} 0 1 = cc in omega arith)
 tall-in row₁ (one t) e = absurd (let y : _≡_ {A = ℕ} 0 1 = cc in omega arith)
 
-module _ {A : Type 0} (J : Job A) where
+module _ {A : Type 0} (J : PairJob A) where
   -- tall cell I stands at its position in a row
   pub tall-at : (s : Side) (I : ℕ) → I < tallCount J
       → (cell J s (pos J s I) ≡ at (tallCells J) I) × (pos J s I < line J s .size)
@@ -36,7 +36,7 @@ module _ {A : Type 0} (J : Job A) where
       at-place (members J s) k
       (in-pick (λ k. inRow s (J .kind k)) (from 0 (J .count)) (t .0) (tall-in s (J .kind k) (t .1)))
 
-module _ {A : Type 0} (siteOf : A → ℕ) (J : Job A) where
+module _ {A : Type 0} (siteOf : A → ℕ) (J : PairJob A) where
   -- a row of the job with its deck
   abbrev pub rowOf : (s : Side) (D : Deck) (pose : ℕ → ℕ → A) (offered : ℕ → ℕ → Bool)
       → Matched siteOf (line J s) D pose offered → Row siteOf (tallCount J)
@@ -67,7 +67,7 @@ module _ {A : Type 0} (siteOf : A → ℕ) (J : Job A) where
         same : (I : ℕ) → I < tallCount J → cell J row₀ (pos J row₀ I) ≡ cell J row₁ (pos J row₁ I)
         same I h = tall-at J row₀ I h .0 ∙ sym (tall-at J row₁ I h .0)
 
-pub least-cost : {A : Type 0} (R : ℕ) (siteOf : A → ℕ) (J : Job A)
+pub least-cost : {A : Type 0} (R : ℕ) (siteOf : A → ℕ) (J : PairJob A)
     (w : (k : ℕ) (a : A) → In a (J .offers k) → 0 < J .wide k a)
     (D₀ D₁ : Deck) (pose₀ pose₁ : ℕ → ℕ → A) (offered₀ offered₁ : ℕ → ℕ → Bool)
     (M₀ : Matched siteOf (line J row₀) D₀ pose₀ offered₀) (M₁ : Matched siteOf (line J row₁) D₁ pose₁ offered₁)

@@ -6,7 +6,7 @@ use mathlib.Core.Bool.{Bool, true, false}
 use Prim.Native.Nat.{ℕ, _<_}
 use native.Mathlib.Omega.{arith}
 use Rattle.theory_pair.specs.Coded.{coded}
-use Rattle.theory_pair.specs.Cells.{Side, row₀, row₁, Job, line, cell, pos, tallCount, answer, LegalPair, total}
+use Rattle.theory_pair.specs.Cells.{Side, row₀, row₁, PairJob, line, cell, pos, tallCount, answer, LegalPair, total}
 use Rattle.theory_tables.specs.Steps.{B, Deck}
 use Rattle.theory_tables.specs.Stages.{leastCost}
 use Rattle.theory_tables.specs.Matched.{Matched}
@@ -15,14 +15,14 @@ use Rattle.theory_traceback.specs.Positions.{table-same}
 use Rattle.theory_traceback.specs.Placed.{Searched}
 
 -- no cell is offered a pose without sites
-abbrev pub Wide : {A : Type 0} → Job A → Type 0
+abbrev pub Wide : {A : Type 0} → PairJob A → Type 0
 Wide {A} J = (k : ℕ) (a : A) → In a (J .offers k) → 0 < J .wide k a
 
 -- the least cost of a legal placement, B where none is below B
-abbrev pub leastPair : {A : Type 0} (R : ℕ) (siteOf : A → ℕ) (J : Job A) → Wide J → ℕ
+abbrev pub leastPair : {A : Type 0} (R : ℕ) (siteOf : A → ℕ) (J : PairJob A) → Wide J → ℕ
 leastPair R siteOf J wide = coded B (answer R siteOf J wide)
 
-pub record PairFound {A : Type 0} (R : ℕ) (siteOf : A → ℕ) (J : Job A) (wide : Wide J) (poseOf : ℕ → ℕ → A)
+pub record PairFound {A : Type 0} (R : ℕ) (siteOf : A → ℕ) (J : PairJob A) (wide : Wide J) (poseOf : ℕ → ℕ → A)
     (found : Bool) (cost : ℕ) (number : ℕ → ℕ) : Type 0 where
   pub none-when : found ≡ false → leastPair R siteOf J wide ≡ B
   pub some-when : found ≡ true → LegalPair R siteOf J (λ k. poseOf k (number k))
@@ -30,7 +30,7 @@ pub record PairFound {A : Type 0} (R : ℕ) (siteOf : A → ℕ) (J : Job A) (wi
   pub least : found ≡ true → cost ≡ leastPair R siteOf J wide
 
 -- the tables of both rows come to that
-module _ {A : Type 0} (R : ℕ) (siteOf : A → ℕ) (J : Job A) (wide : Wide J) (poseOf : ℕ → ℕ → A)
+module _ {A : Type 0} (R : ℕ) (siteOf : A → ℕ) (J : PairJob A) (wide : Wide J) (poseOf : ℕ → ℕ → A)
     (offerOf : ℕ → ℕ → Bool) (D₀ D₁ : Deck) (tallAt₀ tallAt₁ : ℕ → ℕ)
     (S₀ : Searched siteOf J poseOf offerOf row₀ D₀ tallAt₀) (S₁ : Searched siteOf J poseOf offerOf row₁ D₁ tallAt₁)
     (same : D₀ .poses ≡ D₁ .poses) where

@@ -8,7 +8,7 @@ use native.Mathlib.Omega.{arith}
 use lib.ListN.{length}
 use Rattle.theory_pair.specs.Whole.{picks}
 use Rattle.theory_pair.specs.Members.{at}
-use Rattle.theory_pair.specs.Cells.{Side, row₀, row₁, Job, tallCells}
+use Rattle.theory_pair.specs.Cells.{Side, row₀, row₁, PairJob, tallCells}
 use Rattle.theory_pair.specs.Cells.{line, pos, tallCount, cell, cell-pos, line-talls, LegalPair, total}
 use Rattle.theory_pair.specs.Trace.{trace}
 use Rattle.theory_tables.specs.Steps.{B, Deck, poseSlots}
@@ -29,13 +29,13 @@ picks-same f g i (p ∷ ps) e =
 
 -- the numbers that the search has for row s: a deck that stands for it, by the poses
 -- of its cells; and where its tall cells are
-pub record Searched {A : Type 0} (siteOf : A → ℕ) (J : Job A) (poseOf : ℕ → ℕ → A) (offerOf : ℕ → ℕ → Bool) (s : Side)
+pub record Searched {A : Type 0} (siteOf : A → ℕ) (J : PairJob A) (poseOf : ℕ → ℕ → A) (offerOf : ℕ → ℕ → Bool) (s : Side)
     (D : Deck) (tallAt : ℕ → ℕ) : Type 0 where
   pub matched : Matched siteOf (line J s) D (λ p a. poseOf (cell J s p) a) (λ p a. offerOf (cell J s p) a)
   pub stands : (I : ℕ) → I < tallCount J → tallAt I ≡ pos J s I
 
 -- a search of both rows whose traceback noted by the words w₀ and w₁
-pub record TracedBack {A : Type 0} (R : ℕ) (siteOf : A → ℕ) (J : Job A) (poseOf : ℕ → ℕ → A) (offerOf : ℕ → ℕ → Bool)
+pub record TracedBack {A : Type 0} (R : ℕ) (siteOf : A → ℕ) (J : PairJob A) (poseOf : ℕ → ℕ → A) (offerOf : ℕ → ℕ → Bool)
     (D₀ D₁ : Deck) (tallAt₀ tallAt₁ w₀ w₁ : ℕ → ℕ) : Type 0 where
   pub first : Searched siteOf J poseOf offerOf row₀ D₀ tallAt₀
   pub second : Searched siteOf J poseOf offerOf row₁ D₁ tallAt₁
@@ -44,7 +44,7 @@ pub record TracedBack {A : Type 0} (R : ℕ) (siteOf : A → ℕ) (J : Job A) (p
   pub cost : leastCost D₀ D₁ R (tallCount J) tallAt₀ tallAt₁ < B
   pub traced : Traced D₀ D₁ R (tallCount J) tallAt₀ tallAt₁ (NotedBy w₀) (NotedBy w₁) (tallCount J) 0 0 0
 
-module _ {A : Type 0} (R : ℕ) (siteOf : A → ℕ) (J : Job A) (poseOf : ℕ → ℕ → A) (offerOf : ℕ → ℕ → Bool) where
+module _ {A : Type 0} (R : ℕ) (siteOf : A → ℕ) (J : PairJob A) (poseOf : ℕ → ℕ → A) (offerOf : ℕ → ℕ → Bool) where
   -- ---- one row
 
   module _ (s : Side) (D : Deck) (tallAt : ℕ → ℕ) (S : Searched siteOf J poseOf offerOf s D tallAt) where

@@ -101,7 +101,7 @@ module _ {A : Type 0} (R : ℕ) (siteOf : A → ℕ) (talls : ℕ) (W : RowWithT
     pub offer : W .offered (W .pos I) a ≡ true
     pub noted : Noted (placedWith R (W .pos I) q) (W .pos I) a
 
-  pub record Staged (s : State A) (I q a x : ℕ) : Type 0 where
+  pub record StagedFrom (s : State A) (I q a x : ℕ) : Type 0 where
     pub size : ℕ
     pub drawn : Drawn R siteOf (W .line) At s size (goal R siteOf talls W I q a) x
     pub stood : I < talls → Stood I q a
@@ -144,7 +144,7 @@ module _ {A : Type 0} (R : ℕ) (siteOf : A → ℕ) (talls : ℕ) (W : RowWithT
     pub stage-drawn : (I e q a : ℕ) → Within R siteOf talls W I q a → EndCost R siteOf (W .line) s e
         → stageEnd D R talls (W .pos) I f (suc (s .0)) e q a < B
         → StageTraced D R talls (W .pos) Noted I f (suc (s .0)) e q a
-        → Staged s I q a (stageEnd D R talls (W .pos) I f (suc (s .0)) e q a)
+        → StagedFrom s I q a (stageEnd D R talls (W .pos) I f (suc (s .0)) e q a)
     unfolding stageEnd
     stage-drawn I e q a h p u w =
         let r = go (ltb I talls) (le? (suc I) talls) u in

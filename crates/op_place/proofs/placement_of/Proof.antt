@@ -5,12 +5,12 @@ use native.Mathlib.Omega.{arith}
 use borrow.Author.Needs.{needs}
 use lib.ListN.{length}
 use Rattle.job.specs.declared.Placement.{Placement}
-use Rattle.op_place.specs.Poses.{Sofar, given-low, sofar-more, sofar-all}
+use Rattle.op_place.specs.Poses.{PosesSofar, given-low, sofar-more, sofar-all}
 use Rattle.op_place.proofs.placement_of.Statement.{statement}
 use Rattle.op_place.proofs.placement_of.Tie as tie
 
 abbrev Inv-loop : tie.InvT-loop
-Inv-loop job poses placement₀ count header k₀ placement k = (k ≤ count) × Sofar job poses placement k
+Inv-loop job poses placement₀ count header k₀ placement k = (k ≤ count) × PosesSofar job poses placement k
 
 abbrev μ-loop : tie.MeasureT-loop
 μ-loop job poses placement₀ count header k₀ placement k = count - k

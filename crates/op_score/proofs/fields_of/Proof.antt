@@ -13,7 +13,7 @@ use Rattle.results.specs.Fields.{More, more-then}
 use Rattle.score_numbers.specs.declared.Numbers.{Numbers}
 use Rattle.score_numbers.specs.Counted.{numbersIn}
 use Rattle.score_verdict.specs.Rules.{ruleCount}
-use Rattle.op_score.specs.Bounds.{Small, verdict-small}
+use Rattle.op_score.specs.Bounds.{VerdictSmall, verdict-small}
 use Rattle.op_score.specs.Fields.{broken-fields, legal-fields}
 use borrow.Author.Needs.{needs}
 use Rattle.op_score.proofs.fields_of.Statement.{statement}
@@ -23,7 +23,7 @@ use Rattle.op_score.proofs.fields_of.Tie as tie
 verdict-at : tie.Start → Verdict
 verdict-at s = verdict (jobOf (s .args .job)) (placementOf (s .args .placement))
 
-small : (s : tie.Start) → Small ruleCount (length (jobOf (s .args .job) .cells)) (verdict-at s)
+small : (s : tie.Start) → VerdictSmall ruleCount (length (jobOf (s .args .job) .cells)) (verdict-at s)
 unfolding verdict-at
 small s = verdict-small (jobOf (s .args .job)) (placementOf (s .args .placement))
 

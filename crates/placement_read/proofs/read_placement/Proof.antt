@@ -4,12 +4,12 @@ use native.Mathlib.Omega.{arith}
 use borrow.Author.Tests.{not-true, not-false}
 use borrow.Author.Needs.{needs}
 use Rattle.placement_read.proofs.Kept.{grow}
-use Rattle.placement_read.proofs.Sofar.{Sofar, start, step, bad, surplus, complete, at-fault}
+use Rattle.placement_read.proofs.Sofar.{LinesSofar, start, step, bad, surplus, complete, at-fault}
 use Rattle.placement_read.proofs.read_placement.Statement.{statement}
 use Rattle.placement_read.proofs.read_placement.Tie as tie
 
 abbrev Inv-loop : tie.InvT-loop
-Inv-loop text due placement₀ at₀ placement at = Sofar text due placement at
+Inv-loop text due placement₀ at₀ placement at = LinesSofar text due placement at
 
 abbrev μ-loop : tie.MeasureT-loop
 μ-loop text due placement₀ at₀ placement at = due - placement .count

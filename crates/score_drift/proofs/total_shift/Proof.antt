@@ -12,13 +12,13 @@ use native.Mathlib.Omega.{arith}
 use Rattle.score_drift.proofs.total_shift.Statement.{statement}
 use Rattle.score_drift.proofs.total_shift.Tie as tie
 
-record Summed (words : List ℕ) (count total k : ℕ) : Type 0 where
+record ShiftsSummed (words : List ℕ) (count total k : ℕ) : Type 0 where
   below : k ≤ count
   sum : toZ w32 total ≡ totalIn words k (count - k)
   small : natAbs (totalIn words k (count - k)) ≤ 12000 * (count - k)
 
 abbrev Inv-loop : tie.InvT-loop
-Inv-loop words count total₀ k₀ total k = Summed words count total k
+Inv-loop words count total₀ k₀ total k = ShiftsSummed words count total k
 
 abbrev μ-loop : tie.MeasureT-loop
 μ-loop words count total₀ k₀ total k = k

@@ -8,13 +8,13 @@ use borrow.Author.Needs.{needs}
 use Rattle.score_numbers.proofs.shifted_in.Statement.{statement}
 use Rattle.score_numbers.proofs.shifted_in.Tie as tie
 
-record Summed (words : List ℕ) (count total k : ℕ) : Type 0 where
+record SitesSummed (words : List ℕ) (count total k : ℕ) : Type 0 where
   below : k ≤ count
   sum : total ≡ sumFrom (shiftIn words) k (count - k)
   small : total ≤ 12000 * (count - k)
 
 abbrev Inv-loop : tie.InvT-loop
-Inv-loop words count total₀ k₀ total k = Summed words count total k
+Inv-loop words count total₀ k₀ total k = SitesSummed words count total k
 
 abbrev μ-loop : tie.MeasureT-loop
 μ-loop words count total₀ k₀ total k = k

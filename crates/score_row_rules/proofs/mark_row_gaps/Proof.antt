@@ -14,13 +14,13 @@ use borrow.Author.Needs.{needs}
 use Rattle.score_row_rules.proofs.mark_row_gaps.Statement.{statement}
 use Rattle.score_row_rules.proofs.mark_row_gaps.Tie as tie
 
-record Judged (words order : List ℕ) (at : ℕ) (marks₀ marks : List ℕ) (i : ℕ) : Type 0 where
+record GapsJudged (words order : List ℕ) (at : ℕ) (marks₀ marks : List ℕ) (i : ℕ) : Type 0 where
   below : i ≤ 63
   down : min at 63 ≤ i
   added : Added 64 (nearIn words (drop i order)) marks₀ marks
 
 abbrev Inv-loop : tie.InvT-loop
-Inv-loop words order at marks₀ i₀ marks i = Judged words order at marks₀ marks i
+Inv-loop words order at marks₀ i₀ marks i = GapsJudged words order at marks₀ marks i
 
 abbrev μ-loop : tie.MeasureT-loop
 μ-loop words order at marks₀ i₀ marks i = i

@@ -18,14 +18,14 @@ use borrow.Author.Needs.{needs}
 use Rattle.score_steps.proofs.steps_in.Statement.{statement}
 use Rattle.score_steps.proofs.steps_in.Tie as tie
 
-record Summed (job : Job) (placement : Placement) (order : List ℕ) (at row total i : ℕ) : Type 0 where
+record StepsSummed (job : Job) (placement : Placement) (order : List ℕ) (at row total i : ℕ) : Type 0 where
   below : i ≤ 63
   down : min at 63 ≤ i
   small : total + 2 * i ≤ 126
   sum : total ≡ sumNext (stepsAt (jobOf job) (placementOf placement) row) (drop i order)
 
 abbrev Inv-loop : tie.InvT-loop
-Inv-loop words order at row job placement total₀ i₀ total i = Summed job placement order at row total i
+Inv-loop words order at row job placement total₀ i₀ total i = StepsSummed job placement order at row total i
 
 abbrev μ-loop : tie.MeasureT-loop
 μ-loop words order at row job placement total₀ i₀ total i = i

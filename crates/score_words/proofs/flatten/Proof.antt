@@ -22,14 +22,14 @@ use borrow.Author.Needs.{needs}
 use Rattle.score_words.proofs.flatten.Statement.{statement}
 use Rattle.score_words.proofs.flatten.Tie as tie
 
-record Filled (job : Job) (placement : Placement) (words : List ℕ) (k : ℕ) : Type 0 where
+record WordsFilled (job : Job) (placement : Placement) (words : List ℕ) (k : ℕ) : Type 0 where
   below : k ≤ job .count
   long : length words ≡ 256
   shown : (i : ℕ) → i < k → Shows (jobOf job) (placementOf placement) words i
   blank : (x : ℕ) → 4 * k ≤ x → getD words x 0 ≡ 0
 
 abbrev Inv-loop : tie.InvT-loop
-Inv-loop words₀ job placement count k₀ words k = Filled job placement words k
+Inv-loop words₀ job placement count k₀ words k = WordsFilled job placement words k
 
 abbrev μ-loop : tie.MeasureT-loop
 μ-loop words₀ job placement count k₀ words k = job .count - k
@@ -77,8 +77,8 @@ loop-less c = omega arith
 
 -- one more cell
 more : (job : Job) (P : Placement) (w : List ℕ) (k end : ℕ) → k < job .count → k < 64 → k < P .count
-    → end ≡ poseAt P k .site + widthIn (cellOf (value.cellAt job k)) (poseAt P k .layout) → Filled job P w k
-    → Filled job P (four w k (poseAt P k .site) end (value.cellAt job k .row) (value.cellAt job k .given)) (k + 1)
+    → end ≡ poseAt P k .site + widthIn (cellOf (value.cellAt job k)) (poseAt P k .layout) → WordsFilled job P w k
+    → WordsFilled job P (four w k (poseAt P k .site) end (value.cellAt job k .row) (value.cellAt job k .given)) (k + 1)
 more job P w k end g h f e m =
     let w′ : List ℕ = four w k (poseAt P k .site) end (value.cellAt job k .row) (value.cellAt job k .given) in
     let other = four-other w k (poseAt P k .site) end (value.cellAt job k .row) (value.cellAt job k .given) (m .long) h in
@@ -110,7 +110,7 @@ same-length : tie.Need-same-length Inv-loop μ-loop
 same-length c = omega arith
 
 -- all cells, and those that there are not
-all : (job : Job) (P : Placement) (w : List ℕ) (n : ℕ) → Filled job P w n → n ≡ job .count → P .count ≡ job .count → (k : ℕ) (t : Bool)
+all : (job : Job) (P : Placement) (w : List ℕ) (n : ℕ) → WordsFilled job P w n → n ≡ job .count → P .count ≡ job .count → (k : ℕ) (t : Bool)
     → Le? (suc k) (job .count) t → Shows (jobOf job) (placementOf P) w k
 all job P w n m e f k true (low h) = m .shown k (omega arith)
 all job P w n m e f k false (high h) =

@@ -5,13 +5,13 @@ use mathlib.Core.Path.{_≡_, refl, _∙_}
 use native.Mathlib.Omega.{arith}
 use lib.ListN.{length}
 use Rattle.search_row_fill.specs.Filled.{filled-none, filled-value, ranged-at}
-use Rattle.search_row_fill.specs.Filled.{sideOf, Filled}
+use Rattle.search_row_fill.specs.Filled.{sideOf, RowFilled}
 use Rattle.job.specs.Value.{jobOf}
 use Rattle.search_row_fill.proofs.fill_cells.Statement.{statement}
 use Rattle.search_row_fill.proofs.fill_cells.Tie as tie
 
 abbrev Inv-loop : tie.InvT-loop
-Inv-loop row₀ side job long header n₀ k₀ row n k = (length row ≡ length row₀) × Filled (jobOf job) (sideOf side) row n k
+Inv-loop row₀ side job long header n₀ k₀ row n k = (length row ≡ length row₀) × RowFilled (jobOf job) (sideOf side) row n k
 
 abbrev μ-loop : tie.MeasureT-loop
 μ-loop row₀ side job long header n₀ k₀ row n k = job .count - k

@@ -2,12 +2,12 @@
 use Prim.Native.Nat.{_-_}
 use native.Mathlib.Omega.{arith}
 use lib.ListN.{length}
-use Rattle.text_scan.proofs.Along.{Along, along-none, along-more, along-feed, along-out}
+use Rattle.text_scan.proofs.Along.{AlongText, along-none, along-more, along-feed, along-out}
 use Rattle.text_scan.proofs.line_end.Statement.{statement}
 use Rattle.text_scan.proofs.line_end.Tie as tie
 
 abbrev Inv-loop : tie.InvT-loop
-Inv-loop text at i₀ i = Along text at i
+Inv-loop text at i₀ i = AlongText text at i
 
 abbrev μ-loop : tie.MeasureT-loop
 μ-loop text at i₀ i = length text - i

@@ -5,13 +5,13 @@ use native.Mathlib.Omega.{arith}
 use mathlib.Core.Bool.{true, false}
 use mathlib.Core.Logic.{⊎-elim}
 use lib.ListN.{length}
-use Rattle.text_scan.proofs.Sofar.{Sofar, sofar-none, sofar-fits, sofar-more, sofar-end, sofar-low}
+use Rattle.text_scan.proofs.Sofar.{DigitsSofar, sofar-none, sofar-fits, sofar-more, sofar-end, sofar-low}
 use Rattle.text_scan.proofs.Sofar.{sofar-high, sofar-long, sofar-zero, sofar-out, no-number}
 use Rattle.text_scan.proofs.read_number.Statement.{statement}
 use Rattle.text_scan.proofs.read_number.Tie as tie
 
 abbrev Inv-loop : tie.InvT-loop
-Inv-loop text from none value₀ i₀ value i = Sofar text from i value
+Inv-loop text from none value₀ i₀ value i = DigitsSofar text from i value
 
 abbrev μ-loop : tie.MeasureT-loop
 μ-loop text from none value₀ i₀ value i = length text - i

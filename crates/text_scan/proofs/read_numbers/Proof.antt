@@ -5,12 +5,12 @@ use mathlib.Core.Logic.{⊎-elim, inl, inr}
 use native.Mathlib.Omega.{arith}
 use borrow.Author.Tests.{not-true, not-false}
 use lib.ListN.{length}
-use Rattle.text_scan.proofs.Counted.{Counted, Kept, counted-none, counted-more, counted-end, counted-bad, none-readable}
+use Rattle.text_scan.proofs.Counted.{FieldsCounted, Kept, counted-none, counted-more, counted-end, counted-bad, none-readable}
 use Rattle.text_scan.proofs.read_numbers.Statement.{statement}
 use Rattle.text_scan.proofs.read_numbers.Tie as tie
 
 abbrev Inv-loop : tie.InvT-loop
-Inv-loop text at values₀ count₀ i₀ values count i = Counted text at values count i
+Inv-loop text at values₀ count₀ i₀ values count i = FieldsCounted text at values count i
 
 abbrev μ-loop : tie.MeasureT-loop
 μ-loop text at values₀ count₀ i₀ values count i = length text - i

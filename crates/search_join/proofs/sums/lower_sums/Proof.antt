@@ -7,8 +7,8 @@ use Rattle.search_join.specs.Sums.{startLanes}
 use Rattle.search_join.specs.SumLaws.{start-words}
 use native.Mathlib.Omega.{arith}
 use borrow.Author.Needs.{needs}
-use Rattle.search_join.proofs.lower_sums.Statement.{statement}
-use Rattle.search_join.proofs.lower_sums.Tie as tie
+use Rattle.search_join.proofs.sums.lower_sums.Statement.{statement}
+use Rattle.search_join.proofs.sums.lower_sums.Tie as tie
 
 abbrev Inv-loop : tie.InvT-loop
 Inv-loop sums₀ store i lanes s t q0 a at p0 to l₀ sums l =

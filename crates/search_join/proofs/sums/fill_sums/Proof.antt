@@ -7,8 +7,8 @@ use Rattle.search_join.specs.Sums.{Sums, Nones}
 use Rattle.search_join.specs.SumLaws.{sums-filled}
 use native.Mathlib.Omega.{arith}
 use borrow.Author.Needs.{needs}
-use Rattle.search_join.proofs.fill_sums.Statement.{statement}
-use Rattle.search_join.proofs.fill_sums.Tie as tie
+use Rattle.search_join.proofs.sums.fill_sums.Statement.{statement}
+use Rattle.search_join.proofs.sums.fill_sums.Tie as tie
 
 abbrev Inv-loop : tie.InvT-loop
 Inv-loop sums₀ store i starts lanes q0 a live₀ s₀ sums live s =

@@ -6,8 +6,8 @@ use Rattle.search_join.specs.Sums.{Sums}
 use Rattle.search_join.specs.SumLaws.{start-none, sums-lowered, state-sums, sums-next, sums-skip}
 use native.Mathlib.Omega.{arith}
 use borrow.Author.Needs.{needs}
-use Rattle.search_join.proofs.sums_from.Statement.{statement}
-use Rattle.search_join.proofs.sums_from.Tie as tie
+use Rattle.search_join.proofs.sums.sums_from.Statement.{statement}
+use Rattle.search_join.proofs.sums.sums_from.Tie as tie
 
 abbrev Inv-loop : tie.InvT-loop
 Inv-loop sums₀ store i starts lanes s q0 a t₀ sums t =
