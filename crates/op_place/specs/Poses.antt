@@ -83,7 +83,8 @@ module _ (job : Job) (poses : List ℕ) where
           rw (e, getD-set-same (P .poses) k p emptyPose m) (pose-numbered k limit p h same b)
       go i l (no d) = rw (getD-set-other (P .poses) k i p emptyPose d) (s .done i (omega arith))
 
-  pub sofar-all : {P : Placement} {k : ℕ} → Accepted job → PosesSofar job poses P k → k ≡ job .count → Numbered job poses P
+  pub sofar-all : {P : Placement} {k : ℕ} → Accepted job → PosesSofar job poses P k → k ≡ job .count
+      → Numbered job poses P
   unfolding placementOf
   sofar-all {P} {k} t s e = record {
     count = s .count;

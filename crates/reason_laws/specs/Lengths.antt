@@ -1,14 +1,13 @@
 -- How long a sentence is: at most 726 bytes, so it fits where 11 is not given.
 use Prim.Native.Nat.{ℕ, zero, suc, _+_, _*_, _≤_}
-use mathlib.Core.Path.{_≡_, ap}
 use mathlib.Core.Bool.{Bool, true, false, cond}
 use mathlib.Core.List.{List, [], _∷_, _++_, map}
 use native.Mathlib.Omega.{arith}
-use lib.ListN.{length, getD, length-append}
+use lib.ListN.{length, length-append}
 use lib.Dec.{eqb}
-use Rattle.definition.specs.Texts.{Text, bytes, digits, parted}
+use Rattle.definition.specs.Texts.{bytes, parted}
 use Rattle.definition.specs.Job.{maxCells}
-use Rattle.definition.specs.Reasons.{Reason, phrases, phraseOf, cellNamed, cellsNamed, sentence}
+use Rattle.definition.specs.Reasons.{Reason, phraseOf, cellNamed, cellsNamed, sentence}
 use Rattle.definition.specs.Reasons.{CellsRise, IsReason, reasonsRoom}
 use Rattle.text_laws.specs.Numbers.{four-long}
 

@@ -263,7 +263,8 @@ pub fn lowest_marked(marks: &[u32], count: usize) -> u32
 // The marked cells, counted from 1, are written to the start of `list` in rising order; the answer is how many.
 pub fn list_marked(marks: &[u32], count: usize, list: &mut [u32]) -> usize
     requires { ⌜ Arrays count (now marks) (now list) ⌝ }
-    ensures { λ r. ⌜ CellsListed (map suc (keep (markedIn (now (marks .entry))) (from 0 count))) r (now (list .exit)) ⌝ }
+    ensures { λ r. ⌜ CellsListed (map suc (keep (markedIn (now (marks .entry))) (from 0 count))) r
+        (now (list .exit)) ⌝ }
 {
     let mut n: usize = 0;
     let mut k: usize = 0;

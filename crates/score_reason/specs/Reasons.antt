@@ -1,5 +1,5 @@
 -- A reason as the program has it, and that it is the definition's.
-use Prim.Native.Nat.{ℕ, suc, _≤_, _<_}
+use Prim.Native.Nat.{ℕ, suc, _≤_}
 use mathlib.Core.Path.{_≡_, sym, ap, _∙_}
 use mathlib.Core.List.{List, map}
 use native.Mathlib.Omega.{arith}
@@ -8,7 +8,7 @@ use Rattle.definition.specs.Lists.{from, keep}
 use Rattle.definition.specs.Job as paper
 use Rattle.definition.specs.Job.{maxCells}
 use Rattle.definition.specs.Placement as text
-use Rattle.definition.specs.Rules.{ruleOf, verdict}
+use Rattle.definition.specs.Rules.{ruleOf}
 use Rattle.definition.specs.Reasons as definition
 use Rattle.definition.specs.Reasons.{breakersOf, reasonOf}
 use Rattle.score_cell_rules.specs.Lowest.{keep-same}

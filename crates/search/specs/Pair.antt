@@ -36,7 +36,8 @@ pub record PairOf {A : Type 0} (siteOf : A → ℕ) (J : PairJob A) (poseOf : �
   pub small : (k : ℕ) → k < J .count → name k < maxCells
   pub apart : (k m : ℕ) → k < J .count → m < J .count → name k ≡ name m → k ≡ m
 
-module _ {A : Type 0} {siteOf : A → ℕ} {J : PairJob A} {poseOf : ℕ → ℕ → A} {offerOf : ℕ → ℕ → Bool} {name : ℕ → ℕ} where
+module _ {A : Type 0} {siteOf : A → ℕ} {J : PairJob A} {poseOf : ℕ → ℕ → A} {offerOf : ℕ → ℕ → Bool}
+    {name : ℕ → ℕ} where
   -- ---- what is asked
 
   module _ {s : Side} {row : List ℕ} {z : Sizes} (r : RowOf siteOf J poseOf offerOf name s row z) where

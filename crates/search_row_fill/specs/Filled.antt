@@ -122,7 +122,8 @@ module _ (j : Job) (s : Side) where
         upper = λ q g. omega (arith, w .frame .high q (omega (arith, f .most, f .below, h)), f .upper q g);
       }
 
-  filled-skip : {l : List ℕ} {n k : ℕ} → RowFilled l n k → k < length (j .cells) → stands k ≡ false → RowFilled l n (k + 1)
+  filled-skip : {l : List ℕ} {n k : ℕ} → RowFilled l n k → k < length (j .cells) → stands k ≡ false
+      → RowFilled l n (k + 1)
   filled-skip {l} {n} {k} f h e = record {
     long = f .long;
     most = f .most;

@@ -16,7 +16,7 @@ use lib.Dec.{ltb}
 use Rattle.search_store.specs.Map.{caseAt, Pages, maxLanes, maxPoses}
 use Rattle.lists.specs.Numbers.{from}
 use Rattle.theory_pair.specs.Coded.{lowest}
-use Rattle.theory_tables.specs.Steps.{B, Deck, stateCount, joinPose, nextCases, poseSlots}
+use Rattle.theory_tables.specs.Steps.{B, Deck, stateCount, joinPose, nextCases}
 use Rattle.theory_tables.specs.Stages.{caseTable}
 use Rattle.theory_tables.specs.States.{count-0, count-1, count-2}
 use Rattle.search_lanes.specs.Store.{Low}

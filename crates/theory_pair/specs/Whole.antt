@@ -13,7 +13,8 @@ use Rattle.theory_row.specs.Order.{order, order-below, order-size, Rising}
 use Rattle.theory_row.specs.Rules.{sum, sumNext, sumNeighbours}
 use Rattle.theory_row.specs.Window.{start, step, Run}
 use Rattle.theory_row.specs.Arranged.{Arranged, run-arranged}
-use Rattle.theory_row.specs.Row.{Fits, LegalSites, legal-run, run-legal, run-order, order-sum, order-rising, rule4-sites}
+use Rattle.theory_row.specs.Row.{Fits, LegalSites, legal-run, run-legal, run-order, order-sum, order-rising}
+use Rattle.theory_row.specs.Row.{rule4-sites}
 use Rattle.theory_row.specs.Choices.{cells, chosen, along, along-chosen}
 use Rattle.theory_row.specs.Choices.{along-same, cells-size}
 use Rattle.theory_pair.specs.Pick.{pick}

@@ -169,7 +169,8 @@ module _ (R : ℕ) (site wide : ℕ → ℕ) (n : ℕ) (w : (k : ℕ) → k < n 
   run-order l s r c = arranged-order site wide n R w l (run-arranged R n l s r)
       (chain-map (Fits site wide) (Clear site wide) (λ x y p. p .0) l c)
 
-  pub run-legal : (l : List ℕ) → length l ≡ n → Run R n 0 (start R) l → Chain (Fits site wide) l → LegalSites R site wide n
+  pub run-legal : (l : List ℕ) → length l ≡ n → Run R n 0 (start R) l → Chain (Fits site wide) l
+      → LegalSites R site wide n
   run-legal l s r c =
       let a = run-arranged R n l s r in
       let k = chain-map (Fits site wide) (Clear site wide) (λ x y p. p .0) l c in

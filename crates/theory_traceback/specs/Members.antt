@@ -18,7 +18,8 @@ both-tall both e z = refl
 both-tall (one row₀) e z = absurd (let y : _≡_ {A = ℕ} 0 1 = cc in omega arith)
 both-tall (one row₁) e z = absurd (let y : _≡_ {A = ℕ} 0 1 = cc in omega arith)
 
-in-row : {A : Type 0} (J : PairJob A) (s : Side) (p : ℕ) → p < length (members J s) → inRow s (J .kind (cell J s p)) ≡ true
+in-row : {A : Type 0} (J : PairJob A) (s : Side) (p : ℕ) → p < length (members J s)
+    → inRow s (J .kind (cell J s p)) ≡ true
 unfolding members
 in-row J s p h = pick-in (λ k. inRow s (J .kind k)) (from 0 (J .count)) (at-in (members J s) p h) .1
 
@@ -34,8 +35,8 @@ unfolding members
 members-distinct J s = rising-distinct′ (members J s)
     (pick-pairs (λ k. inRow s (J .kind k)) (λ x y. x < y) (from 0 (J .count)) (from-rising 0 (J .count)))
 
-pub cells-apart : {A : Type 0} (J : PairJob A) (s : Side) (k m : ℕ) → k < length (members J s) → m < length (members J s)
-    → cell J s k ≡ cell J s m → k ≡ m
+pub cells-apart : {A : Type 0} (J : PairJob A) (s : Side) (k m : ℕ) → k < length (members J s)
+    → m < length (members J s) → cell J s k ≡ cell J s m → k ≡ m
 cells-apart J s k m h l e =
     sym (place-at (members J s) k (members-distinct J s) h) ∙ ap (λ c. place c (members J s)) e
     ∙ place-at (members J s) m (members-distinct J s) l

@@ -29,14 +29,14 @@ picks-same f g i (p ∷ ps) e =
 
 -- the numbers that the search has for row s: a deck that stands for it, by the poses
 -- of its cells; and where its tall cells are
-pub record Searched {A : Type 0} (siteOf : A → ℕ) (J : PairJob A) (poseOf : ℕ → ℕ → A) (offerOf : ℕ → ℕ → Bool) (s : Side)
-    (D : Deck) (tallAt : ℕ → ℕ) : Type 0 where
+pub record Searched {A : Type 0} (siteOf : A → ℕ) (J : PairJob A) (poseOf : ℕ → ℕ → A) (offerOf : ℕ → ℕ → Bool)
+    (s : Side) (D : Deck) (tallAt : ℕ → ℕ) : Type 0 where
   pub matched : Matched siteOf (line J s) D (λ p a. poseOf (cell J s p) a) (λ p a. offerOf (cell J s p) a)
   pub stands : (I : ℕ) → I < tallCount J → tallAt I ≡ pos J s I
 
 -- a search of both rows whose traceback noted by the words w₀ and w₁
-pub record TracedBack {A : Type 0} (R : ℕ) (siteOf : A → ℕ) (J : PairJob A) (poseOf : ℕ → ℕ → A) (offerOf : ℕ → ℕ → Bool)
-    (D₀ D₁ : Deck) (tallAt₀ tallAt₁ w₀ w₁ : ℕ → ℕ) : Type 0 where
+pub record TracedBack {A : Type 0} (R : ℕ) (siteOf : A → ℕ) (J : PairJob A) (poseOf : ℕ → ℕ → A)
+    (offerOf : ℕ → ℕ → Bool) (D₀ D₁ : Deck) (tallAt₀ tallAt₁ w₀ w₁ : ℕ → ℕ) : Type 0 where
   pub first : Searched siteOf J poseOf offerOf row₀ D₀ tallAt₀
   pub second : Searched siteOf J poseOf offerOf row₁ D₁ tallAt₁
   pub poses : D₀ .poses ≡ D₁ .poses

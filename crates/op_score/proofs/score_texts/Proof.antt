@@ -1,5 +1,4 @@
 -- `op_score::score_texts` meets its contract: the refusal of the texts, or the fields of the placement read.
-use native.Mathlib.Omega.{arith}
 use Rattle.definition_laws.specs.Outcomes.{score-accepted}
 use Rattle.texts_read.specs.Reading.{BothRead}
 use Rattle.op_score.specs.Scores.{scores-as, texts-refused}
