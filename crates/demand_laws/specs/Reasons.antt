@@ -2,22 +2,24 @@
 use Prim.Native.Nat.{ℕ, _≤_}
 use mathlib.Core.Path.{_≡_, refl, sym, ap, subst, _∙_}
 use mathlib.Core.Bool.{Bool, true, false, false≢true}
-use mathlib.Core.List.{List, []}
+use mathlib.Core.List.{List, [], _∷_}
 use native.Mathlib.Omega.{arith}
-use lib.ListN.{length, getD}
+use lib.ListN.{length, getD, take}
 use lib.Dec.{leb}
-use lib.IntN.{ℤ, pos}
+use lib.IntN.{ℤ, pos, natAbs}
 use Rattle.lists.specs.Compare.{Le?, low, high, le?}
-use Rattle.definition.specs.Texts.{Text}
+use Rattle.definition.specs.Texts.{Text, bytes, valueFrom}
 use Rattle.definition.specs.Job.{Job, Reading, refused, accepted, readJob}
 use Rattle.definition.specs.Placement.{Placement, Poses, fault, poses, readPlacement}
 use Rattle.definition.specs.Rules.{verdict}
 use Rattle.definition.specs.Outcome.{Outcome, noLine, refusedBy, textFieldCount, outcomeOf}
-use Rattle.definition.specs.Outcome.{score, scoreFields, Buffers, Met, over}
+use Rattle.definition.specs.Outcome.{textAnswer, resultsOf, score, scoreFields, Buffers, Met, over}
 use Rattle.definition.specs.Reasons.{Reason, reasonOf, sentence, readReason, reasonsRoom, roomRefusal}
 use Rattle.definition.specs.Reasons.{reasonsRefusals, reasonsAnswer, reasons, ReasonedOf, Reasoned}
+use Rattle.definition.specs.Reasons.{splitBy, sameText, numberAmong, ruleSaid, cellsSaid}
 use Rattle.definition.specs.Demands.{reasonsShape, Demand1}
 use Rattle.definition_laws.specs.Outcomes.{first-refuses, first-passes, none-refuses, score-accepted}
+use Rattle.definition_laws.specs.Over.{over-at}
 use Rattle.job_laws.specs.Refused.{job-refused}
 use Rattle.reason_laws.specs.Breakers.{first-named}
 use Rattle.reason_laws.specs.Sentences.{sentences}
@@ -85,12 +87,14 @@ module _ (job placement : Text) (before end : Buffers) where
     scored : score job placement .fields ≡ scoreFields j P (verdict j P)
     scored = ap (λ (o : Outcome). o .fields) (score-accepted job e placement p)
 
+    answer : reasons job placement room ≡ textAnswer (sentence (reasonOf j P))
+    answer = reasons-answered room job placement e p h
+
     -- whatever job and placement the texts are read as, the sentence is theirs
     same : (i : Job) (f : readJob job ≡ accepted i) (Q : Placement)
         → readPlacement (length (i .cells)) placement ≡ poses Q → readReason (sentence (reasonOf j P)) ≡ reasonOf i Q
     same i f Q q =
-        ap (λ (o : Outcome). readReason (o .text))
-        (sym (reasons-answered room job placement e p h) ∙ reasons-answered room job placement f q h)
+        ap (λ (o : Outcome). readReason (o .text)) (sym answer ∙ reasons-answered room job placement f q h)
         ∙ sentences .reads-back (reasonOf i Q) (sentences .of-job job i f Q)
 
     reasoned : Reasoned job placement before end
@@ -100,8 +104,11 @@ module _ (job placement : Text) (before end : Buffers) where
         record {
           text = sentence (reasonOf j P);
           fits = omega arith;
-          written = m .written
-              ∙ ap (λ (o : Outcome). over (o .text) (before .output)) (reasons-answered room job placement e p h);
+          written = m .written ∙ ap (λ (o : Outcome). over (o .text) (before .output)) answer;
+          stated = λ l.
+              ap (λ (r : List ℤ). getD r 2 (pos 0)) (m .told .array)
+              ∙ ap (λ (o : Outcome). getD (over (resultsOf o) (before .results)) 2 (pos 0)) answer
+              ∙ over-at (resultsOf (textAnswer (sentence (reasonOf j P)))) (before .results) 2 (pos 0) (omega arith) l;
           reads = same;
           rule = ap (λ (l : List ℤ). getD l 0 (pos 0)) scored ∙ ap (λ (r : Reason). pos (r .rule)) (sym back);
           cell = ap (λ (l : List ℤ). getD l 1 (pos 0)) scored ∙ ap pos (first-named j P)
@@ -141,3 +148,28 @@ module _ (job placement : Text) (before end : Buffers) where
   pub reasons-read : {returned : ℕ} → Met (reasons job placement room) returned before end
       → ReasonedOf job placement returned before end
   reasons-read m z = answers (subst (λ (n : ℕ). Met (reasons job placement room) n before end) z m)
+
+-- ---- the claim at work: who sees these bytes, and that they are the sentence, learns Score's rule and cell
+
+take-over : (text l : Text) → length text ≤ length l → take (length text) (over text l) ≡ text
+unfolding over
+take-over [] l h = refl
+take-over (b ∷ text) [] h = absurd (omega arith)
+take-over (b ∷ text) (c ∷ l) h = ap (λ (t : Text). b ∷ t) (take-over text l (omega arith))
+
+pub overlap-seen : {job placement : Text} {before end : Buffers} → ReasonedOf job placement 0 before end
+    → length (before .results) ≡ 3 → getD (end .results) 2 (pos 0) ≡ pos 24
+    → take 24 (end .output) ≡ bytes "overlap: cell 1, cell 2."
+    → (getD (score job placement .fields) 0 (pos 0) ≡ pos 4) × (getD (score job placement .fields) 1 (pos 0) ≡ pos 1)
+unfolding bytes splitBy sameText numberAmong ruleSaid cellsSaid readReason valueFrom
+overlap-seen {before = before} {end} claim three length-is seen =
+    let r = claim refl in
+    let long : length (r .text) ≡ 24 = ap natAbs (sym (r .stated (omega arith)) ∙ length-is) in
+    let said : r .text ≡ bytes "overlap: cell 1, cell 2." =
+    sym (take-over (r .text) (before .output) (r .fits))
+    ∙ ap (λ (n : ℕ). take n (over (r .text) (before .output))) long
+    ∙ ap (take 24) (sym (r .written))
+    ∙ seen in (
+      r .rule ∙ ap (λ (t : Text). pos (readReason t .rule)) said,
+      r .cell ∙ ap (λ (t : Text). pos (getD (readReason t .cells) 0 0)) said,
+    )

@@ -47,7 +47,8 @@ returns-2 c =
     let told = c .before in
     let s = told .before .before in
     let b = both (s .before) in
-    let a = s .before .before .before .before .before .before .before .args in
+    let t = s .before .before .before in
+    let a = t .before .before .before .before .args in
     met-refused textFieldCount (noLine 11)
     (reasons-short (length (a .output .now)) (a .job .now) (a .placement .now) (b .job) (b .placement) (s .if2 .taken))
     (told .refuse2 .ensures)

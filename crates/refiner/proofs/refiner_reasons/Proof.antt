@@ -16,7 +16,8 @@ same-length-2 c = search needs
 returns : tie.Need-returns
 returns c =
     let mid = c .before .before .before in
-    let a = mid .before .before .before .before .before .before .args in
+    let lent = mid .before .before .before in
+    let a = lent .before .before .before .args in
     let m = mid .reasons-texts .ensures in
     (m, (reasons-demand1 (a .job .now) (a .placement .now) m, reasons-read (a .job .now) (a .placement .now) _ _ m))
 
