@@ -55,6 +55,11 @@ layout-room layouts heights i room w h =
 pub record LineRoom (at : ℕ) (output : List ℕ) : Type 0 where
   pub fits : at + lineBytes ≤ length output
 
+-- and one more cell keeps all numbers within theirs
+pub record CellGiven (p : Progress) (output : List ℕ) : Type 0 where
+  pub cell : CellRoom p
+  pub line : LineRoom (p .cursor .at) output
+
 -- for every load that the progress stands for, the line of its next cell, and what stands for it with that cell
 pub record WroteCell (p : Progress) (before end : List ℕ) (r : Progress) : Type 0 where
   pub bytes : (l : Load) → ProgressOf l p
@@ -159,6 +164,11 @@ module _ {p : Progress} {before : List ℕ} (h : Opening) (heights : ℕ) (d : D
       }
 
 -- ---- a whole load
+
+-- a count and an output that are not refused
+pub record LoadGiven (cells : ℕ) (output : List ℕ) : Type 0 where
+  pub few : cells ≤ maxCells
+  pub enough : loadRoom ≤ length output
 
 -- a load that is not whole yet leaves room for a cell
 pub load-ready : {seed n : ℕ} {p : Progress} → LoadSound seed n → n < maxCells → ProgressOf (loadOf seed n) p

@@ -25,6 +25,11 @@ use Rattle.load_write.specs.declared.Cursor.{Cursor}
 pub record FieldsRoom (n at : ℕ) (output : List ℕ) : Type 0 where
   pub fits : at + fieldBytes * n ≤ length output
 
+-- and of fields from low to high
+pub record RangeRoom (low high n at : ℕ) (output : List ℕ) : Type 0 where
+  pub form : InForm low high
+  pub room : FieldsRoom n at output
+
 -- what it leaves: the fields of these ranges, and where to go on
 pub record WroteFields (ranges : List Range) (c : Cursor) (before end : List ℕ) (r : Cursor) : Type 0 where
   pub bytes : Wrote (listed (drawnAll ranges (generatorOf (c .generator)))) before (c .at) end (r .at)

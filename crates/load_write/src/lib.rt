@@ -1,18 +1,17 @@
 // A load's text, written line by line as its fields are drawn.
 ghost use mathlib.Core.Path.{_≡_};
 ghost use mathlib.Core.List.{[], _∷_};
-ghost use Prim.Native.Nat.{_≤_, _-_};
+ghost use Prim.Native.Nat.{_-_};
 ghost use lib.ListN.{length, replicate};
-ghost use Rattle.definition.specs.Job.{maxCells, maxTall, layoutSize};
+ghost use Rattle.definition.specs.Job.{maxTall, layoutSize};
 ghost use mathlib.Core.Bool.{cond};
 ghost use lib.Dec.{ltb};
 ghost use Rattle.definition.specs.Draws.{_to_};
-ghost use Rattle.definition.specs.Load.{repeated, listed, loadRoom, loadOf};
+ghost use Rattle.definition.specs.Load.{repeated, listed, loadOf};
 ghost use Rattle.text_write.specs.Put.{Room, Wrote};
-ghost use Rattle.load_draws.specs.Generators.{InForm};
-ghost use Rattle.load_write.specs.Fields.{FieldsRoom, WroteFields};
+ghost use Rattle.load_write.specs.Fields.{FieldsRoom, RangeRoom, WroteFields};
 ghost use Rattle.load_write.specs.Openings.{CellRoom, DrewOpening, largestOf, openingText};
-ghost use Rattle.load_write.specs.Cells.{layoutOf, LineRoom, WroteCell};
+ghost use Rattle.load_write.specs.Cells.{layoutOf, CellGiven, WroteCell, LoadGiven};
 use job::Job;
 use job_tally::Tally;
 use job_tally::tally_with;
@@ -53,8 +52,7 @@ fn put_listed(output: &mut [u8], at: usize, n: u32) -> usize
 
 // So many fields from `low` to `high`.
 fn put_fields(output: &mut [u8], cursor: Cursor, count: u32, low: u32, high: u32) -> Cursor
-    requires { ⌜ InForm low high ⌝ }
-    requires { ⌜ FieldsRoom count (cursor .at) (now output) ⌝ }
+    requires { ⌜ RangeRoom low high count (cursor .at) (now output) ⌝ }
     ensures { λ r. ⌜ WroteFields (replicate count (low to high)) cursor
         (now (output .entry)) (now (output .exit)) r ⌝ }
 {
@@ -166,8 +164,7 @@ fn heights_of(row: u32) -> u32
 
 // The line of one cell.
 fn put_cell(output: &mut [u8], p: Progress) -> Progress
-    requires { ⌜ CellRoom p ⌝ }
-    requires { ⌜ LineRoom (p .cursor .at) (now output) ⌝ }
+    requires { ⌜ CellGiven p (now output) ⌝ }
     ensures { λ r. ⌜ WroteCell p (now (output .entry)) (now (output .exit)) r ⌝ }
 {
     let opening = draw_opening(p);
@@ -191,8 +188,7 @@ fn put_cell(output: &mut [u8], p: Progress) -> Progress
 
 // The whole text, from the output's first byte on; its length.
 pub fn put_load(output: &mut [u8], seed: u32, cells: u32) -> usize
-    requires { ⌜ cells ≤ maxCells ⌝ }
-    requires { ⌜ loadRoom ≤ length (now output) ⌝ }
+    requires { ⌜ LoadGiven cells (now output) ⌝ }
     ensures { λ r. ⌜ Wrote (loadOf seed cells .text) (now (output .entry)) 0 (now (output .exit)) r ⌝ }
 {
     let at = put_bytes(&mut *output, 0, b"J,2,1024,7,1,100,1,100,50\n");

@@ -1,12 +1,8 @@
 // Printing a placement: lines and the whole text, into a lent output.
-ghost use mathlib.Core.Path.{_≡_};
-ghost use Prim.Native.Nat.{_≤_};
-ghost use lib.ListN.{length};
-ghost use Rattle.definition.specs.Job.{maxCells};
 ghost use Rattle.definition.specs.Placement.{lineOf, textOf};
-ghost use Rattle.definition.specs.Outcome.{over};
 ghost use Rattle.text_write.specs.Put.{Room, Wrote};
 ghost use Rattle.job.specs.Value.{poseOf, placementOf};
+ghost use Rattle.placement_write.specs.Room.{PlacementRoom};
 use job::Placement;
 use job::Pose;
 use text_write::put_field;
@@ -23,10 +19,8 @@ fn put_pose(output: &mut [u8], at: usize, pose: Pose) -> usize
 
 // The whole text, from the output's first byte on; its length. Bytes past it stay as they are.
 pub fn put_placement(output: &mut [u8], placement: Placement) -> usize
-    requires { ⌜ length (textOf (placementOf placement)) ≤ length (now output) ⌝ }
-    requires { ⌜ placement .count ≤ maxCells ⌝ }
-    ensures { λ r. ⌜ now (output .exit) ≡ over (textOf (placementOf placement)) (now (output .entry)) ⌝ }
-    ensures { λ r. ⌜ r ≡ length (textOf (placementOf placement)) ⌝ }
+    requires { ⌜ PlacementRoom placement (now output) ⌝ }
+    ensures { λ r. ⌜ Wrote (textOf (placementOf placement)) (now (output .entry)) 0 (now (output .exit)) r ⌝ }
 {
     let mut at = 0;
     let mut i = 0;

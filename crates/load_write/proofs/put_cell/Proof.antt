@@ -16,7 +16,7 @@ put-opening-requires c κs =
     let head = heights .before in
     let s = head .before .before in
     opening-room (head .draw-opening .result) (heights .heights-of .result) (head .draw-opening .ensures)
-    (heights .heights-of .ensures) (s .pre .1)
+    (heights .heights-of .ensures) (s .pre .line)
 
 put-layouts-requires : tie.Need-put-layouts-requires
 put-layouts-requires c κs =
@@ -25,7 +25,7 @@ put-layouts-requires c κs =
     let head = heights .before in
     let s = head .before .before in
     layouts-room (head .draw-opening .result) (heights .heights-of .result) (head .draw-opening .ensures)
-    (heights .heights-of .ensures) (s .pre .1) (put .put-opening .ensures)
+    (heights .heights-of .ensures) (s .pre .line) (put .put-opening .ensures)
 
 put-byte-requires : tie.Need-put-byte-requires
 put-byte-requires c κs =
@@ -36,7 +36,7 @@ put-byte-requires c κs =
     let head = heights .before in
     let s = head .before .before in
     feed-room (head .draw-opening .result) (heights .heights-of .result) (head .draw-opening .ensures)
-    (heights .heights-of .ensures) (s .pre .1) (put .put-opening .ensures) (layouts .put-layouts .ensures)
+    (heights .heights-of .ensures) (s .pre .line) (put .put-opening .ensures) (layouts .put-layouts .ensures)
 
 tally-with-requires : tie.Need-tally-with-requires
 tally-with-requires c κs = search needs
@@ -54,7 +54,7 @@ returns c =
     let head = heights .before in
     let s = head .before .before in
     cell-wrote (head .draw-opening .result) (heights .heights-of .result) (head .draw-opening .ensures)
-    (heights .heights-of .ensures) (s .pre .1) (put .put-opening .ensures) (layouts .put-layouts .ensures)
+    (heights .heights-of .ensures) (s .pre .line) (put .put-opening .ensures) (layouts .put-layouts .ensures)
     (feed .put-byte .ensures) (c .tally-with .ensures)
 
 pub put-cell-spec : {M : Type 1} → statement M

@@ -27,14 +27,14 @@ next-requires : tie.Need-next-requires Inv-loop μ-loop
 next-requires c κs = tt
 
 field-requires : tie.Need-field-requires Inv-loop μ-loop
-field-requires c κs = let turn = c .before .before in turn .before .before .before .pre .0
+field-requires c κs = let turn = c .before .before in turn .before .before .before .pre .form
 
 put-listed-requires : tie.Need-put-listed-requires Inv-loop μ-loop
 put-listed-requires c κs =
     let drew = c .before in
     let turn = drew .before .before .before in
     let s = turn .before .before .before in
-    next-room (turn .loop .i) (s .pre .0) (turn .loop .inv .1) _ (s .pre .1) (omega arith) (drew .field .ensures)
+    next-room (turn .loop .i) (s .pre .form) (turn .loop .inv .1) _ (s .pre .room) (omega arith) (drew .field .ensures)
 
 add-i : tie.Need-add-i Inv-loop μ-loop
 add-i c = omega arith
@@ -50,7 +50,7 @@ loop-again c =
     let turn = step .before .before in
     let s = turn .before .before .before in (
       omega arith,
-      next-wrote (turn .loop .i) (s .pre .0) (turn .loop .inv .1) _ (step .next .ensures) (drew .field .ensures)
+      next-wrote (turn .loop .i) (s .pre .form) (turn .loop .inv .1) _ (step .next .ensures) (drew .field .ensures)
           (put .put-listed .ensures),
     )
 

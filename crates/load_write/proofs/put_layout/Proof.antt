@@ -11,15 +11,16 @@ use Rattle.load_write.proofs.put_layout.Tie as tie
 put-fields-requires : tie.Need-put-fields-requires
 put-fields-requires c κs =
     let s = c .before .before in
-    (record { some = omega arith; few = omega arith }, record { fits = omega (arith, s .pre .fits) })
+    record { form = record { some = omega arith; few = omega arith }; room = record { fits = omega (arith, s .pre .fits) } }
 
 put-fields-requires-2 : tie.Need-put-fields-requires-2
 put-fields-requires-2 c κs =
     let width = c .before .before .before in
-    let s = width .before .before .before in (
-      record { some = omega arith; few = omega arith },
-      rest-room (s .pre) refl (width .put-fields .ensures) (omega (arith, length-replicate (s .args .heights) (1 to 4))),
-    )
+    let s = width .before .before .before in
+    record {
+      form = record { some = omega arith; few = omega arith };
+      room = rest-room (s .pre) refl (width .put-fields .ensures) (omega (arith, length-replicate (s .args .heights) (1 to 4)));
+    }
 
 same-length : tie.Need-same-length
 same-length c = search needs

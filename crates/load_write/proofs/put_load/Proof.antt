@@ -29,7 +29,7 @@ slice-aggregate-put-bytes c = refl
 put-bytes-requires : tie.Need-put-bytes-requires Inv-loop μ-loop
 put-bytes-requires c κs =
     let s = c .before .before .before in
-    record { fits = omega (arith, s .pre .1) }
+    record { fits = omega (arith, s .pre .enough) }
 
 seeded-requires : tie.Need-seeded-requires Inv-loop μ-loop
 seeded-requires c κs = tt
@@ -49,11 +49,12 @@ put-cell-requires c κs =
     let turn = c .before .before in
     let header = turn .before .before .before .before in
     let s = header .before .before .before .before in
-    let sound = load-sound (s .args .seed) (turn .loop .i) (omega (arith, s .pre .0)) in
-    let w = turn .loop .inv .1 (s .args .output .now) (header .put-bytes .ensures) in (
-      load-ready sound (omega (arith, s .pre .0)) (turn .loop .inv .2),
-      load-room sound (omega (arith, s .pre .0)) (s .pre .1) w,
-    )
+    let sound = load-sound (s .args .seed) (turn .loop .i) (omega (arith, s .pre .few)) in
+    let w = turn .loop .inv .1 (s .args .output .now) (header .put-bytes .ensures) in
+    record {
+      cell = load-ready sound (omega (arith, s .pre .few)) (turn .loop .inv .2);
+      line = load-room sound (omega (arith, s .pre .few)) (s .pre .enough) w;
+    }
 
 add-i : tie.Need-add-i Inv-loop μ-loop
 add-i c = omega arith

@@ -46,7 +46,7 @@ put-load-requires c κs =
     let a = n .before .before .args in
     let q = load-tried (a .cells) (length (a .output .now)) in
     let z = sym (n .load-refusal .ensures) ∙ l .if1 .left in
-    (q .few z, q .enough z)
+    record { few = q .few z; enough = q .enough z }
 
 answer-one-requires : tie.Need-answer-one-requires
 answer-one-requires c κs =

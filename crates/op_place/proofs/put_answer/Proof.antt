@@ -8,6 +8,7 @@ use lib.IntN.{ℤ, pos}
 use Rattle.definition.specs.Placement.{Placement, textOf}
 use Rattle.definition.specs.Outcome.{over}
 use Rattle.job.specs.Value.{jobOf, placementOf}
+use Rattle.text_write.specs.Puts.{wrote-over}
 use Rattle.op_place.specs.Fields.{fieldsIn}
 use Rattle.op_place.specs.Answers.{text-room, text-short, ready}
 use borrow.Author.Needs.{needs}
@@ -22,10 +23,11 @@ put-placement-requires c κs =
     let e = c .before in
     let s = e .before .before in
     let P = e .placement-of .result in
-    let n = e .placement-of .ensures in (
-      text-room (s .args .job) (s .args .poses) (length (s .args .output .now)) (s .pre) P n,
-      omega (arith, n .count, s .pre .taken .few),
-    )
+    let n = e .placement-of .ensures in
+    record {
+      fits = text-room (s .args .job) (s .args .poses) (length (s .args .output .now)) (s .pre) P n;
+      few = omega (arith, n .count, s .pre .taken .few);
+    }
 
 fields-of-requires : tie.Need-fields-of-requires
 fields-of-requires c κs =
@@ -35,8 +37,11 @@ fields-of-requires c κs =
     let n = e .placement-of .ensures in
     record {
       ready = ready (s .args .job) (s .args .poses) (length (s .args .output .now)) (s .pre) P n;
-      short =
-          omega (arith, c .before .before .put-placement .ensures .1, text-short (s .args .job) (s .args .poses) (length (s .args .output .now)) (s .pre) P n);
+      short = omega (
+        arith,
+        c .before .before .put-placement .ensures .cursor,
+        text-short (s .args .job) (s .args .poses) (length (s .args .output .now)) (s .pre) P n,
+      );
     }
 
 answer-requires : tie.Need-answer-requires
@@ -58,12 +63,12 @@ returns c =
     let j = jobOf (s .args .job) in
     let same = e .placement-of .ensures .same in
     record {
-      text = t .put-placement .ensures .0 ∙ ap (λ (Q : Placement). over (textOf Q) (s .args .output .now)) same;
+      text = wrote-over (t .put-placement .ensures) .0 ∙ ap (λ (Q : Placement). over (textOf Q) (s .args .output .now)) same;
       array =
           w .answer .ensures
           ∙ ap (λ (l : List ℤ). over (pos 0 ∷ pos 0 ∷ l) (s .args .results .now))
           (f .fields-of .ensures .list
-          ∙ ap (λ (b : ℕ). fieldsIn j (placementOf (e .placement-of .result)) b) (t .put-placement .ensures .1)
+          ∙ ap (λ (b : ℕ). fieldsIn j (placementOf (e .placement-of .result)) b) (wrote-over (t .put-placement .ensures) .1)
           ∙ ap (λ (Q : Placement). fieldsIn j Q (length (textOf Q))) same);
     }
 

@@ -6,7 +6,7 @@ use lib.ListN.{length, take, length-map}
 use Rattle.definition.specs.Placement.{textOf}
 use Rattle.job.specs.Value.{placementOf}
 use Rattle.text_write.specs.Put.{Wrote}
-use Rattle.text_write.specs.Puts.{wrote-none, wrote-length, wrote-over}
+use Rattle.text_write.specs.Puts.{wrote-none, wrote-length}
 use Rattle.placement_write.proofs.Lines.{next-room, next-wrote, all-wrote}
 use Rattle.placement_write.proofs.put_placement.Statement.{statement}
 use Rattle.placement_write.proofs.put_placement.Tie as tie
@@ -19,7 +19,7 @@ abbrev μ-loop : tie.MeasureT-loop
 
 -- the array of poses has as many entries as a job may have cells
 count-fits : (s : tie.Start Inv-loop μ-loop) → s .args .t2 .count ≤ length (s .args .t2 .poses)
-count-fits s = omega (arith, simp length-map at (s .good .1 .0 .1 .1 .1 .0 .1 .0 .1))
+count-fits s = omega (arith, s .pre .few, simp length-map at (s .good .1 .0 .1 .1 .1 .0 .1 .0 .1))
 
 loop-holds : tie.Need-loop-holds Inv-loop μ-loop
 unfolding textOf
@@ -36,7 +36,7 @@ put-pose-requires c κs =
     let h = c .before .before .before in
     let s = h .before .before in
     let P = s .args .t2 in
-    next-room P (count-fits s) (h .loop .i) (omega arith) (s .pre .0) (h .loop .inv .1)
+    next-room P (count-fits s) (h .loop .i) (omega arith) (s .pre .fits) (h .loop .inv .1)
 
 add-i : tie.Need-add-i Inv-loop μ-loop
 add-i c = omega arith
@@ -61,7 +61,7 @@ returns c =
     let P = s .args .t2 in
     let e : h .loop .i ≡ P .count = omega arith in
     let w : Wrote (textOf (take (P .count) (placementOf P))) (s .args .output .now) 0 (h .loop .output) (h .loop .at) = rw e at (h .loop .inv .1) in
-    wrote-over (all-wrote P (count-fits s) w)
+    all-wrote P (count-fits s) w
 
 pub put-placement-spec : {M : Type 1} → statement M
 put-placement-spec =
