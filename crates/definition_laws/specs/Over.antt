@@ -97,3 +97,10 @@ module _ {A : Type 0} where
   over-at (x ∷ xs) [] i d h g = absurd (omega arith)
   over-at (x ∷ xs) (y ∷ l) zero d h g = refl
   over-at (x ∷ xs) (y ∷ l) (suc i) d h g = over-at xs l i d (omega arith) (omega arith)
+
+  -- all that was laid
+  pub take-over : (xs l : List A) → length xs ≤ length l → take (length xs) (over xs l) ≡ xs
+  unfolding over
+  take-over [] l h = refl
+  take-over (x ∷ xs) [] h = absurd (omega arith)
+  take-over (x ∷ xs) (y ∷ l) h = ap (λ (t : List A). x ∷ t) (take-over xs l (omega arith))

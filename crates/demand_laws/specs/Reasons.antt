@@ -2,7 +2,7 @@
 use Prim.Native.Nat.{ℕ, _≤_}
 use mathlib.Core.Path.{_≡_, refl, sym, ap, subst, _∙_}
 use mathlib.Core.Bool.{Bool, true, false, false≢true}
-use mathlib.Core.List.{List, [], _∷_}
+use mathlib.Core.List.{List, []}
 use native.Mathlib.Omega.{arith}
 use lib.ListN.{length, getD, take}
 use lib.Dec.{leb}
@@ -19,7 +19,7 @@ use Rattle.definition.specs.Reasons.{reasonsRefusals, reasonsAnswer, reasons, R
 use Rattle.definition.specs.Reasons.{splitBy, sameText, numberAmong, ruleSaid, cellsSaid}
 use Rattle.definition.specs.Demands.{reasonsShape, Demand1}
 use Rattle.definition_laws.specs.Outcomes.{first-refuses, first-passes, none-refuses, score-accepted}
-use Rattle.definition_laws.specs.Over.{over-at}
+use Rattle.definition_laws.specs.Over.{over-at, take-over}
 use Rattle.job_laws.specs.Refused.{job-refused}
 use Rattle.reason_laws.specs.Breakers.{first-named}
 use Rattle.reason_laws.specs.Sentences.{sentences}
@@ -150,12 +150,6 @@ module _ (job placement : Text) (before end : Buffers) where
   reasons-read m z = answers (subst (λ (n : ℕ). Met (reasons job placement room) n before end) z m)
 
 -- ---- the claim at work: who sees these bytes, and that they are the sentence, learns Score's rule and cell
-
-take-over : (text l : Text) → length text ≤ length l → take (length text) (over text l) ≡ text
-unfolding over
-take-over [] l h = refl
-take-over (b ∷ text) [] h = absurd (omega arith)
-take-over (b ∷ text) (c ∷ l) h = ap (λ (t : Text). b ∷ t) (take-over text l (omega arith))
 
 pub overlap-seen : {job placement : Text} {before end : Buffers} → ReasonedOf job placement 0 before end
     → length (before .results) ≡ 3 → getD (end .results) 2 (pos 0) ≡ pos 24

@@ -13,7 +13,7 @@ use Rattle.definition.specs.Texts.{Text, bytes}
 use Rattle.definition.specs.Reasons.{phrases, phraseOf, cellNamed, cellsNamed, sentence}
 use Rattle.text_write.specs.Put.{Room, Wrote}
 use Rattle.text_write.specs.Puts.{wrote-none, then, rest}
-use Rattle.reason_write.specs.Parted.{parted-last, parted-within}
+use Rattle.text_laws.specs.Parted.{parted-last, parted-within}
 
 -- ---- what the writers ask
 

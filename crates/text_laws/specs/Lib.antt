@@ -1,4 +1,5 @@
 pub mod Numbers
 pub mod Lines
+pub mod Parted
 pub mod Poses
 pub mod Room
