@@ -137,15 +137,18 @@ pub record Sentences : Type 0 where
   pub of-job : (job : Text) (j : Job) → readJob job ≡ accepted j → (P : Placement) → IsReason (reasonOf j P)
 
 -- of a call, by what its caller can see: a sentence stands at the output's start, of the stated length where the array
--- reaches it; what is read of it is the reason of the job and the placement that were lent; and Score's rule and cell
--- are its rule and the first of its cells
+-- reaches it; a job and a placement were read, and what is had back from the sentence is their reason; Score's rule and
+-- cell are its rule and the first of its cells
 pub record Reasoned (job placement : Text) (before end : Buffers) : Type 0 where
   pub text : Text
   pub fits : length text ≤ length (before .output)
   pub written : end .output ≡ over text (before .output)
   pub stated : 2 < length (before .results) → getD (end .results) 2 (pos 0) ≡ pos (length text)
-  pub reads : (j : Job) → readJob job ≡ accepted j
-      → (P : Placement) → readPlacement (length (j .cells)) placement ≡ poses P → readReason text ≡ reasonOf j P
+  pub jobRead : Job
+  pub placementRead : Placement
+  pub accepts : readJob job ≡ accepted jobRead
+  pub posed : readPlacement (length (jobRead .cells)) placement ≡ poses placementRead
+  pub reads : readReason text ≡ reasonOf jobRead placementRead
   pub rule : getD (score job placement .fields) 0 (pos 0) ≡ pos (readReason text .rule)
   pub cell : getD (score job placement .fields) 1 (pos 0) ≡ pos (getD (readReason text .cells) 0 0)
 

@@ -90,13 +90,6 @@ module _ (job placement : Text) (before end : Buffers) where
     answer : reasons job placement room ≡ textAnswer (sentence (reasonOf j P))
     answer = reasons-answered room job placement e p h
 
-    -- whatever job and placement the texts are read as, the sentence is theirs
-    same : (i : Job) (f : readJob job ≡ accepted i) (Q : Placement)
-        → readPlacement (length (i .cells)) placement ≡ poses Q → readReason (sentence (reasonOf j P)) ≡ reasonOf i Q
-    same i f Q q =
-        ap (λ (o : Outcome). readReason (o .text)) (sym answer ∙ reasons-answered room job placement f q h)
-        ∙ sentences .reads-back (reasonOf i Q) (sentences .of-job job i f Q)
-
     reasoned : Reasoned job placement before end
     unfolding reasonOf scoreFields
     reasoned =
@@ -109,7 +102,11 @@ module _ (job placement : Text) (before end : Buffers) where
               ap (λ (r : List ℤ). getD r 2 (pos 0)) (m .told .array)
               ∙ ap (λ (o : Outcome). getD (over (resultsOf o) (before .results)) 2 (pos 0)) answer
               ∙ over-at (resultsOf (textAnswer (sentence (reasonOf j P)))) (before .results) 2 (pos 0) (omega arith) l;
-          reads = same;
+          jobRead = j;
+          placementRead = P;
+          accepts = e;
+          posed = p;
+          reads = back;
           rule = ap (λ (l : List ℤ). getD l 0 (pos 0)) scored ∙ ap (λ (r : Reason). pos (r .rule)) (sym back);
           cell = ap (λ (l : List ℤ). getD l 1 (pos 0)) scored ∙ ap pos (first-named j P)
               ∙ ap (λ (r : Reason). pos (getD (r .cells) 0 0)) (sym back);
