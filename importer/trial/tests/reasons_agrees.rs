@@ -170,14 +170,7 @@ fn on_jobs_with_too_many_cells() {
     let mut random = Random::new(106);
     let mut comparison = Comparison::default();
     for _ in 0..1_000 {
-        let mut job = jobs::job(&mut random, 60);
-        job.rows = 2;
-        let row = random.pick(&[0, 1, 2, 2]);
-        for _ in 0..random.below(12) {
-            let mut cell = jobs::cell(&mut random, row, 64, 15);
-            cell.given = 1023;
-            job.cells.push(cell);
-        }
+        let job = jobs::job_about_the_limits(&mut random);
         let placement = placements::wild(&mut random, &job);
         comparison.compare(&job.text(), &text_of(&placement));
     }

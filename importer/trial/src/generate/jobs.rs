@@ -44,6 +44,19 @@ pub fn job_of_any_size(random: &mut Random) -> Job {
     job(random, cells)
 }
 
+/// A job of 60 cells and up to eleven more, so that some have a 65th cell, or a 25th tall one.
+pub fn job_about_the_limits(random: &mut Random) -> Job {
+    let mut job = job(random, 60);
+    job.rows = 2;
+    let row = random.pick(&[0, 1, 2, 2]);
+    for _ in 0..random.below(12) {
+        let mut cell = cell(random, row, 64, 15);
+        cell.given = 1023;
+        job.cells.push(cell);
+    }
+    job
+}
+
 pub fn weights(random: &mut Random) -> Weights {
     let mut weight = || {
         let high = random.pick(&[0, 1, 10, 1000]);
