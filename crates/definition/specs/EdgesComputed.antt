@@ -1,6 +1,6 @@
 -- All cases but Place's hold, by computing alone. A theorem, nothing to believe.
-use mathlib.Core.Path.{refl}
-use mathlib.Core.List.{List, [], _∷_}
+use mathlib.Core.Path.{_≡_, refl}
+use mathlib.Core.List.{List, [], _∷_, map}
 use Rattle.definition.specs.Texts.{Text, bytes, linesOf, ended, fieldsOf, isNumber, valueFrom, digitsIn, digits}
 use Rattle.definition.specs.Job.{firstFailing, headerInRange, headerRefusal, headerOf}
 use Rattle.definition.specs.Job.{layoutsOf, cellOf, restInRange, cellRefusal, readCells, readLines, readJob}
@@ -9,13 +9,13 @@ use Rattle.definition.specs.Rules.{put, sort, order, placeIn, isFirst, i
 use Rattle.definition.specs.Rules.{besideOneSite, outOfPlace, atOneSiteEnd}
 use Rattle.definition.specs.Rules.{breaks1, breaks2, breaks3, breaks4, breaks5, breaks6, breaks7, breaks8}
 use Rattle.definition.specs.Rules.{lowest, firstBroken, verdict}
-use Rattle.definition.specs.Cost.{differing, stepsAt, stepsIn, steps, shifted, mirrored, changed, cost}
+use Rattle.definition.specs.Cost.{charge, differing, stepsAt, stepsIn, steps, shifted, mirrored, changed, cost}
 use Rattle.definition.specs.Cost.{totalShift, drift}
 use Rattle.definition.specs.Outcome.{Outcome, firstOf, outcomeOf, numbers, scoreFields, score}
 use Rattle.definition.specs.Draws.{seeded, next, drawn, drawnAll}
 use Rattle.definition.specs.Load.{largest, numbersDrawn, listed, loadOf, loadRefusal, load}
 use Rattle.definition.specs.Reasons.{reasonOf, cellsNamed, sentence, roomRefusal, reasons}
-use Rattle.definition.specs.Edges.{Case, scoring, placing, loading, reasoning, edges}
+use Rattle.definition.specs.Edges.{Case, scoring, placing, loading, reasoning, charging, edges}
 
 -- a name that opens the definitions, so that texts compute
 unfoldable pub opened : Text → Text → Outcome
@@ -43,6 +43,7 @@ AllComputed (placing job Expected ∷ cs) = AllComputed cs
 AllComputed (loading seed cells room Expected ∷ cs) = Expected (load seed cells room) × AllComputed cs
 AllComputed (reasoning job placement room Expected ∷ cs) =
     Expected (reasons (bytes job) (bytes placement) room) × AllComputed cs
+AllComputed (charging gaps expected ∷ cs) = (map charge gaps ≡ expected) × AllComputed cs
 
 infixr 4 _&_
 unfoldable pub _&_ : {A B : Type 0} → A → B → A × B
@@ -68,4 +69,5 @@ edges-computed =
     & (refl, refl) & (refl, refl) & (refl, refl) & (refl, refl)
     & (refl, refl) & (refl, refl) & (refl, refl) & (refl, refl)
     & (refl, refl) & (refl, refl) & (refl, refl) & (refl, refl) & (refl, refl)
+    & refl & ((refl, refl), refl)
     & tt

@@ -1,20 +1,15 @@
-// What a step costs at a gap between neighbours: document 01's five-entry table.
+// What a gap costs: "forbidden if the gap is 1, charged if it is below 4".
 ghost use mathlib.Core.Path.{_≡_};
-ghost use Prim.Native.Nat.{min};
 ghost use Rattle.definition.specs.Cost.{charge};
 
-const CHARGES: [u32; 5] = [1, 0, 1, 1, 0];
+pub const FORBIDDEN_GAP: usize = 1;
 
-// The place of a gap in the table.
-fn place(gap: usize) -> usize
-    ensures { λ r. ⌜ r ≡ min gap 4 ⌝ }
-{
-    if gap < 4 { gap } else { 4 }
-}
-
+// What a step costs at a gap; none is counted at the forbidden one.
 pub fn charge_of(gap: usize) -> u32
     ensures { λ r. ⌜ r ≡ charge gap ⌝ }
 {
-    let i = place(gap);
-    CHARGES[i]
+    if gap == FORBIDDEN_GAP {
+        return 0;
+    }
+    if gap < 4 { 1 } else { 0 }
 }

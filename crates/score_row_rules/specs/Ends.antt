@@ -9,7 +9,7 @@ use lib.ListN.{length, getD, drop, set, length-set, length-drop, drop-of-length-
 use lib.Seq.{drop-cons, getD-drop, getD-set-same, getD-set-other}
 use lib.Dec.{eqb}
 use borrow.Author.Tests.{eq-eqb, ne-eqb}
-use Rattle.definition.specs.Rules.{isFirst, isLast}
+use Rattle.definition.specs.Rules.{isForbidden, isFirst, isLast}
 use Rattle.score_order.specs.Words.{siteIn, endIn}
 use Rattle.score_cell_rules.specs.Marks.{Added, added-both, added-none, added-below}
 use Rattle.score_row_rules.specs.Tests.{oneCell, atEndIn}
@@ -42,7 +42,7 @@ module _ (words l : List ℕ) (sites at : ℕ) where
   -- the first cell, and the last
   end-cells : (a b n k : ℕ) → length l ≡ suc n → at ≤ n → a ≡ getD l at 0 → b ≡ getD l n 0
       → atEndIn words sites (drop at l) k
-      ≡ (oneCell a (eqb (siteIn words a) 1) k || oneCell b (eqb (sites - endIn words b) 1) k)
+      ≡ (oneCell a (isForbidden (siteIn words a)) k || oneCell b (isForbidden (sites - endIn words b)) k)
   unfolding atEndIn isFirst
   end-cells a b n k e h ea eb = ap₂ _||_ first last
     where
@@ -56,26 +56,28 @@ module _ (words l : List ℕ) (sites at : ℕ) where
           last-is k (drop at l) (n - at) d
           ∙ ap (eqb k) (getD-drop at l (n - at) 0 ∙ ap (λ x. getD l x 0) p ∙ sym eb)
 
-      first : (isFirst k (drop at l) && eqb (siteIn words k) 1) ≡ oneCell a (eqb (siteIn words a) 1) k
-      first = ap (λ t. t && eqb (siteIn words k) 1) is-first ∙ at-cell (λ x. eqb (siteIn words x) 1) k a
+      first : (isFirst k (drop at l) && isForbidden (siteIn words k)) ≡ oneCell a (isForbidden (siteIn words a)) k
+      first = ap (λ t. t && isForbidden (siteIn words k)) is-first ∙ at-cell (λ x. isForbidden (siteIn words x)) k a
 
-      last : (isLast k (drop at l) && eqb (sites - endIn words k) 1) ≡ oneCell b (eqb (sites - endIn words b) 1) k
+      last : (isLast k (drop at l) && isForbidden (sites - endIn words k))
+          ≡ oneCell b (isForbidden (sites - endIn words b)) k
       last =
-          ap (λ t. t && eqb (sites - endIn words k) 1) is-last
-          ∙ at-cell (λ x. eqb (sites - endIn words x) 1) k b
+          ap (λ t. t && isForbidden (sites - endIn words k)) is-last
+          ∙ at-cell (λ x. isForbidden (sites - endIn words x)) k b
 
   -- ---- marks
 
   -- the first has been marked, and then the last
-  pub ends-marked : (a b n g : ℕ) (m₀ m₁ m₂ : List ℕ) → length l ≡ suc n → at ≤ n → a ≡ getD l at 0 → b ≡ getD l n 0
-      → g ≡ sites - endIn words b → Added 64 (oneCell a (eqb (siteIn words a) 1)) m₀ m₁
-      → Added 64 (oneCell b (eqb g 1)) m₁ m₂ → Added 64 (atEndIn words sites (drop at l)) m₀ m₂
-  ends-marked a b n g m₀ m₁ m₂ e h ea eb eg p q =
-      let first : ℕ → Bool = oneCell a (eqb (siteIn words a) 1) in
-      let last : ℕ → Bool = oneCell b (eqb g 1) in
+  pub ends-marked : (a b n f g : ℕ) (m₀ m₁ m₂ : List ℕ) → length l ≡ suc n → at ≤ n
+      → a ≡ getD l at 0 → b ≡ getD l n 0 → f ≡ siteIn words a → g ≡ sites - endIn words b
+      → Added 64 (oneCell a (isForbidden f)) m₀ m₁ → Added 64 (oneCell b (isForbidden g)) m₁ m₂
+      → Added 64 (atEndIn words sites (drop at l)) m₀ m₂
+  ends-marked a b n f g m₀ m₁ m₂ e h ea eb ef eg p q =
+      let first : ℕ → Bool = oneCell a (isForbidden f) in
+      let last : ℕ → Bool = oneCell b (isForbidden g) in
       added-below 64 (λ k. first k || (last k || false)) (atEndIn words sites (drop at l)) m₀ m₂
       (λ k _.
-      ap (λ t. first k || t) (or-false (last k) ∙ ap (λ x. oneCell b (eqb x 1) k) eg)
+      ap₂ _||_ (ap (λ x. oneCell a (isForbidden x) k) ef) (or-false (last k) ∙ ap (λ x. oneCell b (isForbidden x) k) eg)
       ∙ sym (end-cells a b n k e h ea eb))
       (added-both 64 64 64 first last m₀ m₁ m₂ (omega arith) (omega arith) p q)
 

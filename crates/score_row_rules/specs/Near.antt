@@ -11,6 +11,7 @@ use lib.Dec.{eqb}
 use borrow.Author.Tests.{eq-eqb, ne-eqb}
 use Rattle.lists.specs.Tails.{tail-cons, tail-last}
 use Rattle.definition.specs.Lists.{anyNext}
+use Rattle.definition.specs.Rules.{forbiddenGap, isForbidden}
 use Rattle.score_order.specs.Words.{siteIn, endIn}
 use Rattle.score_cell_rules.specs.Marks.{Added, added-below}
 use Rattle.score_row_rules.specs.Tests.{oneSite, nearIn}
@@ -53,20 +54,20 @@ added-two f m m′ a b ha hb p =
         rw (getD-set-other (set m′ a 1) b k 1 0 c, s, ne-eqb k a d, ne-eqb k b c) (p .each k h)
 
 -- the test of two neighbours, by their gap
-site-one : (words : List ℕ) (k a b : ℕ) → siteIn words b - endIn words a ≡ 1
+site-one : (words : List ℕ) (k a b : ℕ) → siteIn words b - endIn words a ≡ forbiddenGap
     → oneSite words k a b ≡ (eqb k a || eqb k b)
 site-one words k a b e = go (eqb k a || eqb k b)
   where
-    go : (t : Bool) → (t && eqb (siteIn words b - endIn words a) 1) ≡ t
-    go true = eq-eqb (siteIn words b - endIn words a) 1 e
+    go : (t : Bool) → (t && isForbidden (siteIn words b - endIn words a)) ≡ t
+    go true = eq-eqb (siteIn words b - endIn words a) forbiddenGap e
     go false = refl
 
-site-other : (words : List ℕ) (k a b : ℕ) → (siteIn words b - endIn words a ≡ 1 → ⊥)
+site-other : (words : List ℕ) (k a b : ℕ) → (siteIn words b - endIn words a ≡ forbiddenGap → ⊥)
     → oneSite words k a b ≡ false
 site-other words k a b d = go (eqb k a || eqb k b)
   where
-    go : (t : Bool) → (t && eqb (siteIn words b - endIn words a) 1) ≡ false
-    go true = ne-eqb (siteIn words b - endIn words a) 1 d
+    go : (t : Bool) → (t && isForbidden (siteIn words b - endIn words a)) ≡ false
+    go true = ne-eqb (siteIn words b - endIn words a) forbiddenGap d
     go false = refl
 
 -- ---- one more pair of neighbours
@@ -78,7 +79,7 @@ module _ (words l m m′ : List ℕ) (i n a b g : ℕ) (q : n ≡ suc i) (h : n 
       near-more words l i n k q h
       ∙ ap₂ (λ x y. oneSite words k x y || nearIn words (drop n l) k) (sym ea) (sym eb)
 
-  pub near-one : a < 64 → b < 64 → g ≡ 1 → Added 64 (nearIn words (drop n l)) m m′
+  pub near-one : a < 64 → b < 64 → g ≡ forbiddenGap → Added 64 (nearIn words (drop n l)) m m′
       → Added 64 (nearIn words (drop i l)) m (set (set m′ a 1) b 1)
   near-one ha hb e p =
       added-below
@@ -90,7 +91,7 @@ module _ (words l m m′ : List ℕ) (i n a b g : ℕ) (q : n ≡ suc i) (h : n 
       (λ k _. sym (pair k ∙ ap (λ t. t || nearIn words (drop n l) k) (site-one words k a b (sym eg ∙ e))))
       (added-two (nearIn words (drop n l)) m m′ a b ha hb p)
 
-  pub near-other : (g ≡ 1 → ⊥) → Added 64 (nearIn words (drop n l)) m m′
+  pub near-other : (g ≡ forbiddenGap → ⊥) → Added 64 (nearIn words (drop n l)) m m′
       → Added 64 (nearIn words (drop i l)) m m′
   near-other d p =
       added-below 64 (nearIn words (drop n l)) (nearIn words (drop i l)) m m′

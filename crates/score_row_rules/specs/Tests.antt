@@ -8,13 +8,13 @@ use lib.ListN.{length, getD}
 use lib.Dec.{leb, eqb}
 use Rattle.definition.specs.Lists.{any, anyNext}
 use Rattle.definition.specs.Job.{bothRows}
-use Rattle.definition.specs.Rules.{apart, placeIn, isFirst, isLast}
+use Rattle.definition.specs.Rules.{apart, placeIn, isForbidden, isFirst, isLast}
 use Rattle.job.specs.Parts.{standsIn}
 use Rattle.score_order.specs.Words.{siteIn, endIn, rowIn, cellsIn, orderIn, Words, Tail, RowRoom}
 
 -- rule 5: k is one of two neighbours with one empty site between them; in a list of cells, and in either row
 abbrev pub oneSite : List ℕ → ℕ → ℕ → ℕ → Bool
-oneSite words k a b = (eqb k a || eqb k b) && eqb (siteIn words b - endIn words a) 1
+oneSite words k a b = (eqb k a || eqb k b) && isForbidden (siteIn words b - endIn words a)
 
 unfoldable pub nearIn : List ℕ → List ℕ → ℕ → Bool
 nearIn words order k = anyNext (oneSite words k) order
@@ -40,7 +40,8 @@ outAny words n limit k = any (λ row. outIn words row limit (orderIn words row n
 -- cells, and in either row
 unfoldable pub atEndIn : List ℕ → ℕ → List ℕ → ℕ → Bool
 atEndIn words sites order k =
-    (isFirst k order && eqb (siteIn words k) 1) || (isLast k order && eqb (sites - endIn words k) 1)
+    (isFirst k order && isForbidden (siteIn words k))
+    || (isLast k order && isForbidden (sites - endIn words k))
 
 unfoldable pub atEndAny : List ℕ → ℕ → ℕ → ℕ → Bool
 atEndAny words n sites k = any (λ row. atEndIn words sites (orderIn words row n) k) bothRows

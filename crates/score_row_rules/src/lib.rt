@@ -7,6 +7,7 @@ ghost use Rattle.score_cell_rules.specs.Marks.{Added};
 ghost use Rattle.score_row_rules.specs.Tests.{nearIn, nearAny, outBy, outAt, outIn, outAny};
 ghost use Rattle.score_row_rules.specs.Tests.{oneCell, atEndIn, atEndAny};
 ghost use Rattle.score_row_rules.specs.Tests.{AlongRow, RowOrder, Ranked, Markable};
+use gap_charge::FORBIDDEN_GAP;
 use job::stands;
 use score_order::entry;
 use score_order::places;
@@ -26,7 +27,7 @@ fn mark_row_gaps(words: &[u32], order: &[u32], at: usize, marks: &mut [u32])
         i -= 1;
         let a = entry(order, i);
         let b = entry(order, i + 1);
-        if gap_between(words[4 * a + 1], words[4 * b]) == 1 {
+        if gap_between(words[4 * a + 1], words[4 * b]) == FORBIDDEN_GAP {
             marks[a] = 1;
             marks[b] = 1;
         }
@@ -144,9 +145,9 @@ fn mark_row_ends(words: &[u32], order: &[u32], at: usize, sites: u32, marks: &mu
         return;
     }
     let first = entry(order, at);
-    mark_if(words[4 * first] == 1, first, marks);
+    mark_if(gap_between(0, words[4 * first]) == FORBIDDEN_GAP, first, marks);
     let last = entry(order, 63);
-    mark_if(gap_between(words[4 * last + 1], sites) == 1, last, marks);
+    mark_if(gap_between(words[4 * last + 1], sites) == FORBIDDEN_GAP, last, marks);
 }
 
 // Rule 8.

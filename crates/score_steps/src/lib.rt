@@ -18,13 +18,6 @@ use job::height_of;
 use score_order::entry;
 use score_words::gap_between;
 
-// What a step costs at a gap.
-pub fn charge_at(gap: u32) -> u32
-    ensures { λ r. ⌜ r ≡ charge gap ⌝ }
-{
-    charge_of(gap as usize)
-}
-
 // The two heights at the left edge, and at the right edge: a mirrored cell has them exchanged.
 fn left_of(of: u32, mark: u32, row: u32) -> usize
     requires { ⌜ row ≤ 1 ⌝ }
@@ -83,7 +76,7 @@ fn steps_of(
         * differingOf (cellOf left) (poseOf p) (cellOf right) (poseOf q) row) r ⌝ }
 {
     let gap = gap_between(words[4 * a + 1], words[4 * b]);
-    charge_at(gap) * differing_heights(left, p, right, q, row)
+    charge_of(gap) * differing_heights(left, p, right, q, row)
 }
 
 // The steps of a row, whose cells from left to right are the entries of `order` from `at` on.

@@ -8,7 +8,8 @@ use Rattle.definition.specs.Lists.{from, any, anyNext}
 use Rattle.definition.specs.Job as paper
 use Rattle.definition.specs.Job.{bothRows}
 use Rattle.definition.specs.Placement as text
-use Rattle.definition.specs.Rules.{apart, placeIn, isFirst, isLast, besideOneSite, outOfPlace, atOneSiteEnd}
+use Rattle.definition.specs.Rules.{apart, placeIn, isForbidden, isFirst, isLast}
+use Rattle.definition.specs.Rules.{besideOneSite, outOfPlace, atOneSiteEnd}
 use Rattle.definition.specs.Rules.{breaks2, breaks4, breaks5, breaks6, breaks7, breaks8}
 use Rattle.job.specs.Parts.{standsIn}
 use Rattle.score_order.specs.Words.{cellsIn, orderIn}
@@ -35,7 +36,8 @@ module _ {j : paper.Job} {P : text.Placement} {n : ℕ} {words : List ℕ} (f : 
   near-row : (row k : ℕ) → nearIn words (orderIn words row n) k ≡ besideOneSite j P row k
   unfolding nearIn besideOneSite
   near-row row k =
-      λ i. anyNext (λ a b. (eqb k a || eqb k b) && eqb (f .shows b .site i - f .shows a .end i) 1) (flat-order f row i)
+      λ i. anyNext (λ a b. (eqb k a || eqb k b) && isForbidden (f .shows b .site i - f .shows a .end i))
+      (flat-order f row i)
 
   out-row : (row k : ℕ)
       → outIn words row (j .header .reordering) (orderIn words row n) (cellsIn words row 0 n) k ≡ outOfPlace j P row k
@@ -47,8 +49,8 @@ module _ {j : paper.Job} {P : text.Placement} {n : ℕ} {words : List ℕ} (f : 
   end-row : (row k : ℕ) → atEndIn words (j .header .sites) (orderIn words row n) k ≡ atOneSiteEnd j P row k
   unfolding atEndIn atOneSiteEnd
   end-row row k =
-      λ i. (isFirst k (flat-order f row i) && eqb (f .shows k .site i) 1)
-      || (isLast k (flat-order f row i) && eqb (j .header .sites - f .shows k .end i) 1)
+      λ i. (isFirst k (flat-order f row i) && isForbidden (f .shows k .site i))
+      || (isLast k (flat-order f row i) && isForbidden (j .header .sites - f .shows k .end i))
 
   pub flat5 : (k : ℕ) → nearAny words n k ≡ breaks5 j P k
   unfolding nearAny breaks5

@@ -21,13 +21,13 @@ pub fn apart_of(a: u32, b: u32) -> u32
 }
 
 // The empty sites between an end and the next site; none if they overlap.
-pub fn gap_between(end: u32, site: u32) -> u32
+pub fn gap_between(end: u32, site: u32) -> usize
     ensures { λ r. ⌜ r ≡ site - end ⌝ }
 {
     if site <= end {
         return 0;
     }
-    site - end
+    (site - end) as usize
 }
 
 fn put_four(words: &mut [u32], k: usize, site: u32, end: u32, row: u32, given: u32)

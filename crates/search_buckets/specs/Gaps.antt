@@ -1,15 +1,16 @@
 -- Which gaps pay, as the one law of the charge that the tables are built on: at some gaps neighbours pay for their
 -- steps, from gap 4 on they pay nothing, at the others they may not stand.
-use Prim.Native.Nat.{ℕ, zero, suc, _+_, _*_, _-_, _≤_, _<_, min}
+use Prim.Native.Nat.{ℕ, zero, suc, _+_, _*_, _-_, _≤_, _<_}
 use mathlib.Core.Path.{_≡_, refl, sym, ap, subst}
 use mathlib.Core.Logic.{_≢_}
 use mathlib.Core.Bool.{Bool, true, false, cond}
 use mathlib.Core.List.{List, [], _∷_, List·Memᴰ as In, List·Memᴰ·head as here, List·Memᴰ·tail as there}
 use native.Mathlib.Omega.{arith}
-use lib.ListN.{getD}
-use lib.Dec.{ltb, eqb}
+use lib.Dec.{ltb}
 use Rattle.lists.specs.Compare.{Le?, low, high, le?, Eq?, same, differs, eq?}
-use Rattle.definition.specs.Cost.{charges, charge}
+use Rattle.definition.specs.Rules.{forbiddenGap, isForbidden}
+use Rattle.definition.specs.Cost.{charge}
+use Rattle.definition_laws.specs.Charges.{charge-far}
 use Rattle.theory_tables.specs.Steps.{B}
 use Rattle.search_row.specs.Words.{tollAt}
 
@@ -33,27 +34,26 @@ pub toll? : (x y : ℕ) (pay : ℕ → ℕ) → Toll x y pay (tollAt x y pay)
 toll? x y pay = left (ltb x y) (le? (suc x) y)
   where
     -- at a gap
-    at : (gap : ℕ) → gap ≢ 1 → x ≡ y + gap → Toll x y pay (charge gap * pay gap)
+    at : (gap : ℕ) → gap ≢ forbiddenGap → x ≡ y + gap → Toll x y pay (charge gap * pay gap)
     at zero n e = subst (Toll x y pay) (omega arith) (pays 0 (here refl) e)
     at (suc zero) n e = absurd (n refl)
     at (suc (suc zero)) n e = subst (Toll x y pay) (omega arith) (pays 2 (there (here refl)) e)
     at (suc (suc (suc zero))) n e = subst (Toll x y pay) (omega arith) (pays 3 (there (there (here refl))) e)
     at (suc (suc (suc (suc g)))) n e =
-        let m : min (suc (suc (suc (suc g)))) 4 ≡ 4 = omega arith in
-        let p = pay (suc (suc (suc (suc g)))) in
-        let z : 0 * p ≡ charge (suc (suc (suc (suc g)))) * p = ap (λ (j : ℕ). getD charges j 0 * p) (sym m) in
+        let n = suc (suc (suc (suc g))) in
+        let far : charge n * pay n ≡ 0 * pay n = ap (λ (c : ℕ). c * pay n) (charge-far n (omega arith)) in
         subst (Toll x y pay) (omega arith) (free (omega arith))
 
-    one : (t : Bool) → Eq? (x - y) 1 t → y ≤ x → Toll x y pay (cond t B (charge (x - y) * pay (x - y)))
+    one : (t : Bool) → Eq? (x - y) forbiddenGap t → y ≤ x → Toll x y pay (cond t B (charge (x - y) * pay (x - y)))
     one true (same e) h = barred (omega arith) λ gap i f. no1 gap i (omega arith)
       where
-        no1 : (gap : ℕ) → In gap paying → gap ≢ 1
+        no1 : (gap : ℕ) → In gap paying → gap ≢ forbiddenGap
         no1 gap (here e) = λ f. omega arith
         no1 gap (there (here e)) = λ f. omega arith
         no1 gap (there (there (here e))) = λ f. omega arith
     one false (differs n) h = at (x - y) n (omega arith)
 
     left : (t : Bool) → Le? (suc x) y t
-        → Toll x y pay (cond t B (cond (eqb (x - y) 1) B (charge (x - y) * pay (x - y))))
+        → Toll x y pay (cond t B (cond (isForbidden (x - y)) B (charge (x - y) * pay (x - y))))
     left true (low h) = barred (omega arith) λ gap i e. omega arith
-    left false (high h) = one (eqb (x - y) 1) (eq? (x - y) 1) (omega arith)
+    left false (high h) = one (isForbidden (x - y)) (eq? (x - y) forbiddenGap) (omega arith)

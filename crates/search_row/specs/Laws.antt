@@ -7,7 +7,8 @@ use native.Mathlib.Omega.{arith}
 use native.Mathlib.Nat.{mul-le-mul}
 use borrow.Author.Tests.{ltb-true, eq-eqb, ne-eqb}
 use lib.Dec.{leb, ltb, eqb}
-use Rattle.gap_charge.specs.Charge.{charge-small}
+use Rattle.definition.specs.Rules.{isForbidden}
+use Rattle.definition_laws.specs.Charges.{charge-most}
 use Rattle.theory_tables.specs.Steps.{B, offset, lastAt, isSource}
 use Rattle.search_row.specs.Words.{wordOf, weightIn, differIn, siteIn, endIn, tollIn, frontIn}
 use Rattle.search_row.specs.Words.{backIn, endToll, deckOf, thereIn, RowWords, apartWord, touchingWord}
@@ -46,8 +47,8 @@ unfolding tollIn
 toll-low {row} k b m a w =
     let x = siteIn row m a in
     let y = endIn row k b in
-    let p = charged-low (charge-small (x - y)) (pay-low (weight-low m (x - y) w) (differ-low row k b m a)) in
-    cond-low (ltb x y) (omega arith) (cond-low (eqb (x - y) 1) (omega arith) (omega arith))
+    let p = charged-low (charge-most (x - y)) (pay-low (weight-low m (x - y) w) (differ-low row k b m a)) in
+    cond-low (ltb x y) (omega arith) (cond-low (isForbidden (x - y)) (omega arith) (omega arith))
 
 -- what the ends of a row pay: B where it is barred, else nothing
 end-low : (at barred : ℕ) → endToll at barred ≤ B

@@ -5,8 +5,9 @@ use mathlib.Core.Bool.{Bool, _&&_, cond}
 use mathlib.Core.List.{List}
 use lib.ListN.{length, getD}
 use lib.Dec.{leb, ltb, eqb}
-use Rattle.definition.specs.Cost.{charge}
 use Rattle.definition.specs.Job.{maxCells}
+use Rattle.definition.specs.Rules.{isForbidden}
+use Rattle.definition.specs.Cost.{charge}
 use Rattle.theory_tables.specs.Steps.{B, Deck, stateCount, offset, marks, before, lastAt, poseSlots}
 use Rattle.search_store.specs.Map.{maxPoses}
 use Rattle.search_row.specs.declared.Sizes.{Sizes}
@@ -99,7 +100,7 @@ weightIn row m gap = cond (eqb gap 0) (wordOf row m touchingWord) (wordOf row m 
 
 -- what the right one's left site x and the left one's end y make of what they pay by their gap
 abbrev pub tollAt : ℕ → ℕ → (ℕ → ℕ) → ℕ
-tollAt x y pay = cond (ltb x y) B (cond (eqb (x - y) 1) B (charge (x - y) * pay (x - y)))
+tollAt x y pay = cond (ltb x y) B (cond (isForbidden (x - y)) B (charge (x - y) * pay (x - y)))
 
 unfoldable pub tollIn : List ℕ → ℕ → ℕ → ℕ → ℕ → ℕ
 tollIn row k b m a = tollAt (siteIn row m a) (endIn row k b) (λ gap. weightIn row m gap * differIn row k b m a)

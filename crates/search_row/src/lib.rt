@@ -183,7 +183,7 @@ pub fn toll(row: &[u32], k: usize, b: usize, m: usize, a: usize) -> u32
         return search_lanes::NONE;
     }
     let gap = x - y;
-    if gap == 1 {
+    if gap == gap_charge::FORBIDDEN_GAP {
         return search_lanes::NONE;
     }
     gap_charge::charge_of(gap) * (weight(row, m, gap) * differ(row, k, b, m, a))

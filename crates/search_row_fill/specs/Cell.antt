@@ -7,7 +7,7 @@ use native.Mathlib.Omega.{arith}
 use borrow.Author.Tests.{lt-ltb, le-ltb, ne-eqb}
 use lib.Dec.{eqb, lit≤}
 use Rattle.definition.specs.Job.{Job, isTall}
-use Rattle.definition.specs.Rules.{cellAt}
+use Rattle.definition.specs.Rules.{cellAt, forbiddenGap}
 use Rattle.definition.specs.Cost.{firstHeight}
 use Rattle.lists.specs.Compare.{Eq?, same, differs, eq?}
 use Rattle.theory_bridge.specs.Paired.{isOffered, poseNumber, widthOf, ownOf, leftOf, rightOf}
@@ -39,8 +39,8 @@ pub record CellWords (j : Job) (row k : ℕ) (word : ℕ → ℕ) : Type 0 where
   pub weight : word touchingWord ≡ j .header .stepWeight
   pub number : word numberWord ≡ k
   pub filled : word apartWord ≡ j .header .stepWeight
-  pub front : word frontBarred ≡ j .header .displacement + 1
-  pub back : word backBarred ≡ j .header .sites + j .header .displacement - 1
+  pub front : word frontBarred ≡ j .header .displacement + forbiddenGap
+  pub back : word backBarred ≡ j .header .sites + j .header .displacement - forbiddenGap
 
 -- the mark as a number, and the edge that it leaves
 mark-two : (m : ℕ) → m < 2 → cond (eqb m 1) 2 0 ≡ m * 2

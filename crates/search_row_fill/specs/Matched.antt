@@ -13,7 +13,7 @@ use lib.ListN.{length}
 use lib.Dec.{ltb, eqb}
 use Rattle.definition.specs.Job.{Job}
 use Rattle.definition.specs.Job as job
-use Rattle.definition.specs.Rules.{cellAt}
+use Rattle.definition.specs.Rules.{cellAt, forbiddenGap, isForbidden}
 use Rattle.definition.specs.Cost.{charge}
 use Rattle.definition_laws.specs.Sound.{Sound}
 use Rattle.definition_laws.specs.Offers.{limit-within}
@@ -57,15 +57,15 @@ one-true false = refl
 
 -- ---- what two neighbours pay
 
-toll-pays : (x y : ℕ) (pay : ℕ → ℕ) → y ≤ x → x - y ≢ 1 → tollAt x y pay ≡ charge (x - y) * pay (x - y)
-toll-pays x y pay h d = rw (le-ltb x y h, ne-eqb (x - y) 1 d)
+toll-pays : (x y : ℕ) (pay : ℕ → ℕ) → y ≤ x → x - y ≢ forbiddenGap → tollAt x y pay ≡ charge (x - y) * pay (x - y)
+toll-pays x y pay h d = rw (le-ltb x y h, ne-eqb (x - y) forbiddenGap d)
 
-toll-barred : (x y : ℕ) (pay : ℕ → ℕ) → (y ≤ x → x - y ≡ 1) → tollAt x y pay ≡ B
+toll-barred : (x y : ℕ) (pay : ℕ → ℕ) → (y ≤ x → x - y ≡ forbiddenGap) → tollAt x y pay ≡ B
 toll-barred x y pay f = go (ltb x y) (le? (suc x) y)
   where
-    go : (t : Bool) → Le? (suc x) y t → cond t B (cond (eqb (x - y) 1) B (charge (x - y) * pay (x - y))) ≡ B
+    go : (t : Bool) → Le? (suc x) y t → cond t B (cond (isForbidden (x - y)) B (charge (x - y) * pay (x - y))) ≡ B
     go true h = refl
-    go false (high h) = rw (eq-eqb (x - y) 1 (f (omega arith)))
+    go false (high h) = rw (eq-eqb (x - y) forbiddenGap (f (omega arith)))
 
 module _ (j : Job) (s : Side) (l : List ℕ) (k m : ℕ) (b a : ℕ) (K M : ℕ) (w : CellWords j (rowOf s) K (wordOf l k))
     (v : CellWords j (rowOf s) M (wordOf l m)) where
@@ -124,10 +124,11 @@ module _ (j : Job) (s : Side) (l : List ℕ) (k m : ℕ) (b a : ℕ) (K M : ℕ)
       (λ h. near (siteIn l m a) (endIn l k b) (z .0) (z .1) h)
     where
       near : (x y : ℕ) → x ≡ poseNumber j M a .site + j .header .displacement
-          → y ≡ poseNumber j K b .site + widthOf j K (poseNumber j K b) + j .header .displacement → y ≤ x → x - y ≡ 1
-      near x y e f h = go (ℕ-discrete (x - y) 1)
+          → y ≡ poseNumber j K b .site + widthOf j K (poseNumber j K b) + j .header .displacement → y ≤ x
+          → x - y ≡ forbiddenGap
+      near x y e f h = go (ℕ-discrete (x - y) forbiddenGap)
         where
-          go : Dec (x - y ≡ 1) → x - y ≡ 1
+          go : Dec (x - y ≡ forbiddenGap) → x - y ≡ forbiddenGap
           go (yes r) = r
           go (no r) = absurd (n (omega arith, λ u. r (omega arith)))
 
@@ -161,11 +162,11 @@ module _ (j : Job) (sound : Sound j) (s : Side) (l : List ℕ) (n : ℕ) (w : Ro
       (ownOf j (cell (pairJob j) s p) (poseNumber j (cell (pairJob j) s p) a)) (row-low p h))
 
   -- the row's ends: a cell pays nothing there, where it may stand. Sites and ends have D added, as the words have
-  end-toll : (x y gap : ℕ) → (x ≡ y) ↔ (gap ≡ 1) → endToll x y ≡ cond (endAllowed gap) 0 B
+  end-toll : (x y gap : ℕ) → (x ≡ y) ↔ (gap ≡ forbiddenGap) → endToll x y ≡ cond (endAllowed gap) 0 B
   unfolding endAllowed
-  end-toll x y gap e = go (eqb gap 1) (eq? gap 1)
+  end-toll x y gap e = go (isForbidden gap) (eq? gap forbiddenGap)
     where
-      go : (t : Bool) → Eq? gap 1 t → endToll x y ≡ cond (not t) 0 B
+      go : (t : Bool) → Eq? gap forbiddenGap t → endToll x y ≡ cond (not t) 0 B
       go true (same h) = sym (end-barred x y (e .1 h))
       go false (differs d) = sym (end-free x y (λ h. d (e .0 h)))
 

@@ -9,7 +9,7 @@ use lib.Dec.{leb, ltb, eqb}
 use Rattle.definition.specs.Job as paper
 use Rattle.definition.specs.Job.{maxSites, maxDisplacement, maxWidth}
 use Rattle.definition.specs.Placement.{Pose}
-use Rattle.definition.specs.Rules.{Offer, noLayout, apart, offerOf, choiceOffered, siteOffered}
+use Rattle.definition.specs.Rules.{Offer, noLayout, apart, forbiddenGap, offerOf, choiceOffered, siteOffered}
 use Rattle.definition_laws.specs.Sound.{SoundHeader, SoundCell}
 use Rattle.definition_laws.specs.Offers.{limit-within}
 use Rattle.lists.specs.Compare.{Eq?, same, differs, eq?, Le?, low, high, le?}
@@ -138,11 +138,11 @@ module _ (h : Header) (c : Cell) (i : ℕ) where
   unfolding shapeWord cellOf
   shape-tall g = rw (ne-eqb i firstWord (λ e. omega arith), le-ltb i tallWord g)
 
-  pub end-front : i ≡ frontBarred → h .displacement + 1 ≡ endWord (one h c) i
+  pub end-front : i ≡ frontBarred → h .displacement + forbiddenGap ≡ endWord (one h c) i
   unfolding endWord headerOf
   end-front e = rw e
 
-  pub end-back : (i ≡ frontBarred → ⊥) → h .sites + h .displacement - 1 ≡ endWord (one h c) i
+  pub end-back : (i ≡ frontBarred → ⊥) → h .sites + h .displacement - forbiddenGap ≡ endWord (one h c) i
   unfolding endWord headerOf
   end-back d = rw (ne-eqb i frontBarred d)
 

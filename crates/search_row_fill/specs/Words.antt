@@ -5,7 +5,7 @@ use mathlib.Core.Bool.{_&&_, cond}
 use mathlib.Core.List.{[], _∷_}
 use lib.Dec.{ltb, eqb}
 use Rattle.definition.specs.Job.{Header, Cell, Job, isTall}
-use Rattle.definition.specs.Rules.{cellAt, offerAt}
+use Rattle.definition.specs.Rules.{cellAt, forbiddenGap, offerAt}
 use Rattle.theory_bridge.specs.Paired.{isOffered, poseNumber, ownOf}
 use Rattle.theory_tables.specs.Steps.{B}
 use Rattle.job.specs.Parts.{widthIn, heightIn, firstOf}
@@ -40,7 +40,9 @@ heightWord j row k u = heightIn (cellAt j k) (u % 4 / 2) (firstOf (cellAt j k .r
 -- where the first cell of a row may not stand, and where the last may not end: one site from the row's end (rule 8),
 -- with D added
 unfoldable pub endWord : Job → ℕ → ℕ
-endWord j i = cond (eqb i frontBarred) (j .header .displacement + 1) (j .header .sites + j .header .displacement - 1)
+endWord j i =
+    cond (eqb i frontBarred) (j .header .displacement + forbiddenGap)
+    (j .header .sites + j .header .displacement - forbiddenGap)
 
 -- word i of cell k, which bears a number; document 01 weighs all steps alike
 unfoldable pub cellWord : Job → ℕ → ℕ → ℕ → ℕ → ℕ

@@ -154,9 +154,9 @@ fn cell_word(header: Header, cell: Cell, side: u32, number: u32, i: usize) -> u3
         return header.step;
     }
     if i == search_row::FRONT_BARRED {
-        return header.displacement + 1;
+        return header.displacement + gap_charge::FORBIDDEN_GAP as u32;
     }
-    header.sites + header.displacement - 1
+    header.sites + header.displacement - gap_charge::FORBIDDEN_GAP as u32
 }
 
 // The words of a cell.

@@ -13,7 +13,8 @@ use lib.Dec.{leb, eqb}
 use Rattle.definition.specs.Lists.{all, sum}
 use Rattle.definition.specs.Job.{Job}
 use Rattle.definition.specs.Placement.{Placement}
-use Rattle.definition.specs.Rules.{poseAt, siteAt, layoutAt, endAt, gapBefore, gapAfter, rowCells, order, Legal}
+use Rattle.definition.specs.Rules.{poseAt, siteAt, layoutAt, endAt, forbiddenGap, gapBefore, gapAfter}
+use Rattle.definition.specs.Rules.{rowCells, order, Legal}
 use Rattle.definition.specs.Gaps.{gapsFrom, isClosable, Fillable}
 use Rattle.definition_laws.specs.Sound.{Sound}
 use Rattle.lists.specs.Compare.{Eq?, differs, eq?}
@@ -107,7 +108,7 @@ module _ (j : Job) (sound : Sound j) (P : Placement) (legal : Legal j P) (s : Si
   unfolding widthOf
   spaced-next a [] i r c z =
       let h = offered-allowed j sound a (poseAt P a) .0 (offered a (i a (here refl))) .fits in
-      let d = eqb-false (gapAfter j P a) 1 (end-allowed (gapAfter j P a) .0 z) in
+      let d = eqb-false (gapAfter j P a) forbiddenGap (end-allowed (gapAfter j P a) .0 z) in
       (h, λ e. d (omega arith))
   spaced-next a (b ∷ l) i r c z =
       let h = r .0 b (here refl) in
@@ -125,7 +126,7 @@ module _ (j : Job) (sound : Sound j) (P : Placement) (legal : Legal j P) (s : Si
       → Ended (λ k. opensOf j k (poseAt P k)) (λ k. closesOf j k (poseAt P k)) l → SpacedFrom j P 0 l
   spaced-row [] n i r c z = absurd (n refl)
   spaced-row (a ∷ l) n i r c z =
-      let d = eqb-false (gapBefore P a) 1 (end-allowed (gapBefore P a) .0 (z .0)) in
+      let d = eqb-false (gapBefore P a) forbiddenGap (end-allowed (gapBefore P a) .0 (z .0)) in
       ((omega arith, d), spaced-next a l i r c (z .1))
 
   pub legal-fillable : ¬ (rowCells j (rowOf s) ≡ []) → Fillable j P (rowOf s)

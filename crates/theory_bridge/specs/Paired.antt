@@ -9,7 +9,7 @@ use lib.Dec.{leb, eqb}
 use Rattle.definition.specs.Lists.{sum}
 use Rattle.definition.specs.Job.{Layout, Job}
 use Rattle.definition.specs.Placement.{Pose}
-use Rattle.definition.specs.Rules.{noLayout, cellAt, apart, offerAt, choiceOffered, siteOffered}
+use Rattle.definition.specs.Rules.{noLayout, cellAt, apart, isForbidden, offerAt, choiceOffered, siteOffered}
 use Rattle.definition.specs.Cost.{charge, firstHeight}
 use Rattle.lists.specs.Numbers.{from}
 use Rattle.theory_pair.specs.Pick.{pick}
@@ -62,7 +62,7 @@ offersOf j k = map (poseNumber j k) (pick (isOffered j k) (from 0 (poseNumbers j
 
 -- how many sites may be empty between a row's end and the cell nearest to it: any number but one (rule 8)
 unfoldable pub endAllowed : ℕ → Bool
-endAllowed gap = not (eqb gap 1)
+endAllowed gap = not (isForbidden gap)
 
 -- cell k may be the first of its rows, and the last
 abbrev pub opensOf : Job → ℕ → Pose → Bool

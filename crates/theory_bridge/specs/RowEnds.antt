@@ -7,10 +7,10 @@ use mathlib.Core.Bool.{Bool, true, false, not, _&&_, _||_}
 use mathlib.Core.List.{List, [], _∷_, List·Memᴰ as In, List·Memᴰ·head as here, List·Memᴰ·tail as there}
 use borrow.Author.Tests.{eqb-true, eq-eqb, not-true}
 use lib.ListN.{length}
-use lib.Dec.{eqb}
 use Rattle.definition.specs.Job.{Job}
 use Rattle.definition.specs.Placement.{Pose, Placement}
-use Rattle.definition.specs.Rules.{Holds, order, isFirst, isLast, gapBefore, gapAfter, atOneSiteEnd, breaks8}
+use Rattle.definition.specs.Rules.{Holds, order, isForbidden, isFirst, isLast, gapBefore, gapAfter}
+use Rattle.definition.specs.Rules.{atOneSiteEnd, breaks8}
 use Rattle.definition_laws.specs.Sound.{Sound}
 use Rattle.theory_pair.specs.Ends.{Ended, lastFrom}
 use Rattle.theory_pair.specs.Cells.{Side, rowOrder, RowEnded}
@@ -19,9 +19,9 @@ use Rattle.theory_bridge.specs.Tests.{and-false, or-false, any-row}
 use Rattle.theory_bridge.specs.Row.{Gives, order-same, ordered-below}
 
 -- any number of sites but one may be empty at a row's end
-pub end-allowed : (gap : ℕ) → endAllowed gap ≡ true ↔ (eqb gap 1 ≡ false)
+pub end-allowed : (gap : ℕ) → endAllowed gap ≡ true ↔ (isForbidden gap ≡ false)
 unfolding endAllowed
-end-allowed gap = (not-true (eqb gap 1), λ e. ap not e)
+end-allowed gap = (not-true (isForbidden gap), λ e. ap not e)
 
 -- ---- the first and the last of a list that has some
 
@@ -50,16 +50,16 @@ last-in a (b ∷ l) = there (last-in b l)
 -- ---- rule 8
 
 module _ (j : Job) (sound : Sound j) (P : Placement) (f : ℕ → Pose) (g : Gives P (length (j .cells)) f) where
-  opens-test : (k : ℕ) → k < length (j .cells) → opensOf j k (f k) ≡ true ↔ (eqb (gapBefore P k) 1 ≡ false)
+  opens-test : (k : ℕ) → k < length (j .cells) → opensOf j k (f k) ≡ true ↔ (isForbidden (gapBefore P k) ≡ false)
   opens-test k h =
-      subst (λ (x : ℕ). opensOf j k (f k) ≡ true ↔ (eqb x 1 ≡ false)) (sym (ap siteOf (g k h)))
+      subst (λ (x : ℕ). opensOf j k (f k) ≡ true ↔ (isForbidden x ≡ false)) (sym (ap siteOf (g k h)))
       (end-allowed (siteOf (f k)))
 
-  closes-test : (k : ℕ) → k < length (j .cells) → closesOf j k (f k) ≡ true ↔ (eqb (gapAfter j P k) 1 ≡ false)
+  closes-test : (k : ℕ) → k < length (j .cells) → closesOf j k (f k) ≡ true ↔ (isForbidden (gapAfter j P k) ≡ false)
   unfolding widthOf
   closes-test k h =
       subst (λ (x : Pose).
-      closesOf j k (f k) ≡ true ↔ (eqb (j .header .sites - (x .site + layoutOf j k x .width)) 1 ≡ false))
+      closesOf j k (f k) ≡ true ↔ (isForbidden (j .header .sites - (x .site + layoutOf j k x .width)) ≡ false))
       (sym (g k h)) (end-allowed _)
 
   -- the tests of a row whose order is l
@@ -68,10 +68,10 @@ module _ (j : Job) (sound : Sound j) (P : Placement) (f : ℕ → Pose) (g : Giv
     cells = order j P (rowOf s)
 
     abbrev atFront : ℕ → Bool
-    atFront k = isFirst k cells && eqb (gapBefore P k) 1
+    atFront k = isFirst k cells && isForbidden (gapBefore P k)
 
     abbrev atBack : ℕ → Bool
-    atBack k = isLast k cells && eqb (gapAfter j P k) 1
+    atBack k = isLast k cells && isForbidden (gapAfter j P k)
 
     abbrev Free : Type 0
     Free = (k : ℕ) → k < length (j .cells) → (atFront k || atBack k) ≡ false
@@ -83,7 +83,7 @@ module _ (j : Job) (sound : Sound j) (P : Placement) (f : ℕ → Pose) (g : Giv
     unfolding isFirst isLast
     ends-same [] e = (
       λ h. tt,
-      λ t k h. ap (λ m. (isFirst k m && eqb (gapBefore P k) 1) || (isLast k m && eqb (gapAfter j P k) 1)) e,
+      λ t k h. ap (λ m. (isFirst k m && isForbidden (gapBefore P k)) || (isLast k m && isForbidden (gapAfter j P k))) e,
     )
     ends-same (a ∷ l) e = (to, back)
       where
@@ -100,17 +100,18 @@ module _ (j : Job) (sound : Sound j) (P : Placement) (f : ℕ → Pose) (g : Giv
             let front = or-false (atFront a) (atBack a) .0 (h a u) .0 in
             let back = or-false (atFront z) (atBack z) .0 (h z v) .1 in (
               opens-test a u .1
-                  (and-false (isFirst a cells) (eqb (gapBefore P a) 1) .0 front (ap (isFirst a) e ∙ is-first a l)),
+                  (and-false (isFirst a cells) (isForbidden (gapBefore P a)) .0 front
+                  (ap (isFirst a) e ∙ is-first a l)),
               closes-test z v .1
-                  (and-false (isLast z cells) (eqb (gapAfter j P z) 1) .0 back (ap (isLast z) e ∙ is-last a l)),
+                  (and-false (isLast z cells) (isForbidden (gapAfter j P z)) .0 back (ap (isLast z) e ∙ is-last a l)),
             )
 
         back : EndsAllowed (a ∷ l) → Free
         back c k h = or-false (atFront k) (atBack k) .1 (
-          and-false (isFirst k cells) (eqb (gapBefore P k) 1) .1
+          and-false (isFirst k cells) (isForbidden (gapBefore P k)) .1
               (λ q. opens-test k h .0 (subst (λ (x : ℕ). opensOf j x (f x) ≡ true)
               (sym (first-is k a l (sym (ap (isFirst k) e) ∙ q))) (c .0))),
-          and-false (isLast k cells) (eqb (gapAfter j P k) 1) .1
+          and-false (isLast k cells) (isForbidden (gapAfter j P k)) .1
               (λ q. closes-test k h .0 (subst (λ (x : ℕ). closesOf j x (f x) ≡ true)
               (sym (last-is k a l (sym (ap (isLast k) e) ∙ q))) (c .1))),
         )

@@ -12,8 +12,9 @@ use lib.Dec.{leb, ltb, eqb}
 use Rattle.definition.specs.Lists.{anyNext}
 use Rattle.definition.specs.Job.{Job, shareRow, inRow}
 use Rattle.definition.specs.Placement.{Pose, Placement}
-use Rattle.definition.specs.Rules.{Holds, cellAt, siteAt, endAt, cellsOf, rowCells, apart, order, gap}
-use Rattle.definition.specs.Rules.{overlap, breaks4, breaks5, breaks6, besideOneSite, outOfPlace, placeIn}
+use Rattle.definition.specs.Rules.{Holds, cellAt, siteAt, endAt, cellsOf, rowCells, apart, order}
+use Rattle.definition.specs.Rules.{gap, forbiddenGap, isForbidden, overlap}
+use Rattle.definition.specs.Rules.{breaks4, breaks5, breaks6, besideOneSite, outOfPlace, placeIn}
 use Rattle.definition_laws.specs.Sound.{Sound}
 use Rattle.lists.specs.Compare.{Le?, high, le?}
 use Rattle.lists.specs.Neighbours.{Chain}
@@ -143,21 +144,21 @@ module _ (j : Job) (sound : Sound j) (P : Placement) (f : ℕ → Pose) (g : Giv
   rule5-same = (to, back)
     where
       one : ℕ → ℕ → Bool
-      one a b = eqb (gap j P a b) 1
+      one a b = isForbidden (gap j P a b)
 
       none-is : (s : Side) (a b : ℕ) → In a (order j P (rowOf s)) → In b (order j P (rowOf s)) → one a b ≡ false
           → NoGapOne S W a b
       none-is s a b ma mb e q =
           let x = end-at a (ordered-below j sound P f g s a ma) in
           let y = site-at b (ordered-below j sound P f g s b mb) in
-          eqb-false (gap j P a b) 1 e (omega arith)
+          eqb-false (gap j P a b) forbiddenGap e (omega arith)
 
       is-none : (s : Side) (a b : ℕ) → In a (order j P (rowOf s)) → In b (order j P (rowOf s)) → NoGapOne S W a b
           → one a b ≡ false
       is-none s a b ma mb d =
           let x = end-at a (ordered-below j sound P f g s a ma) in
           let y = site-at b (ordered-below j sound P f g s b mb) in
-          ne-eqb (gap j P a b) 1 (λ e. d (omega arith))
+          ne-eqb (gap j P a b) forbiddenGap (λ e. d (omega arith))
 
       to : Holds j (breaks5 j P) → Gapped
       to h s =

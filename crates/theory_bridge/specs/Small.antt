@@ -3,17 +3,18 @@
 use mathlib.Core.Path.{refl}
 use mathlib.Core.Bool.{Bool, true, false, cond}
 use mathlib.Core.List.{List, [], _∷_, List·Memᴰ as In, List·Memᴰ·head as here, List·Memᴰ·tail as there}
-use Prim.Native.Nat.{ℕ, zero, suc, _+_, _-_, _*_, min, _≤_, _<_}
+use Prim.Native.Nat.{ℕ, suc, _+_, _-_, _*_, _≤_, _<_}
 use native.Mathlib.Nat.{mul-le-mul, suc-mul}
 use native.Mathlib.Omega.{arith}
-use lib.ListN.{length, getD}
+use lib.ListN.{length}
 use lib.Dec.{eqb}
 use Rattle.definition.specs.Job.{Job}
 use Rattle.definition.specs.Placement.{Pose, Placement}
 use Rattle.definition.specs.Rules.{Legal, cellAt, poseAt, apart}
-use Rattle.definition.specs.Cost.{charges, cost}
+use Rattle.definition.specs.Cost.{cost}
 use Rattle.definition_laws.specs.Sound.{Sound}
 use Rattle.definition_laws.specs.Offers.{limit-within}
+use Rattle.definition_laws.specs.Charges.{charge-most}
 use Rattle.lists.specs.Numbers.{from, length-from, in-from}
 use Rattle.theory_row.specs.Order.{sort-size}
 use Rattle.theory_row.specs.Rules.{sum, sumNext, sumNeighbours}
@@ -67,21 +68,13 @@ differs-most : (t : Bool) → cond t 0 1 ≤ 1
 differs-most true = omega arith
 differs-most false = omega arith
 
-charge-most : (i : ℕ) → getD charges i 0 ≤ 1
-charge-most zero = omega arith
-charge-most (suc zero) = omega arith
-charge-most (suc (suc zero)) = omega arith
-charge-most (suc (suc (suc zero))) = omega arith
-charge-most (suc (suc (suc (suc zero)))) = omega arith
-charge-most (suc (suc (suc (suc (suc i))))) = omega arith
-
 module _ (j : Job) (sound : Sound j) where
   pay-most : (s : Side) (x y : ℕ × Pose) → payOf j s x y ≤ 2000
   unfolding payOf differingOf
   pay-most s x y =
       let two : differingOf j (rowOf s) x y ≤ 2 = omega (arith, differs-most (differs 0), differs-most (differs 1)) in
       mul-le-mul (sound .header .step)
-      (mul-le-mul (charge-most (min (y .1 .site - (x .1 .site + widthOf j (x .0) (x .1))) 4)) two)
+      (mul-le-mul (charge-most (y .1 .site - (x .1 .site + widthOf j (x .0) (x .1)))) two)
     where
       differs : ℕ → Bool
       differs type = eqb (rightOf j (rowOf s) (x .0) (x .1) type) (leftOf j (rowOf s) (y .0) (y .1) type)

@@ -8,6 +8,14 @@ use crate::explain::{read_job, read_placement};
 /// Gaps of one site cannot be closed and are told one by one.
 pub const WIDTHS: [u32; 4] = [0, 2, 3, 4];
 
+/// The gap that is forbidden: no filler closes it.
+pub(crate) const FORBIDDEN: u32 = 1;
+
+/// Whether steps count at a gap: below four sites, but not at the one that is forbidden.
+pub(crate) fn is_charged(gap: u32) -> bool {
+    gap < 4 && gap != FORBIDDEN
+}
+
 /// Empty sites between two cells, or between one and the row's end.
 #[derive(Clone, Copy, Debug, PartialEq, Eq)]
 pub struct Gap {

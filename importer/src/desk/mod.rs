@@ -16,6 +16,7 @@ pub use crate::explain::RawPose;
 pub use compare::{Change, Comparison, StepChanges};
 pub use fillers::Fillers;
 pub use gaps::{gaps, Gap, RowGaps, Tally, Untold, WIDTHS};
+pub(crate) use gaps::{is_charged, FORBIDDEN};
 pub(crate) use steps::steps_between;
 pub use steps::{steps, Diffusion, Step};
 pub use table::Table;

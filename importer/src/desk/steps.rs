@@ -1,12 +1,10 @@
 //! The steps of a legal placement, one by one.
 
+use super::gaps::is_charged;
 use crate::board::{Board, Stand};
 use crate::explain::{read_job, read_placement, Edge};
 use crate::Numbers;
 use std::fmt;
-
-/// The gaps at which a step is charged.
-const CHARGED: [u32; 3] = [0, 2, 3];
 
 /// Which transistors' diffusion.
 #[derive(Clone, Copy, Debug, PartialEq, Eq)]
@@ -80,7 +78,7 @@ pub fn steps(job: &[u8], placement: &[u8], numbers: &Numbers) -> Option<Vec<Step
 /// The steps of two neighbours of a row, each with the heights of the left and of the right cell.
 pub(crate) fn steps_between(left: &Stand, right: &Stand, row: u32) -> Vec<(Step, [u32; 2])> {
     let gap = right.pose.site.checked_sub(left.end());
-    let gap = gap.filter(|gap| CHARGED.contains(gap));
+    let gap = gap.filter(|gap| is_charged(*gap));
     let edges = left.edges(row).zip(right.edges(row));
     let (Some(gap), Some(([_, of_left], [of_right, _]))) = (gap, edges) else {
         return Vec::new();

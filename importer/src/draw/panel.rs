@@ -2,6 +2,7 @@
 
 use super::row::{Row, Span};
 use crate::board::{Board, Stand};
+use crate::desk::FORBIDDEN;
 use crate::explain::{read_placement, Job};
 use crate::{
     placement, refine, score, sentence, Broken, Numbers, Pose, Refused, Sentence, Verdict,
@@ -102,7 +103,8 @@ impl<'job> Panel<'job> {
         let stands = self.board.stands.iter();
         let cells = stands.flat_map(|stand| [stand.sites(), stand.given_sites()]);
         let gaps = self.rows.iter().flat_map(|row| &row.gaps);
-        let one_site = gaps.map(|gap| gap.span).filter(|span| span.sites() == 1);
+        let spans = gaps.map(|gap| gap.span);
+        let one_site = spans.filter(|span| span.sites() == FORBIDDEN);
         cells.chain(one_site)
     }
 }

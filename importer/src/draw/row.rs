@@ -1,7 +1,7 @@
 //! A row from left to right: its gaps, the steps between neighbours, and where cells overlap.
 
 use crate::board::{Board, Stand};
-use crate::desk::{self, steps_between, Step};
+use crate::desk::{self, is_charged, steps_between, Step, FORBIDDEN};
 
 pub struct Row {
     pub number: u32,
@@ -91,10 +91,10 @@ impl Gap {
         }
         let span = Span { from, end };
         let kind = match (gap.left.zip(gap.right), gap.width) {
-            (Some(_), 1) => GapKind::OneSite,
-            (Some(_), 2 | 3) => GapKind::Charged,
+            (Some(_), FORBIDDEN) => GapKind::OneSite,
+            (Some(_), width) if is_charged(width) => GapKind::Charged,
             (Some(_), _) => GapKind::Free,
-            (None, _) if span.sites() == 1 => GapKind::OneSite,
+            (None, _) if span.sites() == FORBIDDEN => GapKind::OneSite,
             (None, _) => GapKind::End,
         };
         Some(Gap { span, kind })

@@ -3,7 +3,7 @@ use Prim.Native.Nat.{_*_, _≤_}
 use mathlib.Core.Path.{ap, ap₂, _∙_}
 use native.Mathlib.Omega.{arith}
 use Rattle.definition.specs.Cost.{charge}
-use Rattle.gap_charge.specs.Charge.{charge-small}
+use Rattle.definition_laws.specs.Charges.{charge-most}
 use Rattle.score_steps.specs.Steps.{product-small}
 use borrow.Author.Needs.{needs}
 use Rattle.score_steps.proofs.steps_of.Statement.{statement}
@@ -33,17 +33,17 @@ shared-slice-read-gap-between-2 c = search needs
 gap-between-requires : tie.Need-gap-between-requires
 gap-between-requires c κs = search needs
 
-charge-at-requires : tie.Need-charge-at-requires
-charge-at-requires c κs = search needs
+charge-of-requires : tie.Need-charge-of-requires
+charge-of-requires c κs = search needs
 
 differing-heights-requires : tie.Need-differing-heights-requires
 differing-heights-requires c κs = search needs
 
 -- the product is at most 2
-small : (c : tie.After-differing-heights) → c .before .charge-at .result * c .differing-heights .result ≤ 2
+small : (c : tie.After-differing-heights) → c .before .charge-of .result * c .differing-heights .result ≤ 2
 small c =
     let gap = c .before .before .gap-between in
-    product-small (c .before .charge-at .result) (c .differing-heights .result) (omega (arith, c .before .charge-at .ensures, charge-small (gap .result)))
+    product-small (c .before .charge-of .result) (c .differing-heights .result) (omega (arith, c .before .charge-of .ensures, charge-most (gap .result)))
     (c .differing-heights .ensures .most)
 
 mul-result : tie.Need-mul-result
@@ -51,7 +51,7 @@ mul-result c = omega (arith, small c)
 
 returns : tie.Need-returns
 returns c = record {
-  same = ap₂ _*_ (c .before .charge-at .ensures ∙ ap charge (c .before .before .gap-between .ensures)) (c .differing-heights .ensures .same);
+  same = ap₂ _*_ (c .before .charge-of .ensures ∙ ap charge (c .before .before .gap-between .ensures)) (c .differing-heights .ensures .same);
   most = small c;
 }
 
@@ -67,7 +67,7 @@ steps-of-spec =
     mul-gap-between-4
     shared-slice-read-gap-between-2
     gap-between-requires
-    charge-at-requires
+    charge-of-requires
     differing-heights-requires
     mul-result
     returns)

@@ -4,10 +4,11 @@ use mathlib.Core.Path.{_≡_, refl, ap, ap₂, _∙_}
 use mathlib.Core.List.{List}
 use native.Mathlib.Omega.{arith}
 use borrow.Author.Tests.{lt-ltb, le-ltb, eq-eqb, ne-eqb}
+use Rattle.definition.specs.Rules.{forbiddenGap}
 use Rattle.definition.specs.Cost.{charge}
 use Rattle.theory_tables.specs.Steps.{B}
 use Rattle.search_row.specs.Words.{tollIn, tollAt, siteIn, endIn, differIn, weightIn}
-use Rattle.gap_charge.specs.Charge.{charge-small}
+use Rattle.definition_laws.specs.Charges.{charge-most}
 use Rattle.search_row.specs.Laws.{differ-low, pay-low, charged-low, weight-low}
 use borrow.Author.Needs.{needs}
 use Rattle.search_row.proofs.toll.Statement.{statement}
@@ -17,11 +18,11 @@ use Rattle.search_row.proofs.toll.Tie as tie
 over : (x y : ℕ) (p : ℕ → ℕ) → x < y → B ≡ tollAt x y p
 over x y p h = rw (lt-ltb x y h)
 
-near : (x y : ℕ) (p : ℕ → ℕ) → y ≤ x → x - y ≡ 1 → B ≡ tollAt x y p
-near x y p h e = rw (le-ltb x y h, eq-eqb (x - y) 1 e)
+near : (x y : ℕ) (p : ℕ → ℕ) → y ≤ x → x - y ≡ forbiddenGap → B ≡ tollAt x y p
+near x y p h e = rw (le-ltb x y h, eq-eqb (x - y) forbiddenGap e)
 
-apart : (x y : ℕ) (p : ℕ → ℕ) → y ≤ x → (x - y ≡ 1 → ⊥) → charge (x - y) * p (x - y) ≡ tollAt x y p
-apart x y p h n = rw (le-ltb x y h, ne-eqb (x - y) 1 n)
+apart : (x y : ℕ) (p : ℕ → ℕ) → y ≤ x → (x - y ≡ forbiddenGap → ⊥) → charge (x - y) * p (x - y) ≡ tollAt x y p
+apart x y p h n = rw (le-ltb x y h, ne-eqb (x - y) forbiddenGap n)
 
 -- from the sites and the heights as they were read
 same : (row : List ℕ) (k b m a : ℕ) {x y : ℕ} (d : ℕ) → x ≡ siteIn row m a → y ≡ endIn row k b → d ≡ differIn row k b m a
@@ -83,7 +84,7 @@ mul-result-2 c =
     let w : c .before .weight .result ≤ 131072 = omega
     (arith, c .before .weight .ensures, weight-low (a .m) gap (k .pre .left .words)) in
     let g : after-charge-of .charge-of .result ≤ 1 =
-    omega (arith, after-charge-of .charge-of .ensures, charge-small (after-site .site .result - after-charge-of .before .before .before .end .result)) in
+    omega (arith, after-charge-of .charge-of .ensures, charge-most (after-site .site .result - after-charge-of .before .before .before .end .result)) in
     omega (arith, charged-low g (pay-low w d))
 
 returns-3 : tie.Need-returns-3

@@ -74,6 +74,9 @@ returns-6 c =
     let j = one (k .args .header) (k .args .cell) in
     record { same = sym (filled-at j (k .args .side) 0 (k .args .number) (k .args .i) (c .if6 .taken)); low = omega (arith, k .pre .ranged .step) }
 
+cast-result : tie.Need-cast-result
+cast-result c = search needs
+
 add-result : tie.Need-add-result
 add-result c = omega arith
 
@@ -93,6 +96,9 @@ add-result-2 c =
     let else4 = c .before .before .before .before in
     let k = else4 .before .before .before .before in
     omega (arith, k .pre .ranged .fewSites, k .pre .ranged .displacement)
+
+cast-result-2 : tie.Need-cast-result-2
+cast-result-2 c = search needs
 
 sub-result : tie.Need-sub-result
 sub-result c =
@@ -126,8 +132,10 @@ cell-word-spec =
     returns-4
     returns-5
     returns-6
+    cast-result
     add-result
     returns-7
     add-result-2
+    cast-result-2
     sub-result
     returns-8)

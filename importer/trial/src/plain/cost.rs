@@ -1,5 +1,6 @@
 //! What a legal placement costs.
 
+use super::gap::is_charged;
 use super::job::Job;
 use super::order::Order;
 use super::placement::Pose;
@@ -28,9 +29,6 @@ impl Numbers {
         ]
     }
 }
-
-/// What a step costs at gaps 0 to 3, and from 4 on. Gap 1 is forbidden.
-const STEP_CHARGES: [u32; 5] = [1, u32::MAX, 1, 1, 0];
 
 /// The numbers of a placement that keeps the rules, and whose rows these are.
 pub fn numbers(job: &Job, placement: &[Pose], rows: &[Order; 2]) -> Numbers {
@@ -69,8 +67,9 @@ fn row_steps(job: &Job, placement: &[Pose], order: &Order, row: usize) -> u32 {
         let [left_p, left_n] = edge(left.cell, true);
         let [right_p, right_n] = edge(right.cell, false);
         let differing = u32::from(left_p != right_p) + u32::from(left_n != right_n);
-        let gap = usize::from(right.site - left.end);
-        steps += differing * STEP_CHARGES[gap.min(4)];
+        if is_charged(i32::from(right.site - left.end)) {
+            steps += differing;
+        }
     }
     steps
 }

@@ -4,6 +4,7 @@ pub mod brute;
 pub mod cells;
 pub mod cost;
 pub mod fault;
+mod gap;
 pub mod job;
 pub mod load;
 pub mod local;

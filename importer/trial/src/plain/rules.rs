@@ -1,6 +1,7 @@
 //! The eight rules, and the first one that a placement breaks.
 
 use super::cells::Cells;
+use super::gap::is_forbidden;
 use super::job::{Cell, Job};
 use super::order::{Member, Order};
 use super::placement::Pose;
@@ -80,7 +81,8 @@ fn overlap(_: &Job, row: &Order) -> Cells {
 /// Rule 5. Both neighbours break it.
 fn one_site_gap(_: &Job, row: &Order) -> Cells {
     let neighbours = row.neighbours();
-    let gaps = neighbours.filter(|(left, right)| right.site == left.end + 1);
+    let gaps = neighbours
+        .filter(|(left, right)| is_forbidden(i32::from(right.site) - i32::from(left.end)));
     gaps.flat_map(|(left, right)| [at(&left), at(&right)])
         .collect()
 }
@@ -115,7 +117,9 @@ fn tall_order_changed(job: &Job, placement: &[Pose]) -> Cells {
 /// row without cells has neither.
 fn one_site_row_end(job: &Job, row: &Order) -> Cells {
     let members = row.members();
-    let first = members.first().filter(|first| first.site == 1);
-    let last = members.last().filter(|last| job.sites - last.end == 1);
+    let before = |first: &&Member| i32::from(first.site);
+    let behind = |last: &&Member| i32::from(job.sites - last.end);
+    let first = members.first().filter(|first| is_forbidden(before(first)));
+    let last = members.last().filter(|last| is_forbidden(behind(last)));
     first.into_iter().chain(last).map(at).collect()
 }

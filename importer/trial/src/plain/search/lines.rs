@@ -3,6 +3,7 @@
 //! A pose is numbered 4 e + 2 layout + mark, where site = given + e - D; its variant is the last
 //! two bits.
 
+use super::super::gap::{is_charged, is_forbidden};
 use super::super::job::{Cell, Job};
 use super::super::placement::Pose;
 use super::NONE;
@@ -106,12 +107,12 @@ impl Line {
 
     /// Whether the cell may be its row's first: not behind just one empty site.
     pub fn may_open(&self, pose: usize) -> bool {
-        self.site(pose) != 1
+        !is_forbidden(self.site(pose))
     }
 
     /// Whether the cell may be its row's last: not before just one empty site.
     pub fn may_close(&self, pose: usize) -> bool {
-        self.row_end - self.end(pose) != 1
+        !is_forbidden(self.row_end - self.end(pose))
     }
 
     /// The pose with this number.
@@ -132,13 +133,14 @@ impl Line {
     /// What stands between this cell and its right neighbour charges; none if the gap is not
     /// allowed.
     pub fn between(&self, pose: usize, right: &Line, right_pose: usize, step: i32) -> Option<i32> {
-        match right.site(right_pose) - self.end(pose) {
-            0 | 2 | 3 => {
-                let steps = self.steps(pose % VARIANTS, right, right_pose % VARIANTS);
-                Some(step * steps)
-            }
-            4.. => Some(0),
-            _ => None,
+        let gap = right.site(right_pose) - self.end(pose);
+        if gap < 0 || is_forbidden(gap) {
+            return None;
         }
+        if !is_charged(gap) {
+            return Some(0);
+        }
+        let steps = self.steps(pose % VARIANTS, right, right_pose % VARIANTS);
+        Some(step * steps)
     }
 }
