@@ -1,6 +1,6 @@
 pub mod Sound
 pub mod Offers
-pub mod Charges
+pub mod Gaps
 pub mod Agree
 pub mod FirstBroken
 pub mod Search

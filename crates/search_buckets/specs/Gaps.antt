@@ -10,7 +10,7 @@ use lib.Dec.{ltb}
 use Rattle.lists.specs.Compare.{Le?, low, high, le?, Eq?, same, differs, eq?}
 use Rattle.definition.specs.Rules.{forbiddenGap, isForbidden}
 use Rattle.definition.specs.Cost.{charge}
-use Rattle.definition_laws.specs.Charges.{charge-far}
+use Rattle.definition_laws.specs.Gaps.{charge-far}
 use Rattle.theory_tables.specs.Steps.{B}
 use Rattle.search_row.specs.Words.{tollAt}
 

@@ -8,7 +8,7 @@ use native.Mathlib.Nat.{mul-le-mul}
 use borrow.Author.Tests.{ltb-true, eq-eqb, ne-eqb}
 use lib.Dec.{leb, ltb, eqb}
 use Rattle.definition.specs.Rules.{isForbidden}
-use Rattle.definition_laws.specs.Charges.{charge-most}
+use Rattle.definition_laws.specs.Gaps.{charge-most}
 use Rattle.theory_tables.specs.Steps.{B, offset, lastAt, isSource}
 use Rattle.search_row.specs.Words.{wordOf, weightIn, differIn, siteIn, endIn, tollIn, frontIn}
 use Rattle.search_row.specs.Words.{backIn, endToll, deckOf, thereIn, RowWords, apartWord, touchingWord}

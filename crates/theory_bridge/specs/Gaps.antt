@@ -4,12 +4,11 @@
 use Prim.Native.Nat.{ℕ, _+_, _-_, _≤_, _<_}
 use mathlib.Core.Path.{_≡_, refl, sym, ap, _∙_, subst}
 use mathlib.Core.Logic.{_≢_, _⊎_, inl, inr}
-use mathlib.Core.Bool.{Bool, true, false, _||_}
+use mathlib.Core.Bool.{true, not}
 use mathlib.Core.List.{List, [], _∷_, List·Memᴰ as In, List·Memᴰ·head as here, List·Memᴰ·tail as there}
 use native.Mathlib.Omega.{arith}
-use borrow.Author.Tests.{le-leb, eqb-false}
+use borrow.Author.Tests.{ne-eqb, eqb-false}
 use lib.ListN.{length}
-use lib.Dec.{leb, eqb}
 use Rattle.definition.specs.Lists.{all, sum}
 use Rattle.definition.specs.Job.{Job}
 use Rattle.definition.specs.Placement.{Placement}
@@ -17,7 +16,7 @@ use Rattle.definition.specs.Rules.{poseAt, siteAt, layoutAt, endAt, forbiddenGa
 use Rattle.definition.specs.Rules.{rowCells, order, Legal}
 use Rattle.definition.specs.Gaps.{gapsFrom, isClosable, Fillable}
 use Rattle.definition_laws.specs.Sound.{Sound}
-use Rattle.lists.specs.Compare.{Eq?, differs, eq?}
+use Rattle.definition_laws.specs.Gaps.{closable-same}
 use Rattle.lists.specs.Neighbours.{Next, Chain}
 use Rattle.theory_row.specs.Order.{sort, Rising, sort-size, sort-in, sort-rising}
 use Rattle.theory_row.specs.Rules.{Clear, NoGapOne}
@@ -34,14 +33,12 @@ use Rattle.theory_bridge.specs.Legal.{legal-pair}
 
 -- x is not right of y, and not just one site is empty between them
 abbrev Spaced : ℕ → ℕ → Type 0
-Spaced x y = (x ≤ y) × (y ≢ x + 1)
+Spaced x y = (x ≤ y) × (y ≢ x + forbiddenGap)
 
 spaced-closable : (x y : ℕ) → Spaced x y → isClosable (y - x) ≡ true
-spaced-closable x y g = go (eqb (y - x) 0) (eq? (y - x) 0)
-  where
-    go : (t : Bool) → Eq? (y - x) 0 t → (t || leb 2 (y - x)) ≡ true
-    go true v = refl
-    go false (differs d) = le-leb 2 (y - x) (omega arith)
+spaced-closable x y g =
+    let d : y - x ≢ forbiddenGap = λ e. g .1 (let h = g .0 in omega arith) in
+    closable-same (y - x) ∙ ap not (ne-eqb (y - x) forbiddenGap d)
 
 module _ (j : Job) (P : Placement) where
   -- from a site on, some cells and the row's end are spaced

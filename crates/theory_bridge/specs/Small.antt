@@ -14,7 +14,7 @@ use Rattle.definition.specs.Rules.{Legal, cellAt, poseAt, apart}
 use Rattle.definition.specs.Cost.{cost}
 use Rattle.definition_laws.specs.Sound.{Sound}
 use Rattle.definition_laws.specs.Offers.{limit-within}
-use Rattle.definition_laws.specs.Charges.{charge-most}
+use Rattle.definition_laws.specs.Gaps.{charge-most}
 use Rattle.lists.specs.Numbers.{from, length-from, in-from}
 use Rattle.theory_row.specs.Order.{sort-size}
 use Rattle.theory_row.specs.Rules.{sum, sumNext, sumNeighbours}

@@ -3,7 +3,7 @@ use Prim.Native.Nat.{_*_, _≤_}
 use mathlib.Core.Path.{ap, ap₂, _∙_}
 use native.Mathlib.Omega.{arith}
 use Rattle.definition.specs.Cost.{charge}
-use Rattle.definition_laws.specs.Charges.{charge-most}
+use Rattle.definition_laws.specs.Gaps.{charge-most}
 use Rattle.score_steps.specs.Steps.{product-small}
 use borrow.Author.Needs.{needs}
 use Rattle.score_steps.proofs.steps_of.Statement.{statement}

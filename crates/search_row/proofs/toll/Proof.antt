@@ -8,7 +8,7 @@ use Rattle.definition.specs.Rules.{forbiddenGap}
 use Rattle.definition.specs.Cost.{charge}
 use Rattle.theory_tables.specs.Steps.{B}
 use Rattle.search_row.specs.Words.{tollIn, tollAt, siteIn, endIn, differIn, weightIn}
-use Rattle.definition_laws.specs.Charges.{charge-most}
+use Rattle.definition_laws.specs.Gaps.{charge-most}
 use Rattle.search_row.specs.Laws.{differ-low, pay-low, charged-low, weight-low}
 use borrow.Author.Needs.{needs}
 use Rattle.search_row.proofs.toll.Statement.{statement}
