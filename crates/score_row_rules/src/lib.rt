@@ -145,9 +145,11 @@ fn mark_row_ends(words: &[u32], order: &[u32], at: usize, sites: u32, marks: &mu
         return;
     }
     let first = entry(order, at);
-    mark_if(gap_between(0, words[4 * first]) == FORBIDDEN_GAP, first, marks);
+    let before = gap_between(0, words[4 * first]);
+    mark_if(before == FORBIDDEN_GAP, first, marks);
     let last = entry(order, 63);
-    mark_if(gap_between(words[4 * last + 1], sites) == FORBIDDEN_GAP, last, marks);
+    let after = gap_between(words[4 * last + 1], sites);
+    mark_if(after == FORBIDDEN_GAP, last, marks);
 }
 
 // Rule 8.
