@@ -1,4 +1,4 @@
-// What a gap costs: "forbidden if the gap is 1, charged if it is below 4".
+// What a gap costs. Document 02, A5: "forbidden if the gap is 1, charged if it is below 4".
 ghost use mathlib.Core.Path.{_≡_};
 ghost use Rattle.definition.specs.Cost.{charge};
 
