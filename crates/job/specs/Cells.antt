@@ -4,6 +4,7 @@ use mathlib.Core.Path.{_≡_, ap, _∙_}
 use native.Mathlib.Omega.{arith}
 use lib.ListN.{length, take, length-take, length-map, List·getD-map, List·getD-eq-default}
 use lib.Seq.{getD-take, length-take-le}
+use Rattle.definition.specs.Job.{maxCells}
 use Rattle.definition.specs.Rules.{noCell, noPose, cellAt, poseAt}
 use Rattle.job.specs.declared.Job.{Job}
 use Rattle.job.specs.declared.Placement.{Placement}
@@ -23,7 +24,8 @@ cell-lacking job k h =
     List·getD-map cellOf cells k value.noCell
     ∙ ap cellOf (List·getD-eq-default cells value.noCell (simp length-take (omega arith)))
 
-pub cell-count : (job : Job) → length (job .cells) ≡ 64 → job .count ≤ 64 → length (jobOf job .cells) ≡ job .count
+pub cell-count : (job : Job) → length (job .cells) ≡ maxCells → job .count ≤ maxCells
+    → length (jobOf job .cells) ≡ job .count
 unfolding jobOf
 cell-count job e h =
     length-map (take (job .count) (job .cells)) cellOf ∙ length-take-le (job .count) (job .cells) (omega arith)

@@ -9,6 +9,7 @@ use lib.Seq.{getD-take}
 use lib.Dec.{leb, eqb}
 use Rattle.lists.specs.Compare.{Le?, low, high, le?}
 use Rattle.definition.specs.Job as paper
+use Rattle.definition.specs.Job.{maxWidth}
 use Rattle.definition.specs.Rules.{noLayout, offerOf}
 use Rattle.definition_laws.specs.Sound.{SoundCell}
 use Rattle.job.specs.declared.Cell.{Cell}
@@ -70,11 +71,11 @@ module _ (c : Cell) (l i : ℕ) where
   pub height-beyond : 2 ≤ l → 0 ≡ heightIn (cellOf c) l i
   height-beyond h = sym (ap (λ x. getD (x .heights) i 0) (layout-beyond c l h))
 
--- a sound cell is at most 64 sites wide, also in a layout that it lacks
-pub width-small : (h : paper.Header) (c : paper.Cell) (l : ℕ) → SoundCell h c → widthIn c l ≤ 64
+-- a sound cell is at most that wide, also in a layout that it lacks
+pub width-small : (h : paper.Header) (c : paper.Cell) (l : ℕ) → SoundCell h c → widthIn c l ≤ maxWidth
 width-small h c l s = go (leb (suc l) (length (c .layouts))) (le? (suc l) (length (c .layouts)))
   where
-    go : (t : Bool) → Le? (suc l) (length (c .layouts)) t → widthIn c l ≤ 64
+    go : (t : Bool) → Le? (suc l) (length (c .layouts)) t → widthIn c l ≤ maxWidth
     go true (low g) = s .layout l g .narrow
     go false (high g) = rw (widthIn, List·getD-eq-default (c .layouts) noLayout {n = l} (omega arith)) (omega arith)
 

@@ -10,6 +10,7 @@ use lib.Seq.{getD-set-same, getD-set-other, take-suc-set}
 use lib.Dec.{eqb}
 use borrow.Author.Tests.{eq-eqb, ne-eqb}
 use Rattle.lists.specs.Zeros.{zeros-at}
+use Rattle.definition.specs.Job.{maxCells}
 
 unfoldable pub markedIn : List ℕ → ℕ → Bool
 markedIn marks k = eqb (getD marks k 0) 1
@@ -24,35 +25,36 @@ marked-false marks k d = ne-eqb (getD marks k 0) 1 d
 
 -- two arrays with an entry for each of n cells
 pub record Arrays (n : ℕ) (a b : List ℕ) : Type 0 where
-  pub few : n ≤ 64
-  pub left : length a ≡ 64
-  pub right : length b ≡ 64
+  pub few : n ≤ maxCells
+  pub left : length a ≡ maxCells
+  pub right : length b ≡ maxCells
 
 -- the marks of a rule, of which those of n cells count
 pub record MarksOf (n : ℕ) (marks : List ℕ) : Type 0 where
-  pub few : n ≤ 64
-  pub long : length marks ≡ 64
+  pub few : n ≤ maxCells
+  pub long : length marks ≡ maxCells
 
 -- before and after: those cells below n that pass a test have been marked too
 pub record Added (n : ℕ) (f : ℕ → Bool) (marks marks′ : List ℕ) : Type 0 where
-  pub long : length marks′ ≡ 64
+  pub long : length marks′ ≡ maxCells
   pub each : (k : ℕ) → k < n → getD marks′ k 0 ≡ cond (f k) 1 (getD marks k 0)
 
 -- no cell below n is marked
 pub record Unmarked (n : ℕ) (marks : List ℕ) : Type 0 where
-  pub long : length marks ≡ 64
+  pub long : length marks ≡ maxCells
   pub zero : (k : ℕ) → k < n → getD marks k 0 ≡ 0
 
 -- the first r entries of an array of 64 are a list of cells
 pub record CellsListed (cells : List ℕ) (r : ℕ) (array : List ℕ) : Type 0 where
-  pub few : r ≤ 64
-  pub long : length array ≡ 64
+  pub few : r ≤ maxCells
+  pub long : length array ≡ maxCells
   pub entries : take r array ≡ cells
 
 -- ---- one test, another
 
 -- of a test that no cell passes none
-pub added-none : (n : ℕ) (f : ℕ → Bool) (m : List ℕ) → length m ≡ 64 → ((k : ℕ) → k < n → f k ≡ false) → Added n f m m
+pub added-none : (n : ℕ) (f : ℕ → Bool) (m : List ℕ) → length m ≡ maxCells → ((k : ℕ) → k < n → f k ≡ false)
+    → Added n f m m
 added-none n f m l h = record { long = l; each = λ k b. rw (h k b) }
 
 -- a test that agrees below n
@@ -77,8 +79,8 @@ added-both n a b f g m₀ m₁ m₂ h l p q = record {
 
 -- ---- marks where there were none
 
-pub zeros-unmarked : (n : ℕ) → Unmarked n (replicate 64 0)
-zeros-unmarked n = record { long = refl; zero = λ k h. zeros-at 64 k }
+pub zeros-unmarked : (n : ℕ) → Unmarked n (replicate maxCells 0)
+zeros-unmarked n = record { long = refl; zero = λ k h. zeros-at maxCells k }
 
 module _ {n : ℕ} {m : List ℕ} (u : Unmarked n m) where
   pub unmarked-none : (k : ℕ) → k < n → markedIn m k ≡ false
@@ -105,12 +107,12 @@ module _ {n : ℕ} {m : List ℕ} (u : Unmarked n m) where
 -- the cells from k on have been tried, and the marks of those below are as they were
 pub record Marking (f : ℕ → Bool) (n : ℕ) (marks marks′ : List ℕ) (k : ℕ) : Type 0 where
   pub below : k ≤ n
-  pub few : n ≤ 64
-  pub long : length marks′ ≡ 64
+  pub few : n ≤ maxCells
+  pub long : length marks′ ≡ maxCells
   pub tried : (i : ℕ) → k ≤ i → i < n → getD marks′ i 0 ≡ cond (f i) 1 (getD marks i 0)
   pub rest : (i : ℕ) → i < k → getD marks′ i 0 ≡ getD marks i 0
 
-pub marking-none : (f : ℕ → Bool) (n : ℕ) (m : List ℕ) → n ≤ 64 → length m ≡ 64 → Marking f n m m n
+pub marking-none : (f : ℕ → Bool) (n : ℕ) (m : List ℕ) → n ≤ maxCells → length m ≡ maxCells → Marking f n m m n
 marking-none f n m h l =
     record { below = omega arith; few = h; long = l; tried = λ i a b. absurd (omega arith); rest = λ i a. refl }
 

@@ -11,6 +11,7 @@ use lib.Dec.{leb, ltb, eqb}
 use borrow.Author.Tests.{le-ltb}
 use Rattle.lists.specs.Compare.{Le?, low, high, le?, Eq?, same, differs, eq?}
 use Rattle.lists.specs.Membership.{At, at-of}
+use Rattle.definition.specs.Job.{maxCells}
 use Rattle.definition.specs.Rules.{sort}
 use Rattle.job.specs.Parts.{standsIn}
 use Rattle.score_order.specs.Words.{siteIn, endIn, rowIn, cellsIn, Tail}
@@ -56,7 +57,8 @@ module _ {S : ℕ → Type 0} {f g : ℕ → ℕ} {i reach n : ℕ} (e : n ≡ s
 
 -- in the list from `at` on, every cell ends at or before the site of each that follows
 pub record InLine (words list : List ℕ) (at : ℕ) : Type 0 where
-  pub ahead : (p q : ℕ) → p < q → q < 64 → at ≤ p → at ≤ q → endIn words (getD list p 0) ≤ siteIn words (getD list q 0)
+  pub ahead : (p q : ℕ) → p < q → q < maxCells → at ≤ p → at ≤ q
+      → endIn words (getD list p 0) ≤ siteIn words (getD list q 0)
 
 -- of any two of the first n cells that stand in a row, one ends at or before the other's site
 pub record RowClear (words : List ℕ) (row n : ℕ) : Type 0 where

@@ -7,8 +7,8 @@ use mathlib.Core.List.{List}
 use lib.ListN.{length}
 use lib.Dec.{leb, ltb, eqb}
 use Rattle.definition.specs.Lists.{from, any}
-use Rattle.definition.specs.Job.{bothRows}
-use Rattle.score_order.specs.Words.{siteIn, endIn, rowIn, Words, RowRoom, Ordered}
+use Rattle.definition.specs.Job.{bothRows, maxCells}
+use Rattle.score_order.specs.Words.{wordCount, siteIn, endIn, rowIn, Words, RowRoom, Ordered}
 use Rattle.job.specs.declared.Job.{Job}
 use Rattle.job.specs.declared.Placement.{Placement}
 use Rattle.job.specs.Parts.{standsIn}
@@ -45,32 +45,32 @@ passesIn words n k = eqb (rowIn words k) 2 && any (wrongIn words k) (from 0 n)
 
 -- two cells to compare
 pub record Two (words : List ℕ) (k b : ℕ) : Type 0 where
-  pub long : length words ≡ 256
-  pub left : k < 64
-  pub right : b < 64
+  pub long : length words ≡ wordCount
+  pub left : k < maxCells
+  pub right : b < maxCells
 
 -- the words of n cells, and one to be compared with each of them
 pub record OneOfAll (words : List ℕ) (n k : ℕ) : Type 0 where
   pub cells : Words words n
-  pub cell : k < 64
+  pub cell : k < maxCells
 
 -- words of 64 cells, and an array that lists some of these
 pub record ListIn (words list : List ℕ) : Type 0 where
-  pub long : length words ≡ 256
+  pub long : length words ≡ wordCount
   pub room : RowRoom list
 
 -- what a rule is judged by, and its marks: the words of n cells
 pub record ByWords (words : List ℕ) (n : ℕ) (m : List ℕ) : Type 0 where
   pub cells : Words words n
-  pub marks : length m ≡ 64
+  pub marks : length m ≡ maxCells
 
 -- these and the order of both rows
 pub record ByOrder (words : List ℕ) (n : ℕ) (order₀ : List ℕ) (start₀ : ℕ) (order₁ : List ℕ) (start₁ : ℕ)
     (m : List ℕ) : Type 0 where
   pub rows : Ordered words n order₀ start₀ order₁ start₁
-  pub marks : length m ≡ 64
+  pub marks : length m ≡ maxCells
 
 -- a job and a placement
 pub record ByOffer (job : Job) (P : Placement) (m : List ℕ) : Type 0 where
   pub ready : Ready job P
-  pub marks : length m ≡ 64
+  pub marks : length m ≡ maxCells

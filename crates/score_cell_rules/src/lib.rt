@@ -132,7 +132,7 @@ fn in_line(words: &[u32], list: &[u32], at: usize) -> bool
 {
     let mut reach: u32 = 0;
     let mut i = at;
-    while i < 64 {
+    while i < Job::MAX_CELLS {
         let k = entry(list, i);
         if words[4 * k] < reach {
             return false;

@@ -7,6 +7,7 @@ use native.Mathlib.Omega.{arith}
 use native.Mathlib.Nat.{div-le-self}
 use lib.Dec.{eqb}
 use lib.IntN.{ℤ, pos, natAbs, _+ℤ_, _-ℤ_}
+use Rattle.definition.specs.Job.{maxCells, maxGiven}
 use Rattle.definition.specs.Lists.{from}
 use Rattle.definition.specs.Job as paper
 use Rattle.definition.specs.Placement as text
@@ -23,23 +24,23 @@ totalIn words k (suc n) = (pos (siteIn words k) -ℤ pos (givenIn words k)) +ℤ
 pub record Digits (words : List ℕ) (n : ℕ) : Type 0 where
   pub cells : Words words n
   pub site : (k : ℕ) → k < n → siteIn words k ≤ 9999
-  pub given : (k : ℕ) → k < n → givenIn words k ≤ 1023
+  pub given : (k : ℕ) → k < n → givenIn words k ≤ maxGiven
 
 -- such a site, and such a given site
 pub record InRange (s g : ℕ) : Type 0 where
   pub site : s ≤ 9999
-  pub given : g ≤ 1023
+  pub given : g ≤ maxGiven
 
 -- a sum of displacements that is not large, and the number of its cells
 pub record SumOver (s : ℤ) (n : ℕ) : Type 0 where
   pub small : natAbs s ≤ 1000000
-  pub few : n ≤ 64
+  pub few : n ≤ maxCells
 
 -- the size of a sum of displacements, and the number of cells, not 0, that its average is taken over
 pub record Average (d n : ℕ) : Type 0 where
   pub small : d ≤ 1000000
   pub some : 0 < n
-  pub few : n ≤ 64
+  pub few : n ≤ maxCells
 
 -- a sum over n cells, in hundredths of a site
 abbrev pub driftOf : ℤ → ℕ → ℤ

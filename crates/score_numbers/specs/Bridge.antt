@@ -4,6 +4,7 @@ use mathlib.Core.Path.{_≡_, sym, ap, ap₂, fun-ext}
 use mathlib.Core.List.{List}
 use native.Mathlib.Omega.{arith}
 use lib.ListN.{length}
+use Rattle.definition.specs.Job.{maxCells, maxWeight}
 use Rattle.definition.specs.Lists.{from, sum, keep}
 use Rattle.definition.specs.Job as paper
 use Rattle.definition.specs.Placement as text
@@ -33,18 +34,18 @@ pub record RowInWords (job : Job) (P : Placement) (words : List ℕ) (r : ℕ) :
 
 -- the weights of a header are in range
 pub record Weights (h : Header) : Type 0 where
-  pub step : h .step ≤ 1000
-  pub shift : h .shift ≤ 1000
-  pub mirror : h .mirror ≤ 1000
-  pub swap : h .swap ≤ 1000
+  pub step : h .step ≤ maxWeight
+  pub shift : h .shift ≤ maxWeight
+  pub mirror : h .mirror ≤ maxWeight
+  pub swap : h .swap ≤ maxWeight
 
 -- such weights, and the four numbers that they weigh, none so large that the cost does not fit
 pub record Weighable (h : Header) (a b c d : ℕ) : Type 0 where
   pub weights : Weights h
   pub steps : a ≤ 252
   pub shifted : b ≤ 800000
-  pub mirrored : c ≤ 64
-  pub changed : d ≤ 64
+  pub mirrored : c ≤ maxCells
+  pub changed : d ≤ maxCells
 
 -- ---- from the words
 
@@ -79,8 +80,8 @@ cost-small h a b c d n =
       arith,
       weighed (h .step) a 252 (w .step) (n .steps),
       weighed (h .shift) b 800000 (w .shift) (n .shifted),
-      weighed (h .mirror) c 64 (w .mirror) (n .mirrored),
-      weighed (h .swap) d 64 (w .swap) (n .changed),
+      weighed (h .mirror) c maxCells (w .mirror) (n .mirrored),
+      weighed (h .swap) d maxCells (w .swap) (n .changed),
     )
 
 pub steps-sum : (j : paper.Job) (P : text.Placement) (a b : ℕ) → a ≡ stepsIn j P 0 → b ≡ stepsIn j P 1

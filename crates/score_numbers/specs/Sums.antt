@@ -6,6 +6,7 @@ use mathlib.Core.List.{List, _∷_}
 use lib.ListN.{length}
 use native.Mathlib.Omega.{arith}
 use native.Mathlib.Nat.{mul-le-mul}
+use Rattle.definition.specs.Job.{maxWeight}
 use Rattle.definition.specs.Lists.{from, keep, sum}
 use lib.Dec.{eqb}
 use Rattle.definition.specs.Placement as text
@@ -59,5 +60,5 @@ count-most f k (suc n) = go (f k) (count-most f (suc k) n)
     go false h = omega arith
 
 -- a product of a weight and a bounded number
-pub weighed : (w x n : ℕ) → w ≤ 1000 → x ≤ n → w * x ≤ 1000 * n
+pub weighed : (w x n : ℕ) → w ≤ maxWeight → x ≤ n → w * x ≤ maxWeight * n
 weighed w x n h g = mul-le-mul h g

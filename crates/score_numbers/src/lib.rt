@@ -1,6 +1,7 @@
 // The numbers of a placement: steps, sites shifted, mirrored, changed, cost and drift.
 ghost use mathlib.Core.Path.{_≡_};
 ghost use Prim.Native.Nat.{_+_, _*_, _≤_};
+ghost use Rattle.definition.specs.Job.{maxCells};
 ghost use Rattle.definition.specs.Rules.{apart};
 ghost use Rattle.definition.specs.Cost.{stepsIn, isMirrored};
 ghost use Rattle.results.specs.Fields.{More};
@@ -87,7 +88,7 @@ fn shifted_in(words: &[u32], count: usize) -> u32
 
 // Cells whose mark is 1.
 fn mirrored_in(placement: Placement) -> u32
-    requires { ⌜ placement .count ≤ 64 ⌝ }
+    requires { ⌜ placement .count ≤ maxCells ⌝ }
     ensures { λ r. ⌜ r ≡ countFrom (isMirrored (placementOf placement)) 0 (placement .count) ⌝ }
 {
     let mut total: u32 = 0;
@@ -104,7 +105,7 @@ fn mirrored_in(placement: Placement) -> u32
 
 // Cells in layout 1.
 fn changed_in(placement: Placement) -> u32
-    requires { ⌜ placement .count ≤ 64 ⌝ }
+    requires { ⌜ placement .count ≤ maxCells ⌝ }
     ensures { λ r. ⌜ r ≡ countFrom (isChanged (placementOf placement)) 0 (placement .count) ⌝ }
 {
     let mut total: u32 = 0;
@@ -124,7 +125,7 @@ fn steps_row(job: Job, placement: Placement, words: &[u32], row: u32) -> u32
     requires { ⌜ RowInWords job placement (now words) row ⌝ }
     ensures { λ r. ⌜ RowSteps (stepsIn (jobOf job) (placementOf placement) row) r ⌝ }
 {
-    let mut order = [0u32; 64];
+    let mut order = [0u32; Job::MAX_CELLS];
     let at = order_row(words, job.count, row, &mut order);
     steps_in(job, placement, words, &order, at, row)
 }
@@ -164,7 +165,7 @@ pub fn numbers_of(job: Job, placement: Placement) -> Numbers
     requires { ⌜ Ready job placement ⌝ }
     ensures { λ r. ⌜ Counted (jobOf job) (placementOf placement) r ⌝ }
 {
-    let mut words = [0u32; 256];
+    let mut words = [0u32; score_order::WORDS];
     flatten(job, placement, &mut words);
     numbers_from(job, placement, &words)
 }

@@ -19,9 +19,9 @@ pub fn reason_of(job: Job, placement: Placement) -> Reason
     requires { ⌜ Ready job placement ⌝ }
     ensures { λ r. ⌜ ReasonIs (reasonOf (jobOf job) (placementOf placement)) r ⌝ }
 {
-    let mut marks = [0u32; 64];
+    let mut marks = [0u32; Job::MAX_CELLS];
     let verdict = judge(job, placement, &mut marks);
-    let mut cells = [0u32; 64];
+    let mut cells = [0u32; Job::MAX_CELLS];
     let count = list_marked(&marks, job.count, &mut cells);
     Reason {
         rule: verdict.rule,

@@ -9,6 +9,7 @@ use lib.ListN.{length, getD, drop, set, length-set, length-drop, drop-of-length-
 use lib.Seq.{drop-cons, getD-drop, getD-set-same, getD-set-other}
 use lib.Dec.{eqb}
 use borrow.Author.Tests.{eq-eqb, ne-eqb}
+use Rattle.definition.specs.Job.{maxCells}
 use Rattle.definition.specs.Rules.{isForbidden, isFirst, isLast}
 use Rattle.score_order.specs.Words.{siteIn, endIn}
 use Rattle.score_cell_rules.specs.Marks.{Added, added-both, added-none, added-below}
@@ -70,20 +71,20 @@ module _ (words l : List ℕ) (sites at : ℕ) where
   -- the first has been marked, and then the last
   pub ends-marked : (a b n f g : ℕ) (m₀ m₁ m₂ : List ℕ) → length l ≡ suc n → at ≤ n
       → a ≡ getD l at 0 → b ≡ getD l n 0 → f ≡ siteIn words a → g ≡ sites - endIn words b
-      → Added 64 (oneCell a (isForbidden f)) m₀ m₁ → Added 64 (oneCell b (isForbidden g)) m₁ m₂
-      → Added 64 (atEndIn words sites (drop at l)) m₀ m₂
+      → Added maxCells (oneCell a (isForbidden f)) m₀ m₁ → Added maxCells (oneCell b (isForbidden g)) m₁ m₂
+      → Added maxCells (atEndIn words sites (drop at l)) m₀ m₂
   ends-marked a b n f g m₀ m₁ m₂ e h ea eb ef eg p q =
       let first : ℕ → Bool = oneCell a (isForbidden f) in
       let last : ℕ → Bool = oneCell b (isForbidden g) in
-      added-below 64 (λ k. first k || (last k || false)) (atEndIn words sites (drop at l)) m₀ m₂
+      added-below maxCells (λ k. first k || (last k || false)) (atEndIn words sites (drop at l)) m₀ m₂
       (λ k _.
       ap₂ _||_ (ap (λ x. oneCell a (isForbidden x) k) ef) (or-false (last k) ∙ ap (λ x. oneCell b (isForbidden x) k) eg)
       ∙ sym (end-cells a b n k e h ea eb))
-      (added-both 64 64 64 first last m₀ m₁ m₂ (omega arith) (omega arith) p q)
+      (added-both maxCells maxCells maxCells first last m₀ m₁ m₂ (omega arith) (omega arith) p q)
 
 -- one cell, which breaks a rule or not
-module _ (a : ℕ) (breaks : Bool) (m : List ℕ) (long : length m ≡ 64) where
-  pub cell-hit : a < 64 → breaks ≡ true → Added 64 (oneCell a breaks) m (set m a 1)
+module _ (a : ℕ) (breaks : Bool) (m : List ℕ) (long : length m ≡ maxCells) where
+  pub cell-hit : a < maxCells → breaks ≡ true → Added maxCells (oneCell a breaks) m (set m a 1)
   cell-hit h t = record { long = simp length-set long; each = λ k _. go k (ℕ-discrete k a) }
     where
       there : a < length m
@@ -93,5 +94,5 @@ module _ (a : ℕ) (breaks : Bool) (m : List ℕ) (long : length m ≡ 64) where
       go k (yes e) = rw (e, getD-set-same m a 1 0 there, eq-eqb a a refl, t)
       go k (no d) = rw (getD-set-other m a k 1 0 d, ne-eqb k a d)
 
-  pub cell-miss : breaks ≡ false → Added 64 (oneCell a breaks) m m
-  cell-miss t = added-none 64 (oneCell a breaks) m long (λ k _. ap (λ x. eqb k a && x) t ∙ and-false (eqb k a))
+  pub cell-miss : breaks ≡ false → Added maxCells (oneCell a breaks) m m
+  cell-miss t = added-none maxCells (oneCell a breaks) m long (λ k _. ap (λ x. eqb k a && x) t ∙ and-false (eqb k a))

@@ -10,6 +10,7 @@ use lib.Seq.{drop-cons, getD-set-same, getD-set-other}
 use lib.Dec.{eqb}
 use borrow.Author.Tests.{eq-eqb, ne-eqb}
 use Rattle.lists.specs.Tails.{tail-cons, tail-last}
+use Rattle.definition.specs.Job.{maxCells}
 use Rattle.definition.specs.Lists.{anyNext}
 use Rattle.definition.specs.Rules.{forbiddenGap, isForbidden}
 use Rattle.score_order.specs.Words.{siteIn, endIn}
@@ -31,8 +32,8 @@ module _ (words l : List ℕ) where
 -- ---- marks
 
 -- two cells more
-added-two : (f : ℕ → Bool) (m m′ : List ℕ) (a b : ℕ) → a < 64 → b < 64 → Added 64 f m m′
-    → Added 64 (λ k. (eqb k a || eqb k b) || f k) m (set (set m′ a 1) b 1)
+added-two : (f : ℕ → Bool) (m m′ : List ℕ) (a b : ℕ) → a < maxCells → b < maxCells → Added maxCells f m m′
+    → Added maxCells (λ k. (eqb k a || eqb k b) || f k) m (set (set m′ a 1) b 1)
 added-two f m m′ a b ha hb p =
     record { long = simp length-set (p .long); each = λ k h. go k h (ℕ-discrete k a) (ℕ-discrete k b) }
   where
@@ -42,7 +43,7 @@ added-two f m m′ a b ha hb p =
     lb : b < length (set m′ a 1)
     lb = simp length-set (omega (arith, p .long))
 
-    go : (k : ℕ) → k < 64 → Dec (k ≡ a) → Dec (k ≡ b)
+    go : (k : ℕ) → k < maxCells → Dec (k ≡ a) → Dec (k ≡ b)
         → getD (set (set m′ a 1) b 1) k 0 ≡ cond ((eqb k a || eqb k b) || f k) 1 (getD m k 0)
     go k h (yes e) (yes q) = rw (q, getD-set-same (set m′ a 1) b 1 0 lb, eq-eqb b a (sym q ∙ e))
     go k h (yes e) (no d) =
@@ -79,11 +80,11 @@ module _ (words l m m′ : List ℕ) (i n a b g : ℕ) (q : n ≡ suc i) (h : n 
       near-more words l i n k q h
       ∙ ap₂ (λ x y. oneSite words k x y || nearIn words (drop n l) k) (sym ea) (sym eb)
 
-  pub near-one : a < 64 → b < 64 → g ≡ forbiddenGap → Added 64 (nearIn words (drop n l)) m m′
-      → Added 64 (nearIn words (drop i l)) m (set (set m′ a 1) b 1)
+  pub near-one : a < maxCells → b < maxCells → g ≡ forbiddenGap → Added maxCells (nearIn words (drop n l)) m m′
+      → Added maxCells (nearIn words (drop i l)) m (set (set m′ a 1) b 1)
   near-one ha hb e p =
       added-below
-      64
+      maxCells
       (λ k. (eqb k a || eqb k b) || nearIn words (drop n l) k)
       (nearIn words (drop i l))
       m
@@ -91,8 +92,8 @@ module _ (words l m m′ : List ℕ) (i n a b g : ℕ) (q : n ≡ suc i) (h : n 
       (λ k _. sym (pair k ∙ ap (λ t. t || nearIn words (drop n l) k) (site-one words k a b (sym eg ∙ e))))
       (added-two (nearIn words (drop n l)) m m′ a b ha hb p)
 
-  pub near-other : (g ≡ forbiddenGap → ⊥) → Added 64 (nearIn words (drop n l)) m m′
-      → Added 64 (nearIn words (drop i l)) m m′
+  pub near-other : (g ≡ forbiddenGap → ⊥) → Added maxCells (nearIn words (drop n l)) m m′
+      → Added maxCells (nearIn words (drop i l)) m m′
   near-other d p =
-      added-below 64 (nearIn words (drop n l)) (nearIn words (drop i l)) m m′
+      added-below maxCells (nearIn words (drop n l)) (nearIn words (drop i l)) m m′
       (λ k _. sym (pair k ∙ ap (λ t. t || nearIn words (drop n l) k) (site-other words k a b (λ e. d (eg ∙ e))))) p

@@ -7,10 +7,10 @@ use mathlib.Core.List.{List}
 use lib.ListN.{length, getD}
 use lib.Dec.{leb, eqb}
 use Rattle.definition.specs.Lists.{any, anyNext}
-use Rattle.definition.specs.Job.{bothRows}
+use Rattle.definition.specs.Job.{bothRows, maxCells}
 use Rattle.definition.specs.Rules.{apart, placeIn, isForbidden, isFirst, isLast}
 use Rattle.job.specs.Parts.{standsIn}
-use Rattle.score_order.specs.Words.{siteIn, endIn, rowIn, cellsIn, orderIn, Words, Tail, RowRoom}
+use Rattle.score_order.specs.Words.{wordCount, siteIn, endIn, rowIn, cellsIn, orderIn, Words, Tail, RowRoom}
 
 -- rule 5: k is one of two neighbours with one empty site between them; in a list of cells, and in either row
 abbrev pub oneSite : List ℕ → ℕ → ℕ → ℕ → Bool
@@ -54,25 +54,25 @@ oneCell a breaks k = eqb k a && breaks
 
 -- a list of cells from `at` on, and the marks
 pub record AlongRow (words order : List ℕ) (at : ℕ) (m : List ℕ) : Type 0 where
-  pub long : length words ≡ 256
+  pub long : length words ≡ wordCount
   pub room : RowRoom order
-  pub start : at ≤ 64
-  pub marks : length m ≡ 64
+  pub start : at ≤ maxCells
+  pub marks : length m ≡ maxCells
 
 -- the order of a row, and the marks
 pub record RowOrder (words : List ℕ) (n row : ℕ) (order : List ℕ) (start : ℕ) (m : List ℕ) : Type 0 where
   pub cells : Words words n
   pub tail : Tail start order (orderIn words row n)
-  pub marks : length m ≡ 64
+  pub marks : length m ≡ maxCells
 
 -- two places for each cell, and the marks
 pub record Ranked (words : List ℕ) (n : ℕ) (place rank m : List ℕ) : Type 0 where
   pub cells : Words words n
-  pub places : length place ≡ 64
-  pub ranks : length rank ≡ 64
-  pub marks : length m ≡ 64
+  pub places : length place ≡ maxCells
+  pub ranks : length rank ≡ maxCells
+  pub marks : length m ≡ maxCells
 
 -- a cell, and the marks
 pub record Markable (k : ℕ) (m : List ℕ) : Type 0 where
-  pub cell : k < 64
-  pub marks : length m ≡ 64
+  pub cell : k < maxCells
+  pub marks : length m ≡ maxCells

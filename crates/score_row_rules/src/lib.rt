@@ -1,6 +1,7 @@
 // Rules 5, 6 and 8, which are judged along a row: the cells that break them are marked, row after row.
 ghost use mathlib.Core.Path.{_≡_};
 ghost use lib.ListN.{drop};
+ghost use Rattle.definition.specs.Job.{maxCells};
 ghost use Rattle.score_order.specs.Words.{cellsIn, orderIn, WordsAt};
 ghost use Rattle.score_cell_rules.specs.Tests.{ByOrder};
 ghost use Rattle.score_cell_rules.specs.Marks.{Added};
@@ -8,7 +9,10 @@ ghost use Rattle.score_row_rules.specs.Tests.{nearIn, nearAny, outBy, ou
 ghost use Rattle.score_row_rules.specs.Tests.{oneCell, atEndIn, atEndAny};
 ghost use Rattle.score_row_rules.specs.Tests.{AlongRow, RowOrder, Ranked, Markable};
 use gap_charge::FORBIDDEN_GAP;
+use job::Job;
 use job::stands;
+use score_order::AWAY;
+use score_order::LAST;
 use score_order::entry;
 use score_order::places;
 use score_order::row_cells;
@@ -19,10 +23,10 @@ use score_words::gap_between;
 // `at` on.
 fn mark_row_gaps(words: &[u32], order: &[u32], at: usize, marks: &mut [u32])
     requires { ⌜ AlongRow (now words) (now order) at (now marks) ⌝ }
-    ensures { λ r. ⌜ Added 64 (nearIn (now (words .entry)) (drop at (now (order .entry))))
+    ensures { λ r. ⌜ Added maxCells (nearIn (now (words .entry)) (drop at (now (order .entry))))
         (now (marks .entry)) (now (marks .exit)) ⌝ }
 {
-    let mut i: usize = 63;
+    let mut i = LAST;
     while at < i {
         i -= 1;
         let a = entry(order, i);
@@ -97,11 +101,11 @@ fn mark_row_places(
         (orderIn (now (words .entry)) row count) (cellsIn (now (words .entry)) row 0 count))
         (now (marks .entry)) (now (marks .exit)) ⌝ }
 {
-    let mut cells = [0u32; 64];
+    let mut cells = [0u32; Job::MAX_CELLS];
     let first = row_cells(words, count, row, &mut cells);
-    let mut place = [64u32; 64];
+    let mut place = [AWAY; Job::MAX_CELLS];
     places(order, start, &mut place);
-    let mut rank = [64u32; 64];
+    let mut rank = [AWAY; Job::MAX_CELLS];
     places(&cells, first, &mut rank);
     mark_out(words, count, row, limit, &place, &rank, marks);
 }
@@ -127,7 +131,7 @@ pub fn mark_places(
 // Cell k is marked if it breaks a rule.
 fn mark_if(breaks: bool, k: usize, marks: &mut [u32])
     requires { ⌜ Markable k (now marks) ⌝ }
-    ensures { λ r. ⌜ Added 64 (oneCell k breaks) (now (marks .entry)) (now (marks .exit)) ⌝ }
+    ensures { λ r. ⌜ Added maxCells (oneCell k breaks) (now (marks .entry)) (now (marks .exit)) ⌝ }
 {
     if breaks {
         marks[k] = 1;
@@ -138,16 +142,16 @@ fn mark_if(breaks: bool, k: usize, marks: &mut [u32])
 // are the entries of `order` from `at` on. An empty row is free.
 fn mark_row_ends(words: &[u32], order: &[u32], at: usize, sites: u32, marks: &mut [u32])
     requires { ⌜ AlongRow (now words) (now order) at (now marks) ⌝ }
-    ensures { λ r. ⌜ Added 64 (atEndIn (now (words .entry)) sites (drop at (now (order .entry))))
+    ensures { λ r. ⌜ Added maxCells (atEndIn (now (words .entry)) sites (drop at (now (order .entry))))
         (now (marks .entry)) (now (marks .exit)) ⌝ }
 {
-    if at == 64 {
+    if at == Job::MAX_CELLS {
         return;
     }
     let first = entry(order, at);
     let before = gap_between(0, words[4 * first]);
     mark_if(before == FORBIDDEN_GAP, first, marks);
-    let last = entry(order, 63);
+    let last = entry(order, LAST);
     let after = gap_between(words[4 * last + 1], sites);
     mark_if(after == FORBIDDEN_GAP, last, marks);
 }

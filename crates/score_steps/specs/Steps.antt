@@ -8,6 +8,7 @@ use native.Mathlib.Nat.{add-zero}
 use lib.ListN.{length, getD, drop}
 use lib.Seq.{drop-cons}
 use Rattle.lists.specs.Tails.{tail-cons, tail-last}
+use Rattle.definition.specs.Job.{maxCells}
 use Rattle.definition.specs.Lists.{sumNext}
 use Rattle.definition.specs.Job as paper
 use Rattle.definition.specs.Placement as text
@@ -19,7 +20,7 @@ use Rattle.job.specs.Value as value
 use Rattle.job.specs.Value.{cellOf, poseOf, jobOf, placementOf}
 use Rattle.job.specs.Parts.{heightIn}
 use Rattle.job.specs.Cells.{cell-there, pose-there}
-use Rattle.score_order.specs.Words.{siteIn, endIn, RowRoom}
+use Rattle.score_order.specs.Words.{wordCount, siteIn, endIn, RowRoom}
 use Rattle.score_order.specs.Below.{Below}
 use Rattle.score_words.specs.Flat.{Flat}
 use Rattle.score_steps.specs.Heights.{leftOf, rightOf, unlike, differingOf, differing-of}
@@ -28,19 +29,19 @@ use Rattle.score_steps.specs.Heights.{leftOf, rightOf, unlike, differing
 
 -- words of 64 cells, and two of these, a to the left, as neighbours in row r
 pub record Facing (words : List ℕ) (a b r : ℕ) : Type 0 where
-  pub long : length words ≡ 256
-  pub left : a < 64
-  pub right : b < 64
+  pub long : length words ≡ wordCount
+  pub left : a < maxCells
+  pub right : b < maxCells
   pub row : r ≤ 1
 
 -- a job and a placement of it, their words, and cells as those of row r: the entries of an array from `at` on
 pub record PlacedRow (job : Job) (P : Placement) (words array : List ℕ) (at r : ℕ) : Type 0 where
   pub row : r ≤ 1
-  pub few : job .count ≤ 64
+  pub few : job .count ≤ maxCells
   pub each : P .count ≡ job .count
   pub flat : Flat (jobOf job) (placementOf P) (job .count) words
   pub room : RowRoom array
-  pub start : at ≤ 64
+  pub start : at ≤ maxCells
   pub cells : Below (job .count) (drop at array)
 
 -- ---- the heights

@@ -15,6 +15,7 @@ use job::Placement;
 use job::Pose;
 use job::first_of;
 use job::height_of;
+use score_order::LAST;
 use score_order::entry;
 use score_words::gap_between;
 
@@ -93,7 +94,7 @@ pub fn steps_in(
         (drop at (now (order .entry)))) r ⌝ }
 {
     let mut total: u32 = 0;
-    let mut i: usize = 63;
+    let mut i = LAST;
     while at < i {
         i -= 1;
         let a = entry(order, i);

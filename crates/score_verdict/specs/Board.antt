@@ -6,6 +6,7 @@ use mathlib.Core.Path.{_≡_, sym, ap, _∙_}
 use mathlib.Core.Bool.{Bool}
 use mathlib.Core.List.{List}
 use lib.ListN.{length}
+use Rattle.definition.specs.Job.{maxCells}
 use Rattle.definition.specs.Job as paper
 use Rattle.definition.specs.Placement as text
 use Rattle.definition.specs.Rules.{breaks1, breaks3, rules, ruleOf}
@@ -25,10 +26,10 @@ use Rattle.score_verdict.specs.Flat.{flat2, flat4, flat5, flat6, flat7, 
 
 -- the sizes of the arrays, and the orders
 pub record Laid (limits : Limits) (unoffered far words order₀ order₁ m : List ℕ) : Type 0 where
-  pub offers : length unoffered ≡ 64
-  pub shifts : length far ≡ 64
+  pub offers : length unoffered ≡ maxCells
+  pub shifts : length far ≡ maxCells
   pub ordered : Ordered words (limits .cells) order₀ (limits .start0) order₁ (limits .start1)
-  pub marks : length m ≡ 64
+  pub marks : length m ≡ maxCells
 
 -- the same, and no cell is marked yet
 pub record LaidClear (limits : Limits) (unoffered far words order₀ order₁ m : List ℕ) : Type 0 where
@@ -52,7 +53,7 @@ pub record Board (j : paper.Job) (P : text.Placement) (limits : Limits) (unoffer
 
 -- rule number `rule` has marked its cells
 pub record RuleMarked (limits : Limits) (unoffered far words : List ℕ) (rule : ℕ) (marks marks′ : List ℕ) : Type 0 where
-  pub long : length marks′ ≡ 64
+  pub long : length marks′ ≡ maxCells
   pub added : (j : paper.Job) (P : text.Placement) → Board j P limits unoffered far words
       → Added (limits .cells) (ruleOf j P rule) marks marks′
 
@@ -119,7 +120,7 @@ module _ {limits : Limits} {unoffered far words m m′ : List ℕ} {rule : ℕ} 
       ∙ ap (λ x. ruleOf j P x k) (sym e))
 
 -- a number that no rule has
-pub marks-none : {limits : Limits} {unoffered far words m : List ℕ} {rule : ℕ} → length m ≡ 64
+pub marks-none : {limits : Limits} {unoffered far words m : List ℕ} {rule : ℕ} → length m ≡ maxCells
     → ((j : paper.Job) (P : text.Placement) → 1 ≤ rule → rule ≤ length (rules j P) → ⊥)
     → RuleMarked limits unoffered far words rule m m
 marks-none {limits} {unoffered} {far} {words} {m} {rule} l h = record {

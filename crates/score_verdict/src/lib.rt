@@ -100,16 +100,16 @@ pub fn judge(job: Job, placement: Placement, marks: &mut [u32]) -> Verdict
     requires { ⌜ ReadyClear job placement (now marks) ⌝ }
     ensures { λ r. ⌜ VerdictMarked (jobOf job) (placementOf placement) (job .count) r (now (marks .exit)) ⌝ }
 {
-    let mut words = [0u32; 256];
+    let mut words = [0u32; score_order::WORDS];
     flatten(job, placement, &mut words);
-    let mut unoffered = [0u32; 64];
+    let mut unoffered = [0u32; Job::MAX_CELLS];
     mark_unoffered(1, job, placement, &mut unoffered);
-    let mut far = [0u32; 64];
+    let mut far = [0u32; Job::MAX_CELLS];
     mark_unoffered(3, job, placement, &mut far);
     let count = job.count;
-    let mut order0 = [0u32; 64];
+    let mut order0 = [0u32; Job::MAX_CELLS];
     let start0 = order_row(&words, count, 0, &mut order0);
-    let mut order1 = [0u32; 64];
+    let mut order1 = [0u32; Job::MAX_CELLS];
     let start1 = order_row(&words, count, 1, &mut order1);
     let header = job.header;
     let limits = Limits {
@@ -127,6 +127,6 @@ pub fn verdict_of(job: Job, placement: Placement) -> Verdict
     requires { ⌜ Ready job placement ⌝ }
     ensures { λ r. ⌜ Judged (verdict (jobOf job) (placementOf placement)) r ⌝ }
 {
-    let mut marks = [0u32; 64];
+    let mut marks = [0u32; Job::MAX_CELLS];
     judge(job, placement, &mut marks)
 }

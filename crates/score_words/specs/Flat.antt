@@ -9,7 +9,7 @@ use Rattle.definition.specs.Rules.{cellAt, siteAt, endAt}
 use Rattle.job.specs.declared.Job.{Job}
 use Rattle.job.specs.declared.Placement.{Placement}
 use Rattle.job.specs.Ready.{Ready}
-use Rattle.score_order.specs.Words.{siteIn, endIn, rowIn, givenIn}
+use Rattle.score_order.specs.Words.{wordCount, siteIn, endIn, rowIn, givenIn}
 
 -- four words for cell k
 abbrev pub four : List ℕ → ℕ → ℕ → ℕ → ℕ → ℕ → List ℕ
@@ -25,13 +25,13 @@ pub record Shows (j : paper.Job) (P : text.Placement) (words : List ℕ) (k : �
 
 -- of every cell, also of those that the job lacks; the job has so many cells
 pub record Flat (j : paper.Job) (P : text.Placement) (n : ℕ) (words : List ℕ) : Type 0 where
-  pub long : length words ≡ 256
+  pub long : length words ≡ wordCount
   pub count : length (j .cells) ≡ n
   pub shows : (k : ℕ) → Shows j P words k
 
 -- what is lent for the words
 pub record Blank (words : List ℕ) : Type 0 where
-  pub long : length words ≡ 256
+  pub long : length words ≡ wordCount
   pub zero : (i : ℕ) → getD words i 0 ≡ 0
 
 -- a job and a placement that may be scored, and what is lent for their words

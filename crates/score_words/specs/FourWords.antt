@@ -7,6 +7,7 @@ use native.Mathlib.Omega.{arith}
 use lib.ListN.{length, getD, set, replicate, length-set}
 use lib.Seq.{getD-set-same, getD-set-other}
 use Rattle.lists.specs.Zeros.{zeros-at}
+use Rattle.definition.specs.Job.{maxCells}
 use Rattle.definition.specs.Job as paper
 use Rattle.definition.specs.Placement as text
 use Rattle.definition.specs.Rules.{noCell, noPose, cellAt, poseAt}
@@ -16,10 +17,11 @@ use Rattle.job.specs.Value as value
 use Rattle.job.specs.Value.{cellOf, jobOf, placementOf}
 use Rattle.job.specs.Parts.{widthIn}
 use Rattle.job.specs.Cells.{cell-there, pose-there}
+use Rattle.score_order.specs.Words.{wordCount}
 use Rattle.score_words.specs.Flat.{four, Shows, Blank}
 
-module _ (w : List ℕ) (k a b c d : ℕ) (long : length w ≡ 256) (h : k < 64) where
-  pub four-long : length (four w k a b c d) ≡ 256
+module _ (w : List ℕ) (k a b c d : ℕ) (long : length w ≡ wordCount) (h : k < maxCells) where
+  pub four-long : length (four w k a b c d) ≡ wordCount
   four-long = simp length-set long
 
   pub four-other : (i : ℕ) → i ≢ 4 * k → i ≢ 4 * k + 1 → i ≢ 4 * k + 2 → i ≢ 4 * k + 3
@@ -82,7 +84,7 @@ shows-keep j P w w′ k i f h s = record {
 
 -- the words of cell k, once they are written
 pub shows-four : (job : Job) (P : Placement) (w : List ℕ) (k end : ℕ)
-    → length w ≡ 256 → k < 64 → k < job .count → k < P .count
+    → length w ≡ wordCount → k < maxCells → k < job .count → k < P .count
     → end ≡ value.poseAt P k .site + widthIn (cellOf (value.cellAt job k)) (value.poseAt P k .layout)
     → Shows (jobOf job) (placementOf P)
     (four w k (value.poseAt P k .site) end (value.cellAt job k .row) (value.cellAt job k .given)) k
@@ -107,5 +109,5 @@ shows-none j P w k f c p = record {
   given = f (4 * k + 3) (omega arith) ∙ sym (ap (λ x. x .given) c);
 }
 
-pub zeros-blank : Blank (replicate 256 0)
-zeros-blank = record { long = refl; zero = zeros-at 256 }
+pub zeros-blank : Blank (replicate wordCount 0)
+zeros-blank = record { long = refl; zero = zeros-at wordCount }

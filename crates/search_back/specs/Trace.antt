@@ -3,6 +3,7 @@ use Prim.Native.Nat.{ℕ, suc, _+_, _≤_, _<_}
 use mathlib.Core.Path.{_≡_}
 use mathlib.Core.List.{List}
 use lib.ListN.{length}
+use Rattle.definition.specs.Job.{maxTall}
 use Rattle.search_store.specs.Map.{Pages, pagesFrom, maxKept}
 use Rattle.search_row.specs.Words.{deckIn, posIn, withCells}
 use Rattle.search_row.specs.declared.Sizes.{Sizes}
@@ -26,7 +27,7 @@ pub record CaseOf (R talls poses I q₀ q₁ a : ℕ) : Type 0 where
 
 -- its back pointer is in the store
 pub record PointerRoom (I q₀ q₁ a : ℕ) (st : List ℕ) : Type 0 where
-  pub stage : I ≤ 24
+  pub stage : I ≤ maxTall
   pub state₀ : q₀ < 12
   pub state₁ : q₁ < 12
   pub pose : a < poseSlots

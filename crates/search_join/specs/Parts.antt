@@ -8,6 +8,7 @@ use native.Mathlib.Omega.{arith}
 use native.Mathlib.Decide.{decLt}
 use lib.ListN.{length, getD, set, length-set}
 use lib.Seq.{getD-set-same, getD-set-other}
+use Rattle.definition.specs.Job.{maxTall}
 use Rattle.search_store.specs.Map.{caseAt, pointerAt, Pages, Slot, maxLanes}
 use Rattle.theory_tables.specs.Steps.{B, Cases, SegmentCosts, joinPose, nextCases, poseSlots}
 use Rattle.search_lanes.specs.Store.{Low}
@@ -79,7 +80,7 @@ last k n h = go (decLt k n)
 
 module _ (starts lanes I : ℕ) where
   -- what a part leaves as it was, if its cases are in the map
-  module _ (P : ℕ → ℕ → ℕ → Type 0) {x y : List ℕ} (b : I ≤ 24)
+  module _ (P : ℕ → ℕ → ℕ → Type 0) {x y : List ℕ} (b : I ≤ maxTall)
       (room : (q₀ q₁ a : ℕ) → P q₀ q₁ a → (q₀ < 12) × (q₁ < 12) × (a < poseSlots))
       (p : CasesMade starts lanes I P x y) where
     pub kept-case : (J q₀ q₁ a : ℕ) → Slot J q₀ q₁ a → (J ≡ suc I → P q₀ q₁ a → ⊥) → SameCase J q₀ q₁ a x y
@@ -158,7 +159,7 @@ module _ (starts lanes I : ℕ) where
     where
       pub part-then : CasesMade starts lanes I P x y → CasesMade starts lanes I Q y z → CasesMade starts lanes I R x z
       part-then p q =
-          let b : I ≤ 24 = t .stage in
+          let b : I ≤ maxTall = t .stage in
           let u = t .states in
           let v = t .few in
           let roomP : (q₀ q₁ a : ℕ) → P q₀ q₁ a → (q₀ < 12) × (q₁ < 12) × (a < poseSlots) =
@@ -248,7 +249,7 @@ module _ (starts lanes I : ℕ) where
       (λ q₀ q₁ a d. (omega arith, d .1, d .2))
 
   -- all of it
-  pub part-joined : {ends poses : ℕ} {x y : List ℕ} → I ≤ 24 → ends ≤ 12 → poses ≤ poseSlots
+  pub part-joined : {ends poses : ℕ} {x y : List ℕ} → I ≤ maxTall → ends ≤ 12 → poses ≤ poseSlots
       → CasesMade starts lanes I (StageCases ends ends poses) x y
       → Joined starts lanes ends poses I x y
   part-joined {ends} {poses} b h g p =

@@ -4,6 +4,7 @@ use mathlib.Core.Path.{_≡_}
 use mathlib.Core.Logic.{_⊎_}
 use mathlib.Core.List.{List}
 use lib.ListN.{length, getD}
+use Rattle.definition.specs.Job.{maxTall}
 use Rattle.search_store.specs.Map.{caseAt, pointerAt, costsAt, Pages, Slot, stateBlock, pointerRow₀, pointerRow₁}
 use Rattle.search_store.specs.Map.{maxLanes, maxPoses}
 use Rattle.theory_tables.specs.Steps.{B, Cases, SegmentCosts, nextCases}
@@ -32,7 +33,7 @@ SameTables old new = (I q₀ q₁ a : ℕ) → Slot I q₀ q₁ a → SameCase I
 pub record Table (starts lanes I : ℕ) (st : List ℕ) : Type 0 where
   pub states : starts ≤ 12
   pub few : lanes ≤ maxLanes
-  pub stage : I ≤ 24
+  pub stage : I ≤ maxTall
   pub long : Pages starts st
   pub low : Low st
 

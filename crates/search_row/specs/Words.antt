@@ -5,7 +5,7 @@ use mathlib.Core.Bool.{Bool, _&&_, cond}
 use mathlib.Core.List.{List}
 use lib.ListN.{length, getD}
 use lib.Dec.{leb, ltb, eqb}
-use Rattle.definition.specs.Job.{maxCells}
+use Rattle.definition.specs.Job.{maxCells, maxTall}
 use Rattle.definition.specs.Rules.{isForbidden}
 use Rattle.definition.specs.Cost.{charge}
 use Rattle.theory_tables.specs.Steps.{B, Deck, stateCount, offset, marks, before, lastAt, poseSlots}
@@ -176,7 +176,7 @@ pub record Ground (row : List ℕ) (z : Sizes) : Type 0 where
 -- a row: its words, and its tall cells' positions
 pub record RowGiven (row : List ℕ) (z : Sizes) : Type 0 where
   pub ground : Ground row z
-  pub few : z .talls ≤ 24
+  pub few : z .talls ≤ maxTall
   pub inside : (I : ℕ) → I < z .talls → posIn row I < z .cells
 
 -- ---- what the functions that read a row are given

@@ -78,7 +78,7 @@ module _ (j : Job) (s : Side) where
     pub words : (p : ℕ) → p < n → (i : ℕ) → i < wordsUsed
         → wordOf l p i ≡ cellWord j (rowOf s) (cell (pairJob j) s p) (cell (pairJob j) s p) i
     pub zero : (q : ℕ) → n * cellWords ≤ q → q < statesFrom → getD l q 0 ≡ 0
-    pub upper : (q : ℕ) → tallsFrom ≤ q → getD l q 0 ≤ 63
+    pub upper : (q : ℕ) → tallsFrom ≤ q → getD l q 0 < maxCells
 
   pub filled-none : Sound j → {old new : List ℕ} → rowLength ≤ length old → Written (always 0) 0 (length old) old new
       → RowFilled new 0 0
@@ -152,7 +152,7 @@ module _ (j : Job) (s : Side) where
   -- what is written above the cells' words does not alter them
   pub filled-on : {l l′ : List ℕ} {n k : ℕ} → RowFilled l n k → length l′ ≡ length l → Low l′
       → ((q : ℕ) → q < statesFrom → getD l′ q 0 ≡ getD l q 0)
-      → ((q : ℕ) → tallsFrom ≤ q → getD l′ q 0 ≤ 63) → RowFilled l′ n k
+      → ((q : ℕ) → tallsFrom ≤ q → getD l′ q 0 < maxCells) → RowFilled l′ n k
   filled-on {l} {l′} f e w same small = record {
     long = omega (arith, e, f .long);
     most = f .most;

@@ -4,7 +4,7 @@ use Prim.Native.Nat.{ℕ, _+_, _/_, _≤_, _<_}
 use mathlib.Core.Path.{_≡_}
 use mathlib.Core.List.{List}
 use lib.ListN.{length, getD}
-use Rattle.definition.specs.Job.{maxCells}
+use Rattle.definition.specs.Job.{maxCells, maxWeight}
 use Rattle.theory_tables.specs.Steps.{poseSlots}
 use Rattle.job.specs.declared.Job.{Job}
 use Rattle.job.specs.declared.Header.{Header}
@@ -22,7 +22,7 @@ pub record Bounded (number most answer : ℕ) : Type 0 where
 
 -- a weight, and how often it is paid at most
 pub record Weight (weight times : ℕ) : Type 0 where
-  pub low : weight ≤ 1000
+  pub low : weight ≤ maxWeight
   pub few : times ≤ 16
 
 -- a pose number of a cell

@@ -59,10 +59,10 @@ module _ {j : Job} {s : Side} {cells talls row places : List ℕ} {n count state
     (f : CellsIn j s cells n) (t : TallWords cells n places count)
     (w : Written (wordIn places) tallsFrom 32 cells talls) (c : Coded (j .header .reordering) talls row states) where
   -- the words above all states are positions
-  upper : (q : ℕ) → tallsFrom ≤ q → getD row q 0 ≤ 63
+  upper : (q : ℕ) → tallsFrom ≤ q → getD row q 0 < maxCells
   upper q h = go (decLt q rowLength)
     where
-      go : Dec (q < rowLength) → getD row q 0 ≤ 63
+      go : Dec (q < rowLength) → getD row q 0 < maxCells
       go (yes g) =
           let k = q - tallsFrom in
           let e : tallsFrom + k ≡ q = omega arith in

@@ -7,7 +7,7 @@ use borrow.Author.Tests.{lt-ltb, le-ltb, ne-eqb}
 use lib.ListN.{length, List·getD-eq-default}
 use lib.Dec.{leb, ltb, eqb}
 use Rattle.definition.specs.Job as paper
-use Rattle.definition.specs.Job.{maxSites, maxDisplacement, maxWidth}
+use Rattle.definition.specs.Job.{maxSites, maxDisplacement, maxWidth, maxWeight, maxGiven, maxHeight}
 use Rattle.definition.specs.Placement.{Pose}
 use Rattle.definition.specs.Rules.{Offer, noLayout, apart, forbiddenGap, offerOf, choiceOffered, siteOffered}
 use Rattle.definition_laws.specs.Sound.{SoundHeader, SoundCell}
@@ -32,18 +32,18 @@ pub record Ranged (h : Header) (c : Cell) : Type 0 where
   pub someSites : 1 ≤ h .sites
   pub fewSites : h .sites ≤ maxSites
   pub displacement : h .displacement ≤ maxDisplacement
-  pub step : h .step ≤ 1000
-  pub shift : h .shift ≤ 1000
-  pub mirror : h .mirror ≤ 1000
-  pub swap : h .swap ≤ 1000
-  pub given : c .given ≤ 1023
+  pub step : h .step ≤ maxWeight
+  pub shift : h .shift ≤ maxWeight
+  pub mirror : h .mirror ≤ maxWeight
+  pub swap : h .swap ≤ maxWeight
+  pub given : c .given ≤ maxGiven
   pub width : (l : ℕ) → widthIn (cellOf c) l ≤ maxWidth
-  pub height : (l i : ℕ) → heightIn (cellOf c) l i ≤ 15
+  pub height : (l i : ℕ) → heightIn (cellOf c) l i ≤ maxHeight
 
-height-small : (h : paper.Header) (c : paper.Cell) (l i : ℕ) → SoundCell h c → heightIn c l i ≤ 15
+height-small : (h : paper.Header) (c : paper.Cell) (l i : ℕ) → SoundCell h c → heightIn c l i ≤ maxHeight
 height-small h c l i s = go (leb (suc l) (length (c .layouts))) (le? (suc l) (length (c .layouts)))
   where
-    go : (t : Bool) → Le? (suc l) (length (c .layouts)) t → heightIn c l i ≤ 15
+    go : (t : Bool) → Le? (suc l) (length (c .layouts)) t → heightIn c l i ≤ maxHeight
     go true (low g) = s .layout l g .high i
     go false (high g) = rw (heightIn, List·getD-eq-default (c .layouts) noLayout {n = l} (omega arith)) (omega arith)
 

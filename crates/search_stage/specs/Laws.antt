@@ -13,6 +13,7 @@ use native.Mathlib.Numerals.{add-one}
 use lib.ListN.{length, getD, set}
 use lib.Seq.{getD-set-same}
 use lib.Dec.{ltb}
+use Rattle.definition.specs.Job.{maxTall}
 use Rattle.search_store.specs.Map.{caseAt, Pages, maxLanes, maxPoses}
 use Rattle.lists.specs.Numbers.{from}
 use Rattle.theory_pair.specs.Coded.{lowest}
@@ -116,7 +117,7 @@ module _ (D₀ D₁ : Deck) (R talls : ℕ) (pos₀ pos₁ : ℕ → ℕ) where
     wide-poses I = wide-low talls I (D₀ .poses) maxPoses (omega arith) narrow
 
     -- a stage from its costs and the table before
-    pub stage-done : (I lanes : ℕ) {old mid one new table : List ℕ} → I ≤ talls → talls ≤ 24
+    pub stage-done : (I lanes : ℕ) {old mid one new table : List ℕ} → I ≤ talls → talls ≤ maxTall
         → lanes ≤ wide talls I (widthOf (D₀ .poses))
         → DeadLanes old I (wide talls I (stateCount R)) lanes (wide talls I (widthOf (D₀ .poses)))
         → BothCosted (costOf D₀ R talls pos₀ I) (costOf D₁ R talls pos₁ I) I (wide talls I (stateCount R))
@@ -220,7 +221,7 @@ module _ (D₀ D₁ : Deck) (R talls : ℕ) (pos₀ pos₁ : ℕ → ℕ) where
         → starts ≡ wide talls I count → before ≡ wide talls I (widthOf (D₀ .poses)) → ends ≡ wide talls (I + 1) count
         → last ≡ wide talls (I + 1) (D₀ .poses)
         → width ≡ wide talls (I + 1) (widthOf (D₀ .poses))
-        → count ≡ stateCount R → I ≤ talls → talls ≤ 24
+        → count ≡ stateCount R → I ≤ talls → talls ≤ maxTall
         → LanesRun old I starts lanes before
         → BothCosted (costOf D₀ R talls pos₀ I) (costOf D₁ R talls pos₁ I) I (wide talls I count)
         (min lanes (wide talls I (D₀ .poses))) (wide talls (suc I) count) (wide talls (suc I) (D₀ .poses))
@@ -235,7 +236,7 @@ module _ (D₀ D₁ : Deck) (R talls : ℕ) (pos₀ pos₁ : ℕ → ℕ) where
         stage-done I lanes h g (w .most) (w .others) b d f
 
     -- the stages before are kept
-    staged-kept : (J I : ℕ) {old new table : List ℕ} → J < I → I ≤ 24
+    staged-kept : (J I : ℕ) {old new table : List ℕ} → J < I → I ≤ maxTall
         → StageDone D₀ D₁ R talls pos₀ pos₁ I old new table → Staged D₀ D₁ R talls pos₀ pos₁ J old
         → Staged D₀ D₁ R talls pos₀ pos₁ J new
     staged-kept j I h g d w = record {
@@ -253,7 +254,7 @@ module _ (D₀ D₁ : Deck) (R talls : ℕ) (pos₀ pos₁ : ℕ → ℕ) where
       };
     }
 
-    pub through-more : {I : ℕ} {old mid new table : List ℕ} → I ≤ 24 → Through D₀ D₁ R talls pos₀ pos₁ I old mid
+    pub through-more : {I : ℕ} {old mid new table : List ℕ} → I ≤ maxTall → Through D₀ D₁ R talls pos₀ pos₁ I old mid
         → StageDone D₀ D₁ R talls pos₀ pos₁ I mid new table
         → Through D₀ D₁ R talls pos₀ pos₁ (I + 1) old new
     through-more {I} {new = new} b t d =
@@ -304,7 +305,7 @@ module _ (D₀ D₁ : Deck) (R talls : ℕ) (pos₀ pos₁ : ℕ → ℕ) where
 -- ---- what a stage is given
 
 module _ {row₀ row₁ st : List ℕ} {z : Sizes} {n₁ : ℕ} (g : StagesGiven row₀ row₁ st z n₁) where
-  pub given-states : (z .states ≤ 12) × (1 ≤ z .states) × (z .poses ≤ maxPoses) × (z .talls ≤ 24)
+  pub given-states : (z .states ≤ 12) × (1 ≤ z .states) × (z .poses ≤ maxPoses) × (z .talls ≤ maxTall)
   given-states =
       let r = g .given₀ .ground in (
         omega (arith, r .all, r .coded .few),

@@ -8,7 +8,7 @@ use native.Mathlib.Nat.{mul-le-mul, suc-mul}
 use native.Mathlib.Omega.{arith}
 use lib.ListN.{length}
 use lib.Dec.{eqb}
-use Rattle.definition.specs.Job.{Job}
+use Rattle.definition.specs.Job.{Job, maxDisplacement}
 use Rattle.definition.specs.Placement.{Pose, Placement}
 use Rattle.definition.specs.Rules.{Legal, cellAt, poseAt, apart}
 use Rattle.definition.specs.Cost.{cost}
@@ -85,7 +85,8 @@ module _ (j : Job) (sound : Sound j) where
       let d = sound .header .displacement in
       let l = a .left in
       let r = a .right in
-      let near : apart (p .site) (cellAt j k .given) ≤ 7 = omega (arith, limit-within (j .header) (cellAt j k)) in
+      let within = limit-within (j .header) (cellAt j k) in
+      let near : apart (p .site) (cellAt j k .given) ≤ maxDisplacement = omega arith in
       omega (
         arith,
         mul-le-mul (sound .header .shift) near,

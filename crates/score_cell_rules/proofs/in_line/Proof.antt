@@ -3,6 +3,7 @@ use Prim.Native.Nat.{_-_, _≤_}
 use mathlib.Core.Bool.{false≢true}
 use native.Mathlib.Numerals.{add-one}
 use lib.ListN.{getD}
+use Rattle.definition.specs.Job.{maxCells}
 use Rattle.score_order.specs.Words.{siteIn, endIn}
 use Rattle.score_cell_rules.specs.Quick.{Clear, clear-more}
 use native.Mathlib.Omega.{arith}
@@ -14,7 +15,7 @@ abbrev Inv-loop : tie.InvT-loop
 Inv-loop words list at reach₀ i₀ reach i = (at ≤ i) × Clear (λ p. at ≤ p) (λ p. endIn words (getD list p 0)) (λ p. siteIn words (getD list p 0)) i reach
 
 abbrev μ-loop : tie.MeasureT-loop
-μ-loop words list at reach₀ i₀ reach i = 64 - i
+μ-loop words list at reach₀ i₀ reach i = maxCells - i
 
 loop-holds : tie.Need-loop-holds Inv-loop μ-loop
 loop-holds c = (omega arith, record { most = λ p l s. absurd (omega arith); clear = λ p q l m s t. absurd (omega arith) })

@@ -5,6 +5,7 @@ use mathlib.Core.List.{List, _++_, map, append-nil}
 use native.Mathlib.Numerals.{add-one}
 use native.Mathlib.Nat.{sub-zero}
 use lib.ListN.{length, take, length-set}
+use Rattle.definition.specs.Job.{maxCells}
 use Rattle.definition.specs.Lists.{from, keep}
 use Rattle.score_cell_rules.specs.Marks.{markedIn, marked-true, marked-false, taken-more}
 use Rattle.score_cell_rules.specs.Lowest.{keep-more, keep-rest}
@@ -15,7 +16,7 @@ use Rattle.score_cell_rules.proofs.list_marked.Tie as tie
 record Listing (marks : List ℕ) (count : ℕ) (list : List ℕ) (n k : ℕ) : Type 0 where
   below : k ≤ count
   few : n ≤ k
-  long : length list ≡ 64
+  long : length list ≡ maxCells
   entries : map suc (keep (markedIn marks) (from 0 count)) ≡ take n list ++ map suc (keep (markedIn marks) (from k (count - k)))
 
 abbrev Inv-loop : tie.InvT-loop

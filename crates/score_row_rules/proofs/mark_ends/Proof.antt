@@ -3,6 +3,7 @@ use Prim.Native.Nat.{ℕ}
 use mathlib.Core.Path.{subst}
 use mathlib.Core.List.{List}
 use lib.ListN.{drop}
+use Rattle.definition.specs.Job.{maxCells}
 use Rattle.score_order.specs.Words.{orderIn, Tail}
 use Rattle.score_cell_rules.specs.Marks.{Added, added-both}
 use Rattle.score_row_rules.specs.Tests.{atEndIn, atEndAny}
@@ -21,8 +22,8 @@ same-length c = search needs
 
 -- the marks of a row's order
 of-row : {at : ℕ} {order list : List ℕ} (w : List ℕ) (sites : ℕ) {m m′ : List ℕ} → Tail at order list
-    → Added 64 (atEndIn w sites (drop at order)) m m′ → Added 64 (atEndIn w sites list) m m′
-of-row w sites {m} {m′} t = subst (λ l. Added 64 (atEndIn w sites l) m m′) (t .entries)
+    → Added maxCells (atEndIn w sites (drop at order)) m m′ → Added maxCells (atEndIn w sites list) m m′
+of-row w sites {m} {m′} t = subst (λ l. Added maxCells (atEndIn w sites l) m m′) (t .entries)
 
 returns : tie.Need-returns
 unfolding atEndAny
@@ -36,7 +37,7 @@ returns c =
     let w = a .words .now in
     let n = a .count in
     let f = atEndIn w (a .sites) in
-    added-both n 64 64 (f (orderIn w 0 n)) (f (orderIn w 1 n)) (a .marks .now) _ _ (o .cells .few) (o .cells .few)
+    added-both n maxCells maxCells (f (orderIn w 0 n)) (f (orderIn w 1 n)) (a .marks .now) _ _ (o .cells .few) (o .cells .few)
     (of-row w (a .sites) (o .row0) (one .mark-row-ends .ensures)) (of-row w (a .sites) (o .row1) (two .mark-row-ends2 .ensures))
 
 pub mark-ends-spec : {M : Type 1} → statement M

@@ -1,4 +1,5 @@
 -- The marks of row 0, and then those of row 1.
+use Rattle.definition.specs.Job.{maxCells}
 use Rattle.score_order.specs.Words.{orderIn}
 use Rattle.score_cell_rules.specs.Marks.{added-both}
 use Rattle.score_row_rules.specs.Tests.{nearIn, nearAny}
@@ -26,7 +27,7 @@ returns c =
     let o = s .pre .rows in
     let w = a .words .now in
     let n = a .count in
-    added-both n 64 64 (nearIn w (orderIn w 0 n)) (nearIn w (orderIn w 1 n)) (a .marks .now) _ _ (o .cells .few) (o .cells .few)
+    added-both n maxCells maxCells (nearIn w (orderIn w 0 n)) (nearIn w (orderIn w 1 n)) (a .marks .now) _ _ (o .cells .few) (o .cells .few)
     (rw (o .row0 .entries) at (one .mark-row-gaps .ensures)) (rw (o .row1 .entries) at (two .mark-row-gaps2 .ensures))
 
 pub mark-gaps-spec : {M : Type 1} → statement M

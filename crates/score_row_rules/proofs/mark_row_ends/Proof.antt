@@ -1,6 +1,8 @@
 -- The row's first cell is marked or not, and then its last.
 use Prim.Native.Nat.{_≤_}
 use native.Mathlib.Omega.{arith}
+use Rattle.definition.specs.Job.{maxCells}
+use Rattle.score_order.specs.Words.{lastPlace}
 use Rattle.score_cell_rules.specs.Marks.{added-none}
 use Rattle.score_row_rules.specs.Ends.{end-none, ends-marked}
 use borrow.Author.Needs.{needs}
@@ -12,7 +14,7 @@ returns c =
     let s = c .before .before .before .before in
     let a = s .args in
     let free = end-none (a .words .now) (a .order .now) (a .sites) (a .at) in
-    added-none 64 _ (a .marks .now) (s .pre .marks) (λ k _. free k (omega (arith, s .pre .room .long)))
+    added-none maxCells _ (a .marks .now) (s .pre .marks) (λ k _. free k (omega (arith, s .pre .room .long)))
 
 entry-requires : tie.Need-entry-requires
 entry-requires c κs = search needs
@@ -69,8 +71,9 @@ returns-2 c =
     let a = s .args in
     let f = before .gap-between in
     let g = after .gap-between2 in
-    let h : a .at ≤ 63 = omega arith in
-    ends-marked (a .words .now) (a .order .now) (a .sites) (a .at) (first .entry .result) (last .entry2 .result) 63 (f .result) (g .result) (a .marks .now) _ _
+    let h : a .at ≤ lastPlace = omega arith in
+    ends-marked (a .words .now) (a .order .now) (a .sites) (a .at) (first .entry .result) (last .entry2 .result) lastPlace
+    (f .result) (g .result) (a .marks .now) _ _
     (s .pre .room .long) h (first .entry .ensures .same) (last .entry2 .ensures .same) (omega (arith, f .ensures)) (g .ensures)
     (one .mark-if .ensures) (two .mark-if2 .ensures)
 

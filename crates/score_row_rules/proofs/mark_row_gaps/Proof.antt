@@ -6,6 +6,8 @@ use mathlib.Core.List.{List}
 use lib.ListN.{length, getD, drop, length-set}
 use lib.Dec.{leb}
 use Rattle.lists.specs.Compare.{Le?, low, high, le?}
+use Rattle.definition.specs.Job.{maxCells}
+use Rattle.score_order.specs.Words.{lastPlace}
 use Rattle.score_cell_rules.specs.Marks.{Added, added-none, added-below}
 use Rattle.score_row_rules.specs.Tests.{nearIn}
 use Rattle.score_row_rules.specs.Near.{near-last, near-one, near-other}
@@ -15,9 +17,9 @@ use Rattle.score_row_rules.proofs.mark_row_gaps.Statement.{statement}
 use Rattle.score_row_rules.proofs.mark_row_gaps.Tie as tie
 
 record GapsJudged (words order : List ℕ) (at : ℕ) (marks₀ marks : List ℕ) (i : ℕ) : Type 0 where
-  below : i ≤ 63
-  down : min at 63 ≤ i
-  added : Added 64 (nearIn words (drop i order)) marks₀ marks
+  below : i ≤ lastPlace
+  down : min at lastPlace ≤ i
+  added : Added maxCells (nearIn words (drop i order)) marks₀ marks
 
 abbrev Inv-loop : tie.InvT-loop
 Inv-loop words order at marks₀ i₀ marks i = GapsJudged words order at marks₀ marks i
@@ -31,8 +33,8 @@ loop-holds c =
     record {
       below = omega arith;
       down = omega arith;
-      added = added-none 64 _ (s .args .marks .now) (s .pre .marks)
-          (λ k _. near-last (s .args .words .now) (s .args .order .now) 63 k (omega (arith, s .pre .room .long)));
+      added = added-none maxCells _ (s .args .marks .now) (s .pre .marks)
+          (λ k _. near-last (s .args .words .now) (s .args .order .now) lastPlace k (omega (arith, s .pre .room .long)));
     }
 
 sub-i : tie.Need-sub-i Inv-loop μ-loop
@@ -96,7 +98,7 @@ loop-again c =
     let m = p .loop .inv in
     let w : List ℕ = s .args .words .now in
     let o : List ℕ = s .args .order .now in
-    let l : length o ≡ 64 = s .pre .room .long in
+    let l : length o ≡ maxCells = s .pre .room .long in
     let i : ℕ = p .loop .i - 1 in
     let a : ℕ = mid .before .entry .result in
     let b : ℕ = c .before .before .before .before .entry2 .result in
@@ -123,7 +125,7 @@ loop-again-2 c =
     let m = p .loop .inv in
     let w : List ℕ = s .args .words .now in
     let o : List ℕ = s .args .order .now in
-    let l : length o ≡ 64 = s .pre .room .long in
+    let l : length o ≡ maxCells = s .pre .room .long in
     let i : ℕ = p .loop .i - 1 in
     let a : ℕ = mid .before .entry .result in
     let b : ℕ = c .before .before .before .before .entry2 .result in
@@ -142,7 +144,7 @@ same-length : tie.Need-same-length Inv-loop μ-loop
 same-length c = omega arith
 
 -- the loop stops at the row's first cell, or at once in an empty row
-down : (w o : List ℕ) (i at : ℕ) → length o ≡ 64 → i ≤ 63 → min at 63 ≤ i → i ≤ at → (t : Bool) → Le? at 63 t → (k : ℕ)
+down : (w o : List ℕ) (i at : ℕ) → length o ≡ maxCells → i ≤ lastPlace → min at lastPlace ≤ i → i ≤ at → (t : Bool) → Le? at lastPlace t → (k : ℕ)
     → nearIn w (drop i o) k ≡ nearIn w (drop at o) k
 down w o i at l b d h true (low g) k = let e : i ≡ at = omega arith in ap (λ x. nearIn w (drop x o) k) e
 down w o i at l b d h false (high g) k = near-last w o i k (omega arith) ∙ sym (near-last w o at k (omega arith))
@@ -156,8 +158,8 @@ returns c =
     let o : List ℕ = s .args .order .now in
     let i : ℕ = p .loop .i in
     let at : ℕ = s .args .at in
-    added-below 64 (nearIn w (drop i o)) (nearIn w (drop at o)) (s .args .marks .now) (p .loop .marks)
-    (λ k _. down w o i at (s .pre .room .long) (m .below) (m .down) (omega arith) (leb at 63) (le? at 63) k) (m .added)
+    added-below maxCells (nearIn w (drop i o)) (nearIn w (drop at o)) (s .args .marks .now) (p .loop .marks)
+    (λ k _. down w o i at (s .pre .room .long) (m .below) (m .down) (omega arith) (leb at lastPlace) (le? at lastPlace) k) (m .added)
 
 pub mark-row-gaps-spec : {M : Type 1} → statement M
 mark-row-gaps-spec =

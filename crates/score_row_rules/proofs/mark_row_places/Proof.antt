@@ -2,6 +2,7 @@
 use Prim.Native.Nat.{ℕ, _+_, _<_, _≤_}
 use mathlib.Core.Path.{sym, ap, ap₂, _∙_}
 use native.Mathlib.Omega.{arith}
+use Rattle.definition.specs.Job.{maxCells}
 use Rattle.definition.specs.Rules.{placeIn}
 use Rattle.score_order.specs.Words.{orderIn, cellsIn, tail-room}
 use Rattle.score_order.specs.Arrays.{zeros-room, away-placed}
@@ -51,7 +52,7 @@ mark-out-requires c κs = search needs
 same-length : tie.Need-same-length
 same-length c = search needs
 
-below : (k n : ℕ) → k < n → n ≤ 64 → k < 64
+below : (k n : ℕ) → k < n → n ≤ maxCells → k < maxCells
 below k n h g = omega arith
 
 returns : tie.Need-returns

@@ -6,12 +6,14 @@ use Prim.Native.Nat.{ℕ, _+_, _*_, _-_, _≤_, _<_, min}
 use mathlib.Core.Path.{_≡_, sym, ap, ap₂, _∙_}
 use mathlib.Core.List.{List}
 use lib.ListN.{length, getD, drop}
+use Rattle.definition.specs.Job.{maxCells}
 use Rattle.definition.specs.Lists.{sumNext}
 use Rattle.definition.specs.Cost.{stepsAt}
 use Rattle.job.specs.declared.Job.{Job}
 use Rattle.job.specs.declared.Placement.{Placement}
 use Rattle.job.specs.Value.{jobOf, placementOf}
 use Rattle.score_order.specs.Below.{below-tail}
+use Rattle.score_order.specs.Words.{lastPlace}
 use Rattle.score_steps.specs.Steps.{sum-last, sum-more, steps-value}
 use native.Mathlib.Omega.{arith}
 use borrow.Author.Needs.{needs}
@@ -19,8 +21,8 @@ use Rattle.score_steps.proofs.steps_in.Statement.{statement}
 use Rattle.score_steps.proofs.steps_in.Tie as tie
 
 record StepsSummed (job : Job) (placement : Placement) (order : List ℕ) (at row total i : ℕ) : Type 0 where
-  below : i ≤ 63
-  down : min at 63 ≤ i
+  below : i ≤ lastPlace
+  down : min at lastPlace ≤ i
   small : total + 2 * i ≤ 126
   sum : total ≡ sumNext (stepsAt (jobOf job) (placementOf placement) row) (drop i order)
 
@@ -35,7 +37,7 @@ loop-holds c =
     let s = c .before .before in
     let o = s .args .order .now in
     let f = stepsAt (jobOf (s .args .t1)) (placementOf (s .args .t2)) (s .args .row) in
-    record { below = omega arith; down = omega arith; small = omega arith; sum = sym (sum-last f o 63 (omega (arith, s .pre .room .long))) }
+    record { below = omega arith; down = omega arith; small = omega arith; sum = sym (sum-last f o lastPlace (omega (arith, s .pre .room .long))) }
 
 sub-i : tie.Need-sub-i Inv-loop μ-loop
 sub-i c = omega arith
@@ -96,7 +98,7 @@ loop-again c =
     let f : ℕ → ℕ → ℕ = stepsAt (jobOf job) (placementOf P) (s .args .row) in
     let a : ℕ = mid .before .before .entry .result in
     let b : ℕ = mid .before .entry2 .result in
-    let l : length o ≡ 64 = s .pre .room .long in
+    let l : length o ≡ maxCells = s .pre .room .long in
     let test : s .args .at < p .loop .i = mid .before .before .before .loop-test .taken in
     let next : i + 1 ≡ p .loop .i = omega arith in
     let ea : a ≡ getD o i 0 = mid .before .before .entry .ensures .same in
@@ -115,7 +117,7 @@ loop-again c =
     }
 
 -- the loop stops at the row's first cell, or at once in an empty row
-down : (f : ℕ → ℕ → ℕ) (o : List ℕ) (i at : ℕ) → length o ≡ 64 → i ≤ 63 → min at 63 ≤ i → i ≤ at → (t : Bool) → Le? at 63 t
+down : (f : ℕ → ℕ → ℕ) (o : List ℕ) (i at : ℕ) → length o ≡ maxCells → i ≤ lastPlace → min at lastPlace ≤ i → i ≤ at → (t : Bool) → Le? at lastPlace t
     → sumNext f (drop i o) ≡ sumNext f (drop at o)
 down f o i at l b d h true (low g) = let e : i ≡ at = omega arith in ap (λ x. sumNext f (drop x o)) e
 down f o i at l b d h false (high g) = sum-last f o i (omega arith) ∙ sym (sum-last f o at (omega arith))
@@ -128,7 +130,8 @@ returns c =
     let o : List ℕ = s .args .order .now in
     let f : ℕ → ℕ → ℕ = stepsAt (jobOf (s .args .t1)) (placementOf (s .args .t2)) (s .args .row) in
     record {
-      same = m .sum ∙ down f o (p .loop .i) (s .args .at) (s .pre .room .long) (m .below) (m .down) (omega arith) (leb (s .args .at) 63) (le? (s .args .at) 63);
+      same = m .sum ∙ down f o (p .loop .i) (s .args .at) (s .pre .room .long) (m .below) (m .down) (omega arith)
+          (leb (s .args .at) lastPlace) (le? (s .args .at) lastPlace);
       most = omega arith;
     }
 

@@ -4,6 +4,7 @@ use mathlib.Core.Path.{_≡_}
 use mathlib.Core.List.{List}
 use native.Mathlib.Numerals.{add-one}
 use lib.ListN.{length}
+use Rattle.definition.specs.Job.{maxCells}
 use Rattle.definition.specs.Job as paper
 use Rattle.definition.specs.Placement as text
 use Rattle.score_verdict.specs.declared.Limits.{Limits}
@@ -17,7 +18,7 @@ use Rattle.score_verdict.proofs.judge_rules.Tie as tie
 
 record Open (limits : Limits) (unoffered far words marks : List ℕ) (rule : ℕ) : Type 0 where
   low : 1 ≤ rule
-  long : length marks ≡ 64
+  long : length marks ≡ maxCells
   held : (j : paper.Job) (P : text.Placement) → Board j P limits unoffered far words → Held j P (limits .cells) rule marks
 
 abbrev Inv-loop : tie.InvT-loop

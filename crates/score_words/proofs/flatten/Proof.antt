@@ -4,6 +4,7 @@ use mathlib.Core.Path.{_≡_, ap, _∙_}
 use mathlib.Core.List.{List}
 use lib.ListN.{length, getD}
 use borrow.Author.Count.{below-more}
+use Rattle.definition.specs.Job.{maxCells}
 use Rattle.job.specs.declared.Job.{Job}
 use Rattle.job.specs.declared.Placement.{Placement}
 use mathlib.Core.Bool.{Bool, true, false}
@@ -12,6 +13,7 @@ use Rattle.lists.specs.Compare.{Le?, low, high, le?}
 use Rattle.definition.specs.Rules.{cellAt}
 use Rattle.job.specs.Value as value
 use Rattle.job.specs.Value.{cellOf, jobOf, placementOf, poseAt}
+use Rattle.score_order.specs.Words.{wordCount}
 use Rattle.score_words.specs.Flat.{four, Shows}
 use Rattle.job.specs.Parts.{widthIn}
 use Rattle.job.specs.Cells.{cell-there, cell-lacking, pose-lacking}
@@ -24,7 +26,7 @@ use Rattle.score_words.proofs.flatten.Tie as tie
 
 record WordsFilled (job : Job) (placement : Placement) (words : List ℕ) (k : ℕ) : Type 0 where
   below : k ≤ job .count
-  long : length words ≡ 256
+  long : length words ≡ wordCount
   shown : (i : ℕ) → i < k → Shows (jobOf job) (placementOf placement) words i
   blank : (x : ℕ) → 4 * k ≤ x → getD words x 0 ≡ 0
 
@@ -76,7 +78,7 @@ loop-less : tie.Need-loop-less Inv-loop μ-loop
 loop-less c = omega arith
 
 -- one more cell
-more : (job : Job) (P : Placement) (w : List ℕ) (k end : ℕ) → k < job .count → k < 64 → k < P .count
+more : (job : Job) (P : Placement) (w : List ℕ) (k end : ℕ) → k < job .count → k < maxCells → k < P .count
     → end ≡ poseAt P k .site + widthIn (cellOf (value.cellAt job k)) (poseAt P k .layout) → WordsFilled job P w k
     → WordsFilled job P (four w k (poseAt P k .site) end (value.cellAt job k .row) (value.cellAt job k .given)) (k + 1)
 more job P w k end g h f e m =

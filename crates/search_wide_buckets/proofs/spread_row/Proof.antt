@@ -1,4 +1,4 @@
--- Planes 5 to 8 follow where they are needed.
+-- Buckets 5 to 8 follow where they are needed.
 use mathlib.Core.Path.{_≡_, refl, _∙_}
 use mathlib.Core.Logic.{inl, inr}
 use native.Mathlib.Omega.{arith}
