@@ -50,10 +50,20 @@ refused-some : (job : Text) {n line : ℕ} → readJob job ≡ refused n line �
 refused-some job {n} {line} e z = let s = job-refused job n line e .some in omega arith
 
 -- a refusal of the operation's own, at its line and before any search
-abbrev pub Known : Shape → ℕ → Type 0
-Known shape n =
-    (isOneOf (shape .answers ++ shape .refusals) n ≡ true) × (isOneOf (shape .lined) n ≡ true)
-    × (isOneOf (shape .searched) n ≡ false)
+pub record Known (shape : Shape) (n : ℕ) : Type 0 where
+  pub own : isOneOf (shape .answers ++ shape .refusals) n ≡ true
+  pub lined : isOneOf (shape .lined) n ≡ true
+  pub unsearched : isOneOf (shape .searched) n ≡ false
+
+pub known : {shape : Shape} {n : ℕ} → isOneOf (shape .answers ++ shape .refusals) n ≡ true
+    → isOneOf (shape .lined) n ≡ true → isOneOf (shape .searched) n ≡ false → Known shape n
+known o l u = record { own = o; lined = l; unsearched = u }
+
+known-fair : (shape : Shape) → shape .led ≡ true → (room n line : ℕ) → Known shape n → 1 ≤ line
+    → Fair shape room (refusedBy (shape .fieldCount) (record { number = n; line = line }))
+known-fair shape led room n line k h =
+    refusal-fair shape room (record { number = n; line = line }) led (k .own) (k .lined ∙ sym (lt-ltb 0 line h))
+    (k .unsearched)
 
 -- an operation that refuses as Read does, and one that refuses as Score does
 pub record AsRead (shape : Shape) : Type 0 where
@@ -68,25 +78,28 @@ read-fair : (shape : Shape) → AsRead shape → (room : ℕ) (job : Text) (n li
     → Fair shape room (refusedBy (shape .fieldCount) (record { number = n; line = line }))
 read-fair shape s room job n line e =
     let r = job-refused job n line e in
-    let k = s .knows n line r in
-    refusal-fair shape room (record { number = n; line = line }) (s .led) (k .0)
-    (k .1 ∙ sym (lt-ltb 0 line (r .located))) (k .2)
+    known-fair shape (s .led) room n line (s .knows n line r) (r .located)
 
 pub as-read : (shape : Shape) → shape .led ≡ true
     → Known shape 1 → Known shape 2 → Known shape 3 → Known shape 4 → AsRead shape
 as-read shape l a b c d = record { led = l; knows = λ n line r. of-read (Known shape) r a b c d }
 
 read-as-read : AsRead readShape
-read-as-read = as-read readShape refl (refl, refl, refl) (refl, refl, refl) (refl, refl, refl) (refl, refl, refl)
+read-as-read =
+    as-read readShape refl
+    (known refl refl refl) (known refl refl refl) (known refl refl refl) (known refl refl refl)
 
 score-as-score : AsScore scoreShape
 score-as-score = record {
-  reads = as-read scoreShape refl (refl, refl, refl) (refl, refl, refl) (refl, refl, refl) (refl, refl, refl);
-  fifth = (refl, refl, refl);
+  reads = as-read scoreShape refl
+      (known refl refl refl) (known refl refl refl) (known refl refl refl) (known refl refl refl);
+  fifth = known refl refl refl;
 }
 
 place-as-read : AsRead placeShape
-place-as-read = as-read placeShape refl (refl, refl, refl) (refl, refl, refl) (refl, refl, refl) (refl, refl, refl)
+place-as-read =
+    as-read placeShape refl
+    (known refl refl refl) (known refl refl refl) (known refl refl refl) (known refl refl refl)
 
 -- ---- Read and Score
 
@@ -133,8 +146,7 @@ as-score-fair shape s room more answer job placement after = go (readJob job) re
     posed j r (fault line) e =
         let w = fault-within (length (j .cells)) placement line e in
         subst (Fair shape room) (sym (poses-refuse n more answer job r placement e))
-        (refusal-fair shape room (record { number = 5; line = line }) (s .reads .led) (s .fifth .0)
-        (s .fifth .1 ∙ sym (lt-ltb 0 line (omega (arith, w .0)))) (s .fifth .2))
+        (known-fair shape (s .reads .led) room 5 line (s .fifth) (omega (arith, w .0)))
     posed j r (poses P) e =
         subst (Fair shape room) (sym (poses-pass n more answer job r placement e)) (after j r P e)
 

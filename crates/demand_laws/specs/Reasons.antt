@@ -26,14 +26,15 @@ use Rattle.reason_laws.specs.Sentences.{sentences}
 use Rattle.reason_laws.specs.Outcomes.{room-short, room-enough}
 use Rattle.reason_laws.specs.Outcomes.{reasons-refused, reasons-fault, reasons-short, reasons-answered}
 use Rattle.demand_laws.specs.Fair.{Fair, fair-demand1, refusal-fair}
-use Rattle.demand_laws.specs.Demand1.{AsScore, as-read, as-score-fair}
+use Rattle.demand_laws.specs.Demand1.{AsScore, known, as-read, as-score-fair}
 
 -- ---- demand 1
 
 reasons-as-score : AsScore reasonsShape
 reasons-as-score = record {
-  reads = as-read reasonsShape refl (refl, refl, refl) (refl, refl, refl) (refl, refl, refl) (refl, refl, refl);
-  fifth = (refl, refl, refl);
+  reads = as-read reasonsShape refl
+      (known refl refl refl) (known refl refl refl) (known refl refl refl) (known refl refl refl);
+  fifth = known refl refl refl;
 }
 
 reasons-keep : (job placement : Text) (room : ℕ) → Fair reasonsShape room (reasons job placement room)

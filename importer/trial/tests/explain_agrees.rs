@@ -83,13 +83,7 @@ fn on_each_damage_to_each_line() {
     let mut comparison = Comparison::default();
     for cells in [0, 1, 2, 7, 24, 64] {
         let text = jobs::job(&mut random, cells).text();
-        for line in 0..=cells {
-            for damage in Damage::ALL {
-                let mut text = text.clone();
-                damage.inflict(&mut random, &mut text, line);
-                comparison.job(&text);
-            }
-        }
+        Damage::each(&mut random, &text, cells + 1, |text| comparison.job(text));
     }
 }
 

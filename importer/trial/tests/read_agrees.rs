@@ -124,14 +124,10 @@ fn on_each_damage_to_each_line() {
     let mut comparison = Comparison::default();
     for cells in [0, 1, 2, 7, 24, 63, 64] {
         let text = jobs::job(&mut random, cells).text();
-        for line in 0..=cells {
-            for damage in Damage::ALL {
-                for _ in 0..4 {
-                    let mut text = text.clone();
-                    damage.inflict(&mut random, &mut text, line);
-                    comparison.compare(&text);
-                }
-            }
+        for _ in 0..4 {
+            Damage::each(&mut random, &text, cells + 1, |text| {
+                comparison.compare(text)
+            });
         }
     }
 }

@@ -51,6 +51,17 @@ impl Damage {
         Damage::TextMore,
     ];
 
+    /// Does each damage to each of the first lines of a text, one at a time, and shows the text.
+    pub fn each(random: &mut Random, text: &[u8], lines: usize, mut show: impl FnMut(&[u8])) {
+        for line in 0..lines {
+            for damage in Damage::ALL {
+                let mut text = text.to_vec();
+                damage.inflict(random, &mut text, line);
+                show(&text);
+            }
+        }
+    }
+
     /// Does this damage to a line, counted from 0. A text without that line stays as it is.
     pub fn inflict(self, random: &mut Random, text: &mut Vec<u8>, line: usize) {
         let Some(line) = Line::find(text, line) else {
