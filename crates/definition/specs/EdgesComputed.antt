@@ -70,4 +70,5 @@ edges-computed =
     & (refl, refl) & (refl, refl) & (refl, refl) & (refl, refl)
     & (refl, refl) & (refl, refl) & (refl, refl) & (refl, refl) & (refl, refl)
     & refl & ((refl, refl), refl)
+    & (refl, refl) & ((refl, refl), refl) & (refl, refl)
     & tt

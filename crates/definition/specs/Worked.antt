@@ -17,7 +17,7 @@ use Rattle.definition.specs.Moves.{left, right, changeBy, alter, movedBy
 use Rattle.definition.specs.Outcome.{Outcome, resultsOf, over, bufferRefusal, placeOutcome}
 use Rattle.definition.specs.Outcome.{jobIn, posesIn, placementIn}
 use Rattle.definition.specs.FaultLine.{ofJob, ofPlacement, partAt, faultLine}
-use Rattle.definition.specs.Edges.{Case, scoring, fiveSites, inFive, besideFixed, twoEnds}
+use Rattle.definition.specs.Edges.{Case, scoring, fiveSites, inFive, besideFixed, twoEnds, turnedByTwo, turnedByOne}
 use Rattle.definition.specs.EdgesComputed.{opened, AllComputed, _&_}
 
 -- ---- whole results of Score
@@ -109,17 +109,30 @@ pub shorter-array : over {A = ℕ} (1 ∷ 2 ∷ 3 ∷ []) (7 ∷ 8 ∷ []) ≡ (
 unfolding over
 shorter-array = refl
 
+abbrev buffersOf : Reading → ℕ → ℕ → ℕ
+buffersOf (refused n line) words room = 0
+buffersOf (accepted j) words room = bufferRefusal j words room
+
 -- "Store 1,048,575 words: 6. Two cells, 17 output bytes: 7; 18 pass."
-abbrev twoCells : Reading → ℕ → ℕ → ℕ
-twoCells (refused n line) words room = 0
-twoCells (accepted j) words room = bufferRefusal j words room
+abbrev twoCells : String
+twoCells = oneCell ++ "C,0,6,0,1,4,3,3,2,2\n"
 
 pub buffers-tried :
-    (twoCells (readJob (bytes (oneCell ++ "C,0,6,0,1,4,3,3,2,2\n"))) 1048575 17 ≡ 6)
-    × (twoCells (readJob (bytes (oneCell ++ "C,0,6,0,1,4,3,3,2,2\n"))) 1048576 17 ≡ 7)
-    × (twoCells (readJob (bytes (oneCell ++ "C,0,6,0,1,4,3,3,2,2\n"))) 1048576 18 ≡ 0)
+    (buffersOf (readJob (bytes twoCells)) 1048575 17 ≡ 6)
+    × (buffersOf (readJob (bytes twoCells)) 1048576 17 ≡ 7)
+    × (buffersOf (readJob (bytes twoCells)) 1048576 18 ≡ 0)
 unfolding opened bufferRefusal
 buffers-tried = (refl, refl, refl)
+
+-- "a job that does needs 4,194,304 words of store, and refusal 6 is tested by that figure; others keep theirs" (A6)
+pub buffers-by-two :
+    (buffersOf (readJob (bytes turnedByTwo)) 4194303 0 ≡ 6)
+    × (buffersOf (readJob (bytes turnedByTwo)) 4194304 26 ≡ 7)
+    × (buffersOf (readJob (bytes turnedByTwo)) 4194304 27 ≡ 0)
+    × (buffersOf (readJob (bytes turnedByOne)) 1048575 0 ≡ 6)
+    × (buffersOf (readJob (bytes turnedByOne)) 1048576 27 ≡ 0)
+unfolding opened bufferRefusal
+buffers-by-two = (refl, refl, refl, refl, refl)
 
 -- "After 8 or an answer the whole store is zero."
 pub zero-after-eight : placeOutcome (readJob (bytes fiveSites)) 1048576 18 none .zeroed ≡ true

@@ -99,7 +99,7 @@ impl Job {
 
     pub const MAX_DISPLACEMENT: u32 = 7;
 
-    pub const MAX_REORDERING: u32 = 1;
+    pub const MAX_REORDERING: u32 = 2;
 
     pub const MAX_WEIGHT: u32 = 1000;
 

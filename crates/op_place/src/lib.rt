@@ -21,10 +21,9 @@ use score_numbers::Numbers;
 use score_numbers::numbers_of;
 use score_numbers::push_numbers;
 use search_job::search_job;
+use search_job::store_needed;
 
-// What is asked of the buffers: words of the store, and bytes of the output for each cell.
-const STORE_WORDS: usize = 1048576;
-
+// What is asked of the output: bytes for each cell.
 const LINE_BYTES: usize = 9;
 
 // The numbers and the text's length.
@@ -128,8 +127,9 @@ pub fn place_texts(job: &[u8], store: &mut [u32], output: &mut [u8], results: &m
         return number;
     }
     let j = r.job;
+    let words = store_needed(j.header);
     let room = LINE_BYTES * j.count;
-    if store.len() < STORE_WORDS {
+    if store.len() < words {
         refuse(results, Refusal { number: 6, line: 0 }, FIELDS);
         return 6;
     }

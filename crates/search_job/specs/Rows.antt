@@ -1,15 +1,17 @@
 -- The rows of a job as words: what the search asks of them, and what it then finds of the job.
 use Prim.Native.Nat.{ℕ, zero, suc, _≤_}
-use mathlib.Core.Path.{_≡_, sym, ap, subst}
-use mathlib.Core.Bool.{Bool}
+use mathlib.Core.Path.{_≡_, refl, sym, ap, subst}
+use mathlib.Core.Bool.{Bool, true, false, cond}
 use mathlib.Core.List.{List}
 use native.Mathlib.Omega.{arith}
+use lib.Dec.{eqb}
+use Rattle.lists.specs.Compare.{Eq?, differs, eq?}
 use Rattle.definition.specs.Job.{Job, maxReordering}
 use Rattle.definition.specs.Outcome.{storeNeeded}
 use Rattle.definition_laws.specs.Sound.{Sound}
 use Rattle.theory_pair.specs.Cells.{Side, row₀, row₁, cell, line}
 use Rattle.theory_tables.specs.Steps.{stateCount}
-use Rattle.theory_tables.specs.States.{count-0, count-1}
+use Rattle.theory_tables.specs.States.{counted}
 use Rattle.theory_tables.specs.Matched.{Matched}
 use Rattle.theory_traceback.specs.Found.{PairFound}
 use Rattle.theory_bridge.specs.Paired.{siteOf, poseNumbers, poseNumber, isOffered, pairJob}
@@ -27,21 +29,33 @@ use Rattle.search_job.specs.Solved.{numbersIn, Solved}
 
 -- ---- the store
 
--- at most three states
-few-states : (R : ℕ) → R ≤ maxReordering → stateCount R ≤ 3
-few-states zero h = omega (arith, count-0)
-few-states (suc zero) h = omega (arith, count-1)
-few-states (suc (suc R)) h = absurd (omega arith)
-
 -- a store that Place takes has the words of the search
 pub words-lent : {j : Job} → Sound j → (talls count : ℕ) → count ≡ stateCount (j .header .reordering)
     → wordsFor talls count ≤ storeNeeded j
-words-lent {j} sound talls count e =
-    omega (
-      arith,
-      wide-low talls talls count 3 (omega arith)
-          (omega (arith, few-states (j .header .reordering) (sound .header .reordering), e)),
-    )
+words-lent {j} sound talls count e = go (eqb R 2) (eq? R 2)
+  where
+    R : ℕ
+    R = j .header .reordering
+
+    at-most-one : (n : ℕ) → n ≤ maxReordering → (n ≡ 2 → ⊥) → n ≤ 1
+    at-most-one zero h d = omega arith
+    at-most-one (suc zero) h d = omega arith
+    at-most-one (suc (suc zero)) h d = absurd (d refl)
+    at-most-one (suc (suc (suc n))) h d = absurd (omega arith)
+
+    go : (by-two : Bool) → Eq? R 2 by-two → wordsFor talls count ≤ cond by-two 4194304 1048576
+    go true t =
+        omega (
+          arith,
+          wide-low talls talls count 12 (omega arith) (omega (arith, counted R (sound .header .reordering) .few, e)),
+        )
+    go false (differs d) =
+        let h : R ≤ 1 = at-most-one R (sound .header .reordering) d in
+        omega (
+          arith,
+          wide-low talls talls count 3 (omega arith)
+              (omega (arith, counted R (sound .header .reordering) .fewer h, e)),
+        )
 
 -- ---- the rows
 

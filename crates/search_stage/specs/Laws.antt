@@ -19,7 +19,7 @@ use Rattle.lists.specs.Numbers.{from}
 use Rattle.theory_pair.specs.Coded.{lowest}
 use Rattle.theory_tables.specs.Steps.{B, Deck, stateCount, joinPose, nextCases}
 use Rattle.theory_tables.specs.Stages.{caseTable}
-use Rattle.theory_tables.specs.States.{count-0, count-1, count-2}
+use Rattle.theory_tables.specs.States.{counted}
 use Rattle.search_lanes.specs.Store.{Low}
 use Rattle.search_lanes.specs.Laws.{low-set}
 use Rattle.search_join.specs.Tables.{casesIn, pointersIn, costsIn, Table, Least, Way, Joined, AllStates, Closed}
@@ -31,12 +31,6 @@ use Rattle.search_stage.specs.Stage.{StageDone, Through, StagesDone, Bot
 use Rattle.search_stage.specs.Starts.{ways-same}
 
 -- ---- counts
-
-pub count-some : (R : ℕ) → R ≤ 2 → 1 ≤ stateCount R
-count-some zero h = omega (arith, count-0)
-count-some (suc zero) h = omega (arith, count-1)
-count-some (suc (suc zero)) h = omega (arith, count-2)
-count-some (suc (suc (suc R))) h = absurd (omega arith)
 
 pub wide-low : (talls I x y : ℕ) → 1 ≤ y → x ≤ y → wide talls I x ≤ y
 unfolding wide
@@ -309,7 +303,7 @@ module _ {row₀ row₁ st : List ℕ} {z : Sizes} {n₁ : ℕ} (g : StagesGiven
   given-states =
       let r = g .given₀ .ground in (
         omega (arith, r .all, r .coded .few),
-        omega (arith, r .all, count-some (z .reordering) (r .coded .reorder)),
+        omega (arith, r .all, counted (z .reordering) (r .coded .reorder) .some),
         r .few,
         g .given₀ .few,
       )

@@ -15,7 +15,7 @@ use Rattle.theory_row.specs.Marks.{bit}
 use Rattle.theory_pair.specs.Pick.{goodMarks}
 use Rattle.theory_pair.specs.Forward.{each}
 use Rattle.theory_tables.specs.Steps.{B, mayBeLast, pairsOf, stateCount, offset, marks, marksBefore, before}
-use Rattle.theory_tables.specs.States.{state-at, count-0, count-1, count-2}
+use Rattle.theory_tables.specs.States.{state-at, counted}
 use Rattle.search_lanes.specs.Store.{Frame, Low}
 use Rattle.search_lanes.specs.Laws.{frame-set, low-set}
 use Rattle.search_row.specs.Words.{stateAt, StateWords, rowLength, statesEnd, statesFrom}
@@ -134,13 +134,6 @@ upto-none R row w = record {
   low = w .low;
 }
 
--- twelve states at most, and at least one
-pub few : (R : ℕ) → R ≤ 2 → (stateCount R ≤ 12) × (1 ≤ stateCount R)
-few zero h = (omega (arith, count-0), omega (arith, count-0))
-few (suc zero) h = (omega (arith, count-1), omega (arith, count-1))
-few (suc (suc zero)) h = (omega (arith, count-2), omega (arith, count-2))
-few (suc (suc (suc R))) h = absurd (omega arith)
-
 -- ---- one state more
 
 module _ (p : List ℕ) (n d m : ℕ) (h : stateAt n + 2 < length p) where
@@ -169,7 +162,7 @@ module _ (p : List ℕ) (n d m : ℕ) (h : stateAt n + 2 < length p) where
       (simp length-set (omega arith))
 
 pub room : {R : ℕ} {p : List ℕ} {n d m : ℕ} {l : List (ℕ × ℕ)} → R ≤ 2 → StatesUpto R p n ((d, m) ∷ l) → n < 12
-room {R} {n = n} r u = let k = next {d = (0, 0)} (pairsOf R) n (u .left) in omega (arith, k .inside, few R r)
+room {R} {n = n} r u = let k = next {d = (0, 0)} (pairsOf R) n (u .left) in omega (arith, k .inside, counted R r .few)
 
 -- the word for the marks before is small too
 before-low : (d m : ℕ) → m < 32 → marksBefore d m ≤ B
@@ -230,7 +223,7 @@ upto-all {R} {o} {p} {n} r u f₀ =
     record {
       coded = record {
         reorder = r;
-        few = few R r .0;
+        few = counted R r .few;
         small = λ q h. let f = state-at R q h .far in omega arith;
         long = omega (arith, u .long);
         digit = λ q h. u .digit q (omega arith);
@@ -238,7 +231,7 @@ upto-all {R} {o} {p} {n} r u f₀ =
         earlier = λ q h. u .earlier q (omega arith);
       };
       all = e;
-      some = omega (arith, few R r);
+      some = omega (arith, counted R r .some);
       frame = f₀;
       low = u .low;
     }

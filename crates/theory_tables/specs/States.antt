@@ -3,7 +3,7 @@
 use mathlib.Core.Path.{_≡_, refl, sym, ap, ap₂, _∙_, subst}
 use mathlib.Core.Logic.{_↔_}
 use mathlib.Core.List.{List, [], _∷_, List·Memᴰ as In, List·Memᴰ·head as here}
-use mathlib.Core.List.{List·Memᴰ·tail as there, Memᴰ·map, Memᴰ·of-map}
+use mathlib.Core.List.{map, List·Memᴰ·tail as there, Memᴰ·map, Memᴰ·of-map}
 use mathlib.Core.Bool.{Bool, true, false, _&&_, _||_}
 use Prim.Native.Nat.{ℕ, zero, suc, _+_, _-_, _*_, _/_, _%_, _^_, _≤_, _<_}
 use native.Mathlib.Omega.{arith}
@@ -92,19 +92,30 @@ at-state R d m p =
     let r = in-getD (0, 0) (pairsOf R) (in-pairs R d m .1 p) in
     (r .0, r .1, ap (λ x. x .0) (r .2), ap (λ x. x .1) (r .2))
 
--- ---- how many there are
+-- ---- how many there are, for every R that a search may have
 
-pub count-0 : stateCount 0 ≡ 1
+pub state-counts : map stateCount (0 ∷ 1 ∷ 2 ∷ []) ≡ (1 ∷ 3 ∷ 12 ∷ [])
 unfolding pairsOf goodMarks each pick from bit ones
-count-0 = refl
+state-counts = refl
 
-pub count-1 : stateCount 1 ≡ 3
-unfolding pairsOf goodMarks each pick from bit ones
-count-1 = refl
+pub record Counted (R : ℕ) : Type 0 where
+  pub some : 1 ≤ stateCount R
+  pub few : stateCount R ≤ 12
+  pub fewer : R ≤ 1 → stateCount R ≤ 3
 
-pub count-2 : stateCount 2 ≡ 12
-unfolding pairsOf goodMarks each pick from bit ones
-count-2 = refl
+pub counted : (R : ℕ) → R ≤ 2 → Counted R
+counted R h = go R h
+  where
+    counts : (n : ℕ) → getD (map stateCount (0 ∷ 1 ∷ 2 ∷ [])) n 0 ≡ getD (1 ∷ 3 ∷ 12 ∷ []) n 0
+    counts n = ap (λ (l : List ℕ). getD l n 0) state-counts
+
+    go : (R : ℕ) → R ≤ 2 → Counted R
+    go zero h = record { some = omega (arith, counts 0); few = omega (arith, counts 0); fewer = λ e. omega (arith, counts 0) }
+    go (suc zero) h =
+        record { some = omega (arith, counts 1); few = omega (arith, counts 1); fewer = λ e. omega (arith, counts 1) }
+    go (suc (suc zero)) h =
+        record { some = omega (arith, counts 2); few = omega (arith, counts 2); fewer = λ e. absurd (omega arith) }
+    go (suc (suc (suc R))) h = absurd (omega arith)
 
 -- ---- digits
 

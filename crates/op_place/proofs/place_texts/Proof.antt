@@ -1,11 +1,20 @@
 -- `op_place::place_texts` meets its contract: each refusal in its order, or what the search of the accepted job comes to.
+use Prim.Native.Nat.{ℕ}
+use mathlib.Core.Path.{_≡_}
 use native.Mathlib.Omega.{arith}
-use Rattle.job.specs.Value.{jobOf}
+use Rattle.definition.specs.Outcome.{storeFor, storeNeeded}
+use Rattle.job.specs.declared.Job.{Job}
+use Rattle.job.specs.Value.{jobOf, headerOf}
 use Rattle.job_read.specs.Reads.{reads-accepted, reads-refused}
 use Rattle.op_place.specs.Answers.{placed-refused, placed-small, placed-narrow, placed-answered}
 use borrow.Author.Needs.{needs}
 use Rattle.op_place.proofs.place_texts.Statement.{statement}
 use Rattle.op_place.proofs.place_texts.Tie as tie
+
+-- by the job's own reordering limit
+asked : (job : Job) {words : ℕ} → words ≡ storeFor (job .header .reordering) → words ≡ storeNeeded (jobOf job)
+unfolding jobOf headerOf
+asked job e = e
 
 read-job-requires : tie.Need-read-job-requires
 read-job-requires c κs = search needs
@@ -31,9 +40,12 @@ returns c =
     (t .if1 .taken)
     (c .before .refuse .ensures)
 
+store-needed-requires : tie.Need-store-needed-requires
+store-needed-requires c κs = search needs
+
 mul-room : tie.Need-mul-room
 mul-room c =
-    let l = c .before .before in
+    let l = c .before .before .before in
     omega (arith, l .before .before .read-job .ensures .accepted (l .if1 .left) .few)
 
 refuse-requires-2 : tie.Need-refuse-requires-2
@@ -44,13 +56,13 @@ same-length-2 c = search needs
 
 returns-2 : tie.Need-returns-2
 returns-2 c =
-    let mid = c .before .before .before .before in
-    let l = mid .before .before in
+    let n = c .before .before .before .before .before in
+    let l = n .before .before in
     let r = l .before .before in
     let a = r .before .before .before .before .args in
     placed-small (a .store .now) (a .output .now) (a .results .now) (a .job .now) (jobOf (r .read-job .result .job))
     (reads-accepted (r .read-job .ensures) (l .if1 .left))
-    (c .before .before .before .if2 .taken)
+    (omega (arith, c .before .before .before .if2 .taken, asked (r .read-job .result .job) (n .store-needed .ensures)))
     (c .before .refuse2 .ensures)
 
 refuse-requires-3 : tie.Need-refuse-requires-3
@@ -63,13 +75,14 @@ returns-3 : tie.Need-returns-3
 returns-3 c =
     let t = c .before .before .before in
     let k = t .before in
-    let l = k .before .before .before in
+    let w = k .before .before in
+    let l = w .before .before in
     let r = l .before .before in
     let a = r .before .before .before .before .args in
     let n = r .read-job .ensures .accepted (l .if1 .left) .many in
     placed-narrow (a .store .now) (a .output .now) (a .results .now) (a .job .now) (jobOf (r .read-job .result .job))
     (reads-accepted (r .read-job .ensures) (l .if1 .left))
-    (k .if2 .left)
+    (omega (arith, k .if2 .left, asked (r .read-job .result .job) (w .store-needed .ensures)))
     (omega (arith, t .if3 .taken, n))
     (c .before .refuse3 .ensures)
 
@@ -77,10 +90,11 @@ place-job-requires : tie.Need-place-job-requires
 place-job-requires c κs =
     let t = c .before .before .before in
     let k = t .before in
-    let l = k .before .before .before in
+    let w = k .before .before in
+    let l = w .before .before in
     let r = l .before .before in
     let o = r .read-job .ensures .accepted (l .if1 .left) in
-    record { taken = o; store = k .if2 .left; output = omega (arith, t .if3 .left, o .many) }
+    record { taken = o; store = omega (arith, k .if2 .left, asked (r .read-job .result .job) (w .store-needed .ensures)); output = omega (arith, t .if3 .left, o .many) }
 
 same-length-4 : tie.Need-same-length-4
 same-length-4 c = search needs
@@ -97,13 +111,14 @@ returns-4 c =
     let p = mid .before in
     let t = p .before .before .before .before in
     let k = t .before in
-    let l = k .before .before .before in
+    let w = k .before .before in
+    let l = w .before .before in
     let r = l .before .before in
     let a = r .before .before .before .before .args in
     let n = r .read-job .ensures .accepted (l .if1 .left) .many in
     placed-answered (a .store .now) (a .output .now) (a .results .now) (a .job .now) (jobOf (r .read-job .result .job))
     (reads-accepted (r .read-job .ensures) (l .if1 .left))
-    (k .if2 .left)
+    (omega (arith, k .if2 .left, asked (r .read-job .result .job) (w .store-needed .ensures)))
     (omega (arith, t .if3 .left, n))
     (p .place-job .ensures)
 
@@ -115,6 +130,7 @@ place-texts-spec =
     refuse-requires
     same-length
     returns
+    store-needed-requires
     mul-room
     refuse-requires-2
     same-length-2

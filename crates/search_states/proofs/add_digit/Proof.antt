@@ -4,7 +4,8 @@ use native.Mathlib.Omega.{arith}
 use borrow.Author.Tests.{not-true, not-false}
 use borrow.Author.Needs.{needs}
 use Rattle.search_lanes.specs.Laws.{frame-refl}
-use Rattle.search_states.specs.Upto.{skip-digit, next-digit, may-low, room, upto-more, with-frame, few, window-small}
+use Rattle.theory_tables.specs.States.{counted}
+use Rattle.search_states.specs.Upto.{skip-digit, next-digit, may-low, room, upto-more, with-frame, window-small}
 use Rattle.search_states.proofs.add_digit.Statement.{statement}
 use Rattle.search_states.proofs.add_digit.Tie as tie
 
@@ -34,7 +35,7 @@ add-result : tie.Need-add-result
 add-result c =
     let mid = c .before .before .before .before in
     let k = mid .before .before .before in
-    omega (arith, k .pre .coming .upto .below, few (k .args .r) (k .pre .coming .reorder))
+    omega (arith, k .pre .coming .upto .below, counted (k .args .r) (k .pre .coming .reorder) .few)
 
 same-length : tie.Need-same-length
 same-length c = search needs
