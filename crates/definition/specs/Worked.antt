@@ -17,7 +17,8 @@ use Rattle.definition.specs.Moves.{left, right, changeBy, alter, movedBy
 use Rattle.definition.specs.Outcome.{Outcome, resultsOf, over, bufferRefusal, placeOutcome}
 use Rattle.definition.specs.Outcome.{jobIn, posesIn, placementIn}
 use Rattle.definition.specs.FaultLine.{ofJob, ofPlacement, partAt, faultLine}
-use Rattle.definition.specs.Edges.{Case, scoring, fiveSites, inFive, besideFixed, twoEnds, turnedByTwo, turnedByOne}
+use Rattle.definition.specs.Edges.{Case, scoring, fiveSites, inFive, besideFixed, twoEnds}
+use Rattle.definition.specs.Edges.{turnedByTwo, turnedByOne}
 use Rattle.definition.specs.EdgesComputed.{opened, AllComputed, _&_}
 
 -- ---- whole results of Score

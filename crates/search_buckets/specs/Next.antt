@@ -8,7 +8,7 @@ use Rattle.theory_tables.specs.Steps.{B, Deck, Layer, stateCount, lastAt, isThe
 use Rattle.theory_tables.specs.Steps.{isSource, via, reached, nextLayer, layers, ends}
 use Rattle.search_row.specs.Words.{wordOf, deckOf, thereIn}
 use Rattle.search_buckets.specs.Loops.{lowest-ext}
-use Rattle.search_buckets.specs.Rows.{found, byStates}
+use Rattle.search_buckets.specs.Rows.{found, oneState, byStates}
 use Rattle.search_buckets.specs.Laws.{reached-found, found-away}
 use Rattle.search_buckets.specs.Sources.{states-away}
 
@@ -51,11 +51,11 @@ module _ (row : List ℕ) (n poses R : ℕ) (f : Layer) (i q a : ℕ) (there : t
   next-unoffered p h = let z = next-found refl p refl in omega arith
 
   pub next-alone : {count : ℕ} → count ≡ stateCount R
-      → ((p : ℕ) → p < count → isSource (deckOf row n poses) R i q p ≡ false)
+      → ((v t p : ℕ) → p < count → B ≤ oneState row (deckOf row n poses) R f i q p v t)
       → nextLayer (deckOf row n poses) R f i q a ≡ B
   next-alone {count} e h =
       next-none e (found-away (byStates row (deckOf row n poses) R f i q count) a
-      (λ v t. states-away row (deckOf row n poses) R f i q count v t h))
+      (λ v t. states-away row (deckOf row n poses) R f i q count v t (h v t)))
 
 -- ---- only the entries of the first layer count, in the next one, in all that follow, and where the row ends
 

@@ -18,7 +18,7 @@ use Rattle.search_row.specs.Words.{wordOf, RowWords, apartWord, touchingWord}
 use Rattle.search_buckets.specs.Loops.{lowest-none, lowest-more, lowest-ext}
 use Rattle.search_buckets.specs.Rows.{inRow, bucketsIn, endRow, payIn, Pays, payWords}
 use Rattle.search_buckets.specs.Rows.{PaysLow, onePose, byPoses, oneState, byStates}
-use Rattle.search_buckets.specs.Laws.{pay-same, pay-small, pay-twin}
+use Rattle.search_buckets.specs.Laws.{pay-same, pay-small, pay-twin, row-above}
 
 -- ---- what is paid, as words
 
@@ -80,6 +80,13 @@ module _ (row : List ℕ) (k m : ℕ) (f : ℕ → ℕ) where
   unfolding byPoses
   poses-more n v t = lowest-more _ n
 
+  -- poses without any way
+  pub poses-above : (n v t : ℕ) → ((b : ℕ) → b < n → B ≤ f b) → B ≤ byPoses row k m f n v t
+  unfolding byPoses
+  poses-above n v t h =
+      loop-above B (λ b. onePose row k m b (f b) v t) n B (omega arith)
+      (λ b i. omega (arith, h b i, row-above (endRow row k b m) t (f b + payIn row k b m v)))
+
 -- the states below n
 module _ (row : List ℕ) (D : Deck) (R : ℕ) (f : Layer) (i q : ℕ) where
   pub state-in : (p v t : ℕ) → isSource D R i q p ≡ true
@@ -100,15 +107,15 @@ module _ (row : List ℕ) (D : Deck) (R : ℕ) (f : Layer) (i q : ℕ) where
   unfolding byStates
   states-more n v t = lowest-more _ n
 
-  -- none of them a source
-  pub states-away : (n v t : ℕ) → ((p : ℕ) → p < n → isSource D R i q p ≡ false) → byStates row D R f i q n v t ≡ B
+  -- none of them a source with a way
+  pub states-away : (n v t : ℕ) → ((p : ℕ) → p < n → B ≤ oneState row D R f i q p v t)
+      → byStates row D R f i q n v t ≡ B
   unfolding byStates
   states-away n v t h =
       omega (
         arith,
         lowest-low B (λ p. oneState row D R f i q p v t) (from 0 n),
-        loop-above B (λ p. oneState row D R f i q p v t) n B (omega arith)
-            (λ p k. omega (arith, state-out p v t (h p k))),
+        loop-above B (λ p. oneState row D R f i q p v t) n B (omega arith) h,
       )
 
   pub states-low : (n v t : ℕ) → byStates row D R f i q n v t ≤ B

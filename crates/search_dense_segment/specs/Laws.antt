@@ -1,21 +1,22 @@
 -- Laws of the costs from a row's start: from the kept layers to the costs.
 use Prim.Native.Nat.{ℕ, suc, _+_, _*_, _-_, _≤_, _<_}
-use mathlib.Core.Path.{_≡_, refl, sym, ap, _∙_}
+use mathlib.Core.Path.{_≡_, refl, sym, ap, ap₂, _∙_}
+use mathlib.Core.Logic.{inl, inr}
 use mathlib.Core.Bool.{Bool, true, false, not, _&&_, cond}
 use mathlib.Core.List.{List}
 use native.Mathlib.Omega.{arith}
 use borrow.Author.Tests.{le-leb, lt-leb, eq-eqb, ne-eqb}
 use native.Mathlib.Decide.{decLt}
-use lib.ListN.{length, getD, set}
+use lib.ListN.{length, getD}
 use lib.Dec.{leb}
 use Rattle.search_buckets.specs.Ends.{leastPoses, leastState, leastStates, state-in, state-out}
 use Rattle.search_buckets.specs.Ends.{states-low, ends-gathered, cost-run, cost-done}
 use Rattle.search_store.specs.Map.{keptAt, keptFrom, pagesFrom, maxKept}
 use Rattle.theory_tables.specs.Steps.{B, Deck, Layer, stateCount, offset, lastAt, poseSlots}
 use Rattle.theory_tables.specs.Steps.{layers, firstOpen, costTo, ends, costEnd}
-use Rattle.search_lanes.specs.Store.{Low, Written, Filled}
+use Rattle.search_lanes.specs.Store.{Filled, saidIn, RowSaid}
 use Rattle.search_lanes.specs.Lanes.{always}
-use Rattle.search_lanes.specs.Laws.{frame-join, written-one}
+use Rattle.search_lanes.specs.Laws.{frame-join}
 use Rattle.search_row.specs.Words.{wordOf, backIn, deckOf, thereIn, tallWord}
 use Rattle.search_row.specs.Laws.{and-away, and-there}
 use Rattle.search_dense_layer.specs.Thin.{thinIn}
@@ -118,34 +119,34 @@ module _ (D : Deck) (R : ℕ) where
   -- one word is written, and it is the cost
   opened-word : (costs x : ℕ) {old mid new : List ℕ}
       → pagesFrom ≤ costs → length mid ≡ length old → ((j : ℕ) → pagesFrom ≤ j → getD mid j 0 ≡ getD old j 0)
-      → Written (always x) costs 1 mid new → x ≡ costEnd D R (firstOpen D R) 1 0
+      → RowSaid (always x) costs 0 1 mid new → x ≡ costEnd D R (firstOpen D R) 1 0
       → Opened (endCost D R) 1 1 costs old new
   opened-word costs x {new = new} o n same w e =
       record {
-        long = w .frame .long ∙ n;
+        long = w .long ∙ n;
         low = w .low;
-        below = λ j h g. w .frame .low j g ∙ same j h;
-        above = λ j h. w .frame .high j (omega arith) ∙ same j (omega arith);
-        right = λ q a h g. ap (λ (k : ℕ). getD new k 0) (omega arith) ∙ w .words 0 (omega arith) ∙ e;
+        below = λ j h g. w .kept j (inl (omega arith)) (λ z. omega arith) ∙ same j h;
+        above = λ j h. w .kept j (inr (omega arith)) (λ z. omega arith) ∙ same j (omega arith);
+        right = λ q a h g. ap₂ (λ (k b : ℕ). saidIn new k b 0) (omega arith) (omega arith) ∙ w .words 0 (omega arith)
+            ∙ e;
       }
 
   -- the row has no cell
-  pub opened-none : (costs : ℕ) {st : List ℕ} → D .size ≡ 0 → pagesFrom ≤ costs → costs < length st → Low st
-      → Opened (endCost D R) 1 1 costs st (set st costs 0)
-  opened-none costs z o h w =
-      opened-word costs 0 o refl (λ j g. refl) (written-one (always 0) costs 0 w h refl (omega arith))
-      (sym (cost-done D R (firstOpen D R) 1 0 (omega arith)))
+  pub opened-none : (costs : ℕ) {old new : List ℕ} → D .size ≡ 0 → pagesFrom ≤ costs
+      → RowSaid (always 0) costs 0 1 old new → Opened (endCost D R) 1 1 costs old new
+  opened-none costs z o w =
+      opened-word costs 0 o refl (λ j g. refl) w (sym (cost-done D R (firstOpen D R) 1 0 (omega arith)))
 
   -- the least of the layer with all cells
-  pub opened-end : (costs x at : ℕ) {count : ℕ} {old mid : List ℕ}
-      → 1 ≤ D .size → pagesFrom ≤ costs → costs < length old → count ≡ stateCount R → at ≡ keptAt (D .size)
+  pub opened-end : (costs x at : ℕ) {count : ℕ} {old mid new : List ℕ}
+      → 1 ≤ D .size → pagesFrom ≤ costs → count ≡ stateCount R → at ≡ keptAt (D .size)
       → OpenKept D R (D .size) old mid → x ≡ leastStates D R (thinIn mid at) count
-      → Opened (endCost D R) 1 1 costs old (set mid costs x)
-  opened-end costs x at {count} {old} {mid} z o h n e k g =
+      → RowSaid (always x) costs 0 1 mid new
+      → Opened (endCost D R) 1 1 costs old new
+  opened-end costs x at {count} {old} {mid} z o n e k g r =
       let b = states-low D R (thinIn mid at) count in
       let w = ends-gathered D R (thinIn mid at) {x = x} n (omega arith) in
-      opened-word costs x o (k .frame .long) (k .frame .high)
-      (written-one (always x) costs x (k .low) (omega (arith, k .frame .long)) refl (omega arith))
+      opened-word costs x o (k .frame .long) (k .frame .high) r
       (let y : x ≡ ends D R (thinIn mid at) = omega arith in
       y ∙ ends-ext D R (thinIn mid at) (layers D R (firstOpen D R) 1 (D .size - 1)) last
       ∙ sym (cost-run D R (firstOpen D R) 1 0 z))

@@ -1,12 +1,12 @@
 -- The costs from a row's start: the layer that each state comes to a tall cell with, and what is left in the store.
-use Prim.Native.Nat.{ℕ, suc, _+_, _*_, _-_, _≤_, _<_}
+use Prim.Native.Nat.{ℕ, suc, _+_, _-_, _≤_, _<_}
 use mathlib.Core.Path.{_≡_}
 use mathlib.Core.Bool.{cond}
 use mathlib.Core.List.{List}
 use lib.ListN.{length, getD}
 use lib.Dec.{leb}
 use Rattle.definition.specs.Job.{maxCells}
-use Rattle.search_store.specs.Map.{keptFrom, layerBlock, pagesFrom, maxLanes, maxPoses}
+use Rattle.search_store.specs.Map.{keptFrom, layerBlock, stateBlock, pagesFrom, maxPoses}
 use Rattle.theory_tables.specs.Steps.{B, Deck, Layer, stateCount, offset, firstOpen, costTo, costEnd}
 use Rattle.search_lanes.specs.Store.{Frame, Low, layerIn}
 use Rattle.search_row.specs.declared.Sizes.{Sizes}
@@ -54,11 +54,12 @@ pub record OpenToState (row st : List ℕ) (z : Sizes) (tall costs q : ℕ) : Ty
   pub given : OpenToTall row st z tall costs
   pub state : q < z .states
 
--- so many words from `from` on, and room for a row of each from `at` on, above them
+-- so many words from `from` on, and above them a state whose words begin at `at`, with a row for each
 pub record SpreadRoom (st : List ℕ) (from at rows : ℕ) : Type 0 where
   pub low : Low st
   pub above : from + rows ≤ at
-  pub room : at + rows * maxLanes ≤ length st
+  pub few : rows ≤ maxPoses
+  pub room : at + stateBlock ≤ length st
 
 -- the layers from the row's start are kept up to layer `end`
 pub record OpenKept (D : Deck) (R end : ℕ) (old new : List ℕ) : Type 0 where

@@ -3,7 +3,7 @@ ghost use mathlib.Core.Path.{_≡_};
 ghost use Prim.Native.Nat.{_+_, _*_};
 ghost use Rattle.theory_tables.specs.Steps.{poseSlots};
 ghost use Rattle.search_buckets.specs.Ends.{leastPoses, leastState, leastStates};
-ghost use Rattle.search_lanes.specs.Store.{WrittenRows, FilledState, Filled};
+ghost use Rattle.search_lanes.specs.Store.{RowsSaid, FilledState, Filled};
 ghost use Rattle.search_row.specs.Words.{backIn, deckIn};
 ghost use Rattle.search_dense_first.specs.Begun.{PosesGiven, LayerGiven, DenseState};
 ghost use Rattle.search_dense_layer.specs.Thin.{thinIn};
@@ -24,15 +24,16 @@ fn run_open(store: &mut [u32], row: &[u32], sizes: Sizes, end: usize)
 
 // ---- to a tall cell
 
-// Words that stand side by side, to lane 0 of so many rows of lanes.
+// Words that stand side by side, to lane 0 of so many rows of a state.
 fn spread(store: &mut [u32], from: usize, at: usize, rows: usize)
     requires { ⌜ SpreadRoom (now store) from at rows ⌝ }
-    ensures { λ _. ⌜ WrittenRows (spreadFrom (now (store .entry)) from) at rows 1 (now (store .entry))
+    ensures { λ _. ⌜ RowsSaid (spreadFrom (now (store .entry)) from) at rows 1 (now (store .entry))
         (now (store .exit)) ⌝ }
 {
     let mut a: usize = 0;
     while a < rows {
-        store[at + a * search_store::MAX_LANES] = store[from + a];
+        let x = store[from + a];
+        search_lanes::put_one(store, at, a, x);
         a += 1;
     }
 }
@@ -46,12 +47,11 @@ fn put_state(store: &mut [u32], row: &[u32], sizes: Sizes, tall: usize, costs: u
     let digit = search_row::word(row, search_row::STATES + q * 4);
     let all = tall + sizes.reordering + 1;
     if all < 1 + digit {
-        search_lanes::fill_rows(
+        search_lanes::fill(
             store,
-            costs + q * search_store::STATE,
+            costs + q * search_store::STATE + search_store::FLAGS,
             sizes.poses,
-            1,
-            search_lanes::NONE,
+            0,
         );
         return;
     }
@@ -140,9 +140,10 @@ pub fn open_end(store: &mut [u32], row: &[u32], sizes: Sizes, costs: usize)
         (now (store .entry)) (now (store .exit)) ⌝ }
 {
     if sizes.cells == 0 {
-        store[costs] = 0;
+        search_lanes::put_one(store, costs, 0, 0);
         return;
     }
     run_open(store, row, sizes, sizes.cells);
-    store[costs] = least_states(store, row, sizes, search_store::kept_at(sizes.cells));
+    let x = least_states(store, row, sizes, search_store::kept_at(sizes.cells));
+    search_lanes::put_one(store, costs, 0, x);
 }

@@ -1,5 +1,5 @@
 -- What a loop over the lanes of a row is given, and what it leaves.
-use Prim.Native.Nat.{ℕ, _+_, _*_, _≤_, _<_, min}
+use Prim.Native.Nat.{ℕ, _+_, _≤_, _<_, min}
 use mathlib.Core.Path.{_≡_}
 use mathlib.Core.List.{List}
 use lib.ListN.{length, getD}
@@ -44,6 +44,3 @@ wordsFrom st at k = getD st (at + k) 0
 -- the same by rows of lanes
 abbrev pub alwaysRows : ℕ → ℕ → ℕ → ℕ
 alwaysRows x a l = x
-
-abbrev pub rowsFrom : List ℕ → ℕ → ℕ → ℕ → ℕ
-rowsFrom st at a l = getD st (at + a * maxLanes + l) 0

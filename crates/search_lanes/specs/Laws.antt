@@ -1,16 +1,20 @@
 -- Laws of stores and of lanes: what one write keeps, what a loop that writes one word after the other has written.
-use Prim.Native.Nat.{ℕ, _+_, _*_, _-_, _≤_, _<_, min}
-use mathlib.Core.Path.{_≡_, refl, sym, _∙_}
+use Prim.Native.Nat.{ℕ, zero, suc, _+_, _*_, _-_, _≤_, _<_, min}
+use mathlib.Core.Path.{_≡_, refl, sym, ap, ap₂, _∙_}
+use mathlib.Core.Logic.{⊎-elim, inl, inr}
+use mathlib.Core.Bool.{Bool, cond}
 use mathlib.Core.List.{List}
 use native.Mathlib.Omega.{arith}
 use native.Mathlib.Decide.{ℕ-discrete, decLt}
 use borrow.Author.Count.{below-more}
+use borrow.Author.Tests.{ne-eqb}
 use lib.ListN.{length, getD, set, length-set, replicate, length-replicate, getD-replicate, List·getD-eq-default}
 use lib.Seq.{getD-set-same, getD-set-other}
-use Rattle.search_store.specs.Map.{layerBlock, stateBlock, maxLanes}
-use Rattle.theory_tables.specs.Steps.{B, Layer, poseSlots}
-use Rattle.search_lanes.specs.Lanes.{Lowered}
-use Rattle.search_lanes.specs.Store.{Frame, Low, Written, WrittenRows, layerIn, FilledState, Filled}
+use Rattle.search_store.specs.Map.{layerBlock, stateBlock, flagsFrom, maxLanes, maxPoses}
+use Rattle.theory_tables.specs.Steps.{B, Layer}
+use Rattle.search_lanes.specs.Lanes.{Lowered, always}
+use Rattle.search_lanes.specs.Store.{Frame, Low, Written, WrittenRows, said, saidIn, RowSaid, RowsSaid}
+use Rattle.search_lanes.specs.Store.{layerIn, FilledState, Filled}
 
 -- ---- lanes
 
@@ -150,27 +154,156 @@ rows-more {f} {g} {at} {lanes} {new = new} a n s w e =
       low = w .low;
     }
 
--- some rows, then those that follow
-pub rows-join :
-    {f g h : ℕ → ℕ → ℕ} {at n all lanes : ℕ} {old mid new : List ℕ}
-    → lanes ≤ maxLanes → n ≤ all → WrittenRows f at n lanes old mid
-    → WrittenRows g (at + n * maxLanes) (all - n) lanes mid new
-    → ((a l : ℕ) → a < n → l < lanes → h a l ≡ f a l)
-    → ((a l : ℕ) → n ≤ a → a < all → l < lanes → h a l ≡ g (a - n) l)
-    → WrittenRows h at all lanes old new
-rows-join {f} {g} {h} {at} {n} {all} {lanes} {new = new} k m s w d e =
+-- ---- rows with flags
+
+pub said-none : (flag word : ℕ) → flag ≡ 0 → said flag word ≡ B
+unfolding said
+said-none flag word e = rw e refl
+
+pub said-word : (flag word : ℕ) → (flag ≡ 0 → ⊥) → said flag word ≡ word
+unfolding said
+said-word flag word d = ap (λ (t : Bool). cond t B word) (ne-eqb flag 0 d)
+
+pub said-low : {st : List ℕ} → Low st → (flag k : ℕ) → said flag (getD st k 0) ≤ B
+said-low {st} w zero k = omega (arith, said-none 0 (getD st k 0) refl)
+said-low {st} w (suc n) k = omega (arith, said-word (suc n) (getD st k 0) (λ z. omega arith), w .word k)
+
+-- what a row says depends on its flag and its words alone
+pub said-same : (old new : List ℕ) (at a l : ℕ) → getD new (at + flagsFrom + a) 0 ≡ getD old (at + flagsFrom + a) 0
+    → getD new (at + a * maxLanes + l) 0 ≡ getD old (at + a * maxLanes + l) 0 → saidIn new at a l ≡ saidIn old at a l
+said-same old new at a l e d = ap₂ said e d
+
+-- the same outside a part that changed
+pub said-below : {a b : ℕ} {old new : List ℕ} → Frame a b old new → (at p l : ℕ) → at + stateBlock ≤ a → p < maxPoses
+    → l < maxLanes → saidIn new at p l ≡ saidIn old at p l
+said-below {old = old} {new = new} f at p l h x y =
+    said-same old new at p l (f .low (at + flagsFrom + p) (omega arith)) (f .low (at + p * maxLanes + l) (omega arith))
+
+pub said-above : {a b : ℕ} {old new : List ℕ} → Frame a b old new → (at p l : ℕ) → b ≤ at
+    → saidIn new at p l ≡ saidIn old at p l
+said-above {old = old} {new = new} f at p l h =
+    said-same old new at p l (f .high (at + flagsFrom + p) (omega arith))
+    (f .high (at + p * maxLanes + l) (omega arith))
+
+-- a row's words are written, then its flag, which is 0 only if they are all B
+pub row-flagged :
+    {f g : ℕ → ℕ} {at lanes : ℕ} {old mid : List ℕ} (a v : ℕ)
+    → lanes ≤ maxLanes → a < maxPoses → at + stateBlock ≤ length old → Written g (at + a * maxLanes) lanes old mid
+    → v ≤ B → (v ≡ 0 → (l : ℕ) → l < lanes → f l ≡ B) → ((l : ℕ) → l < lanes → f l ≡ g l)
+    → RowSaid f at a lanes old (set mid (at + flagsFrom + a) v)
+row-flagged {f} {g} {at} {lanes} {old} {mid} a v n h room w b z e =
     record {
-      frame = frame-join at (at + all * maxLanes) (s .frame) (w .frame) (omega arith) (omega arith)
+      long = length-set mid (at + flagsFrom + a) v ∙ w .frame .long;
+      kept = λ k p d. getD-set-other mid (at + flagsFrom + a) k v 0 d
+          ∙ ⊎-elim (λ q. w .frame .low k q) (λ q. w .frame .high k (omega arith)) p;
+      words = λ l p. says l p (ℕ-discrete v 0);
+      low = low-set (at + flagsFrom + a) v (w .low) (omega (arith, w .frame .long)) b;
+    }
+  where
+    flag : getD (set mid (at + flagsFrom + a) v) (at + flagsFrom + a) 0 ≡ v
+    flag = getD-set-same mid (at + flagsFrom + a) v 0 (omega (arith, w .frame .long))
+
+    says : (l : ℕ) → l < lanes → Dec (v ≡ 0) → saidIn (set mid (at + flagsFrom + a) v) at a l ≡ f l
+    says l p (yes q) = said-none _ _ (flag ∙ q) ∙ sym (z q l p)
+    says l p (no q) =
+        said-word _ _ (λ r. q (sym flag ∙ r))
+        ∙ getD-set-other mid (at + flagsFrom + a) (at + a * maxLanes + l) v 0 (omega arith) ∙ w .words l p ∙ sym (e l p)
+
+-- its flag alone is written: it is 0
+pub row-closed :
+    {f : ℕ → ℕ} {at lanes : ℕ} {st : List ℕ} (a : ℕ)
+    → a < maxPoses → at + stateBlock ≤ length st → Low st → ((l : ℕ) → l < lanes → f l ≡ B)
+    → RowSaid f at a lanes st (set st (at + flagsFrom + a) 0)
+row-closed {f} {at} {lanes} {st} a h room w e =
+    record {
+      long = length-set st (at + flagsFrom + a) 0;
+      kept = λ k p d. getD-set-other st (at + flagsFrom + a) k 0 0 d;
+      words = λ l p. said-none _ _ (getD-set-same st (at + flagsFrom + a) 0 0 (omega arith)) ∙ sym (e l p);
+      low = low-set (at + flagsFrom + a) 0 w (omega arith) (omega arith);
+    }
+
+-- the same of the first row
+pub first-flagged :
+    {f g : ℕ → ℕ} {at lanes : ℕ} {old mid : List ℕ} (v : ℕ)
+    → lanes ≤ maxLanes → at + stateBlock ≤ length old → Written g at lanes old mid
+    → v ≤ B → (v ≡ 0 → (l : ℕ) → l < lanes → f l ≡ B) → ((l : ℕ) → l < lanes → f l ≡ g l)
+    → RowSaid f at 0 lanes old (set mid (at + flagsFrom) v)
+first-flagged {g = g} {at} {lanes} {old} {mid} v n room w b z e =
+    let y : at + 0 * maxLanes ≡ at = omega arith in
+    let x : at + flagsFrom + 0 ≡ at + flagsFrom = omega arith in
+    let u : Written g (at + 0 * maxLanes) lanes old mid = rw y w in
+    rw x at (row-flagged 0 v n (omega arith) room u b z e)
+
+pub first-closed :
+    {f : ℕ → ℕ} {at lanes : ℕ} {st : List ℕ}
+    → at + stateBlock ≤ length st → Low st → ((l : ℕ) → l < lanes → f l ≡ B)
+    → RowSaid f at 0 lanes st (set st (at + flagsFrom) 0)
+first-closed {at = at} room w e =
+    let x : at + flagsFrom + 0 ≡ at + flagsFrom = omega arith in
+    rw x at (row-closed 0 (omega arith) room w e)
+
+pub said-none-yet : (f : ℕ → ℕ → ℕ) (at lanes : ℕ) {st : List ℕ} → Low st → RowsSaid f at 0 lanes st st
+said-none-yet f at lanes {st} w =
+    record { frame = frame-refl at (at + stateBlock) st; words = λ a l h. absurd (omega arith); low = w }
+
+-- one row more
+pub said-more :
+    {f : ℕ → ℕ → ℕ} {g : ℕ → ℕ} {at lanes : ℕ} {old mid new : List ℕ} (a : ℕ)
+    → lanes ≤ maxLanes → a < maxPoses → RowsSaid f at a lanes old mid → RowSaid g at a lanes mid new
+    → ((l : ℕ) → l < lanes → f a l ≡ g l)
+    → RowsSaid f at (a + 1) lanes old new
+said-more {f} {g} {at} {lanes} {mid = mid} {new = new} a n h s w e =
+    record {
+      frame = record {
+        long = w .long ∙ s .frame .long;
+        low = λ k p. w .kept k (inl (omega arith)) (λ z. omega arith) ∙ s .frame .low k p;
+        high = λ k p. w .kept k (inr (omega arith)) (λ z. omega arith) ∙ s .frame .high k p;
+      };
+      words = λ b l p r. below-more (λ (b : ℕ). (l : ℕ) → l < lanes → saidIn new at b l ≡ f b l) a
+          (λ b p l r. said-same mid new at b l
+          (w .kept (at + flagsFrom + b) (inr (omega arith)) (λ z. omega arith))
+          (w .kept (at + b * maxLanes + l) (inl (omega arith)) (λ z. omega arith)) ∙ s .words b l p r)
+          (λ l r. w .words l r ∙ sym (e l r))
+          b p l r;
+      low = w .low;
+    }
+
+-- some rows, then flags of the rows that follow
+pub said-join :
+    {f h : ℕ → ℕ → ℕ} {at n all lanes : ℕ} {old mid new : List ℕ}
+    → lanes ≤ maxLanes → n ≤ all → all ≤ maxPoses → RowsSaid f at n lanes old mid
+    → Written (always 0) (at + flagsFrom + n) (all - n) mid new
+    → ((a l : ℕ) → a < n → l < lanes → h a l ≡ f a l)
+    → ((a l : ℕ) → n ≤ a → a < all → l < lanes → h a l ≡ B)
+    → RowsSaid h at all lanes old new
+said-join {f} {h} {at} {n} {all} {lanes} {mid = mid} {new = new} k m few s w d e =
+    record {
+      frame = frame-join at (at + stateBlock) (s .frame) (w .frame) (omega arith) (omega arith)
           (omega arith) (omega arith);
       words = λ a l p r. go a l p r (decLt a n);
       low = w .low;
     }
   where
-    go : (a l : ℕ) → a < all → l < lanes → Dec (a < n) → getD new (at + a * maxLanes + l) 0 ≡ h a l
-    go a l p r (yes q) = w .frame .low (at + a * maxLanes + l) (omega arith) ∙ s .words a l q r ∙ sym (d a l q r)
+    go : (a l : ℕ) → a < all → l < lanes → Dec (a < n) → saidIn new at a l ≡ h a l
+    go a l p r (yes q) =
+        said-same mid new at a l (w .frame .low (at + flagsFrom + a) (omega arith))
+        (w .frame .low (at + a * maxLanes + l) (omega arith))
+        ∙ s .words a l q r ∙ sym (d a l q r)
     go a l p r (no q) =
-        let z : at + n * maxLanes + (a - n) * maxLanes + l ≡ at + a * maxLanes + l = omega arith in
-        (rw z at (w .words (a - n) l (omega arith) r)) ∙ sym (e a l (omega arith) p r)
+        let z : at + flagsFrom + n + (a - n) ≡ at + flagsFrom + a = omega arith in
+        said-none _ _ (rw z at (w .words (a - n) (omega arith))) ∙ sym (e a l (omega arith) p r)
+
+-- no row says anything but B
+said-closed :
+    {h : ℕ → ℕ → ℕ} {at rows lanes : ℕ} {old new : List ℕ}
+    → lanes ≤ maxLanes → rows ≤ maxPoses → Low old → Written (always 0) (at + flagsFrom) rows old new
+    → ((a l : ℕ) → a < rows → l < lanes → h a l ≡ B)
+    → RowsSaid h at rows lanes old new
+said-closed {h} {at} {rows} {lanes} {old} k few low w e =
+    let z : at + flagsFrom + 0 ≡ at + flagsFrom = omega arith in
+    let y : rows - 0 ≡ rows = omega arith in
+    said-join {f = h} k (omega arith) few (said-none-yet h at lanes low) (rw (z, y) w) (λ a l p r. refl)
+    (λ a l p q r. e a l q r)
 
 -- ---- layers: the rows of a state's block, and one block more
 
@@ -184,23 +317,30 @@ state-ext w e = record { frame = w .frame; low = w .low; right = λ a p l r. w .
 -- so many rows of a state's block
 pub state-rows :
     {F : ℕ → Layer} {f : ℕ → ℕ → ℕ} {lanes to q m : ℕ} {old new : List ℕ}
-    → m ≤ poseSlots → WrittenRows f (to + q * stateBlock) m lanes old new
-    → ((a l : ℕ) → a < m → l < lanes → F l q a ≡ f a l)
+    → RowsSaid f (to + q * stateBlock) m lanes old new → ((a l : ℕ) → a < m → l < lanes → F l q a ≡ f a l)
     → FilledState F lanes to q m old new
-state-rows {to = to} {q = q} {old = old} {new = new} k w e =
+state-rows w e =
     record {
-      frame = frame-join (to + q * stateBlock) (to + q * stateBlock + stateBlock) (frame-refl (to + q * stateBlock)
-          (to + q * stateBlock) old) (w .frame) (omega arith) (omega arith) (omega arith) (omega arith);
+      frame = w .frame;
       low = w .low;
       right = λ a p l r. w .words a l p r ∙ sym (e a l p r);
     }
+
+-- all of them closed
+pub state-closed :
+    {F : ℕ → Layer} {lanes to q m : ℕ} {old new : List ℕ}
+    → lanes ≤ maxLanes → m ≤ maxPoses → Low old → Written (always 0) (to + q * stateBlock + flagsFrom) m old new
+    → ((a l : ℕ) → a < m → l < lanes → F l q a ≡ B)
+    → FilledState F lanes to q m old new
+state-closed {F} {q = q} n few low w e =
+    state-rows (said-closed {h = λ a l. F l q a} n few low w e) (λ a l p r. refl)
 
 pub filled-none : (F : ℕ → Layer) (lanes poses to : ℕ) {st : List ℕ} → Low st → Filled F lanes poses to 0 st st
 filled-none F lanes poses to {st} w = record { frame = frame-refl _ _ st; low = w; right = λ q h. absurd (omega arith) }
 
 pub filled-more :
     {F G : ℕ → Layer} {lanes poses to : ℕ} {old mid new : List ℕ} (q : ℕ)
-    → lanes ≤ maxLanes → poses ≤ poseSlots → q < 12 → Filled F lanes poses to q old mid
+    → lanes ≤ maxLanes → poses ≤ maxPoses → q < 12 → Filled F lanes poses to q old mid
     → FilledState G lanes to q poses mid new
     → ((a l : ℕ) → a < poses → l < lanes → F l q a ≡ G l q a)
     → Filled F lanes poses to (q + 1) old new
@@ -210,7 +350,8 @@ filled-more {F} {G} {lanes} {poses} {to} {new = new} q n k h s w e =
           frame-join to (to + layerBlock) (s .frame) (w .frame) (omega arith) (omega arith) (omega arith) (omega arith);
       low = w .low;
       right = below-more (λ (q : ℕ). (a l : ℕ) → a < poses → l < lanes → layerIn new to l q a ≡ F l q a) q
-          (λ p j a l x y. w .frame .low (to + p * stateBlock + a * maxLanes + l) (omega arith) ∙ s .right p j a l x y)
+          (λ p j a l x y. said-below (w .frame) (to + p * stateBlock) a l (omega arith) (omega arith) (omega arith)
+          ∙ s .right p j a l x y)
           (λ a l x y. w .right a x l y ∙ sym (e a l x y));
     }
 

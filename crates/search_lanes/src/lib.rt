@@ -3,9 +3,10 @@ ghost use mathlib.Core.Path.{_≡_};
 ghost use Prim.Native.Nat.{ℕ, _+_, _*_, _≤_, _<_, min};
 ghost use lib.ListN.{length, getD, replicate};
 ghost use Rattle.search_lanes.specs.Lanes.{LaneRow, Lowered, charged, withOwn};
-ghost use Rattle.search_lanes.specs.Lanes.{always, wordsFrom, alwaysRows, rowsFrom};
-ghost use Rattle.search_lanes.specs.Store.{Written, WrittenRows, SignedWords};
-ghost use Rattle.search_lanes.specs.Store.{WordsToFill, WordsToCopy, RowsToFill, RowsToCopy};
+ghost use Rattle.search_lanes.specs.Lanes.{always, wordsFrom, alwaysRows};
+ghost use Rattle.search_lanes.specs.Store.{Written, WrittenRows, SignedWords, saidIn, RowSaid, RowsSaid, FlagOf};
+ghost use Rattle.search_lanes.specs.Store.{WordsToFill, WordsToCopy, RowsToFill};
+ghost use Rattle.search_lanes.specs.Store.{RowToCopy, StateToCopy, WordToPut};
 
 // There is no way: every cost is below.
 pub const NONE: u32 = 268435456;
@@ -34,6 +35,26 @@ pub fn common(row: &[u32], at: usize, lanes: usize) -> u32
     while l < lanes {
         x = x & row[at + l];
         l += 1;
+    }
+    x
+}
+
+fn greater(x: u32, y: u32) -> u32
+    ensures { λ r. ⌜ (x ≤ r) × (y ≤ r) ⌝ }
+{
+    if x < y { y } else { x }
+}
+
+// The greatest of some words, 0 if there is none.
+pub fn most(words: &[u32], at: usize, count: usize) -> u32
+    requires { ⌜ at + count ≤ length (now words) ⌝ }
+    ensures { λ x. ⌜ ((k : ℕ) → k < count → getD (now (words .entry)) (at + k) 0 ≤ x) ⌝ }
+{
+    let mut x = 0;
+    let mut k: usize = 0;
+    while k < count {
+        x = greater(x, words[at + k]);
+        k += 1;
     }
     x
 }
@@ -110,20 +131,53 @@ pub fn fill_rows(store: &mut [u32], at: usize, rows: usize, lanes: usize, x: u32
     }
 }
 
-// The first lanes of so many rows from one part of the store to another that does not overlap it.
-pub fn copy_rows(store: &mut [u32], from: usize, at: usize, rows: usize, lanes: usize)
-    requires { ⌜ RowsToCopy (now store) from at rows lanes ⌝ }
-    ensures { λ _. ⌜ WrittenRows (rowsFrom (now (store .entry)) from) at rows lanes (now (store .entry))
+// ---- rows with flags
+
+// The flag of a row whose words are at least x.
+pub fn flag_of(x: u32) -> u32
+    ensures { λ flag. ⌜ FlagOf x flag ⌝ }
+{
+    if x < NONE { 1 } else { 0 }
+}
+
+// The row of pose a of a state says x in its first lane.
+pub fn put_one(store: &mut [u32], at: usize, a: usize, x: u32)
+    requires { ⌜ WordToPut (now store) at a x ⌝ }
+    ensures { λ _. ⌜ RowSaid (always x) at a 1 (now (store .entry)) (now (store .exit)) ⌝ }
+{
+    store[at + a * search_store::MAX_LANES] = x;
+    store[at + search_store::FLAGS + a] = flag_of(x);
+}
+
+// The row of pose a of a state and its flag, to a state that comes after it.
+fn copy_row(store: &mut [u32], from: usize, at: usize, a: usize, lanes: usize)
+    requires { ⌜ RowToCopy (now store) from at a lanes ⌝ }
+    ensures { λ _. ⌜ RowSaid (saidIn (now (store .entry)) from a) at a lanes (now (store .entry))
+        (now (store .exit)) ⌝ }
+{
+    let flag = store[from + search_store::FLAGS + a];
+    if flag == 0 {
+        store[at + search_store::FLAGS + a] = 0;
+        return;
+    }
+    copy(
+        store,
+        from + a * search_store::MAX_LANES,
+        at + a * search_store::MAX_LANES,
+        lanes,
+    );
+    store[at + search_store::FLAGS + a] = flag;
+}
+
+// The rows of so many poses.
+pub fn copy_rows(store: &mut [u32], from: usize, at: usize, poses: usize, lanes: usize)
+    requires { ⌜ StateToCopy (now store) from at poses lanes ⌝ }
+    ensures { λ _. ⌜ RowsSaid (saidIn (now (store .entry)) from) at poses lanes (now (store .entry))
         (now (store .exit)) ⌝ }
 {
     let mut a: usize = 0;
-    while a < rows {
-        copy(
-            store,
-            from + a * search_store::MAX_LANES,
-            at + a * search_store::MAX_LANES,
-            lanes,
-        );
+    while a < poses {
+        copy_row(store, from, at, a, lanes);
         a += 1;
     }
 }

@@ -5,7 +5,7 @@ use mathlib.Core.Bool.{Bool, _&&_, cond}
 use mathlib.Core.List.{List}
 use lib.ListN.{length, getD}
 use lib.Dec.{leb, ltb, eqb}
-use Rattle.definition.specs.Job.{maxCells, maxTall}
+use Rattle.definition.specs.Job.{maxCells, maxTall, maxReordering}
 use Rattle.definition.specs.Rules.{isForbidden}
 use Rattle.definition.specs.Cost.{charge}
 use Rattle.theory_tables.specs.Steps.{B, Deck, stateCount, offset, marks, before, lastAt, poseSlots}
@@ -136,7 +136,7 @@ abbrev pub stateAt : ℕ → ℕ
 stateAt q = statesFrom + q * 4
 
 pub record StateWords (R : ℕ) (row : List ℕ) : Type 0 where
-  pub reorder : R ≤ 2
+  pub reorder : R ≤ maxReordering
   pub few : stateCount R ≤ 12
   pub small : (q : ℕ) → q < stateCount R → offset R q ≤ 4
   pub long : statesEnd ≤ length row

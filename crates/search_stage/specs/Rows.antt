@@ -1,18 +1,18 @@
 -- Costs of a stage in one row, from the first layer and the segment on from it.
-use Prim.Native.Nat.{ℕ, suc, _+_, _-_, _≤_, _<_, min}
-use mathlib.Core.Path.{_≡_, sym, ap, _∙_}
+use Prim.Native.Nat.{ℕ, suc, _+_, _*_, _-_, _≤_, _<_, min}
+use mathlib.Core.Path.{_≡_, sym, ap, ap₂, _∙_}
 use mathlib.Core.Logic.{⊎-elim}
 use mathlib.Core.List.{List}
 use native.Mathlib.Omega.{arith}
 use native.Mathlib.Numerals.{add-one}
 use lib.ListN.{getD}
 use Rattle.definition.specs.Job.{maxCells}
-use Rattle.search_store.specs.Map.{layerBlock}
+use Rattle.search_store.specs.Map.{layerBlock, stateBlock}
 use Rattle.search_row.specs.declared.Sizes.{Sizes}
 use Rattle.search_row.specs.Words.{posIn, RowGiven}
 use Rattle.theory_tables.specs.Steps.{Deck, Layer, stateCount, marks, firstAfter, firstOpen}
 use Rattle.theory_tables.specs.Stages.{placedWith, stageEnd, openCost, stageCost}
-use Rattle.search_lanes.specs.Store.{Frame, layerIn, Filled}
+use Rattle.search_lanes.specs.Store.{Frame, saidIn, layerIn, Filled}
 use Rattle.search_wide_first.specs.Firsts.{afterFrom}
 use Rattle.search_wide_layer.specs.declared.Block.{Block}
 use Rattle.search_wide_segment.specs.Runs.{SegmentGiven, SegmentCosted}
@@ -60,7 +60,7 @@ module _ (D : Deck) (R talls : ℕ) (pos : ℕ → ℕ) where
         low = w .low;
         kept = λ k h b. ⊎-elim (λ g. w .outside .below k (omega arith) g) (λ g. w .outside .above k (omega arith)) b;
         right = λ q a l x y z.
-            ap (λ (k : ℕ). getD new k 0) (omega arith)
+            ap₂ (λ (k b : ℕ). saidIn new k b l) (omega arith) (omega arith)
             ∙ w .right l z
             ∙ sym (stage-last D R talls pos (layerIn old 0 l) I i (getD starts l 0) q a h (omega arith) (omega arith));
       }
@@ -94,7 +94,7 @@ module _ (D : Deck) (R talls : ℕ) (pos : ℕ → ℕ) where
         kept = λ k g b. ⊎-elim (w .below k g) (w .above k) b;
         right = λ q a l x y z.
             let v = w .right q a (omega arith) (omega arith) in
-            ap (λ (k : ℕ). getD new k 0) (omega arith) ∙ rw (e) at v
+            ap (saidIn new (costs + q * stateBlock) a) (omega arith) ∙ rw (e) at v
             ∙ sym (stage-tall D R talls pos (firstOpen D R) 0 1 0 q a h);
       }
 
@@ -111,7 +111,7 @@ module _ (D : Deck) (R talls : ℕ) (pos : ℕ → ℕ) where
         low = w .low;
         kept = λ k g b. ⊎-elim (w .below k g) (w .above k) b;
         right = λ q a l x y z.
-            ap (λ (k : ℕ). getD new k 0) (omega arith)
+            ap (saidIn new (costs + q * stateBlock) a) (omega arith)
             ∙ w .right q a (omega arith) (omega arith)
             ∙ sym (stage-last D R talls pos (firstOpen D R) 0 1 0 q a h (omega arith) (omega arith));
       }

@@ -7,9 +7,10 @@ use native.Mathlib.Omega.{arith}
 use native.Mathlib.Decide.{decLt}
 use borrow.Author.Count.{below-more}
 use lib.ListN.{length}
-use Rattle.search_store.specs.Map.{caseAt, costsAt, maxLanes}
+use Rattle.search_store.specs.Map.{caseAt, costsAt, stateBlock, flagsFrom, maxLanes, maxPoses}
 use Rattle.theory_tables.specs.Steps.{B, SegmentCosts, poseSlots}
 use Rattle.search_lanes.specs.Store.{Low}
+use Rattle.search_lanes.specs.Laws.{said-same}
 use Rattle.search_store.specs.Places.{case-beside, cost-before}
 use Rattle.search_wide_buckets.specs.Table.{TableLent}
 use Rattle.search_join.specs.Tables.{casesIn, pointersIn, costsIn, SameCase, SameTables, Table}
@@ -132,8 +133,14 @@ module _ (I starts lanes ends poses : ℕ) (few : starts ≤ 12) (narrow : lanes
         inl
         (λ w. inr (record {
           word = λ q a l i j k.
-              p .kept _ (omega arith)
-              (inl (cost-before other t row s q a l b (omega arith) (omega arith) (omega arith) h))
+              said-same old new (costsAt other t + q * stateBlock) a l
+              (p .kept (costsAt other t + q * stateBlock + flagsFrom + a) (omega arith)
+              (inl (omega (
+                arith,
+                cost-before other t row s q maxPoses a b (omega arith) (omega arith) (omega arith) h,
+              ))))
+              (p .kept (costsAt other t + q * stateBlock + a * maxLanes + l) (omega arith)
+              (inl (cost-before other t row s q a l b (omega arith) (omega arith) (omega arith) h)))
               ∙ w .word q a l i j k;
         }))
         r

@@ -10,6 +10,7 @@ use lib.Count.{ones}
 use lib.Dec.{eqb, lit≤}
 use lib.ListN.{length, getD, drop, set, length-set}
 use lib.Seq.{getD-set-same, getD-set-other}
+use Rattle.definition.specs.Job.{maxReordering}
 use Rattle.lists.specs.Compare.{Eq?, same, eq?}
 use Rattle.theory_row.specs.Marks.{bit}
 use Rattle.theory_pair.specs.Pick.{goodMarks}
@@ -93,13 +94,13 @@ pub record StatesAdded (R : ℕ) (old row : List ℕ) (count : ℕ) (l : List (�
 
 -- room for all states
 pub record StatesRoom (R : ℕ) (row : List ℕ) : Type 0 where
-  pub reorder : R ≤ 2
+  pub reorder : R ≤ maxReordering
   pub long : rowLength ≤ length row
   pub low : Low row
 
 -- while m is looked at as marks: `count` states are written, and `l` is still to come
 pub record Coming (R : ℕ) (row : List ℕ) (count m : ℕ) (l : List (ℕ × ℕ)) : Type 0 where
-  pub reorder : R ≤ 2
+  pub reorder : R ≤ maxReordering
   pub window : m < 2 ^ suc (2 * R)
   pub upto : StatesUpto R row count l
 
@@ -110,7 +111,7 @@ pub record DigitComing (R : ℕ) (row : List ℕ) (count m d : ℕ) : Type 0 whe
 
 -- a digit of a window
 pub record DigitAsked (R d : ℕ) : Type 0 where
-  pub reorder : R ≤ 2
+  pub reorder : R ≤ maxReordering
   pub digit : d ≤ 4
 
 -- room for state q, and a digit of its marks that is set
@@ -161,7 +162,8 @@ module _ (p : List ℕ) (n d m : ℕ) (h : stateAt n + 2 < length p) where
       getD-set-same (set (set p (stateAt n) d) (stateAt n + 1) m) (stateAt n + 2) (marksBefore d m) 0
       (simp length-set (omega arith))
 
-pub room : {R : ℕ} {p : List ℕ} {n d m : ℕ} {l : List (ℕ × ℕ)} → R ≤ 2 → StatesUpto R p n ((d, m) ∷ l) → n < 12
+pub room : {R : ℕ} {p : List ℕ} {n d m : ℕ} {l : List (ℕ × ℕ)} → R ≤ maxReordering → StatesUpto R p n ((d, m) ∷ l)
+    → n < 12
 room {R} {n = n} r u = let k = next {d = (0, 0)} (pairsOf R) n (u .left) in omega (arith, k .inside, counted R r .few)
 
 -- the word for the marks before is small too
@@ -184,7 +186,7 @@ with-frame o p n d m h f =
     (omega arith) (omega arith) (omega arith)
 
 pub upto-more : {R : ℕ} {p : List ℕ} {n d m : ℕ} {l : List (ℕ × ℕ)}
-    → R ≤ 2 → d ≤ 4 → m < 32 → StatesUpto R p n ((d, m) ∷ l) → StatesUpto R (withState p n d m) (n + 1) l
+    → R ≤ maxReordering → d ≤ 4 → m < 32 → StatesUpto R p n ((d, m) ∷ l) → StatesUpto R (withState p n d m) (n + 1) l
 upto-more {R} {p} {n} {d} {m} {l} r low₁ low₂ u =
     let k = next {d = (0, 0)} (pairsOf R) n (u .left) in
     let x : n < 12 = room r u in
@@ -216,7 +218,7 @@ pub record Coded (R : ℕ) (old row : List ℕ) (count : ℕ) : Type 0 where
   pub frame : Frame statesFrom statesEnd old row
   pub low : Low row
 
-pub upto-all : {R : ℕ} {o p : List ℕ} {n : ℕ} → R ≤ 2 → StatesUpto R p n [] → Frame statesFrom statesEnd o p
+pub upto-all : {R : ℕ} {o p : List ℕ} {n : ℕ} → R ≤ maxReordering → StatesUpto R p n [] → Frame statesFrom statesEnd o p
     → Coded R o p n
 upto-all {R} {o} {p} {n} r u f₀ =
     let e : n ≡ stateCount R = done (pairsOf R) n (u .below) (u .left) in
@@ -279,7 +281,7 @@ module _ {R : ℕ} {p : List ℕ} {n : ℕ} where
   no-marks m h u = rw (marks-none R m h) at u
 
 -- where the marks end: 2 << 2 R, at most 32
-pub marks-end : (R : ℕ) → R ≤ 2 → (2 * 2 ^ (2 * R) % 4294967296 ≡ 2 ^ suc (2 * R)) × (2 ^ suc (2 * R) ≤ 32)
+pub marks-end : (R : ℕ) → R ≤ maxReordering → (2 * 2 ^ (2 * R) % 4294967296 ≡ 2 ^ suc (2 * R)) × (2 ^ suc (2 * R) ≤ 32)
 marks-end zero h = (refl, lit≤ tt)
 marks-end (suc zero) h = (refl, lit≤ tt)
 marks-end (suc (suc zero)) h = (refl, lit≤ tt)

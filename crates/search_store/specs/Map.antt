@@ -23,6 +23,10 @@ stateBlock = 4096
 abbrev pub layerBlock : ℕ
 layerBlock = 49152
 
+-- where the flags of a state's rows stand in its block: one for each pose, behind the rows
+abbrev pub flagsFrom : ℕ
+flagsFrom = 3840
+
 -- where the two layers end and the kept ones begin, and the words of one of these
 abbrev pub keptFrom : ℕ
 keptFrom = 98304

@@ -16,6 +16,10 @@ pub const STATE: usize = 4096;
 
 pub const LAYER: usize = 49152;
 
+// Where the flags of a state's rows stand in its words, one for each pose: 0 if its row is NONE in every lane,
+// whatever its words.
+pub const FLAGS: usize = 3840;
+
 // The words of a layer in one lane, how many can be kept, and where the first of them would stand.
 pub const KEPT_LAYER: usize = 768;
 

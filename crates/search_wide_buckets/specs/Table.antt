@@ -10,7 +10,7 @@ use Rattle.search_store.specs.Map.{stateBlock, tableWords, bucketRows, bucketWo
 use Rattle.lists.specs.Numbers.{from}
 use Rattle.theory_pair.specs.Coded.{lowest}
 use Rattle.theory_tables.specs.Steps.{B, Deck}
-use Rattle.search_lanes.specs.Store.{Low, layerIn}
+use Rattle.search_lanes.specs.Store.{Low, Written, saidIn, layerIn}
 use Rattle.search_row.specs.Words.{wordOf, RowWords}
 use Rattle.search_buckets.specs.Gaps.{paying}
 use Rattle.search_buckets.specs.declared.Source.{Source}
@@ -159,7 +159,7 @@ pub record PosesSource (table st row pays : List ℕ) (s : Source) (poses rows l
 
 -- the costs of a cell's poses, whose rows begin at `at`
 abbrev pub rowIn : List ℕ → ℕ → ℕ → ℕ → ℕ
-rowIn st at l b = getD st (at + b * maxLanes + l) 0
+rowIn st at l b = saidIn st at b l
 
 -- pose b of the cell at position k for the cell at position m
 abbrev pub poseIn : List ℕ → List ℕ → ℕ → ℕ → ℕ → ℕ → ℕ → ℕ → ℕ → ℕ
@@ -208,6 +208,11 @@ foundRow buckets table own a l = min (own + foundIn buckets table a l) B
 abbrev pub foundRowOf : ℕ → List ℕ → List ℕ → ℕ → ℕ → ℕ → ℕ
 foundRowOf buckets row table k a l = foundRow buckets table (wordOf row k a) a l
 
+-- a row's words are f's, and x is at most each of them
+pub record RowFound (x : ℕ) (f : ℕ → ℕ) (at lanes : ℕ) (old new : List ℕ) : Type 0 where
+  pub written : Written f at lanes old new
+  pub least : (l : ℕ) → l < lanes → x ≤ f l
+
 -- a table in which pose a looks up what it finds
 pub record PoseLooks (table : List ℕ) (a buckets : ℕ) : Type 0 where
   pub lent : TableLent table
@@ -239,14 +244,14 @@ pub record ToRows (st row table : List ℕ) (k buckets lanes : ℕ) : Type 0 whe
   pub least : 5 ≤ buckets
   pub most : buckets ≤ 9
 
--- the row of pose a, to the words from `at` on
+-- the row of pose a, in a state whose words begin at `at`
 pub record PoseToRow (st row table : List ℕ) (at k a buckets lanes : ℕ) : Type 0 where
   pub rows : ToRows st row table k buckets lanes
-  pub room : at + lanes ≤ length st
+  pub room : at + stateBlock ≤ length st
   pub pose : a < maxPoses
 
--- the rows of so many poses, one after the other
+-- the rows of so many poses
 pub record PosesToRows (st row table : List ℕ) (at k poses buckets lanes : ℕ) : Type 0 where
   pub rows : ToRows st row table k buckets lanes
-  pub room : at + poses * maxLanes ≤ length st
+  pub room : at + stateBlock ≤ length st
   pub few : poses ≤ maxPoses

@@ -8,13 +8,13 @@ ghost use mathlib.Core.Path.{_≡_};
 ghost use Prim.Native.Nat.{_+_, _-_};
 ghost use Rattle.search_lanes.specs.Lowered.{LoweredAt};
 ghost use Rattle.search_lanes.specs.Lanes.{always, wordsFrom};
-ghost use Rattle.search_lanes.specs.Store.{Written, WrittenRows};
+ghost use Rattle.search_lanes.specs.Store.{RowSaid, RowsSaid};
 ghost use Rattle.search_buckets.specs.Rows.{rowsOf};
 ghost use Rattle.search_wide_buckets.specs.Table.{PosesAsked, OfferedBelow, TableFor, TableToClear, Cleared};
 ghost use Rattle.search_wide_buckets.specs.Table.{WordToLower, LanesToLower, GatheredIf, chargedBy};
 ghost use Rattle.search_wide_buckets.specs.Table.{chargedOne, LaneSpread, NearSpread, RowSpread, Spread};
 ghost use Rattle.search_wide_buckets.specs.Table.{PoseSource, PosesSource, poseIn, posesIn};
-ghost use Rattle.search_wide_buckets.specs.Table.{RunUp, LaneLooks, foundIn, foundRow, foundRowOf};
+ghost use Rattle.search_wide_buckets.specs.Table.{RunUp, LaneLooks, foundIn, foundRow, foundRowOf, RowFound};
 ghost use Rattle.search_wide_buckets.specs.Table.{ToRow, PoseToRow, PosesToRows};
 use search_buckets::Source;
 
@@ -212,13 +212,11 @@ fn from_pose(
         (poseIn (now (store .entry)) (now (row .entry)) (source .at) (source .left) (source .right) b) rows
         (source .buckets) lanes (now (table .entry)) (now (table .exit)) ⌝ }
 {
-    let t = search_buckets::end_row(row, source.left, b, source.right);
-    if t >= rows {
+    if store[source.at + search_store::FLAGS + b] == 0 {
         return false;
     }
-    if search_lanes::common(store, source.at + b * search_store::MAX_LANES, lanes)
-        >= search_lanes::NONE
-    {
+    let t = search_buckets::end_row(row, source.left, b, source.right);
+    if t >= rows {
         return false;
     }
     spread_row(
@@ -312,7 +310,7 @@ fn found_lane(table: &[u32; search_store::TABLE], a: usize, l: usize, buckets: u
     )
 }
 
-// A target's row: what its pose finds, with the cell's own cost, capped.
+// A target's row: what its pose finds, with the cell's own cost, capped. Answers NONE only if all lanes are NONE.
 fn put_row(
     store: &mut [u32],
     at: usize,
@@ -321,22 +319,23 @@ fn put_row(
     own: u32,
     buckets: usize,
     lanes: usize,
-)
+) -> u32
     requires { ⌜ ToRow (now store) (now table) at a own buckets lanes ⌝ }
-    ensures { λ _. ⌜ Written (foundRow buckets (now (table .entry)) own a) at lanes (now (store .entry))
+    ensures { λ x. ⌜ RowFound x (foundRow buckets (now (table .entry)) own a) at lanes (now (store .entry))
         (now (store .exit)) ⌝ }
 {
+    let mut x = search_lanes::NONE;
     let mut l: usize = 0;
     while l < lanes {
-        store[at + l] = search_lanes::lesser(
-            own + found_lane(table, a, l, buckets),
-            search_lanes::NONE,
-        );
+        let y = search_lanes::lesser(own + found_lane(table, a, l, buckets), search_lanes::NONE);
+        store[at + l] = y;
+        x = x & y;
         l += 1;
     }
+    x
 }
 
-// The row of pose a of the cell at position k: NONE where the pose is not offered.
+// The row of pose a of the cell at position k and its flag, which is 0 where the pose is not offered or finds nothing.
 fn put_pose(
     store: &mut [u32],
     row: &[u32],
@@ -348,18 +347,27 @@ fn put_pose(
     lanes: usize,
 )
     requires { ⌜ PoseToRow (now store) (now row) (now table) at k a buckets lanes ⌝ }
-    ensures { λ _. ⌜ Written (foundRowOf buckets (now (row .entry)) (now (table .entry)) k a) at lanes
+    ensures { λ _. ⌜ RowSaid (foundRowOf buckets (now (row .entry)) (now (table .entry)) k a) at a lanes
         (now (store .entry)) (now (store .exit)) ⌝ }
 {
     let own = row[k * search_row::CELL + a];
     if own >= search_lanes::NONE {
-        search_lanes::fill(store, at, lanes, search_lanes::NONE);
+        store[at + search_store::FLAGS + a] = 0;
         return;
     }
-    put_row(store, at, table, a, own, buckets, lanes);
+    let x = put_row(
+        store,
+        at + a * search_store::MAX_LANES,
+        table,
+        a,
+        own,
+        buckets,
+        lanes,
+    );
+    store[at + search_store::FLAGS + a] = search_lanes::flag_of(x);
 }
 
-// The rows of its poses, one after the other.
+// The rows of its poses, one after the other, in the words of a state.
 pub fn put_rows(
     store: &mut [u32],
     row: &[u32],
@@ -371,21 +379,12 @@ pub fn put_rows(
     lanes: usize,
 )
     requires { ⌜ PosesToRows (now store) (now row) (now table) at k poses buckets lanes ⌝ }
-    ensures { λ _. ⌜ WrittenRows (foundRowOf buckets (now (row .entry)) (now (table .entry)) k) at poses lanes
+    ensures { λ _. ⌜ RowsSaid (foundRowOf buckets (now (row .entry)) (now (table .entry)) k) at poses lanes
         (now (store .entry)) (now (store .exit)) ⌝ }
 {
     let mut a: usize = 0;
     while a < poses {
-        put_pose(
-            store,
-            row,
-            table,
-            at + a * search_store::MAX_LANES,
-            k,
-            a,
-            buckets,
-            lanes,
-        );
+        put_pose(store, row, table, at, k, a, buckets, lanes);
         a += 1;
     }
 }

@@ -7,10 +7,10 @@ use mathlib.Core.List.{List}
 use lib.ListN.{length, getD}
 use lib.Dec.{eqb}
 use Rattle.definition.specs.Job.{maxCells}
-use Rattle.search_store.specs.Map.{keptFrom, layerBlock, maxLanes, maxPoses}
+use Rattle.search_store.specs.Map.{keptFrom, layerBlock, stateBlock, maxLanes, maxPoses}
 use Rattle.theory_tables.specs.Steps.{Deck, lastAt, ends, costEnd}
 use Rattle.search_lanes.specs.Lanes.{LaneWords}
-use Rattle.search_lanes.specs.Store.{Frame, Low, layerIn}
+use Rattle.search_lanes.specs.Store.{Frame, Low, saidIn, layerIn}
 use Rattle.search_row.specs.declared.Sizes.{Sizes}
 use Rattle.search_row.specs.Words.{wordOf, backIn, thereIn, tallWord, RowWords, Ground}
 use Rattle.search_buckets.specs.Ends.{leastPoses, leastState, leastStates}
@@ -29,6 +29,10 @@ endsWith row n R q = thereIn n R n q && not (eqb (wordOf row (lastAt R n q) tall
 -- layer in the store; the cell is at position k
 abbrev pub leastPosesIn : List ℕ → ℕ → List ℕ → ℕ → ℕ → ℕ → ℕ → ℕ
 leastPosesIn row k st at q m l = leastPoses (backIn row k) (layerIn st at l) q m
+
+-- pose a with what it pays as the last, in a state whose words begin at `at`
+abbrev pub backFrom : List ℕ → ℕ → List ℕ → ℕ → ℕ → ℕ → ℕ
+backFrom row k st at a l = saidIn st at a l + backIn row k a
 
 abbrev pub leastStateIn : Deck → ℕ → List ℕ → ℕ → ℕ → ℕ → ℕ
 leastStateIn D R st at q l = leastState D R (layerIn st at l) q
@@ -79,6 +83,23 @@ pub record LeastPosesGiven (acc row st : List ℕ) (at q k poses lanes : ℕ) : 
   pub few : poses ≤ maxPoses
   pub narrow : lanes ≤ maxLanes
 
+-- pose a of a state whose words begin at `at`
+pub record LeastPoseGiven (acc row st : List ℕ) (at k a lanes : ℕ) : Type 0 where
+  pub words : RowWords row
+  pub low : Low st
+  pub least : LaneWords acc
+  pub room : at + stateBlock ≤ length st
+  pub cell : k < maxCells
+  pub pose : a < maxPoses
+  pub narrow : lanes ≤ maxLanes
+
+-- a word for each lane, and room for the costs
+pub record LanesToPut (st : List ℕ) (costs : ℕ) (acc : List ℕ) (lanes : ℕ) : Type 0 where
+  pub low : Low st
+  pub room : CostRoom st costs
+  pub least : LaneWords acc
+  pub narrow : lanes ≤ maxLanes
+
 -- a segment to the row's end, and what the start of each lane pays as the last
 pub record SegmentToEnd (table row st starts : List ℕ) (z : Sizes) (first : Block) (costs : ℕ) : Type 0 where
   pub segment : SegmentGiven table row st z first costs
@@ -93,9 +114,10 @@ pub record Ran (D : Deck) (R lanes i d at : ℕ) (old new table : List ℕ) : Ty
   pub low : Low new
   pub lent : TableLent table
 
--- the costs to the row's end, a word for each lane; `starts` has what the start of each lane pays as the last
+-- the costs to the row's end, in the first row, a word for each lane; `starts` has what the start of each lane pays as
+-- the last
 pub record Ended (D : Deck) (R lanes i costs : ℕ) (starts old new table : List ℕ) : Type 0 where
-  pub outside : Outside costs maxLanes old new
+  pub outside : Outside costs stateBlock old new
   pub low : Low new
   pub lent : TableLent table
-  pub right : (l : ℕ) → l < lanes → getD new (costs + l) 0 ≡ costEnd D R (layerIn old 0 l) i (getD starts l 0)
+  pub right : (l : ℕ) → l < lanes → saidIn new costs 0 l ≡ costEnd D R (layerIn old 0 l) i (getD starts l 0)

@@ -1,24 +1,25 @@
 -- Laws of the row's end: one turn more of each loop, and that only the entries of the first layer count.
 use Prim.Native.Nat.{ℕ, suc, _+_, _-_, _≤_, _<_}
 use mathlib.Core.Path.{_≡_, sym, ap, _∙_}
+use mathlib.Core.Logic.{inl, inr}
 use mathlib.Core.Bool.{true, cond}
 use mathlib.Core.List.{List}
 use native.Mathlib.Omega.{arith}
 use lib.ListN.{getD}
 use lib.Dec.{leb, eqb}
-use Rattle.search_store.specs.Map.{keptFrom, layerBlock, maxLanes}
+use Rattle.search_store.specs.Map.{keptFrom, layerBlock, stateBlock}
 use Rattle.theory_tables.specs.Steps.{B, Deck, Layer, stateCount, lastAt, layers, ends, costEnd}
 use Rattle.theory_tables.specs.Spots.{and-both}
-use Rattle.search_lanes.specs.Store.{Written, layerIn}
+use Rattle.search_lanes.specs.Store.{RowSaid, layerIn}
 use Rattle.search_lanes.specs.Laws.{frame-join}
 use Rattle.search_row.specs.Words.{thereIn}
 use Rattle.search_row.specs.Laws.{there-size}
 use Rattle.search_wide_buckets.specs.Table.{TableLent}
 use Rattle.search_wide_layer.specs.Loops.{nextFrom, LayerMade}
 use Rattle.search_buckets.specs.Ends.{cost-run}
-use Rattle.search_wide_segment.specs.Runs.{Running}
+use Rattle.search_wide_segment.specs.Runs.{Running, Outside}
 use Rattle.search_buckets.specs.Next.{layers-ext, ends-ext}
-use Rattle.search_wide_segment.specs.Laws.{buffer-low, run-more, outside-costs}
+use Rattle.search_wide_segment.specs.Laws.{buffer-low, run-more}
 use Rattle.search_wide_end.specs.Ends.{endsWith, Ran, Ended}
 
 -- a cell that can be the last stands in the row
@@ -61,15 +62,25 @@ ran-more c r m =
       lent = m .lent;
     }
 
+-- only the words of a state changed
+pub row-outside : {f : ℕ → ℕ} {costs lanes : ℕ} {old new : List ℕ} → RowSaid f costs 0 lanes old new
+    → Outside costs stateBlock old new
+row-outside w =
+    record {
+      long = w .long;
+      below = λ k x y. w .kept k (inl (omega arith)) (λ z. omega arith);
+      above = λ k x. w .kept k (inr (omega arith)) (λ z. omega arith);
+    }
+
 -- where no layer is left to run through
 pub end-words :
     {D : Deck} {R lanes i costs : ℕ} {g : ℕ → ℕ} {starts old new table : List ℕ}
-    → lanes ≤ maxLanes → TableLent table → Written g costs lanes old new
+    → TableLent table → RowSaid g costs 0 lanes old new
     → ((f : Layer) (l : ℕ) → costEnd D R f i (getD starts l 0) ≡ g l)
     → Ended D R lanes i costs starts old new table
-end-words {old = old} n t w e =
+end-words {old = old} t w e =
     record {
-      outside = outside-costs (w .frame) (omega arith) (omega arith);
+      outside = row-outside w;
       low = w .low;
       lent = t;
       right = λ l h. w .words l h ∙ sym (e (layerIn old 0 l) l);

@@ -1,11 +1,11 @@
 // A segment to the row's end, from its first layer, in block 0; all lanes at once.
 ghost use mathlib.Core.Path.{_≡_};
 ghost use Prim.Native.Nat.{_-_};
-ghost use Rattle.search_lanes.specs.Lanes.{Lowered};
-ghost use Rattle.search_lanes.specs.Store.{Written};
+ghost use Rattle.search_lanes.specs.Lanes.{Lowered, withOwn};
+ghost use Rattle.search_lanes.specs.Store.{RowSaid};
 ghost use Rattle.search_row.specs.Words.{deckIn};
 ghost use Rattle.search_wide_end.specs.Ends.{RunGiven, LastState, LastLayer, LeastGiven, LeastStateGiven};
-ghost use Rattle.search_wide_end.specs.Ends.{LeastPosesGiven, SegmentToEnd};
+ghost use Rattle.search_wide_end.specs.Ends.{LeastPosesGiven, LeastPoseGiven, LanesToPut, SegmentToEnd, backFrom};
 ghost use Rattle.search_wide_end.specs.Ends.{endsWith, leastPosesIn, leastStateIn, leastStatesIn};
 ghost use Rattle.search_wide_end.specs.Ends.{endsIn, Ran, Ended};
 use search_row::Sizes;
@@ -52,6 +52,32 @@ fn ends_with(row: &[u32], sizes: Sizes, q: usize) -> bool
     row[k * search_row::CELL + search_row::TALL] != 1
 }
 
+// Pose a of a state whose words begin at `at`, in each lane; its cell is at position k, and pays as the row's last.
+fn least_pose(
+    acc: &mut [u32; search_store::MAX_LANES],
+    store: &[u32],
+    row: &[u32],
+    at: usize,
+    k: usize,
+    a: usize,
+    lanes: usize,
+)
+    requires { ⌜ LeastPoseGiven (now acc) (now row) (now store) at k a lanes ⌝ }
+    ensures { λ _. ⌜ Lowered (backFrom (now (row .entry)) k (now (store .entry)) at a) lanes (now (acc .entry))
+        (now (acc .exit)) ⌝ }
+{
+    if store[at + search_store::FLAGS + a] == 0 {
+        return;
+    }
+    search_lanes::relax(
+        acc,
+        store,
+        at + a * search_store::MAX_LANES,
+        search_row::back(row, k, a),
+        lanes,
+    );
+}
+
 // The least of all poses of state q, in each lane; its cell is at position k, and each pose pays as the row's last.
 fn least_poses(
     acc: &mut [u32; search_store::MAX_LANES],
@@ -69,13 +95,7 @@ fn least_poses(
 {
     let mut a: usize = 0;
     while a < poses {
-        search_lanes::relax(
-            acc,
-            store,
-            at + q * search_store::STATE + a * search_store::MAX_LANES,
-            search_row::back(row, k, a),
-            lanes,
-        );
+        least_pose(acc, store, row, at + q * search_store::STATE, k, a, lanes);
         a += 1;
     }
 }
@@ -121,15 +141,25 @@ fn least_states(
     }
 }
 
+// A word for each lane, to the first row of the costs.
+fn put_lanes(store: &mut [u32], costs: usize, acc: &[u32; search_store::MAX_LANES], lanes: usize)
+    requires { ⌜ LanesToPut (now store) costs (now acc) lanes ⌝ }
+    ensures { λ _. ⌜ RowSaid (withOwn 0 (now (acc .entry))) costs 0 lanes (now (store .entry))
+        (now (store .exit)) ⌝ }
+{
+    search_lanes::put(store, costs, acc, 0, lanes);
+    store[costs + search_store::FLAGS] = 1;
+}
+
 // The least of the layer with all cells placed, to a row of costs.
 fn put_ends(store: &mut [u32], row: &[u32], sizes: Sizes, lanes: usize, at: usize, costs: usize)
     requires { ⌜ LastLayer (now row) (now store) sizes lanes at costs ⌝ }
-    ensures { λ _. ⌜ Written (endsIn (deckIn (now (row .entry)) sizes) (sizes .reordering)
-        (now (store .entry)) at) costs lanes (now (store .entry)) (now (store .exit)) ⌝ }
+    ensures { λ _. ⌜ RowSaid (endsIn (deckIn (now (row .entry)) sizes) (sizes .reordering)
+        (now (store .entry)) at) costs 0 lanes (now (store .entry)) (now (store .exit)) ⌝ }
 {
     let mut acc = [search_lanes::NONE; search_store::MAX_LANES];
     least_states(&mut acc, store, row, sizes, lanes, at);
-    search_lanes::put(store, costs, &acc, 0, lanes);
+    put_lanes(store, costs, &acc, lanes);
 }
 
 // The costs to the row's end, to the row at `costs`, a word for each lane. If nothing is left to place it is the lane's
@@ -150,11 +180,11 @@ pub fn segment_end(
     let lanes = first.lanes;
     let i = first.cells;
     if i > sizes.cells + 1 {
-        search_lanes::fill(store, costs, lanes, search_lanes::NONE);
+        store[costs + search_store::FLAGS] = 0;
         return;
     }
     if i == sizes.cells + 1 {
-        search_lanes::put(store, costs, starts, 0, lanes);
+        put_lanes(store, costs, starts, lanes);
         return;
     }
     let at = run_on(table, store, row, sizes, lanes, i);

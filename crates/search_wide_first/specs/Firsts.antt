@@ -1,11 +1,11 @@
 -- The first layer of a segment after a tall cell: what its loops leave, lane by lane.
-use Prim.Native.Nat.{ℕ, _+_, _*_, _≤_, _<_, min}
+use Prim.Native.Nat.{ℕ, _+_, _≤_, _<_, min}
 use mathlib.Core.List.{List}
 use lib.ListN.{length}
 use Rattle.definition.specs.Job.{maxCells}
 use Rattle.theory_tables.specs.Steps.{B, Deck, Layer, firstAfter}
-use Rattle.search_store.specs.Map.{maxLanes, maxPoses}
-use Rattle.search_lanes.specs.Store.{Low, WrittenRows}
+use Rattle.search_store.specs.Map.{stateBlock, maxLanes, maxPoses}
+use Rattle.search_lanes.specs.Store.{Low, RowsSaid}
 use Rattle.search_row.specs.declared.Sizes.{Sizes}
 use Rattle.search_row.specs.Words.{wordOf, tollIn, RowWords}
 use Rattle.search_wide_buckets.specs.Table.{TableLent}
@@ -29,12 +29,12 @@ pub record FirstGiven (table row st : List ℕ) (z : Sizes) (lanes i to p q : �
   pub start : p < maxCells
   pub state : q < z .states
 
--- the rows of one of its states, whose cell is at position k, are to be written from `at` on
+-- the rows of one of its states, whose cell is at position k, are to be written, whose words begin at `at`
 pub record FirstRows (table row st : List ℕ) (at p k poses lanes : ℕ) : Type 0 where
   pub lent : TableLent table
   pub words : RowWords row
   pub low : Low st
-  pub room : at + poses * maxLanes ≤ length st
+  pub room : at + stateBlock ≤ length st
   pub start : p < maxCells
   pub narrow : lanes ≤ maxLanes
   pub cell : k < maxCells
@@ -44,5 +44,5 @@ pub record FirstRows (table row st : List ℕ) (at p k poses lanes : ℕ) : Type
 
 -- these rows, and a table that serves the next state
 pub record RowsMade (f : ℕ → ℕ → ℕ) (at poses lanes : ℕ) (old new table : List ℕ) : Type 0 where
-  pub written : WrittenRows f at poses lanes old new
+  pub written : RowsSaid f at poses lanes old new
   pub lent : TableLent table

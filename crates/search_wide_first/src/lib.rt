@@ -100,12 +100,11 @@ fn first_block(
         (to .lanes) (to .at) q (sizes .poses) (now (store .entry)) (now (store .exit)) (now (table .exit)) ⌝ }
 {
     if !search_dense_first::starts(row, sizes, to.cells + 1, m, q) {
-        search_lanes::fill_rows(
+        search_lanes::fill(
             store,
-            to.at + q * search_store::STATE,
+            to.at + q * search_store::STATE + search_store::FLAGS,
             sizes.poses,
-            to.lanes,
-            search_lanes::NONE,
+            0,
         );
         return;
     }

@@ -5,10 +5,11 @@ use mathlib.Core.List.{List}
 use native.Mathlib.Omega.{arith}
 use native.Mathlib.Decide.{decLt}
 use lib.ListN.{getD}
-use Rattle.search_store.specs.Map.{layerBlock, stateBlock, maxLanes, maxPoses}
+use Rattle.search_store.specs.Map.{layerBlock, stateBlock, flagsFrom, maxLanes, maxPoses}
 use Rattle.search_row.specs.declared.Sizes.{Sizes}
 use Rattle.theory_tables.specs.Steps.{Deck, stateCount, nextLayer}
 use Rattle.search_lanes.specs.Store.{Frame, Low, layerIn}
+use Rattle.search_lanes.specs.Laws.{said-same}
 use Rattle.search_buckets.specs.Next.{next-ext}
 use Rattle.search_wide_layer.specs.Loops.{WideGiven, Beside}
 
@@ -33,7 +34,9 @@ pub next-kept :
     → nextLayer D R (layerIn new at l) i q a ≡ nextLayer D R (layerIn old at l) i q a
 next-kept D R {at} {old} {new} i q a l s w p h =
     next-ext D R (layerIn new at l) (layerIn old at l)
-    (λ q b x y. s .word (at + q * stateBlock + b * maxLanes + l) (omega arith) (omega arith))
+    (λ q b x y. said-same old new (at + q * stateBlock) b l
+    (s .word (at + q * stateBlock + flagsFrom + b) (omega arith) (omega arith))
+    (s .word (at + q * stateBlock + b * maxLanes + l) (omega arith) (omega arith)))
     i q a
 
 -- what a function was given holds on, whatever another one wrote

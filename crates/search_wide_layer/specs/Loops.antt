@@ -1,15 +1,17 @@
 -- One layer of the search from the layer before: what it comes to in each lane, and what is given.
 use Prim.Native.Nat.{ℕ, suc, _+_, _≤_, _<_}
+use mathlib.Core.Path.{_≡_}
+use mathlib.Core.Bool.{Bool, true, false}
 use mathlib.Core.List.{List}
 use lib.ListN.{length}
 use Rattle.search_store.specs.Map.{layerBlock, bucketRows, maxKept, maxLanes}
-use Rattle.theory_tables.specs.Steps.{Deck, Layer, lastAt, nextLayer}
+use Rattle.theory_tables.specs.Steps.{B, Deck, Layer, lastAt, isSource, nextLayer}
 use Rattle.search_lanes.specs.Store.{Low, layerIn, FilledState, Filled}
 use Rattle.search_row.specs.declared.Sizes.{Sizes}
-use Rattle.search_row.specs.Words.{Ground}
+use Rattle.search_row.specs.Words.{Ground, deckIn}
 use Rattle.search_buckets.specs.Rows.{bucketsIn}
 use Rattle.search_buckets.specs.Next.{Target}
-use Rattle.search_wide_buckets.specs.Table.{TableLent}
+use Rattle.search_wide_buckets.specs.Table.{TableLent, stateIn}
 use Rattle.search_wide_layer.specs.declared.Block.{Block}
 
 -- the next layer in each lane
@@ -63,7 +65,28 @@ pub record TargetStepping (table row st : List ℕ) (z : Sizes) (layer : Block) 
   pub stepping : Stepping table row st z layer to
   pub target : Target (z .cells) (z .reordering) (layer .cells) q
 
+-- state p of a layer, which may be a source of state q of the next
+pub record SourceSought (row st : List ℕ) (z : Sizes) (layer : Block) (q p : ℕ) : Type 0 where
+  pub given : WideGiven row st z (layer .lanes) (layer .cells) (layer .at)
+  pub target : q < z .states
+  pub source : p < z .states
+
+-- all states of a layer
+pub record SourcesSought (row st : List ℕ) (z : Sizes) (layer : Block) (q : ℕ) : Type 0 where
+  pub given : WideGiven row st z (layer .lanes) (layer .cells) (layer .at)
+  pub target : q < z .states
+
 -- ---- what is left
+
+-- nothing comes to state q by way of state p
+abbrev pub NoWay : List ℕ → List ℕ → Sizes → Block → ℕ → ℕ → Type 0
+NoWay row st z layer q p = (l v t : ℕ)
+    → B ≤ stateIn st row (deckIn row z) (z .reordering) (layer .at) (layer .cells) q p l v t
+
+-- whether state p is a source of state q, and has a way
+pub record IsWay (row st : List ℕ) (z : Sizes) (layer : Block) (q p : ℕ) (way : Bool) : Type 0 where
+  pub source : way ≡ true → isSource (deckIn row z) (z .reordering) (layer .cells) q p ≡ true
+  pub none : way ≡ false → NoWay row st z layer q p
 
 -- state q of a layer, in its block at `to`, and a table that serves the next state
 pub record StateMade (F : ℕ → Layer) (lanes to q m : ℕ) (old new table : List ℕ) : Type 0 where

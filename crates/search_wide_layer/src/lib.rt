@@ -4,10 +4,10 @@
 ghost use mathlib.Core.Path.{_≡_};
 ghost use mathlib.Core.Bool.{false};
 ghost use Prim.Native.Nat.{ℕ, _<_};
-ghost use Rattle.theory_tables.specs.Steps.{isSource};
-ghost use Rattle.search_row.specs.Words.{deckIn, TargetGiven};
+ghost use Rattle.search_row.specs.Words.{deckIn};
 ghost use Rattle.search_wide_buckets.specs.Table.{GatheredIf, stateIn, statesIn};
 ghost use Rattle.search_wide_layer.specs.Loops.{nextFrom, bucketsFor, Gathering, SourceGathering, Stepping};
+ghost use Rattle.search_wide_layer.specs.Loops.{SourceSought, SourcesSought, NoWay, IsWay};
 ghost use Rattle.search_wide_layer.specs.Loops.{StateStepping, TargetStepping, StateMade, LayerMade};
 use search_buckets::Source;
 use search_row::Sizes;
@@ -17,6 +17,21 @@ pub struct Block {
     pub lanes: usize,
     pub cells: usize,
     pub at: usize,
+}
+
+// Whether state p of a layer is a source of state q of the next, with a row that has a way.
+fn is_way(store: &[u32], row: &[u32], sizes: Sizes, layer: Block, q: usize, p: usize) -> bool
+    requires { ⌜ SourceSought (now row) (now store) sizes layer q p ⌝ }
+    ensures { λ way. ⌜ IsWay (now (row .entry)) (now (store .entry)) sizes layer q p way ⌝ }
+{
+    if !search_row::is_source(row, sizes, layer.cells, q, p) {
+        return false;
+    }
+    let at = layer.at + p * search_store::STATE;
+    if search_lanes::most(store, at + search_store::FLAGS, sizes.poses) == 0 {
+        return false;
+    }
+    true
 }
 
 // State p of a layer, if it is a source of state q of the next, in so many rows: whether it lowered anything.
@@ -35,7 +50,7 @@ fn from_source(
         (deckIn (now (row .entry)) sizes) (sizes .reordering) (layer .at) (layer .cells) q p) rows
         (bucketsFor (now (row .entry)) sizes layer q) (layer .lanes) (now (table .entry)) (now (table .exit)) ⌝ }
 {
-    if !search_row::is_source(row, sizes, layer.cells, q, p) {
+    if !is_way(store, row, sizes, layer, q, p) {
         return false;
     }
     let left = search_row::last_at(row, sizes, layer.cells, p);
@@ -88,15 +103,15 @@ fn gather(
     used
 }
 
-// Whether state q has a source.
-fn has_source(row: &[u32], sizes: Sizes, i: usize, q: usize) -> bool
-    requires { ⌜ TargetGiven (now row) sizes i q ⌝ }
+// Whether something comes to state q from a layer.
+fn has_way(store: &[u32], row: &[u32], sizes: Sizes, layer: Block, q: usize) -> bool
+    requires { ⌜ SourcesSought (now row) (now store) sizes layer q ⌝ }
     ensures { λ some. ⌜ (some ≡ false → (p : ℕ) → p < sizes .states
-        → isSource (deckIn (now (row .entry)) sizes) (sizes .reordering) i q p ≡ false) ⌝ }
+        → NoWay (now (row .entry)) (now (store .entry)) sizes layer q p) ⌝ }
 {
     let mut s: usize = 0;
     while s < sizes.states {
-        if search_row::is_source(row, sizes, i, q, s) {
+        if is_way(store, row, sizes, layer, q, s) {
             return true;
         }
         s += 1;
@@ -121,8 +136,8 @@ fn target_rows(
         (now (table .exit)) ⌝ }
 {
     let at = to + q * search_store::STATE;
-    if !has_source(row, sizes, layer.cells, q) {
-        search_lanes::fill_rows(store, at, sizes.poses, layer.lanes, search_lanes::NONE);
+    if !has_way(store, row, sizes, layer, q) {
+        search_lanes::fill(store, at + search_store::FLAGS, sizes.poses, 0);
         return;
     }
     let m = search_row::last_at(row, sizes, layer.cells + 1, q);
@@ -131,17 +146,16 @@ fn target_rows(
     let rows = search_buckets::rows_of(poses);
     search_wide_buckets::reset(table, buckets, poses, layer.lanes);
     if !gather(table, store, row, sizes, layer, q, rows) {
-        search_lanes::fill_rows(store, at, sizes.poses, layer.lanes, search_lanes::NONE);
+        search_lanes::fill(store, at + search_store::FLAGS, sizes.poses, 0);
         return;
     }
     search_wide_buckets::run_up(table, poses, layer.lanes);
     search_wide_buckets::put_rows(store, row, table, at, m, poses, buckets, layer.lanes);
-    search_lanes::fill_rows(
+    search_lanes::fill(
         store,
-        at + poses * search_store::MAX_LANES,
+        at + search_store::FLAGS + poses,
         sizes.poses - poses,
-        layer.lanes,
-        search_lanes::NONE,
+        0,
     );
 }
 
@@ -161,12 +175,11 @@ pub fn target_block(
         (now (table .exit)) ⌝ }
 {
     if !search_row::is_there(row, sizes, layer.cells + 1, q) {
-        search_lanes::fill_rows(
+        search_lanes::fill(
             store,
-            to + q * search_store::STATE,
+            to + q * search_store::STATE + search_store::FLAGS,
             sizes.poses,
-            layer.lanes,
-            search_lanes::NONE,
+            0,
         );
         return;
     }

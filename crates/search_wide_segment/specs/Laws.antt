@@ -10,10 +10,11 @@ use native.Mathlib.Numerals.{add-one}
 use borrow.Author.Tests.{lt-ltb, le-ltb, le-leb, lt-leb, eq-eqb, ne-eqb}
 use lib.ListN.{length, getD}
 use lib.Dec.{leb}
-use Rattle.search_store.specs.Map.{keptFrom, layerBlock, stateBlock, maxLanes}
+use Rattle.search_store.specs.Map.{keptFrom, layerBlock, stateBlock, flagsFrom, maxLanes}
 use Rattle.search_row.specs.declared.Sizes.{Sizes}
 use Rattle.theory_tables.specs.Steps.{B, Deck, Layer, stateCount, offset, layers, costTo}
 use Rattle.search_lanes.specs.Store.{Frame, layerIn, Filled}
+use Rattle.search_lanes.specs.Laws.{said-same, said-below, said-above}
 use Rattle.search_row.specs.Words.{deckIn}
 use Rattle.search_wide_buckets.specs.Table.{TableLent}
 use Rattle.search_wide_layer.specs.Loops.{nextFrom, WideGiven, Beside, LayerMade}
@@ -49,10 +50,12 @@ pub run-none :
     (D : Deck) (R lanes i : ℕ) {old st : List ℕ}
     → SizesSmall D R lanes → ((k : ℕ) → k < layerBlock → getD st k 0 ≡ getD old k 0) → Running D R lanes i 0 0 old st
 unfolding layers
-run-none D R lanes i s e =
+run-none D R lanes i {old} {st} s e =
     record {
       buffer = inl refl;
-      right = λ q a l x y z. e (0 + q * stateBlock + a * maxLanes + l) (omega (arith, s .narrow, s .few, s .states));
+      right = λ q a l x y z. said-same old st (0 + q * stateBlock) a l
+          (e (0 + q * stateBlock + flagsFrom + a) (omega (arith, s .few, s .states)))
+          (e (0 + q * stateBlock + a * maxLanes + l) (omega (arith, s .narrow, s .few, s .states)));
     }
 
 -- the layer after the one at `at`
@@ -85,8 +88,9 @@ run-kept {at = at} s r f h =
     record {
       buffer = r .buffer;
       right = λ q a l x y z.
-          f .low (at + q * stateBlock + a * maxLanes
-          + l) (omega (arith, s .narrow, s .few, s .states, buffer-low (r .buffer))) ∙ r .right q a l x y z;
+          said-below f (at + q * stateBlock) a l (omega (arith, s .states, buffer-low (r .buffer)))
+          (omega (arith, s .few)) (omega (arith, s .narrow))
+          ∙ r .right q a l x y z;
     }
 
 -- ---- what is kept
@@ -179,7 +183,7 @@ costed-step {D} {R} {lanes} {i} {p} {d} {at} {costs} s c h r m g =
       running = run-kept s run (g .frame) h;
       costed = costed-more c run
           (record {
-            right = λ q a l x y z k. f .frame .high (costs + q * stateBlock + a * maxLanes + l) (omega arith)
+            right = λ q a l x y z k. said-above (f .frame) (costs + q * stateBlock) a l (omega arith)
                 ∙ r .costed .right q a l x y z k;
           })
           g;
@@ -244,7 +248,10 @@ costed-from {D} {R} {lanes} {i} {p} {d} {old = old} {mid = mid} s e o r =
     }
   where
     same : (l : ℕ) → l < lanes → (q b : ℕ) → q < stateCount R → b < D .poses → layerIn mid 0 l q b ≡ layerIn old 0 l q b
-    same l z q b x y = e (0 + q * stateBlock + b * maxLanes + l) (omega (arith, s .narrow, s .few, s .states))
+    same l z q b x y =
+        said-same old mid (0 + q * stateBlock) b l
+        (e (0 + q * stateBlock + flagsFrom + b) (omega (arith, s .few, s .states)))
+        (e (0 + q * stateBlock + b * maxLanes + l) (omega (arith, s .narrow, s .few, s .states)))
 
 -- ---- the last layer
 

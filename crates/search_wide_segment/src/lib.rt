@@ -29,12 +29,11 @@ fn late_state(
     if i + search_row::word(row, search_row::STATES + q * 4) <= tall + sizes.reordering + 1 {
         return;
     }
-    search_lanes::fill_rows(
+    search_lanes::fill(
         store,
-        costs + q * search_store::STATE,
+        costs + q * search_store::STATE + search_store::FLAGS,
         sizes.poses,
-        layer.lanes,
-        search_lanes::NONE,
+        0,
     );
 }
 

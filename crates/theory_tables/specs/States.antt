@@ -104,13 +104,14 @@ pub record Counted (R : ℕ) : Type 0 where
   pub fewer : R ≤ 1 → stateCount R ≤ 3
 
 pub counted : (R : ℕ) → R ≤ 2 → Counted R
-counted R h = go R h
+counted = go
   where
     counts : (n : ℕ) → getD (map stateCount (0 ∷ 1 ∷ 2 ∷ [])) n 0 ≡ getD (1 ∷ 3 ∷ 12 ∷ []) n 0
     counts n = ap (λ (l : List ℕ). getD l n 0) state-counts
 
     go : (R : ℕ) → R ≤ 2 → Counted R
-    go zero h = record { some = omega (arith, counts 0); few = omega (arith, counts 0); fewer = λ e. omega (arith, counts 0) }
+    go zero h =
+        record { some = omega (arith, counts 0); few = omega (arith, counts 0); fewer = λ e. omega (arith, counts 0) }
     go (suc zero) h =
         record { some = omega (arith, counts 1); few = omega (arith, counts 1); fewer = λ e. omega (arith, counts 1) }
     go (suc (suc zero)) h =

@@ -94,7 +94,11 @@ place-job-requires c κs =
     let l = w .before .before in
     let r = l .before .before in
     let o = r .read-job .ensures .accepted (l .if1 .left) in
-    record { taken = o; store = omega (arith, k .if2 .left, asked (r .read-job .result .job) (w .store-needed .ensures)); output = omega (arith, t .if3 .left, o .many) }
+    record {
+      taken = o;
+      store = omega (arith, k .if2 .left, asked (r .read-job .result .job) (w .store-needed .ensures));
+      output = omega (arith, t .if3 .left, o .many);
+    }
 
 same-length-4 : tie.Need-same-length-4
 same-length-4 c = search needs

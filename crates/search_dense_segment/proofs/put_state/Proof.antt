@@ -5,7 +5,7 @@ use native.Mathlib.Omega.{arith}
 use lib.ListN.{getD}
 use borrow.Author.Needs.{needs}
 use Rattle.theory_tables.specs.Steps.{offset}
-use Rattle.search_lanes.specs.Laws.{state-rows}
+use Rattle.search_lanes.specs.Laws.{state-rows, state-closed}
 use Rattle.search_dense_segment.specs.Laws.{comes-with, comes-late}
 use Rattle.search_dense_segment.proofs.put_state.Statement.{statement}
 use Rattle.search_dense_segment.proofs.put_state.Tie as tie
@@ -37,14 +37,17 @@ add-all-2 c = search needs
 add-if1 : tie.Need-add-if1
 add-if1 c = omega (arith, digit (c .before))
 
-mul-fill-rows : tie.Need-mul-fill-rows
-mul-fill-rows c = search needs
+mul-fill : tie.Need-mul-fill
+mul-fill c = search needs
 
-add-fill-rows : tie.Need-add-fill-rows
-add-fill-rows c = search needs
+add-fill : tie.Need-add-fill
+add-fill c = search needs
 
-fill-rows-requires : tie.Need-fill-rows-requires
-fill-rows-requires c κs = record { words = search needs; word = search needs }
+add-fill-2 : tie.Need-add-fill-2
+add-fill-2 c = search needs
+
+fill-requires : tie.Need-fill-requires
+fill-requires c κs = record { words = search needs; word = search needs }
 
 same-length : tie.Need-same-length
 same-length c = search needs
@@ -56,7 +59,7 @@ returns c =
     let k = mid .before .before .before in
     let a = k .args in
     let e : a .tall + suc (a .sizes .reordering) < 1 + offset (a .sizes .reordering) (a .q) = omega (arith, after-if1 .if1 .taken, digit mid) in
-    state-rows (omega (arith, k .pre .given .ground .few)) (c .before .before .fill-rows .ensures)
+    state-closed (omega arith) (k .pre .given .ground .few) (k .pre .given .room .low) (c .before .before .fill .ensures)
     (λ b l x y. comes-late (a .sizes .reordering) (a .tall) (a .store .now) l (a .q) b e)
 
 sub-kept-at : tie.Need-sub-kept-at
@@ -91,7 +94,7 @@ returns-2 c =
     let a = k .args in
     let d = digit mid in
     let e : 1 + offset (a .sizes .reordering) (a .q) ≤ a .tall + suc (a .sizes .reordering) = omega (arith, after-kept-at .before .if1 .left, d) in
-    state-rows (omega (arith, k .pre .given .ground .few)) (c .before .before .spread .ensures)
+    state-rows (c .before .before .spread .ensures)
     (λ b l x y.
     comes-with (a .sizes .reordering) (a .tall) (a .store .now) l (a .q) b e
     ∙ ap (λ (j : ℕ). getD (a .store .now) j 0) (omega (arith, after-kept-at .kept-at .ensures, d)))
@@ -102,5 +105,5 @@ add-word c = search needs
 pub put-state-spec : {M : Type 1} → statement M
 put-state-spec =
     tie.close
-    (tie.spec mul-word add-word word-requires add-all add-all-2 add-if1 mul-fill-rows add-fill-rows fill-rows-requires same-length returns sub-kept-at
+    (tie.spec mul-word add-word word-requires add-all add-all-2 add-if1 mul-fill add-fill add-fill-2 fill-requires same-length returns sub-kept-at
     kept-at-requires mul-from add-from mul-spread add-spread spread-requires same-length-2 returns-2)

@@ -1,43 +1,38 @@
--- Each turn copies one row more; the words below the place written are as they were.
-use Prim.Native.Nat.{_+_, _*_, _-_, _≤_}
+-- Each turn copies one row more; the state that it comes from is as it was.
+use Prim.Native.Nat.{_-_, _≤_}
 use mathlib.Core.Path.{_≡_, sym}
 use native.Mathlib.Omega.{arith}
-use Rattle.search_store.specs.Map.{maxLanes}
-use Rattle.search_lanes.specs.Lanes.{rowsFrom}
-use Rattle.search_lanes.specs.Store.{WrittenRows}
-use Rattle.search_lanes.specs.Laws.{rows-none, rows-more}
 use borrow.Author.Needs.{needs}
+use Rattle.search_lanes.specs.Store.{saidIn, RowsSaid}
+use Rattle.search_lanes.specs.Laws.{said-none-yet, said-more, said-below}
 use Rattle.search_lanes.proofs.copy_rows.Statement.{statement}
 use Rattle.search_lanes.proofs.copy_rows.Tie as tie
 
 abbrev Inv-loop : tie.InvT-loop
-Inv-loop store₀ from at rows lanes a₀ store a =
-    (a ≤ rows) × WrittenRows (rowsFrom store₀ from) at a lanes store₀ store
+Inv-loop store₀ from at poses lanes a₀ store a =
+    (a ≤ poses) × RowsSaid (saidIn store₀ from) at a lanes store₀ store
 
 abbrev μ-loop : tie.MeasureT-loop
-μ-loop store₀ from at rows lanes a₀ store a =
-    rows - a
+μ-loop store₀ from at poses lanes a₀ store a =
+    poses - a
 
 loop-holds : tie.Need-loop-holds Inv-loop μ-loop
-loop-holds c =
-    (omega arith, rows-none _ _ _ (c .before .pre .words .low))
+loop-holds c = (omega arith, said-none-yet _ _ _ (c .before .pre .low))
 
-mul-copy : tie.Need-mul-copy Inv-loop μ-loop
-mul-copy c = search needs
-
-add-copy : tie.Need-add-copy Inv-loop μ-loop
-add-copy c = search needs
-
-mul-copy-2 : tie.Need-mul-copy-2 Inv-loop μ-loop
-mul-copy-2 c = search needs
-
-add-copy-2 : tie.Need-add-copy-2 Inv-loop μ-loop
-add-copy-2 c = search needs
-
-copy-requires : tie.Need-copy-requires Inv-loop μ-loop
-copy-requires c κs =
-    let s = c .before .before .loop .inv .1 in
-    record { words = record { room = omega (arith, s .frame .long); low = s .low }; apart = omega arith }
+copy-row-requires : tie.Need-copy-row-requires Inv-loop μ-loop
+copy-row-requires c κs =
+    let at-loop = c .before .before in
+    let k = at-loop .before .before in
+    let s = at-loop .loop .inv .1 in
+    record {
+      state = record {
+        room = omega (arith, s .frame .long, k .pre .room);
+        narrow = k .pre .narrow;
+        few = omega (arith, k .pre .few);
+        low = s .low;
+        apart = k .pre .apart;
+      };
+    }
 
 add-a : tie.Need-add-a Inv-loop μ-loop
 add-a c = search needs
@@ -47,22 +42,22 @@ loop-less c = search needs
 
 loop-again : tie.Need-loop-again Inv-loop μ-loop
 loop-again c =
-    let after-copy = c .before .before in
-    let at-loop = after-copy .before .before .before in
+    let after-copy-row = c .before .before in
+    let at-loop = after-copy-row .before .before .before in
     let k = at-loop .before .before in
-    let l = at-loop .loop in (
+    let l = at-loop .loop in
+    let s = l .inv .1 in (
       omega arith,
-      rows-more (l .a) (omega arith) (l .inv .1) (after-copy .copy .ensures)
-          (λ j h. sym (l .inv .1 .frame .low (k .args .from + l .a * maxLanes + j) (omega arith))),
+      said-more (l .a) (k .pre .narrow) (omega (arith, k .pre .few)) s (after-copy-row .copy-row .ensures)
+          (λ j h. sym (said-below (s .frame) (k .args .from) (l .a) j (k .pre .apart) (omega (arith, k .pre .few)) (omega (arith, k .pre .narrow)))),
     )
 
 same-length : tie.Need-same-length Inv-loop μ-loop
-same-length c =
-    c .before .loop .inv .1 .frame .long
+same-length c = c .before .loop .inv .1 .frame .long
 
 returns : tie.Need-returns Inv-loop μ-loop
 returns c =
-    let e : c .before .loop .a ≡ c .before .before .before .args .rows = omega arith in
+    let e : c .before .loop .a ≡ c .before .before .before .args .poses = omega arith in
     rw e at (c .before .loop .inv .1)
 
 pub copy-rows-spec : {M : Type 1} → statement M
@@ -72,11 +67,7 @@ copy-rows-spec =
     Inv-loop
     μ-loop
     loop-holds
-    mul-copy
-    add-copy
-    mul-copy-2
-    add-copy-2
-    copy-requires
+    copy-row-requires
     add-a
     loop-less
     loop-again

@@ -1,10 +1,12 @@
--- A source that ends right of all rows that count, or whose lanes are all NONE, lowers nothing; another one is spread over the buckets.
+-- A source whose flag is 0, or that ends right of all rows that count, lowers nothing; another one is spread over the buckets.
 use Prim.Native.Nat.{ℕ, _+_, _*_}
-use mathlib.Core.Path.{_≡_, refl}
+use mathlib.Core.Path.{_≡_, refl, ap, _∙_}
 use native.Mathlib.Omega.{arith}
 use lib.ListN.{getD}
-use Rattle.search_store.specs.Map.{maxLanes}
-use Rattle.search_buckets.specs.Rows.{endRow, payIn}
+use Rattle.search_store.specs.Map.{flagsFrom, maxLanes}
+use Rattle.search_lanes.specs.Store.{saidIn}
+use Rattle.search_lanes.specs.Laws.{said-none, said-word}
+use Rattle.search_buckets.specs.Rows.{endRow, payIn, onePose}
 use Rattle.search_buckets.specs.Laws.{row-miss, row-above}
 use Rattle.search_wide_buckets.specs.TableLaws.{spread-all, gathered-none}
 use Rattle.search_buckets.specs.Sources.{pays-low, pose-pays}
@@ -13,47 +15,49 @@ use borrow.Author.Needs.{needs}
 use Rattle.search_wide_buckets.proofs.from_pose.Statement.{statement}
 use Rattle.search_wide_buckets.proofs.from_pose.Tie as tie
 
-end-row-requires : tie.Need-end-row-requires
-end-row-requires c κs = search needs
+add-if1 : tie.Need-add-if1
+add-if1 c = search needs
+
+add-if1-2 : tie.Need-add-if1-2
+add-if1-2 c = search needs
+
+mul-if1 : tie.Need-mul-if1
+mul-if1 c = search needs
+
+shared-slice-read-if1 : tie.Need-shared-slice-read-if1
+shared-slice-read-if1 c = search needs
 
 returns : tie.Need-returns
 returns c =
-    let k = c .before .before .before .before in
-    let a = k .args in
-    record {
-      gathered = gathered-none _ _ _ (k .pre .source .tableLow)
-          (λ l v s i j h. omega (
-            arith,
-            row-miss (endRow (a .row .now) (a .source .left) (a .b) (a .source .right)) s
-                (getD (a .store .now) (a .source .at + a .b * maxLanes + l) 0 + payIn (a .row .now) (a .source .left) (a .b) (a .source .right) v)
-                (λ e. omega (arith, c .before .end-row .ensures)),
-          ));
-      unused = λ e. refl;
-    }
-
-mul-common : tie.Need-mul-common
-mul-common c = search needs
-
-add-common : tie.Need-add-common
-add-common c = search needs
-
-common-requires : tie.Need-common-requires
-common-requires c κs = search needs
-
-returns-2 : tie.Need-returns-2
-returns-2 c =
-    let mid₂ = c .before .before .before .before in
-    let mid = mid₂ .before in
-    let k = mid .before .before in
+    let k = c .before .before .before .before .before in
     let a = k .args in
     record {
       gathered = gathered-none _ _ _ (k .pre .source .tableLow)
           (λ l v s i j h.
           omega (
             arith,
-            c .before .common .ensures l i,
+            said-none (getD (a .store .now) (a .source .at + flagsFrom + a .b) 0) (getD (a .store .now) (a .source .at + a .b * maxLanes + l) 0)
+                (c .if1 .taken),
             row-above (endRow (a .row .now) (a .source .left) (a .b) (a .source .right)) s
-                (getD (a .store .now) (a .source .at + a .b * maxLanes + l) 0 + payIn (a .row .now) (a .source .left) (a .b) (a .source .right) v),
+                (saidIn (a .store .now) (a .source .at) (a .b) l + payIn (a .row .now) (a .source .left) (a .b) (a .source .right) v),
+          ));
+      unused = λ e. refl;
+    }
+
+end-row-requires : tie.Need-end-row-requires
+end-row-requires c κs = search needs
+
+returns-2 : tie.Need-returns-2
+returns-2 c =
+    let k = c .before .before .before .before .before .before .before in
+    let a = k .args in
+    record {
+      gathered = gathered-none _ _ _ (k .pre .source .tableLow)
+          (λ l v s i j h. omega (
+            arith,
+            row-miss (endRow (a .row .now) (a .source .left) (a .b) (a .source .right)) s
+                (saidIn (a .store .now) (a .source .at) (a .b) l + payIn (a .row .now) (a .source .left) (a .b) (a .source .right) v)
+                (λ e. omega (arith, c .before .end-row .ensures)),
           ));
       unused = λ e. refl;
     }
@@ -66,9 +70,7 @@ add-spread-row c = search needs
 
 spread-row-requires : tie.Need-spread-row-requires
 spread-row-requires c κs =
-    let mid₂ = c .before .before .before .before in
-    let mid = mid₂ .before .before in
-    let k = mid .before .before .before in
+    let k = c .before .before .before .before .before .before .before .before .before in
     let g = k .pre .source in
     record {
       lent = record { long = g .tableLong; low = g .tableLow };
@@ -83,14 +85,15 @@ spread-row-requires c κs =
 
 returns-3 : tie.Need-returns-3
 returns-3 c =
-    let mid₂ = c .before .before .before .before in
-    let mid = mid₂ .before .before in
-    let k = mid .before .before .before .before in
+    let e = c .before .before .before .before in
+    let t = e .before in
+    let k = t .before .before .before .before .before in
     let a = k .args in
     record {
       gathered = spread-all (k .pre .few) (c .spread-row .ensures)
-          (λ l v s i j. pose-pays (a .b) v s (getD (a .store .now) (a .source .at + a .b * maxLanes + l) 0) (k .pre .source .paid)
-          (mid .before .end-row .ensures) j (nine-most (k .pre .source .needed)));
+          (λ l v s i j. ap (λ (x : ℕ). onePose (a .row .now) (a .source .left) (a .source .right) (a .b) x v s) (said-word _ _ (t .if1 .left))
+          ∙ pose-pays (a .b) v s (getD (a .store .now) (a .source .at + a .b * maxLanes + l) 0) (k .pre .source .paid)
+          (e .end-row .ensures) j (nine-most (k .pre .source .needed)));
       unused = λ e. absurd (let z : _≡_ {A = ℕ} 0 1 = cc in omega arith);
     }
 
@@ -98,11 +101,12 @@ pub from-pose-spec : {M : Type 1} → statement M
 from-pose-spec =
     tie.close
     (tie.spec
-    end-row-requires
+    add-if1
+    add-if1-2
+    mul-if1
+    shared-slice-read-if1
     returns
-    mul-common
-    add-common
-    common-requires
+    end-row-requires
     returns-2
     mul-spread-row
     add-spread-row

@@ -3,8 +3,8 @@ use Prim.Native.Nat.{_-_, _≤_}
 use mathlib.Core.Path.{_≡_, refl}
 use native.Mathlib.Omega.{arith}
 use borrow.Author.Needs.{needs}
-use Rattle.search_lanes.specs.Store.{WrittenRows}
-use Rattle.search_lanes.specs.Laws.{rows-none, rows-more}
+use Rattle.search_lanes.specs.Store.{RowsSaid}
+use Rattle.search_lanes.specs.Laws.{said-none-yet, said-more}
 use Rattle.search_wide_buckets.specs.Table.{foundRowOf}
 use Rattle.search_wide_buckets.specs.TableLaws.{rows-on}
 use Rattle.search_wide_buckets.proofs.put_rows.Statement.{statement}
@@ -12,19 +12,13 @@ use Rattle.search_wide_buckets.proofs.put_rows.Tie as tie
 
 abbrev Inv-loop : tie.InvT-loop
 Inv-loop store₀ row table at k poses buckets lanes a₀ store a =
-    (a ≤ poses) × WrittenRows (foundRowOf buckets row table k) at a lanes store₀ store
+    (a ≤ poses) × RowsSaid (foundRowOf buckets row table k) at a lanes store₀ store
 
 abbrev μ-loop : tie.MeasureT-loop
 μ-loop store₀ row table at k poses buckets lanes a₀ store a = poses - a
 
 loop-holds : tie.Need-loop-holds Inv-loop μ-loop
-loop-holds c = (omega arith, rows-none _ _ _ (c .before .before .pre .rows .low))
-
-mul-put-pose : tie.Need-mul-put-pose Inv-loop μ-loop
-mul-put-pose c = search needs
-
-add-put-pose : tie.Need-add-put-pose Inv-loop μ-loop
-add-put-pose c = search needs
+loop-holds c = (omega arith, said-none-yet _ _ _ (c .before .before .pre .rows .low))
 
 put-pose-requires : tie.Need-put-pose-requires Inv-loop μ-loop
 put-pose-requires c κs =
@@ -33,8 +27,8 @@ put-pose-requires c κs =
     let l = at-loop .loop in
     record {
       rows = rows-on (k .pre .rows) (l .inv .1 .low);
-      room = omega (arith, l .inv .1 .frame .long, k .pre .rows .narrow);
-      pose = omega arith;
+      room = omega (arith, l .inv .1 .frame .long, k .pre .room);
+      pose = omega (arith, k .pre .few);
     }
 
 add-a : tie.Need-add-a Inv-loop μ-loop
@@ -49,7 +43,7 @@ loop-again c =
     let at-loop = after-put-pose .before .before .before in
     let k = at-loop .before .before .before in
     let l = at-loop .loop in
-    (omega arith, rows-more (l .a) (k .pre .rows .narrow) (l .inv .1) (after-put-pose .put-pose .ensures) (λ j h. refl))
+    (omega arith, said-more (l .a) (k .pre .rows .narrow) (omega (arith, k .pre .few)) (l .inv .1) (after-put-pose .put-pose .ensures) (λ j h. refl))
 
 same-length : tie.Need-same-length Inv-loop μ-loop
 same-length c = c .before .loop .inv .1 .frame .long
@@ -66,8 +60,6 @@ put-rows-spec =
     Inv-loop
     μ-loop
     loop-holds
-    mul-put-pose
-    add-put-pose
     put-pose-requires
     add-a
     loop-less

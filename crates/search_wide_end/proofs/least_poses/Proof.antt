@@ -8,7 +8,6 @@ use Rattle.search_lanes.specs.Lanes.{Lowered}
 use Rattle.search_lanes.specs.Store.{layerIn}
 use Rattle.search_lanes.specs.Laws.{lowered-to, lowered-join, lowered-low}
 use Rattle.search_row.specs.Words.{backIn}
-use Rattle.search_row.specs.Laws.{back-low}
 use Rattle.search_wide_end.specs.Ends.{leastPosesIn}
 use Rattle.search_wide_end.proofs.least_poses.Statement.{statement}
 use Rattle.search_wide_end.proofs.least_poses.Tie as tie
@@ -25,33 +24,26 @@ loop-holds c =
     let a = k .args in
     (omega arith, lowered-to _ (k .pre .least .low) (λ l h. omega (arith, poses-none (backIn (a .row .now) (a .k)) (layerIn (a .store .now) (a .at) l) (a .q))))
 
-mul-relax : tie.Need-mul-relax Inv-loop μ-loop
-mul-relax c = search needs
+mul-least-pose : tie.Need-mul-least-pose Inv-loop μ-loop
+mul-least-pose c = search needs
 
-add-relax : tie.Need-add-relax Inv-loop μ-loop
-add-relax c = search needs
+add-least-pose : tie.Need-add-least-pose Inv-loop μ-loop
+add-least-pose c = search needs
 
-mul-relax-2 : tie.Need-mul-relax-2 Inv-loop μ-loop
-mul-relax-2 c = search needs
-
-add-relax-2 : tie.Need-add-relax-2 Inv-loop μ-loop
-add-relax-2 c = search needs
-
-back-requires : tie.Need-back-requires Inv-loop μ-loop
-back-requires c κs = search needs
-
-relax-requires : tie.Need-relax-requires Inv-loop μ-loop
-relax-requires c κs =
-    let at-loop = c .before .before .before in
+least-pose-requires : tie.Need-least-pose-requires Inv-loop μ-loop
+least-pose-requires c κs =
+    let at-loop = c .before .before in
     let k = at-loop .before .before .before in
-    let a = k .args in
-    let l = at-loop .loop in
-    let w = l .inv .1 in
+    let g = k .pre in
+    let w = at-loop .loop .inv .1 in
     record {
-      word = record { long = w .long ∙ k .pre .least .long; low = lowered-low w (k .pre .least .low) };
-      row = record { room = omega arith; low = k .pre .low };
-      narrow = omega arith;
-      small = omega (arith, c .back .ensures, back-low (a .row .now) (a .k) (l .a));
+      words = g .words;
+      low = g .low;
+      least = record { long = w .long ∙ g .least .long; low = lowered-low w (g .least .low) };
+      room = omega (arith, g .room, g .state);
+      cell = g .cell;
+      pose = omega (arith, g .few);
+      narrow = g .narrow;
     }
 
 add-a : tie.Need-add-a Inv-loop μ-loop
@@ -62,12 +54,12 @@ loop-less c = search needs
 
 loop-again : tie.Need-loop-again Inv-loop μ-loop
 loop-again c =
-    let at-loop = c .before .before .before .before in
+    let at-loop = c .before .before .before in
     let a = at-loop .before .before .before .args in
     let l = at-loop .loop in (
       omega arith,
-      lowered-join (l .inv .1) (c .relax .ensures)
-          (λ j h. omega (arith, c .before .back .ensures, poses-more (backIn (a .row .now) (a .k)) (layerIn (a .store .now) (a .at) j) (a .q) (l .a))),
+      lowered-join (l .inv .1) (c .least-pose .ensures)
+          (λ j h. poses-more (backIn (a .row .now) (a .k)) (layerIn (a .store .now) (a .at) j) (a .q) (l .a)),
     )
 
 returns : tie.Need-returns Inv-loop μ-loop
@@ -82,12 +74,9 @@ least-poses-spec =
     Inv-loop
     μ-loop
     loop-holds
-    mul-relax
-    add-relax
-    mul-relax-2
-    add-relax-2
-    back-requires
-    relax-requires
+    mul-least-pose
+    add-least-pose
+    least-pose-requires
     add-a
     loop-less
     loop-again

@@ -1,13 +1,16 @@
 -- The three cases of the cost.
 use Prim.Native.Nat.{_≤_}
-use mathlib.Core.Path.{_∙_}
+use mathlib.Core.Path.{refl, _∙_}
 use native.Mathlib.Omega.{arith}
 use lib.ListN.{getD}
 use borrow.Author.Needs.{needs}
 use Rattle.search_buckets.specs.Ends.{cost-done, cost-past}
+use Rattle.theory_tables.specs.Steps.{B}
+use Rattle.search_lanes.specs.Lanes.{always}
+use Rattle.search_lanes.specs.Laws.{first-closed}
 use Rattle.search_row.specs.Words.{deckIn}
-use Rattle.search_wide_segment.specs.Laws.{buffer-low, outside-join, outside-layers, outside-costs}
-use Rattle.search_wide_end.specs.Laws.{ran-cost, end-words}
+use Rattle.search_wide_segment.specs.Laws.{buffer-low, outside-join, outside-layers}
+use Rattle.search_wide_end.specs.Laws.{ran-cost, row-outside, end-words}
 use Rattle.search_wide_end.proofs.segment_end.Statement.{statement}
 use Rattle.search_wide_end.proofs.segment_end.Tie as tie
 
@@ -18,46 +21,47 @@ left c = omega arith
 add-if1 : tie.Need-add-if1
 add-if1 c = search needs
 
-fill-requires : tie.Need-fill-requires
-fill-requires c κs = record { words = search needs; word = search needs }
+add-store : tie.Need-add-store
+add-store c = search needs
+
+mul-store : tie.Need-mul-store
+mul-store c = search needs
+
+slice-write-store : tie.Need-slice-write-store
+slice-write-store c = search needs
 
 same-length : tie.Need-same-length
 same-length c = search needs
 
 returns : tie.Need-returns
 returns c =
-    let mid = c .before .before .before .before in
-    let k = mid .before .before .before .before in
+    let k = c .before .before .before .before in
     let a = k .args in
-    end-words (k .pre .segment .given .narrow) (k .pre .segment .lent) (c .before .before .fill .ensures)
+    let g = k .pre .segment in
+    end-words {g = always B} (g .lent) (first-closed (omega (arith, g .room .room)) (g .given .low) (λ l h. refl))
     (λ f l. cost-past (deckIn (a .row .now) (a .sizes)) (a .sizes .reordering) f (a .first .cells) (getD (a .starts .now) l 0) (omega arith))
 
 add-if2 : tie.Need-add-if2
 add-if2 c = search needs
 
-put-requires : tie.Need-put-requires
-put-requires c κs =
+put-lanes-requires : tie.Need-put-lanes-requires
+put-lanes-requires c κs =
     let mid = c .before .before .before .before in
     let k = mid .before .before .before in
-    let g = k .pre .segment .given in
-    record {
-      word = k .pre .pays;
-      row = record { room = omega (arith, k .pre .segment .room .room, g .narrow); low = g .low };
-      narrow = g .narrow;
-      small = omega arith;
-    }
+    let g = k .pre .segment in
+    record { low = g .given .low; room = g .room; least = k .pre .pays; narrow = g .given .narrow }
 
 same-length-2 : tie.Need-same-length-2
 same-length-2 c = search needs
 
 returns-2 : tie.Need-returns-2
 returns-2 c =
-    let after-put = c .before .before in
-    let mid = after-put .before .before .before .before in
+    let after-put-lanes = c .before .before in
+    let mid = after-put-lanes .before .before .before .before in
     let k = mid .before .before .before .before in
     let a = k .args in
     let s = k .pre .pays in
-    end-words (k .pre .segment .given .narrow) (k .pre .segment .lent) (after-put .put .ensures)
+    end-words (k .pre .segment .lent) (after-put-lanes .put-lanes .ensures)
     (λ f l. omega
     (arith, cost-done (deckIn (a .row .now) (a .sizes)) (a .sizes .reordering) f (a .first .cells) (getD (a .starts .now) l 0) (omega arith), s .low .word l))
 
@@ -90,7 +94,7 @@ put-ends-requires c κs =
 same-length-3 : tie.Need-same-length-3
 same-length-3 c =
     let after-put-ends = c .before .before in
-    after-put-ends .put-ends .ensures .frame .long ∙ after-put-ends .before .before .before .before .run-on .ensures .frame .long
+    after-put-ends .put-ends .ensures .long ∙ after-put-ends .before .before .before .before .run-on .ensures .frame .long
 
 returns-3 : tie.Need-returns-3
 returns-3 c =
@@ -105,7 +109,7 @@ returns-3 c =
     let w = after-put-ends .put-ends .ensures in
     record {
       outside = outside-join (outside-layers (g .room .over) (v .frame) (omega arith))
-          (outside-costs (w .frame) (omega arith) (omega (arith, g .given .narrow)));
+          (row-outside w);
       low = w .low;
       lent = v .lent;
       right = λ l h. w .words l h ∙ ran-cost l (getD (a .starts .now) l 0) (left mid) (v .running) h;
@@ -116,11 +120,13 @@ segment-end-spec =
     tie.close
     (tie.spec
     add-if1
-    fill-requires
+    add-store
+    mul-store
+    slice-write-store
     same-length
     returns
     add-if2
-    put-requires
+    put-lanes-requires
     same-length-2
     returns-2
     run-on-requires

@@ -6,9 +6,9 @@ use native.Mathlib.Omega.{arith}
 use native.Mathlib.Numerals.{add-one}
 use borrow.Author.Tests.{not-true, not-false}
 use lib.ListN.{length}
-use Rattle.search_store.specs.Map.{stateBlock, maxLanes}
+use Rattle.search_store.specs.Map.{stateBlock}
 use Rattle.theory_tables.specs.Steps.{lastAt}
-use Rattle.search_lanes.specs.Laws.{state-rows}
+use Rattle.search_lanes.specs.Laws.{state-rows, state-closed}
 use Rattle.search_row.specs.Words.{deckIn}
 use Rattle.search_dense_first.specs.Firsts.{startsAt, after-there, after-away, starts-size}
 use Rattle.search_wide_first.specs.Firsts.{afterRow}
@@ -33,9 +33,9 @@ here : (c : tie.After-last-at)
     (a .sizes .reordering) (suc (a .to .cells)) (a .q))
 here c = omega (arith, c .last-at .ensures)
 
--- the state's rows lie in the store
-room : (k : tie.Start) → (let a = k .args in a .to .at + a .q * stateBlock + a .sizes .poses * maxLanes ≤ length (a .store .now))
-room k = let g = k .pre .given in omega (arith, g .room, g .ground .all, g .ground .coded .few, g .ground .few)
+-- the state's words lie in the store
+room : (k : tie.Start) → (let a = k .args in a .to .at + a .q * stateBlock + stateBlock ≤ length (a .store .now))
+room k = let g = k .pre .given in omega (arith, g .room, g .ground .all, g .ground .coded .few)
 
 add-starts : tie.Need-add-starts
 add-starts c = search needs
@@ -43,14 +43,17 @@ add-starts c = search needs
 starts-requires : tie.Need-starts-requires
 starts-requires c κs = search needs
 
-mul-fill-rows : tie.Need-mul-fill-rows
-mul-fill-rows c = search needs
+mul-fill : tie.Need-mul-fill
+mul-fill c = search needs
 
-add-fill-rows : tie.Need-add-fill-rows
-add-fill-rows c = search needs
+add-fill : tie.Need-add-fill
+add-fill c = search needs
 
-fill-rows-requires : tie.Need-fill-rows-requires
-fill-rows-requires c κs = record { words = search needs; word = search needs }
+add-fill-2 : tie.Need-add-fill-2
+add-fill-2 c = search needs
+
+fill-requires : tie.Need-fill-requires
+fill-requires c κs = record { words = search needs; word = search needs }
 
 same-length : tie.Need-same-length
 same-length c = search needs
@@ -62,10 +65,11 @@ returns c =
     let mid₂ = after-if1 .before .before .before .before in
     let k = mid₂ .before in
     let a = k .args in
+    let g = k .pre .given in
     let t = sym (after-if1 .before .starts .ensures) ∙ not-true _ (after-if1 .if1 .taken) in
     let u = ap (λ (j : ℕ). startsAt (a .sizes .cells) (a .sizes .reordering) j (a .m) (a .q)) (sym (add-one (a .to .cells))) ∙ t in
     record {
-      filled = state-rows (omega (arith, k .pre .given .ground .few)) (c .before .before .fill-rows .ensures)
+      filled = state-closed (g .narrow) (g .ground .few) (g .low) (c .before .before .fill .ensures)
           (λ b l x y. after-away (deckIn (a .row .now) (a .sizes)) (a .sizes .reordering) (a .to .cells) (a .m) (a .p) l (a .q) b u);
       lent = k .pre .lent;
     }
@@ -124,7 +128,7 @@ returns-2 c =
     let e = here after-last-at in
     let w = after-first-rows .first-rows .ensures in
     record {
-      filled = state-rows (omega (arith, k .pre .given .ground .few)) (w .written)
+      filled = state-rows (w .written)
           (λ b l x y.
           after-there (deckIn (a .row .now) (a .sizes)) (a .sizes .reordering) (a .to .cells) (a .m) (a .p) l (a .q) b (can mid)
           ∙ ap (λ (j : ℕ). afterRow (a .row .now) (a .p) j b l) (sym e));
@@ -137,9 +141,10 @@ first-block-spec =
     (tie.spec
     add-starts
     starts-requires
-    mul-fill-rows
-    add-fill-rows
-    fill-rows-requires
+    mul-fill
+    add-fill
+    add-fill-2
+    fill-requires
     same-length
     returns
     add-last-at

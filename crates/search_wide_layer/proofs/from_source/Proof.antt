@@ -1,4 +1,4 @@
--- A state that is no source lowers nothing; one that is a source stands in the row.
+-- A state without a way lowers nothing; one that is a source stands in the row.
 use Prim.Native.Nat.{ℕ, suc, _<_}
 use mathlib.Core.Path.{_≡_, refl, sym, ap, ap₂, _∙_}
 use mathlib.Core.Bool.{true}
@@ -11,7 +11,7 @@ use Rattle.search_lanes.specs.Store.{layerIn}
 use Rattle.search_row.specs.Words.{deckIn}
 use Rattle.search_row.specs.Laws.{there-size, source-size}
 use Rattle.search_buckets.specs.Rows.{bucketsIn, byPoses}
-use Rattle.search_buckets.specs.Sources.{pays-none, state-in, state-out, buckets-either}
+use Rattle.search_buckets.specs.Sources.{pays-none, state-in, buckets-either}
 use Rattle.search_wide_buckets.specs.Table.{FiveOrNine}
 use Rattle.search_wide_buckets.specs.TableLaws.{gathered-none, gathered-ext}
 use Rattle.search_wide_buckets.specs.SpreadLaws.{nine-most}
@@ -25,7 +25,7 @@ Source c = let a = c .before .before .before .before .args in isSource (deckIn (
     (a .p) ≡ true
 
 source : (c : tie.Else1) → Source c
-source c = sym (c .before .is-source .ensures) ∙ not-false _ (c .if1 .left)
+source c = c .before .is-way .ensures .source (not-false _ (c .if1 .left))
 
 -- the way back, from where both cells are known
 abbrev start : tie.After-last-at2 → tie.Start
@@ -66,27 +66,26 @@ needed-here : (c : tie.After-buckets-of)
     → (let a = start (c .before) .args in c .buckets-of .result ≡ bucketsFor (a .row .now) (a .sizes) (a .layer) (a .q))
 needed-here c = c .buckets-of .ensures ∙ ap (bucketsIn (start (c .before) .args .row .now)) (here (c .before))
 
-is-source-requires : tie.Need-is-source-requires
-is-source-requires c κs = search needs
+is-way-requires : tie.Need-is-way-requires
+is-way-requires c κs =
+    let k = c .before .before in
+    let g = k .pre .gathering in
+    record { given = g .given; target = omega (arith, g .target .state, g .given .ground .all); source = k .pre .source }
 
 returns : tie.Need-returns
 returns c =
     let k = c .before .before .before .before in
-    let a = k .args in
     record {
       gathered = gathered-none _ _ _ (k .pre .gathering .lent .low)
-          (λ l v t i j h.
-          omega (
-            arith,
-            state-out (a .row .now) (deckIn (a .row .now) (a .sizes)) (a .sizes .reordering) (layerIn (a .store .now) (a .layer .at) l) (a .layer .cells)
-                (a .q) (a .p) v t
-                (sym (c .before .is-source .ensures) ∙ not-true _ (c .if1 .taken)),
-          ));
+          (λ l v t i j h. c .before .is-way .ensures .none (not-true _ (c .if1 .taken)) l v t);
       unused = λ e. refl;
     }
 
 last-at-requires : tie.Need-last-at-requires
-last-at-requires c κs = search needs
+last-at-requires c κs =
+    let k = c .before .before .before .before in
+    let g = k .pre .gathering .given in
+    record { words = g .ground .coded; state = omega (arith, k .pre .source, g .ground .all); few = omega (arith, g .early) }
 
 add-last-at : tie.Need-add-last-at
 add-last-at c = search needs
@@ -155,7 +154,7 @@ pub from-source-spec : {M : Type 1} → statement M
 from-source-spec =
     tie.close
     (tie.spec
-    is-source-requires
+    is-way-requires
     returns
     last-at-requires
     add-last-at

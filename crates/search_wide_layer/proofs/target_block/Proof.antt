@@ -7,7 +7,7 @@ use borrow.Author.Tests.{not-true, not-false}
 use Rattle.search_row.specs.Words.{deckIn, thereIn}
 use Rattle.search_buckets.specs.Next.{next-away}
 use Rattle.search_lanes.specs.Store.{layerIn}
-use Rattle.search_lanes.specs.Laws.{state-rows}
+use Rattle.search_lanes.specs.Laws.{state-closed}
 use borrow.Author.Needs.{needs}
 use Rattle.search_wide_layer.proofs.target_block.Statement.{statement}
 use Rattle.search_wide_layer.proofs.target_block.Tie as tie
@@ -18,14 +18,17 @@ add-is-there c = search needs
 is-there-requires : tie.Need-is-there-requires
 is-there-requires c κs = search needs
 
-mul-fill-rows : tie.Need-mul-fill-rows
-mul-fill-rows c = search needs
+mul-fill : tie.Need-mul-fill
+mul-fill c = search needs
 
-add-fill-rows : tie.Need-add-fill-rows
-add-fill-rows c = search needs
+add-fill : tie.Need-add-fill
+add-fill c = search needs
 
-fill-rows-requires : tie.Need-fill-rows-requires
-fill-rows-requires c κs = record { words = search needs; word = search needs }
+add-fill-2 : tie.Need-add-fill-2
+add-fill-2 c = search needs
+
+fill-requires : tie.Need-fill-requires
+fill-requires c κs = record { words = search needs; word = search needs }
 
 same-length : tie.Need-same-length
 same-length c = search needs
@@ -36,10 +39,11 @@ returns c =
     let mid = after-if1 .before .before .before .before in
     let k = mid .before in
     let a = k .args in
+    let g = k .pre .stepping .given in
     let t = sym (after-if1 .before .is-there .ensures) ∙ not-true _ (after-if1 .if1 .taken) in
     let u = ap (λ (j : ℕ). thereIn (a .sizes .cells) (a .sizes .reordering) j (a .q)) (sym (add-one (a .layer .cells))) ∙ t in
     record {
-      filled = state-rows (omega (arith, k .pre .stepping .given .ground .few)) (c .before .before .fill-rows .ensures)
+      filled = state-closed (g .narrow) (g .ground .few) (g .low) (c .before .before .fill .ensures)
           (λ b l x y. next-away (deckIn (a .row .now) (a .sizes)) (a .sizes .reordering) (layerIn (a .store .now) (a .layer .at) l) (a .layer .cells)
           (a .q) b u);
       lent = k .pre .stepping .lent;
@@ -71,9 +75,10 @@ target-block-spec =
     (tie.spec
     add-is-there
     is-there-requires
-    mul-fill-rows
-    add-fill-rows
-    fill-rows-requires
+    mul-fill
+    add-fill
+    add-fill-2
+    fill-requires
     same-length
     returns
     target-rows-requires

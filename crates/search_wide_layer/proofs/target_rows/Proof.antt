@@ -1,4 +1,4 @@
--- Without a source nothing leads to the state. Else the sources are gathered into a cleared table; if none lowered it, nothing leads to the state; else
+-- Without a way nothing leads to the state. Else the sources are gathered into a cleared table; if none lowered it, nothing leads to the state; else
 -- each pose that may be offered finds there what it can be reached for, and nothing leads to the others.
 use Prim.Native.Nat.{ℕ, suc, _+_, _*_, _-_, _^_, _≤_, _<_}
 use mathlib.Core.Path.{_≡_, refl, sym, ap, _∙_}
@@ -8,10 +8,10 @@ use native.Mathlib.Decide.{decLt}
 use borrow.Author.Tests.{not-true}
 use lib.ListN.{length}
 use Rattle.definition.specs.Job.{maxCells}
-use Rattle.search_store.specs.Map.{stateBlock, maxLanes, maxPoses}
+use Rattle.search_store.specs.Map.{stateBlock, flagsFrom, maxPoses}
 use Rattle.theory_tables.specs.Steps.{B, lastAt}
 use Rattle.search_lanes.specs.Store.{layerIn}
-use Rattle.search_lanes.specs.Laws.{rows-join, state-rows}
+use Rattle.search_lanes.specs.Laws.{said-join, state-rows, state-closed}
 use Rattle.search_row.specs.Words.{deckIn}
 use Rattle.search_row.specs.Laws.{there-size}
 use Rattle.search_buckets.specs.Rows.{rowsOf, bucketsIn, byStates}
@@ -27,7 +27,7 @@ use Rattle.search_wide_layer.proofs.target_rows.Tie as tie
 
 -- the way back: to the start, and to where the target's poses are known
 abbrev start : tie.After-last-at → tie.Start
-start c = let mid = c .before .before .before .before in mid .before .before
+start c = let mid = c .before .before .before .before in mid .before .before .before
 
 abbrev known : tie.After-gather → tie.After-poses-of
 known c = let mid = c .before .before .before .before in mid .before .before
@@ -53,12 +53,15 @@ next k b l =
     let a = k .args in
     nextFrom (deckIn (a .row .now) (a .sizes)) (a .sizes .reordering) (a .store .now) (a .layer .at) (a .layer .cells) l (a .q) b
 
--- the state's rows lie in the store
-room : (k : tie.Start) → (let a = k .args in a .to + a .q * stateBlock + a .sizes .poses * maxLanes ≤ length (a .store .now))
-room k = omega (arith, k .pre .stepping .beside .room, k .pre .target .state, k .pre .stepping .given .ground .coded .few, k .pre .stepping .given .ground .few)
+-- the state's words lie in the store
+room : (k : tie.Start) → (let a = k .args in a .to + a .q * stateBlock + stateBlock ≤ length (a .store .now))
+room k = omega (arith, k .pre .stepping .beside .room, k .pre .target .state, k .pre .stepping .given .ground .coded .few)
 
 short : (k : tie.Start) → length (k .args .store .now) < 2 ^ 64
 short k = search needs
+
+flags-fit : (k : tie.Start) → (let a = k .args in a .to + a .q * stateBlock + flagsFrom < 2 ^ 64)
+flags-fit k = omega (arith, room k, short k)
 
 -- the target's position
 here : (c : tie.After-last-at)
@@ -160,11 +163,20 @@ mul-at c = search needs
 add-at : tie.Need-add-at
 add-at c = search needs
 
-has-source-requires : tie.Need-has-source-requires
-has-source-requires c κs = search needs
+has-way-requires : tie.Need-has-way-requires
+has-way-requires c κs =
+    let k = c .before .before .before in
+    let g = k .pre .stepping .given in
+    record { given = g; target = omega (arith, k .pre .target .state, g .ground .all) }
 
-fill-rows-requires : tie.Need-fill-rows-requires
-fill-rows-requires c κs = record { words = search needs; word = search needs }
+add-fill : tie.Need-add-fill
+add-fill c = search needs
+
+fill-requires : tie.Need-fill-requires
+fill-requires c κs =
+    let k = c .before .before .before .before .before .before in
+    let g = k .pre .stepping .given in
+    record { words = record { room = omega (arith, room k, g .ground .few); low = g .low }; word = omega arith }
 
 same-length : tie.Need-same-length
 same-length c = search needs
@@ -172,16 +184,16 @@ same-length c = search needs
 returns : tie.Need-returns
 returns c =
     let after-if1 = c .before .before .before .before in
-    let k = after-if1 .before .before .before .before in
+    let k = after-if1 .before .before .before .before .before in
     let a = k .args in
     let g = k .pre .stepping .given in
     record {
-      filled = state-rows (omega (arith, g .ground .few)) (c .before .before .fill-rows .ensures)
+      filled = state-closed (g .narrow) (g .ground .few) (g .low) (c .before .before .fill .ensures)
           (λ b l p i.
           next-alone (a .row .now) (a .sizes .cells) (a .sizes .poses) (a .sizes .reordering) (layerIn (a .store .now) (a .layer .at) l) (a .layer .cells)
           (a .q) b
           (k .pre .target .there) (g .ground .all)
-          (after-if1 .before .has-source .ensures (not-true _ (after-if1 .if1 .taken))));
+          (λ v t m n. after-if1 .before .has-way .ensures (not-true _ (after-if1 .if1 .taken)) m n l v t));
       lent = k .pre .stepping .lent;
     }
 
@@ -224,11 +236,16 @@ gather-requires c κs =
       few = omega (arith, after-reset .before .before .rows-of .ensures, looking p);
     }
 
-fill-rows-requires-2 : tie.Need-fill-rows-requires-2
-fill-rows-requires-2 c κs =
+add-fill-2 : tie.Need-add-fill-2
+add-fill-2 c =
+    let k = start (known (c .before .before) .before .before) in
+    record { fits = flags-fit k }
+
+fill-requires-2 : tie.Need-fill-requires-2
+fill-requires-2 c κs =
     let k = start (known (c .before .before) .before .before) in
     let g = k .pre .stepping .given in
-    record { words = record { room = room k; narrow = g .narrow; low = g .low }; word = omega arith }
+    record { words = record { room = omega (arith, room k, g .ground .few); low = g .low }; word = omega arith }
 
 same-length-2 : tie.Need-same-length-2
 same-length-2 c = search needs
@@ -240,7 +257,7 @@ returns-2 c =
     let g = start (known after-gather .before .before) .pre .stepping .given in
     let w = after-gather .gather .ensures .gathered in
     record {
-      filled = state-rows (omega (arith, g .ground .few)) (c .before .before .fill-rows2 .ensures)
+      filled = state-closed (g .narrow) (g .ground .few) (g .low) (c .before .before .fill2 .ensures)
           (nothing after-gather (not-true _ (after-if2 .if2 .taken)));
       lent = record { long = w .long ∙ after-gather .before .before .before .reset .ensures .long; low = w .low };
     }
@@ -275,36 +292,36 @@ put-rows-requires c κs =
         least = five-least h;
         most = nine-most h;
       };
-      room = omega (arith, room k, p .poses-of .ensures .most);
+      room = room k;
       few = looking p;
     }
 
-mul-fill-rows : tie.Need-mul-fill-rows
-mul-fill-rows c =
+add-fill-3 : tie.Need-add-fill-3
+add-fill-3 c =
     let after-run-up = ran-up (c .before .before .before) in
-    let h = looking (known (after-run-up .before .before .before)) in
-    search needs
+    let k = start (known (after-run-up .before .before .before) .before .before) in
+    record { fits = flags-fit k }
 
-add-fill-rows : tie.Need-add-fill-rows
-add-fill-rows c =
+add-fill-4 : tie.Need-add-fill-4
+add-fill-4 c =
     let after-run-up = ran-up (c .before .before .before) in
     let p = known (after-run-up .before .before .before) in
     let k = start (p .before .before) in
     let a = k .args in
-    let h : a .to + a .q * stateBlock + p .poses-of .result * maxLanes < 2 ^ 64 = omega (arith, room k, p .poses-of .ensures .most, short k) in
+    let h : a .to + a .q * stateBlock + flagsFrom + p .poses-of .result < 2 ^ 64 = omega (arith, room k, looking p, short k) in
     record { fits = h }
 
-sub-fill-rows : tie.Need-sub-fill-rows
-sub-fill-rows c = search needs
+sub-fill : tie.Need-sub-fill
+sub-fill c = search needs
 
-fill-rows-requires-3 : tie.Need-fill-rows-requires-3
-fill-rows-requires-3 c κs =
+fill-requires-3 : tie.Need-fill-requires-3
+fill-requires-3 c κs =
     let after-put-rows = c .before .before .before .before in
     let p = known (ran-up after-put-rows .before .before .before) in
     let k = start (p .before .before) in
     let w = after-put-rows .put-rows .ensures in
     record {
-      words = record { room = omega (arith, room k, p .poses-of .ensures .most, w .frame .long); narrow = k .pre .stepping .given .narrow; low = w .low };
+      words = record { room = omega (arith, room k, p .poses-of .ensures .most, w .frame .long, k .pre .stepping .given .ground .few); low = w .low };
       word = omega arith;
     }
 
@@ -313,8 +330,8 @@ same-length-3 c = search needs
 
 returns-3 : tie.Need-returns-3
 returns-3 c =
-    let after-fill-rows = c .before .before in
-    let after-store = after-fill-rows .before .before .before .before in
+    let after-fill = c .before .before in
+    let after-store = after-fill .before .before .before .before in
     let after-put-rows = after-store .before in
     let after-run-up = ran-up after-put-rows in
     let m = known (after-run-up .before .before .before) in
@@ -323,8 +340,8 @@ returns-3 c =
     let g = k .pre .stepping .given in
     let t = table after-run-up in
     record {
-      filled = state-rows (omega (arith, g .ground .few))
-          (rows-join {h = next k} (g .narrow) (m .poses-of .ensures .most) (after-put-rows .put-rows .ensures) (after-fill-rows .fill-rows3 .ensures)
+      filled = state-rows
+          (said-join {h = next k} (g .narrow) (m .poses-of .ensures .most) (g .ground .few) (after-put-rows .put-rows .ensures) (after-fill .fill3 .ensures)
           (λ b l p i.
           next-found (a .row .now) (a .sizes .cells) (a .sizes .poses) (a .sizes .reordering) (layerIn (a .store .now) (a .layer .at) l) (a .layer .cells)
           (a .q) b
@@ -341,8 +358,9 @@ target-rows-spec =
     (tie.spec
     mul-at
     add-at
-    has-source-requires
-    fill-rows-requires
+    has-way-requires
+    add-fill
+    fill-requires
     same-length
     returns
     add-last-at
@@ -352,14 +370,15 @@ target-rows-spec =
     rows-of-requires
     reset-requires
     gather-requires
-    fill-rows-requires-2
+    add-fill-2
+    fill-requires-2
     same-length-2
     returns-2
     run-up-requires
     put-rows-requires
-    mul-fill-rows
-    add-fill-rows
-    sub-fill-rows
-    fill-rows-requires-3
+    add-fill-3
+    add-fill-4
+    sub-fill
+    fill-requires-3
     same-length-3
     returns-3)

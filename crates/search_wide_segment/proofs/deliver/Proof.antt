@@ -4,10 +4,10 @@ use mathlib.Core.Path.{_≡_, sym, ap₂}
 use lib.Dec.{eqb}
 use mathlib.Core.Bool.{cond}
 use native.Mathlib.Omega.{arith}
-use Rattle.search_store.specs.Map.{stateBlock, maxLanes}
+use Rattle.search_store.specs.Map.{stateBlock}
 use Rattle.theory_tables.specs.Steps.{offset}
 use Rattle.search_lanes.specs.Store.{Frame, Filled}
-use Rattle.search_lanes.specs.Laws.{frame-refl, frame-join, filled-none, filled-more}
+use Rattle.search_lanes.specs.Laws.{frame-refl, frame-join, said-below, said-above, filled-none, filled-more}
 use Rattle.search_wide_segment.specs.Runs.{delivered}
 use borrow.Author.Needs.{needs}
 use Rattle.search_wide_segment.proofs.deliver.Statement.{statement}
@@ -70,8 +70,9 @@ loop-again c =
       filled-more (l .q) (g .narrow) (omega arith) (omega (arith, g .all, g .coded .few)) (l .inv .1) w
           (λ b j x y.
           ap₂ (cond (eqb (a .layer .cells + offset (a .sizes .reordering) (l .q)) (a .tall + suc (a .sizes .reordering))))
-          (sym (f .low (a .layer .at + l .q * stateBlock + b * maxLanes + j) (omega (arith, g .room .over, g .all, g .coded .few, k .pre .below))))
-          (sym (f .high (a .costs + l .q * stateBlock + b * maxLanes + j) (omega arith)))),
+          (sym (said-below f (a .layer .at + l .q * stateBlock) b j (omega (arith, g .room .over, g .all, g .coded .few, k .pre .below)) (omega (arith, g .few))
+          (omega (arith, g .narrow))))
+          (sym (said-above f (a .costs + l .q * stateBlock) b j (omega arith)))),
       frame-join (a .costs) (a .costs + (l .q + 1) * stateBlock) f (w .frame) (omega arith) (omega arith) (omega arith) (omega arith),
     )
 

@@ -53,7 +53,8 @@ add-copy-rows-2 : tie.Need-add-copy-rows-2
 add-copy-rows-2 c = search needs
 
 copy-rows-requires : tie.Need-copy-rows-requires
-copy-rows-requires c κs = record { words = search needs; apart = search needs }
+copy-rows-requires c κs =
+    record { room = search needs; narrow = search needs; few = search needs; low = search needs; apart = search needs }
 
 same-length : tie.Need-same-length
 same-length c = search needs
@@ -67,7 +68,7 @@ returns-2 c =
     let a = k .args in
     let e : a .layer .cells + offset (a .sizes .reordering) (a .q) ≡ a .tall + suc (a .sizes .reordering) =
     omega (arith, after-if1 .if1 .left, after-word .word .ensures, k .pre .delivering .toTall .coded .digit (a .q) (k .pre .state)) in
-    state-rows (omega arith) (after-copy-rows .copy-rows .ensures)
+    state-rows (after-copy-rows .copy-rows .ensures)
     (λ b l x y. delivered-take (a .sizes .reordering) (a .layer .cells) (a .tall) (a .store .now) (a .layer .at) (a .costs) l (a .q) b e)
 
 add-word : tie.Need-add-word

@@ -4,10 +4,10 @@ use mathlib.Core.Path.{_≡_, sym, ap}
 use lib.Dec.{ltb}
 use mathlib.Core.Bool.{cond}
 use native.Mathlib.Omega.{arith}
-use Rattle.search_store.specs.Map.{stateBlock, maxLanes}
+use Rattle.search_store.specs.Map.{stateBlock}
 use Rattle.theory_tables.specs.Steps.{B, offset}
 use Rattle.search_lanes.specs.Store.{Frame, Filled}
-use Rattle.search_lanes.specs.Laws.{frame-refl, frame-join, filled-none, filled-more}
+use Rattle.search_lanes.specs.Laws.{frame-refl, frame-join, said-above, filled-none, filled-more}
 use Rattle.search_wide_segment.specs.Runs.{lateIn}
 use borrow.Author.Needs.{needs}
 use Rattle.search_wide_segment.proofs.fill_late.Statement.{statement}
@@ -64,7 +64,7 @@ loop-again c =
       omega arith,
       filled-more (l .q) (k .pre .narrow) (omega arith) (omega (arith, k .pre .all, k .pre .coded .few)) (l .inv .1) w
           (λ b j x y. ap (cond (ltb (a .tall + suc (a .sizes .reordering)) (a .layer .cells + offset (a .sizes .reordering) (l .q))) B)
-          (sym (f .high (a .costs + l .q * stateBlock + b * maxLanes + j) (omega arith)))),
+          (sym (said-above f (a .costs + l .q * stateBlock) b j (omega arith)))),
       frame-join (a .costs) (a .costs + (l .q + 1) * stateBlock) f (w .frame) (omega arith) (omega arith) (omega arith) (omega arith),
     )
 

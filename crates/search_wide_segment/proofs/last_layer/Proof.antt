@@ -4,10 +4,10 @@ use mathlib.Core.Path.{_≡_, sym, ap₂}
 use lib.Dec.{eqb}
 use mathlib.Core.Bool.{cond}
 use native.Mathlib.Omega.{arith}
-use Rattle.search_store.specs.Map.{stateBlock, maxLanes}
+use Rattle.search_store.specs.Map.{stateBlock}
 use Rattle.theory_tables.specs.Steps.{offset}
 use Rattle.search_lanes.specs.Store.{Frame, Filled}
-use Rattle.search_lanes.specs.Laws.{frame-refl, frame-join, filled-none, filled-more}
+use Rattle.search_lanes.specs.Laws.{frame-refl, frame-join, said-above, filled-none, filled-more}
 use Rattle.search_row.specs.Words.{deckIn}
 use Rattle.search_wide_buckets.specs.Table.{TableLent}
 use Rattle.search_wide_layer.specs.Laws.{given-on, beside-on, beside-kept, next-kept}
@@ -70,7 +70,7 @@ loop-again c =
           ap₂ (cond (eqb (suc (a .layer .cells) + offset (a .sizes .reordering) (l .q)) (a .tall + suc (a .sizes .reordering))))
           (sym (next-kept (deckIn (a .row .now) (a .sizes)) (a .sizes .reordering) (a .layer .cells) (l .q) b j kept (g .ground .coded .few) (g .ground .few)
           (omega (arith, g .narrow))))
-          (sym (f .high (a .costs + l .q * stateBlock + b * maxLanes + j) (omega arith)))),
+          (sym (said-above f (a .costs + l .q * stateBlock) b j (omega arith)))),
       frame-join (a .costs) (a .costs + (l .q + 1) * stateBlock) f (w .filled .frame) (omega arith) (omega arith) (omega arith) (omega arith),
       w .lent,
     )

@@ -3,7 +3,7 @@ use Prim.Native.Nat.{suc, _+_, _≤_, _<_}
 use mathlib.Core.Path.{sym}
 use native.Mathlib.Omega.{arith}
 use Rattle.theory_tables.specs.Steps.{offset}
-use Rattle.search_lanes.specs.Laws.{frame-refl, state-rows}
+use Rattle.search_lanes.specs.Laws.{frame-refl, state-closed}
 use Rattle.search_wide_segment.specs.Laws.{late-skip, late-take}
 use borrow.Author.Needs.{needs}
 use Rattle.search_wide_segment.proofs.late_state.Statement.{statement}
@@ -39,14 +39,17 @@ returns c =
       right = λ b x l y. sym (late-skip (a .sizes .reordering) (a .layer .cells) (a .tall) (a .store .now) (a .costs) l (a .q) b e);
     }
 
-mul-fill-rows : tie.Need-mul-fill-rows
-mul-fill-rows c = search needs
+mul-fill : tie.Need-mul-fill
+mul-fill c = search needs
 
-add-fill-rows : tie.Need-add-fill-rows
-add-fill-rows c = search needs
+add-fill : tie.Need-add-fill
+add-fill c = search needs
 
-fill-rows-requires : tie.Need-fill-rows-requires
-fill-rows-requires c κs = record { words = search needs; word = search needs }
+add-fill-2 : tie.Need-add-fill-2
+add-fill-2 c = search needs
+
+fill-requires : tie.Need-fill-requires
+fill-requires c κs = record { words = search needs; word = search needs }
 
 same-length : tie.Need-same-length
 same-length c = search needs
@@ -59,7 +62,7 @@ returns-2 c =
     let a = k .args in
     let e : a .tall + suc (a .sizes .reordering) < a .layer .cells + offset (a .sizes .reordering) (a .q) =
     omega (arith, after-if1 .if1 .left, after-word .word .ensures, k .pre .toTall .coded .digit (a .q) (k .pre .state)) in
-    state-rows (omega arith) (c .before .before .fill-rows .ensures)
+    state-closed (k .pre .toTall .narrow) (omega arith) (k .pre .toTall .low) (c .before .before .fill .ensures)
     (λ b l x y. late-take (a .sizes .reordering) (a .layer .cells) (a .tall) (a .store .now) (a .costs) l (a .q) b e)
 
 add-word : tie.Need-add-word
@@ -68,4 +71,4 @@ add-word c = search needs
 pub late-state-spec : {M : Type 1} → statement M
 late-state-spec =
     tie.close
-    (tie.spec mul-word add-word word-requires add-if1 add-if1-2 add-if1-3 returns mul-fill-rows add-fill-rows fill-rows-requires same-length returns-2)
+    (tie.spec mul-word add-word word-requires add-if1 add-if1-2 add-if1-3 returns mul-fill add-fill add-fill-2 fill-requires same-length returns-2)
