@@ -1,5 +1,5 @@
 -- Tables written part by part: one case, the cases before it, and what is read in the meantime.
-use Prim.Native.Nat.{ℕ, suc, _+_, _≤_, _<_, min}
+use Prim.Native.Nat.{ℕ, suc, _+_, _*_, _≤_, _<_, min}
 use mathlib.Core.Path.{_≡_, refl, sym, ap, _∙_}
 use mathlib.Core.Logic.{_⊎_, inl, inr, ⊎-elim}
 use mathlib.Core.Bool.{Bool}
@@ -9,10 +9,10 @@ use native.Mathlib.Decide.{decLt}
 use lib.ListN.{length, getD, set, length-set}
 use lib.Seq.{getD-set-same, getD-set-other}
 use Rattle.definition.specs.Job.{maxTall}
-use Rattle.search_store.specs.Map.{caseAt, pointerAt, Pages, Slot, maxLanes}
+use Rattle.search_store.specs.Map.{caseAt, pointerAt, costsAt, Pages, Slot, layerBlock, stateBlock, flagsFrom, maxLanes}
 use Rattle.theory_tables.specs.Steps.{B, Cases, SegmentCosts, joinPose, nextCases, poseSlots}
 use Rattle.search_lanes.specs.Store.{Low}
-use Rattle.search_lanes.specs.Laws.{low-set}
+use Rattle.search_lanes.specs.Laws.{low-set, said-same}
 use Rattle.search_store.specs.Places.{case-one, case-pointer, case-room, case-beside}
 use Rattle.search_join.specs.Tables.{caseState₀, caseState₁, casePose}
 use Rattle.search_join.specs.Tables.{
@@ -33,8 +33,9 @@ use Rattle.search_join.specs.Tables.{
   Joined,
 }
 use Rattle.search_join.specs.Laws.{lowest-same, next-low}
-use Rattle.search_join.specs.Sums.{startSum, AllSummed}
-use Rattle.search_join.specs.SumLaws.{summed-ext}
+use Rattle.search_join.specs.declared.sums.Join.{Join}
+use Rattle.search_join.specs.Sums.{startSum, AllSummed, Commons, JoinTable, Made}
+use Rattle.search_join.specs.SumLaws.{summed-ext, commons-ext}
 
 -- ---- a table depends on the ways below B alone
 
@@ -107,13 +108,19 @@ module _ (starts lanes I : ℕ) where
         → costsIn y row s l q a ≡ costsIn x row s l q a
     unfolding costsIn
     kept-cost row s l q a h k i g =
-        p .kept _
-        (λ p₀ p₁ c r.
-        let m = room p₀ p₁ c r in
-        let w = case-beside row s (suc I) p₀ p₁ c h (omega arith, m .0, m .1, m .2) in (
-          λ e. ⊎-elim (λ z. omega arith) (λ z. omega arith) (w .0),
-          λ e. ⊎-elim (λ z. omega arith) (λ z. omega arith) (w .1),
-        ))
+        said-same x y (costsAt row s + q * stateBlock) a l
+        (beside (costsAt row s + q * stateBlock + flagsFrom + a) (omega arith) (omega arith))
+        (beside (costsAt row s + q * stateBlock + a * maxLanes + l) (omega arith) (omega arith))
+      where
+        beside : (k : ℕ) → costsAt row s ≤ k → k < costsAt row s + layerBlock → getD y k 0 ≡ getD x k 0
+        beside k f n =
+            p .kept k
+            (λ p₀ p₁ c r.
+            let m = room p₀ p₁ c r in
+            let w = case-beside row s (suc I) p₀ p₁ c h (omega arith, m .0, m .1, m .2) in (
+              λ e. ⊎-elim (λ z. omega arith) (λ z. omega arith) (w .0),
+              λ e. ⊎-elim (λ z. omega arith) (λ z. omega arith) (w .1),
+            ))
 
   -- what is read is as before
   pub table-part : {P : ℕ → ℕ → ℕ → Type 0} {x y : List ℕ} → Table starts lanes I x → CasesMade starts lanes I P x y
@@ -126,23 +133,6 @@ module _ (starts lanes I : ℕ) where
         omega (arith, t .long, p .long);
     low = p .low;
   }
-
-  pub summed-part : (P : ℕ → ℕ → ℕ → Type 0) {x y sums : List ℕ} {live : Bool} (q₀ a : ℕ) → Table starts lanes I x
-      → ((q₀ q₁ a : ℕ) → P q₀ q₁ a → (q₀ < 12) × (q₁ < 12) × (a < poseSlots)) → CasesMade starts lanes I P x y → q₀ < 12
-      → a < poseSlots
-      → AllSummed starts lanes I x q₀ a sums live → AllSummed starts lanes I y q₀ a sums live
-  unfolding startSum
-  summed-part P {y = y} q₀ a t room p h g w =
-      let u = t .states in
-      let v = t .few in
-      let r = t .stage in
-      summed-ext starts lanes I _ q₀ a y w
-      (λ s t l i j k.
-      omega (
-        arith,
-        kept-case P r room p I s t l (omega arith, omega arith, omega arith, omega arith) (λ e. omega arith) .case,
-        kept-cost P r room p 0 s l q₀ a (omega arith) (omega arith) h g,
-      ))
 
   -- no case
   pub part-none : {P : ℕ → ℕ → ℕ → Type 0} {st : List ℕ} → Low st → ((q₀ q₁ a : ℕ) → P q₀ q₁ a → ⊥)
@@ -260,3 +250,32 @@ module _ (starts lanes I : ℕ) where
             (λ q₀ q₁ a r. (omega arith, omega arith, omega arith)) p j q₀ q₁ a m (λ e r. n e);
         done = λ q₀ q₁ a h g k. p .done q₀ q₁ a (h, g, k);
       }
+
+-- ---- what is read beside the tables
+
+module _ (j : Join) (P : ℕ → ℕ → ℕ → Type 0) {x y : List ℕ} (t : JoinTable j x)
+    (room : (q₀ q₁ a : ℕ) → P q₀ q₁ a → (q₀ < 12) × (q₁ < 12) × (a < poseSlots)) (p : Made j P x y) where
+  -- the cases of the table before
+  before : (s t l : ℕ) → s < j .starts → t < j .starts → l < j .lanes → casesIn y (j .i) s t l ≡ casesIn x (j .i) s t l
+  before s u l h g k =
+      let states = t .states in
+      let few = t .few in
+      let stage = t .stage in
+      kept-case (j .starts) (j .lanes) (j .i) P stage room p (j .i) s u l
+      (omega arith, omega arith, omega arith, omega arith) (λ e. omega arith) .case
+
+  pub commons-part : {commons : List ℕ} → Commons j x commons → Commons j y commons
+  commons-part w = commons-ext j y w before
+
+  pub summed-part : {sums : List ℕ} {live : Bool} (q₀ a : ℕ) → q₀ < 12 → a < poseSlots
+      → AllSummed j x q₀ a sums live → AllSummed j y q₀ a sums live
+  unfolding startSum
+  summed-part q₀ a h g w =
+      let few = t .few in
+      summed-ext j x q₀ a y w
+      (λ s u l i k m.
+      omega (
+        arith,
+        before s u l i k m,
+        kept-cost (j .starts) (j .lanes) (j .i) P (t .stage) room p 0 s l q₀ a (omega arith) (omega arith) h g,
+      ))

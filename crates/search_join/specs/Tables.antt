@@ -1,14 +1,14 @@
 -- The case tables and the costs of a stage as words of the store, and what joining them leaves.
-use Prim.Native.Nat.{ℕ, suc, _+_, _*_, _/_, _%_, _≤_, _<_, min}
+use Prim.Native.Nat.{ℕ, suc, _+_, _/_, _%_, _≤_, _<_, min}
 use mathlib.Core.Path.{_≡_}
 use mathlib.Core.Logic.{_⊎_}
 use mathlib.Core.List.{List}
 use lib.ListN.{length, getD}
 use Rattle.definition.specs.Job.{maxTall}
-use Rattle.search_store.specs.Map.{caseAt, pointerAt, costsAt, Pages, Slot, stateBlock, pointerRow₀, pointerRow₁}
+use Rattle.search_store.specs.Map.{caseAt, pointerAt, costsAt, Pages, Slot, pointerRow₀, pointerRow₁}
 use Rattle.search_store.specs.Map.{maxLanes, maxPoses}
 use Rattle.theory_tables.specs.Steps.{B, Cases, SegmentCosts, nextCases}
-use Rattle.search_lanes.specs.Store.{Low}
+use Rattle.search_lanes.specs.Store.{Low, layerIn}
 use Rattle.search_join.specs.declared.Case.{Case}
 
 -- case table I, its sources, and the costs of a row
@@ -19,7 +19,7 @@ unfoldable pub pointersIn : List ℕ → ℕ → Cases
 pointersIn st I q₀ q₁ a = getD st (pointerAt I q₀ q₁ + a) 0
 
 unfoldable pub costsIn : List ℕ → ℕ → SegmentCosts
-costsIn st row s l q a = getD st (costsAt row s + q * stateBlock + a * maxLanes + l) 0
+costsIn st row s l q a = layerIn st (costsAt row s) l q a
 
 -- a case and its source are as they were; and those of all tables
 pub record SameCase (I q₀ q₁ a : ℕ) (old new : List ℕ) : Type 0 where

@@ -6,13 +6,17 @@ ghost use Prim.Native.Nat.{_+_};
 ghost use Rattle.lists.specs.Numbers.{from};
 ghost use Rattle.theory_pair.specs.Coded.{lowest};
 ghost use Rattle.theory_tables.specs.Steps.{B};
-ghost use Rattle.search_join.specs.Tables.{Better, Least, MetAt, SumAt, WayIn, nextIn, OneCase};
-ghost use Rattle.search_join.specs.Tables.{PoseCases, BlockCases, CasesMade, Joined, JoinGiven};
-ghost use Rattle.search_join.specs.Tables.{StateWith, AllStates, Closing, Closed};
-ghost use Rattle.search_join.specs.Sums.{startSum, laneSum, endSum, SumsGiven};
-ghost use Rattle.search_join.specs.Sums.{StartSums, LaneSums, Joining, Pointing};
-ghost use Rattle.search_join.specs.Sums.{CaseToPut, CaseRoom, PartMade};
+ghost use Rattle.search_lanes.specs.Store.{saidIn};
+ghost use Rattle.search_join.specs.Tables.{Better, Least, MetAt, SumAt, OneCase, PoseCases, BlockCases};
+ghost use Rattle.search_join.specs.Tables.{Joined, JoinGiven, StateWith, AllStates, Closing, Closed};
+ghost use Rattle.search_join.specs.Sums.{SaidGiven, StartSums, startSum, LaneSums, laneSum, endSum};
+ghost use Rattle.search_join.specs.Sums.{EndGiven, EndsGiven, Pointing, WayTo, Joining, leastTo};
+ghost use Rattle.search_join.specs.Sums.{CaseToPut, Made, CaseRoom, PartMade};
+use sums::COMMON_WORDS;
+use sums::Join;
+use sums::SUM_FLAGS;
 use sums::SUM_WORDS;
+use sums::fill_commons;
 use sums::fill_sums;
 
 // The least of some costs, and a code of where it is.
@@ -77,24 +81,34 @@ fn lane_of(
     0
 }
 
+// What the row of pose a says in a lane, in a state whose words begin at `at`.
+fn said(store: &[u32], at: usize, a: usize, l: usize) -> u32
+    requires { ⌜ SaidGiven (now store) at a l ⌝ }
+    ensures { λ r. ⌜ r ≡ saidIn (now (store .entry)) at a l ⌝ }
+{
+    if store[at + search_store::FLAGS + a] == 0 {
+        return search_lanes::NONE;
+    }
+    store[at + a * search_store::MAX_LANES + l]
+}
+
 // The first start state of row 0 with that sum to state t in that lane; 0 where there is none.
 fn start_of(
     store: &[u32],
-    i: usize,
-    starts: usize,
+    join: Join,
     q0: usize,
     a: usize,
     t: usize,
     lane: usize,
     sum: u32,
 ) -> usize
-    requires { ⌜ StartSums starts i (now store) q0 a t lane ⌝ }
-    ensures { λ r. ⌜ SumAt (startSum i (now (store .entry)) q0 a t lane) starts sum r ⌝ }
+    requires { ⌜ StartSums join (now store) q0 a t lane ⌝ }
+    ensures { λ r. ⌜ SumAt (startSum (join .i) (now (store .entry)) q0 a t lane) (join .starts) sum r ⌝ }
 {
     let mut s: usize = 0;
-    while s < starts {
-        if store[search_store::case_at(i, s, t) + lane]
-            + store[search_store::cost_at(0, s, q0, a) + lane]
+    while s < join.starts {
+        if store[search_store::case_at(join.i, s, t) + lane]
+            + said(store, search_store::cost_at(0, s, q0, 0), a, lane)
             == sum
         {
             return s;
@@ -104,32 +118,37 @@ fn start_of(
     0
 }
 
+// The least over the lanes of state t of row 1; NONE where it has no sums or no costs.
+fn end_sum(sums: &[u32; SUM_WORDS], store: &[u32], join: Join, t: usize, q1: usize, a: usize) -> u32
+    requires { ⌜ EndGiven join (now store) q1 a t (now sums) ⌝ }
+    ensures { λ r. ⌜ r ≡ endSum (join .lanes) (now (sums .entry)) (now (store .entry)) q1 a t ⌝ }
+{
+    if sums[SUM_FLAGS + t] == 0 {
+        return search_lanes::NONE;
+    }
+    let costs = search_store::cost_at(1, t, q1, 0);
+    if store[costs + search_store::FLAGS + a] == 0 {
+        return search_lanes::NONE;
+    }
+    let p1 = costs + a * search_store::MAX_LANES;
+    least_lane(sums, t * search_store::MAX_LANES, store, p1, join.lanes)
+}
+
 // The least over the states of row 1, and the state that has it.
-fn best_end(
-    sums: &[u32; SUM_WORDS],
-    store: &[u32],
-    starts: usize,
-    lanes: usize,
-    q1: usize,
-    a: usize,
-) -> Best
-    requires { ⌜ SumsGiven starts lanes 0 (now store) q1 a (now sums) ⌝ }
-    ensures { λ b. ⌜ Least (lowest B (endSum lanes (now (sums .entry)) (now (store .entry)) q1 a) (from 0 starts))
-        (MetAt (endSum lanes (now (sums .entry)) (now (store .entry)) q1 a) starts) (b .value) (b .code) ⌝ }
+fn best_end(sums: &[u32; SUM_WORDS], store: &[u32], join: Join, q1: usize, a: usize) -> Best
+    requires { ⌜ EndsGiven join (now store) q1 a (now sums) ⌝ }
+    ensures { λ b. ⌜ Least
+        (lowest B (endSum (join .lanes) (now (sums .entry)) (now (store .entry)) q1 a) (from 0 (join .starts)))
+        (MetAt (endSum (join .lanes) (now (sums .entry)) (now (store .entry)) q1 a) (join .starts)) (b .value)
+        (b .code) ⌝ }
 {
     let mut best = Best {
         value: search_lanes::NONE,
         code: 0,
     };
     let mut t: usize = 0;
-    while t < starts {
-        let sum = least_lane(
-            sums,
-            t * search_store::MAX_LANES,
-            store,
-            search_store::cost_at(1, t, q1, a),
-            lanes,
-        );
+    while t < join.starts {
+        let sum = end_sum(sums, store, join, t, q1, a);
         best = better(best, sum, t as u32);
         t += 1;
     }
@@ -140,42 +159,33 @@ fn best_end(
 fn pointer_of(
     sums: &[u32; SUM_WORDS],
     store: &[u32],
-    i: usize,
-    starts: usize,
-    lanes: usize,
+    join: Join,
     case: Case,
     t: usize,
     value: u32,
 ) -> u32
-    requires { ⌜ Pointing starts lanes i (now store) (now sums) case t value ⌝ }
-    ensures { λ code. ⌜ WayIn starts lanes i (now (store .entry)) (case .q0) (case .q1) (case .pose) value code ⌝ }
+    requires { ⌜ Pointing join (now store) (now sums) case t value ⌝ }
+    ensures { λ code. ⌜ WayTo join (now (store .entry)) case value code ⌝ }
 {
+    let p1 = search_store::cost_at(1, t, case.q1, case.pose);
     let lane = lane_of(
         sums,
         t * search_store::MAX_LANES,
         store,
-        search_store::cost_at(1, t, case.q1, case.pose),
-        lanes,
+        p1,
+        join.lanes,
         value,
     );
     let at = t * search_store::POINTER_ROW_1 + lane;
-    let s = start_of(store, i, starts, case.q0, case.pose, t, lane, sums[at]);
+    let s = start_of(store, join, case.q0, case.pose, t, lane, sums[at]);
     (s * search_store::POINTER_ROW_0 + at) as u32
 }
 
 // A case: the least over states and lanes, and the code of a way to it.
-fn join_case(
-    sums: &[u32; SUM_WORDS],
-    live: bool,
-    store: &[u32],
-    i: usize,
-    starts: usize,
-    lanes: usize,
-    case: Case,
-) -> Best
-    requires { ⌜ Joining starts lanes i (now store) (now sums) live case ⌝ }
-    ensures { λ b. ⌜ Least (nextIn starts lanes i (now (store .entry)) (case .q0) (case .q1) (case .pose))
-        (WayIn starts lanes i (now (store .entry)) (case .q0) (case .q1) (case .pose)) (b .value) (b .code) ⌝ }
+fn join_case(sums: &[u32; SUM_WORDS], live: bool, store: &[u32], join: Join, case: Case) -> Best
+    requires { ⌜ Joining join (now store) (now sums) live case ⌝ }
+    ensures { λ b. ⌜ Least (leastTo join (now (store .entry)) case) (WayTo join (now (store .entry)) case) (b .value)
+        (b .code) ⌝ }
 {
     if !live {
         return Best {
@@ -183,7 +193,7 @@ fn join_case(
             code: 0,
         };
     }
-    let best = best_end(sums, store, starts, lanes, case.q1, case.pose);
+    let best = best_end(sums, store, join, case.q1, case.pose);
     let value = best.value;
     if value == search_lanes::NONE {
         return Best { value, code: 0 };
@@ -191,51 +201,41 @@ fn join_case(
     let t = best.code as usize;
     Best {
         value,
-        code: pointer_of(sums, store, i, starts, lanes, case, t, value),
+        code: pointer_of(sums, store, join, case, t, value),
     }
 }
 
 // ---- the cases of a stage
 
 // A case of table i + 1, and its source.
-fn put_case(
-    store: &mut [u32],
-    sums: &[u32; SUM_WORDS],
-    live: bool,
-    i: usize,
-    starts: usize,
-    lanes: usize,
-    case: Case,
-)
-    requires { ⌜ CaseToPut starts lanes i (now store) (now sums) live case ⌝ }
-    ensures { λ _. ⌜ CasesMade starts lanes i (OneCase (case .q0) (case .q1) (case .pose)) (now (store .entry))
+fn put_case(store: &mut [u32], sums: &[u32; SUM_WORDS], live: bool, join: Join, case: Case)
+    requires { ⌜ CaseToPut join (now store) (now sums) live case ⌝ }
+    ensures { λ _. ⌜ Made join (OneCase (case .q0) (case .q1) (case .pose)) (now (store .entry))
         (now (store .exit)) ⌝ }
 {
-    let best = join_case(sums, live, store, i, starts, lanes, case);
-    store[search_store::case_at(i + 1, case.q0, case.q1) + case.pose] = best.value;
-    store[search_store::pointer_at(i + 1, case.q0, case.q1) + case.pose] = best.code;
+    let best = join_case(sums, live, store, join, case);
+    store[search_store::case_at(join.i + 1, case.q0, case.q1) + case.pose] = best.value;
+    store[search_store::pointer_at(join.i + 1, case.q0, case.q1) + case.pose] = best.code;
 }
 
 // The cases of a state of row 0 in a pose, for every state of row 1.
 fn case_pose(
     store: &mut [u32],
     sums: &mut [u32; SUM_WORDS],
-    i: usize,
-    starts: usize,
-    lanes: usize,
+    commons: &[u32; COMMON_WORDS],
+    join: Join,
     q0: usize,
     ends: usize,
     a: usize,
 )
-    requires { ⌜ CaseRoom starts lanes i q0 ends (a + 1) (now store) (now sums) ⌝ }
-    ensures { λ _. ⌜ PartMade starts lanes i (PoseCases q0 ends a) (now (store .entry)) (now (store .exit))
-        (now (sums .exit)) ⌝ }
+    requires { ⌜ CaseRoom join q0 ends (a + 1) (now store) (now sums) (now commons) ⌝ }
+    ensures { λ _. ⌜ PartMade join (PoseCases q0 ends a) (now (store .entry)) (now (store .exit)) (now (sums .exit)) ⌝ }
 {
-    let live = fill_sums(sums, store, i, starts, lanes, q0, a);
+    let live = fill_sums(sums, commons, store, join, q0, a);
     let mut q1: usize = 0;
     while q1 < ends {
         let case = Case { q0, q1, pose: a };
-        put_case(store, sums, live, i, starts, lanes, case);
+        put_case(store, sums, live, join, case);
         q1 += 1;
     }
 }
@@ -244,20 +244,19 @@ fn case_pose(
 fn case_block(
     store: &mut [u32],
     sums: &mut [u32; SUM_WORDS],
-    i: usize,
-    starts: usize,
-    lanes: usize,
+    commons: &[u32; COMMON_WORDS],
+    join: Join,
     q0: usize,
     ends: usize,
     poses: usize,
 )
-    requires { ⌜ CaseRoom starts lanes i q0 ends poses (now store) (now sums) ⌝ }
-    ensures { λ _. ⌜ PartMade starts lanes i (BlockCases q0 ends poses) (now (store .entry)) (now (store .exit))
+    requires { ⌜ CaseRoom join q0 ends poses (now store) (now sums) (now commons) ⌝ }
+    ensures { λ _. ⌜ PartMade join (BlockCases q0 ends poses) (now (store .entry)) (now (store .exit))
         (now (sums .exit)) ⌝ }
 {
     let mut a: usize = 0;
     while a < poses {
-        case_pose(store, sums, i, starts, lanes, q0, ends, a);
+        case_pose(store, sums, commons, join, q0, ends, a);
         a += 1;
     }
 }
@@ -275,10 +274,13 @@ pub fn join_stage(
     requires { ⌜ JoinGiven starts lanes ends poses i (now store) ⌝ }
     ensures { λ _. ⌜ Joined starts lanes ends poses i (now (store .entry)) (now (store .exit)) ⌝ }
 {
-    let mut sums = [search_lanes::NONE; SUM_WORDS];
+    let join = Join { i, starts, lanes };
+    let mut commons = [0; COMMON_WORDS];
+    fill_commons(&mut commons, store, join);
+    let mut sums = [0; SUM_WORDS];
     let mut q0: usize = 0;
     while q0 < ends {
-        case_block(store, &mut sums, i, starts, lanes, q0, ends, poses);
+        case_block(store, &mut sums, &commons, join, q0, ends, poses);
         q0 += 1;
     }
 }

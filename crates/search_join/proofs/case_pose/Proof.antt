@@ -1,38 +1,47 @@
 -- Each turn writes one case more, over the same sums.
 use Prim.Native.Nat.{_-_, _≤_}
 use mathlib.Core.Path.{_≡_}
-use Rattle.search_join.specs.Tables.{PoseCases, CasesMade}
-use Rattle.search_join.specs.Parts.{part-none, table-part, summed-part, pose-more}
 use native.Mathlib.Omega.{arith}
+use Rattle.search_join.specs.Tables.{PoseCases}
+use Rattle.search_join.specs.Sums.{Made}
+use Rattle.search_join.specs.Parts.{part-none, table-part, summed-part, pose-more}
 use borrow.Author.Needs.{needs}
 use Rattle.search_join.proofs.case_pose.Statement.{statement}
 use Rattle.search_join.proofs.case_pose.Tie as tie
 
 abbrev Inv-loop : tie.InvT-loop
-Inv-loop store₀ sums i starts lanes q0 ends a live q1₀ store q1 =
-    (q1 ≤ ends) × CasesMade starts lanes i (PoseCases q0 q1 a) store₀ store
+Inv-loop store₀ sums commons join q0 ends a live q1₀ store q1 =
+    (q1 ≤ ends) × Made join (PoseCases q0 q1 a) store₀ store
 
 abbrev μ-loop : tie.MeasureT-loop
-μ-loop store₀ sums i starts lanes q0 ends a live q1₀ store q1 = ends - q1
+μ-loop store₀ sums commons join q0 ends a live q1₀ store q1 = ends - q1
 
 fill-sums-requires : tie.Need-fill-sums-requires Inv-loop μ-loop
-fill-sums-requires c κs = let k = c .before .before .before in
-    record { given = record { table = k .pre .table; state = k .pre .state; pose = omega (arith, k .pre .offered) }; room = k .pre .room }
+fill-sums-requires c κs =
+    let k = c .before .before .before in
+    record {
+      given = record { table = k .pre .table; state = k .pre .state; pose = omega (arith, k .pre .offered) };
+      common = k .pre .common;
+      room = k .pre .room;
+    }
 
 loop-holds : tie.Need-loop-holds Inv-loop μ-loop
-loop-holds c = (omega arith, part-none _ _ _ (c .before .before .before .before .pre .table .low) (λ q₀ q₁ a h. omega arith))
+loop-holds c =
+    let k = c .before .before .before .before in
+    (omega arith, part-none _ _ _ (k .pre .table .low) (λ q₀ q₁ a h. omega arith))
 
 put-case-requires : tie.Need-put-case-requires Inv-loop μ-loop
 put-case-requires c κs =
-    let after-fill-sums = c .before .before .before .before in
-    let k = after-fill-sums .before .before .before .before in
+    let at = c .before .before .before in
+    let sums = at .before in
+    let k = sums .before .before .before .before in
     let a = k .args in
-    let p = c .before .before .before .loop .inv .1 in
+    let p = at .loop .inv .1 in
     record {
       joining = record {
-        table = table-part (a .starts) (a .lanes) (a .i) (k .pre .table) p;
-        summed = summed-part (a .starts) (a .lanes) (a .i) (PoseCases (a .q0) (c .before .before .before .loop .q1) (a .a)) (a .q0) (a .a) (k .pre .table)
-            (λ q₀ q₁ b r. (omega arith, omega arith, omega arith)) p (omega arith) (omega arith) (after-fill-sums .fill-sums .ensures);
+        table = table-part (a .join .starts) (a .join .lanes) (a .join .i) (k .pre .table) p;
+        summed = summed-part (a .join) (PoseCases (a .q0) (at .loop .q1) (a .a)) (k .pre .table) (λ q₀ q₁ b r. (omega arith, omega arith, omega arith)) p
+            (a .q0) (a .a) (omega arith) (omega arith) (sums .fill-sums .ensures);
         fits = record { state₀ = k .pre .state; state₁ = omega arith; pose = omega (arith, k .pre .offered) };
       };
       pages = omega (arith, k .pre .pages, p .long);
@@ -46,25 +55,28 @@ loop-less c = search needs
 
 loop-again : tie.Need-loop-again Inv-loop μ-loop
 loop-again c =
-    let after-put-case = c .before .before in
-    let at-loop = after-put-case .before .before .before .before in
-    let mid = at-loop .before .before .before .before in
+    let case = c .before .before in
+    let at = case .before .before .before .before in
+    let mid = at .before .before .before .before in
     let k = mid .before in
     let a = k .args in
-    let l = at-loop .loop in (
+    let l = at .loop in (
       omega arith,
-      pose-more (a .starts) (a .lanes) (a .i) (a .q0) (l .q1) (a .a) (k .pre .table) (omega arith) (omega arith) (omega arith) (l .inv .1)
-          (after-put-case .put-case .ensures),
+      pose-more (a .join .starts) (a .join .lanes) (a .join .i) (a .q0) (l .q1) (a .a) (k .pre .table) (omega arith) (omega arith) (omega arith) (l .inv .1)
+          (case .put-case .ensures),
     )
 
 same-length : tie.Need-same-length Inv-loop μ-loop
-same-length c = c .before .loop .inv .1 .long
+same-length c =
+    c .before .loop .inv .1 .long
 
 returns : tie.Need-returns Inv-loop μ-loop
 returns c =
-    let after-fill-sums = c .before .before in
-    let e : c .before .loop .q1 ≡ after-fill-sums .before .before .before .before .args .ends = omega arith in
-    record { part = rw e at (c .before .loop .inv .1); room = after-fill-sums .fill-sums .ensures .all .room }
+    let at = c .before in
+    let sums = at .before in
+    let k = sums .before .before .before .before in
+    let e : at .loop .q1 ≡ k .args .ends = omega arith in
+    record { part = rw e at (at .loop .inv .1); room = sums .fill-sums .ensures .all .room }
 
 pub case-pose-spec : {M : Type 1} → statement M
 case-pose-spec =

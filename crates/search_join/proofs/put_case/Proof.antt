@@ -1,8 +1,8 @@
 -- Two words are set: the case and its source.
 use Prim.Native.Nat.{_+_}
+use native.Mathlib.Omega.{arith}
 use lib.ListN.{length-set}
 use Rattle.search_join.specs.Parts.{part-put}
-use native.Mathlib.Omega.{arith}
 use borrow.Author.Needs.{needs}
 use Rattle.search_join.proofs.put_case.Statement.{statement}
 use Rattle.search_join.proofs.put_case.Tie as tie
@@ -38,19 +38,22 @@ mul-store-2 : tie.Need-mul-store-2
 mul-store-2 c = search needs
 
 slice-write-store-2 : tie.Need-slice-write-store-2
-slice-write-store-2 c = simp length-set (omega arith)
+slice-write-store-2 c =
+    simp length-set (omega arith)
 
 same-length : tie.Need-same-length
 same-length c = search needs
 
 returns : tie.Need-returns
 returns c =
-    let after-join-case = c .before .before .before .before in
-    let k = after-join-case .before .before .before in
+    let to = c .before in
+    let at = to .before .before .before in
+    let case = at .before .before in
+    let k = case .before .before .before in
     let a = k .args in
-    part-put (a .starts) (a .lanes) (a .i) (a .case .q0) (a .case .q1) (a .case .pose) (c .before .before .before .case-at .result + a .case .pose)
-    (c .before .pointer-at .result + a .case .pose) _ _ (a .store .now)
-    (k .pre .joining .table) (k .pre .pages) (omega arith) (omega arith) (omega arith) (omega arith) (omega arith) (after-join-case .join-case .ensures)
+    part-put (a .join .starts) (a .join .lanes) (a .join .i) (a .case .q0) (a .case .q1) (a .case .pose) (at .case-at .result + a .case .pose)
+    (to .pointer-at .result + a .case .pose) _ _ (a .store .now)
+    (k .pre .joining .table) (k .pre .pages) (omega arith) (omega arith) (omega arith) (omega arith) (omega arith) (case .join-case .ensures)
 
 pub put-case-spec : {M : Type 1} → statement M
 put-case-spec =

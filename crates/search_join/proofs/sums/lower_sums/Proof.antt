@@ -1,35 +1,24 @@
 -- Each turn lowers the sum of one lane more.
-use Prim.Native.Nat.{_+_, _*_, _-_, _≤_}
+use Prim.Native.Nat.{_+_, _-_, _≤_}
 use mathlib.Core.Path.{_≡_}
-use Rattle.search_store.specs.Map.{maxLanes}
-use Rattle.search_lanes.specs.Lowered.{LoweredAt, lowered-at-none, lowered-at-more, lowered-at-low}
-use Rattle.search_join.specs.Sums.{startLanes}
-use Rattle.search_join.specs.SumLaws.{start-words}
 use native.Mathlib.Omega.{arith}
+use Rattle.search_lanes.specs.Lowered.{LoweredAt, lowered-at-none, lowered-at-more, lowered-at-low}
+use Rattle.search_join.specs.Sums.{wordSum}
 use borrow.Author.Needs.{needs}
 use Rattle.search_join.proofs.sums.lower_sums.Statement.{statement}
 use Rattle.search_join.proofs.sums.lower_sums.Tie as tie
 
 abbrev Inv-loop : tie.InvT-loop
-Inv-loop sums₀ store i lanes s t q0 a at p0 to l₀ sums l =
-    (l ≤ lanes) × LoweredAt (startLanes i store q0 a s t) (t * maxLanes) l sums₀ sums
+Inv-loop sums₀ to store at p0 lanes l₀ sums l =
+    (l ≤ lanes) × LoweredAt (wordSum store at p0) to l sums₀ sums
 
 abbrev μ-loop : tie.MeasureT-loop
-μ-loop sums₀ store i lanes s t q0 a at p0 to l₀ sums l = lanes - l
-
-case-at-requires : tie.Need-case-at-requires Inv-loop μ-loop
-case-at-requires c κs = search needs
-
-cost-at-requires : tie.Need-cost-at-requires Inv-loop μ-loop
-cost-at-requires c κs = search needs
-
-mul-to : tie.Need-mul-to Inv-loop μ-loop
-mul-to c = search needs
+μ-loop sums₀ to store at p0 lanes l₀ sums l = lanes - l
 
 loop-holds : tie.Need-loop-holds Inv-loop μ-loop
 loop-holds c =
-    let a = c .before .before .before .args in
-    (omega arith, lowered-at-none (startLanes (a .i) (a .store .now) (a .q0) (a .a) (a .s) (a .t)) (a .t * maxLanes) (a .sums .now))
+    let k = c .before in
+    (omega arith, lowered-at-none _ _ (k .args .sums .now))
 
 add-lesser : tie.Need-add-lesser Inv-loop μ-loop
 add-lesser c = search needs
@@ -60,21 +49,20 @@ shared-slice-read-lesser-2 c = search needs
 
 add-lesser-4 : tie.Need-add-lesser-4 Inv-loop μ-loop
 add-lesser-4 c =
-    let at-loop = c .before .before .before .before in
-    let k = at-loop .before .before .before .before in
-    let l = at-loop .loop .l in
-    let w = k .pre .given .table .low .word in
-    omega (arith, w (at-loop .before .before .case-at .result + l), w (at-loop .before .cost-at .result + l))
+    let at = c .before .before .before .before in
+    let k = at .before .before in
+    let w = k .pre .low .word in
+    omega (arith, w (k .args .at + at .loop .l), w (k .args .p0 + at .loop .l))
 
 lesser-requires : tie.Need-lesser-requires Inv-loop μ-loop
 lesser-requires c κs =
-    let at-loop = c .before .before .before .before in
-    let k = at-loop .before .before .before .before in
-    let l = at-loop .loop in
-    let w = k .pre .given .table .low .word in
+    let at = c .before .before .before .before in
+    let k = at .before .before in
+    let w = k .pre .low .word in
+    let l = at .loop in
     record {
-      first = omega (arith, lowered-at-low (l .inv .1) (k .pre .room .low) .word (k .args .t * maxLanes + l .l));
-      second = omega (arith, w (at-loop .before .before .case-at .result + l .l), w (at-loop .before .cost-at .result + l .l));
+      first = omega (arith, lowered-at-low (l .inv .1) (k .pre .room .low) .word (k .args .to + l .l));
+      second = omega (arith, w (k .args .at + l .l), w (k .args .p0 + l .l));
     }
 
 add-sums : tie.Need-add-sums Inv-loop μ-loop
@@ -95,22 +83,20 @@ loop-less c = search needs
 loop-again : tie.Need-loop-again Inv-loop μ-loop
 loop-again c =
     let mid = c .before .before .before .before in
-    let after-case-at = mid .before .before .before in
-    let k = after-case-at .before .before in
-    let a = k .args in
-    let l = mid .before .loop in
-    let e =
-    start-words (a .i) (a .store .now) (a .q0) (a .a) (a .s) (a .t) (l .l) _ _ (after-case-at .case-at .ensures) (mid .before .before .cost-at .ensures) in (
+    let at = mid .before in
+    let k = at .before .before in
+    let l = at .loop in (
       omega arith,
-      lowered-at-more (l .l) (c .lesser .result) (l .inv .1) (omega (arith, k .pre .room .long, k .pre .given .table .few))
-          (omega (arith, c .lesser .ensures, l .inv .1 .frame .high (a .t * maxLanes + l .l) (omega arith))),
+      lowered-at-more (l .l) (c .lesser .result) (l .inv .1) (omega (arith, k .pre .room .long, k .pre .inside))
+          (omega (arith, c .lesser .ensures, l .inv .1 .frame .high (k .args .to + l .l) (omega arith))),
     )
 
 returns : tie.Need-returns Inv-loop μ-loop
 returns c =
-    let at-loop = c .before in
-    let e : at-loop .loop .l ≡ at-loop .before .before .before .before .args .lanes = omega arith in
-    rw e at (at-loop .loop .inv .1)
+    let at = c .before in
+    let k = at .before .before in
+    let e : at .loop .l ≡ k .args .lanes = omega arith in
+    rw e at (at .loop .inv .1)
 
 pub lower-sums-spec : {M : Type 1} → statement M
 lower-sums-spec =
@@ -118,9 +104,6 @@ lower-sums-spec =
     (tie.spec
     Inv-loop
     μ-loop
-    case-at-requires
-    cost-at-requires
-    mul-to
     loop-holds
     add-lesser
     mul-lesser
