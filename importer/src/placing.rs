@@ -1,10 +1,13 @@
 //! Place, with its answer as a struct.
 
 use crate::fields::Fields;
-use crate::{calls, placement, Numbers, Pose, PoseError, Refused};
+use crate::{calls, explain, placement, Numbers, Pose, PoseError, Refused};
 
-/// How many words of store Place needs.
+/// How many words of store Place needs for a job with R 0 or 1.
 pub const STORE_WORDS: usize = 1_048_576;
+
+/// How many words of store Place needs for a job with R 2.
+pub const STORE_WORDS_BY_TWO: usize = 4_194_304;
 
 /// How many bytes of output Place needs for any job: 9 for each of 64 cells.
 pub const OUTPUT_BYTES: usize = 9 * 64;
@@ -21,8 +24,25 @@ pub struct Placed {
     pub text_length: usize,
 }
 
+/// How many words of store Place needs for a job, by the R of its first line. Where that cannot be
+/// read Place refuses the job, whatever the store; the answer is then [`STORE_WORDS`].
+///
+/// ```
+/// use importer::{store_words, STORE_WORDS, STORE_WORDS_BY_TWO};
+///
+/// assert_eq!(store_words(b"J,1,20,1,1,100,1,100,50\n"), STORE_WORDS);
+/// assert_eq!(store_words(b"J,1,20,1,2,100,1,100,50\n"), STORE_WORDS_BY_TWO);
+/// ```
+pub fn store_words(job: &[u8]) -> usize {
+    match explain::read_header(job) {
+        Ok(header) if header.reordering == 2 => STORE_WORDS_BY_TWO,
+        _ => STORE_WORDS,
+    }
+}
+
 /// Places a job in lent buffers of any size: writes the text of a cheapest legal placement to the
-/// start of `output`. The store is all zero after an answer and after refusal 8.
+/// start of `output`. The store is all zero after an answer and after refusal 8; [`store_words`]
+/// tells how large it must be.
 pub fn place(job: &[u8], store: &mut [u32], output: &mut [u8]) -> Result<Placed, Refused> {
     let call = |results: &mut [i32]| calls::place(job, store, output, results);
     let mut fields = Fields::of(FIELDS, call)?;
@@ -48,7 +68,7 @@ impl Refined {
     }
 }
 
-/// Places a job with a store and an output that are large enough for any. For many jobs, a
+/// Places a job with as much store as it needs and an output for any job. For many jobs, a
 /// [`Refiner`](crate::Refiner) holds both once.
 ///
 /// ```
@@ -59,7 +79,7 @@ impl Refined {
 /// # Ok::<(), importer::Refused>(())
 /// ```
 pub fn refine(job: &[u8]) -> Result<Refined, Refused> {
-    let mut store = vec![0; STORE_WORDS];
+    let mut store = vec![0; store_words(job)];
     let mut text = vec![0; OUTPUT_BYTES];
     let placed = place(job, &mut store, &mut text)?;
     text.truncate(placed.text_length);

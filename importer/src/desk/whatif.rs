@@ -3,7 +3,7 @@
 use super::altered::{field, first_cells, fixed_cells, with_cell_freed, with_field};
 use super::altered::{DISPLACEMENT, REORDERING, SITES};
 use crate::explain::{MOST_DISPLACEMENT, MOST_REORDERING, MOST_SITES};
-use crate::{place, read, Refused, OUTPUT_BYTES, STORE_WORDS};
+use crate::{read, Refiner, Refused};
 use std::ops::RangeInclusive;
 
 /// Every D that a header may say.
@@ -54,7 +54,7 @@ pub struct Ways {
 /// of sites.
 pub fn whatif(job: &[u8]) -> Result<WhatIf, Refused> {
     let cells = read(job)?.cells;
-    let mut placer = Placer::new();
+    let mut placer = Placer(Refiner::new());
     let mut whatif = WhatIf {
         sites: field(job, SITES),
         displacement: field(job, DISPLACEMENT),
@@ -89,24 +89,14 @@ impl WhatIf {
     }
 }
 
-/// What Place needs, lent to it again and again.
-struct Placer {
-    store: Vec<u32>,
-    output: Vec<u8>,
-}
+/// Places altered jobs, one after the other.
+struct Placer(Refiner);
 
 impl Placer {
-    fn new() -> Placer {
-        Placer {
-            store: vec![0; STORE_WORDS],
-            output: vec![0; OUTPUT_BYTES],
-        }
-    }
-
     /// The cheapest cost of a job; none if no legal placement exists.
     fn cost(&mut self, job: &[u8]) -> Result<Option<u32>, Refused> {
-        match place(job, &mut self.store, &mut self.output) {
-            Ok(placed) => Ok(Some(placed.numbers.cost)),
+        match self.0.place(job) {
+            Ok(answer) => Ok(Some(answer.numbers().cost)),
             Err(refused) if refused.number == NO_PLACEMENT => Ok(None),
             Err(refused) => Err(refused),
         }

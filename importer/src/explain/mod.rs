@@ -19,7 +19,7 @@ pub use echo::printable;
 pub use reason::Reason;
 
 pub(crate) use form::count;
-pub(crate) use job::{read as read_job, Cell, Edge, Header, Job, Layout};
+pub(crate) use job::{read as read_job, read_header, Cell, Edge, Header, Job, Layout};
 pub(crate) use job::{MOST_DISPLACEMENT, MOST_REORDERING, MOST_SITES};
 pub(crate) use placement::read as read_placement;
 pub use placement::RawPose;

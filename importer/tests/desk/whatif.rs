@@ -14,29 +14,36 @@ fn one_row(limits: &str, cells: &[(u32, u32)]) -> String {
     format!("J,1,{limits},1,1,1,1\n{cells}")
 }
 
-/// The lines of costs, by D from 0 on: with R 0 and with R 1.
-fn costs(by_displacement: [[&str; 2]; 8]) -> String {
-    let line = |(displacement, [kept, moved]): (usize, [&str; 2])| {
-        format!("cost,{displacement},0,{kept}\ncost,{displacement},1,{moved}\n")
-    };
-    by_displacement.into_iter().enumerate().map(line).collect()
+/// The cheapest costs with R 0, 1 and 2.
+type ByReordering = [&'static str; 3];
+
+/// The lines of costs, by D from 0 on.
+fn costs(by_displacement: [ByReordering; 8]) -> String {
+    let mut lines = String::new();
+    for (displacement, costs) in by_displacement.iter().enumerate() {
+        for (reordering, cost) in costs.iter().enumerate() {
+            lines += &format!("cost,{displacement},{reordering},{cost}\n");
+        }
+    }
+    lines
 }
 
-const NONE: [&str; 2] = ["none"; 2];
+const NONE: ByReordering = ["none"; 3];
 
 /// What the lines of costs are followed by.
-fn check(test: &str, job: &str, own: &str, by_displacement: [[&str; 2]; 8], ways: &str) {
+fn check(test: &str, job: &str, own: &str, by_displacement: [ByReordering; 8], ways: &str) {
     let expected = format!("{own}\n{}{ways}", costs(by_displacement));
     check_answer(whatif(test, job, &[]), &expected);
 }
 
 /// Up to D 1 cells 3 and 4 keep their step, 100, and cell 1 is mirrored, 10. From D 2 on the tall
 /// cell goes two sites to the right. From D 4 on cell 2 goes to site 8, four sites behind cell 1,
-/// which need not be mirrored.
+/// which need not be mirrored. What R 2 alone allows has the tall cell before cell 1, given ten sites
+/// behind it, for 13 sites shifted and more.
 #[test]
 fn the_cheapest_cost_for_each_displacement_and_reordering() {
     let costs = costs([
-        ["110"; 2], ["110"; 2], ["12"; 2], ["12"; 2], ["6"; 2], ["6"; 2], ["6"; 2], ["6"; 2],
+        ["110"; 3], ["110"; 3], ["12"; 3], ["12"; 3], ["6"; 3], ["6"; 3], ["6"; 3], ["6"; 3],
     ]);
     let said = refine(&["whatif", "examples/desk.job"]);
     check_answer(said, &format!("job,2,1,12\n{costs}"));
@@ -48,7 +55,7 @@ fn a_job_without_cells_costs_nothing() {
         "cells",
         "J,2,9,3,0,1,1,1,1\n",
         "job,3,0,0",
-        [["0"; 2]; 8],
+        [["0"; 3]; 8],
         "",
     );
 }
@@ -58,7 +65,7 @@ fn a_job_without_cells_costs_nothing() {
 #[test]
 fn a_job_that_lacks_displacement() {
     let costs = [
-        NONE, ["1"; 2], ["1"; 2], ["1"; 2], ["1"; 2], ["1"; 2], ["1"; 2], ["1"; 2],
+        NONE, ["1"; 3], ["1"; 3], ["1"; 3], ["1"; 3], ["1"; 3], ["1"; 3], ["1"; 3],
     ];
     let ways = "line,3,2\nsmallest D,1\nsmallest R,none\nsmallest sites,none\n";
     let job = one_row("6,0,1", &[(0, 2), (3, 2)]);
@@ -70,11 +77,23 @@ fn a_job_that_lacks_displacement() {
 /// at 0 and 2, or at 2 and 4, for 2. Sites behind them do not matter.
 #[test]
 fn a_job_that_lacks_reordering() {
-    let far = ["2", "1"];
-    let costs = [NONE, ["none", "1"], far, far, far, far, far, far];
+    let far = ["2", "1", "1"];
+    let costs = [NONE, ["none", "1", "1"], far, far, far, far, far, far];
     let ways = "line,3,2\nsmallest D,2\nsmallest R,1\nsmallest sites,none\n";
     let job = one_row("5,1,0", &[(2, 2), (2, 1)]);
     check("reordering", &job, "job,1,0,none", costs, ways);
+}
+
+/// Three cells, all given at 1, fill the row. The wide one goes behind both others, which takes R 2,
+/// or one of these goes to 4, three sites to the right; in file order both do, to 3 and 4, and the
+/// wide one to 0. However many sites there are, with D 1 the wide one leaves room before it alone.
+#[test]
+fn a_job_that_lacks_reordering_by_two() {
+    let (near, far) = (["none", "none", "2"], ["6", "4", "2"]);
+    let costs = [NONE, near, near, far, far, far, far, far];
+    let ways = "line,3,2\nsmallest D,3\nsmallest R,2\nsmallest sites,none\n";
+    let job = one_row("5,1,1", &[(1, 3), (1, 1), (1, 1)]);
+    check("by_two", &job, "job,1,1,none", costs, ways);
 }
 
 /// Two cells of three sites need six.
@@ -92,10 +111,11 @@ fn a_job_with_a_site_too_many() {
     let ways = "line,3,2\nsmallest D,none\nsmallest R,none\nsmallest sites,6\nmore sites,8\n";
     check("surplus", &job, "job,0,1,none", [NONE; 8], ways);
     let (table, ..) = whatif("surplus_table", &job, &["--table"]);
-    let start =
-        "the job: D 0, R 1, sites 7; no legal placement\n\n      R 0   R 1\nD 0  none  none\n";
+    let start = "the job: D 0, R 1, sites 7; no legal placement\n\n      \
+        R 0   R 1   R 2\n\
+        D 0  none  none  none\n";
     assert!(table.starts_with(start), "{table}");
-    let end = "D 7  none  none\n\n\
+    let end = "D 7  none  none  none\n\n\
         no placement exists any more with line 3, cell 2\n\
         what alone would give one:\n  \
           smallest D: none\n  \
@@ -145,7 +165,7 @@ fn a_fixed_cell_may_be_in_the_way() {
 #[test]
 fn a_displacement_moves_the_free_cells_alone() {
     let costs = [
-        NONE, ["1"; 2], ["1"; 2], ["1"; 2], ["1"; 2], ["1"; 2], ["1"; 2], ["1"; 2],
+        NONE, ["1"; 3], ["1"; 3], ["1"; 3], ["1"; 3], ["1"; 3], ["1"; 3], ["1"; 3],
     ];
     let ways = "line,3,2\nsmallest D,1\nsmallest R,none\nsmallest sites,none\nfree cell,none\n";
     let job = one_row("6,0,1", &[(0, 2), (3, 2)]).replacen('C', "F", 1);

@@ -129,6 +129,7 @@ fn of_ranges() {
         "field 3 (sites) is 0; allowed 1 to 1024",
     );
     check_header("J,1,20,8,1,1,1,1,1\n", "field 4 (D) is 8; allowed 0 to 7");
+    check_header("J,1,20,1,3,1,1,1,1\n", "field 5 (R) is 3; allowed 0 to 2");
     check_header(
         "J,1,20,1,1,1,1,1,1001\n",
         "field 9 (swap) is 1001; allowed 0 to 1000",

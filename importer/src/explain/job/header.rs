@@ -13,7 +13,7 @@ const HEADER: Form = Form {
 /// The most that the header may say of each.
 pub const MOST_SITES: u32 = 1024;
 pub const MOST_DISPLACEMENT: u32 = 7;
-pub const MOST_REORDERING: u32 = 1;
+pub const MOST_REORDERING: u32 = 2;
 
 pub struct Header {
     pub rows: u32,

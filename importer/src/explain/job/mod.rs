@@ -26,17 +26,21 @@ pub struct Job {
 
 /// The job that a text says, or what is wrong with its earliest bad line.
 pub fn read(text: &[u8]) -> Result<Job, Reason> {
-    let mut lines = lines(text);
-    let first = lines.next().ok_or_else(empty)?;
     let mut job = Job {
-        header: header::read(&first)?,
+        header: read_header(text)?,
         cells: Vec::new(),
     };
-    for line in lines {
+    for line in lines(text).skip(1) {
         let cell = cell::read(&line, job.header.rows)?;
         job.admit(&line, cell)?;
     }
     Ok(job)
+}
+
+/// What the first line says, whatever follows it, or what is wrong with it.
+pub fn read_header(text: &[u8]) -> Result<Header, Reason> {
+    let first = lines(text).next().ok_or_else(empty)?;
+    header::read(&first)
 }
 
 fn empty() -> Reason {

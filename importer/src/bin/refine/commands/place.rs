@@ -5,7 +5,7 @@ use crate::memory::{check_stack, zeros};
 use crate::mistake::Mistake;
 use crate::report::{line_of, Report};
 use crate::words::{Switch, Words};
-use importer::{explain, place, Placed, OUTPUT_BYTES, STORE_WORDS};
+use importer::{explain, place, store_words, Placed, OUTPUT_BYTES};
 use std::ffi::{OsStr, OsString};
 
 const JOB: &str = "a job";
@@ -26,7 +26,7 @@ pub fn run(words: &[OsString]) -> Result<Report, Mistake> {
         [word, ..] if word != DASH => return Err(Mistake::unknown(word)),
         _ => return Err(Mistake::count(&words.arguments)),
     };
-    let mut store = zeros(STORE_WORDS, "the store")?;
+    let mut store = zeros(store_words(&job.bytes), "the store")?;
     let mut text = zeros(OUTPUT_BYTES, "the placement")?;
     check_stack()?;
     match place(&job.bytes, &mut store, &mut text) {
