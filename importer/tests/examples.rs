@@ -12,6 +12,7 @@ use std::process::Command;
 
 const WORKED: &[u8] = include_bytes!("../../examples/worked.job");
 const FIXED: &str = include_str!("../../examples/fixed.job");
+const REORDER: &str = include_str!("../../examples/reorder.job");
 const README: &str = include_str!("../../README.md");
 
 fn placed(job: &[u8]) -> String {
@@ -64,6 +65,15 @@ fn score_tells_of_drawn_rows() {
     assert_eq!(missing, "..AAAA has no cell B");
 }
 
+/// What `refine` prints of a job's file.
+fn printed(job: &str) -> String {
+    let said = Command::new(env!("CARGO_BIN_EXE_refine"))
+        .arg(job)
+        .current_dir(concat!(env!("CARGO_MANIFEST_DIR"), "/.."))
+        .output();
+    String::from_utf8(said.expect("refine ends").stdout).expect("an answer is a text")
+}
+
 /// A text as README shows it.
 fn shown(text: &str) -> String {
     text.lines().map(|line| format!("    {line}\n")).collect()
@@ -74,11 +84,7 @@ fn shown(text: &str) -> String {
 /// and from 12 to 16, where the row ends. The mean shift is 2 / 3.
 #[test]
 fn readme_shows_the_fixed_cell() {
-    let said = Command::new(env!("CARGO_BIN_EXE_refine"))
-        .arg("examples/fixed.job")
-        .current_dir(concat!(env!("CARGO_MANIFEST_DIR"), "/.."))
-        .output();
-    let output = String::from_utf8(said.expect("refine ends").stdout).expect("an answer is a text");
+    let output = printed("examples/fixed.job");
     assert_eq!(output, "6,0,6,0,0,67\n0,0,0\n8,0,0\n16,0,0\n");
     assert!(README.contains(&shown(FIXED)), "README lacks the job");
     let told = shown(&format!("$ refine examples/fixed.job\n{output}"));
@@ -86,4 +92,18 @@ fn readme_shows_the_fixed_cell() {
     let free = refine(FIXED.replace('F', "C").as_bytes()).expect("a placement exists");
     assert_eq!(free.text, b"2,0,0\n8,0,1\n12,0,0\n");
     assert_eq!((free.numbers.cost, free.numbers.mirrored), (5, 1));
+}
+
+/// The row is full, so the order tells the sites. With cell 1 behind cells 2 and 3 all heights that
+/// face each other are equal: 5 + 2 + 2 sites shifted, and a mean of 1 / 4. By one, file order is
+/// cheapest: 4 and 3 of cell 1 face 2 and 2. Cell 2 before cell 1 has two steps too, and shifts; the
+/// other orders have more steps.
+#[test]
+fn reordering_by_two_closes_the_steps() {
+    let output = printed("examples/reorder.job");
+    assert_eq!(output, "9,0,9,0,0,25\n5,0,0\n0,0,0\n3,0,0\n7,0,0\n");
+    let by_one = REORDER.replacen("J,1,11,5,2,", "J,1,11,5,1,", 1);
+    let by_one = refine(by_one.as_bytes()).expect("a placement exists");
+    assert_eq!(by_one.numbers.fields(), "200,2,0,0,0,0");
+    assert_eq!(by_one.text, b"0,0,0\n2,0,0\n5,0,0\n7,0,0\n");
 }

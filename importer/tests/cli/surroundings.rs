@@ -6,18 +6,21 @@ use std::io;
 use std::process::Command;
 
 const JOB: &str = concat!(env!("CARGO_MANIFEST_DIR"), "/../examples/worked.job");
+const BY_TWO: &str = concat!(env!("CARGO_MANIFEST_DIR"), "/../examples/reorder.job");
 
 const REFINE: &str = env!("CARGO_BIN_EXE_refine");
 
 /// Standard output, standard error and exit status.
 type Said = (String, String, Option<i32>);
 
-/// Runs a line of the shell in which `refine` is the program and `$JOB` the worked example.
+/// Runs a line of the shell in which `refine` is the program, `$JOB` the worked example and
+/// `$BY_TWO` a job with R 2.
 fn shell(line: &str) -> Said {
     let start = "refine() { \"$REFINE\" \"$@\"; }\n".to_string();
     let mut bash = Command::new("bash");
     bash.args(["-c", &(start + line)]);
     bash.env("REFINE", REFINE).env("JOB", JOB);
+    bash.env("BY_TWO", BY_TWO);
     bash.env("FOLDER", env!("CARGO_TARGET_TMPDIR"));
     told(&bash.output().expect("bash ends"))
 }
@@ -121,17 +124,38 @@ fn a_reader_that_has_gone_away_is_no_word() {
 /// nothing can be said.
 #[test]
 fn no_memory_for_the_store_is_an_error() {
+    let answer = "100,0,0,1,0,0\n2,0,1\n6,0,0\n";
+    check_memory("$JOB", (2_500..12_000).step_by(250), 4_194_304, answer);
+}
+
+/// A job with R 2 needs four times the store, and is told that there is none where others are
+/// answered.
+#[test]
+fn no_memory_for_a_larger_store_is_an_error() {
+    let answer = "9,0,9,0,0,25\n5,0,0\n0,0,0\n3,0,0\n7,0,0\n";
+    check_memory("$BY_TWO", (2_500..26_500).step_by(500), 16_777_216, answer);
+    let (_, _, status) = limited("$JOB", 16_000);
+    assert_eq!(status, Some(0));
+    let (_, notes, status) = limited("$BY_TWO", 16_000);
+    let note = "refine: no memory for the store: 16777216 bytes\n";
+    assert_eq!((&*notes, status), (note, Some(2)));
+}
+
+/// Runs the program on a job with so many KiB of memory.
+fn limited(job: &str, limit: u32) -> Said {
     // After the limit the shell does nothing but become the program.
-    let run = |limit: u32| format!("ulimit -v {limit}; exec \"$REFINE\" \"$JOB\"");
-    let limited = |limit: u32| shell(&run(limit));
+    shell(&format!("ulimit -v {limit}; exec \"$REFINE\" \"{job}\""))
+}
+
+/// Checks what is said of a job that needs a store of so many bytes, with ever more memory.
+fn check_memory(job: &str, limits: impl Iterator<Item = u32>, store: usize, answer: &str) {
     let starts = |said: &Said| said.2 == Some(0) || said.1.starts_with("refine: ");
-    let runs: Vec<Said> = (2_500..12_000).step_by(250).map(limited).collect();
-    let runs: Vec<Said> = runs.into_iter().skip_while(|said| !starts(said)).collect();
+    let runs = limits.map(|limit| limited(job, limit));
+    let runs: Vec<Said> = runs.skip_while(|said| !starts(said)).collect();
     let note = |what: &str| format!("refine: no memory for the {what} bytes\n");
     let error = |what: &str| (String::new(), note(what), Some(2));
-    let errors = [error("store: 4194304"), error("stack: 524288")];
-    let answer = "100,0,0,1,0,0\n2,0,1\n6,0,0\n".to_string();
-    let answer = (answer, String::new(), Some(0));
+    let errors = [error(&format!("store: {store}")), error("stack: 524288")];
+    let answer = (answer.into(), String::new(), Some(0));
     for said in &runs {
         assert!(errors.contains(said) || *said == answer, "{said:?}");
     }

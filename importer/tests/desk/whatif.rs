@@ -96,6 +96,17 @@ fn a_job_that_lacks_reordering_by_two() {
     check("by_two", &job, "job,1,1,none", costs, ways);
 }
 
+/// The row is full. Only cell 1 behind cells 2 and 3 has no step and needs D 5; of the other orders
+/// without a step one costs more and one needs D 6. File order has two steps, and what else R 2
+/// allows up to D 4 has as many or more.
+#[test]
+fn what_reordering_by_two_saves() {
+    let (near, far) = (["200"; 3], ["200", "200", "9"]);
+    let costs = costs([near, near, near, near, near, far, far, far]);
+    let said = refine(&["whatif", "examples/reorder.job"]);
+    check_answer(said, &format!("job,5,2,9\n{costs}"));
+}
+
 /// Two cells of three sites need six.
 #[test]
 fn a_job_that_lacks_sites() {
