@@ -9,7 +9,7 @@
 #include <stdio.h>
 #include <stdlib.h>
 
-static uint32_t store[REFINER_STORE_WORDS];
+static uint32_t store[REFINER_STORE_WORDS_BY_TWO]; /* enough for every job */
 static uint8_t placement[REFINER_MAX_CELLS * REFINER_OUTPUT_BYTES_PER_CELL];
 static int32_t results[REFINER_PLACE_RESULTS];
 
@@ -46,7 +46,7 @@ static void print_placement(void) {
 int main(void) {
     size_t length;
     uint8_t *job = job_text(&length);
-    uint32_t number = refiner_place(job, length, store, REFINER_STORE_WORDS, placement,
+    uint32_t number = refiner_place(job, length, store, REFINER_STORE_WORDS_BY_TWO, placement,
                                     sizeof placement, results, REFINER_PLACE_RESULTS);
     free(job);
     if (number == REFINER_ANSWERED) {

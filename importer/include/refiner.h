@@ -21,7 +21,7 @@
  *   3       the line's cell is the 65th, or the 25th tall one
  *   4       the line's given site is below an earlier one in its row
  *   5       the placement's line is bad, missing or surplus
- *   6       the store has fewer than 1,048,576 words
+ *   6       the store has fewer than 1,048,576 words, or 4,194,304 for a job with R 2
  *   7       the output has fewer than 9 bytes per cell
  *   8       no legal placement exists
  *   9       the count of cells of a load is over 64
@@ -71,8 +71,11 @@
 #define REFINER_MAX_CELLS 64
 #define REFINER_MAX_TALL 24
 
-/* What Place needs: words of store, and bytes of output for each cell of the job. */
+/* What Place needs: words of store, the second figure for a job with R 2 and the first for others,
+ * and bytes of output for each cell of the job. A larger store does too; Place clears all of it.
+ */
 #define REFINER_STORE_WORDS 1048576
+#define REFINER_STORE_WORDS_BY_TWO 4194304
 #define REFINER_OUTPUT_BYTES_PER_CELL 9
 
 /* What Load needs: bytes of output, whatever the count of cells. */

@@ -52,7 +52,7 @@ pub const REFUSALS: &[Refusal] = &[
     Refusal {
         number: 6,
         kind: RefusalKind::Store,
-        meaning: "the store has fewer than 1,048,576 words",
+        meaning: "the store has fewer than 1,048,576 words, or 4,194,304 for a job with R 2",
         remedy: "lend a larger store",
     },
     Refusal {

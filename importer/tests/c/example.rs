@@ -7,11 +7,15 @@ use std::process::Command;
 const README: &str = include_str!("../../../README.md");
 const WORKED: &[u8] = include_bytes!("../../../examples/worked.job");
 const ANSWER: &str = "100,0,0,1,0,0\n2,0,1\n6,0,0\n";
+/// Worked in `examples.rs`.
+const REORDER: &[u8] = include_bytes!("../../../examples/reorder.job");
+const REORDERED: &str = "9,0,9,0,0,25\n5,0,0\n0,0,0\n3,0,0\n7,0,0\n";
 
 /// Checks that a program built from the example answers and refuses as it should.
 pub fn check(program: &Path) {
-    let jobs: [(&[u8], &str, i32); 4] = [
+    let jobs: [(&[u8], &str, i32); 5] = [
         (WORKED, ANSWER, 0),
+        (REORDER, REORDERED, 0),
         (
             b"J,1,20,1,1,100,7,100,50\nC,0,17,1,1,4,3,3,2,2\n",
             "7,0,1,0,0,-100\n16,0,0\n",

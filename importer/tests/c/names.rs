@@ -2,7 +2,8 @@
 
 use crate::building::{build, folder, said};
 use importer::{calls, load, place, read, reasons, refine, score, Refused};
-use importer::{LOAD_BYTES, OUTPUT_BYTES, REASONS_BYTES, REFUSALS, STORE_WORDS};
+use importer::{LOAD_BYTES, OUTPUT_BYTES, REASONS_BYTES, REFUSALS};
+use importer::{STORE_WORDS, STORE_WORDS_BY_TWO};
 use std::collections::{BTreeMap, BTreeSet};
 use std::fmt::Debug;
 use std::fs;
@@ -98,6 +99,8 @@ fn each_name_is_what_the_refiner_does() {
     let limits = ["MAX_CELLS", "MAX_TALL"].map(|name| names.take(name));
     check_limits(limits);
     assert_eq!(names.take("STORE_WORDS"), STORE_WORDS);
+    assert_eq!(names.take("STORE_WORDS_BY_TWO"), STORE_WORDS_BY_TWO);
+    check_store();
     assert_eq!(
         names.take("OUTPUT_BYTES_PER_CELL") * limits[0],
         OUTPUT_BYTES
@@ -134,6 +137,15 @@ fn check_limits([cells, tall]: [usize; 2]) {
 /// The number of a refusal, or 0.
 fn number<T>(called: Result<T, Refused>) -> u32 {
     called.err().map_or(0, |refused| refused.number)
+}
+
+/// The store that is just large enough, and one word less, with R 1 and with R 2.
+fn check_store() {
+    for (reordering, words) in [(1, STORE_WORDS), (2, STORE_WORDS_BY_TWO)] {
+        let job = format!("J,1,9,0,{reordering},1,1,1,1\n");
+        let lent = |words| number(place(job.as_bytes(), &mut vec![0; words], &mut []));
+        assert_eq!([lent(words - 1), lent(words)], [6, 0], "R {reordering}");
+    }
 }
 
 fn check_refusals(names: &mut Names, most: u32) {

@@ -16,7 +16,7 @@ enum { STACK = 1 << 20, PAINT = 0xA5, LONGEST = 1 << 16 };
 
 static uint8_t job[LONGEST], placement[LONGEST];
 static size_t job_len, placement_len;
-static uint32_t store[REFINER_STORE_WORDS];
+static uint32_t store[REFINER_STORE_WORDS_BY_TWO];
 static uint8_t output[REFINER_MAX_CELLS * REFINER_OUTPUT_BYTES_PER_CELL];
 static uint8_t loaded[REFINER_LOAD_BYTES];
 static uint8_t sentence[REFINER_REASONS_BYTES];
@@ -41,8 +41,8 @@ static uint32_t call_fault_line(void) {
 }
 
 static uint32_t call_place(void) {
-    return refiner_place(job, job_len, store, REFINER_STORE_WORDS, output, sizeof output, results,
-                         REFINER_PLACE_RESULTS);
+    return refiner_place(job, job_len, store, REFINER_STORE_WORDS_BY_TWO, output, sizeof output,
+                         results, REFINER_PLACE_RESULTS);
 }
 
 static uint32_t call_load(void) {

@@ -42,6 +42,11 @@ pub fn job_of(rows: &Rows, apart: usize) -> String {
     job
 }
 
+/// The same job with R 2.
+fn by_two(job: &str) -> String {
+    job.replacen("J,2,1024,7,1,", "J,2,1024,7,2,", 1)
+}
+
 /// The given rows of such a job.
 fn given() -> String {
     let line = |cell| format!("{},0,0\n", APART * cell);
@@ -73,11 +78,14 @@ fn touched() -> BTreeMap<String, usize> {
     let write = |path, text: &str| fs::write(path, text).expect("a test may write its files");
     let mut most = BTreeMap::new();
     for rows in [tall_last(), one_row()] {
-        write(&job, &job_of(&rows, APART));
-        for stands in [given(), at_an_end()] {
-            write(&placement, &stands);
-            let lines = said(Command::new(&program).arg(&job).arg(&placement));
-            lines.lines().for_each(|line| keep(&mut most, line));
+        let by_one = job_of(&rows, APART);
+        for text in [&by_two(&by_one), &by_one] {
+            write(&job, text);
+            for stands in [given(), at_an_end()] {
+                write(&placement, &stands);
+                let lines = said(Command::new(&program).arg(&job).arg(&placement));
+                lines.lines().for_each(|line| keep(&mut most, line));
+            }
         }
     }
     println!("{most:?}");
