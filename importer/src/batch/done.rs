@@ -1,6 +1,7 @@
 //! One task: its job read, answered or taken over, and its answer written.
 
 use super::failure::Failure;
+use super::memory::take_store;
 use super::task::Task;
 use super::{earlier, files};
 use crate::draw::draw;
@@ -59,8 +60,8 @@ fn place_anew(
     job: &[u8],
     refiner: &mut Refiner,
 ) -> Result<Result<Numbers, Refused>, Failure> {
-    let answer = refiner.place(job);
-    let (placed, text) = match answer {
+    take_store(refiner, job).map_err(|bytes| Failure::no_store(&task.job, bytes))?;
+    let (placed, text) = match refiner.place(job) {
         Ok(answer) => (Ok(answer.numbers()), text_of(&answer.to_refined())),
         Err(refused) => (Err(refused), format!("{}\n", refused.fields()).into()),
     };

@@ -1,4 +1,4 @@
-//! Files that cannot be read or written, in words.
+//! Files that cannot be read or written, and jobs that cannot be placed, in words.
 
 use super::files::LONGEST;
 use std::ffi::OsStr;
@@ -6,7 +6,7 @@ use std::fmt;
 use std::io;
 use std::path::{Path, PathBuf};
 
-/// A file that could not be read or written.
+/// A file that could not be read or written, or whose job could not be placed.
 #[derive(Debug)]
 pub struct Failure {
     path: PathBuf,
@@ -18,6 +18,8 @@ enum Reason {
     /// What could not be done.
     Cannot(&'static str, io::Error),
     TooLong,
+    /// There is no memory for a store of so many bytes.
+    NoStore(usize),
 }
 
 impl Failure {
@@ -33,11 +35,17 @@ impl Failure {
         Failure { path, reason }
     }
 
+    pub(super) fn no_store(path: &Path, bytes: usize) -> Failure {
+        let reason = Reason::NoStore(bytes);
+        let path = path.to_path_buf();
+        Failure { path, reason }
+    }
+
     /// Whether the file is not there.
     pub(super) fn is_absent(&self) -> bool {
         match &self.reason {
             Reason::Cannot(_, error) => error.kind() == io::ErrorKind::NotFound,
-            Reason::TooLong => false,
+            Reason::TooLong | Reason::NoStore(_) => false,
         }
     }
 }
@@ -51,6 +59,10 @@ impl fmt::Display for Failure {
             }
             Reason::Cannot(act, error) => write!(out, "cannot {act} {name}: {error}"),
             Reason::TooLong => write!(out, "{name} is longer than {LONGEST} bytes"),
+            Reason::NoStore(bytes) => write!(
+                out,
+                "cannot place {name}: no memory for the store: {bytes} bytes"
+            ),
         }
     }
 }

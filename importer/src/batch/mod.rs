@@ -32,6 +32,7 @@ mod failure;
 mod fields;
 mod files;
 mod gather;
+mod memory;
 mod page;
 mod run;
 mod summary;

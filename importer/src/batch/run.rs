@@ -2,9 +2,9 @@
 
 use super::done::{done, Done};
 use super::failure::Failure;
+use super::memory::room_of;
 use super::task::Task;
 use crate::Refiner;
-use std::hint::black_box;
 use std::io;
 use std::sync::atomic::{AtomicUsize, Ordering};
 use std::sync::mpsc::{self, Receiver, Sender, TryRecvError};
@@ -82,14 +82,6 @@ pub fn run(
         Ok(listen(&receiver, tasks, watch))
     })?;
     Ok(results.into_iter().flatten().collect())
-}
-
-/// So much memory, if it is there.
-fn room_of(bytes: usize) -> io::Result<Vec<u8>> {
-    let mut room = Vec::new();
-    room.try_reserve_exact(bytes)?;
-    // What nobody looks at would not be asked for.
-    Ok(black_box(room))
 }
 
 /// Whether there is memory for one thread more. A thread that finds none as it starts ends the

@@ -2,6 +2,7 @@
 
 use super::{batch, check_summary, folder, jobs, names, put, summary, text};
 use super::{FALLING, PAST, PAST_ANSWER, REFINE, TIGHT, WORKED, WORKED_ANSWER};
+use super::{REORDER, REORDER_ANSWER};
 use std::fs;
 use std::path::Path;
 use std::process::Command;
@@ -52,6 +53,29 @@ fn an_output_is_what_refine_prints_of_the_job() {
         compared += 1;
     }
     assert!(compared >= 10, "{compared}");
+}
+
+/// One thread does them all, in the order of their names.
+#[test]
+fn jobs_with_each_reordering_are_done_in_turn() {
+    let folder = folder("reordering");
+    let by_two = ["b", "d", "e"];
+    for name in ["a", "b", "c", "d", "e", "f"] {
+        let is_by_two = by_two.contains(&name);
+        let job = if is_by_two { REORDER } else { WORKED };
+        put(&folder, format!("{name}.job"), job);
+    }
+    let counts = "jobs,6 answered,6 failed,0 taken over,0 placements,0,0,0 saved,0";
+    check_summary(batch(&folder, &["-j", "1", "."]), counts);
+    for name in ["a", "b", "c", "d", "e", "f"] {
+        let is_by_two = by_two.contains(&name);
+        let answer = if is_by_two {
+            REORDER_ANSWER
+        } else {
+            WORKED_ANSWER
+        };
+        assert_eq!(text(folder.join(format!("{name}.out"))), answer, "{name}");
+    }
 }
 
 #[test]

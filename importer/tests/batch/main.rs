@@ -33,6 +33,10 @@ const PAST_ANSWER: &str = "7,0,1,0,0,-100\n16,0,0\n";
 const TIGHT: &str = "J,1,5,7,1,1,1,1,1\nC,0,0,0,1,3,1,1,1,1\nC,0,0,0,1,3,1,1,1,1\n";
 const FALLING: &str = "J,1,20,1,1,100,1,100,50\nC,0,2,1,1,4,3,3,2,2\nC,0,1,0,1,4,3,3,2,2\n";
 
+/// A job with R 2, worked in `examples.rs`.
+const REORDER: &str = include_str!("../../../examples/reorder.job");
+const REORDER_ANSWER: &str = "9,0,9,0,0,25\n5,0,0\n0,0,0\n3,0,0\n7,0,0\n";
+
 /// A job with a supplier's placement: 300 beside 12, the cheapest.
 const DESK: &str = include_str!("../../../examples/desk.job");
 const DESK_PLACEMENT: &str = include_str!("../../../examples/desk.placement");

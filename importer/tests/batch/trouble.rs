@@ -1,7 +1,7 @@
 //! Inputs that cannot be read, outputs that cannot be written, and little memory.
 
 use super::{batch, check_summary, counts, folder, jobs, names, put, summary, text};
-use super::{PAST, PAST_ANSWER, REFINE, WORKED, WORKED_ANSWER};
+use super::{PAST, PAST_ANSWER, REFINE, REORDER, REORDER_ANSWER, WORKED, WORKED_ANSWER};
 use std::fs;
 use std::path::Path;
 use std::process::Command;
@@ -164,6 +164,44 @@ fn little_memory_is_told_of_or_is_enough() {
         }
     }
     assert!(with_fewer > 0 && with_all > 0, "{with_fewer} {with_all}");
+}
+
+/// Jobs with R 2 need a larger store. Where there is no memory for it that is told, and the other
+/// jobs are done.
+#[test]
+fn no_memory_for_a_larger_store_is_told_of_and_the_others_go_on() {
+    let folder = folder("larger_store");
+    put(&folder, "a.job", WORKED);
+    put(&folder, "b.job", REORDER);
+    put(&folder, "c.job", PAST);
+    let answers =
+        || ["a.out", "b.out", "c.out"].map(|name| fs::read_to_string(folder.join(name)).ok());
+    let others = |by_two: Option<&str>| {
+        [Some(WORKED_ANSWER), by_two, Some(PAST_ANSWER)].map(|answer| answer.map(String::from))
+    };
+    let told = "refine: cannot place ./b.job: no memory for the store: 16777216 bytes\n";
+    let [mut without, mut with] = [0, 0];
+    for limit in (8_000..40_000).step_by(1_000) {
+        let line = format!("rm -f *.out; ulimit -v {limit}; exec \"$REFINE\" batch -j 1 .");
+        let (output, notes, status) = shell(&folder, &line);
+        match status {
+            Some(0) => {
+                assert_eq!(
+                    (&*notes, answers()),
+                    ("", others(Some(REORDER_ANSWER))),
+                    "{limit}"
+                );
+                with += 1;
+            }
+            Some(2) if output.starts_with("jobs,3\nanswered,2\nfailed,1\n") => {
+                assert_eq!((&*notes, answers()), (told, others(None)), "{limit}");
+                without += 1;
+            }
+            // There is not even memory for the other jobs.
+            _ => assert_eq!(answers(), [None, None, None], "{limit}: {notes}"),
+        }
+    }
+    assert!(with > 0 && without > 0, "{with} {without}");
 }
 
 #[test]
