@@ -15,7 +15,8 @@ pub struct Summary {
     pub answered: usize,
     /// The jobs that were refused, by the refusal's number.
     pub refused: BTreeMap<u32, usize>,
-    /// The jobs that could not be read, or their answers not written.
+    /// The jobs that could not be read, that there was no memory to place, or whose answers could
+    /// not be written.
     pub failed: usize,
     /// How many answers are those of an earlier run.
     pub taken_over: usize,
