@@ -7,6 +7,17 @@ use crate::plain::placement::read_placement;
 use crate::plain::scorer::verdict;
 use importer::STORE_WORDS;
 
+/// How many words of store Place needs for a job with R 2.
+pub const STORE_WORDS_BY_TWO: usize = 4_194_304;
+
+/// How many words of store Place needs for a job (A6).
+pub fn store_words(job: &Job) -> usize {
+    match job.reordering {
+        0 | 1 => STORE_WORDS,
+        _ => STORE_WORDS_BY_TWO,
+    }
+}
+
 /// A byte that no placement text has, and a word to dirty the store with.
 const UNTOUCHED: u8 = 0xaa;
 const DIRT: u32 = 0xdead_beef;
@@ -17,8 +28,28 @@ const NO_PLACEMENT: u32 = 8;
 #[derive(Default)]
 pub struct Lender {
     arrays: Arrays,
-    store: Vec<u32>,
+    /// For jobs with R 0 or 1, and for jobs with R 2.
+    stores: [Store; 2],
     calls: usize,
+}
+
+/// A store that is lent again and again, and dirtied before every fourth call.
+#[derive(Default)]
+struct Store {
+    words: Vec<u32>,
+    calls: usize,
+}
+
+impl Store {
+    /// So many words, or those that the last call was lent.
+    fn lend(&mut self, words: usize) -> &mut [u32] {
+        if self.calls.is_multiple_of(4) {
+            self.words.clear();
+            self.words.resize(words, DIRT);
+        }
+        self.calls += 1;
+        &mut self.words
+    }
 }
 
 impl Lender {
@@ -27,16 +58,14 @@ impl Lender {
     /// none after refusal 8; an error says what is not as it should be.
     pub fn place(&mut self, job: &Job) -> Result<Option<Numbers>, String> {
         let spare = self.calls % 5;
-        if self.calls.is_multiple_of(4) {
-            self.store.clear();
-            self.store.resize(STORE_WORDS + spare, DIRT);
-        }
         self.calls += 1;
+        let store = &mut self.stores[usize::from(job.reordering == 2)];
+        let store = store.lend(store_words(job) + spare);
         let mut output = vec![UNTOUCHED; 9 * job.cells.len() + spare];
         let text = job.text();
         let left = self
             .arrays
-            .lend(|results| importer::calls::place(&text, &mut self.store, &mut output, results));
+            .lend(|results| importer::calls::place(&text, store, &mut output, results));
         let (numbers, expected) = match left.returned() {
             NO_PLACEMENT => (None, [NO_PLACEMENT as i32, 0, 0, 0, 0, 0, 0, 0, 0]),
             _ => answer(job, &output)?,
@@ -45,7 +74,7 @@ impl Lender {
         if numbers.is_none() && output.iter().any(|&byte| byte != UNTOUCHED) {
             return Err("the output was written after a refusal".into());
         }
-        let words = self.store.iter().fold(0, |words, word| words | word);
+        let words = store.iter().fold(0, |words, word| words | word);
         if words != 0 {
             return Err("the store is not all zero".into());
         }

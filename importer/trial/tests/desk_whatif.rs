@@ -2,7 +2,7 @@
 
 use importer::desk::{whatif, Ways, DISPLACEMENTS, REORDERINGS};
 use trial::generate::{small, Random};
-use trial::plain::job::Job;
+use trial::plain::job::{Job, MOST_REORDERING};
 use trial::plain::scorer::verdict;
 use trial::plain::search::cheapest;
 
@@ -54,7 +54,9 @@ fn plain_ways(job: &Job) -> Ways {
     Ways {
         cell: kept as u32 + 1,
         displacement: first(job, 0..=7, |job, number| job.displacement = number),
-        reordering: first(job, 0..=1, |job, number| job.reordering = number),
+        reordering: first(job, 0..=MOST_REORDERING, |job, number| {
+            job.reordering = number
+        }),
         sites: first(job, 1..=MOST_SITES, |job, number| job.sites = number),
         more_sites: first(job, job.sites + 1..=MOST_SITES, |job, number| {
             job.sites = number
@@ -75,7 +77,7 @@ fn figures_are_those_of_the_plain_search() {
             _ => random.pick(&draws),
         };
         let job = draw(&mut random);
-        let with_any_order = cheapest(&with(&job, |job| job.reordering = 1));
+        let with_any_order = cheapest(&with(&job, |job| job.reordering = MOST_REORDERING));
         if with_any_order.is_none() && none >= MOST_NONE {
             continue;
         }

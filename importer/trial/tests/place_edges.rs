@@ -4,6 +4,13 @@ use importer::{place, refine, Refused, STORE_WORDS};
 
 const WORKED: &[u8] = include_bytes!("../../../examples/worked.job");
 
+/// The worked example with R 2, which lets its two cells do no more than R 1.
+const WORKED_BY_TWO: &[u8] = b"\
+J,1,20,1,2,100,1,100,50
+C,0,2,1,1,4,3,3,2,2
+C,0,6,0,1,4,3,3,2,2
+";
+
 /// The cost of a placed job, or the refusal's number.
 fn cost(job: &str) -> Result<u32, u32> {
     match refine(job.as_bytes()) {
@@ -119,6 +126,9 @@ fn row_ends_of_a_tall_cell() {
     }
 }
 
+/// A job with R 1 and one with R 2, and how many words of store each needs.
+const NEEDS: [(&[u8], usize); 2] = [(WORKED, 1_048_576), (WORKED_BY_TWO, 4_194_304)];
+
 /// What a call left: the refusal, and whether store and output are as they were.
 fn left(job: &[u8], words: usize, bytes: usize) -> (Option<Refused>, bool, bool) {
     let mut store = vec![7; words];
@@ -131,37 +141,48 @@ fn left(job: &[u8], words: usize, bytes: usize) -> (Option<Refused>, bool, bool)
 #[test]
 fn buffers_that_are_too_small() {
     let refused = |number, line| Some(Refused { number, line });
-    let short = STORE_WORDS - 1;
-    assert_eq!(left(WORKED, short, 18), (refused(6, 0), true, true));
-    assert_eq!(left(WORKED, 0, 0), (refused(6, 0), true, true));
-    assert_eq!(left(WORKED, STORE_WORDS, 17), (refused(7, 0), true, true));
-    assert_eq!(left(WORKED, STORE_WORDS, 0), (refused(7, 0), true, true));
+    for (job, words) in NEEDS {
+        assert_eq!(left(job, words - 1, 18), (refused(6, 0), true, true));
+        assert_eq!(left(job, 0, 0), (refused(6, 0), true, true));
+        assert_eq!(left(job, words, 17), (refused(7, 0), true, true));
+        assert_eq!(left(job, words, 0), (refused(7, 0), true, true));
+    }
+    assert_eq!(
+        left(WORKED_BY_TWO, 1_048_576, 0),
+        (refused(6, 0), true, true)
+    );
     assert_eq!(left(b"J\n", 0, 0), (refused(1, 1), true, true));
-    assert_eq!(left(b"", STORE_WORDS, 18), (refused(1, 1), true, true));
+    assert_eq!(left(b"", 4_194_304, 18), (refused(1, 1), true, true));
 }
 
 #[test]
 fn buffers_that_just_suffice() {
-    let mut store = vec![7; STORE_WORDS];
-    let mut output = [b'x'; 18];
-    let placed = place(WORKED, &mut store, &mut output);
-    assert_eq!(placed.map(|placed| placed.text_length), Ok(12));
-    assert_eq!(&output, b"2,0,1\n6,0,0\nxxxxxx");
-    assert!(store.iter().all(|&word| word == 0));
+    for (job, words) in NEEDS {
+        let mut store = vec![7; words];
+        let mut output = [b'x'; 18];
+        let placed = place(job, &mut store, &mut output);
+        assert_eq!(placed.map(|placed| placed.text_length), Ok(12));
+        assert_eq!(&output, b"2,0,1\n6,0,0\nxxxxxx");
+        assert!(store.iter().all(|&word| word == 0));
+    }
 }
 
 #[test]
 fn a_larger_store_is_all_zero_too() {
-    let mut store = vec![7; STORE_WORDS + 1000];
-    let mut output = [b'x'; 30];
-    let none = b"J,1,1,0,0,0,0,0,0\nC,0,0,0,1,2,1,1,1,1\n";
-    let refused = place(none, &mut store, &mut output).err();
-    assert_eq!(refused, Some(Refused { number: 8, line: 0 }));
-    assert!(store.iter().all(|&word| word == 0));
-    assert_eq!(output, [b'x'; 30]);
-    store.fill(7);
-    assert!(place(WORKED, &mut store, &mut output).is_ok());
-    assert!(store.iter().all(|&word| word == 0));
+    let none = |reordering: u32| format!("J,1,1,0,{reordering},0,0,0,0\nC,0,0,0,1,2,1,1,1,1\n");
+    for ((job, words), none) in NEEDS.into_iter().zip([none(1), none(2)]) {
+        for spare in [1, 1000] {
+            let mut store = vec![7; words + spare];
+            let mut output = [b'x'; 30];
+            let refused = place(none.as_bytes(), &mut store, &mut output).err();
+            assert_eq!(refused, Some(Refused { number: 8, line: 0 }));
+            assert!(store.iter().all(|&word| word == 0));
+            assert_eq!(output, [b'x'; 30]);
+            store.fill(7);
+            assert!(place(job, &mut store, &mut output).is_ok());
+            assert!(store.iter().all(|&word| word == 0));
+        }
+    }
 }
 
 #[test]

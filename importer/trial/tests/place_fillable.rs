@@ -1,8 +1,9 @@
 //! What the fill engineer asks of a placed row (A1): wherever sites are empty, between cells and at
 //! the row's ends, they are two or more. Rows are looked at site by site.
 
-use importer::{place, Placed, OUTPUT_BYTES, STORE_WORDS};
+use importer::{place, Placed, OUTPUT_BYTES};
 use trial::generate::{placements, small, Random};
+use trial::lender::{store_words, STORE_WORDS_BY_TWO};
 use trial::plain::job::{Cell, Job};
 
 /// The sites of a row that a placement text takes, from left to right.
@@ -55,12 +56,13 @@ fn kind(run: usize) -> usize {
 /// Places so many jobs and looks at the rows of each that has a placement.
 fn look(seed: u64, jobs: usize, draw: impl Fn(&mut Random) -> Job) -> Seen {
     let mut random = Random::new(seed);
-    let mut store = vec![0; STORE_WORDS];
+    let mut store = vec![0; STORE_WORDS_BY_TWO];
     let mut seen = Seen::default();
     for _ in 0..jobs {
         let job = draw(&mut random);
+        let store = &mut store[..store_words(&job)];
         let mut output = [0; OUTPUT_BYTES];
-        if let Ok(Placed { text_length, .. }) = place(&job.text(), &mut store, &mut output) {
+        if let Ok(Placed { text_length, .. }) = place(&job.text(), store, &mut output) {
             let text = std::str::from_utf8(&output[..text_length]);
             seen.check(&job, text.expect("a placement text is one of digits"));
         }

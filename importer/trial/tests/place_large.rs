@@ -4,7 +4,7 @@
 use trial::generate::legal::{Shape, HEAVY};
 use trial::generate::{legal, placements, Random};
 use trial::lender::Lender;
-use trial::plain::job::Job;
+use trial::plain::job::{Job, MOST_REORDERING};
 use trial::plain::local::improve;
 use trial::plain::placement::{given_rows, Placement};
 use trial::plain::scorer::verdict;
@@ -118,7 +118,7 @@ fn on_row_ends() {
             early: random.below(cells),
             most_width: random.pick(&[1, 2, 12]),
             displacement: random.pick(&[0, 1, 2, 7]),
-            reordering: random.from_to(0, 1),
+            reordering: random.from_to(0, MOST_REORDERING),
             gaps: random.pick(&[&[0], HEAVY.gaps]),
             ends: random.pick(&[&[1], &[0, 1, 1]]),
             one_site_ends: true,

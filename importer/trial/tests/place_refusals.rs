@@ -1,8 +1,8 @@
 //! Place's refusals 1 to 7 on damaged texts and small buffers, with every length of results.
 
-use importer::STORE_WORDS;
 use trial::generate::damage::Damage;
 use trial::generate::{jobs, Random};
+use trial::lender::{store_words, STORE_WORDS_BY_TWO};
 use trial::lent::Arrays;
 use trial::plain::reader::read_job;
 
@@ -46,25 +46,45 @@ fn with_too_small_a_store() {
         check(&mut arrays, &text, &mut store[..words], bytes, 6);
     }
     assert_eq!(store, [7; 40]);
-    let mut store = vec![7; STORE_WORDS - 1];
-    for _ in 0..100 {
-        check(&mut arrays, &damaged(&mut random), &mut store, 576, 6);
+}
+
+/// How much suffices for R 0 and 1 is too little for R 2 (A6), up to its last word.
+#[test]
+fn with_a_word_too_few() {
+    let mut random = Random::new(53);
+    let mut arrays = Arrays::default();
+    let mut store = vec![7; 4_194_303];
+    let mut accepted = [0; 3];
+    for _ in 0..5_000 {
+        let text = damaged(&mut random);
+        let words: &[usize] = match read_job(&text).map(|job| job.reordering) {
+            Ok(2) => &[1_048_575, 1_048_576, 4_194_303],
+            _ => &[1_048_575],
+        };
+        for &words in words {
+            check(&mut arrays, &text, &mut store[..words], 576, 6);
+        }
+        if let Ok(job) = read_job(&text) {
+            accepted[usize::from(job.reordering)] += 1;
+        }
     }
     assert!(store.iter().all(|&word| word == 7));
+    assert!(accepted.iter().all(|&jobs| jobs > 300), "{accepted:?}");
 }
 
 #[test]
 fn with_too_small_an_output() {
     let mut random = Random::new(52);
     let mut arrays = Arrays::default();
-    let mut store = vec![7; STORE_WORDS];
+    let mut store = vec![7; STORE_WORDS_BY_TWO];
     for _ in 0..10_000 {
         let text = damaged(&mut random);
-        let cells = read_job(&text).map_or(0, |job| job.cells.len());
-        if cells > 0 {
-            let bytes = random.below(9 * cells);
-            check(&mut arrays, &text, &mut store, bytes, 7);
-            check(&mut arrays, &text, &mut store, 9 * cells - 1, 7);
+        let job = read_job(&text).ok().filter(|job| !job.cells.is_empty());
+        if let Some(job) = job {
+            let store = &mut store[..store_words(&job)];
+            let enough = 9 * job.cells.len();
+            check(&mut arrays, &text, store, random.below(enough), 7);
+            check(&mut arrays, &text, store, enough - 1, 7);
         }
     }
     assert!(store.iter().all(|&word| word == 7));

@@ -1,7 +1,7 @@
 //! Placements that break one rule by one cell, by two, or by many.
 
 use super::{legal, placements, Random};
-use crate::plain::job::{Job, MOST_TALL};
+use crate::plain::job::{Job, MOST_REORDERING, MOST_TALL};
 use crate::plain::placement::Placement;
 
 /// A job, and a placement of it that breaks a rule from 1 to 8 at some cells or at many, if the job
@@ -73,16 +73,16 @@ fn order_moved(random: &mut Random) -> (Job, Placement) {
     exchanged(random, &legal::Shape { tall, ..shape }, 3)
 }
 
-/// Tall cells that follow each other change places: with R 1 that breaks no other rule.
+/// Tall cells at most R apart change places: that breaks no other rule.
 fn tall_order_changed(random: &mut Random) -> (Job, Placement) {
     let shape = narrow(random);
     let shape = legal::Shape {
         rows: 2,
         tall: shape.cells.min(MOST_TALL),
-        reordering: 1,
+        reordering: random.from_to(1, MOST_REORDERING),
         ..shape
     };
-    exchanged(random, &shape, 1)
+    exchanged(random, &shape, shape.reordering.into())
 }
 
 /// A placement in which cells have changed places, few or many: each with one that follows it in

@@ -1,7 +1,7 @@
 //! Jobs that the reader accepts, of every size.
 
 use super::Random;
-use crate::plain::job::{Cell, Job, Layout, Weights, MOST_TALL, TALL};
+use crate::plain::job::{Cell, Job, Layout, Weights, MOST_REORDERING, MOST_TALL, TALL};
 
 /// A job with this many cells.
 pub fn job(random: &mut Random, cells: usize) -> Job {
@@ -15,7 +15,7 @@ pub fn job(random: &mut Random, cells: usize) -> Job {
         rows,
         sites: random.pick(&[1, 20, 200, 1023, 1024]),
         displacement: random.from_to(0, 7),
-        reordering: random.from_to(0, 1),
+        reordering: random.from_to(0, MOST_REORDERING),
         weights: weights(random),
         cells: Vec::new(),
     };

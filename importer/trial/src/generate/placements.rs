@@ -1,7 +1,7 @@
 //! Placements of a job: legal ones, nearly legal ones, and wild ones.
 
 use super::{jobs, legal, Random};
-use crate::plain::job::{Cell, Job};
+use crate::plain::job::{Cell, Job, MOST_REORDERING};
 use crate::plain::placement::{given_rows, Placement, Pose};
 
 /// A job and a legal placement of it that is not its given rows.
@@ -81,7 +81,7 @@ pub(super) fn shape_of(random: &mut Random, most: usize) -> legal::Shape {
         most_width: random.pick(&[1, 2, 4, 12]),
         most_height: random.pick(&[1, 2, 3, 15]),
         displacement: random.pick(&[0, 1, 2, 3, 4, 7, 7]),
-        reordering: random.from_to(0, 1),
+        reordering: random.from_to(0, MOST_REORDERING),
         gaps: random.pick(&[&[0], &[0, 2], &[0, 0, 2, 3, 4, 5], &[2, 3, 4, 9]]),
         ends: random.pick(&[&[0], &[0, 2, 3, 9]]),
         one_site_ends: false,

@@ -1,7 +1,7 @@
 //! Small jobs, for which all placements can be tried.
 
 use super::{jobs, placements, Random};
-use crate::plain::job::{Cell, Job, TALL};
+use crate::plain::job::{Cell, Job, MOST_REORDERING, TALL};
 
 /// The most placements, legal or not, that a small job has.
 const MOST_PLACEMENTS: usize = 1_000_000;
@@ -15,7 +15,7 @@ pub fn job(random: &mut Random) -> Job {
     let mut job = Job {
         rows,
         displacement: random.from_to(0, 3),
-        reordering: random.from_to(0, 1),
+        reordering: random.from_to(0, MOST_REORDERING),
         weights: jobs::weights(random),
         ..Job::default()
     };

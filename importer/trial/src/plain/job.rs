@@ -6,6 +6,7 @@ use std::ops::Range;
 
 pub const MOST_CELLS: usize = 64;
 pub const MOST_TALL: usize = 24;
+pub const MOST_REORDERING: u16 = 2;
 
 /// The row of a cell that stands in both.
 pub const TALL: u16 = 2;

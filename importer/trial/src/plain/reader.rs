@@ -3,7 +3,7 @@
 //! A line's checks are made in the order in which the scope tries its refusals; the first that
 //! fails gives the refusal of the line, and the first line that has one gives it to the text.
 
-use super::job::{Cell, Job, Layout, Weights, MOST_CELLS, MOST_TALL, TALL};
+use super::job::{Cell, Job, Layout, Weights, MOST_CELLS, MOST_REORDERING, MOST_TALL, TALL};
 use super::numbers::{read_numbers, Numbers};
 use super::Refused;
 
@@ -83,7 +83,7 @@ fn read_header(text: &[u8]) -> Result<(Job, usize), u32> {
     let in_range = (1..=2).contains(&rows)
         && (1..=1024).contains(&sites)
         && displacement <= 7
-        && reordering <= 1
+        && reordering <= MOST_REORDERING
         && weights.iter().all(|&weight| weight <= 1000);
     if !in_range {
         return Err(RANGE);
