@@ -1,17 +1,115 @@
 //! The least charges of a last cell, by its pose and by the lane of the start.
 
 use super::lines::{Line, POSES, VARIANTS};
-use super::NONE;
+use super::{Charge, NONE};
 
-/// A row of words, one for each lane.
-pub type Lanes<const L: usize> = [i32; L];
+/// A row of charges, one for each lane.
+pub type Lanes<const L: usize> = [Charge; L];
 
-/// For each pose of a cell, the least charge of ending there, by lane.
-#[derive(Clone)]
-pub struct Block<const L: usize> {
-    pub rows: [Lanes<L>; POSES],
-    /// A bit for each pose that some lane reaches; other rows mean nothing.
-    pub live: u64,
+/// For each pose of a cell that some lane reaches, the least charges of ending there, by lane. The
+/// rows stand among others.
+#[derive(Clone, Copy, Default)]
+pub struct Block {
+    /// A bit for each pose that some lane reaches; only these have a row.
+    live: u64,
+    /// Where the first of their rows stands; the others follow by pose.
+    first: usize,
+}
+
+impl Block {
+    pub fn is_live(&self) -> bool {
+        self.live != 0
+    }
+
+    /// The row of a pose, if it has one.
+    pub fn row<'a, const L: usize>(&self, rows: &'a Rows<L>, pose: usize) -> Option<&'a Lanes<L>> {
+        let before = self.live & ((1 << pose) - 1);
+        let at = self.first + before.count_ones() as usize;
+        (self.live >> pose & 1 == 1).then(|| &rows.rows[at])
+    }
+
+    /// The poses that have a row, each with it.
+    pub fn rows<'a, const L: usize>(
+        &self,
+        rows: &'a Rows<L>,
+    ) -> impl Iterator<Item = (usize, &'a Lanes<L>)> {
+        let mut live = self.live;
+        let poses = std::iter::from_fn(move || {
+            let pose = live.trailing_zeros() as usize;
+            live &= live.wrapping_sub(1);
+            (pose < POSES).then_some(pose)
+        });
+        poses.zip(&rows.rows[self.first..])
+    }
+}
+
+/// The rows of many blocks, one behind the other.
+#[derive(Clone, Default)]
+pub struct Rows<const L: usize> {
+    rows: Vec<Lanes<L>>,
+    /// How many of them are in use.
+    used: usize,
+}
+
+impl<const L: usize> Rows<L> {
+    /// No row is in use any more.
+    pub fn clear(&mut self) {
+        self.used = 0;
+    }
+
+    /// A block without rows, behind the others.
+    fn block(&self) -> Block {
+        Block {
+            live: 0,
+            first: self.used,
+        }
+    }
+
+    /// One more row for the last block; its charges are left from earlier.
+    fn add(&mut self, block: &mut Block, pose: usize) -> &mut Lanes<L> {
+        if self.used == self.rows.len() {
+            self.rows.push([NONE; L]);
+        }
+        block.live |= 1 << pose;
+        self.used += 1;
+        &mut self.rows[self.used - 1]
+    }
+
+    /// A row's first cell, by its own charges: nothing stands left of it.
+    pub fn first_cell(&mut self, line: &Line, own: &[Charge; POSES]) -> Block {
+        let mut block = self.block();
+        for &pose in line.poses.iter().filter(|&&pose| line.may_open(pose)) {
+            *self.add(&mut block, pose) = [own[pose]; L];
+        }
+        block
+    }
+
+    /// The next cell after what was gathered for it, by its own charges.
+    pub fn next_cell(
+        &mut self,
+        gathered: &Gathered<L>,
+        line: &Line,
+        own: &[Charge; POSES],
+    ) -> Block {
+        let mut block = self.block();
+        let at_one_site = |one: &usize, other: &usize| one / VARIANTS == other / VARIANTS;
+        for poses in line.poses.chunk_by(at_one_site) {
+            let Some(left) = gathered.left_of(poses[0] / VARIANTS) else {
+                continue;
+            };
+            for &pose in poses {
+                let variant = pose % VARIANTS;
+                let [touching, two_apart, three_apart] = left.near.map(|near| &near[variant]);
+                let (far, own) = (left.far, own[pose]);
+                let row = self.add(&mut block, pose);
+                for lane in 0..L {
+                    let near = least(least(touching[lane], two_apart[lane]), three_apart[lane]);
+                    row[lane] = least(near, far[lane]) + own;
+                }
+            }
+        }
+        block
+    }
 }
 
 /// End sites that bear on one target cell: from four sites left of its first site to its last.
@@ -23,75 +121,17 @@ pub struct Gathered<const L: usize> {
     near: [[Lanes<L>; VARIANTS]; ENDS],
     /// The least charge over sources that end here or further left.
     far: [Lanes<L>; ENDS],
+    /// A bit for each end site that has sources; the rows of others mean nothing.
+    live: u32,
+    /// What stands for the rows of others.
+    none: [Lanes<L>; VARIANTS],
 }
 
-impl<const L: usize> Block<L> {
-    pub fn dead() -> Block<L> {
-        Block {
-            rows: [[NONE; L]; POSES],
-            live: 0,
-        }
-    }
-
-    /// No lane reaches any pose.
-    pub fn kill(&mut self) {
-        self.live = 0;
-    }
-
-    /// The charge of a pose in a lane.
-    pub fn at(&self, pose: usize, lane: usize) -> i32 {
-        if self.live >> pose & 1 == 1 {
-            self.rows[pose][lane]
-        } else {
-            NONE
-        }
-    }
-
-    /// Only a pose for each lane, at no charge, if it is offered: a cell to start from.
-    pub fn start(&mut self, line: &Line, pose_of_lane: impl Iterator<Item = usize>) {
-        self.live = 0;
-        for (lane, pose) in pose_of_lane.enumerate() {
-            if line.offered[pose] < NONE {
-                self.rows[pose] = [NONE; L];
-                self.rows[pose][lane] = 0;
-                self.live |= 1 << pose;
-            }
-        }
-    }
-
-    /// A row's first cell, by its own charges: nothing stands left of it.
-    pub fn fill_first(&mut self, line: &Line, own: &[i32; POSES]) {
-        self.live = 0;
-        for (pose, &own) in own.iter().enumerate() {
-            if own < NONE && line.may_open(pose) {
-                self.rows[pose] = [own; L];
-                self.live |= 1 << pose;
-            }
-        }
-    }
-
-    /// The next cell after what was gathered for it, by its own charges.
-    pub fn fill(&mut self, gathered: &Gathered<L>, own: &[i32; POSES]) {
-        self.live = 0;
-        for (pose, &own) in own.iter().enumerate() {
-            if own < NONE {
-                let (at, variant) = (pose / VARIANTS, pose % VARIANTS);
-                let touching = &gathered.near[at + 4][variant];
-                let two_apart = &gathered.near[at + 2][variant];
-                let three_apart = &gathered.near[at + 1][variant];
-                let far = &gathered.far[at];
-                let row = &mut self.rows[pose];
-                let mut least = NONE;
-                for lane in 0..L {
-                    let near = touching[lane].min(two_apart[lane]).min(three_apart[lane]);
-                    let word = (near.min(far[lane]) + own).min(NONE);
-                    row[lane] = word;
-                    least = least.min(word);
-                }
-                self.live |= u64::from(least < NONE) << pose;
-            }
-        }
-    }
+/// What bears on a target at one of its sites: sources that end 0, 2 and 3 sites left of it, by the
+/// target's variant, and all that end further left.
+struct LeftOf<'a, const L: usize> {
+    near: [&'a [Lanes<L>; VARIANTS]; 3],
+    far: &'a Lanes<L>,
 }
 
 impl<const L: usize> Gathered<L> {
@@ -99,50 +139,136 @@ impl<const L: usize> Gathered<L> {
         Gathered {
             near: [[[NONE; L]; VARIANTS]; ENDS],
             far: [[NONE; L]; ENDS],
+            live: 0,
+            none: [[NONE; L]; VARIANTS],
         }
     }
 
-    /// Gathers sources for a target.
+    /// What bears on the target at a site, counted from its first; none if nothing does.
+    fn left_of(&self, site: usize) -> Option<LeftOf<'_, L>> {
+        let is_live = |end: usize| self.live >> end & 1 == 1;
+        let near = |end: usize| {
+            if is_live(end) {
+                &self.near[end]
+            } else {
+                &self.none
+            }
+        };
+        let far = (self.live & ((2 << site) - 1)).checked_ilog2();
+        let live = far.is_some() || is_live(site + 1) || is_live(site + 2) || is_live(site + 4);
+        live.then(|| LeftOf {
+            near: [near(site + 4), near(site + 2), near(site + 1)],
+            far: far.map_or(&self.none[0], |last| &self.far[last as usize]),
+        })
+    }
+
+    /// Where a cell ends, as seen from a target; none if that is too far right to bear on it.
+    fn end(line: &Line, pose: usize, target: &Line) -> Option<usize> {
+        let end = (line.end(pose) - (target.first_site - 4)).max(0) as usize;
+        (end < ENDS).then_some(end)
+    }
+
+    /// Gathers sources for a target. False if there are none.
     pub fn gather<'a>(
         &mut self,
-        sources: impl Iterator<Item = (&'a Line, &'a Block<L>)>,
+        sources: impl Iterator<Item = (&'a Line, Block)>,
+        rows: &Rows<L>,
         target: &Line,
-        step: i32,
-    ) {
-        *self = Gathered::empty();
+        step: Charge,
+    ) -> bool {
+        self.live = 0;
         for (line, block) in sources {
-            self.add(line, block, target, step);
+            let steps = line.steps(target, step);
+            for (pose, row) in block.rows(rows) {
+                if let Some(end) = Self::end(line, pose, target) {
+                    self.add(row, end, &steps[pose % VARIANTS]);
+                }
+            }
         }
-        for end in 1..ENDS {
-            let (before, here) = self.far.split_at_mut(end);
-            lower(&mut here[0], &before[end - 1], 0);
+        self.add_up();
+        self.live != 0
+    }
+
+    /// Gathers the start at a tall cell for a target: each lane has one of its poses, at no charge.
+    pub fn gather_start(&mut self, start: &Line, poses: &[usize], target: &Line, step: Charge) {
+        self.live = 0;
+        let steps = start.steps(target, step);
+        for (lane, &pose) in poses.iter().enumerate() {
+            if let Some(end) = Self::end(start, pose, target) {
+                if self.live >> end & 1 == 0 {
+                    self.near[end] = [[NONE; L]; VARIANTS];
+                    self.far[end] = [NONE; L];
+                    self.live |= 1 << end;
+                }
+                self.far[end][lane] = 0.0;
+                let steps = steps[pose % VARIANTS];
+                for (near, steps) in self.near[end].iter_mut().zip(steps) {
+                    near[lane] = steps;
+                }
+            }
+        }
+        self.add_up();
+    }
+
+    /// Adds a source by its end site and what steps charge by the target's variant.
+    fn add(&mut self, row: &Lanes<L>, end: usize, steps: &[Charge; VARIANTS]) {
+        let far = &mut self.far[end];
+        // What ends four sites left of the target, or further, is near to none of its sites.
+        let near = if end > 0 {
+            &mut self.near[end][..]
+        } else {
+            &mut []
+        };
+        let near = near.iter_mut().zip(steps);
+        if self.live >> end & 1 == 0 {
+            self.live |= 1 << end;
+            *far = *row;
+            near.for_each(|(near, &steps)| set(near, row, steps));
+        } else {
+            lower(far, row);
+            near.for_each(|(near, &steps)| lower_with(near, row, steps));
         }
     }
 
-    fn add(&mut self, line: &Line, block: &Block<L>, target: &Line, step: i32) {
-        let mut live = block.live;
-        while live != 0 {
-            let pose = live.trailing_zeros() as usize;
-            live &= live - 1;
-            let end = (line.end(pose) - (target.first_site - 4)).max(0) as usize;
-            if end >= ENDS {
-                continue;
+    /// Makes `far` hold for all end sites further left, too.
+    fn add_up(&mut self) {
+        let mut before: Option<usize> = None;
+        for end in (0..ENDS).filter(|end| self.live >> end & 1 == 1) {
+            if let Some(before) = before {
+                let (left, right) = self.far.split_at_mut(end);
+                lower(&mut right[0], &left[before]);
             }
-            let row = &block.rows[pose];
-            lower(&mut self.far[end], row, 0);
-            if end > 0 {
-                for (variant, near) in self.near[end].iter_mut().enumerate() {
-                    let steps = line.steps(pose % VARIANTS, target, variant);
-                    lower(near, row, step * steps);
-                }
-            }
+            before = Some(end);
         }
     }
 }
 
-/// Lowers words to those of another row with a charge, where that is less.
-fn lower<const L: usize>(words: &mut Lanes<L>, row: &Lanes<L>, charge: i32) {
+/// The lesser of two charges, as processors have it: `f32::min` minds what is no number.
+pub fn least(one: Charge, other: Charge) -> Charge {
+    if one < other {
+        one
+    } else {
+        other
+    }
+}
+
+/// Sets charges to those of another row with one more charge.
+fn set<const L: usize>(charges: &mut Lanes<L>, row: &Lanes<L>, more: Charge) {
     for lane in 0..L {
-        words[lane] = words[lane].min(row[lane] + charge);
+        charges[lane] = row[lane] + more;
+    }
+}
+
+/// Lowers charges to those of another row, where they are less.
+pub fn lower<const L: usize>(charges: &mut Lanes<L>, row: &Lanes<L>) {
+    for lane in 0..L {
+        charges[lane] = least(charges[lane], row[lane]);
+    }
+}
+
+/// Lowers charges to those of another row with one more charge, where they are less.
+fn lower_with<const L: usize>(charges: &mut Lanes<L>, row: &Lanes<L>, more: Charge) {
+    for lane in 0..L {
+        charges[lane] = least(charges[lane], row[lane] + more);
     }
 }

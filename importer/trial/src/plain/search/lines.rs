@@ -6,7 +6,7 @@
 use super::super::gap::{is_charged, is_forbidden};
 use super::super::job::{Cell, Job};
 use super::super::placement::Pose;
-use super::NONE;
+use super::{Charge, NONE};
 
 pub const POSES: usize = 60;
 pub const VARIANTS: usize = 4;
@@ -28,10 +28,10 @@ pub struct Line {
     widths: [i32; 2],
     /// Where its row ends.
     row_end: i32,
+    /// The poses that are offered, in rising order.
+    pub poses: Vec<usize>,
     /// What each pose charges by itself: shift, mirroring, layout; [`NONE`] if it is not offered.
-    pub own: [i32; POSES],
-    /// 0 for each pose that is offered, [`NONE`] for the others.
-    pub offered: [i32; POSES],
+    pub own: [Charge; POSES],
     /// Heights P and N at either edge, by variant.
     left: [[u16; 2]; VARIANTS],
     right: [[u16; 2]; VARIANTS],
@@ -60,8 +60,8 @@ impl Line {
             first_site: i32::from(cell.given) - i32::from(job.displacement),
             widths: [0, 1].map(|layout: usize| cell.layout[layout].width.into()),
             row_end: job.sites.into(),
+            poses: Vec::new(),
             own: [NONE; POSES],
-            offered: [NONE; POSES],
             left: [[0; 2]; VARIANTS],
             right: [[0; 2]; VARIANTS],
         };
@@ -72,13 +72,16 @@ impl Line {
             line.right[variant] = edges[1 - (variant & 1)];
         }
         for pose in 0..VARIANTS * (2 * usize::from(job.displacement) + 1) {
-            line.own[pose] = line.own_charge(job, cell, pose);
+            if let Some(own) = line.own_charge(job, cell, pose) {
+                line.own[pose] = own;
+                line.poses.push(pose);
+            }
         }
-        line.offered = line.own.map(|own| if own < NONE { 0 } else { NONE });
         line
     }
 
-    fn own_charge(&self, job: &Job, cell: &Cell, pose: usize) -> i32 {
+    /// What a pose charges by itself, if it is offered.
+    fn own_charge(&self, job: &Job, cell: &Cell, pose: usize) -> Option<Charge> {
         let (layout, mark) = (pose >> 1 & 1, pose & 1);
         let site = self.site(pose);
         let shifted = (site - i32::from(cell.given)).abs();
@@ -87,13 +90,11 @@ impl Line {
             && shifted <= i32::from(job.displacement_of(cell))
             && site >= 0
             && self.end(pose) <= i32::from(job.sites);
-        if !offered {
-            return NONE;
-        }
         let weights = job.weights;
-        i32::from(weights.shift) * shifted
+        let charge = i32::from(weights.shift) * shifted
             + i32::from(weights.mirror) * mark as i32
-            + i32::from(weights.swap) * layout as i32
+            + i32::from(weights.swap) * layout as i32;
+        offered.then_some(charge as Charge)
     }
 
     pub fn site(&self, pose: usize) -> i32 {
@@ -124,23 +125,40 @@ impl Line {
         }
     }
 
-    /// Steps between this cell and its right neighbour, by their variants.
-    pub fn steps(&self, variant: usize, right: &Line, right_variant: usize) -> i32 {
-        let (here, there) = (self.right[variant], right.left[right_variant]);
-        i32::from(here[0] != there[0]) + i32::from(here[1] != there[1])
+    /// What steps between this cell and its right neighbour charge, by their variants.
+    pub fn steps(&self, right: &Line, step: Charge) -> [[Charge; VARIANTS]; VARIANTS] {
+        let mut charges = [[0.0; VARIANTS]; VARIANTS];
+        for (here, charges) in self.right.iter().zip(&mut charges) {
+            for (there, charge) in right.left.iter().zip(charges) {
+                *charge = step * steps(here, there);
+            }
+        }
+        charges
     }
 
     /// What stands between this cell and its right neighbour charges; none if the gap is not
     /// allowed.
-    pub fn between(&self, pose: usize, right: &Line, right_pose: usize, step: i32) -> Option<i32> {
+    pub fn between(
+        &self,
+        pose: usize,
+        right: &Line,
+        right_pose: usize,
+        step: Charge,
+    ) -> Option<Charge> {
         let gap = right.site(right_pose) - self.end(pose);
         if gap < 0 || is_forbidden(gap) {
             return None;
         }
         if !is_charged(gap) {
-            return Some(0);
+            return Some(0.0);
         }
-        let steps = self.steps(pose % VARIANTS, right, right_pose % VARIANTS);
-        Some(step * steps)
+        let here = &self.right[pose % VARIANTS];
+        let there = &right.left[right_pose % VARIANTS];
+        Some(step * steps(here, there))
     }
+}
+
+/// How many of the heights P and N differ between two edges.
+fn steps(here: &[u16; 2], there: &[u16; 2]) -> Charge {
+    (u8::from(here[0] != there[0]) + u8::from(here[1] != there[1])).into()
 }

@@ -20,19 +20,22 @@ use super::job::Job;
 use super::placement::Placement;
 use lines::Row;
 use pairs::Pairs;
-use tables::{cheapest_end, tables, whole_row};
+use tables::{cheapest_end, tables};
 use trace::trace;
 
-/// A charge that stands for "there is none". Every real cost is far below it, and the sum of a
-/// few of it still fits.
-const NONE: i32 = 1 << 28;
+/// A charge is a whole number. Even the dearest placement costs less than 2^20, so that an `f32`
+/// holds every sum exactly; and of these a processor finds the lesser, in several lanes at once, by
+/// one instruction.
+type Charge = f32;
+
+/// Stands for "there is none", whatever is added to it.
+const NONE: Charge = Charge::INFINITY;
 
 /// What every part of the search looks at.
 struct Board {
     rows: [Row; 2],
     pairs: Pairs,
-    step: i32,
-    displacement: i32,
+    step: Charge,
 }
 
 impl Board {
@@ -41,13 +44,13 @@ impl Board {
             rows: [0, 1].map(|row| Row::of(job, row)),
             pairs: Pairs::of(job.reordering.into()),
             step: job.weights.step.into(),
-            displacement: job.displacement.into(),
         }
     }
 
-    /// How many poses a cell has at most.
-    fn poses(&self) -> usize {
-        4 * (2 * self.displacement as usize + 1)
+    /// How many poses a tall cell has at most.
+    fn lanes(&self) -> usize {
+        let tall = self.rows[0].lines.iter().filter(|line| line.tall);
+        tall.map(|line| line.poses.len()).max().unwrap_or(0)
     }
 }
 
@@ -55,23 +58,19 @@ impl Board {
 pub fn cheapest(job: &Job) -> Option<Placement> {
     let board = Board::of(job);
     // A row of lanes has one for each pose of the tall cell that it starts from.
-    match board.poses() {
-        0..=32 => cheapest_with::<32>(job, &board),
-        _ => cheapest_with::<60>(job, &board),
+    match board.lanes() {
+        0..=16 => cheapest_with::<16>(job, &board),
+        17..=32 => cheapest_with::<32>(job, &board),
+        _ => cheapest_with::<64>(job, &board),
     }
 }
 
 fn cheapest_with<const L: usize>(job: &Job, board: &Board) -> Option<Placement> {
-    let tables = tables::<L>(board);
-    let last = match tables.last() {
-        Some(cases) => Some(cheapest_end(board, cases)?),
-        None => {
-            let [row_0, row_1] = board.rows.each_ref().map(|row| whole_row(board, row));
-            if row_0 + row_1 >= NONE {
-                return None;
-            }
-            None
+    match tables::<L>(board) {
+        Some((cases, sources)) => {
+            let last = cheapest_end(board, &cases)?;
+            trace(job, board, &sources, Some(last))
         }
-    };
-    Some(trace(job, board, &tables, last))
+        None => trace::<L>(job, board, &[], None),
+    }
 }

@@ -2,8 +2,8 @@
 
 use super::super::job::Job;
 use super::super::placement::{Placement, Pose};
-use super::lines::{Row, POSES};
-use super::stage::{Cases, Source};
+use super::lines::Row;
+use super::stage::{Source, Sources};
 use super::stretch::{Layer, Start, Stretch};
 use super::{Board, NONE};
 
@@ -15,70 +15,83 @@ struct Stop {
     pose: usize,
 }
 
-/// Walks back from the case of the last tall cell, stage by stage, and writes each cell's pose.
+/// Walks back from the case of the last tall cell, stage by stage, and writes each cell's pose. None
+/// if there is no way back, which can only be where there is no tall cell.
 pub fn trace<const L: usize>(
     job: &Job,
     board: &Board,
-    tables: &[Cases<L>],
+    tables: &[Sources<L>],
     last: Option<Source>,
-) -> Placement {
+) -> Option<Placement> {
     let mut placement = vec![Pose::default(); job.cells.len()];
     let pairs = board.pairs.list.len();
     let mut right: Option<Source> = None;
     let mut left = last;
     for tall in (0..=tables.len()).rev() {
         for (at, row) in board.rows.iter().enumerate() {
-            let stop = |case: Source, tall: usize| Stop {
-                place: row.tall[tall],
-                pair: case.pairs[at],
-                pose: case.pose,
+            let stop = |case: Source, tall: usize| {
+                let place = row.tall[tall];
+                Stop {
+                    place,
+                    pair: case.pairs[at].into(),
+                    pose: row.lines[place].poses[usize::from(case.lane)],
+                }
             };
             let from = left.map(|case| stop(case, tall - 1));
             let to = right.map(|case| stop(case, tall));
-            walk(board, row, from, to, &mut placement);
+            walk(board, row, from, to, &mut placement)?;
         }
         right = left;
         left = match left {
             Some(case) if tall >= 2 => {
-                let [pair_0, pair_1] = case.pairs;
-                let sources = &tables[tall - 1].sources[pair_0 * pairs + pair_1];
-                Some(sources[case.pose])
+                let [pair_0, pair_1] = case.pairs.map(usize::from);
+                let sources = &tables[tall - 1][pair_0 * pairs + pair_1];
+                Some(sources[usize::from(case.lane)])
             }
             _ => None,
         };
     }
-    placement
+    Some(placement)
 }
 
 /// Runs one stretch again with all its layers kept, and writes the poses of its cells, and of the
 /// tall cell at its right end, from right to left.
-fn walk(board: &Board, row: &Row, from: Option<Stop>, to: Option<Stop>, placement: &mut [Pose]) {
+fn walk(
+    board: &Board,
+    row: &Row,
+    from: Option<Stop>,
+    to: Option<Stop>,
+    placement: &mut [Pose],
+) -> Option<()> {
+    let poses = from.map_or([0], |stop| [stop.pose]);
     let mut stretch = Stretch::<1>::new(board, row);
-    let start = match from {
+    stretch.begin(match from {
         None => Start::Edge,
-        Some(Stop { place, pair, .. }) => Start::Tall { place, pair },
-    };
-    stretch.begin(start, from.map(|stop| stop.pose).into_iter());
+        Some(Stop { place, pair, .. }) => Start::Tall {
+            place,
+            pair,
+            poses: &poses,
+        },
+    });
     let cells_to = |stop: Stop| board.pairs.cells_at(stop.place, stop.pair).unwrap_or(0);
     let end = to.map_or(row.lines.len(), |stop| cells_to(stop).saturating_sub(1));
     let mut layers = Vec::new();
     while stretch.layer.cells < end {
-        stretch.advance(None, &mut []);
+        stretch.advance(None);
         layers.push(stretch.layer.clone());
     }
-    let mut right = to;
-    write(row, right, placement);
-    for layer in layers.iter().rev() {
-        right = source(board, row, layer, right);
-        write(row, right, placement);
-    }
-}
-
-fn write(row: &Row, stop: Option<Stop>, placement: &mut [Pose]) {
-    if let Some(stop) = stop {
+    let mut write = |stop: Stop| {
         let line = &row.lines[stop.place];
         placement[line.cell] = line.pose(stop.pose);
+    };
+    to.into_iter().for_each(&mut write);
+    let mut right = to;
+    for layer in layers.iter().rev() {
+        let stop = source(board, row, layer, right)?;
+        write(stop);
+        right = Some(stop);
     }
+    Some(())
 }
 
 /// The last cell of a layer from which the next cell, or the row's end, is reached at the least
@@ -89,7 +102,7 @@ fn source(board: &Board, row: &Row, layer: &Layer<1>, right: Option<Stop>) -> Op
     let between = |place: usize, pose: usize| {
         let line = row.lines.get(place)?;
         match right {
-            None => line.may_close(pose).then_some(0),
+            None => line.may_close(pose).then_some(0.0),
             Some(stop) => line.between(pose, &row.lines[stop.place], stop.pose, board.step),
         }
     };
@@ -100,8 +113,8 @@ fn source(board: &Board, row: &Row, layer: &Layer<1>, right: Option<Stop>) -> Op
         let Some(place) = place.filter(|_| pairs.list[pair].marks == marks) else {
             continue;
         };
-        for pose in 0..POSES {
-            let charge = block.at(pose, 0) + between(place, pose).unwrap_or(NONE);
+        for (pose, &[charge]) in block.rows(&layer.rows) {
+            let charge = charge + between(place, pose).unwrap_or(NONE);
             if charge < least {
                 least = charge;
                 best = Some(Stop { place, pair, pose });
