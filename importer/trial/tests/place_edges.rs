@@ -70,6 +70,37 @@ fn costs() {
     }
 }
 
+/// A6, by hand. Three cells of width 1 fill a row of three sites. Only from cell 2 to 3 and from 3 to
+/// 1 heights are equal; any other neighbours have two steps, which cost 200. In file order that is
+/// 200. In the order 2, 3, 1 there are none, and four sites are shifted; cell 1 moves by two places.
+#[test]
+fn reordering_by_two() {
+    let singles = "C,0,1,0,1,1,3,3,4,4\nC,0,2,0,1,1,4,4,1,1\n";
+    let first = ["C,0,0,0,1,1,1,1,2,2\n", "C,2,0,0,1,1,1,1,2,2,1,1,2,2\n"];
+    for first in first {
+        let job = |reordering: u32| format!("J,2,3,2,{reordering},100,1,0,0\n{first}{singles}");
+        let mut store = vec![7; 4_194_304];
+        for (reordering, cost, text) in [
+            (0, 200, "0,0,0\n1,0,0\n2,0,0\n"),
+            (1, 200, "0,0,0\n1,0,0\n2,0,0\n"),
+            (2, 4, "2,0,0\n0,0,0\n1,0,0\n"),
+        ] {
+            let mut output = [0; 27];
+            let placed = place(job(reordering).as_bytes(), &mut store, &mut output);
+            let placed = placed.map(|placed| (placed.numbers.cost, placed.text_length));
+            assert_eq!(placed, Ok((cost, text.len())), "{}", job(reordering));
+            assert_eq!(&output[..text.len()], text.as_bytes());
+        }
+    }
+    // Two tall cells keep their order with any R, even at the cost of two steps in each row.
+    let tall = "C,2,0,0,1,1,1,1,2,2,1,1,2,2\nC,2,0,0,1,1,3,3,1,1,3,3,1,1\n";
+    let two = format!("J,2,2,1,2,100,1,0,0\n{tall}");
+    let mut output = [0; 18];
+    let placed = place(two.as_bytes(), &mut vec![7; 4_194_304], &mut output);
+    assert_eq!(placed.map(|placed| placed.numbers.cost), Ok(401));
+    assert_eq!(&output[..12], b"0,0,0\n1,0,0\n");
+}
+
 /// Rule 8 (A1): by hand.
 #[test]
 fn row_ends() {

@@ -2,7 +2,7 @@
 //! plain search.
 
 use trial::generate::legal::{Shape, HEAVY};
-use trial::generate::{legal, placements, Random};
+use trial::generate::{jobs, legal, placements, Random};
 use trial::lender::Lender;
 use trial::plain::job::{Job, MOST_REORDERING};
 use trial::plain::local::improve;
@@ -41,21 +41,27 @@ fn on_the_heaviest_jobs() {
         let known = given_rows(&job);
         compare(&mut lender, &job, known);
     };
-    for tall in [0, 1, 8, 12, 24] {
-        for most_width in [1, 2, 12] {
-            place(Shape {
-                tall,
-                most_width,
-                ..HEAVY
-            });
+    for reordering in [1, 2] {
+        let heavy = Shape {
+            reordering,
+            ..HEAVY
+        };
+        for tall in [0, 1, 8, 12, 24] {
+            for most_width in [1, 2, 12] {
+                place(Shape {
+                    tall,
+                    most_width,
+                    ..heavy
+                });
+            }
         }
+        place(Shape {
+            rows: 1,
+            tall: 0,
+            ..heavy
+        });
+        place(Shape { cells: 24, ..heavy });
     }
-    place(Shape {
-        rows: 1,
-        tall: 0,
-        ..HEAVY
-    });
-    place(Shape { cells: 24, ..HEAVY });
     place(Shape {
         reordering: 0,
         ..HEAVY
@@ -79,8 +85,11 @@ fn on_heavy_jobs_with_fixed_cells() {
                 let fixed_in_ten = if cell.is_tall() { of_tall } else { of_single };
                 cell.fixed = random.chance(fixed_in_ten, 10);
             }
-            let known = given_rows(&job);
-            compare(&mut lender, &job, known);
+            for reordering in [1, 2] {
+                job.reordering = reordering;
+                let known = given_rows(&job);
+                compare(&mut lender, &job, known);
+            }
         }
     }
 }
@@ -89,16 +98,41 @@ fn on_heavy_jobs_with_fixed_cells() {
 fn on_every_mix() {
     let mut random = Random::new(42);
     let mut lender = Lender::default();
-    let (mut compared, mut fixed) = (0, 0);
-    while compared < 300 {
+    let (mut compared, mut fixed) = ([0; 3], 0);
+    while compared.iter().sum::<usize>() < 500 {
         let (job, known) = placements::job_with_legal_placement(&mut random);
         if verdict(&job, &known).is_ok() {
             fixed += usize::from(job.fixed_cells() > 0);
             compare(&mut lender, &job, known);
-            compared += 1;
+            compared[usize::from(job.reordering)] += 1;
         }
     }
-    assert!(fixed > 80, "{fixed} have fixed cells");
+    assert!(fixed > 130, "{fixed} have fixed cells");
+    assert!(compared.iter().all(|&jobs| jobs > 120), "{compared:?} by R");
+}
+
+/// Large jobs with R 2 (A6), dense and narrow so that many cells have room to pass each other.
+#[test]
+fn on_dense_jobs_with_reordering_by_two() {
+    let mut random = Random::new(45);
+    let mut lender = Lender::default();
+    for _ in 0..200 {
+        let cells = 16 + random.below(49);
+        let shape = Shape {
+            cells,
+            tall: random.pick(&[0, 1, cells / 8, cells / 4, cells * 3 / 8]),
+            early: random.below(cells),
+            most_width: random.from_to(1, 3),
+            displacement: random.from_to(1, 7),
+            reordering: 2,
+            gaps: random.pick(&[&[0], &[0, 0, 2], HEAVY.gaps]),
+            ..HEAVY
+        };
+        let mut job = legal::job(&mut random, &shape);
+        job.weights = jobs::weights(&mut random);
+        let known = given_rows(&job);
+        compare(&mut lender, &job, known);
+    }
 }
 
 /// Most given rows have one empty site before a first cell or behind a last one, and keep all other

@@ -21,6 +21,33 @@ struct Seen {
     /// Those of them that have no legal placement.
     none_by_ends: usize,
     fixed: Fixed,
+    reordered: Reordered,
+}
+
+/// What was seen of reordering, by R.
+#[derive(Debug, Default)]
+struct Reordered {
+    jobs: [usize; 3],
+    /// Jobs that would be placed at more cost, or not at all, with an R less by one.
+    cheaper: [usize; 3],
+    /// Those of them that would not be placed.
+    placed: [usize; 3],
+}
+
+impl Reordered {
+    /// Counts a job with its least cost.
+    fn count(&mut self, job: &Job, cost: Option<u32>) {
+        let limit = usize::from(job.reordering);
+        self.jobs[limit] += 1;
+        if let Some(reordering) = job.reordering.checked_sub(1) {
+            let closer = plain_cost(Job {
+                reordering,
+                ..job.clone()
+            });
+            self.cheaper[limit] += usize::from(closer != cost);
+            self.placed[limit] += usize::from(closer.is_none() && cost.is_some());
+        }
+    }
 }
 
 /// What was seen of fixed cells.
@@ -69,8 +96,13 @@ impl Fixed {
 fn least_if_free(job: &Job) -> Option<u32> {
     let mut free = job.clone();
     free.cells.iter_mut().for_each(|cell| cell.fixed = false);
-    let placement = cheapest(&free)?;
-    verdict(&free, &placement).ok().map(|numbers| numbers.cost)
+    plain_cost(free)
+}
+
+/// The least cost by the plain search.
+fn plain_cost(job: Job) -> Option<u32> {
+    let placement = cheapest(&job)?;
+    verdict(&job, &placement).ok().map(|numbers| numbers.cost)
 }
 
 /// Compares the jobs of one seed.
@@ -89,6 +121,7 @@ fn compare(seed: u64, draw: fn(&mut Random) -> Job) -> Seen {
         seen.ends += usize::from(ends);
         seen.none_by_ends += usize::from(least.cost.is_none() && ends);
         seen.fixed.count(&job, least.cost);
+        seen.reordered.count(&job, least.cost);
     }
     seen
 }
@@ -114,6 +147,18 @@ fn has_the_least_cost() {
             && some.iter().zip(enough).all(|(some, enough)| *some > enough)
     };
     compare_all(&[31, 32, 33], small::job, met);
+}
+
+/// Each R is as frequent as the others, and cells have reason to pass each other (A6).
+#[test]
+fn has_the_least_cost_with_each_reordering() {
+    let met = |seen: &Seen| {
+        let Reordered { jobs, cheaper, .. } = &seen.reordered;
+        jobs.iter().all(|&jobs| jobs > JOBS * 3 / 10)
+            && cheaper[1] > JOBS / 15
+            && cheaper[2] > JOBS / 40
+    };
+    compare_all(&[45, 46, 47, 48], small::job_to_reorder, met);
 }
 
 /// Rows have just one empty site before their first cell or behind their last as often as not.

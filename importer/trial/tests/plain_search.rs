@@ -36,9 +36,10 @@ fn has_the_least_cost() {
         let any = scope.spawn(|| compare(61, small::job));
         let ends = scope.spawn(|| compare(62, small::job_with_row_ends));
         let fixed = scope.spawn(|| compare(63, small::job_with_fixed_cells));
-        let runs = [any, ends, fixed];
+        let reordered = scope.spawn(|| compare(64, small::job_to_reorder));
+        let runs = [any, ends, fixed, reordered];
         let met = runs.map(|run| run.join().expect("the jobs of each seed agree"));
-        let least = [JOBS / 6, JOBS / 3, JOBS / 20];
+        let least = [JOBS / 6, JOBS / 3, JOBS / 20, JOBS / 10];
         assert!(
             met.iter().zip(least).all(|(&met, least)| met > least),
             "{met:?}"

@@ -127,6 +127,13 @@ fn rule_6() {
         "4,0,0\n2,0,0\n3,0,0\n",
         "order moved too far: cell 1.",
     );
+    // With R 2 it may pass two, but not three.
+    check(&row(2, 3), "4,0,0\n2,0,0\n3,0,0\n", "legal.");
+    check(
+        &row(2, 4),
+        "5,0,0\n2,0,0\n3,0,0\n4,0,0\n",
+        "order moved too far: cell 1.",
+    );
     let all = "order moved too far: cell 1, cell 2, cell 3.";
     check(&row(0, 3), "4,0,0\n2,0,0\n3,0,0\n", all);
     // The tall cell 3 has passed cell 1 of row 0, or of row 1; in the other row cells 2, 3 and 4 stay

@@ -150,8 +150,32 @@ fn reordering() {
     work_through(&[
         ("R 1", &job("1", single), swapped, exchanged),
         ("R 0", &job("0", single), swapped, broken(6, 1)),
+        ("R 2", &job("2", single), swapped, exchanged),
+        ("tall, R 2", &job("2", tall), swapped, broken(7, 1)),
         ("tall, R 1", &job("1", tall), swapped, broken(7, 1)),
         ("tall, R 0", &job("0", tall), swapped, broken(6, 1)),
+    ]);
+}
+
+/// A6. The first of some cells of width 1, all given at site 0, stands behind the others, each of which
+/// has moved by one place.
+#[test]
+fn reordering_by_two() {
+    let job = |reordering: u32, cells: usize| {
+        let cell = "C,0,0,0,1,1,1,1,1,1\n";
+        format!("J,1,{cells},7,{reordering},0,0,0,0\n{}", cell.repeat(cells))
+    };
+    let three = "2,0,0\n0,0,0\n1,0,0\n";
+    let four = "3,0,0\n0,0,0\n1,0,0\n2,0,0\n";
+    // Three sites are shifted in all, by three cells.
+    let legal = Said::Legal {
+        cost: 0,
+        drift: 100,
+    };
+    work_through(&[
+        ("R 2, two passed", &job(2, 3), three, legal),
+        ("R 1, two passed", &job(1, 3), three, broken(6, 1)),
+        ("R 2, three passed", &job(2, 4), four, broken(6, 1)),
     ]);
 }
 

@@ -1,7 +1,7 @@
 //! Small jobs, for which all placements can be tried.
 
 use super::{jobs, placements, Random};
-use crate::plain::job::{Cell, Job, MOST_REORDERING, TALL};
+use crate::plain::job::{Cell, Job, Weights, MOST_REORDERING, TALL};
 
 /// The most placements, legal or not, that a small job has.
 const MOST_PLACEMENTS: usize = 1_000_000;
@@ -41,6 +41,46 @@ pub fn job(random: &mut Random) -> Job {
     }
     let room = random.from_to(1, most_width + 3);
     job.sites = highest[0].max(highest[1]) + room;
+    job
+}
+
+/// A job of 3 to 7 cells of widths 1 and 2 with D from 1 to 3, on rows with little room: cells may
+/// pass each other, few may be changed otherwise, and steps weigh more than shifts.
+pub fn job_to_reorder(random: &mut Random) -> Job {
+    let rows = random.from_to(1, 2);
+    let most_width = random.from_to(1, 2);
+    let mut job = Job {
+        rows,
+        displacement: random.from_to(1, 3),
+        reordering: random.from_to(0, MOST_REORDERING),
+        weights: Weights {
+            step: random.pick(&[10, 1000]),
+            shift: random.pick(&[0, 1, 3]),
+            ..jobs::weights(random)
+        },
+        ..Job::default()
+    };
+    let tall_in_ten = random.pick(&[0, 2, 5]);
+    let mut highest = [0; 2];
+    let mut tries = 1;
+    for _ in 0..3 + random.below(5) {
+        let tall = rows == 2 && random.chance(tall_in_ten, 10);
+        let row = if tall {
+            TALL
+        } else {
+            random.from_to(0, rows - 1)
+        };
+        let layouts = random.pick(&[1, 1, 1, 2]);
+        let mut cell = jobs::cell_with_layouts(random, row, layouts, most_width, 3);
+        cell.mirrorable = random.chance(1, 4);
+        tries *= poses(&job, &cell);
+        if tries > MOST_PLACEMENTS {
+            break;
+        }
+        cell.given = jobs::next_given(&mut highest, &cell, random.pick(&[0, 1, 1, 2]));
+        job.cells.push(cell);
+    }
+    job.sites = highest[0].max(highest[1]) + random.from_to(1, most_width + 2);
     job
 }
 

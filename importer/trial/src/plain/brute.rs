@@ -1,9 +1,10 @@
 //! The least cost of a legal placement, by trying them all.
 //!
 //! Poses that break rules 1 to 3 by themselves are not tried, nor are cells on top of earlier
-//! ones, nor what already costs too much; every placement that is left is scored whole.
+//! ones, nor what already costs too much, by the cells themselves and the steps where they touch;
+//! every placement that is left is scored whole.
 
-use super::cost::numbers;
+use super::cost::{numbers, steps_between};
 use super::job::{Cell, Job};
 use super::order::Order;
 use super::placement::{Placement, Pose};
@@ -82,9 +83,12 @@ struct Search<'a> {
 }
 
 impl Search<'_> {
-    /// Tries all poses of the next cell, where the earlier ones cost so much by themselves.
+    /// Tries all poses of the next cell, where the earlier ones already cost so much.
     fn place_next(&mut self, cost: u32) {
         let cell = self.placement.len();
+        if self.least.cost.is_some_and(|least| cost >= least) {
+            return;
+        }
         if cell == self.job.cells.len() {
             self.score();
             return;
@@ -96,11 +100,29 @@ impl Search<'_> {
                 return;
             }
             if !self.overlaps(cell, &offer.pose) {
+                let steps = self.touching_steps(cell, &offer.pose);
                 self.placement.push(offer.pose);
-                self.place_next(cost);
+                self.place_next(cost + u32::from(self.job.weights.step) * steps);
                 self.placement.pop();
             }
         }
+    }
+
+    /// Steps between a cell in a pose and earlier cells that it touches: nothing comes between them.
+    fn touching_steps(&self, cell: usize, pose: &Pose) -> u32 {
+        let placed = (&self.job.cells[cell], pose);
+        let mut steps = 0;
+        for other in self.job.cells.iter().zip(&self.placement) {
+            let rows = other.0.rows().filter(|row| placed.0.rows().contains(row));
+            for row in rows {
+                if other.1.end(other.0) == pose.site {
+                    steps += steps_between(other, placed, row);
+                } else if pose.end(placed.0) == other.1.site {
+                    steps += steps_between(placed, other, row);
+                }
+            }
+        }
+        steps
     }
 
     /// Scores a whole placement.

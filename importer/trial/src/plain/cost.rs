@@ -1,7 +1,7 @@
 //! What a legal placement costs.
 
 use super::gap::is_charged;
-use super::job::Job;
+use super::job::{Cell, Job};
 use super::order::Order;
 use super::placement::Pose;
 
@@ -53,8 +53,19 @@ pub fn numbers(job: &Job, placement: &[Pose], rows: &[Order; 2]) -> Numbers {
 }
 
 fn row_steps(job: &Job, placement: &[Pose], order: &Order, row: usize) -> u32 {
-    let edge = |cell: u8, right: bool| {
-        let (cell, pose) = (&job.cells[usize::from(cell)], &placement[usize::from(cell)]);
+    let placed = |cell: u8| (&job.cells[usize::from(cell)], &placement[usize::from(cell)]);
+    let mut steps = 0;
+    for (left, right) in order.neighbours() {
+        if is_charged(i32::from(right.site - left.end)) {
+            steps += steps_between(placed(left.cell), placed(right.cell), row);
+        }
+    }
+    steps
+}
+
+/// How many of the facing heights of two cells, the first on the left, differ in a row.
+pub fn steps_between(left: (&Cell, &Pose), right: (&Cell, &Pose), row: usize) -> u32 {
+    let edge = |(cell, pose): (&Cell, &Pose), right: bool| {
         let [left_p, left_n, right_p, right_n] = pose.layout_of(cell).heights[row];
         if right != (pose.mark == 1) {
             [right_p, right_n]
@@ -62,16 +73,9 @@ fn row_steps(job: &Job, placement: &[Pose], order: &Order, row: usize) -> u32 {
             [left_p, left_n]
         }
     };
-    let mut steps = 0;
-    for (left, right) in order.neighbours() {
-        let [left_p, left_n] = edge(left.cell, true);
-        let [right_p, right_n] = edge(right.cell, false);
-        let differing = u32::from(left_p != right_p) + u32::from(left_n != right_n);
-        if is_charged(i32::from(right.site - left.end)) {
-            steps += differing;
-        }
-    }
-    steps
+    let [left_p, left_n] = edge(left, true);
+    let [right_p, right_n] = edge(right, false);
+    u32::from(left_p != right_p) + u32::from(left_n != right_n)
 }
 
 /// A sum over so many cells, in hundredths, rounded to nearest with halves away from zero.
