@@ -1,14 +1,15 @@
 //! How Place's time grows with cells, tall cells, D and R, beside the table words that it fills.
 
 use crate::clock;
-use importer::{OUTPUT_BYTES, STORE_WORDS};
+use importer::OUTPUT_BYTES;
 use std::hint::black_box;
 use trial::generate::legal::{Shape, HEAVY};
 use trial::generate::{legal, Random};
+use trial::lender::store_words;
 use trial::plain::job::Job;
 use trial::plain::search::pairs::Pairs;
 
-/// The shape that the others differ from in one number.
+/// The shape that the others differ from in R and one more number.
 const MIDDLE: Shape = Shape {
     tall: 12,
     most_width: 2,
@@ -31,20 +32,26 @@ pub fn show() {
         displacement,
         ..MIDDLE
     });
-    let reordering = [0, 1].map(|reordering| Shape {
-        reordering,
-        ..MIDDLE
-    });
-    for group in [&cells[..], &tall, &displacement, &reordering] {
-        group.iter().for_each(show_one);
-        println!();
+    let all = [&cells[..], &tall, &displacement];
+    for reordering in [1, 2] {
+        for group in all {
+            group.iter().for_each(|shape| show_one(shape, reordering));
+            println!();
+        }
+    }
+    for reordering in [0, 1, 2] {
+        show_one(&MIDDLE, reordering);
     }
 }
 
-fn show_one(shape: &Shape) {
-    let job = legal::job(&mut Random::new(2), shape);
+fn show_one(shape: &Shape, reordering: u16) {
+    let shape = Shape {
+        reordering,
+        ..*shape
+    };
+    let job = legal::job(&mut Random::new(2), &shape);
     let words = table_words(&job);
-    let time = place_time(&job.text());
+    let time = place_time(&job);
     println!(
         "{:>6}{:>6}{:>4}{:>4}{:>14}{:>9.0} us{:>9.2} ns",
         shape.cells,
@@ -58,8 +65,9 @@ fn show_one(shape: &Shape) {
 }
 
 /// Microseconds of a call of Place.
-fn place_time(job: &[u8]) -> f64 {
-    let mut store = vec![0; STORE_WORDS];
+fn place_time(job: &Job) -> f64 {
+    let mut store = vec![0; store_words(job)];
+    let job = &job.text()[..];
     let mut output = [0; OUTPUT_BYTES];
     let mut results = [0; 9];
     clock::best_of(&mut || {

@@ -1,10 +1,11 @@
-//! Place: heavy jobs and a typical one, and a heavy one with many fixed cells.
+//! Place: heavy jobs and a typical one, with R 1 and with R 2, and a heavy one with many fixed cells.
 
 use crate::clock;
-use importer::{OUTPUT_BYTES, STORE_WORDS};
+use importer::OUTPUT_BYTES;
 use std::hint::black_box;
 use trial::generate::legal::{Shape, HEAVY};
 use trial::generate::{legal, Random};
+use trial::lender::store_words;
 use trial::plain::job::Job;
 use trial::plain::placement::text_of;
 use trial::plain::reader::read_job;
@@ -16,13 +17,7 @@ const JOBS: [(&str, Shape); 8] = [
     ("64 cells, 24 tall, dense and narrow", narrow(64, 24)),
     ("64 cells, 12 tall, widths 1 and 2", narrow(64, 12)),
     ("64 cells, 8 tall, widths 1 and 2", narrow(64, 8)),
-    (
-        "64 single cells in one row",
-        Shape {
-            rows: 1,
-            ..narrow(64, 0)
-        },
-    ),
+    ("64 single cells in one row", SINGLES),
     (
         "60 single cells in one row",
         Shape {
@@ -30,23 +25,43 @@ const JOBS: [(&str, Shape); 8] = [
             ..narrow(60, 0)
         },
     ),
-    (
-        "64 cells, 6 tall, D 3",
-        Shape {
-            tall: 6,
-            displacement: 3,
-            ..HEAVY
-        },
-    ),
-    (
-        "16 cells, 4 tall",
-        Shape {
-            cells: 16,
-            tall: 4,
-            ..HEAVY
-        },
-    ),
+    ("64 cells, 6 tall, D 3", FEW_TALL),
+    ("16 cells, 4 tall", TYPICAL),
 ];
+
+/// Those with R 2.
+const BY_TWO: [(&str, Shape); 7] = [
+    ("64 cells, 24 tall, dense and wide", HEAVY),
+    (
+        "64 cells, 24 tall, widths 1 to 3",
+        Shape {
+            most_width: 3,
+            ..narrow(64, 24)
+        },
+    ),
+    ("64 cells, 12 tall, widths 1 and 2", narrow(64, 12)),
+    ("64 cells, 8 tall, widths 1 and 2", narrow(64, 8)),
+    ("64 single cells in one row", SINGLES),
+    ("64 cells, 6 tall, D 3", FEW_TALL),
+    ("16 cells, 4 tall", TYPICAL),
+];
+
+const SINGLES: Shape = Shape {
+    rows: 1,
+    ..narrow(64, 0)
+};
+
+const FEW_TALL: Shape = Shape {
+    tall: 6,
+    displacement: 3,
+    ..HEAVY
+};
+
+const TYPICAL: Shape = Shape {
+    cells: 16,
+    tall: 4,
+    ..HEAVY
+};
 
 /// Cells of widths 1 and 2 without gaps.
 const fn narrow(cells: usize, tall: usize) -> Shape {
@@ -76,12 +91,18 @@ const FIXED: [(&str, Fixed); 3] = [
 pub fn compare() {
     for (what, shape) in &JOBS {
         let job = legal::job(&mut Random::new(2), shape);
-        compare_on(&format!("Place, {what}"), &job.text());
+        compare_on(&format!("Place, {what}"), &job);
     }
     let job = legal::job(&mut Random::new(2), &narrow(64, 24));
     println!("64 cells, 24 tall, dense and narrow:");
     for (what, fixed) in FIXED {
-        compare_on(&format!("Place, {what}"), &with_fixed(&job, fixed).text());
+        compare_on(&format!("Place, {what}"), &with_fixed(&job, fixed));
+    }
+    println!("With R 2:");
+    for (what, shape) in &BY_TWO {
+        let mut job = legal::job(&mut Random::new(2), shape);
+        job.reordering = 2;
+        compare_on(&format!("Place, {what}"), &job);
     }
 }
 
@@ -102,15 +123,17 @@ fn with_fixed(job: &Job, fixed: Fixed) -> Job {
 
 /// Both read the text and end with the placement's text and numbers. Place leaves its store all
 /// zero, so the plain search clears as large a one.
-fn compare_on(what: &str, job: &[u8]) {
-    let mut store = vec![0; STORE_WORDS];
+fn compare_on(what: &str, job: &Job) {
+    let words = store_words(job);
+    let job = &job.text()[..];
+    let mut store = vec![0; words];
     let mut output = [0; OUTPUT_BYTES];
     let mut results = [0; 9];
     let refiner = || {
         let (store, output) = black_box((&mut store, &mut output));
         importer::calls::place(black_box(job), store, output, black_box(&mut results));
     };
-    let mut plain_store = vec![0_u32; STORE_WORDS];
+    let mut plain_store = vec![0_u32; words];
     let plain = || {
         black_box(&mut plain_store).fill(0);
         let job = read_job(black_box(job)).ok();
