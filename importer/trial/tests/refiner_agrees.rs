@@ -25,7 +25,10 @@ impl Seen {
         match answer {
             Ok(_) => self.placed += 1,
             Err(refused) if refused.number == 8 => self.none += 1,
-            Err(_) => self.refused += 1,
+            Err(refused) => {
+                assert_ne!(refused.number, 6, "the store suffices for any R");
+                self.refused += 1;
+            }
         }
         let alone = refine(job);
         assert_eq!(answer.map(|answer| answer.to_refined()), alone);
