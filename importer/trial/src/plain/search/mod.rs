@@ -3,12 +3,17 @@
 //! A row from left to right is a list of cells in which each stands at most R places from its
 //! place in file order. After i cells the state of a row is which cells of a small window are
 //! placed and which of them is the last (a [`pairs::Pair`]), and the last one's pose. Between two
-//! tall cells a row is a stretch of single cells (`stretch`); the rows meet at the tall cells, so a
-//! case of a tall cell is its pose and its pair in each row (`stage`, `tables`). A row's first cell
-//! must be one that may open it, and its last one that may close it, by rule 8 (`lines`). `trace`
-//! walks back from the cheapest end.
+//! tall cells a row is a stretch of single cells (`stretch`, `gathered`, `block`); the rows meet at
+//! the tall cells, so a case of a tall cell is its pose and its pair in each row (`stage`, `join`,
+//! `tables`). A row's first cell must be one that may open it, and its last one that may close it,
+//! by rule 8 (`lines`). `trace` walks back from the cheapest end.
+//!
+//! Most states are dead at once, since cells move little: rows of charges stand only for poses that
+//! are reached, and only these are looked at.
 
 mod block;
+mod gathered;
+mod join;
 mod lines;
 pub mod pairs;
 mod stage;

@@ -1,6 +1,7 @@
 //! A stretch of single cells in one row, layer by layer, for many starts at once.
 
-use super::block::{lower, Block, Gathered, Lanes, Rows};
+use super::block::{lower, Block, Lanes, Rows};
+use super::gathered::Gathered;
 use super::lines::{Line, Row, POSES};
 use super::{Board, Charge, NONE};
 

@@ -1,7 +1,8 @@
 //! The cases of all tall cells, and the cheapest end.
 
+use super::join::join;
 use super::lines::Row;
-use super::stage::{join, Cases, Prices, Source, Sources};
+use super::stage::{Cases, Prices, Source, Sources};
 use super::stretch::{Start, Stretch};
 use super::{Board, NONE};
 
