@@ -5,10 +5,7 @@ use crate::plain::cost::Numbers;
 use crate::plain::job::Job;
 use crate::plain::placement::read_placement;
 use crate::plain::scorer::verdict;
-use importer::STORE_WORDS;
-
-/// How many words of store Place needs for a job with R 2.
-pub const STORE_WORDS_BY_TWO: usize = 4_194_304;
+use importer::{STORE_WORDS, STORE_WORDS_BY_TWO};
 
 /// How many words of store Place needs for a job (A6).
 pub fn store_words(job: &Job) -> usize {

@@ -1,9 +1,9 @@
 //! What the fill engineer asks of a placed row (A1): wherever sites are empty, between cells and at
 //! the row's ends, they are two or more. Rows are looked at site by site.
 
-use importer::{place, Placed, OUTPUT_BYTES};
+use importer::{place, Placed, OUTPUT_BYTES, STORE_WORDS_BY_TWO};
 use trial::generate::{placements, small, Random};
-use trial::lender::{store_words, STORE_WORDS_BY_TWO};
+use trial::lender::store_words;
 use trial::plain::job::{Cell, Job};
 
 /// The sites of a row that a placement text takes, from left to right.

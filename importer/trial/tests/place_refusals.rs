@@ -1,8 +1,9 @@
 //! Place's refusals 1 to 7 on damaged texts and small buffers, with every length of results.
 
+use importer::STORE_WORDS_BY_TWO;
 use trial::generate::damage::Damage;
 use trial::generate::{jobs, Random};
-use trial::lender::{store_words, STORE_WORDS_BY_TWO};
+use trial::lender::store_words;
 use trial::lent::Arrays;
 use trial::plain::reader::read_job;
 
