@@ -106,4 +106,9 @@ fn reordering_by_two_closes_the_steps() {
     let by_one = refine(by_one.as_bytes()).expect("a placement exists");
     assert_eq!(by_one.numbers.fields(), "200,2,0,0,0,0");
     assert_eq!(by_one.text, b"0,0,0\n2,0,0\n5,0,0\n7,0,0\n");
+    assert!(README.contains(&shown(REORDER)), "README lacks the job");
+    let told = shown(&format!("$ refine examples/reorder.job\n{output}"));
+    assert!(README.contains(&told), "README lacks the answer with R 2");
+    let told = shown("200,2,0,0,0,0\n0,0,0\n2,0,0\n5,0,0\n7,0,0\n");
+    assert!(README.contains(&told), "README lacks the answer with R 1");
 }
