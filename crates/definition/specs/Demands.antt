@@ -32,47 +32,55 @@ pub record Shape : Type 0 where
   pub led : Bool
   pub fieldCount : ℕ
 
--- "1 to 4"; "1 to 4 as Read does, then 5"; "1 to 4; then 6 [..]; then 7 [..]; then 8". "Line is 0 for 6, 7 and 8."
--- "After 8 or an answer the whole store is zero."
+-- "1 to 4"; "1 to 4 as Read does, then 5": each of these names a line
+abbrev pub byRead : List ℕ
+byRead = 1 ∷ 2 ∷ 3 ∷ 4 ∷ []
+
+abbrev pub byScore : List ℕ
+byScore = byRead ++ (5 ∷ [])
+
 abbrev pub readShape : Shape
 readShape = record {
   answers = 0 ∷ [];
-  refusals = 1 ∷ 2 ∷ 3 ∷ 4 ∷ [];
-  lined = 1 ∷ 2 ∷ 3 ∷ 4 ∷ [];
+  refusals = byRead;
+  lined = byRead;
   searched = [];
   led = true;
   fieldCount = readFieldCount;
 }
 
-abbrev pub scoreShape : Shape
-scoreShape = record {
+-- Score and Place have so many numbers as the job text says (A7).
+abbrev pub scoreShape : ℕ → Shape
+scoreShape n = record {
   answers = 0 ∷ [];
-  refusals = 1 ∷ 2 ∷ 3 ∷ 4 ∷ 5 ∷ [];
-  lined = 1 ∷ 2 ∷ 3 ∷ 4 ∷ 5 ∷ [];
+  refusals = byScore;
+  lined = byScore;
   searched = [];
   led = true;
-  fieldCount = scoreFieldCount;
+  fieldCount = scoreFieldCount n;
 }
 
 -- Fault line refuses nothing: a number of Score's is its answer, and three numbers say where the line is.
 abbrev pub faultShape : Shape
 faultShape = record {
-  answers = 0 ∷ scoreShape .refusals;
+  answers = 0 ∷ byScore;
   refusals = [];
-  lined = scoreShape .lined;
+  lined = byScore;
   searched = [];
   led = false;
   fieldCount = 3;
 }
 
-abbrev pub placeShape : Shape
-placeShape = record {
+-- "1 to 4; then 6 [..]; then 7 [..]; then 8". "Line is 0 for 6, 7 and 8." "After 8 or an answer the whole store is
+-- zero."
+abbrev pub placeShape : ℕ → Shape
+placeShape n = record {
   answers = 0 ∷ [];
-  refusals = 1 ∷ 2 ∷ 3 ∷ 4 ∷ 6 ∷ 7 ∷ 8 ∷ [];
-  lined = 1 ∷ 2 ∷ 3 ∷ 4 ∷ [];
+  refusals = byRead ++ (6 ∷ 7 ∷ 8 ∷ []);
+  lined = byRead;
   searched = 0 ∷ 8 ∷ [];
   led = true;
-  fieldCount = placeFieldCount;
+  fieldCount = placeFieldCount n;
 }
 
 -- A load: "9 when the count is over 64; 10 when the output has under 8,192 bytes" (A3)
@@ -90,17 +98,17 @@ loadShape = record {
 abbrev pub reasonsShape : Shape
 reasonsShape = record {
   answers = 0 ∷ [];
-  refusals = scoreShape .refusals ++ (11 ∷ []);
-  lined = scoreShape .lined;
+  refusals = byScore ++ (11 ∷ []);
+  lined = byScore;
   searched = [];
   led = true;
   fieldCount = textFieldCount;
 }
 
--- "Demand 1's eight refusals are from here on those and each number that a request adds" (A3): every operation, and
--- every number that one of them refuses by
-abbrev pub shapes : List Shape
-shapes = readShape ∷ scoreShape ∷ faultShape ∷ placeShape ∷ loadShape ∷ reasonsShape ∷ []
+-- "Demand 1's eight refusals are from here on those and each number that a request adds" (A3): every operation, on a
+-- job text with n numbers, and every number that one of them refuses by
+abbrev pub shapes : ℕ → List Shape
+shapes n = readShape ∷ scoreShape n ∷ faultShape ∷ placeShape n ∷ loadShape ∷ reasonsShape ∷ []
 
 abbrev pub refusalNumbers : List ℕ
 refusalNumbers = from 1 11
@@ -149,8 +157,8 @@ unsigned output part = lent [] output (map pos part)
 abbrev pub broken : Job → Placement → ℕ → ℕ → Bool
 broken j P rule cell = ruleOf j P rule (cell - 1)
 
--- Score's outcome on an accepted job and a placement that was read
-pub record Demand2 (j : Job) (P : Placement) (o : Outcome) : Type 0 where
+-- Score's outcome, with n numbers, on an accepted job and a placement that was read
+pub record Demand2 (n : ℕ) (j : Job) (P : Placement) (o : Outcome) : Type 0 where
   pub rule : ℕ
   pub cell : ℕ
   pub legal-when : rule ≡ 0 ↔ Legal j P
@@ -163,12 +171,13 @@ pub record Demand2 (j : Job) (P : Placement) (o : Outcome) : Type 0 where
   pub lowest : ¬ (rule ≡ 0) → (k : ℕ) → 0 < k → k < cell → broken j P rule k ≡ false
   -- "Steps, sites shifted, mirrorings, layout changes, cost are the definition's", "all 0 unless legal"
   pub number : o .number ≡ 0
-  pub fields : o .fields ≡ pos rule ∷ pos cell ∷ cond (eqb rule 0) (numbers j P) (replicate numberCount (pos 0))
+  pub fields : o .fields ≡ pos rule ∷ pos cell ∷ cond (eqb rule 0) (numbers n j P) (replicate n (pos 0))
 
 abbrev pub Demand2Of : Text → Text → Type 0
 Demand2Of job placement =
     (j : Job) → readJob job ≡ accepted j
-    → (P : Placement) → readPlacement (length (j .cells)) placement ≡ poses P → Demand2 j P (score job placement)
+    → (P : Placement) → readPlacement (length (j .cells)) placement ≡ poses P
+    → Demand2 (numberCount job) j P (score job placement)
 
 -- "A placement written as text reads back unchanged, and each placement has one text."
 pub record OneText : Type 0 where

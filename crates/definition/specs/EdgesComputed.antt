@@ -9,9 +9,9 @@ use Rattle.definition.specs.Rules.{put, sort, order, placeIn, isFirst, i
 use Rattle.definition.specs.Rules.{besideOneSite, outOfPlace, atOneSiteEnd}
 use Rattle.definition.specs.Rules.{breaks1, breaks2, breaks3, breaks4, breaks5, breaks6, breaks7, breaks8}
 use Rattle.definition.specs.Rules.{lowest, firstBroken, verdict}
-use Rattle.definition.specs.Cost.{charge, differing, stepsAt, stepsIn, steps, shifted, mirrored, changed, cost}
+use Rattle.definition.specs.Cost.{differing, stepsAt, stepsIn, stepsBy, shifted, mirrored, changed, cost}
 use Rattle.definition.specs.Cost.{totalShift, drift}
-use Rattle.definition.specs.Outcome.{Outcome, firstOf, outcomeOf, numbers, scoreFields, score}
+use Rattle.definition.specs.Outcome.{Outcome, firstOf, outcomeOf, numberCount, numbers, scoreFields, score}
 use Rattle.definition.specs.Draws.{seeded, next, drawn, drawnAll}
 use Rattle.definition.specs.Load.{largest, numbersDrawn, listed, loadOf, loadRefusal, load}
 use Rattle.definition.specs.Reasons.{reasonOf, cellsNamed, sentence, roomRefusal, reasons}
@@ -27,9 +27,9 @@ unfolding bytes linesOf ended fieldsOf isNumber valueFrom
     besideOneSite outOfPlace atOneSiteEnd
     breaks1 breaks2 breaks3 breaks4 breaks5 breaks6 breaks7 breaks8
     lowest firstBroken verdict
-    differing stepsAt stepsIn steps shifted mirrored changed cost
+    differing stepsAt stepsIn stepsBy shifted mirrored changed cost
     totalShift drift
-    firstOf outcomeOf numbers scoreFields score
+    firstOf outcomeOf numberCount numbers scoreFields score
     digitsIn digits seeded next drawn drawnAll
     largest numbersDrawn listed loadOf loadRefusal load
     reasonOf cellsNamed sentence roomRefusal reasons
@@ -43,7 +43,7 @@ AllComputed (placing job Expected ∷ cs) = AllComputed cs
 AllComputed (loading seed cells room Expected ∷ cs) = Expected (load seed cells room) × AllComputed cs
 AllComputed (reasoning job placement room Expected ∷ cs) =
     Expected (reasons (bytes job) (bytes placement) room) × AllComputed cs
-AllComputed (charging gaps expected ∷ cs) = (map charge gaps ≡ expected) × AllComputed cs
+AllComputed (charging f gaps expected ∷ cs) = (map f gaps ≡ expected) × AllComputed cs
 
 infixr 4 _&_
 unfoldable pub _&_ : {A B : Type 0} → A → B → A × B
@@ -71,4 +71,7 @@ edges-computed =
     & (refl, refl) & (refl, refl) & (refl, refl) & (refl, refl) & (refl, refl)
     & refl & ((refl, refl), refl)
     & (refl, refl) & ((refl, refl), refl) & (refl, refl)
+    & refl & refl
+    & ((((refl, refl), refl), refl), refl) & ((((refl, refl), refl), refl), refl) & (((refl, refl), refl), refl)
+    & (refl, refl) & (refl, refl) & (refl, refl) & (refl, refl)
     & tt

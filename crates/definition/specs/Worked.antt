@@ -18,7 +18,7 @@ use Rattle.definition.specs.Outcome.{Outcome, resultsOf, over, bufferRef
 use Rattle.definition.specs.Outcome.{jobIn, posesIn, placementIn}
 use Rattle.definition.specs.FaultLine.{ofJob, ofPlacement, partAt, faultLine}
 use Rattle.definition.specs.Edges.{Case, scoring, fiveSites, inFive, besideFixed, twoEnds}
-use Rattle.definition.specs.Edges.{turnedByTwo, turnedByOne}
+use Rattle.definition.specs.Edges.{turnedByTwo, turnedByOne, fourCells, asFour, filledFree}
 use Rattle.definition.specs.EdgesComputed.{opened, AllComputed, _&_}
 
 -- ---- whole results of Score
@@ -26,10 +26,14 @@ use Rattle.definition.specs.EdgesComputed.{opened, AllComputed, _&_}
 abbrev pub giving : List ℤ → Outcome → Type 0
 giving results o = resultsOf o ≡ results
 
--- a refusal, with its eight fields
+-- a refusal, with its eight fields; with nine, for a text that begins with `K,` (A7)
 abbrev pub refusingAt : ℕ → ℕ → Outcome → Type 0
 refusingAt number line =
     giving (pos number ∷ pos line ∷ pos 0 ∷ pos 0 ∷ pos 0 ∷ pos 0 ∷ pos 0 ∷ pos 0 ∷ pos 0 ∷ pos 0 ∷ [])
+
+abbrev pub refusingByNine : ℕ → ℕ → Outcome → Type 0
+refusingByNine number line =
+    giving (pos number ∷ pos line ∷ pos 0 ∷ pos 0 ∷ pos 0 ∷ pos 0 ∷ pos 0 ∷ pos 0 ∷ pos 0 ∷ pos 0 ∷ pos 0 ∷ [])
 
 -- a broken rule and its lowest cell
 abbrev pub naming : ℕ → ℕ → Outcome → Type 0
@@ -90,6 +94,20 @@ worked =
     ∷ scoring oneCell "2,0,0\n6,0,0\n" (refusingAt 5 2)
     -- a missing line
     ∷ scoring (oneCell ++ "C,0,2,1,1,4,3,3,2,2\n") "2,0,0\n" (refusingAt 5 2)
+    -- seven numbers "For a job text that begins with `K,`, refused or not" (A7): a legal placement, a broken rule, a
+    -- refusal of the header, of a cell, of the placement, of the two bytes alone
+    ∷ scoring ("K,2,20,0,0,100,1,1,1,7\n" ++ fourCells) asFour
+    (giving (pos 0 ∷ pos 0 ∷ pos 0 ∷ pos 0 ∷ pos 2 ∷ pos 0 ∷ pos 0 ∷ pos 0 ∷ pos 107 ∷ pos 0 ∷ pos 1 ∷ []))
+    ∷ scoring filledFree "0,0,0\n3,0,0\n"
+    (giving (pos 0 ∷ pos 0 ∷ pos 5 ∷ pos 1 ∷ pos 0 ∷ pos 0 ∷ pos 0 ∷ pos 0 ∷ pos 0 ∷ pos 0 ∷ pos 0 ∷ []))
+    ∷ scoring "K,2,20,0,0,7,1,1,1\n" "" (refusingByNine 1 1)
+    ∷ scoring "K,1,6,2,0,1000,1,1,1,0\nC,1,0,0,1,2,1,1,1,1\n" "" (refusingByNine 2 2)
+    ∷ scoring filledFree "0,0,0\n" (refusingByNine 5 2)
+    ∷ scoring "K," "" (refusingByNine 1 1)
+    -- six for any other text
+    ∷ scoring "K" "" (refusingAt 1 1)
+    ∷ scoring "KJ,1,6,2,0,1000,1,1,1,0\n" "" (refusingAt 1 1)
+    ∷ scoring "J,2,20,0,0,7,1,1,1,7\n" "" (refusingAt 1 1)
     ∷ []
 
 pub worked-hold : AllComputed worked
@@ -97,7 +115,8 @@ unfolding opened _&_
 worked-hold =
     refl & refl & refl & refl & refl & refl & refl & refl
     & refl & refl & refl & refl & refl & refl & refl & refl
-    & refl & refl & refl & tt
+    & refl & refl & refl
+    & refl & refl & refl & refl & refl & refl & refl & refl & refl & tt
 
 -- ---- buffers, moves, limits
 
@@ -136,7 +155,7 @@ unfolding opened bufferRefusal
 buffers-by-two = (refl, refl, refl, refl, refl)
 
 -- "After 8 or an answer the whole store is zero."
-pub zero-after-eight : placeOutcome (readJob (bytes fiveSites)) 1048576 18 none .zeroed ≡ true
+pub zero-after-eight : placeOutcome 6 (readJob (bytes fiveSites)) 1048576 18 none .zeroed ≡ true
 unfolding opened bufferRefusal placeOutcome
 zero-after-eight = refl
 

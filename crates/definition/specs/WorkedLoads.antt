@@ -1,6 +1,7 @@
 -- Worked loads: first draws, the range of a row, and the numbers that refuse; whole texts are among the edges. The
 -- draws were worked out from document 02 by a program apart from these definitions; here they are computed, so that a
 -- definition that is wrong in a shift or a sum is refused in this crate.
+use Prim.Native.Nat.{ℕ}
 use mathlib.Core.Path.{_≡_, refl}
 use mathlib.Core.Bool.{true, false}
 use mathlib.Core.List.{[], _∷_}
@@ -45,7 +46,7 @@ row-ranges = (refl, refl)
 -- ---- the numbers that refuse
 
 -- every number that an operation refuses by is listed, and each that is listed is some operation's
-pub numbers-listed :
-    (all (λ shape. all (isOneOf refusalNumbers) (shape .refusals)) shapes ≡ true)
-    × (all (λ n. any (λ shape. isRefusal shape n) shapes) refusalNumbers ≡ true)
-numbers-listed = (refl, refl)
+pub numbers-listed : (n : ℕ)
+    → (all (λ shape. all (isOneOf refusalNumbers) (shape .refusals)) (shapes n) ≡ true)
+    × (all (λ number. any (λ shape. isRefusal shape number) (shapes n)) refusalNumbers ≡ true)
+numbers-listed n = (refl, refl)

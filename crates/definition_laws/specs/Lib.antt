@@ -1,6 +1,8 @@
 pub mod Sound
 pub mod Offers
 pub mod Gaps
+pub mod Weights
+pub mod Counts
 pub mod Agree
 pub mod FirstBroken
 pub mod Search

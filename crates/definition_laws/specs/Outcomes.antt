@@ -14,7 +14,7 @@ use Rattle.definition.specs.Texts.{Text}
 use Rattle.definition.specs.Job.{Job, Reading, refused, accepted, readJob}
 use Rattle.definition.specs.Placement.{Placement, Poses, fault, poses, readPlacement}
 use Rattle.definition.specs.Outcome.{Outcome, Refusal, noLine, firstOf, refusedBy, answered, outcomeOf}
-use Rattle.definition.specs.Outcome.{readFieldCount, readOutcome, read}
+use Rattle.definition.specs.Outcome.{readFieldCount, readOutcome, read, numberCount}
 use Rattle.definition.specs.Outcome.{scoreFieldCount, posesRefusal, placementIn, asScore, scoreAnswer, score}
 use Rattle.definition.specs.Outcome.{placeFieldCount, placeAnswer, bufferRefusal, placeOutcome}
 
@@ -89,15 +89,16 @@ module _ (job : Text) {number line : ℕ} (e : readJob job ≡ refused number li
   unfolding read
   read-refused = ap readOutcome e ∙ first-refuses readFieldCount r _ _ d
 
-  pub score-refused : (placement : Text) → score job placement ≡ refusedBy scoreFieldCount r
+  pub score-refused : (placement : Text) → score job placement ≡ refusedBy (scoreFieldCount (numberCount job)) r
   unfolding score
-  score-refused placement = job-refuses scoreFieldCount (λ j P. []) scoreAnswer job e d placement
+  score-refused placement =
+      job-refuses (scoreFieldCount (numberCount job)) (λ j P. []) (scoreAnswer (numberCount job)) job e d placement
 
-  pub place-refused : (words room : ℕ) (a : Option Placement)
-      → placeOutcome (readJob job) words room a ≡ refusedBy placeFieldCount r
+  pub place-refused : (n words room : ℕ) (a : Option Placement)
+      → placeOutcome n (readJob job) words room a ≡ refusedBy (placeFieldCount n) r
   unfolding placeOutcome
-  place-refused words room a =
-      ap (λ (x : Reading). placeOutcome x words room a) e ∙ first-refuses placeFieldCount r _ _ d
+  place-refused n words room a =
+      ap (λ (x : Reading). placeOutcome n x words room a) e ∙ first-refuses (placeFieldCount n) r _ _ d
 
 -- ---- one that is accepted
 
@@ -108,29 +109,33 @@ module _ (job : Text) {j : Job} (e : readJob job ≡ accepted j) where
       ap readOutcome e ∙ first-passes readFieldCount (noLine 0) [] _ refl ∙ none-refuses readFieldCount _
 
   pub score-fault : (placement : Text) {line : ℕ} → readPlacement (length (j .cells)) placement ≡ fault line
-      → score job placement ≡ refusedBy scoreFieldCount (record { number = 5; line = line })
+      → score job placement ≡ refusedBy (scoreFieldCount (numberCount job)) (record { number = 5; line = line })
   unfolding score
-  score-fault placement p = poses-refuse scoreFieldCount (λ j P. []) scoreAnswer job e placement p
+  score-fault placement p =
+      poses-refuse (scoreFieldCount (numberCount job)) (λ j P. []) (scoreAnswer (numberCount job)) job e placement p
 
   pub score-accepted : (placement : Text) {P : Placement} → readPlacement (length (j .cells)) placement ≡ poses P
-      → score job placement ≡ scoreAnswer j P
+      → score job placement ≡ scoreAnswer (numberCount job) j P
   unfolding score
   score-accepted placement p =
-      poses-pass scoreFieldCount (λ j P. []) scoreAnswer job e placement p ∙ none-refuses scoreFieldCount _
+      poses-pass (scoreFieldCount (numberCount job)) (λ j P. []) (scoreAnswer (numberCount job)) job e placement p
+      ∙ none-refuses (scoreFieldCount (numberCount job)) _
 
-  -- Place, by its buffers
-  module _ (words room : ℕ) (a : Option Placement) where
-    place-by : placeOutcome (readJob job) words room a
-        ≡ outcomeOf placeFieldCount (noLine (bufferRefusal j words room) ∷ []) (placeAnswer j a)
+  -- Place with n numbers, by its buffers
+  module _ (n words room : ℕ) (a : Option Placement) where
+    place-by : placeOutcome n (readJob job) words room a
+        ≡ outcomeOf (placeFieldCount n) (noLine (bufferRefusal j words room) ∷ []) (placeAnswer n j a)
     unfolding placeOutcome
     place-by =
-        ap (λ (x : Reading). placeOutcome x words room a) e ∙ first-passes placeFieldCount (noLine 0) _ _ refl
+        ap (λ (x : Reading). placeOutcome n x words room a) e ∙ first-passes (placeFieldCount n) (noLine 0) _ _ refl
 
     pub place-buffers : (bufferRefusal j words room ≡ 0 → ⊥)
-        → placeOutcome (readJob job) words room a ≡ refusedBy placeFieldCount (noLine (bufferRefusal j words room))
-    place-buffers d = place-by ∙ first-refuses placeFieldCount (noLine (bufferRefusal j words room)) [] _ d
+        → placeOutcome n (readJob job) words room a
+        ≡ refusedBy (placeFieldCount n) (noLine (bufferRefusal j words room))
+    place-buffers d = place-by ∙ first-refuses (placeFieldCount n) (noLine (bufferRefusal j words room)) [] _ d
 
-    pub place-accepted : bufferRefusal j words room ≡ 0 → placeOutcome (readJob job) words room a ≡ placeAnswer j a
+    pub place-accepted : bufferRefusal j words room ≡ 0
+        → placeOutcome n (readJob job) words room a ≡ placeAnswer n j a
     place-accepted z =
-        place-by ∙ first-passes placeFieldCount (noLine (bufferRefusal j words room)) [] _ z
-        ∙ none-refuses placeFieldCount _
+        place-by ∙ first-passes (placeFieldCount n) (noLine (bufferRefusal j words room)) [] _ z
+        ∙ none-refuses (placeFieldCount n) _
