@@ -34,6 +34,7 @@ pub fn worked() -> Job {
             shift: 1,
             mirror: 100,
             swap: 50,
+            filled: None,
         },
     };
     let layout = [Layout::single(4, [3, 3, 2, 2])];

@@ -44,6 +44,7 @@ fn job() -> Job {
             shift: 10,
             mirror: 50,
             swap: 0,
+            filled: None,
         },
     };
     Job::new(header)

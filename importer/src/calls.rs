@@ -1,7 +1,8 @@
 //! The exported functions, one by one, with a slice where C has an address and a length.
 //!
 //! Each operation returns the refusal number, or 0, and leaves number, line and fields in
-//! `results` as far as that reaches.
+//! `results` as far as that reaches. Of Score and Place these have one more behind drift, the filled
+//! steps, if [the job's text says so](crate::has_filled_steps).
 
 /// What the archive exports. A slice's address is never null, its length counts elements, and
 /// slices that are lent for writing overlap nothing: that is all the functions ask.
@@ -83,7 +84,8 @@ pub fn read(job: &[u8], results: &mut [i32]) -> u32 {
     unsafe { exported::refiner_read(job.as_ptr(), job.len(), results.as_mut_ptr(), results.len()) }
 }
 
-/// Score: number, line, rule, cell, steps, sites shifted, mirrored, changed, cost, drift.
+/// Score: number, line, rule, cell, steps, sites shifted, mirrored, changed, cost, drift, and of
+/// some jobs filled steps.
 pub fn score(job: &[u8], placement: &[u8], results: &mut [i32]) -> u32 {
     // SAFETY: as for `read`.
     unsafe {
@@ -132,8 +134,8 @@ pub fn fault_line(job: &[u8], placement: &[u8], output: &mut [u8], part: &mut [u
     }
 }
 
-/// Place: number, line, steps, sites shifted, mirrored, changed, cost, drift, text length. The
-/// text goes to the start of `output`.
+/// Place: number, line, steps, sites shifted, mirrored, changed, cost, drift, of some jobs filled
+/// steps, and text length. The text goes to the start of `output`.
 pub fn place(job: &[u8], store: &mut [u32], output: &mut [u8], results: &mut [i32]) -> u32 {
     // SAFETY: as for `read`; here `store` and `output` are lent for writing too.
     unsafe {

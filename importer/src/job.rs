@@ -12,7 +12,7 @@
 //!     sites: 20,
 //!     displacement: 1,
 //!     reordering: 1,
-//!     weights: Weights { step: 100, shift: 1, mirror: 100, swap: 50 },
+//!     weights: Weights { step: 100, shift: 1, mirror: 100, swap: 50, filled: None },
 //! };
 //! let job = Job::new(header)
 //!     .with(Cell::single(0, 2, [Layout::single(4, [3, 3, 2, 2])]).mirrorable())
@@ -28,6 +28,16 @@
 //! assert_eq!(read(&job.text())?.cells, 3);
 //! assert_eq!(refine(&job.text())?.numbers.cost, 100);
 //! # Ok::<(), importer::Refused>(())
+//! ```
+//!
+//! Filled steps, which are those at gaps 2 and 3, may have a weight of their own:
+//!
+//! ```
+//! use importer::job::{Header, Weights};
+//!
+//! let weights = Weights { step: 100, shift: 1, mirror: 100, swap: 50, filled: Some(30) };
+//! let header = Header { rows: 2, sites: 20, displacement: 1, reordering: 1, weights };
+//! assert_eq!(header.to_string(), "K,2,20,1,1,100,1,100,50,30");
 //! ```
 //!
 //! A cell that was placed by hand and must not move is [`fixed`](Cell::fixed):
@@ -68,7 +78,7 @@ pub struct Header {
 /// What the numbers of a placement are weighed by.
 #[derive(Clone, Copy, Debug, Default, PartialEq, Eq)]
 pub struct Weights {
-    /// For each step.
+    /// For each step; where filled steps have their own weight, for each of the others.
     pub step: u32,
     /// For each site shifted.
     pub shift: u32,
@@ -76,6 +86,9 @@ pub struct Weights {
     pub mirror: u32,
     /// For each cell in layout 1.
     pub swap: u32,
+    /// For each filled step, one at a gap of 2 or 3 sites; none if it weighs as any step. With a
+    /// weight the first line is led by `K`, without one by `J`.
+    pub filled: Option<u32>,
 }
 
 /// A cell, made by [`Cell::single`] or [`Cell::tall`].

@@ -16,7 +16,7 @@
 //! use importer::{score, Pose, Refiner};
 //!
 //! # fn main() -> Result<(), Box<dyn std::error::Error>> {
-//! let weights = Weights { step: 100, shift: 1, mirror: 100, swap: 50 };
+//! let weights = Weights { step: 100, shift: 1, mirror: 100, swap: 50, filled: None };
 //! let header = Header { rows: 1, sites: 20, displacement: 1, reordering: 1, weights };
 //! let inverter = [Layout::single(4, [3, 3, 2, 2])];
 //! let job = Job::new(header)
@@ -65,7 +65,7 @@ mod sentence;
 pub use fault::{copied_fault_line, fault_line};
 pub use kind::RefusalKind;
 pub use loading::{farm_job, load, Loaded, LOAD_BYTES};
-pub use numbers::Numbers;
+pub use numbers::{has_filled_steps, Numbers};
 pub use placement::{Pose, PoseError};
 pub use placing::{place, refine, store_words, Placed, Refined};
 pub use placing::{OUTPUT_BYTES, STORE_WORDS, STORE_WORDS_BY_TWO};

@@ -12,9 +12,6 @@ pub const STORE_WORDS_BY_TWO: usize = 4_194_304;
 /// How many bytes of output Place needs for any job: 9 for each of 64 cells.
 pub const OUTPUT_BYTES: usize = 9 * 64;
 
-/// The numbers, then the text's length.
-const FIELDS: usize = Numbers::FIELDS + 1;
-
 /// What Place answers of a job that has a legal placement.
 #[derive(Clone, Copy, Debug, PartialEq, Eq)]
 pub struct Placed {
@@ -45,9 +42,10 @@ pub fn store_words(job: &[u8]) -> usize {
 /// tells how large it must be.
 pub fn place(job: &[u8], store: &mut [u32], output: &mut [u8]) -> Result<Placed, Refused> {
     let call = |results: &mut [i32]| calls::place(job, store, output, results);
-    let mut fields = Fields::of(FIELDS, call)?;
+    // The numbers, then the text's length.
+    let mut fields = Fields::of(Numbers::count(job) + 1, call)?;
     Ok(Placed {
-        numbers: Numbers::taken(&mut fields),
+        numbers: Numbers::taken(&mut fields, job),
         text_length: fields.length(),
     })
 }

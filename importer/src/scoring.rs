@@ -4,8 +4,8 @@ use crate::fields::Fields;
 use crate::{calls, Broken, Numbers, Refused};
 use std::fmt;
 
-/// Rule and cell, then the numbers.
-const FIELDS: usize = 2 + Numbers::FIELDS;
+/// Rule and cell, which stand before the numbers.
+const BEFORE: usize = 2;
 
 /// What Score says of a placement.
 #[derive(Clone, Copy, Debug, PartialEq, Eq)]
@@ -57,10 +57,11 @@ impl fmt::Display for Verdict {
 /// # Ok::<(), importer::Refused>(())
 /// ```
 pub fn score(job: &[u8], placement: &[u8]) -> Result<Verdict, Refused> {
-    let mut fields = Fields::of(FIELDS, |results| calls::score(job, placement, results))?;
+    let count = BEFORE + Numbers::count(job);
+    let mut fields = Fields::of(count, |results| calls::score(job, placement, results))?;
     let (rule, cell) = (fields.natural(), fields.natural());
     Ok(match rule {
-        0 => Verdict::Legal(Numbers::taken(&mut fields)),
+        0 => Verdict::Legal(Numbers::taken(&mut fields, job)),
         _ => Verdict::Broken(Broken { rule, cell }),
     })
 }

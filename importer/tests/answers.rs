@@ -28,6 +28,7 @@ const NUMBERS: Numbers = Numbers {
     changed: 1,
     cost: 7 * 3 + 11 * 4 + 13 * 2 + 17,
     drift: -80,
+    filled: None,
 };
 
 #[test]
@@ -89,6 +90,7 @@ fn refine_answers_the_only_placement_of_a_job() {
         changed: 0,
         cost: 7,
         drift: -100,
+        filled: None,
     };
     assert_eq!(refined.numbers, expected);
     assert_eq!(refined.text, b"16,0,0\n");

@@ -112,7 +112,7 @@ fn a_line_is_shown_printable_and_cut() {
     let ends = "<stdin>:1: line ends with CR LF; lines end with LF alone";
     let shown = format!("J,1,20,1,1,100,1,100,50\\r\n{ends}\n");
     check_refused_job(WORKED.replace('\n', "\r\n"), "refused,1,1\n", &shown);
-    let lead = "field 1 (lead) is \"\\x1b[2J\\xff\"; the first line begins with J";
+    let lead = "field 1 (lead) is \"\\x1b[2J\\xff\"; the first line begins with J or K";
     let shown = format!("\\x1b[2J\\xff\n<stdin>:1: {lead}\n");
     check_refused_job(b"\x1b[2J\xff\n", "refused,1,1\n", &shown);
     let (_, notes, _) = told(&refine(&[], &[b'9'; 100_000]));

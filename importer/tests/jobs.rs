@@ -13,6 +13,7 @@ const HEADER: Header = Header {
         shift: 20,
         mirror: 30,
         swap: 40,
+        filled: None,
     },
 };
 

@@ -30,6 +30,7 @@ fn numbers(steps: u32, shifted: u32, drift: i32) -> Numbers {
         changed: 0,
         cost: 100 * steps + shifted,
         drift,
+        filled: None,
     }
 }
 

@@ -4,6 +4,7 @@ use super::canvas::{Anchor, Canvas};
 use super::panel::{Panel, Said};
 use super::text::{ALARM, HEADING, NAME, PLAIN, SMALL};
 use crate::explain::{count, Job};
+use crate::job::Weights;
 use crate::{Numbers, Refused};
 
 const LEFT: i32 = 16;
@@ -13,18 +14,32 @@ const LINE: i32 = 16;
 const FIRST: i32 = 26;
 const WORDS: i32 = 110;
 
-/// Where the columns of numbers end.
-const COLUMNS: [(&str, i32); 6] = [
+/// Where the columns of numbers end. The last one is there only for jobs that weigh filled steps.
+const COLUMNS: [Column; 7] = [
     ("cost", 170),
     ("steps", 240),
     ("sites shifted", 360),
     ("mirrored", 450),
     ("changed", 530),
     ("drift, 1/100 site", 645),
+    ("filled steps", 730),
 ];
 
-/// A legend needs this width.
-pub const NARROWEST: i32 = 660;
+/// A column's name, and where it ends.
+type Column = (&'static str, i32);
+
+/// The columns that a job has.
+fn columns(job: &Job) -> &'static [Column] {
+    match job.header.weights.filled {
+        Some(_) => &COLUMNS,
+        None => &COLUMNS[..COLUMNS.len() - 1],
+    }
+}
+
+/// The width that a job's legend needs.
+pub fn narrowest(job: &Job) -> i32 {
+    columns(job).last().map_or(0, |(_, end)| end + 15)
+}
 
 /// What the rows are, in one line.
 pub fn heading(job: &Job) -> String {
@@ -44,9 +59,25 @@ pub fn heading(job: &Job) -> String {
     )
 }
 
+/// Limits and weights, in one line.
+fn limits(job: &Job) -> String {
+    let (limit, order) = (job.header.displacement, job.header.reordering);
+    let Weights {
+        step,
+        shift,
+        mirror,
+        swap,
+        filled,
+    } = job.header.weights;
+    let four = format!("step {step}, shift {shift}, mirror {mirror}, swap {swap}");
+    let filled = filled.map_or_else(String::new, |filled| format!(", filled {filled}"));
+    format!("D {limit}, R {order}; weights: {four}{filled}")
+}
+
 /// A pen that writes line below line.
 pub struct Pen<'canvas> {
     canvas: &'canvas mut Canvas,
+    columns: &'static [Column],
     width: i32,
     y: i32,
     /// Whether the columns of numbers have their names yet.
@@ -54,10 +85,11 @@ pub struct Pen<'canvas> {
 }
 
 impl<'canvas> Pen<'canvas> {
-    pub fn new(canvas: &'canvas mut Canvas, width: i32) -> Pen<'canvas> {
+    pub fn new(canvas: &'canvas mut Canvas, job: &Job, width: i32) -> Pen<'canvas> {
         let (y, named) = (FIRST, false);
         Pen {
             canvas,
+            columns: columns(job),
             width,
             y,
             named,
@@ -69,13 +101,8 @@ impl<'canvas> Pen<'canvas> {
         self.canvas
             .text(HEADING, Anchor::Start, LEFT, self.y, &heading(job));
         self.y += LINE + 2;
-        let [step, shift, mirror, swap] = job.header.weights;
-        let (limit, order) = (job.header.displacement, job.header.reordering);
-        let limits = format!(
-            "D {limit}, R {order}; weights: step {step}, shift {shift}, mirror {mirror}, swap {swap}"
-        );
         self.canvas
-            .text(PLAIN, Anchor::Start, LEFT, self.y, &limits);
+            .text(PLAIN, Anchor::Start, LEFT, self.y, &limits(job));
         self.y += LINE + 4;
         for panel in panels {
             self.panel(panel);
@@ -109,27 +136,19 @@ impl<'canvas> Pen<'canvas> {
     /// The names of the columns, above the first numbers.
     fn column_names(&mut self) {
         if !self.named {
-            for (name, x) in COLUMNS {
-                self.canvas.text(SMALL, Anchor::End, x, self.y, name);
+            for (name, x) in self.columns {
+                self.canvas.text(SMALL, Anchor::End, *x, self.y, name);
             }
             self.y += LINE;
             self.named = true;
         }
     }
 
+    /// The numbers in the order in which `refine` prints them, as the columns have them.
     fn numbers(&mut self, numbers: &Numbers) {
-        let Numbers {
-            steps,
-            shifted,
-            mirrored,
-            changed,
-            cost,
-            drift,
-        } = *numbers;
-        let naturals = [cost, steps, shifted, mirrored, changed].map(|number| number.to_string());
-        let numbers = naturals.into_iter().chain([drift.to_string()]);
-        for (number, (_, x)) in numbers.zip(COLUMNS) {
-            self.canvas.text(PLAIN, Anchor::End, x, self.y, &number);
+        let numbers = numbers.fields();
+        for (number, (_, x)) in numbers.split(',').zip(self.columns) {
+            self.canvas.text(PLAIN, Anchor::End, *x, self.y, number);
         }
         self.y += LINE;
     }

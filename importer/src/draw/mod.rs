@@ -73,9 +73,9 @@ impl Picture<'_> {
     fn drawn(&self) -> String {
         let seen: Vec<_> = self.panels.iter().flat_map(Panel::seen).collect();
         let stretches = stretches(self.job.header.sites, &seen);
-        let width = width(&stretches);
+        let width = width(&stretches).max(legend::narrowest(self.job));
         let mut canvas = Canvas::default();
-        let pen = Pen::new(&mut canvas, width);
+        let pen = Pen::new(&mut canvas, self.job, width);
         let mut y = pen.write(self.job, &self.panels, self.none.as_ref());
         for stretch in &stretches {
             y += BANDS_APART;
@@ -164,12 +164,12 @@ fn highest(job: &Job) -> u32 {
     layouts.filter_map(Layout::highest).max().unwrap_or(1)
 }
 
-/// How wide the picture is: as wide as its widest band, and wide enough for the legend.
+/// How wide the widest band is.
 fn width(stretches: &[Stretch]) -> i32 {
     let widest = stretches.iter().map(|stretch| match stretch {
         Stretch::Drawn(band) => band.sites.sites(),
         Stretch::Empty(_) => BAND,
     });
     let sites = widest.max().unwrap_or(BAND) as i32;
-    (LEFT + SITE * sites + RIGHT).max(legend::NARROWEST)
+    LEFT + SITE * sites + RIGHT
 }

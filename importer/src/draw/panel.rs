@@ -144,10 +144,13 @@ impl Said {
                     changed,
                     cost,
                     drift,
+                    filled,
                 } = numbers;
+                let filled =
+                    filled.map_or_else(String::new, |filled| format!(", filled steps {filled}"));
                 format!(
                     "legal, cost {cost}, steps {steps}, sites shifted {shifted}, mirrored {mirrored}, \
-                     changed {changed}, drift {drift} hundredths of a site."
+                     changed {changed}, drift {drift} hundredths of a site{filled}."
                 )
             }
             Said::Broken { rule, sentence, .. } => format!("not legal, rule {rule}: {sentence}"),

@@ -14,6 +14,10 @@ impl Field {
         Field { name, low, high }
     }
 
+    pub fn name(&self) -> &str {
+        &self.name
+    }
+
     /// What to say of a value, if it is out of range, in the field of this number.
     pub fn refuses(&self, number: usize, value: u32) -> Option<String> {
         let Field { low, high, .. } = *self;

@@ -12,8 +12,8 @@ const MOST: usize = 22;
 pub struct Form {
     /// What the first field may be, and which lines begin with it; none for lines without a lead.
     pub lead: Option<(&'static [&'static str], &'static str)>,
-    /// The fields behind the lead, as far as the numbers before them decide.
-    pub fields_of: fn(&[u32]) -> Vec<Field>,
+    /// The fields behind the lead, as far as that and the numbers before them decide.
+    pub fields_of: fn(&Numbers) -> Vec<Field>,
 }
 
 /// The numbers of a line that is in its form.
@@ -63,7 +63,7 @@ impl Form {
 
     /// A field that is no number, called by its name if the numbers before it give it one.
     fn no_number(&self, before: &Numbers, at: usize, field: &[u8], form: &str) -> String {
-        let fields = (self.fields_of)(&before.values);
+        let fields = (self.fields_of)(before);
         let place = at - 1 - usize::from(self.lead.is_some());
         let name = called(at, fields.get(place));
         match field {

@@ -22,9 +22,15 @@ impl fmt::Display for Header {
             shift,
             mirror,
             swap,
+            filled,
         } = self.weights;
-        write!(out, "J,{rows},{sites},{displacement},{reordering},")?;
-        write!(out, "{step},{shift},{mirror},{swap}")
+        let lead = if filled.is_some() { 'K' } else { 'J' };
+        write!(out, "{lead},{rows},{sites},{displacement},{reordering},")?;
+        write!(out, "{step},{shift},{mirror},{swap}")?;
+        match filled {
+            Some(filled) => write!(out, ",{filled}"),
+            None => Ok(()),
+        }
     }
 }
 

@@ -36,11 +36,14 @@ fn of_a_text_that_starts_or_ends_wrong() {
 
 #[test]
 fn of_a_lead() {
-    let lead = "field 1 (lead) is \"C\"; the first line begins with J";
-    check_job("C,0,5,0,1,4,3,3,2,2\n", 1, 1, lead);
-    let lead = "field 1 (lead) is \"J;1;20\"; the first line begins with J";
+    for lead in ["", "C", "j", "k", "JJ", "KJ", "JK", "K K"] {
+        let begins = "the first line begins with J or K";
+        let words = format!("field 1 (lead) is \"{lead}\"; {begins}");
+        check_job(format!("{lead},1,20,1,1,1,1,1,1,1\n"), 1, 1, &words);
+    }
+    let lead = "field 1 (lead) is \"J;1;20\"; the first line begins with J or K";
     check_job("J;1;20\n", 1, 1, lead);
-    for lead in ["", "c", "f", "J", "CC", "FF", "CF", "FC", "F C"] {
+    for lead in ["", "c", "f", "J", "K", "CC", "FF", "CF", "FC", "F C"] {
         let begins = "a line after the first begins with C or F";
         let words = format!("field 1 (lead) is \"{lead}\"; {begins}");
         check_cell(&format!("{lead},0,5,0,1,4,3,3,2,2\n"), 1, &words);
@@ -98,8 +101,15 @@ fn of_the_names_of_fields() {
     check("C,0,5,0,1,4,3,3,2,2,x\n", "field 11");
     check("C,3,5,0,1,4,x\n", "field 7");
     check("C,0,5,0,3,4,x\n", "field 7");
-    let swap = "field 9 (swap) is \"x\"; a number is one to four digits";
-    check_job("J,1,20,1,1,100,1,100,x\n", 1, 1, swap);
+    let check_header = |line: &str, field: &str| {
+        let words = format!("{field} is \"x\"; a number is one to four digits");
+        check_job(line, 1, 1, &words);
+    };
+    check_header("J,1,20,1,1,100,1,100,x\n", "field 9 (swap)");
+    check_header("K,1,20,1,1,100,1,100,x,30\n", "field 9 (swap)");
+    check_header("K,1,20,1,1,100,1,100,50,x\n", "field 10 (filled)");
+    check_header("J,1,20,1,1,100,1,100,50,x\n", "field 10");
+    check_header("K,1,20,1,1,100,1,100,50,30,x\n", "field 11");
 }
 
 #[test]
@@ -107,6 +117,17 @@ fn of_the_number_of_fields() {
     let nine = "the first line has 9: J,rows,sites,D,R,step,shift,mirror,swap";
     check_job("J,1,20,1,1,100,1,100\n", 1, 1, &format!("8 fields, {nine}"));
     check_job("J\n", 1, 1, &format!("1 field, {nine}"));
+    let words = format!("10 fields, {nine}; with filled behind them it begins with K");
+    check_job("J,1,20,1,1,100,1,100,50,30\n", 1, 1, &words);
+    let words = format!("11 fields, {nine}");
+    check_job("J,1,20,1,1,100,1,100,50,30,1\n", 1, 1, &words);
+    let ten = "the first line has 10: K,rows,sites,D,R,step,shift,mirror,swap,filled";
+    let words = format!("9 fields, {ten}");
+    check_job("K,1,20,1,1,100,1,100,50\n", 1, 1, &words);
+    let words = format!("11 fields, {ten}");
+    check_job("K,1,20,1,1,100,1,100,50,30,1\n", 1, 1, &words);
+    check_job("K\n", 1, 1, &format!("1 field, {ten}"));
+    check_job("K", 1, 1, "the last line has no line feed");
     let five = "a cell line has at least 5: C,row,given,mirrorable,layouts";
     check_cell("C,0,5,0\n", 1, &format!("4 fields, {five}"));
     let five = "a cell line has at least 5: F,row,given,mirrorable,layouts";
@@ -133,6 +154,15 @@ fn of_ranges() {
     check_header(
         "J,1,20,1,1,1,1,1,1001\n",
         "field 9 (swap) is 1001; allowed 0 to 1000",
+    );
+    check_header(
+        "K,1,20,1,1,1,1,1,1,1001\n",
+        "field 10 (filled) is 1001; allowed 0 to 1000",
+    );
+    // The first field that is out of range is told.
+    check_header(
+        "K,1,20,8,1,1,1,1,1,1001\n",
+        "field 4 (D) is 8; allowed 0 to 7",
     );
     let check = |line: &str, words: &str| check_cell(line, 2, words);
     let row = "field 2 (row) is 1; allowed 0, as the first line says 1 row";

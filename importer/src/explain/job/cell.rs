@@ -2,7 +2,7 @@
 
 use super::layout::Layout;
 use crate::explain::field::{in_range, Field};
-use crate::explain::form::{count, Form};
+use crate::explain::form::{count, Form, Numbers};
 use crate::explain::line::Line;
 use crate::explain::reason::{Reason, FORM, RANGE};
 
@@ -67,14 +67,14 @@ impl Cell {
 
 /// The fields behind the lead. Those of the layouts are known only behind a row and a number of
 /// layouts that there are.
-fn fields_of(numbers: &[u32]) -> Vec<Field> {
+fn fields_of(numbers: &Numbers) -> Vec<Field> {
     let mut fields = vec![
         Field::new("row", 0, TALL),
         Field::new("given", 0, 1023),
         Field::new("mirrorable", 0, 1),
         layouts_field(),
     ];
-    if let &[row @ 0..=TALL, _, _, layouts @ 1..=2, ..] = numbers {
+    if let [row @ 0..=TALL, _, _, layouts @ 1..=2, ..] = numbers.values[..] {
         (0..layouts).for_each(|layout| fields.extend(layout_fields(row, layout)));
     }
     fields
@@ -114,7 +114,7 @@ pub fn read(line: &Line, rows: u32) -> Result<Cell, Reason> {
         }
     };
     shape_in_range(rows, row, layouts).map_err(refuse(RANGE))?;
-    let fields = fields_of(&numbers.values);
+    let fields = fields_of(&numbers);
     let fitting = 1 + fields.len();
     if numbers.fields != fitting {
         let found = count(numbers.fields, "field");

@@ -102,6 +102,7 @@ impl Job {
 #[cfg(test)]
 mod tests {
     use super::*;
+    use crate::job::Weights;
 
     #[test]
     fn a_job_is_read_field_by_field() {
@@ -110,7 +111,14 @@ mod tests {
         let Job { header, cells } = read(text).expect("the job is in form");
         let limits = (header.displacement, header.reordering);
         assert_eq!((header.rows, header.sites, limits), (2, 20, (3, 1)));
-        assert_eq!(header.weights, [100, 1, 90, 50]);
+        let weights = Weights {
+            step: 100,
+            shift: 1,
+            mirror: 90,
+            swap: 50,
+            filled: None,
+        };
+        assert_eq!(header.weights, weights);
         let [single, tall] = &cells[..] else {
             panic!("two cells")
         };
@@ -132,5 +140,20 @@ mod tests {
         };
         assert_eq!(layout.edges_in(0), Some([edge(1, 2), edge(3, 4)]));
         assert_eq!(layout.edges_in(1), Some([edge(5, 6), edge(7, 8)]));
+    }
+
+    #[test]
+    fn a_first_line_led_by_k_says_a_weight_more() {
+        let header = read_header(b"K,2,20,3,1,100,1,90,50,7\n").expect("a line in form");
+        let limits = (header.displacement, header.reordering);
+        assert_eq!((header.rows, header.sites, limits), (2, 20, (3, 1)));
+        let weights = Weights {
+            step: 100,
+            shift: 1,
+            mirror: 90,
+            swap: 50,
+            filled: Some(7),
+        };
+        assert_eq!(header.weights, weights);
     }
 }
