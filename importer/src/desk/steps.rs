@@ -50,6 +50,11 @@ pub struct Step {
 }
 
 impl Step {
+    /// Whether it is a filled step, one at a gap of 2 or 3 sites: there are others at gap 0 alone.
+    pub fn is_filled(&self) -> bool {
+        self.gap > 0
+    }
+
     /// Whether it is between the same heights of the same cells, at whatever gap.
     pub fn is_that(&self, other: &Step) -> bool {
         let gap = other.gap;
@@ -57,8 +62,8 @@ impl Step {
     }
 }
 
-/// The steps of a legal placement by row and from left to right; none if they are not as many as
-/// the refiner counts.
+/// The steps of a legal placement by row and from left to right; none if they, or the filled ones
+/// among them, are not as many as the refiner counts.
 pub fn steps(job: &[u8], placement: &[u8], numbers: &Numbers) -> Option<Vec<Step>> {
     let job = read_job(job).ok()?;
     let poses = read_placement(placement, job.cells.len()).ok()?;
@@ -70,9 +75,16 @@ pub fn steps(job: &[u8], placement: &[u8], numbers: &Numbers) -> Option<Vec<Step
             steps.extend(between.map(|(step, _)| step));
         }
     }
-    let counted = steps.len() == numbers.steps as usize;
-    debug_assert!(counted, "{} steps of {}", steps.len(), numbers.steps);
+    let counted = are_counted(&steps, numbers);
+    debug_assert!(counted, "{steps:?} of {numbers}");
     counted.then_some(steps)
+}
+
+/// Whether the refiner counts as many steps.
+fn are_counted(steps: &[Step], numbers: &Numbers) -> bool {
+    let filled = steps.iter().filter(|step| step.is_filled()).count();
+    let is_filled = |counted: u32| counted as usize == filled;
+    numbers.steps as usize == steps.len() && numbers.filled.map_or(true, is_filled)
 }
 
 /// The steps of two neighbours of a row, each with the heights of the left and of the right cell.

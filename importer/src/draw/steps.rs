@@ -22,9 +22,9 @@ fn draw_step(canvas: &mut Canvas, of: &StepMark, band: &Band, track: &Track) {
     let (left, right) = (band.x(gap.from), band.x(gap.end));
     let [of_left, of_right] = heights.map(|height| track.tip(step.diffusion, height));
     canvas.path("jog", &format!("M{left} {of_left}L{right} {of_right}"));
-    let class = match step.gap {
-        0 => ABUTTING,
-        _ => FILLED,
+    let class = match step.is_filled() {
+        true => FILLED,
+        false => ABUTTING,
     };
     let (x, y) = ((left + right) / 2, (of_left + of_right) / 2);
     canvas.path(class, &mark(x, y));

@@ -3,52 +3,55 @@
 use importer::desk::Table;
 use importer::Numbers;
 
-/// Their names, in the order in which they are printed.
-const NAMES: [&str; 6] = [
+/// Their names, in the order in which they are printed; not every job has the last.
+const NAMES: [&str; 7] = [
     "cost",
     "steps",
     "sites shifted",
     "mirrored",
     "changed",
     "drift",
+    "filled steps",
 ];
 
 /// Numbers, or differences of them.
-pub type Figures = [i64; NAMES.len()];
+pub type Figures = Vec<i64>;
 
 pub fn of(numbers: &Numbers) -> Figures {
-    [
+    let mut figures = vec![
         numbers.cost.into(),
         numbers.steps.into(),
         numbers.shifted.into(),
         numbers.mirrored.into(),
         numbers.changed.into(),
         numbers.drift.into(),
-    ]
+    ];
+    figures.extend(numbers.filled.map(i64::from));
+    figures
 }
 
-/// What is saved of each by going from the first to the second.
-pub fn saved(from: Figures, to: Figures) -> Figures {
-    let mut saved = from;
-    saved
-        .iter_mut()
-        .zip(to)
-        .for_each(|(figure, to)| *figure -= to);
-    saved
+/// What is saved of each by going from the first to the second, which are of one job.
+pub fn saved(from: &Figures, to: &Figures) -> Figures {
+    let both = from.iter().zip(to);
+    both.map(|(from, to)| from - to).collect()
 }
 
 /// A line with a lead and its figures.
 pub fn line((lead, figures): &(&str, Figures)) -> String {
-    let figures = figures.map(|figure| figure.to_string());
-    format!("{lead},{}\n", figures.join(","))
+    format!("{lead},{}\n", shown(figures).join(","))
 }
 
-/// A table with a row for each lead and its figures.
+/// A table with a row for each lead and its figures, all of one job.
 pub fn table(rows: &[(&str, Figures)]) -> String {
-    let mut table = Table::new([""].into_iter().chain(NAMES));
+    let most = rows.iter().map(|(_, figures)| figures.len()).max();
+    let names = NAMES.into_iter().take(most.unwrap_or_default());
+    let mut table = Table::new([""].into_iter().chain(names));
     for (lead, figures) in rows {
-        let figures = figures.map(|figure| figure.to_string());
-        table.push([lead.to_string()].into_iter().chain(figures));
+        table.push([lead.to_string()].into_iter().chain(shown(figures)));
     }
     table.text()
+}
+
+fn shown(figures: &Figures) -> Vec<String> {
+    figures.iter().map(i64::to_string).collect()
 }

@@ -72,7 +72,7 @@ fn rows(comparison: &Comparison) -> Vec<(&'static str, Figures)> {
         Verdict::Broken(_) => vec![("cheapest", cheapest)],
         Verdict::Legal(numbers) => {
             let theirs = figures::of(numbers);
-            let saved = figures::saved(theirs, cheapest);
+            let saved = figures::saved(&theirs, &cheapest);
             vec![("theirs", theirs), ("cheapest", cheapest), ("saved", saved)]
         }
     }
