@@ -30,8 +30,17 @@ emptyCell = record {
 }
 
 abbrev pub emptyHeader : Header
-emptyHeader =
-    record { rows = 0; sites = 0; displacement = 0; reordering = 0; step = 0; shift = 0; mirror = 0; swap = 0 }
+emptyHeader = record {
+  rows = 0;
+  sites = 0;
+  displacement = 0;
+  reordering = 0;
+  step = 0;
+  shift = 0;
+  mirror = 0;
+  swap = 0;
+  filled = 0;
+}
 
 abbrev pub emptyJob : Job
 emptyJob = record { header = emptyHeader; count = 0; cells = replicate paper.maxCells emptyCell }
@@ -84,6 +93,7 @@ headerOf h = record {
   shiftWeight = h .shift;
   mirrorWeight = h .mirror;
   swapWeight = h .swap;
+  filledWeight = h .filled;
 }
 
 unfoldable pub jobOf : Job → paper.Job

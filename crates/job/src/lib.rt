@@ -23,6 +23,7 @@ pub struct Cell {
     pub second: Layout,
 }
 
+// The weight `step` is of steps where cells touch, `filled` of those against filler.
 pub struct Header {
     pub rows: u32,
     pub sites: u32,
@@ -32,6 +33,7 @@ pub struct Header {
     pub shift: u32,
     pub mirror: u32,
     pub swap: u32,
+    pub filled: u32,
 }
 
 // The first `count` cells are the job's, in file order.
@@ -86,6 +88,7 @@ impl Header {
             shift: 0,
             mirror: 0,
             swap: 0,
+            filled: 0,
         }
     }
 }

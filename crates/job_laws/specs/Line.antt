@@ -12,7 +12,7 @@ use borrow.Author.Tests.{leb-true, le-leb, eqb-true, eq-eqb}
 use Rattle.definition.specs.Lists.{all}
 use Rattle.definition.specs.Texts.{Text, fieldsOf, within}
 use Rattle.definition.specs.Job.{maxSites, maxDisplacement, maxReordering, maxWeight, maxGiven, maxWidth, maxHeight}
-use Rattle.definition.specs.Job.{Layout, Job, nth, numbersOf, headerInRange, headerRefusal}
+use Rattle.definition.specs.Job.{Layout, Job, nth, numbersOf, headerInRange, headerRefusal, weighsFilled, lineHeader}
 use Rattle.definition.specs.Job.{headerOf, layoutSize, layoutsOf, cellOf, layoutInRange}
 use Rattle.definition.specs.Job.{restInRange, shapeInRange, hasRoom, notFalling, cellLead, fixedLead, ledBy, formed}
 use Rattle.definition.specs.Job.{cellRefusal, firstFailing}
@@ -23,9 +23,9 @@ use Rattle.job_laws.specs.Lists.{all-at, within-both, all-below}
 
 -- ---- the header
 
-header-sound : (n : List ℕ) → headerInRange n ≡ true → SoundHeader (headerOf n)
+header-sound : (filled : Bool) (n : List ℕ) → headerInRange n ≡ true → SoundHeader (headerOf filled n)
 unfolding headerInRange headerOf
-header-sound n e =
+header-sound filled n e =
     let weights = all (within 0 maxWeight) (drop 4 n) in
     let e4 =
     and-eq-true-iff
@@ -52,11 +52,16 @@ header-sound n e =
       shift = weight 1;
       mirror = weight 2;
       swap = weight 3;
+      filled = either filled (weight 4) (weight 0);
     }
+  where
+    either : (t : Bool) → nth n 8 ≤ maxWeight → nth n 4 ≤ maxWeight → cond t (nth n 8) (nth n 4) ≤ maxWeight
+    either true a b = a
+    either false a b = b
 
-pub header-line-sound : (l : Text) → headerRefusal l ≡ 0 → SoundHeader (headerOf (numbersOf l))
+pub header-line-sound : (l : Text) → headerRefusal l ≡ 0 → SoundHeader (lineHeader l)
 unfolding headerRefusal
-header-line-sound l e = header-sound (numbersOf l) (test-passed 1 _ _ (test-passed 0 _ _ e .1) .0)
+header-line-sound l e = header-sound (weighsFilled l) (numbersOf l) (test-passed 1 _ _ (test-passed 0 _ _ e .1) .0)
 
 -- ---- a cell
 

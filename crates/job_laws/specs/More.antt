@@ -6,7 +6,7 @@ use mathlib.Core.Bool.{true}
 use mathlib.Core.List.{List, [], _∷_, _++_}
 use native.Mathlib.Omega.{arith}
 use Rattle.definition.specs.Texts.{Text, linesOf, ended}
-use Rattle.definition.specs.Job.{Job, Reading, accepted, numbersOf, headerOf, lineCell, headerRefusal, cellRefusal}
+use Rattle.definition.specs.Job.{Job, Reading, accepted, lineHeader, lineCell, headerRefusal, cellRefusal}
 use Rattle.definition.specs.Job.{withCell, readCells, readLines, readJob}
 use Rattle.text_laws.specs.Lines.{lines-more}
 use Rattle.job_laws.specs.Tests.{choose, chosen, read-cell-line, read-header-line}
@@ -35,7 +35,7 @@ lines-read : (ls : List Text) (l : Text) (k : Job) → readLines ls ≡ accepted
 unfolding readLines
 lines-read [] l k e z = let y : _≡_ {A = ℕ} 0 1 = cc in absurd (omega arith)
 lines-read (m ∷ ls) l k e z =
-    let begun : Job = record { header = headerOf (numbersOf m); cells = [] } in
+    let begun : Job = record { header = lineHeader m; cells = [] } in
     let c = chosen (headerRefusal m) 1 (readCells begun 2 ls) k (sym (read-header-line m ls) ∙ e) in
     read-header-line m (ls ++ (l ∷ []))
     ∙ passed (headerRefusal m) 1 _ _ (c .0) (cells-more ls l 2 begun k (c .1) z)

@@ -5,8 +5,8 @@ use mathlib.Core.Bool.{Bool, true, false}
 use mathlib.Core.List.{List, [], _∷_}
 use native.Mathlib.Omega.{arith}
 use Rattle.definition.specs.Texts.{Text, linesOf}
-use Rattle.definition.specs.Job.{Job, Reading, refused, firstFailing, headerRefusal, cellRefusal, headerOf}
-use Rattle.definition.specs.Job.{numbersOf, lineCell, withCell, readCells, readLines, readJob}
+use Rattle.definition.specs.Job.{Job, Reading, refused, firstFailing, headerRefusal, cellRefusal, lineHeader}
+use Rattle.definition.specs.Job.{lineCell, withCell, readCells, readLines, readJob}
 use Rattle.job_laws.specs.Tests.{choose, read-cell-line, read-header-line}
 
 -- ---- the tests of a line are numbered 1 to 4
@@ -60,7 +60,7 @@ lines-refused [] n line e =
     let p : 1 ≡ n = cc in let q : 1 ≡ line = cc in
     record { some = omega arith; few = omega arith; located = omega arith }
 lines-refused (l ∷ ls) n line e =
-    let begun : Job = record { header = headerOf (numbersOf l); cells = [] } in
+    let begun : Job = record { header = lineHeader l; cells = [] } in
     unchosen (headerRefusal l) 1 (readCells begun 2 ls) n line (header-few l) (omega arith)
     (sym (read-header-line l ls) ∙ e) (cells-refused ls 2 begun n line (omega arith))
 

@@ -5,7 +5,7 @@ use mathlib.Core.Bool.{Bool, true, false}
 use mathlib.Core.List.{List, [], _∷_}
 use native.Mathlib.Omega.{arith}
 use Rattle.definition.specs.Texts.{Text}
-use Rattle.definition.specs.Job.{Job, Reading, refused, accepted, firstFailing, numbersOf, headerOf, lineCell}
+use Rattle.definition.specs.Job.{Job, Reading, refused, accepted, firstFailing, lineHeader, lineCell}
 use Rattle.definition.specs.Job.{headerRefusal, cellRefusal, withCell, readCells, readLines}
 
 pub test-passed : (k : ℕ) (a : Bool) (ts : List (ℕ × Bool)) → firstFailing ((suc k, a) ∷ ts) ≡ 0
@@ -31,6 +31,6 @@ read-cell-line j at l ls = refl
 
 pub read-header-line : (l : Text) (ls : List Text)
     → readLines (l ∷ ls)
-    ≡ choose (headerRefusal l) 1 (readCells (record { header = headerOf (numbersOf l); cells = [] }) 2 ls)
+    ≡ choose (headerRefusal l) 1 (readCells (record { header = lineHeader l; cells = [] }) 2 ls)
 unfolding readLines choose
 read-header-line l ls = refl

@@ -11,7 +11,7 @@ use borrow.Author.Tests.{leb-true, ltb-true}
 use Rattle.definition.specs.Lists.{keep}
 use Rattle.definition.specs.Texts.{Text, linesOf}
 use Rattle.definition.specs.Job.{Cell, Header, Job, accepted, isTall, shareRow, maxTall}
-use Rattle.definition.specs.Job.{maxCells, numbersOf, headerOf, cellOf, lineCell, headerRefusal}
+use Rattle.definition.specs.Job.{maxCells, numbersOf, lineHeader, cellOf, lineCell, headerRefusal}
 use Rattle.definition.specs.Job.{cellRefusal, withCell, readCells, readLines, readJob}
 use Rattle.definition.specs.Rules.{noCell, cellAt}
 use Rattle.definition_laws.specs.Sound.{SoundHeader, SoundCell, Sound}
@@ -96,9 +96,9 @@ lines-sound : (ls : List Text) (j : Job) → readLines ls ≡ accepted j → Sou
 unfolding readLines
 lines-sound [] j e = let z : _≡_ {A = ℕ} 0 1 = cc in absurd (omega arith)
 lines-sound (l ∷ ls) j e =
-    let begun : Job = record { header = headerOf (numbersOf l); cells = [] } in
+    let begun : Job = record { header = lineHeader l; cells = [] } in
     let c = chosen (headerRefusal l) 1 (readCells begun 2 ls) j (sym (read-header-line l ls) ∙ e) in
-    cells-sound ls 2 begun j (begun-sound (headerOf (numbersOf l)) (header-line-sound l (c .0))) (c .1)
+    cells-sound ls 2 begun j (begun-sound (lineHeader l) (header-line-sound l (c .0))) (c .1)
 
 pub accepted-sound : (text : Text) (j : Job) → readJob text ≡ accepted j → Sound j
 unfolding readJob

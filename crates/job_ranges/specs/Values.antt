@@ -51,8 +51,9 @@ cellIn fixed v = record {
   second = layoutIn v (4 + paper.layoutSize (getD v 0 0));
 }
 
-abbrev pub headerIn : List ℕ → Header
-headerIn v = record {
+-- the header of a line, with or without a weight of its own for filled steps
+abbrev pub headerIn : Bool → List ℕ → Header
+headerIn filled v = record {
   rows = getD v 0 0;
   sites = getD v 1 0;
   displacement = getD v 2 0;
@@ -61,11 +62,13 @@ headerIn v = record {
   shift = getD v 5 0;
   mirror = getD v 6 0;
   swap = getD v 7 0;
+  filled = cond filled (getD v 8 0) (getD v 4 0);
 }
 
--- the header's numbers again
+-- the header's numbers again, with the weight of filled steps
 abbrev pub listed : Header → List ℕ
-listed h = h .rows ∷ h .sites ∷ h .displacement ∷ h .reordering ∷ h .step ∷ h .shift ∷ h .mirror ∷ h .swap ∷ []
+listed h =
+    h .rows ∷ h .sites ∷ h .displacement ∷ h .reordering ∷ h .step ∷ h .shift ∷ h .mirror ∷ h .swap ∷ h .filled ∷ []
 
 -- ---- the tests, as the code makes them
 
@@ -93,7 +96,8 @@ pub header-all : (h : Header)
     → within 1 2 (h .rows) && within 1 paper.maxSites (h .sites) && leb (h .displacement) paper.maxDisplacement
     && leb (h .reordering) paper.maxReordering
     && (leb (h .step) paper.maxWeight
-    && (leb (h .shift) paper.maxWeight && (leb (h .mirror) paper.maxWeight && leb (h .swap) paper.maxWeight)))
+    && (leb (h .shift) paper.maxWeight && (leb (h .mirror) paper.maxWeight
+    && (leb (h .swap) paper.maxWeight && leb (h .filled) paper.maxWeight))))
     ≡ paper.headerInRange (listed h)
 unfolding paper.headerInRange
 header-all h = simp (leb·zero, and-one)

@@ -16,8 +16,18 @@ use job::Layout;
 
 // ---- the numbers of a line as a header or a cell
 
-pub fn header_of(v: [u32; 24]) -> Header
-    ensures { λ r. ⌜ r ≡ headerIn v ⌝ }
+// The weight of filled steps: its own, or that of all steps.
+fn filled_weight(filled: bool, own: u32, step: u32) -> u32
+    ensures { λ r. ⌜ r ≡ cond filled own step ⌝ }
+{
+    if filled {
+        return own;
+    }
+    step
+}
+
+pub fn header_of(filled: bool, v: [u32; 24]) -> Header
+    ensures { λ r. ⌜ r ≡ headerIn filled v ⌝ }
 {
     Header {
         rows: v[0],
@@ -28,6 +38,7 @@ pub fn header_of(v: [u32; 24]) -> Header
         shift: v[5],
         mirror: v[6],
         swap: v[7],
+        filled: filled_weight(filled, v[8], v[4]),
     }
 }
 
@@ -87,7 +98,8 @@ pub fn header_fits(h: Header) -> bool
     let sites = (1 <= h.sites) & (h.sites <= Job::MAX_SITES);
     let weights = (h.step <= Job::MAX_WEIGHT)
         & ((h.shift <= Job::MAX_WEIGHT)
-            & ((h.mirror <= Job::MAX_WEIGHT) & (h.swap <= Job::MAX_WEIGHT)));
+            & ((h.mirror <= Job::MAX_WEIGHT)
+                & ((h.swap <= Job::MAX_WEIGHT) & (h.filled <= Job::MAX_WEIGHT))));
     rows
         & sites
         & (h.displacement <= Job::MAX_DISPLACEMENT)

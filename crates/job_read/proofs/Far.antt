@@ -145,7 +145,7 @@ no-text (b ∷ text) any e = absurd (omega arith)
 module _ (text : Text) (some : 0 < length text) where
   head : paper.readJob text
       ≡ choose (paper.headerRefusal (firstLine text)) 1
-      (paper.readCells (record { header = paper.headerOf (paper.numbersOf (firstLine text)); cells = [] }) 2 (linesOf (afterLine text)))
+      (paper.readCells (record { header = paper.lineHeader (firstLine text); cells = [] }) 2 (linesOf (afterLine text)))
   unfolding paper.readJob
   head = ap paper.readLines (all-lines text some) ∙ read-header-line (firstLine text) (linesOf (afterLine text))
     where
@@ -157,7 +157,7 @@ module _ (text : Text) (some : 0 < length text) where
       → Reads (paper.readJob text) (record { refusal = record { number = h .number; line = 1 }; job = any })
   unfolding readingOf
   head-refused h r z any =
-      let more = paper.readCells (record { header = paper.headerOf (paper.numbersOf (firstLine text)); cells = [] }) 2 (linesOf (afterLine text)) in
+      let more = paper.readCells (record { header = paper.lineHeader (firstLine text); cells = [] }) 2 (linesOf (afterLine text)) in
       record {
         same = refuse (h .number) 1 any more z ∙ ap (λ (n : ℕ). choose n 1 more) (r .number) ∙ sym head;
         number = r .few;
@@ -174,5 +174,5 @@ module _ (text : Text) (some : 0 < length text) where
       let to = r .read z in
       let cells : paper.Header → Text → paper.Reading = λ x l. paper.readCells (record { header = x; cells = [] }) 2 (linesOf l) in
       ap (λ (x : paper.Header). cells x (drop (h .next) text)) (to .header)
-      ∙ ap (cells (paper.headerOf (paper.numbersOf (firstLine text)))) (sym (to .rest))
-      ∙ sym (head ∙ ap (λ (n : ℕ). choose n 1 (cells (paper.headerOf (paper.numbersOf (firstLine text))) (afterLine text))) (sym (r .number) ∙ z))
+      ∙ ap (cells (paper.lineHeader (firstLine text))) (sym (to .rest))
+      ∙ sym (head ∙ ap (λ (n : ℕ). choose n 1 (cells (paper.lineHeader (firstLine text)) (afterLine text))) (sym (r .number) ∙ z))

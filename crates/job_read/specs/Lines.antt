@@ -21,12 +21,17 @@ use Rattle.text_scan.specs.Lead.{led, formed-either, formed-other}
 use Rattle.text_scan.specs.Found.{LedFrom}
 use Rattle.text_scan.specs.declared.Numbers.{Numbers}
 use Rattle.job_ranges.specs.Values.{cellIn, headerIn, listed}
-use Rattle.job_ranges.specs.Made.{header-listed, header-made, cell-made}
+use Rattle.job_ranges.specs.Made.{header-ranged, header-made, cell-made}
 use Rattle.job_tally.specs.declared.Tally.{Tally}
 use Rattle.job_tally.specs.Tallies.{Tallies, room, rises, room-cells, rises-tally}
 
-unfoldable pub headNumber : Bool → ℕ → Header → ℕ
-headNumber ok count h = paper.firstFailing ((1, ok && eqb count 8) ∷ (2, paper.headerInRange (listed h)) ∷ [])
+-- how many numbers follow a header's lead
+abbrev pub headCount : Bool → ℕ
+headCount filled = cond filled 9 8
+
+unfoldable pub headNumber : Bool → Bool → ℕ → Header → ℕ
+headNumber filled ok count h =
+    paper.firstFailing ((1, ok && eqb count (headCount filled)) ∷ (2, paper.headerInRange (listed h)) ∷ [])
 
 unfoldable pub cellNumber : Tally → Bool → ℕ → ℕ → Cell → ℕ
 cellNumber t ok count mark c = paper.firstFailing (
@@ -86,9 +91,9 @@ tests-few (t ∷ ts) e = go (t .1) (tests-few ts (p .1))
     go true h = h
     go false h = leb-true (t .0) 4 (p .0)
 
-pub head-few : (ok : Bool) (count : ℕ) (h : Header) → headNumber ok count h ≤ 4
+pub head-few : (filled ok : Bool) (count : ℕ) (h : Header) → headNumber filled ok count h ≤ 4
 unfolding headNumber
-head-few ok count h = tests-few _ refl
+head-few filled ok count h = tests-few _ refl
 
 pub cell-few : (t : Tally) (ok : Bool) (count mark : ℕ) (c : Cell) → cellNumber t ok count mark c ≤ 4
 unfolding cellNumber
@@ -143,84 +148,135 @@ module _ (lead : ℕ) (text : Text) (at : ℕ) (r : Numbers) (l : LedFrom lead t
   numbers-count : (e : r .ok ≡ true) → length (paper.numbersOf (lineAt text at)) ≡ r .count
   numbers-count e = length-map (drop 1 (fieldsOf (lineAt text at))) value ∙ sym (l .found e .count)
 
+-- ---- a line with one of two leads
+
+-- the line begins with the second of them
+abbrev pub begins : ℕ → Text → ℕ → Bool
+begins other text at = eqb (getD text at 0) other
+
+-- its lead, by the byte that it begins with
+abbrev pub leadAt : ℕ → ℕ → Bool → ℕ
+leadAt one other second = cond second other one
+
+-- that lead, which is no comma
+pub record LeadOf (one other : ℕ) (second : Bool) (lead : ℕ) : Type 0 where
+  pub byte : lead ≡ leadAt one other second
+  pub high : comma < lead
+
+-- neither lead is a comma
+pub record Leads (one other : ℕ) : Type 0 where
+  pub one-high : comma < one
+  pub other-high : comma < other
+
+module _ (one other : ℕ) (text : Text) (at : ℕ) (r : Numbers) (there : at < length text)
+    (l : LedFrom (leadAt one other (begins other text at)) text at r) where
+  abbrev second : Bool
+  second = begins other text at
+
+  lead-same : paper.formed (leadAt one other second ∷ []) (lineAt text at)
+      ≡ paper.formed (one ∷ other ∷ []) (lineAt text at)
+  lead-same = rw (drop-cons text at 0 there) (formed-either one other (getD text at 0) (drop (suc at) text))
+
+  formed-same : paper.formed (one ∷ other ∷ []) (lineAt text at) ≡ true
+      → paper.ledBy (other ∷ []) (lineAt text at) ≡ second
+  formed-same e =
+      let f = rw (drop-cons text at 0 there) at e in
+      rw (drop-cons text at 0 there) (formed-other one other (getD text at 0) (drop (suc at) text) f)
+
+  second-same : r .ok ≡ true → paper.ledBy (other ∷ []) (lineAt text at) ≡ second
+  unfolding led
+  second-same o =
+      formed-same (sym lead-same
+      ∙ and-eq-true-iff (paper.formed (leadAt one other second ∷ []) (lineAt text at))
+      (leb 2 (length (fieldsOf (lineAt text at)))) .0 (sym (l .ok) ∙ o) .0)
+
 -- ---- the header line
 
-module _ (text : Text) (at : ℕ) (r : Numbers) (l : LedFrom paper.headerLead text at r) where
-  head-first : r .ok && eqb (r .count) 8
-      ≡ paper.formed (paper.headerLead ∷ []) (lineAt text at) && eqb (length (fieldsOf (lineAt text at))) 9
+-- a first test of a header, by what is asked where it has the lead that it begins with
+first-by : (f : Bool) (p : Bool → Bool) (a b : Bool) → (f ≡ true → b ≡ a) → f && p a ≡ f && p b
+first-by true p a b e = ap p (sym (e refl))
+first-by false p a b e = refl
+
+module _ (text : Text) (r : Numbers) (there : 0 < length text)
+    (l : LedFrom (leadAt paper.headerLead paper.filledLead (begins paper.filledLead text 0)) text 0 r) where
+  abbrev filled : Bool
+  filled = begins paper.filledLead text 0
+
+  abbrev headLine : Text
+  headLine = lineAt text 0
+
+  abbrev headLead : ℕ
+  headLead = leadAt paper.headerLead paper.filledLead filled
+
+  count-same : (t : Bool) → suc (r .count) ≡ length (fieldsOf headLine)
+      → eqb (r .count) (headCount t) ≡ eqb (length (fieldsOf headLine)) (paper.headerFieldCount t)
+  count-same true e = sym (eqb·suc-suc (r .count) 9) ∙ ap (λ (n : ℕ). eqb n 10) e
+  count-same false e = sym (eqb·suc-suc (r .count) 8) ∙ ap (λ (n : ℕ). eqb n 9) e
+
+  count-some : (t : Bool) → eqb (length (fieldsOf headLine)) (paper.headerFieldCount t) ≡ true
+      → 2 ≤ length (fieldsOf headLine)
+  count-some true e = let q = eqb-true (length (fieldsOf headLine)) 10 e in omega arith
+  count-some false e = let q = eqb-true (length (fieldsOf headLine)) 9 e in omega arith
+
+  head-first : r .ok && eqb (r .count) (headCount filled)
+      ≡ paper.formed (paper.headerLead ∷ paper.filledLead ∷ []) headLine
+      && eqb (length (fieldsOf headLine)) (paper.headerFieldCount (paper.weighsFilled headLine))
   head-first =
-      first-test paper.headerLead text at r l (eqb (r .count) 8) (λ n. eqb n 9)
-      (λ e. let q = eqb-true (length (fieldsOf (lineAt text at))) 9 e in omega arith)
-      (λ e. sym (eqb·suc-suc (r .count) 8) ∙ ap (λ (n : ℕ). eqb n 9) e)
+      first-test headLead text 0 r l (eqb (r .count) (headCount filled))
+      (λ n. eqb n (paper.headerFieldCount filled)) (count-some filled) (count-same filled)
+      ∙ ap (λ t. t && eqb (length (fieldsOf headLine)) (paper.headerFieldCount filled))
+      (lead-same paper.headerLead paper.filledLead text 0 r there l)
+      ∙ first-by _ (λ t. eqb (length (fieldsOf headLine)) (paper.headerFieldCount t)) filled
+      (paper.weighsFilled headLine) (formed-same paper.headerLead paper.filledLead text 0 r there l)
 
   -- the numbers of a line that passes the first test
-  head-passed : r .ok && eqb (r .count) 8 ≡ true → (r .ok ≡ true) × (length (paper.numbersOf (lineAt text at)) ≡ 8)
+  head-passed : r .ok && eqb (r .count) (headCount filled) ≡ true
+      → (r .ok ≡ true) × (length (paper.numbersOf headLine) ≡ headCount filled)
   head-passed e =
-      let t = and-eq-true-iff (r .ok) (eqb (r .count) 8) .0 e in
-      (t .0, numbers-count paper.headerLead text at r l (t .0) ∙ eqb-true (r .count) 8 (t .1))
+      let t = and-eq-true-iff (r .ok) (eqb (r .count) (headCount filled)) .0 e in
+      (t .0, numbers-count headLead text 0 r l (t .0) ∙ eqb-true (r .count) (headCount filled) (t .1))
 
-  pub head-number : headNumber (r .ok) (r .count) (headerIn (r .values)) ≡ paper.headerRefusal (lineAt text at)
+  pub head-number : headNumber filled (r .ok) (r .count) (headerIn filled (r .values)) ≡ paper.headerRefusal headLine
   unfolding headNumber paper.headerRefusal
   head-number =
       test-same 1 _ _ _ _ head-first
       (λ e.
       let p = head-passed e in
       test-same 2 _ _ _ _
-      (ap paper.headerInRange
-      (sym (header-listed (paper.numbersOf (lineAt text at)) (r .values) (l .found (p .0) .values) (p .1))))
+      (header-ranged (paper.numbersOf headLine) (r .values) (l .found (p .0) .values) filled (p .1))
       (λ _. refl))
 
-  pub head-read : headNumber (r .ok) (r .count) (headerIn (r .values)) ≡ 0
-      → (r .ok ≡ true) × (headerOf (headerIn (r .values)) ≡ paper.headerOf (paper.numbersOf (lineAt text at)))
+  pub head-read : headNumber filled (r .ok) (r .count) (headerIn filled (r .values)) ≡ 0
+      → (r .ok ≡ true) × (headerOf (headerIn filled (r .values)) ≡ paper.lineHeader headLine)
   unfolding headNumber
   head-read e =
-      let p = head-passed (test-passed 0 _ _ e .0) in
-      (p .0, header-made (paper.numbersOf (lineAt text at)) (r .values) (l .found (p .0) .values) (p .1))
+      let p = head-passed (test-passed 0 _ _ e .0) in (
+        p .0,
+        header-made (paper.numbersOf headLine) (r .values) (l .found (p .0) .values) filled (p .1)
+            ∙ ap (λ t. paper.headerOf t (paper.numbersOf headLine))
+            (sym (second-same paper.headerLead paper.filledLead text 0 r there l (p .0))),
+      )
 
 -- ---- a cell line
 
--- the line begins with F
-abbrev pub beginsFixed : Text → ℕ → Bool
-beginsFixed text at = eqb (getD text at 0) paper.fixedLead
-
--- its lead, by the byte that it begins with
-abbrev pub leadAt : Bool → ℕ
-leadAt fixed = cond fixed paper.fixedLead paper.cellLead
-
--- that lead, which is no comma
-pub record LeadOf (fixed : Bool) (lead : ℕ) : Type 0 where
-  pub byte : lead ≡ leadAt fixed
-  pub high : comma < lead
+-- its lead: F if the cell is fixed
+abbrev pub cellLeadAt : Bool → ℕ
+cellLeadAt fixed = leadAt paper.cellLead paper.fixedLead fixed
 
 module _ (text : Text) (at : ℕ) (r : Numbers) (there : at < length text)
-    (l : LedFrom (leadAt (beginsFixed text at)) text at r) where
+    (l : LedFrom (cellLeadAt (begins paper.fixedLead text at)) text at r) where
   abbrev fixed : Bool
-  fixed = beginsFixed text at
-
-  lead-same : paper.formed (leadAt fixed ∷ []) (lineAt text at)
-      ≡ paper.formed (paper.cellLead ∷ paper.fixedLead ∷ []) (lineAt text at)
-  lead-same =
-      rw (drop-cons text at 0 there)
-      (formed-either paper.cellLead paper.fixedLead (getD text at 0) (drop (suc at) text))
-
-  fixed-same : r .ok ≡ true → paper.ledBy (paper.fixedLead ∷ []) (lineAt text at) ≡ fixed
-  unfolding led
-  fixed-same o =
-      let e =
-      and-eq-true-iff (paper.formed (leadAt fixed ∷ []) (lineAt text at))
-      (leb 2 (length (fieldsOf (lineAt text at)))) .0 (sym (l .ok) ∙ o) .0 in
-      let f = rw (drop-cons text at 0 there) at (sym lead-same ∙ e) in
-      rw (drop-cons text at 0 there)
-      (formed-other paper.cellLead paper.fixedLead (getD text at 0) (drop (suc at) text) f)
+  fixed = begins paper.fixedLead text at
 
   cell-first : r .ok && leb 4 (r .count)
       ≡ paper.formed (paper.cellLead ∷ paper.fixedLead ∷ []) (lineAt text at)
       && leb 5 (length (fieldsOf (lineAt text at)))
   cell-first =
-      first-test (leadAt fixed) text at r l (leb 4 (r .count)) (λ n. leb 5 n)
+      first-test (cellLeadAt fixed) text at r l (leb 4 (r .count)) (λ n. leb 5 n)
       (λ e. let q = leb-true 5 (length (fieldsOf (lineAt text at))) e in omega arith)
       (λ e. sym (leb·suc-suc 4 (r .count)) ∙ ap (λ (n : ℕ). leb 5 n) e)
-      ∙ ap (λ t. t && leb 5 (length (fieldsOf (lineAt text at)))) lead-same
+      ∙ ap (λ t. t && leb 5 (length (fieldsOf (lineAt text at))))
+      (lead-same paper.cellLead paper.fixedLead text at r there l)
 
   abbrev numbers : List ℕ
   numbers = paper.numbersOf (lineAt text at)
@@ -235,7 +291,7 @@ module _ (text : Text) (at : ℕ) (r : Numbers) (there : at < length text)
       let b = and-eq-true-iff (leb 1 k) (leb k 2) .0 w in
       let v3 = v 3 (omega arith) in
       let size =
-      numbers-count (leadAt fixed) text at r l o
+      numbers-count (cellLeadAt fixed) text at r l o
       ∙ eqb-true (r .count) (4 + k * paper.layoutSize (getD (r .values) 0 0)) e in
       cell-made numbers (r .values) v fixed (omega (arith, v3, leb-true 1 k (b .0)))
       (omega (arith, v3, leb-true k 2 (b .1)))
@@ -254,7 +310,7 @@ module _ (text : Text) (at : ℕ) (r : Numbers) (there : at < length text)
       let v3 = v 3 (omega arith) in
       test-same 2 _ _ _ _ (rw (v0, v3, s .rows))
       (λ e2.
-      test-same 1 _ _ _ _ (rw (v0, v3, numbers-count (leadAt fixed) text at r l o))
+      test-same 1 _ _ _ _ (rw (v0, v3, numbers-count (cellLeadAt fixed) text at r l o))
       (λ e3.
       let c =
       made o
@@ -290,6 +346,6 @@ module _ (text : Text) (at : ℕ) (r : Numbers) (there : at < length text)
             (and-eq-true-iff (leb (getD (r .values) 0 0) (cond (eqb (t .rows) 2) 2 0))
             (within 1 2 (getD (r .values) 3 0)) .0 (p2 .0) .1)
             (p3 .0)
-            ∙ ap (λ t. paper.cellOf t numbers) (sym (fixed-same o));
+            ∙ ap (λ t. paper.cellOf t numbers) (sym (second-same paper.cellLead paper.fixedLead text at r there l o));
         few = ltb-true (t .count) paper.maxCells (and-eq-true-iff (ltb (t .count) paper.maxCells) _ .0 (p5 .0) .0);
       }

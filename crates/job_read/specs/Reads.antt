@@ -23,7 +23,7 @@ use Rattle.job_read.specs.Lines.{lineAt}
 pub record HeadTo (text : Text) (r : Head) : Type 0 where
   pub within : r .next ≤ length text
   pub rest : afterLine text ≡ drop (r .next) text
-  pub header : headerOf (r .header) ≡ paper.headerOf (paper.numbersOf (firstLine text))
+  pub header : headerOf (r .header) ≡ paper.lineHeader (firstLine text)
 
 pub record HeadLine (text : Text) (r : Head) : Type 0 where
   pub number : r .number ≡ paper.headerRefusal (firstLine text)

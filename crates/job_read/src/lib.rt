@@ -4,7 +4,7 @@ ghost use Prim.Native.Nat.{_+_, _<_};
 ghost use lib.ListN.{length, drop};
 ghost use Rattle.definition.specs.Texts.{linesOf};
 ghost use Rattle.definition.specs.Job.{readJob, readCells};
-ghost use Rattle.job_read.specs.Lines.{later, headNumber, cellNumber, LeadOf};
+ghost use Rattle.job_read.specs.Lines.{later, Leads, LeadOf, headCount, headNumber, cellNumber};
 ghost use Rattle.job_read.specs.Reads.{HeadLine, CellLine, CellsFrom, begun, Reads};
 use job::Cell;
 use job::Header;
@@ -55,25 +55,49 @@ fn tried(before: u32, passed: bool, number: u32) -> u32
     number
 }
 
+// A line's lead, one of two: the second if the line begins with that.
+fn lead_of(one: u8, other: u8, second: bool) -> u8
+    requires { ⌜ Leads one other ⌝ }
+    ensures { λ r. ⌜ LeadOf one other second r ⌝ }
+{
+    if second {
+        return other;
+    }
+    one
+}
+
 // ---- the header
 
-fn header_refusal(ok: bool, count: usize, h: Header) -> u32
-    ensures { λ r. ⌜ r ≡ headNumber ok count h ⌝ }
+// How many numbers follow the lead.
+fn head_count(filled: bool) -> usize
+    ensures { λ r. ⌜ r ≡ headCount filled ⌝ }
 {
-    let whole = ok & (count == 8);
+    if filled {
+        return 9;
+    }
+    8
+}
+
+fn header_refusal(filled: bool, ok: bool, count: usize, h: Header) -> u32
+    ensures { λ r. ⌜ r ≡ headNumber filled ok count h ⌝ }
+{
+    let whole = ok & (count == head_count(filled));
     let range = header_fits(h);
     let n = tried(0, whole, 1);
     tried(n, range, 2)
 }
 
+// The first line, which has a weight of its own for filled steps if K leads it.
 fn header_line(text: &[u8]) -> Head
     requires { ⌜ 0 < length (now text) ⌝ }
     ensures { λ r. ⌜ HeadLine (now (text .entry)) r ⌝ }
 {
-    let f = read_led(text, 0, b'J');
+    let filled = text[0] == b'K';
+    let lead = lead_of(b'J', b'K', filled);
+    let f = read_led(text, 0, lead);
     let v = f.values;
-    let header = header_of(v);
-    let number = header_refusal(f.ok, f.count, header);
+    let header = header_of(filled, v);
+    let number = header_refusal(filled, f.ok, f.count, header);
     Head {
         number,
         next: f.next,
@@ -104,22 +128,13 @@ fn cell_refusal(t: Tally, ok: bool, count: usize, mark: u32, c: Cell) -> u32
     tried(n, rises, 4)
 }
 
-// The lead of a cell line: F if the cell is fixed.
-fn lead_of(fixed: bool) -> u8
-    ensures { λ r. ⌜ LeadOf fixed r ⌝ }
-{
-    if fixed {
-        return b'F';
-    }
-    b'C'
-}
-
+// The line of a cell, which is fixed if F leads it.
 fn cell_line(text: &[u8], at: usize, t: Tally) -> Line
     requires { ⌜ at < length (now text) ⌝ }
     ensures { λ r. ⌜ CellLine (now (text .entry)) at t r ⌝ }
 {
     let fixed = text[at] == b'F';
-    let lead = lead_of(fixed);
+    let lead = lead_of(b'C', b'F', fixed);
     let f = read_led(text, at, lead);
     let v = f.values;
     let cell = cell_of(fixed, v);

@@ -27,6 +27,7 @@ header = record {
   shiftWeight = 1;
   mirrorWeight = 100;
   swapWeight = 50;
+  filledWeight = 100;
 }
 
 -- the job that a load is read as

@@ -15,7 +15,7 @@ use Rattle.theory_pair.specs.Coded.{lowest, lowest-low}
 use Rattle.theory_tables.specs.Steps.{B, Layer, stateCount, lastAt, isSource, via, reached}
 use Rattle.theory_tables.specs.Lowest.{lowest-member, lowest-above, loop-member, loop-above}
 use Rattle.search_row.specs.Words.{wordOf, variant, endIn, differIn, weightIn, tollAt, leftN, leftP, rightN, rightP}
-use Rattle.search_row.specs.Words.{tollIn, deckOf, RowWords, apartWord, firstWord, touchingWord}
+use Rattle.search_row.specs.Words.{tollIn, deckOf, RowWords, filledWord, firstWord, touchingWord}
 use Rattle.search_row.specs.Laws.{differ-low, pay-low}
 use Rattle.search_buckets.specs.Loops.{lowest-cap, lowest-same, lowest-min, lowest-swap}
 use Rattle.search_buckets.specs.Gaps.{paying, paying-low, Toll, pays, free, barred, toll?}
@@ -140,7 +140,7 @@ module _ (row : List ℕ) (k b m : ℕ) where
   unfolding payIn
   pay-touching v h g = rw (le-ltb v 1 h, lt-ltb v 5 g)
 
-  pub pay-apart : (v : ℕ) → 5 ≤ v → payIn row k b m v ≡ wordOf row m apartWord * differIn row k b m (v - 5)
+  pub pay-apart : (v : ℕ) → 5 ≤ v → payIn row k b m v ≡ wordOf row m filledWord * differIn row k b m (v - 5)
   unfolding payIn
   pay-apart v h = rw (le-ltb v 1 (omega arith), le-ltb v 5 h)
 
@@ -154,7 +154,7 @@ module _ (row : List ℕ) (k b m : ℕ) where
   pay-same v =
       let e : variant (variant b) ≡ variant b = omega arith in
       ap (λ (u : ℕ). cond (ltb v 1) 0 (cond (ltb v 5)
-      (wordOf row m touchingWord * differBy u (v - 1)) (wordOf row m apartWord * differBy u (v - 5)))) e
+      (wordOf row m touchingWord * differBy u (v - 1)) (wordOf row m filledWord * differBy u (v - 5)))) e
     where
       differBy : ℕ → ℕ → ℕ
       differBy u a =
@@ -171,14 +171,14 @@ module _ (row : List ℕ) (k b m : ℕ) where
           + cond (eqb (wordOf row k (rightN + variant b)) (wordOf row m (leftN + u))) 0 1) e
 
       go : (z : Bool) → payIn row k b m (cond z (1 + a % 4) (5 + a % 4))
-          ≡ cond z (wordOf row m touchingWord) (wordOf row m apartWord) * differIn row k b m a
+          ≡ cond z (wordOf row m touchingWord) (wordOf row m filledWord) * differIn row k b m a
       go true = pay-touching (1 + a % 4) (omega arith) (omega arith)
           ∙ ap (λ (d : ℕ). wordOf row m touchingWord * d) (vary (1 + a % 4 - 1) (omega arith))
       go false = pay-apart (5 + a % 4) (omega arith)
-          ∙ ap (λ (d : ℕ). wordOf row m apartWord * d) (vary (5 + a % 4 - 5) (omega arith))
+          ∙ ap (λ (d : ℕ). wordOf row m filledWord * d) (vary (5 + a % 4 - 5) (omega arith))
 
   -- one weight for all gaps: the buckets of the other gaps are those of gap 0
-  pub pay-twin : (v : ℕ) → v < 4 → wordOf row m touchingWord ≡ wordOf row m apartWord
+  pub pay-twin : (v : ℕ) → v < 4 → wordOf row m touchingWord ≡ wordOf row m filledWord
       → payIn row k b m (5 + v) ≡ payIn row k b m (1 + v)
   pay-twin v h e =
       let x : 5 + v - 5 ≡ 1 + v - 1 = omega arith in

@@ -12,7 +12,7 @@ use Rattle.definition.specs.Job.{maxCells}
 use Rattle.lists.specs.Numbers.{from}
 use Rattle.theory_pair.specs.Coded.{lowest}
 use Rattle.theory_tables.specs.Steps.{B, Deck, Layer, lastAt, isSource, poseSlots}
-use Rattle.search_row.specs.Words.{wordOf, endIn, differIn, apartWord, firstWord, touchingWord, RowWords}
+use Rattle.search_row.specs.Words.{wordOf, endIn, differIn, filledWord, firstWord, touchingWord, RowWords}
 use Rattle.search_buckets.specs.Gaps.{paying}
 
 -- what a source in row r that costs c is in row t
@@ -33,7 +33,7 @@ found bucket a = min (lowest B (λ gap. bucket (bucketIn 5 gap (a % 4)) (a / 4 +
 -- how many buckets a target at position m needs: where all gaps that pay have one
 -- weight, buckets 5 to 8 are as buckets 1 to 4
 unfoldable pub bucketsIn : List ℕ → ℕ → ℕ
-bucketsIn row m = cond (eqb (wordOf row m touchingWord) (wordOf row m apartWord)) 5 9
+bucketsIn row m = cond (eqb (wordOf row m touchingWord) (wordOf row m filledWord)) 5 9
 
 -- the rows that the poses below `poses` look at
 abbrev pub rowsOf : ℕ → ℕ
@@ -49,7 +49,7 @@ endRow row k b m = endIn row k b + 4 - wordOf row m firstWord
 unfoldable pub payIn : List ℕ → ℕ → ℕ → ℕ → ℕ → ℕ
 payIn row k b m v =
     cond (ltb v 1) 0 (cond (ltb v 5)
-    (wordOf row m touchingWord * differIn row k b m (v - 1)) (wordOf row m apartWord * differIn row k b m (v - 5)))
+    (wordOf row m touchingWord * differIn row k b m (v - 1)) (wordOf row m filledWord * differIn row k b m (v - 5)))
 
 -- a word for each of four variants in each of 9 buckets
 abbrev pub payWords : ℕ

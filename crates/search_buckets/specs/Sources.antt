@@ -14,7 +14,7 @@ use Rattle.theory_tables.specs.Lowest.{loop-above}
 use Rattle.lists.specs.Compare.{Eq?, same, differs, eq?}
 use Rattle.lists.specs.Numbers.{from}
 use Rattle.theory_pair.specs.Coded.{lowest-low}
-use Rattle.search_row.specs.Words.{wordOf, RowWords, apartWord, touchingWord}
+use Rattle.search_row.specs.Words.{wordOf, RowWords, filledWord, touchingWord}
 use Rattle.search_buckets.specs.Loops.{lowest-none, lowest-more, lowest-ext}
 use Rattle.search_buckets.specs.Rows.{inRow, bucketsIn, endRow, payIn, Pays, payWords}
 use Rattle.search_buckets.specs.Rows.{PaysLow, onePose, byPoses, oneState, byStates}
@@ -124,7 +124,7 @@ module _ (row : List ℕ) (D : Deck) (R : ℕ) (f : Layer) (i q : ℕ) where
 
 -- ---- one weight for all gaps
 
-module _ (row : List ℕ) (m : ℕ) (e : wordOf row m touchingWord ≡ wordOf row m apartWord) where
+module _ (row : List ℕ) (m : ℕ) (e : wordOf row m touchingWord ≡ wordOf row m filledWord) where
   pub pose-twin : (k b c v t : ℕ) → v < 4 → onePose row k m b c (5 + v) t ≡ onePose row k m b c (1 + v) t
   pose-twin k b c v t h = ap (λ (z : ℕ). inRow (endRow row k b m) t (c + z)) (pay-twin row k b m v h e)
 
@@ -134,7 +134,7 @@ module _ (row : List ℕ) (m : ℕ) (e : wordOf row m touchingWord ≡ wordOf ro
 
 pub states-twin :
     (row : List ℕ) (D : Deck) (R : ℕ) (f : Layer) (i q n v t : ℕ)
-    → wordOf row (lastAt R (suc i) q) touchingWord ≡ wordOf row (lastAt R (suc i) q) apartWord → v < 4
+    → wordOf row (lastAt R (suc i) q) touchingWord ≡ wordOf row (lastAt R (suc i) q) filledWord → v < 4
     → byStates row D R f i q n (5 + v) t ≡ byStates row D R f i q n (1 + v) t
 unfolding byStates oneState
 states-twin row D R f i q n v t e h =
@@ -145,7 +145,7 @@ states-twin row D R f i q n v t e h =
 
 pub buckets-either : (row : List ℕ) (m : ℕ) → (bucketsIn row m ≡ 5) ⊎ (bucketsIn row m ≡ 9)
 unfolding bucketsIn
-buckets-either row m = go (eqb (wordOf row m touchingWord) (wordOf row m apartWord))
+buckets-either row m = go (eqb (wordOf row m touchingWord) (wordOf row m filledWord))
   where
     go : (z : Bool) → (_≡_ {A = ℕ} (cond z 5 9) 5) ⊎ (_≡_ {A = ℕ} (cond z 5 9) 9)
     go true = inl refl
@@ -155,12 +155,12 @@ buckets-either row m = go (eqb (wordOf row m touchingWord) (wordOf row m apartWo
 -- buckets 5 + v and 1 + v where there is one weight
 pub buckets-last :
     (P : ℕ → ℕ) (row : List ℕ) (m v : ℕ)
-    → (wordOf row m touchingWord ≡ wordOf row m apartWord → P (5 + v) ≡ P (1 + v))
+    → (wordOf row m touchingWord ≡ wordOf row m filledWord → P (5 + v) ≡ P (1 + v))
     → P (bucketsIn row m - 4 + v) ≡ P (5 + v)
 unfolding bucketsIn
-buckets-last P row m v h = go (eqb (wordOf row m touchingWord) (wordOf row m apartWord))
-    (eq? (wordOf row m touchingWord) (wordOf row m apartWord))
+buckets-last P row m v h = go (eqb (wordOf row m touchingWord) (wordOf row m filledWord))
+    (eq? (wordOf row m touchingWord) (wordOf row m filledWord))
   where
-    go : (z : Bool) → Eq? (wordOf row m touchingWord) (wordOf row m apartWord) z → P (cond z 5 9 - 4 + v) ≡ P (5 + v)
+    go : (z : Bool) → Eq? (wordOf row m touchingWord) (wordOf row m filledWord) z → P (cond z 5 9 - 4 + v) ≡ P (5 + v)
     go true (same e) = sym (h e)
     go false (differs n) = refl

@@ -48,7 +48,7 @@ pub fn buckets_of(row: &[u32], m: usize) -> usize
     ensures { λ buckets. ⌜ buckets ≡ bucketsIn (now (row .entry)) m ⌝ }
 {
     if row[m * search_row::CELL + search_row::TOUCHING]
-        == row[m * search_row::CELL + search_row::APART]
+        == row[m * search_row::CELL + search_row::FILLED]
     {
         return 5;
     }
@@ -67,7 +67,7 @@ fn pay(row: &[u32], k: usize, u: usize, m: usize, v: usize) -> u32
         return row[m * search_row::CELL + search_row::TOUCHING]
             * search_row::differ(row, k, u, m, v - 1);
     }
-    row[m * search_row::CELL + search_row::APART] * search_row::differ(row, k, u, m, v - 5)
+    row[m * search_row::CELL + search_row::FILLED] * search_row::differ(row, k, u, m, v - 5)
 }
 
 // What variant u pays in each of so many buckets, after the variants before it.

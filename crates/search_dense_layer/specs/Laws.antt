@@ -14,7 +14,7 @@ use Rattle.search_store.specs.Map.{bucketRows}
 use Rattle.search_lanes.specs.Lanes.{Lowered}
 use Rattle.search_lanes.specs.Store.{Low}
 use Rattle.search_lanes.specs.Laws.{lowered-more, lowered-to, lowered-ext, lowered-join, lowered-low}
-use Rattle.search_row.specs.Words.{wordOf, apartWord, touchingWord}
+use Rattle.search_row.specs.Words.{wordOf, filledWord, touchingWord}
 use Rattle.search_buckets.specs.Rows.{inRow, endRow, bucketsIn, payIn, Pays, onePose, payWords}
 use Rattle.search_buckets.specs.Laws.{row-hit, row-miss, pay-none}
 use Rattle.search_buckets.specs.Sources.{pose-pays}
@@ -190,20 +190,20 @@ gathered-join {P} {Q} {buckets = buckets} p q e =
 module _ (row : List ℕ) (m : ℕ) where
   pub buckets-few : (5 ≤ bucketsIn row m) × (bucketsIn row m ≤ 9)
   unfolding bucketsIn
-  buckets-few = go (eqb (wordOf row m touchingWord) (wordOf row m apartWord))
+  buckets-few = go (eqb (wordOf row m touchingWord) (wordOf row m filledWord))
     where
       go : (z : Bool) → (5 ≤ cond z 5 9) × (cond z 5 9 ≤ 9)
       go true = (omega arith, omega arith)
       go false = (omega arith, omega arith)
 
   -- fewer than 9 only where one weight serves for all gaps
-  pub buckets-twin : bucketsIn row m ≢ 9 → wordOf row m touchingWord ≡ wordOf row m apartWord
+  pub buckets-twin : bucketsIn row m ≢ 9 → wordOf row m touchingWord ≡ wordOf row m filledWord
   unfolding bucketsIn
-  buckets-twin n = go (eqb (wordOf row m touchingWord) (wordOf row m apartWord))
-      (eq? (wordOf row m touchingWord) (wordOf row m apartWord)) n
+  buckets-twin n = go (eqb (wordOf row m touchingWord) (wordOf row m filledWord))
+      (eq? (wordOf row m touchingWord) (wordOf row m filledWord)) n
     where
-      go : (z : Bool) → Eq? (wordOf row m touchingWord) (wordOf row m apartWord) z → _≢_ {A = ℕ} (cond z 5 9) 9
-          → wordOf row m touchingWord ≡ wordOf row m apartWord
+      go : (z : Bool) → Eq? (wordOf row m touchingWord) (wordOf row m filledWord) z → _≢_ {A = ℕ} (cond z 5 9) 9
+          → wordOf row m touchingWord ≡ wordOf row m filledWord
       go true (same e) d = e
       go false (differs f) d = absurd (d refl)
 

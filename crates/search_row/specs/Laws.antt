@@ -11,7 +11,7 @@ use Rattle.definition.specs.Rules.{isForbidden}
 use Rattle.definition_laws.specs.Gaps.{charge-most}
 use Rattle.theory_tables.specs.Steps.{B, offset, lastAt, isSource}
 use Rattle.search_row.specs.Words.{wordOf, weightIn, differIn, siteIn, endIn, tollIn, frontIn}
-use Rattle.search_row.specs.Words.{backIn, endToll, deckOf, thereIn, RowWords, apartWord, touchingWord}
+use Rattle.search_row.specs.Words.{backIn, endToll, deckOf, thereIn, RowWords, filledWord, touchingWord}
 use Rattle.search_row.specs.Words.{frontBarred, backBarred}
 use Rattle.search_row.specs.Words.{variant, leftP, leftN, rightP, rightN}
 
@@ -40,7 +40,7 @@ charged-low p q = mul-le-mul p q
 
 pub weight-low : {row : List ℕ} (m gap : ℕ) → RowWords row → weightIn row m gap ≤ 131072
 weight-low {row} m gap w =
-    cond-low (eqb gap 0) {x = wordOf row m touchingWord} {y = wordOf row m apartWord} (w .weight m) (w .filled m)
+    cond-low (eqb gap 0) {x = wordOf row m touchingWord} {y = wordOf row m filledWord} (w .weight m) (w .filled m)
 
 pub toll-low : {row : List ℕ} (k b m a : ℕ) → RowWords row → tollIn row k b m a ≤ B
 unfolding tollIn

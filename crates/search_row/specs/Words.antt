@@ -60,8 +60,8 @@ touchingWord = 84
 abbrev pub numberWord : ℕ
 numberWord = 85
 
-abbrev pub apartWord : ℕ
-apartWord = 86
+abbrev pub filledWord : ℕ
+filledWord = 86
 
 abbrev pub frontBarred : ℕ
 frontBarred = 87
@@ -96,7 +96,7 @@ differIn row k b m a =
 -- the weight of a step between m and the cell on its left, by the gap between them: document 01 has
 -- one weight (request A7 is to give it two)
 abbrev pub weightIn : List ℕ → ℕ → ℕ → ℕ
-weightIn row m gap = cond (eqb gap 0) (wordOf row m touchingWord) (wordOf row m apartWord)
+weightIn row m gap = cond (eqb gap 0) (wordOf row m touchingWord) (wordOf row m filledWord)
 
 -- what the right one's left site x and the left one's end y make of what they pay by their gap
 abbrev pub tollAt : ℕ → ℕ → (ℕ → ℕ) → ℕ
@@ -150,7 +150,7 @@ pub record RowWords (row : List ℕ) : Type 0 where
   pub long : rowLength ≤ length row
   pub word : (k : ℕ) → getD row k 0 ≤ B
   pub weight : (k : ℕ) → wordOf row k touchingWord ≤ 131072
-  pub filled : (k : ℕ) → wordOf row k apartWord ≤ 131072
+  pub filled : (k : ℕ) → wordOf row k filledWord ≤ 131072
 
 -- the row as the tables' numbers
 abbrev pub deckIn : List ℕ → Sizes → Deck

@@ -42,7 +42,7 @@ pub const TOUCHING: usize = 84;
 
 pub const NUMBER: usize = 85;
 
-pub const APART: usize = 86;
+pub const FILLED: usize = 86;
 
 pub const FRONT_BARRED: usize = 87;
 
@@ -169,7 +169,7 @@ fn weight(row: &[u32], m: usize, gap: usize) -> u32
     if gap == 0 {
         return row[m * CELL + TOUCHING];
     }
-    row[m * CELL + APART]
+    row[m * CELL + FILLED]
 }
 
 // What the two pay; NONE where they may not stand so.

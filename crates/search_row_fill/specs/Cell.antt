@@ -14,7 +14,7 @@ use Rattle.theory_bridge.specs.Paired.{isOffered, poseNumber, widthOf, ownOf, l
 use Rattle.job.specs.Parts.{widthIn, heightIn}
 use Rattle.search_store.specs.Map.{maxPoses}
 use Rattle.search_row.specs.Words as words
-use Rattle.search_row.specs.Words.{variant, firstWord, widthWord, tallWord, touchingWord, numberWord, apartWord}
+use Rattle.search_row.specs.Words.{variant, firstWord, widthWord, tallWord, touchingWord, numberWord, filledWord}
 use Rattle.search_row.specs.Words.{frontBarred, backBarred, wordsUsed}
 use Rattle.search_row_fill.specs.Words.{alone, edge, ownWord, firstSite, shapeWord, heightWord, endWord}
 use Rattle.search_row_fill.specs.Words.{cellWord}
@@ -38,7 +38,7 @@ pub record CellWords (j : Job) (row k : ℕ) (word : ℕ → ℕ) : Type 0 where
   pub rightN : (a : ℕ) → word (words.rightN + variant a) ≡ rightOf j row k (poseNumber j k a) 1
   pub weight : word touchingWord ≡ j .header .stepWeight
   pub number : word numberWord ≡ k
-  pub filled : word apartWord ≡ j .header .stepWeight
+  pub filled : word filledWord ≡ j .header .stepWeight
   pub front : word frontBarred ≡ j .header .displacement + forbiddenGap
   pub back : word backBarred ≡ j .header .sites + j .header .displacement - forbiddenGap
 
@@ -136,11 +136,11 @@ module _ (j : Job) (row k : ℕ) where
     unfolding cellWord
     number-at i e = rw e
 
-    pub filled-at : (i : ℕ) → i ≡ apartWord → cellWord j row k n i ≡ j .header .stepWeight
+    pub filled-at : (i : ℕ) → i ≡ filledWord → cellWord j row k n i ≡ j .header .stepWeight
     unfolding cellWord
     filled-at i e = rw e
 
-    pub end-at : (i : ℕ) → apartWord < i → cellWord j row k n i ≡ endWord j i
+    pub end-at : (i : ℕ) → filledWord < i → cellWord j row k n i ≡ endWord j i
     unfolding cellWord
     end-at i h =
         rw (
@@ -149,7 +149,7 @@ module _ (j : Job) (row k : ℕ) where
           le-ltb i touchingWord (omega arith),
           ne-eqb i touchingWord (λ e. omega arith),
           ne-eqb i numberWord (λ e. omega arith),
-          ne-eqb i apartWord (λ e. omega arith),
+          ne-eqb i filledWord (λ e. omega arith),
         )
 
     width-at : (l : ℕ) → l < 2 → cellWord j row k n (widthWord + l) ≡ widthIn (cellAt j k) l
@@ -182,7 +182,7 @@ module _ (j : Job) (row k : ℕ) where
     rightN = λ a. height words.rightN (8 + 4 * 1) a refl (lit≤ tt) ∙ right-word 1 a (lit≤ tt);
     weight = w touchingWord (lit≤ tt);
     number = w numberWord (lit≤ tt);
-    filled = w apartWord (lit≤ tt);
+    filled = w filledWord (lit≤ tt);
     front = w frontBarred (lit≤ tt);
     back = w backBarred (lit≤ tt);
   }

@@ -27,7 +27,7 @@ use Rattle.theory_bridge.specs.Row.{cells-same, members-same}
 use Rattle.search_store.specs.Map.{maxPoses}
 use Rattle.search_lanes.specs.Lanes.{always}
 use Rattle.search_lanes.specs.Store.{Low, Written}
-use Rattle.search_row.specs.Words.{wordOf, deckOf, RowWords, apartWord, cellWords, numberWord}
+use Rattle.search_row.specs.Words.{wordOf, deckOf, RowWords, filledWord, cellWords, numberWord}
 use Rattle.search_row.specs.Words.{rowLength, statesFrom, tallsFrom, touchingWord, wordsUsed}
 use Rattle.search_states.specs.Rest.{rest, rest-none, rest-more, rest-all, next, done}
 use Rattle.search_row_fill.specs.Words.{alone, cellWord}
@@ -209,9 +209,9 @@ module _ (j : Job) (sound : Sound j) (s : Side) (l : List ℕ) (n k : ℕ) (f : 
       weight p (yes h) = let w = cells p h .weight in let b = sound .header .step in omega arith
       weight p (no h) = beyond p touchingWord h (omega arith, omega arith) (decLt p maxCells)
 
-      filled : (p : ℕ) → Dec (p < n) → wordOf l p apartWord ≤ 131072
+      filled : (p : ℕ) → Dec (p < n) → wordOf l p filledWord ≤ 131072
       filled p (yes h) = let w = cells p h .filled in let b = sound .header .step in omega arith
-      filled p (no h) = beyond p apartWord h (omega arith, omega arith) (decLt p maxCells)
+      filled p (no h) = beyond p filledWord h (omega arith, omega arith) (decLt p maxCells)
 
   pub lined : Lined j s l n
   lined = record {

@@ -27,7 +27,7 @@ use Rattle.theory_bridge.specs.Paired.{offersOf, widthOf, ownOf, differingOf, p
 use Rattle.theory_bridge.specs.Row.{isTall-same, member}
 use Rattle.search_store.specs.Map.{maxPoses}
 use Rattle.search_row.specs.Words.{wordOf, siteIn, endIn, differIn, weightIn, tollAt, tollIn}
-use Rattle.search_row.specs.Words.{frontIn, backIn, endToll, deckOf, RowWords, apartWord, touchingWord}
+use Rattle.search_row.specs.Words.{frontIn, backIn, endToll, deckOf, RowWords, filledWord, touchingWord}
 use Rattle.search_row.specs.Words.{frontBarred, backBarred}
 use Rattle.search_row.specs.Laws.{end-barred, end-free}
 use Rattle.search_row_fill.specs.Words.{ownWord}
@@ -77,7 +77,7 @@ module _ (j : Job) (s : Side) (l : List ℕ) (k m : ℕ) (b a : ℕ) (K M : ℕ)
   weight-same : (gap : ℕ) → weightIn l m gap ≡ j .header .stepWeight
   weight-same gap = go (eqb gap 0)
     where
-      go : (t : Bool) → cond t (wordOf l m touchingWord) (wordOf l m apartWord) ≡ j .header .stepWeight
+      go : (t : Bool) → cond t (wordOf l m touchingWord) (wordOf l m filledWord) ≡ j .header .stepWeight
       go true = v .weight
       go false = v .filled
 

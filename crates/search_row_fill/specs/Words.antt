@@ -10,7 +10,7 @@ use Rattle.theory_bridge.specs.Paired.{isOffered, poseNumber, ownOf}
 use Rattle.theory_tables.specs.Steps.{B}
 use Rattle.job.specs.Parts.{widthIn, heightIn, firstOf}
 use Rattle.search_row.specs.Words.{firstWord, widthWord, tallWord, leftP}
-use Rattle.search_row.specs.Words.{touchingWord, numberWord, apartWord, frontBarred}
+use Rattle.search_row.specs.Words.{touchingWord, numberWord, filledWord, frontBarred}
 
 -- a job of one cell: what is said of a cell of a job is said of it alone
 abbrev pub alone : Header → Cell → Job
@@ -50,4 +50,4 @@ cellWord j row k number i =
     cond (ltb i firstWord) (ownWord j row k i)
     (cond (ltb i leftP) (shapeWord j k i) (cond (ltb i touchingWord) (heightWord j row k (i - leftP))
     (cond (eqb i touchingWord) (j .header .stepWeight) (cond (eqb i numberWord) number
-    (cond (eqb i apartWord) (j .header .stepWeight) (endWord j i))))))
+    (cond (eqb i filledWord) (j .header .stepWeight) (endWord j i))))))

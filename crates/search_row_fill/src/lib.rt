@@ -150,7 +150,7 @@ fn cell_word(header: Header, cell: Cell, side: u32, number: u32, i: usize) -> u3
     if i == search_row::NUMBER {
         return number;
     }
-    if i == search_row::APART {
+    if i == search_row::FILLED {
         return header.step;
     }
     if i == search_row::FRONT_BARRED {

@@ -92,10 +92,17 @@ unfoldable pub differingOf : Job → ℕ → ℕ × Pose → ℕ × Pose → ℕ
 differingOf j row x y =
     sum (λ type. cond (eqb (rightOf j row (x .0) (x .1) type) (leftOf j row (y .0) (y .1) type)) 0 1) (0 ∷ 1 ∷ [])
 
--- the steps between neighbours, at the step weight
+-- what weighs a step by its gap: those at gap 0 are not filled
+abbrev pub weightAt : Job → ℕ → ℕ
+weightAt j gap = cond (eqb gap 0) (j .header .stepWeight) (j .header .filledWeight)
+
+-- the empty sites between neighbours
+abbrev pub gapOf : Job → ℕ × Pose → ℕ × Pose → ℕ
+gapOf j x y = y .1 .site - (x .1 .site + widthOf j (x .0) (x .1))
+
+-- the steps between neighbours, at their weight
 unfoldable pub payOf : Job → Side → ℕ × Pose → ℕ × Pose → ℕ
-payOf j s x y =
-    j .header .stepWeight * (charge (y .1 .site - (x .1 .site + widthOf j (x .0) (x .1))) * differingOf j (rowOf s) x y)
+payOf j s x y = weightAt j (gapOf j x y) * (charge (gapOf j x y) * differingOf j (rowOf s) x y)
 
 abbrev pub pairJob : Job → PairJob Pose
 pairJob j = record {

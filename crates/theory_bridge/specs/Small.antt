@@ -8,7 +8,7 @@ use native.Mathlib.Nat.{mul-le-mul, suc-mul}
 use native.Mathlib.Omega.{arith}
 use lib.ListN.{length}
 use lib.Dec.{eqb}
-use Rattle.definition.specs.Job.{Job, maxDisplacement}
+use Rattle.definition.specs.Job.{Job, maxDisplacement, maxWeight}
 use Rattle.definition.specs.Placement.{Pose, Placement}
 use Rattle.definition.specs.Rules.{Legal, cellAt, poseAt, apart}
 use Rattle.definition.specs.Cost.{cost}
@@ -20,7 +20,7 @@ use Rattle.theory_row.specs.Order.{sort-size}
 use Rattle.theory_row.specs.Rules.{sum, sumNext, sumNeighbours}
 use Rattle.theory_pair.specs.Pick.{pick}
 use Rattle.theory_pair.specs.Cells.{Side, row₀, row₁, inRow, members, rowOrder, neighbours}
-use Rattle.theory_bridge.specs.Paired.{rowOf, siteOf, widthOf, leftOf, rightOf}
+use Rattle.theory_bridge.specs.Paired.{rowOf, siteOf, gapOf, leftOf, rightOf}
 use Rattle.theory_bridge.specs.Paired.{ownOf, differingOf, payOf, pairJob}
 use Rattle.theory_bridge.specs.Offers.{Allowed, keeps-allowed}
 use Rattle.theory_bridge.specs.Total.{cost-total}
@@ -73,9 +73,12 @@ module _ (j : Job) (sound : Sound j) where
   unfolding payOf differingOf
   pay-most s x y =
       let two : differingOf j (rowOf s) x y ≤ 2 = omega (arith, differs-most (differs 0), differs-most (differs 1)) in
-      mul-le-mul (sound .header .step)
-      (mul-le-mul (charge-most (y .1 .site - (x .1 .site + widthOf j (x .0) (x .1)))) two)
+      mul-le-mul (weight-most (eqb (gapOf j x y) 0)) (mul-le-mul (charge-most (gapOf j x y)) two)
     where
+      weight-most : (t : Bool) → cond t (j .header .stepWeight) (j .header .filledWeight) ≤ maxWeight
+      weight-most true = sound .header .step
+      weight-most false = sound .header .filled
+
       differs : ℕ → Bool
       differs type = eqb (rightOf j (rowOf s) (x .0) (x .1) type) (leftOf j (rowOf s) (y .0) (y .1) type)
 

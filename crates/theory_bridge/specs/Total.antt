@@ -10,8 +10,9 @@ use lib.Dec.{eqb}
 use Rattle.definition.specs.Lists as lists
 use Rattle.definition.specs.Job.{Job}
 use Rattle.definition.specs.Placement.{Pose, Placement}
-use Rattle.definition.specs.Rules.{cellAt, poseAt, siteAt, cellsOf, apart, order}
-use Rattle.definition.specs.Cost.{isMirrored, differing, stepsAt, stepsIn, steps, shifted, mirrored, changed, cost}
+use Rattle.definition.specs.Rules.{cellAt, poseAt, siteAt, cellsOf, apart, order, gap}
+use Rattle.definition.specs.Cost.{charge, touching, filled, isMirrored, differing, stepsAt, stepsIn, stepsBy}
+use Rattle.definition.specs.Cost.{touchingSteps, filledSteps, shifted, mirrored, changed, cost}
 use Rattle.definition_laws.specs.Sound.{Sound}
 use Rattle.lists.specs.Numbers.{from, in-from}
 use Rattle.theory_row.specs.Rules.{sum, sumNeighbours}
@@ -41,38 +42,67 @@ own-sum w u v A B C (x ∷ l) =
     let c = ap (λ n. v * n) (keep-more C x l) ∙ mul-add v (cond (C x) 1 0) (length (lists.keep C l)) in
     omega arith
 
-next-sum : (w : ℕ) (f : ℕ → ℕ → ℕ) (l : List ℕ) → w * lists.sumNext f l ≡ lists.sumNext (λ a b. w * f a b) l
-next-sum w f [] = omega arith
-next-sum w f (a ∷ []) = omega arith
-next-sum w f (a ∷ b ∷ l) = mul-add w (f a b) (lists.sumNext f (b ∷ l)) ∙ ap (λ n. w * f a b + n) (next-sum w f (b ∷ l))
+next-sum : (w u : ℕ) (f g : ℕ → ℕ → ℕ) (l : List ℕ)
+    → w * lists.sumNext f l + u * lists.sumNext g l ≡ lists.sumNext (λ a b. w * f a b + u * g a b) l
+next-sum w u f g [] = omega arith
+next-sum w u f g (a ∷ []) = omega arith
+next-sum w u f g (a ∷ b ∷ l) =
+    let r = next-sum w u f g (b ∷ l) in
+    let x = mul-add w (f a b) (lists.sumNext f (b ∷ l)) in
+    let y = mul-add u (g a b) (lists.sumNext g (b ∷ l)) in
+    omega arith
+
+-- a step has one of the two weights, by its gap
+by-gap : (w u gap n : ℕ) → w * (touching gap * n) + u * (filled gap * n) ≡ cond (eqb gap 0) w u * (charge gap * n)
+by-gap w u gap n = go (eqb gap 0) (charge gap)
+  where
+    go : (t : Bool) (c : ℕ) → w * (cond t c 0 * n) + u * (cond t 0 c * n) ≡ cond t w u * (c * n)
+    go true c = omega arith
+    go false c = omega arith
 
 module _ (j : Job) (sound : Sound j) (P : Placement) (f : ℕ → Pose) (g : Gives P (length (j .cells)) f) where
+  -- the steps of neighbours at their weights
+  weighed : Side → ℕ → ℕ → ℕ
+  weighed s a b =
+      j .header .stepWeight * stepsAt touching j P (rowOf s) a b
+      + j .header .filledWeight * stepsAt filled j P (rowOf s) a b
+
   -- what neighbours pay in a row
   pay-at : (s : Side) (a b : ℕ) → a < length (j .cells) → b < length (j .cells)
-      → j .header .stepWeight * stepsAt j P (rowOf s) a b ≡ payOf j s (a, f a) (b, f b)
-  unfolding stepsAt differing payOf widthOf differingOf
-  pay-at s a b p q = ap₂ (λ x y. payOf j s (a, x) (b, y)) (g a p) (g b q)
+      → weighed s a b ≡ payOf j s (a, f a) (b, f b)
+  unfolding weighed stepsAt differing payOf widthOf differingOf
+  pay-at s a b p q =
+      by-gap (j .header .stepWeight) (j .header .filledWeight) (gap j P a b) (differing j P (rowOf s) a b)
+      ∙ ap₂ (λ x y. payOf j s (a, x) (b, y)) (g a p) (g b q)
 
-  row-pays : (s : Side) → j .header .stepWeight * stepsIn j P (rowOf s) ≡ neighbours siteOf (pairJob j) f s
-  unfolding stepsIn
+  row-pays : (s : Side)
+      → j .header .stepWeight * stepsIn touching j P (rowOf s) + j .header .filledWeight * stepsIn filled j P (rowOf s)
+      ≡ neighbours siteOf (pairJob j) f s
+  unfolding stepsIn weighed
   row-pays s =
-      next-sum (j .header .stepWeight) (stepsAt j P (rowOf s)) (order j P (rowOf s))
-      ∙ sumNext-same (λ a b. j .header .stepWeight * stepsAt j P (rowOf s) a b) pays (order j P (rowOf s))
+      next-sum (j .header .stepWeight) (j .header .filledWeight) (stepsAt touching j P (rowOf s))
+      (stepsAt filled j P (rowOf s)) (order j P (rowOf s))
+      ∙ sumNext-same (weighed s) pays (order j P (rowOf s))
       (λ a b m k. pay-at s a b (ordered-below j sound P f g s a m) (ordered-below j sound P f g s b k))
       ∙ ap (sumNeighbours pays) (order-same j sound P f g s)
     where
       pays : ℕ → ℕ → ℕ
       pays a b = payOf j s (a, f a) (b, f b)
 
-  pay-all : j .header .stepWeight * steps j P
+  -- of both rows
+  by-rows : (w : ℕ) (h : ℕ → ℕ) → w * stepsBy h j P ≡ w * stepsIn h j P 0 + w * stepsIn h j P 1
+  unfolding stepsBy
+  by-rows w h =
+      let z : stepsIn h j P 0 + (stepsIn h j P 1 + 0) ≡ stepsIn h j P 0 + stepsIn h j P 1 = omega arith in
+      ap (λ n. w * n) z ∙ mul-add w (stepsIn h j P 0) (stepsIn h j P 1)
+
+  pay-all : j .header .stepWeight * touchingSteps j P + j .header .filledWeight * filledSteps j P
       ≡ neighbours siteOf (pairJob j) f row₀ + neighbours siteOf (pairJob j) f row₁
-  unfolding steps
   pay-all =
-      let a = mul-add (j .header .stepWeight) (stepsIn j P 0) (stepsIn j P 1) in
-      let b = row-pays row₀ in
-      let c = row-pays row₁ in
-      let z : stepsIn j P 0 + (stepsIn j P 1 + 0) ≡ stepsIn j P 0 + stepsIn j P 1 = omega arith in
-      let d = ap (λ n. j .header .stepWeight * n) z in
+      let a = by-rows (j .header .stepWeight) touching in
+      let b = by-rows (j .header .filledWeight) filled in
+      let c = row-pays row₀ in
+      let d = row-pays row₁ in
       omega arith
 
   -- what each cell costs by itself

@@ -7,7 +7,7 @@ returns : tie.Need-returns
 returns c =
     let mid = c .before .before .before .before in
     let far = mid .before .before .before .before in
-    header-all (far .before .before .args .h)
+    header-all (far .before .before .before .args .h)
 
 pub header-fits-spec : {M : Type 1} → statement M
 header-fits-spec = tie.close (tie.spec returns)

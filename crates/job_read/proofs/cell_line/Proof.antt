@@ -1,10 +1,12 @@
 -- `job_read::cell_line` meets its contract: the numbers after the lead make the cell, and decide its refusal.
 use mathlib.Core.Path.{_≡_, sym, ap, _∙_}
+use native.Mathlib.Omega.{arith}
 use lib.ListN.{getD}
+use Rattle.definition.specs.Job.{fixedLead}
 use Rattle.job.specs.Value.{cellOf}
 use Rattle.job_ranges.specs.Values.{cellIn}
 use Rattle.text_scan.specs.Found.{LedFrom}
-use Rattle.job_read.specs.Lines.{cellNumber, cell-few, beginsFixed, leadAt, cell-number, cell-passed}
+use Rattle.job_read.specs.Lines.{cellNumber, cell-few, begins, cellLeadAt, cell-number, cell-passed}
 use borrow.Author.Needs.{needs}
 use Rattle.job_read.proofs.cell_line.Statement.{statement}
 use Rattle.job_read.proofs.cell_line.Tie as tie
@@ -13,7 +15,7 @@ shared-slice-read-fixed : tie.Need-shared-slice-read-fixed
 shared-slice-read-fixed c = search needs
 
 lead-of-requires : tie.Need-lead-of-requires
-lead-of-requires c κs = search needs
+lead-of-requires c κs = record { one-high = omega arith; other-high = omega arith }
 
 read-led-requires : tie.Need-read-led-requires
 read-led-requires c κs =
@@ -35,9 +37,9 @@ returns c =
     let lead = read .before in
     let k = lead .before .before .before in
     let a = k .args in
-    let fixed = beginsFixed (a .text .now) (a .at) in
+    let fixed = begins fixedLead (a .text .now) (a .at) in
     let r = read .read-led .result in
-    let f : LedFrom (leadAt fixed) (a .text .now) (a .at) r = rw (lead .lead-of .ensures .byte) at (read .read-led .ensures) in
+    let f : LedFrom (cellLeadAt fixed) (a .text .now) (a .at) r = rw (lead .lead-of .ensures .byte) at (read .read-led .ensures) in
     let n : c .cell-refusal .result ≡ cellNumber (a .t) (r .ok) (r .count) (getD (r .values) 2 0) (cellIn fixed (r .values)) =
     c .cell-refusal .ensures ∙ ap (cellNumber (a .t) (r .ok) (r .count) (getD (r .values) 2 0)) (c .before .cell-of .ensures) in
     record {

@@ -5,6 +5,9 @@ use borrow.Author.Needs.{needs}
 use Rattle.job_read.proofs.header_refusal.Statement.{statement}
 use Rattle.job_read.proofs.header_refusal.Tie as tie
 
+head-count-requires : tie.Need-head-count-requires
+head-count-requires c κs = search needs
+
 header-fits-requires : tie.Need-header-fits-requires
 header-fits-requires c κs = search needs
 
@@ -17,8 +20,8 @@ tried-requires-2 c κs = search needs
 returns : tie.Need-returns
 unfolding headNumber
 returns c =
-    rw (c .tried2 .ensures, c .before .tried .ensures, c .before .before .header-fits .ensures) (tests-tried _ refl)
+    rw (c .tried2 .ensures, c .before .tried .ensures, c .before .before .header-fits .ensures, c .before .before .before .head-count .ensures) (tests-tried _ refl)
 
 pub header-refusal-spec : {M : Type 1} → statement M
 header-refusal-spec =
-    tie.close (tie.spec header-fits-requires tried-requires tried-requires-2 returns)
+    tie.close (tie.spec head-count-requires header-fits-requires tried-requires tried-requires-2 returns)

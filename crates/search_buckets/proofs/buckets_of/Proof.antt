@@ -1,6 +1,6 @@
 -- The two weights are compared as words.
 use borrow.Author.Tests.{eq-eqb, ne-eqb}
-use Rattle.search_row.specs.Words.{wordOf, apartWord, touchingWord}
+use Rattle.search_row.specs.Words.{wordOf, filledWord, touchingWord}
 use Rattle.search_buckets.specs.Rows.{bucketsIn}
 use borrow.Author.Needs.{needs}
 use Rattle.search_buckets.proofs.buckets_of.Statement.{statement}
@@ -34,13 +34,13 @@ returns : tie.Need-returns
 unfolding bucketsIn
 returns c =
     let a = c .before .before .before .args in
-    rw (eq-eqb (wordOf (a .row .now) (a .m) touchingWord) (wordOf (a .row .now) (a .m) apartWord) (c .if1 .taken))
+    rw (eq-eqb (wordOf (a .row .now) (a .m) touchingWord) (wordOf (a .row .now) (a .m) filledWord) (c .if1 .taken))
 
 returns-2 : tie.Need-returns-2
 unfolding bucketsIn
 returns-2 c =
     let a = c .before .before .before .args in
-    rw (ne-eqb (wordOf (a .row .now) (a .m) touchingWord) (wordOf (a .row .now) (a .m) apartWord) (c .if1 .left))
+    rw (ne-eqb (wordOf (a .row .now) (a .m) touchingWord) (wordOf (a .row .now) (a .m) filledWord) (c .if1 .left))
 
 pub buckets-of-spec : {M : Type 1} → statement M
 buckets-of-spec =

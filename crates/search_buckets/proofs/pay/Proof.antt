@@ -2,7 +2,7 @@
 use Prim.Native.Nat.{ℕ, _*_, _-_, _≤_}
 use mathlib.Core.Path.{_≡_, sym, ap, _∙_}
 use native.Mathlib.Omega.{arith}
-use Rattle.search_row.specs.Words.{wordOf, apartWord, touchingWord}
+use Rattle.search_row.specs.Words.{wordOf, filledWord, touchingWord}
 use Rattle.search_row.specs.Laws.{differ-low, pay-low}
 use Rattle.search_buckets.specs.Laws.{pay-touching, pay-apart, pay-none}
 use borrow.Author.Needs.{needs}
@@ -75,7 +75,7 @@ returns-3 : tie.Need-returns-3
 returns-3 c =
     let mid = c .before .before .before .before in
     let a = mid .before .args in
-    ap (λ (d : ℕ). wordOf (a .row .now) (a .m) apartWord * d) (c .differ2 .ensures)
+    ap (λ (d : ℕ). wordOf (a .row .now) (a .m) filledWord * d) (c .differ2 .ensures)
     ∙ sym (pay-apart (a .row .now) (a .k) (a .u) (a .m) (a .v) (omega arith))
 
 pub pay-spec : {M : Type 1} → statement M
