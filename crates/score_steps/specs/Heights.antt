@@ -50,12 +50,7 @@ pub record EdgeAt (x of r : ℕ) : Type 0 where
   pub same : r ≡ x
   pub there : r + 2 ≤ heightCount of
 
--- x differing heights or steps of two neighbours, who face each other with two heights
-pub record PairSteps (x r : ℕ) : Type 0 where
+-- x differing heights of two neighbours, who face each other with two
+pub record Unlike (x r : ℕ) : Type 0 where
   pub same : r ≡ x
   pub most : r ≤ 2
-
--- x steps of a row, which has at most 63 pairs of neighbours
-pub record RowSteps (x r : ℕ) : Type 0 where
-  pub same : r ≡ x
-  pub most : r ≤ 126

@@ -2,18 +2,21 @@
 -- the functions that count them are given.
 use Prim.Native.Nat.{ℕ, zero, suc, _+_, _*_, _-_, _≤_, _<_}
 use mathlib.Core.Path.{_≡_, refl, sym, ap₂, _∙_}
+use mathlib.Core.Bool.{Bool, true, false, cond}
 use mathlib.Core.List.{List}
 use native.Mathlib.Omega.{arith}
 use native.Mathlib.Nat.{add-zero}
 use lib.ListN.{length, getD, drop}
 use lib.Seq.{drop-cons}
+use lib.Dec.{eqb}
 use Rattle.lists.specs.Tails.{tail-cons, tail-last}
 use Rattle.definition.specs.Job.{maxCells}
 use Rattle.definition.specs.Lists.{sumNext}
 use Rattle.definition.specs.Job as paper
 use Rattle.definition.specs.Placement as text
 use Rattle.definition.specs.Rules.{cellAt, poseAt, gap}
-use Rattle.definition.specs.Cost.{charge, differing, stepsAt}
+use Rattle.definition.specs.Cost.{charge, touching, filled, differing, stepsAt}
+use Rattle.definition_laws.specs.Gaps.{charge-most}
 use Rattle.job.specs.declared.Job.{Job}
 use Rattle.job.specs.declared.Placement.{Placement}
 use Rattle.job.specs.Value as value
@@ -23,6 +26,7 @@ use Rattle.job.specs.Cells.{cell-there, pose-there}
 use Rattle.score_order.specs.Words.{wordCount, siteIn, endIn, RowRoom}
 use Rattle.score_order.specs.Below.{Below}
 use Rattle.score_words.specs.Flat.{Flat}
+use Rattle.score_steps.specs.declared.Steps.{Steps}
 use Rattle.score_steps.specs.Heights.{leftOf, rightOf, unlike, differingOf, differing-of}
 
 -- ---- what is given
@@ -43,6 +47,20 @@ pub record PlacedRow (job : Job) (P : Placement) (words array : List ℕ) (at r 
   pub room : RowRoom array
   pub start : at ≤ maxCells
   pub cells : Below (job .count) (drop at array)
+
+-- ---- what is answered
+
+-- the steps of two neighbours, n of whose heights differ, at a gap: at most 2 in all
+pub record AtGap (gap n : ℕ) (r : Steps) : Type 0 where
+  pub touching : r .touching ≡ touching gap * n
+  pub filled : r .filled ≡ filled gap * n
+  pub most : r .touching + r .filled ≤ 2
+
+-- the steps of a row, as often as a charge says of their gaps: it has at most 63 pairs of neighbours
+pub record RowSteps (by : (ℕ → ℕ) → ℕ) (r : Steps) : Type 0 where
+  pub touching : r .touching ≡ by touching
+  pub filled : r .filled ≡ by filled
+  pub most : r .touching + r .filled ≤ 126
 
 -- ---- the heights
 
@@ -67,15 +85,22 @@ module _ (f : ℕ → ℕ → ℕ) (l : List ℕ) where
 
 -- ---- the steps of two neighbours
 
-steps-at : (j : paper.Job) (P : text.Placement) (row a b x y : ℕ) → x ≡ charge (gap j P a b)
-    → y ≡ differing j P row a b → x * y ≡ stepsAt j P row a b
+steps-at : (f : ℕ → ℕ) (j : paper.Job) (P : text.Placement) (row a b x y : ℕ) → x ≡ f (gap j P a b)
+    → y ≡ differing j P row a b → x * y ≡ stepsAt f j P row a b
 unfolding stepsAt
-steps-at j P row a b x y e f = ap₂ _*_ e f
+steps-at f j P row a b x y e g = ap₂ _*_ e g
 
-pub product-small : (x y : ℕ) → x ≤ 1 → y ≤ 2 → x * y ≤ 2
-product-small zero y h g = omega arith
-product-small (suc zero) y h g = omega arith
-product-small (suc (suc x)) y h g = absurd (omega arith)
+-- a gap charges one of the two, and at most 1
+pub product-small : (gap y : ℕ) → y ≤ 2 → touching gap * y + filled gap * y ≤ 2
+product-small gap y h = go (eqb gap 0) (charge gap) (charge-most gap)
+  where
+    go : (t : Bool) (c : ℕ) → c ≤ 1 → cond t c 0 * y + cond t 0 c * y ≤ 2
+    go true zero g = omega arith
+    go true (suc zero) g = omega arith
+    go true (suc (suc c)) g = absurd (omega arith)
+    go false zero g = omega arith
+    go false (suc zero) g = omega arith
+    go false (suc (suc c)) g = absurd (omega arith)
 
 -- from the words, the cells and the poses: the definition's steps
 module _ (job : Job) (P : Placement) (words : List ℕ) (row a b r : ℕ) where
@@ -90,8 +115,9 @@ module _ (job : Job) (P : Placement) (words : List ℕ) (row a b r : ℕ) where
 
   pub steps-value : Flat (jobOf job) (placementOf P) (job .count) words → P .count ≡ job .count
       → a < job .count → b < job .count
-      → r ≡ charge (siteIn words b - endIn words a) * differ → r ≡ stepsAt (jobOf job) (placementOf P) row a b
-  steps-value w n g h e =
+      → (charged : ℕ → ℕ) → r ≡ charged (siteIn words b - endIn words a) * differ
+      → r ≡ stepsAt charged (jobOf job) (placementOf P) row a b
+  steps-value w n g h charged e =
       let f : paper.Cell → text.Pose → paper.Cell → text.Pose → ℕ = λ c p d q. differingOf c p d q row in
       let left = f (cellAt (jobOf job) a) (poseAt (placementOf P) a) in
       let d =
@@ -102,5 +128,5 @@ module _ (job : Job) (P : Placement) (words : List ℕ) (row a b r : ℕ) where
       ∙ ap₂ left (sym (cell-there job b h)) (sym (pose-there P b (omega arith)))
       ∙ sym (differing-of (jobOf job) (placementOf P) row a b) in
       e
-      ∙ steps-at (jobOf job) (placementOf P) row a b _ _
-      (ap₂ (λ x y. charge (x - y)) (w .shows b .site) (w .shows a .end)) d
+      ∙ steps-at charged (jobOf job) (placementOf P) row a b _ _
+      (ap₂ (λ x y. charged (x - y)) (w .shows b .site) (w .shows a .end)) d

@@ -1,14 +1,16 @@
-// Steps: the charge of a gap, the differing heights of neighbours, and their sum over a row.
+// Steps: the charge of a gap, the differing heights of neighbours, and their sum over a row; those where cells touch
+// and filled ones apart.
 ghost use mathlib.Core.Path.{_≡_};
-ghost use Prim.Native.Nat.{_*_, _-_, _≤_};
+ghost use Prim.Native.Nat.{_-_, _≤_};
 ghost use lib.ListN.{drop};
 ghost use Rattle.definition.specs.Lists.{sumNext};
-ghost use Rattle.definition.specs.Cost.{charge, stepsAt};
+ghost use Rattle.definition.specs.Cost.{stepsAt};
 ghost use Rattle.job.specs.Value.{cellOf, poseOf, jobOf, placementOf};
 ghost use Rattle.score_order.specs.Words.{siteIn, endIn};
-ghost use Rattle.score_steps.specs.Heights.{leftOf, rightOf, unlike, differingOf, EdgeAt, PairSteps, RowSteps};
-ghost use Rattle.score_steps.specs.Steps.{Facing, PlacedRow};
-use gap_charge::charge_of;
+ghost use Rattle.score_steps.specs.Heights.{leftOf, rightOf, unlike, differingOf, EdgeAt, Unlike};
+ghost use Rattle.score_steps.specs.Steps.{Facing, PlacedRow, AtGap, RowSteps};
+use gap_charge::filled_of;
+use gap_charge::touching_of;
 use job::Cell;
 use job::Job;
 use job::Placement;
@@ -52,7 +54,7 @@ fn unlike_heights(x: u32, y: u32) -> u32
 // The differing heights of a cell and its right neighbour.
 fn differing_heights(a: Cell, p: Pose, b: Cell, q: Pose, row: u32) -> u32
     requires { ⌜ row ≤ 1 ⌝ }
-    ensures { λ r. ⌜ PairSteps (differingOf (cellOf a) (poseOf p) (cellOf b) (poseOf q) row) r ⌝ }
+    ensures { λ r. ⌜ Unlike (differingOf (cellOf a) (poseOf p) (cellOf b) (poseOf q) row) r ⌝ }
 {
     let x = right_of(a.row, p.mark, row);
     let y = left_of(b.row, q.mark, row);
@@ -61,7 +63,13 @@ fn differing_heights(a: Cell, p: Pose, b: Cell, q: Pose, row: u32) -> u32
     high + low
 }
 
-// The steps of a cell and its right neighbour: those that differ, at the charge of their gap.
+// Those where cells touch, and those that are filled.
+pub struct Steps {
+    pub touching: u32,
+    pub filled: u32,
+}
+
+// The steps of a cell and its right neighbour: the heights that differ, at the charge of their gap.
 fn steps_of(
     words: &[u32],
     a: usize,
@@ -71,13 +79,17 @@ fn steps_of(
     right: Cell,
     q: Pose,
     row: u32,
-) -> u32
+) -> Steps
     requires { ⌜ Facing (now words) a b row ⌝ }
-    ensures { λ r. ⌜ PairSteps (charge (siteIn (now (words .entry)) b - endIn (now (words .entry)) a)
-        * differingOf (cellOf left) (poseOf p) (cellOf right) (poseOf q) row) r ⌝ }
+    ensures { λ r. ⌜ AtGap (siteIn (now (words .entry)) b - endIn (now (words .entry)) a)
+        (differingOf (cellOf left) (poseOf p) (cellOf right) (poseOf q) row) r ⌝ }
 {
     let gap = gap_between(words[4 * a + 1], words[4 * b]);
-    charge_of(gap) * differing_heights(left, p, right, q, row)
+    let unlike = differing_heights(left, p, right, q, row);
+    Steps {
+        touching: touching_of(gap) * unlike,
+        filled: filled_of(gap) * unlike,
+    }
 }
 
 // The steps of a row, whose cells from left to right are the entries of `order` from `at` on.
@@ -88,18 +100,19 @@ pub fn steps_in(
     order: &[u32],
     at: usize,
     row: u32,
-) -> u32
+) -> Steps
     requires { ⌜ PlacedRow job placement (now words) (now order) at row ⌝ }
-    ensures { λ r. ⌜ RowSteps (sumNext (stepsAt (jobOf job) (placementOf placement) row)
+    ensures { λ r. ⌜ RowSteps (λ f. sumNext (stepsAt f (jobOf job) (placementOf placement) row)
         (drop at (now (order .entry)))) r ⌝ }
 {
-    let mut total: u32 = 0;
+    let mut touching: u32 = 0;
+    let mut filled: u32 = 0;
     let mut i = LAST;
     while at < i {
         i -= 1;
         let a = entry(order, i);
         let b = entry(order, i + 1);
-        total += steps_of(
+        let steps = steps_of(
             words,
             a,
             b,
@@ -109,6 +122,8 @@ pub fn steps_in(
             placement.poses[b],
             row,
         );
+        touching += steps.touching;
+        filled += steps.filled;
     }
-    total
+    Steps { touching, filled }
 }

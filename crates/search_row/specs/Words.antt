@@ -30,8 +30,8 @@ rowLength = 8288
 
 -- The words of a cell: first what it costs by pose (B: not offered); then the site of its pose number 0, with D added;
 -- the widths of its layouts, whether it is tall; by variant (2 layout + mark) its heights left P, left N, right P,
--- right N; the weight of a step where it touches the cell on its left, its number, and the weight of a step at every
--- other gap; the site where it may not stand as the first of its row, and the end that it may not have as the last,
+-- right N; the weight of a step where it touches the cell on its left, its number, and the weight of a filled step
+-- there; the site where it may not stand as the first of its row, and the end that it may not have as the last,
 -- both with D added.
 abbrev pub firstWord : ℕ
 firstWord = 64
@@ -93,8 +93,7 @@ differIn row k b m a =
     cond (eqb (wordOf row k (rightP + variant b)) (wordOf row m (leftP + variant a))) 0 1
     + cond (eqb (wordOf row k (rightN + variant b)) (wordOf row m (leftN + variant a))) 0 1
 
--- the weight of a step between m and the cell on its left, by the gap between them: document 01 has
--- one weight (request A7 is to give it two)
+-- the weight of a step between m and the cell on its left, by the gap between them (A7)
 abbrev pub weightIn : List ℕ → ℕ → ℕ → ℕ
 weightIn row m gap = cond (eqb gap 0) (wordOf row m touchingWord) (wordOf row m filledWord)
 

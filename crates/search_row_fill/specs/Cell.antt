@@ -38,7 +38,7 @@ pub record CellWords (j : Job) (row k : ℕ) (word : ℕ → ℕ) : Type 0 where
   pub rightN : (a : ℕ) → word (words.rightN + variant a) ≡ rightOf j row k (poseNumber j k a) 1
   pub weight : word touchingWord ≡ j .header .stepWeight
   pub number : word numberWord ≡ k
-  pub filled : word filledWord ≡ j .header .stepWeight
+  pub filled : word filledWord ≡ j .header .filledWeight
   pub front : word frontBarred ≡ j .header .displacement + forbiddenGap
   pub back : word backBarred ≡ j .header .sites + j .header .displacement - forbiddenGap
 
@@ -136,7 +136,7 @@ module _ (j : Job) (row k : ℕ) where
     unfolding cellWord
     number-at i e = rw e
 
-    pub filled-at : (i : ℕ) → i ≡ filledWord → cellWord j row k n i ≡ j .header .stepWeight
+    pub filled-at : (i : ℕ) → i ≡ filledWord → cellWord j row k n i ≡ j .header .filledWeight
     unfolding cellWord
     filled-at i e = rw e
 

@@ -23,11 +23,11 @@ use Rattle.theory_pair.specs.Members.{at-in}
 use Rattle.theory_tables.specs.Steps.{B}
 use Rattle.theory_tables.specs.Matched.{Matched}
 use Rattle.theory_bridge.specs.Paired.{kindOf, rowOf, siteOf, poseNumbers, poseNumber, isOffered}
-use Rattle.theory_bridge.specs.Paired.{offersOf, widthOf, ownOf, differingOf, payOf, endAllowed, pairJob}
+use Rattle.theory_bridge.specs.Paired.{offersOf, widthOf, ownOf, differingOf, weightAt, payOf, endAllowed, pairJob}
 use Rattle.theory_bridge.specs.Row.{isTall-same, member}
 use Rattle.search_store.specs.Map.{maxPoses}
 use Rattle.search_row.specs.Words.{wordOf, siteIn, endIn, differIn, weightIn, tollAt, tollIn}
-use Rattle.search_row.specs.Words.{frontIn, backIn, endToll, deckOf, RowWords, filledWord, touchingWord}
+use Rattle.search_row.specs.Words.{frontIn, backIn, endToll, deckOf, RowWords}
 use Rattle.search_row.specs.Words.{frontBarred, backBarred}
 use Rattle.search_row.specs.Laws.{end-barred, end-free}
 use Rattle.search_row_fill.specs.Words.{ownWord}
@@ -73,13 +73,8 @@ module _ (j : Job) (s : Side) (l : List ℕ) (k m : ℕ) (b a : ℕ) (K M : ℕ)
   unfolding differingOf
   differ-same = rw (w .rightP b, w .rightN b, v .leftP a, v .leftN a) (omega arith)
 
-  -- all gaps have one weight
-  weight-same : (gap : ℕ) → weightIn l m gap ≡ j .header .stepWeight
-  weight-same gap = go (eqb gap 0)
-    where
-      go : (t : Bool) → cond t (wordOf l m touchingWord) (wordOf l m filledWord) ≡ j .header .stepWeight
-      go true = v .weight
-      go false = v .filled
+  weight-same : (gap : ℕ) → weightIn l m gap ≡ weightAt j gap
+  weight-same gap = ap₂ (cond (eqb gap 0)) (v .weight) (v .filled)
 
   -- sites with D added to both, where both poses are offered
   abbrev gapTo : ℕ
@@ -109,8 +104,9 @@ module _ (j : Job) (s : Side) (l : List ℕ) (k m : ℕ) (b a : ℕ) (K M : ℕ)
       let g : siteIn l m a - endIn l k b ≡ gapTo = rw (z .0, z .1) (omega arith) in
       toll-pays (siteIn l m a) (endIn l k b) (λ gap. weightIn l m gap * differIn l k b m a)
       (rw (z .0, z .1) (omega arith)) (λ e. d (omega (arith, sym g ∙ e)))
-      ∙ ap₂ (λ x y. charge x * y) g (ap₂ _*_ (weight-same (siteIn l m a - endIn l k b)) differ-same)
-      ∙ mul-left-comm (charge gapTo) (j .header .stepWeight)
+      ∙ ap₂ (λ x y. charge x * y) g
+      (ap₂ _*_ (weight-same (siteIn l m a - endIn l k b) ∙ ap (weightAt j) g) differ-same)
+      ∙ mul-left-comm (charge gapTo) (weightAt j gapTo)
       (differingOf j (rowOf s) (K, poseNumber j K b) (M, poseNumber j M a))
 
   barred : isOffered j K b ≡ true → isOffered j M a ≡ true

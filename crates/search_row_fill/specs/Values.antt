@@ -36,6 +36,7 @@ pub record Ranged (h : Header) (c : Cell) : Type 0 where
   pub shift : h .shift ≤ maxWeight
   pub mirror : h .mirror ≤ maxWeight
   pub swap : h .swap ≤ maxWeight
+  pub filled : h .filled ≤ maxWeight
   pub given : c .given ≤ maxGiven
   pub width : (l : ℕ) → widthIn (cellOf c) l ≤ maxWidth
   pub height : (l i : ℕ) → heightIn (cellOf c) l i ≤ maxHeight
@@ -57,6 +58,7 @@ ranged h c p q = record {
   shift = p .shift;
   mirror = p .mirror;
   swap = p .swap;
+  filled = p .filled;
   given = q .given;
   width = λ l. width-small (headerOf h) (cellOf c) l q;
   height = λ l i. height-small (headerOf h) (cellOf c) l i q;

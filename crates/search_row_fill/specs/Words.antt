@@ -44,10 +44,10 @@ endWord j i =
     cond (eqb i frontBarred) (j .header .displacement + forbiddenGap)
     (j .header .sites + j .header .displacement - forbiddenGap)
 
--- word i of cell k, which bears a number; document 01 weighs all steps alike
+-- word i of cell k, which bears a number; steps at gap 0 have one weight, filled ones another (A7)
 unfoldable pub cellWord : Job → ℕ → ℕ → ℕ → ℕ → ℕ
 cellWord j row k number i =
     cond (ltb i firstWord) (ownWord j row k i)
     (cond (ltb i leftP) (shapeWord j k i) (cond (ltb i touchingWord) (heightWord j row k (i - leftP))
     (cond (eqb i touchingWord) (j .header .stepWeight) (cond (eqb i numberWord) number
-    (cond (eqb i filledWord) (j .header .stepWeight) (endWord j i))))))
+    (cond (eqb i filledWord) (j .header .filledWeight) (endWord j i))))))

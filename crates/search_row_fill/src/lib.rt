@@ -151,7 +151,7 @@ fn cell_word(header: Header, cell: Cell, side: u32, number: u32, i: usize) -> u3
         return number;
     }
     if i == search_row::FILLED {
-        return header.step;
+        return header.filled;
     }
     if i == search_row::FRONT_BARRED {
         return header.displacement + gap_charge::FORBIDDEN_GAP as u32;

@@ -1,9 +1,8 @@
--- The charge of the gap that the words give, times the differing heights.
-use Prim.Native.Nat.{_*_, _≤_}
-use mathlib.Core.Path.{ap, ap₂, _∙_}
+-- The charge of the gap that the words give, where cells touch and against filler, times the differing heights.
+use Prim.Native.Nat.{ℕ, _+_, _*_, _≤_}
+use mathlib.Core.Path.{_≡_, ap, ap₂, _∙_}
 use native.Mathlib.Omega.{arith}
-use Rattle.definition.specs.Cost.{charge}
-use Rattle.definition_laws.specs.Gaps.{charge-most}
+use Rattle.definition.specs.Cost.{touching, filled}
 use Rattle.score_steps.specs.Steps.{product-small}
 use borrow.Author.Needs.{needs}
 use Rattle.score_steps.proofs.steps_of.Statement.{statement}
@@ -33,27 +32,42 @@ shared-slice-read-gap-between-2 c = search needs
 gap-between-requires : tie.Need-gap-between-requires
 gap-between-requires c κs = search needs
 
-charge-of-requires : tie.Need-charge-of-requires
-charge-of-requires c κs = search needs
-
 differing-heights-requires : tie.Need-differing-heights-requires
 differing-heights-requires c κs = search needs
 
--- the product is at most 2
-small : (c : tie.After-differing-heights) → c .before .charge-of .result * c .differing-heights .result ≤ 2
-small c =
-    let gap = c .before .before .gap-between in
-    product-small (c .before .charge-of .result) (c .differing-heights .result) (omega (arith, c .before .charge-of .ensures, charge-most (gap .result)))
-    (c .differing-heights .ensures .most)
+touching-of-requires : tie.Need-touching-of-requires
+touching-of-requires c κs = search needs
 
-mul-result : tie.Need-mul-result
-mul-result c = omega (arith, small c)
+mul-t19 : tie.Need-mul-t19
+mul-t19 c =
+    let unlike = c .before .differing-heights in
+    let gap = c .before .before .gap-between .result in
+    let e = ap (λ n. n * unlike .result) (c .touching-of .ensures) in
+    omega (arith, e, product-small gap (unlike .result) (unlike .ensures .most))
+
+filled-of-requires : tie.Need-filled-of-requires
+filled-of-requires c κs = search needs
+
+mul-t21 : tie.Need-mul-t21
+mul-t21 c =
+    let unlike = c .before .before .differing-heights in
+    let gap = c .before .before .before .gap-between .result in
+    let e = ap (λ n. n * unlike .result) (c .filled-of .ensures) in
+    omega (arith, e, product-small gap (unlike .result) (unlike .ensures .most))
 
 returns : tie.Need-returns
-returns c = record {
-  same = ap₂ _*_ (c .before .charge-of .ensures ∙ ap charge (c .before .before .gap-between .ensures)) (c .differing-heights .ensures .same);
-  most = small c;
-}
+returns c =
+    let one = c .before in
+    let unlike = one .before .differing-heights in
+    let gap = one .before .before .gap-between in
+    let n = unlike .result in
+    let d = ap (λ n. n * unlike .result) (one .touching-of .ensures) in
+    let e = ap (λ n. n * unlike .result) (c .filled-of .ensures) in
+    record {
+      touching = ap₂ _*_ (one .touching-of .ensures ∙ ap touching (gap .ensures)) (unlike .ensures .same);
+      filled = ap₂ _*_ (c .filled-of .ensures ∙ ap filled (gap .ensures)) (unlike .ensures .same);
+      most = omega (arith, d, e, product-small (gap .result) n (unlike .ensures .most));
+    }
 
 pub steps-of-spec : {M : Type 1} → statement M
 steps-of-spec =
@@ -67,7 +81,9 @@ steps-of-spec =
     mul-gap-between-4
     shared-slice-read-gap-between-2
     gap-between-requires
-    charge-of-requires
     differing-heights-requires
-    mul-result
+    touching-of-requires
+    mul-t19
+    filled-of-requires
+    mul-t21
     returns)

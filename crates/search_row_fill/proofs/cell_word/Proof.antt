@@ -72,7 +72,7 @@ returns-6 c =
     let mid = c .before .before .before .before in
     let k = mid .before .before in
     let j = one (k .args .header) (k .args .cell) in
-    record { same = sym (filled-at j (k .args .side) 0 (k .args .number) (k .args .i) (c .if6 .taken)); low = omega (arith, k .pre .ranged .step) }
+    record { same = sym (filled-at j (k .args .side) 0 (k .args .number) (k .args .i) (c .if6 .taken)); low = omega (arith, k .pre .ranged .filled) }
 
 cast-result : tie.Need-cast-result
 cast-result c = search needs
