@@ -58,6 +58,12 @@
  *
  * A fixed cell is one whose line in the job is led by F instead of C. Its fields are the same and
  * are refused for the same; it counts towards the limits as any cell does.
+ *
+ * A filled step is one at a gap of 2 or 3 sites. A job's first line has one of two forms: led by J
+ * its field step weighs all steps, led by K the filled ones have a weight of their own behind swap.
+ *
+ *   J,rows,sites,D,R,step,shift,mirror,swap
+ *   K,rows,sites,D,R,step,shift,mirror,swap,filled
  */
 #ifndef REFINER_H
 #define REFINER_H
@@ -102,6 +108,9 @@ enum {
 
 /* Where the numbers stand in `results`: these two of every operation, then its own fields. The name
  * that ends in RESULTS is how many entries the operation has in all.
+ *
+ * If the first two bytes of the job text are `K,`, then Score and Place, also where they refuse it,
+ * have one entry more, the filled steps behind drift. The names with a K are for such texts.
  */
 enum { REFINER_NUMBER = 0, REFINER_LINE = 1 };
 
@@ -116,7 +125,9 @@ enum {
     REFINER_SCORE_CHANGED = 7,
     REFINER_SCORE_COST = 8,
     REFINER_SCORE_DRIFT = 9,
-    REFINER_SCORE_RESULTS = 10
+    REFINER_SCORE_RESULTS = 10,
+    REFINER_SCORE_K_FILLED_STEPS = 10,
+    REFINER_SCORE_K_RESULTS = 11
 };
 
 enum {
@@ -127,7 +138,10 @@ enum {
     REFINER_PLACE_COST = 6,
     REFINER_PLACE_DRIFT = 7,
     REFINER_PLACE_TEXT_LENGTH = 8,
-    REFINER_PLACE_RESULTS = 9
+    REFINER_PLACE_RESULTS = 9,
+    REFINER_PLACE_K_FILLED_STEPS = 8,
+    REFINER_PLACE_K_TEXT_LENGTH = 9,
+    REFINER_PLACE_K_RESULTS = 10
 };
 
 enum { REFINER_LOAD_TEXT_LENGTH = 2, REFINER_LOAD_RESULTS = 3 };
@@ -152,9 +166,9 @@ extern "C" {
 uint32_t refiner_read(const uint8_t *job, size_t job_len, int32_t *results, size_t results_len);
 
 /* Score. Refuses 1 to 4 as Read does, then 5. Results: number, line, rule, cell, steps, sites
- * shifted, mirrored, changed, cost, drift. Rule and cell are 0 if the placement is legal, and
- * otherwise the first broken rule of those above and its lowest cell, counted from 1; the six
- * numbers are then 0.
+ * shifted, mirrored, changed, cost, drift, and for a job text that begins with `K,` filled steps.
+ * Rule and cell are 0 if the placement is legal, and otherwise the first broken rule of those above
+ * and its lowest cell, counted from 1; the numbers from steps on are then 0.
  */
 uint32_t refiner_score(const uint8_t *job, size_t job_len, const uint8_t *placement,
                        size_t placement_len, int32_t *results, size_t results_len);
@@ -176,9 +190,10 @@ uint32_t refiner_fault_line(const uint8_t *job, size_t job_len, const uint8_t *p
                             uint64_t *part, size_t part_len);
 
 /* Place. Refuses 1 to 4 as Read does, then 6, 7 and 8. Results: number, line, steps, sites
- * shifted, mirrored, changed, cost, drift, text length. An answer's placement is legal and none is
- * cheaper; its text goes to the start of `output`, and bytes past it stay as they were. The whole
- * store is zero after an answer and after 8; any other refusal leaves it as it was.
+ * shifted, mirrored, changed, cost, drift, for a job text that begins with `K,` filled steps, and
+ * text length. An answer's placement is legal and none is cheaper; its text goes to the start of
+ * `output`, and bytes past it stay as they were. The whole store is zero after an answer and after
+ * 8; any other refusal leaves it as it was.
  */
 uint32_t refiner_place(const uint8_t *job, size_t job_len, uint32_t *store, size_t store_len,
                        uint8_t *output, size_t output_len, int32_t *results, size_t results_len);

@@ -10,12 +10,16 @@ const ANSWER: &str = "100,0,0,1,0,0\n2,0,1\n6,0,0\n";
 /// Worked in `examples.rs`.
 const REORDER: &[u8] = include_bytes!("../../../examples/reorder.job");
 const REORDERED: &str = "9,0,9,0,0,25\n5,0,0\n0,0,0\n3,0,0\n7,0,0\n";
+/// Worked in `examples.rs`, too.
+const FILLED: &[u8] = include_bytes!("../../../examples/filled.job");
+const FILLED_ANSWER: &str = "162,3,2,0,0,67,2\n0,0,0\n6,0,0\n10,0,0\n";
 
 /// Checks that a program built from the example answers and refuses as it should.
 pub fn check(program: &Path) {
-    let jobs: [(&[u8], &str, i32); 5] = [
+    let jobs: [(&[u8], &str, i32); 8] = [
         (WORKED, ANSWER, 0),
         (REORDER, REORDERED, 0),
+        (FILLED, FILLED_ANSWER, 0),
         (
             b"J,1,20,1,1,100,7,100,50\nC,0,17,1,1,4,3,3,2,2\n",
             "7,0,1,0,0,-100\n16,0,0\n",
@@ -23,6 +27,8 @@ pub fn check(program: &Path) {
         ),
         (b"J,1,20,1,1,100,1,100,50\nC\n", "refused,1,2\n", 1),
         (b"", "refused,1,1\n", 1),
+        (b"K", "refused,1,1\n", 1),
+        (b"K,1,20,1,1,1,1,1,1,1001\n", "refused,2,1\n", 1),
     ];
     for (job, answer, status) in jobs {
         let output = run(program, job);

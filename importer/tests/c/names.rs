@@ -50,6 +50,21 @@ const PLACED: &[(&str, i32)] = &[
     ("TEXT_LENGTH", 25),
 ];
 
+/// The first job's first line with a weight of 5 for filled steps, of which its placement has one:
+/// what number, line, rule, cell and the seven numbers are then.
+const FILLED: &str = "K,1,60,7,1,7,11,13,17,5";
+const SCORED_FILLED: [i32; 11] = [0, 0, 0, 0, 3, 4, 2, 1, 106, -80, 1];
+
+/// Worked in `filled.rs`: number, line, the seven numbers and the text's length.
+const APART: &[u8] = b"K,1,24,1,0,7,11,3,17,5
+C,0,0,1,1,4,1,3,2,3
+C,0,4,0,1,4,1,1,4,4
+C,0,10,0,1,4,5,6,7,8
+C,0,17,0,1,3,9,10,1,1
+C,0,21,1,1,4,2,2,1,2
+";
+const PLACED_FILLED: [i32; 10] = [0, 0, 6, 1, 2, 0, 51, -20, 4, 33];
+
 /// The load of seed 7 with two cells, worked out by a program of its own.
 const LOADED: &str = "J,2,1024,7,1,100,1,100,50
 C,1,5,0,2,9,3,2,4,1,13,1,1,2,1
@@ -109,6 +124,7 @@ fn each_name_is_what_the_refiner_does() {
     assert_eq!(names.take("REASONS_BYTES"), REASONS_BYTES);
     check_refusals(&mut names, limits[0] as u32);
     check_results(&mut names);
+    check_filled(&mut names);
     check_texts(&mut names);
     check_part(&mut names);
     assert!(names.0.is_empty(), "no test of {:?}", names.0);
@@ -225,6 +241,34 @@ fn check_results(names: &mut Names) {
         calls::place(TIGHT, &mut store, &mut output, results)
     });
     check_fields(names, "PLACE", &entries, PLACED);
+}
+
+/// The entries for job texts that begin with `K,`.
+fn check_filled(names: &mut Names) {
+    let job = String::from_utf8_lossy(JOB).replacen("J,1,60,7,1,7,11,13,17", FILLED, 1);
+    let count = names.take("SCORE_K_RESULTS");
+    let score = |job: &[u8]| {
+        written(PAINT, count, |results| {
+            calls::score(job, PLACEMENT, results)
+        })
+    };
+    let entries = score(job.as_bytes());
+    assert_eq!(entries, SCORED_FILLED);
+    check_fields(names, "SCORE", &entries, &[("K_FILLED_STEPS", 1)]);
+    assert_eq!(score(b"K,"), [1, 1, 0, 0, 0, 0, 0, 0, 0, 0, 0]);
+
+    let count = names.take("PLACE_K_RESULTS");
+    let (mut store, mut output) = (vec![0; STORE_WORDS], [0; OUTPUT_BYTES]);
+    let mut place = |job: &[u8]| {
+        written(PAINT, count, |results| {
+            calls::place(job, &mut store, &mut output, results)
+        })
+    };
+    let entries = place(APART);
+    assert_eq!(entries, PLACED_FILLED);
+    let fields = [("K_FILLED_STEPS", 4), ("K_TEXT_LENGTH", 33)];
+    check_fields(names, "PLACE", &entries, &fields);
+    assert_eq!(place(b"K,"), [1, 1, 0, 0, 0, 0, 0, 0, 0, 0]);
 }
 
 /// The operations whose only field is the length of their text.

@@ -16,7 +16,7 @@ struct text {
 struct lent {
     uint32_t store[REFINER_STORE_WORDS];
     uint8_t output[REFINER_LOAD_BYTES]; /* more than Place and Reasons need */
-    int32_t results[REFINER_SCORE_RESULTS];
+    int32_t results[REFINER_SCORE_K_RESULTS];
     uint64_t part[REFINER_PART_NUMBERS];
 };
 
@@ -115,7 +115,8 @@ int main(void) {
     static const char *const JOBS[] = {
         "J,1,20,1,1,100,1,100,50\nC,0,2,1,1,4,3,3,2,2\nC,0,6,0,1,4,3,3,2,2\n",
         "J,1,20,1,1,100,1,100,50\nC,0,2,1,1,4,3,3,2,2\nC,0,1,0,1,4,3,3,2,2\n",
-        "J,1,20,1,1,100,1,100,50\n"};
+        "J,1,20,1,1,100,1,100,50\n",
+        "K,1,20,1,1,100,1,100,50,30\nC,0,2,1,1,4,3,3,2,2\nC,0,6,0,1,4,3,3,2,2\n"};
     static const char *const PLACEMENTS[] = {"2,0,1\n6,0,0\n", "2,0,1\n7,0,0\n", "2,0,1\n6,0\n"};
     int calls = 0, empties;
     size_t function, job, placement;

@@ -3,9 +3,9 @@
 use crate::building::{build, folder, is_there, said, source};
 use std::process::Command;
 
-/// Arguments may be empty in 4 + 8 + 8 + 16 + 16 + 4 + 16 ways; each with three jobs and three
+/// Arguments may be empty in 4 + 8 + 8 + 16 + 16 + 4 + 16 ways; each with four jobs and three
 /// placements.
-const CALLS: &str = "648\n";
+const CALLS: &str = "864\n";
 
 const CHECKED: &[&str] = &["-fsanitize=address,undefined", "-fno-sanitize-recover=all"];
 

@@ -20,7 +20,7 @@ static uint32_t store[REFINER_STORE_WORDS_BY_TWO];
 static uint8_t output[REFINER_MAX_CELLS * REFINER_OUTPUT_BYTES_PER_CELL];
 static uint8_t loaded[REFINER_LOAD_BYTES];
 static uint8_t sentence[REFINER_REASONS_BYTES];
-static int32_t results[REFINER_SCORE_RESULTS];
+static int32_t results[REFINER_SCORE_K_RESULTS];
 static uint64_t part[REFINER_PART_NUMBERS];
 
 static uint32_t call_read(void) {
@@ -28,7 +28,7 @@ static uint32_t call_read(void) {
 }
 
 static uint32_t call_score(void) {
-    return refiner_score(job, job_len, placement, placement_len, results, REFINER_SCORE_RESULTS);
+    return refiner_score(job, job_len, placement, placement_len, results, REFINER_SCORE_K_RESULTS);
 }
 
 static uint32_t call_fault(void) {
@@ -42,7 +42,7 @@ static uint32_t call_fault_line(void) {
 
 static uint32_t call_place(void) {
     return refiner_place(job, job_len, store, REFINER_STORE_WORDS_BY_TWO, output, sizeof output,
-                         results, REFINER_PLACE_RESULTS);
+                         results, REFINER_PLACE_K_RESULTS);
 }
 
 static uint32_t call_load(void) {

@@ -47,6 +47,11 @@ fn by_two(job: &str) -> String {
     job.replacen("J,2,1024,7,1,", "J,2,1024,7,2,", 1)
 }
 
+/// The same job with a weight of its own for filled steps.
+fn weighing_filled(job: &str) -> String {
+    job.replacen('J', "K", 1).replacen(",7\n", ",7,50\n", 1)
+}
+
 /// The given rows of such a job.
 fn given() -> String {
     let line = |cell| format!("{},0,0\n", APART * cell);
@@ -79,7 +84,8 @@ fn touched() -> BTreeMap<String, usize> {
     let mut most = BTreeMap::new();
     for rows in [tall_last(), one_row()] {
         let by_one = job_of(&rows, APART);
-        for text in [&by_two(&by_one), &by_one] {
+        let filled = weighing_filled(&by_one);
+        for text in [&by_two(&by_one), &by_one, &filled] {
             write(&job, text);
             for stands in [given(), at_an_end()] {
                 write(&placement, &stands);
