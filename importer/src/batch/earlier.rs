@@ -45,6 +45,9 @@ mod tests {
     const JOB: &[u8] = b"J,1,20,1,1,100,7,100,50\nC,0,17,1,1,4,3,3,2,2\n";
     const ANSWER: &str = "7,0,1,0,0,-100\n16,0,0\n";
 
+    /// Two cells two sites apart, with one step.
+    const FILLED: &[u8] = b"K,1,10,0,0,7,7,7,7,30\nC,0,0,0,1,4,3,3,2,2\nC,0,6,0,1,4,2,3,2,2\n";
+
     fn is_told(job: &[u8], output: &str) -> bool {
         told(job, output.as_bytes()).is_some()
     }
@@ -60,6 +63,7 @@ mod tests {
             Some(true)
         );
         assert!(is_told(JOB, "refused,8,0\n"));
+        assert!(is_told(FILLED, "30,1,0,0,0,0,1\n0,0,0\n6,0,0\n"));
     }
 
     #[test]
@@ -71,6 +75,8 @@ mod tests {
         assert!(!is_told(JOB, "7,0,1,0,0,-100\n17,0,0\n"));
         assert!(!is_told(JOB, "refused,1,1\n"));
         assert!(!is_told(JOB, "refused,8,0"));
+        assert!(!is_told(FILLED, "30,1,0,0,0,0\n0,0,0\n6,0,0\n"));
+        assert!(!is_told(FILLED, "30,1,0,0,0,0,0\n0,0,0\n6,0,0\n"));
         assert!(!is_told(b"", "refused,1,2\n"));
         assert!(!is_told(b"", ANSWER));
     }

@@ -4,8 +4,9 @@ use super::done::Done;
 use super::failure::Failure;
 use crate::{Broken, Numbers, Refused, Verdict};
 
-/// What the fields are called. The first is the job's file.
-pub const COLUMNS: [&str; 16] = [
+/// What the fields are called. The first is the job's file; the last is empty for jobs that do not
+/// weigh filled steps, and stands behind the others for who knows these by their places.
+pub const COLUMNS: [&str; 17] = [
     "file",
     "status",
     "refusal",
@@ -22,6 +23,7 @@ pub const COLUMNS: [&str; 16] = [
     "placement line",
     "placement cost",
     "cost saved",
+    "filled steps",
 ];
 
 /// The fields behind the file's.
@@ -64,10 +66,11 @@ pub(super) fn of(result: &Result<Done, Failure>) -> Fields {
         number(line),
         number(theirs),
         done.saved().map_or_else(none, |saved| saved.to_string()),
+        number(done.placed.ok().and_then(|numbers| numbers.filled)),
     ]
 }
 
-/// Numbers in the order in which `refine` prints them; empty fields if there are none.
+/// The first numbers in the order in which `refine` prints them; empty fields if there are none.
 fn numbers(numbers: Option<Numbers>) -> [String; 6] {
     let Some(numbers) = numbers else {
         return Default::default();

@@ -37,6 +37,11 @@ const FALLING: &str = "J,1,20,1,1,100,1,100,50\nC,0,2,1,1,4,3,3,2,2\nC,0,1,0,1,4
 const REORDER: &str = include_str!("../../../examples/reorder.job");
 const REORDER_ANSWER: &str = "9,0,9,0,0,25\n5,0,0\n0,0,0\n3,0,0\n7,0,0\n";
 
+/// A job led by `K`, worked in `examples.rs`, and its given rows, which cost 230.
+const FILLED: &str = include_str!("../../../examples/filled.job");
+const FILLED_ANSWER: &str = "162,3,2,0,0,67,2\n0,0,0\n6,0,0\n10,0,0\n";
+const FILLED_GIVEN: &str = "0,0,0\n4,0,0\n10,0,0\n";
+
 /// A job with a supplier's placement: 300 beside 12, the cheapest.
 const DESK: &str = include_str!("../../../examples/desk.job");
 const DESK_PLACEMENT: &str = include_str!("../../../examples/desk.placement");

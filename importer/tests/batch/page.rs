@@ -40,11 +40,11 @@ pub fn links(page: &str) -> Vec<&str> {
 /// The rows that the page of the jobs is to have.
 pub fn expected() -> Vec<Row> {
     let lines = [
-        "./desk.job,answered,,,12,0,2,1,0,50,legal,,,,300,288",
-        "./falling.job,refused,4,3,,,,,,,,,,,,",
-        "./past.job,answered,,,7,0,1,0,0,-100,,,,,,",
-        "./tight.job,refused,8,0,,,,,,,,,,,,",
-        "./worked.job,answered,,,100,0,0,1,0,0,,,,,,",
+        "./desk.job,answered,,,12,0,2,1,0,50,legal,,,,300,288,",
+        "./falling.job,refused,4,3,,,,,,,,,,,,,",
+        "./past.job,answered,,,7,0,1,0,0,-100,,,,,,,",
+        "./tight.job,refused,8,0,,,,,,,,,,,,,",
+        "./worked.job,answered,,,100,0,0,1,0,0,,,,,,,",
     ];
     let row = |line: &&str| line.split(',').map(String::from).collect();
     lines.iter().map(row).collect()

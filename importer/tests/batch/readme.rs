@@ -1,6 +1,7 @@
 //! README's section on many jobs shows what is really printed and written.
 
 use super::{batch, counts, folder, names, put, text};
+use importer::batch::COLUMNS;
 use std::fs;
 use std::path::Path;
 
@@ -42,4 +43,30 @@ fn the_examples_give_the_summary_and_the_table_that_are_shown() {
     assert_eq!((&*notes, status), ("", Some(0)));
     assert_eq!(counts(&output), counts(summary));
     assert_eq!(&text(folder.join("all.csv")), table);
+}
+
+/// The names in the first cell of a row: one, several, or from one to another.
+fn named(row: &str) -> Vec<&str> {
+    let first = row.trim_start_matches('|').split('|').next();
+    let words: Vec<&str> = first.unwrap_or_default().split('`').collect();
+    let at = |name: &str| COLUMNS.iter().position(|column| *column == name);
+    match words[..] {
+        [_, from, " to ", to, _] => match (at(from), at(to)) {
+            (Some(from), Some(to)) => COLUMNS[from..=to].to_vec(),
+            _ => vec![row],
+        },
+        _ => words.into_iter().skip(1).step_by(2).collect(),
+    }
+}
+
+#[test]
+fn each_column_is_told() {
+    let table = README
+        .lines()
+        .skip_while(|line| *line != "| column | what it has |")
+        .skip(2)
+        .take_while(|line| line.starts_with('|'));
+    let told: Vec<&str> = table.flat_map(named).collect();
+    // The job's file needs no words.
+    assert_eq!(told, COLUMNS[1..]);
 }

@@ -1,7 +1,7 @@
 //! A run that was interrupted and is started again.
 
 use super::{batch, check_summary, folder, jobs, names, put, summary, text, touch};
-use super::{PAST, PAST_ANSWER, REFINE, TIGHT, WORKED, WORKED_ANSWER};
+use super::{FILLED, FILLED_ANSWER, PAST, PAST_ANSWER, REFINE, TIGHT, WORKED, WORKED_ANSWER};
 use std::collections::BTreeMap;
 use std::fs;
 use std::path::Path;
@@ -114,5 +114,30 @@ fn an_output_that_is_not_the_jobs_is_done_anew() {
         fs::write(folder.join("worked.out"), output).expect("a test may write");
         check_summary(batch(&folder, &["."]), &summary(4));
         assert_eq!(text(folder.join("worked.out")), WORKED_ANSWER, "{output}");
+    }
+}
+
+/// What an earlier version wrote of a job led by `K` was a refusal; it is done anew, as is a line
+/// without the filled steps, or with other ones.
+#[test]
+fn the_filled_steps_are_the_jobs_too() {
+    let folder = folder("filled_again");
+    put(&folder, "a.job", FILLED);
+    let counts = |taken_over| {
+        let counts = "jobs,1 answered,1 failed,0 taken over";
+        format!("{counts},{taken_over} placements,0,0,0 saved,0")
+    };
+    check_summary(batch(&folder, &["."]), &counts(0));
+    check_summary(batch(&folder, &["."]), &counts(1));
+    let (numbers, placement) = FILLED_ANSWER.split_once('\n').expect("two parts");
+    let six = numbers.strip_suffix(",2").expect("two filled steps");
+    for output in [
+        "refused,1,1\n",
+        &format!("{six}\n{placement}"),
+        &format!("{six},3\n{placement}"),
+    ] {
+        fs::write(folder.join("a.out"), output).expect("a test may write");
+        check_summary(batch(&folder, &["."]), &counts(0));
+        assert_eq!(text(folder.join("a.out")), FILLED_ANSWER, "{output}");
     }
 }

@@ -46,7 +46,7 @@ fn an_input_that_cannot_be_read_is_told_of_and_the_others_go_on() {
     assert_eq!(text(folder.join("z.out")), PAST_ANSWER);
     let csv = text(folder.join("all.csv"));
     let lines: Vec<&str> = csv.lines().skip(2).collect();
-    let failed = |name: &str| format!("{name},failed{}", ",".repeat(14));
+    let failed = |name: &str| format!("{name},failed{}", ",".repeat(15));
     assert_eq!(lines[0], failed("no.job"));
     assert_eq!(lines[1], failed("a.job/b.job"));
     assert_eq!(lines[2], failed("p.job"));
