@@ -1,5 +1,7 @@
 //! `refine` as a program: what it prints, where, and its exit status.
 
+#[path = "cli/filled.rs"]
+mod filled;
 #[path = "cli/load.rs"]
 mod load;
 #[path = "cli/manual.rs"]

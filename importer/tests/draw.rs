@@ -103,6 +103,37 @@ fn marks_tell_cells_that_abut_from_fillers() {
     }
 }
 
+/// As given there are two steps at gap 0 and a filled one, in the cheapest placement one and two.
+#[test]
+fn filled_steps_that_have_their_own_weight_are_told() {
+    let job = repository("examples/filled.job");
+    let (picture, notes, status) = told(&draw(&["--best".as_ref(), job.as_os_str()]));
+    assert_eq!((&*notes, status), ("", Some(0)));
+    let filled = |name, cost, shifted, drift, filled| {
+        format!(
+            "{name}: legal, cost {cost}, steps 3, sites shifted {shifted}, mirrored 0, changed 0, \
+             drift {drift} hundredths of a site, filled steps {filled}."
+        )
+    };
+    let [given, cheapest] = [
+        filled("given rows", 230, 0, 0, 1),
+        filled("cheapest", 162, 2, 67, 2),
+    ];
+    assert!(
+        picture.contains(&format!(">{given} {cheapest}</desc>")),
+        "{picture}"
+    );
+    let weights = "weights: step 100, shift 1, mirror 100, swap 50, filled 30</text>";
+    assert!(picture.contains(weights), "{picture}");
+    assert_eq!(picture.matches(">filled steps</text>").count(), 1);
+    let marks = ["s0", "s2"].map(|class| format!("<path class=\"{class}\""));
+    assert_eq!(marks.map(|mark| picture.matches(&mark).count()), [3, 3]);
+    check_form(Path::new(&file("draw_filled.svg", &picture)));
+    // Of other jobs there is no word of them.
+    let (picture, ..) = told(&draw(&[file("draw_unfilled.job", WORKED)]));
+    assert!(!picture.contains("filled"), "{picture}");
+}
+
 #[test]
 fn the_word_for_a_cheapest_one_may_stand_anywhere() {
     let job = file("draw_best.job", WORKED);

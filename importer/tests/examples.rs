@@ -13,6 +13,7 @@ use std::process::Command;
 const WORKED: &[u8] = include_bytes!("../../examples/worked.job");
 const FIXED: &str = include_str!("../../examples/fixed.job");
 const REORDER: &str = include_str!("../../examples/reorder.job");
+const FILLED: &str = include_str!("../../examples/filled.job");
 const README: &str = include_str!("../../README.md");
 
 fn placed(job: &[u8]) -> String {
@@ -67,11 +68,17 @@ fn score_tells_of_drawn_rows() {
 
 /// What `refine` prints of a job's file.
 fn printed(job: &str) -> String {
-    let said = Command::new(env!("CARGO_BIN_EXE_refine"))
-        .arg(job)
+    of_shell(&format!("refine {job}"))
+}
+
+/// What a line of the shell prints in the repository's root, where `refine` is the program.
+fn of_shell(line: &str) -> String {
+    let said = Command::new("bash")
+        .args(["-c", &format!("refine() {{ \"$REFINE\" \"$@\"; }}\n{line}")])
+        .env("REFINE", env!("CARGO_BIN_EXE_refine"))
         .current_dir(concat!(env!("CARGO_MANIFEST_DIR"), "/.."))
         .output();
-    String::from_utf8(said.expect("refine ends").stdout).expect("an answer is a text")
+    String::from_utf8(said.expect("bash ends").stdout).expect("an answer is a text")
 }
 
 /// A text as README shows it.
@@ -111,4 +118,23 @@ fn reordering_by_two_closes_the_steps() {
     assert!(README.contains(&told), "README lacks the answer with R 2");
     let told = shown("200,2,0,0,0,0\n0,0,0\n2,0,0\n5,0,0\n7,0,0\n");
     assert!(README.contains(&told), "README lacks the answer with R 1");
+}
+
+/// Heights 2 and 2 of cell 1 face 3 and 3 of cell 2, and 2 and 2 of cell 2 face 2 and 3 of cell 3,
+/// which is fixed: two steps and one, wherever cell 2 stands, at 4 or at 6. At 4 the two are at gap 0
+/// and the one is filled, at 6 the other way round: 2 * 100 + 30, or 100 + 2 * 30 and a shift of 2,
+/// which is a mean of 2 / 3. Cell 1 can only go to 2, with cell 2 at 6, and then all three are at gap
+/// 0. Led by `J`, all steps weigh 100, and nothing shifts for them.
+#[test]
+fn filled_steps_may_weigh_less() {
+    let output = printed("examples/filled.job");
+    assert_eq!(output, "162,3,2,0,0,67,2\n0,0,0\n6,0,0\n10,0,0\n");
+    let command = "sed 's/^K/J/; s/,30$//' examples/filled.job | refine";
+    let led_by_j = of_shell(command);
+    assert_eq!(led_by_j, "300,3,0,0,0,0\n0,0,0\n4,0,0\n10,0,0\n");
+    assert!(README.contains(&shown(FILLED)), "README lacks the job");
+    let told = shown(&format!("$ refine examples/filled.job\n{output}"));
+    assert!(README.contains(&told), "README lacks the answer");
+    let told = shown(&format!("$ {command}\n{led_by_j}"));
+    assert!(README.contains(&told), "README lacks the answer led by J");
 }

@@ -89,6 +89,24 @@ fn a_job_without_cells_is_its_first_line() {
     assert_eq!(judged(&Job::new(HEADER)), Ok(0));
 }
 
+/// A weight of filled steps has its own lead and stands behind the others.
+#[test]
+fn a_weight_of_filled_steps_changes_the_lead() {
+    let weighing = |filled| {
+        let weights = Weights {
+            filled: Some(filled),
+            ..HEADER.weights
+        };
+        Job::new(Header { weights, ..HEADER }).with(single(0, 2))
+    };
+    let text = "K,2,100,7,1,10,20,30,40,50\nC,0,2,0,1,4,1,2,3,4\n";
+    assert_eq!(weighing(50).to_string(), text);
+    assert_eq!(judged(&weighing(0)), Ok(1));
+    assert_eq!(judged(&weighing(1000)), Ok(1));
+    assert_eq!(judged(&weighing(1001)), Err((RefusalKind::Range, 1)));
+    assert_eq!(judged(&weighing(10_000)), Err((RefusalKind::Form, 1)));
+}
+
 #[test]
 fn heights_have_names() {
     let heights = Heights {

@@ -77,6 +77,32 @@ fn a_refiner_takes_memory_before_it_places() {
     }
 }
 
+/// The same job with a weight of its own for filled steps, of which a full row has none.
+fn weighing_filled(reordering: u32) -> Vec<u8> {
+    let job = String::from_utf8(job(reordering)).expect("a job is a text");
+    let job = job.replacen('J', "K", 1).replacen(",50\n", ",50,9\n", 1);
+    job.into_bytes()
+}
+
+#[test]
+fn with_filled_steps_jobs_are_lent_the_same() {
+    let mut refiner = Refiner::new();
+    for (reordering, answer) in (0..).zip(answers()) {
+        let answer = answer.map(|mut refined| {
+            refined.numbers.filled = Some(0);
+            refined
+        });
+        let job = weighing_filled(reordering);
+        assert_eq!(refine(&job), answer, "R {reordering}");
+        assert_eq!(refiner.try_reserve(&job), Ok(()));
+        let placed = refiner.place(&job).map(|answer| answer.to_refined());
+        assert_eq!(placed, answer, "R {reordering}");
+    }
+    let mut store = vec![0; STORE_WORDS_BY_TWO - 1];
+    let short = Refused { number: 6, line: 0 };
+    assert_eq!(place(&weighing_filled(2), &mut store, &mut []), Err(short));
+}
+
 /// What Place leaves of a job in a store of so many words, none of them zero at first, and whether
 /// all of these are zero then, or none.
 fn lent(reordering: u32, words: usize) -> (Result<Refined, Refused>, [bool; 2]) {
@@ -121,11 +147,13 @@ fn the_first_line_tells_the_words() {
     assert_eq!((STORE_WORDS, STORE_WORDS_BY_TWO), (1_048_576, 4_194_304));
     let needs = [0, 1, 2].map(|reordering| store_words(&job(reordering)));
     assert_eq!(needs, [STORE_WORDS, STORE_WORDS, STORE_WORDS_BY_TWO]);
-    // Lines behind the first do not matter.
+    // Lines behind the first do not matter, and its lead may be K.
     assert_eq!(
         store_words(b"J,1,20,1,2,100,1,100,50\nC\n"),
         STORE_WORDS_BY_TWO
     );
+    let filled = [0, 1, 2].map(|reordering| store_words(&weighing_filled(reordering)));
+    assert_eq!(filled, needs);
     // None of these is a first line that can be read.
     for text in [
         "",
@@ -133,6 +161,10 @@ fn the_first_line_tells_the_words() {
         "J,1,20,1,2,100,1,100,50",
         "J,1,20,1,2,100,1,100\n",
         "J,1,20,1,2,100,1,100,50,2\n",
+        "K,1,20,1,2,100,1,100,50\n",
+        "K,1,20,1,2,100,1,100,50,2,2\n",
+        "K,1,20,1,2,100,1,100,50,1001\n",
+        "KJ,1,20,1,2,100,1,100,50,2\n",
         "J,1,20,1,02,100,1,100,50\n",
         "J,3,20,1,2,100,1,100,50\n",
         "J,1,20,1,3,100,1,100,50\n",

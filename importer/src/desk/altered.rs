@@ -75,6 +75,15 @@ mod tests {
     }
 
     #[test]
+    fn a_first_line_led_by_k_keeps_its_lead_and_its_weights() {
+        let job = b"K,1,20,1,0,100,1,100,50,30\nC,0,2,1,1,4,3,3,2,2\n";
+        let changed = with_field(job, DISPLACEMENT, 7);
+        let changed = with_field(&with_field(&changed, SITES, 24), REORDERING, 2);
+        let expected = b"K,1,24,7,2,100,1,100,50,30\nC,0,2,1,1,4,3,3,2,2\n";
+        assert_eq!(changed, expected);
+    }
+
+    #[test]
     fn fields_of_the_first_line() {
         let places = [SITES, DISPLACEMENT, REORDERING];
         assert_eq!(places.map(|place| field(JOB, place)), [20, 1, 0]);

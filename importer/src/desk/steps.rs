@@ -160,6 +160,37 @@ C,1,11,0,2,3,6,7,1,1,4,7,6,1,1
         assert_eq!(steps, expected);
     }
 
+    /// One step at gap 0, one at gap 2: a count of another kind is not agreed to.
+    #[test]
+    fn filled_ones_are_counted_too() {
+        let job = b"K,1,14,0,0,7,7,7,7,1\n\
+                    C,0,0,0,1,4,1,1,1,2\n\
+                    C,0,4,0,1,4,1,1,1,2\n\
+                    C,0,10,0,1,4,1,1,1,2\n";
+        let placement = b"0,0,0\n4,0,0\n10,0,0\n";
+        let Ok(Verdict::Legal(numbers)) = score(job, placement) else {
+            panic!("the placement is legal");
+        };
+        assert_eq!((numbers.steps, numbers.filled), (2, Some(1)));
+        let steps = steps(job, placement, &numbers).expect("the refiner counts as many");
+        let filled: Vec<bool> = steps.iter().map(Step::is_filled).collect();
+        assert_eq!(filled, [false, true]);
+        for (steps_counted, filled, agrees) in [
+            (2, Some(1), true),
+            (2, None, true),
+            (2, Some(2), false),
+            (2, Some(0), false),
+            (3, Some(1), false),
+        ] {
+            let counted = Numbers {
+                steps: steps_counted,
+                filled,
+                ..numbers
+            };
+            assert_eq!(are_counted(&steps, &counted), agrees, "{counted}");
+        }
+    }
+
     #[test]
     fn none_from_gap_4_on() {
         assert_eq!(found(b"0,0,0\n0,0,0\n8,0,0\n14,0,0\n"), [""; 0]);

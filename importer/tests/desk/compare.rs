@@ -1,6 +1,6 @@
 //! `refine compare`.
 
-use super::{check_answer, check_usage_error, on_pair, Said, JOB, PLACEMENT};
+use super::{check_answer, check_usage_error, on_pair, Said, FILLED, JOB, PLACEMENT};
 
 /// Cell 2 may be mirrored, and nothing may shift.
 const MIRRORED: &str = "\
@@ -74,6 +74,34 @@ fn a_step_at_another_gap_stays() {
         cell,2,6,0,0,4,0,0\n\
         steps,1,0,0\n";
     check_answer(compare("gap", job, "0,0,0\n6,0,0\n", &[]), lines);
+}
+
+/// As given, cells 1 and 2 abut with two steps, and cells 2 and 3 have a filled one. In the cheapest
+/// cell 2 stands two sites further right: the same steps, but the two are filled and the one is not.
+#[test]
+fn a_job_that_weighs_filled_steps_has_a_figure_more() {
+    let placement = "0,0,0\n4,0,0\n10,0,0\n";
+    let lines = "theirs,230,3,0,0,0,0,1\n\
+        cheapest,162,3,2,0,0,67,2\n\
+        saved,68,0,-2,0,0,-67,-1\n\
+        cell,2,4,0,0,6,0,0\n\
+        steps,3,0,0\n";
+    check_answer(compare("filled", FILLED, placement, &[]), lines);
+    let table = "          \
+               cost  steps  sites shifted  mirrored  changed  drift  filled steps\n  \
+          theirs   230      3              0         0        0      0             1\n\
+        cheapest   162      3              2         0        0     67             2\n   \
+           saved    68      0             -2         0        0    -67            -1\n\
+        \n";
+    let (said, ..) = compare("filled_table", FILLED, placement, &["--table"]);
+    assert!(said.starts_with(table), "{said}");
+    // Cell 2 one site right of its given site.
+    let (broken, ..) = compare("filled_broken", FILLED, "0,0,0\n5,0,0\n10,0,0\n", &[]);
+    let lines = "broken,5,1\ncheapest,162,3,2,0,0,67,2\ncell,2,5,0,0,6,0,0\n";
+    assert_eq!(broken, lines);
+    let (_, notes, status) = compare("filled_loss", FILLED, placement, &["--max-loss", "67"]);
+    let note = "refine: not accepted: 68 of cost was left, 67 may be\n";
+    assert_eq!((&*notes, status), (note, Some(1)));
 }
 
 #[test]

@@ -1,6 +1,6 @@
 //! `refine gaps`.
 
-use super::{check_answer, check_usage_error, on_pair, refine, Said, JOB, PLACEMENT};
+use super::{check_answer, check_usage_error, on_pair, refine, Said, FILLED, JOB, PLACEMENT};
 
 /// One row of 20 sites with two cells of 4.
 const ONE_ROW: &str = include_str!("../../../examples/worked.job");
@@ -23,6 +23,25 @@ fn each_row_by_width_with_its_ends_told_apart() {
         gaps,1,3,1,0,0,0,1\n\
         gaps,1,4+,0,0,0,0,0\n";
     check_answer(gaps("both", JOB, PLACEMENT, &[]), lines);
+}
+
+/// Cells 1 and 2 touch, two sites are empty before cell 3, and both ends are taken.
+#[test]
+fn the_verdict_of_a_job_that_weighs_filled_steps() {
+    let placement = "0,0,0\n4,0,0\n10,0,0\n";
+    let lines = "legal,230,3,0,0,0,0,1\n\
+        gaps,0,0,1,1,1,0,0\n\
+        gaps,0,2,0,1,0,1,0\n\
+        gaps,0,3,0,0,0,0,0\n\
+        gaps,0,4+,0,0,0,0,0\n";
+    check_answer(gaps("filled", FILLED, placement, &[]), lines);
+    let table = "       \
+               cost  steps  sites shifted  mirrored  changed  drift  filled steps\n\
+        legal   230      3              0         0        0      0             1\n\
+        \n\
+        row 0: cells 3, sites 14\n";
+    let (said, ..) = gaps("filled_table", FILLED, placement, &["--table"]);
+    assert!(said.starts_with(table), "{said}");
 }
 
 #[test]

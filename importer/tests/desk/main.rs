@@ -15,6 +15,9 @@ type Said = (String, String, Option<i32>);
 const JOB: &str = include_str!("../../../examples/desk.job");
 const PLACEMENT: &str = include_str!("../../../examples/desk.placement");
 
+/// A job led by `K`, worked in `examples.rs`.
+const FILLED: &str = include_str!("../../../examples/filled.job");
+
 fn refine(arguments: &[&str]) -> Said {
     let refine = Command::new(env!("CARGO_BIN_EXE_refine"))
         .args(arguments)

@@ -49,6 +49,28 @@ fn the_cheapest_cost_for_each_displacement_and_reordering() {
     check_answer(said, &format!("job,2,1,12\n{costs}"));
 }
 
+/// The fixed cell leaves ten sites to the others, of which two are empty: behind both, as given,
+/// between them, or before both. From D 2 on they are best between them, for each R: in the other
+/// order the steps are the same, as both cells have the same heights, and more sites are shifted. Led
+/// by `J` the job costs 300 for each D.
+#[test]
+fn a_job_that_weighs_filled_steps_keeps_its_weights() {
+    let (near, far) = (["230"; 3], ["162"; 3]);
+    let costs = costs([near, near, far, far, far, far, far, far]);
+    let said = refine(&["whatif", "examples/filled.job"]);
+    check_answer(said, &format!("job,2,0,162\n{costs}"));
+}
+
+/// Two cells of three sites need six; with other sites the first line is still led by `K`.
+#[test]
+fn a_job_led_by_k_may_lack_sites() {
+    let job = one_row("5,0,1", &[(0, 3), (3, 3)]);
+    let job = job.replacen('J', "K", 1).replacen(",1\n", ",1,1\n", 1);
+    assert!(job.starts_with("K,1,5,0,1,1,1,1,1,1\nC"), "{job}");
+    let ways = "line,3,2\nsmallest D,none\nsmallest R,none\nsmallest sites,6\n";
+    check("filled_sites", &job, "job,0,1,none", [NONE; 8], ways);
+}
+
 #[test]
 fn a_job_without_cells_costs_nothing() {
     check(
