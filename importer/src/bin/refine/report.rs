@@ -114,7 +114,7 @@ fn print(output: &[u8]) -> io::Result<()> {
     }
 }
 
-/// `cost,steps,sites shifted,mirrored,changed,drift`.
+/// `cost,steps,sites shifted,mirrored,changed,drift`, and of some jobs the filled steps.
 pub fn line_of(numbers: &Numbers) -> String {
     numbers.fields()
 }

@@ -39,7 +39,7 @@ struct Command {
 const PLACE: Command = Command {
     words: &[],
     arguments: "[-p] [JOB]",
-    prints: "`cost,steps,sites shifted,mirrored,changed,drift`, then a cheapest legal placement",
+    prints: "`cost,steps,sites shifted,mirrored,changed,drift[,filled steps]`, then a cheapest legal placement",
     options: place::OPTIONS,
     run: place::run,
 };
@@ -49,7 +49,7 @@ const COMMANDS: &[Command] = &[
     Command {
         words: &["score"],
         arguments: "[--check] JOB PLACEMENT",
-        prints: "`legal,cost,steps,sites shifted,mirrored,changed,drift`, or `broken,rule,cell`",
+        prints: "`legal,cost,steps,sites shifted,mirrored,changed,drift[,filled steps]`, or `broken,rule,cell`",
         options: score::OPTIONS,
         run: score::run,
     },
@@ -135,6 +135,7 @@ const TABLE: Switch = Switch {
 /// What holds for every command.
 const ENDING: &str = "\
 JOB and PLACEMENT are files; `-`, and no JOB at all, is standard input.
+The filled steps are printed of a JOB whose first line is led by `K`.
 A refusal prints `refused,number,line`; the line itself, if one is at fault, and the reason go to
 standard error.
 Exit status: 0 an answer, 1 a refusal or a check that is not passed, 2 a usage or input error.
