@@ -1,7 +1,8 @@
 -- The program's sums are the definition's numbers; what they are taken of.
 use Prim.Native.Nat.{ℕ, zero, suc, _+_, _*_, _≤_}
-use mathlib.Core.Path.{_≡_, sym, ap, ap₂, fun-ext}
+use mathlib.Core.Path.{_≡_, sym, ap, ap₂, _∙_, fun-ext}
 use mathlib.Core.List.{List}
+use native.Mathlib.Nat.{mul-le-mul-right}
 use native.Mathlib.Omega.{arith}
 use lib.ListN.{length}
 use Rattle.definition.specs.Job.{maxCells, maxWeight}
@@ -9,7 +10,9 @@ use Rattle.definition.specs.Lists.{from, sum, keep}
 use Rattle.definition.specs.Job as paper
 use Rattle.definition.specs.Placement as text
 use Rattle.definition.specs.Rules.{apart}
-use Rattle.definition.specs.Cost.{steps, stepsIn, shifted, mirrored, changed, cost, isMirrored}
+use Rattle.definition.specs.Cost.{steps, touchingSteps, filledSteps, stepsIn, stepsBy}
+use Rattle.definition.specs.Cost.{shifted, mirrored, changed, cost, isMirrored}
+use Rattle.definition_laws.specs.Weights.{steps-parts}
 use Rattle.job.specs.declared.Header.{Header}
 use Rattle.job.specs.declared.Job.{Job}
 use Rattle.job.specs.declared.Placement.{Placement}
@@ -18,6 +21,7 @@ use Rattle.job.specs.Ready.{Ready}
 use Rattle.score_words.specs.Flat.{Flat}
 use Rattle.job.specs.Cells.{pose-there}
 use Rattle.score_drift.specs.Total.{Digits}
+use Rattle.score_steps.specs.declared.Steps.{Steps}
 use Rattle.score_numbers.specs.Sums.{sumFrom, countFrom, shiftIn, isChanged, weighed}
 
 -- ---- what is given
@@ -38,14 +42,31 @@ pub record Weights (h : Header) : Type 0 where
   pub shift : h .shift ≤ maxWeight
   pub mirror : h .mirror ≤ maxWeight
   pub swap : h .swap ≤ maxWeight
+  pub filled : h .filled ≤ maxWeight
 
--- such weights, and the four numbers that they weigh, none so large that the cost does not fit
+-- such weights, and steps that they weigh: two rows have at most 126 pairs of neighbours
+pub record StepsWeighable (h : Header) (s : Steps) : Type 0 where
+  pub weights : Weights h
+  pub most : s .touching + s .filled ≤ 252
+
+-- steps by their weights
+pub record StepsWeighed (h : Header) (s : Steps) (r : ℕ) : Type 0 where
+  pub same : r ≡ h .step * s .touching + h .filled * s .filled
+  pub most : r ≤ 252000
+
+-- such weights, steps that are weighed, and the three other numbers, none so large that the cost does not fit
 pub record Weighable (h : Header) (a b c d : ℕ) : Type 0 where
   pub weights : Weights h
-  pub steps : a ≤ 252
+  pub steps : a ≤ 252000
   pub shifted : b ≤ 800000
   pub mirrored : c ≤ maxCells
   pub changed : d ≤ maxCells
+
+-- the steps of a placement
+pub record AllSteps (j : paper.Job) (P : text.Placement) (r : Steps) : Type 0 where
+  pub touching : r .touching ≡ touchingSteps j P
+  pub filled : r .filled ≡ filledSteps j P
+  pub most : r .touching + r .filled ≤ 252
 
 -- ---- from the words
 
@@ -72,22 +93,37 @@ shifted-small words n d = omega (arith, go 0 n (omega arith), d .cells .few)
     go k (suc m) h =
         omega (arith, d .site k (omega arith), d .given k (omega arith), go (suc k) m (omega arith))
 
+pub weighed-most : (h : Header) (s : Steps) → StepsWeighable h s
+    → h .step * s .touching + h .filled * s .filled ≤ 252000
+weighed-most h s w =
+    omega (
+      arith,
+      mul-le-mul-right (s .touching) (w .weights .step),
+      mul-le-mul-right (s .filled) (w .weights .filled),
+      w .most,
+    )
+
 pub cost-small : (h : Header) (a b c d : ℕ) → Weighable h a b c d
-    → h .step * a + h .shift * b + h .mirror * c + h .swap * d ≤ 1000000000
+    → a + h .shift * b + h .mirror * c + h .swap * d ≤ 1000000000
 cost-small h a b c d n =
     let w = n .weights in
     omega (
       arith,
-      weighed (h .step) a 252 (w .step) (n .steps),
+      n .steps,
       weighed (h .shift) b 800000 (w .shift) (n .shifted),
       weighed (h .mirror) c maxCells (w .mirror) (n .mirrored),
       weighed (h .swap) d maxCells (w .swap) (n .changed),
     )
 
-pub steps-sum : (j : paper.Job) (P : text.Placement) (a b : ℕ) → a ≡ stepsIn j P 0 → b ≡ stepsIn j P 1
-    → a + b ≡ steps j P
-unfolding steps
-steps-sum j P a b e f = omega arith
+pub steps-sum : (f : ℕ → ℕ) (j : paper.Job) (P : text.Placement) (a b : ℕ) → a ≡ stepsIn f j P 0
+    → b ≡ stepsIn f j P 1 → a + b ≡ stepsBy f j P
+unfolding stepsBy
+steps-sum f j P a b e g = omega arith
+
+-- all steps are those of both kinds
+pub steps-all : (j : paper.Job) (P : text.Placement) (r : Steps) → AllSteps j P r
+    → r .touching + r .filled ≡ steps j P
+steps-all j P r a = ap₂ _+_ (a .touching) (a .filled) ∙ sym (steps-parts j P)
 
 module _ {j : paper.Job} {P : text.Placement} {n : ℕ} {words : List ℕ} (f : Flat j P n words) where
   pub flat-shifted : sumFrom (shiftIn words) 0 n ≡ shifted j P
@@ -105,15 +141,15 @@ module _ {j : paper.Job} {P : text.Placement} {n : ℕ} {words : List ℕ} (f : 
   flat-changed = ap (λ m. length (keep (isChanged P) (from 0 m))) (sym (f .count))
 
 -- the weights are the header's
-pub cost-sum : (job : Job) (P : text.Placement) (a b c d : ℕ) → a ≡ steps (jobOf job) P → b ≡ shifted (jobOf job) P
+pub cost-sum : (job : Job) (P : text.Placement) (s : Steps) (a b c d : ℕ) → AllSteps (jobOf job) P s
+    → StepsWeighed (job .header) s a → b ≡ shifted (jobOf job) P
     → c ≡ mirrored (jobOf job) P → d ≡ changed (jobOf job) P
-    → job .header .step * a + job .header .shift * b + job .header .mirror * c + job .header .swap * d
-    ≡ cost (jobOf job) P
+    → a + job .header .shift * b + job .header .mirror * c + job .header .swap * d ≡ cost (jobOf job) P
 unfolding cost jobOf headerOf
-cost-sum job P a b c d e f g h = rw (e, f, g, h)
+cost-sum job P s a b c d t w f g h = rw (w .same, t .touching, t .filled, f, g, h)
 
 pub weights-small : (job : Job) (P : Placement) → Ready job P → Weights (job .header)
 unfolding jobOf headerOf
 weights-small job P r =
     let h = r .accepted .sound .header in
-    record { step = h .step; shift = h .shift; mirror = h .mirror; swap = h .swap }
+    record { step = h .step; shift = h .shift; mirror = h .mirror; swap = h .swap; filled = h .filled }

@@ -1,8 +1,14 @@
 -- The numbers of a placement as the program has them, and that they are the definition's.
-use Prim.Native.Nat.{_+_, _≤_, _<_, _^_}
-use mathlib.Core.Path.{_≡_}
-use mathlib.Core.List.{List, [], _∷_}
+use Prim.Native.Nat.{ℕ, _+_, _≤_, _<_, _^_}
+use mathlib.Core.Path.{_≡_, refl, sym, ap}
+use mathlib.Core.Bool.{Bool, false, _&&_, cond, and-false}
+use mathlib.Core.List.{List, [], _∷_, _++_}
+use native.Mathlib.Omega.{arith}
+use lib.ListN.{length, getD, take}
+use lib.Dec.{eqb}
 use lib.IntN.{ℤ, pos}
+use Rattle.definition.specs.Texts.{Text, comma}
+use Rattle.definition.specs.Job.{filledLead}
 use Rattle.definition.specs.Job as paper
 use Rattle.definition.specs.Placement as text
 use Rattle.definition.specs.Cost as definition
@@ -18,10 +24,13 @@ pub record NumbersSmall (r : Numbers) : Type 0 where
   pub mirrored : r .mirrored < 2 ^ 31
   pub changed : r .changed < 2 ^ 31
   pub cost : r .cost < 2 ^ 31
+  pub filled : r .filled < 2 ^ 31
 
--- such numbers, and fields with room for them
-pub record Pushable (f : Fields) (n : Numbers) : Type 0 where
-  pub room : f .count + numberCount ≤ maxFields
+-- such numbers, and fields with room for six of them or for all seven
+pub record Pushable (f : Fields) (n : Numbers) (count : ℕ) : Type 0 where
+  pub six : 6 ≤ count
+  pub seven : count ≤ 7
+  pub room : f .count + count ≤ maxFields
   pub small : NumbersSmall n
 
 -- the numbers are the definition's
@@ -32,16 +41,33 @@ pub record Counted (j : paper.Job) (P : text.Placement) (r : Numbers) : Type 0 w
   pub changed : r .changed ≡ definition.changed j P
   pub cost : r .cost ≡ definition.cost j P
   pub drift : r .drift ≡ definition.drift j P
+  pub filled : r .filled ≡ definition.filledSteps j P
   pub small : NumbersSmall r
 
--- as the definition lists them
+-- as the definition lists them: those of every job text, and all
+abbrev pub firstIn : Numbers → List ℤ
+firstIn r = pos (r .steps) ∷ pos (r .shifted) ∷ pos (r .mirrored) ∷ pos (r .changed) ∷ pos (r .cost) ∷ r .drift ∷ []
+
 abbrev pub numbersIn : Numbers → List ℤ
-numbersIn r =
-    pos (r .steps) ∷ pos (r .shifted) ∷ pos (r .mirrored) ∷ pos (r .changed) ∷ pos (r .cost) ∷ r .drift ∷ []
+numbersIn r = firstIn r ++ (pos (r .filled) ∷ [])
 
 abbrev pub noNumbers : Numbers
-noNumbers = record { steps = 0; shifted = 0; mirrored = 0; changed = 0; cost = 0; drift = pos 0 }
+noNumbers = record { steps = 0; shifted = 0; mirrored = 0; changed = 0; cost = 0; drift = pos 0; filled = 0 }
 
-pub numbers-listed : (j : paper.Job) (P : text.Placement) (r : Numbers) → Counted j P r → numbersIn r ≡ numbers j P
+pub numbers-listed : (n : ℕ) (j : paper.Job) (P : text.Placement) (r : Numbers) → Counted j P r
+    → take n (numbersIn r) ≡ numbers n j P
 unfolding numbers
-numbers-listed j P r c = rw (c .steps, c .shifted, c .mirrored, c .changed, c .cost, c .drift)
+numbers-listed n j P r c = rw (c .steps, c .shifted, c .mirrored, c .changed, c .cost, c .drift, c .filled)
+
+-- ---- how many numbers a job text has
+
+pub by-bytes : (job : Text) (t : Bool) → (eqb (getD job 0 0) filledLead && eqb (getD job 1 0) comma) ≡ t
+    → cond t 7 6 ≡ numberCount job
+unfolding numberCount
+by-bytes job t e = ap (λ t. cond t 7 6) (sym e)
+
+-- a text of one byte or none has no comma there
+pub short-six : (job : Text) → length job < 2 → 6 ≡ numberCount job
+short-six [] h = by-bytes [] false refl
+short-six (b ∷ []) h = by-bytes (b ∷ []) false (and-false (eqb b filledLead))
+short-six (b ∷ c ∷ l) h = absurd (omega arith)

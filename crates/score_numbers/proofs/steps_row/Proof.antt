@@ -1,7 +1,8 @@
 -- The order of the row is the definition's, and its entries are cells of the job.
+use Prim.Native.Nat.{ℕ}
 use mathlib.Core.Path.{ap, sym, subst, _∙_}
 use Rattle.definition.specs.Lists.{sumNext}
-use Rattle.definition.specs.Cost.{stepsIn, stepsAt}
+use Rattle.definition.specs.Cost.{touching, filled, stepsIn, stepsAt}
 use Rattle.job.specs.Value.{jobOf, placementOf}
 use Rattle.score_order.specs.Words.{siteIn, cellsIn, tail-room}
 use Rattle.score_order.specs.Below.{Below, below-sort, below-cells}
@@ -47,11 +48,11 @@ returns c =
     let mid = c .before .before .before .before in
     let s = mid .before .before in
     let t = c .before .before .before .order-row .ensures in
-    let f = stepsAt (jobOf (s .args .job)) (placementOf (s .args .placement)) (s .args .row) in
-    record {
-      same = c .steps-in .ensures .same ∙ ap (sumNext f) (t .entries ∙ flat-order (s .pre .placed .flat) (s .args .row));
-      most = c .steps-in .ensures .most;
-    }
+    let f : (ℕ → ℕ) → ℕ → ℕ → ℕ = λ by. stepsAt by (jobOf (s .args .job)) (placementOf (s .args .placement)) (s .args .row) in
+    let e =
+    t .entries ∙ flat-order (s .pre .placed .flat) (s .args .row) in
+    let r = c .steps-in .ensures in
+    record { touching = r .touching ∙ ap (sumNext (f touching)) e; filled = r .filled ∙ ap (sumNext (f filled)) e; most = r .most }
 
 pub steps-row-spec : {M : Type 1} → statement M
 steps-row-spec =
