@@ -4,7 +4,9 @@ use crate::lent::Arrays;
 use crate::plain::cost::Numbers;
 use crate::plain::job::Job;
 use crate::plain::placement::read_placement;
+use crate::plain::results::place_results;
 use crate::plain::scorer::verdict;
+use crate::plain::Refused;
 use importer::{STORE_WORDS, STORE_WORDS_BY_TWO};
 
 /// How many words of store Place needs for a job (A6).
@@ -20,7 +22,7 @@ const UNTOUCHED: u8 = 0xaa;
 const DIRT: u32 = 0xdead_beef;
 
 /// Place's refusal of a job that has no legal placement.
-const NO_PLACEMENT: u32 = 8;
+const NO_PLACEMENT: Refused = Refused { number: 8, line: 0 };
 
 #[derive(Default)]
 pub struct Lender {
@@ -65,31 +67,29 @@ impl Lender {
         let left = self
             .arrays
             .lend(|results| importer::calls::place(&text, store, &mut output, results));
-        let (numbers, expected) = match left.returned() {
-            NO_PLACEMENT => (None, [NO_PLACEMENT as i32, 0, 0, 0, 0, 0, 0, 0, 0]),
-            _ => answer(job, &output)?,
+        let placed = match left.returned() {
+            number if number == NO_PLACEMENT.number => Err(NO_PLACEMENT),
+            _ => Ok(answer(job, &output)?),
         };
+        let expected = place_results(&text, &placed);
         left.check(expected[0] as u32, &expected)?;
-        if numbers.is_none() && output.iter().any(|&byte| byte != UNTOUCHED) {
+        if placed.is_err() && output.iter().any(|&byte| byte != UNTOUCHED) {
             return Err("the output was written after a refusal".into());
         }
         let words = || store.iter().fold(0, |words, word| words | word);
         if look_through && words() != 0 {
             return Err("the store is not all zero".into());
         }
-        Ok(numbers)
+        Ok(placed.ok().map(|(numbers, _)| numbers))
     }
 }
 
-/// The numbers of the placement in an output, and the results that belong to it.
-fn answer(job: &Job, output: &[u8]) -> Result<(Option<Numbers>, [i32; 9]), String> {
+/// The numbers of the placement in an output, and the length of its text.
+fn answer(job: &Job, output: &[u8]) -> Result<(Numbers, usize), String> {
     let untouched = output.iter().rev().take_while(|&&byte| byte == UNTOUCHED);
     let text = &output[..output.len() - untouched.count()];
     let placement = read_placement(text, job.cells.len())
         .map_err(|line| format!("line {line} of the output is no placement's"))?;
     let numbers = verdict(job, &placement).map_err(|broken| format!("{broken:?}"))?;
-    let mut results = [0; 9];
-    results[2..8].copy_from_slice(&numbers.fields());
-    results[8] = text.len() as i32;
-    Ok((Some(numbers), results))
+    Ok((numbers, text.len()))
 }

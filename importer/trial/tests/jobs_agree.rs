@@ -12,6 +12,7 @@ fn of_plain(job: &plain::job::Job) -> Job {
         shift: job.weights.shift.into(),
         mirror: job.weights.mirror.into(),
         swap: job.weights.swap.into(),
+        filled: job.weights.filled.map(u32::from),
     };
     let mut written = Job::new(Header {
         rows: job.rows.into(),

@@ -6,16 +6,14 @@ use trial::generate::{jobs, Random};
 use trial::lender::store_words;
 use trial::lent::Arrays;
 use trial::plain::reader::read_job;
+use trial::plain::results::place_results;
+use trial::plain::Refused;
 
-/// Calls Place with buffers that must stay as they are, and an array of the next length.
-fn check(arrays: &mut Arrays, text: &[u8], store: &mut [u32], bytes: usize, enough: i32) {
-    let expected = match read_job(text) {
-        Ok(_) => [enough, 0, 0, 0, 0, 0, 0, 0, 0],
-        Err(refused) => {
-            let (number, line) = (refused.number as i32, refused.line as i32);
-            [number, line, 0, 0, 0, 0, 0, 0, 0]
-        }
-    };
+/// Calls Place with buffers that must stay as they are, and an array of the next length. An accepted
+/// job is refused with this number.
+fn check(arrays: &mut Arrays, text: &[u8], store: &mut [u32], bytes: usize, number: u32) {
+    let refused = read_job(text).err().unwrap_or(Refused { number, line: 0 });
+    let expected = place_results(text, &Err(refused));
     let mut output = vec![b'x'; bytes];
     let left = arrays.lend(|results| importer::calls::place(text, store, &mut output, results));
     if let Err(difference) = left.check(expected[0] as u32, &expected) {

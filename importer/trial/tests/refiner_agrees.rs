@@ -43,8 +43,8 @@ fn job(random: &mut Random) -> Job {
     }
 }
 
-/// The plain scorer's numbers as the host has them.
-fn of_plain(numbers: &plain::cost::Numbers) -> Numbers {
+/// The plain scorer's numbers of a job as the host has them.
+fn of_plain(job: &Job, numbers: &plain::cost::Numbers) -> Numbers {
     Numbers {
         steps: numbers.steps,
         shifted: numbers.shifted,
@@ -52,6 +52,7 @@ fn of_plain(numbers: &plain::cost::Numbers) -> Numbers {
         changed: numbers.changed,
         cost: numbers.cost,
         drift: numbers.drift,
+        filled: job.weights.filled.map(|_| numbers.filled_steps),
     }
 }
 
@@ -94,6 +95,6 @@ fn poses_and_numbers_are_the_plain_scorers() {
         let expected = plain.iter().map(|pose| [pose.site, pose.layout, pose.mark]);
         assert!(fields.eq(expected.map(|fields| fields.map(u32::from))));
         let scored = verdict(&job, &plain).expect("the placement is legal");
-        assert_eq!(answer.numbers(), of_plain(&scored));
+        assert_eq!(answer.numbers(), of_plain(&job, &scored));
     }
 }

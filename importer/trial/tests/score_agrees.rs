@@ -6,7 +6,8 @@ use trial::lent::Arrays;
 use trial::plain::fault::{fault_line, Part};
 use trial::plain::job::Job;
 use trial::plain::placement::{text_of, Pose};
-use trial::plain::scorer::{score, score_results, verdict};
+use trial::plain::results::score_results;
+use trial::plain::scorer::{score, verdict};
 
 /// What stands in an output before a call.
 const UNTOUCHED: u8 = 0xaa;
@@ -24,7 +25,7 @@ struct Comparison {
 impl Comparison {
     fn compare(&mut self, job: &[u8], placement: &[u8]) {
         let expected = score(job, placement);
-        let results = score_results(&expected);
+        let results = score_results(job, &expected);
         let part = fault_line(job, placement, &expected);
         self.numbers[results[0] as usize] += 1;
         if results[0] == 0 {

@@ -57,16 +57,41 @@ pub fn job_about_the_limits(random: &mut Random) -> Job {
     job
 }
 
+/// Weights of which one in four has one of filled steps.
 pub fn weights(random: &mut Random) -> Weights {
-    let mut weight = || {
-        let high = random.pick(&[0, 1, 10, 1000]);
-        random.from_to(high / 2, high)
+    let weights = Weights {
+        step: weight(random),
+        shift: weight(random),
+        mirror: weight(random),
+        swap: weight(random),
+        filled: None,
     };
+    match random.chance(1, 4) {
+        true => with_filled(random, weights),
+        false => weights,
+    }
+}
+
+fn weight(random: &mut Random) -> u16 {
+    let high = random.pick(&[0, 1, 10, 1000]);
+    random.from_to(high / 2, high)
+}
+
+/// The weights with one of filled steps (A7): that of other steps, any, or steps of one sort are free
+/// and those of the other as dear as can be.
+pub fn with_filled(random: &mut Random, weights: Weights) -> Weights {
+    let any = weight(random);
+    let pairs = [
+        (weights.step, any),
+        (weights.step, weights.step),
+        (1000, 0),
+        (0, 1000),
+    ];
+    let (step, filled) = random.pick(&pairs);
     Weights {
-        step: weight(),
-        shift: weight(),
-        mirror: weight(),
-        swap: weight(),
+        step,
+        filled: Some(filled),
+        ..weights
     }
 }
 

@@ -69,6 +69,7 @@ pub fn job(random: &mut Random, shape: &Shape) -> Job {
             shift: 10,
             mirror: 60,
             swap: 50,
+            filled: None,
         },
         cells,
     }

@@ -1,6 +1,6 @@
 //! What a legal placement costs.
 
-use super::gap::is_charged;
+use super::gap::{is_charged, is_filled};
 use super::job::{Cell, Job};
 use super::order::Order;
 use super::placement::Pose;
@@ -14,11 +14,13 @@ pub struct Numbers {
     pub changed: u32,
     pub cost: u32,
     pub drift: i32,
+    /// Those of the steps that are at gaps 2 and 3 (A7).
+    pub filled_steps: u32,
 }
 
 impl Numbers {
-    /// In the order in which they go to a result array.
-    pub fn fields(&self) -> [i32; 6] {
+    /// In the order in which they go to a result array; the last is a field of some jobs only.
+    pub fn fields(&self) -> [i32; 7] {
         [
             self.steps as i32,
             self.shifted as i32,
@@ -26,6 +28,7 @@ impl Numbers {
             self.changed as i32,
             self.cost as i32,
             self.drift,
+            self.filled_steps as i32,
         ]
     }
 }
@@ -41,10 +44,11 @@ pub fn numbers(job: &Job, placement: &[Pose], rows: &[Order; 2]) -> Numbers {
         sum += i32::from(pose.site) - i32::from(cell.given);
     }
     for (row, order) in rows.iter().enumerate() {
-        numbers.steps += row_steps(job, placement, order, row);
+        add_steps(&mut numbers, job, placement, order, row);
     }
     let weights = job.weights;
-    numbers.cost = u32::from(weights.step) * numbers.steps
+    numbers.cost = u32::from(weights.step) * (numbers.steps - numbers.filled_steps)
+        + u32::from(weights.of_filled()) * numbers.filled_steps
         + u32::from(weights.shift) * numbers.shifted
         + u32::from(weights.mirror) * numbers.mirrored
         + u32::from(weights.swap) * numbers.changed;
@@ -52,15 +56,17 @@ pub fn numbers(job: &Job, placement: &[Pose], rows: &[Order; 2]) -> Numbers {
     numbers
 }
 
-fn row_steps(job: &Job, placement: &[Pose], order: &Order, row: usize) -> u32 {
+/// Counts the steps of a row, too.
+fn add_steps(numbers: &mut Numbers, job: &Job, placement: &[Pose], order: &Order, row: usize) {
     let placed = |cell: u8| (&job.cells[usize::from(cell)], &placement[usize::from(cell)]);
-    let mut steps = 0;
     for (left, right) in order.neighbours() {
-        if is_charged(i32::from(right.site - left.end)) {
-            steps += steps_between(placed(left.cell), placed(right.cell), row);
+        let gap = i32::from(right.site - left.end);
+        if is_charged(gap) {
+            let steps = steps_between(placed(left.cell), placed(right.cell), row);
+            numbers.steps += steps;
+            numbers.filled_steps += if is_filled(gap) { steps } else { 0 };
         }
     }
-    steps
 }
 
 /// How many of the facing heights of two cells, the first on the left, differ in a row.

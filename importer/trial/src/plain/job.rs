@@ -29,6 +29,15 @@ pub struct Weights {
     pub shift: u16,
     pub mirror: u16,
     pub swap: u16,
+    /// The weight of filled steps, where the first line is led by `K` (A7).
+    pub filled: Option<u16>,
+}
+
+impl Weights {
+    /// What filled steps weigh: as much as others where the first line is led by `J`.
+    pub fn of_filled(&self) -> u16 {
+        self.filled.unwrap_or(self.step)
+    }
 }
 
 #[derive(Clone, Copy, Debug, Default, PartialEq, Eq)]
@@ -112,7 +121,8 @@ impl Job {
             weights.mirror,
             weights.swap,
         ];
-        write_line(&mut text, 'J', header);
+        let lead = if weights.filled.is_some() { 'K' } else { 'J' };
+        write_line(&mut text, lead, header.into_iter().chain(weights.filled));
         for cell in &self.cells {
             let lead = if cell.fixed { 'F' } else { 'C' };
             write_line(&mut text, lead, cell.fields());

@@ -97,6 +97,7 @@ pub fn job(seed: u32, cells: usize) -> Job {
             shift: 1,
             mirror: 100,
             swap: 50,
+            filled: None,
         },
         cells: Vec::new(),
     };

@@ -13,6 +13,7 @@ mod order;
 pub mod placement;
 pub mod reader;
 pub mod reasons;
+pub mod results;
 pub mod rules;
 pub mod scorer;
 pub mod search;

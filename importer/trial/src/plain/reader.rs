@@ -12,8 +12,7 @@ const RANGE: u32 = 2;
 const LIMIT: u32 = 3;
 const ORDER: u32 = 4;
 
-/// Numbers on the first line, and those on a cell line before its layouts; leads not counted.
-const HEADER: usize = 8;
+/// Numbers on a cell line before its layouts, the lead not counted.
 const BEFORE_LAYOUTS: usize = 4;
 
 /// The job that a text says, or the refusal of its earliest bad line.
@@ -71,29 +70,21 @@ fn lead_and_numbers(lead: u8, text: &[u8], at: usize) -> Option<Numbers> {
 
 /// A job without cells, and where its cell lines begin.
 fn read_header(text: &[u8]) -> Result<(Job, usize), u32> {
-    let numbers = lead_and_numbers(b'J', text, 0).ok_or(FORM)?;
-    if numbers.count != HEADER {
-        return Err(FORM);
-    }
-    let &[rows, sites, displacement, reordering, step, shift, mirror, swap] = numbers.values()
-    else {
+    let has_filled = text.first() == Some(&b'K');
+    let lead = if has_filled { b'K' } else { b'J' };
+    let numbers = lead_and_numbers(lead, text, 0).ok_or(FORM)?;
+    let &[rows, sites, displacement, reordering, ref rest @ ..] = numbers.values() else {
         return Err(FORM);
     };
-    let weights = [step, shift, mirror, swap];
+    let weights = read_weights(rest, has_filled).ok_or(FORM)?;
     let in_range = (1..=2).contains(&rows)
         && (1..=1024).contains(&sites)
         && displacement <= 7
         && reordering <= MOST_REORDERING
-        && weights.iter().all(|&weight| weight <= 1000);
+        && rest.iter().all(|&weight| weight <= 1000);
     if !in_range {
         return Err(RANGE);
     }
-    let weights = Weights {
-        step,
-        shift,
-        mirror,
-        swap,
-    };
     let job = Job {
         rows,
         sites,
@@ -103,6 +94,23 @@ fn read_header(text: &[u8]) -> Result<(Job, usize), u32> {
         cells: Vec::with_capacity(MOST_CELLS),
     };
     Ok((job, numbers.next))
+}
+
+/// The weights of a first line, if it has as many as its lead asks for.
+fn read_weights(weights: &[u16], has_filled: bool) -> Option<Weights> {
+    let (&[step, shift, mirror, swap], filled) = weights.split_first_chunk()?;
+    let filled = match (filled, has_filled) {
+        (&[], false) => None,
+        (&[filled], true) => Some(filled),
+        _ => return None,
+    };
+    Some(Weights {
+        step,
+        shift,
+        mirror,
+        swap,
+        filled,
+    })
 }
 
 /// The cell of a line of numbers, in a job of so many rows. Whether it is fixed is for the lead to

@@ -26,20 +26,3 @@ pub fn score(job: &[u8], placement: &[u8]) -> Result<Verdict, Refused> {
     let placement = read_placement(placement, job.cells.len()).map_err(refuse)?;
     Ok(verdict(&job, &placement))
 }
-
-/// What Score leaves in a result array that reaches far enough.
-pub fn score_results(score: &Result<Verdict, Refused>) -> [i32; 10] {
-    let mut results = [0; 10];
-    match score {
-        Err(refused) => {
-            results[0] = refused.number as i32;
-            results[1] = refused.line as i32;
-        }
-        Ok(Err(broken)) => {
-            results[2] = broken.rule as i32;
-            results[3] = broken.cells.lowest() as i32;
-        }
-        Ok(Ok(numbers)) => results[4..].copy_from_slice(&numbers.fields()),
-    }
-    results
-}

@@ -43,10 +43,13 @@ fn words(numbers: &Numbers) -> String {
         changed,
         cost,
         drift,
+        filled,
     } = numbers;
+    let filled = filled.map(|filled| format!(", filled steps {filled}"));
     format!(
         "legal, cost {cost}, steps {steps}, sites shifted {shifted}, mirrored {mirrored}, \
-         changed {changed}, drift {drift} hundredths"
+         changed {changed}, drift {drift} hundredths of a site{}.",
+        filled.unwrap_or_default()
     )
 }
 

@@ -2,15 +2,25 @@
 
 use super::block::{least, lower, Block, Lanes, Rows};
 use super::lines::{Line, VARIANTS};
-use super::{Charge, NONE};
+use super::{Charge, Step, NONE};
+use std::ops::Range;
 
 /// End sites that bear on one target cell: from four sites left of its first site to its last.
 const ENDS: usize = 15 + 4;
 
+/// Those of them that are two or three sites left of one of its sites.
+const FILLED_ENDS: Range<usize> = 1..ENDS - 2;
+
+/// By end site, and by the target's variant, the least charge over sources that end there, steps
+/// included.
+type Near<const L: usize> = [[Lanes<L>; VARIANTS]; ENDS];
+
 /// Sources gathered by their end site, counted from four sites left of the target's first.
 pub struct Gathered<const L: usize> {
-    /// For the target's variants, the least charge over sources that end here, steps included.
-    near: [[Lanes<L>; VARIANTS]; ENDS],
+    /// With the steps of cells that touch.
+    touching: Near<L>,
+    /// With filled steps, if these charge otherwise; else `touching` serves.
+    filled: Option<Box<Near<L>>>,
     /// The least charge over sources that end here or further left.
     far: [Lanes<L>; ENDS],
     /// A bit for each end site that has sources; the rows of others mean nothing.
@@ -27,9 +37,12 @@ pub struct LeftOf<'a, const L: usize> {
 }
 
 impl<const L: usize> Gathered<L> {
-    pub fn empty() -> Gathered<L> {
+    pub fn empty(step: Step) -> Gathered<L> {
+        let none = [[[NONE; L]; VARIANTS]; ENDS];
+        let differs = step.filled != step.touching;
         Gathered {
-            near: [[[NONE; L]; VARIANTS]; ENDS],
+            touching: none,
+            filled: differs.then(|| Box::new(none)),
             far: [[NONE; L]; ENDS],
             live: 0,
             none: [[NONE; L]; VARIANTS],
@@ -37,19 +50,24 @@ impl<const L: usize> Gathered<L> {
     }
 
     /// What bears on the target at a site, counted from its first; none if nothing does.
-    pub fn left_of(&self, site: usize) -> Option<LeftOf<'_, L>> {
+    pub fn left_of<'a>(&'a self, site: usize) -> Option<LeftOf<'a, L>> {
         let is_live = |end: usize| self.live >> end & 1 == 1;
-        let near = |end: usize| {
+        let near = |near: &'a Near<L>, end: usize| {
             if is_live(end) {
-                &self.near[end]
+                &near[end]
             } else {
                 &self.none
             }
         };
+        let filled = self.filled.as_deref().unwrap_or(&self.touching);
         let far = (self.live & ((2 << site) - 1)).checked_ilog2();
         let live = far.is_some() || is_live(site + 1) || is_live(site + 2) || is_live(site + 4);
         live.then(|| LeftOf {
-            near: [near(site + 4), near(site + 2), near(site + 1)],
+            near: [
+                near(&self.touching, site + 4),
+                near(filled, site + 2),
+                near(filled, site + 1),
+            ],
             far: far.map_or(&self.none[0], |last| &self.far[last as usize]),
         })
     }
@@ -66,15 +84,23 @@ impl<const L: usize> Gathered<L> {
         sources: impl Iterator<Item = (&'a Line, Block)>,
         rows: &Rows<L>,
         target: &Line,
-        step: Charge,
+        step: Step,
     ) -> bool {
         self.live = 0;
         for (line, block) in sources {
-            let steps = line.steps(target, step);
-            for (pose, row) in block.rows(rows) {
-                if let Some(end) = Self::end(line, pose, target) {
-                    self.add(row, end, &steps[pose % VARIANTS]);
-                }
+            let near = block.rows(rows).filter_map(|(pose, row)| {
+                let end = Self::end(line, pose, target)?;
+                Some((row, end, pose % VARIANTS))
+            });
+            let steps = line.steps(target, step.touching);
+            if self.filled.is_none() {
+                near.for_each(|(row, end, variant)| self.add(row, end, &steps[variant]));
+                continue;
+            }
+            let filled = line.steps(target, step.filled);
+            for (row, end, variant) in near {
+                self.add_filled(row, end, &filled[variant]);
+                self.add(row, end, &steps[variant]);
             }
         }
         self.add_up();
@@ -82,24 +108,37 @@ impl<const L: usize> Gathered<L> {
     }
 
     /// Gathers the start at a tall cell for a target: each lane has one of its poses, at no charge.
-    pub fn gather_start(&mut self, start: &Line, poses: &[usize], target: &Line, step: Charge) {
+    pub fn gather_start(&mut self, start: &Line, poses: &[usize], target: &Line, step: Step) {
         self.live = 0;
-        let steps = start.steps(target, step);
+        let steps = start.steps(target, step.touching);
         for (lane, &pose) in poses.iter().enumerate() {
             if let Some(end) = Self::end(start, pose, target) {
                 if self.live >> end & 1 == 0 {
-                    self.near[end] = [[NONE; L]; VARIANTS];
+                    self.touching[end] = [[NONE; L]; VARIANTS];
                     self.far[end] = [NONE; L];
                     self.live |= 1 << end;
                 }
                 self.far[end][lane] = 0.0;
-                let steps = steps[pose % VARIANTS];
-                for (near, steps) in self.near[end].iter_mut().zip(steps) {
-                    near[lane] = steps;
-                }
+                set_lane(&mut self.touching[end], lane, &steps[pose % VARIANTS]);
             }
         }
+        if self.filled.is_some() {
+            self.start_filled(start, poses, target, step.filled);
+        }
         self.add_up();
+    }
+
+    /// The same for filled steps that charge otherwise.
+    fn start_filled(&mut self, start: &Line, poses: &[usize], target: &Line, step: Charge) {
+        let Some(near) = &mut self.filled else { return };
+        let live = (0..ENDS).filter(|end| self.live >> end & 1 == 1);
+        live.for_each(|end| near[end] = [[NONE; L]; VARIANTS]);
+        let steps = start.steps(target, step);
+        for (lane, &pose) in poses.iter().enumerate() {
+            if let Some(end) = Self::end(start, pose, target) {
+                set_lane(&mut near[end], lane, &steps[pose % VARIANTS]);
+            }
+        }
     }
 
     /// Adds a source by its end site and what steps charge by the target's variant.
@@ -107,7 +146,7 @@ impl<const L: usize> Gathered<L> {
         let far = &mut self.far[end];
         // What ends four sites left of the target, or further, is near to none of its sites.
         let near = if end > 0 {
-            &mut self.near[end][..]
+            &mut self.touching[end][..]
         } else {
             &mut []
         };
@@ -122,6 +161,19 @@ impl<const L: usize> Gathered<L> {
         }
     }
 
+    /// The same for filled steps that charge otherwise; first, as long as the end site is not live by
+    /// this source.
+    fn add_filled(&mut self, row: &Lanes<L>, end: usize, steps: &[Charge; VARIANTS]) {
+        let near = self.filled.as_mut().filter(|_| FILLED_ENDS.contains(&end));
+        let near = near.map_or(&mut [][..], |near| &mut near[end]);
+        let near = near.iter_mut().zip(steps);
+        if self.live >> end & 1 == 0 {
+            near.for_each(|(near, &steps)| set(near, row, steps));
+        } else {
+            near.for_each(|(near, &steps)| lower_with(near, row, steps));
+        }
+    }
+
     /// Makes `far` hold for all end sites further left, too.
     fn add_up(&mut self) {
         let mut before: Option<usize> = None;
@@ -132,6 +184,13 @@ impl<const L: usize> Gathered<L> {
             }
             before = Some(end);
         }
+    }
+}
+
+/// Sets one lane to what steps charge.
+fn set_lane<const L: usize>(near: &mut [Lanes<L>; VARIANTS], lane: usize, steps: &[Charge]) {
+    for (near, &steps) in near.iter_mut().zip(steps) {
+        near[lane] = steps;
     }
 }
 

@@ -3,10 +3,10 @@
 //! A pose is numbered 4 e + 2 layout + mark, where site = given + e - D; its variant is the last
 //! two bits.
 
-use super::super::gap::{is_charged, is_forbidden};
+use super::super::gap::{is_charged, is_filled, is_forbidden};
 use super::super::job::{Cell, Job};
 use super::super::placement::Pose;
-use super::{Charge, NONE};
+use super::{Charge, Step, NONE};
 
 pub const POSES: usize = 60;
 pub const VARIANTS: usize = 4;
@@ -143,7 +143,7 @@ impl Line {
         pose: usize,
         right: &Line,
         right_pose: usize,
-        step: Charge,
+        step: Step,
     ) -> Option<Charge> {
         let gap = right.site(right_pose) - self.end(pose);
         if gap < 0 || is_forbidden(gap) {
@@ -154,6 +154,11 @@ impl Line {
         }
         let here = &self.right[pose % VARIANTS];
         let there = &right.left[right_pose % VARIANTS];
+        let step = if is_filled(gap) {
+            step.filled
+        } else {
+            step.touching
+        };
         Some(step * steps(here, there))
     }
 }

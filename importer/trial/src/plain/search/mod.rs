@@ -36,19 +36,32 @@ type Charge = f32;
 /// Stands for "there is none", whatever is added to it.
 const NONE: Charge = Charge::INFINITY;
 
+/// What a step charges, by its gap (A7).
+#[derive(Clone, Copy)]
+struct Step {
+    /// Between cells that touch.
+    touching: Charge,
+    /// At gaps 2 and 3.
+    filled: Charge,
+}
+
 /// What every part of the search looks at.
 struct Board {
     rows: [Row; 2],
     pairs: Pairs,
-    step: Charge,
+    step: Step,
 }
 
 impl Board {
     fn of(job: &Job) -> Board {
+        let step = Step {
+            touching: job.weights.step.into(),
+            filled: job.weights.of_filled().into(),
+        };
         Board {
             rows: [0, 1].map(|row| Row::of(job, row)),
             pairs: Pairs::of(job.reordering.into()),
-            step: job.weights.step.into(),
+            step,
         }
     }
 

@@ -59,7 +59,7 @@ impl<'a, const L: usize> Stretch<'a, L> {
             row,
             layer: layer.clone(),
             next: layer,
-            gathered: Box::new(Gathered::empty()),
+            gathered: Box::new(Gathered::empty(board.step)),
         }
     }
 
