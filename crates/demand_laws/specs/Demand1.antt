@@ -1,5 +1,5 @@
 -- Demand 1 of Read, Score, Place and Fault line.
-use Prim.Native.Nat.{ℕ, zero, suc, _≤_, _<_}
+use Prim.Native.Nat.{ℕ, zero, suc, _+_, _≤_, _<_}
 use mathlib.Core.Path.{_≡_, refl, sym, ap, ap₂, _∙_, subst}
 use mathlib.Core.Logic.{_⊎_, inl, inr}
 use mathlib.Core.Bool.{Bool, true, false, cond, false≢true}
@@ -7,12 +7,12 @@ use mathlib.Core.List.{List, [], _∷_, _++_, map}
 use mathlib.Core.Option.{Option, none, some}
 use native.Mathlib.Omega.{arith}
 use borrow.Author.Tests.{lt-ltb, leb-true}
-use lib.ListN.{length, replicate, take, length-take}
+use lib.ListN.{length, replicate, take, length-take, length-replicate, length-append}
 use lib.Dec.{leb, ltb, eqb}
 use lib.IntN.{ℤ, pos}
 use Rattle.definition.specs.Texts.{Text}
 use Rattle.definition.specs.Job.{Job, Reading, refused, accepted, readJob, firstFailing}
-use Rattle.definition.specs.Placement.{Placement, Poses, fault, poses, readPlacement}
+use Rattle.definition.specs.Placement.{Placement, Poses, fault, poses, readPlacement, textOf}
 use Rattle.definition.specs.Rules.{Verdict, verdict}
 use Rattle.definition.specs.Moves.{Cheapest}
 use Rattle.definition.specs.Outcome.{Outcome, Refusal, noLine, refusedBy, outcomeOf, read, numbers, numberCount}
@@ -21,8 +21,10 @@ use Rattle.definition.specs.Outcome.{placeOutcome, placeAnswer, placeFieldCount
 use Rattle.definition.specs.Outcome.{storeNeeded, outputNeeded, Told, Buffers, Placed, over}
 use Rattle.definition.specs.FaultLine.{ToldFault, CopiedFault, Part, ofJob, ofPlacement, wordsOf, faultLine, shown}
 use Rattle.definition.specs.Demands.{isOneOf, isRefusal, Shape, readShape, scoreShape, faultShape, placeShape, Demand1}
+use Rattle.definition.specs.Demands.{byRead, byScore}
 use Rattle.definition.specs.Demands.{alone, unsigned}
 use Rattle.definition_laws.specs.Sound.{Sound}
+use Rattle.definition_laws.specs.Counts.{counted}
 use Rattle.definition_laws.specs.Outcomes.{none-refuses, job-refuses, poses-refuse, poses-pass}
 use Rattle.definition_laws.specs.Outcomes.{read-refused, read-accepted}
 use Rattle.definition_laws.specs.Outcomes.{place-refused, place-buffers, place-accepted}
@@ -89,16 +91,16 @@ read-as-read =
     as-read readShape refl
     (known refl refl refl) (known refl refl refl) (known refl refl refl) (known refl refl refl)
 
-score-as-score : AsScore scoreShape
-score-as-score = record {
-  reads = as-read scoreShape refl
+score-as-score : (n : ℕ) → AsScore (scoreShape n)
+score-as-score n = record {
+  reads = as-read (scoreShape n) refl
       (known refl refl refl) (known refl refl refl) (known refl refl refl) (known refl refl refl);
   fifth = known refl refl refl;
 }
 
-place-as-read : AsRead placeShape
-place-as-read =
-    as-read placeShape refl
+place-as-read : (n : ℕ) → AsRead (placeShape n)
+place-as-read n =
+    as-read (placeShape n) refl
     (known refl refl refl) (known refl refl refl) (known refl refl refl) (known refl refl refl)
 
 -- ---- Read and Score
@@ -121,14 +123,15 @@ read-keeps job = go (readJob job) refl
       searches = refl;
     })
 
-fields-eight : (j : Job) (P : Placement) (v : Verdict) → length (scoreFields j P v) ≡ 8
-unfolding scoreFields numbers
-fields-eight j P v = eight (eqb (v .rule) 0)
+score-counted : (job : Text) (j : Job) (P : Placement) (v : Verdict)
+    → length (scoreFields (numberCount job) j P v) ≡ scoreFieldCount (numberCount job)
+unfolding scoreFields
+score-counted job j P v = let e = go (eqb (v .rule) 0) in omega arith
   where
-    eight : (t : Bool)
-        → length (pos (v .rule) ∷ pos (v .cell) ∷ cond t (numbers j P) (replicate numberCount (pos 0))) ≡ 8
-    eight true = refl
-    eight false = refl
+    go : (t : Bool)
+        → length (cond t (numbers (numberCount job) j P) (replicate (numberCount job) (pos 0))) ≡ numberCount job
+    go true = counted job j P
+    go false = length-replicate (numberCount job) (pos 0)
 
 -- what such an operation gives keeps the demand, if it does so once both texts are read
 pub as-score-fair : (shape : Shape) → AsScore shape → (room : ℕ) (more : Job → Placement → List Refusal)
@@ -156,20 +159,26 @@ as-score-fair shape s room more answer job placement after = go (readJob job) re
         (read-fair shape (s .reads) room job number line e)
     go (accepted j) e = posed j e (readPlacement (length (j .cells)) placement) refl
 
-score-keeps : (job placement : Text) → Fair scoreShape 0 (score job placement)
+score-keeps : (job placement : Text) → Fair (scoreShape (numberCount job)) 0 (score job placement)
 unfolding score
 score-keeps job placement =
-    as-score-fair scoreShape score-as-score 0 (λ j P. []) scoreAnswer job placement
-    (λ j r P e. subst (Fair scoreShape 0) (sym (none-refuses scoreFieldCount (scoreAnswer j P))) (record {
+    as-score-fair shape (score-as-score n) 0 (λ j P. []) (scoreAnswer n) job placement
+    (λ j r P e. subst (Fair shape 0) (sym (none-refuses (scoreFieldCount n) (scoreAnswer n j P))) (record {
       led = refl;
       numbered = refl;
       located = refl;
-      counted = fields-eight j P (verdict j P);
+      counted = score-counted job j P (verdict j P);
       fits = omega arith;
       no-fields = λ z. absurd (false≢true z);
       no-text = λ z. refl;
       searches = refl;
     }))
+  where
+    n : ℕ
+    n = numberCount job
+
+    shape : Shape
+    shape = scoreShape n
 
 told-demand1 : {shape : Shape} {o : Outcome} {returned : ℕ} {results results′ : List ℤ} → shape .searched ≡ []
     → Fair shape 0 o → Told o returned results results′ → Demand1 shape returned (alone results) (alone results′)
@@ -190,7 +199,7 @@ read-demand1 job t = told-demand1 refl (read-keeps job) t
 
 pub score-demand1 : (job placement : Text) {returned : ℕ} {results results′ : List ℤ}
     → Told (score job placement) returned results results′
-    → Demand1 scoreShape returned (alone results) (alone results′)
+    → Demand1 (scoreShape (numberCount job)) returned (alone results) (alone results′)
 score-demand1 job placement t = told-demand1 refl (score-keeps job placement) t
 
 -- ---- Fault line
@@ -226,8 +235,8 @@ line-demand1 {job} {placement} {returned} {output} {output′} {part} {part′} 
       line = score job placement .line;
       fields = map pos words;
       text = take (length output) line;
-      numbered = ap (isOneOf (0 ∷ scoreShape .refusals)) e ∙ s .numbered;
-      located = ap (isOneOf (scoreShape .lined)) e ∙ s .located;
+      numbered = ap (isOneOf (0 ∷ byScore)) e ∙ s .numbered;
+      located = ap (isOneOf byScore) e ∙ s .located;
       counted = three (faultLine job placement);
       array = ap (map pos) (c .told .array) ∙ map-over words part;
       fits = simp length-take (omega arith);
@@ -255,9 +264,11 @@ fault-demand1 {job} {placement} t =
 
 -- ---- Place
 
-fields-seven : (j : Job) (P : Placement) → length (placeAnswer j (some P) .fields) ≡ 7
-unfolding numbers
-fields-seven j P = refl
+place-counted : (job : Text) (j : Job) (P : Placement)
+    → length (placeAnswer (numberCount job) j (some P) .fields) ≡ placeFieldCount (numberCount job)
+place-counted job j P =
+    length-append (numbers (numberCount job) j P) (pos (length (textOf P)) ∷ [])
+    ∙ ap (λ n. n + 1) (counted job j P)
 
 -- 6, 7 or neither
 pub record Lent (j : Job) (words room n : ℕ) : Type 0 where
@@ -276,16 +287,23 @@ buffers j words room =
     go false t h = record { either = inr (inl refl); enough = λ z. absurd (omega arith) }
 
 -- a text of a legal placement of an accepted job fits where 7 was not given
-place-keeps : {job : Text} {words room : ℕ} {o : Outcome} → PlaceGives job words room o → Fair placeShape room o
-place-keeps {job} {words} {room} {o} g = subst (Fair placeShape room) (sym (g .outcome)) (go (readJob job) refl)
+place-keeps : {job : Text} {words room : ℕ} {o : Outcome} → PlaceGives job words room o
+    → Fair (placeShape (numberCount job)) room o
+place-keeps {job} {words} {room} {o} g = subst (Fair shape room) (sym (g .outcome)) (go (readJob job) refl)
   where
+    count : ℕ
+    count = numberCount job
+
+    shape : Shape
+    shape = placeShape count
+
     answer : (j : Job) → Sound j → outputNeeded j ≤ room → (a : Option Placement) → Cheapest j a
-        → Fair placeShape room (placeAnswer j a)
+        → Fair shape room (placeAnswer count j a)
     answer j s h none c = record {
       led = refl;
       numbered = refl;
       located = refl;
-      counted = refl;
+      counted = length-replicate (placeFieldCount count) (pos 0);
       fits = omega arith;
       no-fields = λ z. refl;
       no-text = λ z. refl;
@@ -295,7 +313,7 @@ place-keeps {job} {words} {room} {o} g = subst (Fair placeShape room) (sym (g .o
       led = refl;
       numbered = refl;
       located = refl;
-      counted = fields-seven j P;
+      counted = place-counted job j P;
       fits = omega (arith, legal-room j P s (c .legal P refl));
       no-fields = λ z. absurd (false≢true z);
       no-text = λ z. absurd (false≢true z);
@@ -303,48 +321,48 @@ place-keeps {job} {words} {room} {o} g = subst (Fair placeShape room) (sym (g .o
     }
 
     short : (n : ℕ) → (n ≡ 0) ⊎ (n ≡ 6) ⊎ (n ≡ 7) → (n ≡ 0 → ⊥)
-        → Fair placeShape room (refusedBy placeFieldCount (noLine n))
+        → Fair shape room (refusedBy (placeFieldCount count) (noLine n))
     short n (inl e) z = absurd (z e)
     short n (inr (inl e)) z =
-        subst (λ m. Fair placeShape room (refusedBy placeFieldCount (noLine m))) (sym e)
-        (refusal-fair placeShape room (noLine 6) refl refl refl refl)
+        subst (λ m. Fair shape room (refusedBy (placeFieldCount count) (noLine m))) (sym e)
+        (refusal-fair shape room (noLine 6) refl refl refl refl)
     short n (inr (inr e)) z =
-        subst (λ m. Fair placeShape room (refusedBy placeFieldCount (noLine m))) (sym e)
-        (refusal-fair placeShape room (noLine 7) refl refl refl refl)
+        subst (λ m. Fair shape room (refusedBy (placeFieldCount count) (noLine m))) (sym e)
+        (refusal-fair shape room (noLine 7) refl refl refl refl)
 
     lent-enough : (j : Job) → readJob job ≡ accepted j → (n : ℕ) → bufferRefusal j words room ≡ n
-        → Fair placeShape room (placeOutcome (readJob job) words room (g .answer))
+        → Fair shape room (placeOutcome count (readJob job) words room (g .answer))
     lent-enough j r zero e =
-        subst (Fair placeShape room) (sym (place-accepted job r words room (g .answer) e))
+        subst (Fair shape room) (sym (place-accepted job r count words room (g .answer) e))
         (answer j (accepted-sound job j r) (buffers j words room .enough e) (g .answer) (g .cheapest j r e))
     lent-enough j r (suc n) e =
         let z : bufferRefusal j words room ≡ 0 → ⊥ = λ y. omega arith in
-        subst (Fair placeShape room) (sym (place-buffers job r words room (g .answer) z))
+        subst (Fair shape room) (sym (place-buffers job r count words room (g .answer) z))
         (short (bufferRefusal j words room) (buffers j words room .either) z)
 
-    go : (r : Reading) → readJob job ≡ r → Fair placeShape room (placeOutcome (readJob job) words room (g .answer))
+    go : (r : Reading) → readJob job ≡ r → Fair shape room (placeOutcome count (readJob job) words room (g .answer))
     go (refused n line) e =
-        subst (Fair placeShape room) (sym (place-refused job e (refused-some job e) words room (g .answer)))
-        (read-fair placeShape place-as-read room job n line e)
+        subst (Fair shape room) (sym (place-refused job e (refused-some job e) count words room (g .answer)))
+        (read-fair shape (place-as-read count) room job n line e)
     go (accepted j) e = lent-enough j e (bufferRefusal j words room) refl
 
 pub place-demand1 : {job : Text} {returned : ℕ} {before end : Buffers} → Placed job returned before end
-    → Demand1 placeShape returned before end
+    → Demand1 (placeShape (numberCount job)) returned before end
 place-demand1 p = fair-demand1 (place-keeps (p .gives)) (p .met)
 
 -- ---- the demand at work: what a caller of Place who believes it learns of refusal 7
 
-pub short-output : {returned : ℕ} {before end : Buffers} → Demand1 placeShape returned before end → returned ≡ 7
-    → (end .results ≡ over (pos 7 ∷ pos 0 ∷ replicate placeFieldCount (pos 0)) (before .results))
+pub short-output : (n : ℕ) {returned : ℕ} {before end : Buffers} → Demand1 (placeShape n) returned before end → returned ≡ 7
+    → (end .results ≡ over (pos 7 ∷ pos 0 ∷ replicate (placeFieldCount n) (pos 0)) (before .results))
     × (end .output ≡ before .output) × (end .store ≡ before .store)
 unfolding over
-short-output {returned} {before} {end} d e =
-    let refuses = ap (isRefusal placeShape) e in
-    let nowhere = ap (isOneOf (placeShape .lined)) (sym e) ∙ d .located in (
+short-output n {returned} {before} {end} d e =
+    let refuses = ap (isRefusal (placeShape n)) e in
+    let nowhere = ap (isOneOf byRead) (sym e) ∙ d .located in (
       d .array ∙ ap₂ (λ n x. over (pos n ∷ x) (before .results)) e
           (ap₂ (λ n x. pos n ∷ x) (no-line (d .line) nowhere) (d .no-fields refuses)),
       d .written ∙ ap (λ x. over x (before .output)) (d .no-text refuses),
-      d .stored ∙ ap (λ n. cond (isOneOf (placeShape .searched) n) (replicate (length (before .store)) 0)
+      d .stored ∙ ap (λ m. cond (isOneOf (0 ∷ 8 ∷ []) m) (replicate (length (before .store)) 0)
           (before .store)) e,
     )
   where

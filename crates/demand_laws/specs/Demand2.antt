@@ -53,9 +53,9 @@ module _ (j : Job) (P : Placement) (n : length P ≡ length (j .cells)) where
     no-lower k h g =
         ap (λ i. ruleOf j P i (k - 1)) rule-at ∙ b .lower (k - 1) (let e = b .cell-is in omega arith)
 
-  pub judged : Demand2 j P (scoreAnswer j P)
+  pub judged : (count : ℕ) → Demand2 count j P (scoreAnswer count j P)
   unfolding scoreFields
-  judged = record {
+  judged count = record {
     rule = v .rule;
     cell = v .cell;
     legal-when = verdict-legal j P n;
@@ -80,7 +80,8 @@ module _ (j : Job) (P : Placement) (n : length P ≡ length (j .cells)) where
 pub score-demand2 : (job placement : Text) → Demand2Of job placement
 score-demand2 job placement j r P e =
     let p = read-prints (length (j .cells)) placement P e in
-    subst (Demand2 j P) (sym (score-accepted job r placement e)) (judged j P (p .count))
+    subst (Demand2 (numberCount job) j P) (sym (score-accepted job r placement e))
+    (judged j P (p .count) (numberCount job))
 
 pub texts : OneText
 texts = record {
@@ -101,11 +102,12 @@ module _ (job : Text) (j : Job) (r : readJob job ≡ accepted j) (P : Placement)
   fine : verdict j P .rule ≡ 0
   fine = verdict-legal j P (l .each) .1 l
 
-  pub rescored : score job (textOf P) ≡ answered (pos 0 ∷ pos 0 ∷ numbers j P)
+  pub rescored : score job (textOf P) ≡ answered (pos 0 ∷ pos 0 ∷ numbers (numberCount job) j P)
   unfolding scoreFields
   rescored =
       score-accepted job r (textOf P) read-back
-      ∙ ap₂ (λ (x y : ℕ). answered (pos x ∷ pos y ∷ cond (eqb x 0) (numbers j P) (replicate numberCount (pos 0)))) fine
+      ∙ ap₂ (λ (x y : ℕ). answered (pos x ∷ pos y
+      ∷ cond (eqb x 0) (numbers (numberCount job) j P) (replicate (numberCount job) (pos 0)))) fine
       (no-cell j P (l .each) fine)
 
 pub place-rescored : {job : Text} {returned : ℕ} {before end : Buffers} → Placed job returned before end
@@ -125,14 +127,14 @@ place-rescored {job} {returned} {before} {end} p z = go (readJob job) refl
     number = sym (p .met .told .number) ∙ z
 
     answer : (j : Job) → readJob job ≡ accepted j → bufferRefusal j words room ≡ 0 → (a : Option Placement)
-        → Cheapest j a → o ≡ placeAnswer j a → Rescored job before end
+        → Cheapest j a → o ≡ placeAnswer (numberCount job) j a → Rescored job before end
     answer j r b none c e = absurd (let n = ap (λ x. x .number) e in omega (arith, number))
     answer j r b (some P) c e =
         let s = rescored job j r P (c .legal P refl) in
         let short = legal-room j P (accepted-sound job j r) (c .legal P refl) in
         record {
           text = textOf P;
-          given = numbers j P;
+          given = numbers (numberCount job) j P;
           fits = omega (arith, short, buffers j words room .enough b);
           written = p .met .written ∙ ap (λ x. over (x .text) (before .output)) e;
           array = p .met .told .array ∙ ap (λ x. over (resultsOf x) (before .results)) e;
@@ -144,15 +146,15 @@ place-rescored {job} {returned} {before} {end} p z = go (readJob job) refl
         → Rescored job before end
     lent-enough j r zero b =
         answer j r b (p .gives .answer) (p .gives .cheapest j r b)
-        (p .gives .outcome ∙ place-accepted job r words room (p .gives .answer) b)
+        (p .gives .outcome ∙ place-accepted job r (numberCount job) words room (p .gives .answer) b)
     lent-enough j r (suc n) b =
         let z : bufferRefusal j words room ≡ 0 → ⊥ = λ y. omega arith in
-        let e = p .gives .outcome ∙ place-buffers job r words room (p .gives .answer) z in
+        let e = p .gives .outcome ∙ place-buffers job r (numberCount job) words room (p .gives .answer) z in
         absurd (let q = ap (λ x. x .number) e in omega (arith, number))
 
     go : (x : Reading) → readJob job ≡ x → Rescored job before end
     go (refused n line) r =
         let s = job-refused job n line r .some in
-        let e = p .gives .outcome ∙ place-refused job r (λ y. omega arith) words room (p .gives .answer) in
+        let e = p .gives .outcome ∙ place-refused job r (λ y. omega arith) (numberCount job) words room (p .gives .answer) in
         absurd (let q = ap (λ x. x .number) e in omega (arith, number))
     go (accepted j) r = lent-enough j r (bufferRefusal j words room) refl

@@ -13,7 +13,7 @@ use Rattle.definition.specs.Job.{Job, Reading, refused, accepted, readJob}
 use Rattle.definition.specs.Placement.{Placement, Poses, fault, poses, readPlacement}
 use Rattle.definition.specs.Rules.{verdict}
 use Rattle.definition.specs.Outcome.{Outcome, noLine, refusedBy, textFieldCount, outcomeOf}
-use Rattle.definition.specs.Outcome.{textAnswer, resultsOf, score, scoreFields, Buffers, Met, over}
+use Rattle.definition.specs.Outcome.{textAnswer, resultsOf, score, numberCount, scoreFields, Buffers, Met, over}
 use Rattle.definition.specs.Reasons.{Reason, reasonOf, sentence, readReason, reasonsRoom, roomRefusal}
 use Rattle.definition.specs.Reasons.{reasonsRefusals, reasonsAnswer, reasons, ReasonedOf, Reasoned}
 use Rattle.definition.specs.Reasons.{splitBy, sameText, numberAmong, ruleSaid, cellsSaid}
@@ -85,7 +85,7 @@ module _ (job placement : Text) (before end : Buffers) where
     back : readReason (sentence (reasonOf j P)) ≡ reasonOf j P
     back = sentences .reads-back (reasonOf j P) (sentences .of-job job j e P)
 
-    scored : score job placement .fields ≡ scoreFields j P (verdict j P)
+    scored : score job placement .fields ≡ scoreFields (numberCount job) j P (verdict j P)
     scored = ap (λ (o : Outcome). o .fields) (score-accepted job e placement p)
 
     answer : reasons job placement room ≡ textAnswer (sentence (reasonOf j P))

@@ -6,7 +6,7 @@ ghost use Rattle.job.specs.Value.{jobOf, placementOf};
 ghost use Rattle.results.specs.Fields.{Listed};
 ghost use Rattle.op_place.specs.Poses.{ToPose, PoseBy, ByNumber, Numbered};
 ghost use Rattle.op_place.specs.Fields.{fieldsIn, ReadyText, WroteAnswer};
-ghost use Rattle.op_place.specs.Accepted.{Enough, Answered, Chosen};
+ghost use Rattle.op_place.specs.Accepted.{Enough, Answered, ToAnswer};
 use job::Cell;
 use job::Job;
 use job::Placement;
@@ -17,7 +17,7 @@ use results::Fields;
 use results::Refusal;
 use results::answer;
 use results::refuse;
-use score_numbers::Numbers;
+use score_numbers::number_count;
 use score_numbers::numbers_of;
 use score_numbers::push_numbers;
 use search_job::search_job;
@@ -26,8 +26,8 @@ use search_job::store_needed;
 // What is asked of the output: bytes for each cell.
 const LINE_BYTES: usize = 9;
 
-// The numbers and the text's length.
-const FIELDS: usize = Numbers::COUNT + 1;
+// The text's length, which stands after the numbers.
+const LENGTH: usize = 1;
 
 // A pose by its number: a site within the cell's limit, a layout, a mark.
 fn pose_of(limit: u32, cell: Cell, a: u32) -> Pose
@@ -72,32 +72,45 @@ fn placement_of(job: Job, poses: [u32; Job::MAX_CELLS]) -> Placement
     placement
 }
 
-// Score's numbers of a placement, and how long its text is.
-fn fields_of(job: Job, placement: Placement, bytes: usize) -> Fields
-    requires { ⌜ ReadyText job placement bytes ⌝ }
-    ensures { λ r. ⌜ Listed (fieldsIn (jobOf job) (placementOf placement) bytes) r ⌝ }
+// So many of Score's numbers of a placement, and how long its text is.
+fn fields_of(job: Job, placement: Placement, count: usize, bytes: usize) -> Fields
+    requires { ⌜ ReadyText job placement count bytes ⌝ }
+    ensures { λ r. ⌜ Listed (fieldsIn count (jobOf job) (placementOf placement) bytes) r ⌝ }
 {
     let numbers = numbers_of(job, placement);
-    let fields = push_numbers(Fields::empty(), numbers);
+    let fields = push_numbers(Fields::empty(), numbers, count);
     fields.push(bytes as i32)
 }
 
 // The answer: text and fields of the placement found.
-fn put_answer(job: Job, poses: [u32; Job::MAX_CELLS], output: &mut [u8], results: &mut [i32])
-    requires { ⌜ Chosen job poses (length (now output)) ⌝ }
-    ensures { λ _. ⌜ WroteAnswer job poses (now (output .entry)) (now (output .exit))
+fn put_answer(
+    job: Job,
+    count: usize,
+    poses: [u32; Job::MAX_CELLS],
+    output: &mut [u8],
+    results: &mut [i32],
+)
+    requires { ⌜ ToAnswer job count poses (length (now output)) ⌝ }
+    ensures { λ _. ⌜ WroteAnswer job count poses (now (output .entry)) (now (output .exit))
         (now (results .entry)) (now (results .exit)) ⌝ }
 {
     let placement = placement_of(job, poses);
     let bytes = put_placement(output, placement);
-    let fields = fields_of(job, placement, bytes);
+    let fields = fields_of(job, placement, count, bytes);
     answer(results, fields);
 }
 
-// Of an accepted job, with buffers that are enough. No word of the store outlives the call.
-fn place_job(job: Job, store: &mut [u32], output: &mut [u8], results: &mut [i32]) -> u32
-    requires { ⌜ Enough job (length (now store)) (length (now output)) ⌝ }
-    ensures { λ r. ⌜ Answered (jobOf job) r
+// Of an accepted job whose text has so many numbers, with buffers that are enough. No word of the store outlives the
+// call.
+fn place_job(
+    job: Job,
+    count: usize,
+    store: &mut [u32],
+    output: &mut [u8],
+    results: &mut [i32],
+) -> u32
+    requires { ⌜ Enough job count (length (now store)) (length (now output)) ⌝ }
+    ensures { λ r. ⌜ Answered count (jobOf job) r
         (lent (now (store .entry)) (now (output .entry)) (now (results .entry)))
         (lent (now (store .exit)) (now (output .exit)) (now (results .exit))) ⌝ }
 {
@@ -105,11 +118,11 @@ fn place_job(job: Job, store: &mut [u32], output: &mut [u8], results: &mut [i32]
     search_lanes::clear(store);
     let some = found.some;
     if !some {
-        refuse(results, Refusal { number: 8, line: 0 }, FIELDS);
+        refuse(results, Refusal { number: 8, line: 0 }, count + LENGTH);
         return 8;
     }
     let poses = found.poses;
-    put_answer(job, poses, output, results);
+    put_answer(job, count, poses, output, results);
     0
 }
 
@@ -119,23 +132,24 @@ pub fn place_texts(job: &[u8], store: &mut [u32], output: &mut [u8], results: &m
         (lent (now (store .entry)) (now (output .entry)) (now (results .entry)))
         (lent (now (store .exit)) (now (output .exit)) (now (results .exit))) ⌝ }
 {
+    let count = number_count(job);
     let r = read_job(job);
     let refusal = r.refusal;
     let number = refusal.number;
     if number != 0 {
-        refuse(results, refusal, FIELDS);
+        refuse(results, refusal, count + LENGTH);
         return number;
     }
     let j = r.job;
     let words = store_needed(j.header);
     let room = LINE_BYTES * j.count;
     if store.len() < words {
-        refuse(results, Refusal { number: 6, line: 0 }, FIELDS);
+        refuse(results, Refusal { number: 6, line: 0 }, count + LENGTH);
         return 6;
     }
     if output.len() < room {
-        refuse(results, Refusal { number: 7, line: 0 }, FIELDS);
+        refuse(results, Refusal { number: 7, line: 0 }, count + LENGTH);
         return 7;
     }
-    place_job(j, store, output, results)
+    place_job(j, count, store, output, results)
 }

@@ -13,6 +13,7 @@ use Rattle.definition.specs.Job as paper
 use Rattle.definition.specs.Placement as text
 use Rattle.definition.specs.Cost as definition
 use Rattle.definition.specs.Outcome.{numberCount, numbers}
+use Rattle.definition_laws.specs.Counts.{of-count}
 use Rattle.results.specs.declared.Fields.{Fields}
 use Rattle.results.specs.Fields.{maxFields}
 use Rattle.score_numbers.specs.declared.Numbers.{Numbers}
@@ -26,10 +27,14 @@ pub record NumbersSmall (r : Numbers) : Type 0 where
   pub cost : r .cost < 2 ^ 31
   pub filled : r .filled < 2 ^ 31
 
--- such numbers, and fields with room for six of them or for all seven
+-- as many numbers as a job text may have
+pub record SixOrSeven (n : ℕ) : Type 0 where
+  pub six : 6 ≤ n
+  pub seven : n ≤ 7
+
+-- such numbers, and fields with room for so many of them
 pub record Pushable (f : Fields) (n : Numbers) (count : ℕ) : Type 0 where
-  pub six : 6 ≤ count
-  pub seven : count ≤ 7
+  pub many : SixOrSeven count
   pub room : f .count + count ≤ maxFields
   pub small : NumbersSmall n
 
@@ -60,6 +65,11 @@ unfolding numbers
 numbers-listed n j P r c = rw (c .steps, c .shifted, c .mirrored, c .changed, c .cost, c .drift, c .filled)
 
 -- ---- how many numbers a job text has
+
+pub count-known : (job : Text) → SixOrSeven (numberCount job)
+count-known job =
+    of-count SixOrSeven (record { six = omega arith; seven = omega arith })
+    (record { six = omega arith; seven = omega arith }) job
 
 pub by-bytes : (job : Text) (t : Bool) → (eqb (getD job 0 0) filledLead && eqb (getD job 1 0) comma) ≡ t
     → cond t 7 6 ≡ numberCount job

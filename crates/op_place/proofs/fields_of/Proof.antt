@@ -2,6 +2,7 @@
 use mathlib.Core.Path.{ap, _∙_}
 use mathlib.Core.List.{List, [], _∷_, _++_}
 use native.Mathlib.Omega.{arith}
+use lib.ListN.{take, length-take}
 use lib.IntN.{ℤ, pos}
 use mir.Syntax.{w32}
 use mir.Facts.{toZ-pos}
@@ -13,19 +14,25 @@ use Rattle.op_place.proofs.fields_of.Statement.{statement}
 use Rattle.op_place.proofs.fields_of.Tie as tie
 
 numbers-of-requires : tie.Need-numbers-of-requires
-numbers-of-requires c κs = search needs
+numbers-of-requires c κs = c .pre .ready
 
 empty-requires : tie.Need-empty-requires
 empty-requires c κs = search needs
 
 push-numbers-requires : tie.Need-push-numbers-requires
-push-numbers-requires c κs = record { room = omega (arith, c .empty .ensures .count); small = c .before .numbers-of .ensures .small }
+push-numbers-requires c κs =
+    let many = c .before .before .pre .many in
+    record { many = many; room = omega (arith, c .empty .ensures .count, many .seven); small = c .before .numbers-of .ensures .small }
 
 cast-push : tie.Need-cast-push
 cast-push c = search needs
 
 push-requires : tie.Need-push-requires
-push-requires c κs = omega (arith, c .push-numbers .ensures .count, c .before .empty .ensures .count)
+push-requires c κs =
+    let e = c .before in
+    let n = e .before .numbers-of .result in
+    let s = e .before .before in
+    omega (arith, c .push-numbers .ensures .count, e .empty .ensures .count, length-take (s .args .count) (numbersIn n), s .pre .many .seven)
 
 returns : tie.Need-returns
 returns c =
@@ -38,9 +45,9 @@ returns c =
     record {
       list =
           told
-          ∙ ap (λ (l : List ℤ). l ++ (numbersIn (n .result) ++ (pos (a .bytes) ∷ []))) (e .empty .ensures .list)
-          ∙ ap (λ (l : List ℤ). l ++ (pos (a .bytes) ∷ [])) (numbers-listed (jobOf (a .job)) (placementOf (a .placement)) (n .result) (n .ensures));
-      few = omega (arith, all .count, e .empty .ensures .count);
+          ∙ ap (λ (l : List ℤ). l ++ (take (a .count) (numbersIn (n .result)) ++ (pos (a .bytes) ∷ []))) (e .empty .ensures .list)
+          ∙ ap (λ (l : List ℤ). l ++ (pos (a .bytes) ∷ [])) (numbers-listed (a .count) (jobOf (a .job)) (placementOf (a .placement)) (n .result) (n .ensures));
+      few = ?;
     }
 
 pub fields-of-spec : {M : Type 1} → statement M

@@ -33,7 +33,7 @@ returns c =
     let s = f .before .before .before .before in
     let a = s .args in
     let long : length (f .search-job .last .1 .0) ≡ length (a .store .now) = omega arith in
-    answered-none (a .store .now) (a .output .now) (a .results .now)
+    answered-none (a .store .now) (a .output .now) (a .results .now) (a .count)
     (f .search-job .ensures .none-when (not-true _ (k .if1 .taken)))
     (z .clear .ensures ∙ ap (λ n. replicate n 0) long)
     (c .before .refuse .ensures)
@@ -46,10 +46,13 @@ put-answer-requires c κs =
     let s = f .before .before .before .before in
     let o = f .search-job .ensures in
     record {
-      taken = s .pre .taken;
-      numbers = o .numbers;
-      legal = o .some-when (not-false _ (l .if1 .left)) .legal _ refl;
-      output = s .pre .output;
+      chosen = record {
+        taken = s .pre .taken;
+        numbers = o .numbers;
+        legal = o .some-when (not-false _ (l .if1 .left)) .legal _ refl;
+        output = s .pre .output;
+      };
+      many = s .pre .many;
     }
 
 same-length-3 : tie.Need-same-length-3
@@ -71,7 +74,7 @@ returns-2 c =
     let a = s .args in
     let o = f .search-job .ensures in
     let long : length (f .search-job .last .1 .0) ≡ length (a .store .now) = omega arith in
-    answered-some (a .store .now) (a .output .now) (a .results .now) (a .job) (f .search-job .result .poses)
+    answered-some (a .store .now) (a .output .now) (a .results .now) (a .job) (a .count) (f .search-job .result .poses)
     (o .some-when (not-false _ (l .if1 .left)))
     (z .clear .ensures ∙ ap (λ n. replicate n 0) long)
     (w .put-answer .ensures)

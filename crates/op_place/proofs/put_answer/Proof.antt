@@ -25,8 +25,8 @@ put-placement-requires c κs =
     let P = e .placement-of .result in
     let n = e .placement-of .ensures in
     record {
-      fits = text-room (s .args .job) (s .args .poses) (length (s .args .output .now)) (s .pre) P n;
-      few = omega (arith, n .count, s .pre .taken .few);
+      fits = text-room (s .args .job) (s .args .poses) (length (s .args .output .now)) (s .pre .chosen) P n;
+      few = omega (arith, n .count, s .pre .chosen .taken .few);
     }
 
 fields-of-requires : tie.Need-fields-of-requires
@@ -36,11 +36,12 @@ fields-of-requires c κs =
     let P = e .placement-of .result in
     let n = e .placement-of .ensures in
     record {
-      ready = ready (s .args .job) (s .args .poses) (length (s .args .output .now)) (s .pre) P n;
+      many = s .pre .many;
+      ready = ready (s .args .job) (s .args .poses) (length (s .args .output .now)) (s .pre .chosen) P n;
       short = omega (
         arith,
         c .before .before .put-placement .ensures .cursor,
-        text-short (s .args .job) (s .args .poses) (length (s .args .output .now)) (s .pre) P n,
+        text-short (s .args .job) (s .args .poses) (length (s .args .output .now)) (s .pre .chosen) P n,
       );
     }
 
@@ -68,8 +69,8 @@ returns c =
           w .answer .ensures
           ∙ ap (λ (l : List ℤ). over (pos 0 ∷ pos 0 ∷ l) (s .args .results .now))
           (f .fields-of .ensures .list
-          ∙ ap (λ (b : ℕ). fieldsIn j (placementOf (e .placement-of .result)) b) (wrote-over (t .put-placement .ensures) .1)
-          ∙ ap (λ (Q : Placement). fieldsIn j Q (length (textOf Q))) same);
+          ∙ ap (λ (b : ℕ). fieldsIn (s .args .count) j (placementOf (e .placement-of .result)) b) (wrote-over (t .put-placement .ensures) .1)
+          ∙ ap (λ (Q : Placement). fieldsIn (s .args .count) j Q (length (textOf Q))) same);
     }
 
 pub put-answer-spec : {M : Type 1} → statement M

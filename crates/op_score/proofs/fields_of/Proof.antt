@@ -3,7 +3,7 @@ use Prim.Native.Nat.{_^_, _<_}
 use mathlib.Core.Path.{_≡_, sym, ap, _∙_}
 use mathlib.Core.List.{List, [], _∷_, _++_}
 use native.Mathlib.Omega.{arith}
-use lib.ListN.{length}
+use lib.ListN.{length, take, length-take}
 use lib.IntN.{ℤ, pos}
 use mir.Syntax.{w32}
 use mir.Facts.{toZ-pos}
@@ -39,10 +39,10 @@ rule-low : (v : tie.After-verdict-of) → v .verdict-of .result .rule < 2 ^ 31
 rule-low v = omega (arith, same-rule v, small (v .before) .rule)
 
 cell-low : (v : tie.After-verdict-of) → v .verdict-of .result .cell < 2 ^ 31
-cell-low v = omega (arith, same-cell v, small (v .before) .cell, v .before .pre .accepted .sound .few)
+cell-low v = omega (arith, same-cell v, small (v .before) .cell, v .before .pre .ready .accepted .sound .few)
 
 verdict-of-requires : tie.Need-verdict-of-requires
-verdict-of-requires c κs = search needs
+verdict-of-requires c κs = c .pre .ready
 
 empty-requires : tie.Need-empty-requires
 empty-requires c κs = search needs
@@ -75,10 +75,20 @@ zero-requires c κs = search needs
 push-numbers-requires : tie.Need-push-numbers-requires
 push-numbers-requires c κs =
     let p = c .before .before in
+    let e = p .before .before .before in
+    let many = e .before .before .pre .many in
     record {
-      room = omega (arith, two p .count, p .before .before .before .empty .ensures .count);
+      many = many;
+      room = omega (arith, two p .count, e .empty .ensures .count, many .seven);
       small = rw (c .zero .ensures)
-          (record { steps = omega arith; shifted = omega arith; mirrored = omega arith; changed = omega arith; cost = omega arith });
+          (record {
+            steps = omega arith;
+            shifted = omega arith;
+            mirrored = omega arith;
+            changed = omega arith;
+            cost = omega arith;
+            filled = omega arith;
+          });
     }
 
 returns : tie.Need-returns
@@ -92,14 +102,15 @@ returns c =
     let j = jobOf (s .args .job) in
     let P = placementOf (s .args .placement) in
     let all = more-then (two p) (c .push-numbers .ensures) in
-    let fields : Numbers → List ℤ = λ n. pos (verdict j P .rule) ∷ pos (verdict j P .cell) ∷ numbersIn n in
+    let n = s .args .count in
+    let fields : Numbers → List ℤ = λ x. pos (verdict j P .rule) ∷ pos (verdict j P .cell) ∷ take n (numbersIn x) in
     record {
       list =
           all .list
           ∙ ap (λ (l : List ℤ). l ++ fields (c .before .zero .result)) (e .empty .ensures .list)
           ∙ ap fields (c .before .zero .ensures)
-          ∙ broken-fields j P (verdict j P) (λ z. t .if1 .taken (same-rule v ∙ z));
-      few = omega (arith, all .count, e .empty .ensures .count);
+          ∙ broken-fields n j P (verdict j P) (s .pre .many .seven) (λ z. t .if1 .taken (same-rule v ∙ z));
+      few = omega (arith, all .count, e .empty .ensures .count, length-take (s .args .count) (numbersIn (c .before .zero .result)));
     }
 
 numbers-of-requires : tie.Need-numbers-of-requires
@@ -108,7 +119,9 @@ numbers-of-requires c κs = search needs
 push-numbers-requires-2 : tie.Need-push-numbers-requires-2
 push-numbers-requires-2 c κs =
     let p = c .before .before in
-    record { room = omega (arith, two p .count, p .before .before .before .empty .ensures .count); small = c .numbers-of .ensures .small }
+    let e = p .before .before .before in
+    let many = e .before .before .pre .many in
+    record { many = many; room = omega (arith, two p .count, e .empty .ensures .count, many .seven); small = c .numbers-of .ensures .small }
 
 returns-2 : tie.Need-returns-2
 unfolding verdict-at
@@ -125,9 +138,9 @@ returns-2 c =
     record {
       list =
           all .list
-          ∙ ap (λ (l : List ℤ). l ++ (pos (verdict j P .rule) ∷ pos (verdict j P .cell) ∷ numbersIn (n .result))) (e .empty .ensures .list)
-          ∙ legal-fields j P (verdict j P) (n .result) (sym (same-rule v) ∙ t .if1 .left) (n .ensures);
-      few = omega (arith, all .count, e .empty .ensures .count);
+          ∙ ap (λ (l : List ℤ). l ++ (pos (verdict j P .rule) ∷ pos (verdict j P .cell) ∷ take (s .args .count) (numbersIn (n .result)))) (e .empty .ensures .list)
+          ∙ legal-fields (s .args .count) j P (verdict j P) (n .result) (sym (same-rule v) ∙ t .if1 .left) (n .ensures);
+      few = omega (arith, all .count, e .empty .ensures .count, length-take (s .args .count) (numbersIn (n .result)));
     }
 
 pub fields-of-spec : {M : Type 1} → statement M

@@ -72,8 +72,8 @@ drift-from-requires c κs = search needs
 
 add-t12 : tie.Need-add-t12
 add-t12 c =
-    let weigh = c .before .before .before .before in
-    let both = weigh .before .before .before .before .before in
+    let steps = c .before .before .before .before .before in
+    let both = steps .before .before .before .before in
     omega (arith, both .steps-both .ensures .most)
 
 returns : tie.Need-returns

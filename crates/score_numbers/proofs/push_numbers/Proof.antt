@@ -12,7 +12,7 @@ use Rattle.score_numbers.proofs.push_numbers.Tie as tie
 push-first-requires : tie.Need-push-first-requires
 push-first-requires c κs =
     let p = c .pre in
-    record { six = omega arith; seven = omega arith; room = omega (arith, p .six, p .room); small = p .small }
+    record { many = record { six = omega arith; seven = omega arith }; room = omega (arith, p .many .six, p .room); small = p .small }
 
 returns : tie.Need-returns
 returns c = rw (c .if1 .taken) (c .before .push-first .ensures)
@@ -25,14 +25,14 @@ push-requires c κs =
     let else = c .before in
     let first = else .before in
     let p = first .before .pre in
-    omega (arith, first .push-first .ensures .count, p .six, p .seven, p .room, else .if1 .left)
+    omega (arith, first .push-first .ensures .count, p .many .six, p .many .seven, p .room, else .if1 .left)
 
 returns-2 : tie.Need-returns-2
 returns-2 c =
     let else = c .before .before in
     let first = else .before in
     let p = first .before .pre in
-    let seven : first .before .args .count ≡ 7 = omega (arith, p .six, p .seven, else .if1 .left) in
+    let seven : first .before .args .count ≡ 7 = omega (arith, p .many .six, p .many .seven, else .if1 .left) in
     let all = more-then (first .push-first .ensures) (c .push .ensures) in
     rw (seven, ← toZ-pos w32 (p .small .filled)) all
 
