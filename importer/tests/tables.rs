@@ -1,6 +1,8 @@
 //! README and the C header show the host's tables row by row, in the same words: refusals, rules,
-//! and the commands of `refine`. README declares the same C functions as the header.
+//! and the commands of `refine`. README declares the same C functions as the header, and both show
+//! the forms of a first line.
 
+use importer::explain::job_line;
 use importer::{sentence, Broken, Refused, REFUSALS, RULES};
 use std::process::Command;
 
@@ -219,4 +221,25 @@ fn readme_declares_the_functions_of_the_header() {
     let header = declared(HEADER);
     assert!(!header.is_empty(), "the header declares nothing");
     assert_eq!(declared(README), header);
+}
+
+/// The form of a first line with this lead, as it is told of one that lacks all other fields.
+fn first_line(lead: &str) -> String {
+    let refused = Refused { number: 1, line: 1 };
+    let words = job_line(format!("{lead}\n").as_bytes(), &refused);
+    let words = words.expect("the line lacks fields");
+    let form = words.split_once(": ").map(|(_, form)| form.to_string());
+    form.expect("the form stands behind a colon")
+}
+
+#[test]
+fn readme_and_header_show_the_forms_of_a_first_line() {
+    for lead in ["J", "K"] {
+        let form = first_line(lead);
+        assert!(form.starts_with(&format!("{lead},rows,")), "{form}");
+        let in_readme = format!("`{form}`");
+        assert!(README.contains(&in_readme), "README lacks {form}");
+        let in_header = format!("\n *   {form}\n");
+        assert!(HEADER.contains(&in_header), "the header lacks {form}");
+    }
 }
