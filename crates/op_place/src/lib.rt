@@ -133,22 +133,23 @@ pub fn place_texts(job: &[u8], store: &mut [u32], output: &mut [u8], results: &m
         (lent (now (store .exit)) (now (output .exit)) (now (results .exit))) ⌝ }
 {
     let count = number_count(job);
+    let fields = count + LENGTH;
     let r = read_job(job);
     let refusal = r.refusal;
     let number = refusal.number;
     if number != 0 {
-        refuse(results, refusal, count + LENGTH);
+        refuse(results, refusal, fields);
         return number;
     }
     let j = r.job;
     let words = store_needed(j.header);
     let room = LINE_BYTES * j.count;
     if store.len() < words {
-        refuse(results, Refusal { number: 6, line: 0 }, count + LENGTH);
+        refuse(results, Refusal { number: 6, line: 0 }, fields);
         return 6;
     }
     if output.len() < room {
-        refuse(results, Refusal { number: 7, line: 0 }, count + LENGTH);
+        refuse(results, Refusal { number: 7, line: 0 }, fields);
         return 7;
     }
     place_job(j, count, store, output, results)

@@ -1,30 +1,24 @@
 -- The fields that the program pushes are the definition's: of a broken rule, and of a legal placement.
-use Prim.Native.Nat.{ℕ, zero, suc, _≤_}
-use mathlib.Core.Path.{_≡_, refl, ap}
+use Prim.Native.Nat.{ℕ, _≤_}
+use mathlib.Core.Path.{_≡_, ap}
 use mathlib.Core.List.{_∷_}
-use native.Mathlib.Omega.{arith}
 use borrow.Author.Tests.{ne-eqb, eq-eqb}
-use lib.ListN.{take, replicate}
+use lib.ListN.{take}
 use lib.IntN.{pos}
 use Rattle.definition.specs.Job.{Job}
 use Rattle.definition.specs.Placement.{Placement}
 use Rattle.definition.specs.Rules.{Verdict}
 use Rattle.definition.specs.Outcome.{scoreFields}
+use Rattle.results.specs.Fields.{zeros-listed}
 use Rattle.score_numbers.specs.declared.Numbers.{Numbers}
 use Rattle.score_numbers.specs.Counted.{noNumbers, numbersIn, Counted, numbers-listed}
-
--- as many numbers of zero as are asked for
-take-zeros : (n m : ℕ) → n ≤ m → take n (replicate m (pos 0)) ≡ replicate n (pos 0)
-take-zeros zero m h = refl
-take-zeros (suc n) zero h = absurd (omega arith)
-take-zeros (suc n) (suc m) h = ap (λ l. pos 0 ∷ l) (take-zeros n m (omega arith))
 
 module _ (count : ℕ) (j : Job) (P : Placement) (v : Verdict) where
   pub broken-fields : count ≤ 7 → (v .rule ≡ 0 → ⊥)
       → pos (v .rule) ∷ pos (v .cell) ∷ take count (numbersIn noNumbers) ≡ scoreFields count j P v
   unfolding scoreFields
   broken-fields h n =
-      rw (ne-eqb (v .rule) 0 n) (ap (λ l. pos (v .rule) ∷ pos (v .cell) ∷ l) (take-zeros count 7 h))
+      rw (ne-eqb (v .rule) 0 n) (ap (λ l. pos (v .rule) ∷ pos (v .cell) ∷ l) (zeros-listed count 7 h))
 
   pub legal-fields : (n : Numbers) → v .rule ≡ 0 → Counted j P n
       → pos (v .rule) ∷ pos (v .cell) ∷ take count (numbersIn n) ≡ scoreFields count j P v

@@ -1,4 +1,5 @@
 -- `op_place::fields_of` meets its contract: the numbers as the definition lists them, then the text's length.
+use Prim.Native.Nat.{_≤_}
 use mathlib.Core.Path.{ap, _∙_}
 use mathlib.Core.List.{List, [], _∷_, _++_}
 use native.Mathlib.Omega.{arith}
@@ -7,7 +8,7 @@ use lib.IntN.{ℤ, pos}
 use mir.Syntax.{w32}
 use mir.Facts.{toZ-pos}
 use Rattle.job.specs.Value.{jobOf, placementOf}
-use Rattle.results.specs.Fields.{more-then}
+use Rattle.results.specs.Fields.{maxFields, more-then}
 use Rattle.score_numbers.specs.Counted.{numbersIn, numbers-listed}
 use borrow.Author.Needs.{needs}
 use Rattle.op_place.proofs.fields_of.Statement.{statement}
@@ -34,6 +35,21 @@ push-requires c κs =
     let s = e .before .before in
     omega (arith, c .push-numbers .ensures .count, e .empty .ensures .count, length-take (s .args .count) (numbersIn n), s .pre .many .seven)
 
+-- at most eight fields
+room : (c : tie.After-push) → c .push .result .count ≤ maxFields
+room c =
+    let e = c .before .before in
+    let n = e .before .numbers-of .result in
+    let s = e .before .before in
+    omega (
+      arith,
+      c .push .ensures .count,
+      c .before .push-numbers .ensures .count,
+      e .empty .ensures .count,
+      length-take (s .args .count) (numbersIn n),
+      s .pre .many .seven,
+    )
+
 returns : tie.Need-returns
 returns c =
     let e = c .before .before in
@@ -47,7 +63,7 @@ returns c =
           told
           ∙ ap (λ (l : List ℤ). l ++ (take (a .count) (numbersIn (n .result)) ++ (pos (a .bytes) ∷ []))) (e .empty .ensures .list)
           ∙ ap (λ (l : List ℤ). l ++ (pos (a .bytes) ∷ [])) (numbers-listed (a .count) (jobOf (a .job)) (placementOf (a .placement)) (n .result) (n .ensures));
-      few = ?;
+      few = room c;
     }
 
 pub fields-of-spec : {M : Type 1} → statement M

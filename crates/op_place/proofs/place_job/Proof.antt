@@ -16,6 +16,9 @@ search-job-requires c κs =
 clear-requires : tie.Need-clear-requires
 clear-requires c κs = search needs
 
+add-refuse : tie.Need-add-refuse
+add-refuse c = search needs
+
 refuse-requires : tie.Need-refuse-requires
 refuse-requires c κs = search needs
 
@@ -85,6 +88,7 @@ place-job-spec =
     (tie.spec
     search-job-requires
     clear-requires
+    add-refuse
     refuse-requires
     same-length
     same-length-2

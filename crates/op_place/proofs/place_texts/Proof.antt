@@ -6,6 +6,7 @@ use Rattle.definition.specs.Outcome.{storeFor, storeNeeded}
 use Rattle.job.specs.declared.Job.{Job}
 use Rattle.job.specs.Value.{jobOf, headerOf}
 use Rattle.job_read.specs.Reads.{reads-accepted, reads-refused}
+use Rattle.score_numbers.specs.Counted.{SixOrSeven, count-known}
 use Rattle.op_place.specs.Answers.{placed-refused, placed-small, placed-narrow, placed-answered}
 use borrow.Author.Needs.{needs}
 use Rattle.op_place.proofs.place_texts.Statement.{statement}
@@ -16,26 +17,43 @@ asked : (job : Job) {words : ℕ} → words ≡ storeFor (job .header .reorderin
 unfolding jobOf headerOf
 asked job e = e
 
+-- as many numbers as the job text has
+start : tie.After-number-count → tie.Start
+start n = n .before .before .before .before
+
+many : (n : tie.After-number-count) → SixOrSeven (n .number-count .result)
+unfolding start
+many n = rw (n .number-count .ensures) (count-known (start n .args .job .now))
+
+number-count-requires : tie.Need-number-count-requires
+number-count-requires c κs = search needs
+
+add-fields : tie.Need-add-fields
+add-fields c = omega (arith, many c .seven)
+
 read-job-requires : tie.Need-read-job-requires
 read-job-requires c κs = search needs
 
 refuse-requires : tie.Need-refuse-requires
 refuse-requires c κs =
-    let o = c .before .before .before .read-job .ensures in
+    let r = c .before .before .before in
+    let o = r .read-job .ensures in
     record {
       signed = record { number = omega (arith, o .number); line = omega (arith, o .line) };
-      few = omega arith;
+      few = omega (arith, many (r .before) .seven);
     }
 
 same-length : tie.Need-same-length
 same-length c = search needs
 
 returns : tie.Need-returns
+unfolding start
 returns c =
     let t = c .before .before .before in
     let r = t .before .before in
-    let a = r .before .before .before .before .args in
-    placed-refused (a .store .now) (a .output .now) (a .results .now) (a .job .now)
+    let n = r .before in
+    let a = start n .args in
+    placed-refused (a .store .now) (a .output .now) (a .results .now) (a .job .now) (n .number-count .result) (n .number-count .ensures)
     (reads-refused (r .read-job .ensures) (t .if1 .taken))
     (t .if1 .taken)
     (c .before .refuse .ensures)
@@ -49,41 +67,58 @@ mul-room c =
     omega (arith, l .before .before .read-job .ensures .accepted (l .if1 .left) .few)
 
 refuse-requires-2 : tie.Need-refuse-requires-2
-refuse-requires-2 c κs = search needs
+refuse-requires-2 c κs =
+    let l = c .before .before .before .before .before in
+    let r = l .before .before in
+    record {
+      signed = record { number = omega arith; line = omega arith };
+      few = omega (arith, many (r .before) .seven);
+    }
 
 same-length-2 : tie.Need-same-length-2
 same-length-2 c = search needs
 
 returns-2 : tie.Need-returns-2
+unfolding start
 returns-2 c =
-    let n = c .before .before .before .before .before in
-    let l = n .before .before in
+    let w = c .before .before .before .before .before in
+    let l = w .before .before in
     let r = l .before .before in
-    let a = r .before .before .before .before .args in
-    placed-small (a .store .now) (a .output .now) (a .results .now) (a .job .now) (jobOf (r .read-job .result .job))
+    let n = r .before in
+    let a = start n .args in
+    placed-small (a .store .now) (a .output .now) (a .results .now) (a .job .now) (n .number-count .result) (n .number-count .ensures) (jobOf (r .read-job .result .job))
     (reads-accepted (r .read-job .ensures) (l .if1 .left))
-    (omega (arith, c .before .before .before .if2 .taken, asked (r .read-job .result .job) (n .store-needed .ensures)))
+    (omega (arith, c .before .before .before .if2 .taken, asked (r .read-job .result .job) (w .store-needed .ensures)))
     (c .before .refuse2 .ensures)
 
 refuse-requires-3 : tie.Need-refuse-requires-3
-refuse-requires-3 c κs = search needs
+refuse-requires-3 c κs =
+    let k = c .before .before in
+    let l = k .before .before .before .before in
+    let r = l .before .before in
+    record {
+      signed = record { number = omega arith; line = omega arith };
+      few = omega (arith, many (r .before) .seven);
+    }
 
 same-length-3 : tie.Need-same-length-3
 same-length-3 c = search needs
 
 returns-3 : tie.Need-returns-3
+unfolding start
 returns-3 c =
     let t = c .before .before .before in
     let k = t .before in
     let w = k .before .before in
     let l = w .before .before in
     let r = l .before .before in
-    let a = r .before .before .before .before .args in
-    let n = r .read-job .ensures .accepted (l .if1 .left) .many in
-    placed-narrow (a .store .now) (a .output .now) (a .results .now) (a .job .now) (jobOf (r .read-job .result .job))
+    let n = r .before in
+    let a = start n .args in
+    let all = r .read-job .ensures .accepted (l .if1 .left) .many in
+    placed-narrow (a .store .now) (a .output .now) (a .results .now) (a .job .now) (n .number-count .result) (n .number-count .ensures) (jobOf (r .read-job .result .job))
     (reads-accepted (r .read-job .ensures) (l .if1 .left))
     (omega (arith, k .if2 .left, asked (r .read-job .result .job) (w .store-needed .ensures)))
-    (omega (arith, t .if3 .taken, n))
+    (omega (arith, t .if3 .taken, all))
     (c .before .refuse3 .ensures)
 
 place-job-requires : tie.Need-place-job-requires
@@ -96,6 +131,7 @@ place-job-requires c κs =
     let o = r .read-job .ensures .accepted (l .if1 .left) in
     record {
       taken = o;
+      many = many (r .before);
       store = omega (arith, k .if2 .left, asked (r .read-job .result .job) (w .store-needed .ensures));
       output = omega (arith, t .if3 .left, o .many);
     }
@@ -110,6 +146,7 @@ same-length-6 : tie.Need-same-length-6
 same-length-6 c = search needs
 
 returns-4 : tie.Need-returns-4
+unfolding start
 returns-4 c =
     let mid = c .before .before .before .before in
     let p = mid .before in
@@ -118,18 +155,21 @@ returns-4 c =
     let w = k .before .before in
     let l = w .before .before in
     let r = l .before .before in
-    let a = r .before .before .before .before .args in
-    let n = r .read-job .ensures .accepted (l .if1 .left) .many in
-    placed-answered (a .store .now) (a .output .now) (a .results .now) (a .job .now) (jobOf (r .read-job .result .job))
+    let n = r .before in
+    let a = start n .args in
+    let all = r .read-job .ensures .accepted (l .if1 .left) .many in
+    placed-answered (a .store .now) (a .output .now) (a .results .now) (a .job .now) (n .number-count .result) (n .number-count .ensures) (jobOf (r .read-job .result .job))
     (reads-accepted (r .read-job .ensures) (l .if1 .left))
     (omega (arith, k .if2 .left, asked (r .read-job .result .job) (w .store-needed .ensures)))
-    (omega (arith, t .if3 .left, n))
+    (omega (arith, t .if3 .left, all))
     (p .place-job .ensures)
 
 pub place-texts-spec : {M : Type 1} → statement M
 place-texts-spec =
     tie.close
     (tie.spec
+    number-count-requires
+    add-fields
     read-job-requires
     refuse-requires
     same-length
