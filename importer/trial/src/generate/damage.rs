@@ -17,6 +17,7 @@ pub enum Damage {
     Row,
     Layouts,
     OtherField,
+    LastField,
     GivenFalls,
     LineGone,
     LineTwice,
@@ -28,7 +29,7 @@ pub enum Damage {
 }
 
 impl Damage {
-    pub const ALL: [Damage; 20] = [
+    pub const ALL: [Damage; 21] = [
         Damage::Lead,
         Damage::LineFeedGone,
         Damage::LineFeedTwice,
@@ -41,6 +42,7 @@ impl Damage {
         Damage::Row,
         Damage::Layouts,
         Damage::OtherField,
+        Damage::LastField,
         Damage::GivenFalls,
         Damage::LineGone,
         Damage::LineTwice,
@@ -80,6 +82,7 @@ impl Damage {
             Damage::Row => line.replace(text, 1, random.pick(&ROWS)),
             Damage::Layouts => line.replace(text, 4, random.pick(&LAYOUTS)),
             Damage::OtherField => line.replace(text, line.any(random), random.pick(&VALUES)),
+            Damage::LastField => line.replace(text, line.last(), random.pick(&VALUES)),
             Damage::GivenFalls => line.replace(text, 2, random.pick(&GIVEN)),
             Damage::LineGone => insert(text, line.start..line.end + 1, b""),
             Damage::LineTwice => {
@@ -104,7 +107,7 @@ impl Damage {
     }
 }
 
-const LEADS: [&[u8]; 14] = [
+const LEADS: [&[u8]; 18] = [
     b"",
     b"J",
     b"C",
@@ -114,6 +117,10 @@ const LEADS: [&[u8]; 14] = [
     b"FC",
     b"CF",
     b"K",
+    b"k",
+    b"KJ",
+    b"JK",
+    b"KK",
     b"c",
     b"JJ",
     b"CC",
@@ -141,8 +148,8 @@ const TAILS: [&[u8]; 8] = [
     b"\r\n",
     b"0",
 ];
-const BYTES: [u8; 15] = [
-    b'\n', b'\r', 0, b',', b'0', b'1', b'9', b' ', b'-', b'C', b'F', b'J', b'/', b':', 0xb1,
+const BYTES: [u8; 16] = [
+    b'\n', b'\r', 0, b',', b'0', b'1', b'9', b' ', b'-', b'C', b'F', b'J', b'K', b'/', b':', 0xb1,
 ];
 
 /// Where a line stands: its first byte, its line feed (or the text's end), its fields.
@@ -175,6 +182,11 @@ impl Line {
     /// Any field.
     fn any(&self, random: &mut Random) -> usize {
         random.below(self.fields.len())
+    }
+
+    /// The last field.
+    fn last(&self) -> usize {
+        self.fields.len() - 1
     }
 
     /// Any place in the line, its end included.

@@ -57,7 +57,7 @@ pub fn job_about_the_limits(random: &mut Random) -> Job {
     job
 }
 
-/// Weights of which one in four has one of filled steps.
+/// Weights, of which one in four has one of filled steps.
 pub fn weights(random: &mut Random) -> Weights {
     let weights = Weights {
         step: weight(random),

@@ -1,6 +1,6 @@
 //! Small jobs, for which all placements can be tried.
 
-use super::{jobs, placements, Random};
+use super::{jobs, legal, placements, Random};
 use crate::plain::job::{Cell, Job, Weights, MOST_REORDERING, TALL};
 
 /// The most placements, legal or not, that a small job has.
@@ -101,6 +101,35 @@ pub fn job_with_fixed_cells(random: &mut Random) -> Job {
             return job;
         }
     }
+}
+
+/// A job of 3 to 5 cells of which a placement is known that leaves gaps of two and three sites.
+pub fn job_with_gaps(random: &mut Random) -> Job {
+    drawn_small(random, |random| {
+        let shape = legal::Shape {
+            cells: 3 + random.below(3),
+            most_height: random.from_to(2, 3),
+            displacement: random.from_to(1, 3),
+            gaps: &[0, 2, 2, 3, 3, 4],
+            ..placements::shape_of(random, 3)
+        };
+        placements::job_with_placement(random, &shape, 1).0
+    })
+}
+
+/// A job of one of these kinds whose filled steps have a weight of their own (A7).
+pub fn job_with_filled_steps(random: &mut Random) -> Job {
+    let kinds: [fn(&mut Random) -> Job; 6] = [
+        job,
+        job_to_reorder,
+        job_with_row_ends,
+        job_with_fixed_cells,
+        job_with_gaps,
+        job_with_gaps,
+    ];
+    let mut job = random.pick(&kinds)(random);
+    job.weights = jobs::with_filled(random, job.weights);
+    job
 }
 
 /// The first job drawn that has few enough placements.
