@@ -1,9 +1,11 @@
 //! Read against the plain reader, on generated texts.
 
+use std::collections::BTreeMap;
 use std::fmt::Write;
 use trial::generate::damage::Damage;
 use trial::generate::{jobs, Random};
 use trial::lent::Arrays;
+use trial::plain::job::Job;
 use trial::plain::reader::read_job;
 
 /// Holds Read against the plain reader, text by text, and counts what was seen.
@@ -67,6 +69,93 @@ fn on_texts_with_one_damage_and_with_two() {
     );
 }
 
+/// A job whose filled steps have a weight of their own.
+fn job_with_filled_steps(random: &mut Random) -> Job {
+    let mut job = jobs::job_of_any_size(random);
+    job.weights = jobs::with_filled(random, job.weights);
+    job
+}
+
+/// What was seen of first lines.
+#[derive(Debug, Default)]
+struct FirstLines {
+    /// How many texts have each lead, with so many fields.
+    fields: BTreeMap<(Vec<u8>, usize), usize>,
+    /// How many begin with `K,`.
+    led_by_k: usize,
+    /// Those of them that are refused for the range of their last field alone.
+    filled_out_of_range: usize,
+}
+
+impl FirstLines {
+    fn count(&mut self, text: &[u8]) {
+        let line = text.split(|&byte| byte == b'\n').next();
+        let line = line.unwrap_or_default();
+        let fields: Vec<&[u8]> = line.split(|&byte| byte == b',').collect();
+        let kind = (fields[0].to_vec(), fields.len());
+        *self.fields.entry(kind).or_default() += 1;
+        if let [b"K", others @ .., filled] = &fields[..] {
+            self.led_by_k += 1;
+            let others = others.join(&b',');
+            let number = |filled: &[u8]| {
+                let line = [b"K,", &others[..], b",", filled, b"\n"].concat();
+                read_job(&line).err().map(|refused| refused.number)
+            };
+            let alone = number(filled) == Some(2) && number(b"0").is_none();
+            self.filled_out_of_range += usize::from(alone);
+        }
+    }
+}
+
+/// Damage is done to the first line more often than not.
+#[test]
+fn on_damaged_texts_led_by_k() {
+    let mut random = Random::new(7);
+    let mut comparison = Comparison::default();
+    let mut first_lines = FirstLines::default();
+    for count in 0..120_000 {
+        let job = job_with_filled_steps(&mut random);
+        let mut text = job.text();
+        for _ in 0..count % 3 {
+            let line = match random.chance(2, 3) {
+                true => 0,
+                false => random.below(job.cells.len() + 1),
+            };
+            random
+                .pick(&Damage::ALL)
+                .inflict(&mut random, &mut text, line);
+        }
+        first_lines.count(&text);
+        comparison.compare(&text);
+    }
+    let FirstLines {
+        fields,
+        led_by_k,
+        filled_out_of_range,
+    } = &first_lines;
+    assert!(*led_by_k > 100_000, "{led_by_k}");
+    assert!(*filled_out_of_range > 200, "{filled_out_of_range}");
+    let kinds = [
+        ("K", 1),
+        ("K", 9),
+        ("K", 10),
+        ("K", 11),
+        ("J", 10),
+        ("KJ", 10),
+    ];
+    for (lead, count) in kinds {
+        let met = fields.get(&(lead.into(), count));
+        assert!(met.is_some_and(|&met| met > 100), "{lead} {count}: {met:?}");
+    }
+    let [accepted, form, range, _, order] = comparison.numbers;
+    assert!(
+        accepted > 40_000 && form > 10_000,
+        "{:?}",
+        comparison.numbers
+    );
+    assert!(range > 5_000 && order > 500, "{:?}", comparison.numbers);
+}
+
 /// A text with the lead of each cell line exchanged, `F` for `C` and `C` for `F`, as often as not.
 fn with_leads_exchanged(random: &mut Random, text: &[u8]) -> Vec<u8> {
     let mut text = text.to_vec();
@@ -123,8 +212,10 @@ fn on_each_damage_to_each_line() {
     let mut random = Random::new(3);
     let mut comparison = Comparison::default();
     for cells in [0, 1, 2, 7, 24, 63, 64] {
-        let text = jobs::job(&mut random, cells).text();
-        for _ in 0..4 {
+        let mut job = jobs::job(&mut random, cells);
+        for count in 0..6 {
+            job.weights.filled = (count % 2 == 1).then_some(30);
+            let text = job.text();
             Damage::each(&mut random, &text, cells + 1, |text| {
                 comparison.compare(text)
             });
@@ -154,7 +245,7 @@ fn on_jobs_with_too_many_cells() {
 fn on_texts_of_random_bytes() {
     let mut random = Random::new(5);
     let mut comparison = Comparison::default();
-    let few = b"J,CF10\n2";
+    let few = b"J,CFK10\n2";
     for _ in 0..20_000 {
         let length = random.below(40);
         let any = random.chance(1, 2);
@@ -171,7 +262,25 @@ fn on_texts_of_random_bytes() {
     }
 }
 
-/// Every value of the number form and past it, in every field of a header and of five cell lines.
+/// Compares texts with every value of the number form and past it, in every field of one line.
+fn compare_values(comparison: &mut Comparison, lines: &[&str], changed: usize) {
+    for field in 0..lines[changed].split(',').count() {
+        for value in (0..1100).chain([9_998, 9_999, 10_000, 65_536, 4_294_967_297_u64]) {
+            let mut text = String::new();
+            for (at, line) in lines.iter().enumerate() {
+                let mut fields: Vec<&str> = line.split(',').collect();
+                let value = value.to_string();
+                if at == changed {
+                    fields[field] = &value;
+                }
+                writeln!(text, "{}", fields.join(",")).expect("a string takes every write");
+            }
+            comparison.compare(text.as_bytes());
+        }
+    }
+}
+
+/// In a header led by `J` and one led by `K`, and in five cell lines.
 #[test]
 fn on_every_value_of_every_field() {
     let mut comparison = Comparison::default();
@@ -184,20 +293,11 @@ fn on_every_value_of_every_field() {
         "F,2,6,1,2,4,3,3,2,2,4,4,4,4,5,3,3,2,2,1,1,1,1",
     ];
     for changed in 0..lines.len() {
-        for field in 0..lines[changed].split(',').count() {
-            for value in (0..1100).chain([9_998, 9_999, 10_000, 65_536, 4_294_967_297_u64]) {
-                let mut text = String::new();
-                for (at, line) in lines.iter().enumerate() {
-                    let mut fields: Vec<&str> = line.split(',').collect();
-                    let value = value.to_string();
-                    if at == changed {
-                        fields[field] = &value;
-                    }
-                    writeln!(text, "{}", fields.join(",")).expect("a string takes every write");
-                }
-                comparison.compare(text.as_bytes());
-            }
-        }
+        compare_values(&mut comparison, &lines, changed);
+    }
+    let led_by_k = ["K,2,40,3,1,100,1,100,50,30", lines[1]];
+    for changed in 0..led_by_k.len() {
+        compare_values(&mut comparison, &led_by_k, changed);
     }
 }
 
@@ -211,6 +311,8 @@ fn on_long_texts() {
         "\n".repeat(million),
         "\0".repeat(million),
         format!("J{}", ",1".repeat(million)),
+        format!("K{}", ",1".repeat(million)),
+        format!("K{}\n", ",1".repeat(million)),
         format!("{header}C{}", ",1".repeat(million)),
         format!("{header}C{}\n", ",1".repeat(million)),
         format!("{header}C,9{}\n", ",1".repeat(million)),

@@ -174,6 +174,58 @@ fn forms_of_a_line() {
     ]);
 }
 
+/// A7: "Refusal 1 expects ten fields on a `K` line".
+#[test]
+fn lines_led_by_k() {
+    let filled = |filled: &str| format!("K,1,20,1,1,100,1,100,50,{filled}\n");
+    let cells = |count: usize| filled("30") + &SINGLE.repeat(count);
+    work_through(&[
+        ("ten fields", filled("30"), Ok(0)),
+        ("its cells", cells(2), Ok(2)),
+        ("a 65th", cells(65), Err((3, 66))),
+        (
+            "nine fields",
+            "K,1,20,1,1,100,1,100,50\n".into(),
+            Err((1, 1)),
+        ),
+        ("eleven fields", filled("30,0"), Err((1, 1))),
+        (
+            "nine fields, led by J",
+            "J,1,20,1,1,100,1,100,50\n".into(),
+            Ok(0),
+        ),
+        (
+            "ten fields, led by J",
+            "J,1,20,1,1,100,1,100,50,30\n".into(),
+            Err((1, 1)),
+        ),
+        ("filled 0", filled("0"), Ok(0)),
+        ("filled 1,000", filled("1000"), Ok(0)),
+        ("filled 1,001", filled("1001"), Err((2, 1))),
+        ("no number", filled("x"), Err((1, 1))),
+        ("an empty field", filled(""), Err((1, 1))),
+        ("a form before a range", filled("1001,x"), Err((1, 1))),
+        (
+            "a count before a range",
+            "K,3,20,1,1,100,1,100,50\n".into(),
+            Err((1, 1)),
+        ),
+        ("a range before line 2", filled("1001") + "x", Err((2, 1))),
+        ("K alone", "K".into(), Err((1, 1))),
+        ("K and a line feed", "K\n".into(), Err((1, 1))),
+        ("K and a comma", "K,".into(), Err((1, 1))),
+        ("K,1", "K,1\n".into(), Err((1, 1))),
+        ("KJ", format!("K{ONE_ROW}"), Err((1, 1))),
+        ("k", filled("30").to_lowercase(), Err((1, 1))),
+        ("K twice", filled("30").repeat(2), Err((1, 2))),
+        (
+            "K for a cell",
+            filled("30") + "K,0,5,0,1,4,3,3,2,2\n",
+            Err((1, 2)),
+        ),
+    ]);
+}
+
 #[test]
 fn ranges_and_the_order_of_refusals() {
     let cell = |line: &str| format!("{ONE_ROW}{line}");
