@@ -1,14 +1,17 @@
 //! Document 02, A5: "forbidden if the gap is 1, charged if it is below 4", of each gap that a row
-//! has room for.
+//! has room for; and A7's weight of filled steps.
 
-use importer::{refine, score, Broken, Verdict};
+use importer::{refine, score, Broken, Numbers, Verdict};
+
+/// Steps weigh 7, and filled ones 5 if they have a weight of their own.
+const HEADERS: [&str; 2] = ["J,2,1024,7,1,7,1,1,1", "K,2,1024,7,1,7,1,1,1,5"];
 
 /// Two fixed cells of width 2 in a row of 1,024 sites, with so many sites between them. The heights
-/// at the right one's left edge, P and N, face two of 1. The step weight is 7.
-fn job(row: u32, gap: u32, [p, n]: [u32; 2]) -> String {
+/// at the right one's left edge, P and N, face two of 1.
+fn job(header: &str, row: u32, gap: u32, [p, n]: [u32; 2]) -> String {
     let left = format!("F,{row},0,0,1,2,1,1,1,1");
     let right = format!("F,{row},{},0,1,2,{p},{n},1,1", 2 + gap);
-    format!("J,2,1024,7,1,7,1,1,1\n{left}\n{right}\n")
+    format!("{header}\n{left}\n{right}\n")
 }
 
 fn placement(gap: u32) -> String {
@@ -26,12 +29,30 @@ fn steps(gap: u32, heights: [u32; 2]) -> Option<u32> {
     }
 }
 
-/// Each row, each gap up to a largest, and facing heights of which none, one or both differ.
-fn each(largest: u32, mut check: impl FnMut(u32, u32, [u32; 2])) {
-    for row in 0..2 {
-        for gap in 0..=largest {
-            for heights in [[1, 1], [2, 1], [1, 2], [3, 2]] {
-                check(row, gap, heights);
+/// Steps, cost and filled steps. Of a job led by `K` "a ninth number .. weighs steps at gaps 2 and 3;
+/// step weighs those at gap 0".
+fn numbers(header: &str, gap: u32, steps: u32) -> (u32, u32, Option<u32>) {
+    let at_2_or_3 = gap == 2 || gap == 3;
+    match header.starts_with('K') {
+        true if at_2_or_3 => (steps, 5 * steps, Some(steps)),
+        true => (steps, 7 * steps, Some(0)),
+        false => (steps, 7 * steps, None),
+    }
+}
+
+fn told(numbers: &Numbers) -> (u32, u32, Option<u32>) {
+    (numbers.steps, numbers.cost, numbers.filled)
+}
+
+/// Each header, each row, each gap up to a largest, and facing heights of which none, one or both
+/// differ.
+fn each(largest: u32, mut check: impl FnMut(&str, u32, u32, [u32; 2])) {
+    for header in HEADERS {
+        for row in 0..2 {
+            for gap in 0..=largest {
+                for heights in [[1, 1], [2, 1], [1, 2], [3, 2]] {
+                    check(header, row, gap, heights);
+                }
             }
         }
     }
@@ -39,18 +60,18 @@ fn each(largest: u32, mut check: impl FnMut(u32, u32, [u32; 2])) {
 
 #[test]
 fn score_counts_steps_at_charged_gaps() {
-    each(1016, |row, gap, heights| {
-        let job = job(row, gap, heights);
+    each(1016, |header, row, gap, heights| {
+        let job = job(header, row, gap, heights);
         let said = score(job.as_bytes(), placement(gap).as_bytes()).expect("two good texts");
-        let expected = steps(gap, heights);
+        let steps = steps(gap, heights);
         match said {
-            Verdict::Legal(numbers) => {
-                assert_eq!(Some(numbers.steps), expected, "gap {gap}, {heights:?}");
-                assert_eq!(numbers.cost, 7 * numbers.steps, "gap {gap}, {heights:?}");
+            Verdict::Legal(said) => {
+                let expected = steps.map(|steps| numbers(header, gap, steps));
+                assert_eq!(Some(told(&said)), expected, "gap {gap}, {heights:?}");
             }
             Verdict::Broken(broken) => {
                 assert_eq!(broken, Broken { rule: 5, cell: 1 }, "gap {gap}");
-                assert_eq!(expected, None, "gap {gap}");
+                assert_eq!(steps, None, "gap {gap}");
             }
         }
     });
@@ -58,18 +79,18 @@ fn score_counts_steps_at_charged_gaps() {
 
 #[test]
 fn place_pays_at_charged_gaps() {
-    each(24, |row, gap, heights| {
-        let placed = refine(job(row, gap, heights).as_bytes());
-        let expected = steps(gap, heights);
+    each(24, |header, row, gap, heights| {
+        let placed = refine(job(header, row, gap, heights).as_bytes());
+        let steps = steps(gap, heights);
         match placed {
             Ok(refined) => {
-                assert_eq!(Some(refined.numbers.steps), expected, "gap {gap}");
-                assert_eq!(refined.numbers.cost, 7 * refined.numbers.steps, "gap {gap}");
+                let expected = steps.map(|steps| numbers(header, gap, steps));
+                assert_eq!(Some(told(&refined.numbers)), expected, "gap {gap}");
                 assert_eq!(refined.text, placement(gap).as_bytes(), "gap {gap}");
             }
             Err(refused) => {
                 assert_eq!((refused.number, refused.line), (8, 0), "gap {gap}");
-                assert_eq!(expected, None, "gap {gap}");
+                assert_eq!(steps, None, "gap {gap}");
             }
         }
     });

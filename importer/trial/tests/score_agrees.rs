@@ -1,11 +1,11 @@
 //! Score and Fault line against the plain ones, on generated pairs of texts.
 
 use trial::generate::damage::Damage;
-use trial::generate::{jobs, placements, Random};
+use trial::generate::{broken, jobs, placements, Random};
 use trial::lent::Arrays;
 use trial::plain::fault::{fault_line, Part};
 use trial::plain::job::Job;
-use trial::plain::placement::{text_of, Pose};
+use trial::plain::placement::{text_of, Placement, Pose};
 use trial::plain::results::score_results;
 use trial::plain::scorer::{score, verdict};
 
@@ -20,6 +20,11 @@ struct Comparison {
     numbers: [usize; 6],
     /// How many scored pairs broke each rule first, 0 for the legal ones.
     rules: [usize; 9],
+    /// How many pairs whose job begins with `K,` had each refusal number.
+    led_by_k: [usize; 6],
+    /// How many of them have filled steps, and steps at gap 0 beside them.
+    filled: usize,
+    both: usize,
 }
 
 impl Comparison {
@@ -30,6 +35,12 @@ impl Comparison {
         self.numbers[results[0] as usize] += 1;
         if results[0] == 0 {
             self.rules[results[2] as usize] += 1;
+        }
+        if job.starts_with(b"K,") {
+            let (steps, filled) = (results[4], results[10]);
+            self.led_by_k[results[0] as usize] += 1;
+            self.filled += usize::from(filled > 0);
+            self.both += usize::from(filled > 0 && filled < steps);
         }
         let score = |lent: &mut [i32]| importer::calls::score(job, placement, lent);
         let fault = |lent: &mut [u64]| importer::calls::fault(job, placement, lent);
@@ -195,6 +206,56 @@ fn on_fixed_cells() {
     let [legal, ..] = comparison.rules;
     assert!(legal > 20_000, "{:?}", comparison.rules);
     assert!(by_fixed[1] > 5_000 && by_fixed[3] > 5_000, "{by_fixed:?}");
+}
+
+/// A job whose filled steps have a weight of their own, and a placement of it.
+fn with_filled_steps(random: &mut Random, count: u32) -> (Job, Placement) {
+    let (mut job, placement) = match count % 4 {
+        0 => broken::job_with_broken_rule(random, 1 + count / 4 % 8),
+        1 => placements::job_with_row_ends(random),
+        2 => placements::job_with_fixed_cells(random),
+        _ => placements::job_with_legal_placement(random),
+    };
+    job.weights = jobs::with_filled(random, job.weights);
+    (job, placement)
+}
+
+/// A7: "refused or not, Score's numbers have a seventh field at their end".
+#[test]
+fn on_jobs_led_by_k() {
+    let mut random = Random::new(18);
+    let mut comparison = Comparison::default();
+    for count in 0..110_000 {
+        let (job, mut placement) = with_filled_steps(&mut random, count);
+        if random.chance(1, 4) {
+            placements::wander(&mut random, &job, &mut placement);
+        }
+        let (mut job_text, mut text) = (job.text(), text_of(&placement));
+        let damage = random.pick(&Damage::ALL);
+        let line = random.below(placement.len() + 1);
+        match random.below(8) {
+            0 => damage.inflict(&mut random, &mut job_text, line),
+            1 => damage.inflict(&mut random, &mut text, line),
+            _ => {}
+        }
+        comparison.compare(&job_text, &text);
+    }
+    for _ in 0..500 {
+        let mut job = jobs::job_about_the_limits(&mut random);
+        job.weights = jobs::with_filled(&mut random, job.weights);
+        comparison.compare(&job.text(), b"");
+    }
+    let Comparison {
+        led_by_k,
+        rules,
+        filled,
+        both,
+        ..
+    } = comparison;
+    assert!(led_by_k.iter().sum::<usize>() > 100_000, "{led_by_k:?}");
+    assert!(led_by_k.iter().all(|&pairs| pairs > 100), "{led_by_k:?}");
+    assert!(rules.iter().all(|&pairs| pairs > 300), "{rules:?}");
+    assert!(filled > 10_000 && both > 5_000, "{filled} {both}");
 }
 
 #[test]
