@@ -4,32 +4,35 @@
 use trial::generate::legal::{Shape, HEAVY};
 use trial::generate::{jobs, legal, placements, Random};
 use trial::lender::Lender;
+use trial::plain::cost::Numbers;
 use trial::plain::job::{Job, MOST_REORDERING};
 use trial::plain::local::improve;
 use trial::plain::placement::{given_rows, Placement};
 use trial::plain::scorer::verdict;
 use trial::plain::search::cheapest;
 
-/// Places a job of which a legal placement is known.
-fn compare(lender: &mut Lender, job: &Job, known: Placement) {
-    let cost = compare_with_plain(lender, job);
+/// Places a job of which a legal placement is known. The numbers of the one that is found.
+fn compare(lender: &mut Lender, job: &Job, known: Placement) -> Numbers {
+    let placed = compare_with_plain(lender, job);
+    let cost = placed.map(|numbers| numbers.cost);
     let local = improve(job, known).map(|(_, cost)| cost);
     assert!(
         cost.is_some() && cost <= local,
         "{cost:?} for {local:?} of\n{}",
         job.text().escape_ascii()
     );
+    placed.unwrap_or_default()
 }
 
 /// Places a job as cheaply as the plain search, or not at all if that finds none.
-fn compare_with_plain(lender: &mut Lender, job: &Job) -> Option<u32> {
+fn compare_with_plain(lender: &mut Lender, job: &Job) -> Option<Numbers> {
     let text = job.text();
     let placed = lender.place(job);
     let placed = placed.unwrap_or_else(|fault| panic!("{fault} of\n{}", text.escape_ascii()));
     let cost = placed.map(|numbers| numbers.cost);
     let plain = cheapest(job).map(|placement| verdict(job, &placement).map(|plain| plain.cost));
     assert_eq!(cost.map(Ok), plain, "{}", text.escape_ascii());
-    cost
+    placed
 }
 
 #[test]
@@ -98,16 +101,18 @@ fn on_heavy_jobs_with_fixed_cells() {
 fn on_every_mix() {
     let mut random = Random::new(42);
     let mut lender = Lender::default();
-    let (mut compared, mut fixed) = ([0; 3], 0);
+    let (mut compared, mut fixed, mut filled) = ([0; 3], 0, 0);
     while compared.iter().sum::<usize>() < 500 {
         let (job, known) = placements::job_with_legal_placement(&mut random);
         if verdict(&job, &known).is_ok() {
             fixed += usize::from(job.fixed_cells() > 0);
+            filled += usize::from(job.weights.filled.is_some());
             compare(&mut lender, &job, known);
             compared[usize::from(job.reordering)] += 1;
         }
     }
     assert!(fixed > 130, "{fixed} have fixed cells");
+    assert!(filled > 80, "{filled} weigh filled steps");
     assert!(compared.iter().all(|&jobs| jobs > 120), "{compared:?} by R");
 }
 
@@ -133,6 +138,38 @@ fn on_dense_jobs_with_reordering_by_two() {
         let known = given_rows(&job);
         compare(&mut lender, &job, known);
     }
+}
+
+/// Large jobs whose filled steps have a weight of their own (A7), and whose given rows have gaps of two
+/// and three sites.
+#[test]
+fn on_large_jobs_with_filled_steps() {
+    let mut random = Random::new(46);
+    let mut lender = Lender::default();
+    // Placements with filled steps, and with steps at gap 0 beside them.
+    let (mut filled, mut both) = (0, 0);
+    for _ in 0..240 {
+        let cells = 16 + random.below(49);
+        let shape = Shape {
+            cells,
+            tall: random.pick(&[0, 1, cells / 8, cells / 4, cells * 3 / 8]),
+            early: random.below(cells),
+            most_width: random.pick(&[1, 2, 3, 12]),
+            displacement: random.from_to(1, 7),
+            reordering: random.from_to(0, MOST_REORDERING),
+            gaps: random.pick(&[&[0, 0, 2], &[0, 2, 3], HEAVY.gaps]),
+            ..HEAVY
+        };
+        let mut job = legal::job(&mut random, &shape);
+        let weights = jobs::weights(&mut random);
+        job.weights = jobs::with_filled(&mut random, weights);
+        let known = given_rows(&job);
+        let numbers = compare(&mut lender, &job, known);
+        let touching = numbers.steps - numbers.filled_steps;
+        filled += usize::from(numbers.filled_steps > 0);
+        both += usize::from(numbers.filled_steps > 0 && touching > 0);
+    }
+    assert!(filled > 100 && both > 80, "{filled} {both}");
 }
 
 /// Most given rows have one empty site before a first cell or behind a last one, and keep all other

@@ -4,6 +4,7 @@ use std::thread;
 use trial::generate::{small, Random};
 use trial::lender::Lender;
 use trial::plain::brute::least;
+use trial::plain::cost::Numbers;
 use trial::plain::job::Job;
 use trial::plain::scorer::verdict;
 use trial::plain::search::cheapest;
@@ -22,6 +23,7 @@ struct Seen {
     none_by_ends: usize,
     fixed: Fixed,
     reordered: Reordered,
+    filled: Filled,
 }
 
 /// What was seen of reordering, by R.
@@ -46,6 +48,49 @@ impl Reordered {
             });
             self.cheaper[limit] += usize::from(closer != cost);
             self.placed[limit] += usize::from(closer.is_none() && cost.is_some());
+        }
+    }
+}
+
+/// What was seen of jobs whose filled steps have a weight of their own.
+#[derive(Debug, Default)]
+struct Filled {
+    jobs: usize,
+    /// Those in which a filled step weighs less than another, as much, and more.
+    weighs: [usize; 3],
+    /// Those in which it is free and another as dear as can be, and the reverse.
+    extreme: [usize; 2],
+    /// Those whose placement has filled steps, steps at gap 0, and both.
+    steps: [usize; 3],
+    /// Those that would cost more or less if all steps had the one weight, and if they had the other.
+    both_bear: [usize; 2],
+}
+
+impl Filled {
+    /// Counts a job with the numbers of its placement.
+    fn count(&mut self, job: &Job, placed: Option<Numbers>) {
+        let (step, Some(filled)) = (job.weights.step, job.weights.filled) else {
+            return;
+        };
+        self.jobs += 1;
+        let weighs = usize::from(filled >= step) + usize::from(filled > step);
+        self.weighs[weighs] += 1;
+        let extremes = [(1000, 0), (0, 1000)];
+        for (count, extreme) in self.extreme.iter_mut().zip(extremes) {
+            *count += usize::from((step, filled) == extreme);
+        }
+        let Some(numbers) = placed else { return };
+        let filled_steps = numbers.filled_steps > 0;
+        let touching = numbers.steps > numbers.filled_steps;
+        let kinds = [filled_steps, touching, filled_steps && touching];
+        for (count, kind) in self.steps.iter_mut().zip(kinds) {
+            *count += usize::from(kind);
+        }
+        for (count, step) in self.both_bear.iter_mut().zip([step, filled]) {
+            let mut with_one = job.clone();
+            with_one.weights.step = step;
+            with_one.weights.filled = None;
+            *count += usize::from(plain_cost(with_one) != Some(numbers.cost));
         }
     }
 }
@@ -114,7 +159,9 @@ fn compare(seed: u64, draw: fn(&mut Random) -> Job) -> Seen {
         let job = draw(&mut random);
         let least = least(&job);
         let placed = lender.place(&job);
-        let cost = placed.map(|placed| placed.map(|numbers| numbers.cost));
+        let cost = placed
+            .as_ref()
+            .map(|placed| placed.map(|numbers| numbers.cost));
         assert_eq!(cost, Ok(least.cost), "{}", job.text().escape_ascii());
         let ends = least.without_rule_8.is_some();
         seen.none += usize::from(least.cost.is_none());
@@ -122,18 +169,20 @@ fn compare(seed: u64, draw: fn(&mut Random) -> Job) -> Seen {
         seen.none_by_ends += usize::from(least.cost.is_none() && ends);
         seen.fixed.count(&job, least.cost);
         seen.reordered.count(&job, least.cost);
+        seen.filled.count(&job, placed.unwrap_or_default());
     }
     seen
 }
 
-/// Compares the jobs of each seed, and checks that they met what they are to meet.
+/// Compares the jobs of each seed, and checks that they met what they are to meet; filled steps have a
+/// weight of their own in some of any kind.
 fn compare_all(seeds: &[u64], draw: fn(&mut Random) -> Job, met: fn(&Seen) -> bool) {
     thread::scope(|scope| {
         let run = |&seed| scope.spawn(move || compare(seed, draw));
         let runs: Vec<_> = seeds.iter().map(run).collect();
         for run in runs {
             let seen = run.join().expect("the jobs of each seed agree");
-            assert!(met(&seen), "{seen:?}");
+            assert!(met(&seen) && seen.filled.jobs > JOBS / 5, "{seen:?}");
         }
     });
 }
@@ -159,6 +208,23 @@ fn has_the_least_cost_with_each_reordering() {
             && cheaper[2] > JOBS / 40
     };
     compare_all(&[45, 46, 47, 48], small::job_to_reorder, met);
+}
+
+/// Each job has a weight of filled steps (A7).
+#[test]
+fn has_the_least_cost_with_filled_steps() {
+    let met = |seen: &Seen| {
+        let Filled {
+            jobs,
+            weighs,
+            extreme,
+            steps,
+            both_bear,
+        } = &seen.filled;
+        let kinds = [&weighs[..], extreme, steps, both_bear].concat();
+        *jobs == JOBS && kinds.iter().all(|&jobs| jobs > JOBS / 15)
+    };
+    compare_all(&[49, 50, 51, 52], small::job_with_filled_steps, met);
 }
 
 /// Rows have just one empty site before their first cell or behind their last as often as not.

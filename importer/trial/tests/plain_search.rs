@@ -37,9 +37,10 @@ fn has_the_least_cost() {
         let ends = scope.spawn(|| compare(62, small::job_with_row_ends));
         let fixed = scope.spawn(|| compare(63, small::job_with_fixed_cells));
         let reordered = scope.spawn(|| compare(64, small::job_to_reorder));
-        let runs = [any, ends, fixed, reordered];
+        let filled = scope.spawn(|| compare(65, small::job_with_filled_steps));
+        let runs = [any, ends, fixed, reordered, filled];
         let met = runs.map(|run| run.join().expect("the jobs of each seed agree"));
-        let least = [JOBS / 6, JOBS / 3, JOBS / 20, JOBS / 10];
+        let least = [JOBS / 6, JOBS / 3, JOBS / 20, JOBS / 10, JOBS / 10];
         assert!(
             met.iter().zip(least).all(|(&met, least)| met > least),
             "{met:?}"
