@@ -120,7 +120,10 @@ fn threads_answer_as_each_job_alone() {
         let output = fs::read(folder.join(format!("{number:03}.out")));
         check(&output.expect("there is an output"), done, texts);
     }
-    // Each end is met often enough to be tried.
+    // Each end is met often enough to be tried, and so are answers that tell of filled steps.
+    let numbers = results.iter().flatten().flat_map(|done| &done.placed);
+    let told = numbers.filter(|numbers| numbers.filled.is_some()).count();
+    assert!(told > 20, "{told}");
     let refused: usize = summary.refused.values().sum();
     let met = [&[summary.answered, refused][..], &summary.placements].concat();
     assert!(met.iter().all(|count| *count > 20), "{summary:?}");

@@ -210,8 +210,9 @@ fn check_cells(comparison: &Comparison, theirs: &[Pose], cheapest: &[Pose]) {
 #[test]
 fn comparisons_are_those_of_the_plain_refiner() {
     let mut random = Random::new(82);
-    // Comparisons of a legal placement, of one that is not, and all steps kept, gone and new.
-    let (mut seen, mut steps) = ([0; 2], [0; 3]);
+    // Comparisons of a legal placement, of one that is not, and all steps kept, gone and new; and
+    // jobs that weigh filled steps.
+    let (mut seen, mut steps, mut filled) = ([0; 2], [0; 3], 0);
     for _ in 0..3_000 {
         let (job, placement) = draw(&mut random);
         let (job_text, text) = (job.text(), text_of(&placement));
@@ -232,6 +233,9 @@ fn comparisons_are_those_of_the_plain_refiner() {
                 assert_eq!(comparison.lost(), Some(lost));
                 let (before, after) = (plain_steps(&job, &placement), plain_steps(&job, &found));
                 assert_eq!(before.len(), plain.steps as usize);
+                let filled_steps = before.iter().filter(|step| step.gap > 0).count();
+                assert_eq!(filled_steps, plain.filled_steps as usize);
+                filled += usize::from(job.weights.filled.is_some());
                 let counts = check_steps(&comparison, &before, &after);
                 steps
                     .iter_mut()
@@ -247,4 +251,5 @@ fn comparisons_are_those_of_the_plain_refiner() {
     }
     assert!(seen.iter().all(|&seen| seen > 500), "{seen:?}");
     assert!(steps.iter().all(|&steps| steps > 500), "{steps:?}");
+    assert!(filled > 100, "{filled} weigh filled steps");
 }

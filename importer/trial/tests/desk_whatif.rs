@@ -69,6 +69,7 @@ fn plain_ways(job: &Job) -> Ways {
 fn figures_are_those_of_the_plain_search() {
     let mut random = Random::new(83);
     let (mut placed, mut none, mut fewer, mut helped) = (0, 0, 0, [0; 4]);
+    let mut filled = 0;
     for _ in 0..JOBS {
         let draws = [small::job, small::job_with_row_ends];
         let fixed: fn(&mut Random) -> Job = small::job_with_fixed_cells;
@@ -83,6 +84,7 @@ fn figures_are_those_of_the_plain_search() {
         }
         let told = whatif(&job.text()).expect("the job is accepted");
         let text = || job.text().escape_ascii().to_string();
+        filled += usize::from(job.weights.filled.is_some());
         for displacement in DISPLACEMENTS {
             for reordering in REORDERINGS {
                 let changed = with(&job, |job| {
@@ -114,4 +116,5 @@ fn figures_are_those_of_the_plain_search() {
         "{placed} {none} {fewer}"
     );
     assert!(helped.iter().all(|&helped| helped > 0), "{helped:?}");
+    assert!(filled > 20, "{filled} weigh filled steps");
 }

@@ -59,6 +59,7 @@ impl Comparison {
 fn on_damaged_jobs() {
     let mut random = Random::new(41);
     let mut comparison = Comparison::default();
+    let mut led_by_k = 0;
     for count in 0..120_000 {
         let job = jobs::job_of_any_size(&mut random);
         let mut text = job.text();
@@ -70,8 +71,10 @@ fn on_damaged_jobs() {
         if count % 100 == 0 {
             text.splice(0..0, *b"\xef\xbb\xbf");
         }
+        led_by_k += usize::from(text.starts_with(b"K,"));
         comparison.job(&text);
     }
+    assert!(led_by_k > 20_000, "{led_by_k}");
     let [_, form, range, _, order, _] = comparison.numbers;
     assert!(form + range + order > 50_000, "{:?}", comparison.numbers);
     assert!(range > 10_000 && order > 1_000, "{:?}", comparison.numbers);
@@ -102,7 +105,7 @@ fn on_jobs_with_too_many_cells() {
 fn on_texts_of_random_bytes() {
     let mut random = Random::new(44);
     let mut comparison = Comparison::default();
-    let few = b"J,CF10\n2\r\xef\xbb\xbf\"";
+    let few = b"J,CFK10\n2\r\xef\xbb\xbf\"";
     for _ in 0..20_000 {
         let length = random.below(300);
         let any = random.chance(1, 2);

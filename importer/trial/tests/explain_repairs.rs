@@ -155,7 +155,7 @@ fn texts_of_random_bytes_are_repaired() {
     let mut random = Random::new(53);
     for _ in 0..2_000 {
         let length = random.below(200);
-        let byte = |_| random.pick(b"J,CF10\n2\r\xef\xbb\xbf\" 9999");
+        let byte = |_| random.pick(b"J,CFK10\n2\r\xef\xbb\xbf\" 9999");
         repair_job(&mut (0..length).map(byte).collect());
     }
 }
@@ -170,9 +170,12 @@ const LINES: [&str; 6] = [
     "F,2,6,1,2,4,3,3,2,2,4,4,4,4,4,3,3,2,2,4,4,4,4\n",
 ];
 
+/// The same job led by `K`.
+const LED_BY_K: &str = "K,2,40,3,1,100,1,100,50,30\n";
+
 /// The job with another value in one field of one line, both counted from 0.
-fn changed(line: usize, field: usize, value: u32) -> Vec<u8> {
-    let mut lines = LINES.map(|line| line.as_bytes().to_vec());
+fn changed(lines: &[&str], line: usize, field: usize, value: u32) -> Vec<u8> {
+    let mut lines: Vec<Line> = lines.iter().map(|line| line.as_bytes().to_vec()).collect();
     lines[line] = with_field(&lines[line], field, &value.to_string());
     lines.concat()
 }
@@ -181,18 +184,26 @@ fn changed(line: usize, field: usize, value: u32) -> Vec<u8> {
 /// for its range if and only if it is not in it.
 #[test]
 fn ranges_are_those_of_the_refiner() {
-    for (at, line) in LINES.iter().enumerate() {
+    for first in [LINES[0], LED_BY_K] {
+        let mut lines = LINES;
+        lines[0] = first;
+        check_ranges(&lines);
+    }
+}
+
+fn check_ranges(lines: &[&str]) {
+    for (at, line) in lines.iter().enumerate() {
         let refused = Refused {
             number: 2,
             line: at as u32 + 1,
         };
         for field in 1..line.split(',').count() {
-            let words = job_line(&changed(at, field, 9_999), &refused).unwrap_or_default();
+            let words = job_line(&changed(lines, at, field, 9_999), &refused).unwrap_or_default();
             let range = behind(&words, "; allowed ").unwrap_or_else(|| panic!("{words}"));
             let (_, high) = range.rsplit_once(' ').unwrap_or_else(|| panic!("{words}"));
             let range = first_number(range) as u32..=first_number(high) as u32;
             for value in (0..1_100).chain([9_999]) {
-                let said = read(&changed(at, field, value)).err();
+                let said = read(&changed(lines, at, field, value)).err();
                 let in_range = said != Some(refused);
                 assert_eq!(in_range, range.contains(&value), "{value}: {words}");
             }

@@ -57,7 +57,7 @@ fn heights(heights: [u16; 4]) -> Heights {
 #[test]
 fn on_jobs_of_every_size() {
     let mut random = Random::new(65);
-    let (mut cells, mut fixed) = (0, 0);
+    let (mut cells, mut fixed, mut filled) = (0, 0, 0);
     for _ in 0..20_000 {
         let job = jobs::job_of_any_size(&mut random);
         let text = of_plain(&job).text();
@@ -67,6 +67,8 @@ fn on_jobs_of_every_size() {
         assert_eq!(read, Ok(job.cells.len()));
         cells += job.cells.len();
         fixed += job.fixed_cells();
+        filled += usize::from(job.weights.filled.is_some());
     }
     assert!(cells > 100_000 && fixed > 20_000, "{cells} {fixed}");
+    assert!(filled > 4_000, "{filled} weigh filled steps");
 }

@@ -80,6 +80,8 @@ fn job_after_job() {
 fn poses_and_numbers_are_the_plain_scorers() {
     let mut random = Random::new(64);
     let mut refiner = Refiner::new();
+    // Answers that tell of filled steps, and those that have some.
+    let (mut told, mut filled) = (0, 0);
     for _ in 0..1_000 {
         let job = job(&mut random);
         let Ok(answer) = refiner.place(&job.text()) else {
@@ -95,6 +97,10 @@ fn poses_and_numbers_are_the_plain_scorers() {
         let expected = plain.iter().map(|pose| [pose.site, pose.layout, pose.mark]);
         assert!(fields.eq(expected.map(|fields| fields.map(u32::from))));
         let scored = verdict(&job, &plain).expect("the placement is legal");
-        assert_eq!(answer.numbers(), of_plain(&job, &scored));
+        let numbers = answer.numbers();
+        assert_eq!(numbers, of_plain(&job, &scored));
+        told += usize::from(numbers.filled.is_some());
+        filled += usize::from(numbers.filled.is_some_and(|filled| filled > 0));
     }
+    assert!(told > 100 && filled > 10, "{told} {filled}");
 }

@@ -59,6 +59,8 @@ fn check_marks(job: &Job, placement: &Placement) -> [usize; 2] {
     let alone = drawn(job, Some(placement), false);
     let marks = alone.steps();
     assert_eq!(marks.iter().sum::<usize>(), numbers.steps as usize);
+    let filled = numbers.filled.map(|filled| filled as usize);
+    assert_eq!(filled.unwrap_or(marks[1]), marks[1]);
     let said = format!("placement: {}", words(&numbers));
     assert!(alone.description().starts_with(&said), "{said}");
     let cheapest = refine(&job.text()).expect("a legal placement exists");
@@ -73,15 +75,17 @@ fn check_marks(job: &Job, placement: &Placement) -> [usize; 2] {
 #[test]
 fn legal_placements_have_as_many_marks_as_steps() {
     let mut random = Random::new(81);
-    let (mut seen, mut fixed) = ([0; 2], 0);
+    let (mut seen, mut fixed, mut filled) = ([0; 2], 0, 0);
     for _ in 0..300 {
         let (job, placement) = placements::job_with_legal_placement(&mut random);
         let marks = check_marks(&job, &placement);
         seen = [seen[0] + marks[0], seen[1] + marks[1]];
         fixed += usize::from(job.fixed_cells() > 0);
+        filled += usize::from(job.weights.filled.is_some() && marks[1] > 0);
     }
     assert!(seen[0] > 1_000 && seen[1] > 200, "{seen:?}");
     assert!(fixed > 60, "{fixed} with fixed cells");
+    assert!(filled > 10, "{filled} weigh filled steps and have some");
 }
 
 #[test]
