@@ -1,7 +1,7 @@
 // The exported C functions, each over slices that are passed as address and length.
 ghost use mathlib.Core.List.{[]};
 ghost use lib.ListN.{length};
-ghost use Rattle.definition.specs.Outcome.{read, score, Told, lent, Met, Placed, Demand3Of};
+ghost use Rattle.definition.specs.Outcome.{read, numberCount, score, Told, lent, Met, Placed, Demand3Of};
 ghost use Rattle.definition.specs.Load.{load, LoadedOf};
 ghost use Rattle.definition.specs.Reasons.{reasons, ReasonedOf};
 ghost use Rattle.definition.specs.Demands.{readShape, scoreShape, faultShape, placeShape, loadShape, reasonsShape};
@@ -40,12 +40,14 @@ pub extern "C" fn refiner_read(job: &[u8], results: &mut [i32]) -> u32
     0
 }
 
-// Score: number, line, rule, cell and the six numbers go to the results, and the number is returned.
+// Score: number, line, rule, cell and the numbers go to the results, and the number is returned. There are six, or seven
+// for a job text that begins with `K,`.
 #[no_mangle]
 pub extern "C" fn refiner_score(job: &[u8], placement: &[u8], results: &mut [i32]) -> u32
     ensures { λ r. ⌜ Told (score (now (job .entry)) (now (placement .entry))) r
         (now (results .entry)) (now (results .exit)) ⌝ }
-    ensures { λ r. ⌜ Demand1 scoreShape r (alone (now (results .entry))) (alone (now (results .exit))) ⌝ }
+    ensures { λ r. ⌜ Demand1 (scoreShape (numberCount (now (job .entry)))) r
+        (alone (now (results .entry))) (alone (now (results .exit))) ⌝ }
 {
     let s = score_texts(job, placement);
     let refusal = s.refusal;
@@ -81,7 +83,7 @@ pub extern "C" fn refiner_fault_line<'a>(
     copy_fault(job, placement, output, part)
 }
 
-// Place: the placement's text goes to the output, number, line, the six numbers and the text's length to the results,
+// Place: the placement's text goes to the output, number, line, Score's numbers and the text's length to the results,
 // and the number is returned. No list of moves ends in a cheaper legal placement.
 #[no_mangle]
 pub extern "C" fn refiner_place(
@@ -93,7 +95,7 @@ pub extern "C" fn refiner_place(
     ensures { λ r. ⌜ Placed (now (job .entry)) r
         (lent (now (store .entry)) (now (output .entry)) (now (results .entry)))
         (lent (now (store .exit)) (now (output .exit)) (now (results .exit))) ⌝ }
-    ensures { λ r. ⌜ Demand1 placeShape r
+    ensures { λ r. ⌜ Demand1 (placeShape (numberCount (now (job .entry)))) r
         (lent (now (store .entry)) (now (output .entry)) (now (results .entry)))
         (lent (now (store .exit)) (now (output .exit)) (now (results .exit))) ⌝ }
     ensures { λ r. ⌜ Demand3Of (now (job .entry)) r

@@ -4,7 +4,7 @@ use lib.IntN.{ℤ}
 use mathlib.Core.Path.{ap, _∙_}
 use Prim.Native.Nat.{ℕ}
 use Rattle.definition.specs.Texts.{Text}
-use Rattle.definition.specs.Outcome.{score, Told, over}
+use Rattle.definition.specs.Outcome.{numberCount, score, Told, over}
 use Rattle.definition.specs.Demands.{scoreShape, alone, Demand1}
 use Rattle.demand_laws.specs.Demand1.{score-demand1}
 use borrow.Author.Needs.{needs}
@@ -14,7 +14,8 @@ use Rattle.refiner.proofs.refiner_score.Tie as tie
 -- and so demand 1
 kept : (job placement : Text) {returned : ℕ} {results results′ : List ℤ}
     → Told (score job placement) returned results results′
-    → Told (score job placement) returned results results′ × Demand1 scoreShape returned (alone results) (alone results′)
+    → Told (score job placement) returned results results′
+    × Demand1 (scoreShape (numberCount job)) returned (alone results) (alone results′)
 kept job placement t = (t, score-demand1 job placement t)
 
 score-texts-requires : tie.Need-score-texts-requires
