@@ -7,8 +7,8 @@
  * Threads: nothing is kept between calls. Any number of threads may call at the same time, each
  * with buffers of its own; texts that are only read may be shared.
  *
- * Stack: a call of Place takes up to 160 KB, of Score up to 30 KB, of Reasons up to 30 KB, of Fault
- * line up to 30 KB, of Read up to 25 KB, of Load up to 1 KB, as measured on the deepest jobs known.
+ * Stack: a call of Place takes up to 160 KB, of Score up to 35 KB, of Reasons up to 35 KB, of Fault
+ * line up to 35 KB, of Read up to 25 KB, of Load up to 1 KB, as measured on the deepest jobs known.
  * Nothing is taken from the heap.
  *
  * Every operation returns its refusal number, or 0 for an answer. It writes to `results`, as far
