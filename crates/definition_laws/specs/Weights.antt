@@ -1,15 +1,15 @@
 -- Steps by their gaps and by their weights (A7): all steps are those at gap 0 and the filled ones; where both weigh the
 -- same, the cost is document 01's; and a `K` header with equal weights is the `J` header of its other numbers.
-use Prim.Native.Nat.{ℕ, zero, suc, _+_, _*_, _≤_}
-use mathlib.Core.Path.{_≡_, refl, sym, ap, _∙_}
-use mathlib.Core.Bool.{Bool, true, false, cond}
+use Prim.Native.Nat.{ℕ, _+_, _*_}
+use mathlib.Core.Path.{_≡_, refl, ap, _∙_}
+use mathlib.Core.Bool.{Bool, true, false, _&&_, cond}
 use mathlib.Core.List.{List, [], _∷_}
 use native.Mathlib.Nat.{mul-add, add-mul}
 use native.Mathlib.Omega.{arith}
-use lib.ListN.{take}
 use lib.Dec.{eqb}
-use Rattle.definition.specs.Lists.{sumNext}
-use Rattle.definition.specs.Job.{Job, nth, headerOf}
+use Rattle.definition.specs.Lists.{all, sumNext}
+use Rattle.definition.specs.Texts.{within}
+use Rattle.definition.specs.Job.{Job, maxSites, maxDisplacement, maxReordering, maxWeight, headerInRange, headerOf}
 use Rattle.definition.specs.Placement.{Placement}
 use Rattle.definition.specs.Rules.{gap, order}
 use Rattle.definition.specs.Cost.{charge, touching, filled, differing, stepsAt, stepsIn, stepsBy}
@@ -56,7 +56,29 @@ module _ (j : Job) (P : Placement) where
       let c = ap (λ n. j .header .stepWeight * n) steps-parts in
       omega arith
 
--- so a `K` job with equal weights is the `J` job: every placement costs the same in both
+-- ---- a `K` header with equal weights
+
+-- what passes a test may be said twice
+pub said-twice : {A : Type 0} (f : A → Bool) (a b c d : A)
+    → all f (a ∷ b ∷ c ∷ d ∷ a ∷ []) ≡ all f (a ∷ b ∷ c ∷ d ∷ [])
+said-twice f a b c d = go (f a) (f b) (f c) (f d)
+  where
+    go : (p q r s : Bool) → p && (q && (r && (s && (p && true)))) ≡ p && (q && (r && (s && true)))
+    go true true true true = refl
+    go true true true false = refl
+    go true true false s = refl
+    go true false r s = refl
+    go false q r s = refl
+
+-- it is in range just if the `J` header of its other numbers is
+pub equal-range : (a b c d e f g h : ℕ)
+    → headerInRange (a ∷ b ∷ c ∷ d ∷ e ∷ f ∷ g ∷ h ∷ e ∷ []) ≡ headerInRange (a ∷ b ∷ c ∷ d ∷ e ∷ f ∷ g ∷ h ∷ [])
+unfolding headerInRange
+equal-range a b c d e f g h =
+    ap (λ t. within 1 2 a && within 1 maxSites b && within 0 maxDisplacement c && within 0 maxReordering d && t)
+    (said-twice (within 0 maxWeight) e f g h)
+
+-- and is that header
 pub equal-header : (a b c d e f g h : ℕ)
     → headerOf true (a ∷ b ∷ c ∷ d ∷ e ∷ f ∷ g ∷ h ∷ e ∷ []) ≡ headerOf false (a ∷ b ∷ c ∷ d ∷ e ∷ f ∷ g ∷ h ∷ [])
 unfolding headerOf

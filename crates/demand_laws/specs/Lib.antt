@@ -5,3 +5,4 @@ pub mod Gaps
 pub mod Fixed
 pub mod Loads
 pub mod Reasons
+pub mod Weights

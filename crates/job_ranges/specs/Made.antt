@@ -1,33 +1,16 @@
 -- The header and the cell made of a line's numbers are those of document 01, where the field count fits them.
 use Prim.Native.Nat.{ℕ, zero, suc, _+_, _*_, _≤_, _<_}
 use mathlib.Core.Path.{_≡_, refl, sym, ap, _∙_}
-use mathlib.Core.Bool.{Bool, true, false, _&&_, cond}
-use mathlib.Core.List.{List, [], _∷_}
+use mathlib.Core.Bool.{Bool, true, false, cond}
+use mathlib.Core.List.{List}
 use native.Mathlib.Omega.{arith}
 use lib.ListN.{length, getD}
 use lib.Dec.{eqb}
-use Rattle.definition.specs.Texts.{within}
 use Rattle.definition.specs.Job as paper
+use Rattle.definition_laws.specs.Weights.{equal-range}
 use Rattle.job.specs.Value.{cellOf, headerOf}
 use Rattle.job_ranges.specs.Listed.{spelled, spell-as}
 use Rattle.job_ranges.specs.Values.{cellIn, headerIn, listed}
-
--- a weight that is in range may be said twice
-weight-again : (a b c d e f g h : ℕ)
-    → paper.headerInRange (a ∷ b ∷ c ∷ d ∷ e ∷ f ∷ g ∷ h ∷ e ∷ [])
-    ≡ paper.headerInRange (a ∷ b ∷ c ∷ d ∷ e ∷ f ∷ g ∷ h ∷ [])
-unfolding paper.headerInRange
-weight-again a b c d e f g h =
-    ap (λ t. within 1 2 a && within 1 paper.maxSites b && within 0 paper.maxDisplacement c
-    && within 0 paper.maxReordering d && t)
-    (again (weighs e) (weighs f) (weighs g) (weighs h))
-  where
-    weighs : ℕ → Bool
-    weighs = within 0 paper.maxWeight
-
-    again : (p q r s : Bool) → p && (q && (r && (s && (p && true)))) ≡ p && (q && (r && (s && true)))
-    again true q r s = refl
-    again false q r s = refl
 
 module _ (n v : List ℕ) (same : (k : ℕ) → k < 24 → getD v k 0 ≡ paper.nth n k) where
   spelt : (k : ℕ) → k ≤ 24 → length n ≡ k → n ≡ spelled 0 k v
@@ -37,7 +20,7 @@ module _ (n v : List ℕ) (same : (k : ℕ) → k < 24 → getD v k 0 ≡ paper.
       → paper.headerInRange (listed (headerIn filled v)) ≡ paper.headerInRange n
   header-ranged true e = ap paper.headerInRange (sym (spelt 9 (omega arith) e))
   header-ranged false e =
-      weight-again (getD v 0 0) (getD v 1 0) (getD v 2 0) (getD v 3 0) (getD v 4 0) (getD v 5 0) (getD v 6 0) (getD v 7 0)
+      equal-range (getD v 0 0) (getD v 1 0) (getD v 2 0) (getD v 3 0) (getD v 4 0) (getD v 5 0) (getD v 6 0) (getD v 7 0)
       ∙ ap paper.headerInRange (sym (spelt 8 (omega arith) e))
 
   pub header-made : (filled : Bool) → length n ≡ cond filled 9 8

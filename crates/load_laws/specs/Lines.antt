@@ -32,7 +32,7 @@ parts n ns e =
 
 -- ---- the line
 
-listed-fields : (ns : List ℕ) → fieldsOf (listed ns ++ (lineFeed ∷ [])) ≡ [] ∷ map digits ns
+pub listed-fields : (ns : List ℕ) → fieldsOf (listed ns ++ (lineFeed ∷ [])) ≡ [] ∷ map digits ns
 unfolding fieldsOf listed
 listed-fields [] = refl
 listed-fields (n ∷ ns) =
@@ -44,7 +44,7 @@ line-fields : (ns : List ℕ) → fieldsOf (numbersLine ns) ≡ (cellLead ∷ []
 unfolding fieldsOf
 line-fields ns = ap (onto cellLead) (listed-fields ns)
 
-listed-unbroken : (ns : List ℕ) → Unbroken (listed ns)
+pub listed-unbroken : (ns : List ℕ) → Unbroken (listed ns)
 unfolding listed
 listed-unbroken [] = tt
 listed-unbroken (n ∷ ns) =
@@ -60,7 +60,7 @@ line-ended t ns =
 
 -- ---- what it is read as
 
-values : (ns : List ℕ) → map value (map digits ns) ≡ ns
+pub values : (ns : List ℕ) → map value (map digits ns) ≡ ns
 values [] = refl
 values (n ∷ ns) = rw (value-digits n, values ns)
 
