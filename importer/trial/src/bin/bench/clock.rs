@@ -9,24 +9,24 @@ const LEAST_ROUND: Duration = Duration::from_millis(20);
 
 /// Prints the best time of each of two calls, and their ratio.
 pub fn compare(what: &str, mut refiner: impl FnMut(), mut plain: impl FnMut()) {
-    let mut best = [Duration::MAX; 2];
-    for _ in 0..ROUNDS {
-        best[0] = best[0].min(time(&mut refiner));
-        best[1] = best[1].min(time(&mut plain));
-    }
-    let [refiner, plain] = best.map(|time| time.as_secs_f64() * 1e6);
+    let [refiner, plain] = best_in_turn([&mut refiner, &mut plain]);
     let ratio = refiner / plain;
     println!("{what:<44}{refiner:>9.2} us{plain:>9.2} us{ratio:>8.2}");
 }
 
-/// The best time of a call, in microseconds.
-pub fn best_of(call: &mut impl FnMut()) -> f64 {
-    let times = (0..ROUNDS).map(|_| time(call));
-    times.min().unwrap_or_default().as_secs_f64() * 1e6
+/// The best time of each call, in microseconds; they are made in turn.
+pub fn best_in_turn<const N: usize>(mut calls: [&mut dyn FnMut(); N]) -> [f64; N] {
+    let mut best = [Duration::MAX; N];
+    for _ in 0..ROUNDS {
+        for (best, call) in best.iter_mut().zip(&mut calls) {
+            *best = (*best).min(time(call));
+        }
+    }
+    best.map(|time| time.as_secs_f64() * 1e6)
 }
 
 /// The mean time of a call over one round.
-fn time(call: &mut impl FnMut()) -> Duration {
+fn time(call: &mut dyn FnMut()) -> Duration {
     let start = processor_time();
     let mut calls = 0;
     loop {

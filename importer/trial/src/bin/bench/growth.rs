@@ -1,11 +1,9 @@
 //! How Place's time grows with cells, tall cells, D and R, beside the table words that it fills.
 
 use crate::clock;
-use importer::OUTPUT_BYTES;
-use std::hint::black_box;
+use crate::placing::by_refiner;
 use trial::generate::legal::{Shape, HEAVY};
 use trial::generate::{legal, Random};
-use trial::lender::store_words;
 use trial::plain::job::Job;
 use trial::plain::search::pairs::Pairs;
 
@@ -51,7 +49,7 @@ fn show_one(shape: &Shape, reordering: u16) {
     };
     let job = legal::job(&mut Random::new(2), &shape);
     let words = table_words(&job);
-    let time = place_time(&job);
+    let [time] = clock::best_in_turn([&mut by_refiner(&job)]);
     println!(
         "{:>6}{:>6}{:>4}{:>4}{:>14}{:>9.0} us{:>9.2} ns",
         shape.cells,
@@ -62,18 +60,6 @@ fn show_one(shape: &Shape, reordering: u16) {
         time,
         time * 1e3 / words as f64
     );
-}
-
-/// Microseconds of a call of Place.
-fn place_time(job: &Job) -> f64 {
-    let mut store = vec![0; store_words(job)];
-    let job = &job.text()[..];
-    let mut output = [0; OUTPUT_BYTES];
-    let mut results = [0; 9];
-    clock::best_of(&mut || {
-        let (store, output) = black_box((&mut store, &mut output));
-        importer::calls::place(black_box(job), store, output, black_box(&mut results));
-    })
 }
 
 /// How many words of layers, prices, cases and sources Place fills at most; it skips starts that

@@ -12,7 +12,7 @@ use trial::plain::reader::read_job;
 use trial::plain::scorer::verdict;
 use trial::plain::search::cheapest;
 
-const JOBS: [(&str, Shape); 8] = [
+pub const JOBS: [(&str, Shape); 8] = [
     ("64 cells, 24 tall, dense and wide", HEAVY),
     ("64 cells, 24 tall, dense and narrow", narrow(64, 24)),
     ("64 cells, 12 tall, widths 1 and 2", narrow(64, 12)),
@@ -30,7 +30,7 @@ const JOBS: [(&str, Shape); 8] = [
 ];
 
 /// Those with R 2.
-const BY_TWO: [(&str, Shape); 7] = [
+pub const BY_TWO: [(&str, Shape); 7] = [
     ("64 cells, 24 tall, dense and wide", HEAVY),
     (
         "64 cells, 24 tall, widths 1 to 3",
@@ -121,26 +121,33 @@ fn with_fixed(job: &Job, fixed: Fixed) -> Job {
     job
 }
 
-/// Both read the text and end with the placement's text and numbers. Place leaves its store all
-/// zero, so the plain search clears as large a one.
+/// Both read the text and end with the placement's text and numbers.
 fn compare_on(what: &str, job: &Job) {
-    let words = store_words(job);
-    let job = &job.text()[..];
-    let mut store = vec![0; words];
+    clock::compare(what, by_refiner(job), by_plain(job));
+}
+
+/// Places a job by the refiner.
+pub fn by_refiner(job: &Job) -> impl FnMut() {
+    let mut store = vec![0; store_words(job)];
+    let job = job.text();
     let mut output = [0; OUTPUT_BYTES];
-    let mut results = [0; 9];
-    let refiner = || {
+    let mut results = [0; 10];
+    move || {
         let (store, output) = black_box((&mut store, &mut output));
-        importer::calls::place(black_box(job), store, output, black_box(&mut results));
-    };
-    let mut plain_store = vec![0_u32; words];
-    let plain = || {
-        black_box(&mut plain_store).fill(0);
-        let job = read_job(black_box(job)).ok();
+        importer::calls::place(black_box(&job), store, output, black_box(&mut results));
+    }
+}
+
+/// Places a job by the plain search. Place leaves its store all zero, so as large a one is cleared.
+pub fn by_plain(job: &Job) -> impl FnMut() {
+    let mut store = vec![0_u32; store_words(job)];
+    let job = job.text();
+    move || {
+        black_box(&mut store).fill(0);
+        let job = read_job(black_box(&job)).ok();
         let placement = job.as_ref().and_then(cheapest);
         if let (Some(job), Some(placement)) = (job, placement) {
             black_box((text_of(&placement), verdict(&job, &placement).ok()));
         }
-    };
-    clock::compare(what, refiner, plain);
+    }
 }
