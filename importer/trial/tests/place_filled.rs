@@ -4,6 +4,8 @@ use trial::generate::legal::{Shape, HEAVY};
 use trial::generate::{jobs, legal, small, Random};
 use trial::lender::{store_words, Lender};
 use trial::plain::job::{Job, MOST_REORDERING};
+use trial::plain::placement::read_placement;
+use trial::plain::scorer::verdict;
 
 /// The job with these weights of steps; led by `J` if there is none of filled ones.
 fn with_steps(job: &Job, step: u16, filled: Option<u16>) -> Job {
@@ -40,6 +42,13 @@ fn left_by_place(job: &Job) -> (Vec<i32>, Vec<u8>) {
     (results, output)
 }
 
+/// The filled steps of a legal placement's text, by the plain scorer.
+fn filled_steps(job: &Job, text: &[u8]) -> Option<i32> {
+    let placement = read_placement(text, job.cells.len()).ok()?;
+    let numbers = verdict(job, &placement).ok()?;
+    Some(numbers.filled_steps as i32)
+}
+
 /// A `J` header means that both weights are equal: the same job led by `K` that says so has the same
 /// refusal or the same text and numbers, and the seventh between drift and length.
 #[test]
@@ -61,11 +70,11 @@ fn equal_weights_are_one() {
         assert_eq!(of_one[..8], of_two[..8], "{}", text());
         // The length is one entry further on, and the entry behind it is as it was.
         assert_eq!((of_one[8], of_one[9]), (of_two[9], -1), "{}", text());
-        let filled_steps = of_two[8];
-        assert!(filled_steps <= of_two[2], "{}", text());
+        let filled_steps = filled_steps(&two, &output[..of_two[9] as usize]);
+        assert_eq!(of_two[8], filled_steps.unwrap_or(0), "{}", text());
         none += usize::from(of_two[0] == 8);
         placed += usize::from(of_two[0] == 0);
-        filled += usize::from(filled_steps > 0);
+        filled += usize::from(of_two[8] > 0);
     }
     assert_eq!(none + placed, 2_000);
     assert!(none > 300 && filled > 300, "{none} {filled}");
