@@ -6,9 +6,13 @@ use std::fmt::Debug;
 /// The longest array that is tried: more than any operation's number, line and fields.
 pub const LONGEST: usize = 14;
 
+/// How many lengths there are, with 0.
+const LENGTHS: usize = LONGEST + 1;
+
 /// Lends arrays of each length in turn, filled with a pattern beforehand.
+#[derive(Default)]
 pub struct Arrays {
-    length: usize,
+    lent: usize,
 }
 
 /// An array after a call.
@@ -18,12 +22,6 @@ pub struct Left<T> {
     array: [T; LONGEST],
     /// How much of the array was lent.
     length: usize,
-}
-
-impl Default for Arrays {
-    fn default() -> Self {
-        Arrays { length: LONGEST }
-    }
 }
 
 impl Arrays {
@@ -39,9 +37,12 @@ impl Arrays {
         Left::of(self.next_length(), pattern, call)
     }
 
+    /// From 0 to the longest, and each time round from one further on: so each of several calls that
+    /// are made in turn meets all lengths, however many they are.
     fn next_length(&mut self) -> usize {
-        self.length = (self.length + 1) % (LONGEST + 1);
-        self.length
+        let length = (self.lent + self.lent / LENGTHS) % LENGTHS;
+        self.lent += 1;
+        length
     }
 }
 
@@ -75,5 +76,23 @@ impl<T: Copy + PartialEq + Debug> Left<T> {
             "returned {}, left {:?} (length {}), expected {returned} and {expected:?}",
             self.returned, self.array, self.length
         ))
+    }
+}
+
+#[cfg(test)]
+mod tests {
+    use super::*;
+
+    #[test]
+    fn each_of_several_calls_in_turn_meets_every_length() {
+        for calls in 1..=LENGTHS {
+            let mut arrays = Arrays::default();
+            let mut met = vec![[false; LENGTHS]; calls];
+            for _ in 0..LENGTHS * LENGTHS {
+                met.iter_mut()
+                    .for_each(|met| met[arrays.next_length()] = true);
+            }
+            assert_eq!(met, vec![[true; LENGTHS]; calls]);
+        }
     }
 }
