@@ -115,9 +115,13 @@ fn ranges_and_limits() {
     refuse(&format!("{HEADER}C,3,6,2,1,4,3,3,2\n"), 2, 2, SEVEN);
     refuse(&format!("{HEADER}C,0,6,2,1,4,3,3,2\n"), 1, 2, SEVEN);
     refuse(&format!("{HEADER}C,0,6,2,1,4,3,3,2,2\n"), 2, 2, SEVEN);
-    // A 65th cell that also falls, and a fall.
+    // A 65th cell that also falls, and a fall; a range comes before either.
     let many = HEADER.to_owned() + &SECOND.repeat(64);
+    let out_of_range = FIRST.replacen("C,0,2,1,1", "C,0,2,2,1", 1);
+    refuse(&format!("{many}{out_of_range}"), 2, 66, SEVEN);
     refuse(&format!("{many}{FIRST}"), 3, 66, SEVEN);
+    let falls = format!("{HEADER}{SECOND}{out_of_range}");
+    refuse(&falls, 2, 3, SEVEN);
     refuse(&format!("{HEADER}{SECOND}{FIRST}"), 4, 3, SEVEN);
     // All weights at their limit.
     let largest = "K,1,20,1,1,1000,1000,1000,1000,1000\n";
