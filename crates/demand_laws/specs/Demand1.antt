@@ -352,7 +352,8 @@ place-demand1 p = fair-demand1 (place-keeps (p .gives)) (p .met)
 
 -- ---- the demand at work: what a caller of Place who believes it learns of refusal 7
 
-pub short-output : (n : ℕ) {returned : ℕ} {before end : Buffers} → Demand1 (placeShape n) returned before end → returned ≡ 7
+pub short-output : (n : ℕ) {returned : ℕ} {before end : Buffers} → Demand1 (placeShape n) returned before end
+    → returned ≡ 7
     → (end .results ≡ over (pos 7 ∷ pos 0 ∷ replicate (placeFieldCount n) (pos 0)) (before .results))
     × (end .output ≡ before .output) × (end .store ≡ before .store)
 unfolding over

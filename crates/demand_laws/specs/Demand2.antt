@@ -155,6 +155,8 @@ place-rescored {job} {returned} {before} {end} p z = go (readJob job) refl
     go : (x : Reading) → readJob job ≡ x → Rescored job before end
     go (refused n line) r =
         let s = job-refused job n line r .some in
-        let e = p .gives .outcome ∙ place-refused job r (λ y. omega arith) (numberCount job) words room (p .gives .answer) in
+        let e =
+        p .gives .outcome
+        ∙ place-refused job r (λ y. omega arith) (numberCount job) words room (p .gives .answer) in
         absurd (let q = ap (λ x. x .number) e in omega (arith, number))
     go (accepted j) r = lent-enough j r (bufferRefusal j words room) refl

@@ -1,5 +1,5 @@
--- A job text led by `K` whose weights of steps are equal is read as the text led by `J` with its other numbers (A7): the
--- same job, or the same refusal.
+-- A job text led by `K` whose weights of steps are equal is read as the text led by `J` with its other numbers (A7):
+-- the same job, or the same refusal.
 use Prim.Native.Nat.{ℕ}
 use mathlib.Core.Path.{_≡_, refl, sym, ap, ap₂, _∙_}
 use mathlib.Core.Bool.{Bool, true, _&&_}
@@ -74,7 +74,8 @@ module _ (a b c d e f g h : ℕ) where
   unfolding readJob
   equal-weights rest =
       ap readLines (lines filledLead nine (λ z. omega arith)) ∙ read-header-line lineK (linesOf rest)
-      ∙ ap₂ (λ n x. choose n 1 (readCells (record { header = x; cells = [] }) 2 (linesOf rest))) refusal-same header-same
+      ∙ ap₂ (λ n x. choose n 1 (readCells (record { header = x; cells = [] }) 2 (linesOf rest))) refusal-same
+      header-same
       ∙ sym (ap readLines (lines headerLead eight (λ z. omega arith)) ∙ read-header-line lineJ (linesOf rest))
     where
       lines : (lead : ℕ) (ns : List ℕ) → (lead ≡ lineFeed → ⊥)

@@ -20,7 +20,8 @@ module _ (n v : List ℕ) (same : (k : ℕ) → k < 24 → getD v k 0 ≡ paper.
       → paper.headerInRange (listed (headerIn filled v)) ≡ paper.headerInRange n
   header-ranged true e = ap paper.headerInRange (sym (spelt 9 (omega arith) e))
   header-ranged false e =
-      equal-range (getD v 0 0) (getD v 1 0) (getD v 2 0) (getD v 3 0) (getD v 4 0) (getD v 5 0) (getD v 6 0) (getD v 7 0)
+      equal-range (getD v 0 0) (getD v 1 0) (getD v 2 0) (getD v 3 0) (getD v 4 0) (getD v 5 0) (getD v 6 0)
+      (getD v 7 0)
       ∙ ap paper.headerInRange (sym (spelt 8 (omega arith) e))
 
   pub header-made : (filled : Bool) → length n ≡ cond filled 9 8

@@ -209,24 +209,24 @@ module _ (text : Text) (r : Numbers) (there : 0 < length text)
   headLead = leadAt paper.headerLead paper.filledLead filled
 
   count-same : (t : Bool) → suc (r .count) ≡ length (fieldsOf headLine)
-      → eqb (r .count) (headCount t) ≡ eqb (length (fieldsOf headLine)) (paper.headerFieldCount t)
+      → eqb (r .count) (headCount t) ≡ eqb (length (fieldsOf headLine)) (paper.headerFields t)
   count-same true e = sym (eqb·suc-suc (r .count) 9) ∙ ap (λ (n : ℕ). eqb n 10) e
   count-same false e = sym (eqb·suc-suc (r .count) 8) ∙ ap (λ (n : ℕ). eqb n 9) e
 
-  count-some : (t : Bool) → eqb (length (fieldsOf headLine)) (paper.headerFieldCount t) ≡ true
+  count-some : (t : Bool) → eqb (length (fieldsOf headLine)) (paper.headerFields t) ≡ true
       → 2 ≤ length (fieldsOf headLine)
   count-some true e = let q = eqb-true (length (fieldsOf headLine)) 10 e in omega arith
   count-some false e = let q = eqb-true (length (fieldsOf headLine)) 9 e in omega arith
 
   head-first : r .ok && eqb (r .count) (headCount filled)
       ≡ paper.formed (paper.headerLead ∷ paper.filledLead ∷ []) headLine
-      && eqb (length (fieldsOf headLine)) (paper.headerFieldCount (paper.weighsFilled headLine))
+      && eqb (length (fieldsOf headLine)) (paper.headerFields (paper.weighsFilled headLine))
   head-first =
       first-test headLead text 0 r l (eqb (r .count) (headCount filled))
-      (λ n. eqb n (paper.headerFieldCount filled)) (count-some filled) (count-same filled)
-      ∙ ap (λ t. t && eqb (length (fieldsOf headLine)) (paper.headerFieldCount filled))
+      (λ n. eqb n (paper.headerFields filled)) (count-some filled) (count-same filled)
+      ∙ ap (λ t. t && eqb (length (fieldsOf headLine)) (paper.headerFields filled))
       (lead-same paper.headerLead paper.filledLead text 0 r there l)
-      ∙ first-by _ (λ t. eqb (length (fieldsOf headLine)) (paper.headerFieldCount t)) filled
+      ∙ first-by _ (λ t. eqb (length (fieldsOf headLine)) (paper.headerFields t)) filled
       (paper.weighsFilled headLine) (formed-same paper.headerLead paper.filledLead text 0 r there l)
 
   -- the numbers of a line that passes the first test

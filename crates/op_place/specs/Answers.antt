@@ -146,7 +146,8 @@ module _ (store output : List ℕ) (results : List ℤ) where
       -- an answer
       pub placed-answered : {returned : ℕ} {end : Buffers} → storeNeeded j ≤ length store
           → outputNeeded j ≤ length output
-          → Answered count j returned (lent store output results) end → Placed source returned (lent store output results) end
+          → Answered count j returned (lent store output results) end
+          → Placed source returned (lent store output results) end
       unfolding bufferRefusal firstFailing
       placed-answered h g a = record {
         outcome = placeAnswer count j (a .answer);

@@ -25,7 +25,9 @@ pub record ReadyText (job : Job) (P : value.Placement) (count bytes : ℕ) : Typ
   pub short : bytes < 2 ^ 31
 
 -- the placement's text over the output, and 0, 0 and its fields over the results
-pub record WroteAnswer (job : Job) (count : ℕ) (poses output output′ : List ℕ) (results results′ : List ℤ) : Type 0 where
+pub record WroteAnswer
+    (job : Job) (count : ℕ) (poses output output′ : List ℕ) (results results′ : List ℤ)
+    : Type 0 where
   pub text : output′ ≡ over (textOf (placementIn job poses)) output
   pub array : results′
       ≡ over

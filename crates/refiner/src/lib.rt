@@ -40,8 +40,8 @@ pub extern "C" fn refiner_read(job: &[u8], results: &mut [i32]) -> u32
     0
 }
 
-// Score: number, line, rule, cell and the numbers go to the results, and the number is returned. There are six, or seven
-// for a job text that begins with `K,`.
+// Score: number, line, rule, cell and the numbers go to the results, and the number is returned. There are six
+// numbers, or seven for a job text that begins with `K,`.
 #[no_mangle]
 pub extern "C" fn refiner_score(job: &[u8], placement: &[u8], results: &mut [i32]) -> u32
     ensures { λ r. ⌜ Told (score (now (job .entry)) (now (placement .entry))) r

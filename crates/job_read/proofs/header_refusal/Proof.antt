@@ -20,7 +20,8 @@ tried-requires-2 c κs = search needs
 returns : tie.Need-returns
 unfolding headNumber
 returns c =
-    rw (c .tried2 .ensures, c .before .tried .ensures, c .before .before .header-fits .ensures, c .before .before .before .head-count .ensures) (tests-tried _ refl)
+    let fits = c .before .before in
+    rw (c .tried2 .ensures, c .before .tried .ensures, fits .header-fits .ensures, fits .before .head-count .ensures) (tests-tried _ refl)
 
 pub header-refusal-spec : {M : Type 1} → statement M
 header-refusal-spec =

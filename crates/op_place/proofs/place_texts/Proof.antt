@@ -86,7 +86,8 @@ returns-2 c =
     let r = l .before .before in
     let n = r .before in
     let a = start n .args in
-    placed-small (a .store .now) (a .output .now) (a .results .now) (a .job .now) (n .number-count .result) (n .number-count .ensures) (jobOf (r .read-job .result .job))
+    placed-small (a .store .now) (a .output .now) (a .results .now) (a .job .now) (n .number-count .result) (n .number-count .ensures)
+    (jobOf (r .read-job .result .job))
     (reads-accepted (r .read-job .ensures) (l .if1 .left))
     (omega (arith, c .before .before .before .if2 .taken, asked (r .read-job .result .job) (w .store-needed .ensures)))
     (c .before .refuse2 .ensures)
@@ -115,7 +116,8 @@ returns-3 c =
     let n = r .before in
     let a = start n .args in
     let all = r .read-job .ensures .accepted (l .if1 .left) .many in
-    placed-narrow (a .store .now) (a .output .now) (a .results .now) (a .job .now) (n .number-count .result) (n .number-count .ensures) (jobOf (r .read-job .result .job))
+    placed-narrow (a .store .now) (a .output .now) (a .results .now) (a .job .now) (n .number-count .result) (n .number-count .ensures)
+    (jobOf (r .read-job .result .job))
     (reads-accepted (r .read-job .ensures) (l .if1 .left))
     (omega (arith, k .if2 .left, asked (r .read-job .result .job) (w .store-needed .ensures)))
     (omega (arith, t .if3 .taken, all))
@@ -158,7 +160,8 @@ returns-4 c =
     let n = r .before in
     let a = start n .args in
     let all = r .read-job .ensures .accepted (l .if1 .left) .many in
-    placed-answered (a .store .now) (a .output .now) (a .results .now) (a .job .now) (n .number-count .result) (n .number-count .ensures) (jobOf (r .read-job .result .job))
+    placed-answered (a .store .now) (a .output .now) (a .results .now) (a .job .now) (n .number-count .result) (n .number-count .ensures)
+    (jobOf (r .read-job .result .job))
     (reads-accepted (r .read-job .ensures) (l .if1 .left))
     (omega (arith, k .if2 .left, asked (r .read-job .result .job) (w .store-needed .ensures)))
     (omega (arith, t .if3 .left, all))

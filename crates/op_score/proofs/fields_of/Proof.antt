@@ -138,7 +138,8 @@ returns-2 c =
     record {
       list =
           all .list
-          ∙ ap (λ (l : List ℤ). l ++ (pos (verdict j P .rule) ∷ pos (verdict j P .cell) ∷ take (s .args .count) (numbersIn (n .result)))) (e .empty .ensures .list)
+          ∙ ap (λ (l : List ℤ). l ++ (pos (verdict j P .rule) ∷ pos (verdict j P .cell) ∷ take (s .args .count) (numbersIn (n .result))))
+          (e .empty .ensures .list)
           ∙ legal-fields (s .args .count) j P (verdict j P) (n .result) (sym (same-rule v) ∙ t .if1 .left) (n .ensures);
       few = omega (arith, all .count, e .empty .ensures .count, length-take (s .args .count) (numbersIn (n .result)));
     }
