@@ -10,12 +10,13 @@ use Rattle.definition.specs.Rules.{besideOneSite, outOfPlace, atOneSiteE
 use Rattle.definition.specs.Rules.{breaks1, breaks2, breaks3, breaks4, breaks5, breaks6, breaks7, breaks8}
 use Rattle.definition.specs.Rules.{lowest, firstBroken, verdict}
 use Rattle.definition.specs.Cost.{differing, stepsAt, stepsIn, stepsBy, shifted, mirrored, changed, cost}
-use Rattle.definition.specs.Cost.{totalShift, drift}
+use Rattle.definition.specs.Cost.{totalShift, hundredths, drift}
 use Rattle.definition.specs.Outcome.{Outcome, firstOf, outcomeOf, numberCount, numbers, scoreFields, score}
 use Rattle.definition.specs.Draws.{seeded, next, drawn, drawnAll}
 use Rattle.definition.specs.Load.{largest, numbersDrawn, listed, loadOf, loadRefusal, load}
 use Rattle.definition.specs.Reasons.{reasonOf, cellsNamed, sentence, roomRefusal, reasons}
-use Rattle.definition.specs.Edges.{Case, scoring, placing, loading, reasoning, charging, edges}
+use Rattle.definition.specs.Edges.{Case, scoring, placing, loading, reasoning, charging, averaging}
+use Rattle.definition.specs.Edges.{edges}
 
 -- a name that opens the definitions, so that texts compute
 unfoldable pub opened : Text → Text → Outcome
@@ -44,6 +45,7 @@ AllComputed (loading seed cells room Expected ∷ cs) = Expected (load seed cell
 AllComputed (reasoning job placement room Expected ∷ cs) =
     Expected (reasons (bytes job) (bytes placement) room) × AllComputed cs
 AllComputed (charging f gaps expected ∷ cs) = (map f gaps ≡ expected) × AllComputed cs
+AllComputed (averaging cells shifts expected ∷ cs) = (map (λ s. hundredths s cells) shifts ≡ expected) × AllComputed cs
 
 infixr 4 _&_
 unfoldable pub _&_ : {A B : Type 0} → A → B → A × B
@@ -74,4 +76,5 @@ edges-computed =
     & refl & refl
     & ((((refl, refl), refl), refl), refl) & ((((refl, refl), refl), refl), refl) & (((refl, refl), refl), refl)
     & (refl, refl) & (refl, refl) & (refl, refl) & (refl, refl)
+    & ((refl, refl), refl) & ((refl, refl), refl) & refl & refl
     & tt

@@ -3,6 +3,7 @@ pub mod Offers
 pub mod Gaps
 pub mod Weights
 pub mod Counts
+pub mod Rounding
 pub mod Agree
 pub mod FirstBroken
 pub mod Search
