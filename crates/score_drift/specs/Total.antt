@@ -1,11 +1,11 @@
 -- The signed sum of displacements, from the words of a placed job, and drift from that sum.
-use Prim.Native.Nat.{ℕ, zero, suc, _+_, _*_, _≤_, _<_, _^_}
+use Prim.Native.Nat.{ℕ, zero, suc, _+_, _*_, _/_, _%_, _≤_, _<_, _^_}
 use mathlib.Core.Path.{_≡_, refl, sym, ap, ap₂, _∙_}
-use mathlib.Core.Bool.{cond}
+use mathlib.Core.Bool.{Bool, true, false, cond}
 use mathlib.Core.List.{List}
 use native.Mathlib.Omega.{arith}
 use native.Mathlib.Nat.{div-le-self}
-use lib.Dec.{eqb}
+use lib.Dec.{ltb, eqb}
 use lib.IntN.{ℤ, pos, natAbs, _+ℤ_, _-ℤ_}
 use Rattle.definition.specs.Job.{maxCells, maxGiven}
 use Rattle.definition.specs.Lists.{from}
@@ -51,9 +51,17 @@ pub record Displaced (words : List ℕ) (n : ℕ) (r : ℤ) : Type 0 where
   pub total : r ≡ totalIn words 0 n
   pub small : natAbs r ≤ 1000000
 
--- a size in hundredths is not large
+-- a size in hundredths is not large: what is added to the whole part is at most 1
+low : (t : Bool) (x y : ℕ) → x ≤ 1 → y ≤ 1 → cond t x y ≤ 1
+low true x y p q = p
+low false x y p q = q
+
 pub hundredths-small : {d n : ℕ} → Average d n → nearest (100 * d) n < 2 ^ 31
-hundredths-small {d} {n} a = omega (arith, a .small, a .few, div-le-self (2 * (100 * d) + n) (2 * n))
+hundredths-small {d} {n} a =
+    let r : ℕ = 2 * (100 * d % n) in
+    let odd : ℕ = 100 * d / n % 2 in
+    let inner = low (eqb r n) odd 1 (omega arith) (omega arith) in
+    omega (arith, a .small, div-le-self (100 * d) n, low (ltb r n) 0 (cond (eqb r n) odd 1) (omega arith) inner)
 
 -- one more cell, and none
 pub total-more : (words : List ℕ) (i k n m : ℕ) → k ≡ suc i → n ≡ suc m

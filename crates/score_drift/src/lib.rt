@@ -1,5 +1,5 @@
-// Drift: the signed sum of displacements, divided by the number of cells and rounded, with halves away from zero on
-// both sides.
+// Drift: the signed sum of displacements, divided by the number of cells and rounded, halves to even on both sides of
+// zero.
 ghost use mathlib.Core.Path.{_≡_};
 ghost use Prim.Native.Nat.{_+_, _*_, _<_, _^_};
 ghost use lib.IntN.{ℤ, pos, negℤ, natAbs, _+ℤ_, _-ℤ_};
@@ -70,16 +70,23 @@ pub fn total_shift(words: &[u32], count: usize) -> i32
     total
 }
 
-// d over n in hundredths, a half going up.
+// d over n in hundredths, a half going to the even hundredth.
 fn hundredths_of(d: u32, n: u32) -> u32
     requires { ⌜ Average d n ⌝ }
     ensures { λ r. ⌜ r ≡ nearest (100 * d) n ⌝ }
 {
-    (2 * (100 * d) + n) / (2 * n)
+    let whole = 100 * d / n;
+    let rest = 2 * (100 * d % n);
+    if rest < n {
+        return whole;
+    }
+    if rest == n {
+        return whole + whole % 2;
+    }
+    whole + 1
 }
 
-// A signed sum over n cells, in hundredths of a site: rounded by its size, so that halves go away from zero on both
-// sides.
+// A signed sum over n cells, in hundredths of a site: rounded by its size, so that both sides of zero are alike.
 pub fn drift_from(s: i32, n: u32) -> i32
     requires { ⌜ SumOver s n ⌝ }
     ensures { λ r. ⌜ r ≡ driftOf s n ⌝ }
