@@ -107,7 +107,8 @@ enum {
 };
 
 /* Where the numbers stand in `results`: these two of every operation, then its own fields. The name
- * that ends in RESULTS is how many entries the operation has in all.
+ * that ends in RESULTS is how many entries the operation has in all. Drift is the mean signed shift
+ * in hundredths of a site, rounded to nearest, halves to even.
  *
  * If the first two bytes of the job text are `K,`, then Score and Place, also where they refuse it,
  * have one entry more, the filled steps behind drift. The names with a K are for such texts.

@@ -44,7 +44,7 @@ pub struct Numbers {
     pub changed: u32,
     /// The numbers above by the job's weights; filled steps have their own in a job that says it.
     pub cost: u32,
-    /// Mean signed shift in hundredths of a site.
+    /// Mean signed shift in hundredths of a site, rounded to nearest, halves to even.
     pub drift: i32,
     /// The filled steps, which are those at gaps 2 and 3; none where
     /// [the job has no such number](has_filled_steps).

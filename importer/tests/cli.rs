@@ -68,6 +68,21 @@ fn a_negative_drift_is_printed_with_its_sign() {
     assert_eq!((&*output, status), ("7,0,1,0,0,-100\n16,0,0\n", Some(0)));
 }
 
+/// Eight cells fill the row, and the last is given one site behind its place: drift is 12.5
+/// hundredths to the left.
+#[test]
+fn drift_rounds_halves_to_even() {
+    let cell = |given: u32| format!("C,0,{given},0,1,2,1,1,1,1\n");
+    let cells: String = [0, 2, 4, 6, 8, 10, 12, 15].map(cell).concat();
+    let job = format!("J,1,16,1,0,100,7,100,50\n{cells}");
+    let placement = "0,0,0\n2,0,0\n4,0,0\n6,0,0\n8,0,0\n10,0,0\n12,0,0\n14,0,0\n";
+    let (output, _, status) = told(&refine(&[], job.as_bytes()));
+    let answer = format!("7,0,1,0,0,-12\n{placement}");
+    assert_eq!((output, status), (answer, Some(0)));
+    let said = score("half", &job, placement);
+    assert_eq!(said.0, "legal,7,0,1,0,0,-12\n");
+}
+
 #[test]
 fn a_job_without_a_legal_placement_is_refused_without_a_line() {
     let cell = "C,0,0,0,1,3,1,1,1,1\n";

@@ -80,4 +80,18 @@ mod tests {
         assert!(!is_told(b"", "refused,1,2\n"));
         assert!(!is_told(b"", ANSWER));
     }
+
+    /// Eight cells, of which the last is shifted by one site to the left: -12.5 hundredths, halves to
+    /// even. An answer of before A9 says -13, and the job is placed anew.
+    #[test]
+    fn an_answer_with_the_drift_of_before_is_not() {
+        let cell = |given: u32| format!("C,0,{given},0,1,2,1,1,1,1\n");
+        let cells = [0, 2, 4, 6, 8, 10, 12, 15].map(cell).concat();
+        let job = format!("J,1,16,1,0,100,7,100,50\n{cells}");
+        let placement = "0,0,0\n2,0,0\n4,0,0\n6,0,0\n8,0,0\n10,0,0\n12,0,0\n14,0,0\n";
+        let is_told =
+            |drift: i32| is_told(job.as_bytes(), &format!("7,0,1,0,0,{drift}\n{placement}"));
+        assert!(is_told(-12));
+        assert!(!is_told(-13));
+    }
 }

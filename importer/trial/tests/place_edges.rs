@@ -1,6 +1,6 @@
 //! The edges of the scope that concern Place, one by one, with its buffers.
 
-use importer::{place, refine, Refused, STORE_WORDS};
+use importer::{place, refine, score, Refused, Verdict, STORE_WORDS};
 
 const WORKED: &[u8] = include_bytes!("../../../examples/worked.job");
 
@@ -99,6 +99,46 @@ fn reordering_by_two() {
     let placed = place(two.as_bytes(), &mut vec![7; 4_194_304], &mut output);
     assert_eq!(placed.map(|placed| placed.numbers.cost), Ok(401));
     assert_eq!(&output[..12], b"0,0,0\n1,0,0\n");
+}
+
+/// Eight cells of width 2 that fill a row of 16 sites, with D 1 and R 0: each has one place, and the
+/// shifts are those from the given sites to these places.
+fn full_row(header: &str, shifts: [i32; 8]) -> String {
+    let cell = |(place, shift): (i32, i32)| format!("C,0,{},0,1,2,1,1,1,1\n", place - shift);
+    let places = (0..).step_by(2);
+    let cells: String = places.zip(shifts).map(cell).collect();
+    format!("{header}{cells}")
+}
+
+/// A9, by hand: one site over 8 cells is 12.5 hundredths.
+#[test]
+fn drift_rounds_halves_to_even() {
+    let text = "0,0,0\n2,0,0\n4,0,0\n6,0,0\n8,0,0\n10,0,0\n12,0,0\n14,0,0\n";
+    let edges = [
+        ([0, 0, 0, 0, 0, 0, 0, 0], 0, 0),
+        ([0, 0, 0, 0, 0, 0, 0, -1], 1, -12),
+        ([0, 1, 0, 0, 0, 0, 0, 0], 1, 12),
+        ([-1, 0, 0, 1, 0, -1, 0, 0], 3, -12),
+        ([0, 1, -1, 0, 1, 0, 0, 0], 3, 12),
+        ([0, -1, 0, 0, -1, 0, 0, 0], 2, -25),
+        ([-1, 0, -1, 0, 0, 0, -1, 0], 3, -38),
+        ([0, 1, 0, 0, 1, 0, 0, 1], 3, 38),
+        ([-1, -1, -1, -1, -1, 0, 0, 0], 5, -62),
+        ([0, 1, 1, 1, 0, 1, 1, 0], 5, 62),
+        ([-1, -1, -1, -1, -1, -1, 0, -1], 7, -88),
+        ([0, 1, 1, 1, 1, 1, 1, 1], 7, 88),
+    ];
+    for header in ["J,1,16,1,0,1,1,1,1\n", "K,1,16,1,0,1,1,1,1,1\n"] {
+        for (shifts, cost, drift) in edges {
+            let job = full_row(header, shifts);
+            let refined = refine(job.as_bytes()).expect("each cell has its place");
+            assert_eq!(refined.text, text.as_bytes(), "{job}");
+            let numbers = refined.numbers;
+            assert_eq!((numbers.cost, numbers.drift), (cost, drift), "{job}");
+            let scored = score(job.as_bytes(), text.as_bytes());
+            assert_eq!(scored, Ok(Verdict::Legal(numbers)), "{job}");
+        }
+    }
 }
 
 /// Rule 8 (A1): by hand.

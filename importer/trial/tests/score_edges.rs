@@ -288,25 +288,106 @@ fn rule_8_is_tried_last() {
     ]);
 }
 
-#[test]
-fn drift_rounds_halves_away_from_zero() {
-    let job = "J,1,200,7,0,0,0,0,0\n".to_string();
-    let cells: String = (1..=8)
-        .map(|at| format!("C,0,{},0,1,1,1,1,1,1\n", 9 * at))
-        .collect();
-    let job = job + &cells;
-    let placement = |shift: i32| -> String {
-        let line = |at: i32| format!("{},0,0\n", 9 * at + if at == 1 { shift } else { 0 });
-        (1..=8).map(line).collect()
+const LED_BY_J: &str = "J,1,600,7,0,0,0,0,0\n";
+const LED_BY_K: &str = "K,1,600,7,0,0,0,0,0,0\n";
+
+/// A job of so many cells of width 1, eight empty sites apart, which may be shifted by 7.
+fn cells_apart(header: &str, cells: i32) -> String {
+    let cell = |at: i32| format!("C,0,{},0,1,1,1,1,1,1\n", 9 * at);
+    let cells: String = (1..=cells).map(cell).collect();
+    format!("{header}{cells}")
+}
+
+/// A placement of them with a net shift. Cell after cell is shifted by up to 7 sites, to the right
+/// from the last on, to the left from the first on, so that no gap gets smaller.
+fn shifted_by(net: i32, cells: i32) -> String {
+    let line = |at: i32| {
+        let shifted_before = if net < 0 { at - 1 } else { cells - at };
+        let shift = (net.abs() - 7 * shifted_before).clamp(0, 7);
+        format!("{},0,0\n", 9 * at + shift * net.signum())
     };
+    (1..=cells).map(line).collect()
+}
+
+/// Checks the drift of each net shift over so many cells; of its negative, drift is the negative.
+fn check_drifts(header: &str, cells: i32, drifts: &[(i32, i32)]) {
+    let job = cells_apart(header, cells);
+    for &(net, drift) in drifts {
+        for (net, drift) in [(net, drift), (-net, -drift)] {
+            let edge = format!("net {net} over {cells}");
+            let expected = Said::Legal { cost: 0, drift };
+            work_through(&[(&edge, &job, &shifted_by(net, cells), expected)]);
+        }
+    }
+}
+
+/// A9, by hand.
+#[test]
+fn drift_rounds_halves_to_even() {
+    let job = cells_apart(LED_BY_J, 8);
+    let placement = |net: i32| shifted_by(net, 8);
     let drift = |drift| Said::Legal { cost: 0, drift };
     work_through(&[
-        ("net -1", &job, &placement(-1), drift(-13)),
-        ("net +1", &job, &placement(1), drift(13)),
+        ("net -1", &job, &placement(-1), drift(-12)),
+        ("net +1", &job, &placement(1), drift(12)),
         ("net 0", &job, &placement(0), drift(0)),
         ("net +3", &job, &placement(3), drift(38)),
         ("net -3", &job, &placement(-3), drift(-38)),
     ]);
+    // One site over 8 cells is 12.5 hundredths: 12.5, 25, 37.5, 50, 62.5 and so on up to 187.5.
+    let over_8 = [
+        12, 25, 38, 50, 62, 75, 88, 100, 112, 125, 138, 150, 162, 175, 188,
+    ];
+    let over_8: Vec<(i32, i32)> = (1..).zip(over_8).collect();
+    check_drifts(LED_BY_J, 8, &over_8);
+    check_drifts(LED_BY_K, 8, &over_8);
+    // 6.25, 12.5, 18.75 and 37.5.
+    check_drifts(LED_BY_J, 16, &[(1, 6), (2, 12), (3, 19), (6, 38)]);
+    // 4.17, 12.5, 20.83 and 37.5.
+    check_drifts(LED_BY_J, 24, &[(1, 4), (3, 12), (5, 21), (9, 38)]);
+    // 2.5, 5, 7.5, 12.5, 17.5 and 22.5.
+    let over_40 = [(1, 2), (2, 5), (3, 8), (5, 12), (7, 18), (9, 22)];
+    check_drifts(LED_BY_J, 40, &over_40);
+    // 1.56, 10.94, 12.5, 14.06, 37.5, 62.5 and 687.5.
+    let over_64 = [
+        (1, 2),
+        (7, 11),
+        (8, 12),
+        (9, 14),
+        (24, 38),
+        (40, 62),
+        (440, 688),
+    ];
+    check_drifts(LED_BY_J, 64, &over_64);
+    // Thirds are no halves: 33.33 and 66.67.
+    check_drifts(LED_BY_J, 3, &[(1, 33), (2, 67)]);
+}
+
+/// Every net shift over every number of cells: no hundredth is nearer to the mean than drift, and
+/// where two are equally near, it is the even one.
+#[test]
+fn drift_is_the_nearest_hundredth_and_of_two_the_even_one() {
+    let mut halves = 0;
+    for cells in 1..=64 {
+        let job = cells_apart(LED_BY_J, cells);
+        for net in -7 * cells..=7 * cells {
+            let edge = format!("net {net} over {cells}");
+            let Said::Legal { drift, .. } = said(&job, &shifted_by(net, cells)) else {
+                panic!("{edge} is legal");
+            };
+            // How far drift is from the mean, times the cells: of half a hundredth, half of them.
+            let off = (cells * drift - 100 * net).abs();
+            let is_half = 2 * off == cells;
+            assert!(
+                2 * off < cells || is_half && drift % 2 == 0,
+                "{edge}: {drift}"
+            );
+            halves += usize::from(is_half);
+        }
+    }
+    // Over 8, 16, 24, 32, 48, 56 and 64 cells the odd multiples of 12.5 up to 700, which are 28 on
+    // either side of zero; over 40 those of 2.5, which are 140.
+    assert_eq!(halves, 7 * 56 + 280);
 }
 
 /// The faulty line is that very part of a text, by its address.

@@ -4,6 +4,7 @@ use super::gap::{is_charged, is_filled};
 use super::job::{Cell, Job};
 use super::order::Order;
 use super::placement::Pose;
+use std::cmp::Ordering;
 
 /// The numbers of a legal placement.
 #[derive(Clone, Copy, Debug, Default, PartialEq, Eq)]
@@ -84,11 +85,18 @@ pub fn steps_between(left: (&Cell, &Pose), right: (&Cell, &Pose), row: usize) ->
     u32::from(left_p != right_p) + u32::from(left_n != right_n)
 }
 
-/// A sum over so many cells, in hundredths, rounded to nearest with halves away from zero.
+/// A sum over so many cells, in hundredths, rounded to nearest, halves to even (A9). The rounding of
+/// a negative sum is the negative of that of its size.
 fn drift(sum: i32, cells: i32) -> i32 {
     if cells == 0 {
         return 0;
     }
-    let hundredths = (200 * sum.abs() + cells) / (2 * cells);
-    hundredths * sum.signum()
+    let hundredths = 100 * sum.abs();
+    let (whole, rest) = (hundredths / cells, hundredths % cells);
+    let nearest = match (2 * rest).cmp(&cells) {
+        Ordering::Less => whole,
+        Ordering::Equal if whole % 2 == 0 => whole,
+        Ordering::Equal | Ordering::Greater => whole + 1,
+    };
+    nearest * sum.signum()
 }
