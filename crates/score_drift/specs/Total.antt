@@ -52,16 +52,17 @@ pub record Displaced (words : List ℕ) (n : ℕ) (r : ℤ) : Type 0 where
   pub small : natAbs r ≤ 1000000
 
 -- a size in hundredths is not large: what is added to the whole part is at most 1
-low : (t : Bool) (x y : ℕ) → x ≤ 1 → y ≤ 1 → cond t x y ≤ 1
-low true x y p q = p
-low false x y p q = q
+either-small : (t : Bool) (x y : ℕ) → x ≤ 1 → y ≤ 1 → cond t x y ≤ 1
+either-small true x y p q = p
+either-small false x y p q = q
 
 pub hundredths-small : {d n : ℕ} → Average d n → nearest (100 * d) n < 2 ^ 31
 hundredths-small {d} {n} a =
     let r : ℕ = 2 * (100 * d % n) in
     let odd : ℕ = 100 * d / n % 2 in
-    let inner = low (eqb r n) odd 1 (omega arith) (omega arith) in
-    omega (arith, a .small, div-le-self (100 * d) n, low (ltb r n) 0 (cond (eqb r n) odd 1) (omega arith) inner)
+    let inner = either-small (eqb r n) odd 1 (omega arith) (omega arith) in
+    let added = either-small (ltb r n) 0 (cond (eqb r n) odd 1) (omega arith) inner in
+    omega (arith, a .small, div-le-self (100 * d) n, added)
 
 -- one more cell, and none
 pub total-more : (words : List ℕ) (i k n m : ℕ) → k ≡ suc i → n ≡ suc m
