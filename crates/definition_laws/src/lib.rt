@@ -1,1 +1,3 @@
 // Theory only: theorems about the definitions.
+
+#![tactic(auto)]

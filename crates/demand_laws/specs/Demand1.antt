@@ -24,8 +24,8 @@ use Rattle.definition_laws.specs.Outcomes.{read-refused, read-accepted}
 use Rattle.definition_laws.specs.Outcomes.{place-refused, place-buffers, place-accepted}
 use Rattle.job_laws.specs.Refused.{Refused, job-refused}
 use Rattle.job_laws.specs.Whole.{accepted-sound}
-use Rattle.text_laws.specs.Poses.{fault-within}
-use Rattle.text_laws.specs.Room.{legal-room}
+use Rattle.text_laws.proofs.Poses.{fault-within}
+use Rattle.text_laws.proofs.Room.{legal-room}
 use Rattle.demand_laws.specs.Fair.{Fair, fair_demand1, refusal-fair}
 
 -- ---- the refusals of a job text

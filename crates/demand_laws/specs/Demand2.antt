@@ -20,8 +20,9 @@ use Rattle.definition_laws.specs.Outcomes.{score-accepted, place-refused, place-
 use Rattle.definition_laws.specs.FirstBroken.{Broken, first-broken, none-broken}
 use Rattle.job_laws.specs.Refused.{job-refused}
 use Rattle.job_laws.specs.Whole.{accepted-sound}
-use Rattle.text_laws.specs.Poses.{read-prints, read_printed}
-use Rattle.text_laws.specs.Room.{each_at, at_each, legal-room, legal-printable}
+use Rattle.text_laws.proofs.Poses.{read-prints, read_printed}
+use Rattle.text_laws.specs.Room.{each_at, at_each}
+use Rattle.text_laws.proofs.Room.{legal-room, legal-printable}
 use Rattle.demand_laws.specs.Demand1.{buffers}
 
 -- the verdict names a rule: which, and of which cell

@@ -12,7 +12,7 @@ use Rattle.definition.specs.Edges.{beside_fixed}
 use Rattle.definition.specs.EdgesComputed.{opened}
 use Rattle.definition_laws.specs.EdgesHold.{job_of}
 use Rattle.theory_bridge.specs.Poses.{pose-same}
-use Rattle.theory_bridge.specs.Offers.{keeps_allowed}
+use Rattle.theory_bridge.proofs.Offers.{keeps_allowed}
 
 pub legal-stays : (j : Job) (P : Placement) → Legal j P → FixedStay j P
 legal-stays j P l k h e =

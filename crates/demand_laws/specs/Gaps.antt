@@ -12,8 +12,8 @@ use Rattle.definition.specs.EdgesComputed.{opened}
 use Rattle.definition_laws.specs.EdgesHold.{job_of}
 use Rattle.job_laws.specs.Whole.{accepted-sound}
 use Rattle.theory_bridge.specs.Paired.{row_of}
-use Rattle.theory_bridge.specs.Tests.{some-row}
-use Rattle.theory_bridge.specs.Gaps.{legal_fillable}
+use Rattle.theory_bridge.proofs.Tests.{some-row}
+use Rattle.theory_bridge.proofs.Gaps.{legal_fillable}
 
 pub legal_gaps : (job : Text) → FillableOf job
 legal_gaps job j e P l row r n =

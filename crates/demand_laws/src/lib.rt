@@ -1,1 +1,3 @@
 // Theory only: what the operations give meets the demands.
+
+#![tactic(auto)]

@@ -43,6 +43,7 @@ del k (x ∷ l) = cond (eqb k x) l (x ∷ del k l)
 
 in_del : {j : ℕ} (k : ℕ) (l : List ℕ) → In j (del k l) → In j l
 unfolding del
+in_del {j = j} k [] m = elim m [ ]
 in_del {j} k (x ∷ l) m = go (eqb k x) m (in_del k l)
   where
     go : (t : Bool) → In j (cond t l (x ∷ del k l)) → (In j (del k l) → In j l) → In j (x ∷ l)
@@ -104,6 +105,7 @@ pigeon n l d b s k h = go (in? k l)
 -- ---- where an entry stands
 
 pub index_of : {k : ℕ} (l : List ℕ) → In k l → (p : ℕ) × (p < length l) × (get_or l p 0 ≡ k)
+index_of {k = k} [] x' = elim x' [ ]
 index_of (x ∷ l) (here e) = (0, omega arith, sym e)
 index_of (x ∷ l) (there m) = let r = index_of l m in (suc r.0, omega (arith, r.1), r.2)
 

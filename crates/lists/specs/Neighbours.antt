@@ -26,5 +26,6 @@ Near R i [] = Unit {0}
 Near R i (k ∷ l) = (k ≤ i + R) × (i ≤ k + R) × Near R (suc i) l
 
 pub near_in_lem : {k : ℕ} (R i : ℕ) (l : List ℕ) → Near R i l → In k l → i ≤ k + R
+near_in_lem {k = k} R i [] h x'' = elim x'' [ ]
 near_in_lem R i (x ∷ l) h (here e) = let g = h.1 in omega arith
 near_in_lem R i (x ∷ l) h (there m) = let g = near_in_lem R (suc i) l h.2 m in omega arith

@@ -17,6 +17,7 @@ length_from a (suc n) = ap suc (length_from (suc a) n)
 
 pub in_from : {k : ℕ} (a n : ℕ) → In k (from a n) → (a ≤ k) × (k < a + n)
 unfolding from
+in_from {k = k} a zero x' = elim x' [ ]
 in_from a (suc n) (here e) = omega arith
 in_from a (suc n) (there m) = let h = in_from (suc a) n m in omega arith
 

@@ -1,1 +1,3 @@
 // Theory only: laws of lists and of comparisons that know nothing of rows.
+
+#![tactic(auto)]

@@ -9,7 +9,8 @@ use Rattle.definition.specs.Texts.{value, digits}
 use Rattle.definition.specs.Job.{Job, cell_refusal, numbers_of, cell_of, line_cell, formed, cell_lead, fixed_lead, led_by}
 use Rattle.definition.specs.Load.{listed, numbers_line}
 use Rattle.job_laws.specs.Line.{Taken, not-refused}
-use Rattle.text_laws.specs.Numbers.{also, value-digits, digits-each, digits_number, four-long}
+use Rattle.text_laws.specs.Numbers.{also, four-long}
+use Rattle.text_laws.proofs.Numbers.{value-digits, digits-each, digits_number}
 use Rattle.text_laws.specs.Lines.{Unbroken, unbroken_append, digits-unbroken, one_line, ended-line, field-first}
 
 -- numbers in their form

@@ -6,7 +6,7 @@ use Rattle.definition.specs.Lists.{all}
 use Rattle.definition.specs.Texts.{Text, bytes, is_digit, digits, parted}
 use Rattle.definition.specs.Reasons.{Reason, cell_named, cells_named, sentence, split_by, same_text, number_among}
 use Rattle.definition.specs.Reasons.{rule_said, cells_said, read_reason, IsReason, Sentences}
-use Rattle.text_laws.specs.Numbers.{digits-each, digits-some, value-digits}
+use Rattle.text_laws.proofs.Numbers.{digits-each, digits-some, value-digits}
 use Rattle.job_laws.specs.Whole.{accepted-sound}
 use Rattle.reason_laws.specs.Breakers.{is_reason}
 use Rattle.reason_laws.specs.Lengths.{sentence-short}

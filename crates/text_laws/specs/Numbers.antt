@@ -1,7 +1,7 @@
--- A number and its digits: what is printed reads back, for every number; and what reads is what would be printed,
--- for numbers up to 9,999, which a text may hold.
+-- A number and its digits: how many there are and what they are, for every number; and what the form of a number comes
+-- to, for numbers up to 9,999, which a text may hold. proofs/Numbers.antt has what rests on these.
 use Rattle.std.specs.Prelude.{ℕ, zero, suc, ◌+◌, ◌*◌, ◌-◌, ◌/◌, ◌%◌, ◌^◌, ◌<◌, ◌≤◌, ◌≡◌, refl, Bool, true, false, not, ◌&&◌, ◌||◌, List, [], ◌∷◌, ◌++◌, ◌⊎◌, length, get_or, leb, eqb, ℤ, pos, negsuc, nat_abs}
-use Rattle.std.proofs.Common.{sym, ap, ◌∙◌, append_assoc, append-nil, inl, inr, ⊎_elim, arith, pow-suc, mul-le-mul_left, mul-le-mul_right, mul_assoc, length-append, lt-ltb, le-ltb, ltb-true, leb-true, le-leb, eqb-true, eq-eqb, ne_eqb}
+use Rattle.std.proofs.Common.{sym, ap, ◌∙◌, inl, inr, arith, pow-suc, mul-le-mul_left, mul-le-mul_right, mul_assoc, length-append, lt-ltb, le-ltb, ltb-true, leb-true, le-leb, eqb-true, eq-eqb, ne_eqb}
 use Rattle.std.proofs.lemmas.Bool.{false≢true, eqb-false}
 use Rattle.std.proofs.Math.Bool.{or-true, and-eq-true_iff}
 use Rattle.std.proofs.Math.Nat.{pow-succ', one-le-pow}
@@ -80,16 +80,16 @@ one_in : (k n : ℕ) → n < 10 → digits_in (suc k) n ≡ (48 + n) ∷ []
 unfolding digits_in
 one_in k n h = rw (lt-ltb n 10 h)
 
-more_in : (k n : ℕ) → 10 ≤ n → digits_in (suc k) n ≡ digits_in k (n / 10) ++ ((48 + n % 10) ∷ [])
+pub more_in : (k n : ℕ) → 10 ≤ n → digits_in (suc k) n ≡ digits_in k (n / 10) ++ ((48 + n % 10) ∷ [])
 unfolding digits_in
 more_in k n h = rw (le-ltb n 10 h)
 
-power-above : (n : ℕ) → n < 10 ^ suc n
+pub power-above : (n : ℕ) → n < 10 ^ suc n
 power-above zero = omega arith
 power-above (suc n) = omega (arith, power-above n, pow-suc 10 (suc n))
 
 -- two bounds that suffice give the same digits
-same_in : (k m n : ℕ) → n < 10 ^ suc k → n < 10 ^ suc m → digits_in (suc k) n ≡ digits_in (suc m) n
+pub same_in : (k m n : ℕ) → n < 10 ^ suc k → n < 10 ^ suc m → digits_in (suc k) n ≡ digits_in (suc m) n
 same_in zero m n g h = one_in 0 n (omega arith) ∙ sym (one_in m n (omega arith))
 same_in (suc k) zero n g h = one_in (suc k) n (omega arith) ∙ sym (one_in 0 n (omega arith))
 same_in (suc k) (suc m) n g h = go (dec_lt n 10) (same_in k m)
@@ -103,23 +103,30 @@ same_in (suc k) (suc m) n g h = go (dec_lt n 10) (same_in k m)
         (f (n / 10) (omega (arith, pow-suc 10 (suc k))) (omega (arith, pow-suc 10 (suc m))))
         ∙ sym (more_in (suc m) n (omega arith))
 
--- a number below 10 ^ room has at most room digits, so a bound of room leaves none out
-pub digits_in_lem : (room n : ℕ) → 0 < room → n < 10 ^ room → digits_in room n ≡ digits n
-unfolding digits
-digits_in_lem zero n g h = absurd (omega arith)
-digits_in_lem (suc k) n g h = same_in k n n h (power-above n)
-
 pub one-digit : (n : ℕ) → n < 10 → digits n ≡ (48 + n) ∷ []
 unfolding digits
 one-digit n h = one_in n n h
 
-pub more-digits : (n : ℕ) → 10 ≤ n → digits n ≡ digits (n / 10) ++ ((48 + n % 10) ∷ [])
+pub digits_long : (k n : ℕ) → 0 < k → n < 10 ^ k → length (digits n) ≤ k
 unfolding digits
-more-digits zero h = absurd (omega arith)
-more-digits (suc j) h =
-    more_in (suc j) (suc j) h
-    ∙ ap (λ (t : Text). t ++ ((48 + suc j % 10) ∷ []))
-    (digits_in_lem (suc j) (suc j / 10) (omega arith) (omega (arith, power-above j)))
+digits_long zero n g h = absurd (omega arith)
+digits_long (suc k) n g h = go k n n h (power-above n)
+  where
+    go : (k m n : ℕ) → n < 10 ^ suc k → n < 10 ^ suc m → length (digits_in (suc m) n) ≤ suc k
+    go zero m n g h = rw (one_in m n (omega arith)) (omega arith)
+    go (suc k) zero n g h = rw (one_in 0 n (omega arith)) (omega arith)
+    go (suc k) (suc m) n g h = by (dec_lt n 10) (go k m)
+      where
+        by : Dec (n < 10) → ((i : ℕ) → i < 10 ^ suc k → i < 10 ^ suc m → length (digits_in (suc m) i) ≤ suc k)
+            → length (digits_in (suc (suc m)) n) ≤ suc (suc k)
+        by (yes l) f = rw (one_in (suc m) n l) (omega arith)
+        by (no l) f =
+            let r = f (n / 10) (omega (arith, pow-suc 10 (suc k))) (omega (arith, pow-suc 10 (suc m))) in
+            let long = length-append (digits_in (suc m) (n / 10)) ((48 + n % 10) ∷ []) in
+            rw (more_in (suc m) n (omega arith)) (omega arith)
+
+pub four-long : (n : ℕ) → n ≤ 9999 → length (digits n) ≤ 4
+four-long n h = digits_long 4 n (omega arith) (omega arith)
 
 -- ---- a signed number, on each side of zero
 
@@ -141,15 +148,15 @@ value_snoc a [] b = refl
 value_snoc a (x ∷ xs) b = value_snoc (a * 10 + (x - 48)) xs b
 
 -- f stands for n, in at most k digits
-record Stands (k n : ℕ) (f : Text) : Type 0 where
-  some : 1 ≤ length f
-  few : length f ≤ k
-  each : all is_digit f ≡ true
-  lead : (length f ≡ 1) ⊎ (get_or f 0 0 ≡ 48 → ⊥)
-  start : 1 ≤ n → get_or f 0 0 ≡ 48 → ⊥
-  reads : value f ≡ n
+pub record Stands (k n : ℕ) (f : Text) : Type 0 where
+  pub some : 1 ≤ length f
+  pub few : length f ≤ k
+  pub each : all is_digit f ≡ true
+  pub lead : (length f ≡ 1) ⊎ (get_or f 0 0 ≡ 48 → ⊥)
+  pub start : 1 ≤ n → get_or f 0 0 ≡ 48 → ⊥
+  pub reads : value f ≡ n
 
-one-stands : (k n : ℕ) → n < 10 → Stands (suc k) n ((48 + n) ∷ [])
+pub one-stands : (k n : ℕ) → n < 10 → Stands (suc k) n ((48 + n) ∷ [])
 unfolding value_from
 one-stands k n h = record {
   some = omega arith;
@@ -160,7 +167,7 @@ one-stands k n h = record {
   reads = omega arith;
 }
 
-more-stands : (k n : ℕ) (f : Text) → 10 ≤ n → Stands k (n / 10) f → Stands (suc k) n (f ++ ((48 + n % 10) ∷ []))
+pub more-stands : (k n : ℕ) (f : Text) → 10 ≤ n → Stands k (n / 10) f → Stands (suc k) n (f ++ ((48 + n % 10) ∷ []))
 more-stands k n f h s =
     let long : length (f ++ ((48 + n % 10) ∷ [])) ≡ length f + 1 = length-append f ((48 + n % 10) ∷ []) in
     let first : get_or (f ++ ((48 + n % 10) ∷ [])) 0 0 ≡ get_or f 0 0 =
@@ -176,80 +183,39 @@ more-stands k n f h s =
       reads = value_snoc 0 f (48 + n % 10) ∙ rw s.reads (omega arith);
     }
 
-stands : (k n : ℕ) → n < 10 ^ suc k → Stands (suc k) n (digits n)
-stands zero n h = rw (one-digit n (omega arith)) (one-stands 0 n (omega arith))
-stands (suc k) n h = go (dec_lt n 10) (stands k)
-  where
-    go : Dec (n < 10) → ((m : ℕ) → m < 10 ^ suc k → Stands (suc k) m (digits m)) → Stands (suc (suc k)) n (digits n)
-    go (yes l) f = rw (one-digit n l) (one-stands (suc k) n l)
-    go (no l) f =
-        rw (more-digits n (omega arith))
-        (more-stands (suc k) n (digits (n / 10)) (omega arith) (f (n / 10) (omega (arith, pow-suc 10 (suc k)))))
-
-pub value-digits : (n : ℕ) → value (digits n) ≡ n
-value-digits n = (stands n n (power-above n)).reads
-
--- two different numbers never share their digits
-pub digits_tell : (m n : ℕ) → digits m ≡ digits n → m ≡ n
-digits_tell m n e = sym (value-digits m) ∙ ap value e ∙ value-digits n
-
-pub digits_long : (k n : ℕ) → 0 < k → n < 10 ^ k → length (digits n) ≤ k
-digits_long zero n g h = absurd (omega arith)
-digits_long (suc k) n g h = (stands k n h).few
-
-pub four-long : (n : ℕ) → n ≤ 9999 → length (digits n) ≤ 4
-four-long n h = digits_long 4 n (omega arith) (omega arith)
-
-pub digits-some : (n : ℕ) → 1 ≤ length (digits n)
-digits-some n = (stands n n (power-above n)).some
-
-pub digits-each : (n : ℕ) → all is_digit (digits n) ≡ true
-digits-each n = (stands n n (power-above n)).each
-
 pub number_digits : (n : ℕ) → n ≤ 9999 → Number (digits n)
-number_digits n h = let s = stands 3 n (omega arith) in
-    record { some = s.some; few = s.few; each = s.each; lead = s.lead }
-
-pub digits_number : (n : ℕ) → n ≤ 9999 → is_number (digits n) ≡ true
-digits_number n h = number_is (digits n) (number_digits n h)
-
--- ---- a number in its form is the print of its value
-
--- digits after a number that is not 0 are appended to its print
-digits-after : (v : ℕ) (xs : Text) → 1 ≤ v → all is_digit xs ≡ true → digits (value_from v xs) ≡ digits v ++ xs
-unfolding value_from
-digits-after v [] h e = sym (append-nil (digits v))
-digits-after v (b ∷ xs) h e =
-    let p = (and-eq-true_iff (is_digit b) (all is_digit xs)).0 e in
-    let d = is_digit_lem b p.0 in
-    let w : ℕ = v * 10 + (b - 48) in
-    let q : w / 10 ≡ v = omega arith in
-    let r : 48 + w % 10 ≡ b = omega arith in
-    let one : digits w ≡ digits v ++ (b ∷ []) = more-digits w (omega arith) ∙ rw (q, r) in
-    digits-after w xs (omega arith) p.1 ∙ rw one (append_assoc (digits v) (b ∷ []) xs)
-
-pub digits_value : (f : Text) → is_number f ≡ true → digits (value f) ≡ f
-unfolding value_from
-digits_value f e = go f (is-number f e)
+unfolding digits
+number_digits n h =
+    let f = form n n (power-above n) in
+    record { some = f.0; few = four-long n h; each = f.1; lead = lead (dec_lt n 10) f.2 }
   where
-    one : (a : ℕ) → is_digit a ≡ true → digits (0 + (a - 48)) ≡ a ∷ []
-    one a e =
-        let d = is_digit_lem a e in
-        let r : 48 + (0 + (a - 48)) ≡ a = omega arith in
-        one-digit (0 + (a - 48)) (omega arith) ∙ rw r
-
-    go : (f : Text) → Number f → digits (value f) ≡ f
-    go [] n = absurd (omega (arith, n.some))
-    go (a ∷ []) n = one a ((and-eq-true_iff (is_digit a) true).0 n.each).0
-    go (a ∷ b ∷ xs) n =
-        let p = (and-eq-true_iff (is_digit a) (all is_digit (b ∷ xs))).0 n.each in
-        let d = is_digit_lem a p.0 in
-        let start : a ≡ 48 → ⊥ = ⊎_elim (λ l. λ e. omega arith) (λ h. h) n.lead in
-        let high : 1 ≤ 0 + (a - 48) = go-high a d.0 start in
-        digits-after (0 + (a - 48)) (b ∷ xs) high p.1 ∙ ap (λ (t : Text). t ++ (b ∷ xs)) (one a p.0)
+    form : (m n : ℕ) → n < 10 ^ suc m
+        → (1 ≤ length (digits_in (suc m) n)) × (all is_digit (digits_in (suc m) n) ≡ true)
+        × (1 ≤ n → get_or (digits_in (suc m) n) 0 0 ≡ 48 → ⊥)
+    form zero n g = let s = one-stands 0 n (omega arith) in rw (one_in 0 n (omega arith)) (s.some, s.each, s.start)
+    form (suc m) n g = by (dec_lt n 10) (form m)
       where
-        go-high : (a : ℕ) → 48 ≤ a → (a ≡ 48 → ⊥) → 1 ≤ 0 + (a - 48)
-        go-high a h d = omega (arith, d)
+        by : Dec (n < 10)
+            → ((i : ℕ) → i < 10 ^ suc m
+            → (1 ≤ length (digits_in (suc m) i)) × (all is_digit (digits_in (suc m) i) ≡ true)
+            × (1 ≤ i → get_or (digits_in (suc m) i) 0 0 ≡ 48 → ⊥))
+            → (1 ≤ length (digits_in (suc (suc m)) n)) × (all is_digit (digits_in (suc (suc m)) n) ≡ true)
+            × (1 ≤ n → get_or (digits_in (suc (suc m)) n) 0 0 ≡ 48 → ⊥)
+        by (yes l) f = let s = one-stands 0 n l in rw (one_in (suc m) n l) (s.some, s.each, s.start)
+        by (no l) f =
+            let xs : Text = digits_in (suc m) (n / 10) in
+            let x : Text = (48 + n % 10) ∷ [] in
+            let s = one-stands 0 (n % 10) (omega arith) in
+            let r = f (n / 10) (omega (arith, pow-suc 10 (suc m))) in
+            let long = length-append xs x in
+            let first : get_or (xs ++ x) 0 0 ≡ get_or xs 0 0 = get_or-append xs x 0 0 r.0 in
+            rw (more_in (suc m) n (omega arith))
+            (omega arith, all_append is_digit xs x r.1 s.each, λ p e. r.2 (omega arith) (sym first ∙ e))
+
+    lead : Dec (n < 10) → (1 ≤ n → get_or (digits n) 0 0 ≡ 48 → ⊥)
+        → (length (digits n) ≡ 1) ⊎ (get_or (digits n) 0 0 ≡ 48 → ⊥)
+    lead (yes l) f = inl (ap length (one_in n n l))
+    lead (no l) f = inr (f (omega arith))
 
 -- ---- a number in its form is at most 9,999
 

@@ -11,7 +11,8 @@ use Rattle.std.proofs.Math.Dec.{leb}
 use Rattle.definition.specs.Lists as lists
 use Rattle.definition.specs.Rules as rules
 use Rattle.lists.specs.Numbers.{from}
-use Rattle.theory_row.specs.Order.{put, sort, sort_in, place}
+use Rattle.theory_row.specs.Order.{put, sort, place}
+use Rattle.theory_row.proofs.Order.{sort_in}
 use Rattle.theory_row.specs.Rules.{sum, sum_next, sum_neighbours}
 use Rattle.theory_pair.specs.Pick.{pick}
 

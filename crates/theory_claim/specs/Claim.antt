@@ -10,8 +10,9 @@ use Rattle.definition.specs.Moves.{Cheapest}
 use Rattle.definition_laws.specs.Sound.{Sound}
 use Rattle.theory_traceback.specs.Found.{PairFound}
 use Rattle.theory_bridge.specs.Paired.{site_of, pair_job, pose_number}
-use Rattle.theory_bridge.specs.Offers.{wide_positive}
-use Rattle.theory_bridge.specs.Answer.{placement_by, place-answer}
+use Rattle.theory_bridge.proofs.Offers.{wide_positive}
+use Rattle.theory_bridge.specs.Answer.{placement_by}
+use Rattle.theory_bridge.proofs.Answer.{place-answer}
 
 abbrev pub reorder : Job → ℕ
 reorder j = j.header.reordering

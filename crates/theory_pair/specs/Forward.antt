@@ -19,11 +19,13 @@ each (a ∷ l) f = f a ++ each l f
 
 pub in_each : {A B : Type 0} {a : A} {b : B} (l : List A) (f : A → List B) → In a l → In b (f a) → In b (each l f)
 unfolding each
+in_each {A = A} {B = B} {a = a} {b = b} [] f x'' m = elim x'' [ ]
 in_each {b = b} (x ∷ l) f (here e) m = Memᴰ.append_left (each l f) (subst (λ y. In b (f y)) e m)
 in_each (x ∷ l) f (there p) m = Memᴰ.append_right (f x) (in_each l f p m)
 
 pub each_in : {A B : Type 0} {b : B} (l : List A) (f : A → List B) → In b (each l f) → (a : A) × In a l × In b (f a)
 unfolding each
+each_in {A = A} {B = B} {b = b} [] f m = elim m [ ]
 each_in {A = A} {b = b} (x ∷ l) f m = go (Memᴰ.append_cases (f x) m) (each_in l f)
   where
     go : In b (f x) ⊎ In b (each l f) → (In b (each l f) → (a : A) × In a l × In b (f a))
@@ -40,6 +42,8 @@ add (some a) (some b) = some (a + b)
 
 pub add-below : (a b : Option ℕ) (x y : ℕ) → a ⊑ x → b ⊑ y → add a b ⊑ (x + y)
 unfolding add
+add-below (some a) none x y h g = elim g [ ]
+add-below none b x y h g = elim h [ ]
 add-below (some a) (some b) x y h g = omega arith
 
 pub add-met : (a b : Option ℕ) (v : ℕ) → add a b ≡ some v
@@ -71,6 +75,7 @@ least_of f (u ∷ l) = lower (f u) (least_of f l)
 
 pub least_of-below : {S : Type 0} (f : S → Option ℕ) (l : List S) (u : S) (x : ℕ) → In u l → f u ⊑ x → least_of f l ⊑ x
 unfolding least_of
+least_of-below {S = S} f [] u x x4 h = elim x4 [ ]
 least_of-below f (w ∷ l) u x (here e) h = lower-left (f w) (least_of f l) x (subst (λ y. f y ⊑ x) e h)
 least_of-below f (w ∷ l) u x (there m) h = lower-right (f w) (least_of f l) x (least_of-below f l u x m h)
 

@@ -10,7 +10,8 @@ use Rattle.lists.specs.Compare.{Eq?, same, differs, eq?}
 use Rattle.lists.specs.Numbers.{from, in_from}
 use Rattle.lists.specs.Membership.{Distinct}
 use Rattle.lists.specs.Neighbours.{Pairs, Chain, Next}
-use Rattle.theory_row.specs.Order.{put, sort, order, place, order_below}
+use Rattle.theory_row.specs.Order.{put, sort, order, place}
+use Rattle.theory_row.proofs.Order.{order_below}
 use Rattle.theory_row.specs.Rules.{Clear, NoGapOne, sum, sum_next, sum_neighbours}
 use Rattle.theory_row.specs.Row.{LegalSites}
 use Rattle.theory_pair.specs.Ends.{last_from, Ended}
@@ -32,6 +33,7 @@ at_in (m ∷ ms) (suc p) h = there (at_in ms p (omega arith))
 
 pub at_place : (ms : List ℕ) (k : ℕ) → In k ms → (at ms (place k ms) ≡ k) × (place k ms < length ms)
 unfolding place
+at_place [] k q = elim q [ ]
 at_place (m ∷ ms) k q = go (eqb k m) (eq? k m) q (at_place ms k)
   where
     go : (t : Bool) → Eq? k m t → In k (m ∷ ms) → (In k ms → (at ms (place k ms) ≡ k) × (place k ms < length ms))

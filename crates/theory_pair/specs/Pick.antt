@@ -1,16 +1,14 @@
 -- The entries of a list that pass a test; and the marks that have R + 1 ones, the lowest among them.
 use Rattle.std.proofs.Math.Path.{◌≡◌, refl, ap}
 use Rattle.std.proofs.Common.{sym, ◌∙◌, arith}
-use Rattle.std.specs.Prelude.{◌↔◌, Bool, cond, ◌&&◌, ℕ, suc, ◌+◌, ◌*◌, ◌%◌, ◌^◌, ◌<◌, eqb}
+use Rattle.std.specs.Prelude.{Bool, cond, ◌&&◌, ℕ, suc, ◌*◌, ◌%◌, ◌^◌, eqb}
 use mathlib.Core.List.Memᴰ.{head as here}
 use mathlib.Core.List.Memᴰ.{tail as there}
 use mathlib.Core.List.{List, [], ◌∷◌, Memᴰ as In}
 use Rattle.std.proofs.Math.Bool.{true, false}
 use Rattle.std.specs.Int.Count.{ones}
-use Rattle.lists.specs.Compare.{Eq?, same, differs, eq?}
-use Rattle.lists.specs.Numbers.{from, in_from, from_in}
+use Rattle.lists.specs.Numbers.{from}
 use Rattle.lists.specs.Neighbours.{Pairs}
-use Rattle.theory_row.specs.Window.{Good}
 
 unfoldable pub pick : (ℕ → Bool) → List ℕ → List ℕ
 pick f [] = []
@@ -19,6 +17,7 @@ pick f (k ∷ l) = cond (f k) (k ∷ pick f l) (pick f l)
 module _ (f : ℕ → Bool) where
   pub pick_in : {k : ℕ} (l : List ℕ) → In k (pick f l) → In k l × (f k ≡ true)
   unfolding pick
+  pick_in {k = k} [] m = elim m [ ]
   pick_in {k} (x ∷ l) m = go (f x) refl m (pick_in l)
     where
       go : (t : Bool) → f x ≡ t → In k (cond t (x ∷ pick f l) (pick f l)) → (In k (pick f l) → In k l × (f k ≡ true))
@@ -29,6 +28,7 @@ module _ (f : ℕ → Bool) where
 
   pub in_pick : {k : ℕ} (l : List ℕ) → In k l → f k ≡ true → In k (pick f l)
   unfolding pick
+  in_pick {k = k} [] x'' e = elim x'' [ ]
   in_pick {k} (x ∷ l) (here z) e = go (f x) (sym (ap f z) ∙ e)
     where
       go : (t : Bool) → t ≡ true → In k (cond t (x ∷ pick f l) (pick f l))
@@ -54,30 +54,3 @@ module _ (f : ℕ → Bool) where
 -- the marks of 2 R + 1 digits with R + 1 ones, the lowest digit among them
 unfoldable pub good_marks : ℕ → List ℕ
 good_marks R = pick (λ m. eqb (m % 2) 1 && eqb (ones m) (suc R)) (from 0 (2 ^ suc (2 * R)))
-
-pub in_good_marks : (R m : ℕ) → In m (good_marks R) ↔ Good R m
-unfolding good_marks
-in_good_marks R m = (
-  λ q. let r = pick_in test (from 0 (2 ^ suc (2 * R))) q in go (eqb (m % 2) 1) (eqb (ones m) (suc R)) (eq? (m % 2) 1)
-      (eq? (ones m) (suc R)) (in_from 0 (2 ^ suc (2 * R)) r.0).1 r.1,
-  λ g. back g,
-)
-  where
-    test : ℕ → Bool
-    test m = eqb (m % 2) 1 && eqb (ones m) (suc R)
-
-    go : (t u : Bool) → Eq? (m % 2) 1 t → Eq? (ones m) (suc R) u → m < 0 + 2 ^ suc (2 * R) → (t && u) ≡ true → Good R m
-    go true true (same a) (same b) h e = record { odd = a; count = b; small = omega arith }
-    go true false a b h e = absurd (let z : ◌≡◌ {A = ℕ} 0 1 = cc in omega arith)
-    go false u a b h e = absurd (let z : ◌≡◌ {A = ℕ} 0 1 = cc in omega arith)
-
-    passes : (t u : Bool) → Eq? (m % 2) 1 t → Eq? (ones m) (suc R) u → Good R m → (t && u) ≡ true
-    passes true true a b g = refl
-    passes true false a (differs b) g = absurd (b g.count)
-    passes false u (differs a) b g = absurd (a g.odd)
-
-    back : Good R m → In m (pick test (from 0 (2 ^ suc (2 * R))))
-    back g =
-        let s = g.small in
-        in_pick test (from 0 (2 ^ suc (2 * R))) (from_in m 0 (2 ^ suc (2 * R)) (omega arith) (omega arith))
-        (passes (eqb (m % 2) 1) (eqb (ones m) (suc R)) (eq? (m % 2) 1) (eq? (ones m) (suc R)) g)

@@ -28,6 +28,7 @@ some v ⊑ x = v ≤ x
 
 pub lower-left : (a b : Option ℕ) (x : ℕ) → a ⊑ x → lower a b ⊑ x
 unfolding lower
+lower-left none b x h = elim h [ ]
 lower-left (some a) none x h = h
 lower-left (some a) (some b) x h = go (leb a b) (le? a b)
   where
@@ -37,6 +38,7 @@ lower-left (some a) (some b) x h = go (leb a b) (le? a b)
 
 pub lower-right : (a b : Option ℕ) (x : ℕ) → b ⊑ x → lower a b ⊑ x
 unfolding lower
+lower-right (some a) none x h = elim h [ ]
 lower-right none b x h = h
 lower-right (some a) (some b) x h = go (leb a b) (le? a b)
   where
@@ -56,6 +58,7 @@ lower-met (some a) (some b) v e = go (leb a b) e
 
 plus-below : (t : ℕ) (o : Option ℕ) (x : ℕ) → o ⊑ x → plus t o ⊑ (t + x)
 unfolding plus
+plus-below t none x h = elim h [ ]
 plus-below t (some w) x h = omega arith
 
 plus-met : (t : ℕ) (o : Option ℕ) (v : ℕ) → plus t o ≡ some v → (w : ℕ) × (o ≡ some w) × (t + w ≡ v)
@@ -86,6 +89,7 @@ module _ {S C : Type 0} (moves : S → List C) (next : S → C → S) (toll : S 
   least-below : (f : S → Option ℕ) (s : S) (l : List C) (c : C) (x : ℕ) → In c l → f (next s c) ⊑ x
       → least f s l ⊑ (toll s c + x)
   unfolding least
+  least-below f s [] c x x4 h = elim x4 [ ]
   least-below f s (y ∷ l) c x (here e) h =
       lower-left (plus (toll s y) (f (next s y))) (least f s l)
       (toll s c + x) (rw e (plus-below (toll s y) (f (next s y)) x (rw e at h)))

@@ -1,5 +1,4 @@
 pub mod FileOrder
 pub mod JobRow
-pub mod Sites
 pub mod ByNumbers
 pub mod Most

@@ -14,6 +14,7 @@ use Rattle.theory_pair.specs.Coded.{coded, lowest}
 module _ {S : Type 0} (B : ℕ) (h : S → ℕ) where
   pub lowest-member : {u : S} (l : List S) → In u l → lowest B h l ≤ h u
   unfolding lowest
+  lowest-member {u = u} [] x' = elim x' [ ]
   lowest-member (x ∷ l) (here e) = let z = ap h e in omega arith
   lowest-member (x ∷ l) (there m) = let r = lowest-member l m in omega arith
 

@@ -8,7 +8,7 @@ use native.Mathlib.Omega.{arith}
 use Rattle.std.proofs.Math.Decide.{ℕ_discrete}
 use Rattle.std.proofs.Math.ListN.{length-append}
 use Rattle.theory_pair.specs.Whole.{picks}
-use Rattle.theory_pair.specs.Cut.{picks_snoc}
+use Rattle.theory_pair.proofs.Cut.{picks_snoc}
 use Rattle.theory_tables.specs.Steps.{B}
 use Rattle.theory_tables.specs.Stages.{placed_with, open_cost, stage_cost, case_table}
 use Rattle.theory_tables.specs.Back.{Traced}
@@ -84,58 +84,61 @@ module _ {A : Type 0} (R : ℕ) (site_of : A → ℕ) (talls : ℕ) (W₀ W₁ :
   abbrev Traces : ℕ → ℕ → ℕ → ℕ → Type 0
   Traces I q₀ q₁ a = Traced W₀.deck W₁.deck R talls W₀.pos W₁.pos Noted₀ Noted₁ I q₀ q₁ a
 
-  pub both_to : Twins W₀ W₁ → (I q₀ q₁ a : ℕ) → I ≤ talls → Within R site_of talls W₀ I q₀ a
-      → Within R site_of talls W₁ I q₁ a → table I q₀ q₁ a < B → Traces I q₀ q₁ a
-      → BothTo I q₀ q₁ a (table I q₀ q₁ a)
-  unfolding case_table picks
-  both_to T zero q₀ q₁ a h g₀ g₁ u w =
-      let e : table 0 q₀ q₁ a
-      ≡ open_cost W₀.deck R talls W₀.pos q₀ a + open_cost W₁.deck R talls W₁.pos q₁ a = omega arith in
-      let f₀ = row_begin R site_of talls W₀ Noted₀ q₀ a g₀ (omega arith) w.0 in
-      let f₁ = row_begin R site_of talls W₁ Noted₁ q₁ a g₁ (omega arith) w.1 in
-      record {
-        ps = [];
-        size = refl;
-        n₀ = f₀.0;
-        n₁ = f₁.0;
-        x₀ = open_cost W₀.deck R talls W₀.pos q₀ a;
-        x₁ = open_cost W₁.deck R talls W₁.pos q₁ a;
-        first = f₀.1;
-        second = f₁.1;
-        tall = λ K z. absurd {A = TallNoted K f₀.0 f₁.0} (omega arith);
-        sum = sym e;
-      }
-  both_to T (suc I) q₀ q₁ a h g₀ g₁ u w =
-      let s = w.0 in
-      let t = w.1 in
-      let l = w.2 in
-      let k = w.3 in
-      let e₀ = k.sum in
-      let l₀ = k.pose in
-      let l₁ : l < W₁.deck.poses = omega (arith, T.poses) in
-      let r = both_to T I s t l (omega arith) (λ b. (k.state₀, l₀)) (λ b. (k.state₁, l₁)) (omega arith) w.4 in
-      let f₀ = row_on R site_of talls W₀ Noted₀ I s l q₀ a (picks W₀.pos 0 r.ps) r.n₀ r.x₀ h
-      k.state₀ l₀ g₀ r.first (omega arith) k.row₀ in
-      let f₁ = row_on R site_of talls W₁ Noted₁ I t l q₁ a (picks W₁.pos 0 r.ps) r.n₁ r.x₁ h
-      k.state₁ l₁ g₁ r.second (omega arith) k.row₁ in
-      let p = W₀.pose (W₀.pos I) l in
-      let n₀ = suc r.n₀ + f₀.1 in
-      let n₁ = suc r.n₁ + f₁.1 in
-      let x₀ = r.x₀ + stage_cost W₀.deck R talls W₀.pos I s l q₀ a in
-      let x₁ = r.x₁ + stage_cost W₁.deck R talls W₁.pos I t l q₁ a in
-      let e₁ = r.sum in
-      let e₂ = r.size in
-      let e₃ = length-append r.ps (p ∷ []) in
-      record {
-        ps = r.ps ++ (p ∷ []);
-        size = omega arith;
-        n₀ = n₀;
-        n₁ = n₁;
-        x₀ = x₀;
-        x₁ = x₁;
-        first = picks_more R site_of talls W₀ Noted₀ I l q₀ a n₀ x₀ r.ps p e₂ refl f₀.2;
-        second = picks_more R site_of talls W₁ Noted₁ I l q₁ a n₁ x₁ r.ps p e₂ (sym (T.pose I l h)) f₁.2;
-        tall = tall-more I s t l r.n₀ r.n₁ f₀.1 f₁.1 f₀.0 f₁.0 l₀ (r.first.stood h)
-            (r.second.stood h) r.tall;
-        sum = omega arith;
-      }
+  -- all stages, where tall cells have the same poses in both rows
+  module _ (poses : W₀.deck.poses ≡ W₁.deck.poses)
+      (pose : (K b : ℕ) → K < talls → W₀.pose (W₀.pos K) b ≡ W₁.pose (W₁.pos K) b) where
+    pub both_on : (I q₀ q₁ a : ℕ) → I ≤ talls → Within R site_of talls W₀ I q₀ a
+        → Within R site_of talls W₁ I q₁ a → table I q₀ q₁ a < B → Traces I q₀ q₁ a
+        → BothTo I q₀ q₁ a (table I q₀ q₁ a)
+    unfolding case_table picks
+    both_on zero q₀ q₁ a h g₀ g₁ u w =
+        let e : table 0 q₀ q₁ a
+        ≡ open_cost W₀.deck R talls W₀.pos q₀ a + open_cost W₁.deck R talls W₁.pos q₁ a = omega arith in
+        let f₀ = row_begin R site_of talls W₀ Noted₀ q₀ a g₀ (omega arith) w.0 in
+        let f₁ = row_begin R site_of talls W₁ Noted₁ q₁ a g₁ (omega arith) w.1 in
+        record {
+          ps = [];
+          size = refl;
+          n₀ = f₀.0;
+          n₁ = f₁.0;
+          x₀ = open_cost W₀.deck R talls W₀.pos q₀ a;
+          x₁ = open_cost W₁.deck R talls W₁.pos q₁ a;
+          first = f₀.1;
+          second = f₁.1;
+          tall = λ K z. absurd {A = TallNoted K f₀.0 f₁.0} (omega arith);
+          sum = sym e;
+        }
+    both_on (suc I) q₀ q₁ a h g₀ g₁ u w =
+        let s = w.0 in
+        let t = w.1 in
+        let l = w.2 in
+        let k = w.3 in
+        let e₀ = k.sum in
+        let l₀ = k.pose in
+        let l₁ : l < W₁.deck.poses = omega (arith, poses) in
+        let r = both_on I s t l (omega arith) (λ b. (k.state₀, l₀)) (λ b. (k.state₁, l₁)) (omega arith) w.4 in
+        let f₀ = row_on R site_of talls W₀ Noted₀ I s l q₀ a (picks W₀.pos 0 r.ps) r.n₀ r.x₀ h
+        k.state₀ l₀ g₀ r.first (omega arith) k.row₀ in
+        let f₁ = row_on R site_of talls W₁ Noted₁ I t l q₁ a (picks W₁.pos 0 r.ps) r.n₁ r.x₁ h
+        k.state₁ l₁ g₁ r.second (omega arith) k.row₁ in
+        let p = W₀.pose (W₀.pos I) l in
+        let n₀ = suc r.n₀ + f₀.1 in
+        let n₁ = suc r.n₁ + f₁.1 in
+        let x₀ = r.x₀ + stage_cost W₀.deck R talls W₀.pos I s l q₀ a in
+        let x₁ = r.x₁ + stage_cost W₁.deck R talls W₁.pos I t l q₁ a in
+        let e₁ = r.sum in
+        let e₂ = r.size in
+        let e₃ = length-append r.ps (p ∷ []) in
+        record {
+          ps = r.ps ++ (p ∷ []);
+          size = omega arith;
+          n₀ = n₀;
+          n₁ = n₁;
+          x₀ = x₀;
+          x₁ = x₁;
+          first = picks_more R site_of talls W₀ Noted₀ I l q₀ a n₀ x₀ r.ps p e₂ refl f₀.2;
+          second = picks_more R site_of talls W₁ Noted₁ I l q₁ a n₁ x₁ r.ps p e₂ (sym (pose I l h)) f₁.2;
+          tall = tall-more I s t l r.n₀ r.n₁ f₀.1 f₁.1 f₀.0 f₁.0 l₀ (r.first.stood h)
+              (r.second.stood h) r.tall;
+          sum = omega arith;
+        }

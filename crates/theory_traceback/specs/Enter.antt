@@ -6,25 +6,32 @@ use Rattle.std.proofs.Math.Option.{some}
 use Rattle.std.proofs.lemmas.Bool.{not-true}
 use Rattle.theory_pair.specs.Segment.{Line, State, move}
 use Rattle.theory_pair.specs.Coded.{coded-some}
-use Rattle.theory_pair.specs.Loops.{entry, entry_first}
+use Rattle.theory_pair.specs.Loops.{entry}
+use Rattle.theory_pair.proofs.Loops.{entry_first}
 use Rattle.theory_tables.specs.Steps.{B, Deck, state_count, marks, before, last_at, is_there, is_source, Layer}
 use Rattle.theory_tables.specs.Matched.{Matched}
-use Rattle.theory_tables.specs.States.{state-at}
-use Rattle.theory_tables.specs.Spots.{state_of, Spot, and_both, is_spot, move-code}
-use Rattle.theory_tables.specs.Layers.{Right}
+use Rattle.theory_tables.proofs.States.{state-at}
+use Rattle.theory_tables.proofs.Spots.{state_of, Spot, and_both, is_spot, move-code}
+use Rattle.theory_tables.proofs.Layers.{Right}
 
 -- a value guarded by a test, B if it fails, is below B only if the test holds
 pub guarded : (t : Bool) (x : ℕ) → cond t x B < B → (t ≡ true) × (cond t x B ≡ x)
 guarded true x h = (refl, refl)
 guarded false x h = absurd (omega arith)
 
+-- what the test of a source says of the cell and of the marks
+pub source-tests : (D : Deck) (R i q r : ℕ) → is_source D R i q r ≡ true
+    → (not (D.tall (last_at R i r)) ≡ true) × (eqb (marks R r) (before R q) ≡ true)
+source-tests D R i q r e =
+    let b = and_both (is_there D R i r) (not (D.tall (last_at R i r)) && eqb (marks R r) (before R q)) e in
+    and_both (not (D.tall (last_at R i r))) (eqb (marks R r) (before R q)) b.1
+
 -- the cell of a source is single, and its marks are those before
 pub source-single : (D : Deck) (R i q r : ℕ) → is_source D R i q r ≡ true
     → (D.tall (last_at R i r) ≡ false) × (eqb (marks R r) (before R q) ≡ true)
 source-single D R i q r e =
-    let b = and_both (is_there D R i r) (not (D.tall (last_at R i r)) && eqb (marks R r) (before R q)) e in
-    let c = and_both (not (D.tall (last_at R i r))) (eqb (marks R r) (before R q)) b.1 in
-    (not-true (D.tall (last_at R i r)) c.0, c.1)
+    let t = source-tests D R i q r e in
+    (not-true (D.tall (last_at R i r)) t.0, t.1)
 
 module _ {A : Type 0} (R : ℕ) (site_of : A → ℕ) (L : Line A) (D : Deck) (pose : ℕ → ℕ → A) (offered : ℕ → ℕ → Bool) where
   module _ (s : State A) (j i : ℕ) (f : Layer) (right : Right R site_of L D pose offered s j i f) (q a : ℕ)
@@ -60,4 +67,4 @@ module _ {A : Type 0} (R : ℕ) (site_of : A → ℕ) (L : Line A) (D : Deck) (p
       n.inside n.pose n.offer m in
       let z : min x B ≡ x = omega arith in
       coded-some B x (move R site_of L (state_of R pose i r b) (state_of R pose (suc i) q a))
-      (c ∙ ap (λ t. cond t (min x B) B) (source-single D R i q r e).1 ∙ z) u
+      (c ∙ ap (λ t. cond t (min x B) B) (source-tests D R i q r e).1 ∙ z) u

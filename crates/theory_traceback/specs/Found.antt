@@ -9,7 +9,7 @@ use Rattle.theory_pair.specs.Cells.{Side, row₀, row₁, PairJob, line, cell, p
 use Rattle.theory_tables.specs.Steps.{B, Deck}
 use Rattle.theory_tables.specs.Stages.{least_cost}
 use Rattle.theory_tables.specs.Matched.{Matched}
-use Rattle.theory_tables.specs.LeastCost.{cells_alike, least-cost}
+use Rattle.theory_tables.proofs.LeastCost.{cells_alike, least-cost}
 use Rattle.theory_traceback.specs.Positions.{table_same}
 use Rattle.theory_traceback.specs.Placed.{Searched}
 

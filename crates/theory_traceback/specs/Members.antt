@@ -7,7 +7,8 @@ use Rattle.theory_row.specs.Order.{place}
 use Rattle.theory_pair.specs.Pick.{pick_in, pick_pairs}
 use Rattle.theory_pair.specs.Members.{at, at_in, place_at, from-rising, rising_distinct'}
 use Rattle.theory_pair.specs.Cells.{Side, row₀, row₁, Kind, one, both, PairJob, in_row, is_tall, members, tall_cells}
-use Rattle.theory_pair.specs.Cells.{pos, tall_count, cell, cell-pos, line-talls}
+use Rattle.theory_pair.specs.Cells.{pos, tall_count, cell}
+use Rattle.theory_pair.proofs.Lines.{cell-pos, line-talls}
 
 -- a cell of both rows is tall
 both-tall : (t : Kind) → in_row row₀ t ≡ true → in_row row₁ t ≡ true → is_tall t ≡ true

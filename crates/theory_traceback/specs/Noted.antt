@@ -33,11 +33,13 @@ NotedPath P i (c ∷ p) = P i c × NotedPath P (suc i) p
 
 pub in_cells : {A : Type 0} {c : Choice A} (p : List (Choice A)) → In c p → In c.0 (cells p)
 unfolding cells
+in_cells {A = A} {c = c} [] x' = elim x' [ ]
 in_cells (b ∷ p) (here e) = here (ap (λ x. x.0) e)
 in_cells (b ∷ p) (there m) = there (in_cells p m)
 
 pub cells_in : {A : Type 0} {k : ℕ} (p : List (Choice A)) → In k (cells p) → (c : Choice A) × In c p × (c.0 ≡ k)
 unfolding cells
+cells_in {A = A} {k = k} [] x' = elim x' [ ]
 cells_in (b ∷ p) (here e) = (b, here refl, sym e)
 cells_in (b ∷ p) (there m) = let r = cells_in p m in (r.0, there r.1, r.2)
 
@@ -50,6 +52,7 @@ module _ {A : Type 0} (P : ℕ → Choice A → Type 0) where
   -- the place of a choice
   pub noted_choice : {c : Choice A} (i : ℕ) (p : List (Choice A)) → NotedPath P i p → In c p
       → (j : ℕ) × (i ≤ j) × (j < i + length p) × P j c
+  noted_choice {c = c} i [] h x'' = elim x'' [ ]
   noted_choice i (b ∷ p) h (here e) = (i, omega arith, omega arith, subst (λ x. P i x) (sym e) h.0)
   noted_choice i (b ∷ p) h (there m) =
       let r = noted_choice (suc i) p h.1 m in

@@ -6,15 +6,16 @@ use mathlib.Core.List.{List, [], ◌∷◌, Memᴰ as In}
 use Rattle.theory_pair.specs.Whole.{picks}
 use Rattle.theory_pair.specs.Members.{at}
 use Rattle.theory_pair.specs.Cells.{Side, row₀, row₁, PairJob, tall_cells}
-use Rattle.theory_pair.specs.Cells.{line, pos, tall_count, cell, cell-pos, line-talls, LegalPair, total}
-use Rattle.theory_pair.specs.Trace.{trace}
+use Rattle.theory_pair.specs.Cells.{line, pos, tall_count, cell, LegalPair, total}
+use Rattle.theory_pair.proofs.Lines.{cell-pos, line-talls}
+use Rattle.theory_pair.proofs.Trace.{trace}
 use Rattle.theory_tables.specs.Steps.{B, Deck, pose_slots}
 use Rattle.theory_tables.specs.Stages.{least_cost}
 use Rattle.theory_tables.specs.Matched.{Matched}
 use Rattle.theory_tables.specs.Back.{Traced}
 use Rattle.theory_tables.specs.Notes.{NotedBy}
 use Rattle.theory_traceback.specs.Rows.{RowWithTalls, RowTo}
-use Rattle.theory_traceback.specs.Both.{Twins, BothTo, both_to}
+use Rattle.theory_traceback.specs.Both.{BothTo, both_on}
 use Rattle.theory_traceback.specs.Whole.{WholePath, row-ended, whole_obeys}
 
 picks-same : {A : Type 0} (f g : ℕ → ℕ) (i : ℕ) (ps : List A) → ((I : ℕ) → I < i + length ps → f I ≡ g I)
@@ -88,13 +89,10 @@ module _ {A : Type 0} (R : ℕ) (site_of : A → ℕ) (J : PairJob A) (pose_of :
     paths : BothTo R site_of (tall_count J) W₀ W₁ (NotedBy w₀) (NotedBy w₁) (tall_count J) 0 0 0 least
     paths =
         let n = tall_count J in
-        let T : Twins W₀ W₁ = record {
-          poses = W.poses;
-          pose = λ I l h. ap (λ k. pose_of k l)
-              (tall-cell row₀ D₀ tallAt₀ W.first I h ∙ sym (tall-cell row₁ D₁ tallAt₁ W.second I h));
-        } in
-        both_to R site_of n W₀ W₁ (NotedBy w₀) (NotedBy w₁) T n 0 0 0 (omega arith) (λ h. absurd (omega arith))
-        (λ h. absurd (omega arith)) W.cost W.traced
+        both_on R site_of n W₀ W₁ (NotedBy w₀) (NotedBy w₁) W.poses
+        (λ I l h. ap (λ k. pose_of k l)
+        (tall-cell row₀ D₀ tallAt₀ W.first I h ∙ sym (tall-cell row₁ D₁ tallAt₁ W.second I h)))
+        n 0 0 0 (omega arith) (λ h. absurd (omega arith)) (λ h. absurd (omega arith)) W.cost W.traced
 
     path₀ : WholePath R site_of (tall_count J) W₀ w₀ (picks (pos J row₀) 0 paths.ps) paths.n₀ paths.x₀
     path₀ = row-whole row₀ D₀ tallAt₀ W.first w₀ paths.ps paths.n₀ paths.x₀ paths.size paths.first

@@ -9,18 +9,21 @@ use Prim.Native.Nat.{ℕ, suc, ◌+◌, ◌-◌, ◌≤◌, ◌<◌}
 use native.Mathlib.Omega.{arith}
 use Rattle.std.proofs.Math.ListN.{length-append}
 use Rattle.lists.specs.Compare.{Le?, low, high, le?}
-use Rattle.theory_row.specs.Window.{Good, good_start}
-use Rattle.theory_pair.specs.Segment.{Line, Choice, State, first, last, after, after-size}
-use Rattle.theory_pair.specs.Cut.{Upto, upto_begin, upto-on}
+use Rattle.theory_row.specs.Window.{Good}
+use Rattle.theory_row.proofs.Window.{good_start}
+use Rattle.theory_pair.specs.Segment.{Line, Choice, State, first, last, after}
+use Rattle.theory_pair.proofs.Segment.{after-size}
+use Rattle.theory_pair.specs.Cut.{Upto}
+use Rattle.theory_pair.proofs.Cut.{upto_begin, upto-on}
 use Rattle.theory_pair.specs.Pair.{Talls}
 use Rattle.theory_tables.specs.Steps.{B, Deck, state_count, offset, marks, last_at, Layer}
 use Rattle.theory_tables.specs.Steps.{layers, first_after, first_open, cost_to, cost_end}
 use Rattle.theory_tables.specs.Stages.{placed_with, stage_end, open_cost, stage_cost}
 use Rattle.theory_tables.specs.Matched.{Matched}
 use Rattle.theory_tables.specs.Back.{SegmentTraced, StageTraced}
-use Rattle.theory_tables.specs.States.{state-at}
-use Rattle.theory_tables.specs.Spots.{EndCost, open_end, pose-offer, end-code}
-use Rattle.theory_tables.specs.Layers.{Right, open_right, after-right}
+use Rattle.theory_tables.proofs.States.{state-at}
+use Rattle.theory_tables.proofs.Spots.{EndCost, open_end, pose-offer, end-code}
+use Rattle.theory_tables.proofs.Layers.{Right, open_right, after-right}
 use Rattle.theory_traceback.specs.Noted.{NotedAs, NotedPath, noted_append}
 use Rattle.theory_traceback.specs.Enter.{guarded}
 use Rattle.theory_traceback.specs.Segments.{Drawn, traced_spot, traced_note, trace-entry, trace-end}

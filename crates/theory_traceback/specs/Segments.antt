@@ -8,18 +8,20 @@ use mathlib.Core.List.{Memᴰ as In}
 use Rattle.std.proofs.Math.Option.{some}
 use Prim.Native.Nat.{ℕ, zero, suc, ◌+◌, ◌-◌, ◌<◌}
 use native.Mathlib.Omega.{arith}
+use Rattle.std.proofs.lemmas.Bool.{not-true}
 use Rattle.lists.specs.Compare.{Le?, low, le?, Eq?, differs, eq?}
 use Rattle.theory_row.specs.Window.{Good}
 use Rattle.theory_pair.specs.Coded.{coded-some}
-use Rattle.theory_pair.specs.Segment.{Line, Choice, State, last, move, move-met, SegmentListed}
-use Rattle.theory_pair.specs.Trace.{listed-last, listed_back}
+use Rattle.theory_pair.specs.Segment.{Line, Choice, State, last, move, SegmentListed}
+use Rattle.theory_pair.proofs.Segment.{move-met}
+use Rattle.theory_pair.proofs.Trace.{listed-last, listed_back}
 use Rattle.theory_tables.specs.Steps.{B, Deck, state_count, marks, last_at, Layer, ends, layers, cost_end}
 use Rattle.theory_tables.specs.Matched.{Matched}
 use Rattle.theory_tables.specs.Back.{Source, SegmentTraced, EndTraced}
-use Rattle.theory_tables.specs.Spots.{state_of, Spot, EndCost, pose-offer, end-code}
-use Rattle.theory_tables.specs.Layers.{Right, layers-right}
+use Rattle.theory_tables.proofs.Spots.{state_of, Spot, EndCost, pose-offer, end-code}
+use Rattle.theory_tables.proofs.Layers.{Right, layers-right}
 use Rattle.theory_traceback.specs.Noted.{NotedAs, NotedPath}
-use Rattle.theory_traceback.specs.Enter.{source-single, entry_spot, first-move, next-move}
+use Rattle.theory_traceback.specs.Enter.{source-tests, entry_spot, first-move, next-move}
 
 -- a segment whose choices P holds of, each at its place
 pub record Drawn {A : Type 0} (R : ℕ) (site_of : A → ℕ) (L : Line A) (P : ℕ → Choice A → Type 0) (s : State A) (j : ℕ)
@@ -131,7 +133,7 @@ module _ {A : Type 0} (R : ℕ) (site_of : A → ℕ) (L : Line A) (D : Deck) (p
       let p = entry-back (state_of R pose i r b) t (suc i) q a n y y' m (rw ei at k) w.0 g (rw ei at d) in
       let e₁ = o.sum in
       trace j i r b (suc n) (y' + y) c x t refl o.state o.pose (omega arith)
-      (source-single D R i q r o.source).0 w.4 (omega arith) (omega arith) p
+      (not-true (D.tall (last_at R i r)) (source-tests D R i q r o.source).0) w.4 (omega arith) (omega arith) p
 
   -- ---- the whole segment
 
@@ -156,7 +158,7 @@ module _ {A : Type 0} (R : ℕ) (site_of : A → ℕ) (L : Line A) (D : Deck) (p
       let e₁ = o.sum in
       rw ei (trace j i r b 0 y (suc j) (entry (suc j) q a) (state_of R pose (suc i) q a) refl o.state
       o.pose (omega arith)
-      (source-single D R i q r o.source).0 w.4 (omega arith) (omega arith) p)
+      (not-true (D.tall (last_at R i r)) (source-tests D R i q r o.source).0) w.4 (omega arith) (omega arith) p)
 
   -- the move to the row's end, if it has a cost
   drawn-end : (u : State A) (x : ℕ) → u.0 ≡ L.size → EndCost R site_of L u x → x < B

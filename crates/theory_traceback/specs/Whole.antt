@@ -3,7 +3,8 @@
 use Rattle.std.specs.Prelude.{◌≡◌, cond, List, ℕ, ◌/◌, ◌%◌, ◌≤◌, ◌<◌}
 use Rattle.std.proofs.Common.{◌∙◌, subst, arith, le-ltb}
 use Rattle.theory_tables.specs.Steps.{pose_slots}
-use Rattle.theory_pair.specs.Segment.{Choice, first, last, after, after-size}
+use Rattle.theory_pair.specs.Segment.{Choice, first, last, after}
+use Rattle.theory_pair.proofs.Segment.{after-size}
 use Rattle.theory_pair.specs.Trace.{Obeys}
 use Rattle.theory_tables.specs.Notes.{NotedBy}
 use Rattle.theory_traceback.specs.Words.{Places, row-places, row_obeys}

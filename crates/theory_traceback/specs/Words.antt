@@ -6,7 +6,8 @@ use mathlib.Core.List.{List, [], ◌∷◌}
 use Rattle.std.proofs.Math.Decide.{dec_lt}
 use Rattle.theory_tables.specs.Steps.{pose_slots}
 use Rattle.theory_row.specs.Window.{Run}
-use Rattle.theory_row.specs.Arranged.{Arranged, run-arranged}
+use Rattle.theory_row.specs.Arranged.{Arranged}
+use Rattle.theory_row.proofs.Arranged.{run-arranged}
 use Rattle.theory_row.specs.Choices.{cells, cells-size}
 use Rattle.theory_pair.specs.Segment.{Line, Choice, State, Goes, next, first}
 use Rattle.theory_pair.specs.Trace.{Obeys}

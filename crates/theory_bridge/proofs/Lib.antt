@@ -1,0 +1,11 @@
+pub mod Tests
+pub mod Offers
+pub mod Row
+pub mod RowRules
+pub mod RowEnds
+pub mod Legal
+pub mod Gaps
+pub mod Total
+pub mod Small
+pub mod Reached
+pub mod Answer

@@ -1,0 +1,4 @@
+pub mod Recurrence
+pub mod Covered
+pub mod Fewest
+pub mod Runs

@@ -1,0 +1,11 @@
+pub mod Pick
+pub mod Segment
+pub mod Whole
+pub mod Cut
+pub mod Pair
+pub mod Agree
+pub mod Lines
+pub mod Cells
+pub mod Loops
+pub mod Trace
+pub mod Tries

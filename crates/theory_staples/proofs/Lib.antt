@@ -1,0 +1,5 @@
+pub mod FileOrder
+pub mod JobRow
+pub mod Sites
+pub mod ByNumbers
+pub mod Most
