@@ -1,5 +1,8 @@
 // What a gap costs. Document 02, A5: "forbidden if the gap is 1, charged if it is below 4"; A7: where cells touch, and
 // against filler.
+
+#![tactic(auto)]
+
 ghost use Rattle.std.specs.Prelude.{◌≡◌};
 ghost use Rattle.definition.specs.Cost.{charge, touching, filled};
 

@@ -1,4 +1,7 @@
 // The job and a placement as values: what the reader hands on, their limits, and what is asked of one cell.
+
+#![tactic(auto)]
+
 ghost use Rattle.std.specs.Prelude.{◌≡◌, ◌≤◌, ◌<◌, min};
 ghost use Rattle.definition.specs.Rules.{apart, offer_of, choice_offered, site_offered};
 ghost use Rattle.job.specs.Value.{empty_layout, empty_cell, empty_header, empty_job, empty_pose, empty_placement};
@@ -6,14 +9,14 @@ ghost use Rattle.job.specs.Value.{header_of, cell_of, pose_of, offer_in, height_
 ghost use Rattle.job.specs.Parts.{stands_in, width_in, height_in, FirstHeight};
 
 // A width and eight heights: left P, left N, right P, right N of row 0 (or of the single cell's row), then of row 1.
-#[derive(Drop)]
+#[derive(Clone, Copy)]
 pub struct Layout {
     pub width: u32,
     pub heights: [u32; 8],
 }
 
 // Row is 0, 1, or 2 for a tall cell; `layouts` is how many of the two are there. A fixed cell must not move.
-#[derive(Drop)]
+#[derive(Clone, Copy)]
 pub struct Cell {
     pub fixed: bool,
     pub row: u32,
@@ -25,7 +28,7 @@ pub struct Cell {
 }
 
 // The weight `step` is of steps where cells touch, `filled` of those against filler.
-#[derive(Drop)]
+#[derive(Clone, Copy)]
 pub struct Header {
     pub rows: u32,
     pub sites: u32,
@@ -39,7 +42,7 @@ pub struct Header {
 }
 
 // The first `count` cells are the job's, in file order.
-#[derive(Drop)]
+#[derive(Clone, Copy)]
 pub struct Job {
     pub header: Header,
     pub count: usize,
@@ -125,7 +128,7 @@ impl Job {
 }
 
 // Where a cell stands: its left site, its layout number and its mirror mark.
-#[derive(Drop)]
+#[derive(Clone, Copy)]
 pub struct Pose {
     pub site: u32,
     pub layout: u32,
@@ -133,7 +136,7 @@ pub struct Pose {
 }
 
 // The first `count` poses are the placement's, in file order.
-#[derive(Drop)]
+#[derive(Clone, Copy)]
 pub struct Placement {
     pub count: usize,
     pub poses: [Pose; Job::MAX_CELLS],
@@ -179,7 +182,7 @@ pub fn apart_of(a: u32, b: u32) -> u32
 
 // What rules 1 and 3 leave to a cell: how far from its given site it may stand, which layout numbers it may take,
 // whether it may be mirrored.
-#[derive(Drop)]
+#[derive(Clone, Copy)]
 pub struct Offer {
     pub given: u32,
     pub limit: u32,

@@ -1,4 +1,7 @@
 // The numbers of a line as a header or a cell, and the tests that their fields are in range.
+
+#![tactic(auto)]
+
 ghost use Rattle.std.specs.Prelude.{◌≡◌, ◌&&◌, cond, ◌+◌, ◌*◌, ◌≤◌, leb, eqb, [], ◌∷◌};
 ghost use Rattle.definition.specs.Lists.{all};
 ghost use Rattle.definition.specs.Texts.{within};

@@ -23,7 +23,6 @@ use Rattle.text_scan.specs.Line.{first_line, after_line, lines-first}
 use Rattle.job_tally.specs.declared.Tally.{Tally}
 use Rattle.job_read.specs.declared.Head.{Head}
 use Rattle.job_read.specs.declared.Line.{Line}
-use Rattle.job_read.specs.declared.Reading.{Reading}
 use Rattle.job_tally.specs.Tallies.{Tallies, tally_with, tallies-more}
 use Rattle.job_read.specs.Lines.{line_at}
 use Rattle.job_read.specs.Reads.{HeadLine, CellLine, sofar, begun, reading_by, reading_of, Reads}

@@ -1,4 +1,7 @@
 // The reader: a job text is read line by line, each line once, up to the first that is refused.
+
+#![tactic(auto)]
+
 ghost use Rattle.std.specs.Prelude.{◌≡◌, ◌+◌, ◌<◌, length, drop};
 ghost use Rattle.definition.specs.Texts.{lines_of};
 ghost use Rattle.definition.specs.Job.{read_job, read_cells};

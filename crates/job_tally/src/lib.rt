@@ -1,4 +1,7 @@
 // What is kept of the cells so far, and what one more makes of it.
+
+#![tactic(auto)]
+
 ghost use Rattle.std.specs.Prelude.{◌≡◌, cond, ◌+◌, ◌<◌, max};
 ghost use Rattle.definition.specs.Job.{max_cells};
 ghost use Rattle.job_tally.specs.Tallies.{tally_with, TallyRoom, room, rises};
@@ -6,7 +9,7 @@ ghost use Rattle.job_tally.specs.Tallies.{tally_with, TallyRoom, room, rises};
 use job::Job;
 
 // The header's rows, how many cells and tall cells there are, and the largest given site of each row.
-#[derive(Drop)]
+#[derive(Clone, Copy)]
 pub struct Tally {
     pub rows: u32,
     pub count: usize,

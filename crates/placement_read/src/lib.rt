@@ -1,4 +1,7 @@
 // Reading a placement text: one line after another, as many as are due.
+
+#![tactic(auto)]
+
 ghost use Rattle.std.specs.Prelude.{◌≡◌, false, ◌+◌, ◌≤◌, length};
 ghost use Rattle.definition.specs.Job.{max_cells};
 ghost use Rattle.placement_read.specs.Reading.{PoseFrom, FaultAt, ReadAs};

@@ -1,4 +1,7 @@
 // Printing a placement: lines and the whole text, into a lent output.
+
+#![tactic(auto)]
+
 ghost use Rattle.definition.specs.Placement.{line_of, text_of};
 ghost use Rattle.text_write.specs.Put.{Room, Wrote};
 ghost use Rattle.job.specs.Value.{pose_of, placement_of};

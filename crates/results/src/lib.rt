@@ -1,12 +1,15 @@
 // The result array that a caller lends: number, line and then the fields, as far as
 // it reaches. One writer for every operation.
+
+#![tactic(auto)]
+
 ghost use Rattle.std.specs.Prelude.{◌≡◌, [], ◌∷◌, ◌^◌, ◌≤◌, ◌<◌, replicate, pos};
 ghost use Rattle.definition.specs.Outcome.{over};
 ghost use Rattle.results.specs.Fields.{max_fields, list_of, FieldsOf, More};
 ghost use Rattle.results.specs.Refusals.{no_refusal, Writable, Refusable};
 
 // A refusal and its line; number 0 refuses nothing.
-#[derive(Drop)]
+#[derive(Clone, Copy)]
 pub struct Refusal {
     pub number: u32,
     pub line: u32,

@@ -1,5 +1,8 @@
 // Lines, fields and numbers of a text, read where they stand. A line is read
 // once, from its first byte to its line feed.
+
+#![tactic(auto)]
+
 ghost use Rattle.std.specs.Prelude.{◌≡◌, false, ◌≤◌, ◌<◌, length};
 ghost use Rattle.text_scan.specs.Found.{LineTo, NumberFrom, NumbersFrom, MayLead, LedFrom};
 

@@ -1,5 +1,5 @@
 -- A call that is refused before anything is written, and one that leaves a text and its length, meet their outcomes.
-use Rattle.std.specs.Prelude.{ℕ, ◌≡◌, length, replicate, ℤ, pos}
+use Rattle.std.specs.Prelude.{ℕ, ◌≡◌, replicate, ℤ, pos}
 use Rattle.std.proofs.Math.Path.{refl, subst}
 use Rattle.std.proofs.Common.{sym, ap, ◌∙◌}
 use mathlib.Core.List.{List, [], ◌∷◌}

@@ -1,5 +1,8 @@
 // Texts written into a lent output: a byte, fixed bytes, a number, a signed number. Each writer returns the place after
 // what it wrote, and asks only that its text fits.
+
+#![tactic(auto)]
+
 ghost use Rattle.std.specs.Prelude.{◌≡◌, true, [], ◌∷◌, ◌++◌, pos, nat_abs};
 ghost use Rattle.std.specs.Int.Signed.{lt_z};
 ghost use Rattle.definition.specs.Texts.{digits, signed};

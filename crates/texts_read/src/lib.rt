@@ -1,4 +1,7 @@
 // A job text and a placement text read one after the other, for every operation that refuses as Score does.
+
+#![tactic(auto)]
+
 ghost use Rattle.texts_read.specs.Reading.{TextsRead};
 
 use job::{Job, Placement};
