@@ -1,4 +1,7 @@
 // Marks of the cells that break a rule, one word to a cell: made by rules 1 to 4 and 7, and read.
+
+#![tactic(auto)]
+
 ghost use Rattle.std.specs.Prelude.{◌≡◌, true, map, suc, max};
 ghost use Rattle.definition.specs.Lists.{from, keep};
 ghost use Rattle.definition.specs.Rules.{lowest};

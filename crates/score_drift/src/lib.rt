@@ -1,5 +1,8 @@
 // Drift: the signed sum of displacements, divided by the number of cells and rounded, halves to even on both sides of
 // zero.
+
+#![tactic(auto)]
+
 ghost use Rattle.std.specs.Prelude.{◌≡◌, ◌+◌, ◌*◌, ◌<◌, ◌^◌, ℤ, pos, neg_ℤ, nat_abs, ◌+ℤ◌, ◌-ℤ◌};
 ghost use Rattle.std.specs.Int.Signed.{lt_z};
 ghost use Rattle.definition.specs.Cost.{nearest};

@@ -1,5 +1,5 @@
 -- Sums and counts over the cells from k on, and their laws for a loop that goes down.
-use Rattle.std.specs.Prelude.{ℕ, zero, suc, ◌+◌, ◌*◌, ◌-◌, ◌≤◌, ◌≡◌, Bool, true, false, cond, List, ◌∷◌, length, eqb}
+use Rattle.std.specs.Prelude.{ℕ, zero, suc, ◌+◌, ◌*◌, ◌≤◌, ◌≡◌, Bool, true, false, cond, List, ◌∷◌, length, eqb}
 use Rattle.std.proofs.Common.{arith, mul-le-mul}
 use Rattle.definition.specs.Job.{max_weight}
 use Rattle.definition.specs.Lists.{from, keep, sum}

@@ -1,5 +1,8 @@
 // The numbers of a placement: steps, sites shifted, mirrored, changed, cost and drift, and filled steps where the job
 // text asks for them.
+
+#![tactic(auto)]
+
 ghost use Rattle.std.specs.Prelude.{◌≡◌, ◌+◌, ◌*◌, ◌≤◌, take};
 ghost use Rattle.definition.specs.Job.{max_cells};
 ghost use Rattle.definition.specs.Rules.{apart};
@@ -23,7 +26,7 @@ use score_order::order_row;
 use score_steps::{Steps, steps_in};
 use score_words::{apart_of, flatten};
 
-#[derive(Drop)]
+#[derive(Clone, Copy)]
 pub struct Numbers {
     pub steps: u32,
     pub shifted: u32,

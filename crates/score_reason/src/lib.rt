@@ -1,4 +1,7 @@
 // The reason of a placement: the first broken rule, and every cell that breaks it.
+
+#![tactic(auto)]
+
 ghost use Rattle.definition.specs.Reasons.{reason_of};
 ghost use Rattle.job.specs.Value.{job_of, placement_of};
 ghost use Rattle.job.specs.Ready.{Ready};

@@ -1,4 +1,7 @@
 // Rules 5, 6 and 8, which are judged along a row: the cells that break them are marked, row after row.
+
+#![tactic(auto)]
+
 ghost use Rattle.std.specs.Prelude.{◌≡◌, drop};
 ghost use Rattle.definition.specs.Job.{max_cells};
 ghost use Rattle.score_order.specs.Words.{cells_in, order_in, WordsAt};

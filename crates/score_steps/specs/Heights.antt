@@ -1,11 +1,10 @@
--- The steps between two placed cells, from the cells and their poses alone. It is the definition's: see `differing-of`.
-use Rattle.std.specs.Prelude.{ℕ, ◌+◌, ◌≤◌, ◌≡◌, refl, Bool, true, false, cond, [], ◌∷◌, eqb}
+-- The steps between two placed cells, from the cells and their poses alone. It is the definition's: see
+-- `differing-of` of proofs/Heights.
+use Rattle.std.specs.Prelude.{ℕ, ◌+◌, ◌≤◌, ◌≡◌, Bool, true, false, cond, [], ◌∷◌, eqb}
 use Rattle.std.proofs.Common.{arith}
 use Rattle.definition.specs.Lists.{sum}
 use Rattle.definition.specs.Job as paper
 use Rattle.definition.specs.Placement as text
-use Rattle.definition.specs.Rules.{cell_at, pose_at}
-use Rattle.definition.specs.Cost.{differing}
 use Rattle.job.specs.Value.{height_count}
 use Rattle.job.specs.Parts.{height_in, first_of}
 
@@ -33,11 +32,6 @@ differing_of c p d q row =
     (height_in c p.layout (right_of c.row p.mark row + type))
     (height_in d q.layout (left_of d.row q.mark row + type)))
     (0 ∷ 1 ∷ [])
-
-pub differing-of : (j : paper.Job) (P : text.Placement) (row a b : ℕ)
-    → differing j P row a b ≡ differing_of (cell_at j a) (pose_at P a) (cell_at j b) (pose_at P b) row
-unfolding differing differing_of
-differing-of j P row a b = refl
 
 -- ---- what is answered
 

@@ -1,26 +1,24 @@
 -- The steps of two neighbours, from the words, the cells and the poses; their sum over a list, from the right; and what
 -- the functions that count them are given.
-use Rattle.std.specs.Prelude.{ℕ, zero, suc, ◌+◌, ◌*◌, ◌-◌, ◌≤◌, ◌<◌, ◌≡◌, refl, Bool, true, false, cond, List, length, get_or, drop, eqb}
-use Rattle.std.proofs.Common.{sym, ap₂, ◌∙◌, arith, add-zero, drop-cons}
+use Rattle.std.specs.Prelude.{ℕ, zero, suc, ◌+◌, ◌*◌, ◌≤◌, ◌<◌, ◌≡◌, refl, Bool, true, false, cond, List, length, get_or, drop, eqb}
+use Rattle.std.proofs.Common.{arith, add-zero, drop-cons}
 use Rattle.lists.specs.Tails.{tail_cons, tail-last}
 use Rattle.definition.specs.Job.{max_cells}
 use Rattle.definition.specs.Lists.{sum_next}
 use Rattle.definition.specs.Job as paper
 use Rattle.definition.specs.Placement as text
-use Rattle.definition.specs.Rules.{cell_at, pose_at, gap}
-use Rattle.definition.specs.Cost.{charge, touching, filled, differing, steps_at}
+use Rattle.definition.specs.Rules.{gap}
+use Rattle.definition.specs.Cost.{charge, touching, filled}
 use Rattle.definition_laws.specs.Gaps.{charge-most}
 use Rattle.job.specs.declared.Job.{Job}
 use Rattle.job.specs.declared.Placement.{Placement}
-use Rattle.job.specs.Value as value
-use Rattle.job.specs.Value.{cell_of, pose_of, job_of, placement_of}
+use Rattle.job.specs.Value.{job_of, placement_of}
 use Rattle.job.specs.Parts.{height_in}
-use Rattle.job.specs.Cells.{cell-there, pose-there}
-use Rattle.score_order.specs.Words.{word_count, site_in, end_in, RowRoom}
+use Rattle.score_order.specs.Words.{word_count, RowRoom}
 use Rattle.score_order.specs.Below.{Below}
 use Rattle.score_words.specs.Flat.{Flat}
 use Rattle.score_steps.specs.declared.Steps.{Steps}
-use Rattle.score_steps.specs.Heights.{left_of, right_of, unlike, differing_of, differing-of}
+use Rattle.score_steps.specs.Heights.{left_of, right_of, unlike, differing_of}
 
 -- ---- what is given
 
@@ -78,11 +76,6 @@ module _ (f : ℕ → ℕ → ℕ) (l : List ℕ) where
 
 -- ---- the steps of two neighbours
 
-steps-at : (f : ℕ → ℕ) (j : paper.Job) (P : text.Placement) (row a b x y : ℕ) → x ≡ f (gap j P a b)
-    → y ≡ differing j P row a b → x * y ≡ steps_at f j P row a b
-unfolding steps_at
-steps-at f j P row a b x y e g = ap₂ ◌*◌ e g
-
 -- a gap charges one of the two, and at most 1
 pub product_small : (gap y : ℕ) → y ≤ 2 → touching gap * y + filled gap * y ≤ 2
 product_small gap y h = go (eqb gap 0) (charge gap) (charge-most gap)
@@ -94,32 +87,3 @@ product_small gap y h = go (eqb gap 0) (charge gap) (charge-most gap)
     go false zero g = omega arith
     go false (suc zero) g = omega arith
     go false (suc (suc c)) g = absurd (omega arith)
-
--- from the words, the cells and the poses: the definition's steps
-module _ (job : Job) (P : Placement) (words : List ℕ) (row a b r : ℕ) where
-  abbrev differ : ℕ
-  differ =
-      differing_of
-      (cell_of (value.cell_at job a))
-      (pose_of (value.pose_at P a))
-      (cell_of (value.cell_at job b))
-      (pose_of (value.pose_at P b))
-      row
-
-  pub steps-value : Flat (job_of job) (placement_of P) job.count words → P.count ≡ job.count
-      → a < job.count → b < job.count
-      → (charged : ℕ → ℕ) → r ≡ charged (site_in words b - end_in words a) * differ
-      → r ≡ steps_at charged (job_of job) (placement_of P) row a b
-  steps-value w n g h charged e =
-      let f : paper.Cell → text.Pose → paper.Cell → text.Pose → ℕ = λ c p d q. differing_of c p d q row in
-      let left = f (cell_at (job_of job) a) (pose_at (placement_of P) a) in
-      let d =
-      ap₂
-      (λ c p. f c p (cell_of (value.cell_at job b)) (pose_of (value.pose_at P b)))
-      (sym (cell-there job a g))
-      (sym (pose-there P a (omega arith)))
-      ∙ ap₂ left (sym (cell-there job b h)) (sym (pose-there P b (omega arith)))
-      ∙ sym (differing-of (job_of job) (placement_of P) row a b) in
-      e
-      ∙ steps-at charged (job_of job) (placement_of P) row a b _ _
-      (ap₂ (λ x y. charged (x - y)) (w.shows b).site (w.shows a).end) d

@@ -1,5 +1,8 @@
 // Steps: the charge of a gap, the differing heights of neighbours, and their sum over a row; those where cells touch
 // and filled ones apart.
+
+#![tactic(auto)]
+
 ghost use Rattle.std.specs.Prelude.{◌≡◌, ◌-◌, ◌≤◌, drop};
 ghost use Rattle.definition.specs.Lists.{sum_next};
 ghost use Rattle.definition.specs.Cost.{steps_at};
@@ -56,7 +59,7 @@ fn differing_heights(a: Cell, p: Pose, b: Cell, q: Pose, row: u32) -> u32
 }
 
 // Those where cells touch, and those that are filled.
-#[derive(Drop)]
+#[derive(Clone, Copy)]
 pub struct Steps {
     pub touching: u32,
     pub filled: u32,

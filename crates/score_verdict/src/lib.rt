@@ -1,4 +1,7 @@
 // The verdict on a placement: the first broken rule and its lowest cell. Each rule marks the cells that break it.
+
+#![tactic(auto)]
+
 ghost use Rattle.definition.specs.Rules.{verdict};
 ghost use Rattle.job.specs.Value.{job_of, placement_of};
 ghost use Rattle.job.specs.Ready.{Ready};
@@ -24,7 +27,7 @@ pub struct Verdict {
 }
 
 // How many cells the job has, its limits, and where the order of each row starts in its array.
-#[derive(Drop)]
+#[derive(Clone, Copy)]
 struct Limits {
     cells: usize,
     sites: u32,

@@ -1,4 +1,7 @@
 // A job and a placement laid out flat: for each cell four words, its site, its end, its row and its given site.
+
+#![tactic(auto)]
+
 ghost use Rattle.std.specs.Prelude.{◌≡◌, ◌-◌};
 ghost use Rattle.definition.specs.Rules.{apart};
 ghost use Rattle.job.specs.Value.{job_of, placement_of};
