@@ -3,7 +3,8 @@ use Rattle.std.specs.Prelude.{ℕ, ◌/◌, ◌≤◌, ◌<◌, ◌≡◌, refl,
 use Rattle.std.proofs.Common.{arith}
 use Rattle.definition.specs.Job.{max_cells}
 use Rattle.theory_tables.specs.Steps.{B, pose_slots}
-use Rattle.theory_traceback.specs.Decks.{DecksTraced, places₀, places₁, talls-agree}
+use Rattle.theory_traceback.specs.Decks.{DecksTraced}
+use Rattle.theory_traceback.proofs.Decks.{places₀, places₁, talls-agree}
 use Rattle.search_store.specs.Map.{max_kept}
 use Rattle.search_row.specs.declared.Sizes.{Sizes}
 use Rattle.search_row.specs.Words.{pos_in}
@@ -24,7 +25,7 @@ module _ {row₀ row₁ : List ℕ} {z : Sizes} {n₁ : ℕ} (r : RowsAsked row�
     first = standing r.first;
     second = standing r.second;
     poses = refl;
-    small = omega (arith, r.first.given.ground.few);
+    small = omega (arith, r.first.given.grounded.few);
     cost = h;
     traced = t;
   }
@@ -39,7 +40,7 @@ module _ {row₀ row₁ : List ℕ} {z : Sizes} {n₁ : ℕ} (r : RowsAsked row�
     pub first-given : {out : List ℕ} → max_kept < length path₀ → max_cells ≤ length out
         → ScatterGiven row₀ path₀ out z.cells
     first-given h l =
-        let g = r.first.given.ground in
+        let g = r.first.given.grounded in
         record {
           words = g.words;
           size = g.size;
@@ -52,7 +53,7 @@ module _ {row₀ row₁ : List ℕ} {z : Sizes} {n₁ : ℕ} (r : RowsAsked row�
 
     pub second-given : {out : List ℕ} → max_kept < length path₁ → max_cells ≤ length out → ScatterGiven row₁ path₁ out n₁
     second-given h l =
-        let g = r.second.given.ground in
+        let g = r.second.given.grounded in
         record {
           words = g.words;
           size = g.size;

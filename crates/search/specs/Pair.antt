@@ -3,11 +3,12 @@
 use Rattle.std.specs.Prelude.{ℕ, ◌/◌, ◌<◌, ◌≡◌, refl, Bool, true, List, length, get_or}
 use Rattle.std.proofs.Common.{sym, ap, ◌∙◌, arith}
 use Rattle.definition.specs.Job.{max_cells}
-use Rattle.theory_pair.specs.Cells.{Side, row₀, row₁, PairJob, is_tall, members, cell, tall_count, line-talls}
+use Rattle.theory_pair.specs.Cells.{Side, row₀, row₁, PairJob, is_tall, members, cell, tall_count}
+use Rattle.theory_pair.proofs.Lines.{line-talls}
 use Rattle.theory_pair.specs.Cells.{LegalPair, total}
 use Rattle.theory_tables.specs.Steps.{Deck, pose_slots}
 use Rattle.theory_tables.specs.Stages.{least_cost}
-use Rattle.theory_traceback.specs.Decks.{places₀, places₁}
+use Rattle.theory_traceback.proofs.Decks.{places₀, places₁}
 use Rattle.theory_traceback.specs.Members.{cell_below, cells-apart, shared-tall}
 use Rattle.theory_traceback.specs.Placed.{Searched, TracedBack, placed-legal}
 use Rattle.theory_traceback.specs.Found.{Wide, least_pair, PairFound, tables-least}

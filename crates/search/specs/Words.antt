@@ -18,7 +18,7 @@ words_for talls count = page_at (wide talls talls count)
 -- a table has at most twelve states
 pub few-pages : {row : List ℕ} {z : Sizes} → RowGiven row z → wide z.talls z.talls z.states ≤ 12
 few-pages {z = z} g =
-    wide_low z.talls z.talls z.states 12 (omega arith) (omega (arith, g.ground.all, g.ground.coded.few))
+    wide_low z.talls z.talls z.states 12 (omega arith) (omega (arith, g.grounded.all, g.grounded.coded.few))
 
 -- the first n words of a store, lent for clearing and left as `part`, then lent again
 module _ (n : ℕ) (store : List ℕ) {part : List ℕ} (h : n ≤ length store)

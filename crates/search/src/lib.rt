@@ -1,4 +1,7 @@
 // The search of two rows of words: the stages, and the cheapest way through them traced back.
+
+#![tactic(auto)]
+
 ghost use Rattle.std.specs.Prelude.{◌≡◌, ◌≤◌};
 ghost use Rattle.search_stage.specs.Stage.{wide, StagesGiven};
 ghost use Rattle.search.specs.Words.{words_for};

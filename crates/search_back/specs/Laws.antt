@@ -19,7 +19,7 @@ use Rattle.search_stage.specs.Stage.{wide, StagesGiven}
 use Rattle.search_stage.specs.Laws.{wide-all, wide-last, given-states, given-wide}
 use Rattle.search_back_segment.specs.Traces.{word_at}
 use Rattle.search_back_stage.specs.Rows.{start_cells, start_layer, start_end, end_place, Stage, StageNoted}
-use Rattle.search_back_stage.specs.Laws.{end-tall, end-last}
+use Rattle.search_back_stage.proofs.Laws.{end-tall, end-last}
 use Rattle.search_back.specs.Trace.{PointerRoom, Ways, LegGiven, Trace, LegDone, TraceDone}
 
 -- ---- one row
@@ -113,7 +113,7 @@ module _ {row₀ row₁ st path₀ path₁ : List ℕ} {z : Sizes} {n₁ I q₀ 
       let v = g.both.given in
       let p = given-states v in
       let w = given-wide v (suc I) in
-      let n = v.given₀.ground.all in
+      let n = v.given₀.grounded.all in
       let e : wide z.talls (suc I) (state_count z.reordering) ≡ wide z.talls (suc I) z.states =
       ap (wide z.talls (suc I)) (sym n) in
       let c = g.case in
@@ -213,7 +213,7 @@ module _ {row₀ row₁ st path₀ path₁ : List ℕ} {z : Sizes} {n₁ I q₀ 
       (case_state₀ code < z.states → case_state₁ code < z.states → case_pose code < z.poses → ⊥)
       → TraceDone D₀ D₁ z.reordering z.talls (pos_in row₀) (pos_in row₁) I q₀ q₁ a st st path₀ path₀ path₁ path₁
   stray_done z =
-      let all = g.both.given.given₀.ground.all in
+      let all = g.both.given.given₀.grounded.all in
       done_at (suc J) e record {
         frame = frame-refl 0 pages_from st;
         low = g.both.given.low;
@@ -226,7 +226,7 @@ module _ {row₀ row₁ st path₀ path₁ : List ℕ} {z : Sizes} {n₁ I q₀ 
       (inl' : case_pose code < z.poses) where
     pub back_leg : LegGiven row₀ row₁ st path₀ path₁ z n₁ I (case_state₀ code) (case_state₁ code) (case_pose code) q₀ q₁ a
     back_leg =
-        let all = g.both.given.given₀.ground.all in
+        let all = g.both.given.given₀.grounded.all in
         record {
           both = g.both;
           stage = g.stage;
@@ -243,7 +243,7 @@ module _ {row₀ row₁ st path₀ path₁ : List ℕ} {z : Sizes} {n₁ I q₀ 
       pub back-rest : Trace row₀ row₁ mid mid₀ mid₁ z n₁ J (case_state₀ code) (case_state₁ code) (case_pose code)
       back-rest =
           let h : J < z.talls = omega (arith, g.stage) in
-          let all = g.both.given.given₀.ground.all in
+          let all = g.both.given.given₀.grounded.all in
           record {
             both = record {
               given = record {

@@ -1,4 +1,7 @@
 // The trace: from the last case table's one case back over the back pointers, both rows traced stage by stage.
+
+#![tactic(auto)]
+
 ghost use Rattle.std.specs.Prelude.{◌≡◌, suc, ◌+◌, ◌<◌};
 ghost use Rattle.search_join.specs.Tables.{pointers_in};
 ghost use Rattle.search_back.specs.Trace.{PointerRoom, LegGiven, Trace, RowsLeg, RowsTrace};

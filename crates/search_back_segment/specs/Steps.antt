@@ -207,7 +207,7 @@ end-trace {st = st} {z = z} {i = i} {q = q} {b = b} h w l c =
       back = w.back;
       room = w.room;
       some = w.some;
-      last = omega (arith, w.back.ground.size);
+      last = omega (arith, w.back.grounded.size);
       state = l.state;
       pose = l.pose;
       first = w.first;

@@ -54,7 +54,7 @@ pub record EntrySource (D : Deck) (R : ℕ) (st : List ℕ) (i q a p b : ℕ) : 
 
 -- the kept layers of a row
 pub record Back (row st : List ℕ) (z : Sizes) : Type 0 where
-  pub ground : Ground row z
+  pub grounded : Ground row z
   pub low : Low st
   pub long : pages_from ≤ length st
 

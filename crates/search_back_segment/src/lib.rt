@@ -1,5 +1,8 @@
 // The traceback through the kept layers of one segment: each entry's source is found again
 // by its cost, and each cell passed is noted.
+
+#![tactic(auto)]
+
 ghost use Rattle.std.specs.Prelude.{◌≡◌, ◌+◌, ◌*◌, ◌/◌, ◌%◌, set};
 ghost use Rattle.theory_tables.specs.Steps.{last_at, pose_slots};
 ghost use Rattle.search_row.specs.Words.{deck_in};

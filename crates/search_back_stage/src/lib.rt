@@ -1,5 +1,8 @@
 // One stage of the traceback in one row: its first layer is made once more from its one start, its layers are
 // kept, and the traceback goes back through them.
+
+#![tactic(auto)]
+
 ghost use Rattle.search_row.specs.Words.{deck_in, pos_in};
 ghost use Rattle.std.specs.Prelude.{◌≡◌};
 ghost use Rattle.search_back_stage.specs.Rows.{start_cells, StartState, StartRoom, Stage, FirstKept, StageNoted};

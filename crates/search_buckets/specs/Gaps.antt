@@ -24,6 +24,7 @@ pub data Toll (x y : ℕ) (pay : ℕ → ℕ) : ℕ → Type 0 where
 
 -- a gap at which neighbours pay is below 4
 pub paying-low : (gap : ℕ) → In gap paying → gap < 4
+paying-low gap (there (there (there x12))) = elim x12 [ ]
 paying-low gap (here e) = omega arith
 paying-low gap (there (here e)) = omega arith
 paying-low gap (there (there (here e))) = omega arith
@@ -46,6 +47,7 @@ toll? x y pay = left (ltb x y) (le? (suc x) y)
     one true (same e) h = barred (omega arith) λ gap i f. no1 gap i (omega arith)
       where
         no1 : (gap : ℕ) → In gap paying → gap ≢ forbidden_gap
+        no1 gap (there (there (there x16))) = elim x16 [ ]
         no1 gap (here e) = λ f. omega arith
         no1 gap (there (here e)) = λ f. omega arith
         no1 gap (there (there (here e))) = λ f. omega arith

@@ -1,6 +1,9 @@
 // The buckets in which the sources of a target are gathered by their end site: which row a source counts in, what it
 // pays in each bucket, and which buckets are needed. Bucket 0 has the sources by themselves, buckets 1 to 4 with what
 // they pay at gap 0 to each variant of the target, buckets 5 to 8 with what they pay at the other gaps that pay.
+
+#![tactic(auto)]
+
 ghost use Rattle.std.specs.Prelude.{◌≡◌, ◌+◌, ◌*◌, ◌≤◌};
 ghost use Rattle.search_store.specs.Map.{max_poses};
 ghost use Rattle.search_row.specs.Words.{CellAt};
@@ -12,7 +15,7 @@ pub const PAY_WORDS: usize = 36;
 
 // A state that is a source of a target: where its words begin, the positions of its cell, on the left, and of the
 // target's, and how many buckets the target needs.
-#[derive(Drop)]
+#[derive(Clone, Copy)]
 pub struct Source {
     pub at: usize,
     pub left: usize,

@@ -21,7 +21,7 @@ pub record PosesGiven (row st : List ℕ) (at k poses : ℕ) : Type 0 where
 
 -- a row, and a dense block at `at`
 pub record LayerGiven (row st : List ℕ) (z : Sizes) (at : ℕ) : Type 0 where
-  pub ground : Ground row z
+  pub grounded : Ground row z
   pub low : Low st
   pub room : at + kept_layer ≤ length st
 

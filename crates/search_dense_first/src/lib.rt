@@ -1,4 +1,7 @@
 // The first layer of a segment with one start, dense: state q has POSE_SLOTS words of a block, one for each pose.
+
+#![tactic(auto)]
+
 ghost use Rattle.std.specs.Prelude.{◌≡◌, ◌+◌, ◌*◌, ◌≤◌};
 ghost use Rattle.theory_row.specs.Window.{start};
 ghost use Rattle.theory_tables.specs.Steps.{marks, first_after, first_open, pose_slots};
@@ -11,7 +14,7 @@ ghost use Rattle.search_dense_first.specs.Begun.{PosesGiven, LayerGiven, DenseSt
 use search_row::Sizes;
 
 // A layer in its block: how many cells are placed before it, and where the block begins.
-#[derive(Drop)]
+#[derive(Clone, Copy)]
 struct Block {
     cells: usize,
     at: usize,

@@ -16,7 +16,7 @@ pub record KeptLayers (D : Deck) (R : ℕ) (f : Layer) (i end : ℕ) (st : List 
 
 -- what keeping a segment is given: its first layer has i cells
 pub record Segment (row st : List ℕ) (z : Sizes) (i end : ℕ) : Type 0 where
-  pub ground : Ground row z
+  pub grounded : Ground row z
   pub low : Low st
   pub long : pages_from ≤ length st
   pub some : 0 < i

@@ -160,7 +160,7 @@ pub record ToPut (near apart far row st : List ℕ) (to k poses : ℕ) : Type 0 
 
 -- a layer with i cells in the block at `at`, and room for the next
 pub record ThinGiven (row st : List ℕ) (z : Sizes) (i at : ℕ) : Type 0 where
-  pub ground : Ground row z
+  pub grounded : Ground row z
   pub low : Low st
   pub early : i ≤ max_kept + 1
   pub room : at + 2 * kept_layer ≤ length st

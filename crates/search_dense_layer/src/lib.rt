@@ -1,6 +1,9 @@
 // Layers of one lane, dense: state q has POSE_SLOTS words of a block, one for each pose. The four variants of a
 // site stand side by side, so that four are done at a time. The sources of a target are gathered by their
 // end sites in the buckets of crate buckets.
+
+#![tactic(auto)]
+
 ghost use Rattle.std.specs.Prelude.{◌≡◌, suc, ◌+◌, ◌*◌, ◌/◌};
 ghost use Rattle.theory_tables.specs.Steps.{last_at};
 ghost use Rattle.search_lanes.specs.Lanes.{Lowered};
@@ -21,14 +24,14 @@ use search_row::Sizes;
 const VARIANT_WORDS: usize = 76;
 
 // A layer in its block: how many cells it has, and where the block begins.
-#[derive(Drop)]
+#[derive(Clone, Copy)]
 struct Block {
     cells: usize,
     at: usize,
 }
 
 // A state of the next layer, whose sources are sought in this one.
-#[derive(Drop)]
+#[derive(Clone, Copy)]
 struct Sought {
     cells: usize,
     at: usize,

@@ -35,12 +35,12 @@ pub record OpenRoom (st : List ℕ) (R poses count costs : ℕ) : Type 0 where
 
 -- a row, and room for the costs to its end
 pub record OpenToEnd (row st : List ℕ) (z : Sizes) (costs : ℕ) : Type 0 where
-  pub ground : Ground row z
+  pub grounded : Ground row z
   pub room : OpenRoom st z.reordering z.poses z.states costs
 
 -- a row, and room for the costs to its tall cell at position `tall`
 pub record OpenToTall (row st : List ℕ) (z : Sizes) (tall costs : ℕ) : Type 0 where
-  pub ground : Ground row z
+  pub grounded : Ground row z
   pub room : OpenRoom st z.reordering z.poses z.states costs
   pub cell : tall < max_cells
 

@@ -1,4 +1,7 @@
 // The costs from a row's start: its layers run dense, in the place of the kept layers.
+
+#![tactic(auto)]
+
 ghost use Rattle.std.specs.Prelude.{◌≡◌, ◌+◌, ◌*◌};
 ghost use Rattle.theory_tables.specs.Steps.{pose_slots};
 ghost use Rattle.search_buckets.specs.Ends.{least_poses, least_state, least_states};

@@ -7,11 +7,11 @@ use Rattle.definition.specs.Outcome.{store_needed}
 use Rattle.definition_laws.specs.Sound.{Sound}
 use Rattle.theory_pair.specs.Cells.{Side, row₀, row₁, cell, line}
 use Rattle.theory_tables.specs.Steps.{state_count}
-use Rattle.theory_tables.specs.States.{counted}
+use Rattle.theory_tables.proofs.States.{counted}
 use Rattle.theory_tables.specs.Matched.{Matched}
 use Rattle.theory_traceback.specs.Found.{PairFound}
 use Rattle.theory_bridge.specs.Paired.{site_of, pose_numbers, pose_number, is_offered, pair_job}
-use Rattle.theory_bridge.specs.Offers.{wide_positive}
+use Rattle.theory_bridge.proofs.Offers.{wide_positive}
 use Rattle.theory_claim.specs.Claim.{reorder, claim_none, claim_some, claim_stated}
 use Rattle.search_row.specs.declared.Sizes.{Sizes}
 use Rattle.search_row.specs.Words.{deck_of, with_cells}

@@ -1,4 +1,7 @@
 // The search of a job: its rows as words, and the search of these.
+
+#![tactic(auto)]
+
 ghost use Rattle.std.specs.Prelude.{◌≡◌};
 ghost use Rattle.definition.specs.Outcome.{store_for};
 ghost use Rattle.job.specs.Value.{job_of};

@@ -1,4 +1,7 @@
 // A stage joined: the costs of both rows on top of one case table make the next, with the source of each case.
+
+#![tactic(auto)]
+
 mod sums;
 
 ghost use Rattle.std.specs.Prelude.{◌≡◌, ◌+◌};
@@ -22,7 +25,7 @@ pub struct Best {
 }
 
 // A case: its states in row 0 and row 1, and its pose.
-#[derive(Drop)]
+#[derive(Clone, Copy)]
 pub struct Case {
     pub q0: usize,
     pub q1: usize,

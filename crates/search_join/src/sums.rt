@@ -17,7 +17,7 @@ pub const SUM_FLAGS: usize = 768;
 pub const COMMON_WORDS: usize = 144;
 
 // Case table i, with so many start states and lanes.
-#[derive(Drop)]
+#[derive(Clone, Copy)]
 pub struct Join {
     pub i: usize,
     pub starts: usize,

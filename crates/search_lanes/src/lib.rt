@@ -1,4 +1,7 @@
 // Loops over the lanes of a row: a row is MAX_LANES words, one for each start of a segment, all at once.
+
+#![tactic(auto)]
+
 ghost use Rattle.std.specs.Prelude.{◌≡◌, ℕ, ◌+◌, ◌*◌, ◌≤◌, ◌<◌, min, length, get_or, replicate};
 ghost use Rattle.search_lanes.specs.Lanes.{LaneRow, Lowered, charged, with_own};
 ghost use Rattle.search_lanes.specs.Lanes.{always, words_from, always_rows};

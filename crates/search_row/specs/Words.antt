@@ -169,7 +169,7 @@ pub record Ground (row : List ℕ) (z : Sizes) : Type 0 where
 
 -- a row: its words, and its tall cells' positions
 pub record RowGiven (row : List ℕ) (z : Sizes) : Type 0 where
-  pub ground : Ground row z
+  pub grounded : Ground row z
   pub few : z.talls ≤ max_tall
   pub inside : (I : ℕ) → I < z.talls → pos_in row I < z.cells
 
@@ -183,7 +183,7 @@ pub record StateKnown (row : List ℕ) (R i q : ℕ) : Type 0 where
 
 -- state q with one cell more than i, whose sources are looked for
 pub record TargetGiven (row : List ℕ) (z : Sizes) (i q : ℕ) : Type 0 where
-  pub ground : Ground row z
+  pub grounded : Ground row z
   pub state : q < z.states
   pub early : i ≤ 100
 

@@ -1,5 +1,8 @@
 // Reading a row's words: the cells, the states and the tall cells' positions, then sources and tolls.
 // The words' places stand in specs/Words.antt.
+
+#![tactic(auto)]
+
 ghost use Rattle.std.specs.Prelude.{◌≡◌, cond, ◌<◌, length, get_or, eqb};
 ghost use Rattle.theory_tables.specs.Steps.{last_at, is_source};
 ghost use Rattle.theory_tables.specs.Stages.{placed_with};
@@ -49,7 +52,7 @@ pub const USED: usize = 89;
 
 // The sizes of a search in one row: how many cells, poses of a cell, places a cell
 // may move, states and tall cells there are.
-#[derive(Drop)]
+#[derive(Clone, Copy)]
 pub struct Sizes {
     pub cells: usize,
     pub poses: usize,

@@ -18,17 +18,16 @@ use Rattle.theory_pair.specs.Cells.{Side, row₀, row₁, members, cell, line}
 use Rattle.theory_tables.specs.Matched.{Matched}
 use Rattle.theory_bridge.specs.Paired.{row_of, site_of, pose_numbers, pose_number, is_offered, pair_job}
 use Rattle.theory_bridge.specs.Words.{keep-pick}
-use Rattle.theory_bridge.specs.Row.{cells_same, members-same}
+use Rattle.theory_bridge.proofs.Row.{cells_same, members-same}
 use Rattle.search_store.specs.Map.{max_poses}
 use Rattle.search_lanes.specs.Lanes.{always}
 use Rattle.search_lanes.specs.Store.{Low, Written}
-use Rattle.search_row.specs.Words.{word_of, deck_of, RowWords, filled_word, cell_words, number_word}
-use Rattle.search_row.specs.Words.{row_length, states_from, talls_from, touching_word, words_used}
-use Rattle.search_states.specs.Rest.{rest, rest-none, rest_more, rest_all, next, done}
+use Rattle.search_row.specs.Words.{word_of, deck_of, RowWords, cell_words, number_word}
+use Rattle.search_row.specs.Words.{row_length, states_from, talls_from, words_used}
+use Rattle.search_states.specs.Rest.{rest, rest_more, rest_all, next}
 use Rattle.search_row_fill.specs.Words.{alone, cell_word}
-use Rattle.search_row_fill.specs.Cell.{word-alone, CellWords, cell-words}
+use Rattle.search_row_fill.specs.Cell.{word-alone}
 use Rattle.search_row_fill.specs.Values.{one, Ranged, ranged}
-use Rattle.search_row_fill.specs.Matched.{RowCells, matched, few-poses}
 
 -- the side of a row number
 abbrev pub side_of : ℕ → Side
@@ -175,47 +174,6 @@ pub record Lined (j : Job) (s : Side) (l : List ℕ) (n : ℕ) : Type 0 where
   pub size : n ≤ max_cells
   pub few : pose_numbers j ≤ max_poses
   pub number : (p : ℕ) → p < n → word_of l p number_word ≡ cell (pair_job j) s p
-
-module _ (j : Job) (sound : Sound j) (s : Side) (l : List ℕ) (n k : ℕ) (f : RowFilled j s l n k)
-    (e : k ≡ length j.cells) where
-  row_words : RowCells j s l n
-  row_words = record {
-    size =
-        done (members (pair_job j) s) n f.upto (f.left ∙ rest-none (stands j s) k (length j.cells) (omega arith));
-    cells = cells;
-    words = record {
-      long = f.long;
-      word = f.low.word;
-      weight = λ p. weight p (dec_lt p n);
-      filled = λ p. filled p (dec_lt p n);
-    };
-  }
-    where
-      cells : (p : ℕ) → p < n → CellWords j (row_of s) (cell (pair_job j) s p) (word_of l p)
-      cells p h = cell-words j (row_of s) (cell (pair_job j) s p) (word_of l p) (f.words p h)
-
-      -- past the row's cells there is 0, and past all cells no large word
-      beyond : (p i : ℕ) → (p < n → ⊥) → (touching_word ≤ i) × (i < cell_words) → Dec (p < max_cells)
-          → word_of l p i ≤ 131072
-      beyond p i h b (yes g) = omega (arith, f.zero (p * cell_words + i) (omega arith) (omega arith))
-      beyond p i h b (no g) = omega (arith, f.upper (p * cell_words + i) (omega arith))
-
-      weight : (p : ℕ) → Dec (p < n) → word_of l p touching_word ≤ 131072
-      weight p (yes h) = let w = (cells p h).weight in let b = sound.header.step in omega arith
-      weight p (no h) = beyond p touching_word h (omega arith, omega arith) (dec_lt p max_cells)
-
-      filled : (p : ℕ) → Dec (p < n) → word_of l p filled_word ≤ 131072
-      filled p (yes h) = let w = (cells p h).filled in let b = sound.header.step in omega arith
-      filled p (no h) = beyond p filled_word h (omega arith, omega arith) (dec_lt p max_cells)
-
-  pub lined : Lined j s l n
-  lined = record {
-    matched = matched j sound s l n row_words;
-    words = row_words.words;
-    size = let a = sound.few in let b = f.below in omega arith;
-    few = few-poses j sound s l n row_words;
-    number = λ p h. (row_words.cells p h).number;
-  }
 
 -- ---- a job as a value
 

@@ -16,20 +16,20 @@ use Rattle.definition.specs.Cost.{charge}
 use Rattle.definition_laws.specs.Sound.{Sound}
 use Rattle.definition_laws.specs.Offers.{limit-within}
 use Rattle.lists.specs.Compare.{Eq?, same, differs, eq?, Le?, high, le?}
-use Rattle.theory_pair.specs.Cells.{Side, row₀, row₁, is_tall, own_in, members, cell, line}
+use Rattle.theory_pair.specs.Cells.{Side, row₀, row₁, own_in, members, cell, line}
 use Rattle.theory_pair.specs.Members.{at_in}
 use Rattle.theory_tables.specs.Steps.{B}
 use Rattle.theory_tables.specs.Matched.{Matched}
 use Rattle.theory_bridge.specs.Paired.{kind_of, row_of, site_of, pose_numbers, pose_number, is_offered}
 use Rattle.theory_bridge.specs.Paired.{offers_of, width_of, own_of, differing_of, weight_at, pay_of, end_allowed, pair_job}
-use Rattle.theory_bridge.specs.Row.{is_tall-same, member}
+use Rattle.theory_bridge.proofs.Row.{is_tall-same, member}
 use Rattle.search_store.specs.Map.{max_poses}
 use Rattle.search_row.specs.Words.{word_of, site_in, end_in, differ_in, weight_in, toll_at, toll_in}
 use Rattle.search_row.specs.Words.{front_in, back_in, end_toll, deck_of, RowWords}
 use Rattle.search_row.specs.Words.{front_barred, back_barred}
 use Rattle.search_row.specs.Laws.{end-barred, end-free}
 use Rattle.search_row_fill.specs.Words.{own_word}
-use Rattle.theory_bridge.specs.Offers.{offered-low}
+use Rattle.theory_bridge.proofs.Offers.{offered-low}
 use Rattle.search_row_fill.specs.Cell.{CellWords}
 
 -- the words are those of the row's cells, in file order, and there are so many

@@ -21,7 +21,7 @@ use Rattle.theory_pair.specs.Cells.{Side, row₀, row₁, Kind, one, both, in_ro
 use Rattle.theory_pair.specs.Cells.{members, tall_cells, cell, tall_count, pos}
 use Rattle.theory_pair.specs.Cells as states
 use Rattle.theory_bridge.specs.Paired.{pair_job}
-use Rattle.theory_bridge.specs.Row.{is_tall-same}
+use Rattle.theory_bridge.proofs.Row.{is_tall-same}
 
 -- ---- picks
 

@@ -13,7 +13,7 @@ use Rattle.definition_laws.specs.Sound.{SoundHeader, SoundCell}
 use Rattle.definition_laws.specs.Offers.{limit-within}
 use Rattle.lists.specs.Compare.{Eq?, same, differs, eq?, Le?, low, high, le?}
 use Rattle.theory_bridge.specs.Paired.{is_offered, pose_number, width_of, own_of}
-use Rattle.theory_bridge.specs.Offers.{offered-low}
+use Rattle.theory_bridge.proofs.Offers.{offered-low}
 use Rattle.job.specs.declared.Header.{Header}
 use Rattle.job.specs.declared.Cell.{Cell}
 use Rattle.job.specs.Value.{header_of, cell_of}

@@ -1,4 +1,7 @@
 // The rows of a job as the words that the search reads. The words' places stand in crate search_row, specs/Words.antt.
+
+#![tactic(auto)]
+
 ghost use Rattle.std.specs.Prelude.{◌≡◌, ◌&&◌, ◌+◌, ◌*◌, ◌<◌, eqb};
 ghost use Rattle.search_row.specs.Words.{talls_from, words_used};
 ghost use Rattle.definition_laws.specs.Sound.{Sound};

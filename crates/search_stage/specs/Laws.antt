@@ -14,7 +14,7 @@ use Rattle.lists.specs.Numbers.{from}
 use Rattle.theory_pair.specs.Coded.{lowest}
 use Rattle.theory_tables.specs.Steps.{B, Deck, state_count, join_pose, next_cases}
 use Rattle.theory_tables.specs.Stages.{case_table}
-use Rattle.theory_tables.specs.States.{counted}
+use Rattle.theory_tables.proofs.States.{counted}
 use Rattle.search_lanes.specs.Store.{Low}
 use Rattle.search_lanes.specs.Laws.{low-set}
 use Rattle.search_join.specs.Tables.{cases_in, pointers_in, costs_in, Table, Least, Way, Joined, AllStates, Closed}
@@ -296,7 +296,7 @@ module _ (D₀ D₁ : Deck) (R talls : ℕ) (pos₀ pos₁ : ℕ → ℕ) where
 module _ {row₀ row₁ st : List ℕ} {z : Sizes} {n₁ : ℕ} (g : StagesGiven row₀ row₁ st z n₁) where
   pub given-states : (z.states ≤ 12) × (1 ≤ z.states) × (z.poses ≤ max_poses) × (z.talls ≤ max_tall)
   given-states =
-      let r = g.given₀.ground in (
+      let r = g.given₀.grounded in (
         omega (arith, r.all, r.coded.few),
         omega (arith, r.all, (counted z.reordering r.coded.reorder).some),
         r.few,

@@ -169,7 +169,7 @@ module _ (D : Deck) (R talls : ℕ) (pos : ℕ → ℕ) where
 
 pub start-place : {row : List ℕ} {z : Sizes} (I p : ℕ)
     → RowGiven row z → (I ≡ 0 → ⊥) → I ≤ z.talls → p ≡ pos_in row (I - 1) → p < max_cells
-start-place I p g e h k = omega (arith, g.inside (I - 1) (omega (arith, e)), g.ground.size)
+start-place I p g e h k = omega (arith, g.inside (I - 1) (omega (arith, e)), g.grounded.size)
 
 pub start-state : (talls I count s : ℕ) → s < wide talls I count → (I ≡ 0 → ⊥) → I ≤ talls → s < count
 start-state talls I count s h z g = omega (arith, wide-tall talls I count z g)

@@ -1,4 +1,7 @@
 // The stages of the search: the segment costs of both rows from every start state, joined with the case table before.
+
+#![tactic(auto)]
+
 mod row;
 
 ghost use Rattle.std.specs.Prelude.{◌≡◌, false, ◌≤◌};

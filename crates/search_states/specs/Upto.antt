@@ -10,7 +10,7 @@ use Rattle.theory_row.specs.Marks.{bit}
 use Rattle.theory_pair.specs.Pick.{good_marks}
 use Rattle.theory_pair.specs.Forward.{each}
 use Rattle.theory_tables.specs.Steps.{B, may_be_last, pairs_of, state_count, offset, marks, marks_before, before}
-use Rattle.theory_tables.specs.States.{state-at, counted}
+use Rattle.theory_tables.proofs.States.{state-at, counted}
 use Rattle.search_lanes.specs.Store.{Frame, Low}
 use Rattle.search_lanes.specs.Laws.{frame-set, low-set}
 use Rattle.search_row.specs.Words.{state_at, StateWords, row_length, states_end, states_from}

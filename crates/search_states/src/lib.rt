@@ -1,5 +1,8 @@
 // The states of a digit and marks in which a cell can have been placed last, as the words that the
 // search reads: marks rising, digits rising.
+
+#![tactic(auto)]
+
 ghost use Rattle.std.specs.Prelude.{◌≡◌, ◌++◌, ◌+◌, ◌≤◌, ◌<◌};
 ghost use Rattle.theory_tables.specs.Steps.{may_be_last};
 ghost use Rattle.search_states.specs.Upto.{is_marks, digits_from, marks_from, with_state, StatesAdded, Coded};

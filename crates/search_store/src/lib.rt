@@ -1,5 +1,8 @@
 // The map of the lent store: where layers, kept layers, segment costs, cases and back pointers stand. The map is drawn
 // in specs/Map.antt; its laws stand in specs/Places.antt.
+
+#![tactic(auto)]
+
 ghost use Rattle.std.specs.Prelude.{◌≡◌, ◌+◌, ◌*◌, ◌≤◌};
 ghost use Rattle.search_store.specs.Map.{max_lanes, max_kept, state_block, kept_at, costs_at, case_at, pointer_at};
 ghost use Rattle.search_store.specs.Map.{CaseRow, CostRow};

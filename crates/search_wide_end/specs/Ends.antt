@@ -49,7 +49,7 @@ pub record RunGiven (table row st : List ℕ) (z : Sizes) (lanes i : ℕ) : Type
 
 -- state q of a row, of whose cell is asked whether it can be the last
 pub record LastState (row : List ℕ) (z : Sizes) (q : ℕ) : Type 0 where
-  pub ground : Ground row z
+  pub grounded : Ground row z
   pub state : q < z.states
 
 -- the layer with all cells placed, in the block at `at`, and room for its costs

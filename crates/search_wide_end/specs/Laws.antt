@@ -3,7 +3,7 @@ use Rattle.std.specs.Prelude.{ℕ, suc, ◌+◌, ◌-◌, ◌≤◌, ◌<◌, �
 use Rattle.std.proofs.Common.{sym, ap, ◌∙◌, inl, inr, arith}
 use Rattle.search_store.specs.Map.{kept_from, layer_block, state_block}
 use Rattle.theory_tables.specs.Steps.{B, Deck, Layer, state_count, last_at, layers, ends, cost_end}
-use Rattle.theory_tables.specs.Spots.{and_both}
+use Rattle.theory_tables.proofs.Spots.{and_both}
 use Rattle.search_lanes.specs.Store.{RowSaid, layer_in}
 use Rattle.search_lanes.specs.Laws.{frame-join}
 use Rattle.search_row.specs.Words.{there_in}

@@ -1,4 +1,7 @@
 // A segment to the row's end, from its first layer, in block 0; all lanes at once.
+
+#![tactic(auto)]
+
 ghost use Rattle.std.specs.Prelude.{◌≡◌, ◌-◌};
 ghost use Rattle.search_lanes.specs.Lanes.{Lowered, with_own};
 ghost use Rattle.search_lanes.specs.Store.{RowSaid};

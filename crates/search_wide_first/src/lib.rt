@@ -1,4 +1,7 @@
 // The first layer of a segment after a tall cell in each of its poses, a lane for each.
+
+#![tactic(auto)]
+
 ghost use Rattle.theory_tables.specs.Steps.{marks};
 ghost use Rattle.search_row.specs.Words.{deck_in};
 ghost use Rattle.search_buckets.specs.Rows.{one_pose};

@@ -42,7 +42,7 @@ pub given-on :
     → WideGiven row old z lanes i at → Frame a b old new → Low new
     → WideGiven row new z lanes i at
 given-on g f w =
-    record { ground = g.ground; low = w; narrow = g.narrow; early = g.early; room = omega (arith, g.room, f.long) }
+    record { grounded = g.grounded; low = w; narrow = g.narrow; early = g.early; room = omega (arith, g.room, f.long) }
 
 pub beside-on : {old new : List ℕ} {at to a b : ℕ} → Beside old at to → Frame a b old new → Beside new at to
 beside-on v f = record { room = omega (arith, v.room, f.long); apart = v.apart }

@@ -22,7 +22,7 @@ buckets_for row z layer q = buckets_in row (last_at z.reordering (suc layer.cell
 
 -- a layer with i cells in the block at `at`
 pub record WideGiven (row st : List ℕ) (z : Sizes) (lanes i at : ℕ) : Type 0 where
-  pub ground : Ground row z
+  pub grounded : Ground row z
   pub low : Low st
   pub narrow : lanes ≤ max_lanes
   pub early : i ≤ max_kept + 1

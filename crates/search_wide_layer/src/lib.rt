@@ -1,6 +1,9 @@
 // One layer of the search from the layer before, in all lanes at once. A layer is a block of words: state, pose, lane.
 // For each state of the next layer its sources are gathered by their end sites (crate search_wide_buckets),
 // and each pose that it may be offered looks up what it needs.
+
+#![tactic(auto)]
+
 ghost use Rattle.std.specs.Prelude.{◌≡◌, false, ℕ, ◌<◌};
 ghost use Rattle.search_row.specs.Words.{deck_in};
 ghost use Rattle.search_wide_buckets.specs.Table.{GatheredIf, state_in, states_in};
@@ -12,7 +15,7 @@ use search_buckets::Source;
 use search_row::Sizes;
 
 // A layer in its block: how many lanes and cells it has, and where the block begins.
-#[derive(Drop)]
+#[derive(Clone, Copy)]
 pub struct Block {
     pub lanes: usize,
     pub cells: usize,

@@ -41,7 +41,7 @@ buffer-costs b h = record { room = h.room; apart = λ k x y z w. omega (arith, b
 pub given-small :
     {row st : List ℕ} {z : Sizes} {lanes i at : ℕ}
     → WideGiven row st z lanes i at → SizesSmall (deck_in row z) z.reordering lanes
-given-small g = record { narrow = g.narrow; few = g.ground.few; states = g.ground.coded.few }
+given-small g = record { narrow = g.narrow; few = g.grounded.few; states = g.grounded.coded.few }
 
 pub run_none :
     (D : Deck) (R lanes i : ℕ) {old st : List ℕ}

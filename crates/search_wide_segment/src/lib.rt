@@ -1,6 +1,9 @@
 // A segment: from its first layer, in block 0, to a tall cell; all lanes at once. The layers run on
 // in the first two blocks of the store by turns; of the last one only the states that come to the tall cell
 // with it are computed, straight to the costs.
+
+#![tactic(auto)]
+
 ghost use Rattle.std.specs.Prelude.{◌+◌, ◌-◌};
 ghost use Rattle.search_lanes.specs.Store.{FilledState, Filled};
 ghost use Rattle.search_row.specs.Words.{deck_in};

@@ -1,0 +1,28 @@
+-- The stages leave the least cost as the one case of the last table.
+use Prim.Native.Nat.{◌+◌}
+use mathlib.Core.Path.{refl}
+use native.Mathlib.Omega.{arith}
+use Rattle.search_stage.specs.Laws.{given-first}
+use Rattle.search.specs.Found.{costed}
+use Rattle.search.proofs.least_cost.Goals as goal
+
+pub overflow_add-sizes : goal.overflow_add-sizes
+overflow_add-sizes c =
+    omega (arith, c.requires.given₀.few)
+
+pub case_at-requires : goal.case_at-requires
+case_at-requires c =
+    record { table = omega (arith, c.requires.given₀.few); state₀ = omega arith; state₁ = omega arith }
+
+pub offset_bounds-store-case_at : goal.offset_bounds-store-case_at
+offset_bounds-store-case_at c =
+    omega (arith, c.requires.given₀.few, c.case_at.ensures)
+
+pub bounds-store-case_at : goal.bounds-store-case_at
+bounds-store-case_at c =
+    let t = c.requires.given₀.few in
+    omega (arith, c.case_at.ensures, given-first c.requires (c.args.sizes.talls + 1) (omega arith), c.stages.ensures.long)
+
+pub returns : goal.returns
+returns c =
+    costed c.args.row0.now c.args.row1.now c.args.sizes c.args.cells1 c.case_at.ensures refl c.stages.ensures

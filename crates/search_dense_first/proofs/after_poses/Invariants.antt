@@ -1,0 +1,11 @@
+-- Each turn writes one word more.
+use Prim.Native.Nat.{◌-◌, ◌≤◌}
+use Rattle.search_lanes.specs.Store.{Written}
+use Rattle.search_dense_first.specs.Begun.{after_pose}
+use Rattle.search_dense_first.proofs.after_poses.Given as goal
+
+abbrev pub invariant-loop-a : goal.invariant-loop-a
+invariant-loop-a l = (l.a ≤ l.poses) × Written (after_pose l.row l.p l.l l.k) l.at l.a l.initial.store l.store
+
+abbrev pub decreases-loop-a : goal.decreases-loop-a
+decreases-loop-a l = l.poses - l.a

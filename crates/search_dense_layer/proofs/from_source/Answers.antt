@@ -1,0 +1,111 @@
+-- A state that is no source lowers nothing; one that is a source stands in the row.
+use Prim.Native.Nat.{ℕ, suc, ◌≤◌, ◌<◌}
+use mathlib.Core.Path.{◌≡◌, refl, sym, ap, ap₂, ◌∙◌}
+use mathlib.Core.Bool.{true}
+use native.Mathlib.Omega.{arith}
+use Rattle.definition.specs.Job.{max_cells}
+use Rattle.theory_tables.specs.Steps.{last_at, is_source}
+use Rattle.search_row.specs.Words.{deck_in}
+use Rattle.search_row.specs.Laws.{there-size, source-size}
+use Rattle.search_buckets.specs.Rows.{buckets_in, by_poses}
+use Rattle.search_buckets.specs.Sources.{pays-none, state_in_lem, state-out}
+use Rattle.search_dense_layer.specs.Thin.{thin_in}
+use Rattle.search_dense_layer.specs.Laws.{buckets_few, gathered_none, gathered_ext}
+use Rattle.search_dense_layer.proofs.from_source.Goals as goal
+use Rattle.search_dense_layer.proofs.from_source.Goals.{After-buckets_of-buckets, After-last_at-m, Else-not-is_source}
+
+-- past the test the state is a source
+abbrev ThinSource : Else-not-is_source → Type 0
+ThinSource c = is_source (deck_in c.args.row.now c.args.sizes) c.args.sizes.reordering
+    c.args.sought.cells c.args.sought.state c.args.p ≡ true
+
+source : (c : Else-not-is_source) → (is_source (deck_in c.args.row.now c.args.sizes) c.args.sizes.reordering
+    c.args.sought.cells c.args.sought.state c.args.p ≡ true)
+source c = sym c.is_source.ensures ∙ c.if-not-is_source.false
+
+-- both cells stand in the row
+left : (c : After-last_at-m) → c.last_at-k.result < max_cells
+left c =
+    omega (
+      arith,
+      c.last_at-k.ensures,
+      source-size c.args.row.now c.args.sizes.cells c.args.sizes.poses c.args.sizes.reordering c.args.sought.cells c.args.sought.state c.args.p ((let it : (is_source (deck_in c.args.row.now c.args.sizes) c.args.sizes.reordering c.args.sought.cells c.args.sought.state c.args.p ≡ true) = sym c.is_source.ensures ∙ c.if-not-is_source.false in it)),
+      c.requires.gathering.sought.given.grounded.size,
+    )
+
+here : (c : After-last_at-m) → (c.last_at-m.result ≡ last_at c.args.sizes.reordering (suc c.args.sought.cells) c.args.sought.state)
+here c = omega (arith, c.last_at-m.ensures)
+
+right : (c : After-last_at-m) → c.last_at-m.result < max_cells
+right c =
+    omega (
+      arith,
+      here c,
+      there-size c.args.sizes.cells c.args.sizes.reordering (suc c.args.sought.cells) c.args.sought.state
+          c.requires.gathering.sought.target.there,
+      c.requires.gathering.sought.given.grounded.size,
+    )
+
+-- how many buckets the target needs
+buckets : (c : After-buckets_of-buckets) → (c.buckets_of-buckets.result ≡ buckets_in c.args.row.now (last_at c.args.sizes.reordering (suc c.args.sought.cells) c.args.sought.state))
+buckets c =
+    c.buckets_of-buckets.ensures ∙ ap (buckets_in c.args.row.now) ((let it : (c.last_at-m.result ≡ last_at c.args.sizes.reordering (suc c.args.sought.cells) c.args.sought.state) = omega (arith, c.last_at-m.ensures) in it))
+
+few : (c : After-buckets_of-buckets) → (5 ≤ c.buckets_of-buckets.result) × (c.buckets_of-buckets.result ≤ 9)
+few c =
+    let f = buckets_few c.args.row.now c.last_at-m.result in
+    (omega (arith, c.buckets_of-buckets.ensures), omega (arith, c.buckets_of-buckets.ensures))
+
+pub returns-then-not-is_source : goal.returns-then-not-is_source
+returns-then-not-is_source c =
+    let D = deck_in c.args.row.now c.args.sizes in
+    let away = sym c.is_source.ensures ∙ c.if-not-is_source.true in
+    gathered_none (buckets_in c.args.row.now (last_at c.args.sizes.reordering (suc c.args.sought.cells) c.args.sought.state)) c.requires.gathering.arrays
+    (λ v t h. omega (
+      arith,
+      state-out c.args.row.now D c.args.sizes.reordering (thin_in c.args.store.now c.args.sought.at) c.args.sought.cells
+          c.args.sought.state c.args.p v t away,
+    ))
+
+pub buckets_of-buckets-requires : goal.buckets_of-buckets-requires
+buckets_of-buckets-requires c =
+    record { words = c.requires.gathering.sought.given.grounded.words; cell = right (goal.at-buckets_of-buckets-requires c).After-last_at-m }
+
+pub fill_pays-requires : goal.fill_pays-requires
+fill_pays-requires c =
+    record {
+      cells = record { words = c.requires.gathering.sought.given.grounded.words; left = left (goal.at-fill_pays-requires c).After-last_at-m; right = right (goal.at-fill_pays-requires c).After-last_at-m };
+      few = (few (goal.at-fill_pays-requires c).After-buckets_of-buckets).1;
+      before = pays-none _ _ _ _ refl;
+    }
+
+pub from_poses-requires : goal.from_poses-requires
+from_poses-requires c =
+    let g = c.requires.gathering.sought.given in
+    let f = few (goal.at-from_poses-requires c).After-buckets_of-buckets in
+    record {
+      arrays = c.requires.gathering.arrays;
+      source = record {
+        words = g.grounded.words;
+        low = g.low;
+        room = omega (arith, g.room, g.grounded.all, g.grounded.coded.few);
+        left = left (goal.at-from_poses-requires c).After-last_at-m;
+        right = right (goal.at-from_poses-requires c).After-last_at-m;
+      };
+      paid = c.fill_pays.ensures;
+      five = f.0;
+      nine = f.1;
+      few = g.grounded.few;
+    }
+
+pub returns : goal.returns
+returns c =
+    let D = deck_in c.args.row.now c.args.sizes in
+    let f = thin_in c.args.store.now c.args.sought.at in
+    let e = buckets (goal.at-returns c).After-buckets_of-buckets in
+    let m = here (goal.at-returns c).After-last_at-m in
+    let w = gathered_ext c.from_poses.ensures (few (goal.at-returns c).After-buckets_of-buckets).0
+    (λ v t h.
+    state_in_lem c.args.row.now D c.args.sizes.reordering f c.args.sought.cells c.args.sought.state c.args.p v t (source (goal.at-returns c).Else-not-is_source)
+    ∙ ap₂ (λ (x y : ℕ). by_poses c.args.row.now x y (f c.args.p) c.args.sizes.poses v t) (sym c.last_at-k.ensures) (sym m)) in
+    rw e at w

@@ -1,0 +1,26 @@
+-- Stage 0 ends at the first tall cell, or at the row's end.
+use native.Mathlib.Omega.{arith}
+use Rattle.search_row.specs.Words.{deck_in, pos_in}
+use Rattle.search_stage.specs.Rows.{open_tall, open_last}
+use Rattle.search_stage.proofs.row.open_cost.Goals as goal
+
+pub open_to-requires : goal.open_to-requires
+unfolding pos_in
+open_to-requires c =
+    let g = c.requires.given in
+    record {
+      grounded = g.grounded;
+      room = c.requires.room;
+      cell = omega (arith, c.tall_at-p.ensures, g.inside 0 (omega (arith, c.if-sizes-gt0.true)), g.grounded.size);
+    }
+
+pub returns-then-sizes-gt0 : goal.returns-then-sizes-gt0
+unfolding pos_in
+returns-then-sizes-gt0 c =
+    open_tall (deck_in c.args.row.now c.args.sizes) c.args.sizes.reordering c.args.sizes.talls (pos_in c.args.row.now) (omega (arith, c.if-sizes-gt0.true))
+    c.tall_at-p.ensures c.open_to.ensures
+
+pub returns : goal.returns
+returns c =
+    open_last (deck_in c.args.row.now c.args.sizes) c.args.sizes.reordering c.args.sizes.talls (pos_in c.args.row.now) c.args.sizes.states
+    (omega (arith, c.if-sizes-gt0.false)) c.open_end.ensures

@@ -1,0 +1,12 @@
+-- Each turn lowers row t of one bucket more; row 0 does not count.
+use Prim.Native.Nat.{◌+◌, ◌-◌, ◌≤◌}
+use Rattle.search_wide_buckets.specs.Table.{charged_one, Spread}
+use Rattle.search_wide_buckets.proofs.spread_near.Given as goal
+
+abbrev pub invariant-loop-v : goal.invariant-loop-v
+invariant-loop-v l =
+    (l.v ≤ 4) × Spread (charged_one l.x l.pays l.u) l.t l.first (l.first + l.v) l.lane 1 l.initial.table l.table
+
+abbrev pub decreases-loop-v : goal.decreases-loop-v
+decreases-loop-v l =
+    4 - l.v
