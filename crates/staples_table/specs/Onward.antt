@@ -8,8 +8,10 @@ use Rattle.theory_pair.specs.Coded.{lowest, lowest-low}
 use Rattle.theory_tables.specs.Steps.{B}
 use Rattle.theory_tables.specs.Lowest.{loop_above}
 use Rattle.theory_cover.specs.FileRow.{FileRow, start_of, end_of}
-use Rattle.theory_cover.specs.Recurrence.{clears, new_sites, cover_by_way, onward, onward-none}
-use Rattle.theory_cover.specs.Runs.{low_clear, way_at, onward-run}
+use Rattle.theory_cover.specs.Recurrence.{clears, new_sites, cover_by_way, onward}
+use Rattle.theory_cover.proofs.Recurrence.{onward-none}
+use Rattle.theory_cover.specs.Runs.{low_clear, way_at}
+use Rattle.theory_cover.proofs.Runs.{onward-run}
 use Rattle.search_row.specs.Words.{word_of, width_word}
 use Rattle.staples_ways.specs.declared.LastCell.{LastCell}
 use Rattle.staples_ways.specs.declared.NextCell.{NextCell}

@@ -1,6 +1,9 @@
 // The fewest sites that the cells still to come cover anew, for every way in which both rows of a job without tall
 // cells can have got so far, cell by cell in file order. A block of words for each pair of counts of placed cells; in
 // it a word for each pair of site numbers of the two last cells. Blocks are filled from the last to the first.
+
+#![tactic(auto)]
+
 ghost use Rattle.std.specs.Prelude.{◌≡◌, ◌+◌, ◌*◌, ◌<◌};
 ghost use Rattle.search_lanes.specs.Store.{Written};
 ghost use Rattle.staples_table.specs.Blocks.{lesser_way, RowsPut, WordLooks, RowLooks, BlockLooks};
@@ -15,7 +18,7 @@ pub const BLOCK: usize = 225;
 pub const BLOCKS: usize = 14625;
 
 // The cells of both rows, and the limit D of shifts.
-#[derive(Drop)]
+#[derive(Clone, Copy)]
 pub struct RowCounts {
     pub cells0: usize,
     pub cells1: usize,
@@ -24,7 +27,7 @@ pub struct RowCounts {
 
 // What a word of a block is found by: where the last cells end at their number 0, and where the next ones may first
 // stand.
-#[derive(Drop)]
+#[derive(Clone, Copy)]
 pub struct Looks {
     pub numbers: usize,
     pub end0: usize,

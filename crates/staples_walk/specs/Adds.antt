@@ -4,7 +4,7 @@ use Rattle.std.proofs.Common.{sym, ap₂, ◌∙◌, arith, le-leb, leb-true, eq
 use Rattle.std.proofs.Math.Decide.{dec_lt}
 use Rattle.std.proofs.lemmas.Bool.{eqb-false, not-true}
 use Rattle.theory_tables.specs.Steps.{B}
-use Rattle.theory_tables.specs.Spots.{and_both}
+use Rattle.theory_tables.proofs.Spots.{and_both}
 use Rattle.theory_cover.specs.FileRow.{FileRow, start_of, end_of}
 use Rattle.theory_cover.specs.Recurrence.{clears, new_sites}
 use Rattle.search_row.specs.Words.{word_of, RowWords, cell_words, first_word, width_word}

@@ -8,7 +8,8 @@ use native.Mathlib.Omega.{arith}
 use Rattle.std.proofs.Math.Decide.{dec_lt}
 use Rattle.theory_tables.specs.Steps.{B}
 use Rattle.theory_cover.specs.FileRow.{FileRow, start_of, end_of}
-use Rattle.theory_cover.specs.Recurrence.{onward, fewest, onward-met}
+use Rattle.theory_cover.specs.Recurrence.{onward, fewest}
+use Rattle.theory_cover.proofs.Recurrence.{onward-met}
 use Rattle.staples_ways.specs.declared.Rests.{Rests}
 use Rattle.staples_ways.specs.Words.{ok_in, file_row, last_cell}
 use Rattle.staples_ways.specs.Ways.{rest_in}

@@ -1,5 +1,5 @@
 -- The walk's numbers: both rows from here on, as they are noted, and that they cover the fewest sites.
-use Rattle.std.specs.Prelude.{ℕ, suc, ◌+◌, ◌-◌, ◌*◌, ◌≤◌, ◌<◌, ◌≡◌, refl, List, [], ◌∷◌, map, length, get_or, set}
+use Rattle.std.specs.Prelude.{ℕ, suc, ◌+◌, ◌-◌, ◌*◌, ◌≤◌, ◌<◌, ◌≡◌, refl, List, ◌∷◌, map, length, get_or, set}
 use Rattle.std.proofs.Common.{sym, ap, subst, ◌∙◌, length-set, get_or-set_same, get_or-set_other}
 use native.Mathlib.Omega.{arith}
 use Rattle.definition.specs.Job.{max_cells}
@@ -7,8 +7,9 @@ use Rattle.lists.specs.Numbers.{from}
 use Rattle.theory_tables.specs.Steps.{B}
 use Rattle.theory_cover.specs.FileRow.{FileRow, end_of}
 use Rattle.theory_cover.specs.Recurrence.{new_sites, fewest}
-use Rattle.theory_cover.specs.Covered.{RowsFrom, anew, Inside, rows_end, anew-end, rows-swap, anew-swap, rows_before}
-use Rattle.theory_cover.specs.Covered.{rows-after, anew-next}
+use Rattle.theory_cover.specs.Covered.{RowsFrom, anew, Inside}
+use Rattle.theory_cover.proofs.Covered.{rows_end, anew-end, rows-swap, anew-swap, rows_before}
+use Rattle.theory_cover.proofs.Covered.{rows-after, anew-next}
 use Rattle.search_lanes.specs.Store.{Low}
 use Rattle.staples_table.specs.declared.RowCounts.{RowCounts}
 use Rattle.staples_table.specs.Blocks.{blocks_words, TwoRows, to_come, TableRight}

@@ -1,5 +1,8 @@
 // The walk through the table, from no cells to all: at each step the first site number of row 0's next cell, else of
 // row 1's, by which the fewest sites are covered.
+
+#![tactic(auto)]
+
 ghost use Rattle.std.specs.Prelude.{◌≡◌, set, ◌+◌, ◌*◌, ◌<◌};
 ghost use Rattle.staples_walk.specs.Steps.{leads_in, FirstLead, LeadAsked, LeadsAsked, StepAsked};
 ghost use Rattle.staples_walk.specs.Steps.{OpenAsked, OpenLead};
@@ -10,7 +13,7 @@ use staples_table::RowCounts;
 use staples_ways::{LastCell, NextCell, Rests};
 
 // How far both rows have come: so many cells, the last at these site numbers.
-#[derive(Drop)]
+#[derive(Clone, Copy)]
 pub struct Here {
     pub placed0: usize,
     pub number0: usize,

@@ -7,7 +7,8 @@ use Rattle.lists.specs.Numbers.{from, in_from}
 use Rattle.theory_pair.specs.Coded.{lowest, lowest-low}
 use Rattle.theory_tables.specs.Steps.{B}
 use Rattle.theory_tables.specs.Lowest.{lowest-above}
-use Rattle.theory_cover.specs.Runs.{low_from, low_clear, run-all, run-next, run_at, run_past}
+use Rattle.theory_cover.specs.Runs.{low_from, low_clear}
+use Rattle.theory_cover.proofs.Runs.{run-all, run-next, run_at, run_past}
 use Rattle.search_lanes.specs.Store.{Frame, Low}
 use Rattle.search_lanes.specs.Laws.{low-set, same_low, frame-refl, frame-set}
 use Rattle.staples_ways.specs.declared.LastCell.{LastCell}

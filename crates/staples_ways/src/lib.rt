@@ -1,5 +1,8 @@
 // A row in file order, cell by cell in layout 0 and unmirrored: where its next cell may stand, and what it and all that
 // follow cover anew, after each place of the other row's last cell.
+
+#![tactic(auto)]
+
 ghost use Rattle.std.specs.Prelude.{◌≡◌, ◌+◌, ◌≤◌, max};
 ghost use Rattle.staples_ways.specs.Words.{ok_in, last_cell, way_in, site_of_number, end_of_number};
 ghost use Rattle.staples_ways.specs.Ways.{later_by, rests_by, ahead_in, AllToPut, AllPut, AheadAsked, Ahead};
@@ -10,7 +13,7 @@ ghost use Rattle.staples_ways.specs.Words.{NumberAt, LastAt, WayAsked};
 pub const NUMBERS: usize = 15;
 
 // Where a row's last cell starts and ends, with D added.
-#[derive(Drop)]
+#[derive(Clone, Copy)]
 pub struct LastCell {
     pub start: usize,
     pub end: usize,
@@ -99,7 +102,7 @@ pub const ALL_WAYS: usize = 480;
 const LOW_FROM: usize = 15;
 
 // A row's next cell: how many cells the row has, how many are placed, and how many site numbers a cell has.
-#[derive(Drop)]
+#[derive(Clone, Copy)]
 pub struct NextCell {
     pub cells: usize,
     pub placed: usize,
@@ -107,7 +110,7 @@ pub struct NextCell {
 }
 
 // Where stands what is left to be covered after each of its site numbers.
-#[derive(Drop)]
+#[derive(Clone, Copy)]
 pub struct Rests {
     pub at: usize,
     pub step: usize,
