@@ -1,4 +1,7 @@
 // The generator that a load's fields are drawn from.
+
+#![tactic(auto)]
+
 ghost use Rattle.std.specs.Prelude.{◌≡◌};
 ghost use Rattle.definition.specs.Draws as paper;
 ghost use Rattle.definition.specs.Draws.{◌to◌, drawn};
@@ -6,7 +9,7 @@ ghost use Rattle.load_draws.specs.Generators.{generator_of, InForm};
 
 use std::num::wrapping_add_u32;
 
-#[derive(Drop)]
+#[derive(Clone, Copy)]
 pub struct Generator {
     pub s: u32,
     pub w: u32,

@@ -1,4 +1,7 @@
 // A load's text, written line by line as its fields are drawn.
+
+#![tactic(auto)]
+
 ghost use Rattle.std.specs.Prelude.{◌≡◌, [], ◌∷◌, ◌-◌, length, replicate, cond, ltb};
 ghost use Rattle.definition.specs.Job.{max_tall, layout_size};
 ghost use Rattle.definition.specs.Draws.{◌to◌};
@@ -14,21 +17,21 @@ use load_draws::Generator;
 use text_write::{put_byte, put_bytes, put_number};
 
 // Where a writer goes on: a place in the output, and the generator.
-#[derive(Drop)]
+#[derive(Clone, Copy)]
 pub struct Cursor {
     pub at: usize,
     pub generator: Generator,
 }
 
 // What the lines so far leave to the next.
-#[derive(Drop)]
+#[derive(Clone, Copy)]
 pub struct Progress {
     pub cursor: Cursor,
     pub tally: Tally,
 }
 
 // The first four numbers of a line, and the generator after them.
-#[derive(Drop)]
+#[derive(Clone, Copy)]
 pub struct Opening {
     pub row: u32,
     pub given: u32,

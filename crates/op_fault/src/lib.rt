@@ -1,4 +1,7 @@
 // Fault line: the line that Score reports, as that very part of the job text or of the placement text.
+
+#![tactic(auto)]
+
 ghost use Rattle.std.specs.Prelude.{◌≡◌, ◌≤◌, ◌+◌, ◌<◌, length, cond, eqb};
 ghost use Rattle.definition.specs.Outcome.{over};
 ghost use Rattle.definition.specs.FaultLine.{fault_line, part_at, Very, ToldFault, CopiedFault};

@@ -1,4 +1,7 @@
 // A load: refusals 9 and 10 before any byte is written, or the job's text and its length.
+
+#![tactic(auto)]
+
 ghost use Rattle.std.specs.Prelude.{◌≡◌, [], length};
 ghost use Rattle.definition.specs.Load.{load, load_refusal};
 ghost use Rattle.definition.specs.Outcome.{lent, Met};

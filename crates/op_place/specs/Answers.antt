@@ -15,7 +15,8 @@ use Rattle.definition.specs.Outcome.{Refusal, without_line, refused_by, over, pl
 use Rattle.definition.specs.Outcome.{buffer_refusal, Buffers, lent, Placed}
 use Rattle.definition_laws.specs.Outcomes.{place-refused, place-buffers, place-accepted}
 use Rattle.text_laws.specs.Poses.{Each}
-use Rattle.text_laws.specs.Room.{Narrow, legal-room, legal-narrow, at_each}
+use Rattle.text_laws.specs.Room.{Narrow, at_each}
+use Rattle.text_laws.proofs.Room.{legal-room, legal-narrow}
 use Rattle.job.specs.declared.Job.{Job}
 use Rattle.job.specs.declared.Placement.{Placement}
 use Rattle.job.specs.Value.{job_of, placement_of}

@@ -1,5 +1,8 @@
 // Place: the job is read, a cheapest legal placement is searched for, and its text and
 // numbers are written to what the caller lends.
+
+#![tactic(auto)]
+
 ghost use Rattle.std.specs.Prelude.{length};
 ghost use Rattle.definition.specs.Outcome.{lent, Placed};
 ghost use Rattle.job.specs.Value.{job_of, placement_of};

@@ -1,4 +1,7 @@
 // Reasons in words: the sentence that names every cell that breaks the first broken rule, and its length.
+
+#![tactic(auto)]
+
 ghost use Rattle.std.specs.Prelude.{[], length};
 ghost use Rattle.definition.specs.Outcome.{lent, Met};
 ghost use Rattle.definition.specs.Reasons.{reason_of, sentence, reasons};

@@ -1,4 +1,7 @@
 // Score: the two texts are read, and the placement is judged and counted.
+
+#![tactic(auto)]
+
 ghost use Rattle.definition.specs.Rules.{verdict};
 ghost use Rattle.definition.specs.Outcome.{score_field_count, refused_by, score_fields, score};
 ghost use Rattle.job.specs.Value.{job_of, placement_of};

@@ -1,4 +1,7 @@
 // A reason's sentence, written into a lent output: the rule's phrase and the cells that break it, each by its number.
+
+#![tactic(auto)]
+
 ghost use Rattle.std.specs.Prelude.{take};
 ghost use Rattle.definition.specs.Reasons.{phrase_of, cell_named, cells_named, sentence};
 ghost use Rattle.text_write.specs.Put.{Room, Wrote};

@@ -1,4 +1,7 @@
 // The exported C functions, each over slices that are passed as address and length.
+
+#![tactic(auto)]
+
 ghost use Rattle.std.specs.Prelude.{[], length};
 ghost use Rattle.definition.specs.Outcome.{read, number_count, score, Told, lent, Met, Placed, Demand3Of};
 ghost use Rattle.definition.specs.Load.{load, LoadedOf};

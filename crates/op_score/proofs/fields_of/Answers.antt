@@ -1,0 +1,125 @@
+-- `op_score::fields_of` meets its contract: rule and cell, then the numbers, which are all 0 where a rule is broken.
+use Prim.Native.Nat.{◌^◌, ◌<◌}
+use mathlib.Core.Path.{◌≡◌, sym, ap, ◌∙◌}
+use mathlib.Core.List.{List, [], ◌∷◌, ◌++◌}
+use native.Mathlib.Omega.{arith}
+use lib.ListN.{length, take, length-take}
+use lib.IntN.{ℤ, pos}
+use mir.Syntax.{w32}
+use mir.Facts.{to_z_pos}
+use Rattle.definition.specs.Rules.{Verdict, verdict}
+use Rattle.job.specs.declared.Job.{Job}
+use Rattle.job.specs.declared.Placement.{Placement}
+use Rattle.job.specs.Ready.{Ready}
+use Rattle.score_verdict.specs.declared.Verdict as told
+use Rattle.score_verdict.specs.Judged.{Judged}
+use Rattle.job.specs.Value.{job_of, placement_of}
+use Rattle.results.specs.Fields.{More, more-then}
+use Rattle.score_numbers.specs.declared.Numbers.{Numbers}
+use Rattle.score_numbers.specs.Counted.{numbers_in}
+use Rattle.score_verdict.specs.Rules.{rule_count}
+use Rattle.op_score.specs.Bounds.{VerdictSmall, verdict-small}
+use Rattle.op_score.specs.Fields.{broken-fields, legal-fields}
+use Rattle.op_score.proofs.fields_of.Goals as goal
+use Rattle.op_score.proofs.fields_of.Goals.{After-push-fields-2}
+
+-- the definition's verdict, which is of small numbers
+verdict-at : Job → Placement → Verdict
+verdict-at job P = verdict (job_of job) (placement_of P)
+
+small : (job : Job) (P : Placement) → VerdictSmall rule_count (length (job_of job).cells) (verdict-at job P)
+unfolding verdict-at
+small job P = verdict-small (job_of job) (placement_of P)
+
+module _ (job : Job) (P : Placement) {v : told.Verdict} (t : Judged (verdict (job_of job) (placement_of P)) v) where
+  same-rule : v.rule ≡ (verdict-at job P).rule
+  unfolding verdict-at
+  same-rule = t.rule
+
+  same-cell : v.cell ≡ (verdict-at job P).cell
+  unfolding verdict-at
+  same-cell = t.cell
+
+  rule-low : v.rule < 2 ^ 31
+  rule-low = omega (arith, same-rule, (small job P).rule)
+
+  cell-low : Ready job P → v.cell < 2 ^ 31
+  cell-low ready = omega (arith, same-cell, (small job P).cell, ready.accepted.sound.few)
+
+pub verdict_of-v-requires : goal.verdict_of-v-requires
+verdict_of-v-requires c = c.requires.ready
+
+pub overflow_cast-rule : goal.overflow_cast-rule
+overflow_cast-rule c = record { sfits = omega (arith, rule-low c.args.job c.args.placement c.verdict_of-v.ensures) }
+
+pub overflow_cast-v : goal.overflow_cast-v
+overflow_cast-v c =
+    let v = c.verdict_of-v.ensures in
+    record { sfits = omega (arith, rule-low c.args.job c.args.placement v, cell-low c.args.job c.args.placement v c.requires.ready) }
+
+-- rule and cell are pushed
+two : (c : After-push-fields-2)
+    → More c.empty-fields.result (pos (verdict-at c.args.job c.args.placement).rule ∷ pos (verdict-at c.args.job c.args.placement).cell ∷ []) c.push-fields-2.result
+two c =
+    let v = c.verdict_of-v.ensures in
+    rw (
+      ← same-rule c.args.job c.args.placement v,
+      ← same-cell c.args.job c.args.placement v,
+      ← to_z_pos w32 (rule-low c.args.job c.args.placement v),
+      ← to_z_pos w32 (cell-low c.args.job c.args.placement v c.requires.ready),
+    ) (more-then c.push-fields.ensures c.push-fields-2.ensures)
+
+pub push_numbers-requires : goal.push_numbers-requires
+push_numbers-requires c =
+    let many = c.requires.many in
+    record {
+      many = many;
+      room = omega (arith, (two (goal.at-push_numbers-requires c).After-push-fields-2).count, c.empty-fields.ensures.count, many.seven);
+      small = rw c.zero.ensures
+          (record {
+            steps = omega arith;
+            shifted = omega arith;
+            mirrored = omega arith;
+            changed = omega arith;
+            cost = omega arith;
+            filled = omega arith;
+          });
+    }
+
+pub returns-then-rule-ne0 : goal.returns-then-rule-ne0
+unfolding verdict-at
+returns-then-rule-ne0 c =
+    let j = job_of c.args.job in
+    let P = placement_of c.args.placement in
+    let all = more-then (two (goal.at-returns-then-rule-ne0 c).After-push-fields-2) c.push_numbers.ensures in
+    let n = c.args.count in
+    let fields : Numbers → List ℤ = λ x. pos (verdict j P).rule ∷ pos (verdict j P).cell ∷ take n (numbers_in x) in
+    record {
+      list =
+          all.list
+          ∙ ap (λ (l : List ℤ). l ++ fields c.zero.result) c.empty-fields.ensures.list
+          ∙ ap fields c.zero.ensures
+          ∙ broken-fields n j P (verdict j P) c.requires.many.seven (λ z. c.if-rule-ne0.true (same-rule c.args.job c.args.placement c.verdict_of-v.ensures ∙ z));
+      few = omega (arith, all.count, c.empty-fields.ensures.count, length-take c.args.count (numbers_in c.zero.result));
+    }
+
+pub push_numbers-requires-2 : goal.push_numbers-requires-2
+push_numbers-requires-2 c =
+    let many = c.requires.many in
+    record { many = many; room = omega (arith, (two (goal.at-push_numbers-requires-2 c).After-push-fields-2).count, c.empty-fields.ensures.count, many.seven); small = c.numbers_of.ensures.small }
+
+pub returns : goal.returns
+unfolding verdict-at
+returns c =
+    let j = job_of c.args.job in
+    let P = placement_of c.args.placement in
+    let n = c.numbers_of in
+    let all = more-then (two (goal.at-returns c).After-push-fields-2) c.push_numbers-2.ensures in
+    record {
+      list =
+          all.list
+          ∙ ap (λ (l : List ℤ). l ++ (pos (verdict j P).rule ∷ pos (verdict j P).cell ∷ take c.args.count (numbers_in n.result)))
+          c.empty-fields.ensures.list
+          ∙ legal-fields c.args.count j P (verdict j P) n.result (sym (same-rule c.args.job c.args.placement c.verdict_of-v.ensures) ∙ c.if-rule-ne0.false) n.ensures;
+      few = omega (arith, all.count, c.empty-fields.ensures.count, length-take c.args.count (numbers_in n.result));
+    }
