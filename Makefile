@@ -10,7 +10,7 @@ MANDIR = $(PREFIX)/share/man
 
 HEADER := importer/include/refiner.h
 MANUAL = docs/refine.1
-ARCHIVE = target/staticlib/librefiner.a
+ARCHIVE = crates/refiner/out/librefiner.a
 REFINE = $(or $(CARGO_TARGET_DIR),importer/target)/release/refine
 DIST = target/dist
 

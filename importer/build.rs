@@ -34,14 +34,14 @@ fn main() {
     println!("cargo:rustc-link-lib=static=refiner");
 }
 
-/// `REFINER_LIB_DIR`, or where `rt staticlib` writes.
+/// `REFINER_LIB_DIR`, or where `rt lib` writes.
 fn archive_folder() -> PathBuf {
     match env::var_os("REFINER_LIB_DIR") {
         Some(folder) => PathBuf::from(folder),
         None => {
             let package = PathBuf::from(env::var_os("CARGO_MANIFEST_DIR").unwrap_or_default());
             let root = package.parent().unwrap_or(&package);
-            root.join("target/staticlib")
+            root.join("crates/refiner/out")
         }
     }
 }
@@ -62,8 +62,11 @@ fn tell_origin(folder: &Path, sum: &str) {
 /// A line is a warning of its own; cargo shows them where the package is built from its sources.
 fn explain(archive: &Path) {
     let lines = [
-        &*format!("the archive {} is missing, so nothing can be linked.", archive.display()),
-        "Run `rt staticlib refiner` in the repository's root: it proves the refiner and writes the archive.",
+        &*format!(
+            "the archive {} is missing, so nothing can be linked.",
+            archive.display()
+        ),
+        "Run `rt lib` in the folder crates/refiner: it proves the refiner and writes the archive.",
         "If the archive stands elsewhere, set REFINER_LIB_DIR to its folder.",
     ];
     for line in lines {

@@ -1,4 +1,4 @@
-/* The row pair refiner's C interface: the archive librefiner.a, built by `rt staticlib refiner`.
+/* The row pair refiner's C interface: the archive librefiner.a, by `rt lib` in crates/refiner.
  *
  * Every function takes its texts, buffers and results as address and length; a length counts
  * elements. An address whose length is 0 may be anything, NULL too. Nothing else is asked of the

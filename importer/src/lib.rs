@@ -35,7 +35,7 @@
 //!
 //! What is proved is what the archive's functions answer; this library and the texts that [`job`]
 //! and [`placement`] write are tested. Checking and documenting a program needs no archive, only
-//! linking it does: `rt staticlib refiner` in the repository's root writes it, and
+//! linking it does: `rt lib` in the folder `crates/refiner` writes it, and
 //! `REFINER_LIB_DIR` names its folder if it stands elsewhere.
 
 #![deny(missing_docs)]

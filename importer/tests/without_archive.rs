@@ -9,7 +9,7 @@ use std::process::{Command, Output};
 /// What names the way to the archive, wherever it is missing.
 const ADVICE: [&str; 3] = [
     "librefiner.a is missing, so nothing can be linked",
-    "Run `rt staticlib refiner` in the repository's root",
+    "Run `rt lib` in the folder crates/refiner",
     "set REFINER_LIB_DIR to its folder",
 ];
 

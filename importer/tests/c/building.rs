@@ -16,7 +16,7 @@ pub fn root() -> PathBuf {
 /// The archive that this test was linked with.
 pub fn archive() -> PathBuf {
     let folder = env::var_os("REFINER_LIB_DIR").map(PathBuf::from);
-    let folder = folder.unwrap_or_else(|| root().join("target/staticlib"));
+    let folder = folder.unwrap_or_else(|| root().join("crates/refiner/out"));
     folder.join("librefiner.a")
 }
 

@@ -74,7 +74,7 @@ fn as_readme_says() {
     let archive = archive();
     for word in arguments {
         match *word {
-            "target/staticlib/librefiner.a" => gcc.arg(&archive),
+            "crates/refiner/out/librefiner.a" => gcc.arg(&archive),
             _ => gcc.arg(word),
         };
     }

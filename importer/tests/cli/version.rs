@@ -72,7 +72,7 @@ fn a_record_tells_the_kit_of_its_own_archive_alone() {
 /// Where the archive is that this test's program was linked with.
 fn archive_folder() -> PathBuf {
     let folder = env::var_os("REFINER_LIB_DIR").map(PathBuf::from);
-    folder.unwrap_or_else(|| Path::new(env!("CARGO_MANIFEST_DIR")).join("../target/staticlib"))
+    folder.unwrap_or_else(|| Path::new(env!("CARGO_MANIFEST_DIR")).join("../crates/refiner/out"))
 }
 
 #[test]
@@ -107,12 +107,12 @@ fn folder(test: &str) -> PathBuf {
 /// Runs `tools/kit` in a tree of its own, by a kit that only says its version.
 fn record_by(test: &str, version: &str) -> (Option<i32>, Option<String>) {
     let root = folder(test);
-    for below in ["tools", "bin", "target/staticlib"] {
+    for below in ["tools", "bin", "crates/refiner/out"] {
         fs::create_dir_all(root.join(below)).expect("a folder");
     }
     let script = Path::new(env!("CARGO_MANIFEST_DIR")).join("../tools/kit");
     fs::copy(script, root.join("tools/kit")).expect("tools/kit is there");
-    fs::write(root.join("target/staticlib/librefiner.a"), b"abc").expect("a file");
+    fs::write(root.join("crates/refiner/out/librefiner.a"), b"abc").expect("a file");
     let rt = root.join("bin/rt");
     fs::write(
         &rt,
@@ -124,7 +124,7 @@ fn record_by(test: &str, version: &str) -> (Option<i32>, Option<String>) {
     let path = format!("{}:{path}", root.join("bin").display());
     let mut run = Command::new(root.join("tools/kit"));
     let output = run.env("PATH", path).output().expect("tools/kit runs");
-    let record = fs::read_to_string(root.join("target/staticlib").join(RECORD));
+    let record = fs::read_to_string(root.join("crates/refiner/out").join(RECORD));
     (output.status.code(), record.ok())
 }
 
