@@ -1,20 +1,12 @@
 -- The words that the rows need are cleared, and lent again.
-use Prim.Native.Nat.{ℕ, ◌≤◌}
+use Prim.Native.Nat.{◌≤◌}
 use mathlib.Core.Path.{sym}
-use mathlib.Core.List.{List}
 use native.Mathlib.Omega.{arith}
 use lib.ListN.{length}
 use lib.Seq.{length-take-le}
 use Rattle.search.specs.Words.{few-pages, again-room, again-long, again-low}
 use Rattle.search.proofs.search.Goals as goal
 use Rattle.search.proofs.search.Goals.{After-store_words-words}
-
--- the store at the entry, and how many words of it are needed
-abbrev lent : After-store_words-words → List ℕ
-lent c = c.args.store.now
-
-abbrev words : After-store_words-words → ℕ
-words c = c.store_words-words.result
 
 has_words : (c : After-store_words-words) → (c.store_words-words.result) ≤ length ((c.args.store.now))
 has_words c = omega (arith, c.store_words-words.ensures, c.requires.long)

@@ -12,9 +12,6 @@ use Rattle.search_back_segment.proofs.state_pose.Goals as goal
 use Rattle.search_back_segment.proofs.state_pose.Goals.{Else-not-is_source}
 
 -- past the test the state is a source
-abbrev Source : Else-not-is_source → Type 0
-Source c = is_source (deck_in c.args.row.now c.args.sizes) c.args.sizes.reordering c.args.i c.args.q c.args.p ≡ true
-
 source : (c : Else-not-is_source) → (is_source (deck_in c.args.row.now c.args.sizes) c.args.sizes.reordering c.args.i c.args.q c.args.p ≡ true)
 source c = sym c.is_source.ensures ∙ c.if-not-is_source.false
 

@@ -15,10 +15,6 @@ use Rattle.search_dense_layer.proofs.from_source.Goals as goal
 use Rattle.search_dense_layer.proofs.from_source.Goals.{After-buckets_of-buckets, After-last_at-m, Else-not-is_source}
 
 -- past the test the state is a source
-abbrev ThinSource : Else-not-is_source → Type 0
-ThinSource c = is_source (deck_in c.args.row.now c.args.sizes) c.args.sizes.reordering
-    c.args.sought.cells c.args.sought.state c.args.p ≡ true
-
 source : (c : Else-not-is_source) → (is_source (deck_in c.args.row.now c.args.sizes) c.args.sizes.reordering
     c.args.sought.cells c.args.sought.state c.args.p ≡ true)
 source c = sym c.is_source.ensures ∙ c.if-not-is_source.false

@@ -12,9 +12,6 @@ use Rattle.search_dense_segment.proofs.least_state.Goals as goal
 use Rattle.search_dense_segment.proofs.least_state.Goals.{After-last_at-k, Else-not-is_there}
 
 -- past the first test the row has the cell
-abbrev There : Else-not-is_there → Type 0
-There c = there_in c.args.sizes.cells c.args.sizes.reordering c.args.sizes.cells c.args.q ≡ true
-
 there : (c : Else-not-is_there) → (there_in c.args.sizes.cells c.args.sizes.reordering c.args.sizes.cells c.args.q ≡ true)
 there c = sym c.is_there.ensures ∙ c.if-not-is_there.false
 

@@ -11,9 +11,6 @@ use Rattle.search_dense_segment.proofs.put_state.Goals as goal
 use Rattle.search_dense_segment.proofs.put_state.Goals.{After-word-digit}
 
 -- the word that is read
-abbrev Digit : After-word-digit → Type 0
-Digit c = (c.word-digit.result ≡ offset c.args.sizes.reordering c.args.q) × (offset c.args.sizes.reordering c.args.q ≤ 4)
-
 digit : (c : After-word-digit) → ((c.word-digit.result ≡ offset c.args.sizes.reordering c.args.q) × (offset c.args.sizes.reordering c.args.q ≤ 4))
 digit c =
     let q = c.args.q in

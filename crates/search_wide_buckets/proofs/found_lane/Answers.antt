@@ -1,21 +1,11 @@
 -- The four words are those of the gaps that pay and of the row that ran up.
-use Prim.Native.Nat.{ℕ, ◌+◌, ◌*◌, ◌-◌, ◌/◌, ◌%◌}
+use Prim.Native.Nat.{◌+◌, ◌*◌, ◌-◌, ◌/◌, ◌%◌}
 use mathlib.Core.Path.{refl}
 use native.Mathlib.Omega.{arith}
 use Rattle.search_store.specs.Map.{bucket_words, max_lanes}
 use Rattle.search_wide_buckets.specs.TableLaws.{found-words}
 use Rattle.search_wide_buckets.proofs.found_lane.Goals as goal
 use Rattle.search_wide_buckets.proofs.found_lane.Goals.{Start}
-
--- where the words of a pose begin: those of the row that ran up, of gap 0, of gaps 2 and 3
-abbrev far : Start → ℕ
-far c = c.args.a / 4 * max_lanes + c.args.l
-
-abbrev near : Start → ℕ
-near c = (1 + c.args.a % 4) * bucket_words + (c.args.a / 4 * max_lanes + c.args.l)
-
-abbrev other : Start → ℕ
-other c = (c.args.buckets - 4 + c.args.a % 4) * bucket_words + (c.args.a / 4 * max_lanes + c.args.l)
 
 pub lesser-apart-requires : goal.lesser-apart-requires
 lesser-apart-requires c =

@@ -12,10 +12,6 @@ use Rattle.search_wide_buckets.proofs.spread_one.Goals as goal
 use Rattle.search_wide_buckets.proofs.spread_one.Goals.{After-lower_one}
 
 -- after bucket 0
-abbrev Alone : After-lower_one → Type 0
-Alone c =
-    Spread (charged_one c.args.x c.args.pays.now c.args.u) c.args.t 0 1 c.args.lane 1 c.args.table.now c.lower_one.new.table
-
 alone : (c : After-lower_one) → (Spread (charged_one c.args.x c.args.pays.now c.args.u) c.args.t 0 1 c.args.lane 1 c.args.table.now c.lower_one.new.table)
 alone c =
     let z : c.args.t * max_lanes + c.args.lane ≡ 0 * bucket_words + c.args.t * max_lanes + c.args.lane = omega arith in

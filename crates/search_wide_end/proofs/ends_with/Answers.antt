@@ -12,9 +12,6 @@ use Rattle.search_wide_end.proofs.ends_with.Goals as goal
 use Rattle.search_wide_end.proofs.ends_with.Goals.{After-last_at-k, Else-not-is_there}
 
 -- past the test the position is in the row
-abbrev There : Else-not-is_there → Type 0
-There c = there_in c.args.sizes.cells c.args.sizes.reordering c.args.sizes.cells c.args.q ≡ true
-
 there : (c : Else-not-is_there) → (there_in c.args.sizes.cells c.args.sizes.reordering c.args.sizes.cells c.args.q ≡ true)
 there c = sym c.is_there.ensures ∙ c.if-not-is_there.false
 

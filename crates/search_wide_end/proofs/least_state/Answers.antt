@@ -13,9 +13,6 @@ use Rattle.search_wide_end.proofs.least_state.Goals as goal
 use Rattle.search_wide_end.proofs.least_state.Goals.{Else-not-ends_with}
 
 -- past the test the cell can be the last
-abbrev Can : Else-not-ends_with → Type 0
-Can c = ends_with c.args.row.now c.args.sizes.cells c.args.sizes.reordering c.args.q ≡ true
-
 can : (c : Else-not-ends_with) → (ends_with c.args.row.now c.args.sizes.cells c.args.sizes.reordering c.args.q ≡ true)
 can c = sym c.ends_with.ensures ∙ c.if-not-ends_with.false
 

@@ -16,10 +16,6 @@ use Rattle.search_wide_first.proofs.first_block.Goals as goal
 use Rattle.search_wide_first.proofs.first_block.Goals.{After-last_at-k, Else-not-starts, Start}
 
 -- past the test the state can come first
-abbrev Starts : Else-not-starts → Type 0
-Starts c = starts_at c.args.sizes.cells c.args.sizes.reordering (suc c.args.to.cells)
-    c.args.m c.args.q ≡ true
-
 can : (c : Else-not-starts) → (starts_at c.args.sizes.cells c.args.sizes.reordering (suc c.args.to.cells)
     c.args.m c.args.q ≡ true)
 can c =

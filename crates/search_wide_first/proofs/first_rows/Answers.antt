@@ -15,20 +15,11 @@ needed : (c : After-buckets_of-buckets) → FiveOrNine c.buckets_of-buckets.resu
 needed c = rw c.buckets_of-buckets.ensures (buckets_either c.args.row.now c.args.k)
 
 -- the starts in the rows that count
-abbrev Starts : After-run_up → Type 0
-Starts c =
-    Gathered (start_in c.args.row.now c.args.p c.args.k) (rows_of c.args.poses) c.buckets_of-buckets.result c.args.lanes c.reset.new.table
-    c.from_starts.new.table
-
 starts : (c : After-run_up) → (Gathered (start_in c.args.row.now c.args.p c.args.k) (rows_of c.args.poses) c.buckets_of-buckets.result c.args.lanes c.reset.new.table
     c.from_starts.new.table)
 starts c = rw c.rows_of.ensures at (starts_all c.from_starts.ensures)
 
 -- the table once bucket 0 ran up
-abbrev Table : After-run_up → Type 0
-Table c =
-    TableReady (start_in c.args.row.now c.args.p c.args.k) c.args.poses c.buckets_of-buckets.result c.args.lanes c.run_up.new.table
-
 table : (c : After-run_up) → (TableReady (start_in c.args.row.now c.args.p c.args.k) c.args.poses c.buckets_of-buckets.result c.args.lanes c.run_up.new.table)
 table c =
     ready c.requires.few (five-least ((let it : FiveOrNine c.buckets_of-buckets.result = rw c.buckets_of-buckets.ensures (buckets_either c.args.row.now c.args.k) in it))) (nine-most ((let it : FiveOrNine c.buckets_of-buckets.result = rw c.buckets_of-buckets.ensures (buckets_either c.args.row.now c.args.k) in it))) (λ l v t. starts_low c.args.p c.args.k l v t c.requires.words) (λ l v t h. rw c.buckets_of-buckets.ensures (starts_last c.args.row.now c.args.p c.args.k l v t h))

@@ -19,10 +19,6 @@ use Rattle.search_wide_layer.proofs.from_source.Goals as goal
 use Rattle.search_wide_layer.proofs.from_source.Goals.{After-buckets_of-buckets, After-last_at-right, Else-not-is_way}
 
 -- past the test the state is a source
-abbrev Source : Else-not-is_way → Type 0
-Source c = is_source (deck_in c.args.row.now c.args.sizes) c.args.sizes.reordering c.args.layer.cells c.args.q
-    c.args.p ≡ true
-
 source : (c : Else-not-is_way) → (is_source (deck_in c.args.row.now c.args.sizes) c.args.sizes.reordering c.args.layer.cells c.args.q
     c.args.p ≡ true)
 source c = c.is_way.ensures.source c.if-not-is_way.false

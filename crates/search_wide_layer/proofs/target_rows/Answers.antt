@@ -69,10 +69,6 @@ needed : (c : After-buckets_of-buckets) → FiveOrNine c.buckets_of-buckets.resu
 needed c =
     rw c.buckets_of-buckets.ensures (buckets_either c.args.row.now c.last_at-m.result)
 
-needed_here : (c : After-buckets_of-buckets)
-    → (c.buckets_of-buckets.result ≡ buckets_for c.args.row.now c.args.sizes c.args.layer c.args.q)
-needed_here c = c.buckets_of-buckets.ensures ∙ ap (buckets_in c.args.row.now) ((let it : (c.last_at-m.result ≡ last_at c.args.sizes.reordering (suc c.args.layer.cells) c.args.q) = omega (arith, c.last_at-m.ensures) in it))
-
 last : (c : Start) (buckets : ℕ) → buckets ≡ buckets_for c.args.row.now c.args.sizes c.args.layer c.args.q → (l v t : ℕ) → v < 4
     → bucket c l (buckets - 4 + v) t ≡ bucket c l (5 + v) t
 last c buckets e l v t h =
@@ -88,11 +84,6 @@ looking : (c : After-poses_of-poses) → c.poses_of-poses.result ≤ max_poses
 looking c = omega (arith, c.poses_of-poses.ensures.most, c.requires.stepping.given.grounded.few)
 
 -- the sources are gathered in the rows that these poses look at
-abbrev All : After-gather → Type 0
-All c =
-    Gathered ((states_in c.args.store.now c.args.row.now (deck_in c.args.row.now c.args.sizes) c.args.sizes.reordering c.args.layer.at c.args.layer.cells c.args.q c.args.sizes.states)) (rows_of c.poses_of-poses.result) c.buckets_of-buckets.result c.args.layer.lanes c.reset.new.table
-    c.gather.new.table
-
 all : (c : After-gather) → (Gathered ((states_in c.args.store.now c.args.row.now (deck_in c.args.row.now c.args.sizes) c.args.sizes.reordering c.args.layer.at c.args.layer.cells c.args.q c.args.sizes.states)) (rows_of c.poses_of-poses.result) c.buckets_of-buckets.result c.args.layer.lanes c.reset.new.table
     c.gather.new.table)
 all c =
@@ -115,10 +106,6 @@ nothing c e b l p i = go (dec_lt b c.poses_of-poses.result)
         (c.gather.ensures.unused e) b l h i)
 
 -- the table once bucket 0 ran up
-abbrev Table : After-run_up → Type 0
-Table c =
-    TableReady ((states_in c.args.store.now c.args.row.now (deck_in c.args.row.now c.args.sizes) c.args.sizes.reordering c.args.layer.at c.args.layer.cells c.args.q c.args.sizes.states)) c.poses_of-poses.result c.buckets_of-buckets.result c.args.layer.lanes c.run_up.new.table
-
 table : (c : After-run_up) → (TableReady ((states_in c.args.store.now c.args.row.now (deck_in c.args.row.now c.args.sizes) c.args.sizes.reordering c.args.layer.at c.args.layer.cells c.args.q c.args.sizes.states)) c.poses_of-poses.result c.buckets_of-buckets.result c.args.layer.lanes c.run_up.new.table)
 table c =
     let n = (let it : FiveOrNine c.buckets_of-buckets.result = rw c.buckets_of-buckets.ensures (buckets_either c.args.row.now c.last_at-m.result) in it) in
