@@ -6,16 +6,26 @@
 ghost use Rattle.std.specs.Prelude.{◌≡◌, [], ◌∷◌, ◌^◌, ◌≤◌, ◌<◌, replicate, pos};
 ghost use Rattle.definition.specs.Outcome.{over};
 ghost use Rattle.results.specs.Fields.{max_fields, list_of, FieldsOf, More};
-ghost use Rattle.results.specs.Refusals.{no_refusal, Writable, Refusable};
+ghost use Rattle.results.specs.Refusals.{number_of, line_of, Writable, Refusable};
 
-// A refusal and its line; number 0 refuses nothing.
+// Why a call is refused. A number is the line at fault, counted from 1; the others are at no line.
 #[derive(Clone, Copy)]
-pub struct Refusal {
-    pub number: u32,
-    pub line: u32,
+pub enum Refusal {
+    Form(u32),
+    Range(u32),
+    Count(u32),
+    Order(u32),
+    Placement(u32),
+    Store,
+    Output,
+    NoLegal,
+    LoadCount,
+    LoadOutput,
+    ReasonsOutput,
 }
 
-// The first `count` values, in the order in which an operation names its fields.
+// The first `count` values, in the order in which an operation names its fields. A count beside an array, since the
+// library has no heap for a list that grows.
 #[derive(Drop)]
 pub struct Fields {
     pub count: usize,
@@ -23,10 +33,42 @@ pub struct Fields {
 }
 
 impl Refusal {
-    pub fn none() -> Refusal
-        ensures { result ≡ no_refusal }
+    // What a refused call returns.
+    pub fn number(self) -> u32
+        ensures { result ≡ number_of self }
     {
-        Refusal { number: 0, line: 0 }
+        match self {
+            Refusal::Form(_) => 1,
+            Refusal::Range(_) => 2,
+            Refusal::Count(_) => 3,
+            Refusal::Order(_) => 4,
+            Refusal::Placement(_) => 5,
+            Refusal::Store => 6,
+            Refusal::Output => 7,
+            Refusal::NoLegal => 8,
+            Refusal::LoadCount => 9,
+            Refusal::LoadOutput => 10,
+            Refusal::ReasonsOutput => 11,
+        }
+    }
+
+    // The line at fault, or 0.
+    pub fn line(self) -> u32
+        ensures { result ≡ line_of self }
+    {
+        match self {
+            Refusal::Form(line)
+            | Refusal::Range(line)
+            | Refusal::Count(line)
+            | Refusal::Order(line)
+            | Refusal::Placement(line) => line,
+            Refusal::Store
+            | Refusal::Output
+            | Refusal::NoLegal
+            | Refusal::LoadCount
+            | Refusal::LoadOutput
+            | Refusal::ReasonsOutput => 0,
+        }
     }
 }
 
@@ -65,13 +107,10 @@ impl Fields {
     }
 }
 
-pub fn put_results(results: &mut [i32], refusal: Refusal, fields: Fields)
-    requires { Writable refusal fields }
-    ensures { results.new
-        ≡ over (pos refusal.number ∷ pos refusal.line ∷ list_of fields) results.old }
+pub fn put_results(results: &mut [i32], number: u32, line: u32, fields: Fields)
+    requires { Writable number line fields }
+    ensures { results.new ≡ over (pos number ∷ pos line ∷ list_of fields) results.old }
 {
-    let number = refusal.number;
-    let line = refusal.line;
     let count = fields.count;
     let values = fields.values;
     let len = results.len();
@@ -83,24 +122,24 @@ pub fn put_results(results: &mut [i32], refusal: Refusal, fields: Fields)
         return;
     }
     results[1] = line as i32;
-    let mut i = 0;
-    while i < count {
+    for i in 0..count {
         if len <= i + 2 {
             return;
         }
-        let v = values[i];
-        results[i + 2] = v;
-        i += 1;
+        results[i + 2] = values[i];
     }
 }
 
-// A refusal: its number and line, and so many fields of zero.
-pub fn refuse(results: &mut [i32], refusal: Refusal, count: usize)
+// A refusal: its number and line, and so many fields of zero. Its number, for the caller to return.
+pub fn refuse(results: &mut [i32], refusal: Refusal, count: usize) -> u32
     requires { Refusable refusal count }
-    ensures { results.new ≡ over (pos refusal.number ∷ pos refusal.line
+    ensures number { result ≡ number_of refusal }
+    ensures array { results.new ≡ over (pos (number_of refusal) ∷ pos (line_of refusal)
         ∷ replicate count (pos 0)) results.old }
 {
-    put_results(results, refusal, Fields::zeros(count));
+    let number = refusal.number();
+    put_results(results, number, refusal.line(), Fields::zeros(count));
+    number
 }
 
 // An answer of these fields.
@@ -108,7 +147,7 @@ pub fn answer(results: &mut [i32], fields: Fields)
     requires { fields.count ≤ max_fields }
     ensures { results.new ≡ over (pos 0 ∷ pos 0 ∷ list_of fields) results.old }
 {
-    put_results(results, Refusal::none(), fields);
+    put_results(results, 0, 0, fields);
 }
 
 // An answer of one number.
@@ -116,7 +155,6 @@ pub fn answer_one(results: &mut [i32], value: usize)
     requires { value < 2 ^ 31 }
     ensures { results.new ≡ over (pos 0 ∷ pos 0 ∷ pos value ∷ []) results.old }
 {
-    let fields = Fields::empty();
-    let fields = fields.push(value as i32);
+    let fields = Fields::empty().push(value as i32);
     answer(results, fields);
 }

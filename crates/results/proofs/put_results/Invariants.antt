@@ -1,5 +1,4 @@
 -- `results::put_results` meets its contract: number and line are laid first, then one field a turn, as far as the array reaches.
-use Prim.Native.Nat.{◌-◌, ◌≤◌}
 use mathlib.Core.Path.{◌≡◌}
 use mathlib.Core.List.{◌∷◌}
 use lib.ListN.{length, take}
@@ -10,7 +9,4 @@ use Rattle.results.proofs.put_results.Given as goal
 
 abbrev pub invariant-loop-i : goal.invariant-loop-i
 invariant-loop-i l =
-    (l.i ≤ l.count) × (length l.values ≡ max_fields) × (l.results ≡ over (pos l.number ∷ pos l.line ∷ take l.i l.values) l.initial.results)
-
-abbrev pub decreases-loop-i : goal.decreases-loop-i
-decreases-loop-i l = l.count - l.i
+    (length l.values ≡ max_fields) × (l.results ≡ over (pos l.number ∷ pos l.line ∷ take l.i l.values) l.initial.results)
