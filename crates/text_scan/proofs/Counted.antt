@@ -2,20 +2,20 @@
 use Prim.Native.Nat.{ℕ, zero, suc, ◌+◌, ◌≤◌, ◌<◌}
 use mathlib.Core.Path.{◌≡◌, refl, sym, ap, ◌∙◌}
 use mathlib.Core.Logic.{◌⊎◌, inl, inr}
-use mathlib.Core.Bool.{true, false, false≢true}
+use mathlib.Core.Bool.{false}
 use mathlib.Core.List.{List, [], ◌∷◌, ◌++◌, map}
 use native.Mathlib.Omega.{arith}
 use native.Mathlib.Decide.{ℕ_discrete}
-use lib.ListN.{length, get_or, set, drop, replicate, length-append, length-set, drop_of_length-le}
+use lib.ListN.{length, get_or, set, drop, replicate, length-append, length-set}
 use lib.Seq.{append_snoc, get_or-set_same, get_or-set_other}
 use Rattle.lists.specs.Zeros.{zeros_at}
 use Rattle.definition.specs.Texts.{Text, line_feed, comma, fields_of, value}
 use Rattle.definition.specs.Job.{nth}
 use Rattle.text_scan.specs.Line.{first_line, after_line, readable, fields-first, after_on, after_feed}
-use Rattle.text_scan.specs.Field.{number-form, fields-comma, fields_feed, readable-comma, readable_feed, after-digits, unended}
-use Rattle.text_scan.specs.Found.{NumberTo, NumbersFrom}
+use Rattle.text_scan.specs.Field.{number-form, fields-comma, fields_feed, readable-comma, readable_feed, after-digits}
+use Rattle.text_scan.specs.Found.{NumberTo, NumbersTo}
 use Rattle.text_scan.specs.declared.Number.{Number}
-use Rattle.text_scan.specs.declared.Numbers.{Numbers}
+use Rattle.text_scan.specs.declared.End.TheVariants.{Comma, LineFeed}
 
 pub record FieldsCounted (text : Text) (at : ℕ) (vs : List ℕ) (n i : ℕ) : Type 0 where
   pub done : List Text
@@ -100,7 +100,7 @@ module _ {text : Text} {at n i : ℕ} {vs : List ℕ} (s : FieldsCounted text at
 
   module _ {r : Number} (t : NumberTo text i r) where
     -- what a comma after it leaves to read; what a line feed does
-    pub counted-more : r.last ≡ false → (vs' : List ℕ) → Kept vs n r.value vs' → FieldsCounted text at vs' (n + 1) r.next
+    pub counted-more : r.end ≡ Comma → (vs' : List ℕ) → Kept vs n r.value vs' → FieldsCounted text at vs' (n + 1) r.next
     counted-more e vs' k =
         let f = t.field in
         let d = (number-form f t.number).digits in
@@ -121,8 +121,8 @@ module _ {text : Text} {at n i : ℕ} {vs : List ℕ} (s : FieldsCounted text at
           within = t.within;
         }
 
-    pub counted-end : r.last ≡ true → (vs' : List ℕ) → Kept vs n r.value vs'
-        → NumbersFrom text at (record { ok = true; count = n + 1; next = r.next; values = vs' })
+    pub counted-end : r.end ≡ LineFeed → (vs' : List ℕ) → Kept vs n r.value vs'
+        → NumbersTo text at (record { count = n + 1; next = r.next; values = vs' })
     counted-end e vs' k =
         let f = t.field in
         let d = (number-form f t.number).digits in
@@ -131,8 +131,8 @@ module _ {text : Text} {at n i : ℕ} {vs : List ℕ} (s : FieldsCounted text at
         let q : fields_of (first_line (drop at text)) ≡ s.done ++ f ∷ [] =
         fields-first (drop at text) ∙ s.fields ∙ ap (λ (l : Text). s.done ++ fields_of l) p ∙ ap (λ (l : List Text). s.done ++ l) (fields_feed f d more) in
         record {
-          ok = sym (s.good ∙ ap readable p ∙ readable_feed f d more t.number);
-          found = λ _. record {
+          ok = s.good ∙ ap readable p ∙ readable_feed f d more t.number;
+          found = record {
             past = omega (arith, s.below, t.past);
             within = t.within;
             rest = s.rest ∙ ap after_line p ∙ after-digits (line_feed ∷ more) f d ∙ after_feed more;
@@ -143,8 +143,5 @@ module _ {text : Text} {at n i : ℕ} {vs : List ℕ} (s : FieldsCounted text at
         }
 
   -- no number ends the line
-  pub counted-bad : (r : Numbers) → r.ok ≡ false → readable (drop i text) ≡ false → NumbersFrom text at r
-  counted-bad r e b = record { ok = e ∙ sym (s.good ∙ b); found = λ t. absurd (false≢true (sym e ∙ t)) }
-
-pub none-readable : (text : Text) (i : ℕ) → length text ≤ i → readable (drop i text) ≡ false
-none-readable text i h = ap readable (drop_of_length-le text h) ∙ unended [] refl
+  pub counted-bad : readable (drop i text) ≡ false → readable (drop at text) ≡ false
+  counted-bad b = s.good ∙ b

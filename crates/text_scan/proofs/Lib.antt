@@ -1,4 +1,4 @@
 pub mod Sofar
-pub mod Along
+pub mod Feed
 pub mod Counted
 pub mod Led

@@ -2,21 +2,24 @@
 -- other byte says whether the field is a number.
 use Prim.Native.Nat.{ℕ, ◌+◌, ◌*◌, ◌-◌, ◌^◌, ◌≤◌, ◌<◌}
 use mathlib.Core.Path.{◌≡◌, refl, sym, ap, ◌∙◌}
-use mathlib.Core.Bool.{Bool, true, false, cond, false≢true, and-false, and-eq-true_iff}
+use mathlib.Core.Bool.{Bool, true, false, and-eq-true_iff}
+use mathlib.Core.Logic.{◌⊎◌, inl, inr}
 use mathlib.Core.List.{[], ◌∷◌, ◌++◌}
 use native.Mathlib.Omega.{arith}
 use native.Mathlib.Numerals.{add-one}
 use native.Mathlib.Nat.{pow-suc, pow-le-pow_right, add-zero}
 use lib.ListN.{length, get_or, drop, length-append, get_or-append, drop_of_length-le}
 use lib.Seq.{drop-cons, append_snoc, get_or-drop}
-use borrow.Author.Tests.{ne_eqb, lt-leb, ltb-true, ltb-false}
-use lib.Dec.{leb, ltb}
+use borrow.Author.Tests.{ne_eqb}
+use Rattle.std.proofs.Math.Decide.{ℕ_discrete}
+use Rattle.std.proofs.lemmas.Bool.{cases_lt}
 use Rattle.definition.specs.Lists.{all}
 use Rattle.definition.specs.Texts.{Text, line_feed, comma, is_digit, is_number, value_from}
 use Rattle.text_scan.specs.Line.{readable}
-use Rattle.text_scan.specs.Field.{Digits, is_digit_lem, form-number, no_field, no_digit, five-digits, leading_zero, unended, no-empty}
-use Rattle.text_scan.specs.Found.{NumberFrom}
-use Rattle.text_scan.specs.declared.Number.{Number}
+use Rattle.text_scan.specs.Field.{Digits, digit_high, form-number, no_field, no_digit, five-digits, leading_zero, unended, no-empty}
+use Rattle.text_scan.specs.Found.{byte_of, NoEnd, MoreDigit, NumberTo}
+use Rattle.text_scan.specs.declared.End.{End}
+use Rattle.text_scan.specs.declared.End.TheVariants.{Comma, LineFeed}
 
 pub record DigitsSofar (text : Text) (from i v : ℕ) : Type 0 where
   pub field : Text
@@ -70,57 +73,53 @@ module _ {text : Text} {from i v : ℕ} (s : DigitsSofar text from i v) where
   next : i < length text → drop from text ≡ s.field ++ get_or text i 0 ∷ drop (i + 1) text
   next h = s.split ∙ rw (drop-cons text i 0 h, add-one i)
 
-  pub sofar-more : i < length text → 48 ≤ get_or text i 0 → get_or text i 0 ≤ 57 → i - from < 4 → (from < i → get_or text from 0 ≡ 48 → ⊥)
-      → DigitsSofar text from (i + 1) (v * 10 + (get_or text i 0 - 48))
-  sofar-more h l u k z =
+  pub sofar-more : i < length text → MoreDigit text from i → DigitsSofar text from (i + 1) (v * 10 + (get_or text i 0 - 48))
+  sofar-more h m =
       let b = get_or text i 0 in
       let f = s.field in
       let n : length (f ++ b ∷ []) ≡ length f + 1 = length-append f (b ∷ []) in
+      let d = digit_high b m.digit in
       let p : 10 ^ (length f + 1) ≡ 10 ^ length f * 10 = rw (add-one (length f)) (pow-suc 10 (length f)) in
       record {
         field = f ++ b ∷ [];
         split = next h ∙ sym (append_snoc f b (drop (i + 1) text));
         place = omega (arith, n, s.place);
         within = omega arith;
-        few = omega (arith, n, s.place);
-        digits = digits_more f b s.digits (is_digit_lem b l u);
-        lead = λ m e. z (omega (arith, n, s.place)) e;
+        few = omega (arith, n, s.place, m.few);
+        digits = digits_more f b s.digits m.digit;
+        lead = λ l e. m.lead (omega (arith, n, s.place)) e;
         value = rw (value-more 0 f b, s.value);
-        small = rw n (omega (arith, p, s.small));
+        small = rw n (omega (arith, p, s.small, d));
       }
-
-  pub sofar-fits : i - from < 4 → v ≤ 999
-  sofar-fits h = omega (arith, s.small, power (length s.field) 3 (omega (arith, s.place)))
 
   -- ---- what ends the field
 
-  -- a comma, or the line feed
-  pub sofar-end : (last : Bool) → i < length text → get_or text i 0 ≡ cond last line_feed comma
-      → NumberFrom text from (record { ok = ltb from i; last = last; next = i + 1; value = v })
-  sofar-end last h e =
-      let n = next h ∙ ap (λ (b : ℕ). s.field ++ b ∷ drop (i + 1) text) e in
-      record {
-        good = λ t. let l = ltb-true from i t in record {
-          past = omega arith;
-          within = omega arith;
-          field = s.field;
-          split = n;
-          number = form-number s.field (record {
-            some = omega (arith, s.place);
-            few = s.few;
-            digits = s.digits;
-            lead = λ m z. s.lead m (sym (front (omega arith)) ∙ z);
-          });
-          value = s.value;
-          small = omega (arith, s.small, power (length s.field) 4 s.few);
-        };
-        bad = λ t. let l = ltb-false from i t in ap readable n ∙ empty s.field (omega (arith, s.place)) last;
-      }
+  pub sofar-end : (e : End) → i < length text → get_or text i 0 ≡ byte_of e → from < i
+      → NumberTo text from (record { value = v; end = e; next = i + 1 })
+  sofar-end e h b l = record {
+    past = omega arith;
+    within = omega arith;
+    field = s.field;
+    split = next h ∙ ap (λ (b : ℕ). s.field ++ b ∷ drop (i + 1) text) b;
+    number = form-number s.field (record {
+      some = omega (arith, s.place);
+      few = s.few;
+      digits = s.digits;
+      lead = λ m z. s.lead m (sym (front (omega arith)) ∙ z);
+    });
+    value = s.value;
+    small = omega (arith, s.small, power (length s.field) 4 s.few);
+  }
+
+  -- it ends without a byte
+  pub sofar-empty : (e : End) → i < length text → get_or text i 0 ≡ byte_of e → i ≡ from → readable (drop from text) ≡ false
+  sofar-empty e h b l =
+      ap readable (next h ∙ ap (λ (b : ℕ). s.field ++ b ∷ drop (i + 1) text) b) ∙ empty s.field (omega (arith, s.place)) e
     where
-      empty : (f : Text) → length f ≡ 0 → (last : Bool) → readable (f ++ cond last line_feed comma ∷ drop (i + 1) text) ≡ false
-      empty [] e true = (no-empty (drop (i + 1) text)).1
-      empty [] e false = (no-empty (drop (i + 1) text)).0
-      empty (x ∷ f) e last = absurd (omega arith)
+      empty : (f : Text) → length f ≡ 0 → (e : End) → readable (f ++ byte_of e ∷ drop (i + 1) text) ≡ false
+      empty [] n LineFeed = (no-empty (drop (i + 1) text)).1
+      empty [] n Comma = (no-empty (drop (i + 1) text)).0
+      empty (x ∷ f) n e = absurd (omega arith)
 
   -- any byte that no number has there
   out : i < length text → (get_or text i 0 ≡ line_feed → ⊥) → (get_or text i 0 ≡ comma → ⊥)
@@ -129,25 +128,25 @@ module _ {text : Text} {from i v : ℕ} (s : DigitsSofar text from i v) where
       let b = get_or text i 0 in
       ap readable (next h) ∙ no_field s.field s.digits b (drop (i + 1) text) (ne_eqb b line_feed e) (ne_eqb b comma k) n
 
-  pub sofar-low : i < length text → (get_or text i 0 ≡ line_feed → ⊥) → (get_or text i 0 ≡ comma → ⊥) → get_or text i 0 < 48 → readable (drop from text) ≡ false
-  sofar-low h e k l = out h e k (λ g. no_digit s.field (get_or text i 0) g (rw (lt-leb 48 (get_or text i 0) l)))
+  -- it may be no digit of the number
+  pub sofar-stop : i < length text → NoEnd (get_or text i 0) → (MoreDigit text from i → ⊥) → readable (drop from text) ≡ false
+  sofar-stop h n m = go (is_digit b) refl (cases_lt i (from + 4)) (ℕ_discrete (get_or text from 0) 48)
+    where
+      b : ℕ
+      b = get_or text i 0
 
-  pub sofar-high : i < length text → 57 < get_or text i 0 → readable (drop from text) ≡ false
-  sofar-high h l =
-      let b = get_or text i 0 in
-      out h (λ e. omega arith) (λ e. omega arith) (λ g. no_digit s.field b g (rw (lt-leb b 57 l) (and-false (leb 48 b))))
-
-  pub sofar-long : i < length text → 48 ≤ get_or text i 0 → 4 ≤ i - from → readable (drop from text) ≡ false
-  sofar-long h l k = out h (λ e. omega arith) (λ e. omega arith) (λ g. five-digits s.field (get_or text i 0) g (omega (arith, s.place)))
-
-  pub sofar-zero : i < length text → 48 ≤ get_or text i 0 → from < i → get_or text from 0 ≡ 48 → readable (drop from text) ≡ false
-  sofar-zero h l k z =
-      let n : 1 ≤ length s.field = omega (arith, s.place) in
-      out h (λ e. omega arith) (λ e. omega arith) (λ g. leading_zero s.field (get_or text i 0) g n (front n ∙ z))
+      go : (t : Bool) → is_digit b ≡ t → (i < from + 4) ⊎ (from + 4 ≤ i) → Dec (get_or text from 0 ≡ 48) → readable (drop from text) ≡ false
+      go false d _ _ = out h n.line_feed n.comma (λ g. no_digit s.field b g d)
+      go true d (inr l) _ = out h n.line_feed n.comma (λ g. five-digits s.field b g (omega (arith, s.place)))
+      go true d (inl l) (no z) = absurd (m (record { digit = d; few = l; lead = λ _ e. z e }))
+      go true d (inl l) (yes z) = zero_lead (cases_lt from i)
+        where
+          zero_lead : (from < i) ⊎ (i ≤ from) → readable (drop from text) ≡ false
+          zero_lead (inl k) =
+              let n' : 1 ≤ length s.field = omega (arith, s.place) in
+              out h n.line_feed n.comma (λ g. leading_zero s.field b g n' (front n' ∙ z))
+          zero_lead (inr k) = absurd (m (record { digit = d; few = l; lead = λ q _. omega arith }))
 
   -- the text's end
   pub sofar-out : length text ≤ i → readable (drop from text) ≡ false
   sofar-out h = ap readable (s.split ∙ rw (drop_of_length-le text h)) ∙ unended s.field s.digits
-
-pub no_number : (text : Text) (from : ℕ) (r : Number) → r.ok ≡ false → readable (drop from text) ≡ false → NumberFrom text from r
-no_number text from r e b = record { good = λ t. absurd (false≢true (sym e ∙ t)); bad = λ t. b }

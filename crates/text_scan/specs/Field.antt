@@ -17,14 +17,14 @@ module _ (b : ℕ) (d : is_digit b ≡ true) where
   pub digit_low : 48 ≤ b
   digit_low = leb-true 48 b ((and-eq-true_iff (leb 48 b) (leb b 57)).0 d).0
 
+  pub digit_high : b ≤ 57
+  digit_high = leb-true b 57 ((and-eq-true_iff (leb 48 b) (leb b 57)).0 d).1
+
   digit-no_feed : eqb b line_feed ≡ false
   digit-no_feed = ne_eqb b line_feed (λ e. let h = digit_low in omega arith)
 
   digit-no-comma : eqb b comma ≡ false
   digit-no-comma = ne_eqb b comma (λ e. let h = digit_low in omega arith)
-
-pub is_digit_lem : (b : ℕ) → 48 ≤ b → b ≤ 57 → is_digit b ≡ true
-is_digit_lem b h k = rw (le-leb 48 b h, le-leb b 57 k)
 
 -- ---- digits before a text
 

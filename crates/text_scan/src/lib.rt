@@ -3,25 +3,39 @@
 
 #![tactic(auto)]
 
-ghost use Rattle.std.specs.Prelude.{◌≡◌, false, ◌≤◌, ◌<◌, length};
-ghost use Rattle.text_scan.specs.Found.{LineTo, NumberFrom, NumbersFrom, MayLead, LedFrom};
+ghost use Rattle.std.specs.Prelude.{◌≡◌, ◌↔◌, ◌+◌, ◌≤◌, ◌<◌, length, position, IsTrue, MatchOption, ◌==◌};
+ghost use Rattle.definition.specs.Texts.{line_feed};
+ghost use Rattle.text_scan.specs.Found.{LineTo, byte_of, NoEnd, MoreDigit, NumberFrom};
+ghost use Rattle.text_scan.specs.Found.{NumbersFrom, MayLead, LedFrom};
 
-// A number and where the next field begins; `last` says that a line feed ended it, and no comma.
+// The byte that ends a number.
+#[derive(Clone, Copy, PartialEq, Eq)]
+pub enum End {
+    Comma,
+    LineFeed,
+}
+
+// A number, what ends it, and where the next field begins.
 #[derive(Drop)]
 pub struct Number {
-    pub ok: bool,
-    pub last: bool,
-    pub next: usize,
     pub value: u32,
+    pub end: End,
+    pub next: usize,
 }
 
 // The numbers of a line and where the next line begins. All are counted, and the first 24 kept.
 #[derive(Drop)]
 pub struct Numbers {
-    pub ok: bool,
     pub count: usize,
     pub next: usize,
     pub values: [u32; 24],
+}
+
+// Where the first line feed is.
+fn feed_at(text: &[u8]) -> Option<usize>
+    ensures { result ≡ position (λ b. b == line_feed) text.now }
+{
+    text.iter().position(|b| *b == b'\n')
 }
 
 // The byte after the line that begins at `at`.
@@ -29,133 +43,90 @@ pub fn line_end(text: &[u8], at: usize) -> usize
     requires { at < length text.now }
     ensures { LineTo text.now at result }
 {
-    let mut i = at;
-    while i < text.len() {
-        let b = text[i];
-        i += 1;
-        if b == b'\n' {
-            return i;
-        }
+    match feed_at(&text[at..]) {
+        Some(feed) => at + feed + 1,
+        None => text.len(),
     }
-    i
 }
 
-// The number that begins at `from`, as far as it is one.
-pub fn read_number(text: &[u8], from: usize) -> Number
+fn end_of(b: u8) -> Option<End>
+    ensures { MatchOption result (NoEnd b) (λ e. b ≡ byte_of e) }
+{
+    match b {
+        b',' => Some(End::Comma),
+        b'\n' => Some(End::LineFeed),
+        _ => None,
+    }
+}
+
+// The byte at `i` may be one more digit of the number that begins at `from`.
+fn is_more(text: &[u8], from: usize, i: usize) -> bool
+    requires order { from ≤ i }
+    requires inside { i < length text.now }
+    ensures { IsTrue result ↔ MoreDigit text.now from i }
+{
+    let after_zero = from < i && text[from] == b'0';
+    text[i].is_ascii_digit() && i - from < 4 && !after_zero
+}
+
+// The number that begins at `from`, if a comma or a line feed ends it.
+pub fn read_number(text: &[u8], from: usize) -> Option<Number>
     requires { from ≤ length text.now }
     ensures { NumberFrom text.now from result }
 {
-    let none = Number {
-        ok: false,
-        last: false,
-        next: from,
-        value: 0,
-    };
-    let mut value: u32 = 0;
-    let mut i = from;
-    while i < text.len() {
+    let mut value = 0;
+    for i in from..text.len() {
         let b = text[i];
-        if b == b',' {
-            return Number {
-                ok: from < i,
-                last: false,
-                next: i + 1,
-                value,
-            };
-        }
-        if b == b'\n' {
-            return Number {
-                ok: from < i,
-                last: true,
-                next: i + 1,
-                value,
-            };
-        }
-        if b < b'0' {
-            return none;
-        }
-        if b'9' < b {
-            return none;
-        }
-        if 4 <= i - from {
-            return none;
-        }
-        if from < i {
-            if text[from] == b'0' {
-                return none;
+        if let Some(end) = end_of(b) {
+            if i == from {
+                return None;
             }
+            return Some(Number {
+                value,
+                end,
+                next: i + 1,
+            });
         }
-        value = value * 10 + (b - b'0') as u32;
-        i += 1;
+        if !is_more(text, from, i) {
+            return None;
+        }
+        value = value * 10 + u32::from(b - b'0');
     }
-    none
+    None
 }
 
-// The numbers of the line that begins at `at`, up to the first field that is none.
-pub fn read_numbers(text: &[u8], at: usize) -> Numbers
+// The numbers of the line that begins at `at`, if its fields are numbers.
+pub fn read_numbers(text: &[u8], at: usize) -> Option<Numbers>
     requires { at ≤ length text.now }
     ensures { NumbersFrom text.now at result }
 {
     let mut values = [0u32; 24];
-    let mut count: usize = 0;
-    let mut i = at;
-    while i < text.len() {
-        let n = read_number(text, i);
-        if !n.ok {
-            return Numbers {
-                ok: false,
-                count,
-                next: i,
-                values,
-            };
-        }
+    let mut count = 0;
+    let mut next = at;
+    loop {
+        let n = read_number(text, next)?;
         if count < 24 {
             values[count] = n.value;
         }
         count += 1;
-        i = n.next;
-        if n.last {
-            return Numbers {
-                ok: true,
+        next = n.next;
+        if n.end == End::LineFeed {
+            return Some(Numbers {
                 count,
-                next: i,
+                next,
                 values,
-            };
+            });
         }
-    }
-    Numbers {
-        ok: false,
-        count,
-        next: i,
-        values,
     }
 }
 
 // The numbers after the lead of the line that begins at `at`.
-pub fn read_led(text: &[u8], at: usize, lead: u8) -> Numbers
+pub fn read_led(text: &[u8], at: usize, lead: u8) -> Option<Numbers>
     requires { MayLead text.now at lead }
     ensures { LedFrom lead text.now at result }
 {
-    if text[at] != lead {
-        return none(at);
-    }
-    if text.len() <= at + 1 {
-        return none(at);
-    }
-    if text[at + 1] != b',' {
-        return none(at);
+    if !text[at..].starts_with(&[lead, b',']) {
+        return None;
     }
     read_numbers(text, at + 2)
-}
-
-// No numbers.
-fn none(at: usize) -> Numbers
-    ensures { result.ok ≡ false }
-{
-    Numbers {
-        ok: false,
-        count: 0,
-        next: at,
-        values: [0u32; 24],
-    }
 }
