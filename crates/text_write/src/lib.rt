@@ -22,10 +22,8 @@ pub fn put_bytes(output: &mut [u8], at: usize, text: &[u8]) -> usize
     ensures { Wrote text.now output.old at output.new result }
 {
     let mut p = at;
-    let mut i = 0;
-    while i < text.len() {
-        p = put_byte(&mut *output, p, text[i]);
-        i += 1;
+    for b in text {
+        p = put_byte(&mut *output, p, *b);
     }
     p
 }
@@ -51,22 +49,15 @@ pub fn put_field(output: &mut [u8], at: usize, n: u32, after: u8) -> usize
     put_byte(output, p, after)
 }
 
-// The size of a negative number. The least one's fits no signed number of its width.
-fn size(z: i32) -> u32
-    requires { lt_z z (pos 0) ≡ true }
-    ensures { result ≡ nat_abs z }
-{
-    (0 - z as i64) as u32
-}
-
 // A number with `-` before it if it is negative.
 pub fn put_signed(output: &mut [u8], at: usize, z: i32) -> usize
     requires { Room (signed z) output.old at }
     ensures { Wrote (signed z) output.old at output.new result }
 {
+    let size = z.unsigned_abs();
     if z < 0 {
         let p = put_byte(&mut *output, at, b'-');
-        return put_number(output, p, size(z));
+        return put_number(output, p, size);
     }
-    put_number(output, at, z as u32)
+    put_number(output, at, size)
 }
