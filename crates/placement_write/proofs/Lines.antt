@@ -3,8 +3,8 @@ use Prim.Native.Nat.{ℕ, ◌+◌, ◌<◌, ◌≤◌}
 use mathlib.Core.Path.{◌≡◌, ap, ◌∙◌}
 use mathlib.Core.List.{List, [], ◌∷◌, ◌++◌, append_assoc}
 use native.Mathlib.Omega.{arith}
-use lib.ListN.{length, take, get_or, length-map, length-take, get_or-map}
-use lib.Seq.{get_or-take, take_all}
+use lib.ListN.{length, take, get_or, length-map, get_or-map}
+use lib.Seq.{take_all}
 use Rattle.definition.specs.Texts.{digits, comma, line_feed}
 use Rattle.definition.specs.Placement.{Pose, line_of, text_of}
 use Rattle.definition.specs.Rules.{pose_at}
@@ -14,13 +14,13 @@ use Rattle.job.specs.declared.Placement.{Placement}
 use Rattle.text_write.specs.Put.{Room, Wrote}
 use Rattle.text_write.specs.Puts.{then, rest}
 
-pub placed-count : (P : Placement) → P.count ≤ length P.poses → length (placement_of P) ≡ P.count
+pub placed-count : (P : Placement) → length (placement_of P) ≡ length (take P.count P.poses)
 unfolding placement_of
-placed-count P h = length-map (take P.count P.poses) pose_of ∙ length-take P.count P.poses ∙ omega arith
+placed-count P = length-map (take P.count P.poses) pose_of
 
-pub placed_at : (P : Placement) (i : ℕ) → i < P.count → pose_at (placement_of P) i ≡ pose_of (get_or P.poses i empty_pose)
+pub placed_at : (P : Placement) (i : ℕ) → pose_at (placement_of P) i ≡ pose_of (get_or (take P.count P.poses) i empty_pose)
 unfolding placement_of
-placed_at P i h = get_or-map pose_of (take P.count P.poses) i empty_pose ∙ ap pose_of (get_or-take P.count P.poses i empty_pose h)
+placed_at P i = get_or-map pose_of (take P.count P.poses) i empty_pose
 
 -- a line as the three fields that are written
 abbrev pub in_fields : Pose → List ℕ
@@ -30,25 +30,28 @@ pub in_fields_lem : (p : Pose) → line_of p ≡ in_fields p
 in_fields_lem p = simp append_assoc
 
 -- one line more
-module _ (P : Placement) (many : P.count ≤ length P.poses) (i : ℕ) (low : i < P.count) where
-  text-next : text_of (take (i + 1) (placement_of P)) ≡ text_of (take i (placement_of P)) ++ line_of (pose_of (get_or P.poses i empty_pose))
-  text-next =
-      text-more (placement_of P) i (omega (arith, placed-count P many)) ∙ ap (λ (p : Pose). text_of (take i (placement_of P)) ++ line_of p) (placed_at P i low)
+module _ (P : Placement) (i : ℕ) (low : i < length (take P.count P.poses)) where
+  abbrev line : List ℕ
+  line = line_of (pose_of (get_or (take P.count P.poses) i empty_pose))
 
-  pub next-room : {l m : List ℕ} {at : ℕ} → length (text_of (placement_of P)) ≤ length l → Wrote (text_of (take i (placement_of P))) l 0 m at
-      → Room (line_of (pose_of (get_or P.poses i empty_pose))) m at
+  text-next : text_of (take (i + 1) (placement_of P)) ≡ text_of (take i (placement_of P)) ++ line
+  text-next =
+      text-more (placement_of P) i (omega (arith, placed-count P))
+      ∙ ap (λ (p : Pose). text_of (take i (placement_of P)) ++ line_of p) (placed_at P i)
+
+  pub next-room : {l m : List ℕ} {at : ℕ} → length (text_of (placement_of P)) ≤ length l
+      → Wrote (text_of (take i (placement_of P))) l 0 m at → Room line m at
   next-room {l} fits done =
       let more : Room (text_of (take (i + 1) (placement_of P))) l 0 = record { fits = omega (arith, text-within (placement_of P) (i + 1)) } in
       rest (rw text-next at more) done
 
-  pub next_wrote : {l m n : List ℕ} {at r : ℕ} → Wrote (text_of (take i (placement_of P))) l 0 m at
-      → Wrote (line_of (pose_of (get_or P.poses i empty_pose))) m at n r
+  pub next_wrote : {l m n : List ℕ} {at r : ℕ} → Wrote (text_of (take i (placement_of P))) l 0 m at → Wrote line m at n r
       → Wrote (text_of (take (i + 1) (placement_of P))) l 0 n r
   next_wrote done w = rw text-next (then done w)
 
 -- all lines
-pub all_wrote : (P : Placement) → P.count ≤ length P.poses → {l m : List ℕ} {at : ℕ} → Wrote (text_of (take P.count (placement_of P))) l 0 m at
-    → Wrote (text_of (placement_of P)) l 0 m at
-all_wrote P many w =
-    let e : take P.count (placement_of P) ≡ placement_of P = take_all P.count (placement_of P) (omega (arith, placed-count P many)) in
+pub all_wrote : (P : Placement) (i : ℕ) → length (take P.count P.poses) ≤ i → {l m : List ℕ} {at : ℕ}
+    → Wrote (text_of (take i (placement_of P))) l 0 m at → Wrote (text_of (placement_of P)) l 0 m at
+all_wrote P i many w =
+    let e : take i (placement_of P) ≡ placement_of P = take_all i (placement_of P) (omega (arith, placed-count P)) in
     rw e at w

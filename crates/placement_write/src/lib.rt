@@ -26,10 +26,8 @@ pub fn put_placement(output: &mut [u8], placement: Placement) -> usize
     ensures { Wrote (text_of (placement_of placement)) output.old 0 output.new result }
 {
     let mut at = 0;
-    let mut i = 0;
-    while i < placement.count {
-        at = put_pose(&mut *output, at, placement.poses[i]);
-        i += 1;
+    for pose in &placement.poses[..placement.count] {
+        at = put_pose(&mut *output, at, *pose);
     }
     at
 }
