@@ -1,11 +1,14 @@
 -- The first four numbers of a line, and what the lines so far leave to the next.
-use Rattle.std.specs.Prelude.{ℕ, zero, suc, ◌+◌, ◌*◌, ◌≤◌, max, ◌≡◌, refl, Bool, true, false, cond, List, [], ◌∷◌, ◌++◌, length, eqb}
-use Rattle.std.proofs.Common.{ap, ◌∙◌, arith}
+use Rattle.std.specs.Prelude.{ℕ, zero, suc, ◌+◌, ◌*◌, ◌≤◌, max, ◌≡◌, refl, Bool, true, false, cond, List, [], ◌∷◌, ◌++◌, length, eqb, ◌<◌, get_or, take, drop}
+use Rattle.std.proofs.Common.{ap, sym, ◌∙◌, arith, take-append-drop}
+use Rattle.std.proofs.lemmas.List.{drop_more, take_more}
 use Rattle.definition.specs.Job.{cell_lead, max_given}
 use Rattle.definition.specs.Draws.{◌to◌, drawn, draws}
 use Rattle.definition.specs.Load.{Load, largest, row_drawn, layouts_drawn, listed}
 use Rattle.definition.specs.Texts.{within}
 use Rattle.text_laws.specs.Numbers.{also}
+use Rattle.text_write.specs.Put.{Room, Wrote}
+use Rattle.text_write.specs.Puts.{then, first, rest}
 use Rattle.load_laws.specs.Lines.{field_bytes, is-printable, listed-long}
 use Rattle.load_laws.specs.Accepted.{job_from}
 use Rattle.job_tally.specs.declared.Tally.{Tally}
@@ -73,19 +76,30 @@ largest-stands (suc (suc (suc row))) s h = absurd (omega arith)
 
 -- ---- the text of an opening
 
--- in the five parts that are written
-abbrev pub in_parts : Opening → List ℕ
-in_parts h =
-    (cell_lead ∷ [])
-    ++ (listed (h.row ∷ [])
-    ++ (listed (h.given ∷ []) ++ (listed (h.mirrorable ∷ []) ++ listed (h.layouts ∷ []))))
+-- the lead and the first i numbers
+abbrev pub opening_part : Opening → ℕ → List ℕ
+opening_part h i = cell_lead ∷ listed (take i (opening_numbers h))
 
-pub in_parts_lem : (h : Opening) → opening_text h ≡ in_parts h
-in_parts_lem h = ap (λ (l : List ℕ). cell_lead ∷ l) (
-    listed_append (h.row ∷ []) (h.given ∷ h.mirrorable ∷ h.layouts ∷ [])
-    ∙ ap (λ (l : List ℕ). listed (h.row ∷ []) ++ l) (
-    listed_append (h.given ∷ []) (h.mirrorable ∷ h.layouts ∷ [])
-    ∙ ap (λ (l : List ℕ). listed (h.given ∷ []) ++ l) (listed_append (h.mirrorable ∷ []) (h.layouts ∷ []))))
+-- one number more
+module _ (h : Opening) (i : ℕ) (few : i < length (opening_numbers h)) {l m : List ℕ} {at p : ℕ}
+    (done : Wrote (opening_part h i) l at m p) where
+  abbrev number : List ℕ
+  number = listed (get_or (opening_numbers h) i 0 ∷ [])
+
+  pub number-room : Room (opening_text h) l at → Room number m p
+  number-room room =
+      let all : opening_text h ≡ opening_part h i ++ listed (drop i (opening_numbers h)) =
+      ap (λ (l : List ℕ). cell_lead ∷ listed l) (sym (take-append-drop i (opening_numbers h)))
+      ∙ ap (λ (l : List ℕ). cell_lead ∷ l) (listed_append (take i (opening_numbers h)) (drop i (opening_numbers h))) in
+      let next : listed (drop i (opening_numbers h)) ≡ number ++ listed (drop (i + 1) (opening_numbers h)) =
+      ap listed (drop_more (opening_numbers h) i 0 few)
+      ∙ listed_append (get_or (opening_numbers h) i 0 ∷ []) (drop (i + 1) (opening_numbers h)) in
+      first (listed (drop (i + 1) (opening_numbers h))) (rw next at (rest (rw all at room) done))
+
+  pub number_wrote : {n : List ℕ} {r : ℕ} → Wrote number m p n r → Wrote (opening_part h (i + 1)) l at n r
+  number_wrote w =
+      rw (take_more (opening_numbers h) i 0 few, listed_append (take i (opening_numbers h)) (get_or (opening_numbers h) i 0 ∷ []))
+      (then done w)
 
 -- it takes at most its lead and four numbers
 pub opening-long : {p : Progress} {h : Opening} → DrewOpening p h → length (opening_text h) ≤ 1 + 4 * field_bytes

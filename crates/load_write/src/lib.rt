@@ -55,16 +55,14 @@ fn put_fields(output: &mut [u8], cursor: Cursor, count: u32, low: u32, high: u32
     ensures { WroteFields (replicate count (low to high)) cursor
         output.old output.new result }
 {
-    let mut at = cursor.at;
-    let mut generator = cursor.generator;
-    let mut i = 0;
-    while i < count {
-        generator = generator.next();
+    let mut c = cursor;
+    for i in 0..count {
+        let generator = c.generator.next();
         let n = generator.field(low, high);
-        at = put_listed(&mut *output, at, n);
-        i += 1;
+        let at = put_listed(&mut *output, c.at, n);
+        c = Cursor { at, generator };
     }
-    Cursor { at, generator }
+    c
 }
 
 // One layout: its width and its heights.
@@ -82,10 +80,8 @@ fn put_layouts(output: &mut [u8], cursor: Cursor, layouts: u32, heights: u32) ->
         output.old output.new result }
 {
     let mut c = cursor;
-    let mut i = 0;
-    while i < layouts {
+    for i in 0..layouts {
         c = put_layout(&mut *output, c, heights);
-        i += 1;
     }
     c
 }
@@ -94,26 +90,18 @@ fn put_layouts(output: &mut [u8], cursor: Cursor, layouts: u32, heights: u32) ->
 fn largest_in(t: Tally, row: u32) -> u32
     ensures { result ≡ largest_of t row }
 {
-    if row == 2 {
-        if t.first < t.second {
-            return t.second;
-        }
-        return t.first;
+    match row {
+        2 => t.first.max(t.second),
+        0 => t.first,
+        _ => t.second,
     }
-    if row == 0 {
-        return t.first;
-    }
-    t.second
 }
 
 // No tall cell comes after the last that a job may have.
 fn last_row(tall: usize) -> u32
     ensures { result ≡ cond (ltb tall max_tall) 2 1 }
 {
-    if tall < Job::MAX_TALL {
-        return 2;
-    }
-    1
+    if tall < Job::MAX_TALL { 2 } else { 1 }
 }
 
 // Row, given site, mirrorable and layouts of the next cell.
@@ -144,21 +132,24 @@ fn put_opening(output: &mut [u8], at: usize, opening: Opening) -> usize
     requires { Room (opening_text opening) output.old at }
     ensures { Wrote (opening_text opening) output.old at output.new result }
 {
-    let p = put_byte(&mut *output, at, b'C');
-    let q = put_listed(&mut *output, p, opening.row);
-    let r = put_listed(&mut *output, q, opening.given);
-    let s = put_listed(&mut *output, r, opening.mirrorable);
-    put_listed(output, s, opening.layouts)
+    let numbers = [
+        opening.row,
+        opening.given,
+        opening.mirrorable,
+        opening.layouts,
+    ];
+    let mut p = put_byte(&mut *output, at, b'C');
+    for n in numbers {
+        p = put_listed(&mut *output, p, n);
+    }
+    p
 }
 
 // How many heights a layout has.
 fn heights_of(row: u32) -> u32
     ensures { result ≡ layout_size row - 1 }
 {
-    if row == 2 {
-        return 8;
-    }
-    4
+    if row == 2 { 8 } else { 4 }
 }
 
 // The line of one cell.
@@ -204,10 +195,8 @@ pub fn put_load(output: &mut [u8], seed: u32, cells: u32) -> usize
             second: 0,
         },
     };
-    let mut i = 0;
-    while i < cells {
+    for i in 0..cells {
         p = put_cell(&mut *output, p);
-        i += 1;
     }
     p.cursor.at
 }

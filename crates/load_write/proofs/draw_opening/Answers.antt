@@ -1,7 +1,7 @@
 -- Four draws in line order; the first says which largest site the second is added to.
 use Prim.Native.Nat.{ℕ, ◌+◌, ◌≤◌}
 use mathlib.Core.Path.{◌≡◌, ap, ap₂, ◌∙◌}
-use mathlib.Core.Bool.{Bool, true, false, cond}
+use mathlib.Core.Bool.{cond}
 use native.Mathlib.Omega.{arith}
 use lib.Dec.{ltb}
 use Rattle.definition.specs.Job.{max_tall}
@@ -12,57 +12,25 @@ use Rattle.load_laws.specs.Draws.{drawn-high}
 use Rattle.load_draws.specs.Generators.{generator_of}
 use Rattle.load_write.specs.Openings.{tally-low, largest-stands}
 use Rattle.load_write.proofs.draw_opening.Goals as goal
+use Rattle.load_write.proofs.draw_opening.Goals.{After-field}
 
--- the last row is 1 or 2
-last-low : (t : Bool) → (cond t 2 1 ≤ 2) × (1 ≤ cond t 2 1)
-last-low true = (omega arith, omega arith)
-last-low false = (omega arith, omega arith)
-
-pub field-row-requires : goal.field-row-requires
-field-row-requires c =
-    let tall = c.args.p.tally.tall in
-    record { some = omega arith; few = omega (arith, c.last_row.ensures, (last-low (ltb tall max_tall)).0) }
+-- the given site is at most the largest so far and 12
+given-low : (c : After-field) → c.largest_in.result + c.field.result ≤ 9999
+given-low c =
+    omega (arith, tally-low c.field-row.result c.requires, drawn-high (0 to 12) (generator_of c.next-g2.result) (omega arith))
 
 pub overflow_add-given : goal.overflow_add-given
-overflow_add-given c =
-    omega (
-      arith,
-      c.largest_in.ensures,
-      tally-low c.field-row.result c.requires,
-      c.field.ensures,
-      drawn-high (0 to 12) (generator_of c.next-g2.result) (omega arith),
-    )
+overflow_add-given c = omega (arith, given-low (goal.at-overflow_add-given c).After-field)
 
 pub returns : goal.returns
 returns c =
-    let top = last-low (ltb c.args.p.tally.tall max_tall) in
     let row_low : c.field-row.result ≤ 2 =
-    omega (
-      arith,
-      c.field-row.ensures,
-      drawn-high (0 to c.last_row.result) (generator_of c.next-g1.result) (omega arith),
-      c.last_row.ensures,
-      top.0,
-    ) in
+    grind (arith, drawn-high (0 to c.last_row.result) (generator_of c.next-g1.result) (omega arith)) in
     record {
       row = row_low;
-      given = omega (
-        arith,
-        c.largest_in.ensures,
-        tally-low c.field-row.result c.requires,
-        c.field.ensures,
-        drawn-high (0 to 12) (generator_of c.next-g2.result) (omega arith),
-      );
-      mirrorable = omega (
-        arith,
-        c.field-mirrorable.ensures,
-        drawn-high (0 to 1) (generator_of c.next-g3.result) (omega arith),
-      );
-      layouts = omega (
-        arith,
-        c.field-layouts.ensures,
-        drawn-high (1 to 2) (generator_of c.next-generator.result) (omega arith),
-      );
+      given = given-low (goal.at-returns c).After-field;
+      mirrorable = omega (arith, drawn-high (0 to 1) (generator_of c.next-g3.result) (omega arith));
+      layouts = omega (arith, drawn-high (1 to 2) (generator_of c.next-generator.result) (omega arith));
       of = λ l st.
           let g1 = c.next-g1.ensures ∙ ap next st.generator in
           let g2 = c.next-g2.ensures ∙ ap next g1 in

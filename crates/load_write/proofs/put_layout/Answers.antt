@@ -6,10 +6,6 @@ use Rattle.definition.specs.Draws.{◌to◌}
 use Rattle.load_write.specs.Fields.{fields-then, rest-room}
 use Rattle.load_write.proofs.put_layout.Goals as goal
 
-pub put_fields-c-requires : goal.put_fields-c-requires
-put_fields-c-requires c =
-    record { form = record { some = omega arith; few = omega arith }; room = record { fits = omega (arith, c.requires.fits) } }
-
 pub put_fields-requires : goal.put_fields-requires
 put_fields-requires c =
     record {
