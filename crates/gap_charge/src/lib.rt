@@ -12,28 +12,23 @@ pub const FORBIDDEN_GAP: usize = 1;
 pub fn charge_of(gap: usize) -> u32
     ensures { result ≡ charge gap }
 {
-    if gap == FORBIDDEN_GAP {
-        return 0;
+    match gap {
+        FORBIDDEN_GAP => 0,
+        0..4 => 1,
+        _ => 0,
     }
-    if gap < 4 { 1 } else { 0 }
 }
 
 // Of that, what is charged where cells touch.
 pub fn touching_of(gap: usize) -> u32
     ensures { result ≡ touching gap }
 {
-    if gap == 0 {
-        return charge_of(gap);
-    }
-    0
+    if gap == 0 { charge_of(gap) } else { 0 }
 }
 
 // And what is charged of a filled step.
 pub fn filled_of(gap: usize) -> u32
     ensures { result ≡ filled gap }
 {
-    if gap == 0 {
-        return 0;
-    }
-    charge_of(gap)
+    if gap == 0 { 0 } else { charge_of(gap) }
 }
