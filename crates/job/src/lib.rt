@@ -2,21 +2,21 @@
 
 #![tactic(auto)]
 
-ghost use Rattle.std.specs.Prelude.{◌≡◌, ◌≤◌, ◌<◌, min};
+ghost use Rattle.std.specs.Prelude.{◌≡◌, ◌≤◌, ◌<◌};
 ghost use Rattle.definition.specs.Rules.{apart, offer_of, choice_offered, site_offered};
-ghost use Rattle.job.specs.Value.{empty_layout, empty_cell, empty_header, empty_job, empty_pose, empty_placement};
+ghost use Rattle.job.specs.Value.{empty_job, empty_placement};
 ghost use Rattle.job.specs.Value.{header_of, cell_of, pose_of, offer_in, height_count};
 ghost use Rattle.job.specs.Parts.{stands_in, width_in, height_in, FirstHeight};
 
 // A width and eight heights: left P, left N, right P, right N of row 0 (or of the single cell's row), then of row 1.
-#[derive(Clone, Copy)]
+#[derive(Clone, Copy, Default)]
 pub struct Layout {
     pub width: u32,
     pub heights: [u32; 8],
 }
 
 // Row is 0, 1, or 2 for a tall cell; `layouts` is how many of the two are there. A fixed cell must not move.
-#[derive(Clone, Copy)]
+#[derive(Clone, Copy, Default)]
 pub struct Cell {
     pub fixed: bool,
     pub row: u32,
@@ -28,7 +28,7 @@ pub struct Cell {
 }
 
 // The weight `step` is of steps where cells touch, `filled` of those against filler.
-#[derive(Clone, Copy)]
+#[derive(Clone, Copy, Default)]
 pub struct Header {
     pub rows: u32,
     pub sites: u32,
@@ -53,50 +53,6 @@ impl Layout {
     pub const MAX_WIDTH: u32 = 64;
 
     pub const MAX_HEIGHT: u32 = 15;
-
-    pub fn empty() -> Layout
-        ensures { result ≡ empty_layout }
-    {
-        Layout {
-            width: 0,
-            heights: [0u32; 8],
-        }
-    }
-}
-
-impl Cell {
-    pub fn empty() -> Cell
-        ensures { result ≡ empty_cell }
-    {
-        let l = Layout::empty();
-        Cell {
-            fixed: false,
-            row: 0,
-            given: 0,
-            mirrorable: false,
-            layouts: 0,
-            first: l,
-            second: l,
-        }
-    }
-}
-
-impl Header {
-    pub fn empty() -> Header
-        ensures { result ≡ empty_header }
-    {
-        Header {
-            rows: 0,
-            sites: 0,
-            displacement: 0,
-            reordering: 0,
-            step: 0,
-            shift: 0,
-            mirror: 0,
-            swap: 0,
-            filled: 0,
-        }
-    }
 }
 
 impl Job {
@@ -114,21 +70,20 @@ impl Job {
 
     pub const MAX_GIVEN: u32 = 1023;
 
+    // By hand: its callers cite `empty_job`, and what a derived `default` promises does not name it.
     pub fn empty() -> Job
         ensures { result ≡ empty_job }
     {
-        let h = Header::empty();
-        let c = Cell::empty();
         Job {
-            header: h,
+            header: Header::default(),
             count: 0,
-            cells: [c; Job::MAX_CELLS],
+            cells: [Cell::default(); Job::MAX_CELLS],
         }
     }
 }
 
 // Where a cell stands: its left site, its layout number and its mirror mark.
-#[derive(Clone, Copy)]
+#[derive(Clone, Copy, Default)]
 pub struct Pose {
     pub site: u32,
     pub layout: u32,
@@ -142,26 +97,14 @@ pub struct Placement {
     pub poses: [Pose; Job::MAX_CELLS],
 }
 
-impl Pose {
-    pub fn empty() -> Pose
-        ensures { result ≡ empty_pose }
-    {
-        Pose {
-            site: 0,
-            layout: 0,
-            mark: 0,
-        }
-    }
-}
-
 impl Placement {
+    // By hand, as an empty job.
     pub fn empty() -> Placement
         ensures { result ≡ empty_placement }
     {
-        let p = Pose::empty();
         Placement {
             count: 0,
-            poses: [p; Job::MAX_CELLS],
+            poses: [Pose::default(); Job::MAX_CELLS],
         }
     }
 }
@@ -177,7 +120,7 @@ pub fn stands(of: u32, row: u32) -> bool
 pub fn apart_of(a: u32, b: u32) -> u32
     ensures { result ≡ apart a b }
 {
-    if a < b { b - a } else { a - b }
+    a.abs_diff(b)
 }
 
 // What rules 1 and 3 leave to a cell: how far from its given site it may stand, which layout numbers it may take,
@@ -190,13 +133,8 @@ pub struct Offer {
     pub mirrorable: bool,
 }
 
-fn two_at_most(n: u32) -> u32
-    ensures { result ≡ min n 2 }
-{
-    if n < 2 { n } else { 2 }
-}
-
 // A fixed cell keeps its given site, layout 0 and mark 0.
+#[tactic(auto, unfolding(crate::specs::Value::cell_of, crate::specs::Value::header_of))]
 pub fn offer_of(header: Header, cell: Cell) -> Offer
     ensures { offer_in result ≡ offer_of (header_of header) (cell_of cell) }
 {
@@ -211,7 +149,7 @@ pub fn offer_of(header: Header, cell: Cell) -> Offer
     Offer {
         given: cell.given,
         limit: header.displacement,
-        layouts: two_at_most(cell.layouts),
+        layouts: cell.layouts.min(2),
         mirrorable: cell.mirrorable,
     }
 }
@@ -227,28 +165,26 @@ pub fn offers_choice(offer: Offer, pose: Pose) -> bool
 pub fn offers_site(offer: Offer, pose: Pose) -> bool
     ensures { result ≡ site_offered (offer_in offer) (pose_of pose) }
 {
-    apart_of(pose.site, offer.given) <= offer.limit
+    pose.site.abs_diff(offer.given) <= offer.limit
 }
 
 // The width of a cell in a layout; 0 in one that it lacks.
+#[tactic(auto, unfolding(crate::specs::Value::cell_of))]
 pub fn width_of(cell: Cell, layout: u32) -> u32
     ensures { result ≡ width_in (cell_of cell) layout }
 {
     if cell.layouts <= layout {
         return 0;
     }
-    if layout == 0 {
-        let first = cell.first;
-        return first.width;
+    match layout {
+        0 => cell.first.width,
+        1 => cell.second.width,
+        _ => 0,
     }
-    if layout == 1 {
-        let second = cell.second;
-        return second.width;
-    }
-    0
 }
 
 // Height number i of a cell in a layout; 0 in one that it lacks.
+#[tactic(auto, unfolding(crate::specs::Value::cell_of))]
 pub fn height_of(cell: Cell, layout: u32, i: usize) -> u32
     requires { i < height_count cell.row }
     ensures { result ≡ height_in (cell_of cell) layout i }
@@ -256,15 +192,11 @@ pub fn height_of(cell: Cell, layout: u32, i: usize) -> u32
     if layout >= cell.layouts {
         return 0;
     }
-    if layout == 0 {
-        let first = cell.first;
-        return first.heights[i];
+    match layout {
+        0 => cell.first.heights[i],
+        1 => cell.second.heights[i],
+        _ => 0,
     }
-    if layout == 1 {
-        let second = cell.second;
-        return second.heights[i];
-    }
-    0
 }
 
 // Where the row's four heights begin: a tall cell's row 1 has the second four.
@@ -272,8 +204,5 @@ pub fn first_of(of: u32, row: u32) -> usize
     requires { row ≤ 1 }
     ensures { FirstHeight of row result }
 {
-    if of == 2 {
-        return 4 * (row as usize);
-    }
-    0
+    if of == 2 { 4 * (row as usize) } else { 0 }
 }

@@ -1,4 +1,0 @@
-use Rattle.job.proofs.Cell.empty.Goals as goal
-
-pub returns : goal.returns
-returns c = rw c.empty-l.ensures

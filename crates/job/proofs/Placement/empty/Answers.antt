@@ -1,4 +1,0 @@
-use Rattle.job.proofs.Placement.empty.Goals as goal
-
-pub returns : goal.returns
-returns c = rw c.empty-p.ensures
