@@ -15,20 +15,14 @@ use job::{Job, Placement, width_of};
 pub fn apart_of(a: u32, b: u32) -> u32
     ensures { result ≡ apart a b }
 {
-    if a <= b {
-        return b - a;
-    }
-    a - b
+    a.abs_diff(b)
 }
 
 // The empty sites between an end and the next site; none if they overlap.
 pub fn gap_between(end: u32, site: u32) -> usize
     ensures { result ≡ site - end }
 {
-    if site <= end {
-        return 0;
-    }
-    (site - end) as usize
+    site.saturating_sub(end) as usize
 }
 
 fn put_four(words: &mut [u32], k: usize, site: u32, end: u32, row: u32, given: u32)
@@ -46,20 +40,10 @@ pub fn flatten(job: Job, placement: Placement, words: &mut [u32])
     requires { ToFlatten job placement words.old }
     ensures { Flat (job_of job) (placement_of placement) job.count words.new }
 {
-    let count = job.count;
-    let mut k: usize = 0;
-    while k < count {
+    for k in 0..job.count {
         let cell = job.cells[k];
         let pose = placement.poses[k];
-        let site = pose.site;
-        put_four(
-            words,
-            k,
-            site,
-            site + width_of(cell, pose.layout),
-            cell.row,
-            cell.given,
-        );
-        k += 1;
+        let end = pose.site + width_of(cell, pose.layout);
+        put_four(words, k, pose.site, end, cell.row, cell.given);
     }
 }

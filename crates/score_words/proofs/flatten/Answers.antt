@@ -21,37 +21,14 @@ use native.Mathlib.Omega.{arith}
 use Rattle.score_words.proofs.flatten.Invariants.{WordsFilled}
 use Rattle.score_words.proofs.flatten.Goals as goal
 
-pub loop-k-init : goal.loop-k-init
-loop-k-init c =
-    let b = c.requires.blank in
-    record { below = omega arith; long = b.long; shown = λ i h. absurd (omega arith); blank = λ x h. b.zero x }
-
-pub offset_bounds-job-k : goal.offset_bounds-job-k
-offset_bounds-job-k c = omega arith
-
-pub bounds-job-k : goal.bounds-job-k
-bounds-job-k c = omega arith
-
-pub offset_bounds-placement-k : goal.offset_bounds-placement-k
-offset_bounds-placement-k c = omega arith
-
-pub bounds-placement-k : goal.bounds-placement-k
-bounds-placement-k c = omega arith
-
-pub overflow_add-site : goal.overflow_add-site
-overflow_add-site c =
+pub overflow_add-end : goal.overflow_add-end
+overflow_add-end c =
     let k : ℕ = c.loop-k.k in
     let job : Job = c.args.job in
     let h : k < length (job_of job).cells = omega (arith, c.requires.ready.accepted.many) in
     let q = c.requires.ready.accepted.sound.cell k h in
     let w = λ (layout : ℕ). rw (cell-there job k (omega arith)) at (width_small (job_of job).header (cell_at (job_of job) k) layout q) in
     omega (arith, c.requires.ready.site k (omega arith), c.width_of.ensures, w)
-
-pub overflow_add-k : goal.overflow_add-k
-overflow_add-k c = omega arith
-
-pub loop-k-smaller : goal.loop-k-smaller
-loop-k-smaller c = omega arith
 
 -- one more cell
 more : (job : Job) (P : Placement) (w : List ℕ) (k end : ℕ) → k < job.count → k < max_cells → k < P.count
@@ -61,7 +38,6 @@ more job P w k end g h f e m =
     let w' : List ℕ = four w k (pose_at P k).site end (value.cell_at job k).row (value.cell_at job k).given in
     let other = four-other w k (pose_at P k).site end (value.cell_at job k).row (value.cell_at job k).given m.long h in
     record {
-      below = omega arith;
       long = four-long w k (pose_at P k).site end (value.cell_at job k).row (value.cell_at job k).given m.long h;
       shown = below_more (λ i. Shows (job_of job) (placement_of P) w' i) k
           (λ i l. shows-keep (job_of job) (placement_of P) w w' k i (λ x b. other x (λ q. omega arith) (λ q. omega arith) (λ q. omega arith) (λ q. omega arith)) l
@@ -80,9 +56,6 @@ loop-k-preserved c =
     rw c.put_four.ensures
     (more job P w k _ (omega arith) (omega (arith, c.requires.ready.accepted.few)) (omega (arith, c.requires.ready.each))
     (ap (λ x. (pose_at P k).site + x) c.width_of.ensures) m)
-
-pub shape_of-words : goal.shape_of-words
-shape_of-words c = omega arith
 
 -- all cells, and those that there are not
 all : (job : Job) (P : Placement) (w : List ℕ) (n : ℕ) → WordsFilled job P w n → n ≡ job.count → P.count ≡ job.count → (k : ℕ) (t : Bool)

@@ -1,5 +1,5 @@
 -- Invariant: the words of the cells below k are written, and those from k on are still 0, which is what a cell that the job lacks shows.
-use Prim.Native.Nat.{ℕ, ◌*◌, ◌-◌, ◌≤◌, ◌<◌}
+use Prim.Native.Nat.{ℕ, ◌*◌, ◌≤◌, ◌<◌}
 use mathlib.Core.Path.{◌≡◌}
 use mathlib.Core.List.{List}
 use lib.ListN.{length, get_or}
@@ -11,13 +11,9 @@ use Rattle.score_words.specs.Flat.{Shows}
 use Rattle.score_words.proofs.flatten.Given as goal
 
 pub record WordsFilled (job : Job) (placement : Placement) (words : List ℕ) (k : ℕ) : Type 0 where
-  pub below : k ≤ job.count
   pub long : length words ≡ word_count
   pub shown : (i : ℕ) → i < k → Shows (job_of job) (placement_of placement) words i
   pub blank : (x : ℕ) → 4 * k ≤ x → get_or words x 0 ≡ 0
 
 abbrev pub invariant-loop-k : goal.invariant-loop-k
 invariant-loop-k l = WordsFilled l.job l.placement l.words l.k
-
-abbrev pub decreases-loop-k : goal.decreases-loop-k
-decreases-loop-k l = l.job.count - l.k
