@@ -1,9 +1,8 @@
 -- Marks: an array of 64 words in which an entry of 1 says that the cell breaks a rule. How they are made, and read.
-use Rattle.std.specs.Prelude.{ℕ, suc, ◌≤◌, ◌<◌, ◌≡◌, Bool, ◌||◌, cond, List, ◌∷◌, ◌++◌, length, get_or, take, set, replicate}
+use Rattle.std.specs.Prelude.{ℕ, suc, ◌+◌, ◌≤◌, ◌<◌, ◌≡◌, Bool, ◌||◌, cond, List, ◌∷◌, ◌++◌, length, get_or, take, set, replicate}
 use Rattle.std.proofs.Math.Path.{refl, ap}
-use Rattle.std.proofs.Common.{◌∙◌, append_assoc, arith, length-set, get_or-set_same, get_or-set_other, take-suc-set, eq-eqb, ne_eqb}
+use Rattle.std.proofs.Common.{◌∙◌, append_assoc, arith, length-set, get_or-set_same, get_or-set_other, take-suc-set, below_more, eq-eqb, ne_eqb}
 use Rattle.std.proofs.Math.Bool.{true, false}
-use Rattle.std.proofs.Math.Decide.{ℕ_discrete}
 use Rattle.std.proofs.Math.Dec.{eqb}
 use Rattle.lists.specs.Zeros.{zeros_at}
 use Rattle.definition.specs.Job.{max_cells}
@@ -98,53 +97,41 @@ module _ {n : ℕ} {m : List ℕ} (u : Unmarked n m) where
       zero = λ k l. a.each k l ∙ ap (λ t. cond t 1 (get_or m k 0)) (h k l) ∙ u.zero k l;
     }
 
--- ---- a loop from the last cell down to k
+-- ---- a test of each cell, by what it answered
 
--- the cells from k on have been tried, and the marks of those below are as they were
-pub record Marking (f : ℕ → Bool) (n : ℕ) (marks marks' : List ℕ) (k : ℕ) : Type 0 where
-  pub below : k ≤ n
-  pub few : n ≤ max_cells
+-- each cell below n was marked if its test answered so
+pub record Tried (n : ℕ) (Test : ℕ → Bool → Type 0) (marks marks' : List ℕ) : Type 0 where
   pub long : length marks' ≡ max_cells
-  pub tried : (i : ℕ) → k ≤ i → i < n → get_or marks' i 0 ≡ cond (f i) 1 (get_or marks i 0)
-  pub rest : (i : ℕ) → i < k → get_or marks' i 0 ≡ get_or marks i 0
+  pub each : (k : ℕ) → k < n → (b : Bool) × Test k b × (get_or marks' k 0 ≡ cond b 1 (get_or marks k 0))
 
-pub marking_none : (f : ℕ → Bool) (n : ℕ) (m : List ℕ) → n ≤ max_cells → length m ≡ max_cells → Marking f n m m n
-marking_none f n m h l =
-    record { below = omega arith; few = h; long = l; tried = λ i a b. absurd (omega arith); rest = λ i a. refl }
+-- the same, and the marks from n on are as they were
+pub record Trying (n : ℕ) (Test : ℕ → Bool → Type 0) (marks marks' : List ℕ) : Type 0 where
+  pub tried : Tried n Test marks marks'
+  pub rest : (k : ℕ) → n ≤ k → get_or marks' k 0 ≡ get_or marks k 0
 
--- one cell more, which is marked or not
-module _ {f : ℕ → Bool} {n : ℕ} {m m' : List ℕ} {i : ℕ} (k : ℕ) (q : i ≡ suc k) (p : Marking f n m m' i) where
-  pub marking_hit : f k ≡ true → Marking f n m (set m' k 1) k
-  marking_hit t = record {
-    below = omega (arith, p.below);
-    few = p.few;
-    long = simp length-set p.long;
-    tried = λ x a b. go x a b (ℕ_discrete x k);
-    rest = λ x a. get_or-set_other m' k x 1 0 (λ e. omega arith) ∙ p.rest x (omega arith);
+module _ {n : ℕ} {Test : ℕ → Bool → Type 0} {m m' : List ℕ} where
+  pub tried-added : (f : ℕ → Bool) → Tried n Test m m' → ((k : ℕ) (b : Bool) → k < n → Test k b → b ≡ f k) → Added n f m m'
+  tried-added f t h = record {
+    long = t.long;
+    each = λ k l. let x = t.each k l in x.2 ∙ ap (λ b. cond b 1 (get_or m k 0)) (h k x.0 l x.1);
   }
-    where
-      l : k < length m'
-      l = omega (arith, p.long, p.below, p.few)
 
-      go : (x : ℕ) → k ≤ x → x < n → Dec (x ≡ k) → get_or (set m' k 1) x 0 ≡ cond (f x) 1 (get_or m x 0)
-      go x a b (yes e) = rw (e, t, get_or-set_same m' k 1 0 l)
-      go x a b (no d) = get_or-set_other m' k x 1 0 d ∙ p.tried x (omega arith) b
+  -- one cell more, which is marked or not
+  module _ (p : Trying n Test m m') where
+    pub trying-hit : n < length m' → Test n true → Trying (n + 1) Test m (set m' n 1)
+    trying-hit l t = record {
+      tried = record { long = simp length-set p.tried.long; each = below_more _ _ old (true, t, get_or-set_same m' n 1 0 l) };
+      rest = λ k g. get_or-set_other m' n k 1 0 (λ e. omega arith) ∙ p.rest k (omega arith);
+    }
+      where
+        old : (k : ℕ) → k < n → (b : Bool) × Test k b × (get_or (set m' n 1) k 0 ≡ cond b 1 (get_or m k 0))
+        old k h = let x = p.tried.each k h in (x.0, x.1, get_or-set_other m' n k 1 0 (λ e. omega arith) ∙ x.2)
 
-  pub marking_miss : f k ≡ false → Marking f n m m' k
-  marking_miss t = record {
-    below = omega (arith, p.below);
-    few = p.few;
-    long = p.long;
-    tried = λ x a b. go x a b (ℕ_discrete x k);
-    rest = λ x a. p.rest x (omega arith);
-  }
-    where
-      go : (x : ℕ) → k ≤ x → x < n → Dec (x ≡ k) → get_or m' x 0 ≡ cond (f x) 1 (get_or m x 0)
-      go x a b (yes e) = rw (e, t) (p.rest k (omega arith))
-      go x a b (no d) = p.tried x (omega arith) b
-
-pub marking_all : {f : ℕ → Bool} {n : ℕ} {m m' : List ℕ} {k : ℕ} → k ≤ 0 → Marking f n m m' k → Added n f m m'
-marking_all h p = record { long = p.long; each = λ i b. p.tried i (omega arith) b }
+    pub trying-miss : Test n false → Trying (n + 1) Test m m'
+    trying-miss t = record {
+      tried = record { long = p.tried.long; each = below_more _ _ p.tried.each (false, t, p.rest n (omega arith)) };
+      rest = λ k g. p.rest k (omega arith);
+    }
 
 -- ---- a list of cells: one more, which is x, behind the first n
 pub taken_more : (l : List ℕ) (n m x k : ℕ) (t : List ℕ) → m ≡ suc n → x ≡ k → n < length l

@@ -1,21 +1,19 @@
 -- Quick tests of rules 4 and 7: one pass shows that no two cells clash, or that no tall cell is passed.
-use Rattle.std.specs.Prelude.{ℕ, suc, ◌≤◌, ◌<◌, ◌≡◌, refl, ◌≢◌, ◌⊎◌, Bool, true, not, ◌&&◌, ◌||◌, List, get_or, leb, eqb}
-use Rattle.std.proofs.Common.{sym, ap, ◌∙◌, inl, inr, arith, le-ltb}
+use Rattle.std.specs.Prelude.{ℕ, suc, ◌≤◌, ◌<◌, ◌≡◌, refl, ◌≢◌, ◌⊎◌, Bool, true, not, ◌&&◌, ◌||◌, List, length, get_or, leb, eqb}
+use Rattle.std.proofs.Common.{sym, ap, ◌∙◌, inl, inr, arith, le-ltb, eq-eqb, ne_eqb}
 use Rattle.std.proofs.Math.Bool.{false, and-false, and-eq-true_iff}
 use Rattle.std.proofs.lemmas.Bool.{false≢true}
 use Rattle.std.proofs.Math.Decide.{ℕ_discrete}
 use Rattle.std.proofs.Math.Dec.{ltb}
 use Rattle.lists.specs.Compare.{Le?, low, high, le?, Eq?, same, differs, eq?}
-use Rattle.lists.specs.Membership.{At, at_of}
-use Rattle.definition.specs.Job.{max_cells}
-use Rattle.definition.specs.Rules.{sort}
+use Rattle.lists.specs.Membership.{index_of}
+use Rattle.definition.specs.Lists.{from, any}
 use Rattle.job.specs.Parts.{stands_in}
-use Rattle.score_order.specs.Words.{site_in, end_in, row_in, cells_in, Tail}
+use Rattle.score_order.specs.Words.{site_in, end_in, row_in, cells_in}
 use Rattle.score_order.specs.Sorting.{in_sort}
 use Rattle.score_order.specs.Cells.{in_cells}
-use Rattle.score_cell_rules.specs.Tests.{share_in, clash_in, clashes_in, wrong_in, passes_in}
+use Rattle.score_cell_rules.specs.Tests.{share_in, clash_in, clashes_in, wrong_in, passes_in, RowOrder}
 use Rattle.score_cell_rules.specs.Lowest.{any_none}
-use Rattle.score_cell_rules.specs.Compared.{wrong-low, wrong-tall, passes-low, passes-tall}
 
 -- ---- one pass
 
@@ -51,10 +49,9 @@ module _ {S : ℕ → Type 0} {f g : ℕ → ℕ} {i reach n : ℕ} (e : n ≡ s
 
 -- ---- what the tests say
 
--- in the list from `at` on, every cell ends at or before the site of each that follows
-pub record InLine (words list : List ℕ) (at : ℕ) : Type 0 where
-  pub ahead : (p q : ℕ) → p < q → q < max_cells → at ≤ p → at ≤ q
-      → end_in words (get_or list p 0) ≤ site_in words (get_or list q 0)
+-- every cell of the list ends at or before the site of each that follows
+pub record InLine (words list : List ℕ) : Type 0 where
+  pub ahead : (p q : ℕ) → p < q → q < length list → end_in words (get_or list p 0) ≤ site_in words (get_or list q 0)
 
 -- of any two of the first n cells that stand in a row, one ends at or before the other's site
 pub record RowClear (words : List ℕ) (row n : ℕ) : Type 0 where
@@ -68,31 +65,25 @@ pub record TallRising (words : List ℕ) (n : ℕ) : Type 0 where
 
 -- ---- rule 4: each cell of a row is an entry of its order
 
-module _ (words order : List ℕ) (row n at : ℕ)
-    (t : Tail at order (sort (site_in words) (cells_in words row 0 n))) where
-  in_order : (k : ℕ) → k < n → stands_in row (row_in words k) ≡ true → At order at k
+module _ {words order : List ℕ} {row n : ℕ} (o : RowOrder words n row order) where
+  in_order : (k : ℕ) → k < n → stands_in row (row_in words k) ≡ true → (p : ℕ) × (p < length order) × (get_or order p 0 ≡ k)
   in_order k h s =
       let m = in_sort (site_in words) (cells_in words row 0 n) (in_cells words row n k h s) in
-      at_of order at k (rw t.entries m)
+      index_of order (rw o.same m)
 
-  pub row-clear : InLine words order at → RowClear words row n
+  pub row-clear : InLine words order → RowClear words row n
   row-clear l = record { apart = λ a b h g s r d. go a b d (in_order a h s) (in_order b g r) }
     where
-      go : (a b : ℕ) → a ≢ b → At order at a → At order at b
+      go : (a b : ℕ) → a ≢ b → (p : ℕ) × (p < length order) × (get_or order p 0 ≡ a)
+          → (p : ℕ) × (p < length order) × (get_or order p 0 ≡ b)
           → (end_in words a ≤ site_in words b) ⊎ (end_in words b ≤ site_in words a)
-      go a b d x y = to (ℕ_discrete x.place y.place) (leb x.place y.place) (le? x.place y.place)
+      go a b d x y = to (ℕ_discrete x.0 y.0) (leb x.0 y.0) (le? x.0 y.0)
         where
-          to : Dec (x.place ≡ y.place) → (t : Bool) → Le? x.place y.place t
+          to : Dec (x.0 ≡ y.0) → (t : Bool) → Le? x.0 y.0 t
               → (end_in words a ≤ site_in words b) ⊎ (end_in words b ≤ site_in words a)
-          to (yes e) b' c = absurd (d (sym x.here_it ∙ ap (λ p. get_or order p 0) e ∙ y.here_it))
-          to (no e) true (low h) =
-              inl
-              (rw (x.here_it, y.here_it) at
-              (l.ahead x.place y.place (omega arith) (omega (arith, t.long)) x.after y.after))
-          to (no e) false (high h) =
-              inr
-              (rw (y.here_it, x.here_it) at
-              (l.ahead y.place x.place (omega arith) (omega (arith, t.long)) y.after x.after))
+          to (yes e) b' c = absurd (d (sym x.2 ∙ ap (λ p. get_or order p 0) e ∙ y.2))
+          to (no e) true (low h) = inl (rw (x.2, y.2) at (l.ahead x.0 y.0 (omega arith) y.1))
+          to (no e) false (high h) = inr (rw (y.2, x.2) at (l.ahead y.0 x.0 (omega arith) x.1))
 
 -- cells of two row numbers stand in row 0 both, or in row 1
 abbrev Both : ℕ → ℕ → Type 0
@@ -151,20 +142,20 @@ not-wrong b k x y f = go (leb (suc b) k) (le? (suc b) k)
 module _ (words : List ℕ) (n : ℕ) (c : TallRising words n) where
   right_side : (k b : ℕ) → k < n → b < n → row_in words k ≡ 2 → (t : Bool) → Eq? (row_in words b) 2 t
       → wrong_in words k b ≡ false
-  right_side k b h g s false (differs d) = sym (wrong-low words k b d)
-  right_side k b h g s true (same e) =
-      sym (wrong-tall words k b e)
-      ∙ rw (
-        not-wrong b k (site_in words b) (site_in words k) (λ l. c.rising b k l h e s),
-        not-wrong k b (site_in words k) (site_in words b) (λ l. c.rising k b l g s e),
-      )
+  unfolding wrong_in
+  right_side k b h g s false (differs d) = rw (ne_eqb (row_in words b) 2 d)
+  right_side k b h g s true (same e) = rw (
+    eq-eqb (row_in words b) 2 e,
+    not-wrong b k (site_in words b) (site_in words k) (λ l. c.rising b k l h e s),
+    not-wrong k b (site_in words k) (site_in words b) (λ l. c.rising k b l g s e),
+  )
 
   pub none_passed : (k : ℕ) → k < n → passes_in words n k ≡ false
+  unfolding passes_in
   none_passed k h = go (eqb (row_in words k) 2) (eq? (row_in words k) 2)
     where
-      go : (t : Bool) → Eq? (row_in words k) 2 t → passes_in words n k ≡ false
-      go false (differs d) = sym (passes-low words n k d)
+      go : (t : Bool) → Eq? (row_in words k) 2 t → (t && any (wrong_in words k) (from 0 n)) ≡ false
+      go false (differs d) = refl
       go true (same e) =
-          sym (passes-tall words n k e)
-          ∙ any_none (wrong_in words k) 0 n
+          any_none (wrong_in words k) 0 n
           (λ b _ g. right_side k b h (omega arith) e (eqb (row_in words b) 2) (eq? (row_in words b) 2))

@@ -1,9 +1,10 @@
 -- The rules that are judged cell by cell, on the words of a placed job. They are the definition's: see
 -- Flat in score_verdict. And what the functions that judge rules are given.
-use Rattle.std.specs.Prelude.{ℕ, ◌<◌, ◌≡◌, Bool, not, ◌&&◌, ◌||◌, List, length, leb, ltb, eqb}
+use Rattle.std.specs.Prelude.{ℕ, ◌+◌, ◌≤◌, ◌<◌, ◌≡◌, Bool, not, ◌&&◌, ◌||◌, List, length, get_or, drop, leb, ltb, eqb}
+use Rattle.std.proofs.Common.{arith, length-drop, get_or-drop}
 use Rattle.definition.specs.Lists.{from, any}
 use Rattle.definition.specs.Job.{both_rows, max_cells}
-use Rattle.score_order.specs.Words.{word_count, site_in, end_in, row_in, Words, RowRoom, Ordered}
+use Rattle.score_order.specs.Words.{word_count, site_in, end_in, row_in, order_in, Words, Tail}
 use Rattle.job.specs.declared.Job.{Job}
 use Rattle.job.specs.declared.Placement.{Placement}
 use Rattle.job.specs.Parts.{stands_in}
@@ -49,10 +50,20 @@ pub record OneOfAll (words : List ℕ) (n k : ℕ) : Type 0 where
   pub cells : Words words n
   pub cell : k < max_cells
 
--- words of 64 cells, and an array that lists some of these
+-- a list of cells
+pub record Cells (list : List ℕ) : Type 0 where
+  pub few : length list ≤ max_cells
+  pub low : (i : ℕ) → get_or list i 0 < max_cells
+
+-- a row's cells from left to right, of those of n
+pub record RowOrder (words : List ℕ) (n row : ℕ) (order : List ℕ) : Type 0 where
+  pub listed : Cells order
+  pub same : order ≡ order_in words row n
+
+-- words of 64 cells, and a list of some of these
 pub record ListIn (words list : List ℕ) : Type 0 where
   pub long : length words ≡ word_count
-  pub room : RowRoom list
+  pub listed : Cells list
 
 -- what a rule is judged by, and its marks: the words of n cells
 pub record ByWords (words : List ℕ) (n : ℕ) (m : List ℕ) : Type 0 where
@@ -60,12 +71,26 @@ pub record ByWords (words : List ℕ) (n : ℕ) (m : List ℕ) : Type 0 where
   pub marks : length m ≡ max_cells
 
 -- these and the order of both rows
-pub record ByOrder (words : List ℕ) (n : ℕ) (order₀ : List ℕ) (start₀ : ℕ) (order₁ : List ℕ) (start₁ : ℕ)
-    (m : List ℕ) : Type 0 where
-  pub rows : Ordered words n order₀ start₀ order₁ start₁
+pub record ByOrder (words : List ℕ) (n : ℕ) (order₀ order₁ m : List ℕ) : Type 0 where
+  pub cells : Words words n
+  pub row0 : RowOrder words n 0 order₀
+  pub row1 : RowOrder words n 1 order₁
   pub marks : length m ≡ max_cells
 
 -- a job and a placement
 pub record ByOffer (job : Job) (P : Placement) (m : List ℕ) : Type 0 where
   pub ready : Ready job P
   pub marks : length m ≡ max_cells
+
+-- ---- laws
+
+-- the last entries of an array, as a list of their own
+pub tail-order : {words : List ℕ} {n row at : ℕ} {array : List ℕ} → Tail at array (order_in words row n)
+    → RowOrder words n row (drop at array)
+tail-order {at = at} {array = array} t = record {
+  listed = record {
+    few = simp length-drop (omega (arith, t.long));
+    low = λ i. rw (get_or-drop at array i 0) (t.low (at + i));
+  };
+  same = t.entries;
+}

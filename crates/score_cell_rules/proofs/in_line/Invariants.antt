@@ -1,13 +1,9 @@
--- Invariant: of the entries from `at` up to i each has ended at `reach`, and none begins before an earlier one has ended.
-use Prim.Native.Nat.{◌-◌, ◌≤◌}
-use lib.ListN.{get_or}
-use Rattle.definition.specs.Job.{max_cells}
+-- Invariant: each of the entries up to here has ended at `reach`, and none begins before an earlier one has ended.
+use Rattle.std.proofs.Common.{get_or}
 use Rattle.score_order.specs.Words.{site_in, end_in}
 use Rattle.score_cell_rules.specs.Quick.{Clear}
 use Rattle.score_cell_rules.proofs.in_line.Given as goal
 
-abbrev pub invariant-loop-i : goal.invariant-loop-i
-invariant-loop-i l = (l.at ≤ l.i) × Clear (λ p. l.at ≤ p) (λ p. end_in l.words (get_or l.list p 0)) (λ p. site_in l.words (get_or l.list p 0)) l.i l.reach
-
-abbrev pub decreases-loop-i : goal.decreases-loop-i
-decreases-loop-i l = max_cells - l.i
+abbrev pub invariant-loop-cell : goal.invariant-loop-cell
+invariant-loop-cell l =
+    Clear (λ p. Unit {0}) (λ p. end_in l.words (get_or l.order p 0)) (λ p. site_in l.words (get_or l.order p 0)) l.cell-index l.reach

@@ -1,21 +1,14 @@
 -- Invariant: the marked cells below k are listed, and those from k on follow.
-use Prim.Native.Nat.{ℕ, suc, ◌-◌, ◌≤◌}
-use mathlib.Core.Path.{◌≡◌}
-use mathlib.Core.List.{List, ◌++◌, map}
-use lib.ListN.{length, take}
+use Rattle.std.proofs.Common.{ℕ, suc, ◌-◌, ◌≤◌, ◌≡◌, List, ◌++◌, map, length, take}
 use Rattle.definition.specs.Job.{max_cells}
 use Rattle.definition.specs.Lists.{from, keep}
 use Rattle.score_cell_rules.specs.Marks.{marked_in}
 use Rattle.score_cell_rules.proofs.list_marked.Given as goal
 
 pub record Listing (marks : List ℕ) (count : ℕ) (list : List ℕ) (n k : ℕ) : Type 0 where
-  pub below : k ≤ count
   pub few : n ≤ k
   pub long : length list ≡ max_cells
   pub entries : map suc (keep (marked_in marks) (from 0 count)) ≡ take n list ++ map suc (keep (marked_in marks) (from k (count - k)))
 
 abbrev pub invariant-loop-k : goal.invariant-loop-k
 invariant-loop-k l = Listing l.marks l.count l.list l.n l.k
-
-abbrev pub decreases-loop-k : goal.decreases-loop-k
-decreases-loop-k l = l.count - l.k

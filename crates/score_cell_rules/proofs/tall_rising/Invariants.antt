@@ -1,12 +1,8 @@
 -- Invariant: the sites of the tall cells below k do not fall, and none is above `reach`.
-use Prim.Native.Nat.{◌-◌, ◌≤◌}
-use mathlib.Core.Path.{◌≡◌}
+use Rattle.std.proofs.Common.{◌≡◌}
 use Rattle.score_order.specs.Words.{site_in, row_in}
 use Rattle.score_cell_rules.specs.Quick.{Clear}
 use Rattle.score_cell_rules.proofs.tall_rising.Given as goal
 
 abbrev pub invariant-loop-k : goal.invariant-loop-k
-invariant-loop-k l = (l.k ≤ l.count) × Clear (λ p. row_in l.words p ≡ 2) (site_in l.words) (site_in l.words) l.k l.reach
-
-abbrev pub decreases-loop-k : goal.decreases-loop-k
-decreases-loop-k l = l.count - l.k
+invariant-loop-k l = Clear (λ p. row_in l.words p ≡ 2) (site_in l.words) (site_in l.words) l.k l.reach

@@ -1,0 +1,9 @@
+use Rattle.std.proofs.Common.{rules, tests}
+use Rattle.job.specs.Value.{job_of, placement_of}
+use Rattle.definition.specs.Rules.{breaks3}
+use Rattle.score_cell_rules.specs.Offered.{site-asked}
+use Rattle.score_cell_rules.specs.Marks.{tried-added}
+use Rattle.score_cell_rules.proofs.mark_far.Goals as goal
+
+pub returns : goal.returns
+returns c = tried-added (breaks3 (job_of c.args.job) (placement_of c.args.placement)) c.mark_each.ensures (λ k b h t. search (rules, tests, site-asked))
