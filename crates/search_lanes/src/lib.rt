@@ -15,7 +15,7 @@ pub const NONE: u32 = 268435456;
 pub fn least(x: u32, y: u32) -> u32
     ensures { result ≡ min x y }
 {
-    if x < y { x } else { y }
+    x.min(y)
 }
 
 // The same for words below 2^31: compared as signed numbers, four lanes at a time take fewer steps.
@@ -23,7 +23,7 @@ pub fn lesser(x: u32, y: u32) -> u32
     requires { SignedWords x y }
     ensures { result ≡ min x y }
 {
-    if (x as i32) < (y as i32) { x } else { y }
+    (x as i32).min(y as i32) as u32
 }
 
 // NONE if all lanes of a row are NONE; in any case at most each of them.
@@ -32,18 +32,10 @@ pub fn common(row: &[u32], at: usize, lanes: usize) -> u32
     ensures { (l : ℕ) → l < lanes → result ≤ get_or row.now (at + l) 0 }
 {
     let mut x = NONE;
-    let mut l: usize = 0;
-    while l < lanes {
-        x = x & row[at + l];
-        l += 1;
+    for word in &row[at..at + lanes] {
+        x &= *word;
     }
     x
-}
-
-fn greater(x: u32, y: u32) -> u32
-    ensures { (x ≤ result) × (y ≤ result) }
-{
-    if x < y { y } else { x }
 }
 
 // The greatest of some words, 0 if there is none.
@@ -51,13 +43,7 @@ pub fn most(words: &[u32], at: usize, count: usize) -> u32
     requires { at + count ≤ length words.now }
     ensures { (k : ℕ) → k < count → get_or words.now (at + k) 0 ≤ result }
 {
-    let mut x = 0;
-    let mut k: usize = 0;
-    while k < count {
-        x = greater(x, words[at + k]);
-        k += 1;
-    }
-    x
+    words[at..at + count].iter().copied().max().unwrap_or(0)
 }
 
 // Each lane of `acc` lowered to the row's word plus a charge.
@@ -71,10 +57,8 @@ pub fn relax(
     requires { LaneRow acc.old row.now at charge lanes }
     ensures { Lowered (charged row.now at charge) lanes acc.old acc.new }
 {
-    let mut l: usize = 0;
-    while l < lanes {
-        acc[l] = least(acc[l], row[at + l] + charge);
-        l += 1;
+    for l in 0..lanes {
+        acc[l] = acc[l].min(row[at + l] + charge);
     }
 }
 
@@ -89,10 +73,8 @@ pub fn put(
     requires { LaneRow acc.now store.old at own lanes }
     ensures { Written (with_own own acc.now) at lanes store.old store.new }
 {
-    let mut l: usize = 0;
-    while l < lanes {
-        store[at + l] = least(own + acc[l], NONE);
-        l += 1;
+    for l in 0..lanes {
+        store[at + l] = (own + acc[l]).min(NONE);
     }
 }
 
@@ -101,11 +83,7 @@ pub fn fill(store: &mut [u32], at: usize, count: usize, x: u32)
     requires { WordsToFill store.old at count x }
     ensures { Written (always x) at count store.old store.new }
 {
-    let mut k: usize = 0;
-    while k < count {
-        store[at + k] = x;
-        k += 1;
-    }
+    store[at..at + count].fill(x);
 }
 
 // Words from one part of the store to another that does not overlap it.
@@ -113,11 +91,7 @@ pub fn copy(store: &mut [u32], from: usize, at: usize, count: usize)
     requires { WordsToCopy store.old from at count }
     ensures { Written (words_from store.old from) at count store.old store.new }
 {
-    let mut k: usize = 0;
-    while k < count {
-        store[at + k] = store[from + k];
-        k += 1;
-    }
+    store.copy_within(from..from + count, at);
 }
 
 // The same word in the first lanes of so many rows.
@@ -125,10 +99,8 @@ pub fn fill_rows(store: &mut [u32], at: usize, rows: usize, lanes: usize, x: u32
     requires { RowsToFill store.old at rows lanes x }
     ensures { WrittenRows (always_rows x) at rows lanes store.old store.new }
 {
-    let mut a: usize = 0;
-    while a < rows {
+    for a in 0..rows {
         fill(store, at + a * search_store::MAX_LANES, lanes, x);
-        a += 1;
     }
 }
 
@@ -138,7 +110,7 @@ pub fn fill_rows(store: &mut [u32], at: usize, rows: usize, lanes: usize, x: u32
 pub fn flag_of(x: u32) -> u32
     ensures { FlagOf x result }
 {
-    if x < NONE { 1 } else { 0 }
+    u32::from(x < NONE)
 }
 
 // The row of pose a of a state says x in its first lane.
@@ -176,10 +148,8 @@ pub fn copy_rows(store: &mut [u32], from: usize, at: usize, poses: usize, lanes:
     ensures { RowsSaid (said_in store.old from) at poses lanes store.old
         store.new }
 {
-    let mut a: usize = 0;
-    while a < poses {
+    for a in 0..poses {
         copy_row(store, from, at, a, lanes);
-        a += 1;
     }
 }
 
@@ -187,9 +157,5 @@ pub fn copy_rows(store: &mut [u32], from: usize, at: usize, poses: usize, lanes:
 pub fn clear(store: &mut [u32])
     ensures { store.new ≡ replicate (length store.old) 0 }
 {
-    let mut i = 0;
-    while i < store.len() {
-        store[i] = 0;
-        i += 1;
-    }
+    store.fill(0);
 }

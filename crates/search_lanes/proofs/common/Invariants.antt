@@ -1,11 +1,6 @@
--- After l turns x is at most the lanes below l, since common bits are at most each number that has them.
-use Prim.Native.Nat.{ℕ, ◌+◌, ◌-◌, ◌≤◌, ◌<◌}
-use lib.ListN.{get_or}
+-- x is at most the words before, since common bits are at most each number that has them.
+use Rattle.std.proofs.Common.{ℕ, ◌+◌, ◌≤◌, ◌<◌, get_or}
 use Rattle.search_lanes.proofs.common.Given as goal
 
-abbrev pub invariant-loop-l : goal.invariant-loop-l
-invariant-loop-l l =
-    (l.l ≤ l.lanes) × ((k : ℕ) → k < l.l → l.x ≤ get_or l.row (l.at + k) 0)
-
-abbrev pub decreases-loop-l : goal.decreases-loop-l
-decreases-loop-l l = l.lanes - l.l
+abbrev pub invariant-loop-word : goal.invariant-loop-word
+invariant-loop-word l = (k : ℕ) → k < l.word-index → l.x ≤ get_or l.row (l.at + k) 0

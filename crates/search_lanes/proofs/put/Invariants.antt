@@ -1,13 +1,7 @@
 -- Each turn writes one lane more.
-use Prim.Native.Nat.{◌-◌, ◌≤◌}
 use Rattle.search_lanes.specs.Lanes.{with_own}
 use Rattle.search_lanes.specs.Store.{Written}
 use Rattle.search_lanes.proofs.put.Given as goal
 
 abbrev pub invariant-loop-l : goal.invariant-loop-l
-invariant-loop-l l =
-    (l.l ≤ l.lanes) × Written (with_own l.own l.acc) l.at l.l l.initial.store l.store
-
-abbrev pub decreases-loop-l : goal.decreases-loop-l
-decreases-loop-l l =
-    l.lanes - l.l
+invariant-loop-l l = Written (with_own l.own l.acc) l.at l.l l.initial.store l.store
