@@ -14,10 +14,7 @@ fn is_marks(r: u32, m: u32) -> bool
     requires { r ≤ 2 }
     ensures { result ≡ is_marks r m }
 {
-    if m % 2 != 1 {
-        return false;
-    }
-    u32::count_ones(m) == r + 1
+    m % 2 == 1 && m.count_ones() == r + 1
 }
 
 // Whether the cell placed last can be the one at digit d: its digit is set, and it is the top one if that is set.
@@ -25,13 +22,7 @@ fn may_be_last(r: u32, m: u32, d: u32) -> bool
     requires { DigitAsked r d }
     ensures { result ≡ may_be_last r m d }
 {
-    if digit(m, d) != 1 {
-        return false;
-    }
-    if digit(m, 2 * r) == 0 {
-        return true;
-    }
-    d == 2 * r
+    digit(m, d) == 1 && (digit(m, 2 * r) == 0 || d == 2 * r)
 }
 
 // State q: its digit, its marks, and the only marks from which placing the cell at that digit leads to them.
@@ -39,9 +30,10 @@ fn put_state(row: &mut [u32], q: usize, d: u32, m: u32)
     requires { StateRoom row.old q d m }
     ensures { row.new ≡ with_state row.old q d m }
 {
-    row[search_row::STATES + q * 4] = d;
-    row[search_row::STATES + q * 4 + 1] = m;
-    row[search_row::STATES + q * 4 + 2] = 2 * (m - (1 << d)) + 1;
+    let at = search_row::STATES + q * 4;
+    row[at] = d;
+    row[at + 1] = m;
+    row[at + 2] = 2 * (m - (1 << d)) + 1;
 }
 
 // The state of digit d, if it is one; how many there are then.
@@ -66,10 +58,8 @@ fn add_marks(row: &mut [u32], count: usize, r: u32, m: u32) -> usize
         return count;
     }
     let mut n = count;
-    let mut d: u32 = 0;
-    while d <= 2 * r {
+    for d in 0..2 * r + 1 {
         n = add_digit(row, n, r, m, d);
-        d += 1;
     }
     n
 }
@@ -82,10 +72,8 @@ pub fn fill_states(row: &mut [u32], r: usize) -> usize
     let limit = r as u32;
     let end: u32 = 2 << (2 * limit);
     let mut n: usize = 0;
-    let mut m: u32 = 0;
-    while m < end {
+    for m in 0..end {
         n = add_marks(row, n, limit, m);
-        m += 1;
     }
     n
 }

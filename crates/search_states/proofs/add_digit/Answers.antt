@@ -1,6 +1,5 @@
 -- The digit's state is the next of those to come just if the test says so.
-use mathlib.Core.Path.{sym, ◌∙◌}
-use native.Mathlib.Omega.{arith}
+use Rattle.std.proofs.Common.{sym, ◌∙◌, arith}
 use Rattle.search_lanes.specs.Laws.{frame-refl}
 use Rattle.theory_tables.proofs.States.{counted}
 use Rattle.search_states.specs.Upto.{skip-digit, next-digit, may_low, room, upto-more, with_frame, window-small}
@@ -16,7 +15,7 @@ put_state-requires c =
     let t = sym c.may_be_last.ensures ∙ c.if-not-may_be_last.false in
     let u = next-digit c.args.m c.args.d _ (omega arith) t c.requires.coming.upto in
     record {
-      long = omega (arith, u.long);
+      long = omega arith;
       state = room c.requires.coming.reorder u;
       digit = omega arith;
       window = window-small c.requires.coming;
@@ -24,8 +23,7 @@ put_state-requires c =
     }
 
 pub overflow_add-result : goal.overflow_add-result
-overflow_add-result c =
-    omega (arith, c.requires.coming.upto.below, (counted c.args.r c.requires.coming.reorder).few)
+overflow_add-result c = omega (arith, counted c.args.r c.requires.coming.reorder)
 
 pub returns : goal.returns
 returns c =

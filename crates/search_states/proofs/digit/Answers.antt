@@ -1,6 +1,6 @@
 -- Digit j by a shift and a mask.
-use mathlib.Core.Path.{sym, ◌∙◌}
-use lib.Bits.{and_mask}
+use Rattle.std.proofs.Common.{sym, ◌∙◌}
+use Rattle.std.proofs.lemmas.Nat.{and_mask}
 use Rattle.theory_row.specs.Marks.{bit_shr}
 use Rattle.search_states.proofs.digit.Goals as goal
 
