@@ -9,7 +9,8 @@ ghost use Rattle.search_lanes.specs.Store.{Written, WrittenRows, SignedWords, sa
 ghost use Rattle.search_lanes.specs.Store.{WordsToFill, WordsToCopy, RowsToFill};
 ghost use Rattle.search_lanes.specs.Store.{RowToCopy, StateToCopy, WordToPut};
 
-// There is no way: every cost is below.
+// There is no way: every cost is below. A number and no Option, as the store's words are: lanes are added and lowered
+// with no test.
 pub const NONE: u32 = 268435456;
 
 pub fn least(x: u32, y: u32) -> u32
@@ -106,7 +107,7 @@ pub fn fill_rows(store: &mut [u32], at: usize, rows: usize, lanes: usize, x: u32
 
 // ---- rows with flags
 
-// The flag of a row whose words are at least x.
+// The flag of a row whose words are at least x: a word of the store, as the row's are.
 pub fn flag_of(x: u32) -> u32
     ensures { FlagOf x result }
 {

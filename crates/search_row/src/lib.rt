@@ -3,11 +3,11 @@
 
 #![tactic(auto)]
 
-ghost use Rattle.std.specs.Prelude.{◌≡◌, cond, ◌<◌, length, get_or, eqb};
+ghost use Rattle.std.specs.Prelude.{◌≡◌, ◌<◌, length, get_or};
 ghost use Rattle.theory_tables.specs.Steps.{last_at, is_source};
 ghost use Rattle.theory_tables.specs.Stages.{placed_with};
 ghost use Rattle.search_row.specs.Words.{site_in, end_in, differ_in, weight_in, toll_in, front_in, back_in};
-ghost use Rattle.search_row.specs.Words.{deck_in, there_in, pos_in, with_cells};
+ghost use Rattle.search_row.specs.Words.{deck_in, there_in, pos_in, with_cells, end_toll};
 ghost use Rattle.search_row.specs.Words.{StateKnown, SourceAsked, TallAt, CellAt, PoseAt, NeighbourPoses};
 
 // So many cells a row can have: all of a job.
@@ -65,13 +65,7 @@ pub struct Sizes {
 pub fn with_cells(sizes: Sizes, cells: usize) -> Sizes
     ensures { result ≡ with_cells sizes cells }
 {
-    Sizes {
-        cells,
-        poses: sizes.poses,
-        reordering: sizes.reordering,
-        states: sizes.states,
-        talls: sizes.talls,
-    }
+    Sizes { cells, ..sizes }
 }
 
 // A word as a count or a place.
@@ -87,12 +81,8 @@ pub fn last_at(row: &[u32], sizes: Sizes, i: usize, q: usize) -> usize
     requires { StateKnown row.now sizes.reordering i q }
     ensures { result ≡ last_at sizes.reordering i q }
 {
-    let r = sizes.reordering;
     let k = i + word(row, STATES + q * 4);
-    if k < r + 1 {
-        return 0;
-    }
-    k - (r + 1)
+    k.saturating_sub(sizes.reordering + 1)
 }
 
 // Whether the row has that cell.
@@ -100,11 +90,7 @@ pub fn is_there(row: &[u32], sizes: Sizes, i: usize, q: usize) -> bool
     requires { StateKnown row.now sizes.reordering i q }
     ensures { result ≡ there_in sizes.cells sizes.reordering i q }
 {
-    let r = sizes.reordering;
-    if i + word(row, STATES + q * 4) < r + 1 {
-        return false;
-    }
-    last_at(row, sizes, i, q) < sizes.cells
+    sizes.reordering < i + word(row, STATES + q * 4) && last_at(row, sizes, i, q) < sizes.cells
 }
 
 // Whether state q of the layer with i cells is a source of state q1 of the next.
@@ -112,14 +98,9 @@ pub fn is_source(row: &[u32], sizes: Sizes, i: usize, q1: usize, q: usize) -> bo
     requires { SourceAsked row.now sizes i q1 q }
     ensures { result ≡ is_source (deck_in row.now sizes) sizes.reordering i q1 q }
 {
-    if !is_there(row, sizes, i, q) {
-        return false;
-    }
-    let k = last_at(row, sizes, i, q);
-    if row[k * CELL + TALL] == 1 {
-        return false;
-    }
-    row[STATES + q * 4 + 1] == row[STATES + q1 * 4 + 2]
+    is_there(row, sizes, i, q)
+        && row[last_at(row, sizes, i, q) * CELL + TALL] != 1
+        && row[STATES + q * 4 + 1] == row[STATES + q1 * 4 + 2]
 }
 
 // The left site of the cell at position k in pose a, with D added.
@@ -138,27 +119,14 @@ pub fn end(row: &[u32], k: usize, b: usize) -> usize
     site(row, k, b) + word(row, k * CELL + (WIDTH + b % 4 / 2))
 }
 
-// 1 if two heights differ.
-fn unlike(x: u32, y: u32) -> u32
-    ensures { result ≡ cond (eqb x y) 0 1 }
-{
-    if x == y { 0 } else { 1 }
-}
-
 // How many of the two heights differ where pose b of k has pose a of m on its right.
 pub fn differ(row: &[u32], k: usize, b: usize, m: usize, a: usize) -> u32
     requires { NeighbourPoses row.now k b m a }
     ensures { result ≡ differ_in row.now k b m a }
 {
-    let p = unlike(
-        row[k * CELL + (RIGHT_P + b % 4)],
-        row[m * CELL + (LEFT_P + a % 4)],
-    );
-    let n = unlike(
-        row[k * CELL + (RIGHT_N + b % 4)],
-        row[m * CELL + (LEFT_N + a % 4)],
-    );
-    p + n
+    let p = row[k * CELL + (RIGHT_P + b % 4)] != row[m * CELL + (LEFT_P + a % 4)];
+    let n = row[k * CELL + (RIGHT_N + b % 4)] != row[m * CELL + (LEFT_N + a % 4)];
+    u32::from(p) + u32::from(n)
 }
 
 // The weight of a step between the cell at position m and the cell on its left, by the gap between them.
@@ -167,12 +135,14 @@ fn weight(row: &[u32], m: usize, gap: usize) -> u32
     ensures { result ≡ weight_in row.now m gap }
 {
     if gap == 0 {
-        return row[m * CELL + TOUCHING];
+        row[m * CELL + TOUCHING]
+    } else {
+        row[m * CELL + FILLED]
     }
-    row[m * CELL + FILLED]
 }
 
 // What the two pay; NONE where they may not stand so.
+#[tactic(auto, unfolding(crate::specs::Words::toll_in))]
 pub fn toll(row: &[u32], k: usize, b: usize, m: usize, a: usize) -> u32
     requires { NeighbourPoses row.now k b m a }
     ensures { result ≡ toll_in row.now k b m a }
@@ -189,29 +159,33 @@ pub fn toll(row: &[u32], k: usize, b: usize, m: usize, a: usize) -> u32
     gap_charge::charge_of(gap) * (weight(row, m, gap) * differ(row, k, b, m, a))
 }
 
+// What a cell at the end of its row pays: nothing, but where it is barred.
+fn end_toll(at: usize, barred: usize) -> u32
+    ensures { result ≡ end_toll at barred }
+{
+    if at == barred { search_lanes::NONE } else { 0 }
+}
+
 // What the cell at position k pays in pose a as the first of its row; NONE where it may not stand there.
+#[tactic(auto, unfolding(crate::specs::Words::front_in))]
 pub fn front(row: &[u32], k: usize, a: usize) -> u32
     requires { PoseAt row.now k a }
     ensures { result ≡ front_in row.now k a }
 {
-    if site(row, k, a) == word(row, k * CELL + FRONT_BARRED) {
-        return search_lanes::NONE;
-    }
-    0
+    end_toll(site(row, k, a), word(row, k * CELL + FRONT_BARRED))
 }
 
 // The same as the last of its row.
+#[tactic(auto, unfolding(crate::specs::Words::back_in))]
 pub fn back(row: &[u32], k: usize, a: usize) -> u32
     requires { PoseAt row.now k a }
     ensures { result ≡ back_in row.now k a }
 {
-    if end(row, k, a) == word(row, k * CELL + BACK_BARRED) {
-        return search_lanes::NONE;
-    }
-    0
+    end_toll(end(row, k, a), word(row, k * CELL + BACK_BARRED))
 }
 
 // The position of tall cell i, counted from 0.
+#[tactic(auto, unfolding(crate::specs::Words::pos_in))]
 pub fn tall_at(row: &[u32], i: usize) -> usize
     requires { TallAt row.now i }
     ensures { result ≡ pos_in row.now i }
@@ -224,11 +198,6 @@ pub fn placed_with(row: &[u32], sizes: Sizes, p: usize, s: usize) -> usize
     requires { StateKnown row.now sizes.reordering p s }
     ensures { result ≡ placed_with sizes.reordering p s }
 {
-    let r = sizes.reordering;
-    let all = p + r + 1;
-    let d = word(row, STATES + s * 4);
-    if all < d {
-        return 0;
-    }
-    all - d
+    let all = p + sizes.reordering + 1;
+    all.saturating_sub(word(row, STATES + s * 4))
 }
