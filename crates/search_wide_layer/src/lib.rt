@@ -27,14 +27,9 @@ fn is_way(store: &[u32], row: &[u32], sizes: Sizes, layer: Block, q: usize, p: u
     requires { SourceSought row.now store.now sizes layer q p }
     ensures { IsWay row.now store.now sizes layer q p result }
 {
-    if !search_row::is_source(row, sizes, layer.cells, q, p) {
-        return false;
-    }
     let at = layer.at + p * search_store::STATE;
-    if search_lanes::most(store, at + search_store::FLAGS, sizes.poses) == 0 {
-        return false;
-    }
-    true
+    search_row::is_source(row, sizes, layer.cells, q, p)
+        && search_lanes::most(store, at + search_store::FLAGS, sizes.poses) != 0
 }
 
 // State p of a layer, if it is a source of state q of the next, in so many rows: whether it lowered anything.
@@ -96,12 +91,10 @@ fn gather(
         (buckets_for row.now sizes layer q) layer.lanes table.old table.new }
 {
     let mut used = false;
-    let mut p: usize = 0;
-    while p < sizes.states {
+    for p in 0..sizes.states {
         if from_source(table, store, row, sizes, layer, q, p, rows) {
             used = true;
         }
-        p += 1;
     }
     used
 }
@@ -112,14 +105,7 @@ fn has_way(store: &[u32], row: &[u32], sizes: Sizes, layer: Block, q: usize) -> 
     ensures { result ≡ false → (p : ℕ) → p < sizes.states
         → NoWay row.now store.now sizes layer q p }
 {
-    let mut s: usize = 0;
-    while s < sizes.states {
-        if is_way(store, row, sizes, layer, q, s) {
-            return true;
-        }
-        s += 1;
-    }
-    false
+    (0..sizes.states).any(|p| is_way(store, row, sizes, layer, q, p))
 }
 
 // The rows of state q, whose cell is there: all NONE if nothing leads to it, and those of poses that it is not offered.
@@ -203,9 +189,7 @@ pub fn step_layer(
         layer.at layer.cells) layer.lanes sizes.poses to sizes.states store.old
         store.new table.new }
 {
-    let mut q: usize = 0;
-    while q < sizes.states {
+    for q in 0..sizes.states {
         target_block(table, store, row, sizes, layer, to, q);
-        q += 1;
     }
 }

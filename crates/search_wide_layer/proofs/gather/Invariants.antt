@@ -1,17 +1,10 @@
 -- After p turns the states below p are gathered.
-use Prim.Native.Nat.{◌-◌, ◌≤◌}
-use mathlib.Core.Path.{◌≡◌}
-use mathlib.Core.Bool.{false}
 use Rattle.search_row.specs.Words.{deck_in}
-use Rattle.search_wide_buckets.specs.Table.{Gathered, states_in}
+use Rattle.search_wide_buckets.specs.Table.{GatheredIf, states_in}
 use Rattle.search_wide_layer.specs.Loops.{buckets_for}
 use Rattle.search_wide_layer.proofs.gather.Given as goal
 
 abbrev pub invariant-loop-p : goal.invariant-loop-p
 invariant-loop-p l =
-    (l.p ≤ l.sizes.states) × Gathered (states_in l.store l.row (deck_in l.row l.sizes) l.sizes.reordering l.layer.at l.layer.cells l.q l.p) l.rows
+    GatheredIf l.used (states_in l.store l.row (deck_in l.row l.sizes) l.sizes.reordering l.layer.at l.layer.cells l.q l.p) l.rows
     (buckets_for l.row l.sizes l.layer l.q) l.layer.lanes l.initial.table l.table
-    × (l.used ≡ false → l.table ≡ l.initial.table)
-
-abbrev pub decreases-loop-p : goal.decreases-loop-p
-decreases-loop-p l = l.sizes.states - l.p

@@ -1,5 +1,4 @@
 -- After q turns the blocks below q are those of the next layer; the layer before is kept.
-use Prim.Native.Nat.{◌-◌, ◌≤◌}
 use Rattle.search_row.specs.Words.{deck_in}
 use Rattle.search_wide_buckets.specs.Table.{TableLent}
 use Rattle.search_wide_layer.specs.Loops.{next_from}
@@ -8,9 +7,5 @@ use Rattle.search_wide_layer.proofs.step_layer.Given as goal
 
 abbrev pub invariant-loop-q : goal.invariant-loop-q
 invariant-loop-q l =
-    (l.q ≤ l.sizes.states) × Filled (next_from (deck_in l.row l.sizes) l.sizes.reordering l.initial.store l.layer.at l.layer.cells) l.layer.lanes
+    Filled (next_from (deck_in l.row l.sizes) l.sizes.reordering l.initial.store l.layer.at l.layer.cells) l.layer.lanes
     l.sizes.poses l.to l.q l.initial.store l.store × TableLent l.table
-
-abbrev pub decreases-loop-q : goal.decreases-loop-q
-decreases-loop-q l =
-    l.sizes.states - l.q

@@ -1,17 +1,12 @@
 -- A state that is not there has no way to it.
 use Prim.Native.Nat.{ℕ}
 use mathlib.Core.Path.{sym, ap, ◌∙◌}
-use native.Mathlib.Omega.{arith}
 use native.Mathlib.Numerals.{add-one}
 use Rattle.search_row.specs.Words.{deck_in, there_in}
 use Rattle.search_buckets.specs.Next.{next-away}
 use Rattle.search_lanes.specs.Store.{layer_in}
 use Rattle.search_lanes.specs.Laws.{state-closed}
-use borrow.Author.Rules.{rules}
 use Rattle.search_wide_layer.proofs.target_block.Goals as goal
-
-pub fill-requires : goal.fill-requires
-fill-requires c = record { words = search rules; word = search rules }
 
 pub returns-then-not-is_there : goal.returns-then-not-is_there
 returns-then-not-is_there c =
@@ -23,15 +18,4 @@ returns-then-not-is_there c =
           (λ b l x y. next-away (deck_in c.args.row.now c.args.sizes) c.args.sizes.reordering (layer_in c.args.store.now c.args.layer.at l) c.args.layer.cells
           c.args.q b u);
       lent = c.requires.stepping.lent;
-    }
-
-pub target_rows-requires : goal.target_rows-requires
-target_rows-requires c =
-    let t = sym c.is_there.ensures ∙ c.if-not-is_there.false in
-    record {
-      stepping = c.requires.stepping;
-      target = record {
-        state = omega (arith, c.requires.stepping.given.grounded.all);
-        there = ap (λ (j : ℕ). there_in c.args.sizes.cells c.args.sizes.reordering j c.args.q) (sym (add-one c.args.layer.cells)) ∙ t;
-      };
     }
