@@ -50,10 +50,8 @@ fn from_starts(
 {
     let mut pays = [0u32; search_buckets::PAY_WORDS];
     search_buckets::fill_pays(&mut pays, row, p, k, buckets);
-    let mut l: usize = 0;
-    while l < lanes {
+    for l in 0..lanes {
         from_start(table, row, &pays, p, k, rows, buckets, l);
-        l += 1;
     }
 }
 
@@ -147,9 +145,7 @@ pub fn first_layer(
         cells: i,
         at: 0,
     };
-    let mut q: usize = 0;
-    while q < sizes.states {
+    for q in 0..sizes.states {
         first_block(table, store, row, sizes, layer, m, p, q);
-        q += 1;
     }
 }

@@ -1,17 +1,14 @@
 -- A state that cannot come first has no way to it.
-use Prim.Native.Nat.{ℕ, suc, ◌+◌, ◌*◌, ◌≤◌}
+use Prim.Native.Nat.{ℕ, suc}
 use mathlib.Core.Path.{◌≡◌, sym, ap, ◌∙◌}
 use mathlib.Core.Bool.{true}
 use native.Mathlib.Omega.{arith}
 use native.Mathlib.Numerals.{add-one}
-use lib.ListN.{length}
-use Rattle.search_store.specs.Map.{state_block}
 use Rattle.theory_tables.specs.Steps.{last_at}
 use Rattle.search_lanes.specs.Laws.{state-rows, state-closed}
 use Rattle.search_row.specs.Words.{deck_in}
-use Rattle.search_dense_first.specs.Firsts.{starts_at, after-there, after-away, starts_size}
+use Rattle.search_dense_first.specs.Firsts.{starts_at, after-there, after-away}
 use Rattle.search_wide_first.specs.Firsts.{after_row}
-use borrow.Author.Rules.{rules}
 use Rattle.search_wide_first.proofs.first_block.Goals as goal
 use Rattle.search_wide_first.proofs.first_block.Goals.{After-last_at-k, Else-not-starts, Start}
 
@@ -27,13 +24,6 @@ here : (c : After-last_at-k)
     c.args.sizes.reordering (suc c.args.to.cells) c.args.q)
 here c = omega (arith, c.last_at-k.ensures)
 
--- the state's words lie in the store
-room : (c : Start) → (c.args.to.at + c.args.q * state_block + state_block ≤ length c.args.store.now)
-room c = let g = c.requires.given in omega (arith, g.room, g.grounded.all, g.grounded.coded.few)
-
-pub fill-requires : goal.fill-requires
-fill-requires c = record { words = search rules; word = search rules }
-
 pub returns-then-not-starts : goal.returns-then-not-starts
 returns-then-not-starts c =
     let g = c.requires.given in
@@ -43,31 +33,6 @@ returns-then-not-starts c =
       filled = state-closed g.narrow g.grounded.few g.low c.fill.ensures
           (λ b l x y. after-away (deck_in c.args.row.now c.args.sizes) c.args.sizes.reordering c.args.to.cells c.args.m c.args.p l c.args.q b u);
       lent = c.requires.lent;
-    }
-
-pub last_at-k-requires : goal.last_at-k-requires
-last_at-k-requires c =
-    let g = c.requires.given in
-    record { words = g.grounded.coded; state = omega (arith, g.grounded.all); few = omega (arith, g.early) }
-
-pub first_rows-requires : goal.first_rows-requires
-first_rows-requires c =
-    let g = c.requires.given in
-    record {
-      lent = c.requires.lent;
-      words = g.grounded.words;
-      low = g.low;
-      room = room (goal.at-first_rows-requires c).Start;
-      start = c.requires.start;
-      narrow = g.narrow;
-      cell = omega (
-        arith,
-        here (goal.at-first_rows-requires c).After-last_at-k,
-        starts_size c.args.sizes.cells c.args.sizes.reordering (suc c.args.to.cells) c.args.m c.args.q
-            (can (goal.at-first_rows-requires c).Else-not-starts),
-        g.grounded.size,
-      );
-      few = g.grounded.few;
     }
 
 pub returns : goal.returns

@@ -1,5 +1,4 @@
 -- Each turn writes one block more.
-use Prim.Native.Nat.{◌-◌, ◌≤◌}
 use Rattle.search_lanes.specs.Store.{Filled}
 use Rattle.search_row.specs.Words.{deck_in}
 use Rattle.search_wide_buckets.specs.Table.{TableLent}
@@ -8,8 +7,4 @@ use Rattle.search_wide_first.proofs.first_layer.Given as goal
 
 abbrev pub invariant-loop-q : goal.invariant-loop-q
 invariant-loop-q l =
-    (l.q ≤ l.sizes.states) × Filled (after_from (deck_in l.row l.sizes) l.sizes.reordering l.i l.m l.p) l.lanes l.sizes.poses 0 l.q l.initial.store l.store × TableLent l.table
-
-abbrev pub decreases-loop-q : goal.decreases-loop-q
-decreases-loop-q l =
-    l.sizes.states - l.q
+    Filled (after_from (deck_in l.row l.sizes) l.sizes.reordering l.i l.m l.p) l.lanes l.sizes.poses 0 l.q l.initial.store l.store × TableLent l.table

@@ -20,9 +20,11 @@ starts : (c : After-run_up) → (Gathered (start_in c.args.row.now c.args.p c.ar
 starts c = rw c.rows_of.ensures at (starts_all c.from_starts.ensures)
 
 -- the table once bucket 0 ran up
-table : (c : After-run_up) → (TableReady (start_in c.args.row.now c.args.p c.args.k) c.args.poses c.buckets_of-buckets.result c.args.lanes c.run_up.new.table)
-table c =
-    ready c.requires.few (five-least ((let it : FiveOrNine c.buckets_of-buckets.result = rw c.buckets_of-buckets.ensures (buckets_either c.args.row.now c.args.k) in it))) (nine-most ((let it : FiveOrNine c.buckets_of-buckets.result = rw c.buckets_of-buckets.ensures (buckets_either c.args.row.now c.args.k) in it))) (λ l v t. starts_low c.args.p c.args.k l v t c.requires.words) (λ l v t h. rw c.buckets_of-buckets.ensures (starts_last c.args.row.now c.args.p c.args.k l v t h))
+table : (c : After-run_up) → FiveOrNine c.buckets_of-buckets.result
+    → TableReady (start_in c.args.row.now c.args.p c.args.k) c.args.poses c.buckets_of-buckets.result c.args.lanes c.run_up.new.table
+table c n =
+    ready c.requires.few (five-least n) (nine-most n) (λ l v t. starts_low c.args.p c.args.k l v t c.requires.words)
+    (λ l v t h. rw c.buckets_of-buckets.ensures (starts_last c.args.row.now c.args.p c.args.k l v t h))
     c.reset.ensures (starts c) c.run_up.ensures
 
 pub reset-requires : goal.reset-requires
@@ -47,14 +49,9 @@ from_starts-requires c =
       narrow = c.requires.narrow;
     }
 
-pub run_up-requires : goal.run_up-requires
-run_up-requires c =
-    let w = c.from_starts.ensures in
-    record { lent = record { long = w.long ∙ c.reset.ensures.long; low = w.low }; few = c.requires.few; narrow = c.requires.narrow }
-
 pub put_rows-requires : goal.put_rows-requires
 put_rows-requires c =
-    let t = table (goal.at-put_rows-requires c).After-run_up in
+    let t = table (goal.at-put_rows-requires c).After-run_up (needed (goal.at-put_rows-requires c).After-buckets_of-buckets) in
     let h = needed (goal.at-put_rows-requires c).After-buckets_of-buckets in
     record {
       rows = record {
@@ -73,7 +70,7 @@ put_rows-requires c =
 
 pub returns : goal.returns
 returns c =
-    let t = table (goal.at-returns c).After-run_up in
+    let t = table (goal.at-returns c).After-run_up (needed (goal.at-returns c).After-buckets_of-buckets) in
     let w = c.put_rows.ensures in
     record {
       written = record {

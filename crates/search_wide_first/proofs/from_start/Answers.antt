@@ -2,12 +2,8 @@
 use native.Mathlib.Omega.{arith}
 use Rattle.search_buckets.specs.Sources.{pays-low, pose-pays}
 use Rattle.search_wide_buckets.specs.SpreadLaws.{nine-most}
-use Rattle.search_wide_first.specs.Starts.{started_out, started_in}
+use Rattle.search_wide_first.specs.Starts.{started_in}
 use Rattle.search_wide_first.proofs.from_start.Goals as goal
-
-pub returns-then-t-rows : goal.returns-then-t-rows
-returns-then-t-rows c =
-    started_out c.args.row.now c.args.p c.args.k c.args.l c.requires.starting.lent.low (omega (arith, c.end_row-t.ensures))
 
 pub spread_lane-requires : goal.spread_lane-requires
 spread_lane-requires c =
