@@ -1,7 +1,7 @@
 -- Laws of loops that keep the least: one round more, where the least is, the least of costs that are equal below B; and
 -- when a number is the least of all ways to a case.
-use Rattle.std.specs.Prelude.{ℕ, zero, suc, ◌+◌, ◌≤◌, ◌<◌, min, ◌≡◌, refl}
-use Rattle.std.proofs.Common.{sym, ◌∙◌, ⊎_elim}
+use Rattle.std.specs.Prelude.{ℕ, zero, suc, ◌+◌, ◌≤◌, ◌<◌, min, ◌≡◌, refl, Option, None, Some, unwrap_or}
+use Rattle.std.proofs.Common.{sym, ◌∙◌, subst}
 use native.Mathlib.Omega.{arith}
 use Rattle.std.proofs.Math.Decide.{dec_lt}
 use Rattle.lists.specs.Numbers.{from}
@@ -9,7 +9,9 @@ use Rattle.theory_pair.specs.Coded.{lowest, lowest-from, lowest-low}
 use Rattle.theory_tables.specs.Steps.{B, Cases, SegmentCosts, join_pose, next_cases}
 use Rattle.theory_tables.specs.Lowest.{loop_member, loop_above}
 use Rattle.search_join.specs.Tables.{case_state₀, case_state₁, case_pose, pointer_end}
-use Rattle.search_join.specs.Tables.{Better, Least, Way}
+use Rattle.search_join.specs.declared.Best.{Best}
+use Rattle.search_join.specs.Tables.{Least, Way}
+use Rattle.search_join.specs.Found.{cost_of, LeastFound}
 
 -- ---- loops
 
@@ -45,27 +47,38 @@ lowest-at h (suc n) l = go (dec_lt (h n) (lowest B h (from 0 n))) (lowest-at h n
 
 -- ---- the least, and where it is
 
-pub least-none : (h : ℕ → ℕ) (W : ℕ → ℕ → Type 0) → Least (lowest B h (from 0 0)) W B 0
-least-none h W = record { right = sym (lowest-zero h); found = λ l. absurd (omega arith); small = omega arith }
+-- the least that was found costs what the least is
+found_cost : {least : ℕ} (W : ℕ → ℕ → Type 0) (best : Option Best) → LeastFound least W best → cost_of best ≡ least
+found_cost W None w = sym w
+found_cost W (Some best) w = w.1.right
 
-pub least_more :
-    (h : ℕ → ℕ) (n : ℕ) {W : ℕ → ℕ → Type 0} {x c y d z e : ℕ}
-    → Least (lowest B h (from 0 n)) W x c → Least (h n) W y d → Better x c y d z e
-    → Least (lowest B h (from 0 (n + 1))) W z e
-least_more h n p q b =
-    record {
-      right = omega (arith, p.right, q.right, b.least, lowest-more h n);
-      found = λ h. ⊎_elim
-          (λ w. rw (w.0, w.1) (p.found (omega (arith, w.0))))
-          (λ w. rw (w.0, w.1) (q.found (omega (arith, w.0))))
-          b.one;
-      small = ⊎_elim (λ w. omega (arith, w.1, p.small)) (λ w. omega (arith, w.1, q.small)) b.one;
-    }
+-- one cost more, which W has at its code: the lower of the two
+pub best_more :
+    (h : ℕ → ℕ) (n : ℕ) (W : ℕ → ℕ → Type 0) (value code : ℕ) (best next : Option Best)
+    → value ≡ h n → W value code → code < pointer_end → LeastFound (lowest B h (from 0 n)) W best
+    → (value < cost_of best → next ≡ Some (record { value = value; code = code }))
+    → (cost_of best ≤ value → next ≡ best)
+    → LeastFound (lowest B h (from 0 (n + 1))) W next
+best_more h n W value code best next e met small w lower kept = go (dec_lt value (cost_of best))
+  where
+    cost : cost_of best ≡ lowest B h (from 0 n)
+    cost = found_cost W best w
 
--- a least that is not B is found
-pub least-met : {least value code : ℕ} {W : ℕ → ℕ → Type 0} → least ≤ B → Least least W value code → (value ≡ B → ⊥)
-    → W value code × (value < B)
-least-met {value = value} b w h = let l : value < B = omega (arith, w.right, h) in (w.found l, l)
+    go : Dec (value < cost_of best) → LeastFound (lowest B h (from 0 (n + 1))) W next
+    go (yes l) =
+        let low : value < B = omega (arith, cost, lowest-low B h (from 0 n)) in
+        rw (lower l) (low, record { right = omega (arith, cost, lowest-more h n); found = λ b. met; small = small })
+    go (no l) =
+        let k : cost_of best ≤ value = omega arith in
+        let same : lowest B h (from 0 n) ≡ lowest B h (from 0 (n + 1)) = omega (arith, cost, lowest-more h n) in
+        rw (kept k) (subst (λ (m : ℕ). LeastFound m W best) same w)
+
+-- where there is none, the store says B
+pub found_or : {least : ℕ} (W : ℕ → ℕ → Type 0) (best : Option Best) (none : Best) → none.value ≡ B → none.code ≡ 0
+    → LeastFound least W best → Least least W (unwrap_or best none).value (unwrap_or best none).code
+found_or W None none e c w =
+    record { right = e ∙ sym w; found = λ h. absurd (omega arith); small = omega arith }
+found_or W (Some best) none e c w = w.1
 
 -- ---- the least of all ways to a case
 
@@ -95,6 +108,11 @@ module _ (starts lanes : ℕ) (f : Cases) (x₀ x₁ : SegmentCosts) (q₀ q₁ 
   next-above v b all =
       loop_above B _ starts v b
       (λ s h. loop_above B _ starts v b (λ t g. loop_above B _ lanes v b (λ l k. all s t l h g k)))
+
+  -- where every cost is B or more, there is no way
+  pub next-none : ((s t l : ℕ) → s < starts → t < starts → l < lanes → B ≤ cost s t l)
+      → next_cases starts lanes f x₀ x₁ q₀ q₁ a ≡ B
+  next-none all = omega (arith, next_low, next-above B (omega arith) all)
 
   -- a number that is at most every cost, and is one of them if it is below B, is the least
   pub next-is : (v : ℕ) {code : ℕ} → v ≤ B → ((s t l : ℕ) → s < starts → t < starts → l < lanes → v ≤ cost s t l)

@@ -1,28 +1,25 @@
--- Laws of the sums: one state more, one start state more, one that has no way; and a case from them.
+-- Laws of the sums: one state more, one start state more, one that has no way.
 use Prim.Native.Nat.{ℕ, ◌+◌, ◌*◌, ◌≤◌, ◌<◌, min}
-use Rattle.std.specs.Prelude.{◌≡◌, ◌⊎◌, List, Bool, length, set, replicate}
-use Rattle.std.proofs.Math.Path.{refl, sym, ap}
+use Rattle.std.specs.Prelude.{◌≡◌, List, Bool, length, set, replicate}
+use Rattle.std.proofs.Math.Path.{sym, ap}
 use Rattle.std.proofs.Common.{ap₂, ◌∙◌, length-set, get_or-set_same, get_or-set_other}
-use Rattle.std.proofs.Math.Logic.{⊎_elim}
 use native.Mathlib.Omega.{arith}
 use Rattle.std.proofs.Math.Decide.{ℕ_discrete, dec_lt}
 use Rattle.std.proofs.Math.ListN.{get_or}
 use Rattle.std.proofs.lemmas.List.{length-replicate, get_or-replicate}
-use Rattle.search_store.specs.Map.{case_at, costs_at, state_block, flags_from, max_lanes, pointer_row₀, pointer_row₁}
+use Rattle.search_store.specs.Map.{case_at, costs_at, state_block, flags_from, max_lanes}
 use Rattle.lists.specs.Numbers.{from}
 use Rattle.theory_pair.specs.Coded.{lowest, lowest-low}
 use Rattle.theory_tables.specs.Steps.{B}
-use Rattle.theory_tables.specs.Lowest.{loop_member, loop_above}
 use Rattle.search_lanes.specs.Lanes.{always}
 use Rattle.search_lanes.specs.Store.{Frame, Written, said, said_in}
 use Rattle.search_lanes.specs.Laws.{said-none, said-word, low-set}
 use Rattle.search_lanes.specs.Lowered.{LoweredAt, lowered_at-low}
 use Rattle.search_join.specs.declared.sums.Join.{Join}
-use Rattle.search_join.specs.Tables.{case_state₀, case_state₁, case_pose}
-use Rattle.search_join.specs.Tables.{cases_in, costs_in, Table, Least, MetAt, SumAt, WayIn, next_in}
-use Rattle.search_join.specs.Sums.{start_sum, word_sum, lane_sum, end_lane, end_sum, sum_flags, sum_in, common_words}
-use Rattle.search_join.specs.Sums.{SumsRoom, NoFlags, Nones, WaysAdded, Sums, AllSummed, LaneMet, Commons}
-use Rattle.search_join.specs.Laws.{lowest-zero, lowest-more, lowest-same, lowest-at, next-is}
+use Rattle.search_join.specs.Tables.{cases_in, costs_in, Table}
+use Rattle.search_join.specs.Sums.{start_sum, word_sum, sum_flags, sum_in, common_words}
+use Rattle.search_join.specs.Sums.{SumsRoom, NoFlags, Nones, WaysAdded, Sums, AllSummed, Commons}
+use Rattle.search_join.specs.Laws.{lowest-zero, lowest-more, lowest-same}
 
 -- the costs are there for other lanes, whatever the table
 pub table_for_lem : {starts lanes I : ℕ} {st : List ℕ} (l i : ℕ) → Table starts lanes I st → l ≤ max_lanes → i ≤ 24
@@ -50,7 +47,7 @@ cost-word st row s l q a costs e d =
     said-word _ _ (λ z. d (same_word st _ _ (omega arith) ∙ z)) ∙ same_word st _ _ (omega arith)
 
 -- in a row that says less than B anywhere the flag is not 0
-said_live : (flag word : ℕ) → said flag word < B → flag ≡ 0 → ⊥
+pub said_live : (flag word : ℕ) → said flag word < B → flag ≡ 0 → ⊥
 said_live flag word h z = omega (arith, said-none flag word z)
 
 -- ---- the words of a sum
@@ -282,132 +279,3 @@ module _ (j : Join) (st : List ℕ) (q₀ a : ℕ) where
         };
         dead = w.dead;
       }
-
--- ---- a case from the sums
-
-module _ (lanes : ℕ) (sums st : List ℕ) (q₁ a t : ℕ) where
-  -- a state without sums, or without costs in row 1, has no way
-  pub end_none : (get_or sums (sum_flags + t) 0 ≡ 0) ⊎ ((l : ℕ) → costs_in st 1 t l q₁ a ≡ B)
-      → B ≡ end_sum lanes sums st q₁ a t
-  unfolding end_sum end_lane
-  end_none z =
-      let h : (l : ℕ) → B ≤ end_lane sums st q₁ a t l =
-      λ l. ⊎_elim
-      (λ e. omega (arith, said-none (get_or sums (sum_flags + t) 0) (get_or sums (t * max_lanes + l) 0) e))
-      (λ e. omega (arith, e l))
-      z in
-      omega (
-        arith,
-        lowest-low B (end_lane sums st q₁ a t) (from 0 lanes),
-        loop_above B (end_lane sums st q₁ a t) lanes B (omega arith) (λ l k. h l),
-      )
-
-  -- a state that has both says the words of both
-  pub end-words : (costs l : ℕ) → (get_or sums (sum_flags + t) 0 ≡ 0 → ⊥)
-      → costs ≡ costs_at 1 t + q₁ * state_block + 0 * max_lanes
-      → (get_or st (costs + flags_from + a) 0 ≡ 0 → ⊥)
-      → lane_sum sums (t * max_lanes) st (costs + a * max_lanes) l ≡ end_lane sums st q₁ a t l
-  unfolding lane_sum end_lane
-  end-words costs l d e f =
-      omega (
-        arith,
-        said-word (get_or sums (sum_flags + t) 0) (get_or sums (t * max_lanes + l) 0) d,
-        cost-word st 1 t l q₁ a costs e f,
-      )
-
-  pub end-least : (costs : ℕ) → (get_or sums (sum_flags + t) 0 ≡ 0 → ⊥)
-      → costs ≡ costs_at 1 t + q₁ * state_block + 0 * max_lanes
-      → (get_or st (costs + flags_from + a) 0 ≡ 0 → ⊥)
-      → lowest B (lane_sum sums (t * max_lanes) st (costs + a * max_lanes)) (from 0 lanes) ≡ end_sum lanes sums st q₁ a t
-  unfolding end_sum
-  end-least costs d e f =
-      lowest-same (lane_sum sums (t * max_lanes) st (costs + a * max_lanes)) (end_lane sums st q₁ a t) lanes
-      (λ l k. ap (λ (x : ℕ). min x B) (end-words costs l d e f))
-
-  -- below B, it has both
-  end_live : (v : ℕ) → v < B → end_sum lanes sums st q₁ a t ≡ v
-      → (l : ℕ) × (l < lanes) × (end_lane sums st q₁ a t l ≡ v)
-  unfolding end_sum
-  end_live v b e =
-      let at = lowest-at (end_lane sums st q₁ a t) lanes (omega arith) in
-      (at.0, at.1, at.2 ∙ e)
-
--- the least over the lanes of state t, with t for its code
-pub end-met : (starts lanes : ℕ) (sums st : List ℕ) (q₁ a t : ℕ) {v : ℕ} → t < starts → starts ≤ 12
-    → v ≡ end_sum lanes sums st q₁ a t
-    → Least (end_sum lanes sums st q₁ a t) (MetAt (end_sum lanes sums st q₁ a) starts) v t
-end-met starts lanes sums st q₁ a t h b e = record { right = e; found = λ l. (h, sym e); small = omega arith }
-
-module _ (j : Join) (st : List ℕ) (q₀ q₁ a : ℕ) {sums : List ℕ} (w : Sums j st q₀ a j.starts 0 sums) where
-  -- a sum is at most what it is the least of
-  sum_below : (s t l : ℕ) → s < j.starts → t < j.starts → l < j.lanes
-      → sum_in sums t l ≤ start_sum j.i st q₀ a t l s
-  sum_below s t l h g k =
-      omega (arith, w.before t l g k (omega arith), loop_member B (start_sum j.i st q₀ a t l) j.starts s h)
-
-  -- there is no way at all
-  pub case-dead : Nones j.starts j.lanes sums
-      → Least (next_in j.starts j.lanes j.i st q₀ q₁ a) (WayIn j.starts j.lanes j.i st q₀ q₁ a) B 0
-  unfolding start_sum
-  case-dead none =
-      next-is j.starts j.lanes _ _ _ q₀ q₁ a B (omega arith)
-      (λ s t l h g k. omega (arith, none t l g k, sum_below s t l h g k))
-      (λ h. absurd (omega arith))
-      (omega arith)
-
-  -- the least of the sums with row 1's costs is at most every way
-  pub case-below : (v : ℕ) → v ≡ lowest B (end_sum j.lanes sums st q₁ a) (from 0 j.starts)
-      → (s t l : ℕ) → s < j.starts → t < j.starts → l < j.lanes
-      → v ≤ cases_in st j.i s t l + (costs_in st 0 s l q₀ a + costs_in st 1 t l q₁ a)
-  unfolding start_sum end_sum end_lane
-  case-below v e s t l h g k =
-      omega (
-        arith,
-        loop_member B (end_sum j.lanes sums st q₁ a) j.starts t g,
-        loop_member B (end_lane sums st q₁ a t) j.lanes l k,
-        sum_below s t l h g k,
-      )
-
-  -- a lane that has the least of state t
-  pub lane-met : (v t p₁ lane : ℕ) → v < B → end_sum j.lanes sums st q₁ a t ≡ v
-      → p₁ ≡ costs_at 1 t + q₁ * state_block + a * max_lanes
-      → SumAt (lane_sum sums (t * max_lanes) st p₁) j.lanes v lane
-      → LaneMet j st sums q₁ a v t lane
-  unfolding end_lane costs_in
-  lane-met v t p₁ lane b e d found =
-      let costs = costs_at 1 t + q₁ * state_block + 0 * max_lanes in
-      let at = end_live j.lanes sums st q₁ a t v b e in
-      let live : get_or sums (sum_flags + t) 0 ≡ 0 → ⊥ = said_live _ (get_or sums (t * max_lanes + at.0) 0)
-      (omega (arith, at.2)) in
-      let paid : get_or st (costs + flags_from + a) 0 ≡ 0 → ⊥ =
-      λ z. omega (arith, at.2, cost-none st 1 t at.0 q₁ a costs refl z) in
-      let words : (l : ℕ) → lane_sum sums (t * max_lanes) st p₁ l ≡ end_lane sums st q₁ a t l =
-      λ l. ap (λ (p : ℕ). lane_sum sums (t * max_lanes) st p l) (omega arith)
-      ∙ end-words j.lanes sums st q₁ a t costs l live refl paid in
-      let m = found at.0 at.1 (words at.0 ∙ at.2) in
-      record { inside = m.0; sum = sym m.1 ∙ words lane; word = said-word _ _ live }
-
-  -- with a start state that has the sum there, it is a way
-  pub case-way : (v s t lane : ℕ) → v < B → j.starts ≤ 12 → j.lanes ≤ max_lanes → t < j.starts
-      → LaneMet j st sums q₁ a v t lane
-      → SumAt (start_sum j.i st q₀ a t lane) j.starts (get_or sums (t * max_lanes + lane) 0) s
-      → WayIn j.starts j.lanes j.i st q₀ q₁ a v (s * pointer_row₀ + t * pointer_row₁ + lane) × (s < j.starts)
-  unfolding start_sum
-  case-way v s t lane b few narrow g met found =
-      let k = met.inside in
-      let z = w.before t lane g k (omega arith) in
-      let at = lowest-at (start_sum j.i st q₀ a t lane) j.starts (omega (arith, met.sum)) in
-      let m = found at.0 at.1 (at.2 ∙ sym z ∙ met.word) in
-      let h = m.0 in
-      let c = s * pointer_row₀ + t * pointer_row₁ + lane in
-      let x : case_state₀ c ≡ s = omega arith in
-      let y : case_state₁ c ≡ t = omega arith in
-      let l : case_pose c ≡ lane = omega arith in (
-        record {
-          state₀ = omega arith;
-          state₁ = omega arith;
-          lane = omega arith;
-          sum = rw (x, y, l) (omega (arith, met.sum, met.word, m.1));
-        },
-        h,
-      )

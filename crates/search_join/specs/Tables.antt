@@ -1,5 +1,5 @@
 -- The case tables and the costs of a stage as words of the store, and what joining them leaves.
-use Rattle.std.specs.Prelude.{ℕ, suc, ◌+◌, ◌/◌, ◌%◌, ◌≤◌, ◌<◌, min, ◌≡◌, ◌⊎◌, List, length, get_or}
+use Rattle.std.specs.Prelude.{ℕ, suc, ◌+◌, ◌/◌, ◌%◌, ◌≤◌, ◌<◌, ◌≡◌, List, length, get_or}
 use Rattle.definition.specs.Job.{max_tall}
 use Rattle.search_store.specs.Map.{case_at, pointer_at, costs_at, Pages, Slot, pointer_row₀, pointer_row₁}
 use Rattle.search_store.specs.Map.{max_lanes, max_poses}
@@ -56,11 +56,6 @@ pub record CaseFits (case : Case) : Type 0 where
 
 -- ---- the least of some costs, and where it is
 
--- the lower of two costs with their codes
-pub record Better (x c y d z e : ℕ) : Type 0 where
-  pub least : z ≡ min x y
-  pub one : ((z ≡ x) × (e ≡ c)) ⊎ ((z ≡ y) × (e ≡ d))
-
 -- `value` is the least cost; if that is below B, `code` says where it is, as W has it
 pub record Least (least : ℕ) (W : ℕ → ℕ → Type 0) (value code : ℕ) : Type 0 where
   pub right : value ≡ least
@@ -70,10 +65,6 @@ pub record Least (least : ℕ) (W : ℕ → ℕ → Type 0) (value code : ℕ) :
 -- place r below n has that cost
 abbrev pub MetAt : (ℕ → ℕ) → ℕ → ℕ → ℕ → Type 0
 MetAt h n cost r = (r < n) × (h r ≡ cost)
-
--- the same, if any place has
-abbrev pub SumAt : (ℕ → ℕ) → ℕ → ℕ → ℕ → Type 0
-SumAt h n cost r = (k : ℕ) → k < n → h k ≡ cost → MetAt h n cost r
 
 -- ---- a way to the case (q₀, q₁, a)
 

@@ -4,12 +4,13 @@
 
 mod sums;
 
-ghost use Rattle.std.specs.Prelude.{◌≡◌, ◌+◌};
+ghost use Rattle.std.specs.Prelude.{◌≡◌, ◌+◌, ◌<◌, ◌≤◌};
 ghost use Rattle.lists.specs.Numbers.{from};
 ghost use Rattle.theory_pair.specs.Coded.{lowest};
 ghost use Rattle.theory_tables.specs.Steps.{B};
 ghost use Rattle.search_lanes.specs.Store.{said_in};
-ghost use Rattle.search_join.specs.Tables.{Better, Least, MetAt, SumAt, OneCase, PoseCases, BlockCases};
+ghost use Rattle.search_join.specs.Tables.{MetAt, OneCase, PoseCases, BlockCases};
+ghost use Rattle.search_join.specs.Found.{cost_of, LeastFound, SumFound};
 ghost use Rattle.search_join.specs.Tables.{Joined, JoinGiven, StateWith, AllStates, Closing, Closed};
 ghost use Rattle.search_join.specs.Sums.{SaidGiven, StartSums, start_sum, LaneSums, lane_sum, end_sum};
 ghost use Rattle.search_join.specs.Sums.{EndGiven, EndsGiven, Pointing, WayTo, Joining, least_to};
@@ -18,11 +19,17 @@ ghost use Rattle.search_join.specs.Sums.{CaseToPut, Made, CaseRoom, PartMade};
 use sums::{COMMON_WORDS, Join, SUM_FLAGS, SUM_WORDS, fill_commons, fill_sums};
 
 // The least of some costs, and a code of where it is.
-#[derive(Drop)]
-pub struct Best {
-    pub value: u32,
-    pub code: u32,
+#[derive(Clone, Copy)]
+struct Best {
+    value: u32,
+    code: u32,
 }
+
+// What the store says of a case without a way.
+const NO_WAY: Best = Best {
+    value: search_lanes::NONE,
+    code: 0,
+};
 
 // A case: its states in row 0 and row 1, and its pose.
 #[derive(Clone, Copy)]
@@ -32,15 +39,16 @@ pub struct Case {
     pub pose: usize,
 }
 
-// The lower of two, the first if they are equal.
-fn better(x: Best, value: u32, code: u32) -> Best
-    ensures { Better x.value x.code value code result.value result.code }
+// The least so far or another cost, whichever is lower; the first if they are equal.
+fn better(best: Option<Best>, value: u32, code: u32) -> Option<Best>
+    ensures lower { value < cost_of best → result ≡ Some (record { value = value; code = code }) }
+    ensures kept { cost_of best ≤ value → result ≡ best }
 {
-    let old = x.value;
+    let old = best.map_or(search_lanes::NONE, |b| b.value);
     if value < old {
-        return Best { value, code };
+        return Some(Best { value, code });
     }
-    x
+    best
 }
 
 // ---- a case: the least over the sums with row 1's costs
@@ -51,15 +59,13 @@ fn least_lane(sums: &[u32; SUM_WORDS], at: usize, store: &[u32], p1: usize, lane
     ensures { result ≡ lowest B (lane_sum sums.now at store.now p1) (from 0 lanes) }
 {
     let mut best = search_lanes::NONE;
-    let mut l: usize = 0;
-    while l < lanes {
+    for l in 0..lanes {
         best = search_lanes::lesser(best, sums[at + l] + store[p1 + l]);
-        l += 1;
     }
     best
 }
 
-// The first lane with that sum; 0 where there is none.
+// The first lane with that sum.
 fn lane_of(
     sums: &[u32; SUM_WORDS],
     at: usize,
@@ -67,18 +73,16 @@ fn lane_of(
     p1: usize,
     lanes: usize,
     sum: u32,
-) -> usize
+) -> Option<usize>
     requires { LaneSums sums.now at store.now p1 lanes }
-    ensures { SumAt (lane_sum sums.now at store.now p1) lanes sum result }
+    ensures { SumFound (lane_sum sums.now at store.now p1) lanes sum result }
 {
-    let mut l: usize = 0;
-    while l < lanes {
+    for l in 0..lanes {
         if sums[at + l] + store[p1 + l] == sum {
-            return l;
+            return Some(l);
         }
-        l += 1;
     }
-    0
+    None
 }
 
 // What the row of pose a says in a lane, in a state whose words begin at `at`.
@@ -92,7 +96,7 @@ fn said(store: &[u32], at: usize, a: usize, l: usize) -> u32
     store[at + a * search_store::MAX_LANES + l]
 }
 
-// The first start state of row 0 with that sum to state t in that lane; 0 where there is none.
+// The first start state of row 0 with that sum to state t in that lane.
 fn start_of(
     store: &[u32],
     join: Join,
@@ -101,21 +105,19 @@ fn start_of(
     t: usize,
     lane: usize,
     sum: u32,
-) -> usize
+) -> Option<usize>
     requires { StartSums join store.now q0 a t lane }
-    ensures { SumAt (start_sum join.i store.now q0 a t lane) join.starts sum result }
+    ensures { SumFound (start_sum join.i store.now q0 a t lane) join.starts sum result }
 {
-    let mut s: usize = 0;
-    while s < join.starts {
+    for s in 0..join.starts {
         if store[search_store::case_at(join.i, s, t) + lane]
             + said(store, search_store::cost_at(0, s, q0, 0), a, lane)
             == sum
         {
-            return s;
+            return Some(s);
         }
-        s += 1;
     }
-    0
+    None
 }
 
 // The least over the lanes of state t of row 1; NONE where it has no sums or no costs.
@@ -135,22 +137,16 @@ fn end_sum(sums: &[u32; SUM_WORDS], store: &[u32], join: Join, t: usize, q1: usi
 }
 
 // The least over the states of row 1, and the state that has it.
-fn best_end(sums: &[u32; SUM_WORDS], store: &[u32], join: Join, q1: usize, a: usize) -> Best
+fn best_end(sums: &[u32; SUM_WORDS], store: &[u32], join: Join, q1: usize, a: usize) -> Option<Best>
     requires { EndsGiven join store.now q1 a sums.now }
-    ensures { Least
+    ensures { LeastFound
         (lowest B (end_sum join.lanes sums.now store.now q1 a) (from 0 join.starts))
-        (MetAt (end_sum join.lanes sums.now store.now q1 a) join.starts) result.value
-        result.code }
+        (MetAt (end_sum join.lanes sums.now store.now q1 a) join.starts) result }
 {
-    let mut best = Best {
-        value: search_lanes::NONE,
-        code: 0,
-    };
-    let mut t: usize = 0;
-    while t < join.starts {
+    let mut best = None;
+    for t in 0..join.starts {
         let sum = end_sum(sums, store, join, t, q1, a);
         best = better(best, sum, t as u32);
-        t += 1;
     }
     best
 }
@@ -175,34 +171,31 @@ fn pointer_of(
         p1,
         join.lanes,
         value,
-    );
+    )
+    .unwrap();
     let at = t * search_store::POINTER_ROW_1 + lane;
-    let s = start_of(store, join, case.q0, case.pose, t, lane, sums[at]);
+    let s = start_of(store, join, case.q0, case.pose, t, lane, sums[at]).unwrap();
     (s * search_store::POINTER_ROW_0 + at) as u32
 }
 
 // A case: the least over states and lanes, and the code of a way to it.
-fn join_case(sums: &[u32; SUM_WORDS], live: bool, store: &[u32], join: Join, case: Case) -> Best
+fn join_case(
+    sums: &[u32; SUM_WORDS],
+    live: bool,
+    store: &[u32],
+    join: Join,
+    case: Case,
+) -> Option<Best>
     requires { Joining join store.now sums.now live case }
-    ensures { Least (least_to join store.now case) (WayTo join store.now case) result.value
-        result.code }
+    ensures { LeastFound (least_to join store.now case) (WayTo join store.now case) result }
 {
     if !live {
-        return Best {
-            value: search_lanes::NONE,
-            code: 0,
-        };
+        return None;
     }
-    let best = best_end(sums, store, join, case.q1, case.pose);
-    let value = best.value;
-    if value == search_lanes::NONE {
-        return Best { value, code: 0 };
-    }
+    let best = best_end(sums, store, join, case.q1, case.pose)?;
     let t = best.code as usize;
-    Best {
-        value,
-        code: pointer_of(sums, store, join, case, t, value),
-    }
+    let code = pointer_of(sums, store, join, case, t, best.value);
+    Some(Best { code, ..best })
 }
 
 // ---- the cases of a stage
@@ -213,7 +206,7 @@ fn put_case(store: &mut [u32], sums: &[u32; SUM_WORDS], live: bool, join: Join, 
     ensures { Made join (OneCase case.q0 case.q1 case.pose) store.old
         store.new }
 {
-    let best = join_case(sums, live, store, join, case);
+    let best = join_case(sums, live, store, join, case).unwrap_or(NO_WAY);
     store[search_store::case_at(join.i + 1, case.q0, case.q1) + case.pose] = best.value;
     store[search_store::pointer_at(join.i + 1, case.q0, case.q1) + case.pose] = best.code;
 }
@@ -232,11 +225,9 @@ fn case_pose(
     ensures { PartMade join (PoseCases q0 ends a) store.old store.new sums.new }
 {
     let live = fill_sums(sums, commons, store, join, q0, a);
-    let mut q1: usize = 0;
-    while q1 < ends {
+    for q1 in 0..ends {
         let case = Case { q0, q1, pose: a };
         put_case(store, sums, live, join, case);
-        q1 += 1;
     }
 }
 
@@ -254,10 +245,8 @@ fn case_block(
     ensures { PartMade join (BlockCases q0 ends poses) store.old store.new
         sums.new }
 {
-    let mut a: usize = 0;
-    while a < poses {
+    for a in 0..poses {
         case_pose(store, sums, commons, join, q0, ends, a);
-        a += 1;
     }
 }
 
@@ -278,10 +267,8 @@ pub fn join_stage(
     let mut commons = [0; COMMON_WORDS];
     fill_commons(&mut commons, store, join);
     let mut sums = [0; SUM_WORDS];
-    let mut q0: usize = 0;
-    while q0 < ends {
+    for q0 in 0..ends {
         case_block(store, &mut sums, &commons, join, q0, ends, poses);
-        q0 += 1;
     }
 }
 
@@ -292,15 +279,13 @@ fn close_state(store: &mut [u32], i: usize, q0: usize, ends: usize, low: usize, 
     requires { Closing i (q0 + 1) ends low high store.old }
     ensures { Closed i low high (StateWith q0 ends) store.old store.new }
 {
-    let mut t: usize = 0;
-    while t < ends {
+    for t in 0..ends {
         search_lanes::fill(
             store,
             search_store::case_at(i, q0, t) + low,
             high - low,
             search_lanes::NONE,
         );
-        t += 1;
     }
 }
 
@@ -309,9 +294,7 @@ pub fn close_lanes(store: &mut [u32], i: usize, ends: usize, low: usize, high: u
     requires { Closing i ends ends low high store.old }
     ensures { Closed i low high (AllStates ends ends) store.old store.new }
 {
-    let mut s: usize = 0;
-    while s < ends {
+    for s in 0..ends {
         close_state(store, i, s, ends, low, high);
-        s += 1;
     }
 }

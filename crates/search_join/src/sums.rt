@@ -31,14 +31,12 @@ fn state_commons(commons: &mut [u32; COMMON_WORDS], store: &[u32], join: Join, s
     requires { CommonsFrom join s store.now commons.old }
     ensures { Commons join store.now commons.new }
 {
-    let mut t: usize = 0;
-    while t < join.starts {
+    for t in 0..join.starts {
         commons[s * 12 + t] = search_lanes::common(
             store,
             search_store::case_at(join.i, s, t),
             join.lanes,
         );
-        t += 1;
     }
 }
 
@@ -47,10 +45,8 @@ pub fn fill_commons(commons: &mut [u32; COMMON_WORDS], store: &[u32], join: Join
     requires { CommonsGiven join store.now commons.old }
     ensures { Commons join store.now commons.new }
 {
-    let mut s: usize = 0;
-    while s < join.starts {
+    for s in 0..join.starts {
         state_commons(commons, store, join, s);
-        s += 1;
     }
 }
 
@@ -68,10 +64,8 @@ fn put_sums(
     requires { RowSums sums.old to store.now at p0 lanes }
     ensures { Written (capped_sum store.now at p0) to lanes sums.old sums.new }
 {
-    let mut l: usize = 0;
-    while l < lanes {
+    for l in 0..lanes {
         sums[to + l] = search_lanes::lesser(store[at + l] + store[p0 + l], search_lanes::NONE);
-        l += 1;
     }
 }
 
@@ -87,10 +81,8 @@ fn lower_sums(
     requires { RowSums sums.old to store.now at p0 lanes }
     ensures { LoweredAt (word_sum store.now at p0) to lanes sums.old sums.new }
 {
-    let mut l: usize = 0;
-    while l < lanes {
+    for l in 0..lanes {
         sums[to + l] = search_lanes::lesser(sums[to + l], store[at + l] + store[p0 + l]);
-        l += 1;
     }
 }
 
@@ -132,13 +124,11 @@ fn sums_from(
         return;
     }
     let p0 = costs + a * search_store::MAX_LANES;
-    let mut t: usize = 0;
-    while t < join.starts {
+    for t in 0..join.starts {
         if commons[s * 12 + t] < search_lanes::NONE {
             let at = search_store::case_at(join.i, s, t);
             add_ways(sums, t, store, at, p0, join.lanes);
         }
-        t += 1;
     }
 }
 
@@ -147,14 +137,9 @@ fn any_sums(sums: &[u32; SUM_WORDS], starts: usize) -> bool
     requires { SumsFlags sums.now starts }
     ensures { result ≡ false → NoFlags starts sums.now }
 {
-    let mut t: usize = 0;
-    while t < starts {
-        if sums[SUM_FLAGS + t] != 0 {
-            return true;
-        }
-        t += 1;
-    }
-    false
+    sums[SUM_FLAGS..SUM_FLAGS + starts]
+        .iter()
+        .any(|flag| *flag != 0)
 }
 
 // The sums over every start state: whether there is any way.
@@ -170,10 +155,8 @@ pub fn fill_sums(
     ensures { AllSummed join store.now q0 a sums.new result }
 {
     search_lanes::fill(sums, SUM_FLAGS, join.starts, 0);
-    let mut s: usize = 0;
-    while s < join.starts {
+    for s in 0..join.starts {
         sums_from(sums, commons, store, join, s, q0, a);
-        s += 1;
     }
     any_sums(sums, join.starts)
 }

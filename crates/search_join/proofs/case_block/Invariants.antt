@@ -1,12 +1,8 @@
 -- Each turn writes the cases of one pose more.
-use Prim.Native.Nat.{◌-◌, ◌≤◌}
 use Rattle.search_join.specs.Tables.{BlockCases}
 use Rattle.search_join.specs.Sums.{Made, SumsRoom}
 use Rattle.search_join.proofs.case_block.Given as goal
 
 abbrev pub invariant-loop-a : goal.invariant-loop-a
 invariant-loop-a l =
-    (l.a ≤ l.poses) × Made l.join (BlockCases l.q0 l.ends l.a) l.initial.store l.store × SumsRoom l.sums
-
-abbrev pub decreases-loop-a : goal.decreases-loop-a
-decreases-loop-a l = l.poses - l.a
+    Made l.join (BlockCases l.q0 l.ends l.a) l.initial.store l.store × SumsRoom l.sums

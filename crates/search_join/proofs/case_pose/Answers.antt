@@ -1,24 +1,12 @@
 use mathlib.Core.Path.{◌≡◌}
 use native.Mathlib.Omega.{arith}
 use Rattle.search_join.specs.Tables.{PoseCases}
-use Rattle.search_join.specs.Parts.{part_none, table-part, summed-part, pose-more}
+use Rattle.search_join.specs.Parts.{table-part, summed-part, pose-more}
 use Rattle.search_join.proofs.case_pose.Goals as goal
-
-pub fill_sums-live-requires : goal.fill_sums-live-requires
-fill_sums-live-requires c =
-    record {
-      given = record { table = c.requires.table; state = c.requires.state; pose = omega (arith, c.requires.offered) };
-      common = c.requires.common;
-      room = c.requires.room;
-    }
-
-pub loop-q1-init : goal.loop-q1-init
-loop-q1-init c =
-    (omega arith, part_none _ _ _ c.requires.table.low (λ q₀ q₁ a h. omega arith))
 
 pub put_case-requires : goal.put_case-requires
 put_case-requires c =
-    let p = c.loop-q1.invariant.1 in
+    let p = c.loop-q1.invariant in
     record {
       joining = record {
         table = table-part c.args.join.starts c.args.join.lanes c.args.join.i c.requires.table p;
@@ -31,17 +19,11 @@ put_case-requires c =
 
 pub loop-q1-preserved : goal.loop-q1-preserved
 loop-q1-preserved c =
-    let l = c.loop-q1 in (
-      omega arith,
-      pose-more c.args.join.starts c.args.join.lanes c.args.join.i c.args.q0 l.q1 c.args.a c.requires.table (omega arith) (omega arith) (omega arith) l.invariant.1
-          c.put_case.ensures,
-    )
-
-pub shape_of-store : goal.shape_of-store
-shape_of-store c =
-    c.loop-q1.invariant.1.long
+    let l = c.loop-q1 in
+    pose-more c.args.join.starts c.args.join.lanes c.args.join.i c.args.q0 l.q1 c.args.a c.requires.table (omega arith) (omega arith) (omega arith) l.invariant
+    c.put_case.ensures
 
 pub returns : goal.returns
 returns c =
     let e : c.loop-q1.q1 ≡ c.args.ends = omega arith in
-    record { part = rw e at c.loop-q1.invariant.1; room = c.fill_sums-live.ensures.all.room }
+    record { part = rw e at c.loop-q1.invariant; room = c.fill_sums-live.ensures.all.room }

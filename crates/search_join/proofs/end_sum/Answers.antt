@@ -1,7 +1,8 @@
 -- A state without sums or without costs has no way; another one says the words of both.
 use mathlib.Core.Path.{◌∙◌}
 use mathlib.Core.Logic.{inl, inr}
-use Rattle.search_join.specs.SumLaws.{cost-none, end_none, end-least}
+use Rattle.search_join.specs.SumLaws.{cost-none}
+use Rattle.search_join.specs.CaseLaws.{end_none, end-least}
 use Rattle.search_join.proofs.end_sum.Goals as goal
 
 pub returns-then-sums-t-eq0 : goal.returns-then-sums-t-eq0

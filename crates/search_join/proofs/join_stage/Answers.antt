@@ -15,7 +15,6 @@ fill_commons-requires c =
 
 pub loop-q0-init : goal.loop-q0-init
 loop-q0-init c = (
-  omega arith,
   part_none _ _ _ c.requires.table.low (λ q₀ q₁ a h. omega arith),
   record { long = length-replicate {A = ℕ} sum_words 0; low = zeros_low sum_words },
 )
@@ -24,11 +23,11 @@ pub case_block-requires : goal.case_block-requires
 case_block-requires c =
     let l = c.loop-q0.invariant in
     record {
-      table = table-part c.args.starts c.args.lanes c.args.i c.requires.table l.1;
-      common = commons_part _ (StageCases c.loop-q0.q0 c.args.ends c.args.poses) c.requires.table (λ q₀ q₁ b r. (omega arith, omega arith, omega arith)) l.1
+      table = table-part c.args.starts c.args.lanes c.args.i c.requires.table l.0;
+      common = commons_part _ (StageCases c.loop-q0.q0 c.args.ends c.args.poses) c.requires.table (λ q₀ q₁ b r. (omega arith, omega arith, omega arith)) l.0
           c.fill_commons.ensures;
-      room = l.2;
-      pages = omega (arith, c.requires.pages, l.1.long);
+      room = l.1;
+      pages = omega (arith, c.requires.pages, l.0.long);
       state = omega arith;
       few = omega arith;
       offered = c.requires.offered;
@@ -38,16 +37,11 @@ pub loop-q0-preserved : goal.loop-q0-preserved
 loop-q0-preserved c =
     let l = c.loop-q0 in
     let w = c.case_block.ensures in (
-      omega arith,
-      stage-more c.args.starts c.args.lanes c.args.i l.q0 c.args.ends c.args.poses c.requires.table (omega arith) (omega arith) (omega arith) l.invariant.1 w.part,
+      stage-more c.args.starts c.args.lanes c.args.i l.q0 c.args.ends c.args.poses c.requires.table (omega arith) (omega arith) (omega arith) l.invariant.0 w.part,
       w.room,
     )
-
-pub shape_of-store : goal.shape_of-store
-shape_of-store c =
-    c.loop-q0.invariant.1.long
 
 pub returns : goal.returns
 returns c =
     let e : c.loop-q0.q0 ≡ c.args.ends = omega arith in
-    part-joined c.args.starts c.args.lanes c.args.i c.requires.table.stage (omega arith) (omega arith) (rw e at c.loop-q0.invariant.1)
+    part-joined c.args.starts c.args.lanes c.args.i c.requires.table.stage (omega arith) (omega arith) (rw e at c.loop-q0.invariant.0)

@@ -1,12 +1,8 @@
 -- Each turn writes the cases of one state of row 0 more.
-use Prim.Native.Nat.{◌-◌, ◌≤◌}
 use Rattle.search_join.specs.Tables.{StageCases}
 use Rattle.search_join.specs.Sums.{Made, SumsRoom}
 use Rattle.search_join.proofs.join_stage.Given as goal
 
 abbrev pub invariant-loop-q0 : goal.invariant-loop-q0
 invariant-loop-q0 l =
-    (l.q0 ≤ l.ends) × Made l.join (StageCases l.q0 l.ends l.poses) l.initial.store l.store × SumsRoom l.sums
-
-abbrev pub decreases-loop-q0 : goal.decreases-loop-q0
-decreases-loop-q0 l = l.ends - l.q0
+    Made l.join (StageCases l.q0 l.ends l.poses) l.initial.store l.store × SumsRoom l.sums

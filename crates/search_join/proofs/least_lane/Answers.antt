@@ -1,5 +1,5 @@
 use Prim.Native.Nat.{◌+◌}
-use mathlib.Core.Path.{◌≡◌, sym}
+use mathlib.Core.Path.{sym}
 use Rattle.lists.specs.Numbers.{from}
 use Rattle.theory_pair.specs.Coded.{lowest-low}
 use Rattle.theory_tables.specs.Steps.{B}
@@ -9,12 +9,7 @@ use native.Mathlib.Omega.{arith}
 use Rattle.search_join.proofs.least_lane.Goals as goal
 
 pub loop-l-init : goal.loop-l-init
-loop-l-init c = (omega arith, sym (lowest-zero _))
-
-pub overflow_add-sums : goal.overflow_add-sums
-overflow_add-sums c =
-    let l = c.loop-l.l in
-    omega (arith, c.requires.room.low.word (c.args.at + l), c.requires.low.word (c.args.p1 + l))
+loop-l-init c = sym (lowest-zero _)
 
 pub lesser-best-requires : goal.lesser-best-requires
 lesser-best-requires c =
@@ -28,9 +23,4 @@ pub loop-l-preserved : goal.loop-l-preserved
 unfolding lane_sum
 loop-l-preserved c =
     let l = c.loop-l.l in
-    (omega arith, omega (arith, c.lesser-best.ensures, lowest-more (lane_sum c.args.sums.now c.args.at c.args.store.now c.args.p1) l))
-
-pub returns : goal.returns
-returns c =
-    let e : c.loop-l.l ≡ c.args.lanes = omega arith in
-    rw e at c.loop-l.invariant.1
+    omega (arith, c.lesser-best.ensures, lowest-more (lane_sum c.args.sums.now c.args.at c.args.store.now c.args.p1) l)

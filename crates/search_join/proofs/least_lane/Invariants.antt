@@ -1,5 +1,4 @@
 -- Each turn takes one lane more.
-use Prim.Native.Nat.{◌-◌, ◌≤◌}
 use mathlib.Core.Path.{◌≡◌}
 use Rattle.lists.specs.Numbers.{from}
 use Rattle.theory_pair.specs.Coded.{lowest}
@@ -9,7 +8,4 @@ use Rattle.search_join.proofs.least_lane.Given as goal
 
 abbrev pub invariant-loop-l : goal.invariant-loop-l
 invariant-loop-l l =
-    (l.l ≤ l.lanes) × (l.best ≡ lowest B (lane_sum l.sums l.at l.store l.p1) (from 0 l.l))
-
-abbrev pub decreases-loop-l : goal.decreases-loop-l
-decreases-loop-l l = l.lanes - l.l
+    l.best ≡ lowest B (lane_sum l.sums l.at l.store l.p1) (from 0 l.l)

@@ -8,10 +8,6 @@ use Rattle.search_lanes.specs.Laws.{said-low}
 use Rattle.search_join.specs.SumLaws.{start-said}
 use Rattle.search_join.proofs.start_of.Goals as goal
 
-pub loop-s-init : goal.loop-s-init
-loop-s-init c =
-    (omega arith, λ k h e. omega arith)
-
 pub overflow_add-store : goal.overflow_add-store
 overflow_add-store c =
     let w = c.requires.given.table.low in
@@ -28,15 +24,11 @@ returns-then-store-case_at c =
     let e =
     start-said c.args.join.i c.args.store.now c.args.q0 c.args.a c.loop-s.s c.args.t c.args.lane _ _ _ c.case_at.ensures c.cost_at.ensures
     c.said.ensures in
-    λ k h g. (omega arith, omega arith)
+    (omega arith, omega arith)
 
 pub loop-s-preserved : goal.loop-s-preserved
 loop-s-preserved c =
     let e =
     start-said c.args.join.i c.args.store.now c.args.q0 c.args.a c.loop-s.s c.args.t c.args.lane _ _ _ c.case_at.ensures c.cost_at.ensures
     c.said.ensures in
-    (omega arith, below_more _ _ c.loop-s.invariant.1 (λ g. c.if-store-case_at.false (e ∙ g)))
-
-pub returns : goal.returns
-returns c =
-    λ k h e. absurd (c.loop-s.invariant.1 k (omega arith) e)
+    below_more _ _ c.loop-s.invariant (λ g. c.if-store-case_at.false (e ∙ g))

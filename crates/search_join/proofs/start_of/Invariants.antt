@@ -1,12 +1,9 @@
 -- The start states passed have other sums.
-use Prim.Native.Nat.{ℕ, ◌-◌, ◌≤◌, ◌<◌}
+use Prim.Native.Nat.{ℕ, ◌<◌}
 use mathlib.Core.Path.{◌≡◌}
 use Rattle.search_join.specs.Sums.{start_sum}
 use Rattle.search_join.proofs.start_of.Given as goal
 
 abbrev pub invariant-loop-s : goal.invariant-loop-s
 invariant-loop-s l =
-    (l.s ≤ l.join.starts) × ((k : ℕ) → k < l.s → start_sum l.join.i l.store l.q0 l.a l.t l.lane k ≡ l.sum → ⊥)
-
-abbrev pub decreases-loop-s : goal.decreases-loop-s
-decreases-loop-s l = l.join.starts - l.s
+    (k : ℕ) → k < l.s → start_sum l.join.i l.store l.q0 l.a l.t l.lane k ≡ l.sum → ⊥

@@ -1,11 +1,7 @@
 -- After s turns the sums are over the start states below s.
-use Prim.Native.Nat.{◌-◌, ◌≤◌}
 use Rattle.search_join.specs.Sums.{Sums}
 use Rattle.search_join.proofs.sums.fill_sums.Given as goal
 
 abbrev pub invariant-loop-s : goal.invariant-loop-s
 invariant-loop-s l =
-    (l.s ≤ l.join.starts) × Sums l.join l.store l.q0 l.a l.s 0 l.sums
-
-abbrev pub decreases-loop-s : goal.decreases-loop-s
-decreases-loop-s l = l.join.starts - l.s
+    Sums l.join l.store l.q0 l.a l.s 0 l.sums
