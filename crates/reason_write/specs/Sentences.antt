@@ -1,12 +1,11 @@
 -- A sentence in the parts that are written, one after another, and the room that its writers ask.
-use Rattle.std.specs.Prelude.{ℕ, zero, suc, ◌+◌, ◌≤◌, ◌<◌, ◌≡◌, refl, Bool, cond, get_or, eqb}
-use Rattle.std.proofs.Math.Path.{ap}
-use Rattle.std.proofs.Common.{sym, ◌∙◌, arith, add-one, take-take, ne_eqb}
+use Rattle.std.specs.Prelude.{ℕ, ◌+◌, ◌≤◌, ◌<◌, ◌≡◌, Bool, cond, get_or, eqb}
+use Rattle.std.proofs.Common.{◌∙◌, arith, add-one, ne_eqb}
 use mathlib.Core.List.{List, [], ◌++◌, map, map-append}
-use Rattle.std.proofs.Math.ListN.{length, take, drop, length-map, take-append-drop, get_or-eq_default}
+use Rattle.std.proofs.Math.ListN.{length, take, drop, length-map, take-append-drop}
 use Rattle.std.proofs.Math.Seq.{take-suc, length-take-le}
 use Rattle.definition.specs.Texts.{Text, bytes}
-use Rattle.definition.specs.Reasons.{phrases, phrase_of, cell_named, cells_named, sentence}
+use Rattle.definition.specs.Reasons.{phrase_of, cell_named, cells_named, sentence}
 use Rattle.text_write.specs.Put.{Room, Wrote}
 use Rattle.text_write.specs.Puts.{wrote_none, then, rest}
 use Rattle.text_laws.specs.Parted.{parted-last, parted-within}
@@ -17,24 +16,10 @@ use Rattle.text_laws.specs.Parted.{parted-last, parted-within}
 abbrev pub next_named : Bool → ℕ → Text
 next_named first n = cond first [] (bytes ", ") ++ cell_named n
 
--- so many cells are lent, and their names fit
-pub record CellsRoom (cells : List ℕ) (count : ℕ) (output : List ℕ) (at : ℕ) : Type 0 where
-  pub lent : count ≤ length cells
-  pub room : Room (cells_named (take count cells)) output at
-
 -- so many cells are lent, and the sentence fits from the output's first byte on
 pub record SentenceRoom (rule : ℕ) (cells : List ℕ) (count : ℕ) (output : List ℕ) : Type 0 where
   pub lent : count ≤ length cells
   pub room : Room (sentence (record { rule = rule; cells = take count cells })) output 0
-
--- ---- the phrases
-
--- rule 0 has none, nor has one past the last
-pub phrase_none : (rule : ℕ) → (1 ≤ rule → length phrases < rule) → phrase_of rule ≡ []
-phrase_none zero past = refl
-phrase_none (suc n) past =
-    let short : length phrases ≤ n = omega (arith, past (omega arith)) in
-    get_or-eq_default phrases [] short
 
 -- ---- the cells, one after another
 
@@ -53,29 +38,26 @@ module _ (cells : List ℕ) (i : ℕ) where
       let last = parted-last (bytes ", ") names (cell_named (get_or cells i 0)) in
       rw (add-one i, take-suc cells i 0, map-append) (rw many at last)
 
-  cells-within : (n : ℕ) → i ≤ n → length (cells_named (take i cells)) ≤ length (cells_named (take n cells))
+  cells-within : length (cells_named (take i cells)) ≤ length (cells_named cells)
   unfolding cells_named
-  cells-within n h =
-      let after = drop i (take n cells) in
-      let all : take i cells ++ after ≡ take n cells =
-      ap (λ (l : List ℕ). l ++ after) (sym (take-take i n cells h)) ∙ take-append-drop i (take n cells) in
-      let within = parted-within (bytes ", ") (map cell_named (take i cells)) (map cell_named after) in
-      rw (← map-append, all) at within
+  cells-within =
+      let within = parted-within (bytes ", ") (map cell_named (take i cells)) (map cell_named (drop i cells)) in
+      rw (← map-append, take-append-drop i cells) at within
 
 -- ---- one cell more, in the output
 
-module _ {cells l m : List ℕ} {count at p : ℕ} (room : CellsRoom cells count l at) (i : ℕ) (few : i < count)
+module _ (cells : List ℕ) {l m : List ℕ} {at p : ℕ} (room : Room (cells_named cells) l at) (i : ℕ) (few : i < length cells)
     (done : Wrote (cells_named (take i cells)) l at m p) where
   pub next-room : Room (next_named (eqb i 0) (get_or cells i 0)) m p
   next-room =
       let fits : Room (cells_named (take (i + 1) cells)) l at = record {
-        fits = omega (arith, room.room.fits, cells-within cells (i + 1) count (omega arith));
+        fits = omega (arith, room.fits, cells-within cells (i + 1));
       } in
-      rest (rw (cells-more cells i (omega (arith, room.lent))) at fits) done
+      rest (rw (cells-more cells i few) at fits) done
 
   pub next_wrote : {n : List ℕ} {r : ℕ} → Wrote (next_named (eqb i 0) (get_or cells i 0)) m p n r
       → Wrote (cells_named (take (i + 1) cells)) l at n r
-  next_wrote w = rw (cells-more cells i (omega (arith, room.lent))) (then done w)
+  next_wrote w = rw (cells-more cells i few) (then done w)
 
 -- ---- the sentence
 
@@ -84,10 +66,6 @@ abbrev pub broken : ℕ → List ℕ → Text
 broken rule cells = phrase_of rule ++ (bytes ": " ++ (cells_named cells ++ bytes "."))
 
 module _ (rule : ℕ) (cells : List ℕ) where
-  pub sentence-legal : rule ≡ 0 → sentence (record { rule = rule; cells = cells }) ≡ bytes "legal."
-  unfolding sentence
-  sentence-legal e = rw e
-
   pub sentence-broken : (rule ≡ 0 → ⊥) → sentence (record { rule = rule; cells = cells }) ≡ broken rule cells
   unfolding sentence
   sentence-broken ne = rw (ne_eqb rule 0 ne)
