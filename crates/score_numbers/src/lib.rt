@@ -158,7 +158,7 @@ fn steps_row(job: Job, placement: Placement, words: &[u32], row: u32) -> Steps
 {
     let mut order = [0u32; Job::MAX_CELLS];
     let at = order_row(words, job.count, row, &mut order);
-    steps_in(job, placement, words, &order, at, row)
+    steps_in(job, placement, words, &order[at..], row)
 }
 
 // The steps of both rows.

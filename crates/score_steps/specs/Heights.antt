@@ -7,6 +7,8 @@ use Rattle.definition.specs.Job as paper
 use Rattle.definition.specs.Placement as text
 use Rattle.job.specs.Value.{height_count}
 use Rattle.job.specs.Parts.{height_in, first_of}
+use Rattle.score_steps.specs.declared.Side.{Side}
+use Rattle.score_steps.specs.declared.Side.TheVariants.{Left, Right}
 
 -- where the left and the right two of a row's heights begin, of a cell of row number `of` with a mark
 abbrev pub left_of : ℕ → ℕ → ℕ → ℕ
@@ -14,6 +16,10 @@ left_of of mark row = first_of of row + cond (eqb mark 1) 2 0
 
 abbrev pub right_of : ℕ → ℕ → ℕ → ℕ
 right_of of mark row = first_of of row + cond (eqb mark 1) 0 2
+
+abbrev pub edge_of : Side → ℕ → ℕ → ℕ → ℕ
+edge_of Left = left_of
+edge_of Right = right_of
 
 -- 1 if two heights differ
 abbrev pub unlike : ℕ → ℕ → ℕ
