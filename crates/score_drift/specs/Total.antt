@@ -1,11 +1,11 @@
 -- The signed sum of displacements, from the words of a placed job, and drift from that sum.
-use Rattle.std.specs.Prelude.{ℕ, zero, suc, ◌*◌, ◌/◌, ◌%◌, ◌≤◌, ◌<◌, ◌^◌, ◌≡◌, refl, Bool, true, false, cond, List, ltb, eqb, ℤ, pos, nat_abs, ◌+ℤ◌, ◌-ℤ◌}
-use Rattle.std.proofs.Common.{sym, ap, ap₂, ◌∙◌, arith, div-le_self}
+use Rattle.std.specs.Prelude.{ℕ, zero, suc, ◌≤◌, ◌<◌, ◌≡◌, refl, cond, List, eqb, ℤ, pos, nat_abs, ◌+ℤ◌, ◌-ℤ◌}
+use Rattle.std.proofs.Common.{sym, ap, ap₂, ◌∙◌}
 use Rattle.definition.specs.Job.{max_cells, max_given}
 use Rattle.definition.specs.Lists.{from}
 use Rattle.definition.specs.Job as paper
 use Rattle.definition.specs.Placement as text
-use Rattle.definition.specs.Cost.{nearest, hundredths, total_shift, drift}
+use Rattle.definition.specs.Cost.{hundredths, total_shift, drift}
 use Rattle.score_order.specs.Words.{site_in, given_in, Words}
 use Rattle.score_words.specs.Flat.{Flat}
 
@@ -44,19 +44,6 @@ drift_of s n = cond (eqb n 0) (pos 0) (hundredths s n)
 pub record Displaced (words : List ℕ) (n : ℕ) (r : ℤ) : Type 0 where
   pub total : r ≡ total_in words 0 n
   pub small : nat_abs r ≤ 1000000
-
--- a size in hundredths is not large: what is added to the whole part is at most 1
-either-small : (t : Bool) (x y : ℕ) → x ≤ 1 → y ≤ 1 → cond t x y ≤ 1
-either-small true x y p q = p
-either-small false x y p q = q
-
-pub hundredths-small : {d n : ℕ} → Average d n → nearest (100 * d) n < 2 ^ 31
-hundredths-small {d} {n} a =
-    let r : ℕ = 2 * (100 * d % n) in
-    let odd : ℕ = 100 * d / n % 2 in
-    let inner = either-small (eqb r n) odd 1 (omega arith) (omega arith) in
-    let added = either-small (ltb r n) 0 (cond (eqb r n) odd 1) (omega arith) inner in
-    omega (arith, a.small, div-le_self (100 * d) n, added)
 
 -- one more cell, and none
 pub total-more : (words : List ℕ) (i k n m : ℕ) → k ≡ suc i → n ≡ suc m

@@ -3,58 +3,18 @@
 
 #![tactic(auto)]
 
-ghost use Rattle.std.specs.Prelude.{◌≡◌, ◌+◌, ◌*◌, ◌<◌, ◌^◌, ℤ, pos, neg_ℤ, nat_abs, ◌+ℤ◌, ◌-ℤ◌};
-ghost use Rattle.std.specs.Int.Signed.{lt_z};
+ghost use Rattle.std.specs.Prelude.{◌≡◌, ◌*◌, pos, ◌-ℤ◌};
 ghost use Rattle.definition.specs.Cost.{nearest};
 ghost use Rattle.score_drift.specs.Total.{Digits, InRange, SumOver, Average, Displaced, drift_of};
 
-// d as a signed number.
-fn positive(d: u32) -> i32
-    requires { d < 2 ^ 31 }
-    ensures { result ≡ pos d }
-{
-    d as i32
-}
-
-// -d.
-fn negative(d: u32) -> i32
-    requires { d < 2 ^ 31 }
-    ensures { result ≡ neg_ℤ (pos d) }
-{
-    0 - positive(d)
-}
-
-fn is_negative(s: i32) -> bool
-    ensures { result ≡ lt_z s (pos 0) }
-{
-    s < 0
-}
-
-// The size of a signed number that is not the least.
-fn size(s: i32) -> u32
-    requires { nat_abs s < 2 ^ 31 }
-    ensures { result ≡ nat_abs s }
-{
-    if s < 0 {
-        return (0 - s) as u32;
-    }
-    s as u32
-}
-
-// The sum of two signed numbers that are not large.
-fn plus(a: i32, b: i32) -> i32
-    requires { nat_abs a + nat_abs b < 2 ^ 31 }
-    ensures { result ≡ a +ℤ b }
-{
-    a + b
-}
+use std::cmp::Ordering;
 
 // How far a cell was moved to the right; negative if to the left.
 fn displacement(site: u32, given: u32) -> i32
     requires { InRange site given }
     ensures { result ≡ pos site -ℤ pos given }
 {
-    plus(positive(site), negative(given))
+    site as i32 - given as i32
 }
 
 // The signed sum of the displacements of all cells.
@@ -62,11 +22,9 @@ pub fn total_shift(words: &[u32], count: usize) -> i32
     requires { Digits words.now count }
     ensures { Displaced words.now count result }
 {
-    let mut total: i32 = 0;
-    let mut k: usize = count;
-    while 0 < k {
-        k -= 1;
-        total = plus(displacement(words[4 * k], words[4 * k + 3]), total);
+    let mut total = 0;
+    for k in 0..count {
+        total += displacement(words[4 * k], words[4 * k + 3]);
     }
     total
 }
@@ -78,13 +36,11 @@ fn hundredths_of(d: u32, n: u32) -> u32
 {
     let whole = 100 * d / n;
     let rest = 2 * (100 * d % n);
-    if rest < n {
-        return whole;
+    match rest.cmp(&n) {
+        Ordering::Less => whole,
+        Ordering::Equal => whole + whole % 2,
+        Ordering::Greater => whole + 1,
     }
-    if rest == n {
-        return whole + whole % 2;
-    }
-    whole + 1
 }
 
 // A signed sum over n cells, in hundredths of a site: rounded by its size, so that both sides of zero are alike.
@@ -95,9 +51,6 @@ pub fn drift_from(s: i32, n: u32) -> i32
     if n == 0 {
         return 0;
     }
-    let h = hundredths_of(size(s), n);
-    if is_negative(s) {
-        return negative(h);
-    }
-    positive(h)
+    let h = hundredths_of(s.unsigned_abs(), n) as i32;
+    if s < 0 { -h } else { h }
 }
