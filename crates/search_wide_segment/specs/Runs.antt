@@ -59,6 +59,13 @@ pub record ToLast (table row st : List ℕ) (z : Sizes) (layer : Block) (tall co
   pub stepping : Stepping table row st z layer costs
   pub inside : tall < max_cells
 
+-- state q, which may come to a tall cell with so many cells
+pub record StateComing (row : List ℕ) (R cells tall q : ℕ) : Type 0 where
+  pub coded : StateWords R row
+  pub state : q < state_count R
+  pub early : cells ≤ 101
+  pub inside : tall < max_cells
+
 -- each of the three for state q alone
 pub record StateToTall (row st : List ℕ) (z : Sizes) (layer : Block) (tall costs q : ℕ) : Type 0 where
   pub to_tall : ToTall row st z layer tall costs

@@ -4,16 +4,25 @@
 
 #![tactic(auto)]
 
-ghost use Rattle.std.specs.Prelude.{◌+◌, ◌-◌};
+ghost use Rattle.std.specs.Prelude.{◌≡◌, suc, ◌+◌, ◌-◌, eqb};
+ghost use Rattle.theory_tables.specs.Steps.{offset};
 ghost use Rattle.search_lanes.specs.Store.{FilledState, Filled};
 ghost use Rattle.search_row.specs.Words.{deck_in};
 ghost use Rattle.search_wide_layer.specs.Loops.{StateMade, LayerMade};
 ghost use Rattle.search_wide_segment.specs.Runs.{SegmentToTall, ToTall, Delivering, ToLast};
-ghost use Rattle.search_wide_segment.specs.Runs.{StateToTall, StateDelivering, StateToLast};
+ghost use Rattle.search_wide_segment.specs.Runs.{StateComing, StateToTall, StateDelivering, StateToLast};
 ghost use Rattle.search_wide_segment.specs.Runs.{late_in, delivered, last_in, CostedRun, SegmentCosted};
 
 use search_row::Sizes;
 use search_wide_layer::Block;
+
+// Whether state q comes to the tall cell with the layer of so many cells.
+fn comes(row: &[u32], sizes: Sizes, cells: usize, tall: usize, q: usize) -> bool
+    requires { StateComing row.now sizes.reordering cells tall q }
+    ensures { result ≡ eqb (cells + offset sizes.reordering q) (tall + suc sizes.reordering) }
+{
+    cells + search_row::word(row, search_row::STATES + q * 4) == tall + sizes.reordering + 1
+}
 
 // NONE for state q, if it comes to the tall cell with no layer from this one on.
 fn late_state(
@@ -29,8 +38,9 @@ fn late_state(
     ensures { FilledState (late_in sizes.reordering layer.cells tall store.old costs)
         layer.lanes costs q sizes.poses store.old store.new }
 {
-    let i = layer.cells;
-    if i + search_row::word(row, search_row::STATES + q * 4) <= tall + sizes.reordering + 1 {
+    if layer.cells + search_row::word(row, search_row::STATES + q * 4)
+        <= tall + sizes.reordering + 1
+    {
         return;
     }
     search_lanes::fill(
@@ -47,10 +57,8 @@ fn fill_late(store: &mut [u32], row: &[u32], sizes: Sizes, layer: Block, tall: u
     ensures { Filled (late_in sizes.reordering layer.cells tall store.old costs)
         layer.lanes sizes.poses costs sizes.states store.old store.new }
 {
-    let mut q: usize = 0;
-    while q < sizes.states {
+    for q in 0..sizes.states {
         late_state(store, row, sizes, layer, tall, costs, q);
-        q += 1;
     }
 }
 
@@ -68,8 +76,7 @@ fn deliver_state(
     ensures { FilledState (delivered sizes.reordering layer.cells tall store.old layer.at
         costs) layer.lanes costs q sizes.poses store.old store.new }
 {
-    let i = layer.cells;
-    if i + search_row::word(row, search_row::STATES + q * 4) != tall + sizes.reordering + 1 {
+    if !comes(row, sizes, layer.cells, tall, q) {
         return;
     }
     search_lanes::copy_rows(
@@ -87,10 +94,8 @@ fn deliver(store: &mut [u32], row: &[u32], sizes: Sizes, layer: Block, tall: usi
     ensures { Filled (delivered sizes.reordering layer.cells tall store.old layer.at costs)
         layer.lanes sizes.poses costs sizes.states store.old store.new }
 {
-    let mut q: usize = 0;
-    while q < sizes.states {
+    for q in 0..sizes.states {
         deliver_state(store, row, sizes, layer, tall, costs, q);
-        q += 1;
     }
 }
 
@@ -111,30 +116,23 @@ fn run_to(
 {
     fill_late(store, row, sizes, first, tall, costs);
     deliver(store, row, sizes, first, tall, costs);
-    let lanes = first.lanes;
-    let i = first.cells;
-    let r = sizes.reordering;
-    let mut from: usize = 0;
-    let mut d: usize = 0;
-    while i + d < tall + r {
-        let cells = i + d;
+    let mut at: usize = 0;
+    for cells in first.cells..tall + sizes.reordering {
         let layer = Block {
-            lanes,
+            lanes: first.lanes,
             cells,
-            at: from,
+            at,
         };
-        search_wide_layer::step_layer(table, store, row, sizes, layer, search_store::LAYER - from);
-        from = search_store::LAYER - from;
-        d += 1;
-        let cells = i + d;
+        at = search_store::LAYER - at;
+        search_wide_layer::step_layer(table, store, row, sizes, layer, at);
         let next = Block {
-            lanes,
-            cells,
-            at: from,
+            lanes: first.lanes,
+            cells: cells + 1,
+            at,
         };
         deliver(store, row, sizes, next, tall, costs);
     }
-    from
+    at
 }
 
 // The costs of state q straight from the layer before, if it comes to the tall cell with the next.
@@ -153,9 +151,7 @@ fn last_state(
         store.old layer.at costs) layer.lanes costs q sizes.poses store.old
         store.new table.new }
 {
-    if layer.cells + 1 + search_row::word(row, search_row::STATES + q * 4)
-        != tall + sizes.reordering + 1
-    {
+    if !comes(row, sizes, layer.cells + 1, tall, q) {
         return;
     }
     search_wide_layer::target_block(table, store, row, sizes, layer, costs, q);
@@ -176,10 +172,8 @@ fn last_layer(
         store.old layer.at costs) layer.lanes sizes.poses costs sizes.states
         store.old store.new table.new }
 {
-    let mut q: usize = 0;
-    while q < sizes.states {
+    for q in 0..sizes.states {
         last_state(table, store, row, sizes, layer, tall, costs, q);
-        q += 1;
     }
 }
 
@@ -197,16 +191,14 @@ pub fn segment_to(
     ensures { SegmentCosted (deck_in row.now sizes) sizes.reordering first.lanes first.cells
         tall costs store.old store.new table.new }
 {
-    let from = run_to(table, store, row, sizes, first, tall, costs);
+    let at = run_to(table, store, row, sizes, first, tall, costs);
     if first.cells > tall + sizes.reordering {
         return;
     }
-    let cells = tall + sizes.reordering;
-    let lanes = first.lanes;
     let layer = Block {
-        lanes,
-        cells,
-        at: from,
+        lanes: first.lanes,
+        cells: tall + sizes.reordering,
+        at,
     };
     last_layer(table, store, row, sizes, layer, tall, costs);
 }

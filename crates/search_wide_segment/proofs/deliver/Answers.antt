@@ -1,46 +1,20 @@
 use Prim.Native.Nat.{suc, ◌+◌, ◌*◌}
-use mathlib.Core.Path.{◌≡◌, sym, ap₂}
+use mathlib.Core.Path.{sym, ap₂}
 use lib.Dec.{eqb}
 use mathlib.Core.Bool.{cond}
 use native.Mathlib.Omega.{arith}
 use Rattle.search_store.specs.Map.{state_block}
 use Rattle.theory_tables.specs.Steps.{offset}
-use Rattle.search_lanes.specs.Laws.{frame-refl, frame-join, said-below, said-above, filled_none, filled_more}
+use Rattle.search_lanes.specs.Laws.{frame-join, said-below, said-above, filled_more}
 use Rattle.search_wide_segment.proofs.deliver.Goals as goal
-
-pub loop-q-init : goal.loop-q-init
-loop-q-init c =
-    (omega arith, filled_none _ _ _ _ c.requires.to_tall.low, frame-refl _ _ _)
-
-pub deliver_state-requires : goal.deliver_state-requires
-deliver_state-requires c =
-    let l = c.loop-q in
-    let g = c.requires.to_tall in
-    record {
-      delivering = record {
-        to_tall = record {
-          coded = g.coded;
-          low = l.invariant.1.low;
-          room = record { over = g.room.over; room = omega (arith, g.room.room, l.invariant.2.long) };
-          all = g.all;
-          few = g.few;
-          narrow = g.narrow;
-          early = g.early;
-          inside = g.inside;
-        };
-        below = c.requires.below;
-      };
-      state = omega (arith, g.all);
-    }
 
 pub loop-q-preserved : goal.loop-q-preserved
 loop-q-preserved c =
     let g = c.requires.to_tall in
     let l = c.loop-q in
     let w = c.deliver_state.ensures in
-    let f = l.invariant.2 in (
-      omega arith,
-      filled_more l.q g.narrow (omega arith) (omega (arith, g.all, g.coded.few)) l.invariant.1 w
+    let f = l.invariant.1 in (
+      filled_more l.q g.narrow (omega arith) (omega (arith, g.all, g.coded.few)) l.invariant.0 w
           (λ b j x y.
           ap₂ (cond (eqb (c.args.layer.cells + offset c.args.sizes.reordering l.q) (c.args.tall + suc c.args.sizes.reordering)))
           (sym (said-below f (c.args.layer.at + l.q * state_block) b j (omega (arith, g.room.over, g.all, g.coded.few, c.requires.below)) (omega (arith, g.few))
@@ -48,12 +22,3 @@ loop-q-preserved c =
           (sym (said-above f (c.args.costs + l.q * state_block) b j (omega arith)))),
       frame-join c.args.costs (c.args.costs + (l.q + 1) * state_block) f w.frame (omega arith) (omega arith) (omega arith) (omega arith),
     )
-
-pub shape_of-store : goal.shape_of-store
-shape_of-store c =
-    c.loop-q.invariant.2.long
-
-pub returns : goal.returns
-returns c =
-    let e : c.loop-q.q ≡ c.args.sizes.states = omega arith in
-    rw e at c.loop-q.invariant.1

@@ -1,5 +1,5 @@
 -- Each turn delivers one state more; the layer and the costs of the states to come are kept.
-use Prim.Native.Nat.{◌+◌, ◌*◌, ◌-◌, ◌≤◌}
+use Prim.Native.Nat.{◌+◌, ◌*◌}
 use Rattle.search_store.specs.Map.{state_block}
 use Rattle.search_lanes.specs.Store.{Frame, Filled}
 use Rattle.search_wide_segment.specs.Runs.{delivered}
@@ -7,10 +7,5 @@ use Rattle.search_wide_segment.proofs.deliver.Given as goal
 
 abbrev pub invariant-loop-q : goal.invariant-loop-q
 invariant-loop-q l =
-    (l.q ≤ l.sizes.states)
-    × Filled (delivered l.sizes.reordering l.layer.cells l.tall l.initial.store l.layer.at l.costs) l.layer.lanes l.sizes.poses l.costs l.q l.initial.store l.store
+    Filled (delivered l.sizes.reordering l.layer.cells l.tall l.initial.store l.layer.at l.costs) l.layer.lanes l.sizes.poses l.costs l.q l.initial.store l.store
     × Frame l.costs (l.costs + l.q * state_block) l.initial.store l.store
-
-abbrev pub decreases-loop-q : goal.decreases-loop-q
-decreases-loop-q l =
-    l.sizes.states - l.q

@@ -1,41 +1,23 @@
 use Prim.Native.Nat.{suc, ◌+◌, ◌*◌}
-use mathlib.Core.Path.{◌≡◌, sym, ap₂}
+use mathlib.Core.Path.{sym, ap₂}
 use lib.Dec.{eqb}
 use mathlib.Core.Bool.{cond}
 use native.Mathlib.Omega.{arith}
 use Rattle.search_store.specs.Map.{state_block}
 use Rattle.theory_tables.specs.Steps.{offset}
-use Rattle.search_lanes.specs.Laws.{frame-refl, frame-join, said-above, filled_none, filled_more}
+use Rattle.search_lanes.specs.Laws.{frame-join, said-above, filled_more}
 use Rattle.search_row.specs.Words.{deck_in}
-use Rattle.search_wide_layer.specs.Laws.{given-on, beside-on, beside-kept, next-kept}
+use Rattle.search_wide_layer.specs.Laws.{beside-kept, next-kept}
 use Rattle.search_wide_segment.proofs.last_layer.Goals as goal
-
-pub loop-q-init : goal.loop-q-init
-loop-q-init c =
-    (omega arith, filled_none _ _ _ _ c.requires.stepping.given.low, frame-refl _ _ _, c.requires.stepping.lent)
-
-pub last_state-requires : goal.last_state-requires
-last_state-requires c =
-    let l = c.loop-q in
-    let s = l.invariant.1 in
-    let g = c.requires.stepping in
-    record {
-      to_last = record {
-        stepping = record { lent = l.invariant.3; given = given-on g.given s.frame s.low; beside = beside-on g.beside s.frame };
-        inside = c.requires.inside;
-      };
-      state = omega arith;
-    }
 
 pub loop-q-preserved : goal.loop-q-preserved
 loop-q-preserved c =
     let g = c.requires.stepping.given in
     let l = c.loop-q in
     let w = c.last_state.ensures in
-    let s = l.invariant.1 in
-    let f = l.invariant.2 in
+    let s = l.invariant.0 in
+    let f = l.invariant.1 in
     let kept = beside-kept c.requires.stepping.beside s.frame (omega arith) (omega arith) in (
-      omega arith,
       filled_more l.q g.narrow (omega (arith, g.grounded.few)) (omega (arith, g.grounded.all, g.grounded.coded.few)) s w.filled
           (λ b j x y.
           ap₂ (cond (eqb (suc c.args.layer.cells + offset c.args.sizes.reordering l.q) (c.args.tall + suc c.args.sizes.reordering)))
@@ -45,12 +27,3 @@ loop-q-preserved c =
       frame-join c.args.costs (c.args.costs + (l.q + 1) * state_block) f w.filled.frame (omega arith) (omega arith) (omega arith) (omega arith),
       w.lent,
     )
-
-pub shape_of-store : goal.shape_of-store
-shape_of-store c =
-    c.loop-q.invariant.2.long
-
-pub returns : goal.returns
-returns c =
-    let e : c.loop-q.q ≡ c.args.sizes.states = omega arith in
-    record { filled = rw e at c.loop-q.invariant.1; lent = c.loop-q.invariant.3 }
