@@ -35,11 +35,6 @@ pub record TallPose (p l : ℕ) : Type 0 where
   pub cell : p < max_cells
   pub pose : l < max_poses
 
--- the poses of a cell that comes next after it
-pub record PosesAfterTall (row st : List ℕ) (p l at k poses : ℕ) : Type 0 where
-  pub next : PosesGiven row st at k poses
-  pub tall : TallPose p l
-
 -- a row, a dense block for the first layer after that cell, i cells placed with it, and a state: the tall cell's or one
 -- of that layer
 pub record AfterTall (row st : List ℕ) (z : Sizes) (i p l to q : ℕ) : Type 0 where
@@ -81,3 +76,8 @@ begun_more {f} {poses} {to} {new = new} q k h s w =
           (λ a y. w.words a y)
           p x a y;
     }
+
+-- the same of an equal layer
+pub begun_ext : {f g : Layer} {poses count to : ℕ} {old new : List ℕ} → Begun f poses count to old new
+    → ((q a : ℕ) → f q a ≡ g q a) → Begun g poses count to old new
+begun_ext w same = record { frame = w.frame; low = w.low; right = λ q a h k. w.right q a h k ∙ same q a }

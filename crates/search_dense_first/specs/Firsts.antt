@@ -2,8 +2,7 @@
 use Rattle.std.specs.Prelude.{ℕ, suc, ◌+◌, ◌<◌, min, ◌≡◌, refl, Bool, true, false, ◌&&◌, eqb}
 use Rattle.std.proofs.Math.Path.{ap}
 use Rattle.std.proofs.Math.Bool.{cond}
-use Rattle.theory_row.specs.Window.{start}
-use Rattle.theory_tables.specs.Steps.{B, Deck, before, last_at, is_there, first_after, first_open}
+use Rattle.theory_tables.specs.Steps.{B, Deck, before, last_at, is_there, first_after}
 use Rattle.search_row.specs.Words.{there_in}
 use Rattle.search_row.specs.Laws.{there-size}
 
@@ -20,16 +19,6 @@ module _ (D : Deck) (R i m p l q a : ℕ) where
   pub after-away : (is_there D R (suc i) q && eqb m (before R q)) ≡ false → first_after D R i m p l q a ≡ B
   unfolding first_after
   after-away e = ap (λ t. cond t (min (D.own (last_at R (suc i) q) a + D.toll p l (last_at R (suc i) q) a) B) B) e
-
-module _ (D : Deck) (R q a : ℕ) where
-  pub open_there : (is_there D R 1 q && eqb (start R) (before R q)) ≡ true
-      → first_open D R q a ≡ min (D.own (last_at R 1 q) a + D.front (last_at R 1 q) a) B
-  unfolding first_open
-  open_there e = ap (λ t. cond t (min (D.own (last_at R 1 q) a + D.front (last_at R 1 q) a) B) B) e
-
-  pub open_away : (is_there D R 1 q && eqb (start R) (before R q)) ≡ false → first_open D R q a ≡ B
-  unfolding first_open
-  open_away e = ap (λ t. cond t (min (D.own (last_at R 1 q) a + D.front (last_at R 1 q) a) B) B) e
 
 -- a state that can come first stands in the row
 pub starts_size : (n R i m q : ℕ) → starts_at n R i m q ≡ true → last_at R i q < n

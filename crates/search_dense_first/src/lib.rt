@@ -8,16 +8,26 @@ ghost use Rattle.theory_tables.specs.Steps.{marks, first_after, first_open, pose
 ghost use Rattle.search_lanes.specs.Store.{Written};
 ghost use Rattle.search_row.specs.Words.{deck_in, StateKnown};
 ghost use Rattle.search_dense_first.specs.Firsts.{starts_at};
-ghost use Rattle.search_dense_first.specs.Begun.{open_pose, after_pose, Begun};
-ghost use Rattle.search_dense_first.specs.Begun.{PosesGiven, LayerGiven, DenseState, PosesAfterTall, AfterTall};
+ghost use Rattle.search_dense_first.specs.Begun.{LayerGiven, AfterTall, Begun};
+ghost use Rattle.search_dense_first.specs.Starts.{paid_after, first_pose, first_layer};
+ghost use Rattle.search_dense_first.specs.Starts.{PaidGiven, FirstPoses, FirstState, FirstLayer};
 
 use search_row::Sizes;
 
-// A layer in its block: how many cells are placed before it, and where the block begins.
+// A tall cell at a position, in a pose.
 #[derive(Clone, Copy)]
-struct Block {
+struct Tall {
+    cell: usize,
+    pose: usize,
+}
+
+// What a segment goes on from: how many cells are placed, their marks, and the tall cell that is the last of them, if
+// it does not start the row.
+#[derive(Clone, Copy)]
+struct Start {
     cells: usize,
-    at: usize,
+    marks: u32,
+    tall: Option<Tall>,
 }
 
 // Whether state q, the last of i cells, can come first after marks m.
@@ -31,50 +41,65 @@ pub fn starts(row: &[u32], sizes: Sizes, i: usize, m: u32, q: usize) -> bool
     m == row[search_row::STATES + q * 4 + 2]
 }
 
-// ---- at the row's start
-
 // The marks before anything is placed.
 pub fn start_marks(r: usize) -> u32
     requires { r ≤ 2 }
     ensures { result ≡ start r }
 {
-    if r == 0 {
-        return 1;
+    match r {
+        0 => 1,
+        1 => 3,
+        _ => 7,
     }
-    if r == 1 {
-        return 3;
-    }
-    7
 }
 
-// The words of a state that can come first: the cell at position k, each pose with what it pays as the row's first.
-fn open_poses(store: &mut [u32], row: &[u32], at: usize, k: usize, poses: usize)
-    requires { PosesGiven row.now store.old at k poses }
-    ensures { Written (open_pose row.now k) at poses store.old store.new }
+// What the cell at position k pays in pose a: as its row's first, or after the tall cell.
+fn paid(row: &[u32], tall: Option<Tall>, k: usize, a: usize) -> u32
+    requires { PaidGiven row.now tall k a }
+    ensures { result ≡ paid_after row.now tall k a }
 {
-    let mut a: usize = 0;
-    while a < poses {
-        store[at + a] = search_lanes::least(
-            row[k * search_row::CELL + a] + search_row::front(row, k, a),
-            search_lanes::NONE,
-        );
-        a += 1;
+    match tall {
+        Some(Tall { cell: p, pose: l }) => search_row::toll(row, p, l, k, a),
+        None => search_row::front(row, k, a),
+    }
+}
+
+// The words of a state that can come first: each pose of the cell at position k with what it pays.
+fn put_poses(store: &mut [u32], row: &[u32], tall: Option<Tall>, at: usize, k: usize, poses: usize)
+    requires { FirstPoses row.now store.old tall at k poses }
+    ensures { Written (first_pose row.now tall k) at poses store.old store.new }
+{
+    for a in 0..poses {
+        let cost = row[k * search_row::CELL + a] + paid(row, tall, k, a);
+        store[at + a] = cost.min(search_lanes::NONE);
     }
 }
 
 // The words of state q of the layer at `to`.
-fn open_state(store: &mut [u32], row: &[u32], sizes: Sizes, to: usize, q: usize)
-    requires { DenseState row.now store.old sizes to q }
-    ensures { Written (first_open (deck_in row.now sizes) sizes.reordering q) (to + q * pose_slots)
-        sizes.poses store.old store.new }
+fn put_state(store: &mut [u32], row: &[u32], sizes: Sizes, start: Start, to: usize, q: usize)
+    requires { FirstState row.now store.old sizes start to q }
+    ensures { Written (first_layer row.now sizes start q) (to + q * pose_slots) sizes.poses
+        store.old store.new }
 {
     let at = to + q * search_store::POSE_SLOTS;
-    if !starts(row, sizes, 1, start_marks(sizes.reordering), q) {
+    let i = start.cells + 1;
+    if !starts(row, sizes, i, start.marks, q) {
         search_lanes::fill(store, at, sizes.poses, search_lanes::NONE);
         return;
     }
-    let k = search_row::last_at(row, sizes, 1, q);
-    open_poses(store, row, at, k, sizes.poses);
+    let k = search_row::last_at(row, sizes, i, q);
+    put_poses(store, row, start.tall, at, k, sizes.poses);
+}
+
+// The layer with one cell more than the start has.
+fn put_layer(store: &mut [u32], row: &[u32], sizes: Sizes, start: Start, to: usize)
+    requires { FirstLayer row.now store.old sizes start to }
+    ensures { Begun (first_layer row.now sizes start) sizes.poses sizes.states to
+        store.old store.new }
+{
+    for q in 0..sizes.states {
+        put_state(store, row, sizes, start, to, q);
+    }
 }
 
 // The layer with one cell.
@@ -83,60 +108,12 @@ pub fn open(store: &mut [u32], row: &[u32], sizes: Sizes, to: usize)
     ensures { Begun (first_open (deck_in row.now sizes) sizes.reordering) sizes.poses
         sizes.states to store.old store.new }
 {
-    let mut q: usize = 0;
-    while q < sizes.states {
-        open_state(store, row, sizes, to, q);
-        q += 1;
-    }
-}
-
-// ---- after a tall cell
-
-// The words of a state that can come first: the cell at position k, after pose l of the cell at position p.
-fn after_poses(
-    store: &mut [u32],
-    row: &[u32],
-    p: usize,
-    l: usize,
-    at: usize,
-    k: usize,
-    poses: usize,
-)
-    requires { PosesAfterTall row.now store.old p l at k poses }
-    ensures { Written (after_pose row.now p l k) at poses store.old store.new }
-{
-    let mut a: usize = 0;
-    while a < poses {
-        store[at + a] = search_lanes::least(
-            row[k * search_row::CELL + a] + search_row::toll(row, p, l, k, a),
-            search_lanes::NONE,
-        );
-        a += 1;
-    }
-}
-
-// The words of state q, after cells with marks m; `to` has how many cells, and where the layer begins.
-fn after_state(
-    store: &mut [u32],
-    row: &[u32],
-    sizes: Sizes,
-    to: Block,
-    m: u32,
-    p: usize,
-    l: usize,
-    q: usize,
-)
-    requires { AfterTall row.now store.old sizes to.cells p l to.at q }
-    ensures { Written (first_after (deck_in row.now sizes) sizes.reordering to.cells m p l q)
-        (to.at + q * pose_slots) sizes.poses store.old store.new }
-{
-    let at = to.at + q * search_store::POSE_SLOTS;
-    if !starts(row, sizes, to.cells + 1, m, q) {
-        search_lanes::fill(store, at, sizes.poses, search_lanes::NONE);
-        return;
-    }
-    let k = search_row::last_at(row, sizes, to.cells + 1, q);
-    after_poses(store, row, p, l, at, k, sizes.poses);
+    let start = Start {
+        cells: 0,
+        marks: start_marks(sizes.reordering),
+        tall: None,
+    };
+    put_layer(store, row, sizes, start, to);
 }
 
 // The layer after the cell at position p in pose l, as state s, the last of i placed.
@@ -156,10 +133,10 @@ pub fn after(
         sizes.poses sizes.states to store.old store.new }
 {
     let m = row[search_row::STATES + s * 4 + 1];
-    let layer = Block { cells: i, at: to };
-    let mut q: usize = 0;
-    while q < sizes.states {
-        after_state(store, row, sizes, layer, m, p, l, q);
-        q += 1;
-    }
+    let start = Start {
+        cells: i,
+        marks: m,
+        tall: Some(Tall { cell: p, pose: l }),
+    };
+    put_layer(store, row, sizes, start, to);
 }

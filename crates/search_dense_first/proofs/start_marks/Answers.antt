@@ -4,17 +4,15 @@ use native.Mathlib.Omega.{arith}
 use Rattle.theory_row.specs.Window.{start}
 use Rattle.search_dense_first.proofs.start_marks.Goals as goal
 
-pub returns-then-r-eq0 : goal.returns-then-r-eq0
+pub returns-in-0 : goal.returns-in-0
 unfolding start
-returns-then-r-eq0 c =
-    ap start (sym c.if-r-eq0.true)
+returns-in-0 c = ap start (sym c.in-0.is)
 
-pub returns-then-r-eq1 : goal.returns-then-r-eq1
+pub returns-in-1 : goal.returns-in-1
 unfolding start
-returns-then-r-eq1 c =
-    ap start (sym c.if-r-eq1.true)
+returns-in-1 c = ap start (sym c.in-1.is)
 
-pub returns : goal.returns
+pub returns-in_default : goal.returns-in_default
 unfolding start
-returns c =
+returns-in_default c =
     let e : 2 ≡ c.args.r = omega arith in ap start e
