@@ -1,5 +1,5 @@
 -- The cell lines as far as byte at: the cells read are the job's, their tally is kept, and the lines from there on decide.
-use Prim.Native.Nat.{ℕ, zero, suc, ◌+◌, ◌≤◌, ◌<◌}
+use Prim.Native.Nat.{ℕ, suc, ◌+◌, ◌≤◌, ◌<◌}
 use mathlib.Core.Path.{◌≡◌, refl, sym, ap, ◌∙◌}
 use mathlib.Core.List.{List, [], ◌∷◌, map, map-append}
 use native.Mathlib.Omega.{arith}
@@ -10,7 +10,6 @@ use Rattle.definition.specs.Texts.{Text, lines_of}
 use Rattle.definition.specs.Job as paper
 use Rattle.job.specs.declared.Cell.{Cell}
 use Rattle.job.specs.declared.Header.{Header}
-use Rattle.job.specs.declared.Job.{Job}
 use Rattle.job.specs.Value.{cell_of, header_of, job_of}
 use Rattle.job.specs.Cells.{cell-count}
 use Rattle.definition_laws.specs.Sound.{SoundHeader}
@@ -18,14 +17,17 @@ use Rattle.job_laws.specs.Tests.{choose, read-cell-line, read-header-line}
 use Rattle.job_laws.specs.Lists.{keep-few}
 use Rattle.job_laws.specs.Line.{header-line-sound}
 use Rattle.job_laws.specs.Whole.{begun-sound, cells-sound}
-use Rattle.results.specs.Refusals.{no_refusal}
+use Rattle.std.specs.Prelude.{Ok, Err}
+use Rattle.results.specs.declared.Refusal.TheVariants as refusal
 use Rattle.text_scan.specs.Line.{first_line, after_line, lines-first}
 use Rattle.job_tally.specs.declared.Tally.{Tally}
+use Rattle.job_read.specs.declared.Fault.{Fault}
+use Rattle.job_read.specs.declared.Fault.TheVariants.{Form, Range, Count, Order}
 use Rattle.job_read.specs.declared.Head.{Head}
 use Rattle.job_read.specs.declared.Line.{Line}
 use Rattle.job_tally.specs.Tallies.{Tallies, tally_with, tallies-more}
-use Rattle.job_read.specs.Lines.{line_at}
-use Rattle.job_read.specs.Reads.{HeadLine, CellLine, sofar, begun, reading_by, reading_of, Reads}
+use Rattle.job_read.specs.Lines.{fault_number, refusal_at, line_at}
+use Rattle.job_read.specs.Reads.{HeadTo, CellTo, CellNumber, sofar, begun, reading_of, Refuses, Reads}
 
 pub record Far (text : Text) (from : ℕ) (h : Header) (cells : List Cell) (t : Tally) (at line : ℕ) : Type 0 where
   pub within : at ≤ length text
@@ -49,10 +51,23 @@ far_none text from h cells w l = record {
 
 -- ---- one line of the definition
 
-refuse : (n at : ℕ) (any : Job) (r : paper.Reading) → (n ≡ 0 → ⊥) → reading_by n at any ≡ choose n at r
+refused : (f : Fault) (line : ℕ) (r : paper.Reading) → reading_of (Err (refusal_at f line)) ≡ choose (fault_number f) line r
 unfolding choose
-refuse zero at any r z = absurd (z refl)
-refuse (suc n) at any r z = refl
+refused Form line r = refl
+refused Range line r = refl
+refused Count line r = refl
+refused Order line r = refl
+
+refuses : (f : Fault) (line : ℕ) → line ≤ paper.max_cells + 2 → Refuses (refusal_at f line)
+refuses Form line h = record { some = omega arith; few = omega arith; line = h }
+refuses Range line h = record { some = omega arith; few = omega arith; line = h }
+refuses Count line h = record { some = omega arith; few = omega arith; line = h }
+refuses Order line h = record { some = omega arith; few = omega arith; line = h }
+
+-- of what is read as a fault's refusal at a line
+refused-reads : (f : Fault) (line : ℕ) (o r : paper.Reading) → line ≤ paper.max_cells + 2 → o ≡ choose (fault_number f) line r
+    → Reads o (Err (refusal_at f line))
+refused-reads f line o r h e = record { same = refused f line r ∙ sym e; accepted = tt; refused = refuses f line h }
 
 -- one more cell
 grown : (h : Header) (n : ℕ) (cells : List Cell) (x : Cell) → n < length cells → sofar h (n + 1) (set cells n x) ≡ paper.with_cell (sofar h n cells) (cell_of x)
@@ -70,11 +85,10 @@ module _ {text : Text} {from : ℕ} {h : Header} {cells : List Cell} {t : Tally}
   pub far-tall : t.tall ≤ t.count
   far-tall = let a = s.tallies.tall in let b = s.tallies.count in omega (arith, keep-few paper.is_tall (map cell_of (take t.count cells)))
 
-  pub far-more : at < length text → (l : Line) → CellLine text at t l → l.number ≡ 0
+  pub far-more : at < length text → (l : Line) → CellTo text at t l
       → Far text from h (set cells t.count l.cell) (tally_with t l.cell.row l.cell.given) l.next (line + 1)
   unfolding cell_of choose
-  far-more k l r z =
-      let to = r.read z in
+  far-more k l to =
       let n = t.count in
       let j = sofar h n cells in
       let ls = lines_of (after_line (drop at text)) in
@@ -90,7 +104,7 @@ module _ {text : Text} {from : ℕ} {h : Header} {cells : List Cell} {t : Tally}
             ∙ ap (paper.read_cells j line) (lines k)
             ∙ read-cell-line j line (line_at text at) ls
             ∙ ap (λ (m : ℕ). choose m line (paper.read_cells (paper.with_cell j (paper.line_cell (line_at text at))) (suc line) ls))
-            (sym (r.number j s.tallies) ∙ z)
+            (sym (to.passed j s.tallies))
             ∙ ap (λ (x : paper.Cell). paper.read_cells (paper.with_cell j x) (suc line) ls) (sym to.cell)
             ∙ ap (λ (x : paper.Job). paper.read_cells x (suc line) ls) (sym g)
             ∙ ap (λ (m : ℕ). paper.read_cells (sofar h (n + 1) (set cells n l.cell)) m ls) (sym (add-one line))
@@ -98,32 +112,27 @@ module _ {text : Text} {from : ℕ} {h : Header} {cells : List Cell} {t : Tally}
       }
 
   -- a line is refused
-  pub far-refused : at < length text → (l : Line) → CellLine text at t l → (l.number ≡ 0 → ⊥) → (any : Job)
-      → Reads (paper.read_cells (begun h) 2 (lines_of (drop from text))) (record { refusal = record { number = l.number; line = line }; job = any })
-  unfolding reading_of
-  far-refused k l r z any = record {
-    same =
-        let j = sofar h t.count cells in
-        let ls = lines_of (after_line (drop at text)) in
-        let more = paper.read_cells (paper.with_cell j (paper.line_cell (line_at text at))) (suc line) ls in
-        refuse l.number line any more z
-        ∙ ap (λ (n : ℕ). choose n line more) (r.number j s.tallies)
-        ∙ sym (s.same ∙ ap (paper.read_cells j line) (lines k) ∙ read-cell-line j line (line_at text at) ls);
-    number = r.few;
-    line = omega (arith, s.few, s.number);
-    accepted = λ e. absurd (z e);
-  }
+  pub far-refused : at < length text → (f : Fault) → CellNumber text at t (fault_number f)
+      → Reads (paper.read_cells (begun h) 2 (lines_of (drop from text))) (Err (refusal_at f line))
+  far-refused k f n =
+      let j = sofar h t.count cells in
+      let ls = lines_of (after_line (drop at text)) in
+      let more = paper.read_cells (paper.with_cell j (paper.line_cell (line_at text at))) (suc line) ls in
+      refused-reads f line _ more (omega (arith, s.few, s.number))
+      (s.same
+      ∙ ap (paper.read_cells j line) (lines k)
+      ∙ read-cell-line j line (line_at text at) ls
+      ∙ ap (λ (m : ℕ). choose m line more) (sym (n j s.tallies)))
 
   -- the text ends
   pub far-out : length text ≤ at → SoundHeader (header_of h)
       → Reads (paper.read_cells (begun h) 2 (lines_of (drop from text)))
-      (record { refusal = no_refusal; job = record { header = h; count = t.count; cells = cells } })
-  unfolding reading_of job_of lines_of paper.read_cells
+      (Ok (record { header = h; count = t.count; cells = cells }))
+  unfolding job_of lines_of paper.read_cells
   far-out k g = record {
     same = sym all;
-    number = omega arith;
-    line = omega arith;
-    accepted = λ e. record {
+    refused = tt;
+    accepted = record {
       sound = cells-sound (lines_of (drop from text)) 2 (begun h) (sofar h t.count cells) (begun-sound (header_of h) g) all;
       few = s.few;
       many = cell-count (record { header = h; count = t.count; cells = cells }) s.long s.few;
@@ -135,11 +144,10 @@ module _ {text : Text} {from : ℕ} {h : Header} {cells : List Cell} {t : Tally}
 
 -- ---- the whole text
 
-pub no_text : (text : Text) (any : Job) → length text ≡ 0
-    → Reads (paper.read_job text) (record { refusal = record { number = 1; line = 1 }; job = any })
-unfolding reading_of lines_of paper.read_job paper.read_lines
-no_text [] any e = record { same = refl; number = omega arith; line = omega arith; accepted = λ z. absurd (omega arith) }
-no_text (b ∷ text) any e = absurd (omega arith)
+pub no_text : (text : Text) → length text ≡ 0 → Reads (paper.read_job text) (Err (refusal.Form 1))
+unfolding lines_of paper.read_job paper.read_lines choose
+no_text [] e = refused-reads Form 1 (paper.read_job []) (paper.refused 1 1) (omega arith) refl
+no_text (b ∷ text) e = absurd (omega arith)
 
 module _ (text : Text) (some : 0 < length text) where
   head : paper.read_job text
@@ -152,26 +160,19 @@ module _ (text : Text) (some : 0 < length text) where
       all_lines [] k = absurd (omega arith)
       all_lines (b ∷ text) k = lines-first b text
 
-  pub head-refused : (h : Head) → HeadLine text h → (h.number ≡ 0 → ⊥) → (any : Job)
-      → Reads (paper.read_job text) (record { refusal = record { number = h.number; line = 1 }; job = any })
-  unfolding reading_of
-  head-refused h r z any =
+  pub head-refused : (f : Fault) → fault_number f ≡ paper.header_refusal (first_line text)
+      → Reads (paper.read_job text) (Err (refusal_at f 1))
+  head-refused f n =
       let more = paper.read_cells (record { header = paper.line_header (first_line text); cells = [] }) 2 (lines_of (after_line text)) in
-      record {
-        same = refuse h.number 1 any more z ∙ ap (λ (n : ℕ). choose n 1 more) r.number ∙ sym head;
-        number = r.few;
-        line = omega arith;
-        accepted = λ e. absurd (z e);
-      }
+      refused-reads f 1 _ more (omega arith) (head ∙ ap (λ (n : ℕ). choose n 1 more) (sym n))
 
-  pub head-sound : (h : Head) → HeadLine text h → h.number ≡ 0 → SoundHeader (header_of h.header)
-  head-sound h r z = rw (r.read z).header (header-line-sound (first_line text) (sym r.number ∙ z))
+  pub head-sound : (h : Head) → HeadTo text h → SoundHeader (header_of h.header)
+  head-sound h to = rw to.header (header-line-sound (first_line text) to.passed)
 
-  pub head-on : (h : Head) → HeadLine text h → h.number ≡ 0 → paper.read_cells (begun h.header) 2 (lines_of (drop h.next text)) ≡ paper.read_job text
+  pub head-on : (h : Head) → HeadTo text h → paper.read_cells (begun h.header) 2 (lines_of (drop h.next text)) ≡ paper.read_job text
   unfolding choose
-  head-on h r z =
-      let to = r.read z in
+  head-on h to =
       let cells : paper.Header → Text → paper.Reading = λ x l. paper.read_cells (record { header = x; cells = [] }) 2 (lines_of l) in
       ap (λ (x : paper.Header). cells x (drop h.next text)) to.header
       ∙ ap (cells (paper.line_header (first_line text))) (sym to.rest)
-      ∙ sym (head ∙ ap (λ (n : ℕ). choose n 1 (cells (paper.line_header (first_line text)) (after_line text))) (sym r.number ∙ z))
+      ∙ sym (head ∙ ap (λ (n : ℕ). choose n 1 (cells (paper.line_header (first_line text)) (after_line text))) to.passed)

@@ -2,10 +2,10 @@
 
 #![tactic(auto)]
 
-ghost use Rattle.std.specs.Prelude.{◌≡◌, ◌+◌, ◌<◌, length, drop};
+ghost use Rattle.std.specs.Prelude.{◌≡◌, ◌+◌, ◌<◌, length, drop, true, false, MatchResult};
 ghost use Rattle.definition.specs.Texts.{lines_of};
 ghost use Rattle.definition.specs.Job.{read_job, read_cells};
-ghost use Rattle.job_read.specs.Lines.{later, Leads, LeadOf, head_count, head_number, cell_number};
+ghost use Rattle.job_read.specs.Lines.{refusal_at, number_by, Leads, LeadOf, head_count, head_number, cell_number};
 ghost use Rattle.job_read.specs.Reads.{HeadLine, CellLine, CellsFrom, begun, Reads};
 
 use job::{Cell, Header, Job};
@@ -14,10 +14,18 @@ use job_tally::{Tally, does_rise, has_room, tally_with};
 use results::Refusal;
 use text_scan::read_led;
 
-// The header line, refused by a number other than 0, and where the next line begins.
+// Why a line is refused.
+#[derive(Clone, Copy)]
+pub enum Fault {
+    Form,
+    Range,
+    Count,
+    Order,
+}
+
+// The header line, and where the next line begins.
 #[derive(Drop)]
 pub struct Head {
-    pub number: u32,
     pub next: usize,
     pub header: Header,
 }
@@ -25,29 +33,29 @@ pub struct Head {
 // A cell line, likewise.
 #[derive(Drop)]
 pub struct Line {
-    pub number: u32,
     pub next: usize,
     pub cell: Cell,
 }
 
-// What a job text is read as: a job if nothing is refused.
-#[derive(Drop)]
-pub struct Reading {
-    pub refusal: Refusal,
-    pub job: Job,
+impl Fault {
+    // The refusal of that line.
+    pub fn at(self, line: u32) -> Refusal
+        ensures { result ≡ refusal_at self line }
+    {
+        match self {
+            Fault::Form => Refusal::Form(line),
+            Fault::Range => Refusal::Range(line),
+            Fault::Count => Refusal::Count(line),
+            Fault::Order => Refusal::Order(line),
+        }
+    }
 }
 
-// One more test: a refusal before it stands, and otherwise its own number if it fails.
-fn tried(before: u32, passed: bool, number: u32) -> u32
-    ensures { result ≡ later before passed number }
+// A test that a line has to pass.
+fn must(passed: bool, fault: Fault) -> Result<(), Fault>
+    ensures { MatchResult result (λ _. passed ≡ true) (λ f. (passed ≡ false) × (f ≡ fault)) }
 {
-    if before != 0 {
-        return before;
-    }
-    if passed {
-        return 0;
-    }
-    number
+    if passed { Ok(()) } else { Err(fault) }
 }
 
 // A line's lead, one of two: the second if the line begins with that.
@@ -55,10 +63,7 @@ fn lead_of(one: u8, other: u8, second: bool) -> u8
     requires { Leads one other }
     ensures { LeadOf one other second result }
 {
-    if second {
-        return other;
-    }
-    one
+    if second { other } else { one }
 }
 
 // ---- the header
@@ -67,84 +72,67 @@ fn lead_of(one: u8, other: u8, second: bool) -> u8
 fn head_count(filled: bool) -> usize
     ensures { result ≡ head_count filled }
 {
-    if filled {
-        return 9;
-    }
-    8
+    if filled { 9 } else { 8 }
 }
 
-fn header_refusal(filled: bool, ok: bool, count: usize, h: Header) -> u32
-    ensures { result ≡ head_number filled ok count h }
+// The tests after the lead, of a header with so many numbers.
+fn test_header(filled: bool, count: usize, h: Header) -> Result<(), Fault>
+    ensures { number_by result ≡ head_number filled count h }
 {
-    let whole = ok & (count == head_count(filled));
-    let range = header_fits(h);
-    let n = tried(0, whole, 1);
-    tried(n, range, 2)
+    must(count == head_count(filled), Fault::Form)?;
+    must(header_fits(h), Fault::Range)
 }
 
 // The first line, which has a weight of its own for filled steps if K leads it.
-fn header_line(text: &[u8]) -> Head
+fn header_line(text: &[u8]) -> Result<Head, Fault>
     requires { 0 < length text.now }
     ensures { HeadLine text.now result }
 {
     let filled = text[0] == b'K';
     let lead = lead_of(b'J', b'K', filled);
-    let f = read_led(text, 0, lead);
-    let v = f.values;
-    let header = header_of(filled, v);
-    let number = header_refusal(filled, f.ok, f.count, header);
-    Head {
-        number,
-        next: f.next,
+    let n = read_led(text, 0, lead).ok_or(Fault::Form)?;
+    let header = header_of(filled, n.values);
+    test_header(filled, n.count, header)?;
+    Ok(Head {
+        next: n.next,
         header,
-    }
+    })
 }
 
 // ---- the cells
 
-// The tests in document 01's order; `mark` is the line's field for mirrorable.
-fn cell_refusal(t: Tally, ok: bool, count: usize, mark: u32, c: Cell) -> u32
-    ensures { result ≡ cell_number t ok count mark c }
+// The tests after the lead, in document 01's order; `mark` is the line's number for mirrorable.
+fn test_cell(t: Tally, count: usize, mark: u32, c: Cell) -> Result<(), Fault>
+    ensures { number_by result ≡ cell_number t count mark c }
 {
-    let row = c.row;
-    let given = c.given;
-    let layouts = c.layouts;
-    let formed = ok & (4 <= count);
-    let shape = shape_fits(t.rows, row, layouts);
-    let size = count_fits(count, row, layouts);
-    let rest = (given <= Job::MAX_GIVEN) & (mark <= 1) & layouts_fit(c);
-    let room = has_room(t, row);
-    let rises = does_rise(t, row, given);
-    let n = tried(0, formed, 1);
-    let n = tried(n, shape, 2);
-    let n = tried(n, size, 1);
-    let n = tried(n, rest, 2);
-    let n = tried(n, room, 3);
-    tried(n, rises, 4)
+    must(4 <= count, Fault::Form)?;
+    must(shape_fits(t.rows, c.row, c.layouts), Fault::Range)?;
+    must(count_fits(count, c.row, c.layouts), Fault::Form)?;
+    must(
+        (c.given <= Job::MAX_GIVEN) & (mark <= 1) & layouts_fit(c),
+        Fault::Range,
+    )?;
+    must(has_room(t, c.row), Fault::Count)?;
+    must(does_rise(t, c.row, c.given), Fault::Order)
 }
 
 // The line of a cell, which is fixed if F leads it.
-fn cell_line(text: &[u8], at: usize, t: Tally) -> Line
+fn cell_line(text: &[u8], at: usize, t: Tally) -> Result<Line, Fault>
     requires { at < length text.now }
     ensures { CellLine text.now at t result }
 {
     let fixed = text[at] == b'F';
     let lead = lead_of(b'C', b'F', fixed);
-    let f = read_led(text, at, lead);
-    let v = f.values;
-    let cell = cell_of(fixed, v);
-    let number = cell_refusal(t, f.ok, f.count, v[2], cell);
-    Line {
-        number,
-        next: f.next,
-        cell,
-    }
+    let n = read_led(text, at, lead).ok_or(Fault::Form)?;
+    let cell = cell_of(fixed, n.values);
+    test_cell(t, n.count, n.values[2], cell)?;
+    Ok(Line { next: n.next, cell })
 }
 
 // ---- the whole text
 
 // The cell lines from `from` on, after a header.
-fn read_cells(text: &[u8], from: usize, header: Header) -> Reading
+fn read_cells(text: &[u8], from: usize, header: Header) -> Result<Job, Refusal>
     requires { CellsFrom text.now from header }
     ensures { Reads (read_cells (begun header) 2 (lines_of (drop from text.now))) result }
 {
@@ -160,46 +148,28 @@ fn read_cells(text: &[u8], from: usize, header: Header) -> Reading
     let mut at = from;
     let mut line: u32 = 2;
     while at < text.len() {
-        let l = cell_line(text, at, t);
-        let number = l.number;
-        if number != 0 {
-            return Reading {
-                refusal: Refusal { number, line },
-                job,
-            };
-        }
-        let cell = l.cell;
-        let count = t.count;
-        job.cells[count] = cell;
-        t = tally_with(t, cell.row, cell.given);
+        let l = match cell_line(text, at, t) {
+            Ok(l) => l,
+            Err(fault) => return Err(fault.at(line)),
+        };
+        job.cells[t.count] = l.cell;
+        t = tally_with(t, l.cell.row, l.cell.given);
         at = l.next;
         line += 1;
     }
     job.count = t.count;
-    Reading {
-        refusal: Refusal::none(),
-        job,
-    }
+    Ok(job)
 }
 
 // The job that a text says, or its first refusal.
-pub fn read_job(text: &[u8]) -> Reading
+pub fn read_job(text: &[u8]) -> Result<Job, Refusal>
     ensures { Reads (read_job text.now) result }
 {
-    if text.len() == 0 {
-        return Reading {
-            refusal: Refusal { number: 1, line: 1 },
-            job: Job::empty(),
-        };
+    if text.is_empty() {
+        return Err(Refusal::Form(1));
     }
-    let h = header_line(text);
-    let number = h.number;
-    if number != 0 {
-        return Reading {
-            refusal: Refusal { number, line: 1 },
-            job: Job::empty(),
-        };
+    match header_line(text) {
+        Ok(head) => read_cells(text, head.next, head.header),
+        Err(fault) => Err(fault.at(1)),
     }
-    let header = h.header;
-    read_cells(text, h.next, header)
 }

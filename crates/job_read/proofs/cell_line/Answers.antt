@@ -1,33 +1,43 @@
--- `job_read::cell_line` meets its contract: the numbers after the lead make the cell, and decide its refusal.
-use mathlib.Core.Path.{◌≡◌, sym, ap, ◌∙◌}
-use native.Mathlib.Omega.{arith}
-use lib.ListN.{get_or}
-use Rattle.definition.specs.Job.{fixed_lead}
+-- The numbers after the lead make the cell, and decide why its line is refused.
+use mathlib.Core.Path.{sym, ap, ◌∙◌}
+use Rattle.std.proofs.lemmas.Result.{err_from_is_err_and}
 use Rattle.job.specs.Value.{cell_of}
-use Rattle.job_ranges.specs.Values.{cell_in}
-use Rattle.text_scan.specs.Found.{LedFrom}
-use Rattle.job_read.specs.Lines.{cell_number, cell-few, begins, cell_lead_at, cell-number, cell-passed}
+use Rattle.text_scan.specs.Found.{LedTo}
+use Rattle.job_read.specs.Lines.{cell_lead_at, cell-unled, cell-number, cell-passed}
+use Rattle.job_read.proofs.Tested.{no_value}
 use Rattle.job_read.proofs.cell_line.Goals as goal
+use Rattle.job_read.proofs.cell_line.Goals.{In_ok-n}
 
-pub lead_of-lead-requires : goal.lead_of-lead-requires
-lead_of-lead-requires c = record { one-high = omega arith; other-high = omega arith }
+-- the numbers after the lead
+led : (c : In_ok-n) → LedTo (cell_lead_at c.args.text.now c.args.at c.requires) c.args.text.now c.args.at c.in_ok-n.n
+led c = rw (c.in_ok-n.ensures.ok_part, c.lead_of-lead.ensures.byte) at c.read_led.ensures
 
-pub read_led-f-requires : goal.read_led-f-requires
-read_led-f-requires c =
-    record { there = c.requires; high = c.lead_of-lead.ensures.high }
+pub returns-in_err-n : goal.returns-in_err-n
+returns-in_err-n c =
+    let p = err_from_is_err_and c.from_residual.result c.from_residual.ensures.1 in
+    let q = no_value _ _ _ c.in_err-n.ensures.value in
+    let l = rw (q.0, c.lead_of-lead.ensures.byte) at c.read_led.ensures in
+    rw (p.1, p.2, q.1) (λ j s. sym (cell-unled c.args.text.now c.args.at c.requires l j))
+
+pub returns-in_err-test_cell : goal.returns-in_err-test_cell
+returns-in_err-test_cell c =
+    let p = err_from_is_err_and c.from_residual-in_err-test_cell.result c.from_residual-in_err-test_cell.ensures.1 in
+    let l = led (goal.at-returns-in_err-test_cell c).In_ok-n in
+    rw (p.1, p.2)
+    (λ j s.
+    c.in_err-test_cell.ensures
+    ∙ rw c.cell_of-cell.ensures (cell-number c.args.text.now c.args.at c.requires c.in_ok-n.n l c.args.t j s))
 
 pub returns : goal.returns
 returns c =
-    let fixed = begins fixed_lead c.args.text.now c.args.at in
-    let r = c.read_led-f.result in
-    let f : LedFrom (cell_lead_at fixed) c.args.text.now c.args.at r = rw c.lead_of-lead.ensures.byte at c.read_led-f.ensures in
-    let n : c.cell_refusal-number.result ≡ cell_number c.args.t r.ok r.count (get_or r.values 2 0) (cell_in fixed r.values) =
-    c.cell_refusal-number.ensures ∙ ap (cell_number c.args.t r.ok r.count (get_or r.values 2 0)) c.cell_of-cell.ensures in
+    let l = led (goal.at-returns c).In_ok-n in
+    let e = rw c.cell_of-cell.ensures at c.in_ok-test_cell.ensures in
+    let p = cell-passed c.args.text.now c.args.at c.requires c.in_ok-n.n l c.args.t (sym e) in
     record {
-      number = λ j s. n ∙ cell-number c.args.text.now c.args.at r c.requires f c.args.t j s;
-      few = rw n (cell-few c.args.t r.ok r.count (get_or r.values 2 0) (cell_in fixed r.values));
-      read = λ e.
-          let p = cell-passed c.args.text.now c.args.at r c.requires f c.args.t (sym n ∙ e) in
-          let g = f.found p.ok in
-          record { past = g.past; within = g.within; rest = g.rest; cell = ap cell_of c.cell_of-cell.ensures ∙ p.cell; room = p.few };
+      passed = λ j s. e ∙ cell-number c.args.text.now c.args.at c.requires c.in_ok-n.n l c.args.t j s;
+      past = l.found.past;
+      within = l.found.within;
+      rest = l.found.rest;
+      cell = ap cell_of c.cell_of-cell.ensures ∙ p.cell;
+      room = p.few;
     }

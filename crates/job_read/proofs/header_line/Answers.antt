@@ -1,33 +1,38 @@
--- `job_read::header_line` meets its contract: the numbers after the lead make the header, and decide its refusal.
-use mathlib.Core.Path.{◌≡◌, sym, ap, ◌∙◌}
-use native.Mathlib.Omega.{arith}
-use Rattle.definition.specs.Job.{header_lead, filled_lead}
+-- The numbers after the lead make the header, and decide why it is refused.
+use mathlib.Core.Path.{sym, ap, ◌∙◌}
+use Rattle.std.proofs.lemmas.Result.{err_from_is_err_and}
 use Rattle.job.specs.Value.{header_of}
-use Rattle.text_scan.specs.Found.{LedFrom}
-use Rattle.job_ranges.specs.Values.{header_in}
-use Rattle.job_read.specs.Lines.{lead_at, begins, head_number, head_few, head-number, head_read}
+use Rattle.text_scan.specs.Found.{LedTo}
+use Rattle.job_read.specs.Lines.{head_lead, head-unled, head-number, head_read}
+use Rattle.job_read.proofs.Tested.{no_value}
 use Rattle.job_read.proofs.header_line.Goals as goal
+use Rattle.job_read.proofs.header_line.Goals.{In_ok-n}
 
-pub lead_of-lead-requires : goal.lead_of-lead-requires
-lead_of-lead-requires c = record { one-high = omega arith; other-high = omega arith }
+-- the numbers after the lead
+led : (c : In_ok-n) → LedTo (head_lead c.args.text.now c.requires) c.args.text.now 0 c.in_ok-n.n
+led c = rw (c.in_ok-n.ensures.ok_part, c.lead_of-lead.ensures.byte) at c.read_led.ensures
 
-pub read_led-f-requires : goal.read_led-f-requires
-read_led-f-requires c =
-    record { there = c.requires; high = c.lead_of-lead.ensures.high }
+pub returns-in_err-n : goal.returns-in_err-n
+returns-in_err-n c =
+    let p = err_from_is_err_and c.from_residual.result c.from_residual.ensures.1 in
+    let q = no_value _ _ _ c.in_err-n.ensures.value in
+    let l = rw (q.0, c.lead_of-lead.ensures.byte) at c.read_led.ensures in
+    rw (p.1, p.2, q.1) (sym (head-unled c.args.text.now c.requires l))
+
+pub returns-in_err-test_header : goal.returns-in_err-test_header
+returns-in_err-test_header c =
+    let p = err_from_is_err_and c.from_residual-in_err-test_header.result c.from_residual-in_err-test_header.ensures.1 in
+    rw (p.1, p.2)
+    (c.in_err-test_header.ensures
+    ∙ rw c.header_of-header.ensures (head-number c.args.text.now c.requires c.in_ok-n.n (led (goal.at-returns-in_err-test_header c).In_ok-n)))
 
 pub returns : goal.returns
 returns c =
-    let text = c.args.text.now in
-    let filled = begins filled_lead text 0 in
-    let r = c.read_led-f.result in
-    let f : LedFrom (lead_at header_lead filled_lead filled) text 0 r = rw c.lead_of-lead.ensures.byte at c.read_led-f.ensures in
-    let n : c.header_refusal-number.result ≡ head_number filled r.ok r.count (header_in filled r.values) =
-    c.header_refusal-number.ensures ∙ ap (head_number filled r.ok r.count) c.header_of-header.ensures in
+    let l = led (goal.at-returns c).In_ok-n in
+    let e = rw c.header_of-header.ensures at c.in_ok-test_header.ensures in
     record {
-      number = n ∙ head-number text r c.requires f;
-      few = rw n (head_few filled r.ok r.count (header_in filled r.values));
-      read = λ e.
-          let p = head_read text r c.requires f (sym n ∙ e) in
-          let g = f.found p.0 in
-          record { within = g.within; rest = g.rest; header = ap header_of c.header_of-header.ensures ∙ p.1 };
+      passed = sym (e ∙ head-number c.args.text.now c.requires c.in_ok-n.n l);
+      within = l.found.within;
+      rest = l.found.rest;
+      header = ap header_of c.header_of-header.ensures ∙ head_read c.args.text.now c.requires c.in_ok-n.n l (sym e);
     }

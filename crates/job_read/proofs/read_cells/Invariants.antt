@@ -1,4 +1,4 @@
--- `job_read::read_cells` meets its contract: each turn reads one more cell line, and the lines from there on decide.
+-- Each turn reads one more cell line, and the lines from there on decide.
 use Prim.Native.Nat.{◌-◌}
 use mathlib.Core.Path.{◌≡◌}
 use lib.ListN.{length}

@@ -1,26 +1,29 @@
--- `job_read::read_job` meets its contract: no text, a refused header line, or the cell lines after it.
+-- No text, a refused header line, or the cell lines after it.
+use mathlib.Core.Path.{sym}
 use native.Mathlib.Omega.{arith}
+use Prim.Native.Nat.{◌<◌}
+use lib.ListN.{length}
+use borrow.Author.Tests.{eqb-true, eqb-false}
 use Rattle.job_read.proofs.Far.{no_text, head-refused, head-sound, head-on}
 use Rattle.job_read.proofs.read_job.Goals as goal
+use Rattle.job_read.proofs.read_job.Goals.{Else-is_empty}
 
-pub returns-then-text-eq0 : goal.returns-then-text-eq0
-returns-then-text-eq0 c = no_text c.args.text.now c.empty.result c.if-text-eq0.true
+some : (c : Else-is_empty) → 0 < length c.args.text.now
+some c = let h = eqb-false (length c.args.text.now) 0 (sym c.if-is_empty.ensures) in omega arith
 
-pub returns-then-number-ne0 : goal.returns-then-number-ne0
-returns-then-number-ne0 c =
-    head-refused c.args.text.now (omega arith) c.header_line-h.result c.header_line-h.ensures c.if-number-ne0.true
-    c.empty-then-number-ne0.result
+pub returns-then-is_empty : goal.returns-then-is_empty
+returns-then-is_empty c = no_text c.args.text.now (eqb-true (length c.args.text.now) 0 (sym c.if-is_empty.ensures))
 
 pub read_cells-requires : goal.read_cells-requires
 read_cells-requires c =
-    let z = c.if-number-ne0.false in
-    record {
-      within = (c.header_line-h.ensures.read z).within;
-      sound = head-sound c.args.text.now (omega arith) c.header_line-h.result c.header_line-h.ensures z;
-    }
+    let h = c.in-Ok.ensures in
+    record { within = h.within; sound = head-sound c.args.text.now (some (goal.at-read_cells-requires c).Else-is_empty) c.in-Ok.head h }
 
-pub returns : goal.returns
-returns c =
-    let e =
-    head-on c.args.text.now (omega arith) c.header_line-h.result c.header_line-h.ensures c.if-number-ne0.false in
-    rw e at c.read_cells.ensures
+pub returns-in-Ok : goal.returns-in-Ok
+returns-in-Ok c =
+    rw (head-on c.args.text.now (some (goal.at-returns-in-Ok c).Else-is_empty) c.in-Ok.head c.in-Ok.ensures) at c.read_cells.ensures
+
+pub returns-in-Err : goal.returns-in-Err
+returns-in-Err c =
+    rw c.at.ensures
+    (head-refused c.args.text.now (some (goal.at-returns-in-Err c).Else-is_empty) c.in-Err.fault c.in-Err.ensures)
