@@ -1,40 +1,16 @@
--- Laws of a row in file order: whether a cell may stand, case by case, and its sites with D added.
-use Rattle.std.specs.Prelude.{ℕ, zero, suc, ◌+◌, ◌-◌, ◌*◌, ◌≤◌, ◌<◌, min, ◌≡◌, refl, ◌≢◌, Bool, true, false, not, ◌&&◌, cond, List, leb, eqb}
-use Rattle.std.proofs.Common.{ap, ap₂, ◌∙◌, arith, lt-ltb, le-ltb, le-leb, eq-eqb, ne_eqb}
+-- Laws of a row in file order: its last cell, a way, and sites with D added.
+use Rattle.std.specs.Prelude.{ℕ, zero, suc, ◌+◌, ◌*◌, ◌≤◌, ◌<◌, min, ◌≡◌, refl, Bool, true, false, ◌&&◌, cond, List, leb}
+use Rattle.std.proofs.Common.{arith, le-leb}
 use Rattle.std.proofs.lemmas.Bool.{lt-leb}
 use Rattle.theory_tables.specs.Steps.{B}
 use Rattle.theory_cover.specs.FileRow.{start_of, end_of}
 use Rattle.theory_cover.specs.Recurrence.{new_sites}
-use Rattle.search_row.specs.Words.{word_of, RowWords, cell_words, first_word, width_word, back_barred}
+use Rattle.search_row.specs.Words.{word_of, RowWords, cell_words, first_word, width_word}
 use Rattle.staples_ways.specs.declared.LastCell.{LastCell}
-use Rattle.staples_ways.specs.Words.{site_of_number, end_of_number, ok_in, file_row, FileWords}
+use Rattle.staples_ways.specs.Words.{site_of_number, ok_in, file_row, FileWords}
 use Rattle.staples_ways.specs.Words.{last_cell, LastStands, way_in}
 
--- ---- whether a cell may stand
-
-module _ (row : List ℕ) (n p t : ℕ) where
-  pub ok-closed : B ≤ word_of row p (4 * t) → ok_in row n p t ≡ false
-  ok-closed h = rw (le-ltb (word_of row p (4 * t)) B h) refl
-
-  pub ok-inner : word_of row p (4 * t) < B → suc p ≢ n → ok_in row n p t ≡ true
-  ok-inner h d = rw (lt-ltb (word_of row p (4 * t)) B h, ne_eqb (suc p) n d) refl
-
-  pub ok-last : word_of row p (4 * t) < B → suc p ≡ n
-      → ok_in row n p t ≡ not (eqb (end_of_number row p t) (word_of row p back_barred))
-  ok-last h e = rw (lt-ltb (word_of row p (4 * t)) B h, eq-eqb (suc p) n e) refl
-
 -- ---- the last cell
-
-pub last_none : (row : List ℕ) (d p t : ℕ) → p ≡ 0 → record { start = d; end = d } ≡ last_cell row d p t
-last_none row d p t e = rw e refl
-
-pub last_some : (row : List ℕ) (d p t : ℕ) {x y : ℕ} → p ≢ 0 → x ≡ site_of_number row (p - 1) t
-    → y ≡ end_of_number row (p - 1) t → record { start = x; end = y } ≡ last_cell row d p t
-last_some row d zero t h e f = absurd (h refl)
-last_some row d (suc p) t h e f =
-    let z : suc p - 1 ≡ p = omega arith in
-    ap₂ (λ (a b : ℕ). record { start = a; end = b })
-    (e ∙ ap (λ (k : ℕ). site_of_number row k t) z) (f ∙ ap (λ (k : ℕ). end_of_number row k t) z)
 
 -- it lies in reach
 pub last-start-low : (row : List ℕ) (d p : ℕ) → RowWords row → d < 15 → (last_cell row d p 0).start ≤ B + 15

@@ -31,22 +31,6 @@ low-from-step G n k h = let z : n - k ≡ suc (n - suc k) = omega arith in rw z 
 
 -- ---- one number more
 
-pub way-put : {ways : List ℕ} (to v x : ℕ) {y : ℕ} → Low ways → to + ways_words ≤ length ways → v < 15 → x ≤ B → y ≤ B
-    → y ≡ min x (get_or (set ways (to + v) x) (to + low_from_at + (v + 1)) 0)
-    → WayPut to v x ways (set (set ways (to + v) x) (to + low_from_at + v) y)
-way-put {ways} to v x {y} w h i b c e =
-    record {
-      long = length-set (set ways (to + v) x) (to + low_from_at + v) y ∙ length-set ways (to + v) x;
-      low = low-set (to + low_from_at + v) y (low-set (to + v) x w (omega arith) b)
-          (omega (arith, length-set ways (to + v) x)) c;
-      word = get_or-set_other (set ways (to + v) x) (to + low_from_at + v) (to + v) y 0 (omega arith)
-          ∙ get_or-set_same ways (to + v) x 0 (omega arith);
-      least = get_or-set_same (set ways (to + v) x) (to + low_from_at + v) y 0 (omega (arith, length-set ways (to + v) x))
-          ∙ e ∙ ap (min x) (get_or-set_other ways (to + v) (to + low_from_at + (v + 1)) x 0 (omega arith));
-      other = λ k p q. get_or-set_other (set ways (to + v) x) (to + low_from_at + v) k y 0 q
-          ∙ get_or-set_other ways (to + v) k x 0 p;
-    }
-
 pub ways-more :
     {G : ℕ → ℕ} {n to v x : ℕ} {old new : List ℕ}
     → v < n → n ≤ 15 → WaysFrom G n (suc v) to old → WayPut to v x old new → x ≡ G v → WaysFrom G n v to new
@@ -105,9 +89,6 @@ ways-end {ways} G n to w h f = (
         (omega (arith, length-set ways (to + low_from_at + n) B)))
 
 -- ---- after each end of the other row's last cell
-
-pub all_none : (G : ℕ → ℕ → ℕ) (n : ℕ) {ways : List ℕ} → length ways ≡ all_ways → Low ways → AllPut G n 0 ways
-all_none G n h w = record { long = h; low = w; put = λ u i. absurd (omega arith) }
 
 pub all_more :
     {G : ℕ → ℕ → ℕ} {n u : ℕ} {old new : List ℕ}

@@ -3,7 +3,7 @@
 
 #![tactic(auto)]
 
-ghost use Rattle.std.specs.Prelude.{◌≡◌, ◌+◌, ◌≤◌, max};
+ghost use Rattle.std.specs.Prelude.{◌≡◌};
 ghost use Rattle.staples_ways.specs.Words.{ok_in, last_cell, way_in, site_of_number, end_of_number};
 ghost use Rattle.staples_ways.specs.Ways.{later_by, rests_by, ahead_in, AllToPut, AllPut, AheadAsked, Ahead};
 ghost use Rattle.staples_ways.specs.Ways.{ways_in, WayToPut, WayPut, WaysToPut, WaysPut, EndLooks, found_among};
@@ -40,13 +40,10 @@ pub fn may_stand(row: &[u32], n: usize, p: usize, t: usize) -> bool
     requires { NumberAt row.now p t }
     ensures { result ≡ ok_in row.now n p t }
 {
-    if row[p * search_row::CELL + 4 * t] >= search_lanes::NONE {
-        return false;
-    }
-    if p + 1 != n {
-        return true;
-    }
-    past_of(row, p, t) != search_row::word(row, p * search_row::CELL + search_row::BACK_BARRED)
+    row[p * search_row::CELL + 4 * t] < search_lanes::NONE
+        && (p + 1 != n
+            || past_of(row, p, t)
+                != search_row::word(row, p * search_row::CELL + search_row::BACK_BARRED))
 }
 
 // The last of p cells at its site number t: the row's left end if there is none.
@@ -63,20 +60,6 @@ pub fn last_of(row: &[u32], d: usize, p: usize, t: usize) -> LastCell
     }
 }
 
-// What a cell from x to y covers anew where the other row's last cell ends at b.
-fn new_sites(b: usize, x: usize, y: usize) -> usize
-    requires { x ≤ y }
-    ensures { result + max b x ≡ max y (max b x) }
-{
-    if b < x {
-        return y - x;
-    }
-    if y < b {
-        return 0;
-    }
-    y - b
-}
-
 // By way of the cell at position p of n, at its site number v: what it covers anew, and what is left then.
 pub fn way(row: &[u32], n: usize, p: usize, v: usize, last: LastCell, rest: u32) -> u32
     requires { WayAsked row.now p last rest v }
@@ -89,8 +72,8 @@ pub fn way(row: &[u32], n: usize, p: usize, v: usize, last: LastCell, rest: u32)
     if x < last.start {
         return search_lanes::NONE;
     }
-    let anew = new_sites(last.end, x, past_of(row, p, v));
-    search_lanes::least(anew as u32 + rest, search_lanes::NONE)
+    let anew = past_of(row, p, v).saturating_sub(last.end.max(x));
+    (anew as u32 + rest).min(search_lanes::NONE)
 }
 
 // The words of the ways after one end of the other row's last cell, and of all.
@@ -122,7 +105,7 @@ fn put_way(ways: &mut [u32; ALL_WAYS], to: usize, v: usize, x: u32)
     ensures { WayPut to v x ways.old ways.new }
 {
     ways[to + v] = x;
-    ways[to + LOW_FROM + v] = search_lanes::least(x, ways[to + LOW_FROM + (v + 1)]);
+    ways[to + LOW_FROM + v] = x.min(ways[to + LOW_FROM + (v + 1)]);
 }
 
 // The ways by a row's next cell after the other row's last one: one for each site number, and the least from each on.
@@ -141,9 +124,7 @@ fn fill_ways(
 {
     ways[to + LOW_FROM + next.numbers] = search_lanes::NONE;
     ways[to + LOW_FROM + (next.numbers + 1)] = search_lanes::NONE;
-    let mut k = next.numbers;
-    while k > 0 {
-        let v = k - 1;
+    for v in (0..next.numbers).rev() {
         let rest = store[rests.at + v * rests.step];
         put_way(
             ways,
@@ -151,7 +132,6 @@ fn fill_ways(
             v,
             way(row, next.cells, next.placed, v, last, rest),
         );
-        k = v;
     }
 }
 
@@ -170,7 +150,7 @@ pub fn found_way(ways: &[u32; ALL_WAYS], to: usize, n: usize, a: usize, g: usize
     if k >= n {
         return search_lanes::NONE;
     }
-    search_lanes::least(ways[to + k], ways[to + LOW_FROM + (k + 2)])
+    ways[to + k].min(ways[to + LOW_FROM + (k + 2)])
 }
 
 // The same after each site number of that cell; `last` is where it stands at its number 0, and what is left stands
@@ -188,8 +168,7 @@ fn fill_all(
     ensures { AllPut (λ u. ways_in store.now row.now next (later_by last u)
         (rests_by rests beside u)) next.numbers next.numbers ways.new }
 {
-    let mut u: usize = 0;
-    while u < next.numbers {
+    for u in 0..next.numbers {
         let later = LastCell {
             start: last.start + u,
             end: last.end + u,
@@ -199,7 +178,6 @@ fn fill_all(
             step: rests.step,
         };
         fill_ways(ways, u * WAYS, store, row, next, later, left);
-        u += 1;
     }
 }
 
