@@ -1,6 +1,6 @@
 -- Rule 8, a row's ends: which cells are at one empty site there, and their marks.
-use Rattle.std.specs.Prelude.{ℕ, zero, suc, ◌+◌, ◌-◌, ◌≤◌, ◌<◌, ◌≡◌, refl, Bool, true, false, ◌&&◌, cond, List, [], ◌∷◌, length, get_or, drop, set}
-use Rattle.std.proofs.Common.{sym, ◌∙◌, arith, length-set, length-drop, drop_of_length-le, drop-cons, get_or-drop, get_or-set_same, get_or-set_other, eq-eqb, ne_eqb}
+use Rattle.std.specs.Prelude.{ℕ, zero, suc, ◌-◌, ◌<◌, ◌≡◌, refl, Bool, true, false, ◌&&◌, cond, List, [], ◌∷◌, length, get_or, set}
+use Rattle.std.proofs.Common.{sym, ◌∙◌, arith, length-set, get_or-set_same, get_or-set_other, eq-eqb, ne_eqb}
 use Rattle.std.proofs.Math.Path.{ap, ap₂}
 use Rattle.std.proofs.Math.Bool.{◌||◌, and-false, or-false}
 use Rattle.std.proofs.Math.Decide.{ℕ_discrete}
@@ -22,6 +22,11 @@ last-is k (a ∷ []) (suc n) e = absurd (omega arith)
 last-is k (a ∷ b ∷ l) zero e = absurd (omega arith)
 last-is k (a ∷ b ∷ l) (suc n) e = last-is k (b ∷ l) n (omega arith)
 
+first-is : (k : ℕ) (l : List ℕ) → 0 < length l → is_first k l ≡ eqb k (get_or l 0 0)
+unfolding is_first
+first-is k [] h = absurd (omega arith)
+first-is k (a ∷ l) h = refl
+
 -- a test of k, where k is a
 at-cell : (f : ℕ → Bool) (k a : ℕ) → (eqb k a && f k) ≡ one_cell a (f a) k
 at-cell f k a = go (ℕ_discrete k a)
@@ -30,53 +35,45 @@ at-cell f k a = go (ℕ_discrete k a)
     go (yes e) = ap (λ x. eqb k a && f x) e
     go (no d) = rw (ne_eqb k a d)
 
-module _ (words l : List ℕ) (sites at : ℕ) where
+module _ (words l : List ℕ) (sites : ℕ) where
   -- an empty row is free
-  pub end_none : (k : ℕ) → length l ≤ at → at_end_in words sites (drop at l) k ≡ false
+  pub end_none : (k : ℕ) → length l ≡ 0 → at_end_in words sites l k ≡ false
   unfolding at_end_in is_first is_last
-  end_none k h = rw (drop_of_length-le l {i = at} h)
-
-  -- the first cell, and the last
-  end-cells : (a b n k : ℕ) → length l ≡ suc n → at ≤ n → a ≡ get_or l at 0 → b ≡ get_or l n 0
-      → at_end_in words sites (drop at l) k
-      ≡ (one_cell a (is_forbidden (site_in words a)) k || one_cell b (is_forbidden (sites - end_in words b)) k)
-  unfolding at_end_in is_first
-  end-cells a b n k e h ea eb = ap₂ ◌||◌ first last
+  end_none k h = go l h
     where
-      is-first : is_first k (drop at l) ≡ eqb k a
-      is-first = ap (is_first k) (drop-cons l at 0 (omega arith)) ∙ ap (eqb k) (sym ea)
+      go : (l : List ℕ) → length l ≡ 0 → ((is_first k l && is_forbidden (site_in words k)) || (is_last k l && is_forbidden (sites - end_in words k))) ≡ false
+      go [] h = refl
+      go (a ∷ l) h = absurd (omega arith)
 
-      is-last : is_last k (drop at l) ≡ eqb k b
-      is-last =
-          let d : length (drop at l) ≡ suc (n - at) = simp length-drop (omega arith) in
-          let p : at + (n - at) ≡ n = omega arith in
-          last-is k (drop at l) (n - at) d
-          ∙ ap (eqb k) (get_or-drop at l (n - at) 0 ∙ ap (λ x. get_or l x 0) p ∙ sym eb)
+  module _ (a b n : ℕ) (e : length l ≡ suc n) (ea : a ≡ get_or l 0 0) (eb : b ≡ get_or l n 0) where
+    -- the first cell, and the last
+    end-cells : (k : ℕ) → at_end_in words sites l k
+        ≡ (one_cell a (is_forbidden (site_in words a)) k || one_cell b (is_forbidden (sites - end_in words b)) k)
+    unfolding at_end_in
+    end-cells k = ap₂ ◌||◌ first last
+      where
+        first : (is_first k l && is_forbidden (site_in words k)) ≡ one_cell a (is_forbidden (site_in words a)) k
+        first =
+            ap (λ t. t && is_forbidden (site_in words k)) (first-is k l (omega arith) ∙ ap (eqb k) (sym ea))
+            ∙ at-cell (λ x. is_forbidden (site_in words x)) k a
 
-      first : (is_first k (drop at l) && is_forbidden (site_in words k)) ≡ one_cell a (is_forbidden (site_in words a)) k
-      first = ap (λ t. t && is_forbidden (site_in words k)) is-first ∙ at-cell (λ x. is_forbidden (site_in words x)) k a
+        last : (is_last k l && is_forbidden (sites - end_in words k)) ≡ one_cell b (is_forbidden (sites - end_in words b)) k
+        last =
+            ap (λ t. t && is_forbidden (sites - end_in words k)) (last-is k l n e ∙ ap (eqb k) (sym eb))
+            ∙ at-cell (λ x. is_forbidden (sites - end_in words x)) k b
 
-      last : (is_last k (drop at l) && is_forbidden (sites - end_in words k))
-          ≡ one_cell b (is_forbidden (sites - end_in words b)) k
-      last =
-          ap (λ t. t && is_forbidden (sites - end_in words k)) is-last
-          ∙ at-cell (λ x. is_forbidden (sites - end_in words x)) k b
-
-  -- ---- marks
-
-  -- the first has been marked, and then the last
-  pub ends-marked : (a b n f g : ℕ) (m₀ m₁ m₂ : List ℕ) → length l ≡ suc n → at ≤ n
-      → a ≡ get_or l at 0 → b ≡ get_or l n 0 → f ≡ site_in words a → g ≡ sites - end_in words b
-      → Added max_cells (one_cell a (is_forbidden f)) m₀ m₁ → Added max_cells (one_cell b (is_forbidden g)) m₁ m₂
-      → Added max_cells (at_end_in words sites (drop at l)) m₀ m₂
-  ends-marked a b n f g m₀ m₁ m₂ e h ea eb ef eg p q =
-      let first : ℕ → Bool = one_cell a (is_forbidden f) in
-      let last : ℕ → Bool = one_cell b (is_forbidden g) in
-      added-below max_cells (λ k. first k || (last k || false)) (at_end_in words sites (drop at l)) m₀ m₂
-      (λ k _.
-      ap₂ ◌||◌ (ap (λ x. one_cell a (is_forbidden x) k) ef) (or-false (last k) ∙ ap (λ x. one_cell b (is_forbidden x) k) eg)
-      ∙ sym (end-cells a b n k e h ea eb))
-      (added-both max_cells max_cells max_cells first last m₀ m₁ m₂ (omega arith) (omega arith) p q)
+    -- the first has been marked, and then the last
+    pub ends-marked : (f g : ℕ) (m₀ m₁ m₂ : List ℕ) → f ≡ site_in words a → g ≡ sites - end_in words b
+        → Added max_cells (one_cell a (is_forbidden f)) m₀ m₁ → Added max_cells (one_cell b (is_forbidden g)) m₁ m₂
+        → Added max_cells (at_end_in words sites l) m₀ m₂
+    ends-marked f g m₀ m₁ m₂ ef eg p q =
+        let first : ℕ → Bool = one_cell a (is_forbidden f) in
+        let last : ℕ → Bool = one_cell b (is_forbidden g) in
+        added-below max_cells (λ k. first k || (last k || false)) (at_end_in words sites l) m₀ m₂
+        (λ k _.
+        ap₂ ◌||◌ (ap (λ x. one_cell a (is_forbidden x) k) ef) (or-false (last k) ∙ ap (λ x. one_cell b (is_forbidden x) k) eg)
+        ∙ sym (end-cells k))
+        (added-both max_cells max_cells max_cells first last m₀ m₁ m₂ (omega arith) (omega arith) p q)
 
 -- one cell, which breaks a rule or not
 module _ (a : ℕ) (breaks : Bool) (m : List ℕ) (long : length m ≡ max_cells) where

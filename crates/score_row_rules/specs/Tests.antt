@@ -1,11 +1,12 @@
 -- The rules that are judged along a row, 5, 6 and 8, on the words of a placed job. They are the definition's: see
 -- Flat in score_verdict.
-use Rattle.std.specs.Prelude.{ℕ, ◌-◌, ◌≤◌, ◌<◌, ◌≡◌, Bool, not, ◌&&◌, ◌||◌, List, length, get_or, leb, eqb}
+use Rattle.std.specs.Prelude.{ℕ, ◌-◌, ◌<◌, ◌≡◌, Bool, not, ◌&&◌, ◌||◌, List, length, leb, eqb}
 use Rattle.definition.specs.Lists.{any, any_next}
 use Rattle.definition.specs.Job.{both_rows, max_cells}
 use Rattle.definition.specs.Rules.{apart, place_in, is_forbidden, is_first, is_last}
 use Rattle.job.specs.Parts.{stands_in}
-use Rattle.score_order.specs.Words.{word_count, site_in, end_in, row_in, cells_in, order_in, Words, Tail, RowRoom}
+use Rattle.score_order.specs.Words.{word_count, site_in, end_in, row_in, cells_in, order_in, Words}
+use Rattle.score_cell_rules.specs.Tests.{Cells, RowOrder}
 
 -- rule 5: k is one of two neighbours with one empty site between them; in a list of cells, and in either row
 abbrev pub one_site : List ℕ → ℕ → ℕ → ℕ → Bool
@@ -21,10 +22,7 @@ near_any words n k = any (λ row. near_in words (order_in words row n) k) both_r
 unfoldable pub out_by : List ℕ → ℕ → ℕ → ℕ → ℕ → ℕ → Bool
 out_by words row limit k place rank = stands_in row (row_in words k) && not (leb (apart place rank) limit)
 
--- by arrays of the places, by the lists, and in either row
-unfoldable pub out_at : List ℕ → ℕ → ℕ → List ℕ → List ℕ → ℕ → Bool
-out_at words row limit place rank k = out_by words row limit k (get_or place k 0) (get_or rank k 0)
-
+-- by the lists, and in either row
 unfoldable pub out_in : List ℕ → ℕ → ℕ → List ℕ → List ℕ → ℕ → Bool
 out_in words row limit order cells k = out_by words row limit k (place_in k order) (place_in k cells)
 
@@ -47,24 +45,16 @@ one_cell a breaks k = eqb k a && breaks
 
 -- ---- what the functions presume
 
--- a list of cells from `at` on, and the marks
-pub record AlongRow (words order : List ℕ) (at : ℕ) (m : List ℕ) : Type 0 where
+-- a list of cells, and the marks
+pub record AlongRow (words order m : List ℕ) : Type 0 where
   pub long : length words ≡ word_count
-  pub room : RowRoom order
-  pub start : at ≤ max_cells
+  pub listed : Cells order
   pub marks : length m ≡ max_cells
 
 -- the order of a row, and the marks
-pub record RowOrder (words : List ℕ) (n row : ℕ) (order : List ℕ) (start : ℕ) (m : List ℕ) : Type 0 where
+pub record ByRow (words : List ℕ) (n row : ℕ) (order m : List ℕ) : Type 0 where
   pub cells : Words words n
-  pub tail : Tail start order (order_in words row n)
-  pub marks : length m ≡ max_cells
-
--- two places for each cell, and the marks
-pub record Ranked (words : List ℕ) (n : ℕ) (place rank m : List ℕ) : Type 0 where
-  pub cells : Words words n
-  pub places : length place ≡ max_cells
-  pub ranks : length rank ≡ max_cells
+  pub ordered : RowOrder words n row order
   pub marks : length m ≡ max_cells
 
 -- a cell, and the marks

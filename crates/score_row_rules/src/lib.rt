@@ -1,33 +1,31 @@
-// Rules 5, 6 and 8, which are judged along a row: the cells that break them are marked, row after row.
+// Rules 5, 6 and 8, which are judged along a row: the cells that break them are marked, row after row. A row's order
+// lists its cells from left to right.
 
 #![tactic(auto)]
 
-ghost use Rattle.std.specs.Prelude.{◌≡◌, drop};
+ghost use Rattle.std.specs.Prelude.{◌≡◌};
 ghost use Rattle.definition.specs.Job.{max_cells};
-ghost use Rattle.score_order.specs.Words.{cells_in, order_in, WordsAt};
-ghost use Rattle.score_cell_rules.specs.Tests.{ByOrder};
+ghost use Rattle.score_order.specs.Words.{cells_in, order_in, PlacesFrom};
+ghost use Rattle.score_cell_rules.specs.Tests.{Cells, ByOrder};
 ghost use Rattle.score_cell_rules.specs.Marks.{Added};
-ghost use Rattle.score_row_rules.specs.Tests.{near_in, near_any, out_by, out_at, out_in, out_any};
+ghost use Rattle.score_row_rules.specs.Tests.{near_in, near_any, out_in, out_any};
 ghost use Rattle.score_row_rules.specs.Tests.{one_cell, at_end_in, at_end_any};
-ghost use Rattle.score_row_rules.specs.Tests.{AlongRow, RowOrder, Ranked, Markable};
+ghost use Rattle.score_row_rules.specs.Tests.{AlongRow, ByRow, Markable};
 
 use gap_charge::FORBIDDEN_GAP;
 use job::{Job, stands};
-use score_order::{AWAY, LAST, entry, places, row_cells};
-use score_words::{apart_of, gap_between};
+use score_cell_rules::mark_each;
+use score_order::row_cells;
+use score_words::gap_between;
 
-// Neighbours with one empty site between them; the row's cells from left to right are the entries of `order` from
-// `at` on.
-fn mark_row_gaps(words: &[u32], order: &[u32], at: usize, marks: &mut [u32])
-    requires { AlongRow words.now order.now at marks.old }
-    ensures { Added max_cells (near_in words.now (drop at order.now))
-        marks.old marks.new }
+// Neighbours with one empty site between them.
+fn mark_row_gaps(words: &[u32], order: &[u32], marks: &mut [u32])
+    requires { AlongRow words.now order.now marks.old }
+    ensures { Added max_cells (near_in words.now order.now) marks.old marks.new }
 {
-    let mut i = LAST;
-    while at < i {
-        i -= 1;
-        let a = entry(order, i);
-        let b = entry(order, i + 1);
+    for pair in order.windows(2) {
+        let a = pair[0] as usize;
+        let b = pair[1] as usize;
         if gap_between(words[4 * a + 1], words[4 * b]) == FORBIDDEN_GAP {
             marks[a] = 1;
             marks[b] = 1;
@@ -36,63 +34,36 @@ fn mark_row_gaps(words: &[u32], order: &[u32], at: usize, marks: &mut [u32])
 }
 
 // Rule 5.
-pub fn mark_gaps(
-    words: &[u32],
-    count: usize,
-    order0: &[u32],
-    start0: usize,
-    order1: &[u32],
-    start1: usize,
-    marks: &mut [u32],
-)
-    requires { ByOrder words.now count order0.now start0 order1.now start1 marks.old }
+pub fn mark_gaps(words: &[u32], count: usize, order0: &[u32], order1: &[u32], marks: &mut [u32])
+    requires { ByOrder words.now count order0.now order1.now marks.old }
     ensures { Added count (near_any words.now count) marks.old marks.new }
 {
-    mark_row_gaps(words, order0, start0, marks);
-    mark_row_gaps(words, order1, start1, marks);
+    mark_row_gaps(words, order0, marks);
+    mark_row_gaps(words, order1, marks);
 }
 
-// A cell of the row is too far from its place in file order.
-fn is_out(words: &[u32], row: u32, limit: u32, k: usize, place: u32, rank: u32) -> bool
-    requires { WordsAt words.now k }
-    ensures { result ≡ out_by words.now row limit k place rank }
+// The place of each cell in a list; the list's length for a cell that is not there.
+fn places_of(list: &[u32]) -> [u32; Job::MAX_CELLS]
+    requires { Cells list.now }
+    ensures { PlacesFrom 0 list.now result }
 {
-    stands(words[4 * k + 2], row) & (limit < apart_of(place, rank))
-}
-
-fn mark_out(
-    words: &[u32],
-    count: usize,
-    row: u32,
-    limit: u32,
-    place: &[u32],
-    rank: &[u32],
-    marks: &mut [u32],
-)
-    requires { Ranked words.now count place.now rank.now marks.old }
-    ensures { Added count (out_at words.now row limit place.now rank.now)
-        marks.old marks.new }
-{
-    let mut k: usize = count;
-    while 0 < k {
-        k -= 1;
-        if is_out(words, row, limit, k, place[k], rank[k]) {
-            marks[k] = 1;
-        }
+    let mut place = [list.len() as u32; Job::MAX_CELLS];
+    for i in (0..list.len()).rev() {
+        place[list[i] as usize] = i as u32;
     }
+    place
 }
 
-// The places from the left are those in `order`, and the places in file order are counted anew.
+// Cells of the row that are too far from their place in file order.
 fn mark_row_places(
     words: &[u32],
     count: usize,
     row: u32,
     limit: u32,
     order: &[u32],
-    start: usize,
     marks: &mut [u32],
 )
-    requires { RowOrder words.now count row order.now start marks.old }
+    requires { ByRow words.now count row order.now marks.old }
     ensures { Added count
         (out_in words.now row limit
         (order_in words.now row count) (cells_in words.now row 0 count))
@@ -100,11 +71,13 @@ fn mark_row_places(
 {
     let mut cells = [0u32; Job::MAX_CELLS];
     let first = row_cells(words, count, row, &mut cells);
-    let mut place = [AWAY; Job::MAX_CELLS];
-    places(order, start, &mut place);
-    let mut rank = [AWAY; Job::MAX_CELLS];
-    places(&cells, first, &mut rank);
-    mark_out(words, count, row, limit, &place, &rank, marks);
+    let place = places_of(order);
+    let rank = places_of(&cells[first..]);
+    mark_each(
+        count,
+        marks,
+        |k| stands(words[4 * k + 2], row) && limit < place[k].abs_diff(rank[k]),
+    );
 }
 
 // Rule 6.
@@ -113,16 +86,14 @@ pub fn mark_places(
     count: usize,
     limit: u32,
     order0: &[u32],
-    start0: usize,
     order1: &[u32],
-    start1: usize,
     marks: &mut [u32],
 )
-    requires { ByOrder words.now count order0.now start0 order1.now start1 marks.old }
+    requires { ByOrder words.now count order0.now order1.now marks.old }
     ensures { Added count (out_any words.now count limit) marks.old marks.new }
 {
-    mark_row_places(words, count, 0, limit, order0, start0, marks);
-    mark_row_places(words, count, 1, limit, order1, start1, marks);
+    mark_row_places(words, count, 0, limit, order0, marks);
+    mark_row_places(words, count, 1, limit, order1, marks);
 }
 
 // Cell k is marked if it breaks a rule.
@@ -135,20 +106,18 @@ fn mark_if(breaks: bool, k: usize, marks: &mut [u32])
     }
 }
 
-// The first cell with one empty site before it, and the last with one after it; the row's cells from left to right
-// are the entries of `order` from `at` on. An empty row is free.
-fn mark_row_ends(words: &[u32], order: &[u32], at: usize, sites: u32, marks: &mut [u32])
-    requires { AlongRow words.now order.now at marks.old }
-    ensures { Added max_cells (at_end_in words.now sites (drop at order.now))
-        marks.old marks.new }
+// The first cell with one empty site before it, and the last with one after it. An empty row is free.
+fn mark_row_ends(words: &[u32], order: &[u32], sites: u32, marks: &mut [u32])
+    requires { AlongRow words.now order.now marks.old }
+    ensures { Added max_cells (at_end_in words.now sites order.now) marks.old marks.new }
 {
-    if at == Job::MAX_CELLS {
+    if order.is_empty() {
         return;
     }
-    let first = entry(order, at);
+    let first = order[0] as usize;
     let before = gap_between(0, words[4 * first]);
     mark_if(before == FORBIDDEN_GAP, first, marks);
-    let last = entry(order, LAST);
+    let last = order[order.len() - 1] as usize;
     let after = gap_between(words[4 * last + 1], sites);
     mark_if(after == FORBIDDEN_GAP, last, marks);
 }
@@ -159,15 +128,13 @@ pub fn mark_ends(
     count: usize,
     sites: u32,
     order0: &[u32],
-    start0: usize,
     order1: &[u32],
-    start1: usize,
     marks: &mut [u32],
 )
-    requires { ByOrder words.now count order0.now start0 order1.now start1 marks.old }
+    requires { ByOrder words.now count order0.now order1.now marks.old }
     ensures { Added count (at_end_any words.now count sites)
         marks.old marks.new }
 {
-    mark_row_ends(words, order0, start0, sites, marks);
-    mark_row_ends(words, order1, start1, sites, marks);
+    mark_row_ends(words, order0, sites, marks);
+    mark_row_ends(words, order1, sites, marks);
 }

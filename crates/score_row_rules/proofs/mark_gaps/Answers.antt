@@ -8,8 +8,8 @@ use Rattle.score_row_rules.proofs.mark_gaps.Goals as goal
 pub returns : goal.returns
 unfolding near_any
 returns c =
-    let o = c.requires.rows in
+    let r = c.requires in
     let w = c.args.words.now in
     let n = c.args.count in
-    added-both n max_cells max_cells (near_in w (order_in w 0 n)) (near_in w (order_in w 1 n)) c.args.marks.now _ _ o.cells.few o.cells.few
-    (rw o.row0.entries at c.mark_row_gaps.ensures) (rw o.row1.entries at c.mark_row_gaps-2.ensures)
+    added-both n max_cells max_cells (near_in w (order_in w 0 n)) (near_in w (order_in w 1 n)) c.args.marks.now _ _ r.cells.few r.cells.few
+    (rw r.row0.same at c.mark_row_gaps.ensures) (rw r.row1.same at c.mark_row_gaps-2.ensures)

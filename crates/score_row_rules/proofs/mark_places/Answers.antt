@@ -10,7 +10,6 @@ use Rattle.score_row_rules.proofs.mark_places.Goals as goal
 pub returns : goal.returns
 unfolding out_any
 returns c =
-    let o = c.requires.rows in
     let w = c.args.words.now in
     let n : ℕ = c.args.count in
     let h : n ≤ n = omega arith in

@@ -1,43 +1,26 @@
--- Both places are counted on from the same entry, so that they are as far apart as in the lists.
-use Prim.Native.Nat.{ℕ, ◌+◌, ◌<◌, ◌≤◌}
-use mathlib.Core.Path.{sym, ap, ap₂, ◌∙◌}
-use native.Mathlib.Omega.{arith}
+-- The ranks are the places in the row's cells, which end their array.
+use Rattle.std.proofs.Common.{rules, tests, arith, ◌≡◌, ◌-◌, ap, ◌∙◌, length, take, length-drop}
+use Rattle.std.proofs.Math.Seq.{take-length}
 use Rattle.definition.specs.Job.{max_cells}
-use Rattle.definition.specs.Rules.{place_in}
-use Rattle.score_order.specs.Words.{order_in, cells_in, tail-room}
-use Rattle.score_order.specs.Arrays.{zeros_room, away-placed}
-use Rattle.score_cell_rules.specs.Marks.{added-below}
+use Rattle.score_order.specs.Arrays.{zeros_room}
+use Rattle.score_order.specs.Words.{order_in, cells_in}
+use Rattle.score_cell_rules.specs.Marks.{tried-added}
 use Rattle.score_row_rules.specs.Tests.{out_in}
-use Rattle.score_row_rules.specs.Out.{same_start, out-same}
+use Rattle.score_row_rules.specs.Out.{out-placed}
 use Rattle.score_row_rules.proofs.mark_row_places.Goals as goal
 
 pub row_cells-first-requires : goal.row_cells-first-requires
 row_cells-first-requires c = record { cells = c.requires.cells; room = zeros_room }
 
-pub places-requires : goal.places-requires
-places-requires c =
-    let t = c.requires.tail in
-    record { start = t.start; listed = tail-room t; none = away-placed }
-
-pub places-requires-2 : goal.places-requires-2
-places-requires-2 c =
-    let t = c.row_cells-first.ensures in
-    record { start = t.start; listed = tail-room t; none = away-placed }
-
-below : (k n : ℕ) → k < n → n ≤ max_cells → k < max_cells
-below k n h g = omega arith
-
 pub returns : goal.returns
 returns c =
     let w = c.args.words.now in
-    let t = c.requires.tail in
-    let u = c.row_cells-first.ensures in
-    let p = c.places.ensures in
-    let q = c.places-2.ensures in
     let o = order_in w c.args.row c.args.count in
     let f = cells_in w c.args.row 0 c.args.count in
-    let e = same_start w c.args.row c.args.count c.args.start c.row_cells-first.result _ _ t u in
-    added-below c.args.count _ (out_in w c.args.row c.args.limit o f) c.args.marks.now _
-    (λ k h. let b = below k c.args.count h c.requires.cells.few in
-    out-same w c.args.row c.args.limit c.args.start o f _ _ k (p.at_place k b ∙ ap (λ l. c.args.start + place_in k l) t.entries)
-    (q.at_place k b ∙ ap₂ (λ x l. x + place_in k l) (sym e) u.entries)) c.mark_out.ensures
+    let p = rw c.requires.ordered.same at c.places_of-place.ensures in
+    let u = c.row_cells-first.ensures in
+    let many : max_cells - c.row_cells-first.result ≡ length f = rw (← u.entries, length-drop) (omega (arith, u.long)) in
+    let all : take (max_cells - c.row_cells-first.result) f ≡ f = ap (λ m. take m f) many ∙ take-length f in
+    let q = rw all at (rw u.entries at c.places_of-rank.ensures) in
+    tried-added (out_in w c.args.row c.args.limit o f) c.mark_each.ensures
+    (λ k b h t. out-placed w c.args.row c.args.limit o f _ _ k (omega arith) p q b (search (rules, tests)))
