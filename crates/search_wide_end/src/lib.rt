@@ -27,20 +27,13 @@ fn run_on(
     ensures { Ran (deck_in row.now sizes) sizes.reordering lanes i
         (sizes.cells - i) result store.old store.new table.new }
 {
-    let mut from: usize = 0;
-    let mut d: usize = 0;
-    while i + d < sizes.cells {
-        let cells = i + d;
-        let layer = Block {
-            lanes,
-            cells,
-            at: from,
-        };
-        search_wide_layer::step_layer(table, store, row, sizes, layer, search_store::LAYER - from);
-        from = search_store::LAYER - from;
-        d += 1;
+    let mut at: usize = 0;
+    for cells in i..sizes.cells {
+        let layer = Block { lanes, cells, at };
+        at = search_store::LAYER - at;
+        search_wide_layer::step_layer(table, store, row, sizes, layer, at);
     }
-    from
+    at
 }
 
 // Whether state q's cell can be the last of the row.
@@ -96,10 +89,8 @@ fn least_poses(
     ensures { Lowered (least_poses_in row.now k store.now at q poses) lanes
         acc.old acc.new }
 {
-    let mut a: usize = 0;
-    while a < poses {
+    for a in 0..poses {
         least_pose(acc, store, row, at + q * search_store::STATE, k, a, lanes);
-        a += 1;
     }
 }
 
@@ -137,10 +128,8 @@ fn least_states(
     ensures { Lowered (least_states_in (deck_in row.now sizes) sizes.reordering
         store.now at sizes.states) lanes acc.old acc.new }
 {
-    let mut q: usize = 0;
-    while q < sizes.states {
+    for q in 0..sizes.states {
         least_state(acc, store, row, sizes, lanes, at, q);
-        q += 1;
     }
 }
 

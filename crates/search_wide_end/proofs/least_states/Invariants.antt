@@ -1,5 +1,4 @@
 -- After q turns the lanes are lowered to the states below q.
-use Prim.Native.Nat.{◌-◌, ◌≤◌}
 use Rattle.search_lanes.specs.Lanes.{Lowered}
 use Rattle.search_row.specs.Words.{deck_in}
 use Rattle.search_wide_end.specs.Ends.{least_states_in}
@@ -7,8 +6,4 @@ use Rattle.search_wide_end.proofs.least_states.Given as goal
 
 abbrev pub invariant-loop-q : goal.invariant-loop-q
 invariant-loop-q l =
-    (l.q ≤ l.sizes.states) × Lowered (least_states_in (deck_in l.row l.sizes) l.sizes.reordering l.store l.at l.q) l.lanes l.initial.acc l.acc
-
-abbrev pub decreases-loop-q : goal.decreases-loop-q
-decreases-loop-q l =
-    l.sizes.states - l.q
+    Lowered (least_states_in (deck_in l.row l.sizes) l.sizes.reordering l.store l.at l.q) l.lanes l.initial.acc l.acc

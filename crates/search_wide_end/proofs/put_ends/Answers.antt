@@ -16,9 +16,6 @@ put_lanes-requires c =
     let w = c.least_states.ensures in
     record { low = c.requires.given.low; room = c.requires.room; least = record { long = w.long; low = lowered_low w none-low }; narrow = c.requires.given.narrow }
 
-pub shape_of-store : goal.shape_of-store
-shape_of-store c = c.put_lanes.ensures.long
-
 pub returns : goal.returns
 returns c =
     let w = c.least_states.ensures in

@@ -1,5 +1,4 @@
 -- The three cases of the cost.
-use Prim.Native.Nat.{◌≤◌}
 use mathlib.Core.Path.{refl, ◌∙◌}
 use native.Mathlib.Omega.{arith}
 use lib.ListN.{get_or}
@@ -8,14 +7,9 @@ use Rattle.theory_tables.specs.Steps.{B}
 use Rattle.search_lanes.specs.Lanes.{always}
 use Rattle.search_lanes.specs.Laws.{first-closed}
 use Rattle.search_row.specs.Words.{deck_in}
-use Rattle.search_wide_segment.specs.Laws.{buffer-low, outside-join, outside-layers}
+use Rattle.search_wide_segment.specs.Laws.{outside-join, outside-layers}
 use Rattle.search_wide_end.specs.Laws.{ran_cost, row-outside, end-words}
 use Rattle.search_wide_end.proofs.segment_end.Goals as goal
-use Rattle.search_wide_end.proofs.segment_end.Goals.{Else-i-sizes-2}
-
--- past both tests the row has room for what was placed
-left : (c : Else-i-sizes-2) → (c.args.first.cells ≤ c.args.sizes.cells)
-left c = omega arith
 
 pub returns-then-i-sizes : goal.returns-then-i-sizes
 returns-then-i-sizes c =
@@ -23,42 +17,12 @@ returns-then-i-sizes c =
     end-words {g = always B} g.lent (first-closed (omega (arith, g.room.room)) g.given.low (λ l h. refl))
     (λ f l. cost-past (deck_in c.args.row.now c.args.sizes) c.args.sizes.reordering f c.args.first.cells (get_or c.args.starts.now l 0) (omega arith))
 
-pub put_lanes-requires : goal.put_lanes-requires
-put_lanes-requires c =
-    let g = c.requires.segment in
-    record { low = g.given.low; room = g.room; least = c.requires.pays; narrow = g.given.narrow }
-
 pub returns-then-i-sizes-2 : goal.returns-then-i-sizes-2
 returns-then-i-sizes-2 c =
     let s = c.requires.pays in
     end-words c.requires.segment.lent c.put_lanes.ensures
     (λ f l. omega
     (arith, cost-done (deck_in c.args.row.now c.args.sizes) c.args.sizes.reordering f c.args.first.cells (get_or c.args.starts.now l 0) (omega arith), s.low.word l))
-
-pub run_on-at-requires : goal.run_on-at-requires
-run_on-at-requires c =
-    let g = c.requires.segment in
-    record { lent = g.lent; given = g.given; room = omega (arith, g.room.over, g.room.room); left = left (goal.at-run_on-at-requires c).Else-i-sizes-2 }
-
-pub put_ends-requires : goal.put_ends-requires
-put_ends-requires c =
-    let g = c.requires.segment.given in
-    let v = c.run_on-at.ensures in
-    let b = buffer-low v.running.buffer in
-    record {
-      given = record {
-        grounded = g.grounded;
-        low = v.low;
-        narrow = g.narrow;
-        early = omega (arith, g.grounded.size);
-        room = omega (arith, v.frame.long, c.requires.segment.room.over, c.requires.segment.room.room);
-      };
-      room = record { over = c.requires.segment.room.over; room = omega (arith, v.frame.long, c.requires.segment.room.room) };
-    }
-
-pub shape_of-store : goal.shape_of-store
-shape_of-store c =
-    c.put_ends.ensures.long ∙ c.run_on-at.ensures.frame.long
 
 pub returns : goal.returns
 returns c =
@@ -70,5 +34,5 @@ returns c =
           (row-outside w);
       low = w.low;
       lent = v.lent;
-      right = λ l h. w.words l h ∙ ran_cost l (get_or c.args.starts.now l 0) (left (goal.at-returns c).Else-i-sizes-2) v.running h;
+      right = λ l h. w.words l h ∙ ran_cost l (get_or c.args.starts.now l 0) (omega arith) v.running h;
     }
