@@ -1,6 +1,6 @@
 -- Laws of kept layers: one layer more, fewer layers; and that layers depend only on the entries of the first.
-use Rattle.std.specs.Prelude.{ℕ, zero, suc, ◌+◌, ◌*◌, ◌≤◌, ◌<◌, ◌≡◌, List, get_or}
-use Rattle.std.proofs.Common.{sym, ap, ◌∙◌, arith}
+use Rattle.std.specs.Prelude.{ℕ, zero, suc, ◌+◌, ◌*◌, ◌-◌, ◌≤◌, ◌<◌, ◌≡◌, List, get_or}
+use Rattle.std.proofs.Common.{sym, ap, subst, ◌∙◌, arith}
 use Rattle.std.proofs.Math.Decide.{ℕ_discrete}
 use Rattle.search_store.specs.Map.{kept_at, kept_from, pages_from, max_kept, max_poses}
 use Rattle.theory_tables.specs.Steps.{Deck, Layer, state_count, layers, next_layer, pose_slots}
@@ -36,17 +36,17 @@ unfolding layers
 layers-more D R f i j q a = let z : j + 1 ≡ suc j = omega arith in ap (λ (k : ℕ). layers D R f i k q a) z
 
 -- the first layer is there
-pub kept-none : (D : Deck) (R i : ℕ) {st : List ℕ} → Low st → SegmentKept D R i (i + 0) st st
+pub kept-none : (D : Deck) (R i : ℕ) {st : List ℕ} → Low st → SegmentKept D R i i st st
 unfolding layers
 kept-none D R i {st} w =
     record { frame = frame-refl _ _ st; low = w; kept = record { right = λ j q a h x y. go j q a h } }
   where
-    go : (j q a : ℕ) → i + j ≤ i + 0 → kept_in st (i + j) q a ≡ layers D R (kept_in st i) i j q a
+    go : (j q a : ℕ) → i + j ≤ i → kept_in st (i + j) q a ≡ layers D R (kept_in st i) i j q a
     go zero q a h = ap (λ (k : ℕ). get_or st k 0) (omega arith)
     go (suc j) q a h = absurd (omega arith)
 
 module _ (D : Deck) (R i : ℕ) (some : 0 < i) (few : D.poses ≤ max_poses) (statesFew : state_count R ≤ 12) where
-  pub kept_more :
+  kept_more :
       {count from : ℕ} {old mid new : List ℕ} (j : ℕ)
       → i + (j + 1) ≤ max_kept → count ≡ state_count R → from ≡ kept_at (i + j) → SegmentKept D R i (i + j) old mid
       → Stepped D R count (i + j) from mid new
@@ -79,3 +79,15 @@ module _ (D : Deck) (R i : ℕ) (some : 0 < i) (few : D.poses ≤ max_poses) (st
       kept k q a x y h (yes z) = rw z (next q a x y)
       kept k q a x y h (no z) =
           w.frame.low (kept_at (i + k) + q * pose_slots + a) (omega arith) ∙ s.kept.right k q a (omega arith) x y
+
+  pub kept-next :
+      {count from cells : ℕ} {old mid new : List ℕ}
+      → i ≤ cells → cells + 1 ≤ max_kept → count ≡ state_count R → from ≡ kept_at cells → SegmentKept D R i cells old mid
+      → Stepped D R count cells from mid new
+      → SegmentKept D R i (cells + 1) old new
+  kept-next {count} {from} {cells} {old} {mid} {new} h l n e s w =
+      let x : cells ≡ i + (cells - i) = omega arith in
+      let y : i + (cells - i + 1) ≡ cells + 1 = omega arith in
+      subst (λ (m : ℕ). SegmentKept D R i m old new) y
+      (kept_more (cells - i) (omega arith) n (omega arith) (subst (λ (m : ℕ). SegmentKept D R i m old mid) x s)
+      (subst (λ (m : ℕ). Stepped D R count m from mid new) x w))

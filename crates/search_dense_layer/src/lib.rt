@@ -33,8 +33,7 @@ struct Block {
 // A state of the next layer, whose sources are sought in this one.
 #[derive(Clone, Copy)]
 struct Sought {
-    cells: usize,
-    at: usize,
+    layer: Block,
     state: usize,
 }
 
@@ -52,10 +51,8 @@ fn lower_four(
     ensures { Lowered (four_of t x pays.now p) variant_words words.old
         words.new }
 {
-    let mut v: usize = 0;
-    while v < 4 {
+    for v in 0..4 {
         words[t * 4 + v] = search_lanes::lesser(words[t * 4 + v], x + pays[p + v]);
-        v += 1;
     }
 }
 
@@ -125,10 +122,8 @@ fn from_poses(
         (poses_at store.now source.at) poses) source.buckets near.old near.new
         apart.old apart.new far.old far.new }
 {
-    let mut b: usize = 0;
-    while b < poses {
+    for b in 0..poses {
         from_pose(near, apart, far, store, row, pays, source, b);
-        b += 1;
     }
 }
 
@@ -139,10 +134,8 @@ fn run_up(far: &mut [u32; search_store::BUCKET_ROWS])
     requires { FarBucket far.old }
     ensures { FarRunUp 15 far.old far.new }
 {
-    let mut t: usize = 0;
-    while t < 14 {
+    for t in 0..14 {
         far[t + 1] = search_lanes::lesser(far[t + 1], far[t]);
-        t += 1;
     }
 }
 
@@ -176,11 +169,9 @@ fn found_four(
     ensures { Written (found_four row.now near.now apart.now
         far.now k e) 0 4 words.old words.new }
 {
-    let mut v: usize = 0;
-    while v < 4 {
+    for v in 0..4 {
         let x = row[k * search_row::CELL + (e * 4 + v)] + found(near, apart, far, e, v);
         words[v] = search_lanes::lesser(x, search_lanes::NONE);
-        v += 1;
     }
 }
 
@@ -201,10 +192,8 @@ fn put_four(
 {
     let mut words = [0u32; 4];
     found_four(&mut words, row, near, apart, far, k, e);
-    let mut v: usize = 0;
-    while v < 4 {
+    for v in 0..4 {
         store[to + e * 4 + v] = words[v];
-        v += 1;
     }
 }
 
@@ -223,10 +212,8 @@ fn put(
     ensures { Written (found_of row.now near.now apart.now
         far.now k) to ((poses + 3) / 4 * 4) store.old store.new }
 {
-    let mut e: usize = 0;
-    while e * 4 < poses {
+    for e in 0..(poses + 3) / 4 {
         put_four(store, row, near, apart, far, to, k, e);
-        e += 1;
     }
 }
 
@@ -266,23 +253,23 @@ fn from_source(
     sought: Sought,
     p: usize,
 )
-    requires { ThinFrom near.old apart.old far.old row.now store.now sizes sought.cells sought.at
+    requires { ThinFrom near.old apart.old far.old row.now store.now sizes sought.layer.cells sought.layer.at
         sought.state p }
     ensures { ThinGathered (one_state row.now (deck_in row.now sizes) sizes.reordering
-        (thin_in store.now sought.at) sought.cells sought.state p)
-        (buckets_in row.now (last_at sizes.reordering (suc sought.cells) sought.state))
+        (thin_in store.now sought.layer.at) sought.layer.cells sought.state p)
+        (buckets_in row.now (last_at sizes.reordering (suc sought.layer.cells) sought.state))
         near.old near.new apart.old apart.new far.old
         far.new }
 {
-    if !search_row::is_source(row, sizes, sought.cells, sought.state, p) {
+    if !search_row::is_source(row, sizes, sought.layer.cells, sought.state, p) {
         return;
     }
-    let k = search_row::last_at(row, sizes, sought.cells, p);
-    let m = search_row::last_at(row, sizes, sought.cells + 1, sought.state);
+    let k = search_row::last_at(row, sizes, sought.layer.cells, p);
+    let m = search_row::last_at(row, sizes, sought.layer.cells + 1, sought.state);
     let buckets = search_buckets::buckets_of(row, m);
     let mut pay = [0u32; search_buckets::PAY_WORDS];
     search_buckets::fill_pays(&mut pay, row, k, m, buckets);
-    let at = sought.at + p * search_store::POSE_SLOTS;
+    let at = sought.layer.at + p * search_store::POSE_SLOTS;
     let source = Source {
         at,
         left: k,
@@ -302,18 +289,16 @@ fn gather(
     sizes: Sizes,
     sought: Sought,
 )
-    requires { ThinGathering near.old apart.old far.old row.now store.now sizes sought.cells
-        sought.at sought.state }
+    requires { ThinGathering near.old apart.old far.old row.now store.now sizes sought.layer.cells
+        sought.layer.at sought.state }
     ensures { ThinGathered (by_states row.now (deck_in row.now sizes) sizes.reordering
-        (thin_in store.now sought.at) sought.cells sought.state sizes.states)
-        (buckets_in row.now (last_at sizes.reordering (suc sought.cells) sought.state))
+        (thin_in store.now sought.layer.at) sought.layer.cells sought.state sizes.states)
+        (buckets_in row.now (last_at sizes.reordering (suc sought.layer.cells) sought.state))
         near.old near.new apart.old apart.new far.old
         far.new }
 {
-    let mut p: usize = 0;
-    while p < sizes.states {
+    for p in 0..sizes.states {
         from_source(near, apart, far, store, row, sizes, sought, p);
-        p += 1;
     }
 }
 
@@ -327,11 +312,7 @@ fn target_there(store: &mut [u32], row: &[u32], sizes: Sizes, layer: Block, q: u
     let mut near = [search_lanes::NONE; VARIANT_WORDS];
     let mut apart = [search_lanes::NONE; VARIANT_WORDS];
     let mut far = [search_lanes::NONE; search_store::BUCKET_ROWS];
-    let sought = Sought {
-        cells: layer.cells,
-        at: layer.at,
-        state: q,
-    };
+    let sought = Sought { layer, state: q };
     gather(&mut near, &mut apart, &mut far, store, row, sizes, sought);
     run_up(&mut far);
     let to = layer.at + search_store::KEPT_LAYER + q * search_store::POSE_SLOTS;
@@ -363,10 +344,8 @@ pub fn step(store: &mut [u32], row: &[u32], sizes: Sizes, i: usize, from: usize)
         store.old store.new }
 {
     let layer = Block { cells: i, at: from };
-    let mut q: usize = 0;
-    while q < sizes.states {
+    for q in 0..sizes.states {
         put_state(store, row, sizes, layer, q);
-        q += 1;
     }
 }
 
@@ -378,10 +357,8 @@ pub fn segment_kept(store: &mut [u32], row: &[u32], sizes: Sizes, i: usize, end:
     ensures { SegmentKept (deck_in row.now sizes) sizes.reordering i end store.old
         store.new }
 {
-    let mut j: usize = 0;
-    while i + j < end {
-        let from = search_store::kept_at(i + j);
-        step(store, row, sizes, i + j, from);
-        j += 1;
+    for cells in i..end {
+        let from = search_store::kept_at(cells);
+        step(store, row, sizes, cells, from);
     }
 }

@@ -16,20 +16,24 @@ use Rattle.search_dense_layer.proofs.from_source.Goals.{After-buckets_of-buckets
 
 -- past the test the state is a source
 source : (c : Else-not-is_source) → (is_source (deck_in c.args.row.now c.args.sizes) c.args.sizes.reordering
-    c.args.sought.cells c.args.sought.state c.args.p ≡ true)
+    c.args.sought.layer.cells c.args.sought.state c.args.p ≡ true)
 source c = sym c.is_source.ensures ∙ c.if-not-is_source.false
 
 -- both cells stand in the row
 left : (c : After-last_at-m) → c.last_at-k.result < max_cells
 left c =
+    let z = c.args.sizes in
+    let s = c.args.sought in
+    let source : is_source (deck_in c.args.row.now z) z.reordering s.layer.cells s.state c.args.p ≡ true =
+    sym c.is_source.ensures ∙ c.if-not-is_source.false in
     omega (
       arith,
       c.last_at-k.ensures,
-      source-size c.args.row.now c.args.sizes.cells c.args.sizes.poses c.args.sizes.reordering c.args.sought.cells c.args.sought.state c.args.p ((let it : (is_source (deck_in c.args.row.now c.args.sizes) c.args.sizes.reordering c.args.sought.cells c.args.sought.state c.args.p ≡ true) = sym c.is_source.ensures ∙ c.if-not-is_source.false in it)),
+      source-size c.args.row.now z.cells z.poses z.reordering s.layer.cells s.state c.args.p source,
       c.requires.gathering.sought.given.grounded.size,
     )
 
-here : (c : After-last_at-m) → (c.last_at-m.result ≡ last_at c.args.sizes.reordering (suc c.args.sought.cells) c.args.sought.state)
+here : (c : After-last_at-m) → (c.last_at-m.result ≡ last_at c.args.sizes.reordering (suc c.args.sought.layer.cells) c.args.sought.state)
 here c = omega (arith, c.last_at-m.ensures)
 
 right : (c : After-last_at-m) → c.last_at-m.result < max_cells
@@ -37,15 +41,17 @@ right c =
     omega (
       arith,
       here c,
-      there-size c.args.sizes.cells c.args.sizes.reordering (suc c.args.sought.cells) c.args.sought.state
+      there-size c.args.sizes.cells c.args.sizes.reordering (suc c.args.sought.layer.cells) c.args.sought.state
           c.requires.gathering.sought.target.there,
       c.requires.gathering.sought.given.grounded.size,
     )
 
 -- how many buckets the target needs
-buckets : (c : After-buckets_of-buckets) → (c.buckets_of-buckets.result ≡ buckets_in c.args.row.now (last_at c.args.sizes.reordering (suc c.args.sought.cells) c.args.sought.state))
+buckets : (c : After-buckets_of-buckets) → (c.buckets_of-buckets.result ≡ buckets_in c.args.row.now (last_at c.args.sizes.reordering (suc c.args.sought.layer.cells) c.args.sought.state))
 buckets c =
-    c.buckets_of-buckets.ensures ∙ ap (buckets_in c.args.row.now) ((let it : (c.last_at-m.result ≡ last_at c.args.sizes.reordering (suc c.args.sought.cells) c.args.sought.state) = omega (arith, c.last_at-m.ensures) in it))
+    let m : c.last_at-m.result ≡ last_at c.args.sizes.reordering (suc c.args.sought.layer.cells) c.args.sought.state =
+    omega (arith, c.last_at-m.ensures) in
+    c.buckets_of-buckets.ensures ∙ ap (buckets_in c.args.row.now) m
 
 few : (c : After-buckets_of-buckets) → (5 ≤ c.buckets_of-buckets.result) × (c.buckets_of-buckets.result ≤ 9)
 few c =
@@ -56,16 +62,12 @@ pub returns-then-not-is_source : goal.returns-then-not-is_source
 returns-then-not-is_source c =
     let D = deck_in c.args.row.now c.args.sizes in
     let away = sym c.is_source.ensures ∙ c.if-not-is_source.true in
-    gathered_none (buckets_in c.args.row.now (last_at c.args.sizes.reordering (suc c.args.sought.cells) c.args.sought.state)) c.requires.gathering.arrays
+    gathered_none (buckets_in c.args.row.now (last_at c.args.sizes.reordering (suc c.args.sought.layer.cells) c.args.sought.state)) c.requires.gathering.arrays
     (λ v t h. omega (
       arith,
-      state-out c.args.row.now D c.args.sizes.reordering (thin_in c.args.store.now c.args.sought.at) c.args.sought.cells
+      state-out c.args.row.now D c.args.sizes.reordering (thin_in c.args.store.now c.args.sought.layer.at) c.args.sought.layer.cells
           c.args.sought.state c.args.p v t away,
     ))
-
-pub buckets_of-buckets-requires : goal.buckets_of-buckets-requires
-buckets_of-buckets-requires c =
-    record { words = c.requires.gathering.sought.given.grounded.words; cell = right (goal.at-buckets_of-buckets-requires c).After-last_at-m }
 
 pub fill_pays-requires : goal.fill_pays-requires
 fill_pays-requires c =
@@ -97,11 +99,11 @@ from_poses-requires c =
 pub returns : goal.returns
 returns c =
     let D = deck_in c.args.row.now c.args.sizes in
-    let f = thin_in c.args.store.now c.args.sought.at in
+    let f = thin_in c.args.store.now c.args.sought.layer.at in
     let e = buckets (goal.at-returns c).After-buckets_of-buckets in
     let m = here (goal.at-returns c).After-last_at-m in
     let w = gathered_ext c.from_poses.ensures (few (goal.at-returns c).After-buckets_of-buckets).0
     (λ v t h.
-    state_in_lem c.args.row.now D c.args.sizes.reordering f c.args.sought.cells c.args.sought.state c.args.p v t (source (goal.at-returns c).Else-not-is_source)
+    state_in_lem c.args.row.now D c.args.sizes.reordering f c.args.sought.layer.cells c.args.sought.state c.args.p v t (source (goal.at-returns c).Else-not-is_source)
     ∙ ap₂ (λ (x y : ℕ). by_poses c.args.row.now x y (f c.args.p) c.args.sizes.poses v t) (sym c.last_at-k.ensures) (sym m)) in
     rw e at w

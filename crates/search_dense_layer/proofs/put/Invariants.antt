@@ -1,12 +1,8 @@
 -- Each turn writes the poses of one site more.
-use Prim.Native.Nat.{◌+◌, ◌*◌, ◌-◌, ◌≤◌}
+use Prim.Native.Nat.{◌*◌}
 use Rattle.search_lanes.specs.Store.{Written}
 use Rattle.search_dense_layer.specs.Thin.{found_of}
 use Rattle.search_dense_layer.proofs.put.Given as goal
 
 abbrev pub invariant-loop-e : goal.invariant-loop-e
-invariant-loop-e l =
-    (l.e * 4 ≤ l.poses + 3) × Written (found_of l.row l.near l.apart l.far l.k) l.to (l.e * 4) l.initial.store l.store
-
-abbrev pub decreases-loop-e : goal.decreases-loop-e
-decreases-loop-e l = l.poses - l.e * 4
+invariant-loop-e l = Written (found_of l.row l.near l.apart l.far l.k) l.to (l.e * 4) l.initial.store l.store

@@ -1,12 +1,9 @@
 -- Each turn writes one pose more of the four that were found.
-use Prim.Native.Nat.{◌+◌, ◌*◌, ◌-◌, ◌≤◌}
+use Prim.Native.Nat.{◌+◌, ◌*◌}
 use Rattle.search_lanes.specs.Store.{Written}
 use Rattle.search_dense_layer.specs.Thin.{found_four}
 use Rattle.search_dense_layer.proofs.put_four.Given as goal
 
 abbrev pub invariant-loop-v : goal.invariant-loop-v
 invariant-loop-v l =
-    (l.v ≤ 4) × Written (found_four l.row l.near l.apart l.far l.k l.e) (l.to + l.e * 4) l.v l.initial.store l.store
-
-abbrev pub decreases-loop-v : goal.decreases-loop-v
-decreases-loop-v l = 4 - l.v
+    Written (found_four l.row l.near l.apart l.far l.k l.e) (l.to + l.e * 4) l.v l.initial.store l.store

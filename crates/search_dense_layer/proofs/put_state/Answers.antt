@@ -9,11 +9,6 @@ use Rattle.search_dense_layer.specs.Thin.{thin_in}
 use Rattle.search_dense_layer.specs.Found.{put-words}
 use Rattle.search_dense_layer.proofs.put_state.Goals as goal
 
-pub fill-requires : goal.fill-requires
-fill-requires c =
-    let g = c.requires.given in
-    record { words = record { room = omega (arith, g.room, g.grounded.all, g.grounded.coded.few); low = g.low }; word = omega arith }
-
 pub returns-then-not-is_there : goal.returns-then-not-is_there
 returns-then-not-is_there c =
     let D = deck_in c.args.row.now c.args.sizes in
@@ -22,14 +17,3 @@ returns-then-not-is_there c =
     put-words D c.args.sizes.reordering c.args.layer.cells c.args.layer.at c.args.q c.fill.ensures (omega (arith, c.requires.given.grounded.few))
     (omega arith)
     (λ b l. next-away D c.args.sizes.reordering (thin_in c.args.store.now c.args.layer.at) c.args.layer.cells c.args.q b u)
-
-pub target_there-requires : goal.target_there-requires
-target_there-requires c =
-    let t = sym c.is_there.ensures ∙ c.if-not-is_there.false in
-    record {
-      given = c.requires.given;
-      target = record {
-        state = omega (arith, c.requires.given.grounded.all);
-        there = ap (λ (j : ℕ). there_in c.args.sizes.cells c.args.sizes.reordering j c.args.q) (sym (add-one c.args.layer.cells)) ∙ t;
-      };
-    }

@@ -43,11 +43,6 @@ pub gather-requires : goal.gather-requires
 gather-requires c =
     record { arrays = lent_none; sought = c.requires }
 
-pub run_up-requires : goal.run_up-requires
-run_up-requires c =
-    let l = lent-on lent_none c.gather.ensures in
-    record { long = l.far_long; low = l.far_low }
-
 pub put_found-requires : goal.put_found-requires
 put_found-requires c =
     let g = c.requires.given in
