@@ -33,11 +33,9 @@ fn spread(store: &mut [u32], from: usize, at: usize, rows: usize)
     ensures { RowsSaid (spread_from store.old from) at rows 1 store.old
         store.new }
 {
-    let mut a: usize = 0;
-    while a < rows {
+    for a in 0..rows {
         let x = store[from + a];
         search_lanes::put_one(store, at, a, x);
-        a += 1;
     }
 }
 
@@ -68,10 +66,8 @@ fn put_states(store: &mut [u32], row: &[u32], sizes: Sizes, tall: usize, costs: 
     ensures { Filled (comes_in sizes.reordering tall store.old) 1 sizes.poses costs
         sizes.states store.old store.new }
 {
-    let mut q: usize = 0;
-    while q < sizes.states {
+    for q in 0..sizes.states {
         put_state(store, row, sizes, tall, costs, q);
-        q += 1;
     }
 }
 
@@ -94,13 +90,8 @@ fn least_poses(store: &[u32], row: &[u32], at: usize, q: usize, k: usize, poses:
     ensures { result ≡ least_poses (back_in row.now k) (thin_in store.now at) q poses }
 {
     let mut x = search_lanes::NONE;
-    let mut a: usize = 0;
-    while a < poses {
-        x = search_lanes::least(
-            x,
-            store[at + q * search_store::POSE_SLOTS + a] + search_row::back(row, k, a),
-        );
-        a += 1;
+    for a in 0..poses {
+        x = x.min(store[at + q * search_store::POSE_SLOTS + a] + search_row::back(row, k, a));
     }
     x
 }
@@ -128,10 +119,8 @@ fn least_states(store: &[u32], row: &[u32], sizes: Sizes, at: usize) -> u32
         (thin_in store.now at) sizes.states }
 {
     let mut x = search_lanes::NONE;
-    let mut q: usize = 0;
-    while q < sizes.states {
-        x = search_lanes::least(x, least_state(store, row, sizes, at, q));
-        q += 1;
+    for q in 0..sizes.states {
+        x = x.min(least_state(store, row, sizes, at, q));
     }
     x
 }

@@ -1,5 +1,5 @@
 use Prim.Native.Nat.{◌+◌, ◌*◌}
-use mathlib.Core.Path.{◌≡◌, sym}
+use mathlib.Core.Path.{sym}
 use native.Mathlib.Omega.{arith}
 use Rattle.theory_tables.specs.Steps.{pose_slots}
 use Rattle.search_buckets.specs.Ends.{poses-none, poses-more}
@@ -10,7 +10,7 @@ use Rattle.search_dense_segment.proofs.least_poses.Goals as goal
 
 pub loop-a-init : goal.loop-a-init
 loop-a-init c =
-    (omega arith, sym (poses-none (back_in c.args.row.now c.args.k) (thin_in c.args.store.now c.args.at) c.args.q))
+    sym (poses-none (back_in c.args.row.now c.args.k) (thin_in c.args.store.now c.args.at) c.args.q)
 
 pub overflow_add-store : goal.overflow_add-store
 overflow_add-store c =
@@ -19,18 +19,11 @@ overflow_add-store c =
 
 pub loop-a-preserved : goal.loop-a-preserved
 loop-a-preserved c =
-    let l = c.loop-a in (
-      omega arith,
-      omega (
-        arith,
-        c.least-x.ensures,
-        c.back.ensures,
-        l.invariant.1,
-        poses-more (back_in c.args.row.now c.args.k) (thin_in c.args.store.now c.args.at) c.args.q l.a,
-      ),
+    let l = c.loop-a in
+    omega (
+      arith,
+      c.min-x.ensures,
+      c.back.ensures,
+      l.invariant,
+      poses-more (back_in c.args.row.now c.args.k) (thin_in c.args.store.now c.args.at) c.args.q l.a,
     )
-
-pub returns : goal.returns
-returns c =
-    let e : c.loop-a.a ≡ c.args.poses = omega arith in
-    rw e at c.loop-a.invariant.1

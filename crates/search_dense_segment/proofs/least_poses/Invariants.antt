@@ -1,5 +1,4 @@
 -- After a turns x is the least of the poses below a, each with what it pays as the last.
-use Prim.Native.Nat.{◌-◌, ◌≤◌}
 use mathlib.Core.Path.{◌≡◌}
 use Rattle.search_buckets.specs.Ends.{least_poses}
 use Rattle.search_row.specs.Words.{back_in}
@@ -7,7 +6,5 @@ use Rattle.search_dense_layer.specs.Thin.{thin_in}
 use Rattle.search_dense_segment.proofs.least_poses.Given as goal
 
 abbrev pub invariant-loop-a : goal.invariant-loop-a
-invariant-loop-a l = (l.a ≤ l.poses) × (l.x ≡ least_poses (back_in l.row l.k) (thin_in l.store l.at) l.q l.a)
-
-abbrev pub decreases-loop-a : goal.decreases-loop-a
-decreases-loop-a l = l.poses - l.a
+invariant-loop-a l =
+    l.x ≡ least_poses (back_in l.row l.k) (thin_in l.store l.at) l.q l.a

@@ -1,4 +1,4 @@
-use mathlib.Core.Path.{◌≡◌, sym}
+use mathlib.Core.Path.{sym}
 use native.Mathlib.Omega.{arith}
 use Rattle.search_buckets.specs.Ends.{states-none, states-more}
 use Rattle.search_row.specs.Words.{deck_in}
@@ -7,22 +7,15 @@ use Rattle.search_dense_segment.proofs.least_states.Goals as goal
 
 pub loop-q-init : goal.loop-q-init
 loop-q-init c =
-    (omega arith, sym (states-none (deck_in c.args.row.now c.args.sizes) c.args.sizes.reordering (thin_in c.args.store.now c.args.at)))
+    sym (states-none (deck_in c.args.row.now c.args.sizes) c.args.sizes.reordering (thin_in c.args.store.now c.args.at))
 
 pub loop-q-preserved : goal.loop-q-preserved
 loop-q-preserved c =
-    let l = c.loop-q in (
-      omega arith,
-      omega (
-        arith,
-        c.least-x.ensures,
-        c.least_state.ensures,
-        l.invariant.1,
-        states-more (deck_in c.args.row.now c.args.sizes) c.args.sizes.reordering (thin_in c.args.store.now c.args.at) l.q,
-      ),
+    let l = c.loop-q in
+    omega (
+      arith,
+      c.min-x.ensures,
+      c.least_state.ensures,
+      l.invariant,
+      states-more (deck_in c.args.row.now c.args.sizes) c.args.sizes.reordering (thin_in c.args.store.now c.args.at) l.q,
     )
-
-pub returns : goal.returns
-returns c =
-    let e : c.loop-q.q ≡ c.args.sizes.states = omega arith in
-    rw e at c.loop-q.invariant.1

@@ -1,5 +1,4 @@
 -- After q turns x is the least of the states below q.
-use Prim.Native.Nat.{◌-◌, ◌≤◌}
 use mathlib.Core.Path.{◌≡◌}
 use Rattle.search_buckets.specs.Ends.{least_states}
 use Rattle.search_row.specs.Words.{deck_in}
@@ -8,8 +7,4 @@ use Rattle.search_dense_segment.proofs.least_states.Given as goal
 
 abbrev pub invariant-loop-q : goal.invariant-loop-q
 invariant-loop-q l =
-    (l.q ≤ l.sizes.states) × (l.x ≡ least_states (deck_in l.row l.sizes) l.sizes.reordering (thin_in l.store l.at) l.q)
-
-abbrev pub decreases-loop-q : goal.decreases-loop-q
-decreases-loop-q l =
-    l.sizes.states - l.q
+    l.x ≡ least_states (deck_in l.row l.sizes) l.sizes.reordering (thin_in l.store l.at) l.q

@@ -4,16 +4,6 @@ use Rattle.search_row.specs.Words.{deck_in}
 use Rattle.search_dense_segment.specs.Laws.{opened-to}
 use Rattle.search_dense_segment.proofs.open_to.Goals as goal
 
-pub put_states-requires : goal.put_states-requires
-put_states-requires c =
-    let g = c.requires.room in
-    let f = c.run_open.ensures in
-    record {
-      grounded = c.requires.grounded;
-      room = record { low = f.low; few = g.few; all = g.all; over = g.over; room = omega (arith, g.room, f.frame.long) };
-      cell = c.requires.cell;
-    }
-
 pub returns : goal.returns
 returns c =
     opened-to (deck_in c.args.row.now c.args.sizes) c.args.sizes.reordering c.args.tall (omega arith) c.requires.room.over c.requires.room.all

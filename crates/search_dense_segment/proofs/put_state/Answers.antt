@@ -1,12 +1,10 @@
 -- The state's first word is its digit, which tells the layer that it comes with.
-use Prim.Native.Nat.{ℕ, suc, ◌+◌, ◌≤◌, ◌<◌}
-use mathlib.Core.Path.{◌≡◌, ap, ◌∙◌}
+use Prim.Native.Nat.{suc, ◌+◌, ◌≤◌, ◌<◌}
+use mathlib.Core.Path.{◌≡◌, ◌∙◌}
 use native.Mathlib.Omega.{arith}
-use lib.ListN.{get_or}
-use borrow.Author.Rules.{rules}
 use Rattle.theory_tables.specs.Steps.{offset}
-use Rattle.search_lanes.specs.Laws.{state-rows, state-closed}
-use Rattle.search_dense_segment.specs.Laws.{comes_with, comes_late}
+use Rattle.search_lanes.specs.Laws.{state-closed}
+use Rattle.search_dense_segment.specs.Laws.{comes_late}
 use Rattle.search_dense_segment.proofs.put_state.Goals as goal
 use Rattle.search_dense_segment.proofs.put_state.Goals.{After-word-digit}
 
@@ -18,23 +16,8 @@ digit c =
     let h = rw g.all at c.requires.state in
     (c.word-digit.ensures ∙ g.coded.digit q h, g.coded.small q h)
 
-pub overflow_add-digit : goal.overflow_add-digit
-overflow_add-digit c = omega (arith, digit (goal.at-overflow_add-digit c).After-word-digit)
-
-pub fill-requires : goal.fill-requires
-fill-requires c = record { words = search rules; word = search rules }
-
 pub returns-then-all-digit : goal.returns-then-all-digit
 returns-then-all-digit c =
     let e : c.args.tall + suc c.args.sizes.reordering < 1 + offset c.args.sizes.reordering c.args.q = omega (arith, c.if-all-digit.true, digit (goal.at-returns-then-all-digit c).After-word-digit) in
     state-closed (omega arith) c.requires.given.grounded.few c.requires.given.room.low c.fill.ensures
     (λ b l x y. comes_late c.args.sizes.reordering c.args.tall c.args.store.now l c.args.q b e)
-
-pub returns : goal.returns
-returns c =
-    let d = digit (goal.at-returns c).After-word-digit in
-    let e : 1 + offset c.args.sizes.reordering c.args.q ≤ c.args.tall + suc c.args.sizes.reordering = omega (arith, c.if-all-digit.false, d) in
-    state-rows c.spread.ensures
-    (λ b l x y.
-    comes_with c.args.sizes.reordering c.args.tall c.args.store.now l c.args.q b e
-    ∙ ap (λ (j : ℕ). get_or c.args.store.now j 0) (omega (arith, c.kept_at.ensures, d)))

@@ -1,13 +1,8 @@
 -- Each turn fills one state more; the layers, below the costs, are kept.
-use Prim.Native.Nat.{◌-◌, ◌≤◌}
 use Rattle.search_lanes.specs.Store.{Filled}
 use Rattle.search_dense_segment.specs.Opened.{comes_in}
 use Rattle.search_dense_segment.proofs.put_states.Given as goal
 
 abbrev pub invariant-loop-q : goal.invariant-loop-q
 invariant-loop-q l =
-    (l.q ≤ l.sizes.states) × Filled (comes_in l.sizes.reordering l.tall l.initial.store) 1 l.sizes.poses l.costs l.q l.initial.store l.store
-
-abbrev pub decreases-loop-q : goal.decreases-loop-q
-decreases-loop-q l =
-    l.sizes.states - l.q
+    Filled (comes_in l.sizes.reordering l.tall l.initial.store) 1 l.sizes.poses l.costs l.q l.initial.store l.store
