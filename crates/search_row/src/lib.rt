@@ -61,6 +61,13 @@ pub struct Sizes {
     pub talls: usize,
 }
 
+// A row as the search reads it: its words, and the sizes of a search in it.
+#[derive(Clone, Copy)]
+pub struct Row<'a> {
+    pub words: &'a [u32],
+    pub sizes: Sizes,
+}
+
 // The same with so many cells: the other row's.
 pub fn with_cells(sizes: Sizes, cells: usize) -> Sizes
     ensures { result ≡ with_cells sizes cells }
@@ -76,31 +83,45 @@ pub fn word(words: &[u32], at: usize) -> usize
     words[at] as usize
 }
 
-// The position of state q's cell, the last of i placed; 0 where it would be left of the row.
-pub fn last_at(row: &[u32], sizes: Sizes, i: usize, q: usize) -> usize
-    requires { StateKnown row.now sizes.reordering i q }
-    ensures { result ≡ last_at sizes.reordering i q }
-{
-    let k = i + word(row, STATES + q * 4);
-    k.saturating_sub(sizes.reordering + 1)
-}
+impl Row<'_> {
+    // The position of state q's cell, the last of i placed; 0 where it would be left of the row.
+    pub fn last_at(self, i: usize, q: usize) -> usize
+        requires { StateKnown self.words.now self.sizes.reordering i q }
+        ensures { result ≡ last_at self.entry.sizes.reordering i q }
+    {
+        let k = i + word(self.words, STATES + q * 4);
+        k.saturating_sub(self.sizes.reordering + 1)
+    }
 
-// Whether the row has that cell.
-pub fn is_there(row: &[u32], sizes: Sizes, i: usize, q: usize) -> bool
-    requires { StateKnown row.now sizes.reordering i q }
-    ensures { result ≡ there_in sizes.cells sizes.reordering i q }
-{
-    sizes.reordering < i + word(row, STATES + q * 4) && last_at(row, sizes, i, q) < sizes.cells
-}
+    // Whether the row has that cell.
+    pub fn is_there(self, i: usize, q: usize) -> bool
+        requires { StateKnown self.words.now self.sizes.reordering i q }
+        ensures { result ≡ there_in self.entry.sizes.cells self.entry.sizes.reordering i q }
+    {
+        self.sizes.reordering < i + word(self.words, STATES + q * 4)
+            && self.last_at(i, q) < self.sizes.cells
+    }
 
-// Whether state q of the layer with i cells is a source of state q1 of the next.
-pub fn is_source(row: &[u32], sizes: Sizes, i: usize, q1: usize, q: usize) -> bool
-    requires { SourceAsked row.now sizes i q1 q }
-    ensures { result ≡ is_source (deck_in row.now sizes) sizes.reordering i q1 q }
-{
-    is_there(row, sizes, i, q)
-        && row[last_at(row, sizes, i, q) * CELL + TALL] != 1
-        && row[STATES + q * 4 + 1] == row[STATES + q1 * 4 + 2]
+    // Whether state q of the layer with i cells is a source of state q1 of the next.
+    pub fn is_source(self, i: usize, q1: usize, q: usize) -> bool
+        requires { SourceAsked self.words.now self.sizes i q1 q }
+        ensures { result ≡ is_source (deck_in self.entry.words.now self.entry.sizes)
+            self.entry.sizes.reordering i q1 q }
+    {
+        let words = self.words;
+        self.is_there(i, q)
+            && words[self.last_at(i, q) * CELL + TALL] != 1
+            && words[STATES + q * 4 + 1] == words[STATES + q1 * 4 + 2]
+    }
+
+    // How many cells are placed once the cell at position p stands as state s.
+    pub fn placed_with(self, p: usize, s: usize) -> usize
+        requires { StateKnown self.words.now self.sizes.reordering p s }
+        ensures { result ≡ placed_with self.entry.sizes.reordering p s }
+    {
+        let all = p + self.sizes.reordering + 1;
+        all.saturating_sub(word(self.words, STATES + s * 4))
+    }
 }
 
 // The left site of the cell at position k in pose a, with D added.
@@ -191,13 +212,4 @@ pub fn tall_at(row: &[u32], i: usize) -> usize
     ensures { result ≡ pos_in row.now i }
 {
     word(row, TALLS + i)
-}
-
-// How many cells are placed once the cell at position p stands as state s.
-pub fn placed_with(row: &[u32], sizes: Sizes, p: usize, s: usize) -> usize
-    requires { StateKnown row.now sizes.reordering p s }
-    ensures { result ≡ placed_with sizes.reordering p s }
-{
-    let all = p + sizes.reordering + 1;
-    all.saturating_sub(word(row, STATES + s * 4))
 }
