@@ -12,7 +12,7 @@ ghost use Rattle.search_dense_first.specs.Begun.{LayerGiven, AfterTall, Begun};
 ghost use Rattle.search_dense_first.specs.Starts.{paid_after, first_pose, first_layer};
 ghost use Rattle.search_dense_first.specs.Starts.{PaidGiven, FirstPoses, FirstState, FirstLayer};
 
-use search_row::Sizes;
+use search_row::Row;
 
 // A tall cell at a position, in a pose.
 #[derive(Clone, Copy)]
@@ -31,14 +31,14 @@ struct Start {
 }
 
 // Whether state q, the last of i cells, can come first after marks m.
-pub fn starts(row: &[u32], sizes: Sizes, i: usize, m: u32, q: usize) -> bool
-    requires { StateKnown row.now sizes.reordering i q }
-    ensures { result ≡ starts_at sizes.cells sizes.reordering i m q }
+pub fn starts(row: Row, i: usize, m: u32, q: usize) -> bool
+    requires { StateKnown row.words.now row.sizes.reordering i q }
+    ensures { result ≡ starts_at row.entry.sizes.cells row.entry.sizes.reordering i m q }
 {
-    if !search_row::is_there(row, sizes, i, q) {
+    if !row.is_there(i, q) {
         return false;
     }
-    m == row[search_row::STATES + q * 4 + 2]
+    m == row.words[search_row::STATES + q * 4 + 2]
 }
 
 // The marks before anything is placed.
@@ -76,67 +76,58 @@ fn put_poses(store: &mut [u32], row: &[u32], tall: Option<Tall>, at: usize, k: u
 }
 
 // The words of state q of the layer at `to`.
-fn put_state(store: &mut [u32], row: &[u32], sizes: Sizes, start: Start, to: usize, q: usize)
-    requires { FirstState row.now store.old sizes start to q }
-    ensures { Written (first_layer row.now sizes start q) (to + q * pose_slots) sizes.poses
+fn put_state(store: &mut [u32], row: Row, start: Start, to: usize, q: usize)
+    requires { FirstState row.words.now store.old row.sizes start to q }
+    ensures { Written (first_layer row.entry.words.now row.entry.sizes start q) (to + q * pose_slots) row.entry.sizes.poses
         store.old store.new }
 {
     let at = to + q * search_store::POSE_SLOTS;
     let i = start.cells + 1;
-    if !starts(row, sizes, i, start.marks, q) {
-        search_lanes::fill(store, at, sizes.poses, search_lanes::NONE);
+    if !starts(row, i, start.marks, q) {
+        search_lanes::fill(store, at, row.sizes.poses, search_lanes::NONE);
         return;
     }
-    let k = search_row::last_at(row, sizes, i, q);
-    put_poses(store, row, start.tall, at, k, sizes.poses);
+    let k = row.last_at(i, q);
+    put_poses(store, row.words, start.tall, at, k, row.sizes.poses);
 }
 
 // The layer with one cell more than the start has.
-fn put_layer(store: &mut [u32], row: &[u32], sizes: Sizes, start: Start, to: usize)
-    requires { FirstLayer row.now store.old sizes start to }
-    ensures { Begun (first_layer row.now sizes start) sizes.poses sizes.states to
+fn put_layer(store: &mut [u32], row: Row, start: Start, to: usize)
+    requires { FirstLayer row.words.now store.old row.sizes start to }
+    ensures { Begun (first_layer row.entry.words.now row.entry.sizes start) row.entry.sizes.poses row.entry.sizes.states to
         store.old store.new }
 {
-    for q in 0..sizes.states {
-        put_state(store, row, sizes, start, to, q);
+    for q in 0..row.sizes.states {
+        put_state(store, row, start, to, q);
     }
 }
 
 // The layer with one cell.
-pub fn open(store: &mut [u32], row: &[u32], sizes: Sizes, to: usize)
-    requires { LayerGiven row.now store.old sizes to }
-    ensures { Begun (first_open (deck_in row.now sizes) sizes.reordering) sizes.poses
-        sizes.states to store.old store.new }
+pub fn open(store: &mut [u32], row: Row, to: usize)
+    requires { LayerGiven row.words.now store.old row.sizes to }
+    ensures { Begun (first_open (deck_in row.entry.words.now row.entry.sizes) row.entry.sizes.reordering) row.entry.sizes.poses
+        row.entry.sizes.states to store.old store.new }
 {
     let start = Start {
         cells: 0,
-        marks: start_marks(sizes.reordering),
+        marks: start_marks(row.sizes.reordering),
         tall: None,
     };
-    put_layer(store, row, sizes, start, to);
+    put_layer(store, row, start, to);
 }
 
 // The layer after the cell at position p in pose l, as state s, the last of i placed.
-pub fn after(
-    store: &mut [u32],
-    row: &[u32],
-    sizes: Sizes,
-    i: usize,
-    s: usize,
-    p: usize,
-    l: usize,
-    to: usize,
-)
-    requires { AfterTall row.now store.old sizes i p l to s }
+pub fn after(store: &mut [u32], row: Row, i: usize, s: usize, p: usize, l: usize, to: usize)
+    requires { AfterTall row.words.now store.old row.sizes i p l to s }
     ensures { Begun
-        (first_after (deck_in row.now sizes) sizes.reordering i (marks sizes.reordering s) p l)
-        sizes.poses sizes.states to store.old store.new }
+        (first_after (deck_in row.entry.words.now row.entry.sizes) row.entry.sizes.reordering i (marks row.entry.sizes.reordering s) p l)
+        row.entry.sizes.poses row.entry.sizes.states to store.old store.new }
 {
-    let m = row[search_row::STATES + s * 4 + 1];
+    let m = row.words[search_row::STATES + s * 4 + 1];
     let start = Start {
         cells: i,
         marks: m,
         tall: Some(Tall { cell: p, pose: l }),
     };
-    put_layer(store, row, sizes, start, to);
+    put_layer(store, row, start, to);
 }

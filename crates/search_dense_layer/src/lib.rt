@@ -18,7 +18,7 @@ ghost use Rattle.search_dense_layer.specs.Thin.{variant_words};
 ghost use Rattle.search_dense_layer.specs.Kept.{Segment, SegmentKept};
 
 use search_buckets::Source;
-use search_row::Sizes;
+use search_row::Row;
 
 // Four buckets: a word for each variant in every row.
 const VARIANT_WORDS: usize = 76;
@@ -248,27 +248,26 @@ fn from_source(
     apart: &mut [u32; VARIANT_WORDS],
     far: &mut [u32; search_store::BUCKET_ROWS],
     store: &[u32],
-    row: &[u32],
-    sizes: Sizes,
+    row: Row,
     sought: Sought,
     p: usize,
 )
-    requires { ThinFrom near.old apart.old far.old row.now store.now sizes sought.layer.cells sought.layer.at
+    requires { ThinFrom near.old apart.old far.old row.words.now store.now row.sizes sought.layer.cells sought.layer.at
         sought.state p }
-    ensures { ThinGathered (one_state row.now (deck_in row.now sizes) sizes.reordering
+    ensures { ThinGathered (one_state row.entry.words.now (deck_in row.entry.words.now row.entry.sizes) row.entry.sizes.reordering
         (thin_in store.now sought.layer.at) sought.layer.cells sought.state p)
-        (buckets_in row.now (last_at sizes.reordering (suc sought.layer.cells) sought.state))
+        (buckets_in row.entry.words.now (last_at row.entry.sizes.reordering (suc sought.layer.cells) sought.state))
         near.old near.new apart.old apart.new far.old
         far.new }
 {
-    if !search_row::is_source(row, sizes, sought.layer.cells, sought.state, p) {
+    if !row.is_source(sought.layer.cells, sought.state, p) {
         return;
     }
-    let k = search_row::last_at(row, sizes, sought.layer.cells, p);
-    let m = search_row::last_at(row, sizes, sought.layer.cells + 1, sought.state);
-    let buckets = search_buckets::buckets_of(row, m);
+    let k = row.last_at(sought.layer.cells, p);
+    let m = row.last_at(sought.layer.cells + 1, sought.state);
+    let buckets = search_buckets::buckets_of(row.words, m);
     let mut pay = [0u32; search_buckets::PAY_WORDS];
-    search_buckets::fill_pays(&mut pay, row, k, m, buckets);
+    search_buckets::fill_pays(&mut pay, row.words, k, m, buckets);
     let at = sought.layer.at + p * search_store::POSE_SLOTS;
     let source = Source {
         at,
@@ -276,7 +275,16 @@ fn from_source(
         right: m,
         buckets,
     };
-    from_poses(near, apart, far, store, row, &pay, source, sizes.poses);
+    from_poses(
+        near,
+        apart,
+        far,
+        store,
+        row.words,
+        &pay,
+        source,
+        row.sizes.poses,
+    );
 }
 
 // Every source.
@@ -285,47 +293,55 @@ fn gather(
     apart: &mut [u32; VARIANT_WORDS],
     far: &mut [u32; search_store::BUCKET_ROWS],
     store: &[u32],
-    row: &[u32],
-    sizes: Sizes,
+    row: Row,
     sought: Sought,
 )
-    requires { ThinGathering near.old apart.old far.old row.now store.now sizes sought.layer.cells
+    requires { ThinGathering near.old apart.old far.old row.words.now store.now row.sizes sought.layer.cells
         sought.layer.at sought.state }
-    ensures { ThinGathered (by_states row.now (deck_in row.now sizes) sizes.reordering
-        (thin_in store.now sought.layer.at) sought.layer.cells sought.state sizes.states)
-        (buckets_in row.now (last_at sizes.reordering (suc sought.layer.cells) sought.state))
+    ensures { ThinGathered (by_states row.entry.words.now (deck_in row.entry.words.now row.entry.sizes) row.entry.sizes.reordering
+        (thin_in store.now sought.layer.at) sought.layer.cells sought.state row.entry.sizes.states)
+        (buckets_in row.entry.words.now (last_at row.entry.sizes.reordering (suc sought.layer.cells) sought.state))
         near.old near.new apart.old apart.new far.old
         far.new }
 {
-    for p in 0..sizes.states {
-        from_source(near, apart, far, store, row, sizes, sought, p);
+    for p in 0..row.sizes.states {
+        from_source(near, apart, far, store, row, sought, p);
     }
 }
 
 // The words of state q, whose cell is there: its sources gathered, then what each pose finds.
-fn target_there(store: &mut [u32], row: &[u32], sizes: Sizes, layer: Block, q: usize)
-    requires { ThinTarget row.now store.old sizes layer.cells layer.at q }
-    ensures { Put (deck_in row.now sizes) sizes.reordering layer.cells layer.at q
+fn target_there(store: &mut [u32], row: Row, layer: Block, q: usize)
+    requires { ThinTarget row.words.now store.old row.sizes layer.cells layer.at q }
+    ensures { Put (deck_in row.entry.words.now row.entry.sizes) row.entry.sizes.reordering layer.cells layer.at q
         store.old store.new }
 {
-    let m = search_row::last_at(row, sizes, layer.cells + 1, q);
+    let m = row.last_at(layer.cells + 1, q);
     let mut near = [search_lanes::NONE; VARIANT_WORDS];
     let mut apart = [search_lanes::NONE; VARIANT_WORDS];
     let mut far = [search_lanes::NONE; search_store::BUCKET_ROWS];
     let sought = Sought { layer, state: q };
-    gather(&mut near, &mut apart, &mut far, store, row, sizes, sought);
+    gather(&mut near, &mut apart, &mut far, store, row, sought);
     run_up(&mut far);
     let to = layer.at + search_store::KEPT_LAYER + q * search_store::POSE_SLOTS;
-    put_found(store, row, &near, &apart, &far, to, m, sizes.poses);
+    put_found(
+        store,
+        row.words,
+        &near,
+        &apart,
+        &far,
+        to,
+        m,
+        row.sizes.poses,
+    );
 }
 
 // The words of state q: all NONE if the row has no such cell.
-fn put_state(store: &mut [u32], row: &[u32], sizes: Sizes, layer: Block, q: usize)
-    requires { ThinNext row.now store.old sizes layer.cells layer.at q }
-    ensures { Put (deck_in row.now sizes) sizes.reordering layer.cells layer.at q
+fn put_state(store: &mut [u32], row: Row, layer: Block, q: usize)
+    requires { ThinNext row.words.now store.old row.sizes layer.cells layer.at q }
+    ensures { Put (deck_in row.entry.words.now row.entry.sizes) row.entry.sizes.reordering layer.cells layer.at q
         store.old store.new }
 {
-    if !search_row::is_there(row, sizes, layer.cells + 1, q) {
+    if !row.is_there(layer.cells + 1, q) {
         search_lanes::fill(
             store,
             layer.at + search_store::KEPT_LAYER + q * search_store::POSE_SLOTS,
@@ -334,31 +350,31 @@ fn put_state(store: &mut [u32], row: &[u32], sizes: Sizes, layer: Block, q: usiz
         );
         return;
     }
-    target_there(store, row, sizes, layer, q);
+    target_there(store, row, layer, q);
 }
 
 // The layer with one cell more than the layer at `from`, which has i, to the block after it.
-pub fn step(store: &mut [u32], row: &[u32], sizes: Sizes, i: usize, from: usize)
-    requires { ThinGiven row.now store.old sizes i from }
-    ensures { Stepped (deck_in row.now sizes) sizes.reordering sizes.states i from
+pub fn step(store: &mut [u32], row: Row, i: usize, from: usize)
+    requires { ThinGiven row.words.now store.old row.sizes i from }
+    ensures { Stepped (deck_in row.entry.words.now row.entry.sizes) row.entry.sizes.reordering row.entry.sizes.states i from
         store.old store.new }
 {
     let layer = Block { cells: i, at: from };
-    for q in 0..sizes.states {
-        put_state(store, row, sizes, layer, q);
+    for q in 0..row.sizes.states {
+        put_state(store, row, layer, q);
     }
 }
 
 // The layers of a segment from one start, kept one after the other: each is dense and comes from the one before.
 
 // All layers of a segment from its first, layer i, which is in its place, up to layer `end`.
-pub fn segment_kept(store: &mut [u32], row: &[u32], sizes: Sizes, i: usize, end: usize)
-    requires { Segment row.now store.old sizes i end }
-    ensures { SegmentKept (deck_in row.now sizes) sizes.reordering i end store.old
+pub fn segment_kept(store: &mut [u32], row: Row, i: usize, end: usize)
+    requires { Segment row.words.now store.old row.sizes i end }
+    ensures { SegmentKept (deck_in row.entry.words.now row.entry.sizes) row.entry.sizes.reordering i end store.old
         store.new }
 {
     for cells in i..end {
         let from = search_store::kept_at(cells);
-        step(store, row, sizes, cells, from);
+        step(store, row, cells, from);
     }
 }

@@ -11,41 +11,40 @@ ghost use Rattle.search_wide_end.specs.Ends.{LeastPosesGiven, LeastPoseGiven, La
 ghost use Rattle.search_wide_end.specs.Ends.{ends_with, least_poses_in, least_state_in, least_states_in};
 ghost use Rattle.search_wide_end.specs.Ends.{ends_in, Ran, Ended};
 
-use search_row::Sizes;
+use search_row::Row;
 use search_wide_layer::Block;
 
 // On to the layer with all cells placed: the block that it is in. The table that is lent serves all layers.
 fn run_on(
     table: &mut [u32; search_store::TABLE],
     store: &mut [u32],
-    row: &[u32],
-    sizes: Sizes,
+    row: Row,
     lanes: usize,
     i: usize,
 ) -> usize
-    requires { RunGiven table.old row.now store.old sizes lanes i }
-    ensures { Ran (deck_in row.now sizes) sizes.reordering lanes i
-        (sizes.cells - i) result store.old store.new table.new }
+    requires { RunGiven table.old row.words.now store.old row.sizes lanes i }
+    ensures { Ran (deck_in row.entry.words.now row.entry.sizes) row.entry.sizes.reordering lanes i
+        (row.entry.sizes.cells - i) result store.old store.new table.new }
 {
     let mut at: usize = 0;
-    for cells in i..sizes.cells {
+    for cells in i..row.sizes.cells {
         let layer = Block { lanes, cells, at };
         at = search_store::LAYER - at;
-        search_wide_layer::step_layer(table, store, row, sizes, layer, at);
+        search_wide_layer::step_layer(table, store, row, layer, at);
     }
     at
 }
 
 // Whether state q's cell can be the last of the row.
-fn ends_with(row: &[u32], sizes: Sizes, q: usize) -> bool
-    requires { LastState row.now sizes q }
-    ensures { result ≡ ends_with row.now sizes.cells sizes.reordering q }
+fn ends_with(row: Row, q: usize) -> bool
+    requires { LastState row.words.now row.sizes q }
+    ensures { result ≡ ends_with row.entry.words.now row.entry.sizes.cells row.entry.sizes.reordering q }
 {
-    if !search_row::is_there(row, sizes, sizes.cells, q) {
+    if !row.is_there(row.sizes.cells, q) {
         return false;
     }
-    let k = search_row::last_at(row, sizes, sizes.cells, q);
-    row[k * search_row::CELL + search_row::TALL] != 1
+    let k = row.last_at(row.sizes.cells, q);
+    row.words[k * search_row::CELL + search_row::TALL] != 1
 }
 
 // Pose a of a state whose words begin at `at`, in each lane; its cell is at position k, and pays as the row's last.
@@ -98,38 +97,36 @@ fn least_poses(
 fn least_state(
     acc: &mut [u32; search_store::MAX_LANES],
     store: &[u32],
-    row: &[u32],
-    sizes: Sizes,
+    row: Row,
     lanes: usize,
     at: usize,
     q: usize,
 )
-    requires { LeastStateGiven acc.old row.now store.now sizes lanes at q }
-    ensures { Lowered (least_state_in (deck_in row.now sizes) sizes.reordering
+    requires { LeastStateGiven acc.old row.words.now store.now row.sizes lanes at q }
+    ensures { Lowered (least_state_in (deck_in row.entry.words.now row.entry.sizes) row.entry.sizes.reordering
         store.now at q) lanes acc.old acc.new }
 {
-    if !ends_with(row, sizes, q) {
+    if !ends_with(row, q) {
         return;
     }
-    let k = search_row::last_at(row, sizes, sizes.cells, q);
-    least_poses(acc, store, row, at, q, k, sizes.poses, lanes);
+    let k = row.last_at(row.sizes.cells, q);
+    least_poses(acc, store, row.words, at, q, k, row.sizes.poses, lanes);
 }
 
 // The least of all states.
 fn least_states(
     acc: &mut [u32; search_store::MAX_LANES],
     store: &[u32],
-    row: &[u32],
-    sizes: Sizes,
+    row: Row,
     lanes: usize,
     at: usize,
 )
-    requires { LeastGiven acc.old row.now store.now sizes lanes at }
-    ensures { Lowered (least_states_in (deck_in row.now sizes) sizes.reordering
-        store.now at sizes.states) lanes acc.old acc.new }
+    requires { LeastGiven acc.old row.words.now store.now row.sizes lanes at }
+    ensures { Lowered (least_states_in (deck_in row.entry.words.now row.entry.sizes) row.entry.sizes.reordering
+        store.now at row.entry.sizes.states) lanes acc.old acc.new }
 {
-    for q in 0..sizes.states {
-        least_state(acc, store, row, sizes, lanes, at, q);
+    for q in 0..row.sizes.states {
+        least_state(acc, store, row, lanes, at, q);
     }
 }
 
@@ -144,13 +141,13 @@ fn put_lanes(store: &mut [u32], costs: usize, acc: &[u32; search_store::MAX_LANE
 }
 
 // The least of the layer with all cells placed, to a row of costs.
-fn put_ends(store: &mut [u32], row: &[u32], sizes: Sizes, lanes: usize, at: usize, costs: usize)
-    requires { LastLayer row.now store.old sizes lanes at costs }
-    ensures { RowSaid (ends_in (deck_in row.now sizes) sizes.reordering
+fn put_ends(store: &mut [u32], row: Row, lanes: usize, at: usize, costs: usize)
+    requires { LastLayer row.words.now store.old row.sizes lanes at costs }
+    ensures { RowSaid (ends_in (deck_in row.entry.words.now row.entry.sizes) row.entry.sizes.reordering
         store.old at) costs 0 lanes store.old store.new }
 {
     let mut acc = [search_lanes::NONE; search_store::MAX_LANES];
-    least_states(&mut acc, store, row, sizes, lanes, at);
+    least_states(&mut acc, store, row, lanes, at);
     put_lanes(store, costs, &acc, lanes);
 }
 
@@ -159,26 +156,25 @@ fn put_ends(store: &mut [u32], row: &[u32], sizes: Sizes, lanes: usize, at: usiz
 pub fn segment_end(
     table: &mut [u32; search_store::TABLE],
     store: &mut [u32],
-    row: &[u32],
-    sizes: Sizes,
+    row: Row,
     starts: &[u32; search_store::MAX_LANES],
     first: Block,
     costs: usize,
 )
-    requires { SegmentToEnd table.old row.now store.old starts.now sizes first costs }
-    ensures { Ended (deck_in row.now sizes) sizes.reordering first.lanes first.cells costs
+    requires { SegmentToEnd table.old row.words.now store.old starts.now row.sizes first costs }
+    ensures { Ended (deck_in row.entry.words.now row.entry.sizes) row.entry.sizes.reordering first.lanes first.cells costs
         starts.now store.old store.new table.new }
 {
     let lanes = first.lanes;
     let i = first.cells;
-    if i > sizes.cells + 1 {
+    if i > row.sizes.cells + 1 {
         store[costs + search_store::FLAGS] = 0;
         return;
     }
-    if i == sizes.cells + 1 {
+    if i == row.sizes.cells + 1 {
         put_lanes(store, costs, starts, lanes);
         return;
     }
-    let at = run_on(table, store, row, sizes, lanes, i);
-    put_ends(store, row, sizes, lanes, at, costs);
+    let at = run_on(table, store, row, lanes, i);
+    put_ends(store, row, lanes, at, costs);
 }

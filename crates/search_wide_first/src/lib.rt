@@ -9,7 +9,7 @@ ghost use Rattle.search_wide_layer.specs.Loops.{StateMade, LayerMade};
 ghost use Rattle.search_wide_first.specs.Firsts.{after_row, after_from, FirstGiven, FirstRows, RowsMade};
 ghost use Rattle.search_wide_first.specs.Starts.{StartingLane, StartingLanes, Started, StartedTo, start_in};
 
-use search_row::Sizes;
+use search_row::Row;
 use search_wide_layer::Block;
 
 // Lane l of a table lowered to pose l of the cell at position p, where it starts, for the cell at position k.
@@ -90,35 +90,34 @@ fn first_rows(
 fn first_block(
     table: &mut [u32; search_store::TABLE],
     store: &mut [u32],
-    row: &[u32],
-    sizes: Sizes,
+    row: Row,
     to: Block,
     m: u32,
     p: usize,
     q: usize,
 )
-    requires { FirstGiven table.old row.now store.old sizes to.lanes to.cells to.at p q }
-    ensures { StateMade (after_from (deck_in row.now sizes) sizes.reordering to.cells m p)
-        to.lanes to.at q sizes.poses store.old store.new table.new }
+    requires { FirstGiven table.old row.words.now store.old row.sizes to.lanes to.cells to.at p q }
+    ensures { StateMade (after_from (deck_in row.entry.words.now row.entry.sizes) row.entry.sizes.reordering to.cells m p)
+        to.lanes to.at q row.entry.sizes.poses store.old store.new table.new }
 {
-    if !search_dense_first::starts(row, sizes, to.cells + 1, m, q) {
+    if !search_dense_first::starts(row, to.cells + 1, m, q) {
         search_lanes::fill(
             store,
             to.at + q * search_store::STATE + search_store::FLAGS,
-            sizes.poses,
+            row.sizes.poses,
             0,
         );
         return;
     }
-    let k = search_row::last_at(row, sizes, to.cells + 1, q);
+    let k = row.last_at(to.cells + 1, q);
     first_rows(
         table,
         store,
-        row,
+        row.words,
         to.at + q * search_store::STATE,
         p,
         k,
-        sizes.poses,
+        row.sizes.poses,
         to.lanes,
     );
 }
@@ -127,25 +126,24 @@ fn first_block(
 pub fn first_layer(
     table: &mut [u32; search_store::TABLE],
     store: &mut [u32],
-    row: &[u32],
-    sizes: Sizes,
+    row: Row,
     lanes: usize,
     i: usize,
     s: usize,
     p: usize,
 )
-    requires { FirstGiven table.old row.now store.old sizes lanes i 0 p s }
+    requires { FirstGiven table.old row.words.now store.old row.sizes lanes i 0 p s }
     ensures { LayerMade
-        (after_from (deck_in row.now sizes) sizes.reordering i (marks sizes.reordering s) p) lanes
-        sizes.poses 0 sizes.states store.old store.new table.new }
+        (after_from (deck_in row.entry.words.now row.entry.sizes) row.entry.sizes.reordering i (marks row.entry.sizes.reordering s) p) lanes
+        row.entry.sizes.poses 0 row.entry.sizes.states store.old store.new table.new }
 {
-    let m = row[search_row::STATES + s * 4 + 1];
+    let m = row.words[search_row::STATES + s * 4 + 1];
     let layer = Block {
         lanes,
         cells: i,
         at: 0,
     };
-    for q in 0..sizes.states {
-        first_block(table, store, row, sizes, layer, m, p, q);
+    for q in 0..row.sizes.states {
+        first_block(table, store, row, layer, m, p, q);
     }
 }

@@ -12,7 +12,7 @@ ghost use Rattle.search_wide_layer.specs.Loops.{SourceSought, SourcesSought, NoW
 ghost use Rattle.search_wide_layer.specs.Loops.{StateStepping, TargetStepping, StateMade, LayerMade};
 
 use search_buckets::Source;
-use search_row::Sizes;
+use search_row::Row;
 
 // A layer in its block: how many lanes and cells it has, and where the block begins.
 #[derive(Clone, Copy)]
@@ -23,39 +23,38 @@ pub struct Block {
 }
 
 // Whether state p of a layer is a source of state q of the next, with a row that has a way.
-fn is_way(store: &[u32], row: &[u32], sizes: Sizes, layer: Block, q: usize, p: usize) -> bool
-    requires { SourceSought row.now store.now sizes layer q p }
-    ensures { IsWay row.now store.now sizes layer q p result }
+fn is_way(store: &[u32], row: Row, layer: Block, q: usize, p: usize) -> bool
+    requires { SourceSought row.words.now store.now row.sizes layer q p }
+    ensures { IsWay row.entry.words.now store.now row.entry.sizes layer q p result }
 {
     let at = layer.at + p * search_store::STATE;
-    search_row::is_source(row, sizes, layer.cells, q, p)
-        && search_lanes::most(store, at + search_store::FLAGS, sizes.poses) != 0
+    row.is_source(layer.cells, q, p)
+        && search_lanes::most(store, at + search_store::FLAGS, row.sizes.poses) != 0
 }
 
 // State p of a layer, if it is a source of state q of the next, in so many rows: whether it lowered anything.
 fn from_source(
     table: &mut [u32; search_store::TABLE],
     store: &[u32],
-    row: &[u32],
-    sizes: Sizes,
+    row: Row,
     layer: Block,
     q: usize,
     p: usize,
     rows: usize,
 ) -> bool
-    requires { SourceGathering table.old row.now store.now sizes layer q p rows }
-    ensures { GatheredIf result (state_in store.now row.now
-        (deck_in row.now sizes) sizes.reordering layer.at layer.cells q p) rows
-        (buckets_for row.now sizes layer q) layer.lanes table.old table.new }
+    requires { SourceGathering table.old row.words.now store.now row.sizes layer q p rows }
+    ensures { GatheredIf result (state_in store.now row.entry.words.now
+        (deck_in row.entry.words.now row.entry.sizes) row.entry.sizes.reordering layer.at layer.cells q p) rows
+        (buckets_for row.entry.words.now row.entry.sizes layer q) layer.lanes table.old table.new }
 {
-    if !is_way(store, row, sizes, layer, q, p) {
+    if !is_way(store, row, layer, q, p) {
         return false;
     }
-    let left = search_row::last_at(row, sizes, layer.cells, p);
-    let right = search_row::last_at(row, sizes, layer.cells + 1, q);
-    let buckets = search_buckets::buckets_of(row, right);
+    let left = row.last_at(layer.cells, p);
+    let right = row.last_at(layer.cells + 1, q);
+    let buckets = search_buckets::buckets_of(row.words, right);
     let mut pays = [0u32; search_buckets::PAY_WORDS];
-    search_buckets::fill_pays(&mut pays, row, left, right, buckets);
+    search_buckets::fill_pays(&mut pays, row.words, left, right, buckets);
     let at = layer.at + p * search_store::STATE;
     let source = Source {
         at,
@@ -66,10 +65,10 @@ fn from_source(
     search_wide_buckets::from_poses(
         table,
         store,
-        row,
+        row.words,
         &pays,
         source,
-        sizes.poses,
+        row.sizes.poses,
         rows,
         layer.lanes,
     )
@@ -79,20 +78,19 @@ fn from_source(
 fn gather(
     table: &mut [u32; search_store::TABLE],
     store: &[u32],
-    row: &[u32],
-    sizes: Sizes,
+    row: Row,
     layer: Block,
     q: usize,
     rows: usize,
 ) -> bool
-    requires { Gathering table.old row.now store.now sizes layer q rows }
-    ensures { GatheredIf result (states_in store.now row.now
-        (deck_in row.now sizes) sizes.reordering layer.at layer.cells q sizes.states) rows
-        (buckets_for row.now sizes layer q) layer.lanes table.old table.new }
+    requires { Gathering table.old row.words.now store.now row.sizes layer q rows }
+    ensures { GatheredIf result (states_in store.now row.entry.words.now
+        (deck_in row.entry.words.now row.entry.sizes) row.entry.sizes.reordering layer.at layer.cells q row.entry.sizes.states) rows
+        (buckets_for row.entry.words.now row.entry.sizes layer q) layer.lanes table.old table.new }
 {
     let mut used = false;
-    for p in 0..sizes.states {
-        if from_source(table, store, row, sizes, layer, q, p, rows) {
+    for p in 0..row.sizes.states {
+        if from_source(table, store, row, layer, q, p, rows) {
             used = true;
         }
     }
@@ -100,12 +98,12 @@ fn gather(
 }
 
 // Whether something comes to state q from a layer.
-fn has_way(store: &[u32], row: &[u32], sizes: Sizes, layer: Block, q: usize) -> bool
-    requires { SourcesSought row.now store.now sizes layer q }
-    ensures { result ≡ false → (p : ℕ) → p < sizes.states
-        → NoWay row.now store.now sizes layer q p }
+fn has_way(store: &[u32], row: Row, layer: Block, q: usize) -> bool
+    requires { SourcesSought row.words.now store.now row.sizes layer q }
+    ensures { result ≡ false → (p : ℕ) → p < row.entry.sizes.states
+        → NoWay row.entry.words.now store.now row.entry.sizes layer q p }
 {
-    (0..sizes.states).any(|p| is_way(store, row, sizes, layer, q, p))
+    (0..row.sizes.states).any(|p| is_way(store, row, layer, q, p))
 }
 
 // The rows of state q, whose cell is there: all NONE if nothing leads to it, and those of poses that it is not offered.
@@ -113,37 +111,36 @@ fn has_way(store: &[u32], row: &[u32], sizes: Sizes, layer: Block, q: usize) -> 
 fn target_rows(
     table: &mut [u32; search_store::TABLE],
     store: &mut [u32],
-    row: &[u32],
-    sizes: Sizes,
+    row: Row,
     layer: Block,
     to: usize,
     q: usize,
 )
-    requires { TargetStepping table.old row.now store.old sizes layer to q }
-    ensures { StateMade (next_from (deck_in row.now sizes) sizes.reordering store.old
-        layer.at layer.cells) layer.lanes to q sizes.poses store.old store.new
+    requires { TargetStepping table.old row.words.now store.old row.sizes layer to q }
+    ensures { StateMade (next_from (deck_in row.entry.words.now row.entry.sizes) row.entry.sizes.reordering store.old
+        layer.at layer.cells) layer.lanes to q row.entry.sizes.poses store.old store.new
         table.new }
 {
     let at = to + q * search_store::STATE;
-    if !has_way(store, row, sizes, layer, q) {
-        search_lanes::fill(store, at + search_store::FLAGS, sizes.poses, 0);
+    if !has_way(store, row, layer, q) {
+        search_lanes::fill(store, at + search_store::FLAGS, row.sizes.poses, 0);
         return;
     }
-    let m = search_row::last_at(row, sizes, layer.cells + 1, q);
-    let buckets = search_buckets::buckets_of(row, m);
-    let poses = search_wide_buckets::poses_of(row, m, sizes.poses);
+    let m = row.last_at(layer.cells + 1, q);
+    let buckets = search_buckets::buckets_of(row.words, m);
+    let poses = search_wide_buckets::poses_of(row.words, m, row.sizes.poses);
     let rows = search_buckets::rows_of(poses);
     search_wide_buckets::reset(table, buckets, poses, layer.lanes);
-    if !gather(table, store, row, sizes, layer, q, rows) {
-        search_lanes::fill(store, at + search_store::FLAGS, sizes.poses, 0);
+    if !gather(table, store, row, layer, q, rows) {
+        search_lanes::fill(store, at + search_store::FLAGS, row.sizes.poses, 0);
         return;
     }
     search_wide_buckets::run_up(table, poses, layer.lanes);
-    search_wide_buckets::put_rows(store, row, table, at, m, poses, buckets, layer.lanes);
+    search_wide_buckets::put_rows(store, row.words, table, at, m, poses, buckets, layer.lanes);
     search_lanes::fill(
         store,
         at + search_store::FLAGS + poses,
-        sizes.poses - poses,
+        row.sizes.poses - poses,
         0,
     );
 }
@@ -152,44 +149,42 @@ fn target_rows(
 pub fn target_block(
     table: &mut [u32; search_store::TABLE],
     store: &mut [u32],
-    row: &[u32],
-    sizes: Sizes,
+    row: Row,
     layer: Block,
     to: usize,
     q: usize,
 )
-    requires { StateStepping table.old row.now store.old sizes layer to q }
-    ensures { StateMade (next_from (deck_in row.now sizes) sizes.reordering store.old
-        layer.at layer.cells) layer.lanes to q sizes.poses store.old store.new
+    requires { StateStepping table.old row.words.now store.old row.sizes layer to q }
+    ensures { StateMade (next_from (deck_in row.entry.words.now row.entry.sizes) row.entry.sizes.reordering store.old
+        layer.at layer.cells) layer.lanes to q row.entry.sizes.poses store.old store.new
         table.new }
 {
-    if !search_row::is_there(row, sizes, layer.cells + 1, q) {
+    if !row.is_there(layer.cells + 1, q) {
         search_lanes::fill(
             store,
             to + q * search_store::STATE + search_store::FLAGS,
-            sizes.poses,
+            row.sizes.poses,
             0,
         );
         return;
     }
-    target_rows(table, store, row, sizes, layer, to, q);
+    target_rows(table, store, row, layer, to, q);
 }
 
 // The layer with one cell more, to the block at `to`.
 pub fn step_layer(
     table: &mut [u32; search_store::TABLE],
     store: &mut [u32],
-    row: &[u32],
-    sizes: Sizes,
+    row: Row,
     layer: Block,
     to: usize,
 )
-    requires { Stepping table.old row.now store.old sizes layer to }
-    ensures { LayerMade (next_from (deck_in row.now sizes) sizes.reordering store.old
-        layer.at layer.cells) layer.lanes sizes.poses to sizes.states store.old
+    requires { Stepping table.old row.words.now store.old row.sizes layer to }
+    ensures { LayerMade (next_from (deck_in row.entry.words.now row.entry.sizes) row.entry.sizes.reordering store.old
+        layer.at layer.cells) layer.lanes row.entry.sizes.poses to row.entry.sizes.states store.old
         store.new table.new }
 {
-    for q in 0..sizes.states {
-        target_block(table, store, row, sizes, layer, to, q);
+    for q in 0..row.sizes.states {
+        target_block(table, store, row, layer, to, q);
     }
 }

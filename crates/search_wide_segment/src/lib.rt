@@ -13,89 +13,74 @@ ghost use Rattle.search_wide_segment.specs.Runs.{SegmentToTall, ToTall, Deliveri
 ghost use Rattle.search_wide_segment.specs.Runs.{StateComing, StateToTall, StateDelivering, StateToLast};
 ghost use Rattle.search_wide_segment.specs.Runs.{late_in, delivered, last_in, CostedRun, SegmentCosted};
 
-use search_row::Sizes;
+use search_row::Row;
 use search_wide_layer::Block;
 
 // Whether state q comes to the tall cell with the layer of so many cells.
-fn comes(row: &[u32], sizes: Sizes, cells: usize, tall: usize, q: usize) -> bool
-    requires { StateComing row.now sizes.reordering cells tall q }
-    ensures { result ≡ eqb (cells + offset sizes.reordering q) (tall + suc sizes.reordering) }
+fn comes(row: Row, cells: usize, tall: usize, q: usize) -> bool
+    requires { StateComing row.words.now row.sizes.reordering cells tall q }
+    ensures { result ≡ eqb (cells + offset row.entry.sizes.reordering q) (tall + suc row.entry.sizes.reordering) }
 {
-    cells + search_row::word(row, search_row::STATES + q * 4) == tall + sizes.reordering + 1
+    cells + search_row::word(row.words, search_row::STATES + q * 4)
+        == tall + row.sizes.reordering + 1
 }
 
 // NONE for state q, if it comes to the tall cell with no layer from this one on.
-fn late_state(
-    store: &mut [u32],
-    row: &[u32],
-    sizes: Sizes,
-    layer: Block,
-    tall: usize,
-    costs: usize,
-    q: usize,
-)
-    requires { StateToTall row.now store.old sizes layer tall costs q }
-    ensures { FilledState (late_in sizes.reordering layer.cells tall store.old costs)
-        layer.lanes costs q sizes.poses store.old store.new }
+fn late_state(store: &mut [u32], row: Row, layer: Block, tall: usize, costs: usize, q: usize)
+    requires { StateToTall row.words.now store.old row.sizes layer tall costs q }
+    ensures { FilledState (late_in row.entry.sizes.reordering layer.cells tall store.old costs)
+        layer.lanes costs q row.entry.sizes.poses store.old store.new }
 {
-    if layer.cells + search_row::word(row, search_row::STATES + q * 4)
-        <= tall + sizes.reordering + 1
+    if layer.cells + search_row::word(row.words, search_row::STATES + q * 4)
+        <= tall + row.sizes.reordering + 1
     {
         return;
     }
     search_lanes::fill(
         store,
         costs + q * search_store::STATE + search_store::FLAGS,
-        sizes.poses,
+        row.sizes.poses,
         0,
     );
 }
 
 // NONE for every such state: the costs of the others are delivered.
-fn fill_late(store: &mut [u32], row: &[u32], sizes: Sizes, layer: Block, tall: usize, costs: usize)
-    requires { ToTall row.now store.old sizes layer tall costs }
-    ensures { Filled (late_in sizes.reordering layer.cells tall store.old costs)
-        layer.lanes sizes.poses costs sizes.states store.old store.new }
+fn fill_late(store: &mut [u32], row: Row, layer: Block, tall: usize, costs: usize)
+    requires { ToTall row.words.now store.old row.sizes layer tall costs }
+    ensures { Filled (late_in row.entry.sizes.reordering layer.cells tall store.old costs)
+        layer.lanes row.entry.sizes.poses costs row.entry.sizes.states store.old store.new }
 {
-    for q in 0..sizes.states {
-        late_state(store, row, sizes, layer, tall, costs, q);
+    for q in 0..row.sizes.states {
+        late_state(store, row, layer, tall, costs, q);
     }
 }
 
 // The costs of state q, if it comes to the tall cell with this layer.
-fn deliver_state(
-    store: &mut [u32],
-    row: &[u32],
-    sizes: Sizes,
-    layer: Block,
-    tall: usize,
-    costs: usize,
-    q: usize,
-)
-    requires { StateDelivering row.now store.old sizes layer tall costs q }
-    ensures { FilledState (delivered sizes.reordering layer.cells tall store.old layer.at
-        costs) layer.lanes costs q sizes.poses store.old store.new }
+fn deliver_state(store: &mut [u32], row: Row, layer: Block, tall: usize, costs: usize, q: usize)
+    requires { StateDelivering row.words.now store.old row.sizes layer tall costs q }
+    ensures { FilledState (delivered row.entry.sizes.reordering layer.cells tall store.old layer.at
+        costs) layer.lanes costs q row.entry.sizes.poses store.old store.new }
 {
-    if !comes(row, sizes, layer.cells, tall, q) {
+    if !comes(row, layer.cells, tall, q) {
         return;
     }
     search_lanes::copy_rows(
         store,
         layer.at + q * search_store::STATE,
         costs + q * search_store::STATE,
-        sizes.poses,
+        row.sizes.poses,
         layer.lanes,
     );
 }
 
 // The costs of every state that comes with this layer.
-fn deliver(store: &mut [u32], row: &[u32], sizes: Sizes, layer: Block, tall: usize, costs: usize)
-    requires { Delivering row.now store.old sizes layer tall costs }
-    ensures { Filled (delivered sizes.reordering layer.cells tall store.old layer.at costs)
-        layer.lanes sizes.poses costs sizes.states store.old store.new }
+fn deliver(store: &mut [u32], row: Row, layer: Block, tall: usize, costs: usize)
+    requires { Delivering row.words.now store.old row.sizes layer tall costs }
+    ensures { Filled (delivered row.entry.sizes.reordering layer.cells tall store.old layer.at costs)
+        layer.lanes row.entry.sizes.poses costs row.entry.sizes.states store.old store.new }
 {
-    for q in 0..sizes.states {
-        deliver_state(store, row, sizes, layer, tall, costs, q);
+    for q in 0..row.sizes.states {
+        deliver_state(store, row, layer, tall, costs, q);
     }
 }
 
@@ -103,34 +88,33 @@ fn deliver(store: &mut [u32], row: &[u32], sizes: Sizes, layer: Block, tall: usi
 fn run_to(
     table: &mut [u32; search_store::TABLE],
     store: &mut [u32],
-    row: &[u32],
-    sizes: Sizes,
+    row: Row,
     first: Block,
     tall: usize,
     costs: usize,
 ) -> usize
-    requires { SegmentToTall table.old row.now store.old sizes first tall costs }
-    ensures { CostedRun (deck_in row.now sizes) sizes.reordering first.lanes first.cells
-        tall (tall + sizes.reordering - first.cells) result costs store.old store.new
+    requires { SegmentToTall table.old row.words.now store.old row.sizes first tall costs }
+    ensures { CostedRun (deck_in row.entry.words.now row.entry.sizes) row.entry.sizes.reordering first.lanes first.cells
+        tall (tall + row.entry.sizes.reordering - first.cells) result costs store.old store.new
         table.new }
 {
-    fill_late(store, row, sizes, first, tall, costs);
-    deliver(store, row, sizes, first, tall, costs);
+    fill_late(store, row, first, tall, costs);
+    deliver(store, row, first, tall, costs);
     let mut at: usize = 0;
-    for cells in first.cells..tall + sizes.reordering {
+    for cells in first.cells..tall + row.sizes.reordering {
         let layer = Block {
             lanes: first.lanes,
             cells,
             at,
         };
         at = search_store::LAYER - at;
-        search_wide_layer::step_layer(table, store, row, sizes, layer, at);
+        search_wide_layer::step_layer(table, store, row, layer, at);
         let next = Block {
             lanes: first.lanes,
             cells: cells + 1,
             at,
         };
-        deliver(store, row, sizes, next, tall, costs);
+        deliver(store, row, next, tall, costs);
     }
     at
 }
@@ -139,41 +123,39 @@ fn run_to(
 fn last_state(
     table: &mut [u32; search_store::TABLE],
     store: &mut [u32],
-    row: &[u32],
-    sizes: Sizes,
+    row: Row,
     layer: Block,
     tall: usize,
     costs: usize,
     q: usize,
 )
-    requires { StateToLast table.old row.now store.old sizes layer tall costs q }
-    ensures { StateMade (last_in (deck_in row.now sizes) sizes.reordering layer.cells tall
-        store.old layer.at costs) layer.lanes costs q sizes.poses store.old
+    requires { StateToLast table.old row.words.now store.old row.sizes layer tall costs q }
+    ensures { StateMade (last_in (deck_in row.entry.words.now row.entry.sizes) row.entry.sizes.reordering layer.cells tall
+        store.old layer.at costs) layer.lanes costs q row.entry.sizes.poses store.old
         store.new table.new }
 {
-    if !comes(row, sizes, layer.cells + 1, tall, q) {
+    if !comes(row, layer.cells + 1, tall, q) {
         return;
     }
-    search_wide_layer::target_block(table, store, row, sizes, layer, costs, q);
+    search_wide_layer::target_block(table, store, row, layer, costs, q);
 }
 
 // The costs of every such state: of the last layer nothing else is wanted.
 fn last_layer(
     table: &mut [u32; search_store::TABLE],
     store: &mut [u32],
-    row: &[u32],
-    sizes: Sizes,
+    row: Row,
     layer: Block,
     tall: usize,
     costs: usize,
 )
-    requires { ToLast table.old row.now store.old sizes layer tall costs }
-    ensures { LayerMade (last_in (deck_in row.now sizes) sizes.reordering layer.cells tall
-        store.old layer.at costs) layer.lanes sizes.poses costs sizes.states
+    requires { ToLast table.old row.words.now store.old row.sizes layer tall costs }
+    ensures { LayerMade (last_in (deck_in row.entry.words.now row.entry.sizes) row.entry.sizes.reordering layer.cells tall
+        store.old layer.at costs) layer.lanes row.entry.sizes.poses costs row.entry.sizes.states
         store.old store.new table.new }
 {
-    for q in 0..sizes.states {
-        last_state(table, store, row, sizes, layer, tall, costs, q);
+    for q in 0..row.sizes.states {
+        last_state(table, store, row, layer, tall, costs, q);
     }
 }
 
@@ -181,24 +163,23 @@ fn last_layer(
 pub fn segment_to(
     table: &mut [u32; search_store::TABLE],
     store: &mut [u32],
-    row: &[u32],
-    sizes: Sizes,
+    row: Row,
     first: Block,
     tall: usize,
     costs: usize,
 )
-    requires { SegmentToTall table.old row.now store.old sizes first tall costs }
-    ensures { SegmentCosted (deck_in row.now sizes) sizes.reordering first.lanes first.cells
+    requires { SegmentToTall table.old row.words.now store.old row.sizes first tall costs }
+    ensures { SegmentCosted (deck_in row.entry.words.now row.entry.sizes) row.entry.sizes.reordering first.lanes first.cells
         tall costs store.old store.new table.new }
 {
-    let at = run_to(table, store, row, sizes, first, tall, costs);
-    if first.cells > tall + sizes.reordering {
+    let at = run_to(table, store, row, first, tall, costs);
+    if first.cells > tall + row.sizes.reordering {
         return;
     }
     let layer = Block {
         lanes: first.lanes,
-        cells: tall + sizes.reordering,
+        cells: tall + row.sizes.reordering,
         at,
     };
-    last_layer(table, store, row, sizes, layer, tall, costs);
+    last_layer(table, store, row, layer, tall, costs);
 }

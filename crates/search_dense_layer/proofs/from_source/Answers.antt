@@ -15,25 +15,25 @@ use Rattle.search_dense_layer.proofs.from_source.Goals as goal
 use Rattle.search_dense_layer.proofs.from_source.Goals.{After-buckets_of-buckets, After-last_at-m, Else-not-is_source}
 
 -- past the test the state is a source
-source : (c : Else-not-is_source) → (is_source (deck_in c.args.row.now c.args.sizes) c.args.sizes.reordering
+source : (c : Else-not-is_source) → (is_source (deck_in c.args.row.words.now c.args.row.sizes) c.args.row.sizes.reordering
     c.args.sought.layer.cells c.args.sought.state c.args.p ≡ true)
 source c = sym c.is_source.ensures ∙ c.if-not-is_source.false
 
 -- both cells stand in the row
 left : (c : After-last_at-m) → c.last_at-k.result < max_cells
 left c =
-    let z = c.args.sizes in
+    let z = c.args.row.sizes in
     let s = c.args.sought in
-    let source : is_source (deck_in c.args.row.now z) z.reordering s.layer.cells s.state c.args.p ≡ true =
+    let source : is_source (deck_in c.args.row.words.now z) z.reordering s.layer.cells s.state c.args.p ≡ true =
     sym c.is_source.ensures ∙ c.if-not-is_source.false in
     omega (
       arith,
       c.last_at-k.ensures,
-      source-size c.args.row.now z.cells z.poses z.reordering s.layer.cells s.state c.args.p source,
+      source-size c.args.row.words.now z.cells z.poses z.reordering s.layer.cells s.state c.args.p source,
       c.requires.gathering.sought.given.grounded.size,
     )
 
-here : (c : After-last_at-m) → (c.last_at-m.result ≡ last_at c.args.sizes.reordering (suc c.args.sought.layer.cells) c.args.sought.state)
+here : (c : After-last_at-m) → (c.last_at-m.result ≡ last_at c.args.row.sizes.reordering (suc c.args.sought.layer.cells) c.args.sought.state)
 here c = omega (arith, c.last_at-m.ensures)
 
 right : (c : After-last_at-m) → c.last_at-m.result < max_cells
@@ -41,31 +41,31 @@ right c =
     omega (
       arith,
       here c,
-      there-size c.args.sizes.cells c.args.sizes.reordering (suc c.args.sought.layer.cells) c.args.sought.state
+      there-size c.args.row.sizes.cells c.args.row.sizes.reordering (suc c.args.sought.layer.cells) c.args.sought.state
           c.requires.gathering.sought.target.there,
       c.requires.gathering.sought.given.grounded.size,
     )
 
 -- how many buckets the target needs
-buckets : (c : After-buckets_of-buckets) → (c.buckets_of-buckets.result ≡ buckets_in c.args.row.now (last_at c.args.sizes.reordering (suc c.args.sought.layer.cells) c.args.sought.state))
+buckets : (c : After-buckets_of-buckets) → (c.buckets_of-buckets.result ≡ buckets_in c.args.row.words.now (last_at c.args.row.sizes.reordering (suc c.args.sought.layer.cells) c.args.sought.state))
 buckets c =
-    let m : c.last_at-m.result ≡ last_at c.args.sizes.reordering (suc c.args.sought.layer.cells) c.args.sought.state =
+    let m : c.last_at-m.result ≡ last_at c.args.row.sizes.reordering (suc c.args.sought.layer.cells) c.args.sought.state =
     omega (arith, c.last_at-m.ensures) in
-    c.buckets_of-buckets.ensures ∙ ap (buckets_in c.args.row.now) m
+    c.buckets_of-buckets.ensures ∙ ap (buckets_in c.args.row.words.now) m
 
 few : (c : After-buckets_of-buckets) → (5 ≤ c.buckets_of-buckets.result) × (c.buckets_of-buckets.result ≤ 9)
 few c =
-    let f = buckets_few c.args.row.now c.last_at-m.result in
+    let f = buckets_few c.args.row.words.now c.last_at-m.result in
     (omega (arith, c.buckets_of-buckets.ensures), omega (arith, c.buckets_of-buckets.ensures))
 
 pub returns-then-not-is_source : goal.returns-then-not-is_source
 returns-then-not-is_source c =
-    let D = deck_in c.args.row.now c.args.sizes in
+    let D = deck_in c.args.row.words.now c.args.row.sizes in
     let away = sym c.is_source.ensures ∙ c.if-not-is_source.true in
-    gathered_none (buckets_in c.args.row.now (last_at c.args.sizes.reordering (suc c.args.sought.layer.cells) c.args.sought.state)) c.requires.gathering.arrays
+    gathered_none (buckets_in c.args.row.words.now (last_at c.args.row.sizes.reordering (suc c.args.sought.layer.cells) c.args.sought.state)) c.requires.gathering.arrays
     (λ v t h. omega (
       arith,
-      state-out c.args.row.now D c.args.sizes.reordering (thin_in c.args.store.now c.args.sought.layer.at) c.args.sought.layer.cells
+      state-out c.args.row.words.now D c.args.row.sizes.reordering (thin_in c.args.store.now c.args.sought.layer.at) c.args.sought.layer.cells
           c.args.sought.state c.args.p v t away,
     ))
 
@@ -98,12 +98,12 @@ from_poses-requires c =
 
 pub returns : goal.returns
 returns c =
-    let D = deck_in c.args.row.now c.args.sizes in
+    let D = deck_in c.args.row.words.now c.args.row.sizes in
     let f = thin_in c.args.store.now c.args.sought.layer.at in
     let e = buckets (goal.at-returns c).After-buckets_of-buckets in
     let m = here (goal.at-returns c).After-last_at-m in
     let w = gathered_ext c.from_poses.ensures (few (goal.at-returns c).After-buckets_of-buckets).0
     (λ v t h.
-    state_in_lem c.args.row.now D c.args.sizes.reordering f c.args.sought.layer.cells c.args.sought.state c.args.p v t (source (goal.at-returns c).Else-not-is_source)
-    ∙ ap₂ (λ (x y : ℕ). by_poses c.args.row.now x y (f c.args.p) c.args.sizes.poses v t) (sym c.last_at-k.ensures) (sym m)) in
+    state_in_lem c.args.row.words.now D c.args.row.sizes.reordering f c.args.sought.layer.cells c.args.sought.state c.args.p v t (source (goal.at-returns c).Else-not-is_source)
+    ∙ ap₂ (λ (x y : ℕ). by_poses c.args.row.words.now x y (f c.args.p) c.args.row.sizes.poses v t) (sym c.last_at-k.ensures) (sym m)) in
     rw e at w

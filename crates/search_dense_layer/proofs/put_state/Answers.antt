@@ -11,9 +11,9 @@ use Rattle.search_dense_layer.proofs.put_state.Goals as goal
 
 pub returns-then-not-is_there : goal.returns-then-not-is_there
 returns-then-not-is_there c =
-    let D = deck_in c.args.row.now c.args.sizes in
+    let D = deck_in c.args.row.words.now c.args.row.sizes in
     let t = sym c.is_there.ensures ∙ c.if-not-is_there.true in
-    let u = ap (λ (j : ℕ). there_in c.args.sizes.cells c.args.sizes.reordering j c.args.q) (sym (add-one c.args.layer.cells)) ∙ t in
-    put-words D c.args.sizes.reordering c.args.layer.cells c.args.layer.at c.args.q c.fill.ensures (omega (arith, c.requires.given.grounded.few))
+    let u = ap (λ (j : ℕ). there_in c.args.row.sizes.cells c.args.row.sizes.reordering j c.args.q) (sym (add-one c.args.layer.cells)) ∙ t in
+    put-words D c.args.row.sizes.reordering c.args.layer.cells c.args.layer.at c.args.q c.fill.ensures (omega (arith, c.requires.given.grounded.few))
     (omega arith)
-    (λ b l. next-away D c.args.sizes.reordering (thin_in c.args.store.now c.args.layer.at) c.args.layer.cells c.args.q b u)
+    (λ b l. next-away D c.args.row.sizes.reordering (thin_in c.args.store.now c.args.layer.at) c.args.layer.cells c.args.q b u)

@@ -5,4 +5,4 @@ use Rattle.search_dense_layer.proofs.segment_kept.Given as goal
 
 abbrev pub invariant-loop-cells : goal.invariant-loop-cells
 invariant-loop-cells l =
-    SegmentKept (deck_in l.row l.sizes) l.sizes.reordering l.i l.cells l.initial.store l.store
+    SegmentKept (deck_in l.row.words.now l.row.sizes) l.row.sizes.reordering l.i l.cells l.initial.store l.store

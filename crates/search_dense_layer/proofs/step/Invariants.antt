@@ -5,4 +5,4 @@ use Rattle.search_dense_layer.proofs.step.Given as goal
 
 abbrev pub invariant-loop-q : goal.invariant-loop-q
 invariant-loop-q l =
-    Stepped (deck_in l.row l.sizes) l.sizes.reordering l.q l.i l.from l.initial.store l.store
+    Stepped (deck_in l.row.words.now l.row.sizes) l.row.sizes.reordering l.q l.i l.from l.initial.store l.store

@@ -17,7 +17,7 @@ use Rattle.search_dense_layer.proofs.target_there.Goals.{After-last_at-m, After-
 
 -- the target's position
 here : (c : After-last_at-m) →
-    (c.last_at-m.result ≡ last_at c.args.sizes.reordering (suc c.args.layer.cells) c.args.q)
+    (c.last_at-m.result ≡ last_at c.args.row.sizes.reordering (suc c.args.layer.cells) c.args.q)
 here c = omega (arith, c.last_at-m.ensures)
 
 inside : (c : After-last_at-m) → c.last_at-m.result < max_cells
@@ -25,7 +25,7 @@ inside c =
     omega (
       arith,
       here c,
-      there-size c.args.sizes.cells c.args.sizes.reordering (suc c.args.layer.cells) c.args.q c.requires.target.there,
+      there-size c.args.row.sizes.cells c.args.row.sizes.reordering (suc c.args.layer.cells) c.args.q c.requires.target.there,
       c.requires.given.grounded.size,
     )
 
@@ -33,11 +33,11 @@ inside c =
 arrays : (c : After-run_up) → ThinArrays c.gather.new.near c.gather.new.apart c.run_up.new.far
 arrays c = lent-run (lent-on lent_none c.gather.ensures) c.run_up.ensures
 
-buckets-low : (c : Start) → ((v t : ℕ) → by_states c.args.row.now (deck_in c.args.row.now c.args.sizes) c.args.sizes.reordering
-    (thin_in c.args.store.now c.args.layer.at) c.args.layer.cells c.args.q c.args.sizes.states v t ≤ B)
+buckets-low : (c : Start) → ((v t : ℕ) → by_states c.args.row.words.now (deck_in c.args.row.words.now c.args.row.sizes) c.args.row.sizes.reordering
+    (thin_in c.args.store.now c.args.layer.at) c.args.layer.cells c.args.q c.args.row.sizes.states v t ≤ B)
 buckets-low c v t =
-    states-low c.args.row.now (deck_in c.args.row.now c.args.sizes) c.args.sizes.reordering (thin_in c.args.store.now c.args.layer.at) c.args.layer.cells c.args.q
-    c.args.sizes.states v t
+    states-low c.args.row.words.now (deck_in c.args.row.words.now c.args.row.sizes) c.args.row.sizes.reordering (thin_in c.args.store.now c.args.layer.at) c.args.layer.cells c.args.q
+    c.args.row.sizes.states v t
 
 pub gather-requires : goal.gather-requires
 gather-requires c =
@@ -58,14 +58,14 @@ put_found-requires c =
 pub returns : goal.returns
 returns c =
     let g = c.requires.given in
-    let D = deck_in c.args.row.now c.args.sizes in
+    let D = deck_in c.args.row.words.now c.args.row.sizes in
     let f = thin_in c.args.store.now c.args.layer.at in
     let m = here (goal.at-returns c).After-last_at-m in
     let found = found-there (buckets-low (goal.at-returns c).Start) c.gather.ensures c.run_up.ensures
-    (λ n v t i. states_twin c.args.row.now D c.args.sizes.reordering f c.args.layer.cells c.args.q c.args.sizes.states v t
-    (buckets_twin c.args.row.now (last_at c.args.sizes.reordering (suc c.args.layer.cells) c.args.q) n) i) in
-    put-words D c.args.sizes.reordering c.args.layer.cells c.args.layer.at c.args.q c.put_found.ensures (omega arith)
+    (λ n v t i. states_twin c.args.row.words.now D c.args.row.sizes.reordering f c.args.layer.cells c.args.q c.args.row.sizes.states v t
+    (buckets_twin c.args.row.words.now (last_at c.args.row.sizes.reordering (suc c.args.layer.cells) c.args.q) n) i) in
+    put-words D c.args.row.sizes.reordering c.args.layer.cells c.args.layer.at c.args.q c.put_found.ensures (omega arith)
     (omega (arith, g.grounded.few))
-    (λ b l. next-found c.args.row.now c.args.sizes.cells c.args.sizes.poses c.args.sizes.reordering f c.args.layer.cells c.args.q b c.requires.target.there
+    (λ b l. next-found c.args.row.words.now c.args.row.sizes.cells c.args.row.sizes.poses c.args.row.sizes.reordering f c.args.layer.cells c.args.q b c.requires.target.there
     g.grounded.all m
     (rw (sym m) at (found b (omega (arith, g.grounded.few)))))

@@ -7,7 +7,7 @@ use Rattle.search_dense_segment.proofs.least_states.Goals as goal
 
 pub loop-q-init : goal.loop-q-init
 loop-q-init c =
-    sym (states-none (deck_in c.args.row.now c.args.sizes) c.args.sizes.reordering (thin_in c.args.store.now c.args.at))
+    sym (states-none (deck_in c.args.row.words.now c.args.row.sizes) c.args.row.sizes.reordering (thin_in c.args.store.now c.args.at))
 
 pub loop-q-preserved : goal.loop-q-preserved
 loop-q-preserved c =
@@ -17,5 +17,5 @@ loop-q-preserved c =
       c.min-x.ensures,
       c.least_state.ensures,
       l.invariant,
-      states-more (deck_in c.args.row.now c.args.sizes) c.args.sizes.reordering (thin_in c.args.store.now c.args.at) l.q,
+      states-more (deck_in c.args.row.words.now c.args.row.sizes) c.args.row.sizes.reordering (thin_in c.args.store.now c.args.at) l.q,
     )

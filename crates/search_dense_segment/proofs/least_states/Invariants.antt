@@ -7,4 +7,4 @@ use Rattle.search_dense_segment.proofs.least_states.Given as goal
 
 abbrev pub invariant-loop-q : goal.invariant-loop-q
 invariant-loop-q l =
-    l.x ≡ least_states (deck_in l.row l.sizes) l.sizes.reordering (thin_in l.store l.at) l.q
+    l.x ≡ least_states (deck_in l.row.words.now l.row.sizes) l.row.sizes.reordering (thin_in l.store l.at) l.q

@@ -6,9 +6,9 @@ use Rattle.search_row.specs.Words.{deck_in}
 use Rattle.search_dense_segment.specs.Laws.{opened-none, opened-end}
 use Rattle.search_dense_segment.proofs.open_end.Goals as goal
 
-pub returns-then-sizes-eq0 : goal.returns-then-sizes-eq0
-returns-then-sizes-eq0 c =
-    opened-none (deck_in c.args.row.now c.args.sizes) c.args.sizes.reordering c.args.costs c.if-sizes-eq0.true c.requires.room.over
+pub returns-then-row-eq0 : goal.returns-then-row-eq0
+returns-then-row-eq0 c =
+    opened-none (deck_in c.args.row.words.now c.args.row.sizes) c.args.row.sizes.reordering c.args.costs c.if-row-eq0.true c.requires.room.over
     c.put_one.ensures
 
 pub put_one-requires-2 : goal.put_one-requires-2
@@ -21,14 +21,14 @@ put_one-requires-2 c =
       word = omega (
         arith,
         c.least_states-x.ensures,
-        states-low (deck_in c.args.row.now c.args.sizes) c.args.sizes.reordering (thin_in c.run_open.new.store c.kept_at.result)
-            c.args.sizes.states,
+        states-low (deck_in c.args.row.words.now c.args.row.sizes) c.args.row.sizes.reordering (thin_in c.run_open.new.store c.kept_at.result)
+            c.args.row.sizes.states,
       );
     }
 
 pub returns : goal.returns
 returns c =
     let g = c.requires.room in
-    opened-end (deck_in c.args.row.now c.args.sizes) c.args.sizes.reordering c.args.costs c.least_states-x.result c.kept_at.result
-    (omega (arith, c.if-sizes-eq0.false)) g.over g.all c.kept_at.ensures c.run_open.ensures
+    opened-end (deck_in c.args.row.words.now c.args.row.sizes) c.args.row.sizes.reordering c.args.costs c.least_states-x.result c.kept_at.result
+    (omega (arith, c.if-row-eq0.false)) g.over g.all c.kept_at.ensures c.run_open.ensures
     c.least_states-x.ensures c.put_one-2.ensures

@@ -6,5 +6,5 @@ use Rattle.search_dense_segment.proofs.open_to.Goals as goal
 
 pub returns : goal.returns
 returns c =
-    opened-to (deck_in c.args.row.now c.args.sizes) c.args.sizes.reordering c.args.tall (omega arith) c.requires.room.over c.requires.room.all
+    opened-to (deck_in c.args.row.words.now c.args.row.sizes) c.args.row.sizes.reordering c.args.tall (omega arith) c.requires.room.over c.requires.room.all
     c.run_open.ensures c.put_states.ensures

@@ -5,4 +5,4 @@ use Rattle.search_dense_segment.proofs.put_states.Given as goal
 
 abbrev pub invariant-loop-q : goal.invariant-loop-q
 invariant-loop-q l =
-    Filled (comes_in l.sizes.reordering l.tall l.initial.store) 1 l.sizes.poses l.costs l.q l.initial.store l.store
+    Filled (comes_in l.row.sizes.reordering l.tall l.initial.store) 1 l.row.sizes.poses l.costs l.q l.initial.store l.store

@@ -5,5 +5,5 @@ use Rattle.search_dense_segment.proofs.run_open.Goals as goal
 
 pub returns : goal.returns
 returns c =
-    open_kept (deck_in c.args.row.now c.args.sizes) c.args.sizes.reordering c.kept_at.ensures c.requires.grounded.all
+    open_kept (deck_in c.args.row.words.now c.args.row.sizes) c.args.row.sizes.reordering c.kept_at.ensures c.requires.grounded.all
     c.open.ensures c.segment_kept.ensures

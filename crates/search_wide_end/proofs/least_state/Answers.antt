@@ -13,7 +13,7 @@ returns-then-not-ends_with c =
     lowered_to _ c.requires.layer.least.low
     (λ l h. omega (
       arith,
-      state-out (deck_in c.args.row.now c.args.sizes) c.args.sizes.reordering (layer_in c.args.store.now c.args.at l) c.args.q
+      state-out (deck_in c.args.row.words.now c.args.row.sizes) c.args.row.sizes.reordering (layer_in c.args.store.now c.args.at l) c.args.q
           (sym c.ends_with.ensures ∙ c.if-not-ends_with.true),
     ))
 
@@ -21,6 +21,6 @@ pub returns : goal.returns
 returns c =
     lowered_ext c.least_poses.ensures
     (λ l h.
-    state_in_lem (deck_in c.args.row.now c.args.sizes) c.args.sizes.reordering (layer_in c.args.store.now c.args.at l) c.args.q (sym c.ends_with.ensures ∙ c.if-not-ends_with.false)
-    ∙ ap (λ (j : ℕ). least_poses (back_in c.args.row.now j) (layer_in c.args.store.now c.args.at l) c.args.q c.args.sizes.poses)
+    state_in_lem (deck_in c.args.row.words.now c.args.row.sizes) c.args.row.sizes.reordering (layer_in c.args.store.now c.args.at l) c.args.q (sym c.ends_with.ensures ∙ c.if-not-ends_with.false)
+    ∙ ap (λ (j : ℕ). least_poses (back_in c.args.row.words.now j) (layer_in c.args.store.now c.args.at l) c.args.q c.args.row.sizes.poses)
     (sym c.last_at-k.ensures))

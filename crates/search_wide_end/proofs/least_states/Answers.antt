@@ -8,9 +8,9 @@ use Rattle.search_wide_end.proofs.least_states.Goals as goal
 pub loop-q-init : goal.loop-q-init
 loop-q-init c =
     lowered_to _ c.requires.least.low
-    (λ l h. omega (arith, states-none (deck_in c.args.row.now c.args.sizes) c.args.sizes.reordering (layer_in c.args.store.now c.args.at l)))
+    (λ l h. omega (arith, states-none (deck_in c.args.row.words.now c.args.row.sizes) c.args.row.sizes.reordering (layer_in c.args.store.now c.args.at l)))
 
 pub loop-q-preserved : goal.loop-q-preserved
 loop-q-preserved c =
     lowered_join c.loop-q.invariant c.least_state.ensures
-    (λ j h. states-more (deck_in c.args.row.now c.args.sizes) c.args.sizes.reordering (layer_in c.args.store.now c.args.at j) c.loop-q.q)
+    (λ j h. states-more (deck_in c.args.row.words.now c.args.row.sizes) c.args.row.sizes.reordering (layer_in c.args.store.now c.args.at j) c.loop-q.q)

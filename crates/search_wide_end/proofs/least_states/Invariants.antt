@@ -6,4 +6,4 @@ use Rattle.search_wide_end.proofs.least_states.Given as goal
 
 abbrev pub invariant-loop-q : goal.invariant-loop-q
 invariant-loop-q l =
-    Lowered (least_states_in (deck_in l.row l.sizes) l.sizes.reordering l.store l.at l.q) l.lanes l.initial.acc l.acc
+    Lowered (least_states_in (deck_in l.row.words.now l.row.sizes) l.row.sizes.reordering l.store l.at l.q) l.lanes l.initial.acc l.acc

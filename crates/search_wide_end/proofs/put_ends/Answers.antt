@@ -26,7 +26,7 @@ returns c =
       kept = v.kept;
       words = λ l h.
           v.words l h
-          ∙ sym (ends-gathered (deck_in c.args.row.now c.args.sizes) c.args.sizes.reordering (layer_in c.args.store.now c.args.at l) g.grounded.all
+          ∙ sym (ends-gathered (deck_in c.args.row.words.now c.args.row.sizes) c.args.row.sizes.reordering (layer_in c.args.store.now c.args.at l) g.grounded.all
           (omega (arith, w.done l h, none-at l (omega (arith, g.narrow)))));
       low = v.low;
     }

@@ -11,7 +11,7 @@ pub loop-cells-init : goal.loop-cells-init
 loop-cells-init c =
     let none : c.args.i - c.args.i ≡ 0 = omega arith in
     rw none (record {
-      running = run_none (deck_in c.args.row.now c.args.sizes) c.args.sizes.reordering c.args.lanes c.args.i (given-small c.requires.given) (λ j h. refl);
+      running = run_none (deck_in c.args.row.words.now c.args.row.sizes) c.args.row.sizes.reordering c.args.lanes c.args.i (given-small c.requires.given) (λ j h. refl);
       frame = frame-refl _ _ _;
       low = c.requires.given.low;
       lent = c.requires.lent;

@@ -11,18 +11,18 @@ use Rattle.search_wide_segment.specs.Laws.{outside-join, outside-layers}
 use Rattle.search_wide_end.specs.Laws.{ran_cost, row-outside, end-words}
 use Rattle.search_wide_end.proofs.segment_end.Goals as goal
 
-pub returns-then-i-sizes : goal.returns-then-i-sizes
-returns-then-i-sizes c =
+pub returns-then-i-row : goal.returns-then-i-row
+returns-then-i-row c =
     let g = c.requires.segment in
     end-words {g = always B} g.lent (first-closed (omega (arith, g.room.room)) g.given.low (λ l h. refl))
-    (λ f l. cost-past (deck_in c.args.row.now c.args.sizes) c.args.sizes.reordering f c.args.first.cells (get_or c.args.starts.now l 0) (omega arith))
+    (λ f l. cost-past (deck_in c.args.row.words.now c.args.row.sizes) c.args.row.sizes.reordering f c.args.first.cells (get_or c.args.starts.now l 0) (omega arith))
 
-pub returns-then-i-sizes-2 : goal.returns-then-i-sizes-2
-returns-then-i-sizes-2 c =
+pub returns-then-i-row-2 : goal.returns-then-i-row-2
+returns-then-i-row-2 c =
     let s = c.requires.pays in
     end-words c.requires.segment.lent c.put_lanes.ensures
     (λ f l. omega
-    (arith, cost-done (deck_in c.args.row.now c.args.sizes) c.args.sizes.reordering f c.args.first.cells (get_or c.args.starts.now l 0) (omega arith), s.low.word l))
+    (arith, cost-done (deck_in c.args.row.words.now c.args.row.sizes) c.args.row.sizes.reordering f c.args.first.cells (get_or c.args.starts.now l 0) (omega arith), s.low.word l))
 
 pub returns : goal.returns
 returns c =

@@ -13,25 +13,25 @@ use Rattle.search_wide_first.proofs.first_block.Goals as goal
 use Rattle.search_wide_first.proofs.first_block.Goals.{After-last_at-k, Else-not-starts, Start}
 
 -- past the test the state can come first
-can : (c : Else-not-starts) → (starts_at c.args.sizes.cells c.args.sizes.reordering (suc c.args.to.cells)
+can : (c : Else-not-starts) → (starts_at c.args.row.sizes.cells c.args.row.sizes.reordering (suc c.args.to.cells)
     c.args.m c.args.q ≡ true)
 can c =
-    ap (λ (j : ℕ). starts_at c.args.sizes.cells c.args.sizes.reordering j c.args.m c.args.q) (sym (add-one c.args.to.cells)) ∙ sym c.starts.ensures
+    ap (λ (j : ℕ). starts_at c.args.row.sizes.cells c.args.row.sizes.reordering j c.args.m c.args.q) (sym (add-one c.args.to.cells)) ∙ sym c.starts.ensures
     ∙ c.if-not-starts.false
 
 here : (c : After-last_at-k)
     → (c.last_at-k.result ≡ last_at
-    c.args.sizes.reordering (suc c.args.to.cells) c.args.q)
+    c.args.row.sizes.reordering (suc c.args.to.cells) c.args.q)
 here c = omega (arith, c.last_at-k.ensures)
 
 pub returns-then-not-starts : goal.returns-then-not-starts
 returns-then-not-starts c =
     let g = c.requires.given in
     let t = sym c.starts.ensures ∙ c.if-not-starts.true in
-    let u = ap (λ (j : ℕ). starts_at c.args.sizes.cells c.args.sizes.reordering j c.args.m c.args.q) (sym (add-one c.args.to.cells)) ∙ t in
+    let u = ap (λ (j : ℕ). starts_at c.args.row.sizes.cells c.args.row.sizes.reordering j c.args.m c.args.q) (sym (add-one c.args.to.cells)) ∙ t in
     record {
       filled = state-closed g.narrow g.grounded.few g.low c.fill.ensures
-          (λ b l x y. after-away (deck_in c.args.row.now c.args.sizes) c.args.sizes.reordering c.args.to.cells c.args.m c.args.p l c.args.q b u);
+          (λ b l x y. after-away (deck_in c.args.row.words.now c.args.row.sizes) c.args.row.sizes.reordering c.args.to.cells c.args.m c.args.p l c.args.q b u);
       lent = c.requires.lent;
     }
 
@@ -42,7 +42,7 @@ returns c =
     record {
       filled = state-rows w.written
           (λ b l x y.
-          after-there (deck_in c.args.row.now c.args.sizes) c.args.sizes.reordering c.args.to.cells c.args.m c.args.p l c.args.q b (can (goal.at-returns c).Else-not-starts)
-          ∙ ap (λ (j : ℕ). after_row c.args.row.now c.args.p j b l) (sym e));
+          after-there (deck_in c.args.row.words.now c.args.row.sizes) c.args.row.sizes.reordering c.args.to.cells c.args.m c.args.p l c.args.q b (can (goal.at-returns c).Else-not-starts)
+          ∙ ap (λ (j : ℕ). after_row c.args.row.words.now c.args.p j b l) (sym e));
       lent = w.lent;
     }

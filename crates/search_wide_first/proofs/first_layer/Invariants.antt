@@ -7,4 +7,4 @@ use Rattle.search_wide_first.proofs.first_layer.Given as goal
 
 abbrev pub invariant-loop-q : goal.invariant-loop-q
 invariant-loop-q l =
-    Filled (after_from (deck_in l.row l.sizes) l.sizes.reordering l.i l.m l.p) l.lanes l.sizes.poses 0 l.q l.initial.store l.store × TableLent l.table
+    Filled (after_from (deck_in l.row.words.now l.row.sizes) l.row.sizes.reordering l.i l.m l.p) l.lanes l.row.sizes.poses 0 l.q l.initial.store l.store × TableLent l.table

@@ -21,7 +21,7 @@ left c =
     omega (
       arith,
       c.last_at-left.ensures,
-      source-size c.args.row.now c.args.sizes.cells c.args.sizes.poses c.args.sizes.reordering c.args.layer.cells c.args.q c.args.p
+      source-size c.args.row.words.now c.args.row.sizes.cells c.args.row.sizes.poses c.args.row.sizes.reordering c.args.layer.cells c.args.q c.args.p
           (c.is_way.ensures.source c.if-not-is_way.false),
       c.requires.gathering.given.grounded.size,
     )
@@ -31,13 +31,13 @@ right c =
     omega (
       arith,
       c.last_at-right.ensures,
-      there-size c.args.sizes.cells c.args.sizes.reordering (suc c.args.layer.cells) c.args.q c.requires.gathering.target.there,
+      there-size c.args.row.sizes.cells c.args.row.sizes.reordering (suc c.args.layer.cells) c.args.q c.requires.gathering.target.there,
       c.requires.gathering.given.grounded.size,
     )
 
 -- how many buckets the target needs
 needed : (c : After-buckets_of-buckets) → FiveOrNine c.buckets_of-buckets.result
-needed c = rw c.buckets_of-buckets.ensures (buckets_either c.args.row.now c.last_at-right.result)
+needed c = rw c.buckets_of-buckets.ensures (buckets_either c.args.row.words.now c.last_at-right.result)
 
 pub fill_pays-requires : goal.fill_pays-requires
 fill_pays-requires c =
@@ -75,8 +75,8 @@ from_poses-requires c =
 
 pub returns : goal.returns
 returns c =
-    let z = c.args.sizes in
-    let row = c.args.row.now in
+    let z = c.args.row.sizes in
+    let row = c.args.row.words.now in
     let f = λ (l : ℕ). layer_in c.args.store.now c.args.layer.at l in
     let here : c.last_at-right.result ≡ last_at z.reordering (suc c.args.layer.cells) c.args.q = omega (arith, c.last_at-right.ensures) in
     record {

@@ -13,7 +13,7 @@ loop-p-init c =
       gathered = gathered_none _ _ _ c.requires.lent.low
           (λ l v t i j h. omega (
             arith,
-            states-none c.args.row.now (deck_in c.args.row.now c.args.sizes) c.args.sizes.reordering (layer_in c.args.store.now c.args.layer.at l)
+            states-none c.args.row.words.now (deck_in c.args.row.words.now c.args.row.sizes) c.args.row.sizes.reordering (layer_in c.args.store.now c.args.layer.at l)
                 c.args.layer.cells c.args.q v t,
           ));
       unused = λ e. refl;
@@ -24,7 +24,7 @@ loop-p-preserved c =
     let w = c.loop-p.invariant in
     record {
       gathered = gathered-join w.gathered c.from_source.ensures.gathered
-          (λ j v t h. states-more c.args.row.now (deck_in c.args.row.now c.args.sizes) c.args.sizes.reordering (layer_in c.args.store.now c.args.layer.at j)
+          (λ j v t h. states-more c.args.row.words.now (deck_in c.args.row.words.now c.args.row.sizes) c.args.row.sizes.reordering (layer_in c.args.store.now c.args.layer.at j)
           c.args.layer.cells c.args.q c.loop-p.p v t);
       unused = λ e.
           elim c.if-from_source.branch [

@@ -18,7 +18,7 @@ returns-else-is_source c =
       source = λ e. cc;
       none = λ e l v t. omega (
         arith,
-        state-out c.args.row.now (deck_in c.args.row.now c.args.sizes) c.args.sizes.reordering (layer_in c.args.store.now c.args.layer.at l) c.args.layer.cells
+        state-out c.args.row.words.now (deck_in c.args.row.words.now c.args.row.sizes) c.args.row.sizes.reordering (layer_in c.args.store.now c.args.layer.at l) c.args.layer.cells
             c.args.q c.args.p v t
             (sym c.is_source.ensures ∙ c.if-is_source.false),
       );
@@ -30,10 +30,10 @@ returns-then-is_source c =
       source = λ e. cc;
       none = λ e l v u. omega (
         arith,
-        state_in_lem c.args.row.now (deck_in c.args.row.now c.args.sizes) c.args.sizes.reordering (layer_in c.args.store.now c.args.layer.at l) c.args.layer.cells c.args.q
+        state_in_lem c.args.row.words.now (deck_in c.args.row.words.now c.args.row.sizes) c.args.row.sizes.reordering (layer_in c.args.store.now c.args.layer.at l) c.args.layer.cells c.args.q
             c.args.p v u (sym c.is_source.ensures ∙ c.if-is_source.true),
-        poses-above c.args.row.now (last_at c.args.sizes.reordering c.args.layer.cells c.args.p)
-            (last_at c.args.sizes.reordering (suc c.args.layer.cells) c.args.q) (layer_in c.args.store.now c.args.layer.at l c.args.p) c.args.sizes.poses v u
+        poses-above c.args.row.words.now (last_at c.args.row.sizes.reordering c.args.layer.cells c.args.p)
+            (last_at c.args.row.sizes.reordering (suc c.args.layer.cells) c.args.q) (layer_in c.args.store.now c.args.layer.at l c.args.p) c.args.row.sizes.poses v u
             (λ b n. omega (
               arith,
               said-none (get_or c.args.store.now (c.args.layer.at + c.args.p * state_block + flags_from + b) 0)

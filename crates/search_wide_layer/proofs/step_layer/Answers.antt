@@ -13,7 +13,7 @@ loop-q-preserved c =
     let kept = beside-kept c.requires.beside s.frame (omega arith) (omega arith) in (
       filled_more l.q g.narrow (omega (arith, g.grounded.few)) (omega (arith, g.grounded.all, g.grounded.coded.few)) s
           c.target_block.ensures.filled
-          (λ b j x y. sym (next-kept (deck_in c.args.row.now c.args.sizes) c.args.sizes.reordering c.args.layer.cells l.q b j kept g.grounded.coded.few
+          (λ b j x y. sym (next-kept (deck_in c.args.row.words.now c.args.row.sizes) c.args.row.sizes.reordering c.args.layer.cells l.q b j kept g.grounded.coded.few
           g.grounded.few
           (omega (arith, g.narrow)))),
       c.target_block.ensures.lent,

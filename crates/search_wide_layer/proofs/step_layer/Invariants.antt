@@ -7,5 +7,5 @@ use Rattle.search_wide_layer.proofs.step_layer.Given as goal
 
 abbrev pub invariant-loop-q : goal.invariant-loop-q
 invariant-loop-q l =
-    Filled (next_from (deck_in l.row l.sizes) l.sizes.reordering l.initial.store l.layer.at l.layer.cells) l.layer.lanes
-    l.sizes.poses l.to l.q l.initial.store l.store × TableLent l.table
+    Filled (next_from (deck_in l.row.words.now l.row.sizes) l.row.sizes.reordering l.initial.store l.layer.at l.layer.cells) l.layer.lanes
+    l.row.sizes.poses l.to l.q l.initial.store l.store × TableLent l.table

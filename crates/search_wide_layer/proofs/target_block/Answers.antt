@@ -12,10 +12,10 @@ pub returns-then-not-is_there : goal.returns-then-not-is_there
 returns-then-not-is_there c =
     let g = c.requires.stepping.given in
     let t = sym c.is_there.ensures ∙ c.if-not-is_there.true in
-    let u = ap (λ (j : ℕ). there_in c.args.sizes.cells c.args.sizes.reordering j c.args.q) (sym (add-one c.args.layer.cells)) ∙ t in
+    let u = ap (λ (j : ℕ). there_in c.args.row.sizes.cells c.args.row.sizes.reordering j c.args.q) (sym (add-one c.args.layer.cells)) ∙ t in
     record {
       filled = state-closed g.narrow g.grounded.few g.low c.fill.ensures
-          (λ b l x y. next-away (deck_in c.args.row.now c.args.sizes) c.args.sizes.reordering (layer_in c.args.store.now c.args.layer.at l) c.args.layer.cells
+          (λ b l x y. next-away (deck_in c.args.row.words.now c.args.row.sizes) c.args.row.sizes.reordering (layer_in c.args.store.now c.args.layer.at l) c.args.layer.cells
           c.args.q b u);
       lent = c.requires.stepping.lent;
     }

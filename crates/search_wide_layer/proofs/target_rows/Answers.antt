@@ -52,24 +52,24 @@ inside c =
     omega (
       arith,
       c.last_at-m.ensures,
-      there-size c.args.sizes.cells c.args.sizes.reordering (suc c.args.layer.cells) c.args.q c.requires.target.there,
+      there-size c.args.row.sizes.cells c.args.row.sizes.reordering (suc c.args.layer.cells) c.args.q c.requires.target.there,
       c.requires.stepping.given.grounded.size,
     )
 
 either : (c : After-buckets_of-buckets) → FiveOrNine c.buckets_of-buckets.result
-either c = rw c.buckets_of-buckets.ensures (buckets_either c.args.row.now c.last_at-m.result)
+either c = rw c.buckets_of-buckets.ensures (buckets_either c.args.row.words.now c.last_at-m.result)
 
 -- how many of its poses look at the table
 looking : (c : After-poses_of-poses) → c.poses_of-poses.result ≤ max_poses
 looking c = omega (arith, c.poses_of-poses.ensures.most, c.requires.stepping.given.grounded.few)
 
 -- the sources are gathered in the rows that these poses look at
-all : (c : After-gather) → Gathered (bucket c.args.row.now c.args.store.now c.args.sizes c.args.layer c.args.q)
+all : (c : After-gather) → Gathered (bucket c.args.row.words.now c.args.store.now c.args.row.sizes c.args.layer c.args.q)
     (rows_of c.poses_of-poses.result) c.buckets_of-buckets.result c.args.layer.lanes c.reset.new.table c.gather.new.table
 all c =
     rw (
       c.rows_of-rows.ensures,
-      sym (needed c.args.row.now c.args.sizes c.args.layer c.args.q c.last_at-m.ensures
+      sym (needed c.args.row.words.now c.args.row.sizes c.args.layer c.args.q c.last_at-m.ensures
           c.buckets_of-buckets.ensures),
     ) at c.gather.ensures.gathered
 
@@ -79,7 +79,7 @@ returns-then-not-has_way c =
     record {
       filled = state-closed g.narrow g.grounded.few g.low c.fill.ensures
           (λ b l p i.
-          next-alone c.args.row.now c.args.sizes.cells c.args.sizes.poses c.args.sizes.reordering (layer_in c.args.store.now c.args.layer.at l) c.args.layer.cells
+          next-alone c.args.row.words.now c.args.row.sizes.cells c.args.row.sizes.poses c.args.row.sizes.reordering (layer_in c.args.store.now c.args.layer.at l) c.args.layer.cells
           c.args.q b
           c.requires.target.there g.grounded.all
           (λ v t m n. c.has_way.ensures c.if-not-has_way.true m n l v t));
@@ -98,8 +98,8 @@ returns-then-not-gather c =
     let g = c.requires.stepping.given in
     let w = c.gather.ensures.gathered in
     let k = goal.at-returns-then-not-gather c in
-    let z = c.args.sizes in
-    let row = c.args.row.now in
+    let z = c.args.row.sizes in
+    let row = c.args.row.words.now in
     let n = either k.After-buckets_of-buckets in
     let f = λ (l : ℕ). layer_in c.args.store.now c.args.layer.at l in
     record {
@@ -119,14 +119,14 @@ returns-then-not-gather c =
 
 -- the table once bucket 0 ran up
 table : (c : After-run_up) → c.poses_of-poses.result ≤ max_poses → FiveOrNine c.buckets_of-buckets.result
-    → Gathered (bucket c.args.row.now c.args.store.now c.args.sizes c.args.layer c.args.q) (rows_of c.poses_of-poses.result)
+    → Gathered (bucket c.args.row.words.now c.args.store.now c.args.row.sizes c.args.layer c.args.q) (rows_of c.poses_of-poses.result)
     c.buckets_of-buckets.result c.args.layer.lanes c.reset.new.table c.gather.new.table
-    → TableReady (bucket c.args.row.now c.args.store.now c.args.sizes c.args.layer c.args.q)
+    → TableReady (bucket c.args.row.words.now c.args.store.now c.args.row.sizes c.args.layer c.args.q)
     c.poses_of-poses.result c.buckets_of-buckets.result c.args.layer.lanes c.run_up.new.table
 table c h n a =
-    ready h (five-least n) (nine-most n) (low c.args.row.now c.args.store.now c.args.sizes c.args.layer c.args.q)
-    (last c.args.row.now c.args.store.now c.args.sizes c.args.layer c.args.q
-    (needed c.args.row.now c.args.sizes c.args.layer c.args.q c.last_at-m.ensures c.buckets_of-buckets.ensures))
+    ready h (five-least n) (nine-most n) (low c.args.row.words.now c.args.store.now c.args.row.sizes c.args.layer c.args.q)
+    (last c.args.row.words.now c.args.store.now c.args.row.sizes c.args.layer c.args.q
+    (needed c.args.row.words.now c.args.row.sizes c.args.layer c.args.q c.last_at-m.ensures c.buckets_of-buckets.ensures))
     c.reset.ensures a c.run_up.ensures
 
 pub put_rows-requires : goal.put_rows-requires
@@ -155,8 +155,8 @@ returns c =
     let g = c.requires.stepping.given in
     let k = goal.at-returns c in
     let t = table k.After-run_up (looking k.After-poses_of-poses) (either k.After-buckets_of-buckets) (all k.After-gather) in
-    let z = c.args.sizes in
-    let row = c.args.row.now in
+    let z = c.args.row.sizes in
+    let row = c.args.row.words.now in
     let f = λ (l : ℕ). layer_in c.args.store.now c.args.layer.at l in
     let e : c.last_at-m.result ≡ last_at z.reordering (suc c.args.layer.cells) c.args.q = omega (arith, c.last_at-m.ensures) in
     record {

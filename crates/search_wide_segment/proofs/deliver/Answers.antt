@@ -16,7 +16,7 @@ loop-q-preserved c =
     let f = l.invariant.1 in (
       filled_more l.q g.narrow (omega arith) (omega (arith, g.all, g.coded.few)) l.invariant.0 w
           (λ b j x y.
-          ap₂ (cond (eqb (c.args.layer.cells + offset c.args.sizes.reordering l.q) (c.args.tall + suc c.args.sizes.reordering)))
+          ap₂ (cond (eqb (c.args.layer.cells + offset c.args.row.sizes.reordering l.q) (c.args.tall + suc c.args.row.sizes.reordering)))
           (sym (said-below f (c.args.layer.at + l.q * state_block) b j (omega (arith, g.room.over, g.all, g.coded.few, c.requires.below)) (omega (arith, g.few))
           (omega (arith, g.narrow))))
           (sym (said-above f (c.args.costs + l.q * state_block) b j (omega arith)))),

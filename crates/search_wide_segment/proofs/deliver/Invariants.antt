@@ -7,5 +7,5 @@ use Rattle.search_wide_segment.proofs.deliver.Given as goal
 
 abbrev pub invariant-loop-q : goal.invariant-loop-q
 invariant-loop-q l =
-    Filled (delivered l.sizes.reordering l.layer.cells l.tall l.initial.store l.layer.at l.costs) l.layer.lanes l.sizes.poses l.costs l.q l.initial.store l.store
+    Filled (delivered l.row.sizes.reordering l.layer.cells l.tall l.initial.store l.layer.at l.costs) l.layer.lanes l.row.sizes.poses l.costs l.q l.initial.store l.store
     × Frame l.costs (l.costs + l.q * state_block) l.initial.store l.store

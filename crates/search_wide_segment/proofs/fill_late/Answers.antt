@@ -14,7 +14,7 @@ loop-q-preserved c =
     let w = c.late_state.ensures in
     let f = l.invariant.1 in (
       filled_more l.q c.requires.narrow (omega arith) (omega (arith, c.requires.all, c.requires.coded.few)) l.invariant.0 w
-          (λ b j x y. ap (cond (ltb (c.args.tall + suc c.args.sizes.reordering) (c.args.layer.cells + offset c.args.sizes.reordering l.q)) B)
+          (λ b j x y. ap (cond (ltb (c.args.tall + suc c.args.row.sizes.reordering) (c.args.layer.cells + offset c.args.row.sizes.reordering l.q)) B)
           (sym (said-above f (c.args.costs + l.q * state_block) b j (omega arith)))),
       frame-join c.args.costs (c.args.costs + (l.q + 1) * state_block) f w.frame (omega arith) (omega arith) (omega arith) (omega arith),
     )

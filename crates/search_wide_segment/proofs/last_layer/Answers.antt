@@ -20,8 +20,8 @@ loop-q-preserved c =
     let kept = beside-kept c.requires.stepping.beside s.frame (omega arith) (omega arith) in (
       filled_more l.q g.narrow (omega (arith, g.grounded.few)) (omega (arith, g.grounded.all, g.grounded.coded.few)) s w.filled
           (λ b j x y.
-          ap₂ (cond (eqb (suc c.args.layer.cells + offset c.args.sizes.reordering l.q) (c.args.tall + suc c.args.sizes.reordering)))
-          (sym (next-kept (deck_in c.args.row.now c.args.sizes) c.args.sizes.reordering c.args.layer.cells l.q b j kept g.grounded.coded.few g.grounded.few
+          ap₂ (cond (eqb (suc c.args.layer.cells + offset c.args.row.sizes.reordering l.q) (c.args.tall + suc c.args.row.sizes.reordering)))
+          (sym (next-kept (deck_in c.args.row.words.now c.args.row.sizes) c.args.row.sizes.reordering c.args.layer.cells l.q b j kept g.grounded.coded.few g.grounded.few
           (omega (arith, g.narrow))))
           (sym (said-above f (c.args.costs + l.q * state_block) b j (omega arith)))),
       frame-join c.args.costs (c.args.costs + (l.q + 1) * state_block) f w.filled.frame (omega arith) (omega arith) (omega arith) (omega arith),

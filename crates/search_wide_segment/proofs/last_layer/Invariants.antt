@@ -9,6 +9,6 @@ use Rattle.search_wide_segment.proofs.last_layer.Given as goal
 
 abbrev pub invariant-loop-q : goal.invariant-loop-q
 invariant-loop-q l =
-    Filled (last_in (deck_in l.row l.sizes) l.sizes.reordering l.layer.cells l.tall l.initial.store l.layer.at l.costs) l.layer.lanes
-    l.sizes.poses l.costs l.q l.initial.store l.store
+    Filled (last_in (deck_in l.row.words.now l.row.sizes) l.row.sizes.reordering l.layer.cells l.tall l.initial.store l.layer.at l.costs) l.layer.lanes
+    l.row.sizes.poses l.costs l.q l.initial.store l.store
     × Frame l.costs (l.costs + l.q * state_block) l.initial.store l.store × TableLent l.table

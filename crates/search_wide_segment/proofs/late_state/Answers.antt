@@ -8,7 +8,7 @@ use Rattle.search_wide_segment.proofs.late_state.Goals as goal
 
 pub returns : goal.returns
 returns c =
-    let e : c.args.tall + suc c.args.sizes.reordering < c.args.layer.cells + offset c.args.sizes.reordering c.args.q =
+    let e : c.args.tall + suc c.args.row.sizes.reordering < c.args.layer.cells + offset c.args.row.sizes.reordering c.args.q =
     omega (arith, c.if-layer-word.false, c.word.ensures, c.requires.to_tall.coded.digit c.args.q c.requires.state) in
     state-closed c.requires.to_tall.narrow (omega arith) c.requires.to_tall.low c.fill.ensures
-    (λ b l x y. late-take c.args.sizes.reordering c.args.layer.cells c.args.tall c.args.store.now c.args.costs l c.args.q b e)
+    (λ b l x y. late-take c.args.row.sizes.reordering c.args.layer.cells c.args.tall c.args.store.now c.args.costs l c.args.q b e)

@@ -12,8 +12,8 @@ loop-cells-init c =
     let g = c.requires.segment.given in
     let none : c.args.first.cells - c.args.first.cells ≡ 0 = omega arith in (
       omega (arith, g.early),
-      rw none (costed-start (deck_in c.args.row.now c.args.sizes) c.args.sizes.reordering c.args.first.lanes c.args.first.cells c.args.tall
-          c.args.costs c.args.sizes.states (given-small g) g.grounded.all c.requires.segment.room.over c.requires.segment.lent
+      rw none (costed-start (deck_in c.args.row.words.now c.args.row.sizes) c.args.row.sizes.reordering c.args.first.lanes c.args.first.cells c.args.tall
+          c.args.costs c.args.row.sizes.states (given-small g) g.grounded.all c.requires.segment.room.over c.requires.segment.lent
           c.fill_late.ensures (rw c.requires.segment.begins at c.deliver.ensures)),
       omega arith,
     )
@@ -37,7 +37,7 @@ pub returns : goal.returns
 returns c =
     let l = c.loop-cells in
     let p = c.requires.segment.room.over in
-    let e : l.cells - c.args.first.cells ≡ c.args.tall + c.args.sizes.reordering - c.args.first.cells = omega (arith, l.invariant.2) in
+    let e : l.cells - c.args.first.cells ≡ c.args.tall + c.args.row.sizes.reordering - c.args.first.cells = omega (arith, l.invariant.2) in
     let o : Outside c.args.costs layer_block c.args.store.now c.deliver.new.store =
     outside-join (outside-costs c.fill_late.ensures.frame (omega arith) (omega arith))
     (outside-costs c.deliver.ensures.frame (omega arith) (omega arith)) in

@@ -7,5 +7,5 @@ use Rattle.search_wide_segment.proofs.run_to.Given as goal
 
 abbrev pub invariant-loop-cells : goal.invariant-loop-cells
 invariant-loop-cells l =
-    (l.cells ≤ max_kept + 1) × CostedRun (deck_in l.row l.sizes) l.sizes.reordering l.first.lanes l.first.cells l.tall (l.cells - l.first.cells) l.at l.costs
-    l.initial.store l.store l.table × (l.cells - l.first.cells ≤ l.tall + l.sizes.reordering - l.first.cells)
+    (l.cells ≤ max_kept + 1) × CostedRun (deck_in l.row.words.now l.row.sizes) l.row.sizes.reordering l.first.lanes l.first.cells l.tall (l.cells - l.first.cells) l.at l.costs
+    l.initial.store l.store l.table × (l.cells - l.first.cells ≤ l.tall + l.row.sizes.reordering - l.first.cells)
