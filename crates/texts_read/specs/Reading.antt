@@ -1,102 +1,96 @@
 -- What both texts are read as: Score's refusal, or a job and a placement that may be scored.
-use Rattle.std.specs.Prelude.{ℕ, ◌^◌, ◌<◌, ◌≡◌, List, [], ◌∷◌, length}
+use Rattle.std.specs.Prelude.{ℕ, ◌^◌, ◌<◌, ◌≡◌, Result, Ok, Err, MatchResult, List, [], ◌∷◌, length}
 use Rattle.std.proofs.Common.{sym, ◌∙◌, arith, ne_eqb}
 use Rattle.std.proofs.Math.Path.{ap}
-use Rattle.std.proofs.Math.Decide.{ℕ_discrete}
 use Rattle.definition.specs.Texts.{Text}
 use Rattle.definition.specs.Job as paper
 use Rattle.definition.specs.Job.{accepted, read_job}
 use Rattle.definition.specs.Placement.{Placement, Poses, poses, read_placement}
-use Rattle.definition.specs.Outcome.{Outcome, Refusal, first_of, refused_by, poses_refusal, score_refusals, as_score}
+use Rattle.definition.specs.Outcome as outcome
+use Rattle.definition.specs.Outcome.{Outcome, without_line, first_of, refused_by, poses_refusal, score_refusals, as_score}
 use Rattle.definition_laws.specs.Outcomes.{list-refuses}
+use Rattle.job.specs.declared.Job as job
 use Rattle.job.specs.declared.Placement as placement
 use Rattle.job.specs.Value.{job_of, placement_of}
 use Rattle.job.specs.Ready.{Ready}
-use Rattle.job_read.specs.declared.Reading as job
 use Rattle.job_read.specs.Reads.{Reads, reads-accepted, reads-refused}
-use Rattle.placement_read.specs.declared.PlacementReading.{PlacementReading}
 use Rattle.placement_read.specs.Reading.{ReadAs, read-fault, read_whole}
-use Rattle.results.specs.Refusals.{refusal_of, Signed}
+use Rattle.results.specs.declared.Refusal.{Refusal}
+use Rattle.results.specs.Refusals.{number_of, line_of, refusal_of, numbered}
 use Rattle.texts_read.specs.declared.Texts.{Texts}
+
+-- the refusal of document 01, by the two texts
+abbrev pub texts_refusal : Text → Text → outcome.Refusal
+texts_refusal jobText placementText = first_of (score_refusals (read_job jobText) placementText)
 
 -- a job and a placement that were read
 pub record BothRead (jobText placementText : Text) (r : Texts) : Type 0 where
+  pub refusal : texts_refusal jobText placementText ≡ without_line 0
   pub ready : Ready r.job r.placement
   pub job : read_job jobText ≡ accepted (job_of r.job)
   pub placement : read_placement (length (job_of r.job).cells) placementText ≡ poses (placement_of r.placement)
 
-pub record TextsRead (jobText placementText : Text) (r : Texts) : Type 0 where
-  pub refusal : first_of (score_refusals (read_job jobText) placementText) ≡ refusal_of r.refusal
-  pub signed : Signed r.refusal
-  pub none : r.refusal.number ≡ 0 → r.refusal.line ≡ 0
-  pub both : r.refusal.number ≡ 0 → BothRead jobText placementText r
+-- why one of them is refused, at a line that a signed number can tell
+pub record TextsRefused (jobText placementText : Text) (f : Refusal) : Type 0 where
+  pub refusal : texts_refusal jobText placementText ≡ refusal_of f
+  pub line : line_of f < 2 ^ 31
+
+abbrev pub TextsRead : Text → Text → Result Texts Refusal → Type 0
+TextsRead jobText placementText r =
+    MatchResult r (λ t. BothRead jobText placementText t) (λ f. TextsRefused jobText placementText f)
 
 -- ---- what the reading of each text says
 
-module _ (jobText placementText : Text) (r : job.Reading) (h : Reads (read_job jobText) r) where
-  refused-first : (r.refusal.number ≡ 0 → ⊥)
-      → first_of (score_refusals (read_job jobText) placementText) ≡ refusal_of r.refusal
+module _ (jobText placementText : Text) where
+  pub by-job : (f : Refusal) → Reads (read_job jobText) (Err f) → TextsRefused jobText placementText f
   unfolding first_of
-  refused-first d =
-      ap (λ (x : paper.Reading). first_of (score_refusals x placementText)) (reads-refused h d)
-      ∙ rw (ne_eqb r.refusal.number 0 d)
+  by-job f h =
+      let n = (numbered f).some in
+      record {
+        refusal =
+            ap (λ (x : paper.Reading). first_of (score_refusals x placementText)) (reads-refused h)
+            ∙ rw (ne_eqb (number_of f) 0 (λ z. omega arith));
+        line = omega (arith, h.refused.line);
+      }
 
-  pub by-job : (r.refusal.number ≡ 0 → ⊥) → (P : placement.Placement)
-      → TextsRead jobText placementText (record { refusal = r.refusal; job = r.job; placement = P })
-  by-job d P = record {
-    refusal = refused-first d;
-    signed = record { number = omega (arith, h.number); line = omega (arith, h.line) };
-    none = λ z. absurd (d z);
-    both = λ z. absurd (d z);
-  }
-
-  module _ (z : r.refusal.number ≡ 0) (p : PlacementReading) (q : ReadAs placementText r.job.count p) where
+  module _ (j : job.Job) (h : Reads (read_job jobText) (Ok j)) where
     -- the lines that are due are the job's cells
-    due : {ps : Poses} → read_placement r.job.count placementText ≡ ps
-        → read_placement (length (job_of r.job).cells) placementText ≡ ps
-    due e = ap (λ (n : ℕ). read_placement n placementText) (h.accepted z).many ∙ e
+    due : {ps : Poses} → read_placement j.count placementText ≡ ps
+        → read_placement (length (job_of j).cells) placementText ≡ ps
+    due e = ap (λ (n : ℕ). read_placement n placementText) h.accepted.many ∙ e
 
     -- the placement's refusal decides
-    poses-first : {ps : Poses} → read_placement r.job.count placementText ≡ ps
-        → first_of (score_refusals (read_job jobText) placementText) ≡ first_of (poses_refusal ps ∷ [])
+    poses-first : {ps : Poses} → read_placement j.count placementText ≡ ps
+        → texts_refusal jobText placementText ≡ first_of (poses_refusal ps ∷ [])
     unfolding first_of
     poses-first e =
-        ap (λ (x : paper.Reading). first_of (score_refusals x placementText)) (reads-accepted h z)
+        ap (λ (x : paper.Reading). first_of (score_refusals x placementText)) (reads-accepted h)
         ∙ ap (λ (ps : Poses). first_of (poses_refusal ps ∷ [])) (due e)
 
-    first : Dec (p.refusal.number ≡ 0)
-        → first_of (score_refusals (read_job jobText) placementText) ≡ refusal_of p.refusal
+    pub by-fault : (f : Refusal) → ReadAs placementText j.count (Err f) → TextsRefused jobText placementText f
     unfolding first_of
-    first (yes e) = poses-first (read_whole q e) ∙ rw (e, q.none e)
-    first (no d) = poses-first (read-fault q d) ∙ rw (q.five d)
+    by-fault f q =
+        let few = h.accepted.few in
+        record { refusal = poses-first (read-fault q) ∙ rw q.faulty.number; line = omega (arith, q.faulty.line) }
 
-    pub by-placement : TextsRead jobText placementText
-        (record { refusal = p.refusal; job = r.job; placement = p.placement })
-    by-placement =
-        let few = (h.accepted z).few in
-        record {
-          refusal = first (ℕ_discrete p.refusal.number 0);
-          signed = record { number = number (ℕ_discrete p.refusal.number 0); line = omega (arith, q.line) };
-          none = q.none;
-          both = λ e. record {
-            ready = record { accepted = h.accepted z; each = q.count e; site = λ k l. (q.kept.small k).site };
-            job = reads-accepted h z;
-            placement = due (read_whole q e);
-          };
-        }
-      where
-        number : Dec (p.refusal.number ≡ 0) → p.refusal.number < 2 ^ 31
-        number (yes e) = omega arith
-        number (no d) = omega (arith, q.five d)
+    pub by-placement : (p : placement.Placement) → ReadAs placementText j.count (Ok p)
+        → BothRead jobText placementText (record { job = j; placement = p })
+    unfolding first_of
+    by-placement p q = record {
+      refusal = poses-first (read_whole q);
+      ready = record { accepted = h.accepted; each = q.whole.count; site = λ k l. (q.whole.kept.small k).site };
+      job = reads-accepted h;
+      placement = due (read_whole q);
+    }
 
 -- ---- an operation that refuses as Score does
 
 -- what it refuses by
-pub as_refused : {jobText placementText : Text} {r : Texts} → TextsRead jobText placementText r
-    → (r.refusal.number ≡ 0 → ⊥) → (n : ℕ) (more : paper.Job → Placement → List Refusal)
-    → (answer : paper.Job → Placement → Outcome)
-    → as_score n more answer (read_job jobText) placementText ≡ refused_by n (refusal_of r.refusal)
-as_refused {jobText} {placementText} {r} t d n more answer =
+pub as_refused : {jobText placementText : Text} {f : Refusal} → TextsRefused jobText placementText f
+    → (n : ℕ) (more : paper.Job → Placement → List outcome.Refusal) (answer : paper.Job → Placement → Outcome)
+    → as_score n more answer (read_job jobText) placementText ≡ refused_by n (refusal_of f)
+as_refused {jobText} {placementText} {f} t n more answer =
+    let some = (numbered f).some in
     list-refuses n (score_refusals (read_job jobText) placementText) _ _
-    (λ z. d (sym (ap (λ (x : Refusal). x.number) t.refusal) ∙ z))
+    (λ z. let e = sym (ap (λ (x : outcome.Refusal). x.number) t.refusal) ∙ z in omega arith)
     ∙ ap (refused_by n) t.refusal

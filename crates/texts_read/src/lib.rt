@@ -9,34 +9,18 @@ use job_read::read_job;
 use placement_read::read_placement;
 use results::Refusal;
 
-// What both texts are read as, if nothing is refused.
+// What both texts are read as.
 #[derive(Drop)]
 pub struct Texts {
-    pub refusal: Refusal,
     pub job: Job,
     pub placement: Placement,
 }
 
 // 1 to 4 as Read does, then 5.
-pub fn read_texts(job: &[u8], placement: &[u8]) -> Texts
+pub fn read_texts(job: &[u8], placement: &[u8]) -> Result<Texts, Refusal>
     ensures { TextsRead job.now placement.now result }
 {
-    let r = read_job(job);
-    let refusal = r.refusal;
-    let j = r.job;
-    if refusal.number != 0 {
-        return Texts {
-            refusal,
-            job: j,
-            placement: Placement::empty(),
-        };
-    }
-    let p = read_placement(placement, j.count);
-    let refusal = p.refusal;
-    let poses = p.placement;
-    Texts {
-        refusal,
-        job: j,
-        placement: poses,
-    }
+    let job = read_job(job)?;
+    let placement = read_placement(placement, job.count)?;
+    Ok(Texts { job, placement })
 }
