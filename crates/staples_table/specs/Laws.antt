@@ -1,17 +1,13 @@
 -- Laws of blocks: row after row, and block after block.
-use Rattle.std.specs.Prelude.{ℕ, suc, ◌+◌, ◌*◌, ◌≤◌, ◌<◌, ◌≡◌, refl, ◌⊎◌, List}
+use Rattle.std.specs.Prelude.{ℕ, suc, ◌+◌, ◌*◌, ◌≤◌, ◌<◌, ◌≡◌, ◌⊎◌, List}
 use Rattle.std.proofs.Common.{sym, subst, ◌∙◌, ⊎_elim, inl, arith, below_more}
 use Rattle.std.proofs.Math.Decide.{ℕ_discrete}
-use Rattle.search_lanes.specs.Store.{Frame, Low, Written}
-use Rattle.search_lanes.specs.Laws.{frame-refl, frame-join}
+use Rattle.search_lanes.specs.Store.{Frame, Written}
+use Rattle.search_lanes.specs.Laws.{frame-join}
 use Rattle.staples_ways.specs.Words.{max_numbers}
 use Rattle.staples_table.specs.declared.RowCounts.{RowCounts}
 use Rattle.staples_table.specs.Blocks.{block_words, block_at, block_word, RowsPut, BlockRight, BlockMade}
 use Rattle.staples_table.specs.Blocks.{LineRight, LineMade, TableMade}
-
-pub rows_none : (f : ℕ → ℕ → ℕ) (at m : ℕ) {st : List ℕ} → Low st → RowsPut f at 0 m st st
-rows_none f at m {st} w =
-    record { frame = frame-refl at (at + block_words) st; low = w; words = λ t u i. absurd (omega arith) }
 
 pub rows_more :
     {f : ℕ → ℕ → ℕ} {at n m : ℕ} {old mid new : List ℕ}
@@ -32,7 +28,7 @@ rows_more {f} {at} {n} {m} {old} {mid} {new} h k s w =
 -- ---- block after block
 
 -- a block stays right while its words stay
-pub right_kept : (row₀ row₁ : List ℕ) (k : RowCounts) (p q : ℕ) {a b : ℕ} {old new : List ℕ} → k.limit ≤ 7
+right_kept : (row₀ row₁ : List ℕ) (k : RowCounts) (p q : ℕ) {a b : ℕ} {old new : List ℕ} → k.limit ≤ 7
     → Frame a b old new → (b ≤ block_at p q) ⊎ (block_at p q + block_words ≤ a) → BlockRight row₀ row₁ k p q old
     → BlockRight row₀ row₁ k p q new
 right_kept row₀ row₁ k p q d f apart r t u h i s m =
@@ -41,11 +37,6 @@ right_kept row₀ row₁ k p q d f apart r t u h i s m =
     (λ l. f.low (block_at p q + t * max_numbers + u) (omega arith))
     apart
     ∙ r t u h i s m
-
-pub line-none : (row₀ row₁ : List ℕ) (k : RowCounts) (p : ℕ) {st : List ℕ} → Low st
-    → LineMade row₀ row₁ k p (k.cells1 + 1) st st
-line-none row₀ row₁ k p {st} w =
-    record { frame = frame-refl (block_at p 0) (block_at (suc p) 0) st; low = w; right = λ r a b. absurd (omega arith) }
 
 pub line-more : {row₀ row₁ : List ℕ} {k : RowCounts} {p q : ℕ} {old mid new : List ℕ} → k.limit ≤ 7 → k.cells1 ≤ 64
     → q ≤ k.cells1 → LineMade row₀ row₁ k p (q + 1) old mid → BlockMade row₀ row₁ k p q mid new
@@ -62,10 +53,6 @@ line-more {row₀} {row₁} {k} {p} {q} {old} {mid} {new} d n h s w =
     go r a b (yes e) = subst (λ (x : ℕ). BlockRight row₀ row₁ k p x new) (sym e) w.right
     go r a b (no e) =
         right_kept row₀ row₁ k p r d w.frame (inl (omega arith)) (s.right r (omega arith) b)
-
-pub table_none : (row₀ row₁ : List ℕ) (k : RowCounts) {st : List ℕ} → Low st
-    → TableMade row₀ row₁ k (k.cells0 + 1) st st
-table_none row₀ row₁ k w = record { long = refl; low = w; right = λ r a b. absurd (omega arith) }
 
 pub table_more : {row₀ row₁ : List ℕ} {k : RowCounts} {p : ℕ} {old mid new : List ℕ} → k.limit ≤ 7 → k.cells1 ≤ 64
     → p ≤ k.cells0 → TableMade row₀ row₁ k (p + 1) old mid → LineMade row₀ row₁ k p 0 mid new

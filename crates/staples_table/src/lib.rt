@@ -61,7 +61,7 @@ fn least_of(
         looks.end1 + u,
         looks.first1,
     );
-    search_lanes::least(x, y)
+    x.min(y)
 }
 
 // The words of site number t.
@@ -77,10 +77,8 @@ fn put_words(
     ensures { Written (lesser_way ways0.now ways1.now looks t) at looks.numbers
         store.old store.new }
 {
-    let mut u: usize = 0;
-    while u < looks.numbers {
+    for u in 0..looks.numbers {
         store[at + u] = least_of(ways0, ways1, looks, t, u);
-        u += 1;
     }
 }
 
@@ -96,8 +94,7 @@ fn put_block(
     ensures { RowsPut (lesser_way ways0.now ways1.now looks) at looks.numbers
         looks.numbers store.old store.new }
 {
-    let mut t: usize = 0;
-    while t < looks.numbers {
+    for t in 0..looks.numbers {
         put_words(
             store,
             ways0,
@@ -106,7 +103,6 @@ fn put_block(
             at + t * staples_ways::NUMBERS,
             t,
         );
-        t += 1;
     }
 }
 
@@ -186,9 +182,7 @@ fn fill_line(store: &mut [u32], row0: &[u32], row1: &[u32], counts: RowCounts, p
     ensures { LineMade row0.now row1.now counts p 0 store.old
         store.new }
 {
-    let mut q = counts.cells1 + 1;
-    while q > 0 {
-        q -= 1;
+    for q in (0..counts.cells1 + 1).rev() {
         fill_block(store, row0, row1, counts, p, q);
     }
 }
@@ -199,9 +193,7 @@ pub fn fill_table(store: &mut [u32], row0: &[u32], row1: &[u32], counts: RowCoun
     ensures { TableMade row0.now row1.now counts 0 store.old
         store.new }
 {
-    let mut p = counts.cells0 + 1;
-    while p > 0 {
-        p -= 1;
+    for p in (0..counts.cells0 + 1).rev() {
         fill_line(store, row0, row1, counts, p);
     }
 }

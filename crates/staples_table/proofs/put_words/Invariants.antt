@@ -1,12 +1,7 @@
 -- Each turn writes one word more.
-use Prim.Native.Nat.{◌-◌, ◌≤◌}
 use Rattle.search_lanes.specs.Store.{Written}
 use Rattle.staples_table.specs.Blocks.{lesser_way}
 use Rattle.staples_table.proofs.put_words.Given as goal
 
 abbrev pub invariant-loop-u : goal.invariant-loop-u
-invariant-loop-u l =
-    (l.u ≤ l.looks.numbers) × Written (lesser_way l.ways0 l.ways1 l.looks l.t) l.at l.u l.initial.store l.store
-
-abbrev pub decreases-loop-u : goal.decreases-loop-u
-decreases-loop-u l = l.looks.numbers - l.u
+invariant-loop-u l = Written (lesser_way l.ways0 l.ways1 l.looks l.t) l.at l.u l.initial.store l.store
