@@ -3,7 +3,7 @@ use Prim.Native.Nat.{ℕ, ◌+◌, ◌-◌, ◌/◌, ◌≤◌, ◌<◌}
 use Rattle.std.specs.Prelude.{◌≡◌, cond}
 use Rattle.std.proofs.Math.Path.{refl}
 use native.Mathlib.Omega.{arith}
-use borrow.Author.Tests.{lt-ltb, le-ltb, ne_eqb}
+use borrow.Author.Tests.{lt-ltb, le-ltb}
 use Rattle.definition.specs.Job.{Job, is_tall}
 use Rattle.definition.specs.Rules.{cell_at, forbidden_gap}
 use Rattle.theory_bridge.specs.Paired.{is_offered, pose_number, width_of, own_of, left_of, right_of}
@@ -46,30 +46,6 @@ module _ (j : Job) (row k : ℕ) where
     pub shape_at : (i : ℕ) → first_word ≤ i → i < words.left_p → cell_word j row k n i ≡ shape_word j k i
     unfolding cell_word
     shape_at i g h = rw (le-ltb i first_word g, lt-ltb i words.left_p h)
-
-    pub step-at : (i : ℕ) → i ≡ touching_word → cell_word j row k n i ≡ j.header.step_weight
-    unfolding cell_word
-    step-at i e = rw e
-
-    pub number_at : (i : ℕ) → i ≡ number_word → cell_word j row k n i ≡ n
-    unfolding cell_word
-    number_at i e = rw e
-
-    pub filled_at : (i : ℕ) → i ≡ filled_word → cell_word j row k n i ≡ j.header.filled_weight
-    unfolding cell_word
-    filled_at i e = rw e
-
-    pub end-at : (i : ℕ) → filled_word < i → cell_word j row k n i ≡ end_word j i
-    unfolding cell_word
-    end-at i h =
-        rw (
-          le-ltb i first_word (omega arith),
-          le-ltb i words.left_p (omega arith),
-          le-ltb i touching_word (omega arith),
-          ne_eqb i touching_word (λ e. omega arith),
-          ne_eqb i number_word (λ e. omega arith),
-          ne_eqb i filled_word (λ e. omega arith),
-        )
 
     pub height-at : (i u : ℕ) → i ≡ words.left_p + u → u < 16 → cell_word j row k n i ≡ height_word j row k u
     unfolding cell_word

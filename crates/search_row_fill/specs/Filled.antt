@@ -1,9 +1,10 @@
 -- A row's words while they are written: those of the first n cells of the row are right, the others
 -- are still to come, and what lies beyond is 0.
-use Rattle.std.specs.Prelude.{ℕ, zero, suc, ◌+◌, ◌*◌, ◌≤◌, ◌<◌, ◌≡◌, refl, Bool, true, false, cond, List, ◌∷◌, length, get_or, drop}
-use Rattle.std.proofs.Common.{sym, ap, subst, ◌∙◌, zero-add, arith, below_more}
+use Rattle.std.specs.Prelude.{ℕ, zero, suc, ◌+◌, ◌*◌, ◌≤◌, ◌<◌, ◌≡◌, refl, Bool, true, false, cond, List, ◌∷◌, length, get_or, drop, replicate}
+use Rattle.std.proofs.Common.{sym, ap, subst, ◌∙◌, arith, below_more}
 use Rattle.std.proofs.Math.Decide.{dec_lt}
 use Rattle.std.proofs.Math.ListN.{get_or-eq_default}
+use Rattle.std.proofs.lemmas.List.{length-replicate, get_or-replicate}
 use Rattle.definition.specs.Lists as lists
 use Rattle.definition.specs.Job.{Job, max_cells}
 use Rattle.definition.specs.Job as job
@@ -20,8 +21,8 @@ use Rattle.theory_bridge.specs.Paired.{row_of, site_of, pose_numbers, pose_numbe
 use Rattle.theory_bridge.specs.Words.{keep-pick}
 use Rattle.theory_bridge.proofs.Row.{cells_same, members-same}
 use Rattle.search_store.specs.Map.{max_poses}
-use Rattle.search_lanes.specs.Lanes.{always}
 use Rattle.search_lanes.specs.Store.{Low, Written}
+use Rattle.search_lanes.specs.Laws.{zeros_low}
 use Rattle.search_row.specs.Words.{word_of, deck_of, RowWords, cell_words, number_word}
 use Rattle.search_row.specs.Words.{row_length, states_from, talls_from, words_used}
 use Rattle.search_states.specs.Rest.{rest, rest_more, rest_all, next}
@@ -74,24 +75,23 @@ module _ (j : Job) (s : Side) where
     pub zero : (q : ℕ) → n * cell_words ≤ q → q < states_from → get_or l q 0 ≡ 0
     pub upper : (q : ℕ) → talls_from ≤ q → get_or l q 0 < max_cells
 
-  pub filled_none : Sound j → {old new : List ℕ} → row_length ≤ length old → Written (always 0) 0 (length old) old new
-      → RowFilled new 0 0
-  filled_none sound {old} {new} h w = record {
-    long = let e = w.frame.long in omega arith;
+  pub filled_none : Sound j → (n : ℕ) → row_length ≤ n → RowFilled (replicate n 0) 0 0
+  filled_none sound n h = record {
+    long = omega (arith, length-replicate {A = ℕ} n 0);
     most = sound.few;
     below = omega arith;
     few = omega arith;
     upto = omega arith;
     left = members-rest sound;
-    low = w.low;
+    low = zeros_low n;
     words = λ p g. absurd (omega arith);
-    zero = λ q _ _. go q (dec_lt q (length old));
-    upper = λ q _. let z = go q (dec_lt q (length old)) in omega arith;
+    zero = λ q _ _. go q (dec_lt q n);
+    upper = λ q _. let z = go q (dec_lt q n) in omega arith;
   }
     where
-      go : (q : ℕ) → Dec (q < length old) → get_or new q 0 ≡ 0
-      go q (yes g) = rw zero-add at (w.words q g)
-      go q (no g) = w.frame.high q (omega arith) ∙ get_or-eq_default old 0 (omega arith)
+      go : (q : ℕ) → Dec (q < n) → ◌≡◌ {A = ℕ} (get_or (replicate n 0) q 0) 0
+      go q (yes g) = get_or-replicate n q 0 0 g
+      go q (no g) = get_or-eq_default (replicate n 0) 0 (omega (arith, length-replicate {A = ℕ} n 0))
 
   filled_more : {l l' : List ℕ} {n k : ℕ} → RowFilled l n k → k < length j.cells → stands k ≡ true
       → Written (cell_word (alone j.header (cell_at j k)) (row_of s) 0 k) (n * cell_words) words_used l l'

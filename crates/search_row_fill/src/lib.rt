@@ -24,6 +24,7 @@ use search_row::Sizes;
 // ---- what a cell costs
 
 // Whether rules 1 to 3 allow the cell pose number a.
+#[tactic(auto, unfolding(theory_bridge::specs::Paired::is_offered, theory_bridge::specs::Paired::pose_number, theory_bridge::specs::Paired::width_of, job::specs::Value::header_of, job::specs::Value::cell_of))]
 fn is_offered(header: Header, cell: Cell, a: u32) -> bool
     requires { CellPose header cell a }
     ensures { result ≡ is_offered (one header cell) 0 a }
@@ -38,13 +39,9 @@ fn is_offered(header: Header, cell: Cell, a: u32) -> bool
         layout: a % 4 / 2,
         mark: a % 2,
     };
-    if !job::offers_choice(offer, pose) {
-        return false;
-    }
-    if !job::offers_site(offer, pose) {
-        return false;
-    }
-    pose.site + job::width_of(cell, pose.layout) <= header.sites
+    job::offers_choice(offer, pose)
+        && job::offers_site(offer, pose)
+        && pose.site + job::width_of(cell, pose.layout) <= header.sites
 }
 
 // A weight, so many times.
@@ -73,13 +70,11 @@ fn pose_cost(header: Header, cell: Cell, a: u32) -> u32
 fn counts_there(of: u32, side: u32) -> bool
     ensures { result ≡ (eqb of 2 && eqb side 1) }
 {
-    if of != 2 {
-        return false;
-    }
-    side == 1
+    of == 2 && side == 1
 }
 
 // What the cell costs in pose a in a row; NONE where it is not offered.
+#[tactic(auto, unfolding(crate::specs::Words::own_word, job::specs::Value::cell_of))]
 fn own_word(header: Header, cell: Cell, side: u32, a: u32) -> u32
     requires { CellPose header cell a }
     ensures { Bounded (own_word (one header cell) side 0 a) B result }
@@ -96,18 +91,19 @@ fn own_word(header: Header, cell: Cell, side: u32, a: u32) -> u32
 // ---- the words of a cell
 
 // The site of its pose number 0, with D added; the widths of its layouts; whether it is tall.
+#[tactic(auto, unfolding(crate::specs::Words::shape_word, job::specs::Value::header_of, job::specs::Value::cell_of))]
 fn shape_word(header: Header, cell: Cell, i: usize) -> u32
     requires { ShapeAt header cell i }
     ensures { result ≡ shape_word (one header cell) 0 i }
 {
-    if i == search_row::FIRST {
-        let offer = job::offer_of(header, cell);
-        return cell.given + (header.displacement - offer.limit);
+    match i {
+        search_row::FIRST => {
+            let offer = job::offer_of(header, cell);
+            cell.given + (header.displacement - offer.limit)
+        }
+        search_row::WIDTH..search_row::TALL => job::width_of(cell, (i - search_row::WIDTH) as u32),
+        _ => u32::from(cell.row == 2),
     }
-    if i < search_row::TALL {
-        return job::width_of(cell, (i - search_row::WIDTH) as u32);
-    }
-    if cell.row == 2 { 1 } else { 0 }
 }
 
 // Where one of the 16 heights stands among the row's four; a mark exchanges the edges.
@@ -119,6 +115,7 @@ fn edge_of(u: u32) -> usize
 }
 
 // Its heights, by edge, type and variant.
+#[tactic(auto, unfolding(crate::specs::Words::height_word, job::specs::Value::cell_of))]
 fn height_word(header: Header, cell: Cell, side: u32, u: u32) -> u32
     requires { HeightAt u side }
     ensures { result ≡ height_word (one header cell) side 0 u }
@@ -129,32 +126,23 @@ fn height_word(header: Header, cell: Cell, side: u32, u: u32) -> u32
 
 // Word i of a cell that bears a number. As the first of its row it may not stand one site from the row's start, nor as
 // the last end one site from the row's end.
+#[tactic(auto, unfolding(crate::specs::Words::cell_word, crate::specs::Words::end_word, job::specs::Value::header_of))]
 fn cell_word(header: Header, cell: Cell, side: u32, number: u32, i: usize) -> u32
     requires { CellPut header cell side number }
     ensures { Bounded (cell_word (one header cell) side 0 number i) B result }
 {
-    if i < search_row::FIRST {
-        return own_word(header, cell, side, i as u32);
+    match i {
+        0..search_row::FIRST => own_word(header, cell, side, i as u32),
+        search_row::FIRST..search_row::LEFT_P => shape_word(header, cell, i),
+        search_row::LEFT_P..search_row::TOUCHING => {
+            height_word(header, cell, side, (i - search_row::LEFT_P) as u32)
+        }
+        search_row::TOUCHING => header.step,
+        search_row::NUMBER => number,
+        search_row::FILLED => header.filled,
+        search_row::FRONT_BARRED => header.displacement + gap_charge::FORBIDDEN_GAP as u32,
+        _ => header.sites + header.displacement - gap_charge::FORBIDDEN_GAP as u32,
     }
-    if i < search_row::LEFT_P {
-        return shape_word(header, cell, i);
-    }
-    if i < search_row::TOUCHING {
-        return height_word(header, cell, side, (i - search_row::LEFT_P) as u32);
-    }
-    if i == search_row::TOUCHING {
-        return header.step;
-    }
-    if i == search_row::NUMBER {
-        return number;
-    }
-    if i == search_row::FILLED {
-        return header.filled;
-    }
-    if i == search_row::FRONT_BARRED {
-        return header.displacement + gap_charge::FORBIDDEN_GAP as u32;
-    }
-    header.sites + header.displacement - gap_charge::FORBIDDEN_GAP as u32
 }
 
 // The words of a cell.
@@ -163,16 +151,15 @@ fn fill_cell(row: &mut [u32], at: usize, header: Header, cell: Cell, side: u32, 
     ensures { Written (cell_word (one header cell) side 0 number) at words_used
         row.old row.new }
 {
-    let mut i: usize = 0;
-    while i < search_row::USED {
+    for i in 0..search_row::USED {
         row[at + i] = cell_word(header, cell, side, number, i);
-        i += 1;
     }
 }
 
 // ---- the row
 
 // The cell at position n, if it stands in the row; how many cells there are then.
+#[tactic(auto, unfolding(job::specs::Value::cell_of))]
 fn add_cell(row: &mut [u32], n: usize, header: Header, cell: Cell, side: u32, number: u32) -> usize
     requires { CellToAdd header cell side number n row.old }
     ensures { CellAdded (one header cell) side number n result row.old row.new }
@@ -189,14 +176,11 @@ fn fill_cells(row: &mut [u32], job: Job, side: u32) -> usize
     requires { RowToFill job side row.old }
     ensures { CellsIn (job_of job) (side_of side) row.new result }
 {
-    let long = row.len();
-    search_lanes::fill(row, 0, long, 0);
+    row.fill(0);
     let header = job.header;
     let mut n: usize = 0;
-    let mut k: usize = 0;
-    while k < job.count {
+    for k in 0..job.count {
         n = add_cell(row, n, header, job.cells[k], side, k as u32);
-        k += 1;
     }
     n
 }
@@ -221,10 +205,8 @@ fn fill_talls(talls: &mut [u32], row: &[u32], n: usize) -> usize
     ensures { TallWords row.now n talls.new result }
 {
     let mut count: usize = 0;
-    let mut p: usize = 0;
-    while p < n {
+    for p in 0..n {
         count = add_tall(talls, count, row, n, p);
-        p += 1;
     }
     count
 }
@@ -234,15 +216,12 @@ fn put_talls(row: &mut [u32], places: &[u32; 32])
     requires { PlacesPut row.old places.now }
     ensures { Written (word_in places.now) talls_from 32 row.old row.new }
 {
-    let mut i: usize = 0;
-    while i < 32 {
-        row[search_row::TALLS + i] = places[i];
-        i += 1;
-    }
+    row[search_row::TALLS..search_row::TALLS + 32].copy_from_slice(places);
 }
 
 // ---- all of a row
 
+#[tactic(auto, unfolding(job::specs::Value::job_of, job::specs::Value::header_of))]
 fn pose_numbers(job: Job) -> usize
     requires { Sound (job_of job) }
     ensures { result ≡ pose_numbers (job_of job) }

@@ -1,22 +1,14 @@
 -- The three terms of a cell's own cost, each a small product.
-use Prim.Native.Nat.{◌+◌, ◌*◌}
-use mathlib.Core.Path.{sym, ap, ap₂, ◌∙◌}
-use native.Mathlib.Omega.{arith}
+use Rattle.std.proofs.Common.{◌+◌, ◌*◌, sym, ap, ap₂, ◌∙◌, arith}
 use Rattle.job.specs.Value.{offer_in}
 use Rattle.search_row_fill.specs.Values.{cost-same, limit-low}
 use Rattle.search_row_fill.proofs.pose_cost.Goals as goal
-
-pub overflow_sub-site : goal.overflow_sub-site
-overflow_sub-site c =
-    let e = ap (λ o. o.limit) c.offer_of-offer.ensures in
-    omega (arith, c.requires.right)
 
 pub times-shift-requires : goal.times-shift-requires
 times-shift-requires c =
     let low = limit-low c.args.header c.args.cell (offer_in c.offer_of-offer.result) c.offer_of-offer.ensures in
     let e = ap (λ o. o.limit) c.offer_of-offer.ensures in
-    let r = c.requires.ranged in
-    record { low = r.shift; few = omega (arith, c.apart_of.ensures, r.displacement, c.requires.few) }
+    record { low = c.requires.ranged.shift; few = omega (arith, c.apart_of.ensures) }
 
 pub returns : goal.returns
 returns c =

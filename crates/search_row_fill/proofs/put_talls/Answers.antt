@@ -1,23 +1,24 @@
-use mathlib.Core.Path.{◌≡◌, refl}
-use native.Mathlib.Omega.{arith}
-use Rattle.search_lanes.specs.Laws.{written_none, written-more}
+use Rattle.std.proofs.Common.{ℕ, ◌+◌, ◌-◌, ◌≤◌, ◌≡◌, List, length, arith}
+use Rattle.std.proofs.lemmas.Grind.{common_steps}
+use borrow.Rule.Slice.PartMut.{put_mid}
+use Rattle.search_lanes.specs.Store.{Low, Written}
+use Rattle.search_row_fill.specs.Ready.{word_in}
 use Rattle.search_row_fill.proofs.put_talls.Goals as goal
 
-pub loop-i-init : goal.loop-i-init
-loop-i-init c = (omega arith, written_none _ _ c.requires.low)
-
-pub bounds-row-i : goal.bounds-row-i
-bounds-row-i c = omega (arith, c.requires.long, c.loop-i.invariant.1.frame.long)
-
-pub loop-i-preserved : goal.loop-i-preserved
-loop-i-preserved c =
-    let l = c.loop-i in
-    (omega arith, written-more l.i _ l.invariant.1 (omega (arith, c.requires.long)) refl (omega (arith, c.requires.small l.i)))
-
-pub shape_of-row : goal.shape_of-row
-shape_of-row c = c.loop-i.invariant.1.frame.long
+written-part : (at n : ℕ) (row part : List ℕ) → at + n ≤ length row → length part ≡ n → Low row → Low part
+    → Written (word_in part) at n row (put_mid at n row part)
+written-part at n row part r e l p = record {
+  frame = record {
+    long = grind (arith, common_steps);
+    low = grind (arith, common_steps);
+    high = grind (arith, common_steps);
+  };
+  words = grind (arith, common_steps);
+  low = record { word = λ k. grind (arith, common_steps, p.word (k - at), l.word k) };
+}
 
 pub returns : goal.returns
 returns c =
-    let e : c.loop-i.i ≡ 32 = omega arith in
-    rw e at c.loop-i.invariant.1
+    let low : Low c.args.places.now = record { word = λ k. omega (arith, c.requires.small k) } in
+    rw c.copy_from_slice.ensures.after
+    (written-part _ 32 c.args.row.now c.args.places.now c.requires.long c.requires.all c.requires.low low)
