@@ -24,16 +24,13 @@ pub struct Source {
 }
 
 // The row in which pose b of the cell at position k counts for the cell at position m.
+#[tactic(auto, unfolding(crate::specs::Rows::end_row_of))]
 pub fn end_row(row: &[u32], k: usize, b: usize, m: usize) -> usize
     requires { SourcePose row.now k b m }
     ensures { result ≡ end_row_of row.now k b m }
 {
     let y = search_row::end(row, k, b) + 4;
-    let first = search_row::word(row, m * search_row::CELL + search_row::FIRST);
-    if y < first {
-        return 0;
-    }
-    y - first
+    y.saturating_sub(search_row::word(row, m * search_row::CELL + search_row::FIRST))
 }
 
 // How many rows some pose looks at: pose a at rows a / 4 to a / 4 + 4, and at all before.
@@ -41,11 +38,12 @@ pub fn rows_of(poses: usize) -> usize
     requires { poses ≤ max_poses }
     ensures { result ≡ rows_of poses }
 {
-    (poses + 3) / 4 + 4
+    poses.div_ceil(4) + 4
 }
 
 // How many buckets the cell at position m needs: where all gaps that pay have
 // one weight, those of gap 0 serve them all.
+#[tactic(auto, unfolding(crate::specs::Rows::buckets_in))]
 pub fn buckets_of(row: &[u32], m: usize) -> usize
     requires { CellAt row.now m }
     ensures { result ≡ buckets_in row.now m }
@@ -53,24 +51,25 @@ pub fn buckets_of(row: &[u32], m: usize) -> usize
     if row[m * search_row::CELL + search_row::TOUCHING]
         == row[m * search_row::CELL + search_row::FILLED]
     {
-        return 5;
+        5
+    } else {
+        9
     }
-    9
 }
 
 // What variant u of the cell at position k pays in bucket v of the cell at position m.
+#[tactic(auto, unfolding(crate::specs::Rows::pay_in))]
 fn pay(row: &[u32], k: usize, u: usize, m: usize, v: usize) -> u32
     requires { PayGiven row.now k u m v }
     ensures { result ≡ pay_in row.now k u m v }
 {
-    if v == 0 {
-        return 0;
+    match v {
+        0 => 0,
+        1..5 => row[m * search_row::CELL + search_row::TOUCHING]
+            * search_row::differ(row, k, u, m, v - 1),
+        _ => row[m * search_row::CELL + search_row::FILLED]
+            * search_row::differ(row, k, u, m, v - 5),
     }
-    if v < 5 {
-        return row[m * search_row::CELL + search_row::TOUCHING]
-            * search_row::differ(row, k, u, m, v - 1);
-    }
-    row[m * search_row::CELL + search_row::FILLED] * search_row::differ(row, k, u, m, v - 5)
 }
 
 // What variant u pays in each of so many buckets, after the variants before it.
@@ -78,10 +77,8 @@ fn pay_row(pays: &mut [u32; PAY_WORDS], row: &[u32], k: usize, u: usize, m: usiz
     requires { VariantPays row.now k u m buckets pays.old }
     ensures { Pays row.now k m buckets (u * 9 + 9) pays.new }
 {
-    let mut v: usize = 0;
-    while v < buckets {
+    for v in 0..buckets {
         pays[u * 9 + v] = pay(row, k, u, m, v);
-        v += 1;
     }
 }
 
@@ -90,9 +87,7 @@ pub fn fill_pays(pays: &mut [u32; PAY_WORDS], row: &[u32], k: usize, m: usize, b
     requires { PaysGiven row.now k m buckets 0 pays.old }
     ensures { Pays row.now k m buckets pay_words pays.new }
 {
-    let mut u: usize = 0;
-    while u < 4 {
+    for u in 0..4 {
         pay_row(pays, row, k, u, m, buckets);
-        u += 1;
     }
 }
