@@ -1,17 +1,16 @@
 -- The last cell of a row: the least of its words is what the tables say of the row's end.
-use Rattle.std.specs.Prelude.{ℕ, ◌+◌, ◌*◌, ◌/◌, ◌%◌, ◌≤◌, ◌<◌, ◌≡◌, Bool, ◌&&◌}
+use Rattle.std.specs.Prelude.{ℕ, ◌≤◌, ◌<◌, ◌≡◌, Bool, ◌&&◌, Option, None, Some}
 use Rattle.std.proofs.Math.Path.{refl, ap, ap₂}
-use Rattle.std.proofs.Common.{sym, below_more}
 use Rattle.std.proofs.Math.Bool.{true, false, not, cond}
 use native.Mathlib.Omega.{arith}
-use borrow.Author.Tests.{lt-ltb, le-ltb, ltb-true}
+use borrow.Author.Tests.{lt-ltb, ltb-true}
 use Rattle.std.proofs.Math.Dec.{ltb}
 use Rattle.lists.specs.Numbers.{from}
 use Rattle.theory_pair.specs.Coded.{lowest}
 use Rattle.theory_tables.specs.Lowest.{loop_member, loop_above}
-use Rattle.theory_tables.specs.Steps.{B, Deck, Layer, state_count, last_at, is_there, ends, pose_slots}
-use Rattle.search_store.specs.Map.{max_poses}
-use Rattle.search_back_segment.specs.Traces.{LeastOf, last_pays, last_of, last_code, LastFound}
+use Rattle.theory_tables.specs.Steps.{B, Deck, Layer, state_count, last_at, is_there, ends}
+use Rattle.search_back_segment.specs.declared.Place.{Place}
+use Rattle.search_back_segment.specs.Traces.{LeastOf, last_pays, last_of, EndFound}
 
 module _ (D : Deck) (R : ℕ) (f : Layer) where
   -- one of the words that the end is the least of
@@ -21,10 +20,6 @@ module _ (D : Deck) (R : ℕ) (f : Layer) where
   last_in_lem q b h e s = rw (lt-ltb b D.poses h, e, s) refl
 
   -- none of them
-  pub last-beyond : (q b : ℕ) → D.poses ≤ b → last_of D R f q b ≡ B
-  unfolding last_of
-  last-beyond q b h = rw (le-ltb b D.poses h) refl
-
   pub last_out : (q b : ℕ) → is_there D R D.size q ≡ false → last_of D R f q b ≡ B
   unfolding last_of
   last_out q b e = go (ltb b D.poses) (is_there D R D.size q) e
@@ -93,54 +88,21 @@ module _ (D : Deck) (R : ℕ) (f : Layer) where
         loop_member B (last_pays D R f q) D.poses b m.pose,
       )
 
-  -- the least of their words is below what ending costs; below B it is that
-  module _ (best code all : ℕ) (e : all ≡ state_count R * pose_slots) (few : D.poses ≤ max_poses)
-      (w : LeastOf (last_code D R f) all best code) where
-    part : (q b : ℕ) → q < state_count R → b < D.poses → best ≤ last_of D R f q b
-    part q b x y =
-        let c : (q * pose_slots + b) / pose_slots ≡ q = omega arith in
-        let d : (q * pose_slots + b) % pose_slots ≡ b = omega arith in
-        rw (c, d) at (w.low (q * pose_slots + b) (omega arith))
-
-    pub least-ends : best ≤ ends D R f
-    least-ends = above best w.capped part
-
-    pub last_found : best < B → LastFound D R f (code / pose_slots) (code % pose_slots)
-    last_found l =
-        let m = w.met l in
-        let x = m.0 in
-        let h : code / pose_slots < state_count R = omega arith in
-        let n = last-met (code / pose_slots) (code % pose_slots) (omega (arith, m.1)) in
+  -- the least of all of them is what ending costs
+  pub end-found : (count best : ℕ) (last : Option Place) → count ≡ state_count R → LeastOf D R f count 0 best last
+      → EndFound D R f last
+  end-found count best None e w =
+      omega (arith, w.met, above best w.capped (λ q b x y. w.states q b (omega arith) y))
+  end-found count best (Some p) e w =
+      let m = w.met in
+      let n = last-met p.state p.pose (omega (arith, m.2)) in
+      let least : best ≤ ends D R f = above best w.capped (λ q b x y. w.states q b (omega arith) y) in (
         record {
-          state = h;
+          state = m.1;
           pose = n.pose;
           there = n.there;
           single = n.single;
-          word = omega (arith, member (code / pose_slots) (code % pose_slots) h n, n.word, m.1, least-ends);
-        }
-
-    pub last-low : best < B → f (code / pose_slots) (code % pose_slots) < B
-    last-low l =
-        let m = w.met l in
-        omega (arith, m.1, (last-met (code / pose_slots) (code % pose_slots) (omega (arith, m.1))).word)
-
--- one code more
-pub least-none : (h : ℕ → ℕ) (code : ℕ) → LeastOf h 0 B code
-least-none h code = record { capped = omega arith; low = λ k x. absurd (omega arith); met = λ x. absurd (omega arith) }
-
-module _ (h : ℕ → ℕ) (n best code x : ℕ) (e : x ≡ h n) (w : LeastOf h n best code) where
-  pub least-lower : x < best → LeastOf h (n + 1) x n
-  least-lower l =
-      record {
-        capped = omega (arith, w.capped);
-        low = below_more (λ (k : ℕ). x ≤ h k) n (λ k g. omega (arith, w.low k g)) (omega arith);
-        met = λ g. (omega arith, sym e);
-      }
-
-  pub least-keep : best ≤ x → LeastOf h (n + 1) best code
-  least-keep l =
-      record {
-        capped = w.capped;
-        low = below_more (λ (k : ℕ). best ≤ h k) n w.low (omega arith);
-        met = λ g. let m = w.met g in let y = m.0 in (omega arith, m.1);
-      }
+          word = omega (arith, member p.state p.pose m.1 n, n.word, m.2, least);
+        },
+        omega (arith, m.2, n.word),
+      )

@@ -1,5 +1,5 @@
 -- A search that misses every source has not been given what the tables say; so the search for a source hits.
-use Rattle.std.specs.Prelude.{ℕ, zero, suc, ◌+◌, ◌*◌, ◌<◌, min, ◌≡◌, Bool, List}
+use Rattle.std.specs.Prelude.{ℕ, zero, suc, ◌+◌, ◌*◌, ◌<◌, min, ◌≡◌, Bool, List, Option, None, Some}
 use Rattle.std.proofs.Math.Path.{refl, sym, ap}
 use Rattle.std.proofs.Common.{◌∙◌}
 use Rattle.std.proofs.Math.Bool.{true, false, cond}
@@ -72,25 +72,24 @@ module _ (D : Deck) (R : ℕ) (f : Layer) (i q a : ℕ) where
       go false x l = absurd (omega arith)
 
 -- a search over a state's poses, which are all or none
-pub poses-first : (st row : List ℕ) (n poses R i q a p want : ℕ) {at k m r : ℕ}
+pub poses-first : (st row : List ℕ) (n poses R i q a p want : ℕ) {at k m : ℕ} (o : Option ℕ)
     → is_source (deck_of row n poses) R i q p ≡ true → at ≡ kept_at i + p * pose_slots → k ≡ last_at R i p
     → m ≡ last_at R (suc i) q
-    → First (from_pose st row at k m a) poses want r
-    → First (from_state (deck_of row n poses) R (kept_in st i) i q a p) poses want r
-poses-first st row n poses R i q a p want {at} {k} {m} {r} s x y z w =
-    record { upto = w.upto; hit = λ h. same r ∙ w.hit h; miss = λ b h e. w.miss b h (sym (same b) ∙ e) }
+    → First (from_pose st row at k m a) poses want o
+    → First (from_state (deck_of row n poses) R (kept_in st i) i q a p) poses want o
+poses-first st row n poses R i q a p want {at} {k} {m} o s x y z = go o
   where
     same : (b : ℕ) → from_state (deck_of row n poses) R (kept_in st i) i q a p b ≡ from_pose st row at k m a b
     same b = state_in_lem (deck_of row n poses) R (kept_in st i) i q a p b s ∙ rw (x, y, z) refl
 
+    go : (o : Option ℕ) → First (from_pose st row at k m a) poses want o
+        → First (from_state (deck_of row n poses) R (kept_in st i) i q a p) poses want o
+    go None w = λ b h e. w b h (sym (same b) ∙ e)
+    go (Some r) w = (w.0, same r ∙ w.1, λ b h e. w.2 b h (sym (same b) ∙ e))
+
 pub poses-none : (D : Deck) (R : ℕ) (f : Layer) (i q a p want : ℕ) → is_source D R i q p ≡ false → want < B
-    → First (from_state D R f i q a p) D.poses want D.poses
-poses-none D R f i q a p want s l =
-    record {
-      upto = omega arith;
-      hit = λ h. absurd (omega arith);
-      miss = λ b h e. omega (arith, state-out D R f i q a p b s, e);
-    }
+    → First (from_state D R f i q a p) D.poses want None
+poses-none D R f i q a p want s l = λ b h e. omega (arith, state-out D R f i q a p b s, e)
 
 -- the source of a kept entry
 pub entry-source : (D : Deck) (R : ℕ) (st : List ℕ) (i q a : ℕ) {want p b : ℕ}

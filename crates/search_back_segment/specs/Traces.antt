@@ -1,29 +1,23 @@
 -- The traceback through the kept layers of one segment: what each function is given and what it leaves.
-use Rattle.std.specs.Prelude.{ℕ, suc, ◌+◌, ◌*◌, ◌/◌, ◌%◌, ◌≤◌, ◌<◌, ◌≡◌, true, false, cond, List, length, get_or, ltb}
+use Rattle.std.specs.Prelude.{ℕ, suc, ◌+◌, ◌≤◌, ◌<◌, ◌≡◌, true, false, cond, List, length, get_or, ltb, Option, None, Some}
 use Rattle.search_store.specs.Map.{pages_from, max_kept, max_poses}
 use Rattle.search_row.specs.declared.Sizes.{Sizes}
 use Rattle.theory_tables.specs.Steps.{B, Deck, Layer, state_count, last_at, is_there, is_source, next_layer, ends, cost_end}
-use Rattle.theory_tables.specs.Steps.{reached, pose_slots}
+use Rattle.theory_tables.specs.Steps.{reached}
 use Rattle.theory_tables.specs.Back.{SegmentTraced, EndTraced}
 use Rattle.theory_tables.specs.Notes.{NotedBy}
 use Rattle.search_lanes.specs.Store.{Frame, Low}
 use Rattle.search_row.specs.Words.{deck_in, toll_in, StateWords, Ground}
 use Rattle.search_buckets.specs.Rows.{Neighbours}
 use Rattle.search_dense_layer.specs.Kept.{kept_in, KeptLayers}
+use Rattle.search_back_segment.specs.declared.Place.{Place}
 
 -- ---- searches
 
--- r is the first place below n at which h is v, and n where there is none
-pub record First (h : ℕ → ℕ) (n v r : ℕ) : Type 0 where
-  pub upto : r ≤ n
-  pub hit : r < n → h r ≡ v
-  pub miss : (k : ℕ) → k < r → h k ≡ v → ⊥
-
--- best is the least of h below n, capped; if that is below B, h has it at `code`
-pub record LeastOf (h : ℕ → ℕ) (n best code : ℕ) : Type 0 where
-  pub capped : best ≤ B
-  pub low : (k : ℕ) → k < n → best ≤ h k
-  pub met : best < B → (code < n) × (h code ≡ best)
+-- the first place below n at which h is v, if there is one
+abbrev pub First : (ℕ → ℕ) → ℕ → ℕ → Option ℕ → Type 0
+First h n v None = (k : ℕ) → k < n → h k ≡ v → ⊥
+First h n v (Some r) = (r < n) × (h r ≡ v) × ((k : ℕ) → k < r → h k ≡ v → ⊥)
 
 -- ---- where an entry comes from
 
@@ -85,10 +79,11 @@ pub record SourceThere (row st : List ℕ) (z : Sizes) (i q a want : ℕ) : Type
   pub target : Sought row st z i q a want
   pub cost : reached (deck_in row z) z.reordering (kept_in st i) i q a ≡ want
 
--- the code of a state and a pose, in the layer with all cells placed
-pub record LastAsked (row st : List ℕ) (z : Sizes) (c : ℕ) : Type 0 where
+-- state q in pose b of the layer with all cells placed
+pub record LastAsked (row st : List ℕ) (z : Sizes) (q b : ℕ) : Type 0 where
   pub back : Back row st z
-  pub code : c < z.states * pose_slots
+  pub state : q < z.states
+  pub pose : b < z.poses
 
 -- state q in pose a as the i-th cell of a path
 pub record PathCell (row path : List ℕ) (R i q a : ℕ) : Type 0 where
@@ -154,13 +149,26 @@ unfoldable pub last_of : Deck → ℕ → Layer → ℕ → ℕ → ℕ
 last_of D R f q b = cond (ltb b D.poses)
     (cond (is_there D R D.size q) (cond (D.tall (last_at R D.size q)) B (last_pays D R f q b)) B) B
 
--- the same by a code, q * pose_slots + b
-abbrev pub last_code : Deck → ℕ → Layer → ℕ → ℕ
-last_code D R f c = last_of D R f (c / pose_slots) (c % pose_slots)
-
 pub record LastFound (D : Deck) (R : ℕ) (f : Layer) (q b : ℕ) : Type 0 where
   pub state : q < state_count R
   pub pose : b < D.poses
   pub there : is_there D R D.size q ≡ true
   pub single : D.tall (last_at R D.size q) ≡ false
   pub word : last_pays D R f q b ≡ ends D R f
+
+-- a last cell that the row can end with, at the least cost; none if it cannot end
+abbrev pub EndFound : Deck → ℕ → Layer → Option Place → Type 0
+EndFound D R f None = B ≤ ends D R f
+EndFound D R f (Some p) = LastFound D R f p.state p.pose × (f p.state p.pose < B)
+
+-- `last` has the cost `best`, or `best` is B
+abbrev pub LastMet : Deck → ℕ → Layer → ℕ → Option Place → Type 0
+LastMet D R f best None = best ≡ B
+LastMet D R f best (Some p) = (best < B) × (p.state < state_count R) × (last_of D R f p.state p.pose ≡ best)
+
+-- the least, capped, of the states below q in every pose and of state q in the poses below m
+pub record LeastOf (D : Deck) (R : ℕ) (f : Layer) (q m best : ℕ) (last : Option Place) : Type 0 where
+  pub capped : best ≤ B
+  pub states : (p b : ℕ) → p < q → b < D.poses → best ≤ last_of D R f p b
+  pub poses : (b : ℕ) → b < m → best ≤ last_of D R f q b
+  pub met : LastMet D R f best last

@@ -3,18 +3,25 @@
 
 #![tactic(auto)]
 
-ghost use Rattle.std.specs.Prelude.{◌≡◌, ◌+◌, ◌*◌, ◌/◌, ◌%◌, set};
+ghost use Rattle.std.specs.Prelude.{◌≡◌, ◌+◌, ◌*◌, set};
 ghost use Rattle.theory_tables.specs.Steps.{last_at, pose_slots};
 ghost use Rattle.search_row.specs.Words.{deck_in};
 ghost use Rattle.search_dense_layer.specs.Kept.{kept_in};
 ghost use Rattle.search_back_segment.specs.Traces.{First, from_pose, from_state, SourceFits};
 ghost use Rattle.search_back_segment.specs.Traces.{PosesBefore, SourceSought, SourceThere, LastAsked, PathCell};
 ghost use Rattle.search_back_segment.specs.Traces.{EntrySource, Back, Entry, SegmentTrace, End};
-ghost use Rattle.search_back_segment.specs.Traces.{SegmentTraceDone, EndDone, last_code, LeastOf};
+ghost use Rattle.search_back_segment.specs.Traces.{SegmentTraceDone, EndDone, last_of, EndFound};
 
 use search_row::Sizes;
 
-// The first pose of the cell at position k by way of which pose a of position m costs `want`; or `poses`.
+// A state of a layer, in a pose.
+#[derive(Clone, Copy)]
+struct Place {
+    state: usize,
+    pose: usize,
+}
+
+// The first pose of the cell at position k by way of which pose a of position m costs `want`.
 fn find_pose(
     store: &[u32],
     row: &[u32],
@@ -24,21 +31,19 @@ fn find_pose(
     a: usize,
     poses: usize,
     want: u32,
-) -> usize
+) -> Option<usize>
     requires { PosesBefore row.now store.now at k m a poses }
     ensures { First (from_pose store.now row.now at k m a) poses want result }
 {
-    let mut b: usize = 0;
-    while b < poses {
+    for b in 0..poses {
         if store[at + b] + search_row::toll(row, k, b, m, a) == want {
-            return b;
+            return Some(b);
         }
-        b += 1;
     }
-    b
+    None
 }
 
-// The same of state p of layer i, to state q; `poses` if it is no source.
+// The same of state p of layer i, to state q, if it is a source of it.
 fn state_pose(
     store: &[u32],
     row: &[u32],
@@ -48,13 +53,13 @@ fn state_pose(
     a: usize,
     p: usize,
     want: u32,
-) -> usize
+) -> Option<usize>
     requires { SourceSought row.now store.now sizes i q a p want }
     ensures { First (from_state (deck_in row.now sizes) sizes.reordering
         (kept_in store.now i) i q a p) sizes.poses want result }
 {
     if !search_row::is_source(row, sizes, i, q, p) {
-        return sizes.poses;
+        return None;
     }
     let k = search_row::last_at(row, sizes, i, p);
     let m = search_row::last_at(row, sizes, i + 1, q);
@@ -70,7 +75,7 @@ fn state_pose(
     )
 }
 
-// The first source p * POSE_SLOTS + b, state before pose, by way of which state q in pose a costs `want`.
+// The first source, state before pose, by way of which state q in pose a costs `want`.
 fn find_source(
     store: &[u32],
     row: &[u32],
@@ -79,27 +84,24 @@ fn find_source(
     q: usize,
     a: usize,
     want: u32,
-) -> usize
+) -> Place
     requires { SourceThere row.now store.now sizes i q a want }
     ensures { SourceFits (deck_in row.now sizes) sizes.reordering
-        (kept_in store.now i) i q a want (result / pose_slots) (result % pose_slots) }
+        (kept_in store.now i) i q a want result.state result.pose }
 {
-    let mut p: usize = 0;
-    while p < sizes.states {
-        let b = state_pose(store, row, sizes, i, q, a, p, want);
-        if b < sizes.poses {
-            return p * search_store::POSE_SLOTS + b;
+    for p in 0..sizes.states {
+        if let Some(b) = state_pose(store, row, sizes, i, q, a, p, want) {
+            return Place { state: p, pose: b };
         }
-        p += 1;
     }
-    0
+    unreachable!()
 }
 
 // Where the kept entry of state q in pose a, one layer after layer i, comes from.
-fn entry_source(store: &[u32], row: &[u32], sizes: Sizes, i: usize, q: usize, a: usize) -> usize
+fn entry_source(store: &[u32], row: &[u32], sizes: Sizes, i: usize, q: usize, a: usize) -> Place
     requires { Entry row.now store.now sizes i q a }
     ensures { EntrySource (deck_in row.now sizes) sizes.reordering store.now i q a
-        (result / pose_slots) (result % pose_slots) }
+        result.state result.pose }
 {
     let own = row[search_row::last_at(row, sizes, i + 1, q) * search_row::CELL + a];
     let cost = store[search_store::kept_at(i + 1) + q * search_store::POSE_SLOTS + a];
@@ -133,30 +135,17 @@ pub fn trace(
     if d == 0 {
         return;
     }
-    let t = entry_source(store, row, sizes, i + (d - 1), q, a);
-    trace(
-        store,
-        path,
-        row,
-        sizes,
-        i,
-        d - 1,
-        t / search_store::POSE_SLOTS,
-        t % search_store::POSE_SLOTS,
-    );
+    let from = entry_source(store, row, sizes, i + (d - 1), q, a);
+    trace(store, path, row, sizes, i, d - 1, from.state, from.pose);
 }
 
-// The kept word of code c, a state and a pose, with all n cells placed, with what its cell pays as the row's last; NONE
-// if the row has no such cell, or it is tall.
-fn last_word(store: &[u32], row: &[u32], sizes: Sizes, c: usize) -> u32
-    requires { LastAsked row.now store.now sizes c }
-    ensures { result ≡ last_code (deck_in row.now sizes) sizes.reordering
-        (kept_in store.now sizes.cells) c }
+// The kept word of state q in pose b with all n cells placed, with what its cell pays as the row's last; NONE if the row
+// has no such cell, or it is tall.
+fn last_word(store: &[u32], row: &[u32], sizes: Sizes, q: usize, b: usize) -> u32
+    requires { LastAsked row.now store.now sizes q b }
+    ensures { result ≡ last_of (deck_in row.now sizes) sizes.reordering
+        (kept_in store.now sizes.cells) q b }
 {
-    let q = c / search_store::POSE_SLOTS;
-    if c % search_store::POSE_SLOTS >= sizes.poses {
-        return search_lanes::NONE;
-    }
     if !search_row::is_there(row, sizes, sizes.cells, q) {
         return search_lanes::NONE;
     }
@@ -164,34 +153,28 @@ fn last_word(store: &[u32], row: &[u32], sizes: Sizes, c: usize) -> u32
     if row[k * search_row::CELL + search_row::TALL] == 1 {
         return search_lanes::NONE;
     }
-    store[search_store::kept_at(sizes.cells) + c]
-        + search_row::back(row, k, c % search_store::POSE_SLOTS)
+    store[search_store::kept_at(sizes.cells) + q * search_store::POSE_SLOTS + b]
+        + search_row::back(row, k, b)
 }
 
-// The least cost of the last cells, and the code of the first that has it, state before pose.
-#[derive(Drop)]
-pub struct Last {
-    pub value: u32,
-    pub code: usize,
-}
-
-fn find_last(store: &[u32], row: &[u32], sizes: Sizes) -> Last
+// The first of the last cells, state before pose, that has the least cost; None if the row cannot end.
+fn find_last(store: &[u32], row: &[u32], sizes: Sizes) -> Option<Place>
     requires { Back row.now store.now sizes }
-    ensures { LeastOf (last_code (deck_in row.now sizes) sizes.reordering
-        (kept_in store.now sizes.cells)) (sizes.states * pose_slots) result.value result.code }
+    ensures { EndFound (deck_in row.now sizes) sizes.reordering
+        (kept_in store.now sizes.cells) result }
 {
     let mut best = search_lanes::NONE;
-    let mut code: usize = 0;
-    let mut c: usize = 0;
-    while c < sizes.states * search_store::POSE_SLOTS {
-        let x = last_word(store, row, sizes, c);
-        if x < best {
-            best = x;
-            code = c;
+    let mut last = None;
+    for q in 0..sizes.states {
+        for b in 0..sizes.poses {
+            let x = last_word(store, row, sizes, q, b);
+            if x < best {
+                best = x;
+                last = Some(Place { state: q, pose: b });
+            }
         }
-        c += 1;
     }
-    Last { value: best, code }
+    last
 }
 
 // From the row's end back to layer i; nothing if no cell was left to place, or the row cannot end.
@@ -203,19 +186,9 @@ pub fn trace_end(store: &[u32], path: &mut [u32], row: &[u32], sizes: Sizes, i: 
     if sizes.cells < i {
         return;
     }
-    let last = find_last(store, row, sizes);
-    if last.value >= search_lanes::NONE {
+    let Some(last) = find_last(store, row, sizes) else {
         return;
-    }
-    let c = last.code;
-    trace(
-        store,
-        path,
-        row,
-        sizes,
-        i,
-        sizes.cells - i,
-        c / search_store::POSE_SLOTS,
-        c % search_store::POSE_SLOTS,
-    );
+    };
+    let d = sizes.cells - i;
+    trace(store, path, row, sizes, i, d, last.state, last.pose);
 }

@@ -34,18 +34,6 @@ parts c =
           + reached D a.sizes.reordering (kept_in a.store.now a.i) a.i a.q a.a) e,
     )
 
-pub overflow_mul-own : goal.overflow_mul-own
-overflow_mul-own c =
-    omega (arith, inside c.requires, c.requires.back.grounded.size, c.requires.back.grounded.few, c.requires.pose)
-
-pub overflow_add-own : goal.overflow_add-own
-overflow_add-own c =
-    omega (arith, inside c.requires, c.requires.back.grounded.size, c.requires.back.grounded.few, c.requires.pose)
-
-pub offset_bounds-row-last_at : goal.offset_bounds-row-last_at
-offset_bounds-row-last_at c =
-    omega (arith, inside c.requires, c.requires.back.grounded.size, c.requires.back.grounded.few, c.requires.pose)
-
 pub bounds-row-last_at : goal.bounds-row-last_at
 bounds-row-last_at c =
     omega (arith, inside c.requires, c.requires.back.grounded.size, c.requires.back.grounded.few, c.requires.pose, c.requires.back.grounded.words.long)

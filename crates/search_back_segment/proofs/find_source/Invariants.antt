@@ -1,5 +1,5 @@
 -- No state passed has a pose that fits; if none had, the tables would say otherwise.
-use Prim.Native.Nat.{ℕ, ◌-◌, ◌≤◌, ◌<◌}
+use Prim.Native.Nat.{ℕ, ◌<◌}
 use Rattle.search_row.specs.Words.{deck_in}
 use Rattle.search_dense_layer.specs.Kept.{kept_in}
 use Rattle.search_back_segment.specs.Sources.{Misses}
@@ -7,8 +7,4 @@ use Rattle.search_back_segment.proofs.find_source.Given as goal
 
 abbrev pub invariant-loop-p : goal.invariant-loop-p
 invariant-loop-p l =
-    (l.p ≤ l.sizes.states) × ((j : ℕ) → j < l.p → Misses (deck_in l.row l.sizes) l.sizes.reordering (kept_in l.store l.i) l.i l.q l.a l.want j)
-
-abbrev pub decreases-loop-p : goal.decreases-loop-p
-decreases-loop-p l =
-    l.sizes.states - l.p
+    (j : ℕ) → j < l.p → Misses (deck_in l.row l.sizes) l.sizes.reordering (kept_in l.store l.i) l.i l.q l.a l.want j
