@@ -18,13 +18,7 @@ use search_row::Sizes;
 pub fn wide_of(talls: usize, i: usize, x: usize) -> usize
     ensures { result ≡ wide talls i x }
 {
-    if i == 0 {
-        return 1;
-    }
-    if talls < i {
-        return 1;
-    }
-    x
+    if i == 0 || talls < i { 1 } else { x }
 }
 
 // How many lanes a tall cell's table has: a multiple of 16, so that loops over lanes, many at a time, leave no
@@ -33,7 +27,7 @@ fn width_of(poses: usize) -> usize
     requires { poses ≤ max_poses }
     ensures { result ≡ width_of poses }
 {
-    (poses + 15) / 16 * 16
+    poses.next_multiple_of(16)
 }
 
 // How many lanes table number i has in use.
@@ -68,13 +62,12 @@ fn live(
     requires { StartAsked starts s low high i store.now }
     ensures { result ≡ false → Dead store.now side i starts s low high }
 {
-    let mut t: usize = 0;
-    while t < starts {
+    // a `for`: with `any` the proof of what its closure asks did not close
+    for t in 0..starts {
         let at = case_from(side, i, s, t) + low;
         if search_lanes::common(store, at, high - low) < search_lanes::NONE {
             return true;
         }
-        t += 1;
     }
     false
 }
@@ -84,14 +77,7 @@ fn live_lanes(store: &[u32], i: usize, starts: usize, low: usize, high: usize) -
     requires { LanesAsked starts low high i store.now }
     ensures { result ≡ false → DeadLanes store.now i starts low high }
 {
-    let mut s: usize = 0;
-    while s < starts {
-        if live(store, 0, i, starts, s, low, high) {
-            return true;
-        }
-        s += 1;
-    }
-    false
+    (0..starts).any(|s| live(store, 0, i, starts, s, low, high))
 }
 
 // How many of the `width` lanes of table i are run: from the end those that no case goes by are left out, 16 by
@@ -101,10 +87,8 @@ fn lanes_in(store: &[u32], i: usize, starts: usize, width: usize) -> usize
     ensures { LanesRun store.now i starts result width }
 {
     let mut lanes = width;
-    while lanes > 16 {
-        if live_lanes(store, i, starts, lanes - 16, lanes) {
-            return lanes;
-        }
+    // a `while`: it goes down by 16, and live lanes end it
+    while lanes > 16 && !live_lanes(store, i, starts, lanes - 16, lanes) {
         lanes -= 16;
     }
     lanes
@@ -150,11 +134,9 @@ fn costs(
 {
     let sizes1 = search_row::with_cells(sizes, cells1);
     let starts = wide_of(sizes.talls, i, sizes.states);
-    let mut s: usize = 0;
-    while s < starts {
+    for s in 0..starts {
         cost_start(table, store, 0, row0, sizes, i, s, lanes);
         cost_start(table, store, 1, row1, sizes1, i, s, lanes);
-        s += 1;
     }
 }
 
@@ -191,9 +173,7 @@ pub fn stages(store: &mut [u32], row0: &[u32], row1: &[u32], sizes: Sizes, cells
     let mut table = [0u32; search_store::TABLE];
     let talls = sizes.talls;
     store[search_store::case_at(0, 0, 0)] = 0;
-    let mut i: usize = 0;
-    while i <= talls {
+    for i in 0..=talls {
         stage(&mut table, store, row0, row1, sizes, cells1, i);
-        i += 1;
     }
 }

@@ -14,10 +14,8 @@ fn backs(starts: &mut [u32; search_store::MAX_LANES], row: &[u32], p: usize, pos
     requires { PosesGiven row.now starts.old 0 p poses }
     ensures { Written (back_in row.now p) 0 poses starts.old starts.new }
 {
-    let mut l: usize = 0;
-    while l < poses {
+    for l in 0..poses {
         starts[l] = search_row::back(row, p, l);
-        l += 1;
     }
 }
 

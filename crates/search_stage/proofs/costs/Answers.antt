@@ -1,25 +1,15 @@
 use Prim.Native.Nat.{suc, ◌<◌}
-use mathlib.Core.Path.{◌≡◌, ◌∙◌}
+use mathlib.Core.Path.{◌∙◌}
 use native.Mathlib.Omega.{arith}
 use Rattle.search_stage.specs.Stage.{wide}
-use Rattle.search_stage.specs.Starts.{both-none, both-more}
+use Rattle.search_stage.specs.Starts.{both-more}
 use Rattle.search_stage.specs.Laws.{given-states, given-wide, given-table}
 use Rattle.search_stage.proofs.costs.Goals as goal
-
-pub loop-s-init : goal.loop-s-init
-loop-s-init c =
-    let g = c.requires.stage.given in
-    let w = given-wide g c.args.i in
-    let x = given-wide g (suc c.args.i) in (
-      omega arith,
-      both-none _ _ _ _ _ w.0 (omega (arith, w.1)) x.0 (omega (arith, x.1)) (omega (arith, c.requires.stage.stage, (given-states g).3)) _ _ g.low
-          c.requires.stage.lent,
-    )
 
 pub cost_start-requires : goal.cost_start-requires
 cost_start-requires c =
     let g = c.requires.stage.given in
-    let v = c.loop-s.invariant.1 in
+    let v = c.loop-s.invariant in
     record {
       lent = v.lent;
       given = g.given₀;
@@ -32,7 +22,7 @@ cost_start-requires c =
 pub cost_start-requires-in-loop-s : goal.cost_start-requires-in-loop-s
 cost_start-requires-in-loop-s c =
     let g = c.requires.stage.given in
-    let v = c.loop-s.invariant.1 in
+    let v = c.loop-s.invariant in
     let o = c.cost_start.ensures in
     let h : c.loop-s.s < wide c.args.sizes.talls c.args.i c.args.sizes.states =
     omega (arith, c.loop-s-test.true, c.wide_of-starts.ensures) in
@@ -51,17 +41,6 @@ loop-s-preserved c =
     let w = given-wide g c.args.i in
     let x = given-wide g (suc c.args.i) in
     let l = c.loop-s in
-    let one = rw c.with_cells-sizes1.ensures at c.cost_start-in-loop-s.ensures in (
-      omega (arith, c.loop-s-test.true),
-      both-more _ _ _ _ _ w.0 (omega (arith, w.1)) x.0 (omega (arith, x.1)) (omega (arith, c.requires.stage.stage, (given-states g).3)) _ _ l.s
-          (omega (arith, c.loop-s-test.true, c.wide_of-starts.ensures)) l.invariant.1
-          c.cost_start.ensures one,
-    )
-
-pub shape_of-store : goal.shape_of-store
-shape_of-store c = c.loop-s.invariant.1.long
-
-pub returns : goal.returns
-returns c =
-    let e : c.loop-s.s ≡ wide c.args.sizes.talls c.args.i c.args.sizes.states = omega (arith, c.wide_of-starts.ensures) in
-    rw e at c.loop-s.invariant.1
+    let one = rw c.with_cells-sizes1.ensures at c.cost_start-in-loop-s.ensures in
+    both-more _ _ _ _ _ w.0 (omega (arith, w.1)) x.0 (omega (arith, x.1)) (omega (arith, c.requires.stage.stage, (given-states g).3)) _ _ l.s
+    (omega (arith, c.loop-s-test.true, c.wide_of-starts.ensures)) l.invariant c.cost_start.ensures one

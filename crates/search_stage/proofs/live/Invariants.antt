@@ -1,5 +1,5 @@
 -- The states passed have no case.
-use Prim.Native.Nat.{ℕ, ◌+◌, ◌-◌, ◌≤◌, ◌<◌}
+use Prim.Native.Nat.{ℕ, ◌+◌, ◌≤◌, ◌<◌}
 use lib.ListN.{get_or}
 use Rattle.theory_tables.specs.Steps.{B}
 use Rattle.search_stage.specs.Stage.{from_at}
@@ -7,7 +7,4 @@ use Rattle.search_stage.proofs.live.Given as goal
 
 abbrev pub invariant-loop-t : goal.invariant-loop-t
 invariant-loop-t l =
-    (l.t ≤ l.starts) × ((u : ℕ) → u < l.t → (k : ℕ) → l.low ≤ k → k < l.high → B ≤ get_or l.store (from_at l.side l.i l.s u + k) 0)
-
-abbrev pub decreases-loop-t : goal.decreases-loop-t
-decreases-loop-t l = l.starts - l.t
+    (u : ℕ) → u < l.t → (k : ℕ) → l.low ≤ k → k < l.high → B ≤ get_or l.store (from_at l.side l.i l.s u + k) 0

@@ -1,16 +1,12 @@
 -- The costs of both rows in the lanes that a case goes by, joined with the table before; then the lanes beyond the poses are closed.
 use Prim.Native.Nat.{◌+◌, ◌≤◌}
-use mathlib.Core.Path.{refl, ◌∙◌}
+use mathlib.Core.Path.{refl}
 use Rattle.search_store.specs.Map.{max_lanes}
 use Rattle.search_row.specs.Words.{deck_in, pos_in, with_cells}
 use Rattle.search_stage.specs.Laws.{wide-lanes, stage-made, given-states, given-wide, given-table}
 use native.Mathlib.Omega.{arith}
 use Rattle.search_stage.proofs.stage.Goals as goal
 use Rattle.search_stage.proofs.stage.Goals.{After-lanes_in-lanes}
-
-pub lanes_of-requires : goal.lanes_of-requires
-lanes_of-requires c =
-    (given-states c.requires.given).2
 
 pub lanes_in-lanes-requires : goal.lanes_in-lanes-requires
 lanes_in-lanes-requires c =
@@ -41,18 +37,6 @@ join_stage-requires c =
       offered = omega (arith, c.wide_of-last.ensures, x.1);
     }
 
-pub overflow_add-i-3 : goal.overflow_add-i-3
-overflow_add-i-3 c =
-    omega (arith, c.requires.stage, (given-states c.requires.given).3)
-
-pub lanes_of-width-requires : goal.lanes_of-width-requires
-lanes_of-width-requires c =
-    (given-states c.requires.given).2
-
-pub overflow_add-i-4 : goal.overflow_add-i-4
-overflow_add-i-4 c =
-    omega (arith, c.requires.stage, (given-states c.requires.given).3)
-
 pub close_lanes-requires : goal.close_lanes-requires
 close_lanes-requires c =
     let g = c.requires.given in
@@ -72,10 +56,6 @@ close_lanes-requires c =
       order = omega (arith, last, width, y.0);
       narrow = omega (arith, width, y.1);
     }
-
-pub shape_of-store : goal.shape_of-store
-shape_of-store c =
-    c.close_lanes.ensures.long ∙ c.join_stage.ensures.long ∙ c.costs.ensures.long
 
 pub returns : goal.returns
 returns c =

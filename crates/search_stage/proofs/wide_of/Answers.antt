@@ -1,12 +1,11 @@
 -- By cases.
+use Rattle.std.proofs.Common.{inl, inr}
 use Rattle.search_stage.specs.Laws.{wide-first, wide-last, wide-tall}
 use Rattle.search_stage.proofs.wide_of.Goals as goal
 
-pub returns-then-i-eq0 : goal.returns-then-i-eq0
-returns-then-i-eq0 c = wide-first _ _ _ c.if-i-eq0.true
-
 pub returns-then-talls-i : goal.returns-then-talls-i
-returns-then-talls-i c = wide-last _ _ _ c.if-talls-i.true
+returns-then-talls-i c =
+    elim c.if-talls-i.either [ inl e ↦ wide-first _ _ _ e | inr h ↦ wide-last _ _ _ h.1 ]
 
-pub returns : goal.returns
-returns c = wide-tall _ _ _ c.if-i-eq0.false c.if-talls-i.false
+pub returns-else-talls-i : goal.returns-else-talls-i
+returns-else-talls-i c = wide-tall _ _ _ c.if-talls-i.false.0 c.if-talls-i.false.1

@@ -4,16 +4,6 @@ use Rattle.search_row.specs.Words.{deck_in, pos_in}
 use Rattle.search_stage.specs.Rows.{open_tall, open_last}
 use Rattle.search_stage.proofs.row.open_cost.Goals as goal
 
-pub open_to-requires : goal.open_to-requires
-unfolding pos_in
-open_to-requires c =
-    let g = c.requires.given in
-    record {
-      grounded = g.grounded;
-      room = c.requires.room;
-      cell = omega (arith, c.tall_at-p.ensures, g.inside 0 (omega (arith, c.if-sizes-gt0.true)), g.grounded.size);
-    }
-
 pub returns-then-sizes-gt0 : goal.returns-then-sizes-gt0
 unfolding pos_in
 returns-then-sizes-gt0 c =

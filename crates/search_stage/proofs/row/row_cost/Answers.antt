@@ -8,10 +8,6 @@ use Rattle.search_stage.specs.Rows.{row_open, row-after, start-place, start-stat
 use native.Mathlib.Omega.{arith}
 use Rattle.search_stage.proofs.row.row_cost.Goals as goal
 
-pub open_cost-requires : goal.open_cost-requires
-open_cost-requires c =
-    record { given = c.requires.given; room = c.requires.room }
-
 pub returns-then-i-eq0 : goal.returns-then-i-eq0
 returns-then-i-eq0 c =
     record {
@@ -64,36 +60,6 @@ backs-requires c =
       cell = start-place c.args.i c.tall_at-p.result c.requires.given c.if-i-eq0.false c.requires.stage
           c.tall_at-p.ensures;
       few = g.few;
-    }
-
-pub overflow_add-cells : goal.overflow_add-cells
-overflow_add-cells c =
-    let p = start-place c.args.i c.tall_at-p.result c.requires.given c.if-i-eq0.false c.requires.stage
-    c.tall_at-p.ensures in
-    omega (arith, c.placed_with-placed.ensures, c.requires.given.grounded.coded.reorder)
-
-pub stage_end-requires : goal.stage_end-requires
-stage_end-requires c =
-    let g = c.requires.given.grounded in
-    let p = start-place c.args.i c.tall_at-p.result c.requires.given c.if-i-eq0.false c.requires.stage
-    c.tall_at-p.ensures in
-    let f = c.first_layer.ensures.filled in
-    let b = c.backs.ensures in
-    let r = c.requires.room in
-    record {
-      lent = c.first_layer.ensures.lent;
-      given = c.requires.given;
-      begun = record {
-        grounded = g;
-        low = f.low;
-        narrow = c.requires.narrow;
-        early = omega (arith, c.placed_with-placed.ensures, g.coded.reorder);
-        room = omega (arith, r.over, r.room, f.frame.long);
-      };
-      first = omega arith;
-      room = record { over = omega (arith, r.over); room = omega (arith, r.room, f.frame.long) };
-      low = b.low;
-      long = b.frame.long;
     }
 
 pub returns : goal.returns

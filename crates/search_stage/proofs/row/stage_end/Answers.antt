@@ -1,17 +1,7 @@
 -- A stage ends at tall cell i, or at the row's end.
 use Rattle.search_row.specs.Words.{deck_in, pos_in}
-use Rattle.search_stage.specs.Rows.{segment-given, row-tall, row_last}
-use native.Mathlib.Omega.{arith}
+use Rattle.search_stage.specs.Rows.{row-tall, row_last}
 use Rattle.search_stage.proofs.row.stage_end.Goals as goal
-
-pub segment_to-requires : goal.segment_to-requires
-unfolding pos_in
-segment_to-requires c =
-    let g = c.requires.given in
-    record {
-      segment = segment-given c.requires;
-      inside = omega (arith, c.tall_at-p.ensures, g.inside c.args.i c.if-i-sizes.true, g.grounded.size);
-    }
 
 pub returns-then-i-sizes : goal.returns-then-i-sizes
 unfolding pos_in
@@ -22,10 +12,6 @@ returns-then-i-sizes c =
           c.segment_to.ensures;
       lent = c.segment_to.ensures.lent;
     }
-
-pub segment_end-requires : goal.segment_end-requires
-segment_end-requires c =
-    record { segment = segment-given c.requires; pays = record { low = c.requires.low; long = c.requires.long } }
 
 pub returns : goal.returns
 returns c =
