@@ -12,7 +12,7 @@ ghost use Rattle.search_back_segment.specs.Traces.{PosesBefore, SourceSought, So
 ghost use Rattle.search_back_segment.specs.Traces.{EntrySource, Back, Entry, SegmentTrace, End};
 ghost use Rattle.search_back_segment.specs.Traces.{SegmentTraceDone, EndDone, last_of, EndFound};
 
-use search_row::Sizes;
+use search_row::Row;
 
 // A state of a layer, in a pose.
 #[derive(Clone, Copy)]
@@ -46,51 +46,42 @@ fn find_pose(
 // The same of state p of layer i, to state q, if it is a source of it.
 fn state_pose(
     store: &[u32],
-    row: &[u32],
-    sizes: Sizes,
+    row: Row,
     i: usize,
     q: usize,
     a: usize,
     p: usize,
     want: u32,
 ) -> Option<usize>
-    requires { SourceSought row.now store.now sizes i q a p want }
-    ensures { First (from_state (deck_in row.now sizes) sizes.reordering
-        (kept_in store.now i) i q a p) sizes.poses want result }
+    requires { SourceSought row.words.now store.now row.sizes i q a p want }
+    ensures { First (from_state (deck_in row.entry.words.now row.entry.sizes) row.entry.sizes.reordering
+        (kept_in store.now i) i q a p) row.entry.sizes.poses want result }
 {
-    if !search_row::is_source(row, sizes, i, q, p) {
+    if !row.is_source(i, q, p) {
         return None;
     }
-    let k = search_row::last_at(row, sizes, i, p);
-    let m = search_row::last_at(row, sizes, i + 1, q);
+    let k = row.last_at(i, p);
+    let m = row.last_at(i + 1, q);
     find_pose(
         store,
-        row,
+        row.words,
         search_store::kept_at(i) + p * search_store::POSE_SLOTS,
         k,
         m,
         a,
-        sizes.poses,
+        row.sizes.poses,
         want,
     )
 }
 
 // The first source, state before pose, by way of which state q in pose a costs `want`.
-fn find_source(
-    store: &[u32],
-    row: &[u32],
-    sizes: Sizes,
-    i: usize,
-    q: usize,
-    a: usize,
-    want: u32,
-) -> Place
-    requires { SourceThere row.now store.now sizes i q a want }
-    ensures { SourceFits (deck_in row.now sizes) sizes.reordering
+fn find_source(store: &[u32], row: Row, i: usize, q: usize, a: usize, want: u32) -> Place
+    requires { SourceThere row.words.now store.now row.sizes i q a want }
+    ensures { SourceFits (deck_in row.entry.words.now row.entry.sizes) row.entry.sizes.reordering
         (kept_in store.now i) i q a want result.state result.pose }
 {
-    for p in 0..sizes.states {
-        if let Some(b) = state_pose(store, row, sizes, i, q, a, p, want) {
+    for p in 0..row.sizes.states {
+        if let Some(b) = state_pose(store, row, i, q, a, p, want) {
             return Place { state: p, pose: b };
         }
     }
@@ -98,76 +89,67 @@ fn find_source(
 }
 
 // Where the kept entry of state q in pose a, one layer after layer i, comes from.
-fn entry_source(store: &[u32], row: &[u32], sizes: Sizes, i: usize, q: usize, a: usize) -> Place
-    requires { Entry row.now store.now sizes i q a }
-    ensures { EntrySource (deck_in row.now sizes) sizes.reordering store.now i q a
+fn entry_source(store: &[u32], row: Row, i: usize, q: usize, a: usize) -> Place
+    requires { Entry row.words.now store.now row.sizes i q a }
+    ensures { EntrySource (deck_in row.entry.words.now row.entry.sizes) row.entry.sizes.reordering store.now i q a
         result.state result.pose }
 {
-    let own = row[search_row::last_at(row, sizes, i + 1, q) * search_row::CELL + a];
+    let own = row.words[row.last_at(i + 1, q) * search_row::CELL + a];
     let cost = store[search_store::kept_at(i + 1) + q * search_store::POSE_SLOTS + a];
-    find_source(store, row, sizes, i, q, a, cost - own)
+    find_source(store, row, i, q, a, cost - own)
 }
 
 // Notes state q in pose a as the i-th cell.
-fn note(path: &mut [u32], row: &[u32], sizes: Sizes, i: usize, q: usize, a: usize)
-    requires { PathCell row.now path.old sizes.reordering i q a }
-    ensures { path.new ≡ set path.old i (last_at sizes.reordering i q * pose_slots + a) }
+fn note(path: &mut [u32], row: Row, i: usize, q: usize, a: usize)
+    requires { PathCell row.words.now path.old row.sizes.reordering i q a }
+    ensures { path.new ≡ set path.old i (last_at row.entry.sizes.reordering i q * pose_slots + a) }
 {
-    path[i] = (search_row::last_at(row, sizes, i, q) * search_store::POSE_SLOTS + a) as u32;
+    path[i] = (row.last_at(i, q) * search_store::POSE_SLOTS + a) as u32;
 }
 
 // From state q in pose a of the layer d on from layer i back to layer i.
-pub fn trace(
-    store: &[u32],
-    path: &mut [u32],
-    row: &[u32],
-    sizes: Sizes,
-    i: usize,
-    d: usize,
-    q: usize,
-    a: usize,
-)
-    requires { SegmentTrace row.now store.now path.old sizes i d q a }
-    ensures { SegmentTraceDone (deck_in row.now sizes) sizes.reordering store.now i d q a
+pub fn trace(store: &[u32], path: &mut [u32], row: Row, i: usize, d: usize, q: usize, a: usize)
+    requires { SegmentTrace row.words.now store.now path.old row.sizes i d q a }
+    ensures { SegmentTraceDone (deck_in row.entry.words.now row.entry.sizes) row.entry.sizes.reordering store.now i d q a
         path.old path.new }
 {
-    note(path, row, sizes, i + d, q, a);
+    note(path, row, i + d, q, a);
     if d == 0 {
         return;
     }
-    let from = entry_source(store, row, sizes, i + (d - 1), q, a);
-    trace(store, path, row, sizes, i, d - 1, from.state, from.pose);
+    let from = entry_source(store, row, i + (d - 1), q, a);
+    trace(store, path, row, i, d - 1, from.state, from.pose);
 }
 
 // The kept word of state q in pose b with all n cells placed, with what its cell pays as the row's last; NONE if the row
 // has no such cell, or it is tall.
-fn last_word(store: &[u32], row: &[u32], sizes: Sizes, q: usize, b: usize) -> u32
-    requires { LastAsked row.now store.now sizes q b }
-    ensures { result ≡ last_of (deck_in row.now sizes) sizes.reordering
-        (kept_in store.now sizes.cells) q b }
+fn last_word(store: &[u32], row: Row, q: usize, b: usize) -> u32
+    requires { LastAsked row.words.now store.now row.sizes q b }
+    ensures { result ≡ last_of (deck_in row.entry.words.now row.entry.sizes) row.entry.sizes.reordering
+        (kept_in store.now row.entry.sizes.cells) q b }
 {
-    if !search_row::is_there(row, sizes, sizes.cells, q) {
+    if !row.is_there(row.sizes.cells, q) {
         return search_lanes::NONE;
     }
-    let k = search_row::last_at(row, sizes, sizes.cells, q);
-    if row[k * search_row::CELL + search_row::TALL] == 1 {
+    let k = row.last_at(row.sizes.cells, q);
+    if row.words[k * search_row::CELL + search_row::TALL] == 1 {
         return search_lanes::NONE;
     }
-    store[search_store::kept_at(sizes.cells) + q * search_store::POSE_SLOTS + b]
-        + search_row::back(row, k, b)
+    store[search_store::kept_at(row.sizes.cells) + q * search_store::POSE_SLOTS + b]
+        + search_row::back(row.words, k, b)
 }
 
 // The first of the last cells, state before pose, that has the least cost; None if the row cannot end.
-fn find_last(store: &[u32], row: &[u32], sizes: Sizes) -> Option<Place>
-    requires { Back row.now store.now sizes }
-    ensures { EndFound (deck_in row.now sizes) sizes.reordering
-        (kept_in store.now sizes.cells) result }
+fn find_last(store: &[u32], row: Row) -> Option<Place>
+    requires { Back row.words.now store.now row.sizes }
+    ensures { EndFound (deck_in row.entry.words.now row.entry.sizes) row.entry.sizes.reordering
+        (kept_in store.now row.entry.sizes.cells) result }
 {
     let mut best = search_lanes::NONE;
     let mut last = None;
-    for q in 0..sizes.states {
-        for b in 0..sizes.poses {
-            let x = last_word(store, row, sizes, q, b);
+    for q in 0..row.sizes.states {
+        for b in 0..row.sizes.poses {
+            let x = last_word(store, row, q, b);
             if x < best {
                 best = x;
                 last = Some(Place { state: q, pose: b });
@@ -178,17 +160,17 @@ fn find_last(store: &[u32], row: &[u32], sizes: Sizes) -> Option<Place>
 }
 
 // From the row's end back to layer i; nothing if no cell was left to place, or the row cannot end.
-pub fn trace_end(store: &[u32], path: &mut [u32], row: &[u32], sizes: Sizes, i: usize)
-    requires { End row.now store.now path.old sizes i }
-    ensures { EndDone (deck_in row.now sizes) sizes.reordering store.now i
+pub fn trace_end(store: &[u32], path: &mut [u32], row: Row, i: usize)
+    requires { End row.words.now store.now path.old row.sizes i }
+    ensures { EndDone (deck_in row.entry.words.now row.entry.sizes) row.entry.sizes.reordering store.now i
         path.old path.new }
 {
-    if sizes.cells < i {
+    if row.sizes.cells < i {
         return;
     }
-    let Some(last) = find_last(store, row, sizes) else {
+    let Some(last) = find_last(store, row) else {
         return;
     };
-    let d = sizes.cells - i;
-    trace(store, path, row, sizes, i, d, last.state, last.pose);
+    let d = row.sizes.cells - i;
+    trace(store, path, row, i, d, last.state, last.pose);
 }

@@ -13,6 +13,6 @@ returns t c =
     let a = c.args in
     let g = c.requires in
     let n = c.entry_source-from in
-    trace-more (deck_in a.row.now a.sizes) a.sizes.reordering a.store.now a.i a.d (a.d - 1) a.q a.a
+    trace-more (deck_in a.row.words.now a.row.sizes) a.row.sizes.reordering a.store.now a.i a.d (a.d - 1) a.q a.a
     n.result.state n.result.pose (omega arith)
     c.note.ensures (omega (arith, g.last, g.room)) g.state g.pose n.ensures c.trace.ensures

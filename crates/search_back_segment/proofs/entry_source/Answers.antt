@@ -22,16 +22,16 @@ inside {row} {st} {z} {i} {q} {a} g =
 -- the cost read is the own cost read and what the entry was reached by
 parts : (c : After-kept_at) → (get_or c.args.store.now (c.kept_at.result + c.args.q * pose_slots + c.args.a) 0 ≡ kept_in c.args.store.now (suc c.args.i) c.args.q c.args.a)
     × (kept_in c.args.store.now (suc c.args.i) c.args.q c.args.a
-    ≡ get_or c.args.row.now (c.last_at.result * cell_words + c.args.a) 0
-    + reached (deck_in c.args.row.now c.args.sizes) c.args.sizes.reordering (kept_in c.args.store.now c.args.i) c.args.i c.args.q c.args.a)
+    ≡ get_or c.args.row.words.now (c.last_at.result * cell_words + c.args.a) 0
+    + reached (deck_in c.args.row.words.now c.args.row.sizes) c.args.row.sizes.reordering (kept_in c.args.store.now c.args.i) c.args.i c.args.q c.args.a)
 parts c =
     let a = c.args in
-    let D = deck_in a.row.now a.sizes in
-    let w = entry-parts D a.sizes.reordering a.store.now a.i a.q a.a c.requires.next c.requires.cost in
-    let e : last_at a.sizes.reordering (suc a.i) a.q ≡ c.last_at.result = omega (arith, c.last_at.ensures) in (
+    let D = deck_in a.row.words.now a.row.sizes in
+    let w = entry-parts D a.row.sizes.reordering a.store.now a.i a.q a.a c.requires.next c.requires.cost in
+    let e : last_at a.row.sizes.reordering (suc a.i) a.q ≡ c.last_at.result = omega (arith, c.last_at.ensures) in (
       ap (λ (j : ℕ). get_or a.store.now j 0) (omega (arith, c.kept_at.ensures)),
-      w.1 ∙ ap (λ (p : ℕ). get_or a.row.now (p * cell_words + a.a) 0
-          + reached D a.sizes.reordering (kept_in a.store.now a.i) a.i a.q a.a) e,
+      w.1 ∙ ap (λ (p : ℕ). get_or a.row.words.now (p * cell_words + a.a) 0
+          + reached D a.row.sizes.reordering (kept_in a.store.now a.i) a.i a.q a.a) e,
     )
 
 pub bounds-row-last_at : goal.bounds-row-last_at
@@ -61,6 +61,6 @@ pub returns : goal.returns
 returns c =
     let a = c.args in
     let p = parts (goal.at-returns c).After-kept_at in
-    let e : c.last_at.result ≡ last_at a.sizes.reordering (suc a.i) a.q = omega (arith, c.last_at.ensures) in
-    let o = ap (λ (p : ℕ). get_or a.row.now (p * cell_words + a.a) 0) e in
-    entry-source (deck_in a.row.now a.sizes) a.sizes.reordering a.store.now a.i a.q a.a c.find_source.ensures (omega arith)
+    let e : c.last_at.result ≡ last_at a.row.sizes.reordering (suc a.i) a.q = omega (arith, c.last_at.ensures) in
+    let o = ap (λ (p : ℕ). get_or a.row.words.now (p * cell_words + a.a) 0) e in
+    entry-source (deck_in a.row.words.now a.row.sizes) a.row.sizes.reordering a.store.now a.i a.q a.a c.find_source.ensures (omega arith)

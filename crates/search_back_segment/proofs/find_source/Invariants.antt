@@ -7,4 +7,4 @@ use Rattle.search_back_segment.proofs.find_source.Given as goal
 
 abbrev pub invariant-loop-p : goal.invariant-loop-p
 invariant-loop-p l =
-    (j : ℕ) → j < l.p → Misses (deck_in l.row l.sizes) l.sizes.reordering (kept_in l.store l.i) l.i l.q l.a l.want j
+    (j : ℕ) → j < l.p → Misses (deck_in l.row.words.now l.row.sizes) l.row.sizes.reordering (kept_in l.store l.i) l.i l.q l.a l.want j

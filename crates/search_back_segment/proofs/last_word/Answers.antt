@@ -14,13 +14,13 @@ use Rattle.search_back_segment.proofs.last_word.Goals as goal
 
 pub returns-then-not-is_there : goal.returns-then-not-is_there
 returns-then-not-is_there c =
-    sym (last_out (deck_in c.args.row.now c.args.sizes) c.args.sizes.reordering (kept_in c.args.store.now c.args.sizes.cells) c.args.q c.args.b
+    sym (last_out (deck_in c.args.row.words.now c.args.row.sizes) c.args.row.sizes.reordering (kept_in c.args.store.now c.args.row.sizes.cells) c.args.q c.args.b
     (sym c.is_there.ensures ∙ c.if-not-is_there.true))
 
 pub returns-then-row-k-eq1 : goal.returns-then-row-k-eq1
 returns-then-row-k-eq1 c =
-    let e = ap (λ (p : ℕ). eqb (word_of c.args.row.now p tall_word) 1) c.last_at-k.ensures in
-    sym (last-tall (deck_in c.args.row.now c.args.sizes) c.args.sizes.reordering (kept_in c.args.store.now c.args.sizes.cells) c.args.q c.args.b
+    let e = ap (λ (p : ℕ). eqb (word_of c.args.row.words.now p tall_word) 1) c.last_at-k.ensures in
+    sym (last-tall (deck_in c.args.row.words.now c.args.row.sizes) c.args.row.sizes.reordering (kept_in c.args.store.now c.args.row.sizes.cells) c.args.q c.args.b
     (sym e ∙ eq-eqb _ _ c.if-row-k-eq1.true))
 
 pub overflow_add-result-3 : goal.overflow_add-result-3
@@ -29,13 +29,13 @@ overflow_add-result-3 c =
       arith,
       c.requires.back.low.word (c.kept_at.result + c.args.q * pose_slots + c.args.b),
       c.back.ensures,
-      back_low c.args.row.now c.last_at-k.result c.args.b,
+      back_low c.args.row.words.now c.last_at-k.result c.args.b,
     )
 
 pub returns : goal.returns
 returns c =
-    let e = ap (λ (p : ℕ). eqb (word_of c.args.row.now p tall_word) 1) c.last_at-k.ensures in
+    let e = ap (λ (p : ℕ). eqb (word_of c.args.row.words.now p tall_word) 1) c.last_at-k.ensures in
     ap₂ (λ (x y : ℕ). x + y) (ap (λ (k : ℕ). get_or c.args.store.now k 0) (omega (arith, c.kept_at.ensures)))
-    (c.back.ensures ∙ ap (λ (k : ℕ). back_in c.args.row.now k c.args.b) c.last_at-k.ensures)
-    ∙ sym (last_in_lem (deck_in c.args.row.now c.args.sizes) c.args.sizes.reordering (kept_in c.args.store.now c.args.sizes.cells) c.args.q c.args.b
+    (c.back.ensures ∙ ap (λ (k : ℕ). back_in c.args.row.words.now k c.args.b) c.last_at-k.ensures)
+    ∙ sym (last_in_lem (deck_in c.args.row.words.now c.args.row.sizes) c.args.row.sizes.reordering (kept_in c.args.store.now c.args.row.sizes.cells) c.args.q c.args.b
     c.requires.pose (sym c.is_there.ensures ∙ c.if-not-is_there.false) (sym e ∙ ne_eqb _ _ c.if-row-k-eq1.false))

@@ -10,11 +10,11 @@ use Rattle.search_back_segment.proofs.state_pose.Goals as goal
 
 pub returns-then-not-is_source : goal.returns-then-not-is_source
 returns-then-not-is_source c =
-    poses-none (deck_in c.args.row.now c.args.sizes) c.args.sizes.reordering (kept_in c.args.store.now c.args.i) c.args.i c.args.q c.args.a c.args.p c.args.want
+    poses-none (deck_in c.args.row.words.now c.args.row.sizes) c.args.row.sizes.reordering (kept_in c.args.store.now c.args.i) c.args.i c.args.q c.args.a c.args.p c.args.want
     (sym c.is_source.ensures ∙ c.if-not-is_source.true) c.requires.target.below
 
 pub returns : goal.returns
 returns c =
-    let m : c.last_at-m.result ≡ last_at c.args.sizes.reordering (suc c.args.i) c.args.q = omega (arith, c.last_at-m.ensures) in
-    poses-first c.args.store.now c.args.row.now c.args.sizes.cells c.args.sizes.poses c.args.sizes.reordering c.args.i c.args.q c.args.a c.args.p c.args.want _
+    let m : c.last_at-m.result ≡ last_at c.args.row.sizes.reordering (suc c.args.i) c.args.q = omega (arith, c.last_at-m.ensures) in
+    poses-first c.args.store.now c.args.row.words.now c.args.row.sizes.cells c.args.row.sizes.poses c.args.row.sizes.reordering c.args.i c.args.q c.args.a c.args.p c.args.want _
     (sym c.is_source.ensures ∙ c.if-not-is_source.false) (omega (arith, c.kept_at.ensures)) c.last_at-k.ensures m c.find_pose.ensures

@@ -5,9 +5,9 @@ use Rattle.search_row.specs.Words.{deck_in}
 use Rattle.search_back_segment.specs.Steps.{end_none, end-closed, end-traced}
 use Rattle.search_back_segment.proofs.trace_end.Goals as goal
 
-pub returns-then-sizes-i : goal.returns-then-sizes-i
-returns-then-sizes-i c =
-    end_none (deck_in c.args.row.now c.args.sizes) c.args.sizes.reordering c.args.store.now c.args.i c.args.path.now (omega arith)
+pub returns-then-row-i : goal.returns-then-row-i
+returns-then-row-i c =
+    end_none (deck_in c.args.row.words.now c.args.row.sizes) c.args.row.sizes.reordering c.args.store.now c.args.i c.args.path.now (omega arith)
 
 pub returns-in_default : goal.returns-in_default
 returns-in_default c = end-closed c.args.path.now (omega arith) c.in_default.ensures
