@@ -68,6 +68,15 @@ pub struct Row<'a> {
     pub sizes: Sizes,
 }
 
+// The two rows of a search: they have the same sizes, but row 1 has `cells1` cells.
+#[derive(Clone, Copy)]
+pub struct Rows<'a> {
+    pub row0: &'a [u32],
+    pub row1: &'a [u32],
+    pub sizes: Sizes,
+    pub cells1: usize,
+}
+
 // The same with so many cells: the other row's.
 pub fn with_cells(sizes: Sizes, cells: usize) -> Sizes
     ensures { result ≡ with_cells sizes cells }

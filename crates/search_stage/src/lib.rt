@@ -12,7 +12,7 @@ ghost use Rattle.search_stage.specs.Stage.{LanesRun, StagesGiven, StageGiven, St
 ghost use Rattle.search_stage.specs.Stage.{RowsStart, RowsStage, RowsStages};
 
 use row::row_cost;
-use search_row::Sizes;
+use search_row::{Row, Rows};
 
 // How many of x states or poses table number i has.
 pub fn wide_of(talls: usize, i: usize, x: usize) -> usize
@@ -99,81 +99,81 @@ fn cost_start(
     table: &mut [u32; search_store::TABLE],
     store: &mut [u32],
     side: usize,
-    row: &[u32],
-    sizes: Sizes,
+    row: Row,
     i: usize,
     s: usize,
     lanes: usize,
 )
-    requires { StartGiven table.old row.now store.old side sizes i s lanes }
-    ensures { RowStart side row.now sizes i s lanes store.old store.new
+    requires { StartGiven table.old row.words.now store.old side row.sizes i s lanes }
+    ensures { RowStart side row.entry.words.now row.entry.sizes i s lanes store.old store.new
         table.new }
 {
-    let starts = wide_of(sizes.talls, i, sizes.states);
+    let starts = wide_of(row.sizes.talls, i, row.sizes.states);
     if !live(store, side, i, starts, s, 0, lanes) {
         return;
     }
     let costs = search_store::cost_at(side, s, 0, 0);
-    row_cost(table, store, row, sizes, i, s, lanes, costs);
+    row_cost(table, store, row, i, s, lanes, costs);
 }
 
-// The costs of stage i in both rows, from every start state in so many lanes; row 1 has `cells1` cells.
+// The costs of stage i in both rows, from every start state in so many lanes.
 fn costs(
     table: &mut [u32; search_store::TABLE],
     store: &mut [u32],
-    row0: &[u32],
-    row1: &[u32],
-    sizes: Sizes,
-    cells1: usize,
+    rows: Rows,
     i: usize,
     lanes: usize,
 )
-    requires { StageLanes table.old row0.now row1.now store.old sizes cells1 i lanes }
-    ensures { RowsStart row0.now row1.now sizes cells1 i lanes store.old
+    requires { StageLanes table.old rows.row0.now rows.row1.now store.old rows.sizes rows.cells1 i lanes }
+    ensures { RowsStart rows.entry.row0.now rows.entry.row1.now rows.entry.sizes rows.entry.cells1 i lanes store.old
         store.new table.new }
 {
-    let sizes1 = search_row::with_cells(sizes, cells1);
-    let starts = wide_of(sizes.talls, i, sizes.states);
+    let row0 = Row {
+        words: rows.row0,
+        sizes: rows.sizes,
+    };
+    let row1 = Row {
+        words: rows.row1,
+        sizes: search_row::with_cells(rows.sizes, rows.cells1),
+    };
+    let starts = wide_of(rows.sizes.talls, i, rows.sizes.states);
     for s in 0..starts {
-        cost_start(table, store, 0, row0, sizes, i, s, lanes);
-        cost_start(table, store, 1, row1, sizes1, i, s, lanes);
+        cost_start(table, store, 0, row0, i, s, lanes);
+        cost_start(table, store, 1, row1, i, s, lanes);
     }
 }
 
 // Stage i: case table number i + 1 from table number i, whatever the words of the store.
-pub fn stage(
-    table: &mut [u32; search_store::TABLE],
-    store: &mut [u32],
-    row0: &[u32],
-    row1: &[u32],
-    sizes: Sizes,
-    cells1: usize,
-    i: usize,
-)
-    requires { StageGiven table.old row0.now row1.now store.old sizes cells1 i }
-    ensures { RowsStage row0.now row1.now sizes cells1 i store.old
+pub fn stage(table: &mut [u32; search_store::TABLE], store: &mut [u32], rows: Rows, i: usize)
+    requires { StageGiven table.old rows.row0.now rows.row1.now store.old rows.sizes rows.cells1 i }
+    ensures { RowsStage rows.entry.row0.now rows.entry.row1.now rows.entry.sizes rows.entry.cells1 i store.old
         store.new table.new }
 {
-    let starts = wide_of(sizes.talls, i, sizes.states);
-    let lanes = lanes_in(store, i, starts, lanes_of(sizes.talls, i, sizes.poses));
-    costs(table, store, row0, row1, sizes, cells1, i, lanes);
-    let ends = wide_of(sizes.talls, i + 1, sizes.states);
-    let last = wide_of(sizes.talls, i + 1, sizes.poses);
+    let starts = wide_of(rows.sizes.talls, i, rows.sizes.states);
+    let lanes = lanes_in(
+        store,
+        i,
+        starts,
+        lanes_of(rows.sizes.talls, i, rows.sizes.poses),
+    );
+    costs(table, store, rows, i, lanes);
+    let ends = wide_of(rows.sizes.talls, i + 1, rows.sizes.states);
+    let last = wide_of(rows.sizes.talls, i + 1, rows.sizes.poses);
     search_join::join_stage(store, i, starts, lanes, ends, last);
-    let width = lanes_of(sizes.talls, i + 1, sizes.poses);
+    let width = lanes_of(rows.sizes.talls, i + 1, rows.sizes.poses);
     search_join::close_lanes(store, i + 1, ends, last, width);
 }
 
 // Every stage, from the state before anything.
-pub fn stages(store: &mut [u32], row0: &[u32], row1: &[u32], sizes: Sizes, cells1: usize)
-    requires { StagesGiven row0.now row1.now store.old sizes cells1 }
-    ensures { RowsStages row0.now row1.now sizes cells1 store.old
+pub fn stages(store: &mut [u32], rows: Rows)
+    requires { StagesGiven rows.row0.now rows.row1.now store.old rows.sizes rows.cells1 }
+    ensures { RowsStages rows.entry.row0.now rows.entry.row1.now rows.entry.sizes rows.entry.cells1 store.old
         store.new }
 {
     let mut table = [0u32; search_store::TABLE];
-    let talls = sizes.talls;
+    let talls = rows.sizes.talls;
     store[search_store::case_at(0, 0, 0)] = 0;
     for i in 0..=talls {
-        stage(&mut table, store, row0, row1, sizes, cells1, i);
+        stage(&mut table, store, rows, i);
     }
 }

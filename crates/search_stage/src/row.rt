@@ -6,7 +6,7 @@ ghost use Rattle.search_dense_first.specs.Begun.{PosesGiven};
 ghost use Rattle.search_stage.specs.Stage.{states_at, poses_at, cost_in, end_from, EndGiven, OpenGiven, CostGiven};
 ghost use Rattle.search_stage.specs.Stage.{RowCosted, RowMade, RowCost};
 
-use search_row::Sizes;
+use search_row::Row;
 use search_wide_layer::Block;
 
 // What the cell at position p pays as the row's last, in each pose.
@@ -24,71 +24,69 @@ fn backs(starts: &mut [u32; search_store::MAX_LANES], row: &[u32], p: usize, pos
 fn stage_end(
     table: &mut [u32; search_store::TABLE],
     store: &mut [u32],
-    row: &[u32],
-    sizes: Sizes,
+    row: Row,
     starts: &[u32; search_store::MAX_LANES],
     i: usize,
     layer: Block,
     costs: usize,
 )
-    requires { EndGiven table.old row.now store.old starts.now sizes layer costs }
-    ensures { RowMade (end_from (deck_in row.now sizes) sizes.reordering sizes.talls
-        (pos_in row.now) i store.old layer.cells starts.now) layer.lanes
-        (states_at sizes (suc i)) (poses_at sizes (suc i)) costs store.old store.new
+    requires { EndGiven table.old row.words.now store.old starts.now row.sizes layer costs }
+    ensures { RowMade (end_from (deck_in row.entry.words.now row.entry.sizes) row.entry.sizes.reordering row.entry.sizes.talls
+        (pos_in row.entry.words.now) i store.old layer.cells starts.now) layer.lanes
+        (states_at row.entry.sizes (suc i)) (poses_at row.entry.sizes (suc i)) costs store.old store.new
         table.new }
 {
-    if i < sizes.talls {
-        let p = search_row::tall_at(row, i);
-        search_wide_segment::segment_to(table, store, row, sizes, layer, p, costs);
+    if i < row.sizes.talls {
+        let p = search_row::tall_at(row.words, i);
+        search_wide_segment::segment_to(table, store, row, layer, p, costs);
         return;
     }
-    search_wide_end::segment_end(table, store, row, sizes, starts, layer, costs);
+    search_wide_end::segment_end(table, store, row, starts, layer, costs);
 }
 
 // The costs of stage 0 in a row, to the block at `costs`: from the row's start to the first
 // tall cell, or to the row's end if it has none.
-fn open_cost(store: &mut [u32], row: &[u32], sizes: Sizes, costs: usize)
-    requires { OpenGiven row.now store.old sizes costs }
-    ensures { RowCosted (cost_in row.now sizes 0 0) 1 (states_at sizes 1) (poses_at sizes 1) costs
+fn open_cost(store: &mut [u32], row: Row, costs: usize)
+    requires { OpenGiven row.words.now store.old row.sizes costs }
+    ensures { RowCosted (cost_in row.entry.words.now row.entry.sizes 0 0) 1 (states_at row.entry.sizes 1) (poses_at row.entry.sizes 1) costs
         store.old store.new }
 {
-    if sizes.talls > 0 {
-        let p = search_row::tall_at(row, 0);
-        search_dense_segment::open_to(store, row, sizes, p, costs);
+    if row.sizes.talls > 0 {
+        let p = search_row::tall_at(row.words, 0);
+        search_dense_segment::open_to(store, row, p, costs);
         return;
     }
-    search_dense_segment::open_end(store, row, sizes, costs);
+    search_dense_segment::open_end(store, row, costs);
 }
 
 // The costs of stage i in a row from start state s in so many lanes, to the block at `costs`.
 pub fn row_cost(
     table: &mut [u32; search_store::TABLE],
     store: &mut [u32],
-    row: &[u32],
-    sizes: Sizes,
+    row: Row,
     i: usize,
     s: usize,
     lanes: usize,
     costs: usize,
 )
-    requires { CostGiven table.old row.now store.old sizes i s lanes costs }
-    ensures { RowCost row.now sizes i s lanes costs store.old store.new
+    requires { CostGiven table.old row.words.now store.old row.sizes i s lanes costs }
+    ensures { RowCost row.entry.words.now row.entry.sizes i s lanes costs store.old store.new
         table.new }
 {
     if i == 0 {
-        open_cost(store, row, sizes, costs);
+        open_cost(store, row, costs);
         return;
     }
-    let p = search_row::tall_at(row, i - 1);
-    let placed = search_row::placed_with(row, sizes, p, s);
-    search_wide_first::first_layer(table, store, row, sizes, lanes, placed, s, p);
+    let p = search_row::tall_at(row.words, i - 1);
+    let placed = row.placed_with(p, s);
+    search_wide_first::first_layer(table, store, row, lanes, placed, s, p);
     let mut starts = [0u32; search_store::MAX_LANES];
-    backs(&mut starts, row, p, sizes.poses);
+    backs(&mut starts, row.words, p, row.sizes.poses);
     let cells = placed + 1;
     let layer = Block {
         lanes,
         cells,
         at: 0,
     };
-    stage_end(table, store, row, sizes, &starts, i, layer, costs);
+    stage_end(table, store, row, &starts, i, layer, costs);
 }

@@ -10,5 +10,5 @@ use Rattle.search_stage.proofs.cost_start.Goals as goal
 pub returns : goal.returns
 returns c =
     let e : c.cost_at-costs.result ≡ costs_at c.args.side c.args.s = omega (arith, c.cost_at-costs.ensures) in
-    start_live c.args.side c.args.s _ (cost_of (deck_in c.args.row.now c.args.sizes) c.args.sizes.reordering c.args.sizes.talls (pos_in c.args.row.now) c.args.i) e
+    start_live c.args.side c.args.s _ (cost_of (deck_in c.args.row.words.now c.args.row.sizes) c.args.row.sizes.reordering c.args.row.sizes.talls (pos_in c.args.row.words.now) c.args.i) e
     c.row_cost.ensures

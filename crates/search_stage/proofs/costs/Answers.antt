@@ -24,9 +24,9 @@ cost_start-requires-in-loop-s c =
     let g = c.requires.stage.given in
     let v = c.loop-s.invariant in
     let o = c.cost_start.ensures in
-    let h : c.loop-s.s < wide c.args.sizes.talls c.args.i c.args.sizes.states =
+    let h : c.loop-s.s < wide c.args.rows.sizes.talls c.args.i c.args.rows.sizes.states =
     omega (arith, c.loop-s-test.true, c.wide_of-starts.ensures) in
-    rw c.with_cells-sizes1.ensures record {
+    rw c.with_cells.ensures record {
       lent = o.lent;
       given = g.given₁;
       cases = given-table g c.args.i c.args.lanes _ c.requires.stage.stage c.requires.narrow (o.long ∙ v.long) o.low;
@@ -41,6 +41,6 @@ loop-s-preserved c =
     let w = given-wide g c.args.i in
     let x = given-wide g (suc c.args.i) in
     let l = c.loop-s in
-    let one = rw c.with_cells-sizes1.ensures at c.cost_start-in-loop-s.ensures in
+    let one = rw c.with_cells.ensures at c.cost_start-in-loop-s.ensures in
     both-more _ _ _ _ _ w.0 (omega (arith, w.1)) x.0 (omega (arith, x.1)) (omega (arith, c.requires.stage.stage, (given-states g).3)) _ _ l.s
     (omega (arith, c.loop-s-test.true, c.wide_of-starts.ensures)) l.invariant c.cost_start.ensures one

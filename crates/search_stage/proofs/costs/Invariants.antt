@@ -6,7 +6,7 @@ use Rattle.search_stage.proofs.costs.Given as goal
 
 abbrev pub invariant-loop-s : goal.invariant-loop-s
 invariant-loop-s l =
-    BothCosted (cost_of (deck_in l.row0 l.sizes) l.sizes.reordering l.sizes.talls (pos_in l.row0) l.i)
-    (cost_of (deck_in l.row1 (with_cells l.sizes l.cells1)) l.sizes.reordering l.sizes.talls (pos_in l.row1) l.i)
-    l.i (wide l.sizes.talls l.i l.sizes.states) (run_at l.sizes l.i l.lanes) (wide l.sizes.talls (suc l.i) l.sizes.states)
-    (wide l.sizes.talls (suc l.i) l.sizes.poses) l.s l.initial.store l.store l.table
+    BothCosted (cost_of (deck_in l.rows.row0.now l.rows.sizes) l.rows.sizes.reordering l.rows.sizes.talls (pos_in l.rows.row0.now) l.i)
+    (cost_of (deck_in l.rows.row1.now (with_cells l.rows.sizes l.rows.cells1)) l.rows.sizes.reordering l.rows.sizes.talls (pos_in l.rows.row1.now) l.i)
+    l.i (wide l.rows.sizes.talls l.i l.rows.sizes.states) (run_at l.rows.sizes l.i l.lanes) (wide l.rows.sizes.talls (suc l.i) l.rows.sizes.states)
+    (wide l.rows.sizes.talls (suc l.i) l.rows.sizes.poses) l.s l.initial.store l.store l.table

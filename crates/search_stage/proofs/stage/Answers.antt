@@ -11,14 +11,14 @@ use Rattle.search_stage.proofs.stage.Goals.{After-lanes_in-lanes}
 pub lanes_in-lanes-requires : goal.lanes_in-lanes-requires
 lanes_in-lanes-requires c =
     let g = c.requires.given in
-    let y = wide-lanes c.args.sizes.talls c.args.i c.args.sizes.poses (given-states g).2 in
+    let y = wide-lanes c.args.rows.sizes.talls c.args.i c.args.rows.sizes.poses (given-states g).2 in
     rw c.wide_of-starts.ensures
     (given-table g c.args.i c.lanes_of.result _ c.requires.stage (omega (arith, c.lanes_of.ensures, y.1)) refl g.low)
 
 -- no more lanes are run than a row has words
 run : (c : After-lanes_in-lanes) → c.lanes_in-lanes.result ≤ max_lanes
 run c =
-    let y = wide-lanes c.args.sizes.talls c.args.i c.args.sizes.poses (given-states c.requires.given).2 in
+    let y = wide-lanes c.args.rows.sizes.talls c.args.i c.args.rows.sizes.poses (given-states c.requires.given).2 in
     omega (arith, c.lanes_in-lanes.ensures.most, c.lanes_of.ensures, y.1)
 
 pub costs-requires : goal.costs-requires
@@ -41,7 +41,7 @@ pub close_lanes-requires : goal.close_lanes-requires
 close_lanes-requires c =
     let g = c.requires.given in
     let x = given-wide g (c.args.i + 1) in
-    let y = wide-lanes c.args.sizes.talls (c.args.i + 1) c.args.sizes.poses (given-states g).2 in
+    let y = wide-lanes c.args.rows.sizes.talls (c.args.i + 1) c.args.rows.sizes.poses (given-states g).2 in
     let p = c.costs.ensures in
     let j = c.join_stage.ensures in
     let ends = c.wide_of-ends.ensures in
@@ -62,9 +62,9 @@ returns c =
     let g = c.requires.given in
     let n = given-states g in
     let all = g.given₀.grounded.all in
-    stage-made (deck_in c.args.row0.now c.args.sizes) (deck_in c.args.row1.now (with_cells c.args.sizes c.args.cells1)) c.args.sizes.reordering c.args.sizes.talls
-    (pos_in c.args.row0.now) (pos_in c.args.row1.now)
-    (omega (arith, all, n.0)) (omega (arith, all, n.1)) n.2 c.args.i c.args.sizes.states _ _ _ _ _ _
+    stage-made (deck_in c.args.rows.row0.now c.args.rows.sizes) (deck_in c.args.rows.row1.now (with_cells c.args.rows.sizes c.args.rows.cells1)) c.args.rows.sizes.reordering c.args.rows.sizes.talls
+    (pos_in c.args.rows.row0.now) (pos_in c.args.rows.row1.now)
+    (omega (arith, all, n.0)) (omega (arith, all, n.1)) n.2 c.args.i c.args.rows.sizes.states _ _ _ _ _ _
     c.wide_of-starts.ensures c.lanes_of.ensures c.wide_of-ends.ensures
     c.wide_of-last.ensures c.lanes_of-width.ensures
     all c.requires.stage n.3 c.lanes_in-lanes.ensures c.costs.ensures

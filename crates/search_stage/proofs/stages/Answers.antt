@@ -15,21 +15,21 @@ bounds-store-case_at c =
 
 pub loop-i-init : goal.loop-i-init
 loop-i-init c = (
-  through_none (deck_in c.args.row0.now c.args.sizes) (deck_in c.args.row1.now (with_cells c.args.sizes c.args.cells1)) c.args.sizes.reordering c.args.sizes.talls
-      (pos_in c.args.row0.now) (pos_in c.args.row1.now) _ c.case_at.ensures c.requires.low
+  through_none (deck_in c.args.rows.row0.now c.args.rows.sizes) (deck_in c.args.rows.row1.now (with_cells c.args.rows.sizes c.args.rows.cells1)) c.args.rows.sizes.reordering c.args.rows.sizes.talls
+      (pos_in c.args.rows.row0.now) (pos_in c.args.rows.row1.now) _ c.case_at.ensures c.requires.low
       (omega (arith, c.case_at.ensures, given-first c.requires 0 (omega arith))),
   lent_zeros,
 )
 
 -- one stage more
-more : (c : After-stage) → Through (deck_in c.args.row0.now c.args.sizes) (deck_in c.args.row1.now (with_cells c.args.sizes c.args.cells1))
-    c.args.sizes.reordering c.args.sizes.talls (pos_in c.args.row0.now) (pos_in c.args.row1.now) (c.loop-i.i + 1)
+more : (c : After-stage) → Through (deck_in c.args.rows.row0.now c.args.rows.sizes) (deck_in c.args.rows.row1.now (with_cells c.args.rows.sizes c.args.rows.cells1))
+    c.args.rows.sizes.reordering c.args.rows.sizes.talls (pos_in c.args.rows.row0.now) (pos_in c.args.rows.row1.now) (c.loop-i.i + 1)
     (set c.args.store.now c.case_at.result 0) c.stage.new.store
 more c =
     let n = given-states c.requires in
     let all = c.requires.given₀.grounded.all in
-    through_more (deck_in c.args.row0.now c.args.sizes) (deck_in c.args.row1.now (with_cells c.args.sizes c.args.cells1)) c.args.sizes.reordering
-    c.args.sizes.talls (pos_in c.args.row0.now) (pos_in c.args.row1.now) (omega (arith, all, n.0)) (omega (arith, all, n.1)) n.2
+    through_more (deck_in c.args.rows.row0.now c.args.rows.sizes) (deck_in c.args.rows.row1.now (with_cells c.args.rows.sizes c.args.rows.cells1)) c.args.rows.sizes.reordering
+    c.args.rows.sizes.talls (pos_in c.args.rows.row0.now) (pos_in c.args.rows.row1.now) (omega (arith, all, n.0)) (omega (arith, all, n.1)) n.2
     (omega (arith, n.3, c.loop-i-test.true)) c.loop-i.invariant.0 c.stage.ensures
 
 pub loop-i-preserved : goal.loop-i-preserved
@@ -37,5 +37,5 @@ loop-i-preserved c = (more (goal.at-loop-i-preserved c).After-stage, c.stage.ens
 
 pub returns-2 : goal.returns-2
 returns-2 c =
-    through_all (deck_in c.args.row0.now c.args.sizes) (deck_in c.args.row1.now (with_cells c.args.sizes c.args.cells1)) c.args.sizes.reordering c.args.sizes.talls
-    (pos_in c.args.row0.now) (pos_in c.args.row1.now) (length-set c.args.store.now c.case_at.result 0) (more (goal.at-returns-2 c).After-stage) (omega arith)
+    through_all (deck_in c.args.rows.row0.now c.args.rows.sizes) (deck_in c.args.rows.row1.now (with_cells c.args.rows.sizes c.args.rows.cells1)) c.args.rows.sizes.reordering c.args.rows.sizes.talls
+    (pos_in c.args.rows.row0.now) (pos_in c.args.rows.row1.now) (length-set c.args.store.now c.case_at.result 0) (more (goal.at-returns-2 c).After-stage) (omega arith)

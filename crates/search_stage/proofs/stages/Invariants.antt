@@ -6,5 +6,5 @@ use Rattle.search_stage.proofs.stages.Given as goal
 
 abbrev pub invariant-loop-i : goal.invariant-loop-i
 invariant-loop-i l =
-    Through (deck_in l.row0 l.sizes) (deck_in l.row1 (with_cells l.sizes l.cells1)) l.sizes.reordering l.sizes.talls (pos_in l.row0)
-    (pos_in l.row1) l.i l.initial.store l.store × TableLent l.table
+    Through (deck_in l.rows.row0.now l.rows.sizes) (deck_in l.rows.row1.now (with_cells l.rows.sizes l.rows.cells1)) l.rows.sizes.reordering l.rows.sizes.talls (pos_in l.rows.row0.now)
+    (pos_in l.rows.row1.now) l.i l.initial.store l.store × TableLent l.table

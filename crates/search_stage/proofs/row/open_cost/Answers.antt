@@ -4,13 +4,13 @@ use Rattle.search_row.specs.Words.{deck_in, pos_in}
 use Rattle.search_stage.specs.Rows.{open_tall, open_last}
 use Rattle.search_stage.proofs.row.open_cost.Goals as goal
 
-pub returns-then-sizes-gt0 : goal.returns-then-sizes-gt0
+pub returns-then-row-gt0 : goal.returns-then-row-gt0
 unfolding pos_in
-returns-then-sizes-gt0 c =
-    open_tall (deck_in c.args.row.now c.args.sizes) c.args.sizes.reordering c.args.sizes.talls (pos_in c.args.row.now) (omega (arith, c.if-sizes-gt0.true))
+returns-then-row-gt0 c =
+    open_tall (deck_in c.args.row.words.now c.args.row.sizes) c.args.row.sizes.reordering c.args.row.sizes.talls (pos_in c.args.row.words.now) (omega (arith, c.if-row-gt0.true))
     c.tall_at-p.ensures c.open_to.ensures
 
 pub returns : goal.returns
 returns c =
-    open_last (deck_in c.args.row.now c.args.sizes) c.args.sizes.reordering c.args.sizes.talls (pos_in c.args.row.now) c.args.sizes.states
-    (omega (arith, c.if-sizes-gt0.false)) c.open_end.ensures
+    open_last (deck_in c.args.row.words.now c.args.row.sizes) c.args.row.sizes.reordering c.args.row.sizes.talls (pos_in c.args.row.words.now) c.args.row.sizes.states
+    (omega (arith, c.if-row-gt0.false)) c.open_end.ensures

@@ -11,14 +11,14 @@ use Rattle.search_stage.proofs.row.row_cost.Goals as goal
 pub returns-then-i-eq0 : goal.returns-then-i-eq0
 returns-then-i-eq0 c =
     record {
-      costed = row_open (deck_in c.args.row.now c.args.sizes) c.args.sizes.reordering c.args.sizes.talls (pos_in c.args.row.now) c.args.sizes.states c.args.s
+      costed = row_open (deck_in c.args.row.words.now c.args.row.sizes) c.args.row.sizes.reordering c.args.row.sizes.talls (pos_in c.args.row.words.now) c.args.row.sizes.states c.args.s
           c.args.lanes c.if-i-eq0.true c.open_cost.ensures;
       lent = c.requires.lent;
     }
 
 pub placed_with-placed-requires : goal.placed_with-placed-requires
 placed_with-placed-requires c =
-    let s = start-state c.args.sizes.talls c.args.i c.args.sizes.states c.args.s c.requires.state c.if-i-eq0.false c.requires.stage in
+    let s = start-state c.args.row.sizes.talls c.args.i c.args.row.sizes.states c.args.s c.requires.state c.if-i-eq0.false c.requires.stage in
     record {
       words = c.requires.given.grounded.coded;
       state = omega (arith, c.requires.given.grounded.all);
@@ -31,7 +31,7 @@ placed_with-placed-requires c =
 pub first_layer-requires : goal.first_layer-requires
 first_layer-requires c =
     let g = c.requires.given.grounded in
-    let s = start-state c.args.sizes.talls c.args.i c.args.sizes.states c.args.s c.requires.state c.if-i-eq0.false
+    let s = start-state c.args.row.sizes.talls c.args.i c.args.row.sizes.states c.args.s c.requires.state c.if-i-eq0.false
     c.requires.stage in
     let p =
     start-place c.args.i c.tall_at-p.result c.requires.given c.if-i-eq0.false c.requires.stage
@@ -66,7 +66,7 @@ pub returns : goal.returns
 unfolding pos_in
 returns c =
     record {
-      costed = row-after (deck_in c.args.row.now c.args.sizes) c.args.sizes.reordering c.args.sizes.talls (pos_in c.args.row.now) c.args.i (c.args.i - 1) c.args.sizes.states
+      costed = row-after (deck_in c.args.row.words.now c.args.row.sizes) c.args.row.sizes.reordering c.args.row.sizes.talls (pos_in c.args.row.words.now) c.args.i (c.args.i - 1) c.args.row.sizes.states
           c.args.s c.tall_at-p.result c.placed_with-placed.result c.backs.new.starts
           (omega (arith, c.if-i-eq0.false)) c.requires.stage
           c.requires.given.grounded.all
