@@ -2,9 +2,8 @@
 
 #![tactic(auto)]
 
-ghost use Rattle.std.specs.Prelude.{◌≡◌, cond, ◌+◌, ◌<◌, max};
-ghost use Rattle.definition.specs.Job.{max_cells};
-ghost use Rattle.job_tally.specs.Tallies.{tally_with, TallyRoom, room, rises};
+ghost use Rattle.std.specs.Prelude.{◌≡◌, cond, max};
+ghost use Rattle.job_tally.specs.Tallies.{held, tally_with, TallyRoom, room, rises};
 
 use job::Job;
 
@@ -25,51 +24,40 @@ pub fn has_room(t: Tally, row: u32) -> bool
     (t.count < Job::MAX_CELLS) & ((row != 2) | (t.tall < Job::MAX_TALL))
 }
 
+// A cell of this row, 2 for both, stands in `row`.
+fn stands_in(row: u32, cell: u32) -> bool
+    ensures { result ≡ held row cell }
+{
+    (cell == 2) | (cell == row)
+}
+
 // Its given site does not fall.
 pub fn does_rise(t: Tally, row: u32, given: u32) -> bool
     ensures { result ≡ rises t row given }
 {
-    let first = !((row == 2) | (row == 0)) | (t.first <= given);
-    let second = !((row == 2) | (row == 1)) | (t.second <= given);
+    let first = !stands_in(0, row) | (t.first <= given);
+    let second = !stands_in(1, row) | (t.second <= given);
     first & second
 }
 
 // ---- one more cell
 
-fn one_more(is: bool, n: usize) -> usize
-    requires { n < max_cells }
-    ensures { result ≡ n + cond is 1 0 }
+// The largest given site of a row, with one more cell that may stand in it.
+fn higher(stands: bool, top: u32, given: u32) -> u32
+    ensures { result ≡ max top (cond stands given 0) }
 {
-    if is {
-        return n + 1;
-    }
-    n
-}
-
-fn higher(is: bool, top: u32, given: u32) -> u32
-    ensures { result ≡ max top (cond is given 0) }
-{
-    if is {
-        if top < given {
-            return given;
-        }
-        return top;
-    }
-    top
+    if stands { top.max(given) } else { top }
 }
 
 pub fn tally_with(t: Tally, row: u32, given: u32) -> Tally
     requires { TallyRoom t }
     ensures { result ≡ tally_with t row given }
 {
-    let tall = one_more(row == 2, t.tall);
-    let first = higher((row == 2) | (row == 0), t.first, given);
-    let second = higher((row == 2) | (row == 1), t.second, given);
     Tally {
         rows: t.rows,
         count: t.count + 1,
-        tall,
-        first,
-        second,
+        tall: t.tall + usize::from(row == 2),
+        first: higher(stands_in(0, row), t.first, given),
+        second: higher(stands_in(1, row), t.second, given),
     }
 }
