@@ -1,11 +1,16 @@
 -- A list spelled out by its entries.
-use Rattle.std.specs.Prelude.{ℕ, zero, suc, ◌+◌, ◌<◌, ◌≡◌, refl, List, [], ◌∷◌, length, get_or, drop}
+use Rattle.std.specs.Prelude.{ℕ, zero, suc, ◌+◌, ◌<◌, ◌≤◌, ◌≡◌, refl, List, [], ◌∷◌, length, get_or, take, drop}
 use Rattle.std.proofs.Common.{ap, ◌∙◌, arith, drop_of_length-le, drop-cons}
 
 -- entries i, i + 1 and so on, k of them
 abbrev pub spelled : ℕ → ℕ → List ℕ → List ℕ
 spelled i zero l = []
 spelled i (suc k) l = get_or l i 0 ∷ spelled (suc i) k l
+
+pub spell_part : (i k : ℕ) (l : List ℕ) → i + k ≤ length l → take k (drop i l) ≡ spelled i k l
+spell_part i zero l h = refl
+spell_part i (suc k) l h =
+    rw (drop-cons l i 0 (omega arith)) (ap (λ (m : List ℕ). get_or l i 0 ∷ m) (spell_part (suc i) k l (omega arith)))
 
 pub spell : (i k : ℕ) (l : List ℕ) → length l ≡ i + k → drop i l ≡ spelled i k l
 spell i zero l e = drop_of_length-le l {i = i} (omega arith)

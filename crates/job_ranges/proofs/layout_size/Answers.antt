@@ -1,9 +1,0 @@
--- `job_ranges::layout_size` meets its contract, by the row.
-use borrow.Author.Tests.{eq-eqb, ne_eqb}
-use Rattle.job_ranges.proofs.layout_size.Goals as goal
-
-pub returns-then-row-eq2 : goal.returns-then-row-eq2
-returns-then-row-eq2 c = rw (eq-eqb c.args.row 2 c.if-row-eq2.true)
-
-pub returns : goal.returns
-returns c = rw (ne_eqb c.args.row 2 c.if-row-eq2.false)
