@@ -7,7 +7,7 @@ use Rattle.theory_tables.specs.Steps.{B}
 use Rattle.theory_tables.proofs.Spots.{and_both}
 use Rattle.theory_cover.specs.FileRow.{FileRow, start_of, end_of}
 use Rattle.theory_cover.specs.Recurrence.{clears, new_sites}
-use Rattle.search_row.specs.Words.{word_of, RowWords, cell_words, first_word, width_word}
+use Rattle.search_row.specs.Words.{word_of, width_word}
 use Rattle.staples_ways.specs.declared.Rests.{Rests}
 use Rattle.staples_ways.specs.Words.{site_of_number, ok_in, file_row, FileWords, last_cell, LastStands, way_in}
 use Rattle.staples_ways.specs.Laws.{way-closed, way-left, way_open}
@@ -27,16 +27,6 @@ module _ {row : List ℕ} {n d : ℕ} (w : FileWords row n d) where
   pub start_first : (p t : ℕ) → start_of (file_row row n d) p t ≤ end_of (file_row row n d) p t
   start_first zero t = omega arith
   start_first (suc p) t = omega arith
-
--- it lies in reach
-pub start-low : (row : List ℕ) (d p t : ℕ) → RowWords row → d < 15 → t < 15 → (last_cell row d p t).start ≤ B + 15
-start-low row d zero t w h i = omega arith
-start-low row d (suc p) t w h i = omega (arith, w.word (p * cell_words + first_word))
-
-pub end_low : (row : List ℕ) (d p t : ℕ) → RowWords row → d < 15 → t < 15 → (last_cell row d p t).end ≤ B + B + 15
-end_low row d zero t w h i = omega arith
-end_low row d (suc p) t w h i =
-    omega (arith, w.word (p * cell_words + first_word), w.word (p * cell_words + width_word))
 
 new-added : (b x w d : ℕ) → new_sites (b + d) (x + d) w ≡ new_sites b x w
 new-added b x w d = omega arith

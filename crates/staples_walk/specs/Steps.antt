@@ -1,5 +1,5 @@
 -- A step of the walk through the table: by which site number of a row's next cell the fewest sites are covered.
-use Rattle.std.specs.Prelude.{ℕ, ◌+◌, ◌*◌, ◌≤◌, ◌<◌, ◌≡◌, Bool, true, false, ◌&&◌, List, length, eqb}
+use Rattle.std.specs.Prelude.{ℕ, ◌+◌, ◌*◌, ◌≤◌, ◌<◌, ◌≡◌, Bool, true, false, ◌&&◌, List, length, eqb, Option, None, Some}
 use Rattle.definition.specs.Job.{max_cells}
 use Rattle.theory_tables.specs.Steps.{B}
 use Rattle.theory_cover.specs.FileRow.{FileRow, Follows}
@@ -21,16 +21,21 @@ abbrev pub leads_in : List ℕ → List ℕ → NextCell → LastCell → LastCe
 leads_in st row next own other r x v =
     clears own.end (site_of_number row next.placed v) && eqb (ways_in st row next other r v) x
 
--- the first such number, or all of them if there is none
-pub record FirstLead (lead : ℕ → Bool) (n v : ℕ) : Type 0 where
-  pub most : v ≤ n
-  pub leads : v < n → lead v ≡ true
-  pub none : (k : ℕ) → k < v → lead k ≡ false
+-- number v leads on, and none before it
+pub record Lead (lead : ℕ → Bool) (n v : ℕ) : Type 0 where
+  pub below : v < n
+  pub leads : lead v ≡ true
+  pub first : (k : ℕ) → k < v → lead k ≡ false
+
+-- the first such number, if there is one
+abbrev pub FirstLead : (ℕ → Bool) → ℕ → Option ℕ → Type 0
+FirstLead lead n None = (k : ℕ) → k < n → lead k ≡ false
+FirstLead lead n (Some v) = Lead lead n v
 
 -- the same of a row that may have no next cell
-pub record OpenLead (lead : ℕ → Bool) (next : NextCell) (v : ℕ) : Type 0 where
-  pub there : v < next.numbers → next.placed < next.cells
-  pub first : next.placed < next.cells → FirstLead lead next.numbers v
+abbrev pub OpenLead : (ℕ → Bool) → NextCell → Option ℕ → Type 0
+OpenLead lead next None = next.placed < next.cells → (k : ℕ) → k < next.numbers → lead k ≡ false
+OpenLead lead next (Some v) = (next.placed < next.cells) × Lead lead next.numbers v
 
 -- both rows' last cells stand, and a cell is still to come that can be placed
 pub record StandsHere (row₀ row₁ : List ℕ) (k : RowCounts) (h : Here) : Type 0 where

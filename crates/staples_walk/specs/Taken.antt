@@ -1,6 +1,6 @@
 -- The step that is taken: a number of row 0's next cell leads on, or else one of row 1's.
 use Prim.Native.Nat.{ℕ, suc, ◌+◌, ◌-◌, ◌*◌, ◌<◌, min, max}
-use Rattle.std.specs.Prelude.{◌≡◌, ◌≢◌, Bool, false, List, get_or}
+use Rattle.std.specs.Prelude.{◌≡◌, ◌≢◌, Bool, false, List, get_or, Option, None, Some, IsSome}
 use Rattle.std.proofs.Math.Path.{refl}
 use Rattle.std.proofs.Common.{sym, ap, ◌∙◌}
 use Rattle.std.proofs.Math.Bool.{true, true≢false}
@@ -11,13 +11,15 @@ use Rattle.theory_cover.specs.FileRow.{FileRow, start_of, end_of}
 use Rattle.theory_cover.specs.Recurrence.{onward, fewest}
 use Rattle.theory_cover.proofs.Recurrence.{onward-met}
 use Rattle.staples_ways.specs.declared.Rests.{Rests}
+use Rattle.staples_ways.specs.declared.NextCell.{NextCell}
 use Rattle.staples_ways.specs.Words.{ok_in, file_row, last_cell}
 use Rattle.staples_ways.specs.Ways.{rest_in}
 use Rattle.staples_table.specs.declared.RowCounts.{RowCounts}
 use Rattle.staples_table.specs.Blocks.{block_at, TwoRows, to_come, TableRight}
 use Rattle.staples_walk.specs.declared.Here.{Here}
 use Rattle.staples_walk.specs.declared.Step.{Step}
-use Rattle.staples_walk.specs.Steps.{leads_in, FirstLead, StandsHere, fewest_here, Adds}
+use Rattle.staples_walk.specs.declared.Step.TheVariants.{Row0, Row1}
+use Rattle.staples_walk.specs.Steps.{leads_in, Lead, OpenLead, StandsHere, fewest_here, Adds}
 use Rattle.staples_walk.specs.Adds.{lead_adds, adds_lead}
 
 -- both rows, and what each one's next cell adds
@@ -49,10 +51,9 @@ module _ (row₀ row₁ : List ℕ) (k : RowCounts) (h : Here) where
       (fewest_here row₀ row₁ k h) after₁
 
 -- the step is one of these
-pub record StepTaken (row₀ row₁ : List ℕ) (k : RowCounts) (h : Here) (s : Step) : Type 0 where
-  pub small : s.number < 2 * k.limit + 1
-  pub zeroth : s.row ≡ 0 → Adds₀ row₀ row₁ k h s.number
-  pub first : s.row ≢ 0 → Adds₁ row₀ row₁ k h s.number
+abbrev pub StepTaken : List ℕ → List ℕ → RowCounts → Here → Step → Type 0
+StepTaken row₀ row₁ k h (Row0 v) = (v < 2 * k.limit + 1) × Adds₀ row₀ row₁ k h v
+StepTaken row₀ row₁ k h (Row1 v) = (v < 2 * k.limit + 1) × Adds₁ row₀ row₁ k h v
 
 module _ (row₀ row₁ : List ℕ) (k : RowCounts) (h : Here) (st : List ℕ) (rows : TwoRows row₀ row₁ k)
     (table : TableRight row₀ row₁ k 0 st) (here : StandsHere row₀ row₁ k h)
@@ -93,15 +94,21 @@ module _ (row₀ row₁ : List ℕ) (k : RowCounts) (h : Here) (st : List ℕ) (
   abbrev pub rests₁ : Rests
   rests₁ = record { at = block_at p q + 225 + t * 15; step = 1 }
 
+  abbrev pub next₀ : NextCell
+  next₀ = record { cells = k.cells0; placed = p; numbers = 2 * k.limit + 1 }
+
+  abbrev pub next₁ : NextCell
+  next₁ = record { cells = k.cells1; placed = q; numbers = 2 * k.limit + 1 }
+
   abbrev pub lead₀ : ℕ → Bool
   lead₀ v =
-      leads_in st row₀ (record { cells = k.cells0; placed = p; numbers = 2 * k.limit + 1 })
+      leads_in st row₀ next₀
       (last_cell row₀ k.limit p t) (last_cell row₁ k.limit q u) rests₀
       x v
 
   abbrev pub lead₁ : ℕ → Bool
   lead₁ v =
-      leads_in st row₁ (record { cells = k.cells1; placed = q; numbers = 2 * k.limit + 1 })
+      leads_in st row₁ next₁
       (last_cell row₁ k.limit q u) (last_cell row₀ k.limit p t) rests₁
       x v
 
@@ -130,16 +137,11 @@ module _ (row₀ row₁ : List ℕ) (k : RowCounts) (h : Here) (st : List ℕ) (
   on₁ = onward C q (end_of C q u) (end_of A p t)
       z f₁
 
-  pub taken₀ : p < k.cells0 → (v : ℕ) → v < 2 * k.limit + 1 → FirstLead lead₀ (2 * k.limit + 1) v
-      → StepTaken row₀ row₁ k h (record { row = 0; number = v })
-  taken₀ l v i f =
-      record {
-        small = i;
-        zeroth = λ e.
-            lead_adds rows.first rows.second p t q u here.stands₀ here.stands₁ st rests₀
-            f₀ l (left₀ l) x v i way (f.leads i);
-        first = λ e. absurd (e refl);
-      }
+  pub taken₀ : p < k.cells0 → (v : ℕ) → Lead lead₀ (2 * k.limit + 1) v → StepTaken row₀ row₁ k h (Row0 v)
+  taken₀ l v f = (
+    f.below,
+    lead_adds rows.first rows.second p t q u here.stands₀ here.stands₁ st rests₀ f₀ l (left₀ l) x v f.below way f.leads,
+  )
 
   -- the fewest are what one of the two comes to
   parts : fewest_here row₀ row₁ k h ≡ min on₀ on₁
@@ -168,8 +170,8 @@ module _ (row₀ row₁ : List ℕ) (k : RowCounts) (h : Here) (st : List ℕ) (
       go (no l) = omega (arith, parts, l)
 
   -- then one of its numbers leads on
-  some₁ : on₁ ≡ fewest_here row₀ row₁ k h → (q < k.cells1) × ((v : ℕ) → FirstLead lead₁ (2 * k.limit + 1) v
-      → v < 2 * k.limit + 1)
+  some₁ : on₁ ≡ fewest_here row₀ row₁ k h
+      → (q < k.cells1) × ((v : ℕ) × ((v < 2 * k.limit + 1) × (lead₁ v ≡ true)))
   unfolding on₁
   some₁ e =
       let m = onward-met C q (end_of C q u)
@@ -179,25 +181,18 @@ module _ (row₀ row₁ : List ℕ) (k : RowCounts) (h : Here) (st : List ℕ) (
       let o = adds_lead rows.second rows.first q u p t here.stands₁ here.stands₀ st rests₁
       f₁ l (left₁ l) x m.number i way
       (record { follows = m.follows; rises = omega (arith, m.rises); covered = m.met ∙ e }) in
-      (l, λ v f. go v f m.number i o (dec_lt v (2 * k.limit + 1)))
-    where
-      go : (v : ℕ) → FirstLead lead₁ (2 * k.limit + 1) v → (w : ℕ) → w < 2 * k.limit + 1 → lead₁ w ≡ true
-          → Dec (v < 2 * k.limit + 1) → v < 2 * k.limit + 1
-      go v f w i t (yes c) = c
-      go v f w i t (no c) = absurd (true≢false (sym t ∙ f.none w (omega (arith, c, i, f.most))))
+      (l, (m.number, (i, o)))
 
-  pub there₁ : (p < k.cells0 → (v : ℕ) → v < 2 * k.limit + 1 → lead₀ v ≡ false) → q < k.cells1
-  there₁ f = (some₁ (low₁ (none₀ f))).0
-
-  pub taken₁ : (p < k.cells0 → (v : ℕ) → v < 2 * k.limit + 1 → lead₀ v ≡ false) → (v : ℕ)
-      → FirstLead lead₁ (2 * k.limit + 1) v → StepTaken row₀ row₁ k h (record { row = 1; number = v })
-  taken₁ f v g =
+  -- so that row has a next cell, and one of its numbers is found
+  pub some-lead : (p < k.cells0 → (v : ℕ) → v < 2 * k.limit + 1 → lead₀ v ≡ false) → (r : Option ℕ)
+      → OpenLead lead₁ next₁ r → IsSome r
+  some-lead f None o =
       let s = some₁ (low₁ (none₀ f)) in
-      let i = s.1 v g in
+      absurd (true≢false (sym s.1.1.1 ∙ o s.0 s.1.0 s.1.1.0))
+  some-lead f (Some v) o = refl
+
+  pub taken₁ : q < k.cells1 → (v : ℕ) → Lead lead₁ (2 * k.limit + 1) v → StepTaken row₀ row₁ k h (Row1 v)
+  taken₁ l v g =
       let a = lead_adds rows.second rows.first q u p t here.stands₁ here.stands₀ st rests₁
-      f₁ s.0 (left₁ s.0) x v i way (g.leads i) in
-      record {
-        small = i;
-        zeroth = λ e. absurd (omega arith);
-        first = λ e. record { follows = a.follows; rises = omega (arith, a.rises); covered = a.covered };
-      }
+      f₁ l (left₁ l) x v g.below way g.leads in
+      (g.below, record { follows = a.follows; rises = omega (arith, a.rises); covered = a.covered })

@@ -1,5 +1,5 @@
 -- The walk's numbers: both rows from here on, as they are noted, and that they cover the fewest sites.
-use Rattle.std.specs.Prelude.{ℕ, suc, ◌+◌, ◌-◌, ◌*◌, ◌≤◌, ◌<◌, ◌≡◌, refl, List, ◌∷◌, map, length, get_or, set}
+use Rattle.std.specs.Prelude.{ℕ, suc, ◌+◌, ◌-◌, ◌≤◌, ◌<◌, ◌≡◌, refl, List, ◌∷◌, map, length, get_or, set}
 use Rattle.std.proofs.Common.{sym, ap, subst, ◌∙◌, length-set, get_or-set_same, get_or-set_other}
 use native.Mathlib.Omega.{arith}
 use Rattle.definition.specs.Job.{max_cells}
@@ -64,9 +64,6 @@ onward₀ h v = record { placed0 = h.placed0 + 1; number0 = v; placed1 = h.place
 abbrev pub onward₁ : Here → ℕ → Here
 onward₁ h v = record { placed0 = h.placed0; number0 = h.number0; placed1 = h.placed1 + 1; number1 = v }
 
-left-low : (a b x : ℕ) → a + b ≡ x → x < B → b < B
-left-low a b x e f = omega arith
-
 module _ (row₀ row₁ : List ℕ) (k : RowCounts) (h : Here) where
   abbrev A : FileRow
   A = L row₀ row₁ k h
@@ -104,47 +101,6 @@ module _ (row₀ row₁ : List ℕ) (k : RowCounts) (h : Here) where
         count = λ n i j. rw (z₀, z₁, z) (anew-end A C p t q
             u n);
       }
-
-  -- what is left after a step, and that it can be made
-  pub way₀ : (v : ℕ) → p + q < k.cells0 + k.cells1 → Adds₀ row₀ row₁ k h v
-      → fewest_here row₀ row₁ k h < B → fewest_here row₀ row₁ k (onward₀ h v) < B
-  way₀ v s a b =
-      let z : p + 1 ≡ suc p = omega arith in
-      let y : to_come k (suc p) q ≡ to_come k p q - 1 = omega arith in
-      rw (z, y) (left-low _ _ _ a.covered b)
-
-  pub way₁ : (v : ℕ) → p + q < k.cells0 + k.cells1 → Adds₁ row₀ row₁ k h v
-      → fewest_here row₀ row₁ k h < B → fewest_here row₀ row₁ k (onward₁ h v) < B
-  way₁ v s a b =
-      let z : q + 1 ≡ suc q = omega arith in
-      let y : to_come k p (suc q) ≡ to_come k p q - 1 = omega arith in
-      rw (z, y) (left-low _ _ _ a.covered b)
-
-  pub stands₀ : (v : ℕ) → v < 2 * k.limit + 1 → Adds₀ row₀ row₁ k h v → StandsHere row₀ row₁ k h
-      → StandsHere row₀ row₁ k (onward₀ h v)
-  stands₀ v i a s =
-      let z : p + 1 ≡ suc p = omega arith in
-      rw z (record {
-        placed₀ = a.follows.there;
-        placed₁ = s.placed₁;
-        small₀ = i;
-        small₁ = s.small₁;
-        stands₀ = (a.follows.there, i, a.follows.ok);
-        stands₁ = s.stands₁;
-      })
-
-  pub stands₁ : (v : ℕ) → v < 2 * k.limit + 1 → Adds₁ row₀ row₁ k h v → StandsHere row₀ row₁ k h
-      → StandsHere row₀ row₁ k (onward₁ h v)
-  stands₁ v i a s =
-      let z : q + 1 ≡ suc q = omega arith in
-      rw z (record {
-        placed₀ = s.placed₀;
-        placed₁ = a.follows.there;
-        small₀ = s.small₀;
-        small₁ = i;
-        stands₀ = s.stands₀;
-        stands₁ = (a.follows.there, i, a.follows.ok);
-      })
 
   abbrev noted : List ℕ → List ℕ
   noted l = noted_from l p (k.cells0 - p)

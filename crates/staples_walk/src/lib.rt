@@ -21,11 +21,11 @@ pub struct Here {
     pub number1: usize,
 }
 
-// Which row's next cell is placed, and at which site number.
-#[derive(Drop)]
-pub struct Step {
-    pub row: usize,
-    pub number: usize,
+// Whose next cell is placed, and at which site number.
+#[derive(Clone, Copy)]
+pub enum Step {
+    Row0(usize),
+    Row1(usize),
 }
 
 // Whether just so many sites are covered by site number v of a row's next cell.
@@ -43,17 +43,14 @@ fn leads(
     ensures { result ≡ leads_in store.now row.now next own other rests fewest v }
 {
     let x = staples_ways::place_of(row, next.placed, v);
-    if x < own.end {
-        return false;
-    }
-    if x == own.end + 1 {
+    if x < own.end || x == own.end + 1 {
         return false;
     }
     let rest = store[rests.at + v * rests.step];
     staples_ways::way(row, next.cells, next.placed, v, other, rest) == fewest
 }
 
-// The first such number; as many as there are if there is none.
+// The first such number.
 fn first_lead(
     store: &[u32],
     row: &[u32],
@@ -62,19 +59,12 @@ fn first_lead(
     other: LastCell,
     rests: Rests,
     fewest: u32,
-) -> usize
+) -> Option<usize>
     requires { LeadsAsked store.now row.now next own other rests }
     ensures { FirstLead (leads_in store.now row.now next own other rests fewest)
         next.numbers result }
 {
-    let mut v: usize = 0;
-    while v < next.numbers {
-        if leads(store, row, next, own, other, rests, fewest, v) {
-            return v;
-        }
-        v += 1;
-    }
-    v
+    (0..next.numbers).find(|v| leads(store, row, next, own, other, rests, fewest, *v))
 }
 
 // The same if the row has a next cell.
@@ -86,12 +76,12 @@ fn lead_of(
     other: LastCell,
     rests: Rests,
     fewest: u32,
-) -> usize
+) -> Option<usize>
     requires { OpenAsked store.now row.now next own other rests }
     ensures { OpenLead (leads_in store.now row.now next own other rests fewest) next result }
 {
     if next.placed == next.cells {
-        return next.numbers;
+        return None;
     }
     first_lead(store, row, next, own, other, rests, fewest)
 }
@@ -124,12 +114,10 @@ fn next_step(store: &[u32], row0: &[u32], row1: &[u32], counts: RowCounts, here:
         at: at + staples_table::BLOCK + here.number0 * staples_ways::NUMBERS,
         step: 1,
     };
-    let v = lead_of(store, row0, next0, last0, last1, rests0, fewest);
-    if v < numbers {
-        return Step { row: 0, number: v };
+    match lead_of(store, row0, next0, last0, last1, rests0, fewest) {
+        Some(number) => Step::Row0(number),
+        None => Step::Row1(lead_of(store, row1, next1, last1, last0, rests1, fewest).unwrap()),
     }
-    let number = lead_of(store, row1, next1, last1, last0, rests1, fewest);
-    Step { row: 1, number }
 }
 
 // The site number of the cell at position p.
@@ -157,24 +145,24 @@ fn walk(
     if here.placed0 + here.placed1 == counts.cells0 + counts.cells1 {
         return;
     }
-    let taken = next_step(store, row0, row1, counts, here);
-    if taken.row == 0 {
-        note(noted0, here.placed0, taken.number);
-        let on = Here {
-            placed0: here.placed0 + 1,
-            number0: taken.number,
-            placed1: here.placed1,
-            number1: here.number1,
-        };
-        walk(store, row0, row1, counts, on, noted0, noted1);
-        return;
+    match next_step(store, row0, row1, counts, here) {
+        Step::Row0(number) => {
+            note(noted0, here.placed0, number);
+            let on = Here {
+                placed0: here.placed0 + 1,
+                number0: number,
+                ..here
+            };
+            walk(store, row0, row1, counts, on, noted0, noted1);
+        }
+        Step::Row1(number) => {
+            note(noted1, here.placed1, number);
+            let on = Here {
+                placed1: here.placed1 + 1,
+                number1: number,
+                ..here
+            };
+            walk(store, row0, row1, counts, on, noted0, noted1);
+        }
     }
-    note(noted1, here.placed1, taken.number);
-    let on = Here {
-        placed0: here.placed0,
-        number0: here.number0,
-        placed1: here.placed1 + 1,
-        number1: taken.number,
-    };
-    walk(store, row0, row1, counts, on, noted0, noted1);
 }

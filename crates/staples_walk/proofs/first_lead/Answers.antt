@@ -1,41 +1,26 @@
-use mathlib.Core.Path.{sym, ◌∙◌}
+-- What `find` gives over the numbers.
+use Prim.Native.Nat.{ℕ, ◌<◌, ◌≤◌}
+use mathlib.Core.Path.{◌≡◌}
+use mathlib.Core.Bool.{Bool, true, false}
 use native.Mathlib.Omega.{arith}
-use Rattle.staples_walk.specs.Leads.{lead-more}
+use borrow.Author.Rules.{rules}
+use borrow.Author.Tests.{tests}
+use Rattle.std.specs.Prelude.{Option, Some, None, MatchOption}
+use Rattle.std.proofs.lemmas.Iterator.{first_from_Range}
+use Rattle.staples_walk.specs.Steps.{leads_in, FirstLead}
 use Rattle.staples_walk.proofs.first_lead.Goals as goal
 
-pub loop-v-init : goal.loop-v-init
-loop-v-init c = (omega arith, λ k h. absurd (omega arith))
-
-pub leads-requires : goal.leads-requires
-leads-requires c =
-    let g = c.requires in
-    record {
-      words = g.words;
-      low = g.low;
-      cell = g.cell;
-      few = g.few;
-      end = g.end;
-      other_start = g.other_start;
-      other_end = g.other_end;
-      number = c.loop-v-test.true;
-      inside = g.inside c.loop-v.v c.loop-v-test.true;
-    }
-
-pub returns-then-leads : goal.returns-then-leads
-returns-then-leads c =
-    let l = c.loop-v in
-    record {
-      most = l.invariant.0;
-      leads = λ h. sym c.leads.ensures ∙ c.if-leads.true;
-      none = l.invariant.1;
-    }
-
-pub loop-v-preserved : goal.loop-v-preserved
-loop-v-preserved c =
-    let l = c.loop-v in
-    (omega (arith, c.loop-v-test.true), lead-more l.v l.invariant.1 (sym c.leads.ensures ∙ c.if-leads.false))
+found : (lead : ℕ → Bool) (n : ℕ) (r : Option ℕ)
+    → MatchOption r ((k : ℕ) → 0 ≤ k → k < n → lead k ≡ false)
+    (λ v. (0 ≤ v) × (v < n) × (lead v ≡ true) × ((k : ℕ) → 0 ≤ k → k < v → lead k ≡ false))
+    → FirstLead lead n r
+found lead n None m = λ k h. m k (omega arith) h
+found lead n (Some v) m = record { below = m.1; leads = m.2; first = λ k h. m.3 k (omega arith) h }
 
 pub returns : goal.returns
 returns c =
-    let l = c.loop-v in
-    record { most = l.invariant.0; leads = λ h. absurd (omega (arith, c.loop-v-test.false)); none = l.invariant.1 }
+    let a = c.args in
+    let lead : ℕ → Bool = leads_in a.store.now a.row.now a.next a.own a.other a.rests a.fewest in
+    found lead a.next.numbers c.find.result
+    (first_from_Range _ _ _ c.find.result (λ k. lead k ≡ true) (λ k. lead k ≡ false) c.find.ensures.ran
+    (λ x q k. search (rules, tests)) (λ x q k. search (rules, tests)))
