@@ -1,10 +1,9 @@
 -- The rules that are judged cell by cell, on the words of a placed job. They are the definition's: see
 -- Flat in score_verdict. And what the functions that judge rules are given.
-use Rattle.std.specs.Prelude.{ℕ, ◌+◌, ◌≤◌, ◌<◌, ◌≡◌, Bool, not, ◌&&◌, ◌||◌, List, length, get_or, drop, leb, ltb, eqb}
-use Rattle.std.proofs.Common.{arith, length-drop, get_or-drop}
+use Rattle.std.specs.Prelude.{ℕ, ◌≤◌, ◌<◌, ◌≡◌, Bool, not, ◌&&◌, ◌||◌, List, length, get_or, leb, ltb, eqb}
 use Rattle.definition.specs.Lists.{from, any}
 use Rattle.definition.specs.Job.{both_rows, max_cells}
-use Rattle.score_order.specs.Words.{word_count, site_in, end_in, row_in, order_in, Words, Tail}
+use Rattle.score_order.specs.Words.{word_count, site_in, end_in, row_in, order_in, Words}
 use Rattle.job.specs.declared.Job.{Job}
 use Rattle.job.specs.declared.Placement.{Placement}
 use Rattle.job.specs.Parts.{stands_in}
@@ -81,16 +80,3 @@ pub record ByOrder (words : List ℕ) (n : ℕ) (order₀ order₁ m : List ℕ)
 pub record ByOffer (job : Job) (P : Placement) (m : List ℕ) : Type 0 where
   pub ready : Ready job P
   pub marks : length m ≡ max_cells
-
--- ---- laws
-
--- the last entries of an array, as a list of their own
-pub tail-order : {words : List ℕ} {n row at : ℕ} {array : List ℕ} → Tail at array (order_in words row n)
-    → RowOrder words n row (drop at array)
-tail-order {at = at} {array = array} t = record {
-  listed = record {
-    few = simp length-drop (omega (arith, t.long));
-    low = λ i. rw (get_or-drop at array i 0) (t.low (at + i));
-  };
-  same = t.entries;
-}

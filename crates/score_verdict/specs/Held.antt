@@ -1,73 +1,94 @@
 -- The rules in their order: all before one hold, and so it is that one that decides.
-use Rattle.std.specs.Prelude.{ℕ, suc, ◌-◌, ◌≤◌, ◌<◌, ◌≡◌, List, [], ◌∷◌, length, drop}
-use Rattle.std.proofs.Common.{sym, ap, subst, ◌∙◌, arith, drop_of_length-le}
+use Rattle.std.specs.Prelude.{ℕ, zero, suc, ◌<◌, ◌≡◌, refl, Bool, List, [], ◌∷◌, length, None, Result, Ok, Err}
+use Rattle.std.specs.Result.{result_err}
+use Rattle.std.proofs.Common.{sym, ap, ◌∙◌, arith}
 use Rattle.definition.specs.Lists.{from}
 use Rattle.definition.specs.Job as paper
 use Rattle.definition.specs.Placement as text
+use Rattle.definition.specs.Rules as definition
 use Rattle.definition.specs.Rules.{cells_of, rules, rule_of, lowest, first_broken, verdict}
+use Rattle.job.specs.Value.{job_of, placement_of}
 use Rattle.score_cell_rules.specs.Lowest.{lowest-same, lowest-zero}
 use Rattle.score_cell_rules.specs.Marks.{marked_in, Added, Unmarked, unmarked-none, unmarked_still, marked-is}
-use Rattle.score_verdict.specs.declared.Verdict.{Verdict}
-use Rattle.score_verdict.specs.Rules.{rules-from}
-use Rattle.score_verdict.specs.Judged.{Judged, VerdictMarked, broken-here, holds_here, all_hold}
+use Rattle.score_verdict.specs.declared.Breach.{Breach}
+use Rattle.score_verdict.specs.Judged.{VerdictMarked, LowestTold}
+use Rattle.score_verdict.specs.Board.{Board}
 
--- no rule before this one has marked a cell, and the verdict is that of the rules from it on
-pub record Held (j : paper.Job) (P : text.Placement) (n rule : ℕ) (marks : List ℕ) : Type 0 where
+-- No rule before number `rule` has marked a cell, and the verdict is that of the rules from it on, which are `left`.
+pub record Held (j : paper.Job) (P : text.Placement) (n rule : ℕ) (left : List (ℕ → Bool)) (marks : List ℕ)
+    : Type 0 where
+  pub count : length j.cells ≡ n
   pub unmarked : Unmarked n marks
-  pub later : (v : Verdict) → Judged (first_broken rule (drop (rule - 1) (rules j P)) (cells_of j)) v
-      → Judged (verdict j P) v
+  pub decided : verdict j P ≡ first_broken rule left (cells_of j)
 
-module _ {j : paper.Job} {P : text.Placement} {n : ℕ} (count : length j.cells ≡ n) where
-  pub held_first : {m : List ℕ} → Unmarked n m → Held j P n 1 m
-  unfolding verdict
-  held_first u = record { unmarked = u; later = λ v x. x }
+pub held_first : {job : _} {P : _} {words order₀ order₁ m : List ℕ} → Board job P words order₀ order₁ m
+    → Held (job_of job) (placement_of P) job.count 1 (rules (job_of job) (placement_of P)) m
+unfolding verdict
+held_first b = record { count = b.flat.count; unmarked = b.given.clear; decided = refl }
 
-  -- a rule that has marked its cells, of which the lowest is known
-  module _ {rule cell : ℕ} {m m' : List ℕ} (low : 1 ≤ rule) (high : rule ≤ length (rules j P))
-      (h : Held j P n rule m) (a : Added n (rule_of j P rule) m m') (e : cell ≡ lowest (marked_in m') (from 0 n)) where
-    by-rule : cell ≡ lowest (rule_of j P rule) (from 0 n)
-    by-rule =
-        e ∙ lowest-same (marked_in m') (rule_of j P rule) 0 n (λ k _ l. marked-is h.unmarked a k (omega arith))
+-- the first rule that is left has marked its cells, of which the lowest is known
+module _ {j : paper.Job} {P : text.Placement} {n rule : ℕ} {f : ℕ → Bool} {left : List (ℕ → Bool)} {m m' : List ℕ}
+    (h : Held j P n rule (f ∷ left) m) (a : Added n f m m') where
+  marked-lowest : lowest (marked_in m') (from 0 n) ≡ lowest f (from 0 n)
+  marked-lowest = lowest-same (marked_in m') f 0 n (λ k _ l. marked-is h.unmarked a k (omega arith))
 
-    of-all : cell ≡ lowest (rule_of j P rule) (cells_of j)
-    of-all = by-rule ∙ ap (λ x. lowest (rule_of j P rule) (from 0 x)) (sym count)
+  of-all : lowest (marked_in m') (from 0 n) ≡ lowest f (cells_of j)
+  of-all = marked-lowest ∙ ap (λ x. lowest f (from 0 x)) (sym h.count)
 
-    -- the verdict is that of this rule and those that follow
-    from-here : (v : Verdict)
-        → Judged (first_broken rule (rule_of j P rule ∷ drop rule (rules j P)) (cells_of j)) v → Judged (verdict j P) v
-    from-here v x =
-        h.later v
-        (subst (λ fs. Judged (first_broken rule fs (cells_of j)) v)
-        (sym (rules-from j P (rule - 1) rule (omega arith) (omega arith))) x)
-
-    pub broken : (cell ≡ 0 → ⊥) → VerdictMarked j P n (record { rule = rule; cell = cell }) m'
-    broken d = record {
-      judged = from-here _
-          (broken-here rule (rule_of j P rule) (drop rule (rules j P)) (cells_of j) cell of-all d);
-      marked = marked-is h.unmarked a;
-    }
-
-    pub held_next : (next : ℕ) → next ≡ suc rule → cell ≡ 0 → Held j P n next m'
-    held_next next q z = record {
-      unmarked = unmarked_still h.unmarked a
-          (λ k l. lowest-zero (rule_of j P rule) 0 n (sym by-rule ∙ z) k (omega arith) (omega arith));
-      later = λ v x. from-here v
-          (holds_here rule (rule_of j P rule) (drop rule (rules j P)) (cells_of j) cell of-all z v (on v x));
-    }
-      where
-        on : (v : Verdict) → Judged (first_broken next (drop (next - 1) (rules j P)) (cells_of j)) v
-            → Judged (first_broken (suc rule) (drop rule (rules j P)) (cells_of j)) v
-        on v x = let p : next - 1 ≡ rule = omega arith in rw (p, q) at x
-
-  -- past the last rule
-  pub all_held : {rule : ℕ} {m : List ℕ} → length (rules j P) < rule → Held j P n rule m
-      → VerdictMarked j P n (record { rule = 0; cell = 0 }) m
-  all_held {rule} {m} high h = record {
-    judged = h.later _
-        (subst (λ fs. Judged (first_broken rule fs (cells_of j)) (record { rule = 0; cell = 0 })) (sym ended)
-        (all_hold rule (cells_of j)));
-    marked = unmarked-none h.unmarked;
-  }
+  skipped : lowest f (cells_of j) ≡ 0
+      → first_broken rule (f ∷ left) (cells_of j) ≡ first_broken (suc rule) left (cells_of j)
+  unfolding first_broken
+  skipped = go (lowest f (cells_of j))
     where
-      ended : drop (rule - 1) (rules j P) ≡ []
-      ended = drop_of_length-le (rules j P) {i = rule - 1} (omega arith)
+      go : (c : ℕ) → c ≡ 0
+          → elim c [ zero ↦ first_broken (suc rule) left (cells_of j) | suc k ↦ record { rule = rule; cell = suc k } ]
+          ≡ first_broken (suc rule) left (cells_of j)
+      go zero q = refl
+      go (suc k) q = absurd (omega arith)
+
+  pub held_next : lowest (marked_in m') (from 0 n) ≡ 0 → Held j P n (suc rule) left m'
+  held_next z = record {
+    count = h.count;
+    unmarked = unmarked_still h.unmarked a
+        (λ k l. lowest-zero f 0 n (sym marked-lowest ∙ z) k (omega arith) (omega arith));
+    decided = h.decided ∙ skipped (sym of-all ∙ z);
+  }
+
+  -- it is the rule of that number
+  module _ (number : (k : ℕ) → f k ≡ rule_of j P rule k) (low : 0 < rule) where
+    told : 0 < lowest f (cells_of j)
+        → ((verdict j P).rule ≡ rule) × ((verdict j P).cell ≡ lowest f (cells_of j))
+    unfolding first_broken
+    told p = go (lowest f (cells_of j)) p (verdict j P) h.decided
+      where
+        go : (c : ℕ) → 0 < c → (v : definition.Verdict)
+            → v ≡ elim c [ zero ↦ first_broken (suc rule) left (cells_of j) | suc k ↦ record { rule = rule; cell = suc k } ]
+            → (v.rule ≡ rule) × (v.cell ≡ c)
+        go zero p v d = absurd (omega arith)
+        go (suc k) p v d = (ap (λ v. v.rule) d, ap (λ v. v.cell) d)
+
+    pub broken : {b : Breach} {r : Result (Unit {0}) Breach} → r ≡ Err b → LowestTold rule n m' (Err b)
+        → VerdictMarked j P n (result_err r) m'
+    broken {b} q e = rw q (record {
+      judged = let t = told (omega (arith, of-all, e.1, e.2)) in
+          record { rule = e.0 ∙ sym t.0; cell = e.1 ∙ of-all ∙ sym t.1; broken = omega (arith, e.0) };
+      marked = λ k l. marked-is h.unmarked a k l ∙ number k ∙ ap (λ x. rule_of j P x k) (sym e.0);
+    })
+
+-- past the last rule
+all_held : {j : paper.Job} {P : text.Placement} {n rule : ℕ} {m : List ℕ} → Held j P n rule [] m → VerdictMarked j P n None m
+unfolding first_broken
+all_held h = record {
+  judged = record {
+    rule = sym (ap (λ v. v.rule) h.decided);
+    cell = sym (ap (λ v. v.cell) h.decided);
+    broken = tt;
+  };
+  marked = unmarked-none h.unmarked;
+}
+
+pub last_told : {j : paper.Job} {P : text.Placement} {n rule : ℕ} {f : ℕ → Bool} {m m' : List ℕ} → Held j P n rule (f ∷ []) m
+    → Added n f m m' → ((k : ℕ) → f k ≡ rule_of j P rule k) → 0 < rule → (r : Result (Unit {0}) Breach)
+    → LowestTold rule n m' r → VerdictMarked j P n (result_err r) m'
+last_told h a g l (Ok _) e = all_held (held_next h a e)
+last_told h a g l (Err b) e = broken h a g l refl e

@@ -1,45 +1,38 @@
 -- A verdict of the program: that it is the definition's, and what is left marked.
-use Prim.Native.Nat.{ℕ, zero, suc, ◌<◌}
-use Rattle.std.specs.Prelude.{◌≡◌, refl, Bool, List, [], ◌∷◌}
-use Rattle.std.proofs.Common.{sym, ◌∙◌, arith}
+use Rattle.std.specs.Prelude.{◌≡◌, ℕ, ◌<◌, List, Option, None, Some, Result, Ok, Err}
+use Rattle.definition.specs.Lists.{from}
 use Rattle.definition.specs.Job as paper
 use Rattle.definition.specs.Placement as text
 use Rattle.definition.specs.Rules as definition
-use Rattle.definition.specs.Rules.{rule_of, lowest, first_broken, verdict}
+use Rattle.definition.specs.Rules.{rule_of, lowest, verdict}
 use Rattle.score_cell_rules.specs.Marks.{marked_in}
-use Rattle.score_verdict.specs.declared.Verdict.{Verdict}
+use Rattle.score_verdict.specs.declared.Breach.{Breach}
 
-pub record Judged (v : definition.Verdict) (r : Verdict) : Type 0 where
-  pub rule : r.rule ≡ v.rule
-  pub cell : r.cell ≡ v.cell
+-- the numbers that are told of a breach, or of none
+abbrev pub rule_in : Option Breach → ℕ
+rule_in None = 0
+rule_in (Some b) = b.rule
+
+abbrev pub cell_in : Option Breach → ℕ
+cell_in None = 0
+cell_in (Some b) = b.cell
+
+-- they are the definition's, and a breach is of a rule that there is
+abbrev pub Broken : Option Breach → Type 0
+Broken None = Unit {0}
+Broken (Some b) = 0 < b.rule
+
+pub record Judged (v : definition.Verdict) (r : Option Breach) : Type 0 where
+  pub rule : rule_in r ≡ v.rule
+  pub cell : cell_in r ≡ v.cell
+  pub broken : Broken r
 
 -- the marks of n cells are those of the rule that is told
-pub record VerdictMarked (j : paper.Job) (P : text.Placement) (n : ℕ) (r : Verdict) (marks : List ℕ) : Type 0 where
+pub record VerdictMarked (j : paper.Job) (P : text.Placement) (n : ℕ) (r : Option Breach) (marks : List ℕ) : Type 0 where
   pub judged : Judged (verdict j P) r
-  pub marked : (k : ℕ) → k < n → marked_in marks k ≡ rule_of j P r.rule k
+  pub marked : (k : ℕ) → k < n → marked_in marks k ≡ rule_of j P (rule_in r) k
 
--- ---- the first of some rules is broken by a cell, or holds
-
-module _ (r : ℕ) (f : ℕ → Bool) (fs : List (ℕ → Bool)) (ks : List ℕ) (c : ℕ) (e : c ≡ lowest f ks) where
-  pub broken-here : (c ≡ 0 → ⊥) → Judged (first_broken r (f ∷ fs) ks) (record { rule = r; cell = c })
-  unfolding first_broken
-  broken-here d = go (lowest f ks) e d
-    where
-      go : (m : ℕ) → c ≡ m → (c ≡ 0 → ⊥)
-          → Judged (elim m [ zero ↦ first_broken (suc r) fs ks | suc k ↦ record { rule = r; cell = suc k } ])
-          (record { rule = r; cell = c })
-      go zero q d = absurd (d q)
-      go (suc k) q d = record { rule = refl; cell = q }
-
-  pub holds_here : c ≡ 0 → (v : Verdict) → Judged (first_broken (suc r) fs ks) v → Judged (first_broken r (f ∷ fs) ks) v
-  unfolding first_broken
-  holds_here z v j = go (lowest f ks) (sym e ∙ z)
-    where
-      go : (m : ℕ) → m ≡ 0
-          → Judged (elim m [ zero ↦ first_broken (suc r) fs ks | suc k ↦ record { rule = r; cell = suc k } ]) v
-      go zero q = j
-      go (suc k) q = absurd (omega arith)
-
-pub all_hold : (r : ℕ) (ks : List ℕ) → Judged (first_broken r [] ks) (record { rule = 0; cell = 0 })
-unfolding first_broken
-all_hold r ks = record { rule = refl; cell = refl }
+-- no cell is marked, or the lowest that is is told
+abbrev pub LowestTold : ℕ → ℕ → List ℕ → Result (Unit {0}) Breach → Type 0
+LowestTold rule n marks (Ok _) = lowest (marked_in marks) (from 0 n) ≡ 0
+LowestTold rule n marks (Err b) = (b.rule ≡ rule) × (b.cell ≡ lowest (marked_in marks) (from 0 n)) × (0 < b.cell)
