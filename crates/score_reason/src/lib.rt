@@ -11,7 +11,8 @@ use job::{Job, Placement};
 use score_cell_rules::list_marked;
 use score_verdict::judge;
 
-// Rule 0 and no cells if all rules hold. The first `count` of the cells, which count from 1, in rising order.
+// The broken rule and the cells that break it, counted from 1 and in rising order. Rule 0 and no cells if all rules
+// hold, as `put_sentence` of reason_write takes them; there is no heap, so an array holds the cells, the first `count`.
 #[derive(Drop)]
 pub struct Reason {
     pub rule: u32,
@@ -24,11 +25,11 @@ pub fn reason_of(job: Job, placement: Placement) -> Reason
     ensures { ReasonIs (reason_of (job_of job) (placement_of placement)) result }
 {
     let mut marks = [0u32; Job::MAX_CELLS];
-    let verdict = judge(job, placement, &mut marks);
+    let breach = judge(job, placement, &mut marks);
     let mut cells = [0u32; Job::MAX_CELLS];
     let count = list_marked(&marks, job.count, &mut cells);
     Reason {
-        rule: verdict.rule,
+        rule: breach.map_or(0, |b| b.rule),
         count,
         cells,
     }

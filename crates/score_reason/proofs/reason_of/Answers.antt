@@ -1,11 +1,14 @@
--- `score_reason::reason_of` meets its contract: the cells that `judge` leaves marked are listed.
+-- The cells that `judge` leaves marked are listed.
+use Rattle.std.proofs.Common.{rules, ◌≡◌}
 use Rattle.score_cell_rules.specs.Marks.{zeros_unmarked}
+use Rattle.score_verdict.specs.Judged.{rule_in}
 use Rattle.score_reason.specs.Reasons.{listed_reason}
 use Rattle.score_reason.proofs.reason_of.Goals as goal
 
-pub judge-verdict-requires : goal.judge-verdict-requires
-judge-verdict-requires c = record { ready = c.requires; clear = zeros_unmarked c.args.job.count }
+pub judge-breach-requires : goal.judge-breach-requires
+judge-breach-requires c = record { ready = c.requires; clear = zeros_unmarked c.args.job.count }
 
 pub returns : goal.returns
 returns c =
-    listed_reason c.judge-verdict.ensures c.requires.accepted.many c.list_marked-count.ensures
+    let e : c.map_or.result ≡ rule_in c.judge-breach.result = search rules in
+    listed_reason c.judge-breach.ensures c.requires.accepted.many e c.list_marked-count.ensures
