@@ -1,5 +1,5 @@
 -- The trace: from the last case table's one case back over the back pointers, both rows traced stage by stage.
-use Rattle.std.specs.Prelude.{ℕ, suc, ◌+◌, ◌≤◌, ◌<◌, ◌≡◌, List, length}
+use Rattle.std.specs.Prelude.{ℕ, suc, ◌+◌, ◌≤◌, ◌<◌, ◌≡◌, List, length, Option, None, Some}
 use Rattle.definition.specs.Job.{max_tall}
 use Rattle.search_store.specs.Map.{Pages, pages_from, max_kept}
 use Rattle.search_row.specs.Words.{deck_in, pos_in, with_cells}
@@ -9,7 +9,8 @@ use Rattle.theory_tables.specs.Stages.{stage_cost, case_table}
 use Rattle.theory_tables.specs.Back.{StageTraced, Traced}
 use Rattle.theory_tables.specs.Notes.{NotedBy}
 use Rattle.search_lanes.specs.Store.{Frame, Low}
-use Rattle.search_join.specs.Tables.{pointers_in, Way}
+use Rattle.search_join.specs.declared.Case.{Case}
+use Rattle.search_join.specs.Tables.{case_state₀, case_state₁, case_pose, pointers_in, Way}
 use Rattle.search_stage.specs.Stage.{wide, StagesGiven, StagesDone}
 use Rattle.search_back_segment.specs.Traces.{word_at}
 use Rattle.search_back_stage.specs.Rows.{start_cells, start_layer, start_end, cost_from, end_place}
@@ -29,6 +30,16 @@ pub record PointerRoom (I q₀ q₁ a : ℕ) (st : List ℕ) : Type 0 where
   pub state₁ : q₁ < 12
   pub pose : a < pose_slots
   pub page : Pages (q₀ + 1) st
+
+-- the case that a pointer stands for, if it stands for one
+abbrev pub CaseFound : ℕ → Sizes → Option Case → Type 0
+CaseFound code z None =
+    case_state₀ code < z.states → case_state₁ code < z.states → case_pose code < z.poses → ⊥
+CaseFound code z (Some c) =
+    (c ≡ record { q0 = case_state₀ code; q1 = case_state₁ code; pose = case_pose code })
+    × (case_state₀ code < z.states)
+    × (case_state₁ code < z.states)
+    × (case_pose code < z.poses)
 
 -- the back pointers: a way to each case after the first tall cell's, where it is below B
 pub record Ways (D₀ D₁ : Deck) (R talls : ℕ) (pos₀ pos₁ : ℕ → ℕ) (st : List ℕ) : Type 0 where

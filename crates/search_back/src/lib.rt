@@ -4,7 +4,7 @@
 
 ghost use Rattle.std.specs.Prelude.{◌≡◌, suc, ◌+◌, ◌<◌};
 ghost use Rattle.search_join.specs.Tables.{pointers_in};
-ghost use Rattle.search_back.specs.Trace.{PointerRoom, LegGiven, Trace, RowsLeg, RowsTrace};
+ghost use Rattle.search_back.specs.Trace.{PointerRoom, CaseFound, LegGiven, Trace, RowsLeg, RowsTrace};
 ghost use Rattle.search_back.specs.Scatter.{ScatterGiven, Scattered};
 
 use search_back_stage::RowLeg;
@@ -35,6 +35,23 @@ fn pointer(store: &[u32], i: usize, case: Case) -> usize
         store,
         search_store::pointer_at(i + 1, case.q0, case.q1) + case.pose,
     )
+}
+
+// The case that a case of stage i comes from; none where its pointer stands for no case.
+fn case_before(store: &[u32], sizes: Sizes, i: usize, case: Case) -> Option<Case>
+    requires { PointerRoom i case.q0 case.q1 case.pose store.now }
+    ensures { CaseFound (pointers_in store.now (suc i) case.q0 case.q1 case.pose) sizes result }
+{
+    let c = pointer(store, i, case);
+    let from = Case {
+        q0: c / search_store::POINTER_ROW_0,
+        q1: c % search_store::POINTER_ROW_0 / search_store::POINTER_ROW_1,
+        pose: c % search_store::POINTER_ROW_1,
+    };
+    if from.q0 < sizes.states && from.q1 < sizes.states && from.pose < sizes.poses {
+        return Some(from);
+    }
+    None
 }
 
 // Both rows through one stage; row 1 has so many cells.
@@ -108,21 +125,9 @@ fn trace_from(
         both_trace(store, path0, path1, row0, row1, sizes, cells1, leg);
         return;
     }
-    let c = pointer(store, i, case);
-    let from = Case {
-        q0: c / search_store::POINTER_ROW_0,
-        q1: c % search_store::POINTER_ROW_0 / search_store::POINTER_ROW_1,
-        pose: c % search_store::POINTER_ROW_1,
+    let Some(from) = case_before(store, sizes, i, case) else {
+        return;
     };
-    if from.q0 >= sizes.states {
-        return;
-    }
-    if from.q1 >= sizes.states {
-        return;
-    }
-    if from.pose >= sizes.poses {
-        return;
-    }
     let leg = Leg {
         stage: i,
         from,
@@ -166,8 +171,7 @@ pub fn scatter(out: &mut [u32], path: &[u32], row: &[u32], n: usize)
     requires { ScatterGiven row.now path.now out.old n }
     ensures { Scattered row.now path.now n out.old out.new }
 {
-    let mut i: usize = 1;
-    while i <= n {
+    for i in 1..=n {
         let word = path[i];
         let cell = search_row::word(
             row,
@@ -175,6 +179,5 @@ pub fn scatter(out: &mut [u32], path: &[u32], row: &[u32], n: usize)
                 + search_row::NUMBER,
         );
         out[cell] = word % search_store::POSE_SLOTS as u32;
-        i += 1;
     }
 }

@@ -1,5 +1,5 @@
 -- One row after the other; the first leaves the tables.
-use Rattle.search_back.specs.Laws.{leg_row₀, leg_row₁, leg_done}
+use Rattle.search_back.specs.Laws.{leg_row₀, leg_row₁}
 use Rattle.search_back.proofs.both_trace.Goals as goal
 
 pub stage_trace-requires : goal.stage_trace-requires
@@ -10,8 +10,3 @@ pub stage_trace-requires-2 : goal.stage_trace-requires-2
 stage_trace-requires-2 c =
     let w = c.stage_trace.ensures in
     rw c.with_cells-sizes1.ensures (leg_row₁ c.requires w.low w.frame.long)
-
-pub returns : goal.returns
-returns c =
-    let w = rw c.with_cells-sizes1.ensures at c.stage_trace-2.ensures in
-    leg_done c.stage_trace.ensures w

@@ -1,12 +1,7 @@
 -- After i turns the places below i have their pose numbers.
-use Prim.Native.Nat.{◌+◌, ◌-◌, ◌≤◌, ◌<◌}
+use Prim.Native.Nat.{◌+◌, ◌≤◌}
 use Rattle.search_back.specs.Scatter.{ScatteredBelow}
 use Rattle.search_back.proofs.scatter.Given as goal
 
 abbrev pub invariant-loop-i : goal.invariant-loop-i
-invariant-loop-i l =
-    (0 < l.i) × (l.i ≤ l.n + 1) × ScatteredBelow l.row l.path l.i l.initial.out l.out
-
-abbrev pub decreases-loop-i : goal.decreases-loop-i
-decreases-loop-i l =
-    l.n + 1 - l.i
+invariant-loop-i l = (l.i ≤ l.n + 1) × ScatteredBelow l.row l.path l.i l.initial.out l.out
