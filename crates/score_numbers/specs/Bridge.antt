@@ -1,27 +1,28 @@
 -- The program's sums are the definition's numbers; what they are taken of.
-use Prim.Native.Nat.{ℕ, zero, suc, ◌+◌, ◌*◌, ◌≤◌}
-use Rattle.std.specs.Prelude.{◌≡◌, List}
-use Rattle.std.proofs.Common.{sym, ◌∙◌, mul-le-mul_right, arith}
+use Prim.Native.Nat.{ℕ, ◌+◌, ◌*◌, ◌≤◌}
+use Rattle.std.specs.Prelude.{◌≡◌, refl, Bool, false, eqb, ◌==◌, count_by, take, List}
+use Rattle.std.proofs.Common.{sym, ◌∙◌, length-take, arith}
 use Rattle.std.proofs.Math.Path.{ap, ap₂, fun_ext}
 use Rattle.std.proofs.Math.ListN.{length}
 use Rattle.definition.specs.Job.{max_cells, max_weight}
 use Rattle.definition.specs.Lists.{from, sum, keep}
 use Rattle.definition.specs.Job as paper
 use Rattle.definition.specs.Placement as text
-use Rattle.definition.specs.Rules.{apart}
+use Rattle.definition.specs.Rules.{apart, no_pose, pose_at, cells_of}
 use Rattle.definition.specs.Cost.{steps, touching_steps, filled_steps, steps_in, steps_by}
-use Rattle.definition.specs.Cost.{shifted, mirrored, changed, cost, is_mirrored}
+use Rattle.definition.specs.Cost.{shifted, mirrored, changed, cost}
 use Rattle.definition_laws.specs.Weights.{steps-parts}
 use Rattle.job.specs.declared.Header.{Header}
 use Rattle.job.specs.declared.Job.{Job}
 use Rattle.job.specs.declared.Placement.{Placement}
-use Rattle.job.specs.Value.{job_of, header_of, placement_of}
+use Rattle.job.specs.declared.Pose.{Pose}
+use Rattle.job.specs.Value.{job_of, header_of, pose_of, placement_of}
 use Rattle.job.specs.Ready.{Ready}
 use Rattle.score_words.specs.Flat.{Flat}
 use Rattle.job.specs.Cells.{pose-there}
 use Rattle.score_drift.specs.Total.{Digits}
 use Rattle.score_steps.specs.declared.Steps.{Steps}
-use Rattle.score_numbers.specs.Sums.{sum_from, count_from, shift_in, is_changed, weighed}
+use Rattle.score_numbers.specs.Sums.{sum_from, shift_in, count-poses}
 
 -- ---- what is given
 
@@ -82,38 +83,6 @@ flat-digits {P = P} w =
           omega (arith, (f.shows k).given, (r.accepted.sound.cell k (omega (arith, f.count))).given);
     }
 
--- so the sites shifted are not many, and the cost is not large
-pub shifted-small : (words : List ℕ) (n : ℕ) → Digits words n → sum_from (shift_in words) 0 n ≤ 800000
-unfolding sum_from shift_in
-shifted-small words n d = omega (arith, go 0 n (omega arith), d.cells.few)
-  where
-    go : (k m : ℕ) → k + m ≤ n → sum (shift_in words) (from k m) ≤ 12000 * m
-    go k zero h = omega arith
-    go k (suc m) h =
-        omega (arith, d.site k (omega arith), d.given k (omega arith), go (suc k) m (omega arith))
-
-pub weighed-most : (h : Header) (s : Steps) → StepsWeighable h s
-    → h.step * s.touching + h.filled * s.filled ≤ 252000
-weighed-most h s w =
-    omega (
-      arith,
-      mul-le-mul_right s.touching w.weights.step,
-      mul-le-mul_right s.filled w.weights.filled,
-      w.most,
-    )
-
-pub cost-small : (h : Header) (a b c d : ℕ) → Weighable h a b c d
-    → a + h.shift * b + h.mirror * c + h.swap * d ≤ 1000000000
-cost-small h a b c d n =
-    let w = n.weights in
-    omega (
-      arith,
-      n.steps,
-      weighed h.shift b 800000 w.shift n.shifted,
-      weighed h.mirror c max_cells w.mirror n.mirrored,
-      weighed h.swap d max_cells w.swap n.changed,
-    )
-
 pub steps-sum : (f : ℕ → ℕ) (j : paper.Job) (P : text.Placement) (a b : ℕ) → a ≡ steps_in f j P 0
     → b ≡ steps_in f j P 1 → a + b ≡ steps_by f j P
 unfolding steps_by
@@ -131,13 +100,26 @@ module _ {j : paper.Job} {P : text.Placement} {n : ℕ} {words : List ℕ} (f : 
       ap₂ (λ (g : ℕ → ℕ) m. sum g (from 0 m)) (fun_ext (λ k. ap₂ apart (f.shows k).site (f.shows k).given))
       (sym f.count)
 
-  pub flat-mirrored : count_from (is_mirrored P) 0 n ≡ mirrored j P
-  unfolding count_from mirrored
-  flat-mirrored = ap (λ m. length (keep (is_mirrored P) (from 0 m))) (sym f.count)
+-- of a placement that may be scored, as many cells pass a test of their pose as poses do
+module _ (job : Job) (P : Placement) (r : Ready job P) where
+  placed-count : (test : text.Pose → Bool) → test no_pose ≡ false
+      → length (keep (λ k. test (pose_at (placement_of P) k)) (cells_of (job_of job)))
+      ≡ count_by (λ p. test (pose_of p)) (take P.count P.poses)
+  unfolding placement_of
+  placed-count test none =
+      let f : ℕ → Bool = λ k. test (pose_at (placement_of P) k) in
+      let l = take P.count P.poses in
+      let n = length (job_of job).cells in
+      let few : length l ≤ n = simp length-take (omega (arith, r.each, r.accepted.many)) in
+      count-poses test none l 0 n few f (λ i. let e : 0 + i ≡ i = omega arith in ap f e)
 
-  pub flat-changed : count_from (is_changed P) 0 n ≡ changed j P
-  unfolding count_from changed
-  flat-changed = ap (λ m. length (keep (is_changed P) (from 0 m))) (sym f.count)
+  pub placed-mirrored : count_by (λ (p : Pose). p.mark == 1) (take P.count P.poses) ≡ mirrored (job_of job) (placement_of P)
+  unfolding mirrored
+  placed-mirrored = sym (placed-count (λ q. eqb q.mark 1) refl)
+
+  pub placed-changed : count_by (λ (p : Pose). p.layout == 1) (take P.count P.poses) ≡ changed (job_of job) (placement_of P)
+  unfolding changed
+  placed-changed = sym (placed-count (λ q. eqb q.layout 1) refl)
 
 -- the weights are the header's
 pub cost-sum : (job : Job) (P : text.Placement) (s : Steps) (a b c d : ℕ) → AllSteps (job_of job) P s

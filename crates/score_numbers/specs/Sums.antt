@@ -1,58 +1,48 @@
--- Sums and counts over the cells from k on, and their laws for a loop that goes down.
-use Rattle.std.specs.Prelude.{ℕ, zero, suc, ◌+◌, ◌*◌, ◌≤◌, ◌≡◌, Bool, true, false, cond, List, ◌∷◌, length, eqb}
-use Rattle.std.proofs.Common.{arith, mul-le-mul}
-use Rattle.definition.specs.Job.{max_weight}
+-- Sums over the cells from k on, with their laws for a loop that goes up, and how many cells pass a test of their pose.
+use Rattle.std.specs.Prelude.{ℕ, zero, suc, ◌+◌, ◌≤◌, ◌≡◌, refl, Bool, true, false, cond, List, [], ◌∷◌, map, length, get_or, count_by}
+use Rattle.std.proofs.Common.{sym, ap, ◌∙◌, arith}
+use Rattle.std.proofs.lemmas.List.Sums.{sum_by-cons}
 use Rattle.definition.specs.Lists.{from, keep, sum}
 use Rattle.definition.specs.Placement as text
-use Rattle.definition.specs.Rules.{pose_at, apart}
+use Rattle.definition.specs.Rules.{no_pose, apart}
+use Rattle.job.specs.declared.Pose.{Pose}
+use Rattle.job.specs.Value.{pose_of}
 use Rattle.score_order.specs.Words.{site_in, given_in}
 
--- the sum of f over n cells from k on; how many of them pass a test
+-- the sum of f over n cells from k on
 unfoldable pub sum_from : (ℕ → ℕ) → ℕ → ℕ → ℕ
 sum_from f k n = sum f (from k n)
-
-unfoldable pub count_from : (ℕ → Bool) → ℕ → ℕ → ℕ
-count_from f k n = length (keep f (from k n))
-
--- the cell is in layout 1
-abbrev pub is_changed : text.Placement → ℕ → Bool
-is_changed P k = eqb (pose_at P k).layout 1
 
 -- sites shifted, of one cell
 unfoldable pub shift_in : List ℕ → ℕ → ℕ
 shift_in words k = apart (site_in words k) (given_in words k)
 
-module _ (i k n m : ℕ) (e : k ≡ suc i) (q : n ≡ suc m) where
-  pub sum_more : (f : ℕ → ℕ) → sum_from f i n ≡ f i + sum_from f k m
-  unfolding sum_from
-  sum_more f = rw (q, e)
-
-  pub count-more : (f : ℕ → Bool) → f i ≡ true → count_from f i n ≡ suc (count_from f k m)
-  unfolding count_from
-  count-more f t = rw (q, e, t)
-
-  pub count_same : (f : ℕ → Bool) → f i ≡ false → count_from f i n ≡ count_from f k m
-  unfolding count_from
-  count_same f t = rw (q, e, t)
+pub sum_more : (i k n m : ℕ) → k ≡ suc i → n ≡ suc m → (f : ℕ → ℕ) → sum_from f i n ≡ f i + sum_from f k m
+unfolding sum_from
+sum_more i k n m e q f = rw (q, e)
 
 pub sum-none : (f : ℕ → ℕ) (k n : ℕ) → n ≡ 0 → sum_from f k n ≡ 0
 unfolding sum_from
 sum-none f k n e = rw e
 
-pub count_none : (f : ℕ → Bool) (k n : ℕ) → n ≡ 0 → count_from f k n ≡ 0
-unfolding count_from
-count_none f k n e = rw e
-
-pub count_most : (f : ℕ → Bool) (k n : ℕ) → count_from f k n ≤ n
-unfolding count_from
-count_most f k zero = omega arith
-count_most f k (suc n) = go (f k) (count_most f (suc k) n)
+-- Of n cells from a on, of which the first have these poses and the others none: as many pass as poses do, if none
+-- fails.
+pub count-poses : (test : text.Pose → Bool) → test no_pose ≡ false → (l : List Pose) (a n : ℕ) → length l ≤ n
+    → (f : ℕ → Bool) → ((i : ℕ) → f (a + i) ≡ test (get_or (map pose_of l) i no_pose))
+    → length (keep f (from a n)) ≡ count_by (λ p. test (pose_of p)) l
+count-poses test none [] a zero h f g = refl
+count-poses test none [] a (suc n) h f g =
+    let e : a ≡ a + 0 = omega arith in
+    rw (ap f e ∙ g 0 ∙ none)
+    (count-poses test none [] (suc a) n (omega arith) f (λ i. let s : suc a + i ≡ a + suc i = omega arith in ap f s ∙ g (suc i)))
+count-poses test none (p ∷ l) a zero h f g = absurd (omega arith)
+count-poses test none (p ∷ l) a (suc n) h f g =
+    let e : a ≡ a + 0 = omega arith in
+    let more = count-poses test none l (suc a) n (omega arith) f (λ i. let s : suc a + i ≡ a + suc i = omega arith in ap f s ∙ g (suc i)) in
+    rw (ap f e ∙ g 0) (go (test (pose_of p)) more) ∙ sym (sum_by-cons (λ q. cond (test (pose_of q)) 1 0) p l)
   where
-    go : (t : Bool) → length (keep f (from (suc k) n)) ≤ n
-        → length (cond t (k ∷ keep f (from (suc k) n)) (keep f (from (suc k) n))) ≤ suc n
-    go true h = omega arith
-    go false h = omega arith
-
--- a product of a weight and a bounded number
-pub weighed : (w x n : ℕ) → w ≤ max_weight → x ≤ n → w * x ≤ max_weight * n
-weighed w x n h g = mul-le-mul h g
+    go : (t : Bool) → length (keep f (from (suc a) n)) ≡ count_by (λ p. test (pose_of p)) l
+        → length (cond t (a ∷ keep f (from (suc a) n)) (keep f (from (suc a) n)))
+        ≡ cond t 1 0 + count_by (λ p. test (pose_of p)) l
+    go true e = omega arith
+    go false e = omega arith

@@ -3,30 +3,28 @@
 
 #![tactic(auto)]
 
-ghost use Rattle.std.specs.Prelude.{◌≡◌, ◌+◌, ◌*◌, ◌≤◌, take};
+ghost use Rattle.std.specs.Prelude.{◌≡◌, ◌+◌, ◌*◌, ◌≤◌, ◌==◌, count_by, length, take};
 ghost use Rattle.definition.specs.Job.{max_cells};
-ghost use Rattle.definition.specs.Rules.{apart};
-ghost use Rattle.definition.specs.Cost.{steps_in, is_mirrored};
+ghost use Rattle.definition.specs.Cost.{steps_in};
 ghost use Rattle.definition.specs.Outcome.{number_count};
 ghost use Rattle.results.specs.Fields.{More};
 ghost use Rattle.job.specs.Value.{job_of, placement_of};
-ghost use Rattle.score_order.specs.Words.{site_in, given_in, WordsAt};
 ghost use Rattle.job.specs.Ready.{Ready};
 ghost use Rattle.score_steps.specs.Steps.{RowSteps};
 ghost use Rattle.score_drift.specs.Total.{Digits};
-ghost use Rattle.score_numbers.specs.Sums.{sum_from, count_from, shift_in, is_changed};
+ghost use Rattle.score_numbers.specs.Sums.{sum_from, shift_in};
 ghost use Rattle.score_numbers.specs.Counted.{no_numbers, first_in, numbers_in, Pushable, Counted};
 ghost use Rattle.score_numbers.specs.Bridge.{InWords, RowInWords, AllSteps, Weighable};
 ghost use Rattle.score_numbers.specs.Bridge.{StepsWeighable, StepsWeighed};
 
-use job::{Header, Job, Placement};
+use job::{Header, Job, Placement, Pose};
 use results::Fields;
 use score_drift::{drift_from, total_shift};
 use score_order::order_row;
 use score_steps::{Steps, steps_in};
-use score_words::{apart_of, flatten};
+use score_words::flatten;
 
-#[derive(Clone, Copy)]
+#[derive(Clone, Copy, Default)]
 pub struct Numbers {
     pub steps: u32,
     pub shifted: u32,
@@ -45,15 +43,7 @@ impl Numbers {
     pub fn zero() -> Numbers
         ensures { result ≡ no_numbers }
     {
-        Numbers {
-            steps: 0,
-            shifted: 0,
-            mirrored: 0,
-            changed: 0,
-            cost: 0,
-            drift: 0,
-            filled: 0,
-        }
+        Numbers::default()
     }
 }
 
@@ -61,13 +51,11 @@ impl Numbers {
 pub fn number_count(job: &[u8]) -> usize
     ensures { result ≡ number_count job.now }
 {
-    if job.len() < 2 {
-        return Numbers::COUNT;
+    if job.starts_with(b"K,") {
+        Numbers::COUNT + 1
+    } else {
+        Numbers::COUNT
     }
-    if (job[0] == b'K') & (job[1] == b',') {
-        return Numbers::COUNT + 1;
-    }
-    Numbers::COUNT
 }
 
 // The numbers that every job text has as fields after others, in the order of document 01.
@@ -75,12 +63,13 @@ fn push_first(fields: Fields, n: Numbers) -> Fields
     requires { Pushable fields n 6 }
     ensures { More fields (first_in n) result }
 {
-    let fields = fields.push(n.steps as i32);
-    let fields = fields.push(n.shifted as i32);
-    let fields = fields.push(n.mirrored as i32);
-    let fields = fields.push(n.changed as i32);
-    let fields = fields.push(n.cost as i32);
-    fields.push(n.drift)
+    fields
+        .push(n.steps as i32)
+        .push(n.shifted as i32)
+        .push(n.mirrored as i32)
+        .push(n.changed as i32)
+        .push(n.cost as i32)
+        .push(n.drift)
 }
 
 // So many of the numbers as fields after others.
@@ -90,65 +79,41 @@ pub fn push_numbers(fields: Fields, n: Numbers, count: usize) -> Fields
 {
     let first = push_first(fields, n);
     if count == Numbers::COUNT {
-        return first;
+        first
+    } else {
+        first.push(n.filled as i32)
     }
-    first.push(n.filled as i32)
 }
 
-// Sites shifted, of one cell: once, in whichever rows it stands.
-fn shift_of(words: &[u32], k: usize) -> u32
-    requires { WordsAt words.now k }
-    ensures { result ≡ apart (site_in words.now k) (given_in words.now k) }
-{
-    apart_of(words[4 * k], words[4 * k + 3])
-}
-
-// Sites shifted, over all cells.
+// Sites shifted, over all cells: once a cell, in whichever rows it stands.
 fn shifted_in(words: &[u32], count: usize) -> u32
     requires { Digits words.now count }
-    ensures { result ≡ sum_from (shift_in words.now) 0 count }
+    ensures same { result ≡ sum_from (shift_in words.now) 0 count }
+    ensures few { result ≤ 800000 }
 {
-    let mut total: u32 = 0;
-    let mut k: usize = count;
-    while 0 < k {
-        k -= 1;
-        total += shift_of(words, k);
+    let mut total = 0;
+    for k in 0..count {
+        total += words[4 * k].abs_diff(words[4 * k + 3]);
     }
     total
 }
 
 // Cells whose mark is 1.
-fn mirrored_in(placement: Placement) -> u32
-    requires { placement.count ≤ max_cells }
-    ensures { result ≡ count_from (is_mirrored (placement_of placement)) 0 placement.count }
+fn mirrored_in(poses: &[Pose]) -> u32
+    requires { length poses.now ≤ max_cells }
+    ensures same { result ≡ count_by (λ p. p.mark == 1) poses.now }
+    ensures few { result ≤ max_cells }
 {
-    let mut total: u32 = 0;
-    let mut k: usize = placement.count;
-    while 0 < k {
-        k -= 1;
-        let pose = placement.poses[k];
-        if pose.mark == 1 {
-            total += 1;
-        }
-    }
-    total
+    poses.iter().filter(|p| p.mark == 1).count() as u32
 }
 
 // Cells in layout 1.
-fn changed_in(placement: Placement) -> u32
-    requires { placement.count ≤ max_cells }
-    ensures { result ≡ count_from (is_changed (placement_of placement)) 0 placement.count }
+fn changed_in(poses: &[Pose]) -> u32
+    requires { length poses.now ≤ max_cells }
+    ensures same { result ≡ count_by (λ p. p.layout == 1) poses.now }
+    ensures few { result ≤ max_cells }
 {
-    let mut total: u32 = 0;
-    let mut k: usize = placement.count;
-    while 0 < k {
-        k -= 1;
-        let pose = placement.poses[k];
-        if pose.layout == 1 {
-            total += 1;
-        }
-    }
-    total
+    poses.iter().filter(|p| p.layout == 1).count() as u32
 }
 
 // The steps of one row.
@@ -185,7 +150,8 @@ fn weighed_steps(header: Header, steps: Steps) -> u32
 // Each number times its weight, after the steps.
 fn weighed_sum(header: Header, steps: u32, shifted: u32, mirrored: u32, changed: u32) -> u32
     requires { Weighable header steps shifted mirrored changed }
-    ensures { result ≡ steps + header.shift * shifted + header.mirror * mirrored + header.swap * changed }
+    ensures same { result ≡ steps + header.shift * shifted + header.mirror * mirrored + header.swap * changed }
+    ensures most { result ≤ 1000000000 }
 {
     steps + header.shift * shifted + header.mirror * mirrored + header.swap * changed
 }
@@ -197,8 +163,9 @@ fn numbers_from(job: Job, placement: Placement, words: &[u32]) -> Numbers
 {
     let steps = steps_both(job, placement, words);
     let shifted = shifted_in(words, job.count);
-    let mirrored = mirrored_in(placement);
-    let changed = changed_in(placement);
+    let poses = &placement.poses[..placement.count];
+    let mirrored = mirrored_in(poses);
+    let changed = changed_in(poses);
     let weighed = weighed_steps(job.header, steps);
     let cost = weighed_sum(job.header, weighed, shifted, mirrored, changed);
     let drift = drift_from(total_shift(words, job.count), job.count as u32);

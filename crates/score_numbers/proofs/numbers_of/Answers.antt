@@ -4,7 +4,3 @@ use Rattle.score_numbers.proofs.numbers_of.Goals as goal
 
 pub flatten-requires : goal.flatten-requires
 flatten-requires c = record { ready = c.requires; blank = zeros_blank }
-
-pub numbers_from-requires : goal.numbers_from-requires
-numbers_from-requires c =
-    record { ready = c.requires; flat = c.flatten.ensures }

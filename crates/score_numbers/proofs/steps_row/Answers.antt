@@ -1,5 +1,5 @@
 -- The order of the row is the definition's, and its entries are cells of the job.
-use Rattle.std.proofs.Common.{◌≡◌, ℕ, ◌-◌, ◌≤◌, List, length, take, drop, length-take, length-drop, ap, ◌∙◌, arith}
+use Rattle.std.proofs.Common.{◌≡◌, ℕ, ◌-◌, List, length, take, drop, length-take, length-drop, ap, ◌∙◌, arith}
 use Rattle.std.proofs.Math.Seq.{take-length}
 use Rattle.definition.specs.Job.{max_cells}
 use Rattle.definition.specs.Lists.{sum_next}
