@@ -20,24 +20,6 @@ pub struct RowLeg {
     pub pose: usize,
 }
 
-// The first layer of a stage, kept; the result is how many cells it has.
-fn first_of(store: &mut [u32], row: &[u32], sizes: Sizes, stage: usize, s: usize, l: usize) -> usize
-    requires { StartRoom row.now store.old sizes stage s l }
-    ensures { FirstKept (deck_in row.now sizes) sizes.reordering
-        (pos_in row.now) stage s l result store.old store.new }
-{
-    if stage == 0 {
-        let to = search_store::kept_at(1);
-        search_dense_first::open(store, row, sizes, to);
-        return 1;
-    }
-    let p = tall_at(row, stage - 1);
-    let i = placed_with(row, sizes, p, s);
-    let to = search_store::kept_at(i + 1);
-    search_dense_first::after(store, row, sizes, i, s, p, l, to);
-    i + 1
-}
-
 // How many cells the first layer of a stage has.
 fn cells_of(row: &[u32], sizes: Sizes, stage: usize, s: usize) -> usize
     requires { StartState row.now sizes stage s }
@@ -48,6 +30,31 @@ fn cells_of(row: &[u32], sizes: Sizes, stage: usize, s: usize) -> usize
     }
     let p = tall_at(row, stage - 1);
     placed_with(row, sizes, p, s) + 1
+}
+
+// The first layer of a stage, which has so many cells, kept.
+fn put_first(
+    store: &mut [u32],
+    row: &[u32],
+    sizes: Sizes,
+    stage: usize,
+    s: usize,
+    l: usize,
+    cells: usize,
+)
+    requires given { StartRoom row.now store.old sizes stage s l }
+    requires counted { cells ≡ start_cells sizes.reordering (pos_in row.now) stage s }
+    ensures { FirstKept (deck_in row.now sizes) sizes.reordering
+        (pos_in row.now) stage s l cells store.old store.new }
+{
+    let to = search_store::kept_at(cells);
+    if stage == 0 {
+        search_dense_first::open(store, row, sizes, to);
+        return;
+    }
+    let p = tall_at(row, stage - 1);
+    let i = cells - 1;
+    search_dense_first::after(store, row, sizes, i, s, p, l, to);
 }
 
 // Back through a stage to its start; nothing is noted where the stage has no cost.
@@ -62,10 +69,11 @@ pub fn stage_trace(store: &mut [u32], path: &mut [u32], row: &[u32], sizes: Size
     let s = leg.start;
     let q = leg.state;
     let a = leg.pose;
-    if cells_of(row, sizes, stage, s) > search_store::MAX_KEPT {
+    let i = cells_of(row, sizes, stage, s);
+    if i > search_store::MAX_KEPT {
         return;
     }
-    let i = first_of(store, row, sizes, stage, s, leg.lane);
+    put_first(store, row, sizes, stage, s, leg.lane, i);
     if stage < sizes.talls {
         let end = placed_with(row, sizes, tall_at(row, stage), q);
         if end < i {
