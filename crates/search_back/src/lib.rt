@@ -9,7 +9,7 @@ ghost use Rattle.search_back.specs.Scatter.{ScatterGiven, Scattered};
 
 use search_back_stage::RowLeg;
 use search_join::Case;
-use search_row::Sizes;
+use search_row::{Row, Rows, Sizes};
 
 // A stage in both rows: from the tall cell before it, as a case, to a case of its own.
 #[derive(Drop)]
@@ -55,25 +55,23 @@ fn case_before(store: &[u32], sizes: Sizes, i: usize, case: Case) -> Option<Case
 }
 
 // Both rows through one stage; row 1 has so many cells.
-fn both_trace(
-    store: &mut [u32],
-    path0: &mut [u32],
-    path1: &mut [u32],
-    row0: &[u32],
-    row1: &[u32],
-    sizes: Sizes,
-    cells1: usize,
-    leg: Leg,
-)
-    requires { LegGiven row0.now row1.now store.old path0.old path1.old sizes cells1 leg.stage
+fn both_trace(store: &mut [u32], path0: &mut [u32], path1: &mut [u32], rows: Rows, leg: Leg)
+    requires { LegGiven rows.row0.now rows.row1.now store.old path0.old path1.old rows.sizes rows.cells1 leg.stage
         leg.from.q0 leg.from.q1 leg.from.pose leg.to.q0 leg.to.q1 leg.to.pose }
-    ensures { RowsLeg row0.now row1.now sizes cells1 leg.stage leg.from.q0
+    ensures { RowsLeg rows.entry.row0.now rows.entry.row1.now rows.entry.sizes rows.entry.cells1 leg.stage leg.from.q0
         leg.from.q1 leg.from.pose leg.to.q0 leg.to.q1 leg.to.pose store.old
         store.new path0.old path0.new path1.old path1.new }
 {
     let from = leg.from;
     let to = leg.to;
-    let sizes1 = search_row::with_cells(sizes, cells1);
+    let row0 = Row {
+        words: rows.row0,
+        sizes: rows.sizes,
+    };
+    let row1 = Row {
+        words: rows.row1,
+        sizes: search_row::with_cells(rows.sizes, rows.cells1),
+    };
     let leg0 = RowLeg {
         stage: leg.stage,
         start: from.q0,
@@ -81,7 +79,7 @@ fn both_trace(
         state: to.q0,
         pose: to.pose,
     };
-    search_back_stage::stage_trace(store, path0, row0, sizes, leg0);
+    search_back_stage::stage_trace(store, path0, row0, leg0);
     let leg1 = RowLeg {
         stage: leg.stage,
         start: from.q1,
@@ -89,23 +87,14 @@ fn both_trace(
         state: to.q1,
         pose: to.pose,
     };
-    search_back_stage::stage_trace(store, path1, row1, sizes1, leg1);
+    search_back_stage::stage_trace(store, path1, row1, leg1);
 }
 
 // From a case of a stage back to the start of both rows; no further where a pointer stands for no case.
-fn trace_from(
-    store: &mut [u32],
-    path0: &mut [u32],
-    path1: &mut [u32],
-    row0: &[u32],
-    row1: &[u32],
-    sizes: Sizes,
-    cells1: usize,
-    at: Stop,
-)
-    requires { Trace row0.now row1.now store.old path0.old path1.old sizes cells1 at.stage
+fn trace_from(store: &mut [u32], path0: &mut [u32], path1: &mut [u32], rows: Rows, at: Stop)
+    requires { Trace rows.row0.now rows.row1.now store.old path0.old path1.old rows.sizes rows.cells1 at.stage
         at.case.q0 at.case.q1 at.case.pose }
-    ensures { RowsTrace row0.now row1.now sizes cells1 at.stage at.case.q0
+    ensures { RowsTrace rows.entry.row0.now rows.entry.row1.now rows.entry.sizes rows.entry.cells1 at.stage at.case.q0
         at.case.q1 at.case.pose store.old store.new path0.old
         path0.new path1.old path1.new }
 {
@@ -122,10 +111,10 @@ fn trace_from(
             from: start,
             to: case,
         };
-        both_trace(store, path0, path1, row0, row1, sizes, cells1, leg);
+        both_trace(store, path0, path1, rows, leg);
         return;
     }
-    let Some(from) = case_before(store, sizes, i, case) else {
+    let Some(from) = case_before(store, rows.sizes, i, case) else {
         return;
     };
     let leg = Leg {
@@ -133,36 +122,28 @@ fn trace_from(
         from,
         to: case,
     };
-    both_trace(store, path0, path1, row0, row1, sizes, cells1, leg);
+    both_trace(store, path0, path1, rows, leg);
     let stage = i - 1;
     let before = Stop { stage, case: from };
-    trace_from(store, path0, path1, row0, row1, sizes, cells1, before);
+    trace_from(store, path0, path1, rows, before);
 }
 
 // From the least cost of all.
-pub fn trace(
-    store: &mut [u32],
-    path0: &mut [u32],
-    path1: &mut [u32],
-    row0: &[u32],
-    row1: &[u32],
-    sizes: Sizes,
-    cells1: usize,
-)
-    requires { Trace row0.now row1.now store.old path0.old path1.old sizes cells1 sizes.talls 0 0 0 }
-    ensures { RowsTrace row0.now row1.now sizes cells1 sizes.talls 0 0 0
+pub fn trace(store: &mut [u32], path0: &mut [u32], path1: &mut [u32], rows: Rows)
+    requires { Trace rows.row0.now rows.row1.now store.old path0.old path1.old rows.sizes rows.cells1 rows.sizes.talls 0 0 0 }
+    ensures { RowsTrace rows.entry.row0.now rows.entry.row1.now rows.entry.sizes rows.entry.cells1 rows.entry.sizes.talls 0 0 0
         store.old store.new path0.old path0.new path1.old
         path1.new }
 {
     let last = Stop {
-        stage: sizes.talls,
+        stage: rows.sizes.talls,
         case: Case {
             q0: 0,
             q1: 0,
             pose: 0,
         },
     };
-    trace_from(store, path0, path1, row0, row1, sizes, cells1, last);
+    trace_from(store, path0, path1, rows, last);
 }
 
 // From a row's path to pose numbers by cell number: place by place, the cell there gets the pose number there.

@@ -9,4 +9,4 @@ stage_trace-requires c =
 pub stage_trace-requires-2 : goal.stage_trace-requires-2
 stage_trace-requires-2 c =
     let w = c.stage_trace.ensures in
-    rw c.with_cells-sizes1.ensures (leg_row₁ c.requires w.low w.frame.long)
+    rw c.with_cells.ensures (leg_row₁ c.requires w.low w.frame.long)

@@ -9,23 +9,23 @@ use Rattle.search_back_stage.proofs.put_first.Goals as goal
 
 pub returns-then-stage-eq0 : goal.returns-then-stage-eq0
 returns-then-stage-eq0 c =
-    let D = deck_in c.args.row.now c.args.sizes in
-    let pos = pos_in c.args.row.now in
-    let z = c.args.sizes in
+    let D = deck_in c.args.row.words.now c.args.row.sizes in
+    let pos = pos_in c.args.row.words.now in
+    let z = c.args.row.sizes in
     let one = start-one z.reordering pos c.args.stage c.args.s c.if-stage-eq0.true ∙ sym c.requires.counted in
     subst (λ (k : ℕ). FirstKept D z.reordering pos c.args.stage c.args.s c.args.l k c.args.store.now c.open.new.store) one
     (started_open D z.reordering pos c.if-stage-eq0.true c.requires.given.start.given.grounded.all (omega (arith, c.kept_at-to.ensures)) c.open.ensures)
 
 pub overflow_sub-i : goal.overflow_sub-i
 overflow_sub-i c =
-    omega (arith, c.requires.counted, start-some c.args.sizes.reordering (pos_in c.args.row.now) c.args.stage c.args.s)
+    omega (arith, c.requires.counted, start-some c.args.row.sizes.reordering (pos_in c.args.row.words.now) c.args.stage c.args.s)
 
 pub returns : goal.returns
 unfolding pos_in
 returns c =
-    let D = deck_in c.args.row.now c.args.sizes in
-    let pos = pos_in c.args.row.now in
-    let z = c.args.sizes in
+    let D = deck_in c.args.row.words.now c.args.row.sizes in
+    let pos = pos_in c.args.row.words.now in
+    let z = c.args.row.sizes in
     let count = c.requires.counted ∙ start-count z.reordering pos c.args.stage (c.args.stage - 1) c.args.s (omega arith) in
     let cells : c.args.cells - 1 + 1 ≡ c.args.cells = omega arith in
     subst (λ (k : ℕ). FirstKept D z.reordering pos c.args.stage c.args.s c.args.l k c.args.store.now c.after.new.store) cells
