@@ -1,5 +1,6 @@
 -- What the functions of this crate find in a text, from a byte on: a line, a number, the numbers of a line.
-use Rattle.std.specs.Prelude.{ℕ, ◌+◌, ◌-◌, ◌≤◌, ◌<◌, ◌≡◌, ◌≢◌, true, false, List, ◌∷◌, ◌++◌, map, length, get_or, take, drop, Option, MatchOption}
+use Rattle.std.specs.Prelude.{ℕ, ◌+◌, ◌-◌, ◌≤◌, ◌<◌, ◌≡◌, ◌≢◌, true, false, Option, MatchOption}
+use Rattle.std.specs.Prelude.{List, ◌∷◌, ◌++◌, map, length, get_or, take, drop}
 use Rattle.definition.specs.Texts.{Text, line_feed, comma, lines_of, fields_of, is_digit, is_number, value}
 use Rattle.definition.specs.Job.{nth}
 use Rattle.text_scan.specs.declared.End.{End}
@@ -29,7 +30,8 @@ pub record NoEnd (b : ℕ) : Type 0 where
   pub comma : b ≢ comma
   pub line_feed : b ≢ line_feed
 
--- The byte at i may be one more digit of the number that begins at from: there are four at most, and a zero stands alone.
+-- The byte at i may be one more digit of the number that begins at from: there are four at most, and a first zero
+-- stands alone.
 pub record MoreDigit (text : Text) (from i : ℕ) : Type 0 where
   pub digit : is_digit (get_or text i 0) ≡ true
   pub few : i < from + 4

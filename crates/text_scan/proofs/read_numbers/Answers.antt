@@ -10,9 +10,17 @@ loop-n-init c = counted_none _ _ c.requires
 pub returns-then-eq : goal.returns-then-eq
 returns-then-eq c =
     counted-end c.loop-n.invariant c.in_ok-n.ensures (search rules)
-    c.if-count-lt24.values (elim c.if-count-lt24.branch [ then-count-lt24 w ↦ inl (w.if-count-lt24.true, w.values-is) | else-count-lt24 w ↦ inr (w.if-count-lt24.false, w.values-is) ])
+    c.if-count-lt24.values
+    (elim c.if-count-lt24.branch [
+      | then-count-lt24 w ↦ inl (w.if-count-lt24.true, w.values-is)
+      | else-count-lt24 w ↦ inr (w.if-count-lt24.false, w.values-is)
+    ])
 
 pub loop-n-preserved : goal.loop-n-preserved
 loop-n-preserved c =
     counted-more c.loop-n.invariant c.in_ok-n.ensures (search rules)
-    c.if-count-lt24.values (elim c.if-count-lt24.branch [ then-count-lt24 w ↦ inl (w.if-count-lt24.true, w.values-is) | else-count-lt24 w ↦ inr (w.if-count-lt24.false, w.values-is) ])
+    c.if-count-lt24.values
+    (elim c.if-count-lt24.branch [
+      | then-count-lt24 w ↦ inl (w.if-count-lt24.true, w.values-is)
+      | else-count-lt24 w ↦ inr (w.if-count-lt24.false, w.values-is)
+    ])
