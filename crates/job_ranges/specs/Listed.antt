@@ -23,5 +23,6 @@ spelled_same i zero l m e = refl
 spelled_same i (suc k) l m e = rw (e i (omega arith), spelled_same (suc i) k l m (λ j h. e j (omega arith)))
 
 -- a list that another begins with
-pub spell_as : (k : ℕ) (l m : List ℕ) → length l ≡ k → ((j : ℕ) → j < k → get_or l j 0 ≡ get_or m j 0) → l ≡ spelled 0 k m
+pub spell_as : (k : ℕ) (l m : List ℕ) → length l ≡ k
+    → ((j : ℕ) → j < k → get_or l j 0 ≡ get_or m j 0) → l ≡ spelled 0 k m
 spell_as k l m e f = spell 0 k l (omega arith) ∙ spelled_same 0 k l m (λ j h. f j (omega arith))
