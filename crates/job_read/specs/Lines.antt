@@ -1,6 +1,7 @@
 -- The refusal of a line by its numbers in an array and by what is kept of the cells before
 -- it. It is document 01's refusal of that line.
-use Rattle.std.specs.Prelude.{ℕ, suc, ◌+◌, ◌*◌, ◌≤◌, ◌<◌, ◌≡◌, Bool, ◌&&◌, cond, Result, Ok, Err, List, [], ◌∷◌, get_or, drop, ltb, eqb}
+use Rattle.std.specs.Prelude.{Result, Ok, Err}
+use Rattle.std.specs.Prelude.{ℕ, suc, ◌+◌, ◌*◌, ◌≤◌, ◌<◌, ◌≡◌, Bool, ◌&&◌, cond, List, [], ◌∷◌, get_or, drop, ltb, eqb}
 use Rattle.std.proofs.Math.Path.{refl, ap}
 use Rattle.std.proofs.Common.{sym, ◌∙◌, drop-cons}
 use Rattle.std.proofs.Math.Bool.{true, false, and-eq-true_iff}
@@ -322,6 +323,7 @@ module _ (text : Text) (at : ℕ) (there : at < length text) where
               ((and-eq-true_iff (leb (get_or r.values 0 0) (cond (eqb t.rows 2) 2 0))
               (within 1 2 (get_or r.values 3 0))).0 p2.0).1
               p3.0
-              ∙ ap (λ t. paper.cell_of t numbers) (sym (second-same paper.cell_lead paper.fixed_lead text at there r l));
+              ∙ ap (λ t. paper.cell_of t numbers)
+              (sym (second-same paper.cell_lead paper.fixed_lead text at there r l));
           few = ltb-true t.count paper.max_cells ((and-eq-true_iff (ltb t.count paper.max_cells) _).0 p5.0).0;
         }

@@ -1,5 +1,6 @@
 -- What the functions of this crate answer: the header line, a cell line, and the whole text.
-use Rattle.std.specs.Prelude.{ℕ, ◌+◌, ◌≤◌, ◌<◌, ◌≡◌, Result, Ok, Err, IfOk, IfErr, MatchResult, List, [], map, length, take, drop}
+use Rattle.std.specs.Prelude.{Result, Ok, Err, IfOk, IfErr, MatchResult}
+use Rattle.std.specs.Prelude.{ℕ, ◌+◌, ◌≤◌, ◌<◌, ◌≡◌, List, [], map, length, take, drop}
 use Rattle.std.proofs.Common.{sym}
 use Rattle.definition.specs.Texts.{Text}
 use Rattle.definition.specs.Job as paper

@@ -76,6 +76,7 @@ fn head_count(filled: bool) -> usize
 }
 
 // The tests after the lead, of a header with so many numbers.
+#[tactic(auto, unfolding(crate::specs::Lines::head_number, definition::specs::Job::first_failing))]
 fn test_header(filled: bool, count: usize, h: Header) -> Result<(), Fault>
     ensures { number_by result ≡ head_number filled count h }
 {
@@ -102,6 +103,7 @@ fn header_line(text: &[u8]) -> Result<Head, Fault>
 // ---- the cells
 
 // The tests after the lead, in document 01's order; `mark` is the line's number for mirrorable.
+#[tactic(auto, unfolding(crate::specs::Lines::cell_number, definition::specs::Job::first_failing))]
 fn test_cell(t: Tally, count: usize, mark: u32, c: Cell) -> Result<(), Fault>
     ensures { number_by result ≡ cell_number t count mark c }
 {

@@ -1,10 +1,12 @@
 -- The numbers after the lead make the header, and decide why it is refused.
-use mathlib.Core.Path.{sym, ap, ◌∙◌}
+use mathlib.Core.Path.{◌≡◌, sym, ap, ◌∙◌}
+use native.Mathlib.Omega.{arith}
 use Rattle.std.proofs.lemmas.Result.{err_from_is_err_and}
 use Rattle.job.specs.Value.{header_of}
 use Rattle.text_scan.specs.Found.{LedTo}
 use Rattle.job_read.specs.Lines.{head_lead, head-unled, head-number, head_read}
-use Rattle.job_read.proofs.Tested.{no_value}
+use Rattle.std.specs.Prelude.{None}
+use Rattle.job_read.specs.declared.Fault.TheVariants.{Form}
 use Rattle.job_read.proofs.header_line.Goals as goal
 use Rattle.job_read.proofs.header_line.Goals.{In_ok-n}
 
@@ -15,9 +17,10 @@ led c = rw (c.in_ok-n.ensures.ok_part, c.lead_of-lead.ensures.byte) at c.read_le
 pub returns-in_err-n : goal.returns-in_err-n
 returns-in_err-n c =
     let p = err_from_is_err_and c.from_residual.result c.from_residual.ensures.1 in
-    let q = no_value _ _ _ c.in_err-n.ensures.value in
-    let l = rw (q.0, c.lead_of-lead.ensures.byte) at c.read_led.ensures in
-    rw (p.1, p.2, q.1) (sym (head-unled c.args.text.now c.requires l))
+    let n : c.read_led.result ≡ None = grind arith in
+    let f : c.in_err-n.field-0.0 ≡ Form = grind arith in
+    let l = rw (n, c.lead_of-lead.ensures.byte) at c.read_led.ensures in
+    rw (p.1, p.2, f) (sym (head-unled c.args.text.now c.requires l))
 
 pub returns-in_err-test_header : goal.returns-in_err-test_header
 returns-in_err-test_header c =
