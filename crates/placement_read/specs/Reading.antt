@@ -1,5 +1,6 @@
 -- What is read of a placement text: one pose, and the whole, as document 01's reading of it.
-use Rattle.std.specs.Prelude.{ℕ, suc, ◌≤◌, ◌≡◌, true, false, Option, MatchOption, Result, Ok, Err, IfOk, IfErr, [], ◌∷◌, ◌++◌, length, drop}
+use Rattle.std.specs.Prelude.{Option, MatchOption, Result, Ok, Err, IfOk, IfErr}
+use Rattle.std.specs.Prelude.{ℕ, suc, ◌≤◌, ◌≡◌, true, false, [], ◌∷◌, ◌++◌, length, drop}
 use Rattle.std.proofs.Math.Path.{sym}
 use Rattle.definition.specs.Texts.{Text, lines_of}
 use Rattle.definition.specs.Job.{max_cells}
