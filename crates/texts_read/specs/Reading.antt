@@ -7,7 +7,8 @@ use Rattle.definition.specs.Job as paper
 use Rattle.definition.specs.Job.{accepted, read_job}
 use Rattle.definition.specs.Placement.{Placement, Poses, poses, read_placement}
 use Rattle.definition.specs.Outcome as outcome
-use Rattle.definition.specs.Outcome.{Outcome, without_line, first_of, refused_by, poses_refusal, score_refusals, as_score}
+use Rattle.definition.specs.Outcome.{Outcome, without_line, first_of, refused_by}
+use Rattle.definition.specs.Outcome.{poses_refusal, score_refusals, as_score}
 use Rattle.definition_laws.specs.Outcomes.{list-refuses}
 use Rattle.job.specs.declared.Job as job
 use Rattle.job.specs.declared.Placement as placement
@@ -42,9 +43,9 @@ TextsRead jobText placementText r =
 -- ---- what the reading of each text says
 
 module _ (jobText placementText : Text) where
-  pub by-job : (f : Refusal) → Reads (read_job jobText) (Err f) → TextsRefused jobText placementText f
+  pub by_job : (f : Refusal) → Reads (read_job jobText) (Err f) → TextsRefused jobText placementText f
   unfolding first_of
-  by-job f h =
+  by_job f h =
       let n = (numbered f).some in
       record {
         refusal =
@@ -67,16 +68,16 @@ module _ (jobText placementText : Text) where
         ap (λ (x : paper.Reading). first_of (score_refusals x placementText)) (reads-accepted h)
         ∙ ap (λ (ps : Poses). first_of (poses_refusal ps ∷ [])) (due e)
 
-    pub by-fault : (f : Refusal) → ReadAs placementText j.count (Err f) → TextsRefused jobText placementText f
+    pub by_fault : (f : Refusal) → ReadAs placementText j.count (Err f) → TextsRefused jobText placementText f
     unfolding first_of
-    by-fault f q =
+    by_fault f q =
         let few = h.accepted.few in
         record { refusal = poses-first (read-fault q) ∙ rw q.faulty.number; line = omega (arith, q.faulty.line) }
 
-    pub by-placement : (p : placement.Placement) → ReadAs placementText j.count (Ok p)
+    pub by_both : (p : placement.Placement) → ReadAs placementText j.count (Ok p)
         → BothRead jobText placementText (record { job = j; placement = p })
     unfolding first_of
-    by-placement p q = record {
+    by_both p q = record {
       refusal = poses-first (read_whole q);
       ready = record { accepted = h.accepted; each = q.whole.count; site = λ k l. (q.whole.kept.small k).site };
       job = reads-accepted h;

@@ -17,6 +17,7 @@ pub struct Texts {
 }
 
 // 1 to 4 as Read does, then 5.
+#[tactic(auto, using(crate::specs::Reading::by_job, crate::specs::Reading::by_fault, crate::specs::Reading::by_both))]
 pub fn read_texts(job: &[u8], placement: &[u8]) -> Result<Texts, Refusal>
     ensures { TextsRead job.now placement.now result }
 {
