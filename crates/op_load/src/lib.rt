@@ -2,9 +2,10 @@
 
 #![tactic(auto)]
 
-ghost use Rattle.std.specs.Prelude.{◌≡◌, [], length};
+ghost use Rattle.std.specs.Prelude.{◌≡◌, [], length, MatchResult};
 ghost use Rattle.definition.specs.Load.{load, load_refusal};
-ghost use Rattle.definition.specs.Outcome.{lent, Met};
+ghost use Rattle.results.specs.Refusals.{refusal_of};
+ghost use Rattle.definition.specs.Outcome.{without_line, lent, Met};
 
 use job::Job;
 use load_write::put_load;
@@ -16,16 +17,19 @@ const ROOM: usize = 8192;
 // The text's length.
 const FIELDS: usize = 1;
 
-fn load_refusal(cells: u32, room: usize) -> u32
-    ensures { result ≡ load_refusal cells room }
+// 9 by the count, 10 by the output.
+#[tactic(auto, unfolding(definition::specs::Load::load_refusal, definition::specs::Job::first_failing))]
+fn load_refusal(cells: u32, room: usize) -> Result<(), Refusal>
+    ensures { MatchResult result (λ _. load_refusal cells room ≡ 0)
+        (λ refusal. refusal_of refusal ≡ without_line (load_refusal cells room)) }
 {
     if Job::MAX_CELLS < cells as usize {
-        return 9;
+        return Err(Refusal::LoadCount);
     }
     if room < ROOM {
-        return 10;
+        return Err(Refusal::LoadOutput);
     }
-    0
+    Ok(())
 }
 
 pub fn load_text(seed: u32, cells: u32, output: &mut [u8], results: &mut [i32]) -> u32
@@ -33,10 +37,8 @@ pub fn load_text(seed: u32, cells: u32, output: &mut [u8], results: &mut [i32]) 
         (lent [] output.old results.old)
         (lent [] output.new results.new) }
 {
-    let number = load_refusal(cells, output.len());
-    if number != 0 {
-        refuse(results, Refusal { number, line: 0 }, FIELDS);
-        return number;
+    if let Err(refusal) = load_refusal(cells, output.len()) {
+        return refuse(results, refusal, FIELDS);
     }
     let length = put_load(output, seed, cells);
     answer_one(results, length);

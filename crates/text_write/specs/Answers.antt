@@ -9,13 +9,13 @@ use Rattle.text_write.specs.Put.{Wrote}
 use Rattle.text_write.specs.Puts.{wrote_over}
 
 module _ {o : Outcome} {output : List ℕ} {results results' : List ℤ} where
-  pub met-refused : (n : ℕ) (r : Refusal) → o ≡ refused_by n r
+  pub met-refused : (n : ℕ) (r : Refusal) {k : ℕ} → o ≡ refused_by n r → k ≡ r.number
       → results' ≡ over (pos r.number ∷ pos r.line ∷ replicate n (pos 0)) results
-      → Met o r.number (lent [] output results) (lent [] output results')
+      → Met o k (lent [] output results) (lent [] output results')
   unfolding over
-  met-refused n r e told =
-      subst (λ (o : Outcome). Met o r.number (lent [] output results) (lent [] output results')) (sym e)
-      (record { told = record { number = refl; array = told }; written = refl; stored = refl })
+  met-refused n r {k} e f told =
+      subst (λ (o : Outcome). Met o k (lent [] output results) (lent [] output results')) (sym e)
+      (record { told = record { number = f; array = told }; written = refl; stored = refl })
 
   pub met-text : {text : Text} {output' : List ℕ} {k : ℕ} → o ≡ text_answer text → Wrote text output 0 output' k
       → results' ≡ over (pos 0 ∷ pos 0 ∷ pos k ∷ []) results
