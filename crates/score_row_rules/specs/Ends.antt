@@ -1,14 +1,14 @@
 -- Rule 8, a row's ends: which cells are at one empty site there, and their marks.
-use Rattle.std.specs.Prelude.{ℕ, zero, suc, ◌-◌, ◌<◌, ◌≡◌, refl, Bool, true, false, ◌&&◌, cond, List, [], ◌∷◌, length, get_or, set}
-use Rattle.std.proofs.Common.{sym, ◌∙◌, arith, length-set, get_or-set_same, get_or-set_other, eq-eqb, ne_eqb}
+use Rattle.std.specs.Prelude.{ℕ, zero, suc, ◌-◌, ◌<◌, ◌≡◌, refl, Bool, false, ◌&&◌, List, [], ◌∷◌, length, get_or}
+use Rattle.std.proofs.Common.{sym, ◌∙◌, arith, ne_eqb}
 use Rattle.std.proofs.Math.Path.{ap, ap₂}
-use Rattle.std.proofs.Math.Bool.{◌||◌, and-false, or-false}
+use Rattle.std.proofs.Math.Bool.{◌||◌, or-false}
 use Rattle.std.proofs.Math.Decide.{ℕ_discrete}
 use Rattle.std.proofs.Math.Dec.{eqb}
 use Rattle.definition.specs.Job.{max_cells}
 use Rattle.definition.specs.Rules.{is_forbidden, is_first, is_last}
 use Rattle.score_order.specs.Words.{site_in, end_in}
-use Rattle.score_cell_rules.specs.Marks.{Added, added-both, added_none, added-below}
+use Rattle.score_cell_rules.specs.Marks.{Added, added-both, added-below}
 use Rattle.score_row_rules.specs.Tests.{one_cell, at_end_in}
 
 -- ---- who is at an end
@@ -74,18 +74,3 @@ module _ (words l : List ℕ) (sites : ℕ) where
         ap₂ ◌||◌ (ap (λ x. one_cell a (is_forbidden x) k) ef) (or-false (last k) ∙ ap (λ x. one_cell b (is_forbidden x) k) eg)
         ∙ sym (end-cells k))
         (added-both max_cells max_cells max_cells first last m₀ m₁ m₂ (omega arith) (omega arith) p q)
-
--- one cell, which breaks a rule or not
-module _ (a : ℕ) (breaks : Bool) (m : List ℕ) (long : length m ≡ max_cells) where
-  pub cell-hit : a < max_cells → breaks ≡ true → Added max_cells (one_cell a breaks) m (set m a 1)
-  cell-hit h t = record { long = simp length-set long; each = λ k _. go k (ℕ_discrete k a) }
-    where
-      there : a < length m
-      there = omega arith
-
-      go : (k : ℕ) → Dec (k ≡ a) → get_or (set m a 1) k 0 ≡ cond (eqb k a && breaks) 1 (get_or m k 0)
-      go k (yes e) = rw (e, get_or-set_same m a 1 0 there, eq-eqb a a refl, t)
-      go k (no d) = rw (get_or-set_other m a k 1 0 d, ne_eqb k a d)
-
-  pub cell-miss : breaks ≡ false → Added max_cells (one_cell a breaks) m m
-  cell-miss t = added_none max_cells (one_cell a breaks) m long (λ k _. ap (λ x. eqb k a && x) t ∙ and-false (eqb k a))
