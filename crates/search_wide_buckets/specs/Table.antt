@@ -43,11 +43,12 @@ pub record TableToClear (table : List ℕ) (buckets poses lanes : ℕ) : Type 0 
   pub table_for : TableFor table poses lanes
   pub most : buckets ≤ 9
 
--- a word of a table, to be lowered to x
-pub record WordToLower (table : List ℕ) (to x : ℕ) : Type 0 where
+-- the words of a table from `to` on, to be lowered to a source's with what it pays
+pub record RowToLower (table words : List ℕ) (to pay : ℕ) : Type 0 where
   pub lent : TableLent table
-  pub room : to < table_words
-  pub cost : x ≤ B + B
+  pub low : Low words
+  pub room : to + length words ≤ table_words
+  pub cost : pay ≤ B
 
 -- so many lanes of it from `to` on, to be lowered to those from `from` on, which lie before them
 pub record LanesToLower (table : List ℕ) (to from lanes : ℕ) : Type 0 where
@@ -90,9 +91,13 @@ pub record Spread (f : ℕ → ℕ → ℕ) (t least last first lanes : ℕ) (ol
   pub other : (l v s : ℕ) → l < max_lanes → (l < first) ⊎ (first + lanes ≤ l) → s < bucket_rows
       → word_at new l v s ≡ word_at old l v s
 
--- a variant's pays for a row's lanes, by bucket
-abbrev pub charged_by : List ℕ → ℕ → List ℕ → ℕ → ℕ → ℕ → ℕ
-charged_by row at pays u v l = get_or row (at + l) 0 + get_or pays (u * 9 + v) 0
+-- words, each with what is paid
+abbrev pub paid_words : List ℕ → ℕ → ℕ → ℕ
+paid_words words pay l = get_or words l 0 + pay
+
+-- the same by bucket, with what a variant pays there
+abbrev pub charged_words : List ℕ → List ℕ → ℕ → ℕ → ℕ → ℕ
+charged_words words pays u v = paid_words words (get_or pays (u * 9 + v) 0)
 
 -- the same for one lane, whose word is x
 abbrev pub charged_one : ℕ → List ℕ → ℕ → ℕ → ℕ → ℕ
@@ -108,22 +113,15 @@ pub record LaneSpread (table pays : List ℕ) (n x u t lane : ℕ) : Type 0 wher
   pub here : t < bucket_rows
   pub inside : lane < max_lanes
 
--- the same to the four buckets of a kind of gap, those from `first` on
-pub record NearSpread (table pays : List ℕ) (x u t lane first : ℕ) : Type 0 where
-  pub spread : LaneSpread table pays (first + 4) x u t lane
-  pub least : 1 ≤ first
-  pub most : first ≤ 5
-
--- a source to be put to row t in so many lanes, its words beginning at `at`
-pub record RowSpread (table row pays : List ℕ) (n at u t lanes : ℕ) : Type 0 where
+-- a source to be put to row t in the lanes from `first` on, by its words there
+pub record WordsSpread (table words pays : List ℕ) (n u t first : ℕ) : Type 0 where
   pub lent : TableLent table
-  pub low : Low row
-  pub room : at + lanes ≤ length row
+  pub low : Low words
+  pub inside : first + length words ≤ max_lanes
   pub needed : FiveOrNine n
   pub paid : PaysLow n pays
   pub kind : u < 4
   pub here : t < bucket_rows
-  pub narrow : lanes ≤ max_lanes
 
 -- a table to be lowered by a source, what it pays being known
 pub record WideSource (table st row pays : List ℕ) (s : Source) (lanes : ℕ) : Type 0 where

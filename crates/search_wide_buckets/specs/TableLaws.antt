@@ -1,6 +1,6 @@
 -- Laws of the table: what one lowered row, one source and one more of each loop make of it.
 use Prim.Native.Nat.{ℕ, zero, suc, ◌+◌, ◌*◌, ◌-◌, ◌/◌, ◌%◌, ◌≤◌, ◌<◌, min}
-use Rattle.std.specs.Prelude.{◌≡◌, refl, ◌≢◌, Bool, List, length, get_or, replicate, eqb}
+use Rattle.std.specs.Prelude.{◌≡◌, refl, Bool, List, get_or, replicate, eqb}
 use Rattle.std.proofs.Common.{ap, ◌∙◌, ⊎_elim, inl, inr, below_more}
 use Rattle.std.proofs.Math.Path.{ap₂}
 use Rattle.std.proofs.Math.Bool.{true, false, cond}
@@ -12,16 +12,15 @@ use Rattle.search_store.specs.Map.{table_words, bucket_rows, bucket_words, max_l
 use Rattle.theory_tables.specs.Steps.{B}
 use Rattle.lists.specs.Numbers.{from}
 use Rattle.theory_pair.specs.Coded.{lowest, lowest-from}
-use Rattle.search_lanes.specs.Lanes.{words_from, always_rows}
-use Rattle.search_lanes.specs.Store.{Frame, Low, WrittenRows}
+use Rattle.search_lanes.specs.Lanes.{words_from}
+use Rattle.search_lanes.specs.Store.{Frame, Low}
 use Rattle.search_lanes.specs.Laws.{same_low}
-use Rattle.search_buckets.specs.declared.Source.{Source}
 use Rattle.search_buckets.specs.Loops.{lowest-same, lowest_ext}
 use Rattle.search_buckets.specs.Gaps.{paying, paying-low}
 use Rattle.search_buckets.specs.Rows.{rows_of, in_row, bucket_in, found}
 use Rattle.search_buckets.specs.Laws.{row-hit, row-miss, found_none, found_ext}
 use Rattle.search_wide_buckets.specs.Table.{word_at, TableLent, Cleared, Gathered}
-use Rattle.search_wide_buckets.specs.Table.{Spread, WideSource, RunUp, found_in, TableReady, ToRows}
+use Rattle.search_wide_buckets.specs.Table.{Spread, RunUp, found_in, TableReady}
 
 -- ---- one row
 
@@ -40,43 +39,7 @@ frame-other {a} {b} {old} {new} k f h = go (dec_lt k a)
 pub lent_zeros : TableLent (replicate table_words 0)
 lent_zeros = record { long = length-replicate {A = ℕ} table_words 0; low = same_low table_words 0 (omega arith) }
 
-pub cleared-none : (rows lanes : ℕ) {table : List ℕ} → length table ≡ table_words → Low table
-    → Cleared rows lanes 0 table
-cleared-none rows lanes h w = record { long = h; low = w; none = λ l u t i j k. absurd (omega arith) }
-
--- one bucket more
-pub cleared_more :
-    {rows lanes : ℕ} {old new : List ℕ} (v : ℕ)
-    → rows ≤ bucket_rows → lanes ≤ max_lanes → Cleared rows lanes v old
-    → WrittenRows (always_rows B) (v * bucket_words) rows lanes old new
-    → Cleared rows lanes (v + 1) new
-cleared_more {rows} {lanes} {new = new} v h n c w =
-    record {
-      long = w.frame.long ∙ c.long;
-      low = w.low;
-      none = λ l u t i j k.
-          below_more (λ (u : ℕ). word_at new l u t ≡ B) v
-          (λ u j. w.frame.low (u * bucket_words + t * max_lanes + l) (omega arith) ∙ c.none l u t i j k)
-          (w.words t l (omega arith) i)
-          u j;
-    }
-
 -- ---- one source
-
--- the buckets in which row t does not count
-pub spread_none :
-    (f : ℕ → ℕ → ℕ) (t least last first lanes : ℕ) {table : List ℕ}
-    → Low table → ((v s : ℕ) → least ≤ v → v < last → v ≤ 8 * s → t ≢ s)
-    → Spread f t least last first lanes table table
-spread_none f t least last first lanes {table} w h =
-    record {
-      long = refl;
-      low = w;
-      done = λ l v s i b j k c.
-          omega (arith, w.word (v * bucket_words + s * max_lanes + (first + l)), row-miss t s (f v l) (h v s b j c));
-      rest = λ l v s i j k. refl;
-      other = λ l v s i j k. refl;
-    }
 
 -- one bucket more
 pub spread-more :
@@ -211,9 +174,6 @@ run_more {lanes} {old} {mid} {new} t n g s w =
           lowest-from B (word_at old l 0) 0 (t + 1),
         )
 
-pub found-small : {table : List ℕ} (buckets a l : ℕ) → Low table → found_in buckets table a l ≤ B
-found-small buckets a l w = omega (arith, w.word (0 * bucket_words + a / 4 * max_lanes + l))
-
 -- ---- many sources
 
 -- no source, or none that lowers anything
@@ -248,39 +208,6 @@ pub gathered_ext :
     → Gathered Q rows buckets lanes old new
 gathered_ext p e =
     record { long = p.long; low = p.low; done = λ l v t i j k g. omega (arith, p.done l v t i j k g, e l v t i) }
-
--- what a function was given holds on
-pub source-on :
-    {bucket : ℕ → ℕ → ℕ → ℕ} {table table' st row pays : List ℕ} {s : Source} {rows lanes : ℕ}
-    → WideSource table st row pays s lanes → Gathered bucket rows s.buckets lanes table table'
-    → WideSource table' st row pays s lanes
-source-on g w =
-    record {
-      words = g.words;
-      low = g.low;
-      table_low = w.low;
-      table_long = w.long ∙ g.table_long;
-      narrow = g.narrow;
-      room = g.room;
-      left = g.left;
-      right = g.right;
-      needed = g.needed;
-      paid = g.paid;
-    }
-
-pub rows_on : {st st' row table : List ℕ} {k buckets lanes : ℕ} → ToRows st row table k buckets lanes → Low st'
-    → ToRows st' row table k buckets lanes
-rows_on g w =
-    record {
-      words = g.words;
-      low = w;
-      table_low = g.table_low;
-      table_long = g.table_long;
-      narrow = g.narrow;
-      cell = g.cell;
-      least = g.least;
-      most = g.most;
-    }
 
 -- ---- from a table without sources
 

@@ -7,14 +7,14 @@
 
 #![tactic(auto)]
 
-ghost use Rattle.std.specs.Prelude.{◌≡◌, ◌+◌, ◌-◌};
+ghost use Rattle.std.specs.Prelude.{◌≡◌, ◌-◌, length};
 ghost use Rattle.search_lanes.specs.Lowered.{LoweredAt};
-ghost use Rattle.search_lanes.specs.Lanes.{always, words_from};
+ghost use Rattle.search_lanes.specs.Lanes.{words_from};
 ghost use Rattle.search_lanes.specs.Store.{RowSaid, RowsSaid};
 ghost use Rattle.search_buckets.specs.Rows.{rows_of};
 ghost use Rattle.search_wide_buckets.specs.Table.{PosesAsked, OfferedBelow, TableFor, TableToClear, Cleared};
-ghost use Rattle.search_wide_buckets.specs.Table.{WordToLower, LanesToLower, GatheredIf, charged_by};
-ghost use Rattle.search_wide_buckets.specs.Table.{charged_one, LaneSpread, NearSpread, RowSpread, Spread};
+ghost use Rattle.search_wide_buckets.specs.Table.{RowToLower, LanesToLower, GatheredIf, paid_words};
+ghost use Rattle.search_wide_buckets.specs.Table.{charged_words, charged_one, LaneSpread, WordsSpread, Spread};
 ghost use Rattle.search_wide_buckets.specs.Table.{PoseSource, PosesSource, pose_in, poses_in};
 ghost use Rattle.search_wide_buckets.specs.Table.{RunUp, LaneLooks, found_in, found_row, found_row_of, RowFound};
 ghost use Rattle.search_wide_buckets.specs.Table.{ToRow, PoseToRow, PosesToRows};
@@ -44,8 +44,7 @@ pub fn reset(table: &mut [u32; search_store::TABLE], buckets: usize, poses: usiz
     ensures { Cleared (rows_of poses) lanes buckets table.new }
 {
     let rows = search_buckets::rows_of(poses);
-    let mut v: usize = 0;
-    while v < buckets {
+    for v in 0..buckets {
         search_lanes::fill_rows(
             table,
             v * search_store::BUCKET_WORDS,
@@ -53,67 +52,45 @@ pub fn reset(table: &mut [u32; search_store::TABLE], buckets: usize, poses: usiz
             lanes,
             search_lanes::NONE,
         );
-        v += 1;
     }
 }
 
 // ---- one source
 
-// One word lowered.
-fn lower_one(table: &mut [u32; search_store::TABLE], to: usize, x: u32)
-    requires { WordToLower table.old to x }
-    ensures { LoweredAt (always x) to 1 table.old table.new }
+// The words from `to` on lowered to a source's, with what it pays.
+fn lower_row(table: &mut [u32; search_store::TABLE], to: usize, words: &[u32], pay: u32)
+    requires { RowToLower table.old words.now to pay }
+    ensures { LoweredAt (paid_words words.now pay) to (length words.now)
+        table.old table.new }
 {
-    table[to] = search_lanes::lesser(table[to], x);
+    for (l, word) in words.iter().enumerate() {
+        table[to + l] = search_lanes::lesser(table[to + l], *word + pay);
+    }
 }
 
-// A source of cost x in one lane to row t of four buckets, those from `first` on: buckets 1
-// to 4 or 5 to 8, where row 0 does not count.
-fn spread_near(
+// A source's words in the lanes from `first` on, by its variant u: to row t of all buckets that are needed. Row 0
+// counts in bucket 0 alone.
+fn spread(
     table: &mut [u32; search_store::TABLE],
-    x: u32,
+    words: &[u32],
     pays: &[u32; search_buckets::PAY_WORDS],
     u: usize,
     t: usize,
-    lane: usize,
     first: usize,
+    buckets: usize,
 )
-    requires { NearSpread table.old pays.now x u t lane first }
-    ensures { Spread (charged_one x pays.now u) t first (first + 4) lane 1 table.old
-        table.new }
+    requires { WordsSpread table.old words.now pays.now buckets u t first }
+    ensures { Spread (charged_words words.now pays.now u) t 0 buckets first
+        (length words.now) table.old table.new }
 {
-    if t == 0 {
-        return;
-    }
-    let mut v: usize = 0;
-    while v < 4 {
-        lower_one(
-            table,
-            (first + v) * search_store::BUCKET_WORDS + t * search_store::MAX_LANES + lane,
-            x + pays[u * 9 + (first + v)],
-        );
-        v += 1;
+    let last = if t == 0 { 1 } else { buckets };
+    for v in 0..last {
+        let to = v * search_store::BUCKET_WORDS + t * search_store::MAX_LANES + first;
+        lower_row(table, to, words, pays[u * 9 + v]);
     }
 }
 
-// The same to bucket 0 and buckets 1 to 4.
-fn spread_one(
-    table: &mut [u32; search_store::TABLE],
-    x: u32,
-    pays: &[u32; search_buckets::PAY_WORDS],
-    u: usize,
-    t: usize,
-    lane: usize,
-)
-    requires { LaneSpread table.old pays.now 5 x u t lane }
-    ensures { Spread (charged_one x pays.now u) t 0 5 lane 1 table.old
-        table.new }
-{
-    lower_one(table, t * search_store::MAX_LANES + lane, x + pays[u * 9]);
-    spread_near(table, x, pays, u, t, lane, 1);
-}
-
-// The same to all buckets that are needed.
+// The same of cost x in one lane.
 pub fn spread_lane(
     table: &mut [u32; search_store::TABLE],
     x: u32,
@@ -127,76 +104,7 @@ pub fn spread_lane(
     ensures { Spread (charged_one x pays.now u) t 0 buckets lane 1 table.old
         table.new }
 {
-    spread_one(table, x, pays, u, t, lane);
-    if buckets == 5 {
-        return;
-    }
-    spread_near(table, x, pays, u, t, lane, 5);
-}
-
-// A source row, so many lanes, by its variant u: to row t of buckets 0 to 4, or of bucket 0 alone if t is 0. The
-// buckets of a lane are lowered together, so that each word of the row is read once.
-fn spread(
-    table: &mut [u32; search_store::TABLE],
-    row: &[u32],
-    at: usize,
-    pays: &[u32; search_buckets::PAY_WORDS],
-    u: usize,
-    t: usize,
-    lanes: usize,
-)
-    requires { RowSpread table.old row.now pays.now 5 at u t lanes }
-    ensures { Spread (charged_by row.now at pays.now u) t 0 5 0 lanes table.old
-        table.new }
-{
-    let mut l: usize = 0;
-    while l < lanes {
-        spread_one(table, row[at + l], pays, u, t, l);
-        l += 1;
-    }
-}
-
-// The same to buckets 5 to 8.
-fn spread_apart(
-    table: &mut [u32; search_store::TABLE],
-    row: &[u32],
-    at: usize,
-    pays: &[u32; search_buckets::PAY_WORDS],
-    u: usize,
-    t: usize,
-    lanes: usize,
-)
-    requires { RowSpread table.old row.now pays.now 9 at u t lanes }
-    ensures { Spread (charged_by row.now at pays.now u) t 5 9 0 lanes table.old
-        table.new }
-{
-    let mut l: usize = 0;
-    while l < lanes {
-        spread_near(table, row[at + l], pays, u, t, l, 5);
-        l += 1;
-    }
-}
-
-// The same to all buckets that are needed.
-fn spread_row(
-    table: &mut [u32; search_store::TABLE],
-    row: &[u32],
-    at: usize,
-    pays: &[u32; search_buckets::PAY_WORDS],
-    u: usize,
-    t: usize,
-    buckets: usize,
-    lanes: usize,
-)
-    requires { RowSpread table.old row.now pays.now buckets at u t lanes }
-    ensures { Spread (charged_by row.now at pays.now u) t 0 buckets 0 lanes
-        table.old table.new }
-{
-    spread(table, row, at, pays, u, t, lanes);
-    if buckets == 5 {
-        return;
-    }
-    spread_apart(table, row, at, pays, u, t, lanes);
+    spread(table, &[x], pays, u, t, lane, buckets);
 }
 
 // Pose b of a source: whether it lowered anything.
@@ -222,15 +130,15 @@ fn from_pose(
     if t >= rows {
         return false;
     }
-    spread_row(
+    let at = source.at + b * search_store::MAX_LANES;
+    spread(
         table,
-        store,
-        source.at + b * search_store::MAX_LANES,
+        &store[at..at + lanes],
         pays,
         b % 4,
         t,
+        0,
         source.buckets,
-        lanes,
     );
     true
 }
@@ -252,12 +160,8 @@ pub fn from_poses(
         rows source.buckets lanes table.old table.new }
 {
     let mut used = false;
-    let mut b: usize = 0;
-    while b < poses {
-        if from_pose(table, store, row, pays, source, b, rows, lanes) {
-            used = true;
-        }
-        b += 1;
+    for b in 0..poses {
+        used |= from_pose(table, store, row, pays, source, b, rows, lanes);
     }
     used
 }
@@ -270,10 +174,8 @@ fn lower_by(table: &mut [u32; search_store::TABLE], to: usize, from: usize, lane
     ensures { LoweredAt (words_from table.old from) to lanes table.old
         table.new }
 {
-    let mut l: usize = 0;
-    while l < lanes {
+    for l in 0..lanes {
         table[to + l] = search_lanes::lesser(table[to + l], table[from + l]);
-        l += 1;
     }
 }
 
@@ -282,16 +184,14 @@ pub fn run_up(table: &mut [u32; search_store::TABLE], poses: usize, lanes: usize
     requires { TableFor table.old poses lanes }
     ensures { RunUp (rows_of poses - 3) lanes table.old table.new }
 {
-    let last = (poses + 3) / 4;
-    let mut t: usize = 0;
-    while t < last {
+    let last = poses.div_ceil(4);
+    for t in 0..last {
         lower_by(
             table,
             search_store::MAX_LANES + t * search_store::MAX_LANES,
             t * search_store::MAX_LANES,
             lanes,
         );
-        t += 1;
     }
 }
 
@@ -328,12 +228,10 @@ fn put_row(
         store.new }
 {
     let mut x = search_lanes::NONE;
-    let mut l: usize = 0;
-    while l < lanes {
+    for l in 0..lanes {
         let y = search_lanes::lesser(own + found_lane(table, a, l, buckets), search_lanes::NONE);
         store[at + l] = y;
-        x = x & y;
-        l += 1;
+        x &= y;
     }
     x
 }
@@ -385,9 +283,7 @@ pub fn put_rows(
     ensures { RowsSaid (found_row_of buckets row.now table.now k) at poses lanes
         store.old store.new }
 {
-    let mut a: usize = 0;
-    while a < poses {
+    for a in 0..poses {
         put_pose(store, row, table, at, k, a, buckets, lanes);
-        a += 1;
     }
 }

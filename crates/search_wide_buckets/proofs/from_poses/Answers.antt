@@ -1,44 +1,30 @@
-use Prim.Native.Nat.{ℕ}
-use mathlib.Core.Path.{◌≡◌, refl, sym, ◌∙◌}
-use mathlib.Core.Bool.{true, false}
-use native.Mathlib.Omega.{arith}
-use Rattle.search_wide_buckets.specs.Table.{row_in}
-use Rattle.search_wide_buckets.specs.TableLaws.{gathered_none, gathered-join, source-on}
+use Rattle.std.proofs.Common.{◌≡◌, ◌||◌, Bool, true, false, ◌∙◌, arith, refl}
 use Rattle.search_buckets.specs.Sources.{poses-none, poses-more}
+use Rattle.search_wide_buckets.specs.Table.{row_in}
+use Rattle.search_wide_buckets.specs.TableLaws.{gathered_none, gathered-join}
 use Rattle.search_wide_buckets.proofs.from_poses.Goals as goal
-use Rattle.search_wide_buckets.proofs.from_poses.Goals.{then-from_pose, else-from_pose}
 
-true-false : true ≡ false → ⊥
-true-false e = let z : ◌≡◌ {A = ℕ} 0 1 = cc in omega arith
+neither : (s t : Bool) → (s || t) ≡ false → (s ≡ false) × (t ≡ false)
+neither false t e = (refl, e)
+neither true t e = cc
 
 pub loop-b-init : goal.loop-b-init
-loop-b-init c = (
-  omega arith,
-  gathered_none _ _ _ c.requires.source.table_low
-      (λ l v t i j h. omega (arith, poses-none c.args.row.now c.args.source.left c.args.source.right (row_in c.args.store.now c.args.source.at l) v t)),
-  λ e. refl,
-)
-
-pub from_pose-requires : goal.from_pose-requires
-from_pose-requires c =
-    let l = c.loop-b in
-    record { source = source-on c.requires.source l.invariant.1; pose = omega arith; few = omega arith }
+loop-b-init c =
+    let s = c.args.source in
+    record {
+      gathered = gathered_none _ _ _ c.requires.source.table_low
+          (λ l v t i j h. omega (arith, poses-none c.args.row.now s.left s.right (row_in c.args.store.now s.at l) v t));
+      unused = λ e. refl;
+    }
 
 pub loop-b-preserved : goal.loop-b-preserved
 loop-b-preserved c =
-    let l = c.loop-b in (
-      omega arith,
-      gathered-join l.invariant.1 c.from_pose.ensures.gathered
-          (λ j v t i. poses-more c.args.row.now c.args.source.left c.args.source.right (row_in c.args.store.now c.args.source.at j) l.b v t),
-      λ e.
-          elim c.if-from_pose.branch [
-            | then-from_pose w ↦ absurd (true-false (sym w.used-is ∙ e))
-            | else-from_pose w ↦ c.from_pose.ensures.unused w.if-from_pose.false ∙ l.invariant.2 (sym w.used-is ∙ e)
-          ],
-    )
-
-pub returns : goal.returns
-returns c =
     let l = c.loop-b in
-    let e : l.b ≡ c.args.poses = omega arith in
-    record { gathered = rw e at l.invariant.1; unused = l.invariant.2 }
+    let s = c.args.source in
+    record {
+      gathered = gathered-join l.invariant.gathered c.from_pose-used.ensures.gathered
+          (λ j v t i. poses-more c.args.row.now s.left s.right (row_in c.args.store.now s.at j) l.b v t);
+      unused = λ e.
+          let n = neither l.used _ e in
+          c.from_pose-used.ensures.unused n.1 ∙ l.invariant.unused n.0;
+    }

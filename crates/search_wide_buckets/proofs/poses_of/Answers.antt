@@ -1,8 +1,5 @@
 -- The bits that the words after the first site have in common make up B only if none of them is less.
-use Prim.Native.Nat.{ℕ, ◌+◌, ◌*◌, ◌-◌}
-use mathlib.Core.Path.{◌≡◌, ap}
-use native.Mathlib.Omega.{arith}
-use lib.ListN.{get_or}
+use Rattle.std.proofs.Common.{ℕ, ◌≡◌, ◌+◌, ◌*◌, ◌-◌, get_or, ap, arith}
 use Rattle.search_row.specs.Words.{cell_words, word_of}
 use Rattle.search_wide_buckets.proofs.poses_of.Goals as goal
 

@@ -1,11 +1,8 @@
--- Each turn lowers the buckets of one lane more.
-use Prim.Native.Nat.{◌-◌, ◌≤◌}
-use Rattle.search_wide_buckets.specs.Table.{charged_by, Spread}
+-- Each turn lowers row t of one bucket more.
+use Rattle.std.proofs.Common.{length}
+use Rattle.search_wide_buckets.specs.Table.{charged_words, Spread}
 use Rattle.search_wide_buckets.proofs.spread.Given as goal
 
-abbrev pub invariant-loop-l : goal.invariant-loop-l
-invariant-loop-l l =
-    (l.l ≤ l.lanes) × Spread (charged_by l.row l.at l.pays l.u) l.t 0 5 0 l.l l.initial.table l.table
-
-abbrev pub decreases-loop-l : goal.decreases-loop-l
-decreases-loop-l l = l.lanes - l.l
+abbrev pub invariant-loop-v : goal.invariant-loop-v
+invariant-loop-v l =
+    Spread (charged_words l.words l.pays l.u) l.t 0 l.v l.first (length l.words) l.initial.table l.table
