@@ -171,15 +171,16 @@ pub fn lowest_marked(marks: &[u32], count: usize) -> Option<u32>
     first.map(|k| k as u32 + 1)
 }
 
-// The marked cells, counted from 1, are written to the start of `list` in rising order; the answer is how many.
+// The marked cells, counted from 1, are written to the start of `list` in rising order; the answer is how many. There is
+// no heap, so the list is lent.
 pub fn list_marked(marks: &[u32], count: usize, list: &mut [u32]) -> usize
     requires { Arrays count marks.now list.old }
     ensures { CellsListed (map suc (keep (marked_in marks.now) (from 0 count))) result
         list.new }
 {
     let mut n: usize = 0;
-    for k in 0..count {
-        if marks[k] == 1 {
+    for (k, mark) in marks[..count].iter().enumerate() {
+        if *mark == 1 {
             list[n] = k as u32 + 1;
             n += 1;
         }
