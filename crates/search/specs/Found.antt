@@ -1,8 +1,8 @@
 -- What the search finds, in terms of the tables of the two rows: their least cost, if it is below B, and the pose
 -- numbers that a traceback through them notes.
-use Rattle.std.specs.Prelude.{ℕ, suc, ◌+◌, ◌/◌, ◌%◌, ◌≤◌, ◌<◌, ◌≡◌, Bool, true, false, List, length}
+use Rattle.std.specs.Prelude.{ℕ, suc, ◌+◌, ◌/◌, ◌%◌, ◌≤◌, ◌<◌, ◌≡◌, Bool, true, false, List, length, Option, MatchOption}
 use Rattle.std.proofs.Math.Path.{ap}
-use Rattle.std.proofs.Common.{◌∙◌, true≢false}
+use Rattle.std.proofs.Common.{◌∙◌}
 use Rattle.std.proofs.lemmas.Bool.{false≢true}
 use native.Mathlib.Omega.{arith}
 use Rattle.std.proofs.Math.ListN.{get_or}
@@ -13,6 +13,7 @@ use Rattle.theory_tables.specs.Stages.{least_cost}
 use Rattle.theory_tables.specs.Back.{Traced}
 use Rattle.theory_tables.specs.Notes.{NotedBy}
 use Rattle.search_row.specs.declared.Sizes.{Sizes}
+use Rattle.search.specs.declared.Found.{Found}
 use Rattle.search_row.specs.Words.{deck_in, pos_in, with_cells}
 use Rattle.search_join.specs.Tables.{cases_in}
 use Rattle.search_stage.specs.Stage.{wide, StagesGiven, RowsStages}
@@ -51,6 +52,20 @@ module _ (row₀ row₁ : List ℕ) (z : Sizes) (n₁ : ℕ) where
     pub stated : found ≡ true → cost ≡ least
     pub posed : found ≡ true → Posed poses
     pub numbers : (k : ℕ) → get_or poses k 0 < pose_slots
+
+  -- nothing where they come to B; else their least cost, and the poses of a traceback
+  abbrev pub FoundIfAny : Option Found → Type 0
+  FoundIfAny r = MatchOption r (least ≡ B) (λ f. RowsFound true f.cost f.poses)
+
+  -- nothing found, with any poses
+  pub found_none : {x : ℕ} {poses : List ℕ} → least ≡ B → ((k : ℕ) → get_or poses k 0 < pose_slots) → RowsFound false x poses
+  found_none e small = record {
+    none_when = λ _. e;
+    some_when = λ e. absurd (false≢true e);
+    stated = λ e. absurd (false≢true e);
+    posed = λ e. absurd (false≢true e);
+    numbers = small;
+  }
 
   -- ---- the least cost
 
@@ -107,24 +122,3 @@ module _ (row₀ row₁ : List ℕ) (z : Sizes) (n₁ : ℕ) where
   pub record PosesAnswered (poses : List ℕ) : Type 0 where
     pub posed : Posed poses
     pub numbers : (k : ℕ) → get_or poses k 0 < pose_slots
-
-  pub found_none : {old new poses : List ℕ} {x y : ℕ} → Costed old new y → B ≤ y
-      → ((k : ℕ) → get_or poses k 0 < pose_slots)
-      → RowsFound false x poses
-  found_none c h small = record {
-    none_when = λ _. omega (arith, c.cost, c.low);
-    some_when = λ e. absurd (false≢true e);
-    stated = λ e. absurd (false≢true e);
-    posed = λ e. absurd (false≢true e);
-    numbers = small;
-  }
-
-  pub found_some : {old new poses : List ℕ} {x : ℕ} → Costed old new x → x < B → PosesAnswered poses
-      → RowsFound true x poses
-  found_some c h a = record {
-    none_when = λ e. absurd (true≢false e);
-    some_when = λ _. omega (arith, c.cost);
-    stated = λ _. c.cost;
-    posed = λ _. a.posed;
-    numbers = a.numbers;
-  }

@@ -6,17 +6,16 @@ ghost use Rattle.std.specs.Prelude.{◌≡◌, ◌≤◌};
 ghost use Rattle.search_stage.specs.Stage.{wide, StagesGiven};
 ghost use Rattle.search.specs.Words.{words_for};
 ghost use Rattle.search.specs.Rows.{Asked, AskedLow};
-ghost use Rattle.search.specs.Found.{RowsFound, Costed, Answering, PosesAnswered};
+ghost use Rattle.search.specs.Found.{FoundIfAny, Costed, Answering, PosesAnswered};
 
 use search_row::Sizes;
 
 // Room for a path: a word for each place.
 const PATH_WORDS: usize = 128;
 
-// Whether there is a way of a cost below NONE; if so, the least cost and the pose number of each cell.
+// The least cost, and the pose number of each cell.
 #[derive(Drop)]
 pub struct Found {
-    pub some: bool,
     pub cost: u32,
     pub poses: [u32; search_row::MAX_CELLS],
 }
@@ -43,26 +42,18 @@ fn note(out: &mut [u32], store: &mut [u32], row0: &[u32], row1: &[u32], sizes: S
     search_back::scatter(out, &path1, row1, cells1);
 }
 
-// What the tables of both rows come to.
-fn find(store: &mut [u32], row0: &[u32], row1: &[u32], sizes: Sizes, cells1: usize) -> Found
+// What the tables of both rows come to: nothing where no way costs less than NONE.
+fn find(store: &mut [u32], row0: &[u32], row1: &[u32], sizes: Sizes, cells1: usize) -> Option<Found>
     requires { AskedLow row0.now row1.now sizes cells1 store.old }
-    ensures { RowsFound row0.now row1.now sizes cells1 result.some result.cost result.poses }
+    ensures { FoundIfAny row0.now row1.now sizes cells1 result }
 {
-    let mut poses = [0u32; search_row::MAX_CELLS];
     let cost = least_cost(store, row0, row1, sizes, cells1);
     if cost >= search_lanes::NONE {
-        return Found {
-            some: false,
-            cost: 0,
-            poses,
-        };
+        return None;
     }
+    let mut poses = [0u32; search_row::MAX_CELLS];
     note(&mut poses, store, row0, row1, sizes, cells1);
-    Found {
-        some: true,
-        cost,
-        poses,
-    }
+    Some(Found { cost, poses })
 }
 
 // How many words of the store a search needs: a page for each state of the largest table.
@@ -75,9 +66,15 @@ fn store_words(talls: usize, count: usize) -> usize
 }
 
 // Two rows with these sizes, of which row 1 has so many cells. Only the words that are needed are cleared and used.
-pub fn search(store: &mut [u32], row0: &[u32], row1: &[u32], sizes: Sizes, cells1: usize) -> Found
+pub fn search(
+    store: &mut [u32],
+    row0: &[u32],
+    row1: &[u32],
+    sizes: Sizes,
+    cells1: usize,
+) -> Option<Found>
     requires { Asked row0.now row1.now sizes cells1 store.old }
-    ensures { RowsFound row0.now row1.now sizes cells1 result.some result.cost result.poses }
+    ensures { FoundIfAny row0.now row1.now sizes cells1 result }
 {
     let words = store_words(sizes.talls, sizes.states);
     search_lanes::clear(&mut store[..words]);

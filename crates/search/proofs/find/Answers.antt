@@ -3,23 +3,11 @@ use native.Mathlib.Omega.{arith}
 use Rattle.definition.specs.Job.{max_cells}
 use Rattle.lists.specs.Zeros.{zeros_at}
 use Rattle.search.specs.Rows.{stages_given}
-use Rattle.search.specs.Found.{traceable, found_none, found_some}
+use Rattle.search.specs.Found.{traceable}
 use Rattle.search.proofs.find.Goals as goal
-
-pub least_cost-cost-requires : goal.least_cost-cost-requires
-least_cost-cost-requires c = stages_given c.requires
-
-pub returns-then-cost-ge-NONE : goal.returns-then-cost-ge-NONE
-returns-then-cost-ge-NONE c =
-    found_none c.args.row0.now c.args.row1.now c.args.sizes c.args.cells1 c.least_cost-cost.ensures (omega arith)
-    (λ k. omega (arith, zeros_at max_cells k))
 
 pub note-requires : goal.note-requires
 note-requires c =
     let g = stages_given c.requires in
     let t = traceable c.args.row0.now c.args.row1.now c.args.sizes c.args.cells1 g c.least_cost-cost.ensures (omega arith) in
     record { rows = c.requires.asked.rows; tables = t; room = omega arith; numbers = λ i. omega (arith, zeros_at max_cells i) }
-
-pub returns : goal.returns
-returns c =
-    found_some c.args.row0.now c.args.row1.now c.args.sizes c.args.cells1 c.least_cost-cost.ensures (omega arith) c.note.ensures

@@ -6,18 +6,6 @@ use Rattle.search_stage.specs.Laws.{given-first}
 use Rattle.search.specs.Found.{costed}
 use Rattle.search.proofs.least_cost.Goals as goal
 
-pub overflow_add-sizes : goal.overflow_add-sizes
-overflow_add-sizes c =
-    omega (arith, c.requires.given₀.few)
-
-pub case_at-requires : goal.case_at-requires
-case_at-requires c =
-    record { table = omega (arith, c.requires.given₀.few); state₀ = omega arith; state₁ = omega arith }
-
-pub offset_bounds-store-case_at : goal.offset_bounds-store-case_at
-offset_bounds-store-case_at c =
-    omega (arith, c.requires.given₀.few, c.case_at.ensures)
-
 pub bounds-store-case_at : goal.bounds-store-case_at
 bounds-store-case_at c =
     let t = c.requires.given₀.few in
