@@ -1,5 +1,5 @@
 -- The rows of a job as words: what the search asks of them, and what it then finds of the job.
-use Rattle.std.specs.Prelude.{ℕ, zero, suc, ◌≤◌, ◌≡◌, refl, Bool, true, false, cond, List, eqb}
+use Rattle.std.specs.Prelude.{ℕ, zero, suc, ◌≤◌, ◌≡◌, refl, Bool, true, false, cond, List, [], eqb, Option, None, Some}
 use Rattle.std.proofs.Common.{sym, ap, subst, arith}
 use Rattle.lists.specs.Compare.{Eq?, differs, eq?}
 use Rattle.definition.specs.Job.{Job, max_reordering}
@@ -19,9 +19,10 @@ use Rattle.search_row_fill.specs.Ready.{RowReady, same-sizes, ready-given}
 use Rattle.search_stage.specs.Laws.{wide_low}
 use Rattle.search.specs.Words.{words_for}
 use Rattle.search.specs.Rows.{RowsAsked}
-use Rattle.search.specs.Found.{RowsFound}
+use Rattle.search.specs.declared.Found.{Found}
+use Rattle.search.specs.Found.{RowsFound, FoundIfAny, found_none}
 use Rattle.search.specs.Pair.{RowOf, PairOf, pair-asked, pair_found}
-use Rattle.search_job.specs.Solved.{numbers_in, Solved}
+use Rattle.search_job.specs.Solved.{numbers_in, Solved, SolvedIfAny}
 
 -- ---- the store
 
@@ -104,3 +105,9 @@ module _ {j : Job} {words₀ words₁ : List ℕ} {z y : Sizes} (sound : Sound j
       stated = claim_stated j sound found x (numbers_in poses) of_pair;
       numbers = f.numbers;
     }
+
+  -- the same of what the search of the rows finds, if anything
+  pub solved_if_any : (r : Option Found) → FoundIfAny words₀ words₁ z y.cells r → SolvedIfAny j r
+  solved_if_any None e =
+      (solved (found_none words₀ words₁ z y.cells {x = 0} {poses = []} e (λ k. omega arith))).none_when refl
+  solved_if_any (Some f) w = solved w

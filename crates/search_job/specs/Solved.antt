@@ -1,5 +1,5 @@
 -- What the search of a job is given, and what it finds.
-use Rattle.std.specs.Prelude.{ℕ, ◌≤◌, ◌<◌, ◌≡◌, Bool, true, false, List, length, get_or}
+use Rattle.std.specs.Prelude.{ℕ, ◌≤◌, ◌<◌, ◌≡◌, Bool, true, false, List, length, get_or, Option, MatchOption}
 use Rattle.std.proofs.Math.Option.{none, some}
 use Rattle.definition.specs.Job as paper
 use Rattle.definition.specs.Cost.{cost}
@@ -9,6 +9,7 @@ use Rattle.theory_tables.specs.Steps.{pose_slots}
 use Rattle.job.specs.declared.Job.{Job}
 use Rattle.job.specs.Value.{job_of}
 use Rattle.job.specs.Accepted.{Accepted}
+use Rattle.search.specs.declared.Found.{Found}
 use Rattle.theory_claim.specs.Claim.{placement_by_numbers}
 
 -- an accepted job, and a store that is large enough, whatever its words
@@ -26,3 +27,7 @@ pub record Solved (j : paper.Job) (found : Bool) (least : ℕ) (poses : List ℕ
   pub some_when : found ≡ true → Cheapest j (some (placement_by_numbers j (numbers_in poses)))
   pub stated : found ≡ true → cost j (placement_by_numbers j (numbers_in poses)) ≡ least
   pub numbers : (k : ℕ) → get_or poses k 0 < pose_slots
+
+-- the same of what is found, if anything is
+abbrev pub SolvedIfAny : paper.Job → Option Found → Type 0
+SolvedIfAny j r = MatchOption r (Cheapest j none) (λ f. Solved j true f.cost f.poses)

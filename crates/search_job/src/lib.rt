@@ -5,7 +5,7 @@
 ghost use Rattle.std.specs.Prelude.{◌≡◌};
 ghost use Rattle.definition.specs.Outcome.{store_for};
 ghost use Rattle.job.specs.Value.{job_of};
-ghost use Rattle.search_job.specs.Solved.{JobAsked, Solved};
+ghost use Rattle.search_job.specs.Solved.{JobAsked, SolvedIfAny};
 
 use job::{Header, Job};
 use search::Found;
@@ -25,10 +25,10 @@ pub fn store_needed(header: Header) -> usize
     STORE_WORDS
 }
 
-// Whether a placement is legal; if so, the least cost and the pose number of each cell.
-pub fn search_job(job: Job, store: &mut [u32]) -> Found
+// The least cost of a legal placement, and the pose number of each cell; nothing where no placement is legal.
+pub fn search_job(job: Job, store: &mut [u32]) -> Option<Found>
     requires { JobAsked job store.old }
-    ensures { Solved (job_of job) result.some result.cost result.poses }
+    ensures { SolvedIfAny (job_of job) result }
 {
     let mut row0 = [0u32; search_row::WORDS];
     let mut row1 = [0u32; search_row::WORDS];

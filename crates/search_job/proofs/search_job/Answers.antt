@@ -8,7 +8,7 @@ use Rattle.job.specs.declared.Job.{Job}
 use Rattle.job.specs.Accepted.{Accepted}
 use Rattle.job.specs.Value.{header_of, job_of}
 use Rattle.search_row_fill.specs.Lent.{RowToFill}
-use Rattle.search_job.specs.Rows.{words-lent, asked, solved}
+use Rattle.search_job.specs.Rows.{words-lent, asked, solved_if_any}
 use Rattle.search_job.proofs.search_job.Goals as goal
 
 -- an array of zeros, to be filled
@@ -35,4 +35,4 @@ search-requires c =
 pub returns : goal.returns
 returns c =
     let k = c.requires in
-    solved k.accepted.sound c.fill_row-sizes.ensures c.fill_row-other.ensures c.search.ensures
+    solved_if_any k.accepted.sound c.fill_row-sizes.ensures c.fill_row-other.ensures c.search.result c.search.ensures
