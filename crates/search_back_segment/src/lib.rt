@@ -121,8 +121,8 @@ pub fn trace(store: &[u32], path: &mut [u32], row: Row, i: usize, d: usize, q: u
     trace(store, path, row, i, d - 1, from.state, from.pose);
 }
 
-// The kept word of state q in pose b with all n cells placed, with what its cell pays as the row's last; NONE if the row
-// has no such cell, or it is tall.
+// The kept word of state q in pose b with all n cells placed, with what its cell pays as the row's last; NONE if the
+// row has no such cell, or it is tall.
 fn last_word(store: &[u32], row: Row, q: usize, b: usize) -> u32
     requires { LastAsked row.words.now store.now row.sizes q b }
     ensures { result ≡ last_of (deck_in row.entry.words.now row.entry.sizes) row.entry.sizes.reordering

@@ -10,7 +10,7 @@ ghost use Rattle.search_back_stage.specs.Rows.{start_cells, StartState, StartRoo
 use search_row::{Row, tall_at};
 
 // A stage in one row: from its start's state in a lane, that is, in a pose, to a state of its tall cell in a pose, or
-// to the row's end.
+// to the row's end. Stage 0 reads no start and no lane; they are no Options, as the clause of stage_trace names them.
 #[derive(Drop)]
 pub struct RowLeg {
     pub stage: usize,

@@ -35,10 +35,7 @@ pub fn starts(row: Row, i: usize, m: u32, q: usize) -> bool
     requires { StateKnown row.words.now row.sizes.reordering i q }
     ensures { result ≡ starts_at row.entry.sizes.cells row.entry.sizes.reordering i m q }
 {
-    if !row.is_there(i, q) {
-        return false;
-    }
-    m == row.words[search_row::STATES + q * 4 + 2]
+    row.is_there(i, q) && m == row.words[search_row::STATES + q * 4 + 2]
 }
 
 // The marks before anything is placed.

@@ -9,6 +9,7 @@ ghost use Rattle.search_job.specs.Solved.{JobAsked, SolvedIfAny};
 
 use job::{Header, Job};
 use search::Found;
+use search_row::Rows;
 
 // How many words a job asks for: those that leave room for three states, and for twelve.
 const STORE_WORDS: usize = 1048576;
@@ -34,5 +35,11 @@ pub fn search_job(job: Job, store: &mut [u32]) -> Option<Found>
     let mut row1 = [0u32; search_row::WORDS];
     let sizes = search_row_fill::fill_row(&mut row0, job, 0);
     let other = search_row_fill::fill_row(&mut row1, job, 1);
-    search::search(store, &row0, &row1, sizes, other.cells)
+    let rows = Rows {
+        row0: &row0,
+        row1: &row1,
+        sizes,
+        cells1: other.cells,
+    };
+    search::search(store, rows)
 }

@@ -8,7 +8,7 @@ ghost use Rattle.search_join.specs.Sums.{WaySums, WaysAdded, Sums, SumsFrom, Sum
 ghost use Rattle.search_join.specs.Sums.{SumsGiven, AllSummed};
 
 // A row of lanes for each of twelve states; and from SUM_FLAGS on a flag for each, 0 if its row is NONE in every lane,
-// whatever its words.
+// whatever its words. They stand as in the store, so that the laws of its rows serve for both.
 pub const SUM_WORDS: usize = 780;
 
 pub const SUM_FLAGS: usize = 768;
@@ -52,7 +52,8 @@ pub fn fill_commons(commons: &mut [u32; COMMON_WORDS], store: &[u32], join: Join
 
 // ---- the sums
 
-// The first sums of a row: the cases at `at` with the costs at p0.
+// The first sums of a row: the cases at `at` with the costs at p0. It is not lower_sums over a row of NONE, which would
+// have to be filled first: each row would be gone over twice.
 fn put_sums(
     sums: &mut [u32; SUM_WORDS],
     to: usize,

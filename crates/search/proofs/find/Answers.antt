@@ -9,5 +9,5 @@ use Rattle.search.proofs.find.Goals as goal
 pub note-requires : goal.note-requires
 note-requires c =
     let g = stages_given c.requires in
-    let t = traceable c.args.row0.now c.args.row1.now c.args.sizes c.args.cells1 g c.least_cost-cost.ensures (omega arith) in
+    let t = traceable c.args.rows.row0.now c.args.rows.row1.now c.args.rows.sizes c.args.rows.cells1 g c.least_cost-cost.ensures (omega arith) in
     record { rows = c.requires.asked.rows; tables = t; room = omega arith; numbers = λ i. omega (arith, zeros_at max_cells i) }

@@ -9,8 +9,8 @@ use Rattle.search.proofs.least_cost.Goals as goal
 pub bounds-store-case_at : goal.bounds-store-case_at
 bounds-store-case_at c =
     let t = c.requires.given₀.few in
-    omega (arith, c.case_at.ensures, given-first c.requires (c.args.sizes.talls + 1) (omega arith), c.stages.ensures.long)
+    omega (arith, c.case_at.ensures, given-first c.requires (c.args.rows.sizes.talls + 1) (omega arith), c.stages.ensures.long)
 
 pub returns : goal.returns
 returns c =
-    costed c.args.row0.now c.args.row1.now c.args.sizes c.args.cells1 c.case_at.ensures refl c.stages.ensures
+    costed c.args.rows.row0.now c.args.rows.row1.now c.args.rows.sizes c.args.rows.cells1 c.case_at.ensures refl c.stages.ensures
