@@ -12,9 +12,9 @@ use Rattle.definition.specs.FaultLine.{Part, of_job, of_placement, part_at, faul
 use Rattle.op_fault.specs.Part.{part_of, PieceOf}
 use Rattle.op_fault.specs.declared.Piece.{Piece}
 use Rattle.op_fault.specs.Fault.{Reported}
-use Rattle.results.specs.declared.Refusal.{Refusal}
+use Rattle.op_fault.specs.declared.Report.{Report}
 
-pub fault-part : (job placement : Text) (f : Refusal) → Reported job placement f → part_at f.number f.line job placement ≡ fault_line job placement
+pub fault-part : (job placement : Text) (f : Report) → Reported job placement f → part_at f.number f.line job placement ≡ fault_line job placement
 unfolding fault_line
 fault-part job placement f h = ap₂ (λ n l. part_at n l job placement) h.number h.line
 

@@ -6,25 +6,39 @@ ghost use Rattle.std.specs.Prelude.{◌≡◌, ◌≤◌, ◌+◌, ◌<◌, leng
 ghost use Rattle.definition.specs.Outcome.{over};
 ghost use Rattle.definition.specs.FaultLine.{fault_line, part_at, Very, ToldFault, CopiedFault};
 ghost use Rattle.op_fault.specs.Part.{PieceOf, NextLine, LineAt, part_of};
-ghost use Rattle.op_fault.specs.Fault.{Reported};
+ghost use Rattle.op_fault.specs.Fault.{ScoreRefuses, Reported};
 
 use job_read::read_job;
 use placement_read::read_placement;
 use results::Refusal;
 use text_scan::line_end;
 
+// A refusal by its number and line; both 0 for none.
+#[derive(Clone, Copy)]
+struct Report {
+    number: u32,
+    line: u32,
+}
+
 // What Score refuses: 1 to 4 as Read does, then 5.
-fn reported(job: &[u8], placement: &[u8]) -> Refusal
+fn accepted(job: &[u8], placement: &[u8]) -> Result<(), Refusal>
+    ensures { ScoreRefuses job.now placement.now result }
+{
+    let j = read_job(job)?;
+    read_placement(placement, j.count)?;
+    Ok(())
+}
+
+fn reported(job: &[u8], placement: &[u8]) -> Report
     ensures { Reported job.now placement.now result }
 {
-    let r = read_job(job);
-    let refusal = r.refusal;
-    if refusal.number != 0 {
-        return refusal;
+    match accepted(job, placement) {
+        Ok(()) => Report { number: 0, line: 0 },
+        Err(refusal) => Report {
+            number: refusal.number(),
+            line: refusal.line(),
+        },
     }
-    let j = r.job;
-    let p = read_placement(placement, j.count);
-    p.refusal
 }
 
 // Where the line is that Score reports.
@@ -48,13 +62,11 @@ pub fn fault_line<'a>(job: &'a [u8], placement: &'a [u8]) -> &'a [u8]
 fn put_words(results: &mut [u64], words: [u64; 3])
     ensures { results.new ≡ over words results.old }
 {
-    let mut i = 0;
-    while i < 3 {
+    for i in 0..3 {
         if results.len() <= i {
             return;
         }
         results[i] = words[i];
-        i += 1;
     }
 }
 
@@ -73,13 +85,11 @@ pub fn tell_fault(job: &[u8], placement: &[u8], results: &mut [u64]) -> u32
 fn copy(line: &[u8], output: &mut [u8])
     ensures { output.new ≡ over line.now output.old }
 {
-    let mut i = 0;
-    while i < line.len() {
+    for i in 0..line.len() {
         if output.len() <= i {
             return;
         }
         output[i] = line[i];
-        i += 1;
     }
 }
 
@@ -108,7 +118,8 @@ pub struct Span {
     pub size: usize,
 }
 
-// A part of the job text (which 0) or of the placement text (1).
+// A part of the job text (which 0) or of the placement text (1): numbers, as the host is told them, and as the clause of
+// very_part takes any.
 #[derive(Drop)]
 pub struct Piece {
     pub which: u32,
@@ -132,10 +143,8 @@ fn line_span(text: &[u8], n: u32) -> Span
     ensures { LineAt text.now n result }
 {
     let mut at = 0;
-    let mut i = 1;
-    while i < n {
+    for i in 1..n {
         at = next_line(text, at);
-        i += 1;
     }
     let end = next_line(text, at);
     Span {

@@ -1,4 +1,5 @@
 pub mod Accepted
+pub mod Buffers
 pub mod Poses
 pub mod Fields
 pub mod Answers

@@ -10,12 +10,14 @@ ghost use Rattle.results.specs.Fields.{Listed};
 ghost use Rattle.op_place.specs.Poses.{ToPose, PoseBy, ByNumber, Numbered};
 ghost use Rattle.op_place.specs.Fields.{fields_in, ReadyText, WroteAnswer};
 ghost use Rattle.op_place.specs.Accepted.{Enough, Answered, ToAnswer};
+ghost use Rattle.op_place.specs.Buffers.{ReadWithBuffers};
 
 use job::{Cell, Job, Placement, Pose};
 use job_read::read_job;
 use placement_write::put_placement;
 use results::{Fields, Refusal, answer, refuse};
 use score_numbers::{number_count, numbers_of, push_numbers};
+use search::Found;
 use search_job::{search_job, store_needed};
 
 // What is asked of the output: bytes for each cell.
@@ -30,19 +32,10 @@ fn pose_of(limit: u32, cell: Cell, a: u32) -> Pose
     ensures { PoseBy limit cell.given a result }
 {
     let x = cell.given + a / 4;
-    let layout = a % 4 / 2;
-    let mark = a % 2;
-    if x < limit {
-        return Pose {
-            site: 0,
-            layout,
-            mark,
-        };
-    }
     Pose {
-        site: x - limit,
-        layout,
-        mark,
+        site: x.saturating_sub(limit),
+        layout: a % 4 / 2,
+        mark: a % 2,
     }
 }
 
@@ -52,17 +45,11 @@ fn placement_of(job: Job, poses: [u32; Job::MAX_CELLS]) -> Placement
     ensures { Numbered job poses result }
 {
     let mut placement = Placement::empty();
-    let count = job.count;
-    placement.count = count;
-    let header = job.header;
-    let mut k: usize = 0;
-    while k < count {
+    placement.count = job.count;
+    for k in 0..job.count {
         let cell = job.cells[k];
-        let a = poses[k];
-        let offer = job::offer_of(header, cell);
-        let pose = pose_of(offer.limit, cell, a);
-        placement.poses[k] = pose;
-        k += 1;
+        let offer = job::offer_of(job.header, cell);
+        placement.poses[k] = pose_of(offer.limit, cell, poses[k]);
     }
     placement
 }
@@ -109,43 +96,42 @@ fn place_job(
         (lent store.old output.old results.old)
         (lent store.new output.new results.new) }
 {
-    let found: search::Found = search_job(job, &mut *store);
+    let found = search_job(job, &mut *store);
     search_lanes::clear(store);
-    let some = found.some;
-    if !some {
-        refuse(results, Refusal { number: 8, line: 0 }, count + LENGTH);
-        return 8;
+    match found {
+        Some(Found { poses, .. }) => {
+            put_answer(job, count, poses, output, results);
+            0
+        }
+        None => refuse(results, Refusal::NoLegal, count + LENGTH),
     }
-    let poses = found.poses;
-    put_answer(job, count, poses, output, results);
-    0
 }
 
-// Place: refusals 1 to 4 as Read, then 6 and 7 by the buffers, then 8 or an answer.
+// The job that a text says, for buffers of so many words and bytes: refusals 1 to 4 as Read, then 6 and 7.
+fn read_with_buffers(job: &[u8], words: usize, room: usize) -> Result<Job, Refusal>
+    ensures { ReadWithBuffers job.now words room result }
+{
+    let j = read_job(job)?;
+    let words_asked = store_needed(j.header);
+    if words < words_asked {
+        return Err(Refusal::Store);
+    }
+    let bytes_asked = LINE_BYTES * j.count;
+    if room < bytes_asked {
+        return Err(Refusal::Output);
+    }
+    Ok(j)
+}
+
+// Place: a refusal by the job or the buffers, then 8 or an answer.
 pub fn place_texts(job: &[u8], store: &mut [u32], output: &mut [u8], results: &mut [i32]) -> u32
     ensures { Placed job.now result
         (lent store.old output.old results.old)
         (lent store.new output.new results.new) }
 {
     let count = number_count(job);
-    let fields = count + LENGTH;
-    let r = read_job(job);
-    let refusal = r.refusal;
-    let number = refusal.number;
-    if number != 0 {
-        refuse(results, refusal, fields);
-        return number;
+    match read_with_buffers(job, store.len(), output.len()) {
+        Ok(j) => place_job(j, count, store, output, results),
+        Err(refusal) => refuse(results, refusal, count + LENGTH),
     }
-    let j = r.job;
-    let words = store_needed(j.header);
-    let room = LINE_BYTES * j.count;
-    if store.len() < words {
-        refuse(results, Refusal { number: 6, line: 0 }, fields);
-        return 6;
-    }
-    if output.len() < room {
-        refuse(results, Refusal { number: 7, line: 0 }, fields);
-        return 7;
-    }
-    place_job(j, count, store, output, results)
 }

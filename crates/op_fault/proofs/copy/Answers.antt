@@ -20,26 +20,11 @@ long c = ap length c.loop-i.invariant.1 ∙ simp length_over
 whole : (line output : List ℕ) → over (take (length line) line) output ≡ over line output
 whole line output = ap (λ (l : List ℕ). over l output) (take_all (length line) line (omega arith))
 
-pub shape_of-output-then-output-i : goal.shape_of-output-then-output-i
-shape_of-output-then-output-i c = long (goal.at-shape_of-output-then-output-i c).At-loop-i
-
 pub returns-then-output-i : goal.returns-then-output-i
 returns-then-output-i c =
     c.loop-i.invariant.1
     ∙ over_full c.args.line.now c.args.output.now c.loop-i.i (length c.args.line.now) (omega (arith, long (goal.at-returns-then-output-i c).At-loop-i)) c.loop-i.invariant.0
     ∙ whole c.args.line.now c.args.output.now
-
-pub bounds-line-i : goal.bounds-line-i
-bounds-line-i c = omega arith
-
-pub bounds-output-i : goal.bounds-output-i
-bounds-output-i c = omega arith
-
-pub overflow_add-i : goal.overflow_add-i
-overflow_add-i c = omega arith
-
-pub loop-i-smaller : goal.loop-i-smaller
-loop-i-smaller c = omega arith
 
 pub loop-i-preserved : goal.loop-i-preserved
 loop-i-preserved c =
@@ -48,11 +33,3 @@ loop-i-preserved c =
       omega arith,
       ap (λ (x : List ℕ). set x i (get_or c.args.line.now i 0)) c.loop-i.invariant.1 ∙ over-more c.args.line.now c.args.output.now i 0 (omega arith) (omega arith),
     )
-
-pub shape_of-output : goal.shape_of-output
-shape_of-output c = long (goal.at-shape_of-output c).At-loop-i
-
-pub returns : goal.returns
-returns c =
-    let n : c.loop-i.i ≡ length c.args.line.now = omega arith in
-    c.loop-i.invariant.1 ∙ ap (λ (k : ℕ). over (take k c.args.line.now) c.args.output.now) n ∙ whole c.args.line.now c.args.output.now

@@ -1,5 +1,5 @@
 -- The loop's invariant: the first i bytes are laid over the output, as far as it reaches.
-use Prim.Native.Nat.{◌-◌, ◌≤◌}
+use Prim.Native.Nat.{◌≤◌}
 use mathlib.Core.Path.{◌≡◌}
 use lib.ListN.{length, take}
 use Rattle.definition.specs.Outcome.{over}
@@ -7,6 +7,3 @@ use Rattle.op_fault.proofs.copy.Given as goal
 
 abbrev pub invariant-loop-i : goal.invariant-loop-i
 invariant-loop-i l = (l.i ≤ length l.line) × (l.output ≡ over (take l.i l.line) l.initial.output)
-
-abbrev pub decreases-loop-i : goal.decreases-loop-i
-decreases-loop-i l = length l.line - l.i

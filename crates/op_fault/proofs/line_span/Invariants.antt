@@ -5,6 +5,3 @@ use Rattle.op_fault.proofs.line_span.Given as goal
 
 abbrev pub invariant-loop-i : goal.invariant-loop-i
 invariant-loop-i l = (l.i - 1 ≤ l.n - 1) × From l.text l.i l.at
-
-abbrev pub decreases-loop-i : goal.decreases-loop-i
-decreases-loop-i l = l.n - l.i

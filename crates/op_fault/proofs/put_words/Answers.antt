@@ -13,9 +13,6 @@ pub loop-i-init : goal.loop-i-init
 unfolding over
 loop-i-init c = (omega arith, search rules, refl)
 
-pub shape_of-results-then-results-i : goal.shape_of-results-then-results-i
-shape_of-results-then-results-i c = ap length c.loop-i.invariant.2 ∙ simp length_over
-
 pub returns-then-results-i : goal.returns-then-results-i
 returns-then-results-i c =
     let w = c.args.words in
@@ -23,24 +20,6 @@ returns-then-results-i c =
     c.loop-i.invariant.2
     ∙ over_full w c.args.results.now c.loop-i.i 3 (omega arith) (omega arith)
     ∙ ap (λ (l : List ℕ). over l c.args.results.now) (take_all 3 w (omega arith))
-
-pub offset_bounds-words-i : goal.offset_bounds-words-i
-offset_bounds-words-i c = omega arith
-
-pub bounds-words-i : goal.bounds-words-i
-bounds-words-i c = omega arith
-
-pub offset_bounds-results-i : goal.offset_bounds-results-i
-offset_bounds-results-i c = omega arith
-
-pub bounds-results-i : goal.bounds-results-i
-bounds-results-i c = omega arith
-
-pub overflow_add-i : goal.overflow_add-i
-overflow_add-i c = omega arith
-
-pub loop-i-smaller : goal.loop-i-smaller
-loop-i-smaller c = omega arith
 
 pub loop-i-preserved : goal.loop-i-preserved
 loop-i-preserved c =
@@ -52,12 +31,3 @@ loop-i-preserved c =
       c.loop-i.invariant.1,
       ap (λ (l : List ℕ). set l i (get_or w i 0)) c.loop-i.invariant.2 ∙ over-more w r i 0 (omega arith) (omega arith),
     )
-
-pub shape_of-results : goal.shape_of-results
-shape_of-results c = ap length c.loop-i.invariant.2 ∙ simp length_over
-
-pub returns : goal.returns
-returns c =
-    let w = c.args.words in
-    c.loop-i.invariant.2
-    ∙ ap (λ (l : List ℕ). over l c.args.results.now) (take_all c.loop-i.i w (omega arith))

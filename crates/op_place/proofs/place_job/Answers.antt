@@ -1,4 +1,4 @@
--- `op_place::place_job` meets its contract: the search is given a store that is long enough, the store is zero after it, and what is found is 8 or the answer.
+-- The search is given a store that is long enough, the store is zero after it, and what is found is 8 or the answer.
 use mathlib.Core.Path.{◌≡◌, refl, ap, ◌∙◌}
 use native.Mathlib.Omega.{arith}
 use lib.ListN.{length, replicate}
@@ -10,32 +10,34 @@ search_job-found-requires c =
     let k = c.requires in
     record { accepted = record { sound = k.taken.sound; few = k.taken.few; many = k.taken.many }; long = k.store }
 
-pub returns-then-not-some : goal.returns-then-not-some
-returns-then-not-some c =
-    let long : length c.search_job-found.new.store ≡ length c.args.store.now = omega arith in
-    answered-none c.args.store.now c.args.output.now c.args.results.now c.args.count
-    (c.search_job-found.ensures.none_when c.if-not-some.true)
-    (c.clear.ensures ∙ ap (λ n. replicate n 0) long)
-    c.refuse.ensures
-
 pub put_answer-requires : goal.put_answer-requires
 put_answer-requires c =
-    let o = c.search_job-found.ensures in
+    let o = c.in-Some.ensures in
     record {
       chosen = record {
         taken = c.requires.taken;
         numbers = o.numbers;
-        legal = (o.some_when c.if-not-some.false).legal _ refl;
+        legal = (o.some_when refl).legal _ refl;
         output = c.requires.output;
       };
       many = c.requires.many;
     }
 
-pub returns : goal.returns
-returns c =
-    let o = c.search_job-found.ensures in
+pub returns-in-Some : goal.returns-in-Some
+returns-in-Some c =
     let long : length c.search_job-found.new.store ≡ length c.args.store.now = omega arith in
-    answered-some c.args.store.now c.args.output.now c.args.results.now c.args.job c.args.count c.search_job-found.result.poses
-    (o.some_when c.if-not-some.false)
+    answered-some c.args.store.now c.args.output.now c.args.results.now c.args.job c.args.count c.in-Some.poses
+    (c.in-Some.ensures.some_when refl)
     (c.clear.ensures ∙ ap (λ n. replicate n 0) long)
     c.put_answer.ensures
+
+pub refuse-requires : goal.refuse-requires
+refuse-requires c = record { line = omega arith; few = omega (arith, c.requires.many.seven) }
+
+pub returns-in-None : goal.returns-in-None
+returns-in-None c =
+    let long : length c.search_job-found.new.store ≡ length c.args.store.now = omega arith in
+    answered-none c.args.store.now c.args.output.now c.args.results.now c.args.count
+    c.in-None.ensures
+    (c.clear.ensures ∙ ap (λ n. replicate n 0) long)
+    c.refuse.ensures.array

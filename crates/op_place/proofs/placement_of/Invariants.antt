@@ -1,10 +1,7 @@
 -- `op_place::placement_of` meets its contract: each turn puts one cell's pose, and those put before stay.
-use Prim.Native.Nat.{◌-◌, ◌≤◌}
+use Prim.Native.Nat.{◌≤◌}
 use Rattle.op_place.specs.Poses.{PosesSofar}
 use Rattle.op_place.proofs.placement_of.Given as goal
 
 abbrev pub invariant-loop-k : goal.invariant-loop-k
 invariant-loop-k l = (l.k ≤ l.count) × PosesSofar l.job l.poses l.placement l.k
-
-abbrev pub decreases-loop-k : goal.decreases-loop-k
-decreases-loop-k l = l.count - l.k
