@@ -1,6 +1,6 @@
 -- What the texts are refused by, and that the room that is asked of the output is enough for every sentence.
-use Rattle.std.specs.Prelude.{ℕ, ◌≤◌, ◌≡◌, List, length, take}
-use Rattle.std.proofs.Common.{ap, subst, arith}
+use Rattle.std.specs.Prelude.{ℕ, ◌^◌, ◌<◌, ◌≤◌, ◌≡◌, Result, MatchResult, List, length, take}
+use Rattle.std.proofs.Common.{ap, arith}
 use Rattle.definition.specs.Texts.{Text}
 use Rattle.definition.specs.Outcome.{refused_by, text_field_count}
 use Rattle.definition.specs.Reasons as definition
@@ -9,21 +9,34 @@ use Rattle.job.specs.declared.Job.{Job}
 use Rattle.job.specs.declared.Placement.{Placement}
 use Rattle.job.specs.Value.{job_of, placement_of}
 use Rattle.job.specs.Ready.{Ready}
-use Rattle.text_write.specs.Put.{Wrote}
 use Rattle.texts_read.specs.declared.Texts.{Texts}
-use Rattle.texts_read.specs.Reading.{TextsRead, as_refused}
-use Rattle.results.specs.Refusals.{refusal_of}
+use Rattle.texts_read.specs.Reading.{BothRead, TextsRefused, as_refused}
+use Rattle.results.specs.declared.Refusal.{Refusal}
+use Rattle.results.specs.Refusals.{refusal_of, line_of}
 use Rattle.score_reason.specs.declared.Reason.{Reason}
 use Rattle.score_reason.specs.Reasons.{ReasonIs}
 use Rattle.reason_write.specs.Sentences.{SentenceRoom}
 use Rattle.reason_laws.specs.Breakers.{is_reason}
 use Rattle.reason_laws.specs.Lengths.{sentence-short}
 
--- Score's refusal
-pub texts-refused : {job placement : Text} {r : Texts} → TextsRead job placement r → (r.refusal.number ≡ 0 → ⊥)
-    → (room : ℕ) → reasons job placement room ≡ refused_by text_field_count (refusal_of r.refusal)
+-- both texts, and an output that 11 does not refuse
+pub record RoomToo (job placement : Text) (room : ℕ) (t : Texts) : Type 0 where
+  pub both : BothRead job placement t
+  pub enough : reasons_room ≤ room
+
+-- or what is refused, at a line that a signed number can tell
+pub record ReasonsRefused (job placement : Text) (room : ℕ) (f : Refusal) : Type 0 where
+  pub outcome : reasons job placement room ≡ refused_by text_field_count (refusal_of f)
+  pub line : line_of f < 2 ^ 31
+
+abbrev pub ReadWithRoom : Text → Text → ℕ → Result Texts Refusal → Type 0
+ReadWithRoom job placement room r =
+    MatchResult r (λ t. RoomToo job placement room t) (λ f. ReasonsRefused job placement room f)
+
+pub texts-refused : {job placement : Text} {f : Refusal} → TextsRefused job placement f
+    → (room : ℕ) → ReasonsRefused job placement room f
 unfolding reasons
-texts-refused t d room = as_refused t d text_field_count (reasons_refusals room) reasons_answer
+texts-refused t room = record { outcome = as_refused t text_field_count (reasons_refusals room) reasons_answer; line = t.line }
 
 -- a job and a placement that may be scored, and an output that 11 does not refuse
 pub record ReasonRoom (job : Job) (placement : Placement) (output : List ℕ) : Type 0 where
@@ -60,8 +73,3 @@ module _ {job : Job} {placement : Placement} {output : List ℕ} {r : Reason} (r
       );
     };
   }
-
-  pub sentence_wrote : {end : List ℕ} {k : ℕ}
-      → Wrote (sentence (record { rule = r.rule; cells = take r.count r.cells })) output 0 end k
-      → Wrote (sentence (reason_at job placement)) output 0 end k
-  sentence_wrote {end} {k} w = subst (λ (v : definition.Reason). Wrote (sentence v) output 0 end k) (same_reason h) w

@@ -1,11 +1,6 @@
 -- The reason found is the definition's, and its sentence fits.
-use Rattle.op_reasons.specs.Answers.{sentence-room, sentence_wrote}
+use Rattle.op_reasons.specs.Answers.{sentence-room}
 use Rattle.op_reasons.proofs.put_reason.Goals as goal
 
 pub put_sentence-requires : goal.put_sentence-requires
-put_sentence-requires c =
-    sentence-room c.requires c.reason_of-r.ensures
-
-pub returns : goal.returns
-returns c =
-    sentence_wrote c.requires c.reason_of-r.ensures c.put_sentence.ensures
+put_sentence-requires c = sentence-room c.requires c.reason_of-r.ensures
