@@ -29,9 +29,9 @@ pub fn mark_each<F: Fn(usize) -> bool>(count: usize, marks: &mut [u32], breaks: 
 }
 
 // Rule 1: a layout or a mirror mark that the cell is not offered.
-pub fn mark_unoffered(job: Job, placement: Placement, marks: &mut [u32])
-    requires { ByOffer job placement marks.old }
-    ensures { Added job.count (breaks1 (job_of job) (placement_of placement)) marks.old marks.new }
+pub fn mark_unoffered(job: &Job, placement: &Placement, marks: &mut [u32])
+    requires { ByOffer job.now placement.now marks.old }
+    ensures { Added job.now.count (breaks1 (job_of job.now) (placement_of placement.now)) marks.old marks.new }
 {
     mark_each(
         job.count,
@@ -41,9 +41,9 @@ pub fn mark_unoffered(job: Job, placement: Placement, marks: &mut [u32])
 }
 
 // Rule 3: a site too far from the given one.
-pub fn mark_far(job: Job, placement: Placement, marks: &mut [u32])
-    requires { ByOffer job placement marks.old }
-    ensures { Added job.count (breaks3 (job_of job) (placement_of placement)) marks.old marks.new }
+pub fn mark_far(job: &Job, placement: &Placement, marks: &mut [u32])
+    requires { ByOffer job.now placement.now marks.old }
+    ensures { Added job.now.count (breaks3 (job_of job.now) (placement_of placement.now)) marks.old marks.new }
 {
     mark_each(
         job.count,
@@ -171,8 +171,8 @@ pub fn lowest_marked(marks: &[u32], count: usize) -> Option<u32>
     first.map(|k| k as u32 + 1)
 }
 
-// The marked cells, counted from 1, are written to the start of `list` in rising order; the answer is how many. There is
-// no heap, so the list is lent.
+// The marked cells, counted from 1, are written to the start of `list` in rising order; the answer is how many. The
+// list is lent, since there is no heap.
 pub fn list_marked(marks: &[u32], count: usize, list: &mut [u32]) -> usize
     requires { Arrays count marks.now list.old }
     ensures { CellsListed (map suc (keep (marked_in marks.now) (from 0 count))) result

@@ -38,15 +38,15 @@ fn kept(rule: u32, count: usize, marks: &[u32]) -> Result<(), Breach>
 
 // The rules in their order, up to the first that is broken.
 fn keep_rules(
-    job: Job,
-    placement: Placement,
+    job: &Job,
+    placement: &Placement,
     words: &[u32],
     order0: &[u32],
     order1: &[u32],
     marks: &mut [u32],
 ) -> Result<(), Breach>
-    requires { Board job placement words.now order0.now order1.now marks.old }
-    ensures { VerdictMarked (job_of job) (placement_of placement) job.count (result_err result) marks.new }
+    requires { Board job.now placement.now words.now order0.now order1.now marks.old }
+    ensures { VerdictMarked (job_of job.now) (placement_of placement.now) job.now.count (result_err result) marks.new }
 {
     let header = job.header;
     let count = job.count;
@@ -81,8 +81,8 @@ pub fn judge(job: Job, placement: Placement, marks: &mut [u32]) -> Option<Breach
     let mut order1 = [0u32; Job::MAX_CELLS];
     let start1 = order_row(&words, count, 1, &mut order1);
     keep_rules(
-        job,
-        placement,
+        &job,
+        &placement,
         &words,
         &order0[start0..],
         &order1[start1..],

@@ -6,4 +6,4 @@ use Rattle.score_cell_rules.specs.Marks.{tried-added}
 use Rattle.score_cell_rules.proofs.mark_far.Goals as goal
 
 pub returns : goal.returns
-returns c = tried-added (breaks3 (job_of c.args.job) (placement_of c.args.placement)) c.mark_each.ensures (λ k b h t. search (rules, tests, site-asked))
+returns c = tried-added (breaks3 (job_of c.args.job.now) (placement_of c.args.placement.now)) c.mark_each.ensures (λ k b h t. search (rules, tests, site-asked))
