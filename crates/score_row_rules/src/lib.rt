@@ -42,7 +42,7 @@ pub fn mark_gaps(words: &[u32], count: usize, order0: &[u32], order1: &[u32], ma
     mark_row_gaps(words, order1, marks);
 }
 
-// The place of each cell in a list; the list's length for a cell that is not there.
+// The first place of each cell in a list; the list's length for a cell that is not there.
 fn places_of(list: &[u32]) -> [u32; Job::MAX_CELLS]
     requires { Cells list.now }
     ensures { PlacesFrom 0 list.now result }
