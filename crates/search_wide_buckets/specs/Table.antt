@@ -43,12 +43,11 @@ pub record TableToClear (table : List ℕ) (buckets poses lanes : ℕ) : Type 0 
   pub table_for : TableFor table poses lanes
   pub most : buckets ≤ 9
 
--- the words of a table from `to` on, to be lowered to a source's with what it pays
-pub record RowToLower (table words : List ℕ) (to pay : ℕ) : Type 0 where
+-- a word of a table, to be lowered to x
+pub record WordToLower (table : List ℕ) (to x : ℕ) : Type 0 where
   pub lent : TableLent table
-  pub low : Low words
-  pub room : to + length words ≤ table_words
-  pub cost : pay ≤ B
+  pub room : to < table_words
+  pub cost : x ≤ B + B
 
 -- so many lanes of it from `to` on, to be lowered to those from `from` on, which lie before them
 pub record LanesToLower (table : List ℕ) (to from lanes : ℕ) : Type 0 where
@@ -91,13 +90,9 @@ pub record Spread (f : ℕ → ℕ → ℕ) (t least last first lanes : ℕ) (ol
   pub other : (l v s : ℕ) → l < max_lanes → (l < first) ⊎ (first + lanes ≤ l) → s < bucket_rows
       → word_at new l v s ≡ word_at old l v s
 
--- words, each with what is paid
-abbrev pub paid_words : List ℕ → ℕ → ℕ → ℕ
-paid_words words pay l = get_or words l 0 + pay
-
--- the same by bucket, with what a variant pays there
+-- a variant's pays for a row's words, by bucket
 abbrev pub charged_words : List ℕ → List ℕ → ℕ → ℕ → ℕ → ℕ
-charged_words words pays u v = paid_words words (get_or pays (u * 9 + v) 0)
+charged_words words pays u v l = get_or words l 0 + get_or pays (u * 9 + v) 0
 
 -- the same for one lane, whose word is x
 abbrev pub charged_one : ℕ → List ℕ → ℕ → ℕ → ℕ → ℕ
@@ -113,11 +108,17 @@ pub record LaneSpread (table pays : List ℕ) (n x u t lane : ℕ) : Type 0 wher
   pub here : t < bucket_rows
   pub inside : lane < max_lanes
 
--- a source to be put to row t in the lanes from `first` on, by its words there
-pub record WordsSpread (table words pays : List ℕ) (n u t first : ℕ) : Type 0 where
+-- the same to the four buckets of a kind of gap, those from `first` on
+pub record NearSpread (table pays : List ℕ) (x u t lane first : ℕ) : Type 0 where
+  pub spread : LaneSpread table pays (first + 4) x u t lane
+  pub least : 1 ≤ first
+  pub most : first ≤ 5
+
+-- the words of a source to be put to row t, one for each lane
+pub record WordsSpread (table words pays : List ℕ) (n u t : ℕ) : Type 0 where
   pub lent : TableLent table
   pub low : Low words
-  pub inside : first + length words ≤ max_lanes
+  pub narrow : length words ≤ max_lanes
   pub needed : FiveOrNine n
   pub paid : PaysLow n pays
   pub kind : u < 4

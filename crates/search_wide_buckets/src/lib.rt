@@ -7,14 +7,14 @@
 
 #![tactic(auto)]
 
-ghost use Rattle.std.specs.Prelude.{◌≡◌, ◌-◌, length};
+ghost use Rattle.std.specs.Prelude.{◌≡◌, ◌+◌, ◌-◌, length};
 ghost use Rattle.search_lanes.specs.Lowered.{LoweredAt};
-ghost use Rattle.search_lanes.specs.Lanes.{words_from};
+ghost use Rattle.search_lanes.specs.Lanes.{always, words_from};
 ghost use Rattle.search_lanes.specs.Store.{RowSaid, RowsSaid};
 ghost use Rattle.search_buckets.specs.Rows.{rows_of};
 ghost use Rattle.search_wide_buckets.specs.Table.{PosesAsked, OfferedBelow, TableFor, TableToClear, Cleared};
-ghost use Rattle.search_wide_buckets.specs.Table.{RowToLower, LanesToLower, GatheredIf, paid_words};
-ghost use Rattle.search_wide_buckets.specs.Table.{charged_words, charged_one, LaneSpread, WordsSpread, Spread};
+ghost use Rattle.search_wide_buckets.specs.Table.{WordToLower, LanesToLower, GatheredIf, charged_words};
+ghost use Rattle.search_wide_buckets.specs.Table.{charged_one, LaneSpread, NearSpread, WordsSpread, Spread};
 ghost use Rattle.search_wide_buckets.specs.Table.{PoseSource, PosesSource, pose_in, poses_in};
 ghost use Rattle.search_wide_buckets.specs.Table.{RunUp, LaneLooks, found_in, found_row, found_row_of, RowFound};
 ghost use Rattle.search_wide_buckets.specs.Table.{ToRow, PoseToRow, PosesToRows};
@@ -57,40 +57,38 @@ pub fn reset(table: &mut [u32; search_store::TABLE], buckets: usize, poses: usiz
 
 // ---- one source
 
-// The words from `to` on lowered to a source's, with what it pays.
-fn lower_row(table: &mut [u32; search_store::TABLE], to: usize, words: &[u32], pay: u32)
-    requires { RowToLower table.old words.now to pay }
-    ensures { LoweredAt (paid_words words.now pay) to (length words.now)
-        table.old table.new }
+// One word lowered.
+fn lower_one(table: &mut [u32; search_store::TABLE], to: usize, x: u32)
+    requires { WordToLower table.old to x }
+    ensures { LoweredAt (always x) to 1 table.old table.new }
 {
-    for (l, word) in words.iter().enumerate() {
-        table[to + l] = search_lanes::lesser(table[to + l], *word + pay);
-    }
+    table[to] = search_lanes::lesser(table[to], x);
 }
 
-// A source's words in the lanes from `first` on, by its variant u: to row t of all buckets that are needed. Row 0
-// counts in bucket 0 alone.
-fn spread(
+// A source of cost x in one lane to row t of the four buckets of a kind of gap: those from `first` on, 1 or 5.
+fn spread_near(
     table: &mut [u32; search_store::TABLE],
-    words: &[u32],
+    x: u32,
     pays: &[u32; search_buckets::PAY_WORDS],
     u: usize,
     t: usize,
+    lane: usize,
     first: usize,
-    buckets: usize,
 )
-    requires { WordsSpread table.old words.now pays.now buckets u t first }
-    ensures { Spread (charged_words words.now pays.now u) t 0 buckets first
-        (length words.now) table.old table.new }
+    requires { NearSpread table.old pays.now x u t lane first }
+    ensures { Spread (charged_one x pays.now u) t first (first + 4) lane 1 table.old
+        table.new }
 {
-    let last = if t == 0 { 1 } else { buckets };
-    for v in 0..last {
-        let to = v * search_store::BUCKET_WORDS + t * search_store::MAX_LANES + first;
-        lower_row(table, to, words, pays[u * 9 + v]);
+    for v in first..first + 4 {
+        lower_one(
+            table,
+            v * search_store::BUCKET_WORDS + t * search_store::MAX_LANES + lane,
+            x + pays[u * 9 + v],
+        );
     }
 }
 
-// The same of cost x in one lane.
+// The same to all buckets that are needed; row 0 counts in bucket 0 alone.
 pub fn spread_lane(
     table: &mut [u32; search_store::TABLE],
     x: u32,
@@ -104,7 +102,32 @@ pub fn spread_lane(
     ensures { Spread (charged_one x pays.now u) t 0 buckets lane 1 table.old
         table.new }
 {
-    spread(table, &[x], pays, u, t, lane, buckets);
+    lower_one(table, t * search_store::MAX_LANES + lane, x + pays[u * 9]);
+    if t > 0 {
+        spread_near(table, x, pays, u, t, lane, 1);
+    }
+    if t > 0 && buckets == 9 {
+        spread_near(table, x, pays, u, t, lane, 5);
+    }
+}
+
+// The words of a source row, by its variant u. The buckets of a lane are lowered together, so that each word is read
+// once.
+fn spread_row(
+    table: &mut [u32; search_store::TABLE],
+    words: &[u32],
+    pays: &[u32; search_buckets::PAY_WORDS],
+    u: usize,
+    t: usize,
+    buckets: usize,
+)
+    requires { WordsSpread table.old words.now pays.now buckets u t }
+    ensures { Spread (charged_words words.now pays.now u) t 0 buckets 0
+        (length words.now) table.old table.new }
+{
+    for (l, word) in words.iter().enumerate() {
+        spread_lane(table, *word, pays, u, t, l, buckets);
+    }
 }
 
 // Pose b of a source: whether it lowered anything.
@@ -131,13 +154,12 @@ fn from_pose(
         return false;
     }
     let at = source.at + b * search_store::MAX_LANES;
-    spread(
+    spread_row(
         table,
         &store[at..at + lanes],
         pays,
         b % 4,
         t,
-        0,
         source.buckets,
     );
     true

@@ -34,13 +34,13 @@ returns-then-store-source-eq0 c =
       unused = λ e. refl;
     }
 
-pub spread-requires : goal.spread-requires
-spread-requires c =
+pub spread_row-requires : goal.spread_row-requires
+spread_row-requires c =
     let g = c.requires.source in
     record {
       lent = record { long = g.table_long; low = g.table_low };
       low = part_low _ _ _ g.low;
-      inside = grind (arith, common_steps);
+      narrow = grind (arith, common_steps);
       needed = g.needed;
       paid = pays-low g.words g.paid;
       kind = omega arith;
@@ -54,7 +54,7 @@ returns c =
     let at : ℕ = s.at + c.args.b * max_lanes in
     let all : length (take (at + c.args.lanes - at) (drop at st)) ≡ c.args.lanes = grind (arith, common_steps) in
     record {
-      gathered = spread-all c.requires.few (rw all at c.spread.ensures)
+      gathered = spread-all c.requires.few (rw all at c.spread_row.ensures)
           (λ l v r i j. ap (λ (x : ℕ). one_pose c.args.row.now s.left s.right c.args.b x v r)
           (said-word _ _ c.if-store-source-eq0.false ∙ sym (part_word st at c.args.lanes l i))
           ∙ pose-pays c.args.b v r (get_or (take (at + c.args.lanes - at) (drop at st)) l 0) c.requires.source.paid
