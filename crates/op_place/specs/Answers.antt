@@ -139,7 +139,8 @@ module _ (store output : List ℕ) (results : List ℤ) where
         enough : buffer_refusal (job_of job) (length store) (length output) ≡ 0
         enough = rw (
           le-leb (store_needed (job_of job)) (length store) f.store,
-          le-leb (output_needed (job_of job)) (length output) f.output) refl
+          le-leb (output_needed (job_of job)) (length output) f.output,
+        ) refl
 
 -- ---- what refuses
 

@@ -17,7 +17,6 @@ use job_read::read_job;
 use placement_write::put_placement;
 use results::{Fields, Refusal, answer, refuse};
 use score_numbers::{number_count, numbers_of, push_numbers};
-use search::Found;
 use search_job::{search_job, store_needed};
 
 // What is asked of the output: bytes for each cell.
@@ -99,7 +98,8 @@ fn place_job(
     let found = search_job(job, &mut *store);
     search_lanes::clear(store);
     match found {
-        Some(Found { poses, .. }) => {
+        Some(found) => {
+            let poses = found.poses;
             put_answer(job, count, poses, output, results);
             0
         }

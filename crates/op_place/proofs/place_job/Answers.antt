@@ -26,7 +26,7 @@ put_answer-requires c =
 pub returns-in-Some : goal.returns-in-Some
 returns-in-Some c =
     let long : length c.search_job-found.new.store ≡ length c.args.store.now = omega arith in
-    answered-some c.args.store.now c.args.output.now c.args.results.now c.args.job c.args.count c.in-Some.poses
+    answered-some c.args.store.now c.args.output.now c.args.results.now c.args.job c.args.count c.in-Some.found.poses
     (c.in-Some.ensures.some_when refl)
     (c.clear.ensures ∙ ap (λ n. replicate n 0) long)
     c.put_answer.ensures
@@ -37,7 +37,8 @@ refuse-requires c = record { line = omega arith; few = omega (arith, c.requires.
 pub returns-in-None : goal.returns-in-None
 returns-in-None c =
     let long : length c.search_job-found.new.store ≡ length c.args.store.now = omega arith in
-    answered-none c.args.store.now c.args.output.now c.args.results.now c.args.count
+    rw c.refuse.ensures.number
+    (answered-none c.args.store.now c.args.output.now c.args.results.now c.args.count
     c.in-None.ensures
     (c.clear.ensures ∙ ap (λ n. replicate n 0) long)
-    c.refuse.ensures.array
+    c.refuse.ensures.array)

@@ -20,6 +20,9 @@ returns-in-Ok c =
     placed-answered c.args.store.now c.args.output.now c.args.results.now c.args.job.now c.number_count-count.result
     c.number_count-count.ensures c.in-Ok.ensures c.place_job.ensures
 
+pub overflow_add-count : goal.overflow_add-count
+overflow_add-count c = omega (arith, (many (goal.at-overflow_add-count c).After-number_count-count).seven)
+
 pub refuse-requires : goal.refuse-requires
 refuse-requires c =
     record { line = c.in-Err.ensures.line; few = omega (arith, (many (goal.at-refuse-requires c).After-number_count-count).seven) }

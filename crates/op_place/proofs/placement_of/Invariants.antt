@@ -4,4 +4,4 @@ use Rattle.op_place.specs.Poses.{PosesSofar}
 use Rattle.op_place.proofs.placement_of.Given as goal
 
 abbrev pub invariant-loop-k : goal.invariant-loop-k
-invariant-loop-k l = (l.k ≤ l.count) × PosesSofar l.job l.poses l.placement l.k
+invariant-loop-k l = (l.k ≤ l.job.count) × PosesSofar l.job l.poses l.placement l.k
