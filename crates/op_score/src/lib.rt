@@ -3,11 +3,11 @@
 #![tactic(auto)]
 
 ghost use Rattle.definition.specs.Rules.{verdict};
-ghost use Rattle.definition.specs.Outcome.{score_field_count, refused_by, score_fields, score};
+ghost use Rattle.std.specs.Prelude.{◌≡◌};
+ghost use Rattle.definition.specs.Outcome.{number_count, score_field_count, score_fields, score};
 ghost use Rattle.job.specs.Value.{job_of, placement_of};
 ghost use Rattle.results.specs.Fields.{Listed};
-ghost use Rattle.results.specs.Refusals.{refusal_of};
-ghost use Rattle.op_score.specs.Scores.{ToRefuse, ToScore, Scores};
+ghost use Rattle.op_score.specs.Scores.{ToScore, Scores};
 
 use job::{Job, Placement};
 use results::{Fields, Refusal};
@@ -17,23 +17,6 @@ use texts_read::read_texts;
 
 // Rule and cell, which stand before the numbers.
 const FIRST: usize = 2;
-
-#[derive(Drop)]
-pub struct Scored {
-    pub refusal: Refusal,
-    pub fields: Fields,
-}
-
-// A refusal, with so many numbers of zero.
-fn refused(refusal: Refusal, count: usize) -> Scored
-    requires { ToRefuse refusal count }
-    ensures { Scores (refused_by (score_field_count count) (refusal_of refusal)) result }
-{
-    Scored {
-        refusal,
-        fields: Fields::zeros(FIRST + count),
-    }
-}
 
 // The fields of a placement: rule and cell, or 0, 0 and so many numbers.
 fn fields_of(job: Job, placement: Placement, count: usize) -> Fields
@@ -52,17 +35,16 @@ fn fields_of(job: Job, placement: Placement, count: usize) -> Fields
     push_numbers(fields, numbers_of(job, placement), count)
 }
 
-pub fn score_texts(job: &[u8], placement: &[u8]) -> Scored
-    ensures { Scores (score job.now placement.now) result }
+// How many fields Score has, which are all 0 where it refuses.
+pub fn field_count(job: &[u8]) -> usize
+    ensures { result ≡ score_field_count (number_count job.now) }
 {
-    let count = number_count(job);
-    let t = read_texts(job, placement);
-    let refusal = t.refusal;
-    if refusal.number != 0 {
-        return refused(refusal, count);
-    }
-    let j = t.job;
-    let poses = t.placement;
-    let fields = fields_of(j, poses, count);
-    Scored { refusal, fields }
+    FIRST + number_count(job)
+}
+
+pub fn score_texts(job: &[u8], placement: &[u8]) -> Result<Fields, Refusal>
+    ensures { Scores (score job.now placement.now) (score_field_count (number_count job.now)) result }
+{
+    let texts = read_texts(job, placement)?;
+    Ok(fields_of(texts.job, texts.placement, number_count(job)))
 }

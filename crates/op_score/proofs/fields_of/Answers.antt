@@ -46,9 +46,6 @@ module _ (job : Job) (P : Placement) {v : told.Verdict} (t : Judged (verdict (jo
   cell-low : Ready job P → v.cell < 2 ^ 31
   cell-low ready = omega (arith, same-cell, (small job P).cell, ready.accepted.sound.few)
 
-pub verdict_of-v-requires : goal.verdict_of-v-requires
-verdict_of-v-requires c = c.requires.ready
-
 pub overflow_cast-rule : goal.overflow_cast-rule
 overflow_cast-rule c = record { sfits = omega (arith, rule-low c.args.job c.args.placement c.verdict_of-v.ensures) }
 
@@ -69,23 +66,6 @@ two c =
       ← to_z_pos w32 (cell-low c.args.job c.args.placement v c.requires.ready),
     ) (more-then c.push-fields.ensures c.push-fields-2.ensures)
 
-pub push_numbers-requires : goal.push_numbers-requires
-push_numbers-requires c =
-    let many = c.requires.many in
-    record {
-      many = many;
-      room = omega (arith, (two (goal.at-push_numbers-requires c).After-push-fields-2).count, c.empty-fields.ensures.count, many.seven);
-      small = rw c.zero.ensures
-          (record {
-            steps = omega arith;
-            shifted = omega arith;
-            mirrored = omega arith;
-            changed = omega arith;
-            cost = omega arith;
-            filled = omega arith;
-          });
-    }
-
 pub returns-then-rule-ne0 : goal.returns-then-rule-ne0
 unfolding verdict-at
 returns-then-rule-ne0 c =
@@ -102,11 +82,6 @@ returns-then-rule-ne0 c =
           ∙ broken-fields n j P (verdict j P) c.requires.many.seven (λ z. c.if-rule-ne0.true (same-rule c.args.job c.args.placement c.verdict_of-v.ensures ∙ z));
       few = omega (arith, all.count, c.empty-fields.ensures.count, length-take c.args.count (numbers_in c.zero.result));
     }
-
-pub push_numbers-requires-2 : goal.push_numbers-requires-2
-push_numbers-requires-2 c =
-    let many = c.requires.many in
-    record { many = many; room = omega (arith, (two (goal.at-push_numbers-requires-2 c).After-push-fields-2).count, c.empty-fields.ensures.count, many.seven); small = c.numbers_of.ensures.small }
 
 pub returns : goal.returns
 unfolding verdict-at
