@@ -21,8 +21,8 @@ use native.Mathlib.Omega.{arith}
 use Rattle.score_words.proofs.flatten.Invariants.{WordsFilled}
 use Rattle.score_words.proofs.flatten.Goals as goal
 
-pub overflow_add-end : goal.overflow_add-end
-overflow_add-end c =
+pub overflow_add-words : goal.overflow_add-words
+overflow_add-words c =
     let k : ℕ = c.loop-k.k in
     let job : Job = c.args.job in
     let h : k < length (job_of job).cells = omega (arith, c.requires.ready.accepted.many) in
@@ -53,9 +53,8 @@ loop-k-preserved c =
     let job : Job = c.args.job in
     let P : Placement = c.args.placement in
     let w : List ℕ = c.loop-k.words in
-    rw c.put_four.ensures
-    (more job P w k _ (omega arith) (omega (arith, c.requires.ready.accepted.few)) (omega (arith, c.requires.ready.each))
-    (ap (λ x. (pose_at P k).site + x) c.width_of.ensures) m)
+    more job P w k _ (omega arith) (omega (arith, c.requires.ready.accepted.few)) (omega (arith, c.requires.ready.each))
+    (ap (λ x. (pose_at P k).site + x) c.width_of.ensures) m
 
 -- all cells, and those that there are not
 all : (job : Job) (P : Placement) (w : List ℕ) (n : ℕ) → WordsFilled job P w n → n ≡ job.count → P.count ≡ job.count → (k : ℕ) (t : Bool)
