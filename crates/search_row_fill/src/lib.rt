@@ -24,7 +24,6 @@ use search_row::Sizes;
 // ---- what a cell costs
 
 // Whether rules 1 to 3 allow the cell pose number a.
-#[tactic(auto, unfolding(theory_bridge::specs::Paired::is_offered, theory_bridge::specs::Paired::pose_number, theory_bridge::specs::Paired::width_of, job::specs::Value::header_of, job::specs::Value::cell_of))]
 fn is_offered(header: Header, cell: Cell, a: u32) -> bool
     requires { CellPose header cell a }
     ensures { result ≡ is_offered (one header cell) 0 a }
