@@ -1,7 +1,6 @@
--- Laws of what is found in the three arrays, and of dense layers, one state more at a time.
-use Rattle.std.specs.Prelude.{ℕ, zero, suc, ◌+◌, ◌*◌, ◌-◌, ◌/◌, ◌%◌, ◌≤◌, ◌<◌, min, ◌≡◌, refl, ◌≢◌, Bool, true, false, cond, List, length, get_or, set, replicate, eqb}
+-- Laws of what is found in the buckets, and of dense layers, one state more at a time.
+use Rattle.std.specs.Prelude.{ℕ, zero, suc, ◌+◌, ◌*◌, ◌-◌, ◌/◌, ◌%◌, ◌≤◌, ◌<◌, min, ◌≡◌, refl, ◌≢◌, Bool, true, false, cond, List, length, get_or, set, eqb}
 use Rattle.std.proofs.Common.{sym, ap, ap₂, ◌∙◌, arith, below_more, length-set, get_or-set_same, get_or-set_other}
-use Rattle.std.proofs.Math.Decide.{dec_lt}
 use Rattle.std.proofs.lemmas.List.{length-replicate, get_or-replicate}
 use Rattle.lists.specs.Compare.{Eq?, same, differs, eq?}
 use Rattle.lists.specs.Numbers.{from}
@@ -14,9 +13,10 @@ use Rattle.search_buckets.specs.Gaps.{paying}
 use Rattle.search_buckets.specs.Loops.{lowest_ext}
 use Rattle.search_buckets.specs.Rows.{found}
 use Rattle.search_buckets.specs.Next.{next_ext}
-use Rattle.search_dense_layer.specs.Laws.{apart_yes}
-use Rattle.search_dense_layer.specs.Thin.{variant_words, thin_in, ThinArrays, ThinGathered, FarRunUp, found_by}
-use Rattle.search_dense_layer.specs.Thin.{other_of, Put, Stepped}
+use Rattle.search_dense_layer.specs.Laws.{apart_yes, lent-on}
+use Rattle.search_dense_layer.specs.declared.Buckets.{Buckets}
+use Rattle.search_dense_layer.specs.Thin.{variant_words, empty_buckets, thin_in, ThinArrays, ThinGathered}
+use Rattle.search_dense_layer.specs.Thin.{FarRunUp, RunUp, shared, found_by, Put, Stepped}
 
 -- ---- what is found
 
@@ -60,15 +60,15 @@ unfolding lowest
 paying-min h l = omega arith
 
 -- the words that a pose looks up, where the arrays have the buckets
-pub found-words :
-    (bucket : ℕ → ℕ → ℕ) (near apart far : List ℕ) (a : ℕ)
+found-words :
+    (bucket : ℕ → ℕ → ℕ) (b : Buckets) (a : ℕ)
     → ((v t : ℕ) → bucket v t ≤ B)
-    → ((v t : ℕ) → v < 4 → t < bucket_rows → get_or near (t * 4 + v) 0 ≡ bucket (1 + v) t)
-    → ((v t : ℕ) → v < 4 → t < bucket_rows → get_or apart (t * 4 + v) 0 ≡ bucket (5 + v) t)
-    → ((t : ℕ) → t < 15 → get_or far t 0 ≡ lowest B (bucket 0) (from 0 (suc t)))
-    → a < max_poses → found_by near apart far (a / 4) (a % 4) ≡ found bucket a
+    → ((v t : ℕ) → v < 4 → t < bucket_rows → get_or b.near (t * 4 + v) 0 ≡ bucket (1 + v) t)
+    → ((v t : ℕ) → v < 4 → t < bucket_rows → get_or b.apart (t * 4 + v) 0 ≡ bucket (5 + v) t)
+    → ((t : ℕ) → t < 15 → get_or b.far t 0 ≡ lowest B (bucket 0) (from 0 (suc t)))
+    → a < max_poses → found_by b (a / 4) (a % 4) ≡ found bucket a
 unfolding found
-found-words bucket near apart far a low n p f h =
+found-words bucket b a low n p f h =
     let e : ℕ = a / 4 in
     let v : ℕ = a % 4 in
     let x0 : bucket (1 + v) (e + 4) ≡ bucket (1 + v) (e + 4 - 0) = ap (bucket (1 + v)) (omega arith) in
@@ -81,28 +81,8 @@ found-words bucket near apart far a low n p f h =
     (low (5 + a % 4) (a / 4 + 4 - 3))))
     (f (a / 4) (omega arith))
 
--- where buckets 5 to 8 are
-pub other-nine : (buckets : ℕ) (near apart : List ℕ) → buckets ≡ 9 → other_of buckets near apart ≡ apart
-other-nine buckets near apart h = go (eqb buckets 9) (eq? buckets 9)
-  where
-    go : (z : Bool) → Eq? buckets 9 z → cond z apart near ≡ apart
-    go true (same e) = refl
-    go false (differs d) = absurd (d h)
-
-pub other-five : (buckets : ℕ) (near apart : List ℕ) → buckets ≢ 9 → other_of buckets near apart ≡ near
-other-five buckets near apart h = go (eqb buckets 9) (eq? buckets 9)
-  where
-    go : (z : Bool) → Eq? buckets 9 z → cond z apart near ≡ near
-    go true (same e) = absurd (h e)
-    go false (differs d) = refl
-
--- a pose by its site and its variant
-pub pose-by : (near apart far : List ℕ) (e v : ℕ) → v < 4
-    → found_by near apart far e v ≡ found_by near apart far ((e * 4 + v) / 4) ((e * 4 + v) % 4)
-pose-by near apart far e v h = ap₂ (λ (s w : ℕ). found_by near apart far s w) (omega arith) (omega arith)
-
 -- arrays in which nothing is gathered yet
-pub lent_none : ThinArrays (replicate variant_words B) (replicate variant_words B) (replicate bucket_rows B)
+pub lent_none : ThinArrays empty_buckets
 lent_none =
     record {
       near_long = length-replicate {A = ℕ} variant_words B;
@@ -113,100 +93,98 @@ lent_none =
       far_low = nones_low bucket_rows;
     }
 
--- far rows that ran up, and one array in two places
-pub lent-run : {near apart far far' : List ℕ} {n : ℕ} → ThinArrays near apart far → FarRunUp n far far'
-    → ThinArrays near apart far'
-lent-run l r =
-    record {
-      near_long = l.near_long;
-      apart_long = l.apart_long;
-      far_long = r.long ∙ l.far_long;
-      near_low = l.near_low;
-      apart_low = l.apart_low;
-      far_low = r.low;
-    }
-
-pub lent_twin : {near apart far : List ℕ} → ThinArrays near apart far → ThinArrays near near far
-lent_twin l =
-    record {
-      near_long = l.near_long;
-      apart_long = l.near_long;
-      far_long = l.far_long;
-      near_low = l.near_low;
-      apart_low = l.near_low;
-      far_low = l.far_low;
-    }
+lent_shared : {b : Buckets} (needed : ℕ) → ThinArrays b → ThinArrays (shared needed b)
+lent_shared {b} needed l = go (eqb needed 9)
+  where
+    go : (z : Bool) → ThinArrays (record b { apart = cond z b.apart b.near })
+    go true = l
+    go false =
+        record {
+          near_long = l.near_long;
+          apart_long = l.near_long;
+          far_long = l.far_long;
+          near_low = l.near_low;
+          apart_low = l.near_low;
+          far_low = l.far_low;
+        }
 
 -- what is gathered from there, once the far rows ran up, is what is found: all
 -- buckets are needed, or four serve for eight
 module _
-    {bucket : ℕ → ℕ → ℕ} {buckets : ℕ} {near apart far far' : List ℕ} (low : (v t : ℕ) → bucket v t ≤ B)
-    (g : ThinGathered bucket buckets (replicate variant_words B) near (replicate variant_words B) apart
-    (replicate bucket_rows B) far)
-    (r : FarRunUp 15 far far')
+    {bucket : ℕ → ℕ → ℕ} {needed : ℕ} {none full up : Buckets} (e : none ≡ empty_buckets)
+    (g : ThinGathered bucket needed none full) (r : RunUp full up)
   where
-    near-words : (v t : ℕ) → v < 4 → t < bucket_rows → get_or near (t * 4 + v) 0 ≡ bucket (1 + v) t
-    near-words v t h i =
-        let e : bucket (1 + (t * 4 + v) % 4) ((t * 4 + v) / 4) ≡ bucket (1 + v) t =
-        ap₂ (λ (x y : ℕ). bucket (1 + x) y) (omega arith) (omega arith) in
-        omega (
-          arith,
-          g.near_to.done (t * 4 + v) (omega arith),
-          get_or-replicate variant_words (t * 4 + v) B 0 (omega arith),
-          e,
-          low (1 + v) t,
-        )
+    pub lent_found : {look : Buckets} (n : ℕ) → look ≡ shared n up → ThinArrays look
+    lent_found n s =
+        let l : ThinArrays full = lent-on (rw e lent_none) g in
+        rw s
+        (lent_shared n
+        record {
+          near_long = ap length r.near ∙ l.near_long;
+          apart_long = ap length r.apart ∙ l.apart_long;
+          far_long = r.far.long ∙ l.far_long;
+          near_low = rw r.near l.near_low;
+          apart_low = rw r.apart l.apart_low;
+          far_low = r.far.low;
+        })
 
-    apart_words : buckets ≡ 9 → (v t : ℕ) → v < 4 → t < bucket_rows → get_or apart (t * 4 + v) 0 ≡ bucket (5 + v) t
-    apart_words n v t h i =
-        let j : ℕ = t * 4 + v in
-        let e : bucket (5 + j % 4) (j / 4) ≡ bucket (5 + v) t =
-        ap₂ (λ (x y : ℕ). bucket (5 + x) y) (omega arith) (omega arith) in
-        omega (
-          arith,
-          g.apart_to.done j (omega arith),
-          get_or-replicate variant_words j B 0 (omega arith),
-          apart_yes (eqb buckets 9) (bucket (5 + j % 4) (j / 4)) (eq? buckets 9) n,
-          e,
-          low (5 + v) t,
-        )
+    module _ (low : (v t : ℕ) → bucket v t ≤ B) where
+      near-words : (v t : ℕ) → v < 4 → t < bucket_rows → get_or up.near (t * 4 + v) 0 ≡ bucket (1 + v) t
+      near-words v t h i =
+          let j : ℕ = t * 4 + v in
+          let y : bucket (1 + j % 4) (j / 4) ≡ bucket (1 + v) t =
+          ap₂ (λ (x y : ℕ). bucket (1 + x) y) (omega arith) (omega arith) in
+          omega (
+            arith,
+            ap (λ (b : List ℕ). get_or b j 0) r.near,
+            g.near_to.done j (omega arith),
+            ap (λ (b : Buckets). get_or b.near j 0) e,
+            get_or-replicate variant_words j B 0 (omega arith),
+            y,
+            low (1 + v) t,
+          )
 
-    far-words : (t : ℕ) → t < 15 → get_or far' t 0 ≡ lowest B (bucket 0) (from 0 (suc t))
-    far-words t h =
-        r.far t h
-        ∙ lowest_ext (λ s. get_or far s 0) (bucket 0) 0 (suc t)
-        (λ s i. omega (arith, g.far_to.done s (omega arith), get_or-replicate bucket_rows s B 0 (omega arith), low 0 s))
+      apart_words : needed ≡ 9 → (v t : ℕ) → v < 4 → t < bucket_rows → get_or up.apart (t * 4 + v) 0 ≡ bucket (5 + v) t
+      apart_words n v t h i =
+          let j : ℕ = t * 4 + v in
+          let y : bucket (5 + j % 4) (j / 4) ≡ bucket (5 + v) t =
+          ap₂ (λ (x y : ℕ). bucket (5 + x) y) (omega arith) (omega arith) in
+          omega (
+            arith,
+            ap (λ (b : List ℕ). get_or b j 0) r.apart,
+            g.apart_to.done j (omega arith),
+            ap (λ (b : Buckets). get_or b.apart j 0) e,
+            get_or-replicate variant_words j B 0 (omega arith),
+            apart_yes (eqb needed 9) (bucket (5 + j % 4) (j / 4)) (eq? needed 9) n,
+            y,
+            low (5 + v) t,
+          )
 
-    pub found-there :
-        (buckets ≢ 9 → (v t : ℕ) → v < 4 → bucket (5 + v) t ≡ bucket (1 + v) t)
-        → (a : ℕ) → a < max_poses → found_by near (other_of buckets near apart) far' (a / 4) (a % 4) ≡ found bucket a
-    found-there e a h = go (eqb buckets 9) (eq? buckets 9)
-      where
-        go : (z : Bool) → Eq? buckets 9 z → found_by near (cond z apart near) far' (a / 4) (a % 4) ≡ found bucket a
-        go true (same n) = found-words bucket near apart far' a low near-words (apart_words n) far-words h
-        go false (differs n) = found-words bucket near near far' a low near-words
-            (λ v t i j. near-words v t i j ∙ sym (e n v t i)) far-words h
+      far-words : (t : ℕ) → t < 15 → get_or up.far t 0 ≡ lowest B (bucket 0) (from 0 (suc t))
+      far-words t h =
+          r.far.far t h
+          ∙ lowest_ext (λ s. get_or full.far s 0) (bucket 0) 0 (suc t)
+          (λ s i. omega (
+            arith,
+            g.far_to.done s (omega arith),
+            ap (λ (b : Buckets). get_or b.far s 0) e,
+            get_or-replicate bucket_rows s B 0 (omega arith),
+            low 0 s,
+          ))
 
--- ---- words written
-
-pub written-join :
-    {f g : ℕ → ℕ} {at n m : ℕ} {old mid new : List ℕ}
-    → Written f at n old mid → Written g (at + n) m mid new → ((k : ℕ) → k < m → g k ≡ f (n + k))
-    → Written f at (n + m) old new
-written-join {f} {g} {at} {n} {m} {old} {mid} {new} v w e =
-    record {
-      frame =
-          frame-join at (at + (n + m)) v.frame w.frame (omega arith) (omega arith) (omega arith) (omega arith);
-      words = λ k h. go k h (dec_lt k n);
-      low = w.low;
-    }
-  where
-    go : (k : ℕ) → k < n + m → Dec (k < n) → get_or new (at + k) 0 ≡ f k
-    go k h (yes l) = w.frame.low (at + k) (omega arith) ∙ v.words k l
-    go k h (no l) =
-        let z : at + k ≡ at + n + (k - n) = omega arith in
-        let y : n + (k - n) ≡ k = omega arith in
-        ap (λ (i : ℕ). get_or new i 0) z ∙ w.words (k - n) (omega arith) ∙ e (k - n) (omega arith) ∙ ap f y
+      pub found-there :
+          {look : Buckets} {n : ℕ}
+          → look ≡ shared n up → n ≡ needed → (needed ≢ 9 → (v t : ℕ) → v < 4 → bucket (5 + v) t ≡ bucket (1 + v) t)
+          → (a : ℕ) → a < max_poses → found_by look (a / 4) (a % 4) ≡ found bucket a
+      found-there s d f a h =
+          ap (λ (b : Buckets). found_by b (a / 4) (a % 4)) (s ∙ ap (λ (k : ℕ). shared k up) d)
+          ∙ go (eqb needed 9) (eq? needed 9)
+        where
+          go : (z : Bool) → Eq? needed 9 z
+              → found_by (record up { apart = cond z up.apart up.near }) (a / 4) (a % 4) ≡ found bucket a
+          go true (same n) = found-words bucket up a low near-words (apart_words n) far-words h
+          go false (differs n) = found-words bucket (record up { apart = up.near }) a low near-words
+              (λ v t i j. near-words v t i j ∙ sym (f n v t i)) far-words h
 
 -- ---- a layer from the layer before
 
@@ -223,14 +201,6 @@ put-words D R i from q {old = old} w h k e =
           (omega arith) (omega arith) (omega arith) (omega arith);
       low = w.low;
       right = λ a l. w.words a (omega arith) ∙ sym (e a l);
-    }
-
-pub stepped_none : (D : Deck) (R i from : ℕ) {st : List ℕ} → Low st → Stepped D R 0 i from st st
-stepped_none D R i from {st} w =
-    record {
-      frame = frame-refl (from + kept_layer) (from + 2 * kept_layer) st;
-      low = w;
-      right = λ q a h. absurd (omega arith);
     }
 
 -- one state more: the layer before is as it was

@@ -23,10 +23,6 @@ pub kept-fewer : {D : Deck} {R : ℕ} {f : Layer} {i m : ℕ} {st : List ℕ} (e
     → KeptLayers D R f i end st
 kept-fewer end h k = record { right = λ j q a x. k.right j q a (omega arith) }
 
-pub segment-fewer : {D : Deck} {R i m : ℕ} {old new : List ℕ} (end : ℕ) → end ≤ m → SegmentKept D R i m old new
-    → SegmentKept D R i end old new
-segment-fewer end h s = record { frame = s.frame; low = s.low; kept = kept-fewer end h s.kept }
-
 -- ---- one step more
 
 -- a layer from the one before

@@ -1,8 +1,8 @@
 -- Layers of one lane, dense: state q has pose_slots words of a block, one for each pose. The sources of a
--- target are gathered in three arrays of buckets:
+-- target are gathered in buckets:
 -- `far` has bucket 0, row t at t; `near` buckets 1 to 4, row t of bucket 1 + v at 4 t + v; `apart`
 -- likewise buckets 5 to 8, where they are needed.
-use Rattle.std.specs.Prelude.{ℕ, suc, ◌+◌, ◌*◌, ◌/◌, ◌%◌, ◌≤◌, ◌<◌, min, ◌≡◌, cond, List, length, get_or, eqb}
+use Rattle.std.specs.Prelude.{ℕ, suc, ◌+◌, ◌*◌, ◌/◌, ◌%◌, ◌≤◌, ◌<◌, min, ◌≡◌, cond, List, length, get_or, replicate, eqb}
 use Rattle.definition.specs.Job.{max_cells}
 use Rattle.search_store.specs.Map.{bucket_rows, kept_layer, max_kept, max_poses}
 use Rattle.search_row.specs.declared.Sizes.{Sizes}
@@ -15,12 +15,13 @@ use Rattle.search_row.specs.Words.{word_of, RowWords, Ground}
 use Rattle.search_buckets.specs.declared.Source.{Source}
 use Rattle.search_buckets.specs.Next.{Target}
 use Rattle.search_buckets.specs.Rows.{in_row, Pays, PaysLow, pay_words}
+use Rattle.search_dense_layer.specs.declared.Buckets.{Buckets}
 
 -- the layer whose block begins at `at`
 abbrev pub thin_in : List ℕ → ℕ → Layer
 thin_in st at q a = get_or st (at + q * pose_slots + a) 0
 
--- ---- the three arrays
+-- ---- the buckets
 
 -- a word for each of four variants in every row of a bucket
 abbrev pub variant_words : ℕ
@@ -31,22 +32,27 @@ abbrev pub near_of : (ℕ → ℕ → ℕ) → ℕ → ℕ
 near_of bucket j = bucket (1 + j % 4) (j / 4)
 
 abbrev pub apart_of : ℕ → (ℕ → ℕ → ℕ) → ℕ → ℕ
-apart_of buckets bucket j = cond (eqb buckets 9) (bucket (5 + j % 4) (j / 4)) B
+apart_of needed bucket j = cond (eqb needed 9) (bucket (5 + j % 4) (j / 4)) B
+
+-- nothing is gathered yet
+abbrev pub empty_buckets : Buckets
+empty_buckets =
+    record { near = replicate variant_words B; apart = replicate variant_words B; far = replicate bucket_rows B }
 
 -- arrays in which sources may be gathered
-pub record ThinArrays (near apart far : List ℕ) : Type 0 where
-  pub near_long : length near ≡ variant_words
-  pub apart_long : length apart ≡ variant_words
-  pub far_long : length far ≡ bucket_rows
-  pub near_low : Low near
-  pub apart_low : Low apart
-  pub far_low : Low far
+pub record ThinArrays (b : Buckets) : Type 0 where
+  pub near_long : length b.near ≡ variant_words
+  pub apart_long : length b.apart ≡ variant_words
+  pub far_long : length b.far ≡ bucket_rows
+  pub near_low : Low b.near
+  pub apart_low : Low b.apart
+  pub far_low : Low b.far
 
--- all their words are lowered to those of other buckets
-pub record ThinGathered (bucket : ℕ → ℕ → ℕ) (buckets : ℕ) (near near' apart apart' far far' : List ℕ) : Type 0 where
-  pub near_to : Lowered (near_of bucket) variant_words near near'
-  pub apart_to : Lowered (apart_of buckets bucket) variant_words apart apart'
-  pub far_to : Lowered (bucket 0) bucket_rows far far'
+-- all their words are lowered to those of other buckets, of which so many are needed
+pub record ThinGathered (bucket : ℕ → ℕ → ℕ) (needed : ℕ) (old new : Buckets) : Type 0 where
+  pub near_to : Lowered (near_of bucket) variant_words old.near new.near
+  pub apart_to : Lowered (apart_of needed bucket) variant_words old.apart new.apart
+  pub far_to : Lowered (bucket 0) bucket_rows old.far new.far
 
 -- a source of cost x in row t: what it pays in four buckets, from word p of what is paid on
 abbrev pub four_of : ℕ → ℕ → List ℕ → ℕ → ℕ → ℕ
@@ -67,15 +73,15 @@ pub record FourSpread (words pays : List ℕ) (t x p : ℕ) : Type 0 where
   pub paid : (v : ℕ) → v < 4 → get_or pays (p + v) 0 ≤ B
 
 -- the same to row t of all buckets that are needed, by its variant u; in bucket 0 it pays nothing
-pub record ThinSpread (near apart far pays : List ℕ) (x u t buckets : ℕ) : Type 0 where
-  pub arrays : ThinArrays near apart far
+pub record ThinSpread (b : Buckets) (pays : List ℕ) (x u t needed : ℕ) : Type 0 where
+  pub arrays : ThinArrays b
   pub cost : x ≤ B
-  pub paid : PaysLow buckets pays
+  pub paid : PaysLow needed pays
   pub free : get_or pays (u * 9) 0 ≡ 0
   pub kind : u < 4
   pub here : t < bucket_rows
-  pub five : 5 ≤ buckets
-  pub nine : buckets ≤ 9
+  pub five : 5 ≤ needed
+  pub nine : needed ≤ 9
 
 -- ---- sources in the store
 
@@ -88,8 +94,8 @@ pub record ThinSource (st row : List ℕ) (at k m : ℕ) : Type 0 where
   pub right : m < max_cells
 
 -- its poses below `poses` are to be gathered: there are arrays for them, and what it pays is known
-pub record FromPoses (near apart far st row pays : List ℕ) (s : Source) (poses : ℕ) : Type 0 where
-  pub arrays : ThinArrays near apart far
+pub record FromPoses (b : Buckets) (st row pays : List ℕ) (s : Source) (poses : ℕ) : Type 0 where
+  pub arrays : ThinArrays b
   pub source : ThinSource st row s.at s.left s.right
   pub paid : Pays row s.left s.right s.buckets pay_words pays
   pub five : 5 ≤ s.buckets
@@ -114,33 +120,41 @@ pub record FarRunUp (rows : ℕ) (old new : List ℕ) : Type 0 where
   pub far : (t : ℕ) → t < rows → get_or new t 0 ≡ lowest B (λ s. get_or old s 0) (from 0 (suc t))
   pub rest : (t : ℕ) → rows ≤ t → get_or new t 0 ≡ get_or old t 0
 
+-- the far bucket is so for all sites, the others are as they were
+pub record RunUp (old new : Buckets) : Type 0 where
+  pub near : new.near ≡ old.near
+  pub apart : new.apart ≡ old.apart
+  pub far : FarRunUp 15 old.far new.far
+
+-- buckets 5 to 8 are those of gap 0 where they are not needed
+abbrev pub shared : ℕ → Buckets → Buckets
+shared needed b = record b { apart = cond (eqb needed 9) b.apart b.near }
+
 -- what the pose at site e in variant v finds, where `far` ran up
-abbrev pub found_by : List ℕ → List ℕ → List ℕ → ℕ → ℕ → ℕ
-found_by near apart far e v =
-    min (min (get_or near ((e + 4) * 4 + v) 0) (min (get_or apart ((e + 2) * 4 + v) 0) (get_or apart ((e + 1) * 4 + v) 0)))
-    (get_or far e 0)
+abbrev pub found_by : Buckets → ℕ → ℕ → ℕ
+found_by b e v =
+    min
+    (min (get_or b.near ((e + 4) * 4 + v) 0)
+    (min (get_or b.apart ((e + 2) * 4 + v) 0) (get_or b.apart ((e + 1) * 4 + v) 0)))
+    (get_or b.far e 0)
 
 -- with the own cost of the cell at position k, capped
-abbrev pub found_of : List ℕ → List ℕ → List ℕ → List ℕ → ℕ → ℕ → ℕ
-found_of row near apart far k a = min (word_of row k a + found_by near apart far (a / 4) (a % 4)) B
-
--- where buckets 5 to 8 are to be found
-abbrev pub other_of : ℕ → List ℕ → List ℕ → List ℕ
-other_of buckets near apart = cond (eqb buckets 9) apart near
+abbrev pub found_of : List ℕ → Buckets → ℕ → ℕ → ℕ
+found_of row b k a = min (word_of row k a + found_by b (a / 4) (a % 4)) B
 
 -- four poses from pose 4 e on
-abbrev pub found_four : List ℕ → List ℕ → List ℕ → List ℕ → ℕ → ℕ → ℕ → ℕ
-found_four row near apart far k e v = found_of row near apart far k (e * 4 + v)
+abbrev pub found_four : List ℕ → Buckets → ℕ → ℕ → ℕ → ℕ
+found_four row b k e v = found_of row b k (e * 4 + v)
 
 -- arrays in which the pose at site e in variant v looks up what it finds
-pub record ThinLooks (near apart far : List ℕ) (e v : ℕ) : Type 0 where
-  pub arrays : ThinArrays near apart far
+pub record ThinLooks (b : Buckets) (e v : ℕ) : Type 0 where
+  pub arrays : ThinArrays b
   pub site : e < 15
   pub kind : v < 4
 
 -- four words are to be those of the poses at site e of the cell at position k
-pub record ToFour (near apart far row four : List ℕ) (k e : ℕ) : Type 0 where
-  pub arrays : ThinArrays near apart far
+pub record ToFour (b : Buckets) (row four : List ℕ) (k e : ℕ) : Type 0 where
+  pub arrays : ThinArrays b
   pub words : RowWords row
   pub low : Low four
   pub long : length four ≡ 4
@@ -148,8 +162,8 @@ pub record ToFour (near apart far row four : List ℕ) (k e : ℕ) : Type 0 wher
   pub site : e < 15
 
 -- the words from `to` on are to be those of the poses below `poses` of the cell at position k
-pub record ToPut (near apart far row st : List ℕ) (to k poses : ℕ) : Type 0 where
-  pub arrays : ThinArrays near apart far
+pub record ToPut (b : Buckets) (row st : List ℕ) (to k poses : ℕ) : Type 0 where
+  pub arrays : ThinArrays b
   pub words : RowWords row
   pub low : Low st
   pub room : to + pose_slots ≤ length st
@@ -176,13 +190,13 @@ pub record ThinTarget (row st : List ℕ) (z : Sizes) (i at q : ℕ) : Type 0 wh
   pub target : Target z.cells z.reordering i q
 
 -- its sources are to be gathered
-pub record ThinGathering (near apart far row st : List ℕ) (z : Sizes) (i at q : ℕ) : Type 0 where
-  pub arrays : ThinArrays near apart far
+pub record ThinGathering (b : Buckets) (row st : List ℕ) (z : Sizes) (i at q : ℕ) : Type 0 where
+  pub arrays : ThinArrays b
   pub sought : ThinTarget row st z i at q
 
 -- and state p of the layer, if it is one of them
-pub record ThinFrom (near apart far row st : List ℕ) (z : Sizes) (i at q p : ℕ) : Type 0 where
-  pub gathering : ThinGathering near apart far row st z i at q
+pub record ThinFrom (b : Buckets) (row st : List ℕ) (z : Sizes) (i at q p : ℕ) : Type 0 where
+  pub gathering : ThinGathering b row st z i at q
   pub state : p < z.states
 
 -- state q of the next layer, in the block after

@@ -10,11 +10,10 @@ ghost use Rattle.search_lanes.specs.Lanes.{Lowered};
 ghost use Rattle.search_lanes.specs.Store.{Written};
 ghost use Rattle.search_row.specs.Words.{deck_in};
 ghost use Rattle.search_buckets.specs.Rows.{buckets_in, one_pose, by_poses, one_state, by_states};
-ghost use Rattle.search_dense_layer.specs.Thin.{thin_in, poses_at, four_of, spread_of, FourSpread, ThinSpread};
-ghost use Rattle.search_dense_layer.specs.Thin.{ThinGathered, FarBucket, FarRunUp, found_by, found_of, ThinLooks};
-ghost use Rattle.search_dense_layer.specs.Thin.{found_four, other_of, FromPoses, ToFour, ToPut, ThinGiven};
-ghost use Rattle.search_dense_layer.specs.Thin.{ThinNext, ThinTarget, ThinGathering, ThinFrom, Put, Stepped};
-ghost use Rattle.search_dense_layer.specs.Thin.{variant_words};
+ghost use Rattle.search_dense_layer.specs.Thin.{variant_words, empty_buckets, thin_in, poses_at, four_of, spread_of};
+ghost use Rattle.search_dense_layer.specs.Thin.{FourSpread, ThinSpread, ThinGathered, FromPoses, FarBucket, RunUp};
+ghost use Rattle.search_dense_layer.specs.Thin.{shared, found_by, found_of, found_four, ThinLooks, ToFour, ToPut};
+ghost use Rattle.search_dense_layer.specs.Thin.{ThinGiven, ThinNext, ThinTarget, ThinGathering, ThinFrom, Put, Stepped};
 ghost use Rattle.search_dense_layer.specs.Kept.{Segment, SegmentKept};
 
 use search_buckets::Source;
@@ -37,6 +36,15 @@ struct Sought {
     state: usize,
 }
 
+// The buckets of a target. Bucket 0 is far, a word for each row; the others have a word for each variant in
+// every row, four of them in one array: 1 to 4 near, 5 to 8 apart.
+#[derive(Drop)]
+struct Buckets {
+    near: [u32; VARIANT_WORDS],
+    apart: [u32; VARIANT_WORDS],
+    far: [u32; search_store::BUCKET_ROWS],
+}
+
 // ---- one source
 
 // A source of cost x to row t of four buckets, where it pays the words from p on.
@@ -56,258 +64,188 @@ fn lower_four(
     }
 }
 
-// The same to all buckets that are needed, by its variant u.
-fn spread(
-    near: &mut [u32; VARIANT_WORDS],
-    apart: &mut [u32; VARIANT_WORDS],
-    far: &mut [u32; search_store::BUCKET_ROWS],
-    x: u32,
-    pays: &[u32; search_buckets::PAY_WORDS],
-    u: usize,
-    t: usize,
-    buckets: usize,
-)
-    requires { ThinSpread near.old apart.old far.old pays.now x u t buckets }
-    ensures { ThinGathered (spread_of t x pays.now u) buckets near.old near.new
-        apart.old apart.new far.old far.new }
-{
-    far[t] = search_lanes::lesser(far[t], x);
-    lower_four(near, t, x, pays, u * 9 + 1);
-    if buckets == 9 {
-        lower_four(apart, t, x, pays, u * 9 + 5);
-        return;
+impl Buckets {
+    fn empty() -> Buckets
+        ensures { result ≡ empty_buckets }
+    {
+        Buckets {
+            near: [search_lanes::NONE; VARIANT_WORDS],
+            apart: [search_lanes::NONE; VARIANT_WORDS],
+            far: [search_lanes::NONE; search_store::BUCKET_ROWS],
+        }
     }
-}
 
-// Pose b of a source.
-fn from_pose(
-    near: &mut [u32; VARIANT_WORDS],
-    apart: &mut [u32; VARIANT_WORDS],
-    far: &mut [u32; search_store::BUCKET_ROWS],
-    store: &[u32],
-    row: &[u32],
-    pays: &[u32; search_buckets::PAY_WORDS],
-    source: Source,
-    b: usize,
-)
-    requires { FromPoses near.old apart.old far.old store.now row.now pays.now source (b + 1) }
-    ensures { ThinGathered (one_pose row.now source.left source.right b
-        (poses_at store.now source.at b)) source.buckets near.old near.new
-        apart.old apart.new far.old far.new }
-{
-    let x = store[source.at + b];
-    if x >= search_lanes::NONE {
-        return;
+    // A source of cost x to row t of all buckets that are needed, by its variant u.
+    fn spread(
+        &mut self,
+        x: u32,
+        pays: &[u32; search_buckets::PAY_WORDS],
+        u: usize,
+        t: usize,
+        needed: usize,
+    )
+        requires { ThinSpread self.old pays.now x u t needed }
+        ensures { ThinGathered (spread_of t x pays.now u) needed self.old self.new }
+    {
+        self.far[t] = search_lanes::lesser(self.far[t], x);
+        lower_four(&mut self.near, t, x, pays, u * 9 + 1);
+        if needed == 9 {
+            lower_four(&mut self.apart, t, x, pays, u * 9 + 5);
+        }
     }
-    let t = search_buckets::end_row(row, source.left, b, source.right);
-    if t >= search_store::BUCKET_ROWS {
-        return;
-    }
-    spread(near, apart, far, x, pays, b % 4, t, source.buckets);
-}
 
-// All its poses.
-fn from_poses(
-    near: &mut [u32; VARIANT_WORDS],
-    apart: &mut [u32; VARIANT_WORDS],
-    far: &mut [u32; search_store::BUCKET_ROWS],
-    store: &[u32],
-    row: &[u32],
-    pays: &[u32; search_buckets::PAY_WORDS],
-    source: Source,
-    poses: usize,
-)
-    requires { FromPoses near.old apart.old far.old store.now row.now pays.now source poses }
-    ensures { ThinGathered (by_poses row.now source.left source.right
-        (poses_at store.now source.at) poses) source.buckets near.old near.new
-        apart.old apart.new far.old far.new }
-{
-    for b in 0..poses {
-        from_pose(near, apart, far, store, row, pays, source, b);
+    // Pose b of a source.
+    fn from_pose(
+        &mut self,
+        store: &[u32],
+        row: &[u32],
+        pays: &[u32; search_buckets::PAY_WORDS],
+        source: Source,
+        b: usize,
+    )
+        requires { FromPoses self.old store.now row.now pays.now source (b + 1) }
+        ensures { ThinGathered (one_pose row.now source.left source.right b
+            (poses_at store.now source.at b)) source.buckets self.old self.new }
+    {
+        let x = store[source.at + b];
+        if x >= search_lanes::NONE {
+            return;
+        }
+        let t = search_buckets::end_row(row, source.left, b, source.right);
+        if t >= search_store::BUCKET_ROWS {
+            return;
+        }
+        self.spread(x, pays, b % 4, t, source.buckets);
+    }
+
+    // All its poses.
+    fn from_poses(
+        &mut self,
+        store: &[u32],
+        row: &[u32],
+        pays: &[u32; search_buckets::PAY_WORDS],
+        source: Source,
+        poses: usize,
+    )
+        requires { FromPoses self.old store.now row.now pays.now source poses }
+        ensures { ThinGathered (by_poses row.now source.left source.right
+            (poses_at store.now source.at) poses) source.buckets self.old self.new }
+    {
+        for b in 0..poses {
+            self.from_pose(store, row, pays, source, b);
+        }
+    }
+
+    // State p of a layer, if it is a source of the state that is sought.
+    fn from_source(&mut self, store: &[u32], row: Row, sought: Sought, p: usize)
+        requires { ThinFrom self.old row.words.now store.now row.sizes sought.layer.cells sought.layer.at
+            sought.state p }
+        ensures { let words = row.entry.words.now in let z = row.entry.sizes in let l = sought.layer in
+            ThinGathered (one_state words (deck_in words z) z.reordering (thin_in store.now l.at) l.cells sought.state p)
+            (buckets_in words (last_at z.reordering (suc l.cells) sought.state)) self.old self.new }
+    {
+        if !row.is_source(sought.layer.cells, sought.state, p) {
+            return;
+        }
+        let k = row.last_at(sought.layer.cells, p);
+        let m = row.last_at(sought.layer.cells + 1, sought.state);
+        let buckets = search_buckets::buckets_of(row.words, m);
+        let mut pay = [0u32; search_buckets::PAY_WORDS];
+        search_buckets::fill_pays(&mut pay, row.words, k, m, buckets);
+        let at = sought.layer.at + p * search_store::POSE_SLOTS;
+        let source = Source {
+            at,
+            left: k,
+            right: m,
+            buckets,
+        };
+        self.from_poses(store, row.words, &pay, source, row.sizes.poses);
+    }
+
+    // Every source.
+    fn gather(&mut self, store: &[u32], row: Row, sought: Sought)
+        requires { ThinGathering self.old row.words.now store.now row.sizes sought.layer.cells
+            sought.layer.at sought.state }
+        ensures { let words = row.entry.words.now in let z = row.entry.sizes in let l = sought.layer in
+            ThinGathered (by_states words (deck_in words z) z.reordering (thin_in store.now l.at) l.cells sought.state
+            z.states) (buckets_in words (last_at z.reordering (suc l.cells) sought.state)) self.old self.new }
+    {
+        for p in 0..row.sizes.states {
+            self.from_source(store, row, sought, p);
+        }
     }
 }
 
 // ---- what a pose finds
 
-// Each row of the far bucket, as far as some pose looks, lowered to all rows before it.
-fn run_up(far: &mut [u32; search_store::BUCKET_ROWS])
-    requires { FarBucket far.old }
-    ensures { FarRunUp 15 far.old far.new }
-{
-    for t in 0..14 {
-        far[t + 1] = search_lanes::lesser(far[t + 1], far[t]);
+impl Buckets {
+    // Each row of bucket 0, as far as some pose looks, lowered to all rows before it.
+    fn run_up(&mut self)
+        requires { FarBucket self.old.far }
+        ensures { RunUp self.old self.new }
+    {
+        for t in 0..14 {
+            self.far[t + 1] = search_lanes::lesser(self.far[t + 1], self.far[t]);
+        }
     }
-}
 
-// What the pose at site e in variant v finds: at gaps 0, 2 and 3, and further left.
-fn found(
-    near: &[u32; VARIANT_WORDS],
-    apart: &[u32; VARIANT_WORDS],
-    far: &[u32; search_store::BUCKET_ROWS],
-    e: usize,
-    v: usize,
-) -> u32
-    requires { ThinLooks near.now apart.now far.now e v }
-    ensures { result ≡ found_by near.now apart.now far.now e v }
-{
-    let between = search_lanes::lesser(apart[(e + 2) * 4 + v], apart[(e + 1) * 4 + v]);
-    search_lanes::lesser(search_lanes::lesser(near[(e + 4) * 4 + v], between), far[e])
-}
+    // Where not all are needed, one weight serves for all gaps: the buckets of gap 0 do for the others.
+    fn share(&mut self, needed: usize)
+        ensures { self.new ≡ shared needed self.old }
+    {
+        if needed != 9 {
+            self.apart.copy_from_slice(&self.near);
+        }
+    }
 
-// What the four poses at site e of the cell at position k find, with the cell's own cost, capped.
-// A pose that is not offered comes out NONE.
-fn found_four(
-    words: &mut [u32; 4],
-    row: &[u32],
-    near: &[u32; VARIANT_WORDS],
-    apart: &[u32; VARIANT_WORDS],
-    far: &[u32; search_store::BUCKET_ROWS],
-    k: usize,
-    e: usize,
-)
-    requires { ToFour near.now apart.now far.now row.now words.old k e }
-    ensures { Written (found_four row.now near.now apart.now
-        far.now k e) 0 4 words.old words.new }
-{
-    for v in 0..4 {
-        let x = row[k * search_row::CELL + (e * 4 + v)] + found(near, apart, far, e, v);
-        words[v] = search_lanes::lesser(x, search_lanes::NONE);
+    // What the pose at site e in variant v finds: at gaps 0, 2 and 3, and further left.
+    fn found(&self, e: usize, v: usize) -> u32
+        requires { ThinLooks self.now e v }
+        ensures { result ≡ found_by self.now e v }
+    {
+        let apart = search_lanes::lesser(self.apart[(e + 2) * 4 + v], self.apart[(e + 1) * 4 + v]);
+        search_lanes::lesser(
+            search_lanes::lesser(self.near[(e + 4) * 4 + v], apart),
+            self.far[e],
+        )
+    }
+
+    // What the four poses at site e of the cell at position k find, with the cell's own cost, capped.
+    // A pose that is not offered comes out NONE.
+    fn found_four(&self, words: &mut [u32; 4], row: &[u32], k: usize, e: usize)
+        requires { ToFour self.now row.now words.old k e }
+        ensures { Written (found_four row.now self.now k e) 0 4 words.old words.new }
+    {
+        for v in 0..4 {
+            let x = row[k * search_row::CELL + (e * 4 + v)] + self.found(e, v);
+            words[v] = search_lanes::lesser(x, search_lanes::NONE);
+        }
     }
 }
 
 // They are written once all four are found, so that nothing written can be read again.
-fn put_four(
-    store: &mut [u32],
-    row: &[u32],
-    near: &[u32; VARIANT_WORDS],
-    apart: &[u32; VARIANT_WORDS],
-    far: &[u32; search_store::BUCKET_ROWS],
-    to: usize,
-    k: usize,
-    e: usize,
-)
-    requires { ToPut near.now apart.now far.now row.now store.old to k (e * 4 + 4) }
-    ensures { Written (found_four row.now near.now apart.now
-        far.now k e) (to + e * 4) 4 store.old store.new }
+fn put_four(store: &mut [u32], row: &[u32], buckets: &Buckets, to: usize, k: usize, e: usize)
+    requires { ToPut buckets.now row.now store.old to k (e * 4 + 4) }
+    ensures { Written (found_four row.now buckets.now k e) (to + e * 4) 4 store.old store.new }
 {
     let mut words = [0u32; 4];
-    found_four(&mut words, row, near, apart, far, k, e);
+    buckets.found_four(&mut words, row, k, e);
     for v in 0..4 {
         store[to + e * 4 + v] = words[v];
     }
 }
 
 // All poses of the cell at position k, four at a time.
-fn put(
-    store: &mut [u32],
-    row: &[u32],
-    near: &[u32; VARIANT_WORDS],
-    apart: &[u32; VARIANT_WORDS],
-    far: &[u32; search_store::BUCKET_ROWS],
-    to: usize,
-    k: usize,
-    poses: usize,
-)
-    requires { ToPut near.now apart.now far.now row.now store.old to k poses }
-    ensures { Written (found_of row.now near.now apart.now
-        far.now k) to ((poses + 3) / 4 * 4) store.old store.new }
+fn put(store: &mut [u32], row: &[u32], buckets: &Buckets, to: usize, k: usize, poses: usize)
+    requires { ToPut buckets.now row.now store.old to k poses }
+    ensures { Written (found_of row.now buckets.now k) to ((poses + 3) / 4 * 4) store.old store.new }
 {
-    for e in 0..(poses + 3) / 4 {
-        put_four(store, row, near, apart, far, to, k, e);
+    for e in 0..poses.div_ceil(4) {
+        put_four(store, row, buckets, to, k, e);
     }
-}
-
-// As many buckets as are needed: where one weight serves for all gaps, the buckets of gap 0 do for the others.
-fn put_found(
-    store: &mut [u32],
-    row: &[u32],
-    near: &[u32; VARIANT_WORDS],
-    apart: &[u32; VARIANT_WORDS],
-    far: &[u32; search_store::BUCKET_ROWS],
-    to: usize,
-    k: usize,
-    poses: usize,
-)
-    requires { ToPut near.now apart.now far.now row.now store.old to k poses }
-    ensures { Written (found_of row.now near.now
-        (other_of (buckets_in row.now k) near.now apart.now) far.now k) to
-        ((poses + 3) / 4 * 4) store.old store.new }
-{
-    if search_buckets::buckets_of(row, k) == 9 {
-        put(store, row, near, apart, far, to, k, poses);
-        return;
-    }
-    put(store, row, near, near, far, to, k, poses);
 }
 
 // ---- one layer
-
-// State p of a layer, if it is a source of the state that is sought.
-fn from_source(
-    near: &mut [u32; VARIANT_WORDS],
-    apart: &mut [u32; VARIANT_WORDS],
-    far: &mut [u32; search_store::BUCKET_ROWS],
-    store: &[u32],
-    row: Row,
-    sought: Sought,
-    p: usize,
-)
-    requires { ThinFrom near.old apart.old far.old row.words.now store.now row.sizes sought.layer.cells sought.layer.at
-        sought.state p }
-    ensures { ThinGathered (one_state row.entry.words.now (deck_in row.entry.words.now row.entry.sizes) row.entry.sizes.reordering
-        (thin_in store.now sought.layer.at) sought.layer.cells sought.state p)
-        (buckets_in row.entry.words.now (last_at row.entry.sizes.reordering (suc sought.layer.cells) sought.state))
-        near.old near.new apart.old apart.new far.old
-        far.new }
-{
-    if !row.is_source(sought.layer.cells, sought.state, p) {
-        return;
-    }
-    let k = row.last_at(sought.layer.cells, p);
-    let m = row.last_at(sought.layer.cells + 1, sought.state);
-    let buckets = search_buckets::buckets_of(row.words, m);
-    let mut pay = [0u32; search_buckets::PAY_WORDS];
-    search_buckets::fill_pays(&mut pay, row.words, k, m, buckets);
-    let at = sought.layer.at + p * search_store::POSE_SLOTS;
-    let source = Source {
-        at,
-        left: k,
-        right: m,
-        buckets,
-    };
-    from_poses(
-        near,
-        apart,
-        far,
-        store,
-        row.words,
-        &pay,
-        source,
-        row.sizes.poses,
-    );
-}
-
-// Every source.
-fn gather(
-    near: &mut [u32; VARIANT_WORDS],
-    apart: &mut [u32; VARIANT_WORDS],
-    far: &mut [u32; search_store::BUCKET_ROWS],
-    store: &[u32],
-    row: Row,
-    sought: Sought,
-)
-    requires { ThinGathering near.old apart.old far.old row.words.now store.now row.sizes sought.layer.cells
-        sought.layer.at sought.state }
-    ensures { ThinGathered (by_states row.entry.words.now (deck_in row.entry.words.now row.entry.sizes) row.entry.sizes.reordering
-        (thin_in store.now sought.layer.at) sought.layer.cells sought.state row.entry.sizes.states)
-        (buckets_in row.entry.words.now (last_at row.entry.sizes.reordering (suc sought.layer.cells) sought.state))
-        near.old near.new apart.old apart.new far.old
-        far.new }
-{
-    for p in 0..row.sizes.states {
-        from_source(near, apart, far, store, row, sought, p);
-    }
-}
 
 // The words of state q, whose cell is there: its sources gathered, then what each pose finds.
 fn target_there(store: &mut [u32], row: Row, layer: Block, q: usize)
@@ -316,23 +254,13 @@ fn target_there(store: &mut [u32], row: Row, layer: Block, q: usize)
         store.old store.new }
 {
     let m = row.last_at(layer.cells + 1, q);
-    let mut near = [search_lanes::NONE; VARIANT_WORDS];
-    let mut apart = [search_lanes::NONE; VARIANT_WORDS];
-    let mut far = [search_lanes::NONE; search_store::BUCKET_ROWS];
     let sought = Sought { layer, state: q };
-    gather(&mut near, &mut apart, &mut far, store, row, sought);
-    run_up(&mut far);
+    let mut buckets = Buckets::empty();
+    buckets.gather(store, row, sought);
+    buckets.run_up();
+    buckets.share(search_buckets::buckets_of(row.words, m));
     let to = layer.at + search_store::KEPT_LAYER + q * search_store::POSE_SLOTS;
-    put_found(
-        store,
-        row.words,
-        &near,
-        &apart,
-        &far,
-        to,
-        m,
-        row.sizes.poses,
-    );
+    put(store, row.words, &buckets, to, m, row.sizes.poses);
 }
 
 // The words of state q: all NONE if the row has no such cell.

@@ -4,11 +4,10 @@ use Rattle.std.specs.Prelude.{ℕ, ◌+◌, ◌/◌, ◌≤◌, ◌<◌, ◌≡�
 use Rattle.definition.specs.Job.{max_cells, max_weight}
 use Rattle.theory_tables.specs.Steps.{pose_slots}
 use Rattle.job.specs.declared.Job.{Job}
-use Rattle.job.specs.declared.Header.{Header}
-use Rattle.job.specs.declared.Cell.{Cell}
 use Rattle.job.specs.Accepted.{Accepted}
 use Rattle.search_lanes.specs.Store.{Low}
 use Rattle.search_row.specs.Words.{row_length, states_from, cell_words, first_word, left_p}
+use Rattle.search_row_fill.specs.declared.Lone.{Lone}
 use Rattle.search_row_fill.specs.Values.{Ranged, offered}
 use Rattle.search_row_fill.specs.TallWords.{talls_in, TallsUpto}
 
@@ -23,19 +22,19 @@ pub record Weight (weight times : ℕ) : Type 0 where
   pub few : times ≤ 16
 
 -- a pose number of a cell
-pub record CellPose (header : Header) (cell : Cell) (a : ℕ) : Type 0 where
-  pub ranged : Ranged header cell
+pub record CellPose (c : Lone) (a : ℕ) : Type 0 where
+  pub ranged : Ranged c.header c.cell
   pub few : a < pose_slots
 
 -- one whose site is not left of site 0
-pub record PoseRight (header : Header) (cell : Cell) (a : ℕ) : Type 0 where
-  pub ranged : Ranged header cell
+pub record PoseRight (c : Lone) (a : ℕ) : Type 0 where
+  pub ranged : Ranged c.header c.cell
   pub few : a < pose_slots
-  pub right : (offered header cell).limit ≤ cell.given + a / 4
+  pub right : (offered c.header c.cell).limit ≤ c.cell.given + a / 4
 
 -- one of its words between its costs and its heights
-pub record ShapeAt (header : Header) (cell : Cell) (i : ℕ) : Type 0 where
-  pub ranged : Ranged header cell
+pub record ShapeAt (c : Lone) (i : ℕ) : Type 0 where
+  pub ranged : Ranged c.header c.cell
   pub from : first_word ≤ i
   pub to : i < left_p
 
@@ -45,20 +44,20 @@ pub record HeightAt (u side : ℕ) : Type 0 where
   pub either : side ≤ 1
 
 -- a cell that is to be written, in row 0 or 1, and its number
-pub record CellPut (header : Header) (cell : Cell) (side number : ℕ) : Type 0 where
-  pub ranged : Ranged header cell
+pub record CellPut (c : Lone) (side number : ℕ) : Type 0 where
+  pub ranged : Ranged c.header c.cell
   pub either : side ≤ 1
   pub few : number < max_cells
 
 -- the same, and room for its words from a place on
-pub record CellToFill (header : Header) (cell : Cell) (side number at : ℕ) (row : List ℕ) : Type 0 where
-  pub put : CellPut header cell side number
+pub record CellToFill (c : Lone) (side number at : ℕ) (row : List ℕ) : Type 0 where
+  pub put : CellPut c side number
   pub long : at + cell_words ≤ length row
   pub low : Low row
 
 -- the same, and room for them at position n
-pub record CellToAdd (header : Header) (cell : Cell) (side number n : ℕ) (row : List ℕ) : Type 0 where
-  pub put : CellPut header cell side number
+pub record CellToAdd (c : Lone) (side number n : ℕ) (row : List ℕ) : Type 0 where
+  pub put : CellPut c side number
   pub few : n < max_cells
   pub long : states_from ≤ length row
   pub low : Low row

@@ -21,27 +21,14 @@ ghost use Rattle.search_row_fill.specs.Lent.{TallNext, TallsRoom, PlacesPut};
 use job::{Cell, Header, Job, Pose};
 use search_row::Sizes;
 
-// ---- what a cell costs
-
-// Whether rules 1 to 3 allow the cell pose number a.
-fn is_offered(header: Header, cell: Cell, a: u32) -> bool
-    requires { CellPose header cell a }
-    ensures { result ≡ is_offered (one header cell) 0 a }
-{
-    let offer = job::offer_of(header, cell);
-    let x = cell.given + a / 4;
-    if x < offer.limit {
-        return false;
-    }
-    let pose = Pose {
-        site: x - offer.limit,
-        layout: a % 4 / 2,
-        mark: a % 2,
-    };
-    job::offers_choice(offer, pose)
-        && job::offers_site(offer, pose)
-        && pose.site + job::width_of(cell, pose.layout) <= header.sites
+// A cell by itself, under its job's header.
+#[derive(Clone, Copy)]
+struct Lone {
+    header: Header,
+    cell: Cell,
 }
+
+// ---- what a cell costs
 
 // A weight, so many times.
 fn times(weight: u32, x: u32) -> u32
@@ -51,20 +38,6 @@ fn times(weight: u32, x: u32) -> u32
     weight * x
 }
 
-// Shift, mirroring and layout of a pose that is not left of site 0.
-fn pose_cost(header: Header, cell: Cell, a: u32) -> u32
-    requires { PoseRight header cell a }
-    ensures { Bounded (own_of (one header cell) 0 (pose_number (one header cell) 0 a)) 48000 result }
-{
-    let offer = job::offer_of(header, cell);
-    let given = cell.given;
-    let site = given + a / 4 - offer.limit;
-    let shift = times(header.shift, job::apart_of(site, given));
-    let mirror = times(header.mirror, a % 2);
-    let swap = times(header.swap, a % 4 / 2);
-    shift + mirror + swap
-}
-
 // Whether what a cell costs by itself is left to the other row: a tall cell's counts in row 0.
 fn counts_there(of: u32, side: u32) -> bool
     ensures { result ≡ (eqb of 2 && eqb side 1) }
@@ -72,38 +45,59 @@ fn counts_there(of: u32, side: u32) -> bool
     of == 2 && side == 1
 }
 
-// What the cell costs in pose a in a row; NONE where it is not offered.
-#[tactic(auto, unfolding(crate::specs::Words::own_word, job::specs::Value::cell_of))]
-fn own_word(header: Header, cell: Cell, side: u32, a: u32) -> u32
-    requires { CellPose header cell a }
-    ensures { Bounded (own_word (one header cell) side 0 a) B result }
-{
-    if !is_offered(header, cell, a) {
-        return search_lanes::NONE;
+impl Lone {
+    // Whether rules 1 to 3 allow the cell pose number a.
+    #[tactic(auto, unfolding(theory_bridge::specs::Paired::is_offered, theory_bridge::specs::Paired::pose_number, theory_bridge::specs::Paired::width_of, job::specs::Value::header_of, job::specs::Value::cell_of))]
+    fn is_offered(self, a: u32) -> bool
+        requires { CellPose self a }
+        ensures { result ≡ is_offered (one self.header self.cell) 0 a }
+    {
+        let offer = job::offer_of(self.header, self.cell);
+        let x = self.cell.given + a / 4;
+        if x < offer.limit {
+            return false;
+        }
+        let pose = Pose {
+            site: x - offer.limit,
+            layout: a % 4 / 2,
+            mark: a % 2,
+        };
+        job::offers_choice(offer, pose)
+            && job::offers_site(offer, pose)
+            && pose.site + job::width_of(self.cell, pose.layout) <= self.header.sites
     }
-    if counts_there(cell.row, side) {
-        return 0;
+
+    // Shift, mirroring and layout of a pose that is not left of site 0.
+    fn pose_cost(self, a: u32) -> u32
+        requires { PoseRight self a }
+        ensures { let j = one self.header self.cell in Bounded (own_of j 0 (pose_number j 0 a)) 48000 result }
+    {
+        let offer = job::offer_of(self.header, self.cell);
+        let given = self.cell.given;
+        let site = given + a / 4 - offer.limit;
+        let shift = times(self.header.shift, job::apart_of(site, given));
+        let mirror = times(self.header.mirror, a % 2);
+        let swap = times(self.header.swap, a % 4 / 2);
+        shift + mirror + swap
     }
-    pose_cost(header, cell, a)
+
+    // What the cell costs in pose a in a row; NONE where it is not offered.
+    #[tactic(auto, unfolding(crate::specs::Words::own_word, job::specs::Value::cell_of))]
+    fn own_word(self, side: u32, a: u32) -> u32
+        requires { CellPose self a }
+        ensures { Bounded (own_word (one self.header self.cell) side 0 a) B result }
+    {
+        if !self.is_offered(a) {
+            return search_lanes::NONE;
+        }
+        if counts_there(self.cell.row, side) {
+            return 0;
+        }
+        self.pose_cost(a)
+    }
 }
 
 // ---- the words of a cell
-
-// The site of its pose number 0, with D added; the widths of its layouts; whether it is tall.
-#[tactic(auto, unfolding(crate::specs::Words::shape_word, job::specs::Value::header_of, job::specs::Value::cell_of))]
-fn shape_word(header: Header, cell: Cell, i: usize) -> u32
-    requires { ShapeAt header cell i }
-    ensures { result ≡ shape_word (one header cell) 0 i }
-{
-    match i {
-        search_row::FIRST => {
-            let offer = job::offer_of(header, cell);
-            cell.given + (header.displacement - offer.limit)
-        }
-        search_row::WIDTH..search_row::TALL => job::width_of(cell, (i - search_row::WIDTH) as u32),
-        _ => u32::from(cell.row == 2),
-    }
-}
 
 // Where one of the 16 heights stands among the row's four; a mark exchanges the edges.
 fn edge_of(u: u32) -> usize
@@ -113,62 +107,82 @@ fn edge_of(u: u32) -> usize
     ((u / 8 + u % 2) % 2 * 2 + u / 4 % 2) as usize
 }
 
-// Its heights, by edge, type and variant.
-#[tactic(auto, unfolding(crate::specs::Words::height_word, job::specs::Value::cell_of))]
-fn height_word(header: Header, cell: Cell, side: u32, u: u32) -> u32
-    requires { HeightAt u side }
-    ensures { result ≡ height_word (one header cell) side 0 u }
-{
-    let i = job::first_of(cell.row, side) + edge_of(u);
-    job::height_of(cell, u % 4 / 2, i)
-}
-
-// Word i of a cell that bears a number. As the first of its row it may not stand one site from the row's start, nor as
-// the last end one site from the row's end.
-#[tactic(auto, unfolding(crate::specs::Words::cell_word, crate::specs::Words::end_word, job::specs::Value::header_of))]
-fn cell_word(header: Header, cell: Cell, side: u32, number: u32, i: usize) -> u32
-    requires { CellPut header cell side number }
-    ensures { Bounded (cell_word (one header cell) side 0 number i) B result }
-{
-    match i {
-        0..search_row::FIRST => own_word(header, cell, side, i as u32),
-        search_row::FIRST..search_row::LEFT_P => shape_word(header, cell, i),
-        search_row::LEFT_P..search_row::TOUCHING => {
-            height_word(header, cell, side, (i - search_row::LEFT_P) as u32)
+impl Lone {
+    // The site of its pose number 0, with D added; the widths of its layouts; whether it is tall.
+    #[tactic(auto, unfolding(crate::specs::Words::shape_word, job::specs::Value::header_of, job::specs::Value::cell_of))]
+    fn shape_word(self, i: usize) -> u32
+        requires { ShapeAt self i }
+        ensures { result ≡ shape_word (one self.header self.cell) 0 i }
+    {
+        match i {
+            search_row::FIRST => {
+                let offer = job::offer_of(self.header, self.cell);
+                self.cell.given + (self.header.displacement - offer.limit)
+            }
+            search_row::WIDTH..search_row::TALL => job::width_of(
+                self.cell,
+                (i - search_row::WIDTH) as u32,
+            ),
+            _ => u32::from(self.cell.row == 2),
         }
-        search_row::TOUCHING => header.step,
-        search_row::NUMBER => number,
-        search_row::FILLED => header.filled,
-        search_row::FRONT_BARRED => header.displacement + gap_charge::FORBIDDEN_GAP as u32,
-        _ => header.sites + header.displacement - gap_charge::FORBIDDEN_GAP as u32,
     }
-}
 
-// The words of a cell.
-fn fill_cell(row: &mut [u32], at: usize, header: Header, cell: Cell, side: u32, number: u32)
-    requires { CellToFill header cell side number at row.old }
-    ensures { Written (cell_word (one header cell) side 0 number) at words_used
-        row.old row.new }
-{
-    for i in 0..search_row::USED {
-        row[at + i] = cell_word(header, cell, side, number, i);
+    // Its heights, by edge, type and variant.
+    #[tactic(auto, unfolding(crate::specs::Words::height_word, job::specs::Value::cell_of))]
+    fn height_word(self, side: u32, u: u32) -> u32
+        requires { HeightAt u side }
+        ensures { result ≡ height_word (one self.header self.cell) side 0 u }
+    {
+        let i = job::first_of(self.cell.row, side) + edge_of(u);
+        job::height_of(self.cell, u % 4 / 2, i)
+    }
+
+    // Word i of the cell, which bears a number. As the first of its row it may not stand one site from the row's start,
+    // nor as the last end one site from the row's end.
+    #[tactic(auto, unfolding(crate::specs::Words::cell_word, crate::specs::Words::end_word, job::specs::Value::header_of))]
+    fn cell_word(self, side: u32, number: u32, i: usize) -> u32
+        requires { CellPut self side number }
+        ensures { Bounded (cell_word (one self.header self.cell) side 0 number i) B result }
+    {
+        match i {
+            0..search_row::FIRST => self.own_word(side, i as u32),
+            search_row::FIRST..search_row::LEFT_P => self.shape_word(i),
+            search_row::LEFT_P..search_row::TOUCHING => {
+                self.height_word(side, (i - search_row::LEFT_P) as u32)
+            }
+            search_row::TOUCHING => self.header.step,
+            search_row::NUMBER => number,
+            search_row::FILLED => self.header.filled,
+            search_row::FRONT_BARRED => self.header.displacement + gap_charge::FORBIDDEN_GAP as u32,
+            _ => self.header.sites + self.header.displacement - gap_charge::FORBIDDEN_GAP as u32,
+        }
+    }
+
+    // The words of the cell.
+    fn fill_cell(self, row: &mut [u32], at: usize, side: u32, number: u32)
+        requires { CellToFill self side number at row.old }
+        ensures { Written (cell_word (one self.header self.cell) side 0 number) at words_used row.old row.new }
+    {
+        for i in 0..search_row::USED {
+            row[at + i] = self.cell_word(side, number, i);
+        }
+    }
+
+    // The cell, at position n if it stands in the row; how many cells there are then.
+    #[tactic(auto, unfolding(job::specs::Value::cell_of))]
+    fn add_cell(self, row: &mut [u32], n: usize, side: u32, number: u32) -> usize
+        requires { CellToAdd self side number n row.old }
+        ensures { CellAdded (one self.header self.cell) side number n result row.old row.new }
+    {
+        if !job::stands(self.cell.row, side) {
+            return n;
+        }
+        self.fill_cell(row, n * search_row::CELL, side, number);
+        n + 1
     }
 }
 
 // ---- the row
-
-// The cell at position n, if it stands in the row; how many cells there are then.
-#[tactic(auto, unfolding(job::specs::Value::cell_of))]
-fn add_cell(row: &mut [u32], n: usize, header: Header, cell: Cell, side: u32, number: u32) -> usize
-    requires { CellToAdd header cell side number n row.old }
-    ensures { CellAdded (one header cell) side number n result row.old row.new }
-{
-    if !job::stands(cell.row, side) {
-        return n;
-    }
-    fill_cell(row, n * search_row::CELL, header, cell, side, number);
-    n + 1
-}
 
 // The words of the row's cells, in file order; how many cells it has.
 fn fill_cells(row: &mut [u32], job: Job, side: u32) -> usize
@@ -179,7 +193,11 @@ fn fill_cells(row: &mut [u32], job: Job, side: u32) -> usize
     let header = job.header;
     let mut n: usize = 0;
     for k in 0..job.count {
-        n = add_cell(row, n, header, job.cells[k], side, k as u32);
+        let lone = Lone {
+            header,
+            cell: job.cells[k],
+        };
+        n = lone.add_cell(row, n, side, k as u32);
     }
     n
 }

@@ -5,4 +5,4 @@ use Rattle.search_dense_layer.specs.Thin.{found_of}
 use Rattle.search_dense_layer.proofs.put.Given as goal
 
 abbrev pub invariant-loop-e : goal.invariant-loop-e
-invariant-loop-e l = Written (found_of l.row l.near l.apart l.far l.k) l.to (l.e * 4) l.initial.store l.store
+invariant-loop-e l = Written (found_of l.row l.buckets l.k) l.to (l.e * 4) l.initial.store l.store

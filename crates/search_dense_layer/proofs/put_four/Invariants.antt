@@ -6,4 +6,4 @@ use Rattle.search_dense_layer.proofs.put_four.Given as goal
 
 abbrev pub invariant-loop-v : goal.invariant-loop-v
 invariant-loop-v l =
-    Written (found_four l.row l.near l.apart l.far l.k l.e) (l.to + l.e * 4) l.v l.initial.store l.store
+    Written (found_four l.row l.buckets l.k l.e) (l.to + l.e * 4) l.v l.initial.store l.store

@@ -1,6 +1,6 @@
 use Rattle.std.proofs.Common.{sym, ◌∙◌}
 use Rattle.search_row_fill.specs.Values.{offered-right}
-use Rattle.search_row_fill.proofs.own_word.Goals as goal
+use Rattle.search_row_fill.proofs.Lone.own_word.Goals as goal
 
 pub pose_cost-requires : goal.pose_cost-requires
 pose_cost-requires c =
@@ -8,5 +8,5 @@ pose_cost-requires c =
     record {
       ranged = c.requires.ranged;
       few = c.requires.few;
-      right = offered-right c.args.header c.args.cell c.args.side c.args.a o;
+      right = offered-right c.args.self.header c.args.self.cell c.args.side c.args.a o;
     }

@@ -2,7 +2,7 @@ use native.Mathlib.Omega.{arith}
 use Rattle.search_buckets.specs.Sources.{poses-none, poses-more}
 use Rattle.search_dense_layer.specs.Thin.{poses_at}
 use Rattle.search_dense_layer.specs.Laws.{gathered_none, gathered-join}
-use Rattle.search_dense_layer.proofs.from_poses.Goals as goal
+use Rattle.search_dense_layer.proofs.Buckets.from_poses.Goals as goal
 
 pub loop-b-init : goal.loop-b-init
 loop-b-init c =

@@ -4,7 +4,7 @@ use native.Mathlib.Omega.{arith}
 use lib.ListN.{get_or}
 use Rattle.search_buckets.specs.Sources.{pays-low}
 use Rattle.search_dense_layer.specs.Laws.{gathered-pose, pays-free}
-use Rattle.search_dense_layer.proofs.from_pose.Goals as goal
+use Rattle.search_dense_layer.proofs.Buckets.from_pose.Goals as goal
 
 pub spread-requires : goal.spread-requires
 spread-requires c =
