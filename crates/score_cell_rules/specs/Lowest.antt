@@ -1,9 +1,8 @@
 -- What a search through n cells from a on finds: whether any passes a test, and the lowest. On the definition's words.
 use Prim.Native.Nat.{ℕ, zero, suc, ◌+◌, ◌≤◌, ◌<◌}
-use Rattle.std.specs.Prelude.{◌≡◌, ◌≢◌, List, Bool, ◌||◌, ◌∷◌, Option, None, Some}
+use Rattle.std.specs.Prelude.{◌≡◌, List, Bool, ◌||◌, ◌∷◌, Option, None, Some}
 use Rattle.std.proofs.Math.Path.{refl, ap}
-use Rattle.std.proofs.Common.{sym, ap₂, ◌∙◌, add-one, length, take, length-take-le}
-use Rattle.std.proofs.lemmas.List.{get_or-take}
+use Rattle.std.proofs.Common.{sym, ap₂, ◌∙◌, add-one, length}
 use Rattle.std.specs.Option.{MatchOption, option_map}
 use Rattle.std.proofs.Math.Bool.{true, false, cond}
 use native.Mathlib.Omega.{arith}
@@ -11,7 +10,7 @@ use Rattle.std.proofs.Math.Decide.{ℕ_discrete}
 use Rattle.std.specs.List.{list_any, range_with_len, AllWithin, HoldsAt}
 use Rattle.definition.specs.Lists.{from, any, keep}
 use Rattle.definition.specs.Rules.{lowest}
-use Rattle.score_cell_rules.specs.Marks.{marked_in, marked-true, marked-false}
+use Rattle.score_cell_rules.specs.Marks.{marked_in}
 
 -- the lowest cell, counted from 1, or none
 abbrev pub LowestIs : ℕ → Option ℕ → Type 0
@@ -103,22 +102,15 @@ keep_same f g a (suc n) h =
 
 -- ---- the first mark
 
--- the place of the first mark of 1 among the first n
-abbrev FirstMark : List ℕ → Option ℕ → Type 0
+-- the place of the first mark
+abbrev FirstMark : List Bool → Option ℕ → Type 0
 FirstMark xs r =
-    MatchOption r (AllWithin (λ x. x ≢ 1) xs 0 (length xs))
-    (λ i. (i < length xs) × HoldsAt (λ x. x ≡ 1) xs i × AllWithin (λ x. x ≢ 1) xs 0 i)
+    MatchOption r (AllWithin (λ x. x ≡ false) xs 0 (length xs))
+    (λ i. (i < length xs) × HoldsAt (λ x. x ≡ true) xs i × AllWithin (λ x. x ≡ false) xs 0 i)
 
-pub first_lowest : (marks : List ℕ) (n : ℕ) (r : Option ℕ) → n ≤ length marks → FirstMark (take n marks) r
-    → LowestIs (lowest (marked_in marks) (from 0 n)) (option_map (λ k. k + 1) r)
-first_lowest marks n None l h =
-    let g : length (take n marks) ≡ n = length-take-le n marks l in
-    lowest-none (marked_in marks) 0 n
-    (λ k a b. let c : k < n = omega arith in marked-false marks k (rw (get_or-take n marks k 0 c) at (h k 0 (omega arith) (omega arith))))
-first_lowest marks n (Some i) l h =
-    let g : length (take n marks) ≡ n = length-take-le n marks l in
-    let below : i < n = omega (arith, h.0) in
-    let e =
-    lowest-first (marked_in marks) 0 n i (omega arith) (omega arith) (marked-true marks i (rw (get_or-take n marks i 0 below) at (h.1 0)))
-    (λ k a b. let c : k < n = omega arith in marked-false marks k (rw (get_or-take n marks k 0 c) at (h.2 k 0 (omega arith) b))) in
+pub first_lowest : (marks : List Bool) (r : Option ℕ) → FirstMark marks r
+    → LowestIs (lowest (marked_in marks) (from 0 (length marks))) (option_map (λ k. k + 1) r)
+first_lowest marks None h = lowest-none (marked_in marks) 0 (length marks) (λ k a b. h k false (omega arith) (omega arith))
+first_lowest marks (Some i) h =
+    let e = lowest-first (marked_in marks) 0 (length marks) i (omega arith) (omega (arith, h.0)) (h.1 false) (λ k a b. h.2 k false (omega arith) b) in
     (add-one i ∙ sym e, omega arith)

@@ -1,43 +1,26 @@
--- Marks: an array of 64 words in which an entry of 1 says that the cell breaks a rule. How they are made, and read.
-use Rattle.std.specs.Prelude.{ℕ, suc, ◌+◌, ◌≤◌, ◌<◌, ◌≡◌, Bool, ◌||◌, cond, List, ◌∷◌, ◌++◌, length, get_or, take, set, replicate}
+-- Marks: a list with an entry for each cell, true if it breaks a rule. How they are made, and read.
+use Rattle.std.specs.Prelude.{ℕ, zero, suc, ◌+◌, ◌≤◌, ◌<◌, ◌≡◌, Bool, true, false, ◌||◌, List, ◌∷◌, ◌++◌, length, get_or, take, set, replicate}
 use Rattle.std.proofs.Math.Path.{refl, ap}
-use Rattle.std.proofs.Common.{◌∙◌, append_assoc, arith, length-set, get_or-set_same, get_or-set_other, take-suc-set, below_more, eq-eqb, ne_eqb}
-use Rattle.std.proofs.Math.Bool.{true, false}
-use Rattle.std.proofs.Math.Dec.{eqb}
-use Rattle.lists.specs.Zeros.{zeros_at}
+use Rattle.std.proofs.Math.Bool.{or_comm, or-false}
+use Rattle.std.proofs.Common.{◌∙◌, append_assoc, arith, length-set, get_or-set_same, get_or-set_other, take-suc-set, below_more}
 use Rattle.definition.specs.Job.{max_cells}
 
-unfoldable pub marked_in : List ℕ → ℕ → Bool
-marked_in marks k = eqb (get_or marks k 0) 1
+abbrev pub marked_in : List Bool → ℕ → Bool
+marked_in marks k = get_or marks k false
 
-pub marked-true : (marks : List ℕ) (k : ℕ) → get_or marks k 0 ≡ 1 → marked_in marks k ≡ true
-unfolding marked_in
-marked-true marks k e = eq-eqb (get_or marks k 0) 1 e
-
-pub marked-false : (marks : List ℕ) (k : ℕ) → (get_or marks k 0 ≡ 1 → ⊥) → marked_in marks k ≡ false
-unfolding marked_in
-marked-false marks k d = ne_eqb (get_or marks k 0) 1 d
-
--- two arrays with an entry for each of n cells
-pub record Arrays (n : ℕ) (a b : List ℕ) : Type 0 where
-  pub few : n ≤ max_cells
-  pub left : length a ≡ max_cells
+-- the marks of cells, and an array with an entry for each
+pub record Arrays (marks : List Bool) (b : List ℕ) : Type 0 where
+  pub few : length marks ≤ max_cells
   pub right : length b ≡ max_cells
 
--- the marks of a rule, of which those of n cells count
-pub record MarksOf (n : ℕ) (marks : List ℕ) : Type 0 where
-  pub few : n ≤ max_cells
-  pub long : length marks ≡ max_cells
+-- before and after: those cells that pass a test have been marked too
+pub record Added (f : ℕ → Bool) (marks marks' : List Bool) : Type 0 where
+  pub long : length marks' ≡ length marks
+  pub each : (k : ℕ) → k < length marks → marked_in marks' k ≡ (f k || marked_in marks k)
 
--- before and after: those cells below n that pass a test have been marked too
-pub record Added (n : ℕ) (f : ℕ → Bool) (marks marks' : List ℕ) : Type 0 where
-  pub long : length marks' ≡ max_cells
-  pub each : (k : ℕ) → k < n → get_or marks' k 0 ≡ cond (f k) 1 (get_or marks k 0)
-
--- no cell below n is marked
-pub record Unmarked (n : ℕ) (marks : List ℕ) : Type 0 where
-  pub long : length marks ≡ max_cells
-  pub zero : (k : ℕ) → k < n → get_or marks k 0 ≡ 0
+-- no cell is marked
+pub record Unmarked (marks : List Bool) : Type 0 where
+  pub none : (k : ℕ) → k < length marks → marked_in marks k ≡ false
 
 -- the first r entries of an array of 64 are a list of cells
 pub record CellsListed (cells : List ℕ) (r : ℕ) (array : List ℕ) : Type 0 where
@@ -48,25 +31,21 @@ pub record CellsListed (cells : List ℕ) (r : ℕ) (array : List ℕ) : Type 0 
 -- ---- one test, another
 
 -- of a test that no cell passes none
-pub added_none : (n : ℕ) (f : ℕ → Bool) (m : List ℕ) → length m ≡ max_cells → ((k : ℕ) → k < n → f k ≡ false)
-    → Added n f m m
-added_none n f m l h = record { long = l; each = λ k b. rw (h k b) }
+pub added_none : (f : ℕ → Bool) (m : List Bool) → ((k : ℕ) → k < length m → f k ≡ false) → Added f m m
+added_none f m h = record { long = refl; each = λ k b. rw (h k b) }
 
--- a test that agrees below n
-pub added-below : (n : ℕ) (f g : ℕ → Bool) (m m' : List ℕ)
-    → ((k : ℕ) → k < n → f k ≡ g k) → Added n f m m' → Added n g m m'
-added-below n f g m m' h a =
-    record { long = a.long; each = λ k b. a.each k b ∙ ap (λ t. cond t 1 (get_or m k 0)) (h k b) }
+-- a test that agrees on the cells
+pub added-below : (f g : ℕ → Bool) (m m' : List Bool) → ((k : ℕ) → k < length m → f k ≡ g k) → Added f m m' → Added g m m'
+added-below f g m m' h a = record { long = a.long; each = λ k b. a.each k b ∙ ap (λ t. t || marked_in m k) (h k b) }
 
--- two tests, one after the other: of fewer cells than they were tried on
-pub added-both : (n a b : ℕ) (f g : ℕ → Bool) (m₀ m₁ m₂ : List ℕ) → n ≤ a → n ≤ b → Added a f m₀ m₁ → Added b g m₁ m₂
-    → Added n (λ k. f k || (g k || false)) m₀ m₂
-added-both n a b f g m₀ m₁ m₂ h l p q = record {
-  long = q.long;
-  each = λ k c. q.each k (omega arith) ∙ ap (cond (g k) 1) (p.each k (omega arith)) ∙ go (f k) (g k) (get_or m₀ k 0);
+-- two tests, one after the other
+pub added-both : (f g : ℕ → Bool) (m₀ m₁ m₂ : List Bool) → Added f m₀ m₁ → Added g m₁ m₂ → Added (λ k. f k || (g k || false)) m₀ m₂
+added-both f g m₀ m₁ m₂ p q = record {
+  long = q.long ∙ p.long;
+  each = λ k c. q.each k (omega (arith, p.long)) ∙ ap (λ t. g k || t) (p.each k c) ∙ go (f k) (g k) (marked_in m₀ k);
 }
   where
-    go : (s t : Bool) (x : ℕ) → cond t 1 (cond s 1 x) ≡ cond (s || (t || false)) 1 x
+    go : (s t x : Bool) → (t || (s || x)) ≡ ((s || (t || false)) || x)
     go true true x = refl
     go true false x = refl
     go false true x = refl
@@ -74,64 +53,56 @@ added-both n a b f g m₀ m₁ m₂ h l p q = record {
 
 -- ---- marks where there were none
 
-pub zeros_unmarked : (n : ℕ) → Unmarked n (replicate max_cells 0)
-zeros_unmarked n = record { long = refl; zero = λ k h. zeros_at max_cells k }
+pub unmarked_fresh : (n m : ℕ) → Unmarked (take n (replicate m false))
+unmarked_fresh n m = record { none = λ k _. none n m k }
+  where
+    none : (n m k : ℕ) → marked_in (take n (replicate m false)) k ≡ false
+    none zero m k = refl
+    none (suc n) zero k = refl
+    none (suc n) (suc m) zero = refl
+    none (suc n) (suc m) (suc k) = none n m k
 
-module _ {n : ℕ} {m : List ℕ} (u : Unmarked n m) where
-  pub unmarked-none : (k : ℕ) → k < n → marked_in m k ≡ false
-  unfolding marked_in
-  unmarked-none k h = rw (u.zero k h)
+module _ {m : List Bool} (u : Unmarked m) {f : ℕ → Bool} {m' : List Bool} (a : Added f m m') where
+  pub marked-is : (k : ℕ) → k < length m' → marked_in m' k ≡ f k
+  marked-is k h =
+      let l : k < length m = omega (arith, a.long) in
+      a.each k l ∙ ap (λ t. f k || t) (u.none k l) ∙ or-false (f k)
 
-  module _ {f : ℕ → Bool} {m' : List ℕ} (a : Added n f m m') where
-    pub marked-is : (k : ℕ) → k < n → marked_in m' k ≡ f k
-    unfolding marked_in
-    marked-is k h = ap (λ x. eqb x 1) (a.each k h ∙ ap (cond (f k) 1) (u.zero k h)) ∙ go (f k)
-      where
-        go : (t : Bool) → eqb (cond t 1 0) 1 ≡ t
-        go true = refl
-        go false = refl
-
-    pub unmarked_still : ((k : ℕ) → k < n → f k ≡ false) → Unmarked n m'
-    unmarked_still h = record {
-      long = a.long;
-      zero = λ k l. a.each k l ∙ ap (λ t. cond t 1 (get_or m k 0)) (h k l) ∙ u.zero k l;
-    }
+  pub unmarked_still : ((k : ℕ) → k < length m' → f k ≡ false) → Unmarked m'
+  unmarked_still h = record { none = λ k l. marked-is k l ∙ h k l }
 
 -- ---- a test of each cell, by what it answered
 
--- each cell below n was marked if its test answered so
-pub record Tried (n : ℕ) (Test : ℕ → Bool → Type 0) (marks marks' : List ℕ) : Type 0 where
-  pub long : length marks' ≡ max_cells
-  pub each : (k : ℕ) → k < n → (b : Bool) × Test k b × (get_or marks' k 0 ≡ cond b 1 (get_or marks k 0))
+-- each cell was marked if its test answered so
+pub record Tried (Test : ℕ → Bool → Type 0) (marks marks' : List Bool) : Type 0 where
+  pub long : length marks' ≡ length marks
+  pub each : (k : ℕ) → k < length marks → (b : Bool) × Test k b × (marked_in marks' k ≡ (b || marked_in marks k))
 
--- the same, and the marks from n on are as they were
-pub record Trying (n : ℕ) (Test : ℕ → Bool → Type 0) (marks marks' : List ℕ) : Type 0 where
-  pub tried : Tried n Test marks marks'
-  pub rest : (k : ℕ) → n ≤ k → get_or marks' k 0 ≡ get_or marks k 0
+-- each below n, and the marks from n on are as they were
+pub record Trying (n : ℕ) (Test : ℕ → Bool → Type 0) (marks marks' : List Bool) : Type 0 where
+  pub long : length marks' ≡ length marks
+  pub each : (k : ℕ) → k < n → (b : Bool) × Test k b × (marked_in marks' k ≡ (b || marked_in marks k))
+  pub rest : (k : ℕ) → n ≤ k → marked_in marks' k ≡ marked_in marks k
 
-module _ {n : ℕ} {Test : ℕ → Bool → Type 0} {m m' : List ℕ} where
-  pub tried-added : (f : ℕ → Bool) → Tried n Test m m' → ((k : ℕ) (b : Bool) → k < n → Test k b → b ≡ f k) → Added n f m m'
+module _ {Test : ℕ → Bool → Type 0} {m m' : List Bool} where
+  pub tried-added : (f : ℕ → Bool) → Tried Test m m' → ((k : ℕ) (b : Bool) → k < length m → Test k b → b ≡ f k) → Added f m m'
   tried-added f t h = record {
     long = t.long;
-    each = λ k l. let x = t.each k l in x.2 ∙ ap (λ b. cond b 1 (get_or m k 0)) (h k x.0 l x.1);
+    each = λ k l. let x = t.each k l in x.2 ∙ ap (λ b. b || marked_in m k) (h k x.0 l x.1);
   }
 
-  -- one cell more, which is marked or not
-  module _ (p : Trying n Test m m') where
-    pub trying-hit : n < length m' → Test n true → Trying (n + 1) Test m (set m' n 1)
-    trying-hit l t = record {
-      tried = record { long = simp length-set p.tried.long; each = below_more _ _ old (true, t, get_or-set_same m' n 1 0 l) };
-      rest = λ k g. get_or-set_other m' n k 1 0 (λ e. omega arith) ∙ p.rest k (omega arith);
-    }
-      where
-        old : (k : ℕ) → k < n → (b : Bool) × Test k b × (get_or (set m' n 1) k 0 ≡ cond b 1 (get_or m k 0))
-        old k h = let x = p.tried.each k h in (x.0, x.1, get_or-set_other m' n k 1 0 (λ e. omega arith) ∙ x.2)
-
-    pub trying-miss : Test n false → Trying (n + 1) Test m m'
-    trying-miss t = record {
-      tried = record { long = p.tried.long; each = below_more _ _ p.tried.each (false, t, p.rest n (omega arith)) };
-      rest = λ k g. p.rest k (omega arith);
-    }
+  -- one cell more
+  pub trying-more : {n : ℕ} → Trying n Test m m' → n < length m' → (b : Bool) → Test n b
+      → Trying (n + 1) Test m (set m' n (marked_in m' n || b))
+  trying-more {n} p l b t =
+      let x : Bool = marked_in m' n || b in
+      record {
+        long = simp length-set p.long;
+        each = below_more _ _
+            (λ k h. let y = p.each k h in (y.0, y.1, get_or-set_other m' n k x false (λ e. omega arith) ∙ y.2))
+            (b, t, get_or-set_same m' n x false l ∙ or_comm (marked_in m' n) b ∙ ap (λ y. b || y) (p.rest n (omega arith)));
+        rest = λ k g. get_or-set_other m' n k x false (λ e. omega arith) ∙ p.rest k (omega arith);
+      }
 
 -- ---- a list of cells: one more, which is x, behind the first n
 pub taken_more : (l : List ℕ) (n m x k : ℕ) (t : List ℕ) → m ≡ suc n → x ≡ k → n < length l

@@ -9,7 +9,8 @@ use Rattle.lists.specs.Compare.{Le?, low, high, le?, Eq?, same, differs, eq?}
 use Rattle.lists.specs.Membership.{index_of}
 use Rattle.definition.specs.Lists.{from, any}
 use Rattle.job.specs.Parts.{stands_in}
-use Rattle.score_order.specs.Words.{site_in, end_in, row_in, cells_in}
+use Rattle.score_order.specs.declared.Stand.{Stand}
+use Rattle.score_order.specs.Words.{site_in, end_in, row_in, row_in_file}
 use Rattle.score_order.specs.Sorting.{in_sort}
 use Rattle.score_order.specs.Cells.{in_cells}
 use Rattle.score_cell_rules.specs.Tests.{share_in, clash_in, clashes_in, wrong_in, passes_in, RowOrder}
@@ -50,37 +51,37 @@ module _ {S : ℕ → Type 0} {f g : ℕ → ℕ} {i reach n : ℕ} (e : n ≡ s
 -- ---- what the tests say
 
 -- every cell of the list ends at or before the site of each that follows
-pub record InLine (words list : List ℕ) : Type 0 where
-  pub ahead : (p q : ℕ) → p < q → q < length list → end_in words (get_or list p 0) ≤ site_in words (get_or list q 0)
+pub record InLine (stands : List Stand) (list : List ℕ) : Type 0 where
+  pub ahead : (p q : ℕ) → p < q → q < length list → end_in stands (get_or list p 0) ≤ site_in stands (get_or list q 0)
 
--- of any two of the first n cells that stand in a row, one ends at or before the other's site
-pub record RowClear (words : List ℕ) (row n : ℕ) : Type 0 where
-  pub apart : (a b : ℕ) → a < n → b < n
-      → stands_in row (row_in words a) ≡ true → stands_in row (row_in words b) ≡ true → a ≢ b
-      → (end_in words a ≤ site_in words b) ⊎ (end_in words b ≤ site_in words a)
+-- of any two cells that stand in a row, one ends at or before the other's site
+pub record RowClear (stands : List Stand) (row : ℕ) : Type 0 where
+  pub apart : (a b : ℕ) → a < length stands → b < length stands
+      → stands_in row (row_in stands a) ≡ true → stands_in row (row_in stands b) ≡ true → a ≢ b
+      → (end_in stands a ≤ site_in stands b) ⊎ (end_in stands b ≤ site_in stands a)
 
 -- the sites of tall cells do not fall in file order
-pub record TallRising (words : List ℕ) (n : ℕ) : Type 0 where
-  pub rising : (a b : ℕ) → a < b → b < n → row_in words a ≡ 2 → row_in words b ≡ 2 → site_in words a ≤ site_in words b
+pub record TallRising (stands : List Stand) : Type 0 where
+  pub rising : (a b : ℕ) → a < b → b < length stands → row_in stands a ≡ 2 → row_in stands b ≡ 2 → site_in stands a ≤ site_in stands b
 
 -- ---- rule 4: each cell of a row is an entry of its order
 
-module _ {words order : List ℕ} {row n : ℕ} (o : RowOrder words n row order) where
-  in_order : (k : ℕ) → k < n → stands_in row (row_in words k) ≡ true → (p : ℕ) × (p < length order) × (get_or order p 0 ≡ k)
+module _ {stands : List Stand} {order : List ℕ} {row : ℕ} (o : RowOrder stands row order) where
+  in_order : (k : ℕ) → k < length stands → stands_in row (row_in stands k) ≡ true → (p : ℕ) × (p < length order) × (get_or order p 0 ≡ k)
   in_order k h s =
-      let m = in_sort (site_in words) (cells_in words row 0 n) (in_cells words row n k h s) in
+      let m = in_sort (site_in stands) (row_in_file stands row) (in_cells stands row (length stands) k h s) in
       index_of order (rw o.same m)
 
-  pub row-clear : InLine words order → RowClear words row n
+  pub row-clear : InLine stands order → RowClear stands row
   row-clear l = record { apart = λ a b h g s r d. go a b d (in_order a h s) (in_order b g r) }
     where
       go : (a b : ℕ) → a ≢ b → (p : ℕ) × (p < length order) × (get_or order p 0 ≡ a)
           → (p : ℕ) × (p < length order) × (get_or order p 0 ≡ b)
-          → (end_in words a ≤ site_in words b) ⊎ (end_in words b ≤ site_in words a)
+          → (end_in stands a ≤ site_in stands b) ⊎ (end_in stands b ≤ site_in stands a)
       go a b d x y = to (ℕ_discrete x.0 y.0) (leb x.0 y.0) (le? x.0 y.0)
         where
           to : Dec (x.0 ≡ y.0) → (t : Bool) → Le? x.0 y.0 t
-              → (end_in words a ≤ site_in words b) ⊎ (end_in words b ≤ site_in words a)
+              → (end_in stands a ≤ site_in stands b) ⊎ (end_in stands b ≤ site_in stands a)
           to (yes e) b' c = absurd (d (sym x.2 ∙ ap (λ p. get_or order p 0) e ∙ y.2))
           to (no e) true (low h) = inl (rw (x.2, y.2) at (l.ahead x.0 y.0 (omega arith) y.1))
           to (no e) false (high h) = inr (rw (y.2, x.2) at (l.ahead y.0 x.0 (omega arith) x.1))
@@ -98,36 +99,36 @@ share-cases a b e = go (stands_in 0 a && stands_in 0 b) (stands_in 1 a && stands
     go false true e = inr refl
     go false false e = absurd (false≢true e)
 
-module _ (words : List ℕ) (n : ℕ) (c₀ : RowClear words 0 n) (c₁ : RowClear words 1 n) where
+module _ (stands : List Stand) (c₀ : RowClear stands 0) (c₁ : RowClear stands 1) where
   -- cells that share a row are apart in it
-  shared : (k b : ℕ) → k < n → b < n → k ≢ b → Both (row_in words k) (row_in words b)
-      → (end_in words k ≤ site_in words b) ⊎ (end_in words b ≤ site_in words k)
+  shared : (k b : ℕ) → k < length stands → b < length stands → k ≢ b → Both (row_in stands k) (row_in stands b)
+      → (end_in stands k ≤ site_in stands b) ⊎ (end_in stands b ≤ site_in stands k)
   shared k b h g d (inl e) =
-      let s = (and-eq-true_iff (stands_in 0 (row_in words k)) (stands_in 0 (row_in words b))).0 e in
+      let s = (and-eq-true_iff (stands_in 0 (row_in stands k)) (stands_in 0 (row_in stands b))).0 e in
       c₀.apart k b h g s.0 s.1 d
   shared k b h g d (inr e) =
-      let s = (and-eq-true_iff (stands_in 1 (row_in words k)) (stands_in 1 (row_in words b))).0 e in
+      let s = (and-eq-true_iff (stands_in 1 (row_in stands k)) (stands_in 1 (row_in stands b))).0 e in
       c₁.apart k b h g s.0 s.1 d
 
-  no-clash : (k b : ℕ) → k < n → b < n → clash_in words k b ≡ false
+  no-clash : (k b : ℕ) → k < length stands → b < length stands → clash_in stands k b ≡ false
   unfolding clash_in
   no-clash k b h g =
-      go (eqb b k) (eq? b k) (share_in (row_in words k) (row_in words b)) (share-cases (row_in words k) (row_in words b))
+      go (eqb b k) (eq? b k) (share_in (row_in stands k) (row_in stands b)) (share-cases (row_in stands k) (row_in stands b))
     where
-      far : (end_in words k ≤ site_in words b) ⊎ (end_in words b ≤ site_in words k)
-          → (ltb (site_in words k) (end_in words b) && ltb (site_in words b) (end_in words k)) ≡ false
-      far (inl l) = rw (le-ltb (site_in words b) (end_in words k) l) (and-false (ltb (site_in words k) (end_in words b)))
-      far (inr l) = rw (le-ltb (site_in words k) (end_in words b) l)
+      far : (end_in stands k ≤ site_in stands b) ⊎ (end_in stands b ≤ site_in stands k)
+          → (ltb (site_in stands k) (end_in stands b) && ltb (site_in stands b) (end_in stands k)) ≡ false
+      far (inl l) = rw (le-ltb (site_in stands b) (end_in stands k) l) (and-false (ltb (site_in stands k) (end_in stands b)))
+      far (inr l) = rw (le-ltb (site_in stands k) (end_in stands b) l)
 
-      go : (t : Bool) → Eq? b k t → (s : Bool) → (s ≡ true → Both (row_in words k) (row_in words b))
-          → (not t && (s && ltb (site_in words k) (end_in words b) && ltb (site_in words b) (end_in words k))) ≡ false
+      go : (t : Bool) → Eq? b k t → (s : Bool) → (s ≡ true → Both (row_in stands k) (row_in stands b))
+          → (not t && (s && ltb (site_in stands k) (end_in stands b) && ltb (site_in stands b) (end_in stands k))) ≡ false
       go true (same e) s f = refl
       go false (differs d) false f = refl
       go false (differs d) true f = far (shared k b h g (λ e. d (sym e)) (f refl))
 
-  pub no_clashes : (k : ℕ) → k < n → clashes_in words n k ≡ false
+  pub no_clashes : (k : ℕ) → k < length stands → clashes_in stands k ≡ false
   unfolding clashes_in
-  no_clashes k h = any_none (clash_in words k) 0 n (λ b _ g. no-clash k b h (omega arith))
+  no_clashes k h = any_none (clash_in stands k) 0 (length stands) (λ b _ g. no-clash k b h (omega arith))
 
 -- ---- rule 7
 
@@ -139,23 +140,23 @@ not-wrong b k x y f = go (leb (suc b) k) (le? (suc b) k)
     go true (low h) = le-ltb y x (f (omega arith))
     go false (high h) = refl
 
-module _ (words : List ℕ) (n : ℕ) (c : TallRising words n) where
-  right_side : (k b : ℕ) → k < n → b < n → row_in words k ≡ 2 → (t : Bool) → Eq? (row_in words b) 2 t
-      → wrong_in words k b ≡ false
+module _ (stands : List Stand) (c : TallRising stands) where
+  right_side : (k b : ℕ) → k < length stands → b < length stands → row_in stands k ≡ 2 → (t : Bool) → Eq? (row_in stands b) 2 t
+      → wrong_in stands k b ≡ false
   unfolding wrong_in
-  right_side k b h g s false (differs d) = rw (ne_eqb (row_in words b) 2 d)
+  right_side k b h g s false (differs d) = rw (ne_eqb (row_in stands b) 2 d)
   right_side k b h g s true (same e) = rw (
-    eq-eqb (row_in words b) 2 e,
-    not-wrong b k (site_in words b) (site_in words k) (λ l. c.rising b k l h e s),
-    not-wrong k b (site_in words k) (site_in words b) (λ l. c.rising k b l g s e),
+    eq-eqb (row_in stands b) 2 e,
+    not-wrong b k (site_in stands b) (site_in stands k) (λ l. c.rising b k l h e s),
+    not-wrong k b (site_in stands k) (site_in stands b) (λ l. c.rising k b l g s e),
   )
 
-  pub none_passed : (k : ℕ) → k < n → passes_in words n k ≡ false
+  pub none_passed : (k : ℕ) → k < length stands → passes_in stands k ≡ false
   unfolding passes_in
-  none_passed k h = go (eqb (row_in words k) 2) (eq? (row_in words k) 2)
+  none_passed k h = go (eqb (row_in stands k) 2) (eq? (row_in stands k) 2)
     where
-      go : (t : Bool) → Eq? (row_in words k) 2 t → (t && any (wrong_in words k) (from 0 n)) ≡ false
+      go : (t : Bool) → Eq? (row_in stands k) 2 t → (t && any (wrong_in stands k) (from 0 (length stands))) ≡ false
       go false (differs d) = refl
       go true (same e) =
-          any_none (wrong_in words k) 0 n
-          (λ b _ g. right_side k b h (omega arith) e (eqb (row_in words b) 2) (eq? (row_in words b) 2))
+          any_none (wrong_in stands k) 0 (length stands)
+          (λ b _ g. right_side k b h (omega arith) e (eqb (row_in stands b) 2) (eq? (row_in stands b) 2))

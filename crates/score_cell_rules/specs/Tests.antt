@@ -1,82 +1,63 @@
--- The rules that are judged cell by cell, on the words of a placed job. They are the definition's: see
+-- The rules that are judged cell by cell, by how the cells stand. They are the definition's: see
 -- Flat in score_verdict. And what the functions that judge rules are given.
-use Rattle.std.specs.Prelude.{ℕ, ◌≤◌, ◌<◌, ◌≡◌, Bool, not, ◌&&◌, ◌||◌, List, length, get_or, leb, ltb, eqb}
+use Rattle.std.specs.Prelude.{ℕ, ◌≤◌, ◌<◌, ◌≡◌, Bool, not, ◌&&◌, ◌||◌, List, length, leb, ltb, eqb}
 use Rattle.definition.specs.Lists.{from, any}
 use Rattle.definition.specs.Job.{both_rows, max_cells}
-use Rattle.score_order.specs.Words.{word_count, site_in, end_in, row_in, order_in, Words}
+use Rattle.score_order.specs.declared.Stand.{Stand}
+use Rattle.score_order.specs.Words.{site_in, end_in, row_in, order_in, Below}
 use Rattle.job.specs.declared.Job.{Job}
 use Rattle.job.specs.declared.Placement.{Placement}
 use Rattle.job.specs.Parts.{stands_in}
 use Rattle.job.specs.Ready.{Ready}
 
 -- rule 2: past the row's end
-unfoldable pub past_in : List ℕ → ℕ → ℕ → Bool
-past_in words sites k = not (leb (end_in words k) sites)
+unfoldable pub past_in : List Stand → ℕ → ℕ → Bool
+past_in stands sites k = not (leb (end_in stands k) sites)
 
--- rule 4: cells of two row numbers share a row; two cells clash; a cell clashes with any of n
+-- rule 4: cells of two row numbers share a row; two cells clash; a cell clashes with any
 unfoldable pub share_in : ℕ → ℕ → Bool
 share_in a b = any (λ row. stands_in row a && stands_in row b) both_rows
 
-unfoldable pub clash_in : List ℕ → ℕ → ℕ → Bool
-clash_in words k b =
+unfoldable pub clash_in : List Stand → ℕ → ℕ → Bool
+clash_in stands k b =
     not (eqb b k)
-    && (share_in (row_in words k) (row_in words b)
-    && ltb (site_in words k) (end_in words b)
-    && ltb (site_in words b) (end_in words k))
+    && (share_in (row_in stands k) (row_in stands b)
+    && ltb (site_in stands k) (end_in stands b)
+    && ltb (site_in stands b) (end_in stands k))
 
-unfoldable pub clashes_in : List ℕ → ℕ → ℕ → Bool
-clashes_in words n k = any (clash_in words k) (from 0 n)
+unfoldable pub clashes_in : List Stand → ℕ → Bool
+clashes_in stands k = any (clash_in stands k) (from 0 (length stands))
 
--- rule 7: a tall cell is on the wrong side of cell k; any of n is
-unfoldable pub wrong_in : List ℕ → ℕ → ℕ → Bool
-wrong_in words k b =
-    eqb (row_in words b) 2
-    && ((ltb b k && ltb (site_in words k) (site_in words b)) || (ltb k b && ltb (site_in words b) (site_in words k)))
+-- rule 7: a tall cell is on the wrong side of cell k; any is
+unfoldable pub wrong_in : List Stand → ℕ → ℕ → Bool
+wrong_in stands k b =
+    eqb (row_in stands b) 2
+    && ((ltb b k && ltb (site_in stands k) (site_in stands b)) || (ltb k b && ltb (site_in stands b) (site_in stands k)))
 
-unfoldable pub passes_in : List ℕ → ℕ → ℕ → Bool
-passes_in words n k = eqb (row_in words k) 2 && any (wrong_in words k) (from 0 n)
+unfoldable pub passes_in : List Stand → ℕ → Bool
+passes_in stands k = eqb (row_in stands k) 2 && any (wrong_in stands k) (from 0 (length stands))
 
 -- ---- what is given
 
 -- two cells to compare
-pub record Two (words : List ℕ) (k b : ℕ) : Type 0 where
-  pub long : length words ≡ word_count
-  pub left : k < max_cells
-  pub right : b < max_cells
+pub record Two (stands : List Stand) (k b : ℕ) : Type 0 where
+  pub left : k < length stands
+  pub right : b < length stands
 
--- the words of n cells, and one to be compared with each of them
-pub record OneOfAll (words : List ℕ) (n k : ℕ) : Type 0 where
-  pub cells : Words words n
-  pub cell : k < max_cells
+-- a row's cells from left to right
+pub record RowOrder (stands : List Stand) (row : ℕ) (order : List ℕ) : Type 0 where
+  pub few : length order ≤ max_cells
+  pub cells : Below (length stands) order
+  pub same : order ≡ order_in stands row
 
--- a list of cells
-pub record Cells (list : List ℕ) : Type 0 where
-  pub few : length list ≤ max_cells
-  pub low : (i : ℕ) → get_or list i 0 < max_cells
+-- the order of both rows, and a mark for each cell
+pub record ByOrder (stands : List Stand) (order₀ order₁ : List ℕ) (m : List Bool) : Type 0 where
+  pub few : length stands ≤ max_cells
+  pub row0 : RowOrder stands 0 order₀
+  pub row1 : RowOrder stands 1 order₁
+  pub marks : length m ≡ length stands
 
--- a row's cells from left to right, of those of n
-pub record RowOrder (words : List ℕ) (n row : ℕ) (order : List ℕ) : Type 0 where
-  pub listed : Cells order
-  pub same : order ≡ order_in words row n
-
--- words of 64 cells, and a list of some of these
-pub record ListIn (words list : List ℕ) : Type 0 where
-  pub long : length words ≡ word_count
-  pub listed : Cells list
-
--- what a rule is judged by, and its marks: the words of n cells
-pub record ByWords (words : List ℕ) (n : ℕ) (m : List ℕ) : Type 0 where
-  pub cells : Words words n
-  pub marks : length m ≡ max_cells
-
--- these and the order of both rows
-pub record ByOrder (words : List ℕ) (n : ℕ) (order₀ order₁ m : List ℕ) : Type 0 where
-  pub cells : Words words n
-  pub row0 : RowOrder words n 0 order₀
-  pub row1 : RowOrder words n 1 order₁
-  pub marks : length m ≡ max_cells
-
--- a job and a placement
-pub record ByOffer (job : Job) (P : Placement) (m : List ℕ) : Type 0 where
+-- a job and a placement, and a mark for each cell
+pub record ByOffer (job : Job) (P : Placement) (m : List Bool) : Type 0 where
   pub ready : Ready job P
-  pub marks : length m ≡ max_cells
+  pub marks : length m ≡ job.count

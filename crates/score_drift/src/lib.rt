@@ -7,6 +7,7 @@ ghost use Rattle.std.specs.Prelude.{◌≡◌, ◌*◌, pos, ◌-ℤ◌};
 ghost use Rattle.definition.specs.Cost.{nearest};
 ghost use Rattle.score_drift.specs.Total.{Digits, InRange, SumOver, Average, Displaced, drift_of};
 
+use score_order::Stand;
 use std::cmp::Ordering;
 
 // How far a cell was moved to the right; negative if to the left.
@@ -18,13 +19,13 @@ fn displacement(site: u32, given: u32) -> i32
 }
 
 // The signed sum of the displacements of all cells.
-pub fn total_shift(words: &[u32], count: usize) -> i32
-    requires { Digits words.now count }
-    ensures { Displaced words.now count result }
+pub fn total_shift(stands: &[Stand]) -> i32
+    requires { Digits stands.now }
+    ensures { Displaced stands.now result }
 {
     let mut total = 0;
-    for k in 0..count {
-        total += displacement(words[4 * k], words[4 * k + 3]);
+    for stand in stands {
+        total += displacement(stand.site, stand.given);
     }
     total
 }

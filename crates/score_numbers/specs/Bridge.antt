@@ -18,6 +18,7 @@ use Rattle.job.specs.declared.Placement.{Placement}
 use Rattle.job.specs.declared.Pose.{Pose}
 use Rattle.job.specs.Value.{job_of, header_of, pose_of, placement_of}
 use Rattle.job.specs.Ready.{Ready}
+use Rattle.score_order.specs.declared.Stand.{Stand}
 use Rattle.score_words.specs.Flat.{Flat}
 use Rattle.job.specs.Cells.{pose-there}
 use Rattle.score_drift.specs.Total.{Digits}
@@ -26,14 +27,15 @@ use Rattle.score_numbers.specs.Sums.{sum_from, shift_in, count-poses}
 
 -- ---- what is given
 
--- a job and a placement that may be scored, and the words of the placed cells
-pub record InWords (job : Job) (P : Placement) (words : List ℕ) : Type 0 where
+-- a job and a placement that may be scored, and how the cells stand
+pub record Standing (job : Job) (P : Placement) (stands : List Stand) : Type 0 where
   pub ready : Ready job P
-  pub flat : Flat (job_of job) (placement_of P) job.count words
+  pub flat : Flat (job_of job) (placement_of P) stands
+  pub count : length stands ≡ job.count
 
 -- these, and a row
-pub record RowInWords (job : Job) (P : Placement) (words : List ℕ) (r : ℕ) : Type 0 where
-  pub placed : InWords job P words
+pub record StandingRow (job : Job) (P : Placement) (stands : List Stand) (r : ℕ) : Type 0 where
+  pub placed : Standing job P stands
   pub row : r ≤ 1
 
 -- the weights of a header are in range
@@ -68,17 +70,17 @@ pub record AllSteps (j : paper.Job) (P : text.Placement) (r : Steps) : Type 0 wh
   pub filled : r.filled ≡ filled_steps j P
   pub most : r.touching + r.filled ≤ 252
 
--- ---- from the words
+-- ---- from how the cells stand
 
 -- sites and given sites are in range
-pub flat-digits : {job : Job} {P : Placement} {words : List ℕ} → InWords job P words → Digits words job.count
+pub flat-digits : {job : Job} {P : Placement} {stands : List Stand} → Standing job P stands → Digits stands
 flat-digits {P = P} w =
     let r = w.ready in
     let f = w.flat in
     record {
-      cells = record { long = f.long; few = r.accepted.few };
+      few = f.few;
       site = λ k h.
-          omega (arith, (f.shows k).site, ap (λ p. p.site) (pose-there P k (omega (arith, r.each))), r.site k h);
+          omega (arith, (f.shows k).site, ap (λ p. p.site) (pose-there P k (omega (arith, w.count, r.each))), r.site k (omega (arith, w.count)));
       given = λ k h.
           omega (arith, (f.shows k).given, (r.accepted.sound.cell k (omega (arith, f.count))).given);
     }
@@ -93,8 +95,8 @@ pub steps_all : (j : paper.Job) (P : text.Placement) (r : Steps) → AllSteps j 
     → r.touching + r.filled ≡ steps j P
 steps_all j P r a = ap₂ ◌+◌ a.touching a.filled ∙ sym (steps-parts j P)
 
-module _ {j : paper.Job} {P : text.Placement} {n : ℕ} {words : List ℕ} (f : Flat j P n words) where
-  pub flat-shifted : sum_from (shift_in words) 0 n ≡ shifted j P
+module _ {j : paper.Job} {P : text.Placement} {stands : List Stand} (f : Flat j P stands) where
+  pub flat-shifted : sum_from (shift_in stands) 0 (length stands) ≡ shifted j P
   unfolding sum_from shift_in shifted
   flat-shifted =
       ap₂ (λ (g : ℕ → ℕ) m. sum g (from 0 m)) (fun_ext (λ k. ap₂ apart (f.shows k).site (f.shows k).given))

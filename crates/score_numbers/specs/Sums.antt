@@ -7,6 +7,7 @@ use Rattle.definition.specs.Placement as text
 use Rattle.definition.specs.Rules.{no_pose, apart}
 use Rattle.job.specs.declared.Pose.{Pose}
 use Rattle.job.specs.Value.{pose_of}
+use Rattle.score_order.specs.declared.Stand.{Stand}
 use Rattle.score_order.specs.Words.{site_in, given_in}
 
 -- the sum of f over n cells from k on
@@ -14,8 +15,8 @@ unfoldable pub sum_from : (ℕ → ℕ) → ℕ → ℕ → ℕ
 sum_from f k n = sum f (from k n)
 
 -- sites shifted, of one cell
-unfoldable pub shift_in : List ℕ → ℕ → ℕ
-shift_in words k = apart (site_in words k) (given_in words k)
+unfoldable pub shift_in : List Stand → ℕ → ℕ
+shift_in stands k = apart (site_in stands k) (given_in stands k)
 
 pub sum_more : (i k n m : ℕ) → k ≡ suc i → n ≡ suc m → (f : ℕ → ℕ) → sum_from f i n ≡ f i + sum_from f k m
 unfolding sum_from

@@ -14,15 +14,15 @@ ghost use Rattle.score_steps.specs.Steps.{RowSteps};
 ghost use Rattle.score_drift.specs.Total.{Digits};
 ghost use Rattle.score_numbers.specs.Sums.{sum_from, shift_in};
 ghost use Rattle.score_numbers.specs.Counted.{no_numbers, first_in, numbers_in, Pushable, Counted};
-ghost use Rattle.score_numbers.specs.Bridge.{InWords, RowInWords, AllSteps, Weighable};
+ghost use Rattle.score_numbers.specs.Bridge.{Standing, StandingRow, AllSteps, Weighable};
 ghost use Rattle.score_numbers.specs.Bridge.{StepsWeighable, StepsWeighed};
 
 use job::{Header, Job, Placement, Pose};
 use results::Fields;
 use score_drift::{drift_from, total_shift};
-use score_order::order_row;
+use score_order::{Stand, order_row};
 use score_steps::{Steps, steps_in};
-use score_words::flatten;
+use score_words::stands_of;
 
 #[derive(Clone, Copy, Default)]
 pub struct Numbers {
@@ -86,14 +86,14 @@ pub fn push_numbers(fields: Fields, n: Numbers, count: usize) -> Fields
 }
 
 // Sites shifted, over all cells: once a cell, in whichever rows it stands.
-fn shifted_in(words: &[u32], count: usize) -> u32
-    requires { Digits words.now count }
-    ensures same { result ≡ sum_from (shift_in words.now) 0 count }
+fn shifted_in(stands: &[Stand]) -> u32
+    requires { Digits stands.now }
+    ensures same { result ≡ sum_from (shift_in stands.now) 0 (length stands.now) }
     ensures few { result ≤ 800000 }
 {
     let mut total = 0;
-    for k in 0..count {
-        total += words[4 * k].abs_diff(words[4 * k + 3]);
+    for stand in stands {
+        total += stand.site.abs_diff(stand.given);
     }
     total
 }
@@ -117,22 +117,22 @@ fn changed_in(poses: &[Pose]) -> u32
 }
 
 // The steps of one row.
-fn steps_row(job: Job, placement: Placement, words: &[u32], row: u32) -> Steps
-    requires { RowInWords job placement words.now row }
+fn steps_row(job: Job, placement: Placement, stands: &[Stand], row: u32) -> Steps
+    requires { StandingRow job placement stands.now row }
     ensures { RowSteps (λ f. steps_in f (job_of job) (placement_of placement) row) result }
 {
     let mut order = [0u32; Job::MAX_CELLS];
-    let at = order_row(words, job.count, row, &mut order);
-    steps_in(job, placement, words, &order[at..], row)
+    let at = order_row(stands, row, &mut order);
+    steps_in(job, placement, stands, &order[at..], row)
 }
 
 // The steps of both rows.
-fn steps_both(job: Job, placement: Placement, words: &[u32]) -> Steps
-    requires { InWords job placement words.now }
+fn steps_both(job: Job, placement: Placement, stands: &[Stand]) -> Steps
+    requires { Standing job placement stands.now }
     ensures { AllSteps (job_of job) (placement_of placement) result }
 {
-    let a = steps_row(job, placement, words, 0);
-    let b = steps_row(job, placement, words, 1);
+    let a = steps_row(job, placement, stands, 0);
+    let b = steps_row(job, placement, stands, 1);
     Steps {
         touching: a.touching + b.touching,
         filled: a.filled + b.filled,
@@ -156,19 +156,19 @@ fn weighed_sum(header: Header, steps: u32, shifted: u32, mirrored: u32, changed:
     steps + header.shift * shifted + header.mirror * mirrored + header.swap * changed
 }
 
-// All numbers, from the words of the placed job.
-fn numbers_from(job: Job, placement: Placement, words: &[u32]) -> Numbers
-    requires { InWords job placement words.now }
+// All numbers, from how the cells stand.
+fn numbers_from(job: Job, placement: Placement, stands: &[Stand]) -> Numbers
+    requires { Standing job placement stands.now }
     ensures { Counted (job_of job) (placement_of placement) result }
 {
-    let steps = steps_both(job, placement, words);
-    let shifted = shifted_in(words, job.count);
+    let steps = steps_both(job, placement, stands);
+    let shifted = shifted_in(stands);
     let poses = &placement.poses[..placement.count];
     let mirrored = mirrored_in(poses);
     let changed = changed_in(poses);
     let weighed = weighed_steps(job.header, steps);
     let cost = weighed_sum(job.header, weighed, shifted, mirrored, changed);
-    let drift = drift_from(total_shift(words, job.count), job.count as u32);
+    let drift = drift_from(total_shift(stands), stands.len() as u32);
     Numbers {
         steps: steps.touching + steps.filled,
         shifted,
@@ -185,7 +185,6 @@ pub fn numbers_of(job: Job, placement: Placement) -> Numbers
     requires { Ready job placement }
     ensures { Counted (job_of job) (placement_of placement) result }
 {
-    let mut words = [0u32; score_order::WORDS];
-    flatten(job, placement, &mut words);
-    numbers_from(job, placement, &words)
+    let stands = stands_of(job, placement);
+    numbers_from(job, placement, &stands[..job.count])
 }

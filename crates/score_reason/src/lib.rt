@@ -24,10 +24,11 @@ pub fn reason_of(job: Job, placement: Placement) -> Reason
     requires { Ready job placement }
     ensures { ReasonIs (reason_of (job_of job) (placement_of placement)) result }
 {
-    let mut marks = [0u32; Job::MAX_CELLS];
-    let breach = judge(job, placement, &mut marks);
+    let mut all = [false; Job::MAX_CELLS];
+    let marks = &mut all[..job.count];
+    let breach = judge(job, placement, marks);
     let mut cells = [0u32; Job::MAX_CELLS];
-    let count = list_marked(&marks, job.count, &mut cells);
+    let count = list_marked(marks, &mut cells);
     Reason {
         rule: breach.map_or(0, |b| b.rule),
         count,

@@ -1,4 +1,4 @@
--- The steps of two neighbours, from the words, the cells and the poses, are the definition's.
+-- The steps of two neighbours, from how they stand, the cells and the poses, are the definition's.
 use Rattle.std.specs.Prelude.{ℕ, ◌*◌, ◌-◌, ◌<◌, ◌≡◌, List}
 use Rattle.std.proofs.Common.{sym, ap₂, ◌∙◌, arith}
 use Rattle.definition.specs.Job as paper
@@ -11,6 +11,7 @@ use Rattle.job.specs.Value as value
 use Rattle.job.specs.Value.{cell_of, pose_of, job_of, placement_of}
 use Rattle.job.specs.Cells.{cell-there, pose-there}
 use Rattle.score_order.specs.Words.{site_in, end_in}
+use Rattle.score_order.specs.declared.Stand.{Stand}
 use Rattle.score_words.specs.Flat.{Flat}
 use Rattle.score_steps.specs.Heights.{differing_of}
 use Rattle.score_steps.proofs.Heights.{differing-of}
@@ -20,8 +21,8 @@ steps-at : (f : ℕ → ℕ) (j : paper.Job) (P : text.Placement) (row a b x y :
 unfolding steps_at
 steps-at f j P row a b x y e g = ap₂ ◌*◌ e g
 
--- from the words, the cells and the poses: the definition's steps
-module _ (job : Job) (P : Placement) (words : List ℕ) (row a b r : ℕ) where
+-- from how they stand, the cells and the poses: the definition's steps
+module _ (job : Job) (P : Placement) (stands : List Stand) (row a b r : ℕ) where
   abbrev differ : ℕ
   differ =
       differing_of
@@ -31,9 +32,9 @@ module _ (job : Job) (P : Placement) (words : List ℕ) (row a b r : ℕ) where
       (pose_of (value.pose_at P b))
       row
 
-  pub steps-value : Flat (job_of job) (placement_of P) job.count words → P.count ≡ job.count
+  pub steps-value : Flat (job_of job) (placement_of P) stands → P.count ≡ job.count
       → a < job.count → b < job.count
-      → (charged : ℕ → ℕ) → r ≡ charged (site_in words b - end_in words a) * differ
+      → (charged : ℕ → ℕ) → r ≡ charged (site_in stands b - end_in stands a) * differ
       → r ≡ steps_at charged (job_of job) (placement_of P) row a b
   steps-value w n g h charged e =
       let f : paper.Cell → text.Pose → paper.Cell → text.Pose → ℕ = λ c p d q. differing_of c p d q row in

@@ -11,6 +11,7 @@ use Rattle.job.specs.declared.Job.{Job}
 use Rattle.job.specs.declared.Placement.{Placement}
 use Rattle.job.specs.Value.{cell_of, pose_of, job_of, placement_of}
 use Rattle.job.specs.Parts.{height_in}
+use Rattle.score_order.specs.declared.Stand.{Stand}
 use Rattle.score_words.specs.Flat.{Flat}
 use Rattle.score_steps.specs.declared.Placed.{Placed}
 use Rattle.score_steps.specs.declared.Steps.{Steps}
@@ -18,12 +19,13 @@ use Rattle.score_steps.specs.Heights.{left_of, right_of, unlike, differing_of}
 
 -- ---- what is given
 
--- a job and a placement of it, their words, and cells as those of row r from left to right
-pub record PlacedRow (job : Job) (P : Placement) (words order : List ℕ) (r : ℕ) : Type 0 where
+-- a job and a placement of it, how the cells stand, and cells as those of row r from left to right
+pub record PlacedRow (job : Job) (P : Placement) (stands : List Stand) (order : List ℕ) (r : ℕ) : Type 0 where
   pub row : r ≤ 1
   pub few : job.count ≤ max_cells
   pub each : P.count ≡ job.count
-  pub flat : Flat (job_of job) (placement_of P) job.count words
+  pub flat : Flat (job_of job) (placement_of P) stands
+  pub count : length stands ≡ job.count
   pub most : length order ≤ max_cells
   pub cells : (i : ℕ) → i < length order → get_or order i 0 < job.count
 

@@ -12,6 +12,7 @@ ghost use Rattle.score_steps.specs.Steps.{differing_in, PlacedRow, AtGap, RowSte
 
 use gap_charge::{filled_of, touching_of};
 use job::{Cell, Job, Placement, Pose, first_of, height_of};
+use score_order::Stand;
 use score_words::gap_between;
 
 // A cell as it stands.
@@ -74,8 +75,8 @@ fn steps_of(gap: usize, left: Placed, right: Placed, row: u32) -> Steps
 }
 
 // The steps of a row, whose cells from left to right are those of `order`.
-pub fn steps_in(job: Job, placement: Placement, words: &[u32], order: &[u32], row: u32) -> Steps
-    requires { PlacedRow job placement words.now order.now row }
+pub fn steps_in(job: Job, placement: Placement, stands: &[Stand], order: &[u32], row: u32) -> Steps
+    requires { PlacedRow job placement stands.now order.now row }
     ensures { RowSteps (λ f. sum_next (steps_at f (job_of job) (placement_of placement) row) order.now) result }
 {
     let mut touching = 0;
@@ -92,7 +93,7 @@ pub fn steps_in(job: Job, placement: Placement, words: &[u32], order: &[u32], ro
             pose: placement.poses[b],
         };
         let steps = steps_of(
-            gap_between(words[4 * a + 1], words[4 * b]),
+            gap_between(stands[a].end, stands[b].site),
             left,
             right,
             row,

@@ -8,32 +8,35 @@ use Rattle.definition.specs.Placement as text
 use Rattle.definition.specs.Rules as definition
 use Rattle.definition.specs.Rules.{cells_of, rules, rule_of, lowest, first_broken, verdict}
 use Rattle.job.specs.Value.{job_of, placement_of}
+use Rattle.score_order.specs.declared.Stand.{Stand}
 use Rattle.score_cell_rules.specs.Lowest.{lowest-same, lowest-zero}
-use Rattle.score_cell_rules.specs.Marks.{marked_in, Added, Unmarked, unmarked-none, unmarked_still, marked-is}
+use Rattle.score_cell_rules.specs.Marks.{marked_in, Added, Unmarked, unmarked_still, marked-is}
 use Rattle.score_verdict.specs.declared.Breach.{Breach}
 use Rattle.score_verdict.specs.Judged.{VerdictMarked, LowestTold}
 use Rattle.score_verdict.specs.Board.{Board}
 
 -- No rule before number `rule` has marked a cell, and the verdict is that of the rules from it on, which are `left`.
-pub record Held (j : paper.Job) (P : text.Placement) (n rule : ℕ) (left : List (ℕ → Bool)) (marks : List ℕ)
-    : Type 0 where
-  pub count : length j.cells ≡ n
-  pub unmarked : Unmarked n marks
+pub record Held (j : paper.Job) (P : text.Placement) (rule : ℕ) (left : List (ℕ → Bool)) (marks : List Bool) : Type 0 where
+  pub count : length j.cells ≡ length marks
+  pub unmarked : Unmarked marks
   pub decided : verdict j P ≡ first_broken rule left (cells_of j)
 
-pub held_first : {job : _} {P : _} {words order₀ order₁ m : List ℕ} → Board job P words order₀ order₁ m
-    → Held (job_of job) (placement_of P) job.count 1 (rules (job_of job) (placement_of P)) m
+pub held_first : {job : _} {P : _} {stands : List Stand} {order₀ order₁ : List ℕ} {m : List Bool} → Board job P stands order₀ order₁ m
+    → Held (job_of job) (placement_of P) 1 (rules (job_of job) (placement_of P)) m
 unfolding verdict
-held_first b = record { count = b.flat.count; unmarked = b.given.clear; decided = refl }
+held_first b = record { count = b.flat.count ∙ b.count ∙ sym b.given.long; unmarked = b.given.clear; decided = refl }
 
 -- the first rule that is left has marked its cells, of which the lowest is known
-module _ {j : paper.Job} {P : text.Placement} {n rule : ℕ} {f : ℕ → Bool} {left : List (ℕ → Bool)} {m m' : List ℕ}
-    (h : Held j P n rule (f ∷ left) m) (a : Added n f m m') where
-  marked-lowest : lowest (marked_in m') (from 0 n) ≡ lowest f (from 0 n)
-  marked-lowest = lowest-same (marked_in m') f 0 n (λ k _ l. marked-is h.unmarked a k (omega arith))
+module _ {j : paper.Job} {P : text.Placement} {rule : ℕ} {f : ℕ → Bool} {left : List (ℕ → Bool)} {m m' : List Bool}
+    (h : Held j P rule (f ∷ left) m) (a : Added f m m') where
+  many : length j.cells ≡ length m'
+  many = h.count ∙ sym a.long
 
-  of-all : lowest (marked_in m') (from 0 n) ≡ lowest f (cells_of j)
-  of-all = marked-lowest ∙ ap (λ x. lowest f (from 0 x)) (sym h.count)
+  marked-lowest : lowest (marked_in m') (from 0 (length m')) ≡ lowest f (from 0 (length m'))
+  marked-lowest = lowest-same (marked_in m') f 0 (length m') (λ k _ l. marked-is h.unmarked a k (omega arith))
+
+  of-all : lowest (marked_in m') (from 0 (length m')) ≡ lowest f (cells_of j)
+  of-all = marked-lowest ∙ ap (λ x. lowest f (from 0 x)) (sym many)
 
   skipped : lowest f (cells_of j) ≡ 0
       → first_broken rule (f ∷ left) (cells_of j) ≡ first_broken (suc rule) left (cells_of j)
@@ -46,11 +49,11 @@ module _ {j : paper.Job} {P : text.Placement} {n rule : ℕ} {f : ℕ → Bool} 
       go zero q = refl
       go (suc k) q = absurd (omega arith)
 
-  pub held_next : lowest (marked_in m') (from 0 n) ≡ 0 → Held j P n (suc rule) left m'
+  pub held_next : lowest (marked_in m') (from 0 (length m')) ≡ 0 → Held j P (suc rule) left m'
   held_next z = record {
-    count = h.count;
+    count = many;
     unmarked = unmarked_still h.unmarked a
-        (λ k l. lowest-zero f 0 n (sym marked-lowest ∙ z) k (omega arith) (omega arith));
+        (λ k l. lowest-zero f 0 (length m') (sym marked-lowest ∙ z) k (omega arith) (omega arith));
     decided = h.decided ∙ skipped (sym of-all ∙ z);
   }
 
@@ -67,8 +70,8 @@ module _ {j : paper.Job} {P : text.Placement} {n rule : ℕ} {f : ℕ → Bool} 
         go zero p v d = absurd (omega arith)
         go (suc k) p v d = (ap (λ v. v.rule) d, ap (λ v. v.cell) d)
 
-    pub broken : {b : Breach} {r : Result (Unit {0}) Breach} → r ≡ Err b → LowestTold rule n m' (Err b)
-        → VerdictMarked j P n (result_err r) m'
+    pub broken : {b : Breach} {r : Result (Unit {0}) Breach} → r ≡ Err b → LowestTold rule m' (Err b)
+        → VerdictMarked j P (result_err r) m'
     broken {b} q e = rw q (record {
       judged = let t = told (omega (arith, of-all, e.1, e.2)) in
           record { rule = e.0 ∙ sym t.0; cell = e.1 ∙ of-all ∙ sym t.1; broken = omega (arith, e.0) };
@@ -76,7 +79,7 @@ module _ {j : paper.Job} {P : text.Placement} {n rule : ℕ} {f : ℕ → Bool} 
     })
 
 -- past the last rule
-all_held : {j : paper.Job} {P : text.Placement} {n rule : ℕ} {m : List ℕ} → Held j P n rule [] m → VerdictMarked j P n None m
+all_held : {j : paper.Job} {P : text.Placement} {rule : ℕ} {m : List Bool} → Held j P rule [] m → VerdictMarked j P None m
 unfolding first_broken
 all_held h = record {
   judged = record {
@@ -84,11 +87,11 @@ all_held h = record {
     cell = sym (ap (λ v. v.cell) h.decided);
     broken = tt;
   };
-  marked = unmarked-none h.unmarked;
+  marked = h.unmarked.none;
 }
 
-pub last_told : {j : paper.Job} {P : text.Placement} {n rule : ℕ} {f : ℕ → Bool} {m m' : List ℕ} → Held j P n rule (f ∷ []) m
-    → Added n f m m' → ((k : ℕ) → f k ≡ rule_of j P rule k) → 0 < rule → (r : Result (Unit {0}) Breach)
-    → LowestTold rule n m' r → VerdictMarked j P n (result_err r) m'
+pub last_told : {j : paper.Job} {P : text.Placement} {rule : ℕ} {f : ℕ → Bool} {m m' : List Bool} → Held j P rule (f ∷ []) m
+    → Added f m m' → ((k : ℕ) → f k ≡ rule_of j P rule k) → 0 < rule → (r : Result (Unit {0}) Breach)
+    → LowestTold rule m' r → VerdictMarked j P (result_err r) m'
 last_told h a g l (Ok _) e = all_held (held_next h a e)
 last_told h a g l (Err b) e = broken h a g l refl e

@@ -1,5 +1,5 @@
 -- A verdict of the program: that it is the definition's, and what is left marked.
-use Rattle.std.specs.Prelude.{◌≡◌, ℕ, ◌<◌, List, Option, None, Some, Result, Ok, Err}
+use Rattle.std.specs.Prelude.{◌≡◌, ℕ, ◌<◌, Bool, List, length, Option, None, Some, Result, Ok, Err}
 use Rattle.definition.specs.Lists.{from}
 use Rattle.definition.specs.Job as paper
 use Rattle.definition.specs.Placement as text
@@ -27,12 +27,12 @@ pub record Judged (v : definition.Verdict) (r : Option Breach) : Type 0 where
   pub cell : cell_in r ≡ v.cell
   pub broken : Broken r
 
--- the marks of n cells are those of the rule that is told
-pub record VerdictMarked (j : paper.Job) (P : text.Placement) (n : ℕ) (r : Option Breach) (marks : List ℕ) : Type 0 where
+-- the marks are those of the rule that is told
+pub record VerdictMarked (j : paper.Job) (P : text.Placement) (r : Option Breach) (marks : List Bool) : Type 0 where
   pub judged : Judged (verdict j P) r
-  pub marked : (k : ℕ) → k < n → marked_in marks k ≡ rule_of j P (rule_in r) k
+  pub marked : (k : ℕ) → k < length marks → marked_in marks k ≡ rule_of j P (rule_in r) k
 
 -- no cell is marked, or the lowest that is is told
-abbrev pub LowestTold : ℕ → ℕ → List ℕ → Result (Unit {0}) Breach → Type 0
-LowestTold rule n marks (Ok _) = lowest (marked_in marks) (from 0 n) ≡ 0
-LowestTold rule n marks (Err b) = (b.rule ≡ rule) × (b.cell ≡ lowest (marked_in marks) (from 0 n)) × (0 < b.cell)
+abbrev pub LowestTold : ℕ → List Bool → Result (Unit {0}) Breach → Type 0
+LowestTold rule marks (Ok _) = lowest (marked_in marks) (from 0 (length marks)) ≡ 0
+LowestTold rule marks (Err b) = (b.rule ≡ rule) × (b.cell ≡ lowest (marked_in marks) (from 0 (length marks))) × (0 < b.cell)

@@ -2,11 +2,12 @@
 
 #![tactic(auto)]
 
+ghost use Rattle.std.specs.Prelude.{◌≤◌, length};
 ghost use Rattle.std.specs.Result.{result_err};
+ghost use Rattle.definition.specs.Job.{max_cells};
 ghost use Rattle.definition.specs.Rules.{verdict};
 ghost use Rattle.job.specs.Value.{job_of, placement_of};
 ghost use Rattle.job.specs.Ready.{Ready};
-ghost use Rattle.score_cell_rules.specs.Marks.{MarksOf};
 ghost use Rattle.score_verdict.specs.Judged.{Judged, VerdictMarked, LowestTold};
 ghost use Rattle.score_verdict.specs.Board.{Board, ReadyClear};
 
@@ -14,9 +15,9 @@ use job::{Job, Placement};
 use score_cell_rules::{
     lowest_marked, mark_far, mark_overlaps, mark_passing, mark_past, mark_unoffered,
 };
-use score_order::order_row;
+use score_order::{Stand, order_row};
 use score_row_rules::{mark_ends, mark_gaps, mark_places};
-use score_words::flatten;
+use score_words::stands_of;
 
 // A broken rule and the lowest cell that breaks it; both count from 1.
 #[derive(Clone, Copy)]
@@ -26,11 +27,11 @@ pub struct Breach {
 }
 
 // A rule that has marked the cells that break it is kept if there are none.
-fn kept(rule: u32, count: usize, marks: &[u32]) -> Result<(), Breach>
-    requires { MarksOf count marks.now }
-    ensures { LowestTold rule count marks.now result }
+fn kept(rule: u32, marks: &[bool]) -> Result<(), Breach>
+    requires { length marks.now ≤ max_cells }
+    ensures { LowestTold rule marks.now result }
 {
-    match lowest_marked(marks, count) {
+    match lowest_marked(marks) {
         None => Ok(()),
         Some(cell) => Err(Breach { rule, cell }),
     }
@@ -40,50 +41,48 @@ fn kept(rule: u32, count: usize, marks: &[u32]) -> Result<(), Breach>
 fn keep_rules(
     job: &Job,
     placement: &Placement,
-    words: &[u32],
+    stands: &[Stand],
     order0: &[u32],
     order1: &[u32],
-    marks: &mut [u32],
+    marks: &mut [bool],
 ) -> Result<(), Breach>
-    requires { Board job.now placement.now words.now order0.now order1.now marks.old }
-    ensures { VerdictMarked (job_of job.now) (placement_of placement.now) job.now.count (result_err result) marks.new }
+    requires { Board job.now placement.now stands.now order0.now order1.now marks.old }
+    ensures { VerdictMarked (job_of job.now) (placement_of placement.now) (result_err result) marks.new }
 {
     let header = job.header;
-    let count = job.count;
     mark_unoffered(job, placement, marks);
-    kept(1, count, marks)?;
-    mark_past(words, count, header.sites, marks);
-    kept(2, count, marks)?;
+    kept(1, marks)?;
+    mark_past(stands, header.sites, marks);
+    kept(2, marks)?;
     mark_far(job, placement, marks);
-    kept(3, count, marks)?;
-    mark_overlaps(words, count, order0, order1, marks);
-    kept(4, count, marks)?;
-    mark_gaps(words, count, order0, order1, marks);
-    kept(5, count, marks)?;
-    mark_places(words, count, header.reordering, order0, order1, marks);
-    kept(6, count, marks)?;
-    mark_passing(words, count, marks);
-    kept(7, count, marks)?;
-    mark_ends(words, count, header.sites, order0, order1, marks);
-    kept(8, count, marks)
+    kept(3, marks)?;
+    mark_overlaps(stands, order0, order1, marks);
+    kept(4, marks)?;
+    mark_gaps(stands, order0, order1, marks);
+    kept(5, marks)?;
+    mark_places(stands, header.reordering, order0, order1, marks);
+    kept(6, marks)?;
+    mark_passing(stands, marks);
+    kept(7, marks)?;
+    mark_ends(stands, header.sites, order0, order1, marks);
+    kept(8, marks)
 }
 
 // The cells that break the first broken rule are left marked.
-pub fn judge(job: Job, placement: Placement, marks: &mut [u32]) -> Option<Breach>
+pub fn judge(job: Job, placement: Placement, marks: &mut [bool]) -> Option<Breach>
     requires { ReadyClear job placement marks.old }
-    ensures { VerdictMarked (job_of job) (placement_of placement) job.count result marks.new }
+    ensures { VerdictMarked (job_of job) (placement_of placement) result marks.new }
 {
-    let mut words = [0u32; score_order::WORDS];
-    flatten(job, placement, &mut words);
-    let count = job.count;
+    let all = stands_of(job, placement);
+    let stands = &all[..job.count];
     let mut order0 = [0u32; Job::MAX_CELLS];
-    let start0 = order_row(&words, count, 0, &mut order0);
+    let start0 = order_row(stands, 0, &mut order0);
     let mut order1 = [0u32; Job::MAX_CELLS];
-    let start1 = order_row(&words, count, 1, &mut order1);
+    let start1 = order_row(stands, 1, &mut order1);
     keep_rules(
         &job,
         &placement,
-        &words,
+        stands,
         &order0[start0..],
         &order1[start1..],
         marks,
@@ -96,6 +95,6 @@ pub fn verdict_of(job: Job, placement: Placement) -> Option<Breach>
     requires { Ready job placement }
     ensures { Judged (verdict (job_of job) (placement_of placement)) result }
 {
-    let mut marks = [0u32; Job::MAX_CELLS];
-    judge(job, placement, &mut marks)
+    let mut marks = [false; Job::MAX_CELLS];
+    judge(job, placement, &mut marks[..job.count])
 }

@@ -1,3 +1,3 @@
 pub mod Flat
-pub mod FourWords
+pub mod Shown
 pub mod Rows

@@ -1,20 +1,14 @@
-// A job and a placement laid out flat: for each cell four words, its site, its end, its row and its given site.
+// How the cells of a job stand in a placement.
 
 #![tactic(auto)]
 
-ghost use Rattle.std.specs.Prelude.{◌≡◌, ◌-◌};
-ghost use Rattle.definition.specs.Rules.{apart};
+ghost use Rattle.std.specs.Prelude.{◌≡◌, ◌-◌, take};
 ghost use Rattle.job.specs.Value.{job_of, placement_of};
-ghost use Rattle.score_words.specs.Flat.{ToFlatten, Flat};
+ghost use Rattle.job.specs.Ready.{Ready};
+ghost use Rattle.score_words.specs.Flat.{Flat};
 
 use job::{Job, Placement, width_of};
-
-// How far apart two numbers are.
-pub fn apart_of(a: u32, b: u32) -> u32
-    ensures { result ≡ apart a b }
-{
-    a.abs_diff(b)
-}
+use score_order::Stand;
 
 // The empty sites between an end and the next site; none if they overlap.
 pub fn gap_between(end: u32, site: u32) -> usize
@@ -23,17 +17,22 @@ pub fn gap_between(end: u32, site: u32) -> usize
     site.saturating_sub(end) as usize
 }
 
-// The words of all cells.
-pub fn flatten(job: Job, placement: Placement, words: &mut [u32])
-    requires { ToFlatten job placement words.old }
-    ensures { Flat (job_of job) (placement_of placement) job.count words.new }
+// The first `count` are the job's cells.
+pub fn stands_of(job: Job, placement: Placement) -> [Stand; Job::MAX_CELLS]
+    requires { Ready job placement }
+    ensures { Flat (job_of job) (placement_of placement) (take job.count result) }
 {
+    let mut stands = [Stand::default(); Job::MAX_CELLS];
     for k in 0..job.count {
         let cell = job.cells[k];
         let pose = placement.poses[k];
-        words[4 * k] = pose.site;
-        words[4 * k + 1] = pose.site + width_of(cell, pose.layout);
-        words[4 * k + 2] = cell.row;
-        words[4 * k + 3] = cell.given;
+        let end = pose.site + width_of(cell, pose.layout);
+        stands[k] = Stand {
+            site: pose.site,
+            end,
+            row: cell.row,
+            given: cell.given,
+        };
     }
+    stands
 }

@@ -6,4 +6,4 @@ use Rattle.score_cell_rules.proofs.in_line.Given as goal
 
 abbrev pub invariant-loop-cell : goal.invariant-loop-cell
 invariant-loop-cell l =
-    Clear (λ p. Unit {0}) (λ p. end_in l.words (get_or l.order p 0)) (λ p. site_in l.words (get_or l.order p 0)) l.cell-index l.reach
+    Clear (λ p. Unit {0}) (λ p. end_in l.stands (get_or l.order p 0)) (λ p. site_in l.stands (get_or l.order p 0)) l.cell-index l.reach

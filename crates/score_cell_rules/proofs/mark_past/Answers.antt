@@ -5,4 +5,4 @@ use Rattle.score_cell_rules.proofs.mark_past.Goals as goal
 
 pub returns : goal.returns
 unfolding past_in
-returns c = tried-added (past_in c.args.words.now c.args.sites) c.mark_each.ensures (λ k b h t. search (rules, tests))
+returns c = tried-added (past_in c.args.stands.now c.args.sites) c.mark_each.ensures (λ k b h t. search (rules, tests))

@@ -1,5 +1,5 @@
--- Each sum is the definition's, by the words of the placed job (specs/Bridge).
-use Rattle.std.proofs.Common.{◌≡◌, ◌<◌, ◌^◌, ℤ, to_z, of_z, ap, ◌∙◌, arith}
+-- Each sum is the definition's, by how the cells stand (specs/Bridge).
+use Rattle.std.proofs.Common.{◌≡◌, ◌<◌, ◌^◌, length, ℤ, to_z, of_z, ap, ◌∙◌, arith}
 use lib.Signed.{mag}
 use mir.Syntax.{w32}
 use mir.Facts.{to_z-of_z}
@@ -54,8 +54,8 @@ returns c =
       changed = changed;
       cost = c.weighed_sum-cost.ensures.same ∙ cost-sum job (placement_of P) c.steps_both-steps.result _ _ _ _ t c.weighed_steps-weighed.ensures shifted mirrored changed;
       drift = read c.drift_from-drift.result c.drift_from-drift.type_inv ∙ c.drift_from-drift.ensures
-          ∙ ap (λ z. drift_of z job.count) (read c.total_shift.result c.total_shift.type_inv ∙ c.total_shift.ensures.total)
-          ∙ flat-drift (job_of job) (placement_of P) job.count c.args.words.now f;
+          ∙ ap (λ z. drift_of z (length c.args.stands.now)) (read c.total_shift.result c.total_shift.type_inv ∙ c.total_shift.ensures.total)
+          ∙ flat-drift f;
       filled = t.filled;
       small = record {
         steps = omega (arith, t.most);

@@ -1,6 +1,7 @@
--- The words start as zeros.
-use Rattle.score_words.specs.FourWords.{zeros_blank}
+use Rattle.std.proofs.Common.{sym, ◌∙◌}
 use Rattle.score_numbers.proofs.numbers_of.Goals as goal
 
-pub flatten-requires : goal.flatten-requires
-flatten-requires c = record { ready = c.requires; blank = zeros_blank }
+pub numbers_from-requires : goal.numbers_from-requires
+numbers_from-requires c =
+    let f = c.stands_of-stands.ensures in
+    record { ready = c.requires; flat = f; count = sym f.count ∙ c.requires.accepted.many }

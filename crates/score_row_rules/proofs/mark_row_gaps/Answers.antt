@@ -1,6 +1,12 @@
-use Rattle.std.proofs.Common.{◌∙◌, sym, arith}
-use Rattle.score_row_rules.specs.Near.{judged_all, judged-hit, judged-miss}
+use Rattle.std.proofs.Common.{◌∙◌, ◌≡◌, sym, arith, rules}
+use Rattle.std.specs.Slice.Iter.{windows_rest}
+use Rattle.score_row_rules.specs.Near.{judging_all, judged_all, judged-hit, judged-miss}
 use Rattle.score_row_rules.proofs.mark_row_gaps.Goals as goal
+
+pub loop-pair-init : goal.loop-pair-init
+loop-pair-init c =
+    let e : windows_rest c.into_iter-pair-iterator.result ≡ c.args.order.now = search rules in
+    (search rules, rw e (judging_all c.args.stands.now c.args.order.now c.args.marks.now c.requires))
 
 pub loop-pair-preserved-then-gap_between-eq-FORBIDDEN_GAP : goal.loop-pair-preserved-then-gap_between-eq-FORBIDDEN_GAP
 loop-pair-preserved-then-gap_between-eq-FORBIDDEN_GAP c =

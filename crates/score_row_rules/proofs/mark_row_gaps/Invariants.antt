@@ -6,4 +6,4 @@ use Rattle.score_row_rules.proofs.mark_row_gaps.Given as goal
 
 abbrev pub invariant-loop-pair : goal.invariant-loop-pair
 invariant-loop-pair l =
-    (windows_size l.pair-iterator ≡ 2) × Judging l.words l.order (windows_rest l.pair-iterator) l.initial.marks l.marks
+    (windows_size l.pair-iterator ≡ 2) × Judging l.stands l.order (windows_rest l.pair-iterator) l.initial.marks l.marks

@@ -26,7 +26,7 @@ loop-i-preserved c =
     ∙ ap (λ n. f by + summed job P o c.args.row n by) same in
     let e = c.steps_of-steps.ensures in
     let s = c.steps_of-steps.result in
-    let value = λ (n : ℕ). steps-value job P c.args.words.now c.args.row a b n r.flat r.each (r.cells j (omega arith)) (r.cells i (omega arith)) in
+    let value = λ (n : ℕ). steps-value job P c.args.stands.now c.args.row a b n r.flat r.each (r.cells j (omega arith)) (r.cells i (omega arith)) in
     record {
       small = omega arith;
       touches = omega (arith, more touching, m.touches, value s.touching touching (rw c.gap_between.ensures at e.touching));
